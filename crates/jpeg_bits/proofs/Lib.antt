@@ -1,0 +1,11 @@
+pub mod Sources
+pub mod Loops
+pub mod Texts
+pub mod Held
+pub mod CodeLemmas
+pub mod Symbols
+pub mod Skips
+pub mod Calls
+pub mod WrittenBits
+pub mod Tables
+pub mod EndLemmas

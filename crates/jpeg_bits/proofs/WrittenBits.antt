@@ -1,0 +1,86 @@
+-- What is read of bits that were written.
+use Rattle.std.proofs.Common.{◌≡◌, ℕ, zero, suc, ◌+◌, ◌*◌, ◌/◌, ◌%◌, ◌^◌, ◌<◌, Bool, false, cond, List, [], ◌∷◌, ◌++◌, length, take, drop, replicate, fold, Ok, refl, sym, ap, ◌∙◌, subst, append_assoc, length-append, mul_assoc, arith}
+use Rattle.std.proofs.Math.Arith.{mod-mul}
+use Rattle.std.proofs.Math.Nat.{mod-one, add-mul}
+use Rattle.std.proofs.lemmas.List.{take-append-le, take_all, drop_at, drop-drop}
+use Rattle.std.proofs.Common.{pow_pos, pow-suc, mod-eq_of_lt, lit<}
+use Rattle.jpeg_bits.specs.Entropy.{bits_from, number_of}
+use Rattle.jpeg_bits.proofs.Held.{has_enough}
+use Rattle.jpeg_bits.specs.Readers.{Reads, ◌>>=◌, gives, read_on, text, ReadsJust}
+use Rattle.jpeg_bits.specs.Written.{bit, low_bits}
+
+pub takes-gives : {A : Type 0} (x : A) → ReadsJust (gives x) [] x
+takes-gives x = record { read = λ rest places e. refl }
+
+pub places-behind : (bits more : List Bool) (places : List (List ℕ)) → drop (length more) (drop (length bits) places) ≡ drop (length (bits ++ more)) places
+places-behind bits more places = drop-drop (length more) (length bits) places ∙ ap (λ (n : ℕ). drop n places) (sym (length-append bits more))
+
+pub takes-bind : {A B : Type 0} (p : Reads A) (f : A → Reads B) (bits more : List Bool) (x : A) (y : B)
+    → ReadsJust p bits x → ReadsJust (f x) more y → ReadsJust (p >>= f) (bits ++ more) y
+takes-bind {A} {B} p f bits more x y h k = record { read = λ rest places e.
+    ap (λ (b : List Bool). read_on f (p (text b places e))) (append_assoc bits more rest)
+    ∙ ap (read_on f) (h.read (more ++ rest) places e)
+    ∙ k.read rest (drop (length bits) places) e
+    ∙ ap (λ (l : List (List ℕ)). Ok (y, text rest l e)) (places-behind bits more places) }
+
+pub low_bits-mod : (n v : ℕ) → v % 2 ^ suc n ≡ (v / 2 ^ n % 2) * 2 ^ n + v % 2 ^ n
+low_bits-mod n v =
+    let e : 2 ^ suc n ≡ 2 * 2 ^ n = omega (arith, pow-suc 2 n) in
+    ap (λ (x : ℕ). v % x) e ∙ mod-mul v (lit< tt) (pow_pos n)
+
+pub carry : (a b p w q v : ℕ) → q ≡ p * 2 → v ≡ b * p + w → (2 * a + b) * p + w ≡ a * q + v
+carry a b p w q v e f = rw (e, f) (omega (arith, add-mul (2 * a) b p, mul_assoc 2 a p, mul_assoc a p 2))
+
+-- a bit as the number that it is
+pub bit-value : (b : ℕ) → b < 2 → cond (bit b) 1 0 ≡ b
+bit-value zero h = refl
+bit-value (suc zero) h = refl
+bit-value (suc (suc b)) h = absurd (omega arith)
+
+abbrev pub number_onto : ℕ → List Bool → ℕ
+number_onto a bits = fold (λ n b. 2 * n + cond b 1 0) a bits
+
+pub onto-bits : (n a v : ℕ) → number_onto a (low_bits n v) ≡ a * 2 ^ n + v % 2 ^ n
+unfolding low_bits
+onto-bits zero a v = omega (arith, mod-one v)
+onto-bits (suc n) a v =
+    let e : (2 * a + v / 2 ^ n % 2) * 2 ^ n + v % 2 ^ n ≡ a * 2 ^ suc n + v % 2 ^ suc n = carry a (v / 2 ^ n % 2) (2 ^ n) (v % 2 ^ n) _ _ (pow-suc 2 n) (low_bits-mod n v) in
+    ap (λ (b : ℕ). number_onto (2 * a + b) (low_bits n v)) (bit-value (v / 2 ^ n % 2) (omega arith))
+    ∙ onto-bits n (2 * a + v / 2 ^ n % 2) v ∙ e
+
+pub number_of-low_bits : (n v : ℕ) → v < 2 ^ n → number_of (low_bits n v) ≡ v
+number_of-low_bits n v h = onto-bits n 0 v ∙ omega (arith, mod-eq_of_lt h)
+
+pub length-low_bits : (n v : ℕ) → length (low_bits n v) ≡ n
+unfolding low_bits
+length-low_bits zero v = refl
+length-low_bits (suc n) v = ap suc (length-low_bits n v)
+
+-- the first n bits of a text that begins with n
+pub front : (n : ℕ) (bits rest : List Bool) → length bits ≡ n → take n ((bits ++ rest) ++ replicate n false) ≡ bits
+front n bits rest h =
+    take-append-le n (bits ++ rest) (replicate n false) (omega (arith, length-append bits rest))
+    ∙ take-append-le n bits rest (omega arith) ∙ take_all n bits (omega arith)
+
+-- n bits are read as their number
+pub takes-bits : (n : ℕ) (bits : List Bool) → length bits ≡ n → ReadsJust (bits_from n) bits (number_of bits)
+unfolding bits_from
+takes-bits n bits h = record { read = λ rest places e.
+    rw (has_enough n (bits ++ rest) e (omega (arith, length-append bits rest)), front n bits rest h, drop_at bits rest n h, h) refl }
+
+pub takes-number : (n v : ℕ) → v < 2 ^ n → ReadsJust (bits_from n) (low_bits n v) v
+takes-number n v h =
+    subst (λ (x : ℕ). ReadsJust (bits_from n) (low_bits n v) x) (number_of-low_bits n v h) (takes-bits n (low_bits n v) (length-low_bits n v))
+
+pub one-bit : (b : ℕ) → b < 2 → number_of (bit b ∷ []) ≡ b
+one-bit b h = omega (arith, bit-value b h)
+
+pub takes-bit : (b : ℕ) → b < 2 → ReadsJust (bits_from 1) (bit b ∷ []) b
+takes-bit b h =
+    subst (λ (x : ℕ). ReadsJust (bits_from 1) (bit b ∷ []) x) (one-bit b h) (takes-bits 1 (bit b ∷ []) refl)
+
+pub takes-map : {A B : Type 0} (p : Reads A) (f : A → B) (bits : List Bool) (x : A) → ReadsJust p bits x → ReadsJust (p >>= (λ r. gives (f r))) bits (f x)
+takes-map p f bits x h = record { read = λ rest places e. rw (h.read rest places e) refl }
+
+pub takes-as : {A : Type 0} (p : Reads A) (bits more : List Bool) (x y : A) → bits ≡ more → x ≡ y → ReadsJust p bits x → ReadsJust p more y
+takes-as {A} p bits more x y e f h = subst (λ (b : List Bool). ReadsJust p b y) e (subst (λ (z : A). ReadsJust p bits z) f h)

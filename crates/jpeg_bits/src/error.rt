@@ -1,0 +1,63 @@
+//! Errors, and the reader whose failures they name.
+ghost use Rattle.std.specs.Prelude.{◌≡◌};
+ghost use Rattle.jpeg_bits.specs.declared.error.Error.TheVariants.{Io, OutOfMemory};
+
+pub use crate::source::Source;
+
+use crate::color_transform::ColorTransform;
+use std::alloc::{AllocError, AllocFailed};
+use std::io;
+
+/// A feature of JPEG that is refused by name.
+#[derive(Clone, Debug, PartialEq, Eq, Hash, Drop)]
+pub enum UnsupportedFeature {
+    Hierarchical,
+    ArithmeticEntropyCoding,
+    SamplePrecision(u8),
+    ComponentCount(u8),
+    DNL,
+    SubsamplingRatio,
+    NonIntegerSubsamplingRatio,
+    ColorTransform(ColorTransform),
+}
+
+/// Why a stream could not be decoded.
+#[derive(Debug, Drop, thiserror::Error)]
+pub enum Error {
+    #[error("invalid JPEG format: {0}")]
+    Format(String),
+    #[error("unsupported JPEG feature: {0:?}")]
+    Unsupported(UnsupportedFeature),
+    #[error(transparent)]
+    Io(io::Error),
+    #[error("{0}")]
+    Internal(&'static str),
+    #[error("out of memory")]
+    OutOfMemory,
+}
+
+pub type Result<T> = std::result::Result<T, Error>;
+
+impl From<io::Error> for Error {
+    ghost from_gives = { λ e r. r ≡ Io e };
+
+    fn from(e: io::Error) -> Error {
+        Error::Io(e)
+    }
+}
+
+impl From<AllocError> for Error {
+    ghost from_gives = { λ _ r. r ≡ OutOfMemory };
+
+    fn from(_e: AllocError) -> Error {
+        Error::OutOfMemory
+    }
+}
+
+impl<T: Drop> From<AllocFailed<T>> for Error {
+    ghost from_gives = { λ _ r. r ≡ OutOfMemory };
+
+    fn from(_e: AllocFailed<T>) -> Error {
+        Error::OutOfMemory
+    }
+}

@@ -1,0 +1,13 @@
+//! The bytes of a JPEG stream: errors, markers and entropy-coded bits.
+#![tactic(auto)]
+
+pub mod codes;
+pub mod color_transform;
+pub mod error;
+pub mod huffman;
+pub mod laws;
+pub mod marker;
+pub mod reads;
+pub mod source;
+#[cfg(test)]
+mod tests;

@@ -1,0 +1,74 @@
+//! Reads of a source: bytes, numbers and skips.
+ghost use Rattle.std.specs.Prelude.{◌≡◌, ◌<◌, length, IfErr};
+ghost use Rattle.jpeg_bits.specs.Reading.{Answers, IsShort, Names, NamesFormat, NamesEnd, next_byte, next_u16, length_at, skip_at};
+
+use crate::error::{Error, Result};
+use crate::source::Source;
+use std::alloc::Global;
+use std::io;
+use std::io::{ErrorKind, Read};
+
+/// A refusal of a broken rule, whose text says which.
+pub fn format_error(alloc: Global, text: &str) -> Error
+    ensures { NamesFormat result }
+{
+    match String::from_str(alloc, text) {
+        Ok(text) => Error::Format(text),
+        Err(_) => Error::OutOfMemory,
+    }
+}
+
+/// The refusal where the bytes end.
+pub fn end_of_bytes() -> Error
+    ensures { NamesEnd result }
+{
+    Error::Io(io::Error::new(ErrorKind::UnexpectedEof, "failed to fill whole buffer"))
+}
+
+/// The next byte.
+pub fn read_u8<R: Read + Drop>(alloc: Global, source: &mut Source<R>) -> Result<u8>
+    ensures answers { Answers (λ b. b) next_byte source.old result source.new }
+    ensures short { IsShort source.old }
+{
+    let mut buffer = [0u8];
+    let count = source.read(alloc, &mut buffer)?;
+    if count == 0 {
+        return Err(end_of_bytes());
+    }
+    Ok(buffer[0])
+}
+
+/// The next two bytes as a number, the higher first.
+#[tactic(auto, unfolding(crate::specs::Reading::next_u16))]
+pub fn read_u16_be<R: Read + Drop>(alloc: Global, source: &mut Source<R>) -> Result<u16>
+    ensures { Answers (λ n. n) next_u16 source.old result source.new }
+{
+    let high = read_u8(alloc, source)?;
+    let low = read_u8(alloc, source)?;
+    Ok(256 * u16::from(high) + u16::from(low))
+}
+
+/// A length field, which counts itself: how many bytes follow it.
+#[tactic(auto, unfolding(crate::specs::Reading::length_at))]
+pub fn read_length<R: Read + Drop>(alloc: Global, source: &mut Source<R>) -> Result<u16>
+    ensures { Answers (λ n. n) length_at source.old result source.new }
+{
+    let length = read_u16_be(alloc, source)?;
+    if length < 2 {
+        return Err(format_error(alloc, "a segment is shorter than its length field"));
+    }
+    Ok(length - 2)
+}
+
+/// Passes over `count` bytes.
+#[tactic(auto, using(crate::proofs::Skips::skip_more, crate::proofs::Skips::skip_none))]
+pub fn skip<R: Read + Drop>(alloc: Global, source: &mut Source<R>, count: u16) -> Result<()>
+    ensures { Answers (λ u. u) (skip_at count) source.old result source.new }
+{
+    let mut left = count;
+    while left > 0 {
+        read_u8(alloc, source)?;
+        left -= 1;
+    }
+    Ok(())
+}
