@@ -1,0 +1,4 @@
+pub mod Samples
+pub mod Blocks
+pub mod Zigzag
+pub mod Planes

@@ -1,0 +1,7 @@
+//! From coefficients to samples.
+#![tactic(auto)]
+
+pub mod idct;
+pub mod laws;
+pub mod plane;
+pub mod zigzag;
