@@ -22,19 +22,21 @@ none-placed bytes e = record { sized = refl; each = λ i h. absurd (omega arith)
 add-placed : (bytes rest : List ℕ) (b : ℕ) (t : Text) → ((n : ℕ) → behind_bytes (suc n) bytes ≡ behind_bytes n rest) → IsPlaced rest t → IsPlaced bytes (add_byte b rest t)
 unfolding behind_bytes
 add-placed bytes rest b t step h = record {
-    sized = omega (arith, length-append (replicate 8 rest) t.places, length-replicate 8 rest, length-append (bits_of b) t.bits, h.sized);
-    each = λ i lt. elim (cases_lt i 8) [
-      | inl low ↦
-          let z : i / 8 ≡ 0 = omega arith in
-          get_or_append_left (replicate 8 rest) t.places [] i (omega (arith, length-replicate 8 rest)) ∙ get_or-replicate 8 i rest [] low
-          ∙ sym (ap (λ (n : ℕ). behind_bytes (suc n) bytes) z ∙ step 0)
-      | inr high ↦
-          let j = i - 8 in
-          let e : i ≡ 8 + j = omega arith in
-          let d : i / 8 ≡ suc (j / 8) = omega arith in
-          ap (λ (k : ℕ). get_or (replicate 8 rest ++ t.places) k []) e ∙ get_or-behind 8 j rest [] t.places
-          ∙ h.each j (omega (arith, length-append (bits_of b) t.bits))
-          ∙ sym (ap (λ (n : ℕ). behind_bytes (suc n) bytes) d ∙ step (suc (j / 8))) ] }
+  sized = omega (arith, length-append (replicate 8 rest) t.places, length-replicate 8 rest, length-append (bits_of b) t.bits, h.sized);
+  each = λ i lt. elim (cases_lt i 8) [
+    | inl low ↦
+        let z : i / 8 ≡ 0 = omega arith in
+        get_or_append_left (replicate 8 rest) t.places [] i (omega (arith, length-replicate 8 rest)) ∙ get_or-replicate 8 i rest [] low
+        ∙ sym (ap (λ (n : ℕ). behind_bytes (suc n) bytes) z ∙ step 0)
+    | inr high ↦
+        let j = i - 8 in
+        let e : i ≡ 8 + j = omega arith in
+        let d : i / 8 ≡ suc (j / 8) = omega arith in
+        ap (λ (k : ℕ). get_or (replicate 8 rest ++ t.places) k []) e ∙ get_or-behind 8 j rest [] t.places
+        ∙ h.each j (omega (arith, length-append (bits_of b) t.bits))
+        ∙ sym (ap (λ (n : ℕ). behind_bytes (suc n) bytes) d ∙ step (suc (j / 8)))
+  ];
+}
 
 one-step : (b : ℕ) (n : ℕ) → behind_bytes (suc n) (b ∷ []) ≡ behind_bytes n []
 unfolding behind_bytes
@@ -78,6 +80,7 @@ ends-so k bytes = go (cases_lt 56 (length (drop k t.bits)))
   where
     t : Text
     t = text_at bytes
+
     go : (56 < length (drop k (text_at bytes).bits)) ⊎ (length (drop k (text_at bytes).bits) ≤ 56)
         → marker_by (drop k (drop 56 (text_at bytes).places)) (text_at bytes).ending ≡ end_behind k bytes (drop k (text_at bytes).bits) (text_at bytes).ending
     go (inr few) =
@@ -91,8 +94,8 @@ ends-so k bytes = go (cases_lt 56 (length (drop k t.bits)))
         let within : k + 56 < length t.bits = omega (arith, length-drop k t.bits) in
         let order : 56 + k ≡ k + 56 = omega arith in
         let head : drop k (drop 56 t.places) ≡ get_or t.places (k + 56) [] ∷ drop (k + 56 + 1) t.places
-              = drop-drop k 56 t.places ∙ ap (λ (n : ℕ). drop n t.places) order ∙ drop_more t.places (k + 56) [] (omega (arith, is.sized)) in
+        = drop-drop k 56 t.places ∙ ap (λ (n : ℕ). drop n t.places) order ∙ drop_more t.places (k + 56) [] (omega (arith, is.sized)) in
         let count : suc ((k + 56) / 8) ≡ (k + 57 + 7) / 8 = omega arith in
         rw (lt-leb (length (drop k t.bits)) 56 many, end_behind)
-          (ap (λ (p : List (List ℕ)). marker_by p t.ending) head
-            ∙ ap (λ (r : List ℕ). Ok (None, r)) (is.each (k + 56) within ∙ ap (λ (n : ℕ). behind_bytes n bytes) count))
+        (ap (λ (p : List (List ℕ)). marker_by p t.ending) head
+        ∙ ap (λ (r : List ℕ). Ok (None, r)) (is.each (k + 56) within ∙ ap (λ (n : ℕ). behind_bytes n bytes) count))

@@ -3,10 +3,12 @@ use Rattle.std.proofs.Common.{◌≡◌, inl, inr, ℕ, zero, suc, ◌+◌, ◌-
 use Rattle.std.proofs.Math.Nat.{add-mul, one-mul, zero-mul, mul-le-mul_right}
 use Rattle.std.proofs.Math.Seq.{take-add}
 use Rattle.std.specs.Option.{option_map}
-use Rattle.std.proofs.lemmas.Bool.{eq-eqb, eqb-true, cases_lt}
+use Rattle.std.proofs.lemmas.Bool.{eq-eqb, eqb-true, cases_lt, lt-ltb, ltb-true, false≢true}
+use Rattle.std.proofs.Math.Logic.{⊎_elim}
+use Rattle.std.proofs.Common.{◌&&◌}
 use Rattle.std.proofs.lemmas.List.{take-append-le, take_all, drop_at, take-take, get_or-take, length-replicate}
 use Rattle.std.proofs.lemmas.List.Sums.{sum_by-append, sum_by_more, sum_by-take-le}
-use Rattle.jpeg_bits.specs.Codes.{Table, code_lengths, lengths_from, code_value, HasCodes, begins, first_from, code_in, next_16, symbol_by, symbol_from}
+use Rattle.jpeg_bits.specs.Codes.{Table, code_lengths, lengths_from, code_value, HasCodes, codes_exist, all_below, begins, first_from, code_in, next_16, symbol_by, symbol_from}
 use Rattle.jpeg_bits.specs.Reading.{Fault, ◌>>=◌ as ◌>>r=◌}
 use Rattle.jpeg_bits.specs.Entropy.{Text, number_of, has_bits, advance}
 use Rattle.jpeg_bits.proofs.CodeLemmas.{first_from-skip, first_from-hit}
@@ -78,13 +80,13 @@ module _ (n most : ℕ) (lens : List ℕ) (rising : IsRising n most lens) where
       let f = λ (x : ℕ). 2 ^ (sj - x) in
       let le : si ≤ sj = ordered n most lens i j rising (omega arith) within in
       let below : (k : ℕ) → k < length (take i lens) → get_or (take i lens) k 0 ≤ si
-            = λ k h. let l = length-take i lens in
-                let g : k < i = omega arith in
-                subst (λ (x : ℕ). x ≤ si) (sym (get_or-take i lens k 0 g)) (ordered n most lens k i rising (omega arith) (omega arith)) in
+      = λ k h. let l = length-take i lens in
+      let g : k < i = omega arith in
+      subst (λ (x : ℕ). x ≤ si) (sym (get_or-take i lens k 0 g)) (ordered n most lens k i rising (omega arith) (omega arith)) in
       let s = scaled-sum si sj (take i lens) le below in
       let more : sum_by f (take (i + 1) lens) ≡ sum_by f (take i lens) + f si = sum_by_more f lens i 0 (omega arith) in
       let part : sum_by f (take (i + 1) lens) ≤ sum_by f (take j lens)
-            = subst (λ (l : List ℕ). sum_by f l ≤ sum_by f (take j lens)) (take-take (i + 1) j lens (omega arith)) (sum_by-take-le f (take j lens) (i + 1)) in
+      = subst (λ (l : List ℕ). sum_by f l ≤ sum_by f (take j lens)) (take-take (i + 1) j lens (omega arith)) (sum_by-take-le f (take j lens) (i + 1)) in
       let v = sum_by (λ x. 2 ^ (si - x)) (take i lens) in
       let product = add-mul v 1 (2 ^ (sj - si)) in
       let one = one-mul (2 ^ (sj - si)) in
@@ -98,7 +100,7 @@ number_onto-lt a (y ∷ ys) =
     let p : (2 * a + cond y 1 0 + 1) * 2 ^ length ys ≤ (2 * a + 2) * 2 ^ length ys = mul-le-mul_right (2 ^ length ys) (omega arith) in
     let d = pow-suc 2 (length ys) in
     let e : (2 * a + 2) * 2 ^ length ys ≡ (a + 1) * 2 ^ suc (length ys)
-          = ap (λ (x : ℕ). x * 2 ^ length ys) (let f : 2 * a + 2 ≡ (a + 1) * 2 = omega arith in f) ∙ mul_assoc (a + 1) 2 (2 ^ length ys) ∙ ap (λ (x : ℕ). (a + 1) * x) (omega arith) in
+    = ap (λ (x : ℕ). x * 2 ^ length ys) (let f : 2 * a + 2 ≡ (a + 1) * 2 = omega arith in f) ∙ mul_assoc (a + 1) 2 (2 ^ length ys) ∙ ap (λ (x : ℕ). (a + 1) * x) (omega arith) in
     omega (arith, r, p, e)
 
 number_onto-append : (a : ℕ) (xs ys : List Bool) → number_onto a (xs ++ ys) ≡ number_onto (number_onto a xs) ys
@@ -138,8 +140,10 @@ module _ (n most : ℕ) (lens : List ℕ) (rising : IsRising n most lens) (bits 
       elim (cases_lt i j) [
         | inl lt ↦ absurd (not-both i j lt within' p q)
         | inr le ↦ elim (cases_lt j i) [
-            | inl gt ↦ absurd (not-both j i gt within q p)
-            | inr ge ↦ omega arith ] ]
+          | inl gt ↦ absurd (not-both j i gt within q p)
+          | inr ge ↦ omega arith
+        ]
+      ]
 
   earlier : (i k : ℕ) → i < length lens → k < i → begins lens bits i ≡ true → begins lens bits k ≡ false
   earlier i k within lt p = go (begins lens bits k) refl
@@ -179,22 +183,24 @@ begins-own counts i rest h all within =
     let zeros = replicate 16 false in
     let small : s ≤ 16 = (rising-at 1 16 lens i (all-rising counts h) within).1 in
     let first : take s (next_16 (own ++ rest)) ≡ own
-          = take-take s 16 ((own ++ rest) ++ zeros) small
-            ∙ take-append-le s (own ++ rest) zeros (omega (arith, length-append own rest))
-            ∙ take-append-le s own rest (omega arith) ∙ take_all s own (omega arith) in
+    = take-take s 16 ((own ++ rest) ++ zeros) small
+    ∙ take-append-le s (own ++ rest) zeros (omega (arith, length-append own rest))
+    ∙ take-append-le s own rest (omega arith) ∙ take_all s own (omega arith) in
     eq-eqb _ _ (ap number_of first ∙ number_of-low_bits s v (all i within))
 
 pub code-read : (table : Table) (i : ℕ) → length table.counts ≡ 16 → HasCodes (code_lengths table.counts) → i < length (code_lengths table.counts)
     → ReadsJust (code_from table) (code_bits table i) (code_size table i, slice_index table.symbols i)
 unfolding code_from
-code-read table i h all within = record { read = λ rest places e.
-    let lens = code_lengths table.counts in
-    let s = get_or lens i 0 in
-    let own = code_bits table i in
-    let long : length own ≡ s = length-low_bits s (code_value lens i) in
-    let t = text (own ++ rest) places e in
-    let found = finds 1 16 lens (all-rising table.counts h) (next_16 (own ++ rest)) (enough-bits (own ++ rest)) i within (begins-own table.counts i rest h all within) in
-    ap (code_by table t) found ∙ rw (has_enough s (own ++ rest) e (omega (arith, length-append own rest)), drop_at own rest s long, long) refl }
+code-read table i h all within = record {
+  read = λ rest places e.
+      let lens = code_lengths table.counts in
+      let s = get_or lens i 0 in
+      let own = code_bits table i in
+      let long : length own ≡ s = length-low_bits s (code_value lens i) in
+      let t = text (own ++ rest) places e in
+      let found = finds 1 16 lens (all-rising table.counts h) (next_16 (own ++ rest)) (enough-bits (own ++ rest)) i within (begins-own table.counts i rest h all within) in
+      ap (code_by table t) found ∙ rw (has_enough s (own ++ rest) e (omega (arith, length-append own rest)), drop_at own rest s long, long) refl;
+}
 
 pub good-table : (table : Table) → length table.counts ≡ 16 → HasCodes (code_lengths table.counts) → IsGood table
 good-table table h all = record { reads = λ i within. code-read table i h all within }
@@ -213,5 +219,32 @@ unfolding symbol_from code_from
 symbol-code table t = symbol-by_code table t (code_in (code_lengths table.counts) (next_16 t.bits))
 
 pub takes-symbol : (table : Table) (i : ℕ) → IsGood table → i < length (code_lengths table.counts) → ReadsJust (symbol_from table) (code_bits table i) (slice_index table.symbols i)
-takes-symbol table i good within = record { read = λ rest places e.
-    symbol-code table (text (code_bits table i ++ rest) places e) ∙ ap (read_on (λ (c : ℕ × ℕ). gives c.1)) ((good.reads i within).read rest places e) }
+takes-symbol table i good within = record {
+  read = λ rest places e.
+      symbol-code table (text (code_bits table i ++ rest) places e) ∙ ap (read_on (λ (c : ℕ × ℕ). gives c.1)) ((good.reads i within).read rest places e);
+}
+
+-- ---- whether the codes exist, as a test
+
+all_below-each : (p : ℕ → Bool) (n : ℕ) → ((k : ℕ) → k < n → p k ≡ true) → all_below p n ≡ true
+all_below-each p zero h = refl
+all_below-each p (suc n) h = rw (all_below-each p n (λ k l. h k (omega arith)), h n (omega arith)) refl
+
+both : (a b : Bool) → a && b ≡ true → (a ≡ true) × (b ≡ true)
+both true true h = (refl, refl)
+both true false h = absurd (false≢true h)
+both false b h = absurd (false≢true h)
+
+each-below : (p : ℕ → Bool) (n : ℕ) → all_below p n ≡ true → (k : ℕ) → k < n → p k ≡ true
+each-below p zero h k l = absurd (omega arith)
+each-below p (suc n) h k l =
+    let w = both (all_below p n) (p n) h in
+    ⊎_elim (λ lt. each-below p n w.0 k lt) (λ le. let e : k ≡ n = omega arith in rw e w.1) (cases_lt k n)
+
+pub exist-tested : (lengths : List ℕ) → HasCodes lengths → codes_exist lengths ≡ true
+unfolding codes_exist
+exist-tested lengths h = all_below-each _ (length lengths) (λ i l. lt-ltb (code_value lengths i) (2 ^ slice_index lengths i) (h i l))
+
+pub tested-exist : (lengths : List ℕ) → codes_exist lengths ≡ true → HasCodes lengths
+unfolding codes_exist
+tested-exist lengths h i l = ltb-true (code_value lengths i) (2 ^ slice_index lengths i) (each-below _ (length lengths) h i l)

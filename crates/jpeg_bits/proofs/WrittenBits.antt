@@ -17,11 +17,13 @@ places-behind bits more places = drop-drop (length more) (length bits) places �
 
 pub takes-bind : {A B : Type 0} (p : Reads A) (f : A → Reads B) (bits more : List Bool) (x : A) (y : B)
     → ReadsJust p bits x → ReadsJust (f x) more y → ReadsJust (p >>= f) (bits ++ more) y
-takes-bind {A} {B} p f bits more x y h k = record { read = λ rest places e.
-    ap (λ (b : List Bool). read_on f (p (text b places e))) (append_assoc bits more rest)
-    ∙ ap (read_on f) (h.read (more ++ rest) places e)
-    ∙ k.read rest (drop (length bits) places) e
-    ∙ ap (λ (l : List (List ℕ)). Ok (y, text rest l e)) (places-behind bits more places) }
+takes-bind {A} {B} p f bits more x y h k = record {
+  read = λ rest places e.
+      ap (λ (b : List Bool). read_on f (p (text b places e))) (append_assoc bits more rest)
+      ∙ ap (read_on f) (h.read (more ++ rest) places e)
+      ∙ k.read rest (drop (length bits) places) e
+      ∙ ap (λ (l : List (List ℕ)). Ok (y, text rest l e)) (places-behind bits more places);
+}
 
 pub low_bits-mod : (n v : ℕ) → v % 2 ^ suc n ≡ (v / 2 ^ n % 2) * 2 ^ n + v % 2 ^ n
 low_bits-mod n v =
@@ -65,8 +67,10 @@ front n bits rest h =
 -- n bits are read as their number
 pub takes-bits : (n : ℕ) (bits : List Bool) → length bits ≡ n → ReadsJust (bits_from n) bits (number_of bits)
 unfolding bits_from
-takes-bits n bits h = record { read = λ rest places e.
-    rw (has_enough n (bits ++ rest) e (omega (arith, length-append bits rest)), front n bits rest h, drop_at bits rest n h, h) refl }
+takes-bits n bits h = record {
+  read = λ rest places e.
+      rw (has_enough n (bits ++ rest) e (omega (arith, length-append bits rest)), front n bits rest h, drop_at bits rest n h, h) refl;
+}
 
 pub takes-number : (n v : ℕ) → v < 2 ^ n → ReadsJust (bits_from n) (low_bits n v) v
 takes-number n v h =

@@ -111,3 +111,12 @@ RefusesCodes (errors.Unsupported feature) lengths = ⊥
 RefusesCodes (errors.Io e) lengths = ⊥
 RefusesCodes (errors.Internal text) lengths = ⊥
 RefusesCodes errors.OutOfMemory lengths = Unit {0}
+
+-- p holds of each number below n
+abbrev pub all_below : (ℕ → Bool) → ℕ → Bool
+all_below p zero = true
+all_below p (suc n) = all_below p n && p n
+
+-- whether the codes exist, as a test
+unfoldable pub codes_exist : List ℕ → Bool
+codes_exist lengths = all_below (λ i. nat_lt (code_value lengths i) (2 ^ slice_index lengths i)) (length lengths)

@@ -2,9 +2,8 @@
 ghost use Rattle.std.specs.Prelude.{◌≡◌};
 ghost use Rattle.jpeg_bits.specs.declared.error.Error.TheVariants.{Io, OutOfMemory};
 
-pub use crate::source::Source;
-
 use crate::color_transform::ColorTransform;
+pub use crate::source::Source;
 use std::alloc::{AllocError, AllocFailed};
 use std::io;
 

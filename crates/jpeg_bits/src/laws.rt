@@ -1,7 +1,7 @@
 //! What the definitions of entropy-coded data mean in plain words, each a theorem on a function without a body.
 ghost use Rattle.std.specs.Prelude.{◌≡◌, ℕ, ◌<◌, ◌≤◌, ◌^◌, List, Bool, true, drop, length, slice_index, Some};
 ghost use Rattle.jpeg_bits.specs.Entropy.{bits_from, text_at, upcoming, fresh, advance, marker_from};
-ghost use Rattle.jpeg_bits.specs.Codes.{Table, IsTable, code_lengths, code_in, begins, symbol_from};
+ghost use Rattle.jpeg_bits.specs.Codes.{Table, IsTable, HasCodes, codes_exist, code_lengths, code_in, begins, symbol_from};
 ghost use Rattle.jpeg_bits.specs.Written.{low_bits, code_bits};
 ghost use Rattle.jpeg_bits.specs.Readers.{ReadsJust};
 ghost use Rattle.jpeg_bits.specs.Ends.{end_behind};
@@ -9,15 +9,13 @@ ghost use Rattle.jpeg_bits.specs.Ends.{end_behind};
 /// A number is read of its bits, and nothing else.
 pub fn numbers_are_read()
     ensures { (n v : ℕ) → v < 2 ^ n → ReadsJust (bits_from n) (low_bits n v) v }
-{
-}
+{}
 
 /// Each symbol of a table that exists is read of the bits of its code, and nothing else.
 pub fn codes_are_read()
     ensures { (table : Table) (i : ℕ) → IsTable table → i < length (code_lengths table.counts) →
         ReadsJust (symbol_from table) (code_bits table i) (slice_index table.symbols i) }
-{
-}
+{}
 
 /// No two codes begin the same bits, and the one that does is found.
 pub fn codes_are_unique()
@@ -27,12 +25,16 @@ pub fn codes_are_unique()
     ensures found { (counts : List ℕ) (bits : List Bool) (i : ℕ) → length counts ≡ 16 → 16 ≤ length bits →
         i < length (code_lengths counts) → begins (code_lengths counts) bits i ≡ true →
         code_in (code_lengths counts) bits ≡ Some (i, slice_index (code_lengths counts) i) }
-{
-}
+{}
 
 /// How an interval ends in which k bits were taken.
 pub fn intervals_end()
     ensures { (k : ℕ) (bytes : List ℕ) → marker_from (advance k (upcoming fresh bytes))
         ≡ end_behind k bytes (drop k (text_at bytes).bits) (text_at bytes).ending }
-{
-}
+{}
+
+/// Whether the codes of a table exist can be computed.
+pub fn codes_exist_or_not()
+    ensures exist { (lengths : List ℕ) → HasCodes lengths → codes_exist lengths ≡ true }
+    ensures tested { (lengths : List ℕ) → codes_exist lengths ≡ true → HasCodes lengths }
+{}

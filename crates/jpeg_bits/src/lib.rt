@@ -8,6 +8,7 @@ pub mod huffman;
 pub mod laws;
 pub mod marker;
 pub mod reads;
+pub mod scan;
 pub mod source;
 #[cfg(test)]
 mod tests;

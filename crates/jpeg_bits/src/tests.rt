@@ -1,6 +1,5 @@
-use crate::huffman::{HuffmanTable, HuffmanTableClass};
 use crate::error::Error;
-use crate::huffman::HuffmanDecoder;
+use crate::huffman::{HuffmanDecoder, HuffmanTable, HuffmanTableClass};
 use crate::marker::{Marker, read_marker};
 use crate::reads::{read_u16_be, skip};
 use crate::source::Source;

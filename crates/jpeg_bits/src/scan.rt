@@ -1,0 +1,40 @@
+//! What a scan header says (T.81, B.2.3).
+
+use std::ops::Range;
+
+/// The greatest number of components of a frame.
+pub const MAX_COMPONENTS: usize = 4;
+
+/// How a lossless sample is predicted (T.81, Table H.1).
+#[derive(Clone, Copy, Debug, PartialEq)]
+pub enum Predictor {
+    NoPrediction,
+    Ra,
+    Rb,
+    Rc,
+    RaRbRc1,
+    RaRbRc2,
+    RaRbRc3,
+    RaRb,
+}
+
+/// A scan header. The lists have a place for each component of the scan, in its order.
+#[derive(Debug, Drop)]
+pub struct ScanInfo {
+    /// The components' places in the frame.
+    pub component_indices: Vec<usize>,
+    /// The places of their DC tables.
+    pub dc_table_indices: Vec<usize>,
+    /// The places of their AC tables.
+    pub ac_table_indices: Vec<usize>,
+    /// The coefficients that the scan codes, by their places in zigzag order.
+    pub spectral_selection: Range<u8>,
+    /// The predictor of a lossless scan.
+    pub predictor_selection: Predictor,
+    /// The level at which the scan finds its coefficients, or 0 in a first scan.
+    pub successive_approximation_high: u8,
+    /// The level at which the scan leaves its coefficients.
+    pub successive_approximation_low: u8,
+    /// The point transform of a lossless scan.
+    pub point_transform: u8,
+}

@@ -1,0 +1,8 @@
+//! The segments of a JPEG stream.
+#![tactic(auto)]
+
+mod frame_header;
+mod huffman_tables;
+pub mod parser;
+mod quantization;
+mod scan_header;

@@ -1,0 +1,95 @@
+//! Quantization tables.
+ghost use Rattle.std.specs.Prelude.{◌≡◌, ◌≤◌, ◌<◌, IfOk};
+ghost use Rattle.jpeg_bits.specs.Reading.{Answers, times};
+ghost use Rattle.jpeg_segments.specs.Quantization.{value_at, table_at, placed_table_at, dqt_at};
+
+use jpeg_bits::error::Result;
+use jpeg_bits::reads::{format_error, read_length, read_u8, read_u16_be};
+use jpeg_bits::source::Source;
+use std::alloc::Global;
+use std::io::Read;
+
+#[tactic(auto, unfolding(crate::specs::Quantization::value_at))]
+fn read_value<R: Read + Drop>(alloc: Global, source: &mut Source<R>, is_wide: bool) -> Result<u16>
+    ensures { Answers (λ v. v) (value_at is_wide) source.old result source.new }
+{
+    if is_wide {
+        read_u16_be(alloc, source)
+    } else {
+        Ok(u16::from(read_u8(alloc, source)?))
+    }
+}
+
+fn read_values<R: Read + Drop>(
+    alloc: Global,
+    source: &mut Source<R>,
+    is_wide: bool,
+) -> Result<[u16; 64]>
+    ensures { Answers (λ v. v) (times 64 (value_at is_wide)) source.old result source.new }
+{
+    let mut values = [0u16; 64];
+    for i in 0..64 {
+        values[i] = read_value(alloc, source, is_wide)?;
+    }
+    Ok(values)
+}
+
+#[tactic(auto, unfolding(crate::specs::Quantization::table_at))]
+fn read_table<R: Read + Drop>(
+    alloc: Global,
+    source: &mut Source<R>,
+    is_wide: bool,
+) -> Result<[u16; 64]>
+    ensures { Answers (λ v. v) (table_at is_wide) source.old result source.new }
+{
+    let values = read_values(alloc, source, is_wide)?;
+    if values.contains(&0) {
+        return Err(format_error(alloc, "quantization value of 0"));
+    }
+    Ok(values)
+}
+
+/// The next table where `left` bytes are left: its size and place, and the table.
+#[tactic(auto, unfolding(crate::specs::Quantization::placed_table_at))]
+fn read_placed_table<R: Read + Drop>(
+    alloc: Global,
+    source: &mut Source<R>,
+    left: u16,
+) -> Result<(u16, usize, [u16; 64])>
+    ensures answers { Answers (λ t. t) (placed_table_at left) source.old result source.new }
+    ensures place { IfOk result (λ t. (t.0 ≤ left) × (0 < t.0) × (t.1 < 4)) }
+{
+    let byte = read_u8(alloc, source)?;
+    let precision = byte / 16;
+    let index = usize::from(byte % 16);
+    if precision > 1 {
+        return Err(format_error(alloc, "invalid precision in DQT"));
+    }
+    if index > 3 {
+        return Err(format_error(alloc, "invalid index in DQT"));
+    }
+    let size = 65 + 64 * u16::from(precision);
+    if left < size {
+        return Err(format_error(alloc, "not enough data in DQT"));
+    }
+    let table = read_table(alloc, source, precision == 1)?;
+    Ok((size, index, table))
+}
+
+/// The quantization tables of a segment, in zigzag order.
+#[tactic(auto, unfolding(crate::specs::Quantization::dqt_at))]
+pub fn parse_dqt<R: Read + Drop>(
+    alloc: Global,
+    source: &mut Source<R>,
+) -> Result<[Option<[u16; 64]>; 4]>
+    ensures { Answers (λ v. v) dqt_at source.old result source.new }
+{
+    let mut left = read_length(alloc, source)?;
+    let mut tables = [None; 4];
+    while left > 0 {
+        let (size, index, table) = read_placed_table(alloc, source, left)?;
+        tables[index] = Some(table);
+        left -= size;
+    }
+    Ok(tables)
+}
