@@ -5,5 +5,6 @@ pub mod Sums
 pub mod FlatBlocks
 pub mod CroppedLines
 pub mod PlaneRows
+pub mod Rows
 pub mod Strips
 pub mod ZigzagPlaces

@@ -1,8 +1,8 @@
 -- A plane by its rows of blocks.
-use Rattle.std.proofs.Common.{◌≡◌, ℕ, zero, suc, ◌+◌, ◌-◌, ◌*◌, ◌<◌, ◌≤◌, ◌/◌, ◌%◌, ℤ, List, [], ◌++◌, length, get_or, slice_index, slice_index_or, map, refl, sym, ap, ◌∙◌, arith, length-append}
+use Rattle.std.proofs.Common.{◌≡◌, ℕ, zero, suc, ◌+◌, ◌-◌, ◌*◌, ◌<◌, ◌≤◌, ◌/◌, ◌%◌, ℤ, List, [], ◌++◌, length, get_or, slice_index_or, map, sym, ap, ◌∙◌, arith, length-append}
 use Rattle.std.proofs.lemmas.List.{ext_get_or, get_or-append_right, get_or_append_left}
-use Rattle.std.proofs.lemmas.List.FromFn.{length-map-range_with_len, get_or-map-range_with_len, fill_by_all}
-use Rattle.std.proofs.Math.Nat.{mul_comm, div-lt_iff_lt-mul, mod-lt, div-add-mod, mul-add-div, mul-add-mod_self_left}
+use Rattle.std.proofs.lemmas.List.FromFn.{length-map-range_with_len, get_or-map-range_with_len}
+use Rattle.std.proofs.Math.Nat.{mul_comm, div-lt_iff_lt-mul, mod-lt, mul-add-div, mul-add-mod_self_left}
 use Rattle.std.proofs.Math.Logic.{⊎_elim}
 use Rattle.std.proofs.lemmas.Bool.{cases_lt}
 use Rattle.std.specs.List.{range_with_len}
@@ -31,13 +31,13 @@ pub plane-same : (table : List ℕ) (wide high : ℕ) (f g : ℕ → ℕ → Lis
 plane-same table wide high f g same = ext_get_or 0 (plane_of table wide high f) (plane_of table wide high g)
     (length_plane_of table wide high f ∙ sym (length_plane_of table wide high g))
     (λ i h.
-      let lt : i < 8 * wide * (8 * high) = omega (arith, length_plane_of table wide high f) in
-      let some : 0 < 8 * wide = some_wide wide (8 * high) i lt in
-      let line : i / (8 * wide) < 8 * high = line_lt wide (8 * high) i lt in
-      let column : i % (8 * wide) < 8 * wide = mod-lt i some in
-      plane_of_at table wide high f i lt
-      ∙ ap (λ (b : List ℤ). sample b table (i % (8 * wide) % 8) (i / (8 * wide) % 8)) (same (i / (8 * wide) / 8) (i % (8 * wide) / 8) (omega arith) (omega arith))
-      ∙ sym (plane_of_at table wide high g i lt))
+    let lt : i < 8 * wide * (8 * high) = omega (arith, length_plane_of table wide high f) in
+    let some : 0 < 8 * wide = some_wide wide (8 * high) i lt in
+    let line : i / (8 * wide) < 8 * high = line_lt wide (8 * high) i lt in
+    let column : i % (8 * wide) < 8 * wide = mod-lt i some in
+    plane_of_at table wide high f i lt
+    ∙ ap (λ (b : List ℤ). sample b table (i % (8 * wide) % 8) (i / (8 * wide) % 8)) (same (i / (8 * wide) / 8) (i % (8 * wide) / 8) (omega arith) (omega arith))
+    ∙ sym (plane_of_at table wide high g i lt))
 
 pub plane-none : (table : List ℕ) (wide : ℕ) (block_at : ℕ → ℕ → List ℤ) → plane_of table wide 0 block_at ≡ []
 unfolding plane_of
@@ -65,7 +65,7 @@ next_row table wide high block_at j h =
     let column : j % (8 * wide) < 8 * wide = mod-lt j some in
     let at : j % (8 * wide) / 8 < wide = omega arith in
     let block : block_at high (j % (8 * wide) / 8) ≡ row_at wide block_at high 0 (j % (8 * wide) / 8) =
-        sym (get_or-map-range_with_len (block_at high) 0 wide (j % (8 * wide) / 8) (j % (8 * wide) / 8) zero_coefficients at (omega arith)) in
+    sym (get_or-map-range_with_len (block_at high) 0 wide (j % (8 * wide) / 8) (j % (8 * wide) / 8) zero_coefficients at (omega arith)) in
     let high_is : (8 * high + j / (8 * wide)) / 8 ≡ high = omega arith in
     let line_is : (8 * high + j / (8 * wide)) % 8 ≡ j / (8 * wide) % 8 = omega arith in
     ap (λ x. plane_sample table block_at x ((8 * wide * (8 * high) + j) / (8 * wide))) (mul-add-mod_self_left (8 * wide) (8 * high) j)
@@ -87,18 +87,18 @@ plane-more table wide high block_at =
     let lengths : length all ≡ length (above ++ row) = all_length ∙ (let e : 8 * wide * (8 * (high + 1)) ≡ 8 * wide * (8 * high) + 8 * wide * (8 * 1) = omega arith in e) ∙ sym (length-append above row ∙ (λ i. above_length i + row_length i)) in
     ext_get_or 0 all (above ++ row) lengths
     (λ i h.
-      let lt : i < 8 * wide * (8 * (high + 1)) = omega (arith, all_length) in
-      plane_of_at table wide (high + 1) block_at i lt
-      ∙ ⊎_elim
-      (λ (early : i < 8 * wide * (8 * high)).
-        let inside : i < length above = omega (arith, above_length) in
-        sym (get_or_append_left above row 0 i inside ∙ plane_of_at table wide high block_at i early))
-      (λ (late : 8 * wide * (8 * high) ≤ i).
-        let j = i - 8 * wide * (8 * high) in
-        let is : i ≡ 8 * wide * (8 * high) + j = omega arith in
-        let below : j < 8 * wide * 8 = omega arith in
-        ap (λ n. plane_sample table block_at (n % (8 * wide)) (n / (8 * wide))) is
-        ∙ next_row table wide high block_at j below
-        ∙ sym (get_or-append_right above row (8 * wide * (8 * high)) i 0 above_length late ∙ plane_of_at table wide 1 (row_at wide block_at high) j below))
-      (cases_lt i (8 * wide * (8 * high))))
+    let lt : i < 8 * wide * (8 * (high + 1)) = omega (arith, all_length) in
+    plane_of_at table wide (high + 1) block_at i lt
+    ∙ ⊎_elim
+    (λ (early : i < 8 * wide * (8 * high)).
+    let inside : i < length above = omega (arith, above_length) in
+    sym (get_or_append_left above row 0 i inside ∙ plane_of_at table wide high block_at i early))
+    (λ (late : 8 * wide * (8 * high) ≤ i).
+    let j = i - 8 * wide * (8 * high) in
+    let is : i ≡ 8 * wide * (8 * high) + j = omega arith in
+    let below : j < 8 * wide * 8 = omega arith in
+    ap (λ n. plane_sample table block_at (n % (8 * wide)) (n / (8 * wide))) is
+    ∙ next_row table wide high block_at j below
+    ∙ sym (get_or-append_right above row (8 * wide * (8 * high)) i 0 above_length late ∙ plane_of_at table wide 1 (row_at wide block_at high) j below))
+    (cases_lt i (8 * wide * (8 * high))))
     ∙ ap (λ (l : List ℕ). above ++ l) (sym (strip_is table wide high block_at))

@@ -73,6 +73,6 @@ HoldsSamples-all table blocks strip n holds =
     let stride = 8 * length blocks in
     fill_by_all (λ i. plane_sample table (λ row place. slice_index_or blocks place zero_coefficients) (i % (8 * length blocks)) (i / (8 * length blocks))) strip (8 * length blocks * (8 * 1)) 0 (n ∙ omega arith)
     (λ i h.
-      let some : 0 < 8 * length blocks = some_wide (length blocks) 8 i h in
-      let is : i / (8 * length blocks) * (8 * length blocks) + i % (8 * length blocks) ≡ i = (λ j. mul_comm (i / (8 * length blocks)) (8 * length blocks) j + i % (8 * length blocks)) ∙ div-add-mod i (8 * length blocks) in
-      ap (λ m. get_or strip m 0) (sym is) ∙ holds.held (i % (8 * length blocks)) (i / (8 * length blocks)) (mod-lt i some) (line_lt (length blocks) 8 i h))
+    let some : 0 < 8 * length blocks = some_wide (length blocks) 8 i h in
+    let is : i / (8 * length blocks) * (8 * length blocks) + i % (8 * length blocks) ≡ i = (λ j. mul_comm (i / (8 * length blocks)) (8 * length blocks) j + i % (8 * length blocks)) ∙ div-add-mod i (8 * length blocks) in
+    ap (λ m. get_or strip m 0) (sym is) ∙ holds.held (i % (8 * length blocks)) (i / (8 * length blocks)) (mod-lt i some) (line_lt (length blocks) 8 i h))

@@ -1,5 +1,5 @@
 -- The places of the zigzag order.
-use Rattle.std.proofs.Common.{◌≡◌, ℕ, ◌<◌, List, length, get_or, map, refl, sym, ◌∙◌, arith, true, false}
+use Rattle.std.proofs.Common.{◌≡◌, ℕ, ◌<◌, List, length, get_or, map, refl, sym, ◌∙◌, arith, true}
 use Rattle.std.proofs.lemmas.List.{ext_get_or, get_or-map, length-map}
 use Rattle.std.proofs.lemmas.List.Folds.{list_all_at}
 use Rattle.std.proofs.lemmas.Bool.{cases_lt, ltb-true, false_from_ne_true, false≢true}
@@ -17,9 +17,9 @@ pub filled_by_places : {A : Type 0} (f : ℕ → A) (xs : List A) (d : A) → le
 filled_by_places f xs d n each =
     ext_get_or d xs (map f zigzag_places) (n ∙ sym (length-map zigzag_places f ∙ length_places))
     (λ i h.
-      let lt : i < 64 = omega arith in
-      let within : i < length zigzag_places = omega (arith, length_places) in
-      each i lt ∙ sym (get_or-map f zigzag_places i 0 d within))
+    let lt : i < 64 = omega arith in
+    let within : i < length zigzag_places = omega (arith, length_places) in
+    each i lt ∙ sym (get_or-map f zigzag_places i 0 d within))
 
 each_below : (xs : List ℕ) (n : ℕ) → list_all (λ x. ltb x n) xs ≡ true → (i : ℕ) → i < length xs → get_or xs i 0 < n
 each_below xs n all i h = ⊎_elim (λ lt. lt) (λ le. absurd (false≢true (sym (list_all_at (λ x. ltb x n) xs i 0 h (false_from_ne_true (ltb (get_or xs i 0) n) (λ e. omega (arith, ltb-true (get_or xs i 0) n e)))) ∙ all))) (cases_lt (get_or xs i 0) n)

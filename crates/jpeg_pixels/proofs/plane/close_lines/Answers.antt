@@ -1,5 +1,5 @@
 use Rattle.jpeg_pixels.proofs.CroppedLines.{next_line}
-use Rattle.std.proofs.Common.{arith, refl, ◌+◌, ◌*◌}
+use Rattle.std.proofs.Common.{refl, ◌+◌, ◌*◌}
 use Rattle.jpeg_pixels.proofs.plane.close_lines.Goals as goal
 
 pub loop-y-preserved : goal.loop-y-preserved

@@ -1,6 +1,4 @@
-use Rattle.std.proofs.Common.{pos, slice_index_or, length-set, arith, rules, FitsSigned, ap, ◌∙◌}
-use Rattle.std.specs.Int.{w16}
-use Rattle.std.proofs.lemmas.Int.{to_z-of_z}
+use Rattle.std.proofs.Common.{pos, slice_index_or, arith}
 use Rattle.jpeg_pixels.specs.Zigzag.{coefficients_in_block_order}
 use Rattle.jpeg_pixels.proofs.ZigzagPlaces.{filled_by_places}
 use Rattle.jpeg_pixels.proofs.zigzag.coefficients_in_order.Goals as goal
