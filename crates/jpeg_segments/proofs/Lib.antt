@@ -1,1 +1,2 @@
 pub mod QuantizationLemmas
+pub mod HuffmanLemmas

@@ -8,7 +8,7 @@ use jpeg_bits::error::Result;
 use jpeg_bits::huffman::{HuffmanTable, HuffmanTableClass};
 use jpeg_bits::reads::{format_error, read_length, read_u8};
 use jpeg_bits::source::Source;
-use std::alloc::Global;
+use std::alloc::{AllocError, Global};
 use std::io::Read;
 
 /// The tables of each class, DC and AC, by their places 0 to 3.
@@ -98,6 +98,82 @@ fn read_codes<R: Read + Drop>(
     }
     let table = read_table(alloc, source, class, &counts, count)?;
     Ok((size, table))
+}
+
+/// A table that is read: its class, its place, and how many bytes of the segment it takes.
+#[derive(Drop)]
+struct PlacedTable {
+    class: HuffmanTableClass,
+    place: usize,
+    size: u16,
+    table: HuffmanTable,
+}
+
+/// The next table, where `left` bytes are left of the segment.
+#[tactic(auto, unfolding(crate::specs::HuffmanTables::placed_codes_at))]
+fn read_placed_table<R: Read + Drop>(
+    alloc: Global,
+    source: &mut Source<R>,
+    greatest: u8,
+    left: u16,
+) -> Result<PlacedTable>
+    requires { greatest ≤ 3 }
+    ensures answers { Answers (λ t. record { place = t.place; table = t.table }) (placed_codes_at greatest left) source.old result source.new }
+    ensures place { IfOk result (λ t. t.place ≤ 3) }
+    ensures class { IfOk result (λ t. t.table.class ≡ t.class) }
+    ensures size { IfOk result (λ t. (t.size ≡ 17 + sum t.table.counts) × (t.size ≤ left)) }
+{
+    let byte = read_u8(alloc, source)?;
+    let class = match byte / 16 {
+        0 => HuffmanTableClass::DC,
+        1 => HuffmanTableClass::AC,
+        _ => return Err(format_error(alloc, "the class of a Huffman table is above 1")),
+    };
+    let place = byte % 16;
+    if place > greatest {
+        return Err(format_error(alloc, "the place of a Huffman table is too great"));
+    }
+    let (size, table) = read_codes(alloc, source, left, class)?;
+    Ok(PlacedTable {
+        class,
+        place: usize::from(place),
+        size,
+        table,
+    })
+}
+
+/// Four places with no table.
+fn no_tables(alloc: Global) -> std::result::Result<Vec<Option<HuffmanTable>>, AllocError>
+    ensures { IfOk result (λ v. v.items ≡ replicate 4 None) }
+{
+    let mut tables = Vec::with_capacity(alloc, 4)?;
+    for _ in 0..4 {
+        tables.push(None)?;
+    }
+    Ok(tables)
+}
+
+/// The tables with one more.
+fn place_table(tables: &mut PlacedTables, placed: PlacedTable)
+    requires dc { length tables.old.0.items ≡ 4 }
+    requires ac { length tables.old.1.items ≡ 4 }
+    requires place { placed.place ≤ 3 }
+    requires class { placed.table.class ≡ placed.class }
+    ensures tables { record { dc = tables.new.0.items; ac = tables.new.1.items } ≡ with_table (record { dc = tables.old.0.items; ac = tables.old.1.items }) (record { place = placed.place; table = placed.table }) }
+    ensures dc { length tables.new.0.items ≡ 4 }
+    ensures ac { length tables.new.1.items ≡ 4 }
+    ensures classes { all_ac tables.old.1.items ≡ true → all_ac tables.new.1.items ≡ true }
+{
+    let PlacedTable {
+        class,
+        place,
+        table,
+        ..
+    } = placed;
+    match class {
+        HuffmanTableClass::DC => tables.0[place] = Some(table),
+        HuffmanTableClass::AC => tables.1[place] = Some(table),
+    }
 }
 
 /// Reads the tables of a segment (T.81, B.2.4.2): two lists of four places, for DC and for AC. `is_baseline` tells what the frame is, where
