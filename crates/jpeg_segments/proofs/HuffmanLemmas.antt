@@ -8,7 +8,7 @@ use Rattle.jpeg_bits.specs.Codes.{Table, HasCodes, RefusesCodes, codes_exist, co
 use Rattle.jpeg_bits.specs.declared.codes.HuffmanTableClass.{HuffmanTableClass}
 use Rattle.jpeg_bits.specs.declared.error.Error.{Error}
 use Rattle.jpeg_bits.specs.declared.error.Error.TheVariants as errors
-use Rattle.jpeg_bits.proofs.Loops.{still_known}
+use Rattle.jpeg_bits.proofs.Loops.{Continues, still_known}
 use Rattle.jpeg_bits.proofs.Tables.{exist-tested, tested-exist}
 use Rattle.jpeg_segments.specs.HuffmanTables.{Tables, PlacedTable, size_of, symbols_at, with_table, tables_from, placed_codes_at}
 
@@ -67,3 +67,19 @@ tables_from-rest zero greatest left tables bytes h = refl
 tables_from-rest (suc most) greatest left tables bytes h =
     let z : ltb 17 left ≡ false = grind (arith, nat_tests) in
     rw z refl
+
+names-malformed : {Y : Type 0} (e : Error) (o : Result Y Fault) → NamesFormat e → o ≡ Err Malformed → Names e o
+names-malformed (errors.Format text) o n h = h
+names-malformed (errors.Unsupported u) o n h = absurd n
+names-malformed (errors.Io x) o n h = absurd n
+names-malformed (errors.Internal text) o n h = absurd n
+names-malformed errors.OutOfMemory o n h = tt
+
+-- what is left breaks a rule
+pub Continues-refused : {X Y : Type 0} (view : X → Y) (whole rest : List ℕ → Outcome Y) (old new : Stream) (e : Error) → NamesFormat e
+    → rest new.bytes ≡ Err Malformed → Continues whole old rest new → Answers view whole old (Err e) new
+Continues-refused view whole rest old new e n h p = (
+  MayFail-format e old.failed new.failed n p.0,
+  (λ k known. names-malformed e (whole old.bytes) n ((p.1 k).1 ∙ h)),
+  λ k. still_known e (p.1 k).0,
+)

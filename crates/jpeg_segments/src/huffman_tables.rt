@@ -146,11 +146,7 @@ fn read_placed_table<R: Read + Drop>(
 fn no_tables(alloc: Global) -> std::result::Result<Vec<Option<HuffmanTable>>, AllocError>
     ensures { IfOk result (λ v. v.items ≡ replicate 4 None) }
 {
-    let mut tables = Vec::with_capacity(alloc, 4)?;
-    for _ in 0..4 {
-        tables.push(None)?;
-    }
-    Ok(tables)
+    Ok(vec![in alloc; None, None, None, None]?)
 }
 
 /// The tables with one more.
@@ -176,8 +172,23 @@ fn place_table(tables: &mut PlacedTables, placed: PlacedTable)
     }
 }
 
+/// The greatest place that a table may have.
+fn greatest_place(is_baseline: Option<bool>) -> u8
+    ensures place { result ≡ greatest_place is_baseline }
+    ensures most { result ≤ 3 }
+{
+    match is_baseline {
+        Some(true) => 1,
+        _ => 3,
+    }
+}
+
 /// Reads the tables of a segment (T.81, B.2.4.2): two lists of four places, for DC and for AC. `is_baseline` tells what the frame is, where
-/// one was read.
+/// one was read: in a baseline frame a place is 0 or 1, else 0 to 3.
+///
+/// Errors: `Format` where the length, a class, a place, the number of codes or their lengths break a rule, or where 1 to 17 bytes are left
+/// behind the last table; `Io` where the bytes end or a read fails; `OutOfMemory`.
+#[tactic(auto, unfolding(crate::specs::HuffmanTables::dht_at))]
 pub fn parse_dht<R: Read + Drop>(
     alloc: Global,
     reader: &mut Source<R>,
@@ -187,5 +198,16 @@ pub fn parse_dht<R: Read + Drop>(
     ensures places { IfOk result (λ t. (length t.0.items ≡ 4) × (length t.1.items ≡ 4)) }
     ensures classes { IfOk result (λ t. all_ac t.1.items ≡ true) }
 {
-    Err(jpeg_bits::error::Error::OutOfMemory)
+    let mut left = read_length(alloc, reader)?;
+    let greatest = greatest_place(is_baseline);
+    let mut tables = (no_tables(alloc)?, no_tables(alloc)?);
+    while left > 17 {
+        let placed = read_placed_table(alloc, reader, greatest, left)?;
+        left -= placed.size;
+        place_table(&mut tables, placed);
+    }
+    if left > 0 {
+        return Err(format_error(alloc, "bytes are left behind the last Huffman table"));
+    }
+    Ok(tables)
 }
