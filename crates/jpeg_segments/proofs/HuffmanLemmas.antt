@@ -46,8 +46,7 @@ table-found class counts old mid symbols (Ok t) read made exist refused = (
       (by.0, rw (e, test, made) refl),
 )
 table-found class counts old mid symbols (Err e) read made exist refused =
-    let p = refused-names e (code_lengths counts) (Ok (record { class = class; counts = counts; symbols = symbols }, mid.bytes)) refused in
-    (
+    let p = refused-names e (code_lengths counts) (Ok (record { class = class; counts = counts; symbols = symbols }, mid.bytes)) refused in (
       MayFail-format e old.failed mid.failed p.0 read.0,
       (λ k known. let by = (read.1 k).1 in rw by p.1),
       λ k. still_known e (read.1 k).0,

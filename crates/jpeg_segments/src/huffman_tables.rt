@@ -173,7 +173,7 @@ fn place_table(tables: &mut PlacedTables, placed: PlacedTable)
 }
 
 /// The greatest place that a table may have.
-fn greatest_place(is_baseline: Option<bool>) -> u8
+pub(crate) fn greatest_place(is_baseline: Option<bool>) -> u8
     ensures place { result ≡ greatest_place is_baseline }
     ensures most { result ≤ 3 }
 {
