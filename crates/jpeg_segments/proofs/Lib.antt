@@ -1,2 +1,3 @@
 pub mod QuantizationLemmas
 pub mod HuffmanLemmas
+pub mod Rows

@@ -170,9 +170,10 @@ fn short_table(length: u8, place: u8) -> [u8; 20] {
 
 #[test]
 fn two_tables_in_a_segment(rt: HostRuntime) -> std::result::Result<(), Fail> {
-    let mut bytes = [0u8; 38];
-    bytes[..20].copy_from_slice(&short_table(38, 0x03));
-    bytes[20..].copy_from_slice(&short_table(0, 0x12)[2..]);
+    let bytes: [u8; 38] = [
+        0, 38, 0x03, 1, 0, 0, 0, 0, 0, 0, 0, 0, 0, 0, 0, 0, 0, 0, 0, 4, 0x12, 1, 0, 0, 0, 0, 0, 0,
+        0, 0, 0, 0, 0, 0, 0, 0, 0, 5,
+    ];
     let (dc, ac) = parse_dht(rt.alloc(), &mut Source::new(&bytes[..]), Some(false))?;
     for (place, table) in dc.iter().enumerate() {
         assert_eq!(rt; table.is_some(), place == 3);
