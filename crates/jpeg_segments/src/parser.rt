@@ -1,7 +1,7 @@
 //! The segments of a stream (T.81, B.2).
 
 pub use crate::frame_header::parse_sof;
-pub use crate::huffman_tables::parse_dht;
+pub use crate::huffman_tables::{PlacedTables, parse_dht};
 pub use crate::quantization::parse_dqt;
 pub use crate::scan_header::parse_sos;
 pub use jpeg_bits::scan::{Predictor, ScanInfo};
