@@ -30,7 +30,7 @@ struct Factors {
     quantization: usize,
 }
 
-/// A height of 0 would be told by a later DNL segment.
+/// The size in samples. A height of 0 would be told by a later DNL segment.
 #[tactic(auto, unfolding(crate::specs::Frame::size_at))]
 fn read_size<R: Read + Drop>(alloc: Global, source: &mut Source<R>) -> Result<Dimensions>
     ensures { Answers (λ d. (d.width, d.height)) size_at source.old result source.new }
@@ -46,6 +46,7 @@ fn read_size<R: Read + Drop>(alloc: Global, source: &mut Source<R>) -> Result<Di
     Ok(Dimensions { width, height })
 }
 
+/// What stands in front of the components, in a frame of the marker `SOF(number)`.
 #[tactic(auto, unfolding(crate::specs::Frame::head_at))]
 fn read_head<R: Read + Drop>(alloc: Global, source: &mut Source<R>, number: u8) -> Result<Head>
     ensures { Answers (λ h. record { length = 6 + 3 * h.count; precision = h.precision; width = h.size.width; height = h.size.height; count = h.count })
@@ -77,6 +78,7 @@ fn read_head<R: Read + Drop>(alloc: Global, source: &mut Source<R>, number: u8) 
     })
 }
 
+/// A component, whose factors are 1 to 4.
 #[tactic(auto, unfolding(crate::specs::Frame::factors_at))]
 fn read_factors<R: Read + Drop>(alloc: Global, source: &mut Source<R>) -> Result<Factors>
     ensures answers { Answers (λ c. record { identifier = c.identifier; horizontal = c.horizontal; vertical = c.vertical; quantization = c.quantization })

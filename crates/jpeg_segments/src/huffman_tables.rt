@@ -25,6 +25,7 @@ fn read_counts<R: Read + Drop>(alloc: Global, source: &mut Source<R>) -> Result<
     Ok(counts)
 }
 
+/// How many codes there are.
 fn total(counts: &[u8; 16]) -> u16
     ensures { result ≡ sum counts.now }
 {
@@ -35,6 +36,7 @@ fn total(counts: &[u8; 16]) -> u16
     total
 }
 
+/// The symbols, one for each code.
 fn read_symbols<R: Read + Drop>(
     alloc: Global,
     source: &mut Source<R>,

@@ -53,6 +53,7 @@ fn is_component(components: &[Component], identifier: u8) -> bool
     }
 }
 
+/// The scan's component, and the places of its tables.
 #[tactic(auto, unfolding(crate::specs::ScanHeader::selector_at))]
 fn read_selector<R: Read + Drop>(
     alloc: Global,
@@ -85,6 +86,7 @@ fn read_selector<R: Read + Drop>(
     })
 }
 
+/// The coefficients that the scan codes.
 #[tactic(auto, unfolding(crate::specs::ScanHeader::band_at))]
 fn read_band<R: Read + Drop>(
     alloc: Global,
