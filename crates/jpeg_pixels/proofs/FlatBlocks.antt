@@ -1,10 +1,10 @@
 -- Laws of the samples.
-use Rattle.std.proofs.Common.{◌≡◌, ℕ, zero, suc, ◌+◌, ◌*◌, ◌<◌, ◌≤◌, ◌^◌, ◌/◌, List, get_or, ℤ, pos, negsuc, ◌+ℤ◌, ◌*ℤ◌, refl, sym, ap, ◌∙◌, arith, Bool, true, ◌&&◌, ◌==◌, unsigned_abs, FitsSigned, lit<, min, ◌-◌}
+use Rattle.std.proofs.Common.{◌≡◌, ℕ, zero, suc, ◌+◌, ◌*◌, ◌<◌, ◌≤◌, ◌/◌, List, get_or, ℤ, pos, negsuc, ◌+ℤ◌, ◌*ℤ◌, refl, sym, ap, ◌∙◌, arith, Bool, true, ◌&&◌, ◌==◌, unsigned_abs, FitsSigned, lit<, ◌-◌}
 use Rattle.std.proofs.Math.Logic.{⊎_elim}
 use Rattle.std.proofs.lemmas.Bool.{cases_lt}
 use Rattle.std.proofs.lemmas.Int.{ints, int_wrap_fits}
 use Rattle.std.specs.Int.{w32, int_shr, int_wrap}
-use Rattle.jpeg_pixels.specs.Samples.{all_below, is_zero_at, is_flat_column, dequantized, column_value, transformed, sample, clamped, HasFirstOnly}
+use Rattle.jpeg_pixels.specs.Samples.{all_below, is_zero_at, is_flat_column, dequantized, column_value, sample, clamped, HasFirstOnly}
 use Rattle.jpeg_pixels.proofs.Columns.{flat_value}
 use Rattle.jpeg_pixels.proofs.Sums.{transformed_one}
 
@@ -53,17 +53,17 @@ scaled (pos n) = omega arith
 scaled (negsuc n) = ⊎_elim (above n) (λ s. ⊎_elim (middle n s) (below n) (cases_lt n 1028)) (cases_lt n 4)
 
 pub sample_first_only : (coefficients : List ℤ) (quantization : List ℕ) (x y : ℕ) → HasFirstOnly coefficients → x < 8 → y < 8 → unsigned_abs (dequantized coefficients quantization 0 0) ≤ 65536
-  → sample coefficients quantization x y ≡ clamped (int_shr (dequantized coefficients quantization 0 0 +ℤ pos 4) 3 +ℤ pos 128)
+    → sample coefficients quantization x y ≡ clamped (int_shr (dequantized coefficients quantization 0 0 +ℤ pos 4) 3 +ℤ pos 128)
 unfolding sample
 sample_first_only coefficients quantization x y first hx hy small =
     let p = dequantized coefficients quantization 0 0 in
     let flat : (column : ℕ) → column < 8 → column_value coefficients quantization y column ≡ int_wrap w32 (pos 4 *ℤ dequantized coefficients quantization 0 column) =
-        λ column h. flat_value coefficients quantization y column (is_flat coefficients column first h) in
+    λ column h. flat_value coefficients quantization y column (is_flat coefficients column first h) in
     let nothing : (k : ℕ) → 0 < k → k < 8 → column_value coefficients quantization y k ≡ pos 0 =
-        λ k some h. flat k h ∙ ap (λ z. int_wrap w32 (pos 4 *ℤ z)) (no_product coefficients quantization k first some h) ∙ int_wrap_fits w32 (pos 0) (record { sfits = lit< tt }) in
+    λ k some h. flat k h ∙ ap (λ z. int_wrap w32 (pos 4 *ℤ z)) (no_product coefficients quantization k first some h) ∙ int_wrap_fits w32 (pos 0) (record { sfits = lit< tt }) in
     let four_fits : FitsSigned w32 (pos 4 *ℤ p) = omega (arith, ints) in
     let value : column_value coefficients quantization y 0 ≡ pos 4 *ℤ p = flat 0 (lit< tt) ∙ int_wrap_fits w32 (pos 4 *ℤ p) four_fits in
     let sum_fits : FitsSigned w32 (pos 4096 *ℤ (pos 4 *ℤ p) +ℤ pos 16842752) = omega (arith, ints) in
     ap (λ z. clamped (int_shr (int_wrap w32 (z +ℤ pos 16842752)) 17)) (transformed_one (column_value coefficients quantization y) x hx nothing ∙ ap (λ z. pos 4096 *ℤ z) value)
-      ∙ ap (λ z. clamped (int_shr z 17)) (int_wrap_fits w32 (pos 4096 *ℤ (pos 4 *ℤ p) +ℤ pos 16842752) sum_fits)
-      ∙ scaled p
+    ∙ ap (λ z. clamped (int_shr z 17)) (int_wrap_fits w32 (pos 4096 *ℤ (pos 4 *ℤ p) +ℤ pos 16842752) sum_fits)
+    ∙ scaled p

@@ -3,3 +3,8 @@ pub mod Columns
 pub mod Residues
 pub mod Sums
 pub mod FlatBlocks
+pub mod CroppedLines
+pub mod PlaneRows
+pub mod Rows
+pub mod Strips
+pub mod ZigzagPlaces

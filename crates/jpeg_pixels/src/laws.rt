@@ -1,12 +1,52 @@
 //! What the definitions of samples mean in plain words, each a theorem on a function without a body.
-ghost use Rattle.std.specs.Prelude.{◌≡◌, ℕ, ◌<◌, ◌≤◌, List, ℤ, pos, ◌+ℤ◌, unsigned_abs};
+ghost use Rattle.std.specs.Prelude.{◌≡◌, ℕ, ◌+◌, ◌<◌, ◌≤◌, List, [], ◌∷◌, ◌++◌, map, replicate, slice_index, ℤ, pos, ◌+ℤ◌, unsigned_abs};
+ghost use Rattle.std.specs.List.{range_with_len};
 ghost use Rattle.std.specs.Int.{int_shr};
 ghost use Rattle.jpeg_pixels.specs.Samples.{HasFirstOnly, clamped, dequantized, sample};
+ghost use Rattle.jpeg_pixels.specs.Planes.{plane_of, strip_of};
+ghost use Rattle.jpeg_pixels.specs.Zigzag.{zigzag, zigzag_places};
 
 /// A block whose only coefficient is the first has 64 times the same sample.
 pub fn flat_blocks_are_flat()
     ensures { (coefficients : List ℤ) (quantization : List ℕ) (x y : ℕ) → HasFirstOnly coefficients → x < 8 → y < 8 →
         unsigned_abs (dequantized coefficients quantization 0 0) ≤ 65536 →
         sample coefficients quantization x y ≡ clamped (int_shr (dequantized coefficients quantization 0 0 +ℤ pos 4) 3 +ℤ pos 128) }
-{
-}
+{}
+
+/// The place in the block of the place in zigzag order of each place of a block is that place (T.81, A.3.6).
+pub fn zigzag_places_are_inverse()
+    ensures forth { map (λ place. slice_index zigzag place) zigzag_places ≡ range_with_len 0 64 }
+    ensures back { map (λ place. slice_index zigzag_places place) zigzag ≡ range_with_len 0 64 }
+{}
+
+/// A plane is its rows of blocks, one behind the other.
+pub fn planes_are_their_rows()
+    ensures none { (table : List ℕ) (wide : ℕ) (block_at : ℕ → ℕ → List ℤ) → plane_of table wide 0 block_at ≡ [] }
+    ensures more { (table : List ℕ) (wide high : ℕ) (block_at : ℕ → ℕ → List ℤ) →
+        plane_of table wide (high + 1) block_at ≡ plane_of table wide high block_at ++ strip_of table (map (block_at high) (range_with_len 0 wide)) }
+    ensures same { (table : List ℕ) (wide high : ℕ) (f g : ℕ → ℕ → List ℤ) → ((row column : ℕ) → row < high → column < wide → f row column ≡ g row column) →
+        plane_of table wide high f ≡ plane_of table wide high g }
+{}
+
+/// The samples of three blocks, computed: the first coefficient alone; the largest coefficients and quantization values; one large product.
+pub fn known_blocks()
+    ensures first_only { plane_of (replicate 64 1) 1 1 (λ row column. pos 8 ∷ replicate 63 (pos 0)) ≡ replicate 64 129 }
+    ensures largest { plane_of (replicate 64 65535) 1 1 (λ row column. replicate 64 (pos 32767)) ≡
+        0 ∷ 0 ∷ 0 ∷ 255 ∷ 255 ∷ 0 ∷ 0 ∷ 255
+        ∷ 0 ∷ 0 ∷ 215 ∷ 0 ∷ 0 ∷ 255 ∷ 255 ∷ 0
+        ∷ 255 ∷ 255 ∷ 255 ∷ 255 ∷ 255 ∷ 0 ∷ 0 ∷ 255
+        ∷ 0 ∷ 0 ∷ 255 ∷ 0 ∷ 255 ∷ 0 ∷ 255 ∷ 255
+        ∷ 0 ∷ 0 ∷ 255 ∷ 255 ∷ 0 ∷ 255 ∷ 0 ∷ 0
+        ∷ 255 ∷ 255 ∷ 0 ∷ 255 ∷ 255 ∷ 255 ∷ 170 ∷ 0
+        ∷ 0 ∷ 255 ∷ 0 ∷ 0 ∷ 0 ∷ 0 ∷ 0 ∷ 255
+        ∷ 255 ∷ 255 ∷ 0 ∷ 255 ∷ 0 ∷ 255 ∷ 0 ∷ 0 ∷ [] }
+    ensures second_only { plane_of (replicate 64 64) 1 1 (λ row column. pos 0 ∷ pos 8192 ∷ replicate 62 (pos 0)) ≡
+        0 ∷ 255 ∷ 0 ∷ 0 ∷ 255 ∷ 255 ∷ 0 ∷ 255
+        ∷ 0 ∷ 255 ∷ 0 ∷ 0 ∷ 255 ∷ 255 ∷ 0 ∷ 255
+        ∷ 0 ∷ 255 ∷ 0 ∷ 0 ∷ 255 ∷ 255 ∷ 0 ∷ 255
+        ∷ 0 ∷ 255 ∷ 0 ∷ 0 ∷ 255 ∷ 255 ∷ 0 ∷ 255
+        ∷ 0 ∷ 255 ∷ 0 ∷ 0 ∷ 255 ∷ 255 ∷ 0 ∷ 255
+        ∷ 0 ∷ 255 ∷ 0 ∷ 0 ∷ 255 ∷ 255 ∷ 0 ∷ 255
+        ∷ 0 ∷ 255 ∷ 0 ∷ 0 ∷ 255 ∷ 255 ∷ 0 ∷ 255
+        ∷ 0 ∷ 255 ∷ 0 ∷ 0 ∷ 255 ∷ 255 ∷ 0 ∷ 255 ∷ [] }
+{}

@@ -4,4 +4,6 @@
 pub mod idct;
 pub mod laws;
 pub mod plane;
+#[cfg(test)]
+mod tests;
 pub mod zigzag;

@@ -1,17 +1,48 @@
 //! The zigzag order of a block.
-ghost use Rattle.std.specs.Prelude.{◌≡◌};
-ghost use Rattle.jpeg_pixels.specs.Zigzag.{coefficients_in_block_order, values_in_block_order};
+ghost use Rattle.std.specs.Prelude.{◌≡◌, ◌<◌, slice_index};
+ghost use Rattle.jpeg_pixels.specs.Zigzag.{zigzag_places, coefficients_in_block_order, values_in_block_order};
 
-/// Coefficients that stand in zigzag order, in block order.
+// The place in zigzag order of each place in the block.
+const PLACES: [usize; 64] = [
+    0, 1, 5, 6, 14, 15, 27, 28, //
+    2, 4, 7, 13, 16, 26, 29, 42, //
+    3, 8, 12, 17, 25, 30, 41, 43, //
+    9, 11, 18, 24, 31, 40, 44, 53, //
+    10, 19, 23, 32, 39, 45, 52, 54, //
+    20, 22, 33, 38, 46, 51, 55, 60, //
+    21, 34, 37, 47, 50, 56, 59, 61, //
+    35, 36, 48, 49, 57, 58, 62, 63,
+];
+
+#[tactic(auto, unfolding(crate::specs::Zigzag::zigzag_places))]
+fn zigzag_place(place: usize) -> usize
+    requires { place < 64 }
+    ensures value { result ≡ slice_index zigzag_places place }
+    ensures within { result < 64 }
+{
+    PLACES[place]
+}
+
+/// The 64 coefficients of a block, given in zigzag order, in block order: that of row `v` and column `u` stands at `8 * v + u` (T.81, A.3.6).
+#[tactic(auto, using(crate::proofs::Sums::set_next))]
 pub fn coefficients_in_order(coefficients: &[i16; 64]) -> [i16; 64]
     ensures { result ≡ coefficients_in_block_order coefficients.now }
 {
-    *coefficients
+    let mut ordered = [0i16; 64];
+    for place in 0..64 {
+        ordered[place] = coefficients[zigzag_place(place)];
+    }
+    ordered
 }
 
-/// Quantization values that stand in zigzag order, in block order.
+/// The 64 values of a quantization table, given in zigzag order, in block order: that of row `v` and column `u` stands at `8 * v + u` (T.81, A.3.6).
+#[tactic(auto, using(crate::proofs::Sums::set_next))]
 pub fn values_in_order(values: &[u16; 64]) -> [u16; 64]
     ensures { result ≡ values_in_block_order values.now }
 {
-    *values
+    let mut ordered = [0u16; 64];
+    for place in 0..64 {
+        ordered[place] = values[zigzag_place(place)];
+    }
+    ordered
 }

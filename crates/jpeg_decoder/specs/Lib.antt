@@ -1,0 +1,9 @@
+pub mod Bands
+pub mod Lookups
+pub mod Passes
+pub mod Intervals
+pub mod Scans
+pub mod Stream
+pub mod States
+pub mod Seen
+pub mod Output

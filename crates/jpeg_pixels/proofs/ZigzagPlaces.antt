@@ -1,0 +1,30 @@
+-- The places of the zigzag order.
+use Rattle.std.proofs.Common.{◌≡◌, ℕ, ◌<◌, List, length, get_or, map, refl, sym, ◌∙◌, arith, true}
+use Rattle.std.proofs.lemmas.List.{ext_get_or, get_or-map, length-map}
+use Rattle.std.proofs.lemmas.List.Folds.{list_all_at}
+use Rattle.std.proofs.lemmas.Bool.{cases_lt, ltb-true, false_from_ne_true, false≢true}
+use Rattle.std.proofs.Math.Logic.{⊎_elim}
+use Rattle.std.proofs.Math.Dec.{ltb}
+use Rattle.std.specs.List.{list_all}
+use Rattle.jpeg_pixels.specs.Zigzag.{zigzag_places}
+
+length_places : length zigzag_places ≡ 64
+unfolding zigzag_places
+length_places = refl
+
+-- a list that holds, at each place of the block, what f says of its place in zigzag order
+pub filled_by_places : {A : Type 0} (f : ℕ → A) (xs : List A) (d : A) → length xs ≡ 64 → ((j : ℕ) → j < 64 → get_or xs j d ≡ f (get_or zigzag_places j 0)) → xs ≡ map f zigzag_places
+filled_by_places f xs d n each =
+    ext_get_or d xs (map f zigzag_places) (n ∙ sym (length-map zigzag_places f ∙ length_places))
+    (λ i h.
+    let lt : i < 64 = omega arith in
+    let within : i < length zigzag_places = omega (arith, length_places) in
+    each i lt ∙ sym (get_or-map f zigzag_places i 0 d within))
+
+each_below : (xs : List ℕ) (n : ℕ) → list_all (λ x. ltb x n) xs ≡ true → (i : ℕ) → i < length xs → get_or xs i 0 < n
+each_below xs n all i h = ⊎_elim (λ lt. lt) (λ le. absurd (false≢true (sym (list_all_at (λ x. ltb x n) xs i 0 h (false_from_ne_true (ltb (get_or xs i 0) n) (λ e. omega (arith, ltb-true (get_or xs i 0) n e)))) ∙ all))) (cases_lt (get_or xs i 0) n)
+
+-- each of them is a place
+pub place_lt : (place : ℕ) → place < 64 → get_or zigzag_places place 0 < 64
+unfolding zigzag_places
+place_lt place h = each_below zigzag_places 64 refl place h

@@ -1,0 +1,9 @@
+use Rattle.std.proofs.Common.{pos, slice_index_or, arith}
+use Rattle.jpeg_pixels.specs.Zigzag.{coefficients_in_block_order}
+use Rattle.jpeg_pixels.proofs.ZigzagPlaces.{filled_by_places}
+use Rattle.jpeg_pixels.proofs.zigzag.coefficients_in_order.Goals as goal
+
+pub returns : goal.returns
+unfolding coefficients_in_block_order
+returns c = filled_by_places (λ place. slice_index_or c.args.coefficients.now place (pos 0)) c.loop-place.ordered (pos 0) c.loop-place.invariant.0
+    (λ j h. c.loop-place.invariant.1 j (omega arith))

@@ -1,0 +1,134 @@
+ghost use Rattle.std.specs.Prelude.{◌<◌};
+
+use crate::idct::dequantize_and_idct_block_8x8;
+use crate::plane::{append_row, crop};
+use crate::zigzag::{coefficients_in_order, values_in_order};
+use std::test::Fail;
+
+// The samples of a block, its lines one behind the other.
+fn samples_of(coefficients: &[i16; 64], quantization_table: &[u16; 64]) -> [u8; 64] {
+    let mut samples = [7; 64];
+    dequantize_and_idct_block_8x8(coefficients, quantization_table, 8, &mut samples);
+    samples
+}
+
+// A block of zeros but for one coefficient.
+fn block_of_one(place: usize, coefficient: i16) -> [i16; 64]
+    requires { place < 64 }
+{
+    let mut coefficients = [0; 64];
+    coefficients[place] = coefficient;
+    coefficients
+}
+
+const LARGEST_SAMPLES: [u8; 64] = [
+    0, 0, 0, 255, 255, 0, 0, 255, //
+    0, 0, 215, 0, 0, 255, 255, 0, //
+    255, 255, 255, 255, 255, 0, 0, 255, //
+    0, 0, 255, 0, 255, 0, 255, 255, //
+    0, 0, 255, 255, 0, 255, 0, 0, //
+    255, 255, 0, 255, 255, 255, 170, 0, //
+    0, 255, 0, 0, 0, 0, 0, 255, //
+    255, 255, 0, 255, 0, 255, 0, 0,
+];
+
+const COEFFICIENTS: [i16; 64] = [
+    -14, -39, 58, -2, 3, 3, 0, 1, //
+    11, 27, 4, -3, 3, 0, 1, 0, //
+    -6, -13, -9, -1, -2, -1, 0, 0, //
+    -4, 0, -1, -2, 0, 0, 0, 0, //
+    3, 0, 0, 0, 0, 0, 0, 0, //
+    -3, -2, 0, 0, 0, 0, 0, 0, //
+    0, 0, 0, 0, 0, 0, 0, 0, //
+    0, 0, 0, 0, 0, 0, 0, 0,
+];
+
+const QUANTIZATION_TABLE: [u16; 64] = [
+    8, 6, 5, 8, 12, 20, 26, 31, //
+    6, 6, 7, 10, 13, 29, 30, 28, //
+    7, 7, 8, 12, 20, 29, 35, 28, //
+    7, 9, 11, 15, 26, 44, 40, 31, //
+    9, 11, 19, 28, 34, 55, 52, 39, //
+    12, 18, 28, 32, 41, 52, 57, 46, //
+    25, 32, 39, 44, 52, 61, 60, 51, //
+    36, 46, 48, 49, 56, 50, 52, 50,
+];
+
+const SAMPLES: [u8; 64] = [
+    118, 92, 110, 83, 77, 93, 144, 198, //
+    172, 116, 114, 87, 78, 93, 146, 191, //
+    194, 107, 91, 76, 71, 93, 160, 198, //
+    196, 100, 80, 74, 67, 92, 174, 209, //
+    182, 104, 88, 81, 68, 89, 178, 206, //
+    105, 64, 59, 59, 63, 94, 183, 201, //
+    35, 27, 28, 37, 72, 121, 203, 204, //
+    37, 45, 41, 47, 98, 154, 223, 208,
+];
+
+#[test]
+fn blocks_of_one_value(rt: HostRuntime) {
+    for (coefficient, value, sample) in [(0, 666, 128), (8, 1, 129), (4, 1, 129), (1, 4, 129)] {
+        let samples = samples_of(&block_of_one(0, coefficient), &[value; 64]);
+        assert_eq!(rt; samples, [sample; 64], "{coefficient} times {value}");
+    }
+}
+
+#[test]
+fn products_that_wrap(rt: HostRuntime) {
+    assert_eq!(rt; samples_of(&[32767; 64], &[65535; 64]), LARGEST_SAMPLES);
+    let samples = samples_of(&block_of_one(1, 8192), &[64; 64]);
+    for line in samples.chunks_exact(8) {
+        assert_eq!(rt; line, [0, 255, 0, 0, 255, 255, 0, 255].as_slice());
+    }
+}
+
+#[test]
+fn a_general_block_within_one(rt: HostRuntime) {
+    let samples = samples_of(&COEFFICIENTS, &QUANTIZATION_TABLE);
+    for (place, sample) in samples.iter().enumerate() {
+        assert!(rt; sample.abs_diff(SAMPLES[place]) <= 1, "{sample} at {place}");
+    }
+}
+
+#[test]
+fn bytes_between_lines_stay(rt: HostRuntime) {
+    let mut bytes = [7; 148];
+    dequantize_and_idct_block_8x8(&block_of_one(0, 8), &[1; 64], 20, &mut bytes);
+    for (place, byte) in bytes.iter().enumerate() {
+        let expected = if place % 20 < 8 { 129 } else { 7 };
+        assert_eq!(rt; *byte, expected, "at {place}");
+    }
+}
+
+#[test]
+fn zigzag_order(rt: HostRuntime) {
+    let mut coefficients = [0; 64];
+    let mut values = [0; 64];
+    for (place, number) in (0i16..64).enumerate() {
+        coefficients[place] = number;
+        values[place] = number.unsigned_abs();
+    }
+    let ordered = coefficients_in_order(&coefficients);
+    assert_eq!(rt; &ordered[..8], [0, 1, 5, 6, 14, 15, 27, 28].as_slice());
+    assert_eq!(rt; &ordered[56..], [35, 36, 48, 49, 57, 58, 62, 63].as_slice());
+    let ordered = values_in_order(&values);
+    assert_eq!(rt; &ordered[8..16], [2, 4, 7, 13, 16, 26, 29, 42].as_slice());
+}
+
+#[test]
+fn rows_of_blocks_cropped(rt: HostRuntime) -> Result<(), Fail> {
+    let mut plane = Vec::new(rt.alloc());
+    let row = [block_of_one(0, 8), block_of_one(0, 16)];
+    append_row(&mut plane, &row, &[1; 64])?;
+    let row = [block_of_one(0, 24), block_of_one(0, 32)];
+    append_row(&mut plane, &row, &[1; 64])?;
+    assert_eq!(rt; plane.len(), 256);
+    crop(&mut plane, 16, 9, 9);
+    assert_eq!(rt; plane.len(), 81);
+    for (y, line) in plane.chunks_exact(9).enumerate() {
+        let expected = if y < 8 { [129, 130] } else { [131, 132] };
+        assert_eq!(rt; &line[..8], [expected[0]; 8].as_slice(), "line {y}");
+        assert_eq!(rt; line[8], expected[1], "line {y}");
+    }
+    Ok(())
+}
