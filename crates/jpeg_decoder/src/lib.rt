@@ -5,6 +5,7 @@ mod blocks;
 pub mod decoder;
 pub mod run;
 mod state;
+pub mod worked;
 
 pub use decoder::{Decoder, ImageInfo, PixelFormat};
 pub use jpeg_bits::color_transform::ColorTransform;
