@@ -33,3 +33,13 @@ stream_with width data_bytes = start_and_table 1 ++ (frame_of_width width ++ (ta
 
 abbrev pub lines_of : List ℕ → List ℕ
 lines_of line = line ++ (line ++ (line ++ (line ++ (line ++ (line ++ (line ++ line))))))
+
+abbrev pub stream_without_height : ℕ → List ℕ
+stream_without_height byte =
+    start_and_table 1 ++ ((255 ∷ 192 ∷ 0 ∷ 11 ∷ 8 ∷ 0 ∷ 0 ∷ 0 ∷ 8 ∷ 1 ∷ 1 ∷ 17 ∷ 0 ∷ []) ++ (tables_of 4 ++ scan_and (byte ∷ 255 ∷ 217 ∷ [])))
+
+-- quantization values of 64, DC of category 0, and AC of two codes: 0 for the value of one bit, 10 for the end of the band
+abbrev pub stream_of_one_coefficient : List ℕ
+stream_of_one_coefficient =
+    start_and_table 64 ++ (frame_of_width 8 ++ ((255 ∷ 196 ∷ 0 ∷ 20 ∷ 0 ∷ 1 ∷ replicate 15 0)
+      ++ ((0 ∷ 255 ∷ 196 ∷ 0 ∷ 21 ∷ 16 ∷ 1 ∷ 1 ∷ replicate 14 0) ++ ((1 ∷ 0 ∷ []) ++ scan_and (55 ∷ 255 ∷ 217 ∷ [])))))
