@@ -1,12 +1,11 @@
 -- What is written for a stream, by its meaning.
-use Rattle.std.proofs.Common.{◌≡◌, ◌<◌, ◌^◌, ℕ, List, [], ◌∷◌, ◌++◌, Bool, true, false, length, option_map, Option, None, Some, Result, Ok, Err, refl, sym, ap, ◌∙◌, IsSome, rules, nat_lt}
+use Rattle.std.proofs.Common.{◌≡◌, ◌^◌, ℕ, List, ◌++◌, Bool, true, false, length, option_map, Option, None, Some, Ok, Err, refl, IsSome, rules}
 use Rattle.std.proofs.lemmas.Bool.{lt-ltb}
 use Rattle.jpeg_bits.specs.declared.error.Error.{Error}
 use Rattle.jpeg_bits.specs.declared.error.Error.TheVariants.{Format, Unsupported, Io, Internal, OutOfMemory}
-use Rattle.jpeg_bits.specs.Reading.{Fault, Malformed, Lacks, End, Names, IsGivenUp}
-use Rattle.jpeg_bits.specs.Stream.{Stream, stream_of, known_bytes}
+use Rattle.jpeg_bits.specs.Reading.{Fault, Malformed, Lacks, Names, IsGivenUp}
+use Rattle.jpeg_bits.specs.Stream.{stream_of}
 use Rattle.jpeg_decoder.specs.Seen.{info_of}
-use Rattle.jpeg_decoder.specs.States.{IsOfBytes}
 use Rattle.jpeg_decoder.specs.Stream.{Found, meaning}
 use Rattle.jpeg_decoder.specs.Output.{output_of, line_of, default_settings, IsOutsideOrMemory, Tells}
 

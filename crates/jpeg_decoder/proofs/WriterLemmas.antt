@@ -1,5 +1,5 @@
 -- What a writer took of a text in several writes.
-use Rattle.std.proofs.Common.{◌≡◌, ℕ, List, [], ◌∷◌, ◌++◌, Option, Result, Ok, Err, refl, sym, ap, ◌∙◌, take, drop, append_assoc, take-append-drop}
+use Rattle.std.proofs.Common.{◌≡◌, ℕ, List, ◌++◌, Option, sym, ap, ◌∙◌, take, drop, append_assoc, take-append-drop}
 use Rattle.std.specs.Io.KnownBytes.{Appends, Keeps}
 use Rattle.jpeg_decoder.specs.Output.{TakesBeginning}
 use Rattle.std.proofs.KnownBytes.{Appends-trans, Appends-kept}

@@ -1,4 +1,4 @@
-use Rattle.std.proofs.Common.{rules, append_assoc, ℕ}
+use Rattle.std.proofs.Common.{rules, append_assoc}
 use Rattle.jpeg_decoder.proofs.run.info_line.Goals as goal
 
 pub returns : goal.returns
