@@ -1,0 +1,2 @@
+pub mod WriterLemmas
+pub mod OutputLemmas
