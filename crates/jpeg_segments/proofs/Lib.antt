@@ -1,1 +1,3 @@
 pub mod QuantizationLemmas
+pub mod HuffmanLemmas
+pub mod Rows

@@ -1,5 +1,5 @@
 -- What a caller sees of the results of the parsers.
-use Rattle.std.specs.Prelude.{ℕ, ◌-◌, map}
+use Rattle.std.specs.Prelude.{map}
 use Rattle.jpeg_segments.specs.declared.parser.FrameInfo.{FrameInfo}
 use Rattle.jpeg_segments.specs.declared.parser.Component.{Component}
 use Rattle.jpeg_segments.specs.Frame as frames

@@ -1,9 +1,9 @@
 -- Scan headers (T.81, B.2.3).
-use Rattle.std.specs.Prelude.{◌≡◌, ℕ, ◌+◌, ◌-◌, ◌*◌, ◌/◌, ◌%◌, List, [], ◌∷◌, Bool, true, false, not, ◌&&◌, ◌||◌, Option, Some, None, Result, Ok, Err, nat_lt, nat_le, ◌==◌, if◌then◌else◌}
+use Rattle.std.specs.Prelude.{ℕ, ◌+◌, ◌*◌, ◌/◌, ◌%◌, List, [], ◌∷◌, Bool, false, ◌&&◌, ◌||◌, Some, Ok, Err, nat_lt, ◌==◌, if◌then◌else◌}
 use Rattle.jpeg_bits.specs.Reading.{Outcome, Malformed, ◌>>=◌, next_byte, length_at}
 use Rattle.jpeg_bits.specs.declared.scan.Predictor.{Predictor}
 use Rattle.jpeg_bits.specs.declared.scan.Predictor.TheVariants.{NoPrediction}
-use Rattle.jpeg_segments.specs.Frame.{Frame, Component, Factors}
+use Rattle.jpeg_segments.specs.Frame.{Frame, Component}
 use Rattle.jpeg_segments.specs.HuffmanTables.{greatest_place}
 
 -- A scan: its components' places in the frame and the places of their tables, in the order of the scan; the coefficients that it codes, by

@@ -1,19 +1,196 @@
 //! Huffman tables.
-ghost use Rattle.std.specs.Prelude.{◌≡◌, true, length, IfOk};
-ghost use Rattle.jpeg_bits.specs.Reading.{Answers};
-ghost use Rattle.jpeg_segments.specs.HuffmanTables.{dht_at, all_ac};
+ghost use Rattle.std.specs.Prelude.{◌≡◌, ◌≤◌, ◌<◌, ◌+◌, true, None, replicate, length, sum, IfOk};
+ghost use Rattle.jpeg_bits.specs.Codes.{is_ac};
+ghost use Rattle.jpeg_bits.specs.Reading.{Answers, times, next_byte};
+ghost use Rattle.jpeg_segments.specs.HuffmanTables.{symbols_at, codes_at, placed_codes_at, greatest_place, with_table, dht_at, all_ac};
 
-use jpeg_bits::error::{Error, Result};
-use jpeg_bits::huffman::HuffmanTable;
+use jpeg_bits::error::Result;
+use jpeg_bits::huffman::{HuffmanTable, HuffmanTableClass};
+use jpeg_bits::reads::{format_error, read_length, read_u8};
 use jpeg_bits::source::Source;
-use std::alloc::Global;
+use std::alloc::{AllocError, Global};
 use std::io::Read;
 
 /// The tables of each class, DC and AC, by their places 0 to 3.
 pub type PlacedTables = (Vec<Option<HuffmanTable>>, Vec<Option<HuffmanTable>>);
 
+/// How many codes each length has, from 1 to 16 bits.
+fn read_counts<R: Read + Drop>(alloc: Global, source: &mut Source<R>) -> Result<[u8; 16]>
+    ensures { Answers (λ v. v) (times 16 next_byte) source.old result source.new }
+{
+    let mut counts = [0u8; 16];
+    for i in 0..16 {
+        counts[i] = read_u8(alloc, source)?;
+    }
+    Ok(counts)
+}
+
+/// How many codes there are.
+fn total(counts: &[u8; 16]) -> u16
+    ensures { result ≡ sum counts.now }
+{
+    let mut total = 0u16;
+    for i in 0..16 {
+        total += u16::from(counts[i]);
+    }
+    total
+}
+
+/// The symbols, one for each code.
+fn read_symbols<R: Read + Drop>(
+    alloc: Global,
+    source: &mut Source<R>,
+    count: u16,
+) -> Result<Vec<u8>>
+    ensures answers { Answers (λ v. v.items) (times count next_byte) source.old result source.new }
+    ensures length { IfOk result (λ v. length v.items ≡ count) }
+{
+    let mut symbols = Vec::with_capacity(alloc, usize::from(count))?;
+    for i in 0..count {
+        let symbol = read_u8(alloc, source)?;
+        symbols.push(symbol)?;
+    }
+    Ok(symbols)
+}
+
+/// The symbols of a table of these counts, and the table.
+#[tactic(auto, unfolding(crate::specs::HuffmanTables::symbols_at))]
+fn read_table<R: Read + Drop>(
+    alloc: Global,
+    source: &mut Source<R>,
+    class: HuffmanTableClass,
+    counts: &[u8; 16],
+    count: u16,
+) -> Result<HuffmanTable>
+    requires count { sum counts.now ≡ count }
+    requires some { 1 ≤ count }
+    requires most { count ≤ 256 }
+    ensures answers { Answers (λ t. t) (symbols_at class counts.now) source.old result source.new }
+    ensures class { IfOk result (λ t. t.class ≡ class) }
+    ensures counts { IfOk result (λ t. t.counts ≡ counts.now) }
+{
+    let symbols = read_symbols(alloc, source, count)?;
+    HuffmanTable::new(alloc, counts, &symbols, class)
+}
+
+/// The next table of this class, where `left` bytes are left of the segment: how many bytes it takes with the byte of its class, and the
+/// table.
+#[tactic(auto, unfolding(crate::specs::HuffmanTables::codes_at))]
+fn read_codes<R: Read + Drop>(
+    alloc: Global,
+    source: &mut Source<R>,
+    left: u16,
+    class: HuffmanTableClass,
+) -> Result<(u16, HuffmanTable)>
+    ensures answers { Answers (λ t. t.1) (codes_at left class) source.old result source.new }
+    ensures class { IfOk result (λ t. t.1.class ≡ class) }
+    ensures size { IfOk result (λ t. (t.0 ≡ 17 + sum t.1.counts) × (t.0 ≤ left)) }
+{
+    let counts = read_counts(alloc, source)?;
+    let count = total(&counts);
+    if count == 0 {
+        return Err(format_error(alloc, "a Huffman table has no codes"));
+    }
+    if count > 256 {
+        return Err(format_error(alloc, "a Huffman table has more than 256 codes"));
+    }
+    let size = 17 + count;
+    if left < size {
+        return Err(format_error(alloc, "a Huffman table is longer than its segment"));
+    }
+    let table = read_table(alloc, source, class, &counts, count)?;
+    Ok((size, table))
+}
+
+/// A table that is read: its class, its place, and how many bytes of the segment it takes.
+#[derive(Drop)]
+struct PlacedTable {
+    class: HuffmanTableClass,
+    place: usize,
+    size: u16,
+    table: HuffmanTable,
+}
+
+/// The next table, where `left` bytes are left of the segment.
+#[tactic(auto, unfolding(crate::specs::HuffmanTables::placed_codes_at))]
+fn read_placed_table<R: Read + Drop>(
+    alloc: Global,
+    source: &mut Source<R>,
+    greatest: u8,
+    left: u16,
+) -> Result<PlacedTable>
+    requires { greatest ≤ 3 }
+    ensures answers { Answers (λ t. record { place = t.place; table = t.table }) (placed_codes_at greatest left) source.old result source.new }
+    ensures place { IfOk result (λ t. t.place ≤ 3) }
+    ensures class { IfOk result (λ t. t.table.class ≡ t.class) }
+    ensures size { IfOk result (λ t. (t.size ≡ 17 + sum t.table.counts) × (t.size ≤ left)) }
+{
+    let byte = read_u8(alloc, source)?;
+    let class = match byte / 16 {
+        0 => HuffmanTableClass::DC,
+        1 => HuffmanTableClass::AC,
+        _ => return Err(format_error(alloc, "the class of a Huffman table is above 1")),
+    };
+    let place = byte % 16;
+    if place > greatest {
+        return Err(format_error(alloc, "the place of a Huffman table is too great"));
+    }
+    let (size, table) = read_codes(alloc, source, left, class)?;
+    Ok(PlacedTable {
+        class,
+        place: usize::from(place),
+        size,
+        table,
+    })
+}
+
+/// Four places with no table.
+fn no_tables(alloc: Global) -> std::result::Result<Vec<Option<HuffmanTable>>, AllocError>
+    ensures { IfOk result (λ v. v.items ≡ replicate 4 None) }
+{
+    Ok(vec![in alloc; None, None, None, None]?)
+}
+
+/// The tables with one more.
+fn place_table(tables: &mut PlacedTables, placed: PlacedTable)
+    requires dc { length tables.old.0.items ≡ 4 }
+    requires ac { length tables.old.1.items ≡ 4 }
+    requires place { placed.place ≤ 3 }
+    requires class { placed.table.class ≡ placed.class }
+    ensures tables { record { dc = tables.new.0.items; ac = tables.new.1.items } ≡ with_table (record { dc = tables.old.0.items; ac = tables.old.1.items }) (record { place = placed.place; table = placed.table }) }
+    ensures dc { length tables.new.0.items ≡ 4 }
+    ensures ac { length tables.new.1.items ≡ 4 }
+    ensures classes { all_ac tables.old.1.items ≡ true → all_ac tables.new.1.items ≡ true }
+{
+    let PlacedTable {
+        class,
+        place,
+        table,
+        ..
+    } = placed;
+    match class {
+        HuffmanTableClass::DC => tables.0[place] = Some(table),
+        HuffmanTableClass::AC => tables.1[place] = Some(table),
+    }
+}
+
+/// The greatest place that a table may have.
+pub(crate) fn greatest_place(is_baseline: Option<bool>) -> u8
+    ensures place { result ≡ greatest_place is_baseline }
+    ensures most { result ≤ 3 }
+{
+    match is_baseline {
+        Some(true) => 1,
+        _ => 3,
+    }
+}
+
 /// Reads the tables of a segment (T.81, B.2.4.2): two lists of four places, for DC and for AC. `is_baseline` tells what the frame is, where
-/// one was read.
+/// one was read: in a baseline frame a place is 0 or 1, else 0 to 3.
+///
+/// Errors: `Format` where the length, a class, a place, the number of codes or their lengths break a rule, or where 1 to 17 bytes are left
+/// behind the last table; `Io` where the bytes end or a read fails; `OutOfMemory`.
+#[tactic(auto, unfolding(crate::specs::HuffmanTables::dht_at))]
 pub fn parse_dht<R: Read + Drop>(
     alloc: Global,
     reader: &mut Source<R>,
@@ -23,5 +200,16 @@ pub fn parse_dht<R: Read + Drop>(
     ensures places { IfOk result (λ t. (length t.0.items ≡ 4) × (length t.1.items ≡ 4)) }
     ensures classes { IfOk result (λ t. all_ac t.1.items ≡ true) }
 {
-    Err(Error::OutOfMemory)
+    let mut left = read_length(alloc, reader)?;
+    let greatest = greatest_place(is_baseline);
+    let mut tables = (no_tables(alloc)?, no_tables(alloc)?);
+    while left > 17 {
+        let placed = read_placed_table(alloc, reader, greatest, left)?;
+        left -= placed.size;
+        place_table(&mut tables, placed);
+    }
+    if left > 0 {
+        return Err(format_error(alloc, "bytes are left behind the last Huffman table"));
+    }
+    Ok(tables)
 }

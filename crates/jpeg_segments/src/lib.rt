@@ -6,3 +6,5 @@ mod huffman_tables;
 pub mod parser;
 mod quantization;
 mod scan_header;
+#[cfg(test)]
+mod tests;
