@@ -1,9 +1,12 @@
 -- What a caller sees of the results of the parsers.
-use Rattle.std.specs.Prelude.{map}
+use Rattle.std.specs.Prelude.{◌+◌, ◌*◌, map}
 use Rattle.jpeg_segments.specs.declared.parser.FrameInfo.{FrameInfo}
 use Rattle.jpeg_segments.specs.declared.parser.Component.{Component}
+use Rattle.jpeg_segments.specs.declared.frame_header.Head.{Head}
+use Rattle.jpeg_segments.specs.declared.frame_header.Factors.{Factors}
+use Rattle.jpeg_segments.specs.declared.scan_header.Selector.{Selector}
 use Rattle.jpeg_segments.specs.Frame as frames
-use Rattle.jpeg_segments.specs.ScanHeader.{Scan}
+use Rattle.jpeg_segments.specs.ScanHeader as scans
 use Rattle.jpeg_bits.specs.declared.scan.ScanInfo.{ScanInfo}
 
 abbrev pub factors_in : Component → frames.Factors
@@ -40,7 +43,7 @@ frame_in f = record {
   components = map component_in f.components.items;
 }
 
-abbrev pub scan_in : ScanInfo → Scan
+abbrev pub scan_in : ScanInfo → scans.Scan
 scan_in s = record {
   components = s.component_indices.items;
   dc_places = s.dc_table_indices.items;
@@ -52,3 +55,20 @@ scan_in s = record {
   low = s.successive_approximation_low;
   point_transform = s.point_transform;
 }
+
+-- ---- parts of the headers
+
+abbrev pub head_in : Head → frames.Head
+head_in h = record {
+  length = 6 + 3 * h.count;
+  precision = h.precision;
+  width = h.size.width;
+  height = h.size.height;
+  count = h.count;
+}
+
+abbrev pub read_factors : Factors → frames.Factors
+read_factors f = record { identifier = f.identifier; horizontal = f.horizontal; vertical = f.vertical; quantization = f.quantization }
+
+abbrev pub selector_in : Selector → scans.Selector
+selector_in s = record { component = s.component; dc = s.dc; ac = s.ac }

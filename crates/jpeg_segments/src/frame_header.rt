@@ -3,7 +3,7 @@ ghost use Rattle.std.specs.Prelude.{◌≡◌, ◌≤◌, ◌<◌, ◌+◌, ◌*
 ghost use Rattle.jpeg_bits.specs.Reading.{Answers};
 ghost use Rattle.jpeg_bits.specs.declared.marker.Marker.TheVariants.{SOF};
 ghost use Rattle.jpeg_segments.specs.Frame.{ceiling, component_of, frame_of, factors_at, size_at, head_at, sof_at};
-ghost use Rattle.jpeg_segments.specs.FrameView.{component_in, frame_in};
+ghost use Rattle.jpeg_segments.specs.FrameView.{component_in, frame_in, head_in, read_factors};
 
 use crate::parser::{CodingProcess, Component, Dimensions, EntropyCoding, FrameInfo};
 use jpeg_bits::error::{Error, Result, UnsupportedFeature};
@@ -49,8 +49,7 @@ fn read_size<R: Read + Drop>(alloc: Global, source: &mut Source<R>) -> Result<Di
 /// What stands in front of the components, in a frame of the marker `SOF(number)`.
 #[tactic(auto, unfolding(crate::specs::Frame::head_at))]
 fn read_head<R: Read + Drop>(alloc: Global, source: &mut Source<R>, number: u8) -> Result<Head>
-    ensures { Answers (λ h. record { length = 6 + 3 * h.count; precision = h.precision; width = h.size.width; height = h.size.height; count = h.count })
-        (head_at number) source.old result source.new }
+    ensures { Answers head_in (head_at number) source.old result source.new }
 {
     let left = read_length(alloc, source)?;
     if left < 7 {
@@ -81,8 +80,7 @@ fn read_head<R: Read + Drop>(alloc: Global, source: &mut Source<R>, number: u8) 
 /// A component, whose factors are 1 to 4.
 #[tactic(auto, unfolding(crate::specs::Frame::factors_at))]
 fn read_factors<R: Read + Drop>(alloc: Global, source: &mut Source<R>) -> Result<Factors>
-    ensures answers { Answers (λ c. record { identifier = c.identifier; horizontal = c.horizontal; vertical = c.vertical; quantization = c.quantization })
-        factors_at source.old result source.new }
+    ensures answers { Answers read_factors factors_at source.old result source.new }
     ensures horizontal { IfOk result (λ c. (1 ≤ c.horizontal) × (c.horizontal ≤ 4)) }
     ensures vertical { IfOk result (λ c. (1 ≤ c.vertical) × (c.vertical ≤ 4)) }
 {
@@ -151,8 +149,8 @@ fn component_of(
     requires most_vertical { most_vertical ≤ 4 }
     requires horizontal { factors.horizontal ≤ most_horizontal }
     requires vertical { factors.vertical ≤ most_vertical }
-    ensures { component_in result ≡ component_of size.width size.height most_horizontal most_vertical
-        (record { identifier = factors.identifier; horizontal = factors.horizontal; vertical = factors.vertical; quantization = factors.quantization }) }
+    ensures { component_in result
+        ≡ component_of size.width size.height most_horizontal most_vertical (read_factors factors) }
 {
     Component {
         identifier: factors.identifier,
@@ -183,8 +181,8 @@ fn frame_of(
     requires some_vertical { 1 ≤ factors.vertical }
     requires most_horizontal { factors.horizontal ≤ 4 }
     requires most_vertical { factors.vertical ≤ 4 }
-    ensures { IfOk result (λ f. frame_in f ≡ frame_of number head.precision head.size.width head.size.height
-        (record { identifier = factors.identifier; horizontal = factors.horizontal; vertical = factors.vertical; quantization = factors.quantization } ∷ [])) }
+    ensures { IfOk result (λ f. frame_in f
+        ≡ frame_of number head.precision head.size.width head.size.height (read_factors factors ∷ [])) }
 {
     let component = component_of(head.size, factors.horizontal, factors.vertical, factors);
     Ok(FrameInfo {

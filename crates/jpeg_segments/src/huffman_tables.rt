@@ -120,7 +120,8 @@ fn read_placed_table<R: Read + Drop>(
     left: u16,
 ) -> Result<PlacedTable>
     requires { greatest ≤ 3 }
-    ensures answers { Answers (λ t. record { place = t.place; table = t.table }) (placed_codes_at greatest left) source.old result source.new }
+    ensures answers { Answers (λ t. record { place = t.place; table = t.table })
+        (placed_codes_at greatest left) source.old result source.new }
     ensures place { IfOk result (λ t. t.place ≤ 3) }
     ensures class { IfOk result (λ t. t.table.class ≡ t.class) }
     ensures size { IfOk result (λ t. (t.size ≡ 17 + sum t.table.counts) × (t.size ≤ left)) }
@@ -157,7 +158,9 @@ fn place_table(tables: &mut PlacedTables, placed: PlacedTable)
     requires ac { length tables.old.1.items ≡ 4 }
     requires place { placed.place ≤ 3 }
     requires class { placed.table.class ≡ placed.class }
-    ensures tables { record { dc = tables.new.0.items; ac = tables.new.1.items } ≡ with_table (record { dc = tables.old.0.items; ac = tables.old.1.items }) (record { place = placed.place; table = placed.table }) }
+    ensures tables { record { dc = tables.new.0.items; ac = tables.new.1.items }
+        ≡ with_table (record { dc = tables.old.0.items; ac = tables.old.1.items })
+        (record { place = placed.place; table = placed.table }) }
     ensures dc { length tables.new.0.items ≡ 4 }
     ensures ac { length tables.new.1.items ≡ 4 }
     ensures classes { all_ac tables.old.1.items ≡ true → all_ac tables.new.1.items ≡ true }

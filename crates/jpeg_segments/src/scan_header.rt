@@ -3,7 +3,7 @@ ghost use Rattle.std.specs.Prelude.{◌≡◌, map};
 ghost use Rattle.jpeg_bits.specs.Reading.{Answers};
 ghost use Rattle.jpeg_segments.specs.HuffmanTables.{greatest_place};
 ghost use Rattle.jpeg_segments.specs.ScanHeader.{is_component, count_at, selector_at, band_at, sos_at};
-ghost use Rattle.jpeg_segments.specs.FrameView.{component_in, frame_in, scan_in};
+ghost use Rattle.jpeg_segments.specs.FrameView.{component_in, frame_in, scan_in, selector_in};
 
 use crate::huffman_tables::greatest_place;
 use crate::parser::{Component, FrameInfo, Predictor, ScanInfo};
@@ -60,7 +60,7 @@ fn read_selector<R: Read + Drop>(
     source: &mut Source<R>,
     frame: &FrameInfo,
 ) -> Result<Selector>
-    ensures { Answers (λ s. record { component = s.component; dc = s.dc; ac = s.ac }) (selector_at (frame_in frame.now)) source.old result source.new }
+    ensures { Answers selector_in (selector_at (frame_in frame.now)) source.old result source.new }
 {
     let identifier = read_u8(alloc, source)?;
     if !is_component(&frame.components, identifier) {
@@ -93,7 +93,7 @@ fn read_band<R: Read + Drop>(
     source: &mut Source<R>,
     selector: Selector,
 ) -> Result<ScanInfo>
-    ensures { Answers scan_in (band_at (record { component = selector.component; dc = selector.dc; ac = selector.ac })) source.old result source.new }
+    ensures { Answers scan_in (band_at (selector_in selector)) source.old result source.new }
 {
     let first = read_u8(alloc, source)?;
     let last = read_u8(alloc, source)?;
