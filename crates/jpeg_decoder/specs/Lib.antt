@@ -3,6 +3,7 @@ pub mod Lookups
 pub mod Passes
 pub mod Intervals
 pub mod Scans
+pub mod Rows
 pub mod Stream
 pub mod States
 pub mod Seen

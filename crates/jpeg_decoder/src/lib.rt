@@ -5,6 +5,7 @@ mod blocks;
 pub mod decoder;
 pub mod run;
 mod state;
+mod tokens;
 
 pub use decoder::{Decoder, ImageInfo, PixelFormat};
 pub use jpeg_bits::color_transform::ColorTransform;
