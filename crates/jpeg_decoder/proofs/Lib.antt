@@ -1,2 +1,3 @@
 pub mod Fast
 pub mod BandLoop
+pub mod WholeBlocks

@@ -41,6 +41,7 @@ pub struct Grid {
 }
 
 /// A band in zigzag order. In a run of blocks without tokens it stays as it is.
+#[tactic(auto, using(crate::proofs::WholeBlocks::band_none, crate::proofs::WholeBlocks::band_run, crate::proofs::WholeBlocks::band_first))]
 fn read_band<R: Read + Drop>(
     decoder: &mut HuffmanDecoder,
     source: &mut Source<R>,
@@ -64,6 +65,7 @@ fn read_band<R: Read + Drop>(
 }
 
 /// The next predictor, which is the DC coefficient.
+#[tactic(auto, using(crate::proofs::WholeBlocks::dc_whole))]
 fn read_dc<R: Read + Drop>(
     alloc: Global,
     decoder: &mut HuffmanDecoder,
