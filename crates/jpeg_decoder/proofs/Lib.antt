@@ -1,3 +1,4 @@
 pub mod Fast
 pub mod BandLoop
 pub mod WholeBlocks
+pub mod RowSteps

@@ -102,6 +102,7 @@ fn read_block<R: Read + Drop>(
 }
 
 /// Reads a row of so many blocks, and puts each into block order.
+#[tactic(auto, using(crate::proofs::RowSteps::row_step, crate::proofs::RowSteps::row_refused, crate::proofs::RowSteps::row_none))]
 fn read_row<R: Read + Drop>(
     alloc: Global,
     decoder: &mut HuffmanDecoder,
@@ -130,6 +131,7 @@ fn read_row<R: Read + Drop>(
 }
 
 /// Reads the rows of a component's own blocks, each filled up with blocks of zeros.
+#[tactic(auto, using(crate::proofs::RowSteps::rows_step, crate::proofs::RowSteps::rows_refused, crate::proofs::RowSteps::rows_none))]
 fn read_rows<R: Read + Drop>(
     alloc: Global,
     decoder: &mut HuffmanDecoder,
