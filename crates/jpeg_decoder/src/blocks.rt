@@ -140,20 +140,20 @@ fn read_rows<R: Read + Drop>(
     quantization_table: &[u16; 64],
     dc_table: &HuffmanTable,
     ac_table: &HuffmanTable,
+    predictor: &mut i16,
+    run: &mut u16,
 ) -> Result<Vec<u8>>
     requires { ac_table.now.class ≡ AC }
     ensures { Takes (λ v. v.items)
-        (rows_from grid quantization_table.now dc_table.now ac_table.now [] grid.own_high (pos 0) 0)
+        (rows_from grid quantization_table.now dc_table.now ac_table.now [] grid.own_high predictor.old run.old)
         decoder.old source.old result decoder.new source.new }
 {
     let wide = usize::from(grid.wide);
     let mut plane = Vec::with_capacity(alloc, 64 * wide * usize::from(grid.high))?;
     let mut row = Vec::new(alloc);
-    let mut predictor = 0;
-    let mut run = 0;
     let mut left = grid.own_high;
     while left > 0 {
-        read_row(alloc, decoder, source, dc_table, ac_table, grid.own_wide, &mut predictor, &mut run, &mut row)?;
+        read_row(alloc, decoder, source, dc_table, ac_table, grid.own_wide, predictor, run, &mut row)?;
         row.resize(wide, [0; 64])?;
         append_row(&mut plane, &row, quantization_table)?;
         left -= 1;
@@ -176,7 +176,9 @@ pub fn read_plane<R: Read + Drop>(
 {
     let table = values_in_order(quantization_table);
     let mut decoder = HuffmanDecoder::new(alloc);
-    let mut plane = read_rows(alloc, &mut decoder, source, grid, &table, dc_table, ac_table)?;
+    let mut predictor = 0;
+    let mut run = 0;
+    let mut plane = read_rows(alloc, &mut decoder, source, grid, &table, dc_table, ac_table, &mut predictor, &mut run)?;
     let marker = decoder.take_marker(source)?;
     plane.resize(64 * usize::from(grid.wide) * usize::from(grid.high), 128)?;
     Ok((plane, marker))
