@@ -6,6 +6,7 @@ ghost use Rattle.jpeg_bits.specs.declared.codes.HuffmanTableClass.TheVariants.{A
 ghost use Rattle.jpeg_decoder.specs.Bands.{first_dc};
 ghost use Rattle.jpeg_decoder.specs.Passes.{whole_pass, band_part, block_from};
 ghost use Rattle.jpeg_decoder.specs.Rows.{to_block, row_from, rows_from};
+ghost use Rattle.jpeg_decoder.specs.Raster.{plane_by_rows};
 ghost use Rattle.jpeg_decoder.specs.Scans.{plane_at};
 
 use crate::tokens::{read_difference, read_first_band, wrapped_sum};
@@ -39,6 +40,9 @@ pub struct Grid {
     pub wide: u16,
     pub high: u16,
 }
+
+/// A sample of a block of zeros.
+const GREY: u8 = 128;
 
 /// A band in zigzag order. In a run of blocks without tokens it stays as it is.
 #[tactic(auto, using(crate::proofs::WholeBlocks::band_none, crate::proofs::WholeBlocks::band_run, crate::proofs::WholeBlocks::band_first))]
@@ -161,6 +165,38 @@ fn read_rows<R: Read + Drop>(
     Ok(plane)
 }
 
+/// Reads a sequential scan of one component and gives its plane, as `read_plane` does. The quantization table stands in block order.
+#[tactic(auto, unfolding(crate::specs::Raster::plane_by_rows))]
+fn read_interval<R: Read + Drop>(
+    alloc: Global,
+    source: &mut Source<R>,
+    grid: Grid,
+    quantization_table: &[u16; 64],
+    dc_table: &HuffmanTable,
+    ac_table: &HuffmanTable,
+) -> Result<(Vec<u8>, Option<Marker>)>
+    requires { ac_table.now.class ≡ AC }
+    ensures { Answers (λ r. (r.0.items, r.1)) (plane_by_rows grid quantization_table.now dc_table.now ac_table.now) source.old result source.new }
+{
+    let mut decoder = HuffmanDecoder::new(alloc);
+    let mut predictor = 0;
+    let mut run = 0;
+    let mut plane = read_rows(
+        alloc,
+        &mut decoder,
+        source,
+        grid,
+        quantization_table,
+        dc_table,
+        ac_table,
+        &mut predictor,
+        &mut run,
+    )?;
+    let marker = decoder.take_marker(source)?;
+    plane.resize(64 * usize::from(grid.wide) * usize::from(grid.high), GREY)?;
+    Ok((plane, marker))
+}
+
 /// Reads a sequential scan of one component and gives its plane, of lines of `8 * grid.wide` samples, and the marker behind the scan, if it
 /// was met. The quantization table stands in zigzag order.
 pub fn read_plane<R: Read + Drop>(
@@ -175,11 +211,5 @@ pub fn read_plane<R: Read + Drop>(
     ensures { Answers (λ r. (r.0.items, r.1)) (plane_at grid quantization_table.now (record { component = 0; dc = dc_table.now; ac = ac_table.now })) source.old result source.new }
 {
     let table = values_in_order(quantization_table);
-    let mut decoder = HuffmanDecoder::new(alloc);
-    let mut predictor = 0;
-    let mut run = 0;
-    let mut plane = read_rows(alloc, &mut decoder, source, grid, &table, dc_table, ac_table, &mut predictor, &mut run)?;
-    let marker = decoder.take_marker(source)?;
-    plane.resize(64 * usize::from(grid.wide) * usize::from(grid.high), 128)?;
-    Ok((plane, marker))
+    read_interval(alloc, source, grid, &table, dc_table, ac_table)
 }
