@@ -3,6 +3,7 @@
 
 mod blocks;
 pub mod decoder;
+pub mod laws;
 pub mod run;
 mod state;
 mod tokens;
