@@ -1,2 +1,10 @@
 pub mod WriterLemmas
 pub mod OutputLemmas
+pub mod Fast
+pub mod BandLoop
+pub mod WholeBlocks
+pub mod RowSteps
+pub mod BlockRuns
+pub mod GridRows
+pub mod ZeroRows
+pub mod WholePlanes

@@ -3,9 +3,11 @@
 
 mod blocks;
 pub mod decoder;
+pub mod laws;
 pub mod run;
 mod state;
 pub mod worked;
+mod tokens;
 
 pub use decoder::{Decoder, ImageInfo, PixelFormat};
 pub use jpeg_bits::color_transform::ColorTransform;
