@@ -7,3 +7,4 @@ pub mod Stream
 pub mod States
 pub mod Seen
 pub mod Output
+pub mod Steps

@@ -4,6 +4,8 @@
 mod blocks;
 pub mod decoder;
 pub mod run;
+mod places;
+mod segments;
 mod state;
 
 pub use decoder::{Decoder, ImageInfo, PixelFormat};
