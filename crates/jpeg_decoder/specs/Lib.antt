@@ -8,3 +8,4 @@ pub mod States
 pub mod Seen
 pub mod Output
 pub mod Steps
+pub mod PlanesIn

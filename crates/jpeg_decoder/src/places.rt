@@ -1,7 +1,8 @@
 //! Tables and planes by their places.
-ghost use Rattle.std.specs.Prelude.{◌≡◌, ◌↔◌, None, length, slice_index_or, Some, MatchResult};
+ghost use Rattle.std.specs.Prelude.{◌≡◌, ◌<◌, None, length, slice_index_or, slice_set, Some, MatchResult};
 ghost use Rattle.std.specs.Option.{option_copied};
-ghost use Rattle.jpeg_decoder.specs.Stream.{updated, named};
+ghost use Rattle.jpeg_decoder.specs.Stream.{updated, named, decided};
+ghost use Rattle.jpeg_decoder.specs.PlanesIn.{planes_in};
 ghost use Rattle.jpeg_bits.specs.Reading.{NamesFormat};
 
 use jpeg_bits::error::Result;
@@ -14,9 +15,8 @@ pub fn update<T: Drop>(old: &mut [Option<T>], new: &mut [Option<T>])
     ensures { old.new ≡ updated old.old new.old }
 {
     for place in 0..old.len() {
-        let table = new[place].take();
-        if table.is_some() {
-            old[place] = table;
+        if let Some(table) = new[place].take() {
+            old[place] = Some(table);
         }
     }
 }
@@ -48,5 +48,15 @@ pub fn needed<T: Drop>(alloc: Global, option: Option<T>, text: &str) -> Result<T
     match option {
         Some(value) => Ok(value),
         None => Err(format_error(alloc, text)),
+    }
+}
+
+/// The first scan that finishes a component decides its plane.
+pub fn decide(planes: &mut [Option<Vec<u8>>], plane: Vec<u8>)
+    requires { 0 < length planes.old }
+    ensures { let seen = planes_in planes.old in planes_in planes.new ≡ slice_set seen 0 (decided (slice_index_or seen 0 None) plane.items) }
+{
+    if planes[0].is_none() {
+        planes[0] = Some(plane);
     }
 }

@@ -1,6 +1,6 @@
 //! The segments of a stream, read in turn (T.81, B.2).
 ghost use Rattle.std.specs.Prelude.{◌≡◌, ℕ, List, true, None, IfOk, OnErr, OnOk, is_some};
-ghost use Rattle.jpeg_bits.specs.Reading.{Answers};
+ghost use Rattle.jpeg_bits.specs.Reading.{Answers, IsShort};
 ghost use Rattle.jpeg_decoder.specs.Stream.{nothing_found, frame_segment, quantization_segment, huffman_segment, skipped_segment, scan_segment, end_segment, segment_at, marker_or, turn_at, segments_at, told_at};
 ghost use Rattle.jpeg_decoder.specs.Scans.{grid_of};
 ghost use Rattle.jpeg_segments.specs.Frame.{ceiling};
@@ -10,7 +10,7 @@ ghost use Rattle.jpeg_decoder.specs.Seen.{found_in};
 ghost use Rattle.jpeg_decoder.specs.Steps.{turn_of, coded_plane, scan_plane};
 
 use crate::blocks::{Grid, read_plane};
-use crate::places::{named_table, needed, table_at, update};
+use crate::places::{decide, named_table, needed, table_at, update};
 use crate::state::State;
 use jpeg_bits::error::{Error, Result, UnsupportedFeature};
 use jpeg_bits::marker::{Marker, read_marker};
@@ -175,14 +175,13 @@ impl State {
     }
 
     /// A scan. The first one of a component decides its plane.
+    
     fn read_scan<R: Read + Drop>(&mut self, alloc: Global, source: &mut Source<R>) -> Result<Step>
         ensures reads { Answers (turn_of self.new) (scan_segment (found_in self.old)) source.old result source.new }
         ensures kept { OnErr result (found_in self.new ≡ found_in self.old) }
     {
         let (plane, met) = self.read_scan_plane(alloc, source)?;
-        if self.planes[0].is_none() {
-            self.planes[0] = Some(plane);
-        }
+        decide(&mut self.planes, plane);
         Ok(Step { met, ended: false })
     }
 
@@ -218,6 +217,7 @@ impl State {
     ) -> Result<Step>
         ensures reads { Answers (turn_of self.new) (turn_at (found_in self.old) met) source.old result source.new }
         ensures kept { OnErr result (found_in self.new ≡ found_in self.old) }
+        ensures short { met ≡ None → IsShort source.old }
     {
         let marker = marker_or_next(alloc, source, met)?;
         self.read_segment(alloc, source, marker)
@@ -246,7 +246,8 @@ fn marker_or_next<R: Read + Drop>(
     source: &mut Source<R>,
     met: Option<Marker>,
 ) -> Result<Marker>
-    ensures { Answers (λ m. m) (marker_or met) source.old result source.new }
+    ensures answers { Answers (λ m. m) (marker_or met) source.old result source.new }
+    ensures short { met ≡ None → IsShort source.old }
 {
     match met {
         Some(marker) => Ok(marker),
