@@ -63,3 +63,6 @@ pub moved-none : {A : Type 0} (xs ys xs' ys' : List (Option A)) (i : ℕ) (found
     → xs' ≡ xs → ys' ≡ set ys i v → updated xs' ys' ≡ updated xs ys
 moved-none xs ys xs' ys' i found d v p l f n s a b =
     rw (a, b, n) (updated-keep xs ys i (get_or_default ys i None d (omega arith) ∙ sym f ∙ s))
+
+pub all_ac-moved : (old moved read new : List (Option Table)) → all_ac old ≡ true → all_ac read ≡ true → moved ≡ read → new ≡ updated old moved → all_ac new ≡ true
+all_ac-moved old moved read new p q m n = rw (n, m) (all_ac-updated old read p q)
