@@ -1,2 +1,5 @@
 pub mod Updates
 pub mod ScanParts
+pub mod Shorter
+pub mod ShorterSegments
+pub mod ShorterTexts
