@@ -3,3 +3,5 @@ pub mod ScanParts
 pub mod Shorter
 pub mod ShorterSegments
 pub mod ShorterTexts
+pub mod ShorterScans
+pub mod Turns

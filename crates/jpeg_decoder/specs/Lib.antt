@@ -9,3 +9,5 @@ pub mod Seen
 pub mod Output
 pub mod Steps
 pub mod PlanesIn
+pub mod Shapes
+pub mod Pixels

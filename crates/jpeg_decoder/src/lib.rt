@@ -4,6 +4,7 @@
 mod blocks;
 pub mod decoder;
 pub mod run;
+mod picture;
 mod places;
 mod segments;
 mod state;
