@@ -8,3 +8,10 @@ pub mod BlockRuns
 pub mod GridRows
 pub mod ZeroRows
 pub mod WholePlanes
+pub mod Updates
+pub mod ScanParts
+pub mod Shorter
+pub mod ShorterSegments
+pub mod ShorterTexts
+pub mod ShorterScans
+pub mod Turns

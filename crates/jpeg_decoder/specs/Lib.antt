@@ -10,3 +10,7 @@ pub mod States
 pub mod Seen
 pub mod Output
 pub mod Worked
+pub mod Steps
+pub mod PlanesIn
+pub mod Shapes
+pub mod Pixels

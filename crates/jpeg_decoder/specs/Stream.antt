@@ -192,14 +192,18 @@ picture_of settings found = do
     plane ← needed (slice_index_or found.planes 0 None)
     Ok (picture_in frame component plane))
 
+-- What is told behind the end of an image or a refusal: the planes are kept no more, since the picture is one of them.
+abbrev pub without_planes : Found → Found
+without_planes found = record found { planes = replicate 4 None }
+
 -- The meaning of a stream: what its segments have said, and its picture.
 unfoldable pub meaning : Settings → List ℕ → Outcome (Found × List ℕ)
 meaning settings bytes = do
   start ← start_at bytes
   all ← segments_at nothing_found None start.1
   picture ← picture_of settings all.0
-  Ok ((all.0, picture), all.1)
+  Ok ((without_planes all.0, picture), all.1)
 
 -- what a stream has said by its end or its refusal
 unfoldable pub told_by_stream : List ℕ → Found
-told_by_stream bytes = elim (start_at bytes) [ Err fault ↦ nothing_found | Ok start ↦ told_at nothing_found None start.1 ]
+told_by_stream bytes = elim (start_at bytes) [ Err fault ↦ nothing_found | Ok start ↦ without_planes (told_at nothing_found None start.1) ]
