@@ -3,9 +3,9 @@
 
 mod blocks;
 pub mod decoder;
-pub mod run;
 mod picture;
 mod places;
+pub mod run;
 mod segments;
 mod state;
 
