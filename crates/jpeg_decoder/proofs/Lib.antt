@@ -15,3 +15,5 @@ pub mod ShorterSegments
 pub mod ShorterTexts
 pub mod ShorterScans
 pub mod Turns
+pub mod Refusals
+pub mod Told

@@ -1,10 +1,8 @@
 -- A scan is its plane, and what is kept of it.
-use Rattle.std.proofs.Common.{◌≡◌, ℕ, List, Option, Some, None, Result, Ok, Err, Bool, true, false, refl, sym, ap, ◌∙◌}
-use Rattle.jpeg_bits.specs.Reading.{Outcome, Fault, ◌>>=◌}
-use Rattle.jpeg_bits.specs.declared.marker.Marker.{Marker}
-use Rattle.jpeg_segments.specs.Frame.{Frame, Component}
-use Rattle.jpeg_segments.specs.ScanHeader.{Scan, sos_at}
-use Rattle.jpeg_decoder.specs.Stream.{Found, Turn, Coding, needed, named, first_of, coding_of, with_plane, scan_samples, scan_segment}
+use Rattle.std.proofs.Common.{◌≡◌, ℕ, List, Result, Ok, Err, refl}
+use Rattle.jpeg_bits.specs.Reading.{Fault, ◌>>=◌}
+use Rattle.jpeg_segments.specs.ScanHeader.{sos_at}
+use Rattle.jpeg_decoder.specs.Stream.{Found, needed, named, first_of, coding_of, scan_samples, scan_segment}
 use Rattle.jpeg_decoder.specs.Steps.{coded_plane, scan_plane, decided_turn}
 
 nested : {C Q D A K P E : Type 0} (c : Result C Fault) (q : C → Result Q Fault) (d : Result D Fault) (a : Result A Fault) (mk : C → Q → D → A → K) (samples : K → Result P Fault) (end : P → Result E Fault)

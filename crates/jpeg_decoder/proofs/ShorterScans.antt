@@ -1,10 +1,9 @@
 -- What a scan leaves.
-use Rattle.std.proofs.Common.{◌≡◌, ◌+◌, ◌-◌, ◌*◌, ◌/◌, ◌%◌, ◌^◌, ◌≤◌, ◌<◌, ℕ, zero, suc, List, [], ◌∷◌, ◌++◌, take, drop, replicate, set, get_or, Bool, true, false, Option, Some, None, Ok, Err, ℤ, pos, length, arith}
+use Rattle.std.proofs.Common.{◌+◌, ◌-◌, ◌*◌, ◌/◌, ◌%◌, ◌^◌, ◌<◌, ℕ, zero, suc, List, [], ◌∷◌, drop, replicate, set, get_or, Bool, true, false, Option, Err, ℤ, pos, length}
 use Rattle.std.specs.Prelude.{◌==◌, nat_le, nat_lt}
-use Rattle.jpeg_bits.specs.Reading as reading
 use Rattle.jpeg_bits.specs.Reading.{Outcome, Malformed}
-use Rattle.jpeg_bits.specs.Entropy.{Text, upcoming, fresh, marker_from, bits_from}
-use Rattle.jpeg_bits.specs.Readers.{Reads, ◌>>=◌, gives, refused, signed_from}
+use Rattle.jpeg_bits.specs.Entropy.{upcoming, fresh, marker_from, bits_from}
+use Rattle.jpeg_bits.specs.Readers.{Reads, gives, refused, signed_from}
 use Rattle.jpeg_bits.specs.Codes.{Table, symbol_from, code_from}
 use Rattle.jpeg_bits.specs.declared.marker.Marker.{Marker}
 use Rattle.jpeg_decoder.specs.declared.blocks.Token.{Token}
@@ -12,10 +11,10 @@ use Rattle.jpeg_decoder.specs.declared.blocks.Token.TheVariants.{Value, Sixteen,
 use Rattle.jpeg_decoder.specs.declared.blocks.Grid.{Grid}
 use Rattle.jpeg_decoder.specs.Bands.{Band, category_number, difference, first_dc, token_at, token_from, behind_token, first_ac}
 use Rattle.jpeg_decoder.specs.Passes.{Pass, Via, Block, dc_part, band_part, band_of, block_from, blocks_of, whole_pass, zero_block}
-use Rattle.jpeg_decoder.specs.Intervals.{interval, intervals, is_restart, blocks_before, behind_restart, predictors_at_start, first_group, other_groups}
+use Rattle.jpeg_decoder.specs.Intervals.{interval, intervals, is_restart, blocks_before, predictors_at_start, first_group, other_groups}
 use Rattle.jpeg_decoder.specs.Scans.{plane_at}
 use Rattle.jpeg_decoder.proofs.Shorter.{LeavesBelow, below-ok, below-err, below-bind}
-use Rattle.jpeg_decoder.proofs.ShorterTexts.{IsBelow, BehindIsBelow, StaysBelow, bind-stays, gives-stays, refused-stays, elim-stays, bits-stays, signed-stays, code-stays, symbol-stays, texts-below, upcoming-below, marker_from-below}
+use Rattle.jpeg_decoder.proofs.ShorterTexts.{StaysBelow, bind-stays, gives-stays, refused-stays, elim-stays, bits-stays, signed-stays, code-stays, symbol-stays, texts-below, upcoming-below, marker_from-below}
 
 -- ---- blocks
 

@@ -1,7 +1,7 @@
 -- What the segments leave.
-use Rattle.std.proofs.Common.{◌≡◌, ◌+◌, ◌-◌, ◌*◌, ◌/◌, ◌%◌, ◌≤◌, ◌<◌, ℕ, zero, suc, List, [], ◌∷◌, Bool, true, false, Option, Some, length, nat_lt, sum, arith}
+use Rattle.std.proofs.Common.{◌+◌, ◌*◌, ◌/◌, ◌%◌, ◌≤◌, ◌<◌, ℕ, zero, suc, List, Bool, Option, Some, length, nat_lt, sum, arith}
 use Rattle.std.specs.Prelude.{◌==◌}
-use Rattle.jpeg_bits.specs.Reading.{Outcome, ◌>>=◌, next_byte, next_u16, length_at, times}
+use Rattle.jpeg_bits.specs.Reading.{next_byte, next_u16, length_at, times}
 use Rattle.jpeg_bits.specs.declared.codes.HuffmanTableClass.{HuffmanTableClass}
 use Rattle.jpeg_segments.specs.Frame.{Frame, is_precision, is_factor, size_at, head_at, factors_at, sof_at}
 use Rattle.jpeg_segments.specs.ScanHeader.{Selector, is_component, count_at, selector_at, band_at, sos_at}
@@ -9,7 +9,7 @@ use Rattle.jpeg_segments.specs.Quantization as quantization
 use Rattle.jpeg_segments.specs.Quantization.{table_size, value_at, table_at, placed_table_at, dqt_at}
 use Rattle.jpeg_segments.specs.HuffmanTables as huffman
 use Rattle.jpeg_segments.specs.HuffmanTables.{symbols_at, codes_at, placed_codes_at, dht_at, greatest_place, class_of}
-use Rattle.jpeg_decoder.proofs.Shorter.{LeavesBelow, below-ok, below-err, below-cond, below-else, below-then, below-bind, byte-below, u16-below, length-below, times-below}
+use Rattle.jpeg_decoder.proofs.Shorter.{LeavesBelow, below-ok, below-cond, below-else, below-then, below-bind, byte-below, u16-below, length-below, times-below}
 
 -- ---- frames
 

@@ -1,9 +1,9 @@
 -- What entropy-coded bits leave.
-use Rattle.std.proofs.Common.{◌≡◌, ◌+◌, ◌-◌, ◌*◌, ◌/◌, ◌%◌, ◌^◌, ◌≤◌, ◌<◌, ℕ, zero, suc, List, [], ◌∷◌, ◌++◌, drop, replicate, Result, Ok, Err, Bool, true, false, Option, Some, None, ℤ, pos, refl, length, arith}
-use Rattle.std.specs.Prelude.{◌==◌, nat_le, nat_lt, get_or, set, if◌then◌else◌}
+use Rattle.std.proofs.Common.{◌≤◌, ◌<◌, ℕ, zero, suc, List, [], ◌∷◌, ◌++◌, drop, replicate, Result, Ok, Err, Bool, true, false, Option, Some, None, length, arith}
+use Rattle.std.specs.Prelude.{◌==◌, if◌then◌else◌}
 use Rattle.jpeg_bits.specs.Reading as reading
 use Rattle.jpeg_bits.specs.Reading.{Outcome, Fault}
-use Rattle.jpeg_bits.specs.Entropy.{Text, Ending, Found, Broken, bits_of, no_bits, add_byte, ending_by, ending_of, filled_end, end_by, text_at, upcoming, fresh, advance, has_bits, bits_from, marker_from, marker_by, number_of, extended}
+use Rattle.jpeg_bits.specs.Entropy.{Text, Ending, Found, Broken, no_bits, add_byte, ending_by, ending_of, filled_end, end_by, text_at, upcoming, fresh, advance, has_bits, bits_from, marker_from, marker_by}
 use Rattle.jpeg_bits.specs.Marker.{marker_of}
 use Rattle.jpeg_bits.specs.Readers.{Reads, read_on, ◌>>=◌, gives, refused, signed_from}
 use Rattle.jpeg_bits.specs.Codes.{Table, symbol_by, symbol_from, if_held, code_by, code_from, code_in, code_lengths, next_16}

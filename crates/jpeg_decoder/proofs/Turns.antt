@@ -1,5 +1,5 @@
 -- The segments of a stream, a turn at a time.
-use Rattle.std.proofs.Common.{◌≡◌, ◌+◌, ◌≤◌, ◌<◌, ℕ, zero, suc, List, [], ◌∷◌, Result, Ok, Err, Bool, true, false, Option, Some, None, refl, sym, ap, ◌∙◌, length, arith, nat_le}
+use Rattle.std.proofs.Common.{◌≡◌, ◌≤◌, ◌<◌, ℕ, zero, suc, List, Result, Ok, Err, Bool, true, false, Option, Some, None, refl, ◌∙◌, length, arith, nat_le}
 use Rattle.std.specs.Prelude.{if◌then◌else◌, ◌==◌, is_some}
 use Rattle.std.proofs.Math.Bool.{cond}
 use Rattle.jpeg_bits.specs.Reading.{Outcome, Fault, Malformed, ◌>>=◌, length_at, skip_at}
@@ -10,8 +10,8 @@ use Rattle.jpeg_segments.specs.Frame.{sof_at}
 use Rattle.jpeg_segments.specs.ScanHeader.{sos_at}
 use Rattle.jpeg_segments.specs.Quantization.{dqt_at}
 use Rattle.jpeg_segments.specs.HuffmanTables.{dht_at}
-use Rattle.jpeg_decoder.specs.Stream.{Found, Turn, needed, coding_of, scan_samples, frame_segment, quantization_segment, huffman_segment, skipped_segment, scan_segment, end_segment, segment_at, marker_or, turn_at, segments_within, segments_at, told_within, told_at}
-use Rattle.jpeg_decoder.proofs.Shorter.{LeavesBelow, below-at, below-ok, below-err, below-cond, below-else, below-then, below-bind, below-needs, length-below, skip-below, marker-below}
+use Rattle.jpeg_decoder.specs.Stream.{Found, Turn, needed, coding_of, scan_samples, frame_segment, quantization_segment, huffman_segment, skipped_segment, scan_segment, end_segment, segment_at, turn_at, segments_within, segments_at, told_within, told_at}
+use Rattle.jpeg_decoder.proofs.Shorter.{LeavesBelow, below-ok, below-else, below-then, below-bind, below-needs, length-below, skip-below, marker-below}
 use Rattle.jpeg_decoder.proofs.ShorterSegments.{sof-below, dqt-below, dht-below, sos-below}
 use Rattle.jpeg_decoder.proofs.ShorterScans.{plane-below}
 

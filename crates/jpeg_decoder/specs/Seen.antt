@@ -1,6 +1,5 @@
 -- What a caller sees of the parts of a decoder.
-use Rattle.std.specs.Prelude.{◌≡◌, ℕ, nat_le, List, map, Option, Some, None, option_map, if◌then◌else◌}
-use Rattle.jpeg_segments.specs.declared.parser.CodingProcess.{CodingProcess}
+use Rattle.std.specs.Prelude.{nat_le, map, option_map, if◌then◌else◌}
 use Rattle.jpeg_segments.specs.Frame.{Frame}
 use Rattle.jpeg_segments.specs.FrameView.{frame_in}
 use Rattle.jpeg_decoder.specs.declared.state.State.{State}

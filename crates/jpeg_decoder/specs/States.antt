@@ -1,5 +1,5 @@
 -- The states of a decoder, and what each call does in each.
-use Rattle.std.specs.Prelude.{◌≡◌, ℕ, List, Result, Ok, Err, Bool, true, IsErrAnd}
+use Rattle.std.specs.Prelude.{◌≡◌, Result, Ok, Err, true, IsErrAnd}
 use Rattle.jpeg_bits.specs.Stream.{Stream}
 use Rattle.jpeg_bits.specs.declared.error.Error.{Error}
 use Rattle.jpeg_bits.specs.declared.error.Error.TheVariants as errors

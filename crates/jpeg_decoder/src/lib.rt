@@ -4,13 +4,13 @@
 mod blocks;
 pub mod decoder;
 pub mod laws;
-pub mod run;
 mod picture;
 mod places;
+pub mod run;
 mod segments;
 mod state;
-pub mod worked;
 mod tokens;
+pub mod worked;
 
 pub use decoder::{Decoder, ImageInfo, PixelFormat};
 pub use jpeg_bits::color_transform::ColorTransform;

@@ -1,5 +1,5 @@
 //! A stream from its start to its picture (T.81, B.2).
-ghost use Rattle.std.specs.Prelude.{◌≡◌, ℕ, List, true, Ok, Some, None, MatchResult, length, min, IfOk};
+ghost use Rattle.std.specs.Prelude.{◌≡◌, ◌*◌, ℕ, List, true, Ok, Some, None, MatchResult, length, min, IfOk};
 ghost use Rattle.jpeg_bits.specs.Reading.{Answers, Names, NamesFormat};
 ghost use Rattle.jpeg_decoder.specs.Stream.{nothing_found, start_at, without_planes, picture_in, picture_of, meaning, told_by_stream};
 ghost use Rattle.jpeg_decoder.specs.States.{OnTold};
@@ -17,12 +17,12 @@ use jpeg_segments::parser::FrameInfo;
 use std::alloc::Global;
 use std::io::Read;
 
-/// The size of a picture, and the samples of a line of its plane.
+/// The size of a picture, and the blocks of a line of its plane.
 #[derive(Clone, Copy, Debug, PartialEq)]
 pub struct Shape {
-    pub stride: usize,
-    pub width: usize,
-    pub height: usize,
+    pub blocks: u16,
+    pub width: u16,
+    pub height: u16,
 }
 
 /// Reads the start of a stream, FF D8.
@@ -47,23 +47,35 @@ fn shape_of(frame: &FrameInfo) -> Option<Shape>
 {
     let component = frame.components.first()?;
     Some(Shape {
-        stride: 8 * usize::from(component.block_size.width),
-        width: usize::from(frame.output_size.width),
-        height: usize::from(frame.output_size.height),
+        blocks: component.block_size.width,
+        width: frame.output_size.width,
+        height: frame.output_size.height,
     })
+}
+
+/// The samples of a picture.
+fn area_of(shape: Shape) -> usize
+    ensures { result ≡ shape.width * shape.height }
+{
+    usize::from(shape.width) * usize::from(shape.height)
+}
+
+/// The samples of a line of the plane.
+fn stride_of(shape: Shape) -> usize
+    ensures { result ≡ 8 * shape.blocks }
+{
+    8 * usize::from(shape.blocks)
 }
 
 /// A plane cropped to a picture in place, as far as the plane goes.
 fn crop_to(plane: &mut Vec<u8>, shape: Shape)
     ensures { plane.new.items ≡ cropped_to shape plane.old.items }
 {
-    let lines = plane.len().checked_div(shape.stride).unwrap_or(0);
-    crop(
-        plane,
-        shape.stride,
-        shape.width.min(shape.stride),
-        shape.height.min(lines),
-    );
+    let stride = stride_of(shape);
+    let lines = plane.len().checked_div(stride).unwrap_or(0);
+    let width = usize::from(shape.width).min(stride);
+    let height = usize::from(shape.height).min(lines);
+    crop(plane, stride, width, height);
 }
 
 /// The picture of what was found: its plane, which is taken, cropped in place.
@@ -74,7 +86,7 @@ fn picture(alloc: Global, state: &mut State, settings: Settings) -> Result<Vec<u
 {
     let frame = needed(alloc, state.frame.as_ref(), "an image without a frame")?;
     let shape = needed(alloc, shape_of(frame), "a frame without a component")?;
-    if settings.limit < shape.width * shape.height {
+    if settings.limit < area_of(shape) {
         return Err(format_error(alloc, "the picture is larger than the limit"));
     }
     let mut plane = needed(alloc, state.planes[0].take(), "an image without samples")?;

@@ -14,8 +14,8 @@ use crate::places::{decide, named_table, needed, table_at, update};
 use crate::state::State;
 use jpeg_bits::error::{Error, Result, UnsupportedFeature};
 use jpeg_bits::marker::{Marker, read_marker};
-use jpeg_bits::scan::ScanInfo;
 use jpeg_bits::reads::{format_error, read_length, skip};
+use jpeg_bits::scan::ScanInfo;
 use jpeg_bits::source::Source;
 use jpeg_segments::parser::{Component, parse_dht, parse_dqt, parse_sof, parse_sos};
 use std::alloc::Global;
@@ -68,9 +68,7 @@ impl State {
         }
         let frame = parse_sof(alloc, source, Marker::SOF(number))?;
         if frame.precision != 8 {
-            return Err(Error::Unsupported(UnsupportedFeature::SamplePrecision(
-                frame.precision,
-            )));
+            return Err(Error::Unsupported(UnsupportedFeature::SamplePrecision(frame.precision)));
         }
         self.frame = Some(frame);
         Ok(ONWARD)
@@ -170,12 +168,16 @@ impl State {
     {
         let frame = needed(alloc, self.frame.as_ref(), "a scan without a frame")?;
         let scan = parse_sos(alloc, source, frame)?;
-        let component = needed(alloc, frame.components.first(), "a frame without a component")?;
+        let component = needed(
+            alloc,
+            frame.components.first(),
+            "a frame without a component",
+        )?;
         self.read_coded(alloc, source, component, &scan)
     }
 
     /// A scan. The first one of a component decides its plane.
-    
+
     fn read_scan<R: Read + Drop>(&mut self, alloc: Global, source: &mut Source<R>) -> Result<Step>
         ensures reads { Answers (turn_of self.new) (scan_segment (found_in self.old)) source.old result source.new }
         ensures kept { OnErr result (found_in self.new ≡ found_in self.old) }

@@ -1,4 +1,4 @@
-use Rattle.std.proofs.Common.{◌≡◌, ◌∙◌, ap, refl, sym, ℕ, List, Option, Ok, false, Vec}
+use Rattle.std.proofs.Common.{◌∙◌, ap, refl, sym, ℕ, List, Option, Ok, false, Vec}
 use Rattle.std.specs.declared.alloc.Global.{Global}
 use Rattle.jpeg_bits.specs.declared.marker.Marker.{Marker}
 use Rattle.jpeg_decoder.specs.declared.segments.Step.{Step}
@@ -19,7 +19,10 @@ returns-in_err-plane-clause-reads g c =
     (λ f h. scan-parts found c.args.source.now.bytes ∙ bind_err (decided_turn found) _ f h) (refl, λ k. (k, refl)) c.in_err-plane.ensures)
 
 pub returns-clause-reads : goal.returns-clause-reads
-returns-clause-reads g c = (c.in_ok-plane.ensures.0, λ k.
-    let a = c.in_ok-plane.ensures.1 k in
-    let found = found_in c.args.self.now in
-    (a.0, scan-parts found c.args.source.now.bytes ∙ ap (λ r. r >>= decided_turn found) a.1 ∙ ap (λ (ps : List (Option (List ℕ))). Ok (record { found = record found { planes = ps }; met = c.in_ok-plane.met; ended = false }, c.read_scan_plane.new.source.bytes)) (sym c.decide.ensures)))
+returns-clause-reads g c = (
+  c.in_ok-plane.ensures.0,
+  λ k.
+      let a = c.in_ok-plane.ensures.1 k in
+      let found = found_in c.args.self.now in
+      (a.0, scan-parts found c.args.source.now.bytes ∙ ap (λ r. r >>= decided_turn found) a.1 ∙ ap (λ (ps : List (Option (List ℕ))). Ok (record { found = record found { planes = ps }; met = c.in_ok-plane.met; ended = false }, c.read_scan_plane.new.source.bytes)) (sym c.decide.ensures)),
+)
