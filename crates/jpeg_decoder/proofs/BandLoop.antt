@@ -50,8 +50,13 @@ module _ (table : Table) (al : ℕ) (whole : Reads Band) (a b d : Ahead) (old cu
   -- what a token leaves to read
   step : (k : Token) → Leaves whole a old (behind_front front (first_ac table al (suc n) places)) b cur → Takes (λ (t : Token). t) reader b cur (Ok k) d new
       → Leaves whole a old (behind_front front (behind_token al (first_ac table al n) places k)) d new
-  step k p q = (q.0 ∙ p.0, λ known. let at = p.1 known in let by = q.1 at.0 in (by.0,
-      at.1 ∙ ap (read_on (λ more. gives (before_more front more))) (first_ac-token table al n x rest (upcoming b cur.bytes) ∙ ap (read_on (behind_token al (first_ac table al n) places)) by.1)))
+  step k p q = (
+    q.0 ∙ p.0,
+    λ known. let at = p.1 known in let by = q.1 at.0 in (
+      by.0,
+      at.1 ∙ ap (read_on (λ more. gives (before_more front more))) (first_ac-token table al n x rest (upcoming b cur.bytes) ∙ ap (read_on (behind_token al (first_ac table al n) places)) by.1),
+    ),
+  )
 
   pub Leaves-value : (r : ℕ) (v : ℤ) → Leaves whole a old (behind_front front (first_ac table al (suc n) places)) b cur → Takes (λ (t : Token). t) reader b cur (Ok (Value r v)) d new
       → Leaves whole a old (behind_front (front ++ (take r places ++ wrapped (v *ℤ pos (2 ^ al)) ∷ [])) (first_ac table al n (drop (r + 1) places))) d new
@@ -79,10 +84,11 @@ module _ (table : Table) (al : ℕ) (whole : Reads Band) (a b d : Ahead) (old cu
 
   pub Leaves-refused : {X : Type 0} (view : X → Band) (e : Error) → Leaves whole a old (behind_front front (first_ac table al (suc n) places)) b cur → Takes (λ (t : Token). t) reader b cur (Err e) d new
       → Takes view whole a old (Err e) d new
-  Leaves-refused view e p q =
-      (MayFail-from e _ _ _ p.0 q.0,
-       (λ known still. let at = p.1 known in Names-through e _ _ (λ f h. at.1 ∙ ap (read_on (λ more. gives (before_more front more))) (first_ac-token table al n x rest (upcoming b cur.bytes) ∙ ap (read_on (behind_token al (first_ac table al n) places)) h)) (q.1 at.0 still)),
-       λ known. q.2 (p.1 known).0)
+  Leaves-refused view e p q = (
+    MayFail-from e _ _ _ p.0 q.0,
+    (λ known still. let at = p.1 known in Names-through e _ _ (λ f h. at.1 ∙ ap (read_on (λ more. gives (before_more front more))) (first_ac-token table al n x rest (upcoming b cur.bytes) ∙ ap (read_on (behind_token al (first_ac table al n) places)) h)) (q.1 at.0 still)),
+    λ known. q.2 (p.1 known).0,
+  )
 
 pub Leaves-none : {X : Type 0} (view : X → Band) (table : Table) (al n : ℕ) (whole : Reads Band) (a b : Ahead) (old new : Stream) (front : List ℤ) (y : X) → view y ≡ (front, 0)
     → Leaves whole a old (behind_front front (first_ac table al n [])) b new → Takes view whole a old (Ok y) b new
@@ -117,8 +123,14 @@ module _ (table : Table) (al : ℕ) (whole : Reads Band) (a b d : Ahead) (old cu
       go turns [] e h t = absurd (omega (arith, ap length e, length-drop at band))
       go zero (x ∷ rest) e h t = absurd (omega arith)
       go (suc n) (x ∷ rest) e h t = record {
-          n = n; x = x; rest = rest; is = e; room = h; long = sym (length-drop at band) ∙ ap length e;
-          text = subst (λ (l : List ℤ). Leaves whole a old (behind_front (take at band) (first_ac table al (suc n) l)) b cur) e t }
+        n = n;
+        x = x;
+        rest = rest;
+        is = e;
+        room = h;
+        long = sym (length-drop at band) ∙ ap length e;
+        text = subst (λ (l : List ℤ). Leaves whole a old (behind_front (take at band) (first_ac table al (suc n) l)) b cur) e t;
+      }
 
   token-of : {X : Type 0} (view : X → Token) (r : Result X Error) (w : Parts table al whole a old band at b cur) → Takes view (token_from table (length band - at)) b cur r d new → Takes view (token_from table (length (w.x ∷ w.rest))) b cur r d new
   token-of view r w q = subst (λ (k : ℕ). Takes view (token_from table k) b cur r d new) w.long q
@@ -130,28 +142,32 @@ module _ (table : Table) (al : ℕ) (whole : Reads Band) (a b d : Ahead) (old cu
       let s = Leaves-value table al whole a b d old cur new (take at band) m.n m.x m.rest r v m.text (token-of (λ (t : Token). t) (Ok (Value r v)) m q) in
       let value = wrapped (v *ℤ pos (2 ^ al)) in
       let front : take at band ++ (take r (m.x ∷ m.rest) ++ value ∷ []) ≡ take (at + r + 1) (set band (at + r) w)
-            = ap (λ (l : List ℤ). take at band ++ (take r l ++ value ∷ [])) (sym m.is)
-              ∙ sym (append_assoc (take at band) (take r (drop at band)) (value ∷ []))
-              ∙ ap (λ (l : List ℤ). l ++ value ∷ []) (sym (take-add at r band))
-              ∙ ap (λ (z : ℤ). take (at + r) band ++ z ∷ []) (sym is)
-              ∙ sym (take_more_set band (at + r) w (omega arith)) in
+      = ap (λ (l : List ℤ). take at band ++ (take r l ++ value ∷ [])) (sym m.is)
+      ∙ sym (append_assoc (take at band) (take r (drop at band)) (value ∷ []))
+      ∙ ap (λ (l : List ℤ). l ++ value ∷ []) (sym (take-add at r band))
+      ∙ ap (λ (z : ℤ). take (at + r) band ++ z ∷ []) (sym is)
+      ∙ sym (take_more_set band (at + r) w (omega arith)) in
       let place : at + (r + 1) ≡ at + r + 1 = omega arith in
       let back : drop (r + 1) (m.x ∷ m.rest) ≡ drop (at + r + 1) (set band (at + r) w)
-            = ap (drop (r + 1)) (sym m.is) ∙ drop-drop (r + 1) at band ∙ ap (λ (k : ℕ). drop k band) place ∙ sym (drop-set-lt (at + r + 1) band (at + r) w (omega arith)) in
-      let room = m.room in
-      (m.n, omega (arith, length-set band (at + r) w),
-       subst (λ (f : List ℤ). Leaves whole a old (behind_front f (first_ac table al m.n (drop (at + r + 1) (set band (at + r) w)))) d new) front
-         (subst (λ (l : List ℤ). Leaves whole a old (behind_front (take at band ++ (take r (m.x ∷ m.rest) ++ value ∷ [])) (first_ac table al m.n l)) d new) back s))
+      = ap (drop (r + 1)) (sym m.is) ∙ drop-drop (r + 1) at band ∙ ap (λ (k : ℕ). drop k band) place ∙ sym (drop-set-lt (at + r + 1) band (at + r) w (omega arith)) in
+      let room = m.room in (
+        m.n,
+        omega (arith, length-set band (at + r) w),
+        subst (λ (f : List ℤ). Leaves whole a old (behind_front f (first_ac table al m.n (drop (at + r + 1) (set band (at + r) w)))) d new) front
+            (subst (λ (l : List ℤ). Leaves whole a old (behind_front (take at band ++ (take r (m.x ∷ m.rest) ++ value ∷ [])) (first_ac table al m.n l)) d new) back s),
+      )
 
   IsAt-behind : (to : ℕ) → at < to → take at band ++ take 16 (drop at band) ≡ take to band → drop 16 (drop at band) ≡ drop to band → IsAt table al whole a old band at b cur
       → Takes (λ (t : Token). t) (token_from table (length band - at)) b cur (Ok Sixteen) d new → IsAt table al whole a old band to d new
   IsAt-behind to more front back p q =
       let m = parts p in
       let s = Leaves-sixteen table al whole a b d old cur new (take at band) m.n m.x m.rest m.text (token-of (λ (t : Token). t) (Ok Sixteen) m q) in
-      let room = m.room in
-      (m.n, omega arith,
-       subst (λ (f : List ℤ). Leaves whole a old (behind_front f (first_ac table al m.n (drop to band))) d new) (ap (λ (l : List ℤ). take at band ++ take 16 l) (sym m.is) ∙ front)
-         (subst (λ (l : List ℤ). Leaves whole a old (behind_front (take at band ++ take 16 (m.x ∷ m.rest)) (first_ac table al m.n l)) d new) (ap (drop 16) (sym m.is) ∙ back) s))
+      let room = m.room in (
+        m.n,
+        omega arith,
+        subst (λ (f : List ℤ). Leaves whole a old (behind_front f (first_ac table al m.n (drop to band))) d new) (ap (λ (l : List ℤ). take at band ++ take 16 l) (sym m.is) ∙ front)
+            (subst (λ (l : List ℤ). Leaves whole a old (behind_front (take at band ++ take 16 (m.x ∷ m.rest)) (first_ac table al m.n l)) d new) (ap (drop 16) (sym m.is) ∙ back) s),
+      )
 
   pub IsAt-sixteen : IsAt table al whole a old band at b cur → Takes (λ (t : Token). t) (token_from table (length band - at)) b cur (Ok Sixteen) d new → IsAt table al whole a old band (at + 16) d new
   IsAt-sixteen = IsAt-behind (at + 16) (omega arith) (sym (take-add at 16 band)) (drop-drop 16 at band)
@@ -160,8 +176,8 @@ module _ (table : Table) (al : ℕ) (whole : Reads Band) (a b d : Ahead) (old cu
   IsAt-all few =
       let l : length (drop at band) ≤ 16 = omega (arith, length-drop at band) in
       IsAt-behind (length band) lt
-        (ap (λ (l : List ℤ). take at band ++ l) (take_all 16 (drop at band) l) ∙ take-append-drop at band ∙ sym (take_all (length band) band (omega arith)))
-        (drop_all 16 (drop at band) l ∙ sym (drop_all (length band) band (omega arith)))
+      (ap (λ (l : List ℤ). take at band ++ l) (take_all 16 (drop at band) l) ∙ take-append-drop at band ∙ sym (take_all (length band) band (omega arith)))
+      (drop_all 16 (drop at band) l ∙ sym (drop_all (length band) band (omega arith)))
 
   pub IsAt-rest : {X : Type 0} (view : X → Band) (run : ℕ) (y : X) → view y ≡ (band, run) → IsAt table al whole a old band at b cur
       → Takes (λ (t : Token). t) (token_from table (length band - at)) b cur (Ok (Rest run)) d new → Takes view whole a old (Ok y) d new
@@ -187,4 +203,4 @@ pub IsAt-none : {X : Type 0} (view : X → Band) (table : Table) (al : ℕ) (who
     → IsAt table al whole a old band at b new → Takes view whole a old (Ok y) b new
 IsAt-none view table al whole a b old new band at y end e p =
     Leaves-none view table al p.0 whole a b old new (take at band) y (e ∙ ap (λ (l : List ℤ). (l, 0)) (sym (take_all at band end)))
-      (subst (λ (l : List ℤ). Leaves whole a old (behind_front (take at band) (first_ac table al p.0 l)) b new) (drop_all at band end) p.2)
+    (subst (λ (l : List ℤ). Leaves whole a old (behind_front (take at band) (first_ac table al p.0 l)) b new) (drop_all at band end) p.2)

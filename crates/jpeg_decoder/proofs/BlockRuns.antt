@@ -39,6 +39,7 @@ run_length dc ac (suc n) predictor run t = go (λ p r u. run_length dc ac n p r 
     more : (b : Block) (o : Result (Run × Text) Fault) → HasBlocks n o → HasBlocks (suc n) (read_on (after_block b) o)
     more b (Ok x) h = ap (λ k. suc k) h
     more b (Err f) h = tt
+
     go : ((p : ℤ) (r : ℕ) (u : Text) → HasBlocks n (run_from dc ac n p r u)) → (o : Result ((Block × ℤ × ℕ) × Text) Fault) → HasBlocks (suc n) (read_on (behind_block dc ac n) o)
     go others (Ok b) = more b.0.0 (run_from dc ac n b.0.1 b.0.2 b.1) (others b.0.1 b.0.2 b.1)
     go others (Err f) = tt
@@ -57,6 +58,7 @@ row_is_run dc ac front (suc n) predictor run t = go (λ f p r u. row_is_run dc a
     one : (b : Block) (o : Result (Run × Text) Fault) → read_on (ordered_run (front ++ ordered b ∷ [])) o ≡ read_on (ordered_run front) (read_on (after_block b) o)
     one b (Ok x) = ap (λ (l : List (List ℤ)). Ok ((l, x.0.1, x.0.2), x.1)) (append_assoc front (ordered b ∷ []) (map ordered x.0.0))
     one b (Err f) = refl
+
     go : ((f : List (List ℤ)) (p : ℤ) (r : ℕ) (u : Text) → row_from dc ac f n p r u ≡ read_on (ordered_run f) (run_from dc ac n p r u)) → (o : Result ((Block × ℤ × ℕ) × Text) Fault)
         → read_on {B = List (List ℤ) × ℤ × ℕ} (λ (r : Block × ℤ × ℕ). row_from dc ac (front ++ ordered r.0 ∷ []) n r.1 r.2) o ≡ read_on (ordered_run front) (read_on (behind_block dc ac n) o)
     go others (Ok b) = others (front ++ ordered b.0.0 ∷ []) b.0.1 b.0.2 b.1 ∙ one b.0.0 (run_from dc ac n b.0.1 b.0.2 b.1)
@@ -79,9 +81,10 @@ blocks_are_run dc ac (suc n) predictor others run t = go (λ p r u. blocks_are_r
     one : (b : Block) (o : Result (Run × Text) Fault) → read_on {B = List Block} (λ (more : List Block). gives (b ∷ more)) (read_on blocks_alone o) ≡ read_on blocks_alone (read_on (after_block b) o)
     one b (Ok x) = refl
     one b (Err f) = refl
+
     go : ((p : ℤ) (r : ℕ) (u : Text) → blocks_of whole_pass (p ∷ others) r (replicate n (first_via dc ac, zero_block)) u ≡ read_on blocks_alone (run_from dc ac n p r u)) → (o : Result ((Block × ℤ × ℕ) × Text) Fault)
         → read_on {B = List Block} (λ (r : Block × ℤ × ℕ). blocks_of whole_pass (r.1 ∷ others) r.2 (replicate n (first_via dc ac, zero_block)) >>= (λ more. gives (r.0 ∷ more))) o
-          ≡ read_on blocks_alone (read_on (behind_block dc ac n) o)
+        ≡ read_on blocks_alone (read_on (behind_block dc ac n) o)
     go rest (Ok b) = ap (read_on {B = List Block} (λ (more : List Block). gives (b.0.0 ∷ more))) (rest b.0.1 b.0.2 b.1) ∙ one b.0.0 (run_from dc ac n b.0.1 b.0.2 b.1)
     go rest (Err f) = refl
 
@@ -107,9 +110,11 @@ run_splits dc ac (suc m) n predictor run t =
     two : (b : Block) (x : Run) (o : Result (Run × Text) Fault) → read_on (after_block b) (read_on (after_run x) o) ≡ read_on (after_run (b ∷ x.0, x.1, x.2)) o
     two b x (Ok y) = refl
     two b x (Err f) = refl
+
     one : (b : Block) (o : Result (Run × Text) Fault) → read_on (after_block b) (read_on (run_behind dc ac n) o) ≡ read_on (run_behind dc ac n) (read_on (after_block b) o)
     one b (Ok x) = two b x.0 (run_from dc ac n x.0.1 x.0.2 x.1)
     one b (Err f) = refl
+
     go : ((p : ℤ) (r : ℕ) (u : Text) → run_from dc ac (m + n) p r u ≡ read_on (run_behind dc ac n) (run_from dc ac m p r u)) → (o : Result ((Block × ℤ × ℕ) × Text) Fault)
         → read_on (behind_block dc ac (m + n)) o ≡ read_on (run_behind dc ac n) (read_on (behind_block dc ac m) o)
     go others (Ok b) = ap (read_on (after_block b.0.0)) (others b.0.1 b.0.2 b.1) ∙ one b.0.0 (run_from dc ac m b.0.1 b.0.2 b.1)

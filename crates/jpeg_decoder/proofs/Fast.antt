@@ -45,7 +45,7 @@ slow-same room size r s t true e long = rw (e, token_at, slow_token) (go (nat_lt
   where
     go : (b c : Bool) → c ≡ false
         → (elim b as (λ _. Reads Token) [ true ↦ signed_from s >>= (λ v. gives (Value r v)) | false ↦ elim c as (λ _. Reads Token) [ true ↦ signed_from s >>= (λ v. gives Overlong) | false ↦ gives Overlong ] ]) t
-          ≡ (elim b as (λ _. Reads Token) [ true ↦ signed_from s >>= (λ v. gives (Value r v)) | false ↦ gives Overlong ]) t
+        ≡ (elim b as (λ _. Reads Token) [ true ↦ signed_from s >>= (λ v. gives (Value r v)) | false ↦ gives Overlong ]) t
     go true c h = refl
     go false true h = absurd (false≢true (sym h))
     go false false h = refl
@@ -57,7 +57,7 @@ value-same room size r s t e short = rw (e, token_at) (go (nat_lt r room) (nat_l
   where
     go : (b c : Bool) → c ≡ true
         → (elim b as (λ _. Reads Token) [ true ↦ signed_from s >>= (λ v. gives (Value r v)) | false ↦ elim c as (λ _. Reads Token) [ true ↦ signed_from s >>= (λ v. gives Overlong) | false ↦ gives Overlong ] ]) t
-          ≡ read_on (λ v. gives (elim b as (λ _. Token) [ true ↦ Value r v | false ↦ Overlong ])) (signed_from s t)
+        ≡ read_on (λ v. gives (elim b as (λ _. Token) [ true ↦ Value r v | false ↦ Overlong ])) (signed_from s t)
     go true c h = refl
     go false true h = refl
     go false false h = absurd (false≢true h)
@@ -70,6 +70,7 @@ both-held n s bits (Broken f) h = go (cases_lt (length bits) n)
   where
     no : (f : Fault) → ◌≡◌ {A = Result (Unit {0}) Fault} (Err f) (Ok tt) → ⊥
     no f e = cc
+
     go : (length bits < n) ⊎ (n ≤ length bits) → has_bits n bits (Broken f) ≡ Ok tt
     go (inl few) = absurd (no f (sym (ap (λ b. cond b (Ok tt) (Err f)) (lt-leb (n + s) (length bits) (omega arith))) ∙ h))
     go (inr enough) = ap (λ b. cond b (Ok tt) (Err f)) (le-leb n (length bits) enough)
@@ -85,8 +86,10 @@ not-held n s bits (Broken g) f h = go (cases_lt (length bits) (n + s)) (cases_lt
   where
     no : (f : Fault) → ◌≡◌ {A = Result (Unit {0}) Fault} (Ok tt) (Err f) → ⊥
     no f e = cc
+
     by : (m : ℕ) (xs : List Bool) → length xs < m → has_bits m xs (Broken g) ≡ Err g
     by m xs few = ap (λ b. cond b (Ok tt) (Err g)) (lt-leb m (length xs) few)
+
     go : (length bits < n + s) ⊎ (n + s ≤ length bits) → (length bits < n) ⊎ (n ≤ length bits)
         → (has_bits n bits (Broken g) ≡ Err f) ⊎ ((has_bits n bits (Broken g) ≡ Ok tt) × (has_bits s (drop n bits) (Broken g) ≡ Err f))
     go (inr enough) x = absurd (no f (sym (ap (λ b. cond b (Ok tt) (Err g)) (le-leb (n + s) (length bits) enough)) ∙ h))
@@ -95,8 +98,10 @@ not-held n s bits (Broken g) f h = go (cases_lt (length bits) (n + s)) (cases_lt
         inl (by n bits less ∙ same)
     go (inl few) (inr more) =
         let same : ◌≡◌ {A = Result (Unit {0}) Fault} (Err g) (Err f) = sym (by (n + s) bits few) ∙ h in
-        inr (ap (λ b. cond b (Ok tt) (Err g)) (le-leb n (length bits) more),
-             by s (drop n bits) (omega (arith, length-drop n bits)) ∙ same)
+        inr (
+          ap (λ b. cond b (Ok tt) (Err g)) (le-leb n (length bits) more),
+          by s (drop n bits) (omega (arith, length-drop n bits)) ∙ same,
+        )
 
 signed-refused : (s : ℕ) (t : Text) (f : Fault) → has_bits s t.bits t.ending ≡ Err f → signed_from s t ≡ Err f
 unfolding signed_from bits_from
@@ -122,7 +127,7 @@ module _ (table : Table) (room n symbol : ℕ) (t : Text) (some : nat_lt 0 (symb
 
   pub at-short : (o : Result (Unit {0}) Fault) → has_bits (n + symbol % 16) t.bits t.ending ≡ o
       → by_code room (if_held (n, symbol) (advance n t) (has_bits n t.bits t.ending))
-        ≡ by_look table room (◌>>r=◌ {B = Option (ℕ × ℕ) × Text} o (λ (u : Unit {0}). Ok (Some (symbol / 16, symbol % 16), advance n t)))
+      ≡ by_look table room (◌>>r=◌ {B = Option (ℕ × ℕ) × Text} o (λ (u : Unit {0}). Ok (Some (symbol / 16, symbol % 16), advance n t)))
   at-short (Ok u) h =
       ap (λ o. by_code room (if_held (n, symbol) (advance n t) o)) (both-held n (symbol % 16) t.bits t.ending h)
       ∙ at-value ∙ value-look table room (symbol / 16) (signed_from (symbol % 16) (advance n t))
@@ -131,7 +136,8 @@ module _ (table : Table) (room n symbol : ℕ) (t : Text) (some : nat_lt 0 (symb
         | inl e ↦ ap (λ o. by_code room (if_held (n, symbol) (advance n t) o)) e
         | inr p ↦
             ap (λ o. by_code room (if_held (n, symbol) (advance n t) o)) p.0
-            ∙ at-value ∙ ap (read_on (λ v. gives (value_token room (symbol / 16) v))) (signed-refused (symbol % 16) (advance n t) f p.1) ]
+            ∙ at-value ∙ ap (read_on (λ v. gives (value_token room (symbol / 16) v))) (signed-refused (symbol % 16) (advance n t) f p.1)
+      ]
 
 -- a code of another symbol
 at-long : (room n symbol : ℕ) (t : Text) (a : Bool) → nat_lt 0 (symbol % 16) ≡ a → (a ≡ true → nat_le (n + symbol % 16) 8 ≡ false) → (o : Result (Unit {0}) Fault)

@@ -66,6 +66,7 @@ above-same g front row i r c l h = ⊎_elim right left (cases_lt c g.own_wide)
   where
     left : g.own_wide ≤ c → own_block g front r c ≡ own_block g (front ++ row) r c
     left w = own-right g front r c w ∙ sym (own-right g (front ++ row) r c w)
+
     right : c < g.own_wide → own_block g front r c ≡ own_block g (front ++ row) r c
     right w =
         let at = above r i c g.own_wide h w in
@@ -86,6 +87,7 @@ filled-at wide row c h = ⊎_elim inside outside (cases_lt c (length row))
     inside k =
         get_or_append_left (take wide row) (replicate (wide - length row) zero_coefficients) zero_coefficients c (omega (arith, length-take wide row))
         ∙ get_or-take wide row c zero_coefficients h
+
     outside : length row ≤ c → get_or (filled wide row) c zero_coefficients ≡ get_or row c zero_coefficients
     outside k =
         let l : length (take wide row) ≡ length row = omega (arith, length-take wide row) in
@@ -105,7 +107,8 @@ row-at g front row i c l n h = ⊎_elim inside outside (cases_lt c g.own_wide)
     inside w =
         let at : i * g.own_wide + c - i * g.own_wide ≡ c = omega arith in
         sym (own-inside g (front ++ row) i c h w
-             ∙ ap ordered (get_or-append_right front row (i * g.own_wide) (i * g.own_wide + c) zero_block l (omega arith) ∙ ap (λ k. get_or row k zero_block) at))
+        ∙ ap ordered (get_or-append_right front row (i * g.own_wide) (i * g.own_wide + c) zero_block l (omega arith) ∙ ap (λ k. get_or row k zero_block) at))
+
     outside : g.own_wide ≤ c → ordered (get_or row c zero_block) ≡ own_block g (front ++ row) i c
     outside w = ap ordered (get_or_past row c zero_block (omega arith)) ∙ zero_ordered ∙ sym (own-right g (front ++ row) i c w)
 
@@ -113,11 +116,11 @@ filled-is : (g : Grid) (front row : List Block) (i : ℕ) → length front ≡ i
     → filled g.wide (map ordered row) ≡ map (own_block g (front ++ row) i) (range_with_len 0 g.wide)
 filled-is g front row i l n h =
     ext_get_or zero_coefficients (filled g.wide (map ordered row)) (map (own_block g (front ++ row) i) (range_with_len 0 g.wide))
-      (length-filled g.wide (map ordered row) ∙ sym (length-map-range_with_len (own_block g (front ++ row) i) 0 g.wide))
-      (λ c k.
-        let lt : c < g.wide = omega (arith, length-filled g.wide (map ordered row)) in
-        filled-at g.wide (map ordered row) c lt ∙ ordered-at row c ∙ row-at g front row i c l n h
-        ∙ sym (get_or-map-range_with_len (own_block g (front ++ row) i) 0 g.wide c c zero_coefficients lt (omega arith)))
+    (length-filled g.wide (map ordered row) ∙ sym (length-map-range_with_len (own_block g (front ++ row) i) 0 g.wide))
+    (λ c k.
+    let lt : c < g.wide = omega (arith, length-filled g.wide (map ordered row)) in
+    filled-at g.wide (map ordered row) c lt ∙ ordered-at row c ∙ row-at g front row i c l n h
+    ∙ sym (get_or-map-range_with_len (own_block g (front ++ row) i) 0 g.wide c c zero_coefficients lt (omega arith)))
 
 -- one more row of the plane
 pub plane-row : (table : List ℕ) (g : Grid) (front row : List Block) (i : ℕ) → length front ≡ i * g.own_wide → length row ≡ g.own_wide → i < g.own_high

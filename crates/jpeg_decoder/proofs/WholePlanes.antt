@@ -34,7 +34,7 @@ behind_row g table dc ac plane n r = rows_from g table dc ac (plane ++ strip_of 
 module _ (g : Grid) (table : List ℕ) (dc ac : Table) where
   rows-are-run : (n i : ℕ) (front : List Block) (predictor : ℤ) (run : ℕ) (t : Text) → length front ≡ i * g.own_wide → i + n ≡ g.own_high
       → rows_from g table dc ac (plane_of table g.wide i (own_block g front)) n predictor run t
-        ≡ read_on (plane_with g table front (i + n)) (run_from dc ac (n * g.own_wide) predictor run t)
+      ≡ read_on (plane_with g table front (i + n)) (run_from dc ac (n * g.own_wide) predictor run t)
   unfolding rows_from run_from
   rows-are-run zero i front predictor run t l h =
       let none : zero * g.own_wide ≡ zero = omega arith in
@@ -51,6 +51,7 @@ module _ (g : Grid) (table : List ℕ) (dc ac : Table) where
     where
       plane : List ℕ
       plane = plane_of table g.wide i (own_block g front)
+
       one : (x : Run) (o : Result (Run × Text) Fault)
           → read_on (plane_with g table (front ++ x.0) (i + 1 + n)) o ≡ read_on (plane_with g table front (i + suc n)) (read_on (after_run x) o)
       one x (Ok y) =
@@ -58,8 +59,9 @@ module _ (g : Grid) (table : List ℕ) (dc ac : Table) where
           ap (λ (k : ℕ). Ok (plane_of table g.wide k (own_block g ((front ++ x.0) ++ y.0.0)), y.1)) rows
           ∙ ap (λ (f : List Block). Ok (plane_of table g.wide (i + suc n) (own_block g f), y.1)) (append_assoc front x.0 y.0.0)
       one x (Err f) = refl
+
       go : ((j : ℕ) (f : List Block) (p : ℤ) (r : ℕ) (u : Text) → length f ≡ j * g.own_wide → j + n ≡ g.own_high
-              → rows_from g table dc ac (plane_of table g.wide j (own_block g f)) n p r u ≡ read_on (plane_with g table f (j + n)) (run_from dc ac (n * g.own_wide) p r u))
+          → rows_from g table dc ac (plane_of table g.wide j (own_block g f)) n p r u ≡ read_on (plane_with g table f (j + n)) (run_from dc ac (n * g.own_wide) p r u))
           → (o : Result (Run × Text) Fault) → HasBlocks g.own_wide o
           → read_on (behind_row g table dc ac plane n) (read_on ordered_row o) ≡ read_on (plane_with g table front (i + suc n)) (read_on (run_behind dc ac (n * g.own_wide)) o)
       go below (Err f) w = refl

@@ -57,16 +57,19 @@ pub plane-resized : (table : List ℕ) (wide own high : ℕ) (f : ℕ → ℕ �
     → resized (8 * wide * (8 * high)) (plane_of table wide own f) ≡ plane_of table wide high f
 plane-resized table wide own high f zeros =
     ext_get_or 0 (resized (8 * wide * (8 * high)) (plane_of table wide own f)) (plane_of table wide high f) (long ∙ sym (length_plane table wide high f)) (λ i h.
-      let lt : i < 8 * wide * (8 * high) = omega (arith, long) in
-      ⊎_elim (early i lt) (late i lt) (cases_lt i (length (plane_of table wide own f))))
+    let lt : i < 8 * wide * (8 * high) = omega (arith, long) in
+    ⊎_elim (early i lt) (late i lt) (cases_lt i (length (plane_of table wide own f))))
   where
     have : List ℕ
     have = plane_of table wide own f
+
     size : ℕ
     size = 8 * wide * (8 * high)
+
     long : length (resized (8 * wide * (8 * high)) (plane_of table wide own f)) ≡ 8 * wide * (8 * high)
     long = length-append (take (8 * wide * (8 * high)) (plane_of table wide own f)) (replicate (8 * wide * (8 * high) - length (plane_of table wide own f)) 128)
         ∙ omega (arith, length-take (8 * wide * (8 * high)) (plane_of table wide own f), length-replicate {A = ℕ} (8 * wide * (8 * high) - length (plane_of table wide own f)) 128)
+
     early : (i : ℕ) → i < 8 * wide * (8 * high) → i < length (plane_of table wide own f)
         → get_or (resized (8 * wide * (8 * high)) (plane_of table wide own f)) i 0 ≡ get_or (plane_of table wide high f) i 0
     early i lt k =
@@ -74,6 +77,7 @@ plane-resized table wide own high f zeros =
         get_or_append_left (take (8 * wide * (8 * high)) (plane_of table wide own f)) (replicate (8 * wide * (8 * high) - length (plane_of table wide own f)) 128) 0 i (omega (arith, length-take (8 * wide * (8 * high)) (plane_of table wide own f)))
         ∙ get_or-take (8 * wide * (8 * high)) (plane_of table wide own f) i 0 lt
         ∙ plane_at-place table wide own f i here ∙ sym (plane_at-place table wide high f i lt)
+
     late : (i : ℕ) → i < 8 * wide * (8 * high) → length (plane_of table wide own f) ≤ i
         → get_or (resized (8 * wide * (8 * high)) (plane_of table wide own f)) i 0 ≡ get_or (plane_of table wide high f) i 0
     late i lt k =

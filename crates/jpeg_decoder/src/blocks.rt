@@ -127,7 +127,9 @@ fn read_row<R: Read + Drop>(
     let mut left = count;
     while left > 0 {
         let mut block = [0i16; 64];
-        read_block(alloc, decoder, source, dc_table, ac_table, predictor, run, &mut block)?;
+        read_block(
+            alloc, decoder, source, dc_table, ac_table, predictor, run, &mut block,
+        )?;
         row.push(coefficients_in_order(&block))?;
         left -= 1;
     }
@@ -157,7 +159,17 @@ fn read_rows<R: Read + Drop>(
     let mut row = Vec::new(alloc);
     let mut left = grid.own_high;
     while left > 0 {
-        read_row(alloc, decoder, source, dc_table, ac_table, grid.own_wide, predictor, run, &mut row)?;
+        read_row(
+            alloc,
+            decoder,
+            source,
+            dc_table,
+            ac_table,
+            grid.own_wide,
+            predictor,
+            run,
+            &mut row,
+        )?;
         row.resize(wide, [0; 64])?;
         append_row(&mut plane, &row, quantization_table)?;
         left -= 1;

@@ -157,7 +157,11 @@ pub(crate) fn read_first_band<R: Read + Drop>(
                 band[at] = shifted(value, point);
                 at += 1;
             }
-            Token::Sixteen => at = if band.len() - at > 16 { at + 16 } else { band.len() },
+            Token::Sixteen => at = if band.len() - at > 16 {
+                at + 16
+            } else {
+                band.len()
+            },
             Token::Rest(run) => return Ok(run),
             Token::Overlong => return Ok(0),
         }

@@ -11,6 +11,9 @@ returns g c =
     let fits : FitsSigned w16 c.in_ok-difference.difference = search rules in
     let d = to_z-of_z w16 c.in_ok-difference.difference fits in
     let is : c.wrapped_sum.result ≡ wrapped (c.args.predictor +ℤ c.in_ok-difference.difference) = rw (q, d) at c.wrapped_sum.ensures in
-    rw s (c.in_ok-difference.ensures.0, λ k.
-      let at = c.in_ok-difference.ensures.1 k in
-      (at.0, dc_read c.args.table.now c.args.predictor c.in_ok-difference.difference c.wrapped_sum.result _ _ is at.1))
+    rw s (
+      c.in_ok-difference.ensures.0,
+      λ k.
+          let at = c.in_ok-difference.ensures.1 k in
+          (at.0, dc_read c.args.table.now c.args.predictor c.in_ok-difference.difference c.wrapped_sum.result _ _ is at.1),
+    )

@@ -12,5 +12,5 @@ returns g c =
     let ac = c.args.ac_table.now in
     let table = c.args.quantization_table.now in
     Answers-same (λ r. (r.0.items, r.1)) (plane_at c.args.grid table (first_via dc ac)) (plane_by_rows c.args.grid c.values_in_order-table.result dc ac) c.args.source.now c.read_interval.new.source c.read_interval.result
-      (λ bytes. plane-by-rows-same c.args.grid table dc ac bytes ∙ ap (λ (t : List ℕ). plane_by_rows c.args.grid t dc ac bytes) (sym c.values_in_order-table.ensures))
-      c.read_interval.ensures
+    (λ bytes. plane-by-rows-same c.args.grid table dc ac bytes ∙ ap (λ (t : List ℕ). plane_by_rows c.args.grid t dc ac bytes) (sym c.values_in_order-table.ensures))
+    c.read_interval.ensures

@@ -12,8 +12,8 @@ returns-in_err-read_block g c =
     let dc = c.args.dc_table.now in
     let ac = c.args.ac_table.now in
     rw (e.1, e.2) (Leads-err (λ (u : Unit {0}). ([], pos 0, 0)) (λ (u : Unit {0}). (to_block c.read_block.new.block, c.read_block.new.predictor, c.read_block.new.run))
-      (row_from dc ac [] c.args.count c.args.predictor.now c.args.run.now) (row_from dc ac c.loop-left.row.items c.loop-left.left c.loop-left.predictor c.loop-left.run)
-      (block_from whole_pass dc ac c.loop-left.predictor c.loop-left.run (to_block (replicate 64 (pos 0))))
-      c.args.decoder.now c.loop-left.decoder c.read_block.new.decoder c.args.source.now c.loop-left.source c.read_block.new.source _
-      (λ t f h. row_refused dc ac c.loop-left.row.items c.loop-left.left c.loop-left.predictor c.loop-left.run (replicate 64 (pos 0)) t f c.loop-left-test.true refl h)
-      c.loop-left.invariant c.in_err-read_block.ensures)
+    (row_from dc ac [] c.args.count c.args.predictor.now c.args.run.now) (row_from dc ac c.loop-left.row.items c.loop-left.left c.loop-left.predictor c.loop-left.run)
+    (block_from whole_pass dc ac c.loop-left.predictor c.loop-left.run (to_block (replicate 64 (pos 0))))
+    c.args.decoder.now c.loop-left.decoder c.read_block.new.decoder c.args.source.now c.loop-left.source c.read_block.new.source _
+    (λ t f h. row_refused dc ac c.loop-left.row.items c.loop-left.left c.loop-left.predictor c.loop-left.run (replicate 64 (pos 0)) t f c.loop-left-test.true refl h)
+    c.loop-left.invariant c.in_err-read_block.ensures)

@@ -20,9 +20,10 @@ returns-in-Overlong-clause-band g c =
 
 pub loop-at-preserved-then-band-at-gt16 : goal.loop-at-preserved-then-band-at-gt16
 loop-at-preserved-then-band-at-gt16 g c = record {
-    len = c.loop-at.invariant.len;
-    within = omega arith;
-    text = IsAt-sixteen c.args.table.now c.args.point (first_ac c.args.table.now c.args.point (length c.args.band.now) c.args.band.now) c.args.decoder.now c.loop-at.decoder c.read_token.new.decoder c.args.source.now c.loop-at.source c.read_token.new.source c.loop-at.band c.loop-at.at c.loop-at-test.true c.loop-at.invariant.text (rw c.in-Sixteen.is at c.in_ok-run.ensures.token) }
+  len = c.loop-at.invariant.len;
+  within = omega arith;
+  text = IsAt-sixteen c.args.table.now c.args.point (first_ac c.args.table.now c.args.point (length c.args.band.now) c.args.band.now) c.args.decoder.now c.loop-at.decoder c.read_token.new.decoder c.args.source.now c.loop-at.source c.read_token.new.source c.loop-at.band c.loop-at.at c.loop-at-test.true c.loop-at.invariant.text (rw c.in-Sixteen.is at c.in_ok-run.ensures.token);
+}
 
 pub returns-clause-band : goal.returns-clause-band
 returns-clause-band g c =
@@ -30,9 +31,10 @@ returns-clause-band g c =
 
 pub loop-at-preserved : goal.loop-at-preserved
 loop-at-preserved g c = record {
-    len = c.loop-at.invariant.len;
-    within = omega arith;
-    text = IsAt-all c.args.table.now c.args.point (first_ac c.args.table.now c.args.point (length c.args.band.now) c.args.band.now) c.args.decoder.now c.loop-at.decoder c.read_token.new.decoder c.args.source.now c.loop-at.source c.read_token.new.source c.loop-at.band c.loop-at.at c.loop-at-test.true (omega (arith, c.if-band-at-gt16.false)) c.loop-at.invariant.text (rw c.in-Sixteen.is at c.in_ok-run.ensures.token) }
+  len = c.loop-at.invariant.len;
+  within = omega arith;
+  text = IsAt-all c.args.table.now c.args.point (first_ac c.args.table.now c.args.point (length c.args.band.now) c.args.band.now) c.args.decoder.now c.loop-at.decoder c.read_token.new.decoder c.args.source.now c.loop-at.source c.read_token.new.source c.loop-at.band c.loop-at.at c.loop-at-test.true (omega (arith, c.if-band-at-gt16.false)) c.loop-at.invariant.text (rw c.in-Sixteen.is at c.in_ok-run.ensures.token);
+}
 
 pub loop-at-preserved-in-Value : goal.loop-at-preserved-in-Value
 loop-at-preserved-in-Value g c =
@@ -43,4 +45,5 @@ loop-at-preserved-in-Value g c =
     rw (c.from-at.ensures, back) record {
       len = length-set _ _ _ ∙ c.loop-at.invariant.len;
       within = omega (arith, length-set c.loop-at.band (c.loop-at.at + c.in-Value.run') c.shifted.result);
-      text = IsAt-value c.args.table.now c.args.point (first_ac c.args.table.now c.args.point (length c.args.band.now) c.args.band.now) c.args.decoder.now c.loop-at.decoder c.read_token.new.decoder c.args.source.now c.loop-at.source c.read_token.new.source c.loop-at.band c.loop-at.at c.loop-at-test.true c.in-Value.run' c.in-Value.value c.shifted.result room is c.loop-at.invariant.text (rw c.in-Value.is at c.in_ok-run.ensures.token) }
+      text = IsAt-value c.args.table.now c.args.point (first_ac c.args.table.now c.args.point (length c.args.band.now) c.args.band.now) c.args.decoder.now c.loop-at.decoder c.read_token.new.decoder c.args.source.now c.loop-at.source c.read_token.new.source c.loop-at.band c.loop-at.at c.loop-at-test.true c.in-Value.run' c.in-Value.value c.shifted.result room is c.loop-at.invariant.text (rw c.in-Value.is at c.in_ok-run.ensures.token);
+    }
