@@ -9,3 +9,4 @@ pub mod Calls
 pub mod WrittenBits
 pub mod Tables
 pub mod EndLemmas
+pub mod MarkerLemmas

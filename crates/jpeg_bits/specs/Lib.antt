@@ -1,6 +1,7 @@
 pub mod Stream
 pub mod Reading
 pub mod Marker
+pub mod NextMarker
 pub mod Entropy
 pub mod Readers
 pub mod Codes
