@@ -10,3 +10,4 @@ pub mod WrittenBits
 pub mod Tables
 pub mod EndLemmas
 pub mod MarkerLemmas
+pub mod Rules

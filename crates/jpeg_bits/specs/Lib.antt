@@ -5,5 +5,6 @@ pub mod NextMarker
 pub mod Entropy
 pub mod Readers
 pub mod Codes
+pub mod Refusals
 pub mod Ends
 pub mod Written

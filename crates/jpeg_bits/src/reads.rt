@@ -9,6 +9,8 @@ use std::io;
 use std::io::{ErrorKind, Read};
 
 /// A refusal of a broken rule, whose text says which.
+#[cold]
+#[inline(never)]
 pub fn format_error(alloc: Global, text: &str) -> Error
     ensures { NamesFormat result }
 {
@@ -19,6 +21,8 @@ pub fn format_error(alloc: Global, text: &str) -> Error
 }
 
 /// The refusal where the bytes end.
+#[cold]
+#[inline(never)]
 pub fn end_of_bytes() -> Error
     ensures { NamesEnd result }
 {

@@ -1,0 +1,19 @@
+-- Calls that hold the refusal that they meet in a place of their caller's (this project's own form).
+use Rattle.std.specs.Prelude.{Bool, true, false, Option, Some, None, Result, Ok, Err}
+use Rattle.jpeg_bits.specs.declared.error.Error.{Error}
+use Rattle.jpeg_bits.specs.declared.error.Error.TheVariants as errors
+
+-- the refusal that is held; where none is, memory is wanting
+abbrev pub held_refusal : Option Error → Error
+held_refusal (Some e) = e
+held_refusal None = errors.OutOfMemory
+
+-- what a call answered: a value, or none and the refusal is held
+abbrev pub answer_of : {X : Type 0} → Option X → Option Error → Result X Error
+answer_of (Some x) refusal = Ok x
+answer_of None refusal = Err (held_refusal refusal)
+
+-- what a call answered: whether it did its work, or else the refusal is held
+abbrev pub outcome_of : Bool → Option Error → Result (Unit {0}) Error
+outcome_of true refusal = Ok tt
+outcome_of false refusal = Err (held_refusal refusal)
