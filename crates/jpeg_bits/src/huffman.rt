@@ -1,4 +1,4 @@
-//! Entropy-coded bits.
+//! Entropy-coded bits (T.81, B.1.1.5 and F.2.2).
 ghost use Rattle.std.specs.Prelude.{◌≡◌, ◌≤◌, ◌<◌, ◌^◌, ◌+◌, ◌++◌, Ok, length, take, replicate, false, slice_index_or, if◌then◌else◌};
 ghost use Rattle.jpeg_bits.specs.Reading.{Answers, IsShort, Gives, NamesFormat};
 ghost use Rattle.jpeg_bits.specs.Refusals.{held_refusal, answer_of};
@@ -13,9 +13,10 @@ use std::alloc::Global;
 use std::io::Read;
 use std::marker::Model;
 
-/// How entropy-coded data ends.
+/// How entropy-coded data ends (T.81, B.1.1.5).
 #[derive(Clone, Copy, Debug, PartialEq)]
 pub enum DataEnd {
+    /// A marker follows.
     Marker(Marker),
     /// FF 00 stands behind fill bytes.
     Malformed,
@@ -344,7 +345,9 @@ impl Held {
     }
 }
 
-/// The bits read ahead of a source, at most 64, and the marker that was met (T.81, F.2.2.5 and B.1.1.5).
+/// A reader of entropy-coded bits (T.81, F.2.2): those read ahead of a source, at most 64, and the end that was met.
+/// Stuffed zeros are taken out (B.1.1.5). Behind a marker, zeros come without end. A fault that is met is refused
+/// only where a bit behind it is taken, and a read that fails at once, by the call that meets it.
 #[derive(Debug, Drop)]
 pub struct HuffmanDecoder {
     alloc: Global,
@@ -378,14 +381,15 @@ impl HuffmanDecoder {
         }
     }
 
-    /// Forgets the bits read ahead. A marker that was met stays met.
+    /// Forgets the bits read ahead, as at a restart (T.81, E.2.4). A marker that was met stays met.
     pub fn reset(&mut self)
         ensures { self.new ≡ record self.old { bits = [] } }
     {
         self.held.clear();
     }
 
-    /// The next `count` bits as a number.
+    /// The next `count` bits, from 1 to 16, as a number, the highest first. Behind a marker they are zeros. It is
+    /// `Format` where FF 00 stands for a marker before them, and `Io` where the bytes end before them or a read fails.
     #[inline(always)]
     pub fn get_bits<R: Read + Drop>(&mut self, source: &mut Source<R>, count: u8) -> Result<u16>
         requires some { 1 ≤ count }
@@ -403,7 +407,8 @@ impl HuffmanDecoder {
         Ok(self.held.take(count))
     }
 
-    /// The next `count` bits as a signed number.
+    /// The next `count` bits, from 1 to 15, as a signed number (T.81, F.2.2.1): those below half their range stand for
+    /// the negative ones. Errors are those of `get_bits`.
     #[inline(always)]
     #[tactic(auto, unfolding(crate::specs::Readers::signed_from))]
     pub fn receive_extend<R: Read + Drop>(
@@ -419,7 +424,8 @@ impl HuffmanDecoder {
         Ok(extend(value, count))
     }
 
-    /// The symbol whose code begins the bits.
+    /// The symbol whose code begins the bits (T.81, F.2.2.3), whose bits are taken. It is `Format` where no code of
+    /// the table begins them; the other errors are those of `get_bits`.
     #[inline(always)]
     pub fn decode<R: Read + Drop>(
         &mut self,
@@ -468,8 +474,9 @@ impl HuffmanDecoder {
         Ok(Some((run, size)))
     }
 
-    /// The value and the run of a short token: its code and its value take at most 8 bits. Otherwise none, and no
-    /// bit is taken.
+    /// The value and the run of zeros before it, where a code of a table of class AC and the value behind it take at
+    /// most 8 bits together (T.81, F.2.2.2), all of which are taken. Otherwise none, and no bit is taken. Errors are
+    /// those of `get_bits`.
     #[inline(always)]
     #[tactic(auto, unfolding(crate::specs::Codes::fast_from))]
     pub fn decode_fast_ac<R: Read + Drop>(
@@ -488,7 +495,9 @@ impl HuffmanDecoder {
         }
     }
 
-    /// The marker behind the bits taken, where at most 56 bits stand before it.
+    /// The marker behind the bits taken, where at most 56 bits stand before it, which is met no more; the source goes
+    /// on behind it. Otherwise none, and the source goes on behind the byte of the 57th bit. It is `Format` where FF 00
+    /// stands for the marker, and `Io` where the bytes end first or a read fails.
     pub fn take_marker<R: Read + Drop>(&mut self, source: &mut Source<R>) -> Result<Option<Marker>>
         ensures answers { Answers (λ m. m) (λ bytes. marker_from (upcoming self.old bytes)) source.old result source.new }
         ensures taken { OnOk result (self.new.met ≡ None) }
