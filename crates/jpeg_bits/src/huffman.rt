@@ -1,7 +1,7 @@
 //! Entropy-coded bits (T.81, B.1.1.5 and F.2.2).
-ghost use Rattle.std.specs.Prelude.{◌≡◌, ◌≤◌, ◌<◌, ◌^◌, ◌+◌, ◌++◌, Ok, length, take, replicate, false, slice_index_or, if◌then◌else◌};
+ghost use Rattle.std.specs.Prelude.{◌≡◌, ◌≤◌, ◌<◌, ◌^◌, ◌+◌, ◌++◌, Ok, true, is_some, length, take, replicate, false, slice_index_or, if◌then◌else◌};
 ghost use Rattle.jpeg_bits.specs.Reading.{Answers, IsShort, Gives, NamesFormat};
-ghost use Rattle.jpeg_bits.specs.Refusals.{held_refusal, answer_of};
+ghost use Rattle.jpeg_bits.specs.Refusals.{held_refusal, answer_of, IsHeld};
 ghost use Rattle.jpeg_bits.specs.Entropy.{piece_at, behind_ff, byte_or_end, bits_of, number_of, marker_held, extended};
 
 pub use crate::codes::{HuffmanTable, HuffmanTableClass};
@@ -40,7 +40,8 @@ fn next_piece<R: Read + Drop>(
     source: &mut Source<R>,
     refusal: &mut Option<Error>,
 ) -> Option<Piece>
-    ensures { Answers (λ p. p) piece_at source.old (answer_of result refusal.new) source.new }
+    ensures answers { Answers (λ p. p) piece_at source.old (answer_of result refusal.new) source.new }
+    ensures held { IsHeld result refusal.new }
 {
     match source.next(alloc, refusal) {
         Some(Some(0xff)) => next_behind_ff(alloc, source, refusal),
@@ -58,7 +59,8 @@ fn next_behind_ff<R: Read + Drop>(
     source: &mut Source<R>,
     refusal: &mut Option<Error>,
 ) -> Option<Piece>
-    ensures { Answers (λ p. p) (λ bytes. Ok (behind_ff bytes)) source.old (answer_of result refusal.new) source.new }
+    ensures answers { Answers (λ p. p) (λ bytes. Ok (behind_ff bytes)) source.old (answer_of result refusal.new) source.new }
+    ensures held { IsHeld result refusal.new }
 {
     match read_behind_ff(alloc, source) {
         Ok(piece) => Some(piece),
@@ -109,6 +111,7 @@ fn read_or_end<R: Read + Drop>(alloc: Global, source: &mut Source<R>) -> Result<
 #[cold]
 #[inline(never)]
 fn take_refusal(refusal: &mut Option<Error>) -> Error
+    requires { is_some refusal.old ≡ true }
     ensures { result ≡ held_refusal refusal.old }
 {
     match refusal.take() {
@@ -226,7 +229,7 @@ impl Model for Held {
 }
 
 impl Held {
-    ghost use Rattle.std.specs.Prelude.{◌≡◌, ◌≤◌, ◌<◌, ◌^◌, ◌++◌, [], None, IfSome, true, false, is_ok, length, take, drop, replicate};
+    ghost use Rattle.std.specs.Prelude.{◌≡◌, ◌≤◌, ◌<◌, ◌^◌, ◌++◌, [], None, IfSome, true, false, is_ok, is_some, length, take, drop, replicate};
     ghost use Rattle.jpeg_bits.specs.Codes.{code_in, code_lengths, next_16};
     ghost use Rattle.jpeg_bits.specs.Reading.{Names, Gives};
     ghost use Rattle.jpeg_bits.specs.Refusals.{outcome_of};
@@ -254,6 +257,7 @@ impl Held {
         requires { count ≤ 57 }
         ensures holds { Takes (λ _. 0) same_text self.old source.old (outcome_of result refusal.new) self.new source.new }
         ensures full { result ≡ true → IsFilled count self.new.bits self.new.met }
+        ensures held { result ≡ false → is_some refusal.new ≡ true }
     {
         if count <= self.bits.len() || self.end.is_some() {
             return true;
@@ -273,6 +277,7 @@ impl Held {
     ) -> bool
         ensures fills { Takes (λ _. 0) same_text self.old source.old (outcome_of result refusal.new) self.new source.new }
         ensures full { result ≡ true → IsFilled 57 self.new.bits self.new.met }
+        ensures held { result ≡ false → is_some refusal.new ≡ true }
     {
         while self.bits.len() <= 56 && self.end.is_none() {
             match next_piece(alloc, source, refusal) {
