@@ -1,7 +1,7 @@
 //! A stream from its start to its picture (T.81, B.2).
-ghost use Rattle.std.specs.Prelude.{◌≡◌, ◌*◌, ℕ, List, true, Ok, Some, None, MatchResult, length, min, IfOk};
+ghost use Rattle.std.specs.Prelude.{◌≡◌, ◌*◌, MatchResult};
 ghost use Rattle.jpeg_bits.specs.Reading.{Answers, Names, NamesFormat};
-ghost use Rattle.jpeg_decoder.specs.Stream.{nothing_found, start_at, without_planes, picture_in, picture_of, meaning, told_by_stream};
+ghost use Rattle.jpeg_decoder.specs.Stream.{nothing_found, start_at, without_planes, picture_of, meaning, told_by_stream};
 ghost use Rattle.jpeg_decoder.specs.States.{OnTold};
 ghost use Rattle.jpeg_decoder.specs.Seen.{found_in};
 ghost use Rattle.jpeg_segments.specs.FrameView.{frame_in};

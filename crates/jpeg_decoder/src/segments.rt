@@ -1,5 +1,5 @@
 //! The segments of a stream, read in turn (T.81, B.2).
-ghost use Rattle.std.specs.Prelude.{◌≡◌, ℕ, List, true, None, IfOk, OnErr, OnOk, is_some};
+ghost use Rattle.std.specs.Prelude.{◌≡◌, OnErr};
 ghost use Rattle.jpeg_bits.specs.Reading.{Answers, IsShort};
 ghost use Rattle.jpeg_decoder.specs.Stream.{nothing_found, frame_segment, quantization_segment, huffman_segment, skipped_segment, scan_segment, end_segment, segment_at, marker_or, turn_at, segments_at, told_at};
 ghost use Rattle.jpeg_decoder.specs.Scans.{grid_of};
