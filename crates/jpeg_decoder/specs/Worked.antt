@@ -42,4 +42,4 @@ stream_without_height byte =
 abbrev pub stream_of_one_coefficient : List ℕ
 stream_of_one_coefficient =
     start_and_table 64 ++ (frame_of_width 8 ++ ((255 ∷ 196 ∷ 0 ∷ 20 ∷ 0 ∷ 1 ∷ replicate 15 0)
-      ++ ((0 ∷ 255 ∷ 196 ∷ 0 ∷ 21 ∷ 16 ∷ 1 ∷ 1 ∷ replicate 14 0) ++ ((1 ∷ 0 ∷ []) ++ scan_and (55 ∷ 255 ∷ 217 ∷ [])))))
+    ++ ((0 ∷ 255 ∷ 196 ∷ 0 ∷ 21 ∷ 16 ∷ 1 ∷ 1 ∷ replicate 14 0) ++ ((1 ∷ 0 ∷ []) ++ scan_and (55 ∷ 255 ∷ 217 ∷ [])))))

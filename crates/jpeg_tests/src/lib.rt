@@ -4,10 +4,10 @@
 #[cfg(test)]
 mod bytes;
 #[cfg(test)]
-mod rows;
-#[cfg(test)]
 mod parts;
 #[cfg(test)]
 mod program;
+#[cfg(test)]
+mod rows;
 #[cfg(test)]
 mod streams;

@@ -11,6 +11,7 @@ use std::test::Fail;
 
 /// Table K.3 of T.81.
 const K_3_COUNTS: [u8; 16] = [0, 1, 5, 1, 1, 1, 1, 1, 1, 0, 0, 0, 0, 0, 0, 0];
+
 const K_3_SYMBOLS: [u8; 12] = [0, 1, 2, 3, 4, 5, 6, 7, 8, 9, 10, 11];
 
 #[test]
@@ -33,16 +34,25 @@ fn parsers_read_their_segments(rt: HostRuntime) -> Result<(), Fail> {
     let segment = bytes(rt.alloc(), &["000B 08 0118 0320 01 07 22 02"])?;
     let mut source = Source::new(segment.as_slice());
     let frame = parse_sof(rt.alloc(), &mut source, Marker::SOF(0))?;
-    assert_eq!(rt; (frame.image_size.width, frame.image_size.height), (800, 280));
+    assert_eq!(rt;
+        (frame.image_size.width, frame.image_size.height),
+        (800, 280)
+    );
     assert_eq!(rt; (frame.mcu_size.width, frame.mcu_size.height), (50, 18));
     assert_eq!(rt; frame.components.len(), 1);
     let component = &frame.components[0];
-    assert_eq!(rt; (component.block_size.width, component.block_size.height), (100, 36));
+    assert_eq!(rt;
+        (component.block_size.width, component.block_size.height),
+        (100, 36)
+    );
     assert_eq!(rt; (component.size.width, component.size.height), (800, 280));
     assert_eq!(rt; component.quantization_table_index, 2);
     let segment = bytes(rt.alloc(), &["0008 01 07 10 00 00 00"])?;
     let scan = parse_sos(rt.alloc(), &mut Source::new(segment.as_slice()), &frame)?;
-    assert_eq!(rt; (scan.spectral_selection.start, scan.spectral_selection.end), (0, 64));
+    assert_eq!(rt;
+        (scan.spectral_selection.start, scan.spectral_selection.end),
+        (0, 64)
+    );
     assert_eq!(rt; scan.dc_table_indices.as_slice(), [1].as_slice());
     let segment = bytes(rt.alloc(), &["0043 03 07*64"])?;
     let tables = parse_dqt(rt.alloc(), &mut Source::new(segment.as_slice()))?;
@@ -134,6 +144,9 @@ fn a_column_of_one_coefficient(rt: HostRuntime) {
     let mut samples = [0u8; 64];
     dequantize_and_idct_block_8x8(&block, &[64; 64], 8, &mut samples);
     for y in 0..8 {
-        assert_eq!(rt; &samples[8 * y..8 * y + 8], [0u8, 255, 0, 0, 255, 255, 0, 255].as_slice());
+        assert_eq!(rt;
+            &samples[8 * y..8 * y + 8],
+            [0u8, 255, 0, 0, 255, 255, 0, 255].as_slice()
+        );
     }
 }

@@ -9,7 +9,8 @@ use std::io;
 use std::io::ErrorKind;
 use std::test::Fail;
 
-const STREAM: &str = "FFD8 FFDB 0043 00 01*64 FFC0 000B 08 0008 0008 01 01 11 00 FFC4 0014 00 01 00*15 04 FFC4 0014 10 01 00*15 00 FFDA 0008 01 01 00 00 3F 00";
+const STREAM: &str =
+    "FFD8 FFDB 0043 00 01*64 FFC0 000B 08 0008 0008 01 01 11 00 FFC4 0014 00 01 00*15 04 FFC4 0014 10 01 00*15 00 FFDA 0008 01 01 00 00 3F 00";
 
 #[test]
 fn writes_the_line_and_the_pixels(rt: HostRuntime) -> Result<(), Fail> {
@@ -50,7 +51,12 @@ fn a_writer_that_fails_has_a_beginning(rt: HostRuntime) -> Result<(), Fail> {
     for call in 0..10 {
         let mut written = Vec::new(rt.alloc());
         let mut writer = Writer::new(&mut written, 5, call, Trouble::Fails);
-        assert!(rt; matches!(&run(rt.alloc(), stream.as_slice(), &mut writer), Err(Error::Io(_))));
+        assert!(rt;
+            matches!(
+                &run(rt.alloc(), stream.as_slice(), &mut writer),
+                Err(Error::Io(_))
+            )
+        );
         assert!(rt; expected.as_slice().starts_with(written.as_slice()));
         let mut written = Vec::new(rt.alloc());
         let mut writer = Writer::new(&mut written, 5, call, Trouble::TakesNothing);
@@ -79,16 +85,46 @@ fn line_of(alloc: Global, error: Error) -> Result<String, Fail> {
 #[test]
 fn tells_each_error_by_its_text(rt: HostRuntime) -> Result<(), Fail> {
     let alloc = rt.alloc();
-    assert_eq!(rt; line_of(alloc, Error::Format(String::from_str(alloc, "a text")?))?.as_str(), "jpegraw: invalid JPEG format: a text\n");
-    assert_eq!(rt; line_of(alloc, Error::Unsupported(UnsupportedFeature::DNL))?.as_str(), "jpegraw: unsupported JPEG feature: DNL\n");
-    assert_eq!(rt; line_of(alloc, Error::Unsupported(UnsupportedFeature::SamplePrecision(12)))?.as_str(), "jpegraw: unsupported JPEG feature: SamplePrecision(12)\n");
     assert_eq!(rt;
-        line_of(alloc, Error::Unsupported(UnsupportedFeature::ColorTransform(ColorTransform::JcsBgRgb)))?.as_str(),
+        line_of(alloc, Error::Format(String::from_str(alloc, "a text")?))?.as_str(),
+        "jpegraw: invalid JPEG format: a text\n"
+    );
+    assert_eq!(rt;
+        line_of(alloc, Error::Unsupported(UnsupportedFeature::DNL))?.as_str(),
+        "jpegraw: unsupported JPEG feature: DNL\n"
+    );
+    assert_eq!(rt;
+        line_of(
+            alloc,
+            Error::Unsupported(UnsupportedFeature::SamplePrecision(12))
+        )?
+        .as_str(),
+        "jpegraw: unsupported JPEG feature: SamplePrecision(12)\n"
+    );
+    assert_eq!(rt;
+        line_of(
+            alloc,
+            Error::Unsupported(UnsupportedFeature::ColorTransform(ColorTransform::JcsBgRgb))
+        )?
+        .as_str(),
         "jpegraw: unsupported JPEG feature: ColorTransform(JcsBgRgb)\n"
     );
-    assert_eq!(rt; line_of(alloc, Error::Io(io::Error::new(ErrorKind::Other, "its own text")))?.as_str(), "jpegraw: its own text\n");
-    assert_eq!(rt; line_of(alloc, Error::Internal("decoder has failed"))?.as_str(), "jpegraw: decoder has failed\n");
-    assert_eq!(rt; line_of(alloc, Error::OutOfMemory)?.as_str(), "jpegraw: out of memory\n");
+    assert_eq!(rt;
+        line_of(
+            alloc,
+            Error::Io(io::Error::new(ErrorKind::Other, "its own text"))
+        )?
+        .as_str(),
+        "jpegraw: its own text\n"
+    );
+    assert_eq!(rt;
+        line_of(alloc, Error::Internal("decoder has failed"))?.as_str(),
+        "jpegraw: decoder has failed\n"
+    );
+    assert_eq!(rt;
+        line_of(alloc, Error::OutOfMemory)?.as_str(),
+        "jpegraw: out of memory\n"
+    );
     let mut written = Vec::new(alloc);
     assert_eq!(rt; report(alloc, &Ok(()), &mut written), 0);
     assert_eq!(rt; written.len(), 0);

@@ -65,7 +65,12 @@ pub struct Writer<'a> {
 }
 
 impl<'a> Writer<'a> {
-    pub fn new(taken: &'a mut Vec<u8>, piece: usize, wrong_call: usize, trouble: Trouble) -> Writer<'a> {
+    pub fn new(
+        taken: &'a mut Vec<u8>,
+        piece: usize,
+        wrong_call: usize,
+        trouble: Trouble,
+    ) -> Writer<'a> {
         Writer {
             taken,
             piece,
@@ -84,7 +89,10 @@ impl Write for Writer<'_> {
             match self.trouble {
                 Trouble::TakesNothing => return Ok(0),
                 Trouble::Fails => return Err(io::Error::new(ErrorKind::Other, "wrong call")),
-                Trouble::IsInterrupted => return Err(io::Error::new(ErrorKind::Interrupted, "wrong call")),
+                Trouble::IsInterrupted => return Err(io::Error::new(
+                    ErrorKind::Interrupted,
+                    "wrong call",
+                )),
             }
         }
         let count = self.piece.min(buf.len());
