@@ -1,13 +1,13 @@
 -- Steps of the loops over the blocks of a row, and over the rows.
-use Rattle.std.proofs.Common.{◌≡◌, ℕ, zero, suc, ◌+◌, ◌-◌, ◌<◌, Bool, true, List, [], ◌∷◌, ◌++◌, length, take, drop, replicate, ℤ, pos, Result, Ok, Err, refl, sym, ap, ◌∙◌, arith}
+use Rattle.std.proofs.Common.{◌≡◌, ℕ, zero, suc, ◌-◌, ◌<◌, List, [], ◌∷◌, ◌++◌, length, replicate, ℤ, pos, Ok, Err, refl, sym, ap, ◌∙◌, arith}
 use Rattle.jpeg_bits.specs.Reading.{Fault}
 use Rattle.jpeg_bits.specs.Entropy.{Text}
 use Rattle.jpeg_bits.specs.Codes.{Table}
-use Rattle.jpeg_bits.specs.Readers.{Reads, ◌>>=◌, gives, read_on}
+use Rattle.jpeg_bits.specs.Readers.{Reads, read_on}
 use Rattle.jpeg_pixels.specs.Zigzag.{coefficients_in_block_order}
 use Rattle.jpeg_pixels.specs.Planes.{strip_of}
 use Rattle.jpeg_decoder.specs.declared.blocks.Grid.{Grid}
-use Rattle.jpeg_decoder.specs.Passes.{Block, whole_pass, zero_block, listed, block_from}
+use Rattle.jpeg_decoder.specs.Passes.{Block, whole_pass, zero_block, block_from}
 use Rattle.jpeg_decoder.specs.Rows.{to_block, ordered, filled, row_from, rows_from}
 
 -- ---- a row

@@ -1,5 +1,5 @@
 -- A block of a sequential scan: DC, and then the band.
-use Rattle.std.proofs.Common.{◌≡◌, ℕ, zero, suc, ◌+◌, ◌-◌, ◌<◌, ◌^◌, Bool, true, List, [], ◌∷◌, ◌++◌, length, take, drop, set, ℤ, pos, ◌+ℤ◌, ◌*ℤ◌, Result, Ok, Err, refl, sym, ap, ◌∙◌, arith, w16}
+use Rattle.std.proofs.Common.{◌≡◌, ℕ, zero, suc, ◌-◌, ◌<◌, ◌^◌, true, List, [], ◌∷◌, ◌++◌, length, take, drop, set, ℤ, pos, ◌+ℤ◌, ◌*ℤ◌, Result, Ok, Err, refl, sym, ap, ◌∙◌, arith, w16}
 use Rattle.std.proofs.lemmas.Int.{int_wrap_fits, SFits-int_wrap, ints}
 use Rattle.jpeg_bits.specs.Stream.{Stream}
 use Rattle.jpeg_bits.specs.Reading.{Fault}
@@ -7,7 +7,7 @@ use Rattle.jpeg_bits.specs.Entropy.{Text, Ahead, Takes, upcoming}
 use Rattle.jpeg_bits.specs.declared.error.Error.{Error}
 use Rattle.jpeg_bits.proofs.Loops.{Names-through, MayFail-from}
 use Rattle.jpeg_bits.specs.Codes.{Table}
-use Rattle.jpeg_bits.specs.Readers.{Reads, ◌>>=◌, gives, read_on}
+use Rattle.jpeg_bits.specs.Readers.{Reads, gives, read_on}
 use Rattle.jpeg_decoder.specs.Bands.{Band, wrapped, difference, first_dc, first_ac}
 use Rattle.jpeg_decoder.specs.Passes.{Block, whole_pass, band_of, with_band, dc_part, band_part, block_from}
 use Rattle.jpeg_decoder.specs.Rows.{to_block}

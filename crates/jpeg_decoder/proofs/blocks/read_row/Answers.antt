@@ -1,4 +1,4 @@
-use Rattle.std.proofs.Common.{[], pos, ℤ, ℕ, replicate, refl}
+use Rattle.std.proofs.Common.{[], pos, replicate, refl}
 use Rattle.std.proofs.lemmas.Result.{err_from_is_err_and}
 use Rattle.jpeg_decoder.specs.Passes.{whole_pass, block_from}
 use Rattle.jpeg_decoder.specs.Rows.{to_block, row_from}

@@ -1,4 +1,4 @@
-use Rattle.std.proofs.Common.{◌≡◌, length, []}
+use Rattle.std.proofs.Common.{[]}
 use Rattle.jpeg_decoder.specs.Rows.{row_from}
 use Rattle.jpeg_decoder.proofs.WholeBlocks.{Leads}
 use Rattle.jpeg_decoder.proofs.blocks.read_row.Given as goal
