@@ -51,6 +51,8 @@ pub row_none : (dc ac : Table) (front : List (List ℤ)) (n : ℕ) (predictor : 
 unfolding row_from
 row_none dc ac front n predictor run t e = rw e refl
 
+pub ruleset row_rules = (row_step, row_refused, row_none)
+
 -- ---- the rows
 
 abbrev behind_row : Grid → List ℕ → Table → Table → List ℕ → ℕ → List (List ℤ) × ℤ × ℕ → Reads (List ℕ)
@@ -79,3 +81,5 @@ pub rows_none : (g : Grid) (table : List ℕ) (dc ac : Table) (plane : List ℕ)
     → rows_from g table dc ac plane n predictor run t ≡ Ok (plane, t)
 unfolding rows_from
 rows_none g table dc ac plane n predictor run t e = rw e refl
+
+pub ruleset rows_rules = (rows_step, rows_refused, rows_none)

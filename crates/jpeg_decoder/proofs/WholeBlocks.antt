@@ -32,6 +32,8 @@ band_first table [] run t some e = absurd (omega arith)
 band_first table (x ∷ band) zero t some e = refl
 band_first table (x ∷ band) (suc run) t some e = absurd (omega arith)
 
+pub ruleset band_rules = (band_none, band_run, band_first)
+
 -- ---- DC
 
 times-one : (z : ℤ) → z *ℤ pos (2 ^ 0) ≡ z

@@ -46,7 +46,7 @@ pub struct Grid {
 const GREY: u8 = 128;
 
 /// A band in zigzag order. In a run of blocks without tokens it stays as it is.
-#[tactic(auto, using(crate::proofs::WholeBlocks::band_none, crate::proofs::WholeBlocks::band_run, crate::proofs::WholeBlocks::band_first))]
+#[tactic(auto, using(crate::proofs::WholeBlocks::band_rules))]
 fn read_band<R: Read + Drop>(
     decoder: &mut HuffmanDecoder,
     source: &mut Source<R>,
@@ -109,7 +109,7 @@ fn read_block<R: Read + Drop>(
 }
 
 /// Reads a row of so many blocks, and puts each into block order.
-#[tactic(auto, using(crate::proofs::RowSteps::row_step, crate::proofs::RowSteps::row_refused, crate::proofs::RowSteps::row_none))]
+#[tactic(auto, using(crate::proofs::RowSteps::row_rules))]
 fn read_row<R: Read + Drop>(
     alloc: Global,
     decoder: &mut HuffmanDecoder,
@@ -140,7 +140,7 @@ fn read_row<R: Read + Drop>(
 }
 
 /// Reads the rows of a component's own blocks, each filled up with blocks of zeros.
-#[tactic(auto, using(crate::proofs::RowSteps::rows_step, crate::proofs::RowSteps::rows_refused, crate::proofs::RowSteps::rows_none))]
+#[tactic(auto, using(crate::proofs::RowSteps::rows_rules))]
 fn read_rows<R: Read + Drop>(
     alloc: Global,
     decoder: &mut HuffmanDecoder,
