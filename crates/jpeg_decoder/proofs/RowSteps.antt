@@ -1,13 +1,13 @@
 -- Steps of the loops over the blocks of a row, and over the rows.
-use Rattle.std.proofs.Common.{◌≡◌, ℕ, zero, suc, ◌+◌, ◌-◌, ◌<◌, Bool, true, List, [], ◌∷◌, ◌++◌, length, take, drop, replicate, ℤ, pos, Result, Ok, Err, refl, sym, ap, ◌∙◌, arith}
+use Rattle.std.proofs.Common.{◌≡◌, ℕ, zero, suc, ◌-◌, ◌<◌, List, [], ◌∷◌, ◌++◌, length, replicate, ℤ, pos, Ok, Err, refl, sym, ap, ◌∙◌, arith}
 use Rattle.jpeg_bits.specs.Reading.{Fault}
 use Rattle.jpeg_bits.specs.Entropy.{Text}
 use Rattle.jpeg_bits.specs.Codes.{Table}
-use Rattle.jpeg_bits.specs.Readers.{Reads, ◌>>=◌, gives, read_on}
+use Rattle.jpeg_bits.specs.Readers.{Reads, read_on}
 use Rattle.jpeg_pixels.specs.Zigzag.{coefficients_in_block_order}
 use Rattle.jpeg_pixels.specs.Planes.{strip_of}
 use Rattle.jpeg_decoder.specs.declared.blocks.Grid.{Grid}
-use Rattle.jpeg_decoder.specs.Passes.{Block, whole_pass, zero_block, listed, block_from}
+use Rattle.jpeg_decoder.specs.Passes.{Block, whole_pass, zero_block, block_from}
 use Rattle.jpeg_decoder.specs.Rows.{to_block, ordered, filled, row_from, rows_from}
 
 -- ---- a row
@@ -51,6 +51,8 @@ pub row_none : (dc ac : Table) (front : List (List ℤ)) (n : ℕ) (predictor : 
 unfolding row_from
 row_none dc ac front n predictor run t e = rw e refl
 
+pub ruleset row_rules = (row_step, row_refused, row_none)
+
 -- ---- the rows
 
 abbrev behind_row : Grid → List ℕ → Table → Table → List ℕ → ℕ → List (List ℤ) × ℤ × ℕ → Reads (List ℕ)
@@ -79,3 +81,5 @@ pub rows_none : (g : Grid) (table : List ℕ) (dc ac : Table) (plane : List ℕ)
     → rows_from g table dc ac plane n predictor run t ≡ Ok (plane, t)
 unfolding rows_from
 rows_none g table dc ac plane n predictor run t e = rw e refl
+
+pub ruleset rows_rules = (rows_step, rows_refused, rows_none)

@@ -1,16 +1,17 @@
 -- A block of a sequential scan: DC, and then the band.
-use Rattle.std.proofs.Common.{◌≡◌, ℕ, zero, suc, ◌+◌, ◌-◌, ◌<◌, ◌^◌, Bool, true, List, [], ◌∷◌, ◌++◌, length, take, drop, set, ℤ, pos, ◌+ℤ◌, ◌*ℤ◌, Result, Ok, Err, refl, sym, ap, ◌∙◌, arith, w16}
+use Rattle.std.proofs.Common.{◌≡◌, ℕ, zero, suc, ◌-◌, ◌<◌, ◌^◌, List, [], ◌∷◌, ◌++◌, length, take, drop, set, ℤ, pos, ◌+ℤ◌, ◌*ℤ◌, Result, Ok, Err, refl, sym, ap, ◌∙◌, arith, w16}
 use Rattle.std.proofs.lemmas.Int.{int_wrap_fits, SFits-int_wrap, ints}
 use Rattle.jpeg_bits.specs.Stream.{Stream}
 use Rattle.jpeg_bits.specs.Reading.{Fault}
-use Rattle.jpeg_bits.specs.Entropy.{Text, Ahead, Takes, upcoming}
+use Rattle.jpeg_bits.specs.Entropy.{Text, Ahead, Takes}
 use Rattle.jpeg_bits.specs.declared.error.Error.{Error}
 use Rattle.jpeg_bits.proofs.Loops.{Names-through, MayFail-from}
 use Rattle.jpeg_bits.specs.Codes.{Table}
-use Rattle.jpeg_bits.specs.Readers.{Reads, ◌>>=◌, gives, read_on}
+use Rattle.jpeg_bits.specs.Readers.{Reads, gives, read_on}
 use Rattle.jpeg_decoder.specs.Bands.{Band, wrapped, difference, first_dc, first_ac}
 use Rattle.jpeg_decoder.specs.Passes.{Block, whole_pass, band_of, with_band, dc_part, band_part, block_from}
 use Rattle.jpeg_decoder.specs.Rows.{to_block}
+use Rattle.jpeg_decoder.proofs.BandLoop.{Leaves}
 
 -- ---- the band
 
@@ -30,6 +31,8 @@ unfolding band_part
 band_first table [] run t some e = absurd (omega arith)
 band_first table (x ∷ band) zero t some e = refl
 band_first table (x ∷ band) (suc run) t some e = absurd (omega arith)
+
+pub ruleset band_rules = (band_none, band_run, band_first)
 
 -- ---- DC
 
@@ -100,15 +103,10 @@ block_put (b ∷ bs) band y e = refl
 
 -- ---- what a call left of the whole
 
--- what is left of a whole
-abbrev pub Leads : {Y : Type 0} → Reads Y → Ahead → Stream → Reads Y → Ahead → Stream → Type 0
-Leads whole a old rest b new =
-    (new.failed ≡ old.failed) × (old.known ≡ true → (new.known ≡ true) × (whole (upcoming a old.bytes) ≡ rest (upcoming b new.bytes)))
-
 -- a refusal behind a part of the whole
-pub Leads-err : {X Y Z W : Type 0} (v : X → Y) (view : Z → W) (whole rest : Reads Y) (read : Reads W) (a b d : Ahead) (old cur new : Stream) (e : Error)
-    → ((t : Text) (f : Fault) → read t ≡ Err f → rest t ≡ Err f) → Leads whole a old rest b cur → Takes view read b cur (Err e) d new → Takes v whole a old (Err e) d new
-Leads-err v view whole rest read a b d old cur new e through p q = (
+pub refused_behind : {X Y Z W : Type 0} (v : X → Y) (view : Z → W) (whole rest : Reads Y) (read : Reads W) (a b d : Ahead) (old cur new : Stream) (e : Error)
+    → ((t : Text) (f : Fault) → read t ≡ Err f → rest t ≡ Err f) → Leaves whole a old rest b cur → Takes view read b cur (Err e) d new → Takes v whole a old (Err e) d new
+refused_behind v view whole rest read a b d old cur new e through p q = (
   MayFail-from e _ _ _ p.0 q.0,
   λ k known.
       let at = p.1 k in
@@ -116,5 +114,5 @@ Leads-err v view whole rest read a b d old cur new e through p q = (
   λ k. q.2 (p.1 k).0,
 )
 
-pub Leads-start : {Y : Type 0} (whole : Reads Y) (a : Ahead) (old : Stream) → Leads whole a old whole a old
-Leads-start whole a old = (refl, λ k. (k, refl))
+pub whole_left : {Y : Type 0} (whole : Reads Y) (a : Ahead) (old : Stream) → Leaves whole a old whole a old
+whole_left whole a old = (refl, λ k. (k, refl))

@@ -1,21 +1,21 @@
 -- A plane that is read row by row is the plane of its scan.
-use Rattle.std.proofs.Common.{◌≡◌, ℕ, zero, suc, ◌+◌, ◌-◌, ◌*◌, ◌<◌, ◌≤◌, true, List, [], ◌∷◌, ◌++◌, length, map, replicate, ℤ, pos, Option, Result, Ok, Err, refl, sym, ap, ◌∙◌, subst, arith, append_assoc, append-nil, length-append}
+use Rattle.std.proofs.Common.{◌≡◌, ℕ, zero, suc, ◌+◌, ◌*◌, ◌<◌, List, [], ◌∷◌, ◌++◌, length, map, ℤ, pos, Option, Result, Ok, Err, refl, sym, ap, ◌∙◌, subst, arith, append_assoc, append-nil, length-append}
 use Rattle.std.proofs.Math.Nat.{suc-mul, add-mul}
 use Rattle.jpeg_bits.specs.Stream.{Stream}
 use Rattle.jpeg_bits.specs.Reading.{Fault, Outcome, Answers, Names, ◌>>=◌ as ◌>>r=◌}
 use Rattle.jpeg_bits.specs.Entropy.{Text, upcoming, fresh, marker_from}
 use Rattle.jpeg_bits.specs.Codes.{Table}
-use Rattle.jpeg_bits.specs.Readers.{Reads, ◌>>=◌, gives, read_on}
+use Rattle.jpeg_bits.specs.Readers.{Reads, gives, read_on}
 use Rattle.jpeg_bits.specs.declared.error.Error.{Error}
 use Rattle.jpeg_bits.specs.declared.marker.Marker.{Marker}
-use Rattle.jpeg_pixels.specs.Planes.{plane_of, strip_of, zero_coefficients}
+use Rattle.jpeg_pixels.specs.Planes.{plane_of, strip_of}
 use Rattle.jpeg_pixels.specs.Zigzag.{values_in_block_order}
 use Rattle.jpeg_pixels.proofs.PlaneRows.{plane-none}
 use Rattle.jpeg_decoder.specs.declared.blocks.Grid.{Grid}
-use Rattle.jpeg_decoder.specs.Passes.{Block, whole_pass, zero_block, blocks_of}
-use Rattle.jpeg_decoder.specs.Intervals.{predictors_at_start, interval, intervals, first_group, other_groups}
+use Rattle.jpeg_decoder.specs.Passes.{Block}
+use Rattle.jpeg_decoder.specs.Intervals.{interval, intervals}
 use Rattle.jpeg_decoder.specs.Scans.{own_block, plane_at}
-use Rattle.jpeg_decoder.specs.Rows.{ordered, filled, row_from, rows_from}
+use Rattle.jpeg_decoder.specs.Rows.{ordered, filled, rows_from}
 use Rattle.jpeg_decoder.specs.Raster.{resized, plane_by_rows}
 use Rattle.jpeg_decoder.proofs.BlockRuns.{Run, HasBlocks, after_run, run_from, run_length, row_is_run, blocks_alone, blocks_are_run, first_via, run_behind, run_splits}
 use Rattle.jpeg_decoder.proofs.GridRows.{plane-row, own-below}

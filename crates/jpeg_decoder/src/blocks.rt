@@ -32,7 +32,8 @@ pub enum Token {
     Overlong,
 }
 
-/// The blocks of a component: across and down, those that it has by its own size, and those that its part of all MCUs has.
+/// The blocks of a component: across and down, those that it has by its own size, and those that its
+/// part of all MCUs has.
 #[derive(Clone, Copy, Debug, PartialEq)]
 pub struct Grid {
     pub own_wide: u16,
@@ -45,7 +46,7 @@ pub struct Grid {
 const GREY: u8 = 128;
 
 /// A band in zigzag order. In a run of blocks without tokens it stays as it is.
-#[tactic(auto, using(crate::proofs::WholeBlocks::band_none, crate::proofs::WholeBlocks::band_run, crate::proofs::WholeBlocks::band_first))]
+#[tactic(auto, using(crate::proofs::WholeBlocks::band_rules))]
 fn read_band<R: Read + Drop>(
     decoder: &mut HuffmanDecoder,
     source: &mut Source<R>,
@@ -55,7 +56,8 @@ fn read_band<R: Read + Drop>(
 ) -> Result<()>
     requires { table.now.class ≡ AC }
     ensures len { length band.new ≡ length band.old }
-    ensures band { Takes (λ _. (band.new, run.new)) (band_part whole_pass table.now band.old run.old) decoder.old source.old result decoder.new source.new }
+    ensures band { Takes (λ _. (band.new, run.new)) (band_part whole_pass table.now band.old run.old)
+        decoder.old source.old result decoder.new source.new }
 {
     if band.is_empty() {
         return Ok(());
@@ -77,7 +79,8 @@ fn read_dc<R: Read + Drop>(
     table: &HuffmanTable,
     predictor: i16,
 ) -> Result<i16>
-    ensures { Takes (λ p. (p, p)) (first_dc table.now 0 predictor) decoder.old source.old result decoder.new source.new }
+    ensures { Takes (λ p. (p, p)) (first_dc table.now 0 predictor)
+        decoder.old source.old result decoder.new source.new }
 {
     let difference = read_difference(alloc, decoder, source, table)?;
     Ok(wrapped_sum(predictor, difference))
@@ -106,7 +109,7 @@ fn read_block<R: Read + Drop>(
 }
 
 /// Reads a row of so many blocks, and puts each into block order.
-#[tactic(auto, using(crate::proofs::RowSteps::row_step, crate::proofs::RowSteps::row_refused, crate::proofs::RowSteps::row_none))]
+#[tactic(auto, using(crate::proofs::RowSteps::row_rules))]
 fn read_row<R: Read + Drop>(
     alloc: Global,
     decoder: &mut HuffmanDecoder,
@@ -137,7 +140,7 @@ fn read_row<R: Read + Drop>(
 }
 
 /// Reads the rows of a component's own blocks, each filled up with blocks of zeros.
-#[tactic(auto, using(crate::proofs::RowSteps::rows_step, crate::proofs::RowSteps::rows_refused, crate::proofs::RowSteps::rows_none))]
+#[tactic(auto, using(crate::proofs::RowSteps::rows_rules))]
 fn read_rows<R: Read + Drop>(
     alloc: Global,
     decoder: &mut HuffmanDecoder,
@@ -151,7 +154,8 @@ fn read_rows<R: Read + Drop>(
 ) -> Result<Vec<u8>>
     requires { ac_table.now.class ≡ AC }
     ensures { Takes (λ v. v.items)
-        (rows_from grid quantization_table.now dc_table.now ac_table.now [] grid.own_high predictor.old run.old)
+        (rows_from grid quantization_table.now dc_table.now ac_table.now
+        [] grid.own_high predictor.old run.old)
         decoder.old source.old result decoder.new source.new }
 {
     let wide = usize::from(grid.wide);
@@ -177,7 +181,8 @@ fn read_rows<R: Read + Drop>(
     Ok(plane)
 }
 
-/// Reads a sequential scan of one component and gives its plane, as `read_plane` does. The quantization table stands in block order.
+/// Reads a sequential scan of one component, as `read_plane` does. The quantization table stands in
+/// block order.
 #[tactic(auto, unfolding(crate::specs::Raster::plane_by_rows))]
 fn read_interval<R: Read + Drop>(
     alloc: Global,
@@ -188,7 +193,9 @@ fn read_interval<R: Read + Drop>(
     ac_table: &HuffmanTable,
 ) -> Result<(Vec<u8>, Option<Marker>)>
     requires { ac_table.now.class ≡ AC }
-    ensures { Answers (λ r. (r.0.items, r.1)) (plane_by_rows grid quantization_table.now dc_table.now ac_table.now) source.old result source.new }
+    ensures { Answers (λ r. (r.0.items, r.1))
+        (plane_by_rows grid quantization_table.now dc_table.now ac_table.now)
+        source.old result source.new }
 {
     let mut decoder = HuffmanDecoder::new(alloc);
     let mut predictor = 0;
@@ -209,8 +216,11 @@ fn read_interval<R: Read + Drop>(
     Ok((plane, marker))
 }
 
-/// Reads a sequential scan of one component and gives its plane, of lines of `8 * grid.wide` samples, and the marker behind the scan, if it
-/// was met. The quantization table stands in zigzag order.
+/// Reads a sequential scan of one component and gives its plane, of lines of `8 * grid.wide` samples,
+/// and the marker behind the scan, if it was met. The quantization table stands in zigzag order.
+///
+/// The blocks that are not the component's own are grey. The errors are want of memory, a failed or
+/// ended source, and a refused code or category (T.81, F.2.2).
 pub fn read_plane<R: Read + Drop>(
     alloc: Global,
     source: &mut Source<R>,
@@ -220,7 +230,10 @@ pub fn read_plane<R: Read + Drop>(
     ac_table: &HuffmanTable,
 ) -> Result<(Vec<u8>, Option<Marker>)>
     requires { ac_table.now.class ≡ AC }
-    ensures { Answers (λ r. (r.0.items, r.1)) (plane_at grid quantization_table.now (record { component = 0; dc = dc_table.now; ac = ac_table.now })) source.old result source.new }
+    ensures { Answers (λ r. (r.0.items, r.1))
+        (plane_at grid quantization_table.now
+        (record { component = 0; dc = dc_table.now; ac = ac_table.now }))
+        source.old result source.new }
 {
     let table = values_in_order(quantization_table);
     read_interval(alloc, source, grid, &table, dc_table, ac_table)

@@ -1,4 +1,5 @@
-//! The coefficients of a block in entropy-coded bits: DC differences, and the tokens of a band (T.81, F.2.2 and G.1.2).
+//! The coefficients of a block in entropy-coded bits: DC differences, and the tokens of a band
+//! (T.81, F.2.2 and G.1.2).
 ghost use Rattle.std.specs.Prelude.{◌≡◌, ◌≤◌, ◌^◌, ◌+ℤ◌, ◌*ℤ◌, pos, length, IfOk};
 ghost use Rattle.jpeg_bits.specs.Entropy.{Takes};
 ghost use Rattle.jpeg_bits.specs.declared.codes.HuffmanTableClass.TheVariants.{AC};
@@ -21,7 +22,8 @@ pub(crate) fn read_difference<R: Read + Drop>(
     source: &mut Source<R>,
     table: &HuffmanTable,
 ) -> Result<i16>
-    ensures { Takes (λ v. v) (difference table.now) decoder.old source.old result decoder.new source.new }
+    ensures { Takes (λ v. v) (difference table.now)
+        decoder.old source.old result decoder.new source.new }
 {
     let category = decoder.decode(source, table)?;
     if category > 11 {
@@ -62,7 +64,8 @@ fn read_slow_token<R: Read + Drop>(
 ) -> Result<Token>
     requires run { run ≤ 15 }
     requires size { size ≤ 15 }
-    ensures token { Takes (λ t. t) (slow_token room run size) decoder.old source.old result decoder.new source.new }
+    ensures token { Takes (λ t. t) (slow_token room run size)
+        decoder.old source.old result decoder.new source.new }
     ensures room { IfOk result (IsWithinRoom room) }
 {
     if size > 0 {
@@ -90,7 +93,8 @@ fn look_up_token<R: Read + Drop>(
     table: &HuffmanTable,
     room: usize,
 ) -> Result<Token>
-    ensures token { Takes (λ t. t) (looked_up table.now room) decoder.old source.old result decoder.new source.new }
+    ensures token { Takes (λ t. t) (looked_up table.now room)
+        decoder.old source.old result decoder.new source.new }
     ensures room { IfOk result (IsWithinRoom room) }
 {
     if let Some((value, run)) = decoder.decode_fast_ac(source, table)? {
@@ -112,7 +116,8 @@ fn read_token<R: Read + Drop>(
     room: usize,
 ) -> Result<Token>
     requires { table.now.class ≡ AC }
-    ensures token { Takes (λ t. t) (token_from table.now room) decoder.old source.old result decoder.new source.new }
+    ensures token { Takes (λ t. t) (token_from table.now room)
+        decoder.old source.old result decoder.new source.new }
     ensures room { IfOk result (IsWithinRoom room) }
 {
     look_up_token(decoder, source, table, room)

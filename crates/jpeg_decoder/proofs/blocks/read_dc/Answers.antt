@@ -1,5 +1,6 @@
 use Rattle.std.proofs.Common.{◌≡◌, ◌+ℤ◌, FitsSigned, w16, rules}
 use Rattle.std.proofs.lemmas.Int.{to_z-of_z}
+use Rattle.jpeg_bits.specs.Entropy.{upcoming}
 use Rattle.jpeg_decoder.specs.Bands.{wrapped}
 use Rattle.jpeg_decoder.proofs.WholeBlocks.{dc_read}
 use Rattle.jpeg_decoder.proofs.blocks.read_dc.Goals as goal
@@ -15,5 +16,5 @@ returns g c =
       c.in_ok-difference.ensures.0,
       λ k.
           let at = c.in_ok-difference.ensures.1 k in
-          (at.0, dc_read c.args.table.now c.args.predictor c.in_ok-difference.difference c.wrapped_sum.result _ _ is at.1),
+          (at.0, dc_read c.args.table.now c.args.predictor c.in_ok-difference.difference c.wrapped_sum.result (upcoming c.args.decoder.now c.args.source.now.bytes) (upcoming c.read_difference.new.decoder c.read_difference.new.source.bytes) is at.1),
     )

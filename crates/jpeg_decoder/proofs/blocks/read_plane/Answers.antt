@@ -1,5 +1,4 @@
-use Rattle.std.proofs.Common.{◌≡◌, ◌∙◌, ap, sym, ℕ, List, Vec, Option}
-use Rattle.jpeg_bits.specs.Reading.{Answers}
+use Rattle.std.proofs.Common.{◌∙◌, ap, sym, ℕ, List}
 use Rattle.jpeg_decoder.specs.Raster.{plane_by_rows}
 use Rattle.jpeg_decoder.specs.Scans.{plane_at}
 use Rattle.jpeg_decoder.proofs.BlockRuns.{first_via}

@@ -1,9 +1,9 @@
-use Rattle.std.proofs.Common.{[], ◌≡◌, ◌∙◌, ◌++◌, ◌-◌, pos, ℤ, ℕ, List, length, take, replicate, w16, rules, arith, sym, ap, refl, to_z}
-use Rattle.std.proofs.lemmas.Int.{to_z-of_z}
+use Rattle.std.proofs.Common.{[], ◌≡◌, ◌∙◌, ◌++◌, ℤ, ℕ, List, rules, ap}
 use Rattle.std.proofs.lemmas.Result.{err_from_is_err_and}
-use Rattle.jpeg_pixels.specs.Planes.{strip_of, zero_coefficients}
+use Rattle.jpeg_bits.specs.Entropy.{upcoming}
+use Rattle.jpeg_pixels.specs.Planes.{strip_of}
 use Rattle.jpeg_decoder.specs.Rows.{filled, row_from, rows_from}
-use Rattle.jpeg_decoder.proofs.WholeBlocks.{Leads-err}
+use Rattle.jpeg_decoder.proofs.WholeBlocks.{refused_behind}
 use Rattle.jpeg_decoder.proofs.RowSteps.{rows_refused, rows_step}
 use Rattle.jpeg_decoder.proofs.blocks.read_rows.Goals as goal
 
@@ -14,7 +14,7 @@ returns-in_err-read_row g c =
     let ac = c.args.ac_table.now in
     let table = c.args.quantization_table.now in
     let grid = c.args.grid in
-    rw (e.1, e.2) (Leads-err (λ (u : Unit {0}). []) (λ (u : Unit {0}). (c.read_row.new.row.items, c.read_row.new.predictor, c.read_row.new.run))
+    rw (e.1, e.2) (refused_behind (λ (u : Unit {0}). []) (λ (u : Unit {0}). (c.read_row.new.row.items, c.read_row.new.predictor, c.read_row.new.run))
     (rows_from grid table dc ac [] grid.own_high c.args.predictor.now c.args.run.now) (rows_from grid table dc ac c.loop-left.plane.items c.loop-left.left c.loop-left.predictor c.loop-left.run)
     (row_from dc ac [] grid.own_wide c.loop-left.predictor c.loop-left.run)
     c.args.decoder.now c.loop-left.decoder c.read_row.new.decoder c.args.source.now c.loop-left.source c.read_row.new.source _
@@ -38,5 +38,5 @@ loop-left-preserved g c =
       λ k.
           let at = p.1 k in
           let by = q.1 at.0 in
-          (by.0, at.1 ∙ rows_step grid table dc ac c.loop-left.plane.items c.append_row.new.plane.items c.loop-left.left c.loop-left.predictor c.read_row.new.predictor c.loop-left.run c.read_row.new.run row _ _ c.loop-left-test.true more by.1),
+          (by.0, at.1 ∙ rows_step grid table dc ac c.loop-left.plane.items c.append_row.new.plane.items c.loop-left.left c.loop-left.predictor c.read_row.new.predictor c.loop-left.run c.read_row.new.run row (upcoming c.loop-left.decoder c.loop-left.source.bytes) (upcoming c.read_row.new.decoder c.read_row.new.source.bytes) c.loop-left-test.true more by.1),
     )
