@@ -9,3 +9,5 @@ pub mod Calls
 pub mod WrittenBits
 pub mod Tables
 pub mod EndLemmas
+pub mod MarkerLemmas
+pub mod Rules

@@ -1,7 +1,7 @@
 -- Huffman codes (T.81, Annex C), and the code that begins some bits.
-use Rattle.std.specs.Prelude.{◌≡◌, ℕ, zero, suc, ◌+◌, ◌-◌, ◌*◌, ◌^◌, ◌<◌, ◌≤◌, List, [], ◌∷◌, ◌++◌, length, take, drop, replicate, Bool, true, false, Option, Some, None, Result, Ok, Err, ◌==◌, if◌then◌else◌, sum_by, slice_index, ◌⊎◌, ◌/◌, ◌%◌, ◌&&◌, nat_lt, nat_le, ℤ}
+use Rattle.std.specs.Prelude.{◌≡◌, ℕ, zero, suc, ◌+◌, ◌-◌, ◌^◌, ◌<◌, List, [], ◌∷◌, ◌++◌, length, take, replicate, Bool, true, false, Option, Some, None, Result, Ok, Err, ◌==◌, if◌then◌else◌, sum_by, slice_index, ◌/◌, ◌%◌, ◌&&◌, nat_lt, nat_le, ℤ}
 use Rattle.std.specs.Option.{option_map}
-use Rattle.jpeg_bits.specs.Reading.{Outcome, Fault, Malformed, Names, MayFail, ◌>>=◌}
+use Rattle.jpeg_bits.specs.Reading.{Fault, Malformed, ◌>>=◌}
 use Rattle.jpeg_bits.specs.Entropy.{Text, advance, number_of, has_bits}
 use Rattle.jpeg_bits.specs.Readers.{Reads, read_on, gives, signed_from}
 use Rattle.jpeg_bits.specs.declared.error.Error.{Error}

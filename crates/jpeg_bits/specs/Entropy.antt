@@ -1,6 +1,6 @@
 -- Entropy-coded data (F.1.2.3, B.1.1.5): the bits that come, and how they end.
-use Rattle.std.specs.Prelude.{◌≡◌, ℕ, ℤ, pos, ◌-ℤ◌, ◌-◌, nat_lt, zero, suc, ◌+◌, ◌*◌, ◌/◌, ◌%◌, ◌^◌, ◌≤◌, List, [], ◌∷◌, ◌++◌, length, take, drop, replicate, Bool, true, false, Option, Some, None, Result, Ok, Err, nat_le, ◌==◌, if◌then◌else◌, fold}
-use Rattle.jpeg_bits.specs.Reading.{Outcome, Fault, Malformed, End, Names, MayFail, IsGivenUp, ◌>>=◌, next_byte}
+use Rattle.std.specs.Prelude.{◌≡◌, ℕ, ℤ, pos, ◌-ℤ◌, ◌-◌, nat_lt, ◌+◌, ◌*◌, ◌/◌, ◌%◌, ◌^◌, ◌≤◌, List, [], ◌∷◌, ◌++◌, length, take, drop, replicate, Bool, true, false, Option, Some, None, Result, Ok, Err, nat_le, ◌==◌, if◌then◌else◌, fold}
+use Rattle.jpeg_bits.specs.Reading.{Outcome, Fault, Malformed, End, Names, MayFail, IsGivenUp, ◌>>=◌}
 use Rattle.jpeg_bits.specs.Marker.{marker_of}
 use Rattle.jpeg_bits.specs.Stream.{Stream}
 use Rattle.jpeg_bits.specs.declared.marker.Marker.{Marker}

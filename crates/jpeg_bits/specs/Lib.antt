@@ -1,8 +1,10 @@
 pub mod Stream
 pub mod Reading
 pub mod Marker
+pub mod NextMarker
 pub mod Entropy
 pub mod Readers
 pub mod Codes
+pub mod Refusals
 pub mod Ends
 pub mod Written

@@ -7,7 +7,7 @@ pub use crate::source::Source;
 use std::alloc::{AllocError, AllocFailed};
 use std::io;
 
-/// A feature of JPEG that is refused by name.
+/// A feature of JPEG that is refused by name. A number is what the stream asks for.
 #[derive(Clone, Debug, PartialEq, Eq, Hash, Drop)]
 pub enum UnsupportedFeature {
     Hierarchical,
@@ -23,18 +23,24 @@ pub enum UnsupportedFeature {
 /// Why a stream could not be decoded.
 #[derive(Debug, Drop, thiserror::Error)]
 pub enum Error {
+    /// The stream breaks a rule, which the text says.
     #[error("invalid JPEG format: {0}")]
     Format(String),
+    /// The stream asks for a feature that is not there.
     #[error("unsupported JPEG feature: {0:?}")]
     Unsupported(UnsupportedFeature),
+    /// A read failed, or the bytes end too soon.
     #[error(transparent)]
     Io(io::Error),
+    /// A call that is not allowed in the state the decoder is in.
     #[error("{0}")]
     Internal(&'static str),
+    /// Memory is wanting.
     #[error("out of memory")]
     OutOfMemory,
 }
 
+/// What a call answers: a value, or why there is none.
 pub type Result<T> = std::result::Result<T, Error>;
 
 impl From<io::Error> for Error {

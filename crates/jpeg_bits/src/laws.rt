@@ -1,10 +1,14 @@
 //! What the definitions of entropy-coded data mean in plain words, each a theorem on a function without a body.
-ghost use Rattle.std.specs.Prelude.{◌≡◌, ℕ, ◌<◌, ◌≤◌, ◌^◌, List, Bool, true, drop, length, slice_index, Some};
+ghost use Rattle.std.specs.Prelude.{◌≡◌, ℕ, ◌<◌, ◌≤◌, ◌^◌, List, Bool, true, drop, length, slice_index, Some, Ok, Err};
 ghost use Rattle.jpeg_bits.specs.Entropy.{bits_from, text_at, upcoming, fresh, advance, marker_from};
 ghost use Rattle.jpeg_bits.specs.Codes.{Table, IsTable, HasCodes, codes_exist, code_lengths, code_in, begins, symbol_from};
 ghost use Rattle.jpeg_bits.specs.Written.{low_bits, code_bits};
 ghost use Rattle.jpeg_bits.specs.Readers.{ReadsJust};
 ghost use Rattle.jpeg_bits.specs.Ends.{end_behind};
+ghost use Rattle.jpeg_bits.specs.Reading.{Fault, End};
+ghost use Rattle.jpeg_bits.specs.Marker.{next_marker};
+ghost use Rattle.jpeg_bits.specs.NextMarker.{IsNextMarker, HasNoMarker};
+ghost use Rattle.jpeg_bits.specs.declared.marker.Marker.{Marker};
 
 /// A number is read of its bits, and nothing else.
 pub fn numbers_are_read()
@@ -37,4 +41,15 @@ pub fn intervals_end()
 pub fn codes_exist_or_not()
     ensures exist { (lengths : List ℕ) → HasCodes lengths → codes_exist lengths ≡ true }
     ensures tested { (lengths : List ℕ) → codes_exist lengths ≡ true → HasCodes lengths }
+{}
+
+/// The next marker is at the least index where a byte 255 and the byte behind it make a marker (T.81, B.1.1.2), and
+/// what is read on is all behind both. Where they make one at no index, the bytes end first.
+pub fn next_markers_are_first()
+    ensures found { (bytes : List ℕ) (i : ℕ) (m : Marker) (rest : List ℕ) → IsNextMarker bytes i m rest →
+        next_marker bytes ≡ Ok (m, rest) }
+    ensures only { (bytes : List ℕ) (m : Marker) (rest : List ℕ) → next_marker bytes ≡ Ok (m, rest) →
+        (i : ℕ) × IsNextMarker bytes i m rest }
+    ensures none { (bytes : List ℕ) → HasNoMarker bytes → next_marker bytes ≡ Err End }
+    ensures refused { (bytes : List ℕ) (f : Fault) → next_marker bytes ≡ Err f → HasNoMarker bytes }
 {}

@@ -8,7 +8,9 @@ use std::alloc::Global;
 use std::io;
 use std::io::{ErrorKind, Read};
 
-/// A refusal of a broken rule, whose text says which.
+/// A refusal of a broken rule, whose text says which: a `Format`, or `OutOfMemory` where there is none for the text.
+#[cold]
+#[inline(never)]
 pub fn format_error(alloc: Global, text: &str) -> Error
     ensures { NamesFormat result }
 {
@@ -18,14 +20,16 @@ pub fn format_error(alloc: Global, text: &str) -> Error
     }
 }
 
-/// The refusal where the bytes end.
+/// The refusal where the bytes end: an `Io` of the kind `UnexpectedEof`.
+#[cold]
+#[inline(never)]
 pub fn end_of_bytes() -> Error
     ensures { NamesEnd result }
 {
     Error::Io(io::Error::new(ErrorKind::UnexpectedEof, "failed to fill whole buffer"))
 }
 
-/// The next byte.
+/// The next byte. It is `Io` where the bytes end or a read fails.
 pub fn read_u8<R: Read + Drop>(alloc: Global, source: &mut Source<R>) -> Result<u8>
     ensures answers { Answers (λ b. b) next_byte source.old result source.new }
     ensures short { IsShort source.old }
@@ -38,7 +42,7 @@ pub fn read_u8<R: Read + Drop>(alloc: Global, source: &mut Source<R>) -> Result<
     Ok(buffer[0])
 }
 
-/// The next two bytes as a number, the higher first.
+/// The next two bytes as a number, the higher first (T.81, B.1.1.1). Errors are those of `read_u8`.
 #[tactic(auto, unfolding(crate::specs::Reading::next_u16))]
 pub fn read_u16_be<R: Read + Drop>(alloc: Global, source: &mut Source<R>) -> Result<u16>
     ensures { Answers (λ n. n) next_u16 source.old result source.new }
@@ -48,7 +52,8 @@ pub fn read_u16_be<R: Read + Drop>(alloc: Global, source: &mut Source<R>) -> Res
     Ok(256 * u16::from(high) + u16::from(low))
 }
 
-/// A length field, which counts itself: how many bytes follow it.
+/// A length field of two bytes, which counts itself (T.81, B.1.1.4): how many bytes follow it. It is `Format` where
+/// the field is below 2; the other errors are those of `read_u8`.
 #[tactic(auto, unfolding(crate::specs::Reading::length_at))]
 pub fn read_length<R: Read + Drop>(alloc: Global, source: &mut Source<R>) -> Result<u16>
     ensures { Answers (λ n. n) length_at source.old result source.new }
@@ -60,7 +65,7 @@ pub fn read_length<R: Read + Drop>(alloc: Global, source: &mut Source<R>) -> Res
     Ok(length - 2)
 }
 
-/// Passes over `count` bytes.
+/// Passes over `count` bytes. Errors are those of `read_u8`.
 #[tactic(auto, using(crate::proofs::Skips::skip_more, crate::proofs::Skips::skip_none))]
 pub fn skip<R: Read + Drop>(alloc: Global, source: &mut Source<R>, count: u16) -> Result<()>
     ensures { Answers (λ u. u) (skip_at count) source.old result source.new }

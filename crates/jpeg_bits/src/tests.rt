@@ -1,8 +1,10 @@
-use crate::error::Error;
+use crate::color_transform::ColorTransform;
+use crate::error::{Error, UnsupportedFeature};
 use crate::huffman::{HuffmanDecoder, HuffmanTable, HuffmanTableClass};
 use crate::marker::{Marker, read_marker};
-use crate::reads::{read_u16_be, skip};
+use crate::reads::{end_of_bytes, format_error, read_length, read_u8, read_u16_be, skip};
 use crate::source::Source;
+use std::alloc::{AllocError, Global};
 use std::io;
 use std::io::{ErrorKind, Read};
 use std::test::Fail;
@@ -102,13 +104,80 @@ const SYMBOLS: [u8; 12] = [0, 1, 2, 3, 4, 5, 6, 7, 8, 9, 10, 11];
 #[test]
 fn symbols_and_signed_values(rt: HostRuntime) -> Result<(), Fail> {
     let table = HuffmanTable::new(rt.alloc(), &COUNTS, &SYMBOLS, HuffmanTableClass::DC)?;
-    let mut source = Source::new(reader_of(&[0b1110_0111, 0xff, 0xd9], 1));
+    for step in 1..4 {
+        let mut source = Source::new(reader_of(&[0b1110_0111, 0xff, 0xd9], step));
+        let mut decoder = HuffmanDecoder::new(rt.alloc());
+        assert_eq!(rt; decoder.decode(&mut source, &table)?, 6);
+        assert_eq!(rt; decoder.receive_extend(&mut source, 2)?, -2);
+        assert_eq!(rt; decoder.get_bits(&mut source, 2)?, 3);
+        assert_eq!(rt; decoder.get_bits(&mut source, 16)?, 0);
+        assert!(rt; decoder.take_marker(&mut source)? == Some(Marker::EOI));
+    }
+    Ok(())
+}
+
+#[test]
+fn a_code_takes_its_bits(rt: HostRuntime) -> Result<(), Fail> {
+    let table = HuffmanTable::new(rt.alloc(), &COUNTS, &SYMBOLS, HuffmanTableClass::DC)?;
+    let mut source = Source::new(reader_of(&[0b1110_0101, 0xff, 0xd9], 2));
     let mut decoder = HuffmanDecoder::new(rt.alloc());
     assert_eq!(rt; decoder.decode(&mut source, &table)?, 6);
-    assert_eq!(rt; decoder.receive_extend(&mut source, 2)?, -2);
-    assert_eq!(rt; decoder.get_bits(&mut source, 2)?, 3);
-    assert_eq!(rt; decoder.get_bits(&mut source, 16)?, 0);
-    assert!(rt; decoder.take_marker(&mut source)? == Some(Marker::EOI));
+    assert_eq!(rt; decoder.get_bits(&mut source, 4)?, 5);
+    Ok(())
+}
+
+#[test]
+fn more_bits_than_are_held_at_once(rt: HostRuntime) -> Result<(), Fail> {
+    let mut source = Source::new(reader_of(
+        &[
+            1, 2, 0xff, 0, 3, 4, 5, 6, 7, 8, 9, 10, 11, 12, 13, 14, 15, 16, 0xff, 0xd8,
+        ],
+        3,
+    ));
+    let mut decoder = HuffmanDecoder::new(rt.alloc());
+    assert_eq!(rt; decoder.get_bits(&mut source, 4)?, 0);
+    for value in [
+        0x10, 0x2f, 0xf0, 0x30, 0x40, 0x50, 0x60, 0x70, 0x80, 0x90, 0xa0, 0xb0, 0xc0, 0xd0, 0xe0,
+        0xf1,
+    ] {
+        assert_eq!(rt; decoder.get_bits(&mut source, 8)?, value);
+    }
+    assert_eq!(rt; decoder.get_bits(&mut source, 8)?, 0);
+    assert!(rt; decoder.take_marker(&mut source)? == Some(Marker::SOI));
+    Ok(())
+}
+
+#[test]
+fn short_tokens(rt: HostRuntime) -> Result<(), Fail> {
+    // Codes 0 and 10: run 1 and size 2, and run 0 and size 7, whose code and value are 9 bits.
+    let mut counts = [0u8; 16];
+    counts[0] = 1;
+    counts[1] = 1;
+    let symbols = [0x12, 0x07];
+    let table = HuffmanTable::new(rt.alloc(), &counts, &symbols, HuffmanTableClass::AC)?;
+    let mut source = Source::new(reader_of(&[0b0011_1000, 0b0001_1111, 0xff, 0xd9], 1));
+    let mut decoder = HuffmanDecoder::new(rt.alloc());
+    assert!(rt; decoder.decode_fast_ac(&mut source, &table)? == Some((-2, 1)));
+    assert_eq!(rt; decoder.get_bits(&mut source, 1)?, 1);
+    assert!(rt; decoder.decode_fast_ac(&mut source, &table)? == None);
+    assert_eq!(rt; decoder.decode(&mut source, &table)?, 0x07);
+    assert_eq!(rt; decoder.receive_extend(&mut source, 7)?, -124);
+    Ok(())
+}
+
+#[test]
+fn codes_of_ones(rt: HostRuntime) -> Result<(), Fail> {
+    let mut counts = [0u8; 16];
+    counts[0] = 2;
+    let table = HuffmanTable::new(rt.alloc(), &counts, &[5, 9], HuffmanTableClass::DC)?;
+    let mut source = Source::new(reader_of(&[0b1010_0000, 0xff, 0xd9], 1));
+    let mut decoder = HuffmanDecoder::new(rt.alloc());
+    assert_eq!(rt; decoder.decode(&mut source, &table)?, 9);
+    assert_eq!(rt; decoder.decode(&mut source, &table)?, 5);
+    let table = HuffmanTable::new(rt.alloc(), &COUNTS, &SYMBOLS, HuffmanTableClass::DC)?;
+    let mut source = Source::new(reader_of(&[0xff, 0, 0xff, 0, 0xff, 0xd9], 2));
+    let mut decoder = HuffmanDecoder::new(rt.alloc());
+    assert!(rt; matches!(decoder.decode(&mut source, &table), Err(Error::Format(_))));
     Ok(())
 }
 
@@ -120,8 +189,160 @@ fn an_end_within_56_bits(rt: HostRuntime) -> Result<(), Fail> {
     assert!(rt; decoder.take_marker(&mut source)? == Some(Marker::RST(0)));
     let mut source = Source::new(reader_of(&[0x43, 0, 0, 0, 0, 0, 0, 0, 0xff, 0xd0], 3));
     let mut decoder = HuffmanDecoder::new(rt.alloc());
+    assert_eq!(rt; decoder.get_bits(&mut source, 8)?, 0x43);
+    assert!(rt; decoder.take_marker(&mut source)? == Some(Marker::RST(0)));
+    Ok(())
+}
+
+#[test]
+fn an_end_behind_57_bits(rt: HostRuntime) -> Result<(), Fail> {
+    let mut source = Source::new(reader_of(&[0x43, 0, 0, 0, 0, 0, 0, 0, 0xff, 0xd0], 3));
+    let mut decoder = HuffmanDecoder::new(rt.alloc());
     assert_eq!(rt; decoder.get_bits(&mut source, 7)?, 0x21);
     assert!(rt; decoder.take_marker(&mut source)? == None);
+    assert!(rt; read_marker(rt.alloc(), &mut source)? == Marker::RST(0));
+    Ok(())
+}
+
+#[test]
+fn fill_bytes_before_a_marker_and_before_none(rt: HostRuntime) -> Result<(), Fail> {
+    let mut source = Source::new(reader_of(&[0x12, 0xff, 0xff, 0xff, 0xd3], 2));
+    let mut decoder = HuffmanDecoder::new(rt.alloc());
+    assert!(rt; decoder.take_marker(&mut source)? == Some(Marker::RST(3)));
+    let mut source = Source::new(reader_of(&[0x12, 0xff, 0xff, 0, 0xff, 0xd9], 2));
+    let mut decoder = HuffmanDecoder::new(rt.alloc());
+    assert_eq!(rt; decoder.get_bits(&mut source, 8)?, 0x12);
+    assert!(rt; matches!(decoder.take_marker(&mut source), Err(Error::Format(_))));
+    Ok(())
+}
+
+#[test]
+fn a_reset_forgets_bits_but_no_marker(rt: HostRuntime) -> Result<(), Fail> {
+    let mut source = Source::new(reader_of(&[0xff, 0, 0xff, 0xd9], 1));
+    let mut decoder = HuffmanDecoder::new(rt.alloc());
+    assert_eq!(rt; decoder.get_bits(&mut source, 1)?, 1);
+    decoder.reset();
+    assert_eq!(rt; decoder.get_bits(&mut source, 8)?, 0);
+    assert!(rt; decoder.take_marker(&mut source)? == Some(Marker::EOI));
+    Ok(())
+}
+
+#[test]
+fn bits_behind_the_end(rt: HostRuntime) -> Result<(), Fail> {
+    let mut source = Source::new(reader_of(&[0x81], 1));
+    let mut decoder = HuffmanDecoder::new(rt.alloc());
+    assert_eq!(rt; decoder.get_bits(&mut source, 8)?, 0x81);
+    assert!(rt; matches!(decoder.get_bits(&mut source, 1), Err(Error::Io(_))));
+    assert!(rt; matches!(decoder.take_marker(&mut source), Err(Error::Io(_))));
+    assert!(rt; !source.has_failed());
+    Ok(())
+}
+
+const BYTES: [u8; 6] = [0x81, 0xff, 0, 0xff, 0xff, 0xd9];
+
+#[test]
+fn bits_of_a_read_that_fails(rt: HostRuntime) -> Result<(), Fail> {
+    for number in 0..6 {
+        let mut reader = reader_of(&BYTES, 1);
+        reader.refused = Some((number, ErrorKind::Other));
+        let mut source = Source::new(reader);
+        let mut decoder = HuffmanDecoder::new(rt.alloc());
+        match decoder.get_bits(&mut source, 1) {
+            Err(Error::Io(e)) => assert!(rt; e.kind() == ErrorKind::Other),
+            _ => assert!(rt; false, "no failure at {number}"),
+        }
+        assert!(rt; source.has_failed());
+    }
+    Ok(())
+}
+
+#[test]
+fn bits_of_a_read_that_is_interrupted(rt: HostRuntime) -> Result<(), Fail> {
+    for number in 0..6 {
+        let mut reader = reader_of(&BYTES, 1);
+        reader.refused = Some((number, ErrorKind::Interrupted));
+        let mut source = Source::new(reader);
+        let mut decoder = HuffmanDecoder::new(rt.alloc());
+        assert_eq!(rt; decoder.get_bits(&mut source, 16)?, 0x81ff);
+        assert!(rt; decoder.take_marker(&mut source)? == Some(Marker::EOI));
+        assert!(rt; !source.has_failed());
+    }
+    Ok(())
+}
+
+#[test]
+fn bytes_and_lengths(rt: HostRuntime) -> Result<(), Fail> {
+    let mut source = Source::new(reader_of(&[7, 0, 4, 8, 9, 0, 1], 2));
+    assert_eq!(rt; read_u8(rt.alloc(), &mut source)?, 7);
+    assert_eq!(rt; read_length(rt.alloc(), &mut source)?, 2);
+    skip(rt.alloc(), &mut source, 2)?;
+    assert!(rt; matches!(read_length(rt.alloc(), &mut source), Err(Error::Format(_))));
+    Ok(())
+}
+
+#[test]
+fn codes_of_markers(rt: HostRuntime) {
+    for (code, marker) in [
+        (0x00, None),
+        (0x01, Some(Marker::TEM)),
+        (0x02, Some(Marker::RES)),
+        (0xbf, Some(Marker::RES)),
+        (0xc2, Some(Marker::SOF(2))),
+        (0xc4, Some(Marker::DHT)),
+        (0xc8, Some(Marker::JPG)),
+        (0xcc, Some(Marker::DAC)),
+        (0xcf, Some(Marker::SOF(15))),
+        (0xd7, Some(Marker::RST(7))),
+        (0xd8, Some(Marker::SOI)),
+        (0xd9, Some(Marker::EOI)),
+        (0xda, Some(Marker::SOS)),
+        (0xdb, Some(Marker::DQT)),
+        (0xdc, Some(Marker::DNL)),
+        (0xdd, Some(Marker::DRI)),
+        (0xde, Some(Marker::DHP)),
+        (0xdf, Some(Marker::EXP)),
+        (0xee, Some(Marker::APP(14))),
+        (0xfd, Some(Marker::JPGn(13))),
+        (0xfe, Some(Marker::COM)),
+        (0xff, None),
+    ] {
+        assert!(rt; Marker::from_u8(code) == marker, "at {code}");
+    }
+    assert!(rt; Marker::SOS.has_length());
+    assert!(rt; !Marker::EOI.has_length());
+}
+
+fn says(alloc: Global, error: &Error, text: &str) -> Result<bool, AllocError> {
+    Ok(format!(in alloc; "{error}")?.as_str() == text)
+}
+
+#[test]
+fn texts_of_errors(rt: HostRuntime) -> Result<(), Fail> {
+    let alloc = rt.alloc();
+    for (error, text) in [
+        (format_error(alloc, "x"), "invalid JPEG format: x"),
+        (
+            Error::Unsupported(UnsupportedFeature::DNL),
+            "unsupported JPEG feature: DNL",
+        ),
+        (
+            Error::Unsupported(UnsupportedFeature::SamplePrecision(12)),
+            "unsupported JPEG feature: SamplePrecision(12)",
+        ),
+        (
+            Error::Unsupported(UnsupportedFeature::ColorTransform(ColorTransform::YCbCr)),
+            "unsupported JPEG feature: ColorTransform(YCbCr)",
+        ),
+        (end_of_bytes(), "failed to fill whole buffer"),
+        (
+            Error::from(io::Error::new(ErrorKind::Other, "a call of the test")),
+            "a call of the test",
+        ),
+        (Error::Internal("decoder has failed"), "decoder has failed"),
+        (Error::from(AllocError), "out of memory"),
+    ] {
+        assert!(rt; says(alloc, &error, text)?, "{text}");
+    }
     Ok(())
 }
 

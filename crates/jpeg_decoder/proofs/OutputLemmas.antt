@@ -1,0 +1,42 @@
+-- What is written for a stream, by its meaning.
+use Rattle.std.proofs.Common.{◌≡◌, ◌^◌, ℕ, List, ◌++◌, Bool, true, false, length, option_map, Option, None, Some, Ok, Err, refl, IsSome, rules}
+use Rattle.std.proofs.lemmas.Bool.{lt-ltb}
+use Rattle.jpeg_bits.specs.declared.error.Error.{Error}
+use Rattle.jpeg_bits.specs.declared.error.Error.TheVariants.{Format, Unsupported, Io, Internal, OutOfMemory}
+use Rattle.jpeg_bits.specs.Reading.{Fault, Malformed, Lacks, Names, IsGivenUp}
+use Rattle.jpeg_bits.specs.Stream.{stream_of}
+use Rattle.jpeg_decoder.specs.Seen.{info_of}
+use Rattle.jpeg_decoder.specs.Stream.{Found, meaning}
+use Rattle.jpeg_decoder.specs.Output.{output_of, line_of, default_settings, IsOutsideOrMemory, Tells}
+
+-- a new source of a reader that tells its bytes is known
+pub known-told : (remaining : Option (List ℕ)) (bytes : List ℕ) → Tells remaining bytes → (stream_of remaining false false).known ≡ true
+known-told remaining bytes tells = rw (tells.told, lt-ltb (length bytes) (2 ^ 64) tells.few) refl
+
+pub bytes-told : (remaining : Option (List ℕ)) (bytes : List ℕ) → Tells remaining bytes → (stream_of remaining false false).bytes ≡ bytes
+bytes-told remaining bytes tells = rw tells.told refl
+
+pub output-none : (bytes : List ℕ) (fault : Fault) → meaning default_settings bytes ≡ Err fault → output_of bytes ≡ None
+unfolding output_of
+output-none bytes fault e = rw (output_of, e) refl
+
+pub output-some : (bytes rest : List ℕ) (found : Found) (pixels : List ℕ) → meaning default_settings bytes ≡ Ok ((found, pixels), rest) → output_of bytes ≡ Some (line_of (option_map info_of found.frame) ++ pixels)
+unfolding output_of
+output-some bytes rest found pixels e = rw (output_of, e) refl
+
+not-some : {P : Type 0} (o : Option (List ℕ)) → o ≡ None → IsSome o → P
+not-some None e h = absurd (let n : ⊥ = search rules in n)
+not-some (Some x) e h = absurd (let n : ⊥ = cc in n)
+
+-- an error at a stream with a meaning is the reader's, or want of memory
+pub outside-decode : (known : Bool) (e : Error) (bytes : List ℕ) → (known ≡ true → Names e (meaning default_settings bytes)) → (known ≡ false → IsGivenUp e) → IsSome (output_of bytes) → IsOutsideOrMemory e
+outside-decode true (Format text) bytes r f s = not-some (output_of bytes) (output-none bytes Malformed (r refl)) s
+outside-decode true (Unsupported feature) bytes r f s = not-some (output_of bytes) (output-none bytes (Lacks feature) (r refl)) s
+outside-decode true (Io error) bytes r f s = tt
+outside-decode true (Internal text) bytes r f s = r refl
+outside-decode true OutOfMemory bytes r f s = tt
+outside-decode false (Format text) bytes r f s = f refl
+outside-decode false (Unsupported feature) bytes r f s = f refl
+outside-decode false (Io error) bytes r f s = tt
+outside-decode false (Internal text) bytes r f s = f refl
+outside-decode false OutOfMemory bytes r f s = tt

@@ -1,0 +1,121 @@
+-- What a scan leaves.
+use Rattle.std.proofs.Common.{◌+◌, ◌-◌, ◌*◌, ◌/◌, ◌%◌, ◌^◌, ◌<◌, ℕ, zero, suc, List, [], ◌∷◌, drop, replicate, set, get_or, Bool, true, false, Option, Err, ℤ, pos, length}
+use Rattle.std.specs.Prelude.{◌==◌, nat_le, nat_lt}
+use Rattle.jpeg_bits.specs.Reading.{Outcome, Malformed}
+use Rattle.jpeg_bits.specs.Entropy.{upcoming, fresh, marker_from, bits_from}
+use Rattle.jpeg_bits.specs.Readers.{Reads, gives, refused, signed_from}
+use Rattle.jpeg_bits.specs.Codes.{Table, symbol_from, code_from}
+use Rattle.jpeg_bits.specs.declared.marker.Marker.{Marker}
+use Rattle.jpeg_decoder.specs.declared.blocks.Token.{Token}
+use Rattle.jpeg_decoder.specs.declared.blocks.Token.TheVariants.{Value, Sixteen, Rest, Overlong}
+use Rattle.jpeg_decoder.specs.declared.blocks.Grid.{Grid}
+use Rattle.jpeg_decoder.specs.Bands.{Band, category_number, difference, first_dc, token_at, token_from, behind_token, first_ac}
+use Rattle.jpeg_decoder.specs.Passes.{Pass, Via, Block, dc_part, band_part, band_of, block_from, blocks_of, whole_pass, zero_block}
+use Rattle.jpeg_decoder.specs.Intervals.{interval, intervals, is_restart, blocks_before, predictors_at_start, first_group, other_groups}
+use Rattle.jpeg_decoder.specs.Scans.{plane_at}
+use Rattle.jpeg_decoder.proofs.Shorter.{LeavesBelow, below-ok, below-err, below-bind}
+use Rattle.jpeg_decoder.proofs.ShorterTexts.{StaysBelow, bind-stays, gives-stays, refused-stays, elim-stays, bits-stays, signed-stays, code-stays, symbol-stays, texts-below, upcoming-below, marker_from-below}
+
+-- ---- blocks
+
+category-stays : (limit s : ℕ) → StaysBelow limit (category_number s)
+category-stays limit s = elim-stays limit (s == 0) (gives (pos 0)) (signed_from s) (gives-stays limit _) (signed-stays limit s)
+
+difference-stays : (limit : ℕ) (table : Table) → StaysBelow limit (difference table)
+unfolding difference
+difference-stays limit table =
+    bind-stays limit (symbol_from table) _ (symbol-stays limit table) (λ s.
+    elim-stays limit (nat_le s 11) (category_number s) refused (category-stays limit s) (refused-stays ℤ limit))
+
+first_dc-stays : (limit : ℕ) (table : Table) (al : ℕ) (predictor : ℤ) → StaysBelow limit (first_dc table al predictor)
+unfolding first_dc
+first_dc-stays limit table al predictor =
+    bind-stays limit (difference table) _ (difference-stays limit table) (λ d. gives-stays limit _)
+
+token_at-stays : (limit room size r s : ℕ) → StaysBelow limit (token_at room size r s)
+unfolding token_at
+token_at-stays limit room size r s =
+    elim-stays limit (nat_lt 0 s) _ _
+    (elim-stays limit (nat_lt r room) _ _
+    (bind-stays limit (signed_from s) (λ v. gives (Value r v)) (signed-stays limit s) (λ v. gives-stays limit _))
+    (elim-stays limit (nat_le (size + s) 8) _ _
+    (bind-stays limit (signed_from s) (λ v. gives Overlong) (signed-stays limit s) (λ v. gives-stays limit _))
+    (gives-stays limit Overlong)))
+    (elim-stays limit (r == 15) _ _ (gives-stays limit Sixteen)
+    (bind-stays limit (bits_from r) (λ e. gives (Rest (2 ^ r - 1 + e))) (bits-stays limit r) (λ e. gives-stays limit _)))
+
+token_from-stays : (limit : ℕ) (table : Table) (room : ℕ) → StaysBelow limit (token_from table room)
+unfolding token_from
+token_from-stays limit table room =
+    bind-stays limit (code_from table) _ (code-stays limit table) (λ c. token_at-stays limit room c.0 (c.1 / 16) (c.1 % 16))
+
+behind-stays : (limit al : ℕ) (others : List ℤ → Reads Band) (rest : List ℤ) → ((rest : List ℤ) → StaysBelow limit (others rest)) → (token : Token) → StaysBelow limit (behind_token al others rest token)
+behind-stays limit al others rest h (Value r v) = bind-stays limit (others (drop (r + 1) rest)) _ (h (drop (r + 1) rest)) (λ more. gives-stays limit _)
+behind-stays limit al others rest h Sixteen = bind-stays limit (others (drop 16 rest)) _ (h (drop 16 rest)) (λ more. gives-stays limit _)
+behind-stays limit al others rest h (Rest run) = gives-stays limit _
+behind-stays limit al others rest h Overlong = gives-stays limit _
+
+first_ac-stays : (limit : ℕ) (table : Table) (al n : ℕ) (rest : List ℤ) → StaysBelow limit (first_ac table al n rest)
+unfolding first_ac
+first_ac-stays limit table al n [] = gives-stays limit _
+first_ac-stays limit table al zero (x ∷ rest) = refused-stays Band limit
+first_ac-stays limit table al (suc n) (x ∷ rest) =
+    bind-stays limit (token_from table (length (x ∷ rest))) _ (token_from-stays limit table (length (x ∷ rest)))
+    (behind-stays limit al (first_ac table al n) (x ∷ rest) (first_ac-stays limit table al n))
+
+dc-stays : (limit : ℕ) (p : Pass) (dc : Table) (z predictor : ℤ) → StaysBelow limit (dc_part p dc z predictor)
+unfolding dc_part
+dc-stays limit p dc z predictor =
+    elim-stays limit (p.ss == 0) _ _
+    (elim-stays limit p.is_first _ _ (first_dc-stays limit dc p.al predictor) (refused-stays (ℤ × ℤ) limit))
+    (gives-stays limit _)
+
+band-stays : (limit : ℕ) (p : Pass) (ac : Table) (band : List ℤ) (run : ℕ) → StaysBelow limit (band_part p ac band run)
+unfolding band_part
+band-stays limit p ac [] run = gives-stays limit _
+band-stays limit p ac (x ∷ band) zero =
+    elim-stays limit p.is_first _ _ (first_ac-stays limit ac p.al (length (x ∷ band)) (x ∷ band)) (refused-stays Band limit)
+band-stays limit p ac (x ∷ band) (suc run) = elim-stays limit p.is_first _ _ (gives-stays limit _) (refused-stays Band limit)
+
+block-stays : (limit : ℕ) (p : Pass) (dc ac : Table) (predictor : ℤ) (run : ℕ) (old : Block) → StaysBelow limit (block_from p dc ac predictor run old)
+unfolding block_from
+block-stays limit p dc ac predictor run old =
+    bind-stays limit (dc_part p dc old.dc predictor) _ (dc-stays limit p dc old.dc predictor) (λ d.
+    bind-stays limit (band_part p ac (band_of p old.acs) run) _ (band-stays limit p ac (band_of p old.acs) run) (λ b. gives-stays limit _))
+
+blocks-stay : (limit : ℕ) (p : Pass) (predictors : List ℤ) (run : ℕ) (turns : List (Via × Block)) → StaysBelow limit (blocks_of p predictors run turns)
+unfolding blocks_of
+blocks-stay limit p predictors run [] = gives-stays limit _
+blocks-stay limit p predictors run (t ∷ turns) =
+    bind-stays limit (block_from p t.0.dc t.0.ac (get_or predictors t.0.component (pos 0)) run t.1) _
+    (block-stays limit p t.0.dc t.0.ac (get_or predictors t.0.component (pos 0)) run t.1) (λ r.
+    bind-stays limit (blocks_of p (set predictors t.0.component r.1) r.2 turns) _
+    (blocks-stay limit p (set predictors t.0.component r.1) r.2 turns) (λ more. gives-stays limit _))
+
+-- ---- intervals
+
+interval-below : (limit : ℕ) (p : Pass) (turns : List (Via × Block)) (bytes : List ℕ) → length bytes < limit → LeavesBelow limit (interval p turns bytes)
+unfolding interval
+interval-below limit p turns bytes h =
+    texts-below limit (blocks_of p predictors_at_start 0 turns (upcoming fresh bytes)) _
+    ((blocks-stay limit p predictors_at_start 0 turns).stays (upcoming fresh bytes) (upcoming-below limit bytes h)) (λ r a.
+    below-bind limit limit (marker_from r.1) _ (marker_from-below limit r.1 a) (λ m q. below-ok limit _ m.1 q))
+
+restart-below : (limit : ℕ) (blocks : List Block) (others : Outcome (List Block × Option Marker)) (b : Bool) → LeavesBelow limit others
+    → LeavesBelow limit (elim b as (λ _. Outcome (List Block × Option Marker)) [ true ↦ blocks_before blocks others | false ↦ Err Malformed ])
+restart-below limit blocks others true h = below-bind limit limit others _ h (λ s u. below-ok limit _ s.1 u)
+restart-below limit blocks others false h = below-err (List Block × Option Marker) limit Malformed
+
+intervals-below : (limit : ℕ) (p : Pass) (k : ℕ) (turns : List (Via × Block)) (more : List (List (Via × Block))) (bytes : List ℕ) → length bytes < limit → LeavesBelow limit (intervals p k turns more bytes)
+unfolding intervals
+intervals-below limit p k turns [] bytes h = interval-below limit p turns bytes h
+intervals-below limit p k turns (next ∷ more) bytes h =
+    below-bind limit limit (interval p turns bytes) _ (interval-below limit p turns bytes h) (λ r q.
+    restart-below limit r.0.0 (intervals p (suc k) next more r.1) (is_restart k r.0.1) (intervals-below limit p (suc k) next more r.1 q))
+
+pub plane-below : (limit : ℕ) (g : Grid) (quantization : List ℕ) (via : Via) (bytes : List ℕ) → length bytes < limit → LeavesBelow limit (plane_at g quantization via bytes)
+unfolding plane_at
+plane-below limit g quantization via bytes h =
+    let turns : List (Via × Block) = replicate (g.own_high * g.own_wide) (via, zero_block) in
+    below-bind limit limit (intervals whole_pass 0 (first_group 0 turns) (other_groups 0 turns) bytes) _
+    (intervals-below limit whole_pass 0 (first_group 0 turns) (other_groups 0 turns) bytes h) (λ r q. below-ok limit _ r.1 q)

@@ -1,0 +1,25 @@
+use Rattle.std.proofs.Common.{◌≡◌, ◌∙◌, ap, sym, ◌++◌, Some, string_bytes, option_map, refl}
+use Rattle.jpeg_decoder.specs.Output.{line_of}
+use Rattle.jpeg_decoder.specs.Seen.{info_of}
+use Rattle.std.proofs.lemmas.Result.{err_from_is_err_and}
+use Rattle.jpeg_decoder.proofs.OutputLemmas.{outside-decode, output-some, known-told, bytes-told}
+use Rattle.jpeg_decoder.proofs.run.line_and_pixels.Goals as goal
+
+pub returns-in_err-pixels-clause-err : goal.returns-in_err-pixels-clause-err
+returns-in_err-pixels-clause-err g c bytes tells some =
+    let p = err_from_is_err_and c.from_residual-in_err-pixels.result c.from_residual-in_err-pixels.ensures.1 in
+    let reads = rw c.in_ok-decoder.ensures.ok at c.in_err-pixels.ensures.reads in
+    let known = known-told (g.R.Read.remaining c.args.reader) bytes tells in
+    let same = bytes-told (g.R.Read.remaining c.args.reader) bytes tells in
+    let here = reads refl in
+    rw (p.1, p.2) (outside-decode c.decode.new.self.source.known _ bytes (λ k. rw same at here.1 known k) (λ k. here.2 known k) some)
+
+pub returns-clause-ok : goal.returns-clause-ok
+returns-clause-ok g c bytes tells =
+    let reads = rw c.in_ok-decoder.ensures.ok at c.in_ok-pixels.ensures.reads in
+    let known = known-told (g.R.Read.remaining c.args.reader) bytes tells in
+    let same = bytes-told (g.R.Read.remaining c.args.reader) bytes tells in
+    let here = reads refl in
+    let all = rw same at (here.1 known).1 in
+    let text : string_bytes c.in_ok-line.line ≡ line_of (option_map info_of c.decode.new.self.found.frame) = c.in_ok-line.ensures ∙ ap line_of c.info.ensures in
+    output-some bytes c.decode.new.self.source.bytes c.decode.new.self.found c.in_ok-pixels.pixels.items all ∙ ap (λ xs. Some (xs ++ c.in_ok-pixels.pixels.items)) (sym text)

@@ -1,0 +1,16 @@
+pub mod Bands
+pub mod Lookups
+pub mod Passes
+pub mod Intervals
+pub mod Scans
+pub mod Rows
+pub mod Raster
+pub mod Stream
+pub mod States
+pub mod Seen
+pub mod Output
+pub mod Worked
+pub mod Steps
+pub mod PlanesIn
+pub mod Shapes
+pub mod Pixels

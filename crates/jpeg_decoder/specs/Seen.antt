@@ -1,0 +1,33 @@
+-- What a caller sees of the parts of a decoder.
+use Rattle.std.specs.Prelude.{nat_le, map, option_map, if◌then◌else◌}
+use Rattle.jpeg_segments.specs.Frame.{Frame}
+use Rattle.jpeg_segments.specs.FrameView.{frame_in}
+use Rattle.jpeg_decoder.specs.declared.state.State.{State}
+use Rattle.jpeg_decoder.specs.declared.decoder.Progress.{Progress}
+use Rattle.jpeg_decoder.specs.declared.decoder.Progress.TheVariants as progress
+use Rattle.jpeg_decoder.specs.declared.decoder.ImageInfo.{ImageInfo}
+use Rattle.jpeg_decoder.specs.declared.decoder.PixelFormat.TheVariants.{L8, L16}
+use Rattle.jpeg_decoder.specs.Stream.{Found}
+use Rattle.jpeg_decoder.specs.States.{Stage, Fresh, Finished, Failed}
+
+abbrev pub found_in : State → Found
+found_in s = record {
+  frame = option_map frame_in s.frame;
+  quantization = s.quantization;
+  huffman = record { dc = s.dc_tables; ac = s.ac_tables };
+  planes = map (λ p. option_map (λ v. v.items) p) s.planes;
+}
+
+abbrev pub stage_of : Progress → Stage
+stage_of progress.Fresh = Fresh
+stage_of progress.Finished = Finished
+stage_of progress.Failed = Failed
+
+-- what is told of a frame of one component: its output size, and 8 or 16 bits a sample
+abbrev pub info_of : Frame → ImageInfo
+info_of f = record {
+  width = f.output_width;
+  height = f.output_height;
+  pixel_format = (if nat_le f.precision 8 then L8 else L16);
+  coding_process = f.process;
+}

@@ -1,0 +1,170 @@
+//! The decoder and its states.
+ghost use Rattle.std.specs.Prelude.{◌≡◌, IfOk, IfErr, option_map, Err, false};
+ghost use Rattle.jpeg_bits.specs.Reading.{Answers};
+ghost use Rattle.jpeg_bits.specs.Stream.{stream_of};
+ghost use Rattle.jpeg_bits.specs.declared.error.Error.TheVariants.{OutOfMemory};
+ghost use Rattle.jpeg_decoder.specs.Stream.{nothing_found, meaning, told_by_stream};
+ghost use Rattle.jpeg_decoder.specs.States.{Decoding, MovesToEnd, OnTold, Fresh};
+ghost use Rattle.jpeg_decoder.specs.Seen.{info_of};
+ghost use Rattle.jpeg_segments.specs.FrameView.{frame_in};
+ghost use Rattle.jpeg_decoder.specs.Output.{default_settings};
+
+use crate::picture::read_stream;
+use crate::state::{Settings, State};
+pub use jpeg_bits::color_transform::ColorTransform;
+use jpeg_bits::error::{Error, Result};
+pub use jpeg_bits::scan::MAX_COMPONENTS;
+use jpeg_bits::source::Source;
+use jpeg_segments::parser::{CodingProcess, FrameInfo};
+use std::alloc::Global;
+use std::io::Read;
+use std::marker::Model;
+
+/// How the bytes of a picture stand for its pixels.
+#[derive(Clone, Copy, Debug, PartialEq)]
+pub enum PixelFormat {
+    /// One sample of 8 bits.
+    L8,
+    /// One sample of 16 bits, the lower byte first.
+    L16,
+    /// Red, green and blue, 8 bits each.
+    RGB24,
+    /// Cyan, magenta, yellow and black, 8 bits each.
+    CMYK32,
+}
+
+impl PixelFormat {
+    ghost use Rattle.std.specs.Prelude.{◌≡◌};
+    ghost use Rattle.jpeg_decoder.specs.Pixels.{bytes_a_pixel};
+
+    /// How many bytes a pixel takes.
+    pub fn pixel_bytes(&self) -> usize
+        ensures { result ≡ bytes_a_pixel self.now }
+    {
+        match self {
+            PixelFormat::L8 => 1,
+            PixelFormat::L16 => 2,
+            PixelFormat::RGB24 => 3,
+            PixelFormat::CMYK32 => 4,
+        }
+    }
+}
+
+/// What a frame header tells of the picture.
+#[derive(Clone, Copy, Debug, PartialEq)]
+pub struct ImageInfo {
+    pub width: u16,
+    pub height: u16,
+    pub pixel_format: PixelFormat,
+    pub coding_process: CodingProcess,
+}
+
+/// What a frame of one component tells.
+fn info_of(frame: &FrameInfo) -> ImageInfo
+    ensures { result ≡ info_of (frame_in frame.now) }
+{
+    ImageInfo {
+        width: frame.output_size.width,
+        height: frame.output_size.height,
+        pixel_format: if frame.precision <= 8 {
+            PixelFormat::L8
+        } else {
+            PixelFormat::L16
+        },
+        coding_process: frame.coding_process,
+    }
+}
+
+/// How far a decoder has come.
+#[derive(Clone, Copy, Debug, PartialEq)]
+enum Progress {
+    Fresh,
+    Finished,
+    Failed,
+}
+
+/// Decodes one stream.
+#[derive(Drop)]
+pub struct Decoder<R: Read + Drop> {
+    alloc: Global,
+    source: Source<R>,
+    progress: Progress,
+    state: State,
+    settings: Settings,
+}
+
+impl<R: Read + Drop> Model for Decoder<R> {
+    ghost use Rattle.std.specs.Prelude.{◌≡◌};
+    ghost use Rattle.jpeg_decoder.specs.States.{Decoding, Fresh};
+    ghost use Rattle.jpeg_decoder.specs.Stream.{nothing_found};
+    ghost use Rattle.jpeg_decoder.specs.Seen.{found_in, stage_of};
+
+    ghost Value = { Decoding };
+
+    ghost view = { λ d. record {
+      source = d.source;
+      stage = stage_of d.progress;
+      found = found_in d.state;
+      settings = d.settings;
+    } };
+
+    // A fresh decoder has found nothing.
+    ghost invariant = { λ d. stage_of d.progress ≡ Fresh → found_in d.state ≡ nothing_found };
+}
+
+impl<R: Read + Drop> Decoder<R> {
+    /// A decoder of the stream that the reader gives. The only error is want of memory; the reader is then dropped.
+    pub fn new(alloc: Global, reader: R) -> Result<Decoder<R>>
+        ensures ok { IfOk result (λ d. d ≡ record {
+          source = stream_of (R.remaining reader) false false;
+          stage = Fresh;
+          found = nothing_found;
+          settings = default_settings;
+        }) }
+        ensures err { IfErr result (λ e. e ≡ OutOfMemory) }
+    {
+        Ok(Decoder {
+            alloc,
+            source: Source::new(reader),
+            progress: Progress::Fresh,
+            state: State::new(),
+            settings: Settings { limit: usize::MAX },
+        })
+    }
+
+    /// The size and the format of the picture, once a frame was accepted. Tells what was read in every state.
+    pub fn info(&self) -> Option<ImageInfo>
+        ensures { result ≡ option_map info_of self.now.found.frame }
+    {
+        self.state.frame.as_ref().map(|frame| info_of(frame))
+    }
+
+    /// Reads through the end of the image and no byte behind it, and gives the picture: its samples line by line.
+    ///
+    /// Answers `Internal` where the decoder has failed or has decoded its image, and nowhere else. A refusal leaves a failed decoder, but
+    /// a finished one stays finished. No samples are kept behind either.
+    pub fn decode(&mut self) -> Result<Vec<u8>>
+        ensures stage { MovesToEnd self.old.stage self.new.stage result }
+        ensures reads { self.old.stage ≡ Fresh → Answers (λ v. (self.new.found, v.items)) (meaning self.old.settings) self.old.source result self.new.source }
+        ensures told { self.old.stage ≡ Fresh → OnTold self.old.source self.new.source result (self.new.found ≡ told_by_stream self.old.source.bytes) }
+        ensures settings { self.new.settings ≡ self.old.settings }
+        ensures still { (self.old.stage ≡ Fresh → ⊥) → self.new ≡ self.old }
+    {
+        let result = match self.progress {
+            Progress::Fresh => read_stream(
+                self.alloc,
+                &mut self.source,
+                &mut self.state,
+                self.settings,
+            ),
+            Progress::Finished => return Err(Error::Internal("image was already decoded")),
+            Progress::Failed => return Err(Error::Internal("decoder has failed")),
+        };
+        self.progress = if result.is_ok() {
+            Progress::Finished
+        } else {
+            Progress::Failed
+        };
+        result
+    }
+}

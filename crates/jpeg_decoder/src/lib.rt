@@ -1,0 +1,21 @@
+//! A decoder of JPEG streams (ITU-T T.81).
+#![tactic(auto)]
+
+mod blocks;
+pub mod decoder;
+pub mod laws;
+mod picture;
+mod places;
+pub mod run;
+mod segments;
+mod state;
+mod tokens;
+pub mod worked;
+
+pub use decoder::{Decoder, ImageInfo, PixelFormat};
+pub use jpeg_bits::color_transform::ColorTransform;
+pub use jpeg_bits::error::{Error, UnsupportedFeature};
+pub use jpeg_bits::{error, huffman, marker};
+pub use jpeg_pixels::idct;
+pub use jpeg_segments::parser;
+pub use jpeg_segments::parser::CodingProcess;

@@ -1,0 +1,139 @@
+//! The program's engine: a stream from a reader, its picture to a writer, and what a refusal tells.
+ghost use Rattle.std.specs.Prelude.{◌≡◌, ◌++◌, ℕ, List, Some, None, option_map, Err, IsSome, IsSomeAnd, OnOk, OnErr, IfErr, IfOk, IsErr, string_bytes};
+ghost use Rattle.std.specs.Io.KnownBytes.{Appends, Keeps};
+ghost use Rattle.jpeg_bits.specs.declared.error.Error.TheVariants.{OutOfMemory};
+ghost use Rattle.jpeg_decoder.specs.Output.{output_of, line_of, name_of, Tells, TakesBeginning, IsOutside, IsOutsideOrMemory};
+
+use crate::decoder::{Decoder, ImageInfo, PixelFormat};
+use jpeg_bits::error::{Error, Result};
+use std::alloc::{AllocError, Global};
+use std::io;
+use std::io::{ErrorKind, Read, Write};
+
+/// Writes all of the bytes, again after each interruption. A write of 0 bytes is refused as `WriteZero`, and interruptions without end by
+/// a `Format` with no text.
+fn write_fully<W: Write>(alloc: Global, writer: &mut W, bytes: &[u8]) -> Result<()>
+    ensures ok { OnOk result (Appends (W.contents writer.old) (W.contents writer.new) bytes.now) }
+    ensures err { OnErr result (TakesBeginning (W.contents writer.old) (W.contents writer.new) bytes.now) }
+    ensures outside { IfErr result IsOutside }
+{
+    let mut rest = bytes;
+    for _ in 0..u64::MAX {
+        if rest.is_empty() {
+            return Ok(());
+        }
+        match writer.write(rest) {
+            Ok(0) => {
+                return Err(Error::Io(io::Error::new(ErrorKind::WriteZero, "nothing was written")));
+            }
+            Ok(count) => {
+                let (_, after) = rest.split_at(count);
+                rest = after;
+            }
+            Err(error) => {
+                if error.kind() != ErrorKind::Interrupted {
+                    return Err(Error::Io(error));
+                }
+            }
+        }
+    }
+    Err(Error::Format(String::new(alloc)))
+}
+
+/// The name of a format in the header line.
+fn format_name(format: PixelFormat) -> &'static str
+    ensures { result.now ≡ name_of format }
+{
+    match format {
+        PixelFormat::L8 => "L8",
+        PixelFormat::L16 => "L16",
+        PixelFormat::RGB24 => "RGB24",
+        PixelFormat::CMYK32 => "CMYK32",
+    }
+}
+
+/// The header line: width, height and format, with spaces between, and a line feed.
+fn info_line(alloc: Global, info: ImageInfo) -> std::result::Result<String, AllocError>
+    ensures { IfOk result (λ line. string_bytes line ≡ line_of (Some info)) }
+{
+    let width = info.width;
+    let height = info.height;
+    let format = format_name(info.pixel_format);
+    format!(in alloc; "{width} {height} {format}\n")
+}
+
+/// The header line, where there is a frame.
+fn header_line(alloc: Global, info: Option<ImageInfo>) -> std::result::Result<String, AllocError>
+    ensures { IfOk result (λ line. string_bytes line ≡ line_of info) }
+{
+    match info {
+        Some(info) => info_line(alloc, info),
+        None => Ok(String::new(alloc)),
+    }
+}
+
+/// Writes two texts, one after the other.
+fn write_both<W: Write>(alloc: Global, writer: &mut W, first: &[u8], second: &[u8]) -> Result<()>
+    ensures ok { OnOk result (Appends (W.contents writer.old) (W.contents writer.new) (first.now ++ second.now)) }
+    ensures err { OnErr result (TakesBeginning (W.contents writer.old) (W.contents writer.new) (first.now ++ second.now)) }
+    ensures outside { IfErr result IsOutside }
+{
+    write_fully(alloc, writer, first)?;
+    write_fully(alloc, writer, second)
+}
+
+/// The header line and the picture of the stream that the reader gives.
+fn line_and_pixels<R: Read + Drop>(alloc: Global, reader: R) -> Result<(String, Vec<u8>)>
+    ensures ok { (bytes : List ℕ) → Tells (R.remaining reader) bytes
+        → IfOk result (λ made. output_of bytes ≡ Some (string_bytes made.0 ++ made.1.items)) }
+    ensures err { (bytes : List ℕ) → Tells (R.remaining reader) bytes
+        → IsSome (output_of bytes) → IfErr result IsOutsideOrMemory }
+{
+    let mut decoder = Decoder::new(alloc, reader)?;
+    let pixels = decoder.decode()?;
+    let line = header_line(alloc, decoder.info())?;
+    Ok((line, pixels))
+}
+
+/// Decodes the stream that the reader gives, and writes the header line `WIDTH HEIGHT FORMAT` with a line feed and then the pixels, line
+/// by line from the top. All is decoded before anything is written.
+pub fn run<R: Read + Drop, W: Write>(alloc: Global, reader: R, writer: &mut W) -> Result<()>
+    // What an Ok wrote is the line and the pixels.
+    ensures ok { (bytes : List ℕ) → Tells (R.remaining reader) bytes
+        → OnOk result (IsSomeAnd (output_of bytes) (Appends (W.contents writer.old) (W.contents writer.new))) }
+
+    // A stream without a meaning is refused, and nothing is written.
+    ensures none { (bytes : List ℕ) → Tells (R.remaining reader) bytes
+        → output_of bytes ≡ None → IsErr result × Keeps (W.contents writer.old) (W.contents writer.new) }
+
+    // What the writer took is a beginning of the line and the pixels.
+    ensures beginning { (bytes : List ℕ) → Tells (R.remaining reader) bytes
+        → (text : List ℕ) → output_of bytes ≡ Some text → TakesBeginning (W.contents writer.old) (W.contents writer.new) text }
+
+    // A stream with a meaning is refused by the reader, the writer or want of memory alone.
+    ensures refused { (bytes : List ℕ) → Tells (R.remaining reader) bytes
+        → IsSome (output_of bytes) → IfErr result IsOutsideOrMemory }
+
+    // Want of memory comes before anything is written.
+    ensures memory { result ≡ Err OutOfMemory → Keeps (W.contents writer.old) (W.contents writer.new) }
+{
+    let (line, pixels) = line_and_pixels(alloc, reader)?;
+    write_both(alloc, writer, line.as_bytes(), pixels.as_slice())
+}
+
+/// Tells a refusal in one line, and answers the program's status: 0 for `Ok`, of which nothing is told, and 1 for a refusal. Where the
+/// line can't be written, the status still tells.
+pub fn report<W: Write>(alloc: Global, outcome: &Result<()>, writer: &mut W) -> u8
+    ensures ok { OnOk outcome.now ((result ≡ 0) × Keeps (W.contents writer.old) (W.contents writer.new)) }
+    ensures err { OnErr outcome.now (result ≡ 1) }
+{
+    match outcome {
+        Ok(()) => 0,
+        Err(error) => {
+            if let Ok(line) = format!(in alloc; "jpegraw: {error}\n") {
+                let _ = write_fully(alloc, writer, line.as_bytes());
+            }
+            1
+        }
+    }
+}

@@ -1,0 +1,277 @@
+//! The segments of a stream, read in turn (T.81, B.2).
+ghost use Rattle.std.specs.Prelude.{◌≡◌, OnErr};
+ghost use Rattle.jpeg_bits.specs.Reading.{Answers, IsShort};
+ghost use Rattle.jpeg_decoder.specs.Stream.{nothing_found, frame_segment, quantization_segment, huffman_segment, skipped_segment, scan_segment, end_segment, segment_at, marker_or, turn_at, segments_at, told_at};
+ghost use Rattle.jpeg_decoder.specs.Scans.{grid_of};
+ghost use Rattle.jpeg_segments.specs.Frame.{ceiling};
+ghost use Rattle.jpeg_segments.specs.FrameView.{component_in, scan_in};
+ghost use Rattle.jpeg_decoder.specs.States.{OnTold};
+ghost use Rattle.jpeg_decoder.specs.Seen.{found_in};
+ghost use Rattle.jpeg_decoder.specs.Steps.{turn_of, coded_plane, scan_plane};
+
+use crate::blocks::{Grid, read_plane};
+use crate::places::{decide, named_table, needed, table_at, update};
+use crate::state::State;
+use jpeg_bits::error::{Error, Result, UnsupportedFeature};
+use jpeg_bits::marker::{Marker, read_marker};
+use jpeg_bits::reads::{format_error, read_length, skip};
+use jpeg_bits::scan::ScanInfo;
+use jpeg_bits::source::Source;
+use jpeg_segments::parser::{Component, parse_dht, parse_dqt, parse_sof, parse_sos};
+use std::alloc::Global;
+use std::io::Read;
+
+/// What stands behind a segment: the marker that was met already, if one was, and whether the image has ended.
+#[derive(Clone, Copy, Debug, PartialEq)]
+pub struct Step {
+    pub met: Option<Marker>,
+    pub ended: bool,
+}
+
+/// What stands behind a segment that ends before the next marker.
+const ONWARD: Step = Step {
+    met: None,
+    ended: false,
+};
+
+impl State {
+    /// The state at the start of a stream.
+    #[tactic(auto, unfolding(crate::specs::Stream::nothing_found))]
+    pub fn new() -> State
+        ensures { found_in result ≡ nothing_found }
+    {
+        State {
+            frame: None,
+            quantization: [None; 4],
+            dc_tables: [None, None, None, None],
+            ac_tables: [None, None, None, None],
+            planes: [None, None, None, None],
+        }
+    }
+
+    /// A frame header (T.81, B.2.2).
+    #[tactic(auto, unfolding(crate::specs::Stream::frame_segment))]
+    fn read_frame<R: Read + Drop>(
+        &mut self,
+        alloc: Global,
+        source: &mut Source<R>,
+        number: u8,
+    ) -> Result<Step>
+        ensures reads { Answers (turn_of self.new) (frame_segment number (found_in self.old)) source.old result source.new }
+        ensures kept { OnErr result (found_in self.new ≡ found_in self.old) }
+    {
+        if self.frame.is_some() {
+            return Err(Error::Unsupported(UnsupportedFeature::Hierarchical));
+        }
+        if number > 1 {
+            return Err(format_error(alloc, "a frame of a process that is not decoded"));
+        }
+        let frame = parse_sof(alloc, source, Marker::SOF(number))?;
+        if frame.precision != 8 {
+            return Err(Error::Unsupported(UnsupportedFeature::SamplePrecision(frame.precision)));
+        }
+        self.frame = Some(frame);
+        Ok(ONWARD)
+    }
+
+    /// Quantization tables (T.81, B.2.4.1).
+    #[tactic(auto, unfolding(crate::specs::Stream::quantization_segment))]
+    fn read_quantization<R: Read + Drop>(
+        &mut self,
+        alloc: Global,
+        source: &mut Source<R>,
+    ) -> Result<Step>
+        ensures reads { Answers (turn_of self.new) (quantization_segment (found_in self.old)) source.old result source.new }
+        ensures kept { OnErr result (found_in self.new ≡ found_in self.old) }
+    {
+        let mut tables = parse_dqt(alloc, source)?;
+        update(&mut self.quantization, &mut tables);
+        Ok(ONWARD)
+    }
+
+    /// Huffman tables (T.81, B.2.4.2).
+    #[tactic(auto, unfolding(crate::specs::Stream::huffman_segment))]
+    fn read_huffman<R: Read + Drop>(
+        &mut self,
+        alloc: Global,
+        source: &mut Source<R>,
+    ) -> Result<Step>
+        ensures reads { Answers (turn_of self.new) (huffman_segment (found_in self.old)) source.old result source.new }
+        ensures kept { OnErr result (found_in self.new ≡ found_in self.old) }
+    {
+        let is_baseline = self.frame.as_ref().map(|frame| frame.is_baseline);
+        let (mut dc_tables, mut ac_tables) = parse_dht(alloc, source, is_baseline)?;
+        update(&mut self.dc_tables, &mut dc_tables);
+        update(&mut self.ac_tables, &mut ac_tables);
+        Ok(ONWARD)
+    }
+
+    /// A segment that is passed over.
+    #[tactic(auto, unfolding(crate::specs::Stream::skipped_segment))]
+    fn skip_segment<R: Read + Drop>(&self, alloc: Global, source: &mut Source<R>) -> Result<Step>
+        ensures { Answers (turn_of self.now) (skipped_segment (found_in self.now)) source.old result source.new }
+    {
+        let length = read_length(alloc, source)?;
+        skip(alloc, source, length)?;
+        Ok(ONWARD)
+    }
+
+    /// The end of the image, which needs a frame.
+    #[tactic(auto, unfolding(crate::specs::Stream::end_segment))]
+    fn end<R: Read + Drop>(&self, alloc: Global, source: &mut Source<R>) -> Result<Step>
+        ensures { Answers (turn_of self.now) (end_segment (found_in self.now)) source.old result source.new }
+    {
+        if self.frame.is_none() {
+            return Err(format_error(alloc, "an end of image without a frame"));
+        }
+        Ok(Step {
+            met: None,
+            ended: true,
+        })
+    }
+
+    /// The samples of a scan, by the tables in force, and the marker behind it, if it was met.
+    #[tactic(auto, unfolding(crate::specs::Steps::coded_plane, crate::specs::Stream::scan_samples))]
+    fn read_coded<R: Read + Drop>(
+        &self,
+        alloc: Global,
+        source: &mut Source<R>,
+        component: &Component,
+        scan: &ScanInfo,
+    ) -> Result<(Vec<u8>, Option<Marker>)>
+        ensures { Answers (λ r. (r.0.items, r.1)) (coded_plane (found_in self.now) (component_in component.now) (scan_in scan.now)) source.old result source.new }
+    {
+        let quantization = table_at(&self.quantization, component.quantization_table_index);
+        let quantization = needed(alloc, quantization, "a scan without a quantization table")?;
+        let dc_table = named_table(&self.dc_tables, &scan.dc_table_indices);
+        let dc_table = needed(alloc, dc_table, "a scan without a DC table")?;
+        let ac_table = named_table(&self.ac_tables, &scan.ac_table_indices);
+        let ac_table = needed(alloc, ac_table, "a scan without an AC table")?;
+        read_plane(
+            alloc,
+            source,
+            grid_of(component),
+            quantization,
+            dc_table,
+            ac_table,
+        )
+    }
+
+    /// A scan's header (T.81, B.2.3), and its samples.
+    #[tactic(auto, unfolding(crate::specs::Steps::scan_plane))]
+    fn read_scan_plane<R: Read + Drop>(
+        &self,
+        alloc: Global,
+        source: &mut Source<R>,
+    ) -> Result<(Vec<u8>, Option<Marker>)>
+        ensures { Answers (λ r. (r.0.items, r.1)) (scan_plane (found_in self.now)) source.old result source.new }
+    {
+        let frame = needed(alloc, self.frame.as_ref(), "a scan without a frame")?;
+        let scan = parse_sos(alloc, source, frame)?;
+        let component = needed(
+            alloc,
+            frame.components.first(),
+            "a frame without a component",
+        )?;
+        self.read_coded(alloc, source, component, &scan)
+    }
+
+    /// A scan. The first one of a component decides its plane.
+
+    fn read_scan<R: Read + Drop>(&mut self, alloc: Global, source: &mut Source<R>) -> Result<Step>
+        ensures reads { Answers (turn_of self.new) (scan_segment (found_in self.old)) source.old result source.new }
+        ensures kept { OnErr result (found_in self.new ≡ found_in self.old) }
+    {
+        let (plane, met) = self.read_scan_plane(alloc, source)?;
+        decide(&mut self.planes, plane);
+        Ok(Step { met, ended: false })
+    }
+
+    /// What stands behind a marker.
+    #[tactic(auto, unfolding(crate::specs::Stream::segment_at))]
+    fn read_segment<R: Read + Drop>(
+        &mut self,
+        alloc: Global,
+        source: &mut Source<R>,
+        marker: Marker,
+    ) -> Result<Step>
+        ensures reads { Answers (turn_of self.new) (segment_at marker (found_in self.old)) source.old result source.new }
+        ensures kept { OnErr result (found_in self.new ≡ found_in self.old) }
+    {
+        match marker {
+            Marker::SOF(number) => self.read_frame(alloc, source, number),
+            Marker::DQT => self.read_quantization(alloc, source),
+            Marker::DHT => self.read_huffman(alloc, source),
+            Marker::SOS => self.read_scan(alloc, source),
+            Marker::EOI => self.end(alloc, source),
+            Marker::APP(_) | Marker::COM => self.skip_segment(alloc, source),
+            _ => Err(format_error(alloc, "a marker that is not decoded")),
+        }
+    }
+
+    /// One marker, which may have been met already, and what stands behind it.
+    #[tactic(auto, unfolding(crate::specs::Stream::turn_at))]
+    fn read_turn<R: Read + Drop>(
+        &mut self,
+        alloc: Global,
+        source: &mut Source<R>,
+        met: Option<Marker>,
+    ) -> Result<Step>
+        ensures reads { Answers (turn_of self.new) (turn_at (found_in self.old) met) source.old result source.new }
+        ensures kept { OnErr result (found_in self.new ≡ found_in self.old) }
+        ensures short { met ≡ None → IsShort source.old }
+    {
+        let marker = marker_or_next(alloc, source, met)?;
+        self.read_segment(alloc, source, marker)
+    }
+
+    /// Reads segments and scans up to the end of the image.
+    pub fn read<R: Read + Drop>(&mut self, alloc: Global, source: &mut Source<R>) -> Result<()>
+        ensures reads { Answers (λ _. found_in self.new) (segments_at (found_in self.old) None) source.old result source.new }
+        ensures told { OnTold source.old source.new result (found_in self.new ≡ told_at (found_in self.old) None source.old.bytes) }
+    {
+        let mut met = None;
+        for _ in 0..=u64::MAX {
+            let step = self.read_turn(alloc, source, met)?;
+            if step.ended {
+                return Ok(());
+            }
+            met = step.met;
+        }
+        Err(format_error(alloc, "segments without end"))
+    }
+}
+
+/// The marker that was met, or else the next.
+fn marker_or_next<R: Read + Drop>(
+    alloc: Global,
+    source: &mut Source<R>,
+    met: Option<Marker>,
+) -> Result<Marker>
+    ensures answers { Answers (λ m. m) (marker_or met) source.old result source.new }
+    ensures short { met ≡ None → IsShort source.old }
+{
+    match met {
+        Some(marker) => Ok(marker),
+        None => read_marker(alloc, source),
+    }
+}
+
+/// The blocks that some samples take.
+fn blocks_of(samples: u16) -> u16
+    ensures { result ≡ ceiling samples 8 }
+{
+    ((u32::from(samples) + 7) / 8) as u16
+}
+
+/// The blocks of a component.
+fn grid_of(component: &Component) -> Grid
+    ensures { result ≡ grid_of (component_in component.now) }
+{
+    Grid {
+        own_wide: blocks_of(component.size.width),
+        own_high: blocks_of(component.size.height),
+        wide: component.block_size.width,
+        high: component.block_size.height,
+    }
+}

@@ -1,0 +1,30 @@
+//! Streams that are worked by hand, and what they mean by the definitions: each is computed as it is checked.
+ghost use Rattle.std.specs.Prelude.{◌≡◌, [], ◌∷◌, ◌++◌, replicate, Ok, Err};
+ghost use Rattle.jpeg_bits.specs.Reading.{Malformed, Lacks, End};
+ghost use Rattle.jpeg_bits.specs.declared.error.UnsupportedFeature.TheVariants.{DNL};
+ghost use Rattle.jpeg_decoder.specs.Worked.{picture_meant, stream_with, stream_without_height, stream_of_one_coefficient, lines_of};
+
+/// Eight streams and what they mean.
+pub fn known_streams()
+    // A block of one coefficient, DC 8, is 64 samples of 129.
+    ensures flat { picture_meant (stream_with 8 (67 ∷ [])) ≡ Ok (replicate 64 129) }
+
+    // Bits behind the marker are zeros: a second block has a difference of -15, and so DC -7.
+    ensures behind_marker { picture_meant (stream_with 16 (64 ∷ [])) ≡ Ok (lines_of (replicate 8 129 ++ replicate 8 127)) }
+
+    // Bits that begin no code are refused.
+    ensures no_code { picture_meant (stream_with 16 (67 ∷ [])) ≡ Err Malformed }
+
+    // FF FF 00 is refused where at most 56 bits stand before it, and passed over where it stands behind more.
+    ensures met { picture_meant (stream_with 8 (67 ∷ replicate 6 0 ++ (255 ∷ 255 ∷ 0 ∷ []))) ≡ Err Malformed }
+    ensures passed { picture_meant (stream_with 8 (67 ∷ replicate 7 0 ++ (255 ∷ 255 ∷ 0 ∷ []))) ≡ Ok (replicate 64 129) }
+
+    // A frame without a height is refused by name.
+    ensures no_height { picture_meant (stream_without_height 67) ≡ Err (Lacks DNL) }
+
+    // One AC coefficient gives columns that differ.
+    ensures one_coefficient { picture_meant stream_of_one_coefficient ≡ Ok (lines_of (139 ∷ 137 ∷ 134 ∷ 130 ∷ 126 ∷ 122 ∷ 119 ∷ 117 ∷ [])) }
+
+    // No bytes are the end.
+    ensures empty { picture_meant [] ≡ Err End }
+{}

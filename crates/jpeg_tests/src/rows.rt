@@ -1,0 +1,457 @@
+//! Streams and what they give.
+
+use crate::bytes::bytes;
+use crate::streams::{Reader, Trouble};
+use jpeg_decoder::{Decoder, Error, ImageInfo, PixelFormat, UnsupportedFeature};
+use std::alloc::Global;
+use std::test::Fail;
+
+/// A quantization table of 64 times one value.
+const ONES: &str = "FFDB 0043 00 01*64";
+/// A frame of 8 by 8, and one of 16 by 8.
+const FRAME: &str = "FFC0 000B 08 0008 0008 01 01 11 00";
+
+const WIDE: &str = "FFC0 000B 08 0008 0010 01 01 11 00";
+/// Huffman tables of one code of one bit: DC of category 4, and AC of the end of band.
+const DC_4: &str = "FFC4 0014 00 01 00*15 04";
+
+const AC_0: &str = "FFC4 0014 10 01 00*15 00";
+
+const SCAN: &str = "FFDA 0008 01 01 00 00 3F 00";
+
+const END: &str = "FFD9";
+
+#[derive(Clone, Copy)]
+enum Gives {
+    /// Lines of these bytes, so many times.
+    Lines(&'static str, usize),
+    Format,
+    Dnl,
+    Precision(u8),
+    Hierarchical,
+    Io,
+}
+
+const STREAMS: [([&str; 8], Gives); 28] = [
+    // DC 8 alone: 129 everywhere.
+    (
+        ["FFD8", ONES, FRAME, DC_4, AC_0, SCAN, "43", END],
+        Gives::Lines("81*8", 8),
+    ),
+    // A second block whose bits are the zeros behind the marker: DC 8 - 15.
+    (
+        ["FFD8", ONES, WIDE, DC_4, AC_0, SCAN, "40", END],
+        Gives::Lines("81*8 7F*8", 8),
+    ),
+    // The bits 11 begin no code.
+    (
+        ["FFD8", ONES, WIDE, DC_4, AC_0, SCAN, "43", END],
+        Gives::Format,
+    ),
+    // One AC coefficient.
+    (
+        [
+            "FFD8",
+            "FFDB 0043 00 40*64",
+            FRAME,
+            "FFC4 0014 00 01 00*15 00",
+            "FFC4 0015 10 01 01 00*14 01 00",
+            SCAN,
+            "37",
+            END,
+        ],
+        Gives::Lines("8B 89 86 82 7E 7A 77 75", 8),
+    ),
+    // A fault within 56 bits behind the bits taken is refused, and one further is passed over.
+    (
+        ["FFD8", ONES, FRAME, DC_4, AC_0, SCAN, "43 FFFF00", END],
+        Gives::Format,
+    ),
+    (
+        ["FFD8", ONES, FRAME, DC_4, AC_0, SCAN, "43 00*6 FFFF00", END],
+        Gives::Format,
+    ),
+    (
+        ["FFD8", ONES, FRAME, DC_4, AC_0, SCAN, "43 00*7 FFFF00", END],
+        Gives::Lines("81*8", 8),
+    ),
+    // No height.
+    (
+        [
+            "FFD8",
+            ONES,
+            "FFC0 000B 08 0000 0008 01 01 11 00",
+            DC_4,
+            AC_0,
+            SCAN,
+            "43",
+            END,
+        ],
+        Gives::Dnl,
+    ),
+    // Segments that are passed over, bytes between segments, and fill bytes.
+    (
+        [
+            "FFD8",
+            ONES,
+            FRAME,
+            "FFFE 0003 43",
+            DC_4,
+            AC_0,
+            SCAN,
+            "43 FFD9",
+        ],
+        Gives::Lines("81*8", 8),
+    ),
+    (
+        [
+            "FFD8",
+            "FFE0 0010 4A46494600 01*9",
+            ONES,
+            FRAME,
+            DC_4,
+            AC_0,
+            SCAN,
+            "43 FFD9",
+        ],
+        Gives::Lines("81*8", 8),
+    ),
+    (
+        [
+            "FFD8",
+            ONES,
+            "41FF0042FFFF",
+            FRAME,
+            DC_4,
+            AC_0,
+            SCAN,
+            "43 FFFFFFD9",
+        ],
+        Gives::Lines("81*8", 8),
+    ),
+    // The first scan decides, and bytes behind the end are not read.
+    (
+        [
+            "FFD8",
+            ONES,
+            FRAME,
+            DC_4,
+            AC_0,
+            SCAN,
+            "43 FFDA 0008 01 01 00 00 3F 00 7B",
+            END,
+        ],
+        Gives::Lines("81*8", 8),
+    ),
+    (
+        [
+            "FFD8",
+            ONES,
+            FRAME,
+            DC_4,
+            AC_0,
+            SCAN,
+            "43 FFD9 FFD8 00",
+            END,
+        ],
+        Gives::Lines("81*8", 8),
+    ),
+    // Extended sequential frames, of 8 bits alone.
+    (
+        [
+            "FFD8",
+            ONES,
+            "FFC1 000B 08 0008 0008 01 01 11 00",
+            DC_4,
+            AC_0,
+            SCAN,
+            "43",
+            END,
+        ],
+        Gives::Lines("81*8", 8),
+    ),
+    (
+        [
+            "FFD8",
+            ONES,
+            "FFC1 000B 0C 0008 0008 01 01 11 00",
+            DC_4,
+            AC_0,
+            SCAN,
+            "43",
+            END,
+        ],
+        Gives::Precision(12),
+    ),
+    (
+        [
+            "FFD8",
+            ONES,
+            "FFC0 000B 0C 0008 0008 01 01 11 00",
+            DC_4,
+            AC_0,
+            SCAN,
+            "43",
+            END,
+        ],
+        Gives::Format,
+    ),
+    (
+        ["FFD8", ONES, FRAME, FRAME, DC_4, AC_0, SCAN, "43 FFD9"],
+        Gives::Hierarchical,
+    ),
+    // A table of 16-bit values; sampling factors of a component that is alone.
+    (
+        [
+            "FFD8",
+            "FFDB 0083 10 0001*64",
+            FRAME,
+            DC_4,
+            AC_0,
+            SCAN,
+            "43",
+            END,
+        ],
+        Gives::Lines("81*8", 8),
+    ),
+    (
+        [
+            "FFD8",
+            ONES,
+            "FFC0 000B 08 0008 0008 01 01 22 00",
+            DC_4,
+            AC_0,
+            SCAN,
+            "43",
+            END,
+        ],
+        Gives::Lines("81*8", 8),
+    ),
+    // Pictures that end inside a block.
+    (
+        [
+            "FFD8",
+            ONES,
+            "FFC0 000B 08 0003 0005 01 01 11 00",
+            DC_4,
+            AC_0,
+            SCAN,
+            "43",
+            END,
+        ],
+        Gives::Lines("81*5", 3),
+    ),
+    (
+        [
+            "FFD8",
+            ONES,
+            "FFC0 000B 08 0003 0009 01 01 11 00",
+            DC_4,
+            AC_0,
+            SCAN,
+            "40",
+            END,
+        ],
+        Gives::Lines("81*8 7F", 3),
+    ),
+    // Tables that are missing, or hold a 0; a scan before its frame, an end before it, and a frame without a scan.
+    (
+        ["FFD8", "", FRAME, DC_4, AC_0, SCAN, "43", END],
+        Gives::Format,
+    ),
+    (
+        ["FFD8", ONES, FRAME, DC_4, "", SCAN, "43", END],
+        Gives::Format,
+    ),
+    (
+        [
+            "FFD8",
+            "FFDB 0043 00 01*63 00",
+            FRAME,
+            DC_4,
+            AC_0,
+            SCAN,
+            "43",
+            END,
+        ],
+        Gives::Format,
+    ),
+    (
+        ["FFD8", ONES, DC_4, AC_0, SCAN, "43", FRAME, END],
+        Gives::Format,
+    ),
+    (["FFD8", END, "", "", "", "", "", ""], Gives::Format),
+    (
+        ["FFD8", ONES, FRAME, DC_4, AC_0, END, "", ""],
+        Gives::Format,
+    ),
+    // No bytes.
+    (["", "", "", "", "", "", "", ""], Gives::Io),
+];
+
+fn is_refusal(answer: &Result<Vec<u8>, Error>, gives: Gives) -> bool {
+    match (gives, answer) {
+        (Gives::Format, Err(Error::Format(_))) => true,
+        (Gives::Dnl, Err(Error::Unsupported(UnsupportedFeature::DNL))) => true,
+        (
+            Gives::Precision(bits),
+            Err(Error::Unsupported(UnsupportedFeature::SamplePrecision(read))),
+        ) => *read == bits,
+        (Gives::Hierarchical, Err(Error::Unsupported(UnsupportedFeature::Hierarchical))) => true,
+        (Gives::Io, Err(Error::Io(_))) => true,
+        _ => false,
+    }
+}
+
+/// The picture of lines that are all the same.
+fn picture_of(alloc: Global, line: &str, times: usize) -> Result<Vec<u8>, Fail> {
+    let line = bytes(alloc, &[line])?;
+    let mut picture = Vec::new(alloc);
+    for _ in 0..times {
+        picture.extend_from_slice(&line)?;
+    }
+    Ok(picture)
+}
+
+/// Whether a stream that is read in pieces of `step` bytes gives what is wanted, and a refusal leaves a failed decoder.
+fn is_as_wanted(alloc: Global, stream: &[u8], gives: Gives, step: usize) -> Result<bool, Fail> {
+    let reader = Reader::new(stream, step, usize::MAX, Trouble::Fails);
+    let mut decoder = Decoder::new(alloc, reader)?;
+    let answer = decoder.decode();
+    if let Gives::Lines(line, times) = gives {
+        let picture = picture_of(alloc, line, times)?;
+        return Ok(answer?.as_slice() == picture.as_slice());
+    }
+    Ok(
+        is_refusal(&answer, gives)
+            && matches!(
+                &decoder.decode(),
+                Err(Error::Internal("decoder has failed"))
+            ),
+    )
+}
+
+#[test]
+fn streams_give_what_they_mean(rt: HostRuntime) -> Result<(), Fail> {
+    for (number, (pieces, gives)) in STREAMS.iter().enumerate() {
+        let stream = bytes(rt.alloc(), pieces.as_slice())?;
+        for step in [1, 2, 3, 1000] {
+            assert!(rt;
+                is_as_wanted(rt.alloc(), &stream, *gives, step)?,
+                "stream {number}"
+            );
+        }
+    }
+    Ok(())
+}
+
+const ROW: [&str; 8] = ["FFD8", ONES, FRAME, DC_4, AC_0, SCAN, "43", END];
+
+#[test]
+fn the_first_stream_has_141_bytes(rt: HostRuntime) -> Result<(), Fail> {
+    assert_eq!(rt; bytes(rt.alloc(), &ROW)?.len(), 141);
+    Ok(())
+}
+
+#[test]
+fn a_cut_stream_is_refused(rt: HostRuntime) -> Result<(), Fail> {
+    let stream = bytes(rt.alloc(), &ROW)?;
+    for length in 0..141 {
+        assert!(rt; length < stream.len());
+        let mut decoder = Decoder::new(rt.alloc(), &stream[..length])?;
+        assert!(rt;
+            matches!(&decoder.decode(), Err(Error::Io(_))),
+            "length {length}"
+        );
+    }
+    Ok(())
+}
+
+#[test]
+fn a_second_decode_is_refused(rt: HostRuntime) -> Result<(), Fail> {
+    let stream = bytes(rt.alloc(), &ROW)?;
+    let mut decoder = Decoder::new(rt.alloc(), stream.as_slice())?;
+    assert_eq!(rt; decoder.info(), None);
+    decoder.decode()?;
+    for _ in 0..2 {
+        assert!(rt;
+            matches!(
+                &decoder.decode(),
+                Err(Error::Internal("image was already decoded"))
+            )
+        );
+        let info = decoder.info().ok_or("no info")?;
+        assert_eq!(rt; info.width, 8);
+        assert_eq!(rt; info.height, 8);
+        assert_eq!(rt; info.pixel_format, PixelFormat::L8);
+        assert_eq!(rt; info.pixel_format.pixel_bytes(), 1);
+    }
+    Ok(())
+}
+
+#[test]
+fn info_tells_what_was_read(rt: HostRuntime) -> Result<(), Fail> {
+    let stream = bytes(
+        rt.alloc(),
+        &[
+            "FFD8",
+            ONES,
+            "FFC0 000B 08 0003 0005 01 01 11 00",
+            SCAN,
+            "43",
+            END,
+        ],
+    )?;
+    let mut decoder = Decoder::new(rt.alloc(), stream.as_slice())?;
+    assert!(rt; matches!(&decoder.decode(), Err(Error::Format(_))));
+    let info: ImageInfo = decoder.info().ok_or("no info")?;
+    assert_eq!(rt; (info.width, info.height), (5, 3));
+    let stream = bytes(
+        rt.alloc(),
+        &[
+            "FFD8",
+            ONES,
+            "FFC0 000B 08 0000 0005 01 01 11 00",
+            SCAN,
+            "43",
+            END,
+        ],
+    )?;
+    let mut decoder = Decoder::new(rt.alloc(), stream.as_slice())?;
+    assert!(rt;
+        matches!(
+            &decoder.decode(),
+            Err(Error::Unsupported(UnsupportedFeature::DNL))
+        )
+    );
+    assert_eq!(rt; decoder.info(), None);
+    Ok(())
+}
+
+#[test]
+fn a_read_that_fails_is_answered(rt: HostRuntime) -> Result<(), Fail> {
+    let stream = bytes(rt.alloc(), &ROW)?;
+    for call in 0..141 {
+        let reader = Reader::new(&stream, 1, call, Trouble::Fails);
+        let mut decoder = Decoder::new(rt.alloc(), reader)?;
+        match decoder.decode() {
+            Err(Error::Io(e)) => assert_eq!(rt;
+                format!(in rt.alloc(); "{e}")?.as_str(),
+                "wrong call"
+            ),
+            _ => assert!(rt; false, "call {call}"),
+        }
+        assert!(rt;
+            matches!(
+                &decoder.decode(),
+                Err(Error::Internal("decoder has failed"))
+            ),
+            "call {call}"
+        );
+        let reader = Reader::new(&stream, 1, call, Trouble::IsInterrupted);
+        let mut decoder = Decoder::new(rt.alloc(), reader)?;
+        let picture = decoder.decode()?;
+        assert_eq!(rt; picture.len(), 64);
+    }
+    Ok(())
+}
