@@ -1,7 +1,12 @@
 -- What a caller sees of the results of the parsers.
 use Rattle.std.specs.Prelude.{ℕ, ◌-◌, map}
 use Rattle.jpeg_segments.specs.declared.parser.FrameInfo.{FrameInfo}
+use Rattle.std.specs.Prelude.{Option, Some, None, option_map}
 use Rattle.jpeg_segments.specs.declared.parser.Component.{Component}
+use Rattle.jpeg_segments.specs.declared.parser.IccChunk.{IccChunk}
+use Rattle.jpeg_segments.specs.declared.parser.AppData.{AppData}
+use Rattle.jpeg_segments.specs.declared.parser.AppData.TheVariants as seen
+use Rattle.jpeg_segments.specs.Application.{Application, Chunk, Adobe, Jfif, Avi1, Icc, Exif, Xmp, Psir}
 use Rattle.jpeg_segments.specs.Frame as frames
 use Rattle.jpeg_segments.specs.ScanHeader.{Scan}
 use Rattle.jpeg_bits.specs.declared.scan.ScanInfo.{ScanInfo}
@@ -52,3 +57,15 @@ scan_in s = record {
   low = s.successive_approximation_low;
   point_transform = s.point_transform;
 }
+
+abbrev pub chunk_in : IccChunk → Chunk
+chunk_in c = record { number = c.seq_no; count = c.num_markers; bytes = c.bytes.items }
+
+abbrev pub application_in : AppData → Application
+application_in (seen.Adobe transform) = Adobe transform
+application_in seen.Jfif = Jfif
+application_in seen.Avi1 = Avi1
+application_in (seen.Icc chunk) = Icc (chunk_in chunk)
+application_in (seen.Exif bytes) = Exif bytes.items
+application_in (seen.Xmp bytes) = Xmp bytes.items
+application_in (seen.Psir bytes) = Psir bytes.items

@@ -1,6 +1,7 @@
 //! The segments of a JPEG stream.
 #![tactic(auto)]
 
+mod application;
 mod frame_header;
 mod huffman_tables;
 pub mod parser;

@@ -1,5 +1,6 @@
 //! The segments of a stream (T.81, B.2).
 
+pub use crate::application::{parse_app, parse_com, parse_dri};
 pub use crate::frame_header::parse_sof;
 pub use crate::huffman_tables::{PlacedTables, parse_dht};
 pub use crate::quantization::parse_dqt;
@@ -58,4 +59,38 @@ pub struct FrameInfo {
     /// The number of MCUs across and down.
     pub mcu_size: Dimensions,
     pub components: Vec<Component>,
+}
+
+/// The colour transform that an Adobe segment names.
+#[derive(Clone, Copy, Debug, PartialEq)]
+pub enum AdobeColorTransform {
+    /// Red, green and blue, or cyan, magenta, yellow and black.
+    Unknown,
+    YCbCr,
+    /// YCbCr and black.
+    YCCK,
+}
+
+/// A part of an ICC profile.
+#[derive(Debug, Drop)]
+pub struct IccChunk {
+    /// How many parts the profile has.
+    pub num_markers: u8,
+    /// The part's number, from 1.
+    pub seq_no: u8,
+    pub bytes: Vec<u8>,
+}
+
+/// What the segment of an application says.
+#[derive(Debug, Drop)]
+pub enum AppData {
+    Adobe(AdobeColorTransform),
+    Jfif,
+    /// A frame of an MJPEG stream, which may leave out its Huffman tables.
+    Avi1,
+    Icc(IccChunk),
+    Exif(Vec<u8>),
+    Xmp(Vec<u8>),
+    /// Photoshop's image resources.
+    Psir(Vec<u8>),
 }
