@@ -1,3 +1,4 @@
 pub mod QuantizationLemmas
 pub mod HuffmanLemmas
+pub mod ApplicationLemmas
 pub mod Rows

@@ -1,5 +1,5 @@
 -- Frame headers (T.81, B.2.2), and the sizes that they give (A.1.1, A.2).
-use Rattle.std.specs.Prelude.{◌≡◌, ℕ, zero, suc, ◌+◌, ◌-◌, ◌*◌, ◌/◌, ◌%◌, max, List, [], ◌∷◌, ◌++◌, Bool, true, false, not, ◌&&◌, ◌||◌, Option, Some, None, Result, Ok, Err, nat_lt, nat_le, ◌==◌, if◌then◌else◌, map}
+use Rattle.std.specs.Prelude.{◌≡◌, ℕ, zero, suc, ◌≤◌, ◌+◌, ◌-◌, ◌*◌, ◌/◌, ◌%◌, max, List, [], ◌∷◌, ◌++◌, Bool, true, false, not, ◌&&◌, ◌||◌, Option, Some, None, Result, Ok, Err, nat_lt, nat_le, ◌==◌, if◌then◌else◌, map}
 use Rattle.std.specs.List.{list_any}
 use Rattle.jpeg_bits.specs.Reading.{Outcome, Malformed, Lacks, ◌>>=◌, next_byte, next_u16, length_at}
 use Rattle.jpeg_bits.specs.declared.error.UnsupportedFeature.TheVariants.{DNL}
@@ -175,3 +175,23 @@ sof_at number bytes = do
   head ← head_at number bytes
   components ← components_from (is_lossless number) head.0.count [] head.1
   Ok (frame_of number head.0.precision head.0.width head.0.height components.0, components.1)
+
+-- ---- what each frame that is read has
+
+-- the factors of a component are 1 to 4
+pub record HasFactors (c : Component) : Type 0 where
+  pub horizontal_some : 1 ≤ c.factors.horizontal
+  pub horizontal_most : c.factors.horizontal ≤ 4
+  pub vertical_some : 1 ≤ c.factors.vertical
+  pub vertical_most : c.factors.vertical ≤ 4
+
+unfoldable pub AllHaveFactors : List Component → Type 0
+AllHaveFactors [] = Unit {0}
+AllHaveFactors (c ∷ more) = HasFactors c × AllHaveFactors more
+
+-- the factors that are read of a component are 1 to 4
+pub record IsInRange (c : Factors) : Type 0 where
+  pub horizontal_some : 1 ≤ c.horizontal
+  pub horizontal_most : c.horizontal ≤ 4
+  pub vertical_some : 1 ≤ c.vertical
+  pub vertical_most : c.vertical ≤ 4

@@ -3,6 +3,7 @@ use Rattle.std.specs.Prelude.{ℕ, ◌-◌, map}
 use Rattle.jpeg_segments.specs.declared.parser.FrameInfo.{FrameInfo}
 use Rattle.std.specs.Prelude.{Option, Some, None, option_map}
 use Rattle.jpeg_segments.specs.declared.parser.Component.{Component}
+use Rattle.jpeg_segments.specs.declared.frame_header.Factors.{Factors}
 use Rattle.jpeg_segments.specs.declared.parser.IccChunk.{IccChunk}
 use Rattle.jpeg_segments.specs.declared.parser.AppData.{AppData}
 use Rattle.jpeg_segments.specs.declared.parser.AppData.TheVariants as seen
@@ -10,6 +11,10 @@ use Rattle.jpeg_segments.specs.Application.{Application, Chunk, Adobe, Jfif, Avi
 use Rattle.jpeg_segments.specs.Frame as frames
 use Rattle.jpeg_segments.specs.ScanHeader.{Scan}
 use Rattle.jpeg_bits.specs.declared.scan.ScanInfo.{ScanInfo}
+
+-- what is read of a component
+abbrev pub factors_of : Factors → frames.Factors
+factors_of c = record { identifier = c.identifier; horizontal = c.horizontal; vertical = c.vertical; quantization = c.quantization }
 
 abbrev pub factors_in : Component → frames.Factors
 factors_in c = record {

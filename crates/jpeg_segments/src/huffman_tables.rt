@@ -4,6 +4,7 @@ ghost use Rattle.jpeg_bits.specs.Codes.{is_ac};
 ghost use Rattle.jpeg_bits.specs.Reading.{Answers, times, next_byte};
 ghost use Rattle.jpeg_segments.specs.HuffmanTables.{symbols_at, codes_at, placed_codes_at, greatest_place, with_table, dht_at, all_ac};
 
+use crate::payload::read_bytes;
 use jpeg_bits::error::Result;
 use jpeg_bits::huffman::{HuffmanTable, HuffmanTableClass};
 use jpeg_bits::reads::{format_error, read_length, read_u8};
@@ -35,22 +36,6 @@ fn total(counts: &[u8; 16]) -> u16
     total
 }
 
-fn read_symbols<R: Read + Drop>(
-    alloc: Global,
-    source: &mut Source<R>,
-    count: u16,
-) -> Result<Vec<u8>>
-    ensures answers { Answers (λ v. v.items) (times count next_byte) source.old result source.new }
-    ensures length { IfOk result (λ v. length v.items ≡ count) }
-{
-    let mut symbols = Vec::with_capacity(alloc, usize::from(count))?;
-    for i in 0..count {
-        let symbol = read_u8(alloc, source)?;
-        symbols.push(symbol)?;
-    }
-    Ok(symbols)
-}
-
 /// The symbols of a table of these counts, and the table.
 #[tactic(auto, unfolding(crate::specs::HuffmanTables::symbols_at))]
 fn read_table<R: Read + Drop>(
@@ -67,7 +52,7 @@ fn read_table<R: Read + Drop>(
     ensures class { IfOk result (λ t. t.class ≡ class) }
     ensures counts { IfOk result (λ t. t.counts ≡ counts.now) }
 {
-    let symbols = read_symbols(alloc, source, count)?;
+    let symbols = read_bytes(alloc, source, count)?;
     HuffmanTable::new(alloc, counts, &symbols, class)
 }
 

@@ -5,6 +5,7 @@ mod application;
 mod frame_header;
 mod huffman_tables;
 pub mod parser;
+mod payload;
 mod quantization;
 mod scan_header;
 #[cfg(test)]
