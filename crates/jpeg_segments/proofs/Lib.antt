@@ -1,4 +1,5 @@
 pub mod QuantizationLemmas
 pub mod HuffmanLemmas
 pub mod ApplicationLemmas
+pub mod FrameLemmas
 pub mod Rows

@@ -1,5 +1,7 @@
 //! Frame headers.
-ghost use Rattle.std.specs.Prelude.{◌≡◌, ◌≤◌, ◌<◌, ◌+◌, ◌*◌, ◌-◌, ◌^◌, ℕ, IfOk, All, [], ◌∷◌, map};
+ghost use Rattle.std.specs.Prelude.{◌≡◌, ◌≤◌, ◌<◌, ◌+◌, ◌*◌, ◌-◌, ◌^◌, ℕ, IfOk, All, [], ◌∷◌, map, max};
+ghost use Rattle.std.specs.Prelude.{◌==◌};
+ghost use Rattle.std.specs.List.{list_any};
 ghost use Rattle.jpeg_bits.specs.Reading.{Answers};
 ghost use Rattle.jpeg_bits.specs.declared.marker.Marker.TheVariants.{SOF};
 ghost use Rattle.jpeg_segments.specs.Frame.{AllHaveFactors, IsInRange, ceiling, component_of, components_from, factors_at, frame_of, greatest, head_at, is_count, is_lossless, is_place, is_precision, is_taken, parameters_at, process_of, coding_of, is_differential_number, size_at, sof_at};
@@ -162,11 +164,17 @@ fn read_parameters<R: Read + Drop>(
     })
 }
 
+fn has_identifier(front: &[Factors], identifier: u8) -> bool
+    ensures { result ≡ list_any (λ c. c.identifier == identifier) front.now }
+{
+    front.iter().any(|component| component.identifier == identifier)
+}
+
 /// Whether a component in front has this identifier.
 fn is_taken(front: &[Factors], identifier: u8) -> bool
     ensures { result ≡ is_taken (map factors_of front.now) identifier }
 {
-    front.iter().any(|component| component.identifier == identifier)
+    has_identifier(front, identifier)
 }
 
 /// The next component, behind those in front.
@@ -270,17 +278,29 @@ fn component_of(
     }
 }
 
+fn greater(a: u8, b: u8) -> u8
+    ensures { result ≡ max a b }
+{
+    if a < b { b } else { a }
+}
+
 /// The greatest factors, across and down.
 fn greatest_factors(components: &[Factors]) -> (u8, u8)
     requires { All IsInRange (map factors_of components.now) }
     ensures horizontal { result.0 ≡ greatest (λ c. c.horizontal) (map factors_of components.now) }
     ensures vertical { result.1 ≡ greatest (λ c. c.vertical) (map factors_of components.now) }
+    ensures some_horizontal { 1 ≤ result.0 }
+    ensures some_vertical { 1 ≤ result.1 }
+    ensures most_horizontal { result.0 ≤ 4 }
+    ensures most_vertical { result.1 ≤ 4 }
+    ensures covers_horizontal { All (λ c. c.horizontal ≤ result.0) components.now }
+    ensures covers_vertical { All (λ c. c.vertical ≤ result.1) components.now }
 {
     let mut horizontal = 1;
     let mut vertical = 1;
     for component in components {
-        horizontal = horizontal.max(component.horizontal);
-        vertical = vertical.max(component.vertical);
+        horizontal = greater(horizontal, component.horizontal);
+        vertical = greater(vertical, component.vertical);
     }
     (horizontal, vertical)
 }
@@ -293,9 +313,12 @@ fn components_of(
     most_vertical: u8,
     components: &[Factors],
 ) -> std::result::Result<Vec<Component>, AllocError>
-    requires factors { All IsInRange (map factors_of components.now) }
-    requires horizontal { most_horizontal ≡ greatest (λ c. c.horizontal) (map factors_of components.now) }
-    requires vertical { most_vertical ≡ greatest (λ c. c.vertical) (map factors_of components.now) }
+    requires some_horizontal { 1 ≤ most_horizontal }
+    requires some_vertical { 1 ≤ most_vertical }
+    requires most_horizontal { most_horizontal ≤ 4 }
+    requires most_vertical { most_vertical ≤ 4 }
+    requires covers_horizontal { All (λ c. c.horizontal ≤ most_horizontal) components.now }
+    requires covers_vertical { All (λ c. c.vertical ≤ most_vertical) components.now }
     ensures { IfOk result (λ v. map component_in v.items ≡ map (component_of size.width size.height most_horizontal most_vertical) (map factors_of components.now)) }
 {
     let mut made = Vec::with_capacity(alloc, components.len())?;
