@@ -2,4 +2,5 @@ pub mod QuantizationLemmas
 pub mod HuffmanLemmas
 pub mod ApplicationLemmas
 pub mod FrameLemmas
+pub mod ScanLemmas
 pub mod Rows

@@ -9,7 +9,9 @@ use Rattle.jpeg_segments.specs.declared.parser.AppData.{AppData}
 use Rattle.jpeg_segments.specs.declared.parser.AppData.TheVariants as seen
 use Rattle.jpeg_segments.specs.Application.{Application, Chunk, Adobe, Jfif, Avi1, Icc, Exif, Xmp, Psir}
 use Rattle.jpeg_segments.specs.Frame as frames
+use Rattle.jpeg_segments.specs.ScanHeader as scans
 use Rattle.jpeg_segments.specs.ScanHeader.{Scan}
+use Rattle.jpeg_segments.specs.declared.scan_header.Selector.{Selector}
 use Rattle.jpeg_bits.specs.declared.scan.ScanInfo.{ScanInfo}
 
 -- what is read of a component
@@ -49,6 +51,10 @@ frame_in f = record {
   mcus_high = f.mcu_size.height;
   components = map component_in f.components.items;
 }
+
+-- a component of a scan, as it is read
+abbrev pub selector_of : Selector → scans.Selector
+selector_of s = record { component = s.component; dc = s.dc; ac = s.ac; blocks = s.blocks }
 
 abbrev pub scan_in : ScanInfo → Scan
 scan_in s = record {
