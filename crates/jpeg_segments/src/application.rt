@@ -256,10 +256,7 @@ pub fn parse_dri<R: Read + Drop>(alloc: Global, reader: &mut Source<R>) -> Resul
 {
     let left = read_length(alloc, reader)?;
     if left != 2 {
-        return Err(format_error(
-            alloc,
-            "the length of a restart interval's segment is not 4",
-        ));
+        return Err(format_error(alloc, "the length of a restart interval's segment is not 4"));
     }
     read_u16_be(alloc, reader)
 }

@@ -167,7 +167,9 @@ fn read_parameters<R: Read + Drop>(
 fn has_identifier(front: &[Factors], identifier: u8) -> bool
     ensures { result ≡ list_any (λ c. c.identifier == identifier) front.now }
 {
-    front.iter().any(|component| component.identifier == identifier)
+    front
+        .iter()
+        .any(|component| component.identifier == identifier)
 }
 
 /// Whether a component in front has this identifier.

@@ -251,10 +251,7 @@ struct Places {
     ac: Vec<usize>,
 }
 
-fn places_of(
-    alloc: Global,
-    selectors: &[Selector],
-) -> std::result::Result<Places, AllocError>
+fn places_of(alloc: Global, selectors: &[Selector]) -> std::result::Result<Places, AllocError>
     ensures components { IfOk result (λ p. p.components.items ≡ map (λ s. s.component) (map selector_of selectors.now)) }
     ensures dc { IfOk result (λ p. p.dc.items ≡ map (λ s. s.dc) (map selector_of selectors.now)) }
     ensures ac { IfOk result (λ p. p.ac.items ≡ map (λ s. s.ac) (map selector_of selectors.now)) }
@@ -279,15 +276,15 @@ fn scan_of(
 ) -> std::result::Result<ScanInfo, AllocError>
     requires { band.last ≤ 63 }
     ensures { IfOk result (λ s. scan_in s ≡ record {
-        components = map (λ s. s.component) (map selector_of selectors.now);
-        dc_places = map (λ s. s.dc) (map selector_of selectors.now);
-        ac_places = map (λ s. s.ac) (map selector_of selectors.now);
-        first = band.first;
-        behind = behind_of process band.last;
-        predictor = predictor_of process band.first;
-        high = band.high;
-        low = band.low;
-        point_transform = band.low;
+      components = map (λ s. s.component) (map selector_of selectors.now);
+      dc_places = map (λ s. s.dc) (map selector_of selectors.now);
+      ac_places = map (λ s. s.ac) (map selector_of selectors.now);
+      first = band.first;
+      behind = behind_of process band.last;
+      predictor = predictor_of process band.first;
+      high = band.high;
+      low = band.low;
+      point_transform = band.low;
     }) }
 {
     let Places { components, dc, ac } = places_of(alloc, selectors)?;
@@ -348,7 +345,10 @@ pub fn parse_sos<R: Read + Drop>(
     let count = read_count(alloc, reader)?;
     let selectors = read_selectors(alloc, reader, frame, count)?;
     if !is_mcu(&selectors) {
-        return Err(format_error(alloc, "an MCU of several components has more than 10 blocks"));
+        return Err(format_error(
+            alloc,
+            "an MCU of several components has more than 10 blocks",
+        ));
     }
     read_band(alloc, reader, frame, &selectors)
 }

@@ -140,9 +140,7 @@ fn outcomes_of_frame_headers(rt: HostRuntime) {
 }
 
 /// Three components, the first of which has two blocks each way in an MCU.
-const THREE: [u8; 17] = [
-    0, 17, 8, 0, 8, 0, 16, 3, 1, 0x22, 0, 2, 0x11, 1, 3, 0x11, 1,
-];
+const THREE: [u8; 17] = [0, 17, 8, 0, 8, 0, 16, 3, 1, 0x22, 0, 2, 0x11, 1, 3, 0x11, 1];
 
 #[test]
 fn a_frame_of_three_components(rt: HostRuntime) -> std::result::Result<(), Fail> {
@@ -154,8 +152,10 @@ fn a_frame_of_three_components(rt: HostRuntime) -> std::result::Result<(), Fail>
         (3, 1, 1, size(8, 4), size(1, 1)),
     ];
     assert_eq!(rt; frame.components.len(), wanted.len());
-    for (component, (identifier, factor, table, samples, blocks)) in
-        frame.components.iter().zip(wanted.iter())
+    for (component, (identifier, factor, table, samples, blocks)) in frame
+        .components
+        .iter()
+        .zip(wanted.iter())
     {
         assert_eq!(rt; component.identifier, *identifier);
         assert_eq!(rt; component.horizontal_sampling_factor, *factor);
@@ -170,18 +170,68 @@ fn a_frame_of_three_components(rt: HostRuntime) -> std::result::Result<(), Fail>
 #[test]
 fn processes_of_frames(rt: HostRuntime) -> std::result::Result<(), Fail> {
     let processes = [
-        (0, CodingProcess::DctSequential, EntropyCoding::Huffman, false),
-        (1, CodingProcess::DctSequential, EntropyCoding::Huffman, false),
-        (2, CodingProcess::DctProgressive, EntropyCoding::Huffman, false),
+        (
+            0,
+            CodingProcess::DctSequential,
+            EntropyCoding::Huffman,
+            false,
+        ),
+        (
+            1,
+            CodingProcess::DctSequential,
+            EntropyCoding::Huffman,
+            false,
+        ),
+        (
+            2,
+            CodingProcess::DctProgressive,
+            EntropyCoding::Huffman,
+            false,
+        ),
         (3, CodingProcess::Lossless, EntropyCoding::Huffman, false),
-        (5, CodingProcess::DctSequential, EntropyCoding::Huffman, true),
-        (6, CodingProcess::DctProgressive, EntropyCoding::Huffman, true),
+        (
+            5,
+            CodingProcess::DctSequential,
+            EntropyCoding::Huffman,
+            true,
+        ),
+        (
+            6,
+            CodingProcess::DctProgressive,
+            EntropyCoding::Huffman,
+            true,
+        ),
         (7, CodingProcess::Lossless, EntropyCoding::Huffman, true),
-        (9, CodingProcess::DctSequential, EntropyCoding::Arithmetic, false),
-        (10, CodingProcess::DctProgressive, EntropyCoding::Arithmetic, false),
-        (11, CodingProcess::Lossless, EntropyCoding::Arithmetic, false),
-        (13, CodingProcess::DctSequential, EntropyCoding::Arithmetic, true),
-        (14, CodingProcess::DctProgressive, EntropyCoding::Arithmetic, true),
+        (
+            9,
+            CodingProcess::DctSequential,
+            EntropyCoding::Arithmetic,
+            false,
+        ),
+        (
+            10,
+            CodingProcess::DctProgressive,
+            EntropyCoding::Arithmetic,
+            false,
+        ),
+        (
+            11,
+            CodingProcess::Lossless,
+            EntropyCoding::Arithmetic,
+            false,
+        ),
+        (
+            13,
+            CodingProcess::DctSequential,
+            EntropyCoding::Arithmetic,
+            true,
+        ),
+        (
+            14,
+            CodingProcess::DctProgressive,
+            EntropyCoding::Arithmetic,
+            true,
+        ),
         (15, CodingProcess::Lossless, EntropyCoding::Arithmetic, true),
     ];
     for (number, process, coding, is_differential) in processes {
@@ -213,9 +263,7 @@ fn outcomes_of_frames_of_other_processes(rt: HostRuntime) {
         ),
         (
             0,
-            &[
-                0, 17, 8, 0, 8, 0, 16, 3, 7, 0x11, 0, 1, 0x11, 0, 7, 0x11, 0,
-            ],
+            &[0, 17, 8, 0, 8, 0, 16, 3, 7, 0x11, 0, 1, 0x11, 0, 7, 0x11, 0],
             Outcome::Format,
         ),
         (
@@ -489,9 +537,7 @@ fn outcomes_of_scans_of_three_components(rt: HostRuntime) {
 /// A scan of a frame of two components, with these sampling factors.
 fn scan_of_two(alloc: Global, factors: [u8; 2], bytes: &[u8]) -> Result<ScanInfo> {
     let [first, second] = factors;
-    let header = [
-        0, 14, 8, 0, 8, 0, 16, 2, 1, first, 0, 2, second, 0,
-    ];
+    let header = [0, 14, 8, 0, 8, 0, 16, 2, 1, first, 0, 2, second, 0];
     let frame = frame_of(alloc, 1, &header)?;
     parse_sos(alloc, &mut Source::new(bytes), &frame)
 }
@@ -685,7 +731,11 @@ fn restart_intervals(rt: HostRuntime) -> std::result::Result<(), Fail> {
         (&[], Outcome::Io),
     ];
     for (bytes, outcome) in headers {
-        assert_eq!(rt; outcome_of(interval_of(rt.alloc(), bytes)), outcome, "{bytes:?}");
+        assert_eq!(rt;
+            outcome_of(interval_of(rt.alloc(), bytes)),
+            outcome,
+            "{bytes:?}"
+        );
     }
     Ok(())
 }
@@ -708,7 +758,11 @@ fn comments(rt: HostRuntime) -> std::result::Result<(), Fail> {
         (&[0], Outcome::Io),
     ];
     for (bytes, outcome) in headers {
-        assert_eq!(rt; outcome_of(comment_of(rt.alloc(), bytes)), outcome, "{bytes:?}");
+        assert_eq!(rt;
+            outcome_of(comment_of(rt.alloc(), bytes)),
+            outcome,
+            "{bytes:?}"
+        );
     }
     Ok(())
 }
@@ -737,7 +791,7 @@ fn app_of(alloc: Global, number: u8, name: &[u8], data: &[u8]) -> Result<Option<
 }
 
 /// What a segment is, and whether its data is this.
-fn seen(app: Option<AppData>, data: &[u8]) -> (Seen, bool) {
+fn read_as(app: Option<AppData>, data: &[u8]) -> (Seen, bool) {
     match app {
         None => (Seen::Nothing, true),
         Some(AppData::Adobe(transform)) => (Seen::Adobe(transform), true),
@@ -801,7 +855,7 @@ fn applications(rt: HostRuntime) -> std::result::Result<(), Fail> {
         (14, b"", &[], Seen::Nothing),
     ];
     for (number, name, data, wanted) in segments {
-        let (app, is_data) = seen(app_of(rt.alloc(), number, name, data)?, data);
+        let (app, is_data) = read_as(app_of(rt.alloc(), number, name, data)?, data);
         assert_eq!(rt; app, wanted, "{number} {name:?} {data:?}");
         assert!(rt; is_data, "{number} {name:?} {data:?}");
     }
