@@ -783,7 +783,8 @@ enum Seen {
 /// A segment behind the marker `APP(number)`, of a name and the bytes behind it.
 fn app_of(alloc: Global, number: u8, name: &[u8], data: &[u8]) -> Result<Option<AppData>> {
     let mut bytes = Vec::new(alloc);
-    let length = (name.len() + data.len() + 2) as u16;
+    let length = name.len().saturating_add(data.len()).saturating_add(2);
+    let length = u16::try_from(length).unwrap_or(u16::MAX);
     bytes.extend_from_slice(&length.to_be_bytes())?;
     bytes.extend_from_slice(name)?;
     bytes.extend_from_slice(data)?;
