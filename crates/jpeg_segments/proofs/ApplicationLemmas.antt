@@ -1,8 +1,8 @@
 -- A payload that says nothing is passed over.
-use Rattle.std.proofs.Common.{◌≡◌, ◌≢◌, ℕ, zero, suc, ◌+◌, ◌<◌, Bool, true, false, List, [], ◌∷◌, refl, sym, ap, ◌∙◌, subst, Option, Some, None, Result, Ok, Err, arith, eqb}
+use Rattle.std.proofs.Common.{◌≡◌, ◌≢◌, ℕ, zero, suc, ◌<◌, false, List, [], ◌∷◌, refl, ap, ◌∙◌, Option, None, Result, Ok, Err, arith, eqb}
 use Rattle.std.proofs.lemmas.Bool.Decides.{nat_tests}
 use Rattle.jpeg_bits.specs.Stream.{Stream}
-use Rattle.jpeg_bits.specs.Reading.{Fault, Outcome, Answers, ◌>>=◌, times, skip_at, next_byte}
+use Rattle.jpeg_bits.specs.Reading.{Outcome, Answers, ◌>>=◌, times, skip_at, next_byte}
 use Rattle.jpeg_bits.specs.declared.error.Error.{Error}
 use Rattle.jpeg_segments.specs.Application.{Application, application_by, payload_at, passed_over}
 

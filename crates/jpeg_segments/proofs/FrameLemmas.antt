@@ -1,13 +1,13 @@
 -- Steps of the parser of frame headers.
-use Rattle.std.proofs.Common.{◌≡◌, ℕ, zero, suc, ◌+◌, ◌-◌, ◌<◌, ◌≤◌, Bool, true, false, List, [], ◌∷◌, ◌++◌, map, max, take, length, refl, sym, ap, ◌∙◌, Result, Ok, Err, arith, All, get_or, eqb}
+use Rattle.std.proofs.Common.{◌≡◌, ℕ, zero, suc, ◌+◌, ◌-◌, ◌<◌, ◌≤◌, Bool, List, [], ◌∷◌, ◌++◌, map, max, take, length, refl, ap, Ok, arith, All, get_or}
 use Rattle.std.specs.List.{list_any}
 use Rattle.std.specs.Prelude.{◌||◌}
 use Rattle.std.proofs.lemmas.List.Elements.{All-head, All-tail, All-cons, All-nil}
 use Rattle.std.proofs.lemmas.List.{take_more, map-append}
 use Rattle.jpeg_segments.specs.declared.frame_header.Factors.{Factors as Read}
 use Rattle.jpeg_segments.specs.FrameView.{factors_of}
-use Rattle.jpeg_bits.specs.Reading.{Fault, Outcome, ◌>>=◌}
-use Rattle.jpeg_segments.specs.Frame.{Factors, Component, HasFactors, AllHaveFactors, IsInRange, component_of, components_from, factors_at, greatest}
+use Rattle.jpeg_bits.specs.Reading.{◌>>=◌}
+use Rattle.jpeg_segments.specs.Frame.{Factors, HasFactors, AllHaveFactors, IsInRange, component_of, components_from, factors_at, greatest}
 
 pub components_from-more : (lossless : Bool) (n : ℕ) (front : List Factors) (bytes : List ℕ) → 0 < n
     → components_from lossless n front bytes ≡ (factors_at lossless front bytes >>= λ (c : Factors × List ℕ). components_from lossless (n - 1) (front ++ c.0 ∷ []) c.1)

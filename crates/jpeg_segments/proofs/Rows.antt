@@ -1,17 +1,17 @@
 -- Segments that the checker reads by computing.
-use Rattle.std.proofs.Common.{◌≡◌, ℕ, List, [], ◌∷◌, Bool, true, false, Option, Some, None, Result, Ok, Err, refl}
-use Rattle.jpeg_bits.specs.Reading.{Fault, Malformed, Lacks, Outcome, next_byte, next_u16, length_at, times, skip_at}
-use Rattle.jpeg_bits.specs.Codes.{Table, codes_exist, code_value, lengths_from}
-use Rattle.jpeg_bits.specs.declared.codes.HuffmanTableClass.TheVariants.{DC, AC}
+use Rattle.std.proofs.Common.{◌≡◌, ℕ, List, [], ◌∷◌, true, false, Some, None, Ok, Err, refl}
+use Rattle.jpeg_bits.specs.Reading.{Malformed, Lacks, next_u16, length_at, times, skip_at}
+use Rattle.jpeg_bits.specs.Codes.{codes_exist, code_value, lengths_from}
+use Rattle.jpeg_bits.specs.declared.codes.HuffmanTableClass.TheVariants.{AC}
 use Rattle.jpeg_bits.specs.declared.error.UnsupportedFeature.TheVariants.{DNL}
 use Rattle.jpeg_bits.specs.declared.scan.Predictor.TheVariants.{NoPrediction}
 use Rattle.jpeg_segments.specs.declared.parser.CodingProcess.TheVariants.{DctSequential, DctProgressive}
 use Rattle.jpeg_segments.specs.declared.parser.EntropyCoding.TheVariants.{Huffman}
-use Rattle.jpeg_segments.specs.Frame.{Factors, Component, Frame, sof_at, head_at, size_at, components_from, factors_at, parameters_at, frame_of, component_of}
-use Rattle.jpeg_segments.specs.Application.{Application, Exif, Adobe, app_at, payload_at, application_by, application_1, application_14, adobe_at, com_at, dri_at}
+use Rattle.jpeg_segments.specs.Frame.{Frame, sof_at, head_at, size_at, components_from, factors_at, parameters_at, frame_of, component_of}
+use Rattle.jpeg_segments.specs.Application.{Exif, Adobe, app_at, payload_at, application_by, application_1, application_14, adobe_at, com_at, dri_at}
 use Rattle.jpeg_segments.specs.declared.parser.AdobeColorTransform.TheVariants.{YCbCr}
-use Rattle.jpeg_segments.specs.HuffmanTables.{Tables, dht_at, tables_from, placed_codes_at, codes_at, symbols_at}
-use Rattle.jpeg_segments.specs.ScanHeader.{Scan, sos_at, count_at, selectors_from, selector_at, tables_at, band_at, scan_of}
+use Rattle.jpeg_segments.specs.HuffmanTables.{dht_at, tables_from, placed_codes_at, codes_at, symbols_at}
+use Rattle.jpeg_segments.specs.ScanHeader.{sos_at, count_at, selectors_from, selector_at, tables_at, band_at, scan_of}
 
 -- a baseline frame of 16 by 8 samples with one component
 abbrev frame : Frame

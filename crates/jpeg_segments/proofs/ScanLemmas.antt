@@ -1,8 +1,8 @@
 -- Steps of the parser of scan headers.
-use Rattle.std.proofs.Common.{◌≡◌, ℕ, zero, suc, ◌+◌, ◌-◌, ◌*◌, ◌<◌, ◌≤◌, Bool, true, false, not, cond, List, [], ◌∷◌, ◌++◌, map, length, refl, sym, ap, ◌∙◌, Result, Ok, Err, Option, Some, None, arith, get_or, eqb, ltb}
-use Rattle.std.specs.List.{position, position_or_len, sum_by}
+use Rattle.std.proofs.Common.{◌≡◌, ℕ, zero, suc, ◌+◌, ◌-◌, ◌*◌, ◌<◌, Bool, not, cond, List, [], ◌∷◌, ◌++◌, map, length, refl, ap, Ok, arith, get_or}
+use Rattle.std.specs.List.{position, position_or_len}
 use Rattle.std.proofs.lemmas.List.{length-map}
-use Rattle.jpeg_bits.specs.Reading.{Fault, Outcome, ◌>>=◌}
+use Rattle.jpeg_bits.specs.Reading.{◌>>=◌}
 use Rattle.jpeg_segments.specs.declared.parser.Component.{Component as Seen}
 use Rattle.jpeg_segments.specs.Frame.{Component}
 use Rattle.jpeg_segments.specs.Frame as frames

@@ -1,7 +1,6 @@
 -- What a caller sees of the results of the parsers.
-use Rattle.std.specs.Prelude.{ℕ, ◌-◌, map}
+use Rattle.std.specs.Prelude.{map}
 use Rattle.jpeg_segments.specs.declared.parser.FrameInfo.{FrameInfo}
-use Rattle.std.specs.Prelude.{Option, Some, None, option_map}
 use Rattle.jpeg_segments.specs.declared.parser.Component.{Component}
 use Rattle.jpeg_segments.specs.declared.frame_header.Factors.{Factors}
 use Rattle.jpeg_segments.specs.declared.parser.IccChunk.{IccChunk}

@@ -1,11 +1,11 @@
 -- Scan headers (T.81, B.2.3).
-use Rattle.std.specs.Prelude.{◌≡◌, ℕ, zero, suc, ◌+◌, ◌-◌, ◌*◌, ◌/◌, ◌%◌, List, [], ◌∷◌, ◌++◌, map, length, sum_by, slice_index_or, Bool, true, false, not, ◌&&◌, ◌||◌, Option, Some, None, Result, Ok, Err, nat_lt, nat_le, ◌==◌, if◌then◌else◌, position}
+use Rattle.std.specs.Prelude.{ℕ, zero, suc, ◌+◌, ◌*◌, ◌/◌, ◌%◌, List, [], ◌∷◌, ◌++◌, map, length, sum_by, Bool, not, ◌&&◌, ◌||◌, Option, Some, None, Ok, Err, nat_lt, nat_le, ◌==◌, if◌then◌else◌, position}
 use Rattle.jpeg_bits.specs.Reading.{Outcome, Malformed, ◌>>=◌, next_byte, length_at}
 use Rattle.jpeg_bits.specs.declared.scan.Predictor.{Predictor}
 use Rattle.jpeg_bits.specs.declared.scan.Predictor.TheVariants.{NoPrediction, Ra, Rb, Rc, RaRbRc1, RaRbRc2, RaRbRc3, RaRb}
 use Rattle.jpeg_segments.specs.declared.parser.CodingProcess.{CodingProcess}
 use Rattle.jpeg_segments.specs.declared.parser.CodingProcess.TheVariants.{DctSequential, DctProgressive, Lossless}
-use Rattle.jpeg_segments.specs.Frame.{Frame, Component, Factors}
+use Rattle.jpeg_segments.specs.Frame.{Frame, Component}
 use Rattle.jpeg_segments.specs.HuffmanTables.{greatest_place}
 
 -- A scan: its components' places in the frame and the places of their tables, in the order of the scan; the coefficients that it codes, by

@@ -1,4 +1,4 @@
-use Rattle.std.proofs.Common.{◌≡◌, ◌≢◌, ◌<◌, None, arith, rules}
+use Rattle.std.proofs.Common.{◌≢◌, ◌<◌, None, rules}
 use Rattle.std.specs.Prelude.{option_map}
 use Rattle.jpeg_segments.specs.Application.{payload_at, passed_over}
 use Rattle.jpeg_segments.specs.FrameView.{application_in}

@@ -1,5 +1,4 @@
-use Rattle.std.proofs.Common.{◌≡◌, map, sym, ◌∙◌, All}
-use Rattle.jpeg_segments.specs.Frame.{AllHaveFactors}
+use Rattle.std.proofs.Common.{map}
 use Rattle.jpeg_segments.specs.FrameView.{factors_of}
 use Rattle.jpeg_segments.proofs.FrameLemmas.{all-in-range}
 use Rattle.jpeg_segments.proofs.frame_header.frame_of.Goals as goal

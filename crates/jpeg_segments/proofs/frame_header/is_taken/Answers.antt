@@ -1,4 +1,4 @@
-use Rattle.std.proofs.Common.{◌≡◌, sym, ◌∙◌, eqb}
+use Rattle.std.proofs.Common.{sym, ◌∙◌, eqb}
 use Rattle.jpeg_segments.specs.FrameView.{factors_of}
 use Rattle.jpeg_segments.proofs.FrameLemmas.{list_any-map}
 use Rattle.jpeg_segments.proofs.frame_header.is_taken.Goals as goal

@@ -1,4 +1,4 @@
-use Rattle.std.proofs.Common.{◌≡◌, ◌≤◌, ℕ, List, [], map, All}
+use Rattle.std.proofs.Common.{ℕ, List, [], map, All}
 use Rattle.jpeg_segments.specs.Frame.{IsInRange, components_from}
 use Rattle.jpeg_segments.specs.FrameView.{factors_of}
 use Rattle.jpeg_bits.proofs.Loops.{Continues}

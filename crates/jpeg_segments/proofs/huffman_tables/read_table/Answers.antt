@@ -1,4 +1,4 @@
-use Rattle.std.proofs.Common.{◌≡◌, refl}
+use Rattle.std.proofs.Common.{◌≡◌}
 use Rattle.jpeg_segments.proofs.HuffmanLemmas.{table-found}
 use Rattle.jpeg_segments.proofs.huffman_tables.read_table.Goals as goal
 

@@ -1,7 +1,7 @@
-use Rattle.std.proofs.Common.{◌≡◌, ◌+◌, ◌<◌, ◌++◌, ◌∷◌, [], length, arith, ap, ◌∙◌, sym, List, ℕ, refl, length-append}
+use Rattle.std.proofs.Common.{◌≡◌, ◌+◌, ◌++◌, ◌∷◌, [], length, ap, ◌∙◌, List, ℕ, length-append}
 use Rattle.std.proofs.lemmas.Result.{err_from_is_err_and}
 use Rattle.jpeg_bits.specs.Reading.{next_byte}
-use Rattle.jpeg_bits.proofs.Loops.{HasRead, HasRead-more, HasRead-err, HasRead-all}
+use Rattle.jpeg_bits.proofs.Loops.{HasRead-more, HasRead-err, HasRead-all}
 use Rattle.jpeg_segments.proofs.payload.read_bytes.Goals as goal
 
 pub loop-i-preserved : goal.loop-i-preserved

@@ -1,4 +1,4 @@
-use Rattle.std.proofs.Common.{◌≡◌, sym, ◌∙◌}
+use Rattle.std.proofs.Common.{sym, ◌∙◌}
 use Rattle.jpeg_segments.proofs.ScanLemmas.{blocks-at}
 use Rattle.jpeg_segments.proofs.scan_header.blocks_by.Goals as goal
 

@@ -1,4 +1,4 @@
-use Rattle.std.proofs.Common.{◌≡◌, sym, ◌∙◌, eqb}
+use Rattle.std.proofs.Common.{sym, ◌∙◌, eqb}
 use Rattle.jpeg_segments.specs.FrameView.{component_in}
 use Rattle.jpeg_segments.proofs.ScanLemmas.{position-map}
 use Rattle.jpeg_segments.proofs.scan_header.place_of.Goals as goal

@@ -1,4 +1,4 @@
-use Rattle.std.proofs.Common.{◌≡◌, ◌+◌, ◌≤◌, ℕ, List, [], map, length}
+use Rattle.std.proofs.Common.{◌≡◌, ◌+◌, ℕ, List, [], map, length}
 use Rattle.jpeg_segments.specs.ScanHeader.{selectors_from}
 use Rattle.jpeg_segments.specs.FrameView.{frame_in, selector_of}
 use Rattle.jpeg_bits.proofs.Loops.{Continues}
