@@ -321,7 +321,8 @@ fn components_of(
     requires most_vertical { most_vertical ≤ 4 }
     requires covers_horizontal { All (λ c. c.horizontal ≤ most_horizontal) components.now }
     requires covers_vertical { All (λ c. c.vertical ≤ most_vertical) components.now }
-    ensures { IfOk result (λ v. map component_in v.items ≡ map (component_of size.width size.height most_horizontal most_vertical) (map factors_of components.now)) }
+    ensures { IfOk result (λ v. map component_in v.items ≡
+        map (component_of size.width size.height most_horizontal most_vertical) (map factors_of components.now)) }
 {
     let mut made = Vec::with_capacity(alloc, components.len())?;
     for component in components {
@@ -339,7 +340,8 @@ fn frame_of(
     components: &[Factors],
 ) -> std::result::Result<FrameInfo, AllocError>
     requires { All IsInRange (map factors_of components.now) }
-    ensures frame { IfOk result (λ f. frame_in f ≡ frame_of number head.precision head.size.width head.size.height (map factors_of components.now)) }
+    ensures frame { IfOk result (λ f. frame_in f ≡
+        frame_of number head.precision head.size.width head.size.height (map factors_of components.now)) }
     ensures factors { IfOk result (λ f. AllHaveFactors (map component_in f.components.items)) }
 {
     let (horizontal, vertical) = greatest_factors(components);
