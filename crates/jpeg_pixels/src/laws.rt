@@ -13,7 +13,8 @@ pub fn flat_blocks_are_flat()
         sample coefficients quantization x y ≡ clamped (int_shr (dequantized coefficients quantization 0 0 +ℤ pos 4) 3 +ℤ pos 128) }
 {}
 
-/// The place in the block of the place in zigzag order of each place of a block is that place (T.81, A.3.6).
+/// The table of places in zigzag order and the table of places in the block are inverse to one
+/// another (T.81, A.3.6).
 pub fn zigzag_places_are_inverse()
     ensures forth { map (λ place. slice_index zigzag place) zigzag_places ≡ range_with_len 0 64 }
     ensures back { map (λ place. slice_index zigzag_places place) zigzag ≡ range_with_len 0 64 }
@@ -23,12 +24,15 @@ pub fn zigzag_places_are_inverse()
 pub fn planes_are_their_rows()
     ensures none { (table : List ℕ) (wide : ℕ) (block_at : ℕ → ℕ → List ℤ) → plane_of table wide 0 block_at ≡ [] }
     ensures more { (table : List ℕ) (wide high : ℕ) (block_at : ℕ → ℕ → List ℤ) →
-        plane_of table wide (high + 1) block_at ≡ plane_of table wide high block_at ++ strip_of table (map (block_at high) (range_with_len 0 wide)) }
-    ensures same { (table : List ℕ) (wide high : ℕ) (f g : ℕ → ℕ → List ℤ) → ((row column : ℕ) → row < high → column < wide → f row column ≡ g row column) →
+        plane_of table wide (high + 1) block_at ≡
+        plane_of table wide high block_at ++ strip_of table (map (block_at high) (range_with_len 0 wide)) }
+    ensures same { (table : List ℕ) (wide high : ℕ) (f g : ℕ → ℕ → List ℤ) →
+        ((row column : ℕ) → row < high → column < wide → f row column ≡ g row column) →
         plane_of table wide high f ≡ plane_of table wide high g }
 {}
 
-/// The samples of three blocks, computed: the first coefficient alone; the largest coefficients and quantization values; one large product.
+/// The samples of three blocks, computed: the first coefficient alone; the largest coefficients and
+/// quantization values; one large product.
 pub fn known_blocks()
     ensures first_only { plane_of (replicate 64 1) 1 1 (λ row column. pos 8 ∷ replicate 63 (pos 0)) ≡ replicate 64 129 }
     ensures largest { plane_of (replicate 64 65535) 1 1 (λ row column. replicate 64 (pos 32767)) ≡

@@ -7,8 +7,9 @@ use std::alloc::AllocError;
 
 /// Puts the samples of a row of blocks behind a plane: eight lines of `8 * blocks.len()` samples.
 ///
-/// The blocks and the quantization table stand in block order: row `v` and column `u` at `8 * v + u`. The only error is that no memory is
-/// left to grow the plane, which then stays as it was.
+/// The blocks and the quantization table stand in block order: row `v` and column `u` at
+/// `8 * v + u`. The only error is that no memory is left to grow the plane, which then stays as it
+/// was.
 pub fn append_row(
     plane: &mut Vec<u8>,
     blocks: &[[i16; 64]],
@@ -41,7 +42,8 @@ fn write_strip(strip: &mut [u8], blocks: &[[i16; 64]], quantization_table: &[u16
     }
 }
 
-/// Crops a plane with lines of `stride` samples in place: the first `width` samples of the first `height` lines are kept.
+/// Crops a plane with lines of `stride` samples in place: the first `width` samples of the first
+/// `height` lines are kept.
 pub fn crop(plane: &mut Vec<u8>, stride: usize, width: usize, height: usize)
     requires width { width ≤ stride }
     requires room { height * stride ≤ length plane.old.items }
@@ -57,7 +59,8 @@ pub fn crop(plane: &mut Vec<u8>, stride: usize, width: usize, height: usize)
 fn close_lines(lines: &mut [u8], stride: usize, width: usize, height: usize)
     requires width { width ≤ stride }
     requires room { height * stride ≤ length lines.old }
-    ensures { (y x : ℕ) → y < height → x < width → slice_index lines.new (y * width + x) ≡ slice_index lines.old (y * stride + x) }
+    ensures { (y x : ℕ) → y < height → x < width →
+        slice_index lines.new (y * width + x) ≡ slice_index lines.old (y * stride + x) }
 {
     for y in 0..height {
         let start = y * stride;

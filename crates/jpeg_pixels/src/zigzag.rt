@@ -23,7 +23,8 @@ fn zigzag_place(place: usize) -> usize
     PLACES[place]
 }
 
-/// The 64 coefficients of a block, given in zigzag order, in block order: that of row `v` and column `u` stands at `8 * v + u` (T.81, A.3.6).
+/// The 64 coefficients of a block, given in zigzag order, in block order: that of row `v` and
+/// column `u` stands at `8 * v + u` (T.81, A.3.6).
 #[tactic(auto, using(crate::proofs::Sums::set_next))]
 pub fn coefficients_in_order(coefficients: &[i16; 64]) -> [i16; 64]
     ensures { result ≡ coefficients_in_block_order coefficients.now }
@@ -35,7 +36,8 @@ pub fn coefficients_in_order(coefficients: &[i16; 64]) -> [i16; 64]
     ordered
 }
 
-/// The 64 values of a quantization table, given in zigzag order, in block order: that of row `v` and column `u` stands at `8 * v + u` (T.81, A.3.6).
+/// The 64 values of a quantization table, given in zigzag order, in block order: that of row `v`
+/// and column `u` stands at `8 * v + u` (T.81, A.3.6).
 #[tactic(auto, using(crate::proofs::Sums::set_next))]
 pub fn values_in_order(values: &[u16; 64]) -> [u16; 64]
     ensures { result ≡ values_in_block_order values.now }
