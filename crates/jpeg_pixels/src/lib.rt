@@ -6,4 +6,6 @@ pub mod laws;
 pub mod plane;
 #[cfg(test)]
 mod tests;
+pub mod upsampler;
+pub mod worker;
 pub mod zigzag;

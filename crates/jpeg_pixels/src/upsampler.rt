@@ -1,0 +1,154 @@
+//! Samples between samples, and colours: lines of components become lines of the picture.
+ghost use Rattle.std.specs.Prelude.{◌≡◌, ℕ, ◌+◌, ◌-◌, ◌*◌, ◌<◌, ◌≤◌, map, length, slice_index};
+ghost use Rattle.jpeg_bits.specs.Reading.{Gives};
+ghost use Rattle.jpeg_pixels.specs.Upsampling.{upsampled, across, down};
+ghost use Rattle.jpeg_pixels.specs.Colour.{conversion_of};
+
+use jpeg_bits::color_transform::ColorTransform;
+use jpeg_bits::error::{Error, Result};
+use jpeg_segments::parser::Component;
+use std::alloc::Global;
+use std::marker::Model;
+
+/// How the samples of a component become those of the picture: by the factors across (H) and down (V).
+#[derive(Clone, Copy, Debug, PartialEq)]
+pub enum UpsampleRule {
+    H1V1,
+    H2V1,
+    H1V2,
+    H2V2,
+    /// Each sample stands for so many across and down.
+    Generic(u8, u8),
+}
+
+impl UpsampleRule {
+    ghost use Rattle.std.specs.Prelude.{◌≡◌, ℕ, ◌+◌, ◌-◌, ◌*◌, ◌<◌, ◌≤◌, length, slice_index};
+    ghost use Rattle.jpeg_pixels.specs.Upsampling.{upsampled, across, down};
+
+    /// Writes the first `output_width` samples of row `row` of the picture to the front of the output; its other bytes stay.
+    ///
+    /// The component has `input_height` lines of `input_width` samples, the lines `row_stride` bytes apart, and the picture
+    /// is as wide as `across` times that, but for less than one sample of the component.
+    pub fn upsample_row(
+        &self,
+        input: &[u8],
+        input_width: usize,
+        input_height: usize,
+        row_stride: usize,
+        row: usize,
+        output_width: usize,
+        output: &mut [u8],
+    )
+        requires some_across { 1 ≤ across self.now }
+        requires some_down { 1 ≤ down self.now }
+        requires some_width { 1 ≤ input_width }
+        requires wide_enough { output_width ≤ across self.now * input_width }
+        requires no_wider { across self.now * input_width < output_width + across self.now }
+        requires row { row < down self.now * input_height }
+        requires in_stride { input_width ≤ row_stride }
+        requires input_room { (input_height - 1) * row_stride + input_width ≤ length input.now }
+        requires output_room { output_width ≤ length output.old }
+        ensures samples { (x : ℕ) → x < output_width → slice_index output.new x
+            ≡ upsampled self.now (λ i j. slice_index input.now (j * row_stride + i)) input_width input_height x row }
+        ensures others { (i : ℕ) → output_width ≤ i → slice_index output.new i ≡ slice_index output.old i }
+    {}
+}
+
+/// How the samples of a pixel become its bytes.
+#[derive(Clone, Copy, Debug, PartialEq)]
+pub enum ColorConvert {
+    /// No conversion; the components of a line stand one after the other.
+    None,
+    Rgb,
+    YCbCr,
+    Cmyk,
+    Ycck,
+}
+
+impl ColorConvert {
+    ghost use Rattle.jpeg_bits.specs.Reading.{Gives};
+    ghost use Rattle.jpeg_pixels.specs.Colour.{conversion_of};
+
+    /// The conversion of a transform for three or four components. A transform that doesn't fit is `Format`, and one that is not known here is
+    /// `Unsupported(ColorTransform(..))`.
+    pub fn choose(
+        alloc: Global,
+        component_count: usize,
+        color_transform: ColorTransform,
+    ) -> Result<ColorConvert>
+        ensures { Gives (conversion_of component_count color_transform) result }
+    {
+        Err(Error::OutOfMemory)
+    }
+}
+
+/// The samples of a component: how they are upsampled, their size, and the samples that a line of its plane has.
+#[derive(Clone, Copy, Debug, PartialEq)]
+pub struct ComponentSource {
+    pub rule: UpsampleRule,
+    pub width: usize,
+    pub height: usize,
+    pub row_stride: usize,
+}
+
+/// Makes lines of the picture of the planes of its components.
+#[derive(Drop)]
+pub struct Upsampler {
+    alloc: Global,
+    components: Vec<ComponentSource>,
+}
+
+impl Model for Upsampler {
+    ghost use Rattle.std.specs.Prelude.{List, map};
+    ghost use Rattle.jpeg_pixels.specs.Pictures.{Source};
+    ghost use Rattle.jpeg_pixels.specs.PicturesView.{source_in};
+
+    ghost Value = { List Source };
+
+    ghost view = { λ u. map source_in u.components.items };
+}
+
+impl Upsampler {
+    ghost use Rattle.std.specs.Prelude.{◌≡◌, ◌+◌, ◌*◌, ◌≤◌, map, length, OnOk, IfErr};
+    ghost use Rattle.jpeg_bits.specs.Reading.{Gives};
+    ghost use Rattle.jpeg_bits.specs.declared.error.Error.TheVariants.{OutOfMemory};
+    ghost use Rattle.jpeg_segments.specs.FrameView.{component_in};
+    ghost use Rattle.jpeg_pixels.specs.Pictures.{sources_of, AllCover, picture_line};
+    ghost use Rattle.jpeg_pixels.specs.PicturesView.{AllHaveFactors, IsFor};
+
+    /// The upsampler of a frame's components for a picture of this size. A component whose ratio to the greatest factors isn't whole is
+    /// `Unsupported(NonIntegerSubsamplingRatio)`.
+    pub fn new(
+        alloc: Global,
+        components: &[Component],
+        output_width: u16,
+        output_height: u16,
+    ) -> Result<Upsampler>
+        requires some { 1 ≤ length components.now }
+        requires most { length components.now ≤ 4 }
+        requires factors { AllHaveFactors (map component_in components.now) }
+        ensures { Gives (sources_of (map component_in components.now) output_width output_height) result }
+    {
+        Err(Error::OutOfMemory)
+    }
+
+    /// Writes line `row` of the picture, of `output_width` pixels. `component_data` has the plane of each component. The only error is want
+    /// of memory; the output's bytes are then open.
+    pub fn upsample_and_interleave_row(
+        &self,
+        component_data: &[Vec<u8>],
+        row: usize,
+        output_width: usize,
+        output: &mut [u8],
+        color_convert: ColorConvert,
+    ) -> Result<()>
+        requires planes { length component_data.now ≡ length self.now }
+        requires cover { AllCover self.now (map (λ v. v.items) component_data.now) output_width (row + 1) }
+        requires fits { IsFor (length self.now) color_convert }
+        requires room { length output.old ≡ length self.now * output_width }
+        ensures line { OnOk result (output.new ≡ picture_line color_convert self.now (map (λ v. v.items) component_data.now) output_width row) }
+        ensures err { IfErr result (λ e. e ≡ OutOfMemory) }
+    {
+        Err(Error::OutOfMemory)
+    }
+}
