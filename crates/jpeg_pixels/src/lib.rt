@@ -1,6 +1,7 @@
 //! From coefficients to samples.
 #![tactic(auto)]
 
+mod color_rows;
 pub mod idct;
 pub mod laws;
 pub mod plane;
