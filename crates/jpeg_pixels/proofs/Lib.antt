@@ -4,6 +4,7 @@ pub mod Residues
 pub mod Sums
 pub mod FlatBlocks
 pub mod CroppedLines
+pub mod Pieces
 pub mod PlaneRows
 pub mod Rows
 pub mod Strips

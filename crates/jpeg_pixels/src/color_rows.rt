@@ -6,9 +6,6 @@ ghost use Rattle.jpeg_pixels.specs.Colour.{luma_of, centred_of, red_of, green_of
 
 use crate::idct::clamp_to_byte;
 
-// The pixels that are converted at a time.
-const PIECE: usize = 64;
-
 fn luma(y: u8) -> i32
     ensures { result ≡ luma_of y }
 {
@@ -158,4 +155,164 @@ fn interleave_four(
         output[4 * (start + x) + 2] = third[x];
         output[4 * (start + x) + 3] = fourth[x];
     }
+}
+
+// Red, green and blue of some pixels from `start` on, by rows of 64.
+fn write_ycbcr_piece(lines: &[u8], width: usize, start: usize, count: usize, output: &mut [u8])
+    requires most { count ≤ 64 }
+    requires inside { start + count ≤ width }
+    requires lines { 3 * width ≤ length lines.now }
+    requires room { 3 * width ≤ length output.old }
+    ensures red { (x : ℕ) → x < count → slice_index output.new (3 * (start + x))
+        ≡ red_of (slice_index lines.now (start + x)) (slice_index lines.now (2 * width + (start + x))) }
+    ensures green { (x : ℕ) → x < count → slice_index output.new (3 * (start + x) + 1)
+        ≡ green_of (slice_index lines.now (start + x)) (slice_index lines.now (width + (start + x))) (slice_index lines.now (2 * width + (start + x))) }
+    ensures blue { (x : ℕ) → x < count → slice_index output.new (3 * (start + x) + 2)
+        ≡ blue_of (slice_index lines.now (start + x)) (slice_index lines.now (width + (start + x))) }
+    ensures before { (i : ℕ) → i < 3 * start → slice_index output.new i ≡ slice_index output.old i }
+{
+    let mut red = [0; 64];
+    let mut green = [0; 64];
+    let mut blue = [0; 64];
+    red_row(lines, start, 2 * width + start, count, &mut red);
+    green_row(
+        lines,
+        start,
+        width + start,
+        2 * width + start,
+        count,
+        &mut green,
+    );
+    blue_row(lines, start, width + start, count, &mut blue);
+    interleave_three(&red, &green, &blue, count, output, start);
+}
+
+// Red, green, blue and the inverse of the fourth component of some pixels from `start` on.
+fn write_ycck_piece(lines: &[u8], width: usize, start: usize, count: usize, output: &mut [u8])
+    requires most { count ≤ 64 }
+    requires inside { start + count ≤ width }
+    requires lines { 4 * width ≤ length lines.now }
+    requires room { 4 * width ≤ length output.old }
+    ensures red { (x : ℕ) → x < count → slice_index output.new (4 * (start + x))
+        ≡ red_of (slice_index lines.now (start + x)) (slice_index lines.now (2 * width + (start + x))) }
+    ensures green { (x : ℕ) → x < count → slice_index output.new (4 * (start + x) + 1)
+        ≡ green_of (slice_index lines.now (start + x)) (slice_index lines.now (width + (start + x))) (slice_index lines.now (2 * width + (start + x))) }
+    ensures blue { (x : ℕ) → x < count → slice_index output.new (4 * (start + x) + 2)
+        ≡ blue_of (slice_index lines.now (start + x)) (slice_index lines.now (width + (start + x))) }
+    ensures black { (x : ℕ) → x < count → slice_index output.new (4 * (start + x) + 3) ≡ 255 - slice_index lines.now (3 * width + (start + x)) }
+    ensures before { (i : ℕ) → i < 4 * start → slice_index output.new i ≡ slice_index output.old i }
+{
+    let mut red = [0; 64];
+    let mut green = [0; 64];
+    let mut blue = [0; 64];
+    let mut black = [0; 64];
+    red_row(lines, start, 2 * width + start, count, &mut red);
+    green_row(
+        lines,
+        start,
+        width + start,
+        2 * width + start,
+        count,
+        &mut green,
+    );
+    blue_row(lines, start, width + start, count, &mut blue);
+    inverted_row(lines, 3 * width + start, count, &mut black);
+    interleave_four(&red, &green, &blue, &black, count, output, start);
+}
+
+// The inverse of each component of some pixels from `start` on.
+fn write_cmyk_piece(lines: &[u8], width: usize, start: usize, count: usize, output: &mut [u8])
+    requires most { count ≤ 64 }
+    requires inside { start + count ≤ width }
+    requires lines { 4 * width ≤ length lines.now }
+    requires room { 4 * width ≤ length output.old }
+    ensures cyan { (x : ℕ) → x < count → slice_index output.new (4 * (start + x)) ≡ 255 - slice_index lines.now (start + x) }
+    ensures magenta { (x : ℕ) → x < count → slice_index output.new (4 * (start + x) + 1) ≡ 255 - slice_index lines.now (width + (start + x)) }
+    ensures yellow { (x : ℕ) → x < count → slice_index output.new (4 * (start + x) + 2) ≡ 255 - slice_index lines.now (2 * width + (start + x)) }
+    ensures black { (x : ℕ) → x < count → slice_index output.new (4 * (start + x) + 3) ≡ 255 - slice_index lines.now (3 * width + (start + x)) }
+    ensures before { (i : ℕ) → i < 4 * start → slice_index output.new i ≡ slice_index output.old i }
+{
+    let mut cyan = [0; 64];
+    let mut magenta = [0; 64];
+    let mut yellow = [0; 64];
+    let mut black = [0; 64];
+    inverted_row(lines, start, count, &mut cyan);
+    inverted_row(lines, width + start, count, &mut magenta);
+    inverted_row(lines, 2 * width + start, count, &mut yellow);
+    inverted_row(lines, 3 * width + start, count, &mut black);
+    interleave_four(&cyan, &magenta, &yellow, &black, count, output, start);
+}
+
+/// Writes the pixels of a line of red, green and blue, whose components stand one after the other.
+pub(crate) fn write_rgb(lines: &[u8], width: usize, output: &mut [u8])
+    requires lines { 3 * width ≤ length lines.now }
+    requires room { 3 * width ≤ length output.old }
+    ensures red { (x : ℕ) → x < width → slice_index output.new (3 * x) ≡ slice_index lines.now x }
+    ensures green { (x : ℕ) → x < width → slice_index output.new (3 * x + 1) ≡ slice_index lines.now (width + x) }
+    ensures blue { (x : ℕ) → x < width → slice_index output.new (3 * x + 2) ≡ slice_index lines.now (2 * width + x) }
+{
+    interleave_three(
+        lines,
+        &lines[width..],
+        &lines[2 * width..],
+        width,
+        output,
+        0,
+    );
+}
+
+/// Writes the pixels of a line of brightness and two colour differences, which stand one after the
+/// other: red, green and blue.
+pub(crate) fn write_ycbcr(lines: &[u8], width: usize, output: &mut [u8])
+    requires lines { 3 * width ≤ length lines.now }
+    requires room { 3 * width ≤ length output.old }
+    ensures red { (x : ℕ) → x < width → slice_index output.new (3 * x)
+        ≡ red_of (slice_index lines.now x) (slice_index lines.now (2 * width + x)) }
+    ensures green { (x : ℕ) → x < width → slice_index output.new (3 * x + 1)
+        ≡ green_of (slice_index lines.now x) (slice_index lines.now (width + x)) (slice_index lines.now (2 * width + x)) }
+    ensures blue { (x : ℕ) → x < width → slice_index output.new (3 * x + 2)
+        ≡ blue_of (slice_index lines.now x) (slice_index lines.now (width + x)) }
+{
+    let pieces = width / 64;
+    for piece in 0..pieces {
+        write_ycbcr_piece(lines, width, 64 * piece, 64, output);
+    }
+    write_ycbcr_piece(lines, width, 64 * pieces, width % 64, output);
+}
+
+/// Writes the pixels of a line of brightness, two colour differences and black, which stand one
+/// after the other: red, green, blue, and black inverted.
+pub(crate) fn write_ycck(lines: &[u8], width: usize, output: &mut [u8])
+    requires lines { 4 * width ≤ length lines.now }
+    requires room { 4 * width ≤ length output.old }
+    ensures red { (x : ℕ) → x < width → slice_index output.new (4 * x)
+        ≡ red_of (slice_index lines.now x) (slice_index lines.now (2 * width + x)) }
+    ensures green { (x : ℕ) → x < width → slice_index output.new (4 * x + 1)
+        ≡ green_of (slice_index lines.now x) (slice_index lines.now (width + x)) (slice_index lines.now (2 * width + x)) }
+    ensures blue { (x : ℕ) → x < width → slice_index output.new (4 * x + 2)
+        ≡ blue_of (slice_index lines.now x) (slice_index lines.now (width + x)) }
+    ensures black { (x : ℕ) → x < width → slice_index output.new (4 * x + 3) ≡ 255 - slice_index lines.now (3 * width + x) }
+{
+    let pieces = width / 64;
+    for piece in 0..pieces {
+        write_ycck_piece(lines, width, 64 * piece, 64, output);
+    }
+    write_ycck_piece(lines, width, 64 * pieces, width % 64, output);
+}
+
+/// Writes the pixels of a line of cyan, magenta, yellow and black, which stand one after the other,
+/// each inverted.
+pub(crate) fn write_cmyk(lines: &[u8], width: usize, output: &mut [u8])
+    requires lines { 4 * width ≤ length lines.now }
+    requires room { 4 * width ≤ length output.old }
+    ensures cyan { (x : ℕ) → x < width → slice_index output.new (4 * x) ≡ 255 - slice_index lines.now x }
+    ensures magenta { (x : ℕ) → x < width → slice_index output.new (4 * x + 1) ≡ 255 - slice_index lines.now (width + x) }
+    ensures yellow { (x : ℕ) → x < width → slice_index output.new (4 * x + 2) ≡ 255 - slice_index lines.now (2 * width + x) }
+    ensures black { (x : ℕ) → x < width → slice_index output.new (4 * x + 3) ≡ 255 - slice_index lines.now (3 * width + x) }
+{
+    let pieces = width / 64;
+    for piece in 0..pieces {
+        write_cmyk_piece(lines, width, 64 * piece, 64, output);
+    }
+    write_cmyk_piece(lines, width, 64 * pieces, width % 64, output);
 }
