@@ -4,6 +4,8 @@ pub mod Residues
 pub mod Sums
 pub mod FlatBlocks
 pub mod CroppedLines
+pub mod JoinedLines
+pub mod LinesOfColour
 pub mod Pieces
 pub mod PlaneRows
 pub mod Rows

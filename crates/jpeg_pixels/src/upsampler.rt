@@ -1,11 +1,11 @@
 //! Samples between samples, and colours: lines of components become lines of the picture.
 ghost use Rattle.std.specs.Prelude.{◌≡◌, ℕ, ◌+◌, ◌-◌, ◌*◌, ◌<◌, ◌≤◌, map, length, slice_index};
-ghost use Rattle.jpeg_bits.specs.Reading.{Gives};
+ghost use Rattle.jpeg_bits.specs.Reading.{Gives, NamesFormat};
 ghost use Rattle.jpeg_pixels.specs.Upsampling.{upsampled, across, down};
 ghost use Rattle.jpeg_pixels.specs.Colour.{conversion_of};
 
 use jpeg_bits::color_transform::ColorTransform;
-use jpeg_bits::error::{Error, Result};
+use jpeg_bits::error::{Error, Result, UnsupportedFeature};
 use jpeg_segments::parser::Component;
 use std::alloc::Global;
 use std::marker::Model;
@@ -69,8 +69,9 @@ impl ColorConvert {
     ghost use Rattle.jpeg_bits.specs.Reading.{Gives};
     ghost use Rattle.jpeg_pixels.specs.Colour.{conversion_of};
 
-    /// The conversion of a transform for three or four components. A transform that doesn't fit is `Format`, and one that is not known here is
-    /// `Unsupported(ColorTransform(..))`.
+    /// The conversion of a transform for three or four components. A transform that doesn't fit is
+    /// `Format`, and one that is not known here is `Unsupported(ColorTransform(..))`.
+    #[tactic(auto, unfolding(crate::specs::Colour::conversion_of))]
     pub fn choose(
         alloc: Global,
         component_count: usize,
@@ -78,7 +79,32 @@ impl ColorConvert {
     ) -> Result<ColorConvert>
         ensures { Gives (conversion_of component_count color_transform) result }
     {
-        Err(Error::OutOfMemory)
+        match color_transform {
+            ColorTransform::None => Ok(ColorConvert::None),
+            ColorTransform::RGB if component_count == 3 => Ok(ColorConvert::Rgb),
+            ColorTransform::YCbCr if component_count == 3 => Ok(ColorConvert::YCbCr),
+            ColorTransform::CMYK if component_count == 4 => Ok(ColorConvert::Cmyk),
+            ColorTransform::YCCK if component_count == 4 => Ok(ColorConvert::Ycck),
+            ColorTransform::JcsBgYcc | ColorTransform::JcsBgRgb => Err(Error::Unsupported(
+                UnsupportedFeature::ColorTransform(color_transform),
+            )),
+            _ => Err(misfit(alloc, component_count, color_transform)),
+        }
+    }
+}
+
+// The refusal of a transform that doesn't fit so many components.
+#[cold]
+#[inline(never)]
+fn misfit(alloc: Global, component_count: usize, color_transform: ColorTransform) -> Error
+    ensures { NamesFormat result }
+{
+    let text = format!(in alloc;
+        "the color transform {color_transform:?} is not one of {component_count} components"
+    );
+    match text {
+        Ok(text) => Error::Format(text),
+        Err(_) => Error::OutOfMemory,
     }
 }
 
