@@ -3,6 +3,7 @@ pub mod Columns
 pub mod Residues
 pub mod Sums
 pub mod FlatBlocks
+pub mod ComponentLines
 pub mod CroppedLines
 pub mod JoinedLines
 pub mod LinesOfColour

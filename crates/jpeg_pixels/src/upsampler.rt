@@ -3,7 +3,11 @@ ghost use Rattle.std.specs.Prelude.{◌≡◌, ℕ, ◌+◌, ◌-◌, ◌*◌, �
 ghost use Rattle.jpeg_bits.specs.Reading.{Gives, NamesFormat};
 ghost use Rattle.jpeg_pixels.specs.Upsampling.{upsampled, across, down};
 ghost use Rattle.jpeg_pixels.specs.Colour.{conversion_of};
+ghost use Rattle.std.specs.List.{concat};
+ghost use Rattle.jpeg_pixels.specs.Pictures.{Covers, AllCover, line_of, lines_of, picture_line};
+ghost use Rattle.jpeg_pixels.specs.PicturesView.{source_in, IsFor};
 
+use crate::color_rows::{write_cmyk, write_rgb, write_ycbcr, write_ycck};
 use jpeg_bits::color_transform::ColorTransform;
 use jpeg_bits::error::{Error, Result, UnsupportedFeature};
 use jpeg_segments::parser::Component;
@@ -175,6 +179,87 @@ impl Upsampler {
         ensures line { OnOk result (output.new ≡ picture_line color_convert self.now (map (λ v. v.items) component_data.now) output_width row) }
         ensures err { IfErr result (λ e. e ≡ OutOfMemory) }
     {
-        Err(Error::OutOfMemory)
+        let mut lines = vec![in self.alloc; 0; output.len()]?;
+        let components = self.components.as_slice();
+        let lines = lines.as_mut_slice();
+        write_line(
+            components,
+            component_data,
+            row,
+            output_width,
+            lines,
+            output,
+            color_convert,
+        );
+        Ok(())
+    }
+}
+
+// Writes line `row` of a component, as wide as the picture.
+fn upsample_line(source: ComponentSource, plane: &[u8], row: usize, width: usize, line: &mut [u8])
+    requires cover { Covers (source_in source) plane.now width (row + 1) }
+    requires room { length line.old ≡ width }
+    ensures { line.new ≡ line_of (source_in source) plane.now width row }
+{
+    source.rule.upsample_row(
+        plane,
+        source.width,
+        source.height,
+        source.row_stride,
+        row,
+        width,
+        line,
+    );
+}
+
+// Writes line `row` of each component, each as wide as the picture, one after the other.
+fn upsample_lines(
+    components: &[ComponentSource],
+    planes: &[Vec<u8>],
+    row: usize,
+    width: usize,
+    lines: &mut [u8],
+)
+    requires planes { length planes.now ≡ length components.now }
+    requires cover { AllCover (map source_in components.now) (map (λ v. v.items) planes.now) width (row + 1) }
+    requires room { length lines.old ≡ length components.now * width }
+    ensures { lines.new ≡ concat (lines_of (map source_in components.now) (map (λ v. v.items) planes.now) width row) }
+{
+    for index in 0..components.len() {
+        let start = index * width;
+        upsample_line(
+            components[index],
+            &planes[index],
+            row,
+            width,
+            &mut lines[start..start + width],
+        );
+    }
+}
+
+// Writes line `row` of the picture. The lines of the components are put into the buffer `lines`.
+fn write_line(
+    components: &[ComponentSource],
+    planes: &[Vec<u8>],
+    row: usize,
+    width: usize,
+    lines: &mut [u8],
+    output: &mut [u8],
+    color_convert: ColorConvert,
+)
+    requires planes { length planes.now ≡ length components.now }
+    requires cover { AllCover (map source_in components.now) (map (λ v. v.items) planes.now) width (row + 1) }
+    requires fits { IsFor (length components.now) color_convert }
+    requires lines_room { length lines.old ≡ length components.now * width }
+    requires room { length output.old ≡ length components.now * width }
+    ensures { output.new ≡ picture_line color_convert (map source_in components.now) (map (λ v. v.items) planes.now) width row }
+{
+    upsample_lines(components, planes, row, width, lines);
+    match color_convert {
+        ColorConvert::None => output.copy_from_slice(lines),
+        ColorConvert::Rgb => write_rgb(lines, width, output),
+        ColorConvert::YCbCr => write_ycbcr(lines, width, output),
+        ColorConvert::Cmyk => write_cmyk(lines, width, output),
+        ColorConvert::Ycck => write_ycck(lines, width, output),
     }
 }
