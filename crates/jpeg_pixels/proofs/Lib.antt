@@ -7,4 +7,5 @@ pub mod CroppedLines
 pub mod PlaneRows
 pub mod Rows
 pub mod Strips
+pub mod UpsampledRows
 pub mod ZigzagPlaces

@@ -6,6 +6,7 @@ pub mod laws;
 pub mod plane;
 #[cfg(test)]
 mod tests;
+mod upsample_rows;
 pub mod upsampler;
 pub mod worker;
 pub mod zigzag;

@@ -4,6 +4,9 @@ ghost use Rattle.jpeg_bits.specs.Reading.{Gives};
 ghost use Rattle.jpeg_pixels.specs.Upsampling.{upsampled, across, down};
 ghost use Rattle.jpeg_pixels.specs.Colour.{conversion_of};
 
+use crate::upsample_rows::{
+    far_line, line_at, repeat_samples, upsample_row_h1v2, upsample_row_h2v1, upsample_row_h2v2,
+};
 use jpeg_bits::color_transform::ColorTransform;
 use jpeg_bits::error::{Error, Result};
 use jpeg_segments::parser::Component;
@@ -51,7 +54,33 @@ impl UpsampleRule {
         ensures samples { (x : ℕ) → x < output_width → slice_index output.new x
             ≡ upsampled self.now (λ i j. slice_index input.now (j * row_stride + i)) input_width input_height x row }
         ensures others { (i : ℕ) → output_width ≤ i → slice_index output.new i ≡ slice_index output.old i }
-    {}
+    {
+        let output = &mut output[..output_width];
+        match *self {
+            UpsampleRule::H1V1 => {
+                let line = line_at(input, input_width, row_stride, row);
+                output.copy_from_slice(line);
+            }
+            UpsampleRule::H2V1 => {
+                let line = line_at(input, input_width, row_stride, row);
+                upsample_row_h2v1(line, output);
+            }
+            UpsampleRule::H1V2 => {
+                let near = line_at(input, input_width, row_stride, row / 2);
+                let far = line_at(input, input_width, row_stride, far_line(input_height, row));
+                upsample_row_h1v2(near, far, output);
+            }
+            UpsampleRule::H2V2 => {
+                let near = line_at(input, input_width, row_stride, row / 2);
+                let far = line_at(input, input_width, row_stride, far_line(input_height, row));
+                upsample_row_h2v2(near, far, output);
+            }
+            UpsampleRule::Generic(across, down) => {
+                let line = line_at(input, input_width, row_stride, row / usize::from(down));
+                repeat_samples(line, usize::from(across), output);
+            }
+        }
+    }
 }
 
 /// How the samples of a pixel become its bytes.
