@@ -5,10 +5,14 @@ pub mod Sums
 pub mod FlatBlocks
 pub mod ComponentLines
 pub mod CroppedLines
+pub mod Greys
 pub mod JoinedLines
 pub mod LinesOfColour
 pub mod Pieces
 pub mod PlaneRows
 pub mod Rows
+pub mod SourceLists
 pub mod Strips
+pub mod UpsampledRows
+pub mod WholePictures
 pub mod ZigzagPlaces

@@ -4,6 +4,8 @@ ghost use Rattle.std.specs.List.{range_with_len};
 ghost use Rattle.std.specs.Int.{int_shr};
 ghost use Rattle.jpeg_pixels.specs.Samples.{HasFirstOnly, clamped, dequantized, sample};
 ghost use Rattle.jpeg_pixels.specs.Planes.{plane_of, strip_of};
+ghost use Rattle.jpeg_pixels.specs.Colour.{colour_of, line_bytes};
+ghost use Rattle.jpeg_pixels.specs.declared.upsampler.ColorConvert.TheVariants.{None, Rgb, YCbCr, Cmyk, Ycck};
 ghost use Rattle.jpeg_pixels.specs.Zigzag.{zigzag, zigzag_places};
 
 /// A block whose only coefficient is the first has 64 times the same sample.
@@ -53,4 +55,18 @@ pub fn known_blocks()
         ∷ 0 ∷ 255 ∷ 0 ∷ 0 ∷ 255 ∷ 255 ∷ 0 ∷ 255
         ∷ 0 ∷ 255 ∷ 0 ∷ 0 ∷ 255 ∷ 255 ∷ 0 ∷ 255
         ∷ 0 ∷ 255 ∷ 0 ∷ 0 ∷ 255 ∷ 255 ∷ 0 ∷ 255 ∷ [] }
+{}
+
+/// Brightness without colour is grey: its red, green and blue are the brightness.
+pub fn grey_stays_grey()
+    ensures { (y : ℕ) → y < 256 → colour_of YCbCr (y ∷ 128 ∷ 128 ∷ []) ≡ y ∷ y ∷ y ∷ [] }
+{}
+
+/// The bytes of some pixels and of two lines, computed.
+pub fn known_colours()
+    ensures ycbcr { colour_of YCbCr (76 ∷ 85 ∷ 255 ∷ []) ≡ 254 ∷ 0 ∷ 0 ∷ [] }
+    ensures cmyk { colour_of Cmyk (0 ∷ 10 ∷ 200 ∷ 255 ∷ []) ≡ 255 ∷ 245 ∷ 55 ∷ 0 ∷ [] }
+    ensures ycck { colour_of Ycck (76 ∷ 85 ∷ 255 ∷ 10 ∷ []) ≡ 254 ∷ 0 ∷ 0 ∷ 245 ∷ [] }
+    ensures rgb { line_bytes Rgb 2 ((1 ∷ 2 ∷ []) ∷ (3 ∷ 4 ∷ []) ∷ (5 ∷ 6 ∷ []) ∷ []) ≡ 1 ∷ 3 ∷ 5 ∷ 2 ∷ 4 ∷ 6 ∷ [] }
+    ensures by_component { line_bytes None 2 ((1 ∷ 2 ∷ []) ∷ (3 ∷ 4 ∷ []) ∷ (5 ∷ 6 ∷ []) ∷ []) ≡ 1 ∷ 2 ∷ 3 ∷ 4 ∷ 5 ∷ 6 ∷ [] }
 {}

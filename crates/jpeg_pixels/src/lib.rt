@@ -4,9 +4,12 @@
 mod color_rows;
 pub mod idct;
 pub mod laws;
+mod picture_lines;
 pub mod plane;
+mod sources;
 #[cfg(test)]
 mod tests;
+mod upsample_rows;
 pub mod upsampler;
 pub mod worker;
 pub mod zigzag;

@@ -3,11 +3,12 @@ ghost use Rattle.std.specs.Prelude.{◌≡◌, ℕ, ◌+◌, ◌-◌, ◌*◌, �
 ghost use Rattle.jpeg_bits.specs.Reading.{Gives, NamesFormat};
 ghost use Rattle.jpeg_pixels.specs.Upsampling.{upsampled, across, down};
 ghost use Rattle.jpeg_pixels.specs.Colour.{conversion_of};
-ghost use Rattle.std.specs.List.{concat};
-ghost use Rattle.jpeg_pixels.specs.Pictures.{Covers, AllCover, line_of, lines_of, picture_line};
-ghost use Rattle.jpeg_pixels.specs.PicturesView.{source_in, IsFor};
 
-use crate::color_rows::{write_cmyk, write_rgb, write_ycbcr, write_ycck};
+use crate::picture_lines::{lines_from_above, write_line};
+use crate::sources::component_sources;
+use crate::upsample_rows::{
+    far_line, line_at, repeat_samples, upsample_row_h1v2, upsample_row_h2v1, upsample_row_h2v2,
+};
 use jpeg_bits::color_transform::ColorTransform;
 use jpeg_bits::error::{Error, Result, UnsupportedFeature};
 use jpeg_segments::parser::Component;
@@ -55,7 +56,33 @@ impl UpsampleRule {
         ensures samples { (x : ℕ) → x < output_width → slice_index output.new x
             ≡ upsampled self.now (λ i j. slice_index input.now (j * row_stride + i)) input_width input_height x row }
         ensures others { (i : ℕ) → output_width ≤ i → slice_index output.new i ≡ slice_index output.old i }
-    {}
+    {
+        let output = &mut output[..output_width];
+        match *self {
+            UpsampleRule::H1V1 => {
+                let line = line_at(input, input_width, row_stride, row);
+                output.copy_from_slice(line);
+            }
+            UpsampleRule::H2V1 => {
+                let line = line_at(input, input_width, row_stride, row);
+                upsample_row_h2v1(line, output);
+            }
+            UpsampleRule::H1V2 => {
+                let near = line_at(input, input_width, row_stride, row / 2);
+                let far = line_at(input, input_width, row_stride, far_line(input_height, row));
+                upsample_row_h1v2(near, far, output);
+            }
+            UpsampleRule::H2V2 => {
+                let near = line_at(input, input_width, row_stride, row / 2);
+                let far = line_at(input, input_width, row_stride, far_line(input_height, row));
+                upsample_row_h2v2(near, far, output);
+            }
+            UpsampleRule::Generic(across, down) => {
+                let line = line_at(input, input_width, row_stride, row / usize::from(down));
+                repeat_samples(line, usize::from(across), output);
+            }
+        }
+    }
 }
 
 /// How the samples of a pixel become its bytes.
@@ -139,11 +166,11 @@ impl Model for Upsampler {
 }
 
 impl Upsampler {
-    ghost use Rattle.std.specs.Prelude.{◌≡◌, ◌+◌, ◌*◌, ◌≤◌, map, length, OnOk, IfErr};
+    ghost use Rattle.std.specs.Prelude.{◌≡◌, ◌+◌, ◌*◌, ◌≤◌, map, length, OnOk, IfErr, MatchResult};
     ghost use Rattle.jpeg_bits.specs.Reading.{Gives};
     ghost use Rattle.jpeg_bits.specs.declared.error.Error.TheVariants.{OutOfMemory};
     ghost use Rattle.jpeg_segments.specs.FrameView.{component_in};
-    ghost use Rattle.jpeg_pixels.specs.Pictures.{sources_of, AllCover, picture_line};
+    ghost use Rattle.jpeg_pixels.specs.Pictures.{sources_of, AllCover, picture_line, picture_bytes};
     ghost use Rattle.jpeg_pixels.specs.PicturesView.{AllHaveFactors, IsFor};
 
     /// The upsampler of a frame's components for a picture of this size. A component whose ratio to the greatest factors isn't whole is
@@ -159,7 +186,11 @@ impl Upsampler {
         requires factors { AllHaveFactors (map component_in components.now) }
         ensures { Gives (sources_of (map component_in components.now) output_width output_height) result }
     {
-        Err(Error::OutOfMemory)
+        let sources = component_sources(alloc, components, output_width, output_height)?;
+        Ok(Upsampler {
+            alloc,
+            components: sources,
+        })
     }
 
     /// Writes line `row` of the picture, of `output_width` pixels. `component_data` has the plane of each component. The only error is want
@@ -193,73 +224,34 @@ impl Upsampler {
         );
         Ok(())
     }
-}
 
-// Writes line `row` of a component, as wide as the picture.
-fn upsample_line(source: ComponentSource, plane: &[u8], row: usize, width: usize, line: &mut [u8])
-    requires cover { Covers (source_in source) plane.now width (row + 1) }
-    requires room { length line.old ≡ width }
-    ensures { line.new ≡ line_of (source_in source) plane.now width row }
-{
-    source.rule.upsample_row(
-        plane,
-        source.width,
-        source.height,
-        source.row_stride,
-        row,
-        width,
-        line,
-    );
-}
-
-// Writes line `row` of each component, each as wide as the picture, one after the other.
-fn upsample_lines(
-    components: &[ComponentSource],
-    planes: &[Vec<u8>],
-    row: usize,
-    width: usize,
-    lines: &mut [u8],
-)
-    requires planes { length planes.now ≡ length components.now }
-    requires cover { AllCover (map source_in components.now) (map (λ v. v.items) planes.now) width (row + 1) }
-    requires room { length lines.old ≡ length components.now * width }
-    ensures { lines.new ≡ concat (lines_of (map source_in components.now) (map (λ v. v.items) planes.now) width row) }
-{
-    for index in 0..components.len() {
-        let start = index * width;
-        upsample_line(
-            components[index],
-            &planes[index],
-            row,
+    /// All lines of the picture, from above. The only error is that no memory is left.
+    pub(crate) fn picture(
+        &self,
+        component_data: &[Vec<u8>],
+        width: usize,
+        height: usize,
+        color_convert: ColorConvert,
+    ) -> Result<Vec<u8>>
+        requires most { length self.now ≤ 4 }
+        requires width { width ≤ 65535 }
+        requires height { height ≤ 65535 }
+        requires planes { length component_data.now ≡ length self.now }
+        requires cover { AllCover self.now (map (λ v. v.items) component_data.now) width height }
+        requires fits { IsFor (length self.now) color_convert }
+        ensures { MatchResult result
+            (λ v. v.items ≡ picture_bytes color_convert self.now (map (λ v. v.items) component_data.now) width height)
+            (λ e. e ≡ OutOfMemory) }
+    {
+        let components = self.components.as_slice();
+        let picture = lines_from_above(
+            self.alloc,
+            components,
+            component_data,
             width,
-            &mut lines[start..start + width],
-        );
-    }
-}
-
-// Writes line `row` of the picture. The lines of the components are put into the buffer `lines`.
-fn write_line(
-    components: &[ComponentSource],
-    planes: &[Vec<u8>],
-    row: usize,
-    width: usize,
-    lines: &mut [u8],
-    output: &mut [u8],
-    color_convert: ColorConvert,
-)
-    requires planes { length planes.now ≡ length components.now }
-    requires cover { AllCover (map source_in components.now) (map (λ v. v.items) planes.now) width (row + 1) }
-    requires fits { IsFor (length components.now) color_convert }
-    requires lines_room { length lines.old ≡ length components.now * width }
-    requires room { length output.old ≡ length components.now * width }
-    ensures { output.new ≡ picture_line color_convert (map source_in components.now) (map (λ v. v.items) planes.now) width row }
-{
-    upsample_lines(components, planes, row, width, lines);
-    match color_convert {
-        ColorConvert::None => output.copy_from_slice(lines),
-        ColorConvert::Rgb => write_rgb(lines, width, output),
-        ColorConvert::YCbCr => write_ycbcr(lines, width, output),
-        ColorConvert::Cmyk => write_cmyk(lines, width, output),
-        ColorConvert::Ycck => write_ycck(lines, width, output),
+            height,
+            color_convert,
+        )?;
+        Ok(picture)
     }
 }

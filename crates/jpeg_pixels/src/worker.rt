@@ -5,8 +5,9 @@ ghost use Rattle.jpeg_segments.specs.FrameView.{component_in};
 ghost use Rattle.jpeg_pixels.specs.Pictures.{Source, sources_of, AllCover, image_of};
 ghost use Rattle.jpeg_pixels.specs.PicturesView.{AllHaveFactors};
 
+use crate::upsampler::{ColorConvert, Upsampler};
 use jpeg_bits::color_transform::ColorTransform;
-use jpeg_bits::error::{Error, Result};
+use jpeg_bits::error::Result;
 use jpeg_segments::parser::{Component, Dimensions};
 use std::alloc::Global;
 
@@ -31,5 +32,9 @@ pub fn compute_image_rows(
         (λ v. image_of (map component_in components.now) (map (λ v. v.items) planes.now) output_size.width output_size.height color_transform ≡ Ok v.items)
         (λ e. Names e (image_of (map component_in components.now) (map (λ v. v.items) planes.now) output_size.width output_size.height color_transform)) }
 {
-    Err(Error::OutOfMemory)
+    let color_convert = ColorConvert::choose(alloc, components.len(), color_transform)?;
+    let upsampler = Upsampler::new(alloc, components, output_size.width, output_size.height)?;
+    let width = usize::from(output_size.width);
+    let height = usize::from(output_size.height);
+    upsampler.picture(planes, width, height, color_convert)
 }

@@ -8,7 +8,7 @@ use Rattle.jpeg_pixels.specs.Pictures.{Source, lines_of, picture_line}
 use Rattle.jpeg_pixels.specs.PicturesView.{source_in, IsFor}
 use Rattle.jpeg_pixels.proofs.ComponentLines.{lines_of-length, lines_of-long}
 use Rattle.jpeg_pixels.proofs.LinesOfColour.{line-none, line-rgb, line-ycbcr, line-cmyk, line-ycck}
-use Rattle.jpeg_pixels.proofs.upsampler.write_line.Goals as goal
+use Rattle.jpeg_pixels.proofs.picture_lines.write_line.Goals as goal
 
 pub returns-in-None : goal.returns-in-None
 unfolding picture_line

@@ -9,7 +9,7 @@ use Rattle.jpeg_pixels.specs.declared.upsampler.UpsampleRule.TheVariants.{H1V1}
 use Rattle.jpeg_pixels.specs.Pictures.{Source, lines_of}
 use Rattle.jpeg_pixels.specs.PicturesView.{source_in}
 use Rattle.jpeg_pixels.proofs.ComponentLines.{cover-of, line-of, lines-more, lines_of-length}
-use Rattle.jpeg_pixels.proofs.upsampler.upsample_lines.Goals as goal
+use Rattle.jpeg_pixels.proofs.picture_lines.upsample_lines.Goals as goal
 
 -- what stands behind all components
 abbrev none : ComponentSource
