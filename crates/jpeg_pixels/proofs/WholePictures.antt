@@ -1,7 +1,7 @@
 -- A picture is its lines from above.
 use Rattle.std.proofs.Common.{◌≡◌, ℕ, zero, suc, ◌+◌, ◌<◌, ◌≤◌, ◌==◌, Bool, true, false, List, [], ◌∷◌, ◌++◌, length, get_or, map, sym, ap, subst, ◌∙◌, refl, arith, take, drop, length-drop, ◌-◌, Vec, Global, MatchResult, Result, Ok, Err, if◌then◌else◌}
-use Rattle.std.proofs.lemmas.List.{append-nil}
-use Rattle.std.proofs.Math.ListN.{take_of_length-le, drop_of_length-le}
+use Rattle.std.proofs.lemmas.List.{append-nil, take-append-drop}
+use Rattle.std.proofs.Math.ListN.{drop_of_length-le}
 use Rattle.std.proofs.Math.Seq.{take-append_seam}
 use borrow.Rule.Slice.PartMut.{put_mid}
 use Rattle.std.proofs.lemmas.List.Folds.{concat-append}
@@ -26,10 +26,12 @@ abbrev as_convert : ColorConvert → Result ColorConvert Fault
 as_convert k = Ok k
 
 -- what was grown, and then written behind its old end
-pub grown : (start size : ℕ) (old whole new : List ℕ) {tail : List ℕ} → start ≡ length old → whole ≡ take (start + size) old ++ tail → length whole ≡ start + size
+pub grown : (start size : ℕ) (old whole new tail : List ℕ) → start ≡ length old → whole ≡ take (start + size) old ++ tail → length whole ≡ start + size
     → put_mid start (length whole - start) whole new ≡ old ++ new
-grown start size old whole new {tail} begins is long =
-    let all : take (start + size) old ≡ old = take_of_length-le old (omega arith) in
+grown start size old whole new tail begins is long =
+    let none : drop (start + size) old ≡ [] = drop_of_length-le old (omega arith) in
+    let all : take (start + size) old ≡ old =
+    sym (append-nil (take (start + size) old)) ∙ ap (λ (l : List ℕ). take (start + size) old ++ l) (sym none) ∙ take-append-drop (start + size) old in
     let front : take start whole ≡ old = ap (λ (l : List ℕ). take start l) (is ∙ ap (λ (l : List ℕ). l ++ tail) all) ∙ ap (λ n. take n (old ++ tail)) begins ∙ take-append_seam old tail in
     let behind : drop (length whole - start) (drop start whole) ≡ [] = drop_of_length-le (drop start whole) (omega (arith, length-drop {A = ℕ})) in
     (λ i. front i ++ (new ++ behind i)) ∙ ap (λ (l : List ℕ). old ++ l) (append-nil new)

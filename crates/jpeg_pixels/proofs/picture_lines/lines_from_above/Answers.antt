@@ -1,4 +1,4 @@
-use Rattle.std.proofs.Common.{rules, ◌≡◌, ◌+◌, ◌-◌, ◌*◌, ◌<◌, ◌≤◌, ◌++◌, ℕ, List, length, map, take, ap, sym, ◌∙◌, arith, length-append}
+use Rattle.std.proofs.Common.{rules, ◌≡◌, ◌+◌, ◌-◌, ◌*◌, ◌<◌, ◌≤◌, ◌++◌, ℕ, List, length, map, take, ap, sym, ◌∙◌, arith, length-append, length-take, length-drop}
 use Rattle.std.proofs.lemmas.List.{with_items_is}
 use borrow.Rule.Slice.PartMut.{put_mid}
 use Rattle.jpeg_pixels.specs.Pictures.{picture_bytes}
@@ -32,13 +32,14 @@ loop-row-preserved c =
     let was : length whole ≡ start + size = ap length c.deref_mut.ensures.value ∙ sym c.resize.new.self.ok.0 ∙ c.in_ok-resize.ensures.len in
     let new = c.write_line.new.output in
     let put : put_mid start (length whole - start) whole new ≡ old ++ new =
-    grown start size old whole new begins (c.deref_mut.ensures.value ∙ c.in_ok-resize.ensures.items) was in
-    let wrote : length new ≡ size = ? in
+    grown start size old whole new _ begins (c.deref_mut.ensures.value ∙ c.in_ok-resize.ensures.items) was in
+    let wrote : length new ≡ size = omega (arith, c.write_line.auto.output, length-take {A = ℕ}, length-drop {A = ℕ}) in
     let kept : length (put_mid start (length whole - start) whole new) ≡ c.resize.new.self.len =
     ap length put ∙ length-append old new ∙ (λ i. sym begins i + wrote i) ∙ sym c.in_ok-resize.ensures.len in
     let items = with_items_is c.resize.new.self (put_mid start (length whole - start) whole new) kept ∙ put in
+    let buffer_kept : length c.write_line.new.lines ≡ c.loop-row.lines.len = c.write_line.auto.lines ∙ ap length c.as_mut_slice.ensures.value ∙ sym c.loop-row.lines.ok.0 in
     record {
       bytes = items ∙ (λ i. c.loop-row.invariant.bytes i ++ c.write_line.ensures i) ∙ sym (picture-more c.args.color_convert sources planes c.args.width c.loop-row.row);
       long = ap length items ∙ length-append old new ∙ omega arith;
-      buffer = ?;
+      buffer = ap length (with_items_is c.loop-row.lines c.write_line.new.lines buffer_kept) ∙ buffer_kept ∙ c.loop-row.lines.ok.0 ∙ c.loop-row.invariant.buffer;
     }
