@@ -2,6 +2,8 @@
 #![tactic(auto)]
 
 mod color_rows;
+#[cfg(test)]
+mod color_tests;
 pub mod idct;
 pub mod laws;
 mod picture_lines;
