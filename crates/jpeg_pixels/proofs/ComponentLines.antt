@@ -1,11 +1,11 @@
 -- The lines of the components of a picture.
-use Rattle.std.proofs.Common.{◌≡◌, ℕ, zero, suc, ◌+◌, ◌-◌, ◌*◌, ◌<◌, ◌≤◌, List, [], ◌∷◌, ◌++◌, length, get_or, slice_index, map, take, drop, sym, ap, ◌∙◌, refl, arith, length-append, length-take, add-one, subst}
-use Rattle.std.proofs.lemmas.List.{take-append-le, append-nil}
+use Rattle.std.proofs.Common.{◌≡◌, ℕ, zero, suc, ◌+◌, ◌*◌, ◌<◌, ◌≤◌, List, [], ◌∷◌, ◌++◌, length, get_or, slice_index, take, drop, sym, ap, ◌∙◌, refl, arith, length-take, add-one, subst}
+use Rattle.std.proofs.lemmas.List.{append-nil}
 use Rattle.std.proofs.lemmas.List.FromFn.{length-map-range_with_len, fill_by_all}
 use Rattle.std.proofs.lemmas.List.Folds.{concat-append}
 use Rattle.std.proofs.Math.Seq.{take-suc, take-append-add, take-append_seam}
-use Rattle.std.specs.List.{range_with_len, concat}
-use borrow.Rule.Slice.PartMut.{put_mid, mid_of}
+use Rattle.std.specs.List.{concat}
+use borrow.Rule.Slice.PartMut.{put_mid}
 use Rattle.jpeg_pixels.specs.Upsampling.{upsampled}
 use Rattle.jpeg_pixels.specs.Pictures.{Source, Covers, AllCover, line_of, lines_of}
 use Rattle.jpeg_pixels.proofs.JoinedLines.{AreLong}

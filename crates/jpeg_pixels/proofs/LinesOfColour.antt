@@ -1,11 +1,11 @@
 -- The lines of colours, by their places.
-use Rattle.std.proofs.Common.{◌≡◌, ℕ, zero, suc, ◌+◌, ◌-◌, ◌*◌, ◌<◌, ◌≤◌, List, [], ◌∷◌, ◌++◌, length, get_or, slice_index, map, take, sym, ap, ◌∙◌, refl, arith}
+use Rattle.std.proofs.Common.{◌≡◌, ℕ, zero, suc, ◌+◌, ◌-◌, ◌*◌, ◌<◌, List, [], length, get_or, map, take, sym, ap, ◌∙◌, refl, arith}
 use Rattle.std.proofs.lemmas.List.{ext_get_or, length-map, get_or-map}
 use Rattle.std.proofs.Math.Seq.{take-length}
-use Rattle.std.specs.List.{range_with_len, concat}
+use Rattle.std.specs.List.{concat}
 use Rattle.jpeg_pixels.specs.Colour.{red_of, green_of, blue_of, colour_of, line_bytes}
 use Rattle.jpeg_pixels.specs.declared.upsampler.ColorConvert.TheVariants as converts
-use Rattle.jpeg_pixels.proofs.JoinedLines.{AreLong, joined-length, joined-at, by_pixels, sample-at}
+use Rattle.jpeg_pixels.proofs.JoinedLines.{AreLong, by_pixels, sample-at}
 
 abbrev samples : List (List ℕ) → ℕ → List ℕ
 samples lines x = map (λ (l : List ℕ). get_or l x 0) lines

@@ -1,5 +1,5 @@
 -- What a caller sees of planes and upsamplers, and what is asked of components.
-use Rattle.std.specs.Prelude.{◌≡◌, ℕ, ◌<◌, ◌≤◌, List, [], ◌∷◌, map, length, Bool, true, false, nat_le, ◌==◌, ◌&&◌}
+use Rattle.std.specs.Prelude.{◌≡◌, ℕ, ◌≤◌, List, [], ◌∷◌}
 use Rattle.jpeg_segments.specs.Frame as frames
 use Rattle.jpeg_pixels.specs.Pictures.{Source}
 use Rattle.jpeg_pixels.specs.declared.upsampler.ComponentSource.{ComponentSource}

@@ -1,4 +1,4 @@
-use Rattle.std.proofs.Common.{◌≡◌, ℕ, ◌<◌, ◌+◌, ◌-◌, slice_index, length}
+use Rattle.std.proofs.Common.{◌≡◌, ℕ, ◌<◌, ◌+◌, slice_index, length}
 use Rattle.jpeg_pixels.specs.Colour.{green_of}
 use Rattle.jpeg_pixels.proofs.color_rows.green_row.Given as goal
 

@@ -1,4 +1,4 @@
-use Rattle.std.proofs.Common.{◌≡◌, ℕ, ◌<◌, ◌+◌, ◌-◌, ◌*◌, slice_index}
+use Rattle.std.proofs.Common.{◌≡◌, ℕ, ◌<◌, ◌+◌, ◌*◌, slice_index}
 use Rattle.jpeg_pixels.specs.Colour.{red_of, green_of, blue_of}
 use Rattle.jpeg_pixels.proofs.color_rows.write_ycbcr.Given as goal
 

@@ -1,4 +1,4 @@
-use Rattle.std.proofs.Common.{ℕ, ◌+◌, ◌-◌, ◌*◌, ◌/◌, ◌%◌, slice_index, arith}
+use Rattle.std.proofs.Common.{◌+◌, ◌-◌, ◌*◌, ◌/◌, ◌%◌, slice_index, arith}
 use Rattle.jpeg_pixels.specs.Colour.{red_of, green_of, blue_of}
 use Rattle.jpeg_pixels.proofs.Pieces.{piece_joined}
 use Rattle.jpeg_pixels.proofs.color_rows.write_ycck.Goals as goal

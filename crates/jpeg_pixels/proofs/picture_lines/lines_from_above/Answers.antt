@@ -1,7 +1,6 @@
-use Rattle.std.proofs.Common.{rules, ◌≡◌, ◌+◌, ◌-◌, ◌*◌, ◌<◌, ◌≤◌, ◌++◌, ℕ, List, length, map, take, ap, sym, ◌∙◌, arith, length-append, length-take, length-drop}
+use Rattle.std.proofs.Common.{◌≡◌, ◌+◌, ◌-◌, ◌*◌, ◌++◌, ℕ, length, map, ap, sym, ◌∙◌, arith, length-append, length-take, length-drop}
 use Rattle.std.proofs.lemmas.List.{with_items_is}
 use borrow.Rule.Slice.PartMut.{put_mid}
-use Rattle.jpeg_pixels.specs.Pictures.{picture_bytes}
 use Rattle.jpeg_pixels.specs.PicturesView.{source_in}
 use Rattle.jpeg_pixels.proofs.ComponentLines.{cover-lower}
 use Rattle.jpeg_pixels.proofs.WholePictures.{picture-more, picture-none, grown}

@@ -1,4 +1,4 @@
-use Rattle.std.proofs.Common.{rules, ◌≡◌, ◌+◌, ◌*◌, ◌<◌, ◌≤◌, ℕ, List, [], length, map, take, get_or, ap, sym, ◌∙◌, arith}
+use Rattle.std.proofs.Common.{◌≡◌, ◌+◌, ◌*◌, ◌<◌, ◌≤◌, [], length, map, take, get_or, ap, sym, ◌∙◌, arith}
 use Rattle.std.proofs.Math.Nat.{mul-le-mul_right}
 use Rattle.std.proofs.Math.ListN as lists
 use Rattle.std.proofs.Math.Seq.{take-length}
@@ -6,7 +6,7 @@ use Rattle.std.proofs.lemmas.List.{get_or-map, length-map}
 use Rattle.std.specs.List.{concat}
 use Rattle.jpeg_pixels.specs.declared.upsampler.ComponentSource.{ComponentSource}
 use Rattle.jpeg_pixels.specs.declared.upsampler.UpsampleRule.TheVariants.{H1V1}
-use Rattle.jpeg_pixels.specs.Pictures.{Source, lines_of}
+use Rattle.jpeg_pixels.specs.Pictures.{lines_of}
 use Rattle.jpeg_pixels.specs.PicturesView.{source_in}
 use Rattle.jpeg_pixels.proofs.ComponentLines.{cover-of, line-of, lines-more, lines_of-length}
 use Rattle.jpeg_pixels.proofs.picture_lines.upsample_lines.Goals as goal

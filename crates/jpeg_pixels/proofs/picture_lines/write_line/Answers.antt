@@ -1,10 +1,8 @@
-use Rattle.std.proofs.Common.{◌≡◌, ◌+◌, ◌-◌, ◌*◌, ◌<◌, ◌≤◌, ℕ, List, length, map, get_or, slice_index, ap, sym, ◌∙◌, arith, subst}
+use Rattle.std.proofs.Common.{◌≡◌, ◌+◌, ◌-◌, ◌*◌, ◌<◌, ℕ, List, length, map, get_or, ap, sym, ◌∙◌, subst}
 use Rattle.std.proofs.lemmas.List.{length-map}
-use Rattle.std.specs.List.{concat}
 use Rattle.jpeg_pixels.specs.declared.upsampler.ColorConvert.{ColorConvert}
-use Rattle.jpeg_pixels.specs.declared.upsampler.ColorConvert.TheVariants as converts
 use Rattle.jpeg_pixels.specs.Colour.{red_of, green_of, blue_of, line_bytes}
-use Rattle.jpeg_pixels.specs.Pictures.{Source, lines_of, picture_line}
+use Rattle.jpeg_pixels.specs.Pictures.{lines_of, picture_line}
 use Rattle.jpeg_pixels.specs.PicturesView.{source_in, IsFor}
 use Rattle.jpeg_pixels.proofs.ComponentLines.{lines_of-length, lines_of-long}
 use Rattle.jpeg_pixels.proofs.LinesOfColour.{line-none, line-rgb, line-ycbcr, line-cmyk, line-ycck}

@@ -1,4 +1,4 @@
-use Rattle.std.proofs.Common.{rules, ◌≡◌, ◌+◌, ◌<◌, ◌≤◌, List, [], ◌∷◌, ◌++◌, length, get_or, map, drop, ap, sym, ◌∙◌, arith, subst, add-one, drop-cons, Result}
+use Rattle.std.proofs.Common.{◌≡◌, ◌+◌, ◌<◌, List, [], ◌∷◌, ◌++◌, length, get_or, map, drop, ap, sym, ◌∙◌, arith, subst, add-one, drop-cons, Result}
 use Rattle.std.proofs.Math.ListN.{drop_of_length-le}
 use Rattle.std.proofs.Math.ListN as lists
 use Rattle.std.proofs.lemmas.List.{map-append, length-map}
@@ -7,8 +7,7 @@ use Rattle.jpeg_bits.specs.Reading.{Fault, Names}
 use Rattle.jpeg_pixels.specs.declared.upsampler.ComponentSource.{ComponentSource}
 use Rattle.jpeg_segments.specs.declared.parser.Component.{Component}
 use Rattle.jpeg_segments.specs.FrameView.{component_in}
-use Rattle.jpeg_segments.specs.Frame as frames
-use Rattle.jpeg_pixels.specs.Pictures.{Source, sources_by, source_of}
+use Rattle.jpeg_pixels.specs.Pictures.{Source, sources_by}
 use Rattle.jpeg_pixels.specs.PicturesView.{source_in, HasFactors}
 use Rattle.jpeg_pixels.proofs.SourceLists.{Continues, sources-start, sources-more, sources-end, sources-err, factors-at}
 use Rattle.jpeg_pixels.proofs.sources.component_sources.Goals as goal
