@@ -49,12 +49,14 @@ fn blue(y: u8, cb: u8) -> u8
     scaled_down(y + 1858077 * cb)
 }
 
-// The red of some pixels from place `start` on: their brightness stands there, and their third component at `cr_start`.
+// The red of some pixels, whose brightness stands from place `start` on, and their third component
+// from `cr_start` on.
 fn red_row(lines: &[u8], start: usize, cr_start: usize, count: usize, row: &mut [u8; 64])
     requires most { count ≤ 64 }
     requires luma_room { start + count ≤ length lines.now }
     requires cr_room { cr_start + count ≤ length lines.now }
-    ensures { (x : ℕ) → x < count → slice_index row.new x ≡ red_of (slice_index lines.now (start + x)) (slice_index lines.now (cr_start + x)) }
+    ensures { (x : ℕ) → x < count → slice_index row.new x
+        ≡ red_of (slice_index lines.now (start + x)) (slice_index lines.now (cr_start + x)) }
 {
     for x in 0..count {
         row[x] = red(lines[start + x], lines[cr_start + x]);
@@ -74,7 +76,8 @@ fn green_row(
     requires cb_room { cb_start + count ≤ length lines.now }
     requires cr_room { cr_start + count ≤ length lines.now }
     ensures { (x : ℕ) → x < count → slice_index row.new x ≡
-        green_of (slice_index lines.now (start + x)) (slice_index lines.now (cb_start + x)) (slice_index lines.now (cr_start + x)) }
+        green_of (slice_index lines.now (start + x)) (slice_index lines.now (cb_start + x))
+        (slice_index lines.now (cr_start + x)) }
 {
     for x in 0..count {
         row[x] = green(lines[start + x], lines[cb_start + x], lines[cr_start + x]);
@@ -85,7 +88,8 @@ fn blue_row(lines: &[u8], start: usize, cb_start: usize, count: usize, row: &mut
     requires most { count ≤ 64 }
     requires luma_room { start + count ≤ length lines.now }
     requires cb_room { cb_start + count ≤ length lines.now }
-    ensures { (x : ℕ) → x < count → slice_index row.new x ≡ blue_of (slice_index lines.now (start + x)) (slice_index lines.now (cb_start + x)) }
+    ensures { (x : ℕ) → x < count → slice_index row.new x
+        ≡ blue_of (slice_index lines.now (start + x)) (slice_index lines.now (cb_start + x)) }
 {
     for x in 0..count {
         row[x] = blue(lines[start + x], lines[cb_start + x]);
@@ -96,7 +100,8 @@ fn blue_row(lines: &[u8], start: usize, cb_start: usize, count: usize, row: &mut
 fn inverted_row(lines: &[u8], start: usize, count: usize, row: &mut [u8; 64])
     requires most { count ≤ 64 }
     requires room { start + count ≤ length lines.now }
-    ensures { (x : ℕ) → x < count → slice_index row.new x ≡ 255 - slice_index lines.now (start + x) }
+    ensures { (x : ℕ) → x < count → slice_index row.new x
+        ≡ 255 - slice_index lines.now (start + x) }
 {
     for x in 0..count {
         row[x] = 255 - lines[start + x];
@@ -116,9 +121,12 @@ fn interleave_three(
     requires second { count ≤ length second.now }
     requires third { count ≤ length third.now }
     requires room { 3 * (start + count) ≤ length output.old }
-    ensures first { (x : ℕ) → x < count → slice_index output.new (3 * (start + x)) ≡ slice_index first.now x }
-    ensures second { (x : ℕ) → x < count → slice_index output.new (3 * (start + x) + 1) ≡ slice_index second.now x }
-    ensures third { (x : ℕ) → x < count → slice_index output.new (3 * (start + x) + 2) ≡ slice_index third.now x }
+    ensures first { (x : ℕ) → x < count → slice_index output.new (3 * (start + x))
+        ≡ slice_index first.now x }
+    ensures second { (x : ℕ) → x < count → slice_index output.new (3 * (start + x) + 1)
+        ≡ slice_index second.now x }
+    ensures third { (x : ℕ) → x < count → slice_index output.new (3 * (start + x) + 2)
+        ≡ slice_index third.now x }
     ensures before { (i : ℕ) → i < 3 * start → slice_index output.new i ≡ slice_index output.old i }
 {
     for x in 0..count {
@@ -143,10 +151,14 @@ fn interleave_four(
     requires third { count ≤ length third.now }
     requires fourth { count ≤ length fourth.now }
     requires room { 4 * (start + count) ≤ length output.old }
-    ensures first { (x : ℕ) → x < count → slice_index output.new (4 * (start + x)) ≡ slice_index first.now x }
-    ensures second { (x : ℕ) → x < count → slice_index output.new (4 * (start + x) + 1) ≡ slice_index second.now x }
-    ensures third { (x : ℕ) → x < count → slice_index output.new (4 * (start + x) + 2) ≡ slice_index third.now x }
-    ensures fourth { (x : ℕ) → x < count → slice_index output.new (4 * (start + x) + 3) ≡ slice_index fourth.now x }
+    ensures first { (x : ℕ) → x < count → slice_index output.new (4 * (start + x))
+        ≡ slice_index first.now x }
+    ensures second { (x : ℕ) → x < count → slice_index output.new (4 * (start + x) + 1)
+        ≡ slice_index second.now x }
+    ensures third { (x : ℕ) → x < count → slice_index output.new (4 * (start + x) + 2)
+        ≡ slice_index third.now x }
+    ensures fourth { (x : ℕ) → x < count → slice_index output.new (4 * (start + x) + 3)
+        ≡ slice_index fourth.now x }
     ensures before { (i : ℕ) → i < 4 * start → slice_index output.new i ≡ slice_index output.old i }
 {
     for x in 0..count {
@@ -164,11 +176,14 @@ fn write_ycbcr_piece(lines: &[u8], width: usize, start: usize, count: usize, out
     requires lines { 3 * width ≤ length lines.now }
     requires room { 3 * width ≤ length output.old }
     ensures red { (x : ℕ) → x < count → slice_index output.new (3 * (start + x))
-        ≡ red_of (slice_index lines.now (start + x)) (slice_index lines.now (2 * width + (start + x))) }
+        ≡ red_of (slice_index lines.now (start + x))
+        (slice_index lines.now (2 * width + (start + x))) }
     ensures green { (x : ℕ) → x < count → slice_index output.new (3 * (start + x) + 1)
-        ≡ green_of (slice_index lines.now (start + x)) (slice_index lines.now (width + (start + x))) (slice_index lines.now (2 * width + (start + x))) }
+        ≡ green_of (slice_index lines.now (start + x)) (slice_index lines.now (width + (start + x)))
+        (slice_index lines.now (2 * width + (start + x))) }
     ensures blue { (x : ℕ) → x < count → slice_index output.new (3 * (start + x) + 2)
-        ≡ blue_of (slice_index lines.now (start + x)) (slice_index lines.now (width + (start + x))) }
+        ≡ blue_of (slice_index lines.now (start + x))
+        (slice_index lines.now (width + (start + x))) }
     ensures before { (i : ℕ) → i < 3 * start → slice_index output.new i ≡ slice_index output.old i }
 {
     let mut red = [0; 64];
@@ -194,12 +209,16 @@ fn write_ycck_piece(lines: &[u8], width: usize, start: usize, count: usize, outp
     requires lines { 4 * width ≤ length lines.now }
     requires room { 4 * width ≤ length output.old }
     ensures red { (x : ℕ) → x < count → slice_index output.new (4 * (start + x))
-        ≡ red_of (slice_index lines.now (start + x)) (slice_index lines.now (2 * width + (start + x))) }
+        ≡ red_of (slice_index lines.now (start + x))
+        (slice_index lines.now (2 * width + (start + x))) }
     ensures green { (x : ℕ) → x < count → slice_index output.new (4 * (start + x) + 1)
-        ≡ green_of (slice_index lines.now (start + x)) (slice_index lines.now (width + (start + x))) (slice_index lines.now (2 * width + (start + x))) }
+        ≡ green_of (slice_index lines.now (start + x)) (slice_index lines.now (width + (start + x)))
+        (slice_index lines.now (2 * width + (start + x))) }
     ensures blue { (x : ℕ) → x < count → slice_index output.new (4 * (start + x) + 2)
-        ≡ blue_of (slice_index lines.now (start + x)) (slice_index lines.now (width + (start + x))) }
-    ensures black { (x : ℕ) → x < count → slice_index output.new (4 * (start + x) + 3) ≡ 255 - slice_index lines.now (3 * width + (start + x)) }
+        ≡ blue_of (slice_index lines.now (start + x))
+        (slice_index lines.now (width + (start + x))) }
+    ensures black { (x : ℕ) → x < count → slice_index output.new (4 * (start + x) + 3)
+        ≡ 255 - slice_index lines.now (3 * width + (start + x)) }
     ensures before { (i : ℕ) → i < 4 * start → slice_index output.new i ≡ slice_index output.old i }
 {
     let mut red = [0; 64];
@@ -226,10 +245,14 @@ fn write_cmyk_piece(lines: &[u8], width: usize, start: usize, count: usize, outp
     requires inside { start + count ≤ width }
     requires lines { 4 * width ≤ length lines.now }
     requires room { 4 * width ≤ length output.old }
-    ensures cyan { (x : ℕ) → x < count → slice_index output.new (4 * (start + x)) ≡ 255 - slice_index lines.now (start + x) }
-    ensures magenta { (x : ℕ) → x < count → slice_index output.new (4 * (start + x) + 1) ≡ 255 - slice_index lines.now (width + (start + x)) }
-    ensures yellow { (x : ℕ) → x < count → slice_index output.new (4 * (start + x) + 2) ≡ 255 - slice_index lines.now (2 * width + (start + x)) }
-    ensures black { (x : ℕ) → x < count → slice_index output.new (4 * (start + x) + 3) ≡ 255 - slice_index lines.now (3 * width + (start + x)) }
+    ensures cyan { (x : ℕ) → x < count → slice_index output.new (4 * (start + x))
+        ≡ 255 - slice_index lines.now (start + x) }
+    ensures magenta { (x : ℕ) → x < count → slice_index output.new (4 * (start + x) + 1)
+        ≡ 255 - slice_index lines.now (width + (start + x)) }
+    ensures yellow { (x : ℕ) → x < count → slice_index output.new (4 * (start + x) + 2)
+        ≡ 255 - slice_index lines.now (2 * width + (start + x)) }
+    ensures black { (x : ℕ) → x < count → slice_index output.new (4 * (start + x) + 3)
+        ≡ 255 - slice_index lines.now (3 * width + (start + x)) }
     ensures before { (i : ℕ) → i < 4 * start → slice_index output.new i ≡ slice_index output.old i }
 {
     let mut cyan = [0; 64];
@@ -248,8 +271,10 @@ pub(crate) fn write_rgb(lines: &[u8], width: usize, output: &mut [u8])
     requires lines { 3 * width ≤ length lines.now }
     requires room { 3 * width ≤ length output.old }
     ensures red { (x : ℕ) → x < width → slice_index output.new (3 * x) ≡ slice_index lines.now x }
-    ensures green { (x : ℕ) → x < width → slice_index output.new (3 * x + 1) ≡ slice_index lines.now (width + x) }
-    ensures blue { (x : ℕ) → x < width → slice_index output.new (3 * x + 2) ≡ slice_index lines.now (2 * width + x) }
+    ensures green { (x : ℕ) → x < width → slice_index output.new (3 * x + 1)
+        ≡ slice_index lines.now (width + x) }
+    ensures blue { (x : ℕ) → x < width → slice_index output.new (3 * x + 2)
+        ≡ slice_index lines.now (2 * width + x) }
 {
     interleave_three(
         lines,
@@ -269,7 +294,8 @@ pub(crate) fn write_ycbcr(lines: &[u8], width: usize, output: &mut [u8])
     ensures red { (x : ℕ) → x < width → slice_index output.new (3 * x)
         ≡ red_of (slice_index lines.now x) (slice_index lines.now (2 * width + x)) }
     ensures green { (x : ℕ) → x < width → slice_index output.new (3 * x + 1)
-        ≡ green_of (slice_index lines.now x) (slice_index lines.now (width + x)) (slice_index lines.now (2 * width + x)) }
+        ≡ green_of (slice_index lines.now x) (slice_index lines.now (width + x))
+        (slice_index lines.now (2 * width + x)) }
     ensures blue { (x : ℕ) → x < width → slice_index output.new (3 * x + 2)
         ≡ blue_of (slice_index lines.now x) (slice_index lines.now (width + x)) }
 {
@@ -288,10 +314,12 @@ pub(crate) fn write_ycck(lines: &[u8], width: usize, output: &mut [u8])
     ensures red { (x : ℕ) → x < width → slice_index output.new (4 * x)
         ≡ red_of (slice_index lines.now x) (slice_index lines.now (2 * width + x)) }
     ensures green { (x : ℕ) → x < width → slice_index output.new (4 * x + 1)
-        ≡ green_of (slice_index lines.now x) (slice_index lines.now (width + x)) (slice_index lines.now (2 * width + x)) }
+        ≡ green_of (slice_index lines.now x) (slice_index lines.now (width + x))
+        (slice_index lines.now (2 * width + x)) }
     ensures blue { (x : ℕ) → x < width → slice_index output.new (4 * x + 2)
         ≡ blue_of (slice_index lines.now x) (slice_index lines.now (width + x)) }
-    ensures black { (x : ℕ) → x < width → slice_index output.new (4 * x + 3) ≡ 255 - slice_index lines.now (3 * width + x) }
+    ensures black { (x : ℕ) → x < width → slice_index output.new (4 * x + 3)
+        ≡ 255 - slice_index lines.now (3 * width + x) }
 {
     let pieces = width / 64;
     for piece in 0..pieces {
@@ -305,10 +333,14 @@ pub(crate) fn write_ycck(lines: &[u8], width: usize, output: &mut [u8])
 pub(crate) fn write_cmyk(lines: &[u8], width: usize, output: &mut [u8])
     requires lines { 4 * width ≤ length lines.now }
     requires room { 4 * width ≤ length output.old }
-    ensures cyan { (x : ℕ) → x < width → slice_index output.new (4 * x) ≡ 255 - slice_index lines.now x }
-    ensures magenta { (x : ℕ) → x < width → slice_index output.new (4 * x + 1) ≡ 255 - slice_index lines.now (width + x) }
-    ensures yellow { (x : ℕ) → x < width → slice_index output.new (4 * x + 2) ≡ 255 - slice_index lines.now (2 * width + x) }
-    ensures black { (x : ℕ) → x < width → slice_index output.new (4 * x + 3) ≡ 255 - slice_index lines.now (3 * width + x) }
+    ensures cyan { (x : ℕ) → x < width → slice_index output.new (4 * x)
+        ≡ 255 - slice_index lines.now x }
+    ensures magenta { (x : ℕ) → x < width → slice_index output.new (4 * x + 1)
+        ≡ 255 - slice_index lines.now (width + x) }
+    ensures yellow { (x : ℕ) → x < width → slice_index output.new (4 * x + 2)
+        ≡ 255 - slice_index lines.now (2 * width + x) }
+    ensures black { (x : ℕ) → x < width → slice_index output.new (4 * x + 3)
+        ≡ 255 - slice_index lines.now (3 * width + x) }
 {
     let pieces = width / 64;
     for piece in 0..pieces {

@@ -67,6 +67,8 @@ pub fn known_colours()
     ensures ycbcr { colour_of YCbCr (76 ∷ 85 ∷ 255 ∷ []) ≡ 254 ∷ 0 ∷ 0 ∷ [] }
     ensures cmyk { colour_of Cmyk (0 ∷ 10 ∷ 200 ∷ 255 ∷ []) ≡ 255 ∷ 245 ∷ 55 ∷ 0 ∷ [] }
     ensures ycck { colour_of Ycck (76 ∷ 85 ∷ 255 ∷ 10 ∷ []) ≡ 254 ∷ 0 ∷ 0 ∷ 245 ∷ [] }
-    ensures rgb { line_bytes Rgb 2 ((1 ∷ 2 ∷ []) ∷ (3 ∷ 4 ∷ []) ∷ (5 ∷ 6 ∷ []) ∷ []) ≡ 1 ∷ 3 ∷ 5 ∷ 2 ∷ 4 ∷ 6 ∷ [] }
-    ensures by_component { line_bytes None 2 ((1 ∷ 2 ∷ []) ∷ (3 ∷ 4 ∷ []) ∷ (5 ∷ 6 ∷ []) ∷ []) ≡ 1 ∷ 2 ∷ 3 ∷ 4 ∷ 5 ∷ 6 ∷ [] }
+    ensures rgb { line_bytes Rgb 2 ((1 ∷ 2 ∷ []) ∷ (3 ∷ 4 ∷ []) ∷ (5 ∷ 6 ∷ []) ∷ [])
+        ≡ 1 ∷ 3 ∷ 5 ∷ 2 ∷ 4 ∷ 6 ∷ [] }
+    ensures by_component { line_bytes None 2 ((1 ∷ 2 ∷ []) ∷ (3 ∷ 4 ∷ []) ∷ (5 ∷ 6 ∷ []) ∷ [])
+        ≡ 1 ∷ 2 ∷ 3 ∷ 4 ∷ 5 ∷ 6 ∷ [] }
 {}

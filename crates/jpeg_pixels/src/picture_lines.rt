@@ -1,7 +1,8 @@
 //! The lines of a picture: those of its components, upsampled, converted and put together.
 ghost use Rattle.std.specs.Prelude.{◌≡◌, ◌+◌, ◌*◌, ◌≤◌, map, length, IfOk};
 ghost use Rattle.std.specs.List.{concat};
-ghost use Rattle.jpeg_pixels.specs.Pictures.{Covers, AllCover, line_of, lines_of, picture_line, picture_bytes};
+ghost use Rattle.jpeg_pixels.specs.Pictures.{Covers, AllCover};
+ghost use Rattle.jpeg_pixels.specs.Pictures.{line_of, lines_of, picture_line, picture_bytes};
 ghost use Rattle.jpeg_pixels.specs.PicturesView.{source_in, IsFor};
 
 use crate::color_rows::{write_cmyk, write_rgb, write_ycbcr, write_ycck};
@@ -34,9 +35,11 @@ fn upsample_lines(
     lines: &mut [u8],
 )
     requires planes { length planes.now ≡ length components.now }
-    requires cover { AllCover (map source_in components.now) (map (λ v. v.items) planes.now) width (row + 1) }
+    requires cover { AllCover (map source_in components.now) (map (λ v. v.items) planes.now) width
+        (row + 1) }
     requires room { length lines.old ≡ length components.now * width }
-    ensures { lines.new ≡ concat (lines_of (map source_in components.now) (map (λ v. v.items) planes.now) width row) }
+    ensures { lines.new ≡ concat
+        (lines_of (map source_in components.now) (map (λ v. v.items) planes.now) width row) }
 {
     for index in 0..components.len() {
         let start = index * width;
@@ -61,11 +64,13 @@ pub(crate) fn write_line(
     color_convert: ColorConvert,
 )
     requires planes { length planes.now ≡ length components.now }
-    requires cover { AllCover (map source_in components.now) (map (λ v. v.items) planes.now) width (row + 1) }
+    requires cover { AllCover (map source_in components.now) (map (λ v. v.items) planes.now) width
+        (row + 1) }
     requires fits { IsFor (length components.now) color_convert }
     requires lines_room { length lines.old ≡ length components.now * width }
     requires room { length output.old ≡ length components.now * width }
-    ensures { output.new ≡ picture_line color_convert (map source_in components.now) (map (λ v. v.items) planes.now) width row }
+    ensures { output.new ≡ picture_line color_convert (map source_in components.now)
+        (map (λ v. v.items) planes.now) width row }
 {
     upsample_lines(components, planes, row, width, lines);
     match color_convert {
@@ -90,10 +95,12 @@ pub(crate) fn lines_from_above(
     requires width { width ≤ 65535 }
     requires height { height ≤ 65535 }
     requires planes { length planes.now ≡ length components.now }
-    requires cover { AllCover (map source_in components.now) (map (λ v. v.items) planes.now) width height }
+    requires cover { AllCover (map source_in components.now)
+        (map (λ v. v.items) planes.now) width height }
     requires fits { IsFor (length components.now) color_convert }
     ensures { IfOk result (λ v. v.items ≡
-        picture_bytes color_convert (map source_in components.now) (map (λ v. v.items) planes.now) width height) }
+        picture_bytes color_convert (map source_in components.now)
+        (map (λ v. v.items) planes.now) width height) }
 {
     let line_size = components.len() * width;
     let mut lines = vec![in alloc; 0; line_size]?;

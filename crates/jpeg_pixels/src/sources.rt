@@ -58,7 +58,8 @@ fn component_source(
 ) -> Result<ComponentSource>
     requires { HasFactors (component_in component.now) }
     ensures { MatchResult result
-        (λ s. source_of greatest_h greatest_v width height (component_in component.now) ≡ Ok (source_in s))
+        (λ s. source_of greatest_h greatest_v width height (component_in component.now)
+        ≡ Ok (source_in s))
         (λ e. Names e (source_of greatest_h greatest_v width height (component_in component.now))) }
 {
     let h = component.horizontal_sampling_factor;
@@ -112,7 +113,8 @@ pub(crate) fn component_sources(
 ) -> Result<Vec<ComponentSource>>
     requires { AllHaveFactors (map component_in components.now) }
     ensures { MatchResult result
-        (λ v. sources_of (map component_in components.now) output_width output_height ≡ Ok (map source_in v.items))
+        (λ v. sources_of (map component_in components.now) output_width output_height
+        ≡ Ok (map source_in v.items))
         (λ e. Names e (sources_of (map component_in components.now) output_width output_height)) }
 {
     let greatest_h = greatest_horizontal(components);

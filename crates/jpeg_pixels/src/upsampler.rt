@@ -139,7 +139,8 @@ fn misfit(alloc: Global, component_count: usize, color_transform: ColorTransform
     }
 }
 
-/// The samples of a component: how they are upsampled, their size, and the samples that a line of its plane has.
+/// The samples of a component: how they are upsampled, their size, and the samples that a line of
+/// its plane has.
 #[derive(Clone, Copy, Debug, PartialEq)]
 pub struct ComponentSource {
     pub rule: UpsampleRule,
@@ -173,7 +174,9 @@ impl Upsampler {
     ghost use Rattle.jpeg_pixels.specs.Pictures.{sources_of, AllCover, picture_line, picture_bytes};
     ghost use Rattle.jpeg_pixels.specs.PicturesView.{AllHaveFactors, IsFor};
 
-    /// The upsampler of a frame's components for a picture of this size. A component whose ratio to the greatest factors isn't whole is
+    /// The upsampler of a frame's components for a picture of this size in pixels.
+    ///
+    /// A component whose ratio to the greatest factors isn't whole is
     /// `Unsupported(NonIntegerSubsamplingRatio)`.
     pub fn new(
         alloc: Global,
@@ -184,7 +187,8 @@ impl Upsampler {
         requires some { 1 ≤ length components.now }
         requires most { length components.now ≤ 4 }
         requires factors { AllHaveFactors (map component_in components.now) }
-        ensures { Gives (sources_of (map component_in components.now) output_width output_height) result }
+        ensures { Gives (sources_of
+            (map component_in components.now) output_width output_height) result }
     {
         let sources = component_sources(alloc, components, output_width, output_height)?;
         Ok(Upsampler {
@@ -193,8 +197,8 @@ impl Upsampler {
         })
     }
 
-    /// Writes line `row` of the picture, of `output_width` pixels. `component_data` has the plane of each component. The only error is want
-    /// of memory; the output's bytes are then open.
+    /// Writes line `row` of the picture, of `output_width` pixels. `component_data` has the plane of
+    /// each component. The only error is want of memory; the output's bytes are then open.
     pub fn upsample_and_interleave_row(
         &self,
         component_data: &[Vec<u8>],
@@ -204,10 +208,13 @@ impl Upsampler {
         color_convert: ColorConvert,
     ) -> Result<()>
         requires planes { length component_data.now ≡ length self.now }
-        requires cover { AllCover self.now (map (λ v. v.items) component_data.now) output_width (row + 1) }
+        requires cover { AllCover self.now (map (λ v. v.items) component_data.now) output_width
+            (row + 1) }
         requires fits { IsFor (length self.now) color_convert }
         requires room { length output.old ≡ length self.now * output_width }
-        ensures line { OnOk result (output.new ≡ picture_line color_convert self.now (map (λ v. v.items) component_data.now) output_width row) }
+        ensures line { OnOk result
+            (output.new ≡ picture_line color_convert self.now
+            (map (λ v. v.items) component_data.now) output_width row) }
         ensures err { IfErr result (λ e. e ≡ OutOfMemory) }
     {
         let mut lines = vec![in self.alloc; 0; output.len()]?;
@@ -240,7 +247,8 @@ impl Upsampler {
         requires cover { AllCover self.now (map (λ v. v.items) component_data.now) width height }
         requires fits { IsFor (length self.now) color_convert }
         ensures { MatchResult result
-            (λ v. v.items ≡ picture_bytes color_convert self.now (map (λ v. v.items) component_data.now) width height)
+            (λ v. v.items ≡ picture_bytes color_convert self.now
+            (map (λ v. v.items) component_data.now) width height)
             (λ e. e ≡ OutOfMemory) }
     {
         let components = self.components.as_slice();

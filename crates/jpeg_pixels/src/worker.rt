@@ -11,10 +11,11 @@ use jpeg_bits::error::Result;
 use jpeg_segments::parser::{Component, Dimensions};
 use std::alloc::Global;
 
-/// The picture of three or four components, of which each has a plane: its lines from above, each upsampled and converted.
+/// The picture of three or four components, of which each has a plane: its lines from above, each
+/// upsampled and converted.
 ///
-/// A transform that doesn't fit is `Format` or `Unsupported(ColorTransform(..))`, and a sampling ratio that isn't whole
-/// `Unsupported(NonIntegerSubsamplingRatio)`.
+/// A transform that doesn't fit is `Format` or `Unsupported(ColorTransform(..))`, and a sampling
+/// ratio that isn't whole `Unsupported(NonIntegerSubsamplingRatio)`.
 pub fn compute_image_rows(
     alloc: Global,
     components: &[Component],
@@ -26,11 +27,16 @@ pub fn compute_image_rows(
     requires most { length components.now ≤ 4 }
     requires planes { length planes.now ≡ length components.now }
     requires factors { AllHaveFactors (map component_in components.now) }
-    requires cover { (sources : List Source) → sources_of (map component_in components.now) output_size.width output_size.height ≡ Ok sources
+    requires cover { (sources : List Source) →
+        sources_of (map component_in components.now) output_size.width output_size.height
+        ≡ Ok sources
         → AllCover sources (map (λ v. v.items) planes.now) output_size.width output_size.height }
     ensures { MatchResult result
-        (λ v. image_of (map component_in components.now) (map (λ v. v.items) planes.now) output_size.width output_size.height color_transform ≡ Ok v.items)
-        (λ e. Names e (image_of (map component_in components.now) (map (λ v. v.items) planes.now) output_size.width output_size.height color_transform)) }
+        (λ v. image_of (map component_in components.now)
+        (map (λ v. v.items) planes.now) output_size.width output_size.height color_transform
+        ≡ Ok v.items)
+        (λ e. Names e (image_of (map component_in components.now)
+        (map (λ v. v.items) planes.now) output_size.width output_size.height color_transform)) }
 {
     let color_convert = ColorConvert::choose(alloc, components.len(), color_transform)?;
     let upsampler = Upsampler::new(alloc, components, output_size.width, output_size.height)?;
