@@ -170,6 +170,7 @@ fn interleave_four(
 }
 
 // Red, green and blue of some pixels from `start` on, by rows of 64.
+#[inline(never)]
 fn write_ycbcr_piece(lines: &[u8], width: usize, start: usize, count: usize, output: &mut [u8])
     requires most { count ≤ 64 }
     requires inside { start + count ≤ width }
@@ -203,6 +204,7 @@ fn write_ycbcr_piece(lines: &[u8], width: usize, start: usize, count: usize, out
 }
 
 // Red, green, blue and the inverse of the fourth component of some pixels from `start` on.
+#[inline(never)]
 fn write_ycck_piece(lines: &[u8], width: usize, start: usize, count: usize, output: &mut [u8])
     requires most { count ≤ 64 }
     requires inside { start + count ≤ width }
@@ -240,6 +242,7 @@ fn write_ycck_piece(lines: &[u8], width: usize, start: usize, count: usize, outp
 }
 
 // The inverse of each component of some pixels from `start` on.
+#[inline(never)]
 fn write_cmyk_piece(lines: &[u8], width: usize, start: usize, count: usize, output: &mut [u8])
     requires most { count ≤ 64 }
     requires inside { start + count ≤ width }
