@@ -7,5 +7,6 @@ pub mod CroppedLines
 pub mod PlaneRows
 pub mod Rows
 pub mod Strips
+pub mod UpsampledEnds
 pub mod UpsampledRows
 pub mod ZigzagPlaces

@@ -7,6 +7,8 @@ pub mod plane;
 #[cfg(test)]
 mod tests;
 mod upsample_rows;
+#[cfg(test)]
+mod upsample_tests;
 pub mod upsampler;
 pub mod worker;
 pub mod zigzag;

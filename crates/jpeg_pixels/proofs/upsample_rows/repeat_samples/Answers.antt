@@ -1,4 +1,4 @@
-use Rattle.std.proofs.Common.{◌≡◌, ℕ, ◌+◌, ◌-◌, ◌*◌, ◌≤◌, length, min, arith, ◌∙◌}
+use Rattle.std.proofs.Common.{◌≡◌, ◌+◌, ◌-◌, ◌*◌, ◌≤◌, length, min, arith}
 use Rattle.std.proofs.Math.Nat.{mul-le-mul_left}
 use Rattle.jpeg_pixels.proofs.UpsampledRows.{repeat_next}
 use Rattle.jpeg_pixels.proofs.upsample_rows.repeat_samples.Goals as goal

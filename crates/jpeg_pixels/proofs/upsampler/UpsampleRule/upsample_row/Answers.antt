@@ -1,4 +1,4 @@
-use Rattle.std.proofs.Common.{◌≡◌, ℕ, ◌+◌, ◌*◌, ◌/◌, ◌<◌, ◌∙◌, arith, ap, slice_index, get_or, List, length-take}
+use Rattle.std.proofs.Common.{ℕ, ◌+◌, ◌*◌, ◌/◌, ◌∙◌, arith, ap, slice_index, get_or, List, length-take}
 use Rattle.jpeg_pixels.proofs.UpsampledRows.{in_front, as_h1v1, as_h2v1, as_h1v2, as_h2v2, as_generic}
 use Rattle.jpeg_pixels.proofs.upsampler.UpsampleRule.upsample_row.Goals as goal
 
