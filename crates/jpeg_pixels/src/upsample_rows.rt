@@ -1,5 +1,5 @@
 //! Rows of a component made as wide as the picture, one function for each rule.
-ghost use Rattle.std.specs.Prelude.{◌≡◌, ℕ, ◌+◌, ◌-◌, ◌*◌, ◌/◌, ◌<◌, ◌≤◌, length, slice_index};
+ghost use Rattle.std.specs.Prelude.{◌≡◌, ℕ, ◌+◌, ◌-◌, ◌*◌, ◌/◌, ◌<◌, ◌≤◌, ◌%◌, ◌≢◌, length, slice_index};
 ghost use Rattle.jpeg_pixels.specs.Upsampling.{blended, far_place};
 
 // The line of a plane whose lines are `row_stride` bytes apart.
@@ -105,6 +105,23 @@ pub fn upsample_row_h2v2(near: &[u8], far: &[u8], output: &mut [u8])
     }
 }
 
+// Writes the samples of a line at every `step`th place from `first` on, as far as the output goes.
+fn spread(line: &[u8], step: usize, first: usize, output: &mut [u8])
+    requires first { first < step }
+    requires wide { length output.old ≤ step * length line.now }
+    requires no_wider { step * length line.now < length output.old + step }
+    ensures samples { (i : ℕ) → i * step + first < length output.old →
+        slice_index output.new (i * step + first) ≡ slice_index line.now i }
+    ensures others { (x : ℕ) → x % step ≢ first → slice_index output.new x ≡ slice_index output.old x }
+{
+    for i in 0..line.len() {
+        let x = i * step + first;
+        if x < output.len() {
+            output[x] = line[i];
+        }
+    }
+}
+
 // Each sample of a line so many times; the last one fewer times, where the output ends.
 pub fn repeat_samples(line: &[u8], times: usize, output: &mut [u8])
     requires some { 1 ≤ times }
@@ -117,9 +134,8 @@ pub fn repeat_samples(line: &[u8], times: usize, output: &mut [u8])
         output.copy_from_slice(line);
         return;
     }
-    for i in 0..line.len() {
-        let start = i * times;
-        let end = start + times.min(output.len() - start);
-        output[start..end].fill(line[i]);
+    // A pass for each place: runs as short as these would cost more one by one.
+    for first in 0..times {
+        spread(line, times, first, output);
     }
 }
