@@ -13,6 +13,7 @@ pub mod PlaneRows
 pub mod Rows
 pub mod SourceLists
 pub mod Strips
+pub mod UpsampledEnds
 pub mod UpsampledRows
 pub mod WholePictures
 pub mod ZigzagPlaces

@@ -1,11 +1,10 @@
 -- Rows of samples made wider, place by place.
-use Rattle.std.proofs.Common.{◌≡◌, ℕ, ◌+◌, ◌-◌, ◌*◌, ◌/◌, ◌%◌, ◌<◌, ◌≤◌, List, length, get_or, arith, ap, sym, ◌∙◌, cond, min, inl, inr, take, drop, ◌++◌, length-take, length-drop, replicate}
+use Rattle.std.proofs.Common.{◌≡◌, ℕ, ◌+◌, ◌-◌, ◌*◌, ◌/◌, ◌%◌, ◌<◌, ◌≤◌, List, length, get_or, set, get_or-set_other, get_or-set_same, length-set, ◌≢◌, arith, ap, sym, ◌∙◌, cond, min, inl, inr, take, drop, ◌++◌, length-take}
 use Rattle.std.specs.Prelude.{◌==◌}
-use Rattle.std.proofs.lemmas.Bool.{cases_eq, cases_lt}
-use Rattle.std.proofs.Math.Nat.{mul_comm, div-lt_iff_lt-mul}
-use Rattle.std.proofs.lemmas.List.{get_or_append_left, get_or-append_right, get_or-take, get_or-replicate, length-replicate}
-use Rattle.std.proofs.lemmas.Nat.{div-mul-add}
-use borrow.Rule.Slice.PartMut.{put_mid, post_of, same_len_mid}
+use Rattle.std.proofs.lemmas.Bool.{cases_eq}
+use Rattle.std.proofs.Math.Nat.{mul_comm, mul-le-mul_right, div-lt_iff_lt-mul}
+use Rattle.std.proofs.lemmas.List.{get_or_append_left}
+use Rattle.std.proofs.lemmas.Nat.{mod-mul-add}
 use Rattle.jpeg_pixels.specs.Upsampling.{across, blended, far_place, upsampled}
 use Rattle.jpeg_pixels.specs.declared.upsampler.UpsampleRule.{UpsampleRule}
 use Rattle.jpeg_pixels.specs.declared.upsampler.UpsampleRule.TheVariants.{H1V1, H2V1, H1V2, H2V2, Generic}
@@ -93,30 +92,23 @@ as_generic rule h v plane line width height x row e some inside each = rw e (eac
         let turned : x < width * h = rw (mul_comm width h, ← is) inside in
         (div-lt_iff_lt-mul {k = h} {x = x} {y = width} positive).1 turned
 
--- a place in the part that is written for one sample
-place_is : (times i x : ℕ) → i * times ≤ x → x < (i + 1) * times → x / times ≡ i
-place_is times i x late below =
-    let is : i * times + (x - i * times) ≡ x = omega arith in
-    let near : x - i * times < times = omega arith in
-    ap (λ n. n / times) (sym is) ∙ div-mul-add i times (x - i * times) near
+-- one more sample, at its place among those that are `step` apart
+pub spread_samples : (line xs ys : List ℕ) (step first i : ℕ) → first < step → i * step + first < length xs → ys ≡ set xs (i * step + first) (get_or line i 0) →
+    ((k : ℕ) → k < i → k * step + first < length xs → get_or xs (k * step + first) 0 ≡ get_or line k 0) →
+    (k : ℕ) → k < i + 1 → k * step + first < length ys → get_or ys (k * step + first) 0 ≡ get_or line k 0
+spread_samples line xs ys step first i some inside is before k h long = ap (λ (l : List ℕ). get_or l (k * step + first) 0) is ∙ (elim (cases_eq k i) [
+  | inl e ↦ ap (λ n. get_or (set xs (i * step + first) (get_or line i 0)) (n * step + first) 0) e
+      ∙ get_or-set_same xs (i * step + first) (get_or line i 0) 0 inside ∙ ap (λ n. get_or line n 0) (sym e)
+  | inr ne ↦ let next : k + 1 ≤ i = omega arith in
+      let apart : k * step + first ≢ i * step + first = omega (arith, mul-le-mul_right step next) in
+      get_or-set_other xs (i * step + first) (k * step + first) (get_or line i 0) 0 apart
+      ∙ before k (omega arith) (omega (arith, ap length is, length-set xs (i * step + first) (get_or line i 0)))
+])
 
--- one more sample, so many times: the part from `start` on, of `count` places
-pub repeat_next : (line : List ℕ) (times i start count : ℕ) (xs ys : List ℕ) → start ≡ i * times → start ≤ length xs → count ≡ min times (length xs - start) →
-    ys ≡ replicate (length (take count (drop start xs))) (get_or line i 0) →
-    ((x : ℕ) → x < i * times → x < length xs → get_or xs x 0 ≡ get_or line (x / times) 0) →
-    (x : ℕ) → x < (i + 1) * times → x < length (put_mid start count xs ys) →
-    get_or (put_mid start count xs ys) x 0 ≡ get_or line (x / times) 0
-repeat_next line times i start count xs ys is room least part before x below inside =
-    let middle : length (take count (drop start xs)) ≡ count = omega (arith, length-take count (drop start xs), length-drop start xs) in
-    let part_long : length ys ≡ length (take count (drop start xs)) = ap length part ∙ length-replicate _ _ in
-    let front : length (take start xs) ≡ start = omega (arith, length-take start xs) in
-    let all : length (put_mid start count xs ys) ≡ length xs = same_len_mid start count xs ys part_long in
-    elim (cases_lt x start) [
-      | inl early ↦ get_or_append_left (take start xs) (ys ++ post_of start count xs) 0 x (omega arith)
-          ∙ get_or-take start xs x 0 early ∙ before x (omega arith) (omega arith)
-      | inr late ↦ get_or-append_right (take start xs) (ys ++ post_of start count xs) start x 0 front late
-          ∙ get_or_append_left ys (post_of start count xs) 0 (x - start) (omega arith)
-          ∙ ap (λ (l : List ℕ). get_or l (x - start) 0) part
-          ∙ get_or-replicate _ (x - start) (get_or line i 0) 0 (omega arith)
-          ∙ ap (λ n. get_or line n 0) (sym (place_is times i x (omega arith) below))
-    ]
+-- the places between
+pub spread_others : (xs ys was : List ℕ) (step first i v : ℕ) → first < step → ys ≡ set xs (i * step + first) v →
+    ((x : ℕ) → x % step ≢ first → get_or xs x 0 ≡ get_or was x 0) →
+    (x : ℕ) → x % step ≢ first → get_or ys x 0 ≡ get_or was x 0
+spread_others xs ys was step first i v some is before x between =
+    let apart : x ≢ i * step + first = λ e. between (ap (λ n. n % step) e ∙ mod-mul-add i step first some) in
+    ap (λ (l : List ℕ). get_or l x 0) is ∙ get_or-set_other xs (i * step + first) x v 0 apart ∙ before x between

@@ -12,6 +12,8 @@ mod sources;
 #[cfg(test)]
 mod tests;
 mod upsample_rows;
+#[cfg(test)]
+mod upsample_tests;
 pub mod upsampler;
 pub mod worker;
 pub mod zigzag;

@@ -1,18 +1,20 @@
 //! Rows of a component made as wide as the picture, one function for each rule.
-ghost use Rattle.std.specs.Prelude.{◌≡◌, ℕ, ◌+◌, ◌-◌, ◌*◌, ◌/◌, ◌<◌, ◌≤◌, length, slice_index};
+ghost use Rattle.std.specs.Prelude.{◌≡◌, ℕ, ◌+◌, ◌-◌, ◌*◌, ◌/◌, ◌<◌, ◌≤◌, ◌%◌, ◌≢◌, length, slice_index};
 ghost use Rattle.jpeg_pixels.specs.Upsampling.{blended, far_place};
 
 // The line of a plane whose lines are `row_stride` bytes apart.
 pub fn line_at(input: &[u8], input_width: usize, row_stride: usize, line: usize) -> &[u8]
     requires { line * row_stride + input_width ≤ length input.now }
     ensures long { length result.now ≡ input_width }
-    ensures samples { (i : ℕ) → i < input_width → slice_index result.now i ≡ slice_index input.now (line * row_stride + i) }
+    ensures samples { (i : ℕ) → i < input_width →
+        slice_index result.now i ≡ slice_index input.now (line * row_stride + i) }
 {
     let start = line * row_stride;
     &input[start..start + input_width]
 }
 
-// Of the two lines next to line `row / 2` the one that `row` is nearer to: at the ends the line itself.
+// Of the two lines next to line `row / 2` the one that `row` is nearer to: at the ends the line
+// itself.
 pub fn far_line(input_height: usize, row: usize) -> usize
     requires some { 1 ≤ input_height }
     ensures { result ≡ far_place input_height row }
@@ -53,7 +55,8 @@ pub fn upsample_row_h2v1(line: &[u8], output: &mut [u8])
     requires some { 1 ≤ length line.now }
     requires wide { length output.old ≤ 2 * length line.now }
     requires no_wider { 2 * length line.now ≤ length output.old + 1 }
-    ensures { (x : ℕ) → x < length output.old → slice_index output.new x ≡ blended (slice_index line.now (x / 2)) (slice_index line.now (far_place (length line.now) x)) }
+    ensures { (x : ℕ) → x < length output.old → slice_index output.new x ≡
+        blended (slice_index line.now (x / 2)) (slice_index line.now (far_place (length line.now) x)) }
 {
     let width = line.len();
     output[0] = line[0];
@@ -70,7 +73,8 @@ pub fn upsample_row_h2v1(line: &[u8], output: &mut [u8])
 pub fn upsample_row_h1v2(near: &[u8], far: &[u8], output: &mut [u8])
     requires near_long { length near.now ≡ length output.old }
     requires far_long { length far.now ≡ length output.old }
-    ensures { (x : ℕ) → x < length output.old → slice_index output.new x ≡ blended (slice_index near.now x) (slice_index far.now x) }
+    ensures { (x : ℕ) → x < length output.old →
+        slice_index output.new x ≡ blended (slice_index near.now x) (slice_index far.now x) }
 {
     for x in 0..output.len() {
         output[x] = blend(near[x], far[x]);
@@ -85,7 +89,8 @@ pub fn upsample_row_h2v2(near: &[u8], far: &[u8], output: &mut [u8])
     requires no_wider { 2 * length near.now ≤ length output.old + 1 }
     ensures { (x : ℕ) → x < length output.old → slice_index output.new x ≡
         (3 * (3 * slice_index near.now (x / 2) + slice_index far.now (x / 2))
-        + (3 * slice_index near.now (far_place (length near.now) x) + slice_index far.now (far_place (length near.now) x)) + 8) / 16 }
+        + (3 * slice_index near.now (far_place (length near.now) x)
+        + slice_index far.now (far_place (length near.now) x)) + 8) / 16 }
 {
     let width = near.len();
     output[0] = blend(near[0], far[0]);
@@ -100,20 +105,37 @@ pub fn upsample_row_h2v2(near: &[u8], far: &[u8], output: &mut [u8])
     }
 }
 
+// Writes the samples of a line at every `step`th place from `first` on, as far as the output goes.
+fn spread(line: &[u8], step: usize, first: usize, output: &mut [u8])
+    requires first { first < step }
+    requires wide { length output.old ≤ step * length line.now }
+    requires no_wider { step * length line.now < length output.old + step }
+    ensures samples { (i : ℕ) → i * step + first < length output.old →
+        slice_index output.new (i * step + first) ≡ slice_index line.now i }
+    ensures others { (x : ℕ) → x % step ≢ first → slice_index output.new x ≡ slice_index output.old x }
+{
+    for i in 0..line.len() {
+        let x = i * step + first;
+        if x < output.len() {
+            output[x] = line[i];
+        }
+    }
+}
+
 // Each sample of a line so many times; the last one fewer times, where the output ends.
 pub fn repeat_samples(line: &[u8], times: usize, output: &mut [u8])
     requires some { 1 ≤ times }
     requires wide { length output.old ≤ times * length line.now }
     requires no_wider { times * length line.now < length output.old + times }
-    ensures { (x : ℕ) → x < length output.old → slice_index output.new x ≡ slice_index line.now (x / times) }
+    ensures { (x : ℕ) → x < length output.old →
+        slice_index output.new x ≡ slice_index line.now (x / times) }
 {
     if times == 1 {
         output.copy_from_slice(line);
         return;
     }
-    for i in 0..line.len() {
-        let start = i * times;
-        let end = start + times.min(output.len() - start);
-        output[start..end].fill(line[i]);
+    // A pass for each place: runs as short as these would cost more one by one.
+    for first in 0..times {
+        spread(line, times, first, output);
     }
 }

@@ -1,5 +1,5 @@
-use Rattle.std.proofs.Common.{◌≡◌, ℕ, ◌*◌, ◌/◌, ◌<◌, length, slice_index}
+use Rattle.std.proofs.Common.{◌≡◌, ℕ, ◌%◌, ◌/◌, ◌<◌, length, slice_index}
 use Rattle.jpeg_pixels.proofs.upsample_rows.repeat_samples.Given as goal
 
-abbrev pub invariant-loop-i : goal.invariant-loop-i
-invariant-loop-i l = (x : ℕ) → x < l.i * l.times → x < length l.output → slice_index l.output x ≡ slice_index l.line (x / l.times)
+abbrev pub invariant-loop-first : goal.invariant-loop-first
+invariant-loop-first l = (x : ℕ) → x < length l.output → x % l.times < l.first → slice_index l.output x ≡ slice_index l.line (x / l.times)
