@@ -6,7 +6,7 @@ use Rattle.jpeg_bits.specs.declared.error.Error.{Error}
 use Rattle.jpeg_bits.specs.declared.error.Error.TheVariants as errors
 use Rattle.jpeg_segments.specs.Frame.{Component, Factors, greatest}
 use Rattle.jpeg_pixels.specs.Pictures.{Source, source_of, sources_by}
-use Rattle.jpeg_pixels.specs.PicturesView.{HasFactors, AllHaveFactors}
+use Rattle.jpeg_segments.specs.Frame.{HasFactors, AllHaveFactors}
 
 -- the greatest factor is at least 1
 greatest-some : (f : Factors → ℕ) (cs : List Factors) → 1 ≤ greatest f cs

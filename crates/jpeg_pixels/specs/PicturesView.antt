@@ -9,17 +9,6 @@ use Rattle.jpeg_pixels.specs.declared.upsampler.ColorConvert.TheVariants as conv
 abbrev pub source_in : ComponentSource → Source
 source_in c = record { rule = c.rule; width = c.width; height = c.height; stride = c.row_stride }
 
--- a component's factors are 1 to 4
-pub record HasFactors (c : frames.Component) : Type 0 where
-  pub horizontal_some : 1 ≤ c.factors.horizontal
-  pub horizontal_most : c.factors.horizontal ≤ 4
-  pub vertical_some : 1 ≤ c.factors.vertical
-  pub vertical_most : c.factors.vertical ≤ 4
-
-unfoldable pub AllHaveFactors : List frames.Component → Type 0
-AllHaveFactors [] = Unit {0}
-AllHaveFactors (c ∷ more) = HasFactors c × AllHaveFactors more
-
 -- a conversion is for so many components
 abbrev pub IsFor : ℕ → ColorConvert → Type 0
 IsFor count converts.None = Unit {0}

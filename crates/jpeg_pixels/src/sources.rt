@@ -6,7 +6,8 @@ ghost use Rattle.jpeg_segments.specs.Frame.{greatest};
 ghost use Rattle.jpeg_segments.specs.FrameView.{component_in};
 ghost use Rattle.jpeg_pixels.specs.Upsampling.{rule_of};
 ghost use Rattle.jpeg_pixels.specs.Pictures.{factors_of, source_of, sources_of};
-ghost use Rattle.jpeg_pixels.specs.PicturesView.{source_in, HasFactors, AllHaveFactors};
+ghost use Rattle.jpeg_pixels.specs.PicturesView.{source_in};
+ghost use Rattle.jpeg_segments.specs.Frame.{HasFactors, AllHaveFactors};
 
 use crate::upsampler::{ComponentSource, UpsampleRule};
 use jpeg_bits::error::{Error, Result, UnsupportedFeature};

@@ -172,7 +172,8 @@ impl Upsampler {
     ghost use Rattle.jpeg_bits.specs.declared.error.Error.TheVariants.{OutOfMemory};
     ghost use Rattle.jpeg_segments.specs.FrameView.{component_in};
     ghost use Rattle.jpeg_pixels.specs.Pictures.{sources_of, AllCover, picture_line, picture_bytes};
-    ghost use Rattle.jpeg_pixels.specs.PicturesView.{AllHaveFactors, IsFor};
+    ghost use Rattle.jpeg_pixels.specs.PicturesView.{IsFor};
+    ghost use Rattle.jpeg_segments.specs.Frame.{AllHaveFactors};
 
     /// The upsampler of a frame's components for a picture of this size in pixels.
     ///

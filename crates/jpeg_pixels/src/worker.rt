@@ -3,7 +3,7 @@ ghost use Rattle.std.specs.Prelude.{◌≡◌, ◌≤◌, List, map, length, Ok,
 ghost use Rattle.jpeg_bits.specs.Reading.{Names};
 ghost use Rattle.jpeg_segments.specs.FrameView.{component_in};
 ghost use Rattle.jpeg_pixels.specs.Pictures.{Source, sources_of, AllCover, image_of};
-ghost use Rattle.jpeg_pixels.specs.PicturesView.{AllHaveFactors};
+ghost use Rattle.jpeg_segments.specs.Frame.{AllHaveFactors};
 
 use crate::upsampler::{ColorConvert, Upsampler};
 use jpeg_bits::color_transform::ColorTransform;

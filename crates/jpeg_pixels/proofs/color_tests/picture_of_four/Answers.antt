@@ -5,7 +5,7 @@ use Rattle.jpeg_segments.specs.FrameView.{component_in}
 use Rattle.jpeg_pixels.specs.declared.upsampler.UpsampleRule.TheVariants.{H1V1}
 use Rattle.jpeg_pixels.specs.Upsampling.{rule_of}
 use Rattle.jpeg_pixels.specs.Pictures.{Source, Covers, AllCover, sources_by, sources_of}
-use Rattle.jpeg_pixels.specs.PicturesView.{HasFactors, AllHaveFactors}
+use Rattle.jpeg_segments.specs.Frame.{HasFactors, AllHaveFactors}
 use Rattle.jpeg_pixels.proofs.color_tests.picture_of_four.Goals as goal
 
 abbrev component_0 : frames.Component

@@ -8,7 +8,8 @@ use Rattle.jpeg_pixels.specs.declared.upsampler.ComponentSource.{ComponentSource
 use Rattle.jpeg_segments.specs.declared.parser.Component.{Component}
 use Rattle.jpeg_segments.specs.FrameView.{component_in}
 use Rattle.jpeg_pixels.specs.Pictures.{Source, sources_by}
-use Rattle.jpeg_pixels.specs.PicturesView.{source_in, HasFactors}
+use Rattle.jpeg_pixels.specs.PicturesView.{source_in}
+use Rattle.jpeg_segments.specs.Frame.{HasFactors}
 use Rattle.jpeg_pixels.proofs.SourceLists.{Continues, sources-start, sources-more, sources-end, sources-err, factors-at}
 use Rattle.jpeg_pixels.proofs.sources.component_sources.Goals as goal
 
