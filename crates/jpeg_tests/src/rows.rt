@@ -32,7 +32,7 @@ enum Gives {
     Io,
 }
 
-const STREAMS: [([&str; 8], Gives); 28] = [
+const STREAMS: [([&str; 8], Gives); 40] = [
     // DC 8 alone: 129 everywhere.
     (
         ["FFD8", ONES, FRAME, DC_4, AC_0, SCAN, "43", END],
@@ -285,6 +285,22 @@ const STREAMS: [([&str; 8], Gives); 28] = [
         ["FFD8", ONES, FRAME, DC_4, AC_0, END, "", ""],
         Gives::Format,
     ),
+    // Restart markers at the end of a scan: those behind a marker that was met are passed over, and one that was not is ignored once.
+    (["FFD8", ONES, FRAME, DC_4, AC_0, SCAN, "43 FFD0 FFD0", END], Gives::Lines("81*8", 8)),
+    (["FFD8", ONES, FRAME, DC_4, AC_0, SCAN, "43 00*7 FFD0", END], Gives::Lines("81*8", 8)),
+    (["FFD8", ONES, FRAME, DC_4, AC_0, SCAN, "43 00*7 FFD0 FFD0", END], Gives::Format),
+    (["FFD8", ONES, FRAME, "FFD0", DC_4, AC_0, SCAN, "43 FFD9"], Gives::Format),
+    // A number of lines behind the first scan, behind a later one, and elsewhere.
+    (["FFD8", ONES, FRAME, DC_4, AC_0, SCAN, "43 FFDC 0004 0008", END], Gives::Dnl),
+    (["FFD8", ONES, FRAME, DC_4, AC_0, SCAN, "43 FFDA 0008 01 01 00 00 3F 00 43 FFDC 0004 0008", END], Gives::Format),
+    (["FFD8", ONES, "FFDC 0004 0008", FRAME, DC_4, AC_0, SCAN, "43 FFD9"], Gives::Format),
+    // Markers that have no place, or are refused by name.
+    (["FFD8", ONES, "FFD8", FRAME, DC_4, AC_0, SCAN, "43 FFD9"], Gives::Format),
+    (["FFD8", ONES, "FFC8 0002", FRAME, DC_4, AC_0, SCAN, "43 FFD9"], Gives::Format),
+    (["FFD8", ONES, "FFDE 0002", FRAME, DC_4, AC_0, SCAN, "43 FFD9"], Gives::Hierarchical),
+    // A restart interval of 0 is none; another one is not decoded yet.
+    (["FFD8", ONES, FRAME, "FFDD 0004 0000", DC_4, AC_0, SCAN, "43 FFD9"], Gives::Lines("81*8", 8)),
+    (["FFD8", ONES, FRAME, "FFDD 0004 0001", DC_4, AC_0, SCAN, "43 FFD9"], Gives::Format),
     // No bytes.
     (["", "", "", "", "", "", "", ""], Gives::Io),
 ];
