@@ -1,4 +1,4 @@
-//! The same loops in Rust.
+//! The same work in Rust: plain loops over lines, one pass over the pixels of a line.
 use std::time::Instant;
 
 const WIDTH: usize = 4000;
