@@ -1,9 +1,9 @@
 -- Steps of the parser of Huffman tables.
-use Rattle.std.proofs.Common.{◌≡◌, ℕ, zero, suc, ◌-◌, ◌<◌, ◌≤◌, Bool, true, false, List, refl, ◌∙◌, Result, Ok, Err, arith, eqb, ltb}
+use Rattle.std.proofs.Common.{◌≡◌, ℕ, zero, suc, ◌+◌, ◌-◌, ◌<◌, ◌≤◌, Bool, true, false, List, [], ◌∷◌, refl, sym, ap, ◌∙◌, Result, Ok, Err, arith, sub-one, eqb, ltb, leb}
 use Rattle.std.proofs.lemmas.Bool.Decides.{nat_tests}
 use Rattle.std.specs.Prelude.{if◌then◌else◌, sum, IfOk, IfErr}
 use Rattle.jpeg_bits.specs.Stream.{Stream}
-use Rattle.jpeg_bits.specs.Reading.{Fault, Malformed, Outcome, Answers, MayFail, Names, NamesFormat, ◌>>=◌, times, next_byte}
+use Rattle.jpeg_bits.specs.Reading.{Fault, Malformed, Outcome, Answers, MayFail, IsGivenUp, Names, NamesFormat, ◌>>=◌, times, next_byte}
 use Rattle.jpeg_bits.specs.Codes.{Table, HasCodes, RefusesCodes, codes_exist, code_lengths}
 use Rattle.jpeg_bits.specs.declared.codes.HuffmanTableClass.{HuffmanTableClass}
 use Rattle.jpeg_bits.specs.declared.error.Error.{Error}

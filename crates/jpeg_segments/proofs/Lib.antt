@@ -1,3 +1,5 @@
 pub mod QuantizationLemmas
 pub mod HuffmanLemmas
-pub mod Rows
+pub mod ApplicationLemmas
+pub mod FrameLemmas
+pub mod ScanLemmas

@@ -1,7 +1,7 @@
 -- Steps of the loop over quantization tables.
-use Rattle.std.proofs.Common.{◌≡◌, ℕ, zero, suc, ◌-◌, ◌<◌, ◌≤◌, false, List, refl, Ok, Some, arith, set, eqb}
+use Rattle.std.proofs.Common.{◌≡◌, ℕ, zero, suc, ◌+◌, ◌-◌, ◌<◌, ◌≤◌, Bool, true, false, List, [], ◌∷◌, refl, sym, ap, ◌∙◌, Result, Ok, Err, Some, arith, rules, set, sub-one, eqb}
 use Rattle.std.proofs.lemmas.Bool.Decides.{nat_tests}
-use Rattle.jpeg_bits.specs.Reading.{◌>>=◌}
+use Rattle.jpeg_bits.specs.Reading.{Outcome, ◌>>=◌}
 use Rattle.jpeg_segments.specs.Quantization.{Tables, tables_from, placed_table_at}
 
 pub tables_from-more : (most left : ℕ) (tables : Tables) (bytes : List ℕ) → 0 < left → left ≤ most → tables_from most left tables bytes ≡ (placed_table_at left bytes >>= λ (t : (ℕ × ℕ × List ℕ) × List ℕ). tables_from (most - 1) (left - t.0.0) (set tables t.0.1 (Some t.0.2)) t.1)

@@ -1,5 +1,6 @@
-use Rattle.std.proofs.Common.{◌≡◌, ◌-◌, set, arith, ap, ◌∙◌, List, ℕ, Some, length-set}
+use Rattle.std.proofs.Common.{◌≡◌, ◌+◌, ◌-◌, ◌<◌, ◌≤◌, length, set, arith, ap, ◌∙◌, sym, List, ℕ, Some, Ok, Err, length-set, refl}
 use Rattle.std.proofs.lemmas.Result.{err_from_is_err_and}
+use Rattle.jpeg_bits.specs.Reading.{Fault, Outcome, ◌>>=◌}
 use Rattle.jpeg_segments.specs.Quantization.{Tables, dqt_at, tables_from, placed_table_at}
 use Rattle.jpeg_bits.proofs.Loops.{Continues-ok, Continues-err, Continues-end, bind_at, bind_err}
 use Rattle.jpeg_segments.proofs.QuantizationLemmas.{tables_from-more, tables_from-none}

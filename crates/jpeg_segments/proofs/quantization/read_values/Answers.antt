@@ -1,8 +1,8 @@
-use Rattle.std.proofs.Common.{◌≡◌, ◌<◌, length, take, arith, ◌∙◌, List, ℕ, length-set, refl}
+use Rattle.std.proofs.Common.{◌≡◌, ◌+◌, ◌<◌, length, take, set, arith, ap, ◌∙◌, sym, subst, List, ℕ, [], ◌∷◌, ◌++◌, length-set, refl}
 use Rattle.std.proofs.lemmas.Result.{err_from_is_err_and}
 use Rattle.std.proofs.lemmas.List.{take_more_set, take_all}
 use Rattle.jpeg_segments.specs.Quantization.{value_at}
-use Rattle.jpeg_bits.proofs.Loops.{HasRead-more, HasRead-err, HasRead-all, HasRead-none}
+use Rattle.jpeg_bits.proofs.Loops.{HasRead, HasRead-more, HasRead-err, HasRead-all, HasRead-none}
 use Rattle.jpeg_segments.proofs.quantization.read_values.Goals as goal
 
 pub loop-i-init : goal.loop-i-init
