@@ -6,6 +6,7 @@ pub mod Scans
 pub mod Rows
 pub mod Raster
 pub mod Stream
+pub mod Profile
 pub mod States
 pub mod Seen
 pub mod Output

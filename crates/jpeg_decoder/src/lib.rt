@@ -4,6 +4,7 @@
 mod blocks;
 pub mod decoder;
 pub mod laws;
+mod metadata;
 mod picture;
 mod places;
 pub mod run;
