@@ -15,3 +15,4 @@ pub mod Steps
 pub mod PlanesIn
 pub mod Shapes
 pub mod Pixels
+pub mod ColourChoice

@@ -2,6 +2,9 @@
 #![tactic(auto)]
 
 mod blocks;
+mod color_choice;
+#[cfg(test)]
+mod color_choice_tests;
 pub mod decoder;
 pub mod laws;
 mod metadata;

@@ -10,8 +10,8 @@ ghost use Rattle.jpeg_decoder.specs.Seen.{found_in};
 ghost use Rattle.jpeg_decoder.specs.Steps.{turn_of, coded_plane, scan_plane};
 
 use crate::blocks::{Grid, read_plane};
-use crate::places::{decide, named_table, needed, table_at, update};
 use crate::metadata::Metadata;
+use crate::places::{decide, named_table, needed, table_at, update};
 use crate::state::State;
 use jpeg_bits::error::{Error, Result, UnsupportedFeature};
 use jpeg_bits::marker::{Marker, read_marker};
