@@ -1,25 +1,46 @@
 -- What a caller sees of the parts of a decoder.
-use Rattle.std.specs.Prelude.{nat_le, map, option_map, if◌then◌else◌}
+use Rattle.std.specs.Prelude.{ℕ, List, Option, nat_le, map, option_map, if◌then◌else◌}
 use Rattle.jpeg_segments.specs.Frame.{Frame}
-use Rattle.jpeg_segments.specs.FrameView.{frame_in}
+use Rattle.jpeg_segments.specs.FrameView.{frame_in, chunk_in}
 use Rattle.jpeg_decoder.specs.declared.state.State.{State}
 use Rattle.jpeg_decoder.specs.declared.decoder.Progress.{Progress}
 use Rattle.jpeg_decoder.specs.declared.decoder.Progress.TheVariants as progress
 use Rattle.jpeg_decoder.specs.declared.decoder.ImageInfo.{ImageInfo}
 use Rattle.jpeg_decoder.specs.declared.decoder.PixelFormat.TheVariants.{L8, L16}
-use Rattle.jpeg_decoder.specs.Stream.{Found}
-use Rattle.jpeg_decoder.specs.States.{Stage, Fresh, Finished, Failed}
+use Rattle.jpeg_decoder.specs.declared.metadata.Metadata as declared
+use Rattle.jpeg_decoder.specs.Stream.{Found, Metadata}
+use Rattle.jpeg_decoder.specs.States.{Stage, Fresh, HeaderRead, Finished, Failed}
+use Rattle.std.specs.declared.alloc.Global.{Global}
+use Rattle.std.specs.declared.vec.Vec.{Vec}
+
+abbrev pub bytes_in : Option (Vec ℕ Global) → Option (List ℕ)
+bytes_in bytes = option_map (λ v. v.items) bytes
+
+abbrev pub metadata_in : declared.Metadata → Metadata
+metadata_in m = record {
+  jfif = m.jfif;
+  avi1 = m.avi1;
+  adobe = m.adobe;
+  exif = bytes_in m.exif;
+  xmp = bytes_in m.xmp;
+  psir = bytes_in m.psir;
+  icc = map chunk_in m.icc.items;
+}
 
 abbrev pub found_in : State → Found
 found_in s = record {
   frame = option_map frame_in s.frame;
   quantization = s.quantization;
   huffman = record { dc = s.dc_tables; ac = s.ac_tables };
+  restart = s.restart_interval;
+  scanned = s.scanned;
+  metadata = metadata_in s.metadata;
   planes = map (λ p. option_map (λ v. v.items) p) s.planes;
 }
 
 abbrev pub stage_of : Progress → Stage
 stage_of progress.Fresh = Fresh
+stage_of progress.HeaderRead = HeaderRead
 stage_of progress.Finished = Finished
 stage_of progress.Failed = Failed
 

@@ -79,6 +79,7 @@ fn info_of(frame: &FrameInfo) -> ImageInfo
 #[derive(Clone, Copy, Debug, PartialEq)]
 enum Progress {
     Fresh,
+    HeaderRead,
     Finished,
     Failed,
 }
@@ -127,7 +128,7 @@ impl<R: Read + Drop> Decoder<R> {
             alloc,
             source: Source::new(reader),
             progress: Progress::Fresh,
-            state: State::new(),
+            state: State::new(alloc),
             settings: Settings { limit: usize::MAX },
         })
     }
@@ -157,6 +158,7 @@ impl<R: Read + Drop> Decoder<R> {
                 &mut self.state,
                 self.settings,
             ),
+            Progress::HeaderRead => return Err(Error::Internal("not here yet")),
             Progress::Finished => return Err(Error::Internal("image was already decoded")),
             Progress::Failed => return Err(Error::Internal("decoder has failed")),
         };

@@ -2,8 +2,12 @@
 #![tactic(auto)]
 
 mod blocks;
+mod color_choice;
+#[cfg(test)]
+mod color_choice_tests;
 pub mod decoder;
 pub mod laws;
+mod metadata;
 mod picture;
 mod places;
 pub mod run;

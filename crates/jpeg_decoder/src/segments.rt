@@ -10,6 +10,7 @@ ghost use Rattle.jpeg_decoder.specs.Seen.{found_in};
 ghost use Rattle.jpeg_decoder.specs.Steps.{turn_of, coded_plane, scan_plane};
 
 use crate::blocks::{Grid, read_plane};
+use crate::metadata::Metadata;
 use crate::places::{decide, named_table, needed, table_at, update};
 use crate::state::State;
 use jpeg_bits::error::{Error, Result, UnsupportedFeature};
@@ -20,6 +21,14 @@ use jpeg_bits::source::Source;
 use jpeg_segments::parser::{Component, parse_dht, parse_dqt, parse_sof, parse_sos};
 use std::alloc::Global;
 use std::io::Read;
+
+/// What stands before a marker.
+#[derive(Clone, Copy, Debug, PartialEq)]
+pub enum Before {
+    FirstScan,
+    LaterScan,
+    Elsewhere,
+}
 
 /// What stands behind a segment: the marker that was met already, if one was, and whether the image has ended.
 #[derive(Clone, Copy, Debug, PartialEq)]
@@ -37,7 +46,7 @@ const ONWARD: Step = Step {
 impl State {
     /// The state at the start of a stream.
     #[tactic(auto, unfolding(crate::specs::Stream::nothing_found))]
-    pub fn new() -> State
+    pub fn new(alloc: Global) -> State
         ensures { found_in result ≡ nothing_found }
     {
         State {
@@ -45,6 +54,9 @@ impl State {
             quantization: [None; 4],
             dc_tables: [None, None, None, None],
             ac_tables: [None, None, None, None],
+            restart_interval: 0,
+            scanned: false,
+            metadata: Metadata::new(alloc),
             planes: [None, None, None, None],
         }
     }

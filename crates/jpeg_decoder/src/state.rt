@@ -2,6 +2,7 @@
 ghost use Rattle.std.specs.Prelude.{◌≡◌, true};
 ghost use Rattle.jpeg_segments.specs.HuffmanTables.{all_ac};
 
+use crate::metadata::Metadata;
 use jpeg_bits::huffman::HuffmanTable;
 use jpeg_segments::parser::FrameInfo;
 
@@ -20,6 +21,11 @@ pub struct State {
     pub quantization: [Option<[u16; 64]>; 4],
     pub dc_tables: [Option<HuffmanTable>; 4],
     pub ac_tables: [Option<HuffmanTable>; 4],
+    /// The restart interval in MCUs; 0 is none.
+    pub restart_interval: u16,
+    /// Whether a scan was read.
+    pub scanned: bool,
+    pub metadata: Metadata,
     pub planes: [Option<Vec<u8>>; 4],
 
     // Each AC table is of class AC.
