@@ -7,6 +7,7 @@ pub mod laws;
 mod metadata;
 mod picture;
 mod places;
+mod profile;
 pub mod run;
 mod segments;
 mod state;
