@@ -91,7 +91,7 @@ abbrev pub is_arithmetic : EntropyCoding → Bool
 is_arithmetic Huffman = false
 is_arithmetic Arithmetic = true
 
--- The frame that is decoded. One of three or four components is refused for now.
+-- The frame that is decoded. One of three or four components is refused for now. A number of components is told as a byte.
 unfoldable pub accepted : Frame → Result Frame Fault
 accepted frame =
     if frame.is_differential then Err (Lacks features.Hierarchical) else (
@@ -99,7 +99,7 @@ accepted frame =
     if not (is_precision frame.process frame.precision) then Err (Lacks (features.SamplePrecision frame.precision)) else (
     if length frame.components == 1 then Ok frame else (
     if length frame.components == 3 || length frame.components == 4 then Err Malformed else
-    Err (Lacks (features.ComponentCount (length frame.components)))))))
+    Err (Lacks (features.ComponentCount (min 255 (length frame.components))))))))
 
 -- A frame, of which there is one.
 unfoldable pub frame_segment : ℕ → Found → List ℕ → Outcome Turn

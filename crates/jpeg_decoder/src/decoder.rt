@@ -1,15 +1,18 @@
 //! The decoder and its states.
-ghost use Rattle.std.specs.Prelude.{◌≡◌, IfOk, IfErr, option_map, Err, false};
+ghost use Rattle.std.specs.Prelude.{◌≡◌, IfOk, IfErr, MatchResult, option_map, Err, true, false};
 ghost use Rattle.jpeg_bits.specs.Reading.{Answers};
 ghost use Rattle.jpeg_bits.specs.Stream.{stream_of};
 ghost use Rattle.jpeg_bits.specs.declared.error.Error.TheVariants.{OutOfMemory};
-ghost use Rattle.jpeg_decoder.specs.Stream.{nothing_found, meaning, told_by_stream};
-ghost use Rattle.jpeg_decoder.specs.States.{Decoding, MovesToEnd, OnTold, Fresh};
+ghost use Rattle.jpeg_decoder.specs.Stream.{nothing_found, header_at};
+ghost use Rattle.jpeg_decoder.specs.States.{Decoding, MovesToHeader, MovesToEnd, IsReading, ahead, told_ahead, OnTold, Fresh};
 ghost use Rattle.jpeg_decoder.specs.Seen.{info_of};
 ghost use Rattle.jpeg_segments.specs.FrameView.{frame_in};
 ghost use Rattle.jpeg_decoder.specs.Output.{default_settings};
+ghost use Rattle.jpeg_decoder.specs.Profile.{profile_of};
+ghost use Rattle.std.specs.Option.{option_copied};
 
-use crate::picture::read_stream;
+use crate::picture::{read_header, read_rest, read_stream};
+use crate::profile::profile;
 use crate::state::{Settings, State};
 pub use jpeg_bits::color_transform::ColorTransform;
 use jpeg_bits::error::{Error, Result};
@@ -140,16 +143,67 @@ impl<R: Read + Drop> Decoder<R> {
         self.state.frame.as_ref().map(|frame| info_of(frame))
     }
 
+    /// The bytes of a picture that are decoded at most. A picture of more is refused by `decode`.
+    pub fn set_max_decoding_buffer_size(&mut self, max: usize)
+        ensures { self.new ≡ record self.old { settings = record self.old.settings { limit = max } } }
+    {
+        self.settings.limit = max;
+    }
+
+    /// The last Exif data that was read. Tells it in every state.
+    pub fn exif_data(&self) -> Option<&[u8]>
+        ensures { option_copied result ≡ self.now.found.metadata.exif }
+    {
+        self.state.metadata.exif.as_ref().map(|bytes| bytes.as_slice())
+    }
+
+    /// The last XMP data that was read. Tells it in every state.
+    pub fn xmp_data(&self) -> Option<&[u8]>
+        ensures { option_copied result ≡ self.now.found.metadata.xmp }
+    {
+        self.state.metadata.xmp.as_ref().map(|bytes| bytes.as_slice())
+    }
+
+    /// The ICC profile that was read (ICC.1, Annex B.4), where all its parts were. The only error is want of memory.
+    pub fn icc_profile(&self) -> Result<Option<Vec<u8>>>
+        ensures { MatchResult result (λ o. option_map (λ v. v.items) o ≡ profile_of self.now.found.metadata.icc) (λ e. e ≡ OutOfMemory) }
+    {
+        profile(self.alloc, self.state.metadata.icc.as_slice())
+    }
+
+    /// Reads through the frame's segment, so that `info` tells of the picture. Once it is read, nothing more is read.
+    ///
+    /// Answers `Internal` where the decoder has failed, and nowhere else. A refusal leaves a failed decoder.
+    pub fn read_info(&mut self) -> Result<()>
+        ensures stage { MovesToHeader self.old.stage self.new.stage result }
+        ensures reads { self.old.stage ≡ Fresh → Answers (λ _. self.new.found) header_at self.old.source result self.new.source }
+        ensures told { self.old.stage ≡ Fresh → OnTold self.old.source self.new.source result (self.new.found ≡ told_ahead true self.old.stage self.old.found self.old.source.bytes) }
+        ensures settings { self.new.settings ≡ self.old.settings }
+        ensures still { (self.old.stage ≡ Fresh → ⊥) → self.new ≡ self.old }
+    {
+        let result = match self.progress {
+            Progress::Fresh => read_header(self.alloc, &mut self.source, &mut self.state),
+            Progress::HeaderRead | Progress::Finished => return Ok(()),
+            Progress::Failed => return Err(Error::Internal("decoder has failed")),
+        };
+        self.progress = if result.is_ok() {
+            Progress::HeaderRead
+        } else {
+            Progress::Failed
+        };
+        result
+    }
+
     /// Reads through the end of the image and no byte behind it, and gives the picture: its samples line by line.
     ///
     /// Answers `Internal` where the decoder has failed or has decoded its image, and nowhere else. A refusal leaves a failed decoder, but
     /// a finished one stays finished. No samples are kept behind either.
     pub fn decode(&mut self) -> Result<Vec<u8>>
         ensures stage { MovesToEnd self.old.stage self.new.stage result }
-        ensures reads { self.old.stage ≡ Fresh → Answers (λ v. (self.new.found, v.items)) (meaning self.old.settings) self.old.source result self.new.source }
-        ensures told { self.old.stage ≡ Fresh → OnTold self.old.source self.new.source result (self.new.found ≡ told_by_stream self.old.source.bytes) }
+        ensures reads { IsReading self.old.stage → Answers (λ v. (self.new.found, v.items)) (ahead self.old.stage self.old.settings self.old.found) self.old.source result self.new.source }
+        ensures told { IsReading self.old.stage → OnTold self.old.source self.new.source result (self.new.found ≡ told_ahead false self.old.stage self.old.found self.old.source.bytes) }
         ensures settings { self.new.settings ≡ self.old.settings }
-        ensures still { (self.old.stage ≡ Fresh → ⊥) → self.new ≡ self.old }
+        ensures still { (IsReading self.old.stage → ⊥) → self.new ≡ self.old }
     {
         let result = match self.progress {
             Progress::Fresh => read_stream(
@@ -158,7 +212,12 @@ impl<R: Read + Drop> Decoder<R> {
                 &mut self.state,
                 self.settings,
             ),
-            Progress::HeaderRead => return Err(Error::Internal("not here yet")),
+            Progress::HeaderRead => read_rest(
+                self.alloc,
+                &mut self.source,
+                &mut self.state,
+                self.settings,
+            ),
             Progress::Finished => return Err(Error::Internal("image was already decoded")),
             Progress::Failed => return Err(Error::Internal("decoder has failed")),
         };

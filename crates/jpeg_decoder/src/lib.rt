@@ -10,6 +10,7 @@ pub mod laws;
 mod metadata;
 mod picture;
 mod places;
+mod profile;
 pub mod run;
 mod segments;
 mod state;
