@@ -13,7 +13,7 @@ use Rattle.jpeg_decoder.specs.Seen.{info_of}
 
 -- the settings of a new decoder
 abbrev pub default_settings : Settings
-default_settings = record { limit = 18446744073709551615 }
+default_settings = record { limit = 18446744073709551615; color_transform = None }
 
 abbrev pub name_of : PixelFormat → List ℕ
 name_of L8 = codes "L8"

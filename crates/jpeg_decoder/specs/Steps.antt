@@ -9,7 +9,7 @@ use Rattle.jpeg_segments.specs.Frame.{Component}
 use Rattle.jpeg_segments.specs.ScanHeader.{Scan, sos_at}
 use Rattle.jpeg_decoder.specs.declared.state.State.{State}
 use Rattle.jpeg_decoder.specs.declared.segments.Step.{Step}
-use Rattle.jpeg_decoder.specs.Stream.{Found, Turn, needed, named, first_of, is_sequential, with_plane, scan_before, scan_samples, behind_restarts}
+use Rattle.jpeg_decoder.specs.Stream.{Found, Turn, needed, named, first_of, is_decoded, with_plane, scan_before, scan_samples, behind_restarts}
 use Rattle.jpeg_decoder.specs.Seen.{found_in}
 
 abbrev pub turn_of : State → Step → Turn
@@ -28,7 +28,7 @@ unfoldable pub scan_plane : Found → List ℕ → Outcome (List ℕ × Option M
 scan_plane found bytes = do
   frame ← needed found.frame
   scan ← sos_at frame bytes
-  if is_sequential frame.process && found.restart == 0 then (do
+  if is_decoded found frame then (do
     component ← needed (first_of frame.components)
     coded_plane found component scan.0 scan.1) else Err Malformed
 

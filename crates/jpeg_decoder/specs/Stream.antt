@@ -17,6 +17,7 @@ use Rattle.jpeg_segments.specs.Quantization.{dqt_at}
 use Rattle.jpeg_segments.specs.HuffmanTables.{Tables, no_tables, dht_at}
 use Rattle.jpeg_segments.specs.Application.{Application, Chunk, Adobe, Jfif, Avi1, Icc, Exif, Xmp, Psir, app_at, dri_at}
 use Rattle.jpeg_pixels.specs.Planes.{cropped}
+use Rattle.jpeg_pixels.specs.Pictures.{sources_of}
 use Rattle.jpeg_decoder.specs.Passes.{Via}
 use Rattle.jpeg_decoder.specs.Scans.{grid_of, plane_at}
 use Rattle.jpeg_decoder.specs.declared.state.Settings.{Settings}
@@ -91,15 +92,18 @@ abbrev pub is_arithmetic : EntropyCoding → Bool
 is_arithmetic Huffman = false
 is_arithmetic Arithmetic = true
 
--- The frame that is decoded. One of three or four components is refused for now. A number of components is told as a byte.
+abbrev pub is_count : ℕ → Bool
+is_count count = count == 1 || (count == 3 || count == 4)
+
+-- The frame that is decoded: of one, three or four components, each with a way to upsample it. A number of components is told as a byte.
 unfoldable pub accepted : Frame → Result Frame Fault
 accepted frame =
     if frame.is_differential then Err (Lacks features.Hierarchical) else (
     if is_arithmetic frame.coding then Err (Lacks features.ArithmeticEntropyCoding) else (
     if not (is_precision frame.process frame.precision) then Err (Lacks (features.SamplePrecision frame.precision)) else (
-    if length frame.components == 1 then Ok frame else (
-    if length frame.components == 3 || length frame.components == 4 then Err Malformed else
-    Err (Lacks (features.ComponentCount (min 255 (length frame.components))))))))
+    if is_count (length frame.components)
+    then sources_of frame.components frame.output_width frame.output_height >>= (λ sources. Ok frame)
+    else Err (Lacks (features.ComponentCount (min 255 (length frame.components)))))))
 
 -- A frame, of which there is one.
 unfoldable pub frame_segment : ℕ → Found → List ℕ → Outcome Turn
@@ -175,10 +179,14 @@ is_sequential DctSequential = true
 is_sequential DctProgressive = false
 is_sequential Lossless = false
 
--- The component of a scan and its tables. Scans of progressive and lossless frames, and those under a restart interval, are refused for now.
+-- Scans of progressive and lossless frames, those under a restart interval, and those of several components are refused for now.
+abbrev pub is_decoded : Found → Frame → Bool
+is_decoded found frame = is_sequential frame.process && (found.restart == 0 && length frame.components == 1)
+
+-- The component of a scan and its tables.
 unfoldable pub coding_of : Found → Frame → Scan → Result Coding Fault
 coding_of found frame scan =
-    if is_sequential frame.process && found.restart == 0 then (do
+    if is_decoded found frame then (do
       component ← needed (first_of frame.components)
       quantization ← needed (slice_index_or found.quantization component.factors.quantization None)
       dc ← needed (named found.huffman.dc scan.dc_places)
@@ -311,7 +319,7 @@ unfoldable pub picture_of : Settings → Found → Result (List ℕ) Fault
 picture_of settings found = do
   frame ← needed found.frame
   component ← needed (first_of frame.components)
-  if nat_lt settings.limit (frame.output_width * frame.output_height) then Err Malformed else (do
+  if nat_lt settings.limit (length frame.components * (frame.output_width * frame.output_height)) then Err Malformed else (do
     plane ← needed (slice_index_or found.planes 0 None)
     Ok (picture_in frame component plane))
 

@@ -5,7 +5,7 @@ ghost use Rattle.jpeg_bits.specs.Stream.{stream_of};
 ghost use Rattle.jpeg_bits.specs.declared.error.Error.TheVariants.{OutOfMemory};
 ghost use Rattle.jpeg_decoder.specs.Stream.{nothing_found, header_at};
 ghost use Rattle.jpeg_decoder.specs.States.{Decoding, MovesToHeader, MovesToEnd, IsReading, ahead, told_ahead, OnTold, Fresh};
-ghost use Rattle.jpeg_decoder.specs.Seen.{info_of};
+ghost use Rattle.jpeg_decoder.specs.Seen.{format_of, info_of};
 ghost use Rattle.jpeg_segments.specs.FrameView.{frame_in};
 ghost use Rattle.jpeg_decoder.specs.Output.{default_settings};
 ghost use Rattle.jpeg_decoder.specs.Profile.{profile_of};
@@ -62,18 +62,31 @@ pub struct ImageInfo {
     pub coding_process: CodingProcess,
 }
 
-/// What a frame of one component tells.
+/// The format of so many components at a precision.
+fn format_of(count: usize, precision: u8) -> PixelFormat
+    ensures { result ≡ format_of count precision }
+{
+    match count {
+        3 => PixelFormat::RGB24,
+        4 => PixelFormat::CMYK32,
+        _ => {
+            if precision <= 8 {
+                PixelFormat::L8
+            } else {
+                PixelFormat::L16
+            }
+        }
+    }
+}
+
+/// What a frame tells.
 fn info_of(frame: &FrameInfo) -> ImageInfo
     ensures { result ≡ info_of (frame_in frame.now) }
 {
     ImageInfo {
         width: frame.output_size.width,
         height: frame.output_size.height,
-        pixel_format: if frame.precision <= 8 {
-            PixelFormat::L8
-        } else {
-            PixelFormat::L16
-        },
+        pixel_format: format_of(frame.components.len(), frame.precision),
         coding_process: frame.coding_process,
     }
 }
@@ -132,7 +145,10 @@ impl<R: Read + Drop> Decoder<R> {
             source: Source::new(reader),
             progress: Progress::Fresh,
             state: State::new(alloc),
-            settings: Settings { limit: usize::MAX },
+            settings: Settings {
+                limit: usize::MAX,
+                color_transform: None,
+            },
         })
     }
 
@@ -141,6 +157,14 @@ impl<R: Read + Drop> Decoder<R> {
         ensures { result ≡ option_map info_of self.now.found.frame }
     {
         self.state.frame.as_ref().map(|frame| info_of(frame))
+    }
+
+    /// The colour transform of a picture of several components, in place of the one that its segments tell. One that does not fit is refused
+    /// by `decode`.
+    pub fn set_color_transform(&mut self, transform: ColorTransform)
+        ensures { self.new ≡ record self.old { settings = record self.old.settings { color_transform = Some transform } } }
+    {
+        self.settings.color_transform = Some(transform);
     }
 
     /// The bytes of a picture that are decoded at most. A picture of more is refused by `decode`.

@@ -1,5 +1,5 @@
 //! A stream from its start to its picture (T.81, B.2).
-ghost use Rattle.std.specs.Prelude.{◌≡◌, ◌*◌, true, false, MatchResult};
+ghost use Rattle.std.specs.Prelude.{◌≡◌, ◌*◌, true, false, MatchResult, not, nat_lt};
 ghost use Rattle.jpeg_bits.specs.Reading.{Answers, Names, NamesFormat};
 ghost use Rattle.jpeg_decoder.specs.Stream.{nothing_found, start_at, header_at, without_planes, picture_of, rest_at, meaning, told_rest, told_by_stream};
 ghost use Rattle.jpeg_decoder.specs.States.{OnTold};
@@ -60,6 +60,16 @@ fn area_of(shape: Shape) -> usize
     usize::from(shape.width) * usize::from(shape.height)
 }
 
+/// Whether so many components of a picture are within a limit.
+fn is_within(limit: usize, count: usize, area: usize) -> bool
+    ensures { result ≡ not (nat_lt limit (count * area)) }
+{
+    match count.checked_mul(area) {
+        Some(size) => size <= limit,
+        None => false,
+    }
+}
+
 /// The samples of a line of the plane.
 fn stride_of(shape: Shape) -> usize
     ensures { result ≡ 8 * shape.blocks }
@@ -86,7 +96,7 @@ fn picture(alloc: Global, state: &mut State, settings: Settings) -> Result<Vec<u
 {
     let frame = needed(alloc, state.frame.as_ref(), "an image without a frame")?;
     let shape = needed(alloc, shape_of(frame), "a frame without a component")?;
-    if settings.limit < area_of(shape) {
+    if !is_within(settings.limit, frame.components.len(), area_of(shape)) {
         return Err(format_error(alloc, "the picture is larger than the limit"));
     }
     let mut plane = needed(alloc, state.planes[0].take(), "an image without samples")?;

@@ -1,10 +1,11 @@
 //! The segments of a stream, read in turn (T.81, B.2).
-ghost use Rattle.std.specs.Prelude.{◌≡◌, ◌&&◌, is_some, None, Ok, MatchResult, OnErr};
+ghost use Rattle.jpeg_pixels.specs.Pictures.{sources_of};
+ghost use Rattle.std.specs.Prelude.{◌≡◌, ◌&&◌, is_some, None, Ok, MatchResult, OnErr, ◌≤◌, length, map, IsOk};
 ghost use Rattle.jpeg_bits.specs.Reading.{Answers, Names, IsShort};
-ghost use Rattle.jpeg_decoder.specs.Stream.{nothing_found, is_precision, is_arithmetic, is_sequential, accepted, frame_segment, quantization_segment, huffman_segment, restart_segment, application_segment, skipped_segment, scan_before, scan_segment, end_segment, stray_restart, line_count, segment_at, marker_or, turn_at, segments_at, told_at};
+ghost use Rattle.jpeg_decoder.specs.Stream.{nothing_found, is_precision, is_arithmetic, is_sequential, accepted, frame_segment, quantization_segment, huffman_segment, restart_segment, application_segment, skipped_segment, scan_before, scan_segment, end_segment, stray_restart, line_count, segment_at, marker_or, turn_at, segments_at, told_at, is_decoded};
 ghost use Rattle.jpeg_decoder.specs.Scans.{grid_of};
 ghost use Rattle.jpeg_decoder.specs.declared.segments.Before.TheVariants.{Elsewhere};
-ghost use Rattle.jpeg_segments.specs.Frame.{ceiling};
+ghost use Rattle.jpeg_segments.specs.Frame.{ceiling, AllHaveFactors};
 ghost use Rattle.jpeg_segments.specs.FrameView.{component_in, frame_in, scan_in};
 ghost use Rattle.jpeg_decoder.specs.States.{OnTold};
 ghost use Rattle.jpeg_decoder.specs.Seen.{found_in};
@@ -19,6 +20,7 @@ use jpeg_bits::marker::{Marker, read_marker};
 use jpeg_bits::reads::{format_error, read_length, skip};
 use jpeg_bits::scan::ScanInfo;
 use jpeg_bits::source::Source;
+use jpeg_pixels::upsampler::Upsampler;
 use jpeg_segments::parser::{
     CodingProcess, Component, EntropyCoding, FrameInfo, parse_app, parse_dht, parse_dqt, parse_dri, parse_sof, parse_sos,
 };
@@ -212,7 +214,7 @@ impl State {
     {
         let frame = needed(alloc, self.frame.as_ref(), "a scan without a frame")?;
         let scan = parse_sos(alloc, source, frame)?;
-        if !is_sequential(frame.coding_process) || self.restart_interval != 0 {
+        if !self.is_decoded(frame) {
             return Err(format_error(alloc, "a scan that is not decoded"));
         }
         let component = needed(
@@ -221,6 +223,13 @@ impl State {
             "a frame without a component",
         )?;
         self.read_coded(alloc, source, component, &scan)
+    }
+
+    /// Whether the scans of a frame are decoded.
+    fn is_decoded(&self, frame: &FrameInfo) -> bool
+        ensures { result ≡ is_decoded (found_in self.now) (frame_in frame.now) }
+    {
+        is_sequential(frame.coding_process) && (self.restart_interval == 0 && frame.components.len() == 1)
     }
 
     /// A scan's samples, and the marker behind it and the restart markers at its end.
@@ -406,9 +415,24 @@ fn is_precision(process: CodingProcess, precision: u8) -> bool
     }
 }
 
-/// Checks that a frame is one that is decoded. One of three or four components is refused for now.
+/// Checks that each component has a way to upsample it.
+fn check_ratios(alloc: Global, frame: &FrameInfo) -> Result<()>
+    requires some { 1 ≤ length frame.now.components.items }
+    requires most { length frame.now.components.items ≤ 4 }
+    requires factors { AllHaveFactors (map component_in frame.now.components.items) }
+    ensures { MatchResult result
+        (λ _. IsOk (sources_of (frame_in frame.now).components (frame_in frame.now).output_width (frame_in frame.now).output_height))
+        (λ e. IsRefusal e × Names e (sources_of (frame_in frame.now).components (frame_in frame.now).output_width (frame_in frame.now).output_height)) }
+{
+    let size = frame.output_size;
+    Upsampler::new(alloc, &frame.components, size.width, size.height)?;
+    Ok(())
+}
+
+/// Checks that a frame is one that is decoded.
 #[tactic(auto, unfolding(crate::specs::Stream::accepted))]
 fn check_frame(alloc: Global, frame: &FrameInfo) -> Result<()>
+    requires { AllHaveFactors (map component_in frame.now.components.items) }
     ensures { MatchResult result (λ _. accepted (frame_in frame.now) ≡ Ok (frame_in frame.now)) (λ e. IsRefusal e × Names e (accepted (frame_in frame.now))) }
 {
     if frame.is_differential {
@@ -425,15 +449,12 @@ fn check_frame(alloc: Global, frame: &FrameInfo) -> Result<()>
         )));
     }
     let count = frame.components.len();
-    if count == 1 {
-        return Ok(());
+    if !(count == 1 || (count == 3 || count == 4)) {
+        return Err(Error::Unsupported(UnsupportedFeature::ComponentCount(
+            count.min(255) as u8,
+        )));
     }
-    if count == 3 || count == 4 {
-        return Err(format_error(alloc, "a frame of several components"));
-    }
-    Err(Error::Unsupported(UnsupportedFeature::ComponentCount(
-        count.min(255) as u8,
-    )))
+    check_ratios(alloc, frame)
 }
 
 /// Why a DNL segment is refused: behind the first scan it would tell the height.

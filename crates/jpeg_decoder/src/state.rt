@@ -3,6 +3,7 @@ ghost use Rattle.std.specs.Prelude.{◌≡◌, true};
 ghost use Rattle.jpeg_segments.specs.HuffmanTables.{all_ac};
 
 use crate::metadata::Metadata;
+use jpeg_bits::color_transform::ColorTransform;
 use jpeg_bits::huffman::HuffmanTable;
 use jpeg_segments::parser::FrameInfo;
 
@@ -11,6 +12,8 @@ use jpeg_segments::parser::FrameInfo;
 pub struct Settings {
     /// The greatest number of bytes of a picture.
     pub limit: usize,
+    /// The colour transform of pictures of several components, where the segments are not to choose it.
+    pub color_transform: Option<ColorTransform>,
 }
 
 /// What the segments of a stream have said so far: the frame, the tables in force by their places, and the planes that are decided, by the
