@@ -50,7 +50,12 @@ pub record Found : Type 0 where
 
 unfoldable pub nothing_found : Found
 nothing_found = record {
-  frame = None; quantization = replicate 4 None; huffman = no_tables; restart = 0; scanned = false; metadata = no_metadata;
+  frame = None;
+  quantization = replicate 4 None;
+  huffman = no_tables;
+  restart = 0;
+  scanned = false;
+  metadata = no_metadata;
   planes = replicate 4 None;
 }
 
@@ -262,7 +267,7 @@ segments_within zero header before found met bytes = Err End
 segments_within (suc turns) header before found met bytes =
     if header && is_some found.frame then Ok (found, bytes) else
     turn_at before found met bytes >>= (λ t.
-      if t.0.ended then Ok (t.0.found, t.1) else segments_within turns header t.0.before t.0.found t.0.met t.1)
+    if t.0.ended then Ok (t.0.found, t.1) else segments_within turns header t.0.before t.0.found t.0.met t.1)
 
 unfoldable pub segments_at : Bool → Before → Found → Option Marker → List ℕ → Outcome Found
 segments_at header before found met bytes = segments_within (suc (length bytes)) header before found met bytes
@@ -273,8 +278,9 @@ told_within zero header before found met bytes = found
 told_within (suc turns) header before found met bytes =
     if header && is_some found.frame then found else
     elim (turn_at before found met bytes) [
-        Err fault ↦ found
-      | Ok t ↦ if t.0.ended then t.0.found else told_within turns header t.0.before t.0.found t.0.met t.1 ]
+      | Err fault ↦ found
+      | Ok t ↦ if t.0.ended then t.0.found else told_within turns header t.0.before t.0.found t.0.met t.1
+    ]
 
 unfoldable pub told_at : Bool → Before → Found → Option Marker → List ℕ → Found
 told_at header before found met bytes = told_within (suc (length bytes)) header before found met bytes
