@@ -1,4 +1,4 @@
-use Rattle.std.proofs.Common.{◌≡◌, ◌∙◌, ◌≤◌, ◌+◌, ap, sym, subst, ◌++◌, ℕ, List, map, arith}
+use Rattle.std.proofs.Common.{◌≤◌, ◌+◌, sym, subst, map, arith}
 use Rattle.jpeg_segments.specs.FrameView.{chunk_in}
 use Rattle.jpeg_decoder.proofs.ProfileLemmas.{Joins, joins-more, joins-missing, joins-all}
 use Rattle.jpeg_decoder.proofs.profile.joined.Goals as goal

@@ -1,4 +1,4 @@
-use Rattle.std.proofs.Common.{◌≡◌, ◌∙◌, ap, sym, ◌++◌, Some, string_bytes, option_map, refl}
+use Rattle.std.proofs.Common.{◌≡◌, ◌∙◌, ap, sym, ◌++◌, Some, string_bytes, option_map}
 use Rattle.jpeg_decoder.specs.Output.{line_of}
 use Rattle.jpeg_decoder.specs.Seen.{info_of}
 use Rattle.std.proofs.lemmas.Result.{err_from_is_err_and}
