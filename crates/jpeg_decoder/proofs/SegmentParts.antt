@@ -1,5 +1,5 @@
 -- Segments that are read.
-use Rattle.std.proofs.Common.{◌≡◌, ℕ, List, Ok, Bool, true, false, Option, Some, None, refl}
+use Rattle.std.proofs.Common.{◌≡◌, ℕ, List, Ok, false, Option, Some, None, refl}
 use Rattle.std.specs.Prelude.{is_some, option_map}
 use Rattle.jpeg_segments.specs.declared.parser.FrameInfo.{FrameInfo}
 use Rattle.jpeg_segments.specs.Frame.{Frame, sof_at}

@@ -1,5 +1,5 @@
 -- The state that the segments of a stream lead to, and the meaning of a stream (T.81, B.2).
-use Rattle.std.specs.Prelude.{◌≡◌, ℕ, zero, suc, ◌+◌, ◌*◌, ◌/◌, ◌==◌, min, not, ◌&&◌, ◌||◌, nat_lt, nat_le, List, [], ◌∷◌, ◌++◌, length, replicate, slice_index_or, slice_set, Bool, true, false, Option, Some, None, option_map, is_some, Result, Ok, Err, if◌then◌else◌}
+use Rattle.std.specs.Prelude.{ℕ, zero, suc, ◌*◌, ◌/◌, ◌==◌, min, not, ◌&&◌, ◌||◌, nat_lt, nat_le, List, [], ◌∷◌, ◌++◌, length, replicate, slice_index_or, slice_set, Bool, true, false, Option, Some, None, option_map, is_some, Result, Ok, Err, if◌then◌else◌}
 use Rattle.jpeg_bits.specs.Reading.{Outcome, Fault, Malformed, Lacks, End, ◌>>=◌, next_byte, length_at, skip_at}
 use Rattle.jpeg_bits.specs.Marker.{next_marker}
 use Rattle.jpeg_bits.specs.Codes.{Table}
@@ -17,8 +17,11 @@ use Rattle.jpeg_segments.specs.Quantization.{dqt_at}
 use Rattle.jpeg_segments.specs.HuffmanTables.{Tables, no_tables, dht_at}
 use Rattle.jpeg_segments.specs.Application.{Application, Chunk, Adobe, Jfif, Avi1, Icc, Exif, Xmp, Psir, app_at, dri_at}
 use Rattle.jpeg_pixels.specs.Planes.{cropped}
+<<<<<<< HEAD
 use Rattle.jpeg_pixels.specs.Pictures.{sources_of}
 use Rattle.jpeg_decoder.specs.Passes.{Via}
+=======
+>>>>>>> machine2
 use Rattle.jpeg_decoder.specs.Scans.{grid_of, plane_at}
 use Rattle.jpeg_decoder.specs.declared.state.Settings.{Settings}
 use Rattle.jpeg_decoder.specs.declared.segments.Before.{Before}

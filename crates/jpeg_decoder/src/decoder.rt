@@ -1,11 +1,16 @@
 //! The decoder and its states.
-ghost use Rattle.std.specs.Prelude.{◌≡◌, IfOk, IfErr, MatchResult, option_map, Err, true, false};
+ghost use Rattle.std.specs.Prelude.{◌≡◌, if◌then◌else◌, IfOk, IfErr, MatchResult, option_map, Err, true, false};
 ghost use Rattle.jpeg_bits.specs.Reading.{Answers};
 ghost use Rattle.jpeg_bits.specs.Stream.{stream_of};
 ghost use Rattle.jpeg_bits.specs.declared.error.Error.TheVariants.{OutOfMemory};
 ghost use Rattle.jpeg_decoder.specs.Stream.{nothing_found, header_at};
 ghost use Rattle.jpeg_decoder.specs.States.{Decoding, MovesToHeader, MovesToEnd, IsReading, ahead, told_ahead, OnTold, Fresh};
+<<<<<<< HEAD
 ghost use Rattle.jpeg_decoder.specs.Seen.{format_of, info_of};
+=======
+ghost use Rattle.jpeg_decoder.specs.Seen.{info_of};
+ghost use Rattle.jpeg_decoder.specs.declared.decoder.Progress.TheVariants.{Failed};
+>>>>>>> machine2
 ghost use Rattle.jpeg_segments.specs.FrameView.{frame_in};
 ghost use Rattle.jpeg_decoder.specs.Output.{default_settings};
 ghost use Rattle.jpeg_decoder.specs.Profile.{profile_of};
@@ -100,6 +105,13 @@ enum Progress {
     Failed,
 }
 
+/// How far a decoder has come behind a call: a refusal fails it.
+fn progress_behind(is_ok: bool, progress: Progress) -> Progress
+    ensures { result ≡ (if is_ok then progress else Failed) }
+{
+    if is_ok { progress } else { Progress::Failed }
+}
+
 /// Decodes one stream.
 #[derive(Drop)]
 pub struct Decoder<R: Read + Drop> {
@@ -178,14 +190,22 @@ impl<R: Read + Drop> Decoder<R> {
     pub fn exif_data(&self) -> Option<&[u8]>
         ensures { option_copied result ≡ self.now.found.metadata.exif }
     {
-        self.state.metadata.exif.as_ref().map(|bytes| bytes.as_slice())
+        self.state
+            .metadata
+            .exif
+            .as_ref()
+            .map(|bytes| bytes.as_slice())
     }
 
     /// The last XMP data that was read. Tells it in every state.
     pub fn xmp_data(&self) -> Option<&[u8]>
         ensures { option_copied result ≡ self.now.found.metadata.xmp }
     {
-        self.state.metadata.xmp.as_ref().map(|bytes| bytes.as_slice())
+        self.state
+            .metadata
+            .xmp
+            .as_ref()
+            .map(|bytes| bytes.as_slice())
     }
 
     /// The ICC profile that was read (ICC.1, Annex B.4), where all its parts were. The only error is want of memory.
@@ -210,11 +230,7 @@ impl<R: Read + Drop> Decoder<R> {
             Progress::HeaderRead | Progress::Finished => return Ok(()),
             Progress::Failed => return Err(Error::Internal("decoder has failed")),
         };
-        self.progress = if result.is_ok() {
-            Progress::HeaderRead
-        } else {
-            Progress::Failed
-        };
+        self.progress = progress_behind(result.is_ok(), Progress::HeaderRead);
         result
     }
 
@@ -245,11 +261,7 @@ impl<R: Read + Drop> Decoder<R> {
             Progress::Finished => return Err(Error::Internal("image was already decoded")),
             Progress::Failed => return Err(Error::Internal("decoder has failed")),
         };
-        self.progress = if result.is_ok() {
-            Progress::Finished
-        } else {
-            Progress::Failed
-        };
+        self.progress = progress_behind(result.is_ok(), Progress::Finished);
         result
     }
 }

@@ -14,7 +14,9 @@ use std::alloc::Global;
 fn part_of(chunks: &[IccChunk], number: usize) -> Option<&IccChunk>
     ensures { option_copied result ≡ find (λ c. c.seq_no == number) chunks.now }
 {
-    chunks.iter().find(|chunk| usize::from(chunk.seq_no) == number)
+    chunks
+        .iter()
+        .find(|chunk| usize::from(chunk.seq_no) == number)
 }
 
 /// The bytes of the first part of this number.
@@ -30,7 +32,9 @@ fn part(chunks: &[IccChunk], number: usize) -> Option<&[u8]>
 fn all_name(chunks: &[IccChunk], count: usize) -> bool
     ensures { result ≡ list_all (λ c. c.num_markers == count) chunks.now }
 {
-    chunks.iter().all(|chunk| usize::from(chunk.num_markers) == count)
+    chunks
+        .iter()
+        .all(|chunk| usize::from(chunk.num_markers) == count)
 }
 
 /// Whether each part names this number of parts.

@@ -22,7 +22,8 @@ use jpeg_bits::scan::ScanInfo;
 use jpeg_bits::source::Source;
 use jpeg_pixels::upsampler::Upsampler;
 use jpeg_segments::parser::{
-    CodingProcess, Component, EntropyCoding, FrameInfo, parse_app, parse_dht, parse_dqt, parse_dri, parse_sof, parse_sos,
+    CodingProcess, Component, EntropyCoding, FrameInfo, parse_app, parse_dht, parse_dqt, parse_dri,
+    parse_sof, parse_sos,
 };
 use std::alloc::Global;
 use std::io::Read;
@@ -311,9 +312,7 @@ impl State {
             Marker::COM => self.skip_segment(alloc, source),
             Marker::RST(_) => self.stray_restart(alloc, source, before),
             Marker::DNL => Err(refused_line_count(alloc, before)),
-            Marker::DAC => Err(Error::Unsupported(
-                UnsupportedFeature::ArithmeticEntropyCoding,
-            )),
+            Marker::DAC => Err(Error::Unsupported(UnsupportedFeature::ArithmeticEntropyCoding)),
             Marker::DHP | Marker::EXP => Err(Error::Unsupported(UnsupportedFeature::Hierarchical)),
             _ => Err(format_error(alloc, "a marker that has no place here")),
         }
@@ -439,14 +438,10 @@ fn check_frame(alloc: Global, frame: &FrameInfo) -> Result<()>
         return Err(Error::Unsupported(UnsupportedFeature::Hierarchical));
     }
     if is_arithmetic(frame.entropy_coding) {
-        return Err(Error::Unsupported(
-            UnsupportedFeature::ArithmeticEntropyCoding,
-        ));
+        return Err(Error::Unsupported(UnsupportedFeature::ArithmeticEntropyCoding));
     }
     if !is_precision(frame.coding_process, frame.precision) {
-        return Err(Error::Unsupported(UnsupportedFeature::SamplePrecision(
-            frame.precision,
-        )));
+        return Err(Error::Unsupported(UnsupportedFeature::SamplePrecision(frame.precision)));
     }
     let count = frame.components.len();
     if !(count == 1 || (count == 3 || count == 4)) {
@@ -454,7 +449,14 @@ fn check_frame(alloc: Global, frame: &FrameInfo) -> Result<()>
             count.min(255) as u8,
         )));
     }
+<<<<<<< HEAD
     check_ratios(alloc, frame)
+=======
+    if count == 3 || count == 4 {
+        return Err(format_error(alloc, "a frame of several components"));
+    }
+    Err(Error::Unsupported(UnsupportedFeature::ComponentCount(count.min(255) as u8)))
+>>>>>>> machine2
 }
 
 /// Why a DNL segment is refused: behind the first scan it would tell the height.

@@ -1,4 +1,4 @@
-use Rattle.std.proofs.Common.{◌∙◌, ap, sym, ℕ, List, Option, Some, None}
+use Rattle.std.proofs.Common.{◌∙◌, ap, sym, ℕ, List, Option, Some}
 use Rattle.std.specs.Prelude.{option_map}
 use Rattle.jpeg_segments.specs.declared.parser.IccChunk.{IccChunk}
 use Rattle.jpeg_decoder.proofs.ProfileLemmas.{part_find}

@@ -1,8 +1,7 @@
-use Rattle.std.proofs.Common.{rules, ◌≡◌, ◌∙◌, ◌<◌, ◌^◌, ℕ, Option, Some, true, false, sym, ap, subst, arith, length}
+use Rattle.std.proofs.Common.{rules, ◌≡◌, ◌∙◌, ◌<◌, ◌^◌, Option, Some, true, false, ap, arith, length}
 use Rattle.std.proofs.lemmas.Result.{err_from_is_err_and}
 use Rattle.jpeg_bits.specs.Marker.{next_marker}
 use Rattle.jpeg_bits.specs.declared.marker.Marker.{Marker}
-use Rattle.jpeg_bits.specs.Reading.{IsShort}
 use Rattle.jpeg_bits.proofs.Loops.{Continues-ok, Continues-err}
 use Rattle.jpeg_decoder.specs.Steps.{is_restart, behind_all}
 use Rattle.jpeg_decoder.proofs.Refusals.{never-met, short-first}

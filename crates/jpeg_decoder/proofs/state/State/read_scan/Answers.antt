@@ -1,11 +1,10 @@
-use Rattle.std.proofs.Common.{◌∙◌, ap, refl, sym, ℕ, List, Option, Ok, true, false, Vec}
+use Rattle.std.proofs.Common.{◌∙◌, refl, ℕ, Option, Vec}
 use Rattle.std.specs.declared.alloc.Global.{Global}
 use Rattle.jpeg_bits.specs.declared.marker.Marker.{Marker}
 use Rattle.jpeg_decoder.specs.declared.segments.Step.{Step}
 use Rattle.std.proofs.lemmas.Result.{err_from_is_err_and}
 use Rattle.jpeg_bits.proofs.Loops.{Continues-err, bind_err}
-use Rattle.jpeg_bits.specs.Reading.{◌>>=◌}
-use Rattle.jpeg_decoder.specs.Stream.{scan_before, scan_segment}
+use Rattle.jpeg_decoder.specs.Stream.{scan_segment}
 use Rattle.jpeg_decoder.specs.Seen.{found_in}
 use Rattle.jpeg_decoder.specs.Steps.{turn_of, whole_scan, decided_turn}
 use Rattle.jpeg_decoder.proofs.ScanParts.{scan-parts, scan-read}
