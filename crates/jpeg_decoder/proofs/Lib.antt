@@ -21,3 +21,4 @@ pub mod Turns
 pub mod Headers
 pub mod Refusals
 pub mod Told
+pub mod Ratios

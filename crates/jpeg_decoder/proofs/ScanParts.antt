@@ -5,7 +5,7 @@ use Rattle.jpeg_decoder.specs.declared.segments.Before.{Before}
 use Rattle.jpeg_bits.specs.Reading.{Outcome, Fault, ◌>>=◌}
 use Rattle.jpeg_bits.specs.declared.marker.Marker.{Marker}
 use Rattle.jpeg_segments.specs.ScanHeader.{sos_at}
-use Rattle.jpeg_decoder.specs.Stream.{Found, Turn, needed, named, first_of, is_sequential, coding_of, scan_samples, scan_segment, scan_before, decided, with_plane}
+use Rattle.jpeg_decoder.specs.Stream.{Found, Turn, needed, named, first_of, is_decoded, coding_of, scan_samples, scan_segment, scan_before, decided, with_plane}
 use Rattle.jpeg_decoder.specs.Steps.{coded_plane, scan_plane, behind_all, whole_scan, decided_turn}
 
 nested : {C Q D A K P E : Type 0} (b : Bool) (fault : Fault) (c : Result C Fault) (q : C → Result Q Fault) (d : Result D Fault) (a : Result A Fault) (mk : C → Q → D → A → K) (samples : K → Result P Fault) (end : P → Result E Fault)
@@ -42,7 +42,7 @@ plane-parts : (found : Found) (bytes : List ℕ) → scan_segment found bytes �
 unfolding scan_segment scan_plane coded_plane coding_of behind_all
 plane-parts found bytes =
     two (needed found.frame) (λ f. sos_at f bytes) _ _ (met_turn found) (λ f s.
-    nested (is_sequential f.process && found.restart == 0) _ (needed (first_of f.components)) _ (needed (named found.huffman.dc s.0.dc_places)) (needed (named found.huffman.ac s.0.ac_places)) _ (λ k. scan_samples k s.1) (met_turn found))
+    nested (is_decoded found f) _ (needed (first_of f.components)) _ (needed (named found.huffman.dc s.0.dc_places)) (needed (named found.huffman.ac s.0.ac_places)) _ (λ k. scan_samples k s.1) (met_turn found))
 
 third : {P M E : Type 0} (p : Result P Fault) (m : P → Result M Fault) (left : P → M → Result E Fault) (W : Type 0) (mk : P → M → W) (end : W → Result E Fault)
     → ((p : P) (m : M) → left p m ≡ end (mk p m))

@@ -17,11 +17,7 @@ use Rattle.jpeg_segments.specs.Quantization.{dqt_at}
 use Rattle.jpeg_segments.specs.HuffmanTables.{Tables, no_tables, dht_at}
 use Rattle.jpeg_segments.specs.Application.{Application, Chunk, Adobe, Jfif, Avi1, Icc, Exif, Xmp, Psir, app_at, dri_at}
 use Rattle.jpeg_pixels.specs.Planes.{cropped}
-<<<<<<< HEAD
 use Rattle.jpeg_pixels.specs.Pictures.{sources_of}
-use Rattle.jpeg_decoder.specs.Passes.{Via}
-=======
->>>>>>> machine2
 use Rattle.jpeg_decoder.specs.Scans.{grid_of, plane_at}
 use Rattle.jpeg_decoder.specs.declared.state.Settings.{Settings}
 use Rattle.jpeg_decoder.specs.declared.segments.Before.{Before}

@@ -5,12 +5,8 @@ ghost use Rattle.jpeg_bits.specs.Stream.{stream_of};
 ghost use Rattle.jpeg_bits.specs.declared.error.Error.TheVariants.{OutOfMemory};
 ghost use Rattle.jpeg_decoder.specs.Stream.{nothing_found, header_at};
 ghost use Rattle.jpeg_decoder.specs.States.{Decoding, MovesToHeader, MovesToEnd, IsReading, ahead, told_ahead, OnTold, Fresh};
-<<<<<<< HEAD
 ghost use Rattle.jpeg_decoder.specs.Seen.{format_of, info_of};
-=======
-ghost use Rattle.jpeg_decoder.specs.Seen.{info_of};
 ghost use Rattle.jpeg_decoder.specs.declared.decoder.Progress.TheVariants.{Failed};
->>>>>>> machine2
 ghost use Rattle.jpeg_segments.specs.FrameView.{frame_in};
 ghost use Rattle.jpeg_decoder.specs.Output.{default_settings};
 ghost use Rattle.jpeg_decoder.specs.Profile.{profile_of};

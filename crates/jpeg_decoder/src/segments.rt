@@ -449,14 +449,7 @@ fn check_frame(alloc: Global, frame: &FrameInfo) -> Result<()>
             count.min(255) as u8,
         )));
     }
-<<<<<<< HEAD
     check_ratios(alloc, frame)
-=======
-    if count == 3 || count == 4 {
-        return Err(format_error(alloc, "a frame of several components"));
-    }
-    Err(Error::Unsupported(UnsupportedFeature::ComponentCount(count.min(255) as u8)))
->>>>>>> machine2
 }
 
 /// Why a DNL segment is refused: behind the first scan it would tell the height.
