@@ -32,4 +32,4 @@ refused OutOfMemory o h n = tt
 pub ratios-refused : (e : Error) (components : List Component) (width height : ℕ) → Names e (sources_of components width height) → IsRefusal e
 ratios-refused e components width height n =
     refused e (sources_of components width height)
-      (never-end (greatest (λ f. f.horizontal) (factors_of components)) (greatest (λ f. f.vertical) (factors_of components)) width height components) n
+    (never-end (greatest (λ f. f.horizontal) (factors_of components)) (greatest (λ f. f.vertical) (factors_of components)) width height components) n

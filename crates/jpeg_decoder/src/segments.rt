@@ -230,7 +230,8 @@ impl State {
     fn is_decoded(&self, frame: &FrameInfo) -> bool
         ensures { result ≡ is_decoded (found_in self.now) (frame_in frame.now) }
     {
-        is_sequential(frame.coding_process) && (self.restart_interval == 0 && frame.components.len() == 1)
+        is_sequential(frame.coding_process)
+            && (self.restart_interval == 0 && frame.components.len() == 1)
     }
 
     /// A scan's samples, and the marker behind it and the restart markers at its end.
@@ -445,9 +446,7 @@ fn check_frame(alloc: Global, frame: &FrameInfo) -> Result<()>
     }
     let count = frame.components.len();
     if !(count == 1 || (count == 3 || count == 4)) {
-        return Err(Error::Unsupported(UnsupportedFeature::ComponentCount(
-            count.min(255) as u8,
-        )));
+        return Err(Error::Unsupported(UnsupportedFeature::ComponentCount(count.min(255) as u8)));
     }
     check_ratios(alloc, frame)
 }

@@ -2,18 +2,26 @@
 
 use crate::bytes::bytes;
 use crate::streams::{Reader, Trouble};
-use jpeg_decoder::{CodingProcess, Decoder, Error, ImageInfo, PixelFormat, UnsupportedFeature};
+use jpeg_decoder::{
+    CodingProcess, ColorTransform, Decoder, Error, ImageInfo, PixelFormat, UnsupportedFeature,
+};
 use std::alloc::Global;
 use std::test::Fail;
 
 /// A quantization table, a frame of 8 by 8, and the rest of a stream of 64 samples of 129.
 const TABLE: &str = "FFDB 0043 00 01*64";
+
 const FRAME: &str = "FFC0 000B 08 0008 0008 01 01 11 00";
-const REST: &str = "FFC4 0014 00 01 00*15 04 FFC4 0014 10 01 00*15 00 FFDA 0008 01 01 00 00 3F 00 43 FFD9";
+
+const REST: &str =
+    "FFC4 0014 00 01 00*15 04 FFC4 0014 10 01 00*15 00 FFDA 0008 01 01 00 00 3F 00 43 FFD9";
 
 const EXIF: &str = "FFE1 000B 457869660000 010203";
+
 const EMPTY_EXIF: &str = "FFE1 0008 457869660000";
+
 const XMP: &str = "FFE1 0020 687474703A2F2F6E732E61646F62652E636F6D2F7861702F312E302F00 3C";
+
 const WRONG_ADOBE: &str = "FFEE 000E 41646F626500 6400000000 03";
 
 #[test]
@@ -45,13 +53,29 @@ fn metadata_behind_a_refusal(rt: HostRuntime) -> Result<(), Fail> {
     assert!(rt; matches!(&decoder.decode(), Err(Error::Format(_))));
     assert_eq!(rt; decoder.exif_data().ok_or("none")?, [1, 2, 3].as_slice());
     assert_eq!(rt; decoder.info(), None);
-    assert!(rt; matches!(&decoder.read_info(), Err(Error::Internal("decoder has failed"))));
-    assert!(rt; matches!(&decoder.decode(), Err(Error::Internal("decoder has failed"))));
+    assert!(rt;
+        matches!(
+            &decoder.read_info(),
+            Err(Error::Internal("decoder has failed"))
+        )
+    );
+    assert!(rt;
+        matches!(
+            &decoder.decode(),
+            Err(Error::Internal("decoder has failed"))
+        )
+    );
     Ok(())
 }
 
 /// A stream with parts of an ICC profile: numbers from `first` down to `last`, each with one byte, its number; and one more part.
-fn with_profile(alloc: Global, first: u8, last: u8, count: u8, more: &str) -> Result<Vec<u8>, Fail> {
+fn with_profile(
+    alloc: Global,
+    first: u8,
+    last: u8,
+    count: u8,
+    more: &str,
+) -> Result<Vec<u8>, Fail> {
     let mut stream = bytes(alloc, &["FFD8"])?;
     let mut number = first;
     while number >= last && number > 0 {
@@ -113,7 +137,12 @@ fn a_header_and_then_its_picture(rt: HostRuntime) -> Result<(), Fail> {
         assert_eq!(rt; decoder.decode()?.as_slice(), [129; 64].as_slice());
         decoder.read_info()?;
         assert!(rt; decoder.info() == Some(info));
-        assert!(rt; matches!(&decoder.decode(), Err(Error::Internal("image was already decoded"))));
+        assert!(rt;
+            matches!(
+                &decoder.decode(),
+                Err(Error::Internal("image was already decoded"))
+            )
+        );
     }
     let nothing: &[u8] = &[];
     let mut decoder = Decoder::new(rt.alloc(), nothing)?;
@@ -126,12 +155,36 @@ fn a_header_and_then_its_picture(rt: HostRuntime) -> Result<(), Fail> {
 fn headers_of_frames_that_are_not_decoded_yet(rt: HostRuntime) -> Result<(), Fail> {
     let progressive = "FFC2 000B 08 0008 0008 01 01 11 00";
     let lossless = "FFC3 000B 10 0008 0008 01 01 11 00";
-    for (frame, process) in [(progressive, CodingProcess::DctProgressive), (lossless, CodingProcess::Lossless)] {
+    for (frame, process) in [
+        (progressive, CodingProcess::DctProgressive),
+        (lossless, CodingProcess::Lossless),
+    ] {
         let stream = bytes(rt.alloc(), &["FFD8", TABLE, frame, REST])?;
         let mut decoder = Decoder::new(rt.alloc(), stream.as_slice())?;
         decoder.read_info()?;
         let info = decoder.info().ok_or("no info")?;
         assert_eq!(rt; info.coding_process, process);
+        assert!(rt; matches!(&decoder.decode(), Err(Error::Format(_))));
+    }
+    Ok(())
+}
+
+#[test]
+fn headers_of_several_components(rt: HostRuntime) -> Result<(), Fail> {
+    let narrow = "FFC0 0011 08 0008 0001 03 01 31 00 02 21 00 03 21 00";
+    let halves = "FFC0 0011 08 0010 0020 03 01 22 00 02 11 00 03 11 00";
+    let four = "FFC0 0014 08 0008 0008 04 01 11 00 02 11 00 03 11 00 04 11 00";
+    for (frame, format) in [
+        (narrow, PixelFormat::RGB24),
+        (halves, PixelFormat::RGB24),
+        (four, PixelFormat::CMYK32),
+    ] {
+        let stream = bytes(rt.alloc(), &["FFD8", TABLE, frame, REST])?;
+        let mut decoder = Decoder::new(rt.alloc(), stream.as_slice())?;
+        decoder.set_color_transform(ColorTransform::RGB);
+        decoder.read_info()?;
+        let info = decoder.info().ok_or("no info")?;
+        assert_eq!(rt; info.pixel_format, format);
         assert!(rt; matches!(&decoder.decode(), Err(Error::Format(_))));
     }
     Ok(())
@@ -144,19 +197,47 @@ fn a_limit_on_the_picture(rt: HostRuntime) -> Result<(), Fail> {
         let mut decoder = Decoder::new(rt.alloc(), stream.as_slice())?;
         decoder.set_max_decoding_buffer_size(limit);
         let answer = decoder.decode();
-        assert!(rt; if fits { answer.is_ok() } else { matches!(&answer, Err(Error::Format(_))) });
+        assert!(rt;
+            if fits {
+                answer.is_ok()
+            } else {
+                matches!(&answer, Err(Error::Format(_)))
+            }
+        );
     }
     Ok(())
 }
 
 /// Frames that are refused by name.
-const REFUSED: [(&str, UnsupportedFeature); 6] = [
-    ("FFC9 000B 08 0008 0008 01 01 11 00", UnsupportedFeature::ArithmeticEntropyCoding),
-    ("FFC5 000B 08 0008 0008 01 01 11 00", UnsupportedFeature::Hierarchical),
-    ("FFCD 000B 08 0008 0008 01 01 11 00", UnsupportedFeature::Hierarchical),
-    ("FFC1 000B 0C 0008 0008 01 01 11 00", UnsupportedFeature::SamplePrecision(12)),
-    ("FFC0 000E 08 0008 0008 02 01 11 00 02 11 00", UnsupportedFeature::ComponentCount(2)),
-    ("FFC0 000B 08 0008 0008 01 01 11 00 FFC0 000B 08 0008 0008 01 01 11 00", UnsupportedFeature::Hierarchical),
+const REFUSED: [(&str, UnsupportedFeature); 7] = [
+    (
+        "FFC0 0011 08 0008 0002 03 01 31 00 02 21 00 03 21 00",
+        UnsupportedFeature::NonIntegerSubsamplingRatio,
+    ),
+    (
+        "FFC9 000B 08 0008 0008 01 01 11 00",
+        UnsupportedFeature::ArithmeticEntropyCoding,
+    ),
+    (
+        "FFC5 000B 08 0008 0008 01 01 11 00",
+        UnsupportedFeature::Hierarchical,
+    ),
+    (
+        "FFCD 000B 08 0008 0008 01 01 11 00",
+        UnsupportedFeature::Hierarchical,
+    ),
+    (
+        "FFC1 000B 0C 0008 0008 01 01 11 00",
+        UnsupportedFeature::SamplePrecision(12),
+    ),
+    (
+        "FFC0 000E 08 0008 0008 02 01 11 00 02 11 00",
+        UnsupportedFeature::ComponentCount(2),
+    ),
+    (
+        "FFC0 000B 08 0008 0008 01 01 11 00 FFC0 000B 08 0008 0008 01 01 11 00",
+        UnsupportedFeature::Hierarchical,
+    ),
 ];
 
 #[test]
