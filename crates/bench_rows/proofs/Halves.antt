@@ -3,8 +3,8 @@ use Rattle.std.proofs.Common.{◌≡◌, ℕ, List, [], ◌∷◌, length, Resul
 use Rattle.jpeg_bits.specs.Reading.{Fault}
 use Rattle.jpeg_pixels.specs.Upsampling.{rule_of}
 use Rattle.jpeg_pixels.specs.Pictures.{Source, Covers, AllCover, sources_by, sources_of}
-use Rattle.jpeg_pixels.specs.PicturesView.{HasFactors}
-use Rattle.rows.specs.Halves.{luma, chroma, luma_source, chroma_source, sources}
+use Rattle.jpeg_segments.specs.Frame.{HasFactors}
+use Rattle.bench_rows.specs.Halves.{luma, chroma, luma_source, chroma_source, sources}
 
 pub luma_factors : HasFactors luma
 luma_factors = record { horizontal_some = omega arith; horizontal_most = omega arith; vertical_some = omega arith; vertical_most = omega arith }

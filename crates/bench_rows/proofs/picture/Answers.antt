@@ -1,10 +1,10 @@
 use Rattle.std.proofs.Common.{◌≡◌, List, [], ◌∷◌, map, sym, ◌∙◌, subst}
 use Rattle.jpeg_segments.specs.FrameView.{component_in}
 use Rattle.jpeg_pixels.specs.Pictures.{Source, AllCover, sources_of}
-use Rattle.jpeg_pixels.specs.PicturesView.{HasFactors, AllHaveFactors}
-use Rattle.rows.specs.Halves.{luma, chroma, sources}
-use Rattle.rows.proofs.Halves.{luma_factors, chroma_factors, sources_known, same_sources}
-use Rattle.rows.proofs.picture.Goals as goal
+use Rattle.jpeg_segments.specs.Frame.{HasFactors, AllHaveFactors}
+use Rattle.bench_rows.specs.Halves.{luma, chroma, sources}
+use Rattle.bench_rows.proofs.Halves.{luma_factors, chroma_factors, sources_known, same_sources}
+use Rattle.bench_rows.proofs.picture.Goals as goal
 
 pub compute_image_rows-requires-clause-factors : goal.compute_image_rows-requires-clause-factors
 unfolding AllHaveFactors
