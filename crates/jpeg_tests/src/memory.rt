@@ -8,18 +8,13 @@ use std::alloc::Global;
 
 /// A stream of 8 by 8 pixels with Exif data and an ICC profile in two parts.
 const STREAM: [u8; 190] = [
-    255, 216, 255, 225, 0, 9, 69, 120, 105, 102, 0, 0, 7, 255, 226, 0,
-    17, 73, 67, 67, 95, 80, 82, 79, 70, 73, 76, 69, 0, 2, 2, 22,
-    255, 226, 0, 17, 73, 67, 67, 95, 80, 82, 79, 70, 73, 76, 69, 0,
-    1, 2, 11, 255, 219, 0, 67, 0, 1, 1, 1, 1, 1, 1, 1, 1,
-    1, 1, 1, 1, 1, 1, 1, 1, 1, 1, 1, 1, 1, 1, 1, 1,
-    1, 1, 1, 1, 1, 1, 1, 1, 1, 1, 1, 1, 1, 1, 1, 1,
-    1, 1, 1, 1, 1, 1, 1, 1, 1, 1, 1, 1, 1, 1, 1, 1,
-    1, 1, 1, 1, 1, 1, 1, 1, 255, 192, 0, 11, 8, 0, 8, 0,
-    8, 1, 1, 17, 0, 255, 196, 0, 20, 0, 1, 0, 0, 0, 0, 0,
-    0, 0, 0, 0, 0, 0, 0, 0, 0, 0, 4, 255, 196, 0, 20, 16,
-    1, 0, 0, 0, 0, 0, 0, 0, 0, 0, 0, 0, 0, 0, 0, 0,
-    0, 255, 218, 0, 8, 1, 1, 0, 0, 63, 0, 67, 255, 217
+    255, 216, 255, 225, 0, 9, 69, 120, 105, 102, 0, 0, 7, 255, 226, 0, 17, 73, 67, 67, 95, 80, 82,
+    79, 70, 73, 76, 69, 0, 2, 2, 22, 255, 226, 0, 17, 73, 67, 67, 95, 80, 82, 79, 70, 73, 76, 69,
+    0, 1, 2, 11, 255, 219, 0, 67, 0, 1, 1, 1, 1, 1, 1, 1, 1, 1, 1, 1, 1, 1, 1, 1, 1, 1, 1, 1, 1, 1,
+    1, 1, 1, 1, 1, 1, 1, 1, 1, 1, 1, 1, 1, 1, 1, 1, 1, 1, 1, 1, 1, 1, 1, 1, 1, 1, 1, 1, 1, 1, 1, 1,
+    1, 1, 1, 1, 1, 1, 1, 1, 1, 1, 1, 255, 192, 0, 11, 8, 0, 8, 0, 8, 1, 1, 17, 0, 255, 196, 0, 20,
+    0, 1, 0, 0, 0, 0, 0, 0, 0, 0, 0, 0, 0, 0, 0, 0, 0, 4, 255, 196, 0, 20, 16, 1, 0, 0, 0, 0, 0, 0,
+    0, 0, 0, 0, 0, 0, 0, 0, 0, 0, 255, 218, 0, 8, 1, 1, 0, 0, 63, 0, 67, 255, 217,
 ];
 
 /// Whether a call answered, or wanted memory.
@@ -31,9 +26,16 @@ fn is_answered<T>(answer: &Result<T, Error>) -> bool {
 fn fares(decoder: &mut Decoder<&[u8]>) -> bool {
     let answer = decoder.decode();
     if answer.is_ok() {
-        return matches!(&decoder.decode(), Err(Error::Internal("image was already decoded")));
+        return matches!(
+            &decoder.decode(),
+            Err(Error::Internal("image was already decoded"))
+        );
     }
-    is_answered(&answer) && matches!(&decoder.decode(), Err(Error::Internal("decoder has failed")))
+    is_answered(&answer)
+        && matches!(
+            &decoder.decode(),
+            Err(Error::Internal("decoder has failed"))
+        )
 }
 
 /// Whether a decoder of the stream answers each call, or wants memory.

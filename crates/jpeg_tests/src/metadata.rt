@@ -77,11 +77,9 @@ fn with_profile(
     more: &str,
 ) -> Result<Vec<u8>, Fail> {
     let mut stream = bytes(alloc, &["FFD8"])?;
-    let mut number = first;
-    while number >= last && number > 0 {
+    for number in (last..=first).rev() {
         stream.extend_from_slice(&bytes(alloc, &["FFE2 0011 4943435F50524F46494C4500"])?)?;
         stream.extend_from_slice(&[number, count, number])?;
-        number -= 1;
     }
     stream.extend_from_slice(&bytes(alloc, &[more, TABLE, FRAME, REST])?)?;
     Ok(stream)
