@@ -14,6 +14,11 @@ pub mod Shorter
 pub mod ShorterSegments
 pub mod ShorterTexts
 pub mod ShorterScans
+pub mod SegmentParts
+pub mod ProfileLemmas
+pub mod Restarts
 pub mod Turns
+pub mod Headers
 pub mod Refusals
 pub mod Told
+pub mod Ratios

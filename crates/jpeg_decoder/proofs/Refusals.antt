@@ -11,6 +11,10 @@ pub short-step : (counter : ℕ) (met : Option Marker) (s first : Stream) → (0
 short-step zero met s first p q r = let at = q refl in subst IsShort at.1 (r at.0)
 short-step (suc n) met s first p q r = p (omega arith)
 
+pub short-first : (counter : ℕ) (s first : Stream) → (0 < counter → IsShort first) → (counter ≡ 0 → s ≡ first) → IsShort s → IsShort first
+short-first zero s first p q r = subst IsShort (q refl) r
+short-first (suc n) s first p q r = p (omega arith)
+
 -- an error that names a fault of a reading tells what holds at that fault
 pub told-err : {Y : Type 0} (e : Error) (outcome : Result Y Fault) (P : Type 0) → Names e outcome → ((f : Fault) → outcome ≡ Err f → P) → IfRefused e P
 told-err (errors.Format text) outcome P n h = h Malformed n

@@ -77,7 +77,7 @@ found-below : (limit : ℕ) (found : Option Marker) (rest : List ℕ) (others : 
 found-below limit None rest others p q = q
 found-below limit (Some m) rest others p q = below-ok limit m rest p
 
-below-more : {A : Type 0} (a b : ℕ) (r : Outcome A) → a ≤ b → LeavesBelow a r → LeavesBelow b r
+pub below-more : {A : Type 0} (a b : ℕ) (r : Outcome A) → a ≤ b → LeavesBelow a r → LeavesBelow b r
 unfolding LeavesBelow
 below-more a b (Ok x) h p = omega arith
 below-more a b (Err fault) h p = tt

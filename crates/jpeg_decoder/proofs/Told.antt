@@ -1,12 +1,33 @@
 -- What a stream has said.
-use Rattle.std.proofs.Common.{◌≡◌, ℕ, List, Ok, Err, None, refl}
+use Rattle.std.proofs.Common.{◌≡◌, ◌∙◌, ℕ, List, Bool, true, Result, Ok, Err, None, refl}
+use Rattle.jpeg_bits.specs.Stream.{Stream}
+use Rattle.jpeg_bits.specs.declared.error.Error.{Error}
+use Rattle.jpeg_bits.specs.declared.error.Error.TheVariants as errors
+use Rattle.jpeg_decoder.specs.States.{IfRefused, OnTold}
 use Rattle.jpeg_bits.specs.Reading.{Fault}
-use Rattle.jpeg_decoder.specs.Stream.{nothing_found, start_at, without_planes, told_by_stream, told_at}
+use Rattle.jpeg_decoder.specs.declared.segments.Before.TheVariants.{Elsewhere}
+use Rattle.jpeg_decoder.specs.Stream.{nothing_found, start_at, told_rest, told_by_stream, told_at}
+use Rattle.jpeg_decoder.proofs.Headers.{header-planes}
 
-pub told-no_start : (bytes : List ℕ) (fault : Fault) → start_at bytes ≡ Err fault → told_by_stream bytes ≡ without_planes nothing_found
-unfolding told_by_stream nothing_found
-told-no_start bytes fault h = rw (h, told_by_stream) refl
-
-pub told-start : (bytes rest : List ℕ) → start_at bytes ≡ Ok (tt, rest) → told_by_stream bytes ≡ without_planes (told_at nothing_found None rest)
+pub told-no_start : (header : Bool) (bytes : List ℕ) (fault : Fault) → start_at bytes ≡ Err fault → told_by_stream header bytes ≡ nothing_found
 unfolding told_by_stream
-told-start bytes rest h = rw (h, told_by_stream) refl
+told-no_start header bytes fault h = rw (h, told_by_stream) refl
+
+pub told-start : (header : Bool) (bytes rest : List ℕ) → start_at bytes ≡ Ok (tt, rest) → told_by_stream header bytes ≡ told_rest header nothing_found rest
+unfolding told_by_stream
+told-start header bytes rest h = rw (h, told_by_stream) refl
+
+pub told-header : (bytes rest : List ℕ) → start_at bytes ≡ Ok (tt, rest) → told_by_stream true bytes ≡ told_at true Elsewhere nothing_found None rest
+told-header bytes rest h = told-start true bytes rest h ∙ header-planes rest
+
+refused-through : (e : Error) (P Q : Type 0) → (P → Q) → IfRefused e P → IfRefused e Q
+refused-through (errors.Format text) P Q f h = f h
+refused-through (errors.Unsupported feature) P Q f h = f h
+refused-through (errors.Io x) P Q f h = f h
+refused-through (errors.Internal text) P Q f h = f h
+refused-through errors.OutOfMemory P Q f h = tt
+
+-- what a part of a call left
+pub told-through : {X : Type 0} (old mid new : Stream) (r : Result X Error) (P Q : Type 0) → (old.known ≡ true → (mid.known ≡ true) × (P → Q)) → OnTold mid new r P → OnTold old new r Q
+told-through old mid new (Ok x) P Q f h = λ k. let a = f k in a.1 (h a.0)
+told-through old mid new (Err e) P Q f h = λ k known. let a = f k in refused-through e P Q a.1 (h a.0 known)

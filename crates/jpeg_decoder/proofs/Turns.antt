@@ -1,6 +1,6 @@
 -- The segments of a stream, a turn at a time.
-use Rattle.std.proofs.Common.{◌≡◌, ◌≤◌, ◌<◌, ℕ, zero, suc, List, Result, Ok, Err, Bool, true, false, Option, Some, None, refl, ◌∙◌, length, arith, nat_le}
-use Rattle.std.specs.Prelude.{if◌then◌else◌, ◌==◌, is_some}
+use Rattle.std.proofs.Common.{◌≡◌, ◌≤◌, ◌<◌, ℕ, zero, suc, List, Result, Ok, Err, Bool, true, false, Option, Some, None, refl, ◌∙◌, length, arith}
+use Rattle.std.specs.Prelude.{if◌then◌else◌, ◌&&◌, is_some, option_map}
 use Rattle.std.proofs.Math.Bool.{cond}
 use Rattle.jpeg_bits.specs.Reading.{Outcome, Fault, Malformed, ◌>>=◌, length_at, skip_at}
 use Rattle.jpeg_bits.specs.Marker.{next_marker}
@@ -10,107 +10,151 @@ use Rattle.jpeg_segments.specs.Frame.{sof_at}
 use Rattle.jpeg_segments.specs.ScanHeader.{sos_at}
 use Rattle.jpeg_segments.specs.Quantization.{dqt_at}
 use Rattle.jpeg_segments.specs.HuffmanTables.{dht_at}
-use Rattle.jpeg_decoder.specs.Stream.{Found, Turn, needed, coding_of, scan_samples, frame_segment, quantization_segment, huffman_segment, skipped_segment, scan_segment, end_segment, segment_at, turn_at, segments_within, segments_at, told_within, told_at}
-use Rattle.jpeg_decoder.proofs.Shorter.{LeavesBelow, below-ok, below-else, below-then, below-bind, below-needs, length-below, skip-below, marker-below}
-use Rattle.jpeg_decoder.proofs.ShorterSegments.{sof-below, dqt-below, dht-below, sos-below}
+use Rattle.jpeg_segments.specs.Application.{app_at, dri_at}
+use Rattle.jpeg_decoder.specs.declared.segments.Before.{Before}
+use Rattle.jpeg_decoder.specs.declared.segments.Before.TheVariants.{FirstScan, LaterScan, Elsewhere}
+use Rattle.jpeg_decoder.specs.Stream.{Found, Turn, onward, needed, accepted, coding_of, scan_samples, behind_restarts, frame_segment, quantization_segment, huffman_segment, restart_segment, application_segment, skipped_segment, scan_segment, end_segment, stray_restart, line_count, segment_at, turn_at, segments_within, segments_at, told_within, told_at}
+use Rattle.jpeg_decoder.specs.Steps.{is_restart}
+use Rattle.jpeg_decoder.proofs.Shorter.{LeavesBelow, length-below, skip-below, marker-below}
+use Rattle.jpeg_decoder.proofs.ShorterSegments.{sof-below, dqt-below, dht-below, sos-below, app-below, dri-below}
 use Rattle.jpeg_decoder.proofs.ShorterScans.{plane-below}
+use Rattle.jpeg_decoder.proofs.Restarts.{Passes, behind-passes, bind-same}
 
 -- ---- what a turn takes
 
-frame-below : (limit number : ℕ) (found : Found) (bytes : List ℕ) → length bytes ≤ limit → LeavesBelow limit (frame_segment number found bytes)
-unfolding frame_segment
-frame-below limit number found bytes h =
-    below-else limit (is_some found.frame) _ _ (below-then limit (nat_le number 1) _ _ (
-    below-bind limit limit (sof_at number bytes) _ (sof-below limit number bytes h) (λ f p.
-    below-then limit (f.0.precision == 8) _ _ (below-ok limit _ f.1 p))))
-
-quantization-below : (limit : ℕ) (found : Found) (bytes : List ℕ) → length bytes ≤ limit → LeavesBelow limit (quantization_segment found bytes)
-unfolding quantization_segment
-quantization-below limit found bytes h =
-    below-bind limit limit (dqt_at bytes) _ (dqt-below limit bytes h) (λ t p. below-ok limit _ t.1 p)
-
-huffman-below : (limit : ℕ) (found : Found) (bytes : List ℕ) → length bytes ≤ limit → LeavesBelow limit (huffman_segment found bytes)
-unfolding huffman_segment
-huffman-below limit found bytes h =
-    below-bind limit limit (dht_at _ bytes) _ (dht-below limit _ bytes h) (λ t p. below-ok limit _ t.1 p)
-
-skipped-below : (limit : ℕ) (found : Found) (bytes : List ℕ) → length bytes ≤ limit → LeavesBelow limit (skipped_segment found bytes)
-unfolding skipped_segment
-skipped-below limit found bytes h =
-    below-bind limit limit (length_at bytes) _ (length-below limit bytes h) (λ n p.
-    below-bind limit limit (skip_at n.0 n.1) _ (skip-below limit n.0 n.1 p) (λ u q. below-ok limit _ u.1 q))
-
-scan-below : (limit : ℕ) (found : Found) (bytes : List ℕ) → length bytes ≤ limit → LeavesBelow limit (scan_segment found bytes)
-unfolding scan_segment scan_samples
-scan-below limit found bytes h =
-    below-needs limit (needed found.frame) _ (λ frame.
-    below-bind limit limit (sos_at frame bytes) _ (sos-below limit frame bytes h) (λ scan p.
-    below-needs limit (coding_of found frame scan.0) _ (λ coding.
-    below-bind limit limit (scan_samples coding scan.1) _ (plane-below limit _ _ _ scan.1 p) (λ plane q. below-ok limit _ plane.1 q))))
-
--- fewer bytes are left than the limit, unless the image has ended
+-- Where the image goes on, fewer bytes are left than the limit, and no restart marker is met.
 unfoldable pub GoesBelow : ℕ → Outcome Turn → Type 0
-GoesBelow limit (Ok x) = x.0.ended ≡ false → length x.1 < limit
+GoesBelow limit (Ok x) = x.0.ended ≡ false → (length x.1 < limit) × (is_restart x.0.met ≡ false)
 GoesBelow limit (Err fault) = Unit {0}
 
-goes-below : (limit : ℕ) (r : Outcome Turn) → LeavesBelow limit r → GoesBelow limit r
-unfolding GoesBelow LeavesBelow
-goes-below limit (Ok x) h = λ _. h
-goes-below limit (Err fault) h = tt
-
-goes-at : (limit : ℕ) (r : Outcome Turn) (x : Turn × List ℕ) → GoesBelow limit r → r ≡ Ok x → x.0.ended ≡ false → length x.1 < limit
+goes-at : (limit : ℕ) (r : Outcome Turn) (x : Turn × List ℕ) → GoesBelow limit r → r ≡ Ok x → x.0.ended ≡ false → (length x.1 < limit) × (is_restart x.0.met ≡ false)
 unfolding GoesBelow
 goes-at limit r x h e = rw e at h
 
-end-goes : (limit : ℕ) (found : Found) (bytes : List ℕ) → GoesBelow limit (end_segment found bytes)
-unfolding end_segment GoesBelow
-end-goes limit found bytes = go (is_some found.frame)
-  where
-    go : (b : Bool) → GoesBelow limit (cond b (Ok (record { found = found; met = None; ended = true }, bytes)) (Err Malformed))
-    go true = λ e. absurd (let n : ⊥ = cc in n)
-    go false = tt
+goes-onward : (limit : ℕ) (found : Found) (rest : List ℕ) → length rest < limit → GoesBelow limit (Ok (onward found, rest))
+unfolding GoesBelow
+goes-onward limit found rest h = λ _. (h, refl)
 
-segment-goes : (limit : ℕ) (m : Marker) (found : Found) (bytes : List ℕ) → length bytes ≤ limit → GoesBelow limit (segment_at m found bytes)
-unfolding segment_at GoesBelow
-segment-goes limit (SOF number) found bytes h = goes-below limit _ (frame-below limit number found bytes h)
-segment-goes limit DQT found bytes h = goes-below limit _ (quantization-below limit found bytes h)
-segment-goes limit DHT found bytes h = goes-below limit _ (huffman-below limit found bytes h)
-segment-goes limit SOS found bytes h = goes-below limit _ (scan-below limit found bytes h)
-segment-goes limit EOI found bytes h = end-goes limit found bytes
-segment-goes limit (APP number) found bytes h = goes-below limit _ (skipped-below limit found bytes h)
-segment-goes limit COM found bytes h = goes-below limit _ (skipped-below limit found bytes h)
-segment-goes limit JPG found bytes h = tt
-segment-goes limit DAC found bytes h = tt
-segment-goes limit (RST n) found bytes h = tt
-segment-goes limit SOI found bytes h = tt
-segment-goes limit DNL found bytes h = tt
-segment-goes limit DRI found bytes h = tt
-segment-goes limit DHP found bytes h = tt
-segment-goes limit EXP found bytes h = tt
-segment-goes limit (JPGn n) found bytes h = tt
-segment-goes limit TEM found bytes h = tt
-segment-goes limit RES found bytes h = tt
+goes-err : (limit : ℕ) (fault : Fault) → GoesBelow limit (Err fault)
+unfolding GoesBelow
+goes-err limit fault = tt
+
+goes-else : (limit : ℕ) (b : Bool) (fault : Fault) (x : Outcome Turn) → GoesBelow limit x → GoesBelow limit (if b then Err fault else x)
+goes-else limit true fault x p = goes-err limit fault
+goes-else limit false fault x p = p
 
 goes-bind : {A : Type 0} (limit first : ℕ) (r : Outcome A) (f : A × List ℕ → Outcome Turn) → LeavesBelow first r → ((x : A × List ℕ) → length x.1 < first → GoesBelow limit (f x)) → GoesBelow limit (r >>= f)
 unfolding GoesBelow LeavesBelow
 goes-bind limit first (Ok x) f p q = q x p
 goes-bind limit first (Err fault) f p q = tt
 
-turn-goes : (found : Found) (met : Option Marker) (bytes : List ℕ) → GoesBelow (length bytes) (turn_at found met bytes)
-unfolding turn_at
-turn-goes found (Some m) bytes = segment-goes (length bytes) m found bytes (omega arith)
-turn-goes found None bytes =
-    goes-bind (length bytes) (length bytes) (next_marker bytes) _ (marker-below bytes) (λ m p. segment-goes (length bytes) m.0 found m.1 (omega arith))
+goes-needs : {A : Type 0} (limit : ℕ) (r : Result A Fault) (f : A → Outcome Turn) → ((x : A) → GoesBelow limit (f x)) → GoesBelow limit (r >>= f)
+goes-needs limit (Ok x) f q = q x
+goes-needs limit (Err fault) f q = goes-err limit fault
 
--- a turn behind which the image goes on takes at least one byte
-pub turn-takes : (found : Found) (met : Option Marker) (bytes : List ℕ) (r : Turn × List ℕ) → turn_at found met bytes ≡ Ok r → r.0.ended ≡ false → length r.1 < length bytes
-turn-takes found met bytes r e = goes-at (length bytes) (turn_at found met bytes) r (turn-goes found met bytes) e
+goes-passes : (limit : ℕ) (r : Outcome (Option Marker)) (f : Option Marker × List ℕ → Outcome Turn) → Passes limit r → ((x : Option Marker × List ℕ) → length x.1 < limit → is_restart x.0 ≡ false → GoesBelow limit (f x)) → GoesBelow limit (r >>= f)
+unfolding Passes
+goes-passes limit (Ok x) f p q = q x p.0 p.1
+goes-passes limit (Err fault) f p q = goes-err limit fault
+
+goes-ok : (limit : ℕ) (t : Turn) (rest : List ℕ) → length rest < limit → is_restart t.met ≡ false → GoesBelow limit (Ok (t, rest))
+unfolding GoesBelow
+goes-ok limit t rest h e = λ _. (h, e)
+
+frame-goes : (limit number : ℕ) (found : Found) (bytes : List ℕ) → length bytes ≤ limit → GoesBelow limit (frame_segment number found bytes)
+unfolding frame_segment
+frame-goes limit number found bytes h =
+    goes-else limit (is_some found.frame) _ _ (
+    goes-bind limit limit (sof_at number bytes) _ (sof-below limit number bytes h) (λ f p.
+    goes-needs limit (accepted f.0) _ (λ decoded. goes-onward limit _ f.1 p)))
+
+quantization-goes : (limit : ℕ) (found : Found) (bytes : List ℕ) → length bytes ≤ limit → GoesBelow limit (quantization_segment found bytes)
+unfolding quantization_segment
+quantization-goes limit found bytes h =
+    goes-bind limit limit (dqt_at bytes) _ (dqt-below limit bytes h) (λ t p. goes-onward limit _ t.1 p)
+
+huffman-goes : (limit : ℕ) (found : Found) (bytes : List ℕ) → length bytes ≤ limit → GoesBelow limit (huffman_segment found bytes)
+unfolding huffman_segment
+huffman-goes limit found bytes h =
+    goes-bind limit limit (dht_at (option_map (λ f. f.is_baseline) found.frame) bytes) _ (dht-below limit _ bytes h) (λ t p. goes-onward limit _ t.1 p)
+
+restart-goes : (limit : ℕ) (found : Found) (bytes : List ℕ) → length bytes ≤ limit → GoesBelow limit (restart_segment found bytes)
+unfolding restart_segment
+restart-goes limit found bytes h =
+    goes-bind limit limit (dri_at bytes) _ (dri-below limit bytes h) (λ t p. goes-onward limit _ t.1 p)
+
+application-goes : (limit number : ℕ) (found : Found) (bytes : List ℕ) → length bytes ≤ limit → GoesBelow limit (application_segment number found bytes)
+unfolding application_segment
+application-goes limit number found bytes h =
+    goes-bind limit limit (app_at number bytes) _ (app-below limit number bytes h) (λ t p. goes-onward limit _ t.1 p)
+
+skipped-goes : (limit : ℕ) (found : Found) (bytes : List ℕ) → length bytes ≤ limit → GoesBelow limit (skipped_segment found bytes)
+unfolding skipped_segment
+skipped-goes limit found bytes h =
+    goes-bind limit limit (length_at bytes) _ (length-below limit bytes h) (λ n p.
+    goes-bind limit limit (skip_at n.0 n.1) _ (skip-below limit n.0 n.1 p) (λ u q. goes-onward limit found u.1 q))
+
+scan-goes : (limit : ℕ) (found : Found) (bytes : List ℕ) → length bytes ≤ limit → GoesBelow limit (scan_segment found bytes)
+unfolding scan_segment scan_samples
+scan-goes limit found bytes h =
+    goes-needs limit (needed found.frame) _ (λ frame.
+    goes-bind limit limit (sos_at frame bytes) _ (sos-below limit frame bytes h) (λ scan p.
+    goes-needs limit (coding_of found frame scan.0) _ (λ coding.
+    goes-bind limit limit (scan_samples coding scan.1) _ (plane-below limit _ _ _ scan.1 p) (λ plane q.
+    goes-passes limit (behind_restarts (suc (length plane.1)) plane.0.1 plane.1) _ (behind-passes limit plane.0.1 plane.1 q) (λ met r e.
+    goes-ok limit _ met.1 r e)))))
+
+end-goes : (limit : ℕ) (found : Found) (bytes : List ℕ) → GoesBelow limit (end_segment found bytes)
+unfolding end_segment GoesBelow
+end-goes limit found bytes = go (is_some found.frame)
+  where
+    go : (b : Bool) → GoesBelow limit (cond b (Ok (record { found = found; before = Elsewhere; met = None; ended = true }, bytes)) (Err Malformed))
+    go true = λ e. absurd (let n : ⊥ = cc in n)
+    go false = tt
+
+stray-goes : (limit : ℕ) (before : Before) (found : Found) (bytes : List ℕ) → length bytes < limit → GoesBelow limit (stray_restart before found bytes)
+stray-goes limit Elsewhere found bytes h = goes-err limit _
+stray-goes limit FirstScan found bytes h = goes-onward limit found bytes h
+stray-goes limit LaterScan found bytes h = goes-onward limit found bytes h
+
+lines-goes : (limit : ℕ) (before : Before) → GoesBelow limit (line_count before)
+lines-goes limit FirstScan = goes-err limit _
+lines-goes limit LaterScan = goes-err limit _
+lines-goes limit Elsewhere = goes-err limit _
+
+segment-goes : (limit : ℕ) (m : Marker) (before : Before) (found : Found) (bytes : List ℕ) → length bytes ≤ limit → (is_restart (Some m) ≡ true → length bytes < limit) → GoesBelow limit (segment_at m before found bytes)
+unfolding segment_at
+segment-goes limit (SOF number) before found bytes h r = frame-goes limit number found bytes h
+segment-goes limit DQT before found bytes h r = quantization-goes limit found bytes h
+segment-goes limit DHT before found bytes h r = huffman-goes limit found bytes h
+segment-goes limit SOS before found bytes h r = scan-goes limit found bytes h
+segment-goes limit EOI before found bytes h r = end-goes limit found bytes
+segment-goes limit DRI before found bytes h r = restart-goes limit found bytes h
+segment-goes limit (APP number) before found bytes h r = application-goes limit number found bytes h
+segment-goes limit COM before found bytes h r = skipped-goes limit found bytes h
+segment-goes limit (RST n) before found bytes h r = stray-goes limit before found bytes (r refl)
+segment-goes limit DNL before found bytes h r = lines-goes limit before
+segment-goes limit JPG before found bytes h r = goes-err limit _
+segment-goes limit DAC before found bytes h r = goes-err limit _
+segment-goes limit SOI before found bytes h r = goes-err limit _
+segment-goes limit DHP before found bytes h r = goes-err limit _
+segment-goes limit EXP before found bytes h r = goes-err limit _
+segment-goes limit (JPGn n) before found bytes h r = goes-err limit _
+segment-goes limit TEM before found bytes h r = goes-err limit _
+segment-goes limit RES before found bytes h r = goes-err limit _
+
+turn-goes : (before : Before) (found : Found) (met : Option Marker) (bytes : List ℕ) → is_restart met ≡ false → GoesBelow (length bytes) (turn_at before found met bytes)
+unfolding turn_at
+turn-goes before found (Some m) bytes none = segment-goes (length bytes) m before found bytes (omega arith) (λ e. absurd (let n : ⊥ = cc in n))
+turn-goes before found None bytes none =
+    goes-bind (length bytes) (length bytes) (next_marker bytes) _ (marker-below bytes) (λ m p. segment-goes (length bytes) m.0 before found m.1 (omega arith) (λ _. p))
+
+-- A turn behind which the image goes on takes at least one byte, where no restart marker is met; and none is met behind it.
+pub turn-takes : (before : Before) (found : Found) (met : Option Marker) (bytes : List ℕ) (r : Turn × List ℕ) → is_restart met ≡ false → turn_at before found met bytes ≡ Ok r → r.0.ended ≡ false
+    → (length r.1 < length bytes) × (is_restart r.0.met ≡ false)
+turn-takes before found met bytes r none e = goes-at (length bytes) (turn_at before found met bytes) r (turn-goes before found met bytes none) e
 
 -- ---- turns
-
-bind-same : {A B : Type 0} (r : Result A Fault) (f g : A → Result B Fault) → ((x : A) → r ≡ Ok x → f x ≡ g x) → r >>= f ≡ r >>= g
-bind-same (Ok x) f g h = h x refl
-bind-same (Err fault) f g h = refl
 
 cond-same : {A : Type 0} (b : Bool) (x y z : A) → (b ≡ false → y ≡ z) → cond b x y ≡ cond b x z
 cond-same true x y z h = refl
@@ -122,55 +166,89 @@ turn-same (Ok x) found f g h = h x refl
 turn-same (Err fault) found f g h = refl
 
 -- more turns than bytes change nothing
-turns-enough : (m n : ℕ) (found : Found) (met : Option Marker) (bytes : List ℕ) → length bytes < m → length bytes < n → segments_within m found met bytes ≡ segments_within n found met bytes
+turns-enough : (m n : ℕ) (header : Bool) (before : Before) (found : Found) (met : Option Marker) (bytes : List ℕ) → is_restart met ≡ false → length bytes < m → length bytes < n
+    → segments_within m header before found met bytes ≡ segments_within n header before found met bytes
 unfolding segments_within
-turns-enough zero n found met bytes p q = absurd (omega arith)
-turns-enough (suc m) zero found met bytes p q = absurd (omega arith)
-turns-enough (suc m) (suc n) found met bytes p q =
-    bind-same (turn_at found met bytes) _ _ (λ t is.
+turns-enough zero n header before found met bytes none p q = absurd (omega arith)
+turns-enough (suc m) zero header before found met bytes none p q = absurd (omega arith)
+turns-enough (suc m) (suc n) header before found met bytes none p q =
+    cond-same (header && is_some found.frame) _ _ _ (λ _.
+    bind-same (turn_at before found met bytes) _ _ (λ t is.
     cond-same t.0.ended _ _ _ (λ on.
-    let less : length t.1 < length bytes = turn-takes found met bytes t is on in
-    turns-enough m n t.0.found t.0.met t.1 (omega arith) (omega arith)))
+    let took = turn-takes before found met bytes t none is on in
+    let less : length t.1 < length bytes = took.0 in
+    turns-enough m n header t.0.before t.0.found t.0.met t.1 took.1 (omega arith) (omega arith))))
 
-told-enough : (m n : ℕ) (found : Found) (met : Option Marker) (bytes : List ℕ) → length bytes < m → length bytes < n → told_within m found met bytes ≡ told_within n found met bytes
+told-enough : (m n : ℕ) (header : Bool) (before : Before) (found : Found) (met : Option Marker) (bytes : List ℕ) → is_restart met ≡ false → length bytes < m → length bytes < n
+    → told_within m header before found met bytes ≡ told_within n header before found met bytes
 unfolding told_within
-told-enough zero n found met bytes p q = absurd (omega arith)
-told-enough (suc m) zero found met bytes p q = absurd (omega arith)
-told-enough (suc m) (suc n) found met bytes p q =
-    turn-same (turn_at found met bytes) found _ _ (λ t is.
+told-enough zero n header before found met bytes none p q = absurd (omega arith)
+told-enough (suc m) zero header before found met bytes none p q = absurd (omega arith)
+told-enough (suc m) (suc n) header before found met bytes none p q =
+    cond-same (header && is_some found.frame) _ _ _ (λ _.
+    turn-same (turn_at before found met bytes) found _ _ (λ t is.
     cond-same t.0.ended _ _ _ (λ on.
-    let less : length t.1 < length bytes = turn-takes found met bytes t is on in
-    told-enough m n t.0.found t.0.met t.1 (omega arith) (omega arith)))
+    let took = turn-takes before found met bytes t none is on in
+    let less : length t.1 < length bytes = took.0 in
+    told-enough m n header t.0.before t.0.found t.0.met t.1 took.1 (omega arith) (omega arith))))
 
 -- the segments are one turn and then the segments behind it
-pub segments-turn : (found : Found) (met : Option Marker) (bytes : List ℕ)
-    → segments_at found met bytes ≡ (turn_at found met bytes >>= λ (t : Turn × List ℕ). if t.0.ended then Ok (t.0.found, t.1) else segments_at t.0.found t.0.met t.1)
+pub segments-turn : (header : Bool) (before : Before) (found : Found) (met : Option Marker) (bytes : List ℕ) → is_restart met ≡ false
+    → segments_at header before found met bytes ≡ (if header && is_some found.frame then Ok (found, bytes) else
+    (turn_at before found met bytes >>= λ (t : Turn × List ℕ). if t.0.ended then Ok (t.0.found, t.1) else segments_at header t.0.before t.0.found t.0.met t.1))
 unfolding segments_at segments_within
-segments-turn found met bytes =
-    bind-same (turn_at found met bytes) _ _ (λ t is.
-    cond-same t.0.ended _ _ _ (λ on. turns-enough (length bytes) (suc (length t.1)) t.0.found t.0.met t.1 (turn-takes found met bytes t is on) (omega arith)))
+segments-turn header before found met bytes none =
+    cond-same (header && is_some found.frame) _ _ _ (λ _.
+    bind-same (turn_at before found met bytes) _ _ (λ t is.
+    cond-same t.0.ended _ _ _ (λ on.
+    let took = turn-takes before found met bytes t none is on in
+    turns-enough (length bytes) (suc (length t.1)) header t.0.before t.0.found t.0.met t.1 took.1 took.0 (omega arith))))
 
-pub told-turn : (found : Found) (met : Option Marker) (bytes : List ℕ)
-    → told_at found met bytes ≡ elim (turn_at found met bytes) as (λ _. Found) [ Err fault ↦ found | Ok t ↦ if t.0.ended then t.0.found else told_at t.0.found t.0.met t.1 ]
+pub told-turn : (header : Bool) (before : Before) (found : Found) (met : Option Marker) (bytes : List ℕ) → is_restart met ≡ false
+    → told_at header before found met bytes ≡ (if header && is_some found.frame then found else
+    elim (turn_at before found met bytes) as (λ _. Found) [ Err fault ↦ found | Ok t ↦ if t.0.ended then t.0.found else told_at header t.0.before t.0.found t.0.met t.1 ])
 unfolding told_at told_within
-told-turn found met bytes =
-    turn-same (turn_at found met bytes) found _ _ (λ t is.
-    cond-same t.0.ended _ _ _ (λ on. told-enough (length bytes) (suc (length t.1)) t.0.found t.0.met t.1 (turn-takes found met bytes t is on) (omega arith)))
+told-turn header before found met bytes none =
+    cond-same (header && is_some found.frame) _ _ _ (λ _.
+    turn-same (turn_at before found met bytes) found _ _ (λ t is.
+    cond-same t.0.ended _ _ _ (λ on.
+    let took = turn-takes before found met bytes t none is on in
+    told-enough (length bytes) (suc (length t.1)) header t.0.before t.0.found t.0.met t.1 took.1 took.0 (omega arith))))
 
-pub segments-refused : (found : Found) (met : Option Marker) (bytes : List ℕ) (fault : Fault) → turn_at found met bytes ≡ Err fault → segments_at found met bytes ≡ Err fault
-segments-refused found met bytes fault q = segments-turn found met bytes ∙ rw q refl
+-- ---- the ways a turn goes
 
-pub told-refused : (found : Found) (met : Option Marker) (bytes : List ℕ) (fault : Fault) → turn_at found met bytes ≡ Err fault → told_at found met bytes ≡ found
-told-refused found met bytes fault q = told-turn found met bytes ∙ rw q refl
+pub segments-stop : (header : Bool) (before : Before) (found : Found) (met : Option Marker) (bytes : List ℕ) → (header && is_some found.frame) ≡ true → segments_at header before found met bytes ≡ Ok (found, bytes)
+unfolding segments_at segments_within
+segments-stop header before found met bytes p = rw p refl
 
-pub segments-end : (found : Found) (met : Option Marker) (bytes rest : List ℕ) (t : Turn) → t.ended ≡ true → turn_at found met bytes ≡ Ok (t, rest) → segments_at found met bytes ≡ Ok (t.found, rest)
-segments-end found met bytes rest t e q = segments-turn found met bytes ∙ rw (q, e) refl
+pub told-stop : (header : Bool) (before : Before) (found : Found) (met : Option Marker) (bytes : List ℕ) → (header && is_some found.frame) ≡ true → told_at header before found met bytes ≡ found
+unfolding told_at told_within
+told-stop header before found met bytes p = rw p refl
 
-pub told-end : (found : Found) (met : Option Marker) (bytes rest : List ℕ) (t : Turn) → t.ended ≡ true → turn_at found met bytes ≡ Ok (t, rest) → told_at found met bytes ≡ t.found
-told-end found met bytes rest t e q = told-turn found met bytes ∙ rw (q, e) refl
+pub segments-refused : (header : Bool) (before : Before) (found : Found) (met : Option Marker) (bytes : List ℕ) (fault : Fault) → (header && is_some found.frame) ≡ false → turn_at before found met bytes ≡ Err fault
+    → segments_at header before found met bytes ≡ Err fault
+unfolding segments_at segments_within
+segments-refused header before found met bytes fault p q = rw (p, q) refl
 
-pub segments-next : (found : Found) (met : Option Marker) (bytes rest : List ℕ) (t : Turn) → t.ended ≡ false → turn_at found met bytes ≡ Ok (t, rest) → segments_at found met bytes ≡ segments_at t.found t.met rest
-segments-next found met bytes rest t e q = segments-turn found met bytes ∙ rw (q, e) refl
+pub told-refused : (header : Bool) (before : Before) (found : Found) (met : Option Marker) (bytes : List ℕ) (fault : Fault) → (header && is_some found.frame) ≡ false → turn_at before found met bytes ≡ Err fault
+    → told_at header before found met bytes ≡ found
+unfolding told_at told_within
+told-refused header before found met bytes fault p q = rw (p, q) refl
 
-pub told-next : (found : Found) (met : Option Marker) (bytes rest : List ℕ) (t : Turn) → t.ended ≡ false → turn_at found met bytes ≡ Ok (t, rest) → told_at found met bytes ≡ told_at t.found t.met rest
-told-next found met bytes rest t e q = told-turn found met bytes ∙ rw (q, e) refl
+pub segments-end : (header : Bool) (before : Before) (found : Found) (met : Option Marker) (bytes rest : List ℕ) (t : Turn) → (header && is_some found.frame) ≡ false → t.ended ≡ true
+    → turn_at before found met bytes ≡ Ok (t, rest) → segments_at header before found met bytes ≡ Ok (t.found, rest)
+unfolding segments_at segments_within
+segments-end header before found met bytes rest t p e q = rw (p, q, e) refl
+
+pub told-end : (header : Bool) (before : Before) (found : Found) (met : Option Marker) (bytes rest : List ℕ) (t : Turn) → (header && is_some found.frame) ≡ false → t.ended ≡ true
+    → turn_at before found met bytes ≡ Ok (t, rest) → told_at header before found met bytes ≡ t.found
+unfolding told_at told_within
+told-end header before found met bytes rest t p e q = rw (p, q, e) refl
+
+pub segments-next : (header : Bool) (before : Before) (found : Found) (met : Option Marker) (bytes rest : List ℕ) (t : Turn) → is_restart met ≡ false → (header && is_some found.frame) ≡ false → t.ended ≡ false
+    → turn_at before found met bytes ≡ Ok (t, rest) → segments_at header before found met bytes ≡ segments_at header t.before t.found t.met rest
+segments-next header before found met bytes rest t none p e q = segments-turn header before found met bytes none ∙ rw (p, q, e) refl
+
+pub told-next : (header : Bool) (before : Before) (found : Found) (met : Option Marker) (bytes rest : List ℕ) (t : Turn) → is_restart met ≡ false → (header && is_some found.frame) ≡ false → t.ended ≡ false
+    → turn_at before found met bytes ≡ Ok (t, rest) → told_at header before found met bytes ≡ told_at header t.before t.found t.met rest
+told-next header before found met bytes rest t none p e q = told-turn header before found met bytes none ∙ rw (p, q, e) refl

@@ -6,6 +6,7 @@ pub mod Scans
 pub mod Rows
 pub mod Raster
 pub mod Stream
+pub mod Profile
 pub mod States
 pub mod Seen
 pub mod Output
@@ -14,3 +15,4 @@ pub mod Steps
 pub mod PlanesIn
 pub mod Shapes
 pub mod Pixels
+pub mod ColourChoice

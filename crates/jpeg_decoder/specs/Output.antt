@@ -1,19 +1,19 @@
 -- What the program writes for a stream.
-use Rattle.std.specs.Prelude.{◌≡◌, ◌+◌, ◌<◌, ◌^◌, ℕ, List, [], ◌∷◌, ◌++◌, Result, Ok, Err, Bool, Option, Some, None, option_map, codes, length, string_bytes}
+use Rattle.std.specs.Prelude.{◌≡◌, ◌<◌, ◌^◌, ℕ, List, [], ◌∷◌, ◌++◌, Ok, Err, Option, Some, None, option_map, codes, length, string_bytes}
 use Rattle.std.specs.Fmt.{decimal}
-use Rattle.std.specs.Io.KnownBytes.{Appends, Keeps}
+use Rattle.std.specs.Io.KnownBytes.{Appends}
 use Rattle.jpeg_bits.specs.declared.error.Error.{Error}
 use Rattle.jpeg_bits.specs.declared.error.Error.TheVariants.{Format, Unsupported, Io, Internal, OutOfMemory}
 use Rattle.jpeg_decoder.specs.declared.state.Settings.{Settings}
 use Rattle.jpeg_decoder.specs.declared.decoder.ImageInfo.{ImageInfo}
 use Rattle.jpeg_decoder.specs.declared.decoder.PixelFormat.{PixelFormat}
 use Rattle.jpeg_decoder.specs.declared.decoder.PixelFormat.TheVariants.{L8, L16, RGB24, CMYK32}
-use Rattle.jpeg_decoder.specs.Stream.{Found, meaning}
+use Rattle.jpeg_decoder.specs.Stream.{meaning}
 use Rattle.jpeg_decoder.specs.Seen.{info_of}
 
 -- the settings of a new decoder
 abbrev pub default_settings : Settings
-default_settings = record { limit = 18446744073709551615 }
+default_settings = record { limit = 18446744073709551615; color_transform = None }
 
 abbrev pub name_of : PixelFormat → List ℕ
 name_of L8 = codes "L8"

@@ -6,7 +6,7 @@ use Rattle.jpeg_pixels.specs.Zigzag.{coefficients_in_block_order, values_in_bloc
 use Rattle.jpeg_pixels.specs.Planes.{plane_of}
 use Rattle.jpeg_segments.specs.Frame.{Component, ceiling}
 use Rattle.jpeg_decoder.specs.declared.blocks.Grid.{Grid}
-use Rattle.jpeg_decoder.specs.Passes.{Pass, Via, Block, whole_pass, zero_block, listed}
+use Rattle.jpeg_decoder.specs.Passes.{Via, Block, whole_pass, zero_block, listed}
 use Rattle.jpeg_decoder.specs.Intervals.{intervals, first_group, other_groups}
 
 -- A component's blocks: across and down, those that it has by its own size, and those that its part of all MCUs has.

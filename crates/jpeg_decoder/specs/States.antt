@@ -1,13 +1,15 @@
 -- The states of a decoder, and what each call does in each.
-use Rattle.std.specs.Prelude.{◌≡◌, Result, Ok, Err, true, IsErrAnd}
+use Rattle.std.specs.Prelude.{◌≡◌, ℕ, List, Result, Ok, Err, Bool, true, IsOk, IsErrAnd}
+use Rattle.jpeg_bits.specs.Reading.{Outcome}
 use Rattle.jpeg_bits.specs.Stream.{Stream}
 use Rattle.jpeg_bits.specs.declared.error.Error.{Error}
 use Rattle.jpeg_bits.specs.declared.error.Error.TheVariants as errors
 use Rattle.jpeg_decoder.specs.declared.state.Settings.{Settings}
-use Rattle.jpeg_decoder.specs.Stream.{Found}
+use Rattle.jpeg_decoder.specs.Stream.{Found, meaning, rest_at, told_by_stream, told_rest}
 
 pub data Stage : Type 0 where
   Fresh : Stage
+  HeaderRead : Stage
   Finished : Stage
   Failed : Stage
 
@@ -34,12 +36,54 @@ IsOfBytes (errors.Unsupported feature) = Unit {0}
 IsOfBytes (errors.Io error) = Unit {0}
 IsOfBytes errors.OutOfMemory = Unit {0}
 
--- the column of the state table for decoding
+-- ---- the state table
+
+-- the column for reading the header
+abbrev pub MovesToHeader : {X : Type 0} → Stage → Stage → Result X Error → Type 0
+MovesToHeader Fresh new (Ok x) = new ≡ HeaderRead
+MovesToHeader Fresh new (Err e) = (new ≡ Failed) × IsOfBytes e
+MovesToHeader HeaderRead new result = (new ≡ HeaderRead) × IsOk result
+MovesToHeader Finished new result = (new ≡ Finished) × IsOk result
+MovesToHeader Failed new result = (new ≡ Failed) × IsErrAnd result IsInternal
+
+-- the column for decoding
 abbrev pub MovesToEnd : {X : Type 0} → Stage → Stage → Result X Error → Type 0
 MovesToEnd Fresh new (Ok x) = new ≡ Finished
 MovesToEnd Fresh new (Err e) = (new ≡ Failed) × IsOfBytes e
+MovesToEnd HeaderRead new (Ok x) = new ≡ Finished
+MovesToEnd HeaderRead new (Err e) = (new ≡ Failed) × IsOfBytes e
 MovesToEnd Finished new result = (new ≡ Finished) × IsErrAnd result IsInternal
 MovesToEnd Failed new result = (new ≡ Failed) × IsErrAnd result IsInternal
+
+-- a state in which a stream is read
+abbrev pub IsReading : Stage → Type 0
+IsReading Fresh = Unit {0}
+IsReading HeaderRead = Unit {0}
+IsReading Finished = ⊥
+IsReading Failed = ⊥
+
+-- a state in which a header was read
+abbrev pub HasHeader : Stage → Type 0
+HasHeader Fresh = ⊥
+HasHeader HeaderRead = Unit {0}
+HasHeader Finished = Unit {0}
+HasHeader Failed = ⊥
+
+-- the meaning of what lies ahead of a decoder: a whole stream, or the rest of one behind its header
+abbrev pub ahead : Stage → Settings → Found → List ℕ → Outcome (Found × List ℕ)
+ahead Fresh settings found bytes = meaning settings bytes
+ahead HeaderRead settings found bytes = rest_at settings found bytes
+ahead Finished settings found bytes = rest_at settings found bytes
+ahead Failed settings found bytes = rest_at settings found bytes
+
+-- what has been said by the end, or the refusal, of what lies ahead
+abbrev pub told_ahead : Bool → Stage → Found → List ℕ → Found
+told_ahead header Fresh found bytes = told_by_stream header bytes
+told_ahead header HeaderRead found bytes = told_rest header found bytes
+told_ahead header Finished found bytes = found
+told_ahead header Failed found bytes = found
+
+-- ---- calls that read
 
 -- a fact, unless memory was wanting
 abbrev pub IfRefused : Error → Type 0 → Type 0

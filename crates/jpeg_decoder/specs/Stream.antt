@@ -1,40 +1,75 @@
 -- The state that the segments of a stream lead to, and the meaning of a stream (T.81, B.2).
-use Rattle.std.specs.Prelude.{ℕ, zero, suc, ◌*◌, ◌/◌, ◌==◌, min, nat_lt, nat_le, List, [], ◌∷◌, length, replicate, slice_index_or, slice_set, Bool, true, false, Option, Some, None, option_map, is_some, Result, Ok, Err, if◌then◌else◌}
+use Rattle.std.specs.Prelude.{ℕ, zero, suc, ◌*◌, ◌/◌, ◌==◌, min, not, ◌&&◌, ◌||◌, nat_lt, nat_le, List, [], ◌∷◌, ◌++◌, length, replicate, slice_index_or, slice_set, Bool, true, false, Option, Some, None, option_map, is_some, Result, Ok, Err, if◌then◌else◌}
 use Rattle.jpeg_bits.specs.Reading.{Outcome, Fault, Malformed, Lacks, End, ◌>>=◌, next_byte, length_at, skip_at}
 use Rattle.jpeg_bits.specs.Marker.{next_marker}
 use Rattle.jpeg_bits.specs.Codes.{Table}
 use Rattle.jpeg_bits.specs.declared.marker.Marker.{Marker}
-use Rattle.jpeg_bits.specs.declared.marker.Marker.TheVariants.{SOF, DHT, EOI, SOS, DQT, APP, COM}
-use Rattle.jpeg_bits.specs.declared.error.UnsupportedFeature.TheVariants.{Hierarchical, SamplePrecision}
+use Rattle.jpeg_bits.specs.declared.marker.Marker.TheVariants.{SOF, DHT, DAC, RST, EOI, SOS, DQT, DNL, DRI, DHP, EXP, APP, COM}
+use Rattle.jpeg_bits.specs.declared.error.UnsupportedFeature.TheVariants as features
+use Rattle.jpeg_segments.specs.declared.parser.CodingProcess.{CodingProcess}
+use Rattle.jpeg_segments.specs.declared.parser.CodingProcess.TheVariants.{DctSequential, DctProgressive, Lossless}
+use Rattle.jpeg_segments.specs.declared.parser.EntropyCoding.{EntropyCoding}
+use Rattle.jpeg_segments.specs.declared.parser.EntropyCoding.TheVariants.{Huffman, Arithmetic}
+use Rattle.jpeg_segments.specs.declared.parser.AdobeColorTransform.{AdobeColorTransform}
 use Rattle.jpeg_segments.specs.Frame.{Frame, Component, sof_at}
 use Rattle.jpeg_segments.specs.ScanHeader.{Scan, sos_at}
 use Rattle.jpeg_segments.specs.Quantization.{dqt_at}
 use Rattle.jpeg_segments.specs.HuffmanTables.{Tables, no_tables, dht_at}
+use Rattle.jpeg_segments.specs.Application.{Application, Chunk, Adobe, Jfif, Avi1, Icc, Exif, Xmp, Psir, app_at, dri_at}
 use Rattle.jpeg_pixels.specs.Planes.{cropped}
+use Rattle.jpeg_pixels.specs.Pictures.{sources_of}
 use Rattle.jpeg_decoder.specs.Scans.{grid_of, plane_at}
 use Rattle.jpeg_decoder.specs.declared.state.Settings.{Settings}
+use Rattle.jpeg_decoder.specs.declared.segments.Before.{Before}
+use Rattle.jpeg_decoder.specs.declared.segments.Before.TheVariants.{FirstScan, LaterScan, Elsewhere}
 
--- What the segments and scans so far have said: the frame; the tables in force, by their places; and the planes that are decided, by the
--- components' places in the frame. Quantization tables stand in zigzag order.
+-- What the segments of applications have said: whether JFIF or an MJPEG frame was named, and the last Adobe transform, Exif, XMP and
+-- Photoshop data; parts of ICC profiles add up.
+pub record Metadata : Type 0 where
+  pub jfif : Bool
+  pub avi1 : Bool
+  pub adobe : Option AdobeColorTransform
+  pub exif : Option (List ℕ)
+  pub xmp : Option (List ℕ)
+  pub psir : Option (List ℕ)
+  pub icc : List Chunk
+
+abbrev pub no_metadata : Metadata
+no_metadata = record { jfif = false; avi1 = false; adobe = None; exif = None; xmp = None; psir = None; icc = [] }
+
+-- What the segments and scans so far have said: the frame; the tables in force, by their places; the restart interval; whether a scan was
+-- read; the metadata; and the planes that are decided, by the components' places in the frame. Quantization tables stand in zigzag order.
 pub record Found : Type 0 where
   pub frame : Option Frame
   pub quantization : List (Option (List ℕ))
   pub huffman : Tables
+  pub restart : ℕ
+  pub scanned : Bool
+  pub metadata : Metadata
   pub planes : List (Option (List ℕ))
 
 unfoldable pub nothing_found : Found
-nothing_found = record { frame = None; quantization = replicate 4 None; huffman = no_tables; planes = replicate 4 None }
+nothing_found = record {
+  frame = None;
+  quantization = replicate 4 None;
+  huffman = no_tables;
+  restart = 0;
+  scanned = false;
+  metadata = no_metadata;
+  planes = replicate 4 None;
+}
 
 -- ---- segments
 
--- what a segment leads to: the state, the marker that is met behind it, if it is, and whether the image has ended
+-- What a segment leads to: the state, what stands before the next marker, that marker, if it is met already, and whether the image has ended.
 pub record Turn : Type 0 where
   pub found : Found
+  pub before : Before
   pub met : Option Marker
   pub ended : Bool
 
 abbrev pub onward : Found → Turn
-onward found = record { found = found; met = None; ended = false }
+onward found = record { found = found; before = Elsewhere; met = None; ended = false }
 
 -- tables by their places, where those that are read stand in place of those that were there
 unfoldable pub updated : {A : Type 0} → List (Option A) → List (Option A) → List (Option A)
@@ -46,14 +81,36 @@ updated (o ∷ old) (Some t ∷ new) = Some t ∷ updated old new
 abbrev pub with_huffman : Tables → Tables → Tables
 with_huffman old new = record { dc = updated old.dc new.dc; ac = updated old.ac new.ac }
 
--- A frame, of which there is one, of SOF0 or SOF1 and 8 bits. Other frames are refused for now.
+-- a precision that the process can be decoded at: 8 bits, or in a lossless frame 2 to 16
+abbrev pub is_precision : CodingProcess → ℕ → Bool
+is_precision DctSequential precision = precision == 8
+is_precision DctProgressive precision = precision == 8
+is_precision Lossless precision = nat_le 2 precision && nat_le precision 16
+
+abbrev pub is_arithmetic : EntropyCoding → Bool
+is_arithmetic Huffman = false
+is_arithmetic Arithmetic = true
+
+abbrev pub is_count : ℕ → Bool
+is_count count = count == 1 || (count == 3 || count == 4)
+
+-- The frame that is decoded: of one, three or four components, each with a way to upsample it. A number of components is told as a byte.
+unfoldable pub accepted : Frame → Result Frame Fault
+accepted frame =
+    if frame.is_differential then Err (Lacks features.Hierarchical) else (
+    if is_arithmetic frame.coding then Err (Lacks features.ArithmeticEntropyCoding) else (
+    if not (is_precision frame.process frame.precision) then Err (Lacks (features.SamplePrecision frame.precision)) else (
+    if is_count (length frame.components)
+    then sources_of frame.components frame.output_width frame.output_height >>= (λ sources. Ok frame)
+    else Err (Lacks (features.ComponentCount (min 255 (length frame.components)))))))
+
+-- A frame, of which there is one.
 unfoldable pub frame_segment : ℕ → Found → List ℕ → Outcome Turn
 frame_segment number found bytes =
-    if is_some found.frame then Err (Lacks Hierarchical) else (
-    if nat_le number 1
-    then sof_at number bytes >>= (λ f.
-    if f.0.precision == 8 then Ok (onward (record found { frame = Some f.0 }), f.1) else Err (Lacks (SamplePrecision f.0.precision)))
-    else Err Malformed)
+    if is_some found.frame then Err (Lacks features.Hierarchical) else (do
+      frame ← sof_at number bytes
+      decoded ← accepted frame.0
+      Ok (onward (record found { frame = Some decoded }), frame.1))
 
 unfoldable pub quantization_segment : Found → List ℕ → Outcome Turn
 quantization_segment found bytes = do
@@ -64,6 +121,27 @@ unfoldable pub huffman_segment : Found → List ℕ → Outcome Turn
 huffman_segment found bytes = do
   t ← dht_at (option_map (λ f. f.is_baseline) found.frame) bytes
   Ok (onward (record found { huffman = with_huffman found.huffman t.0 }), t.1)
+
+unfoldable pub restart_segment : Found → List ℕ → Outcome Turn
+restart_segment found bytes = do
+  interval ← dri_at bytes
+  Ok (onward (record found { restart = interval.0 }), interval.1)
+
+-- the metadata behind what a segment of an application says
+abbrev pub with_application : Metadata → Option Application → Metadata
+with_application m None = m
+with_application m (Some (Adobe transform)) = record m { adobe = Some transform }
+with_application m (Some Jfif) = record m { jfif = true }
+with_application m (Some Avi1) = record m { avi1 = true }
+with_application m (Some (Icc chunk)) = record m { icc = m.icc ++ chunk ∷ [] }
+with_application m (Some (Exif bytes)) = record m { exif = Some bytes }
+with_application m (Some (Xmp bytes)) = record m { xmp = Some bytes }
+with_application m (Some (Psir bytes)) = record m { psir = Some bytes }
+
+unfoldable pub application_segment : ℕ → Found → List ℕ → Outcome Turn
+application_segment number found bytes = do
+  said ← app_at number bytes
+  Ok (onward (record found { metadata = with_application found.metadata said.0 }), said.1)
 
 -- a segment that is passed over
 unfoldable pub skipped_segment : Found → List ℕ → Outcome Turn
@@ -95,13 +173,24 @@ pub record Coding : Type 0 where
   pub dc : Table
   pub ac : Table
 
+abbrev pub is_sequential : CodingProcess → Bool
+is_sequential DctSequential = true
+is_sequential DctProgressive = false
+is_sequential Lossless = false
+
+-- Scans of progressive and lossless frames, those under a restart interval, and those of several components are refused for now.
+abbrev pub is_decoded : Found → Frame → Bool
+is_decoded found frame = is_sequential frame.process && (found.restart == 0 && length frame.components == 1)
+
+-- The component of a scan and its tables.
 unfoldable pub coding_of : Found → Frame → Scan → Result Coding Fault
-coding_of found frame scan = do
-  component ← needed (first_of frame.components)
-  quantization ← needed (slice_index_or found.quantization component.factors.quantization None)
-  dc ← needed (named found.huffman.dc scan.dc_places)
-  ac ← needed (named found.huffman.ac scan.ac_places)
-  Ok (record { component = component; quantization = quantization; dc = dc; ac = ac })
+coding_of found frame scan =
+    if is_decoded found frame then (do
+      component ← needed (first_of frame.components)
+      quantization ← needed (slice_index_or found.quantization component.factors.quantization None)
+      dc ← needed (named found.huffman.dc scan.dc_places)
+      ac ← needed (named found.huffman.ac scan.ac_places)
+      Ok (record { component = component; quantization = quantization; dc = dc; ac = ac })) else Err Malformed
 
 -- The first scan that finishes a component decides its plane.
 abbrev pub decided : Option (List ℕ) → List ℕ → Option (List ℕ)
@@ -109,10 +198,20 @@ decided None plane = Some plane
 decided (Some first) plane = Some first
 
 abbrev pub with_plane : Found → List ℕ → Found
-with_plane found plane = record found { planes = slice_set found.planes 0 (decided (slice_index_or found.planes 0 None) plane) }
+with_plane found plane =
+    record found { scanned = true; planes = slice_set found.planes 0 (decided (slice_index_or found.planes 0 None) plane) }
 
 unfoldable pub scan_samples : Coding → List ℕ → Outcome (List ℕ × Option Marker)
 scan_samples c bytes = plane_at (grid_of c.component) c.quantization (record { component = 0; dc = c.dc; ac = c.ac }) bytes
+
+-- The marker behind a scan, where restart markers at its end are passed over, fewer than so many.
+unfoldable pub behind_restarts : ℕ → Option Marker → List ℕ → Outcome (Option Marker)
+behind_restarts zero met bytes = Err End
+behind_restarts (suc turns) (Some (RST n)) bytes = next_marker bytes >>= (λ m. behind_restarts turns (Some m.0) m.1)
+behind_restarts (suc turns) met bytes = Ok (met, bytes)
+
+abbrev pub scan_before : Found → Before
+scan_before found = if found.scanned then LaterScan else FirstScan
 
 unfoldable pub scan_segment : Found → List ℕ → Outcome Turn
 scan_segment found bytes = do
@@ -120,52 +219,78 @@ scan_segment found bytes = do
   scan ← sos_at frame bytes
   coding ← coding_of found frame scan.0
   plane ← scan_samples coding scan.1
-  Ok (record { found = with_plane found plane.0.0; met = plane.0.1; ended = false }, plane.1)
+  met ← behind_restarts (suc (length plane.1)) plane.0.1 plane.1
+  Ok (record { found = with_plane found plane.0.0; before = scan_before found; met = met.0; ended = false }, met.1)
 
 -- ---- the stream
 
 -- the end of the image, which needs a frame
 unfoldable pub end_segment : Found → List ℕ → Outcome Turn
-end_segment found bytes = if is_some found.frame then Ok (record { found = found; met = None; ended = true }, bytes) else Err Malformed
+end_segment found bytes =
+    if is_some found.frame then Ok (record { found = found; before = Elsewhere; met = None; ended = true }, bytes) else Err Malformed
 
--- Behind a marker. Any other segment is refused for now.
-unfoldable pub segment_at : Marker → Found → List ℕ → Outcome Turn
-segment_at (SOF number) found bytes = frame_segment number found bytes
-segment_at DQT found bytes = quantization_segment found bytes
-segment_at DHT found bytes = huffman_segment found bytes
-segment_at SOS found bytes = scan_segment found bytes
-segment_at EOI found bytes = end_segment found bytes
-segment_at (APP number) found bytes = skipped_segment found bytes
-segment_at COM found bytes = skipped_segment found bytes
-segment_at _ found bytes = Err Malformed
+-- A restart marker behind a scan is ignored, once.
+abbrev pub stray_restart : Before → Found → List ℕ → Outcome Turn
+stray_restart Elsewhere found bytes = Err Malformed
+stray_restart FirstScan found bytes = Ok (onward found, bytes)
+stray_restart LaterScan found bytes = Ok (onward found, bytes)
+
+-- A DNL segment behind the first scan would tell the height.
+abbrev pub line_count : Before → Outcome Turn
+line_count FirstScan = Err (Lacks features.DNL)
+line_count LaterScan = Err Malformed
+line_count Elsewhere = Err Malformed
+
+-- Behind a marker. SOI, TEM, RES, JPG and JPGn have no place here.
+unfoldable pub segment_at : Marker → Before → Found → List ℕ → Outcome Turn
+segment_at (SOF number) before found bytes = frame_segment number found bytes
+segment_at DQT before found bytes = quantization_segment found bytes
+segment_at DHT before found bytes = huffman_segment found bytes
+segment_at SOS before found bytes = scan_segment found bytes
+segment_at EOI before found bytes = end_segment found bytes
+segment_at DRI before found bytes = restart_segment found bytes
+segment_at (APP number) before found bytes = application_segment number found bytes
+segment_at COM before found bytes = skipped_segment found bytes
+segment_at (RST n) before found bytes = stray_restart before found bytes
+segment_at DNL before found bytes = line_count before
+segment_at DAC before found bytes = Err (Lacks features.ArithmeticEntropyCoding)
+segment_at DHP before found bytes = Err (Lacks features.Hierarchical)
+segment_at EXP before found bytes = Err (Lacks features.Hierarchical)
+segment_at _ before found bytes = Err Malformed
 
 -- the marker that is met, or else the next
 abbrev pub marker_or : Option Marker → List ℕ → Outcome Marker
 marker_or (Some m) bytes = Ok (m, bytes)
 marker_or None bytes = next_marker bytes
 
-unfoldable pub turn_at : Found → Option Marker → List ℕ → Outcome Turn
-turn_at found met bytes = do
+unfoldable pub turn_at : Before → Found → Option Marker → List ℕ → Outcome Turn
+turn_at before found met bytes = do
   m ← marker_or met bytes
-  segment_at m.0 found m.1
+  segment_at m.0 before found m.1
 
--- Segments and scans up to the end of the image. Each takes at least one byte.
-unfoldable pub segments_within : ℕ → Found → Option Marker → List ℕ → Outcome Found
-segments_within zero found met bytes = Err End
-segments_within (suc turns) found met bytes =
-    turn_at found met bytes >>= (λ t. if t.0.ended then Ok (t.0.found, t.1) else segments_within turns t.0.found t.0.met t.1)
+-- Segments and scans up to the end of the image, or, where the header is wanted alone, up to the frame. Each takes at least one byte.
+unfoldable pub segments_within : ℕ → Bool → Before → Found → Option Marker → List ℕ → Outcome Found
+segments_within zero header before found met bytes = Err End
+segments_within (suc turns) header before found met bytes =
+    if header && is_some found.frame then Ok (found, bytes) else
+    turn_at before found met bytes >>= (λ t.
+    if t.0.ended then Ok (t.0.found, t.1) else segments_within turns header t.0.before t.0.found t.0.met t.1)
 
-unfoldable pub segments_at : Found → Option Marker → List ℕ → Outcome Found
-segments_at found met bytes = segments_within (suc (length bytes)) found met bytes
+unfoldable pub segments_at : Bool → Before → Found → Option Marker → List ℕ → Outcome Found
+segments_at header before found met bytes = segments_within (suc (length bytes)) header before found met bytes
 
--- what they have said by the end or the refusal
-unfoldable pub told_within : ℕ → Found → Option Marker → List ℕ → Found
-told_within zero found met bytes = found
-told_within (suc turns) found met bytes =
-    elim (turn_at found met bytes) [ Err fault ↦ found | Ok t ↦ if t.0.ended then t.0.found else told_within turns t.0.found t.0.met t.1 ]
+-- what they have said by the end, the frame or the refusal
+unfoldable pub told_within : ℕ → Bool → Before → Found → Option Marker → List ℕ → Found
+told_within zero header before found met bytes = found
+told_within (suc turns) header before found met bytes =
+    if header && is_some found.frame then found else
+    elim (turn_at before found met bytes) [
+      | Err fault ↦ found
+      | Ok t ↦ if t.0.ended then t.0.found else told_within turns header t.0.before t.0.found t.0.met t.1
+    ]
 
-unfoldable pub told_at : Found → Option Marker → List ℕ → Found
-told_at found met bytes = told_within (suc (length bytes)) found met bytes
+unfoldable pub told_at : Bool → Before → Found → Option Marker → List ℕ → Found
+told_at header before found met bytes = told_within (suc (length bytes)) header before found met bytes
 
 -- A stream begins with FF D8.
 unfoldable pub start_at : List ℕ → Outcome (Unit {0})
@@ -174,6 +299,12 @@ start_at bytes = do
   if first.0 == 255 then (do
     second ← next_byte first.1
     if second.0 == 216 then Ok (tt, second.1) else Err Malformed) else Err Malformed
+
+-- The header of a stream: all through the frame's segment.
+unfoldable pub header_at : List ℕ → Outcome Found
+header_at bytes = do
+  start ← start_at bytes
+  segments_at true Elsewhere nothing_found None start.1
 
 -- ---- the picture
 
@@ -187,7 +318,7 @@ unfoldable pub picture_of : Settings → Found → Result (List ℕ) Fault
 picture_of settings found = do
   frame ← needed found.frame
   component ← needed (first_of frame.components)
-  if nat_lt settings.limit (frame.output_width * frame.output_height) then Err Malformed else (do
+  if nat_lt settings.limit (length frame.components * (frame.output_width * frame.output_height)) then Err Malformed else (do
     plane ← needed (slice_index_or found.planes 0 None)
     Ok (picture_in frame component plane))
 
@@ -195,14 +326,23 @@ picture_of settings found = do
 abbrev pub without_planes : Found → Found
 without_planes found = record found { planes = replicate 4 None }
 
+-- The rest of a stream behind its start or its header: what its segments have said, and its picture.
+unfoldable pub rest_at : Settings → Found → List ℕ → Outcome (Found × List ℕ)
+rest_at settings found bytes = do
+  all ← segments_at false Elsewhere found None bytes
+  picture ← picture_of settings all.0
+  Ok ((without_planes all.0, picture), all.1)
+
 -- The meaning of a stream: what its segments have said, and its picture.
 unfoldable pub meaning : Settings → List ℕ → Outcome (Found × List ℕ)
 meaning settings bytes = do
   start ← start_at bytes
-  all ← segments_at nothing_found None start.1
-  picture ← picture_of settings all.0
-  Ok ((without_planes all.0, picture), all.1)
+  rest_at settings nothing_found start.1
 
--- what a stream has said by its end or its refusal
-unfoldable pub told_by_stream : List ℕ → Found
-told_by_stream bytes = elim (start_at bytes) [ Err fault ↦ nothing_found | Ok start ↦ without_planes (told_at nothing_found None start.1) ]
+-- what a header, or the rest of a stream, has said by its end or its refusal
+abbrev pub told_rest : Bool → Found → List ℕ → Found
+told_rest header found bytes = without_planes (told_at header Elsewhere found None bytes)
+
+-- what a stream has said by the end of its header, or its own, or by the refusal
+unfoldable pub told_by_stream : Bool → List ℕ → Found
+told_by_stream header bytes = elim (start_at bytes) [ Err fault ↦ nothing_found | Ok start ↦ told_rest header nothing_found start.1 ]

@@ -1,15 +1,19 @@
 //! The decoder and its states.
-ghost use Rattle.std.specs.Prelude.{◌≡◌, IfOk, IfErr, option_map, Err, false};
+ghost use Rattle.std.specs.Prelude.{◌≡◌, if◌then◌else◌, IfOk, IfErr, MatchResult, option_map, Err, true, false};
 ghost use Rattle.jpeg_bits.specs.Reading.{Answers};
 ghost use Rattle.jpeg_bits.specs.Stream.{stream_of};
 ghost use Rattle.jpeg_bits.specs.declared.error.Error.TheVariants.{OutOfMemory};
-ghost use Rattle.jpeg_decoder.specs.Stream.{nothing_found, meaning, told_by_stream};
-ghost use Rattle.jpeg_decoder.specs.States.{Decoding, MovesToEnd, OnTold, Fresh};
-ghost use Rattle.jpeg_decoder.specs.Seen.{info_of};
+ghost use Rattle.jpeg_decoder.specs.Stream.{nothing_found, header_at};
+ghost use Rattle.jpeg_decoder.specs.States.{Decoding, MovesToHeader, MovesToEnd, IsReading, ahead, told_ahead, OnTold, Fresh};
+ghost use Rattle.jpeg_decoder.specs.Seen.{format_of, info_of};
+ghost use Rattle.jpeg_decoder.specs.declared.decoder.Progress.TheVariants.{Failed};
 ghost use Rattle.jpeg_segments.specs.FrameView.{frame_in};
 ghost use Rattle.jpeg_decoder.specs.Output.{default_settings};
+ghost use Rattle.jpeg_decoder.specs.Profile.{profile_of};
+ghost use Rattle.std.specs.Option.{option_copied};
 
-use crate::picture::read_stream;
+use crate::picture::{read_header, read_rest, read_stream};
+use crate::profile::profile;
 use crate::state::{Settings, State};
 pub use jpeg_bits::color_transform::ColorTransform;
 use jpeg_bits::error::{Error, Result};
@@ -59,18 +63,31 @@ pub struct ImageInfo {
     pub coding_process: CodingProcess,
 }
 
-/// What a frame of one component tells.
+/// The format of so many components at a precision.
+fn format_of(count: usize, precision: u8) -> PixelFormat
+    ensures { result ≡ format_of count precision }
+{
+    match count {
+        3 => PixelFormat::RGB24,
+        4 => PixelFormat::CMYK32,
+        _ => {
+            if precision <= 8 {
+                PixelFormat::L8
+            } else {
+                PixelFormat::L16
+            }
+        }
+    }
+}
+
+/// What a frame tells.
 fn info_of(frame: &FrameInfo) -> ImageInfo
     ensures { result ≡ info_of (frame_in frame.now) }
 {
     ImageInfo {
         width: frame.output_size.width,
         height: frame.output_size.height,
-        pixel_format: if frame.precision <= 8 {
-            PixelFormat::L8
-        } else {
-            PixelFormat::L16
-        },
+        pixel_format: format_of(frame.components.len(), frame.precision),
         coding_process: frame.coding_process,
     }
 }
@@ -79,8 +96,16 @@ fn info_of(frame: &FrameInfo) -> ImageInfo
 #[derive(Clone, Copy, Debug, PartialEq)]
 enum Progress {
     Fresh,
+    HeaderRead,
     Finished,
     Failed,
+}
+
+/// How far a decoder has come behind a call: a refusal fails it.
+fn progress_behind(is_ok: bool, progress: Progress) -> Progress
+    ensures { result ≡ (if is_ok then progress else Failed) }
+{
+    if is_ok { progress } else { Progress::Failed }
 }
 
 /// Decodes one stream.
@@ -127,8 +152,11 @@ impl<R: Read + Drop> Decoder<R> {
             alloc,
             source: Source::new(reader),
             progress: Progress::Fresh,
-            state: State::new(),
-            settings: Settings { limit: usize::MAX },
+            state: State::new(alloc),
+            settings: Settings {
+                limit: usize::MAX,
+                color_transform: None,
+            },
         })
     }
 
@@ -139,16 +167,79 @@ impl<R: Read + Drop> Decoder<R> {
         self.state.frame.as_ref().map(|frame| info_of(frame))
     }
 
+    /// The colour transform of a picture of several components, in place of the one that its segments tell. One that does not fit is refused
+    /// by `decode`.
+    pub fn set_color_transform(&mut self, transform: ColorTransform)
+        ensures { self.new ≡ record self.old { settings = record self.old.settings { color_transform = Some transform } } }
+    {
+        self.settings.color_transform = Some(transform);
+    }
+
+    /// The bytes of a picture that are decoded at most. A picture of more is refused by `decode`.
+    pub fn set_max_decoding_buffer_size(&mut self, max: usize)
+        ensures { self.new ≡ record self.old { settings = record self.old.settings { limit = max } } }
+    {
+        self.settings.limit = max;
+    }
+
+    /// The last Exif data that was read. Tells it in every state.
+    pub fn exif_data(&self) -> Option<&[u8]>
+        ensures { option_copied result ≡ self.now.found.metadata.exif }
+    {
+        self.state
+            .metadata
+            .exif
+            .as_ref()
+            .map(|bytes| bytes.as_slice())
+    }
+
+    /// The last XMP data that was read. Tells it in every state.
+    pub fn xmp_data(&self) -> Option<&[u8]>
+        ensures { option_copied result ≡ self.now.found.metadata.xmp }
+    {
+        self.state
+            .metadata
+            .xmp
+            .as_ref()
+            .map(|bytes| bytes.as_slice())
+    }
+
+    /// The ICC profile that was read (ICC.1, Annex B.4), where all its parts were. The only error is want of memory.
+    pub fn icc_profile(&self) -> Result<Option<Vec<u8>>>
+        ensures { MatchResult result (λ o. option_map (λ v. v.items) o ≡ profile_of self.now.found.metadata.icc) (λ e. e ≡ OutOfMemory) }
+    {
+        profile(self.alloc, self.state.metadata.icc.as_slice())
+    }
+
+    /// Reads through the frame's segment, so that `info` tells of the picture. Once it is read, nothing more is read.
+    ///
+    /// Answers `Internal` where the decoder has failed, and nowhere else. A refusal leaves a failed decoder.
+    pub fn read_info(&mut self) -> Result<()>
+        ensures stage { MovesToHeader self.old.stage self.new.stage result }
+        ensures reads { self.old.stage ≡ Fresh → Answers (λ _. self.new.found) header_at self.old.source result self.new.source }
+        ensures told { self.old.stage ≡ Fresh → OnTold self.old.source self.new.source result (self.new.found ≡ told_ahead true self.old.stage self.old.found self.old.source.bytes) }
+        ensures settings { self.new.settings ≡ self.old.settings }
+        ensures still { (self.old.stage ≡ Fresh → ⊥) → self.new ≡ self.old }
+    {
+        let result = match self.progress {
+            Progress::Fresh => read_header(self.alloc, &mut self.source, &mut self.state),
+            Progress::HeaderRead | Progress::Finished => return Ok(()),
+            Progress::Failed => return Err(Error::Internal("decoder has failed")),
+        };
+        self.progress = progress_behind(result.is_ok(), Progress::HeaderRead);
+        result
+    }
+
     /// Reads through the end of the image and no byte behind it, and gives the picture: its samples line by line.
     ///
     /// Answers `Internal` where the decoder has failed or has decoded its image, and nowhere else. A refusal leaves a failed decoder, but
     /// a finished one stays finished. No samples are kept behind either.
     pub fn decode(&mut self) -> Result<Vec<u8>>
         ensures stage { MovesToEnd self.old.stage self.new.stage result }
-        ensures reads { self.old.stage ≡ Fresh → Answers (λ v. (self.new.found, v.items)) (meaning self.old.settings) self.old.source result self.new.source }
-        ensures told { self.old.stage ≡ Fresh → OnTold self.old.source self.new.source result (self.new.found ≡ told_by_stream self.old.source.bytes) }
+        ensures reads { IsReading self.old.stage → Answers (λ v. (self.new.found, v.items)) (ahead self.old.stage self.old.settings self.old.found) self.old.source result self.new.source }
+        ensures told { IsReading self.old.stage → OnTold self.old.source self.new.source result (self.new.found ≡ told_ahead false self.old.stage self.old.found self.old.source.bytes) }
         ensures settings { self.new.settings ≡ self.old.settings }
-        ensures still { (self.old.stage ≡ Fresh → ⊥) → self.new ≡ self.old }
+        ensures still { (IsReading self.old.stage → ⊥) → self.new ≡ self.old }
     {
         let result = match self.progress {
             Progress::Fresh => read_stream(
@@ -157,14 +248,16 @@ impl<R: Read + Drop> Decoder<R> {
                 &mut self.state,
                 self.settings,
             ),
+            Progress::HeaderRead => read_rest(
+                self.alloc,
+                &mut self.source,
+                &mut self.state,
+                self.settings,
+            ),
             Progress::Finished => return Err(Error::Internal("image was already decoded")),
             Progress::Failed => return Err(Error::Internal("decoder has failed")),
         };
-        self.progress = if result.is_ok() {
-            Progress::Finished
-        } else {
-            Progress::Failed
-        };
+        self.progress = progress_behind(result.is_ok(), Progress::Finished);
         result
     }
 }

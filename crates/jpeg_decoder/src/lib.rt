@@ -2,10 +2,15 @@
 #![tactic(auto)]
 
 mod blocks;
+mod color_choice;
+#[cfg(test)]
+mod color_choice_tests;
 pub mod decoder;
 pub mod laws;
+mod metadata;
 mod picture;
 mod places;
+mod profile;
 pub mod run;
 mod segments;
 mod state;

@@ -1,7 +1,7 @@
 //! A stream from its start to its picture (T.81, B.2).
-ghost use Rattle.std.specs.Prelude.{◌≡◌, ◌*◌, MatchResult};
+ghost use Rattle.std.specs.Prelude.{◌≡◌, ◌*◌, true, false, MatchResult, not, nat_lt};
 ghost use Rattle.jpeg_bits.specs.Reading.{Answers, Names, NamesFormat};
-ghost use Rattle.jpeg_decoder.specs.Stream.{nothing_found, start_at, without_planes, picture_of, meaning, told_by_stream};
+ghost use Rattle.jpeg_decoder.specs.Stream.{nothing_found, start_at, header_at, without_planes, picture_of, rest_at, meaning, told_rest, told_by_stream};
 ghost use Rattle.jpeg_decoder.specs.States.{OnTold};
 ghost use Rattle.jpeg_decoder.specs.Seen.{found_in};
 ghost use Rattle.jpeg_segments.specs.FrameView.{frame_in};
@@ -60,6 +60,16 @@ fn area_of(shape: Shape) -> usize
     usize::from(shape.width) * usize::from(shape.height)
 }
 
+/// Whether so many components of a picture are within a limit.
+fn is_within(limit: usize, count: usize, area: usize) -> bool
+    ensures { result ≡ not (nat_lt limit (count * area)) }
+{
+    match count.checked_mul(area) {
+        Some(size) => size <= limit,
+        None => false,
+    }
+}
+
 /// The samples of a line of the plane.
 fn stride_of(shape: Shape) -> usize
     ensures { result ≡ 8 * shape.blocks }
@@ -86,7 +96,7 @@ fn picture(alloc: Global, state: &mut State, settings: Settings) -> Result<Vec<u
 {
     let frame = needed(alloc, state.frame.as_ref(), "an image without a frame")?;
     let shape = needed(alloc, shape_of(frame), "a frame without a component")?;
-    if settings.limit < area_of(shape) {
+    if !is_within(settings.limit, frame.components.len(), area_of(shape)) {
         return Err(format_error(alloc, "the picture is larger than the limit"));
     }
     let mut plane = needed(alloc, state.planes[0].take(), "an image without samples")?;
@@ -94,24 +104,53 @@ fn picture(alloc: Global, state: &mut State, settings: Settings) -> Result<Vec<u
     Ok(plane)
 }
 
-/// Reads a whole stream and gives its picture.
-#[tactic(auto, unfolding(crate::specs::Stream::meaning, crate::specs::Stream::told_by_stream))]
+/// Reads the header of a stream: all through the frame's segment.
+#[tactic(auto, unfolding(crate::specs::Stream::header_at, crate::specs::Stream::told_by_stream))]
+pub fn read_header<R: Read + Drop>(
+    alloc: Global,
+    source: &mut Source<R>,
+    state: &mut State,
+) -> Result<()>
+    requires { found_in state.old ≡ nothing_found }
+    ensures reads { Answers (λ _. found_in state.new) header_at source.old result source.new }
+    ensures told { OnTold source.old source.new result (found_in state.new ≡ told_by_stream true source.old.bytes) }
+{
+    read_start(alloc, source)?;
+    state.read(alloc, source, true)
+}
+
+/// Reads the rest of a stream and gives its picture.
+#[tactic(auto, unfolding(crate::specs::Stream::rest_at))]
 fn read_picture<R: Read + Drop>(
     alloc: Global,
     source: &mut Source<R>,
     state: &mut State,
     settings: Settings,
 ) -> Result<Vec<u8>>
-    requires { found_in state.old ≡ nothing_found }
-    ensures reads { Answers (λ v. (without_planes (found_in state.new), v.items)) (meaning settings) source.old result source.new }
-    ensures told { OnTold source.old source.new result (without_planes (found_in state.new) ≡ told_by_stream source.old.bytes) }
+    ensures reads { Answers (λ v. (without_planes (found_in state.new), v.items)) (rest_at settings (found_in state.old)) source.old result source.new }
+    ensures told { OnTold source.old source.new result (without_planes (found_in state.new) ≡ told_rest false (found_in state.old) source.old.bytes) }
 {
-    read_start(alloc, source)?;
-    state.read(alloc, source)?;
+    state.read(alloc, source, false)?;
     picture(alloc, state, settings)
 }
 
+/// Reads the rest of a stream, behind its start or its header, and gives its picture. No planes are kept.
+pub fn read_rest<R: Read + Drop>(
+    alloc: Global,
+    source: &mut Source<R>,
+    state: &mut State,
+    settings: Settings,
+) -> Result<Vec<u8>>
+    ensures reads { Answers (λ v. (found_in state.new, v.items)) (rest_at settings (found_in state.old)) source.old result source.new }
+    ensures told { OnTold source.old source.new result (found_in state.new ≡ told_rest false (found_in state.old) source.old.bytes) }
+{
+    let result = read_picture(alloc, source, state, settings);
+    state.planes = [None, None, None, None];
+    result
+}
+
 /// Reads a whole stream and gives its picture. No planes are kept.
+#[tactic(auto, unfolding(crate::specs::Stream::meaning, crate::specs::Stream::told_by_stream))]
 pub fn read_stream<R: Read + Drop>(
     alloc: Global,
     source: &mut Source<R>,
@@ -120,9 +159,8 @@ pub fn read_stream<R: Read + Drop>(
 ) -> Result<Vec<u8>>
     requires { found_in state.old ≡ nothing_found }
     ensures reads { Answers (λ v. (found_in state.new, v.items)) (meaning settings) source.old result source.new }
-    ensures told { OnTold source.old source.new result (found_in state.new ≡ told_by_stream source.old.bytes) }
+    ensures told { OnTold source.old source.new result (found_in state.new ≡ told_by_stream false source.old.bytes) }
 {
-    let result = read_picture(alloc, source, state, settings);
-    state.planes = [None, None, None, None];
-    result
+    read_start(alloc, source)?;
+    read_rest(alloc, source, state, settings)
 }

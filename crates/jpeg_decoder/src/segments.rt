@@ -1,15 +1,18 @@
 //! The segments of a stream, read in turn (T.81, B.2).
-ghost use Rattle.std.specs.Prelude.{◌≡◌, OnErr};
-ghost use Rattle.jpeg_bits.specs.Reading.{Answers, IsShort};
-ghost use Rattle.jpeg_decoder.specs.Stream.{nothing_found, frame_segment, quantization_segment, huffman_segment, skipped_segment, scan_segment, end_segment, segment_at, marker_or, turn_at, segments_at, told_at};
+ghost use Rattle.jpeg_pixels.specs.Pictures.{sources_of};
+ghost use Rattle.std.specs.Prelude.{◌≡◌, ◌&&◌, is_some, None, Ok, MatchResult, OnErr, ◌≤◌, length, map, IsOk};
+ghost use Rattle.jpeg_bits.specs.Reading.{Answers, Names, IsShort};
+ghost use Rattle.jpeg_decoder.specs.Stream.{nothing_found, is_precision, is_arithmetic, is_sequential, accepted, frame_segment, quantization_segment, huffman_segment, restart_segment, application_segment, skipped_segment, scan_before, scan_segment, end_segment, stray_restart, line_count, segment_at, marker_or, turn_at, segments_at, told_at, is_decoded};
 ghost use Rattle.jpeg_decoder.specs.Scans.{grid_of};
-ghost use Rattle.jpeg_segments.specs.Frame.{ceiling};
-ghost use Rattle.jpeg_segments.specs.FrameView.{component_in, scan_in};
+ghost use Rattle.jpeg_decoder.specs.declared.segments.Before.TheVariants.{Elsewhere};
+ghost use Rattle.jpeg_segments.specs.Frame.{ceiling, AllHaveFactors};
+ghost use Rattle.jpeg_segments.specs.FrameView.{component_in, frame_in, scan_in};
 ghost use Rattle.jpeg_decoder.specs.States.{OnTold};
 ghost use Rattle.jpeg_decoder.specs.Seen.{found_in};
-ghost use Rattle.jpeg_decoder.specs.Steps.{turn_of, coded_plane, scan_plane};
+ghost use Rattle.jpeg_decoder.specs.Steps.{turn_of, coded_plane, scan_plane, is_restart, behind_all, whole_scan, IsRefusal};
 
 use crate::blocks::{Grid, read_plane};
+use crate::metadata::Metadata;
 use crate::places::{decide, named_table, needed, table_at, update};
 use crate::state::State;
 use jpeg_bits::error::{Error, Result, UnsupportedFeature};
@@ -17,19 +20,33 @@ use jpeg_bits::marker::{Marker, read_marker};
 use jpeg_bits::reads::{format_error, read_length, skip};
 use jpeg_bits::scan::ScanInfo;
 use jpeg_bits::source::Source;
-use jpeg_segments::parser::{Component, parse_dht, parse_dqt, parse_sof, parse_sos};
+use jpeg_pixels::upsampler::Upsampler;
+use jpeg_segments::parser::{
+    CodingProcess, Component, EntropyCoding, FrameInfo, parse_app, parse_dht, parse_dqt, parse_dri,
+    parse_sof, parse_sos,
+};
 use std::alloc::Global;
 use std::io::Read;
 
-/// What stands behind a segment: the marker that was met already, if one was, and whether the image has ended.
+/// What stands before a marker.
+#[derive(Clone, Copy, Debug, PartialEq)]
+pub enum Before {
+    FirstScan,
+    LaterScan,
+    Elsewhere,
+}
+
+/// What stands behind a segment: what stands before the next marker, that marker, if it was met already, and whether the image has ended.
 #[derive(Clone, Copy, Debug, PartialEq)]
 pub struct Step {
+    pub before: Before,
     pub met: Option<Marker>,
     pub ended: bool,
 }
 
 /// What stands behind a segment that ends before the next marker.
 const ONWARD: Step = Step {
+    before: Before::Elsewhere,
     met: None,
     ended: false,
 };
@@ -37,7 +54,7 @@ const ONWARD: Step = Step {
 impl State {
     /// The state at the start of a stream.
     #[tactic(auto, unfolding(crate::specs::Stream::nothing_found))]
-    pub fn new() -> State
+    pub fn new(alloc: Global) -> State
         ensures { found_in result ≡ nothing_found }
     {
         State {
@@ -45,6 +62,9 @@ impl State {
             quantization: [None; 4],
             dc_tables: [None, None, None, None],
             ac_tables: [None, None, None, None],
+            restart_interval: 0,
+            scanned: false,
+            metadata: Metadata::new(alloc),
             planes: [None, None, None, None],
         }
     }
@@ -63,13 +83,8 @@ impl State {
         if self.frame.is_some() {
             return Err(Error::Unsupported(UnsupportedFeature::Hierarchical));
         }
-        if number > 1 {
-            return Err(format_error(alloc, "a frame of a process that is not decoded"));
-        }
         let frame = parse_sof(alloc, source, Marker::SOF(number))?;
-        if frame.precision != 8 {
-            return Err(Error::Unsupported(UnsupportedFeature::SamplePrecision(frame.precision)));
-        }
+        check_frame(alloc, &frame)?;
         self.frame = Some(frame);
         Ok(ONWARD)
     }
@@ -106,6 +121,36 @@ impl State {
         Ok(ONWARD)
     }
 
+    /// A restart interval (T.81, B.2.4.4).
+    #[tactic(auto, unfolding(crate::specs::Stream::restart_segment))]
+    fn read_restart<R: Read + Drop>(
+        &mut self,
+        alloc: Global,
+        source: &mut Source<R>,
+    ) -> Result<Step>
+        ensures reads { Answers (turn_of self.new) (restart_segment (found_in self.old)) source.old result source.new }
+        ensures kept { OnErr result (found_in self.new ≡ found_in self.old) }
+    {
+        self.restart_interval = parse_dri(alloc, source)?;
+        Ok(ONWARD)
+    }
+
+    /// Data of an application (T.81, B.2.4.6).
+    #[tactic(auto, unfolding(crate::specs::Stream::application_segment))]
+    fn read_application<R: Read + Drop>(
+        &mut self,
+        alloc: Global,
+        source: &mut Source<R>,
+        number: u8,
+    ) -> Result<Step>
+        ensures reads { Answers (turn_of self.new) (application_segment number (found_in self.old)) source.old result source.new }
+        ensures kept { OnErr result (found_in self.new ≡ found_in self.old) }
+    {
+        let said = parse_app(alloc, source, Marker::APP(number))?;
+        self.metadata.add(said)?;
+        Ok(ONWARD)
+    }
+
     /// A segment that is passed over.
     #[tactic(auto, unfolding(crate::specs::Stream::skipped_segment))]
     fn skip_segment<R: Read + Drop>(&self, alloc: Global, source: &mut Source<R>) -> Result<Step>
@@ -125,6 +170,7 @@ impl State {
             return Err(format_error(alloc, "an end of image without a frame"));
         }
         Ok(Step {
+            before: Before::Elsewhere,
             met: None,
             ended: true,
         })
@@ -157,7 +203,8 @@ impl State {
         )
     }
 
-    /// A scan's header (T.81, B.2.3), and its samples.
+    /// A scan's header (T.81, B.2.3), and its samples. Scans of progressive and lossless frames, and those under a restart interval, are
+    /// refused for now.
     #[tactic(auto, unfolding(crate::specs::Steps::scan_plane))]
     fn read_scan_plane<R: Read + Drop>(
         &self,
@@ -168,6 +215,9 @@ impl State {
     {
         let frame = needed(alloc, self.frame.as_ref(), "a scan without a frame")?;
         let scan = parse_sos(alloc, source, frame)?;
+        if !self.is_decoded(frame) {
+            return Err(format_error(alloc, "a scan that is not decoded"));
+        }
         let component = needed(
             alloc,
             frame.components.first(),
@@ -176,15 +226,68 @@ impl State {
         self.read_coded(alloc, source, component, &scan)
     }
 
-    /// A scan. The first one of a component decides its plane.
+    /// Whether the scans of a frame are decoded.
+    fn is_decoded(&self, frame: &FrameInfo) -> bool
+        ensures { result ≡ is_decoded (found_in self.now) (frame_in frame.now) }
+    {
+        is_sequential(frame.coding_process)
+            && (self.restart_interval == 0 && frame.components.len() == 1)
+    }
 
+    /// A scan's samples, and the marker behind it and the restart markers at its end.
+    #[tactic(auto, unfolding(crate::specs::Steps::whole_scan))]
+    fn read_whole_scan<R: Read + Drop>(
+        &self,
+        alloc: Global,
+        source: &mut Source<R>,
+    ) -> Result<(Vec<u8>, Option<Marker>)>
+        ensures { Answers (λ r. (r.0.items, r.1)) (whole_scan (found_in self.now)) source.old result source.new }
+    {
+        let (plane, met) = self.read_scan_plane(alloc, source)?;
+        let met = pass_restarts(alloc, source, met)?;
+        Ok((plane, met))
+    }
+
+    /// What a scan is to the marker behind it.
+    fn scan_before(&self) -> Before
+        ensures { result ≡ scan_before (found_in self.now) }
+    {
+        if self.scanned {
+            Before::LaterScan
+        } else {
+            Before::FirstScan
+        }
+    }
+
+    /// A scan. The first one of a component decides its plane.
     fn read_scan<R: Read + Drop>(&mut self, alloc: Global, source: &mut Source<R>) -> Result<Step>
         ensures reads { Answers (turn_of self.new) (scan_segment (found_in self.old)) source.old result source.new }
         ensures kept { OnErr result (found_in self.new ≡ found_in self.old) }
     {
-        let (plane, met) = self.read_scan_plane(alloc, source)?;
+        let (plane, met) = self.read_whole_scan(alloc, source)?;
+        let before = self.scan_before();
         decide(&mut self.planes, plane);
-        Ok(Step { met, ended: false })
+        self.scanned = true;
+        Ok(Step {
+            before,
+            met,
+            ended: false,
+        })
+    }
+
+    /// A restart marker behind a scan is ignored, once.
+    fn stray_restart<R: Read + Drop>(
+        &self,
+        alloc: Global,
+        source: &mut Source<R>,
+        before: Before,
+    ) -> Result<Step>
+        ensures { Answers (turn_of self.now) (stray_restart before (found_in self.now)) source.old result source.new }
+    {
+        match before {
+            Before::FirstScan | Before::LaterScan => Ok(ONWARD),
+            Before::Elsewhere => Err(format_error(alloc, "a restart marker outside a scan")),
+        }
     }
 
     /// What stands behind a marker.
@@ -194,8 +297,9 @@ impl State {
         alloc: Global,
         source: &mut Source<R>,
         marker: Marker,
+        before: Before,
     ) -> Result<Step>
-        ensures reads { Answers (turn_of self.new) (segment_at marker (found_in self.old)) source.old result source.new }
+        ensures reads { Answers (turn_of self.new) (segment_at marker before (found_in self.old)) source.old result source.new }
         ensures kept { OnErr result (found_in self.new ≡ found_in self.old) }
     {
         match marker {
@@ -204,8 +308,14 @@ impl State {
             Marker::DHT => self.read_huffman(alloc, source),
             Marker::SOS => self.read_scan(alloc, source),
             Marker::EOI => self.end(alloc, source),
-            Marker::APP(_) | Marker::COM => self.skip_segment(alloc, source),
-            _ => Err(format_error(alloc, "a marker that is not decoded")),
+            Marker::DRI => self.read_restart(alloc, source),
+            Marker::APP(number) => self.read_application(alloc, source, number),
+            Marker::COM => self.skip_segment(alloc, source),
+            Marker::RST(_) => self.stray_restart(alloc, source, before),
+            Marker::DNL => Err(refused_line_count(alloc, before)),
+            Marker::DAC => Err(Error::Unsupported(UnsupportedFeature::ArithmeticEntropyCoding)),
+            Marker::DHP | Marker::EXP => Err(Error::Unsupported(UnsupportedFeature::Hierarchical)),
+            _ => Err(format_error(alloc, "a marker that has no place here")),
         }
     }
 
@@ -215,27 +325,45 @@ impl State {
         &mut self,
         alloc: Global,
         source: &mut Source<R>,
+        before: Before,
         met: Option<Marker>,
     ) -> Result<Step>
-        ensures reads { Answers (turn_of self.new) (turn_at (found_in self.old) met) source.old result source.new }
+        ensures reads { Answers (turn_of self.new) (turn_at before (found_in self.old) met) source.old result source.new }
         ensures kept { OnErr result (found_in self.new ≡ found_in self.old) }
         ensures short { met ≡ None → IsShort source.old }
     {
         let marker = marker_or_next(alloc, source, met)?;
-        self.read_segment(alloc, source, marker)
+        self.read_segment(alloc, source, marker, before)
     }
 
-    /// Reads segments and scans up to the end of the image.
-    pub fn read<R: Read + Drop>(&mut self, alloc: Global, source: &mut Source<R>) -> Result<()>
-        ensures reads { Answers (λ _. found_in self.new) (segments_at (found_in self.old) None) source.old result source.new }
-        ensures told { OnTold source.old source.new result (found_in self.new ≡ told_at (found_in self.old) None source.old.bytes) }
+    /// Whether the frame was read, where the header is wanted alone.
+    fn is_read_for(&self, header: bool) -> bool
+        ensures { result ≡ (header && is_some (found_in self.now).frame) }
     {
+        header && self.frame.is_some()
+    }
+
+    /// Reads segments and scans up to the end of the image, or, where the header is wanted alone, through the frame's segment.
+    pub fn read<R: Read + Drop>(
+        &mut self,
+        alloc: Global,
+        source: &mut Source<R>,
+        header: bool,
+    ) -> Result<()>
+        ensures reads { Answers (λ _. found_in self.new) (segments_at header Elsewhere (found_in self.old) None) source.old result source.new }
+        ensures told { OnTold source.old source.new result (found_in self.new ≡ told_at header Elsewhere (found_in self.old) None source.old.bytes) }
+    {
+        let mut before = Before::Elsewhere;
         let mut met = None;
         for _ in 0..=u64::MAX {
-            let step = self.read_turn(alloc, source, met)?;
+            if self.is_read_for(header) {
+                return Ok(());
+            }
+            let step = self.read_turn(alloc, source, before, met)?;
             if step.ended {
                 return Ok(());
             }
+            before = step.before;
             met = step.met;
         }
         Err(format_error(alloc, "segments without end"))
@@ -255,6 +383,109 @@ fn marker_or_next<R: Read + Drop>(
         Some(marker) => Ok(marker),
         None => read_marker(alloc, source),
     }
+}
+
+/// Whether a frame's entropy coding is arithmetic.
+fn is_arithmetic(coding: EntropyCoding) -> bool
+    ensures { result ≡ is_arithmetic coding }
+{
+    match coding {
+        EntropyCoding::Huffman => false,
+        EntropyCoding::Arithmetic => true,
+    }
+}
+
+/// Whether a frame is sequential.
+fn is_sequential(process: CodingProcess) -> bool
+    ensures { result ≡ is_sequential process }
+{
+    match process {
+        CodingProcess::DctSequential => true,
+        CodingProcess::DctProgressive | CodingProcess::Lossless => false,
+    }
+}
+
+/// Whether frames of a process are decoded at a precision: 8 bits, or in a lossless frame 2 to 16.
+fn is_precision(process: CodingProcess, precision: u8) -> bool
+    ensures { result ≡ is_precision process precision }
+{
+    match process {
+        CodingProcess::DctSequential | CodingProcess::DctProgressive => precision == 8,
+        CodingProcess::Lossless => precision >= 2 && precision <= 16,
+    }
+}
+
+/// Checks that each component has a way to upsample it.
+fn check_ratios(alloc: Global, frame: &FrameInfo) -> Result<()>
+    requires some { 1 ≤ length frame.now.components.items }
+    requires most { length frame.now.components.items ≤ 4 }
+    requires factors { AllHaveFactors (map component_in frame.now.components.items) }
+    ensures { MatchResult result
+        (λ _. IsOk (sources_of (frame_in frame.now).components (frame_in frame.now).output_width (frame_in frame.now).output_height))
+        (λ e. IsRefusal e × Names e (sources_of (frame_in frame.now).components (frame_in frame.now).output_width (frame_in frame.now).output_height)) }
+{
+    let size = frame.output_size;
+    Upsampler::new(alloc, &frame.components, size.width, size.height)?;
+    Ok(())
+}
+
+/// Checks that a frame is one that is decoded.
+#[tactic(auto, unfolding(crate::specs::Stream::accepted))]
+fn check_frame(alloc: Global, frame: &FrameInfo) -> Result<()>
+    requires { AllHaveFactors (map component_in frame.now.components.items) }
+    ensures { MatchResult result (λ _. accepted (frame_in frame.now) ≡ Ok (frame_in frame.now)) (λ e. IsRefusal e × Names e (accepted (frame_in frame.now))) }
+{
+    if frame.is_differential {
+        return Err(Error::Unsupported(UnsupportedFeature::Hierarchical));
+    }
+    if is_arithmetic(frame.entropy_coding) {
+        return Err(Error::Unsupported(UnsupportedFeature::ArithmeticEntropyCoding));
+    }
+    if !is_precision(frame.coding_process, frame.precision) {
+        return Err(Error::Unsupported(UnsupportedFeature::SamplePrecision(frame.precision)));
+    }
+    let count = frame.components.len();
+    if !(count == 1 || (count == 3 || count == 4)) {
+        return Err(Error::Unsupported(UnsupportedFeature::ComponentCount(count.min(255) as u8)));
+    }
+    check_ratios(alloc, frame)
+}
+
+/// Why a DNL segment is refused: behind the first scan it would tell the height.
+fn refused_line_count(alloc: Global, before: Before) -> Error
+    ensures { IsRefusal result × Names result (line_count before) }
+{
+    match before {
+        Before::FirstScan => Error::Unsupported(UnsupportedFeature::DNL),
+        Before::LaterScan | Before::Elsewhere => {
+            format_error(alloc, "a number of lines that is not behind the first scan")
+        }
+    }
+}
+
+/// Passes over restart markers behind a scan, and gives the marker behind them, if it is met.
+fn pass_restarts<R: Read + Drop>(
+    alloc: Global,
+    source: &mut Source<R>,
+    met: Option<Marker>,
+) -> Result<Option<Marker>>
+    ensures { Answers (λ m. m) (behind_all met) source.old result source.new }
+{
+    let mut met = met;
+    for _ in 0..=u64::MAX {
+        if !is_restart(met) {
+            return Ok(met);
+        }
+        met = Some(read_marker(alloc, source)?);
+    }
+    Err(format_error(alloc, "restart markers without end"))
+}
+
+/// Whether a restart marker is met.
+fn is_restart(met: Option<Marker>) -> bool
+    ensures { result ≡ is_restart met }
+{
+    matches!(met, Some(Marker::RST(_)))
 }
 
 /// The blocks that some samples take.

@@ -2,6 +2,8 @@
 ghost use Rattle.std.specs.Prelude.{◌≡◌, true};
 ghost use Rattle.jpeg_segments.specs.HuffmanTables.{all_ac};
 
+use crate::metadata::Metadata;
+use jpeg_bits::color_transform::ColorTransform;
 use jpeg_bits::huffman::HuffmanTable;
 use jpeg_segments::parser::FrameInfo;
 
@@ -10,6 +12,8 @@ use jpeg_segments::parser::FrameInfo;
 pub struct Settings {
     /// The greatest number of bytes of a picture.
     pub limit: usize,
+    /// The colour transform of pictures of several components, where the segments are not to choose it.
+    pub color_transform: Option<ColorTransform>,
 }
 
 /// What the segments of a stream have said so far: the frame, the tables in force by their places, and the planes that are decided, by the
@@ -20,6 +24,11 @@ pub struct State {
     pub quantization: [Option<[u16; 64]>; 4],
     pub dc_tables: [Option<HuffmanTable>; 4],
     pub ac_tables: [Option<HuffmanTable>; 4],
+    /// The restart interval in MCUs; 0 is none.
+    pub restart_interval: u16,
+    /// Whether a scan was read.
+    pub scanned: bool,
+    pub metadata: Metadata,
     pub planes: [Option<Vec<u8>>; 4],
 
     // Each AC table is of class AC.

@@ -4,7 +4,7 @@ ghost use Rattle.jpeg_bits.specs.Reading.{Malformed, Lacks, End};
 ghost use Rattle.jpeg_bits.specs.declared.error.UnsupportedFeature.TheVariants.{DNL};
 ghost use Rattle.jpeg_decoder.specs.Worked.{picture_meant, stream_with, stream_without_height, stream_of_one_coefficient, lines_of};
 
-/// Eight streams and what they mean.
+/// Ten streams and what they mean.
 pub fn known_streams()
     // A block of one coefficient, DC 8, is 64 samples of 129.
     ensures flat { picture_meant (stream_with 8 (67 ∷ [])) ≡ Ok (replicate 64 129) }
@@ -18,6 +18,12 @@ pub fn known_streams()
     // FF FF 00 is refused where at most 56 bits stand before it, and passed over where it stands behind more.
     ensures met { picture_meant (stream_with 8 (67 ∷ replicate 6 0 ++ (255 ∷ 255 ∷ 0 ∷ []))) ≡ Err Malformed }
     ensures passed { picture_meant (stream_with 8 (67 ∷ replicate 7 0 ++ (255 ∷ 255 ∷ 0 ∷ []))) ≡ Ok (replicate 64 129) }
+
+    // Restart markers at a scan's end are passed over.
+    ensures restarts { picture_meant (stream_with 8 (67 ∷ 255 ∷ 208 ∷ 255 ∷ 215 ∷ [])) ≡ Ok (replicate 64 129) }
+
+    // A DNL segment behind the first scan is refused by name.
+    ensures lines { picture_meant (stream_with 8 (67 ∷ 255 ∷ 220 ∷ 0 ∷ 4 ∷ 0 ∷ 8 ∷ [])) ≡ Err (Lacks DNL) }
 
     // A frame without a height is refused by name.
     ensures no_height { picture_meant (stream_without_height 67) ≡ Err (Lacks DNL) }

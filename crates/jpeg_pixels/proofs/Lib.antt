@@ -3,8 +3,17 @@ pub mod Columns
 pub mod Residues
 pub mod Sums
 pub mod FlatBlocks
+pub mod ComponentLines
 pub mod CroppedLines
+pub mod Greys
+pub mod JoinedLines
+pub mod LinesOfColour
+pub mod Pieces
 pub mod PlaneRows
 pub mod Rows
+pub mod SourceLists
 pub mod Strips
+pub mod UpsampledEnds
+pub mod UpsampledRows
+pub mod WholePictures
 pub mod ZigzagPlaces

@@ -1,10 +1,15 @@
 //! What the definitions of samples mean in plain words, each a theorem on a function without a body.
-ghost use Rattle.std.specs.Prelude.{◌≡◌, ℕ, ◌+◌, ◌<◌, ◌≤◌, List, [], ◌∷◌, ◌++◌, map, replicate, slice_index, ℤ, pos, ◌+ℤ◌, unsigned_abs};
+ghost use Rattle.std.specs.Prelude.{◌≡◌, ℕ, ◌+◌, ◌-◌, ◌*◌, ◌<◌, ◌≤◌, List, [], ◌∷◌, ◌++◌, map, replicate, slice_index, ℤ, pos, ◌+ℤ◌, unsigned_abs};
 ghost use Rattle.std.specs.List.{range_with_len};
 ghost use Rattle.std.specs.Int.{int_shr};
 ghost use Rattle.jpeg_pixels.specs.Samples.{HasFirstOnly, clamped, dequantized, sample};
 ghost use Rattle.jpeg_pixels.specs.Planes.{plane_of, strip_of};
+ghost use Rattle.jpeg_pixels.specs.Colour.{colour_of, line_bytes};
+ghost use Rattle.jpeg_pixels.specs.declared.upsampler.ColorConvert.TheVariants.{None, Rgb, YCbCr, Cmyk, Ycck};
 ghost use Rattle.jpeg_pixels.specs.Zigzag.{zigzag, zigzag_places};
+ghost use Rattle.jpeg_pixels.specs.Upsampling.{across, down, upsampled};
+ghost use Rattle.jpeg_pixels.specs.declared.upsampler.UpsampleRule.{UpsampleRule};
+ghost use Rattle.jpeg_pixels.specs.declared.upsampler.UpsampleRule.TheVariants.{H1V1, H2V1, H1V2, H2V2, Generic};
 
 /// A block whose only coefficient is the first has 64 times the same sample.
 pub fn flat_blocks_are_flat()
@@ -53,4 +58,54 @@ pub fn known_blocks()
         ∷ 0 ∷ 255 ∷ 0 ∷ 0 ∷ 255 ∷ 255 ∷ 0 ∷ 255
         ∷ 0 ∷ 255 ∷ 0 ∷ 0 ∷ 255 ∷ 255 ∷ 0 ∷ 255
         ∷ 0 ∷ 255 ∷ 0 ∷ 0 ∷ 255 ∷ 255 ∷ 0 ∷ 255 ∷ [] }
+{}
+
+/// Brightness without colour is grey: its red, green and blue are the brightness.
+pub fn grey_stays_grey()
+    ensures { (y : ℕ) → y < 256 → colour_of YCbCr (y ∷ 128 ∷ 128 ∷ []) ≡ y ∷ y ∷ y ∷ [] }
+{}
+
+/// The bytes of some pixels and of two lines, computed.
+pub fn known_colours()
+    ensures ycbcr { colour_of YCbCr (76 ∷ 85 ∷ 255 ∷ []) ≡ 254 ∷ 0 ∷ 0 ∷ [] }
+    ensures cmyk { colour_of Cmyk (0 ∷ 10 ∷ 200 ∷ 255 ∷ []) ≡ 255 ∷ 245 ∷ 55 ∷ 0 ∷ [] }
+    ensures ycck { colour_of Ycck (76 ∷ 85 ∷ 255 ∷ 10 ∷ []) ≡ 254 ∷ 0 ∷ 0 ∷ 245 ∷ [] }
+    ensures rgb { line_bytes Rgb 2 ((1 ∷ 2 ∷ []) ∷ (3 ∷ 4 ∷ []) ∷ (5 ∷ 6 ∷ []) ∷ [])
+        ≡ 1 ∷ 3 ∷ 5 ∷ 2 ∷ 4 ∷ 6 ∷ [] }
+    ensures by_component { line_bytes None 2 ((1 ∷ 2 ∷ []) ∷ (3 ∷ 4 ∷ []) ∷ (5 ∷ 6 ∷ []) ∷ [])
+        ≡ 1 ∷ 2 ∷ 3 ∷ 4 ∷ 5 ∷ 6 ∷ [] }
+{}
+
+/// At its ends a component is not blended: a component of one sample is that sample everywhere, and
+/// the first and last samples of a row or a column are the component's own.
+pub fn ends_are_kept()
+    ensures alone { (rule : UpsampleRule) (plane : ℕ → ℕ → ℕ) (x row : ℕ) → x < across rule → row < down rule →
+        upsampled rule plane 1 1 x row ≡ plane 0 0 }
+    ensures first_across { (plane : ℕ → ℕ → ℕ) (width height row : ℕ) → upsampled H2V1 plane width height 0 row ≡ plane 0 row }
+    ensures last_across { (plane : ℕ → ℕ → ℕ) (width height row : ℕ) → 1 ≤ width →
+        upsampled H2V1 plane width height (2 * width - 1) row ≡ plane (width - 1) row }
+    ensures first_down { (plane : ℕ → ℕ → ℕ) (width height x : ℕ) → upsampled H1V2 plane width height x 0 ≡ plane x 0 }
+    ensures last_down { (plane : ℕ → ℕ → ℕ) (width height x : ℕ) → 1 ≤ height →
+        upsampled H1V2 plane width height x (2 * height - 1) ≡ plane x (height - 1) }
+    ensures first_corner { (plane : ℕ → ℕ → ℕ) (width height : ℕ) → upsampled H2V2 plane width height 0 0 ≡ plane 0 0 }
+    ensures last_corner { (plane : ℕ → ℕ → ℕ) (width height : ℕ) → 1 ≤ width → 1 ≤ height →
+        upsampled H2V2 plane width height (2 * width - 1) (2 * height - 1) ≡ plane (width - 1) (height - 1) }
+    ensures first_line { (plane : ℕ → ℕ → ℕ) (width height x : ℕ) →
+        upsampled H2V2 plane width height x 0 ≡ upsampled H2V1 plane width height x 0 }
+    ensures repeated { (plane : ℕ → ℕ → ℕ) (width height h v i j k l : ℕ) → k < h → l < v →
+        upsampled (Generic h v) plane width height (i * h + k) (j * v + l) ≡ plane i j }
+{}
+
+/// Rows of each rule, computed.
+pub fn known_rows()
+    ensures twice_across { map (λ x. upsampled H2V1 (λ i j. slice_index (10 ∷ 20 ∷ 30 ∷ []) i) 3 1 x 0) (range_with_len 0 6) ≡
+        10 ∷ 13 ∷ 18 ∷ 23 ∷ 28 ∷ 30 ∷ [] }
+    ensures twice_down { map (λ row. upsampled H1V2 (λ i j. slice_index (10 ∷ 30 ∷ []) j) 1 2 0 row) (range_with_len 0 4) ≡
+        10 ∷ 15 ∷ 25 ∷ 30 ∷ [] }
+    ensures both_first { map (λ x. upsampled H2V2 (λ i j. slice_index (10 ∷ 20 ∷ 30 ∷ 40 ∷ []) (j * 2 + i)) 2 2 x 0) (range_with_len 0 4) ≡
+        10 ∷ 13 ∷ 18 ∷ 20 ∷ [] }
+    ensures both_second { map (λ x. upsampled H2V2 (λ i j. slice_index (10 ∷ 20 ∷ 30 ∷ 40 ∷ []) (j * 2 + i)) 2 2 x 1) (range_with_len 0 4) ≡
+        15 ∷ 18 ∷ 23 ∷ 25 ∷ [] }
+    ensures four_times { map (λ x. upsampled (Generic 4 1) (λ i j. slice_index (10 ∷ 20 ∷ []) i) 2 1 x 0) (range_with_len 0 8) ≡
+        10 ∷ 10 ∷ 10 ∷ 10 ∷ 20 ∷ 20 ∷ 20 ∷ 20 ∷ [] }
 {}

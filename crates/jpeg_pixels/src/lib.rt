@@ -1,9 +1,19 @@
 //! From coefficients to samples.
 #![tactic(auto)]
 
+mod color_rows;
+#[cfg(test)]
+mod color_tests;
 pub mod idct;
 pub mod laws;
+mod picture_lines;
 pub mod plane;
+mod sources;
 #[cfg(test)]
 mod tests;
+mod upsample_rows;
+#[cfg(test)]
+mod upsample_tests;
+pub mod upsampler;
+pub mod worker;
 pub mod zigzag;

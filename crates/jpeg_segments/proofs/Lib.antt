@@ -1,3 +1,6 @@
 pub mod QuantizationLemmas
 pub mod HuffmanLemmas
+pub mod ApplicationLemmas
+pub mod FrameLemmas
+pub mod ScanLemmas
 pub mod Rows

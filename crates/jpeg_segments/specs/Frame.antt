@@ -1,11 +1,12 @@
 -- Frame headers (T.81, B.2.2), and the sizes that they give (A.1.1, A.2).
-use Rattle.std.specs.Prelude.{ℕ, ◌+◌, ◌-◌, ◌*◌, ◌/◌, ◌%◌, max, List, [], ◌∷◌, Bool, false, not, ◌&&◌, ◌||◌, Ok, Err, nat_lt, nat_le, ◌==◌, if◌then◌else◌, map}
+use Rattle.std.specs.Prelude.{ℕ, zero, suc, ◌≤◌, ◌+◌, ◌-◌, ◌*◌, ◌/◌, ◌%◌, max, List, [], ◌∷◌, ◌++◌, Bool, not, ◌&&◌, ◌||◌, Ok, Err, nat_lt, nat_le, ◌==◌, if◌then◌else◌, map}
+use Rattle.std.specs.List.{list_any}
 use Rattle.jpeg_bits.specs.Reading.{Outcome, Malformed, Lacks, ◌>>=◌, next_byte, next_u16, length_at}
 use Rattle.jpeg_bits.specs.declared.error.UnsupportedFeature.TheVariants.{DNL}
 use Rattle.jpeg_segments.specs.declared.parser.CodingProcess.{CodingProcess}
-use Rattle.jpeg_segments.specs.declared.parser.CodingProcess.TheVariants.{DctSequential}
+use Rattle.jpeg_segments.specs.declared.parser.CodingProcess.TheVariants.{DctSequential, DctProgressive, Lossless}
 use Rattle.jpeg_segments.specs.declared.parser.EntropyCoding.{EntropyCoding}
-use Rattle.jpeg_segments.specs.declared.parser.EntropyCoding.TheVariants.{Huffman}
+use Rattle.jpeg_segments.specs.declared.parser.EntropyCoding.TheVariants.{Huffman, Arithmetic}
 
 -- a component as it is read
 pub record Factors : Type 0 where
@@ -58,16 +59,33 @@ component_of width height most_horizontal most_vertical c = record {
   blocks_high = ceiling height (8 * most_vertical) * c.vertical;
 }
 
--- a frame of SOF0 or SOF1, by the number of its marker
+-- ---- processes (Table B.1), by the number n of the marker SOFn
+
+abbrev pub process_of : ℕ → CodingProcess
+process_of number = if nat_lt (number % 4) 2 then DctSequential else (if number % 4 == 2 then DctProgressive else Lossless)
+
+abbrev pub is_lossless : ℕ → Bool
+is_lossless number = number % 4 == 3
+
+abbrev pub is_progressive : ℕ → Bool
+is_progressive number = number % 4 == 2
+
+-- SOF5 to SOF7 and SOF13 to SOF15
+abbrev pub is_differential_number : ℕ → Bool
+is_differential_number number = nat_lt 4 (number % 8)
+
+abbrev pub coding_of : ℕ → EntropyCoding
+coding_of number = if nat_lt 8 number then Arithmetic else Huffman
+
 unfoldable pub frame_of : ℕ → ℕ → ℕ → ℕ → List Factors → Frame
 frame_of number precision width height components =
     let h = greatest (λ c. c.horizontal) components in
     let v = greatest (λ c. c.vertical) components in
     record {
       is_baseline = number == 0;
-      is_differential = false;
-      process = DctSequential;
-      coding = Huffman;
+      is_differential = is_differential_number number;
+      process = process_of number;
+      coding = coding_of number;
       precision = precision;
       width = width;
       height = height;
@@ -78,21 +96,43 @@ frame_of number precision width height components =
       components = map (component_of width height h v) components;
     }
 
--- a component's factors are 1 to 4, and its table's place is at most 3
+-- ---- components
+
 abbrev pub is_factor : ℕ → Bool
 is_factor n = not (n == 0) && nat_le n 4
 
-unfoldable pub factors_at : List ℕ → Outcome Factors
-factors_at bytes = do
-  identifier ← next_byte bytes
-  factors ← next_byte identifier.1
+-- whether a component in front has this identifier
+abbrev pub is_taken : List Factors → ℕ → Bool
+is_taken front identifier = list_any (λ c. c.identifier == identifier) front
+
+-- a quantization table's place, which is 0 in a lossless frame
+abbrev pub is_place : Bool → ℕ → Bool
+is_place lossless place = if lossless then place == 0 else nat_le place 3
+
+-- The sampling factors and the quantization table's place, behind the identifier.
+unfoldable pub parameters_at : Bool → ℕ → List ℕ → Outcome Factors
+parameters_at lossless identifier bytes = do
+  factors ← next_byte bytes
   if is_factor (factors.0 / 16) then (if is_factor (factors.0 % 16) then (do
     place ← next_byte factors.1
-    if nat_le place.0 3
-        then Ok (record { identifier = identifier.0; horizontal = factors.0 / 16; vertical = factors.0 % 16; quantization = place.0 }, place.1)
+    if is_place lossless place.0
+        then Ok (record { identifier = identifier; horizontal = factors.0 / 16; vertical = factors.0 % 16; quantization = place.0 }, place.1)
         else Err Malformed) else Err Malformed) else Err Malformed
 
--- what stands in front of the components
+-- A component behind those in front, with an identifier of its own.
+unfoldable pub factors_at : Bool → List Factors → List ℕ → Outcome Factors
+factors_at lossless front bytes = do
+  identifier ← next_byte bytes
+  if is_taken front identifier.0 then Err Malformed else parameters_at lossless identifier.0 identifier.1
+
+-- so many components more, behind those in front
+unfoldable pub components_from : Bool → ℕ → List Factors → List ℕ → Outcome (List Factors)
+components_from lossless zero front bytes = Ok (front, bytes)
+components_from lossless (suc n) front bytes =
+    factors_at lossless front bytes >>= (λ c. components_from lossless n (front ++ c.0 ∷ []) c.1)
+
+-- ---- what stands in front of the components
+
 pub record Head : Type 0 where
   pub length : ℕ
   pub precision : ℕ
@@ -107,9 +147,14 @@ size_at bytes = do
   width ← next_u16 height.1
   if height.0 == 0 then Err (Lacks DNL) else (if width.0 == 0 then Err Malformed else Ok ((width.0, height.0), width.1))
 
--- 8 bits, or 12 where the frame is not baseline
+-- 8 bits, or 12 where the frame is not baseline; in a lossless frame at most 16
 abbrev pub is_precision : ℕ → ℕ → Bool
-is_precision number precision = precision == 8 || (precision == 12 && not (number == 0))
+is_precision number precision =
+    if is_lossless number then nat_le precision 16 else precision == 8 || (precision == 12 && not (number == 0))
+
+-- at least one component, and in a progressive frame at most 4
+abbrev pub is_count : ℕ → ℕ → Bool
+is_count number count = not (count == 0) && (not (is_progressive number) || nat_le count 4)
 
 unfoldable pub head_at : ℕ → List ℕ → Outcome Head
 head_at number bytes = do
@@ -119,15 +164,34 @@ head_at number bytes = do
     if is_precision number precision.0 then (do
       size ← size_at precision.1
       count ← next_byte size.1
-      if count.0 == 0 then Err Malformed else (
+      if is_count number count.0 then (
           if left.0 == 6 + 3 * count.0
           then Ok (record { length = left.0; precision = precision.0; width = size.0.0; height = size.0.1; count = count.0 }, count.1)
-          else Err Malformed)) else Err Malformed)
+          else Err Malformed) else Err Malformed) else Err Malformed)
 
--- A frame header of SOF0 or SOF1. Several components are refused for now.
+-- A frame header behind the marker SOFn.
 unfoldable pub sof_at : ℕ → List ℕ → Outcome Frame
 sof_at number bytes = do
   head ← head_at number bytes
-  if head.0.count == 1 then (do
-    factors ← factors_at head.1
-    Ok (frame_of number head.0.precision head.0.width head.0.height (factors.0 ∷ []), factors.1)) else Err Malformed
+  components ← components_from (is_lossless number) head.0.count [] head.1
+  Ok (frame_of number head.0.precision head.0.width head.0.height components.0, components.1)
+
+-- ---- what each frame that is read has
+
+-- the factors of a component are 1 to 4
+pub record HasFactors (c : Component) : Type 0 where
+  pub horizontal_some : 1 ≤ c.factors.horizontal
+  pub horizontal_most : c.factors.horizontal ≤ 4
+  pub vertical_some : 1 ≤ c.factors.vertical
+  pub vertical_most : c.factors.vertical ≤ 4
+
+unfoldable pub AllHaveFactors : List Component → Type 0
+AllHaveFactors [] = Unit {0}
+AllHaveFactors (c ∷ more) = HasFactors c × AllHaveFactors more
+
+-- the factors that are read of a component are 1 to 4
+pub record IsInRange (c : Factors) : Type 0 where
+  pub horizontal_some : 1 ≤ c.horizontal
+  pub horizontal_most : c.horizontal ≤ 4
+  pub vertical_some : 1 ≤ c.vertical
+  pub vertical_most : c.vertical ≤ 4

@@ -1,13 +1,21 @@
 -- What a caller sees of the results of the parsers.
-use Rattle.std.specs.Prelude.{◌+◌, ◌*◌, map}
+use Rattle.std.specs.Prelude.{map}
 use Rattle.jpeg_segments.specs.declared.parser.FrameInfo.{FrameInfo}
 use Rattle.jpeg_segments.specs.declared.parser.Component.{Component}
-use Rattle.jpeg_segments.specs.declared.frame_header.Head.{Head}
 use Rattle.jpeg_segments.specs.declared.frame_header.Factors.{Factors}
-use Rattle.jpeg_segments.specs.declared.scan_header.Selector.{Selector}
+use Rattle.jpeg_segments.specs.declared.parser.IccChunk.{IccChunk}
+use Rattle.jpeg_segments.specs.declared.parser.AppData.{AppData}
+use Rattle.jpeg_segments.specs.declared.parser.AppData.TheVariants as seen
+use Rattle.jpeg_segments.specs.Application.{Application, Chunk, Adobe, Jfif, Avi1, Icc, Exif, Xmp, Psir}
 use Rattle.jpeg_segments.specs.Frame as frames
 use Rattle.jpeg_segments.specs.ScanHeader as scans
+use Rattle.jpeg_segments.specs.ScanHeader.{Scan}
+use Rattle.jpeg_segments.specs.declared.scan_header.Selector.{Selector}
 use Rattle.jpeg_bits.specs.declared.scan.ScanInfo.{ScanInfo}
+
+-- what is read of a component
+abbrev pub factors_of : Factors → frames.Factors
+factors_of c = record { identifier = c.identifier; horizontal = c.horizontal; vertical = c.vertical; quantization = c.quantization }
 
 abbrev pub factors_in : Component → frames.Factors
 factors_in c = record {
@@ -43,7 +51,11 @@ frame_in f = record {
   components = map component_in f.components.items;
 }
 
-abbrev pub scan_in : ScanInfo → scans.Scan
+-- a component of a scan, as it is read
+abbrev pub selector_of : Selector → scans.Selector
+selector_of s = record { component = s.component; dc = s.dc; ac = s.ac; blocks = s.blocks }
+
+abbrev pub scan_in : ScanInfo → Scan
 scan_in s = record {
   components = s.component_indices.items;
   dc_places = s.dc_table_indices.items;
@@ -56,19 +68,14 @@ scan_in s = record {
   point_transform = s.point_transform;
 }
 
--- ---- parts of the headers
+abbrev pub chunk_in : IccChunk → Chunk
+chunk_in c = record { number = c.seq_no; count = c.num_markers; bytes = c.bytes.items }
 
-abbrev pub head_in : Head → frames.Head
-head_in h = record {
-  length = 6 + 3 * h.count;
-  precision = h.precision;
-  width = h.size.width;
-  height = h.size.height;
-  count = h.count;
-}
-
-abbrev pub read_factors : Factors → frames.Factors
-read_factors f = record { identifier = f.identifier; horizontal = f.horizontal; vertical = f.vertical; quantization = f.quantization }
-
-abbrev pub selector_in : Selector → scans.Selector
-selector_in s = record { component = s.component; dc = s.dc; ac = s.ac }
+abbrev pub application_in : AppData → Application
+application_in (seen.Adobe transform) = Adobe transform
+application_in seen.Jfif = Jfif
+application_in seen.Avi1 = Avi1
+application_in (seen.Icc chunk) = Icc (chunk_in chunk)
+application_in (seen.Exif bytes) = Exif bytes.items
+application_in (seen.Xmp bytes) = Xmp bytes.items
+application_in (seen.Psir bytes) = Psir bytes.items

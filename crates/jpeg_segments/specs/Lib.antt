@@ -1,5 +1,6 @@
 pub mod Quantization
 pub mod HuffmanTables
 pub mod Frame
+pub mod Application
 pub mod FrameView
 pub mod ScanHeader

@@ -1,8 +1,10 @@
 -- Scan headers (T.81, B.2.3).
-use Rattle.std.specs.Prelude.{ℕ, ◌+◌, ◌*◌, ◌/◌, ◌%◌, List, [], ◌∷◌, Bool, false, ◌&&◌, ◌||◌, Some, Ok, Err, nat_lt, ◌==◌, if◌then◌else◌}
+use Rattle.std.specs.Prelude.{ℕ, zero, suc, ◌+◌, ◌*◌, ◌/◌, ◌%◌, List, [], ◌∷◌, ◌++◌, map, length, sum_by, Bool, not, ◌&&◌, ◌||◌, Option, Some, None, Ok, Err, nat_lt, nat_le, ◌==◌, if◌then◌else◌, position}
 use Rattle.jpeg_bits.specs.Reading.{Outcome, Malformed, ◌>>=◌, next_byte, length_at}
 use Rattle.jpeg_bits.specs.declared.scan.Predictor.{Predictor}
-use Rattle.jpeg_bits.specs.declared.scan.Predictor.TheVariants.{NoPrediction}
+use Rattle.jpeg_bits.specs.declared.scan.Predictor.TheVariants.{NoPrediction, Ra, Rb, Rc, RaRbRc1, RaRbRc2, RaRbRc3, RaRb}
+use Rattle.jpeg_segments.specs.declared.parser.CodingProcess.{CodingProcess}
+use Rattle.jpeg_segments.specs.declared.parser.CodingProcess.TheVariants.{DctSequential, DctProgressive, Lossless}
 use Rattle.jpeg_segments.specs.Frame.{Frame, Component}
 use Rattle.jpeg_segments.specs.HuffmanTables.{greatest_place}
 
@@ -20,39 +22,117 @@ pub record Scan : Type 0 where
   pub low : ℕ
   pub point_transform : ℕ
 
--- a component's place in the frame, and the places of its tables
+-- ---- components
+
+-- a component's place in the frame, the places of its tables, and the blocks that it has in an MCU
 pub record Selector : Type 0 where
   pub component : ℕ
   pub dc : ℕ
   pub ac : ℕ
+  pub blocks : ℕ
 
--- whether the frame's component at a place has this identifier
-abbrev pub is_component : List Component → ℕ → Bool
-is_component [] identifier = false
-is_component (c ∷ more) identifier = c.factors.identifier == identifier
+-- the place of the component with this identifier
+abbrev pub place_of : List Component → ℕ → Option ℕ
+place_of components identifier = position (λ c. c.factors.identifier == identifier) components
 
--- the only component of the frame, and its tables
-unfoldable pub selector_at : Frame → List ℕ → Outcome Selector
-selector_at frame bytes = do
+-- the factors of the component at a place
+abbrev pub blocks_by : List Component → ℕ → ℕ
+blocks_by [] place = 0
+blocks_by (c ∷ more) zero = c.factors.horizontal * c.factors.vertical
+blocks_by (c ∷ more) (suc place) = blocks_by more place
+
+-- the tables of the component at a place of the frame
+unfoldable pub tables_at : Frame → ℕ → List ℕ → Outcome Selector
+tables_at frame place bytes = do
+  places ← next_byte bytes
+  if nat_lt (greatest_place (Some frame.is_baseline)) (places.0 / 16) then Err Malformed else (
+      if nat_lt (greatest_place (Some frame.is_baseline)) (places.0 % 16) then Err Malformed else
+      Ok (record { component = place; dc = places.0 / 16; ac = places.0 % 16; blocks = blocks_by frame.components place }, places.1))
+
+-- the tables, where a component is there and stands behind those before it
+abbrev pub tables_by : Frame → ℕ → Option ℕ → List ℕ → Outcome Selector
+tables_by frame least None bytes = Err Malformed
+tables_by frame least (Some place) bytes = if nat_lt place least then Err Malformed else tables_at frame place bytes
+
+-- The next component, whose place in the frame is at least the one named: components stand in the frame's order.
+unfoldable pub selector_at : Frame → ℕ → List ℕ → Outcome Selector
+selector_at frame least bytes = do
   identifier ← next_byte bytes
-  if is_component frame.components identifier.0 then (do
-    places ← next_byte identifier.1
-    if nat_lt (greatest_place (Some frame.is_baseline)) (places.0 / 16) then Err Malformed else (
-        if nat_lt (greatest_place (Some frame.is_baseline)) (places.0 % 16) then Err Malformed else
-        Ok (record { component = 0; dc = places.0 / 16; ac = places.0 % 16 }, places.1))) else Err Malformed
+  tables_by frame least (place_of frame.components identifier.0) identifier.1
+
+-- so many components more, behind those in front
+unfoldable pub selectors_from : Frame → ℕ → List Selector → ℕ → List ℕ → Outcome (List Selector)
+selectors_from frame zero front least bytes = Ok (front, bytes)
+selectors_from frame (suc n) front least bytes =
+    selector_at frame least bytes >>= (λ s. selectors_from frame n (front ++ s.0 ∷ []) (s.0.component + 1) s.1)
+
+-- several components have at most 10 blocks in an MCU
+abbrev pub is_mcu : List Selector → Bool
+is_mcu selectors = nat_le (length selectors) 1 || nat_le (sum_by (λ s. s.blocks) selectors) 10
+
+-- ---- the band
+
+-- A refinement goes one level down. DC has scans of its own, and the others of one component alone.
+abbrev pub is_progressive_band : ℕ → ℕ → ℕ → ℕ → ℕ → Bool
+is_progressive_band count first last high low =
+    nat_le first last && (nat_le last 63 && ((not (first == 0) || last == 0) && ((first == 0 || count == 1) && (
+    nat_le high 13 && (nat_le low 13 && (high == 0 || high == low + 1))))))
+
+-- A lossless scan has a predictor of 0 to 7.
+abbrev pub is_lossless_band : ℕ → ℕ → ℕ → Bool
+is_lossless_band first last high = nat_le first 7 && (last == 0 && high == 0)
 
 -- A sequential scan codes all coefficients at once; a last place of 0 is read as 63.
-abbrev pub is_whole : ℕ → ℕ → ℕ → Bool
-is_whole first last levels = first == 0 && ((last == 0 || last == 63) && levels == 0)
+abbrev pub is_sequential_band : ℕ → ℕ → ℕ → ℕ → Bool
+is_sequential_band first last high low = first == 0 && ((last == 0 || last == 63) && (high == 0 && low == 0))
 
-unfoldable pub band_at : Selector → List ℕ → Outcome Scan
-band_at s bytes = do
+abbrev pub is_band : CodingProcess → ℕ → ℕ → ℕ → ℕ → ℕ → Bool
+is_band DctSequential count first last high low = is_sequential_band first last high low
+is_band DctProgressive count first last high low = is_progressive_band count first last high low
+is_band Lossless count first last high low = is_lossless_band first last high
+
+abbrev pub predictor_by : ℕ → Predictor
+predictor_by zero = NoPrediction
+predictor_by (suc zero) = Ra
+predictor_by (suc (suc zero)) = Rb
+predictor_by (suc (suc (suc zero))) = Rc
+predictor_by (suc (suc (suc (suc zero)))) = RaRbRc1
+predictor_by (suc (suc (suc (suc (suc zero))))) = RaRbRc2
+predictor_by (suc (suc (suc (suc (suc (suc zero)))))) = RaRbRc3
+predictor_by (suc (suc (suc (suc (suc (suc (suc n))))))) = RaRb
+
+abbrev pub predictor_of : CodingProcess → ℕ → Predictor
+predictor_of DctSequential first = NoPrediction
+predictor_of DctProgressive first = NoPrediction
+predictor_of Lossless first = predictor_by first
+
+abbrev pub behind_of : CodingProcess → ℕ → ℕ
+behind_of DctSequential last = 64
+behind_of DctProgressive last = last + 1
+behind_of Lossless last = last + 1
+
+unfoldable pub scan_of : Frame → List Selector → ℕ → ℕ → ℕ → Scan
+scan_of frame selectors first last levels = record {
+  components = map (λ s. s.component) selectors;
+  dc_places = map (λ s. s.dc) selectors;
+  ac_places = map (λ s. s.ac) selectors;
+  first = first;
+  behind = behind_of frame.process last;
+  predictor = predictor_of frame.process first;
+  high = levels / 16;
+  low = levels % 16;
+  point_transform = levels % 16;
+}
+
+-- The coefficients and the levels; a level is below the precision.
+unfoldable pub band_at : Frame → List Selector → List ℕ → Outcome Scan
+band_at frame selectors bytes = do
   first ← next_byte bytes
   last ← next_byte first.1
   levels ← next_byte last.1
-  if is_whole first.0 last.0 levels.0
-      then Ok (record { components = s.component ∷ []; dc_places = s.dc ∷ []; ac_places = s.ac ∷ []; first = 0; behind = 64; predictor = NoPrediction; high = 0; low = 0; point_transform = 0 }, levels.1)
-      else Err Malformed
+  if nat_lt (levels.0 % 16) frame.precision then (
+      if is_band frame.process (length selectors) first.0 last.0 (levels.0 / 16) (levels.0 % 16)
+      then Ok (scan_of frame selectors first.0 last.0 levels.0, levels.1) else Err Malformed) else Err Malformed
 
 -- how many components there are, where the length fits them
 unfoldable pub count_at : List ℕ → Outcome ℕ
@@ -63,10 +143,9 @@ count_at bytes = do
     if count.0 == 0 then Err Malformed else (if nat_lt 4 count.0 then Err Malformed else (
         if left.0 == 4 + 2 * count.0 then Ok (count.0, count.1) else Err Malformed)))
 
--- A scan header of a sequential frame. Several components are refused for now.
+-- A scan header of a frame.
 unfoldable pub sos_at : Frame → List ℕ → Outcome Scan
 sos_at frame bytes = do
   count ← count_at bytes
-  if count.0 == 1 then (do
-    selector ← selector_at frame count.1
-    band_at selector.0 selector.1) else Err Malformed
+  selectors ← selectors_from frame count.0 [] 0 count.1
+  if is_mcu selectors.0 then band_at frame selectors.0 selectors.1 else Err Malformed

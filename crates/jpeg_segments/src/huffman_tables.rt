@@ -4,6 +4,7 @@ ghost use Rattle.jpeg_bits.specs.Codes.{is_ac};
 ghost use Rattle.jpeg_bits.specs.Reading.{Answers, times, next_byte};
 ghost use Rattle.jpeg_segments.specs.HuffmanTables.{symbols_at, codes_at, placed_codes_at, greatest_place, with_table, dht_at, all_ac};
 
+use crate::payload::read_bytes;
 use jpeg_bits::error::Result;
 use jpeg_bits::huffman::{HuffmanTable, HuffmanTableClass};
 use jpeg_bits::reads::{format_error, read_length, read_u8};
@@ -25,7 +26,6 @@ fn read_counts<R: Read + Drop>(alloc: Global, source: &mut Source<R>) -> Result<
     Ok(counts)
 }
 
-/// How many codes there are.
 fn total(counts: &[u8; 16]) -> u16
     ensures { result ≡ sum counts.now }
 {
@@ -34,23 +34,6 @@ fn total(counts: &[u8; 16]) -> u16
         total += u16::from(counts[i]);
     }
     total
-}
-
-/// The symbols, one for each code.
-fn read_symbols<R: Read + Drop>(
-    alloc: Global,
-    source: &mut Source<R>,
-    count: u16,
-) -> Result<Vec<u8>>
-    ensures answers { Answers (λ v. v.items) (times count next_byte) source.old result source.new }
-    ensures length { IfOk result (λ v. length v.items ≡ count) }
-{
-    let mut symbols = Vec::with_capacity(alloc, usize::from(count))?;
-    for i in 0..count {
-        let symbol = read_u8(alloc, source)?;
-        symbols.push(symbol)?;
-    }
-    Ok(symbols)
 }
 
 /// The symbols of a table of these counts, and the table.
@@ -69,7 +52,7 @@ fn read_table<R: Read + Drop>(
     ensures class { IfOk result (λ t. t.class ≡ class) }
     ensures counts { IfOk result (λ t. t.counts ≡ counts.now) }
 {
-    let symbols = read_symbols(alloc, source, count)?;
+    let symbols = read_bytes(alloc, source, count)?;
     HuffmanTable::new(alloc, counts, &symbols, class)
 }
 
@@ -120,8 +103,7 @@ fn read_placed_table<R: Read + Drop>(
     left: u16,
 ) -> Result<PlacedTable>
     requires { greatest ≤ 3 }
-    ensures answers { Answers (λ t. record { place = t.place; table = t.table })
-        (placed_codes_at greatest left) source.old result source.new }
+    ensures answers { Answers (λ t. record { place = t.place; table = t.table }) (placed_codes_at greatest left) source.old result source.new }
     ensures place { IfOk result (λ t. t.place ≤ 3) }
     ensures class { IfOk result (λ t. t.table.class ≡ t.class) }
     ensures size { IfOk result (λ t. (t.size ≡ 17 + sum t.table.counts) × (t.size ≤ left)) }
@@ -158,9 +140,7 @@ fn place_table(tables: &mut PlacedTables, placed: PlacedTable)
     requires ac { length tables.old.1.items ≡ 4 }
     requires place { placed.place ≤ 3 }
     requires class { placed.table.class ≡ placed.class }
-    ensures tables { record { dc = tables.new.0.items; ac = tables.new.1.items }
-        ≡ with_table (record { dc = tables.old.0.items; ac = tables.old.1.items })
-        (record { place = placed.place; table = placed.table }) }
+    ensures tables { record { dc = tables.new.0.items; ac = tables.new.1.items } ≡ with_table (record { dc = tables.old.0.items; ac = tables.old.1.items }) (record { place = placed.place; table = placed.table }) }
     ensures dc { length tables.new.0.items ≡ 4 }
     ensures ac { length tables.new.1.items ≡ 4 }
     ensures classes { all_ac tables.old.1.items ≡ true → all_ac tables.new.1.items ≡ true }

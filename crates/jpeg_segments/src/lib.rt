@@ -1,9 +1,11 @@
 //! The segments of a JPEG stream.
 #![tactic(auto)]
 
+mod application;
 mod frame_header;
 mod huffman_tables;
 pub mod parser;
+mod payload;
 mod quantization;
 mod scan_header;
 #[cfg(test)]

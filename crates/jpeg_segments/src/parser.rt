@@ -1,5 +1,6 @@
 //! The segments of a stream (T.81, B.2).
 
+pub use crate::application::{parse_app, parse_com, parse_dri};
 pub use crate::frame_header::parse_sof;
 pub use crate::huffman_tables::{PlacedTables, parse_dht};
 pub use crate::quantization::parse_dqt;
@@ -28,42 +29,68 @@ pub enum CodingProcess {
     Lossless,
 }
 
-/// A component of a frame (T.81, B.2.2).
+/// A component of a frame.
 #[derive(Clone, Debug, Drop)]
 pub struct Component {
-    /// The number by which scan headers name it.
     pub identifier: u8,
-    /// How many blocks of it stand side by side in an MCU: 1 to 4.
     pub horizontal_sampling_factor: u8,
-    /// How many blocks of it stand one above the other in an MCU: 1 to 4.
     pub vertical_sampling_factor: u8,
-    /// The place of its quantization table: 0 to 3.
     pub quantization_table_index: usize,
     /// How many samples one side of a block gives.
     pub dct_scale: usize,
-    /// The size in samples (T.81, A.1.1).
+    /// The size in samples.
     pub size: Dimensions,
-    /// The size in blocks, of all MCUs (T.81, A.2).
+    /// The size in blocks, of all MCUs.
     pub block_size: Dimensions,
 }
 
-/// A frame header, and the sizes that it gives (T.81, B.2.2).
+/// A frame header, and the sizes that it gives.
 #[derive(Drop)]
 pub struct FrameInfo {
-    /// Whether the marker was SOF0.
     pub is_baseline: bool,
-    /// Whether the frame adds to one that stands before it.
     pub is_differential: bool,
     pub coding_process: CodingProcess,
     pub entropy_coding: EntropyCoding,
-    /// How many bits a sample has.
     pub precision: u8,
-    /// The size in samples that the header says.
+    /// The size that the header says.
     pub image_size: Dimensions,
-    /// The size in samples of the picture that is made of it.
+    /// The size of the picture that is made of it.
     pub output_size: Dimensions,
     /// The number of MCUs across and down.
     pub mcu_size: Dimensions,
-    /// The components, in the order of the header.
     pub components: Vec<Component>,
+}
+
+/// The colour transform that an Adobe segment names.
+#[derive(Clone, Copy, Debug, PartialEq)]
+pub enum AdobeColorTransform {
+    /// Red, green and blue, or cyan, magenta, yellow and black.
+    Unknown,
+    YCbCr,
+    /// YCbCr and black.
+    YCCK,
+}
+
+/// A part of an ICC profile.
+#[derive(Debug, Drop)]
+pub struct IccChunk {
+    /// How many parts the profile has.
+    pub num_markers: u8,
+    /// The part's number, from 1.
+    pub seq_no: u8,
+    pub bytes: Vec<u8>,
+}
+
+/// What the segment of an application says.
+#[derive(Debug, Drop)]
+pub enum AppData {
+    Adobe(AdobeColorTransform),
+    Jfif,
+    /// A frame of an MJPEG stream, which may leave out its Huffman tables.
+    Avi1,
+    Icc(IccChunk),
+    Exif(Vec<u8>),
+    Xmp(Vec<u8>),
+    /// Photoshop's image resources.
+    Psir(Vec<u8>),
 }

@@ -9,7 +9,6 @@ use jpeg_bits::source::Source;
 use std::alloc::Global;
 use std::io::Read;
 
-/// A value of 16 bits, or of 8.
 #[tactic(auto, unfolding(crate::specs::Quantization::value_at))]
 fn read_value<R: Read + Drop>(alloc: Global, source: &mut Source<R>, is_wide: bool) -> Result<u16>
     ensures { Answers (λ v. v) (value_at is_wide) source.old result source.new }
@@ -21,7 +20,6 @@ fn read_value<R: Read + Drop>(alloc: Global, source: &mut Source<R>, is_wide: bo
     }
 }
 
-/// The values of a table.
 fn read_values<R: Read + Drop>(
     alloc: Global,
     source: &mut Source<R>,
@@ -36,7 +34,6 @@ fn read_values<R: Read + Drop>(
     Ok(values)
 }
 
-/// The values of a table, none 0.
 #[tactic(auto, unfolding(crate::specs::Quantization::table_at))]
 fn read_table<R: Read + Drop>(
     alloc: Global,
@@ -79,11 +76,7 @@ fn read_placed_table<R: Read + Drop>(
     Ok((size, index, table))
 }
 
-/// Reads the quantization tables of a segment (T.81, B.2.4.1), by their places 0 to 3: 64 values in zigzag order, none 0. Where two have one
-/// place, the later counts.
-///
-/// Errors: `Format` where the length, a precision, a place or a value of 0 breaks a rule; `Io` where the bytes end or a read fails;
-/// `OutOfMemory`.
+/// The quantization tables of a segment, in zigzag order.
 #[tactic(auto, unfolding(crate::specs::Quantization::dqt_at))]
 pub fn parse_dqt<R: Read + Drop>(
     alloc: Global,

@@ -1,30 +1,32 @@
 //! Scan headers.
-ghost use Rattle.std.specs.Prelude.{◌≡◌, map};
+ghost use Rattle.std.specs.Prelude.{◌≡◌, ◌≤◌, ◌<◌, ◌==◌, ◌*◌, [], map, position, length, sum_by, IsTrue, IfOk, IfSome};
 ghost use Rattle.jpeg_bits.specs.Reading.{Answers};
 ghost use Rattle.jpeg_segments.specs.HuffmanTables.{greatest_place};
-ghost use Rattle.jpeg_segments.specs.ScanHeader.{is_component, count_at, selector_at, band_at, sos_at};
-ghost use Rattle.jpeg_segments.specs.FrameView.{component_in, frame_in, scan_in, selector_in};
+ghost use Rattle.jpeg_segments.specs.ScanHeader.{band_at, behind_of, blocks_by, count_at, is_band, is_lossless_band, is_mcu, is_progressive_band, is_sequential_band, place_of, predictor_by, predictor_of, scan_of, selector_at, selectors_from, sos_at, tables_at, tables_by};
+ghost use Rattle.jpeg_segments.specs.FrameView.{component_in, frame_in, scan_in, selector_of};
 
 use crate::huffman_tables::greatest_place;
-use crate::parser::{Component, FrameInfo, Predictor, ScanInfo};
+use crate::parser::{CodingProcess, Component, FrameInfo, Predictor, ScanInfo};
 use jpeg_bits::error::Result;
 use jpeg_bits::reads::{format_error, read_length, read_u8};
 use jpeg_bits::source::Source;
-use std::alloc::Global;
+use std::alloc::{AllocError, Global};
 use std::io::Read;
 
-/// A component's place in the frame, and the places of its tables.
+/// A component's place in the frame, the places of its tables, and the blocks that it has in an MCU.
 #[derive(Clone, Copy)]
 struct Selector {
     component: usize,
     dc: usize,
     ac: usize,
+    blocks: u16,
 }
 
 /// How many components the scan has, where the length fits them.
 #[tactic(auto, unfolding(crate::specs::ScanHeader::count_at))]
 fn read_count<R: Read + Drop>(alloc: Global, source: &mut Source<R>) -> Result<u8>
-    ensures { Answers (λ n. n) count_at source.old result source.new }
+    ensures answers { Answers (λ n. n) count_at source.old result source.new }
+    ensures most { IfOk result (λ n. n ≤ 4) }
 {
     let left = read_length(alloc, source)?;
     if left == 0 {
@@ -43,32 +45,48 @@ fn read_count<R: Read + Drop>(alloc: Global, source: &mut Source<R>) -> Result<u
     Ok(count)
 }
 
-/// Whether the component at the first place has this identifier.
-fn is_component(components: &[Component], identifier: u8) -> bool
-    ensures { result ≡ is_component (map component_in components.now) identifier }
+fn position_of(components: &[Component], identifier: u8) -> Option<usize>
+    ensures { result ≡ position (λ c. c.identifier == identifier) components.now }
 {
-    match components.first() {
-        Some(component) => component.identifier == identifier,
-        None => false,
-    }
+    components
+        .iter()
+        .position(|component| component.identifier == identifier)
 }
 
-/// The scan's component, and the places of its tables.
-#[tactic(auto, unfolding(crate::specs::ScanHeader::selector_at))]
-fn read_selector<R: Read + Drop>(
+/// The place of the component with this identifier.
+fn place_of(components: &[Component], identifier: u8) -> Option<usize>
+    ensures place { result ≡ place_of (map component_in components.now) identifier }
+    ensures within { IfSome result (λ i. i < length components.now) }
+{
+    position_of(components, identifier)
+}
+
+fn block_count(component: &Component) -> u16
+    ensures { result ≡ component.now.horizontal_sampling_factor * component.now.vertical_sampling_factor }
+{
+    u16::from(component.horizontal_sampling_factor) * u16::from(component.vertical_sampling_factor)
+}
+
+/// How many blocks the component at a place has in an MCU.
+fn blocks_by(components: &[Component], place: usize) -> u16
+    requires { place < length components.now }
+    ensures { result ≡ blocks_by (map component_in components.now) place }
+{
+    block_count(&components[place])
+}
+
+/// The tables of the component at a place of the frame.
+#[tactic(auto, unfolding(crate::specs::ScanHeader::tables_at))]
+fn read_tables<R: Read + Drop>(
     alloc: Global,
     source: &mut Source<R>,
     frame: &FrameInfo,
+    place: usize,
 ) -> Result<Selector>
-    ensures { Answers selector_in (selector_at (frame_in frame.now)) source.old result source.new }
+    requires { place < length frame.now.components.items }
+    ensures answers { Answers selector_of (tables_at (frame_in frame.now) place) source.old result source.new }
+    ensures place { IfOk result (λ s. s.component ≡ place) }
 {
-    let identifier = read_u8(alloc, source)?;
-    if !is_component(&frame.components, identifier) {
-        return Err(format_error(
-            alloc,
-            "a scan names a component that the frame does not have",
-        ));
-    }
     let places = read_u8(alloc, source)?;
     let greatest = greatest_place(Some(frame.is_baseline));
     let dc = places / 16;
@@ -80,46 +98,242 @@ fn read_selector<R: Read + Drop>(
         return Err(format_error(alloc, "the place of an AC table is too great"));
     }
     Ok(Selector {
-        component: 0,
+        component: place,
         dc: usize::from(dc),
         ac: usize::from(ac),
+        blocks: blocks_by(&frame.components, place),
     })
 }
 
-/// The coefficients that the scan codes.
-#[tactic(auto, unfolding(crate::specs::ScanHeader::band_at))]
+/// The next component, whose place in the frame is at least the one named: components stand in the frame's order.
+#[tactic(auto, unfolding(crate::specs::ScanHeader::selector_at))]
+fn read_selector<R: Read + Drop>(
+    alloc: Global,
+    source: &mut Source<R>,
+    frame: &FrameInfo,
+    least: usize,
+) -> Result<Selector>
+    ensures answers { Answers selector_of (selector_at (frame_in frame.now) least) source.old result source.new }
+    ensures place { IfOk result (λ s. s.component < length frame.now.components.items) }
+{
+    let identifier = read_u8(alloc, source)?;
+    match place_of(&frame.components, identifier) {
+        Some(place) if place >= least => read_tables(alloc, source, frame, place),
+        _ => Err(format_error(
+            alloc,
+            "a scan names a component that the frame does not have, or out of order",
+        )),
+    }
+}
+
+/// So many components.
+fn read_selectors<R: Read + Drop>(
+    alloc: Global,
+    source: &mut Source<R>,
+    frame: &FrameInfo,
+    count: u8,
+) -> Result<Vec<Selector>>
+    ensures answers { Answers (λ v. map selector_of v.items) (selectors_from (frame_in frame.now) count [] 0) source.old result source.new }
+    ensures length { IfOk result (λ v. length v.items ≡ count) }
+{
+    let mut selectors = Vec::with_capacity(alloc, usize::from(count))?;
+    let mut least = 0;
+    let mut left = count;
+    while left > 0 {
+        let selector = read_selector(alloc, source, frame, least)?;
+        least = selector.component + 1;
+        selectors.push(selector)?;
+        left -= 1;
+    }
+    Ok(selectors)
+}
+
+/// How many blocks an MCU has.
+fn total(selectors: &[Selector]) -> u32
+    requires { length selectors.now ≤ 4 }
+    ensures { result ≡ sum_by (λ s. s.blocks) selectors.now }
+{
+    let mut total = 0u32;
+    for selector in selectors {
+        total += u32::from(selector.blocks);
+    }
+    total
+}
+
+/// Whether an MCU of several components has at most 10 blocks.
+fn is_mcu(selectors: &[Selector]) -> bool
+    requires { length selectors.now ≤ 4 }
+    ensures { result ≡ is_mcu (map selector_of selectors.now) }
+{
+    selectors.len() <= 1 || total(selectors) <= 10
+}
+
+/// A refinement goes one level down. DC has scans of its own, and the others of one component alone.
+fn is_progressive_band(count: usize, first: u8, last: u8, high: u8, low: u8) -> bool
+    ensures { result ≡ is_progressive_band count first last high low }
+{
+    first <= last
+        && (last <= 63
+            && ((first != 0 || last == 0)
+                && ((first == 0 || count == 1)
+                    && (high <= 13 && (low <= 13 && (high == 0 || high == low + 1))))))
+}
+
+/// The coefficients and the levels that a scan header names.
+#[derive(Clone, Copy)]
+struct Band {
+    first: u8,
+    last: u8,
+    high: u8,
+    low: u8,
+}
+
+/// Whether a scan of `count` components may have this band.
+fn is_band(process: CodingProcess, count: usize, band: Band) -> bool
+    ensures value { result ≡ is_band process count band.first band.last band.high band.low }
+    ensures small { IsTrue result → band.last ≤ 63 }
+{
+    let Band {
+        first,
+        last,
+        high,
+        low,
+    } = band;
+    match process {
+        CodingProcess::DctSequential => {
+            first == 0 && ((last == 0 || last == 63) && (high == 0 && low == 0))
+        }
+        CodingProcess::DctProgressive => is_progressive_band(count, first, last, high, low),
+        CodingProcess::Lossless => first <= 7 && (last == 0 && high == 0),
+    }
+}
+
+fn predictor_by(number: u8) -> Predictor
+    ensures { result ≡ predictor_by number }
+{
+    match number {
+        0 => Predictor::NoPrediction,
+        1 => Predictor::Ra,
+        2 => Predictor::Rb,
+        3 => Predictor::Rc,
+        4 => Predictor::RaRbRc1,
+        5 => Predictor::RaRbRc2,
+        6 => Predictor::RaRbRc3,
+        _ => Predictor::RaRb,
+    }
+}
+
+fn predictor_of(process: CodingProcess, first: u8) -> Predictor
+    ensures { result ≡ predictor_of process first }
+{
+    match process {
+        CodingProcess::Lossless => predictor_by(first),
+        _ => Predictor::NoPrediction,
+    }
+}
+
+/// The place behind the last coefficient.
+fn behind_of(process: CodingProcess, last: u8) -> u8
+    requires { last ≤ 63 }
+    ensures { result ≡ behind_of process last }
+{
+    match process {
+        CodingProcess::DctSequential => 64,
+        _ => last + 1,
+    }
+}
+
+/// The places of components, of their DC tables and of their AC tables.
+#[derive(Drop)]
+struct Places {
+    components: Vec<usize>,
+    dc: Vec<usize>,
+    ac: Vec<usize>,
+}
+
+fn places_of(alloc: Global, selectors: &[Selector]) -> std::result::Result<Places, AllocError>
+    ensures components { IfOk result (λ p. p.components.items ≡ map (λ s. s.component) (map selector_of selectors.now)) }
+    ensures dc { IfOk result (λ p. p.dc.items ≡ map (λ s. s.dc) (map selector_of selectors.now)) }
+    ensures ac { IfOk result (λ p. p.ac.items ≡ map (λ s. s.ac) (map selector_of selectors.now)) }
+{
+    let mut components = Vec::with_capacity(alloc, selectors.len())?;
+    let mut dc = Vec::with_capacity(alloc, selectors.len())?;
+    let mut ac = Vec::with_capacity(alloc, selectors.len())?;
+    for selector in selectors {
+        components.push(selector.component)?;
+        dc.push(selector.dc)?;
+        ac.push(selector.ac)?;
+    }
+    Ok(Places { components, dc, ac })
+}
+
+#[tactic(auto, unfolding(crate::specs::ScanHeader::scan_of))]
+fn scan_of(
+    alloc: Global,
+    process: CodingProcess,
+    selectors: &[Selector],
+    band: Band,
+) -> std::result::Result<ScanInfo, AllocError>
+    requires { band.last ≤ 63 }
+    ensures { IfOk result (λ s. scan_in s ≡ record {
+      components = map (λ s. s.component) (map selector_of selectors.now);
+      dc_places = map (λ s. s.dc) (map selector_of selectors.now);
+      ac_places = map (λ s. s.ac) (map selector_of selectors.now);
+      first = band.first;
+      behind = behind_of process band.last;
+      predictor = predictor_of process band.first;
+      high = band.high;
+      low = band.low;
+      point_transform = band.low;
+    }) }
+{
+    let Places { components, dc, ac } = places_of(alloc, selectors)?;
+    Ok(ScanInfo {
+        component_indices: components,
+        dc_table_indices: dc,
+        ac_table_indices: ac,
+        spectral_selection: band.first..behind_of(process, band.last),
+        predictor_selection: predictor_of(process, band.first),
+        successive_approximation_high: band.high,
+        successive_approximation_low: band.low,
+        point_transform: band.low,
+    })
+}
+
+/// The coefficients and the levels; a level is below the precision.
+#[tactic(auto, unfolding(crate::specs::ScanHeader::band_at, crate::specs::ScanHeader::scan_of))]
 fn read_band<R: Read + Drop>(
     alloc: Global,
     source: &mut Source<R>,
-    selector: Selector,
+    frame: &FrameInfo,
+    selectors: &[Selector],
 ) -> Result<ScanInfo>
-    ensures { Answers scan_in (band_at (selector_in selector)) source.old result source.new }
+    ensures { Answers scan_in (band_at (frame_in frame.now) (map selector_of selectors.now)) source.old result source.new }
 {
     let first = read_u8(alloc, source)?;
     let last = read_u8(alloc, source)?;
     let levels = read_u8(alloc, source)?;
-    if !(first == 0 && ((last == 0 || last == 63) && levels == 0)) {
-        return Err(format_error(
-            alloc,
-            "a sequential scan does not code all coefficients at once",
-        ));
+    let band = Band {
+        first,
+        last,
+        high: levels / 16,
+        low: levels % 16,
+    };
+    if band.low >= frame.precision {
+        return Err(format_error(alloc, "a level of a scan is not below the precision"));
     }
-    Ok(ScanInfo {
-        component_indices: vec![in alloc; selector.component]?,
-        dc_table_indices: vec![in alloc; selector.dc]?,
-        ac_table_indices: vec![in alloc; selector.ac]?,
-        spectral_selection: 0..64,
-        predictor_selection: Predictor::NoPrediction,
-        successive_approximation_high: 0,
-        successive_approximation_low: 0,
-        point_transform: 0,
-    })
+    if !is_band(frame.coding_process, selectors.len(), band) {
+        return Err(format_error(alloc, "a scan codes what its process does not allow"));
+    }
+    Ok(scan_of(alloc, frame.coding_process, selectors, band)?)
 }
 
-/// Reads a scan header of a sequential frame (T.81, B.2.3): the places of its component in the frame and of the component's tables, and the
-/// coefficients that it codes, which are all 64. A last coefficient of 0 is read as 63.
+/// Reads a scan header of a frame (T.81, B.2.3): the places of its components in the frame and of the components' tables, the coefficients
+/// that it codes by their places in zigzag order, the predictor, the levels and the point transform. In a sequential scan all 64 coefficients
+/// are coded, and a last coefficient of 0 is read as 63.
 ///
-/// Errors: `Format` where the header breaks a rule or names another component; `Io` where the bytes end or a read fails; `OutOfMemory`.
+/// Errors: `Format` where the header breaks a rule, names a component that the frame does not have, or names components out of the frame's
+/// order; `Io` where the bytes end or a read fails; `OutOfMemory`.
 #[tactic(auto, unfolding(crate::specs::ScanHeader::sos_at))]
 pub fn parse_sos<R: Read + Drop>(
     alloc: Global,
@@ -129,9 +343,12 @@ pub fn parse_sos<R: Read + Drop>(
     ensures { Answers scan_in (sos_at (frame_in frame.now)) reader.old result reader.new }
 {
     let count = read_count(alloc, reader)?;
-    if count != 1 {
-        return Err(format_error(alloc, "scans of several components are not read"));
+    let selectors = read_selectors(alloc, reader, frame, count)?;
+    if !is_mcu(&selectors) {
+        return Err(format_error(
+            alloc,
+            "an MCU of several components has more than 10 blocks",
+        ));
     }
-    let selector = read_selector(alloc, reader, frame)?;
-    read_band(alloc, reader, selector)
+    read_band(alloc, reader, frame, &selectors)
 }

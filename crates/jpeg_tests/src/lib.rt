@@ -4,6 +4,10 @@
 #[cfg(test)]
 mod bytes;
 #[cfg(test)]
+mod memory;
+#[cfg(test)]
+mod metadata;
+#[cfg(test)]
 mod parts;
 #[cfg(test)]
 mod program;

@@ -289,6 +289,134 @@ const STREAMS: [([&str; 8], Gives); 28] = [
     (["", "", "", "", "", "", "", ""], Gives::Io),
 ];
 
+/// Streams of markers that come behind a scan, or have no place.
+const MARKER_STREAMS: [([&str; 8], Gives); 12] = [
+    // Restart markers at the end of a scan: those behind a marker that was met are passed over, and one that was not is ignored once.
+    (
+        ["FFD8", ONES, FRAME, DC_4, AC_0, SCAN, "43 FFD0 FFD0", END],
+        Gives::Lines("81*8", 8),
+    ),
+    (
+        ["FFD8", ONES, FRAME, DC_4, AC_0, SCAN, "43 00*7 FFD0", END],
+        Gives::Lines("81*8", 8),
+    ),
+    (
+        [
+            "FFD8",
+            ONES,
+            FRAME,
+            DC_4,
+            AC_0,
+            SCAN,
+            "43 00*7 FFD0 FFD0",
+            END,
+        ],
+        Gives::Format,
+    ),
+    (
+        ["FFD8", ONES, FRAME, "FFD0", DC_4, AC_0, SCAN, "43 FFD9"],
+        Gives::Format,
+    ),
+    // A number of lines behind the first scan, behind a later one, and elsewhere.
+    (
+        [
+            "FFD8",
+            ONES,
+            FRAME,
+            DC_4,
+            AC_0,
+            SCAN,
+            "43 FFDC 0004 0008",
+            END,
+        ],
+        Gives::Dnl,
+    ),
+    (
+        [
+            "FFD8",
+            ONES,
+            FRAME,
+            DC_4,
+            AC_0,
+            SCAN,
+            "43 FFDA 0008 01 01 00 00 3F 00 43 FFDC 0004 0008",
+            END,
+        ],
+        Gives::Format,
+    ),
+    (
+        [
+            "FFD8",
+            ONES,
+            "FFDC 0004 0008",
+            FRAME,
+            DC_4,
+            AC_0,
+            SCAN,
+            "43 FFD9",
+        ],
+        Gives::Format,
+    ),
+    // Markers that have no place, or are refused by name.
+    (
+        ["FFD8", ONES, "FFD8", FRAME, DC_4, AC_0, SCAN, "43 FFD9"],
+        Gives::Format,
+    ),
+    (
+        [
+            "FFD8",
+            ONES,
+            "FFC8 0002",
+            FRAME,
+            DC_4,
+            AC_0,
+            SCAN,
+            "43 FFD9",
+        ],
+        Gives::Format,
+    ),
+    (
+        [
+            "FFD8",
+            ONES,
+            "FFDE 0002",
+            FRAME,
+            DC_4,
+            AC_0,
+            SCAN,
+            "43 FFD9",
+        ],
+        Gives::Hierarchical,
+    ),
+    // A restart interval of 0 is none; another one is not decoded yet.
+    (
+        [
+            "FFD8",
+            ONES,
+            FRAME,
+            "FFDD 0004 0000",
+            DC_4,
+            AC_0,
+            SCAN,
+            "43 FFD9",
+        ],
+        Gives::Lines("81*8", 8),
+    ),
+    (
+        [
+            "FFD8",
+            ONES,
+            FRAME,
+            "FFDD 0004 0001",
+            DC_4,
+            AC_0,
+            SCAN,
+            "43 FFD9",
+        ],
+        Gives::Format,
+    ),
+];
+
 fn is_refusal(answer: &Result<Vec<u8>, Error>, gives: Gives) -> bool {
     match (gives, answer) {
         (Gives::Format, Err(Error::Format(_))) => true,
@@ -334,6 +462,20 @@ fn is_as_wanted(alloc: Global, stream: &[u8], gives: Gives, step: usize) -> Resu
 #[test]
 fn streams_give_what_they_mean(rt: HostRuntime) -> Result<(), Fail> {
     for (number, (pieces, gives)) in STREAMS.iter().enumerate() {
+        let stream = bytes(rt.alloc(), pieces.as_slice())?;
+        for step in [1, 2, 3, 1000] {
+            assert!(rt;
+                is_as_wanted(rt.alloc(), &stream, *gives, step)?,
+                "stream {number}"
+            );
+        }
+    }
+    Ok(())
+}
+
+#[test]
+fn markers_give_what_they_mean(rt: HostRuntime) -> Result<(), Fail> {
+    for (number, (pieces, gives)) in MARKER_STREAMS.iter().enumerate() {
         let stream = bytes(rt.alloc(), pieces.as_slice())?;
         for step in [1, 2, 3, 1000] {
             assert!(rt;

@@ -1,4 +1,4 @@
-use Rattle.std.proofs.Common.{◌≡◌, ◌∙◌, ap, sym, ◌++◌, Some, string_bytes, option_map, refl}
+use Rattle.std.proofs.Common.{◌≡◌, ◌∙◌, ap, sym, ◌++◌, Some, string_bytes, option_map}
 use Rattle.jpeg_decoder.specs.Output.{line_of}
 use Rattle.jpeg_decoder.specs.Seen.{info_of}
 use Rattle.std.proofs.lemmas.Result.{err_from_is_err_and}
@@ -11,7 +11,7 @@ returns-in_err-pixels-clause-err g c bytes tells some =
     let reads = rw c.in_ok-decoder.ensures.ok at c.in_err-pixels.ensures.reads in
     let known = known-told (g.R.Read.remaining c.args.reader) bytes tells in
     let same = bytes-told (g.R.Read.remaining c.args.reader) bytes tells in
-    let here = reads refl in
+    let here = reads tt in
     rw (p.1, p.2) (outside-decode c.decode.new.self.source.known _ bytes (λ k. rw same at here.1 known k) (λ k. here.2 known k) some)
 
 pub returns-clause-ok : goal.returns-clause-ok
@@ -19,7 +19,7 @@ returns-clause-ok g c bytes tells =
     let reads = rw c.in_ok-decoder.ensures.ok at c.in_ok-pixels.ensures.reads in
     let known = known-told (g.R.Read.remaining c.args.reader) bytes tells in
     let same = bytes-told (g.R.Read.remaining c.args.reader) bytes tells in
-    let here = reads refl in
+    let here = reads tt in
     let all = rw same at (here.1 known).1 in
     let text : string_bytes c.in_ok-line.line ≡ line_of (option_map info_of c.decode.new.self.found.frame) = c.in_ok-line.ensures ∙ ap line_of c.info.ensures in
     output-some bytes c.decode.new.self.source.bytes c.decode.new.self.found c.in_ok-pixels.pixels.items all ∙ ap (λ xs. Some (xs ++ c.in_ok-pixels.pixels.items)) (sym text)

@@ -7,18 +7,20 @@ use Rattle.jpeg_bits.specs.Readers.{signed_from}
 use Rattle.jpeg_bits.specs.Codes.{lengths_from, code_value, begins, first_from, code_in, symbol_from, code_from, codes_exist}
 use Rattle.jpeg_segments.specs.Quantization as quantization
 use Rattle.jpeg_segments.specs.HuffmanTables as tables
-use Rattle.jpeg_segments.specs.Frame.{component_of, frame_of, factors_at, size_at, head_at, sof_at}
-use Rattle.jpeg_segments.specs.ScanHeader.{selector_at, band_at, count_at, sos_at}
+use Rattle.jpeg_segments.specs.Frame.{component_of, frame_of, parameters_at, factors_at, components_from, size_at, head_at, sof_at}
+use Rattle.jpeg_segments.specs.ScanHeader.{tables_at, selector_at, selectors_from, scan_of, band_at, count_at, sos_at}
 use Rattle.jpeg_pixels.specs.Samples.{basis, transformed, dequantized, is_flat_column, column_value, sample}
 use Rattle.jpeg_pixels.specs.Zigzag.{zigzag_places, coefficients_in_block_order, values_in_block_order}
 use Rattle.jpeg_pixels.specs.Planes.{plane_of, cropped}
+use Rattle.jpeg_pixels.specs.Upsampling.{rule_of}
+use Rattle.jpeg_pixels.specs.Pictures.{sources_by}
 use Rattle.jpeg_decoder.specs.Bands.{difference, first_dc, token_at, token_from, first_ac}
 use Rattle.jpeg_decoder.specs.Passes.{zero_block, dc_part, band_part, block_from, blocks_of}
 use Rattle.jpeg_decoder.specs.Intervals.{interval, intervals, groups}
 use Rattle.jpeg_decoder.specs.Scans.{own_block, plane_at}
-use Rattle.jpeg_decoder.specs.Stream.{nothing_found, updated, frame_segment, quantization_segment, huffman_segment, skipped_segment, coding_of, scan_samples, scan_segment, end_segment, segment_at, turn_at, segments_within, segments_at, start_at, picture_of, meaning}
+use Rattle.jpeg_decoder.specs.Stream.{nothing_found, updated, accepted, frame_segment, quantization_segment, huffman_segment, restart_segment, application_segment, skipped_segment, coding_of, scan_samples, behind_restarts, scan_segment, end_segment, segment_at, turn_at, segments_within, segments_at, start_at, picture_of, rest_at, meaning}
 use Rattle.jpeg_decoder.proofs.worked.known_streams.Goals as goal
 
 pub returns : goal.returns
-unfolding int_wrap next_u16 length_at times skip_at marker_of next_marker filled_end text_at upcoming bits_from extended signed_from lengths_from code_value begins first_from code_in symbol_from code_from codes_exist quantization.value_at quantization.table_at quantization.placed_table_at quantization.tables_from quantization.dqt_at tables.symbols_at tables.codes_at tables.placed_codes_at tables.tables_from tables.dht_at component_of frame_of factors_at size_at head_at sof_at selector_at band_at count_at sos_at basis transformed dequantized is_flat_column column_value sample zigzag_places coefficients_in_block_order values_in_block_order plane_of cropped difference first_dc token_at token_from first_ac zero_block dc_part band_part block_from blocks_of interval intervals groups own_block plane_at nothing_found updated frame_segment quantization_segment huffman_segment skipped_segment coding_of scan_samples scan_segment end_segment segment_at turn_at segments_within segments_at start_at picture_of meaning
-returns c = record { flat = refl; behind_marker = refl; no_code = refl; met = refl; passed = refl; no_height = refl; one_coefficient = refl; empty = refl }
+unfolding int_wrap next_u16 length_at times skip_at marker_of next_marker filled_end text_at upcoming bits_from extended signed_from lengths_from code_value begins first_from code_in symbol_from code_from codes_exist quantization.value_at quantization.table_at quantization.placed_table_at quantization.tables_from quantization.dqt_at tables.symbols_at tables.codes_at tables.placed_codes_at tables.tables_from tables.dht_at component_of frame_of parameters_at factors_at components_from size_at head_at sof_at tables_at selector_at selectors_from scan_of band_at count_at sos_at basis transformed dequantized is_flat_column column_value sample zigzag_places coefficients_in_block_order values_in_block_order plane_of cropped rule_of sources_by difference first_dc token_at token_from first_ac zero_block dc_part band_part block_from blocks_of interval intervals groups own_block plane_at nothing_found updated accepted frame_segment quantization_segment huffman_segment restart_segment application_segment skipped_segment coding_of scan_samples behind_restarts scan_segment end_segment segment_at turn_at segments_within segments_at start_at picture_of rest_at meaning
+returns c = record { flat = refl; behind_marker = refl; no_code = refl; met = refl; passed = refl; restarts = refl; lines = refl; no_height = refl; one_coefficient = refl; empty = refl }

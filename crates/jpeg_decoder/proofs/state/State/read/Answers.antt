@@ -1,21 +1,22 @@
 use Rattle.std.proofs.Common.{◌≡◌, ◌∙◌, ◌<◌, ◌^◌, None, sym, ap, arith, length}
 use Rattle.std.proofs.lemmas.Result.{err_from_is_err_and}
-use Rattle.jpeg_bits.proofs.Loops.{Continues-ok, Continues-err}
+use Rattle.jpeg_bits.proofs.Loops.{Continues-err}
+use Rattle.jpeg_decoder.specs.declared.segments.Before.TheVariants.{Elsewhere}
 use Rattle.jpeg_decoder.specs.declared.segments.Step.{Step}
 use Rattle.jpeg_decoder.specs.Stream.{turn_at, segments_at}
 use Rattle.jpeg_decoder.specs.Seen.{found_in}
 use Rattle.jpeg_decoder.specs.Steps.{turn_of}
 use Rattle.jpeg_decoder.proofs.Refusals.{short-step, told-err, never-met}
-use Rattle.jpeg_decoder.proofs.Turns.{segments-refused, segments-end, segments-next, told-refused, told-end, told-next, turn-takes}
+use Rattle.jpeg_decoder.proofs.Turns.{segments-stop, segments-refused, segments-end, segments-next, told-stop, told-refused, told-end, told-next, turn-takes}
 use Rattle.jpeg_decoder.proofs.state.State.read.Goals as goal
-use Rattle.jpeg_decoder.proofs.state.State.read.Goals.{else-loop-test, then-loop-test+in_ok-step+else-step+else-counter-lt18446744073709551615}
+use Rattle.jpeg_decoder.proofs.state.State.read.Goals.{else-loop-test, then-loop-test+else-is_read_for+in_ok-step+else-step+else-counter-lt18446744073709551615}
 
 pub returns-in_err-step-clause-reads : goal.returns-in_err-step-clause-reads
 returns-in_err-step-clause-reads g c =
     let p = err_from_is_err_and c.from_residual.result c.from_residual.ensures.1 in
     let found = found_in c.loop.self in
-    rw (p.1, p.2) (Continues-err {X = Unit {0}} {Z = Step} (λ _. found_in c.read_turn.new.self) (turn_of c.read_turn.new.self) (segments_at (found_in c.args.self.now) None) (segments_at found c.loop.met) (turn_at found c.loop.met) c.args.source.now c.loop.source c.read_turn.new.source _
-    (λ f h. segments-refused found c.loop.met c.loop.source.bytes f h) c.loop.invariant.reads c.in_err-step.ensures.reads)
+    rw (p.1, p.2) (Continues-err {X = Unit {0}} {Z = Step} (λ _. found_in c.read_turn.new.self) (turn_of c.read_turn.new.self) (segments_at c.args.header Elsewhere (found_in c.args.self.now) None) (segments_at c.args.header c.loop.before found c.loop.met) (turn_at c.loop.before found c.loop.met) c.args.source.now c.loop.source c.read_turn.new.source _
+    (λ f h. segments-refused c.args.header c.loop.before found c.loop.met c.loop.source.bytes f (sym c.if-is_read_for.ensures) h) c.loop.invariant.reads c.in_err-step.ensures.reads)
 
 pub returns-in_err-step-clause-told : goal.returns-in_err-step-clause-told
 returns-in_err-step-clause-told g c =
@@ -23,8 +24,20 @@ returns-in_err-step-clause-told g c =
     let found = found_in c.loop.self in
     rw (p.1, p.2) (λ k known.
     let here = c.loop.invariant.reads.1 k in
-    told-err _ (turn_at found c.loop.met c.loop.source.bytes) _ (c.in_err-step.ensures.reads.1 here.0 known)
-    (λ f h. c.in_err-step.ensures.kept ∙ sym (c.loop.invariant.told k ∙ told-refused found c.loop.met c.loop.source.bytes f h)))
+    told-err _ (turn_at c.loop.before found c.loop.met c.loop.source.bytes) _ (c.in_err-step.ensures.reads.1 here.0 known)
+    (λ f h. c.in_err-step.ensures.kept ∙ sym (c.loop.invariant.told k ∙ told-refused c.args.header c.loop.before found c.loop.met c.loop.source.bytes f (sym c.if-is_read_for.ensures) h)))
+
+pub returns-then-is_read_for-clause-reads : goal.returns-then-is_read_for-clause-reads
+returns-then-is_read_for-clause-reads g c = (
+  c.loop.invariant.reads.0,
+  λ k.
+      let here = c.loop.invariant.reads.1 k in
+      (here.0, here.1 ∙ segments-stop c.args.header c.loop.before (found_in c.loop.self) c.loop.met c.loop.source.bytes (sym c.if-is_read_for.ensures)),
+)
+
+pub returns-then-is_read_for-clause-told : goal.returns-then-is_read_for-clause-told
+returns-then-is_read_for-clause-told g c k =
+    sym (c.loop.invariant.told k ∙ told-stop c.args.header c.loop.before (found_in c.loop.self) c.loop.met c.loop.source.bytes (sym c.if-is_read_for.ensures))
 
 pub returns-then-step-clause-reads : goal.returns-then-step-clause-reads
 returns-then-step-clause-reads g c = (
@@ -32,30 +45,39 @@ returns-then-step-clause-reads g c = (
   λ k.
       let here = c.loop.invariant.reads.1 k in
       let there = c.in_ok-step.ensures.reads.1 here.0 in
-      (there.0, here.1 ∙ segments-end (found_in c.loop.self) c.loop.met c.loop.source.bytes c.read_turn.new.source.bytes (turn_of c.read_turn.new.self c.in_ok-step.step) c.if-step.true there.1),
+      (there.0, here.1 ∙ segments-end c.args.header c.loop.before (found_in c.loop.self) c.loop.met c.loop.source.bytes c.read_turn.new.source.bytes (turn_of c.read_turn.new.self c.in_ok-step.step) (sym c.if-is_read_for.ensures) c.if-step.true there.1),
 )
 
 pub returns-then-step-clause-told : goal.returns-then-step-clause-told
 returns-then-step-clause-told g c k =
     let here = c.loop.invariant.reads.1 k in
     let there = c.in_ok-step.ensures.reads.1 here.0 in
-    sym (c.loop.invariant.told k ∙ told-end (found_in c.loop.self) c.loop.met c.loop.source.bytes c.read_turn.new.source.bytes (turn_of c.read_turn.new.self c.in_ok-step.step) c.if-step.true there.1)
+    sym (c.loop.invariant.told k ∙ told-end c.args.header c.loop.before (found_in c.loop.self) c.loop.met c.loop.source.bytes c.read_turn.new.source.bytes (turn_of c.read_turn.new.self c.in_ok-step.step) (sym c.if-is_read_for.ensures) c.if-step.true there.1)
 
 pub loop-preserved : goal.loop-preserved
 loop-preserved g c =
     let found = found_in c.loop.self in
     let turn = turn_of c.read_turn.new.self c.in_ok-step.step in
     record {
-      reads = Continues-ok {X = Step} (turn_of c.read_turn.new.self) (segments_at (found_in c.args.self.now) None) (segments_at found c.loop.met) (segments_at turn.found turn.met) (turn_at found c.loop.met) c.args.source.now c.loop.source c.read_turn.new.source c.in_ok-step.step
-          (λ e. segments-next found c.loop.met c.loop.source.bytes c.read_turn.new.source.bytes turn c.if-step.false e) c.loop.invariant.reads c.in_ok-step.ensures.reads;
+      reads = (
+        c.in_ok-step.ensures.reads.0 ∙ c.loop.invariant.reads.0,
+        λ k.
+            let here = c.loop.invariant.reads.1 k in
+            let there = c.in_ok-step.ensures.reads.1 here.0 in
+            (there.0, here.1 ∙ segments-next c.args.header c.loop.before found c.loop.met c.loop.source.bytes c.read_turn.new.source.bytes turn (c.loop.invariant.none k) (sym c.if-is_read_for.ensures) c.if-step.false there.1),
+      );
       told = λ k.
           let here = c.loop.invariant.reads.1 k in
           let there = c.in_ok-step.ensures.reads.1 here.0 in
-          c.loop.invariant.told k ∙ told-next found c.loop.met c.loop.source.bytes c.read_turn.new.source.bytes turn c.if-step.false there.1;
+          c.loop.invariant.told k ∙ told-next c.args.header c.loop.before found c.loop.met c.loop.source.bytes c.read_turn.new.source.bytes turn (c.loop.invariant.none k) (sym c.if-is_read_for.ensures) c.if-step.false there.1;
+      none = λ k.
+          let here = c.loop.invariant.reads.1 k in
+          let there = c.in_ok-step.ensures.reads.1 here.0 in
+          (turn-takes c.loop.before found c.loop.met c.loop.source.bytes (turn, c.read_turn.new.source.bytes) (c.loop.invariant.none k) there.1 c.if-step.false).1;
       took = λ k.
           let here = c.loop.invariant.reads.1 k in
           let there = c.in_ok-step.ensures.reads.1 here.0 in
-          let less = turn-takes found c.loop.met c.loop.source.bytes (turn, c.read_turn.new.source.bytes) there.1 c.if-step.false in
+          let less = (turn-takes c.loop.before found c.loop.met c.loop.source.bytes (turn, c.read_turn.new.source.bytes) (c.loop.invariant.none k) there.1 c.if-step.false).0 in
           omega (arith, c.loop.invariant.took k, less);
       short = λ _. short-step c.loop.counter c.loop.met c.loop.source c.args.source.now c.loop.invariant.short c.loop.invariant.first c.in_ok-step.ensures.short;
       first = λ e. absurd (omega arith);
@@ -63,23 +85,23 @@ loop-preserved g c =
 
 pub returns-clause-reads : goal.returns-clause-reads
 returns-clause-reads g c =
-    never-met {X = Unit {0}} (λ _. found_in c.loop-test.self) (segments_at (found_in c.args.self.now) None) c.args.source.now c.loop-test.source c.format_error.result c.format_error.ensures
+    never-met {X = Unit {0}} (λ _. found_in c.loop-test.self) (segments_at c.args.header Elsewhere (found_in c.args.self.now) None) c.args.source.now c.loop-test.source c.format_error.result c.format_error.ensures
     (elim c.loop-test.branch as (λ _. c.loop-test.source.failed ≡ c.args.source.now.failed) [
       | else-loop-test w ↦ ap (λ s. s.failed) w.source-is ∙ c.loop.invariant.reads.0
-      | then-loop-test+in_ok-step+else-step+else-counter-lt18446744073709551615 w ↦ ap (λ s. s.failed) w.source-is ∙ w.in_ok-step.ensures.reads.0 ∙ c.loop.invariant.reads.0
+      | then-loop-test+else-is_read_for+in_ok-step+else-step+else-counter-lt18446744073709551615 w ↦ ap (λ s. s.failed) w.source-is ∙ w.in_ok-step.ensures.reads.0 ∙ c.loop.invariant.reads.0
     ])
     (λ k.
     let some : 0 < c.loop.counter = elim c.loop-test.branch [
       | else-loop-test w ↦ omega arith
-      | then-loop-test+in_ok-step+else-step+else-counter-lt18446744073709551615 w ↦ omega arith
+      | then-loop-test+else-is_read_for+in_ok-step+else-step+else-counter-lt18446744073709551615 w ↦ omega arith
     ] in
     let few : length c.args.source.now.bytes < 2 ^ 64 = c.loop.invariant.short some k in
     let here = c.loop.invariant.reads.1 k in
     elim c.loop-test.branch [
       | else-loop-test w ↦ omega (arith, c.loop.invariant.took k)
-      | then-loop-test+in_ok-step+else-step+else-counter-lt18446744073709551615 w ↦
+      | then-loop-test+else-is_read_for+in_ok-step+else-step+else-counter-lt18446744073709551615 w ↦
           let there = w.in_ok-step.ensures.reads.1 here.0 in
-          let less = turn-takes (found_in c.loop.self) c.loop.met c.loop.source.bytes _ there.1 w.if-step.false in
+          let less = (turn-takes c.loop.before (found_in c.loop.self) c.loop.met c.loop.source.bytes _ (c.loop.invariant.none k) there.1 w.if-step.false).0 in
           omega (arith, c.loop.invariant.took k, less)
     ])
 
@@ -87,15 +109,15 @@ pub returns-clause-told : goal.returns-clause-told
 returns-clause-told g c k =
     let some : 0 < c.loop.counter = elim c.loop-test.branch [
       | else-loop-test w ↦ omega arith
-      | then-loop-test+in_ok-step+else-step+else-counter-lt18446744073709551615 w ↦ omega arith
+      | then-loop-test+else-is_read_for+in_ok-step+else-step+else-counter-lt18446744073709551615 w ↦ omega arith
     ] in
     let few : length c.args.source.now.bytes < 2 ^ 64 = c.loop.invariant.short some k in
     let here = c.loop.invariant.reads.1 k in
     let never : ⊥ = elim c.loop-test.branch [
       | else-loop-test w ↦ omega (arith, c.loop.invariant.took k)
-      | then-loop-test+in_ok-step+else-step+else-counter-lt18446744073709551615 w ↦
+      | then-loop-test+else-is_read_for+in_ok-step+else-step+else-counter-lt18446744073709551615 w ↦
           let there = w.in_ok-step.ensures.reads.1 here.0 in
-          let less = turn-takes (found_in c.loop.self) c.loop.met c.loop.source.bytes _ there.1 w.if-step.false in
+          let less = (turn-takes c.loop.before (found_in c.loop.self) c.loop.met c.loop.source.bytes _ (c.loop.invariant.none k) there.1 w.if-step.false).0 in
           omega (arith, c.loop.invariant.took k, less)
     ] in
     absurd never

@@ -1,0 +1,122 @@
+//! How fast lines of a 4:2:0 picture are made: H2V2 and YCbCr at 4000 columns. Writes a number that tells the bytes apart, and on standard error
+//! the time in microseconds.
+#![tactic(auto)]
+
+ghost use Rattle.std.specs.Prelude.{◌≡◌, length, map, IfOk};
+ghost use Rattle.jpeg_segments.specs.FrameView.{component_in};
+ghost use Rattle.jpeg_pixels.specs.Pictures.{AllCover};
+ghost use Rattle.bench_rows.specs.Halves.{luma, chroma, sources};
+
+use jpeg_bits::color_transform::ColorTransform;
+use jpeg_bits::error::Result;
+use jpeg_pixels::worker::compute_image_rows;
+use jpeg_segments::parser::{Component, Dimensions};
+use std::alloc::{AllocError, Global};
+use std::time::Instant;
+
+const ROUNDS: u32 = 20;
+
+/// The component of as many columns and lines as the picture.
+fn luma_component() -> Component
+    ensures { component_in result ≡ luma }
+{
+    Component {
+        identifier: 1,
+        horizontal_sampling_factor: 2,
+        vertical_sampling_factor: 2,
+        quantization_table_index: 0,
+        dct_scale: 8,
+        size: Dimensions {
+            width: 4000,
+            height: 512,
+        },
+        block_size: Dimensions {
+            width: 500,
+            height: 64,
+        },
+    }
+}
+
+/// A component of half as many.
+fn chroma_component() -> Component
+    ensures { component_in result ≡ chroma }
+{
+    Component {
+        identifier: 2,
+        horizontal_sampling_factor: 1,
+        vertical_sampling_factor: 1,
+        quantization_table_index: 0,
+        dct_scale: 8,
+        size: Dimensions {
+            width: 2000,
+            height: 256,
+        },
+        block_size: Dimensions {
+            width: 250,
+            height: 32,
+        },
+    }
+}
+
+/// Samples of no order.
+fn plane(alloc: Global, size: usize, seed: u32) -> std::result::Result<Vec<u8>, AllocError>
+    ensures { IfOk result (λ v. length v.items ≡ size) }
+{
+    let mut samples = vec![in alloc; 0u8; size]?;
+    let mut state = seed;
+    for sample in samples.iter_mut() {
+        state = state.wrapping_mul(1664525).wrapping_add(1013904223);
+        *sample = (state >> 24) as u8;
+    }
+    Ok(samples)
+}
+
+/// The picture of three planes.
+fn picture(alloc: Global, planes: &[Vec<u8>]) -> Result<Vec<u8>>
+    requires three { length planes.now ≡ 3 }
+    requires cover { AllCover sources (map (λ v. v.items) planes.now) 4000 512 }
+{
+    let components = [luma_component(), chroma_component(), chroma_component()];
+    let size = Dimensions {
+        width: 4000,
+        height: 512,
+    };
+    compute_image_rows(alloc, &components, planes, size, ColorTransform::YCbCr)
+}
+
+/// A number that tells pictures apart.
+fn mixed(total: u64, picture: &[u8]) -> u64 {
+    let mut total = total;
+    for byte in picture.iter().step_by(997) {
+        total = total.wrapping_mul(31).wrapping_add(u64::from(*byte));
+    }
+    total
+}
+
+/// Makes the picture of three planes anew each round, and mixes the bytes of all of them.
+fn all_rounds(alloc: Global, planes: &[Vec<u8>]) -> Result<u64>
+    requires three { length planes.now ≡ 3 }
+    requires cover { AllCover sources (map (λ v. v.items) planes.now) 4000 512 }
+{
+    let mut total = 0u64;
+    for _ in 0..ROUNDS {
+        let picture = picture(alloc, planes)?;
+        total = mixed(total, &picture);
+    }
+    Ok(total)
+}
+
+fn main(rt: HostRuntime) -> anyhow::Result<()> {
+    let alloc = rt.alloc();
+    let y = plane(alloc, 2048000, 0)?;
+    let cb = plane(alloc, 512000, 1)?;
+    let cr = plane(alloc, 512000, 2)?;
+    let planes = [y, cb, cr];
+    let start = Instant::now(&rt)?;
+    let total = all_rounds(alloc, &planes)?;
+    let taken = start.elapsed(&rt)?;
+    let micros = taken.as_micros();
+    println!(rt; "{total}")?;
+    eprintln!(rt; "{micros}")?;
+    Ok(())
+}

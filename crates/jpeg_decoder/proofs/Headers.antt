@@ -1,0 +1,202 @@
+-- The header of a stream, and what stands in front of a frame.
+use Rattle.std.proofs.Common.{◌≡◌, ◌<◌, ℕ, zero, suc, List, Result, Ok, Err, Bool, true, false, Option, Some, None, refl, sym, ap, ◌∙◌, length, replicate, arith}
+use Rattle.std.specs.Prelude.{if◌then◌else◌, is_some, option_map}
+use Rattle.std.proofs.Math.Bool.{cond}
+use Rattle.jpeg_bits.specs.Reading.{Outcome, Fault, End, ◌>>=◌, length_at, skip_at}
+use Rattle.jpeg_bits.specs.Marker.{next_marker}
+use Rattle.jpeg_bits.specs.declared.marker.Marker.{Marker}
+use Rattle.jpeg_bits.specs.declared.marker.Marker.TheVariants.{SOF, JPG, DHT, DAC, RST, SOI, EOI, SOS, DQT, DNL, DRI, DHP, EXP, APP, JPGn, COM, TEM, RES}
+use Rattle.jpeg_segments.specs.Frame.{Frame, sof_at}
+use Rattle.jpeg_segments.specs.Quantization.{dqt_at}
+use Rattle.jpeg_segments.specs.HuffmanTables.{dht_at}
+use Rattle.jpeg_segments.specs.Application.{app_at, dri_at}
+use Rattle.jpeg_decoder.specs.declared.segments.Before.TheVariants.{Elsewhere}
+use Rattle.jpeg_decoder.specs.Stream.{Found, Turn, nothing_found, onward, needed, accepted, frame_segment, quantization_segment, huffman_segment, restart_segment, application_segment, skipped_segment, scan_segment, end_segment, segment_at, turn_at, segments_within, segments_at, told_within, told_at, without_planes}
+use Rattle.jpeg_decoder.proofs.Restarts.{either}
+use Rattle.jpeg_decoder.proofs.Turns.{turn-takes, segments-refused, segments-next}
+
+-- ---- turns in front of a frame
+
+-- The image goes on elsewhere, and the planes are as they were.
+unfoldable pub Begins : List (Option (List ℕ)) → Outcome Turn → Type 0
+Begins planes (Ok x) = (x.0.ended ≡ false) × ((x.0.before ≡ Elsewhere) × ((x.0.met ≡ None) × (x.0.found.planes ≡ planes)))
+Begins planes (Err fault) = Unit {0}
+
+begins-onward : (planes : List (Option (List ℕ))) (found : Found) (rest : List ℕ) → found.planes ≡ planes → Begins planes (Ok (onward found, rest))
+unfolding Begins
+begins-onward planes found rest e = (refl, (refl, (refl, e)))
+
+begins-err : (planes : List (Option (List ℕ))) (fault : Fault) → Begins planes (Err fault)
+unfolding Begins
+begins-err planes fault = tt
+
+begins-bind : {A : Type 0} (planes : List (Option (List ℕ))) (r : Result A Fault) (f : A → Outcome Turn) → ((x : A) → Begins planes (f x)) → Begins planes (r >>= f)
+begins-bind planes (Ok x) f q = q x
+begins-bind planes (Err fault) f q = begins-err planes fault
+
+begins-needed : (planes : List (Option (List ℕ))) (o : Option Frame) (f : Frame → Outcome Turn) → is_some o ≡ false → Begins planes (needed o >>= f)
+begins-needed planes None f e = begins-err planes _
+begins-needed planes (Some x) f e = absurd (let n : ⊥ = cc in n)
+
+begins-else : (planes : List (Option (List ℕ))) (b : Bool) (fault : Fault) (x : Outcome Turn) → Begins planes x → Begins planes (if b then Err fault else x)
+begins-else planes true fault x p = begins-err planes fault
+begins-else planes false fault x p = p
+
+begins-then : (planes : List (Option (List ℕ))) (b : Bool) (fault : Fault) (x : Outcome Turn) → b ≡ false → Begins planes (if b then x else Err fault)
+begins-then planes true fault x p = absurd (let n : ⊥ = cc in n)
+begins-then planes false fault x p = begins-err planes fault
+
+frame-begins : (number : ℕ) (found : Found) (bytes : List ℕ) → Begins found.planes (frame_segment number found bytes)
+unfolding frame_segment
+frame-begins number found bytes =
+    begins-else found.planes (is_some found.frame) _ _ (
+    begins-bind found.planes (sof_at number bytes) _ (λ f.
+    begins-bind found.planes (accepted f.0) _ (λ decoded. begins-onward found.planes _ f.1 refl)))
+
+quantization-begins : (found : Found) (bytes : List ℕ) → Begins found.planes (quantization_segment found bytes)
+unfolding quantization_segment
+quantization-begins found bytes = begins-bind found.planes (dqt_at bytes) _ (λ t. begins-onward found.planes _ t.1 refl)
+
+huffman-begins : (found : Found) (bytes : List ℕ) → Begins found.planes (huffman_segment found bytes)
+unfolding huffman_segment
+huffman-begins found bytes = begins-bind found.planes (dht_at (option_map (λ f. f.is_baseline) found.frame) bytes) _ (λ t. begins-onward found.planes _ t.1 refl)
+
+restart-begins : (found : Found) (bytes : List ℕ) → Begins found.planes (restart_segment found bytes)
+unfolding restart_segment
+restart-begins found bytes = begins-bind found.planes (dri_at bytes) _ (λ t. begins-onward found.planes _ t.1 refl)
+
+application-begins : (number : ℕ) (found : Found) (bytes : List ℕ) → Begins found.planes (application_segment number found bytes)
+unfolding application_segment
+application-begins number found bytes = begins-bind found.planes (app_at number bytes) _ (λ t. begins-onward found.planes _ t.1 refl)
+
+skipped-begins : (found : Found) (bytes : List ℕ) → Begins found.planes (skipped_segment found bytes)
+unfolding skipped_segment
+skipped-begins found bytes =
+    begins-bind found.planes (length_at bytes) _ (λ n. begins-bind found.planes (skip_at n.0 n.1) _ (λ u. begins-onward found.planes found u.1 refl))
+
+scan-begins : (found : Found) (bytes : List ℕ) → is_some found.frame ≡ false → Begins found.planes (scan_segment found bytes)
+unfolding scan_segment
+scan-begins found bytes none = begins-needed found.planes found.frame _ none
+
+end-begins : (found : Found) (bytes : List ℕ) → is_some found.frame ≡ false → Begins found.planes (end_segment found bytes)
+unfolding end_segment
+end-begins found bytes none = begins-then found.planes (is_some found.frame) _ _ none
+
+segment-begins : (m : Marker) (found : Found) (bytes : List ℕ) → is_some found.frame ≡ false → Begins found.planes (segment_at m Elsewhere found bytes)
+unfolding segment_at
+segment-begins (SOF number) found bytes none = frame-begins number found bytes
+segment-begins DQT found bytes none = quantization-begins found bytes
+segment-begins DHT found bytes none = huffman-begins found bytes
+segment-begins SOS found bytes none = scan-begins found bytes none
+segment-begins EOI found bytes none = end-begins found bytes none
+segment-begins DRI found bytes none = restart-begins found bytes
+segment-begins (APP number) found bytes none = application-begins number found bytes
+segment-begins COM found bytes none = skipped-begins found bytes
+segment-begins (RST n) found bytes none = begins-err found.planes _
+segment-begins DNL found bytes none = begins-err found.planes _
+segment-begins JPG found bytes none = begins-err found.planes _
+segment-begins DAC found bytes none = begins-err found.planes _
+segment-begins SOI found bytes none = begins-err found.planes _
+segment-begins DHP found bytes none = begins-err found.planes _
+segment-begins EXP found bytes none = begins-err found.planes _
+segment-begins (JPGn n) found bytes none = begins-err found.planes _
+segment-begins TEM found bytes none = begins-err found.planes _
+segment-begins RES found bytes none = begins-err found.planes _
+
+turn-begins : (found : Found) (bytes : List ℕ) → is_some found.frame ≡ false → Begins found.planes (turn_at Elsewhere found None bytes)
+unfolding turn_at
+turn-begins found bytes none = begins-bind found.planes (next_marker bytes) _ (λ m. segment-begins m.0 found m.1 none)
+
+begins-at : (planes : List (Option (List ℕ))) (r : Outcome Turn) (x : Turn × List ℕ) → Begins planes r → r ≡ Ok x
+    → (x.0.ended ≡ false) × ((x.0.before ≡ Elsewhere) × ((x.0.met ≡ None) × (x.0.found.planes ≡ planes)))
+unfolding Begins
+begins-at planes r x h e = rw e at h
+
+-- ---- the turns up to the frame
+
+chosen : {A P : Type 0} (b : Bool) (x y z : A) → cond b x y ≡ z → (b ≡ true → x ≡ z → P) → (b ≡ false → y ≡ z → P) → P
+chosen true x y z e p q = p refl e
+chosen false x y z e p q = q refl e
+
+not-ok : {A P : Type 0} (fault : Fault) (x : A) → let X : Type 0 = Result A Fault in Path X (Err fault) (Ok x) → P
+not-ok fault x e = absurd (let n : ⊥ = cc in n)
+
+not-err : {A P : Type 0} (fault : Fault) (x : A) → let X : Type 0 = Result A Fault in Path X (Ok x) (Err fault) → P
+not-err fault x e = absurd (let n : ⊥ = cc in n)
+
+same-parts : {A : Type 0} (x y : A) (rest rest' : List ℕ) → let X : Type 0 = Outcome A in Path X (Ok (x, rest)) (Ok (y, rest')) → (x ≡ y) × (rest ≡ rest')
+same-parts {A} x y rest rest' e = let pair : Path (A × List ℕ) (x, rest) (y, rest') = cc in (ap (λ p. p.0) pair, ap (λ p. p.1) pair)
+
+pub bind-ok : {A B P : Type 0} (r : Result A Fault) (f : A → Result B Fault) (y : B) → r >>= f ≡ Ok y → ((x : A) → r ≡ Ok x → f x ≡ Ok y → P) → P
+bind-ok (Ok x) f y e next = next x refl e
+bind-ok (Err fault) f y e next = not-ok fault y e
+
+pub bind-err : {A B P : Type 0} (r : Result A Fault) (f : A → Result B Fault) (fault : Fault) → r >>= f ≡ Err fault
+    → (r ≡ Err fault → P) → ((x : A) → r ≡ Ok x → f x ≡ Err fault → P) → P
+bind-err (Ok x) f fault e p q = q x refl e
+bind-err (Err other) f fault e p q = let same : other ≡ fault = cc in p (rw same refl)
+
+-- the turns behind one in front of the frame
+abbrev pub behind : ℕ → Turn × List ℕ → Outcome Found
+behind n t = if t.0.ended then Ok (t.0.found, t.1) else segments_within n true t.0.before t.0.found t.0.met t.1
+
+behind-begun : (n : ℕ) (t : Turn) (rest : List ℕ) → t.ended ≡ false → t.before ≡ Elsewhere → t.met ≡ None → behind n (t, rest) ≡ segments_within n true Elsewhere t.found None rest
+behind-begun n t rest e b m = rw (e, b, m) refl
+
+next-begun : (found : Found) (bytes rest : List ℕ) (t : Turn) → t.ended ≡ false → t.before ≡ Elsewhere → t.met ≡ None → turn_at Elsewhere found None bytes ≡ Ok (t, rest)
+    → segments_at false Elsewhere found None bytes ≡ segments_at false Elsewhere t.found None rest
+next-begun found bytes rest t e b m was =
+    segments-next false Elsewhere found None bytes rest t refl refl e was ∙ rw (b, m) refl
+
+pub header-rest : (n : ℕ) (found next : Found) (bytes rest : List ℕ) → segments_within n true Elsewhere found None bytes ≡ Ok (next, rest)
+    → segments_at false Elsewhere found None bytes ≡ segments_at false Elsewhere next None rest
+unfolding segments_within
+header-rest zero found next bytes rest e = not-ok End _ e
+header-rest (suc n) found next bytes rest e =
+    chosen (is_some found.frame) (Ok (found, bytes)) (turn_at Elsewhere found None bytes >>= behind n) (Ok (next, rest)) e
+    (λ some is. let parts = same-parts found next bytes rest is in rw (parts.0, parts.1) refl)
+    (λ none is. bind-ok (turn_at Elsewhere found None bytes) (behind n) (next, rest) is (λ turn was more.
+    let s = begins-at found.planes (turn_at Elsewhere found None bytes) turn (turn-begins found bytes none) was in
+    next-begun found bytes turn.1 turn.0 s.0 s.1.0 s.1.1.0 was
+    ∙ header-rest n turn.0.found next turn.1 rest (sym (behind-begun n turn.0 turn.1 s.0 s.1.0 s.1.1.0) ∙ more)))
+
+pub header-refused : (n : ℕ) (found : Found) (bytes : List ℕ) (fault : Fault) → length bytes < n → segments_within n true Elsewhere found None bytes ≡ Err fault
+    → segments_at false Elsewhere found None bytes ≡ Err fault
+unfolding segments_within
+header-refused zero found bytes fault few e = absurd (omega arith)
+header-refused (suc n) found bytes fault few e =
+    chosen (is_some found.frame) (Ok (found, bytes)) (turn_at Elsewhere found None bytes >>= behind n) (Err fault) e
+    (λ some is. not-err fault _ is)
+    (λ none is. bind-err (turn_at Elsewhere found None bytes) (behind n) fault is
+    (λ was. segments-refused false Elsewhere found None bytes fault refl was)
+    (λ turn was more.
+    let s = begins-at found.planes (turn_at Elsewhere found None bytes) turn (turn-begins found bytes none) was in
+    let took = turn-takes Elsewhere found None bytes turn refl was s.0 in
+    let less : length turn.1 < length bytes = took.0 in
+    next-begun found bytes turn.1 turn.0 s.0 s.1.0 s.1.1.0 was
+    ∙ header-refused n turn.0.found turn.1 fault (omega arith) (sym (behind-begun n turn.0 turn.1 s.0 s.1.0 s.1.1.0) ∙ more)))
+
+-- ---- no plane is decided
+
+planes-turn : (n : ℕ) (found : Found) (bytes : List ℕ) → ((f : Found) (bs : List ℕ) → (told_within n true Elsewhere f None bs).planes ≡ f.planes) → is_some found.frame ≡ false
+    → (r : Outcome Turn) → turn_at Elsewhere found None bytes ≡ r → (told_within (suc n) true Elsewhere found None bytes).planes ≡ found.planes
+unfolding told_within
+planes-turn n found bytes each none (Err fault) was = rw (none, was) refl
+planes-turn n found bytes each none (Ok turn) was =
+    let s = begins-at found.planes (turn_at Elsewhere found None bytes) turn (turn-begins found bytes none) was in
+    let here : told_within (suc n) true Elsewhere found None bytes ≡ told_within n true Elsewhere turn.0.found None turn.1 = rw (none, was, s.0, s.1.0, s.1.1.0) refl in
+    ap (λ (f : Found). f.planes) here ∙ each turn.0.found turn.1 ∙ s.1.1.1
+
+planes-kept : (n : ℕ) (found : Found) (bytes : List ℕ) → (told_within n true Elsewhere found None bytes).planes ≡ found.planes
+unfolding told_within
+planes-kept zero found bytes = refl
+planes-kept (suc n) found bytes =
+    either (is_some found.frame) (λ some. rw some refl)
+    (λ none. planes-turn n found bytes (λ f bs. planes-kept n f bs) none (turn_at Elsewhere found None bytes) refl)
+
+without-same : (f : Found) → f.planes ≡ replicate 4 None → without_planes f ≡ f
+without-same f e = ap (λ (ps : List (Option (List ℕ))). record f { planes = ps }) (sym e)
+
+pub header-planes : (bytes : List ℕ) → without_planes (told_at true Elsewhere nothing_found None bytes) ≡ told_at true Elsewhere nothing_found None bytes
+unfolding told_at nothing_found
+header-planes bytes = without-same (told_at true Elsewhere nothing_found None bytes) (planes-kept (suc (length bytes)) nothing_found bytes)

@@ -1,0 +1,35 @@
+-- Sampling ratios are refused by name alone.
+use Rattle.std.proofs.Common.{◌≡◌, ℕ, List, [], ◌∷◌, Result, Ok, Err, Option, Some, None}
+use Rattle.jpeg_bits.specs.Reading.{Fault, End, Names, ◌>>=◌}
+use Rattle.jpeg_bits.specs.declared.error.Error.{Error}
+use Rattle.jpeg_bits.specs.declared.error.Error.TheVariants.{Format, Unsupported, Io, Internal, OutOfMemory}
+use Rattle.jpeg_segments.specs.Frame.{Component, greatest}
+use Rattle.jpeg_pixels.specs.declared.upsampler.UpsampleRule.{UpsampleRule}
+use Rattle.jpeg_pixels.specs.Upsampling.{rule_of}
+use Rattle.jpeg_pixels.specs.Pictures.{Source, source_by, sources_by, sources_of, factors_of}
+use Rattle.jpeg_decoder.specs.Steps.{IsRefusal}
+
+one : (c : Component) (rule : Option UpsampleRule) (others : Result (List Source) Fault) → (others ≡ Err End → ⊥)
+    → (source_by c rule >>= λ (s : Source). (others >>= λ (rest : List Source). Ok (s ∷ rest))) ≡ Err End → ⊥
+one c None others h e = cc
+one c (Some rule) (Ok rest) h e = cc
+one c (Some rule) (Err fault) h e = h e
+
+never-end : (h v width height : ℕ) (components : List Component) → sources_by h v width height components ≡ Err End → ⊥
+unfolding sources_by
+never-end h v width height [] e = cc
+never-end h v width height (c ∷ more) e =
+    one c (rule_of c.factors.horizontal c.factors.vertical h v width height) (sources_by h v width height more) (never-end h v width height more) e
+
+-- an error that names a refusal of ratios is one of a call with no source
+refused : (e : Error) (o : Result (List Source) Fault) → (o ≡ Err End → ⊥) → Names e o → IsRefusal e
+refused (Format text) o h n = tt
+refused (Unsupported feature) o h n = tt
+refused (Io error) o h n = h n.0
+refused (Internal text) o h n = n
+refused OutOfMemory o h n = tt
+
+pub ratios-refused : (e : Error) (components : List Component) (width height : ℕ) → Names e (sources_of components width height) → IsRefusal e
+ratios-refused e components width height n =
+    refused e (sources_of components width height)
+    (never-end (greatest (λ f. f.horizontal) (factors_of components)) (greatest (λ f. f.vertical) (factors_of components)) width height components) n

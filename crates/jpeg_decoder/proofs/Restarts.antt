@@ -1,0 +1,129 @@
+-- Restart markers behind a scan.
+use Rattle.std.proofs.Common.{◌≡◌, ◌<◌, ℕ, zero, suc, List, Result, Ok, Err, Bool, true, false, Option, Some, None, refl, sym, ap, ◌∙◌, length, arith}
+use Rattle.jpeg_bits.specs.Reading.{Outcome, Fault, ◌>>=◌}
+use Rattle.jpeg_bits.specs.Marker.{next_marker}
+use Rattle.jpeg_bits.specs.declared.marker.Marker.{Marker}
+use Rattle.jpeg_bits.specs.declared.marker.Marker.TheVariants.{SOF, JPG, DHT, DAC, RST, SOI, EOI, SOS, DQT, DNL, DRI, DHP, EXP, APP, JPGn, COM, TEM, RES}
+use Rattle.jpeg_decoder.specs.Stream.{behind_restarts}
+use Rattle.jpeg_decoder.specs.Steps.{is_restart, behind_all}
+use Rattle.jpeg_decoder.proofs.Shorter.{LeavesBelow, below-at, marker-below}
+
+pub bind-same : {A B : Type 0} (r : Result A Fault) (f g : A → Result B Fault) → ((x : A) → r ≡ Ok x → f x ≡ g x) → r >>= f ≡ r >>= g
+bind-same (Ok x) f g h = h x refl
+bind-same (Err fault) f g h = refl
+
+-- the markers behind the first, which is a restart marker
+abbrev pub others : ℕ → List ℕ → Outcome (Option Marker)
+others turns bytes = next_marker bytes >>= (λ (m : Marker × List ℕ). behind_restarts turns (Some m.0) m.1)
+
+restarts-none : (turns : ℕ) (met : Option Marker) (bytes : List ℕ) → is_restart met ≡ false → behind_restarts (suc turns) met bytes ≡ Ok (met, bytes)
+unfolding behind_restarts
+restarts-none turns None bytes e = refl
+restarts-none turns (Some (RST n)) bytes e = absurd (let n : ⊥ = cc in n)
+restarts-none turns (Some (SOF n)) bytes e = refl
+restarts-none turns (Some JPG) bytes e = refl
+restarts-none turns (Some DHT) bytes e = refl
+restarts-none turns (Some DAC) bytes e = refl
+restarts-none turns (Some SOI) bytes e = refl
+restarts-none turns (Some EOI) bytes e = refl
+restarts-none turns (Some SOS) bytes e = refl
+restarts-none turns (Some DQT) bytes e = refl
+restarts-none turns (Some DNL) bytes e = refl
+restarts-none turns (Some DRI) bytes e = refl
+restarts-none turns (Some DHP) bytes e = refl
+restarts-none turns (Some EXP) bytes e = refl
+restarts-none turns (Some (APP n)) bytes e = refl
+restarts-none turns (Some (JPGn n)) bytes e = refl
+restarts-none turns (Some COM) bytes e = refl
+restarts-none turns (Some TEM) bytes e = refl
+restarts-none turns (Some RES) bytes e = refl
+
+restarts-more : (turns : ℕ) (met : Option Marker) (bytes : List ℕ) → is_restart met ≡ true → behind_restarts (suc turns) met bytes ≡ others turns bytes
+unfolding behind_restarts
+restarts-more turns (Some (RST n)) bytes e = refl
+restarts-more turns None bytes e = absurd (let n : ⊥ = cc in n)
+restarts-more turns (Some (SOF n)) bytes e = absurd (let n : ⊥ = cc in n)
+restarts-more turns (Some JPG) bytes e = absurd (let n : ⊥ = cc in n)
+restarts-more turns (Some DHT) bytes e = absurd (let n : ⊥ = cc in n)
+restarts-more turns (Some DAC) bytes e = absurd (let n : ⊥ = cc in n)
+restarts-more turns (Some SOI) bytes e = absurd (let n : ⊥ = cc in n)
+restarts-more turns (Some EOI) bytes e = absurd (let n : ⊥ = cc in n)
+restarts-more turns (Some SOS) bytes e = absurd (let n : ⊥ = cc in n)
+restarts-more turns (Some DQT) bytes e = absurd (let n : ⊥ = cc in n)
+restarts-more turns (Some DNL) bytes e = absurd (let n : ⊥ = cc in n)
+restarts-more turns (Some DRI) bytes e = absurd (let n : ⊥ = cc in n)
+restarts-more turns (Some DHP) bytes e = absurd (let n : ⊥ = cc in n)
+restarts-more turns (Some EXP) bytes e = absurd (let n : ⊥ = cc in n)
+restarts-more turns (Some (APP n)) bytes e = absurd (let n : ⊥ = cc in n)
+restarts-more turns (Some (JPGn n)) bytes e = absurd (let n : ⊥ = cc in n)
+restarts-more turns (Some COM) bytes e = absurd (let n : ⊥ = cc in n)
+restarts-more turns (Some TEM) bytes e = absurd (let n : ⊥ = cc in n)
+restarts-more turns (Some RES) bytes e = absurd (let n : ⊥ = cc in n)
+
+pub either : {P : Type 0} (b : Bool) → (b ≡ true → P) → (b ≡ false → P) → P
+either true f g = f refl
+either false f g = g refl
+
+-- more turns than bytes change nothing
+restarts-enough : (m n : ℕ) (met : Option Marker) (bytes : List ℕ) → length bytes < m → length bytes < n → behind_restarts m met bytes ≡ behind_restarts n met bytes
+restarts-enough zero n met bytes p q = absurd (omega arith)
+restarts-enough (suc m) zero met bytes p q = absurd (omega arith)
+restarts-enough (suc m) (suc n) met bytes p q =
+    either (is_restart met)
+    (λ e. restarts-more m met bytes e ∙ bind-same (next_marker bytes) _ _ (λ r is.
+    let less : length r.1 < length bytes = below-at (length bytes) (next_marker bytes) r (marker-below bytes) is in
+    restarts-enough m n (Some r.0) r.1 (omega arith) (omega arith)) ∙ sym (restarts-more n met bytes e))
+    (λ e. restarts-none m met bytes e ∙ sym (restarts-none n met bytes e))
+
+pub marker-takes : (bytes : List ℕ) (r : Marker × List ℕ) → next_marker bytes ≡ Ok r → length r.1 < length bytes
+marker-takes bytes r is = below-at (length bytes) (next_marker bytes) r (marker-below bytes) is
+
+-- ---- all of them
+
+pub behind-done : (met : Option Marker) (bytes : List ℕ) → is_restart met ≡ false → behind_all met bytes ≡ Ok (met, bytes)
+unfolding behind_all
+behind-done met bytes e = restarts-none (length bytes) met bytes e
+
+pub behind-refused : (met : Option Marker) (bytes : List ℕ) (fault : Fault) → is_restart met ≡ true → next_marker bytes ≡ Err fault → behind_all met bytes ≡ Err fault
+unfolding behind_all
+behind-refused met bytes fault e q = restarts-more (length bytes) met bytes e ∙ rw q refl
+
+pub behind-next : (met : Option Marker) (bytes rest : List ℕ) (m : Marker) → is_restart met ≡ true → next_marker bytes ≡ Ok (m, rest) → behind_all met bytes ≡ behind_all (Some m) rest
+unfolding behind_all
+behind-next met bytes rest m e q =
+    let less : length rest < length bytes = marker-takes bytes (m, rest) q in
+    restarts-more (length bytes) met bytes e ∙ ap (λ (o : Outcome Marker). o >>= (λ (x : Marker × List ℕ). behind_restarts (length bytes) (Some x.0) x.1)) q
+    ∙ restarts-enough (length bytes) (suc (length rest)) (Some m) rest less (omega arith)
+
+-- Fewer bytes are left than the limit, and no restart marker is met.
+unfoldable pub Passes : ℕ → Outcome (Option Marker) → Type 0
+Passes limit (Ok x) = (length x.1 < limit) × (is_restart x.0 ≡ false)
+Passes limit (Err fault) = Unit {0}
+
+bind-passes : (limit first : ℕ) (r : Outcome Marker) (f : Marker × List ℕ → Outcome (Option Marker)) → LeavesBelow first r → ((x : Marker × List ℕ) → length x.1 < first → Passes limit (f x)) → Passes limit (r >>= f)
+unfolding Passes LeavesBelow
+bind-passes limit first (Ok x) f p q = q x p
+bind-passes limit first (Err fault) f p q = tt
+
+ok-passes : (limit : ℕ) (met : Option Marker) (bytes : List ℕ) → length bytes < limit → is_restart met ≡ false → Passes limit (Ok (met, bytes))
+unfolding Passes
+ok-passes limit met bytes h e = (h, e)
+
+none-passes : (limit : ℕ) (fault : Fault) → Passes limit (Err fault)
+unfolding Passes
+none-passes limit fault = tt
+
+as-passes : (limit : ℕ) (r s : Outcome (Option Marker)) → r ≡ s → Passes limit s → Passes limit r
+as-passes limit r s e h = rw e h
+
+restarts-pass : (limit turns : ℕ) (met : Option Marker) (bytes : List ℕ) → length bytes < limit → Passes limit (behind_restarts turns met bytes)
+unfolding behind_restarts
+restarts-pass limit zero met bytes h = none-passes limit _
+restarts-pass limit (suc turns) met bytes h =
+    either (is_restart met)
+    (λ e. as-passes limit _ _ (restarts-more turns met bytes e)
+    (bind-passes limit (length bytes) (next_marker bytes) _ (marker-below bytes) (λ m p. restarts-pass limit turns (Some m.0) m.1 (omega arith))))
+    (λ e. as-passes limit _ _ (restarts-none turns met bytes e) (ok-passes limit met bytes h e))
+
+pub behind-passes : (limit : ℕ) (met : Option Marker) (bytes : List ℕ) → length bytes < limit → Passes limit (behind_restarts (suc (length bytes)) met bytes)
+behind-passes limit met bytes h = restarts-pass limit (suc (length bytes)) met bytes h

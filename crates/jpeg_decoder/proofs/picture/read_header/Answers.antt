@@ -1,0 +1,22 @@
+use Rattle.std.proofs.Common.{◌∙◌, sym, ap, None, true}
+use Rattle.std.proofs.lemmas.Result.{err_from_is_err_and}
+use Rattle.jpeg_decoder.specs.Stream.{Found, start_at, told_at}
+use Rattle.jpeg_decoder.specs.declared.segments.Before.TheVariants.{Elsewhere}
+use Rattle.jpeg_decoder.proofs.Refusals.{told-err}
+use Rattle.jpeg_decoder.proofs.Told.{told-no_start, told-header, told-through}
+use Rattle.jpeg_decoder.proofs.picture.read_header.Goals as goal
+
+pub returns-in_err-read_start-clause-told : goal.returns-in_err-read_start-clause-told
+returns-in_err-read_start-clause-told g c =
+    let p = err_from_is_err_and c.from_residual.result c.from_residual.ensures.1 in
+    rw (p.1, p.2) (λ k known.
+    told-err _ (start_at c.args.source.now.bytes) _ (c.in_err-read_start.ensures.1 k known)
+    (λ f h. c.requires ∙ sym (told-no_start true c.args.source.now.bytes f h)))
+
+pub returns-clause-told : goal.returns-clause-told
+returns-clause-told g c =
+    told-through {X = Unit {0}} c.args.source.now c.read_start.new.source c.read.new.source c.read.result _ _
+    (λ k.
+    let at = c.in_ok-read_start.ensures.1 k in
+    (at.0, λ p. p ∙ ap (λ (f : Found). told_at true Elsewhere f None c.read_start.new.source.bytes) c.requires ∙ sym (told-header c.args.source.now.bytes c.read_start.new.source.bytes at.1)))
+    c.read.ensures.told

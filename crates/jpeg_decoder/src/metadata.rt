@@ -1,0 +1,58 @@
+//! What the segments of applications have said.
+
+use jpeg_bits::error::Result;
+use jpeg_segments::parser::{AdobeColorTransform, AppData, IccChunk};
+use std::alloc::Global;
+
+/// What the segments of applications have said: whether JFIF or an MJPEG frame was named, and the last Adobe transform, Exif, XMP and Photoshop
+/// data; parts of ICC profiles add up.
+#[derive(Drop)]
+pub struct Metadata {
+    pub jfif: bool,
+    pub avi1: bool,
+    pub adobe: Option<AdobeColorTransform>,
+    pub exif: Option<Vec<u8>>,
+    pub xmp: Option<Vec<u8>>,
+    pub psir: Option<Vec<u8>>,
+    pub icc: Vec<IccChunk>,
+}
+
+impl Metadata {
+    ghost use Rattle.std.specs.Prelude.{◌≡◌, MatchResult, option_map};
+    ghost use Rattle.jpeg_bits.specs.declared.error.Error.TheVariants.{OutOfMemory};
+    ghost use Rattle.jpeg_segments.specs.FrameView.{application_in};
+    ghost use Rattle.jpeg_decoder.specs.Stream.{no_metadata, with_application};
+    ghost use Rattle.jpeg_decoder.specs.Seen.{metadata_in};
+
+    /// Nothing has been said.
+    pub fn new(alloc: Global) -> Metadata
+        ensures { metadata_in result ≡ no_metadata }
+    {
+        Metadata {
+            jfif: false,
+            avi1: false,
+            adobe: None,
+            exif: None,
+            xmp: None,
+            psir: None,
+            icc: Vec::new(alloc),
+        }
+    }
+
+    /// What the segment of an application says is added. Where memory is wanting nothing changes.
+    pub fn add(&mut self, said: Option<AppData>) -> Result<()>
+        ensures { MatchResult result (λ _. metadata_in self.new ≡ with_application (metadata_in self.old) (option_map application_in said)) (λ e. (e ≡ OutOfMemory) × (metadata_in self.new ≡ metadata_in self.old)) }
+    {
+        match said {
+            None => {}
+            Some(AppData::Adobe(transform)) => self.adobe = Some(transform),
+            Some(AppData::Jfif) => self.jfif = true,
+            Some(AppData::Avi1) => self.avi1 = true,
+            Some(AppData::Icc(chunk)) => self.icc.push(chunk)?,
+            Some(AppData::Exif(bytes)) => self.exif = Some(bytes),
+            Some(AppData::Xmp(bytes)) => self.xmp = Some(bytes),
+            Some(AppData::Psir(bytes)) => self.psir = Some(bytes),
+        }
+        Ok(())
+    }
+}

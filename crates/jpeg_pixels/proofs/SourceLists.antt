@@ -1,0 +1,90 @@
+-- The components of a frame, one after the other.
+use Rattle.std.proofs.Common.{◌≡◌, ℕ, zero, suc, ◌<◌, ◌≤◌, List, [], ◌∷◌, ◌++◌, length, get_or, max, sym, ap, ◌∙◌, refl, arith, append_assoc, Result, Ok, Err}
+use Rattle.std.proofs.lemmas.List.{append-nil}
+use Rattle.jpeg_bits.specs.Reading.{Fault, Malformed, Lacks, Names, ◌>>=◌}
+use Rattle.jpeg_bits.specs.declared.error.Error.{Error}
+use Rattle.jpeg_bits.specs.declared.error.Error.TheVariants as errors
+use Rattle.jpeg_segments.specs.Frame.{Component, Factors, greatest}
+use Rattle.jpeg_pixels.specs.Pictures.{Source, source_of, sources_by}
+use Rattle.jpeg_segments.specs.Frame.{HasFactors, AllHaveFactors}
+
+-- the greatest factor is at least 1
+greatest-some : (f : Factors → ℕ) (cs : List Factors) → 1 ≤ greatest f cs
+greatest-some f [] = omega arith
+greatest-some f (c ∷ more) = let h = greatest-some f more in omega arith
+
+pub greatest-start : (f : Factors → ℕ) (cs : List Factors) → max 1 (greatest f cs) ≡ greatest f cs
+greatest-start f cs = let h = greatest-some f cs in omega arith
+
+pub factors-at : (cs : List Component) (k : ℕ) (c : Component) → AllHaveFactors cs → k < length cs → HasFactors (get_or cs k c)
+unfolding AllHaveFactors
+factors-at [] k c all h = absurd (omega arith)
+factors-at (d ∷ more) zero c all h = all.0
+factors-at (d ∷ more) (suc k) c all h = factors-at more k c all.1 (omega arith)
+
+-- some sources in front of others
+pub behind : List Source → Result (List Source) Fault → Result (List Source) Fault
+behind before (Ok others) = Ok (before ++ others)
+behind before (Err e) = Err e
+
+abbrev as_all : List Source → Result (List Source) Fault
+as_all l = Ok l
+
+-- what all sources are, by the first and by those that are still to come
+pub record Continues (before : List Source) (rest all : Result (List Source) Fault) : Type 0 where
+  pub same : all ≡ behind before rest
+
+pub sources-start : (all : Result (List Source) Fault) → Continues [] all all
+unfolding behind
+sources-start (Ok others) = record { same = refl }
+sources-start (Err e) = record { same = refl }
+
+pub sources-more : (most_h most_v width height : ℕ) (before : List Source) (c : Component) (more : List Component) (s : Source) (all : Result (List Source) Fault)
+    → source_of most_h most_v width height c ≡ Ok s
+    → Continues before (sources_by most_h most_v width height (c ∷ more)) all
+    → Continues (before ++ (s ∷ [])) (sources_by most_h most_v width height more) all
+unfolding behind sources_by
+sources-more most_h most_v width height before c more s all is so_far = record {
+  same = so_far.same
+      ∙ ap (λ (o : Result Source Fault). behind before (o >>= (λ t. sources_by most_h most_v width height more >>= (λ others. Ok (t ∷ others))))) is
+      ∙ moved (sources_by most_h most_v width height more);
+}
+  where
+    moved : (rest : Result (List Source) Fault) → behind before (rest >>= (λ others. Ok (s ∷ others))) ≡ behind (before ++ (s ∷ [])) rest
+    moved (Ok others) = ap as_all (sym (append_assoc before (s ∷ []) others))
+    moved (Err e) = refl
+
+pub sources-end : (most_h most_v width height : ℕ) (before : List Source) (all : Result (List Source) Fault)
+    → Continues before (sources_by most_h most_v width height []) all → all ≡ Ok before
+unfolding behind sources_by
+sources-end most_h most_v width height before all so_far = so_far.same ∙ ap as_all (append-nil before)
+
+-- an error that names the fault of one outcome names that of another with the same faults
+pub Names-on : {X Y : Type 0} (e : Error) (one : Result X Fault) (all : Result Y Fault) → ((f : Fault) → one ≡ Err f → all ≡ Err f) → Names e one → Names e all
+Names-on (errors.Format text) one all same names = same Malformed names
+Names-on (errors.Unsupported feature) one all same names = same (Lacks feature) names
+Names-on (errors.Io e) one all same names = (same _ names.0, names.1)
+Names-on (errors.Internal text) one all same names = names
+Names-on errors.OutOfMemory one all same names = tt
+
+pub sources-err : (most_h most_v width height : ℕ) (before : List Source) (c : Component) (more : List Component) (e : Error) (all : Result (List Source) Fault)
+    → Names e (source_of most_h most_v width height c)
+    → Continues before (sources_by most_h most_v width height (c ∷ more)) all
+    → Names e all
+unfolding behind sources_by
+sources-err most_h most_v width height before c more e all names so_far = Names-on e (source_of most_h most_v width height c) all
+    (λ f is. so_far.same ∙ ap (λ (o : Result Source Fault). behind before (o >>= (λ t. sources_by most_h most_v width height more >>= (λ others. Ok (t ∷ others))))) is) names
+
+-- as many sources as components
+pub sources-length : (most_h most_v width height : ℕ) (cs : List Component) (sources : List Source) → sources_by most_h most_v width height cs ≡ Ok sources → length sources ≡ length cs
+unfolding sources_by
+sources-length most_h most_v width height [] sources is = let e : [] ≡ sources = cc in sym (ap length e)
+sources-length most_h most_v width height (c ∷ more) sources is = by_source (source_of most_h most_v width height c) (sources_by most_h most_v width height more) (λ others e. sources-length most_h most_v width height more others e) is
+  where
+    by_source : (one : Result Source Fault) (rest : Result (List Source) Fault) → ((others : List Source) → rest ≡ Ok others → length others ≡ length more)
+        → (one >>= (λ s. rest >>= (λ others. Ok (s ∷ others)))) ≡ Ok sources → length sources ≡ suc (length more)
+    by_source (Err e) rest known is = absurd (cc)
+    by_source (Ok s) (Err e) known is = absurd (cc)
+    by_source (Ok s) (Ok others) known is =
+        let e : s ∷ others ≡ sources = cc in
+        sym (ap length e) ∙ ap suc (known others refl)

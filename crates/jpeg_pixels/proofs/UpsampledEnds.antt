@@ -1,0 +1,98 @@
+-- Samples at the ends of a component.
+use Rattle.std.proofs.Common.{◌≡◌, ℕ, ◌+◌, ◌-◌, ◌*◌, ◌/◌, ◌%◌, ◌<◌, ◌≤◌, arith, ap, ◌∙◌, inl, inr}
+use Rattle.std.proofs.lemmas.Bool.{cases_eq}
+use Rattle.std.proofs.lemmas.Nat.{div-mul-add}
+use Rattle.jpeg_pixels.specs.Upsampling.{across, down, blended, far_place, upsampled}
+use Rattle.jpeg_pixels.specs.declared.upsampler.UpsampleRule.{UpsampleRule}
+use Rattle.jpeg_pixels.specs.declared.upsampler.UpsampleRule.TheVariants.{H1V1, H2V1, H1V2, H2V2, Generic}
+use Rattle.jpeg_pixels.proofs.UpsampledRows.{far_even, far_odd}
+
+alike : (a : ℕ) → blended a a ≡ a
+alike a = omega arith
+
+-- three parts of one line and one of the same line, then three parts of one sum and one of the same sum
+alike_twice : (a : ℕ) → (3 * (3 * a + a) + (3 * a + a) + 8) / 16 ≡ a
+alike_twice a = omega arith
+
+-- the nearer and the farther place at the ends
+far_first : (count : ℕ) → far_place count 0 ≡ 0
+far_first count = far_even count 0 (omega arith) ∙ omega arith
+
+near_last : (count : ℕ) → 1 ≤ count → (2 * count - 1) / 2 ≡ count - 1
+near_last count some = omega arith
+
+far_last : (count : ℕ) → 1 ≤ count → far_place count (2 * count - 1) ≡ count - 1
+far_last count some = far_odd count (2 * count - 1) (omega arith) ∙ omega arith
+
+-- of one place
+far_alone : (x : ℕ) → x < 2 → far_place 1 x ≡ 0
+far_alone x h = elim (cases_eq (x % 2) 0) [
+  | inl e ↦ far_even 1 x e ∙ omega arith
+  | inr ne ↦ far_odd 1 x (omega arith) ∙ omega arith
+]
+
+pub first_across : (plane : ℕ → ℕ → ℕ) (width height row : ℕ) → upsampled H2V1 plane width height 0 row ≡ plane 0 row
+unfolding upsampled
+first_across plane width height row = ap (λ f. blended (plane 0 row) (plane f row)) (far_first width) ∙ alike (plane 0 row)
+
+pub last_across : (plane : ℕ → ℕ → ℕ) (width height row : ℕ) → 1 ≤ width → upsampled H2V1 plane width height (2 * width - 1) row ≡ plane (width - 1) row
+unfolding upsampled
+last_across plane width height row some = (λ i. blended (plane (near_last width some i) row) (plane (far_last width some i) row)) ∙ alike (plane (width - 1) row)
+
+pub first_down : (plane : ℕ → ℕ → ℕ) (width height x : ℕ) → upsampled H1V2 plane width height x 0 ≡ plane x 0
+unfolding upsampled
+first_down plane width height x = ap (λ f. blended (plane x 0) (plane x f)) (far_first height) ∙ alike (plane x 0)
+
+pub last_down : (plane : ℕ → ℕ → ℕ) (width height x : ℕ) → 1 ≤ height → upsampled H1V2 plane width height x (2 * height - 1) ≡ plane x (height - 1)
+unfolding upsampled
+last_down plane width height x some = (λ i. blended (plane x (near_last height some i)) (plane x (far_last height some i))) ∙ alike (plane x (height - 1))
+
+-- a sample of H2V2 by the four places that it is blended from
+at_places : (plane : ℕ → ℕ → ℕ) (width height x row near far upper lower : ℕ) → x / 2 ≡ near → far_place width x ≡ far → row / 2 ≡ upper → far_place height row ≡ lower →
+    upsampled H2V2 plane width height x row ≡ (3 * (3 * plane near upper + plane near lower) + (3 * plane far upper + plane far lower) + 8) / 16
+unfolding upsampled
+at_places plane width height x row near far upper lower a b c d =
+    λ i. (3 * (3 * plane (a i) (c i) + plane (a i) (d i)) + (3 * plane (b i) (c i) + plane (b i) (d i)) + 8) / 16
+
+pub first_corner : (plane : ℕ → ℕ → ℕ) (width height : ℕ) → upsampled H2V2 plane width height 0 0 ≡ plane 0 0
+first_corner plane width height = at_places plane width height 0 0 0 0 0 0 (omega arith) (far_first width) (omega arith) (far_first height) ∙ alike_twice (plane 0 0)
+
+pub last_corner : (plane : ℕ → ℕ → ℕ) (width height : ℕ) → 1 ≤ width → 1 ≤ height →
+    upsampled H2V2 plane width height (2 * width - 1) (2 * height - 1) ≡ plane (width - 1) (height - 1)
+last_corner plane width height wide high =
+    at_places plane width height (2 * width - 1) (2 * height - 1) (width - 1) (width - 1) (height - 1) (height - 1)
+    (near_last width wide) (far_last width wide) (near_last height high) (far_last height high)
+    ∙ alike_twice (plane (width - 1) (height - 1))
+
+-- two lines alike are one line
+one_line : (a b : ℕ) → (3 * (3 * a + a) + (3 * b + b) + 8) / 16 ≡ blended a b
+one_line a b = omega arith
+
+pub first_line : (plane : ℕ → ℕ → ℕ) (width height x : ℕ) → upsampled H2V2 plane width height x 0 ≡ upsampled H2V1 plane width height x 0
+unfolding upsampled
+first_line plane width height x = at_places plane width height x 0 (x / 2) (far_place width x) 0 0 (λ i. x / 2) (λ i. far_place width x) (omega arith) (far_first height)
+    ∙ one_line (plane (x / 2) 0) (plane (far_place width x) 0)
+
+pub repeated : (plane : ℕ → ℕ → ℕ) (width height h v i j k l : ℕ) → k < h → l < v → upsampled (Generic h v) plane width height (i * h + k) (j * v + l) ≡ plane i j
+unfolding upsampled
+repeated plane width height h v i j k l hk hl = λ p. plane (div-mul-add i h k hk p) (div-mul-add j v l hl p)
+
+-- a component of one sample
+pub alone : (rule : UpsampleRule) (plane : ℕ → ℕ → ℕ) (x row : ℕ) → x < across rule → row < down rule → upsampled rule plane 1 1 x row ≡ plane 0 0
+unfolding upsampled
+alone H1V1 plane x row hx hr = let a : x ≡ 0 = omega arith in let b : row ≡ 0 = omega arith in λ i. plane (a i) (b i)
+alone H2V1 plane x row hx hr =
+    let a : x / 2 ≡ 0 = omega arith in
+    let b : row ≡ 0 = omega arith in
+    let f = far_alone x hx in
+    (λ i. blended (plane (a i) (b i)) (plane (f i) (b i))) ∙ alike (plane 0 0)
+alone H1V2 plane x row hx hr =
+    let a : x ≡ 0 = omega arith in
+    let b : row / 2 ≡ 0 = omega arith in
+    let f = far_alone row hr in
+    (λ i. blended (plane (a i) (b i)) (plane (a i) (f i))) ∙ alike (plane 0 0)
+alone H2V2 plane x row hx hr = at_places plane 1 1 x row 0 0 0 0 (omega arith) (far_alone x hx) (omega arith) (far_alone row hr) ∙ alike_twice (plane 0 0)
+alone (Generic h v) plane x row hx hr =
+    let a : x / h ≡ 0 = ap (λ n. n / h) (let e : x ≡ 0 * h + x = omega arith in e) ∙ div-mul-add 0 h x hx in
+    let b : row / v ≡ 0 = ap (λ n. n / v) (let e : row ≡ 0 * v + row = omega arith in e) ∙ div-mul-add 0 v row hr in
+    λ i. plane (a i) (b i)

@@ -1,0 +1,114 @@
+-- Rows of samples made wider, place by place.
+use Rattle.std.proofs.Common.{◌≡◌, ℕ, ◌+◌, ◌-◌, ◌*◌, ◌/◌, ◌%◌, ◌<◌, ◌≤◌, List, length, get_or, set, get_or-set_other, get_or-set_same, length-set, ◌≢◌, arith, ap, sym, ◌∙◌, cond, min, inl, inr, take, drop, ◌++◌, length-take}
+use Rattle.std.specs.Prelude.{◌==◌}
+use Rattle.std.proofs.lemmas.Bool.{cases_eq}
+use Rattle.std.proofs.Math.Nat.{mul_comm, mul-le-mul_right, div-lt_iff_lt-mul}
+use Rattle.std.proofs.lemmas.List.{get_or_append_left}
+use Rattle.std.proofs.lemmas.Nat.{mod-mul-add}
+use Rattle.jpeg_pixels.specs.Upsampling.{across, blended, far_place, upsampled}
+use Rattle.jpeg_pixels.specs.declared.upsampler.UpsampleRule.{UpsampleRule}
+use Rattle.jpeg_pixels.specs.declared.upsampler.UpsampleRule.TheVariants.{H1V1, H2V1, H1V2, H2V2, Generic}
+
+pub far_even : (count x : ℕ) → x % 2 ≡ 0 → far_place count x ≡ x / 2 - 1
+far_even count x e = ap (λ r. cond (r == 0) (x / 2 - 1) (min (x / 2 + 1) (count - 1))) e
+
+pub far_odd : (count x : ℕ) → x % 2 ≡ 1 → far_place count x ≡ min (x / 2 + 1) (count - 1)
+far_odd count x e = ap (λ r. cond (r == 0) (x / 2 - 1) (min (x / 2 + 1) (count - 1))) e
+
+-- the farther place is a place
+pub far_below : (count x : ℕ) → x / 2 < count → far_place count x < count
+far_below count x h = elim (cases_eq (x % 2) 0) [
+  | inl e ↦ omega (arith, far_even count x e)
+  | inr ne ↦ omega (arith, far_odd count x (omega arith))
+]
+
+-- the front of a row, once it is written
+pub in_front : (n : ℕ) (new old : List ℕ) (x : ℕ) → length new ≡ length (take n old) → n ≤ length old → x < n → get_or (new ++ drop n old) x 0 ≡ get_or new x 0
+in_front n new old x long room h =
+    let inside : x < length new = omega (arith, length-take n old) in
+    get_or_append_left new (drop n old) 0 x inside
+
+-- the sample of each rule by the lines that it reads
+
+pub as_h1v1 : (rule : UpsampleRule) (plane : ℕ → ℕ → ℕ) (line : List ℕ) (width height x row : ℕ) → rule ≡ H1V1 → x < across rule * width →
+    ((i : ℕ) → i < width → get_or line i 0 ≡ plane i row) →
+    get_or line x 0 ≡ upsampled rule plane width height x row
+unfolding upsampled
+as_h1v1 rule plane line width height x row e inside each = rw e (each x below)
+  where
+    below : x < width
+    below = let one : across rule ≡ 1 = ap across e in let h : x < 1 * width = rw (← one) inside in omega arith
+
+pub as_h2v1 : (rule : UpsampleRule) (plane : ℕ → ℕ → ℕ) (line : List ℕ) (width height x row : ℕ) → rule ≡ H2V1 → length line ≡ width → x < across rule * width →
+    ((i : ℕ) → i < width → get_or line i 0 ≡ plane i row) →
+    blended (get_or line (x / 2) 0) (get_or line (far_place (length line) x) 0) ≡ upsampled rule plane width height x row
+unfolding upsampled
+as_h2v1 rule plane line width height x row e long inside each = rw e (λ i. blended (near i) (far i))
+  where
+    below : x / 2 < width
+    below = let two : across rule ≡ 2 = ap across e in let h : x < 2 * width = rw (← two) inside in omega arith
+
+    near : get_or line (x / 2) 0 ≡ plane (x / 2) row
+    near = each (x / 2) below
+
+    far : get_or line (far_place (length line) x) 0 ≡ plane (far_place width x) row
+    far = ap (λ n. get_or line (far_place n x) 0) long ∙ each (far_place width x) (far_below width x below)
+
+pub as_h1v2 : (rule : UpsampleRule) (plane : ℕ → ℕ → ℕ) (near far : List ℕ) (width height x row : ℕ) → rule ≡ H1V2 → x < across rule * width →
+    ((i : ℕ) → i < width → get_or near i 0 ≡ plane i (row / 2)) →
+    ((i : ℕ) → i < width → get_or far i 0 ≡ plane i (far_place height row)) →
+    blended (get_or near x 0) (get_or far x 0) ≡ upsampled rule plane width height x row
+unfolding upsampled
+as_h1v2 rule plane near far width height x row e inside near_is far_is = rw e (λ i. blended (near_is x below i) (far_is x below i))
+  where
+    below : x < width
+    below = let one : across rule ≡ 1 = ap across e in let h : x < 1 * width = rw (← one) inside in omega arith
+
+pub as_h2v2 : (rule : UpsampleRule) (plane : ℕ → ℕ → ℕ) (near far : List ℕ) (width height x row : ℕ) → rule ≡ H2V2 → length near ≡ width → x < across rule * width →
+    ((i : ℕ) → i < width → get_or near i 0 ≡ plane i (row / 2)) →
+    ((i : ℕ) → i < width → get_or far i 0 ≡ plane i (far_place height row)) →
+    (3 * (3 * get_or near (x / 2) 0 + get_or far (x / 2) 0) + (3 * get_or near (far_place (length near) x) 0 + get_or far (far_place (length near) x) 0) + 8) / 16
+    ≡ upsampled rule plane width height x row
+unfolding upsampled
+as_h2v2 rule plane near far width height x row e long inside near_is far_is =
+    rw (e, long) (λ i. (3 * (3 * near_is (x / 2) below i + far_is (x / 2) below i) + (3 * near_is (far_place width x) farther i + far_is (far_place width x) farther i) + 8) / 16)
+  where
+    below : x / 2 < width
+    below = let two : across rule ≡ 2 = ap across e in let h : x < 2 * width = rw (← two) inside in omega arith
+
+    farther : far_place width x < width
+    farther = far_below width x below
+
+pub as_generic : (rule : UpsampleRule) (h v : ℕ) (plane : ℕ → ℕ → ℕ) (line : List ℕ) (width height x row : ℕ) → rule ≡ Generic h v → 1 ≤ across rule → x < across rule * width →
+    ((i : ℕ) → i < width → get_or line i 0 ≡ plane i (row / v)) →
+    get_or line (x / h) 0 ≡ upsampled rule plane width height x row
+unfolding upsampled
+as_generic rule h v plane line width height x row e some inside each = rw e (each (x / h) below)
+  where
+    below : x / h < width
+    below =
+        let is : across rule ≡ h = ap across e in
+        let positive : 0 < h = omega arith in
+        let turned : x < width * h = rw (mul_comm width h, ← is) inside in
+        (div-lt_iff_lt-mul {k = h} {x = x} {y = width} positive).1 turned
+
+-- one more sample, at its place among those that are `step` apart
+pub spread_samples : (line xs ys : List ℕ) (step first i : ℕ) → first < step → i * step + first < length xs → ys ≡ set xs (i * step + first) (get_or line i 0) →
+    ((k : ℕ) → k < i → k * step + first < length xs → get_or xs (k * step + first) 0 ≡ get_or line k 0) →
+    (k : ℕ) → k < i + 1 → k * step + first < length ys → get_or ys (k * step + first) 0 ≡ get_or line k 0
+spread_samples line xs ys step first i some inside is before k h long = ap (λ (l : List ℕ). get_or l (k * step + first) 0) is ∙ (elim (cases_eq k i) [
+  | inl e ↦ ap (λ n. get_or (set xs (i * step + first) (get_or line i 0)) (n * step + first) 0) e
+      ∙ get_or-set_same xs (i * step + first) (get_or line i 0) 0 inside ∙ ap (λ n. get_or line n 0) (sym e)
+  | inr ne ↦ let next : k + 1 ≤ i = omega arith in
+      let apart : k * step + first ≢ i * step + first = omega (arith, mul-le-mul_right step next) in
+      get_or-set_other xs (i * step + first) (k * step + first) (get_or line i 0) 0 apart
+      ∙ before k (omega arith) (omega (arith, ap length is, length-set xs (i * step + first) (get_or line i 0)))
+])
+
+-- the places between
+pub spread_others : (xs ys was : List ℕ) (step first i v : ℕ) → first < step → ys ≡ set xs (i * step + first) v →
+    ((x : ℕ) → x % step ≢ first → get_or xs x 0 ≡ get_or was x 0) →
+    (x : ℕ) → x % step ≢ first → get_or ys x 0 ≡ get_or was x 0
+spread_others xs ys was step first i v some is before x between =
+    let apart : x ≢ i * step + first = λ e. between (ap (λ n. n % step) e ∙ mod-mul-add i step first some) in
+    ap (λ (l : List ℕ). get_or l x 0) is ∙ get_or-set_other xs (i * step + first) x v 0 apart ∙ before x between

@@ -1,0 +1,109 @@
+-- A picture is its lines from above.
+use Rattle.std.proofs.Common.{◌≡◌, ℕ, ◌+◌, ◌==◌, Bool, true, false, List, [], ◌∷◌, ◌++◌, length, map, sym, ap, subst, ◌∙◌, refl, arith, take, drop, length-drop, ◌-◌, Vec, Global, MatchResult, Result, Ok, Err, if◌then◌else◌}
+use Rattle.std.proofs.lemmas.List.{append-nil, take-append-drop}
+use Rattle.std.proofs.Math.ListN.{drop_of_length-le}
+use Rattle.std.proofs.Math.Seq.{take-append_seam}
+use borrow.Rule.Slice.PartMut.{put_mid}
+use Rattle.std.proofs.lemmas.List.Folds.{concat-append}
+use Rattle.std.proofs.lemmas.List.FromFn.{map-range_with_len_more}
+use Rattle.std.proofs.lemmas.Bool.Decides.{eqb_tells}
+use Rattle.std.proofs.Math.Logic.{⊎_elim}
+use Rattle.std.specs.List.{range_with_len, concat}
+use Rattle.jpeg_bits.specs.Reading.{Fault, Malformed, Names, ◌>>=◌}
+use Rattle.jpeg_bits.specs.declared.error.Error.{Error}
+use Rattle.jpeg_bits.specs.declared.error.Error.TheVariants.{OutOfMemory}
+use Rattle.jpeg_bits.specs.declared.color_transform.ColorTransform.{ColorTransform}
+use Rattle.jpeg_bits.specs.declared.color_transform.ColorTransform.TheVariants as transforms
+use Rattle.jpeg_segments.specs.Frame.{Component}
+use Rattle.jpeg_pixels.specs.declared.upsampler.ColorConvert.{ColorConvert}
+use Rattle.jpeg_pixels.specs.declared.upsampler.ColorConvert.TheVariants as converts
+use Rattle.jpeg_pixels.specs.Colour.{conversion_of}
+use Rattle.jpeg_pixels.specs.Pictures.{Source, sources_of, picture_line, picture_bytes, image_of}
+use Rattle.jpeg_pixels.specs.PicturesView.{IsFor}
+use Rattle.jpeg_pixels.proofs.SourceLists.{Names-on, sources-length}
+
+abbrev as_convert : ColorConvert → Result ColorConvert Fault
+as_convert k = Ok k
+
+-- what was grown, and then written behind its old end
+pub grown : (start size : ℕ) (old whole new tail : List ℕ) → start ≡ length old → whole ≡ take (start + size) old ++ tail → length whole ≡ start + size
+    → put_mid start (length whole - start) whole new ≡ old ++ new
+grown start size old whole new tail begins is long =
+    let none : drop (start + size) old ≡ [] = drop_of_length-le old (omega arith) in
+    let all : take (start + size) old ≡ old =
+    sym (append-nil (take (start + size) old)) ∙ ap (λ (l : List ℕ). take (start + size) old ++ l) (sym none) ∙ take-append-drop (start + size) old in
+    let front : take start whole ≡ old = ap (λ (l : List ℕ). take start l) (is ∙ ap (λ (l : List ℕ). l ++ tail) all) ∙ ap (λ n. take n (old ++ tail)) begins ∙ take-append_seam old tail in
+    let behind : drop (length whole - start) (drop start whole) ≡ [] = drop_of_length-le (drop start whole) (omega (arith, length-drop {A = ℕ})) in
+    (λ i. front i ++ (new ++ behind i)) ∙ ap (λ (l : List ℕ). old ++ l) (append-nil new)
+
+-- one more line
+pub picture-more : (convert : ColorConvert) (sources : List Source) (planes : List (List ℕ)) (width height : ℕ)
+    → picture_bytes convert sources planes width (height + 1) ≡ picture_bytes convert sources planes width height ++ picture_line convert sources planes width height
+unfolding picture_bytes
+picture-more convert sources planes width height =
+    let line = picture_line convert sources planes width in
+    ap concat (map-range_with_len_more line 0 height height (omega arith))
+    ∙ concat-append (map line (range_with_len 0 height)) (line height ∷ [])
+    ∙ ap (λ (l : List ℕ). concat (map line (range_with_len 0 height)) ++ l) (append-nil (line height))
+
+pub picture-none : (convert : ColorConvert) (sources : List Source) (planes : List (List ℕ)) (width : ℕ) → picture_bytes convert sources planes width 0 ≡ []
+unfolding picture_bytes
+picture-none convert sources planes width = refl
+
+by_count : (count n : ℕ) (own convert : ColorConvert) → (count ≡ n → IsFor count own) → (if count == n then as_convert own else Err Malformed) ≡ as_convert convert → IsFor count convert
+by_count count n own convert fits is = by_test (count == n) (λ h. ⊎_elim (λ t. t.1) (λ t. let bad : true ≡ false = sym h ∙ t.0 in absurd (cc)) (eqb_tells count n)) is
+  where
+    by_test : (b : Bool) → (b ≡ true → count ≡ n) → (if b then as_convert own else Err Malformed) ≡ as_convert convert → IsFor count convert
+    by_test true known is = let e : own ≡ convert = cc in subst (IsFor count) e (fits (known refl))
+    by_test false known is = absurd (cc)
+
+-- a conversion that a transform gives fits the number of components
+pub conversion-fits : (count : ℕ) (transform : ColorTransform) (convert : ColorConvert) → conversion_of count transform ≡ Ok convert → IsFor count convert
+unfolding conversion_of
+conversion-fits count transforms.None convert is = let e : converts.None ≡ convert = cc in subst (IsFor count) e tt
+conversion-fits count transforms.RGB convert is = by_count count 3 converts.Rgb convert (λ e. e) is
+conversion-fits count transforms.YCbCr convert is = by_count count 3 converts.YCbCr convert (λ e. e) is
+conversion-fits count transforms.CMYK convert is = by_count count 4 converts.Cmyk convert (λ e. e) is
+conversion-fits count transforms.YCCK convert is = by_count count 4 converts.Ycck convert (λ e. e) is
+conversion-fits count transforms.Grayscale convert is = absurd (cc)
+conversion-fits count transforms.Unknown convert is = absurd (cc)
+conversion-fits count transforms.JcsBgYcc convert is = absurd (cc)
+conversion-fits count transforms.JcsBgRgb convert is = absurd (cc)
+
+abbrev as_bytes : List ℕ → Result (List ℕ) Fault
+as_bytes l = Ok l
+
+pub image-is : (components : List Component) (planes : List (List ℕ)) (width height : ℕ) (transform : ColorTransform) (convert : ColorConvert) (sources : List Source) (bytes : List ℕ)
+    → conversion_of (length components) transform ≡ Ok convert → sources_of components width height ≡ Ok sources → bytes ≡ picture_bytes convert sources planes width height
+    → image_of components planes width height transform ≡ Ok bytes
+unfolding image_of
+image-is components planes width height transform convert sources bytes conversion is same =
+    ap (λ (o : Result ColorConvert Fault). o >>= (λ k. sources_of components width height >>= (λ s. as_bytes (picture_bytes k s planes width height)))) conversion
+    ∙ ap (λ (o : Result (List Source) Fault). o >>= (λ s. as_bytes (picture_bytes convert s planes width height))) is
+    ∙ ap as_bytes (sym same)
+
+pub image-no_conversion : (components : List Component) (planes : List (List ℕ)) (width height : ℕ) (transform : ColorTransform) (e : Error)
+    → Names e (conversion_of (length components) transform) → Names e (image_of components planes width height transform)
+unfolding image_of
+image-no_conversion components planes width height transform e names = Names-on e (conversion_of (length components) transform) _
+    (λ f is. ap (λ (o : Result ColorConvert Fault). o >>= (λ k. sources_of components width height >>= (λ s. as_bytes (picture_bytes k s planes width height)))) is) names
+
+pub image-no_sources : (components : List Component) (planes : List (List ℕ)) (width height : ℕ) (transform : ColorTransform) (convert : ColorConvert) (e : Error)
+    → conversion_of (length components) transform ≡ Ok convert → Names e (sources_of components width height) → Names e (image_of components planes width height transform)
+unfolding image_of
+image-no_sources components planes width height transform convert e conversion names = Names-on e (sources_of components width height) _
+    (λ f is. ap (λ (o : Result ColorConvert Fault). o >>= (λ k. sources_of components width height >>= (λ s. as_bytes (picture_bytes k s planes width height)))) conversion
+    ∙ ap (λ (o : Result (List Source) Fault). o >>= (λ s. as_bytes (picture_bytes convert s planes width height))) is) names
+
+-- what a call answered that gives the picture, or lacks memory
+pub image-answer : (components : List Component) (planes : List (List ℕ)) (width height : ℕ) (transform : ColorTransform) (convert : ColorConvert) (sources : List Source) (w h : ℕ) (result : Result (Vec ℕ Global) Error)
+    → conversion_of (length components) transform ≡ Ok convert → sources_of components width height ≡ Ok sources → w ≡ width → h ≡ height
+    → MatchResult result (λ v. v.items ≡ picture_bytes convert sources planes w h) (λ e. e ≡ OutOfMemory)
+    → MatchResult result (λ v. image_of components planes width height transform ≡ Ok v.items) (λ e. Names e (image_of components planes width height transform))
+image-answer components planes width height transform convert sources w h (Ok v) conversion is wide high same =
+    image-is components planes width height transform convert sources v.items conversion is (same ∙ (λ i. picture_bytes convert sources planes (wide i) (high i)))
+image-answer components planes width height transform convert sources w h (Err e) conversion is wide high same =
+    subst (λ (d : Error). Names d (image_of components planes width height transform)) (sym same) tt
+
+pub sources-count : (components : List Component) (width height : ℕ) (sources : List Source) → sources_of components width height ≡ Ok sources → length sources ≡ length components
+sources-count components width height sources is = sources-length _ _ width height components sources is

@@ -1,0 +1,28 @@
+use Rattle.std.proofs.Common.{◌+◌, ◌*◌, ◌/◌, ◌%◌, slice_index, arith}
+use Rattle.jpeg_pixels.specs.Colour.{red_of, green_of, blue_of}
+use Rattle.jpeg_pixels.proofs.Pieces.{piece_joined}
+use Rattle.jpeg_pixels.proofs.color_rows.write_ycbcr.Goals as goal
+
+pub loop-piece-preserved : goal.loop-piece-preserved
+loop-piece-preserved c =
+    let start = 64 * c.loop-piece.piece in
+    record {
+      red = piece_joined (λ x. 3 * x) (λ x. red_of (slice_index c.args.lines.now x) (slice_index c.args.lines.now (2 * c.args.width + x))) start 64 (64 * (c.loop-piece.piece + 1)) (3 * start) c.loop-piece.output c.write_ycbcr_piece.new.output
+          (omega arith) (λ x h. omega arith) c.loop-piece.invariant.red c.write_ycbcr_piece.ensures.red c.write_ycbcr_piece.ensures.before;
+      green = piece_joined (λ x. 3 * x + 1) (λ x. green_of (slice_index c.args.lines.now x) (slice_index c.args.lines.now (c.args.width + x)) (slice_index c.args.lines.now (2 * c.args.width + x))) start 64 (64 * (c.loop-piece.piece + 1)) (3 * start) c.loop-piece.output c.write_ycbcr_piece.new.output
+          (omega arith) (λ x h. omega arith) c.loop-piece.invariant.green c.write_ycbcr_piece.ensures.green c.write_ycbcr_piece.ensures.before;
+      blue = piece_joined (λ x. 3 * x + 2) (λ x. blue_of (slice_index c.args.lines.now x) (slice_index c.args.lines.now (c.args.width + x))) start 64 (64 * (c.loop-piece.piece + 1)) (3 * start) c.loop-piece.output c.write_ycbcr_piece.new.output
+          (omega arith) (λ x h. omega arith) c.loop-piece.invariant.blue c.write_ycbcr_piece.ensures.blue c.write_ycbcr_piece.ensures.before;
+    }
+
+pub returns : goal.returns
+returns c =
+    let start = 64 * (c.args.width / 64) in
+    record {
+      red = piece_joined (λ x. 3 * x) (λ x. red_of (slice_index c.args.lines.now x) (slice_index c.args.lines.now (2 * c.args.width + x))) start (c.args.width % 64) c.args.width (3 * start) c.loop-piece.output c.write_ycbcr_piece-2.new.output
+          (omega arith) (λ x h. omega arith) (λ x h. c.loop-piece.invariant.red x (omega arith)) c.write_ycbcr_piece-2.ensures.red c.write_ycbcr_piece-2.ensures.before;
+      green = piece_joined (λ x. 3 * x + 1) (λ x. green_of (slice_index c.args.lines.now x) (slice_index c.args.lines.now (c.args.width + x)) (slice_index c.args.lines.now (2 * c.args.width + x))) start (c.args.width % 64) c.args.width (3 * start) c.loop-piece.output c.write_ycbcr_piece-2.new.output
+          (omega arith) (λ x h. omega arith) (λ x h. c.loop-piece.invariant.green x (omega arith)) c.write_ycbcr_piece-2.ensures.green c.write_ycbcr_piece-2.ensures.before;
+      blue = piece_joined (λ x. 3 * x + 2) (λ x. blue_of (slice_index c.args.lines.now x) (slice_index c.args.lines.now (c.args.width + x))) start (c.args.width % 64) c.args.width (3 * start) c.loop-piece.output c.write_ycbcr_piece-2.new.output
+          (omega arith) (λ x h. omega arith) (λ x h. c.loop-piece.invariant.blue x (omega arith)) c.write_ycbcr_piece-2.ensures.blue c.write_ycbcr_piece-2.ensures.before;
+    }

@@ -1,0 +1,15 @@
+use Rattle.jpeg_pixels.proofs.UpsampledEnds.{alone, first_across, last_across, first_down, last_down, first_corner, last_corner, first_line, repeated}
+use Rattle.jpeg_pixels.proofs.laws.ends_are_kept.Goals as goal
+
+pub returns : goal.returns
+returns c = record {
+  alone = alone;
+  first_across = first_across;
+  last_across = last_across;
+  first_down = first_down;
+  last_down = last_down;
+  first_corner = first_corner;
+  last_corner = last_corner;
+  first_line = first_line;
+  repeated = repeated;
+}

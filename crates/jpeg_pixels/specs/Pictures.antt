@@ -1,0 +1,81 @@
+-- The picture of several components.
+use Rattle.std.specs.Prelude.{ℕ, ◌+◌, ◌-◌, ◌*◌, ◌<◌, ◌≤◌, List, [], ◌∷◌, map, length, slice_index, Option, Some, None, Result, Ok, Err}
+use Rattle.std.specs.List.{range_with_len, concat}
+use Rattle.jpeg_bits.specs.Reading.{Fault, Lacks, ◌>>=◌}
+use Rattle.jpeg_bits.specs.declared.error.UnsupportedFeature.TheVariants.{NonIntegerSubsamplingRatio}
+use Rattle.jpeg_bits.specs.declared.color_transform.ColorTransform.{ColorTransform}
+use Rattle.jpeg_segments.specs.Frame.{Component, Factors, greatest}
+use Rattle.jpeg_pixels.specs.declared.upsampler.UpsampleRule.{UpsampleRule}
+use Rattle.jpeg_pixels.specs.declared.upsampler.ColorConvert.{ColorConvert}
+use Rattle.jpeg_pixels.specs.Upsampling.{upsampled, rule_of, across, down}
+use Rattle.jpeg_pixels.specs.Colour.{line_bytes, conversion_of}
+
+-- A component's samples: how they are upsampled, their size, and the samples that a line of its plane has.
+pub record Source : Type 0 where
+  pub rule : UpsampleRule
+  pub width : ℕ
+  pub height : ℕ
+  pub stride : ℕ
+
+abbrev pub factors_of : List Component → List Factors
+factors_of components = map (λ c. c.factors) components
+
+-- how a component is upsampled in a picture of this width and height, in a frame of these greatest factors
+abbrev pub source_by : Component → Option UpsampleRule → Result Source Fault
+source_by c None = Err (Lacks NonIntegerSubsamplingRatio)
+source_by c (Some rule) = Ok (record { rule = rule; width = c.width; height = c.height; stride = c.blocks_wide * c.scale })
+
+abbrev pub source_of : ℕ → ℕ → ℕ → ℕ → Component → Result Source Fault
+source_of most_h most_v width height c = source_by c (rule_of c.factors.horizontal c.factors.vertical most_h most_v width height)
+
+-- each component's, or the first refusal
+unfoldable pub sources_by : ℕ → ℕ → ℕ → ℕ → List Component → Result (List Source) Fault
+sources_by most_h most_v width height [] = Ok []
+sources_by most_h most_v width height (c ∷ more) =
+    source_of most_h most_v width height c >>= (λ s. sources_by most_h most_v width height more >>= (λ others. Ok (s ∷ others)))
+
+abbrev pub sources_of : List Component → ℕ → ℕ → Result (List Source) Fault
+sources_of components width height =
+    sources_by (greatest (λ f. f.horizontal) (factors_of components)) (greatest (λ f. f.vertical) (factors_of components)) width height components
+
+-- a line of a component as wide as the picture
+abbrev pub line_of : Source → List ℕ → ℕ → ℕ → List ℕ
+line_of s plane width row = map (λ x. upsampled s.rule (λ i j. slice_index plane (j * s.stride + i)) s.width s.height x row) (range_with_len 0 width)
+
+unfoldable pub lines_of : List Source → List (List ℕ) → ℕ → ℕ → List (List ℕ)
+lines_of [] planes width row = []
+lines_of (s ∷ sources) [] width row = []
+lines_of (s ∷ sources) (plane ∷ planes) width row = line_of s plane width row ∷ lines_of sources planes width row
+
+-- a line of the picture
+unfoldable pub picture_line : ColorConvert → List Source → List (List ℕ) → ℕ → ℕ → List ℕ
+picture_line convert sources planes width row = line_bytes convert width (lines_of sources planes width row)
+
+-- the picture: its lines from above
+unfoldable pub picture_bytes : ColorConvert → List Source → List (List ℕ) → ℕ → ℕ → List ℕ
+picture_bytes convert sources planes width height = concat (map (picture_line convert sources planes width) (range_with_len 0 height))
+
+unfoldable pub image_of : List Component → List (List ℕ) → ℕ → ℕ → ColorTransform → Result (List ℕ) Fault
+image_of components planes width height transform =
+    conversion_of (length components) transform >>= (λ convert.
+    sources_of components width height >>= (λ sources. Ok (picture_bytes convert sources planes width height)))
+
+-- ---- what is asked of planes
+
+-- A plane has the samples that its rule asks for in a picture of this width and height.
+pub record Covers (s : Source) (plane : List ℕ) (width height : ℕ) : Type 0 where
+  pub some_width : 0 < s.width
+  pub some_height : 0 < s.height
+  pub some_across : 0 < across s.rule
+  pub some_down : 0 < down s.rule
+  pub wide_enough : width ≤ across s.rule * s.width
+  pub no_wider : across s.rule * s.width < width + across s.rule
+  pub high_enough : height ≤ down s.rule * s.height
+  pub in_stride : s.width ≤ s.stride
+  pub room : (s.height - 1) * s.stride + s.width ≤ length plane
+
+-- each plane does
+unfoldable pub AllCover : List Source → List (List ℕ) → ℕ → ℕ → Type 0
+AllCover [] planes width height = Unit {0}
+AllCover (s ∷ sources) [] width height = ⊥
+AllCover (s ∷ sources) (plane ∷ planes) width height = Covers s plane width height × AllCover sources planes width height

@@ -1,0 +1,353 @@
+//! The colours of a line (JFIF, and Adobe's transforms), in whole numbers.
+ghost use Rattle.std.specs.Prelude.{◌≡◌, ℕ, ◌+◌, ◌-◌, ◌*◌, ◌<◌, ◌≤◌, length, slice_index};
+ghost use Rattle.std.specs.Int.{int_shr};
+ghost use Rattle.jpeg_pixels.specs.Samples.{clamped};
+ghost use Rattle.jpeg_pixels.specs.Colour.{luma_of, centred_of, red_of, green_of, blue_of};
+
+use crate::idct::clamp_to_byte;
+
+fn luma(y: u8) -> i32
+    ensures { result ≡ luma_of y }
+{
+    i32::from(y) * (1 << 20) + (1 << 19)
+}
+
+fn centred(c: u8) -> i32
+    ensures { result ≡ centred_of c }
+{
+    i32::from(c) - 128
+}
+
+fn scaled_down(sum: i32) -> u8
+    ensures { result ≡ clamped (int_shr sum 20) }
+{
+    clamp_to_byte(sum >> 20)
+}
+
+fn red(y: u8, cr: u8) -> u8
+    ensures { result ≡ red_of y cr }
+{
+    let y = luma(y);
+    let cr = centred(cr);
+    scaled_down(y + 1470104 * cr)
+}
+
+fn green(y: u8, cb: u8, cr: u8) -> u8
+    ensures { result ≡ green_of y cb cr }
+{
+    let y = luma(y);
+    let cb = centred(cb);
+    let cr = centred(cr);
+    scaled_down(y - 360857 * cb - 748830 * cr)
+}
+
+fn blue(y: u8, cb: u8) -> u8
+    ensures { result ≡ blue_of y cb }
+{
+    let y = luma(y);
+    let cb = centred(cb);
+    scaled_down(y + 1858077 * cb)
+}
+
+// The red of some pixels, whose brightness stands from place `start` on, and their third component
+// from `cr_start` on.
+fn red_row(lines: &[u8], start: usize, cr_start: usize, count: usize, row: &mut [u8; 64])
+    requires most { count ≤ 64 }
+    requires luma_room { start + count ≤ length lines.now }
+    requires cr_room { cr_start + count ≤ length lines.now }
+    ensures { (x : ℕ) → x < count → slice_index row.new x
+        ≡ red_of (slice_index lines.now (start + x)) (slice_index lines.now (cr_start + x)) }
+{
+    for x in 0..count {
+        row[x] = red(lines[start + x], lines[cr_start + x]);
+    }
+}
+
+fn green_row(
+    lines: &[u8],
+    start: usize,
+    cb_start: usize,
+    cr_start: usize,
+    count: usize,
+    row: &mut [u8; 64],
+)
+    requires most { count ≤ 64 }
+    requires luma_room { start + count ≤ length lines.now }
+    requires cb_room { cb_start + count ≤ length lines.now }
+    requires cr_room { cr_start + count ≤ length lines.now }
+    ensures { (x : ℕ) → x < count → slice_index row.new x ≡
+        green_of (slice_index lines.now (start + x)) (slice_index lines.now (cb_start + x))
+        (slice_index lines.now (cr_start + x)) }
+{
+    for x in 0..count {
+        row[x] = green(lines[start + x], lines[cb_start + x], lines[cr_start + x]);
+    }
+}
+
+fn blue_row(lines: &[u8], start: usize, cb_start: usize, count: usize, row: &mut [u8; 64])
+    requires most { count ≤ 64 }
+    requires luma_room { start + count ≤ length lines.now }
+    requires cb_room { cb_start + count ≤ length lines.now }
+    ensures { (x : ℕ) → x < count → slice_index row.new x
+        ≡ blue_of (slice_index lines.now (start + x)) (slice_index lines.now (cb_start + x)) }
+{
+    for x in 0..count {
+        row[x] = blue(lines[start + x], lines[cb_start + x]);
+    }
+}
+
+// 255 minus each sample from place `start` on.
+fn inverted_row(lines: &[u8], start: usize, count: usize, row: &mut [u8; 64])
+    requires most { count ≤ 64 }
+    requires room { start + count ≤ length lines.now }
+    ensures { (x : ℕ) → x < count → slice_index row.new x
+        ≡ 255 - slice_index lines.now (start + x) }
+{
+    for x in 0..count {
+        row[x] = 255 - lines[start + x];
+    }
+}
+
+// Writes the pixels from `start` on, of three rows.
+fn interleave_three(
+    first: &[u8],
+    second: &[u8],
+    third: &[u8],
+    count: usize,
+    output: &mut [u8],
+    start: usize,
+)
+    requires first { count ≤ length first.now }
+    requires second { count ≤ length second.now }
+    requires third { count ≤ length third.now }
+    requires room { 3 * (start + count) ≤ length output.old }
+    ensures first { (x : ℕ) → x < count → slice_index output.new (3 * (start + x))
+        ≡ slice_index first.now x }
+    ensures second { (x : ℕ) → x < count → slice_index output.new (3 * (start + x) + 1)
+        ≡ slice_index second.now x }
+    ensures third { (x : ℕ) → x < count → slice_index output.new (3 * (start + x) + 2)
+        ≡ slice_index third.now x }
+    ensures before { (i : ℕ) → i < 3 * start → slice_index output.new i ≡ slice_index output.old i }
+{
+    for x in 0..count {
+        output[3 * (start + x)] = first[x];
+        output[3 * (start + x) + 1] = second[x];
+        output[3 * (start + x) + 2] = third[x];
+    }
+}
+
+// Writes the pixels from `start` on, of four rows.
+fn interleave_four(
+    first: &[u8],
+    second: &[u8],
+    third: &[u8],
+    fourth: &[u8],
+    count: usize,
+    output: &mut [u8],
+    start: usize,
+)
+    requires first { count ≤ length first.now }
+    requires second { count ≤ length second.now }
+    requires third { count ≤ length third.now }
+    requires fourth { count ≤ length fourth.now }
+    requires room { 4 * (start + count) ≤ length output.old }
+    ensures first { (x : ℕ) → x < count → slice_index output.new (4 * (start + x))
+        ≡ slice_index first.now x }
+    ensures second { (x : ℕ) → x < count → slice_index output.new (4 * (start + x) + 1)
+        ≡ slice_index second.now x }
+    ensures third { (x : ℕ) → x < count → slice_index output.new (4 * (start + x) + 2)
+        ≡ slice_index third.now x }
+    ensures fourth { (x : ℕ) → x < count → slice_index output.new (4 * (start + x) + 3)
+        ≡ slice_index fourth.now x }
+    ensures before { (i : ℕ) → i < 4 * start → slice_index output.new i ≡ slice_index output.old i }
+{
+    for x in 0..count {
+        output[4 * (start + x)] = first[x];
+        output[4 * (start + x) + 1] = second[x];
+        output[4 * (start + x) + 2] = third[x];
+        output[4 * (start + x) + 3] = fourth[x];
+    }
+}
+
+// Red, green and blue of some pixels from `start` on, by rows of 64.
+#[inline(never)]
+fn write_ycbcr_piece(lines: &[u8], width: usize, start: usize, count: usize, output: &mut [u8])
+    requires most { count ≤ 64 }
+    requires inside { start + count ≤ width }
+    requires lines { 3 * width ≤ length lines.now }
+    requires room { 3 * width ≤ length output.old }
+    ensures red { (x : ℕ) → x < count → slice_index output.new (3 * (start + x))
+        ≡ red_of (slice_index lines.now (start + x))
+        (slice_index lines.now (2 * width + (start + x))) }
+    ensures green { (x : ℕ) → x < count → slice_index output.new (3 * (start + x) + 1)
+        ≡ green_of (slice_index lines.now (start + x)) (slice_index lines.now (width + (start + x)))
+        (slice_index lines.now (2 * width + (start + x))) }
+    ensures blue { (x : ℕ) → x < count → slice_index output.new (3 * (start + x) + 2)
+        ≡ blue_of (slice_index lines.now (start + x))
+        (slice_index lines.now (width + (start + x))) }
+    ensures before { (i : ℕ) → i < 3 * start → slice_index output.new i ≡ slice_index output.old i }
+{
+    let mut red = [0; 64];
+    let mut green = [0; 64];
+    let mut blue = [0; 64];
+    red_row(lines, start, 2 * width + start, count, &mut red);
+    green_row(
+        lines,
+        start,
+        width + start,
+        2 * width + start,
+        count,
+        &mut green,
+    );
+    blue_row(lines, start, width + start, count, &mut blue);
+    interleave_three(&red, &green, &blue, count, output, start);
+}
+
+// Red, green, blue and the inverse of the fourth component of some pixels from `start` on.
+#[inline(never)]
+fn write_ycck_piece(lines: &[u8], width: usize, start: usize, count: usize, output: &mut [u8])
+    requires most { count ≤ 64 }
+    requires inside { start + count ≤ width }
+    requires lines { 4 * width ≤ length lines.now }
+    requires room { 4 * width ≤ length output.old }
+    ensures red { (x : ℕ) → x < count → slice_index output.new (4 * (start + x))
+        ≡ red_of (slice_index lines.now (start + x))
+        (slice_index lines.now (2 * width + (start + x))) }
+    ensures green { (x : ℕ) → x < count → slice_index output.new (4 * (start + x) + 1)
+        ≡ green_of (slice_index lines.now (start + x)) (slice_index lines.now (width + (start + x)))
+        (slice_index lines.now (2 * width + (start + x))) }
+    ensures blue { (x : ℕ) → x < count → slice_index output.new (4 * (start + x) + 2)
+        ≡ blue_of (slice_index lines.now (start + x))
+        (slice_index lines.now (width + (start + x))) }
+    ensures black { (x : ℕ) → x < count → slice_index output.new (4 * (start + x) + 3)
+        ≡ 255 - slice_index lines.now (3 * width + (start + x)) }
+    ensures before { (i : ℕ) → i < 4 * start → slice_index output.new i ≡ slice_index output.old i }
+{
+    let mut red = [0; 64];
+    let mut green = [0; 64];
+    let mut blue = [0; 64];
+    let mut black = [0; 64];
+    red_row(lines, start, 2 * width + start, count, &mut red);
+    green_row(
+        lines,
+        start,
+        width + start,
+        2 * width + start,
+        count,
+        &mut green,
+    );
+    blue_row(lines, start, width + start, count, &mut blue);
+    inverted_row(lines, 3 * width + start, count, &mut black);
+    interleave_four(&red, &green, &blue, &black, count, output, start);
+}
+
+// The inverse of each component of some pixels from `start` on.
+#[inline(never)]
+fn write_cmyk_piece(lines: &[u8], width: usize, start: usize, count: usize, output: &mut [u8])
+    requires most { count ≤ 64 }
+    requires inside { start + count ≤ width }
+    requires lines { 4 * width ≤ length lines.now }
+    requires room { 4 * width ≤ length output.old }
+    ensures cyan { (x : ℕ) → x < count → slice_index output.new (4 * (start + x))
+        ≡ 255 - slice_index lines.now (start + x) }
+    ensures magenta { (x : ℕ) → x < count → slice_index output.new (4 * (start + x) + 1)
+        ≡ 255 - slice_index lines.now (width + (start + x)) }
+    ensures yellow { (x : ℕ) → x < count → slice_index output.new (4 * (start + x) + 2)
+        ≡ 255 - slice_index lines.now (2 * width + (start + x)) }
+    ensures black { (x : ℕ) → x < count → slice_index output.new (4 * (start + x) + 3)
+        ≡ 255 - slice_index lines.now (3 * width + (start + x)) }
+    ensures before { (i : ℕ) → i < 4 * start → slice_index output.new i ≡ slice_index output.old i }
+{
+    let mut cyan = [0; 64];
+    let mut magenta = [0; 64];
+    let mut yellow = [0; 64];
+    let mut black = [0; 64];
+    inverted_row(lines, start, count, &mut cyan);
+    inverted_row(lines, width + start, count, &mut magenta);
+    inverted_row(lines, 2 * width + start, count, &mut yellow);
+    inverted_row(lines, 3 * width + start, count, &mut black);
+    interleave_four(&cyan, &magenta, &yellow, &black, count, output, start);
+}
+
+/// Writes the pixels of a line of red, green and blue, whose components stand one after the other.
+pub(crate) fn write_rgb(lines: &[u8], width: usize, output: &mut [u8])
+    requires lines { 3 * width ≤ length lines.now }
+    requires room { 3 * width ≤ length output.old }
+    ensures red { (x : ℕ) → x < width → slice_index output.new (3 * x) ≡ slice_index lines.now x }
+    ensures green { (x : ℕ) → x < width → slice_index output.new (3 * x + 1)
+        ≡ slice_index lines.now (width + x) }
+    ensures blue { (x : ℕ) → x < width → slice_index output.new (3 * x + 2)
+        ≡ slice_index lines.now (2 * width + x) }
+{
+    interleave_three(
+        lines,
+        &lines[width..],
+        &lines[2 * width..],
+        width,
+        output,
+        0,
+    );
+}
+
+/// Writes the pixels of a line of brightness and two colour differences, which stand one after the
+/// other: red, green and blue.
+pub(crate) fn write_ycbcr(lines: &[u8], width: usize, output: &mut [u8])
+    requires lines { 3 * width ≤ length lines.now }
+    requires room { 3 * width ≤ length output.old }
+    ensures red { (x : ℕ) → x < width → slice_index output.new (3 * x)
+        ≡ red_of (slice_index lines.now x) (slice_index lines.now (2 * width + x)) }
+    ensures green { (x : ℕ) → x < width → slice_index output.new (3 * x + 1)
+        ≡ green_of (slice_index lines.now x) (slice_index lines.now (width + x))
+        (slice_index lines.now (2 * width + x)) }
+    ensures blue { (x : ℕ) → x < width → slice_index output.new (3 * x + 2)
+        ≡ blue_of (slice_index lines.now x) (slice_index lines.now (width + x)) }
+{
+    let pieces = width / 64;
+    for piece in 0..pieces {
+        write_ycbcr_piece(lines, width, 64 * piece, 64, output);
+    }
+    write_ycbcr_piece(lines, width, 64 * pieces, width % 64, output);
+}
+
+/// Writes the pixels of a line of brightness, two colour differences and black, which stand one
+/// after the other: red, green, blue, and black inverted.
+pub(crate) fn write_ycck(lines: &[u8], width: usize, output: &mut [u8])
+    requires lines { 4 * width ≤ length lines.now }
+    requires room { 4 * width ≤ length output.old }
+    ensures red { (x : ℕ) → x < width → slice_index output.new (4 * x)
+        ≡ red_of (slice_index lines.now x) (slice_index lines.now (2 * width + x)) }
+    ensures green { (x : ℕ) → x < width → slice_index output.new (4 * x + 1)
+        ≡ green_of (slice_index lines.now x) (slice_index lines.now (width + x))
+        (slice_index lines.now (2 * width + x)) }
+    ensures blue { (x : ℕ) → x < width → slice_index output.new (4 * x + 2)
+        ≡ blue_of (slice_index lines.now x) (slice_index lines.now (width + x)) }
+    ensures black { (x : ℕ) → x < width → slice_index output.new (4 * x + 3)
+        ≡ 255 - slice_index lines.now (3 * width + x) }
+{
+    let pieces = width / 64;
+    for piece in 0..pieces {
+        write_ycck_piece(lines, width, 64 * piece, 64, output);
+    }
+    write_ycck_piece(lines, width, 64 * pieces, width % 64, output);
+}
+
+/// Writes the pixels of a line of cyan, magenta, yellow and black, which stand one after the other,
+/// each inverted.
+pub(crate) fn write_cmyk(lines: &[u8], width: usize, output: &mut [u8])
+    requires lines { 4 * width ≤ length lines.now }
+    requires room { 4 * width ≤ length output.old }
+    ensures cyan { (x : ℕ) → x < width → slice_index output.new (4 * x)
+        ≡ 255 - slice_index lines.now x }
+    ensures magenta { (x : ℕ) → x < width → slice_index output.new (4 * x + 1)
+        ≡ 255 - slice_index lines.now (width + x) }
+    ensures yellow { (x : ℕ) → x < width → slice_index output.new (4 * x + 2)
+        ≡ 255 - slice_index lines.now (2 * width + x) }
+    ensures black { (x : ℕ) → x < width → slice_index output.new (4 * x + 3)
+        ≡ 255 - slice_index lines.now (3 * width + x) }
+{
+    let pieces = width / 64;
+    for piece in 0..pieces {
+        write_cmyk_piece(lines, width, 64 * piece, 64, output);
+    }
+    write_cmyk_piece(lines, width, 64 * pieces, width % 64, output);
+}

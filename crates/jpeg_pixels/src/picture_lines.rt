@@ -1,0 +1,123 @@
+//! The lines of a picture: those of its components, upsampled, converted and put together.
+ghost use Rattle.std.specs.Prelude.{◌≡◌, ◌+◌, ◌*◌, ◌≤◌, map, length, IfOk};
+ghost use Rattle.std.specs.List.{concat};
+ghost use Rattle.jpeg_pixels.specs.Pictures.{Covers, AllCover};
+ghost use Rattle.jpeg_pixels.specs.Pictures.{line_of, lines_of, picture_line, picture_bytes};
+ghost use Rattle.jpeg_pixels.specs.PicturesView.{source_in, IsFor};
+
+use crate::color_rows::{write_cmyk, write_rgb, write_ycbcr, write_ycck};
+use crate::upsampler::{ColorConvert, ComponentSource};
+use std::alloc::{AllocError, Global};
+
+// Writes line `row` of a component, as wide as the picture.
+fn upsample_line(source: ComponentSource, plane: &[u8], row: usize, width: usize, line: &mut [u8])
+    requires cover { Covers (source_in source) plane.now width (row + 1) }
+    requires room { length line.old ≡ width }
+    ensures { line.new ≡ line_of (source_in source) plane.now width row }
+{
+    source.rule.upsample_row(
+        plane,
+        source.width,
+        source.height,
+        source.row_stride,
+        row,
+        width,
+        line,
+    );
+}
+
+// Writes line `row` of each component, each as wide as the picture, one after the other.
+fn upsample_lines(
+    components: &[ComponentSource],
+    planes: &[Vec<u8>],
+    row: usize,
+    width: usize,
+    lines: &mut [u8],
+)
+    requires planes { length planes.now ≡ length components.now }
+    requires cover { AllCover (map source_in components.now) (map (λ v. v.items) planes.now) width
+        (row + 1) }
+    requires room { length lines.old ≡ length components.now * width }
+    ensures { lines.new ≡ concat
+        (lines_of (map source_in components.now) (map (λ v. v.items) planes.now) width row) }
+{
+    for index in 0..components.len() {
+        let start = index * width;
+        upsample_line(
+            components[index],
+            &planes[index],
+            row,
+            width,
+            &mut lines[start..start + width],
+        );
+    }
+}
+
+/// Writes line `row` of the picture. The lines of the components are put into the buffer `lines`.
+pub(crate) fn write_line(
+    components: &[ComponentSource],
+    planes: &[Vec<u8>],
+    row: usize,
+    width: usize,
+    lines: &mut [u8],
+    output: &mut [u8],
+    color_convert: ColorConvert,
+)
+    requires planes { length planes.now ≡ length components.now }
+    requires cover { AllCover (map source_in components.now) (map (λ v. v.items) planes.now) width
+        (row + 1) }
+    requires fits { IsFor (length components.now) color_convert }
+    requires lines_room { length lines.old ≡ length components.now * width }
+    requires room { length output.old ≡ length components.now * width }
+    ensures { output.new ≡ picture_line color_convert (map source_in components.now)
+        (map (λ v. v.items) planes.now) width row }
+{
+    upsample_lines(components, planes, row, width, lines);
+    match color_convert {
+        ColorConvert::None => output.copy_from_slice(lines),
+        ColorConvert::Rgb => write_rgb(lines, width, output),
+        ColorConvert::YCbCr => write_ycbcr(lines, width, output),
+        ColorConvert::Cmyk => write_cmyk(lines, width, output),
+        ColorConvert::Ycck => write_ycck(lines, width, output),
+    }
+}
+
+/// The picture: its lines from above. The only error is that no memory is left.
+pub(crate) fn lines_from_above(
+    alloc: Global,
+    components: &[ComponentSource],
+    planes: &[Vec<u8>],
+    width: usize,
+    height: usize,
+    color_convert: ColorConvert,
+) -> Result<Vec<u8>, AllocError>
+    requires most { length components.now ≤ 4 }
+    requires width { width ≤ 65535 }
+    requires height { height ≤ 65535 }
+    requires planes { length planes.now ≡ length components.now }
+    requires cover { AllCover (map source_in components.now)
+        (map (λ v. v.items) planes.now) width height }
+    requires fits { IsFor (length components.now) color_convert }
+    ensures { IfOk result (λ v. v.items ≡
+        picture_bytes color_convert (map source_in components.now)
+        (map (λ v. v.items) planes.now) width height) }
+{
+    let line_size = components.len() * width;
+    let mut lines = vec![in alloc; 0; line_size]?;
+    let mut picture = Vec::with_capacity(alloc, line_size * height)?;
+    for row in 0..height {
+        let start = picture.len();
+        picture.resize(start + line_size, 0)?;
+        let line = &mut picture[start..];
+        write_line(
+            components,
+            planes,
+            row,
+            width,
+            lines.as_mut_slice(),
+            line,
+            color_convert,
+        );
+    }
+    Ok(picture)
+}

@@ -1,0 +1,135 @@
+//! How the components of a frame are upsampled: by the ratios of their factors to the greatest ones
+//! (T.81, A.1.1).
+ghost use Rattle.std.specs.Prelude.{◌≡◌, ◌≤◌, map, length, Ok, MatchResult};
+ghost use Rattle.jpeg_bits.specs.Reading.{Names};
+ghost use Rattle.jpeg_segments.specs.Frame.{greatest};
+ghost use Rattle.jpeg_segments.specs.FrameView.{component_in};
+ghost use Rattle.jpeg_pixels.specs.Upsampling.{rule_of};
+ghost use Rattle.jpeg_pixels.specs.Pictures.{factors_of, source_of, sources_of};
+ghost use Rattle.jpeg_pixels.specs.PicturesView.{source_in};
+ghost use Rattle.jpeg_segments.specs.Frame.{HasFactors, AllHaveFactors};
+
+use crate::upsampler::{ComponentSource, UpsampleRule};
+use jpeg_bits::error::{Error, Result, UnsupportedFeature};
+use jpeg_segments::parser::Component;
+use std::alloc::Global;
+
+// The rule of a component with factors `h` and `v`, if its ratios to the greatest are whole.
+#[tactic(auto, unfolding(crate::specs::Upsampling::rule_of))]
+fn choose_rule(
+    h: u8,
+    v: u8,
+    greatest_h: u8,
+    greatest_v: u8,
+    width: u16,
+    height: u16,
+) -> Option<UpsampleRule>
+    requires h_some { 1 ≤ h }
+    requires h_most { h ≤ 4 }
+    requires v_some { 1 ≤ v }
+    requires v_most { v ≤ 4 }
+    ensures { result ≡ rule_of h v greatest_h greatest_v width height }
+{
+    let h1 = h == greatest_h || width == 1;
+    let v1 = v == greatest_v || height == 1;
+    let h2 = 2 * h == greatest_h;
+    let v2 = 2 * v == greatest_v;
+    if h1 && v1 {
+        Some(UpsampleRule::H1V1)
+    } else if h2 && v1 {
+        Some(UpsampleRule::H2V1)
+    } else if h1 && v2 {
+        Some(UpsampleRule::H1V2)
+    } else if h2 && v2 {
+        Some(UpsampleRule::H2V2)
+    } else if greatest_h % h == 0 && greatest_v % v == 0 {
+        Some(UpsampleRule::Generic(greatest_h / h, greatest_v / v))
+    } else {
+        None
+    }
+}
+
+// How one component is upsampled.
+fn component_source(
+    component: &Component,
+    greatest_h: u8,
+    greatest_v: u8,
+    width: u16,
+    height: u16,
+) -> Result<ComponentSource>
+    requires { HasFactors (component_in component.now) }
+    ensures { MatchResult result
+        (λ s. source_of greatest_h greatest_v width height (component_in component.now)
+        ≡ Ok (source_in s))
+        (λ e. Names e (source_of greatest_h greatest_v width height (component_in component.now))) }
+{
+    let h = component.horizontal_sampling_factor;
+    let v = component.vertical_sampling_factor;
+    match choose_rule(h, v, greatest_h, greatest_v, width, height) {
+        None => Err(Error::Unsupported(UnsupportedFeature::NonIntegerSubsamplingRatio)),
+        Some(rule) => {
+            // No memory holds a longer line.
+            match usize::from(component.block_size.width).checked_mul(component.dct_scale) {
+                None => Err(Error::OutOfMemory),
+                Some(row_stride) => Ok(ComponentSource {
+                    rule,
+                    width: usize::from(component.size.width),
+                    height: usize::from(component.size.height),
+                    row_stride,
+                }),
+            }
+        }
+    }
+}
+
+// The greatest horizontal factor of the components.
+fn greatest_horizontal(components: &[Component]) -> u8
+    ensures { result ≡ greatest (λ f. f.horizontal) (factors_of (map component_in components.now)) }
+{
+    let mut most = 1;
+    for component in components {
+        most = most.max(component.horizontal_sampling_factor);
+    }
+    most
+}
+
+// The greatest vertical factor of the components.
+fn greatest_vertical(components: &[Component]) -> u8
+    ensures { result ≡ greatest (λ f. f.vertical) (factors_of (map component_in components.now)) }
+{
+    let mut most = 1;
+    for component in components {
+        most = most.max(component.vertical_sampling_factor);
+    }
+    most
+}
+
+/// How each component is upsampled for a picture of this size. A component whose ratio to the
+/// greatest factors isn't whole is `Unsupported(NonIntegerSubsamplingRatio)`.
+pub(crate) fn component_sources(
+    alloc: Global,
+    components: &[Component],
+    output_width: u16,
+    output_height: u16,
+) -> Result<Vec<ComponentSource>>
+    requires { AllHaveFactors (map component_in components.now) }
+    ensures { MatchResult result
+        (λ v. sources_of (map component_in components.now) output_width output_height
+        ≡ Ok (map source_in v.items))
+        (λ e. Names e (sources_of (map component_in components.now) output_width output_height)) }
+{
+    let greatest_h = greatest_horizontal(components);
+    let greatest_v = greatest_vertical(components);
+    let mut sources = Vec::with_capacity(alloc, components.len())?;
+    for component in components {
+        let source = component_source(
+            component,
+            greatest_h,
+            greatest_v,
+            output_width,
+            output_height,
+        )?;
+        sources.push(source)?;
+    }
+    Ok(sources)
+}

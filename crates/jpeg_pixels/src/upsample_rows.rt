@@ -1,0 +1,141 @@
+//! Rows of a component made as wide as the picture, one function for each rule.
+ghost use Rattle.std.specs.Prelude.{◌≡◌, ℕ, ◌+◌, ◌-◌, ◌*◌, ◌/◌, ◌<◌, ◌≤◌, ◌%◌, ◌≢◌, length, slice_index};
+ghost use Rattle.jpeg_pixels.specs.Upsampling.{blended, far_place};
+
+// The line of a plane whose lines are `row_stride` bytes apart.
+pub fn line_at(input: &[u8], input_width: usize, row_stride: usize, line: usize) -> &[u8]
+    requires { line * row_stride + input_width ≤ length input.now }
+    ensures long { length result.now ≡ input_width }
+    ensures samples { (i : ℕ) → i < input_width →
+        slice_index result.now i ≡ slice_index input.now (line * row_stride + i) }
+{
+    let start = line * row_stride;
+    &input[start..start + input_width]
+}
+
+// Of the two lines next to line `row / 2` the one that `row` is nearer to: at the ends the line
+// itself.
+pub fn far_line(input_height: usize, row: usize) -> usize
+    requires some { 1 ≤ input_height }
+    ensures { result ≡ far_place input_height row }
+{
+    if row.is_multiple_of(2) {
+        (row / 2).saturating_sub(1)
+    } else {
+        (row / 2 + 1).min(input_height - 1)
+    }
+}
+
+// Three parts of one number and one of another.
+fn line_sum(near: u8, far: u8) -> u16
+    ensures value { result ≡ 3 * near + far }
+    ensures range { result ≤ 1020 }
+{
+    3 * u16::from(near) + u16::from(far)
+}
+
+// Three parts of one sample and one of another, rounded.
+fn blend(near: u8, far: u8) -> u8
+    ensures { result ≡ blended near far }
+{
+    ((line_sum(near, far) + 2) >> 2) as u8
+}
+
+// Three parts of one sum of two lines and one of another, rounded.
+fn blend_sums(near: u16, far: u16) -> u8
+    requires near { near ≤ 1020 }
+    requires far { far ≤ 1020 }
+    ensures { result ≡ (3 * near + far + 8) / 16 }
+{
+    ((3 * near + far + 8) >> 4) as u8
+}
+
+// A line made twice as wide.
+pub fn upsample_row_h2v1(line: &[u8], output: &mut [u8])
+    requires some { 1 ≤ length line.now }
+    requires wide { length output.old ≤ 2 * length line.now }
+    requires no_wider { 2 * length line.now ≤ length output.old + 1 }
+    ensures { (x : ℕ) → x < length output.old → slice_index output.new x ≡
+        blended (slice_index line.now (x / 2)) (slice_index line.now (far_place (length line.now) x)) }
+{
+    let width = line.len();
+    output[0] = line[0];
+    for i in 1..width {
+        output[2 * i - 1] = blend(line[i - 1], line[i]);
+        output[2 * i] = blend(line[i], line[i - 1]);
+    }
+    if output.len() == 2 * width {
+        output[2 * width - 1] = line[width - 1];
+    }
+}
+
+// The line between two lines.
+pub fn upsample_row_h1v2(near: &[u8], far: &[u8], output: &mut [u8])
+    requires near_long { length near.now ≡ length output.old }
+    requires far_long { length far.now ≡ length output.old }
+    ensures { (x : ℕ) → x < length output.old →
+        slice_index output.new x ≡ blended (slice_index near.now x) (slice_index far.now x) }
+{
+    for x in 0..output.len() {
+        output[x] = blend(near[x], far[x]);
+    }
+}
+
+// The line between two lines, made twice as wide.
+pub fn upsample_row_h2v2(near: &[u8], far: &[u8], output: &mut [u8])
+    requires some { 1 ≤ length near.now }
+    requires far_long { length far.now ≡ length near.now }
+    requires wide { length output.old ≤ 2 * length near.now }
+    requires no_wider { 2 * length near.now ≤ length output.old + 1 }
+    ensures { (x : ℕ) → x < length output.old → slice_index output.new x ≡
+        (3 * (3 * slice_index near.now (x / 2) + slice_index far.now (x / 2))
+        + (3 * slice_index near.now (far_place (length near.now) x)
+        + slice_index far.now (far_place (length near.now) x)) + 8) / 16 }
+{
+    let width = near.len();
+    output[0] = blend(near[0], far[0]);
+    for i in 1..width {
+        let before = line_sum(near[i - 1], far[i - 1]);
+        let here = line_sum(near[i], far[i]);
+        output[2 * i - 1] = blend_sums(before, here);
+        output[2 * i] = blend_sums(here, before);
+    }
+    if output.len() == 2 * width {
+        output[2 * width - 1] = blend(near[width - 1], far[width - 1]);
+    }
+}
+
+// Writes the samples of a line at every `step`th place from `first` on, as far as the output goes.
+fn spread(line: &[u8], step: usize, first: usize, output: &mut [u8])
+    requires first { first < step }
+    requires wide { length output.old ≤ step * length line.now }
+    requires no_wider { step * length line.now < length output.old + step }
+    ensures samples { (i : ℕ) → i * step + first < length output.old →
+        slice_index output.new (i * step + first) ≡ slice_index line.now i }
+    ensures others { (x : ℕ) → x % step ≢ first → slice_index output.new x ≡ slice_index output.old x }
+{
+    for i in 0..line.len() {
+        let x = i * step + first;
+        if x < output.len() {
+            output[x] = line[i];
+        }
+    }
+}
+
+// Each sample of a line so many times; the last one fewer times, where the output ends.
+pub fn repeat_samples(line: &[u8], times: usize, output: &mut [u8])
+    requires some { 1 ≤ times }
+    requires wide { length output.old ≤ times * length line.now }
+    requires no_wider { times * length line.now < length output.old + times }
+    ensures { (x : ℕ) → x < length output.old →
+        slice_index output.new x ≡ slice_index line.now (x / times) }
+{
+    if times == 1 {
+        output.copy_from_slice(line);
+        return;
+    }
+    // A pass for each place: runs as short as these would cost more one by one.
+    for first in 0..times {
+        spread(line, times, first, output);
+    }
+}

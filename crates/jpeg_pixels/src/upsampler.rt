@@ -1,0 +1,266 @@
+//! Samples between samples, and colours: lines of components become lines of the picture.
+ghost use Rattle.std.specs.Prelude.{◌≡◌, ℕ, ◌+◌, ◌-◌, ◌*◌, ◌<◌, ◌≤◌, map, length, slice_index};
+ghost use Rattle.jpeg_bits.specs.Reading.{Gives, NamesFormat};
+ghost use Rattle.jpeg_pixels.specs.Upsampling.{upsampled, across, down};
+ghost use Rattle.jpeg_pixels.specs.Colour.{conversion_of};
+
+use crate::picture_lines::{lines_from_above, write_line};
+use crate::sources::component_sources;
+use crate::upsample_rows::{
+    far_line, line_at, repeat_samples, upsample_row_h1v2, upsample_row_h2v1, upsample_row_h2v2,
+};
+use jpeg_bits::color_transform::ColorTransform;
+use jpeg_bits::error::{Error, Result, UnsupportedFeature};
+use jpeg_segments::parser::Component;
+use std::alloc::Global;
+use std::marker::Model;
+
+/// How the samples of a component become those of the picture: by the factors across (H) and down (V).
+#[derive(Clone, Copy, Debug, PartialEq)]
+pub enum UpsampleRule {
+    H1V1,
+    H2V1,
+    H1V2,
+    H2V2,
+    /// Each sample stands for so many across and down.
+    Generic(u8, u8),
+}
+
+impl UpsampleRule {
+    ghost use Rattle.std.specs.Prelude.{◌≡◌, ℕ, ◌+◌, ◌-◌, ◌*◌, ◌<◌, ◌≤◌, length, slice_index};
+    ghost use Rattle.jpeg_pixels.specs.Upsampling.{upsampled, across, down};
+
+    /// Writes the first `output_width` samples of row `row` of the picture to the front of the output; its other bytes stay.
+    ///
+    /// The component has `input_height` lines of `input_width` samples, the lines `row_stride` bytes apart, and the picture
+    /// is as wide as `across` times that, but for less than one sample of the component.
+    pub fn upsample_row(
+        &self,
+        input: &[u8],
+        input_width: usize,
+        input_height: usize,
+        row_stride: usize,
+        row: usize,
+        output_width: usize,
+        output: &mut [u8],
+    )
+        requires some_across { 1 ≤ across self.now }
+        requires some_down { 1 ≤ down self.now }
+        requires some_width { 1 ≤ input_width }
+        requires wide_enough { output_width ≤ across self.now * input_width }
+        requires no_wider { across self.now * input_width < output_width + across self.now }
+        requires row { row < down self.now * input_height }
+        requires in_stride { input_width ≤ row_stride }
+        requires input_room { (input_height - 1) * row_stride + input_width ≤ length input.now }
+        requires output_room { output_width ≤ length output.old }
+        ensures samples { (x : ℕ) → x < output_width → slice_index output.new x
+            ≡ upsampled self.now (λ i j. slice_index input.now (j * row_stride + i)) input_width input_height x row }
+        ensures others { (i : ℕ) → output_width ≤ i → slice_index output.new i ≡ slice_index output.old i }
+    {
+        let output = &mut output[..output_width];
+        match *self {
+            UpsampleRule::H1V1 => {
+                let line = line_at(input, input_width, row_stride, row);
+                output.copy_from_slice(line);
+            }
+            UpsampleRule::H2V1 => {
+                let line = line_at(input, input_width, row_stride, row);
+                upsample_row_h2v1(line, output);
+            }
+            UpsampleRule::H1V2 => {
+                let near = line_at(input, input_width, row_stride, row / 2);
+                let far = line_at(input, input_width, row_stride, far_line(input_height, row));
+                upsample_row_h1v2(near, far, output);
+            }
+            UpsampleRule::H2V2 => {
+                let near = line_at(input, input_width, row_stride, row / 2);
+                let far = line_at(input, input_width, row_stride, far_line(input_height, row));
+                upsample_row_h2v2(near, far, output);
+            }
+            UpsampleRule::Generic(across, down) => {
+                let line = line_at(input, input_width, row_stride, row / usize::from(down));
+                repeat_samples(line, usize::from(across), output);
+            }
+        }
+    }
+}
+
+/// How the samples of a pixel become its bytes.
+#[derive(Clone, Copy, Debug, PartialEq)]
+pub enum ColorConvert {
+    /// No conversion; the components of a line stand one after the other.
+    None,
+    Rgb,
+    YCbCr,
+    Cmyk,
+    Ycck,
+}
+
+impl ColorConvert {
+    ghost use Rattle.jpeg_bits.specs.Reading.{Gives};
+    ghost use Rattle.jpeg_pixels.specs.Colour.{conversion_of};
+
+    /// The conversion of a transform for three or four components. A transform that doesn't fit is
+    /// `Format`, and one that is not known here is `Unsupported(ColorTransform(..))`.
+    #[tactic(auto, unfolding(crate::specs::Colour::conversion_of))]
+    pub fn choose(
+        alloc: Global,
+        component_count: usize,
+        color_transform: ColorTransform,
+    ) -> Result<ColorConvert>
+        ensures { Gives (conversion_of component_count color_transform) result }
+    {
+        match color_transform {
+            ColorTransform::None => Ok(ColorConvert::None),
+            ColorTransform::RGB if component_count == 3 => Ok(ColorConvert::Rgb),
+            ColorTransform::YCbCr if component_count == 3 => Ok(ColorConvert::YCbCr),
+            ColorTransform::CMYK if component_count == 4 => Ok(ColorConvert::Cmyk),
+            ColorTransform::YCCK if component_count == 4 => Ok(ColorConvert::Ycck),
+            ColorTransform::JcsBgYcc | ColorTransform::JcsBgRgb => Err(Error::Unsupported(
+                UnsupportedFeature::ColorTransform(color_transform),
+            )),
+            _ => Err(misfit(alloc, component_count, color_transform)),
+        }
+    }
+}
+
+// The refusal of a transform that doesn't fit so many components.
+#[cold]
+#[inline(never)]
+fn misfit(alloc: Global, component_count: usize, color_transform: ColorTransform) -> Error
+    ensures { NamesFormat result }
+{
+    let text = format!(in alloc;
+        "the color transform {color_transform:?} is not one of {component_count} components"
+    );
+    match text {
+        Ok(text) => Error::Format(text),
+        Err(_) => Error::OutOfMemory,
+    }
+}
+
+/// The samples of a component: how they are upsampled, their size, and the samples that a line of
+/// its plane has.
+#[derive(Clone, Copy, Debug, PartialEq)]
+pub struct ComponentSource {
+    pub rule: UpsampleRule,
+    pub width: usize,
+    pub height: usize,
+    pub row_stride: usize,
+}
+
+/// Makes lines of the picture of the planes of its components.
+#[derive(Drop)]
+pub struct Upsampler {
+    alloc: Global,
+    components: Vec<ComponentSource>,
+}
+
+impl Model for Upsampler {
+    ghost use Rattle.std.specs.Prelude.{List, map};
+    ghost use Rattle.jpeg_pixels.specs.Pictures.{Source};
+    ghost use Rattle.jpeg_pixels.specs.PicturesView.{source_in};
+
+    ghost Value = { List Source };
+
+    ghost view = { λ u. map source_in u.components.items };
+}
+
+impl Upsampler {
+    ghost use Rattle.std.specs.Prelude.{◌≡◌, ◌+◌, ◌*◌, ◌≤◌, map, length, OnOk, IfErr, MatchResult};
+    ghost use Rattle.jpeg_bits.specs.Reading.{Gives};
+    ghost use Rattle.jpeg_bits.specs.declared.error.Error.TheVariants.{OutOfMemory};
+    ghost use Rattle.jpeg_segments.specs.FrameView.{component_in};
+    ghost use Rattle.jpeg_pixels.specs.Pictures.{sources_of, AllCover, picture_line, picture_bytes};
+    ghost use Rattle.jpeg_pixels.specs.PicturesView.{IsFor};
+    ghost use Rattle.jpeg_segments.specs.Frame.{AllHaveFactors};
+
+    /// The upsampler of a frame's components for a picture of this size in pixels.
+    ///
+    /// A component whose ratio to the greatest factors isn't whole is
+    /// `Unsupported(NonIntegerSubsamplingRatio)`.
+    pub fn new(
+        alloc: Global,
+        components: &[Component],
+        output_width: u16,
+        output_height: u16,
+    ) -> Result<Upsampler>
+        requires some { 1 ≤ length components.now }
+        requires most { length components.now ≤ 4 }
+        requires factors { AllHaveFactors (map component_in components.now) }
+        ensures { Gives (sources_of
+            (map component_in components.now) output_width output_height) result }
+    {
+        let sources = component_sources(alloc, components, output_width, output_height)?;
+        Ok(Upsampler {
+            alloc,
+            components: sources,
+        })
+    }
+
+    /// Writes line `row` of the picture, of `output_width` pixels. `component_data` has the plane of
+    /// each component. The only error is want of memory; the output's bytes are then open.
+    pub fn upsample_and_interleave_row(
+        &self,
+        component_data: &[Vec<u8>],
+        row: usize,
+        output_width: usize,
+        output: &mut [u8],
+        color_convert: ColorConvert,
+    ) -> Result<()>
+        requires planes { length component_data.now ≡ length self.now }
+        requires cover { AllCover self.now (map (λ v. v.items) component_data.now) output_width
+            (row + 1) }
+        requires fits { IsFor (length self.now) color_convert }
+        requires room { length output.old ≡ length self.now * output_width }
+        ensures line { OnOk result
+            (output.new ≡ picture_line color_convert self.now
+            (map (λ v. v.items) component_data.now) output_width row) }
+        ensures err { IfErr result (λ e. e ≡ OutOfMemory) }
+    {
+        let mut lines = vec![in self.alloc; 0; output.len()]?;
+        let components = self.components.as_slice();
+        let lines = lines.as_mut_slice();
+        write_line(
+            components,
+            component_data,
+            row,
+            output_width,
+            lines,
+            output,
+            color_convert,
+        );
+        Ok(())
+    }
+
+    /// All lines of the picture, from above. The only error is that no memory is left.
+    pub(crate) fn picture(
+        &self,
+        component_data: &[Vec<u8>],
+        width: usize,
+        height: usize,
+        color_convert: ColorConvert,
+    ) -> Result<Vec<u8>>
+        requires most { length self.now ≤ 4 }
+        requires width { width ≤ 65535 }
+        requires height { height ≤ 65535 }
+        requires planes { length component_data.now ≡ length self.now }
+        requires cover { AllCover self.now (map (λ v. v.items) component_data.now) width height }
+        requires fits { IsFor (length self.now) color_convert }
+        ensures { MatchResult result
+            (λ v. v.items ≡ picture_bytes color_convert self.now
+            (map (λ v. v.items) component_data.now) width height)
+            (λ e. e ≡ OutOfMemory) }
+    {
+        let components = self.components.as_slice();
+        let picture = lines_from_above(
+            self.alloc,
+            components,
+            component_data,
+            width,
+            height,
+            color_convert,
+        )?;
+        Ok(picture)
+    }
+}

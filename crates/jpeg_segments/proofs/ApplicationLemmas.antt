@@ -1,0 +1,51 @@
+-- A payload that says nothing is passed over.
+use Rattle.std.proofs.Common.{◌≡◌, ◌≢◌, ℕ, zero, suc, ◌<◌, false, List, [], ◌∷◌, refl, ap, ◌∙◌, Option, None, Result, Ok, Err, arith, eqb}
+use Rattle.std.proofs.lemmas.Bool.Decides.{nat_tests}
+use Rattle.jpeg_bits.specs.Stream.{Stream}
+use Rattle.jpeg_bits.specs.Reading.{Outcome, Answers, ◌>>=◌, times, skip_at, next_byte}
+use Rattle.jpeg_bits.specs.declared.error.Error.{Error}
+use Rattle.jpeg_segments.specs.Application.{Application, application_by, payload_at, passed_over}
+
+-- what is read in one way is read in another, which gives the same
+pub Answers-along : {X Y : Type 0} (view : X → Y) (read other : List ℕ → Outcome Y) (old new : Stream) (r : Result X Error)
+    → other old.bytes ≡ read old.bytes → Answers view read old r new → Answers view other old r new
+Answers-along view read other old new (Ok x) e p = (p.0, λ k. let at = p.1 k in (at.0, e ∙ at.1))
+Answers-along view read other old new (Err f) e p = (p.0, (λ k known. rw e (p.1 k known)), p.2)
+
+abbrev saying : Option Application → List ℕ × List ℕ → Outcome (Option Application)
+saying said x = Ok (said, x.1)
+
+abbrev with_byte : ℕ → List ℕ × List ℕ → Outcome (List ℕ)
+with_byte b x = Ok (b ∷ x.0, x.1)
+
+abbrev by_payload : ℕ → List ℕ × List ℕ → Outcome (Option Application)
+by_payload number x = Ok (application_by number x.0, x.1)
+
+after : (b : ℕ) (said : Option Application) (o : Outcome (List ℕ))
+    → ((o >>= with_byte b) >>= saying said) ≡ (o >>= saying said)
+after b said (Ok x) = refl
+after b said (Err e) = refl
+
+read-skipped : (n : ℕ) (said : Option Application) (bytes : List ℕ) → (times n next_byte bytes >>= saying said) ≡ passed_over n said bytes
+unfolding times skip_at
+read-skipped zero said bytes = refl
+read-skipped (suc n) said [] = refl
+read-skipped (suc n) said (b ∷ bytes) = after b said (times n next_byte bytes) ∙ read-skipped n said bytes
+
+says-none : (number : ℕ) (payload : List ℕ) → 2 < number → number ≢ 13 → application_by number payload ≡ None
+unfolding application_by
+says-none number payload h g =
+    let a : eqb number 0 ≡ false = grind (arith, nat_tests) in
+    let b : eqb number 1 ≡ false = grind (arith, nat_tests) in
+    let c : eqb number 2 ≡ false = grind (arith, nat_tests) in
+    let d : eqb number 13 ≡ false = grind (arith, nat_tests) in
+    rw (a, b, c, d) refl
+
+each : (number : ℕ) (o : Outcome (List ℕ)) → 2 < number → number ≢ 13
+    → (o >>= by_payload number) ≡ (o >>= saying None)
+each number (Ok x) h g = ap (λ (a : Option Application). saying a x) (says-none number x.0 h g)
+each number (Err e) h g = refl
+
+pub payload-passed : (number left : ℕ) (bytes : List ℕ) → 2 < number → number ≢ 13 → payload_at number left bytes ≡ passed_over left None bytes
+unfolding payload_at
+payload-passed number left bytes h g = each number (times left next_byte bytes) h g ∙ read-skipped left None bytes

@@ -1,0 +1,75 @@
+-- Steps of the parser of frame headers.
+use Rattle.std.proofs.Common.{◌≡◌, ℕ, zero, suc, ◌+◌, ◌-◌, ◌<◌, ◌≤◌, Bool, List, [], ◌∷◌, ◌++◌, map, max, take, length, refl, ap, Ok, arith, All, get_or}
+use Rattle.std.specs.List.{list_any}
+use Rattle.std.specs.Prelude.{◌||◌}
+use Rattle.std.proofs.lemmas.List.Elements.{All-head, All-tail, All-cons, All-nil}
+use Rattle.std.proofs.lemmas.List.{take_more, map-append}
+use Rattle.jpeg_segments.specs.declared.frame_header.Factors.{Factors as Read}
+use Rattle.jpeg_segments.specs.FrameView.{factors_of}
+use Rattle.jpeg_bits.specs.Reading.{◌>>=◌}
+use Rattle.jpeg_segments.specs.Frame.{Factors, HasFactors, AllHaveFactors, IsInRange, component_of, components_from, factors_at, greatest}
+
+pub components_from-more : (lossless : Bool) (n : ℕ) (front : List Factors) (bytes : List ℕ) → 0 < n
+    → components_from lossless n front bytes ≡ (factors_at lossless front bytes >>= λ (c : Factors × List ℕ). components_from lossless (n - 1) (front ++ c.0 ∷ []) c.1)
+unfolding components_from
+components_from-more lossless zero front bytes h = absurd (omega arith)
+components_from-more lossless (suc n) front bytes h = let e : suc n - 1 ≡ n = omega arith in rw e refl
+
+pub components_from-none : (lossless : Bool) (front : List Factors) (bytes : List ℕ) → components_from lossless 0 front bytes ≡ Ok (front, bytes)
+unfolding components_from
+components_from-none lossless front bytes = refl
+
+-- ---- the greatest factor
+
+pub greatest-append : (f : Factors → ℕ) (xs : List Factors) (x : Factors) → greatest f (xs ++ x ∷ []) ≡ max (greatest f xs) (f x)
+greatest-append f [] x = omega arith
+greatest-append f (y ∷ ys) x =
+    let h : greatest f (ys ++ x ∷ []) ≡ max (greatest f ys) (f x) = greatest-append f ys x in
+    rw h (omega arith)
+
+pub greatest-some : (f : Factors → ℕ) (xs : List Factors) → 1 ≤ greatest f xs
+greatest-some f [] = omega arith
+greatest-some f (y ∷ ys) = let h : 1 ≤ greatest f ys = greatest-some f ys in omega arith
+
+pub greatest-most : (f : Factors → ℕ) (xs : List Factors) → ((c : Factors) → IsInRange c → f c ≤ 4) → All IsInRange xs → greatest f xs ≤ 4
+greatest-most f [] small all = omega arith
+greatest-most f (y ∷ ys) small all =
+    let h : greatest f ys ≤ 4 = greatest-most f ys small (All-tail IsInRange y ys all) in
+    let g : f y ≤ 4 = small y (All-head IsInRange y ys all) in
+    omega arith
+
+-- the greatest of one component more
+pub greatest-next : (f : Factors → ℕ) (xs : List Read) (i : ℕ) (d : Read) → i < length xs
+    → greatest f (map factors_of (take (i + 1) xs)) ≡ max (greatest f (map factors_of (take i xs))) (f (factors_of (get_or xs i d)))
+greatest-next f xs i d h =
+    rw (take_more xs i d h, map-append factors_of (take i xs) (get_or xs i d ∷ [])) (greatest-append f (map factors_of (take i xs)) (factors_of (get_or xs i d)))
+
+pub greatest-covers : (f : Factors → ℕ) (m : ℕ) (xs : List Read) → greatest f (map factors_of xs) ≤ m → All (λ c. f (factors_of c) ≤ m) xs
+greatest-covers f m [] h = All-nil (λ c. f (factors_of c) ≤ m)
+greatest-covers f m (y ∷ ys) h =
+    let g : greatest f (map factors_of ys) ≤ m = omega arith in
+    let p : f (factors_of y) ≤ m = omega arith in
+    All-cons (λ c. f (factors_of c) ≤ m) y ys p (greatest-covers f m ys g)
+
+-- ---- the components
+
+in-range : (width height h v : ℕ) (c : Factors) → IsInRange c → HasFactors (component_of width height h v c)
+unfolding component_of
+in-range width height h v c p = record {
+  horizontal_some = p.horizontal_some;
+  horizontal_most = p.horizontal_most;
+  vertical_some = p.vertical_some;
+  vertical_most = p.vertical_most;
+}
+
+pub all-in-range : (width height h v : ℕ) (xs : List Factors) → All IsInRange xs → AllHaveFactors (map (component_of width height h v) xs)
+unfolding AllHaveFactors
+all-in-range width height h v [] p = tt
+all-in-range width height h v (x ∷ xs) p =
+    (in-range width height h v x (All-head IsInRange x xs p), all-in-range width height h v xs (All-tail IsInRange x xs p))
+
+-- ---- lists
+
+pub list_any-map : {A B : Type 0} (f : A → B) (test : B → Bool) (xs : List A) → list_any test (map f xs) ≡ list_any (λ x. test (f x)) xs
+list_any-map f test [] = refl
+list_any-map f test (x ∷ xs) = ap (λ b. test (f x) || b) (list_any-map f test xs)

@@ -1,0 +1,262 @@
+//! Segments of applications, comments, and restart intervals.
+ghost use Rattle.std.specs.Prelude.{◌≡◌, ◌≤◌, ℕ, None, Some, IfOk, drop, length, option_map};
+ghost use Rattle.jpeg_bits.specs.Reading.{Answers};
+ghost use Rattle.jpeg_bits.specs.declared.marker.Marker.TheVariants.{APP};
+ghost use Rattle.jpeg_segments.specs.Application.{Adobe, app_at, com_at, dri_at, payload_at, application_0, application_1, application_2, application_13, application_14, application_by, transform_by, passed_over, adobe_at};
+ghost use Rattle.jpeg_segments.specs.FrameView.{application_in};
+
+use crate::parser::{AdobeColorTransform, AppData, IccChunk};
+use crate::payload::read_bytes;
+use jpeg_bits::error::Result;
+use jpeg_bits::marker::Marker;
+use jpeg_bits::reads::{format_error, read_length, read_u16_be, skip};
+use jpeg_bits::source::Source;
+use std::alloc::{AllocError, Global};
+use std::io::Read;
+
+/// What a payload says, where there is memory to hold it.
+type Said = std::result::Result<Option<AppData>, AllocError>;
+
+/// The bytes behind the first `count`.
+fn bytes_behind(
+    alloc: Global,
+    payload: &[u8],
+    count: usize,
+) -> std::result::Result<Vec<u8>, AllocError>
+    requires { count ≤ length payload.now }
+    ensures { IfOk result (λ v. v.items ≡ drop count payload.now) }
+{
+    payload[count..].to_vec(alloc)
+}
+
+/// APP0: a JFIF file, or a frame of an MJPEG stream.
+#[tactic(auto, unfolding(crate::specs::Application::application_0))]
+fn application_0(payload: &[u8]) -> Option<AppData>
+    ensures { option_map application_in result ≡ application_0 payload.now }
+{
+    if payload.starts_with(b"JFIF\0") {
+        Some(AppData::Jfif)
+    } else if payload.starts_with(b"AVI1\0") {
+        Some(AppData::Avi1)
+    } else {
+        None
+    }
+}
+
+/// APP1: Exif or XMP data.
+#[tactic(auto, unfolding(crate::specs::Application::application_1))]
+fn application_1(alloc: Global, payload: &[u8]) -> Said
+    ensures { IfOk result (λ said. option_map application_in said ≡ application_1 payload.now) }
+{
+    if payload.starts_with(b"Exif\0\0") {
+        Ok(Some(AppData::Exif(bytes_behind(alloc, payload, 6)?)))
+    } else if payload.starts_with(b"http://ns.adobe.com/xap/1.0/\0") {
+        Ok(Some(AppData::Xmp(bytes_behind(alloc, payload, 29)?)))
+    } else {
+        Ok(None)
+    }
+}
+
+/// APP2: a part of an ICC profile, of at least one byte.
+#[tactic(auto, unfolding(crate::specs::Application::application_2))]
+fn application_2(alloc: Global, payload: &[u8]) -> Said
+    ensures { IfOk result (λ said. option_map application_in said ≡ application_2 payload.now) }
+{
+    if payload.len() > 14 && payload.starts_with(b"ICC_PROFILE\0") {
+        Ok(Some(AppData::Icc(IccChunk {
+            num_markers: payload[13],
+            seq_no: payload[12],
+            bytes: bytes_behind(alloc, payload, 14)?,
+        })))
+    } else {
+        Ok(None)
+    }
+}
+
+/// APP13: Photoshop's image resources.
+#[tactic(auto, unfolding(crate::specs::Application::application_13))]
+fn application_13(alloc: Global, payload: &[u8]) -> Said
+    ensures { IfOk result (λ said. option_map application_in said ≡ application_13 payload.now) }
+{
+    if payload.starts_with(b"Photoshop 3.0\0") {
+        Ok(Some(AppData::Psir(bytes_behind(alloc, payload, 14)?)))
+    } else {
+        Ok(None)
+    }
+}
+
+/// What the payload behind the marker `APP(number)` says.
+#[tactic(auto, unfolding(crate::specs::Application::application_by))]
+fn application_by(alloc: Global, number: u8, payload: &[u8]) -> Said
+    ensures { IfOk result (λ said. option_map application_in said ≡ application_by number payload.now) }
+{
+    match number {
+        0 => Ok(application_0(payload)),
+        1 => application_1(alloc, payload),
+        2 => application_2(alloc, payload),
+        13 => application_13(alloc, payload),
+        _ => Ok(None),
+    }
+}
+
+/// Passes over `left` bytes, which say nothing that is known.
+fn pass_over<R: Read + Drop>(
+    alloc: Global,
+    source: &mut Source<R>,
+    left: u16,
+) -> Result<Option<AppData>>
+    ensures { Answers (option_map application_in) (passed_over left None) source.old result source.new }
+{
+    skip(alloc, source, left)?;
+    Ok(None)
+}
+
+/// Passes over `left` bytes behind a transform.
+fn pass_over_behind<R: Read + Drop>(
+    alloc: Global,
+    source: &mut Source<R>,
+    left: u16,
+    transform: AdobeColorTransform,
+) -> Result<Option<AppData>>
+    ensures { Answers (option_map application_in) (passed_over left (Some (Adobe transform))) source.old result source.new }
+{
+    skip(alloc, source, left)?;
+    Ok(Some(AppData::Adobe(transform)))
+}
+
+fn transform_by(number: u8) -> Option<AdobeColorTransform>
+    ensures { result ≡ transform_by number }
+{
+    match number {
+        0 => Some(AdobeColorTransform::Unknown),
+        1 => Some(AdobeColorTransform::YCbCr),
+        2 => Some(AdobeColorTransform::YCCK),
+        _ => None,
+    }
+}
+
+/// The payload behind the marker `APP(14)`, where it has `left` bytes and at least twelve: an Adobe segment, whose twelfth byte is the
+/// transform, or none.
+#[tactic(auto, unfolding(crate::specs::Application::adobe_at))]
+fn read_adobe<R: Read + Drop>(
+    alloc: Global,
+    source: &mut Source<R>,
+    left: u16,
+) -> Result<Option<AppData>>
+    requires { 12 ≤ left }
+    ensures { Answers (option_map application_in) (adobe_at left) source.old result source.new }
+{
+    let head = read_bytes(alloc, source, 12)?;
+    if !head.starts_with(b"Adobe\0") {
+        return pass_over(alloc, source, left - 12);
+    }
+    match transform_by(head[11]) {
+        Some(transform) => pass_over_behind(alloc, source, left - 12, transform),
+        None => Err(format_error(alloc, "the transform of an Adobe segment is above 2")),
+    }
+}
+
+/// The payload behind the marker `APP(14)`, of `left` bytes.
+#[tactic(auto, unfolding(crate::specs::Application::application_14))]
+fn read_application_14<R: Read + Drop>(
+    alloc: Global,
+    source: &mut Source<R>,
+    left: u16,
+) -> Result<Option<AppData>>
+    ensures { Answers (option_map application_in) (application_14 left) source.old result source.new }
+{
+    if left < 12 {
+        pass_over(alloc, source, left)
+    } else {
+        read_adobe(alloc, source, left)
+    }
+}
+
+/// The payload behind the marker `APP(number)`, of `left` bytes. It is held only where it may say something.
+fn read_payload<R: Read + Drop>(
+    alloc: Global,
+    source: &mut Source<R>,
+    number: u8,
+    left: u16,
+) -> Result<Option<AppData>>
+    ensures { Answers (option_map application_in) (payload_at number left) source.old result source.new }
+{
+    if number <= 2 || number == 13 {
+        read_known_payload(alloc, source, number, left)
+    } else {
+        pass_over(alloc, source, left)
+    }
+}
+
+/// The payload behind the marker `APP(number)`, of `left` bytes.
+#[tactic(auto, unfolding(crate::specs::Application::payload_at))]
+fn read_known_payload<R: Read + Drop>(
+    alloc: Global,
+    source: &mut Source<R>,
+    number: u8,
+    left: u16,
+) -> Result<Option<AppData>>
+    ensures { Answers (option_map application_in) (payload_at number left) source.old result source.new }
+{
+    let payload = read_bytes(alloc, source, left)?;
+    Ok(application_by(alloc, number, &payload)?)
+}
+
+#[tactic(auto, unfolding(crate::specs::Application::app_at))]
+fn read_application<R: Read + Drop>(
+    alloc: Global,
+    source: &mut Source<R>,
+    number: u8,
+) -> Result<Option<AppData>>
+    ensures { Answers (option_map application_in) (app_at number) source.old result source.new }
+{
+    let left = read_length(alloc, source)?;
+    if number == 14 {
+        read_application_14(alloc, source, left)
+    } else {
+        read_payload(alloc, source, number, left)
+    }
+}
+
+/// Reads a segment behind the marker `APP(number)` (T.81, B.2.4.6), and tells what it says, where it is known: APP0 of JFIF or AVI1, APP1 of
+/// Exif or XMP, APP2 of an ICC profile, APP13 of Photoshop, and APP14 of Adobe. The data is what stands behind the name.
+///
+/// Errors: `Format` for another marker, where the length is below 2, and where an Adobe segment names a transform above 2; `Io` where the
+/// bytes end or a read fails; `OutOfMemory`.
+pub fn parse_app<R: Read + Drop>(
+    alloc: Global,
+    reader: &mut Source<R>,
+    marker: Marker,
+) -> Result<Option<AppData>>
+    ensures { (number : ℕ) → marker ≡ APP number → Answers (option_map application_in) (app_at number) reader.old result reader.new }
+{
+    match marker {
+        Marker::APP(number) => read_application(alloc, reader, number),
+        _ => Err(format_error(alloc, "the marker is not that of an application")),
+    }
+}
+
+/// Reads a comment (T.81, B.2.4.5): its bytes, which are the rest of its segment.
+///
+/// Errors: `Format` where the length is below 2; `Io` where the bytes end or a read fails; `OutOfMemory`.
+#[tactic(auto, unfolding(crate::specs::Application::com_at))]
+pub fn parse_com<R: Read + Drop>(alloc: Global, reader: &mut Source<R>) -> Result<Vec<u8>>
+    ensures { Answers (λ v. v.items) com_at reader.old result reader.new }
+{
+    let left = read_length(alloc, reader)?;
+    read_bytes(alloc, reader, left)
+}
+
+/// Reads a restart interval, in MCUs (T.81, B.2.4.4). 0 means none.
+///
+/// Errors: `Format` where the length is not 4; `Io` where the bytes end or a read fails; `OutOfMemory`.
+#[tactic(auto, unfolding(crate::specs::Application::dri_at))]
+pub fn parse_dri<R: Read + Drop>(alloc: Global, reader: &mut Source<R>) -> Result<u16>
+    ensures { Answers (λ n. n) dri_at reader.old result reader.new }
+{
+    let left = read_length(alloc, reader)?;
+    if left != 2 {
+        return Err(format_error(alloc, "the length of a restart interval's segment is not 4"));
+    }
+    read_u16_be(alloc, reader)
+}
