@@ -1,13 +1,14 @@
 -- Steps of the parser of scan headers.
-use Rattle.std.proofs.Common.{◌≡◌, ℕ, zero, suc, ◌+◌, ◌-◌, ◌*◌, ◌<◌, Bool, not, cond, List, [], ◌∷◌, ◌++◌, map, length, refl, ap, Ok, arith, get_or}
+use Rattle.std.proofs.Common.{All, sym, ◌∙◌, ◌≡◌, ◌≤◌, ℕ, zero, suc, ◌+◌, ◌-◌, ◌*◌, ◌<◌, Bool, not, cond, List, [], ◌∷◌, ◌++◌, map, length, refl, ap, Ok, arith, get_or}
 use Rattle.std.specs.List.{position, position_or_len}
 use Rattle.std.proofs.lemmas.List.{length-map}
+use Rattle.std.proofs.lemmas.List.Elements.{All-map, All-weaker}
 use Rattle.jpeg_bits.specs.Reading.{◌>>=◌}
 use Rattle.jpeg_segments.specs.declared.parser.Component.{Component as Seen}
 use Rattle.jpeg_segments.specs.Frame.{Component}
 use Rattle.jpeg_segments.specs.Frame as frames
 use Rattle.jpeg_segments.specs.FrameView.{component_in}
-use Rattle.jpeg_segments.specs.ScanHeader.{Selector, blocks_by, selector_at, selectors_from}
+use Rattle.jpeg_segments.specs.ScanHeader.{IsCoded, IsScanOf, IsSelectorOf, Scan, Selector, blocks_by, selector_at, selectors_from}
 
 pub selectors_from-more : (frame : frames.Frame) (n : ℕ) (front : List Selector) (least : ℕ) (bytes : List ℕ) → 0 < n
     → selectors_from frame n front least bytes ≡ (selector_at frame least bytes >>= λ (s : Selector × List ℕ). selectors_from frame (n - 1) (front ++ s.0 ∷ []) (s.0.component + 1) s.1)
@@ -33,3 +34,25 @@ pub blocks-at : (xs : List Seen) (i : ℕ) (d : Seen) → i < length xs
 blocks-at [] i d h = absurd (omega arith)
 blocks-at (x ∷ xs) zero d h = refl
 blocks-at (x ∷ xs) (suc i) d h = blocks-at xs i d (omega arith)
+
+-- ---- what each scan that is read has
+
+-- a field of each, where each has it so
+all-of : (P : Selector → Type 0) (Q : ℕ → Type 0) (field : Selector → ℕ) → ((s : Selector) → P s → Q (field s)) → (xs : List Selector) → All P xs → All Q (map field xs)
+all-of P Q field f xs h = All-map Q field xs (All-weaker P (λ s. Q (field s)) f xs h)
+
+pub is-scan : (frame : frames.Frame) (xs : List Selector) (s : Scan) → 1 ≤ length xs → length xs ≤ 4 → All (IsSelectorOf frame) xs
+    → s.components ≡ map (λ x. x.component) xs → s.dc_places ≡ map (λ x. x.dc) xs → s.ac_places ≡ map (λ x. x.ac) xs
+    → IsCoded frame.process s.first s.behind s.high s.low → IsScanOf frame s
+is-scan frame xs s some most places components dc ac coded =
+    let count : length s.components ≡ length xs = ap length components ∙ length-map xs (λ x. x.component) in
+    record {
+      some = rw count some;
+      most = rw count most;
+      components = rw components (all-of (IsSelectorOf frame) (λ n. n < length frame.components) (λ x. x.component) (λ x p. p.component) xs places);
+      dc_length = (ap length dc ∙ length-map xs (λ x. x.dc)) ∙ sym count;
+      dc_places = rw dc (all-of (IsSelectorOf frame) (λ n. n ≤ 3) (λ x. x.dc) (λ x p. p.dc) xs places);
+      ac_length = (ap length ac ∙ length-map xs (λ x. x.ac)) ∙ sym count;
+      ac_places = rw ac (all-of (IsSelectorOf frame) (λ n. n ≤ 3) (λ x. x.ac) (λ x p. p.ac) xs places);
+      coded = coded;
+    }

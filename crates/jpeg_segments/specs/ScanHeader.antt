@@ -1,5 +1,5 @@
 -- Scan headers (T.81, B.2.3).
-use Rattle.std.specs.Prelude.{ℕ, zero, suc, ◌+◌, ◌*◌, ◌/◌, ◌%◌, List, [], ◌∷◌, ◌++◌, map, length, sum_by, Bool, not, ◌&&◌, ◌||◌, Option, Some, None, Ok, Err, nat_lt, nat_le, ◌==◌, if◌then◌else◌, position}
+use Rattle.std.specs.Prelude.{◌≡◌, ◌≤◌, ◌<◌, ℕ, zero, suc, All, ◌+◌, ◌*◌, ◌/◌, ◌%◌, List, [], ◌∷◌, ◌++◌, map, length, sum_by, Bool, not, ◌&&◌, ◌||◌, Option, Some, None, Ok, Err, nat_lt, nat_le, ◌==◌, if◌then◌else◌, position}
 use Rattle.jpeg_bits.specs.Reading.{Outcome, Malformed, ◌>>=◌, next_byte, length_at}
 use Rattle.jpeg_bits.specs.declared.scan.Predictor.{Predictor}
 use Rattle.jpeg_bits.specs.declared.scan.Predictor.TheVariants.{NoPrediction, Ra, Rb, Rc, RaRbRc1, RaRbRc2, RaRbRc3, RaRb}
@@ -149,3 +149,28 @@ sos_at frame bytes = do
   count ← count_at bytes
   selectors ← selectors_from frame count.0 [] 0 count.1
   if is_mcu selectors.0 then band_at frame selectors.0 selectors.1 else Err Malformed
+
+-- ---- what each scan that is read has
+
+-- a component of the frame, and two places for tables
+pub record IsSelectorOf (frame : Frame) (s : Selector) : Type 0 where
+  pub component : s.component < length frame.components
+  pub dc : s.dc ≤ 3
+  pub ac : s.ac ≤ 3
+
+-- the coefficients from the first to the one behind the last, and the levels, that a process may code
+abbrev pub IsCoded : CodingProcess → ℕ → ℕ → ℕ → ℕ → Type 0
+IsCoded DctSequential first behind high low = (first ≡ 0) × (behind ≡ 64) × (high ≡ 0) × (low ≡ 0)
+IsCoded DctProgressive first behind high low = (first < behind) × (behind ≤ 64) × (high ≤ 13) × (low ≤ 13)
+IsCoded Lossless first behind high low = (first ≤ 7) × (behind ≡ 1) × (high ≡ 0)
+
+-- One to four components of the frame, each with the places of its two tables, and coefficients and levels that the process may code.
+pub record IsScanOf (frame : Frame) (s : Scan) : Type 0 where
+  pub some : 1 ≤ length s.components
+  pub most : length s.components ≤ 4
+  pub components : All (λ place. place < length frame.components) s.components
+  pub dc_length : length s.dc_places ≡ length s.components
+  pub dc_places : All (λ place. place ≤ 3) s.dc_places
+  pub ac_length : length s.ac_places ≡ length s.components
+  pub ac_places : All (λ place. place ≤ 3) s.ac_places
+  pub coded : IsCoded frame.process s.first s.behind s.high s.low

@@ -1,8 +1,8 @@
 //! Scan headers.
-ghost use Rattle.std.specs.Prelude.{◌≡◌, ◌≤◌, ◌<◌, ◌==◌, ◌*◌, [], map, position, length, sum_by, IsTrue, IfOk, IfSome};
+ghost use Rattle.std.specs.Prelude.{◌≡◌, ◌≤◌, ◌<◌, ◌==◌, ◌*◌, [], map, position, length, sum_by, IsTrue, IfOk, IfSome, All};
 ghost use Rattle.jpeg_bits.specs.Reading.{Answers};
 ghost use Rattle.jpeg_segments.specs.HuffmanTables.{greatest_place};
-ghost use Rattle.jpeg_segments.specs.ScanHeader.{band_at, behind_of, blocks_by, count_at, is_band, is_lossless_band, is_mcu, is_progressive_band, is_sequential_band, place_of, predictor_by, predictor_of, scan_of, selector_at, selectors_from, sos_at, tables_at, tables_by};
+ghost use Rattle.jpeg_segments.specs.ScanHeader.{IsCoded, IsScanOf, IsSelectorOf, band_at, behind_of, blocks_by, count_at, is_band, is_lossless_band, is_mcu, is_progressive_band, is_sequential_band, place_of, predictor_by, predictor_of, scan_of, selector_at, selectors_from, sos_at, tables_at, tables_by};
 ghost use Rattle.jpeg_segments.specs.FrameView.{component_in, frame_in, scan_in, selector_of};
 
 use crate::huffman_tables::greatest_place;
@@ -26,6 +26,7 @@ struct Selector {
 #[tactic(auto, unfolding(crate::specs::ScanHeader::count_at))]
 fn read_count<R: Read + Drop>(alloc: Global, source: &mut Source<R>) -> Result<u8>
     ensures answers { Answers (λ n. n) count_at source.old result source.new }
+    ensures some { IfOk result (λ n. 1 ≤ n) }
     ensures most { IfOk result (λ n. n ≤ 4) }
 {
     let left = read_length(alloc, source)?;
@@ -85,7 +86,7 @@ fn read_tables<R: Read + Drop>(
 ) -> Result<Selector>
     requires { place < length frame.now.components.items }
     ensures answers { Answers selector_of (tables_at (frame_in frame.now) place) source.old result source.new }
-    ensures place { IfOk result (λ s. s.component ≡ place) }
+    ensures place { IfOk result (λ s. IsSelectorOf (frame_in frame.now) (selector_of s)) }
 {
     let places = read_u8(alloc, source)?;
     let greatest = greatest_place(Some(frame.is_baseline));
@@ -114,7 +115,7 @@ fn read_selector<R: Read + Drop>(
     least: usize,
 ) -> Result<Selector>
     ensures answers { Answers selector_of (selector_at (frame_in frame.now) least) source.old result source.new }
-    ensures place { IfOk result (λ s. s.component < length frame.now.components.items) }
+    ensures place { IfOk result (λ s. IsSelectorOf (frame_in frame.now) (selector_of s)) }
 {
     let identifier = read_u8(alloc, source)?;
     match place_of(&frame.components, identifier) {
@@ -135,6 +136,7 @@ fn read_selectors<R: Read + Drop>(
 ) -> Result<Vec<Selector>>
     ensures answers { Answers (λ v. map selector_of v.items) (selectors_from (frame_in frame.now) count [] 0) source.old result source.new }
     ensures length { IfOk result (λ v. length v.items ≡ count) }
+    ensures places { IfOk result (λ v. All (IsSelectorOf (frame_in frame.now)) (map selector_of v.items)) }
 {
     let mut selectors = Vec::with_capacity(alloc, usize::from(count))?;
     let mut least = 0;
@@ -192,6 +194,7 @@ struct Band {
 fn is_band(process: CodingProcess, count: usize, band: Band) -> bool
     ensures value { result ≡ is_band process count band.first band.last band.high band.low }
     ensures small { IsTrue result → band.last ≤ 63 }
+    ensures coded { IsTrue result → IsCoded process band.first (behind_of process band.last) band.high band.low }
 {
     let Band {
         first,
@@ -308,7 +311,11 @@ fn read_band<R: Read + Drop>(
     frame: &FrameInfo,
     selectors: &[Selector],
 ) -> Result<ScanInfo>
-    ensures { Answers scan_in (band_at (frame_in frame.now) (map selector_of selectors.now)) source.old result source.new }
+    requires some { 1 ≤ length selectors.now }
+    requires most { length selectors.now ≤ 4 }
+    requires places { All (IsSelectorOf (frame_in frame.now)) (map selector_of selectors.now) }
+    ensures answers { Answers scan_in (band_at (frame_in frame.now) (map selector_of selectors.now)) source.old result source.new }
+    ensures scan { IfOk result (λ s. IsScanOf (frame_in frame.now) (scan_in s)) }
 {
     let first = read_u8(alloc, source)?;
     let last = read_u8(alloc, source)?;
@@ -340,7 +347,8 @@ pub fn parse_sos<R: Read + Drop>(
     reader: &mut Source<R>,
     frame: &FrameInfo,
 ) -> Result<ScanInfo>
-    ensures { Answers scan_in (sos_at (frame_in frame.now)) reader.old result reader.new }
+    ensures answers { Answers scan_in (sos_at (frame_in frame.now)) reader.old result reader.new }
+    ensures scan { IfOk result (λ s. IsScanOf (frame_in frame.now) (scan_in s)) }
 {
     let count = read_count(alloc, reader)?;
     let selectors = read_selectors(alloc, reader, frame, count)?;

@@ -4,6 +4,7 @@ use crate::bytes::bytes;
 use jpeg_decoder::Error;
 use jpeg_decoder::error::Source;
 use jpeg_decoder::huffman::{HuffmanDecoder, HuffmanTable, HuffmanTableClass};
+use jpeg_decoder::idct::dequantize_and_idct_block_8x8;
 use jpeg_decoder::marker::Marker;
 use jpeg_decoder::parser::{parse_dht, parse_dqt, parse_sof, parse_sos};
 use std::test::Fail;
@@ -64,5 +65,15 @@ fn parsers_read_their_segments(rt: HostRuntime) -> Result<(), Fail> {
     assert!(rt; dc[3].is_none());
     let refused = parse_dht(rt.alloc(), &mut Source::new(segment.as_slice()), Some(true));
     assert!(rt; matches!(refused, Err(Error::Format(_))));
+    Ok(())
+}
+
+#[test]
+fn a_block_of_dc_alone_is_flat(rt: HostRuntime) -> Result<(), Fail> {
+    let mut coefficients = [0; 64];
+    coefficients[0] = 8;
+    let mut samples = [0; 64];
+    dequantize_and_idct_block_8x8(&coefficients, &[2; 64], 8, &mut samples);
+    assert!(rt; samples == [130; 64]);
     Ok(())
 }

@@ -1,9 +1,10 @@
 use Rattle.std.proofs.Common.{◌≡◌, ℕ, ◌+◌, ◌-◌, ◌++◌, ◌∷◌, [], List, Vec, Global, length, length-append, map, ap, ◌∙◌, arith}
 use Rattle.std.proofs.lemmas.List.{map-append}
+use Rattle.std.proofs.lemmas.List.Elements.{All-push}
 use Rattle.std.proofs.lemmas.Result.{err_from_is_err_and}
 use Rattle.jpeg_bits.proofs.Loops.{Continues-ok, Continues-err, Continues-end, bind_at, bind_err}
 use Rattle.jpeg_segments.specs.declared.scan_header.Selector.{Selector as Read}
-use Rattle.jpeg_segments.specs.ScanHeader.{Selector, selectors_from, selector_at}
+use Rattle.jpeg_segments.specs.ScanHeader.{IsSelectorOf, Selector, selectors_from, selector_at}
 use Rattle.jpeg_segments.specs.FrameView.{frame_in, selector_of}
 use Rattle.jpeg_segments.proofs.ScanLemmas.{selectors_from-more, selectors_from-none}
 use Rattle.jpeg_segments.proofs.scan_header.read_selectors.Goals as goal
@@ -28,6 +29,7 @@ loop-left-preserved g c =
           (λ e. selectors_from-more frame left front least c.loop-left.source.bytes c.loop-left-test.true ∙ bind_at _ _ _ e)
           c.loop-left.invariant.rest c.in_ok-selector.ensures.answers);
       length = omega (arith, longer, c.loop-left.invariant.length, c.loop-left-test.true);
+      places = rw e (All-push (IsSelectorOf frame) front (selector_of one) c.loop-left.invariant.places c.in_ok-selector.ensures.place);
     }
 
 pub returns-in_err-selector-clause-answers : goal.returns-in_err-selector-clause-answers

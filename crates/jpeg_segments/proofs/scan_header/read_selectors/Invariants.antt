@@ -1,5 +1,5 @@
-use Rattle.std.proofs.Common.{◌≡◌, ◌+◌, ℕ, List, [], map, length}
-use Rattle.jpeg_segments.specs.ScanHeader.{selectors_from}
+use Rattle.std.proofs.Common.{All, ◌≡◌, ◌+◌, ℕ, List, [], map, length}
+use Rattle.jpeg_segments.specs.ScanHeader.{IsSelectorOf, selectors_from}
 use Rattle.jpeg_segments.specs.FrameView.{frame_in, selector_of}
 use Rattle.jpeg_bits.proofs.Loops.{Continues}
 use Rattle.jpeg_segments.proofs.scan_header.read_selectors.Given as goal
@@ -8,6 +8,7 @@ abbrev pub invariant-loop-left : goal.invariant-loop-left
 invariant-loop-left g l = record {
   rest : Continues (selectors_from (frame_in l.frame) l.fn.count [] 0) l.fn.source (λ (bs : List ℕ). selectors_from (frame_in l.frame) l.left (map selector_of l.selectors.items) l.least bs) l.source;
   length : length l.selectors.items + l.left ≡ l.fn.count;
+  places : All (IsSelectorOf (frame_in l.frame)) (map selector_of l.selectors.items);
 }
 
 abbrev pub decreases-loop-left : goal.decreases-loop-left
