@@ -2,10 +2,8 @@
 //! the time in microseconds.
 #![tactic(auto)]
 
-ghost use Rattle.std.specs.Prelude.{◌≡◌, length, map, IfOk};
+ghost use Rattle.std.specs.Prelude.{◌≡◌, [], ◌∷◌, length, map, IfOk};
 ghost use Rattle.jpeg_segments.specs.FrameView.{component_in};
-ghost use Rattle.jpeg_pixels.specs.Pictures.{AllCover};
-ghost use Rattle.bench_rows.specs.Halves.{luma, chroma, sources};
 
 use jpeg_bits::color_transform::ColorTransform;
 use jpeg_bits::error::Result;
@@ -16,45 +14,25 @@ use std::time::Instant;
 
 const ROUNDS: u32 = 20;
 
-/// The component of as many columns and lines as the picture.
-fn luma_component() -> Component
-    ensures { component_in result ≡ luma }
+/// A component of samples in whole blocks, with the same factor across and down.
+fn component(factor: u8, size: Dimensions, block_size: Dimensions) -> Component
+    ensures { component_in result ≡ record {
+      factors = record { identifier = 1; horizontal = factor; vertical = factor; quantization = 0 };
+      scale = 8;
+      width = size.width;
+      height = size.height;
+      blocks_wide = block_size.width;
+      blocks_high = block_size.height;
+    } }
 {
     Component {
         identifier: 1,
-        horizontal_sampling_factor: 2,
-        vertical_sampling_factor: 2,
+        horizontal_sampling_factor: factor,
+        vertical_sampling_factor: factor,
         quantization_table_index: 0,
         dct_scale: 8,
-        size: Dimensions {
-            width: 4000,
-            height: 512,
-        },
-        block_size: Dimensions {
-            width: 500,
-            height: 64,
-        },
-    }
-}
-
-/// A component of half as many.
-fn chroma_component() -> Component
-    ensures { component_in result ≡ chroma }
-{
-    Component {
-        identifier: 2,
-        horizontal_sampling_factor: 1,
-        vertical_sampling_factor: 1,
-        quantization_table_index: 0,
-        dct_scale: 8,
-        size: Dimensions {
-            width: 2000,
-            height: 256,
-        },
-        block_size: Dimensions {
-            width: 250,
-            height: 32,
-        },
+        size,
+        block_size,
     }
 }
 
@@ -71,17 +49,30 @@ fn plane(alloc: Global, size: usize, seed: u32) -> std::result::Result<Vec<u8>, 
     Ok(samples)
 }
 
-/// The picture of three planes.
+/// The picture of three planes, the second and third of half as many columns and lines.
 fn picture(alloc: Global, planes: &[Vec<u8>]) -> Result<Vec<u8>>
-    requires three { length planes.now ≡ 3 }
-    requires cover { AllCover sources (map (λ v. v.items) planes.now) 4000 512 }
+    requires { map (λ v. length v.items) planes.now ≡ 2048000 ∷ 512000 ∷ 512000 ∷ [] }
 {
-    let components = [luma_component(), chroma_component(), chroma_component()];
     let size = Dimensions {
         width: 4000,
         height: 512,
     };
-    compute_image_rows(alloc, &components, planes, size, ColorTransform::YCbCr)
+    let blocks = Dimensions {
+        width: 500,
+        height: 64,
+    };
+    let half_size = Dimensions {
+        width: 2000,
+        height: 256,
+    };
+    let half_blocks = Dimensions {
+        width: 250,
+        height: 32,
+    };
+    let luma = component(2, size, blocks);
+    let cb = component(1, half_size, half_blocks);
+    let cr = component(1, half_size, half_blocks);
+    compute_image_rows(alloc, &[luma, cb, cr], planes, size, ColorTransform::YCbCr)
 }
 
 /// A number that tells pictures apart.
@@ -95,8 +86,7 @@ fn mixed(total: u64, picture: &[u8]) -> u64 {
 
 /// Makes the picture of three planes anew each round, and mixes the bytes of all of them.
 fn all_rounds(alloc: Global, planes: &[Vec<u8>]) -> Result<u64>
-    requires three { length planes.now ≡ 3 }
-    requires cover { AllCover sources (map (λ v. v.items) planes.now) 4000 512 }
+    requires { map (λ v. length v.items) planes.now ≡ 2048000 ∷ 512000 ∷ 512000 ∷ [] }
 {
     let mut total = 0u64;
     for _ in 0..ROUNDS {

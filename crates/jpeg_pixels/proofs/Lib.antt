@@ -3,6 +3,7 @@ pub mod Columns
 pub mod Residues
 pub mod Sums
 pub mod FlatBlocks
+pub mod FrameCovers
 pub mod ComponentLines
 pub mod CroppedLines
 pub mod Greys
@@ -12,6 +13,7 @@ pub mod Pieces
 pub mod PlaneRows
 pub mod Rows
 pub mod SourceLists
+pub mod SquareFrames
 pub mod Strips
 pub mod UpsampledEnds
 pub mod UpsampledRows

@@ -1,5 +1,5 @@
 -- The picture of several components.
-use Rattle.std.specs.Prelude.{ℕ, ◌+◌, ◌-◌, ◌*◌, ◌<◌, ◌≤◌, List, [], ◌∷◌, map, length, slice_index, Option, Some, None, Result, Ok, Err}
+use Rattle.std.specs.Prelude.{◌≡◌, ℕ, ◌+◌, ◌-◌, ◌*◌, ◌<◌, ◌≤◌, List, [], ◌∷◌, map, length, slice_index, Option, Some, None, Result, Ok, Err}
 use Rattle.std.specs.List.{range_with_len, concat}
 use Rattle.jpeg_bits.specs.Reading.{Fault, Lacks, ◌>>=◌}
 use Rattle.jpeg_bits.specs.declared.error.UnsupportedFeature.TheVariants.{NonIntegerSubsamplingRatio}
@@ -79,3 +79,15 @@ unfoldable pub AllCover : List Source → List (List ℕ) → ℕ → ℕ → Ty
 AllCover [] planes width height = Unit {0}
 AllCover (s ∷ sources) [] width height = ⊥
 AllCover (s ∷ sources) (plane ∷ planes) width height = Covers s plane width height × AllCover sources planes width height
+
+-- planes with room for the samples of these components, where a line is as long as the component's blocks
+unfoldable pub HaveRoom : List Component → List (List ℕ) → Type 0
+HaveRoom [] planes = Unit {0}
+HaveRoom (c ∷ more) [] = ⊥
+HaveRoom (c ∷ more) (plane ∷ planes) = ((c.height - 1) * (c.blocks_wide * c.scale) + c.width ≤ length plane) × HaveRoom more planes
+
+-- planes of all blocks of these components
+unfoldable pub AreWhole : List Component → List (List ℕ) → Type 0
+AreWhole [] planes = Unit {0}
+AreWhole (c ∷ more) [] = ⊥
+AreWhole (c ∷ more) (plane ∷ planes) = (length plane ≡ (c.blocks_high * c.scale) * (c.blocks_wide * c.scale)) × AreWhole more planes

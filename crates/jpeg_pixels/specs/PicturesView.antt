@@ -1,6 +1,5 @@
 -- What a caller sees of planes and upsamplers, and what is asked of components.
-use Rattle.std.specs.Prelude.{◌≡◌, ℕ, ◌≤◌, List, [], ◌∷◌}
-use Rattle.jpeg_segments.specs.Frame as frames
+use Rattle.std.specs.Prelude.{◌≡◌, ℕ}
 use Rattle.jpeg_pixels.specs.Pictures.{Source}
 use Rattle.jpeg_pixels.specs.declared.upsampler.ComponentSource.{ComponentSource}
 use Rattle.jpeg_pixels.specs.declared.upsampler.ColorConvert.{ColorConvert}

@@ -1,7 +1,9 @@
 //! What the definitions of samples mean in plain words, each a theorem on a function without a body.
-ghost use Rattle.std.specs.Prelude.{◌≡◌, ℕ, ◌+◌, ◌-◌, ◌*◌, ◌<◌, ◌≤◌, List, [], ◌∷◌, ◌++◌, map, replicate, slice_index, ℤ, pos, ◌+ℤ◌, unsigned_abs};
+ghost use Rattle.std.specs.Prelude.{All, Ok, ◌≡◌, ℕ, ◌+◌, ◌-◌, ◌*◌, ◌<◌, ◌≤◌, List, [], ◌∷◌, ◌++◌, map, replicate, slice_index, ℤ, pos, ◌+ℤ◌, unsigned_abs};
 ghost use Rattle.std.specs.List.{range_with_len};
 ghost use Rattle.std.specs.Int.{int_shr};
+ghost use Rattle.jpeg_segments.specs.Frame.{Factors, IsInRange, frame_of};
+ghost use Rattle.jpeg_pixels.specs.Pictures.{AllCover, AreWhole, HaveRoom, Source, sources_of};
 ghost use Rattle.jpeg_pixels.specs.Samples.{HasFirstOnly, clamped, dequantized, sample};
 ghost use Rattle.jpeg_pixels.specs.Planes.{plane_of, strip_of};
 ghost use Rattle.jpeg_pixels.specs.Colour.{colour_of, line_bytes};
@@ -34,6 +36,16 @@ pub fn planes_are_their_rows()
     ensures same { (table : List ℕ) (wide high : ℕ) (f g : ℕ → ℕ → List ℤ) →
         ((row column : ℕ) → row < high → column < wide → f row column ≡ g row column) →
         plane_of table wide high f ≡ plane_of table wide high g }
+{}
+
+/// What is asked of planes can be had in each frame: planes of all blocks have room for the samples,
+/// and planes with that room cover the picture.
+pub fn frames_are_covered()
+    ensures whole { (number precision width height : ℕ) (factors : List Factors) (planes : List (List ℕ)) → All IsInRange factors → 0 < width → 0 < height →
+        AreWhole (frame_of number precision width height factors).components planes → HaveRoom (frame_of number precision width height factors).components planes }
+    ensures covered { (number precision width height : ℕ) (factors : List Factors) (planes : List (List ℕ)) (sources : List Source) →
+        All IsInRange factors → 0 < width → 0 < height → HaveRoom (frame_of number precision width height factors).components planes →
+        sources_of (frame_of number precision width height factors).components width height ≡ Ok sources → AllCover sources planes width height }
 {}
 
 /// The samples of three blocks, computed: the first coefficient alone; the largest coefficients and
