@@ -3,6 +3,7 @@ pub mod Loops
 pub mod Texts
 pub mod Held
 pub mod CodeLemmas
+pub mod DefaultTables
 pub mod Symbols
 pub mod Skips
 pub mod Calls

@@ -5,6 +5,7 @@ pub mod NextMarker
 pub mod Entropy
 pub mod Readers
 pub mod Codes
+pub mod DefaultTables
 pub mod Refusals
 pub mod Ends
 pub mod Written

@@ -5,6 +5,7 @@ ghost use Rattle.jpeg_bits.specs.Refusals.{held_refusal, answer_of, IsHeld};
 ghost use Rattle.jpeg_bits.specs.Entropy.{piece_at, behind_ff, byte_or_end, bits_of, number_of, marker_held, extended};
 
 pub use crate::codes::{HuffmanTable, HuffmanTableClass};
+pub use crate::default_tables::fill_default_mjpeg_tables;
 use crate::error::{Error, Result};
 use crate::marker::Marker;
 use crate::reads::{end_of_bytes, format_error};

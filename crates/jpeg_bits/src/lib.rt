@@ -3,6 +3,9 @@
 
 pub mod codes;
 pub mod color_transform;
+mod default_tables;
+#[cfg(test)]
+mod default_tables_tests;
 pub mod error;
 pub mod huffman;
 pub mod laws;

@@ -1,0 +1,101 @@
+-- The default tables have codes, and how places are filled.
+use Rattle.std.proofs.Common.{◌≡◌, ◌≤◌, Bool, ℕ, List, [], ◌∷◌, length, get_or, set, true, Option, Result, Ok, Err, MatchResult, inl, inr, ◌∙◌, ap, refl, arith}
+use Rattle.jpeg_bits.specs.Codes.{Table, HasCodes, RefusesCodes, code_lengths, code_value, codes_exist, lengths_from}
+use Rattle.jpeg_bits.specs.DefaultTables.{AreBetween, AreCodes, filled, names, with_defaults, luminance_ac, luminance_dc, chrominance_ac, chrominance_dc}
+use Rattle.jpeg_bits.specs.declared.error.Error.{Error}
+use Rattle.jpeg_bits.specs.declared.error.Error.TheVariants as errors
+use Rattle.jpeg_bits.proofs.Tables.{tested-exist}
+
+-- where the codes exist, a table is refused for want of memory alone
+pub only-memory : (e : Error) (lengths : List ℕ) → RefusesCodes e lengths → HasCodes lengths → e ≡ errors.OutOfMemory
+only-memory (errors.Format text) lengths refused exist = absurd (refused exist)
+only-memory (errors.Unsupported feature) lengths refused exist = absurd refused
+only-memory (errors.Io e) lengths refused exist = absurd refused
+only-memory (errors.Internal text) lengths refused exist = absurd refused
+only-memory errors.OutOfMemory lengths refused exist = refl
+
+AreCodesOf : Table → Type 0
+AreCodesOf t = AreCodes t.counts t.symbols
+
+exists : (counts : List ℕ) → codes_exist (code_lengths counts) ≡ true → HasCodes (code_lengths counts)
+exists counts e = tested-exist (code_lengths counts) e
+
+pub luminance-dc-codes : AreCodes luminance_dc.counts luminance_dc.symbols
+unfolding codes_exist code_value lengths_from
+luminance-dc-codes = record { count = refl; some = omega arith; most = omega arith; exist = exists luminance_dc.counts refl }
+
+pub chrominance-dc-codes : AreCodes chrominance_dc.counts chrominance_dc.symbols
+unfolding codes_exist code_value lengths_from
+chrominance-dc-codes = record { count = refl; some = omega arith; most = omega arith; exist = exists chrominance_dc.counts refl }
+
+pub luminance-ac-codes : AreCodes luminance_ac.counts luminance_ac.symbols
+unfolding codes_exist code_value lengths_from
+luminance-ac-codes = record { count = refl; some = omega arith; most = omega arith; exist = exists luminance_ac.counts refl }
+
+pub chrominance-ac-codes : AreCodes chrominance_ac.counts chrominance_ac.symbols
+unfolding codes_exist code_value lengths_from
+chrominance-ac-codes = record { count = refl; some = omega arith; most = omega arith; exist = exists chrominance_ac.counts refl }
+
+-- ---- places
+
+all-same : (ts : List (Option Table)) → AreBetween ts ts ts
+unfolding AreBetween
+all-same [] = tt
+all-same (t ∷ ts) = (inl refl, all-same ts)
+
+pub both-filled : (l r : Table) (places : List ℕ) (ts : List (Option Table)) (n m : Bool) (d e a b : Option Table) → 2 ≤ length ts
+    → n ≡ names places 0 → m ≡ names places 1 → a ≡ filled l n (get_or ts 0 d) → b ≡ filled r m (get_or (set ts 0 a) 1 e)
+    → set (set ts 0 a) 1 b ≡ with_defaults l r places ts
+both-filled l r places [] n m d e a b two is_n is_m first second = absurd (omega arith)
+both-filled l r places (x ∷ []) n m d e a b two is_n is_m first second = absurd (omega arith)
+both-filled l r places (x ∷ y ∷ more) n m d e a b two is_n is_m first second =
+    let p : a ≡ filled l (names places 0) x = first ∙ ap (λ (k : Bool). filled l k x) is_n in
+    let q : b ≡ filled r (names places 1) y = second ∙ ap (λ (k : Bool). filled r k y) is_m in
+    λ i. p i ∷ q i ∷ more
+
+as-it-was : (whole : List (Option Table)) (ts : List (Option Table)) → length whole ≡ length ts → AreBetween ts whole ts
+unfolding AreBetween
+as-it-was [] [] same = tt
+as-it-was [] (t ∷ ts) same = absurd (omega arith)
+as-it-was (w ∷ whole) [] same = absurd (omega arith)
+as-it-was (w ∷ whole) (t ∷ ts) same = (inl refl, as-it-was whole ts (omega arith))
+
+pub first-refused : (l r : Table) (places : List ℕ) (ts : List (Option Table)) (d a : Option Table) → 2 ≤ length ts
+    → a ≡ get_or ts 0 d → AreBetween ts (with_defaults l r places ts) (set ts 0 a)
+unfolding AreBetween
+first-refused l r places [] d a two first = absurd (omega arith)
+first-refused l r places (x ∷ []) d a two first = absurd (omega arith)
+first-refused l r places (x ∷ y ∷ more) d a two first = (inl first, (inl refl, all-same more))
+
+pub second-refused : (l r : Table) (places : List ℕ) (ts : List (Option Table)) (n m : Bool) (d e a b : Option Table) → 2 ≤ length ts
+    → n ≡ names places 0 → m ≡ names places 1 → a ≡ filled l n (get_or ts 0 d) → b ≡ get_or (set ts 0 a) 1 e
+    → AreBetween ts (with_defaults l r places ts) (set (set ts 0 a) 1 b)
+unfolding AreBetween
+second-refused l r places [] n m d e a b two is_n is_m first second = absurd (omega arith)
+second-refused l r places (x ∷ []) n m d e a b two is_n is_m first second = absurd (omega arith)
+second-refused l r places (x ∷ y ∷ more) n m d e a b two is_n is_m first second =
+    (inr (first ∙ ap (λ (k : Bool). filled l k x) is_n), (inl second, all-same more))
+
+same-length : (l r : Table) (places : List ℕ) (ts : List (Option Table)) → length (with_defaults l r places ts) ≡ length ts
+same-length l r places [] = refl
+same-length l r places (a ∷ []) = refl
+same-length l r places (a ∷ b ∷ more) = refl
+
+-- tables that nothing was done to
+pub untouched : (l r : Table) (places : List ℕ) (ts : List (Option Table)) → AreBetween ts (with_defaults l r places ts) ts
+untouched l r places ts = as-it-was (with_defaults l r places ts) ts (same-length l r places ts)
+
+-- tables that were filled
+pub all-done : (whole : List (Option Table)) (ts : List (Option Table)) → length whole ≡ length ts → AreBetween ts whole whole
+unfolding AreBetween
+all-done [] [] same = tt
+all-done [] (t ∷ ts) same = absurd (omega arith)
+all-done (w ∷ whole) [] same = absurd (omega arith)
+all-done (w ∷ whole) (t ∷ ts) same = (inr refl, all-done whole ts (omega arith))
+
+pub done : (l r : Table) (places : List ℕ) (ts : List (Option Table)) → AreBetween ts (with_defaults l r places ts) (with_defaults l r places ts)
+done l r places ts = all-done (with_defaults l r places ts) ts (same-length l r places ts)
+
+pub weaker : {T E : Type 0} (r : Result T E) (P P' : T → Type 0) (Q Q' : E → Type 0) → ((x : T) → P x → P' x) → ((e : E) → Q e → Q' e) → MatchResult r P Q → MatchResult r P' Q'
+weaker (Ok x) P P' Q Q' f g m = f x m
+weaker (Err e) P P' Q Q' f g m = g e m

@@ -1,0 +1,32 @@
+use Rattle.std.proofs.Common.{◌≡◌}
+use Rattle.std.proofs.lemmas.Result.{err_from_is_err_and}
+use Rattle.jpeg_bits.specs.DefaultTables.{AreBetween, chrominance_ac, chrominance_dc, luminance_ac, luminance_dc, with_defaults}
+use Rattle.jpeg_bits.specs.declared.error.Error.TheVariants.{OutOfMemory}
+use Rattle.jpeg_bits.proofs.DefaultTables.{chrominance-ac-codes, chrominance-dc-codes, done, luminance-ac-codes, luminance-dc-codes, untouched, weaker}
+use Rattle.jpeg_bits.proofs.default_tables.fill_default_mjpeg_tables.Goals as goal
+
+pub fill_both-requires-clause-luminance : goal.fill_both-requires-clause-luminance
+fill_both-requires-clause-luminance c = luminance-dc-codes
+
+pub fill_both-requires-clause-chrominance : goal.fill_both-requires-clause-chrominance
+fill_both-requires-clause-chrominance c = chrominance-dc-codes
+
+pub returns-in_err-fill_both-clause-ac : goal.returns-in_err-fill_both-clause-ac
+returns-in_err-fill_both-clause-ac c =
+    let p = err_from_is_err_and c.from_residual.result c.from_residual.ensures.1 in
+    rw (p.1, p.2) (c.in_err-fill_both.ensures.0, untouched luminance_ac chrominance_ac c.args.scan.now.ac_table_indices.items c.args.ac_huffman_tables.now)
+
+pub fill_both-requires-2-clause-luminance : goal.fill_both-requires-2-clause-luminance
+fill_both-requires-2-clause-luminance c = luminance-ac-codes
+
+pub fill_both-requires-2-clause-chrominance : goal.fill_both-requires-2-clause-chrominance
+fill_both-requires-2-clause-chrominance c = chrominance-ac-codes
+
+pub returns-clause-dc : goal.returns-clause-dc
+returns-clause-dc c =
+    let old = c.args.dc_huffman_tables.now in
+    let whole = with_defaults luminance_dc chrominance_dc c.args.scan.now.dc_table_indices.items old in
+    let shown : c.deref.result.now ≡ c.args.scan.now.dc_table_indices.items = c.deref.ensures.value in
+    let filled : c.fill_both.new.tables ≡ whole = rw shown at c.in_ok-fill_both.ensures in
+    weaker c.fill_both-2.result _ (λ x. c.fill_both.new.tables ≡ whole) _ (λ e. (e ≡ OutOfMemory) × AreBetween old whole c.fill_both.new.tables)
+    (λ x e. filled) (λ x e. (e.0, rw filled (done luminance_dc chrominance_dc c.args.scan.now.dc_table_indices.items old))) c.fill_both-2.ensures
