@@ -200,3 +200,7 @@ without-same f e = ap (λ (ps : List (Option (List ℕ))). record f { planes = p
 pub header-planes : (bytes : List ℕ) → without_planes (told_at true Elsewhere nothing_found None bytes) ≡ told_at true Elsewhere nothing_found None bytes
 unfolding told_at nothing_found
 header-planes bytes = without-same (told_at true Elsewhere nothing_found None bytes) (planes-kept (suc (length bytes)) nothing_found bytes)
+
+pub header-planes-within : (n : ℕ) (bytes : List ℕ) → without_planes (told_within n true Elsewhere nothing_found None bytes) ≡ told_within n true Elsewhere nothing_found None bytes
+unfolding nothing_found
+header-planes-within n bytes = without-same (told_within n true Elsewhere nothing_found None bytes) (planes-kept n nothing_found bytes)

@@ -1,13 +1,13 @@
 -- What a stream has said.
-use Rattle.std.proofs.Common.{◌≡◌, ◌∙◌, ℕ, List, Bool, true, Result, Ok, Err, None, refl}
+use Rattle.std.proofs.Common.{◌≡◌, ◌∙◌, ap, ℕ, List, Bool, true, Result, Ok, Err, None, refl}
 use Rattle.jpeg_bits.specs.Stream.{Stream}
 use Rattle.jpeg_bits.specs.declared.error.Error.{Error}
 use Rattle.jpeg_bits.specs.declared.error.Error.TheVariants as errors
 use Rattle.jpeg_decoder.specs.States.{IfRefused, OnTold}
-use Rattle.jpeg_bits.specs.Reading.{Fault}
+use Rattle.jpeg_bits.specs.Reading.{Fault, Outcome}
 use Rattle.jpeg_decoder.specs.declared.segments.Before.TheVariants.{Elsewhere}
-use Rattle.jpeg_decoder.specs.Stream.{nothing_found, start_at, told_rest, told_by_stream, told_at}
-use Rattle.jpeg_decoder.proofs.Headers.{header-planes}
+use Rattle.jpeg_decoder.specs.Stream.{Found, IsOfTurns, nothing_found, start_at, without_planes, told_rest, told_by_stream, told_at, told_within, told_in_turns, told_by_turns}
+use Rattle.jpeg_decoder.proofs.Headers.{header-planes, header-planes-within}
 
 pub told-no_start : (header : Bool) (bytes : List ℕ) (fault : Fault) → start_at bytes ≡ Err fault → told_by_stream header bytes ≡ nothing_found
 unfolding told_by_stream
@@ -31,3 +31,25 @@ refused-through errors.OutOfMemory P Q f h = tt
 pub told-through : {X : Type 0} (old mid new : Stream) (r : Result X Error) (P Q : Type 0) → (old.known ≡ true → (mid.known ≡ true) × (P → Q)) → OnTold mid new r P → OnTold old new r Q
 told-through old mid new (Ok x) P Q f h = λ k. let a = f k in a.1 (h a.0)
 told-through old mid new (Err e) P Q f h = λ k known. let a = f k in refused-through e P Q a.1 (h a.0 known)
+
+-- ---- so many turns
+
+pub turns-none : (header : Bool) (bytes : List ℕ) → told_by_turns 0 header bytes ≡ nothing_found
+unfolding told_by_turns told_within nothing_found
+turns-none header bytes = go (start_at bytes)
+  where
+    go : (start : Outcome (Unit {0})) → elim start as (λ _. Found) [ Err fault ↦ nothing_found | Ok start ↦ told_in_turns 0 header nothing_found start.1 ] ≡ nothing_found
+    go (Err fault) = refl
+    go (Ok start) = refl
+
+pub turns-start : (n : ℕ) (header : Bool) (bytes rest : List ℕ) → start_at bytes ≡ Ok (tt, rest) → told_by_turns n header bytes ≡ told_in_turns n header nothing_found rest
+unfolding told_by_turns
+turns-start n header bytes rest h = rw (h, told_by_turns) refl
+
+pub turns-header : (n : ℕ) (bytes rest : List ℕ) → start_at bytes ≡ Ok (tt, rest) → told_by_turns n true bytes ≡ told_within n true Elsewhere nothing_found None rest
+turns-header n bytes rest h = turns-start n true bytes rest h ∙ header-planes-within n rest
+
+-- without planes, of as many turns
+pub turns-without : (said : ℕ → Found) (found : Found) → IsOfTurns said found → IsOfTurns (λ n. without_planes (said n)) (without_planes found)
+unfolding IsOfTurns
+turns-without said found of = (of.0, ap (λ (f : Found). without_planes f) of.1)

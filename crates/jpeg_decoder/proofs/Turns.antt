@@ -252,3 +252,19 @@ segments-next header before found met bytes rest t none p e q = segments-turn he
 pub told-next : (header : Bool) (before : Before) (found : Found) (met : Option Marker) (bytes rest : List ℕ) (t : Turn) → is_restart met ≡ false → (header && is_some found.frame) ≡ false → t.ended ≡ false
     → turn_at before found met bytes ≡ Ok (t, rest) → told_at header before found met bytes ≡ told_at header t.before t.found t.met rest
 told-next header before found met bytes rest t none p e q = told-turn header before found met bytes none ∙ rw (p, q, e) refl
+
+-- ---- so many turns
+
+pub within-none : (header : Bool) (before : Before) (found : Found) (met : Option Marker) (bytes : List ℕ) → told_within 0 header before found met bytes ≡ found
+unfolding told_within
+within-none header before found met bytes = refl
+
+pub within-next : (n : ℕ) (header : Bool) (before : Before) (found : Found) (met : Option Marker) (bytes rest : List ℕ) (t : Turn) → (header && is_some found.frame) ≡ false → t.ended ≡ false
+    → turn_at before found met bytes ≡ Ok (t, rest) → told_within (suc n) header before found met bytes ≡ told_within n header t.before t.found t.met rest
+unfolding told_within
+within-next n header before found met bytes rest t p e q = rw (p, q, e) refl
+
+pub within-end : (header : Bool) (before : Before) (found : Found) (met : Option Marker) (bytes rest : List ℕ) (t : Turn) → (header && is_some found.frame) ≡ false → t.ended ≡ true
+    → turn_at before found met bytes ≡ Ok (t, rest) → told_within 1 header before found met bytes ≡ t.found
+unfolding told_within
+within-end header before found met bytes rest t p e q = rw (p, q, e) refl

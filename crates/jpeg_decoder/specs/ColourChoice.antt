@@ -1,5 +1,5 @@
 -- The colour transform of a frame of three or four components (JFIF, and Adobe's segment).
-use Rattle.std.specs.Prelude.{ℕ, ◌==◌, ◌&&◌, List, [], ◌∷◌, map, length, Bool, true, false, Option, Some, None, if◌then◌else◌}
+use Rattle.std.specs.Prelude.{ℕ, ◌==◌, ◌&&◌, List, [], ◌∷◌, map, length, Bool, false, Option, Some, None, if◌then◌else◌}
 use Rattle.jpeg_bits.specs.declared.color_transform.ColorTransform.{ColorTransform}
 use Rattle.jpeg_bits.specs.declared.color_transform.ColorTransform.TheVariants.{RGB, YCbCr, CMYK, YCCK, JcsBgYcc, JcsBgRgb}
 use Rattle.jpeg_segments.specs.declared.parser.AdobeColorTransform.{AdobeColorTransform}

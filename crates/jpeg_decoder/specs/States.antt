@@ -5,7 +5,7 @@ use Rattle.jpeg_bits.specs.Stream.{Stream}
 use Rattle.jpeg_bits.specs.declared.error.Error.{Error}
 use Rattle.jpeg_bits.specs.declared.error.Error.TheVariants as errors
 use Rattle.jpeg_decoder.specs.declared.state.Settings.{Settings}
-use Rattle.jpeg_decoder.specs.Stream.{Found, meaning, rest_at, told_by_stream, told_rest}
+use Rattle.jpeg_decoder.specs.Stream.{Found, meaning, rest_at, told_by_stream, told_by_turns, told_in_turns, told_rest}
 
 pub data Stage : Type 0 where
   Fresh : Stage
@@ -82,6 +82,13 @@ told_ahead header Fresh found bytes = told_by_stream header bytes
 told_ahead header HeaderRead found bytes = told_rest header found bytes
 told_ahead header Finished found bytes = found
 told_ahead header Failed found bytes = found
+
+-- what so many turns of what lies ahead have said
+abbrev pub turns_ahead : ℕ → Bool → Stage → Found → List ℕ → Found
+turns_ahead turns header Fresh found bytes = told_by_turns turns header bytes
+turns_ahead turns header HeaderRead found bytes = told_in_turns turns header found bytes
+turns_ahead turns header Finished found bytes = found
+turns_ahead turns header Failed found bytes = found
 
 -- ---- calls that read
 

@@ -1,5 +1,5 @@
 -- What a caller sees behind a segment, and the parts of a scan.
-use Rattle.std.specs.Prelude.{ℕ, suc, ◌==◌, ◌&&◌, List, length, Bool, true, false, Option, slice_index_or, Some, None, Ok, Err, if◌then◌else◌}
+use Rattle.std.specs.Prelude.{ℕ, suc, List, length, Bool, true, false, Option, slice_index_or, Some, None, Ok, Err, if◌then◌else◌}
 use Rattle.jpeg_bits.specs.Reading.{Outcome, Malformed, ◌>>=◌}
 use Rattle.jpeg_bits.specs.declared.error.Error.{Error}
 use Rattle.jpeg_bits.specs.declared.error.Error.TheVariants as errors

@@ -1,5 +1,5 @@
 -- The state that the segments of a stream lead to, and the meaning of a stream (T.81, B.2).
-use Rattle.std.specs.Prelude.{ℕ, zero, suc, ◌*◌, ◌/◌, ◌==◌, min, not, ◌&&◌, ◌||◌, nat_lt, nat_le, List, [], ◌∷◌, ◌++◌, length, replicate, slice_index_or, slice_set, Bool, true, false, Option, Some, None, option_map, is_some, Result, Ok, Err, if◌then◌else◌}
+use Rattle.std.specs.Prelude.{◌≡◌, ℕ, zero, suc, ◌*◌, ◌/◌, ◌==◌, min, not, ◌&&◌, ◌||◌, nat_lt, nat_le, List, [], ◌∷◌, ◌++◌, length, replicate, slice_index_or, slice_set, Bool, true, false, Option, Some, None, option_map, is_some, Result, Ok, Err, if◌then◌else◌}
 use Rattle.jpeg_bits.specs.Reading.{Outcome, Fault, Malformed, Lacks, End, ◌>>=◌, next_byte, length_at, skip_at}
 use Rattle.jpeg_bits.specs.Marker.{next_marker}
 use Rattle.jpeg_bits.specs.Codes.{Table}
@@ -268,7 +268,8 @@ turn_at before found met bytes = do
   m ← marker_or met bytes
   segment_at m.0 before found m.1
 
--- Segments and scans up to the end of the image, or, where the header is wanted alone, up to the frame. Each takes at least one byte.
+-- Segments and scans up to the end of the image, or, where the header is wanted alone, up to the frame. Each behind which the image goes on
+-- takes at least one byte.
 unfoldable pub segments_within : ℕ → Bool → Before → Found → Option Marker → List ℕ → Outcome Found
 segments_within zero header before found met bytes = Err End
 segments_within (suc turns) header before found met bytes =
@@ -346,3 +347,17 @@ told_rest header found bytes = without_planes (told_at header Elsewhere found No
 -- what a stream has said by the end of its header, or its own, or by the refusal
 unfoldable pub told_by_stream : Bool → List ℕ → Found
 told_by_stream header bytes = elim (start_at bytes) [ Err fault ↦ nothing_found | Ok start ↦ told_rest header nothing_found start.1 ]
+
+-- ---- what some turns have said, the first and those behind it
+
+-- the first turns of a header, or of the rest of a stream
+abbrev pub told_in_turns : ℕ → Bool → Found → List ℕ → Found
+told_in_turns turns header found bytes = without_planes (told_within turns header Elsewhere found None bytes)
+
+-- the first turns of a stream
+unfoldable pub told_by_turns : ℕ → Bool → List ℕ → Found
+told_by_turns turns header bytes = elim (start_at bytes) [ Err fault ↦ nothing_found | Ok start ↦ told_in_turns turns header nothing_found start.1 ]
+
+-- what is found is what some first turns have said, where `said` tells what so many have
+unfoldable pub IsOfTurns : (ℕ → Found) → Found → Type 0
+IsOfTurns said found = (turns : ℕ) × (found ≡ said turns)

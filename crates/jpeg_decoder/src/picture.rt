@@ -1,7 +1,7 @@
 //! A stream from its start to its picture (T.81, B.2).
 ghost use Rattle.std.specs.Prelude.{◌≡◌, ◌*◌, true, false, MatchResult, not, nat_lt};
 ghost use Rattle.jpeg_bits.specs.Reading.{Answers, Names, NamesFormat};
-ghost use Rattle.jpeg_decoder.specs.Stream.{nothing_found, start_at, header_at, without_planes, picture_of, rest_at, meaning, told_rest, told_by_stream};
+ghost use Rattle.jpeg_decoder.specs.Stream.{nothing_found, start_at, header_at, without_planes, picture_of, rest_at, meaning, told_rest, told_by_stream, told_in_turns, told_by_turns, IsOfTurns};
 ghost use Rattle.jpeg_decoder.specs.States.{OnTold};
 ghost use Rattle.jpeg_decoder.specs.Seen.{found_in};
 ghost use Rattle.jpeg_segments.specs.FrameView.{frame_in};
@@ -114,6 +114,7 @@ pub fn read_header<R: Read + Drop>(
     requires { found_in state.old ≡ nothing_found }
     ensures reads { Answers (λ _. found_in state.new) header_at source.old result source.new }
     ensures told { OnTold source.old source.new result (found_in state.new ≡ told_by_stream true source.old.bytes) }
+    ensures turns { source.old.known ≡ true → IsOfTurns (λ n. told_by_turns n true source.old.bytes) (found_in state.new) }
 {
     read_start(alloc, source)?;
     state.read(alloc, source, true)
@@ -129,6 +130,7 @@ fn read_picture<R: Read + Drop>(
 ) -> Result<Vec<u8>>
     ensures reads { Answers (λ v. (without_planes (found_in state.new), v.items)) (rest_at settings (found_in state.old)) source.old result source.new }
     ensures told { OnTold source.old source.new result (without_planes (found_in state.new) ≡ told_rest false (found_in state.old) source.old.bytes) }
+    ensures turns { source.old.known ≡ true → IsOfTurns (λ n. told_in_turns n false (found_in state.old) source.old.bytes) (without_planes (found_in state.new)) }
 {
     state.read(alloc, source, false)?;
     picture(alloc, state, settings)
@@ -143,6 +145,7 @@ pub fn read_rest<R: Read + Drop>(
 ) -> Result<Vec<u8>>
     ensures reads { Answers (λ v. (found_in state.new, v.items)) (rest_at settings (found_in state.old)) source.old result source.new }
     ensures told { OnTold source.old source.new result (found_in state.new ≡ told_rest false (found_in state.old) source.old.bytes) }
+    ensures turns { source.old.known ≡ true → IsOfTurns (λ n. told_in_turns n false (found_in state.old) source.old.bytes) (found_in state.new) }
 {
     let result = read_picture(alloc, source, state, settings);
     state.planes = [None, None, None, None];
@@ -160,6 +163,7 @@ pub fn read_stream<R: Read + Drop>(
     requires { found_in state.old ≡ nothing_found }
     ensures reads { Answers (λ v. (found_in state.new, v.items)) (meaning settings) source.old result source.new }
     ensures told { OnTold source.old source.new result (found_in state.new ≡ told_by_stream false source.old.bytes) }
+    ensures turns { source.old.known ≡ true → IsOfTurns (λ n. told_by_turns n false source.old.bytes) (found_in state.new) }
 {
     read_start(alloc, source)?;
     read_rest(alloc, source, state, settings)

@@ -1,8 +1,8 @@
 //! The segments of a stream, read in turn (T.81, B.2).
 ghost use Rattle.jpeg_pixels.specs.Pictures.{sources_of};
-ghost use Rattle.std.specs.Prelude.{◌≡◌, ◌&&◌, is_some, None, Ok, MatchResult, OnErr, ◌≤◌, length, map, IsOk};
+ghost use Rattle.std.specs.Prelude.{◌≡◌, ◌&&◌, true, is_some, None, Ok, MatchResult, OnErr, ◌≤◌, length, map, IsOk};
 ghost use Rattle.jpeg_bits.specs.Reading.{Answers, Names, IsShort};
-ghost use Rattle.jpeg_decoder.specs.Stream.{nothing_found, is_precision, is_arithmetic, is_sequential, accepted, frame_segment, quantization_segment, huffman_segment, restart_segment, application_segment, skipped_segment, scan_before, scan_segment, end_segment, stray_restart, line_count, segment_at, marker_or, turn_at, segments_at, told_at, is_decoded};
+ghost use Rattle.jpeg_decoder.specs.Stream.{nothing_found, is_precision, is_arithmetic, is_sequential, accepted, frame_segment, quantization_segment, huffman_segment, restart_segment, application_segment, skipped_segment, scan_before, scan_segment, end_segment, stray_restart, line_count, segment_at, marker_or, turn_at, segments_at, told_at, told_within, IsOfTurns, is_decoded};
 ghost use Rattle.jpeg_decoder.specs.Scans.{grid_of};
 ghost use Rattle.jpeg_decoder.specs.declared.segments.Before.TheVariants.{Elsewhere};
 ghost use Rattle.jpeg_segments.specs.Frame.{ceiling, AllHaveFactors};
@@ -352,6 +352,7 @@ impl State {
     ) -> Result<()>
         ensures reads { Answers (λ _. found_in self.new) (segments_at header Elsewhere (found_in self.old) None) source.old result source.new }
         ensures told { OnTold source.old source.new result (found_in self.new ≡ told_at header Elsewhere (found_in self.old) None source.old.bytes) }
+        ensures turns { source.old.known ≡ true → IsOfTurns (λ n. told_within n header Elsewhere (found_in self.old) None source.old.bytes) (found_in self.new) }
     {
         let mut before = Before::Elsewhere;
         let mut met = None;

@@ -1,14 +1,17 @@
 -- Steps of the parser of scan headers.
-use Rattle.std.proofs.Common.{All, sym, ◌∙◌, ◌≡◌, ◌≤◌, ℕ, zero, suc, ◌+◌, ◌-◌, ◌*◌, ◌<◌, Bool, not, cond, List, [], ◌∷◌, ◌++◌, map, length, refl, ap, Ok, arith, get_or}
+use Rattle.std.proofs.Common.{All, sym, true, false, ◌∙◌, ◌≡◌, ◌≤◌, ℕ, zero, suc, ◌+◌, ◌-◌, ◌*◌, ◌<◌, Bool, not, cond, List, [], ◌∷◌, ◌++◌, map, length, refl, ap, Ok, arith, get_or}
 use Rattle.std.specs.List.{position, position_or_len}
 use Rattle.std.proofs.lemmas.List.{length-map}
 use Rattle.std.proofs.lemmas.List.Elements.{All-map, All-weaker}
 use Rattle.jpeg_bits.specs.Reading.{◌>>=◌}
+use Rattle.std.specs.Prelude.{◌==◌, ◌&&◌, ◌||◌}
+use Rattle.jpeg_segments.specs.declared.parser.CodingProcess.{CodingProcess}
+use Rattle.jpeg_segments.specs.declared.parser.CodingProcess.TheVariants.{DctSequential, DctProgressive, Lossless}
 use Rattle.jpeg_segments.specs.declared.parser.Component.{Component as Seen}
 use Rattle.jpeg_segments.specs.Frame.{Component}
 use Rattle.jpeg_segments.specs.Frame as frames
 use Rattle.jpeg_segments.specs.FrameView.{component_in}
-use Rattle.jpeg_segments.specs.ScanHeader.{IsCoded, IsScanOf, IsSelectorOf, Scan, Selector, blocks_by, selector_at, selectors_from}
+use Rattle.jpeg_segments.specs.ScanHeader.{IsCoded, behind_of, is_band, IsScanOf, IsSelectorOf, Scan, Selector, blocks_by, selector_at, selectors_from}
 
 pub selectors_from-more : (frame : frames.Frame) (n : ℕ) (front : List Selector) (least : ℕ) (bytes : List ℕ) → 0 < n
     → selectors_from frame n front least bytes ≡ (selector_at frame least bytes >>= λ (s : Selector × List ℕ). selectors_from frame (n - 1) (front ++ s.0 ∷ []) (s.0.component + 1) s.1)
@@ -41,10 +44,22 @@ blocks-at (x ∷ xs) (suc i) d h = blocks-at xs i d (omega arith)
 all-of : (P : Selector → Type 0) (Q : ℕ → Type 0) (field : Selector → ℕ) → ((s : Selector) → P s → Q (field s)) → (xs : List Selector) → All P xs → All Q (map field xs)
 all-of P Q field f xs h = All-map Q field xs (All-weaker P (λ s. Q (field s)) f xs h)
 
+-- a band that a header may name passes the rules by the places that it stands for
+pub legal-again : (p : CodingProcess) (count first last high low : ℕ) → is_band p count first last high low ≡ true → is_band p count first (behind_of p last - 1) high low ≡ true
+legal-again DctSequential count first last high low e = go (first == 0) (last == 0 || last == 63) (high == 0 && low == 0) e
+  where
+    go : (a b c : Bool) → (a && (b && c)) ≡ true → (a && (true && c)) ≡ true
+    go true true c e = e
+    go true false c e = absurd (cc)
+    go false b c e = e
+legal-again DctProgressive count first last high low e = let same : last + 1 - 1 ≡ last = omega arith in rw same e
+legal-again Lossless count first last high low e = let same : last + 1 - 1 ≡ last = omega arith in rw same e
+
 pub is-scan : (frame : frames.Frame) (xs : List Selector) (s : Scan) → 1 ≤ length xs → length xs ≤ 4 → All (IsSelectorOf frame) xs
     → s.components ≡ map (λ x. x.component) xs → s.dc_places ≡ map (λ x. x.dc) xs → s.ac_places ≡ map (λ x. x.ac) xs
-    → IsCoded frame.process s.first s.behind s.high s.low → IsScanOf frame s
-is-scan frame xs s some most places components dc ac coded =
+    → IsCoded frame.process s.first s.behind s.high s.low → is_band frame.process (length xs) s.first (s.behind - 1) s.high s.low ≡ true
+    → s.low < frame.precision → s.point_transform ≡ s.low → IsScanOf frame s
+is-scan frame xs s some most places components dc ac coded legal below same_point =
     let count : length s.components ≡ length xs = ap length components ∙ length-map xs (λ x. x.component) in
     record {
       some = rw count some;
@@ -55,4 +70,7 @@ is-scan frame xs s some most places components dc ac coded =
       ac_length = (ap length ac ∙ length-map xs (λ x. x.ac)) ∙ sym count;
       ac_places = rw ac (all-of (IsSelectorOf frame) (λ n. n ≤ 3) (λ x. x.ac) (λ x p. p.ac) xs places);
       coded = coded;
+      legal = rw count legal;
+      below = below;
+      same_point = same_point;
     }

@@ -1,5 +1,5 @@
 -- Scan headers (T.81, B.2.3).
-use Rattle.std.specs.Prelude.{◌≡◌, ◌≤◌, ◌<◌, ℕ, zero, suc, All, ◌+◌, ◌*◌, ◌/◌, ◌%◌, List, [], ◌∷◌, ◌++◌, map, length, sum_by, Bool, not, ◌&&◌, ◌||◌, Option, Some, None, Ok, Err, nat_lt, nat_le, ◌==◌, if◌then◌else◌, position}
+use Rattle.std.specs.Prelude.{◌≡◌, ◌≤◌, ◌<◌, ℕ, zero, suc, All, true, ◌+◌, ◌-◌, ◌*◌, ◌/◌, ◌%◌, List, [], ◌∷◌, ◌++◌, map, length, sum_by, Bool, not, ◌&&◌, ◌||◌, Option, Some, None, Ok, Err, nat_lt, nat_le, ◌==◌, if◌then◌else◌, position}
 use Rattle.jpeg_bits.specs.Reading.{Outcome, Malformed, ◌>>=◌, next_byte, length_at}
 use Rattle.jpeg_bits.specs.declared.scan.Predictor.{Predictor}
 use Rattle.jpeg_bits.specs.declared.scan.Predictor.TheVariants.{NoPrediction, Ra, Rb, Rc, RaRbRc1, RaRbRc2, RaRbRc3, RaRb}
@@ -164,7 +164,8 @@ IsCoded DctSequential first behind high low = (first ≡ 0) × (behind ≡ 64) �
 IsCoded DctProgressive first behind high low = (first < behind) × (behind ≤ 64) × (high ≤ 13) × (low ≤ 13)
 IsCoded Lossless first behind high low = (first ≤ 7) × (behind ≡ 1) × (high ≡ 0)
 
--- One to four components of the frame, each with the places of its two tables, and coefficients and levels that the process may code.
+-- One to four components of the frame, each with the places of its two tables, and coefficients and levels that the process may code: those
+-- of the header pass its rules, and the level is below the precision.
 pub record IsScanOf (frame : Frame) (s : Scan) : Type 0 where
   pub some : 1 ≤ length s.components
   pub most : length s.components ≤ 4
@@ -174,3 +175,6 @@ pub record IsScanOf (frame : Frame) (s : Scan) : Type 0 where
   pub ac_length : length s.ac_places ≡ length s.components
   pub ac_places : All (λ place. place ≤ 3) s.ac_places
   pub coded : IsCoded frame.process s.first s.behind s.high s.low
+  pub legal : is_band frame.process (length s.components) s.first (s.behind - 1) s.high s.low ≡ true
+  pub below : s.low < frame.precision
+  pub same_point : s.point_transform ≡ s.low

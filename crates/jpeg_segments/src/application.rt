@@ -219,7 +219,8 @@ fn read_application<R: Read + Drop>(
 }
 
 /// Reads a segment behind the marker `APP(number)` (T.81, B.2.4.6), and tells what it says, where it is known: APP0 of JFIF or AVI1, APP1 of
-/// Exif or XMP, APP2 of an ICC profile, APP13 of Photoshop, and APP14 of Adobe. The data is what stands behind the name.
+/// Exif or XMP, APP2 of an ICC profile, APP13 of Photoshop, and APP14 of Adobe. The data is what stands behind the name;
+/// of an ICC profile, behind its part's number and their count.
 ///
 /// Errors: `Format` for another marker, where the length is below 2, and where an Adobe segment names a transform above 2; `Io` where the
 /// bytes end or a read fails; `OutOfMemory`.

@@ -76,18 +76,22 @@ fn read_placed_table<R: Read + Drop>(
     Ok((size, index, table))
 }
 
-/// The quantization tables of a segment, in zigzag order.
+/// Reads the quantization tables of a segment (T.81, B.2.4.1), each in zigzag order, by their places 0 to 3. Of two tables for one place the
+/// later stays.
+///
+/// Errors: `Format` where the length, a precision, a place or a value of 0 breaks a rule; `Io` where the bytes end or a read fails;
+/// `OutOfMemory`.
 #[tactic(auto, unfolding(crate::specs::Quantization::dqt_at))]
 pub fn parse_dqt<R: Read + Drop>(
     alloc: Global,
-    source: &mut Source<R>,
+    reader: &mut Source<R>,
 ) -> Result<[Option<[u16; 64]>; 4]>
-    ensures { Answers (λ v. v) dqt_at source.old result source.new }
+    ensures { Answers (λ v. v) dqt_at reader.old result reader.new }
 {
-    let mut left = read_length(alloc, source)?;
+    let mut left = read_length(alloc, reader)?;
     let mut tables = [None; 4];
     while left > 0 {
-        let (size, index, table) = read_placed_table(alloc, source, left)?;
+        let (size, index, table) = read_placed_table(alloc, reader, left)?;
         tables[index] = Some(table);
         left -= size;
     }

@@ -1,9 +1,9 @@
 use Rattle.std.proofs.Common.{◌∙◌, sym, ap, None, true}
 use Rattle.std.proofs.lemmas.Result.{err_from_is_err_and}
-use Rattle.jpeg_decoder.specs.Stream.{Found, start_at, told_at}
+use Rattle.jpeg_decoder.specs.Stream.{IsOfTurns, Found, start_at, told_at, told_within}
 use Rattle.jpeg_decoder.specs.declared.segments.Before.TheVariants.{Elsewhere}
 use Rattle.jpeg_decoder.proofs.Refusals.{told-err}
-use Rattle.jpeg_decoder.proofs.Told.{told-no_start, told-header, told-through}
+use Rattle.jpeg_decoder.proofs.Told.{told-no_start, told-header, told-through, turns-header, turns-none}
 use Rattle.jpeg_decoder.proofs.picture.read_header.Goals as goal
 
 pub returns-in_err-read_start-clause-told : goal.returns-in_err-read_start-clause-told
@@ -20,3 +20,15 @@ returns-clause-told g c =
     let at = c.in_ok-read_start.ensures.1 k in
     (at.0, λ p. p ∙ ap (λ (f : Found). told_at true Elsewhere f None c.read_start.new.source.bytes) c.requires ∙ sym (told-header c.args.source.now.bytes c.read_start.new.source.bytes at.1)))
     c.read.ensures.told
+
+pub returns-in_err-read_start-clause-turns : goal.returns-in_err-read_start-clause-turns
+unfolding IsOfTurns
+returns-in_err-read_start-clause-turns g c k = (0, c.requires ∙ sym (turns-none true c.args.source.now.bytes))
+
+pub returns-clause-turns : goal.returns-clause-turns
+unfolding IsOfTurns
+returns-clause-turns g c k =
+    let at = c.in_ok-read_start.ensures.1 k in
+    let read = c.read.ensures.turns at.0 in
+    (read.0, read.1 ∙ ap (λ (f : Found). told_within read.0 true Elsewhere f None c.read_start.new.source.bytes) c.requires
+    ∙ sym (turns-header read.0 c.args.source.now.bytes c.read_start.new.source.bytes at.1))

@@ -1,8 +1,8 @@
-use Rattle.std.proofs.Common.{◌∙◌, sym, false}
+use Rattle.std.proofs.Common.{◌∙◌, sym, ap, false}
 use Rattle.std.proofs.lemmas.Result.{err_from_is_err_and}
-use Rattle.jpeg_decoder.specs.Stream.{start_at}
+use Rattle.jpeg_decoder.specs.Stream.{IsOfTurns, Found, start_at, told_in_turns}
 use Rattle.jpeg_decoder.proofs.Refusals.{told-err}
-use Rattle.jpeg_decoder.proofs.Told.{told-no_start}
+use Rattle.jpeg_decoder.proofs.Told.{told-no_start, turns-none, turns-start}
 use Rattle.jpeg_decoder.proofs.picture.read_stream.Goals as goal
 
 pub returns-in_err-read_start-clause-told : goal.returns-in_err-read_start-clause-told
@@ -11,3 +11,15 @@ returns-in_err-read_start-clause-told g c =
     rw (p.1, p.2) (λ k known.
     told-err _ (start_at c.args.source.now.bytes) _ (c.in_err-read_start.ensures.1 k known)
     (λ f h. c.requires ∙ sym (told-no_start false c.args.source.now.bytes f h)))
+
+pub returns-in_err-read_start-clause-turns : goal.returns-in_err-read_start-clause-turns
+unfolding IsOfTurns
+returns-in_err-read_start-clause-turns g c k = (0, c.requires ∙ sym (turns-none false c.args.source.now.bytes))
+
+pub returns-clause-turns : goal.returns-clause-turns
+unfolding IsOfTurns
+returns-clause-turns g c k =
+    let at = c.in_ok-read_start.ensures.1 k in
+    let rest = c.read_rest.ensures.turns at.0 in
+    (rest.0, rest.1 ∙ ap (λ (f : Found). told_in_turns rest.0 false f c.read_start.new.source.bytes) c.requires
+    ∙ sym (turns-start rest.0 false c.args.source.now.bytes c.read_start.new.source.bytes at.1))

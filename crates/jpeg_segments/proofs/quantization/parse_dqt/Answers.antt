@@ -18,8 +18,8 @@ loop-left-preserved g c =
         omega arith,
         Continues-ok (λ (t : ℕ × ℕ × List ℕ). t) dqt_at (λ (bs : List ℕ). tables_from i.0 left tables bs)
             (λ (bs : List ℕ). tables_from (i.0 - 1) (left - c.in_ok-size.size) (set tables c.in_ok-size.index (Some c.in_ok-size.table)) bs)
-            (placed_table_at left) c.args.source.now c.loop-left.source c.read_placed_table.new.source (c.in_ok-size.size, c.in_ok-size.index, c.in_ok-size.table)
-            (λ e. tables_from-more i.0 left tables c.loop-left.source.bytes c.loop-left-test.true i.1 ∙ bind_at _ _ _ e)
+            (placed_table_at left) c.args.reader.now c.loop-left.reader c.read_placed_table.new.source (c.in_ok-size.size, c.in_ok-size.index, c.in_ok-size.table)
+            (λ e. tables_from-more i.0 left tables c.loop-left.reader.bytes c.loop-left-test.true i.1 ∙ bind_at _ _ _ e)
             i.2 c.in_ok-size.ensures.answers,
       );
     }
@@ -31,13 +31,13 @@ returns-in_err-size g c =
     let left = c.loop-left.left in
     let tables = c.loop-left.tables in
     rw (p.1, p.2) (Continues-err (λ (v : Tables). v) (λ (t : ℕ × ℕ × List ℕ). t) dqt_at (λ (bs : List ℕ). tables_from i.0 left tables bs)
-    (placed_table_at left) c.args.source.now c.loop-left.source c.read_placed_table.new.source _
-    (λ f e. tables_from-more i.0 left tables c.loop-left.source.bytes c.loop-left-test.true i.1 ∙ bind_err _ _ _ e)
+    (placed_table_at left) c.args.reader.now c.loop-left.reader c.read_placed_table.new.source _
+    (λ f e. tables_from-more i.0 left tables c.loop-left.reader.bytes c.loop-left-test.true i.1 ∙ bind_err _ _ _ e)
     i.2 c.in_err-size.ensures.answers)
 
 pub returns : goal.returns
 returns g c =
     let i = c.loop-left.invariant.rest in
     let z : c.loop-left.left ≡ 0 = omega arith in
-    Continues-end (λ (v : Tables). v) dqt_at (λ (bs : List ℕ). tables_from i.0 c.loop-left.left c.loop-left.tables bs) c.args.source.now c.loop-left.source c.loop-left.tables
-    (ap (λ n. tables_from i.0 n c.loop-left.tables c.loop-left.source.bytes) z ∙ tables_from-none i.0 c.loop-left.tables c.loop-left.source.bytes) i.2
+    Continues-end (λ (v : Tables). v) dqt_at (λ (bs : List ℕ). tables_from i.0 c.loop-left.left c.loop-left.tables bs) c.args.reader.now c.loop-left.reader c.loop-left.tables
+    (ap (λ n. tables_from i.0 n c.loop-left.tables c.loop-left.reader.bytes) z ∙ tables_from-none i.0 c.loop-left.tables c.loop-left.reader.bytes) i.2

@@ -1,8 +1,8 @@
-use Rattle.std.proofs.Common.{map, length, ap}
+use Rattle.std.proofs.Common.{map, length, ap, sym, ◌∙◌, arith}
 use Rattle.std.proofs.lemmas.List.{length-map}
 use Rattle.jpeg_segments.specs.ScanHeader.{Scan}
 use Rattle.jpeg_segments.specs.FrameView.{frame_in, scan_in, selector_of}
-use Rattle.jpeg_segments.proofs.ScanLemmas.{is-scan}
+use Rattle.jpeg_segments.proofs.ScanLemmas.{is-scan, legal-again}
 use Rattle.jpeg_segments.proofs.scan_header.read_band.Goals as goal
 
 pub returns-clause-scan : goal.returns-clause-scan
@@ -13,3 +13,7 @@ returns-clause-scan g c =
     is-scan (frame_in c.args.frame.now) xs (scan_in c.in_ok-scan_of.field-0) (rw count c.requires.some) (rw count c.requires.most) c.requires.places
     (ap (λ (s : Scan). s.components) e) (ap (λ (s : Scan). s.dc_places) e) (ap (λ (s : Scan). s.ac_places) e)
     (rw (ap (λ (s : Scan). s.first) e, ap (λ (s : Scan). s.behind) e, ap (λ (s : Scan). s.high) e, ap (λ (s : Scan). s.low) e) (c.is_band.ensures.coded c.if-not-is_band.false))
+    (rw (ap (λ (s : Scan). s.first) e, ap (λ (s : Scan). s.behind) e, ap (λ (s : Scan). s.high) e, ap (λ (s : Scan). s.low) e, count)
+    (legal-again c.args.frame.now.coding_process (length c.args.selectors.now) _ _ _ _ (sym c.is_band.ensures.value ∙ c.if-not-is_band.false)))
+    (rw (ap (λ (s : Scan). s.low) e) (omega (arith, c.if-band-frame.false)))
+    (ap (λ (s : Scan). s.point_transform) e ∙ sym (ap (λ (s : Scan). s.low) e))

@@ -1,13 +1,14 @@
-use Rattle.std.proofs.Common.{◌≡◌, ◌∙◌, ◌<◌, ◌^◌, None, sym, ap, arith, length}
+use Rattle.std.proofs.Common.{◌≡◌, ◌∙◌, ◌+◌, ◌<◌, ◌^◌, suc, true, None, sym, ap, arith, length}
 use Rattle.std.proofs.lemmas.Result.{err_from_is_err_and}
 use Rattle.jpeg_bits.proofs.Loops.{Continues-err}
 use Rattle.jpeg_decoder.specs.declared.segments.Before.TheVariants.{Elsewhere}
 use Rattle.jpeg_decoder.specs.declared.segments.Step.{Step}
-use Rattle.jpeg_decoder.specs.Stream.{turn_at, segments_at}
+use Rattle.jpeg_decoder.specs.Stream.{IsOfTurns, turn_at, segments_at, told_within}
 use Rattle.jpeg_decoder.specs.Seen.{found_in}
 use Rattle.jpeg_decoder.specs.Steps.{turn_of}
 use Rattle.jpeg_decoder.proofs.Refusals.{short-step, told-err, never-met}
-use Rattle.jpeg_decoder.proofs.Turns.{segments-stop, segments-refused, segments-end, segments-next, told-stop, told-refused, told-end, told-next, turn-takes}
+use Rattle.jpeg_decoder.proofs.Turns.{segments-stop, segments-refused, segments-end, segments-next, told-stop, told-refused, told-end, told-next, turn-takes, within-end, within-next, within-none}
+use Rattle.jpeg_decoder.proofs.state.State.read.Given.{Over}
 use Rattle.jpeg_decoder.proofs.state.State.read.Goals as goal
 use Rattle.jpeg_decoder.proofs.state.State.read.Goals.{else-loop-test, then-loop-test+else-is_read_for+in_ok-step+else-step+else-counter-lt18446744073709551615}
 
@@ -38,6 +39,23 @@ returns-then-is_read_for-clause-reads g c = (
 pub returns-then-is_read_for-clause-told : goal.returns-then-is_read_for-clause-told
 returns-then-is_read_for-clause-told g c k =
     sym (c.loop.invariant.told k ∙ told-stop c.args.header c.loop.before (found_in c.loop.self) c.loop.met c.loop.source.bytes (sym c.if-is_read_for.ensures))
+
+pub returns-in_err-step-clause-turns : goal.returns-in_err-step-clause-turns
+unfolding IsOfTurns
+returns-in_err-step-clause-turns g c k =
+    (c.loop.counter + 0, c.in_err-step.ensures.kept ∙ sym (c.loop.invariant.turns k 0 ∙ within-none c.args.header c.loop.before (found_in c.loop.self) c.loop.met c.loop.source.bytes))
+
+pub returns-then-is_read_for-clause-turns : goal.returns-then-is_read_for-clause-turns
+unfolding IsOfTurns
+returns-then-is_read_for-clause-turns g c k =
+    (c.loop.counter + 0, sym (c.loop.invariant.turns k 0 ∙ within-none c.args.header c.loop.before (found_in c.loop.self) c.loop.met c.loop.source.bytes))
+
+pub returns-then-step-clause-turns : goal.returns-then-step-clause-turns
+unfolding IsOfTurns
+returns-then-step-clause-turns g c k =
+    let here = c.loop.invariant.reads.1 k in
+    let there = c.in_ok-step.ensures.reads.1 here.0 in
+    (c.loop.counter + 1, sym (c.loop.invariant.turns k 1 ∙ within-end c.args.header c.loop.before (found_in c.loop.self) c.loop.met c.loop.source.bytes c.read_turn.new.source.bytes (turn_of c.read_turn.new.self c.in_ok-step.step) (sym c.if-is_read_for.ensures) c.if-step.true there.1))
 
 pub returns-then-step-clause-reads : goal.returns-then-step-clause-reads
 returns-then-step-clause-reads g c = (
@@ -70,6 +88,13 @@ loop-preserved g c =
           let here = c.loop.invariant.reads.1 k in
           let there = c.in_ok-step.ensures.reads.1 here.0 in
           c.loop.invariant.told k ∙ told-next c.args.header c.loop.before found c.loop.met c.loop.source.bytes c.read_turn.new.source.bytes turn (c.loop.invariant.none k) (sym c.if-is_read_for.ensures) c.if-step.false there.1;
+      turns = λ k m.
+          let here = c.loop.invariant.reads.1 k in
+          let there = c.in_ok-step.ensures.reads.1 here.0 in
+          let one_more : c.loop.counter + 1 + m ≡ c.loop.counter + suc m = omega arith in
+          ap (λ n. told_within n c.args.header Elsewhere (found_in c.args.self.now) None c.args.source.now.bytes) one_more
+          ∙ (c.loop.invariant.turns k (suc m)
+          ∙ within-next m c.args.header c.loop.before found c.loop.met c.loop.source.bytes c.read_turn.new.source.bytes turn (sym c.if-is_read_for.ensures) c.if-step.false there.1);
       none = λ k.
           let here = c.loop.invariant.reads.1 k in
           let there = c.in_ok-step.ensures.reads.1 here.0 in
@@ -83,14 +108,9 @@ loop-preserved g c =
       first = λ e. absurd (omega arith);
     }
 
-pub returns-clause-reads : goal.returns-clause-reads
-returns-clause-reads g c =
-    never-met {X = Unit {0}} (λ _. found_in c.loop-test.self) (segments_at c.args.header Elsewhere (found_in c.args.self.now) None) c.args.source.now c.loop-test.source c.format_error.result c.format_error.ensures
-    (elim c.loop-test.branch as (λ _. c.loop-test.source.failed ≡ c.args.source.now.failed) [
-      | else-loop-test w ↦ ap (λ s. s.failed) w.source-is ∙ c.loop.invariant.reads.0
-      | then-loop-test+else-is_read_for+in_ok-step+else-step+else-counter-lt18446744073709551615 w ↦ ap (λ s. s.failed) w.source-is ∙ w.in_ok-step.ensures.reads.0 ∙ c.loop.invariant.reads.0
-    ])
-    (λ k.
+-- a stream of known bytes has fewer segments than turns
+never : (g : Over) (c : goal.After-format_error g) → c.args.source.now.known ≡ true → ⊥
+never g c k =
     let some : 0 < c.loop.counter = elim c.loop-test.branch [
       | else-loop-test w ↦ omega arith
       | then-loop-test+else-is_read_for+in_ok-step+else-step+else-counter-lt18446744073709551615 w ↦ omega arith
@@ -103,21 +123,20 @@ returns-clause-reads g c =
           let there = w.in_ok-step.ensures.reads.1 here.0 in
           let less = (turn-takes c.loop.before (found_in c.loop.self) c.loop.met c.loop.source.bytes _ (c.loop.invariant.none k) there.1 w.if-step.false).0 in
           omega (arith, c.loop.invariant.took k, less)
+    ]
+
+pub returns-clause-reads : goal.returns-clause-reads
+returns-clause-reads g c =
+    never-met {X = Unit {0}} (λ _. found_in c.loop-test.self) (segments_at c.args.header Elsewhere (found_in c.args.self.now) None) c.args.source.now c.loop-test.source c.format_error.result c.format_error.ensures
+    (elim c.loop-test.branch as (λ _. c.loop-test.source.failed ≡ c.args.source.now.failed) [
+      | else-loop-test w ↦ ap (λ s. s.failed) w.source-is ∙ c.loop.invariant.reads.0
+      | then-loop-test+else-is_read_for+in_ok-step+else-step+else-counter-lt18446744073709551615 w ↦ ap (λ s. s.failed) w.source-is ∙ w.in_ok-step.ensures.reads.0 ∙ c.loop.invariant.reads.0
     ])
+    (never g c)
 
 pub returns-clause-told : goal.returns-clause-told
-returns-clause-told g c k =
-    let some : 0 < c.loop.counter = elim c.loop-test.branch [
-      | else-loop-test w ↦ omega arith
-      | then-loop-test+else-is_read_for+in_ok-step+else-step+else-counter-lt18446744073709551615 w ↦ omega arith
-    ] in
-    let few : length c.args.source.now.bytes < 2 ^ 64 = c.loop.invariant.short some k in
-    let here = c.loop.invariant.reads.1 k in
-    let never : ⊥ = elim c.loop-test.branch [
-      | else-loop-test w ↦ omega (arith, c.loop.invariant.took k)
-      | then-loop-test+else-is_read_for+in_ok-step+else-step+else-counter-lt18446744073709551615 w ↦
-          let there = w.in_ok-step.ensures.reads.1 here.0 in
-          let less = (turn-takes c.loop.before (found_in c.loop.self) c.loop.met c.loop.source.bytes _ (c.loop.invariant.none k) there.1 w.if-step.false).0 in
-          omega (arith, c.loop.invariant.took k, less)
-    ] in
-    absurd never
+returns-clause-told g c k = absurd (never g c k)
+
+pub returns-clause-turns : goal.returns-clause-turns
+unfolding IsOfTurns
+returns-clause-turns g c k = absurd (never g c k)

@@ -1,8 +1,8 @@
-use Rattle.std.proofs.Common.{◌≡◌, ◌<◌, true, false, None}
+use Rattle.std.proofs.Common.{◌≡◌, ℕ, ◌+◌, ◌<◌, true, false, None}
 use Rattle.jpeg_bits.specs.Reading.{IsShort}
 use Rattle.jpeg_bits.proofs.Loops.{Continues, Took}
 use Rattle.jpeg_decoder.specs.declared.segments.Before.TheVariants.{Elsewhere}
-use Rattle.jpeg_decoder.specs.Stream.{segments_at, told_at}
+use Rattle.jpeg_decoder.specs.Stream.{segments_at, told_at, told_within}
 use Rattle.jpeg_decoder.specs.Seen.{found_in}
 use Rattle.jpeg_decoder.specs.Steps.{is_restart}
 use Rattle.jpeg_decoder.proofs.state.State.read.Given as goal
@@ -11,6 +11,7 @@ abbrev pub invariant-loop : goal.invariant-loop
 invariant-loop g l = record {
   reads : Continues (segments_at l.fn.header Elsewhere (found_in l.fn.self) None) l.fn.source (segments_at l.fn.header l.before (found_in l.self) l.met) l.source;
   told : l.fn.source.known ≡ true → told_at l.fn.header Elsewhere (found_in l.fn.self) None l.fn.source.bytes ≡ told_at l.fn.header l.before (found_in l.self) l.met l.source.bytes;
+  turns : l.fn.source.known ≡ true → (m : ℕ) → told_within (l.counter + m) l.fn.header Elsewhere (found_in l.fn.self) None l.fn.source.bytes ≡ told_within m l.fn.header l.before (found_in l.self) l.met l.source.bytes;
   none : l.fn.source.known ≡ true → is_restart l.met ≡ false;
   took : Took l.fn.source l.counter l.source;
   short : 0 < l.counter → IsShort l.fn.source;
