@@ -104,6 +104,17 @@ fn a_profile_in_many_parts(rt: HostRuntime) -> Result<(), Fail> {
 }
 
 #[test]
+fn a_profile_in_too_many_parts(rt: HostRuntime) -> Result<(), Fail> {
+    for count in [255, 254, 1, 0] {
+        let stream = with_profile(rt.alloc(), 255, 1, count, "")?;
+        assert!(rt; profile_in(rt.alloc(), &stream)?.is_none(), "{count}");
+        let stream = with_profile(rt.alloc(), 255, 0, count, "")?;
+        assert!(rt; profile_in(rt.alloc(), &stream)?.is_none(), "{count}");
+    }
+    Ok(())
+}
+
+#[test]
 fn a_profile_that_is_not_whole(rt: HostRuntime) -> Result<(), Fail> {
     let number_0 = "FFE2 0011 4943435F50524F46494C4500 00 03 00";
     let again = "FFE2 0011 4943435F50524F46494C4500 02 03 02";

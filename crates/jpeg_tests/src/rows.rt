@@ -1,7 +1,7 @@
 //! Streams and what they give.
 
 use crate::bytes::bytes;
-use crate::streams::{Reader, Trouble};
+use crate::streams::{Ended, Reader, Trouble};
 use jpeg_decoder::{Decoder, Error, ImageInfo, PixelFormat, UnsupportedFeature};
 use std::alloc::Global;
 use std::test::Fail;
@@ -29,10 +29,11 @@ enum Gives {
     Dnl,
     Precision(u8),
     Hierarchical,
+    Arithmetic,
     Io,
 }
 
-const STREAMS: [([&str; 8], Gives); 28] = [
+const STREAMS: [([&str; 8], Gives); 23] = [
     // DC 8 alone: 129 everywhere.
     (
         ["FFD8", ONES, FRAME, DC_4, AC_0, SCAN, "43", END],
@@ -88,73 +89,6 @@ const STREAMS: [([&str; 8], Gives); 28] = [
             END,
         ],
         Gives::Dnl,
-    ),
-    // Segments that are passed over, bytes between segments, and fill bytes.
-    (
-        [
-            "FFD8",
-            ONES,
-            FRAME,
-            "FFFE 0003 43",
-            DC_4,
-            AC_0,
-            SCAN,
-            "43 FFD9",
-        ],
-        Gives::Lines("81*8", 8),
-    ),
-    (
-        [
-            "FFD8",
-            "FFE0 0010 4A46494600 01*9",
-            ONES,
-            FRAME,
-            DC_4,
-            AC_0,
-            SCAN,
-            "43 FFD9",
-        ],
-        Gives::Lines("81*8", 8),
-    ),
-    (
-        [
-            "FFD8",
-            ONES,
-            "41FF0042FFFF",
-            FRAME,
-            DC_4,
-            AC_0,
-            SCAN,
-            "43 FFFFFFD9",
-        ],
-        Gives::Lines("81*8", 8),
-    ),
-    // The first scan decides, and bytes behind the end are not read.
-    (
-        [
-            "FFD8",
-            ONES,
-            FRAME,
-            DC_4,
-            AC_0,
-            SCAN,
-            "43 FFDA 0008 01 01 00 00 3F 00 7B",
-            END,
-        ],
-        Gives::Lines("81*8", 8),
-    ),
-    (
-        [
-            "FFD8",
-            ONES,
-            FRAME,
-            DC_4,
-            AC_0,
-            SCAN,
-            "43 FFD9 FFD8 00",
-            END,
-        ],
-        Gives::Lines("81*8", 8),
     ),
     // Extended sequential frames, of 8 bits alone.
     (
@@ -289,8 +223,92 @@ const STREAMS: [([&str; 8], Gives); 28] = [
     (["", "", "", "", "", "", "", ""], Gives::Io),
 ];
 
-/// Streams of markers that come behind a scan, or have no place.
-const MARKER_STREAMS: [([&str; 8], Gives); 12] = [
+/// Streams with what is passed over.
+const PASSED_OVER: [([&str; 8], Gives); 6] = [
+    // A comment before the frame and behind it, data of an application, bytes between segments, and fill bytes.
+    (
+        [
+            "FFD8",
+            ONES,
+            "FFFE 0003 43",
+            FRAME,
+            DC_4,
+            AC_0,
+            SCAN,
+            "43 FFD9",
+        ],
+        Gives::Lines("81*8", 8),
+    ),
+    (
+        [
+            "FFD8",
+            ONES,
+            FRAME,
+            "FFFE 0003 43",
+            DC_4,
+            AC_0,
+            SCAN,
+            "43 FFD9",
+        ],
+        Gives::Lines("81*8", 8),
+    ),
+    (
+        [
+            "FFD8",
+            "FFE0 0010 4A46494600 01*9",
+            ONES,
+            FRAME,
+            DC_4,
+            AC_0,
+            SCAN,
+            "43 FFD9",
+        ],
+        Gives::Lines("81*8", 8),
+    ),
+    (
+        [
+            "FFD8",
+            ONES,
+            "41FF0042FFFF",
+            FRAME,
+            DC_4,
+            AC_0,
+            SCAN,
+            "43 FFFFFFD9",
+        ],
+        Gives::Lines("81*8", 8),
+    ),
+    // The first scan decides, and bytes behind the end say nothing.
+    (
+        [
+            "FFD8",
+            ONES,
+            FRAME,
+            DC_4,
+            AC_0,
+            SCAN,
+            "43 FFDA 0008 01 01 00 00 3F 00 7B",
+            END,
+        ],
+        Gives::Lines("81*8", 8),
+    ),
+    (
+        [
+            "FFD8",
+            ONES,
+            FRAME,
+            DC_4,
+            AC_0,
+            SCAN,
+            "43 FFD9 FFD8 00",
+            END,
+        ],
+        Gives::Lines("81*8", 8),
+    ),
+];
+
+/// Streams of markers that come behind a scan, and of restart intervals.
+const MARKER_STREAMS: [([&str; 8], Gives); 7] = [
     // Restart markers at the end of a scan: those behind a marker that was met are passed over, and one that was not is ignored once.
     (
         ["FFD8", ONES, FRAME, DC_4, AC_0, SCAN, "43 FFD0 FFD0", END],
@@ -313,11 +331,7 @@ const MARKER_STREAMS: [([&str; 8], Gives); 12] = [
         ],
         Gives::Format,
     ),
-    (
-        ["FFD8", ONES, FRAME, "FFD0", DC_4, AC_0, SCAN, "43 FFD9"],
-        Gives::Format,
-    ),
-    // A number of lines behind the first scan, behind a later one, and elsewhere.
+    // A number of lines behind the first scan, and behind a later one.
     (
         [
             "FFD8",
@@ -343,50 +357,6 @@ const MARKER_STREAMS: [([&str; 8], Gives); 12] = [
             END,
         ],
         Gives::Format,
-    ),
-    (
-        [
-            "FFD8",
-            ONES,
-            "FFDC 0004 0008",
-            FRAME,
-            DC_4,
-            AC_0,
-            SCAN,
-            "43 FFD9",
-        ],
-        Gives::Format,
-    ),
-    // Markers that have no place, or are refused by name.
-    (
-        ["FFD8", ONES, "FFD8", FRAME, DC_4, AC_0, SCAN, "43 FFD9"],
-        Gives::Format,
-    ),
-    (
-        [
-            "FFD8",
-            ONES,
-            "FFC8 0002",
-            FRAME,
-            DC_4,
-            AC_0,
-            SCAN,
-            "43 FFD9",
-        ],
-        Gives::Format,
-    ),
-    (
-        [
-            "FFD8",
-            ONES,
-            "FFDE 0002",
-            FRAME,
-            DC_4,
-            AC_0,
-            SCAN,
-            "43 FFD9",
-        ],
-        Gives::Hierarchical,
     ),
     // A restart interval of 0 is none; another one is not decoded yet.
     (
@@ -417,6 +387,28 @@ const MARKER_STREAMS: [([&str; 8], Gives); 12] = [
     ),
 ];
 
+/// Segments that have no place before a scan, or are refused by name.
+const REFUSED_SEGMENTS: [(&str, Gives); 15] = [
+    // Conditions of arithmetic coding, and what belongs to hierarchical images.
+    ("FFCC 0004 0010", Gives::Arithmetic),
+    ("FFDE 000B 08 0008 0008 01 01 11 00", Gives::Hierarchical),
+    ("FFDF 0003 11", Gives::Hierarchical),
+    // Reserved markers, and those of extensions.
+    ("FF01", Gives::Format),
+    ("FF02", Gives::Format),
+    ("FFBF", Gives::Format),
+    ("FFC8 0002", Gives::Format),
+    ("FFF0 0002", Gives::Format),
+    ("FFF7 0002", Gives::Format),
+    ("FFFD 0002", Gives::Format),
+    // A second start, restart markers outside a scan, and a number of lines before any.
+    ("FFD8", Gives::Format),
+    ("FFD0", Gives::Format),
+    ("FFD1", Gives::Format),
+    ("FFD7", Gives::Format),
+    ("FFDC 0004 0008", Gives::Format),
+];
+
 fn is_refusal(answer: &Result<Vec<u8>, Error>, gives: Gives) -> bool {
     match (gives, answer) {
         (Gives::Format, Err(Error::Format(_))) => true,
@@ -426,6 +418,8 @@ fn is_refusal(answer: &Result<Vec<u8>, Error>, gives: Gives) -> bool {
             Err(Error::Unsupported(UnsupportedFeature::SamplePrecision(read))),
         ) => *read == bits,
         (Gives::Hierarchical, Err(Error::Unsupported(UnsupportedFeature::Hierarchical))) => true,
+        (Gives::Arithmetic, Err(Error::Unsupported(UnsupportedFeature::ArithmeticEntropyCoding))) =>
+            true,
         (Gives::Io, Err(Error::Io(_))) => true,
         _ => false,
     }
@@ -487,6 +481,39 @@ fn markers_give_what_they_mean(rt: HostRuntime) -> Result<(), Fail> {
     Ok(())
 }
 
+#[test]
+fn what_is_passed_over_changes_nothing(rt: HostRuntime) -> Result<(), Fail> {
+    for (number, (pieces, gives)) in PASSED_OVER.iter().enumerate() {
+        let stream = bytes(rt.alloc(), pieces.as_slice())?;
+        for step in [1, 2, 3, 1000] {
+            assert!(rt;
+                is_as_wanted(rt.alloc(), &stream, *gives, step)?,
+                "stream {number}"
+            );
+        }
+    }
+    Ok(())
+}
+
+#[test]
+fn segments_without_a_place_are_refused(rt: HostRuntime) -> Result<(), Fail> {
+    for (segment, gives) in REFUSED_SEGMENTS.iter() {
+        for pieces in [
+            ["FFD8", ONES, *segment, FRAME, DC_4, AC_0, SCAN, "43 FFD9"],
+            ["FFD8", ONES, FRAME, *segment, DC_4, AC_0, SCAN, "43 FFD9"],
+        ] {
+            let stream = bytes(rt.alloc(), pieces.as_slice())?;
+            for step in [1, 1000] {
+                assert!(rt;
+                    is_as_wanted(rt.alloc(), &stream, *gives, step)?,
+                    "{segment}"
+                );
+            }
+        }
+    }
+    Ok(())
+}
+
 const ROW: [&str; 8] = ["FFD8", ONES, FRAME, DC_4, AC_0, SCAN, "43", END];
 
 #[test]
@@ -505,6 +532,40 @@ fn a_cut_stream_is_refused(rt: HostRuntime) -> Result<(), Fail> {
             matches!(&decoder.decode(), Err(Error::Io(_))),
             "length {length}"
         );
+    }
+    Ok(())
+}
+
+#[test]
+fn no_byte_behind_the_end_is_read(rt: HostRuntime) -> Result<(), Fail> {
+    for end in [
+        "43 FFD9",
+        "43 FFFFFFD9",
+        "43 00*7 FFD9",
+        "43 00*20 FFD9",
+        "43 FFD0 FFD9",
+        "43 FFFE 0003 43 FFD9",
+    ] {
+        let pieces = ["FFD8", ONES, FRAME, DC_4, AC_0, SCAN, end];
+        let stream = bytes(rt.alloc(), &pieces)?;
+        let mut decoder = Decoder::new(rt.alloc(), Ended { rest: &stream })?;
+        assert_eq!(rt; decoder.decode()?.as_slice(), [129; 64].as_slice());
+    }
+    Ok(())
+}
+
+#[test]
+fn no_byte_behind_the_header_is_read(rt: HostRuntime) -> Result<(), Fail> {
+    let stream = bytes(rt.alloc(), &["FFD8", ONES, FRAME])?;
+    let mut decoder = Decoder::new(rt.alloc(), Ended { rest: &stream })?;
+    decoder.read_info()?;
+    assert!(rt; decoder.info().is_some());
+    match decoder.decode() {
+        Err(Error::Io(e)) => assert_eq!(rt;
+            format!(in rt.alloc(); "{e}")?.as_str(),
+            "behind the end"
+        ),
+        _ => assert!(rt; false),
     }
     Ok(())
 }

@@ -54,6 +54,25 @@ impl Read for Reader<'_> {
     }
 }
 
+/// A reader of some bytes that fails where it is asked for more than are left.
+#[derive(Drop)]
+pub struct Ended<'a> {
+    pub rest: &'a [u8],
+}
+
+impl Read for Ended<'_> {
+    fn read(&mut self, buf: &mut [u8]) -> io::Result<usize> {
+        let count = buf.len();
+        if count > self.rest.len() {
+            return Err(io::Error::new(ErrorKind::Other, "behind the end"));
+        }
+        let (front, rest) = self.rest.split_at(count);
+        buf.copy_from_slice(front);
+        self.rest = rest;
+        Ok(count)
+    }
+}
+
 /// A writer that takes a few bytes at a time, of which one call goes wrong.
 #[derive(Drop)]
 pub struct Writer<'a> {
