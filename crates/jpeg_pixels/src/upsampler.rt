@@ -101,7 +101,8 @@ impl ColorConvert {
     ghost use Rattle.jpeg_pixels.specs.Colour.{conversion_of};
 
     /// The conversion of a transform for three or four components. A transform that doesn't fit is
-    /// `Format`, and one that is not known here is `Unsupported(ColorTransform(..))`.
+    /// `Format`, or `OutOfMemory` where there is no room for the text, and one that is not known here
+    /// is `Unsupported(ColorTransform(..))`.
     #[tactic(auto, unfolding(crate::specs::Colour::conversion_of))]
     pub fn choose(
         alloc: Global,
@@ -177,8 +178,8 @@ impl Upsampler {
 
     /// The upsampler of a frame's components for a picture of this size in pixels.
     ///
-    /// A component whose ratio to the greatest factors isn't whole is
-    /// `Unsupported(NonIntegerSubsamplingRatio)`.
+    /// A component for which there is no rule is `Unsupported(NonIntegerSubsamplingRatio)`, and want
+    /// of memory is `OutOfMemory`.
     pub fn new(
         alloc: Global,
         components: &[Component],
