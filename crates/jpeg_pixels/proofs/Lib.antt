@@ -4,6 +4,7 @@ pub mod Residues
 pub mod Sums
 pub mod FlatBlocks
 pub mod FrameCovers
+pub mod FramesOfFactors
 pub mod ComponentLines
 pub mod CroppedLines
 pub mod Greys

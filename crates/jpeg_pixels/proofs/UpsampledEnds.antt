@@ -2,7 +2,7 @@
 use Rattle.std.proofs.Common.{◌≡◌, ℕ, ◌+◌, ◌-◌, ◌*◌, ◌/◌, ◌%◌, ◌<◌, ◌≤◌, arith, ap, ◌∙◌, inl, inr}
 use Rattle.std.proofs.lemmas.Bool.{cases_eq}
 use Rattle.std.proofs.lemmas.Nat.{div-mul-add}
-use Rattle.jpeg_pixels.specs.Upsampling.{across, down, blended, far_place, upsampled}
+use Rattle.jpeg_pixels.specs.Upsampling.{across, down, blended, far_place, line_sum, upsampled}
 use Rattle.jpeg_pixels.specs.declared.upsampler.UpsampleRule.{UpsampleRule}
 use Rattle.jpeg_pixels.specs.declared.upsampler.UpsampleRule.TheVariants.{H1V1, H2V1, H1V2, H2V2, Generic}
 use Rattle.jpeg_pixels.proofs.UpsampledRows.{far_even, far_odd}
@@ -63,6 +63,21 @@ last_corner plane width height wide high =
     at_places plane width height (2 * width - 1) (2 * height - 1) (width - 1) (width - 1) (height - 1) (height - 1)
     (near_last width wide) (far_last width wide) (near_last height high) (far_last height high)
     ∙ alike_twice (plane (width - 1) (height - 1))
+
+-- three parts of one sum of two lines and one of the same sum
+alike_sums : (a : ℕ) → (3 * a + a + 8) / 16 ≡ (a + 2) / 4
+alike_sums a = omega arith
+
+pub first_column : (plane : ℕ → ℕ → ℕ) (width height row : ℕ) → upsampled H2V2 plane width height 0 row ≡ (line_sum plane height row 0 + 2) / 4
+first_column plane width height row =
+    at_places plane width height 0 row 0 0 (row / 2) (far_place height row) (omega arith) (far_first width) (λ i. row / 2) (λ i. far_place height row)
+    ∙ alike_sums (line_sum plane height row 0)
+
+pub last_column : (plane : ℕ → ℕ → ℕ) (width height row : ℕ) → 1 ≤ width → upsampled H2V2 plane width height (2 * width - 1) row ≡ (line_sum plane height row (width - 1) + 2) / 4
+last_column plane width height row wide =
+    at_places plane width height (2 * width - 1) row (width - 1) (width - 1) (row / 2) (far_place height row)
+    (near_last width wide) (far_last width wide) (λ i. row / 2) (λ i. far_place height row)
+    ∙ alike_sums (line_sum plane height row (width - 1))
 
 -- two lines alike are one line
 one_line : (a b : ℕ) → (3 * (3 * a + a) + (3 * b + b) + 8) / 16 ≡ blended a b

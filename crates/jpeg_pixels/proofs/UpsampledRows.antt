@@ -1,11 +1,13 @@
 -- Rows of samples made wider, place by place.
-use Rattle.std.proofs.Common.{◌≡◌, ℕ, ◌+◌, ◌-◌, ◌*◌, ◌/◌, ◌%◌, ◌<◌, ◌≤◌, List, length, get_or, set, get_or-set_other, get_or-set_same, length-set, ◌≢◌, arith, ap, sym, ◌∙◌, cond, min, inl, inr, take, drop, ◌++◌, length-take}
+use Rattle.std.proofs.Common.{◌≡◌, ℕ, ◌+◌, ◌-◌, ◌*◌, ◌/◌, ◌%◌, ◌<◌, ◌≤◌, List, length, get_or, set, get_or-set_other, get_or-set_same, length-set, ◌≢◌, arith, ap, sym, subst, ◌∙◌, cond, min, inl, inr, take, drop, ◌++◌, length-take}
 use Rattle.std.specs.Prelude.{◌==◌}
+use Rattle.std.specs.Int.{div_ceil}
 use Rattle.std.proofs.lemmas.Bool.{cases_eq}
-use Rattle.std.proofs.Math.Nat.{mul_comm, mul-le-mul_right, div-lt_iff_lt-mul}
+use Rattle.std.proofs.Math.Nat.{mul_comm, mul-add, mul-le-mul_right, div-lt_iff_lt-mul, lt_of_mul-lt-mul_left}
 use Rattle.std.proofs.lemmas.List.{get_or_append_left}
 use Rattle.std.proofs.lemmas.Nat.{mod-mul-add}
-use Rattle.jpeg_pixels.specs.Upsampling.{across, blended, far_place, upsampled}
+use Rattle.std.proofs.lemmas.Grind.{div_ceil_times}
+use Rattle.jpeg_pixels.specs.Upsampling.{across, down, blended, far_place, upsampled}
 use Rattle.jpeg_pixels.specs.declared.upsampler.UpsampleRule.{UpsampleRule}
 use Rattle.jpeg_pixels.specs.declared.upsampler.UpsampleRule.TheVariants.{H1V1, H2V1, H1V2, H2V2, Generic}
 
@@ -30,14 +32,11 @@ in_front n new old x long room h =
 
 -- the sample of each rule by the lines that it reads
 
-pub as_h1v1 : (rule : UpsampleRule) (plane : ℕ → ℕ → ℕ) (line : List ℕ) (width height x row : ℕ) → rule ≡ H1V1 → x < across rule * width →
-    ((i : ℕ) → i < width → get_or line i 0 ≡ plane i row) →
+pub as_h1v1 : (rule : UpsampleRule) (plane : ℕ → ℕ → ℕ) (line : List ℕ) (used width height x row : ℕ) → rule ≡ H1V1 → x < used →
+    ((i : ℕ) → i < used → get_or line i 0 ≡ plane i row) →
     get_or line x 0 ≡ upsampled rule plane width height x row
 unfolding upsampled
-as_h1v1 rule plane line width height x row e inside each = rw e (each x below)
-  where
-    below : x < width
-    below = let one : across rule ≡ 1 = ap across e in let h : x < 1 * width = rw (← one) inside in omega arith
+as_h1v1 rule plane line used width height x row e inside each = rw e (each x inside)
 
 pub as_h2v1 : (rule : UpsampleRule) (plane : ℕ → ℕ → ℕ) (line : List ℕ) (width height x row : ℕ) → rule ≡ H2V1 → length line ≡ width → x < across rule * width →
     ((i : ℕ) → i < width → get_or line i 0 ≡ plane i row) →
@@ -54,15 +53,12 @@ as_h2v1 rule plane line width height x row e long inside each = rw e (λ i. blen
     far : get_or line (far_place (length line) x) 0 ≡ plane (far_place width x) row
     far = ap (λ n. get_or line (far_place n x) 0) long ∙ each (far_place width x) (far_below width x below)
 
-pub as_h1v2 : (rule : UpsampleRule) (plane : ℕ → ℕ → ℕ) (near far : List ℕ) (width height x row : ℕ) → rule ≡ H1V2 → x < across rule * width →
-    ((i : ℕ) → i < width → get_or near i 0 ≡ plane i (row / 2)) →
-    ((i : ℕ) → i < width → get_or far i 0 ≡ plane i (far_place height row)) →
+pub as_h1v2 : (rule : UpsampleRule) (plane : ℕ → ℕ → ℕ) (near far : List ℕ) (used width height x row : ℕ) → rule ≡ H1V2 → x < used →
+    ((i : ℕ) → i < used → get_or near i 0 ≡ plane i (row / 2)) →
+    ((i : ℕ) → i < used → get_or far i 0 ≡ plane i (far_place height row)) →
     blended (get_or near x 0) (get_or far x 0) ≡ upsampled rule plane width height x row
 unfolding upsampled
-as_h1v2 rule plane near far width height x row e inside near_is far_is = rw e (λ i. blended (near_is x below i) (far_is x below i))
-  where
-    below : x < width
-    below = let one : across rule ≡ 1 = ap across e in let h : x < 1 * width = rw (← one) inside in omega arith
+as_h1v2 rule plane near far used width height x row e inside near_is far_is = rw e (λ i. blended (near_is x inside i) (far_is x inside i))
 
 pub as_h2v2 : (rule : UpsampleRule) (plane : ℕ → ℕ → ℕ) (near far : List ℕ) (width height x row : ℕ) → rule ≡ H2V2 → length near ≡ width → x < across rule * width →
     ((i : ℕ) → i < width → get_or near i 0 ≡ plane i (row / 2)) →
@@ -79,18 +75,45 @@ as_h2v2 rule plane near far width height x row e long inside near_is far_is =
     farther : far_place width x < width
     farther = far_below width x below
 
-pub as_generic : (rule : UpsampleRule) (h v : ℕ) (plane : ℕ → ℕ → ℕ) (line : List ℕ) (width height x row : ℕ) → rule ≡ Generic h v → 1 ≤ across rule → x < across rule * width →
-    ((i : ℕ) → i < width → get_or line i 0 ≡ plane i (row / v)) →
+pub as_generic : (rule : UpsampleRule) (h v : ℕ) (plane : ℕ → ℕ → ℕ) (line : List ℕ) (used width height x row : ℕ) → rule ≡ Generic h v → 1 ≤ h → x < h * used →
+    ((i : ℕ) → i < used → get_or line i 0 ≡ plane i (row / v)) →
     get_or line (x / h) 0 ≡ upsampled rule plane width height x row
 unfolding upsampled
-as_generic rule h v plane line width height x row e some inside each = rw e (each (x / h) below)
+as_generic rule h v plane line used width height x row e some inside each = rw e (each (x / h) below)
   where
-    below : x / h < width
+    below : x / h < used
     below =
-        let is : across rule ≡ h = ap across e in
-        let positive : 0 < h = omega arith in
-        let turned : x < width * h = rw (mul_comm width h, ← is) inside in
-        (div-lt_iff_lt-mul {k = h} {x = x} {y = width} positive).1 turned
+        let turned : x < used * h = rw (mul_comm used h) inside in
+        (div-lt_iff_lt-mul {k = h} {x = x} {y = used} some).1 turned
+
+-- the outputs are those of the samples used
+pub used_enough : (output h used : ℕ) → 0 < h → used ≡ div_ceil output h → output ≤ h * used
+used_enough output h used some is =
+    let low : output ≤ div_ceil output h * h = (div_ceil_times output h some).0 in
+    let turned : h * used ≡ div_ceil output h * h = ap (λ n. h * n) is ∙ mul_comm h (div_ceil output h) in
+    omega (arith, low, turned)
+
+-- and a line has these samples
+used_within : (output h used width : ℕ) → 0 < h → used ≡ div_ceil output h → output ≤ h * width → used ≤ width
+used_within output h used width some is wide =
+    let high : div_ceil output h * h < output + h = (div_ceil_times output h some).1 in
+    let turned : h * used ≡ div_ceil output h * h = ap (λ n. h * n) is ∙ mul_comm h (div_ceil output h) in
+    let more : h * (width + 1) ≡ h * width + h * 1 = mul-add h width 1 in
+    let below : used < width + 1 = lt_of_mul-lt-mul_left h (omega (arith, high, turned, more, wide)) in
+    omega arith
+
+-- the samples that are repeated lie in the plane
+pub repeated_within : (rule : UpsampleRule) (h v output used width height stride row room : ℕ) → rule ≡ Generic h v → 1 ≤ across rule → 1 ≤ down rule → used ≡ div_ceil output h →
+    output ≤ across rule * width → row < down rule * height → (height - 1) * stride + width ≤ room → row / v * stride + used ≤ room
+repeated_within rule h v output used width height stride row room e some_across some_down is wide high inside =
+    let some_h : 0 < h = subst (λ n. 0 < n) (ap across e) some_across in
+    let some_v : 0 < v = subst (λ n. 0 < n) (ap down e) some_down in
+    let short : used ≤ width = used_within output h used width some_h is (subst (λ n. output ≤ n * width) (ap across e) wide) in
+    let rows : row < v * height = subst (λ n. row < n * height) (ap down e) high in
+    let turned : row < height * v = rw (mul_comm height v) rows in
+    let line : row / v < height = (div-lt_iff_lt-mul {k = v} {x = row} {y = height} some_v).1 turned in
+    let last : row / v ≤ height - 1 = omega (arith, line) in
+    omega (arith, mul-le-mul_right stride last, short, inside)
 
 -- one more sample, at its place among those that are `step` apart
 pub spread_samples : (line xs ys : List ℕ) (step first i : ℕ) → first < step → i * step + first < length xs → ys ≡ set xs (i * step + first) (get_or line i 0) →

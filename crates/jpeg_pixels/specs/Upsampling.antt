@@ -1,5 +1,6 @@
--- Samples of a component between its own (the centres of A.1.1): where the greatest sampling factor is twice the component's, three parts of
--- the nearer sample and one of the farther; where it is another multiple, the sample is repeated.
+-- Samples of a component between its own (the centres of A.1.1). Where the greatest sampling factors are the component's or twice those, across
+-- and down, samples are blended in each direction that is doubled: three parts of the nearer sample and one of the farther. Where one of the two
+-- ratios is another number, as for factors 1x1 under 2x4, samples are repeated in both directions, also in one that is doubled.
 use Rattle.std.specs.Prelude.{ℕ, ◌+◌, ◌-◌, ◌*◌, ◌/◌, ◌%◌, ◌==◌, ◌&&◌, ◌||◌, min, Bool, Option, Some, None, if◌then◌else◌}
 use Rattle.jpeg_pixels.specs.declared.upsampler.UpsampleRule.{UpsampleRule}
 use Rattle.jpeg_pixels.specs.declared.upsampler.UpsampleRule.TheVariants.{H1V1, H2V1, H1V2, H2V2, Generic}
@@ -45,8 +46,9 @@ upsampled (Generic h v) plane width height x row = plane (x / h) (row / v)
 abbrev pub divides : ℕ → ℕ → Bool
 divides d n = n % d == 0
 
--- The rule of a component with factors h and v, in a frame whose greatest are those and whose output has this width and height; none where
--- a ratio isn't whole.
+-- The rule of a component with factors h and v, in a frame whose greatest are those and whose output has this width and height. For the first
+-- four rules a factor counts as the greatest where the output has one sample in that direction. Where none of them fits, both ratios have to
+-- be whole; else there is no rule.
 unfoldable pub rule_of : ℕ → ℕ → ℕ → ℕ → ℕ → ℕ → Option UpsampleRule
 rule_of h v greatest_h greatest_v width height =
     let h1 = h == greatest_h || width == 1 in

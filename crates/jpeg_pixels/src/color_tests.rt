@@ -1,35 +1,45 @@
-ghost use Rattle.std.specs.Prelude.{◌≡◌, ◌≤◌, length};
+ghost use Rattle.std.specs.Prelude.{◌≡◌, ◌<◌, length, IfOk};
 ghost use Rattle.jpeg_segments.specs.FrameView.{component_in};
+ghost use Rattle.jpeg_pixels.specs.PicturesView.{IsFor};
 
-use crate::upsampler::ColorConvert;
+use crate::upsampler::{ColorConvert, Upsampler};
 use crate::worker::compute_image_rows;
 use jpeg_bits::color_transform::ColorTransform;
 use jpeg_bits::error::{Error, Result, UnsupportedFeature};
 use jpeg_segments::parser::{Component, Dimensions};
-use std::alloc::Global;
+use std::alloc::{AllocError, Global};
 use std::test::Fail;
 
-// A component of samples in blocks of 8x8, with the same factor across and down.
-fn component(factor: u8, width: u16, height: u16, blocks: u16) -> Component
+// A component of samples in blocks of 8x8, by its factors across and down, its size in samples and
+// its size in blocks.
+fn component(horizontal: u8, vertical: u8, size: (u16, u16), block_size: (u16, u16)) -> Component
     ensures { component_in result ≡ record {
-      factors = record { identifier = 1; horizontal = factor; vertical = factor; quantization = 0 };
+      factors = record {
+        identifier = 1;
+        horizontal = horizontal;
+        vertical = vertical;
+        quantization = 0;
+      };
       scale = 8;
-      width = width;
-      height = height;
-      blocks_wide = blocks;
-      blocks_high = blocks;
+      width = size.0;
+      height = size.1;
+      blocks_wide = block_size.0;
+      blocks_high = block_size.1;
     } }
 {
     Component {
         identifier: 1,
-        horizontal_sampling_factor: factor,
-        vertical_sampling_factor: factor,
+        horizontal_sampling_factor: horizontal,
+        vertical_sampling_factor: vertical,
         quantization_table_index: 0,
         dct_scale: 8,
-        size: Dimensions { width, height },
+        size: Dimensions {
+            width: size.0,
+            height: size.1,
+        },
         block_size: Dimensions {
-            width: blocks,
-            height: blocks,
+            width: block_size.0,
+            height: block_size.1,
         },
     }
 }
@@ -46,9 +56,9 @@ fn picture_of_three(
     requires second { length second.items ≡ 2 }
     requires third { length third.items ≡ 2 }
 {
-    let one = component(1, 2, 1, 1);
-    let two = component(1, 2, 1, 1);
-    let three = component(1, 2, 1, 1);
+    let one = component(1, 1, (2, 1), (1, 1));
+    let two = component(1, 1, (2, 1), (1, 1));
+    let three = component(1, 1, (2, 1), (1, 1));
     let components = [one, two, three];
     let planes = [first, second, third];
     let size = Dimensions {
@@ -72,10 +82,10 @@ fn picture_of_four(
     requires third { length third.items ≡ 1 }
     requires fourth { length fourth.items ≡ 1 }
 {
-    let one = component(1, 1, 1, 1);
-    let two = component(1, 1, 1, 1);
-    let three = component(1, 1, 1, 1);
-    let four = component(1, 1, 1, 1);
+    let one = component(1, 1, (1, 1), (1, 1));
+    let two = component(1, 1, (1, 1), (1, 1));
+    let three = component(1, 1, (1, 1), (1, 1));
+    let four = component(1, 1, (1, 1), (1, 1));
     let components = [one, two, three, four];
     let planes = [first, second, third, fourth];
     let size = Dimensions {
@@ -91,9 +101,9 @@ fn picture_of_halves(alloc: Global, luma: Vec<u8>, cb: Vec<u8>, cr: Vec<u8>) -> 
     requires cb { length cb.items ≡ 2 }
     requires cr { length cr.items ≡ 2 }
 {
-    let one = component(2, 3, 2, 2);
-    let two = component(1, 2, 1, 1);
-    let three = component(1, 2, 1, 1);
+    let one = component(2, 2, (3, 2), (2, 2));
+    let two = component(1, 1, (2, 1), (1, 1));
+    let three = component(1, 1, (2, 1), (1, 1));
     let components = [one, two, three];
     let planes = [luma, cb, cr];
     let size = Dimensions {
@@ -101,6 +111,99 @@ fn picture_of_halves(alloc: Global, luma: Vec<u8>, cb: Vec<u8>, cr: Vec<u8>) -> 
         height: 2,
     };
     compute_image_rows(alloc, &components, &planes, size, ColorTransform::YCbCr)
+}
+
+// A line of the same picture, made alone.
+fn line_of_halves(
+    alloc: Global,
+    luma: Vec<u8>,
+    cb: Vec<u8>,
+    cr: Vec<u8>,
+    row: usize,
+    color_convert: ColorConvert,
+) -> Result<[u8; 9]>
+    requires luma { length luma.items ≡ 19 }
+    requires cb { length cb.items ≡ 2 }
+    requires cr { length cr.items ≡ 2 }
+    requires row { row < 2 }
+    requires fits { IsFor 3 color_convert }
+{
+    let one = component(2, 2, (3, 2), (2, 2));
+    let two = component(1, 1, (2, 1), (1, 1));
+    let three = component(1, 1, (2, 1), (1, 1));
+    let components = [one, two, three];
+    let planes = [luma, cb, cr];
+    let upsampler = Upsampler::new(alloc, &components, 3, 2)?;
+    let mut line = [0; 9];
+    upsampler.upsample_and_interleave_row(&planes, row, 3, &mut line, color_convert)?;
+    Ok(line)
+}
+
+// The picture of a line of seventy pixels.
+fn wide_picture_of_four(
+    alloc: Global,
+    first: Vec<u8>,
+    second: Vec<u8>,
+    third: Vec<u8>,
+    fourth: Vec<u8>,
+    color_transform: ColorTransform,
+) -> Result<Vec<u8>>
+    requires first { length first.items ≡ 70 }
+    requires second { length second.items ≡ 70 }
+    requires third { length third.items ≡ 70 }
+    requires fourth { length fourth.items ≡ 70 }
+{
+    let one = component(1, 1, (70, 1), (9, 1));
+    let two = component(1, 1, (70, 1), (9, 1));
+    let three = component(1, 1, (70, 1), (9, 1));
+    let four = component(1, 1, (70, 1), (9, 1));
+    let components = [one, two, three, four];
+    let planes = [first, second, third, fourth];
+    let size = Dimensions {
+        width: 70,
+        height: 1,
+    };
+    compute_image_rows(alloc, &components, &planes, size, color_transform)
+}
+
+// The unconverted picture of 6x4 pixels whose components are copied, made twice as wide, made twice
+// as high, and repeated twice across and four times down.
+fn picture_of_each_rule(
+    alloc: Global,
+    copied: Vec<u8>,
+    widened: Vec<u8>,
+    heightened: Vec<u8>,
+    repeated: Vec<u8>,
+) -> Result<Vec<u8>>
+    requires copied { length copied.items ≡ 54 }
+    requires widened { length widened.items ≡ 27 }
+    requires heightened { length heightened.items ≡ 22 }
+    requires repeated { length repeated.items ≡ 3 }
+{
+    let one = component(2, 4, (6, 4), (2, 4));
+    let two = component(1, 4, (3, 4), (1, 4));
+    let three = component(2, 2, (6, 2), (2, 2));
+    let four = component(1, 1, (3, 1), (1, 1));
+    let components = [one, two, three, four];
+    let planes = [copied, widened, heightened, repeated];
+    let size = Dimensions {
+        width: 6,
+        height: 4,
+    };
+    compute_image_rows(alloc, &components, &planes, size, ColorTransform::None)
+}
+
+// Seventy samples: the five over and over.
+fn over_and_over(alloc: Global, samples: [u8; 5]) -> std::result::Result<Vec<u8>, AllocError>
+    ensures { IfOk result (λ v. length v.items ≡ 70) }
+{
+    let mut line = vec![in alloc; 0u8; 70]?;
+    let mut place = 0usize;
+    for sample in line.iter_mut() {
+        *sample = samples[place % 5];
+        place = place.wrapping_add(1);
+    }
+    Ok(line)
 }
 
 #[test]
@@ -209,6 +312,111 @@ fn colour_of_half_the_size(rt: HostRuntime) -> std::result::Result<(), Fail> {
     let expected = [
         61, 120, 100, 75, 113, 100, 103, 99, 100, //
         11, 70, 50, 25, 63, 50, 53, 49, 50,
+    ];
+    assert_eq!(rt; picture.as_slice(), expected.as_slice());
+    Ok(())
+}
+
+#[test]
+fn lines_made_alone(rt: HostRuntime) -> std::result::Result<(), Fail> {
+    let alloc = rt.alloc();
+    let samples = [
+        100, 100, 100, 9, 9, 9, 9, 9, 9, 9, 9, 9, 9, 9, 9, 9, 50, 50, 50,
+    ];
+    let lines = [
+        (
+            0,
+            ColorConvert::YCbCr,
+            [61, 120, 100, 75, 113, 100, 103, 99, 100],
+        ),
+        (1, ColorConvert::YCbCr, [11, 70, 50, 25, 63, 50, 53, 49, 50]),
+        (
+            1,
+            ColorConvert::None,
+            [50, 50, 50, 128, 128, 128, 100, 110, 130],
+        ),
+    ];
+    for (row, color_convert, expected) in lines {
+        let luma = Vec::from_array(alloc, samples)?;
+        let cb = Vec::from_array(alloc, [128, 128])?;
+        let cr = Vec::from_array(alloc, [100, 140])?;
+        let line = line_of_halves(alloc, luma, cb, cr, row, color_convert)?;
+        assert_eq!(rt; line, expected, "{color_convert:?} {row}");
+    }
+    Ok(())
+}
+
+#[test]
+fn wide_lines_of_four_components(rt: HostRuntime) -> std::result::Result<(), Fail> {
+    let alloc = rt.alloc();
+    let pictures = [
+        (
+            ColorTransform::CMYK,
+            [
+                [179, 170, 0, 245],
+                [55, 127, 127, 0],
+                [155, 127, 155, 255],
+                [155, 127, 145, 254],
+                [155, 127, 125, 127],
+            ],
+        ),
+        (
+            ColorTransform::YCCK,
+            [
+                [254, 0, 0, 245],
+                [200, 200, 200, 0],
+                [61, 120, 100, 255],
+                [75, 113, 100, 254],
+                [103, 99, 100, 127],
+            ],
+        ),
+    ];
+    for (transform, pixels) in pictures {
+        let first = over_and_over(alloc, [76, 200, 100, 100, 100])?;
+        let second = over_and_over(alloc, [85, 128, 128, 128, 128])?;
+        let third = over_and_over(alloc, [255, 128, 100, 110, 130])?;
+        let fourth = over_and_over(alloc, [10, 255, 0, 1, 128])?;
+        let picture = wide_picture_of_four(alloc, first, second, third, fourth, transform)?;
+        assert_eq!(rt; picture.len(), 280);
+        for (place, pixel) in picture.chunks_exact(4).enumerate() {
+            let expected = pixels[place % 5];
+            assert_eq!(rt; pixel, expected.as_slice(), "{transform:?} {place}");
+        }
+    }
+    Ok(())
+}
+
+#[test]
+fn components_of_each_rule(rt: HostRuntime) -> std::result::Result<(), Fail> {
+    let alloc = rt.alloc();
+    let copied = [
+        1, 2, 3, 4, 5, 6, 0, 0, 0, 0, 0, 0, 0, 0, 0, 0, //
+        7, 8, 9, 10, 11, 12, 0, 0, 0, 0, 0, 0, 0, 0, 0, 0, //
+        13, 14, 15, 16, 17, 18, 0, 0, 0, 0, 0, 0, 0, 0, 0, 0, //
+        19, 20, 21, 22, 23, 24,
+    ];
+    let widened = [
+        10, 20, 30, 0, 0, 0, 0, 0, //
+        40, 40, 40, 0, 0, 0, 0, 0, //
+        0, 100, 200, 0, 0, 0, 0, 0, //
+        255, 0, 255,
+    ];
+    let heightened = [
+        10, 20, 30, 40, 50, 60, 0, 0, 0, 0, 0, 0, 0, 0, 0, 0, //
+        30, 20, 10, 0, 255, 61,
+    ];
+    let copied = Vec::from_array(alloc, copied)?;
+    let widened = Vec::from_array(alloc, widened)?;
+    let heightened = Vec::from_array(alloc, heightened)?;
+    let repeated = Vec::from_array(alloc, [1, 2, 3])?;
+    let picture = picture_of_each_rule(alloc, copied, widened, heightened, repeated)?;
+    let expected = [
+        1, 2, 3, 4, 5, 6, 10, 13, 18, 23, 28, 30, 10, 20, 30, 40, 50, 60, 1, 1, 2, 2, 3, 3, //
+        7, 8, 9, 10, 11, 12, 40, 40, 40, 40, 40, 40, 15, 20, 25, 30, 101, 60, 1, 1, 2, 2, 3, 3, //
+        13, 14, 15, 16, 17, 18, 0, 25, 75, 125, 175, 200, 25, 20, 15, 10, 204, 61, 1, 1, 2, 2, 3,
+        3, //
+        19, 20, 21, 22, 23, 24, 255, 191, 64, 64, 191, 255, 30, 20, 10, 0, 255, 61, 1, 1, 2, 2, 3,
+        3,
     ];
     assert_eq!(rt; picture.as_slice(), expected.as_slice());
     Ok(())

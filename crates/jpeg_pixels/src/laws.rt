@@ -1,5 +1,5 @@
 //! What the definitions of samples mean in plain words, each a theorem on a function without a body.
-ghost use Rattle.std.specs.Prelude.{All, Ok, ◌≡◌, ℕ, ◌+◌, ◌-◌, ◌*◌, ◌<◌, ◌≤◌, List, [], ◌∷◌, ◌++◌, map, replicate, slice_index, ℤ, pos, ◌+ℤ◌, unsigned_abs};
+ghost use Rattle.std.specs.Prelude.{All, Ok, ◌≡◌, ℕ, ◌+◌, ◌-◌, ◌*◌, ◌/◌, ◌<◌, ◌≤◌, List, [], ◌∷◌, ◌++◌, map, replicate, slice_index, ℤ, pos, ◌+ℤ◌, unsigned_abs};
 ghost use Rattle.std.specs.List.{range_with_len};
 ghost use Rattle.std.specs.Int.{int_shr};
 ghost use Rattle.jpeg_segments.specs.Frame.{Factors, IsInRange, frame_of};
@@ -9,7 +9,7 @@ ghost use Rattle.jpeg_pixels.specs.Planes.{plane_of, strip_of};
 ghost use Rattle.jpeg_pixels.specs.Colour.{colour_of, line_bytes};
 ghost use Rattle.jpeg_pixels.specs.declared.upsampler.ColorConvert.TheVariants.{None, Rgb, YCbCr, Cmyk, Ycck};
 ghost use Rattle.jpeg_pixels.specs.Zigzag.{zigzag, zigzag_places};
-ghost use Rattle.jpeg_pixels.specs.Upsampling.{across, down, upsampled};
+ghost use Rattle.jpeg_pixels.specs.Upsampling.{across, down, line_sum, upsampled};
 ghost use Rattle.jpeg_pixels.specs.declared.upsampler.UpsampleRule.{UpsampleRule};
 ghost use Rattle.jpeg_pixels.specs.declared.upsampler.UpsampleRule.TheVariants.{H1V1, H2V1, H1V2, H2V2, Generic};
 
@@ -89,7 +89,8 @@ pub fn known_colours()
 {}
 
 /// At its ends a component is not blended: a component of one sample is that sample everywhere, and
-/// the first and last samples of a row or a column are the component's own.
+/// the first and last samples of a row or a column are the component's own. Where it is made
+/// twice as wide and high, those of any row are blended from the two nearest lines alone.
 pub fn ends_are_kept()
     ensures alone { (rule : UpsampleRule) (plane : ℕ → ℕ → ℕ) (x row : ℕ) → x < across rule → row < down rule →
         upsampled rule plane 1 1 x row ≡ plane 0 0 }
@@ -102,6 +103,10 @@ pub fn ends_are_kept()
     ensures first_corner { (plane : ℕ → ℕ → ℕ) (width height : ℕ) → upsampled H2V2 plane width height 0 0 ≡ plane 0 0 }
     ensures last_corner { (plane : ℕ → ℕ → ℕ) (width height : ℕ) → 1 ≤ width → 1 ≤ height →
         upsampled H2V2 plane width height (2 * width - 1) (2 * height - 1) ≡ plane (width - 1) (height - 1) }
+    ensures first_column { (plane : ℕ → ℕ → ℕ) (width height row : ℕ) →
+        upsampled H2V2 plane width height 0 row ≡ (line_sum plane height row 0 + 2) / 4 }
+    ensures last_column { (plane : ℕ → ℕ → ℕ) (width height row : ℕ) → 1 ≤ width →
+        upsampled H2V2 plane width height (2 * width - 1) row ≡ (line_sum plane height row (width - 1) + 2) / 4 }
     ensures first_line { (plane : ℕ → ℕ → ℕ) (width height x : ℕ) →
         upsampled H2V2 plane width height x 0 ≡ upsampled H2V1 plane width height x 0 }
     ensures repeated { (plane : ℕ → ℕ → ℕ) (width height h v i j k l : ℕ) → k < h → l < v →

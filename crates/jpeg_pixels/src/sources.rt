@@ -14,7 +14,7 @@ use jpeg_bits::error::{Error, Result, UnsupportedFeature};
 use jpeg_segments::parser::Component;
 use std::alloc::Global;
 
-// The rule of a component with factors `h` and `v`, if its ratios to the greatest are whole.
+// The rule of a component with factors `h` and `v`, if there is one.
 #[tactic(auto, unfolding(crate::specs::Upsampling::rule_of))]
 fn choose_rule(
     h: u8,
@@ -104,8 +104,8 @@ fn greatest_vertical(components: &[Component]) -> u8
     most
 }
 
-/// How each component is upsampled for a picture of this size. A component whose ratio to the
-/// greatest factors isn't whole is `Unsupported(NonIntegerSubsamplingRatio)`.
+/// How each component is upsampled for a picture of this size. A component for which there is no
+/// rule is `Unsupported(NonIntegerSubsamplingRatio)`, and want of memory is `OutOfMemory`.
 pub(crate) fn component_sources(
     alloc: Global,
     components: &[Component],

@@ -50,22 +50,22 @@ fn blend_sums(near: u16, far: u16) -> u8
     ((3 * near + far + 8) >> 4) as u8
 }
 
-// A line made twice as wide.
+// A line made twice as wide, as far as the output goes.
 pub fn upsample_row_h2v1(line: &[u8], output: &mut [u8])
-    requires some { 1 ≤ length line.now }
+    requires some { 1 ≤ length output.old }
     requires wide { length output.old ≤ 2 * length line.now }
-    requires no_wider { 2 * length line.now ≤ length output.old + 1 }
     ensures { (x : ℕ) → x < length output.old → slice_index output.new x ≡
         blended (slice_index line.now (x / 2)) (slice_index line.now (far_place (length line.now) x)) }
 {
-    let width = line.len();
+    let used = output.len().div_ceil(2);
     output[0] = line[0];
-    for i in 1..width {
+    for i in 1..used {
         output[2 * i - 1] = blend(line[i - 1], line[i]);
         output[2 * i] = blend(line[i], line[i - 1]);
     }
-    if output.len() == 2 * width {
-        output[2 * width - 1] = line[width - 1];
+    if output.len() == 2 * used {
+        let next = used.min(line.len() - 1);
+        output[2 * used - 1] = blend(line[used - 1], line[next]);
     }
 }
 
@@ -81,27 +81,28 @@ pub fn upsample_row_h1v2(near: &[u8], far: &[u8], output: &mut [u8])
     }
 }
 
-// The line between two lines, made twice as wide.
+// The line between two lines, made twice as wide, as far as the output goes.
 pub fn upsample_row_h2v2(near: &[u8], far: &[u8], output: &mut [u8])
-    requires some { 1 ≤ length near.now }
+    requires some { 1 ≤ length output.old }
     requires far_long { length far.now ≡ length near.now }
     requires wide { length output.old ≤ 2 * length near.now }
-    requires no_wider { 2 * length near.now ≤ length output.old + 1 }
     ensures { (x : ℕ) → x < length output.old → slice_index output.new x ≡
         (3 * (3 * slice_index near.now (x / 2) + slice_index far.now (x / 2))
         + (3 * slice_index near.now (far_place (length near.now) x)
         + slice_index far.now (far_place (length near.now) x)) + 8) / 16 }
 {
-    let width = near.len();
+    let used = output.len().div_ceil(2);
     output[0] = blend(near[0], far[0]);
-    for i in 1..width {
+    for i in 1..used {
         let before = line_sum(near[i - 1], far[i - 1]);
         let here = line_sum(near[i], far[i]);
         output[2 * i - 1] = blend_sums(before, here);
         output[2 * i] = blend_sums(here, before);
     }
-    if output.len() == 2 * width {
-        output[2 * width - 1] = blend(near[width - 1], far[width - 1]);
+    if output.len() == 2 * used {
+        let next = used.min(near.len() - 1);
+        let last = line_sum(near[used - 1], far[used - 1]);
+        output[2 * used - 1] = blend_sums(last, line_sum(near[next], far[next]));
     }
 }
 

@@ -17,7 +17,6 @@ fn row_of(
     requires some_down { 1 ≤ down rule }
     requires some_width { 1 ≤ width }
     requires wide_enough { output_width ≤ across rule * width }
-    requires no_wider { across rule * width < output_width + across rule }
     requires row { row < down rule * height }
     requires room { (height - 1) * width + width ≤ length samples.now }
     requires short { output_width ≤ 11 }
@@ -97,6 +96,36 @@ fn one_sample(rt: HostRuntime) {
     }
     assert_eq!(rt; row_of(UpsampleRule::H1V2, &[200], 1, 1, 0, 1), once);
     assert_eq!(rt; row_of(UpsampleRule::H1V2, &[200], 1, 1, 1, 1), once);
+}
+
+#[test]
+fn first_samples_alone(rt: HostRuntime) {
+    let samples = [10, 20, 30, 30, 40, 50];
+    let none = [7; 11];
+    assert_eq!(rt; row_of(UpsampleRule::H1V1, &samples, 3, 2, 0, 0), none);
+    assert_eq!(rt; row_of(UpsampleRule::H2V1, &samples, 3, 2, 0, 0), none);
+    assert_eq!(rt; row_of(UpsampleRule::H1V2, &samples, 3, 2, 0, 0), none);
+    assert_eq!(rt; row_of(UpsampleRule::H2V2, &samples, 3, 2, 0, 0), none);
+    assert_eq!(rt;
+        row_of(UpsampleRule::Generic(4, 3), &samples, 3, 2, 0, 0),
+        none
+    );
+    let row = row_of(UpsampleRule::H1V1, &samples, 3, 2, 1, 2);
+    assert_eq!(rt; row, [30, 40, 7, 7, 7, 7, 7, 7, 7, 7, 7]);
+    let row = row_of(UpsampleRule::H2V1, &samples, 3, 2, 0, 4);
+    assert_eq!(rt; row, [10, 13, 18, 23, 7, 7, 7, 7, 7, 7, 7]);
+    let row = row_of(UpsampleRule::H2V1, &samples, 3, 2, 0, 3);
+    assert_eq!(rt; row, [10, 13, 18, 7, 7, 7, 7, 7, 7, 7, 7]);
+    let row = row_of(UpsampleRule::H1V2, &samples, 3, 2, 1, 2);
+    assert_eq!(rt; row, [15, 25, 7, 7, 7, 7, 7, 7, 7, 7, 7]);
+    let row = row_of(UpsampleRule::H2V2, &samples, 3, 2, 1, 4);
+    assert_eq!(rt; row, [15, 18, 23, 28, 7, 7, 7, 7, 7, 7, 7]);
+    let row = row_of(UpsampleRule::H2V2, &samples, 3, 2, 1, 1);
+    assert_eq!(rt; row, [15, 7, 7, 7, 7, 7, 7, 7, 7, 7, 7]);
+    let row = row_of(UpsampleRule::Generic(4, 3), &samples, 3, 2, 3, 5);
+    assert_eq!(rt; row, [30, 30, 30, 30, 40, 7, 7, 7, 7, 7, 7]);
+    let row = row_of(UpsampleRule::Generic(1, 3), &samples, 3, 2, 3, 2);
+    assert_eq!(rt; row, [30, 40, 7, 7, 7, 7, 7, 7, 7, 7, 7]);
 }
 
 #[test]

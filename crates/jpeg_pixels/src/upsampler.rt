@@ -32,8 +32,8 @@ impl UpsampleRule {
 
     /// Writes the first `output_width` samples of row `row` of the picture to the front of the output; its other bytes stay.
     ///
-    /// The component has `input_height` lines of `input_width` samples, the lines `row_stride` bytes apart, and the picture
-    /// is as wide as `across` times that, but for less than one sample of the component.
+    /// The component has `input_height` lines of `input_width` samples, and each line begins `row_stride` bytes behind the
+    /// beginning of the one above. The output is at most `across` times as wide as that.
     pub fn upsample_row(
         &self,
         input: &[u8],
@@ -48,19 +48,20 @@ impl UpsampleRule {
         requires some_down { 1 ≤ down self.now }
         requires some_width { 1 ≤ input_width }
         requires wide_enough { output_width ≤ across self.now * input_width }
-        requires no_wider { across self.now * input_width < output_width + across self.now }
         requires row { row < down self.now * input_height }
-        requires in_stride { input_width ≤ row_stride }
         requires input_room { (input_height - 1) * row_stride + input_width ≤ length input.now }
         requires output_room { output_width ≤ length output.old }
         ensures samples { (x : ℕ) → x < output_width → slice_index output.new x
             ≡ upsampled self.now (λ i j. slice_index input.now (j * row_stride + i)) input_width input_height x row }
         ensures others { (i : ℕ) → output_width ≤ i → slice_index output.new i ≡ slice_index output.old i }
     {
+        if output_width == 0 {
+            return;
+        }
         let output = &mut output[..output_width];
         match *self {
             UpsampleRule::H1V1 => {
-                let line = line_at(input, input_width, row_stride, row);
+                let line = line_at(input, output_width, row_stride, row);
                 output.copy_from_slice(line);
             }
             UpsampleRule::H2V1 => {
@@ -68,8 +69,8 @@ impl UpsampleRule {
                 upsample_row_h2v1(line, output);
             }
             UpsampleRule::H1V2 => {
-                let near = line_at(input, input_width, row_stride, row / 2);
-                let far = line_at(input, input_width, row_stride, far_line(input_height, row));
+                let near = line_at(input, output_width, row_stride, row / 2);
+                let far = line_at(input, output_width, row_stride, far_line(input_height, row));
                 upsample_row_h1v2(near, far, output);
             }
             UpsampleRule::H2V2 => {
@@ -78,7 +79,8 @@ impl UpsampleRule {
                 upsample_row_h2v2(near, far, output);
             }
             UpsampleRule::Generic(across, down) => {
-                let line = line_at(input, input_width, row_stride, row / usize::from(down));
+                let used = output_width.div_ceil(usize::from(across));
+                let line = line_at(input, used, row_stride, row / usize::from(down));
                 repeat_samples(line, usize::from(across), output);
             }
         }
@@ -101,7 +103,8 @@ impl ColorConvert {
     ghost use Rattle.jpeg_pixels.specs.Colour.{conversion_of};
 
     /// The conversion of a transform for three or four components. A transform that doesn't fit is
-    /// `Format`, and one that is not known here is `Unsupported(ColorTransform(..))`.
+    /// `Format`, or `OutOfMemory` where there is no room for the text, and one that is not known here
+    /// is `Unsupported(ColorTransform(..))`.
     #[tactic(auto, unfolding(crate::specs::Colour::conversion_of))]
     pub fn choose(
         alloc: Global,
@@ -177,8 +180,8 @@ impl Upsampler {
 
     /// The upsampler of a frame's components for a picture of this size in pixels.
     ///
-    /// A component whose ratio to the greatest factors isn't whole is
-    /// `Unsupported(NonIntegerSubsamplingRatio)`.
+    /// A component for which there is no rule is `Unsupported(NonIntegerSubsamplingRatio)`, and want
+    /// of memory is `OutOfMemory`.
     pub fn new(
         alloc: Global,
         components: &[Component],

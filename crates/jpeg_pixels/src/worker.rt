@@ -14,8 +14,9 @@ use std::alloc::Global;
 /// The picture of three or four components, of which each has a plane: its lines from above, each
 /// upsampled and converted.
 ///
-/// A transform that doesn't fit is `Format` or `Unsupported(ColorTransform(..))`, and a sampling
-/// ratio that isn't whole `Unsupported(NonIntegerSubsamplingRatio)`.
+/// A transform that doesn't fit is `Format` or `Unsupported(ColorTransform(..))`, a component for
+/// which there is no rule `Unsupported(NonIntegerSubsamplingRatio)`, and want of memory
+/// `OutOfMemory`.
 pub fn compute_image_rows(
     alloc: Global,
     components: &[Component],

@@ -1,4 +1,4 @@
-use Rattle.jpeg_pixels.proofs.UpsampledEnds.{alone, first_across, last_across, first_down, last_down, first_corner, last_corner, first_line, repeated}
+use Rattle.jpeg_pixels.proofs.UpsampledEnds.{alone, first_across, last_across, first_down, last_down, first_corner, last_corner, first_column, last_column, first_line, repeated}
 use Rattle.jpeg_pixels.proofs.laws.ends_are_kept.Goals as goal
 
 pub returns : goal.returns
@@ -10,6 +10,8 @@ returns c = record {
   last_down = last_down;
   first_corner = first_corner;
   last_corner = last_corner;
+  first_column = first_column;
+  last_column = last_column;
   first_line = first_line;
   repeated = repeated;
 }
