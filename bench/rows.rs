@@ -16,7 +16,7 @@ fn plane(width: usize, height: usize, seed: u32) -> Vec<u8> {
 }
 
 fn widen(near: &[u8], far: &[u8], output: &mut [u8]) {
-    let sum = |i: usize| 3 * u32::from(near[i]) + u32::from(far[i]);
+    let sum = |i: usize| 3 * u16::from(near[i]) + u16::from(far[i]);
     output[0] = ((sum(0) + 2) >> 2) as u8;
     for i in 1..near.len() {
         let before = sum(i - 1);
