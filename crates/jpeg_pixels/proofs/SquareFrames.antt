@@ -1,17 +1,16 @@
 -- Frames whose components have each one factor across and down, as the tests make them.
-use Rattle.std.proofs.Common.{◌≡◌, ◌≤◌, ℕ, List, map, Ok, All, subst, sym}
+use Rattle.std.proofs.Common.{◌≡◌, ◌≤◌, ℕ, List, map, Ok, All}
 use Rattle.std.proofs.lemmas.List.Elements.{All-map}
-use Rattle.jpeg_segments.specs.Frame.{AllHaveFactors, Component, Factors, IsInRange, frame_of, greatest}
-use Rattle.jpeg_segments.proofs.FrameLemmas.{all-in-range}
+use Rattle.jpeg_segments.specs.Frame.{AllHaveFactors, Component, Factors, IsInRange}
 use Rattle.jpeg_pixels.specs.Pictures.{AllCover, HaveRoom, Source, sources_of}
-use Rattle.jpeg_pixels.proofs.FrameCovers.{frames-are-covered}
+use Rattle.jpeg_pixels.proofs.FramesOfFactors.{are-covered, by_factors, components, have-factors}
 
 abbrev square : ℕ → Factors
-square n = record { identifier = 1; horizontal = n; vertical = n; quantization = 0 }
+square n = by_factors n n
 
 -- the components of a frame of this size with these factors
 abbrev pub squares : ℕ → ℕ → List ℕ → List Component
-squares width height factors = (frame_of 0 8 width height (map square factors)).components
+squares width height factors = components width height (map square factors)
 
 abbrev pub IsFactor : ℕ → Type 0
 IsFactor n = (1 ≤ n) × (n ≤ 4)
@@ -21,14 +20,9 @@ in-range factors all = All-map IsInRange square factors (λ k d lt.
     let p = all k d lt in record { horizontal_some = p.0; horizontal_most = p.1; vertical_some = p.0; vertical_most = p.1 })
 
 pub squares-have-factors : (width height : ℕ) (factors : List ℕ) (seen : List Component) → seen ≡ squares width height factors → All IsFactor factors → AllHaveFactors seen
-unfolding frame_of
-squares-have-factors width height factors seen is all =
-    let xs = map square factors in
-    subst AllHaveFactors (sym is) (all-in-range width height (greatest (λ f. f.horizontal) xs) (greatest (λ f. f.vertical) xs) xs (in-range factors all))
+squares-have-factors width height factors seen is all = have-factors width height (map square factors) seen is (in-range factors all)
 
 pub squares-are-covered : (width height : ℕ) (factors : List ℕ) (seen : List Component) (planes : List (List ℕ)) → seen ≡ squares width height factors → All IsFactor factors
     → 1 ≤ width → 1 ≤ height → HaveRoom (squares width height factors) planes
     → (sources : List Source) → sources_of seen width height ≡ Ok sources → AllCover sources planes width height
-squares-are-covered width height factors seen planes is all some_width some_height room sources found =
-    frames-are-covered 0 8 width height (map square factors) planes sources (in-range factors all) some_width some_height room
-    (subst (λ (l : List Component). sources_of l width height ≡ Ok sources) is found)
+squares-are-covered width height factors seen planes is all = are-covered width height (map square factors) seen planes is (in-range factors all)

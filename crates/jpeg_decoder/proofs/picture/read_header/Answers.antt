@@ -29,6 +29,8 @@ pub returns-clause-turns : goal.returns-clause-turns
 unfolding IsOfTurns
 returns-clause-turns g c k =
     let at = c.in_ok-read_start.ensures.1 k in
-    let read = c.read.ensures.turns at.0 in
-    (read.0, read.1 ∙ ap (λ (f : Found). told_within read.0 true Elsewhere f None c.read_start.new.source.bytes) c.requires
-    ∙ sym (turns-header read.0 c.args.source.now.bytes c.read_start.new.source.bytes at.1))
+    let read = c.read.ensures.turns at.0 in (
+      read.0,
+      read.1 ∙ ap (λ (f : Found). told_within read.0 true Elsewhere f None c.read_start.new.source.bytes) c.requires
+          ∙ sym (turns-header read.0 c.args.source.now.bytes c.read_start.new.source.bytes at.1),
+    )

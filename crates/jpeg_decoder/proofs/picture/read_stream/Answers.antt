@@ -20,6 +20,8 @@ pub returns-clause-turns : goal.returns-clause-turns
 unfolding IsOfTurns
 returns-clause-turns g c k =
     let at = c.in_ok-read_start.ensures.1 k in
-    let rest = c.read_rest.ensures.turns at.0 in
-    (rest.0, rest.1 ∙ ap (λ (f : Found). told_in_turns rest.0 false f c.read_start.new.source.bytes) c.requires
-    ∙ sym (turns-start rest.0 false c.args.source.now.bytes c.read_start.new.source.bytes at.1))
+    let rest = c.read_rest.ensures.turns at.0 in (
+      rest.0,
+      rest.1 ∙ ap (λ (f : Found). told_in_turns rest.0 false f c.read_start.new.source.bytes) c.requires
+          ∙ sym (turns-start rest.0 false c.args.source.now.bytes c.read_start.new.source.bytes at.1),
+    )
