@@ -78,8 +78,10 @@ fn picture(alloc: Global, planes: &[Vec<u8>]) -> Result<Vec<u8>>
 /// A number that tells pictures apart.
 fn mixed(total: u64, picture: &[u8]) -> u64 {
     let mut total = total;
-    for byte in picture.iter().step_by(997) {
-        total = total.wrapping_mul(31).wrapping_add(u64::from(*byte));
+    for piece in picture.chunks(997) {
+        if let Some(byte) = piece.first() {
+            total = total.wrapping_mul(31).wrapping_add(u64::from(*byte));
+        }
     }
     total
 }
