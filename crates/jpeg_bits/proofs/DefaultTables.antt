@@ -1,5 +1,5 @@
 -- The default tables have codes, and how places are filled.
-use Rattle.std.proofs.Common.{◌≡◌, ◌≤◌, Bool, ℕ, List, [], ◌∷◌, length, get_or, set, true, Option, Result, Ok, Err, MatchResult, inl, inr, ◌∙◌, ap, refl, arith}
+use Rattle.std.proofs.Common.{◌≡◌, ◌≤◌, Bool, ℕ, List, [], ◌∷◌, length, get_or, set, true, Option, inl, inr, ◌∙◌, ap, refl, arith}
 use Rattle.jpeg_bits.specs.Codes.{Table, HasCodes, RefusesCodes, code_lengths, code_value, codes_exist, lengths_from}
 use Rattle.jpeg_bits.specs.DefaultTables.{AreBetween, AreCodes, filled, names, with_defaults, luminance_ac, luminance_dc, chrominance_ac, chrominance_dc}
 use Rattle.jpeg_bits.specs.declared.error.Error.{Error}
@@ -95,7 +95,3 @@ all-done (w ∷ whole) (t ∷ ts) same = (inr refl, all-done whole ts (omega ari
 
 pub done : (l r : Table) (places : List ℕ) (ts : List (Option Table)) → AreBetween ts (with_defaults l r places ts) (with_defaults l r places ts)
 done l r places ts = all-done (with_defaults l r places ts) ts (same-length l r places ts)
-
-pub weaker : {T E : Type 0} (r : Result T E) (P P' : T → Type 0) (Q Q' : E → Type 0) → ((x : T) → P x → P' x) → ((e : E) → Q e → Q' e) → MatchResult r P Q → MatchResult r P' Q'
-weaker (Ok x) P P' Q Q' f g m = f x m
-weaker (Err e) P P' Q Q' f g m = g e m

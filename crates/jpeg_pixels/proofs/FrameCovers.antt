@@ -2,8 +2,7 @@
 use Rattle.std.proofs.Common.{◌≡◌, ◌≤◌, ◌<◌, ℕ, zero, suc, ◌+◌, ◌-◌, ◌*◌, ◌/◌, ◌%◌, List, [], ◌∷◌, length, map, Bool, true, false, Option, Some, None, Result, Ok, Err, All, refl, ap, sym, ◌∙◌, subst, arith}
 use Rattle.std.specs.Prelude.{◌==◌, ◌&&◌, ◌||◌, if◌then◌else◌}
 use Rattle.std.proofs.Math.Nat.{add-mul, div-add-mod, mod-lt, mul-add, mul_assoc, mul_comm, le-mul_of_pos_right, le_of_mul-le-mul_left, lt_of_mul-lt-mul_left, mul-le-mul_right}
-use Rattle.std.proofs.Math.Logic.{⊎_elim}
-use Rattle.std.proofs.lemmas.Bool.Decides.{eqb_tells}
+use Rattle.std.proofs.lemmas.Bool.{eqb-true}
 use Rattle.std.proofs.lemmas.List.Elements.{All-cons, All-head, All-nil, All-tail}
 use Rattle.jpeg_bits.specs.Reading.{Fault, ◌>>=◌}
 use Rattle.jpeg_segments.specs.Frame.{Component, Factors, IsInRange, ceiling, component_of, frame_of, greatest}
@@ -73,9 +72,6 @@ both : (a b : Bool) → (a && b) ≡ true → (a ≡ true) × (b ≡ true)
 both true b e = (refl, e)
 both false b e = absurd (cc)
 
-same : (a b : ℕ) → (a == b) ≡ true → a ≡ b
-same a b e = ⊎_elim (λ p. p.1) (λ p. absurd (cc)) (eqb_tells a b)
-
 abbrev as_chosen : UpsampleRule → Option UpsampleRule
 as_chosen rule = Some rule
 
@@ -91,15 +87,15 @@ chosen P false rule other rest first others e = others e
 -- the sample's outputs fit, where the component has the greatest factor or there is one output
 fits-1 : (h m width : ℕ) → 0 < h → h ≤ m → (h == m || width == 1) ≡ true → Fits 1 (ceiling (width * h) m) width
 fits-1 h m width some most = either (h == m) (width == 1)
-    (λ e. let p : h ≡ m = same h m e in fits-multiple h 1 m width some (omega arith) (omega (arith, p)))
-    (λ e. let p : width ≡ 1 = same width 1 e in subst (λ w. Fits 1 (ceiling (w * h) m) w) (sym p) (fits-one h m some most))
+    (λ e. let p : h ≡ m = eqb-true h m e in fits-multiple h 1 m width some (omega arith) (omega (arith, p)))
+    (λ e. let p : width ≡ 1 = eqb-true width 1 e in subst (λ w. Fits 1 (ceiling (w * h) m) w) (sym p) (fits-one h m some most))
 
 fits-2 : (h m width : ℕ) → 0 < h → (2 * h == m) ≡ true → Fits 2 (ceiling (width * h) m) width
-fits-2 h m width some e = let p : 2 * h ≡ m = same (2 * h) m e in fits-multiple h 2 m width some (omega arith) (sym p ∙ mul_comm 2 h)
+fits-2 h m width some e = let p : 2 * h ≡ m = eqb-true (2 * h) m e in fits-multiple h 2 m width some (omega arith) (sym p ∙ mul_comm 2 h)
 
 fits-generic : (h m width : ℕ) → 0 < h → h ≤ m → divides h m ≡ true → Fits (m / h) (ceiling (width * h) m) width
 fits-generic h m width some most e =
-    let none : m % h ≡ 0 = same (m % h) 0 e in
+    let none : m % h ≡ 0 = eqb-true (m % h) 0 e in
     let d : h * (m / h) + m % h ≡ m = div-add-mod m h in
     fits-multiple h (m / h) m width some (go (m / h) (omega (arith, d, none))) (omega (arith, d, none))
   where

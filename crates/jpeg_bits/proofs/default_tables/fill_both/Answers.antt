@@ -1,6 +1,6 @@
-use Rattle.std.proofs.lemmas.Result.{err_from_is_err_and}
+use Rattle.std.proofs.lemmas.Result.{MatchResult-weaker, err_from_is_err_and}
 use Rattle.jpeg_bits.specs.Codes.{Table}
-use Rattle.jpeg_bits.proofs.DefaultTables.{both-filled, first-refused, second-refused, weaker}
+use Rattle.jpeg_bits.proofs.DefaultTables.{both-filled, first-refused, second-refused}
 use Rattle.jpeg_bits.proofs.default_tables.fill_both.Goals as goal
 
 pub returns-in_err-fill : goal.returns-in_err-fill
@@ -13,7 +13,6 @@ pub returns : goal.returns
 returns c =
     let l : Table = record { class = c.args.class; counts = c.args.luminance_counts.now; symbols = c.args.luminance_symbols.now } in
     let r : Table = record { class = c.args.class; counts = c.args.chrominance_counts.now; symbols = c.args.chrominance_symbols.now } in
-    weaker c.fill-2.result _ _ _ _
+    MatchResult-weaker c.fill-2.result c.fill-2.ensures
     (λ x e. both-filled l r c.args.places.now c.args.tables.now c.names.result c.names-2.result _ _ c.fill.new.table c.fill-2.new.table c.requires.places c.names.ensures c.names-2.ensures c.in_ok-fill.ensures e)
     (λ x e. (e.0, second-refused l r c.args.places.now c.args.tables.now c.names.result c.names-2.result _ _ c.fill.new.table c.fill-2.new.table c.requires.places c.names.ensures c.names-2.ensures c.in_ok-fill.ensures e.1))
-    c.fill-2.ensures

@@ -1,8 +1,8 @@
 use Rattle.std.proofs.Common.{◌≡◌}
-use Rattle.std.proofs.lemmas.Result.{err_from_is_err_and}
+use Rattle.std.proofs.lemmas.Result.{MatchResult-weaker, err_from_is_err_and}
 use Rattle.jpeg_bits.specs.DefaultTables.{AreBetween, chrominance_ac, chrominance_dc, luminance_ac, luminance_dc, with_defaults}
 use Rattle.jpeg_bits.specs.declared.error.Error.TheVariants.{OutOfMemory}
-use Rattle.jpeg_bits.proofs.DefaultTables.{chrominance-ac-codes, chrominance-dc-codes, done, luminance-ac-codes, luminance-dc-codes, untouched, weaker}
+use Rattle.jpeg_bits.proofs.DefaultTables.{chrominance-ac-codes, chrominance-dc-codes, done, luminance-ac-codes, luminance-dc-codes, untouched}
 use Rattle.jpeg_bits.proofs.default_tables.fill_default_mjpeg_tables.Goals as goal
 
 pub fill_both-requires-clause-luminance : goal.fill_both-requires-clause-luminance
@@ -28,5 +28,5 @@ returns-clause-dc c =
     let whole = with_defaults luminance_dc chrominance_dc c.args.scan.now.dc_table_indices.items old in
     let shown : c.deref.result.now ≡ c.args.scan.now.dc_table_indices.items = c.deref.ensures.value in
     let filled : c.fill_both.new.tables ≡ whole = rw shown at c.in_ok-fill_both.ensures in
-    weaker c.fill_both-2.result _ (λ x. c.fill_both.new.tables ≡ whole) _ (λ e. (e ≡ OutOfMemory) × AreBetween old whole c.fill_both.new.tables)
-    (λ x e. filled) (λ x e. (e.0, rw filled (done luminance_dc chrominance_dc c.args.scan.now.dc_table_indices.items old))) c.fill_both-2.ensures
+    MatchResult-weaker c.fill_both-2.result {P' = λ x. c.fill_both.new.tables ≡ whole} {Q' = λ e. (e ≡ OutOfMemory) × AreBetween old whole c.fill_both.new.tables} c.fill_both-2.ensures
+    (λ x e. filled) (λ x e. (e.0, rw filled (done luminance_dc chrominance_dc c.args.scan.now.dc_table_indices.items old)))
