@@ -114,7 +114,7 @@ Takes view read a old (Ok x) b new =
 Takes view read a old (Err e) b new =
     MayFail e old.failed new.failed
     × (old.known ≡ true → new.known ≡ true → Names e (read (upcoming a old.bytes)))
-    × (old.known ≡ true → new.known ≡ false → IsGivenUp e)
+    × (old.known ≡ true → new.known ≡ false → IsGivenUp e new.failed)
 
 -- how many bits are held
 abbrev pub IsWithin : ℕ → Option DataEnd → Type 0

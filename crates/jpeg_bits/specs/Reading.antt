@@ -40,12 +40,12 @@ MayFail (errors.Internal text) old new = ⊥
 MayFail errors.OutOfMemory old new = new ≡ old
 
 -- why a source is known no more: a failed read, or interruptions without end, whose refusal has no text
-abbrev pub IsGivenUp : Error → Type 0
-IsGivenUp (errors.Io e) = Unit {0}
-IsGivenUp (errors.Format text) = string_bytes text ≡ []
-IsGivenUp (errors.Unsupported feature) = ⊥
-IsGivenUp (errors.Internal text) = ⊥
-IsGivenUp errors.OutOfMemory = ⊥
+abbrev pub IsGivenUp : Error → Bool → Type 0
+IsGivenUp (errors.Io e) failed = failed ≡ true
+IsGivenUp (errors.Format text) failed = string_bytes text ≡ []
+IsGivenUp (errors.Unsupported feature) failed = ⊥
+IsGivenUp (errors.Internal text) failed = ⊥
+IsGivenUp errors.OutOfMemory failed = ⊥
 
 -- known bytes are fewer than 2 ^ 64
 abbrev pub IsShort : Stream → Type 0
@@ -58,7 +58,7 @@ Answers view read old (Ok x) new =
 Answers view read old (Err e) new =
     MayFail e old.failed new.failed
     × (old.known ≡ true → new.known ≡ true → Names e (read old.bytes))
-    × (old.known ≡ true → new.known ≡ false → IsGivenUp e)
+    × (old.known ≡ true → new.known ≡ false → IsGivenUp e new.failed)
 
 abbrev pub next_byte : List ℕ → Outcome ℕ
 next_byte [] = Err End
@@ -84,7 +84,7 @@ abbrev pub ReadsSome : Stream → Result ℕ Error → List ℕ → Stream → T
 ReadsSome old (Ok n) buffer new =
     (n ≤ length buffer) × (new.failed ≡ old.failed)
     × (old.known ≡ true → (new.known ≡ true) × (old.bytes ≡ take n buffer ++ new.bytes) × (n ≡ 0 → 0 < length buffer → new.bytes ≡ []))
-ReadsSome old (Err e) buffer new = MayFail e old.failed new.failed × (old.known ≡ true → new.known ≡ true → ⊥) × (old.known ≡ true → new.known ≡ false → IsGivenUp e)
+ReadsSome old (Err e) buffer new = MayFail e old.failed new.failed × (old.known ≡ true → new.known ≡ true → ⊥) × (old.known ≡ true → new.known ≡ false → IsGivenUp e new.failed)
 
 -- the higher byte first
 unfoldable pub next_u16 : List ℕ → Outcome ℕ

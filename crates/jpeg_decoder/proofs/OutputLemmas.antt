@@ -29,14 +29,14 @@ not-some None e h = absurd (let n : ⊥ = search rules in n)
 not-some (Some x) e h = absurd (let n : ⊥ = cc in n)
 
 -- an error at a stream with a meaning is the reader's, or want of memory
-pub outside-decode : (known : Bool) (e : Error) (bytes : List ℕ) → (known ≡ true → Names e (meaning default_settings bytes)) → (known ≡ false → IsGivenUp e) → IsSome (output_of bytes) → IsOutsideOrMemory e
-outside-decode true (Format text) bytes r f s = not-some (output_of bytes) (output-none bytes Malformed (r refl)) s
-outside-decode true (Unsupported feature) bytes r f s = not-some (output_of bytes) (output-none bytes (Lacks feature) (r refl)) s
-outside-decode true (Io error) bytes r f s = tt
-outside-decode true (Internal text) bytes r f s = r refl
-outside-decode true OutOfMemory bytes r f s = tt
-outside-decode false (Format text) bytes r f s = f refl
-outside-decode false (Unsupported feature) bytes r f s = f refl
-outside-decode false (Io error) bytes r f s = tt
-outside-decode false (Internal text) bytes r f s = f refl
-outside-decode false OutOfMemory bytes r f s = tt
+pub outside-decode : (known failed : Bool) (e : Error) (bytes : List ℕ) → (known ≡ true → Names e (meaning default_settings bytes)) → (known ≡ false → IsGivenUp e failed) → IsSome (output_of bytes) → IsOutsideOrMemory e
+outside-decode true failed (Format text) bytes r f s = not-some (output_of bytes) (output-none bytes Malformed (r refl)) s
+outside-decode true failed (Unsupported feature) bytes r f s = not-some (output_of bytes) (output-none bytes (Lacks feature) (r refl)) s
+outside-decode true failed (Io error) bytes r f s = tt
+outside-decode true failed (Internal text) bytes r f s = r refl
+outside-decode true failed OutOfMemory bytes r f s = tt
+outside-decode false failed (Format text) bytes r f s = f refl
+outside-decode false failed (Unsupported feature) bytes r f s = f refl
+outside-decode false failed (Io error) bytes r f s = tt
+outside-decode false failed (Internal text) bytes r f s = f refl
+outside-decode false failed OutOfMemory bytes r f s = tt

@@ -49,7 +49,7 @@ table-found class counts old mid symbols (Err e) read made exist refused =
     let p = refused-names e (code_lengths counts) (Ok (record { class = class; counts = counts; symbols = symbols }, mid.bytes)) refused in (
       MayFail-format e old.failed mid.failed p.0 read.0,
       (λ k known. let by = (read.1 k).1 in rw by p.1),
-      λ k. still_known e (read.1 k).0,
+      λ k. still_known e _ (read.1 k).0,
     )
 
 pub tables_from-more : (most greatest left : ℕ) (tables : Tables) (bytes : List ℕ) → 17 < left → left ≤ most → tables_from most greatest left tables bytes ≡ (placed_codes_at greatest left bytes >>= λ (t : PlacedTable × List ℕ). tables_from (most - 1) greatest (left - size_of t.0) (with_table tables t.0) t.1)
@@ -80,5 +80,5 @@ pub Continues-refused : {X Y : Type 0} (view : X → Y) (whole rest : List ℕ �
 Continues-refused view whole rest old new e n h p = (
   MayFail-format e old.failed new.failed n p.0,
   (λ k known. names-malformed e (whole old.bytes) n ((p.1 k).1 ∙ h)),
-  λ k. still_known e (p.1 k).0,
+  λ k. still_known e _ (p.1 k).0,
 )

@@ -12,7 +12,7 @@ returns-in_err-pixels-clause-err g c bytes tells some =
     let known = known-told (g.R.Read.remaining c.args.reader) bytes tells in
     let same = bytes-told (g.R.Read.remaining c.args.reader) bytes tells in
     let here = reads tt in
-    rw (p.1, p.2) (outside-decode c.decode.new.self.source.known _ bytes (λ k. rw same at here.1 known k) (λ k. here.2 known k) some)
+    rw (p.1, p.2) (outside-decode c.decode.new.self.source.known _ _ bytes (λ k. rw same at here.1 known k) (λ k. here.2 known k) some)
 
 pub returns-clause-ok : goal.returns-clause-ok
 returns-clause-ok g c bytes tells =
