@@ -1,5 +1,5 @@
 -- Frame headers (T.81, B.2.2), and the sizes that they give (A.1.1, A.2).
-use Rattle.std.specs.Prelude.{ℕ, zero, suc, ◌≤◌, ◌+◌, ◌-◌, ◌*◌, ◌/◌, ◌%◌, max, List, [], ◌∷◌, ◌++◌, Bool, not, ◌&&◌, ◌||◌, Ok, Err, nat_lt, nat_le, ◌==◌, if◌then◌else◌, map}
+use Rattle.std.specs.Prelude.{ℕ, zero, suc, ◌≤◌, ◌+◌, ◌-◌, ◌*◌, ◌/◌, ◌%◌, max, List, [], ◌∷◌, ◌++◌, ◌≡◌, ◌<◌, All, Bool, not, ◌&&◌, ◌||◌, Ok, Err, nat_lt, nat_le, ◌==◌, if◌then◌else◌, map}
 use Rattle.std.specs.List.{list_any}
 use Rattle.jpeg_bits.specs.Reading.{Outcome, Malformed, Lacks, ◌>>=◌, next_byte, next_u16, length_at}
 use Rattle.jpeg_bits.specs.declared.error.UnsupportedFeature.TheVariants.{DNL}
@@ -195,3 +195,15 @@ pub record IsInRange (c : Factors) : Type 0 where
   pub horizontal_most : c.horizontal ≤ 4
   pub vertical_some : 1 ≤ c.vertical
   pub vertical_most : c.vertical ≤ 4
+
+-- A frame that a header gives, of a picture that has samples and of components whose factors are 1 to 4.
+pub record IsFrame (f : Frame) : Type 0 where
+  pub number : ℕ
+  pub precision : ℕ
+  pub width : ℕ
+  pub height : ℕ
+  pub factors : List Factors
+  pub in_range : All IsInRange factors
+  pub some_width : 0 < width
+  pub some_height : 0 < height
+  pub made : f ≡ frame_of number precision width height factors

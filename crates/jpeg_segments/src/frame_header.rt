@@ -4,7 +4,7 @@ ghost use Rattle.std.specs.Prelude.{◌==◌};
 ghost use Rattle.std.specs.List.{list_any};
 ghost use Rattle.jpeg_bits.specs.Reading.{Answers};
 ghost use Rattle.jpeg_bits.specs.declared.marker.Marker.TheVariants.{SOF};
-ghost use Rattle.jpeg_segments.specs.Frame.{AllHaveFactors, IsInRange, ceiling, component_of, components_from, factors_at, frame_of, greatest, head_at, is_count, is_lossless, is_place, is_precision, is_taken, parameters_at, process_of, coding_of, is_differential_number, size_at, sof_at};
+ghost use Rattle.jpeg_segments.specs.Frame.{AllHaveFactors, IsFrame, IsInRange, ceiling, component_of, components_from, factors_at, frame_of, greatest, head_at, is_count, is_lossless, is_place, is_precision, is_taken, parameters_at, process_of, coding_of, is_differential_number, size_at, sof_at};
 ghost use Rattle.jpeg_segments.specs.FrameView.{component_in, frame_in, factors_of};
 
 use crate::parser::{CodingProcess, Component, Dimensions, EntropyCoding, FrameInfo};
@@ -35,7 +35,8 @@ struct Factors {
 /// A height of 0 would be told by a later DNL segment.
 #[tactic(auto, unfolding(crate::specs::Frame::size_at))]
 fn read_size<R: Read + Drop>(alloc: Global, source: &mut Source<R>) -> Result<Dimensions>
-    ensures { Answers (λ d. (d.width, d.height)) size_at source.old result source.new }
+    ensures answers { Answers (λ d. (d.width, d.height)) size_at source.old result source.new }
+    ensures some { IfOk result (λ d. (0 < d.width) × (0 < d.height)) }
 {
     let height = read_u16_be(alloc, source)?;
     let width = read_u16_be(alloc, source)?;
@@ -93,8 +94,9 @@ fn is_count(number: u8, count: u8) -> bool
 
 #[tactic(auto, unfolding(crate::specs::Frame::head_at))]
 fn read_head<R: Read + Drop>(alloc: Global, source: &mut Source<R>, number: u8) -> Result<Head>
-    ensures { Answers (λ h. record { length = 6 + 3 * h.count; precision = h.precision; width = h.size.width; height = h.size.height; count = h.count })
+    ensures answers { Answers (λ h. record { length = 6 + 3 * h.count; precision = h.precision; width = h.size.width; height = h.size.height; count = h.count })
         (head_at number) source.old result source.new }
+    ensures some { IfOk result (λ h. (0 < h.size.width) × (0 < h.size.height)) }
 {
     let left = read_length(alloc, source)?;
     if left < 7 {
@@ -339,10 +341,13 @@ fn frame_of(
     head: Head,
     components: &[Factors],
 ) -> std::result::Result<FrameInfo, AllocError>
-    requires { All IsInRange (map factors_of components.now) }
+    requires factors { All IsInRange (map factors_of components.now) }
+    requires some_width { 0 < head.size.width }
+    requires some_height { 0 < head.size.height }
     ensures frame { IfOk result (λ f. frame_in f ≡
         frame_of number head.precision head.size.width head.size.height (map factors_of components.now)) }
     ensures factors { IfOk result (λ f. AllHaveFactors (map component_in f.components.items)) }
+    ensures made { IfOk result (λ f. IsFrame (frame_in f)) }
 {
     let (horizontal, vertical) = greatest_factors(components);
     Ok(FrameInfo {
@@ -370,6 +375,7 @@ fn read_frame<R: Read + Drop>(
 ) -> Result<FrameInfo>
     ensures answers { Answers frame_in (sof_at number) source.old result source.new }
     ensures factors { IfOk result (λ f. AllHaveFactors (map component_in f.components.items)) }
+    ensures made { IfOk result (λ f. IsFrame (frame_in f)) }
 {
     let head = read_head(alloc, source, number)?;
     let components = read_components(alloc, source, is_lossless(number), head.count)?;
@@ -388,6 +394,7 @@ pub fn parse_sof<R: Read + Drop>(
 ) -> Result<FrameInfo>
     ensures answers { (number : ℕ) → marker ≡ SOF number → Answers frame_in (sof_at number) reader.old result reader.new }
     ensures factors { IfOk result (λ f. AllHaveFactors (map component_in f.components.items)) }
+    ensures made { IfOk result (λ f. IsFrame (frame_in f)) }
 {
     match marker {
         Marker::SOF(number) => read_frame(alloc, reader, number),
