@@ -1,6 +1,6 @@
 //! The segments of a stream, read in turn (T.81, B.2).
 ghost use Rattle.jpeg_pixels.specs.Pictures.{sources_of};
-ghost use Rattle.std.specs.Prelude.{◌≡◌, ◌&&◌, true, is_some, None, Ok, MatchResult, OnErr, ◌≤◌, length, map, IsOk};
+ghost use Rattle.std.specs.Prelude.{◌≡◌, ◌&&◌, true, is_some, None, Ok, MatchResult, OnErr, IfOk, false, ◌≤◌, length, map, IsOk};
 ghost use Rattle.jpeg_bits.specs.Reading.{Answers, Names, IsShort};
 ghost use Rattle.jpeg_decoder.specs.Stream.{nothing_found, is_precision, is_arithmetic, is_sequential, accepted, frame_segment, quantization_segment, huffman_segment, restart_segment, application_segment, skipped_segment, scan_before, scan_segment, end_segment, stray_restart, line_count, segment_at, marker_or, turn_at, segments_at, told_at, told_within, IsOfTurns, is_decoded};
 ghost use Rattle.jpeg_decoder.specs.Scans.{grid_of};
@@ -79,6 +79,7 @@ impl State {
     ) -> Result<Step>
         ensures reads { Answers (turn_of self.new) (frame_segment number (found_in self.old)) source.old result source.new }
         ensures kept { OnErr result (found_in self.new ≡ found_in self.old) }
+        ensures onward { IfOk result (λ s. s.ended ≡ false) }
     {
         if self.frame.is_some() {
             return Err(Error::Unsupported(UnsupportedFeature::Hierarchical));
@@ -98,6 +99,7 @@ impl State {
     ) -> Result<Step>
         ensures reads { Answers (turn_of self.new) (quantization_segment (found_in self.old)) source.old result source.new }
         ensures kept { OnErr result (found_in self.new ≡ found_in self.old) }
+        ensures onward { IfOk result (λ s. s.ended ≡ false) }
     {
         let mut tables = parse_dqt(alloc, source)?;
         update(&mut self.quantization, &mut tables);
@@ -113,6 +115,7 @@ impl State {
     ) -> Result<Step>
         ensures reads { Answers (turn_of self.new) (huffman_segment (found_in self.old)) source.old result source.new }
         ensures kept { OnErr result (found_in self.new ≡ found_in self.old) }
+        ensures onward { IfOk result (λ s. s.ended ≡ false) }
     {
         let is_baseline = self.frame.as_ref().map(|frame| frame.is_baseline);
         let (mut dc_tables, mut ac_tables) = parse_dht(alloc, source, is_baseline)?;
@@ -130,6 +133,7 @@ impl State {
     ) -> Result<Step>
         ensures reads { Answers (turn_of self.new) (restart_segment (found_in self.old)) source.old result source.new }
         ensures kept { OnErr result (found_in self.new ≡ found_in self.old) }
+        ensures onward { IfOk result (λ s. s.ended ≡ false) }
     {
         self.restart_interval = parse_dri(alloc, source)?;
         Ok(ONWARD)
@@ -145,6 +149,7 @@ impl State {
     ) -> Result<Step>
         ensures reads { Answers (turn_of self.new) (application_segment number (found_in self.old)) source.old result source.new }
         ensures kept { OnErr result (found_in self.new ≡ found_in self.old) }
+        ensures onward { IfOk result (λ s. s.ended ≡ false) }
     {
         let said = parse_app(alloc, source, Marker::APP(number))?;
         self.metadata.add(said)?;
@@ -154,7 +159,8 @@ impl State {
     /// A segment that is passed over.
     #[tactic(auto, unfolding(crate::specs::Stream::skipped_segment))]
     fn skip_segment<R: Read + Drop>(&self, alloc: Global, source: &mut Source<R>) -> Result<Step>
-        ensures { Answers (turn_of self.now) (skipped_segment (found_in self.now)) source.old result source.new }
+        ensures reads { Answers (turn_of self.now) (skipped_segment (found_in self.now)) source.old result source.new }
+        ensures onward { IfOk result (λ s. s.ended ≡ false) }
     {
         let length = read_length(alloc, source)?;
         skip(alloc, source, length)?;
@@ -164,7 +170,8 @@ impl State {
     /// The end of the image, which needs a frame.
     #[tactic(auto, unfolding(crate::specs::Stream::end_segment))]
     fn end<R: Read + Drop>(&self, alloc: Global, source: &mut Source<R>) -> Result<Step>
-        ensures { Answers (turn_of self.now) (end_segment (found_in self.now)) source.old result source.new }
+        ensures reads { Answers (turn_of self.now) (end_segment (found_in self.now)) source.old result source.new }
+        ensures framed { IfOk result (λ _. is_some (found_in self.now).frame ≡ true) }
     {
         if self.frame.is_none() {
             return Err(format_error(alloc, "an end of image without a frame"));
@@ -263,6 +270,7 @@ impl State {
     fn read_scan<R: Read + Drop>(&mut self, alloc: Global, source: &mut Source<R>) -> Result<Step>
         ensures reads { Answers (turn_of self.new) (scan_segment (found_in self.old)) source.old result source.new }
         ensures kept { OnErr result (found_in self.new ≡ found_in self.old) }
+        ensures onward { IfOk result (λ s. s.ended ≡ false) }
     {
         let (plane, met) = self.read_whole_scan(alloc, source)?;
         let before = self.scan_before();
@@ -282,7 +290,8 @@ impl State {
         source: &mut Source<R>,
         before: Before,
     ) -> Result<Step>
-        ensures { Answers (turn_of self.now) (stray_restart before (found_in self.now)) source.old result source.new }
+        ensures reads { Answers (turn_of self.now) (stray_restart before (found_in self.now)) source.old result source.new }
+        ensures onward { IfOk result (λ s. s.ended ≡ false) }
     {
         match before {
             Before::FirstScan | Before::LaterScan => Ok(ONWARD),
@@ -301,6 +310,7 @@ impl State {
     ) -> Result<Step>
         ensures reads { Answers (turn_of self.new) (segment_at marker before (found_in self.old)) source.old result source.new }
         ensures kept { OnErr result (found_in self.new ≡ found_in self.old) }
+        ensures framed { IfOk result (λ s. s.ended ≡ true → is_some (found_in self.new).frame ≡ true) }
     {
         match marker {
             Marker::SOF(number) => self.read_frame(alloc, source, number),
@@ -331,6 +341,7 @@ impl State {
         ensures reads { Answers (turn_of self.new) (turn_at before (found_in self.old) met) source.old result source.new }
         ensures kept { OnErr result (found_in self.new ≡ found_in self.old) }
         ensures short { met ≡ None → IsShort source.old }
+        ensures framed { IfOk result (λ s. s.ended ≡ true → is_some (found_in self.new).frame ≡ true) }
     {
         let marker = marker_or_next(alloc, source, met)?;
         self.read_segment(alloc, source, marker, before)
@@ -353,6 +364,7 @@ impl State {
         ensures reads { Answers (λ _. found_in self.new) (segments_at header Elsewhere (found_in self.old) None) source.old result source.new }
         ensures told { OnTold source.old source.new result (found_in self.new ≡ told_at header Elsewhere (found_in self.old) None source.old.bytes) }
         ensures turns { source.old.known ≡ true → IsOfTurns (λ n. told_within n header Elsewhere (found_in self.old) None source.old.bytes) (found_in self.new) }
+        ensures framed { IfOk result (λ _. is_some (found_in self.new).frame ≡ true) }
     {
         let mut before = Before::Elsewhere;
         let mut met = None;
