@@ -1,5 +1,5 @@
 //! The decoder and its states.
-ghost use Rattle.std.specs.Prelude.{◌≡◌, if◌then◌else◌, IfOk, IfErr, MatchResult, option_map, Err, true, false};
+ghost use Rattle.std.specs.Prelude.{◌≡◌, if◌then◌else◌, IfOk, IfErr, MatchResult, option_map, is_some, Err, true, false};
 ghost use Rattle.jpeg_bits.specs.Reading.{Answers};
 ghost use Rattle.jpeg_bits.specs.Stream.{stream_of};
 ghost use Rattle.jpeg_bits.specs.declared.error.Error.TheVariants.{OutOfMemory};
@@ -119,8 +119,8 @@ pub struct Decoder<R: Read + Drop> {
 }
 
 impl<R: Read + Drop> Model for Decoder<R> {
-    ghost use Rattle.std.specs.Prelude.{◌≡◌};
-    ghost use Rattle.jpeg_decoder.specs.States.{Decoding, Fresh};
+    ghost use Rattle.std.specs.Prelude.{◌≡◌, is_some, true};
+    ghost use Rattle.jpeg_decoder.specs.States.{Decoding, Fresh, HasHeader};
     ghost use Rattle.jpeg_decoder.specs.Stream.{nothing_found};
     ghost use Rattle.jpeg_decoder.specs.Seen.{found_in, stage_of};
 
@@ -133,8 +133,8 @@ impl<R: Read + Drop> Model for Decoder<R> {
       settings = d.settings;
     } };
 
-    // A fresh decoder has found nothing.
-    ghost invariant = { λ d. stage_of d.progress ≡ Fresh → found_in d.state ≡ nothing_found };
+    // A fresh decoder has found nothing, and one whose header was read has a frame.
+    ghost invariant = { λ d. (stage_of d.progress ≡ Fresh → found_in d.state ≡ nothing_found) × (HasHeader (stage_of d.progress) → is_some (found_in d.state).frame ≡ true) };
 }
 
 impl<R: Read + Drop> Decoder<R> {
@@ -222,6 +222,7 @@ impl<R: Read + Drop> Decoder<R> {
         ensures turns { self.old.stage ≡ Fresh → self.old.source.known ≡ true → IsOfTurns (λ n. turns_ahead n true self.old.stage self.old.found self.old.source.bytes) self.new.found }
         ensures settings { self.new.settings ≡ self.old.settings }
         ensures still { (self.old.stage ≡ Fresh → ⊥) → self.new ≡ self.old }
+        ensures framed { IfOk result (λ _. is_some self.new.found.frame ≡ true) }
     {
         let result = match self.progress {
             Progress::Fresh => read_header(self.alloc, &mut self.source, &mut self.state),
@@ -244,6 +245,7 @@ impl<R: Read + Drop> Decoder<R> {
         ensures turns { IsReading self.old.stage → self.old.source.known ≡ true → IsOfTurns (λ n. turns_ahead n false self.old.stage self.old.found self.old.source.bytes) self.new.found }
         ensures settings { self.new.settings ≡ self.old.settings }
         ensures still { (IsReading self.old.stage → ⊥) → self.new ≡ self.old }
+        ensures framed { IfOk result (λ _. is_some self.new.found.frame ≡ true) }
     {
         let result = match self.progress {
             Progress::Fresh => read_stream(

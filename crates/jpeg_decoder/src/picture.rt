@@ -1,5 +1,5 @@
 //! A stream from its start to its picture (T.81, B.2).
-ghost use Rattle.std.specs.Prelude.{◌≡◌, ◌*◌, true, false, MatchResult, not, nat_lt};
+ghost use Rattle.std.specs.Prelude.{◌≡◌, ◌*◌, true, false, MatchResult, IfOk, is_some, not, nat_lt};
 ghost use Rattle.jpeg_bits.specs.Reading.{Answers, Names, NamesFormat};
 ghost use Rattle.jpeg_decoder.specs.Stream.{nothing_found, start_at, header_at, without_planes, picture_of, rest_at, meaning, told_rest, told_by_stream, told_in_turns, told_by_turns, IsOfTurns};
 ghost use Rattle.jpeg_decoder.specs.States.{OnTold};
@@ -115,6 +115,7 @@ pub fn read_header<R: Read + Drop>(
     ensures reads { Answers (λ _. found_in state.new) header_at source.old result source.new }
     ensures told { OnTold source.old source.new result (found_in state.new ≡ told_by_stream true source.old.bytes) }
     ensures turns { source.old.known ≡ true → IsOfTurns (λ n. told_by_turns n true source.old.bytes) (found_in state.new) }
+    ensures framed { IfOk result (λ _. is_some (found_in state.new).frame ≡ true) }
 {
     read_start(alloc, source)?;
     state.read(alloc, source, true)
@@ -131,6 +132,7 @@ fn read_picture<R: Read + Drop>(
     ensures reads { Answers (λ v. (without_planes (found_in state.new), v.items)) (rest_at settings (found_in state.old)) source.old result source.new }
     ensures told { OnTold source.old source.new result (without_planes (found_in state.new) ≡ told_rest false (found_in state.old) source.old.bytes) }
     ensures turns { source.old.known ≡ true → IsOfTurns (λ n. told_in_turns n false (found_in state.old) source.old.bytes) (without_planes (found_in state.new)) }
+    ensures framed { IfOk result (λ _. is_some (found_in state.new).frame ≡ true) }
 {
     state.read(alloc, source, false)?;
     picture(alloc, state, settings)
@@ -146,6 +148,7 @@ pub fn read_rest<R: Read + Drop>(
     ensures reads { Answers (λ v. (found_in state.new, v.items)) (rest_at settings (found_in state.old)) source.old result source.new }
     ensures told { OnTold source.old source.new result (found_in state.new ≡ told_rest false (found_in state.old) source.old.bytes) }
     ensures turns { source.old.known ≡ true → IsOfTurns (λ n. told_in_turns n false (found_in state.old) source.old.bytes) (found_in state.new) }
+    ensures framed { IfOk result (λ _. is_some (found_in state.new).frame ≡ true) }
 {
     let result = read_picture(alloc, source, state, settings);
     state.planes = [None, None, None, None];
@@ -164,6 +167,7 @@ pub fn read_stream<R: Read + Drop>(
     ensures reads { Answers (λ v. (found_in state.new, v.items)) (meaning settings) source.old result source.new }
     ensures told { OnTold source.old source.new result (found_in state.new ≡ told_by_stream false source.old.bytes) }
     ensures turns { source.old.known ≡ true → IsOfTurns (λ n. told_by_turns n false source.old.bytes) (found_in state.new) }
+    ensures framed { IfOk result (λ _. is_some (found_in state.new).frame ≡ true) }
 {
     read_start(alloc, source)?;
     read_rest(alloc, source, state, settings)
