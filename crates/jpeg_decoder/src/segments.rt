@@ -80,6 +80,7 @@ impl State {
         ensures reads { Answers (turn_of self.new) (frame_segment number (found_in self.old)) source.old result source.new }
         ensures kept { OnErr result (found_in self.new ≡ found_in self.old) }
         ensures onward { IfOk result (λ s. s.ended ≡ false) }
+        ensures stays { is_some (found_in self.old).frame ≡ true → (found_in self.new).frame ≡ (found_in self.old).frame }
     {
         if self.frame.is_some() {
             return Err(Error::Unsupported(UnsupportedFeature::Hierarchical));
@@ -100,6 +101,7 @@ impl State {
         ensures reads { Answers (turn_of self.new) (quantization_segment (found_in self.old)) source.old result source.new }
         ensures kept { OnErr result (found_in self.new ≡ found_in self.old) }
         ensures onward { IfOk result (λ s. s.ended ≡ false) }
+        ensures stays { is_some (found_in self.old).frame ≡ true → (found_in self.new).frame ≡ (found_in self.old).frame }
     {
         let mut tables = parse_dqt(alloc, source)?;
         update(&mut self.quantization, &mut tables);
@@ -116,6 +118,7 @@ impl State {
         ensures reads { Answers (turn_of self.new) (huffman_segment (found_in self.old)) source.old result source.new }
         ensures kept { OnErr result (found_in self.new ≡ found_in self.old) }
         ensures onward { IfOk result (λ s. s.ended ≡ false) }
+        ensures stays { is_some (found_in self.old).frame ≡ true → (found_in self.new).frame ≡ (found_in self.old).frame }
     {
         let is_baseline = self.frame.as_ref().map(|frame| frame.is_baseline);
         let (mut dc_tables, mut ac_tables) = parse_dht(alloc, source, is_baseline)?;
@@ -134,6 +137,7 @@ impl State {
         ensures reads { Answers (turn_of self.new) (restart_segment (found_in self.old)) source.old result source.new }
         ensures kept { OnErr result (found_in self.new ≡ found_in self.old) }
         ensures onward { IfOk result (λ s. s.ended ≡ false) }
+        ensures stays { is_some (found_in self.old).frame ≡ true → (found_in self.new).frame ≡ (found_in self.old).frame }
     {
         self.restart_interval = parse_dri(alloc, source)?;
         Ok(ONWARD)
@@ -150,6 +154,7 @@ impl State {
         ensures reads { Answers (turn_of self.new) (application_segment number (found_in self.old)) source.old result source.new }
         ensures kept { OnErr result (found_in self.new ≡ found_in self.old) }
         ensures onward { IfOk result (λ s. s.ended ≡ false) }
+        ensures stays { is_some (found_in self.old).frame ≡ true → (found_in self.new).frame ≡ (found_in self.old).frame }
     {
         let said = parse_app(alloc, source, Marker::APP(number))?;
         self.metadata.add(said)?;
@@ -271,6 +276,7 @@ impl State {
         ensures reads { Answers (turn_of self.new) (scan_segment (found_in self.old)) source.old result source.new }
         ensures kept { OnErr result (found_in self.new ≡ found_in self.old) }
         ensures onward { IfOk result (λ s. s.ended ≡ false) }
+        ensures stays { is_some (found_in self.old).frame ≡ true → (found_in self.new).frame ≡ (found_in self.old).frame }
     {
         let (plane, met) = self.read_whole_scan(alloc, source)?;
         let before = self.scan_before();
@@ -311,6 +317,7 @@ impl State {
         ensures reads { Answers (turn_of self.new) (segment_at marker before (found_in self.old)) source.old result source.new }
         ensures kept { OnErr result (found_in self.new ≡ found_in self.old) }
         ensures framed { IfOk result (λ s. s.ended ≡ true → is_some (found_in self.new).frame ≡ true) }
+        ensures stays { is_some (found_in self.old).frame ≡ true → (found_in self.new).frame ≡ (found_in self.old).frame }
     {
         match marker {
             Marker::SOF(number) => self.read_frame(alloc, source, number),
@@ -342,6 +349,7 @@ impl State {
         ensures kept { OnErr result (found_in self.new ≡ found_in self.old) }
         ensures short { met ≡ None → IsShort source.old }
         ensures framed { IfOk result (λ s. s.ended ≡ true → is_some (found_in self.new).frame ≡ true) }
+        ensures stays { is_some (found_in self.old).frame ≡ true → (found_in self.new).frame ≡ (found_in self.old).frame }
     {
         let marker = marker_or_next(alloc, source, met)?;
         self.read_segment(alloc, source, marker, before)
@@ -365,6 +373,7 @@ impl State {
         ensures told { OnTold source.old source.new result (found_in self.new ≡ told_at header Elsewhere (found_in self.old) None source.old.bytes) }
         ensures turns { source.old.known ≡ true → IsOfTurns (λ n. told_within n header Elsewhere (found_in self.old) None source.old.bytes) (found_in self.new) }
         ensures framed { IfOk result (λ _. is_some (found_in self.new).frame ≡ true) }
+        ensures stays { is_some (found_in self.old).frame ≡ true → (found_in self.new).frame ≡ (found_in self.old).frame }
     {
         let mut before = Before::Elsewhere;
         let mut met = None;

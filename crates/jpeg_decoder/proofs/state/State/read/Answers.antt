@@ -1,10 +1,12 @@
-use Rattle.std.proofs.Common.{◌≡◌, ◌∙◌, ◌+◌, ◌<◌, ◌^◌, suc, true, None, sym, ap, arith, length}
+use Rattle.std.proofs.Common.{is_some, Option, ◌≡◌, ◌∙◌, ◌+◌, ◌<◌, ◌^◌, suc, true, None, sym, ap, arith, length}
 use Rattle.std.proofs.lemmas.Result.{err_from_is_err_and}
 use Rattle.jpeg_bits.proofs.Loops.{Continues-err}
 use Rattle.jpeg_decoder.specs.declared.segments.Before.TheVariants.{Elsewhere}
 use Rattle.jpeg_decoder.specs.declared.segments.Step.{Step}
 use Rattle.jpeg_decoder.specs.Stream.{IsOfTurns, turn_at, segments_at, told_within}
 use Rattle.jpeg_decoder.specs.Seen.{found_in}
+use Rattle.jpeg_segments.specs.Frame.{Frame}
+use Rattle.jpeg_decoder.specs.declared.state.State.{State}
 use Rattle.jpeg_decoder.specs.Steps.{turn_of}
 use Rattle.jpeg_decoder.proofs.Refusals.{short-step, told-err, never-met}
 use Rattle.jpeg_decoder.proofs.Turns.{segments-stop, segments-refused, segments-end, segments-next, told-stop, told-refused, told-end, told-next, turn-takes, within-end, within-next, within-none}
@@ -72,6 +74,25 @@ returns-then-step-clause-told g c k =
     let there = c.in_ok-step.ensures.reads.1 here.0 in
     sym (c.loop.invariant.told k ∙ told-end c.args.header c.loop.before (found_in c.loop.self) c.loop.met c.loop.source.bytes c.read_turn.new.source.bytes (turn_of c.read_turn.new.self c.in_ok-step.step) (sym c.if-is_read_for.ensures) c.if-step.true there.1)
 
+stays-on : (mid new old : State) → (found_in mid).frame ≡ (found_in old).frame → (is_some (found_in mid).frame ≡ true → (found_in new).frame ≡ (found_in mid).frame) → is_some (found_in old).frame ≡ true → (found_in new).frame ≡ (found_in old).frame
+stays-on mid new old a step h = step (ap (λ (f : Option Frame). is_some f) a ∙ h) ∙ a
+
+pub returns-then-is_read_for-clause-stays : goal.returns-then-is_read_for-clause-stays
+returns-then-is_read_for-clause-stays g c = c.loop.invariant.stays
+
+pub returns-in_err-step-clause-stays : goal.returns-in_err-step-clause-stays
+returns-in_err-step-clause-stays g c h = stays-on c.loop.self c.read_turn.new.self c.args.self.now (c.loop.invariant.stays h) c.in_err-step.ensures.stays h
+
+pub returns-then-step-clause-stays : goal.returns-then-step-clause-stays
+returns-then-step-clause-stays g c h = stays-on c.loop.self c.read_turn.new.self c.args.self.now (c.loop.invariant.stays h) c.in_ok-step.ensures.stays h
+
+pub returns-clause-stays : goal.returns-clause-stays
+returns-clause-stays g c h =
+    elim c.loop-test.branch [
+      | else-loop-test w ↦ rw w.self-is (c.loop.invariant.stays h)
+      | then-loop-test+else-is_read_for+in_ok-step+else-step+else-counter-lt18446744073709551615 w ↦ rw w.self-is (stays-on c.loop.self w.read_turn.new.self c.args.self.now (c.loop.invariant.stays h) w.in_ok-step.ensures.stays h)
+    ]
+
 pub loop-preserved : goal.loop-preserved
 loop-preserved g c =
     let found = found_in c.loop.self in
@@ -105,6 +126,7 @@ loop-preserved g c =
           let less = (turn-takes c.loop.before found c.loop.met c.loop.source.bytes (turn, c.read_turn.new.source.bytes) (c.loop.invariant.none k) there.1 c.if-step.false).0 in
           omega (arith, c.loop.invariant.took k, less);
       short = λ _. short-step c.loop.counter c.loop.met c.loop.source c.args.source.now c.loop.invariant.short c.loop.invariant.first c.in_ok-step.ensures.short;
+      stays = λ h. stays-on c.loop.self c.read_turn.new.self c.args.self.now (c.loop.invariant.stays h) c.in_ok-step.ensures.stays h;
       first = λ e. absurd (omega arith);
     }
 

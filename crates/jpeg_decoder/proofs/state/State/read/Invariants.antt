@@ -1,4 +1,4 @@
-use Rattle.std.proofs.Common.{◌≡◌, ℕ, ◌+◌, ◌<◌, true, false, None}
+use Rattle.std.proofs.Common.{◌≡◌, ℕ, ◌+◌, ◌<◌, true, false, None, is_some}
 use Rattle.jpeg_bits.specs.Reading.{IsShort}
 use Rattle.jpeg_bits.proofs.Loops.{Continues, Took}
 use Rattle.jpeg_decoder.specs.declared.segments.Before.TheVariants.{Elsewhere}
@@ -15,5 +15,6 @@ invariant-loop g l = record {
   none : l.fn.source.known ≡ true → is_restart l.met ≡ false;
   took : Took l.fn.source l.counter l.source;
   short : 0 < l.counter → IsShort l.fn.source;
+  stays : is_some (found_in l.fn.self).frame ≡ true → (found_in l.self).frame ≡ (found_in l.fn.self).frame;
   first : l.counter ≡ 0 → (l.met ≡ None) × (l.source ≡ l.fn.source);
 }
