@@ -4,7 +4,7 @@ ghost use Rattle.jpeg_bits.specs.Reading.{Answers};
 ghost use Rattle.jpeg_bits.specs.Stream.{stream_of};
 ghost use Rattle.jpeg_bits.specs.declared.error.Error.TheVariants.{OutOfMemory};
 ghost use Rattle.jpeg_decoder.specs.Stream.{nothing_found, header_at, IsOfTurns};
-ghost use Rattle.jpeg_decoder.specs.States.{Decoding, MovesToHeader, MovesToEnd, IsReading, ahead, told_ahead, turns_ahead, OnTold, Fresh};
+ghost use Rattle.jpeg_decoder.specs.States.{Decoding, MovesToHeader, MovesToEnd, IsReading, ahead, told_ahead, turns_ahead, OnTold, Fresh, HeaderRead};
 ghost use Rattle.jpeg_decoder.specs.Seen.{format_of, info_of};
 ghost use Rattle.jpeg_decoder.specs.declared.decoder.Progress.TheVariants.{Failed};
 ghost use Rattle.jpeg_segments.specs.FrameView.{frame_in};
@@ -245,6 +245,7 @@ impl<R: Read + Drop> Decoder<R> {
         ensures turns { IsReading self.old.stage → self.old.source.known ≡ true → IsOfTurns (λ n. turns_ahead n false self.old.stage self.old.found self.old.source.bytes) self.new.found }
         ensures settings { self.new.settings ≡ self.old.settings }
         ensures still { (IsReading self.old.stage → ⊥) → self.new ≡ self.old }
+        ensures stays { self.old.stage ≡ HeaderRead → self.new.found.frame ≡ self.old.found.frame }
         ensures framed { IfOk result (λ _. is_some self.new.found.frame ≡ true) }
     {
         let result = match self.progress {

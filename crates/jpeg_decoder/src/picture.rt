@@ -133,6 +133,7 @@ fn read_picture<R: Read + Drop>(
     ensures told { OnTold source.old source.new result (without_planes (found_in state.new) ≡ told_rest false (found_in state.old) source.old.bytes) }
     ensures turns { source.old.known ≡ true → IsOfTurns (λ n. told_in_turns n false (found_in state.old) source.old.bytes) (without_planes (found_in state.new)) }
     ensures framed { IfOk result (λ _. is_some (found_in state.new).frame ≡ true) }
+    ensures stays { is_some (found_in state.old).frame ≡ true → (found_in state.new).frame ≡ (found_in state.old).frame }
 {
     state.read(alloc, source, false)?;
     picture(alloc, state, settings)
@@ -149,6 +150,7 @@ pub fn read_rest<R: Read + Drop>(
     ensures told { OnTold source.old source.new result (found_in state.new ≡ told_rest false (found_in state.old) source.old.bytes) }
     ensures turns { source.old.known ≡ true → IsOfTurns (λ n. told_in_turns n false (found_in state.old) source.old.bytes) (found_in state.new) }
     ensures framed { IfOk result (λ _. is_some (found_in state.new).frame ≡ true) }
+    ensures stays { is_some (found_in state.old).frame ≡ true → (found_in state.new).frame ≡ (found_in state.old).frame }
 {
     let result = read_picture(alloc, source, state, settings);
     state.planes = [None, None, None, None];
