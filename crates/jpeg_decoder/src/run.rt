@@ -1,5 +1,6 @@
 //! The program's engine: a stream from a reader, its picture to a writer, and what a refusal tells.
 ghost use Rattle.std.specs.Prelude.{◌≡◌, ◌++◌, ℕ, List, Some, None, option_map, Err, IsSome, IsSomeAnd, OnOk, OnErr, IfErr, IfOk, IsErr, string_bytes};
+ghost use Rattle.jpeg_decoder.specs.States.{IsOfBytes};
 ghost use Rattle.std.specs.Io.KnownBytes.{Appends, Keeps};
 ghost use Rattle.jpeg_bits.specs.declared.error.Error.TheVariants.{OutOfMemory};
 ghost use Rattle.jpeg_decoder.specs.Output.{output_of, line_of, name_of, Tells, TakesBeginning, IsOutside, IsOutsideOrMemory};
@@ -88,6 +89,7 @@ fn line_and_pixels<R: Read + Drop>(alloc: Global, reader: R) -> Result<(String, 
         → IfOk result (λ made. output_of bytes ≡ Some (string_bytes made.0 ++ made.1.items)) }
     ensures err { (bytes : List ℕ) → Tells (R.remaining reader) bytes
         → IsSome (output_of bytes) → IfErr result IsOutsideOrMemory }
+    ensures own { IfErr result IsOfBytes }
 {
     let mut decoder = Decoder::new(alloc, reader)?;
     let pixels = decoder.decode()?;
@@ -116,6 +118,9 @@ pub fn run<R: Read + Drop, W: Write>(alloc: Global, reader: R, writer: &mut W) -
 
     // Want of memory comes before anything is written.
     ensures memory { result ≡ Err OutOfMemory → Keeps (W.contents writer.old) (W.contents writer.new) }
+
+    // No error is one of a decoder's state.
+    ensures own { IfErr result IsOfBytes }
 {
     let (line, pixels) = line_and_pixels(alloc, reader)?;
     write_both(alloc, writer, line.as_bytes(), pixels.as_slice())
