@@ -1,5 +1,5 @@
 -- What is written for a stream, by its meaning.
-use Rattle.std.proofs.Common.{◌≡◌, ◌^◌, ℕ, List, ◌++◌, Bool, true, false, length, option_map, Option, None, Some, Ok, Err, refl, IsSome, rules}
+use Rattle.std.proofs.Common.{◌≡◌, ◌^◌, ℕ, List, ◌++◌, Bool, true, false, length, option_map, Option, None, Some, Ok, Err, refl, IsSome, rules, inl, inr}
 use Rattle.std.proofs.lemmas.Bool.{lt-ltb}
 use Rattle.jpeg_bits.specs.declared.error.Error.{Error}
 use Rattle.jpeg_bits.specs.declared.error.Error.TheVariants.{Format, Unsupported, Io, Internal, OutOfMemory}
@@ -7,7 +7,7 @@ use Rattle.jpeg_bits.specs.Reading.{Fault, Malformed, Lacks, Names, IsGivenUp}
 use Rattle.jpeg_bits.specs.Stream.{stream_of}
 use Rattle.jpeg_decoder.specs.Seen.{info_of}
 use Rattle.jpeg_decoder.specs.Stream.{Found, meaning}
-use Rattle.jpeg_decoder.specs.Output.{output_of, line_of, default_settings, IsOutsideOrMemory, Tells}
+use Rattle.jpeg_decoder.specs.Output.{output_of, line_of, default_settings, IsOutsideOrMemory, NamesOrOutside, Tells}
 
 -- a new source of a reader that tells its bytes is known
 pub known-told : (remaining : Option (List ℕ)) (bytes : List ℕ) → Tells remaining bytes → (stream_of remaining false false).known ≡ true
@@ -40,3 +40,12 @@ outside-decode false failed (Unsupported feature) bytes r f s = f refl
 outside-decode false failed (Io error) bytes r f s = tt
 outside-decode false failed (Internal text) bytes r f s = f refl
 outside-decode false failed OutOfMemory bytes r f s = tt
+
+-- an error names the stream's fault, or is the reader's, or want of memory
+pub named-decode : (known failed : Bool) (e : Error) (bytes : List ℕ) → (known ≡ true → Names e (meaning default_settings bytes)) → (known ≡ false → IsGivenUp e failed) → NamesOrOutside bytes e
+named-decode true failed e bytes r f = inl (r refl)
+named-decode false failed (Format text) bytes r f = inr (f refl)
+named-decode false failed (Unsupported feature) bytes r f = inr (f refl)
+named-decode false failed (Io error) bytes r f = inr tt
+named-decode false failed (Internal text) bytes r f = inr (f refl)
+named-decode false failed OutOfMemory bytes r f = inr tt

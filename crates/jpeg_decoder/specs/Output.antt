@@ -1,7 +1,8 @@
 -- What the program writes for a stream.
-use Rattle.std.specs.Prelude.{◌≡◌, ◌<◌, ◌^◌, ℕ, List, [], ◌∷◌, ◌++◌, Ok, Err, Option, Some, None, option_map, codes, length, string_bytes}
+use Rattle.std.specs.Prelude.{◌≡◌, ◌<◌, ◌^◌, ℕ, List, [], ◌∷◌, ◌++◌, ◌⊎◌, Ok, Err, Option, Some, None, option_map, codes, length, string_bytes}
 use Rattle.std.specs.Fmt.{decimal}
 use Rattle.std.specs.Io.KnownBytes.{Appends}
+use Rattle.jpeg_bits.specs.Reading.{Names}
 use Rattle.jpeg_bits.specs.declared.error.Error.{Error}
 use Rattle.jpeg_bits.specs.declared.error.Error.TheVariants.{Format, Unsupported, Io, Internal, OutOfMemory}
 use Rattle.jpeg_decoder.specs.declared.state.Settings.{Settings}
@@ -49,6 +50,10 @@ IsOutsideOrMemory (Format text) = string_bytes text ≡ []
 IsOutsideOrMemory OutOfMemory = Unit {0}
 IsOutsideOrMemory (Unsupported feature) = ⊥
 IsOutsideOrMemory (Internal text) = ⊥
+
+-- the fault of these bytes by its name, or an error of the reader or the writer, or want of memory
+abbrev pub NamesOrOutside : List ℕ → Error → Type 0
+NamesOrOutside bytes e = Names e (meaning default_settings bytes) ⊎ IsOutsideOrMemory e
 
 -- a reader tells these bytes, fewer than 2^64
 pub record Tells (remaining : Option (List ℕ)) (bytes : List ℕ) : Type 0 where

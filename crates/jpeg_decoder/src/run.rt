@@ -3,7 +3,7 @@ ghost use Rattle.std.specs.Prelude.{◌≡◌, ◌++◌, ℕ, List, Some, None, 
 ghost use Rattle.jpeg_decoder.specs.States.{IsOfBytes};
 ghost use Rattle.std.specs.Io.KnownBytes.{Appends, Keeps};
 ghost use Rattle.jpeg_bits.specs.declared.error.Error.TheVariants.{OutOfMemory};
-ghost use Rattle.jpeg_decoder.specs.Output.{output_of, line_of, name_of, Tells, TakesBeginning, IsOutside, IsOutsideOrMemory};
+ghost use Rattle.jpeg_decoder.specs.Output.{output_of, line_of, name_of, Tells, TakesBeginning, IsOutside, IsOutsideOrMemory, NamesOrOutside};
 
 use crate::decoder::{Decoder, ImageInfo, PixelFormat};
 use jpeg_bits::error::{Error, Result};
@@ -89,6 +89,7 @@ fn line_and_pixels<R: Read + Drop>(alloc: Global, reader: R) -> Result<(String, 
         → IfOk result (λ made. output_of bytes ≡ Some (string_bytes made.0 ++ made.1.items)) }
     ensures err { (bytes : List ℕ) → Tells (R.remaining reader) bytes
         → IsSome (output_of bytes) → IfErr result IsOutsideOrMemory }
+    ensures named { (bytes : List ℕ) → Tells (R.remaining reader) bytes → IfErr result (NamesOrOutside bytes) }
     ensures own { IfErr result IsOfBytes }
 {
     let mut decoder = Decoder::new(alloc, reader)?;
@@ -115,6 +116,9 @@ pub fn run<R: Read + Drop, W: Write>(alloc: Global, reader: R, writer: &mut W) -
     // A stream with a meaning is refused by the reader, the writer or want of memory alone.
     ensures refused { (bytes : List ℕ) → Tells (R.remaining reader) bytes
         → IsSome (output_of bytes) → IfErr result IsOutsideOrMemory }
+
+    // Any other refusal names the stream's fault.
+    ensures named { (bytes : List ℕ) → Tells (R.remaining reader) bytes → IfErr result (NamesOrOutside bytes) }
 
     // Want of memory comes before anything is written.
     ensures memory { result ≡ Err OutOfMemory → Keeps (W.contents writer.old) (W.contents writer.new) }
