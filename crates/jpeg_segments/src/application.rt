@@ -1,6 +1,6 @@
 //! Segments of applications, comments, and restart intervals.
-ghost use Rattle.std.specs.Prelude.{◌≡◌, ◌≤◌, ℕ, None, Some, IfOk, drop, length, option_map};
-ghost use Rattle.jpeg_bits.specs.Reading.{Answers};
+ghost use Rattle.std.specs.Prelude.{◌≡◌, ◌≤◌, ℕ, None, Some, IfOk, IsErrAnd, drop, length, option_map};
+ghost use Rattle.jpeg_bits.specs.Reading.{Answers, NamesFormat};
 ghost use Rattle.jpeg_bits.specs.declared.marker.Marker.TheVariants.{APP};
 ghost use Rattle.jpeg_segments.specs.Application.{Adobe, app_at, com_at, dri_at, payload_at, application_0, application_1, application_2, application_13, application_14, application_by, transform_by, passed_over, adobe_at};
 ghost use Rattle.jpeg_segments.specs.FrameView.{application_in};
@@ -229,7 +229,8 @@ pub fn parse_app<R: Read + Drop>(
     reader: &mut Source<R>,
     marker: Marker,
 ) -> Result<Option<AppData>>
-    ensures { (number : ℕ) → marker ≡ APP number → Answers (option_map application_in) (app_at number) reader.old result reader.new }
+    ensures answers { (number : ℕ) → marker ≡ APP number → Answers (option_map application_in) (app_at number) reader.old result reader.new }
+    ensures others { ((number : ℕ) → marker ≡ APP number → ⊥) → IsErrAnd result NamesFormat × (reader.new ≡ reader.old) }
 {
     match marker {
         Marker::APP(number) => read_application(alloc, reader, number),

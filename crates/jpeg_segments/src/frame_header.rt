@@ -1,8 +1,8 @@
 //! Frame headers.
-ghost use Rattle.std.specs.Prelude.{◌≡◌, ◌≤◌, ◌<◌, ◌+◌, ◌*◌, ◌-◌, ◌^◌, ℕ, IfOk, All, [], ◌∷◌, map, max};
+ghost use Rattle.std.specs.Prelude.{◌≡◌, ◌≤◌, ◌<◌, ◌+◌, ◌*◌, ◌-◌, ◌^◌, ℕ, IfOk, IsErrAnd, All, [], ◌∷◌, map, max};
 ghost use Rattle.std.specs.Prelude.{◌==◌};
 ghost use Rattle.std.specs.List.{list_any};
-ghost use Rattle.jpeg_bits.specs.Reading.{Answers};
+ghost use Rattle.jpeg_bits.specs.Reading.{Answers, NamesFormat};
 ghost use Rattle.jpeg_bits.specs.declared.marker.Marker.TheVariants.{SOF};
 ghost use Rattle.jpeg_segments.specs.Frame.{AllHaveFactors, IsFrame, IsInRange, ceiling, component_of, components_from, factors_at, frame_of, greatest, head_at, is_count, is_lossless, is_place, is_precision, is_taken, parameters_at, process_of, coding_of, is_differential_number, size_at, sof_at};
 ghost use Rattle.jpeg_segments.specs.FrameView.{component_in, frame_in, factors_of};
@@ -393,6 +393,7 @@ pub fn parse_sof<R: Read + Drop>(
     marker: Marker,
 ) -> Result<FrameInfo>
     ensures answers { (number : ℕ) → marker ≡ SOF number → Answers frame_in (sof_at number) reader.old result reader.new }
+    ensures others { ((number : ℕ) → marker ≡ SOF number → ⊥) → IsErrAnd result NamesFormat × (reader.new ≡ reader.old) }
     ensures factors { IfOk result (λ f. AllHaveFactors (map component_in f.components.items)) }
     ensures made { IfOk result (λ f. IsFrame (frame_in f)) }
 {

@@ -7,7 +7,7 @@ use Rattle.jpeg_decoder.proofs.state.State.read_application.Goals as goal
 
 pub returns-clause-reads : goal.returns-clause-reads
 returns-clause-reads g c =
-    let a = c.in_ok-said.ensures c.args.number refl in (
+    let a = c.in_ok-said.ensures.answers c.args.number refl in (
       a.0,
       λ k.
           let at = a.1 k in
