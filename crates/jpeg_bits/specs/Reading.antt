@@ -31,9 +31,9 @@ Names (errors.Io e) outcome = (outcome ≡ Err End) × (error_kind e ≡ Unexpec
 Names (errors.Internal text) outcome = ⊥
 Names errors.OutOfMemory outcome = Unit {0}
 
--- a source that has failed stays so, and becomes so only with Io
+-- A source that has failed stays so, and becomes so only with Io. An Io of a source that has not failed is the end of its bytes.
 abbrev pub MayFail : Error → Bool → Bool → Type 0
-MayFail (errors.Io e) old new = old ≡ true → new ≡ true
+MayFail (errors.Io e) old new = (old ≡ true → new ≡ true) × (new ≡ false → error_kind e ≡ UnexpectedEof)
 MayFail (errors.Format text) old new = new ≡ old
 MayFail (errors.Unsupported feature) old new = new ≡ old
 MayFail (errors.Internal text) old new = ⊥
