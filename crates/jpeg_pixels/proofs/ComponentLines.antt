@@ -53,13 +53,10 @@ cover-lower (s ∷ sources) (p ∷ planes) width low high le all = (lower all.0,
     lower : Covers s p width high → Covers s p width low
     lower c = record {
       some_width = c.some_width;
-      some_height = c.some_height;
       some_across = c.some_across;
       some_down = c.some_down;
       wide_enough = c.wide_enough;
-      no_wider = c.no_wider;
       high_enough = omega arith;
-      in_stride = c.in_stride;
       room = c.room;
     }
 

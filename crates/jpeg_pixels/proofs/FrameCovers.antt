@@ -175,13 +175,10 @@ covers width height most_h most_v f rule plane some_width some_height range h_mo
     let lines = fits-down _ _ _ _ rule fit in
     record {
       some_width = some-samples (across rule) (ceiling (width * f.horizontal) most_h) width some_width columns.enough;
-      some_height = some-samples (down rule) (ceiling (height * f.vertical) most_v) height some_height lines.enough;
       some_across = columns.some;
       some_down = lines.some;
       wide_enough = columns.enough;
-      no_wider = columns.no_more;
       high_enough = lines.enough;
-      in_stride = in-blocks width f.horizontal most_h range.horizontal_some h_most;
       room = room;
     }
 

@@ -65,13 +65,10 @@ image_of components planes width height transform =
 -- A plane has the samples that its rule asks for in a picture of this width and height.
 pub record Covers (s : Source) (plane : List ℕ) (width height : ℕ) : Type 0 where
   pub some_width : 0 < s.width
-  pub some_height : 0 < s.height
   pub some_across : 0 < across s.rule
   pub some_down : 0 < down s.rule
   pub wide_enough : width ≤ across s.rule * s.width
-  pub no_wider : across s.rule * s.width < width + across s.rule
   pub high_enough : height ≤ down s.rule * s.height
-  pub in_stride : s.width ≤ s.stride
   pub room : (s.height - 1) * s.stride + s.width ≤ length plane
 
 -- each plane does
