@@ -93,11 +93,6 @@ next_u16 bytes = do
   low ← next_byte high.1
   Ok (256 * high.0 + low.0, low.1)
 
--- a broken rule unless the test holds
-abbrev pub check : Bool → Result (Unit {0}) Fault
-check true = Ok tt
-check false = Err Malformed
-
 -- a length field, which counts itself
 unfoldable pub length_at : List ℕ → Outcome ℕ
 length_at bytes = do
@@ -111,11 +106,6 @@ times (suc n) read bytes = do
   first ← read bytes
   others ← times n read first.1
   Ok (first.0 ∷ others.0, others.1)
-
--- a test answered what a check of a definition gives
-abbrev pub Checks : {X Y : Type 0} → Result Y Fault → Result X Error → Type 0
-Checks outcome (Ok x) = is_ok outcome ≡ true
-Checks outcome (Err e) = Names e outcome
 
 -- a call with no source answered what a definition gives
 abbrev pub Gives : {Y : Type 0} → Result Y Fault → Result Y Error → Type 0
