@@ -11,78 +11,78 @@ use Rattle.jpeg_segments.specs.Quantization.{dqt_at}
 use Rattle.jpeg_segments.specs.HuffmanTables.{dht_at}
 use Rattle.jpeg_segments.specs.Application.{app_at, dri_at}
 use Rattle.jpeg_decoder.specs.declared.segments.Before.TheVariants.{Elsewhere}
-use Rattle.jpeg_decoder.specs.Stream.{Found, Turn, nothing_found, onward, needed, accepted, frame_segment, quantization_segment, huffman_segment, restart_segment, application_segment, skipped_segment, scan_segment, end_segment, segment_at, turn_at, segments_within, segments_at, told_within, told_at, without_planes}
+use Rattle.jpeg_decoder.specs.Stream.{Found, Turn, nothing_found, onward, needed, accepted, frame_segment, quantization_segment, huffman_segment, restart_segment, application_segment, skipped_segment, scan_segment, end_segment, segment_at, turn_at, segments_within, segments_at}
 use Rattle.jpeg_decoder.proofs.Restarts.{either}
 use Rattle.jpeg_decoder.proofs.Turns.{turn-takes, segments-refused, segments-next}
 
 -- ---- turns in front of a frame
 
--- The image goes on elsewhere, and the planes are as they were.
-unfoldable pub Begins : List (Option (List ℕ)) → Outcome Turn → Type 0
-Begins planes (Ok x) = (x.0.ended ≡ false) × ((x.0.before ≡ Elsewhere) × ((x.0.met ≡ None) × (x.0.found.planes ≡ planes)))
-Begins planes (Err fault) = Unit {0}
+-- The image goes on elsewhere.
+unfoldable pub Begins : Outcome Turn → Type 0
+Begins (Ok x) = (x.0.ended ≡ false) × ((x.0.before ≡ Elsewhere) × (x.0.met ≡ None))
+Begins (Err fault) = Unit {0}
 
-begins-onward : (planes : List (Option (List ℕ))) (found : Found) (rest : List ℕ) → found.planes ≡ planes → Begins planes (Ok (onward found, rest))
+begins-onward : (found : Found) (rest : List ℕ) → Begins (Ok (onward found, rest))
 unfolding Begins
-begins-onward planes found rest e = (refl, (refl, (refl, e)))
+begins-onward found rest = (refl, (refl, refl))
 
-begins-err : (planes : List (Option (List ℕ))) (fault : Fault) → Begins planes (Err fault)
+begins-err : (fault : Fault) → Begins (Err fault)
 unfolding Begins
-begins-err planes fault = tt
+begins-err fault = tt
 
-begins-bind : {A : Type 0} (planes : List (Option (List ℕ))) (r : Result A Fault) (f : A → Outcome Turn) → ((x : A) → Begins planes (f x)) → Begins planes (r >>= f)
-begins-bind planes (Ok x) f q = q x
-begins-bind planes (Err fault) f q = begins-err planes fault
+begins-bind : {A : Type 0} (r : Result A Fault) (f : A → Outcome Turn) → ((x : A) → Begins (f x)) → Begins (r >>= f)
+begins-bind (Ok x) f q = q x
+begins-bind (Err fault) f q = begins-err fault
 
-begins-needed : (planes : List (Option (List ℕ))) (o : Option Frame) (f : Frame → Outcome Turn) → is_some o ≡ false → Begins planes (needed o >>= f)
-begins-needed planes None f e = begins-err planes _
-begins-needed planes (Some x) f e = absurd (let n : ⊥ = cc in n)
+begins-needed : (o : Option Frame) (f : Frame → Outcome Turn) → is_some o ≡ false → Begins (needed o >>= f)
+begins-needed None f e = begins-err _
+begins-needed (Some x) f e = absurd (let n : ⊥ = cc in n)
 
-begins-else : (planes : List (Option (List ℕ))) (b : Bool) (fault : Fault) (x : Outcome Turn) → Begins planes x → Begins planes (if b then Err fault else x)
-begins-else planes true fault x p = begins-err planes fault
-begins-else planes false fault x p = p
+begins-else : (b : Bool) (fault : Fault) (x : Outcome Turn) → Begins x → Begins (if b then Err fault else x)
+begins-else true fault x p = begins-err fault
+begins-else false fault x p = p
 
-begins-then : (planes : List (Option (List ℕ))) (b : Bool) (fault : Fault) (x : Outcome Turn) → b ≡ false → Begins planes (if b then x else Err fault)
-begins-then planes true fault x p = absurd (let n : ⊥ = cc in n)
-begins-then planes false fault x p = begins-err planes fault
+begins-then : (b : Bool) (fault : Fault) (x : Outcome Turn) → b ≡ false → Begins (if b then x else Err fault)
+begins-then true fault x p = absurd (let n : ⊥ = cc in n)
+begins-then false fault x p = begins-err fault
 
-frame-begins : (number : ℕ) (found : Found) (bytes : List ℕ) → Begins found.planes (frame_segment number found bytes)
+frame-begins : (number : ℕ) (found : Found) (bytes : List ℕ) → Begins (frame_segment number found bytes)
 unfolding frame_segment
 frame-begins number found bytes =
-    begins-else found.planes (is_some found.frame) _ _ (
-    begins-bind found.planes (sof_at number bytes) _ (λ f.
-    begins-bind found.planes (accepted f.0) _ (λ decoded. begins-onward found.planes _ f.1 refl)))
+    begins-else (is_some found.frame) _ _ (
+    begins-bind (sof_at number bytes) _ (λ f.
+    begins-bind (accepted f.0) _ (λ decoded. begins-onward _ f.1)))
 
-quantization-begins : (found : Found) (bytes : List ℕ) → Begins found.planes (quantization_segment found bytes)
+quantization-begins : (found : Found) (bytes : List ℕ) → Begins (quantization_segment found bytes)
 unfolding quantization_segment
-quantization-begins found bytes = begins-bind found.planes (dqt_at bytes) _ (λ t. begins-onward found.planes _ t.1 refl)
+quantization-begins found bytes = begins-bind (dqt_at bytes) _ (λ t. begins-onward _ t.1)
 
-huffman-begins : (found : Found) (bytes : List ℕ) → Begins found.planes (huffman_segment found bytes)
+huffman-begins : (found : Found) (bytes : List ℕ) → Begins (huffman_segment found bytes)
 unfolding huffman_segment
-huffman-begins found bytes = begins-bind found.planes (dht_at (option_map (λ f. f.is_baseline) found.frame) bytes) _ (λ t. begins-onward found.planes _ t.1 refl)
+huffman-begins found bytes = begins-bind (dht_at (option_map (λ f. f.is_baseline) found.frame) bytes) _ (λ t. begins-onward _ t.1)
 
-restart-begins : (found : Found) (bytes : List ℕ) → Begins found.planes (restart_segment found bytes)
+restart-begins : (found : Found) (bytes : List ℕ) → Begins (restart_segment found bytes)
 unfolding restart_segment
-restart-begins found bytes = begins-bind found.planes (dri_at bytes) _ (λ t. begins-onward found.planes _ t.1 refl)
+restart-begins found bytes = begins-bind (dri_at bytes) _ (λ t. begins-onward _ t.1)
 
-application-begins : (number : ℕ) (found : Found) (bytes : List ℕ) → Begins found.planes (application_segment number found bytes)
+application-begins : (number : ℕ) (found : Found) (bytes : List ℕ) → Begins (application_segment number found bytes)
 unfolding application_segment
-application-begins number found bytes = begins-bind found.planes (app_at number bytes) _ (λ t. begins-onward found.planes _ t.1 refl)
+application-begins number found bytes = begins-bind (app_at number bytes) _ (λ t. begins-onward _ t.1)
 
-skipped-begins : (found : Found) (bytes : List ℕ) → Begins found.planes (skipped_segment found bytes)
+skipped-begins : (found : Found) (bytes : List ℕ) → Begins (skipped_segment found bytes)
 unfolding skipped_segment
 skipped-begins found bytes =
-    begins-bind found.planes (length_at bytes) _ (λ n. begins-bind found.planes (skip_at n.0 n.1) _ (λ u. begins-onward found.planes found u.1 refl))
+    begins-bind (length_at bytes) _ (λ n. begins-bind (skip_at n.0 n.1) _ (λ u. begins-onward found u.1))
 
-scan-begins : (found : Found) (bytes : List ℕ) → is_some found.frame ≡ false → Begins found.planes (scan_segment found bytes)
+scan-begins : (found : Found) (bytes : List ℕ) → is_some found.frame ≡ false → Begins (scan_segment found bytes)
 unfolding scan_segment
-scan-begins found bytes none = begins-needed found.planes found.frame _ none
+scan-begins found bytes none = begins-needed found.frame _ none
 
-end-begins : (found : Found) (bytes : List ℕ) → is_some found.frame ≡ false → Begins found.planes (end_segment found bytes)
+end-begins : (found : Found) (bytes : List ℕ) → is_some found.frame ≡ false → Begins (end_segment found bytes)
 unfolding end_segment
-end-begins found bytes none = begins-then found.planes (is_some found.frame) _ _ none
+end-begins found bytes none = begins-then (is_some found.frame) _ _ none
 
-segment-begins : (m : Marker) (found : Found) (bytes : List ℕ) → is_some found.frame ≡ false → Begins found.planes (segment_at m Elsewhere found bytes)
+segment-begins : (m : Marker) (found : Found) (bytes : List ℕ) → is_some found.frame ≡ false → Begins (segment_at m Elsewhere found bytes)
 unfolding segment_at
 segment-begins (SOF number) found bytes none = frame-begins number found bytes
 segment-begins DQT found bytes none = quantization-begins found bytes
@@ -92,25 +92,25 @@ segment-begins EOI found bytes none = end-begins found bytes none
 segment-begins DRI found bytes none = restart-begins found bytes
 segment-begins (APP number) found bytes none = application-begins number found bytes
 segment-begins COM found bytes none = skipped-begins found bytes
-segment-begins (RST n) found bytes none = begins-err found.planes _
-segment-begins DNL found bytes none = begins-err found.planes _
-segment-begins JPG found bytes none = begins-err found.planes _
-segment-begins DAC found bytes none = begins-err found.planes _
-segment-begins SOI found bytes none = begins-err found.planes _
-segment-begins DHP found bytes none = begins-err found.planes _
-segment-begins EXP found bytes none = begins-err found.planes _
-segment-begins (JPGn n) found bytes none = begins-err found.planes _
-segment-begins TEM found bytes none = begins-err found.planes _
-segment-begins RES found bytes none = begins-err found.planes _
+segment-begins (RST n) found bytes none = begins-err _
+segment-begins DNL found bytes none = begins-err _
+segment-begins JPG found bytes none = begins-err _
+segment-begins DAC found bytes none = begins-err _
+segment-begins SOI found bytes none = begins-err _
+segment-begins DHP found bytes none = begins-err _
+segment-begins EXP found bytes none = begins-err _
+segment-begins (JPGn n) found bytes none = begins-err _
+segment-begins TEM found bytes none = begins-err _
+segment-begins RES found bytes none = begins-err _
 
-turn-begins : (found : Found) (bytes : List ℕ) → is_some found.frame ≡ false → Begins found.planes (turn_at Elsewhere found None bytes)
+turn-begins : (found : Found) (bytes : List ℕ) → is_some found.frame ≡ false → Begins (turn_at Elsewhere found None bytes)
 unfolding turn_at
-turn-begins found bytes none = begins-bind found.planes (next_marker bytes) _ (λ m. segment-begins m.0 found m.1 none)
+turn-begins found bytes none = begins-bind (next_marker bytes) _ (λ m. segment-begins m.0 found m.1 none)
 
-begins-at : (planes : List (Option (List ℕ))) (r : Outcome Turn) (x : Turn × List ℕ) → Begins planes r → r ≡ Ok x
-    → (x.0.ended ≡ false) × ((x.0.before ≡ Elsewhere) × ((x.0.met ≡ None) × (x.0.found.planes ≡ planes)))
+begins-at : (r : Outcome Turn) (x : Turn × List ℕ) → Begins r → r ≡ Ok x
+    → (x.0.ended ≡ false) × ((x.0.before ≡ Elsewhere) × (x.0.met ≡ None))
 unfolding Begins
-begins-at planes r x h e = rw e at h
+begins-at r x h e = rw e at h
 
 -- ---- the turns up to the frame
 
@@ -156,9 +156,9 @@ header-rest (suc n) found next bytes rest e =
     chosen (is_some found.frame) (Ok (found, bytes)) (turn_at Elsewhere found None bytes >>= behind n) (Ok (next, rest)) e
     (λ some is. let parts = same-parts found next bytes rest is in rw (parts.0, parts.1) refl)
     (λ none is. bind-ok (turn_at Elsewhere found None bytes) (behind n) (next, rest) is (λ turn was more.
-    let s = begins-at found.planes (turn_at Elsewhere found None bytes) turn (turn-begins found bytes none) was in
-    next-begun found bytes turn.1 turn.0 s.0 s.1.0 s.1.1.0 was
-    ∙ header-rest n turn.0.found next turn.1 rest (sym (behind-begun n turn.0 turn.1 s.0 s.1.0 s.1.1.0) ∙ more)))
+    let s = begins-at (turn_at Elsewhere found None bytes) turn (turn-begins found bytes none) was in
+    next-begun found bytes turn.1 turn.0 s.0 s.1.0 s.1.1 was
+    ∙ header-rest n turn.0.found next turn.1 rest (sym (behind-begun n turn.0 turn.1 s.0 s.1.0 s.1.1) ∙ more)))
 
 pub header-refused : (n : ℕ) (found : Found) (bytes : List ℕ) (fault : Fault) → length bytes < n → segments_within n true Elsewhere found None bytes ≡ Err fault
     → segments_at false Elsewhere found None bytes ≡ Err fault
@@ -170,37 +170,8 @@ header-refused (suc n) found bytes fault few e =
     (λ none is. bind-err (turn_at Elsewhere found None bytes) (behind n) fault is
     (λ was. segments-refused false Elsewhere found None bytes fault refl was)
     (λ turn was more.
-    let s = begins-at found.planes (turn_at Elsewhere found None bytes) turn (turn-begins found bytes none) was in
+    let s = begins-at (turn_at Elsewhere found None bytes) turn (turn-begins found bytes none) was in
     let took = turn-takes Elsewhere found None bytes turn refl was s.0 in
     let less : length turn.1 < length bytes = took.0 in
-    next-begun found bytes turn.1 turn.0 s.0 s.1.0 s.1.1.0 was
-    ∙ header-refused n turn.0.found turn.1 fault (omega arith) (sym (behind-begun n turn.0 turn.1 s.0 s.1.0 s.1.1.0) ∙ more)))
-
--- ---- no plane is decided
-
-planes-turn : (n : ℕ) (found : Found) (bytes : List ℕ) → ((f : Found) (bs : List ℕ) → (told_within n true Elsewhere f None bs).planes ≡ f.planes) → is_some found.frame ≡ false
-    → (r : Outcome Turn) → turn_at Elsewhere found None bytes ≡ r → (told_within (suc n) true Elsewhere found None bytes).planes ≡ found.planes
-unfolding told_within
-planes-turn n found bytes each none (Err fault) was = rw (none, was) refl
-planes-turn n found bytes each none (Ok turn) was =
-    let s = begins-at found.planes (turn_at Elsewhere found None bytes) turn (turn-begins found bytes none) was in
-    let here : told_within (suc n) true Elsewhere found None bytes ≡ told_within n true Elsewhere turn.0.found None turn.1 = rw (none, was, s.0, s.1.0, s.1.1.0) refl in
-    ap (λ (f : Found). f.planes) here ∙ each turn.0.found turn.1 ∙ s.1.1.1
-
-planes-kept : (n : ℕ) (found : Found) (bytes : List ℕ) → (told_within n true Elsewhere found None bytes).planes ≡ found.planes
-unfolding told_within
-planes-kept zero found bytes = refl
-planes-kept (suc n) found bytes =
-    either (is_some found.frame) (λ some. rw some refl)
-    (λ none. planes-turn n found bytes (λ f bs. planes-kept n f bs) none (turn_at Elsewhere found None bytes) refl)
-
-without-same : (f : Found) → f.planes ≡ replicate 4 None → without_planes f ≡ f
-without-same f e = ap (λ (ps : List (Option (List ℕ))). record f { planes = ps }) (sym e)
-
-pub header-planes : (bytes : List ℕ) → without_planes (told_at true Elsewhere nothing_found None bytes) ≡ told_at true Elsewhere nothing_found None bytes
-unfolding told_at nothing_found
-header-planes bytes = without-same (told_at true Elsewhere nothing_found None bytes) (planes-kept (suc (length bytes)) nothing_found bytes)
-
-pub header-planes-within : (n : ℕ) (bytes : List ℕ) → without_planes (told_within n true Elsewhere nothing_found None bytes) ≡ told_within n true Elsewhere nothing_found None bytes
-unfolding nothing_found
-header-planes-within n bytes = without-same (told_within n true Elsewhere nothing_found None bytes) (planes-kept n nothing_found bytes)
+    next-begun found bytes turn.1 turn.0 s.0 s.1.0 s.1.1 was
+    ∙ header-refused n turn.0.found turn.1 fault (omega arith) (sym (behind-begun n turn.0 turn.1 s.0 s.1.0 s.1.1) ∙ more)))

@@ -6,7 +6,7 @@ use Rattle.jpeg_bits.specs.declared.error.Error.TheVariants.{Format, Unsupported
 use Rattle.jpeg_bits.specs.Reading.{Fault, Malformed, Lacks, Names, IsGivenUp}
 use Rattle.jpeg_bits.specs.Stream.{stream_of}
 use Rattle.jpeg_decoder.specs.Seen.{info_of}
-use Rattle.jpeg_decoder.specs.Stream.{Found, meaning}
+use Rattle.jpeg_decoder.specs.Stream.{Told, meaning}
 use Rattle.jpeg_decoder.specs.Output.{output_of, line_of, default_settings, IsOutsideOrMemory, NamesOrOutside, Tells}
 
 -- a new source of a reader that tells its bytes is known
@@ -20,7 +20,7 @@ pub output-none : (bytes : List ℕ) (fault : Fault) → meaning default_setting
 unfolding output_of
 output-none bytes fault e = rw (output_of, e) refl
 
-pub output-some : (bytes rest : List ℕ) (found : Found) (pixels : List ℕ) → meaning default_settings bytes ≡ Ok ((found, pixels), rest) → output_of bytes ≡ Some (line_of (option_map info_of found.frame) ++ pixels)
+pub output-some : (bytes rest : List ℕ) (found : Told) (pixels : List ℕ) → meaning default_settings bytes ≡ Ok ((found, pixels), rest) → output_of bytes ≡ Some (line_of (option_map info_of found.frame) ++ pixels)
 unfolding output_of
 output-some bytes rest found pixels e = rw (output_of, e) refl
 

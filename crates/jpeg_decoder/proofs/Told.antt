@@ -6,19 +6,15 @@ use Rattle.jpeg_bits.specs.declared.error.Error.TheVariants as errors
 use Rattle.jpeg_decoder.specs.States.{IfRefused, OnTold}
 use Rattle.jpeg_bits.specs.Reading.{Fault, Outcome}
 use Rattle.jpeg_decoder.specs.declared.segments.Before.TheVariants.{Elsewhere}
-use Rattle.jpeg_decoder.specs.Stream.{Found, IsOfTurns, nothing_found, start_at, without_planes, told_rest, told_by_stream, told_at, told_within, told_in_turns, told_by_turns}
-use Rattle.jpeg_decoder.proofs.Headers.{header-planes, header-planes-within}
+use Rattle.jpeg_decoder.specs.Stream.{Found, Told, told_of, IsOfTurns, nothing_found, start_at, told_rest, told_by_stream, told_at, told_within, told_in_turns, told_by_turns}
 
-pub told-no_start : (header : Bool) (bytes : List ℕ) (fault : Fault) → start_at bytes ≡ Err fault → told_by_stream header bytes ≡ nothing_found
+pub told-no_start : (header : Bool) (bytes : List ℕ) (fault : Fault) → start_at bytes ≡ Err fault → told_by_stream header bytes ≡ told_of nothing_found
 unfolding told_by_stream
 told-no_start header bytes fault h = rw (h, told_by_stream) refl
 
 pub told-start : (header : Bool) (bytes rest : List ℕ) → start_at bytes ≡ Ok (tt, rest) → told_by_stream header bytes ≡ told_rest header nothing_found rest
 unfolding told_by_stream
 told-start header bytes rest h = rw (h, told_by_stream) refl
-
-pub told-header : (bytes rest : List ℕ) → start_at bytes ≡ Ok (tt, rest) → told_by_stream true bytes ≡ told_at true Elsewhere nothing_found None rest
-told-header bytes rest h = told-start true bytes rest h ∙ header-planes rest
 
 refused-through : (e : Error) (P Q : Type 0) → (P → Q) → IfRefused e P → IfRefused e Q
 refused-through (errors.Format text) P Q f h = f h
@@ -34,11 +30,11 @@ told-through old mid new (Err e) P Q f h = λ k known. let a = f k in refused-th
 
 -- ---- so many turns
 
-pub turns-none : (header : Bool) (bytes : List ℕ) → told_by_turns 0 header bytes ≡ nothing_found
+pub turns-none : (header : Bool) (bytes : List ℕ) → told_by_turns 0 header bytes ≡ told_of nothing_found
 unfolding told_by_turns told_within nothing_found
 turns-none header bytes = go (start_at bytes)
   where
-    go : (start : Outcome (Unit {0})) → elim start as (λ _. Found) [ Err fault ↦ nothing_found | Ok start ↦ told_in_turns 0 header nothing_found start.1 ] ≡ nothing_found
+    go : (start : Outcome (Unit {0})) → elim start as (λ _. Told) [ Err fault ↦ told_of nothing_found | Ok start ↦ told_in_turns 0 header nothing_found start.1 ] ≡ told_of nothing_found
     go (Err fault) = refl
     go (Ok start) = refl
 
@@ -46,10 +42,7 @@ pub turns-start : (n : ℕ) (header : Bool) (bytes rest : List ℕ) → start_at
 unfolding told_by_turns
 turns-start n header bytes rest h = rw (h, told_by_turns) refl
 
-pub turns-header : (n : ℕ) (bytes rest : List ℕ) → start_at bytes ≡ Ok (tt, rest) → told_by_turns n true bytes ≡ told_within n true Elsewhere nothing_found None rest
-turns-header n bytes rest h = turns-start n true bytes rest h ∙ header-planes-within n rest
-
--- without planes, of as many turns
-pub turns-without : (said : ℕ → Found) (found : Found) → IsOfTurns said found → IsOfTurns (λ n. without_planes (said n)) (without_planes found)
+-- what a decoder tells, of as many turns
+pub turns-told : (said : ℕ → Found) (found : Found) → IsOfTurns said found → IsOfTurns (λ n. told_of (said n)) (told_of found)
 unfolding IsOfTurns
-turns-without said found of = (of.0, ap (λ (f : Found). without_planes f) of.1)
+turns-told said found of = (of.0, ap (λ (f : Found). told_of f) of.1)

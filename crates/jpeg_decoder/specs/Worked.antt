@@ -2,10 +2,10 @@
 use Rattle.std.specs.Prelude.{ℕ, List, [], ◌∷◌, ◌++◌, replicate, Result, Ok, Err}
 use Rattle.jpeg_bits.specs.Reading.{Fault}
 use Rattle.jpeg_decoder.specs.Output.{default_settings}
-use Rattle.jpeg_decoder.specs.Stream.{Found, meaning}
+use Rattle.jpeg_decoder.specs.Stream.{Told, meaning}
 
 -- the picture that a stream means, or why it means none
-abbrev pub picture_by : Result ((Found × List ℕ) × List ℕ) Fault → Result (List ℕ) Fault
+abbrev pub picture_by : Result ((Told × List ℕ) × List ℕ) Fault → Result (List ℕ) Fault
 picture_by (Ok x) = Ok x.0.1
 picture_by (Err e) = Err e
 

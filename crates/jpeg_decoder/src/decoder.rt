@@ -3,7 +3,7 @@ ghost use Rattle.std.specs.Prelude.{◌≡◌, if◌then◌else◌, IfOk, IfErr,
 ghost use Rattle.jpeg_bits.specs.Reading.{Answers};
 ghost use Rattle.jpeg_bits.specs.Stream.{stream_of};
 ghost use Rattle.jpeg_bits.specs.declared.error.Error.TheVariants.{OutOfMemory};
-ghost use Rattle.jpeg_decoder.specs.Stream.{nothing_found, header_at, IsOfTurns};
+ghost use Rattle.jpeg_decoder.specs.Stream.{nothing_found, header_at, told_of, IsOfTurns};
 ghost use Rattle.jpeg_decoder.specs.States.{Decoding, MovesToHeader, MovesToEnd, IsReading, ahead, told_ahead, turns_ahead, OnTold, Fresh, HeaderRead};
 ghost use Rattle.jpeg_decoder.specs.Seen.{format_of, info_of};
 ghost use Rattle.jpeg_decoder.specs.declared.decoder.Progress.TheVariants.{Failed};
@@ -218,8 +218,8 @@ impl<R: Read + Drop> Decoder<R> {
     pub fn read_info(&mut self) -> Result<()>
         ensures stage { MovesToHeader self.old.stage self.new.stage result }
         ensures reads { self.old.stage ≡ Fresh → Answers (λ _. self.new.found) header_at self.old.source result self.new.source }
-        ensures told { self.old.stage ≡ Fresh → OnTold self.old.source self.new.source result (self.new.found ≡ told_ahead true self.old.stage self.old.found self.old.source.bytes) }
-        ensures turns { self.old.stage ≡ Fresh → self.old.source.known ≡ true → IsOfTurns (λ n. turns_ahead n true self.old.stage self.old.found self.old.source.bytes) self.new.found }
+        ensures told { self.old.stage ≡ Fresh → OnTold self.old.source self.new.source result (told_of self.new.found ≡ told_ahead true self.old.stage self.old.found self.old.source.bytes) }
+        ensures turns { self.old.stage ≡ Fresh → self.old.source.known ≡ true → IsOfTurns (λ n. turns_ahead n true self.old.stage self.old.found self.old.source.bytes) (told_of self.new.found) }
         ensures settings { self.new.settings ≡ self.old.settings }
         ensures still { (self.old.stage ≡ Fresh → ⊥) → self.new ≡ self.old }
         ensures framed { IfOk result (λ _. is_some self.new.found.frame ≡ true) }
@@ -240,9 +240,9 @@ impl<R: Read + Drop> Decoder<R> {
     /// failed decoder, which tells what was read, but a finished one stays finished. No samples are kept behind either.
     pub fn decode(&mut self) -> Result<Vec<u8>>
         ensures stage { MovesToEnd self.old.stage self.new.stage result }
-        ensures reads { IsReading self.old.stage → Answers (λ v. (self.new.found, v.items)) (ahead self.old.stage self.old.settings self.old.found) self.old.source result self.new.source }
-        ensures told { IsReading self.old.stage → OnTold self.old.source self.new.source result (self.new.found ≡ told_ahead false self.old.stage self.old.found self.old.source.bytes) }
-        ensures turns { IsReading self.old.stage → self.old.source.known ≡ true → IsOfTurns (λ n. turns_ahead n false self.old.stage self.old.found self.old.source.bytes) self.new.found }
+        ensures reads { IsReading self.old.stage → Answers (λ v. (told_of self.new.found, v.items)) (ahead self.old.stage self.old.settings self.old.found) self.old.source result self.new.source }
+        ensures told { IsReading self.old.stage → OnTold self.old.source self.new.source result (told_of self.new.found ≡ told_ahead false self.old.stage self.old.found self.old.source.bytes) }
+        ensures turns { IsReading self.old.stage → self.old.source.known ≡ true → IsOfTurns (λ n. turns_ahead n false self.old.stage self.old.found self.old.source.bytes) (told_of self.new.found) }
         ensures settings { self.new.settings ≡ self.old.settings }
         ensures still { (IsReading self.old.stage → ⊥) → self.new ≡ self.old }
         ensures stays { self.old.stage ≡ HeaderRead → self.new.found.frame ≡ self.old.found.frame }

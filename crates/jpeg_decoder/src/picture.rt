@@ -1,7 +1,7 @@
 //! A stream from its start to its picture (T.81, B.2).
 ghost use Rattle.std.specs.Prelude.{◌≡◌, ◌*◌, true, false, MatchResult, IfOk, is_some, not, nat_lt};
 ghost use Rattle.jpeg_bits.specs.Reading.{Answers, Names, NamesFormat};
-ghost use Rattle.jpeg_decoder.specs.Stream.{nothing_found, start_at, header_at, without_planes, picture_of, rest_at, meaning, told_rest, told_by_stream, told_in_turns, told_by_turns, IsOfTurns};
+ghost use Rattle.jpeg_decoder.specs.Stream.{nothing_found, start_at, header_at, told_of, picture_of, rest_at, meaning, told_rest, told_by_stream, told_in_turns, told_by_turns, IsOfTurns};
 ghost use Rattle.jpeg_decoder.specs.States.{OnTold};
 ghost use Rattle.jpeg_decoder.specs.Seen.{found_in};
 ghost use Rattle.jpeg_segments.specs.FrameView.{frame_in};
@@ -92,7 +92,7 @@ fn crop_to(plane: &mut Vec<u8>, shape: Shape)
 #[tactic(auto, unfolding(crate::specs::Stream::picture_of))]
 fn picture(alloc: Global, state: &mut State, settings: Settings) -> Result<Vec<u8>>
     ensures picture { MatchResult result (λ v. picture_of settings (found_in state.old) ≡ Ok v.items) (λ e. NamesFormat e × Names e (picture_of settings (found_in state.old))) }
-    ensures others { without_planes (found_in state.new) ≡ without_planes (found_in state.old) }
+    ensures others { told_of (found_in state.new) ≡ told_of (found_in state.old) }
 {
     let frame = needed(alloc, state.frame.as_ref(), "an image without a frame")?;
     let shape = needed(alloc, shape_of(frame), "a frame without a component")?;
@@ -113,8 +113,8 @@ pub fn read_header<R: Read + Drop>(
 ) -> Result<()>
     requires { found_in state.old ≡ nothing_found }
     ensures reads { Answers (λ _. found_in state.new) header_at source.old result source.new }
-    ensures told { OnTold source.old source.new result (found_in state.new ≡ told_by_stream true source.old.bytes) }
-    ensures turns { source.old.known ≡ true → IsOfTurns (λ n. told_by_turns n true source.old.bytes) (found_in state.new) }
+    ensures told { OnTold source.old source.new result (told_of (found_in state.new) ≡ told_by_stream true source.old.bytes) }
+    ensures turns { source.old.known ≡ true → IsOfTurns (λ n. told_by_turns n true source.old.bytes) (told_of (found_in state.new)) }
     ensures framed { IfOk result (λ _. is_some (found_in state.new).frame ≡ true) }
 {
     read_start(alloc, source)?;
@@ -129,9 +129,9 @@ fn read_picture<R: Read + Drop>(
     state: &mut State,
     settings: Settings,
 ) -> Result<Vec<u8>>
-    ensures reads { Answers (λ v. (without_planes (found_in state.new), v.items)) (rest_at settings (found_in state.old)) source.old result source.new }
-    ensures told { OnTold source.old source.new result (without_planes (found_in state.new) ≡ told_rest false (found_in state.old) source.old.bytes) }
-    ensures turns { source.old.known ≡ true → IsOfTurns (λ n. told_in_turns n false (found_in state.old) source.old.bytes) (without_planes (found_in state.new)) }
+    ensures reads { Answers (λ v. (told_of (found_in state.new), v.items)) (rest_at settings (found_in state.old)) source.old result source.new }
+    ensures told { OnTold source.old source.new result (told_of (found_in state.new) ≡ told_rest false (found_in state.old) source.old.bytes) }
+    ensures turns { source.old.known ≡ true → IsOfTurns (λ n. told_in_turns n false (found_in state.old) source.old.bytes) (told_of (found_in state.new)) }
     ensures framed { IfOk result (λ _. is_some (found_in state.new).frame ≡ true) }
     ensures stays { is_some (found_in state.old).frame ≡ true → (found_in state.new).frame ≡ (found_in state.old).frame }
 {
@@ -146,9 +146,9 @@ pub fn read_rest<R: Read + Drop>(
     state: &mut State,
     settings: Settings,
 ) -> Result<Vec<u8>>
-    ensures reads { Answers (λ v. (found_in state.new, v.items)) (rest_at settings (found_in state.old)) source.old result source.new }
-    ensures told { OnTold source.old source.new result (found_in state.new ≡ told_rest false (found_in state.old) source.old.bytes) }
-    ensures turns { source.old.known ≡ true → IsOfTurns (λ n. told_in_turns n false (found_in state.old) source.old.bytes) (found_in state.new) }
+    ensures reads { Answers (λ v. (told_of (found_in state.new), v.items)) (rest_at settings (found_in state.old)) source.old result source.new }
+    ensures told { OnTold source.old source.new result (told_of (found_in state.new) ≡ told_rest false (found_in state.old) source.old.bytes) }
+    ensures turns { source.old.known ≡ true → IsOfTurns (λ n. told_in_turns n false (found_in state.old) source.old.bytes) (told_of (found_in state.new)) }
     ensures framed { IfOk result (λ _. is_some (found_in state.new).frame ≡ true) }
     ensures stays { is_some (found_in state.old).frame ≡ true → (found_in state.new).frame ≡ (found_in state.old).frame }
 {
@@ -166,9 +166,9 @@ pub fn read_stream<R: Read + Drop>(
     settings: Settings,
 ) -> Result<Vec<u8>>
     requires { found_in state.old ≡ nothing_found }
-    ensures reads { Answers (λ v. (found_in state.new, v.items)) (meaning settings) source.old result source.new }
-    ensures told { OnTold source.old source.new result (found_in state.new ≡ told_by_stream false source.old.bytes) }
-    ensures turns { source.old.known ≡ true → IsOfTurns (λ n. told_by_turns n false source.old.bytes) (found_in state.new) }
+    ensures reads { Answers (λ v. (told_of (found_in state.new), v.items)) (meaning settings) source.old result source.new }
+    ensures told { OnTold source.old source.new result (told_of (found_in state.new) ≡ told_by_stream false source.old.bytes) }
+    ensures turns { source.old.known ≡ true → IsOfTurns (λ n. told_by_turns n false source.old.bytes) (told_of (found_in state.new)) }
     ensures framed { IfOk result (λ _. is_some (found_in state.new).frame ≡ true) }
 {
     read_start(alloc, source)?;

@@ -1,9 +1,9 @@
 use Rattle.std.proofs.Common.{◌∙◌, sym, ap, None, true}
 use Rattle.std.proofs.lemmas.Result.{err_from_is_err_and}
-use Rattle.jpeg_decoder.specs.Stream.{IsOfTurns, Found, start_at, told_at, told_within}
+use Rattle.jpeg_decoder.specs.Stream.{IsOfTurns, Found, told_of, start_at, told_at, told_within}
 use Rattle.jpeg_decoder.specs.declared.segments.Before.TheVariants.{Elsewhere}
 use Rattle.jpeg_decoder.proofs.Refusals.{told-err}
-use Rattle.jpeg_decoder.proofs.Told.{told-no_start, told-header, told-through, turns-header, turns-none}
+use Rattle.jpeg_decoder.proofs.Told.{told-no_start, told-start, told-through, turns-start, turns-none}
 use Rattle.jpeg_decoder.proofs.picture.read_header.Goals as goal
 
 pub returns-in_err-read_start-clause-told : goal.returns-in_err-read_start-clause-told
@@ -11,19 +11,19 @@ returns-in_err-read_start-clause-told g c =
     let p = err_from_is_err_and c.from_residual.result c.from_residual.ensures.1 in
     rw (p.1, p.2) (λ k known.
     told-err _ (start_at c.args.source.now.bytes) _ (c.in_err-read_start.ensures.1 k known)
-    (λ f h. c.requires ∙ sym (told-no_start true c.args.source.now.bytes f h)))
+    (λ f h. ap (λ (f : Found). told_of f) c.requires ∙ sym (told-no_start true c.args.source.now.bytes f h)))
 
 pub returns-clause-told : goal.returns-clause-told
 returns-clause-told g c =
     told-through {X = Unit {0}} c.args.source.now c.read_start.new.source c.read.new.source c.read.result _ _
     (λ k.
     let at = c.in_ok-read_start.ensures.1 k in
-    (at.0, λ p. p ∙ ap (λ (f : Found). told_at true Elsewhere f None c.read_start.new.source.bytes) c.requires ∙ sym (told-header c.args.source.now.bytes c.read_start.new.source.bytes at.1)))
+    (at.0, λ p. ap (λ (f : Found). told_of f) (p ∙ ap (λ (f : Found). told_at true Elsewhere f None c.read_start.new.source.bytes) c.requires) ∙ sym (told-start true c.args.source.now.bytes c.read_start.new.source.bytes at.1)))
     c.read.ensures.told
 
 pub returns-in_err-read_start-clause-turns : goal.returns-in_err-read_start-clause-turns
 unfolding IsOfTurns
-returns-in_err-read_start-clause-turns g c k = (0, c.requires ∙ sym (turns-none true c.args.source.now.bytes))
+returns-in_err-read_start-clause-turns g c k = (0, ap (λ (f : Found). told_of f) c.requires ∙ sym (turns-none true c.args.source.now.bytes))
 
 pub returns-clause-turns : goal.returns-clause-turns
 unfolding IsOfTurns
@@ -31,6 +31,6 @@ returns-clause-turns g c k =
     let at = c.in_ok-read_start.ensures.1 k in
     let read = c.read.ensures.turns at.0 in (
       read.0,
-      read.1 ∙ ap (λ (f : Found). told_within read.0 true Elsewhere f None c.read_start.new.source.bytes) c.requires
-          ∙ sym (turns-header read.0 c.args.source.now.bytes c.read_start.new.source.bytes at.1),
+      ap (λ (f : Found). told_of f) (read.1 ∙ ap (λ (f : Found). told_within read.0 true Elsewhere f None c.read_start.new.source.bytes) c.requires)
+          ∙ sym (turns-start read.0 true c.args.source.now.bytes c.read_start.new.source.bytes at.1),
     )

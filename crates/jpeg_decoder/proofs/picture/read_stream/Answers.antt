@@ -1,6 +1,6 @@
 use Rattle.std.proofs.Common.{◌∙◌, sym, ap, false}
 use Rattle.std.proofs.lemmas.Result.{err_from_is_err_and}
-use Rattle.jpeg_decoder.specs.Stream.{IsOfTurns, Found, start_at, told_in_turns}
+use Rattle.jpeg_decoder.specs.Stream.{IsOfTurns, Found, told_of, start_at, told_in_turns}
 use Rattle.jpeg_decoder.proofs.Refusals.{told-err}
 use Rattle.jpeg_decoder.proofs.Told.{told-no_start, turns-none, turns-start}
 use Rattle.jpeg_decoder.proofs.picture.read_stream.Goals as goal
@@ -10,11 +10,11 @@ returns-in_err-read_start-clause-told g c =
     let p = err_from_is_err_and c.from_residual.result c.from_residual.ensures.1 in
     rw (p.1, p.2) (λ k known.
     told-err _ (start_at c.args.source.now.bytes) _ (c.in_err-read_start.ensures.1 k known)
-    (λ f h. c.requires ∙ sym (told-no_start false c.args.source.now.bytes f h)))
+    (λ f h. ap (λ (f : Found). told_of f) c.requires ∙ sym (told-no_start false c.args.source.now.bytes f h)))
 
 pub returns-in_err-read_start-clause-turns : goal.returns-in_err-read_start-clause-turns
 unfolding IsOfTurns
-returns-in_err-read_start-clause-turns g c k = (0, c.requires ∙ sym (turns-none false c.args.source.now.bytes))
+returns-in_err-read_start-clause-turns g c k = (0, ap (λ (f : Found). told_of f) c.requires ∙ sym (turns-none false c.args.source.now.bytes))
 
 pub returns-clause-turns : goal.returns-clause-turns
 unfolding IsOfTurns

@@ -1,5 +1,6 @@
 use Rattle.std.proofs.Common.{◌≡◌, ◌∙◌, ap, sym, ◌++◌, Some, string_bytes, option_map}
 use Rattle.jpeg_decoder.specs.Output.{line_of}
+use Rattle.jpeg_decoder.specs.Stream.{told_of}
 use Rattle.jpeg_decoder.specs.Seen.{info_of}
 use Rattle.std.proofs.lemmas.Result.{err_from_is_err_and}
 use Rattle.jpeg_decoder.proofs.OutputLemmas.{outside-decode, named-decode, output-some, known-told, bytes-told}
@@ -31,4 +32,4 @@ returns-clause-ok g c bytes tells =
     let here = reads tt in
     let all = rw same at (here.1 known).1 in
     let text : string_bytes c.in_ok-line.line ≡ line_of (option_map info_of c.decode.new.self.found.frame) = c.in_ok-line.ensures ∙ ap line_of c.info.ensures in
-    output-some bytes c.decode.new.self.source.bytes c.decode.new.self.found c.in_ok-pixels.pixels.items all ∙ ap (λ xs. Some (xs ++ c.in_ok-pixels.pixels.items)) (sym text)
+    output-some bytes c.decode.new.self.source.bytes (told_of c.decode.new.self.found) c.in_ok-pixels.pixels.items all ∙ ap (λ xs. Some (xs ++ c.in_ok-pixels.pixels.items)) (sym text)
