@@ -2,7 +2,7 @@
 ghost use Rattle.jpeg_pixels.specs.Pictures.{sources_of};
 ghost use Rattle.std.specs.Prelude.{◌≡◌, ◌&&◌, true, is_some, None, Ok, MatchResult, OnErr, IfOk, false, ◌≤◌, length, map, IsOk};
 ghost use Rattle.jpeg_bits.specs.Reading.{Answers, Names, IsShort};
-ghost use Rattle.jpeg_decoder.specs.Stream.{nothing_found, is_precision, is_arithmetic, is_sequential, accepted, frame_segment, quantization_segment, huffman_segment, restart_segment, application_segment, skipped_segment, scan_before, scan_segment, end_segment, stray_restart, line_count, segment_at, marker_or, turn_at, segments_at, told_at, told_within, IsOfTurns, is_decoded};
+ghost use Rattle.jpeg_decoder.specs.Stream.{nothing_found, is_precision, is_arithmetic, is_sequential, accepted, frame_segment, quantization_segment, huffman_segment, restart_segment, application_segment, skipped_segment, scan_before, scan_segment, end_segment, stray_restart, line_count, segment_at, marker_or, turn_at, segments_at, told_of, told_rest, told_in_turns, IsOfTurns, is_decoded};
 ghost use Rattle.jpeg_decoder.specs.Scans.{grid_of};
 ghost use Rattle.jpeg_decoder.specs.declared.segments.Before.TheVariants.{Elsewhere};
 ghost use Rattle.jpeg_segments.specs.Frame.{ceiling, AllHaveFactors};
@@ -78,7 +78,7 @@ impl State {
         number: u8,
     ) -> Result<Step>
         ensures reads { Answers (turn_of self.new) (frame_segment number (found_in self.old)) source.old result source.new }
-        ensures kept { OnErr result (found_in self.new ≡ found_in self.old) }
+        ensures kept { OnErr result (told_of (found_in self.new) ≡ told_of (found_in self.old)) }
         ensures onward { IfOk result (λ s. s.ended ≡ false) }
         ensures stays { is_some (found_in self.old).frame ≡ true → (found_in self.new).frame ≡ (found_in self.old).frame }
     {
@@ -99,7 +99,7 @@ impl State {
         source: &mut Source<R>,
     ) -> Result<Step>
         ensures reads { Answers (turn_of self.new) (quantization_segment (found_in self.old)) source.old result source.new }
-        ensures kept { OnErr result (found_in self.new ≡ found_in self.old) }
+        ensures kept { OnErr result (told_of (found_in self.new) ≡ told_of (found_in self.old)) }
         ensures onward { IfOk result (λ s. s.ended ≡ false) }
         ensures stays { is_some (found_in self.old).frame ≡ true → (found_in self.new).frame ≡ (found_in self.old).frame }
     {
@@ -116,7 +116,7 @@ impl State {
         source: &mut Source<R>,
     ) -> Result<Step>
         ensures reads { Answers (turn_of self.new) (huffman_segment (found_in self.old)) source.old result source.new }
-        ensures kept { OnErr result (found_in self.new ≡ found_in self.old) }
+        ensures kept { OnErr result (told_of (found_in self.new) ≡ told_of (found_in self.old)) }
         ensures onward { IfOk result (λ s. s.ended ≡ false) }
         ensures stays { is_some (found_in self.old).frame ≡ true → (found_in self.new).frame ≡ (found_in self.old).frame }
     {
@@ -135,7 +135,7 @@ impl State {
         source: &mut Source<R>,
     ) -> Result<Step>
         ensures reads { Answers (turn_of self.new) (restart_segment (found_in self.old)) source.old result source.new }
-        ensures kept { OnErr result (found_in self.new ≡ found_in self.old) }
+        ensures kept { OnErr result (told_of (found_in self.new) ≡ told_of (found_in self.old)) }
         ensures onward { IfOk result (λ s. s.ended ≡ false) }
         ensures stays { is_some (found_in self.old).frame ≡ true → (found_in self.new).frame ≡ (found_in self.old).frame }
     {
@@ -152,7 +152,7 @@ impl State {
         number: u8,
     ) -> Result<Step>
         ensures reads { Answers (turn_of self.new) (application_segment number (found_in self.old)) source.old result source.new }
-        ensures kept { OnErr result (found_in self.new ≡ found_in self.old) }
+        ensures kept { OnErr result (told_of (found_in self.new) ≡ told_of (found_in self.old)) }
         ensures onward { IfOk result (λ s. s.ended ≡ false) }
         ensures stays { is_some (found_in self.old).frame ≡ true → (found_in self.new).frame ≡ (found_in self.old).frame }
     {
@@ -274,7 +274,7 @@ impl State {
     /// A scan. The first one of a component decides its plane.
     fn read_scan<R: Read + Drop>(&mut self, alloc: Global, source: &mut Source<R>) -> Result<Step>
         ensures reads { Answers (turn_of self.new) (scan_segment (found_in self.old)) source.old result source.new }
-        ensures kept { OnErr result (found_in self.new ≡ found_in self.old) }
+        ensures kept { OnErr result (told_of (found_in self.new) ≡ told_of (found_in self.old)) }
         ensures onward { IfOk result (λ s. s.ended ≡ false) }
         ensures stays { is_some (found_in self.old).frame ≡ true → (found_in self.new).frame ≡ (found_in self.old).frame }
     {
@@ -315,7 +315,7 @@ impl State {
         before: Before,
     ) -> Result<Step>
         ensures reads { Answers (turn_of self.new) (segment_at marker before (found_in self.old)) source.old result source.new }
-        ensures kept { OnErr result (found_in self.new ≡ found_in self.old) }
+        ensures kept { OnErr result (told_of (found_in self.new) ≡ told_of (found_in self.old)) }
         ensures framed { IfOk result (λ s. s.ended ≡ true → is_some (found_in self.new).frame ≡ true) }
         ensures stays { is_some (found_in self.old).frame ≡ true → (found_in self.new).frame ≡ (found_in self.old).frame }
     {
@@ -346,7 +346,7 @@ impl State {
         met: Option<Marker>,
     ) -> Result<Step>
         ensures reads { Answers (turn_of self.new) (turn_at before (found_in self.old) met) source.old result source.new }
-        ensures kept { OnErr result (found_in self.new ≡ found_in self.old) }
+        ensures kept { OnErr result (told_of (found_in self.new) ≡ told_of (found_in self.old)) }
         ensures short { met ≡ None → IsShort source.old }
         ensures framed { IfOk result (λ s. s.ended ≡ true → is_some (found_in self.new).frame ≡ true) }
         ensures stays { is_some (found_in self.old).frame ≡ true → (found_in self.new).frame ≡ (found_in self.old).frame }
@@ -370,8 +370,8 @@ impl State {
         header: bool,
     ) -> Result<()>
         ensures reads { Answers (λ _. found_in self.new) (segments_at header Elsewhere (found_in self.old) None) source.old result source.new }
-        ensures told { OnTold source.old source.new result (found_in self.new ≡ told_at header Elsewhere (found_in self.old) None source.old.bytes) }
-        ensures turns { source.old.known ≡ true → IsOfTurns (λ n. told_within n header Elsewhere (found_in self.old) None source.old.bytes) (found_in self.new) }
+        ensures told { OnTold source.old source.new result (told_of (found_in self.new) ≡ told_rest header (found_in self.old) source.old.bytes) }
+        ensures turns { source.old.known ≡ true → IsOfTurns (λ n. told_in_turns n header (found_in self.old) source.old.bytes) (told_of (found_in self.new)) }
         ensures framed { IfOk result (λ _. is_some (found_in self.new).frame ≡ true) }
         ensures stays { is_some (found_in self.old).frame ≡ true → (found_in self.new).frame ≡ (found_in self.old).frame }
     {

@@ -1,6 +1,6 @@
 use Rattle.std.proofs.Common.{◌∙◌, sym, ap, None, true}
 use Rattle.std.proofs.lemmas.Result.{err_from_is_err_and}
-use Rattle.jpeg_decoder.specs.Stream.{IsOfTurns, Found, told_of, start_at, told_at, told_within}
+use Rattle.jpeg_decoder.specs.Stream.{IsOfTurns, Found, told_of, start_at, told_rest, told_in_turns}
 use Rattle.jpeg_decoder.specs.declared.segments.Before.TheVariants.{Elsewhere}
 use Rattle.jpeg_decoder.proofs.Refusals.{told-err}
 use Rattle.jpeg_decoder.proofs.Told.{told-no_start, told-start, told-through, turns-start, turns-none}
@@ -18,7 +18,7 @@ returns-clause-told g c =
     told-through {X = Unit {0}} c.args.source.now c.read_start.new.source c.read.new.source c.read.result _ _
     (λ k.
     let at = c.in_ok-read_start.ensures.1 k in
-    (at.0, λ p. ap (λ (f : Found). told_of f) (p ∙ ap (λ (f : Found). told_at true Elsewhere f None c.read_start.new.source.bytes) c.requires) ∙ sym (told-start true c.args.source.now.bytes c.read_start.new.source.bytes at.1)))
+    (at.0, λ p. p ∙ ap (λ (f : Found). told_rest true f c.read_start.new.source.bytes) c.requires ∙ sym (told-start true c.args.source.now.bytes c.read_start.new.source.bytes at.1)))
     c.read.ensures.told
 
 pub returns-in_err-read_start-clause-turns : goal.returns-in_err-read_start-clause-turns
@@ -31,6 +31,6 @@ returns-clause-turns g c k =
     let at = c.in_ok-read_start.ensures.1 k in
     let read = c.read.ensures.turns at.0 in (
       read.0,
-      ap (λ (f : Found). told_of f) (read.1 ∙ ap (λ (f : Found). told_within read.0 true Elsewhere f None c.read_start.new.source.bytes) c.requires)
+      read.1 ∙ ap (λ (f : Found). told_in_turns read.0 true f c.read_start.new.source.bytes) c.requires
           ∙ sym (turns-start read.0 true c.args.source.now.bytes c.read_start.new.source.bytes at.1),
     )

@@ -3,7 +3,7 @@ use Rattle.std.proofs.lemmas.Result.{err_from_is_err_and}
 use Rattle.jpeg_bits.proofs.Loops.{Continues-err}
 use Rattle.jpeg_decoder.specs.declared.segments.Before.TheVariants.{Elsewhere}
 use Rattle.jpeg_decoder.specs.declared.segments.Step.{Step}
-use Rattle.jpeg_decoder.specs.Stream.{IsOfTurns, turn_at, segments_at, told_within}
+use Rattle.jpeg_decoder.specs.Stream.{Found, told_of, IsOfTurns, turn_at, segments_at, told_within}
 use Rattle.jpeg_decoder.specs.Seen.{found_in}
 use Rattle.jpeg_segments.specs.Frame.{Frame}
 use Rattle.jpeg_decoder.specs.declared.state.State.{State}
@@ -28,7 +28,7 @@ returns-in_err-step-clause-told g c =
     rw (p.1, p.2) (λ k known.
     let here = c.loop.invariant.reads.1 k in
     told-err _ (turn_at c.loop.before found c.loop.met c.loop.source.bytes) _ (c.in_err-step.ensures.reads.1 here.0 known)
-    (λ f h. c.in_err-step.ensures.kept ∙ sym (c.loop.invariant.told k ∙ told-refused c.args.header c.loop.before found c.loop.met c.loop.source.bytes f (sym c.if-is_read_for.ensures) h)))
+    (λ f h. c.in_err-step.ensures.kept ∙ ap (λ (f : Found). told_of f) (sym (c.loop.invariant.told k ∙ told-refused c.args.header c.loop.before found c.loop.met c.loop.source.bytes f (sym c.if-is_read_for.ensures) h))))
 
 pub returns-then-is_read_for-clause-reads : goal.returns-then-is_read_for-clause-reads
 returns-then-is_read_for-clause-reads g c = (
@@ -40,24 +40,24 @@ returns-then-is_read_for-clause-reads g c = (
 
 pub returns-then-is_read_for-clause-told : goal.returns-then-is_read_for-clause-told
 returns-then-is_read_for-clause-told g c k =
-    sym (c.loop.invariant.told k ∙ told-stop c.args.header c.loop.before (found_in c.loop.self) c.loop.met c.loop.source.bytes (sym c.if-is_read_for.ensures))
+    ap (λ (f : Found). told_of f) (sym (c.loop.invariant.told k ∙ told-stop c.args.header c.loop.before (found_in c.loop.self) c.loop.met c.loop.source.bytes (sym c.if-is_read_for.ensures)))
 
 pub returns-in_err-step-clause-turns : goal.returns-in_err-step-clause-turns
 unfolding IsOfTurns
 returns-in_err-step-clause-turns g c k =
-    (c.loop.counter + 0, c.in_err-step.ensures.kept ∙ sym (c.loop.invariant.turns k 0 ∙ within-none c.args.header c.loop.before (found_in c.loop.self) c.loop.met c.loop.source.bytes))
+    (c.loop.counter + 0, c.in_err-step.ensures.kept ∙ ap (λ (f : Found). told_of f) (sym (c.loop.invariant.turns k 0 ∙ within-none c.args.header c.loop.before (found_in c.loop.self) c.loop.met c.loop.source.bytes)))
 
 pub returns-then-is_read_for-clause-turns : goal.returns-then-is_read_for-clause-turns
 unfolding IsOfTurns
 returns-then-is_read_for-clause-turns g c k =
-    (c.loop.counter + 0, sym (c.loop.invariant.turns k 0 ∙ within-none c.args.header c.loop.before (found_in c.loop.self) c.loop.met c.loop.source.bytes))
+    (c.loop.counter + 0, ap (λ (f : Found). told_of f) (sym (c.loop.invariant.turns k 0 ∙ within-none c.args.header c.loop.before (found_in c.loop.self) c.loop.met c.loop.source.bytes)))
 
 pub returns-then-step-clause-turns : goal.returns-then-step-clause-turns
 unfolding IsOfTurns
 returns-then-step-clause-turns g c k =
     let here = c.loop.invariant.reads.1 k in
     let there = c.in_ok-step.ensures.reads.1 here.0 in
-    (c.loop.counter + 1, sym (c.loop.invariant.turns k 1 ∙ within-end c.args.header c.loop.before (found_in c.loop.self) c.loop.met c.loop.source.bytes c.read_turn.new.source.bytes (turn_of c.read_turn.new.self c.in_ok-step.step) (sym c.if-is_read_for.ensures) c.if-step.true there.1))
+    (c.loop.counter + 1, ap (λ (f : Found). told_of f) (sym (c.loop.invariant.turns k 1 ∙ within-end c.args.header c.loop.before (found_in c.loop.self) c.loop.met c.loop.source.bytes c.read_turn.new.source.bytes (turn_of c.read_turn.new.self c.in_ok-step.step) (sym c.if-is_read_for.ensures) c.if-step.true there.1)))
 
 pub returns-then-step-clause-reads : goal.returns-then-step-clause-reads
 returns-then-step-clause-reads g c = (
@@ -72,7 +72,7 @@ pub returns-then-step-clause-told : goal.returns-then-step-clause-told
 returns-then-step-clause-told g c k =
     let here = c.loop.invariant.reads.1 k in
     let there = c.in_ok-step.ensures.reads.1 here.0 in
-    sym (c.loop.invariant.told k ∙ told-end c.args.header c.loop.before (found_in c.loop.self) c.loop.met c.loop.source.bytes c.read_turn.new.source.bytes (turn_of c.read_turn.new.self c.in_ok-step.step) (sym c.if-is_read_for.ensures) c.if-step.true there.1)
+    ap (λ (f : Found). told_of f) (sym (c.loop.invariant.told k ∙ told-end c.args.header c.loop.before (found_in c.loop.self) c.loop.met c.loop.source.bytes c.read_turn.new.source.bytes (turn_of c.read_turn.new.self c.in_ok-step.step) (sym c.if-is_read_for.ensures) c.if-step.true there.1))
 
 stays-on : (mid new old : State) → (found_in mid).frame ≡ (found_in old).frame → (is_some (found_in mid).frame ≡ true → (found_in new).frame ≡ (found_in mid).frame) → is_some (found_in old).frame ≡ true → (found_in new).frame ≡ (found_in old).frame
 stays-on mid new old a step h = step (ap (λ (f : Option Frame). is_some f) a ∙ h) ∙ a
