@@ -1,11 +1,13 @@
 //! Errors, and the reader whose failures they name.
 ghost use Rattle.std.specs.Prelude.{◌≡◌};
+ghost use Rattle.jpeg_bits.specs.Reading.{NamesFormat, NamesEnd};
 ghost use Rattle.jpeg_bits.specs.declared.error.Error.TheVariants.{Io, OutOfMemory};
 
 use crate::color_transform::ColorTransform;
 pub use crate::source::Source;
-use std::alloc::{AllocError, AllocFailed};
+use std::alloc::{AllocError, AllocFailed, Global};
 use std::io;
+use std::io::ErrorKind;
 
 /// A feature of JPEG that is refused by name. A number is what the stream asks for.
 #[derive(Clone, Debug, PartialEq, Eq, Hash, Drop)]
@@ -65,4 +67,25 @@ impl<T: Drop> From<AllocFailed<T>> for Error {
     fn from(_e: AllocFailed<T>) -> Error {
         Error::OutOfMemory
     }
+}
+
+/// A refusal of a broken rule, whose text says which: a `Format`, or `OutOfMemory` where there is none for the text.
+#[cold]
+#[inline(never)]
+pub fn format_error(alloc: Global, text: &str) -> Error
+    ensures { NamesFormat result }
+{
+    match String::from_str(alloc, text) {
+        Ok(text) => Error::Format(text),
+        Err(_) => Error::OutOfMemory,
+    }
+}
+
+/// The refusal where the bytes end: an `Io` of the kind `UnexpectedEof`.
+#[cold]
+#[inline(never)]
+pub fn end_of_bytes() -> Error
+    ensures { NamesEnd result }
+{
+    Error::Io(io::Error::new(ErrorKind::UnexpectedEof, "failed to fill whole buffer"))
 }

@@ -6,9 +6,8 @@ ghost use Rattle.jpeg_bits.specs.Entropy.{piece_at, behind_ff, byte_or_end, bits
 
 pub use crate::codes::{HuffmanTable, HuffmanTableClass};
 pub use crate::default_tables::fill_default_mjpeg_tables;
-use crate::error::{Error, Result};
+use crate::error::{Error, Result, end_of_bytes, format_error};
 use crate::marker::Marker;
-use crate::reads::{end_of_bytes, format_error};
 use crate::source::Source;
 use std::alloc::Global;
 use std::io::Read;

@@ -1,33 +1,11 @@
 //! Reads of a source: bytes, numbers and skips.
-ghost use Rattle.std.specs.Prelude.{◌≡◌, ◌<◌, length, IfErr};
-ghost use Rattle.jpeg_bits.specs.Reading.{Answers, IsShort, Names, NamesFormat, NamesEnd, next_byte, next_u16, length_at, skip_at};
+ghost use Rattle.std.specs.Prelude.{◌≡◌};
+ghost use Rattle.jpeg_bits.specs.Reading.{Answers, IsShort, next_byte, next_u16, length_at, skip_at};
 
-use crate::error::{Error, Result};
+use crate::error::{Result, end_of_bytes, format_error};
 use crate::source::Source;
 use std::alloc::Global;
-use std::io;
-use std::io::{ErrorKind, Read};
-
-/// A refusal of a broken rule, whose text says which: a `Format`, or `OutOfMemory` where there is none for the text.
-#[cold]
-#[inline(never)]
-pub fn format_error(alloc: Global, text: &str) -> Error
-    ensures { NamesFormat result }
-{
-    match String::from_str(alloc, text) {
-        Ok(text) => Error::Format(text),
-        Err(_) => Error::OutOfMemory,
-    }
-}
-
-/// The refusal where the bytes end: an `Io` of the kind `UnexpectedEof`.
-#[cold]
-#[inline(never)]
-pub fn end_of_bytes() -> Error
-    ensures { NamesEnd result }
-{
-    Error::Io(io::Error::new(ErrorKind::UnexpectedEof, "failed to fill whole buffer"))
-}
+use std::io::Read;
 
 /// The next byte. It is `Io` where the bytes end or a read fails.
 pub fn read_u8<R: Read + Drop>(alloc: Global, source: &mut Source<R>) -> Result<u8>

@@ -1,8 +1,8 @@
 use crate::color_transform::ColorTransform;
-use crate::error::{Error, UnsupportedFeature};
+use crate::error::{Error, UnsupportedFeature, end_of_bytes, format_error};
 use crate::huffman::{HuffmanDecoder, HuffmanTable, HuffmanTableClass};
 use crate::marker::{Marker, read_marker};
-use crate::reads::{end_of_bytes, format_error, read_length, read_u8, read_u16_be, skip};
+use crate::reads::{read_length, read_u8, read_u16_be, skip};
 use crate::source::Source;
 use std::alloc::{AllocError, Global};
 use std::io;

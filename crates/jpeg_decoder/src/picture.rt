@@ -9,8 +9,8 @@ ghost use Rattle.jpeg_decoder.specs.Shapes.{shape_of, cropped_to};
 
 use crate::places::needed;
 use crate::state::{Settings, State};
-use jpeg_bits::error::Result;
-use jpeg_bits::reads::{format_error, read_u8};
+use jpeg_bits::error::{Result, format_error};
+use jpeg_bits::reads::read_u8;
 use jpeg_bits::source::Source;
 use jpeg_pixels::plane::crop;
 use jpeg_segments::parser::FrameInfo;

@@ -5,8 +5,7 @@ ghost use Rattle.jpeg_decoder.specs.Stream.{updated, named, decided};
 ghost use Rattle.jpeg_decoder.specs.PlanesIn.{planes_in};
 ghost use Rattle.jpeg_bits.specs.Reading.{NamesFormat};
 
-use jpeg_bits::error::Result;
-use jpeg_bits::reads::format_error;
+use jpeg_bits::error::{Result, format_error};
 use std::alloc::Global;
 
 /// Puts the tables that were read in place of those that were there.

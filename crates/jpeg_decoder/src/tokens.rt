@@ -7,9 +7,8 @@ ghost use Rattle.jpeg_decoder.specs.Bands.{wrapped, difference, token_from, firs
 ghost use Rattle.jpeg_decoder.specs.Lookups.{slow_token, looked_up};
 
 use crate::blocks::Token;
-use jpeg_bits::error::Result;
+use jpeg_bits::error::{Result, format_error};
 use jpeg_bits::huffman::{HuffmanDecoder, HuffmanTable};
-use jpeg_bits::reads::format_error;
 use jpeg_bits::source::Source;
 use std::alloc::Global;
 use std::io::Read;

@@ -7,9 +7,9 @@ ghost use Rattle.jpeg_segments.specs.FrameView.{application_in};
 
 use crate::parser::{AdobeColorTransform, AppData, IccChunk};
 use crate::payload::read_bytes;
-use jpeg_bits::error::Result;
+use jpeg_bits::error::{Result, format_error};
 use jpeg_bits::marker::Marker;
-use jpeg_bits::reads::{format_error, read_length, read_u16_be, skip};
+use jpeg_bits::reads::{read_length, read_u16_be, skip};
 use jpeg_bits::source::Source;
 use std::alloc::{AllocError, Global};
 use std::io::Read;

@@ -8,9 +8,9 @@ ghost use Rattle.jpeg_segments.specs.Frame.{AllHaveFactors, IsFrame, IsInRange, 
 ghost use Rattle.jpeg_segments.specs.FrameView.{component_in, frame_in, factors_of};
 
 use crate::parser::{CodingProcess, Component, Dimensions, EntropyCoding, FrameInfo};
-use jpeg_bits::error::{Error, Result, UnsupportedFeature};
+use jpeg_bits::error::{Error, Result, UnsupportedFeature, format_error};
 use jpeg_bits::marker::Marker;
-use jpeg_bits::reads::{format_error, read_length, read_u8, read_u16_be};
+use jpeg_bits::reads::{read_length, read_u8, read_u16_be};
 use jpeg_bits::source::Source;
 use std::alloc::{AllocError, Global};
 use std::io::Read;

@@ -5,9 +5,9 @@ ghost use Rattle.jpeg_bits.specs.Reading.{Answers, times, next_byte};
 ghost use Rattle.jpeg_segments.specs.HuffmanTables.{symbols_at, codes_at, placed_codes_at, greatest_place, with_table, dht_at, all_ac};
 
 use crate::payload::read_bytes;
-use jpeg_bits::error::Result;
+use jpeg_bits::error::{Result, format_error};
 use jpeg_bits::huffman::{HuffmanTable, HuffmanTableClass};
-use jpeg_bits::reads::{format_error, read_length, read_u8};
+use jpeg_bits::reads::{read_length, read_u8};
 use jpeg_bits::source::Source;
 use std::alloc::{AllocError, Global};
 use std::io::Read;

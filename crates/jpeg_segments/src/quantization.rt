@@ -3,8 +3,8 @@ ghost use Rattle.std.specs.Prelude.{◌≡◌, ◌≤◌, ◌<◌, IfOk};
 ghost use Rattle.jpeg_bits.specs.Reading.{Answers, times};
 ghost use Rattle.jpeg_segments.specs.Quantization.{value_at, table_at, placed_table_at, dqt_at};
 
-use jpeg_bits::error::Result;
-use jpeg_bits::reads::{format_error, read_length, read_u8, read_u16_be};
+use jpeg_bits::error::{Result, format_error};
+use jpeg_bits::reads::{read_length, read_u8, read_u16_be};
 use jpeg_bits::source::Source;
 use std::alloc::Global;
 use std::io::Read;

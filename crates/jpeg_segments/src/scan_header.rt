@@ -7,8 +7,8 @@ ghost use Rattle.jpeg_segments.specs.FrameView.{component_in, frame_in, scan_in,
 
 use crate::huffman_tables::greatest_place;
 use crate::parser::{CodingProcess, Component, FrameInfo, Predictor, ScanInfo};
-use jpeg_bits::error::Result;
-use jpeg_bits::reads::{format_error, read_length, read_u8};
+use jpeg_bits::error::{Result, format_error};
+use jpeg_bits::reads::{read_length, read_u8};
 use jpeg_bits::source::Source;
 use std::alloc::{AllocError, Global};
 use std::io::Read;
