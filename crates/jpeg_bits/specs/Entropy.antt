@@ -5,10 +5,10 @@ use Rattle.jpeg_bits.specs.Marker.{marker_of}
 use Rattle.jpeg_bits.specs.Stream.{Stream}
 use Rattle.jpeg_bits.specs.declared.marker.Marker.{Marker}
 use Rattle.jpeg_bits.specs.declared.error.Error.{Error}
-use Rattle.jpeg_bits.specs.declared.huffman.Piece.{Piece}
-use Rattle.jpeg_bits.specs.declared.huffman.Piece.TheVariants.{Byte, Data}
-use Rattle.jpeg_bits.specs.declared.huffman.DataEnd.{DataEnd}
-use Rattle.jpeg_bits.specs.declared.huffman.DataEnd.TheVariants as ends
+use Rattle.jpeg_bits.specs.declared.ahead.Piece.{Piece}
+use Rattle.jpeg_bits.specs.declared.ahead.Piece.TheVariants.{Byte, Data}
+use Rattle.jpeg_bits.specs.declared.ahead.DataEnd.{DataEnd}
+use Rattle.jpeg_bits.specs.declared.ahead.DataEnd.TheVariants as ends
 
 -- how a text ends: with a marker, and the bytes behind it, or with a fault
 pub data Ending : Type 0 where

@@ -1,6 +1,8 @@
 //! The bytes of a JPEG stream: errors, markers and entropy-coded bits.
 #![tactic(auto)]
 
+mod ahead;
+mod bits;
 pub mod codes;
 pub mod color_transform;
 mod default_tables;

@@ -7,8 +7,8 @@ use Rattle.jpeg_bits.specs.Entropy.{Text, Ending, Found, Broken, no_bits, add_by
 use Rattle.jpeg_bits.specs.Marker.{marker_of}
 use Rattle.jpeg_bits.specs.Readers.{Reads, read_on, ◌>>=◌, gives, refused, signed_from}
 use Rattle.jpeg_bits.specs.Codes.{Table, symbol_by, symbol_from, if_held, code_by, code_from, code_in, code_lengths, next_16}
-use Rattle.jpeg_bits.specs.declared.huffman.DataEnd.{DataEnd}
-use Rattle.jpeg_bits.specs.declared.huffman.DataEnd.TheVariants as ends
+use Rattle.jpeg_bits.specs.declared.ahead.DataEnd.{DataEnd}
+use Rattle.jpeg_bits.specs.declared.ahead.DataEnd.TheVariants as ends
 use Rattle.jpeg_bits.specs.declared.marker.Marker.{Marker}
 use Rattle.jpeg_decoder.proofs.Shorter.{LeavesBelow, below-ok, below-err}
 

@@ -2,7 +2,7 @@ use Rattle.std.proofs.Common.{◌≤◌, length, arith}
 use Rattle.jpeg_bits.specs.Entropy.{Ahead}
 use Rattle.jpeg_bits.specs.Refusals.{held_refusal}
 use Rattle.jpeg_bits.proofs.Texts.{none_from, within_byte, Holds-byte, Holds-end, Holds-refused}
-use Rattle.jpeg_bits.proofs.huffman.Held.fill.Goals as goal
+use Rattle.jpeg_bits.proofs.ahead.Held.fill.Goals as goal
 
 pub loop-self-preserved-in-Some-Byte : goal.loop-self-preserved-in-Some-Byte
 loop-self-preserved-in-Some-Byte g c =

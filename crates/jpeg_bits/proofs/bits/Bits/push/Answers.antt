@@ -1,7 +1,7 @@
 use Rattle.std.proofs.Common.{◌∙◌, ◌++◌, ◌-◌, ap, List, Bool, take, arith}
 use Rattle.jpeg_bits.specs.Entropy.{bits_of}
 use Rattle.jpeg_bits.proofs.Held.{rotated}
-use Rattle.jpeg_bits.proofs.huffman.Bits.push.Goals as goal
+use Rattle.jpeg_bits.proofs.bits.Bits.push.Goals as goal
 
 pub returns-else-self-le56 : goal.returns-else-self-le56
 returns-else-self-le56 c =

@@ -1,7 +1,7 @@
 use Rattle.std.proofs.Common.{◌+◌, ◌-◌, length}
 use Rattle.jpeg_bits.specs.Entropy.{IsWithin}
 use Rattle.jpeg_bits.proofs.Texts.{Holds, not_met}
-use Rattle.jpeg_bits.proofs.huffman.Held.fill.Given as goal
+use Rattle.jpeg_bits.proofs.ahead.Held.fill.Given as goal
 
 abbrev pub invariant-loop-self : goal.invariant-loop-self
 invariant-loop-self g l = record {

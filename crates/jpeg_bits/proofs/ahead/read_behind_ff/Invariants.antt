@@ -1,8 +1,8 @@
 use Rattle.std.proofs.Common.{ℕ, List, ◌+◌, ◌∷◌, Ok}
 use Rattle.jpeg_bits.specs.Entropy.{behind_ff, filled_end}
-use Rattle.jpeg_bits.specs.declared.huffman.Piece.TheVariants.{Data}
+use Rattle.jpeg_bits.specs.declared.ahead.Piece.TheVariants.{Data}
 use Rattle.jpeg_bits.proofs.Loops.{Continues, Took}
-use Rattle.jpeg_bits.proofs.huffman.read_behind_ff.Given as goal
+use Rattle.jpeg_bits.proofs.ahead.read_behind_ff.Given as goal
 
 abbrev pub invariant-loop : goal.invariant-loop
 invariant-loop g l = record {

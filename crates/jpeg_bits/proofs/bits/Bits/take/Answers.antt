@@ -1,7 +1,7 @@
 use Rattle.std.proofs.Common.{◌∙◌, ◌++◌, ap, List, Bool, take, replicate, false}
 use Rattle.jpeg_bits.specs.Entropy.{number_of}
 use Rattle.jpeg_bits.proofs.Held.{slice-held}
-use Rattle.jpeg_bits.proofs.huffman.Bits.take.Goals as goal
+use Rattle.jpeg_bits.proofs.bits.Bits.take.Goals as goal
 
 pub returns-clause-value : goal.returns-clause-value
 returns-clause-value c =

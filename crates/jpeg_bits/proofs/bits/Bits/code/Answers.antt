@@ -1,7 +1,7 @@
 use Rattle.std.proofs.Common.{◌∙◌, ap, List, Bool}
 use Rattle.jpeg_bits.specs.Codes.{code_in, code_lengths, next_16}
 use Rattle.jpeg_bits.proofs.Held.{slice-held}
-use Rattle.jpeg_bits.proofs.huffman.Bits.code.Goals as goal
+use Rattle.jpeg_bits.proofs.bits.Bits.code.Goals as goal
 
 pub returns-clause-code : goal.returns-clause-code
 returns-clause-code c =
