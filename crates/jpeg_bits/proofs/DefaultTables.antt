@@ -14,9 +14,6 @@ only-memory (errors.Io e) lengths refused exist = absurd refused
 only-memory (errors.Internal text) lengths refused exist = absurd refused
 only-memory errors.OutOfMemory lengths refused exist = refl
 
-AreCodesOf : Table → Type 0
-AreCodesOf t = AreCodes t.counts t.symbols
-
 exists : (counts : List ℕ) → codes_exist (code_lengths counts) ≡ true → HasCodes (code_lengths counts)
 exists counts e = tested-exist (code_lengths counts) e
 
