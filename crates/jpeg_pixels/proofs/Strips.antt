@@ -15,9 +15,6 @@ use Rattle.jpeg_pixels.proofs.PlaneRows.{some_wide, line_lt}
 pub record HoldsSamples (stride columns : ℕ) (sample_at : ℕ → ℕ → ℕ) (strip : List ℕ) : Type 0 where
   pub held : (x y : ℕ) → x < columns → y < 8 → slice_index strip (y * stride + x) ≡ sample_at x y
 
-pub HoldsSamples-none : (stride : ℕ) (sample_at : ℕ → ℕ → ℕ) (strip : List ℕ) → HoldsSamples stride 0 sample_at strip
-HoldsSamples-none stride sample_at strip = record { held = λ x y hx hy. absurd (omega arith) }
-
 -- one more block, written at the front of what begins at its first sample
 pub HoldsSamples-next : (stride column k : ℕ) (sample_at block_at : ℕ → ℕ → ℕ) (now new : List ℕ) → 8 * column + 8 ≤ stride → length now ≡ 8 * stride → k ≡ length now - 8 * column
     → ((x y : ℕ) → x < 8 → y < 8 → block_at x y ≡ sample_at (8 * column + x) y)
