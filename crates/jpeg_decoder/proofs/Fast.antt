@@ -7,8 +7,8 @@ use Rattle.jpeg_bits.specs.Codes.{Table, code_in, code_lengths, next_16, symbol_
 use Rattle.jpeg_bits.specs.Readers.{Reads, ◌>>=◌, gives, read_on, signed_from}
 use Rattle.jpeg_decoder.specs.Bands.{token_at, token_from}
 use Rattle.jpeg_decoder.specs.Lookups.{value_token, slow_token, fast_or, looked_up}
-use Rattle.jpeg_decoder.specs.declared.blocks.Token.{Token}
-use Rattle.jpeg_decoder.specs.declared.blocks.Token.TheVariants.{Value, Sixteen, Rest, Overlong}
+use Rattle.jpeg_decoder.specs.declared.tokens.Token.{Token}
+use Rattle.jpeg_decoder.specs.declared.tokens.Token.TheVariants.{Value, Sixteen, Rest, Overlong}
 
 drop-none : {A : Type 0} (xs : List A) → drop 0 xs ≡ xs
 drop-none xs = refl

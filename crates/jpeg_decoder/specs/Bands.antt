@@ -4,8 +4,8 @@ use Rattle.std.specs.Int.{int_wrap, w16}
 use Rattle.jpeg_bits.specs.Entropy.{bits_from}
 use Rattle.jpeg_bits.specs.Readers.{Reads, ◌>>=◌, gives, refused, signed_from}
 use Rattle.jpeg_bits.specs.Codes.{Table, symbol_from, code_from}
-use Rattle.jpeg_decoder.specs.declared.blocks.Token.{Token}
-use Rattle.jpeg_decoder.specs.declared.blocks.Token.TheVariants.{Value, Sixteen, Rest, Overlong}
+use Rattle.jpeg_decoder.specs.declared.tokens.Token.{Token}
+use Rattle.jpeg_decoder.specs.declared.tokens.Token.TheVariants.{Value, Sixteen, Rest, Overlong}
 
 -- modulo 2 ^ 16
 abbrev pub wrapped : ℤ → ℤ

@@ -3,8 +3,8 @@ use Rattle.std.specs.Prelude.{ℕ, ◌+◌, ◌-◌, ◌/◌, ◌%◌, ◌^◌, 
 use Rattle.jpeg_bits.specs.Entropy.{bits_from}
 use Rattle.jpeg_bits.specs.Readers.{Reads, ◌>>=◌, gives, signed_from}
 use Rattle.jpeg_bits.specs.Codes.{Table, symbol_from, fast_from}
-use Rattle.jpeg_decoder.specs.declared.blocks.Token.{Token}
-use Rattle.jpeg_decoder.specs.declared.blocks.Token.TheVariants.{Value, Sixteen, Rest, Overlong}
+use Rattle.jpeg_decoder.specs.declared.tokens.Token.{Token}
+use Rattle.jpeg_decoder.specs.declared.tokens.Token.TheVariants.{Value, Sixteen, Rest, Overlong}
 
 -- a value behind r zeros, where r is within the room
 abbrev pub value_token : ℕ → ℕ → ℤ → Token

@@ -19,19 +19,6 @@ use jpeg_pixels::zigzag::{coefficients_in_order, values_in_order};
 use std::alloc::Global;
 use std::io::Read;
 
-/// What a token of a first pass stands for.
-#[derive(Clone, Copy, Debug, PartialEq)]
-pub enum Token {
-    /// A value behind some zeros.
-    Value(u8, i16),
-    /// Sixteen zeros.
-    Sixteen,
-    /// Zeros to the end of the band, and so in some blocks behind.
-    Rest(u16),
-    /// A value beyond the end of the band.
-    Overlong,
-}
-
 /// The blocks of a component: across and down, those that it has by its own size, and those that its
 /// part of all MCUs has.
 #[derive(Clone, Copy, Debug, PartialEq)]

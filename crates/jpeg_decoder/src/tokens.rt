@@ -6,12 +6,24 @@ ghost use Rattle.jpeg_bits.specs.declared.codes.HuffmanTableClass.TheVariants.{A
 ghost use Rattle.jpeg_decoder.specs.Bands.{wrapped, difference, token_from, first_ac, IsWithinRoom};
 ghost use Rattle.jpeg_decoder.specs.Lookups.{slow_token, looked_up};
 
-use crate::blocks::Token;
 use jpeg_bits::error::{Result, format_error};
 use jpeg_bits::huffman::{HuffmanDecoder, HuffmanTable};
 use jpeg_bits::source::Source;
 use std::alloc::Global;
 use std::io::Read;
+
+/// What a token of a first pass stands for.
+#[derive(Clone, Copy, Debug, PartialEq)]
+pub enum Token {
+    /// A value behind some zeros.
+    Value(u8, i16),
+    /// Sixteen zeros.
+    Sixteen,
+    /// Zeros to the end of the band, and so in some blocks behind.
+    Rest(u16),
+    /// A value beyond the end of the band.
+    Overlong,
+}
 
 /// A DC difference.
 #[tactic(auto, unfolding(crate::specs::Bands::difference))]
