@@ -6,6 +6,7 @@ mod color_choice;
 #[cfg(test)]
 mod color_choice_tests;
 pub mod decoder;
+mod frames;
 pub mod laws;
 mod metadata;
 mod picture;

@@ -1,17 +1,17 @@
 //! The segments of a stream, read in turn (T.81, B.2).
-ghost use Rattle.jpeg_pixels.specs.Pictures.{sources_of};
-ghost use Rattle.std.specs.Prelude.{◌≡◌, ◌&&◌, true, is_some, None, Ok, MatchResult, OnErr, IfOk, false, ◌≤◌, length, map, IsOk};
+ghost use Rattle.std.specs.Prelude.{◌≡◌, ◌&&◌, true, is_some, None, OnErr, IfOk, false};
 ghost use Rattle.jpeg_bits.specs.Reading.{Answers, Names, IsShort};
-ghost use Rattle.jpeg_decoder.specs.Stream.{nothing_found, is_precision, is_arithmetic, is_sequential, accepted, frame_segment, quantization_segment, huffman_segment, restart_segment, application_segment, skipped_segment, scan_before, scan_segment, end_segment, stray_restart, line_count, segment_at, marker_or, turn_at, segments_at, told_of, told_rest, told_in_turns, IsOfTurns, is_decoded};
+ghost use Rattle.jpeg_decoder.specs.Stream.{nothing_found, is_sequential, frame_segment, quantization_segment, huffman_segment, restart_segment, application_segment, skipped_segment, scan_before, scan_segment, end_segment, stray_restart, line_count, segment_at, marker_or, turn_at, segments_at, told_of, told_rest, told_in_turns, IsOfTurns, is_decoded};
 ghost use Rattle.jpeg_decoder.specs.Scans.{grid_of};
 ghost use Rattle.jpeg_decoder.specs.declared.segments.Before.TheVariants.{Elsewhere};
-ghost use Rattle.jpeg_segments.specs.Frame.{ceiling, AllHaveFactors};
+ghost use Rattle.jpeg_segments.specs.Frame.{ceiling};
 ghost use Rattle.jpeg_segments.specs.FrameView.{component_in, frame_in, scan_in};
 ghost use Rattle.jpeg_decoder.specs.States.{OnTold};
 ghost use Rattle.jpeg_decoder.specs.Seen.{found_in};
 ghost use Rattle.jpeg_decoder.specs.Steps.{turn_of, coded_plane, scan_plane, is_restart, behind_all, whole_scan, IsRefusal};
 
 use crate::blocks::{Grid, read_plane};
+use crate::frames::check_frame;
 use crate::metadata::Metadata;
 use crate::places::{decide, named_table, needed, table_at, update};
 use crate::state::State;
@@ -20,10 +20,9 @@ use jpeg_bits::marker::{Marker, read_marker};
 use jpeg_bits::reads::{read_length, skip};
 use jpeg_bits::scan::ScanInfo;
 use jpeg_bits::source::Source;
-use jpeg_pixels::upsampler::Upsampler;
 use jpeg_segments::parser::{
-    CodingProcess, Component, EntropyCoding, FrameInfo, parse_app, parse_dht, parse_dqt, parse_dri,
-    parse_sof, parse_sos,
+    CodingProcess, Component, FrameInfo, parse_app, parse_dht, parse_dqt, parse_dri, parse_sof,
+    parse_sos,
 };
 use std::alloc::Global;
 use std::io::Read;
@@ -407,16 +406,6 @@ fn marker_or_next<R: Read + Drop>(
     }
 }
 
-/// Whether a frame's entropy coding is arithmetic.
-fn is_arithmetic(coding: EntropyCoding) -> bool
-    ensures { result ≡ is_arithmetic coding }
-{
-    match coding {
-        EntropyCoding::Huffman => false,
-        EntropyCoding::Arithmetic => true,
-    }
-}
-
 /// Whether a frame is sequential.
 fn is_sequential(process: CodingProcess) -> bool
     ensures { result ≡ is_sequential process }
@@ -425,52 +414,6 @@ fn is_sequential(process: CodingProcess) -> bool
         CodingProcess::DctSequential => true,
         CodingProcess::DctProgressive | CodingProcess::Lossless => false,
     }
-}
-
-/// Whether frames of a process are decoded at a precision: 8 bits, or in a lossless frame 2 to 16.
-fn is_precision(process: CodingProcess, precision: u8) -> bool
-    ensures { result ≡ is_precision process precision }
-{
-    match process {
-        CodingProcess::DctSequential | CodingProcess::DctProgressive => precision == 8,
-        CodingProcess::Lossless => precision >= 2 && precision <= 16,
-    }
-}
-
-/// Checks that each component has a way to upsample it.
-fn check_ratios(alloc: Global, frame: &FrameInfo) -> Result<()>
-    requires some { 1 ≤ length frame.now.components.items }
-    requires most { length frame.now.components.items ≤ 4 }
-    requires factors { AllHaveFactors (map component_in frame.now.components.items) }
-    ensures { MatchResult result
-        (λ _. IsOk (sources_of (frame_in frame.now).components (frame_in frame.now).output_width (frame_in frame.now).output_height))
-        (λ e. IsRefusal e × Names e (sources_of (frame_in frame.now).components (frame_in frame.now).output_width (frame_in frame.now).output_height)) }
-{
-    let size = frame.output_size;
-    Upsampler::new(alloc, &frame.components, size.width, size.height)?;
-    Ok(())
-}
-
-/// Checks that a frame is one that is decoded.
-#[tactic(auto, unfolding(crate::specs::Stream::accepted))]
-fn check_frame(alloc: Global, frame: &FrameInfo) -> Result<()>
-    requires { AllHaveFactors (map component_in frame.now.components.items) }
-    ensures { MatchResult result (λ _. accepted (frame_in frame.now) ≡ Ok (frame_in frame.now)) (λ e. IsRefusal e × Names e (accepted (frame_in frame.now))) }
-{
-    if frame.is_differential {
-        return Err(Error::Unsupported(UnsupportedFeature::Hierarchical));
-    }
-    if is_arithmetic(frame.entropy_coding) {
-        return Err(Error::Unsupported(UnsupportedFeature::ArithmeticEntropyCoding));
-    }
-    if !is_precision(frame.coding_process, frame.precision) {
-        return Err(Error::Unsupported(UnsupportedFeature::SamplePrecision(frame.precision)));
-    }
-    let count = frame.components.len();
-    if !(count == 1 || (count == 3 || count == 4)) {
-        return Err(Error::Unsupported(UnsupportedFeature::ComponentCount(count.min(255) as u8)));
-    }
-    check_ratios(alloc, frame)
 }
 
 /// Why a DNL segment is refused: behind the first scan it would tell the height.

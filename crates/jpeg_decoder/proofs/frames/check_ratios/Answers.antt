@@ -2,7 +2,7 @@ use Rattle.std.proofs.Common.{map}
 use Rattle.std.proofs.lemmas.Result.{err_from_is_err_and}
 use Rattle.jpeg_segments.specs.FrameView.{component_in}
 use Rattle.jpeg_decoder.proofs.Ratios.{ratios-refused}
-use Rattle.jpeg_decoder.proofs.segments.check_ratios.Goals as goal
+use Rattle.jpeg_decoder.proofs.frames.check_ratios.Goals as goal
 
 pub returns-in_err-new : goal.returns-in_err-new
 returns-in_err-new c =
