@@ -13,6 +13,7 @@ mod picture;
 mod places;
 mod profile;
 pub mod run;
+mod scans;
 mod segments;
 mod state;
 mod tokens;

@@ -1,19 +1,18 @@
 //! The segments of a stream, read in turn (T.81, B.2).
 ghost use Rattle.std.specs.Prelude.{◌≡◌, ◌&&◌, true, is_some, None, OnErr, IfOk, false};
-ghost use Rattle.jpeg_bits.specs.Reading.{Answers, Names, IsShort};
-ghost use Rattle.jpeg_decoder.specs.Stream.{nothing_found, is_sequential, frame_segment, quantization_segment, huffman_segment, restart_segment, application_segment, skipped_segment, scan_before, scan_segment, end_segment, stray_restart, line_count, segment_at, marker_or, turn_at, segments_at, told_of, told_rest, told_in_turns, IsOfTurns, is_decoded};
-ghost use Rattle.jpeg_decoder.specs.Scans.{grid_of};
+ghost use Rattle.jpeg_bits.specs.Reading.{Answers, IsShort};
+ghost use Rattle.jpeg_decoder.specs.Stream.{nothing_found, frame_segment, quantization_segment, huffman_segment, restart_segment, application_segment, skipped_segment, scan_before, scan_segment, end_segment, stray_restart, segment_at, marker_or, turn_at, segments_at, told_of, told_rest, told_in_turns, IsOfTurns, is_decoded};
 ghost use Rattle.jpeg_decoder.specs.declared.segments.Before.TheVariants.{Elsewhere};
-ghost use Rattle.jpeg_segments.specs.Frame.{ceiling};
 ghost use Rattle.jpeg_segments.specs.FrameView.{component_in, frame_in, scan_in};
 ghost use Rattle.jpeg_decoder.specs.States.{OnTold};
 ghost use Rattle.jpeg_decoder.specs.Seen.{found_in};
-ghost use Rattle.jpeg_decoder.specs.Steps.{turn_of, coded_plane, scan_plane, is_restart, behind_all, whole_scan, IsRefusal};
+ghost use Rattle.jpeg_decoder.specs.Steps.{turn_of, coded_plane, scan_plane, whole_scan};
 
-use crate::blocks::{Grid, read_plane};
+use crate::blocks::read_plane;
 use crate::frames::check_frame;
 use crate::metadata::Metadata;
 use crate::places::{decide, named_table, needed, table_at, update};
+use crate::scans::{grid_of, is_sequential, pass_restarts, refused_line_count};
 use crate::state::State;
 use jpeg_bits::error::{Error, Result, UnsupportedFeature, format_error};
 use jpeg_bits::marker::{Marker, read_marker};
@@ -21,8 +20,7 @@ use jpeg_bits::reads::{read_length, skip};
 use jpeg_bits::scan::ScanInfo;
 use jpeg_bits::source::Source;
 use jpeg_segments::parser::{
-    CodingProcess, Component, FrameInfo, parse_app, parse_dht, parse_dqt, parse_dri, parse_sof,
-    parse_sos,
+    Component, FrameInfo, parse_app, parse_dht, parse_dqt, parse_dri, parse_sof, parse_sos,
 };
 use std::alloc::Global;
 use std::io::Read;
@@ -403,71 +401,5 @@ fn marker_or_next<R: Read + Drop>(
     match met {
         Some(marker) => Ok(marker),
         None => read_marker(alloc, source),
-    }
-}
-
-/// Whether a frame is sequential.
-fn is_sequential(process: CodingProcess) -> bool
-    ensures { result ≡ is_sequential process }
-{
-    match process {
-        CodingProcess::DctSequential => true,
-        CodingProcess::DctProgressive | CodingProcess::Lossless => false,
-    }
-}
-
-/// Why a DNL segment is refused: behind the first scan it would tell the height.
-fn refused_line_count(alloc: Global, before: Before) -> Error
-    ensures { IsRefusal result × Names result (line_count before) }
-{
-    match before {
-        Before::FirstScan => Error::Unsupported(UnsupportedFeature::DNL),
-        Before::LaterScan | Before::Elsewhere => {
-            format_error(alloc, "a number of lines that is not behind the first scan")
-        }
-    }
-}
-
-/// Passes over restart markers behind a scan, and gives the marker behind them, if it is met.
-fn pass_restarts<R: Read + Drop>(
-    alloc: Global,
-    source: &mut Source<R>,
-    met: Option<Marker>,
-) -> Result<Option<Marker>>
-    ensures { Answers (λ m. m) (behind_all met) source.old result source.new }
-{
-    let mut met = met;
-    for _ in 0..=u64::MAX {
-        if !is_restart(met) {
-            return Ok(met);
-        }
-        met = Some(read_marker(alloc, source)?);
-    }
-    Err(format_error(alloc, "restart markers without end"))
-}
-
-/// Whether a restart marker is met.
-fn is_restart(met: Option<Marker>) -> bool
-    ensures { result ≡ is_restart met }
-{
-    matches!(met, Some(Marker::RST(_)))
-}
-
-/// The blocks that some samples take.
-fn blocks_of(samples: u16) -> u16
-    ensures { result ≡ ceiling samples 8 }
-{
-    ((u32::from(samples) + 7) / 8) as u16
-}
-
-/// The blocks of a component.
-fn grid_of(component: &Component) -> Grid
-    ensures { result ≡ grid_of (component_in component.now) }
-{
-    Grid {
-        own_wide: blocks_of(component.size.width),
-        own_high: blocks_of(component.size.height),
-        wide: component.block_size.width,
-        high: component.block_size.height,
     }
 }
