@@ -10,7 +10,7 @@ use Rattle.jpeg_segments.specs.Frame.{Frame, sof_at}
 use Rattle.jpeg_segments.specs.Quantization.{dqt_at}
 use Rattle.jpeg_segments.specs.HuffmanTables.{dht_at}
 use Rattle.jpeg_segments.specs.Application.{app_at, dri_at}
-use Rattle.jpeg_decoder.specs.declared.segments.Before.TheVariants.{Elsewhere}
+use Rattle.jpeg_decoder.specs.declared.state.Before.TheVariants.{Elsewhere}
 use Rattle.jpeg_decoder.specs.Stream.{Found, Turn, nothing_found, onward, needed, accepted, frame_segment, quantization_segment, huffman_segment, restart_segment, application_segment, skipped_segment, scan_segment, end_segment, segment_at, turn_at, segments_within, segments_at}
 use Rattle.jpeg_decoder.proofs.Restarts.{either}
 use Rattle.jpeg_decoder.proofs.Turns.{turn-takes, segments-refused, segments-next}

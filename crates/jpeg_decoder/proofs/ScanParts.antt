@@ -1,7 +1,7 @@
 -- A scan is its plane, and what is kept of it.
 use Rattle.std.proofs.Common.{◌≡◌, ℕ, List, Result, Ok, Err, Bool, true, false, Option, refl, ◌∙◌}
 use Rattle.std.specs.Prelude.{None, slice_set, slice_index_or, if◌then◌else◌}
-use Rattle.jpeg_decoder.specs.declared.segments.Before.{Before}
+use Rattle.jpeg_decoder.specs.declared.state.Before.{Before}
 use Rattle.jpeg_bits.specs.Reading.{Outcome, Fault, ◌>>=◌}
 use Rattle.jpeg_bits.specs.declared.marker.Marker.{Marker}
 use Rattle.jpeg_segments.specs.ScanHeader.{sos_at}

@@ -5,7 +5,7 @@ use Rattle.jpeg_bits.specs.declared.error.Error.{Error}
 use Rattle.jpeg_bits.specs.declared.error.Error.TheVariants as errors
 use Rattle.jpeg_decoder.specs.States.{IfRefused, OnTold}
 use Rattle.jpeg_bits.specs.Reading.{Fault, Outcome}
-use Rattle.jpeg_decoder.specs.declared.segments.Before.TheVariants.{Elsewhere}
+use Rattle.jpeg_decoder.specs.declared.state.Before.TheVariants.{Elsewhere}
 use Rattle.jpeg_decoder.specs.Stream.{Found, Told, told_of, IsOfTurns, nothing_found, start_at, told_rest, told_by_stream, told_at, told_within, told_in_turns, told_by_turns}
 
 pub told-no_start : (header : Bool) (bytes : List ℕ) (fault : Fault) → start_at bytes ≡ Err fault → told_by_stream header bytes ≡ told_of nothing_found

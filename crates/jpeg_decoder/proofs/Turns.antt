@@ -11,8 +11,8 @@ use Rattle.jpeg_segments.specs.ScanHeader.{sos_at}
 use Rattle.jpeg_segments.specs.Quantization.{dqt_at}
 use Rattle.jpeg_segments.specs.HuffmanTables.{dht_at}
 use Rattle.jpeg_segments.specs.Application.{app_at, dri_at}
-use Rattle.jpeg_decoder.specs.declared.segments.Before.{Before}
-use Rattle.jpeg_decoder.specs.declared.segments.Before.TheVariants.{FirstScan, LaterScan, Elsewhere}
+use Rattle.jpeg_decoder.specs.declared.state.Before.{Before}
+use Rattle.jpeg_decoder.specs.declared.state.Before.TheVariants.{FirstScan, LaterScan, Elsewhere}
 use Rattle.jpeg_decoder.specs.Stream.{Found, Turn, onward, needed, accepted, coding_of, scan_samples, behind_restarts, frame_segment, quantization_segment, huffman_segment, restart_segment, application_segment, skipped_segment, scan_segment, end_segment, stray_restart, line_count, segment_at, turn_at, segments_within, segments_at, told_within, told_at}
 use Rattle.jpeg_decoder.specs.Steps.{is_restart}
 use Rattle.jpeg_decoder.proofs.Shorter.{LeavesBelow, length-below, skip-below, marker-below}

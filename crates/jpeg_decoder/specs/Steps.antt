@@ -8,7 +8,7 @@ use Rattle.jpeg_bits.specs.declared.marker.Marker.TheVariants.{RST}
 use Rattle.jpeg_segments.specs.Frame.{Component}
 use Rattle.jpeg_segments.specs.ScanHeader.{Scan, sos_at}
 use Rattle.jpeg_decoder.specs.declared.state.State.{State}
-use Rattle.jpeg_decoder.specs.declared.segments.Step.{Step}
+use Rattle.jpeg_decoder.specs.declared.state.Step.{Step}
 use Rattle.jpeg_decoder.specs.Stream.{Found, Turn, needed, named, first_of, is_decoded, with_plane, scan_before, scan_samples, behind_restarts}
 use Rattle.jpeg_decoder.specs.Seen.{found_in}
 

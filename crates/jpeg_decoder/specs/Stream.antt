@@ -20,8 +20,8 @@ use Rattle.jpeg_pixels.specs.Planes.{cropped}
 use Rattle.jpeg_pixels.specs.Pictures.{sources_of}
 use Rattle.jpeg_decoder.specs.Scans.{grid_of, plane_at}
 use Rattle.jpeg_decoder.specs.declared.state.Settings.{Settings}
-use Rattle.jpeg_decoder.specs.declared.segments.Before.{Before}
-use Rattle.jpeg_decoder.specs.declared.segments.Before.TheVariants.{FirstScan, LaterScan, Elsewhere}
+use Rattle.jpeg_decoder.specs.declared.state.Before.{Before}
+use Rattle.jpeg_decoder.specs.declared.state.Before.TheVariants.{FirstScan, LaterScan, Elsewhere}
 
 -- What the segments of applications have said: whether JFIF or an MJPEG frame was named, and the last Adobe transform, Exif, XMP and
 -- Photoshop data; parts of ICC profiles add up.

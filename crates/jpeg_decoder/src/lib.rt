@@ -14,7 +14,6 @@ mod places;
 mod profile;
 pub mod run;
 mod scans;
-mod segments;
 mod state;
 mod tokens;
 pub mod worked;

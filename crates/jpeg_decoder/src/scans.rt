@@ -8,7 +8,7 @@ ghost use Rattle.jpeg_segments.specs.FrameView.{component_in};
 ghost use Rattle.jpeg_decoder.specs.Steps.{is_restart, behind_all, IsRefusal};
 
 use crate::blocks::Grid;
-use crate::segments::Before;
+use crate::state::Before;
 use jpeg_bits::error::{Error, Result, UnsupportedFeature, format_error};
 use jpeg_bits::marker::{Marker, read_marker};
 use jpeg_bits::source::Source;

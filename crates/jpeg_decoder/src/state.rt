@@ -1,11 +1,26 @@
-//! What the segments of a stream have said so far.
-ghost use Rattle.std.specs.Prelude.{◌≡◌, true};
+//! What the segments of a stream have said so far, and the segments read in turn (T.81, B.2).
+ghost use Rattle.std.specs.Prelude.{◌≡◌, true, None};
+ghost use Rattle.jpeg_bits.specs.Reading.{Answers, IsShort};
 ghost use Rattle.jpeg_segments.specs.HuffmanTables.{all_ac};
+ghost use Rattle.jpeg_decoder.specs.Stream.{marker_or};
 
+use crate::blocks::read_plane;
+use crate::frames::check_frame;
 use crate::metadata::Metadata;
+use crate::places::{decide, named_table, needed, table_at, update};
+use crate::scans::{grid_of, is_sequential, pass_restarts, refused_line_count};
 use jpeg_bits::color_transform::ColorTransform;
+use jpeg_bits::error::{Error, Result, UnsupportedFeature, format_error};
 use jpeg_bits::huffman::HuffmanTable;
-use jpeg_segments::parser::FrameInfo;
+use jpeg_bits::marker::{Marker, read_marker};
+use jpeg_bits::reads::{read_length, skip};
+use jpeg_bits::scan::ScanInfo;
+use jpeg_bits::source::Source;
+use jpeg_segments::parser::{
+    Component, FrameInfo, parse_app, parse_dht, parse_dqt, parse_dri, parse_sof, parse_sos,
+};
+use std::alloc::Global;
+use std::io::Read;
 
 /// What a caller sets.
 #[derive(Clone, Copy, Debug, PartialEq)]
@@ -33,4 +48,392 @@ pub struct State {
 
     // Each AC table is of class AC.
     ghost ac_classes: { all_ac ac_tables ≡ true },
+}
+
+/// What stands before a marker.
+#[derive(Clone, Copy, Debug, PartialEq)]
+pub enum Before {
+    FirstScan,
+    LaterScan,
+    Elsewhere,
+}
+
+/// What stands behind a segment: what stands before the next marker, that marker, if it was met already, and whether the image has ended.
+#[derive(Clone, Copy, Debug, PartialEq)]
+pub struct Step {
+    pub before: Before,
+    pub met: Option<Marker>,
+    pub ended: bool,
+}
+
+/// What stands behind a segment that ends before the next marker.
+const ONWARD: Step = Step {
+    before: Before::Elsewhere,
+    met: None,
+    ended: false,
+};
+
+impl State {
+    ghost use Rattle.std.specs.Prelude.{◌≡◌, ◌&&◌, true, is_some, None, OnErr, IfOk, false};
+    ghost use Rattle.jpeg_bits.specs.Reading.{Answers, IsShort};
+    ghost use Rattle.jpeg_segments.specs.FrameView.{component_in, frame_in, scan_in};
+    ghost use Rattle.jpeg_decoder.specs.Stream.{nothing_found, frame_segment, quantization_segment, huffman_segment, restart_segment, application_segment, skipped_segment, scan_before, scan_segment, end_segment, stray_restart, segment_at, turn_at, segments_at, told_of, told_rest, told_in_turns, IsOfTurns, is_decoded};
+    ghost use Rattle.jpeg_decoder.specs.States.{OnTold};
+    ghost use Rattle.jpeg_decoder.specs.Seen.{found_in};
+    ghost use Rattle.jpeg_decoder.specs.Steps.{turn_of, coded_plane, scan_plane, whole_scan};
+    ghost use Rattle.jpeg_decoder.specs.declared.state.Before.TheVariants.{Elsewhere};
+
+    /// The state at the start of a stream.
+    #[tactic(auto, unfolding(crate::specs::Stream::nothing_found))]
+    pub fn new(alloc: Global) -> State
+        ensures { found_in result ≡ nothing_found }
+    {
+        State {
+            frame: None,
+            quantization: [None; 4],
+            dc_tables: [None, None, None, None],
+            ac_tables: [None, None, None, None],
+            restart_interval: 0,
+            scanned: false,
+            metadata: Metadata::new(alloc),
+            planes: [None, None, None, None],
+        }
+    }
+
+    /// A frame header (T.81, B.2.2).
+    #[tactic(auto, unfolding(crate::specs::Stream::frame_segment))]
+    fn read_frame<R: Read + Drop>(
+        &mut self,
+        alloc: Global,
+        source: &mut Source<R>,
+        number: u8,
+    ) -> Result<Step>
+        ensures reads { Answers (turn_of self.new) (frame_segment number (found_in self.old)) source.old result source.new }
+        ensures kept { OnErr result (told_of (found_in self.new) ≡ told_of (found_in self.old)) }
+        ensures onward { IfOk result (λ s. s.ended ≡ false) }
+        ensures stays { is_some (found_in self.old).frame ≡ true → (found_in self.new).frame ≡ (found_in self.old).frame }
+    {
+        if self.frame.is_some() {
+            return Err(Error::Unsupported(UnsupportedFeature::Hierarchical));
+        }
+        let frame = parse_sof(alloc, source, Marker::SOF(number))?;
+        check_frame(alloc, &frame)?;
+        self.frame = Some(frame);
+        Ok(ONWARD)
+    }
+
+    /// Quantization tables (T.81, B.2.4.1).
+    #[tactic(auto, unfolding(crate::specs::Stream::quantization_segment))]
+    fn read_quantization<R: Read + Drop>(
+        &mut self,
+        alloc: Global,
+        source: &mut Source<R>,
+    ) -> Result<Step>
+        ensures reads { Answers (turn_of self.new) (quantization_segment (found_in self.old)) source.old result source.new }
+        ensures kept { OnErr result (told_of (found_in self.new) ≡ told_of (found_in self.old)) }
+        ensures onward { IfOk result (λ s. s.ended ≡ false) }
+        ensures stays { is_some (found_in self.old).frame ≡ true → (found_in self.new).frame ≡ (found_in self.old).frame }
+    {
+        let mut tables = parse_dqt(alloc, source)?;
+        update(&mut self.quantization, &mut tables);
+        Ok(ONWARD)
+    }
+
+    /// Huffman tables (T.81, B.2.4.2).
+    #[tactic(auto, unfolding(crate::specs::Stream::huffman_segment))]
+    fn read_huffman<R: Read + Drop>(
+        &mut self,
+        alloc: Global,
+        source: &mut Source<R>,
+    ) -> Result<Step>
+        ensures reads { Answers (turn_of self.new) (huffman_segment (found_in self.old)) source.old result source.new }
+        ensures kept { OnErr result (told_of (found_in self.new) ≡ told_of (found_in self.old)) }
+        ensures onward { IfOk result (λ s. s.ended ≡ false) }
+        ensures stays { is_some (found_in self.old).frame ≡ true → (found_in self.new).frame ≡ (found_in self.old).frame }
+    {
+        let is_baseline = self.frame.as_ref().map(|frame| frame.is_baseline);
+        let (mut dc_tables, mut ac_tables) = parse_dht(alloc, source, is_baseline)?;
+        update(&mut self.dc_tables, &mut dc_tables);
+        update(&mut self.ac_tables, &mut ac_tables);
+        Ok(ONWARD)
+    }
+
+    /// A restart interval (T.81, B.2.4.4).
+    #[tactic(auto, unfolding(crate::specs::Stream::restart_segment))]
+    fn read_restart<R: Read + Drop>(
+        &mut self,
+        alloc: Global,
+        source: &mut Source<R>,
+    ) -> Result<Step>
+        ensures reads { Answers (turn_of self.new) (restart_segment (found_in self.old)) source.old result source.new }
+        ensures kept { OnErr result (told_of (found_in self.new) ≡ told_of (found_in self.old)) }
+        ensures onward { IfOk result (λ s. s.ended ≡ false) }
+        ensures stays { is_some (found_in self.old).frame ≡ true → (found_in self.new).frame ≡ (found_in self.old).frame }
+    {
+        self.restart_interval = parse_dri(alloc, source)?;
+        Ok(ONWARD)
+    }
+
+    /// Data of an application (T.81, B.2.4.6).
+    #[tactic(auto, unfolding(crate::specs::Stream::application_segment))]
+    fn read_application<R: Read + Drop>(
+        &mut self,
+        alloc: Global,
+        source: &mut Source<R>,
+        number: u8,
+    ) -> Result<Step>
+        ensures reads { Answers (turn_of self.new) (application_segment number (found_in self.old)) source.old result source.new }
+        ensures kept { OnErr result (told_of (found_in self.new) ≡ told_of (found_in self.old)) }
+        ensures onward { IfOk result (λ s. s.ended ≡ false) }
+        ensures stays { is_some (found_in self.old).frame ≡ true → (found_in self.new).frame ≡ (found_in self.old).frame }
+    {
+        let said = parse_app(alloc, source, Marker::APP(number))?;
+        self.metadata.add(said)?;
+        Ok(ONWARD)
+    }
+
+    /// A segment that is passed over.
+    #[tactic(auto, unfolding(crate::specs::Stream::skipped_segment))]
+    fn skip_segment<R: Read + Drop>(&self, alloc: Global, source: &mut Source<R>) -> Result<Step>
+        ensures reads { Answers (turn_of self.now) (skipped_segment (found_in self.now)) source.old result source.new }
+        ensures onward { IfOk result (λ s. s.ended ≡ false) }
+    {
+        let length = read_length(alloc, source)?;
+        skip(alloc, source, length)?;
+        Ok(ONWARD)
+    }
+
+    /// The end of the image, which needs a frame.
+    #[tactic(auto, unfolding(crate::specs::Stream::end_segment))]
+    fn end<R: Read + Drop>(&self, alloc: Global, source: &mut Source<R>) -> Result<Step>
+        ensures reads { Answers (turn_of self.now) (end_segment (found_in self.now)) source.old result source.new }
+        ensures framed { IfOk result (λ _. is_some (found_in self.now).frame ≡ true) }
+    {
+        if self.frame.is_none() {
+            return Err(format_error(alloc, "an end of image without a frame"));
+        }
+        Ok(Step {
+            before: Before::Elsewhere,
+            met: None,
+            ended: true,
+        })
+    }
+
+    /// The samples of a scan, by the tables in force, and the marker behind it, if it was met.
+    #[tactic(auto, unfolding(crate::specs::Steps::coded_plane, crate::specs::Stream::scan_samples))]
+    fn read_coded<R: Read + Drop>(
+        &self,
+        alloc: Global,
+        source: &mut Source<R>,
+        component: &Component,
+        scan: &ScanInfo,
+    ) -> Result<(Vec<u8>, Option<Marker>)>
+        ensures { Answers (λ r. (r.0.items, r.1)) (coded_plane (found_in self.now) (component_in component.now) (scan_in scan.now)) source.old result source.new }
+    {
+        let quantization = table_at(&self.quantization, component.quantization_table_index);
+        let quantization = needed(alloc, quantization, "a scan without a quantization table")?;
+        let dc_table = named_table(&self.dc_tables, &scan.dc_table_indices);
+        let dc_table = needed(alloc, dc_table, "a scan without a DC table")?;
+        let ac_table = named_table(&self.ac_tables, &scan.ac_table_indices);
+        let ac_table = needed(alloc, ac_table, "a scan without an AC table")?;
+        read_plane(
+            alloc,
+            source,
+            grid_of(component),
+            quantization,
+            dc_table,
+            ac_table,
+        )
+    }
+
+    /// A scan's header (T.81, B.2.3), and its samples. Scans of progressive and lossless frames, and those under a restart interval, are
+    /// refused for now.
+    #[tactic(auto, unfolding(crate::specs::Steps::scan_plane))]
+    fn read_scan_plane<R: Read + Drop>(
+        &self,
+        alloc: Global,
+        source: &mut Source<R>,
+    ) -> Result<(Vec<u8>, Option<Marker>)>
+        ensures { Answers (λ r. (r.0.items, r.1)) (scan_plane (found_in self.now)) source.old result source.new }
+    {
+        let frame = needed(alloc, self.frame.as_ref(), "a scan without a frame")?;
+        let scan = parse_sos(alloc, source, frame)?;
+        if !self.is_decoded(frame) {
+            return Err(format_error(alloc, "a scan that is not decoded"));
+        }
+        let component = needed(
+            alloc,
+            frame.components.first(),
+            "a frame without a component",
+        )?;
+        self.read_coded(alloc, source, component, &scan)
+    }
+
+    /// Whether the scans of a frame are decoded.
+    fn is_decoded(&self, frame: &FrameInfo) -> bool
+        ensures { result ≡ is_decoded (found_in self.now) (frame_in frame.now) }
+    {
+        is_sequential(frame.coding_process)
+            && (self.restart_interval == 0 && frame.components.len() == 1)
+    }
+
+    /// A scan's samples, and the marker behind it and the restart markers at its end.
+    #[tactic(auto, unfolding(crate::specs::Steps::whole_scan))]
+    fn read_whole_scan<R: Read + Drop>(
+        &self,
+        alloc: Global,
+        source: &mut Source<R>,
+    ) -> Result<(Vec<u8>, Option<Marker>)>
+        ensures { Answers (λ r. (r.0.items, r.1)) (whole_scan (found_in self.now)) source.old result source.new }
+    {
+        let (plane, met) = self.read_scan_plane(alloc, source)?;
+        let met = pass_restarts(alloc, source, met)?;
+        Ok((plane, met))
+    }
+
+    /// What a scan is to the marker behind it.
+    fn scan_before(&self) -> Before
+        ensures { result ≡ scan_before (found_in self.now) }
+    {
+        if self.scanned {
+            Before::LaterScan
+        } else {
+            Before::FirstScan
+        }
+    }
+
+    /// A scan. The first one of a component decides its plane.
+    fn read_scan<R: Read + Drop>(&mut self, alloc: Global, source: &mut Source<R>) -> Result<Step>
+        ensures reads { Answers (turn_of self.new) (scan_segment (found_in self.old)) source.old result source.new }
+        ensures kept { OnErr result (told_of (found_in self.new) ≡ told_of (found_in self.old)) }
+        ensures onward { IfOk result (λ s. s.ended ≡ false) }
+        ensures stays { is_some (found_in self.old).frame ≡ true → (found_in self.new).frame ≡ (found_in self.old).frame }
+    {
+        let (plane, met) = self.read_whole_scan(alloc, source)?;
+        let before = self.scan_before();
+        decide(&mut self.planes, plane);
+        self.scanned = true;
+        Ok(Step {
+            before,
+            met,
+            ended: false,
+        })
+    }
+
+    /// A restart marker behind a scan is ignored, once.
+    fn stray_restart<R: Read + Drop>(
+        &self,
+        alloc: Global,
+        source: &mut Source<R>,
+        before: Before,
+    ) -> Result<Step>
+        ensures reads { Answers (turn_of self.now) (stray_restart before (found_in self.now)) source.old result source.new }
+        ensures onward { IfOk result (λ s. s.ended ≡ false) }
+    {
+        match before {
+            Before::FirstScan | Before::LaterScan => Ok(ONWARD),
+            Before::Elsewhere => Err(format_error(alloc, "a restart marker outside a scan")),
+        }
+    }
+
+    /// What stands behind a marker.
+    #[tactic(auto, unfolding(crate::specs::Stream::segment_at))]
+    fn read_segment<R: Read + Drop>(
+        &mut self,
+        alloc: Global,
+        source: &mut Source<R>,
+        marker: Marker,
+        before: Before,
+    ) -> Result<Step>
+        ensures reads { Answers (turn_of self.new) (segment_at marker before (found_in self.old)) source.old result source.new }
+        ensures kept { OnErr result (told_of (found_in self.new) ≡ told_of (found_in self.old)) }
+        ensures framed { IfOk result (λ s. s.ended ≡ true → is_some (found_in self.new).frame ≡ true) }
+        ensures stays { is_some (found_in self.old).frame ≡ true → (found_in self.new).frame ≡ (found_in self.old).frame }
+    {
+        match marker {
+            Marker::SOF(number) => self.read_frame(alloc, source, number),
+            Marker::DQT => self.read_quantization(alloc, source),
+            Marker::DHT => self.read_huffman(alloc, source),
+            Marker::SOS => self.read_scan(alloc, source),
+            Marker::EOI => self.end(alloc, source),
+            Marker::DRI => self.read_restart(alloc, source),
+            Marker::APP(number) => self.read_application(alloc, source, number),
+            Marker::COM => self.skip_segment(alloc, source),
+            Marker::RST(_) => self.stray_restart(alloc, source, before),
+            Marker::DNL => Err(refused_line_count(alloc, before)),
+            Marker::DAC => Err(Error::Unsupported(UnsupportedFeature::ArithmeticEntropyCoding)),
+            Marker::DHP | Marker::EXP => Err(Error::Unsupported(UnsupportedFeature::Hierarchical)),
+            _ => Err(format_error(alloc, "a marker that has no place here")),
+        }
+    }
+
+    /// One marker, which may have been met already, and what stands behind it.
+    #[tactic(auto, unfolding(crate::specs::Stream::turn_at))]
+    fn read_turn<R: Read + Drop>(
+        &mut self,
+        alloc: Global,
+        source: &mut Source<R>,
+        before: Before,
+        met: Option<Marker>,
+    ) -> Result<Step>
+        ensures reads { Answers (turn_of self.new) (turn_at before (found_in self.old) met) source.old result source.new }
+        ensures kept { OnErr result (told_of (found_in self.new) ≡ told_of (found_in self.old)) }
+        ensures short { met ≡ None → IsShort source.old }
+        ensures framed { IfOk result (λ s. s.ended ≡ true → is_some (found_in self.new).frame ≡ true) }
+        ensures stays { is_some (found_in self.old).frame ≡ true → (found_in self.new).frame ≡ (found_in self.old).frame }
+    {
+        let marker = marker_or_next(alloc, source, met)?;
+        self.read_segment(alloc, source, marker, before)
+    }
+
+    /// Whether the frame was read, where the header is wanted alone.
+    fn is_read_for(&self, header: bool) -> bool
+        ensures { result ≡ (header && is_some (found_in self.now).frame) }
+    {
+        header && self.frame.is_some()
+    }
+
+    /// Reads segments and scans up to the end of the image, or, where the header is wanted alone, through the frame's segment.
+    pub fn read<R: Read + Drop>(
+        &mut self,
+        alloc: Global,
+        source: &mut Source<R>,
+        header: bool,
+    ) -> Result<()>
+        ensures reads { Answers (λ _. found_in self.new) (segments_at header Elsewhere (found_in self.old) None) source.old result source.new }
+        ensures told { OnTold source.old source.new result (told_of (found_in self.new) ≡ told_rest header (found_in self.old) source.old.bytes) }
+        ensures turns { source.old.known ≡ true → IsOfTurns (λ n. told_in_turns n header (found_in self.old) source.old.bytes) (told_of (found_in self.new)) }
+        ensures framed { IfOk result (λ _. is_some (found_in self.new).frame ≡ true) }
+        ensures stays { is_some (found_in self.old).frame ≡ true → (found_in self.new).frame ≡ (found_in self.old).frame }
+    {
+        let mut before = Before::Elsewhere;
+        let mut met = None;
+        for _ in 0..=u64::MAX {
+            if self.is_read_for(header) {
+                return Ok(());
+            }
+            let step = self.read_turn(alloc, source, before, met)?;
+            if step.ended {
+                return Ok(());
+            }
+            before = step.before;
+            met = step.met;
+        }
+        Err(format_error(alloc, "segments without end"))
+    }
+}
+
+/// The marker that was met, or else the next.
+fn marker_or_next<R: Read + Drop>(
+    alloc: Global,
+    source: &mut Source<R>,
+    met: Option<Marker>,
+) -> Result<Marker>
+    ensures answers { Answers (λ m. m) (marker_or met) source.old result source.new }
+    ensures short { met ≡ None → IsShort source.old }
+{
+    match met {
+        Some(marker) => Ok(marker),
+        None => read_marker(alloc, source),
+    }
 }

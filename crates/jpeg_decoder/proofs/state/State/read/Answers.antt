@@ -1,8 +1,8 @@
 use Rattle.std.proofs.Common.{is_some, Option, ◌≡◌, ◌∙◌, ◌+◌, ◌<◌, ◌^◌, suc, true, None, sym, ap, arith, length}
 use Rattle.std.proofs.lemmas.Result.{err_from_is_err_and}
 use Rattle.jpeg_bits.proofs.Loops.{Continues-err}
-use Rattle.jpeg_decoder.specs.declared.segments.Before.TheVariants.{Elsewhere}
-use Rattle.jpeg_decoder.specs.declared.segments.Step.{Step}
+use Rattle.jpeg_decoder.specs.declared.state.Before.TheVariants.{Elsewhere}
+use Rattle.jpeg_decoder.specs.declared.state.Step.{Step}
 use Rattle.jpeg_decoder.specs.Stream.{Found, told_of, IsOfTurns, turn_at, segments_at, told_within}
 use Rattle.jpeg_decoder.specs.Seen.{found_in}
 use Rattle.jpeg_segments.specs.Frame.{Frame}

@@ -1,7 +1,7 @@
 use Rattle.std.proofs.Common.{◌≡◌, ℕ, ◌+◌, ◌<◌, true, false, None, is_some}
 use Rattle.jpeg_bits.specs.Reading.{IsShort}
 use Rattle.jpeg_bits.proofs.Loops.{Continues, Took}
-use Rattle.jpeg_decoder.specs.declared.segments.Before.TheVariants.{Elsewhere}
+use Rattle.jpeg_decoder.specs.declared.state.Before.TheVariants.{Elsewhere}
 use Rattle.jpeg_decoder.specs.Stream.{segments_at, told_at, told_within}
 use Rattle.jpeg_decoder.specs.Seen.{found_in}
 use Rattle.jpeg_decoder.specs.Steps.{is_restart}

@@ -1,7 +1,7 @@
 use Rattle.std.proofs.Common.{◌∙◌, refl, ℕ, Option, Vec}
 use Rattle.std.specs.declared.alloc.Global.{Global}
 use Rattle.jpeg_bits.specs.declared.marker.Marker.{Marker}
-use Rattle.jpeg_decoder.specs.declared.segments.Step.{Step}
+use Rattle.jpeg_decoder.specs.declared.state.Step.{Step}
 use Rattle.std.proofs.lemmas.Result.{err_from_is_err_and}
 use Rattle.jpeg_bits.proofs.Loops.{Continues-err, bind_err}
 use Rattle.jpeg_decoder.specs.Stream.{scan_segment}
