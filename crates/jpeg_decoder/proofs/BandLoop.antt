@@ -101,9 +101,6 @@ abbrev pub IsAt : Table → ℕ → Reads Band → Ahead → Stream → List ℤ
 IsAt table al whole a old band at b cur =
     (turns : ℕ) × (length band - at ≤ turns) × Leaves whole a old (behind_front (take at band) (first_ac table al turns (drop at band))) b cur
 
-pub IsAt-start : (table : Table) (al : ℕ) (a : Ahead) (old : Stream) (band : List ℤ) → IsAt table al (first_ac table al (length band) band) a old band 0 a old
-IsAt-start table al a old band = (length band, omega arith, Leaves-start (first_ac table al (length band) band) a old)
-
 -- what is left, where some place is left
 pub record Parts (table : Table) (al : ℕ) (whole : Reads Band) (a : Ahead) (old : Stream) (band : List ℤ) (at : ℕ) (b : Ahead) (cur : Stream) : Type 0 where
   pub n : ℕ

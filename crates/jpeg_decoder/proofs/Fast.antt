@@ -10,9 +10,6 @@ use Rattle.jpeg_decoder.specs.Lookups.{value_token, slow_token, fast_or, looked_
 use Rattle.jpeg_decoder.specs.declared.tokens.Token.{Token}
 use Rattle.jpeg_decoder.specs.declared.tokens.Token.TheVariants.{Value, Sixteen, Rest, Overlong}
 
-drop-none : {A : Type 0} (xs : List A) → drop 0 xs ≡ xs
-drop-none xs = refl
-
 advance-none : (t : Text) → advance 0 t ≡ t
 advance-none t = refl
 

@@ -1,5 +1,5 @@
 -- The header of a stream, and what stands in front of a frame.
-use Rattle.std.proofs.Common.{◌≡◌, ◌<◌, ℕ, zero, suc, List, Result, Ok, Err, Bool, true, false, Option, Some, None, refl, sym, ap, ◌∙◌, length, replicate, arith}
+use Rattle.std.proofs.Common.{◌≡◌, ◌<◌, ℕ, zero, suc, List, Result, Ok, Err, Bool, true, false, Option, Some, None, refl, sym, ap, ◌∙◌, length, arith}
 use Rattle.std.specs.Prelude.{if◌then◌else◌, is_some, option_map}
 use Rattle.std.proofs.Math.Bool.{cond}
 use Rattle.jpeg_bits.specs.Reading.{Outcome, Fault, End, ◌>>=◌, length_at, skip_at}
@@ -11,8 +11,7 @@ use Rattle.jpeg_segments.specs.Quantization.{dqt_at}
 use Rattle.jpeg_segments.specs.HuffmanTables.{dht_at}
 use Rattle.jpeg_segments.specs.Application.{app_at, dri_at}
 use Rattle.jpeg_decoder.specs.declared.state.Before.TheVariants.{Elsewhere}
-use Rattle.jpeg_decoder.specs.Stream.{Found, Turn, nothing_found, onward, needed, accepted, frame_segment, quantization_segment, huffman_segment, restart_segment, application_segment, skipped_segment, scan_segment, end_segment, segment_at, turn_at, segments_within, segments_at}
-use Rattle.jpeg_decoder.proofs.Restarts.{either}
+use Rattle.jpeg_decoder.specs.Stream.{Found, Turn, onward, needed, accepted, frame_segment, quantization_segment, huffman_segment, restart_segment, application_segment, skipped_segment, scan_segment, end_segment, segment_at, turn_at, segments_within, segments_at}
 use Rattle.jpeg_decoder.proofs.Turns.{turn-takes, segments-refused, segments-next}
 
 -- ---- turns in front of a frame

@@ -26,9 +26,6 @@ same : (o : Option (List ℕ)) → o ≡ option_map (λ (rest : List ℕ). [] ++
 same None = refl
 same (Some xs) = refl
 
-pub joins-none : (count : ℕ) (all : List Chunk) → Joins count all 0 []
-joins-none count all = let e : count - 0 ≡ count = omega arith in same (parts_from count 1 all) ∙ ap (λ (n : ℕ). option_map (λ (rest : List ℕ). [] ++ rest) (parts_from n 1 all)) (sym e)
-
 one-more : (number n : ℕ) (all : List Chunk) → parts_from (suc n) number all ≡ option_and_then (λ (bytes : List ℕ). option_map (λ (rest : List ℕ). bytes ++ rest) (parts_from n (number + 1) all)) (part number all)
 unfolding parts_from
 one-more number n all = refl

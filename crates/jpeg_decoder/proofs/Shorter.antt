@@ -1,5 +1,5 @@
 -- What a reading of bytes leaves.
-use Rattle.std.proofs.Common.{◌≡◌, ◌≤◌, ◌<◌, ℕ, zero, suc, List, [], ◌∷◌, Result, Ok, Err, Bool, true, false, Option, Some, None, length, arith}
+use Rattle.std.proofs.Common.{◌≡◌, ◌≤◌, ◌<◌, ℕ, zero, suc, List, [], ◌∷◌, Ok, Err, Bool, true, false, Option, Some, None, length, arith}
 use Rattle.std.specs.Prelude.{if◌then◌else◌}
 use Rattle.jpeg_bits.specs.Reading.{Outcome, Fault, ◌>>=◌, next_byte, next_u16, length_at, skip_at, times}
 use Rattle.jpeg_bits.specs.Marker.{next_marker, found_or, marker_at}
@@ -38,11 +38,6 @@ pub below-bind : {A B : Type 0} (limit : ℕ) (first : ℕ) (r : Outcome A) (f :
 unfolding LeavesBelow
 below-bind limit first (Ok x) f p q = q x p
 below-bind limit first (Err fault) f p q = tt
-
--- something that reads nothing
-pub below-needs : {A B : Type 0} (limit : ℕ) (r : Result A Fault) (f : A → Outcome B) → ((x : A) → LeavesBelow limit (f x)) → LeavesBelow limit (r >>= f)
-below-needs limit (Ok x) f q = q x
-below-needs {A} {B} limit (Err fault) f q = below-err B limit fault
 
 pub byte-below : (limit : ℕ) (bytes : List ℕ) → length bytes ≤ limit → LeavesBelow limit (next_byte bytes)
 unfolding LeavesBelow

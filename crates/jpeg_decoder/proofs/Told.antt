@@ -1,12 +1,11 @@
 -- What a stream has said.
-use Rattle.std.proofs.Common.{◌≡◌, ◌∙◌, ap, ℕ, List, Bool, true, Result, Ok, Err, None, refl}
+use Rattle.std.proofs.Common.{◌≡◌, ℕ, List, Bool, true, Result, Ok, Err, refl}
 use Rattle.jpeg_bits.specs.Stream.{Stream}
 use Rattle.jpeg_bits.specs.declared.error.Error.{Error}
 use Rattle.jpeg_bits.specs.declared.error.Error.TheVariants as errors
 use Rattle.jpeg_decoder.specs.States.{IfRefused, OnTold}
 use Rattle.jpeg_bits.specs.Reading.{Fault, Outcome}
-use Rattle.jpeg_decoder.specs.declared.state.Before.TheVariants.{Elsewhere}
-use Rattle.jpeg_decoder.specs.Stream.{Found, Told, told_of, IsOfTurns, nothing_found, start_at, told_rest, told_by_stream, told_at, told_within, told_in_turns, told_by_turns}
+use Rattle.jpeg_decoder.specs.Stream.{Told, told_of, nothing_found, start_at, told_rest, told_by_stream, told_within, told_in_turns, told_by_turns}
 
 pub told-no_start : (header : Bool) (bytes : List ℕ) (fault : Fault) → start_at bytes ≡ Err fault → told_by_stream header bytes ≡ told_of nothing_found
 unfolding told_by_stream
@@ -41,8 +40,3 @@ turns-none header bytes = go (start_at bytes)
 pub turns-start : (n : ℕ) (header : Bool) (bytes rest : List ℕ) → start_at bytes ≡ Ok (tt, rest) → told_by_turns n header bytes ≡ told_in_turns n header nothing_found rest
 unfolding told_by_turns
 turns-start n header bytes rest h = rw (h, told_by_turns) refl
-
--- what a decoder tells, of as many turns
-pub turns-told : (said : ℕ → Found) (found : Found) → IsOfTurns said found → IsOfTurns (λ n. told_of (said n)) (told_of found)
-unfolding IsOfTurns
-turns-told said found of = (of.0, ap (λ (f : Found). told_of f) of.1)

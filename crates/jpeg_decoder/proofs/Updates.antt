@@ -45,14 +45,6 @@ all_ac-updated (x ∷ xs) [] p q = p
 all_ac-updated (x ∷ xs) (None ∷ ys) p q = rw (both (is_ac_or_none x) (all_ac xs) p).0 (all_ac-updated xs ys (both (is_ac_or_none x) (all_ac xs) p).1 q)
 all_ac-updated (x ∷ xs) (Some s ∷ ys) p q = rw (both (is_ac s.class) (all_ac ys) q).0 (all_ac-updated xs ys (both (is_ac_or_none x) (all_ac xs) p).1 (both (is_ac s.class) (all_ac ys) q).1)
 
--- there are as many places
-pub length-updated : {A : Type 0} (xs ys : List (Option A)) → length (updated xs ys) ≡ length xs
-unfolding updated
-length-updated [] ys = refl
-length-updated (x ∷ xs) [] = refl
-length-updated (x ∷ xs) (None ∷ ys) = omega (arith, length-updated xs ys)
-length-updated (x ∷ xs) (Some s ∷ ys) = omega (arith, length-updated xs ys)
-
 -- a place is moved
 pub moved-some : {A : Type 0} (xs ys xs' ys' : List (Option A)) (i : ℕ) (found d v : Option A) (t : A) → i < length xs → length xs ≡ length ys → found ≡ get_or ys i d → v ≡ None → found ≡ Some t
     → xs' ≡ set xs i (Some t) → ys' ≡ set ys i v → updated xs' ys' ≡ updated xs ys

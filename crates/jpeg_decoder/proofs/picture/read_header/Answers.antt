@@ -1,7 +1,6 @@
-use Rattle.std.proofs.Common.{◌∙◌, sym, ap, None, true}
+use Rattle.std.proofs.Common.{◌∙◌, sym, ap, true}
 use Rattle.std.proofs.lemmas.Result.{err_from_is_err_and}
 use Rattle.jpeg_decoder.specs.Stream.{IsOfTurns, Found, told_of, start_at, told_rest, told_in_turns}
-use Rattle.jpeg_decoder.specs.declared.state.Before.TheVariants.{Elsewhere}
 use Rattle.jpeg_decoder.proofs.Refusals.{told-err}
 use Rattle.jpeg_decoder.proofs.Told.{told-no_start, told-start, told-through, turns-start, turns-none}
 use Rattle.jpeg_decoder.proofs.picture.read_header.Goals as goal
