@@ -8,6 +8,7 @@ pub mod Symbols
 pub mod Skips
 pub mod Calls
 pub mod WrittenBits
+pub mod Reservoirs
 pub mod Tables
 pub mod EndLemmas
 pub mod MarkerLemmas

@@ -4,6 +4,7 @@ pub mod Marker
 pub mod NextMarker
 pub mod Entropy
 pub mod Readers
+pub mod Reservoir
 pub mod Codes
 pub mod DefaultTables
 pub mod Refusals

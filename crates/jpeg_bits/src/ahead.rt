@@ -126,7 +126,7 @@ impl Model for Held {
 }
 
 impl Held {
-    ghost use Rattle.std.specs.Prelude.{◌≡◌, ◌≤◌, ◌<◌, ◌^◌, ◌++◌, [], None, IfSome, true, false, is_ok, is_some, length, take, drop, replicate};
+    ghost use Rattle.std.specs.Prelude.{◌≡◌, ◌≤◌, ◌<◌, ◌^◌, ◌++◌, ℕ, [], None, IfSome, true, false, is_ok, is_some, length, take, drop, replicate};
     ghost use Rattle.jpeg_bits.specs.Codes.{code_in, code_lengths, next_16};
     ghost use Rattle.jpeg_bits.specs.Reading.{Names, Gives};
     ghost use Rattle.jpeg_bits.specs.Refusals.{outcome_of};
@@ -156,7 +156,7 @@ impl Held {
         ensures full { result ≡ true → IsFilled count self.new.bits self.new.met }
         ensures held { result ≡ false → is_some refusal.new ≡ true }
     {
-        if count <= self.bits.len() || self.end.is_some() {
+        if count <= self.bits.len() {
             return true;
         }
         self.fill(alloc, source, refusal)
@@ -191,9 +191,18 @@ impl Held {
     pub(crate) fn has(&self, count: usize) -> bool
         ensures { result ≡ is_ok (has_held count self.now.bits self.now.met) }
     {
+        count <= self.bits.len() || self.is_padded()
+    }
+
+    /// Whether no fault was met.
+    #[cold]
+    #[inline(never)]
+    fn is_padded(&self) -> bool
+        ensures { (count : ℕ) → length self.now.bits < count → result ≡ is_ok (has_held count self.now.bits self.now.met) }
+    {
         match self.end {
             None | Some(DataEnd::Marker(_)) => true,
-            Some(_) => count <= self.bits.len(),
+            Some(_) => false,
         }
     }
 
@@ -213,13 +222,26 @@ impl Held {
     /// The first `count` bits of those held, with zeros behind them.
     #[inline(always)]
     pub(crate) fn take(&mut self, count: usize) -> u16
-        requires { count ≤ 16 }
+        requires some { 1 ≤ count }
+        requires most { count ≤ 16 }
         ensures value { result ≡ number_of (take count (self.old.bits ++ replicate count false)) }
         ensures small { result < 2 ^ count }
         ensures bits { self.new.bits ≡ drop count self.old.bits }
         ensures met { self.new.met ≡ self.old.met }
     {
-        self.bits.take(count)
+        let number = self.bits.front(count);
+        self.bits.skip(count);
+        number
+    }
+
+    /// Takes the first `count` bits of those held away.
+    #[inline(always)]
+    pub(crate) fn skip(&mut self, count: usize)
+        requires { count ≤ 16 }
+        ensures bits { self.new.bits ≡ drop count self.old.bits }
+        ensures met { self.new.met ≡ self.old.met }
+    {
+        self.bits.skip(count);
     }
 
     /// The place and the length of the code that begins the bits held.
@@ -228,7 +250,7 @@ impl Held {
         ensures code { result ≡ code_in (code_lengths table.now.counts) (next_16 self.now.bits) }
         ensures within { IfSome result (λ c. (c.0 < length table.now.symbols) × (c.1 ≤ 16)) }
     {
-        self.bits.code(table)
+        table.code_of(self.bits.front_16())
     }
 
     pub(crate) fn clear(&mut self)

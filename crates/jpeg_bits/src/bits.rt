@@ -1,49 +1,42 @@
-//! At most 64 bits, one value a bit.
-ghost use Rattle.std.specs.Prelude.{◌≡◌, ◌≤◌, ◌<◌, ◌^◌, ◌+◌, ◌++◌, length, take, replicate, false, slice_index_or, if◌then◌else◌};
-ghost use Rattle.jpeg_bits.specs.Entropy.{bits_of, number_of};
-
-use crate::codes::HuffmanTable;
+//! At most 64 bits, in a word.
 use std::marker::Model;
 
-/// At most 64 bits, those from `start` to `stop` of the places.
+/// At most 64 bits. The first is the highest of the word, which has zeros behind them.
 #[derive(Debug, Drop)]
 pub(crate) struct Bits {
-    places: [bool; 64],
-    start: usize,
-    stop: usize,
+    word: u64,
+    count: usize,
 }
 
 impl Model for Bits {
-    ghost use Rattle.std.specs.Prelude.{◌≤◌, List, Bool, take, drop};
+    ghost use Rattle.std.specs.Prelude.{List, Bool};
+    ghost use Rattle.jpeg_bits.specs.Reservoir.{bits_held, IsReservoir};
 
     ghost Value = { List Bool };
 
-    ghost view = { λ b. drop b.start (take b.stop b.places) };
+    ghost view = { λ b. bits_held b.word b.count };
 
-    ghost invariant = { λ b. (b.start ≤ b.stop) × (b.stop ≤ 64) };
+    ghost invariant = { λ b. IsReservoir b.word b.count };
 }
 
 impl Bits {
-    ghost use Rattle.std.specs.Prelude.{◌≡◌, ◌≤◌, ◌<◌, ◌^◌, ◌++◌, [], IfSome, take, drop, length, replicate, false};
-    ghost use Rattle.jpeg_bits.specs.Codes.{code_in, code_lengths, next_16};
+    ghost use Rattle.std.specs.Prelude.{◌≡◌, ◌≤◌, ◌<◌, ◌^◌, ◌++◌, [], take, drop, length, replicate, false};
+    ghost use Rattle.jpeg_bits.specs.Codes.{next_16};
+    ghost use Rattle.jpeg_bits.specs.Written.{low_bits};
     ghost use Rattle.jpeg_bits.specs.Entropy.{bits_of, number_of};
 
     pub(crate) fn new() -> Bits
         ensures { result ≡ [] }
     {
-        Bits {
-            places: [false; 64],
-            start: 0,
-            stop: 0,
-        }
+        Bits { word: 0, count: 0 }
     }
 
     #[inline(always)]
     pub(crate) fn clear(&mut self)
         ensures { self.new ≡ [] }
     {
-        self.start = 0;
-        self.stop = 0;
+        self.word = 0;
+        self.count = 0;
     }
 
     #[inline(always)]
@@ -51,90 +44,45 @@ impl Bits {
         ensures count { result ≡ length self.now }
         ensures most { result ≤ 64 }
     {
-        self.stop - self.start
+        self.count
     }
 
-    /// Puts a byte's bits behind those held, which are moved to the front where there is no room.
+    /// Puts a byte's bits behind those held.
     #[inline(always)]
     pub(crate) fn push(&mut self, byte: u8)
         requires { length self.old ≤ 56 }
         ensures { self.new ≡ self.old ++ bits_of byte }
     {
-        if self.stop <= 56 {
-            push_byte(&mut self.places, self.stop, byte);
-            self.stop += 8;
-        } else {
-            let count = self.stop - self.start;
-            self.places.rotate_left(self.start);
-            push_byte(&mut self.places, count, byte);
-            self.start = 0;
-            self.stop = count + 8;
-        }
+        self.word += u64::from(byte) << (56 - self.count);
+        self.count += 8;
     }
 
     /// The first `count` bits, with zeros behind them, as a number.
     #[inline(always)]
-    pub(crate) fn take(&mut self, count: usize) -> u16
-        requires { count ≤ 16 }
-        ensures value { result ≡ number_of (take count (self.old ++ replicate count false)) }
+    pub(crate) fn front(&self, count: usize) -> u16
+        requires some { 1 ≤ count }
+        requires most { count ≤ 16 }
+        ensures value { result ≡ number_of (take count (self.now ++ replicate count false)) }
         ensures small { result < 2 ^ count }
-        ensures bits { self.new ≡ drop count self.old }
     {
-        let number = number_of_bits(&self.places[self.start..self.stop], count);
-        self.start = self.stop.min(self.start + count);
-        number
+        (self.word >> (64 - count)) as u16
     }
 
-    /// The place and the length of the code that begins the bits.
+    /// The first 16 bits, with zeros behind them, as a number.
     #[inline(always)]
-    pub(crate) fn code(&self, table: &HuffmanTable) -> Option<(usize, usize)>
-        ensures code { result ≡ code_in (code_lengths table.now.counts) (next_16 self.now) }
-        ensures within { IfSome result (λ c. (c.0 < length table.now.symbols) × (c.1 ≤ 16)) }
+    pub(crate) fn front_16(&self) -> u16
+        ensures { low_bits 16 result ≡ next_16 self.now }
     {
-        table.code_of(&self.places[self.start..self.stop])
+        (self.word >> 48) as u16
     }
-}
 
-/// The bit at a place, 0 behind the bits that are there.
-pub(crate) fn bit_at(bits: &[bool], i: usize) -> u16
-    ensures { result ≡ (if slice_index_or bits.now i false then 1 else 0) }
-{
-    if i < bits.len() && bits[i] { 1 } else { 0 }
-}
-
-/// The first `count` bits as a number, with zeros behind them.
-fn number_of_bits(bits: &[bool], count: usize) -> u16
-    requires { count ≤ 16 }
-    ensures value { result ≡ number_of (take count (bits.now ++ replicate count false)) }
-    ensures small { result < 2 ^ count }
-{
-    let mut number = 0;
-    for i in 0..count {
-        number = 2 * number + bit_at(bits, i);
+    /// Takes the first `count` bits away, or all where fewer are held.
+    #[inline(always)]
+    pub(crate) fn skip(&mut self, count: usize)
+        requires { count ≤ 16 }
+        ensures { self.new ≡ drop count self.old }
+    {
+        self.word <<= count;
+        self.count = self.count.saturating_sub(count);
     }
-    number
-}
-
-fn bits_of_byte(byte: u8) -> [bool; 8]
-    ensures { result ≡ bits_of byte }
-{
-    [
-        byte / 128 % 2 == 1,
-        byte / 64 % 2 == 1,
-        byte / 32 % 2 == 1,
-        byte / 16 % 2 == 1,
-        byte / 8 % 2 == 1,
-        byte / 4 % 2 == 1,
-        byte / 2 % 2 == 1,
-        byte % 2 == 1,
-    ]
-}
-
-/// Puts a byte's bits behind the first `len`.
-fn push_byte(bits: &mut [bool; 64], len: usize, byte: u8)
-    requires { len ≤ 56 }
-    ensures pushed { take (len + 8) bits.new ≡ take len bits.old ++ bits_of byte }
-    ensures size { length bits.new ≡ 64 }
-{
-    bits[len..len + 8].copy_from_slice(&bits_of_byte(byte));
 }

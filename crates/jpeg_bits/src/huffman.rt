@@ -125,7 +125,7 @@ impl HuffmanDecoder {
         if !self.held.has(length) {
             return Err(self.held.fault(self.alloc, length));
         }
-        self.held.take(length);
+        self.held.skip(length);
         Ok(table.symbol(index))
     }
 
@@ -152,7 +152,7 @@ impl HuffmanDecoder {
         if !self.held.has(count) {
             return Err(self.held.fault(self.alloc, count));
         }
-        self.held.take(bits);
+        self.held.skip(bits);
         Ok(Some((run, size)))
     }
 

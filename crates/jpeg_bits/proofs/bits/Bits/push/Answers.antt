@@ -1,11 +1,45 @@
-use Rattle.std.proofs.Common.{◌∙◌, ◌++◌, ◌-◌, ap, List, Bool, take, arith}
+use Rattle.std.proofs.Common.{◌∙◌, ◌≤◌, ◌<◌, ◌+◌, ◌++◌, ◌/◌, ◌^◌, ◌-◌, ap, ℕ, List, Bool, length, arith, sym, subst}
 use Rattle.jpeg_bits.specs.Entropy.{bits_of}
-use Rattle.jpeg_bits.proofs.Held.{rotated}
+use Rattle.jpeg_bits.specs.Reservoir.{bits_held, IsReservoir}
+use Rattle.jpeg_bits.proofs.WrittenBits.{length-low_bits}
+use Rattle.jpeg_bits.proofs.Reservoirs.{byte_zeros, byte_held, byte_fits, byte_shifted}
 use Rattle.jpeg_bits.proofs.bits.Bits.push.Goals as goal
+use Rattle.jpeg_bits.proofs.bits.Bits.push.Goals.{After-self}
 
-pub returns-else-self-le56 : goal.returns-else-self-le56
-returns-else-self-le56 c =
+few : (c : After-self) → c.self.inside.count ≤ 56
+few c =
     let s = c.self.inside in
-    c.push_byte-else-self-le56.ensures.pushed
-    ∙ ap (λ (bs : List Bool). bs ++ bits_of c.args.byte)
-    (ap (take (s.stop - s.start)) c.rotate_left.ensures.after ∙ rotated s.places s.stop s.start c.self.told c.self.invariant.1 (omega arith) ∙ c.self.view_is)
+    omega (arith, sym (length-low_bits s.count (s.word / 2 ^ (64 - s.count))) ∙ ap length c.self.view_is, c.requires)
+
+pub overflow_sub-self : goal.overflow_sub-self
+overflow_sub-self c = few c
+
+pub overflow_add-self : goal.overflow_add-self
+overflow_add-self c =
+    let s = c.self.inside in
+    let b = c.from.result in
+    let small : b < 256 = omega (arith, c.from.ensures, c.ranges.byte.fits) in
+    let fits = byte_fits s.word s.count b (few c) c.self.invariant.2 c.self.invariant.1 small in
+    omega (arith, fits, byte_shifted s.count b (few c) small)
+
+pub invariant_of-self : goal.invariant_of-self
+invariant_of-self c =
+    let s = c.self.inside in
+    let b = c.from.result in
+    let i = c.self.invariant in
+    let small : b < 256 = omega (arith, c.from.ensures, c.ranges.byte.fits) in
+    let few : s.count ≤ 56 = omega (arith, sym (length-low_bits s.count (s.word / 2 ^ (64 - s.count))) ∙ ap length c.self.view_is, c.requires) in
+    subst (λ (k : ℕ). IsReservoir (s.word + k) (s.count + 8)) (sym (byte_shifted s.count b few small))
+    (omega arith, byte_fits s.word s.count b few i.2 i.1 small, byte_zeros s.word s.count b few i.2)
+
+pub returns : goal.returns
+returns c =
+    let s = c.self.inside in
+    let b = c.from.result in
+    let i = c.self.invariant in
+    let small : b < 256 = omega (arith, c.from.ensures, c.ranges.byte.fits) in
+    let few : s.count ≤ 56 = omega (arith, sym (length-low_bits s.count (s.word / 2 ^ (64 - s.count))) ∙ ap length c.self.view_is, c.requires) in
+    ap (λ (k : ℕ). bits_held (s.word + k) (s.count + 8)) (byte_shifted s.count b few small)
+    ∙ byte_held s.word s.count b few i.2 small
+    ∙ ap (λ (bs : List Bool). bs ++ bits_of b) c.self.view_is
+    ∙ ap (λ (k : ℕ). c.args.self.now ++ bits_of k) c.from.ensures

@@ -1,0 +1,222 @@
+-- Bits in a word of 64.
+use Rattle.std.proofs.Common.{◌≡◌, ℕ, zero, suc, ◌+◌, ◌-◌, ◌*◌, ◌/◌, ◌%◌, ◌^◌, ◌<◌, ◌≤◌, Bool, false, List, [], ◌∷◌, ◌++◌, length, take, drop, replicate, refl, sym, ap, ◌∙◌, arith, pow-suc, pow-add, pow_pos, add-zero, mul_assoc, inl, inr}
+use Rattle.std.proofs.Math.Nat.{mul-add-div_right, div-div-eq-div-mul, mod-lt, mul-mod_left, zero-div, div-lt_iff_lt-mul, mul-le-mul_right, zero-mod, add-mul, one-mul}
+use Rattle.std.proofs.lemmas.Nat.{div-mul-add, div-add-mod', mod-pow-add, shl-shr}
+use Rattle.std.proofs.lemmas.List.{take-replicate, take-append-le, drop_at, drop_all, take_all}
+use Rattle.std.proofs.Math.Pow.{shl_exact}
+use Rattle.std.proofs.lemmas.Bool.{cases_lt}
+use Rattle.jpeg_bits.specs.Written.{bit, low_bits}
+use Rattle.jpeg_bits.specs.Entropy.{bits_of, number_of}
+use Rattle.jpeg_bits.specs.Reservoir.{bits_held, HasZerosBehind}
+use Rattle.jpeg_bits.proofs.WrittenBits.{number_of-low_bits, length-low_bits}
+
+-- bits above the low ones do not count
+pub low_bits-high : (n a y : ℕ) → low_bits n (a * 2 ^ n + y) ≡ low_bits n y
+unfolding low_bits
+low_bits-high zero a y = refl
+low_bits-high (suc n) a y =
+    let x = a * 2 ^ suc n + y in
+    let d : 2 ^ suc n ≡ 2 * 2 ^ n = omega (arith, pow-suc 2 n) in
+    let e : x ≡ a * 2 * 2 ^ n + y = ap (λ (p : ℕ). a * p + y) d ∙ ap (λ (p : ℕ). p + y) (sym (mul_assoc a 2 (2 ^ n))) in
+    let h : x / 2 ^ n ≡ a * 2 + y / 2 ^ n = ap (λ (v : ℕ). v / 2 ^ n) e ∙ mul-add-div_right (pow_pos n) (a * 2) y in
+    let b : x / 2 ^ n % 2 ≡ y / 2 ^ n % 2 = omega (arith, h) in
+    ap (λ (v : ℕ). bit v ∷ low_bits n x) b ∙ ap (λ (l : List Bool). bit (y / 2 ^ n % 2) ∷ l) (ap (low_bits n) e ∙ low_bits-high n (a * 2) y)
+
+pub low_bits-append : (a b x y : ℕ) → y < 2 ^ b → low_bits (a + b) (x * 2 ^ b + y) ≡ low_bits a x ++ low_bits b y
+unfolding low_bits
+low_bits-append zero b x y h =
+    let z : 0 + b ≡ b = omega arith in
+    ap (λ (n : ℕ). low_bits n (x * 2 ^ b + y)) z ∙ low_bits-high b x y
+low_bits-append (suc a) b x y h =
+    let v = x * 2 ^ b + y in
+    let s : suc a + b ≡ suc (a + b) = omega arith in
+    let t : a + b ≡ b + a = omega arith in
+    let q : v / 2 ^ (a + b) ≡ x / 2 ^ a
+    = ap (λ (n : ℕ). v / 2 ^ n) t ∙ ap (λ (d : ℕ). v / d) (pow-add 2 b a) ∙ sym (div-div-eq-div-mul v (2 ^ b) (2 ^ a)) ∙ ap (λ (k : ℕ). k / 2 ^ a) (div-mul-add x (2 ^ b) y h) in
+    ap (λ (n : ℕ). low_bits n v) s
+    ∙ ap (λ (k : ℕ). bit (k % 2) ∷ low_bits (a + b) v) q
+    ∙ ap (λ (l : List Bool). bit (x / 2 ^ a % 2) ∷ l) (low_bits-append a b x y h)
+
+pub low_bits-split : (n m x : ℕ) → low_bits (n + m) x ≡ low_bits n (x / 2 ^ m) ++ low_bits m (x % 2 ^ m)
+low_bits-split n m x = ap (low_bits (n + m)) (sym (div-add-mod' x (2 ^ m))) ∙ low_bits-append n m (x / 2 ^ m) (x % 2 ^ m) (mod-lt x (pow_pos m))
+
+pub low_bits-take : (n m x : ℕ) → take n (low_bits (n + m) x) ≡ low_bits n (x / 2 ^ m)
+low_bits-take n m x =
+    let l = length-low_bits n (x / 2 ^ m) in
+    ap (take n) (low_bits-split n m x)
+    ∙ take-append-le n (low_bits n (x / 2 ^ m)) (low_bits m (x % 2 ^ m)) (omega (arith, l))
+    ∙ take_all n (low_bits n (x / 2 ^ m)) (omega (arith, l))
+
+pub low_bits-drop : (n m x : ℕ) → drop n (low_bits (n + m) x) ≡ low_bits m (x % 2 ^ m)
+low_bits-drop n m x =
+    ap (drop n) (low_bits-split n m x) ∙ drop_at (low_bits n (x / 2 ^ m)) (low_bits m (x % 2 ^ m)) n (length-low_bits n (x / 2 ^ m))
+
+pub low_bits-zeros : (n : ℕ) → low_bits n 0 ≡ replicate n false
+unfolding low_bits
+low_bits-zeros zero = refl
+low_bits-zeros (suc n) = ap (λ (v : ℕ). bit (v % 2) ∷ low_bits n 0) (zero-div (2 ^ n)) ∙ ap (λ (l : List Bool). false ∷ l) (low_bits-zeros n)
+
+pub same_zeros : (xs : List Bool) (m n k : ℕ) → m ≤ length xs + n → m ≤ length xs + k → take m (xs ++ replicate n false) ≡ take m (xs ++ replicate k false)
+same_zeros [] m n k h g = take-replicate m n false (omega arith) ∙ sym (take-replicate m k false (omega arith))
+same_zeros (x ∷ xs) zero n k h g = refl
+same_zeros (x ∷ xs) (suc m) n k h g = ap (λ (l : List Bool). x ∷ l) (same_zeros xs m n k (omega arith) (omega arith))
+
+-- the whole word
+pub whole_word : (word count : ℕ) → count ≤ 64 → HasZerosBehind word count → low_bits 64 word ≡ bits_held word count ++ replicate (64 - count) false
+whole_word word count h z =
+    let e : 64 ≡ count + (64 - count) = omega arith in
+    let k = 64 - count in
+    ap (λ (n : ℕ). low_bits n word) e ∙ low_bits-split count k word
+    ∙ ap (λ (y : ℕ). bits_held word count ++ low_bits k y) z
+    ∙ ap (λ (l : List Bool). bits_held word count ++ l) (low_bits-zeros k)
+
+-- the first n bits, with zeros behind them
+pub front_bits : (word count n : ℕ) → count ≤ 64 → n ≤ 64 → HasZerosBehind word count → take n (bits_held word count ++ replicate n false) ≡ low_bits n (word / 2 ^ (64 - n))
+front_bits word count n h g z =
+    let l = length-low_bits count (word / 2 ^ (64 - count)) in
+    let e : 64 ≡ n + (64 - n) = omega arith in
+    same_zeros (bits_held word count) n n (64 - count) (omega (arith, l)) (omega (arith, l))
+    ∙ ap (take n) (sym (whole_word word count h z) ∙ ap (λ (k : ℕ). low_bits k word) e)
+    ∙ low_bits-take n (64 - n) word
+
+pub front_small : (word n m : ℕ) → word < 2 ^ (n + m) → word / 2 ^ m < 2 ^ n
+front_small word n m h =
+    let p = pow-add 2 n m in
+    (div-lt_iff_lt-mul (pow_pos m)).1 (omega (arith, p))
+
+pub front_number : (word count n : ℕ) → word < 2 ^ 64 → count ≤ 64 → n ≤ 64 → HasZerosBehind word count → word / 2 ^ (64 - n) ≡ number_of (take n (bits_held word count ++ replicate n false))
+front_number word count n w h g z =
+    let e : 64 ≡ n + (64 - n) = omega arith in
+    let p : 2 ^ 64 ≡ 2 ^ (n + (64 - n)) = ap (λ (k : ℕ). 2 ^ k) e in
+    sym (ap number_of (front_bits word count n h g z) ∙ number_of-low_bits n (word / 2 ^ (64 - n)) (front_small word n (64 - n) (omega (arith, p))))
+
+-- the word by the bits of it
+by_bits : (word count : ℕ) → HasZerosBehind word count → word ≡ word / 2 ^ (64 - count) * 2 ^ (64 - count)
+by_bits word count z = sym (div-add-mod' word (2 ^ (64 - count))) ∙ omega (arith, z)
+
+byte_bits : (b : ℕ) → low_bits 8 b ≡ bits_of b
+unfolding low_bits
+byte_bits b = let e : b / 1 ≡ b = omega arith in ap (λ (v : ℕ). bit (b / 128 % 2) ∷ bit (b / 64 % 2) ∷ bit (b / 32 % 2) ∷ bit (b / 16 % 2) ∷ bit (b / 8 % 2) ∷ bit (b / 4 % 2) ∷ bit (b / 2 % 2) ∷ bit (v % 2) ∷ []) e
+
+-- a byte behind the bits
+module _ (word count byte : ℕ) (few : count ≤ 56) (z : HasZerosBehind word count) where
+  with_byte : word + byte * 2 ^ (56 - count) ≡ (word / 2 ^ (64 - count) * 256 + byte) * 2 ^ (56 - count)
+  with_byte =
+      let k = 56 - count in
+      let e : 64 - count ≡ 8 + k = omega arith in
+      let q = word / 2 ^ (64 - count) in
+      let p : 2 ^ (64 - count) ≡ 256 * 2 ^ k = ap (λ (n : ℕ). 2 ^ n) e ∙ pow-add 2 8 k in
+      let w : word ≡ q * (256 * 2 ^ k) = by_bits word count z ∙ ap (λ (n : ℕ). q * n) p in
+      let a = mul_assoc q 256 (2 ^ k) in
+      let d = add-mul (q * 256) byte (2 ^ k) in
+      omega (arith, w, a, d)
+
+  pub byte_zeros : HasZerosBehind (word + byte * 2 ^ (56 - count)) (count + 8)
+  byte_zeros =
+      let k = 56 - count in
+      let e : 64 - (count + 8) ≡ k = omega arith in
+      ap (λ (n : ℕ). (word + byte * 2 ^ k) % 2 ^ n) e ∙ ap (λ (v : ℕ). v % 2 ^ k) with_byte ∙ mul-mod_left _ (2 ^ k)
+
+  pub byte_held : byte < 256 → bits_held (word + byte * 2 ^ (56 - count)) (count + 8) ≡ bits_held word count ++ bits_of byte
+  byte_held small =
+      let k = 56 - count in
+      let q = word / 2 ^ (64 - count) in
+      let e : 64 - (count + 8) ≡ k = omega arith in
+      ap (λ (n : ℕ). low_bits (count + 8) ((word + byte * 2 ^ k) / 2 ^ n)) e
+      ∙ ap (λ (v : ℕ). low_bits (count + 8) (v / 2 ^ k)) with_byte
+      ∙ ap (low_bits (count + 8)) (shl-shr (q * 256 + byte) k)
+      ∙ low_bits-append count 8 q byte small
+      ∙ ap (λ (l : List Bool). bits_held word count ++ l) (byte_bits byte)
+
+  pub byte_fits : word < 2 ^ 64 → byte < 256 → word + byte * 2 ^ (56 - count) < 2 ^ 64
+  byte_fits fits small =
+      let k = 56 - count in
+      let q = word / 2 ^ (64 - count) in
+      let e : 64 ≡ count + (64 - count) = omega arith in
+      let f : 64 ≡ (count + 8) + k = omega arith in
+      let p : 2 ^ 64 ≡ 2 ^ (count + (64 - count)) = ap (λ (n : ℕ). 2 ^ n) e in
+      let below : q < 2 ^ count = front_small word count (64 - count) (omega (arith, p)) in
+      let c : 2 ^ (count + 8) ≡ 2 ^ count * 256 = pow-add 2 count 8 in
+      let le : q * 256 + byte + 1 ≤ 2 ^ (count + 8) = omega (arith, c, below) in
+      let m : (q * 256 + byte + 1) * 2 ^ k ≤ 2 ^ (count + 8) * 2 ^ k = mul-le-mul_right (2 ^ k) le in
+      let d = add-mul (q * 256 + byte) 1 (2 ^ k) in
+      let o = one-mul (2 ^ k) in
+      let pos = pow_pos k in
+      let t : 2 ^ 64 ≡ 2 ^ (count + 8) * 2 ^ k = ap (λ (n : ℕ). 2 ^ n) f ∙ pow-add 2 (count + 8) k in
+      omega (arith, m, d, o, t, pos, with_byte)
+
+-- the first n bits taken away
+module _ (word count n : ℕ) (few : count ≤ 64) (z : HasZerosBehind word count) where
+  moved : word * 2 ^ n ≡ word / 2 ^ (64 - count) * 2 ^ (64 - count + n)
+  moved =
+      let k = 64 - count in
+      let q = word / 2 ^ k in
+      ap (λ (v : ℕ). v * 2 ^ n) (by_bits word count z) ∙ mul_assoc q (2 ^ k) (2 ^ n) ∙ ap (λ (v : ℕ). q * v) (sym (pow-add 2 k n))
+
+  shifted : n ≤ count → word * 2 ^ n % 2 ^ 64 ≡ word / 2 ^ (64 - count) % 2 ^ (count - n) * 2 ^ (64 - (count - n))
+  shifted le =
+      let q = word / 2 ^ (64 - count) in
+      let m = count - n in
+      let k = 64 - count + n in
+      let e : 64 ≡ m + k = omega arith in
+      let f : k ≡ 64 - m = omega arith in
+      ap (λ (v : ℕ). v % 2 ^ 64) moved ∙ ap (λ (j : ℕ). q * 2 ^ k % 2 ^ j) e ∙ mod-pow-add (q * 2 ^ k) m k
+      ∙ ap (λ (v : ℕ). v % 2 ^ m * 2 ^ k + q * 2 ^ k % 2 ^ k) (shl-shr q k)
+      ∙ ap (λ (v : ℕ). q % 2 ^ m * 2 ^ k + v) (mul-mod_left q (2 ^ k))
+      ∙ add-zero (q % 2 ^ m * 2 ^ k)
+      ∙ ap (λ (j : ℕ). q % 2 ^ m * 2 ^ j) f
+
+  pub rest_zeros : n ≤ 64 → HasZerosBehind (word * 2 ^ n % 2 ^ 64) (count - n)
+  rest_zeros top =
+      elim (cases_lt count n) [
+        | inr le ↦ ap (λ (v : ℕ). v % 2 ^ (64 - (count - n))) (shifted le) ∙ mul-mod_left _ (2 ^ (64 - (count - n)))
+        | inl lt ↦
+            let q = word / 2 ^ (64 - count) in
+            let j = n - count in
+            let e : 64 - count + n ≡ j + 64 = omega arith in
+            let d : count - n ≡ 0 = omega arith in
+            let f : word * 2 ^ n % 2 ^ 64 ≡ 0
+            = ap (λ (v : ℕ). v % 2 ^ 64) (moved ∙ ap (λ (i : ℕ). q * 2 ^ i) e ∙ ap (λ (v : ℕ). q * v) (pow-add 2 j 64) ∙ sym (mul_assoc q (2 ^ j) (2 ^ 64))) ∙ mul-mod_left (q * 2 ^ j) (2 ^ 64) in
+            ap (λ (v : ℕ). v % 2 ^ (64 - (count - n))) f ∙ zero-mod (2 ^ (64 - (count - n)))
+      ]
+
+  pub rest_held : bits_held (word * 2 ^ n % 2 ^ 64) (count - n) ≡ drop n (bits_held word count)
+  unfolding low_bits
+  rest_held =
+      elim (cases_lt count n) [
+        | inr le ↦
+            let q = word / 2 ^ (64 - count) in
+            let m = count - n in
+            let e : count ≡ n + m = omega arith in
+            ap (λ (v : ℕ). low_bits m (v / 2 ^ (64 - m))) (shifted le) ∙ ap (low_bits m) (shl-shr (q % 2 ^ m) (64 - m))
+            ∙ sym (ap (λ (i : ℕ). drop n (low_bits i q)) e ∙ low_bits-drop n m q)
+        | inl lt ↦
+            let d : count - n ≡ 0 = omega arith in
+            let v = word * 2 ^ n % 2 ^ 64 in
+            ap (λ (i : ℕ). bits_held v i) d ∙ sym (drop_all n (bits_held word count) (omega (arith, length-low_bits count (word / 2 ^ (64 - count)))))
+      ]
+
+pub none_held : (word : ℕ) → bits_held word 0 ≡ []
+unfolding low_bits
+none_held word = refl
+
+pub word_fits : (v : ℕ) → v % 2 ^ 64 < 2 ^ 64
+word_fits v = mod-lt v (pow_pos 64)
+
+pub front_below : (word n : ℕ) → word < 2 ^ 64 → n ≤ 64 → word / 2 ^ (64 - n) < 2 ^ n
+front_below word n h g =
+    let e : 64 ≡ n + (64 - n) = omega arith in
+    let p : 2 ^ 64 ≡ 2 ^ (n + (64 - n)) = ap (λ (k : ℕ). 2 ^ k) e in
+    front_small word n (64 - n) (omega (arith, p))
+
+pub byte_shifted : (count byte : ℕ) → count ≤ 56 → byte < 256 → byte * 2 ^ (56 - count) % 2 ^ 64 ≡ byte * 2 ^ (56 - count)
+byte_shifted count byte h small = shl_exact 8 (56 - count) 64 small (omega arith)
+
+-- the first bits of 16 as a number
+pub prefix_number : (bits l : ℕ) → bits < 2 ^ 16 → l < 16 → bits / 2 ^ (15 - l) ≡ number_of (take (l + 1) (low_bits 16 bits))
+prefix_number bits l h lt =
+    let e : 16 ≡ l + 1 + (15 - l) = omega arith in
+    let p : 2 ^ 16 ≡ 2 ^ (l + 1 + (15 - l)) = ap (λ (k : ℕ). 2 ^ k) e in
+    sym (ap (λ (k : ℕ). number_of (take (l + 1) (low_bits k bits))) e
+    ∙ ap number_of (low_bits-take (l + 1) (15 - l) bits)
+    ∙ number_of-low_bits (l + 1) (bits / 2 ^ (15 - l)) (front_small bits (l + 1) (15 - l) (omega (arith, p))))
