@@ -9,6 +9,8 @@ pub mod Skips
 pub mod Calls
 pub mod WrittenBits
 pub mod Reservoirs
+pub mod ShortLemmas
+pub mod ShortSymbols
 pub mod Tables
 pub mod EndLemmas
 pub mod MarkerLemmas

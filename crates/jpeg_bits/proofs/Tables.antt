@@ -63,7 +63,7 @@ scaled-sum n m (l ∷ ls) h all =
     let c : sum_by (λ x. 2 ^ (n - x)) (l ∷ ls) ≡ 2 ^ (n - l) + sum_by (λ x. 2 ^ (n - x)) ls = omega (arith, b) in
     omega (arith, a, one, r, p) ∙ ap (λ (x : ℕ). x * 2 ^ (m - n)) (sym c)
 
-ordered : (n most : ℕ) (ls : List ℕ) (k i : ℕ) → IsRising n most ls → k ≤ i → i < length ls → get_or ls k 0 ≤ get_or ls i 0
+pub ordered : (n most : ℕ) (ls : List ℕ) (k i : ℕ) → IsRising n most ls → k ≤ i → i < length ls → get_or ls k 0 ≤ get_or ls i 0
 ordered n most [] k i h le lt = absurd (omega arith)
 ordered n most (l ∷ ls) zero zero h le lt = le_refl l
 ordered n most (l ∷ ls) zero (suc i) h le lt = (rising-at l most ls i h.2 (omega arith)).0

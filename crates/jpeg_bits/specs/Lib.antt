@@ -10,3 +10,4 @@ pub mod DefaultTables
 pub mod Refusals
 pub mod Ends
 pub mod Written
+pub mod ShortCodes

@@ -127,7 +127,8 @@ impl Model for Held {
 
 impl Held {
     ghost use Rattle.std.specs.Prelude.{◌≡◌, ◌≤◌, ◌<◌, ◌^◌, ◌++◌, ℕ, [], None, IfSome, true, false, is_ok, is_some, length, take, drop, replicate};
-    ghost use Rattle.jpeg_bits.specs.Codes.{code_in, code_lengths, next_16};
+    ghost use Rattle.jpeg_bits.specs.Codes.{next_16};
+    ghost use Rattle.jpeg_bits.specs.ShortCodes.{symbol_in, short_value_of, next_8};
     ghost use Rattle.jpeg_bits.specs.Reading.{Names, Gives};
     ghost use Rattle.jpeg_bits.specs.Refusals.{outcome_of};
     ghost use Rattle.jpeg_bits.specs.Entropy.{Takes, fresh, same_text, has_held, marker_held, number_of, IsFilled};
@@ -244,13 +245,23 @@ impl Held {
         self.bits.skip(count);
     }
 
-    /// The place and the length of the code that begins the bits held.
+    /// The symbol and the length of the code that begins the bits held.
     #[inline(always)]
-    pub(crate) fn code(&self, table: &HuffmanTable) -> Option<(usize, usize)>
-        ensures code { result ≡ code_in (code_lengths table.now.counts) (next_16 self.now.bits) }
-        ensures within { IfSome result (λ c. (c.0 < length table.now.symbols) × (c.1 ≤ 16)) }
+    pub(crate) fn symbol(&self, table: &HuffmanTable) -> Option<(u8, u8)>
+        ensures symbol { result ≡ symbol_in table.now (next_16 self.now.bits) }
+        ensures within { IfSome result (λ c. c.1 ≤ 16) }
     {
-        table.code_of(self.bits.front_16())
+        table.symbol_of(self.bits.front_16())
+    }
+
+    /// The value and the run that the bits held begin with, and how many bits they take, where they are at most 8.
+    #[inline(always)]
+    pub(crate) fn short_value(&self, table: &HuffmanTable) -> Option<(i16, u8, u8)>
+        ensures value { result ≡ short_value_of table.now (next_8 self.now.bits) }
+        ensures within { IfSome result (λ t. t.2 ≤ 8) }
+        ensures counted { length table.now.counts ≡ 16 }
+    {
+        table.short_value_of(self.bits.front_8())
     }
 
     pub(crate) fn clear(&mut self)

@@ -1,4 +1,7 @@
-//! At most 64 bits, in a word.
+//! At most 64 bits, in a word, and the numbers that bits stand for.
+ghost use Rattle.std.specs.Prelude.{◌≡◌, ◌≤◌, ◌<◌, ◌^◌};
+ghost use Rattle.jpeg_bits.specs.Entropy.{extended};
+
 use std::marker::Model;
 
 /// At most 64 bits. The first is the highest of the word, which has zeros behind them.
@@ -22,6 +25,7 @@ impl Model for Bits {
 impl Bits {
     ghost use Rattle.std.specs.Prelude.{◌≡◌, ◌≤◌, ◌<◌, ◌^◌, ◌++◌, [], take, drop, length, replicate, false};
     ghost use Rattle.jpeg_bits.specs.Codes.{next_16};
+    ghost use Rattle.jpeg_bits.specs.ShortCodes.{next_8};
     ghost use Rattle.jpeg_bits.specs.Written.{low_bits};
     ghost use Rattle.jpeg_bits.specs.Entropy.{bits_of, number_of};
 
@@ -76,6 +80,14 @@ impl Bits {
         (self.word >> 48) as u16
     }
 
+    /// The first 8 bits, with zeros behind them, as a number.
+    #[inline(always)]
+    pub(crate) fn front_8(&self) -> u8
+        ensures { low_bits 8 result ≡ next_8 self.now }
+    {
+        (self.word >> 56) as u8
+    }
+
     /// Takes the first `count` bits away, or all where fewer are held.
     #[inline(always)]
     pub(crate) fn skip(&mut self, count: usize)
@@ -84,5 +96,29 @@ impl Bits {
     {
         self.word <<= count;
         self.count = self.count.saturating_sub(count);
+    }
+}
+
+pub(crate) fn power_of_two(exponent: u8) -> u16
+    requires { exponent ≤ 14 }
+    ensures value { result ≡ 2 ^ exponent }
+    ensures most { result ≤ 16384 }
+{
+    1 << exponent
+}
+
+/// A value of `count` bits as a signed number.
+#[tactic(auto, unfolding(crate::specs::Entropy::extended))]
+pub(crate) fn extend(value: u16, count: u8) -> i16
+    requires some { 1 ≤ count }
+    requires most { count ≤ 15 }
+    requires small { value < 2 ^ count }
+    ensures { result ≡ extended value count }
+{
+    let half = power_of_two(count - 1);
+    if value < half {
+        value as i16 - (2 * half - 1) as i16
+    } else {
+        value as i16
     }
 }

@@ -2,9 +2,9 @@
 ghost use Rattle.std.specs.Prelude.{◌≡◌, ◌≤◌, ◌<◌, ◌^◌, true, is_some};
 ghost use Rattle.jpeg_bits.specs.Reading.{NamesFormat};
 ghost use Rattle.jpeg_bits.specs.Refusals.{held_refusal};
-ghost use Rattle.jpeg_bits.specs.Entropy.{extended};
 
 use crate::ahead::{Held, marker_of_end};
+use crate::bits::extend;
 pub use crate::codes::{HuffmanTable, HuffmanTableClass};
 pub use crate::default_tables::fill_default_mjpeg_tables;
 use crate::error::{Error, Result, format_error};
@@ -47,7 +47,7 @@ impl Model for HuffmanDecoder {
 
 impl HuffmanDecoder {
     ghost use Rattle.std.specs.Prelude.{◌≡◌, ◌≤◌, ◌<◌, ◌^◌, [], None, OnOk, IfOk, IfSome};
-    ghost use Rattle.jpeg_bits.specs.Codes.{symbol_from, short_code_from, fast_from};
+    ghost use Rattle.jpeg_bits.specs.Codes.{symbol_from, fast_from};
     ghost use Rattle.jpeg_bits.specs.Reading.{Answers};
     ghost use Rattle.jpeg_bits.specs.Readers.{signed_from};
     ghost use Rattle.jpeg_bits.specs.Entropy.{Takes, fresh, bits_from, marker_from, upcoming};
@@ -119,48 +119,21 @@ impl HuffmanDecoder {
         if !self.held.hold(self.alloc, source, 16, &mut self.refusal) {
             return Err(take_refusal(&mut self.refusal));
         }
-        let Some((index, length)) = self.held.code(table) else {
+        let Some((symbol, length)) = self.held.symbol(table) else {
             return Err(no_code(self.alloc));
         };
+        let length = usize::from(length);
         if !self.held.has(length) {
             return Err(self.held.fault(self.alloc, length));
         }
         self.held.skip(length);
-        Ok(table.symbol(index))
-    }
-
-    /// The run and the size of a short token, whose code is taken. Otherwise none, and no bit is taken.
-    #[inline(always)]
-    fn take_short_code<R: Read + Drop>(
-        &mut self,
-        source: &mut Source<R>,
-        table: &HuffmanTable,
-    ) -> Result<Option<(u8, u8)>>
-        ensures token { Takes (λ t. t) (short_code_from table.now) self.old source.old result self.new source.new }
-        ensures within { IfOk result (λ t. IfSome t (λ t. (1 ≤ t.1) × (t.1 ≤ 8))) }
-    {
-        if !self.held.hold(self.alloc, source, 16, &mut self.refusal) {
-            return Err(take_refusal(&mut self.refusal));
-        }
-        let Some((index, bits)) = self.held.code(table) else {
-            return Ok(None);
-        };
-        let Some((run, size)) = table.short_token(index, bits) else {
-            return Ok(None);
-        };
-        let count = bits + usize::from(size);
-        if !self.held.has(count) {
-            return Err(self.held.fault(self.alloc, count));
-        }
-        self.held.skip(bits);
-        Ok(Some((run, size)))
+        Ok(symbol)
     }
 
     /// The value and the run of zeros before it, where a code of a table of class AC and the value behind it take at
     /// most 8 bits together (T.81, F.2.2.2), all of which are taken. Otherwise none, and no bit is taken. Errors are
     /// those of `get_bits`.
     #[inline(always)]
-    #[tactic(auto, unfolding(crate::specs::Codes::fast_from))]
     pub fn decode_fast_ac<R: Read + Drop>(
         &mut self,
         source: &mut Source<R>,
@@ -168,13 +141,18 @@ impl HuffmanDecoder {
     ) -> Result<Option<(i16, u8)>>
         ensures { Takes (λ v. v) (fast_from table.now) self.old source.old result self.new source.new }
     {
-        match self.take_short_code(source, table)? {
-            None => Ok(None),
-            Some((run, size)) => {
-                let value = self.receive_extend(source, size)?;
-                Ok(Some((value, run)))
-            }
+        if !self.held.hold(self.alloc, source, 8, &mut self.refusal) {
+            return Err(take_refusal(&mut self.refusal));
         }
+        let Some((value, run, bits)) = self.held.short_value(table) else {
+            return Ok(None);
+        };
+        let count = usize::from(bits);
+        if !self.held.has(count) {
+            return Err(self.held.fault(self.alloc, count));
+        }
+        self.held.skip(count);
+        Ok(Some((value, run)))
     }
 
     /// The marker behind the bits taken, where at most 56 bits stand before it, which is met no more; the source goes
@@ -199,28 +177,4 @@ fn no_code(alloc: Global) -> Error
     ensures { NamesFormat result }
 {
     format_error(alloc, "failed to decode huffman code")
-}
-
-fn power_of_two(exponent: u8) -> u16
-    requires { exponent ≤ 14 }
-    ensures value { result ≡ 2 ^ exponent }
-    ensures most { result ≤ 16384 }
-{
-    1 << exponent
-}
-
-/// A value of `count` bits as a signed number.
-#[tactic(auto, unfolding(crate::specs::Entropy::extended))]
-fn extend(value: u16, count: u8) -> i16
-    requires some { 1 ≤ count }
-    requires most { count ≤ 15 }
-    requires small { value < 2 ^ count }
-    ensures { result ≡ extended value count }
-{
-    let half = power_of_two(count - 1);
-    if value < half {
-        value as i16 - (2 * half - 1) as i16
-    } else {
-        value as i16
-    }
 }

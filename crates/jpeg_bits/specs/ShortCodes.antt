@@ -1,0 +1,49 @@
+-- Codes and values that 8 bits begin with (F.2.2.3, with the look-up that it allows).
+use Rattle.std.specs.Prelude.{◌≡◌, ℕ, ℤ, ◌+◌, ◌*◌, ◌/◌, ◌%◌, ◌<◌, List, ◌++◌, length, take, drop, replicate, Bool, false, Option, Some, None, if◌then◌else◌, slice_index, slice_index_or, ◌&&◌, nat_lt, nat_le}
+use Rattle.std.specs.Option.{option_map}
+use Rattle.jpeg_bits.specs.Entropy.{number_of, extended}
+use Rattle.jpeg_bits.specs.Written.{low_bits}
+use Rattle.jpeg_bits.specs.Codes.{Table, code_in, code_lengths, is_ac}
+use Rattle.jpeg_bits.specs.declared.codes.HuffmanTableClass.{HuffmanTableClass}
+
+-- the symbol and the length of a code
+abbrev pub named : List ℕ → Option (ℕ × ℕ) → Option (ℕ × ℕ)
+named symbols o = option_map (λ c. (slice_index symbols c.0, c.1)) o
+
+-- the symbol and the length of the code that begins the bits
+abbrev pub symbol_in : Table → List Bool → Option (ℕ × ℕ)
+symbol_in table bits = named table.symbols (code_in (code_lengths table.counts) bits)
+
+-- a code of at most 8 bits
+abbrev pub short_only : Option (ℕ × ℕ) → Option (ℕ × ℕ)
+short_only None = None
+short_only (Some c) = if nat_le c.1 8 then Some c else None
+
+-- the symbol and the length of the code of at most 8 bits that begins 8 bits
+abbrev pub short_code : List ℕ → List ℕ → List Bool → Option (ℕ × ℕ)
+short_code counts symbols eight = named symbols (short_only (code_in (code_lengths counts) (eight ++ replicate 8 false)))
+
+-- The value and the run of a symbol whose code of so many bits begins 8 bits, and the bits of both, where they are at
+-- most 8, in a table of class AC.
+abbrev pub short_value_by : HuffmanTableClass → List Bool → Option (ℕ × ℕ) → Option (ℤ × ℕ × ℕ)
+short_value_by class eight None = None
+short_value_by class eight (Some c) =
+    if is_ac class && (nat_lt 0 (c.0 % 16) && nat_le (c.1 + c.0 % 16) 8)
+    then Some (extended (number_of (take (c.0 % 16) (drop c.1 eight))) (c.0 % 16), c.0 / 16, c.1 + c.0 % 16)
+    else None
+
+-- what 8 bits begin with
+abbrev pub short_value_of : Table → List Bool → Option (ℤ × ℕ × ℕ)
+short_value_of table eight = short_value_by table.class eight (short_code table.counts table.symbols eight)
+
+-- the next 8 bits, with zeros behind them
+abbrev pub next_8 : List Bool → List Bool
+next_8 bits = take 8 (bits ++ replicate 8 false)
+
+-- at the place of each 8 bits stands the code that begins them
+abbrev pub HoldsCodes : List ℕ → List ℕ → List (Option (ℕ × ℕ)) → Type 0
+HoldsCodes counts symbols codes = (b : ℕ) → b < 256 → slice_index_or codes b None ≡ short_code counts symbols (low_bits 8 b)
+
+-- at the place of each 8 bits stands the value that they begin with
+abbrev pub HoldsValues : Table → List (Option (ℤ × ℕ × ℕ)) → Type 0
+HoldsValues table values = (b : ℕ) → b < 256 → slice_index_or values b None ≡ short_value_of table (low_bits 8 b)
