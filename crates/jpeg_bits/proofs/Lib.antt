@@ -10,6 +10,7 @@ pub mod Calls
 pub mod WrittenBits
 pub mod Reservoirs
 pub mod ShortLemmas
+pub mod RowLemmas
 pub mod ShortSymbols
 pub mod Tables
 pub mod EndLemmas

@@ -1,5 +1,5 @@
 -- Codes and values of at most 8 bits.
-use Rattle.std.proofs.Common.{◌≡◌, ◌≢◌, set, below_more, get_or-set_other, get_or-set_same, ℕ, ℤ, zero, suc, ◌+◌, ◌-◌, ◌*◌, ◌/◌, ◌%◌, ◌^◌, ◌<◌, ◌≤◌, Bool, true, false, cond, eqb, leb, ltb, ◌&&◌, List, [], ◌∷◌, ◌++◌, length, take, drop, get_or, replicate, Option, Some, None, Result, Ok, Err, refl, sym, ap, ◌∙◌, subst, arith, inl, inr, length-append, length-take, length-drop, IfSome, is_ok, is_some}
+use Rattle.std.proofs.Common.{◌≡◌, ◌≢◌, length-set, set, below_more, get_or-set_other, get_or-set_same, ℕ, ℤ, zero, suc, ◌+◌, ◌-◌, ◌*◌, ◌/◌, ◌%◌, ◌^◌, ◌<◌, ◌≤◌, Bool, true, false, cond, eqb, leb, ltb, ◌&&◌, List, [], ◌∷◌, ◌++◌, length, take, drop, get_or, replicate, Option, Some, None, Result, Ok, Err, refl, sym, ap, ◌∙◌, subst, arith, inl, inr, length-append, length-take, length-drop, IfSome, is_ok, is_some}
 use Rattle.std.specs.Option.{option_map}
 use Rattle.std.proofs.Math.Seq.{drop-nil}
 use Rattle.std.proofs.lemmas.List.{take-take, take-append-le, take_all, take-replicate, drop-replicate, drop-take, drop-drop, length-replicate}
@@ -67,6 +67,9 @@ set_next xs i v d f lt below here =
     below_more _ _
     (λ k h. let ne : k ≢ i = omega arith in rw get_or-set_other (below k h))
     (rw get_or-set_same here)
+
+pub length_set : {A : Type 0} (xs : List A) (i : ℕ) (v : A) (n : ℕ) → length xs ≡ n → length (set xs i v) ≡ n
+length_set xs i v n h = length-set xs i v ∙ h
 
 -- ---- codes by their first 8 bits
 

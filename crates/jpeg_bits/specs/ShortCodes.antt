@@ -1,10 +1,11 @@
 -- Codes and values that 8 bits begin with (F.2.2.3, with the look-up that it allows).
-use Rattle.std.specs.Prelude.{◌≡◌, ℕ, ℤ, ◌+◌, ◌*◌, ◌/◌, ◌%◌, ◌<◌, List, ◌++◌, length, take, drop, replicate, Bool, false, Option, Some, None, if◌then◌else◌, slice_index, slice_index_or, ◌&&◌, nat_lt, nat_le}
+use Rattle.std.specs.Prelude.{◌≡◌, ℕ, ℤ, ◌+◌, ◌*◌, ◌/◌, ◌%◌, ◌<◌, List, ◌++◌, take, drop, replicate, Bool, false, Option, Some, None, if◌then◌else◌, slice_index, slice_index_or, sum, fold, ◌&&◌, nat_lt, nat_le}
 use Rattle.std.specs.Option.{option_map}
 use Rattle.jpeg_bits.specs.Entropy.{number_of, extended}
 use Rattle.jpeg_bits.specs.Written.{low_bits}
 use Rattle.jpeg_bits.specs.Codes.{Table, code_in, code_lengths, is_ac}
 use Rattle.jpeg_bits.specs.declared.codes.HuffmanTableClass.{HuffmanTableClass}
+use Rattle.jpeg_bits.specs.declared.codes.Row.{Row}
 
 -- the symbol and the length of a code
 abbrev pub named : List ℕ → Option (ℕ × ℕ) → Option (ℕ × ℕ)
@@ -47,3 +48,19 @@ HoldsCodes counts symbols codes = (b : ℕ) → b < 256 → slice_index_or codes
 -- at the place of each 8 bits stands the value that they begin with
 abbrev pub HoldsValues : Table → List (Option (ℤ × ℕ × ℕ)) → Type 0
 HoldsValues table values = (b : ℕ) → b < 256 → slice_index_or values b None ≡ short_value_of table (low_bits 8 b)
+
+-- the value behind the codes of at most i bits, as a number of i bits
+abbrev pub value_behind : List ℕ → ℕ → ℕ
+value_behind counts i = fold (λ v c. 2 * v + c) 0 (take i counts)
+
+-- no codes
+abbrev pub no_row : Row
+no_row = record { end = 0; first = 0; place = 0 }
+
+-- the codes of i + 1 bits
+abbrev pub row_at : List ℕ → ℕ → Row
+row_at counts i = record { end = value_behind counts (i + 1); first = 2 * value_behind counts i; place = sum (take i counts) }
+
+-- each row stands at its place
+abbrev pub HoldsRows : List ℕ → List Row → Type 0
+HoldsRows counts rows = (i : ℕ) → i < 16 → slice_index_or rows i no_row ≡ row_at counts i
