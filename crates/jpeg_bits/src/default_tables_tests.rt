@@ -1,5 +1,6 @@
 //! Tests of the default tables.
 
+use crate::error::Error;
 use crate::huffman::{HuffmanDecoder, HuffmanTable, HuffmanTableClass, fill_default_mjpeg_tables};
 use crate::scan::{Predictor, ScanInfo};
 use crate::source::Source;
@@ -62,5 +63,49 @@ fn other_tables_stay(rt: HostRuntime) -> Result<(), Fail> {
     assert_eq!(rt; first_symbol(alloc, dc[0].as_ref(), &[0, 0])?, 9);
     assert!(rt; dc[1].is_none());
     assert!(rt; ac[0].is_none() && ac[1].is_none());
+    Ok(())
+}
+
+/// The luminance table of class AC.
+fn luminance_ac(alloc: Global) -> Result<HuffmanTable, Fail> {
+    let mut dc = [None, None];
+    let mut ac = [None, None];
+    fill_default_mjpeg_tables(alloc, &scan_of(alloc, &[0], &[0])?, &mut dc, &mut ac)?;
+    Ok(ac[0].take().ok_or("unset")?)
+}
+
+#[test]
+fn codes_of_more_than_8_bits(rt: HostRuntime) -> Result<(), Fail> {
+    let alloc = rt.alloc();
+    let table = luminance_ac(alloc)?;
+    let bytes = [0b1111_1011, 0b0101_1111, 0xff, 0, 0b1100_0000, 0xff, 0xd9];
+    let mut source = Source::new(bytes.as_slice());
+    let mut decoder = HuffmanDecoder::new(alloc);
+    assert_eq!(rt; decoder.decode(&mut source, &table)?, 0x14);
+    assert_eq!(rt; decoder.get_bits(&mut source, 2)?, 0b10);
+    assert!(rt; decoder.decode_fast_ac(&mut source, &table)?.is_none());
+    assert_eq!(rt; decoder.decode(&mut source, &table)?, 0xfa);
+    assert_eq!(rt; decoder.get_bits(&mut source, 5)?, 0);
+    let ones = [0xff, 0, 0xff, 0, 0xff, 0xd9];
+    let mut source = Source::new(ones.as_slice());
+    let refused = HuffmanDecoder::new(alloc).decode(&mut source, &table);
+    assert!(rt; matches!(refused, Err(Error::Format(_))));
+    Ok(())
+}
+
+#[test]
+fn values_of_at_most_8_bits(rt: HostRuntime) -> Result<(), Fail> {
+    let alloc = rt.alloc();
+    let table = luminance_ac(alloc)?;
+    // 001, 11000, 11010, and then 1010.
+    let bytes = [0b0011_1000, 0b1101_0101, 0b0000_0000, 0xff, 0xd9];
+    let mut source = Source::new(bytes.as_slice());
+    let mut decoder = HuffmanDecoder::new(alloc);
+    assert!(rt; decoder.decode_fast_ac(&mut source, &table)? == Some((1, 0)));
+    assert!(rt; decoder.decode_fast_ac(&mut source, &table)? == Some((-1, 1)));
+    assert!(rt; decoder.decode_fast_ac(&mut source, &table)?.is_none());
+    assert_eq!(rt; decoder.get_bits(&mut source, 5)?, 0b11010);
+    assert!(rt; decoder.decode_fast_ac(&mut source, &table)?.is_none());
+    assert_eq!(rt; decoder.get_bits(&mut source, 4)?, 0b1010);
     Ok(())
 }
