@@ -22,6 +22,6 @@ pub use decoder::{Decoder, ImageInfo, PixelFormat};
 pub use jpeg_bits::color_transform::ColorTransform;
 pub use jpeg_bits::error::{Error, UnsupportedFeature};
 pub use jpeg_bits::{error, huffman, marker};
-pub use jpeg_pixels::{idct, upsampler, worker};
+pub use jpeg_pixels::{arch, idct, upsampler, worker};
 pub use jpeg_segments::parser;
 pub use jpeg_segments::parser::CodingProcess;

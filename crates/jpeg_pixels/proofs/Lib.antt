@@ -1,4 +1,8 @@
 pub mod BlockRows
+pub mod LaneChoice
+pub mod LaneRows
+pub mod LaneSums
+pub mod MatrixRows
 pub mod Columns
 pub mod Residues
 pub mod Sums

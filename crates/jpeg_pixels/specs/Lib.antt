@@ -1,4 +1,6 @@
 pub mod Samples
+pub mod Lanes
+pub mod LaneRows
 pub mod Blocks
 pub mod Zigzag
 pub mod Planes

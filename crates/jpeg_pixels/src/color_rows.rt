@@ -1,5 +1,5 @@
 //! The colours of a line (JFIF, and Adobe's transforms), in whole numbers.
-ghost use Rattle.std.specs.Prelude.{◌≡◌, ℕ, ◌+◌, ◌-◌, ◌*◌, ◌<◌, ◌≤◌, length, slice_index};
+ghost use Rattle.std.specs.Prelude.{◌≡◌, ℕ, ◌+◌, ◌-◌, ◌*◌, ◌/◌, ◌%◌, ◌<◌, ◌≤◌, length, slice_index};
 ghost use Rattle.std.specs.Int.{int_shr};
 ghost use Rattle.jpeg_pixels.specs.Samples.{clamped};
 ghost use Rattle.jpeg_pixels.specs.Colour.{luma_of, centred_of, red_of, green_of, blue_of};
@@ -49,50 +49,41 @@ fn blue(y: u8, cb: u8) -> u8
     scaled_down(y + 1858077 * cb)
 }
 
-// The red of some pixels, whose brightness stands from place `start` on, and their third component
-// from `cr_start` on.
-fn red_row(lines: &[u8], start: usize, cr_start: usize, count: usize, row: &mut [u8; 64])
+// The red of some pixels from place `start` on, by their brightness and third component.
+fn red_row(y: &[u8], cr: &[u8], start: usize, count: usize, row: &mut [u8; 64])
     requires most { count ≤ 64 }
-    requires luma_room { start + count ≤ length lines.now }
-    requires cr_room { cr_start + count ≤ length lines.now }
+    requires y_room { start + count ≤ length y.now }
+    requires cr_room { start + count ≤ length cr.now }
     ensures { (x : ℕ) → x < count → slice_index row.new x
-        ≡ red_of (slice_index lines.now (start + x)) (slice_index lines.now (cr_start + x)) }
+        ≡ red_of (slice_index y.now (start + x)) (slice_index cr.now (start + x)) }
 {
     for x in 0..count {
-        row[x] = red(lines[start + x], lines[cr_start + x]);
+        row[x] = red(y[start + x], cr[start + x]);
     }
 }
 
-fn green_row(
-    lines: &[u8],
-    start: usize,
-    cb_start: usize,
-    cr_start: usize,
-    count: usize,
-    row: &mut [u8; 64],
-)
+fn green_row(y: &[u8], cb: &[u8], cr: &[u8], start: usize, count: usize, row: &mut [u8; 64])
     requires most { count ≤ 64 }
-    requires luma_room { start + count ≤ length lines.now }
-    requires cb_room { cb_start + count ≤ length lines.now }
-    requires cr_room { cr_start + count ≤ length lines.now }
+    requires y_room { start + count ≤ length y.now }
+    requires cb_room { start + count ≤ length cb.now }
+    requires cr_room { start + count ≤ length cr.now }
     ensures { (x : ℕ) → x < count → slice_index row.new x ≡
-        green_of (slice_index lines.now (start + x)) (slice_index lines.now (cb_start + x))
-        (slice_index lines.now (cr_start + x)) }
+        green_of (slice_index y.now (start + x)) (slice_index cb.now (start + x)) (slice_index cr.now (start + x)) }
 {
     for x in 0..count {
-        row[x] = green(lines[start + x], lines[cb_start + x], lines[cr_start + x]);
+        row[x] = green(y[start + x], cb[start + x], cr[start + x]);
     }
 }
 
-fn blue_row(lines: &[u8], start: usize, cb_start: usize, count: usize, row: &mut [u8; 64])
+fn blue_row(y: &[u8], cb: &[u8], start: usize, count: usize, row: &mut [u8; 64])
     requires most { count ≤ 64 }
-    requires luma_room { start + count ≤ length lines.now }
-    requires cb_room { cb_start + count ≤ length lines.now }
+    requires y_room { start + count ≤ length y.now }
+    requires cb_room { start + count ≤ length cb.now }
     ensures { (x : ℕ) → x < count → slice_index row.new x
-        ≡ blue_of (slice_index lines.now (start + x)) (slice_index lines.now (cb_start + x)) }
+        ≡ blue_of (slice_index y.now (start + x)) (slice_index cb.now (start + x)) }
 {
     for x in 0..count {
-        row[x] = blue(lines[start + x], lines[cb_start + x]);
+        row[x] = blue(y[start + x], cb[start + x]);
     }
 }
 
@@ -128,6 +119,7 @@ fn interleave_three(
     ensures third { (x : ℕ) → x < count → slice_index output.new (3 * (start + x) + 2)
         ≡ slice_index third.now x }
     ensures before { (i : ℕ) → i < 3 * start → slice_index output.new i ≡ slice_index output.old i }
+    ensures behind { (i : ℕ) → 3 * (start + count) ≤ i → slice_index output.new i ≡ slice_index output.old i }
 {
     for x in 0..count {
         output[3 * (start + x)] = first[x];
@@ -171,36 +163,55 @@ fn interleave_four(
 
 // Red, green and blue of some pixels from `start` on, by rows of 64.
 #[inline(never)]
-fn write_ycbcr_piece(lines: &[u8], width: usize, start: usize, count: usize, output: &mut [u8])
+fn write_ycbcr_piece(y: &[u8], cb: &[u8], cr: &[u8], start: usize, count: usize, output: &mut [u8])
     requires most { count ≤ 64 }
-    requires inside { start + count ≤ width }
-    requires lines { 3 * width ≤ length lines.now }
-    requires room { 3 * width ≤ length output.old }
+    requires y_room { start + count ≤ length y.now }
+    requires cb_room { start + count ≤ length cb.now }
+    requires cr_room { start + count ≤ length cr.now }
+    requires room { 3 * (start + count) ≤ length output.old }
     ensures red { (x : ℕ) → x < count → slice_index output.new (3 * (start + x))
-        ≡ red_of (slice_index lines.now (start + x))
-        (slice_index lines.now (2 * width + (start + x))) }
-    ensures green { (x : ℕ) → x < count → slice_index output.new (3 * (start + x) + 1)
-        ≡ green_of (slice_index lines.now (start + x)) (slice_index lines.now (width + (start + x)))
-        (slice_index lines.now (2 * width + (start + x))) }
+        ≡ red_of (slice_index y.now (start + x)) (slice_index cr.now (start + x)) }
+    ensures green { (x : ℕ) → x < count → slice_index output.new (3 * (start + x) + 1) ≡ green_of
+        (slice_index y.now (start + x)) (slice_index cb.now (start + x)) (slice_index cr.now (start + x)) }
     ensures blue { (x : ℕ) → x < count → slice_index output.new (3 * (start + x) + 2)
-        ≡ blue_of (slice_index lines.now (start + x))
-        (slice_index lines.now (width + (start + x))) }
+        ≡ blue_of (slice_index y.now (start + x)) (slice_index cb.now (start + x)) }
     ensures before { (i : ℕ) → i < 3 * start → slice_index output.new i ≡ slice_index output.old i }
+    ensures behind { (i : ℕ) → 3 * (start + count) ≤ i → slice_index output.new i ≡ slice_index output.old i }
 {
     let mut red = [0; 64];
     let mut green = [0; 64];
     let mut blue = [0; 64];
-    red_row(lines, start, 2 * width + start, count, &mut red);
-    green_row(
-        lines,
-        start,
-        width + start,
-        2 * width + start,
-        count,
-        &mut green,
-    );
-    blue_row(lines, start, width + start, count, &mut blue);
+    red_row(y, cr, start, count, &mut red);
+    green_row(y, cb, cr, start, count, &mut green);
+    blue_row(y, cb, start, count, &mut blue);
     interleave_three(&red, &green, &blue, count, output, start);
+}
+
+/// Writes red, green and blue of pixels by their brightness and two colour differences, in chunks of
+/// eight: of the pixels for which the output has room, those that make whole chunks. Their number is
+/// answered; the output's other bytes stay.
+pub fn color_convert_line_ycbcr(y: &[u8], cb: &[u8], cr: &[u8], output: &mut [u8]) -> usize
+    requires whole { 3 * (length output.old / 3) ≡ length output.old }
+    requires y_long { length output.old ≤ 3 * length y.now }
+    requires cb_long { length output.old ≤ 3 * length cb.now }
+    requires cr_long { length output.old ≤ 3 * length cr.now }
+    ensures count { result ≡ length output.old / 3 - length output.old / 3 % 8 }
+    ensures red { (x : ℕ) → x < result → slice_index output.new (3 * x)
+        ≡ red_of (slice_index y.now x) (slice_index cr.now x) }
+    ensures green { (x : ℕ) → x < result → slice_index output.new (3 * x + 1)
+        ≡ green_of (slice_index y.now x) (slice_index cb.now x) (slice_index cr.now x) }
+    ensures blue { (x : ℕ) → x < result → slice_index output.new (3 * x + 2)
+        ≡ blue_of (slice_index y.now x) (slice_index cb.now x) }
+    ensures rest { (i : ℕ) → 3 * result ≤ i → slice_index output.new i ≡ slice_index output.old i }
+{
+    let pixels = output.len() / 3;
+    let count = pixels - pixels % 8;
+    let pieces = count / 64;
+    for piece in 0..pieces {
+        write_ycbcr_piece(y, cb, cr, 64 * piece, 64, output);
+    }
+    write_ycbcr_piece(y, cb, cr, 64 * pieces, count % 64, output);
+    count
 }
 
 // Red, green, blue and the inverse of the fourth component of some pixels from `start` on.
@@ -227,16 +238,11 @@ fn write_ycck_piece(lines: &[u8], width: usize, start: usize, count: usize, outp
     let mut green = [0; 64];
     let mut blue = [0; 64];
     let mut black = [0; 64];
-    red_row(lines, start, 2 * width + start, count, &mut red);
-    green_row(
-        lines,
-        start,
-        width + start,
-        2 * width + start,
-        count,
-        &mut green,
-    );
-    blue_row(lines, start, width + start, count, &mut blue);
+    let cb = &lines[width..];
+    let cr = &lines[2 * width..];
+    red_row(lines, cr, start, count, &mut red);
+    green_row(lines, cb, cr, start, count, &mut green);
+    blue_row(lines, cb, start, count, &mut blue);
     inverted_row(lines, 3 * width + start, count, &mut black);
     interleave_four(&red, &green, &blue, &black, count, output, start);
 }
@@ -293,7 +299,7 @@ pub(crate) fn write_rgb(lines: &[u8], width: usize, output: &mut [u8])
 /// other: red, green and blue.
 pub(crate) fn write_ycbcr(lines: &[u8], width: usize, output: &mut [u8])
     requires lines { 3 * width ≤ length lines.now }
-    requires room { 3 * width ≤ length output.old }
+    requires room { length output.old ≡ 3 * width }
     ensures red { (x : ℕ) → x < width → slice_index output.new (3 * x)
         ≡ red_of (slice_index lines.now x) (slice_index lines.now (2 * width + x)) }
     ensures green { (x : ℕ) → x < width → slice_index output.new (3 * x + 1)
@@ -302,11 +308,10 @@ pub(crate) fn write_ycbcr(lines: &[u8], width: usize, output: &mut [u8])
     ensures blue { (x : ℕ) → x < width → slice_index output.new (3 * x + 2)
         ≡ blue_of (slice_index lines.now x) (slice_index lines.now (width + x)) }
 {
-    let pieces = width / 64;
-    for piece in 0..pieces {
-        write_ycbcr_piece(lines, width, 64 * piece, 64, output);
-    }
-    write_ycbcr_piece(lines, width, 64 * pieces, width % 64, output);
+    let cb = &lines[width..];
+    let cr = &lines[2 * width..];
+    let done = color_convert_line_ycbcr(lines, cb, cr, output);
+    write_ycbcr_piece(lines, cb, cr, done, width - done, output);
 }
 
 /// Writes the pixels of a line of brightness, two colour differences and black, which stand one

@@ -1,6 +1,7 @@
 //! From coefficients to samples.
 #![tactic(auto)]
 
+pub mod arch;
 mod color_rows;
 #[cfg(test)]
 mod color_tests;

@@ -2,7 +2,7 @@
 ghost use Rattle.std.specs.Prelude.{◌≡◌, ℕ, ◌+◌, ◌≤◌, ◌<◌, ◌*◌, ◌++◌, length, slice_index, OnOk, OnErr};
 ghost use Rattle.jpeg_pixels.specs.Planes.{strip_of, cropped};
 
-use crate::idct::dequantize_and_idct_block_8x8;
+use crate::arch::dequantize_and_idct_block_8x8;
 use std::alloc::AllocError;
 
 /// Puts the samples of a row of blocks behind a plane: eight lines of `8 * blocks.len()` samples.

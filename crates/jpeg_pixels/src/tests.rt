@@ -1,5 +1,6 @@
 ghost use Rattle.std.specs.Prelude.{◌<◌};
 
+use crate::arch;
 use crate::idct::dequantize_and_idct_block_8x8;
 use crate::plane::{append_row, crop};
 use crate::zigzag::{coefficients_in_order, values_in_order};
@@ -144,4 +145,57 @@ fn rows_of_blocks_cropped(rt: HostRuntime) -> Result<(), Fail> {
         assert_eq!(rt; *sample, expected, "at {place}");
     }
     Ok(())
+}
+
+// The samples of a block by lanes, its lines one behind the other.
+fn samples_by_lanes(coefficients: &[i16; 64], quantization_table: &[u16; 64]) -> [u8; 64] {
+    let mut samples = [7; 64];
+    arch::dequantize_and_idct_block_8x8(coefficients, quantization_table, 8, &mut samples);
+    samples
+}
+
+#[test]
+fn lanes_give_the_same_samples(rt: HostRuntime) {
+    assert_eq!(rt;
+        samples_by_lanes(&[32767; 64], &[65535; 64]),
+        LARGEST_SAMPLES
+    );
+    assert_eq!(rt; samples_by_lanes(&[0; 64], &[666; 64]), [128; 64]);
+    let samples = samples_by_lanes(&block_of_one(1, 8192), &[64; 64]);
+    for line in samples.chunks_exact(8) {
+        assert_eq!(rt; line, [0, 255, 0, 0, 255, 255, 0, 255].as_slice());
+    }
+    let samples = samples_by_lanes(&COEFFICIENTS, &QUANTIZATION_TABLE);
+    for (place, sample) in samples.iter().enumerate() {
+        assert!(rt; sample.abs_diff(SAMPLES[place]) <= 1, "{sample} at {place}");
+    }
+}
+
+#[test]
+fn bytes_between_lines_of_lanes_stay(rt: HostRuntime) {
+    let mut bytes = [7; 148];
+    arch::dequantize_and_idct_block_8x8(&block_of_one(0, 8), &[1; 64], 20, &mut bytes);
+    for (place, byte) in bytes.iter().enumerate() {
+        let expected = if place % 20 < 8 { 129 } else { 7 };
+        assert_eq!(rt; *byte, expected, "at {place}");
+    }
+}
+
+#[test]
+fn chunks_of_eight_pixels_are_converted(rt: HostRuntime) {
+    let mut output = [7; 33];
+    let count = arch::color_convert_line_ycbcr(&[76; 11], &[85; 11], &[255; 11], &mut output);
+    assert_eq!(rt; count, 8);
+    for (place, byte) in output.iter().enumerate() {
+        let expected = match (place < 24, place % 3) {
+            (true, 0) => 254,
+            (true, _) => 0,
+            (false, _) => 7,
+        };
+        assert_eq!(rt; *byte, expected, "at {place}");
+    }
+    let mut output = [7; 21];
+    let count = arch::color_convert_line_ycbcr(&[76; 7], &[85; 7], &[255; 7], &mut output);
+    assert_eq!(rt; count, 0);
+    assert_eq!(rt; output, [7; 21]);
 }

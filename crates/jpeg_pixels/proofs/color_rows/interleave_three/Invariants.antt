@@ -1,4 +1,4 @@
-use Rattle.std.proofs.Common.{◌≡◌, ℕ, ◌<◌, ◌+◌, ◌*◌, slice_index}
+use Rattle.std.proofs.Common.{◌≡◌, ℕ, ◌<◌, ◌≤◌, ◌+◌, ◌*◌, slice_index}
 use Rattle.jpeg_pixels.proofs.color_rows.interleave_three.Given as goal
 
 abbrev pub invariant-loop-x : goal.invariant-loop-x
@@ -7,4 +7,5 @@ invariant-loop-x l = record {
   second : (k : ℕ) → k < l.x → slice_index l.output (3 * (l.start + k) + 1) ≡ slice_index l.second k;
   third : (k : ℕ) → k < l.x → slice_index l.output (3 * (l.start + k) + 2) ≡ slice_index l.third k;
   before : (i : ℕ) → i < 3 * l.start → slice_index l.output i ≡ slice_index l.fn.output i;
+  behind : (i : ℕ) → 3 * (l.start + l.x) ≤ i → slice_index l.output i ≡ slice_index l.fn.output i;
 }
