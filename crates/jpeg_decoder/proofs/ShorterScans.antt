@@ -6,12 +6,12 @@ use Rattle.jpeg_bits.specs.Entropy.{upcoming, fresh, marker_from, bits_from}
 use Rattle.jpeg_bits.specs.Readers.{Reads, gives, refused, signed_from}
 use Rattle.jpeg_bits.specs.Codes.{Table, symbol_from, code_from}
 use Rattle.jpeg_bits.specs.declared.marker.Marker.{Marker}
-use Rattle.jpeg_decoder.specs.declared.tokens.Token.{Token}
-use Rattle.jpeg_decoder.specs.declared.tokens.Token.TheVariants.{Value, Sixteen, Rest, Overlong}
-use Rattle.jpeg_decoder.specs.declared.blocks.Grid.{Grid}
-use Rattle.jpeg_decoder.specs.Bands.{Band, category_number, difference, first_dc, token_at, token_from, behind_token, first_ac}
-use Rattle.jpeg_decoder.specs.Passes.{Pass, Via, Block, dc_part, band_part, band_of, block_from, blocks_of, whole_pass, zero_block}
-use Rattle.jpeg_decoder.specs.Intervals.{interval, intervals, is_restart, blocks_before, predictors_at_start, first_group, other_groups}
+use Rattle.jpeg_bits.specs.declared.tokens.Token.{Token}
+use Rattle.jpeg_bits.specs.declared.tokens.Token.TheVariants.{Value, Sixteen, Rest, Overlong}
+use Rattle.jpeg_decoder.specs.declared.grids.Grid.{Grid}
+use Rattle.jpeg_bits.specs.Bands.{Band, category_number, difference, first_dc, token_at, token_from, behind_token, first_ac}
+use Rattle.jpeg_bits.specs.Passes.{Pass, Via, Block, dc_part, band_part, band_of, block_from, blocks_of, whole_pass, zero_block}
+use Rattle.jpeg_bits.specs.Intervals.{interval, intervals, is_restart, blocks_before, predictors_at_start, first_group, other_groups}
 use Rattle.jpeg_decoder.specs.Scans.{plane_at}
 use Rattle.jpeg_decoder.proofs.Shorter.{LeavesBelow, below-ok, below-err, below-bind}
 use Rattle.jpeg_decoder.proofs.ShorterTexts.{StaysBelow, bind-stays, gives-stays, refused-stays, elim-stays, bits-stays, signed-stays, code-stays, symbol-stays, texts-below, upcoming-below, marker_from-below}

@@ -1,29 +1,51 @@
--- The samples that a scan gives (T.81, A.2 and E.2.3).
-use Rattle.std.specs.Prelude.{ℕ, ◌+◌, ◌*◌, ◌&&◌, nat_lt, if◌then◌else◌, List, replicate, slice_index_or, ℤ, Option, Ok}
+-- The blocks behind a scan (T.81, A.2, E.2.3 and G.1).
+use Rattle.std.specs.Prelude.{ℕ, ◌*◌, List, [], ◌∷◌, map, set, get_or, replicate, Option, Ok}
 use Rattle.jpeg_bits.specs.Reading.{Outcome, ◌>>=◌}
+use Rattle.jpeg_bits.specs.Codes.{Table}
+use Rattle.jpeg_bits.specs.declared.codes.HuffmanTableClass.{HuffmanTableClass}
+use Rattle.jpeg_bits.specs.declared.codes.HuffmanTableClass.TheVariants as classes
 use Rattle.jpeg_bits.specs.declared.marker.Marker.{Marker}
-use Rattle.jpeg_pixels.specs.Zigzag.{coefficients_in_block_order, values_in_block_order}
-use Rattle.jpeg_pixels.specs.Planes.{plane_of}
-use Rattle.jpeg_segments.specs.Frame.{Component, ceiling}
-use Rattle.jpeg_decoder.specs.declared.blocks.Grid.{Grid}
-use Rattle.jpeg_decoder.specs.Passes.{Via, Block, whole_pass, zero_block, listed}
-use Rattle.jpeg_decoder.specs.Intervals.{intervals, first_group, other_groups}
+use Rattle.jpeg_segments.specs.Frame.{Component}
+use Rattle.jpeg_bits.specs.Passes.{Pass, Via, Block, zero_block}
+use Rattle.jpeg_bits.specs.Intervals.{intervals, first_group, other_groups}
+use Rattle.jpeg_decoder.specs.Order.{Spot}
 
--- A component's blocks: across and down, those that it has by its own size, and those that its part of all MCUs has.
-abbrev pub grid_of : Component → Grid
-grid_of c = record { own_wide = ceiling c.width 8; own_high = ceiling c.height 8; wide = c.blocks_wide; high = c.blocks_high }
+-- Blocks of some components: for each its blocks, those of all MCUs in raster order.
+abbrev pub Arrays : Type 0
+Arrays = List (List Block)
 
--- A scan of one component has the component's own blocks in raster order, and the others stay zero: the block in a row and a column, in
--- block order.
-unfoldable pub own_block : Grid → List Block → ℕ → ℕ → List ℤ
-own_block g blocks row column =
-    coefficients_in_block_order (listed (
-    if nat_lt row g.own_high && nat_lt column g.own_wide then slice_index_or blocks (row * g.own_wide + column) zero_block else zero_block))
+abbrev pub block_at : Arrays → Spot → Block
+block_at arrays s = get_or (get_or arrays s.slot []) s.index zero_block
 
--- The plane of a sequential scan of one component, by its quantization table in zigzag order; and the marker behind the scan, if it is met.
--- Each block of the scan is an MCU; there is one interval, since a restart interval is refused for now.
-unfoldable pub plane_at : Grid → List ℕ → Via → List ℕ → Outcome (List ℕ × Option Marker)
-plane_at g quantization via bytes =
-    let turns = replicate (g.own_high * g.own_wide) (via, zero_block) in do
-      r ← intervals whole_pass 0 (first_group 0 turns) (other_groups 0 turns) bytes
-      Ok ((plane_of (values_in_block_order quantization) g.wide g.high (own_block g r.0.0), r.0.1), r.1)
+abbrev pub put_block : Spot → Block → Arrays → Arrays
+put_block s b arrays = set arrays s.slot (set (get_or arrays s.slot []) s.index b)
+
+-- blocks put at their spots, one after the other
+unfoldable pub put_blocks : List Spot → List Block → Arrays → Arrays
+put_blocks [] blocks arrays = arrays
+put_blocks (s ∷ spots) [] arrays = arrays
+put_blocks (s ∷ spots) (b ∷ blocks) arrays = put_blocks spots blocks (put_block s b arrays)
+
+-- the blocks of components in which nothing was read yet
+unfoldable pub zero_arrays : List Component → Arrays
+zero_arrays components = map (λ c. replicate (c.blocks_high * c.blocks_wide) zero_block) components
+
+-- a table without codes
+abbrev pub no_table : HuffmanTableClass → Table
+no_table class = record { class = class; counts = replicate 16 0; symbols = [] }
+
+-- how a block of a slot is coded, by the ways of the scan's slots
+abbrev pub via_at : List Via → ℕ → Via
+via_at vias slot = get_or vias slot (record { component = slot; dc = no_table classes.DC; ac = no_table classes.AC })
+
+-- the blocks at the spots, and how each is coded
+unfoldable pub turns_of : List Via → List Spot → Arrays → List (Via × Block)
+turns_of vias spots arrays = map (λ s. (via_at vias s.slot, block_at arrays s)) spots
+
+-- A scan: the blocks at its spots are read in intervals of n blocks, or in one where n is 0, and are put back; and the marker behind the scan,
+-- if it is met.
+unfoldable pub arrays_at : Pass → ℕ → List Via → List Spot → Arrays → List ℕ → Outcome (Arrays × Option Marker)
+arrays_at p n vias spots arrays bytes =
+    let turns = turns_of vias spots arrays in do
+      r ← intervals p 0 (first_group n turns) (other_groups n turns) bytes
+      Ok ((put_blocks spots r.0.0 arrays, r.0.1), r.1)

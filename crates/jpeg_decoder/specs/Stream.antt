@@ -1,8 +1,12 @@
 -- The state that the segments of a stream lead to, and the meaning of a stream (T.81, B.2).
-use Rattle.std.specs.Prelude.{◌≡◌, ℕ, zero, suc, ◌*◌, ◌/◌, ◌==◌, min, not, ◌&&◌, ◌||◌, nat_lt, nat_le, List, [], ◌∷◌, ◌++◌, length, replicate, slice_index_or, slice_set, Bool, true, false, Option, Some, None, option_map, is_some, Result, Ok, Err, if◌then◌else◌}
+use Rattle.std.specs.Prelude.{◌≡◌, ℕ, zero, suc, ◌+◌, ◌-◌, ◌*◌, ◌/◌, ◌==◌, min, not, ◌&&◌, ◌||◌, nat_lt, nat_le, List, [], ◌∷◌, ◌++◌, map, length, take, drop, set, get_or, replicate, slice_index_or, slice_set, Bool, true, false, Option, Some, None, option_map, is_some, Result, Ok, Err, if◌then◌else◌}
+use Rattle.std.specs.List.{list_all}
 use Rattle.jpeg_bits.specs.Reading.{Outcome, Fault, Malformed, Lacks, End, ◌>>=◌, next_byte, length_at, skip_at}
 use Rattle.jpeg_bits.specs.Marker.{next_marker}
 use Rattle.jpeg_bits.specs.Codes.{Table}
+use Rattle.jpeg_bits.specs.DefaultTables.{luminance_dc, chrominance_dc, luminance_ac, chrominance_ac, with_defaults}
+use Rattle.jpeg_bits.specs.declared.codes.HuffmanTableClass.{HuffmanTableClass}
+use Rattle.jpeg_bits.specs.declared.codes.HuffmanTableClass.TheVariants as classes
 use Rattle.jpeg_bits.specs.declared.marker.Marker.{Marker}
 use Rattle.jpeg_bits.specs.declared.marker.Marker.TheVariants.{SOF, DHT, DAC, RST, EOI, SOS, DQT, DNL, DRI, DHP, EXP, APP, COM}
 use Rattle.jpeg_bits.specs.declared.error.UnsupportedFeature.TheVariants as features
@@ -16,9 +20,15 @@ use Rattle.jpeg_segments.specs.ScanHeader.{Scan, sos_at}
 use Rattle.jpeg_segments.specs.Quantization.{dqt_at}
 use Rattle.jpeg_segments.specs.HuffmanTables.{Tables, no_tables, dht_at}
 use Rattle.jpeg_segments.specs.Application.{Application, Chunk, Adobe, Jfif, Avi1, Icc, Exif, Xmp, Psir, app_at, dri_at}
-use Rattle.jpeg_pixels.specs.Planes.{cropped}
-use Rattle.jpeg_pixels.specs.Pictures.{sources_of}
-use Rattle.jpeg_decoder.specs.Scans.{grid_of, plane_at}
+use Rattle.jpeg_pixels.specs.Zigzag.{values_in_block_order}
+use Rattle.jpeg_pixels.specs.Pictures.{sources_of, image_of}
+use Rattle.jpeg_decoder.specs.ColourChoice.{identifiers_of, transform_of}
+use Rattle.jpeg_pixels.specs.Planes.{plane_of, cropped}
+use Rattle.jpeg_segments.specs.Scales.{sized}
+use Rattle.jpeg_bits.specs.Passes.{Pass, Via, Block}
+use Rattle.jpeg_decoder.specs.Rasters.{in_raster}
+use Rattle.jpeg_decoder.specs.Order.{spots_of, mcu_size}
+use Rattle.jpeg_decoder.specs.Scans.{Arrays, zero_arrays, no_table, arrays_at}
 use Rattle.jpeg_decoder.specs.declared.state.Settings.{Settings}
 use Rattle.jpeg_decoder.specs.declared.state.Before.{Before}
 use Rattle.jpeg_decoder.specs.declared.state.Before.TheVariants.{FirstScan, LaterScan, Elsewhere}
@@ -38,7 +48,8 @@ abbrev pub no_metadata : Metadata
 no_metadata = record { jfif = false; avi1 = false; adobe = None; exif = None; xmp = None; psir = None; icc = [] }
 
 -- What the segments and scans so far have said: the frame; the tables in force, by their places; the restart interval; whether a scan was
--- read; the metadata; and the planes that are decided, by the components' places in the frame. Quantization tables stand in zigzag order.
+-- read; the metadata; and by the components' places in the frame the blocks that are held between the scans of a progressive frame, which
+-- of the 64 places of a block are finished, and the planes that are decided. Quantization tables stand in zigzag order.
 pub record Found : Type 0 where
   pub frame : Option Frame
   pub quantization : List (Option (List ℕ))
@@ -46,7 +57,13 @@ pub record Found : Type 0 where
   pub restart : ℕ
   pub scanned : Bool
   pub metadata : Metadata
+  pub held : Arrays
+  pub finished : List (List Bool)
   pub planes : List (Option (List ℕ))
+
+-- no place of a block is finished
+abbrev pub none_finished : List Bool
+none_finished = replicate 64 false
 
 unfoldable pub nothing_found : Found
 nothing_found = record {
@@ -56,6 +73,8 @@ nothing_found = record {
   restart = 0;
   scanned = false;
   metadata = no_metadata;
+  held = [];
+  finished = replicate 4 none_finished;
   planes = replicate 4 None;
 }
 
@@ -161,48 +180,124 @@ abbrev pub first_of : {A : Type 0} → List A → Option A
 first_of [] = None
 first_of (x ∷ more) = Some x
 
--- the table in force that the first of these places names
-abbrev pub named : {A : Type 0} → List (Option A) → List ℕ → Option A
-named tables [] = None
-named tables (place ∷ more) = slice_index_or tables place None
+abbrev pub is_progressive : CodingProcess → Bool
+is_progressive DctSequential = false
+is_progressive DctProgressive = true
+is_progressive Lossless = false
 
--- A scan of one component: the component, its quantization table, and its Huffman tables.
+-- Scans of lossless frames are refused for now.
+abbrev pub is_decoded : CodingProcess → Bool
+is_decoded DctSequential = true
+is_decoded DctProgressive = true
+is_decoded Lossless = false
+
+-- what a scan codes
+unfoldable pub pass_of : Scan → Pass
+pass_of scan = record { is_first = scan.high == 0; ss = scan.first; se = scan.behind - 1; al = scan.low }
+
+-- The Huffman tables in force for a scan. In a frame of an MJPEG stream the default ones stand in the unset places that the scan names.
+unfoldable pub tables_of : Found → Scan → Tables
+tables_of found scan =
+    if found.metadata.avi1 then record {
+      dc = with_defaults luminance_dc chrominance_dc scan.dc_places found.huffman.dc;
+      ac = with_defaults luminance_ac chrominance_ac scan.ac_places found.huffman.ac;
+    } else found.huffman
+
+-- A component of a scan: its place in the frame, the component, its quantization table, and its Huffman tables.
 pub record Coding : Type 0 where
+  pub place : ℕ
   pub component : Component
   pub quantization : List ℕ
   pub dc : Table
   pub ac : Table
 
-abbrev pub is_sequential : CodingProcess → Bool
-is_sequential DctSequential = true
-is_sequential DctProgressive = false
-is_sequential Lossless = false
+-- a table that has to be there where the scan needs it
+abbrev pub needed_if : Bool → HuffmanTableClass → Option Table → Result Table Fault
+needed_if true class table = needed table
+needed_if false class table = Ok (no_table class)
 
--- Scans of progressive and lossless frames, those under a restart interval, and those of several components are refused for now.
-abbrev pub is_decoded : Found → Frame → Bool
-is_decoded found frame = is_sequential frame.process && (found.restart == 0 && length frame.components == 1)
+-- The quantization table is needed, a table for DC where the pass has DC, also in a refinement, and one for AC where it has AC.
+unfoldable pub coding_of : Found → Frame → Pass → Tables → ℕ → ℕ → ℕ → Result Coding Fault
+coding_of found frame p tables place dc_place ac_place = do
+  component ← needed (first_of (drop place frame.components))
+  quantization ← needed (slice_index_or found.quantization component.factors.quantization None)
+  dc ← needed_if (p.ss == 0) classes.DC (slice_index_or tables.dc dc_place None)
+  ac ← needed_if (nat_lt 0 p.se) classes.AC (slice_index_or tables.ac ac_place None)
+  Ok (record { place = place; component = component; quantization = quantization; dc = dc; ac = ac })
 
--- The component of a scan and its tables.
-unfoldable pub coding_of : Found → Frame → Scan → Result Coding Fault
-coding_of found frame scan =
-    if is_decoded found frame then (do
-      component ← needed (first_of frame.components)
-      quantization ← needed (slice_index_or found.quantization component.factors.quantization None)
-      dc ← needed (named found.huffman.dc scan.dc_places)
-      ac ← needed (named found.huffman.ac scan.ac_places)
-      Ok (record { component = component; quantization = quantization; dc = dc; ac = ac })) else Err Malformed
+-- those at some places, with the places of their tables
+unfoldable pub codings_from : Found → Frame → Pass → Tables → List ℕ → List ℕ → List ℕ → Result (List Coding) Fault
+codings_from found frame p tables (place ∷ places) (d ∷ dc_places) (a ∷ ac_places) =
+    coding_of found frame p tables place d a >>= (λ c. codings_from found frame p tables places dc_places ac_places >>= (λ others. Ok (c ∷ others)))
+codings_from found frame p tables _ _ _ = Ok []
 
--- The first scan that finishes a component decides its plane.
+unfoldable pub codings_of : Found → Frame → Scan → Result (List Coding) Fault
+codings_of found frame scan =
+    if is_decoded frame.process
+    then codings_from found frame (pass_of scan) (tables_of found scan) scan.components scan.dc_places scan.ac_places
+    else Err Malformed
+
+-- how the blocks of each component of a scan are coded, from a slot on
+unfoldable pub vias_from : ℕ → List Coding → List Via
+vias_from slot [] = []
+vias_from slot (c ∷ more) = record { component = slot; dc = c.dc; ac = c.ac } ∷ vias_from (slot + 1) more
+
+-- The blocks of a frame's components before a scan: in a progressive frame those held, and in a sequential one zeros.
+unfoldable pub arrays_before : Found → Frame → Arrays
+arrays_before found frame = if is_progressive frame.process && found.scanned then found.held else zero_arrays frame.components
+
+-- The blocks of the scan's components behind it, and the marker behind it, if it is met.
+unfoldable pub scan_arrays : Found → Frame → Scan → List Coding → List ℕ → Outcome (Arrays × Option Marker)
+scan_arrays found frame scan codings bytes =
+    let components = map (λ c. c.component) codings in
+    arrays_at (pass_of scan) (found.restart * mcu_size components) (vias_from 0 codings) (spots_of frame components)
+    (map (λ c. get_or (arrays_before found frame) c.place []) codings) bytes
+
+-- ---- behind a scan
+
+-- The samples of a component by its quantization table in zigzag order and its blocks, those of all MCUs in raster order.
+unfoldable pub plane_by : Component → List ℕ → List Block → List ℕ
+plane_by c quantization blocks =
+    plane_of c.scale (values_in_block_order quantization) c.blocks_wide c.blocks_high (in_raster c.blocks_wide blocks)
+
+-- A pass at level 0 finishes its places.
+unfoldable pub finished_by : Pass → List Bool → List Bool
+finished_by p marks = if p.al == 0 then take p.ss marks ++ (replicate (suc p.se - p.ss) true ++ drop (suc p.se) marks) else marks
+
+-- The first plane stays.
 abbrev pub decided : Option (List ℕ) → List ℕ → Option (List ℕ)
 decided None plane = Some plane
 decided (Some first) plane = Some first
 
-abbrev pub with_plane : Found → List ℕ → Found
-with_plane found plane =
-    record found { scanned = true; planes = slice_set found.planes 0 (decided (slice_index_or found.planes 0 None) plane) }
+-- A component of the scan whose places are all finished now: its plane is decided, by the quantization table in force.
+unfoldable pub with_plane : Coding → List Block → List Bool → List (Option (List ℕ)) → List (Option (List ℕ))
+with_plane c blocks marks planes =
+    elim (list_all (λ mark. mark) marks) [
+      | true ↦ slice_set planes c.place (decided (slice_index_or planes c.place None) (plane_by c.component c.quantization blocks))
+      | false ↦ planes
+    ]
 
-unfoldable pub scan_samples : Coding → List ℕ → Outcome (List ℕ × Option Marker)
-scan_samples c bytes = plane_at (grid_of c.component) c.quantization (record { component = 0; dc = c.dc; ac = c.ac }) bytes
+unfoldable pub with_blocks : Pass → Coding → List Block → Found → Found
+with_blocks p c blocks found =
+    let marks = finished_by p (slice_index_or found.finished c.place none_finished) in
+    record found { finished = slice_set found.finished c.place marks; planes = with_plane c blocks marks found.planes }
+
+-- with each component of the scan
+unfoldable pub with_arrays : Pass → List Coding → Arrays → Found → Found
+with_arrays p (c ∷ codings) (blocks ∷ arrays) found = with_arrays p codings arrays (with_blocks p c blocks found)
+with_arrays p _ _ found = found
+
+-- the blocks of a scan's components in place of those of the frame
+unfoldable pub put_arrays : List Coding → Arrays → Arrays → Arrays
+put_arrays (c ∷ codings) (blocks ∷ arrays) held = put_arrays codings arrays (set held c.place blocks)
+put_arrays _ _ held = held
+
+abbrev pub held_behind : Found → Frame → List Coding → Arrays → Arrays
+held_behind found frame codings arrays = if is_progressive frame.process then put_arrays codings arrays (arrays_before found frame) else []
+
+unfoldable pub behind_scan : Found → Frame → Scan → List Coding → Arrays → Found
+behind_scan found frame scan codings arrays =
+    with_arrays (pass_of scan) codings arrays (record found { scanned = true; held = held_behind found frame codings arrays })
 
 -- The marker behind a scan, where restart markers at its end are passed over, fewer than so many.
 unfoldable pub behind_restarts : ℕ → Option Marker → List ℕ → Outcome (Option Marker)
@@ -217,10 +312,10 @@ unfoldable pub scan_segment : Found → List ℕ → Outcome Turn
 scan_segment found bytes = do
   frame ← needed found.frame
   scan ← sos_at frame bytes
-  coding ← coding_of found frame scan.0
-  plane ← scan_samples coding scan.1
-  met ← behind_restarts (suc (length plane.1)) plane.0.1 plane.1
-  Ok (record { found = with_plane found plane.0.0; before = scan_before found; met = met.0; ended = false }, met.1)
+  codings ← codings_of found frame scan.0
+  read ← scan_arrays found frame scan.0 codings scan.1
+  met ← behind_restarts (suc (length read.1)) read.0.1 read.1
+  Ok (record { found = behind_scan found frame scan.0 codings read.0.0; before = scan_before found; met = met.0; ended = false }, met.1)
 
 -- ---- the stream
 
@@ -309,59 +404,89 @@ header_at bytes = do
 
 -- ---- the picture
 
+-- The plane of a component at the end of the image: the one that is decided; else, in a progressive frame of which a scan was read, that of
+-- the blocks held, by the quantization table in force.
+unfoldable pub plane_at_end : Found → Frame → ℕ → Component → Result (List ℕ) Fault
+plane_at_end found frame place c =
+    elim (slice_index_or found.planes place None) [
+      | Some plane ↦ Ok plane
+      | None ↦ elim (is_progressive frame.process && found.scanned) [
+        | true ↦ needed (slice_index_or found.quantization c.factors.quantization None) >>= (λ quantization.
+            Ok (plane_by c quantization (get_or found.held place [])))
+        | false ↦ Err Malformed
+      ]
+    ]
+
+-- those of some components, from a place on
+unfoldable pub planes_from : Found → Frame → ℕ → List Component → Result (List (List ℕ)) Fault
+planes_from found frame place [] = Ok []
+planes_from found frame place (c ∷ more) =
+    plane_at_end found frame place c >>= (λ plane. planes_from found frame (place + 1) more >>= (λ others. Ok (plane ∷ others)))
+
 -- The picture of one component: its plane, cropped to the picture as far as the plane goes.
 abbrev pub picture_in : Frame → Component → List ℕ → List ℕ
 picture_in frame c plane =
-    let stride = 8 * c.blocks_wide in cropped stride (min frame.output_width stride) (min frame.output_height (length plane / stride)) plane
+    let stride = c.scale * c.blocks_wide in cropped stride (min frame.output_width stride) (min frame.output_height (length plane / stride)) plane
 
--- The picture of what was found: within the limit, of a plane that is there.
+-- The picture of planes: of one its samples, and of several their colours.
+unfoldable pub picture_by : Settings → Metadata → Frame → List Component → List (List ℕ) → Result (List ℕ) Fault
+picture_by settings m frame (c ∷ []) planes = needed (first_of planes) >>= (λ plane. Ok (picture_in frame c plane))
+picture_by settings m frame components planes =
+    image_of components planes frame.output_width frame.output_height (transform_of settings.color_transform (identifiers_of components) m.jfif m.adobe)
+
+-- The picture of what was found: within the limit, of planes that are there.
 unfoldable pub picture_of : Settings → Found → Result (List ℕ) Fault
 picture_of settings found = do
   frame ← needed found.frame
-  component ← needed (first_of frame.components)
   if nat_lt settings.limit (length frame.components * (frame.output_width * frame.output_height)) then Err Malformed else (do
-    plane ← needed (slice_index_or found.planes 0 None)
-    Ok (picture_in frame component plane))
+    planes ← planes_from found frame 0 frame.components
+    picture_by settings found.metadata frame frame.components planes)
 
--- What a decoder tells: the frame, and the metadata.
-pub record Told : Type 0 where
-  pub frame : Option Frame
-  pub metadata : Metadata
+-- What is told behind the end of an image or a refusal: blocks and planes are kept no more, since the picture is made of them.
+abbrev pub without_planes : Found → Found
+without_planes found = record found { held = []; finished = replicate 4 none_finished; planes = replicate 4 None }
 
-abbrev pub told_of : Found → Told
-told_of found = record { frame = found.frame; metadata = found.metadata }
-
--- The rest of a stream behind its start or its header: what it tells, and its picture.
-unfoldable pub rest_at : Settings → Found → List ℕ → Outcome (Told × List ℕ)
+-- The rest of a stream behind its start or its header: what its segments have said, and its picture.
+unfoldable pub rest_at : Settings → Found → List ℕ → Outcome (Found × List ℕ)
 rest_at settings found bytes = do
   all ← segments_at false Elsewhere found None bytes
   picture ← picture_of settings all.0
-  Ok ((told_of all.0, picture), all.1)
+  Ok ((without_planes all.0, picture), all.1)
 
--- The meaning of a stream: what it tells, and its picture.
-unfoldable pub meaning : Settings → List ℕ → Outcome (Told × List ℕ)
+-- The meaning of a stream: what its segments have said, and its picture.
+unfoldable pub meaning : Settings → List ℕ → Outcome (Found × List ℕ)
 meaning settings bytes = do
   start ← start_at bytes
   rest_at settings nothing_found start.1
 
--- what a header, or the rest of a stream, tells by its end or its refusal
-abbrev pub told_rest : Bool → Found → List ℕ → Told
-told_rest header found bytes = told_of (told_at header Elsewhere found None bytes)
+-- what was found, where the picture is to be at least so wide or so high
+abbrev pub sized_to : ℕ → ℕ → Found → Found
+sized_to width height found = record found { frame = option_map (sized width height) found.frame }
 
--- what a stream tells by the end of its header, or its own, or by the refusal
-unfoldable pub told_by_stream : Bool → List ℕ → Told
-told_by_stream header bytes = elim (start_at bytes) [ Err fault ↦ told_of nothing_found | Ok start ↦ told_rest header nothing_found start.1 ]
+-- The meaning of a stream whose picture is to be at least so wide or so high.
+unfoldable pub sized_meaning : ℕ → ℕ → Settings → List ℕ → Outcome (Found × List ℕ)
+sized_meaning width height settings bytes = do
+  header ← header_at bytes
+  rest_at settings (sized_to width height header.0) header.1
+
+-- what a header, or the rest of a stream, has said by its end or its refusal
+abbrev pub told_rest : Bool → Found → List ℕ → Found
+told_rest header found bytes = without_planes (told_at header Elsewhere found None bytes)
+
+-- what a stream has said by the end of its header, or its own, or by the refusal
+unfoldable pub told_by_stream : Bool → List ℕ → Found
+told_by_stream header bytes = elim (start_at bytes) [ Err fault ↦ nothing_found | Ok start ↦ told_rest header nothing_found start.1 ]
 
 -- ---- what some turns have said, the first and those behind it
 
 -- the first turns of a header, or of the rest of a stream
-abbrev pub told_in_turns : ℕ → Bool → Found → List ℕ → Told
-told_in_turns turns header found bytes = told_of (told_within turns header Elsewhere found None bytes)
+abbrev pub told_in_turns : ℕ → Bool → Found → List ℕ → Found
+told_in_turns turns header found bytes = without_planes (told_within turns header Elsewhere found None bytes)
 
 -- the first turns of a stream
-unfoldable pub told_by_turns : ℕ → Bool → List ℕ → Told
-told_by_turns turns header bytes = elim (start_at bytes) [ Err fault ↦ told_of nothing_found | Ok start ↦ told_in_turns turns header nothing_found start.1 ]
+unfoldable pub told_by_turns : ℕ → Bool → List ℕ → Found
+told_by_turns turns header bytes = elim (start_at bytes) [ Err fault ↦ nothing_found | Ok start ↦ told_in_turns turns header nothing_found start.1 ]
 
 -- what is found is what some first turns have said, where `said` tells what so many have
-unfoldable pub IsOfTurns : {A : Type 0} → (ℕ → A) → A → Type 0
+unfoldable pub IsOfTurns : (ℕ → Found) → Found → Type 0
 IsOfTurns said found = (turns : ℕ) × (found ≡ said turns)

@@ -4,8 +4,8 @@ ghost use Rattle.jpeg_bits.specs.Reading.{Fault};
 ghost use Rattle.jpeg_bits.specs.Codes.{Table};
 ghost use Rattle.jpeg_bits.specs.Entropy.{Text};
 ghost use Rattle.jpeg_bits.specs.declared.codes.HuffmanTableClass.TheVariants.{AC};
-ghost use Rattle.jpeg_decoder.specs.Bands.{token_from};
-ghost use Rattle.jpeg_decoder.specs.Lookups.{looked_up};
+ghost use Rattle.jpeg_bits.specs.Bands.{token_from};
+ghost use Rattle.jpeg_bits.specs.Lookups.{looked_up};
 ghost use Rattle.jpeg_decoder.specs.Stream.{Found, header_at, rest_at, meaning};
 ghost use Rattle.jpeg_decoder.specs.declared.state.Settings.{Settings};
 

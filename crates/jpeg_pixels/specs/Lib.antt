@@ -1,4 +1,5 @@
 pub mod Samples
+pub mod Scaled
 pub mod Lanes
 pub mod LaneRows
 pub mod Blocks

@@ -4,7 +4,7 @@ use Rattle.std.specs.List.{range_with_len, concat}
 use Rattle.jpeg_bits.specs.Reading.{Fault, Lacks, ◌>>=◌}
 use Rattle.jpeg_bits.specs.declared.error.UnsupportedFeature.TheVariants.{NonIntegerSubsamplingRatio}
 use Rattle.jpeg_bits.specs.declared.color_transform.ColorTransform.{ColorTransform}
-use Rattle.jpeg_segments.specs.Frame.{Component, Factors, greatest}
+use Rattle.jpeg_segments.specs.Frame.{Frame, Component, Factors, greatest}
 use Rattle.jpeg_pixels.specs.declared.upsampler.UpsampleRule.{UpsampleRule}
 use Rattle.jpeg_pixels.specs.declared.upsampler.ColorConvert.{ColorConvert}
 use Rattle.jpeg_pixels.specs.Upsampling.{upsampled, rule_of, across, down}
@@ -88,3 +88,9 @@ unfoldable pub AreWhole : List Component → List (List ℕ) → Type 0
 AreWhole [] planes = Unit {0}
 AreWhole (c ∷ more) [] = ⊥
 AreWhole (c ∷ more) (plane ∷ planes) = (length plane ≡ (c.blocks_high * c.scale) * (c.blocks_wide * c.scale)) × AreWhole more planes
+
+-- A frame has a way to upsample each component to the size of its picture, and planes of all blocks have the samples for it.
+pub record HasSources (frame : Frame) : Type 0 where
+  pub sources : List Source
+  pub is : sources_of frame.components frame.output_width frame.output_height ≡ Ok sources
+  pub cover : (planes : List (List ℕ)) → AreWhole frame.components planes → AllCover sources planes frame.output_width frame.output_height

@@ -4,3 +4,4 @@ pub mod Frame
 pub mod Application
 pub mod FrameView
 pub mod ScanHeader
+pub mod Scales

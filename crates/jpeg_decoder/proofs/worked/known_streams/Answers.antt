@@ -14,9 +14,9 @@ use Rattle.jpeg_pixels.specs.Zigzag.{zigzag_places, coefficients_in_block_order,
 use Rattle.jpeg_pixels.specs.Planes.{plane_of, cropped}
 use Rattle.jpeg_pixels.specs.Upsampling.{rule_of}
 use Rattle.jpeg_pixels.specs.Pictures.{sources_by}
-use Rattle.jpeg_decoder.specs.Bands.{difference, first_dc, token_at, token_from, first_ac}
-use Rattle.jpeg_decoder.specs.Passes.{zero_block, dc_part, band_part, block_from, blocks_of}
-use Rattle.jpeg_decoder.specs.Intervals.{interval, intervals, groups}
+use Rattle.jpeg_bits.specs.Bands.{difference, first_dc, token_at, token_from, first_ac}
+use Rattle.jpeg_bits.specs.Passes.{zero_block, dc_part, band_part, block_from, blocks_of}
+use Rattle.jpeg_bits.specs.Intervals.{interval, intervals, groups}
 use Rattle.jpeg_decoder.specs.Scans.{own_block, plane_at}
 use Rattle.jpeg_decoder.specs.Stream.{nothing_found, updated, accepted, frame_segment, quantization_segment, huffman_segment, restart_segment, application_segment, skipped_segment, coding_of, scan_samples, behind_restarts, scan_segment, end_segment, segment_at, turn_at, segments_within, segments_at, start_at, picture_of, rest_at, meaning}
 use Rattle.jpeg_decoder.proofs.worked.known_streams.Goals as goal

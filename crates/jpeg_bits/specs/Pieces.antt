@@ -1,0 +1,72 @@
+-- A refinement of a band, token by token, as it is read (T.81, G.1.2.3).
+use Rattle.std.specs.Prelude.{ℕ, zero, suc, ◌+◌, ◌-◌, ◌/◌, ◌%◌, ◌^◌, ◌==◌, if◌then◌else◌, true, false, List, [], ◌∷◌, ◌++◌, length, take, drop, ℤ, Result, Ok, Err}
+use Rattle.jpeg_bits.specs.Reading.{Fault, Malformed, ◌>>=◌}
+use Rattle.jpeg_bits.specs.Entropy.{Text, bits_from}
+use Rattle.jpeg_bits.specs.Codes.{Table, symbol_from}
+use Rattle.jpeg_bits.specs.Bands.{Band}
+use Rattle.jpeg_bits.specs.Refinement.{is_zero, bit_of, moved, fits_i16, through_zero, with_last, new_number}
+use Rattle.jpeg_bits.specs.declared.refinement.Refinement.{Refinement}
+use Rattle.jpeg_bits.specs.declared.refinement.Refinement.TheVariants.{Zeros, New, End}
+
+abbrev pub ReadsBand : Type 0
+ReadsBand = List ℤ → Text → Result (Band × Text) Fault
+
+-- some places, and what the others give
+abbrev pub before : List ℤ → Result (Band × Text) Fault → Result (Band × Text) Fault
+before front more = more >>= λ m. Ok ((front ++ m.0.0, m.0.1), m.1)
+
+-- How many blocks behind this one have no tokens: r bits e say 2 ^ r - 1 + e.
+unfoldable pub run_from : ℕ → Text → Result (ℕ × Text) Fault
+run_from r t = do
+  e ← bits_from r t
+  Ok (2 ^ r - 1 + e.0, e.1)
+
+abbrev pub moved_within : ℕ → ℤ → Result ℤ Fault
+moved_within by z = if fits_i16 (moved by z) then Ok (moved by z) else Err Malformed
+
+-- A place of a piece: where it isn't zero it has a correction bit.
+unfoldable pub place_from : ℕ → ℤ → Text → Result (ℤ × Text) Fault
+place_from al z t = if is_zero z then Ok (z, t) else (do
+  b ← bits_from 1 t
+  if b.0 == 0 then Ok (z, b.1) else (if bit_of al z == 0 then (do
+    m ← moved_within (2 ^ al) z
+    Ok (m, b.1)) else Ok (z, b.1)))
+
+-- One correction bit for each place that isn't zero.
+unfoldable pub corrected : ℕ → List ℤ → Text → Result (List ℤ × Text) Fault
+corrected al [] t = Ok ([], t)
+corrected al (z ∷ places) t = place_from al z t >>= λ f. corrected al places f.1 >>= λ o. Ok (f.0 ∷ o.0, o.1)
+
+-- A token, and its sign bit or the bits of its run.
+unfoldable pub refinement_from : Table → ℕ → Text → Result (Refinement × Text) Fault
+refinement_from table al t = do
+  c ← symbol_from table t
+  if c.0 % 16 == 0 then (if c.0 / 16 == 15 then Ok (Zeros, c.1) else (do
+        e ← run_from (c.0 / 16) c.1
+        Ok (End e.0, e.1)))
+    else (if c.0 % 16 == 1 then (do
+        sign ← bits_from 1 c.1
+        Ok (New (c.0 / 16) (new_number al sign.0), sign.1))
+    else Err Malformed)
+
+-- The piece of a token; `others` reads what is behind it.
+unfoldable pub refined_piece : ℕ → ReadsBand → List ℤ → Refinement → Text → Result (Band × Text) Fault
+refined_piece al others rest Zeros t =
+    corrected al (take (through_zero 15 rest) rest) t >>= λ front. before front.0 (others (drop (through_zero 15 rest) rest) front.1)
+refined_piece al others rest (New r v) t =
+    corrected al (take (through_zero r rest) rest) t >>= λ front. before (with_last v front.0) (others (drop (through_zero r rest) rest) front.1)
+refined_piece al others rest (End run) t = corrected al rest t >>= λ all. Ok ((all.0, run), all.1)
+
+-- The rest of a band, of at most n places, cut into pieces, one a token.
+unfoldable pub refined_ac : Table → ℕ → ℕ → ReadsBand
+refined_ac table al n [] t = Ok (([], 0), t)
+refined_ac table al zero (x ∷ rest) t = Err Malformed
+refined_ac table al (suc n) (x ∷ rest) t = refinement_from table al t >>= λ k. refined_piece al (refined_ac table al n) (x ∷ rest) k.0 k.1
+
+-- A band of a refinement.
+unfoldable pub refined_band_from : Table → ℕ → List ℤ → Text → Result (Band × Text) Fault
+refined_band_from table al band t = refined_ac table al (length band) band t
+
+-- How many places the piece up to zero number r has, and the rest of the band with the piece corrected.
+unfoldable pub piece_from : ℕ → ℕ → List ℤ → Text → Result ((ℕ × List ℤ) × Text) Fault
+piece_from al r rest t = corrected al (take (through_zero r rest) rest) t >>= λ front. Ok ((through_zero r rest, front.0 ++ drop (through_zero r rest) rest), front.1)

@@ -1,0 +1,80 @@
+-- Refinement of coefficients (T.81, G.1.2.3 and G.2.3).
+use Rattle.std.specs.Prelude.{ℕ, zero, suc, ◌+◌, ◌-◌, ◌/◌, ◌%◌, ◌^◌, ◌==◌, nat_lt, Bool, true, false, List, [], ◌∷◌, take, drop, ℤ, pos, negsuc, neg_ℤ}
+use Rattle.jpeg_bits.specs.Entropy.{bits_from}
+use Rattle.jpeg_bits.specs.Codes.{Table, symbol_from}
+use Rattle.jpeg_bits.specs.Readers.{Reads, ◌>>=◌, gives, refused}
+use Rattle.jpeg_bits.specs.Bands.{Band, before_more}
+
+abbrev pub is_zero : ℤ → Bool
+is_zero (pos zero) = true
+is_zero (pos (suc n)) = false
+is_zero (negsuc n) = false
+
+-- bit al of a number's two's complement.
+abbrev pub bit_of : ℕ → ℤ → ℕ
+bit_of al (pos n) = n / 2 ^ al % 2
+bit_of al (negsuc n) = 1 - n / 2 ^ al % 2
+
+-- a number that isn't 0, moved away from zero.
+abbrev pub moved : ℕ → ℤ → ℤ
+moved by (pos n) = pos (n + by)
+moved by (negsuc n) = negsuc (n + by)
+
+abbrev pub fits_i16 : ℤ → Bool
+fits_i16 (pos n) = nat_lt n (2 ^ 15)
+fits_i16 (negsuc n) = nat_lt n (2 ^ 15)
+
+-- A number that isn't 0, with its correction bit.
+abbrev pub corrected_by : ℕ → ℤ → ℕ → Reads ℤ
+corrected_by al z zero = gives z
+corrected_by al z (suc b) =
+    elim (bit_of al z == 0) [
+      | true ↦ elim (fits_i16 (moved (2 ^ al) z)) [ true ↦ gives (moved (2 ^ al) z) | false ↦ refused ]
+      | false ↦ gives z
+    ]
+
+-- One correction bit for each place that isn't zero.
+unfoldable pub corrected : ℕ → List ℤ → Reads (List ℤ)
+corrected al [] = gives []
+corrected al (z ∷ places) =
+    (elim (is_zero z) [ true ↦ gives z | false ↦ bits_from 1 >>= (λ b. corrected_by al z b) ]) >>= (λ first.
+    corrected al places >>= (λ others. gives (first ∷ others)))
+
+-- How many places there are up to zero number r, counted from 0, and with it; or all of them.
+unfoldable pub through_zero : ℕ → List ℤ → ℕ
+through_zero r [] = 0
+through_zero zero (z ∷ places) = elim (is_zero z) [ true ↦ 1 | false ↦ suc (through_zero zero places) ]
+through_zero (suc r) (z ∷ places) =
+    elim (is_zero z) [ true ↦ suc (through_zero r places) | false ↦ suc (through_zero (suc r) places) ]
+
+-- the new number of a sign bit.
+abbrev pub new_number : ℕ → ℕ → ℤ
+new_number al zero = neg_ℤ (pos (2 ^ al))
+new_number al (suc b) = pos (2 ^ al)
+
+-- the list with its last element replaced.
+unfoldable pub with_last : ℤ → List ℤ → List ℤ
+with_last x [] = []
+with_last x (y ∷ []) = x ∷ []
+with_last x (y ∷ z ∷ places) = y ∷ with_last x (z ∷ places)
+
+-- The piece of a token of run r and size s, where `others` reads what is behind it: the places through zero number r, counted from 0, the last
+-- of which becomes a new number; those through the sixteenth zero; or the rest.
+unfoldable pub refined_piece : ℕ → (List ℤ → Reads Band) → List ℤ → ℕ → ℕ → Reads Band
+refined_piece al others rest r zero =
+    elim (r == 15) [
+      | true ↦ corrected al (take (through_zero 15 rest) rest) >>= (λ front.
+          others (drop (through_zero 15 rest) rest) >>= (λ more. gives (before_more front more)))
+      | false ↦ bits_from r >>= (λ e. corrected al rest >>= (λ all. gives (all, 2 ^ r - 1 + e)))
+    ]
+refined_piece al others rest r (suc zero) =
+    bits_from 1 >>= (λ sign. corrected al (take (through_zero r rest) rest) >>= (λ front.
+    others (drop (through_zero r rest) rest) >>= (λ more. gives (before_more (with_last (new_number al sign) front) more))))
+refined_piece al others rest r (suc (suc s)) = refused
+
+-- The rest of a band, of at most n places, cut into pieces, one a token.
+unfoldable pub refined_ac : Table → ℕ → ℕ → List ℤ → Reads Band
+refined_ac table al n [] = gives ([], 0)
+refined_ac table al zero (x ∷ rest) = refused
+refined_ac table al (suc n) (x ∷ rest) =
+    symbol_from table >>= (λ c. refined_piece al (refined_ac table al n) (x ∷ rest) (c / 16) (c % 16))

@@ -1,0 +1,6 @@
+-- Steps of the loops over MCUs.
+use Rattle.jpeg_decoder.proofs.McuLoops.{mcus_step, mcus_refused, mcus_none, mcu_rows_step, mcu_rows_refused, mcu_rows_none}
+
+pub ruleset mcus_rules = (mcus_step, mcus_refused, mcus_none)
+
+pub ruleset rows_rules = (mcu_rows_step, mcu_rows_refused, mcu_rows_none)

@@ -1,0 +1,45 @@
+-- The scales that a picture can be made at (own to the decoder): a block gives 1, 2, 4 or 8 samples a side.
+use Rattle.std.specs.Prelude.{ℕ, ◌*◌, nat_le, ◌||◌, Bool, List, map, if◌then◌else◌}
+use Rattle.jpeg_segments.specs.declared.parser.CodingProcess.{CodingProcess}
+use Rattle.jpeg_segments.specs.declared.parser.CodingProcess.TheVariants.{DctSequential, DctProgressive, Lossless}
+use Rattle.jpeg_segments.specs.Frame.{Frame, Component, Factors, ceiling, greatest}
+
+-- whether a picture of full size is at a scale as wide or as high as is asked for
+abbrev pub reaches : ℕ → ℕ → ℕ → ℕ → ℕ → Bool
+reaches scale full_width full_height width height =
+    nat_le width (ceiling (full_width * scale) 8) || nat_le height (ceiling (full_height * scale) 8)
+
+-- The least of 1, 2 and 4 at which the picture is as wide or as high as is asked for, or else 8.
+unfoldable pub scale_for : ℕ → ℕ → ℕ → ℕ → ℕ
+scale_for full_width full_height width height =
+    if reaches 1 full_width full_height width height then 1 else (
+    if reaches 2 full_width full_height width height then 2 else (
+    if reaches 4 full_width full_height width height then 4 else 8))
+
+-- A component at a scale, in a frame of this width and height with these greatest factors.
+unfoldable pub component_at : ℕ → ℕ → ℕ → ℕ → ℕ → Component → Component
+component_at scale width height most_horizontal most_vertical c = record c {
+  scale = scale;
+  width = ceiling (width * c.factors.horizontal * scale) (most_horizontal * 8);
+  height = ceiling (height * c.factors.vertical * scale) (most_vertical * 8);
+}
+
+-- a frame at a scale
+unfoldable pub frame_at : ℕ → Frame → Frame
+frame_at scale frame =
+    let h = greatest (λ f. f.horizontal) (map (λ c. c.factors) frame.components) in
+    let v = greatest (λ f. f.vertical) (map (λ c. c.factors) frame.components) in
+    record frame {
+      output_width = ceiling (frame.width * scale) 8;
+      output_height = ceiling (frame.height * scale) 8;
+      components = map (component_at scale frame.width frame.height h v) frame.components;
+    }
+
+-- A frame whose picture is to be at least so wide or so high. A lossless frame keeps its size.
+abbrev pub sized_by : CodingProcess → ℕ → ℕ → Frame → Frame
+sized_by DctSequential width height frame = frame_at (scale_for frame.width frame.height width height) frame
+sized_by DctProgressive width height frame = frame_at (scale_for frame.width frame.height width height) frame
+sized_by Lossless width height frame = frame
+
+abbrev pub sized : ℕ → ℕ → Frame → Frame
+sized width height frame = sized_by frame.process width height frame
