@@ -16,3 +16,12 @@ pub mod Tables
 pub mod EndLemmas
 pub mod MarkerLemmas
 pub mod Rules
+pub mod Fast
+pub mod BandLoop
+pub mod WholeBlocks
+pub mod BandSteps
+pub mod SetBits
+pub mod PieceWalks
+pub mod RefinedPieces
+pub mod RefinedBands
+pub mod BlockParts

@@ -11,3 +11,10 @@ pub mod Refusals
 pub mod Ends
 pub mod Written
 pub mod ShortCodes
+pub mod Bands
+pub mod Lookups
+pub mod Refinement
+pub mod Pieces
+pub mod Passes
+pub mod BlockView
+pub mod Intervals

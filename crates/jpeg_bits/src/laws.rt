@@ -9,6 +9,10 @@ ghost use Rattle.jpeg_bits.specs.Reading.{Fault, End};
 ghost use Rattle.jpeg_bits.specs.Marker.{next_marker};
 ghost use Rattle.jpeg_bits.specs.NextMarker.{IsNextMarker, HasNoMarker};
 ghost use Rattle.jpeg_bits.specs.declared.marker.Marker.{Marker};
+ghost use Rattle.jpeg_bits.specs.Entropy.{Text};
+ghost use Rattle.jpeg_bits.specs.declared.codes.HuffmanTableClass.TheVariants.{AC};
+ghost use Rattle.jpeg_bits.specs.Bands.{token_from};
+ghost use Rattle.jpeg_bits.specs.Lookups.{looked_up};
 
 /// A number is read of its bits, and nothing else.
 pub fn numbers_are_read()
@@ -52,4 +56,11 @@ pub fn next_markers_are_first()
         (i : ℕ) × IsNextMarker bytes i m rest }
     ensures none { (bytes : List ℕ) → HasNoMarker bytes → next_marker bytes ≡ Err End }
     ensures refused { (bytes : List ℕ) (f : Fault) → next_marker bytes ≡ Err f → HasNoMarker bytes }
+{}
+
+/// A token that is looked up, in a table for AC, is the token that is defined: a code and the bits
+/// after it.
+pub fn tokens_are_looked_up()
+    ensures { (table : Table) (room : ℕ) (t : Text) → table.class ≡ AC →
+        token_from table room t ≡ looked_up table room t }
 {}

@@ -3,6 +3,7 @@
 
 mod ahead;
 mod bits;
+pub mod blocks;
 pub mod codes;
 pub mod color_transform;
 mod default_tables;
@@ -13,7 +14,9 @@ pub mod huffman;
 pub mod laws;
 pub mod marker;
 pub mod reads;
+mod refinement;
 pub mod scan;
 pub mod source;
 #[cfg(test)]
 mod tests;
+mod tokens;

@@ -9,6 +9,7 @@ use crate::error::Result;
 use crate::huffman::{HuffmanDecoder, HuffmanTable};
 use crate::error::format_error;
 use crate::source::Source;
+use crate::tokens::power_of_two;
 use std::alloc::Global;
 use std::io::Read;
 
@@ -39,16 +40,6 @@ pub(crate) fn lacks_bit(value: i16, al: u8) -> bool
     ensures { result ≡ (bit_of al value == 0) }
 {
     (value.cast_unsigned() >> al) % 2 == 0
-}
-
-#[inline]
-fn power_of_two(exponent: u8) -> u16
-    requires { exponent ≤ 14 }
-    ensures value { result ≡ 2 ^ exponent }
-    ensures some { 1 ≤ result }
-    ensures most { result ≤ 16384 }
-{
-    1 << exponent
 }
 
 /// How many blocks behind this one have no tokens.

@@ -54,8 +54,9 @@ pub(crate) fn wrapped_sum(a: i16, b: i16) -> i16
     a.wrapping_add(b)
 }
 
+/// 2 to an exponent.
 #[inline]
-fn power_of_two(exponent: u8) -> u16
+pub(crate) fn power_of_two(exponent: u8) -> u16
     requires { exponent ≤ 14 }
     ensures value { result ≡ 2 ^ exponent }
     ensures most { result ≤ 16384 }
@@ -144,7 +145,7 @@ fn power_i16(exponent: u8) -> i16
 
 /// A product with a power of two, modulo 2^16.
 #[inline]
-fn shifted(value: i16, point: u8) -> i16
+pub(crate) fn shifted(value: i16, point: u8) -> i16
     requires { point ≤ 13 }
     ensures { result ≡ wrapped (value *ℤ pos (2 ^ point)) }
 {
