@@ -24,3 +24,4 @@ pub mod UpsampledEnds
 pub mod UpsampledRows
 pub mod WholePictures
 pub mod ZigzagPlaces
+pub mod ScaledPlaneRows

@@ -7,7 +7,7 @@ use Rattle.std.proofs.Math.Logic.{⊎_elim}
 use Rattle.std.proofs.lemmas.Bool.{cases_lt}
 use Rattle.std.specs.List.{range_with_len}
 use Rattle.jpeg_pixels.specs.Samples.{sample}
-use Rattle.jpeg_pixels.specs.Planes.{plane_of, plane_sample, strip_of, zero_coefficients}
+use Rattle.jpeg_pixels.specs.OldPlanes.{plane_of, plane_sample, strip_of, zero_coefficients}
 
 length_plane_of : (table : List ℕ) (wide high : ℕ) (block_at : ℕ → ℕ → List ℤ) → length (plane_of table wide high block_at) ≡ 8 * wide * (8 * high)
 unfolding plane_of

@@ -2,7 +2,7 @@
 use Rattle.std.proofs.Common.{◌≡◌, [], ◌∷◌, pos, refl, replicate}
 use Rattle.jpeg_pixels.specs.Samples.{basis, transformed, dequantized, is_flat_column, column_value, sample}
 use Rattle.std.specs.Int.{int_wrap}
-use Rattle.jpeg_pixels.specs.Planes.{plane_of}
+use Rattle.jpeg_pixels.specs.OldPlanes.{plane_of}
 
 -- a block whose first coefficients are 8 and 0
 pub first_only : plane_of (replicate 64 1) 1 1 (λ row column. pos 8 ∷ replicate 63 (pos 0)) ≡ replicate 64 129

@@ -6,7 +6,7 @@ use Rattle.std.proofs.Math.Logic.{⊎_elim}
 use Rattle.std.proofs.Math.Nat.{mul_comm, mod-lt, div-add-mod}
 use borrow.Rule.Slice.PartMut.{put_mid, mid_of}
 use Rattle.jpeg_pixels.specs.Samples.{sample}
-use Rattle.jpeg_pixels.specs.Planes.{plane_of, plane_sample, strip_of, zero_coefficients}
+use Rattle.jpeg_pixels.specs.OldPlanes.{plane_of, plane_sample, strip_of, zero_coefficients}
 use Rattle.jpeg_pixels.specs.Blocks.{WritesBlock}
 use Rattle.jpeg_pixels.proofs.BlockRows.{put_tail_below, put_tail_at, tail_was}
 use Rattle.jpeg_pixels.proofs.PlaneRows.{some_wide, line_lt}

@@ -5,6 +5,7 @@ pub mod LaneRows
 pub mod Blocks
 pub mod Zigzag
 pub mod Planes
+pub mod OldPlanes
 pub mod Upsampling
 pub mod Colour
 pub mod Pictures

@@ -5,7 +5,7 @@ ghost use Rattle.std.specs.Int.{int_shr};
 ghost use Rattle.jpeg_segments.specs.Frame.{Factors, IsInRange, frame_of};
 ghost use Rattle.jpeg_pixels.specs.Pictures.{AllCover, AreWhole, HaveRoom, Source, sources_of};
 ghost use Rattle.jpeg_pixels.specs.Samples.{HasFirstOnly, clamped, dequantized, sample};
-ghost use Rattle.jpeg_pixels.specs.Planes.{plane_of, strip_of};
+ghost use Rattle.jpeg_pixels.specs.OldPlanes.{plane_of, strip_of};
 ghost use Rattle.jpeg_pixels.specs.Colour.{colour_of, line_bytes};
 ghost use Rattle.jpeg_pixels.specs.declared.upsampler.ColorConvert.TheVariants.{None, Rgb, YCbCr, Cmyk, Ycck};
 ghost use Rattle.jpeg_pixels.specs.Zigzag.{zigzag, zigzag_places};

@@ -1,6 +1,6 @@
 //! Planes of samples: the samples of a component, line by line (T.81, A.1.1 and A.2).
 ghost use Rattle.std.specs.Prelude.{◌≡◌, ℕ, ◌+◌, ◌≤◌, ◌<◌, ◌*◌, ◌++◌, length, slice_index, OnOk, OnErr};
-ghost use Rattle.jpeg_pixels.specs.Planes.{strip_of, cropped};
+ghost use Rattle.jpeg_pixels.specs.OldPlanes.{strip_of, cropped};
 
 use crate::arch::dequantize_and_idct_block_8x8;
 use std::alloc::AllocError;

@@ -1,7 +1,7 @@
 use Rattle.std.proofs.Common.{◌≡◌, ◌-◌, ◌*◌, length, slice_index_or, [], arith, subst}
 use Rattle.std.proofs.lemmas.List.{get_or_default}
 use Rattle.jpeg_pixels.specs.Samples.{sample}
-use Rattle.jpeg_pixels.specs.Planes.{plane_sample, zero_coefficients}
+use Rattle.jpeg_pixels.specs.OldPlanes.{plane_sample, zero_coefficients}
 use Rattle.jpeg_pixels.proofs.Strips.{HoldsSamples, HoldsSamples-next, HoldsSamples-all, block_in_row}
 use Rattle.jpeg_pixels.proofs.plane.write_strip.Goals as goal
 
