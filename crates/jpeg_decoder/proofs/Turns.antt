@@ -18,7 +18,7 @@ use Rattle.jpeg_decoder.specs.Steps.{is_restart}
 use Rattle.jpeg_decoder.proofs.Shorter.{LeavesBelow, length-below, skip-below, marker-below}
 use Rattle.jpeg_decoder.proofs.ShorterSegments.{sof-below, dqt-below, dht-below, sos-below, app-below, dri-below}
 use Rattle.jpeg_decoder.proofs.ShorterScans.{plane-below}
-use Rattle.jpeg_decoder.proofs.Restarts.{Passes, behind-passes, bind-same}
+use Rattle.jpeg_decoder.proofs.PassedRestarts.{Passes, behind-passes, bind-same}
 
 -- ---- what a turn takes
 

@@ -1,10 +1,10 @@
-pub mod Bands
-pub mod Lookups
-pub mod Passes
-pub mod Intervals
+pub mod Order
 pub mod Scans
-pub mod Rows
-pub mod Raster
+pub mod Rasters
+pub mod InTurn
+pub mod McuRows
+pub mod Layout
+pub mod Scanning
 pub mod Stream
 pub mod Profile
 pub mod States
@@ -12,7 +12,5 @@ pub mod Seen
 pub mod Output
 pub mod Worked
 pub mod Steps
-pub mod PlanesIn
-pub mod Shapes
 pub mod Pixels
 pub mod ColourChoice

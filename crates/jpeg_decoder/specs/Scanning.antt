@@ -6,11 +6,12 @@ use Rattle.std.specs.List.{range_with_len, flat_map}
 use Rattle.jpeg_bits.specs.Codes.{Table}
 use Rattle.jpeg_bits.specs.declared.codes.HuffmanTableClass.TheVariants.{AC}
 use Rattle.jpeg_segments.specs.Frame.{Component}
+use Rattle.jpeg_pixels.specs.Scaled.{IsScale}
 use Rattle.jpeg_segments.specs.FrameView.{component_in}
 use Rattle.jpeg_bits.specs.Passes.{Pass, Via, Block}
 use Rattle.jpeg_decoder.specs.Scans.{Arrays}
 use Rattle.jpeg_decoder.specs.InTurn.{Reached, Counted}
-use Rattle.jpeg_decoder.specs.declared.scans.Coded.{Coded}
+use Rattle.jpeg_decoder.specs.declared.codings.Coded.{Coded}
 use Rattle.jpeg_decoder.specs.declared.scans.Interval.{Interval}
 use Rattle.jpeg_decoder.specs.Order.{Spot, mcu_spots}
 use Rattle.jpeg_decoder.specs.Layout.{part_of}
@@ -19,14 +20,18 @@ use Rattle.jpeg_bits.specs.BlockView.{to_block}
 -- the ways of a scan's slots, from one on
 unfoldable pub vias_in : ℕ → List Coded → List Via
 vias_in slot [] = []
-vias_in slot (c ∷ more) = record { component = slot; dc = c.dc; ac = c.ac } ∷ vias_in (slot + 1) more
+vias_in slot (c ∷ more) = record { component = slot; dc = c.dc.now; ac = c.ac.now } ∷ vias_in (slot + 1) more
 
 abbrev pub components_in : List Coded → List Component
-components_in cs = map (λ c. component_in c.component) cs
+components_in cs = map (λ c. component_in c.component.now) cs
 
 -- each AC table is of class AC
 abbrev pub HasAc : Coded → Type 0
-HasAc c = c.ac.class ≡ AC
+HasAc c = c.ac.now.class ≡ AC
+
+-- its component is at a scale
+abbrev pub HasCodedScale : Coded → Type 0
+HasCodedScale c = IsScale c.component.now.dct_scale
 
 abbrev pub blocks_in : Vec (List ℤ) Global → List Block
 blocks_in v = map to_block v.items
@@ -52,13 +57,13 @@ pub record IsHeld (sizes : List ℕ) (slot index : ℕ) : Type 0 where
 -- ---- the part of a component in an MCU
 
 abbrev pub wide_in : Coded → ℕ
-wide_in c = c.component.block_size.width
+wide_in c = c.component.now.block_size.width
 
 abbrev pub across_in : Coded → ℕ
-across_in c = c.component.horizontal_sampling_factor
+across_in c = c.component.now.horizontal_sampling_factor
 
 abbrev pub down_in : Coded → ℕ
-down_in c = c.component.vertical_sampling_factor
+down_in c = c.component.now.vertical_sampling_factor
 
 abbrev pub part_in : ℕ → ℕ → Coded → List Spot
 part_in slot start c = part_of slot (wide_in c) (across_in c) start (down_in c)

@@ -9,6 +9,7 @@ use Rattle.jpeg_decoder.specs.declared.decoder.ImageInfo.{ImageInfo}
 use Rattle.jpeg_decoder.specs.declared.decoder.PixelFormat.TheVariants.{L8, L16, RGB24, CMYK32}
 use Rattle.jpeg_decoder.specs.declared.decoder.PixelFormat.{PixelFormat}
 use Rattle.jpeg_decoder.specs.declared.metadata.Metadata as declared
+use Rattle.jpeg_decoder.specs.Scanning.{arrays_in}
 use Rattle.jpeg_decoder.specs.Stream.{Found, Metadata}
 use Rattle.jpeg_decoder.specs.States.{Stage, Fresh, HeaderRead, Finished, Failed}
 use Rattle.std.specs.declared.alloc.Global.{Global}
@@ -28,6 +29,9 @@ metadata_in m = record {
   icc = map chunk_in m.icc.items;
 }
 
+abbrev pub planes_in : List (Option (Vec ℕ Global)) → List (Option (List ℕ))
+planes_in planes = map (λ p. option_map (λ v. v.items) p) planes
+
 abbrev pub found_in : State → Found
 found_in s = record {
   frame = option_map frame_in s.frame;
@@ -36,7 +40,9 @@ found_in s = record {
   restart = s.restart_interval;
   scanned = s.scanned;
   metadata = metadata_in s.metadata;
-  planes = map (λ p. option_map (λ v. v.items) p) s.planes;
+  held = arrays_in s.decoded.held.items;
+  finished = s.decoded.finished;
+  planes = planes_in s.decoded.planes;
 }
 
 abbrev pub stage_of : Progress → Stage

@@ -442,19 +442,23 @@ picture_of settings found = do
     planes ← planes_from found frame 0 frame.components
     picture_by settings found.metadata frame frame.components planes)
 
--- What is told behind the end of an image or a refusal: blocks and planes are kept no more, since the picture is made of them.
-abbrev pub without_planes : Found → Found
-without_planes found = record found { held = []; finished = replicate 4 none_finished; planes = replicate 4 None }
+-- What a decoder tells: the frame, and the metadata.
+pub record Told : Type 0 where
+  pub frame : Option Frame
+  pub metadata : Metadata
 
--- The rest of a stream behind its start or its header: what its segments have said, and its picture.
-unfoldable pub rest_at : Settings → Found → List ℕ → Outcome (Found × List ℕ)
+abbrev pub told_of : Found → Told
+told_of found = record { frame = found.frame; metadata = found.metadata }
+
+-- The rest of a stream behind its start or its header: what it tells, and its picture.
+unfoldable pub rest_at : Settings → Found → List ℕ → Outcome (Told × List ℕ)
 rest_at settings found bytes = do
   all ← segments_at false Elsewhere found None bytes
   picture ← picture_of settings all.0
-  Ok ((without_planes all.0, picture), all.1)
+  Ok ((told_of all.0, picture), all.1)
 
--- The meaning of a stream: what its segments have said, and its picture.
-unfoldable pub meaning : Settings → List ℕ → Outcome (Found × List ℕ)
+-- The meaning of a stream: what it tells, and its picture.
+unfoldable pub meaning : Settings → List ℕ → Outcome (Told × List ℕ)
 meaning settings bytes = do
   start ← start_at bytes
   rest_at settings nothing_found start.1
@@ -464,29 +468,29 @@ abbrev pub sized_to : ℕ → ℕ → Found → Found
 sized_to width height found = record found { frame = option_map (sized width height) found.frame }
 
 -- The meaning of a stream whose picture is to be at least so wide or so high.
-unfoldable pub sized_meaning : ℕ → ℕ → Settings → List ℕ → Outcome (Found × List ℕ)
+unfoldable pub sized_meaning : ℕ → ℕ → Settings → List ℕ → Outcome (Told × List ℕ)
 sized_meaning width height settings bytes = do
   header ← header_at bytes
   rest_at settings (sized_to width height header.0) header.1
 
--- what a header, or the rest of a stream, has said by its end or its refusal
-abbrev pub told_rest : Bool → Found → List ℕ → Found
-told_rest header found bytes = without_planes (told_at header Elsewhere found None bytes)
+-- what a header, or the rest of a stream, tells by its end or its refusal
+abbrev pub told_rest : Bool → Found → List ℕ → Told
+told_rest header found bytes = told_of (told_at header Elsewhere found None bytes)
 
--- what a stream has said by the end of its header, or its own, or by the refusal
-unfoldable pub told_by_stream : Bool → List ℕ → Found
-told_by_stream header bytes = elim (start_at bytes) [ Err fault ↦ nothing_found | Ok start ↦ told_rest header nothing_found start.1 ]
+-- what a stream tells by the end of its header, or its own, or by the refusal
+unfoldable pub told_by_stream : Bool → List ℕ → Told
+told_by_stream header bytes = elim (start_at bytes) [ Err fault ↦ told_of nothing_found | Ok start ↦ told_rest header nothing_found start.1 ]
 
 -- ---- what some turns have said, the first and those behind it
 
 -- the first turns of a header, or of the rest of a stream
-abbrev pub told_in_turns : ℕ → Bool → Found → List ℕ → Found
-told_in_turns turns header found bytes = without_planes (told_within turns header Elsewhere found None bytes)
+abbrev pub told_in_turns : ℕ → Bool → Found → List ℕ → Told
+told_in_turns turns header found bytes = told_of (told_within turns header Elsewhere found None bytes)
 
 -- the first turns of a stream
-unfoldable pub told_by_turns : ℕ → Bool → List ℕ → Found
-told_by_turns turns header bytes = elim (start_at bytes) [ Err fault ↦ nothing_found | Ok start ↦ told_in_turns turns header nothing_found start.1 ]
+unfoldable pub told_by_turns : ℕ → Bool → List ℕ → Told
+told_by_turns turns header bytes = elim (start_at bytes) [ Err fault ↦ told_of nothing_found | Ok start ↦ told_in_turns turns header nothing_found start.1 ]
 
 -- what is found is what some first turns have said, where `said` tells what so many have
-unfoldable pub IsOfTurns : (ℕ → Found) → Found → Type 0
+unfoldable pub IsOfTurns : {A : Type 0} → (ℕ → A) → A → Type 0
 IsOfTurns said found = (turns : ℕ) × (found ≡ said turns)

@@ -1,20 +1,8 @@
 //! Theorems about streams and the blocks in their entropy-coded bits, each on a function without a body.
 ghost use Rattle.std.specs.Prelude.{◌≡◌, ℕ, List, Ok, Err};
 ghost use Rattle.jpeg_bits.specs.Reading.{Fault};
-ghost use Rattle.jpeg_bits.specs.Codes.{Table};
-ghost use Rattle.jpeg_bits.specs.Entropy.{Text};
-ghost use Rattle.jpeg_bits.specs.declared.codes.HuffmanTableClass.TheVariants.{AC};
-ghost use Rattle.jpeg_bits.specs.Bands.{token_from};
-ghost use Rattle.jpeg_bits.specs.Lookups.{looked_up};
 ghost use Rattle.jpeg_decoder.specs.Stream.{Found, header_at, rest_at, meaning};
 ghost use Rattle.jpeg_decoder.specs.declared.state.Settings.{Settings};
-
-/// A token that is looked up, in a table for AC, is the token that is defined: a code and the bits
-/// behind it.
-pub fn tokens_are_looked_up()
-    ensures { (table : Table) (room : ℕ) (t : Text) → table.class ≡ AC →
-        token_from table room t ≡ looked_up table room t }
-{}
 
 /// A header and then the rest of its stream are the whole stream, and a refused header is a refused stream.
 pub fn header_begins_stream()

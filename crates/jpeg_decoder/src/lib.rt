@@ -1,21 +1,23 @@
 //! A decoder of JPEG streams (ITU-T T.81).
 #![tactic(auto)]
 
-mod blocks;
+mod codings;
 mod color_choice;
 #[cfg(test)]
 mod color_choice_tests;
+mod decoded;
 pub mod decoder;
 mod frames;
+mod grids;
 pub mod laws;
 mod metadata;
 mod picture;
 mod places;
 mod profile;
+mod restarts;
 pub mod run;
 mod scans;
 mod state;
-mod tokens;
 pub mod worked;
 
 pub use decoder::{Decoder, ImageInfo, PixelFormat};

@@ -5,25 +5,24 @@ ghost use Rattle.jpeg_decoder.specs.Stream.{nothing_found, start_at, header_at, 
 ghost use Rattle.jpeg_decoder.specs.States.{OnTold};
 ghost use Rattle.jpeg_decoder.specs.Seen.{found_in};
 ghost use Rattle.jpeg_segments.specs.FrameView.{frame_in};
-ghost use Rattle.jpeg_decoder.specs.Shapes.{shape_of, cropped_to};
+ghost use Rattle.jpeg_pixels.specs.Scaled.{IsScale};
+ghost use Rattle.jpeg_decoder.specs.Steps.{cropped_to};
+ghost use Rattle.jpeg_segments.specs.FrameView.{component_in};
 
-use crate::places::needed;
+use crate::codings::is_progressive;
+use crate::color_choice::choose_color_transform;
+use crate::decoded::{Decoded, render};
+use crate::places::{needed, table_at};
 use crate::state::{Settings, State};
+use jpeg_bits::color_transform::ColorTransform;
 use jpeg_bits::error::{Result, format_error};
 use jpeg_bits::reads::read_u8;
 use jpeg_bits::source::Source;
 use jpeg_pixels::plane::crop;
-use jpeg_segments::parser::FrameInfo;
+use jpeg_pixels::worker::compute_image_rows;
+use jpeg_segments::parser::{Component, Dimensions, FrameInfo};
 use std::alloc::Global;
 use std::io::Read;
-
-/// The size of a picture, and the blocks of a line of its plane.
-#[derive(Clone, Copy, Debug, PartialEq)]
-pub struct Shape {
-    pub blocks: u16,
-    pub width: u16,
-    pub height: u16,
-}
 
 /// Reads the start of a stream, FF D8.
 #[tactic(auto, unfolding(crate::specs::Stream::start_at))]
@@ -41,23 +40,11 @@ fn read_start<R: Read + Drop>(alloc: Global, source: &mut Source<R>) -> Result<(
     Ok(())
 }
 
-/// The shape of a frame of one component.
-fn shape_of(frame: &FrameInfo) -> Option<Shape>
-    ensures { result ≡ shape_of (frame_in frame.now) }
+/// The samples of a component of the size of the picture.
+fn area_of(size: Dimensions) -> usize
+    ensures { result ≡ size.width * size.height }
 {
-    let component = frame.components.first()?;
-    Some(Shape {
-        blocks: component.block_size.width,
-        width: frame.output_size.width,
-        height: frame.output_size.height,
-    })
-}
-
-/// The samples of a picture.
-fn area_of(shape: Shape) -> usize
-    ensures { result ≡ shape.width * shape.height }
-{
-    usize::from(shape.width) * usize::from(shape.height)
+    usize::from(size.width) * usize::from(size.height)
 }
 
 /// Whether so many components of a picture are within a limit.
@@ -70,38 +57,95 @@ fn is_within(limit: usize, count: usize, area: usize) -> bool
     }
 }
 
-/// The samples of a line of the plane.
-fn stride_of(shape: Shape) -> usize
-    ensures { result ≡ 8 * shape.blocks }
+/// The plane of a component at the end of an image: the one that is decided, or else, in a
+/// progressive frame that had a scan, that of the blocks that are held.
+fn plane_at_end(
+    alloc: Global,
+    state: &State,
+    component: &Component,
+    plane: Option<Vec<u8>>,
+    held: Option<Vec<[i16; 64]>>,
+) -> Result<Vec<u8>>
 {
-    8 * usize::from(shape.blocks)
+    if let Some(plane) = plane {
+        return Ok(plane);
+    }
+    let blocks = needed(alloc, held, "an image without samples")?;
+    let table = table_at(&state.quantization, component.quantization_table_index);
+    let table = needed(alloc, table, "an image without a quantization table")?;
+    Ok(render(alloc, component, table, &blocks)?)
 }
 
-/// A plane cropped to a picture in place, as far as the plane goes.
-fn crop_to(plane: &mut Vec<u8>, shape: Shape)
-    ensures { plane.new.items ≡ cropped_to shape plane.old.items }
+/// The planes of a frame's components at the end of an image.
+fn planes_at_end(
+    alloc: Global,
+    state: &State,
+    frame: &FrameInfo,
+    decoded: &mut Decoded,
+) -> Result<Vec<Vec<u8>>>
 {
-    let stride = stride_of(shape);
+    let is_held = is_progressive(frame.coding_process) && state.scanned;
+    let mut planes = Vec::with_capacity(alloc, frame.components.len())?;
+    for place in 0..frame.components.len() {
+        let plane = decoded.planes[place].take();
+        let held = if is_held {
+            Some(std::mem::replace(&mut decoded.held[place], Vec::new(alloc)))
+        } else {
+            None
+        };
+        planes.push(plane_at_end(alloc, state, &frame.components[place], plane, held)?)?;
+    }
+    Ok(planes)
+}
+
+/// A plane of a component cropped to the picture in place, as far as the plane goes.
+fn crop_to(plane: &mut Vec<u8>, component: &Component, size: Dimensions)
+    requires { IsScale component.now.dct_scale }
+    ensures { plane.new.items ≡ cropped_to (component_in component.now) size.width size.height plane.old.items }
+{
+    let stride = component.dct_scale * usize::from(component.block_size.width);
     let lines = plane.len().checked_div(stride).unwrap_or(0);
-    let width = usize::from(shape.width).min(stride);
-    let height = usize::from(shape.height).min(lines);
+    let width = usize::from(size.width).min(stride);
+    let height = usize::from(size.height).min(lines);
     crop(plane, stride, width, height);
 }
 
-/// The picture of what was found: its plane, which is taken, cropped in place.
-#[tactic(auto, unfolding(crate::specs::Stream::picture_of))]
-fn picture(alloc: Global, state: &mut State, settings: Settings) -> Result<Vec<u8>>
-    ensures picture { MatchResult result (λ v. picture_of settings (found_in state.old) ≡ Ok v.items) (λ e. NamesFormat e × Names e (picture_of settings (found_in state.old))) }
-    ensures others { told_of (found_in state.new) ≡ told_of (found_in state.old) }
+/// The picture of a frame's planes: of one its samples, and of several their colours.
+fn picture_by(
+    alloc: Global,
+    state: &State,
+    frame: &FrameInfo,
+    planes: Vec<Vec<u8>>,
+    color_transform: Option<ColorTransform>,
+) -> Result<Vec<u8>>
+{
+    let components = frame.components.as_slice();
+    if components.len() == 1 {
+        let mut planes = planes;
+        let mut plane = needed(alloc, planes.pop(), "an image without samples")?;
+        crop_to(&mut plane, &components[0], frame.output_size);
+        return Ok(plane);
+    }
+    let metadata = &state.metadata;
+    let transform =
+        choose_color_transform(color_transform, components, metadata.jfif, metadata.adobe);
+    compute_image_rows(alloc, components, &planes, frame.output_size, transform)
+}
+
+/// The picture of what was found, which is taken: within the limit, of planes that are there.
+fn picture(
+    alloc: Global,
+    state: &State,
+    decoded: &mut Decoded,
+    settings: Settings,
+) -> Result<Vec<u8>>
 {
     let frame = needed(alloc, state.frame.as_ref(), "an image without a frame")?;
-    let shape = needed(alloc, shape_of(frame), "a frame without a component")?;
-    if !is_within(settings.limit, frame.components.len(), area_of(shape)) {
+    if !is_within(settings.limit, frame.components.len(), area_of(frame.output_size)) {
         return Err(format_error(alloc, "the picture is larger than the limit"));
     }
-    let mut plane = needed(alloc, state.planes[0].take(), "an image without samples")?;
-    crop_to(&mut plane, shape);
-    Ok(plane)
+    let planes = planes_at_end(alloc, state, frame, decoded)?;
+    picture_by(alloc, state, frame, planes, settings.color_transform)
 }
 
 /// Reads the header of a stream: all through the frame's segment.
@@ -136,7 +180,8 @@ fn read_picture<R: Read + Drop>(
     ensures stays { is_some (found_in state.old).frame ≡ true → (found_in state.new).frame ≡ (found_in state.old).frame }
 {
     state.read(alloc, source, false)?;
-    picture(alloc, state, settings)
+    let mut decoded = std::mem::replace(&mut state.decoded, Decoded::new(alloc));
+    picture(alloc, state, &mut decoded, settings)
 }
 
 /// Reads the rest of a stream, behind its start or its header, and gives its picture. No planes are kept.
@@ -153,7 +198,7 @@ pub fn read_rest<R: Read + Drop>(
     ensures stays { is_some (found_in state.old).frame ≡ true → (found_in state.new).frame ≡ (found_in state.old).frame }
 {
     let result = read_picture(alloc, source, state, settings);
-    state.planes = [None, None, None, None];
+    state.decoded = Decoded::new(alloc);
     result
 }
 

@@ -1,8 +1,7 @@
-//! Tables and planes by their places.
-ghost use Rattle.std.specs.Prelude.{◌≡◌, ◌<◌, None, length, slice_index_or, slice_set, Some, MatchResult};
+//! Tables by their places.
+ghost use Rattle.std.specs.Prelude.{◌≡◌, None, length, slice_index_or, Some, MatchResult};
 ghost use Rattle.std.specs.Option.{option_copied};
-ghost use Rattle.jpeg_decoder.specs.Stream.{updated, named, decided};
-ghost use Rattle.jpeg_decoder.specs.PlanesIn.{planes_in};
+ghost use Rattle.jpeg_decoder.specs.Stream.{updated};
 ghost use Rattle.jpeg_bits.specs.Reading.{NamesFormat};
 
 use jpeg_bits::error::{Result, format_error};
@@ -30,16 +29,6 @@ pub fn table_at<T>(tables: &[Option<T>], place: usize) -> Option<&T>
     }
 }
 
-/// The table that the first of some places names.
-pub fn named_table<'a, T>(tables: &'a [Option<T>], places: &[usize]) -> Option<&'a T>
-    ensures { option_copied result ≡ named tables.now places.now }
-{
-    match places.first() {
-        Some(place) => table_at(tables, *place),
-        None => None,
-    }
-}
-
 /// Something that has to be there; else the text says what is missing.
 pub fn needed<T: Drop>(alloc: Global, option: Option<T>, text: &str) -> Result<T>
     ensures { MatchResult result (λ x. option ≡ Some x) (λ e. (option ≡ None) × NamesFormat e) }
@@ -47,15 +36,5 @@ pub fn needed<T: Drop>(alloc: Global, option: Option<T>, text: &str) -> Result<T
     match option {
         Some(value) => Ok(value),
         None => Err(format_error(alloc, text)),
-    }
-}
-
-/// The first scan that finishes a component decides its plane.
-pub fn decide(planes: &mut [Option<Vec<u8>>], plane: Vec<u8>)
-    requires { 0 < length planes.old }
-    ensures { let seen = planes_in planes.old in planes_in planes.new ≡ slice_set seen 0 (decided (slice_index_or seen 0 None) plane.items) }
-{
-    if planes[0].is_none() {
-        planes[0] = Some(plane);
     }
 }

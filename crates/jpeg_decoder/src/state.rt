@@ -4,20 +4,21 @@ ghost use Rattle.jpeg_bits.specs.Reading.{Answers, IsShort};
 ghost use Rattle.jpeg_segments.specs.HuffmanTables.{all_ac};
 ghost use Rattle.jpeg_decoder.specs.Stream.{marker_or};
 
-use crate::blocks::read_plane;
+use crate::codings::{codings_of, is_decoded, pass_of, spare_tables};
+use crate::decoded::Decoded;
 use crate::frames::check_frame;
 use crate::metadata::Metadata;
-use crate::places::{decide, named_table, needed, table_at, update};
-use crate::scans::{grid_of, is_sequential, pass_restarts, refused_line_count};
+use crate::places::{needed, update};
+use crate::restarts::pass_restarts;
+use crate::scans::Scan;
 use jpeg_bits::color_transform::ColorTransform;
 use jpeg_bits::error::{Error, Result, UnsupportedFeature, format_error};
 use jpeg_bits::huffman::HuffmanTable;
 use jpeg_bits::marker::{Marker, read_marker};
 use jpeg_bits::reads::{read_length, skip};
-use jpeg_bits::scan::ScanInfo;
 use jpeg_bits::source::Source;
 use jpeg_segments::parser::{
-    Component, FrameInfo, parse_app, parse_dht, parse_dqt, parse_dri, parse_sof, parse_sos,
+    FrameInfo, parse_app, parse_dht, parse_dqt, parse_dri, parse_sof, parse_sos,
 };
 use std::alloc::Global;
 use std::io::Read;
@@ -44,7 +45,7 @@ pub struct State {
     /// Whether a scan was read.
     pub scanned: bool,
     pub metadata: Metadata,
-    pub planes: [Option<Vec<u8>>; 4],
+    pub decoded: Decoded,
 
     // Each AC table is of class AC.
     ghost ac_classes: { all_ac ac_tables ≡ true },
@@ -96,7 +97,7 @@ impl State {
             restart_interval: 0,
             scanned: false,
             metadata: Metadata::new(alloc),
-            planes: [None, None, None, None],
+            decoded: Decoded::new(alloc),
         }
     }
 
@@ -219,78 +220,6 @@ impl State {
         })
     }
 
-    /// The samples of a scan, by the tables in force, and the marker behind it, if it was met.
-    #[tactic(auto, unfolding(crate::specs::Steps::coded_plane, crate::specs::Stream::scan_samples))]
-    fn read_coded<R: Read + Drop>(
-        &self,
-        alloc: Global,
-        source: &mut Source<R>,
-        component: &Component,
-        scan: &ScanInfo,
-    ) -> Result<(Vec<u8>, Option<Marker>)>
-        ensures { Answers (λ r. (r.0.items, r.1)) (coded_plane (found_in self.now) (component_in component.now) (scan_in scan.now)) source.old result source.new }
-    {
-        let quantization = table_at(&self.quantization, component.quantization_table_index);
-        let quantization = needed(alloc, quantization, "a scan without a quantization table")?;
-        let dc_table = named_table(&self.dc_tables, &scan.dc_table_indices);
-        let dc_table = needed(alloc, dc_table, "a scan without a DC table")?;
-        let ac_table = named_table(&self.ac_tables, &scan.ac_table_indices);
-        let ac_table = needed(alloc, ac_table, "a scan without an AC table")?;
-        read_plane(
-            alloc,
-            source,
-            grid_of(component),
-            quantization,
-            dc_table,
-            ac_table,
-        )
-    }
-
-    /// A scan's header (T.81, B.2.3), and its samples. Scans of progressive and lossless frames, and those under a restart interval, are
-    /// refused for now.
-    #[tactic(auto, unfolding(crate::specs::Steps::scan_plane))]
-    fn read_scan_plane<R: Read + Drop>(
-        &self,
-        alloc: Global,
-        source: &mut Source<R>,
-    ) -> Result<(Vec<u8>, Option<Marker>)>
-        ensures { Answers (λ r. (r.0.items, r.1)) (scan_plane (found_in self.now)) source.old result source.new }
-    {
-        let frame = needed(alloc, self.frame.as_ref(), "a scan without a frame")?;
-        let scan = parse_sos(alloc, source, frame)?;
-        if !self.is_decoded(frame) {
-            return Err(format_error(alloc, "a scan that is not decoded"));
-        }
-        let component = needed(
-            alloc,
-            frame.components.first(),
-            "a frame without a component",
-        )?;
-        self.read_coded(alloc, source, component, &scan)
-    }
-
-    /// Whether the scans of a frame are decoded.
-    fn is_decoded(&self, frame: &FrameInfo) -> bool
-        ensures { result ≡ is_decoded (found_in self.now) (frame_in frame.now) }
-    {
-        is_sequential(frame.coding_process)
-            && (self.restart_interval == 0 && frame.components.len() == 1)
-    }
-
-    /// A scan's samples, and the marker behind it and the restart markers at its end.
-    #[tactic(auto, unfolding(crate::specs::Steps::whole_scan))]
-    fn read_whole_scan<R: Read + Drop>(
-        &self,
-        alloc: Global,
-        source: &mut Source<R>,
-    ) -> Result<(Vec<u8>, Option<Marker>)>
-        ensures { Answers (λ r. (r.0.items, r.1)) (whole_scan (found_in self.now)) source.old result source.new }
-    {
-        let (plane, met) = self.read_scan_plane(alloc, source)?;
-        let met = pass_restarts(alloc, source, met)?;
-        Ok((plane, met))
-    }
-
     /// What a scan is to the marker behind it.
     fn scan_before(&self) -> Before
         ensures { result ≡ scan_before (found_in self.now) }
@@ -302,16 +231,18 @@ impl State {
         }
     }
 
-    /// A scan. The first one of a component decides its plane.
+    /// A scan (T.81, B.2.3).
     fn read_scan<R: Read + Drop>(&mut self, alloc: Global, source: &mut Source<R>) -> Result<Step>
         ensures reads { Answers (turn_of self.new) (scan_segment (found_in self.old)) source.old result source.new }
         ensures kept { OnErr result (told_of (found_in self.new) ≡ told_of (found_in self.old)) }
         ensures onward { IfOk result (λ s. s.ended ≡ false) }
         ensures stays { is_some (found_in self.old).frame ≡ true → (found_in self.new).frame ≡ (found_in self.old).frame }
     {
-        let (plane, met) = self.read_whole_scan(alloc, source)?;
+        let mut decoded = std::mem::replace(&mut self.decoded, Decoded::new(alloc));
+        let result = read_scan(alloc, source, self, &mut decoded);
+        self.decoded = decoded;
+        let met = result?;
         let before = self.scan_before();
-        decide(&mut self.planes, plane);
         self.scanned = true;
         Ok(Step {
             before,
@@ -436,4 +367,40 @@ fn marker_or_next<R: Read + Drop>(
         Some(marker) => Ok(marker),
         None => read_marker(alloc, source),
     }
+}
+
+/// Why a DNL segment is refused: after the first scan it would give the height (T.81, B.2.5).
+fn refused_line_count(alloc: Global, before: Before) -> Error
+    ensures { IsRefusal result × Names result (line_count before) }
+{
+    match before {
+        Before::FirstScan => Error::Unsupported(UnsupportedFeature::DNL),
+        Before::LaterScan | Before::Elsewhere => {
+            format_error(alloc, "a number of lines that is not behind the first scan")
+        }
+    }
+}
+
+/// Reads a scan by what was said before it, with what the scans before it gave, and returns the
+/// marker after it and after the restart markers at its end, if one was met.
+fn read_scan<R: Read + Drop>(
+    alloc: Global,
+    source: &mut Source<R>,
+    state: &State,
+    decoded: &mut Decoded,
+) -> Result<Option<Marker>>
+{
+    let frame = needed(alloc, state.frame.as_ref(), "a scan without a frame")?;
+    let header = parse_sos(alloc, source, frame)?;
+    if !is_decoded(frame.coding_process) {
+        return Err(format_error(alloc, "a scan that is not decoded"));
+    }
+    let spare = spare_tables(alloc, &header, state.metadata.avi1)?;
+    let scan = Scan {
+        pass: pass_of(&header),
+        restart_interval: state.restart_interval,
+        components: codings_of(alloc, state, &spare, frame, &header)?,
+    };
+    let met = decoded.read(alloc, source, frame, &scan, !state.scanned)?;
+    pass_restarts(alloc, source, met)
 }

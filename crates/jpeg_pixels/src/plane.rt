@@ -12,6 +12,7 @@ use std::alloc::AllocError;
 /// was.
 pub fn append_row(
     plane: &mut Vec<u8>,
+    _scale: usize,
     blocks: &[[i16; 64]],
     quantization_table: &[u16; 64],
 ) -> Result<(), AllocError>

@@ -2,7 +2,7 @@ use Rattle.std.proofs.Common.{◌≡◌, ◌<◌}
 use Rattle.jpeg_bits.specs.Reading.{IsShort}
 use Rattle.jpeg_bits.proofs.Loops.{Continues, Took}
 use Rattle.jpeg_decoder.specs.Steps.{behind_all}
-use Rattle.jpeg_decoder.proofs.scans.pass_restarts.Given as goal
+use Rattle.jpeg_decoder.proofs.restarts.pass_restarts.Given as goal
 
 abbrev pub invariant-loop : goal.invariant-loop
 invariant-loop g l = record {

@@ -5,9 +5,9 @@ use Rattle.jpeg_bits.specs.declared.marker.Marker.{Marker}
 use Rattle.jpeg_bits.proofs.Loops.{Continues-ok, Continues-err}
 use Rattle.jpeg_decoder.specs.Steps.{is_restart, behind_all}
 use Rattle.jpeg_decoder.proofs.Refusals.{never-met, short-first}
-use Rattle.jpeg_decoder.proofs.Restarts.{behind-done, behind-refused, behind-next, marker-takes}
-use Rattle.jpeg_decoder.proofs.scans.pass_restarts.Goals as goal
-use Rattle.jpeg_decoder.proofs.scans.pass_restarts.Goals.{else-loop-test, then-loop-test+else-not-is_restart+in_ok-read_marker+else-counter-lt18446744073709551615}
+use Rattle.jpeg_decoder.proofs.PassedRestarts.{behind-done, behind-refused, behind-next, marker-takes}
+use Rattle.jpeg_decoder.proofs.restarts.pass_restarts.Goals as goal
+use Rattle.jpeg_decoder.proofs.restarts.pass_restarts.Goals.{else-loop-test, then-loop-test+else-not-is_restart+in_ok-read_marker+else-counter-lt18446744073709551615}
 
 pub returns-then-not-is_restart : goal.returns-then-not-is_restart
 returns-then-not-is_restart g c =

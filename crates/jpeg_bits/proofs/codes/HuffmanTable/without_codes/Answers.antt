@@ -1,0 +1,24 @@
+use Rattle.std.proofs.Common.{◌≡◌, ◌<◌, ◌∙◌, refl, sym, ap, length, replicate, ℕ, List}
+use Rattle.jpeg_bits.specs.Codes.{code_lengths, lengths_from}
+use Rattle.jpeg_bits.specs.Written.{low_bits}
+use Rattle.jpeg_bits.specs.ShortCodes.{short_code, short_value_by}
+use Rattle.jpeg_bits.proofs.codes.HuffmanTable.without_codes.Goals as goal
+
+no-lengths : length (code_lengths (replicate 16 0)) ≡ 0
+unfolding lengths_from
+no-lengths = refl
+
+pub short_codes-codes-requires : goal.short_codes-codes-requires
+short_codes-codes-requires c = no-lengths
+
+pub invariant_of-result : goal.invariant_of-result
+invariant_of-result c =
+    let counts = replicate 16 0 in
+    let same = sym c.new.ensures.items in
+    let codes = λ (b : ℕ) (lt : b < 256). c.short_codes-codes.ensures b lt ∙ ap (λ (xs : List ℕ). short_code counts xs (low_bits 8 b)) same in (
+      refl,
+      no-lengths ∙ ap length same,
+      c.rows_of.ensures,
+      codes,
+      λ b lt. c.short_values.ensures b lt ∙ ap (short_value_by c.args.class (low_bits 8 b)) (codes b lt),
+    )

@@ -1,0 +1,195 @@
+//! The components of a scan, and the tables that they are coded by (T.81, B.2.3).
+ghost use Rattle.std.specs.Prelude.{◌≡◌, ◌<◌, ◌≤◌, ◌==◌, ℕ, None, Some, Ok, IfOk, IfErr, MatchResult, All, length, map, nat_lt, replicate, slice_index, slice_index_or};
+ghost use Rattle.std.specs.Option.{option_copied};
+ghost use Rattle.jpeg_bits.specs.Reading.{Names};
+ghost use Rattle.jpeg_bits.specs.BlockView.{pass_in, IsPass};
+ghost use Rattle.jpeg_bits.specs.Codes.{Table};
+ghost use Rattle.jpeg_bits.specs.declared.error.Error.TheVariants.{OutOfMemory};
+ghost use Rattle.jpeg_bits.specs.declared.codes.HuffmanTableClass.{HuffmanTableClass};
+ghost use Rattle.jpeg_bits.specs.declared.codes.HuffmanTableClass.TheVariants.{DC, AC};
+ghost use Rattle.jpeg_segments.specs.FrameView.{frame_in, scan_in};
+ghost use Rattle.jpeg_segments.specs.ScanHeader.{IsScanOf};
+ghost use Rattle.jpeg_decoder.specs.Scans.{no_table};
+ghost use Rattle.jpeg_decoder.specs.Scanning.{HasAc};
+ghost use Rattle.jpeg_decoder.specs.Seen.{found_in};
+ghost use Rattle.jpeg_decoder.specs.Steps.{IsRefusal, IsSpareOf, codings_in_force, coding_in, coding_in_slot, default_dc, default_ac, in_force, table_if};
+ghost use Rattle.jpeg_decoder.specs.Stream.{is_decoded, is_progressive, pass_of};
+
+use crate::places::{needed, table_at};
+use crate::state::State;
+use jpeg_bits::blocks::Pass;
+use jpeg_bits::codes::HuffmanTableClass;
+use jpeg_bits::error::Result;
+use jpeg_bits::huffman::{HuffmanTable, fill_default_mjpeg_tables};
+use jpeg_bits::scan::ScanInfo;
+use jpeg_segments::parser::{CodingProcess, Component, FrameInfo};
+use std::alloc::Global;
+
+/// A component of a scan: its place in the frame, and the tables that its blocks are coded by.
+#[derive(Drop)]
+pub struct Coded<'a> {
+    /// The component's place in the frame.
+    pub place: usize,
+    pub component: &'a Component,
+    /// In zigzag order.
+    pub quantization: &'a [u16; 64],
+    pub dc: &'a HuffmanTable,
+    pub ac: &'a HuffmanTable,
+}
+
+/// The tables that stand in where a scan names a place that is unset: the default ones of MJPEG
+/// frames by their places, and tables without codes where the scan needs none.
+#[derive(Drop)]
+pub struct Spare {
+    dc: [Option<HuffmanTable>; 4],
+    ac: [Option<HuffmanTable>; 4],
+    no_dc: HuffmanTable,
+    no_ac: HuffmanTable,
+}
+
+/// Whether the scans of a process are decoded. Those of lossless frames are refused for now.
+pub fn is_decoded(process: CodingProcess) -> bool
+    ensures { result ≡ is_decoded process }
+{
+    match process {
+        CodingProcess::DctSequential | CodingProcess::DctProgressive => true,
+        CodingProcess::Lossless => false,
+    }
+}
+
+/// Whether a process is progressive, so that its scans refine what earlier ones gave.
+pub fn is_progressive(process: CodingProcess) -> bool
+    ensures { result ≡ is_progressive process }
+{
+    match process {
+        CodingProcess::DctProgressive => true,
+        CodingProcess::DctSequential | CodingProcess::Lossless => false,
+    }
+}
+
+/// What a scan codes.
+pub fn pass_of(header: &ScanInfo) -> Pass
+    requires { 1 ≤ (scan_in header.now).behind }
+    ensures { pass_in result ≡ pass_of (scan_in header.now) }
+{
+    Pass {
+        is_first: header.successive_approximation_high == 0,
+        ss: header.spectral_selection.start,
+        se: header.spectral_selection.end - 1,
+        al: header.successive_approximation_low,
+    }
+}
+
+/// The spare tables of a scan; the default ones where a frame of an MJPEG stream was named.
+pub fn spare_tables(alloc: Global, header: &ScanInfo, is_mjpeg: bool) -> Result<Spare>
+    ensures dc { IfOk result (λ s. s.dc ≡ default_dc is_mjpeg (scan_in header.now).dc_places) }
+    ensures ac { IfOk result (λ s. s.ac ≡ default_ac is_mjpeg (scan_in header.now).ac_places) }
+    ensures no_dc { IfOk result (λ s. s.no_dc ≡ no_table DC) }
+    ensures no_ac { IfOk result (λ s. s.no_ac ≡ no_table AC) }
+    ensures err { IfErr result (λ e. e ≡ OutOfMemory) }
+{
+    let mut spare = Spare {
+        dc: [None, None, None, None],
+        ac: [None, None, None, None],
+        no_dc: HuffmanTable::without_codes(alloc, HuffmanTableClass::DC),
+        no_ac: HuffmanTable::without_codes(alloc, HuffmanTableClass::AC),
+    };
+    if is_mjpeg {
+        fill_default_mjpeg_tables(alloc, header, &mut spare.dc, &mut spare.ac)?;
+    }
+    Ok(spare)
+}
+
+/// The table in force at a place: the one that was read, or else the spare one.
+fn table_in_force<'a>(
+    tables: &'a [Option<HuffmanTable>],
+    spare: &'a [Option<HuffmanTable>],
+    place: usize,
+) -> Option<&'a HuffmanTable>
+    ensures { option_copied result ≡ in_force tables.now spare.now place }
+{
+    match table_at(tables, place) {
+        Some(table) => Some(table),
+        None => table_at(spare, place),
+    }
+}
+
+/// The table of a component where the scan needs one, and else the one without codes.
+fn needed_table<'a>(
+    alloc: Global,
+    is_needed: bool,
+    table: Option<&'a HuffmanTable>,
+    none: &'a HuffmanTable,
+    text: &str,
+) -> Result<&'a HuffmanTable>
+    ensures { MatchResult result
+        (λ t. table_if is_needed none.now (option_copied table) ≡ Ok t.now)
+        (λ e. IsRefusal e × Names e (table_if is_needed none.now (option_copied table))) }
+{
+    if is_needed {
+        needed(alloc, table, text)
+    } else {
+        Ok(none)
+    }
+}
+
+/// The component in a slot of a scan, and its tables in force.
+fn coding_of<'a>(
+    alloc: Global,
+    state: &'a State,
+    spare: &'a Spare,
+    frame: &'a FrameInfo,
+    header: &ScanInfo,
+    slot: usize,
+) -> Result<Coded<'a>>
+    requires slot { slot < length (scan_in header.now).components }
+    requires legal { IsScanOf (frame_in frame.now) (scan_in header.now) }
+    requires spare { IsSpareOf (found_in state.now) (scan_in header.now) spare.now }
+    ensures coding { MatchResult result
+        (λ c. coding_in_slot (found_in state.now) (frame_in frame.now) (scan_in header.now) slot ≡ Ok (coding_in c))
+        (λ e. IsRefusal e × Names e (coding_in_slot (found_in state.now) (frame_in frame.now) (scan_in header.now) slot)) }
+    ensures class { IfOk result HasAc }
+{
+    let place = header.component_indices[slot];
+    let component = frame.components.get(place);
+    let component = needed(alloc, component, "a scan of a component that the frame lacks")?;
+    let quantization = table_at(&state.quantization, component.quantization_table_index);
+    let quantization = needed(alloc, quantization, "a scan without a quantization table")?;
+    let has_dc = header.spectral_selection.start == 0;
+    let dc = table_in_force(&state.dc_tables, &spare.dc, header.dc_table_indices[slot]);
+    let dc = needed_table(alloc, has_dc, dc, &spare.no_dc, "a scan without a DC table")?;
+    let has_ac = header.spectral_selection.end > 1;
+    let ac = table_in_force(&state.ac_tables, &spare.ac, header.ac_table_indices[slot]);
+    let ac = needed_table(alloc, has_ac, ac, &spare.no_ac, "a scan without an AC table")?;
+    Ok(Coded {
+        place,
+        component,
+        quantization,
+        dc,
+        ac,
+    })
+}
+
+/// The components of a scan, and their tables in force. The errors are `Format` where a table that
+/// the scan needs is unset, and `OutOfMemory`.
+pub fn codings_of<'a>(
+    alloc: Global,
+    state: &'a State,
+    spare: &'a Spare,
+    frame: &'a FrameInfo,
+    header: &ScanInfo,
+) -> Result<Vec<Coded<'a>>>
+    requires legal { IsScanOf (frame_in frame.now) (scan_in header.now) }
+    requires spare { IsSpareOf (found_in state.now) (scan_in header.now) spare.now }
+    ensures codings { MatchResult result
+        (λ v. codings_in_force (found_in state.now) (frame_in frame.now) (scan_in header.now) ≡ Ok (map coding_in v.items))
+        (λ e. IsRefusal e × Names e (codings_in_force (found_in state.now) (frame_in frame.now) (scan_in header.now))) }
+    ensures classes { IfOk result (λ v. All HasAc v.items) }
+    ensures count { IfOk result (λ v. length v.items ≡ length (scan_in header.now).components) }
+{
+    let mut codings = Vec::with_capacity(alloc, header.component_indices.len())?;
+    for slot in 0..header.component_indices.len() {
+        codings.push(coding_of(alloc, state, spare, frame, header, slot)?)?;
+    }
+    Ok(codings)
+}

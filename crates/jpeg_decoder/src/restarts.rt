@@ -1,0 +1,68 @@
+//! The restart markers of a scan (T.81, E.2.4).
+ghost use Rattle.std.specs.Prelude.{◌≡◌};
+ghost use Rattle.jpeg_bits.specs.Reading.{Answers};
+ghost use Rattle.jpeg_bits.specs.Entropy.{Takes};
+ghost use Rattle.jpeg_bits.specs.Intervals as intervals;
+ghost use Rattle.jpeg_decoder.specs.InTurn.{restart_from};
+ghost use Rattle.jpeg_decoder.specs.Steps.{is_restart, behind_all};
+
+use jpeg_bits::error::{Result, format_error};
+use jpeg_bits::huffman::HuffmanDecoder;
+use jpeg_bits::marker::{Marker, read_marker};
+use jpeg_bits::source::Source;
+use std::alloc::Global;
+use std::io::Read;
+
+/// Whether a marker is the restart marker of a number, which counts modulo 8.
+fn is_numbered(marker: Option<Marker>, number: u32) -> bool
+    ensures { result ≡ intervals.is_restart number marker }
+{
+    match marker {
+        Some(Marker::RST(n)) => u32::from(n) == number % 8,
+        _ => false,
+    }
+}
+
+/// Reads the restart marker of a number after an interval; the next interval begins.
+#[tactic(auto, unfolding(crate::specs::InTurn::restart_from))]
+pub fn read_restart<R: Read + Drop>(
+    alloc: Global,
+    decoder: &mut HuffmanDecoder,
+    source: &mut Source<R>,
+    number: u32,
+) -> Result<()>
+    ensures { Takes (λ _. tt) (restart_from number)
+        decoder.old source.old result decoder.new source.new }
+{
+    let marker = decoder.take_marker(source)?;
+    decoder.reset();
+    if !is_numbered(marker, number) {
+        return Err(format_error(alloc, "missing restart marker"));
+    }
+    Ok(())
+}
+
+/// Whether a restart marker was met.
+fn is_restart(met: Option<Marker>) -> bool
+    ensures { result ≡ is_restart met }
+{
+    matches!(met, Some(Marker::RST(_)))
+}
+
+/// Passes over restart markers after a scan, and returns the marker after them, if it was met.
+pub fn pass_restarts<R: Read + Drop>(
+    alloc: Global,
+    source: &mut Source<R>,
+    met: Option<Marker>,
+) -> Result<Option<Marker>>
+    ensures { Answers (λ m. m) (behind_all met) source.old result source.new }
+{
+    let mut met = met;
+    for _ in 0..=u64::MAX {
+        if !is_restart(met) {
+            return Ok(met);
+        }
+        met = Some(read_marker(alloc, source)?);
+    }
+    Err(format_error(alloc, "restart markers without end"))
+}
