@@ -32,3 +32,4 @@ pub mod McuSteps
 pub mod LineSteps
 pub mod Products
 pub mod FrameScans
+pub mod DecidedPlanes
