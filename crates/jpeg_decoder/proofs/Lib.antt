@@ -33,3 +33,4 @@ pub mod LineSteps
 pub mod Products
 pub mod FrameScans
 pub mod DecidedPlanes
+pub mod Soundness

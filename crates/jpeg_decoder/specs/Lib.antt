@@ -6,6 +6,7 @@ pub mod McuRows
 pub mod Layout
 pub mod Scanning
 pub mod Stream
+pub mod Sound
 pub mod Profile
 pub mod States
 pub mod Seen

@@ -1,7 +1,7 @@
 -- What the decoder's own clauses need beside the meaning of a stream: what a caller sees after a segment, the marker after a scan, and the
 -- components of a scan with their tables.
 use Rattle.std.specs.Prelude.{◌≡◌, ◌<◌, ◌≤◌, All, ℕ, suc, drop, ◌&&◌, not, is_some, slice_set, ◌*◌, ◌/◌, min, List, [], ◌∷◌, map, set, length, replicate, get_or, Bool, true, false, Option, slice_index_or, Some, None, Result, Ok, Err, nat_lt, ◌==◌, if◌then◌else◌}
-use Rattle.jpeg_bits.specs.Reading.{Outcome, Fault, ◌>>=◌}
+use Rattle.jpeg_bits.specs.Reading.{Outcome, Fault, Malformed, ◌>>=◌}
 use Rattle.jpeg_bits.specs.Codes.{Table}
 use Rattle.jpeg_bits.specs.DefaultTables.{luminance_dc, chrominance_dc, luminance_ac, chrominance_ac, with_defaults}
 use Rattle.jpeg_bits.specs.declared.error.Error.{Error}
@@ -18,6 +18,7 @@ use Rattle.jpeg_bits.specs.Passes.{Pass}
 use Rattle.std.specs.List.{list_all, AllByRecursion}
 use Rattle.jpeg_segments.specs.FrameView.{component_in}
 use Rattle.jpeg_segments.specs.ScanHeader as headers
+use Rattle.jpeg_segments.specs.ScanHeader.{sos_at}
 use Rattle.jpeg_decoder.specs.declared.scans.Scan.{Scan}
 use Rattle.jpeg_decoder.specs.InTurn.{Fits}
 use Rattle.jpeg_bits.specs.BlockView.{pass_in, IsPass}
@@ -27,7 +28,7 @@ use Rattle.jpeg_decoder.specs.declared.codings.Coded.{Coded}
 use Rattle.jpeg_decoder.specs.declared.codings.Spare.{Spare}
 use Rattle.jpeg_decoder.specs.Scans.{no_table, zero_arrays}
 use Rattle.jpeg_bits.specs.declared.codes.HuffmanTableClass.TheVariants as classes
-use Rattle.jpeg_decoder.specs.Stream.{Found, Turn, Coding, first_of, needed, pass_of, tables_of, coding_of, codings_from, behind_restarts, finished_by, none_finished, decided, plane_by, vias_from, arrays_before, with_arrays, held_behind}
+use Rattle.jpeg_decoder.specs.Stream.{Found, Turn, Coding, first_of, is_decoded, needed, pass_of, tables_of, coding_of, codings_from, behind_restarts, finished_by, none_finished, decided, plane_by, vias_from, arrays_before, with_arrays, held_behind}
 use Rattle.jpeg_decoder.specs.Seen.{found_in, planes_in}
 
 abbrev pub turn_of : State → Step → Turn
@@ -182,6 +183,19 @@ without_blocks (c ∷ more) held = without_blocks more (set held c.place [])
 abbrev pub cropped_to : Component → ℕ → ℕ → List ℕ → List ℕ
 cropped_to c width height plane =
     let stride = c.scale * c.blocks_wide in cropped stride (min width stride) (min height (length plane / stride)) plane
+
+-- ---- a scan
+
+-- a scan by what was found before it: what is found after it, and the marker after it and its restart markers
+unfoldable pub scan_read : Found → List ℕ → Outcome (Found × Option Marker)
+scan_read found bytes = do
+  frame ← needed found.frame
+  scan ← sos_at frame bytes
+  if is_decoded frame.process then (do
+    codings ← codings_in_force found frame scan.0
+    r ← scan_data found frame (pass_of scan.0) codings scan.1
+    met ← behind_all r.0.1 r.1
+    Ok ((r.0.0, met.0), met.1)) else Err Malformed
 
 -- ---- refusals
 

@@ -4,6 +4,7 @@ ghost use Rattle.std.specs.List.{list_all};
 ghost use Rattle.jpeg_bits.specs.BlockView.{pass_in, IsPass};
 ghost use Rattle.jpeg_bits.specs.declared.error.Error.TheVariants.{OutOfMemory};
 ghost use Rattle.jpeg_pixels.specs.Scaled.{IsScale};
+ghost use Rattle.jpeg_pixels.specs.Pictures.{AreWhole};
 ghost use Rattle.jpeg_segments.specs.FrameView.{component_in, frame_in};
 ghost use Rattle.jpeg_decoder.specs.Rasters.{ordered};
 ghost use Rattle.jpeg_bits.specs.Reading.{Answers};
@@ -169,6 +170,7 @@ fn read_planes<R: Read + Drop>(
     requires few { length scan.now.components.items ≤ 4 }
     requires scales { All HasCodedScale scan.now.components.items }
     requires fits { AllByRecursion (Fits (frame_in frame.now)) (components_in scan.now.components.items) }
+    ensures planes { IfOk result (λ r. AreWhole (components_in scan.now.components.items) (map (λ v. v.items) r.0.items)) }
     ensures count { IfOk result (λ r. length r.0.items ≡ length scan.now.components.items) }
     ensures reads { Answers (λ r. (map (λ v. v.items) r.0.items, r.1))
         (planes_at (frame_in frame.now) scan.now.restart_interval (pass_in scan.now.pass) (map coding_in scan.now.components.items))
@@ -209,6 +211,7 @@ impl Decoded {
     ghost use Rattle.jpeg_pixels.specs.Scaled.{IsScale};
     ghost use Rattle.jpeg_segments.specs.FrameView.{component_in, frame_in};
     ghost use Rattle.jpeg_decoder.specs.InTurn.{AreArrays};
+    ghost use Rattle.jpeg_decoder.specs.Sound.{ArePlanes};
     ghost use Rattle.jpeg_decoder.specs.Scanning.{arrays_in, components_in, sizes_of, HasAc, HasCodedScale};
     ghost use Rattle.jpeg_decoder.specs.Seen.{found_in, planes_in};
     ghost use Rattle.jpeg_decoder.specs.Steps.{coding_in, HasPlace, IsReadable, is_wanted, marks_after, scan_data, with_decoded, with_its_plane, with_planes, planes_by};
@@ -339,6 +342,7 @@ impl Decoded {
             (scan_data (with_decoded (found_in state.now) self.old) (frame_in frame.now) (pass_in scan.now.pass) (map coding_in scan.now.components.items))
             source.old result source.new }
         ensures held { OnOk result (AreArrays (frame_in frame.now).components (arrays_in self.new.held.items)) }
+        ensures planes { ArePlanes (frame_in frame.now).components (planes_in self.old.planes) → OnOk result (ArePlanes (frame_in frame.now).components (planes_in self.new.planes)) }
     {
         if !state.scanned {
             self.held = zero_frame(alloc, frame)?;
@@ -364,6 +368,7 @@ impl Decoded {
         ensures data { Answers (λ m. (record (with_decoded (found_in state.now) self.new) { scanned = true }, m))
             (scan_data (with_decoded (found_in state.now) self.old) (frame_in frame.now) (pass_in scan.now.pass) (map coding_in scan.now.components.items))
             source.old result source.new }
+        ensures planes { ArePlanes (frame_in frame.now).components (planes_in self.old.planes) → OnOk result (ArePlanes (frame_in frame.now).components (planes_in self.new.planes)) }
     {
         let (mut planes, met) = read_planes(alloc, source, scan, frame)?;
         self.held = Vec::new(alloc);
@@ -385,6 +390,8 @@ impl Decoded {
         ensures data { Answers (λ m. (record (with_decoded (found_in state.now) self.new) { scanned = true }, m))
             (scan_data (with_decoded (found_in state.now) self.old) (frame_in frame.now) (pass_in scan.now.pass) (map coding_in scan.now.components.items))
             source.old result source.new }
+        ensures held { OnOk result (AreArrays (frame_in frame.now).components (arrays_before (record (with_decoded (found_in state.now) self.new) { scanned = true }) (frame_in frame.now))) }
+        ensures planes { ArePlanes (frame_in frame.now).components (planes_in self.old.planes) → OnOk result (ArePlanes (frame_in frame.now).components (planes_in self.new.planes)) }
     {
         if is_progressive(frame.coding_process) {
             self.read_held(alloc, source, state, frame, scan)

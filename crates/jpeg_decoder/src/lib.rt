@@ -16,6 +16,7 @@ mod places;
 mod profile;
 mod restarts;
 pub mod run;
+mod scan_segment;
 mod scans;
 mod state;
 pub mod worked;
