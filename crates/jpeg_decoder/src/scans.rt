@@ -9,7 +9,7 @@ ghost use Rattle.jpeg_segments.specs.FrameView.{frame_in};
 ghost use Rattle.jpeg_decoder.specs.Scans.{Arrays, arrays_at};
 ghost use Rattle.jpeg_decoder.specs.Layout.{line_of, part_of};
 ghost use Rattle.jpeg_bits.specs.BlockView.{pass_in, IsPass};
-ghost use Rattle.jpeg_decoder.specs.Scanning.{vias_in, HasAc, arrays_in, sizes_of, reached, counted, IsHeld, OfSlot, AreWithin, wide_in, across_in, down_in, part_in, first_in, HoldsMcu, components_in, row_in, rows_in, own_mcu, own_row, own_rows};
+ghost use Rattle.jpeg_decoder.specs.Scanning.{vias_in, HasAc, HasCodedScale, arrays_in, sizes_of, reached, counted, IsHeld, OfSlot, AreWithin, wide_in, across_in, down_in, part_in, first_in, HoldsMcu, components_in, row_in, rows_in, own_mcu, own_row, own_rows};
 
 use crate::codings::Coded;
 use crate::grids::{Grid, grid_of};
@@ -512,7 +512,8 @@ pub fn read_several<R: Read + Drop>(
     requires few { length scan.now.components.items ≤ 4 }
     requires fits { AllByRecursion (Fits (frame_in frame.now)) (components_in scan.now.components.items) }
     requires arrays { AreArrays (components_in scan.now.components.items) (arrays_in arrays.now.items) }
-    ensures { Answers (λ m. (arrays_in arrays.new.items, m))
+    ensures sizes { sizes_of arrays.new.items ≡ sizes_of arrays.old.items }
+    ensures scan { Answers (λ m. (arrays_in arrays.new.items, m))
         (arrays_at (pass_in scan.now.pass) (scan.now.restart_interval * mcu_size (components_in scan.now.components.items))
         (vias_in 0 scan.now.components.items) (spots_of (frame_in frame.now) (components_in scan.now.components.items))
         (arrays_in arrays.old.items))
@@ -536,7 +537,8 @@ pub fn read_single<R: Read + Drop>(
     requires grid { AllByRecursion (λ c. grid ≡ grid_of c) (components_in scan.now.components.items) }
     requires fits { AllByRecursion (Fits (frame_in frame.now)) (components_in scan.now.components.items) }
     requires arrays { AreArrays (components_in scan.now.components.items) (arrays_in arrays.now.items) }
-    ensures { Answers (λ m. (arrays_in arrays.new.items, m))
+    ensures sizes { sizes_of arrays.new.items ≡ sizes_of arrays.old.items }
+    ensures scan { Answers (λ m. (arrays_in arrays.new.items, m))
         (arrays_at (pass_in scan.now.pass) (scan.now.restart_interval * mcu_size (components_in scan.now.components.items))
         (vias_in 0 scan.now.components.items) (spots_of (frame_in frame.now) (components_in scan.now.components.items))
         (arrays_in arrays.old.items))

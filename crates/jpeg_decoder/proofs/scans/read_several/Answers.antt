@@ -13,8 +13,8 @@ pub read_interleaved-requires-clause-held : goal.read_interleaved-requires-claus
 read_interleaved-requires-clause-held g c row column high wide =
     holds (frame_in c.args.frame.now) c.args.scan.now.components.items c.args.arrays.now.items row column c.requires.fits c.requires.arrays high wide
 
-pub returns : goal.returns
-returns g c =
+pub returns-clause-scan : goal.returns-clause-scan
+returns-clause-scan g c =
     let cs = c.args.scan.now.components.items in
     let vs = c.args.arrays.now.items in
     let p = pass_in c.args.scan.now.pass in

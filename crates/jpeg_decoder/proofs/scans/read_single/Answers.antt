@@ -16,8 +16,8 @@ read_alone-requires-clause-within g c row h =
 pub read_alone-requires-clause-array : goal.read_alone-requires-clause-array
 read_alone-requires-clause-array g c = some-size c.args.scan.now.components.items c.args.arrays.now.items c.requires.one c.requires.arrays
 
-pub returns : goal.returns
-returns g c =
+pub returns-clause-scan : goal.returns-clause-scan
+returns-clause-scan g c =
     let cs = c.args.scan.now.components.items in
     let vs = c.args.arrays.now.items in
     let p = pass_in c.args.scan.now.pass in
