@@ -1,5 +1,5 @@
 -- Blocks that are held, as they are read and put back.
-use Rattle.std.proofs.Common.{◌≡◌, ℕ, zero, suc, ◌+◌, ◌-◌, ◌<◌, ◌≤◌, List, [], ◌∷◌, map, length, get_or, set, ℤ, pos, Result, Ok, Err, refl, sym, ap, ◌∙◌, arith, length-set}
+use Rattle.std.proofs.Common.{◌≡◌, ℕ, zero, suc, ◌+◌, ◌<◌, List, [], ◌∷◌, map, length, get_or, set, ℤ, pos, Ok, Err, refl, sym, ap, ◌∙◌, arith, length-set}
 use Rattle.std.specs.declared.alloc.Global.{Global}
 use Rattle.std.specs.declared.vec.Vec.{Vec}
 use Rattle.std.specs.Vec.{with_item}
@@ -9,7 +9,7 @@ use Rattle.jpeg_bits.specs.Entropy.{Text}
 use Rattle.jpeg_bits.specs.Readers.{Reads, gives, read_on}
 use Rattle.jpeg_bits.specs.Passes.{Pass, Via, Block, zero_block, block_from}
 use Rattle.jpeg_decoder.specs.Order.{Spot}
-use Rattle.jpeg_decoder.specs.Scans.{Arrays, block_at, put_block, via_at, no_table}
+use Rattle.jpeg_decoder.specs.Scans.{Arrays, block_at, put_block, via_at}
 use Rattle.jpeg_decoder.specs.InTurn.{Reached, turn_from}
 use Rattle.jpeg_decoder.specs.declared.codings.Coded.{Coded}
 use Rattle.jpeg_bits.specs.BlockView.{to_block}

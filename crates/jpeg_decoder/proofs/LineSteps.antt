@@ -1,12 +1,11 @@
 -- Steps of the loops over the blocks of an MCU.
-use Rattle.std.proofs.Common.{◌≡◌, ℕ, zero, suc, ◌+◌, ◌-◌, ◌*◌, ◌<◌, ◌≤◌, ◌==◌, ◌&&◌, nat_lt, Bool, true, false, List, [], ◌∷◌, ◌++◌, length, get_or, Result, Ok, Err, refl, sym, ap, ◌∙◌, arith, suc-mul}
+use Rattle.std.proofs.Common.{◌≡◌, ℕ, zero, suc, ◌+◌, ◌-◌, ◌*◌, ◌<◌, ◌≤◌, ◌==◌, ◌&&◌, nat_lt, Bool, true, false, List, Ok, Err, refl, ap, ◌∙◌, arith, suc-mul}
 use Rattle.std.proofs.lemmas.Bool.{lt-ltb, ne_eqb}
 use Rattle.jpeg_bits.specs.Reading.{Fault}
 use Rattle.jpeg_bits.specs.Entropy.{Text}
 use Rattle.jpeg_bits.specs.Readers.{Reads, gives, read_on}
 use Rattle.jpeg_bits.specs.Passes.{Pass, Via}
-use Rattle.jpeg_decoder.specs.Order.{Spot}
-use Rattle.jpeg_decoder.specs.InTurn.{Reached, turn_from, turns_from, at_start, restart_from, Counted, begun_from, mcu_from}
+use Rattle.jpeg_decoder.specs.InTurn.{Reached, turn_from, turns_from, at_start, restart_from, Counted, begun_from}
 use Rattle.jpeg_decoder.proofs.Mcus.{turns-append}
 use Rattle.jpeg_decoder.specs.Layout.{line_of, part_of}
 use Rattle.jpeg_decoder.specs.Scanning.{AreWithin}

@@ -1,8 +1,8 @@
-use Rattle.std.proofs.Common.{◌≡◌, ◌∙◌, ◌-◌, ℕ, List, [], ◌∷◌, ap, arith}
+use Rattle.std.proofs.Common.{◌≡◌, ◌∙◌, ◌-◌, ℕ, [], ◌∷◌, ap}
 use Rattle.std.proofs.lemmas.Result.{err_from_is_err_and}
 use Rattle.jpeg_bits.specs.Entropy.{upcoming}
 use Rattle.jpeg_bits.proofs.WholeBlocks.{refused_behind}
-use Rattle.jpeg_decoder.specs.InTurn.{turn_from, turns_from, begun_from, mcu_from}
+use Rattle.jpeg_decoder.specs.InTurn.{turn_from, begun_from, mcu_from}
 use Rattle.jpeg_bits.specs.BlockView.{pass_in}
 use Rattle.jpeg_decoder.specs.Scanning.{vias_in, arrays_in, reached, counted}
 use Rattle.jpeg_bits.proofs.BandSteps.{Leaves-whole}

@@ -1,12 +1,10 @@
-use Rattle.std.proofs.Common.{◌≡◌, ◌∙◌, ◌<◌, ℤ, ℕ, List, pos, refl, length, get_or, set, slice_index_or, w16, FitsSigned, rules, arith}
-use Rattle.std.proofs.lemmas.Int.{to_z-of_z}
+use Rattle.std.proofs.Common.{◌<◌, pos, refl, length, slice_index_or, arith}
 use Rattle.std.proofs.lemmas.Result.{err_from_is_err_and}
-use Rattle.std.specs.Int.{cast_signed, cast_unsigned}
 use Rattle.jpeg_bits.specs.Entropy.{upcoming}
 use Rattle.jpeg_bits.specs.Passes.{block_from}
-use Rattle.jpeg_decoder.specs.InTurn.{Reached, turn_from}
+use Rattle.jpeg_decoder.specs.InTurn.{turn_from}
 use Rattle.jpeg_bits.specs.BlockView.{to_block, pass_in}
-use Rattle.jpeg_decoder.specs.Scanning.{vias_in, arrays_in, reached, sizes_of}
+use Rattle.jpeg_decoder.specs.Scanning.{vias_in, arrays_in, reached}
 use Rattle.jpeg_bits.proofs.BandSteps.{Leaves-whole}
 use Rattle.jpeg_bits.proofs.WholeBlocks.{refused_behind}
 use Rattle.jpeg_decoder.proofs.HeldBlocks.{spot, sizes-set, sizes-long, size-at, turn-read, turn-refused}
