@@ -32,3 +32,5 @@ pub mod McuSteps
 pub mod LineSteps
 pub mod Products
 pub mod FrameScans
+pub mod SlotCodings
+pub mod ScanCodings
