@@ -1,3 +1,4 @@
+pub mod AtScales
 pub mod BlockRows
 pub mod LaneChoice
 pub mod LaneRows
@@ -6,7 +7,10 @@ pub mod MatrixRows
 pub mod Columns
 pub mod Residues
 pub mod Sums
+pub mod FewSamples
 pub mod FlatBlocks
+pub mod FlatScaled
+pub mod Fours
 pub mod FrameCovers
 pub mod FramesOfFactors
 pub mod ComponentLines
@@ -23,5 +27,5 @@ pub mod Strips
 pub mod UpsampledEnds
 pub mod UpsampledRows
 pub mod WholePictures
+pub mod ZeroCases
 pub mod ZigzagPlaces
-pub mod ScaledPlaneRows

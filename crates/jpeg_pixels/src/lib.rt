@@ -9,6 +9,9 @@ pub mod idct;
 pub mod laws;
 mod picture_lines;
 pub mod plane;
+#[cfg(test)]
+mod scale_tests;
+mod small_transforms;
 mod sources;
 #[cfg(test)]
 mod tests;
