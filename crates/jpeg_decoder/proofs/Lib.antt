@@ -34,3 +34,5 @@ pub mod Products
 pub mod FrameScans
 pub mod DecidedPlanes
 pub mod Soundness
+pub mod SlotCodings
+pub mod ScanCodings

@@ -1,11 +1,9 @@
 //! The components of a scan, and the tables that they are coded by (T.81, B.2.3).
-ghost use Rattle.std.specs.Prelude.{◌≡◌, ◌<◌, ◌≤◌, ◌==◌, ℕ, None, Some, Ok, IfOk, IfErr, MatchResult, All, length, map, nat_lt, replicate, slice_index, slice_index_or};
+ghost use Rattle.std.specs.Prelude.{◌≡◌, ◌<◌, ◌≤◌, Ok, IfOk, IfErr, MatchResult, All, length, map};
 ghost use Rattle.std.specs.Option.{option_copied};
 ghost use Rattle.jpeg_bits.specs.Reading.{Names};
-ghost use Rattle.jpeg_bits.specs.BlockView.{pass_in, IsPass};
-ghost use Rattle.jpeg_bits.specs.Codes.{Table};
+ghost use Rattle.jpeg_bits.specs.BlockView.{pass_in};
 ghost use Rattle.jpeg_bits.specs.declared.error.Error.TheVariants.{OutOfMemory};
-ghost use Rattle.jpeg_bits.specs.declared.codes.HuffmanTableClass.{HuffmanTableClass};
 ghost use Rattle.jpeg_bits.specs.declared.codes.HuffmanTableClass.TheVariants.{DC, AC};
 ghost use Rattle.jpeg_segments.specs.FrameView.{frame_in, scan_in};
 ghost use Rattle.jpeg_segments.specs.ScanHeader.{IsScanOf};
@@ -123,8 +121,8 @@ fn needed_table<'a>(
     text: &str,
 ) -> Result<&'a HuffmanTable>
     ensures { MatchResult result
-        (λ t. table_if is_needed none.now (option_copied table) ≡ Ok t.now)
-        (λ e. IsRefusal e × Names e (table_if is_needed none.now (option_copied table))) }
+        (λ t. table_if is_needed none.now (option_copied table.entry) ≡ Ok t.now)
+        (λ e. IsRefusal e × Names e (table_if is_needed none.now (option_copied table.entry))) }
 {
     if is_needed {
         needed(alloc, table, text)
@@ -145,14 +143,21 @@ fn coding_of<'a>(
     requires slot { slot < length (scan_in header.now).components }
     requires legal { IsScanOf (frame_in frame.now) (scan_in header.now) }
     requires spare { IsSpareOf (found_in state.now) (scan_in header.now) spare.now }
-    ensures coding { MatchResult result
-        (λ c. coding_in_slot (found_in state.now) (frame_in frame.now) (scan_in header.now) slot ≡ Ok (coding_in c))
-        (λ e. IsRefusal e × Names e (coding_in_slot (found_in state.now) (frame_in frame.now) (scan_in header.now) slot)) }
+    ensures coding { let found = found_in state.now in
+        let frame = frame_in frame.now in
+        let scan = scan_in header.now in
+        MatchResult result
+        (λ c. coding_in_slot found frame scan slot ≡ Ok (coding_in c))
+        (λ e. IsRefusal e × Names e (coding_in_slot found frame scan slot)) }
     ensures class { IfOk result HasAc }
 {
     let place = header.component_indices[slot];
     let component = frame.components.get(place);
-    let component = needed(alloc, component, "a scan of a component that the frame lacks")?;
+    let component = needed(
+        alloc,
+        component,
+        "a scan of a component that the frame lacks",
+    )?;
     let quantization = table_at(&state.quantization, component.quantization_table_index);
     let quantization = needed(alloc, quantization, "a scan without a quantization table")?;
     let has_dc = header.spectral_selection.start == 0;
@@ -160,7 +165,13 @@ fn coding_of<'a>(
     let dc = needed_table(alloc, has_dc, dc, &spare.no_dc, "a scan without a DC table")?;
     let has_ac = header.spectral_selection.end > 1;
     let ac = table_in_force(&state.ac_tables, &spare.ac, header.ac_table_indices[slot]);
-    let ac = needed_table(alloc, has_ac, ac, &spare.no_ac, "a scan without an AC table")?;
+    let ac = needed_table(
+        alloc,
+        has_ac,
+        ac,
+        &spare.no_ac,
+        "a scan without an AC table",
+    )?;
     Ok(Coded {
         place,
         component,
@@ -181,9 +192,12 @@ pub fn codings_of<'a>(
 ) -> Result<Vec<Coded<'a>>>
     requires legal { IsScanOf (frame_in frame.now) (scan_in header.now) }
     requires spare { IsSpareOf (found_in state.now) (scan_in header.now) spare.now }
-    ensures codings { MatchResult result
-        (λ v. codings_in_force (found_in state.now) (frame_in frame.now) (scan_in header.now) ≡ Ok (map coding_in v.items))
-        (λ e. IsRefusal e × Names e (codings_in_force (found_in state.now) (frame_in frame.now) (scan_in header.now))) }
+    ensures codings { let found = found_in state.now in
+        let frame = frame_in frame.now in
+        let scan = scan_in header.now in
+        MatchResult result
+        (λ v. codings_in_force found frame scan ≡ Ok (map coding_in v.items))
+        (λ e. IsRefusal e × Names e (codings_in_force found frame scan)) }
     ensures classes { IfOk result (λ v. All HasAc v.items) }
     ensures count { IfOk result (λ v. length v.items ≡ length (scan_in header.now).components) }
 {

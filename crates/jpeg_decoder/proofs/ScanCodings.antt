@@ -1,0 +1,95 @@
+-- The codings of a scan, slot after slot.
+use Rattle.std.proofs.Common.{◌≡◌, ◌<◌, ◌≤◌, ◌+◌, ℕ, zero, suc, List, [], ◌∷◌, ◌++◌, Result, Ok, Err, refl, sym, ap, ◌∙◌, length, get_or, map, drop, arith}
+use Rattle.std.proofs.lemmas.List.{map-append, append-nil, append_assoc, drop_all}
+use Rattle.jpeg_bits.specs.Passes.{Pass}
+use Rattle.jpeg_bits.specs.Reading.{Fault, ◌>>=◌}
+use Rattle.jpeg_segments.specs.Frame.{Frame}
+use Rattle.jpeg_segments.specs.HuffmanTables.{Tables}
+use Rattle.jpeg_segments.specs.ScanHeader.{Scan}
+use Rattle.jpeg_decoder.specs.declared.codings.Coded.{Coded}
+use Rattle.jpeg_decoder.specs.Stream.{Found, Coding, pass_of, tables_of, coding_of, codings_from}
+use Rattle.jpeg_decoder.specs.Steps.{coding_in, coding_in_slot, codings_in_force}
+
+-- codings after those in front
+abbrev pub front : List Coding → Result (List Coding) Fault → Result (List Coding) Fault
+front xs (Ok ys) = Ok (xs ++ ys)
+front xs (Err e) = Err e
+
+front-none : (r : Result (List Coding) Fault) → r ≡ front [] r
+front-none (Ok ys) = refl
+front-none (Err e) = refl
+
+front-one : (xs : List Coding) (c : Coding) (r : Result (List Coding) Fault)
+    → front xs (r >>= (λ others. Ok (c ∷ others))) ≡ front (xs ++ c ∷ []) r
+front-one xs c (Ok ys) = ap (λ (l : List Coding). Ok l) (sym (append_assoc xs (c ∷ []) ys))
+front-one xs c (Err e) = refl
+
+-- those of the slots that are left
+abbrev pub codings_left : Found → Frame → Scan → ℕ → Result (List Coding) Fault
+codings_left found frame scan slot =
+    codings_from found frame (pass_of scan) (tables_of found scan) (drop slot scan.components)
+    (drop slot scan.dc_places) (drop slot scan.ac_places)
+
+one-more : (found : Found) (frame : Frame) (p : Pass) (tables : Tables) (cs ds acs : List ℕ) (slot : ℕ)
+    → slot < length cs → length ds ≡ length cs → length acs ≡ length cs
+    → codings_from found frame p tables (drop slot cs) (drop slot ds) (drop slot acs)
+    ≡ (coding_of found frame p tables (get_or cs slot 0) (get_or ds slot 0) (get_or acs slot 0) >>= (λ c.
+    codings_from found frame p tables (drop (slot + 1) cs) (drop (slot + 1) ds) (drop (slot + 1) acs) >>=
+    (λ others. Ok (c ∷ others))))
+unfolding codings_from
+one-more found frame p tables [] ds acs slot h d a = absurd (omega arith)
+one-more found frame p tables (c ∷ cs) [] acs slot h d a = absurd (omega arith)
+one-more found frame p tables (c ∷ cs) (x ∷ ds) [] slot h d a = absurd (omega arith)
+one-more found frame p tables (c ∷ cs) (x ∷ ds) (y ∷ acs) zero h d a = refl
+one-more found frame p tables (c ∷ cs) (x ∷ ds) (y ∷ acs) (suc slot) h d a =
+    let e : suc slot + 1 ≡ suc (slot + 1) = omega arith in
+    rw e (one-more found frame p tables cs ds acs slot (omega arith) (omega arith) (omega arith))
+
+-- before the first slot
+pub codings-none : (found : Found) (frame : Frame) (scan : Scan)
+    → codings_in_force found frame scan ≡ front [] (codings_left found frame scan 0)
+codings-none found frame scan = front-none (codings_left found frame scan 0)
+
+-- a slot more
+pub codings-more : (found : Found) (frame : Frame) (scan : Scan) (slot : ℕ) (xs : List Coded) (c : Coded)
+    → slot < length scan.components → length scan.dc_places ≡ length scan.components
+    → length scan.ac_places ≡ length scan.components
+    → codings_in_force found frame scan ≡ front (map coding_in xs) (codings_left found frame scan slot)
+    → coding_in_slot found frame scan slot ≡ Ok (coding_in c)
+    → codings_in_force found frame scan
+    ≡ front (map coding_in (xs ++ c ∷ [])) (codings_left found frame scan (slot + 1))
+codings-more found frame scan slot xs c h d a w e =
+    w ∙ ap (front (map coding_in xs)) (one-more found frame (pass_of scan) (tables_of found scan) scan.components
+    scan.dc_places scan.ac_places slot h d a ∙ (rw e refl))
+    ∙ front-one (map coding_in xs) (coding_in c) (codings_left found frame scan (slot + 1))
+    ∙ ap (λ (l : List Coding). front l (codings_left found frame scan (slot + 1)))
+    (sym (map-append coding_in xs (c ∷ [])))
+
+-- a slot that is refused
+pub codings-fail : (found : Found) (frame : Frame) (scan : Scan) (slot : ℕ) (xs : List Coded) (f : Fault)
+    → slot < length scan.components → length scan.dc_places ≡ length scan.components
+    → length scan.ac_places ≡ length scan.components
+    → codings_in_force found frame scan ≡ front (map coding_in xs) (codings_left found frame scan slot)
+    → coding_in_slot found frame scan slot ≡ Err f
+    → codings_in_force found frame scan ≡ Err f
+codings-fail found frame scan slot xs f h d a w e =
+    let one : codings_left found frame scan slot ≡ Err f =
+    one-more found frame (pass_of scan) (tables_of found scan) scan.components scan.dc_places scan.ac_places slot h d
+    a ∙ (rw e refl) in
+    w ∙ ap (front (map coding_in xs)) one
+
+none-left : (found : Found) (frame : Frame) (p : Pass) (tables : Tables) (cs ds acs : List ℕ) → cs ≡ []
+    → codings_from found frame p tables cs ds acs ≡ Ok []
+unfolding codings_from
+none-left found frame p tables cs ds acs e = rw e refl
+
+-- all slots
+pub codings-all : (found : Found) (frame : Frame) (scan : Scan) (slot : ℕ) (xs : List Coded)
+    → length scan.components ≤ slot
+    → codings_in_force found frame scan ≡ front (map coding_in xs) (codings_left found frame scan slot)
+    → codings_in_force found frame scan ≡ Ok (map coding_in xs)
+codings-all found frame scan slot xs h w =
+    w ∙ ap (front (map coding_in xs)) (none-left found frame (pass_of scan) (tables_of found scan)
+    (drop slot scan.components) (drop slot scan.dc_places) (drop slot scan.ac_places)
+    (drop_all slot scan.components h))
+    ∙ ap (λ (l : List Coding). Ok l) (append-nil (map coding_in xs))

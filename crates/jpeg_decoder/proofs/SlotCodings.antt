@@ -1,0 +1,305 @@
+-- The coding of the component in a slot of a scan, by the tables in force.
+use Rattle.std.proofs.Common.{◌≡◌, ◌<◌, ◌-◌, ℕ, zero, suc, List, [], ◌∷◌, Option, Some, None, Result, Ok, Err, Bool, true, false, refl, sym, ap, ◌∙◌, length, get_or, map, drop, replicate, arith, cond}
+use Rattle.std.specs.Prelude.{◌==◌, nat_lt}
+use Rattle.std.proofs.lemmas.Bool.Decides.{nat_tests}
+use Rattle.jpeg_bits.specs.Passes.{Pass}
+use Rattle.jpeg_bits.specs.Reading.{Fault, Malformed, Names, NamesFormat, ◌>>=◌}
+use Rattle.jpeg_bits.specs.Codes.{Table, is_ac}
+use Rattle.jpeg_bits.specs.DefaultTables.{luminance_dc, chrominance_dc, luminance_ac, chrominance_ac, filled, names, with_defaults}
+use Rattle.jpeg_bits.specs.declared.codes.HuffmanTableClass.{HuffmanTableClass}
+use Rattle.jpeg_bits.specs.declared.codes.HuffmanTableClass.TheVariants as classes
+use Rattle.std.proofs.lemmas.Grind.{get_or_default_zero}
+use Rattle.jpeg_bits.specs.declared.error.Error.{Error}
+use Rattle.jpeg_bits.specs.declared.error.Error.TheVariants as errors
+use Rattle.jpeg_bits.specs.declared.scan.ScanInfo.{ScanInfo}
+use Rattle.jpeg_segments.specs.declared.parser.Component as declared
+use Rattle.jpeg_segments.specs.declared.parser.FrameInfo.{FrameInfo}
+use Rattle.jpeg_segments.specs.Frame.{Frame, Component}
+use Rattle.jpeg_segments.specs.FrameView.{component_in, frame_in, scan_in}
+use Rattle.jpeg_segments.specs.ScanHeader.{Scan}
+use Rattle.jpeg_segments.specs.HuffmanTables.{Tables, all_ac, is_ac_or_none}
+use Rattle.jpeg_decoder.specs.declared.codings.Spare.{Spare}
+use Rattle.jpeg_decoder.specs.declared.state.State.{State}
+use Rattle.jpeg_decoder.specs.Scans.{no_table}
+use Rattle.jpeg_decoder.specs.Stream.{Found, first_of, needed, needed_if, pass_of, tables_of, coding_of}
+use Rattle.jpeg_decoder.specs.Seen.{found_in}
+use Rattle.jpeg_decoder.specs.Steps.{IsRefusal, IsSpareOf, coding_in_slot, default_ac, in_force, or_spare, table_if}
+use Rattle.jpeg_decoder.proofs.Updates.{both}
+
+-- ---- the tables in force
+
+or-none : (o : Option Table) → or_spare o None ≡ o
+or-none None = refl
+or-none (Some t) = refl
+
+-- no table, at a type that is written
+abbrev none_of : (A : Type 0) → Option A
+none_of A = None
+
+none-at : (n place : ℕ) → get_or (replicate n (none_of Table)) place (none_of Table) ≡ none_of Table
+none-at zero place = refl
+none-at (suc n) zero = refl
+none-at (suc n) (suc place) = none-at n place
+
+filled-or : (t : Table) (b : Bool) (o : Option Table) → filled t b o ≡ or_spare o (filled t b None)
+filled-or t b None = refl
+filled-or t b (Some o) = refl
+
+forced-defaults : (l c : Table) (places : List ℕ) (n : ℕ) (tables : List (Option Table)) (place : ℕ)
+    → length tables ≡ n
+    → get_or (with_defaults l c places tables) place None
+    ≡ or_spare (get_or tables place None) (get_or (with_defaults l c places (replicate n None)) place None)
+forced-defaults l c places zero [] place e = refl
+forced-defaults l c places (suc n) [] place e = absurd (omega arith)
+forced-defaults l c places zero (a ∷ more) place e = absurd (omega arith)
+forced-defaults l c places (suc zero) (a ∷ []) zero e = filled-or l (names places 0) a
+forced-defaults l c places (suc zero) (a ∷ []) (suc place) e = refl
+forced-defaults l c places (suc (suc n)) (a ∷ []) place e = absurd (omega arith)
+forced-defaults l c places (suc zero) (a ∷ b ∷ more) place e = absurd (omega arith)
+forced-defaults l c places (suc (suc n)) (a ∷ b ∷ more) zero e = filled-or l (names places 0) a
+forced-defaults l c places (suc (suc n)) (a ∷ b ∷ more) (suc zero) e = filled-or c (names places 1) b
+forced-defaults l c places (suc (suc n)) (a ∷ b ∷ more) (suc (suc place)) e =
+    sym (ap (or_spare (get_or more place None)) (none-at n place) ∙ or-none (get_or more place None))
+
+forced-by : (b : Bool) (l c : Table) (places : List ℕ) (tables : List (Option Table)) (place : ℕ) → length tables ≡ 4
+    → get_or (cond b (with_defaults l c places tables) tables) place None
+    ≡ or_spare (get_or tables place None) (get_or
+    (cond b (with_defaults l c places (replicate 4 None)) (replicate 4 None)) place None)
+forced-by true l c places tables place e = forced-defaults l c places 4 tables place e
+forced-by false l c places tables place e = sym (ap (or_spare (get_or tables place None)) (none-at 4 place) ∙ or-none
+    (get_or tables place None))
+
+dc-by : (b : Bool) (found : Found) (scan : Scan) → found.metadata.avi1 ≡ b
+    → (tables_of found scan).dc ≡ cond b (with_defaults luminance_dc chrominance_dc scan.dc_places found.huffman.dc)
+    found.huffman.dc
+unfolding tables_of
+dc-by true found scan e = rw e refl
+dc-by false found scan e = rw e refl
+
+ac-by : (b : Bool) (found : Found) (scan : Scan) → found.metadata.avi1 ≡ b
+    → (tables_of found scan).ac ≡ cond b (with_defaults luminance_ac chrominance_ac scan.ac_places found.huffman.ac)
+    found.huffman.ac
+unfolding tables_of
+ac-by true found scan e = rw e refl
+ac-by false found scan e = rw e refl
+
+-- The tables in force are those that were read, or else the spare ones.
+pub forced-dc : (found : Found) (scan : Scan) (spare : Spare) (place : ℕ) → IsSpareOf found scan spare
+    → length found.huffman.dc ≡ 4
+    → get_or (tables_of found scan).dc place None ≡ in_force found.huffman.dc spare.dc place
+forced-dc found scan spare place s e =
+    ap (λ (l : List (Option Table)). get_or l place None) (dc-by found.metadata.avi1 found scan refl)
+    ∙ forced-by found.metadata.avi1 luminance_dc chrominance_dc scan.dc_places found.huffman.dc place e
+    ∙ ap (λ (l : List (Option Table)). in_force found.huffman.dc l place) (sym s.dc)
+
+pub forced-ac : (found : Found) (scan : Scan) (spare : Spare) (place : ℕ) → IsSpareOf found scan spare
+    → length found.huffman.ac ≡ 4
+    → get_or (tables_of found scan).ac place None ≡ in_force found.huffman.ac spare.ac place
+forced-ac found scan spare place s e =
+    ap (λ (l : List (Option Table)). get_or l place None) (ac-by found.metadata.avi1 found scan refl)
+    ∙ forced-by found.metadata.avi1 luminance_ac chrominance_ac scan.ac_places found.huffman.ac place e
+    ∙ ap (λ (l : List (Option Table)). in_force found.huffman.ac l place) (sym s.ac)
+
+-- ---- the class of an AC table in force
+
+abbrev IsAc : Option Table → Type 0
+IsAc None = Unit {0}
+IsAc (Some t) = t.class ≡ classes.AC
+
+class-ac : (class : HuffmanTableClass) → is_ac class ≡ true → class ≡ classes.AC
+class-ac classes.DC e = absurd (let n : ⊥ = cc in n)
+class-ac classes.AC e = refl
+
+read-ac : (tables : List (Option Table)) (place : ℕ) → all_ac tables ≡ true → IsAc (get_or tables place None)
+read-ac [] place e = tt
+read-ac (None ∷ more) zero e = tt
+read-ac (Some t ∷ more) zero e = class-ac t.class (both (is_ac t.class) (all_ac more) e).0
+read-ac (o ∷ more) (suc place) e = read-ac more place (both (is_ac_or_none o) (all_ac more) e).1
+
+filled-ac : (t : Table) (b : Bool) → t.class ≡ classes.AC → IsAc (filled t b None)
+filled-ac t true e = e
+filled-ac t false e = tt
+
+spare-ac : (b : Bool) (places : List ℕ) (place : ℕ) → IsAc (get_or (default_ac b places) place None)
+spare-ac false places place = rw (none-at 4 place) tt
+spare-ac true places zero = filled-ac luminance_ac (names places 0) refl
+spare-ac true places (suc zero) = filled-ac chrominance_ac (names places 1) refl
+spare-ac true places (suc (suc place)) = rw (none-at 2 place) tt
+
+or-ac : (a b : Option Table) → IsAc a → IsAc b → IsAc (or_spare a b)
+or-ac None b p q = q
+or-ac (Some t) b p q = p
+
+if-ac : (needs : Bool) (o : Option Table) (t : Table) → IsAc o → table_if needs (no_table classes.AC) o ≡ Ok t
+    → t.class ≡ classes.AC
+if-ac true None t h e = absurd (let n : ⊥ = cc in n)
+if-ac true (Some s) t h e = let same : s ≡ t = cc in ap (λ (x : Table). x.class) (sym same) ∙ h
+if-ac false o t h e = let same : no_table classes.AC ≡ t = cc in ap (λ (x : Table). x.class) (sym same)
+
+pub class-in-force : (found : Found) (scan : Scan) (spare : Spare) (needs : Bool) (place : ℕ) (t : Table)
+    → IsSpareOf found scan spare → all_ac found.huffman.ac ≡ true
+    → table_if needs spare.no_ac (in_force found.huffman.ac spare.ac place) ≡ Ok t → t.class ≡ classes.AC
+class-in-force found scan spare needs place t s a e =
+    let none : table_if needs (no_table classes.AC) (in_force found.huffman.ac
+    (default_ac found.metadata.avi1 scan.ac_places) place) ≡ Ok t = rw (s.ac, s.no_ac) at e in
+    if-ac needs (in_force found.huffman.ac (default_ac found.metadata.avi1 scan.ac_places) place) t
+    (or-ac (get_or found.huffman.ac place None) (get_or (default_ac found.metadata.avi1 scan.ac_places) place None)
+    (read-ac found.huffman.ac place a) (spare-ac found.metadata.avi1 scan.ac_places place))
+    none
+
+-- ---- what a slot gives
+
+needed-either : (needs : Bool) (class : HuffmanTableClass) (o : Option Table)
+    → needed_if needs class o ≡ table_if needs (no_table class) o
+needed-either true class o = refl
+needed-either false class o = refl
+
+some-behind : (n : ℕ) → nat_lt 0 (n - 1) ≡ nat_lt 1 n
+some-behind n = grind (arith, nat_tests)
+
+-- the table that is needed of the component in a slot
+abbrev dc_of : Found → Scan → Spare → ℕ → Result Table Fault
+dc_of found scan spare place = table_if (scan.first == 0) spare.no_dc (in_force found.huffman.dc spare.dc place)
+
+abbrev ac_of : Found → Scan → Spare → ℕ → Result Table Fault
+ac_of found scan spare place = table_if (nat_lt 1 scan.behind) spare.no_ac (in_force found.huffman.ac spare.ac place)
+
+dc-needed : (found : Found) (scan : Scan) (spare : Spare) (place : ℕ) → IsSpareOf found scan spare
+    → length found.huffman.dc ≡ 4
+    → needed_if ((pass_of scan).ss == 0) classes.DC (get_or (tables_of found scan).dc place None)
+    ≡ dc_of found scan spare place
+unfolding pass_of
+dc-needed found scan spare place s e =
+    ap (needed_if (scan.first == 0) classes.DC) (forced-dc found scan spare place s e)
+    ∙ needed-either (scan.first == 0) classes.DC (in_force found.huffman.dc spare.dc place)
+    ∙ ap (λ (t : Table). table_if (scan.first == 0) t (in_force found.huffman.dc spare.dc place)) (sym s.no_dc)
+
+ac-needed : (found : Found) (scan : Scan) (spare : Spare) (place : ℕ) → IsSpareOf found scan spare
+    → length found.huffman.ac ≡ 4
+    → needed_if (nat_lt 0 (pass_of scan).se) classes.AC (get_or (tables_of found scan).ac place None)
+    ≡ ac_of found scan spare place
+unfolding pass_of
+ac-needed found scan spare place s e =
+    ap (needed_if (nat_lt 0 (scan.behind - 1)) classes.AC) (forced-ac found scan spare place s e)
+    ∙ needed-either (nat_lt 0 (scan.behind - 1)) classes.AC (in_force found.huffman.ac spare.ac place)
+    ∙ ap (λ (b : Bool). table_if b (no_table classes.AC) (in_force found.huffman.ac spare.ac place))
+    (some-behind scan.behind)
+    ∙ ap (λ (t : Table). table_if (nat_lt 1 scan.behind) t (in_force found.huffman.ac spare.ac place)) (sym s.no_ac)
+
+-- what is there of the component in a slot, by the places of the header
+pub record HasComponent (found : Found) (frame : Frame) (scan : Scan) (spare : Spare) (slot index : ℕ)
+    (c : Component) : Type 0 where
+  pub stands_in : IsSpareOf found scan spare
+  pub place : index ≡ get_or scan.components slot 0
+  pub component : first_of (drop index frame.components) ≡ Some c
+
+at-quantization : {found : Found} {frame : Frame} {scan : Scan} {spare : Spare} {slot place : ℕ} {c : Component}
+    (p : Pass) (tables : Tables) (d a : ℕ)
+    → HasComponent found frame scan spare slot place c
+    → coding_of found frame p tables (get_or scan.components slot 0) d a
+    ≡ (needed (get_or found.quantization c.factors.quantization None) >>= (λ q.
+    needed_if (p.ss == 0) classes.DC (get_or tables.dc d None) >>= (λ dc.
+    needed_if (nat_lt 0 p.se) classes.AC (get_or tables.ac a None) >>= (λ ac.
+    Ok (record { place = get_or scan.components slot 0; component = c; quantization = q; dc = dc; ac = ac })))))
+unfolding coding_of
+at-quantization p tables d a h = let e = h.component in rw (← h.place, e) refl
+
+-- A quantization table that is unset.
+pub fails-quantization : (found : Found) (frame : Frame) (scan : Scan) (spare : Spare) (slot place : ℕ)
+    (c : Component) → HasComponent found frame scan spare slot place c
+    → get_or found.quantization c.factors.quantization None ≡ None
+    → coding_in_slot found frame scan slot ≡ Err Malformed
+fails-quantization found frame scan spare slot place c h q =
+    at-quantization (pass_of scan) (tables_of found scan) (get_or scan.dc_places slot 0)
+    (get_or scan.ac_places slot 0) h ∙ (rw q refl)
+
+-- A DC table that is needed and unset.
+pub fails-dc : (found : Found) (frame : Frame) (scan : Scan) (spare : Spare) (slot place : ℕ) (c : Component)
+    → HasComponent found frame scan spare slot place c
+    → (q : List ℕ) → get_or found.quantization c.factors.quantization None ≡ Some q
+    → length found.huffman.dc ≡ 4 → (f : Fault) → dc_of found scan spare (get_or scan.dc_places slot 0) ≡ Err f
+    → coding_in_slot found frame scan slot ≡ Err f
+fails-dc found frame scan spare slot place c h q e m f d =
+    let dc = dc-needed found scan spare (get_or scan.dc_places slot 0) h.stands_in m ∙ d in
+    at-quantization (pass_of scan) (tables_of found scan) (get_or scan.dc_places slot 0)
+    (get_or scan.ac_places slot 0) h ∙ (rw (e, dc) refl)
+
+-- An AC table that is needed and unset.
+pub fails-ac : (found : Found) (frame : Frame) (scan : Scan) (spare : Spare) (slot place : ℕ) (c : Component)
+    → HasComponent found frame scan spare slot place c
+    → (q : List ℕ) → get_or found.quantization c.factors.quantization None ≡ Some q
+    → length found.huffman.dc ≡ 4 → length found.huffman.ac ≡ 4 → (dc : Table)
+    → dc_of found scan spare (get_or scan.dc_places slot 0) ≡ Ok dc
+    → (f : Fault) → ac_of found scan spare (get_or scan.ac_places slot 0) ≡ Err f
+    → coding_in_slot found frame scan slot ≡ Err f
+fails-ac found frame scan spare slot place c h q e m n dc d f a =
+    let one = dc-needed found scan spare (get_or scan.dc_places slot 0) h.stands_in m ∙ d in
+    let two = ac-needed found scan spare (get_or scan.ac_places slot 0) h.stands_in n ∙ a in
+    at-quantization (pass_of scan) (tables_of found scan) (get_or scan.dc_places slot 0)
+    (get_or scan.ac_places slot 0) h ∙ (rw (e, one, two) refl)
+
+-- All that is needed is there.
+pub gives-coding : (found : Found) (frame : Frame) (scan : Scan) (spare : Spare) (slot place : ℕ) (c : Component)
+    → HasComponent found frame scan spare slot place c
+    → (q : List ℕ) → get_or found.quantization c.factors.quantization None ≡ Some q
+    → length found.huffman.dc ≡ 4 → length found.huffman.ac ≡ 4 → (dc ac : Table)
+    → dc_of found scan spare (get_or scan.dc_places slot 0) ≡ Ok dc
+    → ac_of found scan spare (get_or scan.ac_places slot 0) ≡ Ok ac
+    → coding_in_slot found frame scan slot
+    ≡ Ok (record { place = place; component = c; quantization = q; dc = dc; ac = ac })
+gives-coding found frame scan spare slot place c h q e m n dc ac d a =
+    let one = dc-needed found scan spare (get_or scan.dc_places slot 0) h.stands_in m ∙ d in
+    let two = ac-needed found scan spare (get_or scan.ac_places slot 0) h.stands_in n ∙ a in
+    at-quantization (pass_of scan) (tables_of found scan) (get_or scan.dc_places slot 0)
+    (get_or scan.ac_places slot 0) h ∙ (rw (e, one, two, ← h.place) refl)
+
+-- the component at a place
+pub component-at : {A : Type 0} (f : A → Component) (xs : List A) (i : ℕ) (d : A) → i < length xs
+    → first_of (drop i (map f xs)) ≡ Some (f (get_or xs i d))
+component-at f [] i d h = absurd (omega arith)
+component-at f (x ∷ xs) zero d h = refl
+component-at f (x ∷ xs) (suc i) d h = component-at f xs i d (omega arith)
+
+-- what the code reads there
+pub is-there : (state : State) (frame : FrameInfo) (header : ScanInfo) (spare : Spare) (slot place : ℕ)
+    (c : declared.Component)
+    → IsSpareOf (found_in state) (scan_in header) spare → slot < length header.component_indices.items
+    → place ≡ get_or header.component_indices.items slot place → place < length frame.components.items
+    → c ≡ get_or frame.components.items place c
+    → HasComponent (found_in state) (frame_in frame) (scan_in header) spare slot place (component_in c)
+is-there state frame header spare slot place c s h p l e = record {
+  stands_in = s;
+  place = p ∙ get_or_default_zero header.component_indices.items slot place h;
+  component = component-at component_in frame.components.items place c l
+      ∙ ap (λ (x : declared.Component). Some (component_in x)) (sym e);
+}
+
+-- the table that is needed, of the one that the code looks up
+pub is-dc : (state : State) (header : ScanInfo) (spare : Spare) (slot place : ℕ) (o : Option Table)
+    (r : Result Table Fault)
+    → slot < length header.dc_table_indices.items → place ≡ get_or header.dc_table_indices.items slot place
+    → o ≡ in_force state.dc_tables spare.dc place
+    → table_if (header.spectral_selection.start == 0) spare.no_dc o ≡ r
+    → dc_of (found_in state) (scan_in header) spare (get_or header.dc_table_indices.items slot 0) ≡ r
+is-dc state header spare slot place o r h p e t =
+    let at = p ∙ get_or_default_zero header.dc_table_indices.items slot place h in
+    rw (← at, ← e) t
+
+pub is-ac : (state : State) (header : ScanInfo) (spare : Spare) (slot place : ℕ) (o : Option Table)
+    (r : Result Table Fault)
+    → slot < length header.ac_table_indices.items → place ≡ get_or header.ac_table_indices.items slot place
+    → o ≡ in_force state.ac_tables spare.ac place
+    → table_if (nat_lt 1 header.spectral_selection.end) spare.no_ac o ≡ r
+    → ac_of (found_in state) (scan_in header) spare (get_or header.ac_table_indices.items slot 0) ≡ r
+is-ac state header spare slot place o r h p e t =
+    let at = p ∙ get_or_default_zero header.ac_table_indices.items slot place h in
+    rw (← at, ← e) t
+
+-- a broken rule is a refusal
+pub format-refuses : {Y : Type 0} (e : Error) (o : Result Y Fault) → NamesFormat e → o ≡ Err Malformed
+    → IsRefusal e × Names e o
+format-refuses (errors.Format text) o n h = (tt, h)
+format-refuses (errors.Unsupported feature) o n h = absurd n
+format-refuses (errors.Io x) o n h = absurd n
+format-refuses (errors.Internal text) o n h = absurd n
+format-refuses errors.OutOfMemory o n h = (tt, tt)

@@ -1,0 +1,46 @@
+use Rattle.std.proofs.Common.{◌≡◌, ◌++◌, ◌∷◌, [], Err, arith, rules}
+use Rattle.std.proofs.lemmas.Result.{err_from_is_err_and}
+use Rattle.std.proofs.lemmas.List.Elements.{All-push}
+use Rattle.jpeg_bits.specs.Reading.{Fault}
+use Rattle.jpeg_bits.proofs.Loops.{Names-through}
+use Rattle.jpeg_segments.specs.FrameView.{frame_in, scan_in}
+use Rattle.jpeg_decoder.specs.Scanning.{HasAc}
+use Rattle.jpeg_decoder.specs.Seen.{found_in}
+use Rattle.jpeg_decoder.specs.Steps.{coding_in_slot}
+use Rattle.jpeg_decoder.proofs.ScanCodings.{codings-more, codings-fail, codings-all}
+use Rattle.jpeg_decoder.proofs.codings.codings_of.Goals as goal
+
+pub loop-slot-preserved : goal.loop-slot-preserved
+loop-slot-preserved c =
+    let found = found_in c.args.state.now in
+    let scan = scan_in c.args.header.now in
+    let coded = c.in_ok-coding_of.field-0 in
+    let old = c.loop-slot.codings.items in
+    let more : c.push.new.self.items ≡ old ++ coded ∷ [] = search rules in
+    record {
+      whole = rw more (codings-more found (frame_in c.args.frame.now) scan c.loop-slot.slot old coded (omega arith)
+          c.requires.legal.dc_length c.requires.legal.ac_length
+          c.loop-slot.invariant.whole c.in_ok-coding_of.ensures.coding);
+      classes = rw more (All-push HasAc old coded c.loop-slot.invariant.classes c.in_ok-coding_of.ensures.class);
+      count = search rules;
+    }
+
+pub returns-in_err-coding_of-clause-codings : goal.returns-in_err-coding_of-clause-codings
+returns-in_err-coding_of-clause-codings c =
+    let found = found_in c.args.state.now in
+    let frame = frame_in c.args.frame.now in
+    let scan = scan_in c.args.header.now in
+    let through = λ (f : Fault) (e : coding_in_slot found frame scan c.loop-slot.slot ≡ Err f).
+    codings-fail found frame scan c.loop-slot.slot c.loop-slot.codings.items f (omega arith)
+    c.requires.legal.dc_length c.requires.legal.ac_length c.loop-slot.invariant.whole e in
+    let p = err_from_is_err_and c.from_residual-in_err-coding_of.result c.from_residual-in_err-coding_of.ensures.1 in
+    rw (p.1, p.2) (
+      c.in_err-coding_of.ensures.coding.0,
+      Names-through c.in_err-coding_of.field-0.0 _ _ through
+          c.in_err-coding_of.ensures.coding.1,
+    )
+
+pub returns-clause-codings : goal.returns-clause-codings
+returns-clause-codings c =
+    codings-all (found_in c.args.state.now) (frame_in c.args.frame.now) (scan_in c.args.header.now) c.loop-slot.slot
+    c.loop-slot.codings.items (omega arith) c.loop-slot.invariant.whole
