@@ -1,3 +1,5 @@
+pub mod Ceilings
+pub mod ScaleLemmas
 pub mod QuantizationLemmas
 pub mod HuffmanLemmas
 pub mod ApplicationLemmas

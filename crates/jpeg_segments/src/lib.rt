@@ -8,5 +8,6 @@ pub mod parser;
 mod payload;
 mod quantization;
 mod scan_header;
+pub mod sizes;
 #[cfg(test)]
 mod tests;

@@ -1,7 +1,7 @@
 use Rattle.std.proofs.Common.{◌≡◌, map, take}
 use Rattle.jpeg_segments.specs.Frame.{component_of}
 use Rattle.jpeg_segments.specs.FrameView.{component_in, factors_of}
-use Rattle.jpeg_segments.proofs.frame_header.components_of.Given as goal
+use Rattle.jpeg_segments.proofs.sizes.components_of.Given as goal
 
 abbrev pub invariant-loop-component : goal.invariant-loop-component
 invariant-loop-component l =

@@ -4,7 +4,7 @@ use Rattle.jpeg_segments.specs.Frame.{Factors, greatest}
 use Rattle.jpeg_segments.specs.FrameView.{factors_of}
 use Rattle.jpeg_segments.specs.declared.frame_header.Factors.{Factors as Read}
 use Rattle.jpeg_segments.proofs.FrameLemmas.{greatest-next, greatest-some, greatest-most, greatest-covers}
-use Rattle.jpeg_segments.proofs.frame_header.greatest_factors.Goals as goal
+use Rattle.jpeg_segments.proofs.sizes.greatest_factors.Goals as goal
 
 abbrev across : Factors → ℕ
 across c = c.horizontal
@@ -19,8 +19,8 @@ pub loop-component-preserved : goal.loop-component-preserved
 loop-component-preserved c =
     let xs = c.args.components.now in
     let i = c.loop-component.component-index in
-    let h = greatest-next across xs i none c.loop-component-test.true in
-    let v = greatest-next down xs i none c.loop-component-test.true in
+    let h = greatest-next factors_of across xs i none c.loop-component-test.true in
+    let v = greatest-next factors_of down xs i none c.loop-component-test.true in
     record {
       horizontal = rw (h, sym c.loop-component.invariant.horizontal) c.greater-horizontal.ensures;
       vertical = rw (v, sym c.loop-component.invariant.vertical) c.greater-vertical.ensures;
@@ -42,10 +42,10 @@ pub returns-clause-covers_horizontal : goal.returns-clause-covers_horizontal
 returns-clause-covers_horizontal c =
     let h : c.loop-component.horizontal ≡ greatest across (map factors_of c.args.components.now) = c.loop-component.invariant.horizontal ∙ ap (λ (xs : List Read). greatest across (map factors_of xs)) (take_all c.loop-component.component-index c.args.components.now c.loop-component-test.false) in
     let e : greatest across (map factors_of c.args.components.now) ≤ c.loop-component.horizontal = omega (arith, h) in
-    greatest-covers across c.loop-component.horizontal c.args.components.now e
+    greatest-covers factors_of across c.loop-component.horizontal c.args.components.now e
 
 pub returns-clause-covers_vertical : goal.returns-clause-covers_vertical
 returns-clause-covers_vertical c =
     let h : c.loop-component.vertical ≡ greatest down (map factors_of c.args.components.now) = c.loop-component.invariant.vertical ∙ ap (λ (xs : List Read). greatest down (map factors_of xs)) (take_all c.loop-component.component-index c.args.components.now c.loop-component-test.false) in
     let e : greatest down (map factors_of c.args.components.now) ≤ c.loop-component.vertical = omega (arith, h) in
-    greatest-covers down c.loop-component.vertical c.args.components.now e
+    greatest-covers factors_of down c.loop-component.vertical c.args.components.now e
