@@ -152,29 +152,44 @@ sos_at frame bytes = do
 
 -- ---- what each scan that is read has
 
--- a component of the frame, and two places for tables
+-- A component of the frame, the places of two tables, and the blocks that the component has in an
+-- MCU.
 pub record IsSelectorOf (frame : Frame) (s : Selector) : Type 0 where
   pub component : s.component < length frame.components
   pub dc : s.dc ≤ 3
   pub ac : s.ac ≤ 3
+  pub blocks : s.blocks ≡ blocks_by frame.components s.component
 
--- the coefficients from the first to the one behind the last, and the levels, that a process may code
+-- The places rise: the first is at least the one named, and each later one is greater than the one
+-- before it.
+unfoldable pub IsRising : ℕ → List ℕ → Type 0
+IsRising least [] = Unit {0}
+IsRising least (place ∷ more) = (least ≤ place) × IsRising (place + 1) more
+
+-- The coefficients, from the first to the one after the last, and the levels of successive
+-- approximation that a process may code.
 abbrev pub IsCoded : CodingProcess → ℕ → ℕ → ℕ → ℕ → Type 0
 IsCoded DctSequential first behind high low = (first ≡ 0) × (behind ≡ 64) × (high ≡ 0) × (low ≡ 0)
-IsCoded DctProgressive first behind high low = (first < behind) × (behind ≤ 64) × (high ≤ 13) × (low ≤ 13)
+IsCoded DctProgressive first behind high low =
+    (first < behind) × (behind ≤ 64) × (high ≤ 13) × (low ≤ 13)
 IsCoded Lossless first behind high low = (first ≤ 7) × (behind ≡ 1) × (high ≡ 0)
 
--- One to four components of the frame, each with the places of its two tables, and coefficients and levels that the process may code: those
--- of the header pass its rules, and the level is below the precision.
+-- One to four components of the frame (T.81, B.2.3), which stand in the frame's order, each once,
+-- and of which two or more have at most 10 blocks in an MCU; for each the places of its two tables;
+-- and coefficients and levels that the process may code: those of the header pass its rules, and
+-- the level Al, which is the point transform too, is below the precision.
 pub record IsScanOf (frame : Frame) (s : Scan) : Type 0 where
   pub some : 1 ≤ length s.components
   pub most : length s.components ≤ 4
   pub components : All (λ place. place < length frame.components) s.components
+  pub rising : IsRising 0 s.components
+  pub few_blocks : 2 ≤ length s.components → sum_by (blocks_by frame.components) s.components ≤ 10
   pub dc_length : length s.dc_places ≡ length s.components
   pub dc_places : All (λ place. place ≤ 3) s.dc_places
   pub ac_length : length s.ac_places ≡ length s.components
   pub ac_places : All (λ place. place ≤ 3) s.ac_places
   pub coded : IsCoded frame.process s.first s.behind s.high s.low
-  pub legal : is_band frame.process (length s.components) s.first (s.behind - 1) s.high s.low ≡ true
+  pub legal :
+      is_band frame.process (length s.components) s.first (s.behind - 1) s.high s.low ≡ true
   pub below : s.low < frame.precision
   pub same_point : s.point_transform ≡ s.low
