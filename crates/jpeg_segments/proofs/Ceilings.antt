@@ -29,7 +29,8 @@ ceiling-eights n d some =
     let r = ceiling (n * 8) (d * 8) in
     let low : n ≤ d * q = ceiling-low n d some in
     let low-eights : n * 8 ≤ (d * 8) * r = ceiling-low (n * 8) (d * 8) (omega arith) in
-    let e : (k : ℕ) → (d * 8) * k ≡ (d * k) * 8 = λ k. mul_assoc d 8 k ∙ (ap (λ n. d * n) (mul_comm 8 k) ∙ sym (mul_assoc d k 8)) in
+    let e : (k : ℕ) → (d * 8) * k ≡ (d * k) * 8 =
+    λ k. mul_assoc d 8 k ∙ (ap (λ n. d * n) (mul_comm 8 k) ∙ sym (mul_assoc d k 8)) in
     let eq = e q in
     let er = e r in
     let a : r ≤ q = ceiling-le (n * 8) (d * 8) q (omega arith) (omega (arith, low, eq)) in

@@ -6,3 +6,9 @@ pub mod ApplicationLemmas
 pub mod FrameLemmas
 pub mod ScanLemmas
 pub mod Rows
+pub mod Fields
+pub mod TableSegments
+pub mod OtherSegments
+pub mod HeaderSegments
+pub mod HeaderRules
+pub mod OnlyWritten

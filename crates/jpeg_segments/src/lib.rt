@@ -4,6 +4,7 @@
 mod application;
 mod frame_header;
 mod huffman_tables;
+pub mod laws;
 pub mod parser;
 mod payload;
 mod quantization;

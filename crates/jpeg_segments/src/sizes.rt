@@ -195,8 +195,10 @@ fn scale_components(
     requires some_vertical { 1 ≤ most_vertical }
     requires most_horizontal { most_horizontal ≤ 4 }
     requires most_vertical { most_vertical ≤ 4 }
-    requires covers_horizontal { All (λ c. c.horizontal_sampling_factor ≤ most_horizontal) components.old }
-    requires covers_vertical { All (λ c. c.vertical_sampling_factor ≤ most_vertical) components.old }
+    requires covers_horizontal { All (λ c. c.horizontal_sampling_factor ≤ most_horizontal)
+        components.old }
+    requires covers_vertical { All (λ c. c.vertical_sampling_factor ≤ most_vertical)
+        components.old }
     requires scale { scale ≤ 8 }
     ensures { map component_in components.new ≡
         map (component_at scale size.width size.height most_horizontal most_vertical)

@@ -5,4 +5,6 @@ use Rattle.jpeg_segments.proofs.sizes.components_of.Given as goal
 
 abbrev pub invariant-loop-component : goal.invariant-loop-component
 invariant-loop-component l =
-    map component_in l.made.items ≡ map (component_of l.size.width l.size.height l.most_horizontal l.most_vertical) (map factors_of (take l.component-index l.components))
+    map component_in l.made.items
+    ≡ map (component_of l.size.width l.size.height l.most_horizontal l.most_vertical)
+    (map factors_of (take l.component-index l.components))

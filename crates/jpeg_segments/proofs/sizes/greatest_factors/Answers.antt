@@ -27,25 +27,51 @@ loop-component-preserved c =
     }
 
 pub returns-clause-some_horizontal : goal.returns-clause-some_horizontal
-returns-clause-some_horizontal c = let h : c.loop-component.horizontal ≡ greatest across (map factors_of c.args.components.now) = c.loop-component.invariant.horizontal ∙ ap (λ (xs : List Read). greatest across (map factors_of xs)) (take_all c.loop-component.component-index c.args.components.now c.loop-component-test.false) in rw h (greatest-some across (map factors_of c.args.components.now))
+returns-clause-some_horizontal c =
+    let h : c.loop-component.horizontal ≡ greatest across (map factors_of c.args.components.now) =
+    c.loop-component.invariant.horizontal
+    ∙ ap (λ (xs : List Read). greatest across (map factors_of xs))
+    (take_all c.loop-component.component-index c.args.components.now c.loop-component-test.false) in rw h
+    (greatest-some across (map factors_of c.args.components.now))
 
 pub returns-clause-some_vertical : goal.returns-clause-some_vertical
-returns-clause-some_vertical c = let h : c.loop-component.vertical ≡ greatest down (map factors_of c.args.components.now) = c.loop-component.invariant.vertical ∙ ap (λ (xs : List Read). greatest down (map factors_of xs)) (take_all c.loop-component.component-index c.args.components.now c.loop-component-test.false) in rw h (greatest-some down (map factors_of c.args.components.now))
+returns-clause-some_vertical c =
+    let h : c.loop-component.vertical ≡ greatest down (map factors_of c.args.components.now) =
+    c.loop-component.invariant.vertical
+    ∙ ap (λ (xs : List Read). greatest down (map factors_of xs))
+    (take_all c.loop-component.component-index c.args.components.now c.loop-component-test.false) in rw h
+    (greatest-some down (map factors_of c.args.components.now))
 
 pub returns-clause-most_horizontal : goal.returns-clause-most_horizontal
-returns-clause-most_horizontal c = let h : c.loop-component.horizontal ≡ greatest across (map factors_of c.args.components.now) = c.loop-component.invariant.horizontal ∙ ap (λ (xs : List Read). greatest across (map factors_of xs)) (take_all c.loop-component.component-index c.args.components.now c.loop-component-test.false) in rw h (greatest-most across (map factors_of c.args.components.now) (λ x p. p.horizontal_most) c.requires)
+returns-clause-most_horizontal c =
+    let h : c.loop-component.horizontal ≡ greatest across (map factors_of c.args.components.now) =
+    c.loop-component.invariant.horizontal
+    ∙ ap (λ (xs : List Read). greatest across (map factors_of xs))
+    (take_all c.loop-component.component-index c.args.components.now c.loop-component-test.false) in rw h
+    (greatest-most across (map factors_of c.args.components.now) (λ x p. p.horizontal_most) c.requires)
 
 pub returns-clause-most_vertical : goal.returns-clause-most_vertical
-returns-clause-most_vertical c = let h : c.loop-component.vertical ≡ greatest down (map factors_of c.args.components.now) = c.loop-component.invariant.vertical ∙ ap (λ (xs : List Read). greatest down (map factors_of xs)) (take_all c.loop-component.component-index c.args.components.now c.loop-component-test.false) in rw h (greatest-most down (map factors_of c.args.components.now) (λ x p. p.vertical_most) c.requires)
+returns-clause-most_vertical c =
+    let h : c.loop-component.vertical ≡ greatest down (map factors_of c.args.components.now) =
+    c.loop-component.invariant.vertical
+    ∙ ap (λ (xs : List Read). greatest down (map factors_of xs))
+    (take_all c.loop-component.component-index c.args.components.now c.loop-component-test.false) in rw h
+    (greatest-most down (map factors_of c.args.components.now) (λ x p. p.vertical_most) c.requires)
 
 pub returns-clause-covers_horizontal : goal.returns-clause-covers_horizontal
 returns-clause-covers_horizontal c =
-    let h : c.loop-component.horizontal ≡ greatest across (map factors_of c.args.components.now) = c.loop-component.invariant.horizontal ∙ ap (λ (xs : List Read). greatest across (map factors_of xs)) (take_all c.loop-component.component-index c.args.components.now c.loop-component-test.false) in
+    let h : c.loop-component.horizontal ≡ greatest across (map factors_of c.args.components.now) =
+    c.loop-component.invariant.horizontal
+    ∙ ap (λ (xs : List Read). greatest across (map factors_of xs))
+    (take_all c.loop-component.component-index c.args.components.now c.loop-component-test.false) in
     let e : greatest across (map factors_of c.args.components.now) ≤ c.loop-component.horizontal = omega (arith, h) in
     greatest-covers factors_of across c.loop-component.horizontal c.args.components.now e
 
 pub returns-clause-covers_vertical : goal.returns-clause-covers_vertical
 returns-clause-covers_vertical c =
-    let h : c.loop-component.vertical ≡ greatest down (map factors_of c.args.components.now) = c.loop-component.invariant.vertical ∙ ap (λ (xs : List Read). greatest down (map factors_of xs)) (take_all c.loop-component.component-index c.args.components.now c.loop-component-test.false) in
+    let h : c.loop-component.vertical ≡ greatest down (map factors_of c.args.components.now) =
+    c.loop-component.invariant.vertical
+    ∙ ap (λ (xs : List Read). greatest down (map factors_of xs))
+    (take_all c.loop-component.component-index c.args.components.now c.loop-component-test.false) in
     let e : greatest down (map factors_of c.args.components.now) ≤ c.loop-component.vertical = omega (arith, h) in
     greatest-covers factors_of down c.loop-component.vertical c.args.components.now e

@@ -9,7 +9,8 @@ loop-component-init c = sym (changed-none _ (map component_in c.args.components.
 
 pub scale_component-requires-clause-horizontal : goal.scale_component-requires-clause-horizontal
 scale_component-requires-clause-horizontal c =
-    across-at _ c.args.most_horizontal c.loop-component.component-index c.args.components.now c.loop-component.components
+    across-at _ c.args.most_horizontal c.loop-component.component-index c.args.components.now
+    c.loop-component.components
     c.loop-component.invariant c.loop-component-test.true c.loop-component.auto.components c.requires.covers_horizontal
 
 pub scale_component-requires-clause-vertical : goal.scale_component-requires-clause-vertical
@@ -19,7 +20,8 @@ scale_component-requires-clause-vertical c =
 
 pub loop-component-preserved : goal.loop-component-preserved
 loop-component-preserved c =
-    seen-more _ c.loop-component.component-index c.args.components.now c.loop-component.components c.scale_component.new.component
+    seen-more _ c.loop-component.component-index c.args.components.now c.loop-component.components
+    c.scale_component.new.component
     c.loop-component.invariant c.loop-component-test.true c.loop-component.auto.components c.scale_component.ensures
 
 pub returns : goal.returns
