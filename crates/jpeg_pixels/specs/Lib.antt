@@ -1,5 +1,6 @@
 pub mod Samples
 pub mod Scaled
+pub mod SmallBlocks
 pub mod Lanes
 pub mod LaneRows
 pub mod Blocks
