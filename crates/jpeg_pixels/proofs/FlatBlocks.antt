@@ -48,7 +48,7 @@ below n l =
     let d : negsuc ((n - 4) / 8) +ℤ pos 128 ≡ negsuc ((n - 4) / 8 - 128) = omega (arith, ints) in
     ap top a ∙ ap clamped (sym d) ∙ ap low (sym b)
 
-scaled : (p : ℤ) → clamped (int_shr (pos 4096 *ℤ (pos 4 *ℤ p) +ℤ pos 16842752) 17) ≡ clamped (int_shr (p +ℤ pos 4) 3 +ℤ pos 128)
+pub scaled : (p : ℤ) → clamped (int_shr (pos 4096 *ℤ (pos 4 *ℤ p) +ℤ pos 16842752) 17) ≡ clamped (int_shr (p +ℤ pos 4) 3 +ℤ pos 128)
 scaled (pos n) = omega arith
 scaled (negsuc n) = ⊎_elim (above n) (λ s. ⊎_elim (middle n s) (below n) (cases_lt n 1028)) (cases_lt n 4)
 

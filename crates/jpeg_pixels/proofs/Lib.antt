@@ -9,6 +9,7 @@ pub mod Residues
 pub mod Sums
 pub mod FewSamples
 pub mod FlatBlocks
+pub mod FlatScaled
 pub mod Fours
 pub mod FrameCovers
 pub mod FramesOfFactors
@@ -26,4 +27,5 @@ pub mod Strips
 pub mod UpsampledEnds
 pub mod UpsampledRows
 pub mod WholePictures
+pub mod ZeroCases
 pub mod ZigzagPlaces

@@ -1,10 +1,14 @@
-//! What the definitions of samples mean in plain words, each a theorem on a function without a body.
-ghost use Rattle.std.specs.Prelude.{All, Ok, ◌≡◌, ℕ, ◌+◌, ◌-◌, ◌*◌, ◌/◌, ◌<◌, ◌≤◌, List, [], ◌∷◌, ◌++◌, map, replicate, slice_index, ℤ, pos, ◌+ℤ◌, unsigned_abs};
+//! What the definitions of samples mean in plain words, each a theorem on a function with no body.
+ghost use Rattle.std.specs.Prelude.{◌≡◌, ℕ, ◌+◌, ◌-◌, ◌*◌, ◌/◌, ◌<◌, ◌≤◌, All, Ok, true};
+ghost use Rattle.std.specs.Prelude.{List, [], ◌∷◌, ◌++◌, map, replicate, slice_index};
+ghost use Rattle.std.specs.Prelude.{ℤ, pos, neg_ℤ, ◌+ℤ◌, ◌*ℤ◌, ◌≤ℤ◌, ◌<ℤ◌, unsigned_abs};
 ghost use Rattle.std.specs.List.{range_with_len};
-ghost use Rattle.std.specs.Int.{int_shr};
+ghost use Rattle.std.specs.Int.{int_shr, int_wrap, w32};
 ghost use Rattle.jpeg_segments.specs.Frame.{Factors, IsInRange, frame_of};
 ghost use Rattle.jpeg_pixels.specs.Pictures.{AllCover, AreWhole, HaveRoom, Source, sources_of};
-ghost use Rattle.jpeg_pixels.specs.Samples.{HasFirstOnly, clamped, dequantized, sample};
+ghost use Rattle.jpeg_pixels.specs.Samples.{HasFirstOnly, clamped, column_value, dequantized};
+ghost use Rattle.jpeg_pixels.specs.Samples.{is_flat_column, sample, transformed};
+ghost use Rattle.jpeg_pixels.specs.Scaled.{sample_of_1, sample_of_2, sample_of_4};
 ghost use Rattle.jpeg_pixels.specs.Planes.{plane_of, strip_of};
 ghost use Rattle.jpeg_pixels.specs.Colour.{colour_of, line_bytes};
 ghost use Rattle.jpeg_pixels.specs.declared.upsampler.ColorConvert.TheVariants.{None, Rgb, YCbCr, Cmyk, Ycck};
@@ -13,11 +17,51 @@ ghost use Rattle.jpeg_pixels.specs.Upsampling.{across, down, line_sum, upsampled
 ghost use Rattle.jpeg_pixels.specs.declared.upsampler.UpsampleRule.{UpsampleRule};
 ghost use Rattle.jpeg_pixels.specs.declared.upsampler.UpsampleRule.TheVariants.{H1V1, H2V1, H1V2, H2V2, Generic};
 
-/// A block whose only coefficient is the first has 64 times the same sample.
+/// A block whose only coefficient is the first has the same sample everywhere, at each scale: its
+/// eighth and 128, rounded to the nearest, or at one sample a block rounded down.
 pub fn flat_blocks_are_flat()
-    ensures { (coefficients : List ℤ) (quantization : List ℕ) (x y : ℕ) → HasFirstOnly coefficients → x < 8 → y < 8 →
+    ensures full { (coefficients : List ℤ) (quantization : List ℕ) (x y : ℕ) →
+        HasFirstOnly coefficients → x < 8 → y < 8 →
         unsigned_abs (dequantized coefficients quantization 0 0) ≤ 65536 →
-        sample coefficients quantization x y ≡ clamped (int_shr (dequantized coefficients quantization 0 0 +ℤ pos 4) 3 +ℤ pos 128) }
+        sample coefficients quantization x y
+        ≡ clamped (int_shr (dequantized coefficients quantization 0 0 +ℤ pos 4) 3 +ℤ pos 128) }
+    ensures half { (coefficients : List ℤ) (quantization : List ℕ) (x y : ℕ) →
+        HasFirstOnly coefficients → x < 4 → y < 4 →
+        unsigned_abs (dequantized coefficients quantization 0 0) ≤ 65536 →
+        sample_of_4 coefficients quantization x y
+        ≡ clamped (int_shr (dequantized coefficients quantization 0 0 +ℤ pos 4) 3 +ℤ pos 128) }
+    ensures quarter { (coefficients : List ℤ) (quantization : List ℕ) (x y : ℕ) →
+        HasFirstOnly coefficients → x < 2 → y < 2 →
+        unsigned_abs (dequantized coefficients quantization 0 0) ≤ 65536 →
+        sample_of_2 coefficients quantization x y
+        ≡ clamped (int_shr (dequantized coefficients quantization 0 0 +ℤ pos 4) 3 +ℤ pos 128) }
+    ensures eighth { (coefficients : List ℤ) (quantization : List ℕ) →
+        unsigned_abs (dequantized coefficients quantization 0 0) ≤ 65536 →
+        sample_of_1 coefficients quantization
+        ≡ clamped (int_shr (dequantized coefficients quantization 0 0) 3 +ℤ pos 128) }
+{}
+
+/// A row needs no case of its own: where all but its first value are 0, its samples are those of
+/// that value alone.
+pub fn zero_rows_need_no_case()
+    ensures { (coefficients : List ℤ) (quantization : List ℕ) (x y : ℕ) → x < 8 →
+        ((k : ℕ) → 0 < k → k < 8 → column_value coefficients quantization y k ≡ pos 0) →
+        sample coefficients quantization x y
+        ≡ clamped (int_shr (int_wrap w32
+        (pos 4096 *ℤ column_value coefficients quantization y 0 +ℤ pos 16842752)) 17) }
+{}
+
+/// The case of a column that has nothing below its first row gives what the transform gives, where
+/// the product of that row is at least -2^19 and less than 2^19. (It does not beyond that, as the
+/// block of one large product in `known_blocks` shows.)
+pub fn zero_columns_change_nothing()
+    ensures { (coefficients : List ℤ) (quantization : List ℕ) (row column : ℕ) → row < 8 →
+        is_flat_column coefficients column ≡ true →
+        neg_ℤ (pos 524288) ≤ℤ dequantized coefficients quantization 0 column →
+        dequantized coefficients quantization 0 column <ℤ pos 524288 →
+        column_value coefficients quantization row column
+        ≡ int_shr (int_wrap w32 (transformed (λ k. dequantized coefficients quantization k column)
+        row +ℤ pos 512)) 10 }
 {}
 
 /// The table of places in zigzag order and the table of places in the block are inverse to one
@@ -33,7 +77,8 @@ pub fn planes_are_their_rows()
         plane_of scale table wide 0 block_at ≡ [] }
     ensures more { (scale : ℕ) (table : List ℕ) (wide high : ℕ) (block_at : ℕ → ℕ → List ℤ) →
         plane_of scale table wide (high + 1) block_at ≡
-        plane_of scale table wide high block_at ++ strip_of scale table (map (block_at high) (range_with_len 0 wide)) }
+        plane_of scale table wide high block_at
+        ++ strip_of scale table (map (block_at high) (range_with_len 0 wide)) }
     ensures same { (scale : ℕ) (table : List ℕ) (wide high : ℕ) (f g : ℕ → ℕ → List ℤ) →
         ((row column : ℕ) → row < high → column < wide → f row column ≡ g row column) →
         plane_of scale table wide high f ≡ plane_of scale table wide high g }
@@ -50,7 +95,7 @@ pub fn frames_are_covered()
 {}
 
 /// The samples of three blocks, computed: the first coefficient alone; the largest coefficients and
-/// quantization values; one large product.
+/// quantization values; one large product. And those of a small block at less than full size.
 pub fn known_blocks()
     ensures first_only { plane_of 8 (replicate 64 1) 1 1 (λ row column. pos 8 ∷ replicate 63 (pos 0)) ≡ replicate 64 129 }
     ensures largest { plane_of 8 (replicate 64 65535) 1 1 (λ row column. replicate 64 (pos 32767)) ≡
@@ -71,6 +116,18 @@ pub fn known_blocks()
         ∷ 0 ∷ 255 ∷ 0 ∷ 0 ∷ 255 ∷ 255 ∷ 0 ∷ 255
         ∷ 0 ∷ 255 ∷ 0 ∷ 0 ∷ 255 ∷ 255 ∷ 0 ∷ 255
         ∷ 0 ∷ 255 ∷ 0 ∷ 0 ∷ 255 ∷ 255 ∷ 0 ∷ 255 ∷ [] }
+    ensures half { plane_of 4 (replicate 64 64) 1 1
+        (λ row column. pos 0 ∷ pos 1 ∷ replicate 62 (pos 0)) ≡
+        138 ∷ 132 ∷ 124 ∷ 118
+        ∷ 138 ∷ 132 ∷ 124 ∷ 118
+        ∷ 138 ∷ 132 ∷ 124 ∷ 118
+        ∷ 138 ∷ 132 ∷ 124 ∷ 118 ∷ [] }
+    ensures quarter { plane_of 2 (replicate 64 64) 1 1
+        (λ row column. pos 0 ∷ pos 1 ∷ replicate 62 (pos 0)) ≡
+        136 ∷ 120
+        ∷ 136 ∷ 120 ∷ [] }
+    ensures eighth { plane_of 1 (replicate 64 64) 1 1
+        (λ row column. pos 4 ∷ pos 1 ∷ replicate 62 (pos 0)) ≡ 160 ∷ [] }
 {}
 
 /// Brightness without colour is grey: its red, green and blue are the brightness.

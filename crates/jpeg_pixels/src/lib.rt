@@ -9,6 +9,8 @@ pub mod idct;
 pub mod laws;
 mod picture_lines;
 pub mod plane;
+#[cfg(test)]
+mod scale_tests;
 mod small_transforms;
 mod sources;
 #[cfg(test)]
