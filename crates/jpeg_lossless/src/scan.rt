@@ -1,0 +1,253 @@
+//! Lossless scans (T.81, H.1.2 and E.2.4).
+ghost use Rattle.std.specs.Prelude.{◌≡◌, ℕ, OnOk, ◌≤◌, ◌<◌, ◌+◌, ◌*◌, length, map, true, IfSome, IfNone, IfOk, Some, false, replicate, []};
+ghost use Rattle.jpeg_bits.specs.Reading.{Answers};
+ghost use Rattle.jpeg_bits.specs.Entropy.{Takes};
+ghost use Rattle.jpeg_lossless.specs.Rows.{via_of, planes_from};
+ghost use Rattle.jpeg_lossless.specs.PlanesRead.{planes_interval, planes_intervals, planes_scan};
+ghost use Rattle.jpeg_lossless.specs.Scans.{is_restart, is_of_rows, rows_of_interval, shifted, scan_at};
+ghost use Rattle.jpeg_lossless.specs.Codings.{way_by};
+ghost use Rattle.jpeg_lossless.specs.Pictures.{AreWhole};
+
+use crate::differences::read_row;
+use crate::lossless::start_of;
+use crate::planes::{add_row, shift};
+use jpeg_bits::error::{Result, format_error};
+use jpeg_bits::huffman::{HuffmanDecoder, HuffmanTable};
+use jpeg_bits::marker::Marker;
+use jpeg_bits::scan::Predictor;
+use jpeg_bits::source::Source;
+use std::alloc::{AllocError, Global};
+use std::io::Read;
+
+/// How a lossless scan is coded.
+#[derive(Clone, Copy, Debug, PartialEq)]
+pub struct Coding {
+    /// The MCUs of a row, and the rows.
+    pub wide: u16,
+    pub high: u16,
+    pub precision: u8,
+    pub predictor: Predictor,
+    pub point_transform: u8,
+    /// The restart interval in MCUs; 0 is none.
+    pub restart_interval: u16,
+}
+
+/// The lines of an interval.
+fn rows_of_interval(coding: Coding) -> Option<u16>
+    requires wide { 0 < coding.wide }
+    requires high { 0 < coding.high }
+    ensures some { IfSome result (λ n. (n ≡ rows_of_interval coding.wide coding.high coding.restart_interval) × (0 < n) × (is_of_rows coding.wide coding.high coding.restart_interval ≡ true)) }
+    ensures none { IfNone result (is_of_rows coding.wide coding.high coding.restart_interval ≡ false) }
+{
+    let count = u32::from(coding.wide) * u32::from(coding.high);
+    let interval = coding.restart_interval;
+    if interval == 0 || count <= u32::from(interval) {
+        return Some(coding.high);
+    }
+    if interval % coding.wide != 0 {
+        return None;
+    }
+    Some(interval / coding.wide)
+}
+
+/// Reads so many rows of MCUs, and puts their samples behind the planes.
+fn read_rows<R: Read + Drop>(
+    alloc: Global,
+    decoder: &mut HuffmanDecoder,
+    source: &mut Source<R>,
+    coding: Coding,
+    tables: &[&HuffmanTable],
+    count: u16,
+    row: &mut Vec<u16>,
+    line: &mut Vec<u16>,
+    planes: &mut [Vec<u16>],
+) -> Result<()>
+    requires planes { length planes.old ≡ length tables.now }
+    requires point { coding.point_transform < coding.precision }
+    requires precision { coding.precision ≤ 16 }
+    ensures count { length planes.new ≡ length planes.old }
+    ensures long { (k : ℕ) → AreWhole k (map (λ v. v.items) planes.old) → OnOk result (AreWhole (k + count * coding.wide) (map (λ v. v.items) planes.new)) }
+    ensures reads { Takes (λ _. map (λ v. v.items) planes.new)
+        (planes_from (via_of coding (map (λ t. t.now) tables.now)) true count (map (λ v. v.items) planes.old))
+        decoder.old source.old result decoder.new source.new }
+{
+    let start = start_of(coding.precision, coding.point_transform);
+    let wide = usize::from(coding.wide);
+    let mut is_first = true;
+    let mut left = count;
+    while left > 0 {
+        read_row(alloc, decoder, source, tables, wide, row)?;
+        add_row(coding.predictor, start, is_first, row, wide, line, planes)?;
+        is_first = false;
+        left -= 1;
+    }
+    Ok(())
+}
+
+/// Reads an interval of so many rows of MCUs, and the marker behind it, if it is met.
+#[tactic(auto, unfolding(crate::specs::PlanesRead::planes_interval))]
+fn read_interval<R: Read + Drop>(
+    alloc: Global,
+    source: &mut Source<R>,
+    coding: Coding,
+    tables: &[&HuffmanTable],
+    count: u16,
+    row: &mut Vec<u16>,
+    line: &mut Vec<u16>,
+    planes: &mut [Vec<u16>],
+) -> Result<Option<Marker>>
+    requires planes { length planes.old ≡ length tables.now }
+    requires point { coding.point_transform < coding.precision }
+    requires precision { coding.precision ≤ 16 }
+    ensures count { length planes.new ≡ length planes.old }
+    ensures long { (k : ℕ) → AreWhole k (map (λ v. v.items) planes.old) → OnOk result (AreWhole (k + count * coding.wide) (map (λ v. v.items) planes.new)) }
+    ensures answers { Answers (λ m. (map (λ v. v.items) planes.new, m))
+        (planes_interval (via_of coding (map (λ t. t.now) tables.now)) count (map (λ v. v.items) planes.old))
+        source.old result source.new }
+{
+    let mut decoder = HuffmanDecoder::new(alloc);
+    read_rows(
+        alloc,
+        &mut decoder,
+        source,
+        coding,
+        tables,
+        count,
+        row,
+        line,
+        planes,
+    )?;
+    decoder.take_marker(source)
+}
+
+/// Whether a marker is RST with a number modulo 8.
+fn is_restart(marker: Option<Marker>, number: u16) -> bool
+    ensures { result ≡ is_restart number marker }
+{
+    match marker {
+        Some(Marker::RST(n)) => u16::from(n) == number % 8,
+        _ => false,
+    }
+}
+
+/// Reads the intervals of a scan, each of so many rows of MCUs.
+fn read_intervals<R: Read + Drop>(
+    alloc: Global,
+    source: &mut Source<R>,
+    coding: Coding,
+    tables: &[&HuffmanTable],
+    rows: u16,
+    row: &mut Vec<u16>,
+    line: &mut Vec<u16>,
+    planes: &mut [Vec<u16>],
+) -> Result<Option<Marker>>
+    requires rows { 0 < rows }
+    requires planes { length planes.old ≡ length tables.now }
+    requires point { coding.point_transform < coding.precision }
+    requires precision { coding.precision ≤ 16 }
+    ensures count { length planes.new ≡ length planes.old }
+    ensures long { (k : ℕ) → AreWhole k (map (λ v. v.items) planes.old) → OnOk result (AreWhole (k + coding.high * coding.wide) (map (λ v. v.items) planes.new)) }
+    ensures answers { Answers (λ m. (map (λ v. v.items) planes.new, m))
+        (planes_intervals (coding.high + 1) (via_of coding (map (λ t. t.now) tables.now)) rows 0 coding.high (map (λ v. v.items) planes.old))
+        source.old result source.new }
+{
+    let mut number = 0u16;
+    let mut left = coding.high;
+    while left > rows {
+        let marker = read_interval(alloc, source, coding, tables, rows, row, line, planes)?;
+        if !is_restart(marker, number) {
+            return Err(format_error(alloc, "a restart marker is missing"));
+        }
+        number += 1;
+        left -= rows;
+    }
+    read_interval(alloc, source, coding, tables, left, row, line, planes)
+}
+
+/// Empty planes with room for so many samples each.
+fn empty_planes(
+    alloc: Global,
+    count: usize,
+    size: usize,
+) -> std::result::Result<Vec<Vec<u16>>, AllocError>
+    ensures count { IfOk result (λ v. length v.items ≡ count) }
+    ensures planes { IfOk result (λ v. map (λ p. p.items) v.items ≡ replicate count []) }
+{
+    let mut planes = Vec::with_capacity(alloc, count)?;
+    for _ in 0..count {
+        planes.push(Vec::with_capacity(alloc, size)?)?;
+    }
+    Ok(planes)
+}
+
+/// Shifts the samples of planes by a point transform.
+fn shift_all(planes: &mut [Vec<u16>], point_transform: u8)
+    requires { point_transform < 16 }
+    ensures count { length planes.new ≡ length planes.old }
+    ensures planes { map (λ v. v.items) planes.new ≡ map (map (shifted point_transform)) (map (λ v. v.items) planes.old) }
+{
+    for i in 0..planes.len() {
+        shift(planes[i].as_mut_slice(), point_transform);
+    }
+}
+
+/// Reads a scan, as `read_scan` does.
+#[tactic(auto, unfolding(crate::specs::PlanesRead::planes_scan))]
+fn read_planes<R: Read + Drop>(
+    alloc: Global,
+    source: &mut Source<R>,
+    coding: Coding,
+    tables: &[&HuffmanTable],
+) -> Result<(Vec<Vec<u16>>, Option<Marker>)>
+    requires wide { 0 < coding.wide }
+    requires high { 0 < coding.high }
+    requires point { coding.point_transform < coding.precision }
+    requires precision { coding.precision ≤ 16 }
+    ensures count { IfOk result (λ r. length r.0.items ≡ length tables.now) }
+    ensures long { IfOk result (λ r. AreWhole (coding.high * coding.wide) (map (λ v. v.items) r.0.items)) }
+    ensures reads { Answers (λ r. (map (λ v. v.items) r.0.items, r.1))
+        (planes_scan (via_of coding (map (λ t. t.now) tables.now)) coding.high coding.restart_interval coding.point_transform)
+        source.old result source.new }
+{
+    let Some(rows) = rows_of_interval(coding) else {
+        return Err(format_error(alloc, "a restart interval ends inside a line"));
+    };
+    let size = usize::from(coding.wide) * usize::from(coding.high);
+    let mut planes = empty_planes(alloc, tables.len(), size)?;
+    let mut row = Vec::new(alloc);
+    let mut line = Vec::new(alloc);
+    let marker = read_intervals(
+        alloc,
+        source,
+        coding,
+        tables,
+        rows,
+        &mut row,
+        &mut line,
+        planes.as_mut_slice(),
+    )?;
+    shift_all(planes.as_mut_slice(), coding.point_transform);
+    Ok((planes, marker))
+}
+
+/// Reads a lossless scan, an MCU of which has a sample for each of these tables, and gives its planes and the marker
+/// behind it, if it was met. The errors are want of memory, a failed or ended source, a refused code or category, a
+/// restart interval that ends inside a line, and a missing restart marker.
+pub fn read_scan<R: Read + Drop>(
+    alloc: Global,
+    source: &mut Source<R>,
+    coding: Coding,
+    tables: &[&HuffmanTable],
+) -> Result<(Vec<Vec<u16>>, Option<Marker>)>
+    requires wide { 0 < coding.wide }
+    requires high { 0 < coding.high }
+    requires point { coding.point_transform < coding.precision }
+    requires precision { coding.precision ≤ 16 }
+    ensures count { IfOk result (λ r. length r.0.items ≡ length tables.now) }
+    ensures long { IfOk result (λ r. AreWhole (coding.wide * coding.high) (map (λ v. v.items) r.0.items)) }
+    ensures reads { Answers (λ r. (map (λ v. v.items) r.0.items, r.1))
+        (scan_at (way_by coding (map (λ t. t.now) tables.now)) coding.high coding.restart_interval coding.point_transform)
+        source.old result source.new }
+{
+    read_planes(alloc, source, coding, tables)
+}
