@@ -9,6 +9,7 @@ ghost use Rattle.jpeg_lossless.specs.Codings.{way_by};
 ghost use Rattle.jpeg_lossless.specs.Pictures.{AreWhole};
 
 use crate::differences::read_row;
+use crate::lines::Prediction;
 use crate::lossless::start_of;
 use crate::planes::{add_row, shift};
 use jpeg_bits::error::{Result, format_error};
@@ -50,74 +51,127 @@ fn rows_of_interval(coding: Coding) -> Option<u16>
     Some(interval / coding.wide)
 }
 
-/// Reads so many rows of MCUs, and puts their samples behind the planes.
-fn read_rows<R: Read + Drop>(
+/// A scan that is being read: the samples so far, and room for what is read of a row of MCUs.
+#[derive(Drop)]
+struct LosslessScan {
     alloc: Global,
-    decoder: &mut HuffmanDecoder,
-    source: &mut Source<R>,
-    coding: Coding,
-    tables: &[&HuffmanTable],
-    count: u16,
-    row: &mut Vec<u16>,
-    line: &mut Vec<u16>,
-    planes: &mut [Vec<u16>],
-) -> Result<()>
-    requires planes { length planes.old ≡ length tables.now }
-    requires point { coding.point_transform < coding.precision }
-    requires precision { coding.precision ≤ 16 }
-    ensures count { length planes.new ≡ length planes.old }
-    ensures long { (k : ℕ) → AreWhole k (map (λ v. v.items) planes.old) → OnOk result (AreWhole (k + count * coding.wide) (map (λ v. v.items) planes.new)) }
-    ensures reads { Takes (λ _. map (λ v. v.items) planes.new)
-        (planes_from (via_of coding (map (λ t. t.now) tables.now)) true count (map (λ v. v.items) planes.old))
-        decoder.old source.old result decoder.new source.new }
-{
-    let start = start_of(coding.precision, coding.point_transform);
-    let wide = usize::from(coding.wide);
-    let mut is_first = true;
-    let mut left = count;
-    while left > 0 {
-        read_row(alloc, decoder, source, tables, wide, row)?;
-        add_row(coding.predictor, start, is_first, row, wide, line, planes)?;
-        is_first = false;
-        left -= 1;
-    }
-    Ok(())
+    /// The differences of a row of MCUs, in the order in which they are coded.
+    row: Vec<u16>,
+    /// The differences of a line of one component, and then its samples.
+    line: Vec<u16>,
+    /// The samples of each component, line by line.
+    planes: Vec<Vec<u16>>,
 }
 
-/// Reads an interval of so many rows of MCUs, and the marker behind it, if it is met.
-#[tactic(auto, unfolding(crate::specs::PlanesRead::planes_interval))]
-fn read_interval<R: Read + Drop>(
-    alloc: Global,
-    source: &mut Source<R>,
-    coding: Coding,
-    tables: &[&HuffmanTable],
-    count: u16,
-    row: &mut Vec<u16>,
-    line: &mut Vec<u16>,
-    planes: &mut [Vec<u16>],
-) -> Result<Option<Marker>>
-    requires planes { length planes.old ≡ length tables.now }
-    requires point { coding.point_transform < coding.precision }
-    requires precision { coding.precision ≤ 16 }
-    ensures count { length planes.new ≡ length planes.old }
-    ensures long { (k : ℕ) → AreWhole k (map (λ v. v.items) planes.old) → OnOk result (AreWhole (k + count * coding.wide) (map (λ v. v.items) planes.new)) }
-    ensures answers { Answers (λ m. (map (λ v. v.items) planes.new, m))
-        (planes_interval (via_of coding (map (λ t. t.now) tables.now)) count (map (λ v. v.items) planes.old))
-        source.old result source.new }
-{
-    let mut decoder = HuffmanDecoder::new(alloc);
-    read_rows(
-        alloc,
-        &mut decoder,
-        source,
-        coding,
-        tables,
-        count,
-        row,
-        line,
-        planes,
-    )?;
-    decoder.take_marker(source)
+impl LosslessScan {
+    ghost use Rattle.std.specs.Prelude.{◌≡◌, ℕ, OnOk, ◌≤◌, ◌<◌, ◌+◌, ◌*◌, length, map, true};
+    ghost use Rattle.jpeg_bits.specs.Reading.{Answers};
+    ghost use Rattle.jpeg_bits.specs.Entropy.{Takes};
+    ghost use Rattle.jpeg_lossless.specs.Rows.{via_of, planes_from};
+    ghost use Rattle.jpeg_lossless.specs.PlanesRead.{planes_interval, planes_intervals};
+    ghost use Rattle.jpeg_lossless.specs.Pictures.{AreWhole};
+
+    /// Reads `count` rows of MCUs, and appends their samples to the planes.
+    fn read_rows<R: Read + Drop>(
+        &mut self,
+        decoder: &mut HuffmanDecoder,
+        source: &mut Source<R>,
+        coding: Coding,
+        tables: &[&HuffmanTable],
+        count: u16,
+    ) -> Result<()>
+        requires planes { length self.old.planes.items ≡ length tables.now }
+        requires point { coding.point_transform < coding.precision }
+        requires precision { coding.precision ≤ 16 }
+        ensures count { length self.new.planes.items ≡ length self.old.planes.items }
+        ensures long { (k : ℕ) → AreWhole k (map (λ v. v.items) self.old.planes.items)
+            → OnOk result (AreWhole (k + count * coding.wide) (map (λ v. v.items) self.new.planes.items)) }
+        ensures reads { Takes (λ _. map (λ v. v.items) self.new.planes.items)
+            (planes_from (via_of coding (map (λ t. t.now) tables.now)) true count
+            (map (λ v. v.items) self.old.planes.items))
+            decoder.old source.old result decoder.new source.new }
+    {
+        let prediction = Prediction {
+            predictor: coding.predictor,
+            start: start_of(coding.precision, coding.point_transform),
+        };
+        let wide = usize::from(coding.wide);
+        let mut is_first = true;
+        let mut left = count;
+        while left > 0 {
+            read_row(self.alloc, decoder, source, tables, wide, &mut self.row)?;
+            add_row(
+                prediction,
+                is_first,
+                &self.row,
+                wide,
+                &mut self.line,
+                self.planes.as_mut_slice(),
+            )?;
+            is_first = false;
+            left -= 1;
+        }
+        Ok(())
+    }
+
+    /// Reads an interval of `count` rows of MCUs, and returns the marker after it, if it is met.
+    #[tactic(auto, unfolding(crate::specs::PlanesRead::planes_interval))]
+    fn read_interval<R: Read + Drop>(
+        &mut self,
+        source: &mut Source<R>,
+        coding: Coding,
+        tables: &[&HuffmanTable],
+        count: u16,
+    ) -> Result<Option<Marker>>
+        requires planes { length self.old.planes.items ≡ length tables.now }
+        requires point { coding.point_transform < coding.precision }
+        requires precision { coding.precision ≤ 16 }
+        ensures count { length self.new.planes.items ≡ length self.old.planes.items }
+        ensures long { (k : ℕ) → AreWhole k (map (λ v. v.items) self.old.planes.items)
+            → OnOk result (AreWhole (k + count * coding.wide) (map (λ v. v.items) self.new.planes.items)) }
+        ensures answers { Answers (λ m. (map (λ v. v.items) self.new.planes.items, m))
+            (planes_interval (via_of coding (map (λ t. t.now) tables.now)) count
+            (map (λ v. v.items) self.old.planes.items))
+            source.old result source.new }
+    {
+        let mut decoder = HuffmanDecoder::new(self.alloc);
+        self.read_rows(&mut decoder, source, coding, tables, count)?;
+        decoder.take_marker(source)
+    }
+
+    /// Reads the intervals of a scan, each of `rows` rows of MCUs and the last of those that are
+    /// left, and returns the marker after them, if it is met.
+    fn read_intervals<R: Read + Drop>(
+        &mut self,
+        source: &mut Source<R>,
+        coding: Coding,
+        tables: &[&HuffmanTable],
+        rows: u16,
+    ) -> Result<Option<Marker>>
+        requires rows { 0 < rows }
+        requires planes { length self.old.planes.items ≡ length tables.now }
+        requires point { coding.point_transform < coding.precision }
+        requires precision { coding.precision ≤ 16 }
+        ensures count { length self.new.planes.items ≡ length self.old.planes.items }
+        ensures long { (k : ℕ) → AreWhole k (map (λ v. v.items) self.old.planes.items)
+            → OnOk result (AreWhole (k + coding.high * coding.wide) (map (λ v. v.items) self.new.planes.items)) }
+        ensures answers { Answers (λ m. (map (λ v. v.items) self.new.planes.items, m))
+            (planes_intervals (coding.high + 1) (via_of coding (map (λ t. t.now) tables.now)) rows 0 coding.high
+            (map (λ v. v.items) self.old.planes.items))
+            source.old result source.new }
+    {
+        let mut number = 0u16;
+        let mut left = coding.high;
+        while left > rows {
+            let marker = self.read_interval(source, coding, tables, rows)?;
+            if !is_restart(marker, number) {
+                return Err(format_error(self.alloc, "a restart marker is missing"));
+            }
+            number += 1;
+            left -= rows;
+        }
+        self.read_interval(source, coding, tables, left)
+    }
 }
 
 /// Whether a marker is RST with a number modulo 8.
@@ -128,40 +182,6 @@ fn is_restart(marker: Option<Marker>, number: u16) -> bool
         Some(Marker::RST(n)) => u16::from(n) == number % 8,
         _ => false,
     }
-}
-
-/// Reads the intervals of a scan, each of so many rows of MCUs.
-fn read_intervals<R: Read + Drop>(
-    alloc: Global,
-    source: &mut Source<R>,
-    coding: Coding,
-    tables: &[&HuffmanTable],
-    rows: u16,
-    row: &mut Vec<u16>,
-    line: &mut Vec<u16>,
-    planes: &mut [Vec<u16>],
-) -> Result<Option<Marker>>
-    requires rows { 0 < rows }
-    requires planes { length planes.old ≡ length tables.now }
-    requires point { coding.point_transform < coding.precision }
-    requires precision { coding.precision ≤ 16 }
-    ensures count { length planes.new ≡ length planes.old }
-    ensures long { (k : ℕ) → AreWhole k (map (λ v. v.items) planes.old) → OnOk result (AreWhole (k + coding.high * coding.wide) (map (λ v. v.items) planes.new)) }
-    ensures answers { Answers (λ m. (map (λ v. v.items) planes.new, m))
-        (planes_intervals (coding.high + 1) (via_of coding (map (λ t. t.now) tables.now)) rows 0 coding.high (map (λ v. v.items) planes.old))
-        source.old result source.new }
-{
-    let mut number = 0u16;
-    let mut left = coding.high;
-    while left > rows {
-        let marker = read_interval(alloc, source, coding, tables, rows, row, line, planes)?;
-        if !is_restart(marker, number) {
-            return Err(format_error(alloc, "a restart marker is missing"));
-        }
-        number += 1;
-        left -= rows;
-    }
-    read_interval(alloc, source, coding, tables, left, row, line, planes)
 }
 
 /// Empty planes with room for so many samples each.
@@ -213,21 +233,16 @@ fn read_planes<R: Read + Drop>(
         return Err(format_error(alloc, "a restart interval ends inside a line"));
     };
     let size = usize::from(coding.wide) * usize::from(coding.high);
-    let mut planes = empty_planes(alloc, tables.len(), size)?;
-    let mut row = Vec::new(alloc);
-    let mut line = Vec::new(alloc);
-    let marker = read_intervals(
+    let planes = empty_planes(alloc, tables.len(), size)?;
+    let mut scan = LosslessScan {
         alloc,
-        source,
-        coding,
-        tables,
-        rows,
-        &mut row,
-        &mut line,
-        planes.as_mut_slice(),
-    )?;
-    shift_all(planes.as_mut_slice(), coding.point_transform);
-    Ok((planes, marker))
+        row: Vec::new(alloc),
+        line: Vec::new(alloc),
+        planes,
+    };
+    let marker = scan.read_intervals(source, coding, tables, rows)?;
+    shift_all(scan.planes.as_mut_slice(), coding.point_transform);
+    Ok((scan.planes, marker))
 }
 
 /// Reads a lossless scan, an MCU of which has a sample for each of these tables, and gives its planes and the marker
