@@ -1,4 +1,4 @@
-//! The differences of a lossless scan (T.81, H.1.2.2).
+//! The differences of a lossless scan (T.81, H.1.2.2), read from its entropy-coded bits.
 ghost use Rattle.std.specs.Prelude.{◌≡◌, ◌+◌, ◌*◌, ◌≤◌, ◌<◌, map, length, OnOk};
 ghost use Rattle.jpeg_bits.specs.Entropy.{Takes};
 ghost use Rattle.jpeg_lossless.specs.Differences.{difference, differences, tables_of, onto};
@@ -9,7 +9,8 @@ use jpeg_bits::source::Source;
 use std::alloc::Global;
 use std::io::Read;
 
-/// The next difference, modulo 2^16.
+/// The next difference, modulo 2^16: a code of its category, and as many bits. A difference of
+/// category 16 is 32768 and has no bits; a category above 16 is refused.
 #[inline(always)]
 #[tactic(auto, unfolding(crate::specs::Differences::difference))]
 fn read_difference<R: Read + Drop>(
@@ -18,7 +19,8 @@ fn read_difference<R: Read + Drop>(
     source: &mut Source<R>,
     table: &HuffmanTable,
 ) -> Result<u16>
-    ensures { Takes (λ d. d) (difference table.now) decoder.old source.old result decoder.new source.new }
+    ensures { Takes (λ d. d) (difference table.now)
+        decoder.old source.old result decoder.new source.new }
 {
     let category = decoder.decode(source, table)?;
     if category > 16 {
@@ -34,7 +36,7 @@ fn read_difference<R: Read + Drop>(
     Ok(value.cast_unsigned())
 }
 
-/// Puts the differences of an MCU behind those of a row.
+/// Appends the differences of an MCU to those of a row.
 #[inline(always)]
 fn read_mcu<R: Read + Drop>(
     alloc: Global,
@@ -44,7 +46,8 @@ fn read_mcu<R: Read + Drop>(
     row: &mut Vec<u16>,
 ) -> Result<()>
     ensures long { OnOk result (length row.new.items ≡ length row.old.items + length tables.now) }
-    ensures reads { Takes (λ _. row.new.items) (onto row.old.items (differences (map (λ t. t.now) tables.now)))
+    ensures reads { Takes (λ _. row.new.items)
+        (onto row.old.items (differences (map (λ t. t.now) tables.now)))
         decoder.old source.old result decoder.new source.new }
 {
     for i in 0..tables.len() {
@@ -54,7 +57,8 @@ fn read_mcu<R: Read + Drop>(
     Ok(())
 }
 
-/// Reads the differences of a row of so many MCUs, each of a sample for each of these tables.
+/// Reads the differences of a row of `count` MCUs into `row`, in place of what it holds. An MCU has
+/// one for each of the tables.
 pub(crate) fn read_row<R: Read + Drop>(
     alloc: Global,
     decoder: &mut HuffmanDecoder,
@@ -64,7 +68,8 @@ pub(crate) fn read_row<R: Read + Drop>(
     row: &mut Vec<u16>,
 ) -> Result<()>
     ensures long { OnOk result (length row.new.items ≡ count * length tables.now) }
-    ensures reads { Takes (λ _. row.new.items) (differences (tables_of count (map (λ t. t.now) tables.now)))
+    ensures reads { Takes (λ _. row.new.items)
+        (differences (tables_of count (map (λ t. t.now) tables.now)))
         decoder.old source.old result decoder.new source.new }
 {
     row.clear();

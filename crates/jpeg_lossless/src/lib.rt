@@ -1,4 +1,4 @@
-//! Lossless pictures (T.81, Annex H): differences, predictions and samples.
+//! Lossless scans and their pictures (T.81, Annex H): differences, predictions and samples.
 #![tactic(auto)]
 
 mod differences;

@@ -1,10 +1,12 @@
-//! Lossless scans (T.81, H.1.2 and E.2.4).
-ghost use Rattle.std.specs.Prelude.{◌≡◌, ℕ, OnOk, ◌≤◌, ◌<◌, ◌+◌, ◌*◌, length, map, true, IfSome, IfNone, IfOk, Some, false, replicate, []};
+//! Lossless scans (T.81, H.1.2), and their restart intervals (E.2.4).
+ghost use Rattle.std.specs.Prelude.{◌≡◌, ◌≤◌, ◌<◌, ◌*◌, IfSome, IfNone, IfOk, true, false};
+ghost use Rattle.std.specs.Prelude.{length, map, replicate, []};
 ghost use Rattle.jpeg_bits.specs.Reading.{Answers};
 ghost use Rattle.jpeg_bits.specs.Entropy.{Takes};
 ghost use Rattle.jpeg_lossless.specs.Rows.{via_of, planes_from};
 ghost use Rattle.jpeg_lossless.specs.PlanesRead.{planes_interval, planes_intervals, planes_scan};
-ghost use Rattle.jpeg_lossless.specs.Scans.{is_restart, is_of_rows, rows_of_interval, shifted, scan_at};
+ghost use Rattle.jpeg_lossless.specs.Scans.{is_restart, is_of_rows, rows_of_interval};
+ghost use Rattle.jpeg_lossless.specs.Scans.{shifted, scan_at};
 ghost use Rattle.jpeg_lossless.specs.Codings.{way_by};
 ghost use Rattle.jpeg_lossless.specs.Pictures.{AreWhole};
 
@@ -20,25 +22,34 @@ use jpeg_bits::source::Source;
 use std::alloc::{AllocError, Global};
 use std::io::Read;
 
-/// How a lossless scan is coded.
+/// How a lossless scan is coded. An MCU has one sample of each component of the scan, so the MCUs
+/// are the pixels.
 #[derive(Clone, Copy, Debug, PartialEq)]
 pub struct Coding {
-    /// The MCUs of a row, and the rows.
+    /// How many MCUs a row has.
     pub wide: u16,
+    /// How many rows of MCUs there are.
     pub high: u16,
+    /// The bits of a sample, at most 16.
     pub precision: u8,
+    /// How samples are predicted.
     pub predictor: Predictor,
+    /// By how many bits the samples are shifted after prediction: fewer than the precision.
     pub point_transform: u8,
-    /// The restart interval in MCUs; 0 is none.
+    /// The restart interval in MCUs, or 0 for none.
     pub restart_interval: u16,
 }
 
-/// The lines of an interval.
+/// How many rows of MCUs a restart interval has: all without restarts, or where it holds the whole
+/// scan. It is none where an interval would end inside a row.
 fn rows_of_interval(coding: Coding) -> Option<u16>
     requires wide { 0 < coding.wide }
     requires high { 0 < coding.high }
-    ensures some { IfSome result (λ n. (n ≡ rows_of_interval coding.wide coding.high coding.restart_interval) × (0 < n) × (is_of_rows coding.wide coding.high coding.restart_interval ≡ true)) }
-    ensures none { IfNone result (is_of_rows coding.wide coding.high coding.restart_interval ≡ false) }
+    ensures some { IfSome result
+        (λ n. (n ≡ rows_of_interval coding.wide coding.high coding.restart_interval) × (0 < n)
+        × (is_of_rows coding.wide coding.high coding.restart_interval ≡ true)) }
+    ensures none { IfNone result
+        (is_of_rows coding.wide coding.high coding.restart_interval ≡ false) }
 {
     let count = u32::from(coding.wide) * u32::from(coding.high);
     let interval = coding.restart_interval;
@@ -51,13 +62,13 @@ fn rows_of_interval(coding: Coding) -> Option<u16>
     Some(interval / coding.wide)
 }
 
-/// A scan that is being read: the samples so far, and room for what is read of a row of MCUs.
+/// A scan that is being read: the samples so far, and buffers for a row of MCUs.
 #[derive(Drop)]
 struct LosslessScan {
     alloc: Global,
     /// The differences of a row of MCUs, in the order in which they are coded.
     row: Vec<u16>,
-    /// The differences of a line of one component, and then its samples.
+    /// A line of one component: its differences, and then its samples.
     line: Vec<u16>,
     /// The samples of each component, line by line.
     planes: Vec<Vec<u16>>,
@@ -85,7 +96,8 @@ impl LosslessScan {
         requires precision { coding.precision ≤ 16 }
         ensures count { length self.new.planes.items ≡ length self.old.planes.items }
         ensures long { (k : ℕ) → AreWhole k (map (λ v. v.items) self.old.planes.items)
-            → OnOk result (AreWhole (k + count * coding.wide) (map (λ v. v.items) self.new.planes.items)) }
+            → OnOk result (AreWhole (k + count * coding.wide)
+            (map (λ v. v.items) self.new.planes.items)) }
         ensures reads { Takes (λ _. map (λ v. v.items) self.new.planes.items)
             (planes_from (via_of coding (map (λ t. t.now) tables.now)) true count
             (map (λ v. v.items) self.old.planes.items))
@@ -128,7 +140,8 @@ impl LosslessScan {
         requires precision { coding.precision ≤ 16 }
         ensures count { length self.new.planes.items ≡ length self.old.planes.items }
         ensures long { (k : ℕ) → AreWhole k (map (λ v. v.items) self.old.planes.items)
-            → OnOk result (AreWhole (k + count * coding.wide) (map (λ v. v.items) self.new.planes.items)) }
+            → OnOk result (AreWhole (k + count * coding.wide)
+            (map (λ v. v.items) self.new.planes.items)) }
         ensures answers { Answers (λ m. (map (λ v. v.items) self.new.planes.items, m))
             (planes_interval (via_of coding (map (λ t. t.now) tables.now)) count
             (map (λ v. v.items) self.old.planes.items))
@@ -154,10 +167,11 @@ impl LosslessScan {
         requires precision { coding.precision ≤ 16 }
         ensures count { length self.new.planes.items ≡ length self.old.planes.items }
         ensures long { (k : ℕ) → AreWhole k (map (λ v. v.items) self.old.planes.items)
-            → OnOk result (AreWhole (k + coding.high * coding.wide) (map (λ v. v.items) self.new.planes.items)) }
+            → OnOk result (AreWhole (k + coding.high * coding.wide)
+            (map (λ v. v.items) self.new.planes.items)) }
         ensures answers { Answers (λ m. (map (λ v. v.items) self.new.planes.items, m))
-            (planes_intervals (coding.high + 1) (via_of coding (map (λ t. t.now) tables.now)) rows 0 coding.high
-            (map (λ v. v.items) self.old.planes.items))
+            (planes_intervals (coding.high + 1) (via_of coding (map (λ t. t.now) tables.now))
+            rows 0 coding.high (map (λ v. v.items) self.old.planes.items))
             source.old result source.new }
     {
         let mut number = 0u16;
@@ -174,7 +188,7 @@ impl LosslessScan {
     }
 }
 
-/// Whether a marker is RST with a number modulo 8.
+/// Whether a marker is the RST with this number modulo 8.
 fn is_restart(marker: Option<Marker>, number: u16) -> bool
     ensures { result ≡ is_restart number marker }
 {
@@ -184,7 +198,7 @@ fn is_restart(marker: Option<Marker>, number: u16) -> bool
     }
 }
 
-/// Empty planes with room for so many samples each.
+/// `count` empty planes, each with room for `size` samples.
 fn empty_planes(
     alloc: Global,
     count: usize,
@@ -200,18 +214,19 @@ fn empty_planes(
     Ok(planes)
 }
 
-/// Shifts the samples of planes by a point transform.
+/// Shifts each sample of the planes left by the point transform.
 fn shift_all(planes: &mut [Vec<u16>], point_transform: u8)
     requires { point_transform < 16 }
     ensures count { length planes.new ≡ length planes.old }
-    ensures planes { map (λ v. v.items) planes.new ≡ map (map (shifted point_transform)) (map (λ v. v.items) planes.old) }
+    ensures planes { map (λ v. v.items) planes.new
+        ≡ map (map (shifted point_transform)) (map (λ v. v.items) planes.old) }
 {
     for i in 0..planes.len() {
         shift(planes[i].as_mut_slice(), point_transform);
     }
 }
 
-/// Reads a scan, as `read_scan` does.
+/// Reads a scan as `read_scan` does, row by row.
 #[tactic(auto, unfolding(crate::specs::PlanesRead::planes_scan))]
 fn read_planes<R: Read + Drop>(
     alloc: Global,
@@ -224,13 +239,15 @@ fn read_planes<R: Read + Drop>(
     requires point { coding.point_transform < coding.precision }
     requires precision { coding.precision ≤ 16 }
     ensures count { IfOk result (λ r. length r.0.items ≡ length tables.now) }
-    ensures long { IfOk result (λ r. AreWhole (coding.high * coding.wide) (map (λ v. v.items) r.0.items)) }
+    ensures long { IfOk result
+        (λ r. AreWhole (coding.high * coding.wide) (map (λ v. v.items) r.0.items)) }
     ensures reads { Answers (λ r. (map (λ v. v.items) r.0.items, r.1))
-        (planes_scan (via_of coding (map (λ t. t.now) tables.now)) coding.high coding.restart_interval coding.point_transform)
+        (planes_scan (via_of coding (map (λ t. t.now) tables.now))
+        coding.high coding.restart_interval coding.point_transform)
         source.old result source.new }
 {
     let Some(rows) = rows_of_interval(coding) else {
-        return Err(format_error(alloc, "a restart interval ends inside a line"));
+        return Err(format_error(alloc, "a restart interval ends inside a row of MCUs"));
     };
     let size = usize::from(coding.wide) * usize::from(coding.high);
     let planes = empty_planes(alloc, tables.len(), size)?;
@@ -245,9 +262,14 @@ fn read_planes<R: Read + Drop>(
     Ok((scan.planes, marker))
 }
 
-/// Reads a lossless scan, an MCU of which has a sample for each of these tables, and gives its planes and the marker
-/// behind it, if it was met. The errors are want of memory, a failed or ended source, a refused code or category, a
-/// restart interval that ends inside a line, and a missing restart marker.
+/// Reads the entropy-coded data of a lossless scan, which has a table for each component. Returns a
+/// plane for each table, and the marker after the data, if it was met. A plane has `wide * high`
+/// samples, line by line, which are shifted by the point transform.
+///
+/// It is `Format` where a restart interval ends inside a row, bits are no code of their table, a
+/// category is above 16, FF 00 stands where a marker is expected, or an interval does not end with
+/// the restart marker that is due. It is `Io` where the bytes end or a read fails, `OutOfMemory`
+/// where no memory is left.
 pub fn read_scan<R: Read + Drop>(
     alloc: Global,
     source: &mut Source<R>,
@@ -259,9 +281,11 @@ pub fn read_scan<R: Read + Drop>(
     requires point { coding.point_transform < coding.precision }
     requires precision { coding.precision ≤ 16 }
     ensures count { IfOk result (λ r. length r.0.items ≡ length tables.now) }
-    ensures long { IfOk result (λ r. AreWhole (coding.wide * coding.high) (map (λ v. v.items) r.0.items)) }
+    ensures long { IfOk result
+        (λ r. AreWhole (coding.wide * coding.high) (map (λ v. v.items) r.0.items)) }
     ensures reads { Answers (λ r. (map (λ v. v.items) r.0.items, r.1))
-        (scan_at (way_by coding (map (λ t. t.now) tables.now)) coding.high coding.restart_interval coding.point_transform)
+        (scan_at (way_by coding (map (λ t. t.now) tables.now))
+        coding.high coding.restart_interval coding.point_transform)
         source.old result source.new }
 {
     read_planes(alloc, source, coding, tables)

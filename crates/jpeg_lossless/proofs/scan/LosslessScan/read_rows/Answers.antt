@@ -38,7 +38,7 @@ loop-left-preserved g c =
     let row = c.read_row.new.row.items in
     let grid = λ (l : List (Vec ℕ Global)). map (λ v. v.items) l in
     let count : length c.as_mut_slice.result.now ≡ length tables =
-        ap length back ∙ c.loop-left.invariant.count ∙ c.requires.planes ∙ sym (length-map c.args.tables.now (λ t. t.now)) in
+    ap length back ∙ c.loop-left.invariant.count ∙ c.requires.planes ∙ sym (length-map c.args.tables.now (λ t. t.now)) in
     let grown : next ≡ with_row v.selection v.start first v.wide (length tables) row 0 planes
     = same ∙ c.in_ok-add_row.ensures.planes
     ∙ ap (λ (s : ℕ). with_row coding.predictor s first c.from-wide.result (length c.as_mut_slice.result.now) c.deref.result.now 0 (grid c.as_mut_slice.result.now)) c.start_of.ensures
