@@ -268,8 +268,8 @@ fn read_planes<R: Read + Drop>(
 ///
 /// It is `Format` where a restart interval ends inside a row, bits are no code of their table, a
 /// category is above 16, FF 00 stands where a marker is expected, or an interval does not end with
-/// the restart marker that is due. It is `Io` where the bytes end or a read fails, `OutOfMemory`
-/// where no memory is left.
+/// the restart marker that is due. It is `Io` where the bytes end or a read fails, and
+/// `OutOfMemory` where no memory is left.
 pub fn read_scan<R: Read + Drop>(
     alloc: Global,
     source: &mut Source<R>,
