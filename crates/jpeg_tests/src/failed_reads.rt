@@ -1,11 +1,12 @@
-//! Reads that fail: the reader's own error is returned, nothing more is read, and what was given before is reported.
+//! Reads that fail: the reader's own error is returned, nothing more is read, and what was given
+//! before is reported.
 
 use crate::bytes::bytes;
-use crate::streams::{FAILURES, Reader, Trouble, is_own_error};
+use crate::streams::{Counted, Counts, FAILURES, Reader, Trouble, is_own_error};
 use jpeg_decoder::run::run;
 use jpeg_decoder::{CodingProcess, Decoder, Error, ImageInfo, PixelFormat};
 use std::alloc::Global;
-use std::io::{ErrorKind, Read};
+use std::io::ErrorKind;
 use std::process::Abort;
 use std::test::Fail;
 
@@ -31,8 +32,9 @@ const SEGMENTS: [(&str, &str); 20] = [
     ("DC table", "FFC4 0015 00 00*15 02 0B 00"),
     ("AC table", "FFC4 0014 10 01 00*15 00"),
     ("scan header", "FFDA 0008 01 01 00 00 3F 00"),
-    // The differences +1024, 0, -1024, 0, 0, 0, +1024, 0, 0, and 46 bits behind them. Of what is read ahead, some blocks leave less
-    // than the next category, the next bits of a difference, the next code of an AC coefficient, or the marker needs.
+    // The differences +1024, 0, -1024, 0, 0, 0, +1024, 0, 0, and 46 bits behind them. Of what is
+    // read ahead, some blocks leave less than the next category, the next bits of a difference, the
+    // next code of an AC coefficient, or the marker needs.
     (
         "scan",
         "0000800000100003 FF00 0000800040002000 0800000100 00BF FF00 00*4",
@@ -86,30 +88,50 @@ impl Stream {
         })
     }
 
-    /// Asserts that a decoder to which so many bytes were given reports the frame and the metadata whose segments are among them, and no
-    /// other.
-    fn assert_reported<R: Read + Drop>(
+    /// Asserts that a decoder reports the frame and the metadata whose segments are among the bytes
+    /// given, and no other.
+    fn assert_reported(
         &self,
         rt: &impl Abort,
-        decoder: &Decoder<R>,
+        decoder: &Decoder<Counted<'_>>,
         given: usize,
     ) -> Result<(), Fail> {
-        let info = (given >= self.frame_end).then_some(INFO);
-        assert!(rt; decoder.info() == info, "info of {given} bytes");
-        let exif = (given >= self.exif_end).then_some([1, 2, 3].as_slice());
-        assert!(rt; decoder.exif_data() == exif, "Exif of {given} bytes");
-        let xmp = (given >= self.xmp_end).then_some(b"<".as_slice());
-        assert!(rt; decoder.xmp_data() == xmp, "XMP of {given} bytes");
+        let is_info = is_reported(decoder.info(), INFO, self.frame_end, given);
+        assert!(rt; is_info, "info of {given} bytes");
+        let exif = [1, 2, 3].as_slice();
+        let is_exif = is_reported(decoder.exif_data(), exif, self.exif_end, given);
+        assert!(rt; is_exif, "Exif data of {given} bytes");
+        let xmp = b"<".as_slice();
+        let is_xmp = is_reported(decoder.xmp_data(), xmp, self.xmp_end, given);
+        assert!(rt; is_xmp, "XMP data of {given} bytes");
         let profile = decoder.icc_profile()?;
-        let profile = profile.as_ref().map(|bytes| bytes.as_slice());
-        let icc = (given >= self.icc_end).then_some([11].as_slice());
-        assert!(rt; profile == icc, "ICC of {given} bytes");
+        let bytes = profile.as_ref().map(|profile| profile.as_slice());
+        let is_profile = is_reported(bytes, [11].as_slice(), self.icc_end, given);
+        assert!(rt; is_profile, "ICC profile of {given} bytes");
         Ok(())
+    }
+
+    /// A reader of the stream, a byte at a time, whose call of this number fails.
+    fn reader<'a>(&'a self, call: usize, trouble: Trouble, counts: &'a Counts) -> Counted<'a> {
+        Counted::new(Reader::new(&self.bytes, 1, call, trouble), counts)
     }
 }
 
-/// Decodes, where it is asked for behind the header.
-fn decode<R: Read + Drop>(decoder: &mut Decoder<R>, header_first: bool) -> Result<Vec<u8>, Error> {
+/// Whether a segment's data is reported where its end is among the bytes given, and nothing before.
+fn is_reported<T: PartialEq + Drop>(
+    reported: Option<T>,
+    data: T,
+    end: usize,
+    given: usize,
+) -> bool {
+    match reported {
+        Some(reported) => given >= end && reported == data,
+        None => given < end,
+    }
+}
+
+/// Decodes, where it is asked for after the header.
+fn decode(decoder: &mut Decoder<Counted<'_>>, header_first: bool) -> Result<Vec<u8>, Error> {
     if header_first {
         decoder.read_info()?;
     }
@@ -125,25 +147,27 @@ fn assert_fails(
     kind: ErrorKind,
     header_first: bool,
 ) -> Result<(), Fail> {
-    let mut reader = Reader::new(&stream.bytes, 1, call, Trouble::FailsBy(kind));
-    let mut decoder = Decoder::new(alloc, &mut reader)?;
+    let counts = Counts::new();
+    let reader = stream.reader(call, Trouble::FailsBy(kind), &counts);
+    let mut decoder = Decoder::new(alloc, reader)?;
     let answer = decode(&mut decoder, header_first);
     assert!(rt; is_own_error(alloc, &answer, kind)?, "call {call}, {kind}");
-    stream.assert_reported(rt, &decoder, call)?;
+    stream.assert_reported(rt, &decoder, counts.given.get())?;
     for answer in [decoder.read_info(), decoder.decode().map(|_| ())] {
-        assert!(rt;
-            matches!(&answer, Err(Error::Internal("decoder has failed"))),
-            "call {call}, {kind}"
-        );
+        let has_failed = matches!(&answer, Err(Error::Internal("decoder has failed")));
+        assert!(rt; has_failed, "call {call}, {kind}");
     }
-    stream.assert_reported(rt, &decoder, call)?;
-    drop(decoder);
-    // The call that failed is the last.
-    assert!(rt;
-        reader.call.checked_sub(1) == Some(call),
-        "call {call}, {kind}"
-    );
+    stream.assert_reported(rt, &decoder, counts.given.get())?;
+    assert_is_last(rt, &counts, call);
     Ok(())
+}
+
+/// Asserts that the call of this number was the last.
+fn assert_is_last(rt: &impl Abort, counts: &Counts, call: usize) {
+    assert!(rt;
+        counts.calls.get().checked_sub(1) == Some(call),
+        "call {call}"
+    );
 }
 
 #[test]
@@ -152,12 +176,13 @@ fn the_long_stream_is_decoded(rt: HostRuntime) -> Result<(), Fail> {
     let stream = Stream::new(alloc)?;
     let picture = bytes(alloc, &[LINE; 8])?;
     for header_first in [false, true] {
-        let mut reader = Reader::new(&stream.bytes, 1, usize::MAX, Trouble::Fails);
-        let mut decoder = Decoder::new(alloc, &mut reader)?;
+        let counts = Counts::new();
+        let reader = stream.reader(usize::MAX, Trouble::Fails, &counts);
+        let mut decoder = Decoder::new(alloc, reader)?;
         assert!(rt; decode(&mut decoder, header_first)?.as_slice() == picture.as_slice());
-        stream.assert_reported(&rt, &decoder, stream.bytes.len())?;
-        drop(decoder);
-        assert_eq!(rt; reader.call, stream.bytes.len());
+        stream.assert_reported(&rt, &decoder, counts.given.get())?;
+        assert_eq!(rt; counts.given.get(), stream.bytes.len());
+        assert_eq!(rt; counts.calls.get(), stream.bytes.len());
     }
     Ok(())
 }
@@ -181,15 +206,13 @@ fn a_program_returns_the_error_of_each_read(rt: HostRuntime) -> Result<(), Fail>
     let stream = Stream::new(alloc)?;
     for kind in FAILURES {
         for call in 0..stream.bytes.len() {
-            let mut reader = Reader::new(&stream.bytes, 1, call, Trouble::FailsBy(kind));
+            let counts = Counts::new();
+            let reader = stream.reader(call, Trouble::FailsBy(kind), &counts);
             let mut written = Vec::new(alloc);
-            let answer = run(alloc, &mut reader, &mut written);
+            let answer = run(alloc, reader, &mut written);
             assert!(rt; is_own_error(alloc, &answer, kind)?, "call {call}, {kind}");
-            assert_eq!(rt; written.len(), 0);
-            assert!(rt;
-                reader.call.checked_sub(1) == Some(call),
-                "call {call}, {kind}"
-            );
+            assert!(rt; written.is_empty(), "call {call}, {kind}");
+            assert_is_last(&rt, &counts, call);
         }
     }
     Ok(())

@@ -1,4 +1,5 @@
-//! Writes that fail: the writer's own error is returned, nothing more is written, and what was taken is a beginning.
+//! Writes that fail: the writer's own error is returned, nothing more is written, and what was
+//! taken is a beginning.
 
 use crate::bytes::bytes;
 use crate::rows::ROW;
@@ -16,7 +17,8 @@ const OUTPUT: &str = "38 20 38 20 4C38 0A 81*64";
 /// How many writes of at most 5 bytes the line and the picture take.
 const WRITES: usize = 15;
 
-/// What `run` returns where the write of this number goes wrong. Asserts that it is the last, and that a beginning of the output was taken.
+/// What `run` returns where the write of this number goes wrong. Asserts that it is the last, and
+/// that a beginning of the output was taken.
 fn run_into(
     rt: &impl Abort,
     alloc: Global,

@@ -10,13 +10,11 @@ use std::test::Fail;
 #[test]
 fn many_interruptions_of_each_read_change_nothing(rt: HostRuntime) -> Result<(), Fail> {
     let stream = bytes(rt.alloc(), &ROW)?;
-    let mut reader = Reader::new(&stream, 1, usize::MAX, Trouble::Fails);
-    let mut decoder = Decoder::new(rt.alloc(), Interrupted::new(&mut reader))?;
+    let reader = Reader::new(&stream, 1, usize::MAX, Trouble::Fails);
+    let mut decoder = Decoder::new(rt.alloc(), Interrupted::new(reader))?;
     decoder.read_info()?;
     assert!(rt; decoder.info().is_some());
     assert_eq!(rt; decoder.decode()?.as_slice(), [129; 64].as_slice());
-    drop(decoder);
-    assert_eq!(rt; reader.call, stream.len());
     Ok(())
 }
 

@@ -8,7 +8,8 @@ use jpeg_decoder::run::run;
 use std::alloc::Global;
 use std::test::Fail;
 
-/// A stream of 1040 by 1016 pixels of 129. Its scan codes a first block of DC 8; all others are the zeros behind the end: no difference.
+/// A stream of 1040 by 1016 pixels of 129. Its scan codes a first block of DC 8; all others are the
+/// zeros behind the end: no difference.
 const LARGE: [&str; 8] = [
     "FFD8",
     "FFDB 0043 00 01*64",

@@ -1,11 +1,11 @@
-//! Calls that run out of memory. Where `rt try --test --fail-alloc N` refuses the Nth allocation, each returns `OutOfMemory` and nothing else, and
-//! what was read before is reported. Nothing here allocates but the calls themselves and a writer, which then returns an error of its own.
+//! Calls that run out of memory. Where `rt try --test --fail-alloc N` refuses the Nth allocation,
+//! each returns `OutOfMemory` and nothing else, and what was read before is reported. Nothing here
+//! allocates but the calls themselves and a writer, which then returns an error of its own.
 
-use crate::streams::{Counted, Trouble, Writer};
+use crate::streams::{Counted, Counts, Reader, Trouble, Writer};
 use jpeg_decoder::run::run;
 use jpeg_decoder::{CodingProcess, Decoder, Error, ImageInfo, PixelFormat};
 use std::alloc::Global;
-use std::cell::Cell;
 use std::io::ErrorKind;
 
 /// A stream of 8 by 8 pixels with Exif data, an ICC profile in two parts, and XMP data.
@@ -38,8 +38,9 @@ const INFO: ImageInfo = ImageInfo {
     coding_process: CodingProcess::DctSequential,
 };
 
-/// Whether what is reported of a segment fits the bytes given: its data where they go on behind it, and nothing where they end within
-/// it. Where they end with it, its data may be what there was no memory for.
+/// Whether what is reported of a segment fits the bytes given: its data where they go on behind it,
+/// and nothing where they end within it. Where they end with it, its data may be what there was no
+/// memory for.
 fn fits<T: PartialEq + Drop>(reported: Option<T>, data: T, end: usize, given: usize) -> bool {
     match reported {
         Some(reported) => given >= end && reported == data,
@@ -47,7 +48,8 @@ fn fits<T: PartialEq + Drop>(reported: Option<T>, data: T, end: usize, given: us
     }
 }
 
-/// Whether the profile that is reported fits the bytes given, or there is no memory to put it together.
+/// Whether the profile that is reported fits the bytes given, or there is no memory to put it
+/// together.
 fn profile_fits(decoder: &Decoder<Counted<'_>>, given: usize) -> bool {
     match decoder.icc_profile() {
         Ok(profile) => {
@@ -71,8 +73,9 @@ fn reports_all(decoder: &Decoder<Counted<'_>>) -> bool {
     reports(decoder, STREAM.len())
 }
 
-/// Whether `decode` returns the picture, or runs out of memory and leaves a failed decoder that reports what was read.
-fn fares(decoder: &mut Decoder<Counted<'_>>, given: &Cell<usize>) -> bool {
+/// Whether `decode` returns the picture, or runs out of memory and leaves a failed decoder that
+/// reports what was read.
+fn fares(decoder: &mut Decoder<Counted<'_>>, counts: &Counts) -> bool {
     match decoder.decode() {
         Ok(picture) => {
             picture.as_slice() == [129; 64].as_slice()
@@ -83,33 +86,41 @@ fn fares(decoder: &mut Decoder<Counted<'_>>, given: &Cell<usize>) -> bool {
                 )
         }
         Err(Error::OutOfMemory) => {
-            reports(decoder, given.get())
+            reports(decoder, counts.given.get())
                 && matches!(
                     &decoder.decode(),
                     Err(Error::Internal("decoder has failed"))
                 )
-                && reports(decoder, given.get())
+                && reports(decoder, counts.given.get())
         }
         Err(_) => false,
     }
 }
 
+/// A reader of the stream.
+fn reader(counts: &Counts) -> Counted<'_> {
+    Counted::new(
+        Reader::new(&STREAM, 1000, usize::MAX, Trouble::Fails),
+        counts,
+    )
+}
+
 /// Whether a decoder of the stream answers each call, or runs out of memory.
 fn decodes(alloc: Global) -> bool {
-    let given = Cell::new(0);
-    match Decoder::new(alloc, Counted::new(&STREAM, &given)) {
+    let counts = Counts::new();
+    match Decoder::new(alloc, reader(&counts)) {
         Ok(mut decoder) => match decoder.read_info() {
             // A profile that was refused is there at the next call, and the picture after it.
             Ok(()) => {
                 reports_all(&decoder)
                     && reports_all(&decoder)
-                    && fares(&mut decoder, &given)
+                    && fares(&mut decoder, &counts)
                     && reports_all(&decoder)
             }
             Err(e) => {
                 matches!(e, Error::OutOfMemory)
-                    && reports(&decoder, given.get())
-                    && reports(&decoder, given.get())
+                    && reports(&decoder, counts.given.get())
+                    && reports(&decoder, counts.given.get())
             }
         },
         Err(e) => matches!(e, Error::OutOfMemory),
@@ -118,9 +129,9 @@ fn decodes(alloc: Global) -> bool {
 
 /// Whether a decoder that has read nothing decodes the stream, or runs out of memory.
 fn decodes_at_once(alloc: Global) -> bool {
-    let given = Cell::new(0);
-    match Decoder::new(alloc, Counted::new(&STREAM, &given)) {
-        Ok(mut decoder) => fares(&mut decoder, &given),
+    let counts = Counts::new();
+    match Decoder::new(alloc, reader(&counts)) {
+        Ok(mut decoder) => fares(&mut decoder, &counts),
         Err(e) => matches!(e, Error::OutOfMemory),
     }
 }

@@ -479,7 +479,8 @@ fn is_as_wanted(alloc: Global, stream: &[u8], gives: Gives, step: usize) -> Resu
     )
 }
 
-/// Asserts that a stream of this name gives what is wanted, by `decode`, in pieces of several sizes, and by `run`.
+/// Asserts that a stream of this name gives what is wanted, by `decode`, in pieces of several
+/// sizes, and by `run`.
 pub fn assert_gives(
     rt: &impl Abort,
     alloc: Global,

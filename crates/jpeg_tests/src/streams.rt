@@ -97,23 +97,41 @@ impl Read for Reader<'_> {
     }
 }
 
-/// A reader of some bytes, and how many it has given, which is looked at from outside.
+/// How often a reader was called, and how many bytes it gave.
+#[derive(Drop)]
+pub struct Counts {
+    pub calls: Cell<usize>,
+    pub given: Cell<usize>,
+}
+
+impl Counts {
+    pub fn new() -> Counts {
+        Counts {
+            calls: Cell::new(0),
+            given: Cell::new(0),
+        }
+    }
+}
+
+/// A reader whose calls and bytes are counted, for a test to look at while a decoder has the reader.
 #[derive(Drop)]
 pub struct Counted<'a> {
-    rest: &'a [u8],
-    given: &'a Cell<usize>,
+    reader: Reader<'a>,
+    counts: &'a Counts,
 }
 
 impl<'a> Counted<'a> {
-    pub fn new(rest: &'a [u8], given: &'a Cell<usize>) -> Counted<'a> {
-        Counted { rest, given }
+    pub fn new(reader: Reader<'a>, counts: &'a Counts) -> Counted<'a> {
+        Counted { reader, counts }
     }
 }
 
 impl Read for Counted<'_> {
     fn read(&mut self, buf: &mut [u8]) -> io::Result<usize> {
-        let count = self.rest.read(buf)?;
-        self.given.set(self.given.get().wrapping_add(count));
+        let Counts { calls, given } = self.counts;
+        calls.set(calls.get().wrapping_add(1));
+        let count = self.reader.read(buf)?;
+        given.set(given.get().wrapping_add(count));
         Ok(count)
     }
 }
