@@ -34,3 +34,6 @@ pub mod Products
 pub mod FrameScans
 pub mod SlotCodings
 pub mod ScanCodings
+pub mod TakenBlocks
+pub mod BlocksBefore
+pub mod RenderedPlanes
