@@ -60,8 +60,7 @@ fn zero_blocks(
 ) -> std::result::Result<Vec<[i16; 64]>, AllocError>
     ensures { IfOk result (λ v. blocks_in v ≡ zero_of (component_in component.now)) }
 {
-    let count =
-        usize::from(component.block_size.height) * usize::from(component.block_size.width);
+    let count = usize::from(component.block_size.height) * usize::from(component.block_size.width);
     vec![in alloc; [0; 64]; count]
 }
 
@@ -116,7 +115,7 @@ pub fn render(
 ) -> std::result::Result<Vec<u8>, AllocError>
     requires scale { IsScale component.now.dct_scale }
     requires blocks {
-        let c = component_in component.now in length blocks.now ≡ c.blocks_high * c.blocks_wide }
+        length blocks.now ≡ component.now.block_size.height * component.now.block_size.width }
     ensures { IfOk result (λ v. v.items
         ≡ plane_by (component_in component.now) quantization.now (map to_block blocks.now)) }
 {
@@ -144,10 +143,11 @@ fn take_blocks(
 ) -> std::result::Result<Vec<Vec<[i16; 64]>>, AllocError>
     requires within { All (λ c. c.place < length held.old.items) codings.now }
     requires apart { AreApart (map (λ c. c.place) codings.now) }
-    ensures taken { IfOk result
-        (λ v. arrays_in v.items ≡ blocks_at (map coding_in codings.now) (arrays_in held.old.items)) }
-    ensures left { OnOk result
-        (arrays_in held.new.items ≡ without_blocks (map coding_in codings.now) (arrays_in held.old.items)) }
+    ensures taken { let codings = map coding_in codings.now in
+        IfOk result (λ v. arrays_in v.items ≡ blocks_at codings (arrays_in held.old.items)) }
+    ensures left { let codings = map coding_in codings.now in
+        OnOk result
+        (arrays_in held.new.items ≡ without_blocks codings (arrays_in held.old.items)) }
     ensures length { length held.new.items ≡ length held.old.items }
 {
     let mut taken = Vec::with_capacity(alloc, codings.len())?;

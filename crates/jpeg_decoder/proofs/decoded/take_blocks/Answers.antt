@@ -1,4 +1,4 @@
-use Rattle.std.proofs.Common.{◌≡◌, ◌<◌, ◌++◌, ◌∷◌, [], length, get_or, rules, arith}
+use Rattle.std.proofs.Common.{◌≡◌, ◌<◌, ◌++◌, ◌∷◌, [], length, get_or, rules}
 use Rattle.jpeg_decoder.proofs.TakenBlocks.{none-taken, taken-more, left-more}
 use Rattle.jpeg_decoder.proofs.decoded.take_blocks.Goals as goal
 
@@ -22,7 +22,9 @@ loop-coded-preserved c =
     let within : coded.place < length now = search rules in
     let left = c.loop-coded.invariant.left in
     record {
-      taken = rw more (taken-more cs i coded old now c.loop-coded.taken.items v (search rules) c.coded-item.is c.requires.apart within at left c.loop-coded.invariant.taken);
-      left = left-more cs i coded old now c.replace-blocks.new.dest (search rules) c.coded-item.is (search rules) left;
+      taken = rw more (taken-more cs i coded old now c.loop-coded.taken.items v (search rules) c.coded-item.is
+          c.requires.apart within at left c.loop-coded.invariant.taken);
+      left = left-more cs i coded old now c.replace-blocks.new.dest (search rules) c.coded-item.is (search rules)
+          left;
       length = search rules;
     }

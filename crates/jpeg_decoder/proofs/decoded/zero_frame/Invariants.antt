@@ -5,4 +5,5 @@ use Rattle.jpeg_decoder.specs.Scans.{zero_of}
 use Rattle.jpeg_decoder.proofs.decoded.zero_frame.Given as goal
 
 abbrev pub invariant-loop-component : goal.invariant-loop-component
-invariant-loop-component l = arrays_in l.arrays.items ≡ map zero_of (map component_in (take l.component-index l.component-items))
+invariant-loop-component l = arrays_in l.arrays.items
+    ≡ map zero_of (map component_in (take l.component-index l.component-items))

@@ -7,4 +7,5 @@ use Rattle.jpeg_decoder.proofs.decoded.zero_scan.Goals as goal
 pub returns : goal.returns
 returns c =
     c.loop-coded.invariant
-    ∙ zeros-all (λ (x : Coded). component_in x.component.now) c.args.codings.now _ c.loop-coded.coded-index (omega arith) refl
+    ∙ zeros-all (λ (x : Coded). component_in x.component.now) c.args.codings.now _ c.loop-coded.coded-index
+    (omega arith) refl
