@@ -36,3 +36,6 @@ pub mod DecidedPlanes
 pub mod Soundness
 pub mod SlotCodings
 pub mod ScanCodings
+pub mod TakenBlocks
+pub mod BlocksBefore
+pub mod RenderedPlanes

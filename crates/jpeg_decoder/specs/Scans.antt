@@ -26,9 +26,13 @@ put_blocks [] blocks arrays = arrays
 put_blocks (s ∷ spots) [] arrays = arrays
 put_blocks (s ∷ spots) (b ∷ blocks) arrays = put_blocks spots blocks (put_block s b arrays)
 
--- the blocks of components in which nothing was read yet
+-- the blocks of a component in which nothing was read yet
+abbrev pub zero_of : Component → List Block
+zero_of c = replicate (c.blocks_high * c.blocks_wide) zero_block
+
+-- those of some components
 unfoldable pub zero_arrays : List Component → Arrays
-zero_arrays components = map (λ c. replicate (c.blocks_high * c.blocks_wide) zero_block) components
+zero_arrays components = map zero_of components
 
 -- a table without codes
 abbrev pub no_table : HuffmanTableClass → Table

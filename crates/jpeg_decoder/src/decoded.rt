@@ -1,21 +1,18 @@
 //! What the scans of a frame have given so far: blocks, and planes (T.81, A.2 and G.1).
-ghost use Rattle.std.specs.Prelude.{◌≡◌, ◌<◌, ◌≤◌, ◌*◌, ◌+◌, ◌++◌, [], All, pos, IfOk, IfErr, MatchResult, None, OnOk, length, map, replicate, slice_index_or, slice_set};
+ghost use Rattle.std.specs.Prelude.{◌≡◌, ◌<◌, ◌≤◌, ◌*◌, [], All, pos, IfOk, IfErr, MatchResult, None, OnOk, length, map, replicate, slice_index_or, slice_set};
 ghost use Rattle.std.specs.List.{list_all};
-ghost use Rattle.jpeg_bits.specs.BlockView.{pass_in, IsPass};
-ghost use Rattle.jpeg_bits.specs.declared.error.Error.TheVariants.{OutOfMemory};
+ghost use Rattle.jpeg_bits.specs.BlockView.{pass_in, to_block, IsPass};
 ghost use Rattle.jpeg_pixels.specs.Scaled.{IsScale};
 ghost use Rattle.jpeg_pixels.specs.Pictures.{AreWhole};
 ghost use Rattle.jpeg_segments.specs.FrameView.{component_in, frame_in};
-ghost use Rattle.jpeg_decoder.specs.Rasters.{ordered};
 ghost use Rattle.jpeg_bits.specs.Reading.{Answers};
 ghost use Rattle.std.specs.List.{AllByRecursion};
-ghost use Rattle.jpeg_decoder.specs.InTurn.{Fits};
+ghost use Rattle.jpeg_decoder.specs.InTurn.{AreApart, Fits};
 ghost use Rattle.jpeg_decoder.specs.Scanning.{arrays_in, blocks_in, components_in, sizes_of, HasAc, HasCodedScale};
-ghost use Rattle.jpeg_decoder.specs.Scans.{zero_arrays};
+ghost use Rattle.jpeg_decoder.specs.Scans.{zero_arrays, zero_of};
 ghost use Rattle.jpeg_decoder.specs.Seen.{planes_in};
 ghost use Rattle.jpeg_decoder.specs.Stream.{finished_by, none_finished, plane_by, put_arrays};
 ghost use Rattle.jpeg_decoder.specs.Steps.{blocks_at, coding_in, planes_at, without_blocks};
-ghost use Rattle.jpeg_bits.specs.BlockView.{to_block};
 ghost use Rattle.jpeg_pixels.specs.Zigzag.{coefficients_in_block_order};
 
 use crate::codings::{Coded, is_progressive};
@@ -66,10 +63,9 @@ fn zero_blocks(
     alloc: Global,
     component: &Component,
 ) -> std::result::Result<Vec<[i16; 64]>, AllocError>
-    ensures { IfOk result (λ v. v.items ≡ replicate ((component_in component.now).blocks_high * (component_in component.now).blocks_wide) (replicate 64 (pos 0))) }
+    ensures { IfOk result (λ v. blocks_in v ≡ zero_of (component_in component.now)) }
 {
-    let count =
-        usize::from(component.block_size.height) * usize::from(component.block_size.width);
+    let count = usize::from(component.block_size.height) * usize::from(component.block_size.width);
     vec![in alloc; [0; 64]; count]
 }
 
@@ -78,7 +74,8 @@ fn zero_frame(
     alloc: Global,
     frame: &FrameInfo,
 ) -> std::result::Result<Vec<Vec<[i16; 64]>>, AllocError>
-    ensures { IfOk result (λ v. arrays_in v.items ≡ zero_arrays (frame_in frame.now).components) }
+    ensures { IfOk result
+        (λ v. arrays_in v.items ≡ zero_arrays (frame_in frame.now).components) }
 {
     let mut arrays = Vec::with_capacity(alloc, frame.components.len())?;
     for component in &frame.components {
@@ -92,7 +89,8 @@ fn zero_scan(
     alloc: Global,
     codings: &[Coded<'_>],
 ) -> std::result::Result<Vec<Vec<[i16; 64]>>, AllocError>
-    ensures { IfOk result (λ v. arrays_in v.items ≡ zero_arrays (map (λ c. component_in c.component.now) codings.now)) }
+    ensures { IfOk result
+        (λ v. arrays_in v.items ≡ zero_arrays (components_in codings.now)) }
 {
     let mut arrays = Vec::with_capacity(alloc, codings.len())?;
     for coded in codings {
@@ -101,7 +99,7 @@ fn zero_scan(
     Ok(arrays)
 }
 
-/// A row of blocks in block order.
+/// Puts a row of blocks into block order.
 fn order_row(row: &[[i16; 64]], ordered: &mut Vec<[i16; 64]>) -> std::result::Result<(), AllocError>
     ensures { OnOk result (ordered.new.items ≡ map coefficients_in_block_order row.now) }
 {
@@ -121,8 +119,10 @@ pub fn render(
     blocks: &[[i16; 64]],
 ) -> std::result::Result<Vec<u8>, AllocError>
     requires scale { IsScale component.now.dct_scale }
-    requires blocks { length blocks.now ≡ (component_in component.now).blocks_high * (component_in component.now).blocks_wide }
-    ensures { IfOk result (λ v. v.items ≡ plane_by (component_in component.now) quantization.now (map to_block blocks.now)) }
+    requires blocks {
+        length blocks.now ≡ component.now.block_size.height * component.now.block_size.width }
+    ensures { IfOk result (λ v. v.items
+        ≡ plane_by (component_in component.now) quantization.now (map to_block blocks.now)) }
 {
     let table = values_in_order(quantization);
     let wide = usize::from(component.block_size.width);
@@ -131,7 +131,7 @@ pub fn render(
     let mut plane = Vec::with_capacity(alloc, wide * scale * (high * scale))?;
     let mut ordered = Vec::with_capacity(alloc, wide)?;
     let mut start = 0;
-    for _ in 0..high {
+    for row in 0..high {
         order_row(&blocks[start..start + wide], &mut ordered)?;
         append_row(&mut plane, scale, &ordered, &table)?;
         start += wide;
@@ -139,14 +139,21 @@ pub fn render(
     Ok(plane)
 }
 
-/// Takes the blocks of a scan's components out of those that are held.
+/// Takes the blocks of a scan's components out of those that are held, and leaves none in their
+/// places.
 fn take_blocks(
     alloc: Global,
     codings: &[Coded<'_>],
     held: &mut Vec<Vec<[i16; 64]>>,
 ) -> std::result::Result<Vec<Vec<[i16; 64]>>, AllocError>
-    ensures taken { IfOk result (λ v. arrays_in v.items ≡ blocks_at (map coding_in codings.now) (arrays_in held.old.items)) }
-    ensures left { OnOk result (arrays_in held.new.items ≡ without_blocks (map coding_in codings.now) (arrays_in held.old.items)) }
+    requires within { All (λ c. c.place < length held.old.items) codings.now }
+    requires apart { AreApart (map (λ c. c.place) codings.now) }
+    ensures taken { let codings = map coding_in codings.now in
+        IfOk result (λ v. arrays_in v.items ≡ blocks_at codings (arrays_in held.old.items)) }
+    ensures left { let codings = map coding_in codings.now in
+        OnOk result
+        (arrays_in held.new.items ≡ without_blocks codings (arrays_in held.old.items)) }
+    ensures length { length held.new.items ≡ length held.old.items }
 {
     let mut taken = Vec::with_capacity(alloc, codings.len())?;
     for coded in codings {
@@ -219,7 +226,7 @@ impl Decoded {
 
     /// Nothing was read.
     pub fn new(alloc: Global) -> Decoded
-        ensures held { result.held.items ≡ [] }
+        ensures held { arrays_in result.held.items ≡ [] }
         ensures finished { result.finished ≡ replicate 4 none_finished }
         ensures planes { planes_in result.planes ≡ replicate 4 None }
     {

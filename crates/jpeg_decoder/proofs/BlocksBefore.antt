@@ -1,0 +1,79 @@
+-- What a scan begins with, what it finishes, and the length of a plane.
+use Rattle.std.proofs.Common.{◌≡◌, ◌≢◌, ◌≤◌, ℕ, zero, suc, ◌+◌, ◌-◌, ◌*◌, ℤ, pos, Bool, true, List, [], ◌∷◌, ◌++◌, refl, ap, ◌∙◌, length, map, take, drop, replicate, arith, ne_eqb, Result, Ok, Err}
+use Rattle.std.specs.Prelude.{slice_index_or, IfOk}
+use Rattle.std.specs.Array.{AllZipBelow}
+use Rattle.std.specs.List.{each_same}
+use Rattle.std.specs.declared.alloc.Global.{Global}
+use Rattle.std.specs.declared.vec.Vec.{Vec}
+use Rattle.std.proofs.lemmas.List.{drop-drop, take_all}
+use Rattle.std.proofs.lemmas.List.FromFn.{length-map-range_with_len}
+use Rattle.jpeg_bits.specs.BlockView.{to_block}
+use Rattle.jpeg_bits.specs.Passes.{Block, Pass, zero_block, listed}
+use Rattle.jpeg_segments.specs.Frame.{Component}
+use Rattle.jpeg_pixels.specs.Planes.{plane_of}
+use Rattle.jpeg_pixels.specs.Zigzag.{coefficients_in_block_order}
+use Rattle.jpeg_decoder.specs.Rasters.{ordered}
+use Rattle.jpeg_decoder.specs.Scanning.{blocks_in}
+use Rattle.jpeg_decoder.specs.Scans.{zero_of, zero_arrays}
+use Rattle.jpeg_decoder.specs.Stream.{finished_by, plane_by}
+
+-- ---- zeros
+
+pub zero-blocks : (n : ℕ) → map to_block (replicate n (replicate 64 (pos 0))) ≡ replicate n zero_block
+unfolding zero_block
+zero-blocks zero = refl
+zero-blocks (suc n) = ap (λ (l : List Block). zero_block ∷ l) (zero-blocks n)
+
+-- the blocks of a component, as many as they are
+pub zeros-made : {E : Type 0} (r : Result (Vec (List ℤ) Global) E) (c : Component) (n : ℕ)
+    → n ≡ c.blocks_high * c.blocks_wide
+    → IfOk r (λ v. ((y : List ℤ) → AllZipBelow (λ x y. y ≡ x) (replicate 64 (pos 0)) y 64 → y ≡ replicate 64 (pos 0))
+    → v.items ≡ replicate n (replicate 64 (pos 0)))
+    → IfOk r (λ v. blocks_in v ≡ zero_of c)
+zeros-made (Err e) c n h f = tt
+zeros-made (Ok v) c n h f =
+    ap (map to_block) (f (λ y z. each_same (replicate 64 (pos 0)) y z.whole)) ∙ zero-blocks n
+    ∙ ap (λ (k : ℕ). replicate k zero_block) h
+
+-- ---- the marks of a pass
+
+pub marked-by : (p : Pass) (marks new : List Bool) (from n : ℕ) → p.al ≡ 0 → from ≡ p.ss → n ≡ suc p.se - p.ss
+    → p.ss ≤ p.se → new ≡ replicate n true
+    → take from marks ++ (new ++ drop n (drop from marks)) ≡ finished_by p marks
+unfolding finished_by
+marked-by p marks new from n level f c order e =
+    let end : from + n ≡ suc p.se = omega arith in
+    rw (level, e, drop-drop, end, f, c) refl
+
+pub unmarked-by : (p : Pass) (marks : List Bool) → p.al ≢ 0 → marks ≡ finished_by p marks
+unfolding finished_by
+unmarked-by p marks level = rw (ne_eqb p.al 0 level) refl
+
+-- ---- block order
+
+listed-at : (l : List ℤ) (i : ℕ) → slice_index_or (listed (to_block l)) i (pos 0) ≡ slice_index_or l i (pos 0)
+listed-at [] zero = refl
+listed-at [] (suc i) = refl
+listed-at (x ∷ l) zero = refl
+listed-at (x ∷ l) (suc i) = refl
+
+pub ordered-is : (l : List ℤ) → ordered (to_block l) ≡ coefficients_in_block_order l
+unfolding coefficients_in_block_order
+ordered-is l = simp (listed-at l)
+
+-- ---- the length of a plane
+
+-- A plane has a sample for each place of the lines and columns of its blocks.
+pub plane_by-length : (c : Component) (quantization : List ℕ) (blocks : List Block)
+    → length (plane_by c quantization blocks) ≡ (c.blocks_high * c.scale) * (c.blocks_wide * c.scale)
+unfolding plane_by plane_of
+plane_by-length c quantization blocks =
+    length-map-range_with_len _ 0 (c.scale * c.blocks_wide * (c.scale * c.blocks_high))
+    ∙ (let e : c.scale * c.blocks_wide * (c.scale * c.blocks_high)
+    ≡ (c.blocks_high * c.scale) * (c.blocks_wide * c.scale) = grind (arith) in e)
+
+-- after the last component
+pub zeros-all : {A : Type 0} (f : A → Component) (xs items : List A) (i : ℕ) → length xs ≤ i → xs ≡ items
+    → map zero_of (map f (take i xs)) ≡ zero_arrays (map f items)
+unfolding zero_arrays
+zeros-all f xs items i h e = ap (λ (l : List _). map zero_of (map f l)) (take_all i xs h ∙ e)

@@ -1,0 +1,123 @@
+-- Blocks that are taken out of those that are held, and put back.
+use Rattle.std.proofs.Common.{◌≡◌, ◌≢◌, ◌<◌, ℕ, zero, suc, ◌+◌, ℤ, List, [], ◌∷◌, ◌++◌, refl, sym, ap, ap₂, ◌∙◌, length, get_or, set, map, take, arith}
+use Rattle.std.specs.declared.alloc.Global.{Global}
+use Rattle.std.specs.declared.vec.Vec.{Vec}
+use Rattle.std.proofs.Math.Logic.{inl, inr}
+use Rattle.std.proofs.lemmas.List.{get_or-set_other, map-append, map-set, set_comm, take_more}
+use Rattle.jpeg_bits.specs.Passes.{Block}
+use Rattle.jpeg_bits.specs.BlockView.{to_block}
+use Rattle.jpeg_decoder.specs.declared.codings.Coded.{Coded}
+use Rattle.jpeg_decoder.specs.InTurn.{AreApart, IsIn}
+use Rattle.jpeg_decoder.specs.Scans.{Arrays}
+use Rattle.jpeg_decoder.specs.Scanning.{arrays_in, blocks_in}
+use Rattle.jpeg_decoder.specs.Steps.{blocks_at, coding_in, without_blocks}
+use Rattle.jpeg_decoder.specs.Stream.{Coding, put_arrays}
+
+abbrev pub places_of : List Coding → List ℕ
+places_of codings = map (λ c. c.place) codings
+
+set-twice : {A : Type 0} (l : List A) (i : ℕ) (a b : A) → set (set l i a) i b ≡ set l i b
+set-twice [] i a b = refl
+set-twice (x ∷ l) zero a b = refl
+set-twice (x ∷ l) (suc i) a b = ap (λ (r : List _). x ∷ r) (set-twice l i a b)
+
+-- what is left elsewhere
+pub left-elsewhere : (codings : List Coding) (held : Arrays) (place : ℕ) → (IsIn place (places_of codings) → ⊥)
+    → get_or (without_blocks codings held) place [] ≡ get_or held place []
+unfolding without_blocks
+left-elsewhere [] held place n = refl
+left-elsewhere (c ∷ more) held place n =
+    let other : place ≢ c.place = λ e. n (inl (sym e)) in
+    left-elsewhere more (set held c.place []) place (λ i. n (inr i)) ∙ get_or-set_other held c.place place [] [] other
+
+-- A place elsewhere may be set before or after.
+set-after : (codings : List Coding) (held : Arrays) (place : ℕ) (blocks : List Block)
+    → (IsIn place (places_of codings) → ⊥)
+    → set (without_blocks codings held) place blocks ≡ without_blocks codings (set held place blocks)
+unfolding without_blocks
+set-after [] held place blocks n = refl
+set-after (c ∷ more) held place blocks n =
+    let other : c.place ≢ place = λ e. n (inl e) in
+    set-after more (set held c.place []) place blocks (λ i. n (inr i))
+    ∙ ap (without_blocks more) (set_comm held c.place place [] blocks other)
+
+-- The blocks of a scan's components are put in the same places, whether those were emptied before or not.
+pub put-back : (codings : List Coding) (arrays held : Arrays) → AreApart (places_of codings)
+    → length arrays ≡ length codings
+    → put_arrays codings arrays (without_blocks codings held) ≡ put_arrays codings arrays held
+unfolding put_arrays without_blocks
+put-back [] arrays held apart e = refl
+put-back (c ∷ more) [] held apart e = absurd (omega arith)
+put-back (c ∷ more) (blocks ∷ arrays) held apart e =
+    ap (put_arrays more arrays) (set-after more (set held c.place []) c.place blocks apart.0)
+    ∙ put-back more arrays (set (set held c.place []) c.place blocks) apart.1 (omega arith)
+    ∙ ap (put_arrays more arrays) (set-twice held c.place [] blocks)
+
+-- ---- one component more
+
+left-one : (codings : List Coding) (c : Coding) (held : Arrays)
+    → without_blocks (codings ++ c ∷ []) held ≡ set (without_blocks codings held) c.place []
+unfolding without_blocks
+left-one [] c held = refl
+left-one (d ∷ more) c held = left-one more c (set held d.place [])
+
+more-codings : (cs : List Coded) (i : ℕ) (c : Coded) → i < length cs → c ≡ get_or cs i c
+    → map coding_in (take (i + 1) cs) ≡ map coding_in (take i cs) ++ coding_in c ∷ []
+more-codings cs i c h e =
+    ap (map coding_in) (take_more cs i c h ∙ ap (λ (x : Coded). take i cs ++ x ∷ []) (sym e))
+    ∙ map-append coding_in (take i cs) (c ∷ [])
+
+not-before : (cs : List Coded) (i : ℕ) (c : Coded) → i < length cs → c ≡ get_or cs i c
+    → AreApart (map (λ (x : Coded). x.place) cs) → IsIn c.place (places_of (map coding_in (take i cs))) → ⊥
+not-before [] i c h e apart n = absurd (omega arith)
+not-before (x ∷ cs) zero c h e apart n = n
+not-before (x ∷ cs) (suc i) c h e apart (inl same) = apart.0 (is-in cs i c x.place (omega arith) e (sym same))
+  where
+    is-in : (cs : List Coded) (i : ℕ) (c : Coded) (p : ℕ) → i < length cs → c ≡ get_or cs i c → c.place ≡ p
+        → IsIn p (map (λ (x : Coded). x.place) cs)
+    is-in [] i c p h e same = absurd (omega arith)
+    is-in (x ∷ cs) zero c p h e same = inl (ap (λ (y : Coded). y.place) (sym e) ∙ same)
+    is-in (x ∷ cs) (suc i) c p h e same = inr (is-in cs i c p (omega arith) e same)
+not-before (x ∷ cs) (suc i) c h e apart (inr n) = not-before cs i c (omega arith) e apart.1 n
+
+abbrev Held : Type 0
+Held = Vec (List ℤ) Global
+
+blocks-of : (vs : List Held) (i : ℕ) (v : Held) → i < length vs → v ≡ get_or vs i v
+    → get_or (arrays_in vs) i [] ≡ blocks_in v
+blocks-of [] i v h e = absurd (omega arith)
+blocks-of (x ∷ vs) zero v h e = ap blocks_in (sym e)
+blocks-of (x ∷ vs) (suc i) v h e = blocks-of vs i v (omega arith) e
+
+-- one component more is taken
+pub taken-more : (cs : List Coded) (i : ℕ) (c : Coded) (old now taken : List Held) (v : Held) → i < length cs
+    → c ≡ get_or cs i c → AreApart (map (λ (x : Coded). x.place) cs)
+    → c.place < length now → v ≡ get_or now c.place v
+    → arrays_in now ≡ without_blocks (map coding_in (take i cs)) (arrays_in old)
+    → arrays_in taken ≡ blocks_at (map coding_in (take i cs)) (arrays_in old)
+    → arrays_in (taken ++ v ∷ []) ≡ blocks_at (map coding_in (take (i + 1) cs)) (arrays_in old)
+taken-more cs i c old now taken v h e apart within is left so_far =
+    map-append blocks_in taken (v ∷ [])
+    ∙ ap₂ (λ (a : Arrays) (b : List Block). a ++ b ∷ []) so_far
+    (sym (blocks-of now c.place v within is) ∙ ap (λ (a : Arrays). get_or a c.place []) left
+    ∙ left-elsewhere (map coding_in (take i cs)) (arrays_in old) c.place (not-before cs i c h e apart))
+    ∙ sym (ap (λ (l : List Coding). blocks_at l (arrays_in old)) (more-codings cs i c h e)
+    ∙ map-append (λ (x : Coding). get_or (arrays_in old) x.place []) (map coding_in (take i cs))
+    (coding_in c ∷ []))
+
+-- and none of its blocks are left
+pub left-more : (cs : List Coded) (i : ℕ) (c : Coded) (old now : List Held) (empty : Held) → i < length cs
+    → c ≡ get_or cs i c → empty.items ≡ []
+    → arrays_in now ≡ without_blocks (map coding_in (take i cs)) (arrays_in old)
+    → arrays_in (set now c.place empty) ≡ without_blocks (map coding_in (take (i + 1) cs)) (arrays_in old)
+left-more cs i c old now empty h e none left =
+    map-set blocks_in now c.place empty
+    ∙ ap₂ (λ (a : Arrays) (b : List Block). set a c.place b) left (ap (map to_block) none)
+    ∙ sym (ap (λ (l : List Coding). without_blocks l (arrays_in old)) (more-codings cs i c h e)
+    ∙ left-one (map coding_in (take i cs)) (coding_in c) (arrays_in old))
+
+-- before the first, and after the last
+pub none-taken : (cs : List Coded) (old : List Held)
+    → arrays_in old ≡ without_blocks (map coding_in (take 0 cs)) (arrays_in old)
+unfolding without_blocks
+none-taken cs old = refl

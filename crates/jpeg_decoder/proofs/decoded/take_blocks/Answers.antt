@@ -1,0 +1,30 @@
+use Rattle.std.proofs.Common.{◌≡◌, ◌<◌, ◌++◌, ◌∷◌, [], length, get_or, rules}
+use Rattle.jpeg_decoder.proofs.TakenBlocks.{none-taken, taken-more, left-more}
+use Rattle.jpeg_decoder.proofs.decoded.take_blocks.Goals as goal
+
+pub loop-coded-init : goal.loop-coded-init
+loop-coded-init c = record {
+  taken = search rules;
+  left = none-taken c.args.codings.now c.args.held.now.items;
+  length = search rules;
+}
+
+pub loop-coded-preserved : goal.loop-coded-preserved
+loop-coded-preserved c =
+    let cs = c.args.codings.now in
+    let i = c.loop-coded.coded-index in
+    let coded = c.coded-item.result in
+    let old = c.args.held.now.items in
+    let now = c.loop-coded.held.items in
+    let v = c.replace-blocks.result in
+    let more : c.push.new.self.items ≡ c.loop-coded.taken.items ++ v ∷ [] = search rules in
+    let at : v ≡ get_or now coded.place v = search rules in
+    let within : coded.place < length now = search rules in
+    let left = c.loop-coded.invariant.left in
+    record {
+      taken = rw more (taken-more cs i coded old now c.loop-coded.taken.items v (search rules) c.coded-item.is
+          c.requires.apart within at left c.loop-coded.invariant.taken);
+      left = left-more cs i coded old now c.replace-blocks.new.dest (search rules) c.coded-item.is (search rules)
+          left;
+      length = search rules;
+    }
