@@ -2,7 +2,18 @@
 ghost use Rattle.std.specs.Prelude.{◌≡◌, [], ◌∷◌, ◌++◌, replicate, Ok, Err};
 ghost use Rattle.jpeg_bits.specs.Reading.{Malformed, Lacks, End};
 ghost use Rattle.jpeg_bits.specs.declared.error.UnsupportedFeature.TheVariants.{DNL};
+ghost use Rattle.jpeg_segments.specs.Scales.{scale_for};
 ghost use Rattle.jpeg_decoder.specs.Worked.{picture_meant, stream_with, stream_without_height, stream_of_one_coefficient, lines_of};
+
+/// The scales for some sizes that are asked for.
+pub fn known_scales()
+    ensures eighth { scale_for 5472 3648 684 456 ≡ 1 }
+    ensures quarter { scale_for 5472 3648 685 999 ≡ 2 }
+    ensures half { scale_for 5472 3648 1400 1400 ≡ 4 }
+    ensures whole { scale_for 5472 3648 16384 16384 ≡ 8 }
+    ensures either_side { scale_for 500 333 63 42 ≡ 1 }
+    ensures least { scale_for 1 1 65535 65535 ≡ 8 }
+{}
 
 /// Ten streams and what they mean.
 pub fn known_streams()
