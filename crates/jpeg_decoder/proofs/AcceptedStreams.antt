@@ -73,4 +73,3 @@ pub data WritesStream (array : Coefficients) (tail : List ℕ) : List ℕ → Fo
   stream : (behind : Marker) (fill code : ℕ) (more : List ℕ) (final : Found) (last : ℕ → Levels) → IsMarker code behind
       → WritesHead array tail nothing_found behind more final last
       → WritesStream array tail (0xFF ∷ 0xD8 ∷ marker fill code more) final last
-

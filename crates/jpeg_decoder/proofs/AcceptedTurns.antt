@@ -151,10 +151,13 @@ coding-facts w frame p tables place d a k e =
     let table = bind-ok (needed (slice_index_or w.quantization component.0.factors.quantization None)) _ k component.2 in
     let dc = bind-ok (needed_if (p.ss == 0) _ (slice_index_or tables.dc d None)) _ k table.2 in
     let ac = bind-ok (needed_if (nat_lt 0 p.se) _ (slice_index_or tables.ac a None)) _ k dc.2 in
-    subst (λ (x : Coding). CodingFacts w frame x × (x.place ≡ place)) (ok-same _ k ac.2)
-      (record {
+    subst (λ (x : Coding). CodingFacts w frame x × (x.place ≡ place)) (ok-same _ k ac.2) (
+      record {
         at = first-drop place frame.components component.0 (needed-some (first_of (drop place frame.components)) component.0 component.1);
-        table = needed-some (slice_index_or w.quantization component.0.factors.quantization None) table.0 table.1 }, refl)
+        table = needed-some (slice_index_or w.quantization component.0.factors.quantization None) table.0 table.1;
+      },
+      refl,
+    )
 
 codings-facts_from : (w : Found) (frame : Frame) (p : Pass) (tables : Tables) (places ds ks : List ℕ) (codings : List Coding) → length ds ≡ length places → length ks ≡ length places
     → codings_from w frame p tables places ds ks ≡ Ok codings → (length codings ≡ length places) × AllByRecursion (CodingFacts w frame) codings × (map (λ c. c.place) codings ≡ places)
@@ -170,7 +173,7 @@ codings-facts_from w frame p tables (x ∷ places) (d ∷ ds) (a ∷ ks) codings
     let rest = codings-facts_from w frame p tables places ds ks more.0 (omega arith) (omega arith) more.1 in
     let first = coding-facts w frame p tables x d a one.0 one.1 in
     subst (λ (l : List Coding). (length l ≡ suc (length places)) × AllByRecursion (CodingFacts w frame) l × (map (λ c. c.place) l ≡ x ∷ places)) (ok-same (one.0 ∷ more.0) codings more.2)
-      (ap suc rest.0, (first.0, rest.1), ap₂ (λ (m : ℕ) (l : List ℕ). m ∷ l) first.1 rest.2)
+    (ap suc rest.0, (first.0, rest.1), ap₂ (λ (m : ℕ) (l : List ℕ). m ∷ l) first.1 rest.2)
 
 pub codings-by : (w : Found) (frame : Frame) (s : Scan) (b : Bool) → is_decoded frame.process ≡ b
     → codings_of w frame s ≡ cond b (codings_from w frame (pass_of s) (tables_of w s) s.components s.dc_places s.ac_places) (Err Malformed)
@@ -195,10 +198,10 @@ coding-read : (w : Found) (frame : Frame) (p : Pass) (tables : Tables) (place d 
 unfolding coding_of
 coding-read w frame p tables place d a k h =
     then-ok (needed (first_of (drop place frame.components))) _ k.component _ (ap needed h.component)
-      (then-ok (needed (slice_index_or w.quantization k.component.factors.quantization None)) _ k.quantization _ (ap needed h.quantization)
-        (then-ok (needed_if (p.ss == 0) classes.DC (slice_index_or tables.dc d None)) _ k.dc _ (in-force (p.ss == 0) classes.DC tables.dc d k.dc h.dc)
-          (then-ok (needed_if (nat_lt 0 p.se) classes.AC (slice_index_or tables.ac a None)) _ k.ac _ (in-force (nat_lt 0 p.se) classes.AC tables.ac a k.ac h.ac)
-            (ap (λ (n : ℕ). Ok (record { place = n; component = k.component; quantization = k.quantization; dc = k.dc; ac = k.ac })) (sym h.stands)))))
+    (then-ok (needed (slice_index_or w.quantization k.component.factors.quantization None)) _ k.quantization _ (ap needed h.quantization)
+    (then-ok (needed_if (p.ss == 0) classes.DC (slice_index_or tables.dc d None)) _ k.dc _ (in-force (p.ss == 0) classes.DC tables.dc d k.dc h.dc)
+    (then-ok (needed_if (nat_lt 0 p.se) classes.AC (slice_index_or tables.ac a None)) _ k.ac _ (in-force (nat_lt 0 p.se) classes.AC tables.ac a k.ac h.ac)
+    (ap (λ (n : ℕ). Ok (record { place = n; component = k.component; quantization = k.quantization; dc = k.dc; ac = k.ac })) (sym h.stands)))))
 
 codings-read_from : (w : Found) (frame : Frame) (p : Pass) (tables : Tables) (places ds ks : List ℕ) (codings : List Coding) → AreCodings w frame p tables places ds ks codings
     → codings_from w frame p tables places ds ks ≡ Ok codings
@@ -206,7 +209,7 @@ unfolding codings_from
 codings-read_from w frame p tables places ds ks codings no_more = refl
 codings-read_from w frame p tables places ds ks codings (and_more place d a places' ds' ks' k more h r) =
     then-ok (coding_of w frame p tables place d a) _ k _ (coding-read w frame p tables place d a k h)
-      (then-ok (codings_from w frame p tables places' ds' ks') _ more _ (codings-read_from w frame p tables places' ds' ks' more r) refl)
+    (then-ok (codings_from w frame p tables places' ds' ks') _ more _ (codings-read_from w frame p tables places' ds' ks' more r) refl)
 
 decoded-so : (p : CodingProcess) → p ≢ Lossless → is_decoded p ≡ true
 decoded-so DctSequential h = refl
@@ -241,7 +244,7 @@ codings-same_from w sc h fi pl frame p tables (x ∷ places) (d ∷ ds) (a ∷ k
   where
     go : (o : Result Coding Fault) → codings_from (reading w sc h fi pl) frame p tables places ds ks ≡ codings_from w frame p tables places ds ks
         → (o >>= (λ c. codings_from (reading w sc h fi pl) frame p tables places ds ks >>= (λ others. Ok (c ∷ others))))
-          ≡ (o >>= (λ c. codings_from w frame p tables places ds ks >>= (λ others. Ok (c ∷ others))))
+        ≡ (o >>= (λ c. codings_from w frame p tables places ds ks >>= (λ others. Ok (c ∷ others))))
     go (Ok c) e = then-other c _ _ e
     go (Err e') e = refl
 
@@ -270,7 +273,7 @@ pub scan-by : (found : Found) (frame : Frame) (s : Scan) (codings : List Coding)
 unfolding scan_segment
 scan-by found frame s codings arrays m bytes data_bytes more a b c d e =
     then-ok (needed found.frame) _ frame _ (ap needed a)
-      (then-ok (sos_at frame bytes) _ (s, data_bytes) _ b
-        (then-ok (codings_of found frame s) _ codings _ c
-          (then-ok (scan_arrays found frame s codings data_bytes) _ ((arrays, Some m), more) _ d
-            (then-ok (behind_restarts (suc (length more)) (Some m) more) _ (Some m, more) _ e refl))))
+    (then-ok (sos_at frame bytes) _ (s, data_bytes) _ b
+    (then-ok (codings_of found frame s) _ codings _ c
+    (then-ok (scan_arrays found frame s codings data_bytes) _ ((arrays, Some m), more) _ d
+    (then-ok (behind_restarts (suc (length more)) (Some m) more) _ (Some m, more) _ e refl))))

@@ -81,8 +81,9 @@ zero-count components = length-map components (λ (c : Component). replicate (c.
 
 pub zero-holds : (array : ℕ → ℕ → Block) (c : Component) → ((row column : ℕ) → Is8Bit (array row column)) → HoldsOwn (grid_of c) array nothing_sent (replicate (c.blocks_high * c.blocks_wide) zero_block)
 zero-holds array c range = record {
-    sized = length-replicate (c.blocks_high * c.blocks_wide) zero_block;
-    each = λ i own. get-replicate (c.blocks_high * c.blocks_wide) i ∙ sym (cut-nothing (array (i / c.blocks_wide) (i % c.blocks_wide)) (range (i / c.blocks_wide) (i % c.blocks_wide)).count) }
+  sized = length-replicate (c.blocks_high * c.blocks_wide) zero_block;
+  each = λ i own. get-replicate (c.blocks_high * c.blocks_wide) i ∙ sym (cut-nothing (array (i / c.blocks_wide) (i % c.blocks_wide)) (range (i / c.blocks_wide) (i % c.blocks_wide)).count);
+}
 
 arrays-fresh : (w : Found) (h : Arrays) (fi : List (List Bool)) (pl : List (Option (List ℕ))) (f : Frame) → arrays_before (reading w false h fi pl) f ≡ zero_arrays f.components
 unfolding arrays_before
@@ -102,17 +103,20 @@ get-unmarked k l e = ap (λ (x : List (List Bool)). get_or x k none_finished) e 
 pub framed-start : (w : Found) (f : Frame) (array : Coefficients) (h : Arrays) (fi : List (List Bool)) (pl : List (Option (List ℕ))) → ((place row column : ℕ) → Is8Bit (array place row column))
     → fi ≡ replicate 4 none_finished → pl ≡ replicate 4 None → Framed w f array (λ k. nothing_sent) false h fi pl
 framed-start w f array h fi pl range e g = record {
-    marked = record {
-      fi_count = ap length e;
-      pl_count = ap length g;
-      marks = λ k c t. get-unmarked k fi e ∙ marks-start;
-      planes = λ k c t. record { decided = λ d. absurd (true≢false (sym d)); undecided = λ d. get-none k pl g } };
-    sized = λ k. refl;
-    held = λ d. subst (AllHeld f array (λ k. nothing_sent)) (sym (arrays-fresh w h fi pl f))
-        (record {
-          count = zero-count f.components;
-          each = λ k c t. subst (HoldsOwn (grid_of c) (array k) nothing_sent) (sym (zero-at f.components k c t)) (zero-holds (array k) c (range k)) });
-    fresh = λ d k n. refl }
+  marked = record {
+    fi_count = ap length e;
+    pl_count = ap length g;
+    marks = λ k c t. get-unmarked k fi e ∙ marks-start;
+    planes = λ k c t. record { decided = λ d. absurd (true≢false (sym d)); undecided = λ d. get-none k pl g };
+  };
+  sized = λ k. refl;
+  held = λ d. subst (AllHeld f array (λ k. nothing_sent)) (sym (arrays-fresh w h fi pl f))
+      (record {
+        count = zero-count f.components;
+        each = λ k c t. subst (HoldsOwn (grid_of c) (array k) nothing_sent) (sym (zero-at f.components k c t)) (zero-holds (array k) c (range k));
+      });
+  fresh = λ d k n. refl;
+}
 
 -- ---- levels
 
@@ -196,6 +200,7 @@ progressive-pass count first last high low e =
     go : first ≡ 0 → (not (first == 0) ≡ true) ⊎ ((last == 0) ≡ true) → last ≡ 0
     go z (inl n) = absurd (true≢false (sym (eq-eqb first 0 z) ∙ not-true (eqb first 0) n))
     go z (inr y) = eqb-true last 0 y
+
     one : ((first == 0) ≡ true) ⊎ ((count == 1) ≡ true) → (first ≡ 0) ⊎ (count ≡ 1)
     one (inl y) = inl (eqb-true first 0 y)
     one (inr y) = inr (eqb-true count 1 y)
@@ -248,7 +253,7 @@ held-behind_is found f codings arrays e = rw (e, held_behind) refl
 
 behind-is : (w : Found) (sc : Bool) (h : Arrays) (fi : List (List Bool)) (pl : List (Option (List ℕ))) (f : Frame) (s : Scan) (codings : List Coding) (arrays : Arrays)
     → behind_scan (reading w sc h fi pl) f s codings arrays
-      ≡ with_arrays (pass_of s) codings arrays (reading w true (held_behind (reading w sc h fi pl) f codings arrays) fi pl)
+    ≡ with_arrays (pass_of s) codings arrays (reading w true (held_behind (reading w sc h fi pl) f codings arrays) fi pl)
 unfolding behind_scan
 behind-is w sc h fi pl f s codings arrays = refl
 
@@ -259,9 +264,10 @@ all-done : (w : Found) (f : Frame) (p : Pass) (array : Coefficients) (levels : �
 all-done w f p array levels [] [] n holds facts legal sized = tt
 all-done w f p array levels [] (b ∷ arrays) n holds facts legal sized = absurd (omega arith)
 all-done w f p array levels (k ∷ codings) [] n holds facts legal sized = absurd (omega arith)
-all-done w f p array levels (k ∷ codings) (b ∷ arrays) n holds facts legal sized =
-    (record { at = facts.0.at; table = facts.0.table; legal = legal.0; sized = sized k.place; holds = holds k 0 refl },
-     all-done w f p array levels codings arrays (omega arith) (λ c j t. holds c (suc j) t) facts.1 legal.1 sized)
+all-done w f p array levels (k ∷ codings) (b ∷ arrays) n holds facts legal sized = (
+  record { at = facts.0.at; table = facts.0.table; legal = legal.0; sized = sized k.place; holds = holds k 0 refl },
+  all-done w f p array levels codings arrays (omega arith) (λ c j t. holds c (suc j) t) facts.1 legal.1 sized,
+)
 
 -- the components of the scan are ready, where their blocks are held
 all-ready : (w : Found) (f : Frame) (p : Pass) (array : Coefficients) (levels : ℕ → Levels) (before : Arrays) (codings : List Coding) → Shaped f
@@ -269,9 +275,10 @@ all-ready : (w : Found) (f : Frame) (p : Pass) (array : Coefficients) (levels : 
     → AllByRecursion (CodingFacts w f) codings → AllByRecursion (λ c. IsLegal p (levels c.place)) codings → ((k : ℕ) → length (levels k).acs ≡ 63)
     → AllByRecursion (SlotReady f p array levels before) codings
 all-ready w f p array levels before [] shape holds facts legal sized = tt
-all-ready w f p array levels before (k ∷ codings) shape holds facts legal sized =
-    (record { fits = shape.fits k.place k.component facts.0.at; holds = holds k facts.0 legal.0; legal = legal.0; sized = sized k.place },
-     all-ready w f p array levels before codings shape holds facts.1 legal.1 sized)
+all-ready w f p array levels before (k ∷ codings) shape holds facts legal sized = (
+  record { fits = shape.fits k.place k.component facts.0.at; holds = holds k facts.0 legal.0; legal = legal.0; sized = sized k.place },
+  all-ready w f p array levels before codings shape holds facts.1 legal.1 sized,
+)
 
 -- what a scan was read as
 pub record Scanned (w : Found) (f : Frame) (array : Coefficients) (levels : ℕ → Levels) (sc : Bool) (h : Arrays) (fi : List (List Bool)) (pl : List (Option (List ℕ))) (s : Scan)
@@ -314,8 +321,8 @@ module _ (w : Found) (f : Frame) (array : Coefficients) (levels : ℕ → Levels
   holds-now (sequential e q) k fact l =
       let none : levels k.place ≡ nothing_sent = framed.fresh e k.place (l.dc_unsent (ap (λ (p : Pass). p.ss) q) (ap (λ (p : Pass). p.is_first) q)) in
       subst (λ (a : Arrays). HoldsOwn (grid_of k.component) (array k.place) (levels k.place) (get_or a k.place [])) (sym (sequential-arrays now f e))
-        (subst (λ (x : Levels). HoldsOwn (grid_of k.component) (array k.place) x (get_or (zero_arrays f.components) k.place [])) (sym none)
-          (subst (HoldsOwn (grid_of k.component) (array k.place) nothing_sent) (sym (zero-at f.components k.place k.component fact.at)) (zero-holds (array k.place) k.component (range k.place))))
+      (subst (λ (x : Levels). HoldsOwn (grid_of k.component) (array k.place) x (get_or (zero_arrays f.components) k.place [])) (sym none)
+      (subst (HoldsOwn (grid_of k.component) (array k.place) nothing_sent) (sym (zero-at f.components k.place k.component fact.at)) (zero-holds (array k.place) k.component (range k.place))))
   holds-now (progressive e d a lt le) k fact l = (framed.held e).each k.place k.component fact.at
 
   suit-now : PassSo f s → SpotsSuit (pass_of s) (arrays_before now f) codings
@@ -350,17 +357,22 @@ module _ (w : Found) (f : Frame) (array : Coefficients) (levels : ℕ → Levels
   held-now : is_progressive f.process ≡ true → AllHeld f array (levels_after (pass_of s) (places_of codings) levels) (arrays_before (reading w true behind_held brought.finished brought.planes) f)
   held-now e =
       subst (AllHeld f array (levels_after (pass_of s) (places_of codings) levels))
-        (sym (held-arrays w behind_held brought.finished brought.planes f e ∙ held-behind_is now f codings reads-now.arrays e))
-        (held-behind w f (pass_of s) array levels codings reads-now.arrays (arrays_before now f) apart done (framed.held e))
+      (sym (held-arrays w behind_held brought.finished brought.planes f e ∙ held-behind_is now f codings reads-now.arrays e))
+      (held-behind w f (pass_of s) array levels codings reads-now.arrays (arrays_before now f) apart done (framed.held e))
 
   -- A written scan brings what the levels behind it say.
   pub scan-brings : Scanned w f array levels sc h fi pl s codings bytes
   scan-brings = record {
-      arrays = reads-now.arrays; held = behind_held; finished = brought.finished; planes = brought.planes;
-      read = scan-read;
-      behind = behind-is w sc h fi pl f s codings reads-now.arrays ∙ brought.is;
-      framed = record {
-        marked = brought.marked;
-        sized = after-length (pass_of s) (places_of codings) levels framed.sized;
-        held = held-now;
-        fresh = λ g. fresh-behind so g } }
+    arrays = reads-now.arrays;
+    held = behind_held;
+    finished = brought.finished;
+    planes = brought.planes;
+    read = scan-read;
+    behind = behind-is w sc h fi pl f s codings reads-now.arrays ∙ brought.is;
+    framed = record {
+      marked = brought.marked;
+      sized = after-length (pass_of s) (places_of codings) levels framed.sized;
+      held = held-now;
+      fresh = λ g. fresh-behind so g;
+    };
+  }

@@ -54,6 +54,7 @@ floor-fits al x low h k = int_wrap_fits w16 (scaled al (floor_at al x)) (record 
   where
     power : 2 ^ al ≤ 2 ^ 7
     power = pow_mono low
+
     small : (x : ℤ) → negsuc 1023 ≤ℤ x → x ≤ℤ pos 1023 → mag (scaled al (floor_at al x)) < 2 ^ 15
     small (pos n) h k = let d = div-mul-le_self n (2 ^ al) in omega (arith, ints)
     small (negsuc n) h k =
@@ -165,16 +166,17 @@ all-same a (suc n) = (refl, all-same a n)
 -- The block at its levels suits a legal scan.
 pub suits-cut : (p : Pass) (l : Levels) (c : Block) → Is8Bit c → length c.acs ≡ length l.acs → IsLegal p l → Suits p (cut l c) (numbers_at p.al c)
 suits-cut p l c range same legal = record {
-    unsent = λ f. band-cut p c.acs l.acs ∙ cut-unsent (band_of p c.acs) (band_of p l.acs) (same-band p c.acs l.acs same) (legal.acs_unsent f)
-        ∙ ap no_numbers (sym (ap length (band-map p (toward_zero p.al) c.acs) ∙ length-map (band_of p c.acs) (toward_zero p.al)));
-    sent = λ f. band-cut p c.acs l.acs ∙ cut-sent (suc p.al) (band_of p c.acs) (band_of p l.acs) (same-band p c.acs l.acs same) (legal.acs_sent f)
-        ∙ sym (map-map (toward_zero p.al) (held p.al) (λ x. scaled (suc p.al) (toward_zero (suc p.al) x)) (λ x. ap (scaled (suc p.al)) (halved-toward p.al x)) (band_of p c.acs))
-        ∙ ap (map (held p.al)) (sym (band-map p (toward_zero p.al) c.acs));
-    range = subst (AllByRecursion (InRange p.al)) (sym (band-map p (toward_zero p.al) c.acs))
-        (all-map (InRange p.al) (toward_zero p.al) (λ x. unsigned_abs x ≤ 1023) (toward-range p.al) (band_of p c.acs)
-          (all-take _ (band_size p) (drop (before_band p) c.acs) (all-drop _ (before_band p) c.acs range.acs)));
-    dc_range = floor-range p.al c.dc range.dc_low range.dc_high;
-    dc_fits = floor-fits p.al c.dc legal.low range.dc_low range.dc_high }
+  unsent = λ f. band-cut p c.acs l.acs ∙ cut-unsent (band_of p c.acs) (band_of p l.acs) (same-band p c.acs l.acs same) (legal.acs_unsent f)
+      ∙ ap no_numbers (sym (ap length (band-map p (toward_zero p.al) c.acs) ∙ length-map (band_of p c.acs) (toward_zero p.al)));
+  sent = λ f. band-cut p c.acs l.acs ∙ cut-sent (suc p.al) (band_of p c.acs) (band_of p l.acs) (same-band p c.acs l.acs same) (legal.acs_sent f)
+      ∙ sym (map-map (toward_zero p.al) (held p.al) (λ x. scaled (suc p.al) (toward_zero (suc p.al) x)) (λ x. ap (scaled (suc p.al)) (halved-toward p.al x)) (band_of p c.acs))
+      ∙ ap (map (held p.al)) (sym (band-map p (toward_zero p.al) c.acs));
+  range = subst (AllByRecursion (InRange p.al)) (sym (band-map p (toward_zero p.al) c.acs))
+      (all-map (InRange p.al) (toward_zero p.al) (λ x. unsigned_abs x ≤ 1023) (toward-range p.al) (band_of p c.acs)
+      (all-take _ (band_size p) (drop (before_band p) c.acs) (all-drop _ (before_band p) c.acs range.acs)));
+  dc_range = floor-range p.al c.dc range.dc_low range.dc_high;
+  dc_fits = floor-fits p.al c.dc legal.low range.dc_low range.dc_high;
+}
 
 pub acs-behind : (p : Pass) (l : Levels) (c : Block) → length c.acs ≡ length l.acs
     → with_band p (cut_acs c.acs l.acs) (map (scaled p.al) (band_of p (map (toward_zero p.al) c.acs))) ≡ cut_acs c.acs (levels_behind p l).acs
@@ -185,9 +187,9 @@ acs-behind p l c same =
     let now = replicate count (Some p.al) in
     let sizes : length (band_of p c.acs) ≡ length now = same-band p c.acs l.acs same ∙ sym (length-replicate count (Some p.al)) in
     let band : map (scaled p.al) (band_of p (map (toward_zero p.al) c.acs)) ≡ cut_acs (band_of p c.acs) now
-          = ap (map (scaled p.al)) (band-map p (toward_zero p.al) c.acs)
-            ∙ map-map (toward_zero p.al) (scaled p.al) (λ x. scaled p.al (toward_zero p.al x)) (λ x. refl) (band_of p c.acs)
-            ∙ sym (cut-sent p.al (band_of p c.acs) now sizes (all-same (Some p.al) count)) in
+    = ap (map (scaled p.al)) (band-map p (toward_zero p.al) c.acs)
+    ∙ map-map (toward_zero p.al) (scaled p.al) (λ x. scaled p.al (toward_zero p.al x)) (λ x. refl) (band_of p c.acs)
+    ∙ sym (cut-sent p.al (band_of p c.acs) now sizes (all-same (Some p.al) count)) in
     ap₂ (λ (x y : List ℤ). x ++ y) (cut-take b c.acs l.acs) (ap₂ (λ (x y : List ℤ). x ++ y) band (cut-drop (b + s) c.acs l.acs))
     ∙ ap (λ (x : List ℤ). cut_acs (take b c.acs) (take b l.acs) ++ x) (sym (cut-append (band_of p c.acs) (drop (b + s) c.acs) now (drop (b + s) l.acs) sizes))
     ∙ sym (cut-append (take b c.acs) (band_of p c.acs ++ drop (b + s) c.acs) (take b l.acs) (now ++ drop (b + s) l.acs) (same-take b c.acs l.acs same))
@@ -200,9 +202,9 @@ dc-behind p l c legal = go (eqb p.ss 0) refl p.is_first refl
     go true e true f = rw (e, f, behind_pass) (rw (e, levels_behind) refl)
     go true e false f =
         let before : cut_dc c.dc l.dc ≡ dc_held p.al (floor_at p.al c.dc)
-              = ap (cut_dc c.dc) (legal.dc_sent (eqb-true p.ss 0 e) f) ∙ ap (scaled (suc p.al)) (sym (half-floor p.al c.dc)) in
+        = ap (cut_dc c.dc) (legal.dc_sent (eqb-true p.ss 0 e) f) ∙ ap (scaled (suc p.al)) (sym (half-floor p.al c.dc)) in
         rw (e, f, behind_pass) (rw (e, levels_behind)
-          (ap (λ (x : ℤ). or_bit p.al x (low_bit (floor_at p.al c.dc))) before ∙ dc-refined p.al (floor_at p.al c.dc)))
+        (ap (λ (x : ℤ). or_bit p.al x (low_bit (floor_at p.al c.dc))) before ∙ dc-refined p.al (floor_at p.al c.dc)))
     go false e f g = rw (e, behind_pass) (rw (e, levels_behind) refl)
 
 -- A legal scan takes the block at its levels to the block at the levels behind it.

@@ -43,7 +43,7 @@ size-of_band p xs band h =
 
 listed-yes : (p : Pass) (f : Finished) → p.al ≡ 0 → IsBand p → length f.acs ≡ 63 → (t : Bool) → eqb p.ss 0 ≡ t
     → take p.ss (marks_listed f) ++ (replicate (suc p.se - p.ss) true ++ drop (suc p.se) (marks_listed f))
-      ≡ (elim t as (λ _. Bool) [ true ↦ true | false ↦ f.dc ]) ∷ with_band p f.acs (replicate (length (band_of p f.acs)) true)
+    ≡ (elim t as (λ _. Bool) [ true ↦ true | false ↦ f.dc ]) ∷ with_band p f.acs (replicate (length (band_of p f.acs)) true)
 listed-yes p f z band h true e =
     let none = eqb-true p.ss 0 e in
     let size = size-of_band p f.acs band h in

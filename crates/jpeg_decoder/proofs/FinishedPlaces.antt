@@ -18,8 +18,9 @@ pub record Finished : Type 0 where
 abbrev pub finish : Pass → Finished → Finished
 finish p f =
     elim (p.al == 0) as (λ _. Finished) [
-        true ↦ record { dc = elim (p.ss == 0) as (λ _. Bool) [ true ↦ true | false ↦ f.dc ]; acs = with_band p f.acs (replicate (length (band_of p f.acs)) true) }
-      | false ↦ f ]
+      | true ↦ record { dc = elim (p.ss == 0) as (λ _. Bool) [ true ↦ true | false ↦ f.dc ]; acs = with_band p f.acs (replicate (length (band_of p f.acs)) true) }
+      | false ↦ f
+    ]
 
 abbrev pub is_level_0 : Option ℕ → Bool
 is_level_0 None = false
@@ -43,7 +44,7 @@ pub map-with_band : (p : Pass) (ls band : List (Option ℕ)) → map is_level_0 
 map-with_band p ls band =
     map-joined is_level_0 (take (before_band p) ls) (band ++ drop (before_band p + band_size p) ls)
     ∙ ap₂ (λ (x y : List Bool). x ++ y) (map-take_any is_level_0 (before_band p) ls)
-        (map-joined is_level_0 band (drop (before_band p + band_size p) ls) ∙ ap (λ (y : List Bool). map is_level_0 band ++ y) (map-drop_any is_level_0 (before_band p + band_size p) ls))
+    (map-joined is_level_0 band (drop (before_band p + band_size p) ls) ∙ ap (λ (y : List Bool). map is_level_0 band ++ y) (map-drop_any is_level_0 (before_band p + band_size p) ls))
 
 pub around : (p : Pass) (cs : List Bool) → with_band p cs (band_of p cs) ≡ cs
 around p cs =
@@ -90,6 +91,7 @@ finish-legal p l legal = go p.al refl (eqb p.ss 0) refl
   where
     as_record : (d e : Bool) (x y : List Bool) → d ≡ e → x ≡ y → ◌≡◌ {A = Finished} (record { dc = d; acs = x }) (record { dc = e; acs = y })
     as_record d e x y g h = ap₂ (λ (b : Bool) (l : List Bool). record { dc = b; acs = l }) g h
+
     go : (a : ℕ) → p.al ≡ a → (t : Bool) → eqb p.ss 0 ≡ t → finish p (at_level_0 l) ≡ at_level_0 (levels_behind p l)
     go zero e t g = finish-yes p (at_level_0 l) e ∙ as_record _ _ _ _ (dc t g) (sym (levels-acs p l ∙ ap (λ (b : Bool). with_band p (map is_level_0 l.acs) (replicate (length (band_of p (map is_level_0 l.acs))) b)) (ap (λ (k : ℕ). is_level_0 (Some k)) e)))
       where
@@ -98,7 +100,7 @@ finish-legal p l legal = go p.al refl (eqb p.ss 0) refl
         dc false g = rw (g, levels_behind) refl
     go (suc a) e t g = finish-no p (at_level_0 l) a e ∙ as_record _ _ _ _ (dc t g)
         (sym (levels-acs p l ∙ ap (λ (b : Bool). with_band p (map is_level_0 l.acs) (replicate (length (band_of p (map is_level_0 l.acs))) b)) (ap (λ (k : ℕ). is_level_0 (Some k)) e)
-          ∙ ap (with_band p (map is_level_0 l.acs)) (sym (band-open p l legal p.is_first refl)) ∙ around p (map is_level_0 l.acs)))
+        ∙ ap (with_band p (map is_level_0 l.acs)) (sym (band-open p l legal p.is_first refl)) ∙ around p (map is_level_0 l.acs)))
       where
         dc : (t : Bool) → eqb p.ss 0 ≡ t → is_level_0 l.dc ≡ is_level_0 (levels_behind p l).dc
         dc true g = rw (g, levels_behind) (dc-open p l legal (eqb-true p.ss 0 g) p.is_first refl ∙ sym (ap (λ (k : ℕ). is_level_0 (Some k)) e))

@@ -27,9 +27,10 @@ pub below-ceiling : (x a b : ℕ) → 0 < b → (x < ceiling a b → x * b < a) 
 below-ceiling x a b h =
     let more = add-mul 1 x b in
     let one = one-mul b in
-    let e : suc x * b ≡ (1 + x) * b = ap (λ (y : ℕ). y * b) (omega arith) in
-    ((λ k. let m : suc x * b ≤ a + (b - 1) = (le-div_iff_mul-le h).0 k in omega arith),
-     (λ k. let m : suc x * b ≤ a + (b - 1) = omega arith in (le-div_iff_mul-le h).1 m))
+    let e : suc x * b ≡ (1 + x) * b = ap (λ (y : ℕ). y * b) (omega arith) in (
+      (λ k. let m : suc x * b ≤ a + (b - 1) = (le-div_iff_mul-le h).0 k in omega arith),
+      (λ k. let m : suc x * b ≤ a + (b - 1) = omega arith in (le-div_iff_mul-le h).1 m),
+    )
 
 pub ceiling-least : (a b c : ℕ) → 0 < b → a ≤ c * b → ceiling a b ≤ c
 ceiling-least a b c h le = go (leb_tells (ceiling a b) c)
@@ -52,8 +53,8 @@ own-least size factor most h =
     let cover = ceiling-covers size (8 * most) (omega arith) in
     let more : size * factor ≤ (m * (8 * most)) * factor = mul-le-mul_right factor cover in
     let same : (m * (8 * most)) * factor ≡ ((m * factor) * 8) * most
-          = ap (λ (x : ℕ). x * factor) (sym (mul_assoc m 8 most)) ∙ mul_assoc (m * 8) most factor ∙ ap (λ (x : ℕ). (m * 8) * x) (mul_comm most factor)
-            ∙ sym (mul_assoc (m * 8) factor most) ∙ ap (λ (x : ℕ). x * most) (mul_assoc m 8 factor ∙ ap (λ (x : ℕ). m * x) (mul_comm 8 factor) ∙ sym (mul_assoc m factor 8)) in
+    = ap (λ (x : ℕ). x * factor) (sym (mul_assoc m 8 most)) ∙ mul_assoc (m * 8) most factor ∙ ap (λ (x : ℕ). (m * 8) * x) (mul_comm most factor)
+    ∙ sym (mul_assoc (m * 8) factor most) ∙ ap (λ (x : ℕ). x * most) (mul_assoc m 8 factor ∙ ap (λ (x : ℕ). m * x) (mul_comm 8 factor) ∙ sym (mul_assoc m factor 8)) in
     ceiling-least (ceiling (size * factor) most) 8 (m * factor) (omega arith) (ceiling-least (size * factor) most ((m * factor) * 8) h (omega arith))
 
 -- ---- what is read
@@ -85,7 +86,7 @@ parameters-range lossless identifier bytes c h =
     let hr = factor-range (b.0.0 / 16) x.0 in
     let vr = factor-range (b.0.0 % 16) y.0 in
     subst (λ (d : Factors × List ℕ). IsInRange d.0) (ok-same _ c z.1)
-      (record { horizontal_some = hr.0; horizontal_most = hr.1; vertical_some = vr.0; vertical_most = vr.1 })
+    (record { horizontal_some = hr.0; horizontal_most = hr.1; vertical_some = vr.0; vertical_most = vr.1 })
 
 factors-range : (lossless : Bool) (front : List Factors) (bytes : List ℕ) (c : Factors × List ℕ) → factors_at lossless front bytes ≡ Ok c → IsInRange c.0
 unfolding factors_at
@@ -168,10 +169,16 @@ unfolding component_of component_at
 same-components width height h v [] hs vs = refl
 same-components width height h v (x ∷ xs) hs vs =
     ap₂ (λ (c : Component) (l : List Component). c ∷ l)
-      (ap₂ (λ (a b : ℕ). record {
-          factors = x; scale = 8; width = a; height = b; blocks_wide = ceiling width (8 * h) * x.horizontal; blocks_high = ceiling height (8 * v) * x.vertical })
-        (ceiling-eights (width * x.horizontal) h hs) (ceiling-eights (height * x.vertical) v vs))
-      (same-components width height h v xs hs vs)
+    (ap₂ (λ (a b : ℕ). record {
+      factors = x;
+      scale = 8;
+      width = a;
+      height = b;
+      blocks_wide = ceiling width (8 * h) * x.horizontal;
+      blocks_high = ceiling height (8 * v) * x.vertical;
+    })
+    (ceiling-eights (width * x.horizontal) h hs) (ceiling-eights (height * x.vertical) v vs))
+    (same-components width height h v xs hs vs)
 
 ceiling-one : (n : ℕ) → ceiling (n * 8) 8 ≡ n
 ceiling-one n =
@@ -188,7 +195,7 @@ full-size number precision width height xs =
     let back = factors-back width height h v xs in
     let own : Component → List Factors → Component = λ c l. component_at 8 width height (greatest (λ f. f.horizontal) l) (greatest (λ f. f.vertical) l) c in
     let parts : map (λ c. own c (factors_of (map (component_of width height h v) xs))) (map (component_of width height h v) xs) ≡ map (component_of width height h v) xs
-          = ap (λ (l : List Factors). map (λ c. own c l) (map (component_of width height h v) xs)) back ∙ same-components width height h v xs (greatest-some (λ c. c.horizontal) xs) (greatest-some (λ c. c.vertical) xs) in
+    = ap (λ (l : List Factors). map (λ c. own c l) (map (component_of width height h v) xs)) back ∙ same-components width height h v xs (greatest-some (λ c. c.horizontal) xs) (greatest-some (λ c. c.vertical) xs) in
     rw (ceiling-one width, ceiling-one height) (ap (λ (l : List Component). record (frame_of number precision width height xs) { components = l }) parts)
 
 -- a frame that is read
@@ -211,15 +218,30 @@ sof-plain number bytes f h =
     let some = head-some number bytes head.0 head.1 in
     record {
       number = number;
-      precision = head.0.0.precision; width = head.0.0.width; height = head.0.0.height; factors = cs.0.0;
+      precision = head.0.0.precision;
+      width = head.0.0.width;
+      height = head.0.0.height;
+      factors = cs.0.0;
       in_range = components-range (is_lossless number) head.0.0.count [] head.0.1 cs.0 tt cs.1;
-      some_width = some.0; some_height = some.1;
-      is = sym (ap (λ (d : Frame × List ℕ). d.0) (ok-same _ f cs.2)) }
+      some_width = some.0;
+      some_height = some.1;
+      is = sym (ap (λ (d : Frame × List ℕ). d.0) (ok-same _ f cs.2));
+    }
 
 abbrev pub made-at : (f : Frame) (s : ℕ) → Plain f → 0 < s → Made (frame_at s f)
 made-at f s o h = record {
-    number = o.number; precision = o.precision; width = o.width; height = o.height; factors = o.factors; in_range = o.in_range;
-    some_width = o.some_width; some_height = o.some_height; scale = s; some_scale = h; is = ap (frame_at s) o.is }
+  number = o.number;
+  precision = o.precision;
+  width = o.width;
+  height = o.height;
+  factors = o.factors;
+  in_range = o.in_range;
+  some_width = o.some_width;
+  some_height = o.some_height;
+  scale = s;
+  some_scale = h;
+  is = ap (frame_at s) o.is;
+}
 
 pub plain-size : (f : Frame) → Plain f → frame_at 8 f ≡ f
 plain-size f o = ap (frame_at 8) o.is ∙ full-size o.number o.precision o.width o.height o.factors ∙ sym o.is
@@ -230,7 +252,7 @@ sof-lossy number bytes f small h =
     let head = bind-ok (head_at number bytes) _ f h in
     let cs = bind-ok (components_from (is_lossless number) head.0.0.count [] head.0.1) _ f head.2 in
     subst (λ (g : Frame). g.process ≢ Lossless) (ap (λ (d : Frame × List ℕ). d.0) (ok-same _ f cs.2))
-      (frame-lossy number head.0.0.precision head.0.0.width head.0.0.height cs.0.0 small)
+    (frame-lossy number head.0.0.precision head.0.0.width head.0.0.height cs.0.0 small)
 
 -- ---- shapes
 
@@ -243,9 +265,13 @@ component-fits : (number precision width height : ℕ) (cs : List Factors) (c : 
     → Fits (frame_of number precision width height cs) (component_of width height (greatest (λ x. x.horizontal) cs) (greatest (λ x. x.vertical) cs) c)
 unfolding frame_of component_of
 component-fits number precision width height cs c r = record {
-    horizontal = r.horizontal_some; vertical = r.vertical_some; wide = refl; high = refl;
-    own_wide = own-least width c.horizontal (greatest (λ x. x.horizontal) cs) (greatest-some (λ x. x.horizontal) cs);
-    own_high = own-least height c.vertical (greatest (λ x. x.vertical) cs) (greatest-some (λ x. x.vertical) cs) }
+  horizontal = r.horizontal_some;
+  vertical = r.vertical_some;
+  wide = refl;
+  high = refl;
+  own_wide = own-least width c.horizontal (greatest (λ x. x.horizontal) cs) (greatest-some (λ x. x.horizontal) cs);
+  own_high = own-least height c.vertical (greatest (λ x. x.vertical) cs) (greatest-some (λ x. x.vertical) cs);
+}
 
 components-are : (number precision width height : ℕ) (cs : List Factors)
     → (frame_of number precision width height cs).components ≡ map (component_of width height (greatest (λ x. x.horizontal) cs) (greatest (λ x. x.vertical) cs)) cs
@@ -256,7 +282,7 @@ frame-fits : (number precision width height : ℕ) (cs : List Factors) → AllBy
     → At k (frame_of number precision width height cs).components c → Fits (frame_of number precision width height cs) c
 frame-fits number precision width height cs all k c h =
     let x = at-mapped (component_of width height (greatest (λ y. y.horizontal) cs) (greatest (λ y. y.vertical) cs)) k cs c
-          (subst (λ (l : List Component). At k l c) (components-are number precision width height cs) h) in
+    (subst (λ (l : List Component). At k l c) (components-are number precision width height cs) h) in
     subst (Fits (frame_of number precision width height cs)) x.2 (component-fits number precision width height cs x.0 (at-all IsInRange k cs x.0 all x.1))
 
 count-few : (n : ℕ) → is_count n ≡ true → n ≤ 4
@@ -282,7 +308,7 @@ sof-fits number bytes f h =
     let head = bind-ok (head_at number bytes) _ f h in
     let cs = bind-ok (components_from (is_lossless number) head.0.0.count [] head.0.1) _ f head.2 in
     subst (λ (g : Frame). (k : ℕ) (c : Component) → At k g.components c → Fits g c) (ap (λ (d : Frame × List ℕ). d.0) (ok-same _ f cs.2))
-      (frame-fits number head.0.0.precision head.0.0.width head.0.0.height cs.0.0 (components-range (is_lossless number) head.0.0.count [] head.0.1 cs.0 tt cs.1))
+    (frame-fits number head.0.0.precision head.0.0.width head.0.0.height cs.0.0 (components-range (is_lossless number) head.0.0.count [] head.0.1 cs.0 tt cs.1))
 
 -- Frames that are read and accepted have this shape.
 pub all-shaped : (number : ℕ) (bytes : List ℕ) (f : Frame) → number ≤ 2 → IsAccepted (sof_at number) bytes f → accepted f ≡ Ok f → Shaped f
@@ -292,7 +318,8 @@ all-shaped number bytes f small a ok =
       made = subst Made (plain-size f o) (made-at f 8 o (omega arith));
       few = accepted-few f f ok;
       fits = sof-fits number (bytes ++ []) (f, []) (a.accepted []);
-      lossy = sof-lossy number (bytes ++ []) (f, []) small (a.accepted []) }
+      lossy = sof-lossy number (bytes ++ []) (f, []) small (a.accepted []);
+    }
 
 pub accepted-sources : (f g : Frame) → accepted f ≡ Ok g → (sources : List Source) × (sources_of f.components f.output_width f.output_height ≡ Ok sources)
 unfolding accepted

@@ -40,9 +40,9 @@ upsampled-inside H2V2 w h width height x y p q a b c d e f k l same =
     let far = far-within w x a (omega arith) in
     let low = far-within h y b (omega arith) in
     let one : line_sum p h y (x / 2) ≡ line_sum q h y (x / 2)
-          = ap₂ (λ (m n : ℕ). 3 * m + n) (same (x / 2) (y / 2) (omega arith) (omega arith)) (same (x / 2) (far_place h y) (omega arith) low) in
+    = ap₂ (λ (m n : ℕ). 3 * m + n) (same (x / 2) (y / 2) (omega arith) (omega arith)) (same (x / 2) (far_place h y) (omega arith) low) in
     let two : line_sum p h y (far_place w x) ≡ line_sum q h y (far_place w x)
-          = ap₂ (λ (m n : ℕ). 3 * m + n) (same (far_place w x) (y / 2) far (omega arith)) (same (far_place w x) (far_place h y) far low) in
+    = ap₂ (λ (m n : ℕ). 3 * m + n) (same (far_place w x) (y / 2) far (omega arith)) (same (far_place w x) (far_place h y) far low) in
     ap₂ (λ (m n : ℕ). (3 * m + n + 8) / 16) one two
 upsampled-inside (Generic s t) w h width height x y p q a b c d e f k l same =
     let e1 = mul_comm s w in
@@ -77,7 +77,7 @@ line-same : (s : Source) (p q : List ℕ) (width height row : ℕ) → Reaches s
     → line_of s p width row ≡ line_of s q width row
 line-same s p q width height row c low same =
     map-same (λ x. upsampled s.rule (λ i j. slice_index p (j * s.stride + i)) s.width s.height x row) (λ x. upsampled s.rule (λ i j. slice_index q (j * s.stride + i)) s.width s.height x row) 0 width
-      (λ x a b. upsampled-inside s.rule s.width s.height width height x row _ _ c.some_width c.some_height c.some_across c.some_down c.wide_enough c.high_enough (omega arith) low same.each)
+    (λ x a b. upsampled-inside s.rule s.width s.height width height x row _ _ c.some_width c.some_height c.some_across c.some_down c.wide_enough c.high_enough (omega arith) low same.each)
 
 abbrev pub AllSame : List Source → List (List ℕ) → List (List ℕ) → Type 0
 AllSame [] ps qs = Unit {0}
@@ -103,9 +103,9 @@ picture-same : (convert : ColorConvert) (sources : List Source) (ps qs : List (L
 unfolding picture_bytes
 picture-same convert sources ps qs width height c same =
     ap concat (map-same (picture_line convert sources ps width) (picture_line convert sources qs width) 0 height
-      (λ row a b. picture-line convert sources ps width row
-        ∙ ap (line_bytes convert width) (lines-same sources ps qs width height row c (omega arith) same)
-        ∙ sym (picture-line convert sources qs width row)))
+    (λ row a b. picture-line convert sources ps width row
+    ∙ ap (line_bytes convert width) (lines-same sources ps qs width height row c (omega arith) same)
+    ∙ sym (picture-line convert sources qs width row)))
 
 -- ---- by components
 
@@ -129,7 +129,7 @@ sources-same a b width height (c ∷ more) sources (p ∷ ps) (q ∷ qs) e h =
     let one = bind-ok (source_of a b width height c) _ sources e in
     let others = bind-ok (sources_by a b width height more) _ sources one.2 in
     subst (λ (l : List Source). AllSame l (p ∷ ps) (q ∷ qs)) (ok-same (one.0 ∷ others.0) sources others.2)
-      (source-plane c (rule_of c.factors.horizontal c.factors.vertical a b width height) one.0 p q one.1 h.0, sources-same a b width height more others.0 ps qs others.1 h.1)
+    (source-plane c (rule_of c.factors.horizontal c.factors.vertical a b width height) one.0 p q one.1 h.0, sources-same a b width height more others.0 ps qs others.1 h.1)
 
 -- The image of several components.
 pub image-same : (components : List Component) (ps qs : List (List ℕ)) (width height : ℕ) (transform : ColorTransform)
@@ -143,10 +143,11 @@ image-same components ps qs width height transform covers same = go (conversion_
     then_ convert (Err e) f = refl
     then_ convert (Ok sources) f =
         ap (λ (x : List ℕ). Ok x) (picture-same convert sources ps qs width height (covers sources f)
-          (sources-same (greatest (λ x. x.horizontal) (map (λ c. c.factors) components)) (greatest (λ x. x.vertical) (map (λ c. c.factors) components)) width height components sources ps qs f same))
+        (sources-same (greatest (λ x. x.horizontal) (map (λ c. c.factors) components)) (greatest (λ x. x.vertical) (map (λ c. c.factors) components)) width height components sources ps qs f same))
+
     go : (o : Result ColorConvert Fault)
         → (o >>= (λ convert. sources_of components width height >>= (λ sources. Ok (picture_bytes convert sources ps width height))))
-          ≡ (o >>= (λ convert. sources_of components width height >>= (λ sources. Ok (picture_bytes convert sources qs width height))))
+        ≡ (o >>= (λ convert. sources_of components width height >>= (λ sources. Ok (picture_bytes convert sources qs width height))))
     go (Err e) = refl
     go (Ok convert) = then_ convert (sources_of components width height) refl
 

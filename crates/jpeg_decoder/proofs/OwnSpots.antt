@@ -91,10 +91,10 @@ own-covered g s e own =
     let at : ℕ → ℕ → Spot = λ r k. record { slot = 0; index = r * g.wide + k } in
     let line : ℕ → List Spot = λ r. map (at r) (range_with_len 0 g.own_wide) in
     let here : IsIn (at row column) (flat_map line (range_with_len 0 g.own_high))
-          = in-flat line (at row column) row (range_with_len 0 g.own_high) (in-below row g.own_high own.row)
-              (in-map (at row) column (range_with_len 0 g.own_wide) (in-below column g.own_wide own.column)) in
+    = in-flat line (at row column) row (range_with_len 0 g.own_high) (in-below row g.own_high own.row)
+    (in-map (at row) column (range_with_len 0 g.own_wide) (in-below column g.own_wide own.column)) in
     subst (λ (x : Spot). IsIn x (flat_map line (range_with_len 0 g.own_high)))
-      (ap₂ (λ (k i : ℕ). record { slot = k; index = i }) (sym e) (div-add-mod' s.index g.wide)) here
+    (ap₂ (λ (k i : ℕ). record { slot = k; index = i }) (sym e) (div-add-mod' s.index g.wide)) here
 
 -- a spot of the component in slot 0, of its own blocks
 pub record IsOwnSpot (g : Grid) (s : Spot) : Type 0 where
@@ -105,13 +105,15 @@ pub own-only : (g : Grid) → g.own_wide ≤ g.wide → AllByRecursion (IsOwnSpo
 unfolding own_spots
 own-only g h =
     all-flat (IsOwnSpot g) (λ row. map (λ column. record { slot = 0; index = row * g.wide + column }) (range_with_len 0 g.own_wide)) 0 g.own_high (λ row a lt.
-      all-line (IsOwnSpot g) (λ column. record { slot = 0; index = row * g.wide + column }) 0 g.own_wide (λ column b l.
-        let within : column < g.wide = omega arith in
-        record {
-          slot = refl;
-          own = record {
-            row = let e = div-mul-add row g.wide column within in omega arith;
-            column = let e = mod-mul-add row g.wide column within in omega arith } }))
+    all-line (IsOwnSpot g) (λ column. record { slot = 0; index = row * g.wide + column }) 0 g.own_wide (λ column b l.
+    let within : column < g.wide = omega arith in
+    record {
+      slot = refl;
+      own = record {
+        row = let e = div-mul-add row g.wide column within in omega arith;
+        column = let e = mod-mul-add row g.wide column within in omega arith;
+      };
+    }))
 
 -- ---- several components
 
@@ -131,11 +133,11 @@ in-mcu row column base j [] c s h k = absurd h
 in-mcu row column base zero (d ∷ more) c s h k =
     let e : base + 0 ≡ base = omega arith in
     in-front s (part_spots row column base d) (mcu_spots row column (base + 1) more)
-      (subst (λ (x : Component). IsIn s (part_spots row column base x)) (sym h) (subst (λ (n : ℕ). IsIn s (part_spots row column n c)) e k))
+    (subst (λ (x : Component). IsIn s (part_spots row column base x)) (sym h) (subst (λ (n : ℕ). IsIn s (part_spots row column n c)) e k))
 in-mcu row column base (suc j) (d ∷ more) c s h k =
     let e : base + suc j ≡ (base + 1) + j = omega arith in
     in-back s (part_spots row column base d) (mcu_spots row column (base + 1) more)
-      (in-mcu row column (base + 1) j more c s h (subst (λ (n : ℕ). IsIn s (part_spots row column n c)) e k))
+    (in-mcu row column (base + 1) j more c s h (subst (λ (n : ℕ). IsIn s (part_spots row column n c)) e k))
 
 place-parts : (i w hz vt : ℕ) → (i / w / vt * vt + i / w % vt) * w + (i % w / hz * hz + i % w % hz) ≡ i
 place-parts i w hz vt = ap₂ (λ (r k : ℕ). r * w + k) (div-add-mod' (i / w) vt) (div-add-mod' (i % w) hz) ∙ div-add-mod' i w
@@ -160,15 +162,15 @@ all-covered frame components c s here fits own =
     let at : ℕ → ℕ → Spot = λ b a. record { slot = s.slot; index = (y * vt + b) * w + (x * hz + a) } in
     let line : ℕ → List Spot = λ b. map (at b) (range_with_len 0 hz) in
     let in-part : IsIn (at v h) (part_spots y x s.slot c)
-          = in-flat line (at v h) v (range_with_len 0 vt) (in-below v vt (mod-lt row fits.vertical))
-              (in-map (at v) h (range_with_len 0 hz) (in-below h hz (mod-lt col fits.horizontal))) in
+    = in-flat line (at v h) v (range_with_len 0 vt) (in-below v vt (mod-lt row fits.vertical))
+    (in-map (at v) h (range_with_len 0 hz) (in-below h hz (mod-lt col fits.horizontal))) in
     let zero-more : s.slot ≡ 0 + s.slot = omega arith in
     let in-one : IsIn (at v h) (mcu_spots y x 0 components)
-          = in-mcu y x 0 s.slot components c (at v h) here (subst (λ (n : ℕ). IsIn (at v h) (part_spots y x n c)) zero-more in-part) in
+    = in-mcu y x 0 s.slot components c (at v h) here (subst (λ (n : ℕ). IsIn (at v h) (part_spots y x n c)) zero-more in-part) in
     let across : ℕ → List Spot = λ b. flat_map (λ a. mcu_spots b a 0 components) (range_with_len 0 frame.mcus_wide) in
     let found : IsIn (at v h) (flat_map across (range_with_len 0 frame.mcus_high))
-          = in-flat across (at v h) y (range_with_len 0 frame.mcus_high) (in-below y frame.mcus_high y-in)
-              (in-flat (λ a. mcu_spots y a 0 components) (at v h) x (range_with_len 0 frame.mcus_wide) (in-below x frame.mcus_wide x-in) in-one) in
+    = in-flat across (at v h) y (range_with_len 0 frame.mcus_high) (in-below y frame.mcus_high y-in)
+    (in-flat (λ a. mcu_spots y a 0 components) (at v h) x (range_with_len 0 frame.mcus_wide) (in-below x frame.mcus_wide x-in) in-one) in
     subst (λ (k : ℕ). IsIn (record { slot = s.slot; index = k }) (flat_map across (range_with_len 0 frame.mcus_high))) (place-parts s.index w hz vt) found
 
 -- each own block of a scan's component stands in its order

@@ -27,6 +27,7 @@ same-spot r q = go (eqb_cases r.slot q.slot) (eqb_cases r.index q.index)
         either (inl x) (inl y) = inl (omega arith)
         either (inl x) (inr y) = inr (omega arith)
         either (inr x) y = inr (omega arith)
+
     go : (r.slot ≡ q.slot) ⊎ (r.slot ≢ q.slot) → (r.index ≡ q.index) ⊎ (r.index ≢ q.index)
         → (r ≡ q) ⊎ ((r.slot ≢ q.slot) ⊎ ((r.slot ≡ q.slot) × (r.index ≢ q.index)))
     go (inl e) (inl f) = inl (ap₂ (λ (c i : ℕ). record { slot = c; index = i }) e f)
@@ -54,19 +55,21 @@ put-inside r q b arrays h = go (same-spot r q)
   where
     count : length (set arrays r.slot (set (get_or arrays r.slot []) r.index b)) ≡ length arrays
     count = length-set arrays r.slot (set (get_or arrays r.slot []) r.index b)
+
     same : r.slot ≡ q.slot → IsInside (put_block r b arrays) q
     same e =
         let inside : r.slot < length arrays = let c = h.slot in omega arith in
         let plane : get_or (put_block r b arrays) q.slot [] ≡ set (get_or arrays r.slot []) r.index b
-              = ap (λ (k : ℕ). get_or (put_block r b arrays) k []) (sym e) ∙ get_or-set_same arrays r.slot (set (get_or arrays r.slot []) r.index b) [] inside in
+        = ap (λ (k : ℕ). get_or (put_block r b arrays) k []) (sym e) ∙ get_or-set_same arrays r.slot (set (get_or arrays r.slot []) r.index b) [] inside in
         let size : length (get_or (put_block r b arrays) q.slot []) ≡ length (get_or arrays q.slot [])
-              = ap length plane ∙ length-set (get_or arrays r.slot []) r.index b ∙ ap (λ (k : ℕ). length (get_or arrays k [])) e in
+        = ap length plane ∙ length-set (get_or arrays r.slot []) r.index b ∙ ap (λ (k : ℕ). length (get_or arrays k [])) e in
         record { slot = let c = h.slot in let k = count in omega arith; index = let i = h.index in omega arith }
+
     go : (r ≡ q) ⊎ ((r.slot ≢ q.slot) ⊎ ((r.slot ≡ q.slot) × (r.index ≢ q.index))) → IsInside (put_block r b arrays) q
     go (inl e) = same (ap (λ (x : Spot). x.slot) e)
     go (inr (inl n)) =
         let plane : get_or (put_block r b arrays) q.slot [] ≡ get_or arrays q.slot []
-              = get_or-set_other arrays r.slot q.slot (set (get_or arrays r.slot []) r.index b) [] (λ e. n (sym e)) in
+        = get_or-set_other arrays r.slot q.slot (set (get_or arrays r.slot []) r.index b) [] (λ e. n (sym e)) in
         record { slot = let c = h.slot in let k = count in omega arith; index = subst (λ (l : List Block). q.index < length l) (sym plane) h.index }
     go (inr (inr n)) = same n.0
 
@@ -88,7 +91,7 @@ unfolding put_blocks
 reaches f q [] arrays h here = absurd here
 reaches f q (r ∷ spots) arrays h (inl e) =
     stays f q spots (put_block r (f r) arrays) (put-inside r q (f r) arrays h)
-      (ap (λ (x : Spot). block_at (put_block x (f x) arrays) q) e ∙ put-same q (f q) arrays h)
+    (ap (λ (x : Spot). block_at (put_block x (f x) arrays) q) e ∙ put-same q (f q) arrays h)
 reaches f q (r ∷ spots) arrays h (inr there) = reaches f q spots (put_block r (f r) arrays) (put-inside r q (f r) arrays h) there
 
 -- another place keeps its block

@@ -90,23 +90,24 @@ legal-open p l legal band h = go p.ss refl
         let n : band_size p ≡ suc (p.se - p.ss) = let r = band.rising in omega arith in
         let s : before_band p ≡ b = omega arith in
         let all : AllByRecursion (λ x. x ≡ None) (take (suc (p.se - p.ss)) (drop b l.acs))
-              = subst (λ (k : ℕ). AllByRecursion (λ x. x ≡ None) (take k (drop b l.acs))) n
-                  (subst (λ (k : ℕ). AllByRecursion (λ x. x ≡ None) (take (band_size p) (drop k l.acs))) s (legal.acs_unsent f)) in
+        = subst (λ (k : ℕ). AllByRecursion (λ x. x ≡ None) (take k (drop b l.acs))) n
+        (subst (λ (k : ℕ). AllByRecursion (λ x. x ≡ None) (take (band_size p) (drop k l.acs))) s (legal.acs_unsent f)) in
         ap is_level_0 (first-of_band (λ x. x ≡ None) None b (p.se - p.ss) l.acs all (let r = band.rising in let t = band.within in omega arith))
     first_open b e false f =
         let n : band_size p ≡ suc (p.se - p.ss) = let r = band.rising in omega arith in
         let s : before_band p ≡ b = omega arith in
         let all : AllByRecursion (λ x. x ≡ Some (suc p.al)) (take (suc (p.se - p.ss)) (drop b l.acs))
-              = subst (λ (k : ℕ). AllByRecursion (λ x. x ≡ Some (suc p.al)) (take k (drop b l.acs))) n
-                  (subst (λ (k : ℕ). AllByRecursion (λ x. x ≡ Some (suc p.al)) (take (band_size p) (drop k l.acs))) s (legal.acs_sent f)) in
+        = subst (λ (k : ℕ). AllByRecursion (λ x. x ≡ Some (suc p.al)) (take k (drop b l.acs))) n
+        (subst (λ (k : ℕ). AllByRecursion (λ x. x ≡ Some (suc p.al)) (take (band_size p) (drop k l.acs))) s (legal.acs_sent f)) in
         ap is_level_0 (first-of_band (λ x. x ≡ Some (suc p.al)) None b (p.se - p.ss) l.acs all (let r = band.rising in let t = band.within in omega arith))
+
     go : (n : ℕ) → p.ss ≡ n → is_whole l ≡ false
     go zero e = list_all_at (λ (mark : Bool). mark) (marks_of l) 0 true (omega arith) (dc-open p l legal e p.is_first refl)
     go (suc b) e =
         let within : b < length l.acs = let r = band.rising in let t = band.within in omega arith in
         let count = length-map l.acs is_level_0 in
         list_all_at (λ (mark : Bool). mark) (marks_of l) (suc b) true (omega arith)
-          (get-map is_level_0 l.acs b within ∙ first_open b e p.is_first refl)
+        (get-map is_level_0 l.acs b within ∙ first_open b e p.is_first refl)
 
 -- ---- one component of a scan
 
@@ -167,27 +168,33 @@ module _ (w : Found) (frame : Frame) (p : Pass) (array : Coefficients) (levels :
 
   plane-own : PlaneSo w array next (with_plane k blocks marks pl) k.place k.component
   plane-own = record {
-      decided = λ e. record {
-        table = k.quantization; is_table = done.table; blocks = blocks; holds = done.holds;
-        plane = ap (λ (l : List (Option (List ℕ))). slice_index_or l k.place None) (plane-yes k blocks marks pl (ap (list_all (λ mark. mark)) marks-are ∙ e))
-            ∙ get_or-set_same pl k.place (decided (slice_index_or pl k.place None) (plane_by k.component k.quantization blocks)) None (let h = place-in in let c = before.pl_count in omega arith)
-            ∙ ap (λ (o : Option (List ℕ)). decided o (plane_by k.component k.quantization blocks)) was-none };
-      undecided = λ e. ap (λ (l : List (Option (List ℕ))). slice_index_or l k.place None) (plane-no k blocks marks pl (ap (list_all (λ mark. mark)) marks-are ∙ e)) ∙ was-none }
+    decided = λ e. record {
+      table = k.quantization;
+      is_table = done.table;
+      blocks = blocks;
+      holds = done.holds;
+      plane = ap (λ (l : List (Option (List ℕ))). slice_index_or l k.place None) (plane-yes k blocks marks pl (ap (list_all (λ mark. mark)) marks-are ∙ e))
+          ∙ get_or-set_same pl k.place (decided (slice_index_or pl k.place None) (plane_by k.component k.quantization blocks)) None (let h = place-in in let c = before.pl_count in omega arith)
+          ∙ ap (λ (o : Option (List ℕ)). decided o (plane_by k.component k.quantization blocks)) was-none;
+    };
+    undecided = λ e. ap (λ (l : List (Option (List ℕ))). slice_index_or l k.place None) (plane-no k blocks marks pl (ap (list_all (λ mark. mark)) marks-are ∙ e)) ∙ was-none;
+  }
 
   plane-moved : (j : ℕ) (c : Component) → At j frame.components c → (j ≡ k.place) ⊎ (j ≢ k.place)
       → PlaneSo w array (levels_of_one p k.place levels j) (with_plane k blocks marks pl) j c
   plane-moved j c h (inl e) =
       let own : c ≡ k.component = at-one k.place frame.components c k.component (subst (λ (i : ℕ). At i frame.components c) e h) done.at in
       subst (λ (i : ℕ). PlaneSo w array (levels_of_one p k.place levels i) (with_plane k blocks marks pl) i c) (sym e)
-        (subst (λ (d : Component). PlaneSo w array (levels_of_one p k.place levels k.place) (with_plane k blocks marks pl) k.place d) (sym own)
-          (subst (λ (l : Levels). PlaneSo w array l (with_plane k blocks marks pl) k.place k.component) (sym (one-same p k.place levels)) plane-own))
+      (subst (λ (d : Component). PlaneSo w array (levels_of_one p k.place levels k.place) (with_plane k blocks marks pl) k.place d) (sym own)
+      (subst (λ (l : Levels). PlaneSo w array l (with_plane k blocks marks pl) k.place k.component) (sym (one-same p k.place levels)) plane-own))
   plane-moved j c h (inr n) =
       let old = before.planes j c h in
       let same = plane-other k blocks marks pl j n in
       subst (λ (l : Levels). PlaneSo w array l (with_plane k blocks marks pl) j c) (sym (one-other p k.place j levels n))
-        (record {
-          decided = λ e. let o = old.decided e in record { table = o.table; is_table = o.is_table; blocks = o.blocks; holds = o.holds; plane = same ∙ o.plane };
-          undecided = λ e. same ∙ old.undecided e })
+      (record {
+        decided = λ e. let o = old.decided e in record { table = o.table; is_table = o.is_table; blocks = o.blocks; holds = o.holds; plane = same ∙ o.plane };
+        undecided = λ e. same ∙ old.undecided e;
+      })
 
   marks-moved : (j : ℕ) (c : Component) → At j frame.components c → (j ≡ k.place) ⊎ (j ≢ k.place)
       → slice_index_or (set fi k.place marks) j none_finished ≡ marks_of (levels_of_one p k.place levels j)
@@ -201,10 +208,11 @@ module _ (w : Found) (frame : Frame) (p : Pass) (array : Coefficients) (levels :
 
   pub marked-one : Marked w frame array (levels_of_one p k.place levels) (set fi k.place marks) (with_plane k blocks marks pl)
   marked-one = record {
-      fi_count = length-set fi k.place marks ∙ before.fi_count;
-      pl_count = plane-count k blocks marks pl ∙ before.pl_count;
-      marks = λ j c h. marks-moved j c h (eqb_cases j k.place);
-      planes = λ j c h. plane-moved j c h (eqb_cases j k.place) }
+    fi_count = length-set fi k.place marks ∙ before.fi_count;
+    pl_count = plane-count k blocks marks pl ∙ before.pl_count;
+    marks = λ j c h. marks-moved j c h (eqb_cases j k.place);
+    planes = λ j c h. plane-moved j c h (eqb_cases j k.place);
+  }
 
 -- ---- all components of a scan
 
@@ -225,13 +233,16 @@ done-others w frame p array levels place [] (b ∷ arrays) apart h = absurd h
 done-others w frame p array levels place (k ∷ codings) [] apart h = absurd h
 done-others w frame p array levels place (k ∷ codings) (b ∷ arrays) apart h =
     let same : levels k.place ≡ levels_of_one p place levels k.place = sym (one-other p place k.place levels (λ e. apart.0 (sym e))) in
-    let d = h.0 in
-    (record {
-      at = d.at; table = d.table;
-      legal = subst (IsLegal p) same d.legal;
-      sized = subst (λ (l : Levels). length l.acs ≡ 63) same d.sized;
-      holds = subst (λ (l : Levels). HoldsOwn (grid_of k.component) (array k.place) (levels_behind p l) b) same d.holds },
-     done-others w frame p array levels place codings arrays apart.1 h.1)
+    let d = h.0 in (
+      record {
+        at = d.at;
+        table = d.table;
+        legal = subst (IsLegal p) same d.legal;
+        sized = subst (λ (l : Levels). length l.acs ≡ 63) same d.sized;
+        holds = subst (λ (l : Levels). HoldsOwn (grid_of k.component) (array k.place) (levels_behind p l) b) same d.holds;
+      },
+      done-others w frame p array levels place codings arrays apart.1 h.1,
+    )
 
 -- What scans have brought, behind the components of one.
 pub record Brought (w : Found) (frame : Frame) (p : Pass) (array : Coefficients) (levels : ℕ → Levels) (codings : List Coding) (arrays : Arrays) (s : Bool) (h : Arrays)
@@ -252,7 +263,7 @@ with-none p f = refl
 
 blocks-are : (p : Pass) (k : Coding) (b : List Block) (w : Found) (s : Bool) (h : Arrays) (fi : List (List Bool)) (pl : List (Option (List ℕ)))
     → with_blocks p k b (reading w s h fi pl)
-      ≡ reading w s h (set fi k.place (finished_by p (slice_index_or fi k.place none_finished))) (with_plane k b (finished_by p (slice_index_or fi k.place none_finished)) pl)
+    ≡ reading w s h (set fi k.place (finished_by p (slice_index_or fi k.place none_finished))) (with_plane k b (finished_by p (slice_index_or fi k.place none_finished)) pl)
 unfolding with_blocks
 blocks-are p k b w s h fi pl = refl
 
@@ -266,12 +277,14 @@ brings w frame p array levels (k ∷ codings) [] s h fi pl few band apart done b
 brings w frame p array levels (k ∷ codings) (b ∷ arrays) s h fi pl few band apart done before =
     let marks = finished_by p (slice_index_or fi k.place none_finished) in
     let more = brings w frame p array (levels_of_one p k.place levels) codings arrays s h (set fi k.place marks) (with_plane k b marks pl) few band apart.1
-          (done-others w frame p array levels k.place codings arrays apart.0 done.1)
-          (marked-one w frame p array levels k b fi pl few band done.0 before) in
+    (done-others w frame p array levels k.place codings arrays apart.0 done.1)
+    (marked-one w frame p array levels k b fi pl few band done.0 before) in
     record {
-      finished = more.finished; planes = more.planes;
+      finished = more.finished;
+      planes = more.planes;
       is = with-one p k codings b arrays (reading w s h fi pl) ∙ ap (with_arrays p codings arrays) (blocks-are p k b w s h fi pl) ∙ more.is;
-      marked = more.marked }
+      marked = more.marked;
+    }
 
 -- ---- held between scans
 
@@ -282,20 +295,21 @@ pub record AllHeld (frame : Frame) (array : Coefficients) (levels : ℕ → Leve
 held-one : (w : Found) (frame : Frame) (p : Pass) (array : Coefficients) (levels : ℕ → Levels) (k : Coding) (blocks : List Block) (held : Arrays)
     → CodingDone w frame p array levels k blocks → AllHeld frame array levels held → AllHeld frame array (levels_of_one p k.place levels) (set held k.place blocks)
 held-one w frame p array levels k blocks held done before = record {
-    count = length-set held k.place blocks ∙ before.count;
-    each = λ j c h. go j c h (eqb_cases j k.place) }
+  count = length-set held k.place blocks ∙ before.count;
+  each = λ j c h. go j c h (eqb_cases j k.place);
+}
   where
     go : (j : ℕ) (c : Component) → At j frame.components c → (j ≡ k.place) ⊎ (j ≢ k.place) → HoldsOwn (grid_of c) (array j) (levels_of_one p k.place levels j) (get_or (set held k.place blocks) j [])
     go j c h (inl e) =
         let own : c ≡ k.component = at-one k.place frame.components c k.component (subst (λ (i : ℕ). At i frame.components c) e h) done.at in
         let within : k.place < length held = let t = at-within k.place frame.components k.component done.at in let n = before.count in omega arith in
         subst (λ (i : ℕ). HoldsOwn (grid_of c) (array i) (levels_of_one p k.place levels i) (get_or (set held k.place blocks) i [])) (sym e)
-          (subst (λ (d : Component). HoldsOwn (grid_of d) (array k.place) (levels_of_one p k.place levels k.place) (get_or (set held k.place blocks) k.place [])) (sym own)
-            (subst (λ (l : Levels). HoldsOwn (grid_of k.component) (array k.place) l (get_or (set held k.place blocks) k.place [])) (sym (one-same p k.place levels))
-              (subst (HoldsOwn (grid_of k.component) (array k.place) (levels_behind p (levels k.place))) (sym (get_or-set_same held k.place blocks [] within)) done.holds)))
+        (subst (λ (d : Component). HoldsOwn (grid_of d) (array k.place) (levels_of_one p k.place levels k.place) (get_or (set held k.place blocks) k.place [])) (sym own)
+        (subst (λ (l : Levels). HoldsOwn (grid_of k.component) (array k.place) l (get_or (set held k.place blocks) k.place [])) (sym (one-same p k.place levels))
+        (subst (HoldsOwn (grid_of k.component) (array k.place) (levels_behind p (levels k.place))) (sym (get_or-set_same held k.place blocks [] within)) done.holds)))
     go j c h (inr n) =
         subst (λ (l : Levels). HoldsOwn (grid_of c) (array j) l (get_or (set held k.place blocks) j [])) (sym (one-other p k.place j levels n))
-          (subst (HoldsOwn (grid_of c) (array j) (levels j)) (sym (get_or-set_other held k.place j blocks [] n)) (before.each j c h))
+        (subst (HoldsOwn (grid_of c) (array j) (levels j)) (sym (get_or-set_other held k.place j blocks [] n)) (before.each j c h))
 
 put-one : (k : Coding) (codings : List Coding) (b : List Block) (arrays held : Arrays) → put_arrays (k ∷ codings) (b ∷ arrays) held ≡ put_arrays codings arrays (set held k.place b)
 unfolding put_arrays
@@ -313,6 +327,6 @@ held-behind w frame p array levels [] (b ∷ arrays) held apart done before = ab
 held-behind w frame p array levels (k ∷ codings) [] held apart done before = absurd done
 held-behind w frame p array levels (k ∷ codings) (b ∷ arrays) held apart done before =
     subst (AllHeld frame array (levels_after p (places_of codings) (levels_of_one p k.place levels))) (sym (put-one k codings b arrays held))
-      (held-behind w frame p array (levels_of_one p k.place levels) codings arrays (set held k.place b) apart.1
-        (done-others w frame p array levels k.place codings arrays apart.0 done.1)
-        (held-one w frame p array levels k b held done.0 before))
+    (held-behind w frame p array (levels_of_one p k.place levels) codings arrays (set held k.place b) apart.1
+    (done-others w frame p array levels k.place codings arrays apart.0 done.1)
+    (held-one w frame p array levels k b held done.0 before))

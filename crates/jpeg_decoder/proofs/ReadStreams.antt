@@ -36,15 +36,17 @@ same-arrays w next sc h fi pl f = refl
 plane-same : (w next : Found) (array : Coefficients) (l : Levels) (pl : List (Option (List ℕ))) (k : ℕ) (c : Component) → next.quantization ≡ w.quantization
     → PlaneSo w array l pl k c → PlaneSo next array l pl k c
 plane-same w next array l pl k c e p = record {
-    decided = λ d. let o = p.decided d in
+  decided = λ d. let o = p.decided d in
       record { table = o.table; is_table = ap (λ (q : List (Option (List ℕ))). slice_index_or q c.factors.quantization None) e ∙ o.is_table; blocks = o.blocks; holds = o.holds; plane = o.plane };
-    undecided = p.undecided }
+  undecided = p.undecided;
+}
 
 plane-unscanned : (w next : Found) (array : Coefficients) (l : Levels) (pl : List (Option (List ℕ))) (k : ℕ) (c : Component) → l ≡ nothing_sent
     → PlaneSo w array l pl k c → PlaneSo next array l pl k c
 plane-unscanned w next array l pl k c e p = record {
-    decided = λ d. absurd (true≢false (sym d ∙ ap is_whole e));
-    undecided = p.undecided }
+  decided = λ d. absurd (true≢false (sym d ∙ ap is_whole e));
+  undecided = p.undecided;
+}
 
 framed-by : (w next : Found) (f : Frame) (array : Coefficients) (levels : ℕ → Levels) (sc : Bool) (h : Arrays) (fi : List (List Bool)) (pl : List (Option (List ℕ)))
     → ((k : ℕ) (c : Component) → PlaneSo w array (levels k) pl k c → PlaneSo next array (levels k) pl k c)
@@ -55,7 +57,8 @@ framed-by w next f array levels sc h fi pl g fr =
       marked = record { fi_count = m.fi_count; pl_count = m.pl_count; marks = m.marks; planes = λ k c t. g k c (m.planes k c t) };
       sized = fr.sized;
       held = λ e. subst (AllHeld f array levels) (same-arrays w next sc h fi pl f) (fr.held e);
-      fresh = fr.fresh }
+      fresh = fr.fresh;
+    }
 
 framed-next : (w next : Found) (m : Marker) (bytes : List ℕ) (f : Frame) (array : Coefficients) (levels : ℕ → Levels) (sc : Bool) (h : Arrays) (fi : List (List Bool)) (pl : List (Option (List ℕ)))
     → (sc ≡ true → m ≡ DQT → ⊥) → (sc ≡ false → (k : ℕ) → levels k ≡ nothing_sent) → WritesSegment w m bytes next
@@ -109,10 +112,10 @@ reads-scans array f tail w final levels last sc m bytes h fi pl (suc turns) bf m
     let sizes = length-append payload (marker fill code more) in
     let fills = length-append (replicate fill 0xFF) (code ∷ more) in
     read-to f array tail final last _ _
-      (turn-on turns bf (reading w sc h fi pl) met all (marker fill code more) (onward (reading next sc h fi pl))
-        (at.turn bf (reading w sc h fi pl) ∙ segment-read w next m payload (marker fill code more) bf sc h fi pl s) refl)
-      (reads-scans array f tail next final levels last sc behind more h fi pl turns Elsewhere None (marker fill code more) range shape (good-next w next m payload s good) (frame-kept w next m payload s ∙ e) none
-        (framed-next w next m payload f array levels sc h fi pl q none s fr) r (stands-next fill code behind more i) (omega arith))
+    (turn-on turns bf (reading w sc h fi pl) met all (marker fill code more) (onward (reading next sc h fi pl))
+    (at.turn bf (reading w sc h fi pl) ∙ segment-read w next m payload (marker fill code more) bf sc h fi pl s) refl)
+    (reads-scans array f tail next final levels last sc behind more h fi pl turns Elsewhere None (marker fill code more) range shape (good-next w next m payload s good) (frame-kept w next m payload s ∙ e) none
+    (framed-next w next m payload f array levels sc h fi pl q none s fr) r (stands-next fill code behind more i) (omega arith))
 reads-scans array f tail w final levels last sc m bytes h fi pl (suc turns) bf met all range shape good e none fr (scan w' final' levels' last' sc' behind fill code header payload more s codings a l x i r) at room =
     let rules = sos-facts f (header ++ []) (s, []) shape.lossy (a.accepted []) in
     let b = scan-brings w f array levels sc h fi pl s codings payload range shape fr rules (codings-good w f s codings good (codings-read w f s codings shape.lossy l.are_in_force)) l x in
@@ -121,18 +124,24 @@ reads-scans array f tail w final levels last sc m bytes h fi pl (suc turns) bf m
     let fills = length-append (replicate fill 0xFF) (code ∷ more) in
     let now = reading w sc h fi pl in
     let turn = scan-by now f s codings b.arrays behind (header ++ (payload ++ marker fill code more)) (payload ++ marker fill code more) more e (a.accepted (payload ++ marker fill code more))
-          (codings-same w sc h fi pl f s ∙ codings-read w f s codings shape.lossy l.are_in_force) (b.read fill code behind more i) (scans-plain array f tail w final _ last true behind more more (length more) r) in
+    (codings-same w sc h fi pl f s ∙ codings-read w f s codings shape.lossy l.are_in_force) (b.read fill code behind more i) (scans-plain array f tail w final _ last true behind more more (length more) r) in
     read-to f array tail final last _ _
-      (turn-on turns bf now met all more _ (at.turn bf now ∙ scan-turn bf now (header ++ (payload ++ marker fill code more)) _ turn) refl
-        ∙ ap (λ (x : Found). segments_within turns false (scan_before now) x (Some behind) more) b.behind)
-      (reads-scans array f tail w final (levels_after (pass_of s) (places_of codings) levels) last true behind more b.held b.finished b.planes turns (scan_before now) (Some behind) more
-        range shape good e (λ g. absurd (true≢false g)) b.framed r (stands-met behind more) (omega arith))
+    (turn-on turns bf now met all more _ (at.turn bf now ∙ scan-turn bf now (header ++ (payload ++ marker fill code more)) _ turn) refl
+    ∙ ap (λ (x : Found). segments_within turns false (scan_before now) x (Some behind) more) b.behind)
+    (reads-scans array f tail w final (levels_after (pass_of s) (places_of codings) levels) last true behind more b.held b.finished b.planes turns (scan_before now) (Some behind) more
+    range shape good e (λ g. absurd (true≢false g)) b.framed r (stands-met behind more) (omega arith))
 reads-scans array f tail w final levels last sc m bytes h fi pl (suc turns) bf met all range shape good e none fr (closed w' levels' t c) at room =
     record {
-      held = h; finished = fi; planes = pl;
+      held = h;
+      finished = fi;
+      planes = pl;
       is = turn-end turns bf (reading w true h fi pl) met all tail (record { found = reading w true h fi pl; before = Elsewhere; met = None; ended = true })
           (at.turn bf (reading w true h fi pl) ∙ end-turn bf (reading w true h fi pl) f tail e) refl;
-      framed = fr; frame_is = e; tables = t; complete = c }
+      framed = fr;
+      frame_is = e;
+      tables = t;
+      complete = c;
+    }
 
 -- ---- up to the frame
 
@@ -180,9 +189,9 @@ reads-head array tail w final last m bytes (suc turns) bf met all range shapes g
     let fills = length-append (replicate fill 0xFF) (code ∷ more) in
     let now = reading w false [] nothing_finished no_planes in
     whole-by array tail final last _ _
-      (turn-on turns bf now met all (marker fill code more) (onward (reading next false [] nothing_finished no_planes))
-        (at.turn bf now ∙ segment-read w next m payload (marker fill code more) bf false [] nothing_finished no_planes s) refl)
-      (reads-head array tail next final last behind more turns Elsewhere None (marker fill code more) range shapes (good-next w next m payload s good) (frame-kept w next m payload s ∙ n) r (stands-next fill code behind more i) (omega arith))
+    (turn-on turns bf now met all (marker fill code more) (onward (reading next false [] nothing_finished no_planes))
+    (at.turn bf now ∙ segment-read w next m payload (marker fill code more) bf false [] nothing_finished no_planes s) refl)
+    (reads-head array tail next final last behind more turns Elsewhere None (marker fill code more) range shapes (good-next w next m payload s good) (frame-kept w next m payload s ∙ n) r (stands-next fill code behind more i) (omega arith))
 reads-head array tail w final last m bytes (suc turns) bf met all range shapes good n (framing w' final' last' behind number fill code payload more f small a ok i r) at room =
     let sizes = length-append payload (marker fill code more) in
     let fills = length-append (replicate fill 0xFF) (code ∷ more) in
@@ -190,12 +199,15 @@ reads-head array tail w final last m bytes (suc turns) bf met all range shapes g
     let next : Found = record w { frame = Some f } in
     let shape = shapes number payload f small a ok in
     record {
-      frame = f; shape = shape; is_accepted = ok;
+      frame = f;
+      shape = shape;
+      is_accepted = ok;
       end = read-to f array tail final last _ _
-        (turn-on turns bf now met all (marker fill code more) (onward (reading next false [] nothing_finished no_planes))
+          (turn-on turns bf now met all (marker fill code more) (onward (reading next false [] nothing_finished no_planes))
           (at.turn bf now ∙ frame-turn number bf now (payload ++ marker fill code more) _ (frame-by number now f (payload ++ marker fill code more) (marker fill code more) n (a.accepted (marker fill code more)) ok)) refl)
-        (reads-scans array f tail next final (λ k. nothing_sent) last false behind more [] nothing_finished no_planes turns Elsewhere None (marker fill code more)
-          range shape good refl (λ g k. refl) (framed-start next f array [] nothing_finished no_planes range refl refl) r (stands-next fill code behind more i) (omega arith)) }
+          (reads-scans array f tail next final (λ k. nothing_sent) last false behind more [] nothing_finished no_planes turns Elsewhere None (marker fill code more)
+          range shape good refl (λ g k. refl) (framed-start next f array [] nothing_finished no_planes range refl refl) r (stands-next fill code behind more i) (omega arith));
+    }
 
 pub nothing-is : nothing_found ≡ reading nothing_found false [] nothing_finished no_planes
 unfolding nothing_found
@@ -228,5 +240,6 @@ stream-read array tail bytes final last range shapes (stream behind fill code mo
       rest = all;
       starts = starts-so all;
       whole = whole-by array tail final last _ _
-        (within-so nothing_found all ∙ ap (λ (x : Found). segments_within (suc (length all)) false Elsewhere x None all) nothing-is)
-        (reads-head array tail nothing_found final last behind more (suc (length all)) Elsewhere None all range shapes good-start no-frame r (stands-next fill code behind more i) (omega arith)) }
+          (within-so nothing_found all ∙ ap (λ (x : Found). segments_within (suc (length all)) false Elsewhere x None all) nothing-is)
+          (reads-head array tail nothing_found final last behind more (suc (length all)) Elsewhere None all range shapes good-start no-frame r (stands-next fill code behind more i) (omega arith));
+    }

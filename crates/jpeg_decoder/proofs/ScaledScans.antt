@@ -46,18 +46,18 @@ same-number a b f g = go (leb_tells a b) (leb_tells b a)
 pub own-same : (n m s : ℕ) → 0 < m → 0 < s → ceiling (ceiling (n * s) (m * 8)) s ≡ ceiling (ceiling n m) 8
 own-same n m s hm hs =
     same-number (ceiling (ceiling (n * s) (m * 8)) s) (ceiling (ceiling n m) 8)
-      (λ x h.
-        let a = (below-ceiling x (ceiling (n * s) (m * 8)) s hs).0 h in
-        let b : x * s * (m * 8) < n * s = (below-ceiling (x * s) (n * s) (m * 8) (omega arith)).0 a in
-        let c : (x * 8 * m) * s < n * s = let e = same x in omega arith in
-        let d : x * 8 * m < n = lt_of_mul-lt-mul_right s c in
-        (below-ceiling x (ceiling n m) 8 (omega arith)).1 ((below-ceiling (x * 8) n m hm).1 d))
-      (λ x h.
-        let a = (below-ceiling x (ceiling n m) 8 (omega arith)).0 h in
-        let d : x * 8 * m < n = (below-ceiling (x * 8) n m hm).0 a in
-        let c : (x * 8 * m) * s < n * s = mul-lt-mul_of_pos_right d hs in
-        let b : x * s * (m * 8) < n * s = let e = same x in omega arith in
-        (below-ceiling x (ceiling (n * s) (m * 8)) s hs).1 ((below-ceiling (x * s) (n * s) (m * 8) (omega arith)).1 b))
+    (λ x h.
+    let a = (below-ceiling x (ceiling (n * s) (m * 8)) s hs).0 h in
+    let b : x * s * (m * 8) < n * s = (below-ceiling (x * s) (n * s) (m * 8) (omega arith)).0 a in
+    let c : (x * 8 * m) * s < n * s = let e = same x in omega arith in
+    let d : x * 8 * m < n = lt_of_mul-lt-mul_right s c in
+    (below-ceiling x (ceiling n m) 8 (omega arith)).1 ((below-ceiling (x * 8) n m hm).1 d))
+    (λ x h.
+    let a = (below-ceiling x (ceiling n m) 8 (omega arith)).0 h in
+    let d : x * 8 * m < n = (below-ceiling (x * 8) n m hm).0 a in
+    let c : (x * 8 * m) * s < n * s = mul-lt-mul_of_pos_right d hs in
+    let b : x * s * (m * 8) < n * s = let e = same x in omega arith in
+    (below-ceiling x (ceiling (n * s) (m * 8)) s hs).1 ((below-ceiling (x * s) (n * s) (m * 8) (omega arith)).1 b))
   where
     same : (x : ℕ) → x * s * (m * 8) ≡ (x * 8 * m) * s
     same x = mul_assoc x s (m * 8) ∙ ap (λ (y : ℕ). x * y) (mul_comm s (m * 8) ∙ ap (λ (y : ℕ). y * s) (mul_comm m 8)) ∙ sym (mul_assoc x (8 * m) s) ∙ ap (λ (y : ℕ). y * s) (sym (mul_assoc x 8 m))
@@ -96,7 +96,7 @@ all-same_spots : (wide high : ℕ) (cs ds : List Component) → Alikes cs ds →
 unfolding all_spots
 all-same_spots wide high cs ds h =
     flat-same (λ row. flat_map (λ column. mcu_spots row column 0 ds) (range_with_len 0 wide)) (λ row. flat_map (λ column. mcu_spots row column 0 cs) (range_with_len 0 wide))
-      (λ row. flat-same (λ column. mcu_spots row column 0 ds) (λ column. mcu_spots row column 0 cs) (λ column. mcu-same row column 0 cs ds h) (range_with_len 0 wide)) (range_with_len 0 high)
+    (λ row. flat-same (λ column. mcu_spots row column 0 ds) (λ column. mcu_spots row column 0 cs) (λ column. mcu-same row column 0 cs ds h) (range_with_len 0 wide)) (range_with_len 0 high)
 
 -- a frame whose components have the same blocks, and which is read alike
 pub record SameFrame (f g : Frame) : Type 0 where
@@ -157,6 +157,7 @@ selector-same f g same least bytes = go (next_byte bytes)
     by : (place : Option ℕ) (rest : List ℕ) → tables_by g least place rest ≡ tables_by f least place rest
     by None rest = refl
     by (Some place) rest = ap (λ (o : Outcome Selector). cond (nat_lt place least) (Err Malformed) o) (tables-same f g same place rest)
+
     go : (o : Outcome ℕ) → (o >>= (λ i. tables_by g least (place_of g.components i.0) i.1)) ≡ (o >>= (λ i. tables_by f least (place_of f.components i.0) i.1))
     go (Err e) = refl
     go (Ok i) = ap (λ (p : Option ℕ). tables_by g least p i.1) (place-same f.components g.components i.0 same.components) ∙ by (place_of f.components i.0) i.1
@@ -189,9 +190,10 @@ sos-same f g same bytes = go (count_at bytes)
         → (o >>= (λ s. if is_mcu s.0 then band_at g s.0 s.1 else Err Malformed)) ≡ (o >>= (λ s. if is_mcu s.0 then band_at f s.0 s.1 else Err Malformed))
     then_ (Err e) = refl
     then_ (Ok s) = ap (λ (o : Outcome Scan). cond (is_mcu s.0) o (Err Malformed)) (band-same f g same s.0 s.1)
+
     go : (o : Outcome ℕ)
         → (o >>= (λ n. selectors_from g n.0 [] 0 n.1 >>= (λ s. if is_mcu s.0 then band_at g s.0 s.1 else Err Malformed)))
-          ≡ (o >>= (λ n. selectors_from f n.0 [] 0 n.1 >>= (λ s. if is_mcu s.0 then band_at f s.0 s.1 else Err Malformed)))
+        ≡ (o >>= (λ n. selectors_from f n.0 [] 0 n.1 >>= (λ s. if is_mcu s.0 then band_at f s.0 s.1 else Err Malformed)))
     go (Err e) = refl
     go (Ok n) =
         ap (λ (o : Outcome (List Selector)). o >>= (λ s. if is_mcu s.0 then band_at g s.0 s.1 else Err Malformed)) (selectors-same f g same n.0 [] 0 n.1)
@@ -231,10 +233,11 @@ coding-alike : (w : Found) (f g : Frame) → SameFrame f g → (p : Pass) (table
     → (l : Coding) × IsCoding (at_frame w g) g p tables place d a l × CodingAlike k l
 coding-alike w f g same p tables place d a k h =
     let other = first-alike place f.components g.components k.component same.components h.component in
-    let l : Coding = record { place = k.place; component = other.0; quantization = k.quantization; dc = k.dc; ac = k.ac } in
-    (l,
-     record { stands = h.stands; component = other.1; quantization = ap (λ (x : Factors). slice_index_or w.quantization x.quantization None) other.2.factors ∙ h.quantization; dc = h.dc; ac = h.ac },
-     record { place = refl; component = other.2; dc = refl; ac = refl })
+    let l : Coding = record { place = k.place; component = other.0; quantization = k.quantization; dc = k.dc; ac = k.ac } in (
+      l,
+      record { stands = h.stands; component = other.1; quantization = ap (λ (x : Factors). slice_index_or w.quantization x.quantization None) other.2.factors ∙ h.quantization; dc = h.dc; ac = h.ac },
+      record { place = refl; component = other.2; dc = refl; ac = refl },
+    )
 
 codings-alike : (w : Found) (f g : Frame) → SameFrame f g → (p : Pass) (tables : Tables) (places ds ks : List ℕ) (codings : List Coding) → AreCodings w f p tables places ds ks codings
     → (others : List Coding) × AreCodings (at_frame w g) g p tables places ds ks others × CodingsAlike codings others
@@ -275,18 +278,19 @@ scan-alike f g n p ks ls array bytes same h w =
     let places = places-alike ks ls h in
     let u = λ (s : Spot). numbers_at p.al (w.sent s) in
     let turns : written_turns (vias_from 0 ls) (spots_of g (components_of ls)) u ≡ written_turns (vias_from 0 ks) (spots_of f (components_of ks)) u
-          = ap₂ (λ (v : List Via) (s : List Spot). written_turns v s u) (vias-alike 0 ks ls h) (spots-same f g (components_of ks) (components_of ls) same cs) in
+    = ap₂ (λ (v : List Via) (s : List Spot). written_turns v s u) (vias-alike 0 ks ls h) (spots-same f g (components_of ks) (components_of ls) same cs) in
     let size : n * mcu_size (components_of ls) ≡ n * mcu_size (components_of ks) = ap (λ (x : ℕ). n * x) (mcu-size_same (components_of ks) (components_of ls) cs) in
     record {
       sent = w.sent;
       in_range = w.in_range;
       is_own = λ s own.
-        let grid : grid_at (components_of ls) s.slot ≡ grid_at (components_of ks) s.slot = ap (λ (l : List Grid). get_or l s.slot no_grid) grids in
-        w.is_own s (subst (λ (x : Grid). IsOwn x s.index) grid own)
-        ∙ sym (ap₂ (λ (k : ℕ) (x : Grid). array k (s.index / x.wide) (s.index % x.wide)) (ap (λ (l : List ℕ). get_or l s.slot 0) places) grid);
+          let grid : grid_at (components_of ls) s.slot ≡ grid_at (components_of ks) s.slot = ap (λ (l : List Grid). get_or l s.slot no_grid) grids in
+          w.is_own s (subst (λ (x : Grid). IsOwn x s.index) grid own)
+          ∙ sym (ap₂ (λ (k : ℕ) (x : Grid). array k (s.index / x.wide) (s.index % x.wide)) (ap (λ (l : List ℕ). get_or l s.slot 0) places) grid);
       coded =
-        subst (λ (k : ℕ). WritesIntervals p 0 (first_group k (written_turns (vias_from 0 ls) (spots_of g (components_of ls)) u)) (other_groups k (written_turns (vias_from 0 ls) (spots_of g (components_of ls)) u)) bytes) (sym size)
-          (subst (λ (t : List (Via × Block)). WritesIntervals p 0 (first_group (n * mcu_size (components_of ks)) t) (other_groups (n * mcu_size (components_of ks)) t) bytes) (sym turns) w.coded) }
+          subst (λ (k : ℕ). WritesIntervals p 0 (first_group k (written_turns (vias_from 0 ls) (spots_of g (components_of ls)) u)) (other_groups k (written_turns (vias_from 0 ls) (spots_of g (components_of ls)) u)) bytes) (sym size)
+          (subst (λ (t : List (Via × Block)). WritesIntervals p 0 (first_group (n * mcu_size (components_of ks)) t) (other_groups (n * mcu_size (components_of ks)) t) bytes) (sym turns) w.coded);
+    }
 
 legal-alike : (p : Pass) (levels : ℕ → Levels) (ks ls : List Coding) → CodingsAlike ks ls → AllByRecursion (λ c. IsLegal p (levels c.place)) ks → AllByRecursion (λ c. IsLegal p (levels c.place)) ls
 legal-alike p levels ks ls none h = tt
@@ -296,7 +300,7 @@ segment-alike : (w next : Found) (m : Marker) (bytes : List ℕ) (f g : Frame) �
 segment-alike w next m bytes f g same e (quantization w' bytes' t a) = quantization (at_frame w g) bytes t a
 segment-alike w next m bytes f g same e (huffman w' bytes' t a) =
     huffman (at_frame w g) bytes t (subst (λ (o : Option Bool). IsAccepted (Rattle.jpeg_segments.specs.HuffmanTables.dht_at o) bytes t)
-      (ap (Rattle.std.specs.Prelude.option_map (λ (x : Frame). x.is_baseline)) e ∙ ap (λ (b : Bool). Some b) (sym same.is_baseline)) a)
+    (ap (Rattle.std.specs.Prelude.option_map (λ (x : Frame). x.is_baseline)) e ∙ ap (λ (b : Bool). Some b) (sym same.is_baseline)) a)
 segment-alike w next m bytes f g same e (restart w' bytes' n a) = restart (at_frame w g) bytes n a
 segment-alike w next m bytes f g same e (application w' number bytes' t a) = application (at_frame w g) number bytes t a
 segment-alike w next m bytes f g same e (comment w' bytes' a) = comment (at_frame w g) bytes a
@@ -311,18 +315,19 @@ pub scans-alike : (array : Coefficients) (f g : Frame) (tail : List ℕ) (w fina
     → WritesScans array f tail w levels sc m bytes final last → WritesScans array g tail (at_frame w g) levels sc m bytes (at_frame final g) last
 scans-alike array f g tail w final levels last sc m bytes same e (segment w' next final' levels' last' sc' m' behind fill code payload more s q i r) =
     segment (at_frame w g) (at_frame next g) (at_frame final g) levels last sc m behind fill code payload more (segment-alike w next m payload f g same e s) q i
-      (scans-alike array f g tail next final levels last sc behind more same (frame-kept w next m payload s ∙ e) r)
+    (scans-alike array f g tail next final levels last sc behind more same (frame-kept w next m payload s ∙ e) r)
 scans-alike array f g tail w final levels last sc m bytes same e (scan w' final' levels' last' sc' behind fill code header payload more s codings a l x i r) =
     let o = codings-alike w f g same (pass_of s) (tables_of w s) s.components s.dc_places s.ac_places codings l.are_in_force in
     let places = places-alike codings o.0 o.2 in
     scan (at_frame w g) (at_frame final g) levels last sc behind fill code header payload more s o.0
-      (record { accepted = λ rest. sos-same f g same (header ++ rest) ∙ a.accepted rest })
-      (record {
-        are_in_force = subst (λ (t : Tables). AreCodings (at_frame w g) g (pass_of s) t s.components s.dc_places s.ac_places o.0) (sym (tables-kept w g s)) o.1;
-        legal = legal-alike (pass_of s) levels codings o.0 o.2 l.legal })
-      (scan-alike f g w.restart (pass_of s) codings o.0 array payload same o.2 x) i
-      (subst (λ (p : List ℕ). WritesScans array g tail (at_frame w g) (levels_after (pass_of s) p levels) true behind more (at_frame final g) last) (sym places)
-        (scans-alike array f g tail w final (levels_after (pass_of s) (map (λ (c : Coding). c.place) codings) levels) last true behind more same e r))
+    (record { accepted = λ rest. sos-same f g same (header ++ rest) ∙ a.accepted rest })
+    (record {
+      are_in_force = subst (λ (t : Tables). AreCodings (at_frame w g) g (pass_of s) t s.components s.dc_places s.ac_places o.0) (sym (tables-kept w g s)) o.1;
+      legal = legal-alike (pass_of s) levels codings o.0 o.2 l.legal;
+    })
+    (scan-alike f g w.restart (pass_of s) codings o.0 array payload same o.2 x) i
+    (subst (λ (p : List ℕ). WritesScans array g tail (at_frame w g) (levels_after (pass_of s) p levels) true behind more (at_frame final g) last) (sym places)
+    (scans-alike array f g tail w final (levels_after (pass_of s) (map (λ (c : Coding). c.place) codings) levels) last true behind more same e r))
 scans-alike array f g tail w final levels last sc m bytes same e (closed w' levels' t c) =
     closed (at_frame w g) levels (tables-there w g f.components g.components same.components t)
-      (λ n. subst (λ (k : ℕ). AllByRecursion (λ j. IsComplete (levels j)) (range_with_len 0 k)) (sym (length-same f.components g.components same.components)) (c (ap is_progressive (sym same.process) ∙ n)))
+    (λ n. subst (λ (k : ℕ). AllByRecursion (λ j. IsComplete (levels j)) (range_with_len 0 k)) (sym (length-same f.components g.components same.components)) (c (ap is_progressive (sym same.process) ∙ n)))

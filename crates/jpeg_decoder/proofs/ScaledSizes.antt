@@ -21,8 +21,13 @@ use Rattle.jpeg_decoder.proofs.InsidePictures.{Reaches, AllReach}
 -- a component of these factors at a scale
 abbrev pub scaled_component : ℕ → ℕ → ℕ → ℕ → ℕ → Factors → Component
 scaled_component s width height h v x = record {
-    factors = x; scale = s; width = ceiling (width * x.horizontal * s) (h * 8); height = ceiling (height * x.vertical * s) (v * 8);
-    blocks_wide = ceiling width (8 * h) * x.horizontal; blocks_high = ceiling height (8 * v) * x.vertical }
+  factors = x;
+  scale = s;
+  width = ceiling (width * x.horizontal * s) (h * 8);
+  height = ceiling (height * x.vertical * s) (v * 8);
+  blocks_wide = ceiling width (8 * h) * x.horizontal;
+  blocks_high = ceiling height (8 * v) * x.vertical;
+}
 
 components-scaled : (s width height h v : ℕ) (xs : List Factors) → map (component_at s width height h v) (map (component_of width height h v) xs) ≡ map (scaled_component s width height h v) xs
 unfolding component_of component_at
@@ -67,12 +72,14 @@ reach-end size factor most s k hs hf hm ss r = go r.is
   where
     c : ℕ
     c = ceiling (size * factor * s) (most * 8)
+
     product : 0 < size * factor * s
     product =
         let a : 1 * 1 ≤ size * factor = mul-le-mul hs hf in
         let one : 1 ≤ size * factor = omega arith in
         let b : 1 * 1 ≤ size * factor * s = mul-le-mul one ss in
         omega arith
+
     go : (most ≡ factor * k) ⊎ ((ceiling (size * s) 8 ≡ 1) × (k ≡ 1)) → ceiling (size * s) 8 ≤ k * ceiling (size * factor * s) (most * 8)
     go (inr e) =
         let p = some-ceiling (size * factor * s) (most * 8) product (omega arith) in
@@ -83,8 +90,8 @@ reach-end size factor most s k hs hf hm ss r = go r.is
         let cover : size * factor * s ≤ c * (most * 8) = ceiling-covers (size * factor * s) (most * 8) (omega arith) in
         let left : size * factor * s ≡ factor * (size * s) = ap (λ (x : ℕ). x * s) (mul_comm size factor) ∙ mul_assoc factor size s in
         let right : c * (most * 8) ≡ factor * ((k * c) * 8)
-              = ap (λ (x : ℕ). c * (x * 8)) e ∙ ap (λ (x : ℕ). c * x) (mul_assoc factor k 8) ∙ sym (mul_assoc c factor (k * 8)) ∙ ap (λ (x : ℕ). x * (k * 8)) (mul_comm c factor)
-                ∙ mul_assoc factor c (k * 8) ∙ ap (λ (x : ℕ). factor * x) (sym (mul_assoc c k 8) ∙ ap (λ (x : ℕ). x * 8) (mul_comm c k)) in
+        = ap (λ (x : ℕ). c * (x * 8)) e ∙ ap (λ (x : ℕ). c * x) (mul_assoc factor k 8) ∙ sym (mul_assoc c factor (k * 8)) ∙ ap (λ (x : ℕ). x * (k * 8)) (mul_comm c factor)
+        ∙ mul_assoc factor c (k * 8) ∙ ap (λ (x : ℕ). factor * x) (sym (mul_assoc c k 8) ∙ ap (λ (x : ℕ). x * 8) (mul_comm c k)) in
         let more : factor * (size * s) ≤ factor * ((k * c) * 8) = omega arith in
         ceiling-least (size * s) 8 (k * c) (omega arith) (le_of_mul-le-mul_left more hf)
 
@@ -162,12 +169,14 @@ reaches-one s width height mh mv x (Some rule) source ss w h a b r e f =
     let q1 : 1 * 1 ≤ height * x.vertical = mul-le-mul h vs in
     let q2 : 1 * 1 ≤ height * x.vertical * s = mul-le-mul q1 ss in
     subst (λ (o : Source). Reaches o (ceiling (width * s) 8) (ceiling (height * s) 8)) (ok-same _ source f)
-      (record {
-        some_width = some-ceiling (width * x.horizontal * s) (mh * 8) (omega arith) (omega arith);
-        some_height = some-ceiling (height * x.vertical * s) (mv * 8) (omega arith) (omega arith);
-        some_across = q.columns.some; some_down = q.lines.some;
-        wide_enough = reach-end width x.horizontal mh s (across rule) w hs a ss q.columns;
-        high_enough = reach-end height x.vertical mv s (down rule) h vs b ss q.lines })
+    (record {
+      some_width = some-ceiling (width * x.horizontal * s) (mh * 8) (omega arith) (omega arith);
+      some_height = some-ceiling (height * x.vertical * s) (mv * 8) (omega arith) (omega arith);
+      some_across = q.columns.some;
+      some_down = q.lines.some;
+      wide_enough = reach-end width x.horizontal mh s (across rule) w hs a ss q.columns;
+      high_enough = reach-end height x.vertical mv s (down rule) h vs b ss q.lines;
+    })
 
 reaches-all : (s width height mh mv : ℕ) (xs : List Factors) (sources : List Source) → 0 < s → 0 < width → 0 < height → 0 < mh → 0 < mv → AllByRecursion IsInRange xs
     → sources_by mh mv (ceiling (width * s) 8) (ceiling (height * s) 8) (map (scaled_component s width height mh mv) xs) ≡ Ok sources
@@ -177,9 +186,10 @@ reaches-all s width height mh mv [] sources ss w h a b range e = subst (λ (l : 
 reaches-all s width height mh mv (x ∷ xs) sources ss w h a b range e =
     let one = bind-ok (source_of mh mv (ceiling (width * s) 8) (ceiling (height * s) 8) (scaled_component s width height mh mv x)) _ sources e in
     let others = bind-ok (sources_by mh mv (ceiling (width * s) 8) (ceiling (height * s) 8) (map (scaled_component s width height mh mv) xs)) _ sources one.2 in
-    subst (λ (l : List Source). AllReach l (ceiling (width * s) 8) (ceiling (height * s) 8)) (ok-same (one.0 ∷ others.0) sources others.2)
-      (reaches-one s width height mh mv x (rule_of x.horizontal x.vertical mh mv (ceiling (width * s) 8) (ceiling (height * s) 8)) one.0 ss w h a b range.0 refl one.1,
-       reaches-all s width height mh mv xs others.0 ss w h a b range.1 others.1)
+    subst (λ (l : List Source). AllReach l (ceiling (width * s) 8) (ceiling (height * s) 8)) (ok-same (one.0 ∷ others.0) sources others.2) (
+      reaches-one s width height mh mv x (rule_of x.horizontal x.vertical mh mv (ceiling (width * s) 8) (ceiling (height * s) 8)) one.0 ss w h a b range.0 refl one.1,
+      reaches-all s width height mh mv xs others.0 ss w h a b range.1 others.1,
+    )
 
 pub factors-scaled : (s width height h v : ℕ) (xs : List Factors) → factors_of (map (scaled_component s width height h v) xs) ≡ xs
 factors-scaled s width height h v [] = refl
@@ -190,8 +200,8 @@ reaches-frame : (s width height : ℕ) (xs : List Factors) (sources : List Sourc
     → AllReach sources (ceiling (width * s) 8) (ceiling (height * s) 8)
 reaches-frame s width height xs sources ss w h range e =
     reaches-all s width height (most_h xs) (most_v xs) xs sources ss w h (greatest-some (λ f. f.horizontal) xs) (greatest-some (λ f. f.vertical) xs) range
-      (subst (λ (l : List Factors). sources_by (most_h l) (most_v l) (ceiling (width * s) 8) (ceiling (height * s) 8) (map (scaled_component s width height (most_h xs) (most_v xs)) xs) ≡ Ok sources)
-        (factors-scaled s width height (most_h xs) (most_v xs) xs) e)
+    (subst (λ (l : List Factors). sources_by (most_h l) (most_v l) (ceiling (width * s) 8) (ceiling (height * s) 8) (map (scaled_component s width height (most_h xs) (most_v xs)) xs) ≡ Ok sources)
+    (factors-scaled s width height (most_h xs) (most_v xs) xs) e)
 
 -- a frame that is made of factors has these components, and this size
 pub record IsSized (f : Frame) (m : Made f) : Type 0 where
@@ -201,17 +211,18 @@ pub record IsSized (f : Frame) (m : Made f) : Type 0 where
 
 pub is-sized : (f : Frame) (m : Made f) → IsSized f m
 is-sized f m = record {
-    components = ap (λ (g : Frame). g.components) m.is ∙ frame-components m.scale m.number m.precision m.width m.height m.factors;
-    width = ap (λ (g : Frame). g.output_width) m.is ∙ frame-width m.scale m.number m.precision m.width m.height m.factors;
-    height = ap (λ (g : Frame). g.output_height) m.is ∙ frame-height m.scale m.number m.precision m.width m.height m.factors }
+  components = ap (λ (g : Frame). g.components) m.is ∙ frame-components m.scale m.number m.precision m.width m.height m.factors;
+  width = ap (λ (g : Frame). g.output_width) m.is ∙ frame-width m.scale m.number m.precision m.width m.height m.factors;
+  height = ap (λ (g : Frame). g.output_height) m.is ∙ frame-height m.scale m.number m.precision m.width m.height m.factors;
+}
 
 pub reaches-made : (f : Frame) (sources : List Source) → Made f → sources_of f.components f.output_width f.output_height ≡ Ok sources → AllReach sources f.output_width f.output_height
 reaches-made f sources m e =
     let z = is-sized f m in
     subst (λ (n : ℕ). AllReach sources n f.output_height) (sym z.width) (subst (λ (n : ℕ). AllReach sources (ceiling (m.width * m.scale) 8) n) (sym z.height)
-      (reaches-frame m.scale m.width m.height m.factors sources m.some_scale m.some_width m.some_height m.in_range
-        (sym (ap₂ (λ (a b : ℕ). sources_of (map (scaled_component m.scale m.width m.height (most_h m.factors) (most_v m.factors)) m.factors) a b) z.width z.height)
-          ∙ sym (ap (λ (l : List Component). sources_of l f.output_width f.output_height) z.components) ∙ e)))
+    (reaches-frame m.scale m.width m.height m.factors sources m.some_scale m.some_width m.some_height m.in_range
+    (sym (ap₂ (λ (a b : ℕ). sources_of (map (scaled_component m.scale m.width m.height (most_h m.factors) (most_v m.factors)) m.factors) a b) z.width z.height)
+    ∙ sym (ap (λ (l : List Component). sources_of l f.output_width f.output_height) z.components) ∙ e)))
 
 pub scale-made : (f : Frame) → Made f → (k : ℕ) (c : Component) → At k f.components c → 0 < c.scale
 scale-made f m k c t =

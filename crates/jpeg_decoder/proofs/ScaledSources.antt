@@ -68,9 +68,9 @@ rule-there h v mh mv a b c d rule f g e =
     let fv = one-follows v mv b d g in
     let test = pick-test (h1 && v1) (h2 && v1) (h1 && v2) (h2 && v2) any (Generic (mh / h) (mv / v)) rule e in
     pick-some (h3 && v3) (h2 && v3) (h3 && v2) (h2 && v2) any (Generic (mh / h) (mv / v))
-      (or-follows (h1 && v1) _ (h3 && v3) _ (and-follows h1 v1 h3 v3 fh fv)
-        (or-follows (h2 && v1) _ (h2 && v3) _ (and-follows h2 v1 h2 v3 (λ x. x) fv)
-          (or-follows (h1 && v2) _ (h3 && v2) _ (and-follows h1 v2 h3 v2 fh (λ x. x)) (λ x. x))) test)
+    (or-follows (h1 && v1) _ (h3 && v3) _ (and-follows h1 v1 h3 v3 fh fv)
+    (or-follows (h2 && v1) _ (h2 && v3) _ (and-follows h2 v1 h2 v3 (λ x. x) fv)
+    (or-follows (h1 && v2) _ (h3 && v2) _ (and-follows h1 v2 h3 v2 fh (λ x. x)) (λ x. x))) test)
 
 -- ---- sources
 

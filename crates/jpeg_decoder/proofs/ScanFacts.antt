@@ -70,8 +70,9 @@ below-end n (x ∷ sel) s h k = (h.0, below-end n sel s h.1 k)
 
 rising-end : (least : ℕ) (sel : List Selector) (s : Selector) → Rising least sel → least ≤ s.component → Rising (s.component + 1) (sel ++ s ∷ [])
 rising-end least sel s r h = record {
-    below = below-end (s.component + 1) sel s (below-more least (s.component + 1) sel (omega arith) r.below) (omega arith);
-    apart = subst AreApart (sym (map-end sel s)) (apart-end (map (λ x. x.component) sel) s.component r.apart (absent-below s.component least sel h r.below)) }
+  below = below-end (s.component + 1) sel s (below-more least (s.component + 1) sel (omega arith) r.below) (omega arith);
+  apart = subst AreApart (sym (map-end sel s)) (apart-end (map (λ x. x.component) sel) s.component r.apart (absent-below s.component least sel h r.below));
+}
 
 selectors-rise : (f : Frame) (n : ℕ) (front : List Selector) (least : ℕ) (bytes : List ℕ) (s : List Selector × List ℕ) → Rising least front → selectors_from f n front least bytes ≡ Ok s
     → AreApart (map (λ x. x.component) s.0) × (length s.0 ≡ length front + n)
@@ -139,7 +140,7 @@ band-facts f sel bytes s n some apart h =
     let x = if-ok (nat_lt (levels.0.0 % 16) f.precision) _ Malformed s levels.2 in
     let y = if-ok (is_band f.process (length sel) first.0.0 last.0.0 (levels.0.0 / 16) (levels.0.0 % 16)) _ Malformed s x.1 in
     subst (λ (z : Scan × List ℕ). ScanFacts f z.0) (ok-same _ s y.1)
-      (scan-facts f sel first.0.0 last.0.0 levels.0.0 some apart (scan-is f sel first.0.0 last.0.0 levels.0.0 n y.0))
+    (scan-facts f sel first.0.0 last.0.0 levels.0.0 some apart (scan-is f sel first.0.0 last.0.0 levels.0.0 n y.0))
 
 count-some : (bytes : List ℕ) (n : ℕ × List ℕ) → count_at bytes ≡ Ok n → 1 ≤ n.0
 unfolding count_at

@@ -48,10 +48,12 @@ pub record Suits (p : Pass) (old u : Block) : Type 0 where
 -- The block behind the pass.
 abbrev pub behind_pass : Pass → Block → Block → Block
 behind_pass p old u = record {
-    dc = elim (p.ss == 0) as (λ _. ℤ) [
-        true ↦ elim p.is_first as (λ _. ℤ) [ true ↦ scaled p.al u.dc | false ↦ or_bit p.al old.dc (low_bit u.dc) ]
-      | false ↦ old.dc ];
-    acs = with_band p old.acs (map (scaled p.al) (band_of p u.acs)) }
+  dc = elim (p.ss == 0) as (λ _. ℤ) [
+    | true ↦ elim p.is_first as (λ _. ℤ) [ true ↦ scaled p.al u.dc | false ↦ or_bit p.al old.dc (low_bit u.dc) ]
+    | false ↦ old.dc
+  ];
+  acs = with_band p old.acs (map (scaled p.al) (band_of p u.acs));
+}
 
 -- a block's path, what is held of it, and its numbers at the level of the pass
 abbrev pub reads_of : List (Via × Block × Block) → List (Via × Block)

@@ -46,21 +46,24 @@ scaled-alike : (s width height h v : ℕ) (xs : List Factors) → 0 < s → 0 < 
 scaled-alike s width height h v [] a b c = none
 scaled-alike s width height h v (x ∷ xs) a b c =
     one_more (scaled_component 8 width height h v x) (scaled_component s width height h v x) (map (scaled_component 8 width height h v) xs) (map (scaled_component s width height h v) xs)
-      (record {
-        factors = refl; wide = refl; high = refl;
-        own_wide = own-same (width * x.horizontal) h s b a ∙ sym (own-same (width * x.horizontal) h 8 b (omega arith));
-        own_high = own-same (height * x.vertical) v s c a ∙ sym (own-same (height * x.vertical) v 8 c (omega arith)) })
-      (scaled-alike s width height h v xs a b c)
+    (record {
+      factors = refl;
+      wide = refl;
+      high = refl;
+      own_wide = own-same (width * x.horizontal) h s b a ∙ sym (own-same (width * x.horizontal) h 8 b (omega arith));
+      own_high = own-same (height * x.vertical) v s c a ∙ sym (own-same (height * x.vertical) v 8 c (omega arith));
+    })
+    (scaled-alike s width height h v xs a b c)
 
 components-alike : (f : Frame) (s : ℕ) → Plain f → 0 < s → Alikes f.components (frame_at s f).components
 components-alike f s o h =
     let one : f.components ≡ map (scaled_component 8 o.width o.height (most_h o.factors) (most_v o.factors)) o.factors
-          = ap (λ (g : Frame). g.components) (sym (plain-size f o) ∙ ap (frame_at 8) o.is) ∙ frame-components 8 o.number o.precision o.width o.height o.factors in
+    = ap (λ (g : Frame). g.components) (sym (plain-size f o) ∙ ap (frame_at 8) o.is) ∙ frame-components 8 o.number o.precision o.width o.height o.factors in
     let two : (frame_at s f).components ≡ map (scaled_component s o.width o.height (most_h o.factors) (most_v o.factors)) o.factors
-          = ap (λ (g : Frame). (frame_at s g).components) o.is ∙ frame-components s o.number o.precision o.width o.height o.factors in
+    = ap (λ (g : Frame). (frame_at s g).components) o.is ∙ frame-components s o.number o.precision o.width o.height o.factors in
     subst (λ (l : List Component). Alikes l (frame_at s f).components) (sym one)
-      (subst (Alikes (map (scaled_component 8 o.width o.height (most_h o.factors) (most_v o.factors)) o.factors)) (sym two)
-        (scaled-alike s o.width o.height (most_h o.factors) (most_v o.factors) o.factors h (greatest-some (λ x. x.horizontal) o.factors) (greatest-some (λ x. x.vertical) o.factors)))
+    (subst (Alikes (map (scaled_component 8 o.width o.height (most_h o.factors) (most_v o.factors)) o.factors)) (sym two)
+    (scaled-alike s o.width o.height (most_h o.factors) (most_v o.factors) o.factors h (greatest-some (λ x. x.horizontal) o.factors) (greatest-some (λ x. x.vertical) o.factors)))
 
 pub same-frame : (f : Frame) (s : ℕ) → Plain f → 0 < s → SameFrame f (frame_at s f)
 unfolding frame_at
@@ -73,12 +76,13 @@ at-alike (suc k) cs ds d (one_more x y cs' ds' h more) t = at-alike k cs' ds' d 
 
 fits-alike : (f g : Frame) (c d : Component) → SameFrame f g → Alike c d → Fits f c → Fits g d
 fits-alike f g c d same a fit = record {
-    horizontal = subst (λ (x : Factors). 0 < x.horizontal) (sym a.factors) fit.horizontal;
-    vertical = subst (λ (x : Factors). 0 < x.vertical) (sym a.factors) fit.vertical;
-    wide = a.wide ∙ fit.wide ∙ ap₂ (λ (m : ℕ) (x : Factors). m * x.horizontal) (sym same.mcus_wide) (sym a.factors);
-    high = a.high ∙ fit.high ∙ ap₂ (λ (m : ℕ) (x : Factors). m * x.vertical) (sym same.mcus_high) (sym a.factors);
-    own_wide = let u = fit.own_wide in let e = a.own_wide in let k = a.wide in omega arith;
-    own_high = let u = fit.own_high in let e = a.own_high in let k = a.high in omega arith }
+  horizontal = subst (λ (x : Factors). 0 < x.horizontal) (sym a.factors) fit.horizontal;
+  vertical = subst (λ (x : Factors). 0 < x.vertical) (sym a.factors) fit.vertical;
+  wide = a.wide ∙ fit.wide ∙ ap₂ (λ (m : ℕ) (x : Factors). m * x.horizontal) (sym same.mcus_wide) (sym a.factors);
+  high = a.high ∙ fit.high ∙ ap₂ (λ (m : ℕ) (x : Factors). m * x.vertical) (sym same.mcus_high) (sym a.factors);
+  own_wide = let u = fit.own_wide in let e = a.own_wide in let k = a.wide in omega arith;
+  own_high = let u = fit.own_high in let e = a.own_high in let k = a.high in omega arith;
+}
 
 pub shaped-at : (f : Frame) (s : ℕ) → Plain f → 0 < s → Shaped f → Shaped (frame_at s f)
 shaped-at f s o h shape =
@@ -87,7 +91,8 @@ shaped-at f s o h shape =
       made = made-at f s o h;
       few = let e = length-same f.components (frame_at s f).components same.components in let n = shape.few in omega arith;
       fits = λ k d t. let c = at-alike k f.components (frame_at s f).components d same.components t in fits-alike f (frame_at s f) c.0 d same c.2 (shape.fits k c.0 c.1);
-      lossy = λ e. shape.lossy (sym same.process ∙ e) }
+      lossy = λ e. shape.lossy (sym same.process ∙ e);
+    }
 
 pick-some : (a b c : Bool) → 0 < cond a 1 (cond b 2 (cond c 4 8))
 pick-some true b c = omega arith
@@ -163,9 +168,9 @@ reads-header array tail w final last m bytes (suc turns) bf met all good n (earl
     let fills = length-append (replicate fill 0xFF) (code ∷ more) in
     let now = reading w false [] nothing_finished no_planes in
     header-by array tail final last _ _
-      (head-on turns bf now met all (marker fill code more) (onward (reading next false [] nothing_finished no_planes)) n
-        (at.turn bf now ∙ segment-read w next m payload (marker fill code more) bf false [] nothing_finished no_planes s) refl)
-      (reads-header array tail next final last behind more turns Elsewhere None (marker fill code more) (good-next w next m payload s good) (frame-kept w next m payload s ∙ n) r (stands-next fill code behind more i) (omega arith))
+    (head-on turns bf now met all (marker fill code more) (onward (reading next false [] nothing_finished no_planes)) n
+    (at.turn bf now ∙ segment-read w next m payload (marker fill code more) bf false [] nothing_finished no_planes s) refl)
+    (reads-header array tail next final last behind more turns Elsewhere None (marker fill code more) (good-next w next m payload s good) (frame-kept w next m payload s ∙ n) r (stands-next fill code behind more i) (omega arith))
 reads-header array tail w final last m bytes (suc turns) bf met all good n (framing w' final' last' behind number fill code payload more f small a ok i r) at room =
     let sizes = length-append payload (marker fill code more) in
     let fills = length-append (replicate fill 0xFF) (code ∷ more) in
@@ -173,12 +178,22 @@ reads-header array tail w final last m bytes (suc turns) bf met all good n (fram
     let next : Found = at_frame w f in
     let last_turn = ended turns (omega arith) next (marker fill code more) in
     record {
-      w = w; good = good; is_accepted = ok; frame = f; plain = sof-plain number (payload ++ []) (f, []) (a.accepted []); shape = all-shaped number payload f small a ok;
-      behind = behind; fill = fill; code = code; more = more; is_marker = i;
+      w = w;
+      good = good;
+      is_accepted = ok;
+      frame = f;
+      plain = sof-plain number (payload ++ []) (f, []) (a.accepted []);
+      shape = all-shaped number payload f small a ok;
+      behind = behind;
+      fill = fill;
+      code = code;
+      more = more;
+      is_marker = i;
       is = head-on turns bf now met all (marker fill code more) (onward (reading next false [] nothing_finished no_planes)) n
-            (at.turn bf now ∙ frame-turn number bf now (payload ++ marker fill code more) _ (frame-by number now f (payload ++ marker fill code more) (marker fill code more) n (a.accepted (marker fill code more)) ok)) refl
+          (at.turn bf now ∙ frame-turn number bf now (payload ++ marker fill code more) _ (frame-by number now f (payload ++ marker fill code more) (marker fill code more) n (a.accepted (marker fill code more)) ok)) refl
           ∙ last_turn refl;
-      written = r }
+      written = r;
+    }
   where
     ended : (turns : ℕ) → 0 < turns → (next : Found) (all : List ℕ) → is_some next.frame ≡ true
         → segments_within turns true Elsewhere (reading next false [] nothing_finished no_planes) None all ≡ Ok (reading next false [] nothing_finished no_planes, all)
@@ -207,8 +222,8 @@ stream-means_sized width height settings array tail bytes final last range (stre
     let all = marker fill code more in
     let fills = length-append (replicate fill 0xFF) (code ∷ more) in
     let head = header-by array tail final last _ _
-          (header-so bytes all (starts-so all) ∙ header-within nothing_found all ∙ ap (λ (x : Found). segments_within (suc (length all)) true Elsewhere x None all) nothing-is)
-          (reads-header array tail nothing_found final last behind more (suc (length all)) Elsewhere None all good-start no-frame r (stands-next fill code behind more i) (omega arith)) in
+    (header-so bytes all (starts-so all) ∙ header-within nothing_found all ∙ ap (λ (x : Found). segments_within (suc (length all)) true Elsewhere x None all) nothing-is)
+    (reads-header array tail nothing_found final last behind more (suc (length all)) Elsewhere None all good-start no-frame r (stands-next fill code behind more i) (omega arith)) in
     let f = head.frame in
     let g = sized width height f in
     let size = sized-is width height f head.shape.lossy in
@@ -218,16 +233,16 @@ stream-means_sized width height settings array tail bytes final last range (stre
     let left = marker head.fill head.code head.more in
     let lefts = length-append (replicate head.fill 0xFF) (head.code ∷ head.more) in
     let end = reads-scans array g tail (at_frame w g) (at_frame final g) (λ k. nothing_sent) last false head.behind head.more [] nothing_finished no_planes (suc (length left)) Elsewhere None left
-          range shape head.good refl (λ e k. refl) (framed-start (at_frame w g) g array [] nothing_finished no_planes range refl refl)
-          (scans-alike array f g tail w final (λ k. nothing_sent) last false head.behind head.more same refl head.written) (stands-next head.fill head.code head.behind head.more head.is_marker) (omega arith) in
+    range shape head.good refl (λ e k. refl) (framed-start (at_frame w g) g array [] nothing_finished no_planes range refl refl)
+    (scans-alike array f g tail w final (λ k. nothing_sent) last false head.behind head.more same refl head.written) (stands-next head.fill head.code head.behind head.more head.is_marker) (omega arith) in
     let found = reading (at_frame final g) true end.held end.finished end.planes in
     let frame : final.frame ≡ Some f = kept-in array f tail w final (λ k. nothing_sent) last false head.behind head.more head.written in
     let told : sized_to width height final ≡ at_frame final g = ap (λ (o : Option Frame). record final { frame = option_map (sized width height) o }) frame in
     sized-by width height settings bytes left (reading w false [] nothing_finished no_planes) head.is
     ∙ rest-by settings (reading (at_frame w g) false [] nothing_finished no_planes) found left tail
-        (within-so (reading (at_frame w g) false [] nothing_finished no_planes) left ∙ end.is)
+    (within-so (reading (at_frame w g) false [] nothing_finished no_planes) left ∙ end.is)
     ∙ ap (λ (o : Result (List ℕ) Fault). o >>= (λ (picture : List ℕ). Ok ((told_of (at_frame final g), picture), tail)))
-        (pictures-same settings g array (at_frame final g) last end.held end.finished end.planes shape refl end.framed end.tables end.complete)
+    (pictures-same settings g array (at_frame final g) last end.held end.finished end.planes shape refl end.framed end.tables end.complete)
     ∙ ap (λ (x : Found). meaning_of_array settings x array last tail) (sym told)
 
 -- ---- there is a picture
@@ -251,31 +266,32 @@ frame-sources f s sources o a b e =
     let z8 = is-sized (frame_at 8 f) m8 in
     let full = plain-size f o in
     let at8 : sources_of (map (scaled_component 8 o.width o.height (most_h o.factors) (most_v o.factors)) o.factors) (ceiling (o.width * 8) 8) (ceiling (o.height * 8) 8) ≡ Ok sources
-          = sym (ap₂ (λ (x y : ℕ). sources_of (map (scaled_component 8 o.width o.height (most_h o.factors) (most_v o.factors)) o.factors) x y) z8.width z8.height)
-            ∙ sym (ap (λ (l : List Component). sources_of l (frame_at 8 f).output_width (frame_at 8 f).output_height) z8.components)
-            ∙ ap (λ (g : Frame). sources_of g.components g.output_width g.output_height) full ∙ e in
+    = sym (ap₂ (λ (x y : ℕ). sources_of (map (scaled_component 8 o.width o.height (most_h o.factors) (most_v o.factors)) o.factors) x y) z8.width z8.height)
+    ∙ sym (ap (λ (l : List Component). sources_of l (frame_at 8 f).output_width (frame_at 8 f).output_height) z8.components)
+    ∙ ap (λ (g : Frame). sources_of g.components g.output_width g.output_height) full ∙ e in
     let by8 = subst (λ (l : List Factors). sources_by (most_h l) (most_v l) (ceiling (o.width * 8) 8) (ceiling (o.height * 8) 8) (map (scaled_component 8 o.width o.height (most_h o.factors) (most_v o.factors)) o.factors) ≡ Ok sources)
-          (factors-scaled 8 o.width o.height (most_h o.factors) (most_v o.factors) o.factors) at8 in
+    (factors-scaled 8 o.width o.height (most_h o.factors) (most_v o.factors) o.factors) at8 in
     let others = sources-there s o.width o.height (most_h o.factors) (most_v o.factors) (ceiling (o.width * 8) 8) (ceiling (o.height * 8) 8) (ceiling (o.width * s) 8) (ceiling (o.height * s) 8) o.factors sources
-          (λ k. one-wide o.width s a b k o.some_width) (λ k. one-wide o.height s a b k o.some_height) by8 in
+    (λ k. one-wide o.width s a b k o.some_width) (λ k. one-wide o.height s a b k o.some_height) by8 in
     let back = subst (λ (l : List Factors). sources_by (most_h l) (most_v l) (ceiling (o.width * s) 8) (ceiling (o.height * s) 8) (map (scaled_component s o.width o.height (most_h o.factors) (most_v o.factors)) o.factors) ≡ Ok others.0)
-          (sym (factors-scaled s o.width o.height (most_h o.factors) (most_v o.factors) o.factors)) others.1 in
-    (others.0,
-     ap (λ (l : List Component). sources_of l (frame_at s f).output_width (frame_at s f).output_height) z.components
-     ∙ ap₂ (λ (x y : ℕ). sources_of (map (scaled_component s o.width o.height (most_h o.factors) (most_v o.factors)) o.factors) x y) z.width z.height
-     ∙ back)
+    (sym (factors-scaled s o.width o.height (most_h o.factors) (most_v o.factors) o.factors)) others.1 in (
+      others.0,
+      ap (λ (l : List Component). sources_of l (frame_at s f).output_width (frame_at s f).output_height) z.components
+          ∙ ap₂ (λ (x y : ℕ). sources_of (map (scaled_component s o.width o.height (most_h o.factors) (most_v o.factors)) o.factors) x y) z.width z.height
+          ∙ back,
+    )
 
 -- A written stream whose picture is taken means one at each scale.
 pub sized-taken : (width height : ℕ) (settings : Settings) (array : Coefficients) (tail bytes : List ℕ) (final : Found) (last : ℕ → Levels)
     → ((place row column : ℕ) → Is8Bit (array place row column)) → WritesStream array tail bytes final last → Takes settings (sized_to width height final)
     → (picture : List ℕ) × (picture_of_array settings (sized_to width height final) array last ≡ Ok picture)
-        × (sized_meaning width height settings bytes ≡ Ok ((told_of (sized_to width height final), picture), tail))
+    × (sized_meaning width height settings bytes ≡ Ok ((told_of (sized_to width height final), picture), tail))
 sized-taken width height settings array tail bytes final last range (stream behind fill code more final' last' i r) takes =
     let all = marker fill code more in
     let fills = length-append (replicate fill 0xFF) (code ∷ more) in
     let head = header-by array tail final last _ _
-          (header-so bytes all (starts-so all) ∙ header-within nothing_found all ∙ ap (λ (x : Found). segments_within (suc (length all)) true Elsewhere x None all) nothing-is)
-          (reads-header array tail nothing_found final last behind more (suc (length all)) Elsewhere None all good-start no-frame r (stands-next fill code behind more i) (omega arith)) in
+    (header-so bytes all (starts-so all) ∙ header-within nothing_found all ∙ ap (λ (x : Found). segments_within (suc (length all)) true Elsewhere x None all) nothing-is)
+    (reads-header array tail nothing_found final last behind more (suc (length all)) Elsewhere None all good-start no-frame r (stands-next fill code behind more i) (omega arith)) in
     let f = head.frame in
     let g = sized width height f in
     let size = sized-is width height f head.shape.lossy in
@@ -285,8 +301,8 @@ sized-taken width height settings array tail bytes final last range (stream behi
     let left = marker head.fill head.code head.more in
     let lefts = length-append (replicate head.fill 0xFF) (head.code ∷ head.more) in
     let end = reads-scans array g tail (at_frame w g) (at_frame final g) (λ k. nothing_sent) last false head.behind head.more [] nothing_finished no_planes (suc (length left)) Elsewhere None left
-          range shape head.good refl (λ e k. refl) (framed-start (at_frame w g) g array [] nothing_finished no_planes range refl refl)
-          (scans-alike array f g tail w final (λ k. nothing_sent) last false head.behind head.more same refl head.written) (stands-next head.fill head.code head.behind head.more head.is_marker) (omega arith) in
+    range shape head.good refl (λ e k. refl) (framed-start (at_frame w g) g array [] nothing_finished no_planes range refl refl)
+    (scans-alike array f g tail w final (λ k. nothing_sent) last false head.behind head.more same refl head.written) (stands-next head.fill head.code head.behind head.more head.is_marker) (omega arith) in
     let frame : final.frame ≡ Some f = kept-in array f tail w final (λ k. nothing_sent) last false head.behind head.more head.written in
     let told : sized_to width height final ≡ at_frame final g = ap (λ (o : Option Frame). record final { frame = option_map (sized width height) o }) frame in
     let first = accepted-sources f f head.is_accepted in

@@ -84,8 +84,8 @@ unfolding tables_from
 tables-good zero greatest left tables bytes r good h = at-rest left tables bytes r good h
 tables-good (suc most) greatest left tables bytes r good h =
     go (nat_lt 17 left) h
-      (λ e. let one = bind-ok (placed_codes_at greatest left bytes) _ r e in
-        tables-good most greatest (left - size_of one.0.0) (with_table tables one.0.0) one.0.1 r (good-with tables one.0.0 good (placed-good greatest left bytes one.0 one.1)) one.2)
+    (λ e. let one = bind-ok (placed_codes_at greatest left bytes) _ r e in
+    tables-good most greatest (left - size_of one.0.0) (with_table tables one.0.0) one.0.1 r (good-with tables one.0.0 good (placed-good greatest left bytes one.0 one.1)) one.2)
   where
     go : (b : Bool) → cond b (placed_codes_at greatest left bytes >>= (λ t. tables_from most greatest (left - size_of t.0) (with_table tables t.0) t.1)) (cond (left == 0) (Ok (tables, bytes)) (Err Malformed)) ≡ Ok r
         → ((placed_codes_at greatest left bytes >>= (λ t. tables_from most greatest (left - size_of t.0) (with_table tables t.0) t.1)) ≡ Ok r → GoodTables r.0) → GoodTables r.0
@@ -140,7 +140,8 @@ in-force w s good = go w.metadata.avi1
     go : (b : Bool) → GoodTables (cond b (record { dc = with_defaults luminance_dc chrominance_dc s.dc_places w.huffman.dc; ac = with_defaults luminance_ac chrominance_ac s.ac_places w.huffman.ac }) w.huffman)
     go true = record {
       dc = good-defaults luminance_dc chrominance_dc s.dc_places w.huffman.dc (record { counted = refl; exists = luminance-dc-codes.exist }) (record { counted = refl; exists = chrominance-dc-codes.exist }) good.dc;
-      ac = good-defaults luminance_ac chrominance_ac s.ac_places w.huffman.ac (record { counted = refl; exists = luminance-ac-codes.exist }) (record { counted = refl; exists = chrominance-ac-codes.exist }) good.ac }
+      ac = good-defaults luminance_ac chrominance_ac s.ac_places w.huffman.ac (record { counted = refl; exists = luminance-ac-codes.exist }) (record { counted = refl; exists = chrominance-ac-codes.exist }) good.ac;
+    }
     go false = good
 
 good-at : (l : List (Option Table)) (i : ℕ) (t : Table) → AllByRecursion IsGoodOr l → slice_index_or l i None ≡ Some t → IsTable t
@@ -166,7 +167,7 @@ coding-good w f p tables place d a k good e =
     let dc = bind-ok (needed_if (p.ss == 0) classes.DC (slice_index_or tables.dc d None)) _ k table.2 in
     let ac = bind-ok (needed_if (nat_lt 0 p.se) classes.AC (slice_index_or tables.ac a None)) _ k dc.2 in
     subst (λ (x : Coding). IsTable x.dc × IsTable x.ac) (ok-same _ k ac.2)
-      (needed-good (p.ss == 0) classes.DC tables.dc d dc.0 good.dc dc.1, needed-good (nat_lt 0 p.se) classes.AC tables.ac a ac.0 good.ac ac.1)
+    (needed-good (p.ss == 0) classes.DC tables.dc d dc.0 good.dc dc.1, needed-good (nat_lt 0 p.se) classes.AC tables.ac a ac.0 good.ac ac.1)
 
 codings-good_from : (w : Found) (f : Frame) (p : Pass) (tables : Tables) (places ds ks : List ℕ) (codings : List Coding) → GoodTables tables → codings_from w f p tables places ds ks ≡ Ok codings
     → AllByRecursion (λ c. IsTable c.dc × IsTable c.ac) codings
@@ -178,7 +179,7 @@ codings-good_from w f p tables (x ∷ places) (d ∷ ds) (a ∷ ks) codings good
     let one = bind-ok (coding_of w f p tables x d a) _ codings e in
     let more = bind-ok (codings_from w f p tables places ds ks) _ codings one.2 in
     subst (AllByRecursion (λ c. IsTable c.dc × IsTable c.ac)) (ok-same (one.0 ∷ more.0) codings more.2)
-      (coding-good w f p tables x d a one.0 good one.1, codings-good_from w f p tables places ds ks more.0 good more.1)
+    (coding-good w f p tables x d a one.0 good one.1, codings-good_from w f p tables places ds ks more.0 good more.1)
 
 -- The tables of a scan exist.
 pub codings-good : (w : Found) (f : Frame) (s : Scan) (codings : List Coding) → GoodTables w.huffman → codings_of w f s ≡ Ok codings → AllByRecursion (λ c. IsTable c.dc × IsTable c.ac) codings

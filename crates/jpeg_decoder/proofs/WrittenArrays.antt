@@ -48,7 +48,7 @@ pub reads-arrays : (p : Pass) (n : ℕ) (vias : List Via) (spots : List Spot) (a
     → AllByRecursion (IsReadyAt p vias arrays u) spots → IsMarker code m
     → WritesIntervals p 0 (first_group n (written_turns vias spots u)) (other_groups n (written_turns vias spots u)) bytes
     → arrays_at p n vias spots arrays (bytes ++ marker fill code rest)
-      ≡ Ok ((put_blocks spots (map (λ s. behind_pass p (block_at arrays s) (u s)) spots) arrays, Some m), rest)
+    ≡ Ok ((put_blocks spots (map (λ s. behind_pass p (block_at arrays s) (u s)) spots) arrays, Some m), rest)
 reads-arrays p n vias spots arrays u bytes fill code m rest ready h w =
     let all = bytes ++ marker fill code rest in
     let turns = map (turn_with vias arrays u) spots in

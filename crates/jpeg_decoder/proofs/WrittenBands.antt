@@ -64,8 +64,10 @@ number_for-lt (negsuc n) s h = let top : suc n < 2 ^ s = h.holds in omega arith
 -- a value is read of the bits that stand for it
 pub takes-signed : (u : ℤ) (t : ℕ) → IsCategory u (suc t) → ReadsJust (signed_from (suc t)) (bits_for u (suc t)) u
 unfolding signed_from
-takes-signed u t cat = record { read = λ rest places e.
-    rw ((takes-number (suc t) (number_for u (suc t)) (number_for-lt u (suc t) cat)).read rest places e, extend-number_for u t cat) refl }
+takes-signed u t cat = record {
+  read = λ rest places e.
+      rw ((takes-number (suc t) (number_for u (suc t)) (number_for-lt u (suc t) cat)).read rest places e, extend-number_for u t cat) refl;
+}
 
 -- ---- tokens
 
@@ -81,7 +83,7 @@ token-read table room r s code bits x good coded small piece =
     let size = code_size table coded.place in
     let body : ReadsJust (token (size, symbol)) bits x = rw (high, low) (piece size) in
     takes-as _ (code_bits table coded.place ++ bits) (code ++ bits) x x (ap (λ (b : List Bool). b ++ bits) coded.has_bits) refl
-      (takes-bind (code_from table) token (code_bits table coded.place) bits (size, symbol) x (good.reads coded.place coded.listed) body)
+    (takes-bind (code_from table) token (code_bits table coded.place) bits (size, symbol) x (good.reads coded.place coded.listed) body)
 
 pub takes-token : (table : Table) (al m j r s : ℕ) (code own bits : List Bool) (x : Token) (y : Band) → IsGood table → IsCoded table (16 * r + s) code → s ≤ 15
     → ((room size : ℕ) → room ≡ suc j → ReadsJust (token_at room size r s) own x)
@@ -90,14 +92,14 @@ pub takes-token : (table : Table) (al m j r s : ℕ) (code own bits : List Bool)
 unfolding first_ac
 takes-token table al m j r s code own bits x y good coded small token behind =
     takes-bind (token_from table (length (no_numbers (suc j)))) (behind_token al (first_ac table al m) (no_numbers (suc j))) (code ++ own) bits x y
-      (token-read table (length (no_numbers (suc j))) r s code own x good coded small (λ size. token (length (no_numbers (suc j))) size (length-replicate (suc j) (pos 0))))
-      behind
+    (token-read table (length (no_numbers (suc j))) r s code own x good coded small (λ size. token (length (no_numbers (suc j))) size (length-replicate (suc j) (pos 0))))
+    behind
 
 pub token-value : (room size r t : ℕ) (u : ℤ) → r < room → IsCategory u (suc t) → ReadsJust (token_at room size r (suc t)) (bits_for u (suc t)) (Value r u)
 unfolding token_at
 token-value room size r t u h cat =
     rw (lt-ltb 0 (suc t) (omega arith), lt-ltb r room h, token_at)
-      (takes-map (signed_from (suc t)) (λ (v : ℤ). Value r v) (bits_for u (suc t)) u (takes-signed u t cat))
+    (takes-map (signed_from (suc t)) (λ (v : ℤ). Value r v) (bits_for u (suc t)) u (takes-signed u t cat))
 
 pub token-sixteen : (room size : ℕ) → ReadsJust (token_at room size 15 0) [] Sixteen
 unfolding token_at
@@ -161,7 +163,7 @@ pub band-value : (table : Table) (al r s n : ℕ) (u : ℤ) (code : List Bool) (
     → IsGood table → InRange al u → u ≢ pos 0 → IsCategory u s → IsCoded table (16 * r + s) code → suc (r + length more) ≤ n
     → ((m : ℕ) → length more ≤ m → ReadsJust (first_ac table al m (no_numbers (length more))) bits (map (scaled al) more, run))
     → ReadsJust (first_ac table al n (no_numbers (length (no_numbers r ++ u ∷ more)))) (code ++ bits_for u s ++ bits)
-        (map (scaled al) (no_numbers r ++ u ∷ more), run)
+    (map (scaled al) (no_numbers r ++ u ∷ more), run)
 band-value table al r s zero u code more bits run good range nz cat coded room others = absurd (omega arith)
 band-value table al r zero (suc m) u code more bits run good range nz cat coded room others = absurd (nz (abs-zero u cat.holds))
 band-value table al r (suc t) (suc m) u code more bits run good range nz cat coded room others =
@@ -173,13 +175,13 @@ band-value table al r (suc t) (suc m) u code more bits run good range nz cat cod
     let w = subst (λ (l : List ℤ). ReadsJust (first_ac table al m l) bits (map (scaled al) more, run)) (sym back) (others m (omega arith)) in
     let given : length (no_numbers r ++ u ∷ more) ≡ suc (r + k) = length-no_numbers r (u ∷ more) ∙ omega arith in
     let numbers : (take r places ++ scaled al u ∷ []) ++ map (scaled al) more ≡ map (scaled al) (no_numbers r ++ u ∷ more)
-          = ap (λ (l : List ℤ). (l ++ scaled al u ∷ []) ++ map (scaled al) more) front
-            ∙ append_assoc (no_numbers r) (scaled al u ∷ []) (map (scaled al) more) ∙ sym (map-no_numbers al r (u ∷ more)) in
+    = ap (λ (l : List ℤ). (l ++ scaled al u ∷ []) ++ map (scaled al) more) front
+    ∙ append_assoc (no_numbers r) (scaled al u ∷ []) (map (scaled al) more) ∙ sym (map-no_numbers al r (u ∷ more)) in
     let token = takes-token table al m (r + k) r (suc t) code (bits_for u (suc t)) bits (Value r u) _ good coded (category-small al u (suc t) range cat)
-          (λ room size e. token-value room size r t u (omega arith) cat)
-          (behind-value al (first_ac table al m) places r u bits (map (scaled al) more, run) (scaled-fits al u range) w) in
+    (λ room size e. token-value room size r t u (omega arith) cat)
+    (behind-value al (first_ac table al m) places r u bits (map (scaled al) more, run) (scaled-fits al u range) w) in
     subst (λ (l : ℕ). ReadsJust (first_ac table al (suc m) (no_numbers l)) (code ++ bits_for u (suc t) ++ bits) (map (scaled al) (no_numbers r ++ u ∷ more), run))
-      (sym given) (takes-as _ _ _ _ _ refl (ap (λ (l : List ℤ). (l, run)) numbers) token)
+    (sym given) (takes-as _ _ _ _ _ refl (ap (λ (l : List ℤ). (l, run)) numbers) token)
 
 pub band-sixteen : (table : Table) (al n : ℕ) (code : List Bool) (more : List ℤ) (bits : List Bool) (run : ℕ)
     → IsGood table → IsCoded table (16 * 15 + 0) code → 16 + length more ≤ n
@@ -194,24 +196,24 @@ band-sixteen table al (suc m) code more bits run good coded room others =
     let w = subst (λ (l : List ℤ). ReadsJust (first_ac table al m l) bits (map (scaled al) more, run)) (sym back) (others m (omega arith)) in
     let given : length (no_numbers 16 ++ more) ≡ suc (15 + k) = length-no_numbers 16 more ∙ omega arith in
     let numbers : take 16 places ++ map (scaled al) more ≡ map (scaled al) (no_numbers 16 ++ more)
-          = ap (λ (l : List ℤ). l ++ map (scaled al) more) front ∙ sym (map-no_numbers al 16 more) in
+    = ap (λ (l : List ℤ). l ++ map (scaled al) more) front ∙ sym (map-no_numbers al 16 more) in
     let token = takes-token table al m (15 + k) 15 0 code [] bits Sixteen _ good coded (omega arith)
-          (λ room size e. token-sixteen room size)
-          (behind-sixteen al (first_ac table al m) places bits (map (scaled al) more, run) w) in
+    (λ room size e. token-sixteen room size)
+    (behind-sixteen al (first_ac table al m) places bits (map (scaled al) more, run) w) in
     subst (λ (l : ℕ). ReadsJust (first_ac table al (suc m) (no_numbers l)) (code ++ bits) (map (scaled al) (no_numbers 16 ++ more), run))
-      (sym given) (takes-as _ _ _ _ _ (ap (λ (b : List Bool). b ++ bits) (append-nil code)) (ap (λ (l : List ℤ). (l, run)) numbers) token)
+    (sym given) (takes-as _ _ _ _ _ (ap (λ (b : List Bool). b ++ bits) (append-nil code)) (ap (λ (l : List ℤ). (l, run)) numbers) token)
 
 pub band-rest : (table : Table) (al k n r e : ℕ) (code : List Bool) → IsGood table → r ≤ 14 → e < 2 ^ r → IsCoded table (16 * r + 0) code → suc k ≤ n
     → ReadsJust (first_ac table al n (no_numbers (length (no_numbers (suc k))))) (code ++ low_bits r e) (map (scaled al) (no_numbers (suc k)), 2 ^ r - 1 + e)
 band-rest table al k zero r e code good h f coded room = absurd (omega arith)
 band-rest table al k (suc m) r e code good h f coded room =
     let numbers : no_numbers (suc k) ≡ map (scaled al) (no_numbers (suc k))
-          = sym (append-nil (no_numbers (suc k))) ∙ sym (map-no_numbers al (suc k) []) ∙ ap (map (scaled al)) (append-nil (no_numbers (suc k))) in
+    = sym (append-nil (no_numbers (suc k))) ∙ sym (map-no_numbers al (suc k) []) ∙ ap (map (scaled al)) (append-nil (no_numbers (suc k))) in
     let token = takes-token table al m k r 0 code (low_bits r e) [] (Rest (2 ^ r - 1 + e)) _ good coded (omega arith)
-          (λ room size q. token-rest room size r e h f)
-          (takes-gives (no_numbers (suc k), 2 ^ r - 1 + e)) in
+    (λ room size q. token-rest room size r e h f)
+    (takes-gives (no_numbers (suc k), 2 ^ r - 1 + e)) in
     subst (λ (l : ℕ). ReadsJust (first_ac table al (suc m) (no_numbers l)) (code ++ low_bits r e) (map (scaled al) (no_numbers (suc k)), 2 ^ r - 1 + e))
-      (sym (length-replicate (suc k) (pos 0))) (takes-as _ _ _ _ _ (append-nil (code ++ low_bits r e)) (ap (λ (l : List ℤ). (l, 2 ^ r - 1 + e)) numbers) token)
+    (sym (length-replicate (suc k) (pos 0))) (takes-as _ _ _ _ _ (append-nil (code ++ low_bits r e)) (ap (λ (l : List ℤ). (l, 2 ^ r - 1 + e)) numbers) token)
 
 pub all-behind : (P : ℤ → Type 0) (r : ℕ) (more : List ℤ) → AllByRecursion P (no_numbers r ++ more) → AllByRecursion P more
 all-behind P zero more h = h
@@ -227,11 +229,11 @@ takes-band table al band bits run good range (value r s u code more bits' run' h
     let rest = all-behind (InRange al) r (u ∷ more) range in
     let size = length-no_numbers r (u ∷ more) in
     band-value table al r s n u code more bits' run' good rest.0 nz cat coded (omega arith)
-      (takes-band table al more bits' run' good rest.1 w)
+    (takes-band table al more bits' run' good rest.1 w)
 takes-band table al band bits run good range (sixteen code more bits' run' coded w) n room =
     let size = length-no_numbers 16 more in
     band-sixteen table al n code more bits' run' good coded (omega arith)
-      (takes-band table al more bits' run' good (all-behind (InRange al) 16 more range) w)
+    (takes-band table al more bits' run' good (all-behind (InRange al) 16 more range) w)
 takes-band table al band bits run good range (ended k r e code h f coded) n room =
     let size = length-replicate (suc k) (pos 0) in
     band-rest table al k n r e code good h f coded (omega arith)

@@ -50,7 +50,7 @@ takes-difference table d bits good small w =
     let symbol = slice_index table.symbols i in
     let body = takes-listed symbol w.s (bits_for d w.s) d w.coded.is_for (difference-small d w.s w.category small) (takes-category d w.s w.category) in
     takes-as _ (code_bits table i ++ bits_for d w.s) bits d d (ap (λ (b : List Bool). b ++ bits_for d w.s) w.coded.has_bits ∙ w.has_bits) refl
-      (takes-bind (symbol_from table) (λ x. elim (nat_le x 11) as (λ _. Reads ℤ) [ true ↦ category_number x | false ↦ refused ]) (code_bits table i) (bits_for d w.s) symbol d (takes-symbol table i good w.coded.listed) body)
+    (takes-bind (symbol_from table) (λ x. elim (nat_le x 11) as (λ _. Reads ℤ) [ true ↦ category_number x | false ↦ refused ]) (code_bits table i) (bits_for d w.s) symbol d (takes-symbol table i good w.coded.listed) body)
 
 dc-wrapped : (u : ℤ) → InDcRange u → wrapped u ≡ u
 dc-wrapped u h = int_wrap_fits w16 u (record { sfits = small u h })
@@ -69,8 +69,8 @@ takes-first_dc table al u predictor bits good range before fits w =
     let sum : predictor +ℤ (u -ℤ predictor) ≡ u = omega (arith, ints) in
     let dc : wrapped (predictor +ℤ (u -ℤ predictor)) ≡ u = ap wrapped sum ∙ dc-wrapped u range in
     takes-as _ bits bits _ _ refl (ap (λ (x : ℤ). (wrapped (x *ℤ pos (2 ^ al)), x)) dc ∙ ap (λ (x : ℤ). (x, u)) fits)
-      (takes-map (difference table) (λ (d : ℤ). (wrapped (wrapped (predictor +ℤ d) *ℤ pos (2 ^ al)), wrapped (predictor +ℤ d))) bits (u -ℤ predictor)
-        (takes-difference table (u -ℤ predictor) bits good (difference-range u predictor range before) w))
+    (takes-map (difference table) (λ (d : ℤ). (wrapped (wrapped (predictor +ℤ d) *ℤ pos (2 ^ al)), wrapped (predictor +ℤ d))) bits (u -ℤ predictor)
+    (takes-difference table (u -ℤ predictor) bits good (difference-range u predictor range before) w))
 
 neg-sum : (x y z : ℕ) → x ≡ y + z → neg_ℤ (pos x) +ℤ pos y ≡ neg_ℤ (pos z)
 neg-sum x y z e = omega (arith, ints)
@@ -86,7 +86,7 @@ pub dc-refined : (al : ℕ) (u : ℤ) → or_bit al (dc_held al u) (low_bit u) �
 dc-refined al (pos n) =
     let whole : 2 * (n / 2) + n % 2 ≡ n = omega arith in
     or-even al (n % 2) (pos (n / 2 * 2 ^ suc al)) _ (even-bit al (n / 2))
-      (ap pos (omega (arith, times-two_power (n / 2) al, spread (n / 2) (n % 2) (2 ^ al), ap (λ (x : ℕ). x * 2 ^ al) whole)))
+    (ap pos (omega (arith, times-two_power (n / 2) al, spread (n / 2) (n % 2) (2 ^ al), ap (λ (x : ℕ). x * 2 ^ al) whole)))
 dc-refined al (negsuc n) =
     let m = suc (n / 2) in
     let b = 1 - n % 2 in
@@ -118,7 +118,7 @@ takes-dc_part p table old u predictor next bits good suits before (whole v predi
     rw (eq-eqb p.ss 0 e, f, dc_part, behind_pass) (takes-first_dc table p.al u.dc predictor bits good suits.dc_range before suits.dc_fits w)
 takes-dc_part p table old u predictor next bits good suits before (one_bit v predictor' e f) =
     rw (eq-eqb p.ss 0 e, f, dc_part, behind_pass)
-      (takes-map (bits_from 1) (λ (b : ℕ). (or_bit p.al old.dc b, predictor)) (bit (low_bit u.dc) ∷ []) (low_bit u.dc) (takes-bit (low_bit u.dc) (low-small u.dc)))
+    (takes-map (bits_from 1) (λ (b : ℕ). (or_bit p.al old.dc b, predictor)) (bit (low_bit u.dc) ∷ []) (low_bit u.dc) (takes-bit (low_bit u.dc) (low-small u.dc)))
 
 pub next-range : (p : Pass) (table : Table) (u predictor next : ℤ) (bits : List Bool) → InDcRange u → InDcRange predictor → WritesDc p table u predictor bits next → InDcRange next
 next-range p table u predictor next bits h k (other_band v w n) = k
@@ -137,19 +137,19 @@ takes-band_part p table band us run behind bits good unsent sent range (no_band 
     none false e = sent e
 takes-band_part p table band us run behind bits good unsent sent range (first u more bits' run' f w) =
     subst (λ (l : List ℤ). ReadsJust (band_part p table l 0) bits' (map (scaled p.al) (u ∷ more), run')) (sym (unsent f))
-      (rw (f, band_part) (takes-band table p.al (u ∷ more) bits' run' good range w (length (no_numbers (suc (length more)))) (let size = length-replicate (suc (length more)) (pos 0) in omega arith)))
+    (rw (f, band_part) (takes-band table p.al (u ∷ more) bits' run' good range w (length (no_numbers (suc (length more)))) (let size = length-replicate (suc (length more)) (pos 0) in omega arith)))
 takes-band_part p table band us run behind bits good unsent sent range (first_run n run' f) =
     let same : band ≡ no_numbers (suc n) = unsent f ∙ ap no_numbers (length-replicate (suc n) (pos 0)) in
     let numbers : no_numbers (suc n) ≡ map (scaled p.al) (no_numbers (suc n))
-          = sym (append-nil (no_numbers (suc n))) ∙ sym (map-no_numbers p.al (suc n) []) ∙ ap (map (scaled p.al)) (append-nil (no_numbers (suc n))) in
+    = sym (append-nil (no_numbers (suc n))) ∙ sym (map-no_numbers p.al (suc n) []) ∙ ap (map (scaled p.al)) (append-nil (no_numbers (suc n))) in
     subst (λ (l : List ℤ). ReadsJust (band_part p table l (suc run')) [] (map (scaled p.al) (no_numbers (suc n)), run')) (sym same)
-      (rw (f, band_part) (takes-as _ _ _ _ _ refl (ap (λ (l : List ℤ). (l, run')) numbers) (takes-gives (no_numbers (suc n), run'))))
+    (rw (f, band_part) (takes-as _ _ _ _ _ refl (ap (λ (l : List ℤ). (l, run')) numbers) (takes-gives (no_numbers (suc n), run'))))
 takes-band_part p table band us run behind bits good unsent sent range (again u more bits' run' f w) =
     subst (λ (l : List ℤ). ReadsJust (band_part p table l 0) bits' (map (scaled p.al) (u ∷ more), run')) (sym (sent f))
-      (rw (f, band_part) (takes-refinement table p.al (u ∷ more) bits' run' good range w (length (map (held p.al) (u ∷ more))) (le_refl _)))
+    (rw (f, band_part) (takes-refinement table p.al (u ∷ more) bits' run' good range w (length (map (held p.al) (u ∷ more))) (le_refl _)))
 takes-band_part p table band us run behind bits good unsent sent range (again_run u more run' f none) =
     subst (λ (l : List ℤ). ReadsJust (band_part p table l (suc run')) (corrections (u ∷ more)) (map (scaled p.al) (u ∷ more), run')) (sym (sent f))
-      (rw (f, band_part) (takes-map (corrected p.al (map (held p.al) (u ∷ more))) (λ (l : List ℤ). (l, run')) (corrections (u ∷ more)) _ (takes-corrected p.al (u ∷ more) none range)))
+    (rw (f, band_part) (takes-map (corrected p.al (map (held p.al) (u ∷ more))) (λ (l : List ℤ). (l, run')) (corrections (u ∷ more)) _ (takes-corrected p.al (u ∷ more) none range)))
 
 pub record Predicts (predictors : List ℤ) : Type 0 where
   pub each : (k : ℕ) → InDcRange (get_or predictors k (pos 0))
@@ -177,10 +177,10 @@ pub takes-block : (p : Pass) (via : Via) (old u : Block) (predictor next : ℤ) 
 unfolding block_from
 takes-block p via old u predictor next run behind dc ac good before wd wa =
     takes-bind (dc_part p via.dc old.dc predictor) _ dc ac ((behind_pass p old u).dc, next) _
-      (takes-dc_part p via.dc old u predictor next dc good.dc_good good.suits before wd)
-      (takes-map (band_part p via.ac (band_of p old.acs) run)
-        (λ (b : List ℤ × ℕ). (record { dc = (behind_pass p old u).dc; acs = with_band p old.acs b.0 }, next, b.1)) ac (map (scaled p.al) (band_of p u.acs), behind)
-        (takes-band_part p via.ac (band_of p old.acs) (band_of p u.acs) run behind ac good.ac_good good.suits.unsent good.suits.sent good.suits.range wa))
+    (takes-dc_part p via.dc old u predictor next dc good.dc_good good.suits before wd)
+    (takes-map (band_part p via.ac (band_of p old.acs) run)
+    (λ (b : List ℤ × ℕ). (record { dc = (behind_pass p old u).dc; acs = with_band p old.acs b.0 }, next, b.1)) ac (map (scaled p.al) (band_of p u.acs), behind)
+    (takes-band_part p via.ac (band_of p old.acs) (band_of p u.acs) run behind ac good.ac_good good.suits.unsent good.suits.sent good.suits.range wa))
 
 -- The blocks of an interval that were written are read as the blocks behind the pass.
 pub takes-blocks : (p : Pass) (turns : List (Via × Block × Block)) (predictors : List ℤ) (run : ℕ) (bits : List Bool) → Predicts predictors
@@ -193,7 +193,7 @@ takes-blocks p (t ∷ turns) predictors run bits predict ready (block preds run'
     let before = predict.each t.0.component in
     let after = next-range p t.0.dc t.2.dc (get_or predictors t.0.component (pos 0)) next dc good.suits.dc_range before wd in
     takes-as _ ((dc ++ ac) ++ more) (dc ++ (ac ++ more)) _ _ (append_assoc dc ac more) refl
-      (takes-bind (block_from p t.0.dc t.0.ac (get_or predictors t.0.component (pos 0)) run t.1) _ (dc ++ ac) more (behind_pass p t.1 t.2, next, behind) _
-        (takes-block p t.0 t.1 t.2 (get_or predictors t.0.component (pos 0)) next run behind dc ac good before wd wa)
-        (takes-map (blocks_of p (set predictors t.0.component next) behind (reads_of turns)) (λ (l : List Block). behind_pass p t.1 t.2 ∷ l) more _
-          (takes-blocks p turns (set predictors t.0.component next) behind more (predicts-set predictors t.0.component next predict after) ready.1 w)))
+    (takes-bind (block_from p t.0.dc t.0.ac (get_or predictors t.0.component (pos 0)) run t.1) _ (dc ++ ac) more (behind_pass p t.1 t.2, next, behind) _
+    (takes-block p t.0 t.1 t.2 (get_or predictors t.0.component (pos 0)) next run behind dc ac good before wd wa)
+    (takes-map (blocks_of p (set predictors t.0.component next) behind (reads_of turns)) (λ (l : List Block). behind_pass p t.1 t.2 ∷ l) more _
+    (takes-blocks p turns (set predictors t.0.component next) behind more (predicts-set predictors t.0.component next predict after) ready.1 w)))

@@ -44,16 +44,17 @@ pub cut-nothing : (c : Block) → length c.acs ≡ 63 → cut nothing_sent c ≡
 unfolding zero_block
 cut-nothing c h =
     ap (λ (l : List ℤ). record { dc = pos 0; acs = l })
-      (cut-unsent c.acs (replicate 63 None) h (all-same None 63) ∙ ap no_numbers h)
+    (cut-unsent c.acs (replicate 63 None) h (all-same None 63) ∙ ap no_numbers h)
 
 pub whole-legal : IsLegal whole_pass nothing_sent
 whole-legal = record {
-    low = omega arith;
-    dc_unsent = λ e f. refl;
-    dc_sent = λ e f. absurd (true≢false f);
-    dc_before = λ n. absurd (n refl);
-    acs_unsent = λ f. all-same None 63;
-    acs_sent = λ f. absurd (true≢false f) }
+  low = omega arith;
+  dc_unsent = λ e f. refl;
+  dc_sent = λ e f. absurd (true≢false f);
+  dc_before = λ n. absurd (n refl);
+  acs_unsent = λ f. all-same None 63;
+  acs_sent = λ f. absurd (true≢false f);
+}
 
 pub suits-zero : (c : Block) → Is8Bit c → Suits whole_pass zero_block (numbers_at 0 c)
 suits-zero c range =
@@ -73,7 +74,8 @@ suits-dc p old c e f low range =
       sent = λ g. no-band p old.acs e f ∙ ap (map (held p.al)) (sym none);
       range = subst (AllByRecursion (InRange p.al)) (sym none) tt;
       dc_range = floor-range p.al c.dc range.dc_low range.dc_high;
-      dc_fits = floor-fits p.al c.dc low range.dc_low range.dc_high }
+      dc_fits = floor-fits p.al c.dc low range.dc_low range.dc_high;
+    }
 
 -- ---- tables
 
@@ -203,8 +205,8 @@ module _ (frame : Frame) (restart : ℕ) (p : Pass) (codings : List Coding) (arr
       let c = array k.place (s.index / k.component.blocks_wide) (s.index % k.component.blocks_wide) in
       let here : Is8Bit c = range k.place (s.index / k.component.blocks_wide) (s.index % k.component.blocks_wide) in
       subst (λ (b : Block). Suits p b (u s)) (sym (held-own k s h own))
-        (subst (λ (b : Block). Suits p (cut (levels k.place) c) (numbers_at p.al b)) (sym (sent-own k s h own))
-          (suits-cut p (levels k.place) c here (here.count ∙ sym r.sized) r.legal))
+      (subst (λ (b : Block). Suits p (cut (levels k.place) c) (numbers_at p.al b)) (sym (sent-own k s h own))
+      (suits-cut p (levels k.place) c here (here.count ∙ sym r.sized) r.legal))
 
   zeros-at : (l : List Coding) (slot index : ℕ) → ((place i : ℕ) → get_or (get_or before place []) i zero_block ≡ zero_block)
       → get_or (get_or (arrays_of before l) slot []) index zero_block ≡ zero_block
@@ -215,13 +217,13 @@ module _ (frame : Frame) (restart : ℕ) (p : Pass) (codings : List Coding) (arr
   suits-at : SpotsSuit p before codings → (s : Spot) → IsIn s spots → Suits p (block_at scanned s) (u s)
   suits-at (none_read e z) s t =
       subst (λ (q : Pass). Suits q (block_at scanned s) (numbers_at q.al (w.sent s))) (sym e)
-        (subst (λ (b : Block). Suits whole_pass b (numbers_at 0 (w.sent s))) (sym (zeros-at codings s.slot s.index z)) (suits-zero (w.sent s) (w.in_range s)))
+      (subst (λ (b : Block). Suits whole_pass b (numbers_at 0 (w.sent s))) (sym (zeros-at codings s.slot s.index z)) (suits-zero (w.sent s) (w.in_range s)))
   suits-at (dc_alone e f low) s t = suits-dc p (block_at scanned s) (w.sent s) e f low (w.in_range s)
   suits-at (one_component k e) s t =
       let first : At 0 codings k = subst (λ (l : List Coding). At 0 l k) (sym e) refl in
       let fits = (at-all (SlotReady frame p array levels before) 0 codings k ready first).fits in
       let own : IsOwnSpot (grid_of k.component) s = in-all (IsOwnSpot (grid_of k.component)) (own_spots (grid_of k.component)) s (own-only (grid_of k.component) fits.own_wide)
-            (subst (IsIn s) (one-order frame k.component) (subst (λ (l : List Coding). IsIn s (spots_of frame (components_of l))) e t)) in
+      (subst (IsIn s) (one-order frame k.component) (subst (λ (l : List Coding). IsIn s (spots_of frame (components_of l))) e t)) in
       suits-own k s (subst (λ (n : ℕ). At n codings k) (sym own.slot) first) own.own
 
   abbrev f : Spot → Block
@@ -254,16 +256,17 @@ module _ (frame : Frame) (restart : ℕ) (p : Pass) (codings : List Coding) (arr
       let r = at-all (SlotReady frame p array levels before) j codings k ready h in
       record {
         sized = put-size f j spots scanned ∙ ap (λ (l : List Block). length l) (array-at before codings k j h) ∙ r.holds.sized;
-        each = λ i own. behind-own k (record { slot = j; index = i }) h own }
+        each = λ i own. behind-own k (record { slot = j; index = i }) h own;
+      }
 
   -- The scan is read as the blocks behind it.
   pub reads-scan : (fill code : ℕ) (m : Marker) (rest : List ℕ) → SpotsSuit p before codings → AllByRecursion HasGood codings → IsMarker code m
       → arrays_at p (restart * mcu_size (components_of codings)) (vias_from 0 codings) spots scanned (bytes ++ marker fill code rest) ≡ Ok ((behind, Some m), rest)
   reads-scan fill code m rest suit good h =
       reads-arrays p (restart * mcu_size (components_of codings)) (vias_from 0 codings) spots scanned u bytes fill code m rest
-        (all-in (IsReadyAt p (vias_from 0 codings) scanned u) spots (λ s t.
-          let v = via-good codings s.slot good in record { at = record { dc_good = v.dc; ac_good = v.ac; suits = suits-at suit s t } }))
-        h w.coded
+      (all-in (IsReadyAt p (vias_from 0 codings) scanned u) spots (λ s t.
+      let v = via-good codings s.slot good in record { at = record { dc_good = v.dc; ac_good = v.ac; suits = suits-at suit s t } }))
+      h w.coded
 
 -- What a written scan is read as.
 pub record ReadsScan (frame : Frame) (restart : ℕ) (p : Pass) (codings : List Coding) (array : Coefficients) (levels : ℕ → Levels) (before : Arrays) (bytes : List ℕ) : Type 0 where
@@ -272,7 +275,7 @@ pub record ReadsScan (frame : Frame) (restart : ℕ) (p : Pass) (codings : List 
   pub holds : (k : Coding) (j : ℕ) → At j codings k → HoldsOwn (grid_of k.component) (array k.place) (levels_behind p (levels k.place)) (get_or arrays j [])
   pub read : (fill code : ℕ) (m : Marker) (rest : List ℕ) → IsMarker code m
       → arrays_at p (restart * mcu_size (components_of codings)) (vias_from 0 codings) (spots_of frame (components_of codings)) (arrays_of before codings) (bytes ++ marker fill code rest)
-        ≡ Ok ((arrays, Some m), rest)
+      ≡ Ok ((arrays, Some m), rest)
 
 -- A written scan of a frame takes the blocks of its components to the levels behind it.
 pub scan-is_read : (frame : Frame) (restart : ℕ) (p : Pass) (codings : List Coding) (array : Coefficients) (levels : ℕ → Levels) (before : Arrays) (bytes : List ℕ)
@@ -284,4 +287,5 @@ scan-is_read frame restart p codings array levels before bytes range ready suit 
       count = put-count (f frame restart p codings array levels before bytes range ready w) (spots_of frame (components_of codings)) (arrays_of before codings)
           ∙ length-map codings (λ (c : Coding). get_or before c.place []);
       holds = λ k j h. behind-held frame restart p codings array levels before bytes range ready w k j h;
-      read = λ fill code m rest h. reads-scan frame restart p codings array levels before bytes range ready w fill code m rest suit good h }
+      read = λ fill code m rest h. reads-scan frame restart p codings array levels before bytes range ready w fill code m rest suit good h;
+    }

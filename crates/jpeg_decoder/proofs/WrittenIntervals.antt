@@ -54,9 +54,10 @@ pub record IsText (t : Text) (bits : List Bool) (e : Ending) : Type 0 where
 
 text-byte : (b : ℕ) (rest : List ℕ) (t : Text) (bits : List Bool) (e : Ending) → IsText t bits e → IsText (add_byte b rest t) (bits_of b ++ bits) e
 text-byte b rest t bits e h = record {
-    bits_are = ap (λ (l : List Bool). bits_of b ++ l) h.bits_are;
-    ends_so = h.ends_so;
-    places_are = omega (arith, length-append (replicate 8 rest) t.places, length-replicate 8 rest, h.places_are, length-append (bits_of b) bits) }
+  bits_are = ap (λ (l : List Bool). bits_of b ++ l) h.bits_are;
+  ends_so = h.ends_so;
+  places_are = omega (arith, length-append (replicate 8 rest) t.places, length-replicate 8 rest, h.places_are, length-append (bits_of b) bits);
+}
 
 -- a byte other than FF in front
 plain-text : (b : ℕ) (rest : List ℕ) → eqb b 255 ≡ false → 0 < length rest → text_at (b ∷ rest) ≡ add_byte b rest (text_at rest)
@@ -78,7 +79,7 @@ stuffed-text (b ∷ bytes) fill code m rest h = go (eqb b 0xFF) refl (stuffed-te
     go true e ih =
         let more = stuffed bytes ++ marker fill code rest in
         rw (e, stuffed) (rw (stuffed-byte more) (subst (λ (x : ℕ). IsText (add_byte 255 more (text_at more)) (bits_of x ++ bits_of_bytes bytes) (Found m rest)) (sym (eqb-true b 0xFF e))
-          (text-byte 255 more (text_at more) (bits_of_bytes bytes) (Found m rest) ih)))
+        (text-byte 255 more (text_at more) (bits_of_bytes bytes) (Found m rest) ih)))
     go false e ih =
         let more = stuffed bytes ++ marker fill code rest in
         let some : 0 < length more = omega (arith, length-append (stuffed bytes) (marker fill code rest)) in
@@ -91,13 +92,13 @@ start-predicts = record { each = each }
   where
     zero_range : InDcRange (pos 0)
     zero_range = record { low = record { le = tt }; high = record { le = tt } }
+
     each : (k : ℕ) → InDcRange (get_or predictors_at_start k (pos 0))
     each zero = zero_range
     each (suc zero) = zero_range
     each (suc (suc zero)) = zero_range
     each (suc (suc (suc zero))) = zero_range
     each (suc (suc (suc (suc k)))) = zero_range
-
 
 -- the text of an interval's bytes, where nothing is held
 abbrev pub whole_text : List ℕ → Text
@@ -126,7 +127,7 @@ in-text p turns bytes rest m bits filling blocks read is h =
     let places = drop 56 (text_at bytes).places in
     let read_all = read.read filling places (Found m rest) in
     let left : length (drop (length bits) places) ≡ 0
-          = omega (arith, length-drop (length bits) places, length-drop 56 (text_at bytes).places, is.places_are, length-append bits filling, ap length is.bits_are) in
+    = omega (arith, length-drop (length bits) places, length-drop 56 (text_at bytes).places, is.places_are, length-append bits filling, ap length is.bits_are) in
     interval-text p turns bytes
     ∙ ap (λ (b : List Bool). and_marker (blocks_of p predictors_at_start 0 turns (text b places (text_at bytes).ending))) is.bits_are
     ∙ ap (λ (e : Ending). and_marker (blocks_of p predictors_at_start 0 turns (text (bits ++ filling) places e))) is.ends_so
@@ -140,8 +141,8 @@ pub reads-interval : (p : Pass) (turns : List (Via × Block × Block)) (bytes : 
 reads-interval p turns bytes fill code m rest ready h w =
     let all = bytes ++ marker fill code rest in
     let is : IsText (text_at all) (w.bits ++ w.filling) (Found m rest)
-          = subst (λ (b : List ℕ). IsText (text_at (b ++ marker fill code rest)) (w.bits ++ w.filling) (Found m rest)) w.has_bytes
-              (subst (λ (b : List Bool). IsText (text_at (stuffed w.data_bytes ++ marker fill code rest)) b (Found m rest)) w.whole (stuffed-text w.data_bytes fill code m rest h)) in
+    = subst (λ (b : List ℕ). IsText (text_at (b ++ marker fill code rest)) (w.bits ++ w.filling) (Found m rest)) w.has_bytes
+    (subst (λ (b : List Bool). IsText (text_at (stuffed w.data_bytes ++ marker fill code rest)) b (Found m rest)) w.whole (stuffed-text w.data_bytes fill code m rest h)) in
     in-text p (reads_of turns) all rest m w.bits w.filling _ (takes-blocks p turns predictors_at_start 0 w.bits start-predicts ready w.coded) is (let s = w.is_short in omega arith)
 
 rst : (n : ℕ) → n < 8 → marker_of (0xD0 + n) ≡ Some (markers.RST n)
@@ -187,10 +188,10 @@ reads-intervals p k turns [] bytes fill code m rest ready all h (last k' turns' 
 reads-intervals p k turns (next ∷ more) bytes fill code m rest ready all h (another k' fill' turns' next' more' first others w ws) =
     let after = others ++ marker fill code rest in
     ap (intervals p k (reads_of turns) (map reads_of (next ∷ more)))
-      (append_assoc first (marker fill' (0xD0 + k % 8) others) (marker fill code rest) ∙ ap (λ (l : List ℕ). first ++ l) (marker-append fill' (0xD0 + k % 8) others (marker fill code rest)))
+    (append_assoc first (marker fill' (0xD0 + k % 8) others) (marker fill code rest) ∙ ap (λ (l : List ℕ). first ++ l) (marker-append fill' (0xD0 + k % 8) others (marker fill code rest)))
     ∙ next-interval p k (reads_of turns) (reads_of next) (map reads_of more) _ after rest _ _ (Some m)
-        (reads-interval p turns first fill' (0xD0 + k % 8) (markers.RST (k % 8)) after ready (rst-marker k) w)
-        (reads-intervals p (suc k) next more others fill code m rest all.0 all.1 h ws)
+    (reads-interval p turns first fill' (0xD0 + k % 8) (markers.RST (k % 8)) after ready (rst-marker k) w)
+    (reads-intervals p (suc k) next more others fill code m rest all.0 all.1 h ws)
 
 -- ---- groups
 
@@ -232,8 +233,8 @@ groups-behind p turns n xs [] h = ap (map (λ t. behind_pass p t.1 t.2)) (sym (a
 groups-behind p zero n xs (y ∷ ys) h = absurd (omega arith)
 groups-behind p (suc turns) n xs (y ∷ ys) h =
     ap (λ (l : List Block). map (λ t. behind_pass p t.1 t.2) xs ++ l)
-      (groups-behind p turns n (take (suc n) (y ∷ ys)) (drop (suc n) (y ∷ ys)) (let d = length-drop (suc n) (y ∷ ys) in omega arith)
-        ∙ ap (map (λ t. behind_pass p t.1 t.2)) (take-append-drop (suc n) (y ∷ ys)))
+    (groups-behind p turns n (take (suc n) (y ∷ ys)) (drop (suc n) (y ∷ ys)) (let d = length-drop (suc n) (y ∷ ys) in omega arith)
+    ∙ ap (map (λ t. behind_pass p t.1 t.2)) (take-append-drop (suc n) (y ∷ ys)))
     ∙ sym (map-joined (λ t. behind_pass p t.1 t.2) xs (y ∷ ys))
 
 pub all-groups : (p : Pass) (n : ℕ) (xs : List (Via × Block × Block)) → all_behind p (first_group n xs) (other_groups n xs) ≡ map (λ t. behind_pass p t.1 t.2) xs
@@ -270,13 +271,13 @@ ready-others Q (suc n) xs h = ready-groups Q (length xs) (suc n) (drop (suc n) x
 pub reads-groups : (p : Pass) (n : ℕ) (turns : List (Via × Block × Block)) (bytes : List ℕ) (fill code : ℕ) (m : Marker) (rest : List ℕ)
     → AllByRecursion (IsReady p) turns → IsMarker code m → WritesIntervals p 0 (first_group n (numbers_of turns)) (other_groups n (numbers_of turns)) bytes
     → intervals p 0 (first_group n (reads_of turns)) (other_groups n (reads_of turns)) (bytes ++ marker fill code rest)
-      ≡ Ok ((map (λ t. behind_pass p t.1 t.2) turns, Some m), rest)
+    ≡ Ok ((map (λ t. behind_pass p t.1 t.2) turns, Some m), rest)
 reads-groups p n turns bytes fill code m rest ready h w =
     let all = bytes ++ marker fill code rest in
     let number : Via × Block × Block → Via × Block = λ t. (t.0, t.2) in
     let read : Via × Block × Block → Via × Block = λ t. (t.0, t.1) in
     let written = subst (λ (x : List (Via × Block)). WritesIntervals p 0 x (map numbers_of (other_groups n turns)) bytes) (sym (first-map number n turns))
-          (subst (λ (x : List (List (Via × Block))). WritesIntervals p 0 (first_group n (numbers_of turns)) x bytes) (sym (others-map number n turns)) w) in
+    (subst (λ (x : List (List (Via × Block))). WritesIntervals p 0 (first_group n (numbers_of turns)) x bytes) (sym (others-map number n turns)) w) in
     ap (λ (x : List (Via × Block)). intervals p 0 x (other_groups n (reads_of turns)) all) (sym (first-map read n turns))
     ∙ ap (λ (x : List (List (Via × Block))). intervals p 0 (reads_of (first_group n turns)) x all) (sym (others-map read n turns))
     ∙ reads-intervals p 0 (first_group n turns) (other_groups n turns) bytes fill code m rest (ready-first (IsReady p) n turns ready) (ready-others (IsReady p) n turns ready) h written

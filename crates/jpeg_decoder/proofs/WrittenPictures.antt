@@ -71,25 +71,26 @@ plane-same frame c table l array blocks some fits holds =
     record {
       count = plane-length s q wide c.blocks_high one ∙ sym (plane-length s q wide c.blocks_high two);
       each = λ x y h k.
-        let column : x / s < (grid_of c).own_wide = inside-own x s c.width some h in
-        let row : y / s < (grid_of c).own_high = inside-own y s c.height some k in
-        let column-in : x / s < wide = let f = fits.own_wide in omega arith in
-        let row-in : y / s < c.blocks_high = let f = fits.own_high in omega arith in
-        let e1 = mul_comm wide s in
-        let e2 = mul_comm c.blocks_high s in
-        let x-in : x < wide * s = (div-lt_iff_lt-mul some).0 column-in in
-        let y-in : y < c.blocks_high * s = (div-lt_iff_lt-mul some).0 row-in in
-        let i = y / s * wide + x / s in
-        let at-row : i / wide ≡ y / s = div-mul-add (y / s) wide (x / s) column-in in
-        let at-column : i % wide ≡ x / s = mod-mul-add (y / s) wide (x / s) column-in in
-        let block : get_or blocks i zero_block ≡ cut l (array (y / s) (x / s))
-              = holds.each i (record { row = omega arith; column = omega arith }) ∙ ap₂ (λ (m n : ℕ). cut l (array m n)) at-row at-column in
-        let place : y * (wide * s) + x ≡ y * (s * wide) + x = ap (λ (n : ℕ). y * n + x) e1 in
-        ap (slice_index (plane_of s q wide c.blocks_high one)) place
-        ∙ plane-at s q wide c.blocks_high one x y (omega arith) (omega arith)
-        ∙ ap (λ (b : Block). sample_at s (coefficients_in_block_order (listed b)) q (x % s) (y % s)) block
-        ∙ sym (plane-at s q wide c.blocks_high two x y (omega arith) (omega arith))
-        ∙ ap (slice_index (plane_of s q wide c.blocks_high two)) (sym place) }
+          let column : x / s < (grid_of c).own_wide = inside-own x s c.width some h in
+          let row : y / s < (grid_of c).own_high = inside-own y s c.height some k in
+          let column-in : x / s < wide = let f = fits.own_wide in omega arith in
+          let row-in : y / s < c.blocks_high = let f = fits.own_high in omega arith in
+          let e1 = mul_comm wide s in
+          let e2 = mul_comm c.blocks_high s in
+          let x-in : x < wide * s = (div-lt_iff_lt-mul some).0 column-in in
+          let y-in : y < c.blocks_high * s = (div-lt_iff_lt-mul some).0 row-in in
+          let i = y / s * wide + x / s in
+          let at-row : i / wide ≡ y / s = div-mul-add (y / s) wide (x / s) column-in in
+          let at-column : i % wide ≡ x / s = mod-mul-add (y / s) wide (x / s) column-in in
+          let block : get_or blocks i zero_block ≡ cut l (array (y / s) (x / s))
+          = holds.each i (record { row = omega arith; column = omega arith }) ∙ ap₂ (λ (m n : ℕ). cut l (array m n)) at-row at-column in
+          let place : y * (wide * s) + x ≡ y * (s * wide) + x = ap (λ (n : ℕ). y * n + x) e1 in
+          ap (slice_index (plane_of s q wide c.blocks_high one)) place
+          ∙ plane-at s q wide c.blocks_high one x y (omega arith) (omega arith)
+          ∙ ap (λ (b : Block). sample_at s (coefficients_in_block_order (listed b)) q (x % s) (y % s)) block
+          ∙ sym (plane-at s q wide c.blocks_high two x y (omega arith) (omega arith))
+          ∙ ap (slice_index (plane_of s q wide c.blocks_high two)) (sym place);
+    }
 
 -- ---- planes at the end
 
@@ -134,9 +135,12 @@ module _ (f : Frame) (array : Coefficients) (final : Found) (last : ℕ → Leve
           let n = (framed.marked.planes k c t).undecided e in
           let q = at-all (HasTable final) k f.components c tables t in
           record {
-            table = q.table; is_table = q.is; blocks = get_or h k [];
+            table = q.table;
+            is_table = q.is;
+            blocks = get_or h k [];
             holds = subst (λ (a : Arrays). HoldsOwn (grid_of c) (array k) (last k) (get_or a k [])) (held-arrays final h fi pl f g) ((framed.held g).each k c t);
-            is = end-held found f k c q.table n g refl q.is }
+            is = end-held found f k c q.table n g refl q.is;
+          }
       go false e false g =
           let all = in-all (λ (j : ℕ). IsComplete (last j)) (range_with_len 0 (length f.components)) k (complete g) (in-below k (length f.components) (at-within k f.components c t)) in
           absurd (true≢false (sym (complete-whole (last k) all) ∙ e))
@@ -164,7 +168,8 @@ module _ (f : Frame) (array : Coefficients) (final : Found) (last : ℕ → Leve
         ours_are = then-ok (plane_at_end found f place c) _ (plane_by c e.table e.blocks) _ e.is (then-ok (planes_from found f (place + 1) more) _ others.ours _ others.ours_are refl);
         theirs_are = then-ok (needed (slice_index_or final.quantization c.factors.quantization None)) _ e.table _ (ap needed e.is_table)
             (then-ok (planes_of_array final array last (place + 1) more) _ others.theirs _ others.theirs_are refl);
-        alike = (plane-same f c e.table (last place) (array place) e.blocks (scaled place c t) (shape.fits place c t) e.holds, others.alike) }
+        alike = (plane-same f c e.table (last place) (array place) e.blocks (scaled place c t) (shape.fits place c t) e.holds, others.alike);
+      }
 
 -- ---- the picture
 
@@ -181,7 +186,7 @@ pub picture-by-same : (settings : Settings) (m : Metadata) (f : Frame) (componen
 unfolding picture_by
 picture-by-same settings m f [] ps qs e made alike =
     image-same [] ps qs f.output_width f.output_height (transform_of settings.color_transform (identifiers_of []) m.jfif m.adobe)
-      (λ sources s. reaches-made f sources made (subst (λ (l : List Component). sources_of l f.output_width f.output_height ≡ Ok sources) (sym e) s)) alike
+    (λ sources s. reaches-made f sources made (subst (λ (l : List Component). sources_of l f.output_width f.output_height ≡ Ok sources) (sym e) s)) alike
 picture-by-same settings m f (c ∷ []) [] qs e made alike = absurd alike
 picture-by-same settings m f (c ∷ []) (p ∷ ps) [] e made alike = absurd alike
 picture-by-same settings m f (c ∷ []) (p ∷ ps) (q ∷ qs) e made alike =
@@ -189,27 +194,27 @@ picture-by-same settings m f (c ∷ []) (p ∷ ps) (q ∷ qs) e made alike =
     ap (λ (x : List ℕ). Ok x) (picture-one f c p q size.0 size.1 alike.0)
 picture-by-same settings m f (c ∷ d ∷ more) ps qs e made alike =
     image-same (c ∷ d ∷ more) ps qs f.output_width f.output_height (transform_of settings.color_transform (identifiers_of (c ∷ d ∷ more)) m.jfif m.adobe)
-      (λ sources s. reaches-made f sources made (subst (λ (l : List Component). sources_of l f.output_width f.output_height ≡ Ok sources) (sym e) s)) alike
+    (λ sources s. reaches-made f sources made (subst (λ (l : List Component). sources_of l f.output_width f.output_height ≡ Ok sources) (sym e) s)) alike
 
 -- ---- the meaning
 
 found-picture : (settings : Settings) (found : Found) (f : Frame) (planes : List (List ℕ)) → found.frame ≡ Some f → planes_from found f 0 f.components ≡ Ok planes
     → picture_of settings found
-      ≡ (if nat_lt settings.limit (length f.components * (f.output_width * f.output_height)) then Err Malformed else picture_by settings found.metadata f f.components planes)
+    ≡ (if nat_lt settings.limit (length f.components * (f.output_width * f.output_height)) then Err Malformed else picture_by settings found.metadata f f.components planes)
 unfolding picture_of
 found-picture settings found f planes e p =
     then-ok (needed found.frame) _ f _ (ap needed e)
-      (ap (λ (o : Result (List ℕ) Fault). cond (nat_lt settings.limit (length f.components * (f.output_width * f.output_height))) (Err Malformed) o)
-        (then-ok (planes_from found f 0 f.components) _ planes _ p refl))
+    (ap (λ (o : Result (List ℕ) Fault). cond (nat_lt settings.limit (length f.components * (f.output_width * f.output_height))) (Err Malformed) o)
+    (then-ok (planes_from found f 0 f.components) _ planes _ p refl))
 
 array-picture : (settings : Settings) (w : Found) (array : Coefficients) (levels : ℕ → Levels) (f : Frame) (planes : List (List ℕ)) → w.frame ≡ Some f → planes_of_array w array levels 0 f.components ≡ Ok planes
     → picture_of_array settings w array levels
-      ≡ (if nat_lt settings.limit (length f.components * (f.output_width * f.output_height)) then Err Malformed else picture_by settings w.metadata f f.components planes)
+    ≡ (if nat_lt settings.limit (length f.components * (f.output_width * f.output_height)) then Err Malformed else picture_by settings w.metadata f f.components planes)
 unfolding picture_of_array
 array-picture settings w array levels f planes e p =
     then-ok (needed w.frame) _ f _ (ap needed e)
-      (ap (λ (o : Result (List ℕ) Fault). cond (nat_lt settings.limit (length f.components * (f.output_width * f.output_height))) (Err Malformed) o)
-        (then-ok (planes_of_array w array levels 0 f.components) _ planes _ p refl))
+    (ap (λ (o : Result (List ℕ) Fault). cond (nat_lt settings.limit (length f.components * (f.output_width * f.output_height))) (Err Malformed) o)
+    (then-ok (planes_of_array w array levels 0 f.components) _ planes _ p refl))
 
 pub pictures-same : (settings : Settings) (f : Frame) (array : Coefficients) (final : Found) (last : ℕ → Levels) (h : Arrays) (fi : List (List Bool)) (pl : List (Option (List ℕ)))
     → Shaped f → final.frame ≡ Some f → Framed final f array last true h fi pl → AllByRecursion (HasTable final) f.components
@@ -217,10 +222,10 @@ pub pictures-same : (settings : Settings) (f : Frame) (array : Coefficients) (fi
     → picture_of settings (reading final true h fi pl) ≡ picture_of_array settings final array last
 pictures-same settings f array final last h fi pl shape e framed tables complete =
     let b = planes-end f array final last h fi pl shape framed tables complete (scale-made f shape.made) 0 f.components
-          (λ j c t. let start : 0 + j ≡ j = omega arith in subst (λ (n : ℕ). At n f.components c) (sym start) t) in
+    (λ j c t. let start : 0 + j ≡ j = omega arith in subst (λ (n : ℕ). At n f.components c) (sym start) t) in
     found-picture settings (reading final true h fi pl) f b.ours e b.ours_are
     ∙ ap (λ (o : Result (List ℕ) Fault). cond (nat_lt settings.limit (length f.components * (f.output_width * f.output_height))) (Err Malformed) o)
-        (picture-by-same settings final.metadata f f.components b.ours b.theirs refl shape.made b.alike)
+    (picture-by-same settings final.metadata f f.components b.ours b.theirs refl shape.made b.alike)
     ∙ sym (array-picture settings final array last f b.theirs e b.theirs_are)
 
 pub rest-by : (settings : Settings) (found all : Found) (bytes rest : List ℕ) → segments_at false Elsewhere found None bytes ≡ Ok (all, rest)
@@ -243,7 +248,7 @@ stream-means settings array tail bytes final last range w =
     meaning-by settings bytes r.rest r.starts
     ∙ rest-by settings nothing_found all r.rest tail end.is
     ∙ ap (λ (o : Result (List ℕ) Fault). o >>= (λ (picture : List ℕ). Ok ((told_of final, picture), tail)))
-        (pictures-same settings r.whole.frame array final last end.held end.finished end.planes r.whole.shape end.frame_is end.framed end.tables end.complete)
+    (pictures-same settings r.whole.frame array final last end.held end.finished end.planes r.whole.shape end.frame_is end.framed end.tables end.complete)
 
 -- ---- there is a picture
 
@@ -272,13 +277,14 @@ pub pictures-taken : (settings : Settings) (array : Coefficients) (final : Found
 pictures-taken settings array final last f sources range shape e h fi pl framed tables complete is takes =
     let same : takes.frame ≡ f = some-same takes.frame f (sym takes.is_said ∙ e) in
     let b = planes-end f array final last h fi pl shape framed tables complete (scale-made f shape.made) 0 f.components
-          (λ j c t. let start : 0 + j ≡ j = omega arith in subst (λ (n : ℕ). At n f.components c) (sym start) t) in
+    (λ j c t. let start : 0 + j ≡ j = omega arith in subst (λ (n : ℕ). At n f.components c) (sym start) t) in
     let limit = subst (λ (g : Frame). length g.components * (g.output_width * g.output_height) ≤ settings.limit) same takes.limit in
-    let picture = picture-there settings final f f.components b.ours b.theirs sources (subst (λ (g : Frame). HasTransform settings final g.components) same takes.transform) is b.alike in
-    (picture.0,
-     array-picture settings final array last f b.theirs e b.theirs_are
-     ∙ within-limit settings.limit (length f.components * (f.output_width * f.output_height)) (picture_by settings final.metadata f f.components b.theirs) limit
-     ∙ picture.1)
+    let picture = picture-there settings final f f.components b.ours b.theirs sources (subst (λ (g : Frame). HasTransform settings final g.components) same takes.transform) is b.alike in (
+      picture.0,
+      array-picture settings final array last f b.theirs e b.theirs_are
+          ∙ within-limit settings.limit (length f.components * (f.output_width * f.output_height)) (picture_by settings final.metadata f f.components b.theirs) limit
+          ∙ picture.1,
+    )
   where
     some-same : (a b : Frame) → ◌≡◌ {A = Option Frame} (Some a) (Some b) → a ≡ b
     some-same a b e = cc

@@ -68,8 +68,10 @@ pub corrected-stays : (al : ℕ) (z w : ℤ) → z ≡ w → ReadsJust (correcte
 corrected-stays al z w e = record { read = λ rest places n. ap (λ (x : ℤ). Ok (x, text rest places n)) e }
 
 pub corrected-moves : (al : ℕ) (z w : ℤ) → bit_of al z ≡ 0 → moved (2 ^ al) z ≡ w → fits_i16 w ≡ true → ReadsJust (corrected_by al z 1) [] w
-corrected-moves al z w even e fits = record { read = λ rest places n.
-    rw (eq-eqb (bit_of al z) 0 even, ap fits_i16 e ∙ fits, corrected_by) (ap (λ (x : ℤ). Ok (x, text rest places n)) e) }
+corrected-moves al z w even e fits = record {
+  read = λ rest places n.
+      rw (eq-eqb (bit_of al z) 0 even, ap fits_i16 e ∙ fits, corrected_by) (ap (λ (x : ℤ). Ok (x, text rest places n)) e);
+}
 
 pub even : (m : ℕ) → (2 * m) % 2 ≡ 0
 even m = omega arith
@@ -117,7 +119,7 @@ corrects-neg al m (suc zero) k e h fits =
     let bit = even-bit_neg al m k some e in
     let total : suc (k + p) ≡ (2 * m + 1) * p = omega (arith, spread m 1 p, one-mul p) in
     corrected-moves al (negsuc k) (neg_ℤ (pos ((2 * m + 1) * p))) bit (ap (λ (x : ℕ). neg_ℤ (pos x)) total)
-      (ap (λ (x : ℕ). fits_i16 (neg_ℤ (pos x))) (sym total) ∙ lt-ltb (k + p) (2 ^ 15) (omega arith))
+    (ap (λ (x : ℕ). fits_i16 (neg_ℤ (pos x))) (sym total) ∙ lt-ltb (k + p) (2 ^ 15) (omega arith))
   where
     positive : (m : ℕ) → m * 2 ^ suc al ≡ suc k → 0 < m
     positive zero f = absurd (omega (arith, zero-mul (2 ^ suc al)))
@@ -130,7 +132,7 @@ corrects al (pos n) o range =
     let whole : 2 * (n / 2) + n % 2 ≡ n = omega arith in
     let fits : (2 * (n / 2) + n % 2) * 2 ^ al < 2 ^ 15 = subst (λ (x : ℕ). x * 2 ^ al < 2 ^ 15) (sym whole) range.within in
     takes-as _ [] [] (pos ((2 * (n / 2) + n % 2) * 2 ^ al)) (pos (n * 2 ^ al)) refl (ap (λ (x : ℕ). pos (x * 2 ^ al)) whole)
-      (corrects-pos al (n / 2) (n % 2) (omega arith) fits)
+    (corrects-pos al (n / 2) (n % 2) (omega arith) fits)
 corrects al (negsuc i) o range = go (suc i / 2 * 2 ^ suc al) refl (held-positive al (suc i) (old-at (negsuc i) o))
   where
     go : (x : ℕ) → suc i / 2 * 2 ^ suc al ≡ x → 0 < x → ReadsJust (corrected_by al (held al (negsuc i)) (suc i % 2)) [] (neg_ℤ (pos (suc i * 2 ^ al)))
@@ -140,23 +142,23 @@ corrects al (negsuc i) o range = go (suc i / 2 * 2 ^ suc al) refl (held-positive
         let fits : (2 * (suc i / 2) + suc i % 2) * 2 ^ al < 2 ^ 15 = subst (λ (x : ℕ). x * 2 ^ al < 2 ^ 15) (sym whole) range.within in
         let is : negsuc k ≡ held al (negsuc i) = sym (neg-times (suc i / 2) (2 ^ suc al) ∙ ap (λ (x : ℕ). neg_ℤ (pos x)) e) in
         subst (λ (z : ℤ). ReadsJust (corrected_by al z (suc i % 2)) [] (neg_ℤ (pos (suc i * 2 ^ al)))) is
-          (takes-as _ [] [] (neg_ℤ (pos ((2 * (suc i / 2) + suc i % 2) * 2 ^ al))) (neg_ℤ (pos (suc i * 2 ^ al))) refl (ap (λ (x : ℕ). neg_ℤ (pos (x * 2 ^ al))) whole)
-            (corrects-neg al (suc i / 2) (suc i % 2) k e (omega arith) fits))
+        (takes-as _ [] [] (neg_ℤ (pos ((2 * (suc i / 2) + suc i % 2) * 2 ^ al))) (neg_ℤ (pos (suc i * 2 ^ al))) refl (ap (λ (x : ℕ). neg_ℤ (pos (x * 2 ^ al))) whole)
+        (corrects-neg al (suc i / 2) (suc i % 2) k e (omega arith) fits))
 
 pub corrected-zero : (al : ℕ) (z : ℤ) (zs ws : List ℤ) (bits : List Bool) → z ≡ pos 0 → ReadsJust (corrected al zs) bits ws → ReadsJust (corrected al (z ∷ zs)) bits (pos 0 ∷ ws)
 unfolding corrected
 corrected-zero al z zs ws bits e h =
     subst (λ (x : ℤ). ReadsJust (corrected al (x ∷ zs)) bits (pos 0 ∷ ws)) (sym e)
-      (record { read = λ rest places n. (takes-map (corrected al zs) (λ (others : List ℤ). pos 0 ∷ others) bits ws h).read rest places n })
+    (record { read = λ rest places n. (takes-map (corrected al zs) (λ (others : List ℤ). pos 0 ∷ others) bits ws h).read rest places n })
 
 pub corrected-next : (al : ℕ) (z w : ℤ) (zs ws : List ℤ) (b : ℕ) (bits : List Bool) → b < 2 → is_zero z ≡ false → ReadsJust (corrected_by al z b) [] w
     → ReadsJust (corrected al zs) bits ws → ReadsJust (corrected al (z ∷ zs)) (bit b ∷ bits) (w ∷ ws)
 unfolding corrected
 corrected-next al z w zs ws b bits small e h k =
     rw (e, corrected)
-      (takes-bind (bits_from 1 >>= (λ x. corrected_by al z x)) (λ first. corrected al zs >>= (λ others. gives (first ∷ others))) (bit b ∷ []) bits w (w ∷ ws)
-        (takes-bind (bits_from 1) (λ x. corrected_by al z x) (bit b ∷ []) [] b w (takes-bit b small) h)
-        (takes-map (corrected al zs) (λ (others : List ℤ). w ∷ others) bits ws k))
+    (takes-bind (bits_from 1 >>= (λ x. corrected_by al z x)) (λ first. corrected al zs >>= (λ others. gives (first ∷ others))) (bit b ∷ []) bits w (w ∷ ws)
+    (takes-bind (bits_from 1) (λ x. corrected_by al z x) (bit b ∷ []) [] b w (takes-bit b small) h)
+    (takes-map (corrected al zs) (λ (others : List ℤ). w ∷ others) bits ws k))
 
 pub corrections-zero : (us : List ℤ) → corrections (pos 0 ∷ us) ≡ corrections us
 unfolding corrections
@@ -176,13 +178,13 @@ takes-corrected al (u ∷ us) none range = go (nothing_or_old u none.0) (takes-c
         → ReadsJust (corrected al (map (held al) (u ∷ us))) (corrections (u ∷ us)) (map (scaled al) (u ∷ us))
     go (inl e) ih =
         takes-as _ (corrections us) (corrections (u ∷ us)) (pos 0 ∷ map (scaled al) us) (scaled al u ∷ map (scaled al) us)
-          (sym (ap (λ (x : ℤ). corrections (x ∷ us)) e ∙ corrections-zero us))
-          (ap (λ (x : ℤ). x ∷ map (scaled al) us) (sym (ap (scaled al) e ∙ scaled-zero al)))
-          (corrected-zero al (held al u) (map (held al) us) (map (scaled al) us) (corrections us) (ap (held al) e ∙ held-zero al) ih)
+        (sym (ap (λ (x : ℤ). corrections (x ∷ us)) e ∙ corrections-zero us))
+        (ap (λ (x : ℤ). x ∷ map (scaled al) us) (sym (ap (scaled al) e ∙ scaled-zero al)))
+        (corrected-zero al (held al u) (map (held al) us) (map (scaled al) us) (corrections us) (ap (held al) e ∙ held-zero al) ih)
     go (inr o) ih =
         takes-as _ (bit (unsigned_abs u % 2) ∷ corrections us) (corrections (u ∷ us)) _ _ (sym (corrections-old u us o)) refl
-          (corrected-next al (held al u) (scaled al u) (map (held al) us) (map (scaled al) us) (unsigned_abs u % 2) (corrections us) (omega arith)
-            (held-old al u o) (corrects al u o range.0) ih)
+        (corrected-next al (held al u) (scaled al u) (map (held al) us) (map (scaled al) us) (unsigned_abs u % 2) (corrections us) (omega arith)
+        (held-old al u o) (corrects al u o range.0) ih)
 
 -- ---- pieces
 
@@ -262,8 +264,8 @@ pub takes-front : (al : ℕ) (front : List ℤ) (u : ℤ) (more : List ℤ) → 
     → ReadsJust (corrected al (take (suc (length front)) (map (held al) (front ++ u ∷ more)))) (corrections front) (map (scaled al) (front ++ pos 0 ∷ []))
 takes-front al front u more z none range =
     subst (λ (l : List ℤ). ReadsJust (corrected al l) (corrections front) (map (scaled al) (front ++ pos 0 ∷ []))) (sym (front-of al front u more z))
-      (takes-as _ _ _ _ _ (corrections-end front) refl
-        (takes-corrected al (front ++ pos 0 ∷ []) (none-end front none) (range-end al front (u ∷ more) range)))
+    (takes-as _ _ _ _ _ (corrections-end front) refl
+    (takes-corrected al (front ++ pos 0 ∷ []) (none-end front none) (range-end al front (u ∷ more) range)))
 
 pub map-scaled : (al : ℕ) (front more : List ℤ) → map (scaled al) (front ++ more) ≡ map (scaled al) front ++ map (scaled al) more
 map-scaled al [] more = refl
@@ -287,21 +289,21 @@ piece-found al r others front u more bits run none count new range w =
     let rest = map (held al) (front ++ u ∷ more) in
     let n : through_zero r rest ≡ suc (length front) = ap (λ (c : ℕ). through_zero c rest) (sym count) ∙ through al front u more z none in
     let result : with_last (new_number al (sign_bit u)) (map (scaled al) (front ++ pos 0 ∷ [])) ++ map (scaled al) more ≡ map (scaled al) (front ++ u ∷ more)
-          = ap (λ (l : List ℤ). with_last (new_number al (sign_bit u)) l ++ map (scaled al) more) (map-scaled al front (pos 0 ∷ []))
-            ∙ ap (λ (l : List ℤ). l ++ map (scaled al) more) (with_last-end (new_number al (sign_bit u)) (scaled al (pos 0)) (map (scaled al) front))
-            ∙ append_assoc (map (scaled al) front) (new_number al (sign_bit u) ∷ []) (map (scaled al) more)
-            ∙ ap (λ (x : ℤ). map (scaled al) front ++ x ∷ map (scaled al) more) (new-scaled al u new)
-            ∙ sym (map-scaled al front (u ∷ more)) in
+    = ap (λ (l : List ℤ). with_last (new_number al (sign_bit u)) l ++ map (scaled al) more) (map-scaled al front (pos 0 ∷ []))
+    ∙ ap (λ (l : List ℤ). l ++ map (scaled al) more) (with_last-end (new_number al (sign_bit u)) (scaled al (pos 0)) (map (scaled al) front))
+    ∙ append_assoc (map (scaled al) front) (new_number al (sign_bit u) ∷ []) (map (scaled al) more)
+    ∙ ap (λ (x : ℤ). map (scaled al) front ++ x ∷ map (scaled al) more) (new-scaled al u new)
+    ∙ sym (map-scaled al front (u ∷ more)) in
     let back = subst (λ (l : List ℤ). ReadsJust (others l) bits (map (scaled al) more, run)) (sym (back-of al front u more)) w in
     let step = λ (k : ℕ). bits_from 1 >>= (λ sign. corrected al (take k rest) >>= (λ f.
-          others (drop k rest) >>= (λ m. gives (before_more (with_last (new_number al sign) f) m)))) in
+    others (drop k rest) >>= (λ m. gives (before_more (with_last (new_number al sign) f) m)))) in
     subst (λ (k : ℕ). ReadsJust (step k) (bit (sign_bit u) ∷ (corrections front ++ bits)) (map (scaled al) (front ++ u ∷ more), run)) (sym n)
-      (takes-as _ _ _ _ _ refl (ap (λ (l : List ℤ). (l, run)) result)
-        (takes-bind (bits_from 1) _ (bit (sign_bit u) ∷ []) (corrections front ++ bits) (sign_bit u) _ (takes-bit (sign_bit u) (sign-small u))
-          (takes-bind (corrected al (take (suc (length front)) rest)) _ (corrections front) bits (map (scaled al) (front ++ pos 0 ∷ [])) _
-            (takes-front al front u more z none range)
-            (takes-map (others (drop (suc (length front)) rest))
-              (before_more (with_last (new_number al (sign_bit u)) (map (scaled al) (front ++ pos 0 ∷ [])))) bits (map (scaled al) more, run) back))))
+    (takes-as _ _ _ _ _ refl (ap (λ (l : List ℤ). (l, run)) result)
+    (takes-bind (bits_from 1) _ (bit (sign_bit u) ∷ []) (corrections front ++ bits) (sign_bit u) _ (takes-bit (sign_bit u) (sign-small u))
+    (takes-bind (corrected al (take (suc (length front)) rest)) _ (corrections front) bits (map (scaled al) (front ++ pos 0 ∷ [])) _
+    (takes-front al front u more z none range)
+    (takes-map (others (drop (suc (length front)) rest))
+    (before_more (with_last (new_number al (sign_bit u)) (map (scaled al) (front ++ pos 0 ∷ [])))) bits (map (scaled al) more, run) back))))
 
 pub piece-passed : (al : ℕ) (others : List ℤ → Reads Band) (front more : List ℤ) (bits : List Bool) (run : ℕ)
     → NoneNew front → count_unknown front ≡ 15 → AllByRecursion (InRange al) (front ++ pos 0 ∷ more)
@@ -313,14 +315,14 @@ piece-passed al others front more bits run none count range w =
     let rest = map (held al) (front ++ pos 0 ∷ more) in
     let n : through_zero 15 rest ≡ suc (length front) = ap (λ (c : ℕ). through_zero c rest) (sym count) ∙ through al front (pos 0) more z none in
     let result : map (scaled al) (front ++ pos 0 ∷ []) ++ map (scaled al) more ≡ map (scaled al) (front ++ pos 0 ∷ more)
-          = sym (map-scaled al (front ++ pos 0 ∷ []) more) ∙ ap (map (scaled al)) (append_assoc front (pos 0 ∷ []) more) in
+    = sym (map-scaled al (front ++ pos 0 ∷ []) more) ∙ ap (map (scaled al)) (append_assoc front (pos 0 ∷ []) more) in
     let back = subst (λ (l : List ℤ). ReadsJust (others l) bits (map (scaled al) more, run)) (sym (back-of al front (pos 0) more)) w in
     let step = λ (k : ℕ). corrected al (take k rest) >>= (λ f. others (drop k rest) >>= (λ m. gives (before_more f m))) in
     subst (λ (k : ℕ). ReadsJust (step k) (corrections front ++ bits) (map (scaled al) (front ++ pos 0 ∷ more), run)) (sym n)
-      (takes-as _ _ _ _ _ refl (ap (λ (l : List ℤ). (l, run)) result)
-        (takes-bind (corrected al (take (suc (length front)) rest)) _ (corrections front) bits (map (scaled al) (front ++ pos 0 ∷ [])) _
-          (takes-front al front (pos 0) more z none range)
-          (takes-map (others (drop (suc (length front)) rest)) (before_more (map (scaled al) (front ++ pos 0 ∷ []))) bits (map (scaled al) more, run) back)))
+    (takes-as _ _ _ _ _ refl (ap (λ (l : List ℤ). (l, run)) result)
+    (takes-bind (corrected al (take (suc (length front)) rest)) _ (corrections front) bits (map (scaled al) (front ++ pos 0 ∷ [])) _
+    (takes-front al front (pos 0) more z none range)
+    (takes-map (others (drop (suc (length front)) rest)) (before_more (map (scaled al) (front ++ pos 0 ∷ []))) bits (map (scaled al) more, run) back)))
 
 pub not-fifteen : (r : ℕ) → r ≤ 14 → eqb r 15 ≡ false
 not-fifteen r h = grind (arith, nat_tests)
@@ -331,8 +333,8 @@ unfolding refined_piece
 piece-none_left al r e others us h f none range =
     let no : eqb r 15 ≡ false = not-fifteen r h in
     rw (no, refined_piece)
-      (takes-bind (bits_from r) (λ k. corrected al (map (held al) us) >>= (λ all. gives (all, 2 ^ r - 1 + k))) (low_bits r e) (corrections us) e _ (takes-number r e f)
-        (takes-map (corrected al (map (held al) us)) (λ (all : List ℤ). (all, 2 ^ r - 1 + e)) (corrections us) (map (scaled al) us) (takes-corrected al us none range)))
+    (takes-bind (bits_from r) (λ k. corrected al (map (held al) us) >>= (λ all. gives (all, 2 ^ r - 1 + k))) (low_bits r e) (corrections us) e _ (takes-number r e f)
+    (takes-map (corrected al (map (held al) us)) (λ (all : List ℤ). (all, 2 ^ r - 1 + e)) (corrections us) (map (scaled al) us) (takes-corrected al us none range)))
 
 -- ---- bands
 
@@ -346,7 +348,7 @@ refined-token table al m r s z zs code bits x good coded small piece =
     let token = λ (c : ℕ). refined_piece al (refined_ac table al m) (z ∷ zs) (c / 16) (c % 16) in
     let body : ReadsJust (token symbol) bits x = rw (high, low) piece in
     takes-as _ (code_bits table coded.place ++ bits) (code ++ bits) x x (ap (λ (b : List Bool). b ++ bits) coded.has_bits) refl
-      (takes-bind (symbol_from table) token (code_bits table coded.place) bits symbol x (takes-symbol table coded.place good coded.listed) body)
+    (takes-bind (symbol_from table) token (code_bits table coded.place) bits symbol x (takes-symbol table coded.place good coded.listed) body)
 
 -- the same over a list that isn't empty, with room for its length
 pub refined-step : (table : Table) (al n r s : ℕ) (places : List ℤ) (code bits : List Bool) (x : Band) → IsGood table → IsCoded table (16 * r + s) code → s ≤ 15
@@ -375,13 +377,13 @@ takes-refinement table al band bits run good range refined n room = takes-gives 
 takes-refinement table al band bits run good range (found r front u code more bits' run' h none count new coded w) n room =
     let size = places-of al front u more in
     refined-step table al n r 1 (map (held al) (front ++ u ∷ more)) code _ _ good coded (omega arith) (omega arith) room
-      (λ m e. piece-found al r (refined_ac table al m) front u more bits' run' none count new range
-        (takes-refinement table al more bits' run' good (range-behind (InRange al) (front ++ u ∷ []) more (subst (AllByRecursion (InRange al)) (sym (append_assoc front (u ∷ []) more)) range)) w m (omega arith)))
+    (λ m e. piece-found al r (refined_ac table al m) front u more bits' run' none count new range
+    (takes-refinement table al more bits' run' good (range-behind (InRange al) (front ++ u ∷ []) more (subst (AllByRecursion (InRange al)) (sym (append_assoc front (u ∷ []) more)) range)) w m (omega arith)))
 takes-refinement table al band bits run good range (passed front code more bits' run' none count coded w) n room =
     let size = places-of al front (pos 0) more in
     refined-step table al n 15 0 (map (held al) (front ++ pos 0 ∷ more)) code _ _ good coded (omega arith) (omega arith) room
-      (λ m e. piece-passed al (refined_ac table al m) front more bits' run' none count range
-        (takes-refinement table al more bits' run' good (range-behind (InRange al) (front ++ pos 0 ∷ []) more (subst (AllByRecursion (InRange al)) (sym (append_assoc front (pos 0 ∷ []) more)) range)) w m (omega arith)))
+    (λ m e. piece-passed al (refined_ac table al m) front more bits' run' none count range
+    (takes-refinement table al more bits' run' good (range-behind (InRange al) (front ++ pos 0 ∷ []) more (subst (AllByRecursion (InRange al)) (sym (append_assoc front (pos 0 ∷ []) more)) range)) w m (omega arith)))
 takes-refinement table al band bits run good range (none_left r e u others code h f none coded) n room =
     refined-step table al n r 0 (map (held al) (u ∷ others)) code _ _ good coded (omega arith) (omega arith) room
-      (λ m q. piece-none_left al r e (refined_ac table al m) (u ∷ others) h f none range)
+    (λ m q. piece-none_left al r e (refined_ac table al m) (u ∷ others) h f none range)

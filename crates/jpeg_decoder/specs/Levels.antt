@@ -53,8 +53,9 @@ pub record IsLegal (p : Pass) (l : Levels) : Type 0 where
 -- The levels behind the scan.
 abbrev pub levels_behind : Pass → Levels → Levels
 levels_behind p l = record {
-    dc = elim (p.ss == 0) as (λ _. Option ℕ) [ true ↦ Some p.al | false ↦ l.dc ];
-    acs = with_band p l.acs (replicate (length (band_of p l.acs)) (Some p.al)) }
+  dc = elim (p.ss == 0) as (λ _. Option ℕ) [ true ↦ Some p.al | false ↦ l.dc ];
+  acs = with_band p l.acs (replicate (length (band_of p l.acs)) (Some p.al));
+}
 
 -- Coefficients of 8-bit samples.
 pub record Is8Bit (c : Block) : Type 0 where

@@ -106,4 +106,3 @@ pub record IsComplete (l : Levels) : Type 0 where
 pub record HasTable (w : Found) (c : Component) : Type 0 where
   pub table : List ℕ
   pub is : slice_index_or w.quantization c.factors.quantization None ≡ Some table
-
