@@ -65,3 +65,5 @@ pub mod ScaledSources
 pub mod SizedStreams
 pub mod AcceptedImages
 pub mod WholeImages
+pub mod WorkedGrey
+pub mod WorkedColour

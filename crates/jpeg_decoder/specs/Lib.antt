@@ -23,3 +23,4 @@ pub mod SaidSegments
 pub mod WrittenImages
 pub mod ArrayPictures
 pub mod WholeImages
+pub mod WorkedImages

@@ -7,6 +7,8 @@ ghost use Rattle.jpeg_decoder.specs.Levels.{Is8Bit, Levels};
 ghost use Rattle.jpeg_decoder.specs.Stream.{Found, is_progressive, meaning, sized_meaning};
 ghost use Rattle.jpeg_decoder.specs.Stream.{sized_to, told_of};
 ghost use Rattle.jpeg_decoder.specs.WholeImages.{AllComplete, whole_meaning};
+ghost use Rattle.jpeg_decoder.specs.WorkedImages.{IsWhollyWritten, grey_array, grey_bytes};
+ghost use Rattle.jpeg_decoder.specs.WorkedImages.{colour_array, colour_bytes};
 ghost use Rattle.jpeg_decoder.specs.WrittenImages.{WritesImage};
 ghost use Rattle.jpeg_decoder.specs.WrittenScans.{Coefficients};
 ghost use Rattle.jpeg_decoder.specs.declared.state.Settings.{Settings};
@@ -77,4 +79,12 @@ pub fn images_have_pictures()
         × (picture_of_array settings (sized_to width height final) array last ≡ Ok picture)
         × (sized_meaning width height settings (bytes ++ rest)
         ≡ Ok (record { 0 = record { 0 = told_of (sized_to width height final); 1 = picture }; 1 = rest })) }
+{}
+
+/// The relation holds of two streams that are worked by hand: a progressive one of three blocks, with
+/// DC and AC each in a first scan and a refinement and with runs of blocks; and a sequential one of
+/// three components, with padding and a restart.
+pub fn worked_images_are_written()
+    ensures grey { IsWhollyWritten grey_array grey_bytes }
+    ensures colour { IsWhollyWritten colour_array colour_bytes }
 {}

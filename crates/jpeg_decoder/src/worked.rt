@@ -10,6 +10,8 @@ ghost use Rattle.jpeg_decoder.specs.Worked.{picture_meant, picture_with, picture
 ghost use Rattle.jpeg_decoder.specs.Worked.{scan_of, eight_times, stream_with};
 ghost use Rattle.jpeg_decoder.specs.Worked.{stream_without_height, stream_of_one_coefficient};
 ghost use Rattle.jpeg_decoder.specs.Worked.{scanned_twice, with_restart, three_at_once};
+ghost use Rattle.jpeg_decoder.specs.WorkedImages.{colour_bytes, colour_picture};
+ghost use Rattle.jpeg_decoder.specs.WorkedImages.{grey_bytes, grey_picture};
 ghost use Rattle.jpeg_decoder.specs.Worked.{three_in_turn, two_to_one, refined, run_of_blocks};
 
 /// The scales for some sizes that are asked for.
@@ -95,4 +97,10 @@ pub fn known_scans()
     // An end of band that stands for the next block too.
     ensures run { picture_meant run_of_blocks
         ≡ Ok (eight_times (replicate 8 129 ++ replicate 8 128)) }
+{}
+
+/// The two images of the headline that are worked by hand, and their pictures.
+pub fn known_images()
+    ensures grey { picture_meant grey_bytes ≡ Ok grey_picture }
+    ensures colour { picture_meant colour_bytes ≡ Ok colour_picture }
 {}
