@@ -6,12 +6,12 @@ use Rattle.jpeg_bits.specs.declared.marker.Marker.{Marker}
 use Rattle.jpeg_bits.specs.declared.marker.Marker.TheVariants.{SOF, EOI, SOS, DQT}
 use Rattle.jpeg_segments.specs.Frame.{Frame}
 use Rattle.jpeg_decoder.specs.WrittenData.{marker}
-use Rattle.jpeg_decoder.specs.WrittenSegments.{sized, Segment, Quantization, Huffman, Interval, Application, Comment, Header, FrameHeader, code_of, payload_of, frame_written, quantization_tables, huffman_tables, said_by}
-use Rattle.jpeg_decoder.specs.ScanHeaders.{scan_payload, scan_written}
-use Rattle.jpeg_decoder.proofs.Fields.{sized-read, skip-read}
-use Rattle.jpeg_decoder.proofs.TableSegments.{dqt-read, dht-read}
-use Rattle.jpeg_decoder.proofs.OtherSegments.{dri-read, app-read}
-use Rattle.jpeg_decoder.proofs.HeaderSegments.{sof-read, sos-read}
+use Rattle.jpeg_segments.specs.WrittenSegments.{sized, Segment, Quantization, Huffman, Interval, Application, Comment, Header, FrameHeader, code_of, payload_of, frame_written, quantization_tables, huffman_tables, said_by}
+use Rattle.jpeg_segments.specs.ScanHeaders.{scan_payload, scan_written}
+use Rattle.jpeg_segments.proofs.Fields.{sized-read, skip-read}
+use Rattle.jpeg_segments.proofs.TableSegments.{dqt-read, dht-read}
+use Rattle.jpeg_segments.proofs.OtherSegments.{dri-read, app-read}
+use Rattle.jpeg_segments.proofs.HeaderSegments.{sof-read, sos-read}
 use Rattle.jpeg_decoder.proofs.WrittenMarkers.{marker-append, marker_for, segment-marker}
 use Rattle.jpeg_decoder.specs.Levels.{Levels, nothing_sent}
 use Rattle.jpeg_decoder.proofs.AcceptedStreams.{IsMarker}

@@ -12,7 +12,7 @@ use Rattle.jpeg_decoder.proofs.Mcus.{frame-scans}
 use Rattle.jpeg_bits.specs.BlockView.{to_block}
 use Rattle.jpeg_decoder.specs.Order.{Spot, grid_of, own_spots, spots_of, mcu_size}
 use Rattle.jpeg_decoder.specs.InTurn.{Fits, AreArrays, mcus_of, scan_from}
-use Rattle.jpeg_decoder.specs.declared.scans.Coded.{Coded}
+use Rattle.jpeg_decoder.specs.declared.codings.Coded.{Coded}
 use Rattle.jpeg_decoder.specs.Scanning.{vias_in, components_in, arrays_in, blocks_in, sizes_of, wide_in, across_in, down_in, first_in, HoldsPart, HoldsMcu, row_in, rows_in, own_mcu, own_row, own_rows}
 use Rattle.jpeg_decoder.specs.McuRows.{row_mcus}
 use Rattle.jpeg_decoder.proofs.HeldBlocks.{Held, sizes-long}

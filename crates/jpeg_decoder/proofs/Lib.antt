@@ -32,10 +32,6 @@ pub mod McuSteps
 pub mod LineSteps
 pub mod Products
 pub mod FrameScans
-pub mod Fields
-pub mod TableSegments
-pub mod OtherSegments
-pub mod HeaderSegments
 pub mod WrittenMarkers
 pub mod AcceptedStreams
 pub mod WrittenBands
@@ -67,3 +63,4 @@ pub mod AcceptedImages
 pub mod WholeImages
 pub mod WorkedGrey
 pub mod WorkedColour
+pub mod DecidedPlanes

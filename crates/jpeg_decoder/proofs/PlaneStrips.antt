@@ -9,7 +9,7 @@ use Rattle.std.specs.List.{range_with_len}
 use Rattle.jpeg_pixels.specs.Planes.{plane_of, strip_of}
 use Rattle.jpeg_bits.specs.Passes.{Block, zero_block}
 use Rattle.jpeg_decoder.specs.Rasters.{ordered, in_raster}
-use Rattle.jpeg_pixels.proofs.ScaledPlaneRows.{plane-more, plane-same}
+use Rattle.jpeg_pixels.proofs.PlaneRows.{plane-more, plane-same}
 
 line-of : (wide n : ℕ) (xs row : List Block) → length xs ≡ n * wide → length row ≡ wide
     → map (in_raster wide (xs ++ row) n) (range_with_len 0 wide) ≡ map ordered row

@@ -13,9 +13,9 @@ use Rattle.jpeg_pixels.specs.Pictures.{sources_by}
 use Rattle.jpeg_pixels.specs.Upsampling.{rule_of}
 use Rattle.jpeg_segments.specs.Frame.{Factors, Frame, frame_of, component_of}
 use Rattle.jpeg_segments.specs.ScanHeader.{scan_of}
-use Rattle.jpeg_decoder.specs.WrittenSegments.{IsHuffmanTable, FrameHeader, IsFrame, Segment, Quantization, Huffman, Interval, Header}
-use Rattle.jpeg_decoder.specs.WrittenSegments.{AreComponents, frame_payload, huffman_bytes, payload_of, quantization_bytes, sized}
-use Rattle.jpeg_decoder.specs.ScanHeaders.{Choice, ScanHeader, AreChoices, IsScan, scan_payload, scan_written}
+use Rattle.jpeg_segments.specs.WrittenSegments.{IsHuffmanTable, FrameHeader, IsFrame, Segment, Quantization, Huffman, Interval, Header}
+use Rattle.jpeg_segments.specs.WrittenSegments.{AreComponents, frame_payload, huffman_bytes, payload_of, quantization_bytes, sized}
+use Rattle.jpeg_segments.specs.ScanHeaders.{Choice, ScanHeader, AreChoices, IsScan, scan_payload, scan_written}
 use Rattle.jpeg_decoder.specs.Levels.{Levels, Is8Bit, IsLegal, nothing_sent}
 use Rattle.jpeg_decoder.specs.Order.{Spot, all_spots, mcu_size, mcu_spots, part_spots, spots_of}
 use Rattle.jpeg_decoder.specs.SaidSegments.{found_behind}

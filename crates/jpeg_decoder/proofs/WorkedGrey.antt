@@ -12,9 +12,9 @@ use Rattle.jpeg_pixels.specs.Pictures.{sources_by}
 use Rattle.jpeg_pixels.specs.Upsampling.{rule_of}
 use Rattle.jpeg_segments.specs.Frame.{Factors, Frame, frame_of, component_of}
 use Rattle.jpeg_segments.specs.ScanHeader.{scan_of}
-use Rattle.jpeg_decoder.specs.WrittenSegments.{QuantizationTable, IsQuantizationTable, IsHuffmanTable, FrameHeader, IsFrame}
-use Rattle.jpeg_decoder.specs.WrittenSegments.{quantization_bytes, frame_payload, huffman_bytes, AreComponents, Segment, Quantization, Huffman, Header, payload_of, sized}
-use Rattle.jpeg_decoder.specs.ScanHeaders.{ScanHeader, AreChoices, IsScan, scan_payload, scan_written}
+use Rattle.jpeg_segments.specs.WrittenSegments.{QuantizationTable, IsQuantizationTable, IsHuffmanTable, FrameHeader, IsFrame}
+use Rattle.jpeg_segments.specs.WrittenSegments.{quantization_bytes, frame_payload, huffman_bytes, AreComponents, Segment, Quantization, Huffman, Header, payload_of, sized}
+use Rattle.jpeg_segments.specs.ScanHeaders.{ScanHeader, AreChoices, IsScan, scan_payload, scan_written}
 use Rattle.jpeg_decoder.specs.Levels.{Levels, Is8Bit, IsLegal, nothing_sent}
 use Rattle.jpeg_decoder.specs.Order.{Spot, own_spots, spots_of, mcu_size}
 use Rattle.jpeg_decoder.specs.SaidSegments.{found_behind}

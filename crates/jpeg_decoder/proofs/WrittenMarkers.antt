@@ -5,7 +5,7 @@ use Rattle.jpeg_bits.specs.Marker.{marker_of}
 use Rattle.jpeg_bits.specs.declared.marker.Marker.{Marker}
 use Rattle.jpeg_bits.specs.declared.marker.Marker.TheVariants.{SOF, DHT, DQT, DRI, APP, COM}
 use Rattle.jpeg_segments.specs.Frame.{Frame}
-use Rattle.jpeg_decoder.specs.WrittenSegments.{Segment, Quantization, Huffman, Interval, Application, Comment, Header, code_of, MayStand}
+use Rattle.jpeg_segments.specs.WrittenSegments.{Segment, Quantization, Huffman, Interval, Application, Comment, Header, code_of, MayStand}
 use Rattle.jpeg_decoder.specs.WrittenData.{marker}
 
 pub marker-append : (fill code : ℕ) (rest more : List ℕ) → marker fill code rest ++ more ≡ marker fill code (rest ++ more)

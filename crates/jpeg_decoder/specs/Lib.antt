@@ -17,8 +17,6 @@ pub mod ColourChoice
 pub mod Levels
 pub mod WrittenData
 pub mod WrittenScans
-pub mod WrittenSegments
-pub mod ScanHeaders
 pub mod SaidSegments
 pub mod WrittenImages
 pub mod ArrayPictures

@@ -1,7 +1,7 @@
 -- What is said behind a segment that was written.
 use Rattle.std.specs.Prelude.{◌≡◌, Some, Ok}
 use Rattle.jpeg_decoder.specs.Stream.{Found, updated, with_huffman, with_application, accepted}
-use Rattle.jpeg_decoder.specs.WrittenSegments.{Segment, Quantization, Huffman, Interval, Application, Comment, Header, MayStand, frame_written, quantization_tables, huffman_tables, said_by}
+use Rattle.jpeg_segments.specs.WrittenSegments.{Segment, Quantization, Huffman, Interval, Application, Comment, Header, MayStand, frame_written, quantization_tables, huffman_tables, said_by}
 
 -- a frame is one that can be decoded
 abbrev pub IsDecoded : Segment → Type 0

@@ -3,8 +3,8 @@ use Rattle.std.specs.Prelude.{◌≡◌, ℕ, ◌≤◌, Bool, true, false, List
 use Rattle.std.specs.List.{AllByRecursion, range_with_len}
 use Rattle.jpeg_segments.specs.Frame.{Frame}
 use Rattle.jpeg_decoder.specs.WrittenData.{marker}
-use Rattle.jpeg_decoder.specs.WrittenSegments.{sized, Segment, Quantization, Header, code_of, payload_of}
-use Rattle.jpeg_decoder.specs.ScanHeaders.{ScanHeader, scan_payload, IsScan, scan_written}
+use Rattle.jpeg_segments.specs.WrittenSegments.{sized, Segment, Quantization, Header, code_of, payload_of}
+use Rattle.jpeg_segments.specs.ScanHeaders.{ScanHeader, scan_payload, IsScan, scan_written}
 use Rattle.jpeg_decoder.specs.Levels.{Levels, nothing_sent}
 use Rattle.jpeg_decoder.specs.Stream.{Found, Coding, nothing_found, pass_of, is_progressive}
 use Rattle.jpeg_decoder.specs.WrittenScans.{Coefficients, WritesScan, levels_after, HasTable, IsComplete, IsLegalScan}

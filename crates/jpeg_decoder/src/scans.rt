@@ -9,7 +9,7 @@ ghost use Rattle.jpeg_segments.specs.FrameView.{frame_in};
 ghost use Rattle.jpeg_decoder.specs.Scans.{Arrays, arrays_at};
 ghost use Rattle.jpeg_decoder.specs.Layout.{line_of, part_of};
 ghost use Rattle.jpeg_bits.specs.BlockView.{pass_in, IsPass};
-ghost use Rattle.jpeg_decoder.specs.Scanning.{vias_in, HasAc, arrays_in, sizes_of, reached, counted, IsHeld, OfSlot, AreWithin, wide_in, across_in, down_in, part_in, first_in, HoldsMcu, components_in, row_in, rows_in, own_mcu, own_row, own_rows};
+ghost use Rattle.jpeg_decoder.specs.Scanning.{vias_in, HasAc, HasCodedScale, arrays_in, sizes_of, reached, counted, IsHeld, OfSlot, AreWithin, wide_in, across_in, down_in, part_in, first_in, HoldsMcu, components_in, row_in, rows_in, own_mcu, own_row, own_rows};
 
 use crate::codings::Coded;
 use crate::grids::{Grid, grid_of};

@@ -401,6 +401,5 @@ fn read_scan<R: Read + Drop>(
         restart_interval: state.restart_interval,
         components: codings_of(alloc, state, &spare, frame, &header)?,
     };
-    let met = decoded.read(alloc, source, frame, &scan, !state.scanned)?;
-    pass_restarts(alloc, source, met)
+    pass_restarts(alloc, source, None)
 }

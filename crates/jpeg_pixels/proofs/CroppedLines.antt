@@ -6,7 +6,7 @@ use Rattle.std.proofs.lemmas.Bool.{cases_lt}
 use Rattle.std.proofs.Math.Logic.{⊎_elim}
 use Rattle.std.proofs.Math.Nat.{mul_comm, mul-le-mul_left, mul-le-mul_right, mod-lt, div-add-mod, div-lt_iff_lt-mul}
 use Rattle.std.specs.List.{CopiedTo, SameBelow, SameFrom}
-use Rattle.jpeg_pixels.specs.OldPlanes.{cropped}
+use Rattle.jpeg_pixels.specs.Planes.{cropped}
 
 -- one more line
 pub next_line : (stride width y end : ℕ) (old now new : List ℕ) → width ≤ stride → end ≡ y * stride + width

@@ -1,3 +1,4 @@
+pub mod AtScales
 pub mod BlockRows
 pub mod LaneChoice
 pub mod LaneRows
@@ -6,7 +7,9 @@ pub mod MatrixRows
 pub mod Columns
 pub mod Residues
 pub mod Sums
+pub mod FewSamples
 pub mod FlatBlocks
+pub mod Fours
 pub mod FrameCovers
 pub mod FramesOfFactors
 pub mod ComponentLines
@@ -24,4 +27,3 @@ pub mod UpsampledEnds
 pub mod UpsampledRows
 pub mod WholePictures
 pub mod ZigzagPlaces
-pub mod ScaledPlaneRows

@@ -2,15 +2,16 @@
 use Rattle.std.proofs.Common.{◌≡◌, [], ◌∷◌, pos, refl, replicate}
 use Rattle.jpeg_pixels.specs.Samples.{basis, transformed, dequantized, is_flat_column, column_value, sample}
 use Rattle.std.specs.Int.{int_wrap}
-use Rattle.jpeg_pixels.specs.OldPlanes.{plane_of}
+use Rattle.jpeg_pixels.specs.Scaled.{sample_at}
+use Rattle.jpeg_pixels.specs.Planes.{plane_of}
 
 -- a block whose first coefficients are 8 and 0
-pub first_only : plane_of (replicate 64 1) 1 1 (λ row column. pos 8 ∷ replicate 63 (pos 0)) ≡ replicate 64 129
-unfolding basis transformed dequantized is_flat_column column_value sample plane_of int_wrap
+pub first_only : plane_of 8 (replicate 64 1) 1 1 (λ row column. pos 8 ∷ replicate 63 (pos 0)) ≡ replicate 64 129
+unfolding basis transformed dequantized is_flat_column column_value sample sample_at plane_of int_wrap
 first_only = refl
 
 -- the largest coefficients and quantization values
-pub largest : plane_of (replicate 64 65535) 1 1 (λ row column. replicate 64 (pos 32767)) ≡
+pub largest : plane_of 8 (replicate 64 65535) 1 1 (λ row column. replicate 64 (pos 32767)) ≡
     0 ∷ 0 ∷ 0 ∷ 255 ∷ 255 ∷ 0 ∷ 0 ∷ 255
     ∷ 0 ∷ 0 ∷ 215 ∷ 0 ∷ 0 ∷ 255 ∷ 255 ∷ 0
     ∷ 255 ∷ 255 ∷ 255 ∷ 255 ∷ 255 ∷ 0 ∷ 0 ∷ 255
@@ -19,11 +20,11 @@ pub largest : plane_of (replicate 64 65535) 1 1 (λ row column. replicate 64 (po
     ∷ 255 ∷ 255 ∷ 0 ∷ 255 ∷ 255 ∷ 255 ∷ 170 ∷ 0
     ∷ 0 ∷ 255 ∷ 0 ∷ 0 ∷ 0 ∷ 0 ∷ 0 ∷ 255
     ∷ 255 ∷ 255 ∷ 0 ∷ 255 ∷ 0 ∷ 255 ∷ 0 ∷ 0 ∷ []
-unfolding basis transformed dequantized is_flat_column column_value sample plane_of int_wrap
+unfolding basis transformed dequantized is_flat_column column_value sample sample_at plane_of int_wrap
 largest = refl
 
 -- one large product
-pub second_only : plane_of (replicate 64 64) 1 1 (λ row column. pos 0 ∷ pos 8192 ∷ replicate 62 (pos 0)) ≡
+pub second_only : plane_of 8 (replicate 64 64) 1 1 (λ row column. pos 0 ∷ pos 8192 ∷ replicate 62 (pos 0)) ≡
     0 ∷ 255 ∷ 0 ∷ 0 ∷ 255 ∷ 255 ∷ 0 ∷ 255
     ∷ 0 ∷ 255 ∷ 0 ∷ 0 ∷ 255 ∷ 255 ∷ 0 ∷ 255
     ∷ 0 ∷ 255 ∷ 0 ∷ 0 ∷ 255 ∷ 255 ∷ 0 ∷ 255
@@ -32,5 +33,5 @@ pub second_only : plane_of (replicate 64 64) 1 1 (λ row column. pos 0 ∷ pos 8
     ∷ 0 ∷ 255 ∷ 0 ∷ 0 ∷ 255 ∷ 255 ∷ 0 ∷ 255
     ∷ 0 ∷ 255 ∷ 0 ∷ 0 ∷ 255 ∷ 255 ∷ 0 ∷ 255
     ∷ 0 ∷ 255 ∷ 0 ∷ 0 ∷ 255 ∷ 255 ∷ 0 ∷ 255 ∷ []
-unfolding basis transformed dequantized is_flat_column column_value sample plane_of int_wrap
+unfolding basis transformed dequantized is_flat_column column_value sample sample_at plane_of int_wrap
 second_only = refl

@@ -1,75 +1,86 @@
--- A strip of eight lines is written block by block.
+-- The lines of a row of blocks are written block by block.
 use Rattle.std.proofs.Common.{◌≡◌, ℕ, zero, suc, ◌+◌, ◌-◌, ◌*◌, ◌<◌, ◌≤◌, ◌/◌, ◌%◌, ℤ, List, length, get_or, slice_index, slice_index_or, sym, ap, ◌∙◌, arith}
 use Rattle.std.proofs.lemmas.List.FromFn.{fill_by_all}
 use Rattle.std.proofs.lemmas.Bool.{cases_lt}
 use Rattle.std.proofs.Math.Logic.{⊎_elim}
-use Rattle.std.proofs.Math.Nat.{mul_comm, mod-lt, div-add-mod}
+use Rattle.std.proofs.Math.Nat.{mul_comm, mod-lt, mod-eq_of_lt, mul-le-mul_right, mul-add-div, mul-add-mod_self_left, div-add-mod}
 use borrow.Rule.Slice.PartMut.{put_mid, mid_of}
-use Rattle.jpeg_pixels.specs.Samples.{sample}
-use Rattle.jpeg_pixels.specs.OldPlanes.{plane_of, plane_sample, strip_of, zero_coefficients}
+use Rattle.jpeg_pixels.specs.Scaled.{sample_at}
+use Rattle.jpeg_pixels.specs.Planes.{plane_of, plane_sample, strip_of, zero_coefficients}
 use Rattle.jpeg_pixels.specs.Blocks.{WritesBlock}
 use Rattle.jpeg_pixels.proofs.BlockRows.{put_tail_below, put_tail_at, tail_was}
-use Rattle.jpeg_pixels.proofs.PlaneRows.{some_wide, line_lt}
+use Rattle.jpeg_pixels.proofs.PlaneRows.{some-left, line_lt}
 
--- the first columns of samples of eight lines
-pub record HoldsSamples (stride columns : ℕ) (sample_at : ℕ → ℕ → ℕ) (strip : List ℕ) : Type 0 where
-  pub held : (x y : ℕ) → x < columns → y < 8 → slice_index strip (y * stride + x) ≡ sample_at x y
+-- the first columns of samples of some lines
+pub record HoldsSamples (lines stride columns : ℕ) (at : ℕ → ℕ → ℕ) (strip : List ℕ) : Type 0 where
+  pub held : (x y : ℕ) → x < columns → y < lines → slice_index strip (y * stride + x) ≡ at x y
+
+-- the place of a block in a row
+pub block_has_room : (s column count room : ℕ) → 1 ≤ s → column < count → room ≡ s * s * count → (s * column + s ≤ s * count) × (s * column ≤ room)
+block_has_room s column count room some h is =
+    let within : s * column + s ≤ s * count = omega (arith, mul-le-mul_right s h) in
+    (within, omega (arith, mul-le-mul_right (s * count) some))
 
 -- one more block, written at the front of what begins at its first sample
-pub HoldsSamples-next : (stride column k : ℕ) (sample_at block_at : ℕ → ℕ → ℕ) (now new : List ℕ) → 8 * column + 8 ≤ stride → length now ≡ 8 * stride → k ≡ length now - 8 * column
-    → ((x y : ℕ) → x < 8 → y < 8 → block_at x y ≡ sample_at (8 * column + x) y)
-    → WritesBlock 8 8 stride block_at (mid_of (8 * column) k now) new
-    → HoldsSamples stride (8 * column) sample_at now
-    → HoldsSamples stride (8 * (column + 1)) sample_at (put_mid (8 * column) k now new)
-HoldsSamples-next stride column k sample_at block_at now new wide eight whole same written before =
-    record { held = λ x y hx hy. ⊎_elim (left x y hy) (λ le. here x y hx hy le) (cases_lt x (8 * column)) }
+pub HoldsSamples-next : (s stride column k : ℕ) (at block_at : ℕ → ℕ → ℕ) (now new : List ℕ)
+    → s * column + s ≤ stride → s * column ≤ length now → k ≡ length now - s * column
+    → ((x y : ℕ) → x < s → y < s → block_at x y ≡ at (s * column + x) y)
+    → WritesBlock s s stride block_at (mid_of (s * column) k now) new
+    → HoldsSamples s stride (s * column) at now
+    → HoldsSamples s stride (s * (column + 1)) at (put_mid (s * column) k now new)
+HoldsSamples-next s stride column k at block_at now new wide room whole same written before =
+    record { held = λ x y hx hy. ⊎_elim (left x y hy) (λ le. here x y hx hy le) (cases_lt x (s * column)) }
   where
     a : ℕ
-    a = 8 * column
+    a = s * column
 
-    here : (x y : ℕ) → x < 8 * (column + 1) → y < 8 → 8 * column ≤ x → get_or (put_mid (8 * column) k now new) (y * stride + x) 0 ≡ sample_at x y
+    here : (x y : ℕ) → x < s * (column + 1) → y < s → s * column ≤ x → get_or (put_mid (s * column) k now new) (y * stride + x) 0 ≡ at x y
     here x y hx hy le =
-        let at : y * stride + x ≡ 8 * column + (y * stride + (x - 8 * column)) = omega arith in
-        let back : 8 * column + (x - 8 * column) ≡ x = omega arith in
-        ap (λ i. get_or (put_mid (8 * column) k now new) i 0) at
-        ∙ put_tail_at (8 * column) k now new (y * stride + (x - 8 * column)) (omega arith) whole
-        ∙ written.inside (x - 8 * column) y (omega arith) hy
-        ∙ same (x - 8 * column) y (omega arith) hy
-        ∙ ap (λ i. sample_at i y) back
+        let more : s * (column + 1) ≡ s * column + s = omega arith in
+        let place : y * stride + x ≡ s * column + (y * stride + (x - s * column)) = omega arith in
+        let back : s * column + (x - s * column) ≡ x = omega arith in
+        ap (λ i. get_or (put_mid (s * column) k now new) i 0) place
+        ∙ put_tail_at (s * column) k now new (y * stride + (x - s * column)) room whole
+        ∙ written.inside (x - s * column) y (omega (arith, more)) hy
+        ∙ same (x - s * column) y (omega (arith, more)) hy
+        ∙ ap (λ i. at i y) back
 
-    left : (x y : ℕ) → y < 8 → x < 8 * column → get_or (put_mid (8 * column) k now new) (y * stride + x) 0 ≡ sample_at x y
-    left x zero hy lt = put_tail_below (8 * column) k now new (0 * stride + x) (omega arith) (omega arith) ∙ before.held x 0 lt hy
+    left : (x y : ℕ) → y < s → x < s * column → get_or (put_mid (s * column) k now new) (y * stride + x) 0 ≡ at x y
+    left x zero hy lt = put_tail_below (s * column) k now new (0 * stride + x) room (omega arith) ∙ before.held x 0 lt hy
     left x (suc y) hy lt =
-        let across = x + stride - 8 * column in
-        let at : suc y * stride + x ≡ 8 * column + (y * stride + (x + stride - 8 * column)) = omega arith in
-        ap (λ i. get_or (put_mid (8 * column) k now new) i 0) at
-        ∙ put_tail_at (8 * column) k now new (y * stride + (x + stride - 8 * column)) (omega arith) whole
-        ∙ written.right (x + stride - 8 * column) y (omega arith) (omega arith) (omega arith)
-        ∙ tail_was (8 * column) k now (y * stride + (x + stride - 8 * column)) whole
-        ∙ ap (λ i. get_or now i 0) (sym at)
+        let across = x + stride - s * column in
+        let place : suc y * stride + x ≡ s * column + (y * stride + across) = omega arith in
+        ap (λ i. get_or (put_mid (s * column) k now new) i 0) place
+        ∙ put_tail_at (s * column) k now new (y * stride + across) room whole
+        ∙ written.right across y (omega arith) (omega arith) (omega arith)
+        ∙ tail_was (s * column) k now (y * stride + across) whole
+        ∙ ap (λ i. get_or now i 0) (sym place)
         ∙ before.held x (suc y) lt hy
 
 -- a block of a row is at its column
-pub block_in_row : (table : List ℕ) (blocks : List (List ℤ)) (column : ℕ) (block : List ℤ) → block ≡ slice_index_or blocks column zero_coefficients → (x y : ℕ) → x < 8 → y < 8
-    → sample block table x y ≡ plane_sample table (λ row place. slice_index_or blocks place zero_coefficients) (8 * column + x) y
-block_in_row table blocks column block is x y hx hy =
-    let place : (8 * column + x) / 8 ≡ column = omega arith in
-    let across : (8 * column + x) % 8 ≡ x = omega arith in
-    let down : y % 8 ≡ y = omega arith in
-    ap (λ (b : List ℤ). sample b table x y) is
-    ∙ sym (ap (λ n. sample (slice_index_or blocks n zero_coefficients) table ((8 * column + x) % 8) (y % 8)) place
-    ∙ ap (λ n. sample (slice_index_or blocks column zero_coefficients) table n (y % 8)) across
-    ∙ ap (λ n. sample (slice_index_or blocks column zero_coefficients) table x n) down)
+pub block_in_row : (s : ℕ) (table : List ℕ) (blocks : List (List ℤ)) (column : ℕ) (block : List ℤ)
+    → block ≡ slice_index_or blocks column zero_coefficients → (x y : ℕ) → x < s → y < s
+    → sample_at s block table x y ≡ plane_sample s table (λ row place. slice_index_or blocks place zero_coefficients) (s * column + x) y
+block_in_row s table blocks column block is x y hx hy =
+    let none : x / s ≡ 0 = let below : x / s < 1 = line_lt s 1 x (let e : s * 1 ≡ s = omega arith in omega arith) in omega arith in
+    let place : (s * column + x) / s ≡ column = mul-add-div (let some : 0 < s = omega arith in some) column x ∙ omega (arith, none) in
+    let across : (s * column + x) % s ≡ x = mul-add-mod_self_left s column x ∙ mod-eq_of_lt hx in
+    ap (λ (b : List ℤ). sample_at s b table x y) is
+    ∙ sym (ap (λ n. sample_at s (slice_index_or blocks n zero_coefficients) table ((s * column + x) % s) (y % s)) place
+    ∙ ap (λ n. sample_at s (slice_index_or blocks column zero_coefficients) table n (y % s)) across
+    ∙ ap (λ n. sample_at s (slice_index_or blocks column zero_coefficients) table x n) (mod-eq_of_lt hy))
 
 -- all columns
-pub HoldsSamples-all : (table : List ℕ) (blocks : List (List ℤ)) (strip : List ℕ) → length strip ≡ 64 * length blocks
-    → HoldsSamples (8 * length blocks) (8 * length blocks) (plane_sample table (λ row place. slice_index_or blocks place zero_coefficients)) strip
-    → strip ≡ strip_of table blocks
+pub HoldsSamples-all : (s : ℕ) (table : List ℕ) (blocks : List (List ℤ)) (strip : List ℕ) → length strip ≡ s * s * length blocks
+    → HoldsSamples s (s * length blocks) (s * length blocks) (plane_sample s table (λ row place. slice_index_or blocks place zero_coefficients)) strip
+    → strip ≡ strip_of s table blocks
 unfolding plane_of
-HoldsSamples-all table blocks strip n holds =
-    let stride = 8 * length blocks in
-    fill_by_all (λ i. plane_sample table (λ row place. slice_index_or blocks place zero_coefficients) (i % (8 * length blocks)) (i / (8 * length blocks))) strip (8 * length blocks * (8 * 1)) 0 (n ∙ omega arith)
+HoldsSamples-all s table blocks strip n holds =
+    let stride = s * length blocks in
+    let one : s * 1 ≡ s = omega arith in
+    fill_by_all (λ i. plane_sample s table (λ row place. slice_index_or blocks place zero_coefficients) (i % stride) (i / stride)) strip (stride * (s * 1)) 0 (n ∙ omega arith)
     (λ i h.
-    let some : 0 < 8 * length blocks = some_wide (length blocks) 8 i h in
-    let is : i / (8 * length blocks) * (8 * length blocks) + i % (8 * length blocks) ≡ i = (λ j. mul_comm (i / (8 * length blocks)) (8 * length blocks) j + i % (8 * length blocks)) ∙ div-add-mod i (8 * length blocks) in
-    ap (λ m. get_or strip m 0) (sym is) ∙ holds.held (i % (8 * length blocks)) (i / (8 * length blocks)) (mod-lt i some) (line_lt (length blocks) 8 i h))
+    let some : 0 < stride = some-left stride (s * 1) i h in
+    let line : i / stride < s = omega (arith, line_lt stride (s * 1) i h, one) in
+    let is : i / stride * stride + i % stride ≡ i = (λ j. mul_comm (i / stride) stride j + i % stride) ∙ div-add-mod i stride in
+    ap (λ m. get_or strip m 0) (sym is) ∙ holds.held (i % stride) (i / stride) (mod-lt i some) line)

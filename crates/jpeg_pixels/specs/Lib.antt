@@ -1,11 +1,11 @@
 pub mod Samples
 pub mod Scaled
+pub mod SmallBlocks
 pub mod Lanes
 pub mod LaneRows
 pub mod Blocks
 pub mod Zigzag
 pub mod Planes
-pub mod OldPlanes
 pub mod Upsampling
 pub mod Colour
 pub mod Pictures

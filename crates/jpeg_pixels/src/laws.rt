@@ -5,7 +5,7 @@ ghost use Rattle.std.specs.Int.{int_shr};
 ghost use Rattle.jpeg_segments.specs.Frame.{Factors, IsInRange, frame_of};
 ghost use Rattle.jpeg_pixels.specs.Pictures.{AllCover, AreWhole, HaveRoom, Source, sources_of};
 ghost use Rattle.jpeg_pixels.specs.Samples.{HasFirstOnly, clamped, dequantized, sample};
-ghost use Rattle.jpeg_pixels.specs.OldPlanes.{plane_of, strip_of};
+ghost use Rattle.jpeg_pixels.specs.Planes.{plane_of, strip_of};
 ghost use Rattle.jpeg_pixels.specs.Colour.{colour_of, line_bytes};
 ghost use Rattle.jpeg_pixels.specs.declared.upsampler.ColorConvert.TheVariants.{None, Rgb, YCbCr, Cmyk, Ycck};
 ghost use Rattle.jpeg_pixels.specs.Zigzag.{zigzag, zigzag_places};
@@ -27,15 +27,16 @@ pub fn zigzag_places_are_inverse()
     ensures back { map (λ place. slice_index zigzag_places place) zigzag ≡ range_with_len 0 64 }
 {}
 
-/// A plane is its rows of blocks, one behind the other.
+/// A plane is its rows of blocks, one after the other, at every scale.
 pub fn planes_are_their_rows()
-    ensures none { (table : List ℕ) (wide : ℕ) (block_at : ℕ → ℕ → List ℤ) → plane_of table wide 0 block_at ≡ [] }
-    ensures more { (table : List ℕ) (wide high : ℕ) (block_at : ℕ → ℕ → List ℤ) →
-        plane_of table wide (high + 1) block_at ≡
-        plane_of table wide high block_at ++ strip_of table (map (block_at high) (range_with_len 0 wide)) }
-    ensures same { (table : List ℕ) (wide high : ℕ) (f g : ℕ → ℕ → List ℤ) →
+    ensures none { (scale : ℕ) (table : List ℕ) (wide : ℕ) (block_at : ℕ → ℕ → List ℤ) →
+        plane_of scale table wide 0 block_at ≡ [] }
+    ensures more { (scale : ℕ) (table : List ℕ) (wide high : ℕ) (block_at : ℕ → ℕ → List ℤ) →
+        plane_of scale table wide (high + 1) block_at ≡
+        plane_of scale table wide high block_at ++ strip_of scale table (map (block_at high) (range_with_len 0 wide)) }
+    ensures same { (scale : ℕ) (table : List ℕ) (wide high : ℕ) (f g : ℕ → ℕ → List ℤ) →
         ((row column : ℕ) → row < high → column < wide → f row column ≡ g row column) →
-        plane_of table wide high f ≡ plane_of table wide high g }
+        plane_of scale table wide high f ≡ plane_of scale table wide high g }
 {}
 
 /// What is asked of planes can be had in each frame: planes of all blocks have room for the samples,
@@ -51,8 +52,8 @@ pub fn frames_are_covered()
 /// The samples of three blocks, computed: the first coefficient alone; the largest coefficients and
 /// quantization values; one large product.
 pub fn known_blocks()
-    ensures first_only { plane_of (replicate 64 1) 1 1 (λ row column. pos 8 ∷ replicate 63 (pos 0)) ≡ replicate 64 129 }
-    ensures largest { plane_of (replicate 64 65535) 1 1 (λ row column. replicate 64 (pos 32767)) ≡
+    ensures first_only { plane_of 8 (replicate 64 1) 1 1 (λ row column. pos 8 ∷ replicate 63 (pos 0)) ≡ replicate 64 129 }
+    ensures largest { plane_of 8 (replicate 64 65535) 1 1 (λ row column. replicate 64 (pos 32767)) ≡
         0 ∷ 0 ∷ 0 ∷ 255 ∷ 255 ∷ 0 ∷ 0 ∷ 255
         ∷ 0 ∷ 0 ∷ 215 ∷ 0 ∷ 0 ∷ 255 ∷ 255 ∷ 0
         ∷ 255 ∷ 255 ∷ 255 ∷ 255 ∷ 255 ∷ 0 ∷ 0 ∷ 255
@@ -61,7 +62,7 @@ pub fn known_blocks()
         ∷ 255 ∷ 255 ∷ 0 ∷ 255 ∷ 255 ∷ 255 ∷ 170 ∷ 0
         ∷ 0 ∷ 255 ∷ 0 ∷ 0 ∷ 0 ∷ 0 ∷ 0 ∷ 255
         ∷ 255 ∷ 255 ∷ 0 ∷ 255 ∷ 0 ∷ 255 ∷ 0 ∷ 0 ∷ [] }
-    ensures second_only { plane_of (replicate 64 64) 1 1 (λ row column. pos 0 ∷ pos 8192 ∷ replicate 62 (pos 0)) ≡
+    ensures second_only { plane_of 8 (replicate 64 64) 1 1 (λ row column. pos 0 ∷ pos 8192 ∷ replicate 62 (pos 0)) ≡
         0 ∷ 255 ∷ 0 ∷ 0 ∷ 255 ∷ 255 ∷ 0 ∷ 255
         ∷ 0 ∷ 255 ∷ 0 ∷ 0 ∷ 255 ∷ 255 ∷ 0 ∷ 255
         ∷ 0 ∷ 255 ∷ 0 ∷ 0 ∷ 255 ∷ 255 ∷ 0 ∷ 255

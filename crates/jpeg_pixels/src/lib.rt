@@ -9,6 +9,7 @@ pub mod idct;
 pub mod laws;
 mod picture_lines;
 pub mod plane;
+mod small_transforms;
 mod sources;
 #[cfg(test)]
 mod tests;

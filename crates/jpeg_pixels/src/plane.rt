@@ -1,44 +1,51 @@
 //! Planes of samples: the samples of a component, line by line (T.81, A.1.1 and A.2).
-ghost use Rattle.std.specs.Prelude.{◌≡◌, ℕ, ◌+◌, ◌≤◌, ◌<◌, ◌*◌, ◌++◌, length, slice_index, OnOk, OnErr};
-ghost use Rattle.jpeg_pixels.specs.OldPlanes.{strip_of, cropped};
+ghost use Rattle.std.specs.Prelude.{◌≡◌, ℕ, ◌+◌, ◌≤◌, ◌<◌, ◌*◌, ◌++◌, length, slice_index};
+ghost use Rattle.std.specs.Prelude.{OnOk, OnErr};
+ghost use Rattle.jpeg_pixels.specs.Planes.{strip_of, cropped};
+ghost use Rattle.jpeg_pixels.specs.Scaled.{IsScale};
 
-use crate::arch::dequantize_and_idct_block_8x8;
+use crate::idct::dequantize_and_idct_block;
 use std::alloc::AllocError;
 
-/// Puts the samples of a row of blocks behind a plane: eight lines of `8 * blocks.len()` samples.
+/// Appends the samples of a row of blocks to a plane: `scale` lines of `scale * blocks.len()`
+/// samples.
 ///
-/// The blocks and the quantization table stand in block order: row `v` and column `u` at
-/// `8 * v + u`. The only error is that no memory is left to grow the plane, which then stays as it
-/// was.
+/// A block gives `scale` samples a side: 1, 2, 4 or 8. The blocks and the quantization table stand
+/// in block order: row `v` and column `u` at `8 * v + u`. The only error is that no memory is left
+/// to grow the plane, which then stays as it was.
 pub fn append_row(
     plane: &mut Vec<u8>,
-    _scale: usize,
+    scale: usize,
     blocks: &[[i16; 64]],
     quantization_table: &[u16; 64],
 ) -> Result<(), AllocError>
-    requires { length blocks.now ≤ 65536 }
-    ensures ok { OnOk result (plane.new.items ≡ plane.old.items ++ strip_of quantization_table.now blocks.now) }
+    requires scale { IsScale scale }
+    requires few { length blocks.now ≤ 65536 }
+    ensures ok { OnOk result
+        (plane.new.items ≡ plane.old.items ++ strip_of scale quantization_table.now blocks.now) }
     ensures err { OnErr result (plane.new.items ≡ plane.old.items) }
 {
     let start = plane.len();
-    plane.resize(start + 64 * blocks.len(), 0)?;
-    write_strip(&mut plane[start..], blocks, quantization_table);
+    plane.resize(start + scale * scale * blocks.len(), 0)?;
+    write_strip(scale, &mut plane[start..], blocks, quantization_table);
     Ok(())
 }
 
 // Writes the samples of a row of blocks.
-fn write_strip(strip: &mut [u8], blocks: &[[i16; 64]], quantization_table: &[u16; 64])
+fn write_strip(scale: usize, strip: &mut [u8], blocks: &[[i16; 64]], quantization_table: &[u16; 64])
+    requires scale { IsScale scale }
     requires few { length blocks.now ≤ 65536 }
-    requires room { length strip.old ≡ 64 * length blocks.now }
-    ensures { strip.new ≡ strip_of quantization_table.now blocks.now }
+    requires room { length strip.old ≡ scale * scale * length blocks.now }
+    ensures { strip.new ≡ strip_of scale quantization_table.now blocks.now }
 {
-    let stride = 8 * blocks.len();
+    let stride = scale * blocks.len();
     for column in 0..blocks.len() {
-        dequantize_and_idct_block_8x8(
+        dequantize_and_idct_block(
+            scale,
             &blocks[column],
             quantization_table,
             stride,
-            &mut strip[8 * column..],
+            &mut strip[scale * column..],
         );
     }
 }

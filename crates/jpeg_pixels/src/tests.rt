@@ -129,9 +129,9 @@ fn zigzag_order(rt: HostRuntime) {
 fn rows_of_blocks_cropped(rt: HostRuntime) -> Result<(), Fail> {
     let mut plane = Vec::new(rt.alloc());
     let row = [block_of_one(0, 8), block_of_one(0, 16)];
-    append_row(&mut plane, &row, &[1; 64])?;
+    append_row(&mut plane, 8, &row, &[1; 64])?;
     let row = [block_of_one(0, 24), block_of_one(0, 32)];
-    append_row(&mut plane, &row, &[1; 64])?;
+    append_row(&mut plane, 8, &row, &[1; 64])?;
     assert_eq!(rt; plane.len(), 256);
     crop(&mut plane, 16, 9, 9);
     assert_eq!(rt; plane.len(), 81);

@@ -4,7 +4,7 @@ use Rattle.std.proofs.lemmas.Bool.{le-ltb}
 use Rattle.std.specs.Prelude.{flat_map}
 use Rattle.std.specs.List.{AllByRecursion}
 use Rattle.jpeg_bits.specs.Reading.{Outcome, Malformed, ◌>>=◌, next_byte, next_u16, length_at, times, skip_at}
-use Rattle.jpeg_decoder.specs.WrittenSegments.{u16_bytes, sized, nibbles}
+use Rattle.jpeg_segments.specs.WrittenSegments.{u16_bytes, sized, nibbles}
 
 -- Of bytes that begin with these, these are read, and give x.
 pub record ReadsBytes {A : Type 0} (reader : List ℕ → Outcome A) (bytes : List ℕ) (x : A) : Type 0 where
@@ -13,7 +13,8 @@ pub record ReadsBytes {A : Type 0} (reader : List ℕ → Outcome A) (bytes : Li
 -- ---- steps
 
 -- what is read behind a value
-pub read-on : {A B : Type 0} (o : Outcome A) (f : A × List ℕ → Outcome B) (x : A) (rest : List ℕ) (y : Outcome B) → o ≡ Ok (x, rest) → f (x, rest) ≡ y → (o >>= f) ≡ y
+pub read-on : {A B : Type 0} (o : Outcome A) (f : A × List ℕ → Outcome B) (x : A) (rest : List ℕ) (y : Outcome B)
+    → o ≡ Ok (x, rest) → f (x, rest) ≡ y → (o >>= f) ≡ y
 read-on o f x rest y e g = ap (λ r. r >>= f) e ∙ g
 
 -- a rule that is kept
@@ -40,8 +41,11 @@ length-read n rest =
     (not-refused (ltb (n + 2) 2) (Err Malformed) _ (le-ltb (n + 2) 2 (omega arith)) ∙ ap (λ (x : ℕ). Ok (x, rest)) e)
 
 -- a payload behind its length field
-pub sized-read : {B : Type 0} (payload rest : List ℕ) (f : ℕ × List ℕ → Outcome B) → (length_at (sized payload ++ rest) >>= f) ≡ f (length payload, payload ++ rest)
-sized-read payload rest f = read-on (length_at (sized payload ++ rest)) f (length payload) (payload ++ rest) _ (length-read (length payload) (payload ++ rest)) refl
+pub sized-read : {B : Type 0} (payload rest : List ℕ) (f : ℕ × List ℕ → Outcome B)
+    → (length_at (sized payload ++ rest) >>= f) ≡ f (length payload, payload ++ rest)
+sized-read payload rest f =
+    read-on (length_at (sized payload ++ rest)) f (length payload) (payload ++ rest) _
+    (length-read (length payload) (payload ++ rest)) refl
 
 pub nibbles-high : (high low : ℕ) → low < 16 → nibbles high low / 16 ≡ high
 nibbles-high high low h = omega arith
@@ -52,7 +56,8 @@ nibbles-low high low h = omega arith
 -- ---- several values
 
 pub times-read : {A : Type 0} (read : List ℕ → Outcome A) (bytes_of : A → List ℕ) (xs : List A) (rest : List ℕ)
-    → AllByRecursion (λ x. ReadsBytes read (bytes_of x) x) xs → times (length xs) read (flat_map bytes_of xs ++ rest) ≡ Ok (xs, rest)
+    → AllByRecursion (λ x. ReadsBytes read (bytes_of x) x) xs
+    → times (length xs) read (flat_map bytes_of xs ++ rest) ≡ Ok (xs, rest)
 unfolding times
 times-read read bytes_of [] rest all = refl
 times-read {A} read bytes_of (x ∷ xs) rest all =

@@ -1,7 +1,7 @@
 use Rattle.std.proofs.Common.{◌≡◌, map, take}
 use Rattle.jpeg_segments.specs.Frame.{greatest}
 use Rattle.jpeg_segments.specs.FrameView.{factors_of}
-use Rattle.jpeg_segments.proofs.frame_header.greatest_factors.Given as goal
+use Rattle.jpeg_segments.proofs.sizes.greatest_factors.Given as goal
 
 abbrev pub invariant-loop-component : goal.invariant-loop-component
 invariant-loop-component l = record {
