@@ -64,3 +64,4 @@ pub mod WholeImages
 pub mod WorkedGrey
 pub mod WorkedColour
 pub mod DecidedPlanes
+pub mod DecodedImages

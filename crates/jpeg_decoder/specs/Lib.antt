@@ -22,3 +22,4 @@ pub mod WrittenImages
 pub mod ArrayPictures
 pub mod WholeImages
 pub mod WorkedImages
+pub mod DecodedImages
