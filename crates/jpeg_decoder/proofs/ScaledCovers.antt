@@ -9,9 +9,10 @@ use Rattle.jpeg_segments.specs.Frame.{Component, Factors, IsInRange, ceiling, co
 use Rattle.jpeg_pixels.specs.declared.upsampler.UpsampleRule.{UpsampleRule}
 use Rattle.jpeg_pixels.specs.declared.upsampler.UpsampleRule.TheVariants.{H1V1, H2V1, H1V2, H2V2, Generic}
 use Rattle.jpeg_pixels.specs.Upsampling.{across, divides, down, rule_of}
-use Rattle.jpeg_pixels.specs.Pictures.{HasSources, AllCover, AreWhole, Covers, Source, source_by, sources_by, sources_of, factors_of}
+use Rattle.jpeg_pixels.specs.Pictures.{AllCover, AreWhole, Covers, Source, source_by, sources_by, sources_of, factors_of}
 use Rattle.jpeg_pixels.proofs.FrameCovers.{ceiling-low, ceiling-high}
 use Rattle.jpeg_segments.specs.Scales.{component_at, frame_at}
+use Rattle.jpeg_pixels.specs.Pictures.{HasSources}
 use Rattle.jpeg_decoder.proofs.FrameFits.{ceiling-le, factors-back}
 use Rattle.jpeg_decoder.proofs.Mcus.{some-product}
 

@@ -9,6 +9,7 @@ mod decoded;
 pub mod decoder;
 mod frames;
 mod grids;
+pub mod headline;
 pub mod laws;
 mod metadata;
 mod picture;
