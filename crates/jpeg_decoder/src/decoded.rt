@@ -313,15 +313,15 @@ impl Decoded {
         &mut self,
         alloc: Global,
         scan: &Scan<'_>,
-        arrays: &[Vec<[i16; 64]>],
+        arrays: &Vec<Vec<[i16; 64]>>,
     ) -> std::result::Result<(), AllocError>
         requires pass { IsPass (pass_in scan.now.pass) }
         requires places { All HasPlace scan.now.components.items }
         requires scales { All HasCodedScale scan.now.components.items }
-        requires blocks { AreArrays (components_in scan.now.components.items) (arrays_in arrays.now) }
+        requires blocks { AreArrays (components_in scan.now.components.items) (arrays_in arrays.now.items) }
         ensures held { OnOk result (self.new.held ≡ self.old.held) }
         ensures planes { OnOk result ((base : Found) → with_decoded base self.new
-            ≡ with_arrays (pass_in scan.now.pass) (map coding_in scan.now.components.items) (arrays_in arrays.now) (with_decoded base self.old)) }
+            ≡ with_arrays (pass_in scan.now.pass) (map coding_in scan.now.components.items) (arrays_in arrays.now.items) (with_decoded base self.old)) }
     {
         let mut slot = 0;
         while slot < scan.components.len() {
