@@ -37,3 +37,4 @@ pub mod ScanCodings
 pub mod TakenBlocks
 pub mod BlocksBefore
 pub mod RenderedPlanes
+pub mod PlacedCodings
