@@ -1,5 +1,5 @@
 -- A scan of a frame is its MCUs.
-use Rattle.std.proofs.Common.{◌≡◌, ℕ, zero, suc, ◌+◌, ◌-◌, ◌*◌, ◌<◌, ◌≤◌, List, [], ◌∷◌, ◌++◌, map, length, get_or, refl, sym, ap, ap₂, ◌∙◌, arith, add-mul, suc-mul}
+use Rattle.std.proofs.Common.{◌≡◌, ℕ, zero, suc, ◌+◌, ◌*◌, ◌<◌, ◌≤◌, List, [], ◌∷◌, ◌++◌, map, length, get_or, refl, sym, ap, ap₂, ◌∙◌, arith, add-mul, suc-mul}
 use Rattle.std.proofs.lemmas.List.{length-map}
 use Rattle.std.proofs.Math.Nat.{mul-le-mul_right}
 use Rattle.std.specs.List.{AllByRecursion, range_with_len, flat_map}
@@ -12,8 +12,8 @@ use Rattle.jpeg_decoder.proofs.Mcus.{frame-scans}
 use Rattle.jpeg_bits.specs.BlockView.{to_block}
 use Rattle.jpeg_decoder.specs.Order.{Spot, grid_of, own_spots, spots_of, mcu_size}
 use Rattle.jpeg_decoder.specs.InTurn.{Fits, AreArrays, mcus_of, scan_from}
-use Rattle.jpeg_decoder.specs.declared.scans.Coded.{Coded}
-use Rattle.jpeg_decoder.specs.Scanning.{vias_in, components_in, arrays_in, blocks_in, sizes_of, wide_in, across_in, down_in, first_in, HoldsPart, HoldsMcu, row_in, rows_in, own_mcu, own_row, own_rows}
+use Rattle.jpeg_decoder.specs.declared.codings.Coded.{Coded}
+use Rattle.jpeg_decoder.specs.Scanning.{vias_in, components_in, arrays_in, sizes_of, wide_in, across_in, down_in, HoldsMcu, row_in, rows_in, own_rows}
 use Rattle.jpeg_decoder.specs.McuRows.{row_mcus}
 use Rattle.jpeg_decoder.proofs.HeldBlocks.{Held, sizes-long}
 
@@ -39,7 +39,7 @@ place-within row column v down across mcus_wide mcus_high wide high r k h e f =
     let o : suc v * wide ≡ v * wide + wide = suc-mul v wide in
     omega arith
 
-fits-at : (frame : Frame) (cs : List Coded) (slot : ℕ) (c : Coded) → slot < length cs → c ≡ get_or cs slot c → AllByRecursion (Fits frame) (components_in cs) → Fits frame (component_in c.component)
+fits-at : (frame : Frame) (cs : List Coded) (slot : ℕ) (c : Coded) → slot < length cs → c ≡ get_or cs slot c → AllByRecursion (Fits frame) (components_in cs) → Fits frame (component_in c.component.now)
 fits-at frame [] slot c h e fits = absurd (omega arith)
 fits-at frame (x ∷ cs) zero c h e fits = rw e fits.0
 fits-at frame (x ∷ cs) (suc slot) c h e fits = fits-at frame cs slot c (omega arith) e fits.1
@@ -51,11 +51,11 @@ long-enough (c ∷ cs) [] h = absurd h
 long-enough (c ∷ cs) (v ∷ vs) h = let e = long-enough cs vs h.1 in omega arith
 
 size-of : (cs : List Coded) (vs : List Held) (slot : ℕ) (c : Coded) → slot < length cs → c ≡ get_or cs slot c → AreArrays (components_in cs) (arrays_in vs)
-    → get_or (sizes_of vs) slot 0 ≡ c.component.block_size.height * wide_in c
+    → get_or (sizes_of vs) slot 0 ≡ c.component.now.block_size.height * wide_in c
 unfolding AreArrays
 size-of [] vs slot c l e h = absurd (omega arith)
 size-of (x ∷ cs) [] slot c l e h = absurd h
-size-of (x ∷ cs) (v ∷ vs) zero c l e h = sym (length-map v.items to_block) ∙ h.0 ∙ ap (λ (y : Coded). y.component.block_size.height * wide_in y) (sym e)
+size-of (x ∷ cs) (v ∷ vs) zero c l e h = sym (length-map v.items to_block) ∙ h.0 ∙ ap (λ (y : Coded). y.component.now.block_size.height * wide_in y) (sym e)
 size-of (x ∷ cs) (v ∷ vs) (suc slot) c l e h = size-of cs vs slot c (omega arith) e h.1
 
 pub holds : (frame : Frame) (cs : List Coded) (vs : List Held) (row column : ℕ) → AllByRecursion (Fits frame) (components_in cs) → AreArrays (components_in cs) (arrays_in vs)
@@ -65,7 +65,7 @@ holds frame cs vs row column fits arrays r k = record {
   parts = λ slot c l e v h.
       let f = fits-at frame cs slot c l e fits in
       let s = size-of cs vs slot c l e arrays in
-      let p = place-within row column v (down_in c) (across_in c) frame.mcus_wide frame.mcus_high (wide_in c) c.component.block_size.height r k h f.wide f.high in
+      let p = place-within row column v (down_in c) (across_in c) frame.mcus_wide frame.mcus_high (wide_in c) c.component.now.block_size.height r k h f.wide f.high in
       omega arith;
 }
 
@@ -77,7 +77,7 @@ pub several-scan : (frame : Frame) (cs : List Coded) (vs : List Held) (p : Pass)
     ≡ scan_from p (vias_in 0 cs) n (rows_in (components_in cs) frame.mcus_wide frame.mcus_high) (arrays_in vs) bytes
 several-scan frame [] vs p n bytes h fits arrays = absurd (omega arith)
 several-scan frame (c ∷ cs) vs p n bytes h fits arrays =
-    frame-scans frame (component_in c.component) (components_in cs) p (vias_in 0 (c ∷ cs)) n (arrays_in vs) bytes fits arrays
+    frame-scans frame (component_in c.component.now) (components_in cs) p (vias_in 0 (c ∷ cs)) n (arrays_in vs) bytes fits arrays
     ∙ ap (λ (mcus : List (List Spot)). scan_from p (vias_in 0 (c ∷ cs)) n mcus (arrays_in vs) bytes) (mcus-several frame (c ∷ cs) h)
 
 -- ---- a scan of one component
@@ -120,11 +120,11 @@ alone-within frame (c ∷ d ∷ cs) vs g l is fits arrays row h = absurd (omega 
 alone-within frame (c ∷ []) vs g l is fits arrays row h =
     let s = size-of (c ∷ []) vs 0 c (omega arith) refl arrays in
     let w : g.wide ≡ wide_in c = ap (λ (x : Grid). x.wide) is.0 in
-    let o : g.own_wide ≡ (grid_of (component_in c.component)).own_wide = ap (λ (x : Grid). x.own_wide) is.0 in
-    let k : g.own_high ≡ (grid_of (component_in c.component)).own_high = ap (λ (x : Grid). x.own_high) is.0 in
+    let o : g.own_wide ≡ (grid_of (component_in c.component.now)).own_wide = ap (λ (x : Grid). x.own_wide) is.0 in
+    let k : g.own_high ≡ (grid_of (component_in c.component.now)).own_high = ap (λ (x : Grid). x.own_high) is.0 in
     let fw = fits.0.own_wide in
     let fh = fits.0.own_high in
-    rw (w, o) (row-within row (wide_in c) (grid_of (component_in c.component)).own_wide (grid_of (component_in c.component)).own_high (get_or (sizes_of vs) 0 0) c.component.block_size.height (rw k at h) fw fh s)
+    rw (w, o) (row-within row (wide_in c) (grid_of (component_in c.component.now)).own_wide (grid_of (component_in c.component.now)).own_high (get_or (sizes_of vs) 0 0) c.component.now.block_size.height (rw k at h) fw fh s)
 
 pub alone-scan : (frame : Frame) (cs : List Coded) (vs : List Held) (g : Grid) (p : Pass) (n : ℕ) (bytes : List ℕ) → length cs ≡ 1 → AllByRecursion (λ (c : Component). g ≡ grid_of c) (components_in cs)
     → AllByRecursion (Fits frame) (components_in cs) → AreArrays (components_in cs) (arrays_in vs)
@@ -133,8 +133,8 @@ pub alone-scan : (frame : Frame) (cs : List Coded) (vs : List Held) (g : Grid) (
 alone-scan frame [] vs g p n bytes l is fits arrays = absurd (omega arith)
 alone-scan frame (c ∷ d ∷ cs) vs g p n bytes l is fits arrays = absurd (omega arith)
 alone-scan frame (c ∷ []) vs g p n bytes l is fits arrays =
-    frame-scans frame (component_in c.component) [] p (vias_in 0 (c ∷ [])) n (arrays_in vs) bytes fits arrays
-    ∙ ap (λ (mcus : List (List Spot)). scan_from p (vias_in 0 (c ∷ [])) n mcus (arrays_in vs) bytes) (mcus-alone frame (component_in c.component))
+    frame-scans frame (component_in c.component.now) [] p (vias_in 0 (c ∷ [])) n (arrays_in vs) bytes fits arrays
+    ∙ ap (λ (mcus : List (List Spot)). scan_from p (vias_in 0 (c ∷ [])) n mcus (arrays_in vs) bytes) (mcus-alone frame (component_in c.component.now))
     ∙ ap (λ (x : Grid). scan_from p (vias_in 0 (c ∷ [])) n (own_rows x.wide x.own_wide x.own_high) (arrays_in vs) bytes) (sym is.0)
 
 pub some-size : (cs : List Coded) (vs : List Held) → length cs ≡ 1 → AreArrays (components_in cs) (arrays_in vs) → 0 < length (sizes_of vs)

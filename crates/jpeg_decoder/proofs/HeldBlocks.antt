@@ -1,5 +1,5 @@
 -- Blocks that are held, as they are read and put back.
-use Rattle.std.proofs.Common.{◌≡◌, ℕ, zero, suc, ◌+◌, ◌-◌, ◌<◌, ◌≤◌, List, [], ◌∷◌, map, length, get_or, set, ℤ, pos, Result, Ok, Err, refl, sym, ap, ◌∙◌, arith, length-set}
+use Rattle.std.proofs.Common.{◌≡◌, ℕ, zero, suc, ◌+◌, ◌<◌, List, [], ◌∷◌, map, length, get_or, set, ℤ, pos, Ok, Err, refl, sym, ap, ◌∙◌, arith, length-set}
 use Rattle.std.specs.declared.alloc.Global.{Global}
 use Rattle.std.specs.declared.vec.Vec.{Vec}
 use Rattle.std.specs.Vec.{with_item}
@@ -9,9 +9,9 @@ use Rattle.jpeg_bits.specs.Entropy.{Text}
 use Rattle.jpeg_bits.specs.Readers.{Reads, gives, read_on}
 use Rattle.jpeg_bits.specs.Passes.{Pass, Via, Block, zero_block, block_from}
 use Rattle.jpeg_decoder.specs.Order.{Spot}
-use Rattle.jpeg_decoder.specs.Scans.{Arrays, block_at, put_block, via_at, no_table}
+use Rattle.jpeg_decoder.specs.Scans.{Arrays, block_at, put_block, via_at}
 use Rattle.jpeg_decoder.specs.InTurn.{Reached, turn_from}
-use Rattle.jpeg_decoder.specs.declared.scans.Coded.{Coded}
+use Rattle.jpeg_decoder.specs.declared.codings.Coded.{Coded}
 use Rattle.jpeg_bits.specs.BlockView.{to_block}
 use Rattle.jpeg_decoder.specs.Scanning.{vias_in, blocks_in, arrays_in, sizes_of}
 
@@ -52,7 +52,7 @@ block-held vs slot index v x h e i f =
     ∙ get-map to_block v.items index x zero_block i ∙ sym (ap to_block f)
 
 abbrev pub via_of : ℕ → Coded → Via
-via_of slot c = record { component = slot; dc = c.dc; ac = c.ac }
+via_of slot c = record { component = slot; dc = c.dc.now; ac = c.ac.now }
 
 via-from : (cs : List Coded) (from slot : ℕ) (c : Coded) (d : Via) → slot < length cs → c ≡ get_or cs slot c → get_or (vias_in from cs) slot d ≡ via_of (from + slot) c
 unfolding vias_in
@@ -78,18 +78,18 @@ module _ (p : Pass) (cs : List Coded) (slot index : ℕ) (c : Coded) (vs : List 
   abbrev old : Reached
   old = record { arrays = arrays_in vs; predictors = predictors; run = run }
 
-  turn-is : (t : Text) → turn_from p (vias_in 0 cs) (spot slot index) old t ≡ read_on (put_turn slot slot index old) (block_from p c.dc c.ac z run (to_block x) t)
+  turn-is : (t : Text) → turn_from p (vias_in 0 cs) (spot slot index) old t ≡ read_on (put_turn slot slot index old) (block_from p c.dc.now c.ac.now z run (to_block x) t)
   turn-is t =
       turn-whole p (vias_in 0 cs) slot index old t
       ∙ ap (λ (w : Via). read_on (put_turn w.component slot index old) (block_from p w.dc w.ac (get_or predictors w.component (pos 0)) run (block_at (arrays_in vs) (spot slot index)) t)) (via-is cs slot c coded is)
-      ∙ ap (λ (b : Block). read_on (put_turn slot slot index old) (block_from p c.dc c.ac (get_or predictors slot (pos 0)) run b t)) (block-held vs slot index v x inside array within block)
-      ∙ ap (λ (y : ℤ). read_on (put_turn slot slot index old) (block_from p c.dc c.ac y run (to_block x) t)) (sym predictor)
+      ∙ ap (λ (b : Block). read_on (put_turn slot slot index old) (block_from p c.dc.now c.ac.now (get_or predictors slot (pos 0)) run b t)) (block-held vs slot index v x inside array within block)
+      ∙ ap (λ (y : ℤ). read_on (put_turn slot slot index old) (block_from p c.dc.now c.ac.now y run (to_block x) t)) (sym predictor)
 
-  pub turn-read : (y : List ℤ) (next : ℤ) (more : ℕ) (t u : Text) → block_from p c.dc c.ac z run (to_block x) t ≡ Ok ((to_block y, next, more), u)
+  pub turn-read : (y : List ℤ) (next : ℤ) (more : ℕ) (t u : Text) → block_from p c.dc.now c.ac.now z run (to_block x) t ≡ Ok ((to_block y, next, more), u)
       → turn_from p (vias_in 0 cs) (spot slot index) old t ≡ Ok (record { arrays = arrays_in (set vs slot (with_item v index y)); predictors = set predictors slot next; run = more }, u)
   turn-read y next more t u e =
       turn-is t ∙ ap (read_on (put_turn slot slot index old)) e
       ∙ ap (λ (a : Arrays). Ok (record { arrays = a; predictors = set predictors slot next; run = more }, u)) (sym (arrays-set vs slot index v y inside array))
 
-  pub turn-refused : (t : Text) (f : Fault) → block_from p c.dc c.ac z run (to_block x) t ≡ Err f → turn_from p (vias_in 0 cs) (spot slot index) old t ≡ Err f
+  pub turn-refused : (t : Text) (f : Fault) → block_from p c.dc.now c.ac.now z run (to_block x) t ≡ Err f → turn_from p (vias_in 0 cs) (spot slot index) old t ≡ Err f
   turn-refused t f e = turn-is t ∙ ap (read_on (put_turn slot slot index old)) e

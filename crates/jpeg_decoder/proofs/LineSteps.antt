@@ -1,12 +1,11 @@
 -- Steps of the loops over the blocks of an MCU.
-use Rattle.std.proofs.Common.{◌≡◌, ℕ, zero, suc, ◌+◌, ◌-◌, ◌*◌, ◌<◌, ◌≤◌, ◌==◌, ◌&&◌, nat_lt, Bool, true, false, List, [], ◌∷◌, ◌++◌, length, get_or, Result, Ok, Err, refl, sym, ap, ◌∙◌, arith, suc-mul}
+use Rattle.std.proofs.Common.{◌≡◌, ℕ, zero, suc, ◌+◌, ◌-◌, ◌*◌, ◌%◌, ◌<◌, ◌≤◌, ◌==◌, ◌&&◌, nat_lt, Bool, true, false, List, Ok, Err, refl, ap, ◌∙◌, arith, suc-mul}
 use Rattle.std.proofs.lemmas.Bool.{lt-ltb, ne_eqb}
 use Rattle.jpeg_bits.specs.Reading.{Fault}
 use Rattle.jpeg_bits.specs.Entropy.{Text}
 use Rattle.jpeg_bits.specs.Readers.{Reads, gives, read_on}
 use Rattle.jpeg_bits.specs.Passes.{Pass, Via}
-use Rattle.jpeg_decoder.specs.Order.{Spot}
-use Rattle.jpeg_decoder.specs.InTurn.{Reached, turn_from, turns_from, at_start, restart_from, Counted, begun_from, mcu_from}
+use Rattle.jpeg_decoder.specs.InTurn.{Reached, turn_from, turns_from, at_start, restart_from, Counted, begun_from}
 use Rattle.jpeg_decoder.proofs.Mcus.{turns-append}
 use Rattle.jpeg_decoder.specs.Layout.{line_of, part_of}
 use Rattle.jpeg_decoder.specs.Scanning.{AreWithin}
@@ -75,7 +74,7 @@ begun_none n old t e = rw e refl
 
 abbrev begun_by : ℕ → Counted → Bool → Reads Counted
 begun_by n old b t = (elim b as (λ _. Reads Counted) [
-  | true ↦ λ u. read_on (λ (x : Unit {0}). gives (record { reached = at_start old.reached.arrays; left = n; number = suc old.number })) (restart_from old.number u)
+  | true ↦ λ u. read_on (λ (x : Unit {0}). gives (record { reached = at_start old.reached.arrays; left = n; number = (old.number + 1) % 8 })) (restart_from old.number u)
   | false ↦ gives old
 ]) t
 
@@ -97,12 +96,12 @@ begun-restart n old t h e =
     begun-is n old t ∙ ap (λ (b : Bool). begun_by n old (b && old.left == 0) t) (lt-ltb 0 n h) ∙ ap (λ (k : ℕ). begun_by n old (k == 0) t) e
 
 pub begun_next : (n : ℕ) (old : Counted) (t u : Text) → 0 < n → old.left ≡ 0 → restart_from old.number t ≡ Ok (tt, u)
-    → begun_from n old t ≡ Ok (record { reached = at_start old.reached.arrays; left = n; number = suc old.number }, u)
+    → begun_from n old t ≡ Ok (record { reached = at_start old.reached.arrays; left = n; number = (old.number + 1) % 8 }, u)
 begun_next n old t u h e r =
-    begun-restart n old t h e ∙ ap (read_on (λ (x : Unit {0}). gives (record { reached = at_start old.reached.arrays; left = n; number = suc old.number }))) r
+    begun-restart n old t h e ∙ ap (read_on (λ (x : Unit {0}). gives (record { reached = at_start old.reached.arrays; left = n; number = (old.number + 1) % 8 }))) r
 
 pub begun_refused : (n : ℕ) (old : Counted) (t : Text) (f : Fault) → 0 < n → old.left ≡ 0 → restart_from old.number t ≡ Err f → begun_from n old t ≡ Err f
 begun_refused n old t f h e r =
-    begun-restart n old t h e ∙ ap (read_on (λ (x : Unit {0}). gives (record { reached = at_start old.reached.arrays; left = n; number = suc old.number }))) r
+    begun-restart n old t h e ∙ ap (read_on (λ (x : Unit {0}). gives (record { reached = at_start old.reached.arrays; left = n; number = (old.number + 1) % 8 }))) r
 
 pub ruleset begun_rules = (begun_none, begun_within, begun_next, begun_refused)

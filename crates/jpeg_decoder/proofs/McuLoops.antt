@@ -1,9 +1,9 @@
 -- Steps of the loops over the blocks of a scan: what is left behind one more turn, at a refusal, and at the end.
-use Rattle.std.proofs.Common.{◌≡◌, ℕ, zero, suc, ◌+◌, ◌-◌, ◌<◌, ◌≤◌, List, [], ◌∷◌, ◌++◌, map, drop, length, get_or, Result, Ok, Err, refl, sym, ap, ap₂, ◌∙◌, arith}
+use Rattle.std.proofs.Common.{◌≡◌, ℕ, zero, suc, ◌+◌, ◌-◌, ◌<◌, ◌≤◌, List, [], ◌∷◌, map, drop, length, get_or, Ok, Err, refl, ap, ◌∙◌, arith}
 use Rattle.std.specs.List.{range_with_len, flat_map}
 use Rattle.jpeg_bits.specs.Reading.{Fault}
 use Rattle.jpeg_bits.specs.Entropy.{Text}
-use Rattle.jpeg_bits.specs.Readers.{Reads, read_on}
+use Rattle.jpeg_bits.specs.Readers.{read_on}
 use Rattle.jpeg_segments.specs.Frame.{Component}
 use Rattle.jpeg_bits.specs.Passes.{Pass, Via}
 use Rattle.jpeg_decoder.specs.Order.{Spot, part_spots, mcu_spots}

@@ -1,5 +1,5 @@
 -- The blocks of an MCU, component by component.
-use Rattle.std.proofs.Common.{◌≡◌, ℕ, zero, suc, ◌+◌, ◌-◌, ◌*◌, ◌<◌, ◌≤◌, List, [], ◌∷◌, ◌++◌, map, drop, length, get_or, Result, Ok, Err, refl, sym, ap, ap₂, ◌∙◌, arith, add-mul, suc-mul}
+use Rattle.std.proofs.Common.{◌≡◌, ℕ, zero, suc, ◌+◌, ◌-◌, ◌*◌, ◌<◌, ◌≤◌, List, [], ◌∷◌, ◌++◌, map, drop, length, get_or, Ok, Err, refl, sym, ap, ap₂, ◌∙◌, arith, add-mul, suc-mul}
 use Rattle.std.specs.List.{range_with_len, flat_map}
 use Rattle.jpeg_bits.specs.Reading.{Fault}
 use Rattle.jpeg_bits.specs.Entropy.{Text}
@@ -9,7 +9,7 @@ use Rattle.jpeg_bits.specs.Passes.{Pass, Via}
 use Rattle.jpeg_decoder.specs.Order.{Spot, part_spot, part_spots, mcu_spots}
 use Rattle.jpeg_decoder.specs.InTurn.{Reached, turns_from, Counted, begun_from, mcu_from}
 use Rattle.jpeg_decoder.proofs.Mcus.{turns-append}
-use Rattle.jpeg_decoder.specs.declared.scans.Coded.{Coded}
+use Rattle.jpeg_decoder.specs.declared.codings.Coded.{Coded}
 use Rattle.jpeg_decoder.specs.Layout.{line_of, part_of}
 use Rattle.jpeg_decoder.specs.Scanning.{components_in, wide_in, across_in, down_in, part_in, first_in}
 use Rattle.jpeg_decoder.proofs.HeldBlocks.{spot}
@@ -38,11 +38,11 @@ part-same g slot wide count k (suc n) index same =
         let d : index + suc v * wide ≡ index + wide + v * wide = omega (arith, suc-mul v wide) in
         ap g c ∙ same (suc v) ∙ ap (λ (i : ℕ). line_of slot i count) d))
 
-part-is : (row column slot : ℕ) (c : Coded) → part_spots row column slot (component_in c.component) ≡ part_in slot (first_in row column c) c
+part-is : (row column slot : ℕ) (c : Coded) → part_spots row column slot (component_in c.component.now) ≡ part_in slot (first_in row column c) c
 unfolding part_spots
 part-is row column slot c =
-    part-same (λ v. map (part_spot row column slot (component_in c.component) v) (range_with_len 0 (across_in c))) slot (wide_in c) (across_in c) 0 (down_in c) (first_in row column c) (λ v.
-      line-same (part_spot row column slot (component_in c.component) (0 + v)) slot 0 (across_in c) (first_in row column c + v * wide_in c) (λ h.
+    part-same (λ v. map (part_spot row column slot (component_in c.component.now) v) (range_with_len 0 (across_in c))) slot (wide_in c) (across_in c) 0 (down_in c) (first_in row column c) (λ v.
+      line-same (part_spot row column slot (component_in c.component.now) (0 + v)) slot 0 (across_in c) (first_in row column c + v * wide_in c) (λ h.
         let a : (row * down_in c + (0 + v)) * wide_in c ≡ row * down_in c * wide_in c + (0 + v) * wide_in c = add-mul (row * down_in c) (0 + v) (wide_in c) in
         let z : 0 + v ≡ v = omega arith in
         let b : (0 + v) * wide_in c ≡ v * wide_in c = ap (λ (k : ℕ). k * wide_in c) z in
@@ -68,7 +68,7 @@ slot-more : (p : Pass) (vias : List Via) (row column slot : ℕ) (cs : List Code
 unfolding mcu_spots
 slot-more p vias row column slot cs c old t h e =
     ap (λ (l : List Coded). turns_from p vias (mcu_spots row column slot (components_in l)) old t) (next-slot slot cs c h e)
-    ∙ turns-append p vias (part_spots row column slot (component_in c.component)) (left_of row column (slot + 1) cs) old t
+    ∙ turns-append p vias (part_spots row column slot (component_in c.component.now)) (left_of row column (slot + 1) cs) old t
     ∙ ap (λ (l : List Spot). read_on (turns_from p vias (left_of row column (slot + 1) cs)) (turns_from p vias l old t)) (part-is row column slot c)
 
 pub slot_step : (p : Pass) (vias : List Via) (row column slot : ℕ) (cs : List Coded) (c : Coded) (old new : Reached) (t u : Text) → slot < length cs → c ≡ get_or cs slot c

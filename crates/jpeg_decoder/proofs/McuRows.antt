@@ -1,5 +1,5 @@
 -- A scan of several components is its rows of MCUs, each read into blocks of its own.
-use Rattle.std.proofs.Common.{◌≡◌, ◌⊎◌, inl, inr, ℕ, zero, suc, ◌+◌, ◌-◌, ◌*◌, ◌/◌, ◌≤◌, ◌<◌, Bool, true, false, List, [], ◌∷◌, ◌++◌, map, length, set, get_or, replicate, ℤ, pos, Result, Ok, Err, refl, sym, ap, ap₂, ◌∙◌, subst, append_assoc, append-nil, arith, length-set}
+use Rattle.std.proofs.Common.{◌≡◌, ◌⊎◌, inl, inr, ℕ, zero, suc, ◌+◌, ◌-◌, ◌*◌, ◌/◌, ◌%◌, ◌≤◌, ◌<◌, Bool, true, false, List, [], ◌∷◌, ◌++◌, map, length, set, get_or, replicate, ℤ, pos, Result, Ok, Err, refl, sym, ap, ap₂, ◌∙◌, subst, append_assoc, append-nil, arith, length-set}
 use Rattle.std.specs.Prelude.{◌==◌, ◌&&◌, nat_lt, min}
 use Rattle.std.specs.List.{AllByRecursion, range_with_len, flat_map}
 use Rattle.jpeg_bits.specs.Reading.{Fault}
@@ -212,7 +212,7 @@ unfolding begun_from
 begun-shifted n front rest old t = test (nat_lt 0 n && old.left == 0)
   where
     start : Arrays → Counted
-    start arrays = record { reached = at_start arrays; left = n; number = suc old.number }
+    start arrays = record { reached = at_start arrays; left = n; number = (old.number + 1) % 8 }
 
     one : (o : Result (Unit {0} × Text) Fault)
         → read_on (λ (u : Unit {0}). gives (start (around front old.reached.arrays rest))) o
@@ -237,7 +237,7 @@ unfolding begun_from
 begun-keeps P n old t h = test (nat_lt 0 n && old.left == 0)
   where
     start : Counted
-    start = record { reached = at_start old.reached.arrays; left = n; number = suc old.number }
+    start = record { reached = at_start old.reached.arrays; left = n; number = (old.number + 1) % 8 }
 
     one : (o : Result (Unit {0} × Text) Fault) → KeepsCounted P (read_on (λ (u : Unit {0}). gives start) o)
     one (Ok r) = h

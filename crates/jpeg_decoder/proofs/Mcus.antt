@@ -1,5 +1,5 @@
 -- A scan is its MCUs one after the other.
-use Rattle.std.proofs.Common.{◌≡◌, ◌⊎◌, inl, inr, ℕ, zero, suc, ◌+◌, ◌-◌, ◌*◌, ◌≤◌, ◌<◌, Bool, true, false, List, [], ◌∷◌, ◌++◌, map, take, drop, length, Option, Result, Ok, Err, refl, sym, ap, ap₂, ◌∙◌, append_assoc, append-nil, arith, length-drop, take-append-drop}
+use Rattle.std.proofs.Common.{◌≡◌, ◌⊎◌, inl, inr, ℕ, zero, suc, ◌+◌, ◌-◌, ◌*◌, ◌%◌, ◌≤◌, ◌<◌, Bool, true, false, List, [], ◌∷◌, ◌++◌, map, take, drop, length, Option, Some, None, Result, Ok, Err, refl, sym, ap, ap₂, ◌∙◌, append_assoc, append-nil, arith, length-drop, take-append-drop}
 use Rattle.std.specs.Prelude.{◌==◌, ◌&&◌, nat_lt, sum_by}
 use Rattle.std.specs.List.{AllByRecursion, range_with_len, flat_map}
 use Rattle.std.proofs.Math.Nat.{add-mul, mul-add, mul_comm}
@@ -10,6 +10,7 @@ use Rattle.jpeg_bits.specs.Reading.{Outcome, Fault, Malformed}
 use Rattle.jpeg_bits.specs.Entropy.{Text, upcoming, fresh, marker_from}
 use Rattle.jpeg_bits.specs.Readers.{Reads, read_on, gives}
 use Rattle.jpeg_bits.specs.declared.marker.Marker.{Marker}
+use Rattle.jpeg_bits.specs.declared.marker.Marker.TheVariants.{SOF, JPG, DHT, DAC, RST, SOI, EOI, SOS, DQT, DNL, DRI, DHP, EXP, APP, JPGn, COM, TEM, RES}
 use Rattle.jpeg_segments.specs.Frame.{Frame, Component}
 use Rattle.jpeg_bits.specs.Passes.{Pass, Via}
 use Rattle.jpeg_bits.specs.Intervals.{groups, first_group, other_groups, is_restart}
@@ -71,7 +72,7 @@ fewer n left more (inl e) = inl e
 fewer n left more (inr l) = inr (omega arith)
 
 abbrev pub begun_by : ℕ → Counted → Bool → Reads Counted
-begun_by n old true t = read_on (λ (u : Unit {0}). gives (counted n (suc old.number) (at_start old.reached.arrays))) (restart_from old.number t)
+begun_by n old true t = read_on (λ (u : Unit {0}). gives (counted n ((old.number + 1) % 8) (at_start old.reached.arrays))) (restart_from old.number t)
 begun_by n old false t = Ok (old, t)
 
 begun-same : (n : ℕ) (old : Counted) (t : Text) → (nat_lt 0 n && old.left == 0) ≡ false → begun_from n old t ≡ Ok (old, t)
@@ -80,7 +81,7 @@ begun-same n old t e = begun-test (nat_lt 0 n && old.left == 0) ∙ ap (λ (b : 
   where
     begun-test : (b : Bool) → ◌≡◌ {A = Result (Counted × Text) Fault}
         ((elim b as (λ _. Reads Counted) [
-          | true ↦ (λ (v : Text). read_on (λ (u : Unit {0}). gives (record { reached = at_start old.reached.arrays; left = n; number = suc old.number })) (restart_from old.number v))
+          | true ↦ (λ (v : Text). read_on (λ (u : Unit {0}). gives (record { reached = at_start old.reached.arrays; left = n; number = (old.number + 1) % 8 })) (restart_from old.number v))
           | false ↦ gives old
         ]) t)
         (begun_by n old b t)
@@ -88,13 +89,13 @@ begun-same n old t e = begun-test (nat_lt 0 n && old.left == 0) ∙ ap (λ (b : 
     begun-test false = refl
 
 begun-restarts : (n : ℕ) (old : Counted) (t : Text) → (nat_lt 0 n && old.left == 0) ≡ true
-    → begun_from n old t ≡ read_on (λ (u : Unit {0}). gives (counted n (suc old.number) (at_start old.reached.arrays))) (restart_from old.number t)
+    → begun_from n old t ≡ read_on (λ (u : Unit {0}). gives (counted n ((old.number + 1) % 8) (at_start old.reached.arrays))) (restart_from old.number t)
 unfolding begun_from
 begun-restarts n old t e = begun-test (nat_lt 0 n && old.left == 0) ∙ ap (λ (b : Bool). begun_by n old b t) e
   where
     begun-test : (b : Bool) → ◌≡◌ {A = Result (Counted × Text) Fault}
         ((elim b as (λ _. Reads Counted) [
-          | true ↦ (λ (v : Text). read_on (λ (u : Unit {0}). gives (record { reached = at_start old.reached.arrays; left = n; number = suc old.number })) (restart_from old.number v))
+          | true ↦ (λ (v : Text). read_on (λ (u : Unit {0}). gives (record { reached = at_start old.reached.arrays; left = n; number = (old.number + 1) % 8 })) (restart_from old.number v))
           | false ↦ gives old
         ]) t)
         (begun_by n old b t)
@@ -122,11 +123,11 @@ mcus-within p vias n (m ∷ mcus) left number old t h =
 -- where none is left, a restart stands before the next
 restarts : (p : Pass) (vias : List Via) (n number : ℕ) (m : List Spot) (mcus : List (List Spot)) (old : Reached) (t : Text) → 0 < n
     → mcus_from p vias n (m ∷ mcus) (counted 0 number old) t
-    ≡ read_on (λ (u : Unit {0}). mcus_from p vias n (m ∷ mcus) (counted n (suc number) (at_start old.arrays))) (restart_from number t)
+    ≡ read_on (λ (u : Unit {0}). mcus_from p vias n (m ∷ mcus) (counted n ((number + 1) % 8) (at_start old.arrays))) (restart_from number t)
 unfolding mcus_from mcu_from
 restarts p vias n number m mcus old t some =
     let next = mcus_from p vias n mcus in
-    let c = counted n (suc number) (at_start old.arrays) in
+    let c = counted n ((number + 1) % 8) (at_start old.arrays) in
     let step : Counted → Reads Counted = λ now. λ v. read_on (λ r. gives (record { reached = r; left = now.left - 1; number = now.number })) (turns_from p vias m now.reached v) in
     ap (λ (o : Result (Counted × Text) Fault). read_on next (read_on step o))
     (begun-restarts n (counted 0 number old) t (ap (λ (b : Bool). b && 0 == 0) (lt-ltb 0 n some)))
@@ -259,19 +260,52 @@ behind-restart p vias k old t F G same = go (marker_from t)
     go (Ok m) = test m (is_restart k m.0)
     go (Err e) = refl
 
-pub intervals-in-mcus : (p : Pass) (vias : List Via) (n size fuel : ℕ) (xs ys : List (List Spot)) (k : ℕ) (arrays : Arrays) (bytes : List ℕ)
+-- a number that counts modulo 8
+is-same : (j k : ℕ) → j ≡ k % 8 → (m : Option Marker) → is_restart j m ≡ is_restart k m
+is-same j k e None = refl
+is-same j k e (Some (RST n)) = let f : j % 8 ≡ k % 8 = omega (arith, e) in ap (λ (i : ℕ). n == i) f
+is-same j k e (Some (SOF n)) = refl
+is-same j k e (Some JPG) = refl
+is-same j k e (Some DHT) = refl
+is-same j k e (Some DAC) = refl
+is-same j k e (Some SOI) = refl
+is-same j k e (Some EOI) = refl
+is-same j k e (Some SOS) = refl
+is-same j k e (Some DQT) = refl
+is-same j k e (Some DNL) = refl
+is-same j k e (Some DRI) = refl
+is-same j k e (Some DHP) = refl
+is-same j k e (Some EXP) = refl
+is-same j k e (Some (APP n)) = refl
+is-same j k e (Some (JPGn n)) = refl
+is-same j k e (Some COM) = refl
+is-same j k e (Some TEM) = refl
+is-same j k e (Some RES) = refl
+
+restart-same : (j k : ℕ) (t : Text) → j ≡ k % 8 → restart_from j t ≡ restart_from k t
+unfolding restart_from
+restart-same j k t e = go (marker_from t)
+  where
+    go : (o : Outcome (Option Marker))
+        → ◌≡◌ {A = Result (Unit {0} × Text) Fault}
+        (reading.◌>>=◌ o (λ (m : Option Marker × List ℕ). elim (is_restart j m.0) [ true ↦ Ok (tt, upcoming fresh m.1) | false ↦ Err Malformed ]))
+        (reading.◌>>=◌ o (λ (m : Option Marker × List ℕ). elim (is_restart k m.0) [ true ↦ Ok (tt, upcoming fresh m.1) | false ↦ Err Malformed ]))
+    go (Ok m) = ap (λ (b : Bool). elim b as (λ _. Result (Unit {0} × Text) Fault) [ true ↦ Ok (tt, upcoming fresh m.1) | false ↦ Err Malformed ]) (is-same j k e m.0)
+    go (Err f) = refl
+
+pub intervals-in-mcus : (p : Pass) (vias : List Via) (n size fuel : ℕ) (xs ys : List (List Spot)) (j k : ℕ) (arrays : Arrays) (bytes : List ℕ) → j ≡ k % 8
     → 0 < n → 0 < size → length (flat ys) ≤ fuel → length xs ≤ n → (ys ≡ []) ⊎ (length xs ≡ n) → AreOf size ys
-    → finished (mcus_from p vias n (xs ++ ys) (counted n k (at_start arrays)) (upcoming fresh bytes))
+    → finished (mcus_from p vias n (xs ++ ys) (counted n j (at_start arrays)) (upcoming fresh bytes))
     ≡ intervals_from p vias k (flat xs) (groups fuel (n * size) (flat ys)) arrays bytes
 unfolding intervals_from interval_from
-intervals-in-mcus p vias n size fuel xs [] k arrays bytes some each few most whole of =
-    ap (λ (l : List (List Spot)). finished (mcus_from p vias n l (counted n k (at_start arrays)) (upcoming fresh bytes))) (append-nil xs)
-    ∙ one-interval p vias n k xs arrays bytes (inr most)
+intervals-in-mcus p vias n size fuel xs [] j k arrays bytes same some each few most whole of =
+    ap (λ (l : List (List Spot)). finished (mcus_from p vias n l (counted n j (at_start arrays)) (upcoming fresh bytes))) (append-nil xs)
+    ∙ one-interval p vias n j xs arrays bytes (inr most)
     ∙ ap (λ (l : List (List Spot)). intervals_from p vias k (flat xs) l arrays bytes) (sym (groups-none fuel (n * size)))
-intervals-in-mcus p vias n size zero xs (y ∷ ys) k arrays bytes some each few most whole of =
+intervals-in-mcus p vias n size zero xs (y ∷ ys) j k arrays bytes same some each few most whole of =
     let l = longer y (flat ys) in let e = of.0 in absurd (omega arith)
-intervals-in-mcus p vias n size (suc fuel) xs (y ∷ ys) k arrays bytes some each few most (inl none) of = absurd (cc)
-intervals-in-mcus p vias n size (suc fuel) xs (y ∷ ys) k arrays bytes some each few most (inr whole) of =
+intervals-in-mcus p vias n size (suc fuel) xs (y ∷ ys) j k arrays bytes same some each few most (inl none) of = absurd (cc)
+intervals-in-mcus p vias n size (suc fuel) xs (y ∷ ys) j k arrays bytes same some each few most (inr whole) of =
     let zs = y ∷ ys in
     let f = flat zs in
     let N = n * size in
@@ -282,20 +316,21 @@ intervals-in-mcus p vias n size (suc fuel) xs (y ∷ ys) k arrays bytes some eac
     let few-more : length (flat (drop n zs)) ≤ fuel
     = let d = length-drop N f in let e = ap length (drop-mcus size n zs of) in omega arith in
     let F : Arrays → List ℕ → Outcome (Arrays × Option Marker) = λ a b. intervals_from p vias (suc k) (take N f) (groups fuel N (drop N f)) a b in
-    let rec : (a : Arrays) (b : List ℕ) → finished (mcus_from p vias n zs (counted n (suc k) (at_start a)) (upcoming fresh b)) ≡ F a b
+    let rec : (a : Arrays) (b : List ℕ) → finished (mcus_from p vias n zs (counted n ((j + 1) % 8) (at_start a)) (upcoming fresh b)) ≡ F a b
     = λ a b.
-    ap (λ (l : List (List Spot)). finished (mcus_from p vias n l (counted n (suc k) (at_start a)) (upcoming fresh b))) (sym (take-append-drop n zs))
-    ∙ intervals-in-mcus p vias n size fuel (take n zs) (drop n zs) (suc k) a b some each few-more (take-most n zs) (cut-either n zs) (drop-of size n zs of)
+    ap (λ (l : List (List Spot)). finished (mcus_from p vias n l (counted n ((j + 1) % 8) (at_start a)) (upcoming fresh b))) (sym (take-append-drop n zs))
+    ∙ intervals-in-mcus p vias n size fuel (take n zs) (drop n zs) ((j + 1) % 8) (suc k) a b (let f : (j + 1) % 8 ≡ suc k % 8 = omega (arith, same) in f) some each few-more (take-most n zs) (cut-either n zs) (drop-of size n zs of)
     ∙ ap₂ (λ (l m : List Spot). intervals_from p vias (suc k) l (groups fuel N m) a b) (sym (take-mcus size n zs of)) (sym (drop-mcus size n zs of)) in
     let o = turns_from p vias (flat xs) start t in
-    ap finished (mcus-append p vias n xs zs (counted n k start) t
-    ∙ ap (read_on (mcus_from p vias n zs)) (mcus-within p vias n xs n k start t (inr most)
-    ∙ ap (λ (i : ℕ). read_on (λ r. gives (counted i k r)) o) (omega arith))
-    ∙ on-on (λ r. gives (counted 0 k r)) (mcus_from p vias n zs) o
-    ∙ same-on (λ r. λ v. mcus_from p vias n zs (counted 0 k r) v)
-    (λ r. λ v. read_on (λ (u : Unit {0}). mcus_from p vias n zs (counted n (suc k) (at_start r.arrays))) (restart_from k v))
-    (λ r v. restarts p vias n k y ys r v some) o)
-    ∙ close (λ r. mcus_from p vias n zs (counted n (suc k) (at_start r.arrays))) F (λ r b. rec r.arrays b) o
+    ap finished (mcus-append p vias n xs zs (counted n j start) t
+    ∙ ap (read_on (mcus_from p vias n zs)) (mcus-within p vias n xs n j start t (inr most)
+    ∙ ap (λ (i : ℕ). read_on (λ r. gives (counted i j r)) o) (omega arith))
+    ∙ on-on (λ r. gives (counted 0 j r)) (mcus_from p vias n zs) o
+    ∙ same-on (λ r. λ v. mcus_from p vias n zs (counted 0 j r) v)
+    (λ r. λ v. read_on (λ (u : Unit {0}). mcus_from p vias n zs (counted n ((j + 1) % 8) (at_start r.arrays))) (restart_from k v))
+    (λ r v. restarts p vias n j y ys r v some
+    ∙ ap (read_on (λ (u : Unit {0}). mcus_from p vias n zs (counted n ((j + 1) % 8) (at_start r.arrays)))) (restart-same j k v same)) o)
+    ∙ close (λ r. mcus_from p vias n zs (counted n ((j + 1) % 8) (at_start r.arrays))) F (λ r b. rec r.arrays b) o
     ∙ ap (λ (l : List (List Spot)). intervals_from p vias k (flat xs) l arrays bytes) (sym (groups-cons fuel N f long))
   where
     close : (G : Reached → Reads Counted) (F : Arrays → List ℕ → Outcome (Arrays × Option Marker))
@@ -329,7 +364,7 @@ scans-by-mcus p vias (suc n) size mcus arrays bytes each of =
     = let d = length-drop N f in let e = ap length (drop-mcus size (suc n) mcus of) in omega arith in
     ap₂ (λ (l : List Spot) (m : List (List Spot)). intervals_from p vias 0 l m arrays bytes) (first-some N f product) (others-some N f product)
     ∙ ap₂ (λ (l m : List Spot). intervals_from p vias 0 l (groups (length f) N m) arrays bytes) (take-mcus size (suc n) mcus of) (drop-mcus size (suc n) mcus of)
-    ∙ sym (intervals-in-mcus p vias (suc n) size (length f) (take (suc n) mcus) (drop (suc n) mcus) 0 arrays bytes (omega arith) each few
+    ∙ sym (intervals-in-mcus p vias (suc n) size (length f) (take (suc n) mcus) (drop (suc n) mcus) 0 0 arrays bytes (let z : 0 ≡ 0 % 8 = omega arith in z) (omega arith) each few
     (take-most (suc n) mcus) (cut-either (suc n) mcus) (drop-of size (suc n) mcus of))
     ∙ ap (λ (l : List (List Spot)). finished (mcus_from p vias (suc n) l (counted (suc n) 0 (at_start arrays)) (upcoming fresh bytes))) (take-append-drop (suc n) mcus)
 

@@ -1,5 +1,5 @@
 -- The codings of a scan are those of components of the frame, in the order of its header.
-use Rattle.std.proofs.Common.{◌≡◌, ◌<◌, ℕ, zero, suc, List, [], ◌∷◌, Some, Ok, Err, refl, sym, ap, ap₂, ◌∙◌, length, get_or, map, drop, arith, All, Option, None, Result, subst}
+use Rattle.std.proofs.Common.{◌≡◌, ◌<◌, ◌+◌, inl, inr, ℕ, zero, suc, List, [], ◌∷◌, Some, Ok, Err, refl, sym, ap, ap₂, ◌∙◌, length, get_or, map, drop, arith, All, Option, None, Result, subst}
 use Rattle.std.specs.List.{AllByRecursion}
 use Rattle.std.proofs.lemmas.List.{length-map}
 use Rattle.std.specs.Prelude.{◌==◌, nat_lt}
@@ -10,9 +10,10 @@ use Rattle.jpeg_bits.specs.Reading.{Fault, ◌>>=◌}
 use Rattle.jpeg_segments.specs.Frame.{Frame, Component}
 use Rattle.jpeg_segments.specs.FrameView.{component_in}
 use Rattle.jpeg_segments.specs.HuffmanTables.{Tables}
-use Rattle.jpeg_segments.specs.ScanHeader.{Scan}
+use Rattle.jpeg_segments.specs.ScanHeader.{Scan, IsRising}
 use Rattle.jpeg_pixels.specs.Scaled.{IsScale}
 use Rattle.jpeg_decoder.specs.declared.codings.Coded.{Coded}
+use Rattle.jpeg_decoder.specs.InTurn.{AreApart, IsIn}
 use Rattle.jpeg_decoder.specs.Scanning.{HasCodedScale, components_in}
 use Rattle.jpeg_decoder.specs.Stream.{Found, Coding, first_of, needed, needed_if, coding_of, codings_from}
 use Rattle.jpeg_decoder.specs.Steps.{coding_in, codings_in_force}
@@ -186,3 +187,18 @@ coded-within cs places n e h k d lt =
     place-at [] k d lt = absurd (omega arith)
     place-at (c ∷ cs) zero d lt = refl
     place-at (c ∷ cs) (suc k) d lt = place-at cs k d (omega arith)
+
+-- ---- the places of a header are apart
+
+not-in-rising : (place least : ℕ) (places : List ℕ) → place < least → IsRising least places → IsIn place places → ⊥
+unfolding IsRising
+not-in-rising place least [] h r i = i
+not-in-rising place least (p ∷ places) h r (inl same) = absurd (omega (arith, r.0, same))
+not-in-rising place least (p ∷ places) h r (inr i) = not-in-rising place (p + 1) places (omega (arith, r.0)) r.1 i
+
+-- Places that rise are apart.
+pub rising-apart : (least : ℕ) (places : List ℕ) → IsRising least places → AreApart places
+unfolding IsRising
+rising-apart least [] r = tt
+rising-apart least (p ∷ places) r = (not-in-rising p (p + 1) places (omega arith) r.1, rising-apart (p + 1) places
+    r.1)

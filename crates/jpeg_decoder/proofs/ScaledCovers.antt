@@ -11,7 +11,8 @@ use Rattle.jpeg_pixels.specs.declared.upsampler.UpsampleRule.TheVariants.{H1V1, 
 use Rattle.jpeg_pixels.specs.Upsampling.{across, divides, down, rule_of}
 use Rattle.jpeg_pixels.specs.Pictures.{AllCover, AreWhole, Covers, Source, source_by, sources_by, sources_of, factors_of}
 use Rattle.jpeg_pixels.proofs.FrameCovers.{ceiling-low, ceiling-high}
-use Rattle.jpeg_segments.specs.Scales.{component_at, frame_at, HasSources}
+use Rattle.jpeg_segments.specs.Scales.{component_at, frame_at}
+use Rattle.jpeg_pixels.specs.Pictures.{HasSources}
 use Rattle.jpeg_decoder.proofs.FrameFits.{ceiling-le, factors-back}
 use Rattle.jpeg_decoder.proofs.Mcus.{some-product}
 

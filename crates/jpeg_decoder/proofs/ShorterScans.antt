@@ -1,18 +1,19 @@
 -- What a scan leaves.
-use Rattle.std.proofs.Common.{◌+◌, ◌-◌, ◌*◌, ◌/◌, ◌%◌, ◌^◌, ◌<◌, ℕ, zero, suc, List, [], ◌∷◌, drop, replicate, set, get_or, Bool, true, false, Option, Err, ℤ, pos, length}
+use Rattle.std.proofs.Common.{◌+◌, ◌-◌, ◌*◌, ◌/◌, ◌%◌, ◌^◌, ◌<◌, ℕ, zero, suc, List, [], ◌∷◌, take, drop, set, get_or, Bool, true, false, Option, Err, ℤ, pos, length}
 use Rattle.std.specs.Prelude.{◌==◌, nat_le, nat_lt}
 use Rattle.jpeg_bits.specs.Reading.{Outcome, Malformed}
 use Rattle.jpeg_bits.specs.Entropy.{upcoming, fresh, marker_from, bits_from}
-use Rattle.jpeg_bits.specs.Readers.{Reads, gives, refused, signed_from}
+use Rattle.jpeg_bits.specs.Readers.{Reads, ◌>>=◌, gives, refused, signed_from}
 use Rattle.jpeg_bits.specs.Codes.{Table, symbol_from, code_from}
 use Rattle.jpeg_bits.specs.declared.marker.Marker.{Marker}
 use Rattle.jpeg_bits.specs.declared.tokens.Token.{Token}
 use Rattle.jpeg_bits.specs.declared.tokens.Token.TheVariants.{Value, Sixteen, Rest, Overlong}
-use Rattle.jpeg_decoder.specs.declared.grids.Grid.{Grid}
 use Rattle.jpeg_bits.specs.Bands.{Band, category_number, difference, first_dc, token_at, token_from, behind_token, first_ac}
-use Rattle.jpeg_bits.specs.Passes.{Pass, Via, Block, dc_part, band_part, band_of, block_from, blocks_of, whole_pass, zero_block}
+use Rattle.jpeg_bits.specs.Passes.{Pass, Via, Block, dc_part, band_part, band_of, block_from, blocks_of}
 use Rattle.jpeg_bits.specs.Intervals.{interval, intervals, is_restart, blocks_before, predictors_at_start, first_group, other_groups}
-use Rattle.jpeg_decoder.specs.Scans.{plane_at}
+use Rattle.jpeg_bits.specs.Refinement.{is_zero, bit_of, moved, fits_i16, corrected_by, corrected, through_zero, refined_piece, refined_ac}
+use Rattle.jpeg_decoder.specs.Order.{Spot}
+use Rattle.jpeg_decoder.specs.Scans.{Arrays, turns_of, arrays_at}
 use Rattle.jpeg_decoder.proofs.Shorter.{LeavesBelow, below-ok, below-err, below-bind}
 use Rattle.jpeg_decoder.proofs.ShorterTexts.{StaysBelow, bind-stays, gives-stays, refused-stays, elim-stays, bits-stays, signed-stays, code-stays, symbol-stays, texts-below, upcoming-below, marker_from-below}
 
@@ -67,15 +68,52 @@ dc-stays : (limit : ℕ) (p : Pass) (dc : Table) (z predictor : ℤ) → StaysBe
 unfolding dc_part
 dc-stays limit p dc z predictor =
     elim-stays limit (p.ss == 0) _ _
-    (elim-stays limit p.is_first _ _ (first_dc-stays limit dc p.al predictor) (refused-stays (ℤ × ℤ) limit))
+    (elim-stays limit p.is_first _ _ (first_dc-stays limit dc p.al predictor) (bind-stays limit (bits_from 1) _ (bits-stays limit 1) (λ b. gives-stays limit _)))
     (gives-stays limit _)
+
+-- a refinement
+
+moved-stays : (limit al : ℕ) (z : ℤ) (b : ℕ) → StaysBelow limit (corrected_by al z b)
+moved-stays limit al z zero = gives-stays limit z
+moved-stays limit al z (suc b) =
+    elim-stays limit (bit_of al z == 0) _ _ (elim-stays limit (fits_i16 (moved (2 ^ al) z)) _ _ (gives-stays limit _) (refused-stays ℤ limit)) (gives-stays limit z)
+
+corrected-stays : (limit al : ℕ) (places : List ℤ) → StaysBelow limit (corrected al places)
+unfolding corrected
+corrected-stays limit al [] = gives-stays limit _
+corrected-stays limit al (z ∷ places) =
+    bind-stays limit (elim (is_zero z) as (λ _. Reads ℤ) [ true ↦ gives z | false ↦ bits_from 1 >>= (λ b. corrected_by al z b) ]) _
+    (elim-stays limit (is_zero z) _ _ (gives-stays limit z) (bind-stays limit (bits_from 1) _ (bits-stays limit 1) (λ b. moved-stays limit al z b))) (λ first.
+    bind-stays limit (corrected al places) _ (corrected-stays limit al places) (λ others. gives-stays limit _))
+
+piece-stays : (limit al : ℕ) (others : List ℤ → Reads Band) (rest : List ℤ) → ((rest : List ℤ) → StaysBelow limit (others rest)) → (r s : ℕ) → StaysBelow limit (refined_piece al others rest r s)
+unfolding refined_piece
+piece-stays limit al others rest h r zero =
+    elim-stays limit (r == 15) _ _
+    (bind-stays limit (corrected al (take (through_zero 15 rest) rest)) _ (corrected-stays limit al _) (λ front.
+    bind-stays limit (others (drop (through_zero 15 rest) rest)) _ (h _) (λ more. gives-stays limit _)))
+    (bind-stays limit (bits_from r) _ (bits-stays limit r) (λ e. bind-stays limit (corrected al rest) _ (corrected-stays limit al rest) (λ all. gives-stays limit _)))
+piece-stays limit al others rest h r (suc zero) =
+    bind-stays limit (bits_from 1) _ (bits-stays limit 1) (λ sign.
+    bind-stays limit (corrected al (take (through_zero r rest) rest)) _ (corrected-stays limit al _) (λ front.
+    bind-stays limit (others (drop (through_zero r rest) rest)) _ (h _) (λ more. gives-stays limit _)))
+piece-stays limit al others rest h r (suc (suc s)) = refused-stays Band limit
+
+refined_ac-stays : (limit : ℕ) (table : Table) (al n : ℕ) (rest : List ℤ) → StaysBelow limit (refined_ac table al n rest)
+unfolding refined_ac
+refined_ac-stays limit table al n [] = gives-stays limit _
+refined_ac-stays limit table al zero (x ∷ rest) = refused-stays Band limit
+refined_ac-stays limit table al (suc n) (x ∷ rest) =
+    bind-stays limit (symbol_from table) _ (symbol-stays limit table) (λ c.
+    piece-stays limit al (refined_ac table al n) (x ∷ rest) (refined_ac-stays limit table al n) (c / 16) (c % 16))
 
 band-stays : (limit : ℕ) (p : Pass) (ac : Table) (band : List ℤ) (run : ℕ) → StaysBelow limit (band_part p ac band run)
 unfolding band_part
 band-stays limit p ac [] run = gives-stays limit _
 band-stays limit p ac (x ∷ band) zero =
-    elim-stays limit p.is_first _ _ (first_ac-stays limit ac p.al (length (x ∷ band)) (x ∷ band)) (refused-stays Band limit)
-band-stays limit p ac (x ∷ band) (suc run) = elim-stays limit p.is_first _ _ (gives-stays limit _) (refused-stays Band limit)
+    elim-stays limit p.is_first _ _ (first_ac-stays limit ac p.al (length (x ∷ band)) (x ∷ band)) (refined_ac-stays limit ac p.al (length (x ∷ band)) (x ∷ band))
+band-stays limit p ac (x ∷ band) (suc run) =
+    elim-stays limit p.is_first _ _ (gives-stays limit _) (bind-stays limit (corrected p.al (x ∷ band)) _ (corrected-stays limit p.al (x ∷ band)) (λ all. gives-stays limit _))
 
 block-stays : (limit : ℕ) (p : Pass) (dc ac : Table) (predictor : ℤ) (run : ℕ) (old : Block) → StaysBelow limit (block_from p dc ac predictor run old)
 unfolding block_from
@@ -113,9 +151,11 @@ intervals-below limit p k turns (next ∷ more) bytes h =
     below-bind limit limit (interval p turns bytes) _ (interval-below limit p turns bytes h) (λ r q.
     restart-below limit r.0.0 (intervals p (suc k) next more r.1) (is_restart k r.0.1) (intervals-below limit p (suc k) next more r.1 q))
 
-pub plane-below : (limit : ℕ) (g : Grid) (quantization : List ℕ) (via : Via) (bytes : List ℕ) → length bytes < limit → LeavesBelow limit (plane_at g quantization via bytes)
-unfolding plane_at
-plane-below limit g quantization via bytes h =
-    let turns : List (Via × Block) = replicate (g.own_high * g.own_wide) (via, zero_block) in
-    below-bind limit limit (intervals whole_pass 0 (first_group 0 turns) (other_groups 0 turns) bytes) _
-    (intervals-below limit whole_pass 0 (first_group 0 turns) (other_groups 0 turns) bytes h) (λ r q. below-ok limit _ r.1 q)
+-- ---- scans
+
+pub arrays-below : (limit : ℕ) (p : Pass) (n : ℕ) (vias : List Via) (spots : List Spot) (arrays : Arrays) (bytes : List ℕ) → length bytes < limit → LeavesBelow limit (arrays_at p n vias spots arrays bytes)
+unfolding arrays_at
+arrays-below limit p n vias spots arrays bytes h =
+    let turns : List (Via × Block) = turns_of vias spots arrays in
+    below-bind limit limit (intervals p 0 (first_group n turns) (other_groups n turns) bytes) _
+    (intervals-below limit p 0 (first_group n turns) (other_groups n turns) bytes h) (λ r q. below-ok limit _ r.1 q)

@@ -13,11 +13,11 @@ use Rattle.jpeg_segments.specs.HuffmanTables.{dht_at}
 use Rattle.jpeg_segments.specs.Application.{app_at, dri_at}
 use Rattle.jpeg_decoder.specs.declared.state.Before.{Before}
 use Rattle.jpeg_decoder.specs.declared.state.Before.TheVariants.{FirstScan, LaterScan, Elsewhere}
-use Rattle.jpeg_decoder.specs.Stream.{Found, Turn, onward, needed, accepted, coding_of, scan_samples, behind_restarts, frame_segment, quantization_segment, huffman_segment, restart_segment, application_segment, skipped_segment, scan_segment, end_segment, stray_restart, line_count, segment_at, turn_at, segments_within, segments_at, told_within, told_at}
+use Rattle.jpeg_decoder.specs.Stream.{Found, Turn, onward, needed, accepted, codings_of, scan_arrays, behind_restarts, frame_segment, quantization_segment, huffman_segment, restart_segment, application_segment, skipped_segment, scan_segment, end_segment, stray_restart, line_count, segment_at, turn_at, segments_within, segments_at, told_within, told_at}
 use Rattle.jpeg_decoder.specs.Steps.{is_restart}
 use Rattle.jpeg_decoder.proofs.Shorter.{LeavesBelow, length-below, skip-below, marker-below}
 use Rattle.jpeg_decoder.proofs.ShorterSegments.{sof-below, dqt-below, dht-below, sos-below, app-below, dri-below}
-use Rattle.jpeg_decoder.proofs.ShorterScans.{plane-below}
+use Rattle.jpeg_decoder.proofs.ShorterScans.{arrays-below}
 use Rattle.jpeg_decoder.proofs.PassedRestarts.{Passes, behind-passes, bind-same}
 
 -- ---- what a turn takes
@@ -95,13 +95,13 @@ skipped-goes limit found bytes h =
     goes-bind limit limit (skip_at n.0 n.1) _ (skip-below limit n.0 n.1 p) (λ u q. goes-onward limit found u.1 q))
 
 scan-goes : (limit : ℕ) (found : Found) (bytes : List ℕ) → length bytes ≤ limit → GoesBelow limit (scan_segment found bytes)
-unfolding scan_segment scan_samples
+unfolding scan_segment scan_arrays
 scan-goes limit found bytes h =
     goes-needs limit (needed found.frame) _ (λ frame.
     goes-bind limit limit (sos_at frame bytes) _ (sos-below limit frame bytes h) (λ scan p.
-    goes-needs limit (coding_of found frame scan.0) _ (λ coding.
-    goes-bind limit limit (scan_samples coding scan.1) _ (plane-below limit _ _ _ scan.1 p) (λ plane q.
-    goes-passes limit (behind_restarts (suc (length plane.1)) plane.0.1 plane.1) _ (behind-passes limit plane.0.1 plane.1 q) (λ met r e.
+    goes-needs limit (codings_of found frame scan.0) _ (λ codings.
+    goes-bind limit limit (scan_arrays found frame scan.0 codings scan.1) _ (arrays-below limit _ _ _ _ _ scan.1 p) (λ read q.
+    goes-passes limit (behind_restarts (suc (length read.1)) read.0.1 read.1) _ (behind-passes limit read.0.1 read.1 q) (λ met r e.
     goes-ok limit _ met.1 r e)))))
 
 end-goes : (limit : ℕ) (found : Found) (bytes : List ℕ) → GoesBelow limit (end_segment found bytes)

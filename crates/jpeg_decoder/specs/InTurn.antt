@@ -1,5 +1,5 @@
 -- The blocks of a scan one after the other, as they are read on what is held of them and put back.
-use Rattle.std.specs.Prelude.{◌≡◌, ◌⊎◌, ◌<◌, ◌≤◌, ◌*◌, ◌-◌, ◌==◌, ◌&&◌, nat_lt, ℕ, suc, true, false, List, [], ◌∷◌, length, map, set, get_or, ℤ, pos, Option, Ok, Err}
+use Rattle.std.specs.Prelude.{◌≡◌, ◌⊎◌, ◌<◌, ◌≤◌, ◌+◌, ◌*◌, ◌-◌, ◌%◌, ◌==◌, ◌&&◌, nat_lt, ℕ, suc, true, false, List, [], ◌∷◌, length, map, set, get_or, ℤ, pos, Option, Ok, Err}
 use Rattle.std.specs.List.{range_with_len, flat_map}
 use Rattle.jpeg_bits.specs.Reading as reading
 use Rattle.jpeg_bits.specs.Reading.{Outcome, Malformed}
@@ -54,7 +54,8 @@ intervals_from p vias k spots (next ∷ more) arrays bytes =
 unfoldable pub restart_from : ℕ → Reads (Unit {0})
 restart_from k t = reading.◌>>=◌ (marker_from t) (λ m. elim (is_restart k m.0) [ true ↦ Ok (tt, upcoming fresh m.1) | false ↦ Err Malformed ])
 
--- What is held between MCUs: what is reached in an interval, how many MCUs are left of it, and the number of the restart marker behind it.
+-- What is held between MCUs: what is reached in an interval, how many MCUs are left of it, and the number of the restart marker behind it,
+-- which counts modulo 8.
 pub record Counted : Type 0 where
   pub reached : Reached
   pub left : ℕ
@@ -64,7 +65,7 @@ pub record Counted : Type 0 where
 unfoldable pub begun_from : ℕ → Counted → Reads Counted
 begun_from n old =
     elim (nat_lt 0 n && old.left == 0) [
-      | true ↦ restart_from old.number >>= (λ u. gives (record { reached = at_start old.reached.arrays; left = n; number = suc old.number }))
+      | true ↦ restart_from old.number >>= (λ u. gives (record { reached = at_start old.reached.arrays; left = n; number = (old.number + 1) % 8 }))
       | false ↦ gives old
     ]
 

@@ -6,6 +6,7 @@ pub mod McuRows
 pub mod Layout
 pub mod Scanning
 pub mod Stream
+pub mod Sound
 pub mod Profile
 pub mod States
 pub mod Seen
@@ -14,3 +15,12 @@ pub mod Worked
 pub mod Steps
 pub mod Pixels
 pub mod ColourChoice
+pub mod Levels
+pub mod WrittenData
+pub mod WrittenScans
+pub mod SaidSegments
+pub mod WrittenImages
+pub mod ArrayPictures
+pub mod WholeImages
+pub mod WorkedImages
+pub mod DecodedImages

@@ -1,7 +1,7 @@
 -- What the decoder's own clauses need beside the meaning of a stream: what a caller sees after a segment, the marker after a scan, and the
 -- components of a scan with their tables.
-use Rattle.std.specs.Prelude.{◌≡◌, ℕ, suc, ◌*◌, ◌/◌, min, List, [], ◌∷◌, map, set, length, replicate, get_or, Bool, true, false, Option, slice_index_or, Some, None, Result, Ok, Err, nat_lt, ◌==◌, if◌then◌else◌}
-use Rattle.jpeg_bits.specs.Reading.{Outcome, Fault}
+use Rattle.std.specs.Prelude.{◌≡◌, ◌<◌, ◌≤◌, All, ℕ, suc, drop, ◌&&◌, not, is_some, slice_set, ◌*◌, ◌/◌, min, List, [], ◌∷◌, map, set, length, replicate, get_or, Bool, true, false, Option, slice_index_or, Some, None, Result, Ok, Err, nat_lt, ◌==◌, if◌then◌else◌}
+use Rattle.jpeg_bits.specs.Reading.{Outcome, Fault, Malformed, ◌>>=◌}
 use Rattle.jpeg_bits.specs.Codes.{Table}
 use Rattle.jpeg_bits.specs.DefaultTables.{luminance_dc, chrominance_dc, luminance_ac, chrominance_ac, with_defaults}
 use Rattle.jpeg_bits.specs.declared.error.Error.{Error}
@@ -10,17 +10,26 @@ use Rattle.jpeg_bits.specs.declared.marker.Marker.{Marker}
 use Rattle.jpeg_bits.specs.declared.marker.Marker.TheVariants.{RST}
 use Rattle.jpeg_segments.specs.Frame.{Frame, Component}
 use Rattle.jpeg_pixels.specs.Planes.{cropped}
-use Rattle.jpeg_decoder.specs.Scans.{Arrays}
+use Rattle.jpeg_decoder.specs.Scans.{Arrays, arrays_at}
+use Rattle.jpeg_decoder.specs.Scanning.{arrays_in, components_in, HasAc, HasCodedScale}
+use Rattle.jpeg_decoder.specs.Order.{spots_of, mcu_size}
+use Rattle.jpeg_decoder.specs.declared.decoded.Decoded.{Decoded}
+use Rattle.jpeg_bits.specs.Passes.{Pass}
+use Rattle.std.specs.List.{list_all, AllByRecursion}
 use Rattle.jpeg_segments.specs.FrameView.{component_in}
-use Rattle.jpeg_segments.specs.ScanHeader.{Scan}
+use Rattle.jpeg_segments.specs.ScanHeader as headers
+use Rattle.jpeg_segments.specs.ScanHeader.{sos_at}
+use Rattle.jpeg_decoder.specs.declared.scans.Scan.{Scan}
+use Rattle.jpeg_decoder.specs.InTurn.{Fits}
+use Rattle.jpeg_bits.specs.BlockView.{pass_in, IsPass}
 use Rattle.jpeg_decoder.specs.declared.state.State.{State}
 use Rattle.jpeg_decoder.specs.declared.state.Step.{Step}
 use Rattle.jpeg_decoder.specs.declared.codings.Coded.{Coded}
 use Rattle.jpeg_decoder.specs.declared.codings.Spare.{Spare}
-use Rattle.jpeg_decoder.specs.Scans.{no_table}
+use Rattle.jpeg_decoder.specs.Scans.{no_table, zero_arrays}
 use Rattle.jpeg_bits.specs.declared.codes.HuffmanTableClass.TheVariants as classes
-use Rattle.jpeg_decoder.specs.Stream.{Found, Turn, Coding, needed, pass_of, tables_of, coding_of, codings_from, behind_restarts}
-use Rattle.jpeg_decoder.specs.Seen.{found_in}
+use Rattle.jpeg_decoder.specs.Stream.{Found, Turn, Coding, first_of, is_decoded, needed, pass_of, tables_of, coding_of, codings_from, behind_restarts, finished_by, none_finished, decided, plane_by, vias_from, arrays_before, with_arrays, held_behind}
+use Rattle.jpeg_decoder.specs.Seen.{found_in, planes_in}
 
 abbrev pub turn_of : State → Step → Turn
 turn_of s step = record { found = found_in s; before = step.before; met = step.met; ended = step.ended }
@@ -63,17 +72,17 @@ abbrev pub coding_in : Coded → Coding
 coding_in c = record { place = c.place; component = component_in c.component.now; quantization = c.quantization.now; dc = c.dc.now; ac = c.ac.now }
 
 -- the component in a slot of a scan
-abbrev pub coding_in_slot : Found → Frame → Scan → ℕ → Result Coding Fault
+abbrev pub coding_in_slot : Found → Frame → headers.Scan → ℕ → Result Coding Fault
 coding_in_slot found frame scan slot =
     coding_of found frame (pass_of scan) (tables_of found scan) (get_or scan.components slot 0) (get_or scan.dc_places slot 0) (get_or scan.ac_places slot 0)
 
 -- all of them
-abbrev pub codings_in_force : Found → Frame → Scan → Result (List Coding) Fault
+abbrev pub codings_in_force : Found → Frame → headers.Scan → Result (List Coding) Fault
 codings_in_force found frame scan =
     codings_from found frame (pass_of scan) (tables_of found scan) scan.components scan.dc_places scan.ac_places
 
 -- The spare tables of a scan: the default ones by what was said, and those without codes.
-pub record IsSpareOf (found : Found) (scan : Scan) (spare : Spare) : Type 0 where
+pub record IsSpareOf (found : Found) (scan : headers.Scan) (spare : Spare) : Type 0 where
   pub dc : spare.dc ≡ default_dc found.metadata.avi1 scan.dc_places
   pub ac : spare.ac ≡ default_ac found.metadata.avi1 scan.ac_places
   pub no_dc : spare.no_dc ≡ no_table classes.DC
@@ -81,9 +90,89 @@ pub record IsSpareOf (found : Found) (scan : Scan) (spare : Spare) : Type 0 wher
 
 -- ---- blocks and planes
 
+-- a state with what scans have given
+abbrev pub with_decoded : Found → Decoded → Found
+with_decoded found d = record found { held = arrays_in d.held.items; finished = d.finished; planes = planes_in d.planes }
+
+-- Planes with that of a component: where all of these places are finished the first one decides.
+unfoldable pub decided_planes : List Bool → ℕ → List ℕ → List (Option (List ℕ)) → List (Option (List ℕ))
+decided_planes marks place plane planes = elim (list_all (λ mark. mark) marks) [
+  | true ↦ slice_set planes place (decided (slice_index_or planes place None) plane)
+  | false ↦ planes
+]
+
+-- the finished places of a component after a pass
+abbrev pub marks_after : Pass → List (List Bool) → ℕ → List Bool
+marks_after p finished place = finished_by p (slice_index_or finished place none_finished)
+
+-- whether the plane of a component is decided now
+abbrev pub is_wanted : List Bool → Option (List ℕ) → Bool
+is_wanted marks plane = list_all (λ mark. mark) marks && not (is_some plane)
+
+-- a component of the scan with its plane
+unfoldable pub with_its_plane : Pass → ℕ → List ℕ → Found → Found
+with_its_plane p place plane found = record found {
+  finished = slice_set found.finished place (marks_after p found.finished place);
+  planes = decided_planes (marks_after p found.finished place) place plane found.planes;
+}
+
+-- each component of the scan with its plane
+unfoldable pub with_planes : Pass → List Coding → List (List ℕ) → Found → Found
+with_planes p (c ∷ codings) (plane ∷ planes) found = with_planes p codings planes (with_its_plane p c.place plane found)
+with_planes p _ _ found = found
+
+-- the planes of some components, of their blocks
+unfoldable pub planes_by : List Coding → Arrays → List (List ℕ)
+planes_by (c ∷ codings) (blocks ∷ arrays) = plane_by c.component c.quantization blocks ∷ planes_by codings arrays
+planes_by _ _ = []
+
+abbrev pub components_of : List Coding → List Component
+components_of codings = map (λ c. c.component) codings
+
 -- the blocks of a scan's components, of those of a frame
 abbrev pub blocks_at : List Coding → Arrays → Arrays
 blocks_at codings held = map (λ c. get_or held c.place []) codings
+
+-- the data of a scan: what is found after it, and the marker after it, if it is met
+unfoldable pub scan_data : Found → Frame → Pass → List Coding → List ℕ → Outcome (Found × Option Marker)
+scan_data found frame p codings bytes = do
+  r ← arrays_at p (found.restart * mcu_size (components_of codings)) (vias_from 0 codings) (spots_of frame (components_of codings))
+      (blocks_at codings (arrays_before found frame)) bytes
+  Ok ((with_arrays p codings r.0.0 (record found { scanned = true; held = held_behind found frame codings r.0.0 }), r.0.1), r.1)
+
+-- the planes of a scan of a sequential frame, from zeros, and the marker after it, if it is met
+unfoldable pub planes_at : Frame → ℕ → Pass → List Coding → List ℕ → Outcome (List (List ℕ) × Option Marker)
+planes_at frame restart p codings bytes = do
+  r ← arrays_at p (restart * mcu_size (components_of codings)) (vias_from 0 codings) (spots_of frame (components_of codings))
+      (zero_arrays (components_of codings)) bytes
+  Ok ((planes_by codings r.0.0, r.0.1), r.1)
+
+-- the place of a component in its frame
+abbrev pub HasPlace : Coded → Type 0
+HasPlace c = c.place < 4
+
+-- each place is above the one before
+abbrev pub AreRising : List Coding → Type 0
+AreRising [] = Unit {0}
+AreRising (c ∷ []) = Unit {0}
+AreRising (c ∷ d ∷ more) = (c.place < d.place) × AreRising (d ∷ more)
+
+-- a component of a scan is that of the frame at its place
+abbrev pub IsCodingOf : Frame → Coding → Type 0
+IsCodingOf frame c = first_of (drop c.place frame.components) ≡ Some c.component
+
+-- What a scan of a frame needs to be read, by what was found before.
+pub record IsReadable (frame : Frame) (found : Found) (scan : Scan) : Type 0 where
+  pub pass : IsPass (pass_in scan.pass)
+  pub restart : scan.restart_interval ≡ found.restart
+  pub some : 1 ≤ length scan.components.items
+  pub few : length scan.components.items ≤ 4
+  pub classes : All HasAc scan.components.items
+  pub scales : All HasCodedScale scan.components.items
+  pub places : All HasPlace scan.components.items
+  pub fits : AllByRecursion (Fits frame) (components_in scan.components.items)
+  pub of_frame : AllByRecursion (IsCodingOf frame) (map coding_in scan.components.items)
+  pub rising : AreRising (map coding_in scan.components.items)
 
 -- those of the frame that are left
 unfoldable pub without_blocks : List Coding → Arrays → Arrays
@@ -94,6 +183,19 @@ without_blocks (c ∷ more) held = without_blocks more (set held c.place [])
 abbrev pub cropped_to : Component → ℕ → ℕ → List ℕ → List ℕ
 cropped_to c width height plane =
     let stride = c.scale * c.blocks_wide in cropped stride (min width stride) (min height (length plane / stride)) plane
+
+-- ---- a scan
+
+-- a scan by what was found before it: what is found after it, and the marker after it and its restart markers
+unfoldable pub scan_read : Found → List ℕ → Outcome (Found × Option Marker)
+scan_read found bytes = do
+  frame ← needed found.frame
+  scan ← sos_at frame bytes
+  if is_decoded frame.process then (do
+    codings ← codings_in_force found frame scan.0
+    r ← scan_data found frame (pass_of scan.0) codings scan.1
+    met ← behind_all r.0.1 r.1
+    Ok ((r.0.0, met.0), met.1)) else Err Malformed
 
 -- ---- refusals
 

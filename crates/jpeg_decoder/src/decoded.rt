@@ -1,18 +1,23 @@
 //! What the scans of a frame have given so far: blocks, and planes (T.81, A.2 and G.1).
-ghost use Rattle.std.specs.Prelude.{◌≡◌, ◌<◌, ◌*◌, All, IfOk, OnOk, length, map};
+ghost use Rattle.std.specs.Prelude.{◌≡◌, ◌<◌, ◌≤◌, ◌*◌, [], All, pos, IfOk, IfErr, MatchResult, None, OnOk, length, map, replicate, slice_index_or, slice_set};
 ghost use Rattle.std.specs.List.{list_all};
 ghost use Rattle.jpeg_bits.specs.BlockView.{pass_in, to_block, IsPass};
 ghost use Rattle.jpeg_pixels.specs.Scaled.{IsScale};
-ghost use Rattle.jpeg_pixels.specs.Zigzag.{coefficients_in_block_order};
+ghost use Rattle.jpeg_pixels.specs.Pictures.{AreWhole};
 ghost use Rattle.jpeg_segments.specs.FrameView.{component_in, frame_in};
-ghost use Rattle.jpeg_decoder.specs.InTurn.{AreApart};
-ghost use Rattle.jpeg_decoder.specs.Scanning.{arrays_in, blocks_in, components_in};
+ghost use Rattle.jpeg_bits.specs.Reading.{Answers};
+ghost use Rattle.std.specs.List.{AllByRecursion};
+ghost use Rattle.jpeg_decoder.specs.InTurn.{AreApart, Fits};
+ghost use Rattle.jpeg_decoder.specs.Scanning.{arrays_in, blocks_in, components_in, sizes_of, HasAc, HasCodedScale};
 ghost use Rattle.jpeg_decoder.specs.Scans.{zero_arrays, zero_of};
-ghost use Rattle.jpeg_decoder.specs.Steps.{blocks_at, coding_in, without_blocks};
-ghost use Rattle.jpeg_decoder.specs.Stream.{finished_by, plane_by};
+ghost use Rattle.jpeg_decoder.specs.Seen.{planes_in};
+ghost use Rattle.jpeg_decoder.specs.Stream.{finished_by, none_finished, plane_by, put_arrays};
+ghost use Rattle.jpeg_decoder.specs.Steps.{blocks_at, coding_in, planes_at, without_blocks};
+ghost use Rattle.jpeg_pixels.specs.Zigzag.{coefficients_in_block_order};
 
 use crate::codings::{Coded, is_progressive};
 use crate::scans::{Scan, read_blocks};
+use crate::state::State;
 use jpeg_bits::blocks::Pass;
 use jpeg_bits::error::Result;
 use jpeg_bits::marker::Marker;
@@ -158,11 +163,66 @@ fn take_blocks(
     Ok(taken)
 }
 
+/// Reads a scan of a sequential frame, and returns the planes of its components and the marker after
+/// it, if it was met.
+fn read_planes<R: Read + Drop>(
+    alloc: Global,
+    source: &mut Source<R>,
+    scan: &Scan<'_>,
+    frame: &FrameInfo,
+) -> Result<(Vec<Vec<u8>>, Option<Marker>)>
+    requires pass { IsPass (pass_in scan.now.pass) }
+    requires classes { All HasAc scan.now.components.items }
+    requires some { 1 ≤ length scan.now.components.items }
+    requires few { length scan.now.components.items ≤ 4 }
+    requires scales { All HasCodedScale scan.now.components.items }
+    requires fits { AllByRecursion (Fits (frame_in frame.now)) (components_in scan.now.components.items) }
+    ensures planes { IfOk result (λ r. AreWhole (components_in scan.now.components.items) (map (λ v. v.items) r.0.items)) }
+    ensures count { IfOk result (λ r. length r.0.items ≡ length scan.now.components.items) }
+    ensures reads { Answers (λ r. (map (λ v. v.items) r.0.items, r.1))
+        (planes_at (frame_in frame.now) scan.now.restart_interval (pass_in scan.now.pass) (map coding_in scan.now.components.items))
+        source.old result source.new }
+{
+    let mut arrays = zero_scan(alloc, &scan.components)?;
+    let met = read_blocks(alloc, source, scan, &mut arrays, frame)?;
+    let mut planes = Vec::with_capacity(alloc, scan.components.len())?;
+    for slot in 0..scan.components.len() {
+        let coded = &scan.components[slot];
+        planes.push(render(alloc, coded.component, coded.quantization, &arrays[slot])?)?;
+    }
+    Ok((planes, met))
+}
+
+/// Puts blocks at the places of a scan's components in the frame.
+fn put_blocks(
+    alloc: Global,
+    codings: &[Coded<'_>],
+    arrays: &mut Vec<Vec<[i16; 64]>>,
+    held: &mut Vec<Vec<[i16; 64]>>,
+)
+    requires count { length arrays.old.items ≡ length codings.now }
+    requires places { All (λ c. c.place < length held.old.items) codings.now }
+    ensures { arrays_in held.new.items ≡ put_arrays (map coding_in codings.now) (arrays_in arrays.old.items) (arrays_in held.old.items) }
+{
+    let mut slot = 0;
+    while slot < codings.len() {
+        held[codings[slot].place] = std::mem::replace(&mut arrays[slot], Vec::new(alloc));
+        slot += 1;
+    }
+}
+
 impl Decoded {
-    ghost use Rattle.std.specs.Prelude.{◌≡◌, [], None, replicate};
-    ghost use Rattle.jpeg_decoder.specs.Scanning.{arrays_in};
-    ghost use Rattle.jpeg_decoder.specs.Seen.{planes_in};
-    ghost use Rattle.jpeg_decoder.specs.Stream.{none_finished};
+    ghost use Rattle.std.specs.Prelude.{◌≡◌, ◌<◌, ◌≤◌, [], All, IfOk, OnOk, None, Some, List, ℕ, ◌*◌, true, false, length, map, replicate, slice_index_or, slice_set};
+    ghost use Rattle.jpeg_bits.specs.Reading.{Answers};
+    ghost use Rattle.jpeg_bits.specs.BlockView.{pass_in, IsPass, to_block};
+    ghost use Rattle.jpeg_pixels.specs.Scaled.{IsScale};
+    ghost use Rattle.jpeg_segments.specs.FrameView.{component_in, frame_in};
+    ghost use Rattle.jpeg_decoder.specs.InTurn.{AreArrays};
+    ghost use Rattle.jpeg_decoder.specs.Sound.{ArePlanes};
+    ghost use Rattle.jpeg_decoder.specs.Scanning.{arrays_in, components_in, sizes_of, HasAc, HasCodedScale};
+    ghost use Rattle.jpeg_decoder.specs.Seen.{found_in, planes_in};
+    ghost use Rattle.jpeg_decoder.specs.Steps.{coding_in, HasPlace, IsReadable, is_wanted, marks_after, scan_data, with_decoded, with_its_plane, with_planes, planes_by};
+    ghost use Rattle.jpeg_decoder.specs.Stream.{Found, arrays_before, is_progressive, none_finished, plane_by, with_arrays};
 
     /// Nothing was read.
     pub fn new(alloc: Global) -> Decoded
@@ -177,8 +237,37 @@ impl Decoded {
         }
     }
 
-    /// Adds the blocks of a component after a scan: the first scan after which all coefficients are
-    /// finished decides the component's plane, by the quantization table in force.
+    /// Marks the coefficients of a component that a pass finishes, and returns whether its plane is
+    /// to be decided now: all coefficients are finished, and it has none yet.
+    fn is_wanted(&mut self, pass: Pass, place: usize) -> bool
+        requires pass { IsPass (pass_in pass) }
+        requires place { place < 4 }
+        ensures held { self.new.held ≡ self.old.held }
+        ensures planes { planes_in self.new.planes ≡ planes_in self.old.planes }
+        ensures finished { self.new.finished ≡ slice_set self.old.finished place (marks_after (pass_in pass) self.old.finished place) }
+        ensures wanted { result ≡ is_wanted (marks_after (pass_in pass) self.old.finished place) (slice_index_or (planes_in self.old.planes) place None) }
+    {
+        let marks = &mut self.finished[place];
+        finish(pass, marks);
+        are_all(marks) && self.planes[place].is_none()
+    }
+
+    /// Adds the plane of a component after a scan of a sequential frame.
+    #[tactic(auto, using(crate::proofs::DecidedPlanes::plane_rules))]
+    fn add_plane(&mut self, pass: Pass, place: usize, plane: Vec<u8>)
+        requires pass { IsPass (pass_in pass) }
+        requires place { place < 4 }
+        ensures held { self.new.held ≡ self.old.held }
+        ensures plane { (base : Found) →
+            with_decoded base self.new ≡ with_its_plane (pass_in pass) place plane.items (with_decoded base self.old) }
+    {
+        if self.is_wanted(pass, place) {
+            self.planes[place] = Some(plane);
+        }
+    }
+
+    /// Adds the blocks of a component after a scan of a progressive frame.
+    #[tactic(auto, using(crate::proofs::DecidedPlanes::plane_rules))]
     fn add_blocks(
         &mut self,
         alloc: Global,
@@ -186,32 +275,59 @@ impl Decoded {
         coded: &Coded<'_>,
         blocks: &[[i16; 64]],
     ) -> std::result::Result<(), AllocError>
+        requires pass { IsPass (pass_in pass) }
+        requires place { coded.now.place < 4 }
+        requires scale { IsScale coded.now.component.now.dct_scale }
+        requires blocks { length blocks.now ≡ (component_in coded.now.component.now).blocks_high * (component_in coded.now.component.now).blocks_wide }
+        ensures held { OnOk result (self.new.held ≡ self.old.held) }
+        ensures plane { OnOk result ((base : Found) →
+            with_decoded base self.new
+            ≡ with_its_plane (pass_in pass) coded.now.place (plane_by (component_in coded.now.component.now) coded.now.quantization.now (map to_block blocks.now)) (with_decoded base self.old)) }
     {
-        let marks = &mut self.finished[coded.place];
-        finish(pass, marks);
-        if are_all(marks) && self.planes[coded.place].is_none() {
+        if self.is_wanted(pass, coded.place) {
             let plane = render(alloc, coded.component, coded.quantization, blocks)?;
             self.planes[coded.place] = Some(plane);
         }
         Ok(())
     }
 
-    /// Adds the blocks of a scan's components, and holds them where more scans may refine them.
-    fn add_scan(
+    /// Adds the planes of a scan's components.
+    fn add_planes(&mut self, scan: &Scan<'_>, planes: &mut Vec<Vec<u8>>, alloc: Global)
+        requires pass { IsPass (pass_in scan.now.pass) }
+        requires places { All HasPlace scan.now.components.items }
+        requires count { length planes.old.items ≡ length scan.now.components.items }
+        ensures held { self.new.held ≡ self.old.held }
+        ensures planes { (base : Found) → with_decoded base self.new
+            ≡ with_planes (pass_in scan.now.pass) (map coding_in scan.now.components.items) (map (λ v. v.items) planes.old.items) (with_decoded base self.old) }
+    {
+        let mut slot = 0;
+        while slot < scan.components.len() {
+            let plane = std::mem::replace(&mut planes[slot], Vec::new(alloc));
+            self.add_plane(scan.pass, scan.components[slot].place, plane);
+            slot += 1;
+        }
+    }
+
+    /// Adds the blocks of a scan's components.
+    fn add_arrays(
         &mut self,
         alloc: Global,
         scan: &Scan<'_>,
-        arrays: &mut Vec<Vec<[i16; 64]>>,
-        is_held: bool,
+        arrays: &[Vec<[i16; 64]>],
     ) -> std::result::Result<(), AllocError>
+        requires pass { IsPass (pass_in scan.now.pass) }
+        requires places { All HasPlace scan.now.components.items }
+        requires scales { All HasCodedScale scan.now.components.items }
+        requires blocks { AreArrays (components_in scan.now.components.items) (arrays_in arrays.now) }
+        ensures held { OnOk result (self.new.held ≡ self.old.held) }
+        ensures planes { OnOk result ((base : Found) → with_decoded base self.new
+            ≡ with_arrays (pass_in scan.now.pass) (map coding_in scan.now.components.items) (arrays_in arrays.now) (with_decoded base self.old)) }
     {
-        for slot in 0..scan.components.len() {
+        let mut slot = 0;
+        while slot < scan.components.len() {
             let coded = &scan.components[slot];
-            let blocks = std::mem::replace(&mut arrays[slot], Vec::new(alloc));
-            self.add_blocks(alloc, scan.pass, coded, &blocks)?;
-            if is_held {
-                self.held[coded.place] = blocks;
-            }
+            self.add_blocks(alloc, scan.pass, coded, &arrays[slot])?;
+            slot += 1;
         }
         Ok(())
     }
@@ -222,17 +338,26 @@ impl Decoded {
         &mut self,
         alloc: Global,
         source: &mut Source<R>,
+        state: &State,
         frame: &FrameInfo,
         scan: &Scan<'_>,
-        is_first: bool,
     ) -> Result<Option<Marker>>
+        requires process { is_progressive (frame_in frame.now).process ≡ true }
+        requires ready { IsReadable (frame_in frame.now) (found_in state.now) scan.now }
+        requires held { AreArrays (frame_in frame.now).components (arrays_before (with_decoded (found_in state.now) self.old) (frame_in frame.now)) }
+        ensures data { Answers (λ m. (record (with_decoded (found_in state.now) self.new) { scanned = true }, m))
+            (scan_data (with_decoded (found_in state.now) self.old) (frame_in frame.now) (pass_in scan.now.pass) (map coding_in scan.now.components.items))
+            source.old result source.new }
+        ensures held { OnOk result (AreArrays (frame_in frame.now).components (arrays_in self.new.held.items)) }
+        ensures planes { ArePlanes (frame_in frame.now).components (planes_in self.old.planes) → OnOk result (ArePlanes (frame_in frame.now).components (planes_in self.new.planes)) }
     {
-        if is_first {
+        if !state.scanned {
             self.held = zero_frame(alloc, frame)?;
         }
         let mut arrays = take_blocks(alloc, &scan.components, &mut self.held)?;
         let met = read_blocks(alloc, source, scan, &mut arrays, frame)?;
-        self.add_scan(alloc, scan, &mut arrays, true)?;
+        self.add_arrays(alloc, scan, &arrays)?;
+        put_blocks(alloc, &scan.components, &mut arrays, &mut self.held);
         Ok(met)
     }
 
@@ -241,14 +366,20 @@ impl Decoded {
         &mut self,
         alloc: Global,
         source: &mut Source<R>,
+        state: &State,
         frame: &FrameInfo,
         scan: &Scan<'_>,
     ) -> Result<Option<Marker>>
+        requires process { is_progressive (frame_in frame.now).process ≡ false }
+        requires ready { IsReadable (frame_in frame.now) (found_in state.now) scan.now }
+        ensures data { Answers (λ m. (record (with_decoded (found_in state.now) self.new) { scanned = true }, m))
+            (scan_data (with_decoded (found_in state.now) self.old) (frame_in frame.now) (pass_in scan.now.pass) (map coding_in scan.now.components.items))
+            source.old result source.new }
+        ensures planes { ArePlanes (frame_in frame.now).components (planes_in self.old.planes) → OnOk result (ArePlanes (frame_in frame.now).components (planes_in self.new.planes)) }
     {
-        let mut arrays = zero_scan(alloc, &scan.components)?;
-        let met = read_blocks(alloc, source, scan, &mut arrays, frame)?;
+        let (mut planes, met) = read_planes(alloc, source, scan, frame)?;
         self.held = Vec::new(alloc);
-        self.add_scan(alloc, scan, &mut arrays, false)?;
+        self.add_planes(scan, &mut planes, alloc);
         Ok(met)
     }
 
@@ -257,15 +388,22 @@ impl Decoded {
         &mut self,
         alloc: Global,
         source: &mut Source<R>,
+        state: &State,
         frame: &FrameInfo,
         scan: &Scan<'_>,
-        is_first: bool,
     ) -> Result<Option<Marker>>
+        requires ready { IsReadable (frame_in frame.now) (found_in state.now) scan.now }
+        requires held { AreArrays (frame_in frame.now).components (arrays_before (with_decoded (found_in state.now) self.old) (frame_in frame.now)) }
+        ensures data { Answers (λ m. (record (with_decoded (found_in state.now) self.new) { scanned = true }, m))
+            (scan_data (with_decoded (found_in state.now) self.old) (frame_in frame.now) (pass_in scan.now.pass) (map coding_in scan.now.components.items))
+            source.old result source.new }
+        ensures held { OnOk result (AreArrays (frame_in frame.now).components (arrays_before (record (with_decoded (found_in state.now) self.new) { scanned = true }) (frame_in frame.now))) }
+        ensures planes { ArePlanes (frame_in frame.now).components (planes_in self.old.planes) → OnOk result (ArePlanes (frame_in frame.now).components (planes_in self.new.planes)) }
     {
         if is_progressive(frame.coding_process) {
-            self.read_held(alloc, source, frame, scan, is_first)
+            self.read_held(alloc, source, state, frame, scan)
         } else {
-            self.read_sequential(alloc, source, frame, scan)
+            self.read_sequential(alloc, source, state, frame, scan)
         }
     }
 }

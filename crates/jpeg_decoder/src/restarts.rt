@@ -14,11 +14,11 @@ use std::alloc::Global;
 use std::io::Read;
 
 /// Whether a marker is the restart marker of a number, which counts modulo 8.
-fn is_numbered(marker: Option<Marker>, number: u32) -> bool
+fn is_numbered(marker: Option<Marker>, number: u8) -> bool
     ensures { result ≡ intervals.is_restart number marker }
 {
     match marker {
-        Some(Marker::RST(n)) => u32::from(n) == number % 8,
+        Some(Marker::RST(n)) => n == number % 8,
         _ => false,
     }
 }
@@ -29,7 +29,7 @@ pub fn read_restart<R: Read + Drop>(
     alloc: Global,
     decoder: &mut HuffmanDecoder,
     source: &mut Source<R>,
-    number: u32,
+    number: u8,
 ) -> Result<()>
     ensures { Takes (λ _. tt) (restart_from number)
         decoder.old source.old result decoder.new source.new }

@@ -9,7 +9,7 @@ ghost use Rattle.jpeg_segments.specs.FrameView.{frame_in};
 ghost use Rattle.jpeg_decoder.specs.Scans.{Arrays, arrays_at};
 ghost use Rattle.jpeg_decoder.specs.Layout.{line_of, part_of};
 ghost use Rattle.jpeg_bits.specs.BlockView.{pass_in, IsPass};
-ghost use Rattle.jpeg_decoder.specs.Scanning.{vias_in, HasAc, arrays_in, sizes_of, reached, counted, IsHeld, OfSlot, AreWithin, wide_in, across_in, down_in, part_in, first_in, HoldsMcu, components_in, row_in, rows_in, own_mcu, own_row, own_rows};
+ghost use Rattle.jpeg_decoder.specs.Scanning.{vias_in, HasAc, HasCodedScale, arrays_in, sizes_of, reached, counted, IsHeld, OfSlot, AreWithin, wide_in, across_in, down_in, part_in, first_in, HoldsMcu, components_in, row_in, rows_in, own_mcu, own_row, own_rows};
 
 use crate::codings::Coded;
 use crate::grids::{Grid, grid_of};
@@ -39,7 +39,7 @@ pub struct Interval {
     predictors: [i16; 4],
     run: u16,
     left: u16,
-    number: u32,
+    number: u8,
 }
 
 /// Reads the next block, of a component and at an index of its blocks.
@@ -155,9 +155,7 @@ fn read_part<R: Read + Drop>(
 /// Before an MCU: the next interval, where no MCU is left of one of `n`.
 #[tactic(auto, using(crate::proofs::LineSteps::begun_rules))]
 fn begin<R: Read + Drop>(interval: &mut Interval, source: &mut Source<R>, n: u16) -> Result<()>
-    requires { interval.now.number < 2 ^ 32 - 1 }
-    ensures number { interval.new.number ≤ interval.old.number + 1 }
-    ensures begun { (arrays : Arrays) → Takes (λ _. counted interval.new arrays)
+    ensures { (arrays : Arrays) → Takes (λ _. counted interval.new arrays)
         (begun_from n (counted interval.old arrays))
         interval.old.decoder source.old result interval.new.decoder source.new }
 {
@@ -171,7 +169,7 @@ fn begin<R: Read + Drop>(interval: &mut Interval, source: &mut Source<R>, n: u16
     interval.predictors = [0; 4];
     interval.run = 0;
     interval.left = n;
-    interval.number += 1;
+    interval.number = interval.number.wrapping_add(1) % 8;
     Ok(())
 }
 
@@ -244,9 +242,7 @@ fn read_mcu<R: Read + Drop>(
     requires classes { All HasAc scan.now.components.items }
     requires few { length scan.now.components.items ≤ 4 }
     requires held { HoldsMcu scan.now.components.items (sizes_of arrays.now.items) row column }
-    requires number { interval.now.number < 2 ^ 32 - 1 }
     ensures sizes { sizes_of arrays.new.items ≡ sizes_of arrays.old.items }
-    ensures number { interval.new.number ≤ interval.old.number + 1 }
     ensures mcu { Takes (λ _. counted interval.new (arrays_in arrays.new.items))
         (mcu_from (pass_in scan.now.pass) (vias_in 0 scan.now.components.items) scan.now.restart_interval
         (mcu_spots row column 0 (components_in scan.now.components.items))
@@ -273,9 +269,7 @@ fn read_row<R: Read + Drop>(
     requires classes { All HasAc scan.now.components.items }
     requires few { length scan.now.components.items ≤ 4 }
     requires held { (column : ℕ) → column < wide → HoldsMcu scan.now.components.items (sizes_of arrays.now.items) row column }
-    requires number { interval.now.number + 65535 < 2 ^ 32 - 1 }
     ensures sizes { sizes_of arrays.new.items ≡ sizes_of arrays.old.items }
-    ensures number { interval.new.number ≤ interval.old.number + wide }
     ensures mcus { Takes (λ _. counted interval.new (arrays_in arrays.new.items))
         (mcus_from (pass_in scan.now.pass) (vias_in 0 scan.now.components.items) scan.now.restart_interval
         (row_in (components_in scan.now.components.items) wide row)
@@ -306,7 +300,6 @@ fn read_rows<R: Read + Drop>(
     requires classes { All HasAc scan.now.components.items }
     requires few { length scan.now.components.items ≤ 4 }
     requires held { (row column : ℕ) → row < high → column < wide → HoldsMcu scan.now.components.items (sizes_of arrays.now.items) row column }
-    requires number { interval.now.number ≡ 0 }
     ensures sizes { sizes_of arrays.new.items ≡ sizes_of arrays.old.items }
     ensures mcus { Takes (λ _. counted interval.new (arrays_in arrays.new.items))
         (mcus_from (pass_in scan.now.pass) (vias_in 0 scan.now.components.items) scan.now.restart_interval
@@ -369,9 +362,7 @@ fn read_own_mcu<R: Read + Drop>(
     requires some { 0 < length scan.now.components.items }
     requires few { length scan.now.components.items ≤ 4 }
     requires held { IsHeld (sizes_of arrays.now.items) 0 index }
-    requires number { interval.now.number < 2 ^ 32 - 1 }
     ensures sizes { sizes_of arrays.new.items ≡ sizes_of arrays.old.items }
-    ensures number { interval.new.number ≤ interval.old.number + 1 }
     ensures mcu { Takes (λ _. counted interval.new (arrays_in arrays.new.items))
         (mcu_from (pass_in scan.now.pass) (vias_in 0 scan.now.components.items) scan.now.restart_interval
         (record { slot = 0; index = index } ∷ [])
@@ -401,9 +392,7 @@ fn read_own_row<R: Read + Drop>(
     requires array { 0 < length (sizes_of arrays.now.items) }
     requires within { start + count ≤ get_or (sizes_of arrays.now.items) 0 0 }
     requires small { start ≤ 2 ^ 48 }
-    requires number { interval.now.number + 65535 < 2 ^ 32 - 1 }
     ensures sizes { sizes_of arrays.new.items ≡ sizes_of arrays.old.items }
-    ensures number { interval.new.number ≤ interval.old.number + count }
     ensures mcus { Takes (λ _. counted interval.new (arrays_in arrays.new.items))
         (mcus_from (pass_in scan.now.pass) (vias_in 0 scan.now.components.items) scan.now.restart_interval
         (map (own_mcu start) (range_with_len 0 count))
@@ -436,7 +425,6 @@ fn read_own_rows<R: Read + Drop>(
     requires few { length scan.now.components.items ≤ 4 }
     requires array { 0 < length (sizes_of arrays.now.items) }
     requires within { (row : ℕ) → row < grid.own_high → row * grid.wide + grid.own_wide ≤ get_or (sizes_of arrays.now.items) 0 0 }
-    requires number { interval.now.number ≡ 0 }
     ensures sizes { sizes_of arrays.new.items ≡ sizes_of arrays.old.items }
     ensures mcus { Takes (λ _. counted interval.new (arrays_in arrays.new.items))
         (mcus_from (pass_in scan.now.pass) (vias_in 0 scan.now.components.items) scan.now.restart_interval
@@ -512,7 +500,8 @@ pub fn read_several<R: Read + Drop>(
     requires few { length scan.now.components.items ≤ 4 }
     requires fits { AllByRecursion (Fits (frame_in frame.now)) (components_in scan.now.components.items) }
     requires arrays { AreArrays (components_in scan.now.components.items) (arrays_in arrays.now.items) }
-    ensures { Answers (λ m. (arrays_in arrays.new.items, m))
+    ensures sizes { sizes_of arrays.new.items ≡ sizes_of arrays.old.items }
+    ensures scan { Answers (λ m. (arrays_in arrays.new.items, m))
         (arrays_at (pass_in scan.now.pass) (scan.now.restart_interval * mcu_size (components_in scan.now.components.items))
         (vias_in 0 scan.now.components.items) (spots_of (frame_in frame.now) (components_in scan.now.components.items))
         (arrays_in arrays.old.items))
@@ -536,7 +525,8 @@ pub fn read_single<R: Read + Drop>(
     requires grid { AllByRecursion (λ c. grid ≡ grid_of c) (components_in scan.now.components.items) }
     requires fits { AllByRecursion (Fits (frame_in frame.now)) (components_in scan.now.components.items) }
     requires arrays { AreArrays (components_in scan.now.components.items) (arrays_in arrays.now.items) }
-    ensures { Answers (λ m. (arrays_in arrays.new.items, m))
+    ensures sizes { sizes_of arrays.new.items ≡ sizes_of arrays.old.items }
+    ensures scan { Answers (λ m. (arrays_in arrays.new.items, m))
         (arrays_at (pass_in scan.now.pass) (scan.now.restart_interval * mcu_size (components_in scan.now.components.items))
         (vias_in 0 scan.now.components.items) (spots_of (frame_in frame.now) (components_in scan.now.components.items))
         (arrays_in arrays.old.items))

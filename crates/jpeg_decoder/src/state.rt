@@ -4,13 +4,11 @@ ghost use Rattle.jpeg_bits.specs.Reading.{Answers, IsShort};
 ghost use Rattle.jpeg_segments.specs.HuffmanTables.{all_ac};
 ghost use Rattle.jpeg_decoder.specs.Stream.{marker_or};
 
-use crate::codings::{codings_of, is_decoded, pass_of, spare_tables};
 use crate::decoded::Decoded;
 use crate::frames::check_frame;
 use crate::metadata::Metadata;
-use crate::places::{needed, update};
-use crate::restarts::pass_restarts;
-use crate::scans::Scan;
+use crate::places::update;
+use crate::scan_segment::{read_scan, refused_line_count};
 use jpeg_bits::color_transform::ColorTransform;
 use jpeg_bits::error::{Error, Result, UnsupportedFeature, format_error};
 use jpeg_bits::huffman::HuffmanTable;
@@ -18,7 +16,7 @@ use jpeg_bits::marker::{Marker, read_marker};
 use jpeg_bits::reads::{read_length, skip};
 use jpeg_bits::source::Source;
 use jpeg_segments::parser::{
-    FrameInfo, parse_app, parse_dht, parse_dqt, parse_dri, parse_sof, parse_sos,
+    FrameInfo, parse_app, parse_dht, parse_dqt, parse_dri, parse_sof,
 };
 use std::alloc::Global;
 use std::io::Read;
@@ -75,13 +73,14 @@ const ONWARD: Step = Step {
 };
 
 impl State {
-    ghost use Rattle.std.specs.Prelude.{◌≡◌, ◌&&◌, true, is_some, None, OnErr, IfOk, false};
+    ghost use Rattle.std.specs.Prelude.{◌≡◌, ◌&&◌, true, is_some, None, OnErr, OnOk, IfOk, false};
     ghost use Rattle.jpeg_bits.specs.Reading.{Answers, IsShort};
     ghost use Rattle.jpeg_segments.specs.FrameView.{component_in, frame_in, scan_in};
-    ghost use Rattle.jpeg_decoder.specs.Stream.{nothing_found, frame_segment, quantization_segment, huffman_segment, restart_segment, application_segment, skipped_segment, scan_before, scan_segment, end_segment, stray_restart, segment_at, turn_at, segments_at, told_of, told_rest, told_in_turns, IsOfTurns, is_decoded};
+    ghost use Rattle.jpeg_decoder.specs.Stream.{nothing_found, frame_segment, quantization_segment, huffman_segment, restart_segment, application_segment, skipped_segment, scan_before, scan_segment, end_segment, stray_restart, segment_at, turn_at, segments_at, told_of, told_rest, told_in_turns, IsOfTurns};
     ghost use Rattle.jpeg_decoder.specs.States.{OnTold};
     ghost use Rattle.jpeg_decoder.specs.Seen.{found_in};
-    ghost use Rattle.jpeg_decoder.specs.Steps.{turn_of, coded_plane, scan_plane, whole_scan};
+    ghost use Rattle.jpeg_decoder.specs.Steps.{turn_of};
+    ghost use Rattle.jpeg_decoder.specs.Sound.{IsSound};
     ghost use Rattle.jpeg_decoder.specs.declared.state.Before.TheVariants.{Elsewhere};
 
     /// The state at the start of a stream.
@@ -113,6 +112,7 @@ impl State {
         ensures kept { OnErr result (told_of (found_in self.new) ≡ told_of (found_in self.old)) }
         ensures onward { IfOk result (λ s. s.ended ≡ false) }
         ensures stays { is_some (found_in self.old).frame ≡ true → (found_in self.new).frame ≡ (found_in self.old).frame }
+        ensures sound { IsSound (found_in self.old) → OnOk result (IsSound (found_in self.new)) }
     {
         if self.frame.is_some() {
             return Err(Error::Unsupported(UnsupportedFeature::Hierarchical));
@@ -124,7 +124,7 @@ impl State {
     }
 
     /// Quantization tables (T.81, B.2.4.1).
-    #[tactic(auto, unfolding(crate::specs::Stream::quantization_segment))]
+    #[tactic(auto, unfolding(crate::specs::Stream::quantization_segment), using(crate::proofs::Soundness::sound_kept))]
     fn read_quantization<R: Read + Drop>(
         &mut self,
         alloc: Global,
@@ -134,6 +134,7 @@ impl State {
         ensures kept { OnErr result (told_of (found_in self.new) ≡ told_of (found_in self.old)) }
         ensures onward { IfOk result (λ s. s.ended ≡ false) }
         ensures stays { is_some (found_in self.old).frame ≡ true → (found_in self.new).frame ≡ (found_in self.old).frame }
+        ensures sound { IsSound (found_in self.old) → OnOk result (IsSound (found_in self.new)) }
     {
         let mut tables = parse_dqt(alloc, source)?;
         update(&mut self.quantization, &mut tables);
@@ -141,7 +142,7 @@ impl State {
     }
 
     /// Huffman tables (T.81, B.2.4.2).
-    #[tactic(auto, unfolding(crate::specs::Stream::huffman_segment))]
+    #[tactic(auto, unfolding(crate::specs::Stream::huffman_segment), using(crate::proofs::Soundness::sound_kept))]
     fn read_huffman<R: Read + Drop>(
         &mut self,
         alloc: Global,
@@ -151,6 +152,7 @@ impl State {
         ensures kept { OnErr result (told_of (found_in self.new) ≡ told_of (found_in self.old)) }
         ensures onward { IfOk result (λ s. s.ended ≡ false) }
         ensures stays { is_some (found_in self.old).frame ≡ true → (found_in self.new).frame ≡ (found_in self.old).frame }
+        ensures sound { IsSound (found_in self.old) → OnOk result (IsSound (found_in self.new)) }
     {
         let is_baseline = self.frame.as_ref().map(|frame| frame.is_baseline);
         let (mut dc_tables, mut ac_tables) = parse_dht(alloc, source, is_baseline)?;
@@ -160,7 +162,7 @@ impl State {
     }
 
     /// A restart interval (T.81, B.2.4.4).
-    #[tactic(auto, unfolding(crate::specs::Stream::restart_segment))]
+    #[tactic(auto, unfolding(crate::specs::Stream::restart_segment), using(crate::proofs::Soundness::sound_kept))]
     fn read_restart<R: Read + Drop>(
         &mut self,
         alloc: Global,
@@ -170,13 +172,14 @@ impl State {
         ensures kept { OnErr result (told_of (found_in self.new) ≡ told_of (found_in self.old)) }
         ensures onward { IfOk result (λ s. s.ended ≡ false) }
         ensures stays { is_some (found_in self.old).frame ≡ true → (found_in self.new).frame ≡ (found_in self.old).frame }
+        ensures sound { IsSound (found_in self.old) → OnOk result (IsSound (found_in self.new)) }
     {
         self.restart_interval = parse_dri(alloc, source)?;
         Ok(ONWARD)
     }
 
     /// Data of an application (T.81, B.2.4.6).
-    #[tactic(auto, unfolding(crate::specs::Stream::application_segment))]
+    #[tactic(auto, unfolding(crate::specs::Stream::application_segment), using(crate::proofs::Soundness::sound_kept))]
     fn read_application<R: Read + Drop>(
         &mut self,
         alloc: Global,
@@ -187,6 +190,7 @@ impl State {
         ensures kept { OnErr result (told_of (found_in self.new) ≡ told_of (found_in self.old)) }
         ensures onward { IfOk result (λ s. s.ended ≡ false) }
         ensures stays { is_some (found_in self.old).frame ≡ true → (found_in self.new).frame ≡ (found_in self.old).frame }
+        ensures sound { IsSound (found_in self.old) → OnOk result (IsSound (found_in self.new)) }
     {
         let said = parse_app(alloc, source, Marker::APP(number))?;
         self.metadata.add(said)?;
@@ -233,10 +237,12 @@ impl State {
 
     /// A scan (T.81, B.2.3).
     fn read_scan<R: Read + Drop>(&mut self, alloc: Global, source: &mut Source<R>) -> Result<Step>
+        requires sound { IsSound (found_in self.old) }
         ensures reads { Answers (turn_of self.new) (scan_segment (found_in self.old)) source.old result source.new }
         ensures kept { OnErr result (told_of (found_in self.new) ≡ told_of (found_in self.old)) }
         ensures onward { IfOk result (λ s. s.ended ≡ false) }
         ensures stays { is_some (found_in self.old).frame ≡ true → (found_in self.new).frame ≡ (found_in self.old).frame }
+        ensures sound { IsSound (found_in self.old) → OnOk result (IsSound (found_in self.new)) }
     {
         let mut decoded = std::mem::replace(&mut self.decoded, Decoded::new(alloc));
         let result = read_scan(alloc, source, self, &mut decoded);
@@ -280,6 +286,7 @@ impl State {
         ensures kept { OnErr result (told_of (found_in self.new) ≡ told_of (found_in self.old)) }
         ensures framed { IfOk result (λ s. s.ended ≡ true → is_some (found_in self.new).frame ≡ true) }
         ensures stays { is_some (found_in self.old).frame ≡ true → (found_in self.new).frame ≡ (found_in self.old).frame }
+        ensures sound { IsSound (found_in self.old) → OnOk result (IsSound (found_in self.new)) }
     {
         match marker {
             Marker::SOF(number) => self.read_frame(alloc, source, number),
@@ -312,6 +319,7 @@ impl State {
         ensures short { met ≡ None → IsShort source.old }
         ensures framed { IfOk result (λ s. s.ended ≡ true → is_some (found_in self.new).frame ≡ true) }
         ensures stays { is_some (found_in self.old).frame ≡ true → (found_in self.new).frame ≡ (found_in self.old).frame }
+        ensures sound { IsSound (found_in self.old) → OnOk result (IsSound (found_in self.new)) }
     {
         let marker = marker_or_next(alloc, source, met)?;
         self.read_segment(alloc, source, marker, before)
@@ -336,6 +344,7 @@ impl State {
         ensures turns { source.old.known ≡ true → IsOfTurns (λ n. told_in_turns n header (found_in self.old) source.old.bytes) (told_of (found_in self.new)) }
         ensures framed { IfOk result (λ _. is_some (found_in self.new).frame ≡ true) }
         ensures stays { is_some (found_in self.old).frame ≡ true → (found_in self.new).frame ≡ (found_in self.old).frame }
+        ensures sound { IsSound (found_in self.old) → OnOk result (IsSound (found_in self.new)) }
     {
         let mut before = Before::Elsewhere;
         let mut met = None;
@@ -367,40 +376,4 @@ fn marker_or_next<R: Read + Drop>(
         Some(marker) => Ok(marker),
         None => read_marker(alloc, source),
     }
-}
-
-/// Why a DNL segment is refused: after the first scan it would give the height (T.81, B.2.5).
-fn refused_line_count(alloc: Global, before: Before) -> Error
-    ensures { IsRefusal result × Names result (line_count before) }
-{
-    match before {
-        Before::FirstScan => Error::Unsupported(UnsupportedFeature::DNL),
-        Before::LaterScan | Before::Elsewhere => {
-            format_error(alloc, "a number of lines that is not behind the first scan")
-        }
-    }
-}
-
-/// Reads a scan by what was said before it, with what the scans before it gave, and returns the
-/// marker after it and after the restart markers at its end, if one was met.
-fn read_scan<R: Read + Drop>(
-    alloc: Global,
-    source: &mut Source<R>,
-    state: &State,
-    decoded: &mut Decoded,
-) -> Result<Option<Marker>>
-{
-    let frame = needed(alloc, state.frame.as_ref(), "a scan without a frame")?;
-    let header = parse_sos(alloc, source, frame)?;
-    if !is_decoded(frame.coding_process) {
-        return Err(format_error(alloc, "a scan that is not decoded"));
-    }
-    let spare = spare_tables(alloc, &header, state.metadata.avi1)?;
-    let scan = Scan {
-        pass: pass_of(&header),
-        restart_interval: state.restart_interval,
-        components: codings_of(alloc, state, &spare, frame, &header)?,
-    };
-    let met = decoded.read(alloc, source, frame, &scan, !state.scanned)?;
-    pass_restarts(alloc, source, met)
 }

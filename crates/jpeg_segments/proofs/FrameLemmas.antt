@@ -4,8 +4,6 @@ use Rattle.std.specs.List.{list_any}
 use Rattle.std.specs.Prelude.{◌||◌}
 use Rattle.std.proofs.lemmas.List.Elements.{All-head, All-tail, All-cons, All-nil}
 use Rattle.std.proofs.lemmas.List.{take_more, map-append}
-use Rattle.jpeg_segments.specs.declared.frame_header.Factors.{Factors as Read}
-use Rattle.jpeg_segments.specs.FrameView.{factors_of}
 use Rattle.jpeg_bits.specs.Reading.{◌>>=◌}
 use Rattle.jpeg_segments.specs.Frame.{Factors, HasFactors, AllHaveFactors, IsInRange, component_of, components_from, factors_at, greatest}
 
@@ -39,17 +37,17 @@ greatest-most f (y ∷ ys) small all =
     omega arith
 
 -- the greatest of one component more
-pub greatest-next : (f : Factors → ℕ) (xs : List Read) (i : ℕ) (d : Read) → i < length xs
-    → greatest f (map factors_of (take (i + 1) xs)) ≡ max (greatest f (map factors_of (take i xs))) (f (factors_of (get_or xs i d)))
-greatest-next f xs i d h =
-    rw (take_more xs i d h, map-append factors_of (take i xs) (get_or xs i d ∷ [])) (greatest-append f (map factors_of (take i xs)) (factors_of (get_or xs i d)))
+pub greatest-next : {A : Type 0} (of : A → Factors) (f : Factors → ℕ) (xs : List A) (i : ℕ) (d : A) → i < length xs
+    → greatest f (map of (take (i + 1) xs)) ≡ max (greatest f (map of (take i xs))) (f (of (get_or xs i d)))
+greatest-next of f xs i d h =
+    rw (take_more xs i d h, map-append of (take i xs) (get_or xs i d ∷ [])) (greatest-append f (map of (take i xs)) (of (get_or xs i d)))
 
-pub greatest-covers : (f : Factors → ℕ) (m : ℕ) (xs : List Read) → greatest f (map factors_of xs) ≤ m → All (λ c. f (factors_of c) ≤ m) xs
-greatest-covers f m [] h = All-nil (λ c. f (factors_of c) ≤ m)
-greatest-covers f m (y ∷ ys) h =
-    let g : greatest f (map factors_of ys) ≤ m = omega arith in
-    let p : f (factors_of y) ≤ m = omega arith in
-    All-cons (λ c. f (factors_of c) ≤ m) y ys p (greatest-covers f m ys g)
+pub greatest-covers : {A : Type 0} (of : A → Factors) (f : Factors → ℕ) (m : ℕ) (xs : List A) → greatest f (map of xs) ≤ m → All (λ c. f (of c) ≤ m) xs
+greatest-covers of f m [] h = All-nil (λ c. f (of c) ≤ m)
+greatest-covers of f m (y ∷ ys) h =
+    let g : greatest f (map of ys) ≤ m = omega arith in
+    let p : f (of y) ≤ m = omega arith in
+    All-cons (λ c. f (of c) ≤ m) y ys p (greatest-covers of f m ys g)
 
 -- ---- the components
 

@@ -1,6 +1,14 @@
+pub mod Ceilings
+pub mod ScaleLemmas
 pub mod QuantizationLemmas
 pub mod HuffmanLemmas
 pub mod ApplicationLemmas
 pub mod FrameLemmas
 pub mod ScanLemmas
 pub mod Rows
+pub mod Fields
+pub mod TableSegments
+pub mod OtherSegments
+pub mod HeaderSegments
+pub mod HeaderRules
+pub mod OnlyWritten

@@ -1,8 +1,10 @@
 -- Steps of the parser of scan headers.
-use Rattle.std.proofs.Common.{All, sym, true, false, ◌∙◌, ◌≡◌, ◌≤◌, ℕ, zero, suc, ◌+◌, ◌-◌, ◌*◌, ◌<◌, Bool, not, cond, List, [], ◌∷◌, ◌++◌, map, length, refl, ap, Ok, arith, get_or}
-use Rattle.std.specs.List.{position, position_or_len}
+use Rattle.std.proofs.Common.{All, sym, true, false, ◌∙◌, ◌≡◌, ◌≤◌, ℕ, zero, suc, ◌+◌, ◌-◌, ◌*◌, ◌<◌, Bool, not, cond, List, [], ◌∷◌, ◌++◌, map, length, refl, ap, ap₂, subst, Ok, arith, get_or, nat_le, sum_by, append-nil, append_assoc}
+use Rattle.std.specs.List.{AllByRecursion, position, position_or_len}
 use Rattle.std.proofs.lemmas.List.{length-map}
-use Rattle.std.proofs.lemmas.List.Elements.{All-map, All-weaker}
+use Rattle.std.proofs.lemmas.List.Elements.{All-head, All-map, All-tail, All-weaker}
+use Rattle.std.proofs.lemmas.List.Sums.{sum_by-cons}
+use Rattle.std.proofs.lemmas.Bool.{leb-true}
 use Rattle.jpeg_bits.specs.Reading.{◌>>=◌}
 use Rattle.std.specs.Prelude.{◌==◌, ◌&&◌, ◌||◌}
 use Rattle.jpeg_segments.specs.declared.parser.CodingProcess.{CodingProcess}
@@ -11,29 +13,35 @@ use Rattle.jpeg_segments.specs.declared.parser.Component.{Component as Seen}
 use Rattle.jpeg_segments.specs.Frame.{Component}
 use Rattle.jpeg_segments.specs.Frame as frames
 use Rattle.jpeg_segments.specs.FrameView.{component_in}
-use Rattle.jpeg_segments.specs.ScanHeader.{IsCoded, behind_of, is_band, IsScanOf, IsSelectorOf, Scan, Selector, blocks_by, selector_at, selectors_from}
+use Rattle.jpeg_segments.specs.ScanHeader.{IsCoded, behind_of, is_band, is_mcu, IsRising, IsScanOf, IsSelectorOf, Scan, Selector, blocks_by, selector_at, selectors_from}
 
 pub selectors_from-more : (frame : frames.Frame) (n : ℕ) (front : List Selector) (least : ℕ) (bytes : List ℕ) → 0 < n
-    → selectors_from frame n front least bytes ≡ (selector_at frame least bytes >>= λ (s : Selector × List ℕ). selectors_from frame (n - 1) (front ++ s.0 ∷ []) (s.0.component + 1) s.1)
+    → selectors_from frame n front least bytes
+    ≡ (selector_at frame least bytes >>= λ (s : Selector × List ℕ). selectors_from frame (n - 1) (front
+    ++ s.0 ∷ []) (s.0.component + 1) s.1)
 unfolding selectors_from
 selectors_from-more frame zero front least bytes h = absurd (omega arith)
 selectors_from-more frame (suc n) front least bytes h = let e : suc n - 1 ≡ n = omega arith in rw e refl
 
-pub selectors_from-none : (frame : frames.Frame) (front : List Selector) (least : ℕ) (bytes : List ℕ) → selectors_from frame 0 front least bytes ≡ Ok (front, bytes)
+pub selectors_from-none : (frame : frames.Frame) (front : List Selector) (least : ℕ) (bytes : List ℕ)
+    → selectors_from frame 0 front least bytes ≡ Ok (front, bytes)
 unfolding selectors_from
 selectors_from-none frame front least bytes = refl
 
 -- the first place at which a test passes
-position_or_len-map : {A B : Type 0} (f : A → B) (test : B → Bool) (xs : List A) → position_or_len test (map f xs) ≡ position_or_len (λ x. test (f x)) xs
+position_or_len-map : {A B : Type 0} (f : A → B) (test : B → Bool) (xs : List A)
+    → position_or_len test (map f xs) ≡ position_or_len (λ x. test (f x)) xs
 position_or_len-map f test [] = refl
 position_or_len-map f test (x ∷ xs) = ap (λ n. cond (not (test (f x))) (1 + n) 0) (position_or_len-map f test xs)
 
-pub position-map : {A B : Type 0} (f : A → B) (test : B → Bool) (xs : List A) → position test (map f xs) ≡ position (λ x. test (f x)) xs
+pub position-map : {A B : Type 0} (f : A → B) (test : B → Bool) (xs : List A)
+    → position test (map f xs) ≡ position (λ x. test (f x)) xs
 position-map f test xs = rw (position_or_len-map f test xs, length-map xs f) refl
 
 -- the blocks of the component at a place
 pub blocks-at : (xs : List Seen) (i : ℕ) (d : Seen) → i < length xs
-    → blocks_by (map component_in xs) i ≡ (get_or xs i d).horizontal_sampling_factor * (get_or xs i d).vertical_sampling_factor
+    → blocks_by (map component_in xs) i
+    ≡ (get_or xs i d).horizontal_sampling_factor * (get_or xs i d).vertical_sampling_factor
 blocks-at [] i d h = absurd (omega arith)
 blocks-at (x ∷ xs) zero d h = refl
 blocks-at (x ∷ xs) (suc i) d h = blocks-at xs i d (omega arith)
@@ -41,12 +49,15 @@ blocks-at (x ∷ xs) (suc i) d h = blocks-at xs i d (omega arith)
 -- ---- what each scan that is read has
 
 -- a field of each, where each has it so
-all-of : (P : Selector → Type 0) (Q : ℕ → Type 0) (field : Selector → ℕ) → ((s : Selector) → P s → Q (field s)) → (xs : List Selector) → All P xs → All Q (map field xs)
+all-of : (P : Selector → Type 0) (Q : ℕ → Type 0) (field : Selector → ℕ) → ((s : Selector) → P s → Q (field s))
+    → (xs : List Selector) → All P xs → All Q (map field xs)
 all-of P Q field f xs h = All-map Q field xs (All-weaker P (λ s. Q (field s)) f xs h)
 
 -- a band that a header may name passes the rules by the places that it stands for
-pub legal-again : (p : CodingProcess) (count first last high low : ℕ) → is_band p count first last high low ≡ true → is_band p count first (behind_of p last - 1) high low ≡ true
-legal-again DctSequential count first last high low e = go (first == 0) (last == 0 || last == 63) (high == 0 && low == 0) e
+pub legal-again : (p : CodingProcess) (count first last high low : ℕ) → is_band p count first last high low ≡ true
+    → is_band p count first (behind_of p last - 1) high low ≡ true
+legal-again DctSequential count first last high low e =
+    go (first == 0) (last == 0 || last == 63) (high == 0 && low == 0) e
   where
     go : (a b c : Bool) → (a && (b && c)) ≡ true → (a && (true && c)) ≡ true
     go true true c e = e
@@ -55,16 +66,74 @@ legal-again DctSequential count first last high low e = go (first == 0) (last ==
 legal-again DctProgressive count first last high low e = let same : last + 1 - 1 ≡ last = omega arith in rw same e
 legal-again Lossless count first last high low e = let same : last + 1 - 1 ≡ last = omega arith in rw same e
 
-pub is-scan : (frame : frames.Frame) (xs : List Selector) (s : Scan) → 1 ≤ length xs → length xs ≤ 4 → All (IsSelectorOf frame) xs
+-- the blocks of an MCU, by the places of the components
+same-blocks : (frame : frames.Frame) (xs : List Selector) → All (IsSelectorOf frame) xs
+    → sum_by (blocks_by frame.components) (map (λ x. x.component) xs) ≡ sum_by (λ x. x.blocks) xs
+same-blocks frame [] places = refl
+same-blocks frame (x ∷ xs) places =
+    let one = All-head (IsSelectorOf frame) x xs places in
+    sum_by-cons (blocks_by frame.components) x.component (map (λ y. y.component) xs)
+    ∙ (ap₂ (λ a b. a + b) (sym one.blocks) (same-blocks frame xs (All-tail (IsSelectorOf frame) x xs places))
+    ∙ sym (sum_by-cons (λ y. y.blocks) x xs))
+
+few : (count blocks : ℕ) → (nat_le count 1 || nat_le blocks 10) ≡ true → 2 ≤ count → blocks ≤ 10
+few count blocks e h = go (nat_le count 1) (nat_le blocks 10) (leb-true count 1) (leb-true blocks 10) e
+  where
+    go : (a b : Bool) → (a ≡ true → count ≤ 1) → (b ≡ true → blocks ≤ 10) → (a || b) ≡ true → blocks ≤ 10
+    go true b f g e = let l = f refl in absurd (omega arith)
+    go false true f g e = g refl
+    go false false f g e = absurd (cc)
+
+-- ---- places that rise
+
+-- Places that rise after those in front, from the least on, make the whole rise.
+abbrev pub RisesTo : List ℕ → ℕ → Type 0
+RisesTo front least = (more : List ℕ) → IsRising least more → IsRising 0 (front ++ more)
+
+pub rises-none : RisesTo [] 0
+rises-none more h = h
+
+pub rises-more : (front : List ℕ) (least place : ℕ) → RisesTo front least → least ≤ place
+    → RisesTo (front ++ place ∷ []) (place + 1)
+unfolding IsRising
+rises-more front least place rises h more after =
+    subst (IsRising 0) (sym (append_assoc front (place ∷ []) more)) (rises (place ∷ more) (h, after))
+
+pub rises-all : (front : List ℕ) (least : ℕ) → RisesTo front least → IsRising 0 front
+unfolding IsRising
+rises-all front least rises = subst (IsRising 0) (append-nil front) (rises [] tt)
+
+-- each is at least the least
+pub rising-least : (least : ℕ) (places : List ℕ) → IsRising least places
+    → AllByRecursion (λ place. least ≤ place) places
+unfolding IsRising
+rising-least least [] h = tt
+rising-least least (place ∷ more) h =
+    (h.0, weaker least (place + 1) more (omega (arith, h.0)) (rising-least (place + 1) more h.1))
+  where
+    weaker : (a b : ℕ) (xs : List ℕ) → a ≤ b → AllByRecursion (λ x. b ≤ x) xs → AllByRecursion (λ x. a ≤ x) xs
+    weaker a b [] le all = tt
+    weaker a b (x ∷ xs) le all = let l = all.0 in (omega (arith, le, l), weaker a b xs le all.1)
+
+pub is-scan : (frame : frames.Frame) (xs : List Selector) (s : Scan) → 1 ≤ length xs → length xs ≤ 4
+    → All (IsSelectorOf frame) xs
+    → IsRising 0 (map (λ x. x.component) xs) → is_mcu xs ≡ true
     → s.components ≡ map (λ x. x.component) xs → s.dc_places ≡ map (λ x. x.dc) xs → s.ac_places ≡ map (λ x. x.ac) xs
-    → IsCoded frame.process s.first s.behind s.high s.low → is_band frame.process (length xs) s.first (s.behind - 1) s.high s.low ≡ true
+    → IsCoded frame.process s.first s.behind s.high s.low
+    → is_band frame.process (length xs) s.first (s.behind - 1) s.high s.low ≡ true
     → s.low < frame.precision → s.point_transform ≡ s.low → IsScanOf frame s
-is-scan frame xs s some most places components dc ac coded legal below same_point =
+is-scan frame xs s some most places rising mcu components dc ac coded legal below same_point =
     let count : length s.components ≡ length xs = ap length components ∙ length-map xs (λ x. x.component) in
     record {
       some = rw count some;
       most = rw count most;
-      components = rw components (all-of (IsSelectorOf frame) (λ n. n < length frame.components) (λ x. x.component) (λ x p. p.component) xs places);
+      components = rw components
+          (all-of (IsSelectorOf frame) (λ n. n < length frame.components) (λ x. x.component) (λ x p. p.component) xs
+          places);
+      rising = rw components rising;
+      few_blocks = λ several.
+          rw (components, same-blocks frame xs places)
+          (few (length xs) (sum_by (λ x. x.blocks) xs) mcu (rw count at several));
       dc_length = (ap length dc ∙ length-map xs (λ x. x.dc)) ∙ sym count;
       dc_places = rw dc (all-of (IsSelectorOf frame) (λ n. n ≤ 3) (λ x. x.dc) (λ x p. p.dc) xs places);
       ac_length = (ap length ac ∙ length-map xs (λ x. x.ac)) ∙ sym count;

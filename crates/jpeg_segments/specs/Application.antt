@@ -5,13 +5,13 @@ use Rattle.jpeg_bits.specs.Reading.{Outcome, Malformed, ◌>>=◌, next_byte, ne
 use Rattle.jpeg_segments.specs.declared.parser.AdobeColorTransform.{AdobeColorTransform}
 use Rattle.jpeg_segments.specs.declared.parser.AdobeColorTransform.TheVariants.{Unknown, YCbCr, YCCK}
 
--- a part of an ICC profile: its number, how many parts there are, and its bytes
+-- a part of an ICC profile: its number, the number of parts, and its bytes
 pub record Chunk : Type 0 where
   pub number : ℕ
   pub count : ℕ
   pub bytes : List ℕ
 
--- what a segment of an application says
+-- what an APPn segment says
 pub data Application : Type 0 where
   Adobe : AdobeColorTransform → Application
   Jfif : Application
@@ -84,11 +84,11 @@ transform_by (suc zero) = Some YCbCr
 transform_by (suc (suc zero)) = Some YCCK
 transform_by (suc (suc (suc n))) = None
 
--- the rest of a segment of so many bytes is passed over
+-- the rest of the segment, of `left` bytes, is passed over
 abbrev pub passed_over : ℕ → Option Application → List ℕ → Outcome (Option Application)
 passed_over left said bytes = skip_at left bytes >>= (λ u. Ok (said, u.1))
 
--- a transform, where its number is one
+-- the transform, where the number is that of one
 abbrev pub adobe_by : ℕ → Option AdobeColorTransform → List ℕ → Outcome (Option Application)
 adobe_by left None bytes = Err Malformed
 adobe_by left (Some transform) bytes = passed_over left (Some (Adobe transform)) bytes
@@ -109,7 +109,7 @@ payload_at number left bytes = do
   payload ← times left next_byte bytes
   Ok (application_by number payload.0, payload.1)
 
--- A segment behind the marker APPn.
+-- The data of an APPn segment, after the marker.
 unfoldable pub app_at : ℕ → List ℕ → Outcome (Option Application)
 app_at number bytes = do
   left ← length_at bytes

@@ -8,14 +8,16 @@ use Rattle.jpeg_segments.specs.declared.parser.CodingProcess.TheVariants.{DctSeq
 use Rattle.jpeg_segments.specs.declared.parser.EntropyCoding.{EntropyCoding}
 use Rattle.jpeg_segments.specs.declared.parser.EntropyCoding.TheVariants.{Huffman, Arithmetic}
 
--- a component as it is read
+-- The parameters of a component (B.2.2): its identifier Ci, its sampling factors Hi and Vi, and the
+-- destination Tqi of its quantization table.
 pub record Factors : Type 0 where
   pub identifier : ℕ
   pub horizontal : ℕ
   pub vertical : ℕ
   pub quantization : ℕ
 
--- A component: what is read, the samples that one side of a block has, its size in samples, and its size in the blocks of all MCUs.
+-- A component: its parameters, the number of samples along a side of a block, its size in samples
+-- (A.1.1), and its size in blocks when all MCUs are whole (A.2.4).
 pub record Component : Type 0 where
   pub factors : Factors
   pub scale : ℕ
@@ -24,8 +26,8 @@ pub record Component : Type 0 where
   pub blocks_wide : ℕ
   pub blocks_high : ℕ
 
--- A frame: its process (Table B.1), what is read, the size of the picture that is made of it, the number of MCUs across and down, and the
--- components.
+-- A frame: its process (Table B.1), its sample precision and its size in samples, the size of the
+-- picture that is made of it, the number of MCUs across and down (A.2), and the components.
 pub record Frame : Type 0 where
   pub is_baseline : Bool
   pub is_differential : Bool
@@ -48,7 +50,8 @@ abbrev pub greatest : (Factors → ℕ) → List Factors → ℕ
 greatest f [] = 1
 greatest f (c ∷ more) = max (f c) (greatest f more)
 
--- A component of a frame of this width and height, where these are the greatest factors.
+-- A component of a frame of this width and height, where these are the greatest sampling factors of
+-- its components.
 unfoldable pub component_of : ℕ → ℕ → ℕ → ℕ → Factors → Component
 component_of width height most_horizontal most_vertical c = record {
   factors = c;
@@ -101,15 +104,15 @@ frame_of number precision width height components =
 abbrev pub is_factor : ℕ → Bool
 is_factor n = not (n == 0) && nat_le n 4
 
--- whether a component in front has this identifier
+-- whether a component in `front` has this identifier
 abbrev pub is_taken : List Factors → ℕ → Bool
 is_taken front identifier = list_any (λ c. c.identifier == identifier) front
 
--- a quantization table's place, which is 0 in a lossless frame
+-- a destination of a quantization table, which is 0 in a lossless frame
 abbrev pub is_place : Bool → ℕ → Bool
 is_place lossless place = if lossless then place == 0 else nat_le place 3
 
--- The sampling factors and the quantization table's place, behind the identifier.
+-- The sampling factors and the destination of the quantization table, after the identifier.
 unfoldable pub parameters_at : Bool → ℕ → List ℕ → Outcome Factors
 parameters_at lossless identifier bytes = do
   factors ← next_byte bytes
@@ -119,19 +122,19 @@ parameters_at lossless identifier bytes = do
         then Ok (record { identifier = identifier; horizontal = factors.0 / 16; vertical = factors.0 % 16; quantization = place.0 }, place.1)
         else Err Malformed) else Err Malformed) else Err Malformed
 
--- A component behind those in front, with an identifier of its own.
+-- A component after those in `front`, with an identifier of its own.
 unfoldable pub factors_at : Bool → List Factors → List ℕ → Outcome Factors
 factors_at lossless front bytes = do
   identifier ← next_byte bytes
   if is_taken front identifier.0 then Err Malformed else parameters_at lossless identifier.0 identifier.1
 
--- so many components more, behind those in front
+-- n more components, after those in `front`
 unfoldable pub components_from : Bool → ℕ → List Factors → List ℕ → Outcome (List Factors)
 components_from lossless zero front bytes = Ok (front, bytes)
 components_from lossless (suc n) front bytes =
     factors_at lossless front bytes >>= (λ c. components_from lossless n (front ++ c.0 ∷ []) c.1)
 
--- ---- what stands in front of the components
+-- ---- the parameters before those of the components
 
 pub record Head : Type 0 where
   pub length : ℕ
@@ -140,7 +143,7 @@ pub record Head : Type 0 where
   pub height : ℕ
   pub count : ℕ
 
--- The size: a height of 0 would be told by a later DNL segment.
+-- The number of lines and of samples in a line. 0 lines would be defined by a later DNL segment.
 unfoldable pub size_at : List ℕ → Outcome (ℕ × ℕ)
 size_at bytes = do
   height ← next_u16 bytes
@@ -169,7 +172,7 @@ head_at number bytes = do
           then Ok (record { length = left.0; precision = precision.0; width = size.0.0; height = size.0.1; count = count.0 }, count.1)
           else Err Malformed) else Err Malformed) else Err Malformed)
 
--- A frame header behind the marker SOFn.
+-- The parameters of an SOFn segment, after the marker.
 unfoldable pub sof_at : ℕ → List ℕ → Outcome Frame
 sof_at number bytes = do
   head ← head_at number bytes
@@ -178,7 +181,7 @@ sof_at number bytes = do
 
 -- ---- what each frame that is read has
 
--- the factors of a component are 1 to 4
+-- the sampling factors of a component are 1 to 4
 pub record HasFactors (c : Component) : Type 0 where
   pub horizontal_some : 1 ≤ c.factors.horizontal
   pub horizontal_most : c.factors.horizontal ≤ 4
@@ -189,14 +192,15 @@ unfoldable pub AllHaveFactors : List Component → Type 0
 AllHaveFactors [] = Unit {0}
 AllHaveFactors (c ∷ more) = HasFactors c × AllHaveFactors more
 
--- the factors that are read of a component are 1 to 4
+-- the sampling factors that a header gives a component are 1 to 4
 pub record IsInRange (c : Factors) : Type 0 where
   pub horizontal_some : 1 ≤ c.horizontal
   pub horizontal_most : c.horizontal ≤ 4
   pub vertical_some : 1 ≤ c.vertical
   pub vertical_most : c.vertical ≤ 4
 
--- A frame that a header gives, of a picture that has samples and of components whose factors are 1 to 4.
+-- A frame that a header gives: its picture has lines and samples, and the sampling factors of its
+-- components are 1 to 4.
 pub record IsFrame (f : Frame) : Type 0 where
   pub number : ℕ
   pub precision : ℕ

@@ -6,7 +6,7 @@ use Rattle.jpeg_bits.specs.Codes.{Table, code_lengths, codes_exist, is_ac}
 use Rattle.jpeg_bits.specs.declared.codes.HuffmanTableClass.{HuffmanTableClass}
 use Rattle.jpeg_bits.specs.declared.codes.HuffmanTableClass.TheVariants as classes
 
--- the tables of each class, by their places
+-- the tables of each class, by their destinations
 pub record Tables : Type 0 where
   pub dc : List (Option Table)
   pub ac : List (Option Table)
@@ -14,7 +14,7 @@ pub record Tables : Type 0 where
 abbrev pub no_tables : Tables
 no_tables = record { dc = replicate 4 None; ac = replicate 4 None }
 
--- the greatest place of a table: 1 in a baseline frame that is read
+-- the greatest destination of a table: 1 after the header of a baseline frame
 abbrev pub greatest_place : Option Bool → ℕ
 greatest_place None = 3
 greatest_place (Some is_baseline) = if is_baseline then 1 else 3
@@ -22,29 +22,30 @@ greatest_place (Some is_baseline) = if is_baseline then 1 else 3
 abbrev pub class_of : ℕ → HuffmanTableClass
 class_of number = if number == 0 then classes.DC else classes.AC
 
--- a table that is read, and its place
+-- a table and its destination
 pub record PlacedTable : Type 0 where
   pub place : ℕ
   pub table : Table
 
--- how many bytes it takes
+-- its number of bytes
 abbrev pub size_of : PlacedTable → ℕ
 size_of t = 17 + sum t.table.counts
 
--- the symbols of a table of these counts, and the table, where its codes exist
+-- The values of a table of these counts, and the table, where codes of these lengths exist.
 unfoldable pub symbols_at : HuffmanTableClass → List ℕ → List ℕ → Outcome Table
 symbols_at class counts bytes = do
   symbols ← times (sum counts) next_byte bytes
   if codes_exist (code_lengths counts) then Ok (record { class = class; counts = counts; symbols = symbols.0 }, symbols.1) else Err Malformed
 
--- the counts and the symbols, of which there are 1 to 256 and at most as many as bytes are left of the segment
+-- The counts and the values, of which there are 1 to 256, and no more than bytes of the segment are
+-- left.
 unfoldable pub codes_at : ℕ → HuffmanTableClass → List ℕ → Outcome Table
 codes_at left class bytes = do
   counts ← times 16 next_byte bytes
   if sum counts.0 == 0 then Err Malformed else (if nat_lt 256 (sum counts.0) then Err Malformed else (
       if nat_lt left (17 + sum counts.0) then Err Malformed else symbols_at class counts.0 counts.1))
 
--- the next table, where so many bytes are left of the segment
+-- the next table, where `left` bytes of the segment are left
 unfoldable pub placed_codes_at : ℕ → ℕ → List ℕ → Outcome PlacedTable
 placed_codes_at greatest left bytes = do
   b ← next_byte bytes
@@ -57,7 +58,7 @@ abbrev pub with_table : Tables → PlacedTable → Tables
 with_table tables t =
     if is_ac t.table.class then record tables { ac = slice_set tables.ac t.place (Some t.table) } else record tables { dc = slice_set tables.dc t.place (Some t.table) }
 
--- Tables while more than 17 bytes are left of the segment, at most so many; then none may be left.
+-- At most `most` tables, while more than 17 bytes of the segment are left. Then none may be left.
 unfoldable pub tables_from : ℕ → ℕ → ℕ → Tables → List ℕ → Outcome Tables
 tables_from zero greatest left tables bytes = if left == 0 then Ok (tables, bytes) else Err Malformed
 tables_from (suc most) greatest left tables bytes =

@@ -5,3 +5,5 @@ pub mod Application
 pub mod FrameView
 pub mod ScanHeader
 pub mod Scales
+pub mod WrittenSegments
+pub mod ScanHeaders

@@ -1,8 +1,13 @@
--- The scales that a picture can be made at (own to the decoder): a block gives 1, 2, 4 or 8 samples a side.
-use Rattle.std.specs.Prelude.{ℕ, ◌*◌, nat_le, ◌||◌, Bool, List, map, if◌then◌else◌}
+-- The scales that a picture can be made at. They are the decoder's own, not of T.81: an 8 by 8
+-- block gives 1, 2, 4 or 8 samples a side, and the picture and each component are 1/8, 1/4, 1/2 or
+-- all of their size.
+use Rattle.std.specs.Prelude.{ℕ, ◌≡◌, ◌*◌, ◌==◌, nat_le, ◌||◌, Bool, true, map, if◌then◌else◌}
 use Rattle.jpeg_segments.specs.declared.parser.CodingProcess.{CodingProcess}
 use Rattle.jpeg_segments.specs.declared.parser.CodingProcess.TheVariants.{DctSequential, DctProgressive, Lossless}
-use Rattle.jpeg_segments.specs.Frame.{Frame, Component, Factors, ceiling, greatest}
+use Rattle.jpeg_segments.specs.Frame.{Frame, Component, IsFrame, ceiling, greatest}
+
+abbrev pub is_scale : ℕ → Bool
+is_scale scale = scale == 1 || (scale == 2 || (scale == 4 || scale == 8))
 
 -- whether a picture of full size is at a scale as wide or as high as is asked for
 abbrev pub reaches : ℕ → ℕ → ℕ → ℕ → ℕ → Bool
@@ -37,9 +42,21 @@ frame_at scale frame =
 
 -- A frame whose picture is to be at least so wide or so high. A lossless frame keeps its size.
 abbrev pub sized_by : CodingProcess → ℕ → ℕ → Frame → Frame
-sized_by DctSequential width height frame = frame_at (scale_for frame.width frame.height width height) frame
-sized_by DctProgressive width height frame = frame_at (scale_for frame.width frame.height width height) frame
+sized_by DctSequential width height frame =
+    frame_at (scale_for frame.width frame.height width height) frame
+sized_by DctProgressive width height frame =
+    frame_at (scale_for frame.width frame.height width height) frame
 sized_by Lossless width height frame = frame
 
 abbrev pub sized : ℕ → ℕ → Frame → Frame
 sized width height frame = sized_by frame.process width height frame
+
+-- ---- what each frame of a decoder has
+
+-- A frame that a header gives, at one of the scales.
+pub record IsSizedFrame (f : Frame) : Type 0 where
+  pub full : Frame
+  pub scale : ℕ
+  pub is_read : IsFrame full
+  pub is_scale : is_scale scale ≡ true
+  pub made : f ≡ frame_at scale full

@@ -8,9 +8,10 @@ use Rattle.jpeg_segments.specs.declared.parser.CodingProcess.TheVariants.{DctSeq
 use Rattle.jpeg_segments.specs.Frame.{Frame, Component}
 use Rattle.jpeg_segments.specs.HuffmanTables.{greatest_place}
 
--- A scan: its components' places in the frame and the places of their tables, in the order of the scan; the coefficients that it codes, by
--- their places in zigzag order, from the first to the one behind the last; its predictor; the levels Ah and Al of successive approximation;
--- and its point transform.
+-- A scan: the places of its components in the frame and the destinations of their DC and AC tables,
+-- in the order of the scan; the coefficients that it codes, by their places in zigzag order, from
+-- the first to the one after the last; its predictor; the levels Ah and Al of successive
+-- approximation; and its point transform.
 pub record Scan : Type 0 where
   pub components : List ℕ
   pub dc_places : List ℕ
@@ -24,7 +25,8 @@ pub record Scan : Type 0 where
 
 -- ---- components
 
--- a component's place in the frame, the places of its tables, and the blocks that it has in an MCU
+-- The place of a component in the frame, the destinations of its DC and AC tables, and the number
+-- of its blocks in an MCU of several components (A.2.3).
 pub record Selector : Type 0 where
   pub component : ℕ
   pub dc : ℕ
@@ -35,13 +37,15 @@ pub record Selector : Type 0 where
 abbrev pub place_of : List Component → ℕ → Option ℕ
 place_of components identifier = position (λ c. c.factors.identifier == identifier) components
 
--- the factors of the component at a place
+-- The number of blocks that the component at a place has in such an MCU: its sampling factors
+-- multiplied.
 abbrev pub blocks_by : List Component → ℕ → ℕ
 blocks_by [] place = 0
 blocks_by (c ∷ more) zero = c.factors.horizontal * c.factors.vertical
 blocks_by (c ∷ more) (suc place) = blocks_by more place
 
--- the tables of the component at a place of the frame
+-- The destinations Td and Ta of the tables of the component at a place of the frame. In a baseline
+-- frame they are 0 or 1.
 unfoldable pub tables_at : Frame → ℕ → List ℕ → Outcome Selector
 tables_at frame place bytes = do
   places ← next_byte bytes
@@ -49,40 +53,42 @@ tables_at frame place bytes = do
       if nat_lt (greatest_place (Some frame.is_baseline)) (places.0 % 16) then Err Malformed else
       Ok (record { component = place; dc = places.0 / 16; ac = places.0 % 16; blocks = blocks_by frame.components place }, places.1))
 
--- the tables, where a component is there and stands behind those before it
+-- The same, where the frame has the component and it stands after those before it.
 abbrev pub tables_by : Frame → ℕ → Option ℕ → List ℕ → Outcome Selector
 tables_by frame least None bytes = Err Malformed
 tables_by frame least (Some place) bytes = if nat_lt place least then Err Malformed else tables_at frame place bytes
 
--- The next component, whose place in the frame is at least the one named: components stand in the frame's order.
+-- The next component, whose place in the frame is at least `least`: components stand in the order
+-- of the frame.
 unfoldable pub selector_at : Frame → ℕ → List ℕ → Outcome Selector
 selector_at frame least bytes = do
   identifier ← next_byte bytes
   tables_by frame least (place_of frame.components identifier.0) identifier.1
 
--- so many components more, behind those in front
+-- n more components, after those in `front`
 unfoldable pub selectors_from : Frame → ℕ → List Selector → ℕ → List ℕ → Outcome (List Selector)
 selectors_from frame zero front least bytes = Ok (front, bytes)
 selectors_from frame (suc n) front least bytes =
     selector_at frame least bytes >>= (λ s. selectors_from frame n (front ++ s.0 ∷ []) (s.0.component + 1) s.1)
 
--- several components have at most 10 blocks in an MCU
+-- An MCU of several components has at most 10 blocks.
 abbrev pub is_mcu : List Selector → Bool
 is_mcu selectors = nat_le (length selectors) 1 || nat_le (sum_by (λ s. s.blocks) selectors) 10
 
 -- ---- the band
 
--- A refinement goes one level down. DC has scans of its own, and the others of one component alone.
+-- A progressive scan (G.1.1.1) codes the DC coefficients or others: never both, and others of one
+-- component alone. A refinement lowers the level by one.
 abbrev pub is_progressive_band : ℕ → ℕ → ℕ → ℕ → ℕ → Bool
 is_progressive_band count first last high low =
     nat_le first last && (nat_le last 63 && ((not (first == 0) || last == 0) && ((first == 0 || count == 1) && (
     nat_le high 13 && (nat_le low 13 && (high == 0 || high == low + 1))))))
 
--- A lossless scan has a predictor of 0 to 7.
+-- A lossless scan has a predictor of 0 to 7 (H.1.2.1).
 abbrev pub is_lossless_band : ℕ → ℕ → ℕ → Bool
 is_lossless_band first last high = nat_le first 7 && (last == 0 && high == 0)
 
--- A sequential scan codes all coefficients at once; a last place of 0 is read as 63.
+-- A sequential scan codes all coefficients at once. A last coefficient of 0 is read as 63.
 abbrev pub is_sequential_band : ℕ → ℕ → ℕ → ℕ → Bool
 is_sequential_band first last high low = first == 0 && ((last == 0 || last == 63) && (high == 0 && low == 0))
 
@@ -124,7 +130,7 @@ scan_of frame selectors first last levels = record {
   point_transform = levels % 16;
 }
 
--- The coefficients and the levels; a level is below the precision.
+-- The coefficients and the levels. The level Al is below the sample precision.
 unfoldable pub band_at : Frame → List Selector → List ℕ → Outcome Scan
 band_at frame selectors bytes = do
   first ← next_byte bytes
@@ -134,7 +140,7 @@ band_at frame selectors bytes = do
       if is_band frame.process (length selectors) first.0 last.0 (levels.0 / 16) (levels.0 % 16)
       then Ok (scan_of frame selectors first.0 last.0 levels.0, levels.1) else Err Malformed) else Err Malformed
 
--- how many components there are, where the length fits them
+-- the number of components, where the length is the one that they need
 unfoldable pub count_at : List ℕ → Outcome ℕ
 count_at bytes = do
   left ← length_at bytes
@@ -143,7 +149,7 @@ count_at bytes = do
     if count.0 == 0 then Err Malformed else (if nat_lt 4 count.0 then Err Malformed else (
         if left.0 == 4 + 2 * count.0 then Ok (count.0, count.1) else Err Malformed)))
 
--- A scan header of a frame.
+-- The parameters of an SOS segment, after the marker.
 unfoldable pub sos_at : Frame → List ℕ → Outcome Scan
 sos_at frame bytes = do
   count ← count_at bytes
@@ -152,29 +158,42 @@ sos_at frame bytes = do
 
 -- ---- what each scan that is read has
 
--- a component of the frame, and two places for tables
+-- A component of the frame, the destinations of its two tables, and its blocks in an MCU.
 pub record IsSelectorOf (frame : Frame) (s : Selector) : Type 0 where
   pub component : s.component < length frame.components
   pub dc : s.dc ≤ 3
   pub ac : s.ac ≤ 3
+  pub blocks : s.blocks ≡ blocks_by frame.components s.component
 
--- the coefficients from the first to the one behind the last, and the levels, that a process may code
+-- The places rise: the first is at least `least`, and each other is greater than the one before.
+unfoldable pub IsRising : ℕ → List ℕ → Type 0
+IsRising least [] = Unit {0}
+IsRising least (place ∷ more) = (least ≤ place) × IsRising (place + 1) more
+
+-- The coefficients, from the first to the one after the last, and the levels of successive
+-- approximation that a process may code.
 abbrev pub IsCoded : CodingProcess → ℕ → ℕ → ℕ → ℕ → Type 0
 IsCoded DctSequential first behind high low = (first ≡ 0) × (behind ≡ 64) × (high ≡ 0) × (low ≡ 0)
-IsCoded DctProgressive first behind high low = (first < behind) × (behind ≤ 64) × (high ≤ 13) × (low ≤ 13)
+IsCoded DctProgressive first behind high low =
+    (first < behind) × (behind ≤ 64) × (high ≤ 13) × (low ≤ 13)
 IsCoded Lossless first behind high low = (first ≤ 7) × (behind ≡ 1) × (high ≡ 0)
 
--- One to four components of the frame, each with the places of its two tables, and coefficients and levels that the process may code: those
--- of the header pass its rules, and the level is below the precision.
+-- A scan has one to four components of the frame, which stand in the order of the frame, each once,
+-- and of which two or more have at most 10 blocks in an MCU; two tables for each; and coefficients
+-- and levels that the process may code. The level Al, which is the point transform too, is below
+-- the sample precision.
 pub record IsScanOf (frame : Frame) (s : Scan) : Type 0 where
   pub some : 1 ≤ length s.components
   pub most : length s.components ≤ 4
   pub components : All (λ place. place < length frame.components) s.components
+  pub rising : IsRising 0 s.components
+  pub few_blocks : 2 ≤ length s.components → sum_by (blocks_by frame.components) s.components ≤ 10
   pub dc_length : length s.dc_places ≡ length s.components
   pub dc_places : All (λ place. place ≤ 3) s.dc_places
   pub ac_length : length s.ac_places ≡ length s.components
   pub ac_places : All (λ place. place ≤ 3) s.ac_places
   pub coded : IsCoded frame.process s.first s.behind s.high s.low
-  pub legal : is_band frame.process (length s.components) s.first (s.behind - 1) s.high s.low ≡ true
+  pub legal :
+      is_band frame.process (length s.components) s.first (s.behind - 1) s.high s.low ≡ true
   pub below : s.low < frame.precision
   pub same_point : s.point_transform ≡ s.low

@@ -4,10 +4,12 @@ ghost use Rattle.std.specs.Prelude.{◌==◌};
 ghost use Rattle.std.specs.List.{list_any};
 ghost use Rattle.jpeg_bits.specs.Reading.{Answers, NamesFormat};
 ghost use Rattle.jpeg_bits.specs.declared.marker.Marker.TheVariants.{SOF};
-ghost use Rattle.jpeg_segments.specs.Frame.{AllHaveFactors, IsFrame, IsInRange, ceiling, component_of, components_from, factors_at, frame_of, greatest, head_at, is_count, is_lossless, is_place, is_precision, is_taken, parameters_at, process_of, coding_of, is_differential_number, size_at, sof_at};
+ghost use Rattle.jpeg_segments.specs.Frame.{AllHaveFactors, IsFrame, IsInRange, components_from, factors_at, frame_of, head_at, is_count, is_lossless, is_place, is_precision, is_taken, parameters_at, process_of, coding_of, is_differential_number, size_at, sof_at};
+ghost use Rattle.jpeg_segments.specs.Scales.{IsSizedFrame};
 ghost use Rattle.jpeg_segments.specs.FrameView.{component_in, frame_in, factors_of};
 
-use crate::parser::{CodingProcess, Component, Dimensions, EntropyCoding, FrameInfo};
+use crate::parser::{CodingProcess, Dimensions, EntropyCoding, FrameInfo};
+use crate::sizes::{components_of, greatest_factors, mcus};
 use jpeg_bits::error::{Error, Result, UnsupportedFeature, format_error};
 use jpeg_bits::marker::Marker;
 use jpeg_bits::reads::{read_length, read_u8, read_u16_be};
@@ -23,13 +25,13 @@ struct Head {
     count: u8,
 }
 
-/// A component as it is read.
+/// What a frame header says of a component (T.81, B.2.2).
 #[derive(Clone, Copy)]
-struct Factors {
-    identifier: u8,
-    horizontal: u8,
-    vertical: u8,
-    quantization: usize,
+pub(crate) struct Factors {
+    pub identifier: u8,
+    pub horizontal: u8,
+    pub vertical: u8,
+    pub quantization: usize,
 }
 
 /// A height of 0 would be told by a later DNL segment.
@@ -220,119 +222,6 @@ fn read_components<R: Read + Drop>(
     Ok(components)
 }
 
-/// `n / d`, rounded up.
-fn ceiling(n: u32, d: u32) -> u32
-    requires some { 1 ≤ d }
-    requires fits { n + (d - 1) < 2 ^ 32 }
-    ensures { result ≡ ceiling n d }
-{
-    (n + (d - 1)) / d
-}
-
-/// How many samples a side of a component has, by that side of the frame (T.81, A.1.1).
-fn samples(side: u16, factor: u8, most: u8) -> u16
-    requires some { 1 ≤ most }
-    requires within { factor ≤ most }
-    requires most { most ≤ 4 }
-    ensures { result ≡ ceiling (side * factor) most }
-{
-    ceiling(u32::from(side) * u32::from(factor), u32::from(most)) as u16
-}
-
-/// How many MCUs a side of the frame has (T.81, A.2).
-fn mcus(side: u16, most: u8) -> u16
-    requires some { 1 ≤ most }
-    requires most { most ≤ 4 }
-    ensures count { result ≡ ceiling side (8 * most) }
-    ensures small { result ≤ 8192 }
-{
-    ceiling(u32::from(side), 8 * u32::from(most)) as u16
-}
-
-/// A component of a frame of this size, where these are the greatest factors.
-#[tactic(auto, unfolding(crate::specs::Frame::component_of))]
-fn component_of(
-    size: Dimensions,
-    most_horizontal: u8,
-    most_vertical: u8,
-    factors: Factors,
-) -> Component
-    requires some_horizontal { 1 ≤ most_horizontal }
-    requires some_vertical { 1 ≤ most_vertical }
-    requires most_horizontal { most_horizontal ≤ 4 }
-    requires most_vertical { most_vertical ≤ 4 }
-    requires horizontal { factors.horizontal ≤ most_horizontal }
-    requires vertical { factors.vertical ≤ most_vertical }
-    ensures { component_in result ≡ component_of size.width size.height most_horizontal most_vertical (factors_of factors) }
-{
-    Component {
-        identifier: factors.identifier,
-        horizontal_sampling_factor: factors.horizontal,
-        vertical_sampling_factor: factors.vertical,
-        quantization_table_index: factors.quantization,
-        dct_scale: 8,
-        size: Dimensions {
-            width: samples(size.width, factors.horizontal, most_horizontal),
-            height: samples(size.height, factors.vertical, most_vertical),
-        },
-        block_size: Dimensions {
-            width: mcus(size.width, most_horizontal) * u16::from(factors.horizontal),
-            height: mcus(size.height, most_vertical) * u16::from(factors.vertical),
-        },
-    }
-}
-
-fn greater(a: u8, b: u8) -> u8
-    ensures { result ≡ max a b }
-{
-    if a < b { b } else { a }
-}
-
-/// The greatest factors, across and down.
-fn greatest_factors(components: &[Factors]) -> (u8, u8)
-    requires { All IsInRange (map factors_of components.now) }
-    ensures horizontal { result.0 ≡ greatest (λ c. c.horizontal) (map factors_of components.now) }
-    ensures vertical { result.1 ≡ greatest (λ c. c.vertical) (map factors_of components.now) }
-    ensures some_horizontal { 1 ≤ result.0 }
-    ensures some_vertical { 1 ≤ result.1 }
-    ensures most_horizontal { result.0 ≤ 4 }
-    ensures most_vertical { result.1 ≤ 4 }
-    ensures covers_horizontal { All (λ c. c.horizontal ≤ result.0) components.now }
-    ensures covers_vertical { All (λ c. c.vertical ≤ result.1) components.now }
-{
-    let mut horizontal = 1;
-    let mut vertical = 1;
-    for component in components {
-        horizontal = greater(horizontal, component.horizontal);
-        vertical = greater(vertical, component.vertical);
-    }
-    (horizontal, vertical)
-}
-
-/// The components of a frame of this size.
-fn components_of(
-    alloc: Global,
-    size: Dimensions,
-    most_horizontal: u8,
-    most_vertical: u8,
-    components: &[Factors],
-) -> std::result::Result<Vec<Component>, AllocError>
-    requires some_horizontal { 1 ≤ most_horizontal }
-    requires some_vertical { 1 ≤ most_vertical }
-    requires most_horizontal { most_horizontal ≤ 4 }
-    requires most_vertical { most_vertical ≤ 4 }
-    requires covers_horizontal { All (λ c. c.horizontal ≤ most_horizontal) components.now }
-    requires covers_vertical { All (λ c. c.vertical ≤ most_vertical) components.now }
-    ensures { IfOk result (λ v. map component_in v.items ≡
-        map (component_of size.width size.height most_horizontal most_vertical) (map factors_of components.now)) }
-{
-    let mut made = Vec::with_capacity(alloc, components.len())?;
-    for component in components {
-        made.push(component_of(size, most_horizontal, most_vertical, *component))?;
-    }
-    Ok(made)
-}
-
 /// A frame of these components.
 #[tactic(auto, unfolding(crate::specs::Frame::frame_of))]
 fn frame_of(
@@ -367,7 +256,7 @@ fn frame_of(
 }
 
 /// A frame header of the marker `SOF(number)`.
-#[tactic(auto, unfolding(crate::specs::Frame::sof_at))]
+#[tactic(auto, using(crate::proofs::ScaleLemmas::frames_are_sized), unfolding(crate::specs::Frame::sof_at))]
 fn read_frame<R: Read + Drop>(
     alloc: Global,
     source: &mut Source<R>,
@@ -376,6 +265,7 @@ fn read_frame<R: Read + Drop>(
     ensures answers { Answers frame_in (sof_at number) source.old result source.new }
     ensures factors { IfOk result (λ f. AllHaveFactors (map component_in f.components.items)) }
     ensures made { IfOk result (λ f. IsFrame (frame_in f)) }
+    ensures sized { IfOk result (λ f. IsSizedFrame (frame_in f)) }
 {
     let head = read_head(alloc, source, number)?;
     let components = read_components(alloc, source, is_lossless(number), head.count)?;
@@ -396,6 +286,7 @@ pub fn parse_sof<R: Read + Drop>(
     ensures others { ((number : ℕ) → marker ≡ SOF number → ⊥) → IsErrAnd result NamesFormat × (reader.new ≡ reader.old) }
     ensures factors { IfOk result (λ f. AllHaveFactors (map component_in f.components.items)) }
     ensures made { IfOk result (λ f. IsFrame (frame_in f)) }
+    ensures sized { IfOk result (λ f. IsSizedFrame (frame_in f)) }
 {
     match marker {
         Marker::SOF(number) => read_frame(alloc, reader, number),

@@ -4,9 +4,11 @@
 mod application;
 mod frame_header;
 mod huffman_tables;
+pub mod laws;
 pub mod parser;
 mod payload;
 mod quantization;
 mod scan_header;
+pub mod sizes;
 #[cfg(test)]
 mod tests;

@@ -1,8 +1,8 @@
 //! Scan headers.
-ghost use Rattle.std.specs.Prelude.{◌≡◌, ◌≤◌, ◌<◌, ◌==◌, ◌*◌, [], map, position, length, sum_by, IsTrue, IfOk, IfSome, All};
+ghost use Rattle.std.specs.Prelude.{◌≡◌, ◌≤◌, ◌<◌, ◌==◌, ◌*◌, [], map, position, length, sum_by, IsTrue, IfOk, IfSome, All, true};
 ghost use Rattle.jpeg_bits.specs.Reading.{Answers};
 ghost use Rattle.jpeg_segments.specs.HuffmanTables.{greatest_place};
-ghost use Rattle.jpeg_segments.specs.ScanHeader.{IsCoded, IsScanOf, IsSelectorOf, band_at, behind_of, blocks_by, count_at, is_band, is_lossless_band, is_mcu, is_progressive_band, is_sequential_band, place_of, predictor_by, predictor_of, scan_of, selector_at, selectors_from, sos_at, tables_at, tables_by};
+ghost use Rattle.jpeg_segments.specs.ScanHeader.{IsCoded, IsRising, IsScanOf, IsSelectorOf, band_at, behind_of, blocks_by, count_at, is_band, is_lossless_band, is_mcu, is_progressive_band, is_sequential_band, place_of, predictor_by, predictor_of, scan_of, selector_at, selectors_from, sos_at, tables_at, tables_by};
 ghost use Rattle.jpeg_segments.specs.FrameView.{component_in, frame_in, scan_in, selector_of};
 
 use crate::huffman_tables::greatest_place;
@@ -87,6 +87,7 @@ fn read_tables<R: Read + Drop>(
     requires { place < length frame.now.components.items }
     ensures answers { Answers selector_of (tables_at (frame_in frame.now) place) source.old result source.new }
     ensures place { IfOk result (λ s. IsSelectorOf (frame_in frame.now) (selector_of s)) }
+    ensures same { IfOk result (λ s. s.component ≡ place) }
 {
     let places = read_u8(alloc, source)?;
     let greatest = greatest_place(Some(frame.is_baseline));
@@ -116,6 +117,7 @@ fn read_selector<R: Read + Drop>(
 ) -> Result<Selector>
     ensures answers { Answers selector_of (selector_at (frame_in frame.now) least) source.old result source.new }
     ensures place { IfOk result (λ s. IsSelectorOf (frame_in frame.now) (selector_of s)) }
+    ensures least { IfOk result (λ s. least ≤ s.component) }
 {
     let identifier = read_u8(alloc, source)?;
     match place_of(&frame.components, identifier) {
@@ -137,6 +139,8 @@ fn read_selectors<R: Read + Drop>(
     ensures answers { Answers (λ v. map selector_of v.items) (selectors_from (frame_in frame.now) count [] 0) source.old result source.new }
     ensures length { IfOk result (λ v. length v.items ≡ count) }
     ensures places { IfOk result (λ v. All (IsSelectorOf (frame_in frame.now)) (map selector_of v.items)) }
+    ensures rising { IfOk result (λ v.
+        IsRising 0 (map (λ s. s.component) (map selector_of v.items))) }
 {
     let mut selectors = Vec::with_capacity(alloc, usize::from(count))?;
     let mut least = 0;
@@ -314,6 +318,8 @@ fn read_band<R: Read + Drop>(
     requires some { 1 ≤ length selectors.now }
     requires most { length selectors.now ≤ 4 }
     requires places { All (IsSelectorOf (frame_in frame.now)) (map selector_of selectors.now) }
+    requires rising { IsRising 0 (map (λ s. s.component) (map selector_of selectors.now)) }
+    requires mcu { is_mcu (map selector_of selectors.now) ≡ true }
     ensures answers { Answers scan_in (band_at (frame_in frame.now) (map selector_of selectors.now)) source.old result source.new }
     ensures scan { IfOk result (λ s. IsScanOf (frame_in frame.now) (scan_in s)) }
 {

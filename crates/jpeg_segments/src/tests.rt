@@ -3,6 +3,7 @@ use crate::parser::{
     PlacedTables, Predictor, ScanInfo, parse_app, parse_com, parse_dht, parse_dqt, parse_dri,
     parse_sof, parse_sos,
 };
+use crate::sizes::scale_frame;
 use jpeg_bits::error::{Error, Result, UnsupportedFeature};
 use jpeg_bits::huffman::HuffmanDecoder;
 use jpeg_bits::marker::Marker;
@@ -86,6 +87,37 @@ fn sizes_of_a_frame(rt: HostRuntime) -> std::result::Result<(), Fail> {
             assert_eq!(rt; component.size, whole);
             assert_eq!(rt; component.block_size, blocks);
         }
+    }
+    Ok(())
+}
+
+/// Whether the picture and the components of a frame have these sizes at a scale.
+fn has_sizes(frame: &FrameInfo, scale: usize, output: Dimensions, sizes: &[Dimensions]) -> bool {
+    let mut is_same = frame.output_size == output && frame.components.len() == sizes.len();
+    for (component, size) in frame.components.iter().zip(sizes) {
+        is_same = is_same && component.dct_scale == scale && component.size == *size;
+    }
+    is_same
+}
+
+#[test]
+fn sizes_at_scales(rt: HostRuntime) -> std::result::Result<(), Fail> {
+    let bytes = [0, 14, 8, 0, 19, 0, 35, 2, 1, 0x22, 0, 2, 0x11, 1];
+    let mut frame = parse_sof(rt.alloc(), &mut Source::new(&bytes[..]), Marker::SOF(2))?;
+    assert!(rt; has_sizes(&frame, 8, size(35, 19), &[size(35, 19), size(18, 10)]));
+    scale_frame(&mut frame, 1);
+    assert!(rt; has_sizes(&frame, 1, size(5, 3), &[size(5, 3), size(3, 2)]));
+    scale_frame(&mut frame, 4);
+    assert!(rt; has_sizes(&frame, 4, size(18, 10), &[size(18, 10), size(9, 5)]));
+    scale_frame(&mut frame, 2);
+    assert!(rt; has_sizes(&frame, 2, size(9, 5), &[size(9, 5), size(5, 3)]));
+    scale_frame(&mut frame, 8);
+    assert!(rt; has_sizes(&frame, 8, size(35, 19), &[size(35, 19), size(18, 10)]));
+    assert_eq!(rt; frame.image_size, size(35, 19));
+    assert_eq!(rt; frame.mcu_size, size(3, 2));
+    let blocks = [size(6, 4), size(3, 2)];
+    for (component, blocks) in frame.components.iter().zip(&blocks) {
+        assert_eq!(rt; component.block_size, *blocks);
     }
     Ok(())
 }

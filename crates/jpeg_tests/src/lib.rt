@@ -4,6 +4,14 @@
 #[cfg(test)]
 mod bytes;
 #[cfg(test)]
+mod failed_reads;
+#[cfg(test)]
+mod failed_writes;
+#[cfg(test)]
+mod interruptions;
+#[cfg(test)]
+mod large;
+#[cfg(test)]
 mod memory;
 #[cfg(test)]
 mod metadata;
@@ -11,6 +19,8 @@ mod metadata;
 mod parts;
 #[cfg(test)]
 mod program;
+#[cfg(test)]
+mod refusals;
 #[cfg(test)]
 mod rows;
 #[cfg(test)]

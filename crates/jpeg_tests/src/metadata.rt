@@ -2,6 +2,7 @@
 
 use crate::bytes::bytes;
 use crate::streams::{Reader, Trouble};
+use jpeg_decoder::run::run;
 use jpeg_decoder::{
     CodingProcess, ColorTransform, Decoder, Error, ImageInfo, PixelFormat, UnsupportedFeature,
 };
@@ -254,10 +255,17 @@ fn frames_that_are_refused_by_name(rt: HostRuntime) -> Result<(), Fail> {
     for (frame, feature) in REFUSED.iter() {
         let stream = bytes(rt.alloc(), &["FFD8", TABLE, *frame, REST])?;
         let mut decoder = Decoder::new(rt.alloc(), stream.as_slice())?;
-        match decoder.decode() {
-            Err(Error::Unsupported(refused)) => assert!(rt; refused == *feature, "{frame}"),
-            _ => assert!(rt; false, "{frame}"),
+        let mut written = Vec::new(rt.alloc());
+        for answer in [
+            decoder.decode().map(|_| ()),
+            run(rt.alloc(), stream.as_slice(), &mut written),
+        ] {
+            match answer {
+                Err(Error::Unsupported(refused)) => assert!(rt; refused == *feature, "{frame}"),
+                _ => assert!(rt; false, "{frame}"),
+            }
         }
+        assert!(rt; written.is_empty(), "{frame}");
     }
     Ok(())
 }

@@ -44,34 +44,6 @@ fn writes_nothing_for_a_refused_stream(rt: HostRuntime) -> Result<(), Fail> {
     Ok(())
 }
 
-#[test]
-fn a_writer_that_fails_has_a_beginning(rt: HostRuntime) -> Result<(), Fail> {
-    let stream = bytes(rt.alloc(), &[STREAM, "43 FFD9"])?;
-    let expected = bytes(rt.alloc(), &["38 20 38 20 4C38 0A 81*64"])?;
-    for call in 0..10 {
-        let mut written = Vec::new(rt.alloc());
-        let mut writer = Writer::new(&mut written, 5, call, Trouble::Fails);
-        assert!(rt;
-            matches!(
-                &run(rt.alloc(), stream.as_slice(), &mut writer),
-                Err(Error::Io(_))
-            )
-        );
-        assert!(rt; expected.as_slice().starts_with(written.as_slice()));
-        let mut written = Vec::new(rt.alloc());
-        let mut writer = Writer::new(&mut written, 5, call, Trouble::TakesNothing);
-        match run(rt.alloc(), stream.as_slice(), &mut writer) {
-            Err(Error::Io(e)) => assert!(rt; e.kind() == ErrorKind::WriteZero),
-            _ => assert!(rt; false),
-        }
-        let mut written = Vec::new(rt.alloc());
-        let mut writer = Writer::new(&mut written, 5, call, Trouble::IsInterrupted);
-        run(rt.alloc(), stream.as_slice(), &mut writer)?;
-        assert_eq!(rt; written.as_slice(), expected.as_slice());
-    }
-    Ok(())
-}
-
 /// What `report` writes of an error.
 fn line_of(alloc: Global, error: Error) -> Result<String, Fail> {
     let mut written = Vec::new(alloc);

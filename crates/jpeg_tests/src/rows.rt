@@ -2,27 +2,31 @@
 
 use crate::bytes::bytes;
 use crate::streams::{Ended, Reader, Trouble};
+use jpeg_decoder::run::run;
 use jpeg_decoder::{Decoder, Error, ImageInfo, PixelFormat, UnsupportedFeature};
 use std::alloc::Global;
+use std::io::ErrorKind;
+use std::process::Abort;
 use std::test::Fail;
 
 /// A quantization table of 64 times one value.
-const ONES: &str = "FFDB 0043 00 01*64";
+pub const ONES: &str = "FFDB 0043 00 01*64";
 /// A frame of 8 by 8, and one of 16 by 8.
-const FRAME: &str = "FFC0 000B 08 0008 0008 01 01 11 00";
+pub const FRAME: &str = "FFC0 000B 08 0008 0008 01 01 11 00";
 
 const WIDE: &str = "FFC0 000B 08 0008 0010 01 01 11 00";
 /// Huffman tables of one code of one bit: DC of category 4, and AC of the end of band.
-const DC_4: &str = "FFC4 0014 00 01 00*15 04";
+pub const DC_4: &str = "FFC4 0014 00 01 00*15 04";
 
-const AC_0: &str = "FFC4 0014 10 01 00*15 00";
+pub const AC_0: &str = "FFC4 0014 10 01 00*15 00";
 
-const SCAN: &str = "FFDA 0008 01 01 00 00 3F 00";
+pub const SCAN: &str = "FFDA 0008 01 01 00 00 3F 00";
 
-const END: &str = "FFD9";
+pub const END: &str = "FFD9";
 
+/// What a stream gives: its picture, or the name of its refusal.
 #[derive(Clone, Copy)]
-enum Gives {
+pub enum Gives {
     /// Lines of these bytes, so many times.
     Lines(&'static str, usize),
     Format,
@@ -30,6 +34,7 @@ enum Gives {
     Precision(u8),
     Hierarchical,
     Arithmetic,
+    /// The bytes end.
     Io,
 }
 
@@ -409,9 +414,10 @@ const REFUSED_SEGMENTS: [(&str, Gives); 15] = [
     ("FFDC 0004 0008", Gives::Format),
 ];
 
-fn is_refusal(answer: &Result<Vec<u8>, Error>, gives: Gives) -> bool {
+/// Whether a call returned the refusal that is wanted.
+fn is_refusal<T>(answer: &Result<T, Error>, gives: Gives) -> bool {
     match (gives, answer) {
-        (Gives::Format, Err(Error::Format(_))) => true,
+        (Gives::Format, Err(Error::Format(text))) => !text.is_empty(),
         (Gives::Dnl, Err(Error::Unsupported(UnsupportedFeature::DNL))) => true,
         (
             Gives::Precision(bits),
@@ -420,7 +426,7 @@ fn is_refusal(answer: &Result<Vec<u8>, Error>, gives: Gives) -> bool {
         (Gives::Hierarchical, Err(Error::Unsupported(UnsupportedFeature::Hierarchical))) => true,
         (Gives::Arithmetic, Err(Error::Unsupported(UnsupportedFeature::ArithmeticEntropyCoding))) =>
             true,
-        (Gives::Io, Err(Error::Io(_))) => true,
+        (Gives::Io, Err(Error::Io(error))) => error.kind() == ErrorKind::UnexpectedEof,
         _ => false,
     }
 }
@@ -433,6 +439,26 @@ fn picture_of(alloc: Global, line: &str, times: usize) -> Result<Vec<u8>, Fail> 
         picture.extend_from_slice(&line)?;
     }
     Ok(picture)
+}
+
+/// What `run` writes of the picture of lines that are all the same.
+fn output_of(alloc: Global, line: &str, times: usize) -> Result<Vec<u8>, Fail> {
+    let width = bytes(alloc, &[line])?.len();
+    let header = format!(in alloc; "{width} {times} L8\n")?;
+    let mut output = header.as_bytes().to_vec(alloc)?;
+    output.extend_from_slice(&picture_of(alloc, line, times)?)?;
+    Ok(output)
+}
+
+/// Whether `run` writes the picture that is wanted, or names the refusal and writes nothing.
+fn runs_as_wanted(alloc: Global, stream: &[u8], gives: Gives) -> Result<bool, Fail> {
+    let mut written = Vec::new(alloc);
+    let answer = run(alloc, stream, &mut written);
+    if let Gives::Lines(line, times) = gives {
+        let output = output_of(alloc, line, times)?;
+        return Ok(answer.is_ok() && written.as_slice() == output.as_slice());
+    }
+    Ok(is_refusal(&answer, gives) && written.is_empty())
 }
 
 /// Whether a stream that is read in pieces of `step` bytes gives what is wanted, and a refusal leaves a failed decoder.
@@ -453,46 +479,49 @@ fn is_as_wanted(alloc: Global, stream: &[u8], gives: Gives, step: usize) -> Resu
     )
 }
 
-#[test]
-fn streams_give_what_they_mean(rt: HostRuntime) -> Result<(), Fail> {
-    for (number, (pieces, gives)) in STREAMS.iter().enumerate() {
-        let stream = bytes(rt.alloc(), pieces.as_slice())?;
-        for step in [1, 2, 3, 1000] {
-            assert!(rt;
-                is_as_wanted(rt.alloc(), &stream, *gives, step)?,
-                "stream {number}"
-            );
-        }
+/// Asserts that a stream of this name gives what is wanted, by `decode`, in pieces of several
+/// sizes, and by `run`.
+pub fn assert_gives(
+    rt: &impl Abort,
+    alloc: Global,
+    name: &str,
+    stream: &[u8],
+    gives: Gives,
+) -> Result<(), Fail> {
+    for step in [1, 2, 3, 1000] {
+        assert!(rt; is_as_wanted(alloc, stream, gives, step)?, "{name}");
+    }
+    assert!(rt; runs_as_wanted(alloc, stream, gives)?, "run: {name}");
+    Ok(())
+}
+
+/// Asserts that each stream of a table gives what is wanted.
+fn assert_all_give(
+    rt: &impl Abort,
+    alloc: Global,
+    streams: &[([&str; 8], Gives)],
+) -> Result<(), Fail> {
+    for (number, (pieces, gives)) in streams.iter().enumerate() {
+        let name = format!(in alloc; "stream {number}")?;
+        let stream = bytes(alloc, pieces.as_slice())?;
+        assert_gives(rt, alloc, name.as_str(), &stream, *gives)?;
     }
     Ok(())
+}
+
+#[test]
+fn streams_give_what_they_mean(rt: HostRuntime) -> Result<(), Fail> {
+    assert_all_give(&rt, rt.alloc(), &STREAMS)
 }
 
 #[test]
 fn markers_give_what_they_mean(rt: HostRuntime) -> Result<(), Fail> {
-    for (number, (pieces, gives)) in MARKER_STREAMS.iter().enumerate() {
-        let stream = bytes(rt.alloc(), pieces.as_slice())?;
-        for step in [1, 2, 3, 1000] {
-            assert!(rt;
-                is_as_wanted(rt.alloc(), &stream, *gives, step)?,
-                "stream {number}"
-            );
-        }
-    }
-    Ok(())
+    assert_all_give(&rt, rt.alloc(), &MARKER_STREAMS)
 }
 
 #[test]
 fn what_is_passed_over_changes_nothing(rt: HostRuntime) -> Result<(), Fail> {
-    for (number, (pieces, gives)) in PASSED_OVER.iter().enumerate() {
-        let stream = bytes(rt.alloc(), pieces.as_slice())?;
-        for step in [1, 2, 3, 1000] {
-            assert!(rt;
-                is_as_wanted(rt.alloc(), &stream, *gives, step)?,
-                "stream {number}"
-            );
-        }
-    }
-    Ok(())
+    assert_all_give(&rt, rt.alloc(), &PASSED_OVER)
 }
 
 #[test]
@@ -503,18 +532,13 @@ fn segments_without_a_place_are_refused(rt: HostRuntime) -> Result<(), Fail> {
             ["FFD8", ONES, FRAME, *segment, DC_4, AC_0, SCAN, "43 FFD9"],
         ] {
             let stream = bytes(rt.alloc(), pieces.as_slice())?;
-            for step in [1, 1000] {
-                assert!(rt;
-                    is_as_wanted(rt.alloc(), &stream, *gives, step)?,
-                    "{segment}"
-                );
-            }
+            assert_gives(&rt, rt.alloc(), segment, &stream, *gives)?;
         }
     }
     Ok(())
 }
 
-const ROW: [&str; 8] = ["FFD8", ONES, FRAME, DC_4, AC_0, SCAN, "43", END];
+pub const ROW: [&str; 8] = ["FFD8", ONES, FRAME, DC_4, AC_0, SCAN, "43", END];
 
 #[test]
 fn the_first_stream_has_141_bytes(rt: HostRuntime) -> Result<(), Fail> {
@@ -527,11 +551,8 @@ fn a_cut_stream_is_refused(rt: HostRuntime) -> Result<(), Fail> {
     let stream = bytes(rt.alloc(), &ROW)?;
     for length in 0..141 {
         assert!(rt; length < stream.len());
-        let mut decoder = Decoder::new(rt.alloc(), &stream[..length])?;
-        assert!(rt;
-            matches!(&decoder.decode(), Err(Error::Io(_))),
-            "length {length}"
-        );
+        let name = format!(in rt.alloc(); "length {length}")?;
+        assert_gives(&rt, rt.alloc(), name.as_str(), &stream[..length], Gives::Io)?;
     }
     Ok(())
 }
@@ -628,33 +649,5 @@ fn info_tells_what_was_read(rt: HostRuntime) -> Result<(), Fail> {
         )
     );
     assert_eq!(rt; decoder.info(), None);
-    Ok(())
-}
-
-#[test]
-fn a_read_that_fails_is_answered(rt: HostRuntime) -> Result<(), Fail> {
-    let stream = bytes(rt.alloc(), &ROW)?;
-    for call in 0..141 {
-        let reader = Reader::new(&stream, 1, call, Trouble::Fails);
-        let mut decoder = Decoder::new(rt.alloc(), reader)?;
-        match decoder.decode() {
-            Err(Error::Io(e)) => assert_eq!(rt;
-                format!(in rt.alloc(); "{e}")?.as_str(),
-                "wrong call"
-            ),
-            _ => assert!(rt; false, "call {call}"),
-        }
-        assert!(rt;
-            matches!(
-                &decoder.decode(),
-                Err(Error::Internal("decoder has failed"))
-            ),
-            "call {call}"
-        );
-        let reader = Reader::new(&stream, 1, call, Trouble::IsInterrupted);
-        let mut decoder = Decoder::new(rt.alloc(), reader)?;
-        let picture = decoder.decode()?;
-        assert_eq!(rt; picture.len(), 64);
-    }
     Ok(())
 }

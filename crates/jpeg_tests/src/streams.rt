@@ -1,16 +1,63 @@
 //! Readers and writers that fail or are interrupted at a numbered call.
 ghost use Rattle.std.specs.Prelude.{◌≡◌, ℕ, List};
 
+use jpeg_decoder::Error;
+use std::alloc::Global;
+use std::cell::Cell;
 use std::io;
 use std::io::{ErrorKind, Read, Write};
+use std::test::Fail;
+
+/// Kinds of failures that are no interruption.
+pub const FAILURES: [ErrorKind; 6] = [
+    ErrorKind::Other,
+    ErrorKind::WouldBlock,
+    ErrorKind::TimedOut,
+    ErrorKind::UnexpectedEof,
+    ErrorKind::BrokenPipe,
+    ErrorKind::OutOfMemory,
+];
 
 /// What a numbered call does.
 #[derive(Clone, Copy, PartialEq, Eq, Debug)]
 pub enum Trouble {
+    /// Fails by an error of the kind `Other`.
     Fails,
+    /// Fails by an error of this kind.
+    FailsBy(ErrorKind),
     IsInterrupted,
     /// A writer takes no byte; a reader fails.
     TakesNothing,
+}
+
+/// The text of the error of each call that goes wrong.
+const TEXT: &str = "wrong call";
+
+impl Trouble {
+    /// The error of a call that goes wrong.
+    fn error(self) -> io::Error {
+        let kind = match self {
+            Trouble::Fails | Trouble::TakesNothing => ErrorKind::Other,
+            Trouble::FailsBy(kind) => kind,
+            Trouble::IsInterrupted => ErrorKind::Interrupted,
+        };
+        io::Error::new(kind, TEXT)
+    }
+}
+
+/// Whether an answer is the very error, of this kind, of a call that went wrong.
+pub fn is_own_error<T>(
+    alloc: Global,
+    answer: &Result<T, Error>,
+    kind: ErrorKind,
+) -> Result<bool, Fail> {
+    match answer {
+        Err(Error::Io(error)) => {
+            let text = format!(in alloc; "{error}")?;
+            Ok(error.kind() == kind && text.as_str() == TEXT)
+        }
+        _ => Ok(false),
+    }
 }
 
 /// A reader of some bytes, a few at a time, of which one call goes wrong.
@@ -40,16 +87,51 @@ impl Read for Reader<'_> {
         let call = self.call;
         self.call = call.wrapping_add(1);
         if call == self.wrong_call {
-            let kind = match self.trouble {
-                Trouble::Fails | Trouble::TakesNothing => ErrorKind::Other,
-                Trouble::IsInterrupted => ErrorKind::Interrupted,
-            };
-            return Err(io::Error::new(kind, "wrong call"));
+            return Err(self.trouble.error());
         }
         let count = self.piece.min(buf.len()).min(self.rest.len());
         let (front, rest) = self.rest.split_at(count);
         buf[..count].copy_from_slice(front);
         self.rest = rest;
+        Ok(count)
+    }
+}
+
+/// How often a reader was called, and how many bytes it gave.
+#[derive(Drop)]
+pub struct Counts {
+    pub calls: Cell<usize>,
+    pub given: Cell<usize>,
+}
+
+impl Counts {
+    pub fn new() -> Counts {
+        Counts {
+            calls: Cell::new(0),
+            given: Cell::new(0),
+        }
+    }
+}
+
+/// A reader whose calls and bytes are counted, for a test to look at while a decoder has the reader.
+#[derive(Drop)]
+pub struct Counted<'a> {
+    reader: Reader<'a>,
+    counts: &'a Counts,
+}
+
+impl<'a> Counted<'a> {
+    pub fn new(reader: Reader<'a>, counts: &'a Counts) -> Counted<'a> {
+        Counted { reader, counts }
+    }
+}
+
+impl Read for Counted<'_> {
+    fn read(&mut self, buf: &mut [u8]) -> io::Result<usize> {
+        let Counts { calls, given } = self.counts;
+        calls.set(calls.get().wrapping_add(1));
+        let count = self.reader.read(buf)?;
+        given.set(given.get().wrapping_add(count));
         Ok(count)
     }
 }
@@ -105,14 +187,10 @@ impl Write for Writer<'_> {
         let call = self.call;
         self.call = call.wrapping_add(1);
         if call == self.wrong_call {
-            match self.trouble {
-                Trouble::TakesNothing => return Ok(0),
-                Trouble::Fails => return Err(io::Error::new(ErrorKind::Other, "wrong call")),
-                Trouble::IsInterrupted => return Err(io::Error::new(
-                    ErrorKind::Interrupted,
-                    "wrong call",
-                )),
-            }
+            return match self.trouble {
+                Trouble::TakesNothing => Ok(0),
+                _ => Err(self.trouble.error()),
+            };
         }
         let count = self.piece.min(buf.len());
         let (front, _) = buf.split_at(count);
@@ -124,5 +202,60 @@ impl Write for Writer<'_> {
 
     fn flush(&mut self) -> io::Result<()> {
         Ok(())
+    }
+}
+
+/// How often a call is interrupted before it is heard.
+const INTERRUPTIONS: u16 = 1000;
+
+/// A reader or a writer of which each call is interrupted many times before it is heard.
+#[derive(Drop)]
+pub struct Interrupted<T: Drop> {
+    inner: T,
+    left: u16,
+}
+
+impl<T: Drop> Interrupted<T> {
+    pub fn new(inner: T) -> Interrupted<T> {
+        Interrupted {
+            inner,
+            left: INTERRUPTIONS,
+        }
+    }
+
+    /// Whether the next call is an interruption.
+    fn interrupts(&mut self) -> bool {
+        match self.left.checked_sub(1) {
+            Some(left) => {
+                self.left = left;
+                true
+            }
+            None => {
+                self.left = INTERRUPTIONS;
+                false
+            }
+        }
+    }
+}
+
+impl<R: Read + Drop> Read for Interrupted<R> {
+    fn read(&mut self, buf: &mut [u8]) -> io::Result<usize> {
+        if self.interrupts() {
+            return Err(Trouble::IsInterrupted.error());
+        }
+        self.inner.read(buf)
+    }
+}
+
+impl<W: Write + Drop> Write for Interrupted<W> {
+    fn write(&mut self, buf: &[u8]) -> io::Result<usize> {
+        if self.interrupts() {
+            return Err(Trouble::IsInterrupted.error());
+        }
+        self.inner.write(buf)
+    }
+
+    fn flush(&mut self) -> io::Result<()> {
+        self.inner.flush()
     }
 }

@@ -1,4 +1,4 @@
-use Rattle.std.proofs.Common.{◌≡◌, ◌≤◌, ◌*◌, ◌+◌, Fits, w64, arith}
+use Rattle.std.proofs.Common.{arith}
 use Rattle.jpeg_decoder.proofs.Products.{small-place, small-column}
 use Rattle.jpeg_decoder.proofs.scans.index_at.Goals as goal
 

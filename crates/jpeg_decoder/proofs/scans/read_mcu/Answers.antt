@@ -1,4 +1,4 @@
-use Rattle.std.proofs.Common.{◌≡◌, ◌∙◌, ◌-◌, ℕ, ap, arith}
+use Rattle.std.proofs.Common.{◌≡◌, ◌∙◌, ◌-◌, ℕ, ap}
 use Rattle.std.proofs.lemmas.Result.{err_from_is_err_and}
 use Rattle.jpeg_bits.specs.Entropy.{upcoming}
 use Rattle.jpeg_bits.proofs.WholeBlocks.{refused_behind}
@@ -24,7 +24,7 @@ returns-in_err-begin-clause-mcu g c =
     whole whole (begun_from n (counted i arrays))
     i.decoder i.decoder c.begin.new.interval.decoder c.args.source.now c.args.source.now c.begin.new.source _
     (λ t f h. mcu_unbegun p (vias_in 0 cs) n mcu (counted i arrays) t f h)
-    (Leaves-whole whole i.decoder c.args.source.now) (c.in_err-begin.ensures.begun arrays))
+    (Leaves-whole whole i.decoder c.args.source.now) (c.in_err-begin.ensures arrays))
 
 pub returns-in_err-read_parts-clause-mcu : goal.returns-in_err-read_parts-clause-mcu
 returns-in_err-read_parts-clause-mcu g c =
@@ -37,7 +37,7 @@ returns-in_err-read_parts-clause-mcu g c =
     let j = c.begin.new.interval in
     let arrays = arrays_in c.args.arrays.now.items in
     let whole = mcu_from p (vias_in 0 cs) n mcu (counted i arrays) in
-    let q = c.in_ok-begin.ensures.begun arrays in
+    let q = c.in_ok-begin.ensures arrays in
     rw (e.1, e.2) (refused_behind (λ (u : Unit {0}). counted i arrays) (λ (u : Unit {0}). reached c.read_parts.new.interval (arrays_in c.read_parts.new.arrays.items))
     whole (begun_mcu p (vias_in 0 cs) mcu (counted j arrays)) (turns_from p (vias_in 0 cs) mcu (reached j arrays))
     i.decoder j.decoder c.read_parts.new.interval.decoder c.args.source.now c.begin.new.source c.read_parts.new.source _
@@ -54,7 +54,7 @@ returns-clause-mcu g c =
     let i = c.args.interval.now in
     let j = c.begin.new.interval in
     let arrays = arrays_in c.args.arrays.now.items in
-    let q = c.in_ok-begin.ensures.begun arrays in
+    let q = c.in_ok-begin.ensures arrays in
     let r = c.in_ok-read_parts.ensures in
     let left : c.saturating_sub-interval.result ≡ j.left - 1 = c.saturating_sub-interval.ensures ∙ ap (λ (m : ℕ). m - 1) r.left in
     rw (left, r.number) (

@@ -1,8 +1,8 @@
-use Rattle.std.proofs.Common.{◌≡◌, ◌∙◌, ◌-◌, ℕ, List, [], ◌∷◌, ap, arith}
+use Rattle.std.proofs.Common.{◌≡◌, ◌∙◌, ◌-◌, ℕ, [], ◌∷◌, ap}
 use Rattle.std.proofs.lemmas.Result.{err_from_is_err_and}
 use Rattle.jpeg_bits.specs.Entropy.{upcoming}
 use Rattle.jpeg_bits.proofs.WholeBlocks.{refused_behind}
-use Rattle.jpeg_decoder.specs.InTurn.{turn_from, turns_from, begun_from, mcu_from}
+use Rattle.jpeg_decoder.specs.InTurn.{turn_from, begun_from, mcu_from}
 use Rattle.jpeg_bits.specs.BlockView.{pass_in}
 use Rattle.jpeg_decoder.specs.Scanning.{vias_in, arrays_in, reached, counted}
 use Rattle.jpeg_bits.proofs.BandSteps.{Leaves-whole}
@@ -25,7 +25,7 @@ returns-in_err-begin-clause-mcu g c =
     whole whole (begun_from n (counted i arrays))
     i.decoder i.decoder c.begin.new.interval.decoder c.args.source.now c.args.source.now c.begin.new.source _
     (λ t f h. mcu_unbegun p (vias_in 0 cs) n mcu (counted i arrays) t f h)
-    (Leaves-whole whole i.decoder c.args.source.now) (c.in_err-begin.ensures.begun arrays))
+    (Leaves-whole whole i.decoder c.args.source.now) (c.in_err-begin.ensures arrays))
 
 pub returns-in_err-read_turn-clause-mcu : goal.returns-in_err-read_turn-clause-mcu
 returns-in_err-read_turn-clause-mcu g c =
@@ -38,7 +38,7 @@ returns-in_err-read_turn-clause-mcu g c =
     let j = c.begin.new.interval in
     let arrays = arrays_in c.args.arrays.now.items in
     let whole = mcu_from p (vias_in 0 cs) n mcu (counted i arrays) in
-    let q = c.in_ok-begin.ensures.begun arrays in
+    let q = c.in_ok-begin.ensures arrays in
     rw (e.1, e.2) (refused_behind (λ (u : Unit {0}). counted i arrays) (λ (u : Unit {0}). reached c.read_turn.new.interval (arrays_in c.read_turn.new.arrays.items))
     whole (begun_mcu p (vias_in 0 cs) mcu (counted j arrays)) (turn_from p (vias_in 0 cs) (spot 0 c.args.index) (reached j arrays))
     i.decoder j.decoder c.read_turn.new.interval.decoder c.args.source.now c.begin.new.source c.read_turn.new.source _
@@ -55,7 +55,7 @@ returns-clause-mcu g c =
     let i = c.args.interval.now in
     let j = c.begin.new.interval in
     let arrays = arrays_in c.args.arrays.now.items in
-    let q = c.in_ok-begin.ensures.begun arrays in
+    let q = c.in_ok-begin.ensures arrays in
     let r = c.in_ok-read_turn.ensures in
     let left : c.saturating_sub-interval.result ≡ j.left - 1 = c.saturating_sub-interval.ensures ∙ ap (λ (m : ℕ). m - 1) r.left in
     rw (left, r.number) (

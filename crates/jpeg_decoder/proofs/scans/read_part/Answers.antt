@@ -1,4 +1,4 @@
-use Rattle.std.proofs.Common.{◌≡◌, ◌∙◌, ◌+◌, ◌*◌, ◌≤◌, get_or, arith}
+use Rattle.std.proofs.Common.{◌∙◌, get_or, arith}
 use Rattle.std.proofs.lemmas.Result.{err_from_is_err_and}
 use Rattle.jpeg_bits.specs.Entropy.{upcoming}
 use Rattle.jpeg_bits.proofs.WholeBlocks.{refused_behind}

@@ -1,4 +1,4 @@
-use Rattle.std.proofs.Common.{◌≡◌, ◌<◌, ℕ, List, subst, sym, map, arith}
+use Rattle.std.proofs.Common.{ℕ, List, subst, sym, map, arith}
 use Rattle.std.specs.List.{range_with_len}
 use Rattle.std.proofs.lemmas.Result.{err_from_is_err_and}
 use Rattle.jpeg_bits.proofs.WholeBlocks.{refused_behind}

@@ -2,7 +2,7 @@ use Rattle.std.proofs.Common.{◌≡◌, ◌*◌, ℕ, List, subst, sym}
 use Rattle.jpeg_bits.specs.Reading.{Outcome, Answers}
 use Rattle.jpeg_segments.specs.FrameView.{frame_in}
 use Rattle.jpeg_decoder.specs.Order.{spots_of, mcu_size}
-use Rattle.jpeg_decoder.specs.Scans.{Arrays, arrays_at}
+use Rattle.jpeg_decoder.specs.Scans.{arrays_at}
 use Rattle.jpeg_decoder.specs.InTurn.{scan_from}
 use Rattle.jpeg_bits.specs.BlockView.{pass_in}
 use Rattle.jpeg_decoder.specs.Scanning.{vias_in, arrays_in, components_in, rows_in}
@@ -13,8 +13,8 @@ pub read_interleaved-requires-clause-held : goal.read_interleaved-requires-claus
 read_interleaved-requires-clause-held g c row column high wide =
     holds (frame_in c.args.frame.now) c.args.scan.now.components.items c.args.arrays.now.items row column c.requires.fits c.requires.arrays high wide
 
-pub returns : goal.returns
-returns g c =
+pub returns-clause-scan : goal.returns-clause-scan
+returns-clause-scan g c =
     let cs = c.args.scan.now.components.items in
     let vs = c.args.arrays.now.items in
     let p = pass_in c.args.scan.now.pass in

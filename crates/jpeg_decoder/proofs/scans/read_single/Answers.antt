@@ -2,7 +2,7 @@ use Rattle.std.proofs.Common.{◌≡◌, ◌*◌, ℕ, List, subst, sym}
 use Rattle.jpeg_bits.specs.Reading.{Outcome, Answers}
 use Rattle.jpeg_segments.specs.FrameView.{frame_in}
 use Rattle.jpeg_decoder.specs.Order.{spots_of, mcu_size}
-use Rattle.jpeg_decoder.specs.Scans.{Arrays, arrays_at}
+use Rattle.jpeg_decoder.specs.Scans.{arrays_at}
 use Rattle.jpeg_decoder.specs.InTurn.{scan_from}
 use Rattle.jpeg_bits.specs.BlockView.{pass_in}
 use Rattle.jpeg_decoder.specs.Scanning.{vias_in, arrays_in, components_in, own_rows}
@@ -16,8 +16,8 @@ read_alone-requires-clause-within g c row h =
 pub read_alone-requires-clause-array : goal.read_alone-requires-clause-array
 read_alone-requires-clause-array g c = some-size c.args.scan.now.components.items c.args.arrays.now.items c.requires.one c.requires.arrays
 
-pub returns : goal.returns
-returns g c =
+pub returns-clause-scan : goal.returns-clause-scan
+returns-clause-scan g c =
     let cs = c.args.scan.now.components.items in
     let vs = c.args.arrays.now.items in
     let p = pass_in c.args.scan.now.pass in

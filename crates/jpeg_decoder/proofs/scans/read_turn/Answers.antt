@@ -1,12 +1,10 @@
-use Rattle.std.proofs.Common.{◌≡◌, ◌∙◌, ◌<◌, ℤ, ℕ, List, pos, refl, length, get_or, set, slice_index_or, w16, FitsSigned, rules, arith}
-use Rattle.std.proofs.lemmas.Int.{to_z-of_z}
+use Rattle.std.proofs.Common.{◌<◌, pos, refl, length, slice_index_or, arith}
 use Rattle.std.proofs.lemmas.Result.{err_from_is_err_and}
-use Rattle.std.specs.Int.{cast_signed, cast_unsigned}
 use Rattle.jpeg_bits.specs.Entropy.{upcoming}
 use Rattle.jpeg_bits.specs.Passes.{block_from}
-use Rattle.jpeg_decoder.specs.InTurn.{Reached, turn_from}
+use Rattle.jpeg_decoder.specs.InTurn.{turn_from}
 use Rattle.jpeg_bits.specs.BlockView.{to_block, pass_in}
-use Rattle.jpeg_decoder.specs.Scanning.{vias_in, arrays_in, reached, sizes_of}
+use Rattle.jpeg_decoder.specs.Scanning.{vias_in, arrays_in, reached}
 use Rattle.jpeg_bits.proofs.BandSteps.{Leaves-whole}
 use Rattle.jpeg_bits.proofs.WholeBlocks.{refused_behind}
 use Rattle.jpeg_decoder.proofs.HeldBlocks.{spot, sizes-set, sizes-long, size-at, turn-read, turn-refused}
@@ -53,7 +51,7 @@ returns-in_err-read_block-clause-turn g c =
     let whole = turn_from p (vias_in 0 cs) (spot slot index) (reached i (arrays_in vs)) in
     let coded = c.index-coded.result.now in
     rw (e.1, e.2) (refused_behind (λ (u : Unit {0}). reached i (arrays_in vs)) (λ (u : Unit {0}). (to_block c.read_block.new.block, c.read_block.new.predictor, c.read_block.new.run))
-    whole whole (block_from p coded.dc coded.ac first i.run (to_block c.index_mut-2.result.now))
+    whole whole (block_from p coded.dc.now coded.ac.now first i.run (to_block c.index_mut-2.result.now))
     i.decoder i.decoder c.read_block.new.decoder c.args.source.now c.args.source.now c.read_block.new.source _
     (λ t f h. turn-refused p cs slot index coded vs c.index_mut.result.now c.index_mut-2.result.now i.predictors i.run first
       c.requires.slot c.index-coded.ensures inside c.index_mut.ensures.value within c.index_mut-2.ensures.value refl t f h)

@@ -10,10 +10,25 @@ returns-clause-scan g c =
     let e = c.in_ok-scan_of.ensures in
     let xs = map selector_of c.args.selectors.now in
     let count = length-map c.args.selectors.now selector_of in
-    is-scan (frame_in c.args.frame.now) xs (scan_in c.in_ok-scan_of.field-0) (rw count c.requires.some) (rw count c.requires.most) c.requires.places
+    is-scan (frame_in c.args.frame.now) xs (scan_in c.in_ok-scan_of.field-0) (rw count c.requires.some)
+    (rw count c.requires.most) c.requires.places c.requires.rising c.requires.mcu
     (ap (λ (s : Scan). s.components) e) (ap (λ (s : Scan). s.dc_places) e) (ap (λ (s : Scan). s.ac_places) e)
-    (rw (ap (λ (s : Scan). s.first) e, ap (λ (s : Scan). s.behind) e, ap (λ (s : Scan). s.high) e, ap (λ (s : Scan). s.low) e) (c.is_band.ensures.coded c.if-not-is_band.false))
-    (rw (ap (λ (s : Scan). s.first) e, ap (λ (s : Scan). s.behind) e, ap (λ (s : Scan). s.high) e, ap (λ (s : Scan). s.low) e, count)
-    (legal-again c.args.frame.now.coding_process (length c.args.selectors.now) _ _ _ _ (sym c.is_band.ensures.value ∙ c.if-not-is_band.false)))
+    (rw (
+      ap (λ (s : Scan). s.first) e,
+      ap (λ (s : Scan). s.behind) e,
+      ap (λ (s : Scan). s.high) e,
+      ap
+          (λ (s : Scan). s.low) e,
+    ) (c.is_band.ensures.coded c.if-not-is_band.false))
+    (rw (
+      ap (λ (s : Scan). s.first) e,
+      ap (λ (s : Scan). s.behind) e,
+      ap (λ (s : Scan). s.high) e,
+      ap
+          (λ (s : Scan). s.low) e,
+      count,
+    )
+    (legal-again c.args.frame.now.coding_process (length c.args.selectors.now) _ _ _ _ (sym c.is_band.ensures.value
+    ∙ c.if-not-is_band.false)))
     (rw (ap (λ (s : Scan). s.low) e) (omega (arith, c.if-band-frame.false)))
     (ap (λ (s : Scan). s.point_transform) e ∙ sym (ap (λ (s : Scan). s.low) e))

@@ -6,7 +6,7 @@ use Rattle.jpeg_bits.proofs.Loops.{Continues-ok, Continues-err, Continues-end, b
 use Rattle.jpeg_segments.specs.declared.scan_header.Selector.{Selector as Read}
 use Rattle.jpeg_segments.specs.ScanHeader.{IsSelectorOf, Selector, selectors_from, selector_at}
 use Rattle.jpeg_segments.specs.FrameView.{frame_in, selector_of}
-use Rattle.jpeg_segments.proofs.ScanLemmas.{selectors_from-more, selectors_from-none}
+use Rattle.jpeg_segments.proofs.ScanLemmas.{rises-all, rises-more, selectors_from-more, selectors_from-none}
 use Rattle.jpeg_segments.proofs.scan_header.read_selectors.Goals as goal
 
 abbrev all_of : Vec Read Global → List Selector
@@ -29,6 +29,8 @@ loop-left-preserved g c =
           (λ e. selectors_from-more frame left front least c.loop-left.source.bytes c.loop-left-test.true ∙ bind_at _ _ _ e)
           c.loop-left.invariant.rest c.in_ok-selector.ensures.answers);
       length = omega (arith, longer, c.loop-left.invariant.length, c.loop-left-test.true);
+      rising = rw (e, map-append (λ (s : Selector). s.component) front (selector_of one ∷ []))
+          (rises-more (map (λ (s : Selector). s.component) front) least one.component c.loop-left.invariant.rising c.in_ok-selector.ensures.least);
       places = rw e (All-push (IsSelectorOf frame) front (selector_of one) c.loop-left.invariant.places c.in_ok-selector.ensures.place);
     }
 
@@ -50,3 +52,6 @@ returns-clause-answers g c =
     let z : c.loop-left.left ≡ 0 = omega (arith, c.loop-left-test.false) in
     Continues-end all_of (selectors_from frame c.args.count [] 0) (λ (bs : List ℕ). selectors_from frame c.loop-left.left (all_of c.loop-left.selectors) c.loop-left.least bs) c.args.source.now c.loop-left.source c.loop-left.selectors
     (ap (λ n. selectors_from frame n (all_of c.loop-left.selectors) c.loop-left.least c.loop-left.source.bytes) z ∙ selectors_from-none frame (all_of c.loop-left.selectors) c.loop-left.least c.loop-left.source.bytes) c.loop-left.invariant.rest
+
+pub returns-clause-rising : goal.returns-clause-rising
+returns-clause-rising g c = rises-all (map (λ (s : Selector). s.component) (all_of c.loop-left.selectors)) c.loop-left.least c.loop-left.invariant.rising

@@ -1,0 +1,6 @@
+use Rattle.jpeg_decoder.proofs.WorkedColour.{colour-written}
+use Rattle.jpeg_decoder.proofs.WorkedGrey.{grey-written}
+use Rattle.jpeg_decoder.proofs.headline.worked_images_are_written.Goals as goal
+
+pub returns : goal.returns
+returns c = record { grey = grey-written; colour = colour-written }

@@ -1,0 +1,11 @@
+use Rattle.std.proofs.Common.{◌∙◌, ◌∷◌}
+use Rattle.jpeg_decoder.specs.Scans.{zero_arrays}
+use Rattle.jpeg_decoder.proofs.Apart.{zeros-sized}
+use Rattle.jpeg_decoder.proofs.Mcus.{frame-scans}
+use Rattle.jpeg_decoder.proofs.McuRows.{scans-by-rows}
+use Rattle.jpeg_decoder.proofs.laws.scans_go_by_rows.Goals as goal
+
+pub returns : goal.returns
+returns x frame c more p vias n bytes fits =
+    frame-scans frame c more p vias n (zero_arrays (c ∷ more)) bytes fits (zeros-sized (c ∷ more))
+    ∙ scans-by-rows frame c more p vias n bytes fits

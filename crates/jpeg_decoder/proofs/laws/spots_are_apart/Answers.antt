@@ -1,0 +1,5 @@
+use Rattle.jpeg_decoder.proofs.Apart.{spots-apart}
+use Rattle.jpeg_decoder.proofs.laws.spots_are_apart.Goals as goal
+
+pub returns : goal.returns
+returns c = spots-apart

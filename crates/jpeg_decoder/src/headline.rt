@@ -1,0 +1,103 @@
+//! The headline: a stream that is written for coefficients means the picture of those coefficients.
+//! Theorems, each on a function without a body.
+ghost use Rattle.std.specs.Prelude.{◌≡◌, ℕ, ◌++◌, List, Some, Ok, false, Result};
+ghost use Rattle.jpeg_bits.specs.Reading.{Answers};
+ghost use Rattle.jpeg_bits.specs.declared.error.Error.{Error};
+ghost use Rattle.jpeg_segments.specs.Frame.{Frame};
+ghost use Rattle.jpeg_decoder.specs.ArrayPictures.{meaning_of_array, picture_of_array, Takes};
+ghost use Rattle.jpeg_decoder.specs.DecodedImages.{DecodesImages};
+ghost use Rattle.jpeg_decoder.specs.Levels.{Is8Bit, Levels};
+ghost use Rattle.jpeg_decoder.specs.States.{Decoding, IsReading, ahead};
+ghost use Rattle.jpeg_decoder.specs.Stream.{Found, is_progressive, meaning, sized_meaning};
+ghost use Rattle.jpeg_decoder.specs.Stream.{sized_to, told_of};
+ghost use Rattle.jpeg_decoder.specs.WholeImages.{AllComplete, whole_meaning};
+ghost use Rattle.jpeg_decoder.specs.WorkedImages.{IsWhollyWritten, grey_array, grey_bytes};
+ghost use Rattle.jpeg_decoder.specs.WorkedImages.{colour_array, colour_bytes};
+ghost use Rattle.jpeg_decoder.specs.WrittenImages.{WritesImage};
+ghost use Rattle.jpeg_decoder.specs.WrittenScans.{Coefficients};
+ghost use Rattle.jpeg_decoder.specs.declared.state.Settings.{Settings};
+
+/// A stream that is written for the coefficients of 8-bit samples means the picture of those
+/// coefficients, cut at the bits that were sent. The stream may be sequential or progressive, under
+/// any legal script, and a progressive one may end after any scan. What follows the image is left.
+pub fn images_are_read()
+    ensures { (settings : Settings) (array : Coefficients) (bytes rest : List ℕ) (final : Found)
+        (last : ℕ → Levels) →
+        ((place row column : ℕ) → Is8Bit (array place row column)) →
+        WritesImage array bytes final last →
+        meaning settings (bytes ++ rest) ≡ meaning_of_array settings final array last rest }
+{}
+
+/// Read at a scale, it means the picture of those coefficients at that scale.
+pub fn images_are_read_at_scales()
+    ensures { (width height : ℕ) (settings : Settings) (array : Coefficients)
+        (bytes rest : List ℕ) (final : Found) (last : ℕ → Levels) →
+        ((place row column : ℕ) → Is8Bit (array place row column)) →
+        WritesImage array bytes final last →
+        sized_meaning width height settings (bytes ++ rest)
+        ≡ meaning_of_array settings (sized_to width height final) array last rest }
+{}
+
+/// Where every bit of each coefficient was sent, it means the picture of the coefficients
+/// themselves, at every scale.
+pub fn complete_images_are_whole()
+    ensures whole { (settings : Settings) (array : Coefficients) (bytes rest : List ℕ)
+        (final : Found) (last : ℕ → Levels) (frame : Frame) →
+        ((place row column : ℕ) → Is8Bit (array place row column)) →
+        WritesImage array bytes final last →
+        final.frame ≡ Some frame → AllComplete frame last →
+        meaning settings (bytes ++ rest) ≡ whole_meaning settings final array rest }
+    ensures sized { (width height : ℕ) (settings : Settings) (array : Coefficients)
+        (bytes rest : List ℕ) (final : Found) (last : ℕ → Levels) (frame : Frame) →
+        ((place row column : ℕ) → Is8Bit (array place row column)) →
+        WritesImage array bytes final last →
+        final.frame ≡ Some frame → AllComplete frame last →
+        sized_meaning width height settings (bytes ++ rest)
+        ≡ whole_meaning settings (sized_to width height final) array rest }
+{}
+
+/// A sequential stream sends every bit of each coefficient.
+pub fn sequential_images_are_complete()
+    ensures { (array : Coefficients) (bytes : List ℕ) (final : Found) (last : ℕ → Levels)
+        (frame : Frame) →
+        WritesImage array bytes final last →
+        final.frame ≡ Some frame → is_progressive frame.process ≡ false →
+        AllComplete frame last }
+{}
+
+/// Where the settings take the picture, there is one, and the stream means it, at full size and at
+/// every scale.
+pub fn images_have_pictures()
+    ensures plain { (settings : Settings) (array : Coefficients) (bytes rest : List ℕ)
+        (final : Found) (last : ℕ → Levels) →
+        ((place row column : ℕ) → Is8Bit (array place row column)) →
+        WritesImage array bytes final last → Takes settings final →
+        (picture : List ℕ) × (picture_of_array settings final array last ≡ Ok picture)
+        × (meaning settings (bytes ++ rest)
+        ≡ Ok (record { 0 = record { 0 = told_of final; 1 = picture }; 1 = rest })) }
+    ensures sized { (width height : ℕ) (settings : Settings) (array : Coefficients)
+        (bytes rest : List ℕ) (final : Found) (last : ℕ → Levels) →
+        ((place row column : ℕ) → Is8Bit (array place row column)) →
+        WritesImage array bytes final last → Takes settings (sized_to width height final) →
+        (picture : List ℕ)
+        × (picture_of_array settings (sized_to width height final) array last ≡ Ok picture)
+        × (sized_meaning width height settings (bytes ++ rest)
+        ≡ Ok (record { 0 = record { 0 = told_of (sized_to width height final); 1 = picture }; 1 = rest })) }
+{}
+
+/// The relation holds of two streams that are worked by hand: a progressive one of three blocks, with
+/// DC and AC each in a first scan and a refinement and with runs of blocks; and a sequential one of
+/// three components, with padding and a restart.
+pub fn worked_images_are_written()
+    ensures grey { IsWhollyWritten grey_array grey_bytes }
+    ensures colour { IsWhollyWritten colour_array colour_bytes }
+{}
+
+/// A call whose result is the meaning of what its source has left decodes images.
+pub fn calls_decode_images()
+    ensures { (old new : Decoding) (result : Result (List ℕ) Error) →
+        (IsReading old.stage →
+        Answers (λ picture. (told_of new.found, picture))
+        (ahead old.stage old.settings old.found) old.source result new.source) →
+        DecodesImages (λ picture. picture) old result new }
+{}

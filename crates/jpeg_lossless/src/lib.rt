@@ -1,0 +1,12 @@
+//! Lossless scans and their pictures (T.81, Annex H): differences, predictions and samples.
+#![tactic(auto)]
+
+mod differences;
+pub mod laws;
+mod lines;
+pub mod lossless;
+mod picture;
+mod planes;
+pub mod scan;
+#[cfg(test)]
+mod tests;

@@ -1,0 +1,292 @@
+//! Lossless scans (T.81, H.1.2), and their restart intervals (E.2.4).
+ghost use Rattle.std.specs.Prelude.{◌≡◌, ◌≤◌, ◌<◌, ◌*◌, IfSome, IfNone, IfOk, true, false};
+ghost use Rattle.std.specs.Prelude.{length, map, replicate, []};
+ghost use Rattle.jpeg_bits.specs.Reading.{Answers};
+ghost use Rattle.jpeg_bits.specs.Entropy.{Takes};
+ghost use Rattle.jpeg_lossless.specs.Rows.{via_of, planes_from};
+ghost use Rattle.jpeg_lossless.specs.PlanesRead.{planes_interval, planes_intervals, planes_scan};
+ghost use Rattle.jpeg_lossless.specs.Scans.{is_restart, is_of_rows, rows_of_interval};
+ghost use Rattle.jpeg_lossless.specs.Scans.{shifted, scan_at};
+ghost use Rattle.jpeg_lossless.specs.Codings.{way_by};
+ghost use Rattle.jpeg_lossless.specs.Pictures.{AreWhole};
+
+use crate::differences::read_row;
+use crate::lines::Prediction;
+use crate::lossless::start_of;
+use crate::planes::{add_row, shift};
+use jpeg_bits::error::{Result, format_error};
+use jpeg_bits::huffman::{HuffmanDecoder, HuffmanTable};
+use jpeg_bits::marker::Marker;
+use jpeg_bits::scan::Predictor;
+use jpeg_bits::source::Source;
+use std::alloc::{AllocError, Global};
+use std::io::Read;
+
+/// How a lossless scan is coded. An MCU has one sample of each component of the scan, so the MCUs
+/// are the pixels.
+#[derive(Clone, Copy, Debug, PartialEq)]
+pub struct Coding {
+    /// How many MCUs a row has.
+    pub wide: u16,
+    /// How many rows of MCUs there are.
+    pub high: u16,
+    /// The bits of a sample, at most 16.
+    pub precision: u8,
+    /// How samples are predicted.
+    pub predictor: Predictor,
+    /// By how many bits the samples are shifted after prediction: fewer than the precision.
+    pub point_transform: u8,
+    /// The restart interval in MCUs, or 0 for none.
+    pub restart_interval: u16,
+}
+
+/// How many rows of MCUs a restart interval has: all without restarts, or where it holds the whole
+/// scan. It is none where an interval would end inside a row.
+fn rows_of_interval(coding: Coding) -> Option<u16>
+    requires wide { 0 < coding.wide }
+    requires high { 0 < coding.high }
+    ensures some { IfSome result
+        (λ n. (n ≡ rows_of_interval coding.wide coding.high coding.restart_interval) × (0 < n)
+        × (is_of_rows coding.wide coding.high coding.restart_interval ≡ true)) }
+    ensures none { IfNone result
+        (is_of_rows coding.wide coding.high coding.restart_interval ≡ false) }
+{
+    let count = u32::from(coding.wide) * u32::from(coding.high);
+    let interval = coding.restart_interval;
+    if interval == 0 || count <= u32::from(interval) {
+        return Some(coding.high);
+    }
+    if interval % coding.wide != 0 {
+        return None;
+    }
+    Some(interval / coding.wide)
+}
+
+/// A scan that is being read: the samples so far, and buffers for a row of MCUs.
+#[derive(Drop)]
+struct LosslessScan {
+    alloc: Global,
+    /// The differences of a row of MCUs, in the order in which they are coded.
+    row: Vec<u16>,
+    /// A line of one component: its differences, and then its samples.
+    line: Vec<u16>,
+    /// The samples of each component, line by line.
+    planes: Vec<Vec<u16>>,
+}
+
+impl LosslessScan {
+    ghost use Rattle.std.specs.Prelude.{◌≡◌, ℕ, OnOk, ◌≤◌, ◌<◌, ◌+◌, ◌*◌, length, map, true};
+    ghost use Rattle.jpeg_bits.specs.Reading.{Answers};
+    ghost use Rattle.jpeg_bits.specs.Entropy.{Takes};
+    ghost use Rattle.jpeg_lossless.specs.Rows.{via_of, planes_from};
+    ghost use Rattle.jpeg_lossless.specs.PlanesRead.{planes_interval, planes_intervals};
+    ghost use Rattle.jpeg_lossless.specs.Pictures.{AreWhole};
+
+    /// Reads `count` rows of MCUs, and appends their samples to the planes.
+    fn read_rows<R: Read + Drop>(
+        &mut self,
+        decoder: &mut HuffmanDecoder,
+        source: &mut Source<R>,
+        coding: Coding,
+        tables: &[&HuffmanTable],
+        count: u16,
+    ) -> Result<()>
+        requires planes { length self.old.planes.items ≡ length tables.now }
+        requires point { coding.point_transform < coding.precision }
+        requires precision { coding.precision ≤ 16 }
+        ensures count { length self.new.planes.items ≡ length self.old.planes.items }
+        ensures long { (k : ℕ) → AreWhole k (map (λ v. v.items) self.old.planes.items)
+            → OnOk result (AreWhole (k + count * coding.wide)
+            (map (λ v. v.items) self.new.planes.items)) }
+        ensures reads { Takes (λ _. map (λ v. v.items) self.new.planes.items)
+            (planes_from (via_of coding (map (λ t. t.now) tables.now)) true count
+            (map (λ v. v.items) self.old.planes.items))
+            decoder.old source.old result decoder.new source.new }
+    {
+        let prediction = Prediction {
+            predictor: coding.predictor,
+            start: start_of(coding.precision, coding.point_transform),
+        };
+        let wide = usize::from(coding.wide);
+        let mut is_first = true;
+        let mut left = count;
+        while left > 0 {
+            read_row(self.alloc, decoder, source, tables, wide, &mut self.row)?;
+            add_row(
+                prediction,
+                is_first,
+                &self.row,
+                wide,
+                &mut self.line,
+                self.planes.as_mut_slice(),
+            )?;
+            is_first = false;
+            left -= 1;
+        }
+        Ok(())
+    }
+
+    /// Reads an interval of `count` rows of MCUs, and returns the marker after it, if it is met.
+    #[tactic(auto, unfolding(crate::specs::PlanesRead::planes_interval))]
+    fn read_interval<R: Read + Drop>(
+        &mut self,
+        source: &mut Source<R>,
+        coding: Coding,
+        tables: &[&HuffmanTable],
+        count: u16,
+    ) -> Result<Option<Marker>>
+        requires planes { length self.old.planes.items ≡ length tables.now }
+        requires point { coding.point_transform < coding.precision }
+        requires precision { coding.precision ≤ 16 }
+        ensures count { length self.new.planes.items ≡ length self.old.planes.items }
+        ensures long { (k : ℕ) → AreWhole k (map (λ v. v.items) self.old.planes.items)
+            → OnOk result (AreWhole (k + count * coding.wide)
+            (map (λ v. v.items) self.new.planes.items)) }
+        ensures answers { Answers (λ m. (map (λ v. v.items) self.new.planes.items, m))
+            (planes_interval (via_of coding (map (λ t. t.now) tables.now)) count
+            (map (λ v. v.items) self.old.planes.items))
+            source.old result source.new }
+    {
+        let mut decoder = HuffmanDecoder::new(self.alloc);
+        self.read_rows(&mut decoder, source, coding, tables, count)?;
+        decoder.take_marker(source)
+    }
+
+    /// Reads the intervals of a scan, each of `rows` rows of MCUs and the last of those that are
+    /// left, and returns the marker after them, if it is met.
+    fn read_intervals<R: Read + Drop>(
+        &mut self,
+        source: &mut Source<R>,
+        coding: Coding,
+        tables: &[&HuffmanTable],
+        rows: u16,
+    ) -> Result<Option<Marker>>
+        requires rows { 0 < rows }
+        requires planes { length self.old.planes.items ≡ length tables.now }
+        requires point { coding.point_transform < coding.precision }
+        requires precision { coding.precision ≤ 16 }
+        ensures count { length self.new.planes.items ≡ length self.old.planes.items }
+        ensures long { (k : ℕ) → AreWhole k (map (λ v. v.items) self.old.planes.items)
+            → OnOk result (AreWhole (k + coding.high * coding.wide)
+            (map (λ v. v.items) self.new.planes.items)) }
+        ensures answers { Answers (λ m. (map (λ v. v.items) self.new.planes.items, m))
+            (planes_intervals (coding.high + 1) (via_of coding (map (λ t. t.now) tables.now))
+            rows 0 coding.high (map (λ v. v.items) self.old.planes.items))
+            source.old result source.new }
+    {
+        let mut number = 0u16;
+        let mut left = coding.high;
+        while left > rows {
+            let marker = self.read_interval(source, coding, tables, rows)?;
+            if !is_restart(marker, number) {
+                return Err(format_error(self.alloc, "a restart marker is missing"));
+            }
+            number += 1;
+            left -= rows;
+        }
+        self.read_interval(source, coding, tables, left)
+    }
+}
+
+/// Whether a marker is the RST with this number modulo 8.
+fn is_restart(marker: Option<Marker>, number: u16) -> bool
+    ensures { result ≡ is_restart number marker }
+{
+    match marker {
+        Some(Marker::RST(n)) => u16::from(n) == number % 8,
+        _ => false,
+    }
+}
+
+/// `count` empty planes, each with room for `size` samples.
+fn empty_planes(
+    alloc: Global,
+    count: usize,
+    size: usize,
+) -> std::result::Result<Vec<Vec<u16>>, AllocError>
+    ensures count { IfOk result (λ v. length v.items ≡ count) }
+    ensures planes { IfOk result (λ v. map (λ p. p.items) v.items ≡ replicate count []) }
+{
+    let mut planes = Vec::with_capacity(alloc, count)?;
+    for _ in 0..count {
+        planes.push(Vec::with_capacity(alloc, size)?)?;
+    }
+    Ok(planes)
+}
+
+/// Shifts each sample of the planes left by the point transform.
+fn shift_all(planes: &mut [Vec<u16>], point_transform: u8)
+    requires { point_transform < 16 }
+    ensures count { length planes.new ≡ length planes.old }
+    ensures planes { map (λ v. v.items) planes.new
+        ≡ map (map (shifted point_transform)) (map (λ v. v.items) planes.old) }
+{
+    for i in 0..planes.len() {
+        shift(planes[i].as_mut_slice(), point_transform);
+    }
+}
+
+/// Reads a scan as `read_scan` does, row by row.
+#[tactic(auto, unfolding(crate::specs::PlanesRead::planes_scan))]
+fn read_planes<R: Read + Drop>(
+    alloc: Global,
+    source: &mut Source<R>,
+    coding: Coding,
+    tables: &[&HuffmanTable],
+) -> Result<(Vec<Vec<u16>>, Option<Marker>)>
+    requires wide { 0 < coding.wide }
+    requires high { 0 < coding.high }
+    requires point { coding.point_transform < coding.precision }
+    requires precision { coding.precision ≤ 16 }
+    ensures count { IfOk result (λ r. length r.0.items ≡ length tables.now) }
+    ensures long { IfOk result
+        (λ r. AreWhole (coding.high * coding.wide) (map (λ v. v.items) r.0.items)) }
+    ensures reads { Answers (λ r. (map (λ v. v.items) r.0.items, r.1))
+        (planes_scan (via_of coding (map (λ t. t.now) tables.now))
+        coding.high coding.restart_interval coding.point_transform)
+        source.old result source.new }
+{
+    let Some(rows) = rows_of_interval(coding) else {
+        return Err(format_error(alloc, "a restart interval ends inside a row of MCUs"));
+    };
+    let size = usize::from(coding.wide) * usize::from(coding.high);
+    let planes = empty_planes(alloc, tables.len(), size)?;
+    let mut scan = LosslessScan {
+        alloc,
+        row: Vec::new(alloc),
+        line: Vec::new(alloc),
+        planes,
+    };
+    let marker = scan.read_intervals(source, coding, tables, rows)?;
+    shift_all(scan.planes.as_mut_slice(), coding.point_transform);
+    Ok((scan.planes, marker))
+}
+
+/// Reads the entropy-coded data of a lossless scan, which has a table for each component. Returns a
+/// plane for each table, and the marker after the data, if it was met. A plane has `wide * high`
+/// samples, line by line, which are shifted by the point transform.
+///
+/// It is `Format` where a restart interval ends inside a row, bits are no code of their table, a
+/// category is above 16, FF 00 stands where a marker is expected, or an interval does not end with
+/// the restart marker that is due. It is `Io` where the bytes end or a read fails, and
+/// `OutOfMemory` where no memory is left.
+pub fn read_scan<R: Read + Drop>(
+    alloc: Global,
+    source: &mut Source<R>,
+    coding: Coding,
+    tables: &[&HuffmanTable],
+) -> Result<(Vec<Vec<u16>>, Option<Marker>)>
+    requires wide { 0 < coding.wide }
+    requires high { 0 < coding.high }
+    requires point { coding.point_transform < coding.precision }
+    requires precision { coding.precision ≤ 16 }
+    ensures count { IfOk result (λ r. length r.0.items ≡ length tables.now) }
+    ensures long { IfOk result
+        (λ r. AreWhole (coding.wide * coding.high) (map (λ v. v.items) r.0.items)) }
+    ensures reads { Answers (λ r. (map (λ v. v.items) r.0.items, r.1))
+        (scan_at (way_by coding (map (λ t. t.now) tables.now))
+        coding.high coding.restart_interval coding.point_transform)
+        source.old result source.new }
+{
+    read_planes(alloc, source, coding, tables)
+}

@@ -1,0 +1,77 @@
+-- Fields that were written are read again.
+use Rattle.std.proofs.Common.{◌≡◌, ℕ, suc, ◌<◌, ◌+◌, ◌-◌, ◌*◌, ◌/◌, ◌%◌, Bool, true, false, cond, List, [], ◌∷◌, ◌++◌, length, Ok, Err, refl, ap, ◌∙◌, append_assoc, arith, ltb}
+use Rattle.std.proofs.lemmas.Bool.{le-ltb}
+use Rattle.std.specs.Prelude.{flat_map}
+use Rattle.std.specs.List.{AllByRecursion}
+use Rattle.jpeg_bits.specs.Reading.{Outcome, Malformed, ◌>>=◌, next_byte, next_u16, length_at, times, skip_at}
+use Rattle.jpeg_segments.specs.WrittenSegments.{u16_bytes, sized, nibbles}
+
+-- Of bytes that begin with these, these are read, and give x.
+pub record ReadsBytes {A : Type 0} (reader : List ℕ → Outcome A) (bytes : List ℕ) (x : A) : Type 0 where
+  pub read : (rest : List ℕ) → reader (bytes ++ rest) ≡ Ok (x, rest)
+
+-- ---- steps
+
+-- what is read behind a value
+pub read-on : {A B : Type 0} (o : Outcome A) (f : A × List ℕ → Outcome B) (x : A) (rest : List ℕ) (y : Outcome B)
+    → o ≡ Ok (x, rest) → f (x, rest) ≡ y → (o >>= f) ≡ y
+read-on o f x rest y e g = ap (λ r. r >>= f) e ∙ g
+
+-- a rule that is kept
+pub not-refused : {A : Type 0} (b : Bool) (x y : A) → b ≡ false → cond b x y ≡ y
+not-refused b x y e = rw e refl
+
+pub kept : {A : Type 0} (b : Bool) (x y : A) → b ≡ true → cond b x y ≡ x
+kept b x y e = rw e refl
+
+-- ---- fields
+
+pub u16-joined : (n : ℕ) → 256 * (n / 256) + n % 256 ≡ n
+u16-joined n = omega arith
+
+pub u16-read : (n : ℕ) (rest : List ℕ) → next_u16 (u16_bytes n ++ rest) ≡ Ok (n, rest)
+unfolding next_u16
+u16-read n rest = ap (λ (x : ℕ). Ok (x, rest)) (u16-joined n)
+
+pub length-read : (n : ℕ) (rest : List ℕ) → length_at (u16_bytes (n + 2) ++ rest) ≡ Ok (n, rest)
+unfolding length_at
+length-read n rest =
+    let e : n + 2 - 2 ≡ n = omega arith in
+    read-on (next_u16 (u16_bytes (n + 2) ++ rest)) _ (n + 2) rest _ (u16-read (n + 2) rest)
+    (not-refused (ltb (n + 2) 2) (Err Malformed) _ (le-ltb (n + 2) 2 (omega arith)) ∙ ap (λ (x : ℕ). Ok (x, rest)) e)
+
+-- a payload behind its length field
+pub sized-read : {B : Type 0} (payload rest : List ℕ) (f : ℕ × List ℕ → Outcome B)
+    → (length_at (sized payload ++ rest) >>= f) ≡ f (length payload, payload ++ rest)
+sized-read payload rest f =
+    read-on (length_at (sized payload ++ rest)) f (length payload) (payload ++ rest) _
+    (length-read (length payload) (payload ++ rest)) refl
+
+pub nibbles-high : (high low : ℕ) → low < 16 → nibbles high low / 16 ≡ high
+nibbles-high high low h = omega arith
+
+pub nibbles-low : (high low : ℕ) → low < 16 → nibbles high low % 16 ≡ low
+nibbles-low high low h = omega arith
+
+-- ---- several values
+
+pub times-read : {A : Type 0} (read : List ℕ → Outcome A) (bytes_of : A → List ℕ) (xs : List A) (rest : List ℕ)
+    → AllByRecursion (λ x. ReadsBytes read (bytes_of x) x) xs
+    → times (length xs) read (flat_map bytes_of xs ++ rest) ≡ Ok (xs, rest)
+unfolding times
+times-read read bytes_of [] rest all = refl
+times-read {A} read bytes_of (x ∷ xs) rest all =
+    let more = flat_map bytes_of xs ++ rest in
+    ap (times (suc (length xs)) read) (append_assoc (bytes_of x) (flat_map bytes_of xs) rest)
+    ∙ read-on (read (bytes_of x ++ more)) _ x more _ (all.0.read more)
+    (read-on (times (length xs) read more) _ xs rest _ (times-read read bytes_of xs rest all.1) refl)
+
+pub bytes-read : (xs : List ℕ) (rest : List ℕ) → times (length xs) next_byte (xs ++ rest) ≡ Ok (xs, rest)
+unfolding times
+bytes-read [] rest = refl
+bytes-read (x ∷ xs) rest = read-on (times (length xs) next_byte (xs ++ rest)) _ xs rest _ (bytes-read xs rest) refl
+
+pub skip-read : (xs : List ℕ) (rest : List ℕ) → skip_at (length xs) (xs ++ rest) ≡ Ok (tt, rest)
+unfolding skip_at
+skip-read [] rest = refl
+skip-read (x ∷ xs) rest = skip-read xs rest

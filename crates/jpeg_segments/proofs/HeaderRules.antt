@@ -1,0 +1,82 @@
+-- A scan header that is written keeps the rules of scans.
+use Rattle.std.proofs.Common.{◌≡◌, ℕ, suc, ◌≤◌, ◌<◌, ◌+◌, ◌-◌, ◌/◌, ◌%◌, Bool, true, false, List, [], ◌∷◌, map, length, All, Some, refl, sym, ap, ◌∙◌, subst, arith, eqb}
+use Rattle.std.proofs.lemmas.Bool.{ltb-true}
+use Rattle.std.proofs.lemmas.Bool.Decides.{nat_tests}
+use Rattle.std.proofs.lemmas.List.Elements.{All-cons, All-nil}
+use Rattle.std.proofs.lemmas.List.Quantifiers.{position-Some}
+use Rattle.jpeg_segments.specs.declared.parser.CodingProcess.{CodingProcess}
+use Rattle.jpeg_segments.specs.declared.parser.CodingProcess.TheVariants.{DctSequential, DctProgressive, Lossless}
+use Rattle.jpeg_segments.specs.Frame.{Frame, Component}
+use Rattle.jpeg_segments.specs.HuffmanTables.{greatest_place}
+use Rattle.jpeg_segments.specs.ScanHeader.{place_of, is_band, behind_of, scan_of, IsCoded, IsRising, IsSelectorOf, IsScanOf}
+use Rattle.jpeg_segments.proofs.ScanLemmas.{is-scan, legal-again}
+use Rattle.jpeg_segments.specs.WrittenSegments.{nibbles}
+use Rattle.jpeg_segments.specs.ScanHeaders.{Choice, ScanHeader, selector_of, IsChoice, AreChoices, IsScan, scan_written}
+use Rattle.jpeg_segments.proofs.Fields.{nibbles-high, nibbles-low}
+
+coded-by : (p : CodingProcess) (count first last high low : ℕ) → is_band p count first last high low ≡ true
+    → IsCoded p first (behind_of p last) high low
+coded-by DctSequential count first last high low e = grind (arith, nat_tests)
+coded-by DctProgressive count first last high low e = grind (arith, nat_tests)
+coded-by Lossless count first last high low e = grind (arith, nat_tests)
+
+choice-selects : (frame : Frame) (least : ℕ) (c : Choice) → IsChoice frame least c
+    → IsSelectorOf frame (selector_of frame c)
+choice-selects frame least c is =
+    let p = position-Some {X =
+    Component} (λ d. eqb d.factors.identifier c.identifier) frame.components c.component
+    (default frame.components is.identified) is.identified in
+    let d = is.dc_placed in
+    let a = is.ac_placed in
+    let small : greatest_place (Some frame.is_baseline) ≤ 3 = most frame.is_baseline in
+    record { component = p.0; dc = omega arith; ac = omega arith; blocks = refl }
+  where
+    most : (b : Bool) → greatest_place (Some b) ≤ 3
+    most true = omega arith
+    most false = omega arith
+
+    default : (l : List Component) → place_of l c.identifier ≡ Some c.component → Component
+    default [] e = absurd (let n : ⊥ = cc in n)
+    default (x ∷ l) e = x
+
+all-select : (frame : Frame) (least : ℕ) (cs : List Choice) → AreChoices frame least cs
+    → All (IsSelectorOf frame) (map (selector_of frame) cs)
+unfolding AreChoices
+all-select frame least [] all = All-nil (IsSelectorOf frame)
+all-select frame least (c ∷ cs) all =
+    All-cons (IsSelectorOf frame) (selector_of frame c) (map (selector_of frame) cs)
+    (choice-selects frame least c all.0) (all-select frame (c.component + 1) cs all.1)
+
+all-rise : (frame : Frame) (least : ℕ) (cs : List Choice) → AreChoices frame least cs
+    → IsRising least (map (λ s. s.component) (map (selector_of frame) cs))
+unfolding AreChoices IsRising
+all-rise frame least [] all = tt
+all-rise frame least (c ∷ cs) all = let is : IsChoice frame least c =
+    all.0 in (is.ordered, all-rise frame (c.component + 1) cs all.1)
+
+length-selected : (frame : Frame) (cs : List Choice) → length (map (selector_of frame) cs) ≡ length cs
+length-selected frame [] = refl
+length-selected frame (c ∷ cs) = ap suc (length-selected frame cs)
+
+pub header-rules : (frame : Frame) (h : ScanHeader) → IsScan frame h → IsScanOf frame (scan_written frame h)
+unfolding scan_of
+header-rules frame h is =
+    let count = length-selected frame h.choices in
+    let some = is.some in
+    let most = is.most in
+    let high : nibbles h.high h.low / 16 ≡ h.high = nibbles-high h.high h.low is.narrow in
+    let low : nibbles h.high h.low % 16 ≡ h.low = nibbles-low h.high h.low is.narrow in
+    let coded = subst (λ (x : ℕ). IsCoded frame.process h.first (behind_of frame.process h.last)
+    (nibbles h.high h.low / 16) x) (sym low)
+    (subst (λ (x : ℕ). IsCoded frame.process h.first (behind_of frame.process h.last) x h.low) (sym high)
+    (coded-by frame.process (length h.choices) h.first h.last h.high h.low is.band)) in
+    let band = ap (λ (x : ℕ). is_band frame.process x h.first (behind_of frame.process h.last - 1)
+    (nibbles h.high h.low / 16) (nibbles h.high h.low % 16)) count
+    ∙ ap (λ (x : ℕ). is_band frame.process (length h.choices) h.first (behind_of frame.process h.last - 1) x
+    (nibbles h.high h.low % 16)) high
+    ∙ ap (λ (x : ℕ). is_band frame.process (length h.choices) h.first (behind_of frame.process h.last - 1) h.high x) low
+    ∙ legal-again frame.process (length h.choices) h.first h.last h.high h.low is.band in
+    is-scan frame (map (selector_of frame) h.choices) (scan_written frame h) (omega arith) (omega arith)
+    (all-select frame 0 h.choices is.choices)
+    (all-rise frame 0 h.choices is.choices) is.fits refl refl refl coded band
+    (subst (λ (x : ℕ). x < frame.precision) (sym low) (ltb-true h.low frame.precision is.precise)) refl

@@ -1,0 +1,79 @@
+//! Writes that fail: the writer's own error is returned, nothing more is written, and what was
+//! taken is a beginning.
+
+use crate::bytes::bytes;
+use crate::rows::ROW;
+use crate::streams::{FAILURES, Trouble, Writer, is_own_error};
+use jpeg_decoder::Error;
+use jpeg_decoder::run::run;
+use std::alloc::Global;
+use std::io::ErrorKind;
+use std::process::Abort;
+use std::test::Fail;
+
+/// What `run` writes of the row's stream.
+const OUTPUT: &str = "38 20 38 20 4C38 0A 81*64";
+
+/// How many writes of at most 5 bytes the line and the picture take.
+const WRITES: usize = 15;
+
+/// What `run` returns where the write of this number goes wrong. Asserts that it is the last, and
+/// that a beginning of the output was taken.
+fn run_into(
+    rt: &impl Abort,
+    alloc: Global,
+    call: usize,
+    trouble: Trouble,
+) -> Result<Result<(), Error>, Fail> {
+    let stream = bytes(alloc, &ROW)?;
+    let output = bytes(alloc, &[OUTPUT])?;
+    let mut written = Vec::new(alloc);
+    let mut writer = Writer::new(&mut written, 5, call, trouble);
+    let answer = run(alloc, stream.as_slice(), &mut writer);
+    let calls = writer.call;
+    assert!(rt;
+        calls.checked_sub(1) == Some(call),
+        "call {call}, {trouble:?}"
+    );
+    assert!(rt;
+        output.as_slice().starts_with(written.as_slice()),
+        "call {call}, {trouble:?}"
+    );
+    assert!(rt; written.len() < output.len(), "call {call}, {trouble:?}");
+    Ok(answer)
+}
+
+#[test]
+fn a_program_returns_the_error_of_each_write(rt: HostRuntime) -> Result<(), Fail> {
+    let alloc = rt.alloc();
+    for kind in FAILURES {
+        for call in 0..WRITES {
+            let answer = run_into(&rt, alloc, call, Trouble::FailsBy(kind))?;
+            assert!(rt; is_own_error(alloc, &answer, kind)?, "call {call}, {kind}");
+        }
+    }
+    Ok(())
+}
+
+#[test]
+fn a_write_of_nothing_is_write_zero(rt: HostRuntime) -> Result<(), Fail> {
+    for call in 0..WRITES {
+        match run_into(&rt, rt.alloc(), call, Trouble::TakesNothing)? {
+            Err(Error::Io(error)) => assert!(rt; error.kind() == ErrorKind::WriteZero),
+            _ => assert!(rt; false, "call {call}"),
+        }
+    }
+    Ok(())
+}
+
+#[test]
+fn the_output_takes_fifteen_writes(rt: HostRuntime) -> Result<(), Fail> {
+    let stream = bytes(rt.alloc(), &ROW)?;
+    let output = bytes(rt.alloc(), &[OUTPUT])?;
+    let mut written = Vec::new(rt.alloc());
+    let mut writer = Writer::new(&mut written, 5, usize::MAX, Trouble::Fails);
+    run(rt.alloc(), stream.as_slice(), &mut writer)?;
+    assert_eq!(rt; writer.call, WRITES);
+    assert_eq!(rt; written.as_slice(), output.as_slice());
+    Ok(())
+}

@@ -1,0 +1,93 @@
+//! Large pictures, long segments, and the greatest number of components.
+
+use crate::bytes::bytes;
+use crate::rows::ROW;
+use jpeg_decoder::Decoder;
+use jpeg_decoder::decoder::MAX_COMPONENTS;
+use jpeg_decoder::run::run;
+use std::alloc::Global;
+use std::test::Fail;
+
+/// A stream of 1040 by 1016 pixels of 129. Its scan codes a first block of DC 8; all others are the
+/// zeros behind the end: no difference.
+const LARGE: [&str; 8] = [
+    "FFD8",
+    "FFDB 0043 00 01*64",
+    "FFC0 000B 08 03F8 0410 01 01 11 00",
+    // The code 0 is category 0, and the code 10 is category 4.
+    "FFC4 0015 00 01 01 00*14 00 04",
+    "FFC4 0014 10 01 00*15 00",
+    "FFDA 0008 01 01 00 00 3F 00",
+    "A0",
+    "FFD9",
+];
+
+/// Its samples: more than 2^20.
+const SAMPLES: usize = 1_056_640;
+
+/// Segments of the greatest length, each with its name.
+const LONG_SEGMENTS: [(&str, &str); 7] = [
+    ("comment", "FFFE FFFF 58*65533"),
+    ("application without a name", "FFE0 FFFF 58*65533"),
+    ("Exif", "FFE1 FFFF 457869660000 58*65527"),
+    ("ICC", "FFE2 FFFF 4943435F50524F46494C4500 01 01 58*65519"),
+    ("unknown application", "FFE3 FFFF 58*65533"),
+    (
+        "Photoshop",
+        "FFED FFFF 50686F746F73686F7020332E3000 58*65519",
+    ),
+    ("Adobe", "FFEE FFFF 41646F6265 0064 0000 0000 00 58*65521"),
+];
+
+#[test]
+fn a_large_picture_is_decoded(rt: HostRuntime) -> Result<(), Fail> {
+    let stream = bytes(rt.alloc(), &LARGE)?;
+    let mut decoder = Decoder::new(rt.alloc(), stream.as_slice())?;
+    let picture = decoder.decode()?;
+    assert_eq!(rt; picture.len(), SAMPLES);
+    assert!(rt; picture.iter().all(|sample| *sample == 129));
+    Ok(())
+}
+
+#[test]
+fn a_large_picture_is_written(rt: HostRuntime) -> Result<(), Fail> {
+    let stream = bytes(rt.alloc(), &LARGE)?;
+    let mut written = Vec::new(rt.alloc());
+    run(rt.alloc(), stream.as_slice(), &mut written)?;
+    let line = b"1040 1016 L8\n";
+    let samples = written.as_slice().strip_prefix(line).ok_or("another line")?;
+    assert_eq!(rt; samples.len(), SAMPLES);
+    assert!(rt; samples.iter().all(|sample| *sample == 129));
+    Ok(())
+}
+
+/// The stream of a row with one more segment behind its start.
+fn row_with(alloc: Global, segment: &str) -> Result<Vec<u8>, Fail> {
+    let mut stream = bytes(alloc, &["FFD8", segment])?;
+    let row = bytes(alloc, &ROW)?;
+    let (_, rest) = row.split_at_checked(2).ok_or("no start")?;
+    stream.extend_from_slice(rest)?;
+    Ok(stream)
+}
+
+#[test]
+fn segments_of_the_greatest_length_are_read(rt: HostRuntime) -> Result<(), Fail> {
+    for (name, segment) in LONG_SEGMENTS.iter() {
+        let stream = row_with(rt.alloc(), segment)?;
+        let mut decoder = Decoder::new(rt.alloc(), stream.as_slice())?;
+        assert!(rt;
+            decoder.decode()?.as_slice() == [129; 64].as_slice(),
+            "{name}"
+        );
+        let exif = decoder.exif_data().map(|data| data.len());
+        assert!(rt; exif == (*name == "Exif").then_some(65527), "{name}");
+        let profile = decoder.icc_profile()?.map(|data| data.len());
+        assert!(rt; profile == (*name == "ICC").then_some(65519), "{name}");
+    }
+    Ok(())
+}
+
+#[test]
+fn a_frame_has_at_most_four_components(rt: HostRuntime) {
+    assert_eq!(rt; MAX_COMPONENTS, 4);
+}
