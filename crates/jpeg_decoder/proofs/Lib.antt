@@ -70,5 +70,6 @@ pub mod ScanCodings
 pub mod TakenBlocks
 pub mod BlocksBefore
 pub mod RenderedPlanes
+pub mod PlacedCodings
 pub mod DecodedImages
 pub mod PutLoops
