@@ -31,4 +31,7 @@ pub mod McuParts
 pub mod McuSteps
 pub mod LineSteps
 pub mod Products
+pub mod InPlace
+pub mod StripRows
+pub mod RowBuffers
 pub mod FrameScans

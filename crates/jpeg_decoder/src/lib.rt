@@ -18,6 +18,7 @@ mod restarts;
 pub mod run;
 mod scans;
 mod state;
+mod strips;
 pub mod worked;
 
 pub use decoder::{Decoder, ImageInfo, PixelFormat};
