@@ -34,4 +34,7 @@ pub mod Products
 pub mod InPlace
 pub mod StripRows
 pub mod RowBuffers
+pub mod ByStrips
+pub mod StripSteps
+pub mod StripScans
 pub mod FrameScans

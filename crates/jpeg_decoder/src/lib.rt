@@ -17,6 +17,7 @@ mod profile;
 mod restarts;
 pub mod run;
 mod scans;
+mod sequential;
 mod state;
 mod strips;
 pub mod worked;

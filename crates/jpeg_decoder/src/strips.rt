@@ -58,7 +58,7 @@ fn plane_size(wide: u16, high: u16, scale: usize) -> usize
 /// A plane without samples for each component of a scan, with room for all of them.
 pub fn empty_planes(alloc: Global, codings: &[Coded<'_>]) -> Result<Vec<Vec<u8>>, AllocError>
     requires scales { All HasCodedScale codings.now }
-    ensures { IfOk result (λ v. planes_in v.items ≡ map (λ c. []) codings.now) }
+    ensures { IfOk result (λ v. planes_in v.items ≡ map (λ c. []) (map coding_in codings.now)) }
 {
     let mut planes = Vec::with_capacity(alloc, codings.len())?;
     for coded in codings {
