@@ -79,3 +79,4 @@ pub mod RenderedPlanes
 pub mod PlacedCodings
 pub mod DecodedImages
 pub mod PutLoops
+pub mod ScanData

@@ -26,7 +26,7 @@ use Rattle.jpeg_decoder.proofs.McuRows.{scans-by-rows}
 pub record IsOf (frame : Frame) (c : Coding) : Type 0 where
   pub here : At c.place frame.components c.component
 
-first-at : (place : ℕ) (cs : List Component) (c : Component) → ◌≡◌ {A = Option Component} (first_of (drop place cs)) (Some c) → At place cs c
+pub first-at : (place : ℕ) (cs : List Component) (c : Component) → ◌≡◌ {A = Option Component} (first_of (drop place cs)) (Some c) → At place cs c
 first-at zero [] c e = cc
 first-at (suc place) [] c e = cc
 first-at zero (d ∷ cs) c e = cc
