@@ -3,11 +3,12 @@ ghost use Rattle.std.specs.Prelude.{ℕ, [], ◌∷◌, map, ◌≡◌, ◌≤�
 ghost use Rattle.std.specs.List.{All, AllByRecursion, range_with_len};
 ghost use Rattle.jpeg_bits.specs.Reading.{Answers};
 ghost use Rattle.jpeg_bits.specs.Entropy.{Takes, fresh};
-ghost use Rattle.jpeg_decoder.specs.InTurn.{turn_from, turns_from, begun_from, counted_at_start, mcu_from, mcus_from, scan_from, Fits, AreArrays};
+ghost use Rattle.jpeg_decoder.specs.InTurn.{turn_from, turns_from, begun_from, mcu_from, mcus_from, scan_from, Fits, AreArrays};
 ghost use Rattle.jpeg_decoder.specs.Order.{mcu_spots, spots_of, mcu_size, grid_of};
 ghost use Rattle.jpeg_segments.specs.FrameView.{frame_in};
 ghost use Rattle.jpeg_decoder.specs.Scans.{Arrays, arrays_at};
 ghost use Rattle.jpeg_decoder.specs.Layout.{line_of, part_of};
+ghost use Rattle.jpeg_bits.specs.Intervals.{predictors_at_start};
 ghost use Rattle.jpeg_bits.specs.BlockView.{pass_in, IsPass};
 ghost use Rattle.jpeg_decoder.specs.Scanning.{vias_in, HasAc, HasCodedScale, arrays_in, sizes_of, reached, counted, IsHeld, OfSlot, AreWithin, wide_in, across_in, down_in, part_in, first_in, HoldsMcu, components_in, row_in, rows_in, own_mcu, own_row, own_rows};
 
@@ -42,10 +43,17 @@ pub struct Interval {
     number: u8,
 }
 
+/// A block of a scan: its component's slot in the scan, and its index among that component's blocks.
+#[derive(Clone, Copy)]
+struct Spot {
+    slot: usize,
+    index: usize,
+}
+
 /// The start of a scan, where a restart interval has `left` MCUs (0 is none).
 pub fn first_interval(alloc: Global, left: u16) -> Interval
-    ensures decoder { result.decoder ≡ fresh }
-    ensures start { (arrays : Arrays) → counted result arrays ≡ counted_at_start left arrays }
+    ensures { result ≡ record { alloc = alloc; decoder = fresh; predictors = predictors_at_start; run = 0; left = left;
+        number = 0 } }
 {
     Interval {
         alloc,
@@ -57,29 +65,28 @@ pub fn first_interval(alloc: Global, left: u16) -> Interval
     }
 }
 
-/// Reads the next block, of a component and at an index of its blocks.
+/// Reads the next block, which is that at a spot.
 fn read_turn<R: Read + Drop>(
     interval: &mut Interval,
     source: &mut Source<R>,
     scan: &Scan<'_>,
     arrays: &mut Vec<Vec<[i16; 64]>>,
-    slot: usize,
-    index: usize,
+    spot: Spot,
 ) -> Result<()>
     requires pass { IsPass (pass_in scan.now.pass) }
     requires classes { All HasAc scan.now.components.items }
-    requires slot { slot < length scan.now.components.items }
+    requires slot { spot.slot < length scan.now.components.items }
     requires few { length scan.now.components.items ≤ 4 }
-    requires held { IsHeld (sizes_of arrays.now.items) slot index }
+    requires held { IsHeld (sizes_of arrays.now.items) spot.slot spot.index }
     ensures sizes { sizes_of arrays.new.items ≡ sizes_of arrays.old.items }
     ensures left { interval.new.left ≡ interval.old.left }
     ensures number { interval.new.number ≡ interval.old.number }
     ensures turn { Takes (λ _. reached interval.new (arrays_in arrays.new.items))
-        (turn_from (pass_in scan.now.pass) (vias_in 0 scan.now.components.items) (record { slot = slot; index = index })
+        (turn_from (pass_in scan.now.pass) (vias_in 0 scan.now.components.items) (record { slot = spot.slot; index = spot.index })
         (reached interval.old (arrays_in arrays.old.items)))
         interval.old.decoder source.old result interval.new.decoder source.new }
 {
-    let coded = &scan.components[slot];
+    let coded = &scan.components[spot.slot];
     read_block(
         interval.alloc,
         &mut interval.decoder,
@@ -87,81 +94,80 @@ fn read_turn<R: Read + Drop>(
         coded.dc,
         coded.ac,
         scan.pass,
-        &mut interval.predictors[slot],
+        &mut interval.predictors[spot.slot],
         &mut interval.run,
-        &mut arrays[slot][index],
+        &mut arrays[spot.slot][spot.index],
     )?;
     Ok(())
 }
 
-/// Reads so many blocks of a component from an index on.
+/// Reads `count` blocks of a component from a spot on.
 #[tactic(auto, using(crate::proofs::LineSteps::line_rules))]
 fn read_line<R: Read + Drop>(
     interval: &mut Interval,
     source: &mut Source<R>,
     scan: &Scan<'_>,
     arrays: &mut Vec<Vec<[i16; 64]>>,
-    slot: usize,
-    start: usize,
+    start: Spot,
     count: u8,
 ) -> Result<()>
     requires pass { IsPass (pass_in scan.now.pass) }
     requires classes { All HasAc scan.now.components.items }
-    requires slot { slot < length scan.now.components.items }
+    requires slot { start.slot < length scan.now.components.items }
     requires few { length scan.now.components.items ≤ 4 }
-    requires array { slot < length (sizes_of arrays.now.items) }
-    requires within { start + count ≤ get_or (sizes_of arrays.now.items) slot 0 }
-    requires small { start ≤ 2 ^ 56 }
+    requires array { start.slot < length (sizes_of arrays.now.items) }
+    requires within { start.index + count ≤ get_or (sizes_of arrays.now.items) start.slot 0 }
+    requires small { start.index ≤ 2 ^ 56 }
     ensures sizes { sizes_of arrays.new.items ≡ sizes_of arrays.old.items }
     ensures left { interval.new.left ≡ interval.old.left }
     ensures number { interval.new.number ≡ interval.old.number }
     ensures turns { Takes (λ _. reached interval.new (arrays_in arrays.new.items))
-        (turns_from (pass_in scan.now.pass) (vias_in 0 scan.now.components.items) (line_of slot start count)
+        (turns_from (pass_in scan.now.pass) (vias_in 0 scan.now.components.items) (line_of start.slot start.index count)
         (reached interval.old (arrays_in arrays.old.items)))
         interval.old.decoder source.old result interval.new.decoder source.new }
 {
-    let mut index = start;
+    let mut spot = start;
     let mut left = count;
     while left > 0 {
-        read_turn(interval, source, scan, arrays, slot, index)?;
-        index += 1;
+        read_turn(interval, source, scan, arrays, spot)?;
+        spot.index += 1;
         left -= 1;
     }
     Ok(())
 }
 
-/// Reads the part of a component in an MCU, the first block of which has an index.
+/// Reads the part of a component in an MCU, whose first block is at a spot.
 #[tactic(auto, using(crate::proofs::LineSteps::part_rules))]
 fn read_part<R: Read + Drop>(
     interval: &mut Interval,
     source: &mut Source<R>,
     scan: &Scan<'_>,
     arrays: &mut Vec<Vec<[i16; 64]>>,
-    slot: usize,
     coded: &Coded<'_>,
-    start: usize,
+    start: Spot,
 ) -> Result<()>
     requires pass { IsPass (pass_in scan.now.pass) }
     requires classes { All HasAc scan.now.components.items }
-    requires slot { slot < length scan.now.components.items }
+    requires slot { start.slot < length scan.now.components.items }
     requires few { length scan.now.components.items ≤ 4 }
-    requires array { slot < length (sizes_of arrays.now.items) }
-    requires within { AreWithin (get_or (sizes_of arrays.now.items) slot 0) (wide_in coded.now) (across_in coded.now)
-        start (down_in coded.now) }
-    requires small { start ≤ 2 ^ 48 }
+    requires array { start.slot < length (sizes_of arrays.now.items) }
+    requires within { AreWithin (get_or (sizes_of arrays.now.items) start.slot 0) (wide_in coded.now)
+        (across_in coded.now) start.index (down_in coded.now) }
+    requires small { start.index ≤ 2 ^ 48 }
     ensures sizes { sizes_of arrays.new.items ≡ sizes_of arrays.old.items }
     ensures left { interval.new.left ≡ interval.old.left }
     ensures number { interval.new.number ≡ interval.old.number }
     ensures turns { Takes (λ _. reached interval.new (arrays_in arrays.new.items))
-        (turns_from (pass_in scan.now.pass) (vias_in 0 scan.now.components.items) (part_in slot start coded.now)
+        (turns_from (pass_in scan.now.pass) (vias_in 0 scan.now.components.items) (part_in start.slot start.index coded.now)
         (reached interval.old (arrays_in arrays.old.items)))
         interval.old.decoder source.old result interval.new.decoder source.new }
 {
-    let mut index = start;
-    let mut left = coded.component.vertical_sampling_factor;
+    let component = coded.component;
+    let mut spot = start;
+    let mut left = component.vertical_sampling_factor;
     while left > 0 {
-        read_line(interval, source, scan, arrays, slot, index, coded.component.horizontal_sampling_factor)?;
-        index += usize::from(coded.component.block_size.width);
+        read_line(interval, source, scan, arrays, spot, component.horizontal_sampling_factor)?;
+        spot.index += usize::from(component.block_size.width);
         left -= 1;
     }
     Ok(())
@@ -180,7 +186,12 @@ fn begin<R: Read + Drop>(interval: &mut Interval, source: &mut Source<R>, n: u16
     if interval.left > 0 {
         return Ok(());
     }
-    read_restart(interval.alloc, &mut interval.decoder, source, interval.number)?;
+    read_restart(
+        interval.alloc,
+        &mut interval.decoder,
+        source,
+        interval.number,
+    )?;
     interval.predictors = [0; 4];
     interval.run = 0;
     interval.left = n;
@@ -237,8 +248,11 @@ fn read_parts<R: Read + Drop>(
     let mut slot = 0;
     while slot < scan.components.len() {
         let coded = &scan.components[slot];
-        let start = first_index(coded, row, column);
-        read_part(interval, source, scan, arrays, slot, coded, start)?;
+        let start = Spot {
+            slot,
+            index: first_index(coded, row, column),
+        };
+        read_part(interval, source, scan, arrays, coded, start)?;
         slot += 1;
     }
     Ok(())
@@ -378,7 +392,8 @@ fn read_own_mcu<R: Read + Drop>(
         interval.old.decoder source.old result interval.new.decoder source.new }
 {
     begin(interval, source, scan.restart_interval)?;
-    read_turn(interval, source, scan, arrays, 0, index)?;
+    let spot = Spot { slot: 0, index };
+    read_turn(interval, source, scan, arrays, spot)?;
     interval.left = interval.left.saturating_sub(1);
     Ok(())
 }
@@ -508,7 +523,14 @@ pub fn read_several<R: Read + Drop>(
         (arrays_in arrays.old.items))
         source.old result source.new }
 {
-    read_interleaved(alloc, source, scan, arrays, frame.mcu_size.width, frame.mcu_size.height)
+    read_interleaved(
+        alloc,
+        source,
+        scan,
+        arrays,
+        frame.mcu_size.width,
+        frame.mcu_size.height,
+    )
 }
 
 /// Reads a scan of one component of a frame on the blocks that are held of it, and gives the marker behind it, if it was met.

@@ -13,10 +13,7 @@ use jpeg_pixels::zigzag::{coefficients_in_order, values_in_order};
 use std::alloc::{AllocError, Global};
 
 /// Room for the blocks of a row of MCUs: for each component of a scan as many as it has in one.
-pub fn row_buffers(
-    alloc: Global,
-    codings: &[Coded<'_>],
-) -> Result<Vec<Vec<[i16; 64]>>, AllocError>
+pub fn row_buffers(alloc: Global, codings: &[Coded<'_>]) -> Result<Vec<Vec<[i16; 64]>>, AllocError>
     ensures { IfOk result (λ v. sizes_of v.items ≡ row_sizes codings.now) }
 {
     let mut rows = Vec::with_capacity(alloc, codings.len())?;
