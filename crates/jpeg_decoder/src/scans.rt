@@ -180,17 +180,11 @@ fn read_part<R: Read + Drop>(
         interval.old.decoder source.old result interval.new.decoder source.new }
 {
     let component = coded.component;
+    let across = component.horizontal_sampling_factor;
     let mut spot = start;
     let mut left = component.vertical_sampling_factor;
     while left > 0 {
-        read_line(
-            interval,
-            source,
-            scan,
-            arrays,
-            spot,
-            component.horizontal_sampling_factor,
-        )?;
+        read_line(interval, source, scan, arrays, spot, across)?;
         spot.index += usize::from(component.block_size.width);
         left -= 1;
     }
