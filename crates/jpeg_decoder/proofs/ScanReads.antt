@@ -10,6 +10,7 @@ use Rattle.jpeg_bits.specs.declared.marker.Marker.{Marker}
 use Rattle.jpeg_bits.proofs.Loops.{Continues, Continues-err, Names-through, bind_at, bind_err, still_known}
 use Rattle.jpeg_segments.specs.Frame.{Frame}
 use Rattle.jpeg_segments.specs.ScanHeader.{Scan, sos_at}
+use Rattle.jpeg_decoder.specs.declared.state.Before.{Before}
 use Rattle.jpeg_decoder.specs.Scans.{Arrays}
 use Rattle.jpeg_decoder.specs.Stream.{Coding, Found, Turn, behind_restarts, behind_scan, codings_of, is_decoded, needed, pass_of, scan_arrays, scan_before, scan_segment}
 use Rattle.jpeg_decoder.specs.Steps.{IsRefusal, behind_all, codings_in_force, scan_data, scan_read}
@@ -150,10 +151,20 @@ data-parts found frame scan bytes codings =
     through (behind_restarts (suc (length r.1)) r.0.1 r.1) _ _ (scan_turn found) (λ met. refl))
 
 -- A segment of a scan is a scan that is read.
-pub scan-parts : (found : Found) (bytes : List ℕ) → scan_segment found bytes ≡ (scan_read found bytes >>= scan_turn found)
+scan-parts : (found : Found) (bytes : List ℕ) → scan_segment found bytes ≡ (scan_read found bytes >>= scan_turn found)
 unfolding scan_segment scan_read codings_of
 scan-parts found bytes =
     through (needed found.frame) _ _ (scan_turn found) (λ (frame : Frame).
     through (sos_at frame bytes) _ _ (scan_turn found) (λ (scan : Scan × List ℕ).
     through-test (is_decoded frame.process) (codings_in_force found frame scan.0) _ _ (scan_turn found)
     (data-parts found frame scan.0 scan.1)))
+
+pub scan-turned : (found next : Found) (met : Option Marker) (b : Before) (bytes rest : List ℕ)
+    → scan_read found bytes ≡ Ok ((next, met), rest) → b ≡ scan_before found
+    → scan_segment found bytes ≡ Ok (record { found = next; before = b; met = met; ended = false }, rest)
+scan-turned found next met b bytes rest e is =
+    scan-parts found bytes ∙ bind_at (scan_turn found) (scan_read found bytes) ((next, met), rest) e ∙ rw is refl
+
+pub turn-refused : (found : Found) (bytes : List ℕ) (f : Fault) → scan_read found bytes ≡ Err f
+    → scan_segment found bytes ≡ Err f
+turn-refused found bytes f e = scan-parts found bytes ∙ bind_err (scan_turn found) (scan_read found bytes) f e
