@@ -25,6 +25,10 @@ ArePlanes [] planes = Unit {0}
 ArePlanes (c ∷ more) [] = ⊥
 ArePlanes (c ∷ more) (plane ∷ planes) = IsPlaneOf c plane × ArePlanes more planes
 
+-- No scan was read yet, and no plane is decided.
+abbrev pub IsUnread : Found → Type 0
+IsUnread found = (found.scanned ≡ false) × (found.planes ≡ replicate 4 None)
+
 -- Where a frame was read it is one that is decoded, and the blocks that are held and the planes that are decided are of its components. Before
 -- it no scan was read.
 pub record IsSound (found : Found) : Type 0 where
