@@ -51,7 +51,7 @@ accepted said (Application number payload) may other = streams.WritesSegment.app
 accepted said (Comment payload) may other = streams.WritesSegment.comment said (sized payload) (record { accepted = comment-read payload })
 accepted said (Header number h) may other = absurd other
 
-frame-stays : (said : Found) (s : Segment) → IsOther s → (found_behind said s).frame ≡ said.frame
+pub frame-stays : (said : Found) (s : Segment) → IsOther s → (found_behind said s).frame ≡ said.frame
 frame-stays said (Quantization ts) other = refl
 frame-stays said (Huffman ts) other = refl
 frame-stays said (Interval n) other = refl
@@ -88,10 +88,10 @@ same-frame a b o e f = let s : ◌≡◌ {A = Option Frame} (Some a) (Some b) = 
 -- ---- behind the frame
 
 -- a marker and what is written behind it, and the bytes behind the end of the image
-segment-tail : (fill code : ℕ) (bytes more tail : List ℕ) → marker fill code (bytes ++ more) ++ tail ≡ marker fill code (bytes ++ (more ++ tail))
+pub segment-tail : (fill code : ℕ) (bytes more tail : List ℕ) → marker fill code (bytes ++ more) ++ tail ≡ marker fill code (bytes ++ (more ++ tail))
 segment-tail fill code bytes more tail = marker-append fill code (bytes ++ more) tail ∙ ap (marker fill code) (append_assoc bytes more tail)
 
-scan-tail : (fill code : ℕ) (header bytes more tail : List ℕ) → marker fill code (header ++ (bytes ++ more)) ++ tail ≡ marker fill code (header ++ (bytes ++ (more ++ tail)))
+pub scan-tail : (fill code : ℕ) (header bytes more tail : List ℕ) → marker fill code (header ++ (bytes ++ more)) ++ tail ≡ marker fill code (header ++ (bytes ++ (more ++ tail)))
 scan-tail fill code header bytes more tail =
     segment-tail fill code header (bytes ++ more) tail ∙ ap (λ (l : List ℕ). marker fill code (header ++ l)) (append_assoc bytes more tail)
 

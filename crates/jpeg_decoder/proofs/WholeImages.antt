@@ -70,7 +70,7 @@ unfolding plane_of_array plane_whole
 plane-whole c table l array done h =
     plane-same c.scale (values_in_block_order table) c.blocks_wide c.blocks_high _ _ (λ row column. ap (λ (b : Block). coefficients_in_block_order (listed b)) (cut-whole l (array row column) done (h row column)))
 
-same-behind : {A B : Type 0} (o : Result A Fault) (f g : A → Result B Fault) → ((x : A) → f x ≡ g x) → (o >>= f) ≡ (o >>= g)
+pub same-behind : {A B : Type 0} (o : Result A Fault) (f g : A → Result B Fault) → ((x : A) → f x ≡ g x) → (o >>= f) ≡ (o >>= g)
 same-behind (Ok x) f g h = h x
 same-behind (Err e) f g h = refl
 
