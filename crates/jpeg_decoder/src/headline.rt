@@ -87,7 +87,8 @@ pub fn images_have_pictures()
         (picture : List ℕ)
         × (picture_of_array settings (sized_to width height final) array last ≡ Ok picture)
         × (sized_meaning width height settings (bytes ++ rest)
-        ≡ Ok (record { 0 = record { 0 = told_of (sized_to width height final); 1 = picture }; 1 = rest })) }
+        ≡ Ok (record { 0 = record { 0 = told_of (sized_to width height final); 1 = picture };
+        1 = rest })) }
 {}
 
 /// A block of which every bit was sent is itself.
@@ -148,9 +149,9 @@ pub fn progressive_images_may_end_early()
         ≡ meaning_of_array settings said array levels rest }
 {}
 
-/// The relation holds of two streams that are worked by hand: a progressive one of three blocks, with
-/// DC and AC each in a first scan and a refinement and with runs of blocks; and a sequential one of
-/// three components, with padding and a restart.
+/// The relation holds of two streams that are worked by hand: a progressive one of three blocks,
+/// with DC and AC each in a first scan and a refinement and with runs of blocks; and a sequential
+/// one of three components, with padding and a restart.
 pub fn worked_images_are_written()
     ensures grey { IsWhollyWritten grey_array grey_bytes }
     ensures colour { IsWhollyWritten colour_array colour_bytes }
