@@ -17,7 +17,7 @@ use Rattle.jpeg_decoder.specs.Levels.{Levels, nothing_sent}
 use Rattle.jpeg_decoder.proofs.AcceptedStreams.{IsMarker}
 use Rattle.jpeg_decoder.specs.Stream.{Found, nothing_found, pass_of}
 use Rattle.jpeg_decoder.proofs.AcceptedStreams as streams
-use Rattle.jpeg_decoder.specs.WrittenScans.{Coefficients, WritesScan, levels_after}
+use Rattle.jpeg_decoder.specs.WrittenScans.{Coefficients, levels_after}
 use Rattle.jpeg_decoder.proofs.AcceptedStreams.{WritesScans, WritesHead, WritesStream, comment_at}
 use Rattle.jpeg_decoder.proofs.AcceptedStreams.WritesStream.{stream}
 use Rattle.jpeg_decoder.specs.SaidSegments.{Stands, found_behind}

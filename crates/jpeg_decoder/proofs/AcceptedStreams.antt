@@ -1,5 +1,5 @@
 -- Written streams once more, by bytes that the rules of segments accept: what proofs about reading go by.
-use Rattle.std.specs.Prelude.{◌≡◌, ℕ, ◌≤◌, Bool, true, false, List, [], ◌∷◌, ◌++◌, map, length, option_map, Option, Some, Ok}
+use Rattle.std.specs.Prelude.{◌≡◌, ℕ, ◌≤◌, Bool, true, false, List, ◌∷◌, ◌++◌, map, length, option_map, Option, Some, Ok}
 use Rattle.std.specs.List.{AllByRecursion, range_with_len}
 use Rattle.jpeg_bits.specs.Marker.{marker_of}
 use Rattle.jpeg_bits.specs.Reading.{Outcome, ◌>>=◌, length_at, skip_at}

@@ -1,25 +1,23 @@
 -- A turn of a written stream.
-use Rattle.std.proofs.Common.{◌≡◌, ◌≢◌, ◌⊎◌, inl, inr, ℕ, zero, suc, ◌+◌, ◌-◌, ◌*◌, ◌<◌, ◌≤◌, ◌&&◌, ◌||◌, not, nat_le, nat_lt, ◌==◌, Bool, true, false, cond, List, [], ◌∷◌, ◌++◌, map, length, drop, replicate, get_or, slice_index_or, Option, Some, None, Result, Ok, Err, refl, sym, ap, ap₂, ◌∙◌, subst, arith, eqb, leb, true≢false}
-use Rattle.std.proofs.lemmas.Bool.{eqb-true, eq-eqb}
+use Rattle.std.proofs.Common.{◌≡◌, ◌≢◌, ℕ, zero, suc, nat_lt, ◌==◌, Bool, true, false, cond, List, [], ◌∷◌, ◌++◌, map, length, drop, replicate, slice_index_or, Option, Some, None, Result, Ok, Err, refl, sym, ap, ap₂, ◌∙◌, subst, arith}
 use Rattle.std.specs.List.{AllByRecursion}
-use Rattle.jpeg_bits.specs.Reading.{Outcome, Fault, Malformed, ◌>>=◌, length_at, skip_at}
+use Rattle.jpeg_bits.specs.Reading.{Fault, Malformed, ◌>>=◌, length_at, skip_at}
 use Rattle.jpeg_bits.specs.Codes.{Table}
 use Rattle.jpeg_bits.specs.Marker.{marker_of, next_marker}
 use Rattle.jpeg_bits.specs.declared.marker.Marker.{Marker}
-use Rattle.jpeg_bits.specs.declared.marker.Marker.TheVariants.{SOF, DHT, EOI, SOS, DQT, DRI, APP, COM}
-use Rattle.jpeg_segments.specs.Frame.{Frame, Component}
+use Rattle.jpeg_segments.specs.Frame.{Frame}
 use Rattle.jpeg_segments.specs.ScanHeader.{Scan, sos_at}
 use Rattle.jpeg_segments.specs.HuffmanTables.{Tables}
 use Rattle.jpeg_decoder.specs.declared.state.Before.{Before}
 use Rattle.jpeg_bits.specs.Passes.{Pass}
 use Rattle.jpeg_decoder.specs.Scans.{Arrays}
-use Rattle.jpeg_decoder.specs.Stream.{Coding, Found, Turn, onward, needed, needed_if, first_of, tables_of, coding_of, codings_from, codings_of, pass_of, scan_arrays, behind_scan, behind_restarts, scan_before, scan_segment, segment_at, marker_or, turn_at, segments_within, quantization_segment, huffman_segment, restart_segment, application_segment, skipped_segment, is_decoded}
+use Rattle.jpeg_decoder.specs.Stream.{Coding, Found, Turn, onward, needed, needed_if, first_of, tables_of, coding_of, codings_from, codings_of, pass_of, scan_arrays, behind_scan, behind_restarts, scan_before, scan_segment, segment_at, turn_at, segments_within, quantization_segment, huffman_segment, restart_segment, application_segment, skipped_segment, is_decoded}
 use Rattle.jpeg_bits.specs.declared.codes.HuffmanTableClass.{HuffmanTableClass}
 use Rattle.jpeg_bits.specs.declared.codes.HuffmanTableClass.TheVariants as classes
 use Rattle.jpeg_segments.specs.declared.parser.CodingProcess.{CodingProcess}
 use Rattle.jpeg_segments.specs.declared.parser.CodingProcess.TheVariants.{DctSequential, DctProgressive, Lossless}
 use Rattle.jpeg_decoder.specs.WrittenScans.{Coefficients, InForce, IsCoding, AreCodings}
-use Rattle.jpeg_decoder.proofs.AcceptedStreams.{IsAccepted, comment_at, WritesSegment, WritesScans, WritesHead}
+use Rattle.jpeg_decoder.proofs.AcceptedStreams.{comment_at, WritesSegment, WritesScans}
 use Rattle.jpeg_decoder.specs.WrittenScans.AreCodings.{no_more, and_more}
 use Rattle.jpeg_decoder.proofs.AcceptedStreams.WritesSegment.{quantization, huffman, restart, application, comment}
 use Rattle.jpeg_decoder.proofs.AcceptedStreams.WritesScans.{segment, scan, closed}

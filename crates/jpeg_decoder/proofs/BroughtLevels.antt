@@ -1,18 +1,16 @@
 -- A written stream is read as the blocks of its array, cut at the levels that were sent.
-use Rattle.std.proofs.Common.{◌≡◌, ◌≢◌, ◌⊎◌, inl, inr, ℕ, zero, suc, ◌+◌, ◌-◌, ◌*◌, ◌/◌, ◌%◌, ◌<◌, ◌≤◌, ◌&&◌, ◌||◌, not, nat_le, ◌==◌, Bool, true, false, cond, List, [], ◌∷◌, ◌++◌, map, length, take, drop, replicate, get_or, slice_index_or, pos, Option, Some, None, Result, Ok, Err, refl, sym, ap, ap₂, ◌∙◌, subst, arith, eqb, leb, true≢false, length-append, length-take, length-drop}
-use Rattle.std.proofs.lemmas.Bool.{eqb-true, eq-eqb, leb-true}
+use Rattle.std.proofs.Common.{◌≡◌, ◌≢◌, ◌⊎◌, inl, inr, ℕ, zero, suc, ◌+◌, ◌-◌, ◌*◌, ◌/◌, ◌%◌, ◌<◌, ◌≤◌, ◌&&◌, ◌||◌, not, nat_le, ◌==◌, Bool, true, false, cond, List, [], ◌∷◌, ◌++◌, length, take, drop, replicate, get_or, Option, Some, None, Ok, refl, sym, ap, ◌∙◌, subst, arith, eqb, true≢false, length-append, length-take, length-drop}
+use Rattle.std.proofs.lemmas.Bool.{eqb-true, eq-eqb}
 use Rattle.std.proofs.lemmas.List.{length-replicate}
 use lib.ListN.{length-map}
 use Rattle.std.specs.List.{AllByRecursion}
 use Rattle.jpeg_bits.specs.Codes.{IsTable}
 use Rattle.jpeg_bits.proofs.Tables.{good-table}
 use Rattle.jpeg_bits.specs.declared.marker.Marker.{Marker}
-use Rattle.jpeg_bits.specs.declared.marker.Marker.TheVariants.{SOF, EOI, SOS}
-use Rattle.jpeg_segments.specs.declared.parser.CodingProcess.{CodingProcess}
-use Rattle.jpeg_segments.specs.declared.parser.CodingProcess.TheVariants.{DctSequential, DctProgressive, Lossless}
+use Rattle.jpeg_segments.specs.declared.parser.CodingProcess.TheVariants.{Lossless}
 use Rattle.jpeg_segments.specs.Frame.{Frame, Component, Factors, IsInRange, frame_of}
-use Rattle.jpeg_segments.specs.ScanHeader.{Scan, IsScanOf, IsCoded, is_band, is_progressive_band, is_sequential_band}
-use Rattle.jpeg_bits.specs.Passes.{Pass, Via, Block, whole_pass, zero_block, band_of, before_band, band_size, with_band}
+use Rattle.jpeg_segments.specs.ScanHeader.{Scan, is_progressive_band}
+use Rattle.jpeg_bits.specs.Passes.{Pass, Block, whole_pass, zero_block, band_of, before_band, band_size}
 use Rattle.jpeg_decoder.specs.Order.{grid_of}
 use Rattle.jpeg_segments.specs.Scales.{frame_at}
 use Rattle.jpeg_decoder.specs.Scans.{Arrays, zero_arrays}
@@ -22,10 +20,10 @@ use Rattle.jpeg_decoder.specs.WrittenScans.{Coefficients, levels_of_one, levels_
 use Rattle.jpeg_decoder.proofs.PutBlocks.{AreApart}
 use Rattle.jpeg_decoder.specs.WrittenData.{marker}
 use Rattle.jpeg_decoder.proofs.AcceptedStreams.{IsMarker}
-use Rattle.jpeg_decoder.proofs.FinishedMarks.{IsBand, marks-start, marks_of}
-use Rattle.jpeg_decoder.proofs.OwnSpots.{At, at-get, at-within, Fits}
-use Rattle.jpeg_decoder.proofs.WrittenFrameScans.{HoldsOwn, HasGood, SlotReady, SpotsSuit, none_read, dc_alone, one_component, ReadsScan, scan-is_read, cut-nothing, at-all, arrays_of}
-use Rattle.jpeg_decoder.proofs.ReadStates.{reading, is_whole, HasPlane, PlaneSo, Marked, CodingDone, AllDone, places_of, Brought, brings, AllHeld, held-behind, one-same, one-other, eqb_cases}
+use Rattle.jpeg_decoder.proofs.FinishedMarks.{IsBand, marks-start}
+use Rattle.jpeg_decoder.proofs.OwnSpots.{At, at-get, Fits}
+use Rattle.jpeg_decoder.proofs.WrittenFrameScans.{HoldsOwn, HasGood, SlotReady, SpotsSuit, none_read, dc_alone, one_component, ReadsScan, scan-is_read, cut-nothing, at-all}
+use Rattle.jpeg_decoder.proofs.ReadStates.{reading, Marked, AllDone, places_of, Brought, brings, AllHeld, held-behind}
 use Rattle.jpeg_decoder.proofs.AcceptedTurns.{CodingFacts, codings-facts, codings-read}
 
 -- ---- the frame

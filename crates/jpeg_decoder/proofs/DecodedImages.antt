@@ -1,5 +1,5 @@
 -- A call that answers the meaning of what its source has left decodes images.
-use Rattle.std.proofs.Common.{◌≡◌, ℕ, suc, length, List, ◌++◌, Bool, true, false, Result, Ok, Err, is_ok, refl, sym, ap, ◌∙◌, subst}
+use Rattle.std.proofs.Common.{◌≡◌, ℕ, suc, length, List, ◌++◌, true, Result, Ok, Err, is_ok, refl, sym, ap, ◌∙◌}
 use Rattle.std.proofs.lemmas.Bool.{false≢true}
 use Rattle.std.specs.Prelude.{MatchResult}
 use Rattle.jpeg_bits.specs.Reading.{Outcome, Fault, Answers, Names}

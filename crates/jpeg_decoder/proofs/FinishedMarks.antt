@@ -1,8 +1,6 @@
 -- The marks of finished places are the levels that are 0.
-use Rattle.std.proofs.Common.{◌≡◌, ◌≢◌, ◌⊎◌, inl, inr, ℕ, zero, suc, ◌+◌, ◌-◌, ◌<◌, ◌≤◌, Bool, true, false, cond, List, [], ◌∷◌, ◌++◌, map, take, drop, replicate, length, Option, Some, None, refl, sym, ap, ap₂, ◌∙◌, subst, arith, eqb, length-take, length-drop, ◌==◌, true≢false}
+use Rattle.std.proofs.Common.{◌≡◌, ℕ, zero, suc, ◌+◌, ◌-◌, ◌<◌, ◌≤◌, Bool, true, false, List, ◌∷◌, ◌++◌, map, take, drop, replicate, length, refl, sym, ap, ◌∙◌, arith, eqb, length-take, length-drop, true≢false}
 use Rattle.std.proofs.lemmas.Bool.{eqb-true, eq-eqb}
-use Rattle.std.proofs.lemmas.List.{length-replicate}
-use Rattle.std.specs.List.{AllByRecursion, list_all}
 use lib.ListN.{length-map}
 use Rattle.jpeg_bits.specs.Passes.{Pass, band_of, with_band, before_band, band_size}
 use Rattle.jpeg_decoder.specs.Levels.{Levels, IsLegal, levels_behind, nothing_sent}

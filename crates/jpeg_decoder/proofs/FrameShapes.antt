@@ -1,14 +1,12 @@
 -- Frames that are read have the blocks that the order of a scan goes over.
-use Rattle.std.proofs.Common.{◌≡◌, ◌≢◌, ◌⊎◌, inl, inr, ℕ, zero, suc, ◌+◌, ◌-◌, ◌*◌, ◌/◌, ◌%◌, ◌<◌, ◌≤◌, ◌&&◌, ◌||◌, not, nat_le, ◌==◌, Bool, true, false, cond, List, [], ◌∷◌, ◌++◌, map, length, Option, Some, None, Result, Ok, Err, refl, sym, ap, ap₂, ◌∙◌, subst, arith, eqb, leb, true≢false, mul_assoc, max, min}
-use Rattle.std.proofs.lemmas.Bool.{eqb-true, eq-eqb, leb-true}
+use Rattle.std.proofs.Common.{◌≡◌, ◌≢◌, ◌⊎◌, inl, inr, ℕ, zero, suc, ◌+◌, ◌-◌, ◌*◌, ◌/◌, ◌%◌, ◌<◌, ◌≤◌, ◌&&◌, ◌||◌, not, nat_le, ◌==◌, Bool, true, false, cond, List, [], ◌∷◌, ◌++◌, map, length, Result, Ok, Err, refl, sym, ap, ap₂, ◌∙◌, subst, arith, eqb, leb, true≢false, mul_assoc, min}
+use Rattle.std.proofs.lemmas.Bool.{eqb-true, leb-true}
 use Rattle.std.proofs.lemmas.Bool.Decides.{leb_tells}
 use Rattle.std.proofs.Math.Nat.{le-div_iff_mul-le, mul-le-mul_right, mul_comm, add-mul, one-mul}
 use Rattle.std.specs.List.{AllByRecursion}
-use Rattle.jpeg_bits.specs.Reading.{Outcome, Fault, Malformed, Lacks, ◌>>=◌, next_byte, next_u16, length_at}
-use Rattle.jpeg_segments.specs.declared.parser.CodingProcess.{CodingProcess}
-use Rattle.jpeg_segments.specs.declared.parser.CodingProcess.TheVariants.{DctSequential, DctProgressive, Lossless}
-use Rattle.jpeg_segments.specs.Frame.{Frame, Component, Factors, IsInRange, is_factor, is_lossless, is_taken, is_place, parameters_at, factors_at, components_from, Head, size_at, head_at, is_precision as precise, is_count as counted, sof_at, frame_of, component_of, ceiling, greatest, process_of}
-use Rattle.jpeg_decoder.specs.Order.{grid_of}
+use Rattle.jpeg_bits.specs.Reading.{Fault, Malformed, Lacks, ◌>>=◌, next_byte, next_u16, length_at}
+use Rattle.jpeg_segments.specs.declared.parser.CodingProcess.TheVariants.{Lossless}
+use Rattle.jpeg_segments.specs.Frame.{Frame, Component, Factors, IsInRange, is_factor, is_lossless, is_taken, is_place, parameters_at, factors_at, components_from, Head, size_at, head_at, is_precision as precise, is_count as counted, sof_at, frame_of, component_of, ceiling, greatest}
 use Rattle.jpeg_bits.specs.declared.error.UnsupportedFeature.TheVariants as features
 use Rattle.jpeg_bits.specs.declared.error.UnsupportedFeature.TheVariants.{DNL}
 use Rattle.std.specs.Prelude.{nat_lt, if◌then◌else◌}

@@ -1,5 +1,5 @@
 -- The order of a scan reaches each block of its components.
-use Rattle.std.proofs.Common.{◌≡◌, ◌⊎◌, inl, inr, ℕ, zero, suc, ◌+◌, ◌-◌, ◌*◌, ◌/◌, ◌%◌, ◌<◌, ◌≤◌, Bool, true, false, List, [], ◌∷◌, ◌++◌, map, length, get_or, refl, sym, ap, ap₂, ◌∙◌, subst, arith, leb, append-nil}
+use Rattle.std.proofs.Common.{◌≡◌, ◌⊎◌, inl, inr, ℕ, zero, suc, ◌+◌, ◌*◌, ◌/◌, ◌%◌, ◌<◌, ◌≤◌, true, false, List, [], ◌∷◌, ◌++◌, map, length, get_or, refl, sym, ap, ap₂, ◌∙◌, subst, arith, leb}
 use Rattle.std.proofs.Math.Nat.{div-lt_iff_lt-mul, mod-lt}
 use Rattle.std.proofs.lemmas.Nat.{div-add-mod', div-mul-add, mod-mul-add}
 use Rattle.std.proofs.lemmas.Bool.Decides.{leb_tells}
@@ -7,7 +7,7 @@ use Rattle.std.specs.List.{AllByRecursion, range_with_len, flat_map}
 use Rattle.jpeg_segments.specs.Frame.{Frame, Component}
 use Rattle.jpeg_decoder.specs.declared.grids.Grid.{Grid}
 use Rattle.jpeg_decoder.specs.Order.{Spot, grid_of, own_spots, part_spots, mcu_spots, all_spots, spots_of}
-use Rattle.jpeg_decoder.specs.WrittenScans.{IsOwn, no_grid, grid_at}
+use Rattle.jpeg_decoder.specs.WrittenScans.{IsOwn}
 use Rattle.jpeg_decoder.proofs.PutBlocks.{IsIn}
 
 -- ---- lists

@@ -1,14 +1,12 @@
 -- What a decoder holds behind the scans of a written stream.
-use Rattle.std.proofs.Common.{◌≡◌, ◌≢◌, ◌⊎◌, inl, inr, ℕ, zero, suc, ◌+◌, ◌-◌, ◌*◌, ◌<◌, ◌≤◌, Bool, true, false, List, [], ◌∷◌, ◌++◌, map, length, take, drop, replicate, get_or, set, slice_index_or, Option, Some, None, Ok, refl, sym, ap, ap₂, ◌∙◌, subst, arith, eqb, true≢false, length-set, get_or-set_same, get_or-set_other, leb, length-drop}
-use Rattle.std.proofs.lemmas.Bool.{eqb-true, eq-eqb}
+use Rattle.std.proofs.Common.{◌≡◌, ◌≢◌, ◌⊎◌, inl, inr, ℕ, zero, suc, ◌-◌, ◌<◌, ◌≤◌, Bool, true, false, List, [], ◌∷◌, map, length, take, drop, get_or, set, slice_index_or, Option, Some, None, refl, sym, ap, ◌∙◌, subst, arith, length-set, get_or-set_same, get_or-set_other, leb}
+use Rattle.std.proofs.lemmas.Bool.{eq-eqb}
 use Rattle.std.proofs.lemmas.Bool.Decides.{leb_tells}
 use Rattle.std.proofs.lemmas.List.Folds.{list_all_at}
 use Rattle.std.specs.List.{AllByRecursion, list_all}
 use lib.ListN.{length-map}
-use Rattle.jpeg_bits.specs.declared.marker.Marker.{Marker}
 use Rattle.jpeg_segments.specs.Frame.{Frame, Component}
-use Rattle.jpeg_segments.specs.ScanHeader.{Scan}
-use Rattle.jpeg_bits.specs.Passes.{Pass, Via, Block, whole_pass, zero_block, band_of, before_band, band_size}
+use Rattle.jpeg_bits.specs.Passes.{Pass, Block, before_band, band_size}
 use Rattle.jpeg_decoder.specs.Order.{grid_of}
 use Rattle.jpeg_decoder.specs.Scans.{Arrays}
 use Rattle.jpeg_decoder.specs.Stream.{Coding, Found, none_finished, finished_by, decided, plane_by, with_plane, with_blocks, with_arrays, put_arrays}

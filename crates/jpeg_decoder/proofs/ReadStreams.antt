@@ -1,30 +1,27 @@
 -- A written stream is read up to its end.
-use Rattle.std.proofs.Common.{◌≡◌, ◌≢◌, ℕ, zero, suc, ◌+◌, ◌-◌, ◌<◌, ◌≤◌, Bool, true, false, cond, List, [], ◌∷◌, ◌++◌, map, length, replicate, get_or, slice_index_or, is_some, Option, Some, None, Result, Ok, Err, refl, sym, ap, ap₂, ◌∙◌, subst, arith, true≢false, length-append}
-use Rattle.std.specs.List.{AllByRecursion, range_with_len, list_all}
-use Rattle.jpeg_bits.specs.Reading.{Outcome, Fault, Malformed, Lacks, ◌>>=◌}
+use Rattle.std.proofs.Common.{◌≡◌, ℕ, zero, suc, ◌<◌, ◌≤◌, Bool, true, false, cond, List, [], ◌∷◌, ◌++◌, length, replicate, slice_index_or, is_some, Option, Some, None, Ok, refl, sym, ap, ◌∙◌, subst, arith, true≢false, length-append}
+use Rattle.std.specs.List.{AllByRecursion, range_with_len}
+use Rattle.jpeg_bits.specs.Reading.{Outcome}
 use Rattle.jpeg_bits.specs.declared.marker.Marker.{Marker}
 use Rattle.jpeg_bits.specs.declared.marker.Marker.TheVariants.{SOF, EOI, SOS, DQT}
 use Rattle.jpeg_segments.specs.Frame.{Frame, Component, sof_at}
-use Rattle.jpeg_segments.specs.ScanHeader.{Scan, sos_at}
 use Rattle.jpeg_decoder.specs.declared.state.Before.{Before}
 use Rattle.jpeg_decoder.specs.declared.state.Before.TheVariants.{Elsewhere}
 use Rattle.jpeg_decoder.specs.Scans.{Arrays}
-use Rattle.jpeg_decoder.specs.Stream.{Coding, Found, Turn, onward, accepted, none_finished, nothing_found, is_progressive, arrays_before, pass_of, codings_of, behind_restarts, scan_before, scan_segment, segment_at, frame_segment, end_segment, turn_at, segments_within, segments_at, start_at}
+use Rattle.jpeg_decoder.specs.Stream.{Found, Turn, onward, accepted, none_finished, nothing_found, is_progressive, arrays_before, pass_of, scan_before, scan_segment, segment_at, frame_segment, end_segment, segments_within, segments_at, start_at}
 use Rattle.jpeg_decoder.specs.Levels.{Levels, Is8Bit, nothing_sent}
 use Rattle.jpeg_decoder.specs.WrittenData.{marker}
-use Rattle.jpeg_decoder.proofs.AcceptedStreams.{IsMarker}
-use Rattle.jpeg_decoder.specs.WrittenScans.{Coefficients, levels_after, IsComplete, HasTable, IsLegalScan, WritesScan}
+use Rattle.jpeg_decoder.specs.WrittenScans.{Coefficients, levels_after, IsComplete, HasTable}
 use Rattle.jpeg_decoder.proofs.AcceptedStreams.{IsAccepted, WritesSegment, WritesScans, WritesHead, WritesStream}
 use Rattle.jpeg_decoder.proofs.AcceptedStreams.WritesSegment.{quantization, huffman, restart, application, comment}
 use Rattle.jpeg_decoder.proofs.AcceptedStreams.WritesScans.{segment, scan, closed}
 use Rattle.jpeg_decoder.proofs.AcceptedStreams.WritesHead.{before as earlier, frame as framing}
 use Rattle.jpeg_decoder.proofs.AcceptedStreams.WritesStream.{stream}
-use Rattle.jpeg_decoder.proofs.OwnSpots.{At}
-use Rattle.jpeg_decoder.proofs.ReadStates.{reading, is_whole, HasPlane, PlaneSo, Marked, AllHeld, places_of}
+use Rattle.jpeg_decoder.proofs.ReadStates.{reading, is_whole, PlaneSo, AllHeld, places_of}
 use Rattle.jpeg_decoder.proofs.AcceptedTurns.{StandsAt, stands-met, stands-next, turn-on, turn-end, then-ok, segment-read, frame-kept, scans-plain, codings-same, codings-read, scan-by}
 use Rattle.jpeg_decoder.proofs.ScanFacts.{sos-facts}
 use Rattle.jpeg_decoder.proofs.TablesInForce.{GoodTables, good-next, good-start, codings-good}
-use Rattle.jpeg_decoder.proofs.BroughtLevels.{Shaped, Framed, framed-start, Scanned, scan-brings}
+use Rattle.jpeg_decoder.proofs.BroughtLevels.{Shaped, Framed, framed-start, scan-brings}
 
 -- ---- a segment between scans
 

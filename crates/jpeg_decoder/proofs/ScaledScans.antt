@@ -1,36 +1,31 @@
 -- A stream that was written for a frame is one for the frame at any scale.
-use Rattle.std.proofs.Common.{◌≡◌, ◌≢◌, ◌⊎◌, inl, inr, ℕ, zero, suc, ◌+◌, ◌-◌, ◌*◌, ◌/◌, ◌%◌, ◌<◌, ◌≤◌, ◌==◌, ◌&&◌, nat_lt, nat_le, Bool, true, false, cond, List, [], ◌∷◌, ◌++◌, map, length, get_or, slice_index_or, sum_by, sum, drop, Option, Some, None, Result, Ok, Err, refl, sym, ap, ap₂, ◌∙◌, subst, arith, leb, eqb, true≢false, mul_assoc, if◌then◌else◌}
+use Rattle.std.proofs.Common.{◌≡◌, ◌⊎◌, inl, inr, ℕ, zero, suc, ◌+◌, ◌*◌, ◌/◌, ◌%◌, ◌<◌, ◌≤◌, ◌==◌, nat_lt, Bool, true, false, cond, List, [], ◌∷◌, ◌++◌, map, length, get_or, slice_index_or, sum_by, sum, drop, Option, Some, None, Ok, Err, refl, sym, ap, ap₂, ◌∙◌, subst, arith, leb, mul_assoc, if◌then◌else◌}
 use Rattle.std.proofs.lemmas.Bool.Decides.{leb_tells}
 use Rattle.std.proofs.Math.Nat.{mul_comm, lt_of_mul-lt-mul_right, mul-lt-mul_of_pos_right}
 use Rattle.std.specs.List.{AllByRecursion, range_with_len, flat_map, position}
 use Rattle.std.proofs.lemmas.List.Sums.{sum-map}
-use Rattle.std.proofs.Common.{All}
-use Rattle.jpeg_bits.specs.Reading.{Outcome, Fault, Malformed, ◌>>=◌, next_byte}
-use Rattle.jpeg_segments.specs.Frame.{Frame, Component, Factors, ceiling, greatest}
-use Rattle.jpeg_segments.specs.ScanHeader.{Scan, Selector, IsScanOf, place_of, blocks_by, tables_at, tables_by, selector_at, selectors_from, is_mcu, scan_of, band_at, count_at, sos_at}
+use Rattle.jpeg_bits.specs.Reading.{Outcome, Malformed, ◌>>=◌, next_byte}
+use Rattle.jpeg_segments.specs.Frame.{Frame, Component, Factors, ceiling}
+use Rattle.jpeg_segments.specs.ScanHeader.{Scan, Selector, place_of, blocks_by, tables_at, tables_by, selector_at, selectors_from, is_mcu, scan_of, band_at, count_at, sos_at}
 use Rattle.jpeg_segments.proofs.ScanLemmas.{position-map}
 use Rattle.jpeg_decoder.specs.declared.grids.Grid.{Grid}
 use Rattle.jpeg_bits.specs.Passes.{Pass, Via}
 use Rattle.jpeg_decoder.specs.Order.{Spot, grid_of, own_spots, part_spots, mcu_spots, all_spots, spots_of, mcu_size}
-use Rattle.jpeg_segments.specs.Scales.{component_at, frame_at}
-use Rattle.jpeg_bits.specs.Codes.{Table, IsTable}
+use Rattle.jpeg_bits.specs.Codes.{Table}
 use Rattle.jpeg_bits.specs.declared.marker.Marker.{Marker}
 use Rattle.jpeg_segments.specs.HuffmanTables.{Tables}
-use Rattle.jpeg_segments.specs.ScanHeader.{IsCoded, is_band}
 use Rattle.jpeg_bits.specs.Passes.{Block}
 use Rattle.jpeg_bits.specs.Intervals.{first_group, other_groups}
 use Rattle.jpeg_decoder.specs.Levels.{Levels, IsLegal, numbers_at}
-use Rattle.jpeg_decoder.specs.WrittenData.{marker, WritesIntervals}
-use Rattle.jpeg_decoder.specs.Stream.{Found, Coding, needed, needed_if, first_of, coding_of, codings_from, codings_of, tables_of, pass_of, is_decoded, is_progressive, vias_from}
-use Rattle.jpeg_decoder.specs.WrittenScans.{Coefficients, IsOwn, no_grid, grid_at, components_of, place_at, block_for, written_turns, IsCoding, AreCodings, WritesScan, levels_after, IsLegalScan, IsComplete, HasTable}
+use Rattle.jpeg_decoder.specs.WrittenData.{WritesIntervals}
+use Rattle.jpeg_decoder.specs.Stream.{Found, Coding, first_of, tables_of, pass_of, is_progressive, vias_from}
+use Rattle.jpeg_decoder.specs.WrittenScans.{Coefficients, IsOwn, no_grid, grid_at, components_of, written_turns, IsCoding, AreCodings, WritesScan, levels_after, IsComplete, HasTable}
 use Rattle.jpeg_decoder.proofs.AcceptedStreams.{IsAccepted, WritesSegment, WritesScans}
-use Rattle.jpeg_decoder.proofs.PutBlocks.{AreApart}
 use Rattle.jpeg_decoder.specs.WrittenScans.AreCodings.{no_more, and_more}
 use Rattle.jpeg_decoder.proofs.AcceptedStreams.WritesSegment.{quantization, huffman, restart, application, comment}
 use Rattle.jpeg_decoder.proofs.AcceptedStreams.WritesScans.{segment, scan, closed}
 use Rattle.jpeg_decoder.proofs.FrameShapes.{below-ceiling}
-use Rattle.jpeg_decoder.proofs.WrittenArrays.{map-map_any}
-use Rattle.jpeg_decoder.proofs.AcceptedTurns.{err-ok, ok-same, bind-ok, then-ok, needed-some, codings-by, frame-kept}
+use Rattle.jpeg_decoder.proofs.AcceptedTurns.{frame-kept}
 
 -- ---- the same number
 

@@ -1,19 +1,17 @@
 -- The sizes of a frame's components at each scale.
-use Rattle.std.proofs.Common.{◌≡◌, ◌≢◌, ◌⊎◌, inl, inr, ℕ, zero, suc, ◌+◌, ◌-◌, ◌*◌, ◌/◌, ◌%◌, ◌<◌, ◌≤◌, ◌==◌, ◌&&◌, ◌||◌, Bool, true, false, cond, List, [], ◌∷◌, map, length, Option, Some, None, Result, Ok, Err, refl, sym, ap, ap₂, ◌∙◌, subst, arith, max, eqb, mul_assoc, if◌then◌else◌, true≢false}
-use Rattle.std.proofs.Math.Nat.{mul_comm, div-add-mod, le_of_mul-le-mul_left, mul-le-mul_right, mul-le-mul}
+use Rattle.std.proofs.Common.{◌≡◌, ◌⊎◌, inl, inr, ℕ, zero, suc, ◌+◌, ◌*◌, ◌/◌, ◌%◌, ◌<◌, ◌≤◌, ◌==◌, ◌&&◌, ◌||◌, Bool, true, false, List, [], ◌∷◌, map, length, Option, Some, None, Ok, refl, sym, ap, ap₂, ◌∙◌, subst, arith, mul_assoc, if◌then◌else◌, true≢false}
+use Rattle.std.proofs.Math.Nat.{mul_comm, div-add-mod, le_of_mul-le-mul_left, mul-le-mul}
 use Rattle.std.proofs.lemmas.Bool.{eqb-true}
 use Rattle.std.specs.List.{AllByRecursion}
-use Rattle.jpeg_bits.specs.Reading.{Fault, Lacks, ◌>>=◌}
+use Rattle.jpeg_bits.specs.Reading.{Lacks}
 use Rattle.jpeg_segments.specs.Frame.{Frame, Component, Factors, IsInRange, frame_of, component_of, ceiling, greatest}
 use Rattle.jpeg_pixels.specs.declared.upsampler.UpsampleRule.{UpsampleRule}
 use Rattle.jpeg_pixels.specs.declared.upsampler.UpsampleRule.TheVariants.{H1V1, H2V1, H1V2, H2V2, Generic}
 use Rattle.jpeg_pixels.specs.Upsampling.{across, down, rule_of, divides}
 use Rattle.jpeg_pixels.specs.Pictures.{Source, source_by, source_of, sources_by, sources_of, factors_of}
-use Rattle.jpeg_decoder.specs.Order.{grid_of}
 use Rattle.jpeg_segments.specs.Scales.{component_at, frame_at}
-use Rattle.jpeg_decoder.proofs.OwnSpots.{At, Fits}
+use Rattle.jpeg_decoder.proofs.OwnSpots.{At}
 use Rattle.jpeg_decoder.proofs.AcceptedTurns.{err-ok, ok-same, bind-ok}
-use Rattle.jpeg_decoder.proofs.WrittenFrameScans.{at-all}
 use Rattle.jpeg_decoder.proofs.FrameShapes.{ceiling-least, ceiling-covers, below-ceiling, factors-back, greatest-some, at-mapped}
 use Rattle.jpeg_decoder.proofs.BroughtLevels.{Made}
 use Rattle.jpeg_decoder.proofs.InsidePictures.{Reaches, AllReach}

@@ -1,16 +1,14 @@
 -- A frame with a way to upsample each component has one at each scale.
-use Rattle.std.proofs.Common.{◌≡◌, ◌≢◌, ◌⊎◌, inl, inr, ℕ, zero, suc, ◌+◌, ◌-◌, ◌*◌, ◌/◌, ◌<◌, ◌≤◌, ◌==◌, ◌&&◌, ◌||◌, Bool, true, false, cond, List, [], ◌∷◌, map, length, Option, Some, None, Result, Ok, Err, refl, sym, ap, ap₂, ◌∙◌, subst, arith, if◌then◌else◌, true≢false}
+use Rattle.std.proofs.Common.{◌≡◌, ℕ, ◌*◌, ◌/◌, ◌==◌, ◌&&◌, ◌||◌, Bool, true, false, List, [], ◌∷◌, map, Option, Some, None, Ok, refl, sym, ap, if◌then◌else◌, true≢false}
 use Rattle.std.proofs.lemmas.Bool.{eqb-true, eq-eqb}
-use Rattle.jpeg_bits.specs.Reading.{Fault, Lacks, ◌>>=◌}
-use Rattle.jpeg_segments.specs.Frame.{Frame, Component, Factors, ceiling}
+use Rattle.jpeg_bits.specs.Reading.{Lacks}
+use Rattle.jpeg_segments.specs.Frame.{Component, Factors}
 use Rattle.jpeg_pixels.specs.declared.upsampler.UpsampleRule.{UpsampleRule}
 use Rattle.jpeg_pixels.specs.declared.upsampler.UpsampleRule.TheVariants.{H1V1, H2V1, H1V2, H2V2, Generic}
 use Rattle.jpeg_pixels.specs.Upsampling.{rule_of, divides}
-use Rattle.jpeg_pixels.specs.Pictures.{Source, source_by, source_of, sources_by, sources_of}
-use Rattle.jpeg_segments.specs.Scales.{frame_at}
+use Rattle.jpeg_pixels.specs.Pictures.{Source, source_by, source_of, sources_by}
 use Rattle.jpeg_decoder.proofs.AcceptedTurns.{err-ok, bind-ok, then-ok}
-use Rattle.jpeg_decoder.proofs.FrameShapes.{Plain, plain-size, ceiling-covers, ceiling-least}
-use Rattle.jpeg_decoder.proofs.ScaledSizes.{scaled_component, most_h, most_v, frame-components, frame-width, frame-height}
+use Rattle.jpeg_decoder.proofs.ScaledSizes.{scaled_component}
 
 -- ---- choices
 

@@ -1,15 +1,14 @@
 -- What a scan header that is read says.
-use Rattle.std.proofs.Common.{◌≡◌, ◌≢◌, ◌⊎◌, inl, inr, ℕ, zero, suc, ◌+◌, ◌-◌, ◌*◌, ◌/◌, ◌%◌, ◌<◌, ◌≤◌, ◌==◌, ◌&&◌, ◌||◌, not, nat_lt, nat_le, Bool, true, false, cond, List, [], ◌∷◌, ◌++◌, map, length, sum_by, Option, Some, None, Result, Ok, Err, refl, sym, ap, ap₂, ◌∙◌, subst, arith, leb, ltb, eqb, true≢false, length-append}
-use Rattle.std.proofs.lemmas.Bool.{eqb-true, leb-true, ltb-false, eq-eqb}
+use Rattle.std.proofs.Common.{◌≡◌, ◌≢◌, ◌⊎◌, inl, inr, ℕ, zero, suc, ◌+◌, ◌*◌, ◌/◌, ◌%◌, ◌<◌, ◌≤◌, ◌==◌, ◌&&◌, ◌||◌, nat_lt, nat_le, Bool, true, false, List, [], ◌∷◌, ◌++◌, map, length, Option, Some, None, Ok, refl, sym, ap, ◌∙◌, subst, arith, true≢false, length-append}
+use Rattle.std.proofs.lemmas.Bool.{eqb-true, leb-true, ltb-false}
 use Rattle.std.specs.List.{AllByRecursion}
 use lib.ListN.{length-map}
-use Rattle.jpeg_bits.specs.Reading.{Outcome, Fault, Malformed, ◌>>=◌, next_byte, length_at}
+use Rattle.jpeg_bits.specs.Reading.{Malformed, next_byte, length_at}
 use Rattle.jpeg_segments.specs.declared.parser.CodingProcess.{CodingProcess}
 use Rattle.jpeg_segments.specs.declared.parser.CodingProcess.TheVariants.{DctSequential, DctProgressive, Lossless}
 use Rattle.jpeg_segments.specs.Frame.{Frame}
 use Rattle.jpeg_segments.specs.HuffmanTables.{greatest_place}
-use Rattle.jpeg_segments.specs.ScanHeader.{Scan, Selector, place_of, tables_at, tables_by, selector_at, selectors_from, is_mcu, is_band, is_progressive_band, is_sequential_band, behind_of, scan_of, band_at, count_at, sos_at}
-use Rattle.jpeg_bits.specs.Passes.{whole_pass}
+use Rattle.jpeg_segments.specs.ScanHeader.{Scan, Selector, place_of, tables_at, tables_by, selector_at, selectors_from, is_mcu, is_band, behind_of, scan_of, band_at, count_at, sos_at}
 use Rattle.jpeg_decoder.specs.Stream.{pass_of, is_progressive}
 use Rattle.jpeg_decoder.proofs.PutBlocks.{IsAbsent, AreApart}
 use Rattle.jpeg_decoder.proofs.AcceptedTurns.{err-ok, ok-same, bind-ok}

@@ -1,23 +1,20 @@
 -- A written stream, read at a scale.
-use Rattle.std.proofs.Common.{◌≡◌, ◌≢◌, ◌⊎◌, inl, inr, ℕ, zero, suc, ◌+◌, ◌-◌, ◌*◌, ◌/◌, ◌<◌, ◌≤◌, ◌&&◌, Bool, true, false, cond, List, [], ◌∷◌, ◌++◌, map, length, replicate, is_some, option_map, Option, Some, None, Result, Ok, Err, refl, sym, ap, ap₂, ◌∙◌, subst, arith, true≢false, length-append}
-use Rattle.std.specs.List.{AllByRecursion}
+use Rattle.std.proofs.Common.{◌≡◌, ◌≢◌, ℕ, zero, suc, ◌*◌, ◌<◌, ◌≤◌, Bool, true, false, cond, List, [], ◌∷◌, ◌++◌, map, length, replicate, is_some, option_map, Option, Some, None, Result, Ok, refl, sym, ap, ap₂, ◌∙◌, subst, arith, length-append}
 use Rattle.jpeg_bits.specs.Reading.{Outcome, Fault, ◌>>=◌}
 use Rattle.jpeg_bits.specs.declared.marker.Marker.{Marker}
-use Rattle.jpeg_bits.specs.declared.marker.Marker.TheVariants.{SOF}
 use Rattle.jpeg_segments.specs.declared.parser.CodingProcess.{CodingProcess}
 use Rattle.jpeg_segments.specs.declared.parser.CodingProcess.TheVariants.{DctSequential, DctProgressive, Lossless}
-use Rattle.jpeg_segments.specs.Frame.{Frame, Component, Factors, IsInRange, ceiling, frame_of, sof_at}
+use Rattle.jpeg_segments.specs.Frame.{Frame, Component, Factors, ceiling}
 use Rattle.jpeg_decoder.specs.declared.state.Before.{Before}
 use Rattle.jpeg_decoder.specs.declared.state.Before.TheVariants.{Elsewhere}
 use Rattle.jpeg_decoder.specs.declared.state.Settings.{Settings}
-use Rattle.jpeg_decoder.specs.Order.{grid_of}
-use Rattle.jpeg_segments.specs.Scales.{component_at, frame_at, scale_for, reaches, sized}
-use Rattle.jpeg_decoder.specs.Stream.{Found, Turn, onward, accepted, none_finished, nothing_found, picture_of, turn_at, segments_within, segments_at, start_at, header_at, rest_at, sized_to, sized_meaning}
+use Rattle.jpeg_segments.specs.Scales.{frame_at, scale_for, reaches, sized}
+use Rattle.jpeg_decoder.specs.Stream.{Found, Turn, onward, accepted, nothing_found, turn_at, segments_within, segments_at, start_at, header_at, rest_at, sized_to, sized_meaning}
 use Rattle.jpeg_decoder.specs.Levels.{Levels, Is8Bit, nothing_sent}
 use Rattle.jpeg_decoder.specs.WrittenData.{marker}
 use Rattle.jpeg_decoder.proofs.AcceptedStreams.{IsMarker}
 use Rattle.jpeg_decoder.specs.WrittenScans.{Coefficients}
-use Rattle.jpeg_decoder.proofs.AcceptedStreams.{IsAccepted, WritesSegment, WritesScans, WritesHead, WritesStream}
+use Rattle.jpeg_decoder.proofs.AcceptedStreams.{WritesScans, WritesHead, WritesStream}
 use Rattle.jpeg_decoder.specs.ArrayPictures.{meaning_of_array, picture_of_array}
 use Rattle.jpeg_decoder.specs.Stream.{told_of}
 use Rattle.jpeg_decoder.proofs.AcceptedStreams.WritesScans.{segment, scan, closed}
@@ -25,12 +22,12 @@ use Rattle.jpeg_decoder.proofs.AcceptedStreams.WritesHead.{before as earlier, fr
 use Rattle.jpeg_decoder.proofs.AcceptedStreams.WritesStream.{stream}
 use Rattle.jpeg_decoder.proofs.OwnSpots.{At, Fits}
 use Rattle.jpeg_decoder.proofs.ReadStates.{reading}
-use Rattle.jpeg_decoder.proofs.AcceptedTurns.{StandsAt, stands-met, stands-next, turn-on, then-ok, segment-read, frame-kept}
-use Rattle.jpeg_decoder.proofs.BroughtLevels.{Made, Shaped, Framed, framed-start}
+use Rattle.jpeg_decoder.proofs.AcceptedTurns.{StandsAt, stands-next, then-ok, segment-read, frame-kept}
+use Rattle.jpeg_decoder.proofs.BroughtLevels.{Shaped, framed-start}
 use Rattle.jpeg_decoder.proofs.FrameShapes.{Plain, sof-plain, made-at, plain-size, all-shaped}
 use Rattle.jpeg_decoder.proofs.ScaledSizes.{scaled_component, most_h, most_v, frame-components}
 use Rattle.jpeg_decoder.proofs.ScaledScans.{own-same, Alike, Alikes, none, one_more, SameFrame, length-same, at_frame, scans-alike}
-use Rattle.jpeg_decoder.proofs.ReadStreams.{nothing_finished, no_planes, frame-turn, frame-by, ReadTo, reads-scans, nothing-is, no-frame, starts-so, within-so}
+use Rattle.jpeg_decoder.proofs.ReadStreams.{nothing_finished, no_planes, frame-turn, frame-by, reads-scans, nothing-is, no-frame, starts-so, within-so}
 use Rattle.jpeg_decoder.proofs.WrittenPictures.{pictures-same, rest-by}
 use Rattle.jpeg_decoder.proofs.FrameShapes.{greatest-some, accepted-sources, ceiling-covers, ceiling-least}
 use Rattle.jpeg_decoder.proofs.ScaledSources.{sources-there}

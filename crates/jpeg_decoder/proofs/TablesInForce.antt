@@ -1,20 +1,20 @@
 -- The tables in force exist.
-use Rattle.std.proofs.Common.{◌≡◌, ◌≢◌, ◌⊎◌, inl, inr, ℕ, zero, suc, ◌+◌, ◌-◌, ◌*◌, ◌/◌, ◌%◌, ◌<◌, ◌≤◌, ◌==◌, nat_lt, Bool, true, false, cond, List, [], ◌∷◌, ◌++◌, map, length, replicate, set, get_or, slice_index_or, sum, drop, Option, Some, None, option_map, Result, Ok, Err, refl, sym, ap, ap₂, ◌∙◌, subst, arith, true≢false, if◌then◌else◌}
+use Rattle.std.proofs.Common.{◌≡◌, ℕ, zero, suc, ◌+◌, ◌-◌, ◌/◌, ◌%◌, ◌==◌, nat_lt, Bool, true, false, cond, List, [], ◌∷◌, ◌++◌, length, set, slice_index_or, sum, drop, Option, Some, None, Ok, Err, refl, sym, ap, ◌∙◌, subst, arith}
 use Rattle.std.specs.List.{AllByRecursion}
-use Rattle.jpeg_bits.specs.Reading.{Outcome, Fault, Malformed, ◌>>=◌, next_byte, length_at, times}
-use Rattle.jpeg_bits.specs.Codes.{Table, IsTable, HasCodes, code_lengths, codes_exist, is_ac, lengths_from}
+use Rattle.jpeg_bits.specs.Reading.{Outcome, Malformed, ◌>>=◌, next_byte, length_at, times}
+use Rattle.jpeg_bits.specs.Codes.{Table, IsTable, code_lengths, codes_exist, is_ac}
 use Rattle.jpeg_bits.specs.declared.codes.HuffmanTableClass.{HuffmanTableClass}
 use Rattle.jpeg_bits.specs.declared.codes.HuffmanTableClass.TheVariants as classes
 use Rattle.jpeg_bits.specs.DefaultTables.{luminance_dc, chrominance_dc, luminance_ac, chrominance_ac, with_defaults, filled, names}
 use Rattle.jpeg_bits.proofs.DefaultTables.{luminance-dc-codes, chrominance-dc-codes, luminance-ac-codes, chrominance-ac-codes}
 use Rattle.jpeg_bits.proofs.Tables.{tested-exist}
 use Rattle.jpeg_bits.specs.declared.marker.Marker.{Marker}
-use Rattle.jpeg_segments.specs.Frame.{Frame, Component}
+use Rattle.jpeg_segments.specs.Frame.{Frame}
 use Rattle.jpeg_segments.specs.ScanHeader.{Scan}
 use Rattle.jpeg_segments.specs.HuffmanTables.{Tables, no_tables, PlacedTable, class_of, size_of, symbols_at, codes_at, placed_codes_at, with_table, greatest_place, tables_from, dht_at}
 use Rattle.jpeg_bits.specs.Passes.{Pass}
 use Rattle.jpeg_decoder.specs.Scans.{no_table}
-use Rattle.jpeg_decoder.specs.Stream.{Found, Coding, needed, needed_if, first_of, updated, with_huffman, tables_of, coding_of, codings_from, codings_of, pass_of, is_decoded, nothing_found}
+use Rattle.jpeg_decoder.specs.Stream.{Found, Coding, needed, needed_if, first_of, updated, tables_of, coding_of, codings_from, codings_of, pass_of, is_decoded, nothing_found}
 use Rattle.jpeg_decoder.proofs.AcceptedStreams.{WritesSegment}
 use Rattle.jpeg_decoder.proofs.AcceptedStreams.WritesSegment.{quantization, huffman, restart, application, comment}
 use Rattle.jpeg_decoder.proofs.WrittenFrameScans.{no-codes}

@@ -1,6 +1,6 @@
 -- A sequential stream of three components, with padding and a restart, worked by hand, is one that is written.
-use Rattle.std.proofs.Common.{◌≡◌, ℕ, zero, suc, ◌*◌, ◌+◌, ◌/◌, ◌%◌, ◌^◌, ◌<◌, ◌≤◌, Bool, true, false, List, [], ◌∷◌, ◌++◌}
-use Rattle.std.proofs.Common.{replicate, ℤ, pos, negsuc, ◌-ℤ◌, unsigned_abs, Option, Some, None, Ok, refl, sym, ◌∙◌, arith, true≢false}
+use Rattle.std.proofs.Common.{◌≡◌, ℕ, zero, suc, ◌*◌, ◌+◌, ◌/◌, ◌%◌, ◌^◌, ◌<◌, ◌≤◌, Bool, false, List, [], ◌∷◌, ◌++◌}
+use Rattle.std.proofs.Common.{replicate, ℤ, pos, negsuc, ◌-ℤ◌, unsigned_abs, Some, None, Ok, refl, sym, arith, true≢false}
 use Rattle.std.specs.List.{AllByRecursion}
 use Rattle.std.specs.Prelude.{get_or, set, ◌≤ℤ◌}
 use Rattle.jpeg_bits.proofs.Tables.{tested-exist}
@@ -20,7 +20,7 @@ use Rattle.jpeg_decoder.specs.Levels.{Levels, Is8Bit, IsLegal, nothing_sent}
 use Rattle.jpeg_decoder.specs.Order.{Spot, all_spots, mcu_size, mcu_spots, part_spots, spots_of}
 use Rattle.jpeg_decoder.specs.SaidSegments.{found_behind}
 use Rattle.jpeg_decoder.specs.Stream.{Found, Coding, nothing_found, accepted, pass_of, tables_of, updated, vias_from}
-use Rattle.jpeg_decoder.specs.WorkedImages.{IsWhollyWritten, flat_block, in_column, colour_array, colour_blocks, colour_bytes}
+use Rattle.jpeg_decoder.specs.WorkedImages.{IsWhollyWritten, flat_block, colour_array, colour_bytes}
 use Rattle.jpeg_decoder.specs.WrittenData.{IsCategory, IsCoded, WritesAc, WritesBlocks, WritesInterval, bits_for, bits_of_bytes}
 use Rattle.jpeg_decoder.specs.WrittenData.{marker, number_for, stuffed}
 use Rattle.jpeg_decoder.specs.WrittenData.WritesAc.{first}
@@ -230,11 +230,16 @@ header-written = record {
   wide = omega arith;
   high = omega arith;
   counted = refl;
-  components =
-      (record { is_new = refl; ranged = record { horizontal_some = omega arith; horizontal_most = omega arith; vertical_some = omega arith; vertical_most = omega arith }; placed = refl },
-      (record { is_new = refl; ranged = record { horizontal_some = omega arith; horizontal_most = omega arith; vertical_some = omega arith; vertical_most = omega arith }; placed = refl },
-      (record { is_new = refl; ranged = record { horizontal_some = omega arith; horizontal_most = omega arith; vertical_some = omega arith; vertical_most = omega arith }; placed = refl },
-      tt)));
+  components = (
+    record { is_new = refl; ranged = record { horizontal_some = omega arith; horizontal_most = omega arith; vertical_some = omega arith; vertical_most = omega arith }; placed = refl },
+    (
+      record { is_new = refl; ranged = record { horizontal_some = omega arith; horizontal_most = omega arith; vertical_some = omega arith; vertical_most = omega arith }; placed = refl },
+      (
+        record { is_new = refl; ranged = record { horizontal_some = omega arith; horizontal_most = omega arith; vertical_some = omega arith; vertical_most = omega arith }; placed = refl },
+        tt,
+      ),
+    ),
+  );
 }
 
 scan-written : IsScan the_frame the_header
@@ -242,10 +247,13 @@ unfolding AreChoices frame_of component_of
 scan-written = record {
   some = omega arith;
   most = omega arith;
-  choices =
-      (record { identified = refl; ordered = omega arith; dc_placed = omega arith; ac_placed = omega arith },
-      (record { identified = refl; ordered = omega arith; dc_placed = omega arith; ac_placed = omega arith },
-      (record { identified = refl; ordered = omega arith; dc_placed = omega arith; ac_placed = omega arith }, tt)));
+  choices = (
+    record { identified = refl; ordered = omega arith; dc_placed = omega arith; ac_placed = omega arith },
+    (
+      record { identified = refl; ordered = omega arith; dc_placed = omega arith; ac_placed = omega arith },
+      (record { identified = refl; ordered = omega arith; dc_placed = omega arith; ac_placed = omega arith }, tt),
+    ),
+  );
   fits = refl;
   narrow = omega arith;
   precise = refl;
@@ -310,10 +318,13 @@ has-tables =
 
 all-sent : AllByRecursion (λ k. IsComplete (levels_1 k)) (0 ∷ 1 ∷ 2 ∷ [])
 unfolding levels_after pass_of scan_of frame_of component_of
-all-sent =
-    (record { dc = refl; acs = all-same (Some 0) 63 },
-    (record { dc = refl; acs = all-same (Some 0) 63 },
-    (record { dc = refl; acs = all-same (Some 0) 63 }, tt)))
+all-sent = (
+  record { dc = refl; acs = all-same (Some 0) 63 },
+  (
+    record { dc = refl; acs = all-same (Some 0) 63 },
+    (record { dc = refl; acs = all-same (Some 0) 63 }, tt),
+  ),
+)
 
 -- ---- the stream
 

@@ -1,11 +1,9 @@
 -- A progressive stream of three blocks, worked by hand, is one that is written.
-use Rattle.std.proofs.Common.{◌≡◌, ◌≢◌, ℕ, zero, suc, ◌*◌, ◌+◌, ◌%◌, ◌^◌, ◌<◌, ◌≤◌, Bool, true, false, List, [], ◌∷◌, ◌++◌, replicate}
-use Rattle.std.proofs.Common.{ℤ, pos, negsuc, ◌-ℤ◌, unsigned_abs, Option, Some, None, Ok, refl, sym, ◌∙◌, arith, true≢false}
+use Rattle.std.proofs.Common.{◌≡◌, ℕ, zero, suc, ◌*◌, ◌+◌, ◌%◌, ◌^◌, ◌<◌, ◌≤◌, true, false, List, [], ◌∷◌, ◌++◌, replicate}
+use Rattle.std.proofs.Common.{pos, negsuc, unsigned_abs, Option, Some, None, Ok, refl, sym, ◌∙◌, arith, true≢false}
 use Rattle.std.specs.List.{AllByRecursion}
-use Rattle.std.specs.Prelude.{get_or}
 use Rattle.jpeg_bits.proofs.Tables.{tested-exist}
 use Rattle.jpeg_bits.specs.Codes.{Table, HasCodes, lengths_from, code_lengths, code_value, codes_exist}
-use Rattle.jpeg_bits.specs.Passes.{Block}
 use Rattle.jpeg_bits.specs.Written.{low_bits}
 use Rattle.jpeg_bits.specs.declared.codes.HuffmanTableClass.TheVariants as classes
 use Rattle.jpeg_pixels.specs.Pictures.{sources_by}
@@ -15,13 +13,13 @@ use Rattle.jpeg_segments.specs.ScanHeader.{scan_of}
 use Rattle.jpeg_segments.specs.WrittenSegments.{QuantizationTable, IsQuantizationTable, IsHuffmanTable, FrameHeader, IsFrame}
 use Rattle.jpeg_segments.specs.WrittenSegments.{quantization_bytes, frame_payload, huffman_bytes, AreComponents, Segment, Quantization, Huffman, Header, payload_of, sized}
 use Rattle.jpeg_segments.specs.ScanHeaders.{ScanHeader, AreChoices, IsScan, scan_payload, scan_written}
-use Rattle.jpeg_decoder.specs.Levels.{Levels, Is8Bit, IsLegal, nothing_sent}
+use Rattle.jpeg_decoder.specs.Levels.{Levels, Is8Bit, nothing_sent}
 use Rattle.jpeg_decoder.specs.Order.{Spot, own_spots, spots_of, mcu_size}
 use Rattle.jpeg_decoder.specs.SaidSegments.{found_behind}
 use Rattle.jpeg_decoder.specs.Scans.{no_table}
 use Rattle.jpeg_decoder.specs.Stream.{Found, Coding, nothing_found, accepted, is_progressive, pass_of, tables_of, updated, vias_from}
-use Rattle.jpeg_decoder.specs.WorkedImages.{IsWhollyWritten, flat_block, grey_array, grey_blocks, grey_bytes}
-use Rattle.jpeg_decoder.specs.WrittenData.{IsCategory, IsCoded, NoneNew, WritesDifference, bits_of_bytes, corrections, count_unknown}
+use Rattle.jpeg_decoder.specs.WorkedImages.{IsWhollyWritten, flat_block, grey_array, grey_bytes}
+use Rattle.jpeg_decoder.specs.WrittenData.{IsCategory, IsCoded, NoneNew, bits_of_bytes, corrections, count_unknown}
 use Rattle.jpeg_decoder.specs.WrittenData.{marker, number_for, stuffed}
 use Rattle.jpeg_decoder.specs.WrittenData.WritesAc.{no_band, first, first_run, again, again_run}
 use Rattle.jpeg_decoder.specs.WrittenData.WritesBand.{value, ended}
@@ -310,40 +308,63 @@ header-written = record {
   wide = omega arith;
   high = omega arith;
   counted = refl;
-  components = (record {
-    is_new = refl;
-    ranged = record { horizontal_some = omega arith; horizontal_most = omega arith; vertical_some = omega arith; vertical_most = omega arith };
-    placed = refl;
-  }, tt);
+  components = (
+    record {
+      is_new = refl;
+      ranged = record { horizontal_some = omega arith; horizontal_most = omega arith; vertical_some = omega arith; vertical_most = omega arith };
+      placed = refl;
+    },
+    tt,
+  );
 }
 
 written_1 : IsScan the_frame header_1
 unfolding AreChoices frame_of component_of
 written_1 = record {
-  some = omega arith; most = omega arith;
+  some = omega arith;
+  most = omega arith;
   choices = (record { identified = refl; ordered = omega arith; dc_placed = omega arith; ac_placed = omega arith }, tt);
-  fits = refl; narrow = omega arith; precise = refl; band = refl }
+  fits = refl;
+  narrow = omega arith;
+  precise = refl;
+  band = refl;
+}
 
 written_2 : IsScan the_frame header_2
 unfolding AreChoices frame_of component_of
 written_2 = record {
-  some = omega arith; most = omega arith;
+  some = omega arith;
+  most = omega arith;
   choices = (record { identified = refl; ordered = omega arith; dc_placed = omega arith; ac_placed = omega arith }, tt);
-  fits = refl; narrow = omega arith; precise = refl; band = refl }
+  fits = refl;
+  narrow = omega arith;
+  precise = refl;
+  band = refl;
+}
 
 written_3 : IsScan the_frame header_3
 unfolding AreChoices frame_of component_of
 written_3 = record {
-  some = omega arith; most = omega arith;
+  some = omega arith;
+  most = omega arith;
   choices = (record { identified = refl; ordered = omega arith; dc_placed = omega arith; ac_placed = omega arith }, tt);
-  fits = refl; narrow = omega arith; precise = refl; band = refl }
+  fits = refl;
+  narrow = omega arith;
+  precise = refl;
+  band = refl;
+}
 
 written_4 : IsScan the_frame header_4
 unfolding AreChoices frame_of component_of
 written_4 = record {
-  some = omega arith; most = omega arith;
+  some = omega arith;
+  most = omega arith;
   choices = (record { identified = refl; ordered = omega arith; dc_placed = omega arith; ac_placed = omega arith }, tt);
-  fits = refl; narrow = omega arith; precise = refl; band = refl }
+  fits = refl;
+  narrow = omega arith;
+  precise = refl;
+  band = refl;
+}
 
 -- ---- what is said
 
@@ -372,36 +393,68 @@ legal_1 : IsLegalScan said the_frame levels_0 (scan_written the_frame header_1) 
 unfolding nothing_found updated frame_of component_of scan_of pass_of tables_of
 legal_1 = record {
   are_in_force = and_more 0 0 0 [] [] [] dc_coding [] (record { stands = refl; component = refl; quantization = refl; dc = refl; ac = refl }) no_more;
-  legal = (record {
-    low = omega arith; dc_unsent = λ e f. refl; dc_sent = λ e f. absurd (true≢false f); dc_before = λ n. absurd (n refl);
-    acs_unsent = λ f. tt; acs_sent = λ f. tt }, tt);
+  legal = (
+    record {
+      low = omega arith;
+      dc_unsent = λ e f. refl;
+      dc_sent = λ e f. absurd (true≢false f);
+      dc_before = λ n. absurd (n refl);
+      acs_unsent = λ f. tt;
+      acs_sent = λ f. tt;
+    },
+    tt,
+  );
 }
 
 legal_2 : IsLegalScan said the_frame levels_1 (scan_written the_frame header_2) (ac_coding ∷ [])
 unfolding nothing_found updated frame_of component_of scan_of pass_of tables_of levels_after
 legal_2 = record {
   are_in_force = and_more 0 0 0 [] [] [] ac_coding [] (record { stands = refl; component = refl; quantization = refl; dc = refl; ac = refl }) no_more;
-  legal = (record {
-    low = omega arith; dc_unsent = λ e f. absurd (omega arith); dc_sent = λ e f. absurd (omega arith); dc_before = λ n e. some-none 1 e;
-    acs_unsent = λ f. all-same None 63; acs_sent = λ f. absurd (true≢false f) }, tt);
+  legal = (
+    record {
+      low = omega arith;
+      dc_unsent = λ e f. absurd (omega arith);
+      dc_sent = λ e f. absurd (omega arith);
+      dc_before = λ n e. some-none 1 e;
+      acs_unsent = λ f. all-same None 63;
+      acs_sent = λ f. absurd (true≢false f);
+    },
+    tt,
+  );
 }
 
 legal_3 : IsLegalScan said the_frame levels_2 (scan_written the_frame header_3) (dc_coding ∷ [])
 unfolding nothing_found updated frame_of component_of scan_of pass_of tables_of levels_after
 legal_3 = record {
   are_in_force = and_more 0 0 0 [] [] [] dc_coding [] (record { stands = refl; component = refl; quantization = refl; dc = refl; ac = refl }) no_more;
-  legal = (record {
-    low = omega arith; dc_unsent = λ e f. absurd (true≢false (sym f)); dc_sent = λ e f. refl; dc_before = λ n. absurd (n refl);
-    acs_unsent = λ f. tt; acs_sent = λ f. tt }, tt);
+  legal = (
+    record {
+      low = omega arith;
+      dc_unsent = λ e f. absurd (true≢false (sym f));
+      dc_sent = λ e f. refl;
+      dc_before = λ n. absurd (n refl);
+      acs_unsent = λ f. tt;
+      acs_sent = λ f. tt;
+    },
+    tt,
+  );
 }
 
 legal_4 : IsLegalScan said the_frame levels_3 (scan_written the_frame header_4) (ac_coding ∷ [])
 unfolding nothing_found updated frame_of component_of scan_of pass_of tables_of levels_after
 legal_4 = record {
   are_in_force = and_more 0 0 0 [] [] [] ac_coding [] (record { stands = refl; component = refl; quantization = refl; dc = refl; ac = refl }) no_more;
-  legal = (record {
-    low = omega arith; dc_unsent = λ e f. absurd (omega arith); dc_sent = λ e f. absurd (omega arith); dc_before = λ n e. some-none 0 e;
-    acs_unsent = λ f. absurd (true≢false (sym f)); acs_sent = λ f. all-same (Some 1) 63 }, tt);
+  legal = (
+    record {
+      low = omega arith;
+      dc_unsent = λ e f. absurd (omega arith);
+      dc_sent = λ e f. absurd (omega arith);
+      dc_before = λ n e. some-none 0 e;
+      acs_unsent = λ f. absurd (true≢false (sym f));
+      acs_sent = λ f. all-same (Some 1) 63;
+    },
+    tt,
+  );
 }
 
 has-table : AllByRecursion (HasTable said) the_frame.components

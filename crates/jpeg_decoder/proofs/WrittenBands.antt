@@ -1,5 +1,5 @@
 -- A band that was written is read again.
-use Rattle.std.proofs.Common.{◌≡◌, ◌≢◌, ◌⊎◌, inl, inr, ℕ, zero, suc, ◌+◌, ◌-◌, ◌*◌, ◌/◌, ◌%◌, ◌^◌, ◌<◌, ◌≤◌, Bool, true, false, List, [], ◌∷◌, ◌++◌, map, length, take, drop, ℤ, pos, negsuc, ◌-ℤ◌, ◌*ℤ◌, unsigned_abs, refl, sym, ap, ◌∙◌, subst, append_assoc, append-nil, arith, eqb, leb, ltb, pow-suc, w16, pow_pos}
+use Rattle.std.proofs.Common.{◌≡◌, ◌≢◌, ◌⊎◌, inl, inr, ℕ, zero, suc, ◌+◌, ◌-◌, ◌*◌, ◌/◌, ◌%◌, ◌^◌, ◌<◌, ◌≤◌, Bool, true, false, List, [], ◌∷◌, ◌++◌, map, length, take, drop, ℤ, pos, negsuc, ◌-ℤ◌, unsigned_abs, refl, sym, ap, ◌∙◌, subst, append_assoc, append-nil, arith, eqb, leb, ltb, pow-suc, w16, pow_pos}
 use Rattle.std.proofs.lemmas.List.{take-replicate, drop-replicate, length-replicate}
 use Rattle.std.proofs.Common.{neg_ℤ, le_refl, length-append, ap₂}
 use Rattle.std.proofs.Math.Nat.{zero-mul, mul-le-mul_left}
@@ -12,7 +12,7 @@ use Rattle.std.proofs.Common.{slice_index}
 use Rattle.jpeg_bits.specs.Entropy.{bits_from, extended}
 use Rattle.jpeg_bits.specs.Codes.{Table, code_from}
 use Rattle.jpeg_bits.specs.Written.{low_bits, code_size, code_bits}
-use Rattle.jpeg_bits.specs.Readers.{Reads, ◌>>=◌, gives, signed_from, ReadsJust}
+use Rattle.jpeg_bits.specs.Readers.{Reads, signed_from, ReadsJust}
 use Rattle.jpeg_bits.specs.Bands.{wrapped, Band, before_more, token_at, token_from, behind_token, first_ac}
 use Rattle.jpeg_bits.specs.declared.tokens.Token.{Token}
 use Rattle.jpeg_bits.specs.declared.tokens.Token.TheVariants.{Value, Sixteen, Rest}

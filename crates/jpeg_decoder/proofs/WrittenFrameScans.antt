@@ -1,29 +1,27 @@
 -- A written scan of a frame takes the blocks of its components to the next level.
-use Rattle.std.proofs.Common.{◌≡◌, ◌≢◌, ◌⊎◌, inl, inr, ℕ, zero, suc, ◌+◌, ◌-◌, ◌*◌, ◌/◌, ◌%◌, ◌<◌, ◌≤◌, Bool, true, false, List, [], ◌∷◌, ◌++◌, map, length, take, drop, replicate, get_or, set, ℤ, pos, Option, Some, None, Ok, refl, sym, ap, ap₂, ◌∙◌, subst, arith, true≢false, length-set, get_or-set_same, get_or-set_other}
-use Rattle.std.proofs.Math.Nat.{div-lt_iff_lt-mul, mod-lt}
+use Rattle.std.proofs.Common.{◌≡◌, inl, inr, ℕ, zero, suc, ◌+◌, ◌*◌, ◌/◌, ◌%◌, ◌<◌, ◌≤◌, List, [], ◌∷◌, ◌++◌, map, length, take, drop, replicate, get_or, set, ℤ, pos, Some, None, Ok, refl, sym, ap, ap₂, ◌∙◌, subst, arith, true≢false, length-set}
+use Rattle.std.proofs.Math.Nat.{div-lt_iff_lt-mul}
 use Rattle.std.specs.List.{AllByRecursion}
 use lib.ListN.{length-map}
-use Rattle.jpeg_bits.specs.Codes.{Table, code_lengths, lengths_from}
+use Rattle.jpeg_bits.specs.Codes.{code_lengths, lengths_from}
 use Rattle.jpeg_bits.specs.declared.codes.HuffmanTableClass.{HuffmanTableClass}
 use Rattle.jpeg_bits.specs.declared.marker.Marker.{Marker}
 use Rattle.jpeg_bits.proofs.Tables.{IsGood}
 use Rattle.jpeg_segments.specs.Frame.{Frame, Component}
-use Rattle.jpeg_segments.specs.ScanHeader.{Scan}
 use Rattle.jpeg_decoder.specs.declared.grids.Grid.{Grid}
 use Rattle.jpeg_bits.specs.Passes.{Pass, Via, Block, whole_pass, zero_block, band_of, before_band, band_size}
 use Rattle.jpeg_decoder.specs.Order.{Spot, grid_of, own_spots, spots_of, mcu_size}
 use Rattle.jpeg_decoder.specs.Scans.{Arrays, block_at, put_block, put_blocks, via_at, no_table, arrays_at}
-use Rattle.jpeg_decoder.specs.Stream.{Coding, Found, vias_from, pass_of, arrays_before, scan_arrays}
-use Rattle.jpeg_decoder.specs.Levels.{Levels, Is8Bit, numbers_at, cut, cut_acs, nothing_sent, IsLegal, levels_behind}
+use Rattle.jpeg_decoder.specs.Stream.{Coding, vias_from}
+use Rattle.jpeg_decoder.specs.Levels.{Levels, Is8Bit, numbers_at, cut, nothing_sent, IsLegal, levels_behind}
 use Rattle.jpeg_decoder.specs.WrittenData.{marker, no_numbers}
-use Rattle.jpeg_decoder.specs.WrittenScans.{Coefficients, IsOwn, grid_at, no_grid, components_of, place_at, block_for, written_turns, WritesScan}
+use Rattle.jpeg_decoder.specs.WrittenScans.{Coefficients, IsOwn, grid_at, no_grid, components_of, WritesScan}
 use Rattle.jpeg_decoder.proofs.SentBlocks.{held, InRange, Suits, behind_pass}
 use Rattle.jpeg_decoder.proofs.AcceptedStreams.{IsMarker}
 use Rattle.jpeg_decoder.proofs.CutLevels.{suits-cut, cut-behind, all-same, cut-unsent, floor-range, floor-fits}
-use Rattle.jpeg_decoder.proofs.WrittenBlocks.{IsReady}
 use Rattle.jpeg_decoder.proofs.WrittenArrays.{IsReadyAt, reads-arrays, map-map_any}
 use Rattle.jpeg_decoder.proofs.PutBlocks.{IsIn, IsInside, reaches}
-use Rattle.jpeg_decoder.proofs.OwnSpots.{At, at-some, at-within, at-get, get-beyond, IsOwnSpot, own-only, Fits, covered}
+use Rattle.jpeg_decoder.proofs.OwnSpots.{At, at-within, at-get, IsOwnSpot, own-only, Fits, covered}
 
 -- ---- blocks of a component
 

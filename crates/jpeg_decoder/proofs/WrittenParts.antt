@@ -1,9 +1,9 @@
 -- Fronts of streams, and streams that mean one picture.
 use Rattle.std.proofs.Common.{◌≡◌, ◌⊎◌, inl, inr, ℕ, zero, suc, ◌+◌, ◌*◌, ◌/◌, ◌%◌, ◌<◌, Bool, true, false, cond, List, [], ◌∷◌, ◌++◌, map, drop, length}
-use Rattle.std.proofs.Common.{get_or, nat_lt, Option, Some, None, Result, Ok, Err, refl, sym, ap, ap₂, ◌∙◌, subst, arith, true≢false}
+use Rattle.std.proofs.Common.{nat_lt, Option, Some, None, Result, Ok, Err, refl, sym, ap, ap₂, ◌∙◌, subst, arith, true≢false}
 use Rattle.std.specs.List.{AllByRecursion}
 use Rattle.std.specs.Prelude.{slice_index_or}
-use Rattle.jpeg_bits.specs.Passes.{Block, Pass}
+use Rattle.jpeg_bits.specs.Passes.{Pass}
 use Rattle.jpeg_bits.specs.Reading.{Fault, Malformed, ◌>>=◌}
 use Rattle.jpeg_segments.specs.Frame.{Component, Frame}
 use Rattle.jpeg_segments.specs.HuffmanTables.{Tables}
@@ -15,12 +15,11 @@ use Rattle.jpeg_decoder.specs.declared.state.Settings.{Settings}
 use Rattle.jpeg_decoder.specs.Levels.{Is8Bit, Levels, nothing_sent}
 use Rattle.jpeg_decoder.specs.Order.{grid_of, Spot}
 use Rattle.jpeg_decoder.specs.SaidSegments.{found_behind}
-use Rattle.jpeg_decoder.specs.Stream.{Coding, first_of, Found, is_progressive, meaning, Metadata, needed, nothing_found, pass_of, picture_by, Told, told_of}
+use Rattle.jpeg_decoder.specs.Stream.{Coding, first_of, Found, is_progressive, Metadata, needed, nothing_found, pass_of, picture_by, Told, told_of}
 use Rattle.jpeg_decoder.specs.WholeImages.{AllComplete, picture_whole, plane_whole, planes_whole}
-use Rattle.jpeg_decoder.specs.WrittenData.{marker}
 use Rattle.jpeg_decoder.specs.WrittenImages.{closed, scan as then_scan, segment as then_segment, Writes, WritesImage}
 use Rattle.jpeg_decoder.specs.WrittenParts.{AgreeOnOwn, HaveSamePicture, nothing, picture_meant_by, scan, segment, WritesFront}
-use Rattle.jpeg_decoder.specs.WrittenScans.{AreCodings, block_for, Coefficients, components_of, grid_at, HasTable, IsOwn, levels_after, no_grid, place_at, WritesScan}
+use Rattle.jpeg_decoder.specs.WrittenScans.{AreCodings, block_for, Coefficients, components_of, grid_at, HasTable, IsOwn, levels_after, no_grid, place_at}
 use Rattle.jpeg_decoder.specs.WrittenScans.AreCodings.{and_more, no_more}
 use Rattle.jpeg_decoder.proofs.AcceptedImages.{frame-or, frame-stays, image-accepted, none-stands, same-frame, scan-tail, segment-tail}
 use Rattle.jpeg_decoder.proofs.AcceptedTurns.{then-ok}
@@ -99,13 +98,13 @@ same-framed settings array a b h =
     let f = h.frame_a in
     let g = h.frame_b in
     let size : length f.components * (f.output_width * f.output_height) ≡ length g.components * (g.output_width * g.output_height) =
-        ap (λ (cs : List Component). length cs * (f.output_width * f.output_height)) h.components
-        ∙ ap₂ (λ (x y : ℕ). length g.components * (x * y)) h.width h.height in
+    ap (λ (cs : List Component). length cs * (f.output_width * f.output_height)) h.components
+    ∙ ap₂ (λ (x y : ℕ). length g.components * (x * y)) h.width h.height in
     let first = same-behind (planes_whole a array 0 f.components) (λ (planes : List (List ℕ)). picture_by settings a.metadata f f.components planes)
-        (λ (planes : List (List ℕ)). picture_by settings b.metadata g f.components planes)
-        (λ planes. same-colours settings a.metadata b.metadata f g f.components planes h.width h.height h.jfif h.adobe) in
+    (λ (planes : List (List ℕ)). picture_by settings b.metadata g f.components planes)
+    (λ planes. same-colours settings a.metadata b.metadata f g f.components planes h.width h.height h.jfif h.adobe) in
     let second = ap (λ (o : Result (List (List ℕ)) Fault). o >>= (λ (planes : List (List ℕ)). picture_by settings b.metadata g f.components planes))
-        (same-planes a b array 0 f.components h.tables) in
+    (same-planes a b array 0 f.components h.tables) in
     let third = ap (λ (cs : List Component). planes_whole b array 0 cs >>= (λ (planes : List (List ℕ)). picture_by settings b.metadata g cs planes)) h.components in
     ap (λ (n : ℕ). cond (nat_lt settings.limit n) (Err Malformed)
     (planes_whole a array 0 f.components >>= (λ (planes : List (List ℕ)). picture_by settings a.metadata f f.components planes))) size

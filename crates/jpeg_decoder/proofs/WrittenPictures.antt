@@ -1,13 +1,12 @@
 -- The picture of a written stream is that of its array, cut at the levels that were sent.
-use Rattle.std.proofs.Common.{◌≡◌, ◌≢◌, ◌⊎◌, inl, inr, ℕ, zero, suc, ◌+◌, ◌-◌, ◌*◌, ◌/◌, ◌%◌, ◌<◌, ◌≤◌, ◌==◌, ◌&&◌, nat_lt, Bool, true, false, cond, List, [], ◌∷◌, ◌++◌, map, length, replicate, get_or, slice_index, slice_index_or, ℤ, Option, Some, None, Result, Ok, Err, All, refl, sym, ap, ap₂, ◌∙◌, subst, arith, min, max, eqb, true≢false, mul_assoc, if◌then◌else◌}
-use Rattle.std.proofs.Math.Nat.{div-lt_iff_lt-mul, mod-lt, mul_comm, div-mul-le_self, le_of_mul-le-mul_right}
+use Rattle.std.proofs.Common.{◌≡◌, ℕ, suc, ◌+◌, ◌*◌, ◌/◌, ◌%◌, ◌<◌, ◌≤◌, ◌&&◌, nat_lt, Bool, true, false, cond, List, [], ◌∷◌, map, length, get_or, slice_index, slice_index_or, ℤ, Option, Some, None, Result, Ok, Err, refl, sym, ap, ap₂, ◌∙◌, subst, arith, min, true≢false, if◌then◌else◌}
+use Rattle.std.proofs.Math.Nat.{div-lt_iff_lt-mul, mul_comm, div-mul-le_self}
 use Rattle.std.proofs.lemmas.Nat.{div-mul-add, mod-mul-add}
 use Rattle.std.proofs.lemmas.Bool.{le-ltb}
 use Rattle.std.proofs.lemmas.List.FromFn.{get_or-map-range_with_len, length-map-range_with_len}
-use Rattle.std.proofs.lemmas.List.Elements.{All-cons, All-nil}
 use Rattle.std.specs.List.{AllByRecursion, range_with_len, list_all}
-use Rattle.jpeg_bits.specs.Reading.{Outcome, Fault, Malformed, ◌>>=◌}
-use Rattle.jpeg_segments.specs.Frame.{Frame, Component, Factors, IsInRange, frame_of, component_of, ceiling, greatest}
+use Rattle.jpeg_bits.specs.Reading.{Fault, Malformed, ◌>>=◌}
+use Rattle.jpeg_segments.specs.Frame.{Frame, Component, ceiling}
 use Rattle.jpeg_pixels.specs.Zigzag.{coefficients_in_block_order, values_in_block_order}
 use Rattle.jpeg_pixels.specs.Pictures.{Source, sources_of, image_of}
 use Rattle.jpeg_decoder.proofs.ScaledSizes.{reaches-made, scale-made, one-made}
@@ -18,21 +17,21 @@ use Rattle.jpeg_decoder.specs.Order.{grid_of}
 use Rattle.jpeg_decoder.specs.Scans.{Arrays}
 use Rattle.jpeg_pixels.specs.Scaled.{sample_at}
 use Rattle.jpeg_pixels.specs.Planes.{plane_sample, plane_of, cropped}
-use Rattle.jpeg_decoder.specs.Stream.{Found, Metadata, needed, first_of, is_progressive, plane_by, plane_at_end, planes_from, picture_in, picture_by, picture_of, rest_at, meaning, nothing_found, start_at, segments_at}
+use Rattle.jpeg_decoder.specs.Stream.{Found, Metadata, needed, is_progressive, plane_by, plane_at_end, planes_from, picture_in, picture_by, picture_of, rest_at, meaning, nothing_found, start_at, segments_at}
 use Rattle.jpeg_decoder.specs.declared.state.Before.TheVariants.{Elsewhere}
 use Rattle.jpeg_decoder.specs.Levels.{Levels, Is8Bit, cut}
 use Rattle.jpeg_decoder.proofs.FinishedPlaces.{is_level_0}
-use Rattle.jpeg_decoder.specs.WrittenScans.{Coefficients, IsOwn, HasTable, IsComplete}
+use Rattle.jpeg_decoder.specs.WrittenScans.{Coefficients, HasTable, IsComplete}
 use Rattle.jpeg_decoder.specs.ArrayPictures.{HasTransform, Takes, plane_of_array, planes_of_array, picture_of_array}
 use Rattle.jpeg_decoder.specs.Stream.{told_of}
 use Rattle.jpeg_decoder.proofs.AcceptedStreams.{WritesStream}
 use Rattle.jpeg_decoder.proofs.OwnSpots.{At, at-within, Fits, in-below}
 use Rattle.jpeg_decoder.proofs.WrittenFrameScans.{HoldsOwn, in-all, at-all}
-use Rattle.jpeg_decoder.proofs.ReadStates.{reading, is_whole, HasPlane, Marked}
+use Rattle.jpeg_decoder.proofs.ReadStates.{reading, is_whole}
 use Rattle.jpeg_decoder.proofs.BroughtLevels.{Made, Shaped, Framed, held-arrays}
-use Rattle.jpeg_decoder.proofs.AcceptedTurns.{then-ok, bind-ok, ok-same}
-use Rattle.jpeg_decoder.proofs.FrameShapes.{below-ceiling, ceiling-covers, all-shaped, accepted-sources}
-use Rattle.jpeg_decoder.proofs.ReadStreams.{ReadTo, ReadWhole, ReadStream, stream-read}
+use Rattle.jpeg_decoder.proofs.AcceptedTurns.{then-ok}
+use Rattle.jpeg_decoder.proofs.FrameShapes.{below-ceiling, all-shaped, accepted-sources}
+use Rattle.jpeg_decoder.proofs.ReadStreams.{stream-read}
 use Rattle.jpeg_decoder.proofs.InsidePictures.{SamePlane, AllAlike, image-same, cropped-same}
 
 -- ---- one plane

@@ -39,9 +39,9 @@ unfoldable pub picture_of_array :
 picture_of_array settings w array levels = do
   f ← needed w.frame
   if nat_lt settings.limit (length f.components * (f.output_width * f.output_height))
-    then Err Malformed else (do
-    planes ← planes_of_array w array levels 0 f.components
-    picture_by settings w.metadata f f.components planes)
+      then Err Malformed else (do
+        planes ← planes_of_array w array levels 0 f.components
+        picture_by settings w.metadata f f.components planes)
 
 -- The meaning of a stream that says this and sends these levels: what is told, the picture, and the
 -- bytes after the image.
@@ -59,7 +59,7 @@ HasTransform settings w (c ∷ []) = Unit {0}
 HasTransform settings w (c ∷ d ∷ more) =
     let components = c ∷ d ∷ more in
     let transform = transform_of settings.color_transform (identifiers_of components)
-        w.metadata.jfif w.metadata.adobe in
+    w.metadata.jfif w.metadata.adobe in
     (convert : ColorConvert) × (conversion_of (length components) transform ≡ Ok convert)
 
 -- The settings take the picture of the frame that was said: its bytes are within the limit, and its

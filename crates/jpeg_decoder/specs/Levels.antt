@@ -1,6 +1,6 @@
 -- What successive approximation sends of a block, and which scans may follow (T.81, G.1.1 and
 -- G.1.2). A level is a point transform Al: at level a, the bits above the a lowest are sent.
-use Rattle.std.specs.Prelude.{◌≡◌, ◌≢◌, ℕ, zero, suc, ◌*◌, ◌/◌, ◌^◌, ◌≤◌, ◌==◌, Bool, true, false}
+use Rattle.std.specs.Prelude.{◌≡◌, ◌≢◌, ℕ, suc, ◌/◌, ◌^◌, ◌≤◌, ◌==◌, true, false}
 use Rattle.std.specs.Prelude.{List, [], ◌∷◌, map, length, replicate, Option, Some, None}
 use Rattle.std.specs.Prelude.{ℤ, pos, negsuc, neg_ℤ, ◌*ℤ◌, ◌≤ℤ◌, unsigned_abs}
 use Rattle.std.specs.List.{AllByRecursion}
@@ -8,8 +8,8 @@ use Rattle.jpeg_bits.specs.Passes.{Pass, Block, band_of, with_band}
 
 -- ---- coefficients
 
--- The coefficients of a block of 8-bit samples: 63 beside DC, in zigzag order, and none of magnitude
--- 1024 or more (F.1.2.1.1 and F.1.2.2.1).
+-- The coefficients of a block of 8-bit samples: 63 beside DC, in zigzag order, and none of
+-- magnitude 1024 or more (F.1.2.1.1 and F.1.2.2.1).
 pub record Is8Bit (c : Block) : Type 0 where
   pub count : length c.acs ≡ 63
   pub dc_low : negsuc 1023 ≤ℤ c.dc

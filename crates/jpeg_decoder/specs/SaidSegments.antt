@@ -1,8 +1,8 @@
 -- What is known after a segment that was written.
 use Rattle.std.specs.Prelude.{◌≡◌, Some, Ok}
 use Rattle.jpeg_segments.specs.WrittenSegments.{Application, Comment, frame_written, Header}
-use Rattle.jpeg_segments.specs.WrittenSegments.{Huffman, huffman_tables, Interval, MayStand, Quantization}
-use Rattle.jpeg_segments.specs.WrittenSegments.{quantization_tables, said_by, Segment}
+use Rattle.jpeg_segments.specs.WrittenSegments.{Huffman, huffman_tables, Interval, MayStand}
+use Rattle.jpeg_segments.specs.WrittenSegments.{Quantization, quantization_tables, said_by, Segment}
 use Rattle.jpeg_decoder.specs.Stream.{accepted, Found, updated, with_application, with_huffman}
 
 -- A frame header gives a frame that can be decoded: of 1, 3 or 4 components, with a precision of

@@ -37,9 +37,9 @@ unfoldable pub picture_whole : Settings → Found → Coefficients → Result (L
 picture_whole settings said array = do
   f ← needed said.frame
   if nat_lt settings.limit (length f.components * (f.output_width * f.output_height))
-    then Err Malformed else (do
-    planes ← planes_whole said array 0 f.components
-    picture_by settings said.metadata f f.components planes)
+      then Err Malformed else (do
+        planes ← planes_whole said array 0 f.components
+        picture_by settings said.metadata f f.components planes)
 
 -- The meaning of a stream that says this: what is told, the picture, and the bytes after the image.
 abbrev pub whole_meaning : Settings → Found → Coefficients → List ℕ → Outcome (Told × List ℕ)

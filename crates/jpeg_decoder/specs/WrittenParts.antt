@@ -1,5 +1,5 @@
 -- Streams that are written as far as some segment or scan, and streams that mean one picture.
-use Rattle.std.specs.Prelude.{◌≡◌, ℕ, ◌<◌, Bool, true, false, List, [], ◌∷◌, ◌++◌, drop, map}
+use Rattle.std.specs.Prelude.{◌≡◌, ℕ, ◌<◌, Bool, true, List, [], ◌++◌, drop, map}
 use Rattle.std.specs.Prelude.{Some, None, slice_index_or, Result, Ok}
 use Rattle.std.specs.List.{AllByRecursion}
 use Rattle.jpeg_bits.specs.Reading.{Fault, ◌>>=◌}

@@ -87,8 +87,10 @@ pub fn images_have_pictures()
         (picture : List ℕ)
         × (picture_of_array settings (sized_to width height final) array last ≡ Ok picture)
         × (sized_meaning width height settings (bytes ++ rest)
-        ≡ Ok (record { 0 = record { 0 = told_of (sized_to width height final); 1 = picture };
-        1 = rest })) }
+        ≡ Ok (record {
+          0 = record { 0 = told_of (sized_to width height final); 1 = picture };
+          1 = rest;
+        })) }
 {}
 
 /// A block of which every bit was sent is itself.
