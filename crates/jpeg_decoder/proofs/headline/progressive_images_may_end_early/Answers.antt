@@ -20,4 +20,5 @@ pub returns-clause-pictured : goal.returns-clause-pictured
 returns-clause-pictured c = λ settings array front rest said levels frame range f framed progressive tables.
     let image = 255 ∷ 216 ∷ (front ++ (255 ∷ 217 ∷ [])) in
     stream-means settings array rest (image ++ rest) said levels range
-    (image-accepted array rest image said levels (front-closed array front said levels frame f framed progressive tables))
+    (image-accepted array rest image said levels
+    (front-closed array front said levels frame f framed progressive tables))
