@@ -27,7 +27,7 @@ mcus-several frame (c ∷ d ∷ more) h = refl
 
 -- ---- the blocks of an MCU are held
 
-place-within : (row column v down across mcus_wide mcus_high wide high : ℕ) → row < mcus_high → column < mcus_wide → v < down → wide ≡ mcus_wide * across → high ≡ mcus_high * down
+pub place-within : (row column v down across mcus_wide mcus_high wide high : ℕ) → row < mcus_high → column < mcus_wide → v < down → wide ≡ mcus_wide * across → high ≡ mcus_high * down
     → row * down * wide + column * across + v * wide + across ≤ high * wide
 place-within row column v down across mcus_wide mcus_high wide high r k h e f =
     let a : suc column * across ≤ mcus_wide * across = mul-le-mul_right across (omega arith) in
@@ -39,7 +39,7 @@ place-within row column v down across mcus_wide mcus_high wide high r k h e f =
     let o : suc v * wide ≡ v * wide + wide = suc-mul v wide in
     omega arith
 
-fits-at : (frame : Frame) (cs : List Coded) (slot : ℕ) (c : Coded) → slot < length cs → c ≡ get_or cs slot c → AllByRecursion (Fits frame) (components_in cs) → Fits frame (component_in c.component.now)
+pub fits-at : (frame : Frame) (cs : List Coded) (slot : ℕ) (c : Coded) → slot < length cs → c ≡ get_or cs slot c → AllByRecursion (Fits frame) (components_in cs) → Fits frame (component_in c.component.now)
 fits-at frame [] slot c h e fits = absurd (omega arith)
 fits-at frame (x ∷ cs) zero c h e fits = rw e fits.0
 fits-at frame (x ∷ cs) (suc slot) c h e fits = fits-at frame cs slot c (omega arith) e fits.1
@@ -107,7 +107,7 @@ mcus-alone : (frame : Frame) (c : Component) → mcus_of frame (c ∷ []) ≡ ow
 unfolding mcus_of
 mcus-alone frame c = own-is (grid_of c)
 
-row-within : (row wide count high size all : ℕ) → row < high → count ≤ wide → high ≤ all → size ≡ all * wide → row * wide + count ≤ size
+pub row-within : (row wide count high size all : ℕ) → row < high → count ≤ wide → high ≤ all → size ≡ all * wide → row * wide + count ≤ size
 row-within row wide count high size all r c h e =
     let m : suc row * wide ≤ all * wide = mul-le-mul_right wide (omega arith) in
     let n : suc row * wide ≡ row * wide + wide = suc-mul row wide in

@@ -21,7 +21,7 @@ Held = Vec (List ℤ) Global
 abbrev pub spot : ℕ → ℕ → Spot
 spot slot index = record { slot = slot; index = index }
 
-get-map : {A B : Type 0} (f : A → B) (l : List A) (i : ℕ) (d : A) (e : B) → i < length l → get_or (map f l) i e ≡ f (get_or l i d)
+pub get-map : {A B : Type 0} (f : A → B) (l : List A) (i : ℕ) (d : A) (e : B) → i < length l → get_or (map f l) i e ≡ f (get_or l i d)
 get-map f [] i d e h = absurd (omega arith)
 get-map f (x ∷ l) zero d e h = refl
 get-map f (x ∷ l) (suc i) d e h = get-map f l i d e (omega arith)

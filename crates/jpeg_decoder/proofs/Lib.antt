@@ -31,6 +31,12 @@ pub mod McuParts
 pub mod McuSteps
 pub mod LineSteps
 pub mod Products
+pub mod InPlace
+pub mod StripRows
+pub mod RowBuffers
+pub mod ByStrips
+pub mod StripSteps
+pub mod StripScans
 pub mod FrameScans
 pub mod WrittenMarkers
 pub mod AcceptedStreams
@@ -70,5 +76,8 @@ pub mod ScanCodings
 pub mod TakenBlocks
 pub mod BlocksBefore
 pub mod RenderedPlanes
+pub mod PlacedCodings
 pub mod DecodedImages
 pub mod WrittenParts
+pub mod PutLoops
+pub mod ScanData

@@ -250,7 +250,7 @@ begun-keeps P n old t h = test (nat_lt 0 n && old.left == 0)
     test true = one (restart_from old.number t)
     test false = h
 
-counted-where : {A : Type 0} (P : Arrays → Type 0) (f g : Counted → Reads A) → ((r : Counted) (t : Text) → P r.reached.arrays → f r t ≡ g r t)
+pub counted-where : {A : Type 0} (P : Arrays → Type 0) (f g : Counted → Reads A) → ((r : Counted) (t : Text) → P r.reached.arrays → f r t ≡ g r t)
     → (o : Result (Counted × Text) Fault) → KeepsCounted P o → read_on f o ≡ read_on g o
 counted-where P f g h (Ok r) k = h r.0 r.1 k
 counted-where P f g h (Err e) k = refl
@@ -383,7 +383,7 @@ rows-set rows (c ∷ cs) [] slot y e h = absurd h
 rows-set rows (c ∷ cs) (a ∷ arrays) zero y e h = (e ∙ h.0, h.1)
 rows-set rows (c ∷ cs) (a ∷ arrays) (suc slot) y e h = (h.0, rows-set rows cs arrays slot y e h.1)
 
-rows-kept : (rows : ℕ) (cs : List Component) → IsKept (AreRows rows cs)
+pub rows-kept : (rows : ℕ) (cs : List Component) → IsKept (AreRows rows cs)
 rows-kept rows cs arrays s b h = rows-set rows cs arrays s.slot (set (get_or arrays s.slot []) s.index b) (length-set (get_or arrays s.slot []) s.index b) h
 
 rows-count : (rows : ℕ) (cs : List Component) (arrays : Arrays) → AreRows rows cs arrays → length arrays ≡ length cs
@@ -405,7 +405,7 @@ length-some : (n : ℕ) (b : Block) → length (replicate n b) ≡ n
 length-some zero b = refl
 length-some (suc n) b = ap suc (length-some n b)
 
-zero-rows : (rows : ℕ) (cs : List Component) → AreRows rows cs (zero_rows rows cs)
+pub zero-rows : (rows : ℕ) (cs : List Component) → AreRows rows cs (zero_rows rows cs)
 unfolding AreRows zero_rows
 zero-rows rows [] = tt
 zero-rows rows (c ∷ cs) = (length-some (rows * (c.factors.vertical * c.blocks_wide)) zero_block, zero-rows rows cs)
@@ -414,7 +414,7 @@ length-append_any : (x y : List Block) → length (x ++ y) ≡ length x + length
 length-append_any [] y = omega arith
 length-append_any (a ∷ x) y = let r = length-append_any x y in omega arith
 
-joined-rows : (r : ℕ) (cs : List Component) (front arrays : Arrays) → AreRows r cs front → AreRows 1 cs arrays → AreRows (r + 1) cs (joined front arrays)
+pub joined-rows : (r : ℕ) (cs : List Component) (front arrays : Arrays) → AreRows r cs front → AreRows 1 cs arrays → AreRows (r + 1) cs (joined front arrays)
 unfolding AreRows joined
 joined-rows r [] [] [] h k = tt
 joined-rows r [] [] (b ∷ arrays) h k = absurd k
@@ -584,7 +584,7 @@ rows-in-turn p vias n cs (mcus ∷ rows) row front old t fits h =
     ∙ rows-in-turn p vias n cs rows (row + 1) (joined front r.reached.arrays) r u fits.1 (joined-rows row cs front r.reached.arrays h k))
     o (mcus-any (AreRows 1 cs) (rows-kept 1 cs) p vias n mcus start t sized)
 
-no-blocks : (cs : List Component) → AreRows 0 cs (map (λ c. []) cs)
+pub no-blocks : (cs : List Component) → AreRows 0 cs (map (λ c. []) cs)
 unfolding AreRows
 no-blocks [] = tt
 no-blocks (c ∷ cs) = ((let e : 0 ≡ 0 * row_size c = omega arith in e), no-blocks cs)

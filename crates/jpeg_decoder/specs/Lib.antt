@@ -3,6 +3,7 @@ pub mod Scans
 pub mod Rasters
 pub mod InTurn
 pub mod McuRows
+pub mod Strips
 pub mod Layout
 pub mod Scanning
 pub mod Stream

@@ -121,11 +121,6 @@ unfoldable pub with_planes : Pass → List Coding → List (List ℕ) → Found 
 with_planes p (c ∷ codings) (plane ∷ planes) found = with_planes p codings planes (with_its_plane p c.place plane found)
 with_planes p _ _ found = found
 
--- the planes of some components, of their blocks
-unfoldable pub planes_by : List Coding → Arrays → List (List ℕ)
-planes_by (c ∷ codings) (blocks ∷ arrays) = plane_by c.component c.quantization blocks ∷ planes_by codings arrays
-planes_by _ _ = []
-
 abbrev pub components_of : List Coding → List Component
 components_of codings = map (λ c. c.component) codings
 
@@ -139,13 +134,6 @@ scan_data found frame p codings bytes = do
   r ← arrays_at p (found.restart * mcu_size (components_of codings)) (vias_from 0 codings) (spots_of frame (components_of codings))
       (blocks_at codings (arrays_before found frame)) bytes
   Ok ((with_arrays p codings r.0.0 (record found { scanned = true; held = held_behind found frame codings r.0.0 }), r.0.1), r.1)
-
--- the planes of a scan of a sequential frame, from zeros, and the marker after it, if it is met
-unfoldable pub planes_at : Frame → ℕ → Pass → List Coding → List ℕ → Outcome (List (List ℕ) × Option Marker)
-planes_at frame restart p codings bytes = do
-  r ← arrays_at p (restart * mcu_size (components_of codings)) (vias_from 0 codings) (spots_of frame (components_of codings))
-      (zero_arrays (components_of codings)) bytes
-  Ok ((planes_by codings r.0.0, r.0.1), r.1)
 
 -- the place of a component in its frame
 abbrev pub HasPlace : Coded → Type 0

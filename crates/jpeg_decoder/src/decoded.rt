@@ -12,11 +12,12 @@ ghost use Rattle.jpeg_decoder.specs.Scanning.{arrays_in, blocks_in, components_i
 ghost use Rattle.jpeg_decoder.specs.Scans.{zero_arrays, zero_of};
 ghost use Rattle.jpeg_decoder.specs.Seen.{planes_in};
 ghost use Rattle.jpeg_decoder.specs.Stream.{finished_by, none_finished, plane_by, put_arrays};
-ghost use Rattle.jpeg_decoder.specs.Steps.{blocks_at, coding_in, planes_at, without_blocks};
+ghost use Rattle.jpeg_decoder.specs.Steps.{blocks_at, coding_in, without_blocks};
 ghost use Rattle.jpeg_pixels.specs.Zigzag.{coefficients_in_block_order};
 
 use crate::codings::{Coded, is_progressive};
 use crate::scans::{Scan, read_blocks};
+use crate::sequential::read_planes;
 use crate::state::State;
 use jpeg_bits::blocks::Pass;
 use jpeg_bits::error::Result;
@@ -80,21 +81,6 @@ fn zero_frame(
     let mut arrays = Vec::with_capacity(alloc, frame.components.len())?;
     for component in &frame.components {
         arrays.push(zero_blocks(alloc, component)?)?;
-    }
-    Ok(arrays)
-}
-
-/// The blocks of the components of a scan in which nothing was read yet.
-fn zero_scan(
-    alloc: Global,
-    codings: &[Coded<'_>],
-) -> std::result::Result<Vec<Vec<[i16; 64]>>, AllocError>
-    ensures { IfOk result
-        (λ v. arrays_in v.items ≡ zero_arrays (components_in codings.now)) }
-{
-    let mut arrays = Vec::with_capacity(alloc, codings.len())?;
-    for coded in codings {
-        arrays.push(zero_blocks(alloc, coded.component)?)?;
     }
     Ok(arrays)
 }
@@ -163,36 +149,6 @@ fn take_blocks(
     Ok(taken)
 }
 
-/// Reads a scan of a sequential frame, and returns the planes of its components and the marker after
-/// it, if it was met.
-fn read_planes<R: Read + Drop>(
-    alloc: Global,
-    source: &mut Source<R>,
-    scan: &Scan<'_>,
-    frame: &FrameInfo,
-) -> Result<(Vec<Vec<u8>>, Option<Marker>)>
-    requires pass { IsPass (pass_in scan.now.pass) }
-    requires classes { All HasAc scan.now.components.items }
-    requires some { 1 ≤ length scan.now.components.items }
-    requires few { length scan.now.components.items ≤ 4 }
-    requires scales { All HasCodedScale scan.now.components.items }
-    requires fits { AllByRecursion (Fits (frame_in frame.now)) (components_in scan.now.components.items) }
-    ensures planes { IfOk result (λ r. AreWhole (components_in scan.now.components.items) (map (λ v. v.items) r.0.items)) }
-    ensures count { IfOk result (λ r. length r.0.items ≡ length scan.now.components.items) }
-    ensures reads { Answers (λ r. (map (λ v. v.items) r.0.items, r.1))
-        (planes_at (frame_in frame.now) scan.now.restart_interval (pass_in scan.now.pass) (map coding_in scan.now.components.items))
-        source.old result source.new }
-{
-    let mut arrays = zero_scan(alloc, &scan.components)?;
-    let met = read_blocks(alloc, source, scan, &mut arrays, frame)?;
-    let mut planes = Vec::with_capacity(alloc, scan.components.len())?;
-    for slot in 0..scan.components.len() {
-        let coded = &scan.components[slot];
-        planes.push(render(alloc, coded.component, coded.quantization, &arrays[slot])?)?;
-    }
-    Ok((planes, met))
-}
-
 /// Puts blocks at the places of a scan's components in the frame.
 fn put_blocks(
     alloc: Global,
@@ -221,7 +177,7 @@ impl Decoded {
     ghost use Rattle.jpeg_decoder.specs.Sound.{ArePlanes};
     ghost use Rattle.jpeg_decoder.specs.Scanning.{arrays_in, components_in, sizes_of, HasAc, HasCodedScale};
     ghost use Rattle.jpeg_decoder.specs.Seen.{found_in, planes_in};
-    ghost use Rattle.jpeg_decoder.specs.Steps.{coding_in, HasPlace, IsReadable, is_wanted, marks_after, scan_data, with_decoded, with_its_plane, with_planes, planes_by};
+    ghost use Rattle.jpeg_decoder.specs.Steps.{coding_in, HasPlace, IsReadable, is_wanted, marks_after, scan_data, with_decoded, with_its_plane, with_planes};
     ghost use Rattle.jpeg_decoder.specs.Stream.{Found, arrays_before, is_progressive, none_finished, plane_by, with_arrays};
 
     /// Nothing was read.
@@ -313,21 +269,40 @@ impl Decoded {
         &mut self,
         alloc: Global,
         scan: &Scan<'_>,
-        arrays: &[Vec<[i16; 64]>],
+        arrays: &Vec<Vec<[i16; 64]>>,
     ) -> std::result::Result<(), AllocError>
         requires pass { IsPass (pass_in scan.now.pass) }
         requires places { All HasPlace scan.now.components.items }
         requires scales { All HasCodedScale scan.now.components.items }
-        requires blocks { AreArrays (components_in scan.now.components.items) (arrays_in arrays.now) }
+        requires blocks { AreArrays (components_in scan.now.components.items) (arrays_in arrays.now.items) }
         ensures held { OnOk result (self.new.held ≡ self.old.held) }
         ensures planes { OnOk result ((base : Found) → with_decoded base self.new
-            ≡ with_arrays (pass_in scan.now.pass) (map coding_in scan.now.components.items) (arrays_in arrays.now) (with_decoded base self.old)) }
+            ≡ with_arrays (pass_in scan.now.pass) (map coding_in scan.now.components.items) (arrays_in arrays.now.items) (with_decoded base self.old)) }
     {
         let mut slot = 0;
         while slot < scan.components.len() {
             let coded = &scan.components[slot];
             self.add_blocks(alloc, scan.pass, coded, &arrays[slot])?;
             slot += 1;
+        }
+        Ok(())
+    }
+
+    /// Holds the blocks of a progressive frame's components: before its first scan, zeros.
+    #[tactic(auto, unfolding(crate::specs::Stream::arrays_before))]
+    fn hold(
+        &mut self,
+        alloc: Global,
+        state: &State,
+        frame: &FrameInfo,
+    ) -> std::result::Result<(), AllocError>
+        requires process { is_progressive (frame_in frame.now).process ≡ true }
+        ensures held { OnOk result (arrays_in self.new.held.items ≡ arrays_before (with_decoded (found_in state.now) self.old) (frame_in frame.now)) }
+        ensures finished { self.new.finished ≡ self.old.finished }
+        ensures planes { self.new.planes ≡ self.old.planes }
+    {
+        if !state.scanned {
+            self.held = zero_frame(alloc, frame)?;
         }
         Ok(())
     }
@@ -351,9 +326,7 @@ impl Decoded {
         ensures held { OnOk result (AreArrays (frame_in frame.now).components (arrays_in self.new.held.items)) }
         ensures planes { ArePlanes (frame_in frame.now).components (planes_in self.old.planes) → OnOk result (ArePlanes (frame_in frame.now).components (planes_in self.new.planes)) }
     {
-        if !state.scanned {
-            self.held = zero_frame(alloc, frame)?;
-        }
+        self.hold(alloc, state, frame)?;
         let mut arrays = take_blocks(alloc, &scan.components, &mut self.held)?;
         let met = read_blocks(alloc, source, scan, &mut arrays, frame)?;
         self.add_arrays(alloc, scan, &arrays)?;

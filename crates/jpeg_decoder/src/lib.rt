@@ -19,7 +19,9 @@ mod restarts;
 pub mod run;
 mod scan_segment;
 mod scans;
+mod sequential;
 mod state;
+mod strips;
 pub mod worked;
 
 pub use decoder::{Decoder, ImageInfo, PixelFormat};

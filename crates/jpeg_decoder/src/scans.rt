@@ -3,7 +3,7 @@ ghost use Rattle.std.specs.Prelude.{ℕ, [], ◌∷◌, map, ◌≡◌, ◌≤�
 ghost use Rattle.std.specs.List.{All, AllByRecursion, range_with_len};
 ghost use Rattle.jpeg_bits.specs.Reading.{Answers};
 ghost use Rattle.jpeg_bits.specs.Entropy.{Takes, fresh};
-ghost use Rattle.jpeg_decoder.specs.InTurn.{turn_from, turns_from, begun_from, mcu_from, mcus_from, scan_from, Fits, AreArrays};
+ghost use Rattle.jpeg_decoder.specs.InTurn.{turn_from, turns_from, begun_from, counted_at_start, mcu_from, mcus_from, scan_from, Fits, AreArrays};
 ghost use Rattle.jpeg_decoder.specs.Order.{mcu_spots, spots_of, mcu_size, grid_of};
 ghost use Rattle.jpeg_segments.specs.FrameView.{frame_in};
 ghost use Rattle.jpeg_decoder.specs.Scans.{Arrays, arrays_at};
@@ -35,11 +35,26 @@ pub struct Scan<'a> {
 #[derive(Drop)]
 pub struct Interval {
     alloc: Global,
-    decoder: HuffmanDecoder,
+    pub decoder: HuffmanDecoder,
     predictors: [i16; 4],
     run: u16,
     left: u16,
     number: u8,
+}
+
+/// The start of a scan, where a restart interval has `left` MCUs (0 is none).
+pub fn first_interval(alloc: Global, left: u16) -> Interval
+    ensures decoder { result.decoder ≡ fresh }
+    ensures start { (arrays : Arrays) → counted result arrays ≡ counted_at_start left arrays }
+{
+    Interval {
+        alloc,
+        decoder: HuffmanDecoder::new(alloc),
+        predictors: [0; 4],
+        run: 0,
+        left,
+        number: 0,
+    }
 }
 
 /// Reads the next block, of a component and at an index of its blocks.
@@ -257,7 +272,7 @@ fn read_mcu<R: Read + Drop>(
 
 /// Reads a row of so many MCUs.
 #[tactic(auto, using(crate::proofs::McuSteps::mcus_rules))]
-fn read_row<R: Read + Drop>(
+pub fn read_row<R: Read + Drop>(
     interval: &mut Interval,
     source: &mut Source<R>,
     scan: &Scan<'_>,
@@ -337,14 +352,7 @@ pub fn read_interleaved<R: Read + Drop>(
         (rows_in (components_in scan.now.components.items) wide high) (arrays_in arrays.old.items))
         source.old result source.new }
 {
-    let mut interval = Interval {
-        alloc,
-        decoder: HuffmanDecoder::new(alloc),
-        predictors: [0; 4],
-        run: 0,
-        left: scan.restart_interval,
-        number: 0,
-    };
+    let mut interval = first_interval(alloc, scan.restart_interval);
     read_rows(&mut interval, source, scan, arrays, wide, high)?;
     interval.decoder.take_marker(source)
 }
@@ -412,7 +420,7 @@ fn read_own_row<R: Read + Drop>(
 
 /// Reads the rows of a component's own blocks, where it is alone in a scan.
 #[tactic(auto, using(crate::proofs::McuSteps::rows_rules))]
-fn read_own_rows<R: Read + Drop>(
+pub fn read_own_rows<R: Read + Drop>(
     interval: &mut Interval,
     source: &mut Source<R>,
     scan: &Scan<'_>,
@@ -473,14 +481,7 @@ pub fn read_alone<R: Read + Drop>(
         (own_rows grid.wide grid.own_wide grid.own_high) (arrays_in arrays.old.items))
         source.old result source.new }
 {
-    let mut interval = Interval {
-        alloc,
-        decoder: HuffmanDecoder::new(alloc),
-        predictors: [0; 4],
-        run: 0,
-        left: scan.restart_interval,
-        number: 0,
-    };
+    let mut interval = first_interval(alloc, scan.restart_interval);
     read_own_rows(&mut interval, source, scan, arrays, grid)?;
     interval.decoder.take_marker(source)
 }

@@ -1,0 +1,19 @@
+use Rattle.std.proofs.Common.{◌≡◌, ◌∙◌, ap, set, get_or, length, replicate, [], sym, List, ℤ, pos, refl, arith}
+use Rattle.std.proofs.lemmas.List.{length-replicate, get_or-replicate}
+use Rattle.jpeg_decoder.proofs.InPlace.{patched-next, patched-all}
+use Rattle.jpeg_decoder.proofs.strips.clear_blocks.Goals as goal
+
+pub loop-block-preserved : goal.loop-block-preserved
+loop-block-preserved c =
+    let old = c.args.blocks.now in
+    let i = c.loop-block.block-index in
+    let zero = replicate 64 (pos 0) in
+    let new = replicate (length old) zero in
+    ap (λ (l : List (List ℤ)). set l i zero) c.loop-block.invariant
+    ∙ patched-next new old i zero [] (length-replicate (length old) zero) c.loop-block-test.true (sym (get_or-replicate (length old) i zero [] c.loop-block-test.true))
+
+pub returns : goal.returns
+returns c =
+    let old = c.args.blocks.now in
+    let zero = replicate 64 (pos 0) in
+    c.loop-block.invariant ∙ patched-all (replicate (length old) zero) old c.loop-block.block-index (length-replicate (length old) zero) (omega arith)
