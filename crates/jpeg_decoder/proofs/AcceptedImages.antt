@@ -1,12 +1,15 @@
 -- What is written by fields is accepted, whatever stands behind it.
-use Rattle.std.proofs.Common.{◌≡◌, ℕ, ◌≤◌, Bool, true, false, List, [], ◌∷◌, ◌++◌, map, Option, Some, None, Ok, refl, sym, ap, ◌∙◌, subst, append_assoc}
+use Rattle.std.proofs.Common.{◌≡◌, ℕ, ◌≤◌, Bool, true, false, List, [], ◌∷◌, ◌++◌, map, Option, Some, None, Ok, refl}
+use Rattle.std.proofs.Common.{sym, ap, ◌∙◌, subst, append_assoc}
 use Rattle.std.specs.Prelude.{option_map}
 use Rattle.jpeg_bits.specs.Marker.{marker_of}
 use Rattle.jpeg_bits.specs.declared.marker.Marker.{Marker}
 use Rattle.jpeg_bits.specs.declared.marker.Marker.TheVariants.{SOF, EOI, SOS, DQT}
 use Rattle.jpeg_segments.specs.Frame.{Frame}
 use Rattle.jpeg_decoder.specs.WrittenData.{marker}
-use Rattle.jpeg_segments.specs.WrittenSegments.{sized, Segment, Quantization, Huffman, Interval, Application, Comment, Header, FrameHeader, code_of, payload_of, frame_written, quantization_tables, huffman_tables, said_by}
+use Rattle.jpeg_segments.specs.WrittenSegments.{sized, Segment, Quantization, Huffman, Interval, Application, Comment}
+use Rattle.jpeg_segments.specs.WrittenSegments.{Header, FrameHeader, code_of, payload_of, frame_written}
+use Rattle.jpeg_segments.specs.WrittenSegments.{quantization_tables, huffman_tables, said_by}
 use Rattle.jpeg_segments.specs.ScanHeaders.{scan_payload, scan_written}
 use Rattle.jpeg_segments.proofs.Fields.{sized-read, skip-read}
 use Rattle.jpeg_segments.proofs.TableSegments.{dqt-read, dht-read}
@@ -17,7 +20,7 @@ use Rattle.jpeg_decoder.specs.Levels.{Levels, nothing_sent}
 use Rattle.jpeg_decoder.proofs.AcceptedStreams.{IsMarker}
 use Rattle.jpeg_decoder.specs.Stream.{Found, nothing_found, pass_of}
 use Rattle.jpeg_decoder.proofs.AcceptedStreams as streams
-use Rattle.jpeg_decoder.specs.WrittenScans.{Coefficients, WritesScan, levels_after}
+use Rattle.jpeg_decoder.specs.WrittenScans.{Coefficients, levels_after}
 use Rattle.jpeg_decoder.proofs.AcceptedStreams.{WritesScans, WritesHead, WritesStream, comment_at}
 use Rattle.jpeg_decoder.proofs.AcceptedStreams.WritesStream.{stream}
 use Rattle.jpeg_decoder.specs.SaidSegments.{Stands, found_behind}
@@ -42,16 +45,24 @@ abbrev pub IsOther : Segment → Type 0
 IsOther (Header number h) = ⊥
 IsOther _ = Unit {0}
 
-accepted : (said : Found) (s : Segment) → Stands said s → IsOther s → streams.WritesSegment said (marker_for s) (sized (payload_of s)) (found_behind said s)
-accepted said (Quantization ts) may other = streams.WritesSegment.quantization said (sized (payload_of (Quantization ts))) (quantization_tables ts) (record { accepted = λ rest. dqt-read ts rest may.0 })
+accepted : (said : Found) (s : Segment) → Stands said s → IsOther s
+    → streams.WritesSegment said (marker_for s) (sized (payload_of s)) (found_behind said s)
+accepted said (Quantization ts) may other =
+    streams.WritesSegment.quantization said (sized (payload_of (Quantization ts))) (quantization_tables ts)
+    (record { accepted = λ rest. dqt-read ts rest may.0 })
 accepted said (Huffman ts) may other =
-    streams.WritesSegment.huffman said (sized (payload_of (Huffman ts))) (huffman_tables ts) (record { accepted = λ rest. dht-read (option_map (λ (f : Frame). f.is_baseline) said.frame) ts rest may.0 })
-accepted said (Interval n) may other = streams.WritesSegment.restart said (sized (payload_of (Interval n))) n (record { accepted = dri-read n })
-accepted said (Application number payload) may other = streams.WritesSegment.application said number (sized payload) (said_by number payload) (record { accepted = λ rest. app-read number payload rest may.0 })
-accepted said (Comment payload) may other = streams.WritesSegment.comment said (sized payload) (record { accepted = comment-read payload })
+    streams.WritesSegment.huffman said (sized (payload_of (Huffman ts))) (huffman_tables ts)
+    (record { accepted = λ rest. dht-read (option_map (λ (f : Frame). f.is_baseline) said.frame) ts rest may.0 })
+accepted said (Interval n) may other =
+    streams.WritesSegment.restart said (sized (payload_of (Interval n))) n (record { accepted = dri-read n })
+accepted said (Application number payload) may other =
+    streams.WritesSegment.application said number (sized payload) (said_by number payload)
+    (record { accepted = λ rest. app-read number payload rest may.0 })
+accepted said (Comment payload) may other =
+    streams.WritesSegment.comment said (sized payload) (record { accepted = comment-read payload })
 accepted said (Header number h) may other = absurd other
 
-frame-stays : (said : Found) (s : Segment) → IsOther s → (found_behind said s).frame ≡ said.frame
+pub frame-stays : (said : Found) (s : Segment) → IsOther s → (found_behind said s).frame ≡ said.frame
 frame-stays said (Quantization ts) other = refl
 frame-stays said (Huffman ts) other = refl
 frame-stays said (Interval n) other = refl
@@ -68,7 +79,8 @@ not-dqt (Comment payload) h e = cc
 not-dqt (Header number header) h e = h
 
 -- a frame, or none
-pub frame-or : {P : Type 0} (s : Segment) → ((number : ℕ) (h : FrameHeader) → s ≡ Header number h → P) → (IsOther s → P) → P
+pub frame-or : {P : Type 0} (s : Segment) → ((number : ℕ) (h : FrameHeader) → s ≡ Header number h → P)
+    → (IsOther s → P) → P
 frame-or (Quantization ts) f g = g tt
 frame-or (Huffman ts) f g = g tt
 frame-or (Interval n) f g = g tt
@@ -79,8 +91,10 @@ frame-or (Header number h) f g = f number h refl
 some-none : {P : Type 0} (f : Frame) (o : Option Frame) → o ≡ Some f → o ≡ None → P
 some-none f o e g = absurd (let n : ⊥ = cc in n)
 
-pub none-stands : {P : Type 0} (said : Found) (frame : Frame) (number : ℕ) (h : FrameHeader) (s : Segment) → said.frame ≡ Some frame → s ≡ Header number h → Stands said s → P
-none-stands said frame number h s e f may = let here : Stands said (Header number h) = subst (Stands said) f may in some-none frame said.frame e here.0.0
+pub none-stands : {P : Type 0} (said : Found) (frame : Frame) (number : ℕ) (h : FrameHeader) (s : Segment)
+    → said.frame ≡ Some frame → s ≡ Header number h → Stands said s → P
+none-stands said frame number h s e f may = let here : Stands said (Header number h) = subst (Stands said) f may in
+    some-none frame said.frame e here.0.0
 
 pub same-frame : (a b : Frame) (o : Option Frame) → o ≡ Some a → o ≡ Some b → a ≡ b
 same-frame a b o e f = let s : ◌≡◌ {A = Option Frame} (Some a) (Some b) = sym e ∙ f in cc
@@ -88,20 +102,28 @@ same-frame a b o e f = let s : ◌≡◌ {A = Option Frame} (Some a) (Some b) = 
 -- ---- behind the frame
 
 -- a marker and what is written behind it, and the bytes behind the end of the image
-segment-tail : (fill code : ℕ) (bytes more tail : List ℕ) → marker fill code (bytes ++ more) ++ tail ≡ marker fill code (bytes ++ (more ++ tail))
-segment-tail fill code bytes more tail = marker-append fill code (bytes ++ more) tail ∙ ap (marker fill code) (append_assoc bytes more tail)
+pub segment-tail : (fill code : ℕ) (bytes more tail : List ℕ)
+    → marker fill code (bytes ++ more) ++ tail ≡ marker fill code (bytes ++ (more ++ tail))
+segment-tail fill code bytes more tail = marker-append fill code (bytes ++ more) tail
+    ∙ ap (marker fill code) (append_assoc bytes more tail)
 
-scan-tail : (fill code : ℕ) (header bytes more tail : List ℕ) → marker fill code (header ++ (bytes ++ more)) ++ tail ≡ marker fill code (header ++ (bytes ++ (more ++ tail)))
+pub scan-tail : (fill code : ℕ) (header bytes more tail : List ℕ)
+    → marker fill code (header ++ (bytes ++ more)) ++ tail ≡ marker fill code (header ++ (bytes ++ (more ++ tail)))
 scan-tail fill code header bytes more tail =
-    segment-tail fill code header (bytes ++ more) tail ∙ ap (λ (l : List ℕ). marker fill code (header ++ l)) (append_assoc bytes more tail)
+    segment-tail fill code header (bytes ++ more) tail
+    ∙ ap (λ (l : List ℕ). marker fill code (header ++ l)) (append_assoc bytes more tail)
 
-abbrev Scans : Coefficients → Frame → List ℕ → Found → (ℕ → Levels) → Bool → Found → (ℕ → Levels) → Marker → List ℕ → Type 0
-Scans array frame tail said levels scanned final last m bytes = WritesScans array frame tail said levels scanned m bytes final last
+abbrev Scans : Coefficients → Frame → List ℕ → Found → (ℕ → Levels) → Bool → Found → (ℕ → Levels) → Marker → List ℕ
+    → Type 0
+Scans array frame tail said levels scanned final last m bytes =
+    WritesScans array frame tail said levels scanned m bytes final last
 
-scans-begin : (array : Coefficients) (tail : List ℕ) (frame : Frame) (said final : Found) (levels last : ℕ → Levels) (scanned : Bool) (bytes : List ℕ) → Writes array said levels scanned bytes final last
+scans-begin : (array : Coefficients) (tail : List ℕ) (frame : Frame) (said final : Found) (levels last : ℕ → Levels)
+    (scanned : Bool) (bytes : List ℕ) → Writes array said levels scanned bytes final last
     → said.frame ≡ Some frame → Begins (Scans array frame tail said levels scanned final last) (bytes ++ tail)
 unfolding marker_of
-scans-begin array tail frame said final levels last scanned bytes (closed said' levels' f fill framed tables complete) e =
+scans-begin array tail frame said final levels last scanned bytes
+    (closed said' levels' f fill framed tables complete) e =
     let same = same-frame f frame said.frame framed e in
     record {
       fill = fill;
@@ -110,11 +132,14 @@ scans-begin array tail frame said final levels last scanned bytes (closed said' 
       behind = tail;
       is = marker-append fill 217 [] tail;
       makes = record { is = refl };
-      rest = subst (λ (x : Frame). WritesScans array x tail said levels true EOI tail said levels) same (streams.WritesScans.closed said levels tables complete);
+      rest = subst (λ (x : Frame). WritesScans array x tail said levels true EOI tail said levels) same
+          (streams.WritesScans.closed said levels tables complete);
     }
-scans-begin array tail frame said final levels last scanned bytes (segment said' final' levels' last' scanned' fill s more may dct follows w) e =
+scans-begin array tail frame said final levels last scanned bytes
+    (segment said' final' levels' last' scanned' fill s more may dct follows w) e =
     frame-or s (λ number h f. none-stands said frame number h s e f may) (λ other.
-    let b = scans-begin array tail frame (found_behind said s) final levels last scanned more w (frame-stays said s other ∙ e) in
+    let b = scans-begin array tail frame (found_behind said s) final levels last scanned more w
+    (frame-stays said s other ∙ e) in
     record {
       fill = fill;
       code = code_of s;
@@ -122,13 +147,17 @@ scans-begin array tail frame said final levels last scanned bytes (segment said'
       behind = sized (payload_of s) ++ (more ++ tail);
       is = segment-tail fill (code_of s) (sized (payload_of s)) more tail;
       makes = record { is = segment-marker said.frame s may.0 };
-      rest = subst (λ (l : List ℕ). WritesScans array frame tail said levels scanned (marker_for s) (sized (payload_of s) ++ l) final last) (sym b.is)
-          (streams.WritesScans.segment said (found_behind said s) final levels last scanned (marker_for s) b.m b.fill b.code (sized (payload_of s)) b.behind
+      rest = subst (λ (l : List ℕ). WritesScans array frame tail said levels scanned (marker_for s)
+          (sized (payload_of s) ++ l) final last) (sym b.is)
+          (streams.WritesScans.segment said (found_behind said s) final levels last scanned
+          (marker_for s) b.m b.fill b.code (sized (payload_of s)) b.behind
           (accepted said s may other) (λ g. not-dqt s (follows g)) b.makes b.rest);
     })
-scans-begin array tail frame said final levels last scanned bytes (scan said' final' levels' last' scanned' f fill h codings data_bytes more framed is legal written w) e =
+scans-begin array tail frame said final levels last scanned bytes
+    (scan said' final' levels' last' scanned' f fill h codings data_bytes more framed is legal written w) e =
     let p = pass_of (scan_written f h) in
-    let b = scans-begin array tail f said final (levels_after p (map (λ c. c.place) codings) levels) last true more w framed in
+    let b = scans-begin array tail f said final
+    (levels_after p (map (λ c. c.place) codings) levels) last true more w framed in
     let same = same-frame f frame said.frame framed e in
     record {
       fill = fill;
@@ -137,9 +166,12 @@ scans-begin array tail frame said final levels last scanned bytes (scan said' fi
       behind = sized (scan_payload h) ++ (data_bytes ++ (more ++ tail));
       is = scan-tail fill 218 (sized (scan_payload h)) data_bytes more tail;
       makes = record { is = refl };
-      rest = subst (λ (x : Frame). WritesScans array x tail said levels scanned SOS (sized (scan_payload h) ++ (data_bytes ++ (more ++ tail))) final last) same
-          (subst (λ (l : List ℕ). WritesScans array f tail said levels scanned SOS (sized (scan_payload h) ++ (data_bytes ++ l)) final last) (sym b.is)
-          (streams.WritesScans.scan said final levels last scanned b.m b.fill b.code (sized (scan_payload h)) data_bytes b.behind (scan_written f h) codings
+      rest = subst (λ (x : Frame). WritesScans array x tail said levels scanned SOS
+          (sized (scan_payload h) ++ (data_bytes ++ (more ++ tail))) final last) same
+          (subst (λ (l : List ℕ). WritesScans array f tail said levels scanned SOS
+          (sized (scan_payload h) ++ (data_bytes ++ l)) final last) (sym b.is)
+          (streams.WritesScans.scan said final levels last scanned b.m b.fill b.code
+          (sized (scan_payload h)) data_bytes b.behind (scan_written f h) codings
           (record { accepted = λ rest. sos-read f h rest is }) legal written b.makes b.rest));
     }
 
@@ -148,29 +180,40 @@ scans-begin array tail frame said final levels last scanned bytes (scan said' fi
 abbrev Head : Coefficients → List ℕ → Found → Found → (ℕ → Levels) → Marker → List ℕ → Type 0
 Head array tail said final last m bytes = WritesHead array tail said m bytes final last
 
-frame-begins : (array : Coefficients) (tail : List ℕ) (said final : Found) (last : ℕ → Levels) (number : ℕ) (h : FrameHeader) (more : List ℕ) → Stands said (Header number h) → number ≤ 2
-    → Begins (Scans array (frame_written number h) tail (found_behind said (Header number h)) (λ k. nothing_sent) false final last) more
+frame-begins : (array : Coefficients) (tail : List ℕ) (said final : Found) (last : ℕ → Levels) (number : ℕ)
+    (h : FrameHeader) (more : List ℕ) → Stands said (Header number h) → number ≤ 2
+    → Begins (Scans array (frame_written number h) tail (found_behind said (Header number h))
+    (λ k. nothing_sent) false final last) more
     → WritesHead array tail said (SOF number) (sized (payload_of (Header number h)) ++ more) final last
 frame-begins array tail said final last number h more may dct b =
-    subst (λ (l : List ℕ). WritesHead array tail said (SOF number) (sized (payload_of (Header number h)) ++ l) final last) (sym b.is)
-    (streams.WritesHead.frame said final last b.m number b.fill b.code (sized (payload_of (Header number h))) b.behind (frame_written number h)
+    subst (λ (l : List ℕ). WritesHead array tail said (SOF number)
+    (sized (payload_of (Header number h)) ++ l) final last) (sym b.is)
+    (streams.WritesHead.frame said final last b.m number b.fill b.code (sized (payload_of (Header number h))) b.behind
+    (frame_written number h)
     dct (record { accepted = λ rest. sof-read number h rest may.0.1 }) may.1 b.makes b.rest)
 
-frame-head : (array : Coefficients) (tail : List ℕ) (said final : Found) (last : ℕ → Levels) (s : Segment) (number : ℕ) (h : FrameHeader) (more : List ℕ) → s ≡ Header number h → Stands said s → IsDct s
+frame-head : (array : Coefficients) (tail : List ℕ) (said final : Found) (last : ℕ → Levels) (s : Segment)
+    (number : ℕ) (h : FrameHeader) (more : List ℕ) → s ≡ Header number h → Stands said s → IsDct s
     → Begins (Scans array (frame_written number h) tail (found_behind said s) (λ k. nothing_sent) false final last) more
     → WritesHead array tail said (marker_for s) (sized (payload_of s) ++ more) final last
 frame-head array tail said final last s number h more e may dct b =
     subst (λ (x : Segment). WritesHead array tail said (marker_for x) (sized (payload_of x) ++ more) final last) (sym e)
     (frame-begins array tail said final last number h more (subst (Stands said) e may) (subst IsDct e dct)
-    (subst (λ (x : Segment). Begins (Scans array (frame_written number h) tail (found_behind said x) (λ k. nothing_sent) false final last) more) e b))
+    (subst (λ (x : Segment). Begins
+    (Scans array (frame_written number h) tail (found_behind said x) (λ k. nothing_sent) false final last) more) e b))
 
-framed-behind : (said : Found) (s : Segment) (number : ℕ) (h : FrameHeader) → s ≡ Header number h → (found_behind said s).frame ≡ Some (frame_written number h)
+framed-behind : (said : Found) (s : Segment) (number : ℕ) (h : FrameHeader) → s ≡ Header number h
+    → (found_behind said s).frame ≡ Some (frame_written number h)
 framed-behind said s number h e = ap (λ (x : Segment). (found_behind said x).frame) e
 
-head-begins : (array : Coefficients) (tail : List ℕ) (said final : Found) (levels last : ℕ → Levels) (scanned : Bool) (bytes : List ℕ) → Writes array said levels scanned bytes final last
-    → said.frame ≡ None → ◌≡◌ {A = ℕ → Levels} levels (λ k. nothing_sent) → scanned ≡ false → Begins (Head array tail said final last) (bytes ++ tail)
-head-begins array tail said final levels last scanned bytes (closed said' levels' f fill framed tables complete) e fresh none = some-none f said.frame framed e
-head-begins array tail said final levels last scanned bytes (segment said' final' levels' last' scanned' fill s more may dct follows w) e fresh none =
+head-begins : (array : Coefficients) (tail : List ℕ) (said final : Found) (levels last : ℕ → Levels) (scanned : Bool)
+    (bytes : List ℕ) → Writes array said levels scanned bytes final last
+    → said.frame ≡ None → ◌≡◌ {A = ℕ → Levels} levels (λ k. nothing_sent) → scanned ≡ false
+    → Begins (Head array tail said final last) (bytes ++ tail)
+head-begins array tail said final levels last scanned bytes
+    (closed said' levels' f fill framed tables complete) e fresh none = some-none f said.frame framed e
+head-begins array tail said final levels last scanned bytes
+    (segment said' final' levels' last' scanned' fill s more may dct follows w) e fresh none =
     record {
       fill = fill;
       code = code_of s;
@@ -180,21 +223,30 @@ head-begins array tail said final levels last scanned bytes (segment said' final
       makes = record { is = segment-marker said.frame s may.0 };
       rest = frame-or s
           (λ number h f. frame-head array tail said final last s number h (more ++ tail) f may dct
-          (scans-begin array tail (frame_written number h) (found_behind said s) final (λ k. nothing_sent) last false more
+          (scans-begin array tail (frame_written number h) (found_behind said s) final
+          (λ k. nothing_sent) last false more
           (subst (λ (x : Bool). Writes array (found_behind said s) (λ k. nothing_sent) x more final last) none
           (subst (λ (l : ℕ → Levels). Writes array (found_behind said s) l scanned more final last) fresh w))
           (framed-behind said s number h f)))
           (λ other.
-          let b = head-begins array tail (found_behind said s) final levels last scanned more w (frame-stays said s other ∙ e) fresh none in
-          subst (λ (l : List ℕ). WritesHead array tail said (marker_for s) (sized (payload_of s) ++ l) final last) (sym b.is)
-          (streams.WritesHead.before said (found_behind said s) final last (marker_for s) b.m b.fill b.code (sized (payload_of s)) b.behind (accepted said s may other) b.makes b.rest));
+          let b = head-begins array tail (found_behind said s) final levels last scanned more w
+          (frame-stays said s other ∙ e) fresh none in
+          subst (λ (l : List ℕ). WritesHead array tail said (marker_for s) (sized (payload_of s) ++ l) final last)
+          (sym b.is)
+          (streams.WritesHead.before said (found_behind said s) final last (marker_for s) b.m b.fill b.code
+          (sized (payload_of s)) b.behind (accepted said s may other) b.makes b.rest));
     }
-head-begins array tail said final levels last scanned bytes (scan said' final' levels' last' scanned' f fill h codings data_bytes more framed is legal written w) e fresh none = some-none f said.frame framed e
+head-begins array tail said final levels last scanned bytes
+    (scan said' final' levels' last' scanned' f fill h codings data_bytes more framed is legal written w) e fresh
+    none = some-none f said.frame framed e
 
 -- A stream that is written by fields is one that is accepted, whatever stands behind it.
-pub image-accepted : (array : Coefficients) (tail bytes : List ℕ) (final : Found) (last : ℕ → Levels) → WritesImage array bytes final last → WritesStream array tail (bytes ++ tail) final last
+pub image-accepted : (array : Coefficients) (tail bytes : List ℕ) (final : Found) (last : ℕ → Levels)
+    → WritesImage array bytes final last → WritesStream array tail (bytes ++ tail) final last
 unfolding nothing_found
 image-accepted array tail bytes final last w =
-    let b = head-begins array tail nothing_found final (λ k. nothing_sent) last false w.behind w.written refl refl refl in
-    subst (λ (l : List ℕ). WritesStream array tail l final last) (sym (ap (λ (l : List ℕ). l ++ tail) w.starts ∙ ap (λ (l : List ℕ). 255 ∷ 216 ∷ l) b.is))
+    let b = head-begins array tail nothing_found final
+    (λ k. nothing_sent) last false w.behind w.written refl refl refl in
+    subst (λ (l : List ℕ). WritesStream array tail l final last)
+    (sym (ap (λ (l : List ℕ). l ++ tail) w.starts ∙ ap (λ (l : List ℕ). 255 ∷ 216 ∷ l) b.is))
     (stream b.m b.fill b.code b.behind final last b.makes b.rest)

@@ -1,5 +1,6 @@
 -- The spots of a scan are apart, and inside the arrays of its components.
-use Rattle.std.proofs.Common.{◌≡◌, ◌⊎◌, inl, inr, ℕ, zero, suc, ◌+◌, ◌*◌, ◌/◌, ◌%◌, ◌<◌, ◌≤◌, List, [], ◌∷◌, ◌++◌, map, length, get_or, replicate, refl, sym, ap, ◌∙◌, subst, arith}
+use Rattle.std.proofs.Common.{◌≡◌, ◌⊎◌, inl, inr, ℕ, zero, suc, ◌+◌, ◌*◌, ◌/◌, ◌%◌, ◌<◌, ◌≤◌, List, [], ◌∷◌, ◌++◌}
+use Rattle.std.proofs.Common.{map, length, get_or, replicate, refl, sym, ap, ◌∙◌, subst, arith}
 use Rattle.std.proofs.Math.Nat.{div-lt_iff_lt-mul}
 use Rattle.std.proofs.lemmas.Nat.{div-mul-add, mod-mul-add}
 use Rattle.std.specs.List.{AllByRecursion, range_with_len, flat_map}
@@ -21,7 +22,8 @@ in-either x (y ∷ xs) ys (inr t) = go (in-either x xs ys t)
     go (inl a) = inl (inr a)
     go (inr b) = inr b
 
-pub apart-append : {A : Type 0} (xs ys : List A) → AreApart xs → AreApart ys → ((x : A) → IsIn x xs → IsIn x ys → ⊥) → AreApart (xs ++ ys)
+pub apart-append : {A : Type 0} (xs ys : List A) → AreApart xs → AreApart ys → ((x : A) → IsIn x xs → IsIn x ys → ⊥)
+    → AreApart (xs ++ ys)
 apart-append [] ys a b n = b
 apart-append (x ∷ xs) ys a b n =
     ((λ h. go (in-either x xs ys h)), apart-append xs ys a.1 b (λ z h k. n z (inr h) k))
@@ -41,11 +43,14 @@ pub record GivesAt {A : Type 0} (f : ℕ → List A) (a n : ℕ) (x : A) : Type 
   pub between : Between a n at
   pub gives : IsIn x (f at)
 
-pub in-flat-back : {A : Type 0} (f : ℕ → List A) (x : A) (a n : ℕ) → IsIn x (flat_map f (range_with_len a n)) → GivesAt f a n x
+pub in-flat-back : {A : Type 0} (f : ℕ → List A) (x : A) (a n : ℕ) → IsIn x (flat_map f (range_with_len a n))
+    → GivesAt f a n x
 in-flat-back f x a zero h = absurd h
-in-flat-back {A} f x a (suc n) h = go (λ t. in-flat-back f x (a + 1) n t) (in-either x (f a) (flat_map f (range_with_len (a + 1) n)) h)
+in-flat-back {A} f x a (suc n) h =
+    go (λ t. in-flat-back f x (a + 1) n t) (in-either x (f a) (flat_map f (range_with_len (a + 1) n)) h)
   where
-    go : (IsIn x (flat_map f (range_with_len (a + 1) n)) → GivesAt f (a + 1) n x) → IsIn x (f a) ⊎ IsIn x (flat_map f (range_with_len (a + 1) n)) → GivesAt f a (suc n) x
+    go : (IsIn x (flat_map f (range_with_len (a + 1) n)) → GivesAt f (a + 1) n x)
+        → IsIn x (f a) ⊎ IsIn x (flat_map f (range_with_len (a + 1) n)) → GivesAt f a (suc n) x
     go rec (inl g) = record { at = a; between = record { low = omega arith; high = omega arith }; gives = g }
     go rec (inr t) = let r = rec t in let l = r.between.low in let h = r.between.high in
         record { at = r.at; between = record { low = omega arith; high = omega arith }; gives = r.gives }
@@ -57,8 +62,10 @@ pub record EqualAt {A : Type 0} (f : ℕ → A) (a n : ℕ) (x : A) : Type 0 whe
 
 pub in-line-back : {A : Type 0} (f : ℕ → A) (x : A) (a n : ℕ) → IsIn x (map f (range_with_len a n)) → EqualAt f a n x
 in-line-back f x a zero h = absurd h
-in-line-back f x a (suc n) (inl e) = record { at = a; between = record { low = omega arith; high = omega arith }; equal = e }
-in-line-back f x a (suc n) (inr t) = let r = in-line-back f x (a + 1) n t in let l = r.between.low in let h = r.between.high in
+in-line-back f x a (suc n) (inl e) =
+    record { at = a; between = record { low = omega arith; high = omega arith }; equal = e }
+in-line-back f x a (suc n) (inr t) = let r = in-line-back f x (a + 1) n t in let l = r.between.low in let h =
+    r.between.high in
     record { at = r.at; between = record { low = omega arith; high = omega arith }; equal = r.equal }
 
 -- lists of elements that tell their number
@@ -76,9 +83,11 @@ apart-flat {A} f Tells a (suc n) each tells one =
     wider k b = let l = b.low in let h = b.high in record { low = omega arith; high = omega arith }
 
     other : (x : A) → Tells x a → GivesAt f (a + 1) n x → ⊥
-    other x t g = let e : a ≡ g.at = one x a g.at t (tells g.at x (wider g.at g.between) g.gives) in let l = g.between.low in absurd (omega arith)
+    other x t g = let e : a ≡ g.at = one x a g.at t (tells g.at x (wider g.at g.between) g.gives) in let l =
+        g.between.low in absurd (omega arith)
 
-pub apart-line : {A : Type 0} (f : ℕ → A) (key : A → ℕ) (a n : ℕ) → ((k : ℕ) → Between a n k → key (f k) ≡ k) → AreApart (map f (range_with_len a n))
+pub apart-line : {A : Type 0} (f : ℕ → A) (key : A → ℕ) (a n : ℕ) → ((k : ℕ) → Between a n k → key (f k) ≡ k)
+    → AreApart (map f (range_with_len a n))
 apart-line f key a zero tells = tt
 apart-line {A} f key a (suc n) tells =
     ((λ h. other (in-line-back f (f a) (a + 1) n h)), apart-line f key (a + 1) n (λ k b. tells k (wider k b)))
@@ -87,7 +96,8 @@ apart-line {A} f key a (suc n) tells =
     wider k b = let l = b.low in let h = b.high in record { low = omega arith; high = omega arith }
 
     other : EqualAt f (a + 1) n (f a) → ⊥
-    other g = let e : g.at ≡ a = sym (tells g.at (wider g.at g.between)) ∙ ap key g.equal ∙ tells a (record { low = omega arith; high = omega arith }) in
+    other g = let e : g.at ≡ a = sym (tells g.at (wider g.at g.between)) ∙ ap key g.equal
+        ∙ tells a (record { low = omega arith; high = omega arith }) in
         let l = g.between.low in absurd (omega arith)
 
 -- x stands at place j
@@ -114,20 +124,30 @@ pub record TellsOwn (g : Grid) (row column : ℕ) (s : Spot) : Type 0 where
   pub row_of : s.index / g.wide ≡ row
   pub column_of : s.index % g.wide ≡ column
 
-own-tells : (g : Grid) (row column : ℕ) (s : Spot) → column < g.wide → record { slot = 0; index = row * g.wide + column } ≡ s → TellsOwn g row column s
+own-tells : (g : Grid) (row column : ℕ) (s : Spot) → column < g.wide
+    → record { slot = 0; index = row * g.wide + column } ≡ s → TellsOwn g row column s
 own-tells g row column s lt e =
-    subst (TellsOwn g row column) e (record { slot = refl; row_of = div-mul-add row g.wide column lt; column_of = mod-mul-add row g.wide column lt })
+    subst (TellsOwn g row column) e
+    (record {
+      slot = refl;
+      row_of = div-mul-add row g.wide column lt;
+      column_of =
+          mod-mul-add row g.wide column lt;
+    })
 
 pub own-apart : (g : Grid) → g.own_wide ≤ g.wide → AreApart (own_spots g)
 unfolding own_spots
 own-apart g fits =
     let line : ℕ → ℕ → Spot = λ row column. record { slot = 0; index = row * g.wide + column } in
     apart-flat (λ row. map (line row) (range_with_len 0 g.own_wide)) (λ s row. s.index / g.wide ≡ row) 0 g.own_high
-    (λ row b. apart-line (line row) (λ s. s.index % g.wide) 0 g.own_wide (λ column c. mod-mul-add row g.wide column (let h = c.high in omega arith)))
+    (λ row b. apart-line (line row) (λ s. s.index % g.wide) 0 g.own_wide
+    (λ column c. mod-mul-add row g.wide column (let h = c.high in omega arith)))
     (λ row s b h. told (line row) row s (λ column lt. refl) (in-line-back (line row) s 0 g.own_wide h))
     (λ s k l e f. sym e ∙ f)
   where
-    told : (f : ℕ → Spot) (row : ℕ) (s : Spot) → ((column : ℕ) → column < g.own_wide → f column ≡ record { slot = 0; index = row * g.wide + column }) → EqualAt f 0 g.own_wide s → s.index / g.wide ≡ row
+    told : (f : ℕ → Spot) (row : ℕ) (s : Spot)
+        → ((column : ℕ) → column < g.own_wide → f column ≡ record { slot = 0; index = row * g.wide + column })
+        → EqualAt f 0 g.own_wide s → s.index / g.wide ≡ row
     told f row s is x = let h = x.between.high in
         (own-tells g row x.at s (omega arith) (sym (is x.at (omega arith)) ∙ x.equal)).row_of
 
@@ -141,15 +161,23 @@ pub record Tells (frame : Frame) (c : Component) (slot row column : ℕ) (s : Sp
   pub inside : row < frame.mcus_high → s.index < c.blocks_high * c.blocks_wide
 
 -- a column of an MCU is within the component's blocks
-within : (frame : Frame) (c : Component) (column h : ℕ) → Fits frame c → column < frame.mcus_wide → h < c.factors.horizontal
+within : (frame : Frame) (c : Component) (column h : ℕ) → Fits frame c → column < frame.mcus_wide
+    → h < c.factors.horizontal
     → column * c.factors.horizontal + h < c.blocks_wide
 within frame c column h fits lt l =
-    let d : (column * c.factors.horizontal + h) / c.factors.horizontal ≡ column = div-mul-add column c.factors.horizontal h l in
-    let b : column * c.factors.horizontal + h < frame.mcus_wide * c.factors.horizontal = (div-lt_iff_lt-mul fits.horizontal).0 (omega arith) in
+    let d : (column * c.factors.horizontal + h) / c.factors.horizontal ≡ column =
+    div-mul-add column c.factors.horizontal h l in
+    let b : column * c.factors.horizontal + h < frame.mcus_wide * c.factors.horizontal =
+    (div-lt_iff_lt-mul fits.horizontal).0 (omega arith) in
     let w = fits.wide in omega arith
 
-spot-tells : (frame : Frame) (c : Component) (slot row column v h : ℕ) (s : Spot) → Fits frame c → column < frame.mcus_wide → v < c.factors.vertical → h < c.factors.horizontal
-    → record { slot = slot; index = (row * c.factors.vertical + v) * c.blocks_wide + (column * c.factors.horizontal + h) } ≡ s
+spot-tells : (frame : Frame) (c : Component) (slot row column v h : ℕ) (s : Spot) → Fits frame c
+    → column < frame.mcus_wide → v < c.factors.vertical → h < c.factors.horizontal
+    → record {
+      slot = slot;
+      index =
+          (row * c.factors.vertical + v) * c.blocks_wide + (column * c.factors.horizontal + h);
+    } ≡ s
     → Tells frame c slot row column s
 spot-tells frame c slot row column v h s fits lt vl hl e =
     let vt = c.factors.vertical in
@@ -175,7 +203,12 @@ part-tells : (frame : Frame) (c : Component) (slot row column : ℕ) (s : Spot) 
     → IsIn s (part_spots row column slot c) → Tells frame c slot row column s
 unfolding part_spots
 part-tells frame c slot row column s fits lt h =
-    let at : ℕ → ℕ → Spot = λ v h. record { slot = slot; index = (row * c.factors.vertical + v) * c.blocks_wide + (column * c.factors.horizontal + h) } in
+    let at : ℕ → ℕ → Spot =
+    λ v h. record {
+      slot = slot;
+      index =
+          (row * c.factors.vertical + v) * c.blocks_wide + (column * c.factors.horizontal + h);
+    } in
     let line : ℕ → List Spot = λ v. map (at v) (range_with_len 0 c.factors.horizontal) in
     let g = in-flat-back line s 0 c.factors.vertical h in
     let e = in-line-back (at g.at) s 0 c.factors.horizontal g.gives in
@@ -183,7 +216,8 @@ part-tells frame c slot row column s fits lt h =
     let eh = e.between.high in
     spot-tells frame c slot row column g.at e.at s fits lt (omega arith) (omega arith) e.equal
 
-part-apart : (frame : Frame) (c : Component) (slot row column : ℕ) → Fits frame c → column < frame.mcus_wide → AreApart (part_spots row column slot c)
+part-apart : (frame : Frame) (c : Component) (slot row column : ℕ) → Fits frame c → column < frame.mcus_wide
+    → AreApart (part_spots row column slot c)
 unfolding part_spots
 part-apart frame c slot row column fits lt =
     let vt = c.factors.vertical in
@@ -196,12 +230,14 @@ part-apart frame c slot row column fits lt =
     = λ v h l. mod-mul-add (row * vt + v) w (column * hz + h) (within frame c column h fits lt l) in
     apart-flat (λ v. map (at v) (range_with_len 0 hz)) (λ s v. s.index / w % vt ≡ v) 0 vt
     (λ v b. apart-line (at v) (λ s. s.index % w % hz) 0 hz (λ h k.
-    let l : h < hz = let x = k.high in omega arith in ap (λ (n : ℕ). n % hz) (by-column v h l) ∙ mod-mul-add column hz h l))
+    let l : h < hz = let x = k.high in omega arith in ap (λ (n : ℕ). n % hz) (by-column v h l)
+    ∙ mod-mul-add column hz h l))
     (λ v s b h.
     let e = in-line-back (at v) s 0 hz h in
     let vl : v < vt = let x = b.high in omega arith in
     let hl : e.at < hz = let x = e.between.high in omega arith in
-    subst (λ (r : Spot). r.index / w % vt ≡ v) e.equal (ap (λ (n : ℕ). n % vt) (by-row v e.at hl) ∙ mod-mul-add row vt v vl))
+    subst (λ (r : Spot). r.index / w % vt ≡ v) e.equal
+    (ap (λ (n : ℕ). n % vt) (by-row v e.at hl) ∙ mod-mul-add row vt v vl))
     (λ s k l e f. sym e ∙ f)
 
 -- the component that a spot of an MCU is of
@@ -211,20 +247,24 @@ pub record IsOf (frame : Frame) (components : List Component) (base row column :
   pub here : At place components component
   pub tells : Tells frame component (base + place) row column s
 
-pub mcu-tells : (frame : Frame) (components : List Component) (base row column : ℕ) (s : Spot) → AllByRecursion (Fits frame) components → column < frame.mcus_wide
+pub mcu-tells : (frame : Frame) (components : List Component) (base row column : ℕ) (s : Spot)
+    → AllByRecursion (Fits frame) components → column < frame.mcus_wide
     → IsIn s (mcu_spots row column base components) → IsOf frame components base row column s
 unfolding mcu_spots
 mcu-tells frame [] base row column s fits lt h = absurd h
 mcu-tells frame (c ∷ more) base row column s fits lt h =
-    go (λ t. mcu-tells frame more (base + 1) row column s fits.1 lt t) (in-either s (part_spots row column base c) (mcu_spots row column (base + 1) more) h)
+    go (λ t. mcu-tells frame more (base + 1) row column s fits.1 lt t)
+    (in-either s (part_spots row column base c) (mcu_spots row column (base + 1) more) h)
   where
     go : (IsIn s (mcu_spots row column (base + 1) more) → IsOf frame more (base + 1) row column s)
-        → IsIn s (part_spots row column base c) ⊎ IsIn s (mcu_spots row column (base + 1) more) → IsOf frame (c ∷ more) base row column s
+        → IsIn s (part_spots row column base c) ⊎ IsIn s (mcu_spots row column (base + 1) more)
+        → IsOf frame (c ∷ more) base row column s
     go rec (inl p) = record {
       place = 0;
       component = c;
       here = refl;
-      tells = subst (λ (n : ℕ). Tells frame c n row column s) (omega arith) (part-tells frame c base row column s fits.0 lt p);
+      tells = subst (λ (n : ℕ). Tells frame c n row column s) (omega arith)
+          (part-tells frame c base row column s fits.0 lt p);
     }
     go rec (inr t) = let r = rec t in record {
       place = suc r.place;
@@ -233,14 +273,17 @@ mcu-tells frame (c ∷ more) base row column s fits lt h =
       tells = subst (λ (n : ℕ). Tells frame r.component n row column s) (omega arith) r.tells;
     }
 
-mcu-apart : (frame : Frame) (components : List Component) (base row column : ℕ) → AllByRecursion (Fits frame) components → column < frame.mcus_wide
+mcu-apart : (frame : Frame) (components : List Component) (base row column : ℕ)
+    → AllByRecursion (Fits frame) components → column < frame.mcus_wide
     → AreApart (mcu_spots row column base components)
 unfolding mcu_spots
 mcu-apart frame [] base row column fits lt = tt
 mcu-apart frame (c ∷ more) base row column fits lt =
-    apart-append (part_spots row column base c) (mcu_spots row column (base + 1) more) (part-apart frame c base row column fits.0 lt)
+    apart-append (part_spots row column base c) (mcu_spots row column (base + 1) more)
+    (part-apart frame c base row column fits.0 lt)
     (mcu-apart frame more (base + 1) row column fits.1 lt)
-    (λ s h k. let a = (part-tells frame c base row column s fits.0 lt h).slot_of in let b = (mcu-tells frame more (base + 1) row column s fits.1 lt k).tells.slot_of in absurd (omega arith))
+    (λ s h k. let a = (part-tells frame c base row column s fits.0 lt h).slot_of in let b =
+    (mcu-tells frame more (base + 1) row column s fits.1 lt k).tells.slot_of in absurd (omega arith))
 
 -- what a spot of a row of MCUs tells
 pub record TellsRow (components : List Component) (row : ℕ) (s : Spot) : Type 0 where
@@ -253,7 +296,8 @@ pub record TellsColumn (components : List Component) (column : ℕ) (s : Spot) :
   pub here : At s.slot components component
   pub column_of : s.index % component.blocks_wide / component.factors.horizontal ≡ column
 
-pub placed : (frame : Frame) (components : List Component) (row column : ℕ) (s : Spot) (x : IsOf frame components 0 row column s) → At s.slot components x.component
+pub placed : (frame : Frame) (components : List Component) (row column : ℕ) (s : Spot)
+    (x : IsOf frame components 0 row column s) → At s.slot components x.component
 placed frame components row column s x =
     let e : x.place ≡ s.slot = let t = x.tells.slot_of in omega arith in
     subst (λ (n : ℕ). At n components x.component) e x.here
@@ -263,7 +307,8 @@ one-row components s k l a b =
     let e = at-one s.slot components a.component b.component a.here b.here in
     sym a.row_of ∙ ap (λ (c : Component). s.index / c.blocks_wide / c.factors.vertical) e ∙ b.row_of
 
-one-column : (components : List Component) (s : Spot) (k l : ℕ) → TellsColumn components k s → TellsColumn components l s → k ≡ l
+one-column : (components : List Component) (s : Spot) (k l : ℕ) → TellsColumn components k s
+    → TellsColumn components l s → k ≡ l
 one-column components s k l a b =
     let e = at-one s.slot components a.component b.component a.here b.here in
     sym a.column_of ∙ ap (λ (c : Component). s.index % c.blocks_wide / c.factors.horizontal) e ∙ b.column_of
@@ -274,19 +319,23 @@ unfolding all_spots
 all-apart frame components fits =
     let wide = frame.mcus_wide in
     let mcu : ℕ → ℕ → List Spot = λ row column. mcu_spots row column 0 components in
-    let of : (row column : ℕ) (s : Spot) → Between 0 wide column → IsIn s (mcu row column) → IsOf frame components 0 row column s
+    let of : (row column : ℕ) (s : Spot) → Between 0 wide column → IsIn s (mcu row column)
+    → IsOf frame components 0 row column s
     = λ row column s b h. mcu-tells frame components 0 row column s fits (let x = b.high in omega arith) h in
-    apart-flat (λ row. flat_map (mcu row) (range_with_len 0 wide)) (λ s row. TellsRow components row s) 0 frame.mcus_high
+    apart-flat (λ row. flat_map (mcu row) (range_with_len 0 wide))
+    (λ s row. TellsRow components row s) 0 frame.mcus_high
     (λ row b. apart-flat (mcu row) (λ s column. TellsColumn components column s) 0 wide
     (λ column k. mcu-apart frame components 0 row column fits (let x = k.high in omega arith))
-    (λ column s k h. let x = of row column s k h in record { component = x.component; here = placed frame components row column s x; column_of = x.tells.column_of })
+    (λ column s k h. let x = of row column s k h in
+    record { component = x.component; here = placed frame components row column s x; column_of = x.tells.column_of })
     (λ s k l a b. one-column components s k l a b))
     (λ row s b h. let g = in-flat-back (mcu row) s 0 wide h in let x = of row g.at s g.between g.gives in
     record { component = x.component; here = placed frame components row g.at s x; row_of = x.tells.row_of })
     (λ s k l a b. one-row components s k l a b)
 
 -- The spots of a scan are apart.
-pub spots-apart : (frame : Frame) (components : List Component) → AllByRecursion (Fits frame) components → AreApart (spots_of frame components)
+pub spots-apart : (frame : Frame) (components : List Component) → AllByRecursion (Fits frame) components
+    → AreApart (spots_of frame components)
 unfolding spots_of
 spots-apart frame [] fits = tt
 spots-apart frame (c ∷ []) fits = own-apart (grid_of c) fits.0.own_wide
@@ -294,7 +343,8 @@ spots-apart frame (c ∷ d ∷ more) fits = all-apart frame (c ∷ d ∷ more) f
 
 -- ---- inside
 
-pub sized : (components : List Component) (arrays : Arrays) (j : ℕ) (c : Component) → AreArrays components arrays → At j components c
+pub sized : (components : List Component) (arrays : Arrays) (j : ℕ) (c : Component) → AreArrays components arrays
+    → At j components c
     → (j < length arrays) × (length (get_or arrays j []) ≡ c.blocks_high * c.blocks_wide)
 unfolding AreArrays
 sized [] arrays j c h k = absurd k
@@ -302,7 +352,8 @@ sized (d ∷ more) [] j c h k = absurd h
 sized (d ∷ more) (a ∷ arrays) zero c h k = (omega arith, h.0 ∙ ap (λ (x : Component). x.blocks_high * x.blocks_wide) k)
 sized (d ∷ more) (a ∷ arrays) (suc j) c h k = let r = sized more arrays j c h.1 k in (let l = r.0 in omega arith, r.1)
 
-own-inside : (c : Component) (frame : Frame) (arrays : Arrays) (q : Spot) → Fits frame c → AreArrays (c ∷ []) arrays → IsIn q (own_spots (grid_of c)) → IsInside arrays q
+own-inside : (c : Component) (frame : Frame) (arrays : Arrays) (q : Spot) → Fits frame c → AreArrays (c ∷ []) arrays
+    → IsIn q (own_spots (grid_of c)) → IsInside arrays q
 unfolding own_spots
 own-inside c frame arrays q fits h k =
     let g = grid_of c in
@@ -321,10 +372,12 @@ own-inside c frame arrays q fits h k =
     let z = sized (c ∷ []) arrays 0 c h refl in
     let e : 0 ≡ q.slot = sym t.slot in
     let r : (q.slot < length arrays) × (q.index < length (get_or arrays q.slot []))
-    = subst (λ (n : ℕ). (n < length arrays) × (q.index < length (get_or arrays n []))) e (z.0, (let l = z.1 in omega arith)) in
+    = subst (λ (n : ℕ). (n < length arrays) × (q.index < length (get_or arrays n []))) e
+    (z.0, (let l = z.1 in omega arith)) in
     record { slot = r.0; index = r.1 }
 
-all-inside : (frame : Frame) (components : List Component) (arrays : Arrays) (q : Spot) → AllByRecursion (Fits frame) components → AreArrays components arrays
+all-inside : (frame : Frame) (components : List Component) (arrays : Arrays) (q : Spot)
+    → AllByRecursion (Fits frame) components → AreArrays components arrays
     → IsIn q (all_spots frame.mcus_wide frame.mcus_high components) → IsInside arrays q
 unfolding all_spots
 all-inside frame components arrays q fits h k =
@@ -340,7 +393,8 @@ all-inside frame components arrays q fits h k =
     record { slot = z.0; index = let l = z.1 in omega arith }
 
 -- The spots of a scan are inside the arrays of its components.
-pub spots-inside : (frame : Frame) (components : List Component) (arrays : Arrays) (q : Spot) → AllByRecursion (Fits frame) components → AreArrays components arrays
+pub spots-inside : (frame : Frame) (components : List Component) (arrays : Arrays) (q : Spot)
+    → AllByRecursion (Fits frame) components → AreArrays components arrays
     → IsIn q (spots_of frame components) → IsInside arrays q
 unfolding spots_of
 spots-inside frame [] arrays q fits h k = absurd k

@@ -1,31 +1,34 @@
 -- A written stream is read as the blocks of its array, cut at the levels that were sent.
-use Rattle.std.proofs.Common.{◌≡◌, ◌≢◌, ◌⊎◌, inl, inr, ℕ, zero, suc, ◌+◌, ◌-◌, ◌*◌, ◌/◌, ◌%◌, ◌<◌, ◌≤◌, ◌&&◌, ◌||◌, not, nat_le, ◌==◌, Bool, true, false, cond, List, [], ◌∷◌, ◌++◌, map, length, take, drop, replicate, get_or, slice_index_or, pos, Option, Some, None, Result, Ok, Err, refl, sym, ap, ap₂, ◌∙◌, subst, arith, eqb, leb, true≢false, length-append, length-take, length-drop}
-use Rattle.std.proofs.lemmas.Bool.{eqb-true, eq-eqb, leb-true}
+use Rattle.std.proofs.Common.{◌≡◌, ◌≢◌, ◌⊎◌, inl, inr, ℕ, zero, suc, ◌+◌, ◌-◌, ◌*◌, ◌/◌, ◌%◌, ◌<◌, ◌≤◌, ◌&&◌, ◌||◌}
+use Rattle.std.proofs.Common.{not, nat_le, ◌==◌, Bool, true, false, cond, List, [], ◌∷◌, ◌++◌, length, take, drop}
+use Rattle.std.proofs.Common.{replicate, get_or, Option, Some, None, Ok, refl, sym, ap, ◌∙◌, subst, arith, eqb}
+use Rattle.std.proofs.Common.{true≢false, length-append, length-take, length-drop}
+use Rattle.std.proofs.lemmas.Bool.{eqb-true, eq-eqb}
 use Rattle.std.proofs.lemmas.List.{length-replicate}
 use lib.ListN.{length-map}
 use Rattle.std.specs.List.{AllByRecursion}
 use Rattle.jpeg_bits.specs.Codes.{IsTable}
 use Rattle.jpeg_bits.proofs.Tables.{good-table}
 use Rattle.jpeg_bits.specs.declared.marker.Marker.{Marker}
-use Rattle.jpeg_bits.specs.declared.marker.Marker.TheVariants.{SOF, EOI, SOS}
-use Rattle.jpeg_segments.specs.declared.parser.CodingProcess.{CodingProcess}
-use Rattle.jpeg_segments.specs.declared.parser.CodingProcess.TheVariants.{DctSequential, DctProgressive, Lossless}
+use Rattle.jpeg_segments.specs.declared.parser.CodingProcess.TheVariants.{Lossless}
 use Rattle.jpeg_segments.specs.Frame.{Frame, Component, Factors, IsInRange, frame_of}
-use Rattle.jpeg_segments.specs.ScanHeader.{Scan, IsScanOf, IsCoded, is_band, is_progressive_band, is_sequential_band}
-use Rattle.jpeg_bits.specs.Passes.{Pass, Via, Block, whole_pass, zero_block, band_of, before_band, band_size, with_band}
+use Rattle.jpeg_segments.specs.ScanHeader.{Scan, is_progressive_band}
+use Rattle.jpeg_bits.specs.Passes.{Pass, Block, whole_pass, zero_block, band_of, before_band, band_size}
 use Rattle.jpeg_decoder.specs.Order.{grid_of}
 use Rattle.jpeg_segments.specs.Scales.{frame_at}
 use Rattle.jpeg_decoder.specs.Scans.{Arrays, zero_arrays}
-use Rattle.jpeg_decoder.specs.Stream.{Coding, Found, none_finished, pass_of, is_progressive, arrays_before, held_behind, put_arrays, scan_arrays, behind_scan, with_arrays}
+use Rattle.jpeg_decoder.specs.Stream.{Coding, Found, none_finished, pass_of, is_progressive, arrays_before}
+use Rattle.jpeg_decoder.specs.Stream.{held_behind, put_arrays, scan_arrays, behind_scan, with_arrays}
 use Rattle.jpeg_decoder.specs.Levels.{Levels, Is8Bit, IsLegal, levels_behind, nothing_sent}
 use Rattle.jpeg_decoder.specs.WrittenScans.{Coefficients, levels_of_one, levels_after, IsLegalScan, WritesScan}
 use Rattle.jpeg_decoder.proofs.PutBlocks.{AreApart}
 use Rattle.jpeg_decoder.specs.WrittenData.{marker}
 use Rattle.jpeg_decoder.proofs.AcceptedStreams.{IsMarker}
-use Rattle.jpeg_decoder.proofs.FinishedMarks.{IsBand, marks-start, marks_of}
-use Rattle.jpeg_decoder.proofs.OwnSpots.{At, at-get, at-within, Fits}
-use Rattle.jpeg_decoder.proofs.WrittenFrameScans.{HoldsOwn, HasGood, SlotReady, SpotsSuit, none_read, dc_alone, one_component, ReadsScan, scan-is_read, cut-nothing, at-all, arrays_of}
-use Rattle.jpeg_decoder.proofs.ReadStates.{reading, is_whole, HasPlane, PlaneSo, Marked, CodingDone, AllDone, places_of, Brought, brings, AllHeld, held-behind, one-same, one-other, eqb_cases}
+use Rattle.jpeg_decoder.proofs.FinishedMarks.{IsBand, marks-start}
+use Rattle.jpeg_decoder.proofs.OwnSpots.{At, at-get, Fits}
+use Rattle.jpeg_decoder.proofs.WrittenFrameScans.{HoldsOwn, HasGood, SlotReady, SpotsSuit, none_read, dc_alone}
+use Rattle.jpeg_decoder.proofs.WrittenFrameScans.{one_component, ReadsScan, scan-is_read, cut-nothing, at-all}
+use Rattle.jpeg_decoder.proofs.ReadStates.{reading, Marked, AllDone, places_of, Brought, brings, AllHeld, held-behind}
 use Rattle.jpeg_decoder.proofs.AcceptedTurns.{CodingFacts, codings-facts, codings-read}
 
 -- ---- the frame
@@ -51,7 +54,8 @@ pub record Shaped (f : Frame) : Type 0 where
   pub lossy : f.process ≢ Lossless
 
 -- what is held, finished and decided behind some scans
-pub record Framed (w : Found) (f : Frame) (array : Coefficients) (levels : ℕ → Levels) (sc : Bool) (h : Arrays) (fi : List (List Bool)) (pl : List (Option (List ℕ))) : Type 0 where
+pub record Framed (w : Found) (f : Frame) (array : Coefficients) (levels : ℕ → Levels) (sc : Bool) (h : Arrays)
+    (fi : List (List Bool)) (pl : List (Option (List ℕ))) : Type 0 where
   pub marked : Marked w f array levels fi pl
   pub sized : (k : ℕ) → length (levels k).acs ≡ 63
   pub held : is_progressive f.process ≡ true → AllHeld f array levels (arrays_before (reading w sc h fi pl) f)
@@ -65,27 +69,34 @@ get-same x (suc n) (suc k) = get-same x n k
 get-replicate : (n i : ℕ) → get_or (replicate n zero_block) i zero_block ≡ zero_block
 get-replicate n i = get-same zero_block n i
 
-pub zeros-everywhere : (components : List Component) (place index : ℕ) → get_or (get_or (zero_arrays components) place []) index zero_block ≡ zero_block
+pub zeros-everywhere : (components : List Component) (place index : ℕ)
+    → get_or (get_or (zero_arrays components) place []) index zero_block ≡ zero_block
 unfolding zero_arrays
 zeros-everywhere [] place index = refl
 zeros-everywhere (c ∷ more) zero index = get-replicate (c.blocks_high * c.blocks_wide) index
 zeros-everywhere (c ∷ more) (suc place) index = zeros-everywhere more place index
 
-zero-at : (components : List Component) (k : ℕ) (c : Component) → At k components c → get_or (zero_arrays components) k [] ≡ replicate (c.blocks_high * c.blocks_wide) zero_block
+zero-at : (components : List Component) (k : ℕ) (c : Component) → At k components c
+    → get_or (zero_arrays components) k [] ≡ replicate (c.blocks_high * c.blocks_wide) zero_block
 unfolding zero_arrays
-zero-at components k c h = at-get (λ (x : Component). replicate (x.blocks_high * x.blocks_wide) zero_block) [] k components c h
+zero-at components k c h =
+    at-get (λ (x : Component). replicate (x.blocks_high * x.blocks_wide) zero_block) [] k components c h
 
 zero-count : (components : List Component) → length (zero_arrays components) ≡ length components
 unfolding zero_arrays
 zero-count components = length-map components (λ (c : Component). replicate (c.blocks_high * c.blocks_wide) zero_block)
 
-pub zero-holds : (array : ℕ → ℕ → Block) (c : Component) → ((row column : ℕ) → Is8Bit (array row column)) → HoldsOwn (grid_of c) array nothing_sent (replicate (c.blocks_high * c.blocks_wide) zero_block)
+pub zero-holds : (array : ℕ → ℕ → Block) (c : Component) → ((row column : ℕ) → Is8Bit (array row column))
+    → HoldsOwn (grid_of c) array nothing_sent (replicate (c.blocks_high * c.blocks_wide) zero_block)
 zero-holds array c range = record {
   sized = length-replicate (c.blocks_high * c.blocks_wide) zero_block;
-  each = λ i own. get-replicate (c.blocks_high * c.blocks_wide) i ∙ sym (cut-nothing (array (i / c.blocks_wide) (i % c.blocks_wide)) (range (i / c.blocks_wide) (i % c.blocks_wide)).count);
+  each = λ i own. get-replicate (c.blocks_high * c.blocks_wide) i
+      ∙ sym (cut-nothing (array (i / c.blocks_wide) (i % c.blocks_wide))
+      (range (i / c.blocks_wide) (i % c.blocks_wide)).count);
 }
 
-arrays-fresh : (w : Found) (h : Arrays) (fi : List (List Bool)) (pl : List (Option (List ℕ))) (f : Frame) → arrays_before (reading w false h fi pl) f ≡ zero_arrays f.components
+arrays-fresh : (w : Found) (h : Arrays) (fi : List (List Bool)) (pl : List (Option (List ℕ))) (f : Frame)
+    → arrays_before (reading w false h fi pl) f ≡ zero_arrays f.components
 unfolding arrays_before
 arrays-fresh w h fi pl f = go (is_progressive f.process)
   where
@@ -94,13 +105,15 @@ arrays-fresh w h fi pl f = go (is_progressive f.process)
     go false = refl
 
 get-none : (k : ℕ) (l : List (Option (List ℕ))) → l ≡ replicate 4 None → get_or l k None ≡ None
-get-none k l e = let none : Option (List ℕ) = None in ap (λ (x : List (Option (List ℕ))). get_or x k none) e ∙ get-same none 4 k
+get-none k l e = let none : Option (List ℕ) = None in ap (λ (x : List (Option (List ℕ))). get_or x k none) e
+    ∙ get-same none 4 k
 
 get-unmarked : (k : ℕ) (l : List (List Bool)) → l ≡ replicate 4 none_finished → get_or l k none_finished ≡ none_finished
 get-unmarked k l e = ap (λ (x : List (List Bool)). get_or x k none_finished) e ∙ get-same none_finished 4 k
 
 -- before the first scan
-pub framed-start : (w : Found) (f : Frame) (array : Coefficients) (h : Arrays) (fi : List (List Bool)) (pl : List (Option (List ℕ))) → ((place row column : ℕ) → Is8Bit (array place row column))
+pub framed-start : (w : Found) (f : Frame) (array : Coefficients) (h : Arrays) (fi : List (List Bool))
+    (pl : List (Option (List ℕ))) → ((place row column : ℕ) → Is8Bit (array place row column))
     → fi ≡ replicate 4 none_finished → pl ≡ replicate 4 None → Framed w f array (λ k. nothing_sent) false h fi pl
 framed-start w f array h fi pl range e g = record {
   marked = record {
@@ -113,7 +126,8 @@ framed-start w f array h fi pl range e g = record {
   held = λ d. subst (AllHeld f array (λ k. nothing_sent)) (sym (arrays-fresh w h fi pl f))
       (record {
         count = zero-count f.components;
-        each = λ k c t. subst (HoldsOwn (grid_of c) (array k) nothing_sent) (sym (zero-at f.components k c t)) (zero-holds (array k) c (range k));
+        each = λ k c t. subst (HoldsOwn (grid_of c) (array k) nothing_sent) (sym (zero-at f.components k c t))
+            (zero-holds (array k) c (range k));
       });
   fresh = λ d k n. refl;
 }
@@ -134,37 +148,46 @@ levels-length p l h =
     let rest = length-drop (b + s) ls in
     omega arith
 
-one-length : (p : Pass) (place k : ℕ) (levels : ℕ → Levels) → ((j : ℕ) → length (levels j).acs ≡ 63) → length (levels_of_one p place levels k).acs ≡ 63
+one-length : (p : Pass) (place k : ℕ) (levels : ℕ → Levels) → ((j : ℕ) → length (levels j).acs ≡ 63)
+    → length (levels_of_one p place levels k).acs ≡ 63
 one-length p place k levels h = go (eqb k place) (levels k) (h k)
   where
-    go : (b : Bool) (l : Levels) → length l.acs ≡ 63 → length (elim b as (λ _. Levels) [ true ↦ levels_behind p l | false ↦ l ]).acs ≡ 63
+    go : (b : Bool) (l : Levels) → length l.acs ≡ 63
+        → length (elim b as (λ _. Levels) [ true ↦ levels_behind p l | false ↦ l ]).acs ≡ 63
     go true l e = levels-length p l e
     go false l e = e
 
-pub after-length : (p : Pass) (places : List ℕ) (levels : ℕ → Levels) → ((j : ℕ) → length (levels j).acs ≡ 63) → (k : ℕ) → length (levels_after p places levels k).acs ≡ 63
+pub after-length : (p : Pass) (places : List ℕ) (levels : ℕ → Levels) → ((j : ℕ) → length (levels j).acs ≡ 63)
+    → (k : ℕ) → length (levels_after p places levels k).acs ≡ 63
 unfolding levels_after
 after-length p [] levels h k = h k
-after-length p (q ∷ places) levels h k = after-length p places (levels_of_one p q levels) (λ j. one-length p q j levels h) k
+after-length p (q ∷ places) levels h k =
+    after-length p places (levels_of_one p q levels) (λ j. one-length p q j levels h) k
 
 some-none : (a : ℕ) → ◌≡◌ {A = Option ℕ} (Some a) None → ⊥
 some-none a e = cc
 
 -- a whole pass leaves no component without DC but those that it doesn't have
-one-fresh : (p : Pass) (place k : ℕ) (levels : ℕ → Levels) → p ≡ whole_pass → ((j : ℕ) → (levels j).dc ≡ None → levels j ≡ nothing_sent)
+one-fresh : (p : Pass) (place k : ℕ) (levels : ℕ → Levels) → p ≡ whole_pass
+    → ((j : ℕ) → (levels j).dc ≡ None → levels j ≡ nothing_sent)
     → (levels_of_one p place levels k).dc ≡ None → levels_of_one p place levels k ≡ nothing_sent
 one-fresh p place k levels e h n =
-    subst (λ (q : Pass). (levels_of_one q place levels k).dc ≡ None → levels_of_one q place levels k ≡ nothing_sent) (sym e) (go (eqb k place) (levels k) (h k)) n
+    subst (λ (q : Pass). (levels_of_one q place levels k).dc ≡ None → levels_of_one q place levels k ≡ nothing_sent)
+    (sym e) (go (eqb k place) (levels k) (h k)) n
   where
-    go : (b : Bool) (l : Levels) → (l.dc ≡ None → l ≡ nothing_sent) → (elim b as (λ _. Levels) [ true ↦ levels_behind whole_pass l | false ↦ l ]).dc ≡ None
+    go : (b : Bool) (l : Levels) → (l.dc ≡ None → l ≡ nothing_sent)
+        → (elim b as (λ _. Levels) [ true ↦ levels_behind whole_pass l | false ↦ l ]).dc ≡ None
         → elim b as (λ _. Levels) [ true ↦ levels_behind whole_pass l | false ↦ l ] ≡ nothing_sent
     go true l g m = absurd (some-none 0 m)
     go false l g m = g m
 
-pub after-fresh : (p : Pass) (places : List ℕ) (levels : ℕ → Levels) → p ≡ whole_pass → ((j : ℕ) → (levels j).dc ≡ None → levels j ≡ nothing_sent)
+pub after-fresh : (p : Pass) (places : List ℕ) (levels : ℕ → Levels) → p ≡ whole_pass
+    → ((j : ℕ) → (levels j).dc ≡ None → levels j ≡ nothing_sent)
     → (k : ℕ) → (levels_after p places levels k).dc ≡ None → levels_after p places levels k ≡ nothing_sent
 unfolding levels_after
 after-fresh p [] levels e h k n = h k n
-after-fresh p (q ∷ places) levels e h k n = after-fresh p places (levels_of_one p q levels) e (λ j. one-fresh p q j levels e h) k n
+after-fresh p (q ∷ places) levels e h k n =
+    after-fresh p places (levels_of_one p q levels) e (λ j. one-fresh p q j levels e h) k n
 
 -- ---- passes
 
@@ -189,7 +212,8 @@ pub record IsProgressivePass (s : Scan) : Type 0 where
   pub dc : s.first ≡ 0 → s.behind - 1 ≡ 0
   pub ac : (s.first ≡ 0) ⊎ (length s.components ≡ 1)
 
-pub progressive-pass : (count first last high low : ℕ) → is_progressive_band count first last high low ≡ true → (first ≡ 0 → last ≡ 0) × ((first ≡ 0) ⊎ (count ≡ 1))
+pub progressive-pass : (count first last high low : ℕ) → is_progressive_band count first last high low ≡ true
+    → (first ≡ 0 → last ≡ 0) × ((first ≡ 0) ⊎ (count ≡ 1))
 progressive-pass count first last high low e =
     let a = both (nat_le first last) _ e in
     let b = both (nat_le last 63) _ a.1 in
@@ -208,7 +232,8 @@ progressive-pass count first last high low e =
 -- what the process says of a scan
 pub data PassSo (f : Frame) (s : Scan) : Type 0 where
   sequential : is_progressive f.process ≡ false → pass_of s ≡ whole_pass → PassSo f s
-  progressive : is_progressive f.process ≡ true → (s.first ≡ 0 → s.behind - 1 ≡ 0) → (s.first ≡ 0) ⊎ (length s.components ≡ 1) → s.first < s.behind → s.behind ≤ 64 → PassSo f s
+  progressive : is_progressive f.process ≡ true → (s.first ≡ 0 → s.behind - 1 ≡ 0)
+      → (s.first ≡ 0) ⊎ (length s.components ≡ 1) → s.first < s.behind → s.behind ≤ 64 → PassSo f s
 
 -- what a scan header says
 pub record ScanFacts (f : Frame) (s : Scan) : Type 0 where
@@ -234,16 +259,21 @@ some-first : {A : Type 0} (xs : List A) → 1 ≤ length xs → (x : A) × At 0 
 some-first [] h = absurd (omega arith)
 some-first (x ∷ xs) h = (x, refl)
 
-all-good : (codings : List Coding) → AllByRecursion (λ c. IsTable c.dc × IsTable c.ac) codings → AllByRecursion HasGood codings
+all-good : (codings : List Coding) → AllByRecursion (λ c. IsTable c.dc × IsTable c.ac) codings
+    → AllByRecursion HasGood codings
 all-good [] h = tt
-all-good (k ∷ codings) h =
-    (record { dc = good-table k.dc h.0.0.counted h.0.0.exists; ac = good-table k.ac h.0.1.counted h.0.1.exists }, all-good codings h.1)
+all-good (k ∷ codings) h = (
+  record { dc = good-table k.dc h.0.0.counted h.0.0.exists; ac = good-table k.ac h.0.1.counted h.0.1.exists },
+  all-good codings h.1,
+)
 
-sequential-arrays : (found : Found) (f : Frame) → is_progressive f.process ≡ false → arrays_before found f ≡ zero_arrays f.components
+sequential-arrays : (found : Found) (f : Frame) → is_progressive f.process ≡ false
+    → arrays_before found f ≡ zero_arrays f.components
 unfolding arrays_before
 sequential-arrays found f e = rw (e, arrays_before) refl
 
-pub held-arrays : (w : Found) (h : Arrays) (fi : List (List Bool)) (pl : List (Option (List ℕ))) (f : Frame) → is_progressive f.process ≡ true → arrays_before (reading w true h fi pl) f ≡ h
+pub held-arrays : (w : Found) (h : Arrays) (fi : List (List Bool)) (pl : List (Option (List ℕ))) (f : Frame)
+    → is_progressive f.process ≡ true → arrays_before (reading w true h fi pl) f ≡ h
 unfolding arrays_before
 held-arrays w h fi pl f e = rw (e, arrays_before) refl
 
@@ -251,15 +281,20 @@ held-behind_is : (found : Found) (f : Frame) (codings : List Coding) (arrays : A
     → held_behind found f codings arrays ≡ put_arrays codings arrays (arrays_before found f)
 held-behind_is found f codings arrays e = rw (e, held_behind) refl
 
-behind-is : (w : Found) (sc : Bool) (h : Arrays) (fi : List (List Bool)) (pl : List (Option (List ℕ))) (f : Frame) (s : Scan) (codings : List Coding) (arrays : Arrays)
+behind-is : (w : Found) (sc : Bool) (h : Arrays) (fi : List (List Bool)) (pl : List (Option (List ℕ))) (f : Frame)
+    (s : Scan) (codings : List Coding) (arrays : Arrays)
     → behind_scan (reading w sc h fi pl) f s codings arrays
-    ≡ with_arrays (pass_of s) codings arrays (reading w true (held_behind (reading w sc h fi pl) f codings arrays) fi pl)
+    ≡ with_arrays (pass_of s) codings arrays
+    (reading w true (held_behind (reading w sc h fi pl) f codings arrays) fi pl)
 unfolding behind_scan
 behind-is w sc h fi pl f s codings arrays = refl
 
-all-done : (w : Found) (f : Frame) (p : Pass) (array : Coefficients) (levels : ℕ → Levels) (codings : List Coding) (arrays : Arrays) → length arrays ≡ length codings
-    → ((k : Coding) (j : ℕ) → At j codings k → HoldsOwn (grid_of k.component) (array k.place) (levels_behind p (levels k.place)) (get_or arrays j []))
-    → AllByRecursion (CodingFacts w f) codings → AllByRecursion (λ c. IsLegal p (levels c.place)) codings → ((k : ℕ) → length (levels k).acs ≡ 63)
+all-done : (w : Found) (f : Frame) (p : Pass) (array : Coefficients) (levels : ℕ → Levels) (codings : List Coding)
+    (arrays : Arrays) → length arrays ≡ length codings
+    → ((k : Coding) (j : ℕ) → At j codings k
+    → HoldsOwn (grid_of k.component) (array k.place) (levels_behind p (levels k.place)) (get_or arrays j []))
+    → AllByRecursion (CodingFacts w f) codings → AllByRecursion (λ c. IsLegal p (levels c.place)) codings
+    → ((k : ℕ) → length (levels k).acs ≡ 63)
     → AllDone w f p array levels codings arrays
 all-done w f p array levels [] [] n holds facts legal sized = tt
 all-done w f p array levels [] (b ∷ arrays) n holds facts legal sized = absurd (omega arith)
@@ -270,35 +305,52 @@ all-done w f p array levels (k ∷ codings) (b ∷ arrays) n holds facts legal s
 )
 
 -- the components of the scan are ready, where their blocks are held
-all-ready : (w : Found) (f : Frame) (p : Pass) (array : Coefficients) (levels : ℕ → Levels) (before : Arrays) (codings : List Coding) → Shaped f
-    → ((k : Coding) → CodingFacts w f k → IsLegal p (levels k.place) → HoldsOwn (grid_of k.component) (array k.place) (levels k.place) (get_or before k.place []))
-    → AllByRecursion (CodingFacts w f) codings → AllByRecursion (λ c. IsLegal p (levels c.place)) codings → ((k : ℕ) → length (levels k).acs ≡ 63)
+all-ready : (w : Found) (f : Frame) (p : Pass) (array : Coefficients) (levels : ℕ → Levels) (before : Arrays)
+    (codings : List Coding) → Shaped f
+    → ((k : Coding) → CodingFacts w f k → IsLegal p (levels k.place)
+    → HoldsOwn (grid_of k.component) (array k.place) (levels k.place) (get_or before k.place []))
+    → AllByRecursion (CodingFacts w f) codings → AllByRecursion (λ c. IsLegal p (levels c.place)) codings
+    → ((k : ℕ) → length (levels k).acs ≡ 63)
     → AllByRecursion (SlotReady f p array levels before) codings
 all-ready w f p array levels before [] shape holds facts legal sized = tt
 all-ready w f p array levels before (k ∷ codings) shape holds facts legal sized = (
-  record { fits = shape.fits k.place k.component facts.0.at; holds = holds k facts.0 legal.0; legal = legal.0; sized = sized k.place },
+  record {
+    fits = shape.fits k.place k.component facts.0.at;
+    holds = holds k facts.0 legal.0;
+    legal = legal.0;
+    sized =
+        sized k.place;
+  },
   all-ready w f p array levels before codings shape holds facts.1 legal.1 sized,
 )
 
 -- what a scan was read as
-pub record Scanned (w : Found) (f : Frame) (array : Coefficients) (levels : ℕ → Levels) (sc : Bool) (h : Arrays) (fi : List (List Bool)) (pl : List (Option (List ℕ))) (s : Scan)
+pub record Scanned (w : Found) (f : Frame) (array : Coefficients) (levels : ℕ → Levels) (sc : Bool) (h : Arrays)
+    (fi : List (List Bool)) (pl : List (Option (List ℕ))) (s : Scan)
     (codings : List Coding) (bytes : List ℕ) : Type 0 where
   pub arrays : Arrays
   pub held : Arrays
   pub finished : List (List Bool)
   pub planes : List (Option (List ℕ))
-  pub read : (fill code : ℕ) (m : Marker) (rest : List ℕ) → IsMarker code m → scan_arrays (reading w sc h fi pl) f s codings (bytes ++ marker fill code rest) ≡ Ok ((arrays, Some m), rest)
+  pub read : (fill code : ℕ) (m : Marker) (rest : List ℕ) → IsMarker code m
+      → scan_arrays (reading w sc h fi pl) f s codings (bytes ++ marker fill code rest) ≡ Ok ((arrays, Some m), rest)
   pub behind : behind_scan (reading w sc h fi pl) f s codings arrays ≡ reading w true held finished planes
   pub framed : Framed w f array (levels_after (pass_of s) (places_of codings) levels) true held finished planes
 
-module _ (w : Found) (f : Frame) (array : Coefficients) (levels : ℕ → Levels) (sc : Bool) (h : Arrays) (fi : List (List Bool)) (pl : List (Option (List ℕ))) (s : Scan)
-    (codings : List Coding) (bytes : List ℕ) (range : (place row column : ℕ) → Is8Bit (array place row column)) (shape : Shaped f) (framed : Framed w f array levels sc h fi pl)
-    (rules : ScanFacts f s) (exist : AllByRecursion (λ c. IsTable c.dc × IsTable c.ac) codings) (legal : IsLegalScan w f levels s codings) (written : WritesScan f w.restart (pass_of s) codings array bytes) where
+module _ (w : Found) (f : Frame) (array : Coefficients) (levels : ℕ → Levels) (sc : Bool) (h : Arrays)
+    (fi : List (List Bool)) (pl : List (Option (List ℕ))) (s : Scan)
+    (codings : List Coding) (bytes : List ℕ) (range : (place row column : ℕ) → Is8Bit (array place row column))
+    (shape : Shaped f) (framed : Framed w f array levels sc h fi pl)
+    (rules : ScanFacts f s) (exist : AllByRecursion (λ c. IsTable c.dc × IsTable c.ac) codings)
+    (legal : IsLegalScan w f levels s codings)
+    (written : WritesScan f w.restart (pass_of s) codings array bytes) where
   abbrev now : Found
   now = reading w sc h fi pl
 
-  facts : (length codings ≡ length s.components) × AllByRecursion (CodingFacts w f) codings × (places_of codings ≡ s.components)
-  facts = codings-facts w f s codings rules.dc_length rules.ac_length (codings-read w f s codings shape.lossy legal.are_in_force)
+  facts : (length codings ≡ length s.components) × AllByRecursion (CodingFacts w f) codings
+      × (places_of codings ≡ s.components)
+  facts = codings-facts w f s codings rules.dc_length rules.ac_length
+      (codings-read w f s codings shape.lossy legal.are_in_force)
 
   apart : AreApart (places_of codings)
   apart = subst AreApart (sym facts.2) rules.apart
@@ -319,46 +371,62 @@ module _ (w : Found) (f : Frame) (array : Coefficients) (levels : ℕ → Levels
   holds-now : PassSo f s → (k : Coding) → CodingFacts w f k → IsLegal (pass_of s) (levels k.place)
       → HoldsOwn (grid_of k.component) (array k.place) (levels k.place) (get_or (arrays_before now f) k.place [])
   holds-now (sequential e q) k fact l =
-      let none : levels k.place ≡ nothing_sent = framed.fresh e k.place (l.dc_unsent (ap (λ (p : Pass). p.ss) q) (ap (λ (p : Pass). p.is_first) q)) in
-      subst (λ (a : Arrays). HoldsOwn (grid_of k.component) (array k.place) (levels k.place) (get_or a k.place [])) (sym (sequential-arrays now f e))
-      (subst (λ (x : Levels). HoldsOwn (grid_of k.component) (array k.place) x (get_or (zero_arrays f.components) k.place [])) (sym none)
-      (subst (HoldsOwn (grid_of k.component) (array k.place) nothing_sent) (sym (zero-at f.components k.place k.component fact.at)) (zero-holds (array k.place) k.component (range k.place))))
+      let none : levels k.place ≡ nothing_sent =
+      framed.fresh e k.place (l.dc_unsent (ap (λ (p : Pass). p.ss) q) (ap (λ (p : Pass). p.is_first) q)) in
+      subst (λ (a : Arrays). HoldsOwn (grid_of k.component) (array k.place) (levels k.place) (get_or a k.place []))
+      (sym (sequential-arrays now f e))
+      (subst (λ (x : Levels). HoldsOwn (grid_of k.component) (array k.place) x
+      (get_or (zero_arrays f.components) k.place [])) (sym none)
+      (subst (HoldsOwn (grid_of k.component) (array k.place) nothing_sent)
+      (sym (zero-at f.components k.place k.component fact.at))
+      (zero-holds (array k.place) k.component (range k.place))))
   holds-now (progressive e d a lt le) k fact l = (framed.held e).each k.place k.component fact.at
 
   suit-now : PassSo f s → SpotsSuit (pass_of s) (arrays_before now f) codings
   suit-now (sequential e q) =
-      none_read q (subst (λ (a : Arrays). (place index : ℕ) → get_or (get_or a place []) index zero_block ≡ zero_block) (sym (sequential-arrays now f e)) (zeros-everywhere f.components))
+      none_read q (subst (λ (a : Arrays). (place index : ℕ)
+      → get_or (get_or a place []) index zero_block ≡ zero_block) (sym (sequential-arrays now f e))
+      (zeros-everywhere f.components))
   suit-now (progressive e d (inl z) lt le) = dc_alone (ss-is ∙ z) (se-is ∙ d z) low
   suit-now (progressive e d (inr one) lt le) = let k = single codings (facts.0 ∙ one) in one_component k.0 k.1
 
   reads-now : ReadsScan f w.restart (pass_of s) codings array levels (arrays_before now f) bytes
   reads-now = scan-is_read f w.restart (pass_of s) codings array levels (arrays_before now f) bytes range
-      (all-ready w f (pass_of s) array levels (arrays_before now f) codings shape (holds-now so) facts.1 legal.legal framed.sized)
+      (all-ready w f (pass_of s) array levels (arrays_before now f) codings shape
+      (holds-now so) facts.1 legal.legal framed.sized)
       (suit-now so) (all-good codings exist) written
 
   done : AllDone w f (pass_of s) array levels codings reads-now.arrays
-  done = all-done w f (pass_of s) array levels codings reads-now.arrays reads-now.count reads-now.holds facts.1 legal.legal framed.sized
+  done = all-done w f (pass_of s) array levels codings reads-now.arrays reads-now.count reads-now.holds facts.1
+      legal.legal framed.sized
 
   abbrev behind_held : Arrays
   behind_held = held_behind now f codings reads-now.arrays
 
   brought : Brought w f (pass_of s) array levels codings reads-now.arrays true behind_held fi pl
-  brought = brings w f (pass_of s) array levels codings reads-now.arrays true behind_held fi pl shape.few (band-so f s so) apart done framed.marked
+  brought = brings w f (pass_of s) array levels codings reads-now.arrays true behind_held fi pl shape.few
+      (band-so f s so) apart done framed.marked
 
-  scan-read : (fill code : ℕ) (m : Marker) (rest : List ℕ) → IsMarker code m → scan_arrays now f s codings (bytes ++ marker fill code rest) ≡ Ok ((reads-now.arrays, Some m), rest)
+  scan-read : (fill code : ℕ) (m : Marker) (rest : List ℕ) → IsMarker code m
+      → scan_arrays now f s codings (bytes ++ marker fill code rest) ≡ Ok ((reads-now.arrays, Some m), rest)
   unfolding scan_arrays
   scan-read fill code m rest i = reads-now.read fill code m rest i
 
-  fresh-behind : PassSo f s → is_progressive f.process ≡ false → (k : ℕ) → (levels_after (pass_of s) (places_of codings) levels k).dc ≡ None
+  fresh-behind : PassSo f s → is_progressive f.process ≡ false → (k : ℕ)
+      → (levels_after (pass_of s) (places_of codings) levels k).dc ≡ None
       → levels_after (pass_of s) (places_of codings) levels k ≡ nothing_sent
   fresh-behind (sequential e q) g = after-fresh (pass_of s) (places_of codings) levels q (framed.fresh e)
   fresh-behind (progressive e d a lt le) g = absurd (true≢false (sym e ∙ g))
 
-  held-now : is_progressive f.process ≡ true → AllHeld f array (levels_after (pass_of s) (places_of codings) levels) (arrays_before (reading w true behind_held brought.finished brought.planes) f)
+  held-now : is_progressive f.process ≡ true
+      → AllHeld f array (levels_after (pass_of s) (places_of codings) levels)
+      (arrays_before (reading w true behind_held brought.finished brought.planes) f)
   held-now e =
       subst (AllHeld f array (levels_after (pass_of s) (places_of codings) levels))
-      (sym (held-arrays w behind_held brought.finished brought.planes f e ∙ held-behind_is now f codings reads-now.arrays e))
-      (held-behind w f (pass_of s) array levels codings reads-now.arrays (arrays_before now f) apart done (framed.held e))
+      (sym (held-arrays w behind_held brought.finished brought.planes f e
+      ∙ held-behind_is now f codings reads-now.arrays e))
+      (held-behind w f (pass_of s) array levels codings reads-now.arrays (arrays_before now f) apart done
+      (framed.held e))
 
   -- A written scan brings what the levels behind it say.
   pub scan-brings : Scanned w f array levels sc h fi pl s codings bytes

@@ -1,5 +1,5 @@
 -- A call that answers the meaning of what its source has left decodes images.
-use Rattle.std.proofs.Common.{◌≡◌, ℕ, suc, length, List, ◌++◌, Bool, true, false, Result, Ok, Err, is_ok, refl, sym, ap, ◌∙◌, subst}
+use Rattle.std.proofs.Common.{◌≡◌, ℕ, suc, length, List, ◌++◌, true, Result, Ok, Err, is_ok, refl, sym, ap, ◌∙◌}
 use Rattle.std.proofs.lemmas.Bool.{false≢true}
 use Rattle.std.specs.Prelude.{MatchResult}
 use Rattle.jpeg_bits.specs.Reading.{Outcome, Fault, Answers, Names}
@@ -7,10 +7,12 @@ use Rattle.jpeg_bits.specs.Stream.{Stream}
 use Rattle.jpeg_bits.specs.declared.error.Error.{Error}
 use Rattle.jpeg_bits.specs.declared.error.Error.TheVariants as errors
 use Rattle.jpeg_decoder.specs.ArrayPictures.{picture_of_array, Takes}
-use Rattle.jpeg_decoder.specs.DecodedImages.{AtLeast, DecodesImages, FailsOutside, FullSize, Gives, HasLeft, Size, at_size}
+use Rattle.jpeg_decoder.specs.DecodedImages.{AtLeast, DecodesImages, FailsOutside, FullSize, Gives, HasLeft, Size}
+use Rattle.jpeg_decoder.specs.DecodedImages.{at_size}
 use Rattle.jpeg_decoder.specs.Levels.{Is8Bit, Levels}
 use Rattle.jpeg_decoder.specs.States.{Decoding, Failed, Finished, Fresh, HeaderRead, IsReading, Stage, ahead}
-use Rattle.jpeg_decoder.specs.Stream.{Found, Told, header_at, meaning, nothing_found, rest_at, segments_at, sized_meaning, start_at, told_of}
+use Rattle.jpeg_decoder.specs.Stream.{Found, Told, header_at, meaning, nothing_found, rest_at, segments_at}
+use Rattle.jpeg_decoder.specs.Stream.{sized_meaning, start_at, told_of}
 use Rattle.jpeg_decoder.specs.WrittenImages.{WritesImage}
 use Rattle.jpeg_decoder.specs.WrittenScans.{Coefficients}
 use Rattle.jpeg_decoder.specs.declared.state.Settings.{Settings}
@@ -22,7 +24,8 @@ use Rattle.jpeg_decoder.proofs.WrittenPictures.{taken-means}
 
 -- ---- what is left
 
-left-reading : (size : Size) (bytes : List ℕ) (stage : Stage) (found : Found) (left : List ℕ) → HasLeft size bytes stage found left → IsReading stage
+left-reading : (size : Size) (bytes : List ℕ) (stage : Stage) (found : Found) (left : List ℕ)
+    → HasLeft size bytes stage found left → IsReading stage
 left-reading FullSize bytes Fresh found left h = tt
 left-reading (AtLeast width height) bytes Fresh found left h = absurd h
 left-reading size bytes HeaderRead found left h = tt
@@ -41,17 +44,20 @@ header-begins settings found bytes rest e =
     bind-ok (start_at bytes) _ (found, rest) e (λ start is e1.
     rw (is, header-rest (suc (length start.1)) nothing_found found start.1 rest e1) refl)
 
-sized-begins : (width height : ℕ) (settings : Settings) (found : Found) (bytes rest : List ℕ) → header_at bytes ≡ Ok (found, rest)
+sized-begins : (width height : ℕ) (settings : Settings) (found : Found) (bytes rest : List ℕ)
+    → header_at bytes ≡ Ok (found, rest)
     → sized_meaning width height settings bytes ≡ rest_at settings (at_size (AtLeast width height) found) rest
 unfolding sized_meaning
 sized-begins width height settings found bytes rest e = then-ok (header_at bytes) _ (found, rest) _ e refl
 
-rest-begins : (size : Size) (settings : Settings) (found : Found) (bytes rest : List ℕ) → header_at bytes ≡ Ok (found, rest)
+rest-begins : (size : Size) (settings : Settings) (found : Found) (bytes rest : List ℕ)
+    → header_at bytes ≡ Ok (found, rest)
     → means_at size settings bytes ≡ rest_at settings (at_size size found) rest
 rest-begins FullSize settings found bytes rest e = header-begins settings found bytes rest e
 rest-begins (AtLeast width height) settings found bytes rest e = sized-begins width height settings found bytes rest e
 
-left-means : (size : Size) (settings : Settings) (bytes : List ℕ) (stage : Stage) (found : Found) (left : List ℕ) (o : Outcome (Told × List ℕ))
+left-means : (size : Size) (settings : Settings) (bytes : List ℕ) (stage : Stage) (found : Found) (left : List ℕ)
+    (o : Outcome (Told × List ℕ))
     → HasLeft size bytes stage found left → means_at size settings bytes ≡ o → ahead stage settings found left ≡ o
 left-means FullSize settings bytes Fresh found left o h e = ap (meaning settings) h ∙ e
 left-means (AtLeast width height) settings bytes Fresh found left o h e = absurd h
@@ -81,32 +87,46 @@ only-memory (errors.Io x) o y h n = no-refusal o y _ h n.0
 only-memory (errors.Internal text) o y h n = absurd n
 only-memory errors.OutOfMemory o y h n = refl
 
-gives : {X : Type 0} (bytes_of : X → List ℕ) (o : Result (List ℕ) Fault) (picture rest : List ℕ) (final : Found) (new : Decoding)
+gives : {X : Type 0} (bytes_of : X → List ℕ) (o : Result (List ℕ) Fault) (picture rest : List ℕ) (final : Found)
+    (new : Decoding)
     (read : List ℕ → Outcome (Told × List ℕ)) (old : Stream) (result : Result X Error)
     → Answers (λ x. (told_of new.found, bytes_of x)) read old result new.source → o ≡ Ok picture
     → read old.bytes ≡ Ok ((told_of final, picture), rest) → old.known ≡ true
     → MatchResult result (λ x. Gives o rest final (bytes_of x) new) (λ e. FailsOutside e new.source)
 gives bytes_of o picture rest final new read old (Ok x) answers is means known =
     let all = answers.1 known in
-    let same = same-value ((told_of new.found, bytes_of x), new.source.bytes) ((told_of final, picture), rest) (sym all.1 ∙ means) in
-    record { pixels = is ∙ ap (λ (p : List ℕ). Ok p) (sym (ap (λ y. y.0.1) same)); told = ap (λ y. y.0.0) same; left = ap (λ y. y.1) same; known = all.0 }
+    let same = same-value ((told_of new.found, bytes_of x), new.source.bytes) ((told_of final, picture), rest)
+    (sym all.1 ∙ means) in
+    record {
+      pixels = is ∙ ap (λ (p : List ℕ). Ok p) (sym (ap (λ y. y.0.1) same));
+      told = ap (λ y. y.0.0) same;
+      left =
+          ap (λ y. y.1) same;
+      known = all.0;
+    }
 gives bytes_of o picture rest final new read old (Err e) answers is means known =
     record {
       memory = λ still. only-memory e (read old.bytes) ((told_of final, picture), rest) means (answers.1 known still);
       reader = λ lost. answers.2 known lost;
     }
 
-means-picture : (size : Size) (settings : Settings) (array : Coefficients) (image rest : List ℕ) (final : Found) (last : ℕ → Levels)
-    → ((place row column : ℕ) → Is8Bit (array place row column)) → WritesImage array image final last → Takes settings (at_size size final)
+means-picture : (size : Size) (settings : Settings) (array : Coefficients) (image rest : List ℕ) (final : Found)
+    (last : ℕ → Levels)
+    → ((place row column : ℕ) → Is8Bit (array place row column)) → WritesImage array image final last
+    → Takes settings (at_size size final)
     → (picture : List ℕ) × (picture_of_array settings (at_size size final) array last ≡ Ok picture)
     × (means_at size settings (image ++ rest) ≡ Ok ((told_of (at_size size final), picture), rest))
 means-picture FullSize settings array image rest final last range w takes =
-    taken-means settings array rest (image ++ rest) final last range (image-accepted array rest image final last w) takes
+    taken-means settings array rest (image ++ rest) final last range
+    (image-accepted array rest image final last w) takes
 means-picture (AtLeast width height) settings array image rest final last range w takes =
-    sized-taken width height settings array rest (image ++ rest) final last range (image-accepted array rest image final last w) takes
+    sized-taken width height settings array rest (image ++ rest) final last range
+    (image-accepted array rest image final last w) takes
 
 pub decodes-images : {X : Type 0} (bytes_of : X → List ℕ) (old new : Decoding) (result : Result X Error)
-    → (IsReading old.stage → Answers (λ x. (told_of new.found, bytes_of x)) (ahead old.stage old.settings old.found) old.source result new.source)
+    → (IsReading old.stage
+    → Answers (λ x. (told_of new.found, bytes_of x))
+    (ahead old.stage old.settings old.found) old.source result new.source)
     → DecodesImages bytes_of old result new
 decodes-images bytes_of old new result answers size array image rest final last range w takes has known =
     let p = means-picture size old.settings array image rest final last range w takes in

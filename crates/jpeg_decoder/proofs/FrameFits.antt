@@ -17,14 +17,17 @@ ceiling-le n d q some h =
     omega (arith, less)
 
 -- the own blocks of a component are among those of all MCUs
-pub own-within : (width h m s : ℕ) → 0 < h → h ≤ m → 0 < s → ceiling (ceiling (width * h * s) (m * 8)) s ≤ ceiling width (8 * m) * h
+pub own-within : (width h m s : ℕ) → 0 < h → h ≤ m → 0 < s
+    → ceiling (ceiling (width * h * s) (m * 8)) s ≤ ceiling width (8 * m) * h
 own-within width h m s some most scaled =
     let b = ceiling width (8 * m) in
     let low : width ≤ (8 * m) * b = ceiling-low width (8 * m) (omega arith) in
     let wide : width * h * s ≤ ((8 * m) * b) * h * s = mul-le-mul_right s (mul-le-mul_right h low) in
     let e : ((8 * m) * b) * h * s ≡ (m * 8) * (s * (b * h))
-    = ap (λ n. n * s) (mul_assoc (8 * m) b h) ∙ (mul_assoc (8 * m) (b * h) s ∙ ap₂ (λ x y. x * y) (mul_comm 8 m) (mul_comm (b * h) s)) in
-    let one : ceiling (width * h * s) (m * 8) ≤ s * (b * h) = ceiling-le (width * h * s) (m * 8) (s * (b * h)) (omega arith) (omega (arith, wide, e)) in
+    = ap (λ n. n * s) (mul_assoc (8 * m) b h)
+    ∙ (mul_assoc (8 * m) (b * h) s ∙ ap₂ (λ x y. x * y) (mul_comm 8 m) (mul_comm (b * h) s)) in
+    let one : ceiling (width * h * s) (m * 8) ≤ s * (b * h) =
+    ceiling-le (width * h * s) (m * 8) (s * (b * h)) (omega arith) (omega (arith, wide, e)) in
     ceiling-le (ceiling (width * h * s) (m * 8)) s (b * h) scaled one
 
 -- the same at full size, by the size as it is read
@@ -35,7 +38,8 @@ own-within-full width h m some most =
     let wide : width * h ≤ ((8 * m) * b) * h = mul-le-mul_right h low in
     let e : ((8 * m) * b) * h ≡ m * (8 * (b * h))
     = mul_assoc (8 * m) b h ∙ (ap (λ n. n * (b * h)) (mul_comm 8 m) ∙ mul_assoc m 8 (b * h)) in
-    let one : ceiling (width * h) m ≤ 8 * (b * h) = ceiling-le (width * h) m (8 * (b * h)) (omega arith) (omega (arith, wide, e)) in
+    let one : ceiling (width * h) m ≤ 8 * (b * h) =
+    ceiling-le (width * h) m (8 * (b * h)) (omega arith) (omega (arith, wide, e)) in
     ceiling-le (ceiling (width * h) m) 8 (b * h) (omega arith) one
 
 -- eight times as much of eight times as much
@@ -45,7 +49,8 @@ ceiling-eights n d some =
     let r = ceiling (n * 8) (d * 8) in
     let low : n ≤ d * q = ceiling-low n d some in
     let low-eights : n * 8 ≤ (d * 8) * r = ceiling-low (n * 8) (d * 8) (omega arith) in
-    let e : (k : ℕ) → (d * 8) * k ≡ (d * k) * 8 = λ k. mul_assoc d 8 k ∙ (ap (λ n. d * n) (mul_comm 8 k) ∙ sym (mul_assoc d k 8)) in
+    let e : (k : ℕ) → (d * 8) * k ≡ (d * k) * 8 = λ k. mul_assoc d 8 k
+    ∙ (ap (λ n. d * n) (mul_comm 8 k) ∙ sym (mul_assoc d k 8)) in
     let eq = e q in
     let er = e r in
     let a : r ≤ q = ceiling-le (n * 8) (d * 8) q (omega arith) (omega (arith, low, eq)) in
@@ -59,7 +64,8 @@ factors-back width height h v (x ∷ xs) = ap (λ l. x ∷ l) (factors-back widt
 
 -- ---- components fit their frame
 
-all-fit : (frame : Frame) (width height h v : ℕ) (xs : List Factors) → frame.mcus_wide ≡ ceiling width (8 * h) → frame.mcus_high ≡ ceiling height (8 * v)
+all-fit : (frame : Frame) (width height h v : ℕ) (xs : List Factors) → frame.mcus_wide ≡ ceiling width (8 * h)
+    → frame.mcus_high ≡ ceiling height (8 * v)
     → AllByRecursion IsInRange xs → greatest (λ c. c.horizontal) xs ≤ h → greatest (λ c. c.vertical) xs ≤ v
     → AllByRecursion (Fits frame) (map (component_of width height h v) xs)
 unfolding component_of
@@ -79,7 +85,8 @@ all-fit frame width height h v (x ∷ xs) wide high range across down =
       all-fit frame width height h v xs wide high range.1 (omega arith) (omega arith),
     )
 
-all-fit-scaled : (frame : Frame) (scale width height h v : ℕ) (xs : List Factors) → 0 < scale → frame.mcus_wide ≡ ceiling width (8 * h) → frame.mcus_high ≡ ceiling height (8 * v)
+all-fit-scaled : (frame : Frame) (scale width height h v : ℕ) (xs : List Factors) → 0 < scale
+    → frame.mcus_wide ≡ ceiling width (8 * h) → frame.mcus_high ≡ ceiling height (8 * v)
     → AllByRecursion IsInRange xs → greatest (λ c. c.horizontal) xs ≤ h → greatest (λ c. c.vertical) xs ≤ v
     → AllByRecursion (Fits frame) (map (component_at scale width height h v) (map (component_of width height h v) xs))
 unfolding component_of component_at
@@ -101,15 +108,19 @@ all-fit-scaled frame scale width height h v (x ∷ xs) some wide high range acro
 
 -- The components of a frame that is read fit it.
 pub frames-fit : (number precision width height : ℕ) (xs : List Factors) → AllByRecursion IsInRange xs
-    → AllByRecursion (Fits (frame_of number precision width height xs)) (frame_of number precision width height xs).components
+    → AllByRecursion (Fits (frame_of number precision width height xs))
+    (frame_of number precision width height xs).components
 unfolding frame_of
 frames-fit number precision width height xs range =
     let frame = frame_of number precision width height xs in
-    all-fit frame width height (greatest (λ c. c.horizontal) xs) (greatest (λ c. c.vertical) xs) xs refl refl range (omega arith) (omega arith)
+    all-fit frame width height (greatest (λ c. c.horizontal) xs) (greatest (λ c. c.vertical) xs) xs refl refl range
+    (omega arith) (omega arith)
 
 -- and those of a frame at a scale
-pub scaled-frames-fit : (scale number precision width height : ℕ) (xs : List Factors) → 0 < scale → AllByRecursion IsInRange xs
-    → AllByRecursion (Fits (frame_at scale (frame_of number precision width height xs))) (frame_at scale (frame_of number precision width height xs)).components
+pub scaled-frames-fit : (scale number precision width height : ℕ) (xs : List Factors) → 0 < scale
+    → AllByRecursion IsInRange xs
+    → AllByRecursion (Fits (frame_at scale (frame_of number precision width height xs)))
+    (frame_at scale (frame_of number precision width height xs)).components
 unfolding frame_of frame_at
 scaled-frames-fit scale number precision width height xs some range =
     let h = greatest (λ c. c.horizontal) xs in
@@ -117,13 +128,16 @@ scaled-frames-fit scale number precision width height xs some range =
     let frame = frame_at scale (frame_of number precision width height xs) in
     let back = factors-back width height h v xs in
     subst (λ (l : List Factors).
-    AllByRecursion (Fits frame) (map (component_at scale width height (greatest (λ c. c.horizontal) l) (greatest (λ c. c.vertical) l)) (map (component_of width height h v) xs)))
+    AllByRecursion (Fits frame)
+    (map (component_at scale width height (greatest (λ c. c.horizontal) l) (greatest (λ c. c.vertical) l))
+    (map (component_of width height h v) xs)))
     (sym back) (all-fit-scaled frame scale width height h v xs some refl refl range (omega arith) (omega arith))
 
 -- ---- full size
 
 same-components : (width height h v : ℕ) (xs : List Factors) → 0 < h → 0 < v
-    → map (component_at 8 width height h v) (map (component_of width height h v) xs) ≡ map (component_of width height h v) xs
+    → map (component_at 8 width height h v) (map (component_of width height h v) xs)
+    ≡ map (component_of width height h v) xs
 unfolding component_of component_at
 same-components width height h v [] hs vs = refl
 same-components width height h v (x ∷ xs) hs vs =
@@ -151,10 +165,12 @@ full-size number precision width height xs =
     let h = greatest (λ c. c.horizontal) xs in
     let v = greatest (λ c. c.vertical) xs in
     let old = frame_of number precision width height xs in
-    let of : ℕ → ℕ → List Component → Frame = λ w g l. record old { output_width = w; output_height = g; components = l } in
+    let of : ℕ → ℕ → List Component
+    → Frame = λ w g l. record old { output_width = w; output_height = g; components = l } in
     let back = factors-back width height h v xs in
     ap (λ (l : List Factors). of (ceiling (width * 8) 8) (ceiling (height * 8) 8)
-    (map (component_at 8 width height (greatest (λ c. c.horizontal) l) (greatest (λ c. c.vertical) l)) (map (component_of width height h v) xs))) back
+    (map (component_at 8 width height (greatest (λ c. c.horizontal) l) (greatest (λ c. c.vertical) l))
+    (map (component_of width height h v) xs))) back
     ∙ ap (λ (l : List Component). of (ceiling (width * 8) 8) (ceiling (height * 8) 8) l)
     (same-components width height h v xs (some-greatest (λ c. c.horizontal) xs) (some-greatest (λ c. c.vertical) xs))
     ∙ ap₂ (λ (a b : ℕ). of a b (map (component_of width height h v) xs)) (omega arith) (omega arith)

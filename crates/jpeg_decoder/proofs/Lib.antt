@@ -79,5 +79,6 @@ pub mod BlocksBefore
 pub mod RenderedPlanes
 pub mod PlacedCodings
 pub mod DecodedImages
+pub mod WrittenParts
 pub mod PutLoops
 pub mod ScanData

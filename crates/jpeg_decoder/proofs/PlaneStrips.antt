@@ -1,5 +1,6 @@
 -- The plane of a list of blocks grows by the strip of each row of them.
-use Rattle.std.proofs.Common.{◌≡◌, ℕ, zero, suc, ◌+◌, ◌-◌, ◌*◌, ◌/◌, ◌<◌, ℤ, List, [], ◌∷◌, ◌++◌, length, get_or, map, sym, ap, ap₂, ◌∙◌, refl, arith}
+use Rattle.std.proofs.Common.{◌≡◌, ℕ, zero, suc, ◌+◌, ◌-◌, ◌*◌, ◌/◌, ◌<◌, ℤ, List, [], ◌∷◌, ◌++◌, length, get_or, map}
+use Rattle.std.proofs.Common.{sym, ap, ap₂, ◌∙◌, refl, arith}
 use Rattle.std.proofs.lemmas.List.{ext_get_or, get_or-append_right, get_or_append_left}
 use Rattle.std.proofs.lemmas.List.{length-map}
 use Rattle.std.proofs.lemmas.List.FromFn.{length-map-range_with_len, get_or-map-range_with_len}
@@ -23,14 +24,17 @@ line-of wide n xs row e f =
     ∙ ap (λ (k : ℕ). get_or row k zero_block) (let z : n * wide + i - n * wide ≡ i = omega arith in z))
     ∙ sym (get-map row i (omega arith)))
   where
-    get-map : (row : List Block) (i : ℕ) → i < length row → get_or (map ordered row) i [] ≡ ordered (get_or row i zero_block)
+    get-map : (row : List Block) (i : ℕ) → i < length row
+        → get_or (map ordered row) i [] ≡ ordered (get_or row i zero_block)
     get-map [] i h = absurd (omega arith)
     get-map (b ∷ row) zero h = refl
     get-map (b ∷ row) (suc i) h = get-map row i (omega arith)
 
 -- One more row of blocks.
-pub plane-strips : (s : ℕ) (table : List ℕ) (wide n : ℕ) (xs row : List Block) → length xs ≡ n * wide → length row ≡ wide
-    → plane_of s table wide (n + 1) (in_raster wide (xs ++ row)) ≡ plane_of s table wide n (in_raster wide xs) ++ strip_of s table (map ordered row)
+pub plane-strips : (s : ℕ) (table : List ℕ) (wide n : ℕ) (xs row : List Block) → length xs ≡ n * wide
+    → length row ≡ wide
+    → plane_of s table wide (n + 1) (in_raster wide (xs ++ row))
+    ≡ plane_of s table wide n (in_raster wide xs) ++ strip_of s table (map ordered row)
 plane-strips s table wide n xs row e f =
     plane-more s table wide n (in_raster wide (xs ++ row))
     ∙ ap₂ (λ (a : List ℕ) (l : List (List ℤ)). a ++ strip_of s table l)

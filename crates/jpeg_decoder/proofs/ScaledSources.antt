@@ -1,16 +1,15 @@
 -- A frame with a way to upsample each component has one at each scale.
-use Rattle.std.proofs.Common.{◌≡◌, ◌≢◌, ◌⊎◌, inl, inr, ℕ, zero, suc, ◌+◌, ◌-◌, ◌*◌, ◌/◌, ◌<◌, ◌≤◌, ◌==◌, ◌&&◌, ◌||◌, Bool, true, false, cond, List, [], ◌∷◌, map, length, Option, Some, None, Result, Ok, Err, refl, sym, ap, ap₂, ◌∙◌, subst, arith, if◌then◌else◌, true≢false}
+use Rattle.std.proofs.Common.{◌≡◌, ℕ, ◌*◌, ◌/◌, ◌==◌, ◌&&◌, ◌||◌, Bool, true, false, List, [], ◌∷◌, map, Option, Some}
+use Rattle.std.proofs.Common.{None, Ok, refl, sym, ap, if◌then◌else◌, true≢false}
 use Rattle.std.proofs.lemmas.Bool.{eqb-true, eq-eqb}
-use Rattle.jpeg_bits.specs.Reading.{Fault, Lacks, ◌>>=◌}
-use Rattle.jpeg_segments.specs.Frame.{Frame, Component, Factors, ceiling}
+use Rattle.jpeg_bits.specs.Reading.{Lacks}
+use Rattle.jpeg_segments.specs.Frame.{Component, Factors}
 use Rattle.jpeg_pixels.specs.declared.upsampler.UpsampleRule.{UpsampleRule}
 use Rattle.jpeg_pixels.specs.declared.upsampler.UpsampleRule.TheVariants.{H1V1, H2V1, H1V2, H2V2, Generic}
 use Rattle.jpeg_pixels.specs.Upsampling.{rule_of, divides}
-use Rattle.jpeg_pixels.specs.Pictures.{Source, source_by, source_of, sources_by, sources_of}
-use Rattle.jpeg_segments.specs.Scales.{frame_at}
+use Rattle.jpeg_pixels.specs.Pictures.{Source, source_by, source_of, sources_by}
 use Rattle.jpeg_decoder.proofs.AcceptedTurns.{err-ok, bind-ok, then-ok}
-use Rattle.jpeg_decoder.proofs.FrameShapes.{Plain, plain-size, ceiling-covers, ceiling-least}
-use Rattle.jpeg_decoder.proofs.ScaledSizes.{scaled_component, most_h, most_v, frame-components, frame-width, frame-height}
+use Rattle.jpeg_decoder.proofs.ScaledSizes.{scaled_component}
 
 -- ---- choices
 
@@ -29,7 +28,8 @@ or-follows false b false d f g h = g h
 
 abbrev pick : Bool → Bool → Bool → Bool → Bool → UpsampleRule → Option UpsampleRule
 pick a b c d e last =
-    if a then Some H1V1 else (if b then Some H2V1 else (if c then Some H1V2 else (if d then Some H2V2 else (if e then Some last else None))))
+    if a then Some H1V1 else
+    (if b then Some H2V1 else (if c then Some H1V2 else (if d then Some H2V2 else (if e then Some last else None))))
 
 pick-test : (a b c d e : Bool) (l r : UpsampleRule) → pick a b c d e l ≡ Some r → (a || (b || (c || (d || e)))) ≡ true
 pick-test true b c d e l r h = refl
@@ -42,7 +42,8 @@ pick-test false false false false false l r h = absurd (no h)
     no : ◌≡◌ {A = Option UpsampleRule} None (Some r) → ⊥
     no e = cc
 
-pick-some : (a b c d e : Bool) (l : UpsampleRule) → (a || (b || (c || (d || e)))) ≡ true → (r : UpsampleRule) × (pick a b c d e l ≡ Some r)
+pick-some : (a b c d e : Bool) (l : UpsampleRule) → (a || (b || (c || (d || e)))) ≡ true
+    → (r : UpsampleRule) × (pick a b c d e l ≡ Some r)
 pick-some true b c d e l h = (H1V1, refl)
 pick-some false true c d e l h = (H2V1, refl)
 pick-some false false true d e l h = (H1V2, refl)
@@ -54,7 +55,8 @@ one-follows : (h m a b : ℕ) → (a ≡ 1 → b ≡ 1) → Follows (h == m || a
 one-follows h m a b f = or-follows (h == m) (a == 1) (h == m) (b == 1) (λ e. e) (λ e. eq-eqb b 1 (f (eqb-true a 1 e)))
 
 -- a rule for one size is there for another that is 1 where the first is
-rule-there : (h v mh mv a b c d : ℕ) (rule : UpsampleRule) → (a ≡ 1 → c ≡ 1) → (b ≡ 1 → d ≡ 1) → rule_of h v mh mv a b ≡ Some rule → (r : UpsampleRule) × (rule_of h v mh mv c d ≡ Some r)
+rule-there : (h v mh mv a b c d : ℕ) (rule : UpsampleRule) → (a ≡ 1 → c ≡ 1) → (b ≡ 1 → d ≡ 1)
+    → rule_of h v mh mv a b ≡ Some rule → (r : UpsampleRule) × (rule_of h v mh mv c d ≡ Some r)
 unfolding rule_of
 rule-there h v mh mv a b c d rule f g e =
     let h1 = h == mh || a == 1 in
@@ -74,12 +76,16 @@ rule-there h v mh mv a b c d rule f g e =
 
 -- ---- sources
 
-source-there : (c d : Component) (o p : Option UpsampleRule) (s : Source) → ((rule : UpsampleRule) → o ≡ Some rule → (r : UpsampleRule) × (p ≡ Some r)) → source_by c o ≡ Ok s → (t : Source) × (source_by d p ≡ Ok t)
+source-there : (c d : Component) (o p : Option UpsampleRule) (s : Source)
+    → ((rule : UpsampleRule) → o ≡ Some rule → (r : UpsampleRule) × (p ≡ Some r)) → source_by c o ≡ Ok s
+    → (t : Source) × (source_by d p ≡ Ok t)
 source-there c d None p s f e = absurd (err-ok (Lacks _) s e)
 source-there c d (Some rule) p s f e = let r = f rule refl in (_, ap (source_by d) r.1)
 
-pub sources-there : (s width height mh mv a b a' b' : ℕ) (xs : List Factors) (sources : List Source) → (a ≡ 1 → a' ≡ 1) → (b ≡ 1 → b' ≡ 1)
-    → sources_by mh mv a b (map (scaled_component 8 width height mh mv) xs) ≡ Ok sources → (others : List Source) × (sources_by mh mv a' b' (map (scaled_component s width height mh mv) xs) ≡ Ok others)
+pub sources-there : (s width height mh mv a b a' b' : ℕ) (xs : List Factors) (sources : List Source)
+    → (a ≡ 1 → a' ≡ 1) → (b ≡ 1 → b' ≡ 1)
+    → sources_by mh mv a b (map (scaled_component 8 width height mh mv) xs) ≡ Ok sources
+    → (others : List Source) × (sources_by mh mv a' b' (map (scaled_component s width height mh mv) xs) ≡ Ok others)
 unfolding sources_by
 sources-there s width height mh mv a b a' b' [] sources f g e = ([], refl)
 sources-there s width height mh mv a b a' b' (x ∷ xs) sources f g e =
@@ -87,6 +93,12 @@ sources-there s width height mh mv a b a' b' (x ∷ xs) sources f g e =
     let d = scaled_component s width height mh mv x in
     let one = bind-ok (source_of mh mv a b c) _ sources e in
     let more = bind-ok (sources_by mh mv a b (map (scaled_component 8 width height mh mv) xs)) _ sources one.2 in
-    let t = source-there c d (rule_of x.horizontal x.vertical mh mv a b) (rule_of x.horizontal x.vertical mh mv a' b') one.0 (λ rule k. rule-there x.horizontal x.vertical mh mv a b a' b' rule f g k) one.1 in
-    let others = sources-there s width height mh mv a b a' b' xs more.0 f g more.1 in
-    (t.0 ∷ others.0, then-ok (source_of mh mv a' b' d) _ t.0 _ t.1 (then-ok (sources_by mh mv a' b' (map (scaled_component s width height mh mv) xs)) _ others.0 _ others.1 refl))
+    let t = source-there c d (rule_of x.horizontal x.vertical mh mv a b)
+    (rule_of x.horizontal x.vertical mh mv a' b') one.0
+    (λ rule k. rule-there x.horizontal x.vertical mh mv a b a' b' rule f g k) one.1 in
+    let others = sources-there s width height mh mv a b a' b' xs more.0 f g more.1 in (
+      t.0 ∷ others.0,
+      then-ok (source_of mh mv a' b' d) _ t.0 _ t.1
+          (then-ok (sources_by mh mv a' b' (map (scaled_component s width height mh mv) xs)) _ others.0 _ others.1
+          refl),
+    )

@@ -1,15 +1,18 @@
 -- What a scan header that is read says.
-use Rattle.std.proofs.Common.{◌≡◌, ◌≢◌, ◌⊎◌, inl, inr, ℕ, zero, suc, ◌+◌, ◌-◌, ◌*◌, ◌/◌, ◌%◌, ◌<◌, ◌≤◌, ◌==◌, ◌&&◌, ◌||◌, not, nat_lt, nat_le, Bool, true, false, cond, List, [], ◌∷◌, ◌++◌, map, length, sum_by, Option, Some, None, Result, Ok, Err, refl, sym, ap, ap₂, ◌∙◌, subst, arith, leb, ltb, eqb, true≢false, length-append}
-use Rattle.std.proofs.lemmas.Bool.{eqb-true, leb-true, ltb-false, eq-eqb}
+use Rattle.std.proofs.Common.{◌≡◌, ◌≢◌, ◌⊎◌, inl, inr, ℕ, zero, suc, ◌+◌, ◌*◌, ◌/◌, ◌%◌, ◌<◌, ◌≤◌, ◌==◌, ◌&&◌, ◌||◌}
+use Rattle.std.proofs.Common.{nat_lt, nat_le, Bool, true, false, List, [], ◌∷◌, ◌++◌, map, length, Option, Some, None}
+use Rattle.std.proofs.Common.{Ok, refl, sym, ap, ◌∙◌, subst, arith, true≢false, length-append}
+use Rattle.std.proofs.lemmas.Bool.{eqb-true, leb-true, ltb-false}
 use Rattle.std.specs.List.{AllByRecursion}
 use lib.ListN.{length-map}
-use Rattle.jpeg_bits.specs.Reading.{Outcome, Fault, Malformed, ◌>>=◌, next_byte, length_at}
+use Rattle.jpeg_bits.specs.Reading.{Malformed, next_byte, length_at}
 use Rattle.jpeg_segments.specs.declared.parser.CodingProcess.{CodingProcess}
 use Rattle.jpeg_segments.specs.declared.parser.CodingProcess.TheVariants.{DctSequential, DctProgressive, Lossless}
 use Rattle.jpeg_segments.specs.Frame.{Frame}
 use Rattle.jpeg_segments.specs.HuffmanTables.{greatest_place}
-use Rattle.jpeg_segments.specs.ScanHeader.{Scan, Selector, place_of, tables_at, tables_by, selector_at, selectors_from, is_mcu, is_band, is_progressive_band, is_sequential_band, behind_of, scan_of, band_at, count_at, sos_at}
-use Rattle.jpeg_bits.specs.Passes.{whole_pass}
+use Rattle.jpeg_segments.specs.ScanHeader.{Scan, Selector, place_of, tables_at, tables_by, selector_at}
+use Rattle.jpeg_segments.specs.ScanHeader.{selectors_from, is_mcu, is_band, behind_of, scan_of, band_at, count_at}
+use Rattle.jpeg_segments.specs.ScanHeader.{sos_at}
 use Rattle.jpeg_decoder.specs.Stream.{pass_of, is_progressive}
 use Rattle.jpeg_decoder.proofs.PutBlocks.{IsAbsent, AreApart}
 use Rattle.jpeg_decoder.proofs.AcceptedTurns.{err-ok, ok-same, bind-ok}
@@ -22,7 +25,8 @@ pub record Rising (least : ℕ) (sel : List Selector) : Type 0 where
   pub below : AllByRecursion (λ s. s.component < least) sel
   pub apart : AreApart (map (λ s. s.component) sel)
 
-tables-component : (f : Frame) (place : ℕ) (bytes : List ℕ) (s : Selector × List ℕ) → tables_at f place bytes ≡ Ok s → s.0.component ≡ place
+tables-component : (f : Frame) (place : ℕ) (bytes : List ℕ) (s : Selector × List ℕ) → tables_at f place bytes ≡ Ok s
+    → s.0.component ≡ place
 unfolding tables_at
 tables-component f place bytes s h =
     let b = bind-ok (next_byte bytes) _ s h in
@@ -30,7 +34,8 @@ tables-component f place bytes s h =
     let y = unless-ok (nat_lt (greatest_place (Some f.is_baseline)) (b.0.0 % 16)) _ Malformed s x.1 in
     ap (λ (z : Selector × List ℕ). z.0.component) (sym (ok-same _ s y.1))
 
-selector-behind : (f : Frame) (least : ℕ) (bytes : List ℕ) (s : Selector × List ℕ) → selector_at f least bytes ≡ Ok s → least ≤ s.0.component
+selector-behind : (f : Frame) (least : ℕ) (bytes : List ℕ) (s : Selector × List ℕ) → selector_at f least bytes ≡ Ok s
+    → least ≤ s.0.component
 unfolding selector_at
 selector-behind f least bytes s h =
     let b = bind-ok (next_byte bytes) _ s h in
@@ -44,11 +49,13 @@ selector-behind f least bytes s h =
         let c = tables-component f place rest s x.1 in
         omega arith
 
-absent-below : (n least : ℕ) (sel : List Selector) → least ≤ n → AllByRecursion (λ s. s.component < least) sel → IsAbsent n (map (λ s. s.component) sel)
+absent-below : (n least : ℕ) (sel : List Selector) → least ≤ n → AllByRecursion (λ s. s.component < least) sel
+    → IsAbsent n (map (λ s. s.component) sel)
 absent-below n least [] h all = tt
 absent-below n least (s ∷ sel) h all = ((λ e. absurd (let l = all.0 in omega arith)), absent-below n least sel h all.1)
 
-below-more : (a b : ℕ) (sel : List Selector) → a ≤ b → AllByRecursion (λ s. s.component < a) sel → AllByRecursion (λ s. s.component < b) sel
+below-more : (a b : ℕ) (sel : List Selector) → a ≤ b → AllByRecursion (λ s. s.component < a) sel
+    → AllByRecursion (λ s. s.component < b) sel
 below-more a b [] h all = tt
 below-more a b (s ∷ sel) h all = ((let l = all.0 in omega arith), below-more a b sel h all.1)
 
@@ -60,29 +67,38 @@ apart-end : (places : List ℕ) (m : ℕ) → AreApart places → IsAbsent m pla
 apart-end [] m h a = (tt, tt)
 apart-end (q ∷ places) m h a = (absent-end q m places (λ e. a.0 (sym e)) h.0, apart-end places m h.1 a.1)
 
-map-end : (sel : List Selector) (s : Selector) → map (λ (x : Selector). x.component) (sel ++ s ∷ []) ≡ map (λ (x : Selector). x.component) sel ++ s.component ∷ []
+map-end : (sel : List Selector) (s : Selector)
+    → map (λ (x : Selector). x.component) (sel ++ s ∷ [])
+    ≡ map (λ (x : Selector). x.component) sel ++ s.component ∷ []
 map-end [] s = refl
 map-end (x ∷ sel) s = ap (λ (l : List ℕ). x.component ∷ l) (map-end sel s)
 
-below-end : (n : ℕ) (sel : List Selector) (s : Selector) → AllByRecursion (λ x. x.component < n) sel → s.component < n → AllByRecursion (λ x. x.component < n) (sel ++ s ∷ [])
+below-end : (n : ℕ) (sel : List Selector) (s : Selector) → AllByRecursion (λ x. x.component < n) sel → s.component < n
+    → AllByRecursion (λ x. x.component < n) (sel ++ s ∷ [])
 below-end n [] s h k = (k, tt)
 below-end n (x ∷ sel) s h k = (h.0, below-end n sel s h.1 k)
 
-rising-end : (least : ℕ) (sel : List Selector) (s : Selector) → Rising least sel → least ≤ s.component → Rising (s.component + 1) (sel ++ s ∷ [])
+rising-end : (least : ℕ) (sel : List Selector) (s : Selector) → Rising least sel → least ≤ s.component
+    → Rising (s.component + 1) (sel ++ s ∷ [])
 rising-end least sel s r h = record {
-  below = below-end (s.component + 1) sel s (below-more least (s.component + 1) sel (omega arith) r.below) (omega arith);
-  apart = subst AreApart (sym (map-end sel s)) (apart-end (map (λ x. x.component) sel) s.component r.apart (absent-below s.component least sel h r.below));
+  below = below-end (s.component + 1) sel s (below-more least (s.component + 1) sel (omega arith) r.below)
+      (omega arith);
+  apart = subst AreApart (sym (map-end sel s))
+      (apart-end (map (λ x. x.component) sel) s.component r.apart (absent-below s.component least sel h r.below));
 }
 
-selectors-rise : (f : Frame) (n : ℕ) (front : List Selector) (least : ℕ) (bytes : List ℕ) (s : List Selector × List ℕ) → Rising least front → selectors_from f n front least bytes ≡ Ok s
+selectors-rise : (f : Frame) (n : ℕ) (front : List Selector) (least : ℕ) (bytes : List ℕ) (s : List Selector × List ℕ)
+    → Rising least front → selectors_from f n front least bytes ≡ Ok s
     → AreApart (map (λ x. x.component) s.0) × (length s.0 ≡ length front + n)
 unfolding selectors_from
 selectors-rise f zero front least bytes s r h =
-    subst (λ (x : List Selector × List ℕ). AreApart (map (λ y. y.component) x.0) × (length x.0 ≡ length front + 0)) (ok-same (front, bytes) s h) (r.apart, omega arith)
+    subst (λ (x : List Selector × List ℕ). AreApart (map (λ y. y.component) x.0) × (length x.0 ≡ length front + 0))
+    (ok-same (front, bytes) s h) (r.apart, omega arith)
 selectors-rise f (suc n) front least bytes s r h =
     let one = bind-ok (selector_at f least bytes) _ s h in
     let le = selector-behind f least bytes one.0 one.1 in
-    let more = selectors-rise f n (front ++ one.0.0 ∷ []) (one.0.0.component + 1) one.0.1 s (rising-end least front one.0.0 r le) one.2 in
+    let more = selectors-rise f n (front ++ one.0.0 ∷ []) (one.0.0.component + 1) one.0.1 s
+    (rising-end least front one.0.0 r le) one.2 in
     let count = length-append front (one.0.0 ∷ []) in
     let size = more.1 in
     (more.0, omega arith)
@@ -93,12 +109,14 @@ both : (a b : Bool) → (a && b) ≡ true → (a ≡ true) × (b ≡ true)
 both true b e = (refl, e)
 both false b e = absurd (true≢false (sym e))
 
-scan-is : (f : Frame) (sel : List Selector) (first last levels : ℕ) → f.process ≢ Lossless → is_band f.process (length sel) first last (levels / 16) (levels % 16) ≡ true
+scan-is : (f : Frame) (sel : List Selector) (first last levels : ℕ) → f.process ≢ Lossless
+    → is_band f.process (length sel) first last (levels / 16) (levels % 16) ≡ true
     → PassSo f (scan_of f sel first last levels)
 unfolding scan_of pass_of
 scan-is f sel first last levels n b = go f.process refl b
   where
-    go : (p : CodingProcess) → f.process ≡ p → is_band p (length sel) first last (levels / 16) (levels % 16) ≡ true → PassSo f (scan_of f sel first last levels)
+    go : (p : CodingProcess) → f.process ≡ p → is_band p (length sel) first last (levels / 16) (levels % 16) ≡ true
+        → PassSo f (scan_of f sel first last levels)
     go DctSequential e h =
         let a = both (first == 0) _ h in
         let c = both (last == 0 || last == 63) _ a.1 in
@@ -108,21 +126,25 @@ scan-is f sel first last levels n b = go f.process refl b
         let lo = eqb-true (levels % 16) 0 d.1 in
         sequential (ap is_progressive e) (rw (z, e, hi, lo) refl)
     go DctProgressive e h =
-        let count : length (scan_of f sel first last levels).components ≡ length sel = length-map sel (λ s. s.component) in
+        let count : length (scan_of f sel first last levels).components ≡ length sel =
+        length-map sel (λ s. s.component) in
         let q = progressive-pass (length sel) first last (levels / 16) (levels % 16) h in
         let a = both (nat_le first last) _ h in
         let b = both (nat_le last 63) _ a.1 in
         let le = leb-true first last a.0 in
         let top = leb-true last 63 b.0 in
-        let behind : (scan_of f sel first last levels).behind ≡ last + 1 = ap (λ (p : CodingProcess). behind_of p last) e in
-        progressive (ap is_progressive e) (λ z. let l = q.0 z in omega arith) (one (length (scan_of f sel first last levels).components) count q.1) (omega arith) (omega arith)
+        let behind : (scan_of f sel first last levels).behind ≡ last + 1 =
+        ap (λ (p : CodingProcess). behind_of p last) e in
+        progressive (ap is_progressive e) (λ z. let l = q.0 z in omega arith)
+        (one (length (scan_of f sel first last levels).components) count q.1) (omega arith) (omega arith)
       where
         one : (m : ℕ) → m ≡ length sel → (first ≡ 0) ⊎ (length sel ≡ 1) → (first ≡ 0) ⊎ (m ≡ 1)
         one m c (inl z) = inl z
         one m c (inr k) = inr (c ∙ k)
     go Lossless e h = absurd (n e)
 
-scan-facts : (f : Frame) (sel : List Selector) (first last levels : ℕ) → 1 ≤ length sel → AreApart (map (λ x. x.component) sel) → PassSo f (scan_of f sel first last levels)
+scan-facts : (f : Frame) (sel : List Selector) (first last levels : ℕ) → 1 ≤ length sel
+    → AreApart (map (λ x. x.component) sel) → PassSo f (scan_of f sel first last levels)
     → ScanFacts f (scan_of f sel first last levels)
 unfolding scan_of
 scan-facts f sel first last levels h apart so =
@@ -131,14 +153,16 @@ scan-facts f sel first last levels h apart so =
     let c = length-map sel (λ (x : Selector). x.ac) in
     record { some = omega arith; dc_length = b ∙ sym a; ac_length = c ∙ sym a; apart = apart; so = so }
 
-band-facts : (f : Frame) (sel : List Selector) (bytes : List ℕ) (s : Scan × List ℕ) → f.process ≢ Lossless → 1 ≤ length sel → AreApart (map (λ x. x.component) sel) → band_at f sel bytes ≡ Ok s → ScanFacts f s.0
+band-facts : (f : Frame) (sel : List Selector) (bytes : List ℕ) (s : Scan × List ℕ) → f.process ≢ Lossless
+    → 1 ≤ length sel → AreApart (map (λ x. x.component) sel) → band_at f sel bytes ≡ Ok s → ScanFacts f s.0
 unfolding band_at
 band-facts f sel bytes s n some apart h =
     let first = bind-ok (next_byte bytes) _ s h in
     let last = bind-ok (next_byte first.0.1) _ s first.2 in
     let levels = bind-ok (next_byte last.0.1) _ s last.2 in
     let x = if-ok (nat_lt (levels.0.0 % 16) f.precision) _ Malformed s levels.2 in
-    let y = if-ok (is_band f.process (length sel) first.0.0 last.0.0 (levels.0.0 / 16) (levels.0.0 % 16)) _ Malformed s x.1 in
+    let y = if-ok (is_band f.process (length sel) first.0.0 last.0.0 (levels.0.0 / 16) (levels.0.0 % 16)) _ Malformed
+    s x.1 in
     subst (λ (z : Scan × List ℕ). ScanFacts f z.0) (ok-same _ s y.1)
     (scan-facts f sel first.0.0 last.0.0 levels.0.0 some apart (scan-is f sel first.0.0 last.0.0 levels.0.0 n y.0))
 
@@ -158,7 +182,8 @@ count-some bytes n h =
     some (suc k) e = omega arith
 
 -- What a scan header that is read says.
-pub sos-facts : (f : Frame) (bytes : List ℕ) (s : Scan × List ℕ) → f.process ≢ Lossless → sos_at f bytes ≡ Ok s → ScanFacts f s.0
+pub sos-facts : (f : Frame) (bytes : List ℕ) (s : Scan × List ℕ) → f.process ≢ Lossless → sos_at f bytes ≡ Ok s
+    → ScanFacts f s.0
 unfolding sos_at
 sos-facts f bytes s n h =
     let count = bind-ok (count_at bytes) _ s h in

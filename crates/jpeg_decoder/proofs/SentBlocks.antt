@@ -1,9 +1,7 @@
 -- What is held of coefficients before a pass and behind it, where they are given at the level of the pass.
-use Rattle.std.specs.Prelude.{◌≡◌, ℕ, suc, neg_ℤ, ◌*◌, ◌/◌, ◌^◌, ◌<◌, ◌==◌, true, false, List, length, map, ℤ, pos, negsuc, ◌*ℤ◌, ◌≤ℤ◌, unsigned_abs, Some}
+use Rattle.std.specs.Prelude.{◌≡◌, ℕ, suc, neg_ℤ, ◌*◌, ◌/◌, ◌^◌, ◌<◌, ◌==◌, true, false, List, length, map, ℤ, pos}
+use Rattle.std.specs.Prelude.{negsuc, ◌*ℤ◌, ◌≤ℤ◌, unsigned_abs}
 use Rattle.std.specs.List.{AllByRecursion}
-use Rattle.jpeg_bits.specs.Codes.{IsTable}
-use Rattle.jpeg_bits.specs.Marker.{marker_of}
-use Rattle.jpeg_bits.specs.declared.marker.Marker.{Marker}
 use Rattle.jpeg_bits.specs.Bands.{wrapped}
 use Rattle.jpeg_bits.specs.Passes.{Pass, Via, Block, band_of, with_band, or_bit}
 use Rattle.jpeg_decoder.specs.WrittenData.{low_bit, no_numbers}

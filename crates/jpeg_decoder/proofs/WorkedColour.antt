@@ -1,6 +1,7 @@
 -- A sequential stream of three components, with padding and a restart, worked by hand, is one that is written.
-use Rattle.std.proofs.Common.{◌≡◌, ℕ, zero, suc, ◌*◌, ◌+◌, ◌/◌, ◌%◌, ◌^◌, ◌<◌, ◌≤◌, Bool, true, false, List, [], ◌∷◌, ◌++◌}
-use Rattle.std.proofs.Common.{replicate, ℤ, pos, negsuc, ◌-ℤ◌, unsigned_abs, Option, Some, None, Ok, refl, sym, ◌∙◌, arith, true≢false}
+use Rattle.std.proofs.Common.{◌≡◌, ℕ, zero, suc, ◌*◌, ◌+◌, ◌/◌, ◌%◌, ◌^◌, ◌<◌, ◌≤◌, Bool, false, List, [], ◌∷◌, ◌++◌}
+use Rattle.std.proofs.Common.{replicate, ℤ, pos, negsuc, ◌-ℤ◌, unsigned_abs, Some, None, Ok, refl, sym, arith}
+use Rattle.std.proofs.Common.{true≢false}
 use Rattle.std.specs.List.{AllByRecursion}
 use Rattle.std.specs.Prelude.{get_or, set, ◌≤ℤ◌}
 use Rattle.jpeg_bits.proofs.Tables.{tested-exist}
@@ -13,15 +14,18 @@ use Rattle.jpeg_pixels.specs.Pictures.{sources_by}
 use Rattle.jpeg_pixels.specs.Upsampling.{rule_of}
 use Rattle.jpeg_segments.specs.Frame.{Factors, Frame, frame_of, component_of}
 use Rattle.jpeg_segments.specs.ScanHeader.{scan_of}
-use Rattle.jpeg_segments.specs.WrittenSegments.{IsHuffmanTable, FrameHeader, IsFrame, Segment, Quantization, Huffman, Interval, Header}
-use Rattle.jpeg_segments.specs.WrittenSegments.{AreComponents, frame_payload, huffman_bytes, payload_of, quantization_bytes, sized}
+use Rattle.jpeg_segments.specs.WrittenSegments.{IsHuffmanTable, FrameHeader, IsFrame, Segment, Quantization, Huffman}
+use Rattle.jpeg_segments.specs.WrittenSegments.{Interval, Header}
+use Rattle.jpeg_segments.specs.WrittenSegments.{AreComponents, frame_payload, huffman_bytes, payload_of}
+use Rattle.jpeg_segments.specs.WrittenSegments.{quantization_bytes, sized}
 use Rattle.jpeg_segments.specs.ScanHeaders.{Choice, ScanHeader, AreChoices, IsScan, scan_payload, scan_written}
 use Rattle.jpeg_decoder.specs.Levels.{Levels, Is8Bit, IsLegal, nothing_sent}
 use Rattle.jpeg_decoder.specs.Order.{Spot, all_spots, mcu_size, mcu_spots, part_spots, spots_of}
 use Rattle.jpeg_decoder.specs.SaidSegments.{found_behind}
 use Rattle.jpeg_decoder.specs.Stream.{Found, Coding, nothing_found, accepted, pass_of, tables_of, updated, vias_from}
-use Rattle.jpeg_decoder.specs.WorkedImages.{IsWhollyWritten, flat_block, in_column, colour_array, colour_blocks, colour_bytes}
-use Rattle.jpeg_decoder.specs.WrittenData.{IsCategory, IsCoded, WritesAc, WritesBlocks, WritesInterval, bits_for, bits_of_bytes}
+use Rattle.jpeg_decoder.specs.WorkedImages.{IsWhollyWritten, flat_block, colour_array, colour_bytes}
+use Rattle.jpeg_decoder.specs.WrittenData.{IsCategory, IsCoded, WritesAc, WritesBlocks, WritesInterval, bits_for}
+use Rattle.jpeg_decoder.specs.WrittenData.{bits_of_bytes}
 use Rattle.jpeg_decoder.specs.WrittenData.{marker, number_for, stuffed}
 use Rattle.jpeg_decoder.specs.WrittenData.WritesAc.{first}
 use Rattle.jpeg_decoder.specs.WrittenData.WritesBand.{ended}
@@ -38,7 +42,8 @@ use Rattle.jpeg_decoder.proofs.WorkedGrey.{range-zero, sixteens, sixteens-writte
 -- ---- what is written
 
 abbrev factors : ℕ → ℕ → Factors
-factors identifier horizontal = record { identifier = identifier; horizontal = horizontal; vertical = 1; quantization = 0 }
+factors identifier horizontal =
+    record { identifier = identifier; horizontal = horizontal; vertical = 1; quantization = 0 }
 
 abbrev all_factors : List Factors
 all_factors = factors 82 2 ∷ factors 71 1 ∷ factors 66 1 ∷ []
@@ -62,7 +67,14 @@ abbrev the_header : ScanHeader
 the_header = record { choices = choice 82 0 ∷ choice 71 1 ∷ choice 66 2 ∷ []; first = 0; last = 63; high = 0; low = 0 }
 
 abbrev coding : ℕ → Factors → Coding
-coding place x = record { place = place; component = component_of 24 8 2 1 x; quantization = replicate 64 16; dc = dc_table; ac = ac_table }
+coding place x = record {
+  place = place;
+  component = component_of 24 8 2 1 x;
+  quantization = replicate 64 16;
+  dc =
+      dc_table;
+  ac = ac_table;
+}
 
 abbrev codings : List Coding
 codings = coding 0 (factors 82 2) ∷ coding 1 (factors 71 1) ∷ coding 2 (factors 66 1) ∷ []
@@ -136,7 +148,8 @@ category-4 d le lt = record { holds = omega arith; is_least = λ t h. least-4 (u
 
 no-ac : WritesAc (pass_of (scan_written the_frame the_header)) ac_table (replicate 63 (pos 0)) 0 (false ∷ []) 0
 unfolding pass_of low_bits scan_of frame_of component_of
-no-ac = first (pos 0) (replicate 62 (pos 0)) (false ∷ []) 0 refl (ended 62 0 0 (false ∷ []) (omega arith) (omega arith) end-coded)
+no-ac = first (pos 0) (replicate 62 (pos 0)) (false ∷ []) 0 refl
+    (ended 62 0 0 (false ∷ []) (omega arith) (omega arith) end-coded)
 
 -- ---- data
 
@@ -160,7 +173,8 @@ flat-block predictors slot dc turns bits le lt more =
     (record { s = 4; code = false ∷ []; category = category-4 d le lt; coded = dc-coded; has_bits = refl }))
     no-ac more
 
-interval_1 : WritesInterval (pass_of (scan_written the_frame the_header)) (mcu (pos 8) (negsuc 0) (negsuc 7) (pos 15)) (64 ∷ 195 ∷ 158 ∷ [])
+interval_1 : WritesInterval (pass_of (scan_written the_frame the_header)) (mcu (pos 8) (negsuc 0) (negsuc 7) (pos 15))
+    (64 ∷ 195 ∷ 158 ∷ [])
 unfolding stuffed bits_of_bytes number_for low_bits
 interval_1 = record {
   bits = _;
@@ -176,7 +190,8 @@ interval_1 = record {
   has_bytes = refl;
 }
 
-interval_2 : WritesInterval (pass_of (scan_written the_frame the_header)) (mcu (pos 9) (negsuc 0) (negsuc 8) (pos 12)) (72 ∷ 163 ∷ 24 ∷ [])
+interval_2 : WritesInterval (pass_of (scan_written the_frame the_header)) (mcu (pos 9) (negsuc 0) (negsuc 8) (pos 12))
+    (72 ∷ 163 ∷ 24 ∷ [])
 unfolding stuffed bits_of_bytes number_for low_bits
 interval_2 = record {
   bits = _;
@@ -196,14 +211,17 @@ abbrev scan_bytes : List ℕ
 scan_bytes = (64 ∷ 195 ∷ 158 ∷ []) ++ marker 0 208 (72 ∷ 163 ∷ 24 ∷ [])
 
 data-written : WritesScan the_frame 1 (pass_of (scan_written the_frame the_header)) codings colour_array scan_bytes
-unfolding pass_of scan_of frame_of component_of spots_of all_spots mcu_spots part_spots mcu_size vias_from groups sent_at
+unfolding pass_of scan_of frame_of component_of spots_of all_spots mcu_spots part_spots mcu_size vias_from groups
+    sent_at
 data-written = record {
   sent = λ s. sent_at s.slot s.index;
   in_range = λ s. sent-range s.slot s.index;
   is_own = λ s own. own-sent s.slot s.index own;
   coded =
-      another 0 0 (mcu (pos 8) (negsuc 0) (negsuc 7) (pos 15)) (mcu (pos 9) (negsuc 0) (negsuc 8) (pos 12)) [] (64 ∷ 195 ∷ 158 ∷ [])
-      (72 ∷ 163 ∷ 24 ∷ []) interval_1 (last 1 (mcu (pos 9) (negsuc 0) (negsuc 8) (pos 12)) (72 ∷ 163 ∷ 24 ∷ []) interval_2);
+      another 0 0 (mcu (pos 8) (negsuc 0) (negsuc 7) (pos 15)) (mcu (pos 9) (negsuc 0) (negsuc 8) (pos 12)) []
+      (64 ∷ 195 ∷ 158 ∷ [])
+      (72 ∷ 163 ∷ 24 ∷ []) interval_1
+      (last 1 (mcu (pos 9) (negsuc 0) (negsuc 8) (pos 12)) (72 ∷ 163 ∷ 24 ∷ []) interval_2);
 }
 
 -- ---- segments
@@ -213,10 +231,26 @@ unfolding codes_exist lengths_from code_value
 one-exists = tested-exist (code_lengths (1 ∷ replicate 15 0)) refl
 
 dc-written : (most : ℕ) → IsHuffmanTable most (record { place = 0; table = dc_table })
-dc-written most = record { placed = omega arith; counted = refl; has_symbols = refl; some = omega arith; at_most = omega arith; exists = one-exists }
+dc-written most = record {
+  placed = omega arith;
+  counted = refl;
+  has_symbols = refl;
+  some = omega arith;
+  at_most =
+      omega arith;
+  exists = one-exists;
+}
 
 ac-written : (most : ℕ) → IsHuffmanTable most (record { place = 0; table = ac_table })
-ac-written most = record { placed = omega arith; counted = refl; has_symbols = refl; some = omega arith; at_most = omega arith; exists = one-exists }
+ac-written most = record {
+  placed = omega arith;
+  counted = refl;
+  has_symbols = refl;
+  some = omega arith;
+  at_most =
+      omega arith;
+  exists = one-exists;
+}
 
 accepted-frame : accepted the_frame ≡ Ok the_frame
 unfolding accepted frame_of component_of sources_by rule_of
@@ -230,11 +264,49 @@ header-written = record {
   wide = omega arith;
   high = omega arith;
   counted = refl;
-  components =
-      (record { is_new = refl; ranged = record { horizontal_some = omega arith; horizontal_most = omega arith; vertical_some = omega arith; vertical_most = omega arith }; placed = refl },
-      (record { is_new = refl; ranged = record { horizontal_some = omega arith; horizontal_most = omega arith; vertical_some = omega arith; vertical_most = omega arith }; placed = refl },
-      (record { is_new = refl; ranged = record { horizontal_some = omega arith; horizontal_most = omega arith; vertical_some = omega arith; vertical_most = omega arith }; placed = refl },
-      tt)));
+  components = (
+    record {
+      is_new = refl;
+      ranged =
+          record {
+            horizontal_some = omega arith;
+            horizontal_most = omega arith;
+            vertical_some =
+                omega arith;
+            vertical_most = omega arith;
+          };
+      placed = refl;
+    },
+    (
+      record {
+        is_new = refl;
+        ranged =
+            record {
+              horizontal_some = omega arith;
+              horizontal_most = omega arith;
+              vertical_some =
+                  omega arith;
+              vertical_most = omega arith;
+            };
+        placed = refl;
+      },
+      (
+        record {
+          is_new = refl;
+          ranged =
+              record {
+                horizontal_some = omega arith;
+                horizontal_most = omega arith;
+                vertical_some =
+                    omega arith;
+                vertical_most = omega arith;
+              };
+          placed = refl;
+        },
+        tt,
+      ),
+    ),
+  );
 }
 
 scan-written : IsScan the_frame the_header
@@ -242,10 +314,13 @@ unfolding AreChoices frame_of component_of
 scan-written = record {
   some = omega arith;
   most = omega arith;
-  choices =
-      (record { identified = refl; ordered = omega arith; dc_placed = omega arith; ac_placed = omega arith },
-      (record { identified = refl; ordered = omega arith; dc_placed = omega arith; ac_placed = omega arith },
-      (record { identified = refl; ordered = omega arith; dc_placed = omega arith; ac_placed = omega arith }, tt)));
+  choices = (
+    record { identified = refl; ordered = omega arith; dc_placed = omega arith; ac_placed = omega arith },
+    (
+      record { identified = refl; ordered = omega arith; dc_placed = omega arith; ac_placed = omega arith },
+      (record { identified = refl; ordered = omega arith; dc_placed = omega arith; ac_placed = omega arith }, tt),
+    ),
+  );
   fits = refl;
   narrow = omega arith;
   precise = refl;
@@ -296,24 +371,32 @@ legal : IsLegalScan said the_frame levels_0 (scan_written the_frame the_header) 
 unfolding nothing_found updated frame_of component_of scan_of pass_of tables_of
 legal = record {
   are_in_force =
-      and_more 0 0 0 _ _ _ (coding 0 (factors 82 2)) _ (record { stands = refl; component = refl; quantization = refl; dc = refl; ac = refl })
-      (and_more 1 0 0 _ _ _ (coding 1 (factors 71 1)) _ (record { stands = refl; component = refl; quantization = refl; dc = refl; ac = refl })
-      (and_more 2 0 0 _ _ _ (coding 2 (factors 66 1)) _ (record { stands = refl; component = refl; quantization = refl; dc = refl; ac = refl })
+      and_more 0 0 0 _ _ _ (coding 0 (factors 82 2)) _
+      (record { stands = refl; component = refl; quantization = refl; dc = refl; ac = refl })
+      (and_more 1 0 0 _ _ _ (coding 1 (factors 71 1)) _
+      (record { stands = refl; component = refl; quantization = refl; dc = refl; ac = refl })
+      (and_more 2 0 0 _ _ _ (coding 2 (factors 66 1)) _
+      (record { stands = refl; component = refl; quantization = refl; dc = refl; ac = refl })
       no_more));
   legal = (one-legal, (one-legal, (one-legal, tt)));
 }
 
 has-tables : AllByRecursion (HasTable said) the_frame.components
 unfolding frame_of component_of updated nothing_found
-has-tables =
-    (record { table = replicate 64 16; is = refl }, (record { table = replicate 64 16; is = refl }, (record { table = replicate 64 16; is = refl }, tt)))
+has-tables = (
+  record { table = replicate 64 16; is = refl },
+  (record { table = replicate 64 16; is = refl }, (record { table = replicate 64 16; is = refl }, tt)),
+)
 
 all-sent : AllByRecursion (λ k. IsComplete (levels_1 k)) (0 ∷ 1 ∷ 2 ∷ [])
 unfolding levels_after pass_of scan_of frame_of component_of
-all-sent =
-    (record { dc = refl; acs = all-same (Some 0) 63 },
-    (record { dc = refl; acs = all-same (Some 0) 63 },
-    (record { dc = refl; acs = all-same (Some 0) 63 }, tt)))
+all-sent = (
+  record { dc = refl; acs = all-same (Some 0) 63 },
+  (
+    record { dc = refl; acs = all-same (Some 0) 63 },
+    (record { dc = refl; acs = all-same (Some 0) 63 }, tt),
+  ),
+)
 
 -- ---- the stream
 
@@ -337,12 +420,15 @@ colour-written = record {
     behind = bytes_behind;
     starts = refl;
     written =
-        segment nothing_found said levels_0 levels_1 false 0 (Quantization (sixteens ∷ [])) _ ((sixteens-written, tt), tt) tt (λ e. absurd (true≢false (sym e))) (
-        segment said_1 said levels_0 levels_1 false 0 (Header 0 header) _ ((refl, header-written), accepted-frame) (omega arith) (λ e. absurd (true≢false (sym e))) (
+        segment nothing_found said levels_0 levels_1 false 0 (Quantization (sixteens ∷ [])) _
+        ((sixteens-written, tt), tt) tt (λ e. absurd (true≢false (sym e))) (
+        segment said_1 said levels_0 levels_1 false 0 (Header 0 header) _ ((refl, header-written), accepted-frame)
+        (omega arith) (λ e. absurd (true≢false (sym e))) (
         segment said_2 said levels_0 levels_1 false 0 dc_segment _ ((dc-written _, tt), tt) tt (λ e. tt) (
         segment said_3 said levels_0 levels_1 false 0 ac_segment _ ((ac-written _, tt), tt) tt (λ e. tt) (
         segment said_4 said levels_0 levels_1 false 0 (Interval 1) _ (tt, tt) tt (λ e. tt) (
-        scan said said levels_0 levels_1 false the_frame 0 the_header codings scan_bytes (marker 0 217 []) refl scan-written legal data-written (
+        scan said said levels_0 levels_1 false the_frame 0 the_header codings scan_bytes
+        (marker 0 217 []) refl scan-written legal data-written (
         closed said levels_1 the_frame 0 refl has-tables (λ e. all-sent)))))));
   };
   framed = refl;

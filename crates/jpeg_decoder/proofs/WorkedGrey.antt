@@ -1,27 +1,29 @@
 -- A progressive stream of three blocks, worked by hand, is one that is written.
-use Rattle.std.proofs.Common.{◌≡◌, ◌≢◌, ℕ, zero, suc, ◌*◌, ◌+◌, ◌%◌, ◌^◌, ◌<◌, ◌≤◌, Bool, true, false, List, [], ◌∷◌, ◌++◌, replicate}
-use Rattle.std.proofs.Common.{ℤ, pos, negsuc, ◌-ℤ◌, unsigned_abs, Option, Some, None, Ok, refl, sym, ◌∙◌, arith, true≢false}
+use Rattle.std.proofs.Common.{◌≡◌, ℕ, zero, suc, ◌*◌, ◌+◌, ◌%◌, ◌^◌, ◌<◌, ◌≤◌, true, false, List, [], ◌∷◌, ◌++◌}
+use Rattle.std.proofs.Common.{replicate}
+use Rattle.std.proofs.Common.{pos, negsuc, unsigned_abs, Option, Some, None, Ok, refl, sym, ◌∙◌, arith, true≢false}
 use Rattle.std.specs.List.{AllByRecursion}
-use Rattle.std.specs.Prelude.{get_or}
 use Rattle.jpeg_bits.proofs.Tables.{tested-exist}
 use Rattle.jpeg_bits.specs.Codes.{Table, HasCodes, lengths_from, code_lengths, code_value, codes_exist}
-use Rattle.jpeg_bits.specs.Passes.{Block}
 use Rattle.jpeg_bits.specs.Written.{low_bits}
 use Rattle.jpeg_bits.specs.declared.codes.HuffmanTableClass.TheVariants as classes
 use Rattle.jpeg_pixels.specs.Pictures.{sources_by}
 use Rattle.jpeg_pixels.specs.Upsampling.{rule_of}
 use Rattle.jpeg_segments.specs.Frame.{Factors, Frame, frame_of, component_of}
 use Rattle.jpeg_segments.specs.ScanHeader.{scan_of}
-use Rattle.jpeg_segments.specs.WrittenSegments.{QuantizationTable, IsQuantizationTable, IsHuffmanTable, FrameHeader, IsFrame}
-use Rattle.jpeg_segments.specs.WrittenSegments.{quantization_bytes, frame_payload, huffman_bytes, AreComponents, Segment, Quantization, Huffman, Header, payload_of, sized}
+use Rattle.jpeg_segments.specs.WrittenSegments.{QuantizationTable, IsQuantizationTable, IsHuffmanTable, FrameHeader}
+use Rattle.jpeg_segments.specs.WrittenSegments.{IsFrame}
+use Rattle.jpeg_segments.specs.WrittenSegments.{quantization_bytes, frame_payload, huffman_bytes, AreComponents}
+use Rattle.jpeg_segments.specs.WrittenSegments.{Segment, Quantization, Huffman, Header, payload_of, sized}
 use Rattle.jpeg_segments.specs.ScanHeaders.{ScanHeader, AreChoices, IsScan, scan_payload, scan_written}
-use Rattle.jpeg_decoder.specs.Levels.{Levels, Is8Bit, IsLegal, nothing_sent}
+use Rattle.jpeg_decoder.specs.Levels.{Levels, Is8Bit, nothing_sent}
 use Rattle.jpeg_decoder.specs.Order.{Spot, own_spots, spots_of, mcu_size}
 use Rattle.jpeg_decoder.specs.SaidSegments.{found_behind}
 use Rattle.jpeg_decoder.specs.Scans.{no_table}
-use Rattle.jpeg_decoder.specs.Stream.{Found, Coding, nothing_found, accepted, is_progressive, pass_of, tables_of, updated, vias_from}
-use Rattle.jpeg_decoder.specs.WorkedImages.{IsWhollyWritten, flat_block, grey_array, grey_blocks, grey_bytes}
-use Rattle.jpeg_decoder.specs.WrittenData.{IsCategory, IsCoded, NoneNew, WritesDifference, bits_of_bytes, corrections, count_unknown}
+use Rattle.jpeg_decoder.specs.Stream.{Found, Coding, nothing_found, accepted, is_progressive, pass_of, tables_of}
+use Rattle.jpeg_decoder.specs.Stream.{updated, vias_from}
+use Rattle.jpeg_decoder.specs.WorkedImages.{IsWhollyWritten, flat_block, grey_array, grey_bytes}
+use Rattle.jpeg_decoder.specs.WrittenData.{IsCategory, IsCoded, NoneNew, bits_of_bytes, corrections, count_unknown}
 use Rattle.jpeg_decoder.specs.WrittenData.{marker, number_for, stuffed}
 use Rattle.jpeg_decoder.specs.WrittenData.WritesAc.{no_band, first, first_run, again, again_run}
 use Rattle.jpeg_decoder.specs.WrittenData.WritesBand.{value, ended}
@@ -30,7 +32,8 @@ use Rattle.jpeg_decoder.specs.WrittenData.WritesDc.{other_band, whole, one_bit}
 use Rattle.jpeg_decoder.specs.WrittenData.WritesIntervals.{last}
 use Rattle.jpeg_decoder.specs.WrittenData.WritesRefinement.{found, none_left}
 use Rattle.jpeg_decoder.specs.WrittenImages.{closed, scan, segment}
-use Rattle.jpeg_decoder.specs.WrittenScans.{block_for, components_of, grid_at, HasTable, IsComplete, IsLegalScan, WritesScan, levels_after}
+use Rattle.jpeg_decoder.specs.WrittenScans.{block_for, components_of, grid_at, HasTable, IsComplete, IsLegalScan}
+use Rattle.jpeg_decoder.specs.WrittenScans.{WritesScan, levels_after}
 use Rattle.jpeg_decoder.specs.WrittenScans.AreCodings.{no_more, and_more}
 use Rattle.jpeg_decoder.proofs.CutLevels.{all-same}
 
@@ -64,10 +67,24 @@ scan_header from to high low = record {
 }
 
 abbrev dc_coding : Coding
-dc_coding = record { place = 0; component = component_of 24 8 1 1 factors; quantization = replicate 64 16; dc = dc_table; ac = no_table classes.AC }
+dc_coding = record {
+  place = 0;
+  component = component_of 24 8 1 1 factors;
+  quantization = replicate 64 16;
+  dc =
+      dc_table;
+  ac = no_table classes.AC;
+}
 
 abbrev ac_coding : Coding
-ac_coding = record { place = 0; component = component_of 24 8 1 1 factors; quantization = replicate 64 16; dc = no_table classes.DC; ac = ac_table }
+ac_coding = record {
+  place = 0;
+  component = component_of 24 8 1 1 factors;
+  quantization = replicate 64 16;
+  dc =
+      no_table classes.DC;
+  ac = ac_table;
+}
 
 abbrev header_1 : ScanHeader
 header_1 = scan_header 0 0 0 1
@@ -103,10 +120,22 @@ zeros-small zero = tt
 zeros-small (suc n) = (omega arith, zeros-small n)
 
 range_0 : Is8Bit (record { dc = pos 9; acs = pos 3 ∷ negsuc 0 ∷ replicate 61 (pos 0) })
-range_0 = record { count = refl; dc_low = record { le = tt }; dc_high = record { le = tt }; acs = (omega arith, (omega arith, zeros-small 61)) }
+range_0 = record {
+  count = refl;
+  dc_low = record { le = tt };
+  dc_high = record { le = tt };
+  acs =
+      (omega arith, (omega arith, zeros-small 61));
+}
 
 range_1 : Is8Bit (record { dc = negsuc 1; acs = negsuc 1 ∷ replicate 62 (pos 0) })
-range_1 = record { count = refl; dc_low = record { le = tt }; dc_high = record { le = tt }; acs = (omega arith, zeros-small 62) }
+range_1 = record {
+  count = refl;
+  dc_low = record { le = tt };
+  dc_high = record { le = tt };
+  acs =
+      (omega arith, zeros-small 62);
+}
 
 range_2 : Is8Bit (flat_block (pos 7))
 range_2 = record { count = refl; dc_low = record { le = tt }; dc_high = record { le = tt }; acs = zeros-small 63 }
@@ -166,7 +195,8 @@ category-1_neg = record { holds = omega arith; is_least = λ t h. least-1 t h }
 -- ---- data
 
 dc-first : WritesScan the_frame 0 (pass_of (scan_written the_frame header_1)) (dc_coding ∷ []) grey_array (66 ∷ 79 ∷ [])
-unfolding low_bits number_for bits_of_bytes stuffed pass_of scan_of frame_of component_of own_spots spots_of mcu_size vias_from
+unfolding low_bits number_for bits_of_bytes stuffed pass_of scan_of frame_of component_of own_spots spots_of mcu_size
+    vias_from
 dc-first = record {
   sent = block_for (dc_coding ∷ []) grey_array;
   in_range = sent-range (dc_coding ∷ []);
@@ -177,11 +207,14 @@ dc-first = record {
     data_bytes = 66 ∷ 79 ∷ [];
     coded =
         block _ 0 0 _ _ _ (false ∷ true ∷ false ∷ false ∷ []) [] _ (pos 4)
-        (whole (pos 4) (pos 0) _ refl refl (record { s = 3; code = false ∷ []; category = category-4; coded = dc-coded; has_bits = refl })) (no_band 0)
+        (whole (pos 4) (pos 0) _ refl refl
+        (record { s = 3; code = false ∷ []; category = category-4; coded = dc-coded; has_bits = refl })) (no_band 0)
         (block _ 0 0 _ _ _ (false ∷ false ∷ true ∷ false ∷ []) [] _ (negsuc 0)
-        (whole (negsuc 0) (pos 4) _ refl refl (record { s = 3; code = false ∷ []; category = category-5; coded = dc-coded; has_bits = refl })) (no_band 0)
+        (whole (negsuc 0) (pos 4) _ refl refl
+        (record { s = 3; code = false ∷ []; category = category-5; coded = dc-coded; has_bits = refl })) (no_band 0)
         (block _ 0 0 _ _ _ (false ∷ true ∷ false ∷ false ∷ []) [] _ (pos 3)
-        (whole (pos 3) (negsuc 0) _ refl refl (record { s = 3; code = false ∷ []; category = category-4; coded = dc-coded; has_bits = refl })) (no_band 0)
+        (whole (pos 3) (negsuc 0) _ refl refl
+        (record { s = 3; code = false ∷ []; category = category-4; coded = dc-coded; has_bits = refl })) (no_band 0)
         (done _)));
     is_short = omega arith;
     whole = refl;
@@ -190,7 +223,8 @@ dc-first = record {
 }
 
 dc-again : WritesScan the_frame 0 (pass_of (scan_written the_frame header_3)) (dc_coding ∷ []) grey_array (191 ∷ [])
-unfolding low_bits number_for bits_of_bytes stuffed pass_of scan_of frame_of component_of own_spots spots_of mcu_size vias_from
+unfolding low_bits number_for bits_of_bytes stuffed pass_of scan_of frame_of component_of own_spots spots_of mcu_size
+    vias_from
 dc-again = record {
   sent = block_for (dc_coding ∷ []) grey_array;
   in_range = sent-range (dc_coding ∷ []);
@@ -217,7 +251,8 @@ less-zero : negsuc 0 ≡ pos 0 → ⊥
 less-zero e = cc
 
 ac-first : WritesScan the_frame 0 (pass_of (scan_written the_frame header_2)) (ac_coding ∷ []) grey_array (99 ∷ 63 ∷ [])
-unfolding low_bits number_for bits_of_bytes stuffed pass_of scan_of frame_of component_of own_spots spots_of mcu_size vias_from
+unfolding low_bits number_for bits_of_bytes stuffed pass_of scan_of frame_of component_of own_spots spots_of mcu_size
+    vias_from
 ac-first = record {
   sent = block_for (ac_coding ∷ []) grey_array;
   in_range = sent-range (ac_coding ∷ []);
@@ -227,15 +262,20 @@ ac-first = record {
     filling = replicate 6 true;
     data_bytes = 99 ∷ 63 ∷ [];
     coded =
-        block _ 0 0 _ _ _ [] (false ∷ true ∷ true ∷ false ∷ []) _ (pos 0) (other_band (pos 4) (pos 0) (λ e. absurd (omega arith)))
+        block _ 0 0 _ _ _ [] (false ∷ true ∷ true ∷ false ∷ []) _ (pos 0)
+        (other_band (pos 4) (pos 0) (λ e. absurd (omega arith)))
         (first (pos 1) (replicate 62 (pos 0)) _ 0 refl (
-        value 0 1 (pos 1) (false ∷ []) (replicate 62 (pos 0)) (true ∷ false ∷ []) 0 (omega arith) one-zero category-1 one-coded (
+        value 0 1 (pos 1) (false ∷ []) (replicate 62 (pos 0)) (true ∷ false ∷ []) 0
+        (omega arith) one-zero category-1 one-coded (
         ended 61 0 0 (true ∷ false ∷ []) (omega arith) (omega arith) end-coded)))
-        (block _ 0 1 _ _ _ [] (false ∷ false ∷ true ∷ true ∷ false ∷ false ∷ []) _ (pos 0) (other_band (negsuc 0) (pos 0) (λ e. absurd (omega arith)))
+        (block _ 0 1 _ _ _ [] (false ∷ false ∷ true ∷ true ∷ false ∷ false ∷ []) _ (pos 0)
+        (other_band (negsuc 0) (pos 0) (λ e. absurd (omega arith)))
         (first (negsuc 0) (replicate 62 (pos 0)) _ 1 refl (
-        value 0 1 (negsuc 0) (false ∷ []) (replicate 62 (pos 0)) (true ∷ true ∷ false ∷ false ∷ []) 1 (omega arith) less-zero category-1_neg one-coded (
+        value 0 1 (negsuc 0) (false ∷ []) (replicate 62 (pos 0)) (true ∷ true ∷ false ∷ false ∷ []) 1
+        (omega arith) less-zero category-1_neg one-coded (
         ended 61 1 0 (true ∷ true ∷ false ∷ []) (omega arith) (omega arith) ends-coded)))
-        (block _ 1 0 _ _ _ [] [] _ (pos 0) (other_band (pos 3) (pos 0) (λ e. absurd (omega arith))) (first_run 62 0 refl)
+        (block _ 1 0 _ _ _ [] [] _ (pos 0) (other_band (pos 3) (pos 0) (λ e. absurd (omega arith)))
+        (first_run 62 0 refl)
         (done _)));
     is_short = omega arith;
     whole = refl;
@@ -249,7 +289,8 @@ none-new zero = tt
 none-new (suc n) = ((λ e. absurd (omega arith)), none-new n)
 
 ac-again : WritesScan the_frame 0 (pass_of (scan_written the_frame header_4)) (ac_coding ∷ []) grey_array (58 ∷ [])
-unfolding low_bits number_for bits_of_bytes stuffed pass_of scan_of frame_of component_of own_spots spots_of mcu_size vias_from corrections count_unknown NoneNew
+unfolding low_bits number_for bits_of_bytes stuffed pass_of scan_of frame_of component_of own_spots spots_of mcu_size
+    vias_from corrections count_unknown NoneNew
 ac-again = record {
   sent = block_for (ac_coding ∷ []) grey_array;
   in_range = sent-range (ac_coding ∷ []);
@@ -259,11 +300,14 @@ ac-again = record {
     filling = [];
     data_bytes = 58 ∷ [];
     coded =
-        block _ 0 2 _ _ _ [] (false ∷ false ∷ true ∷ true ∷ true ∷ false ∷ true ∷ []) _ (pos 0) (other_band (pos 9) (pos 0) (λ e. absurd (omega arith)))
+        block _ 0 2 _ _ _ [] (false ∷ false ∷ true ∷ true ∷ true ∷ false ∷ true ∷ []) _ (pos 0)
+        (other_band (pos 9) (pos 0) (λ e. absurd (omega arith)))
         (again (pos 3) (negsuc 0 ∷ replicate 61 (pos 0)) _ 2 refl (
-        found 0 (pos 3 ∷ []) (negsuc 0) (false ∷ []) (replicate 61 (pos 0)) (true ∷ true ∷ false ∷ true ∷ []) 2 (omega arith)
+        found 0 (pos 3 ∷ []) (negsuc 0) (false ∷ []) (replicate 61 (pos 0)) (true ∷ true ∷ false ∷ true ∷ []) 2
+        (omega arith)
         ((λ e. absurd (omega arith)), tt) refl refl one-coded (
-        none_left 1 1 (pos 0) (replicate 60 (pos 0)) (true ∷ true ∷ false ∷ []) (omega arith) (omega arith) (none-new 61) ends-coded)))
+        none_left 1 1 (pos 0) (replicate 60 (pos 0)) (true ∷ true ∷ false ∷ []) (omega arith) (omega arith)
+        (none-new 61) ends-coded)))
         (block _ 2 1 _ _ _ [] (false ∷ []) _ (pos 0) (other_band (negsuc 1) (pos 0) (λ e. absurd (omega arith)))
         (again_run (negsuc 1) (replicate 62 (pos 0)) 1 refl ((λ e. absurd (omega arith)), none-new 62))
         (block _ 1 0 _ _ _ [] [] _ (pos 0) (other_band (pos 7) (pos 0) (λ e. absurd (omega arith)))
@@ -293,10 +337,26 @@ unfolding codes_exist lengths_from code_value
 three-exist = tested-exist (code_lengths (1 ∷ 1 ∷ 1 ∷ replicate 13 0)) refl
 
 dc-written : (most : ℕ) → IsHuffmanTable most (record { place = 0; table = dc_table })
-dc-written most = record { placed = omega arith; counted = refl; has_symbols = refl; some = omega arith; at_most = omega arith; exists = one-exists }
+dc-written most = record {
+  placed = omega arith;
+  counted = refl;
+  has_symbols = refl;
+  some = omega arith;
+  at_most =
+      omega arith;
+  exists = one-exists;
+}
 
 ac-written : (most : ℕ) → IsHuffmanTable most (record { place = 0; table = ac_table })
-ac-written most = record { placed = omega arith; counted = refl; has_symbols = refl; some = omega arith; at_most = omega arith; exists = three-exist }
+ac-written most = record {
+  placed = omega arith;
+  counted = refl;
+  has_symbols = refl;
+  some = omega arith;
+  at_most =
+      omega arith;
+  exists = three-exist;
+}
 
 accepted-frame : accepted the_frame ≡ Ok the_frame
 unfolding accepted frame_of component_of sources_by rule_of
@@ -310,40 +370,69 @@ header-written = record {
   wide = omega arith;
   high = omega arith;
   counted = refl;
-  components = (record {
-    is_new = refl;
-    ranged = record { horizontal_some = omega arith; horizontal_most = omega arith; vertical_some = omega arith; vertical_most = omega arith };
-    placed = refl;
-  }, tt);
+  components = (
+    record {
+      is_new = refl;
+      ranged = record {
+        horizontal_some = omega arith;
+        horizontal_most = omega arith;
+        vertical_some =
+            omega arith;
+        vertical_most = omega arith;
+      };
+      placed = refl;
+    },
+    tt,
+  );
 }
 
 written_1 : IsScan the_frame header_1
 unfolding AreChoices frame_of component_of
 written_1 = record {
-  some = omega arith; most = omega arith;
+  some = omega arith;
+  most = omega arith;
   choices = (record { identified = refl; ordered = omega arith; dc_placed = omega arith; ac_placed = omega arith }, tt);
-  fits = refl; narrow = omega arith; precise = refl; band = refl }
+  fits = refl;
+  narrow = omega arith;
+  precise = refl;
+  band = refl;
+}
 
 written_2 : IsScan the_frame header_2
 unfolding AreChoices frame_of component_of
 written_2 = record {
-  some = omega arith; most = omega arith;
+  some = omega arith;
+  most = omega arith;
   choices = (record { identified = refl; ordered = omega arith; dc_placed = omega arith; ac_placed = omega arith }, tt);
-  fits = refl; narrow = omega arith; precise = refl; band = refl }
+  fits = refl;
+  narrow = omega arith;
+  precise = refl;
+  band = refl;
+}
 
 written_3 : IsScan the_frame header_3
 unfolding AreChoices frame_of component_of
 written_3 = record {
-  some = omega arith; most = omega arith;
+  some = omega arith;
+  most = omega arith;
   choices = (record { identified = refl; ordered = omega arith; dc_placed = omega arith; ac_placed = omega arith }, tt);
-  fits = refl; narrow = omega arith; precise = refl; band = refl }
+  fits = refl;
+  narrow = omega arith;
+  precise = refl;
+  band = refl;
+}
 
 written_4 : IsScan the_frame header_4
 unfolding AreChoices frame_of component_of
 written_4 = record {
-  some = omega arith; most = omega arith;
+  some = omega arith;
+  most = omega arith;
   choices = (record { identified = refl; ordered = omega arith; dc_placed = omega arith; ac_placed = omega arith }, tt);
-  fits = refl; narrow = omega arith; precise = refl; band = refl }
+  fits = refl;
+  narrow = omega arith;
+  precise = refl;
+  band = refl;
+}
 
 -- ---- what is said
 
@@ -371,37 +460,73 @@ some-none a e = cc
 legal_1 : IsLegalScan said the_frame levels_0 (scan_written the_frame header_1) (dc_coding ∷ [])
 unfolding nothing_found updated frame_of component_of scan_of pass_of tables_of
 legal_1 = record {
-  are_in_force = and_more 0 0 0 [] [] [] dc_coding [] (record { stands = refl; component = refl; quantization = refl; dc = refl; ac = refl }) no_more;
-  legal = (record {
-    low = omega arith; dc_unsent = λ e f. refl; dc_sent = λ e f. absurd (true≢false f); dc_before = λ n. absurd (n refl);
-    acs_unsent = λ f. tt; acs_sent = λ f. tt }, tt);
+  are_in_force = and_more 0 0 0 [] [] [] dc_coding []
+      (record { stands = refl; component = refl; quantization = refl; dc = refl; ac = refl }) no_more;
+  legal = (
+    record {
+      low = omega arith;
+      dc_unsent = λ e f. refl;
+      dc_sent = λ e f. absurd (true≢false f);
+      dc_before = λ n. absurd (n refl);
+      acs_unsent = λ f. tt;
+      acs_sent = λ f. tt;
+    },
+    tt,
+  );
 }
 
 legal_2 : IsLegalScan said the_frame levels_1 (scan_written the_frame header_2) (ac_coding ∷ [])
 unfolding nothing_found updated frame_of component_of scan_of pass_of tables_of levels_after
 legal_2 = record {
-  are_in_force = and_more 0 0 0 [] [] [] ac_coding [] (record { stands = refl; component = refl; quantization = refl; dc = refl; ac = refl }) no_more;
-  legal = (record {
-    low = omega arith; dc_unsent = λ e f. absurd (omega arith); dc_sent = λ e f. absurd (omega arith); dc_before = λ n e. some-none 1 e;
-    acs_unsent = λ f. all-same None 63; acs_sent = λ f. absurd (true≢false f) }, tt);
+  are_in_force = and_more 0 0 0 [] [] [] ac_coding []
+      (record { stands = refl; component = refl; quantization = refl; dc = refl; ac = refl }) no_more;
+  legal = (
+    record {
+      low = omega arith;
+      dc_unsent = λ e f. absurd (omega arith);
+      dc_sent = λ e f. absurd (omega arith);
+      dc_before = λ n e. some-none 1 e;
+      acs_unsent = λ f. all-same None 63;
+      acs_sent = λ f. absurd (true≢false f);
+    },
+    tt,
+  );
 }
 
 legal_3 : IsLegalScan said the_frame levels_2 (scan_written the_frame header_3) (dc_coding ∷ [])
 unfolding nothing_found updated frame_of component_of scan_of pass_of tables_of levels_after
 legal_3 = record {
-  are_in_force = and_more 0 0 0 [] [] [] dc_coding [] (record { stands = refl; component = refl; quantization = refl; dc = refl; ac = refl }) no_more;
-  legal = (record {
-    low = omega arith; dc_unsent = λ e f. absurd (true≢false (sym f)); dc_sent = λ e f. refl; dc_before = λ n. absurd (n refl);
-    acs_unsent = λ f. tt; acs_sent = λ f. tt }, tt);
+  are_in_force = and_more 0 0 0 [] [] [] dc_coding []
+      (record { stands = refl; component = refl; quantization = refl; dc = refl; ac = refl }) no_more;
+  legal = (
+    record {
+      low = omega arith;
+      dc_unsent = λ e f. absurd (true≢false (sym f));
+      dc_sent = λ e f. refl;
+      dc_before = λ n. absurd (n refl);
+      acs_unsent = λ f. tt;
+      acs_sent = λ f. tt;
+    },
+    tt,
+  );
 }
 
 legal_4 : IsLegalScan said the_frame levels_3 (scan_written the_frame header_4) (ac_coding ∷ [])
 unfolding nothing_found updated frame_of component_of scan_of pass_of tables_of levels_after
 legal_4 = record {
-  are_in_force = and_more 0 0 0 [] [] [] ac_coding [] (record { stands = refl; component = refl; quantization = refl; dc = refl; ac = refl }) no_more;
-  legal = (record {
-    low = omega arith; dc_unsent = λ e f. absurd (omega arith); dc_sent = λ e f. absurd (omega arith); dc_before = λ n e. some-none 0 e;
-    acs_unsent = λ f. absurd (true≢false (sym f)); acs_sent = λ f. all-same (Some 1) 63 }, tt);
+  are_in_force = and_more 0 0 0 [] [] [] ac_coding []
+      (record { stands = refl; component = refl; quantization = refl; dc = refl; ac = refl }) no_more;
+  legal = (
+    record {
+      low = omega arith;
+      dc_unsent = λ e f. absurd (omega arith);
+      dc_sent = λ e f. absurd (omega arith);
+      dc_before = λ n e. some-none 0 e;
+      acs_unsent = λ f. absurd (true≢false (sym f));
+      acs_sent = λ f. all-same (Some 1) 63;
+    },
+    tt,
+  );
 }
 
 has-table : AllByRecursion (HasTable said) the_frame.components
@@ -446,14 +571,20 @@ grey-written = record {
     behind = bytes_behind;
     starts = refl;
     written =
-        segment nothing_found said levels_0 levels_4 false 0 (Quantization (sixteens ∷ [])) _ ((sixteens-written, tt), tt) tt (λ e. absurd (true≢false (sym e))) (
-        segment said_1 said levels_0 levels_4 false 0 (Header 2 header) _ ((refl, header-written), accepted-frame) (omega arith) (λ e. absurd (true≢false (sym e))) (
+        segment nothing_found said levels_0 levels_4 false 0 (Quantization (sixteens ∷ [])) _
+        ((sixteens-written, tt), tt) tt (λ e. absurd (true≢false (sym e))) (
+        segment said_1 said levels_0 levels_4 false 0 (Header 2 header) _ ((refl, header-written), accepted-frame)
+        (omega arith) (λ e. absurd (true≢false (sym e))) (
         segment said_2 said levels_0 levels_4 false 0 dc_segment _ ((dc-written _, tt), tt) tt (λ e. tt) (
         segment said_3 said levels_0 levels_4 false 0 ac_segment _ ((ac-written _, tt), tt) tt (λ e. tt) (
-        scan said said levels_0 levels_4 false the_frame 0 header_1 (dc_coding ∷ []) (66 ∷ 79 ∷ []) bytes_2 refl written_1 legal_1 dc-first (
-        scan said said levels_1 levels_4 true the_frame 0 header_2 (ac_coding ∷ []) (99 ∷ 63 ∷ []) bytes_3 refl written_2 legal_2 ac-first (
-        scan said said levels_2 levels_4 true the_frame 0 header_3 (dc_coding ∷ []) (191 ∷ []) bytes_4 refl written_3 legal_3 dc-again (
-        scan said said levels_3 levels_4 true the_frame 0 header_4 (ac_coding ∷ []) (58 ∷ []) (marker 0 217 []) refl written_4 legal_4 ac-again (
+        scan said said levels_0 levels_4 false the_frame 0 header_1 (dc_coding ∷ [])
+        (66 ∷ 79 ∷ []) bytes_2 refl written_1 legal_1 dc-first (
+        scan said said levels_1 levels_4 true the_frame 0 header_2 (ac_coding ∷ [])
+        (99 ∷ 63 ∷ []) bytes_3 refl written_2 legal_2 ac-first (
+        scan said said levels_2 levels_4 true the_frame 0 header_3 (dc_coding ∷ [])
+        (191 ∷ []) bytes_4 refl written_3 legal_3 dc-again (
+        scan said said levels_3 levels_4 true the_frame 0 header_4 (ac_coding ∷ []) (58 ∷ [])
+        (marker 0 217 []) refl written_4 legal_4 ac-again (
         closed said levels_4 the_frame 0 refl has-table (λ e. absurd (true≢false (sym progressive ∙ e)))))))))));
   };
   framed = refl;

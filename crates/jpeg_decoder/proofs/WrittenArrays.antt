@@ -1,7 +1,7 @@
 -- A scan that was written is read at each of its spots.
-use Rattle.std.proofs.Common.{◌≡◌, ℕ, List, [], ◌∷◌, ◌++◌, map, Option, Some, Result, Ok, refl, sym, ap, ◌∙◌, subst}
+use Rattle.std.proofs.Common.{◌≡◌, ℕ, List, [], ◌∷◌, ◌++◌, map, Option, Some, Ok, refl, sym, ap, ◌∙◌, subst}
 use Rattle.std.specs.List.{AllByRecursion}
-use Rattle.jpeg_bits.specs.Reading.{Outcome, Fault, ◌>>=◌}
+use Rattle.jpeg_bits.specs.Reading.{Outcome, ◌>>=◌}
 use Rattle.jpeg_bits.specs.declared.marker.Marker.{Marker}
 use Rattle.jpeg_bits.specs.Passes.{Pass, Via, Block}
 use Rattle.jpeg_bits.specs.Intervals.{intervals, first_group, other_groups}
@@ -26,7 +26,8 @@ turn_with vias arrays u s = (via_at vias s.slot, block_at arrays s, u s)
 pub record IsReadyAt (p : Pass) (vias : List Via) (arrays : Arrays) (u : Spot → Block) (s : Spot) : Type 0 where
   pub at : IsReady p (turn_with vias arrays u s)
 
-ready-turns : (p : Pass) (vias : List Via) (arrays : Arrays) (u : Spot → Block) (spots : List Spot) → AllByRecursion (IsReadyAt p vias arrays u) spots
+ready-turns : (p : Pass) (vias : List Via) (arrays : Arrays) (u : Spot → Block) (spots : List Spot)
+    → AllByRecursion (IsReadyAt p vias arrays u) spots
     → AllByRecursion (IsReady p) (map (turn_with vias arrays u) spots)
 ready-turns p vias arrays u [] h = tt
 ready-turns p vias arrays u (s ∷ spots) h = (h.0.at, ready-turns p vias arrays u spots h.1)
@@ -35,26 +36,36 @@ abbrev pub put_back : List Spot → Arrays → (List Block × Option Marker) × 
 put_back spots arrays r = Ok ((put_blocks spots r.0.0 arrays, r.0.1), r.1)
 
 arrays-by : (p : Pass) (n : ℕ) (vias : List Via) (spots : List Spot) (arrays : Arrays) (bytes : List ℕ)
-    → arrays_at p n vias spots arrays bytes ≡ (intervals p 0 (first_group n (turns_of vias spots arrays)) (other_groups n (turns_of vias spots arrays)) bytes >>= put_back spots arrays)
+    → arrays_at p n vias spots arrays bytes
+    ≡ (intervals p 0 (first_group n (turns_of vias spots arrays))
+    (other_groups n (turns_of vias spots arrays)) bytes >>= put_back spots arrays)
 unfolding arrays_at
 arrays-by p n vias spots arrays bytes = refl
 
-turns-are : (vias : List Via) (spots : List Spot) (arrays : Arrays) (u : Spot → Block) → reads_of (map (turn_with vias arrays u) spots) ≡ turns_of vias spots arrays
+turns-are : (vias : List Via) (spots : List Spot) (arrays : Arrays) (u : Spot → Block)
+    → reads_of (map (turn_with vias arrays u) spots) ≡ turns_of vias spots arrays
 unfolding turns_of
 turns-are vias spots arrays u = map-map_any (turn_with vias arrays u) (λ (t : Via × Block × Block). (t.0, t.1)) spots
 
 -- A scan that was written is read as the blocks behind the pass, put back at their spots.
-pub reads-arrays : (p : Pass) (n : ℕ) (vias : List Via) (spots : List Spot) (arrays : Arrays) (u : Spot → Block) (bytes : List ℕ) (fill code : ℕ) (m : Marker) (rest : List ℕ)
+pub reads-arrays : (p : Pass) (n : ℕ) (vias : List Via) (spots : List Spot) (arrays : Arrays) (u : Spot → Block)
+    (bytes : List ℕ) (fill code : ℕ) (m : Marker) (rest : List ℕ)
     → AllByRecursion (IsReadyAt p vias arrays u) spots → IsMarker code m
-    → WritesIntervals p 0 (first_group n (written_turns vias spots u)) (other_groups n (written_turns vias spots u)) bytes
+    → WritesIntervals p 0 (first_group n (written_turns vias spots u))
+    (other_groups n (written_turns vias spots u)) bytes
     → arrays_at p n vias spots arrays (bytes ++ marker fill code rest)
     ≡ Ok ((put_blocks spots (map (λ s. behind_pass p (block_at arrays s) (u s)) spots) arrays, Some m), rest)
 reads-arrays p n vias spots arrays u bytes fill code m rest ready h w =
     let all = bytes ++ marker fill code rest in
     let turns = map (turn_with vias arrays u) spots in
-    let news : numbers_of turns ≡ written_turns vias spots u = map-map_any (turn_with vias arrays u) (λ (t : Via × Block × Block). (t.0, t.2)) spots in
-    let written = subst (λ (x : List (Via × Block)). WritesIntervals p 0 (first_group n x) (other_groups n x) bytes) (sym news) w in
+    let news : numbers_of turns ≡ written_turns vias spots u =
+    map-map_any (turn_with vias arrays u) (λ (t : Via × Block × Block). (t.0, t.2)) spots in
+    let written = subst (λ (x : List (Via × Block)). WritesIntervals p 0 (first_group n x) (other_groups n x) bytes)
+    (sym news) w in
     arrays-by p n vias spots arrays all
-    ∙ ap (λ (x : List (Via × Block)). intervals p 0 (first_group n x) (other_groups n x) all >>= put_back spots arrays) (sym (turns-are vias spots arrays u))
-    ∙ ap (λ (o : Outcome (List Block × Option Marker)). o >>= put_back spots arrays) (reads-groups p n turns bytes fill code m rest (ready-turns p vias arrays u spots ready) h written)
-    ∙ ap (λ (l : List Block). Ok ((put_blocks spots l arrays, Some m), rest)) (map-map_any (turn_with vias arrays u) (λ (t : Via × Block × Block). behind_pass p t.1 t.2) spots)
+    ∙ ap (λ (x : List (Via × Block)). intervals p 0 (first_group n x)
+    (other_groups n x) all >>= put_back spots arrays) (sym (turns-are vias spots arrays u))
+    ∙ ap (λ (o : Outcome (List Block × Option Marker)). o >>= put_back spots arrays)
+    (reads-groups p n turns bytes fill code m rest (ready-turns p vias arrays u spots ready) h written)
+    ∙ ap (λ (l : List Block). Ok ((put_blocks spots l arrays, Some m), rest))
+    (map-map_any (turn_with vias arrays u) (λ (t : Via × Block × Block). behind_pass p t.1 t.2) spots)

@@ -1,5 +1,8 @@
 -- A band that was written is read again.
-use Rattle.std.proofs.Common.{◌≡◌, ◌≢◌, ◌⊎◌, inl, inr, ℕ, zero, suc, ◌+◌, ◌-◌, ◌*◌, ◌/◌, ◌%◌, ◌^◌, ◌<◌, ◌≤◌, Bool, true, false, List, [], ◌∷◌, ◌++◌, map, length, take, drop, ℤ, pos, negsuc, ◌-ℤ◌, ◌*ℤ◌, unsigned_abs, refl, sym, ap, ◌∙◌, subst, append_assoc, append-nil, arith, eqb, leb, ltb, pow-suc, w16, pow_pos}
+use Rattle.std.proofs.Common.{◌≡◌, ◌≢◌, ◌⊎◌, inl, inr, ℕ, zero, suc, ◌+◌, ◌-◌, ◌*◌, ◌/◌, ◌%◌, ◌^◌, ◌<◌, ◌≤◌, Bool}
+use Rattle.std.proofs.Common.{true, false, List, [], ◌∷◌, ◌++◌, map, length, take, drop, ℤ, pos, negsuc, ◌-ℤ◌}
+use Rattle.std.proofs.Common.{unsigned_abs, refl, sym, ap, ◌∙◌, subst, append_assoc, append-nil, arith, eqb, leb, ltb}
+use Rattle.std.proofs.Common.{pow-suc, w16, pow_pos}
 use Rattle.std.proofs.lemmas.List.{take-replicate, drop-replicate, length-replicate}
 use Rattle.std.proofs.Common.{neg_ℤ, le_refl, length-append, ap₂}
 use Rattle.std.proofs.Math.Nat.{zero-mul, mul-le-mul_left}
@@ -12,7 +15,7 @@ use Rattle.std.proofs.Common.{slice_index}
 use Rattle.jpeg_bits.specs.Entropy.{bits_from, extended}
 use Rattle.jpeg_bits.specs.Codes.{Table, code_from}
 use Rattle.jpeg_bits.specs.Written.{low_bits, code_size, code_bits}
-use Rattle.jpeg_bits.specs.Readers.{Reads, ◌>>=◌, gives, signed_from, ReadsJust}
+use Rattle.jpeg_bits.specs.Readers.{Reads, signed_from, ReadsJust}
 use Rattle.jpeg_bits.specs.Bands.{wrapped, Band, before_more, token_at, token_from, behind_token, first_ac}
 use Rattle.jpeg_bits.specs.declared.tokens.Token.{Token}
 use Rattle.jpeg_bits.specs.declared.tokens.Token.TheVariants.{Value, Sixteen, Rest}
@@ -28,7 +31,8 @@ use Rattle.jpeg_decoder.proofs.SentBlocks.{scaled, InRange}
 pub category-half : (d : ℤ) (t : ℕ) → IsCategory d (suc t) → 2 ^ t ≤ unsigned_abs d
 category-half d t h = below (leb_tells (2 ^ t) (unsigned_abs d))
   where
-    below : ((leb (2 ^ t) (unsigned_abs d) ≡ true) × (2 ^ t ≤ unsigned_abs d)) ⊎ ((leb (2 ^ t) (unsigned_abs d) ≡ false) × (unsigned_abs d < 2 ^ t)) → 2 ^ t ≤ unsigned_abs d
+    below : ((leb (2 ^ t) (unsigned_abs d) ≡ true) × (2 ^ t ≤ unsigned_abs d))
+        ⊎ ((leb (2 ^ t) (unsigned_abs d) ≡ false) × (unsigned_abs d < 2 ^ t)) → 2 ^ t ≤ unsigned_abs d
     below (inl p) = p.1
     below (inr p) = absurd (let no : suc t ≤ t = h.is_least t p.1 in omega arith)
 
@@ -66,13 +70,17 @@ pub takes-signed : (u : ℤ) (t : ℕ) → IsCategory u (suc t) → ReadsJust (s
 unfolding signed_from
 takes-signed u t cat = record {
   read = λ rest places e.
-      rw ((takes-number (suc t) (number_for u (suc t)) (number_for-lt u (suc t) cat)).read rest places e, extend-number_for u t cat) refl;
+      rw (
+        (takes-number (suc t) (number_for u (suc t)) (number_for-lt u (suc t) cat)).read rest places e,
+        extend-number_for u t cat,
+      ) refl;
 }
 
 -- ---- tokens
 
 -- a token is read of its code and the bits behind it
-pub token-read : (table : Table) (room r s : ℕ) (code bits : List Bool) (x : Token) → IsGood table → IsCoded table (16 * r + s) code → s ≤ 15
+pub token-read : (table : Table) (room r s : ℕ) (code bits : List Bool) (x : Token) → IsGood table
+    → IsCoded table (16 * r + s) code → s ≤ 15
     → ((size : ℕ) → ReadsJust (token_at room size r s) bits x) → ReadsJust (token_from table room) (code ++ bits) x
 unfolding token_from
 token-read table room r s code bits x good coded small piece =
@@ -82,20 +90,26 @@ token-read table room r s code bits x good coded small piece =
     let token = λ (c : ℕ × ℕ). token_at room c.0 (c.1 / 16) (c.1 % 16) in
     let size = code_size table coded.place in
     let body : ReadsJust (token (size, symbol)) bits x = rw (high, low) (piece size) in
-    takes-as _ (code_bits table coded.place ++ bits) (code ++ bits) x x (ap (λ (b : List Bool). b ++ bits) coded.has_bits) refl
-    (takes-bind (code_from table) token (code_bits table coded.place) bits (size, symbol) x (good.reads coded.place coded.listed) body)
+    takes-as _ (code_bits table coded.place ++ bits) (code ++ bits) x x
+    (ap (λ (b : List Bool). b ++ bits) coded.has_bits) refl
+    (takes-bind (code_from table) token (code_bits table coded.place) bits (size, symbol) x
+    (good.reads coded.place coded.listed) body)
 
-pub takes-token : (table : Table) (al m j r s : ℕ) (code own bits : List Bool) (x : Token) (y : Band) → IsGood table → IsCoded table (16 * r + s) code → s ≤ 15
+pub takes-token : (table : Table) (al m j r s : ℕ) (code own bits : List Bool) (x : Token) (y : Band) → IsGood table
+    → IsCoded table (16 * r + s) code → s ≤ 15
     → ((room size : ℕ) → room ≡ suc j → ReadsJust (token_at room size r s) own x)
     → ReadsJust (behind_token al (first_ac table al m) (no_numbers (suc j)) x) bits y
     → ReadsJust (first_ac table al (suc m) (no_numbers (suc j))) ((code ++ own) ++ bits) y
 unfolding first_ac
 takes-token table al m j r s code own bits x y good coded small token behind =
-    takes-bind (token_from table (length (no_numbers (suc j)))) (behind_token al (first_ac table al m) (no_numbers (suc j))) (code ++ own) bits x y
-    (token-read table (length (no_numbers (suc j))) r s code own x good coded small (λ size. token (length (no_numbers (suc j))) size (length-replicate (suc j) (pos 0))))
+    takes-bind (token_from table (length (no_numbers (suc j))))
+    (behind_token al (first_ac table al m) (no_numbers (suc j))) (code ++ own) bits x y
+    (token-read table (length (no_numbers (suc j))) r s code own x good coded small
+    (λ size. token (length (no_numbers (suc j))) size (length-replicate (suc j) (pos 0))))
     behind
 
-pub token-value : (room size r t : ℕ) (u : ℤ) → r < room → IsCategory u (suc t) → ReadsJust (token_at room size r (suc t)) (bits_for u (suc t)) (Value r u)
+pub token-value : (room size r t : ℕ) (u : ℤ) → r < room → IsCategory u (suc t)
+    → ReadsJust (token_at room size r (suc t)) (bits_for u (suc t)) (Value r u)
 unfolding token_at
 token-value room size r t u h cat =
     rw (lt-ltb 0 (suc t) (omega arith), lt-ltb r room h, token_at)
@@ -105,26 +119,31 @@ pub token-sixteen : (room size : ℕ) → ReadsJust (token_at room size 15 0) []
 unfolding token_at
 token-sixteen room size = takes-gives Sixteen
 
-pub token-rest : (room size r e : ℕ) → r ≤ 14 → e < 2 ^ r → ReadsJust (token_at room size r 0) (low_bits r e) (Rest (2 ^ r - 1 + e))
+pub token-rest : (room size r e : ℕ) → r ≤ 14 → e < 2 ^ r
+    → ReadsJust (token_at room size r 0) (low_bits r e) (Rest (2 ^ r - 1 + e))
 unfolding token_at
 token-rest room size r e h f =
     let no : eqb r 15 ≡ false = grind (arith, nat_tests) in
     rw (no, token_at) (takes-map (bits_from r) (λ (k : ℕ). Rest (2 ^ r - 1 + k)) (low_bits r e) e (takes-number r e f))
 
-pub behind-value : (al : ℕ) (others : List ℤ → Reads Band) (places : List ℤ) (r : ℕ) (u : ℤ) (bits : List Bool) (more : Band)
+pub behind-value : (al : ℕ) (others : List ℤ → Reads Band) (places : List ℤ) (r : ℕ) (u : ℤ) (bits : List Bool)
+    (more : Band)
     → wrapped (scaled al u) ≡ scaled al u → ReadsJust (others (drop (r + 1) places)) bits more
     → ReadsJust (behind_token al others places (Value r u)) bits (before_more (take r places ++ scaled al u ∷ []) more)
 behind-value al others places r u bits more fits w =
     rw fits (takes-map (others (drop (r + 1) places)) (before_more (take r places ++ scaled al u ∷ [])) bits more w)
 
 pub behind-sixteen : (al : ℕ) (others : List ℤ → Reads Band) (places : List ℤ) (bits : List Bool) (more : Band)
-    → ReadsJust (others (drop 16 places)) bits more → ReadsJust (behind_token al others places Sixteen) bits (before_more (take 16 places) more)
-behind-sixteen al others places bits more w = takes-map (others (drop 16 places)) (before_more (take 16 places)) bits more w
+    → ReadsJust (others (drop 16 places)) bits more
+    → ReadsJust (behind_token al others places Sixteen) bits (before_more (take 16 places) more)
+behind-sixteen al others places bits more w =
+    takes-map (others (drop 16 places)) (before_more (take 16 places)) bits more w
 
 -- ---- bands
 
 pub range-below : (al : ℕ) (u : ℤ) → InRange al u → unsigned_abs u < 2 ^ 15
-range-below al u h = let one : 1 ≤ 2 ^ al = pow_pos al in let p = mul-le-mul_left (unsigned_abs u) one in let w = h.within in omega (arith, p, w)
+range-below al u h = let one : 1 ≤ 2 ^ al = pow_pos al in let p = mul-le-mul_left (unsigned_abs u) one in let w =
+    h.within in omega (arith, p, w)
 
 pub category-small : (al : ℕ) (u : ℤ) (s : ℕ) → InRange al u → IsCategory u s → s ≤ 15
 category-small al u s h cat = cat.is_least 15 (range-below al u h)
@@ -142,17 +161,23 @@ mag-le (pos n) = le_refl n
 mag-le (negsuc n) = omega arith
 
 pub scaled-fits : (al : ℕ) (u : ℤ) → InRange al u → wrapped (scaled al u) ≡ scaled al u
-scaled-fits al u h = int_wrap_fits w16 (scaled al u) (record { sfits = let a = abs-scaled al u in let b = mag-le (scaled al u) in let w = h.within in omega (arith, a, b, w) })
+scaled-fits al u h = int_wrap_fits w16 (scaled al u)
+    (record {
+      sfits = let a = abs-scaled al u in let b = mag-le (scaled al u) in let w = h.within in
+          omega (arith, a, b, w);
+    })
 
 pub scaled-zero : (al : ℕ) → scaled al (pos 0) ≡ pos 0
 scaled-zero al = ap pos (omega (arith, zero-mul (2 ^ al)))
 
-pub map-no_numbers : (al r : ℕ) (more : List ℤ) → map (scaled al) (no_numbers r ++ more) ≡ no_numbers r ++ map (scaled al) more
+pub map-no_numbers : (al r : ℕ) (more : List ℤ)
+    → map (scaled al) (no_numbers r ++ more) ≡ no_numbers r ++ map (scaled al) more
 map-no_numbers al zero more = refl
 map-no_numbers al (suc r) more = ap₂ (λ (x : ℤ) (xs : List ℤ). x ∷ xs) (scaled-zero al) (map-no_numbers al r more)
 
 pub length-no_numbers : (r : ℕ) (more : List ℤ) → length (no_numbers r ++ more) ≡ r + length more
-length-no_numbers r more = length-append (no_numbers r) more ∙ ap (λ (k : ℕ). k + length more) (length-replicate r (pos 0))
+length-no_numbers r more = length-append (no_numbers r) more
+    ∙ ap (λ (k : ℕ). k + length more) (length-replicate r (pos 0))
 
 pub abs-zero : (u : ℤ) → unsigned_abs u < 2 ^ 0 → u ≡ pos 0
 abs-zero (pos zero) h = refl
@@ -160,67 +185,87 @@ abs-zero (pos (suc n)) h = absurd (omega arith)
 abs-zero (negsuc n) h = absurd (omega arith)
 
 pub band-value : (table : Table) (al r s n : ℕ) (u : ℤ) (code : List Bool) (more : List ℤ) (bits : List Bool) (run : ℕ)
-    → IsGood table → InRange al u → u ≢ pos 0 → IsCategory u s → IsCoded table (16 * r + s) code → suc (r + length more) ≤ n
-    → ((m : ℕ) → length more ≤ m → ReadsJust (first_ac table al m (no_numbers (length more))) bits (map (scaled al) more, run))
+    → IsGood table → InRange al u → u ≢ pos 0 → IsCategory u s → IsCoded table (16 * r + s) code
+    → suc (r + length more) ≤ n
+    → ((m : ℕ) → length more ≤ m
+    → ReadsJust (first_ac table al m (no_numbers (length more))) bits (map (scaled al) more, run))
     → ReadsJust (first_ac table al n (no_numbers (length (no_numbers r ++ u ∷ more)))) (code ++ bits_for u s ++ bits)
     (map (scaled al) (no_numbers r ++ u ∷ more), run)
 band-value table al r s zero u code more bits run good range nz cat coded room others = absurd (omega arith)
-band-value table al r zero (suc m) u code more bits run good range nz cat coded room others = absurd (nz (abs-zero u cat.holds))
+band-value table al r zero (suc m) u code more bits run good range nz cat coded room others =
+    absurd (nz (abs-zero u cat.holds))
 band-value table al r (suc t) (suc m) u code more bits run good range nz cat coded room others =
     let k = length more in
     let places = no_numbers (suc (r + k)) in
     let long : length places ≡ suc (r + k) = length-replicate (suc (r + k)) (pos 0) in
     let front : take r places ≡ no_numbers r = take-replicate r (suc (r + k)) (pos 0) (omega arith) in
-    let back : drop (r + 1) places ≡ no_numbers k = drop-replicate (r + 1) (suc (r + k)) (pos 0) ∙ ap no_numbers (omega arith) in
-    let w = subst (λ (l : List ℤ). ReadsJust (first_ac table al m l) bits (map (scaled al) more, run)) (sym back) (others m (omega arith)) in
+    let back : drop (r + 1) places ≡ no_numbers k = drop-replicate (r + 1) (suc (r + k)) (pos 0)
+    ∙ ap no_numbers (omega arith) in
+    let w = subst (λ (l : List ℤ). ReadsJust (first_ac table al m l) bits (map (scaled al) more, run)) (sym back)
+    (others m (omega arith)) in
     let given : length (no_numbers r ++ u ∷ more) ≡ suc (r + k) = length-no_numbers r (u ∷ more) ∙ omega arith in
-    let numbers : (take r places ++ scaled al u ∷ []) ++ map (scaled al) more ≡ map (scaled al) (no_numbers r ++ u ∷ more)
+    let numbers : (take r places ++ scaled al u ∷ []) ++ map (scaled al) more
+    ≡ map (scaled al) (no_numbers r ++ u ∷ more)
     = ap (λ (l : List ℤ). (l ++ scaled al u ∷ []) ++ map (scaled al) more) front
     ∙ append_assoc (no_numbers r) (scaled al u ∷ []) (map (scaled al) more) ∙ sym (map-no_numbers al r (u ∷ more)) in
-    let token = takes-token table al m (r + k) r (suc t) code (bits_for u (suc t)) bits (Value r u) _ good coded (category-small al u (suc t) range cat)
+    let token = takes-token table al m (r + k) r (suc t) code (bits_for u (suc t)) bits (Value r u) _ good coded
+    (category-small al u (suc t) range cat)
     (λ room size e. token-value room size r t u (omega arith) cat)
     (behind-value al (first_ac table al m) places r u bits (map (scaled al) more, run) (scaled-fits al u range) w) in
-    subst (λ (l : ℕ). ReadsJust (first_ac table al (suc m) (no_numbers l)) (code ++ bits_for u (suc t) ++ bits) (map (scaled al) (no_numbers r ++ u ∷ more), run))
+    subst (λ (l : ℕ). ReadsJust (first_ac table al (suc m) (no_numbers l)) (code ++ bits_for u (suc t) ++ bits)
+    (map (scaled al) (no_numbers r ++ u ∷ more), run))
     (sym given) (takes-as _ _ _ _ _ refl (ap (λ (l : List ℤ). (l, run)) numbers) token)
 
 pub band-sixteen : (table : Table) (al n : ℕ) (code : List Bool) (more : List ℤ) (bits : List Bool) (run : ℕ)
     → IsGood table → IsCoded table (16 * 15 + 0) code → 16 + length more ≤ n
-    → ((m : ℕ) → length more ≤ m → ReadsJust (first_ac table al m (no_numbers (length more))) bits (map (scaled al) more, run))
-    → ReadsJust (first_ac table al n (no_numbers (length (no_numbers 16 ++ more)))) (code ++ bits) (map (scaled al) (no_numbers 16 ++ more), run)
+    → ((m : ℕ) → length more ≤ m
+    → ReadsJust (first_ac table al m (no_numbers (length more))) bits (map (scaled al) more, run))
+    → ReadsJust (first_ac table al n (no_numbers (length (no_numbers 16 ++ more)))) (code ++ bits)
+    (map (scaled al) (no_numbers 16 ++ more), run)
 band-sixteen table al zero code more bits run good coded room others = absurd (omega arith)
 band-sixteen table al (suc m) code more bits run good coded room others =
     let k = length more in
     let places = no_numbers (suc (15 + k)) in
     let front : take 16 places ≡ no_numbers 16 = take-replicate 16 (suc (15 + k)) (pos 0) (omega arith) in
     let back : drop 16 places ≡ no_numbers k = drop-replicate 16 (suc (15 + k)) (pos 0) ∙ ap no_numbers (omega arith) in
-    let w = subst (λ (l : List ℤ). ReadsJust (first_ac table al m l) bits (map (scaled al) more, run)) (sym back) (others m (omega arith)) in
+    let w = subst (λ (l : List ℤ). ReadsJust (first_ac table al m l) bits (map (scaled al) more, run)) (sym back)
+    (others m (omega arith)) in
     let given : length (no_numbers 16 ++ more) ≡ suc (15 + k) = length-no_numbers 16 more ∙ omega arith in
     let numbers : take 16 places ++ map (scaled al) more ≡ map (scaled al) (no_numbers 16 ++ more)
     = ap (λ (l : List ℤ). l ++ map (scaled al) more) front ∙ sym (map-no_numbers al 16 more) in
     let token = takes-token table al m (15 + k) 15 0 code [] bits Sixteen _ good coded (omega arith)
     (λ room size e. token-sixteen room size)
     (behind-sixteen al (first_ac table al m) places bits (map (scaled al) more, run) w) in
-    subst (λ (l : ℕ). ReadsJust (first_ac table al (suc m) (no_numbers l)) (code ++ bits) (map (scaled al) (no_numbers 16 ++ more), run))
-    (sym given) (takes-as _ _ _ _ _ (ap (λ (b : List Bool). b ++ bits) (append-nil code)) (ap (λ (l : List ℤ). (l, run)) numbers) token)
+    subst (λ (l : ℕ). ReadsJust (first_ac table al (suc m) (no_numbers l)) (code ++ bits)
+    (map (scaled al) (no_numbers 16 ++ more), run))
+    (sym given) (takes-as _ _ _ _ _ (ap (λ (b : List Bool). b ++ bits) (append-nil code))
+    (ap (λ (l : List ℤ). (l, run)) numbers) token)
 
-pub band-rest : (table : Table) (al k n r e : ℕ) (code : List Bool) → IsGood table → r ≤ 14 → e < 2 ^ r → IsCoded table (16 * r + 0) code → suc k ≤ n
-    → ReadsJust (first_ac table al n (no_numbers (length (no_numbers (suc k))))) (code ++ low_bits r e) (map (scaled al) (no_numbers (suc k)), 2 ^ r - 1 + e)
+pub band-rest : (table : Table) (al k n r e : ℕ) (code : List Bool) → IsGood table → r ≤ 14 → e < 2 ^ r
+    → IsCoded table (16 * r + 0) code → suc k ≤ n
+    → ReadsJust (first_ac table al n (no_numbers (length (no_numbers (suc k))))) (code ++ low_bits r e)
+    (map (scaled al) (no_numbers (suc k)), 2 ^ r - 1 + e)
 band-rest table al k zero r e code good h f coded room = absurd (omega arith)
 band-rest table al k (suc m) r e code good h f coded room =
     let numbers : no_numbers (suc k) ≡ map (scaled al) (no_numbers (suc k))
-    = sym (append-nil (no_numbers (suc k))) ∙ sym (map-no_numbers al (suc k) []) ∙ ap (map (scaled al)) (append-nil (no_numbers (suc k))) in
+    = sym (append-nil (no_numbers (suc k))) ∙ sym (map-no_numbers al (suc k) [])
+    ∙ ap (map (scaled al)) (append-nil (no_numbers (suc k))) in
     let token = takes-token table al m k r 0 code (low_bits r e) [] (Rest (2 ^ r - 1 + e)) _ good coded (omega arith)
     (λ room size q. token-rest room size r e h f)
     (takes-gives (no_numbers (suc k), 2 ^ r - 1 + e)) in
-    subst (λ (l : ℕ). ReadsJust (first_ac table al (suc m) (no_numbers l)) (code ++ low_bits r e) (map (scaled al) (no_numbers (suc k)), 2 ^ r - 1 + e))
-    (sym (length-replicate (suc k) (pos 0))) (takes-as _ _ _ _ _ (append-nil (code ++ low_bits r e)) (ap (λ (l : List ℤ). (l, 2 ^ r - 1 + e)) numbers) token)
+    subst (λ (l : ℕ). ReadsJust (first_ac table al (suc m) (no_numbers l)) (code ++ low_bits r e)
+    (map (scaled al) (no_numbers (suc k)), 2 ^ r - 1 + e))
+    (sym (length-replicate (suc k) (pos 0)))
+    (takes-as _ _ _ _ _ (append-nil (code ++ low_bits r e)) (ap (λ (l : List ℤ). (l, 2 ^ r - 1 + e)) numbers) token)
 
-pub all-behind : (P : ℤ → Type 0) (r : ℕ) (more : List ℤ) → AllByRecursion P (no_numbers r ++ more) → AllByRecursion P more
+pub all-behind : (P : ℤ → Type 0) (r : ℕ) (more : List ℤ) → AllByRecursion P (no_numbers r ++ more)
+    → AllByRecursion P more
 all-behind P zero more h = h
 all-behind P (suc r) more h = all-behind P r more h.1
 
 -- A band that was written is read as its numbers times 2 ^ al, and as the run behind it.
-pub takes-band : (table : Table) (al : ℕ) (band : List ℤ) (bits : List Bool) (run : ℕ) → IsGood table → AllByRecursion (InRange al) band
+pub takes-band : (table : Table) (al : ℕ) (band : List ℤ) (bits : List Bool) (run : ℕ) → IsGood table
+    → AllByRecursion (InRange al) band
     → WritesBand table band bits run → (n : ℕ) → length band ≤ n
     → ReadsJust (first_ac table al n (no_numbers (length band))) bits (map (scaled al) band, run)
 unfolding first_ac

@@ -1,29 +1,29 @@
 -- A written scan of a frame takes the blocks of its components to the next level.
-use Rattle.std.proofs.Common.{◌≡◌, ◌≢◌, ◌⊎◌, inl, inr, ℕ, zero, suc, ◌+◌, ◌-◌, ◌*◌, ◌/◌, ◌%◌, ◌<◌, ◌≤◌, Bool, true, false, List, [], ◌∷◌, ◌++◌, map, length, take, drop, replicate, get_or, set, ℤ, pos, Option, Some, None, Ok, refl, sym, ap, ap₂, ◌∙◌, subst, arith, true≢false, length-set, get_or-set_same, get_or-set_other}
-use Rattle.std.proofs.Math.Nat.{div-lt_iff_lt-mul, mod-lt}
+use Rattle.std.proofs.Common.{◌≡◌, inl, inr, ℕ, zero, suc, ◌+◌, ◌*◌, ◌/◌, ◌%◌, ◌<◌, ◌≤◌, List, [], ◌∷◌, ◌++◌, map}
+use Rattle.std.proofs.Common.{length, take, drop, replicate, get_or, set, ℤ, pos, Some, None, Ok, refl, sym, ap, ap₂}
+use Rattle.std.proofs.Common.{◌∙◌, subst, arith, true≢false, length-set}
+use Rattle.std.proofs.Math.Nat.{div-lt_iff_lt-mul}
 use Rattle.std.specs.List.{AllByRecursion}
 use lib.ListN.{length-map}
-use Rattle.jpeg_bits.specs.Codes.{Table, code_lengths, lengths_from}
+use Rattle.jpeg_bits.specs.Codes.{code_lengths, lengths_from}
 use Rattle.jpeg_bits.specs.declared.codes.HuffmanTableClass.{HuffmanTableClass}
 use Rattle.jpeg_bits.specs.declared.marker.Marker.{Marker}
 use Rattle.jpeg_bits.proofs.Tables.{IsGood}
 use Rattle.jpeg_segments.specs.Frame.{Frame, Component}
-use Rattle.jpeg_segments.specs.ScanHeader.{Scan}
 use Rattle.jpeg_decoder.specs.declared.grids.Grid.{Grid}
 use Rattle.jpeg_bits.specs.Passes.{Pass, Via, Block, whole_pass, zero_block, band_of, before_band, band_size}
 use Rattle.jpeg_decoder.specs.Order.{Spot, grid_of, own_spots, spots_of, mcu_size}
 use Rattle.jpeg_decoder.specs.Scans.{Arrays, block_at, put_block, put_blocks, via_at, no_table, arrays_at}
-use Rattle.jpeg_decoder.specs.Stream.{Coding, Found, vias_from, pass_of, arrays_before, scan_arrays}
-use Rattle.jpeg_decoder.specs.Levels.{Levels, Is8Bit, numbers_at, cut, cut_acs, nothing_sent, IsLegal, levels_behind}
+use Rattle.jpeg_decoder.specs.Stream.{Coding, vias_from}
+use Rattle.jpeg_decoder.specs.Levels.{Levels, Is8Bit, numbers_at, cut, nothing_sent, IsLegal, levels_behind}
 use Rattle.jpeg_decoder.specs.WrittenData.{marker, no_numbers}
-use Rattle.jpeg_decoder.specs.WrittenScans.{Coefficients, IsOwn, grid_at, no_grid, components_of, place_at, block_for, written_turns, WritesScan}
+use Rattle.jpeg_decoder.specs.WrittenScans.{Coefficients, IsOwn, grid_at, no_grid, components_of, WritesScan}
 use Rattle.jpeg_decoder.proofs.SentBlocks.{held, InRange, Suits, behind_pass}
 use Rattle.jpeg_decoder.proofs.AcceptedStreams.{IsMarker}
 use Rattle.jpeg_decoder.proofs.CutLevels.{suits-cut, cut-behind, all-same, cut-unsent, floor-range, floor-fits}
-use Rattle.jpeg_decoder.proofs.WrittenBlocks.{IsReady}
 use Rattle.jpeg_decoder.proofs.WrittenArrays.{IsReadyAt, reads-arrays, map-map_any}
 use Rattle.jpeg_decoder.proofs.PutBlocks.{IsIn, IsInside, reaches}
-use Rattle.jpeg_decoder.proofs.OwnSpots.{At, at-some, at-within, at-get, get-beyond, IsOwnSpot, own-only, Fits, covered}
+use Rattle.jpeg_decoder.proofs.OwnSpots.{At, at-within, at-get, IsOwnSpot, own-only, Fits, covered}
 
 -- ---- blocks of a component
 
@@ -58,7 +58,8 @@ whole-legal = record {
 
 pub suits-zero : (c : Block) → Is8Bit c → Suits whole_pass zero_block (numbers_at 0 c)
 suits-zero c range =
-    subst (λ (b : Block). Suits whole_pass b (numbers_at 0 c)) (cut-nothing c range.count) (suits-cut whole_pass nothing_sent c range range.count whole-legal)
+    subst (λ (b : Block). Suits whole_pass b (numbers_at 0 c)) (cut-nothing c range.count)
+    (suits-cut whole_pass nothing_sent c range range.count whole-legal)
 
 pub no-band : {A : Type 0} (p : Pass) (xs : List A) → p.ss ≡ 0 → p.se ≡ 0 → band_of p xs ≡ []
 no-band p xs e f =
@@ -94,37 +95,44 @@ pub record IsGoodVia (v : Via) : Type 0 where
   pub dc : IsGood v.dc
   pub ac : IsGood v.ac
 
-vias-good : (base slot : ℕ) (codings : List Coding) (d : Via) → IsGoodVia d → AllByRecursion HasGood codings → IsGoodVia (get_or (vias_from base codings) slot d)
+vias-good : (base slot : ℕ) (codings : List Coding) (d : Via) → IsGoodVia d → AllByRecursion HasGood codings
+    → IsGoodVia (get_or (vias_from base codings) slot d)
 unfolding vias_from
 vias-good base slot [] d h all = h
 vias-good base zero (k ∷ more) d h all = record { dc = all.0.dc; ac = all.0.ac }
 vias-good base (suc slot) (k ∷ more) d h all = vias-good (base + 1) slot more d h all.1
 
-pub via-good : (codings : List Coding) (slot : ℕ) → AllByRecursion HasGood codings → IsGoodVia (via_at (vias_from 0 codings) slot)
+pub via-good : (codings : List Coding) (slot : ℕ) → AllByRecursion HasGood codings
+    → IsGoodVia (via_at (vias_from 0 codings) slot)
 via-good codings slot all = vias-good 0 slot codings _ (record { dc = none-good _; ac = none-good _ }) all
 
 -- ---- a scan
 
 -- a component of the scan: its blocks are held, and the scan is legal for it
-pub record SlotReady (frame : Frame) (p : Pass) (array : Coefficients) (levels : ℕ → Levels) (before : Arrays) (k : Coding) : Type 0 where
+pub record SlotReady (frame : Frame) (p : Pass) (array : Coefficients) (levels : ℕ → Levels) (before : Arrays)
+    (k : Coding) : Type 0 where
   pub fits : Fits frame k.component
   pub holds : HoldsOwn (grid_of k.component) (array k.place) (levels k.place) (get_or before k.place [])
   pub legal : IsLegal p (levels k.place)
   pub sized : length (levels k.place).acs ≡ 63
 
--- why the blocks at all spots of a scan suit it: none was read yet; or it has DC alone; or it has one component, and so no padding
+-- why the blocks at all spots of a scan suit it: none was read yet; or it has DC alone; or it has
+-- one component, and so no padding
 pub data SpotsSuit (p : Pass) (before : Arrays) (codings : List Coding) : Type 0 where
-  none_read : p ≡ whole_pass → ((place index : ℕ) → get_or (get_or before place []) index zero_block ≡ zero_block) → SpotsSuit p before codings
+  none_read : p ≡ whole_pass → ((place index : ℕ) → get_or (get_or before place []) index zero_block ≡ zero_block)
+      → SpotsSuit p before codings
   dc_alone : p.ss ≡ 0 → p.se ≡ 0 → p.al ≤ 7 → SpotsSuit p before codings
   one_component : (k : Coding) → codings ≡ k ∷ [] → SpotsSuit p before codings
 
 abbrev pub arrays_of : Arrays → List Coding → Arrays
 arrays_of before codings = map (λ (c : Coding). get_or before c.place []) codings
 
-pub array-at : (before : Arrays) (codings : List Coding) (k : Coding) (j : ℕ) → At j codings k → get_or (arrays_of before codings) j [] ≡ get_or before k.place []
+pub array-at : (before : Arrays) (codings : List Coding) (k : Coding) (j : ℕ) → At j codings k
+    → get_or (arrays_of before codings) j [] ≡ get_or before k.place []
 array-at before codings k j h = at-get (λ (c : Coding). get_or before c.place []) [] j codings k h
 
-pub grid-at : (codings : List Coding) (k : Coding) (j : ℕ) → At j codings k → grid_at (components_of codings) j ≡ grid_of k.component
+pub grid-at : (codings : List Coding) (k : Coding) (j : ℕ) → At j codings k
+    → grid_at (components_of codings) j ≡ grid_of k.component
 grid-at codings k j h =
     ap (λ (l : List Grid). get_or l j no_grid) (map-map_any (λ (c : Coding). c.component) grid_of codings)
     ∙ at-get (λ (c : Coding). grid_of c.component) no_grid j codings k h
@@ -152,30 +160,37 @@ at-map f j [] x h = absurd h
 at-map f zero (y ∷ xs) x h = ap f h
 at-map f (suc j) (y ∷ xs) x h = at-map f j xs x h
 
-pub put-count : (f : Spot → Block) (spots : List Spot) (arrays : Arrays) → length (put_blocks spots (map f spots) arrays) ≡ length arrays
+pub put-count : (f : Spot → Block) (spots : List Spot) (arrays : Arrays)
+    → length (put_blocks spots (map f spots) arrays) ≡ length arrays
 unfolding put_blocks
 put-count f [] arrays = refl
-put-count f (s ∷ spots) arrays = put-count f spots (put_block s (f s) arrays) ∙ length-set arrays s.slot (set (get_or arrays s.slot []) s.index (f s))
+put-count f (s ∷ spots) arrays = put-count f spots (put_block s (f s) arrays)
+    ∙ length-set arrays s.slot (set (get_or arrays s.slot []) s.index (f s))
 
 -- the blocks of a component stay as many
-pub put-one : (s : Spot) (b : Block) (j : ℕ) (arrays : Arrays) → length (get_or (put_block s b arrays) j []) ≡ length (get_or arrays j [])
+pub put-one : (s : Spot) (b : Block) (j : ℕ) (arrays : Arrays)
+    → length (get_or (put_block s b arrays) j []) ≡ length (get_or arrays j [])
 put-one s b j arrays = go s.slot j arrays
   where
-    go : (i j : ℕ) (l : Arrays) → length (get_or (set l i (set (get_or l i []) s.index b)) j []) ≡ length (get_or l j [])
+    go : (i j : ℕ) (l : Arrays)
+        → length (get_or (set l i (set (get_or l i []) s.index b)) j []) ≡ length (get_or l j [])
     go i j [] = refl
     go zero zero (x ∷ l) = length-set x s.index b
     go zero (suc j) (x ∷ l) = refl
     go (suc i) zero (x ∷ l) = refl
     go (suc i) (suc j) (x ∷ l) = go i j l
 
-pub put-size : (f : Spot → Block) (j : ℕ) (spots : List Spot) (arrays : Arrays) → length (get_or (put_blocks spots (map f spots) arrays) j []) ≡ length (get_or arrays j [])
+pub put-size : (f : Spot → Block) (j : ℕ) (spots : List Spot) (arrays : Arrays)
+    → length (get_or (put_blocks spots (map f spots) arrays) j []) ≡ length (get_or arrays j [])
 unfolding put_blocks
 put-size f j [] arrays = refl
 put-size f j (s ∷ spots) arrays = put-size f j spots (put_block s (f s) arrays) ∙ put-one s (f s) j arrays
 
-module _ (frame : Frame) (restart : ℕ) (p : Pass) (codings : List Coding) (array : Coefficients) (levels : ℕ → Levels) (before : Arrays) (bytes : List ℕ)
+module _ (frame : Frame) (restart : ℕ) (p : Pass) (codings : List Coding) (array : Coefficients) (levels : ℕ → Levels)
+    (before : Arrays) (bytes : List ℕ)
     (range : (place row column : ℕ) → Is8Bit (array place row column))
-    (ready : AllByRecursion (SlotReady frame p array levels before) codings) (w : WritesScan frame restart p codings array bytes) where
+    (ready : AllByRecursion (SlotReady frame p array levels before) codings)
+    (w : WritesScan frame restart p codings array bytes) where
   abbrev spots : List Spot
   spots = spots_of frame (components_of codings)
 
@@ -187,7 +202,8 @@ module _ (frame : Frame) (restart : ℕ) (p : Pass) (codings : List Coding) (arr
 
   -- the block held at an own spot, and the numbers sent for it
   held-own : (k : Coding) (s : Spot) → At s.slot codings k → IsOwn (grid_of k.component) s.index
-      → block_at scanned s ≡ cut (levels k.place) (array k.place (s.index / k.component.blocks_wide) (s.index % k.component.blocks_wide))
+      → block_at scanned s ≡ cut (levels k.place)
+      (array k.place (s.index / k.component.blocks_wide) (s.index % k.component.blocks_wide))
   held-own k s h own =
       ap (λ (l : List Block). get_or l s.index zero_block) (array-at before codings k s.slot h)
       ∙ (at-all (SlotReady frame p array levels before) s.slot codings k ready h).holds.each s.index own
@@ -197,9 +213,11 @@ module _ (frame : Frame) (restart : ℕ) (p : Pass) (codings : List Coding) (arr
   sent-own k s h own =
       let g = grid-at codings k s.slot h in
       w.is_own s (subst (λ (x : Grid). IsOwn x s.index) (sym g) own)
-      ∙ ap₂ (λ (x : ℕ) (y : Grid). array x (s.index / y.wide) (s.index % y.wide)) (at-get (λ (c : Coding). c.place) 0 s.slot codings k h) g
+      ∙ ap₂ (λ (x : ℕ) (y : Grid). array x (s.index / y.wide) (s.index % y.wide))
+      (at-get (λ (c : Coding). c.place) 0 s.slot codings k h) g
 
-  suits-own : (k : Coding) (s : Spot) → At s.slot codings k → IsOwn (grid_of k.component) s.index → Suits p (block_at scanned s) (u s)
+  suits-own : (k : Coding) (s : Spot) → At s.slot codings k → IsOwn (grid_of k.component) s.index
+      → Suits p (block_at scanned s) (u s)
   suits-own k s h own =
       let r = at-all (SlotReady frame p array levels before) s.slot codings k ready h in
       let c = array k.place (s.index / k.component.blocks_wide) (s.index % k.component.blocks_wide) in
@@ -208,7 +226,8 @@ module _ (frame : Frame) (restart : ℕ) (p : Pass) (codings : List Coding) (arr
       (subst (λ (b : Block). Suits p (cut (levels k.place) c) (numbers_at p.al b)) (sym (sent-own k s h own))
       (suits-cut p (levels k.place) c here (here.count ∙ sym r.sized) r.legal))
 
-  zeros-at : (l : List Coding) (slot index : ℕ) → ((place i : ℕ) → get_or (get_or before place []) i zero_block ≡ zero_block)
+  zeros-at : (l : List Coding) (slot index : ℕ)
+      → ((place i : ℕ) → get_or (get_or before place []) i zero_block ≡ zero_block)
       → get_or (get_or (arrays_of before l) slot []) index zero_block ≡ zero_block
   zeros-at [] slot index z = refl
   zeros-at (k ∷ more) zero index z = z k.place index
@@ -217,13 +236,17 @@ module _ (frame : Frame) (restart : ℕ) (p : Pass) (codings : List Coding) (arr
   suits-at : SpotsSuit p before codings → (s : Spot) → IsIn s spots → Suits p (block_at scanned s) (u s)
   suits-at (none_read e z) s t =
       subst (λ (q : Pass). Suits q (block_at scanned s) (numbers_at q.al (w.sent s))) (sym e)
-      (subst (λ (b : Block). Suits whole_pass b (numbers_at 0 (w.sent s))) (sym (zeros-at codings s.slot s.index z)) (suits-zero (w.sent s) (w.in_range s)))
+      (subst (λ (b : Block). Suits whole_pass b (numbers_at 0 (w.sent s))) (sym (zeros-at codings s.slot s.index z))
+      (suits-zero (w.sent s) (w.in_range s)))
   suits-at (dc_alone e f low) s t = suits-dc p (block_at scanned s) (w.sent s) e f low (w.in_range s)
   suits-at (one_component k e) s t =
       let first : At 0 codings k = subst (λ (l : List Coding). At 0 l k) (sym e) refl in
       let fits = (at-all (SlotReady frame p array levels before) 0 codings k ready first).fits in
-      let own : IsOwnSpot (grid_of k.component) s = in-all (IsOwnSpot (grid_of k.component)) (own_spots (grid_of k.component)) s (own-only (grid_of k.component) fits.own_wide)
-      (subst (IsIn s) (one-order frame k.component) (subst (λ (l : List Coding). IsIn s (spots_of frame (components_of l))) e t)) in
+      let own : IsOwnSpot (grid_of k.component) s =
+      in-all (IsOwnSpot (grid_of k.component)) (own_spots (grid_of k.component)) s
+      (own-only (grid_of k.component) fits.own_wide)
+      (subst (IsIn s) (one-order frame k.component)
+      (subst (λ (l : List Coding). IsIn s (spots_of frame (components_of l))) e t)) in
       suits-own k s (subst (λ (n : ℕ). At n codings k) (sym own.slot) first) own.own
 
   abbrev f : Spot → Block
@@ -242,50 +265,67 @@ module _ (frame : Frame) (restart : ℕ) (p : Pass) (codings : List Coding) (arr
       record { slot = omega arith; index = let e = r.holds.sized in omega arith }
 
   behind-own : (k : Coding) (s : Spot) → At s.slot codings k → IsOwn (grid_of k.component) s.index
-      → block_at behind s ≡ cut (levels_behind p (levels k.place)) (array k.place (s.index / k.component.blocks_wide) (s.index % k.component.blocks_wide))
+      → block_at behind s ≡ cut (levels_behind p (levels k.place))
+      (array k.place (s.index / k.component.blocks_wide) (s.index % k.component.blocks_wide))
   behind-own k s h own =
       let r = at-all (SlotReady frame p array levels before) s.slot codings k ready h in
       let c = array k.place (s.index / k.component.blocks_wide) (s.index % k.component.blocks_wide) in
       let here : Is8Bit c = range k.place (s.index / k.component.blocks_wide) (s.index % k.component.blocks_wide) in
-      reaches f s spots scanned (inside k s h own) (covered frame (components_of codings) k.component s (at-map (λ (x : Coding). x.component) s.slot codings k h) r.fits own)
+      reaches f s spots scanned (inside k s h own)
+      (covered frame (components_of codings) k.component s
+      (at-map (λ (x : Coding). x.component) s.slot codings k h) r.fits own)
       ∙ ap₂ (λ (b d : Block). behind_pass p b (numbers_at p.al d)) (held-own k s h own) (sent-own k s h own)
       ∙ cut-behind p (levels k.place) c (here.count ∙ sym r.sized) r.legal
 
-  behind-held : (k : Coding) (j : ℕ) → At j codings k → HoldsOwn (grid_of k.component) (array k.place) (levels_behind p (levels k.place)) (get_or behind j [])
+  behind-held : (k : Coding) (j : ℕ) → At j codings k
+      → HoldsOwn (grid_of k.component) (array k.place) (levels_behind p (levels k.place)) (get_or behind j [])
   behind-held k j h =
       let r = at-all (SlotReady frame p array levels before) j codings k ready h in
       record {
-        sized = put-size f j spots scanned ∙ ap (λ (l : List Block). length l) (array-at before codings k j h) ∙ r.holds.sized;
+        sized = put-size f j spots scanned ∙ ap (λ (l : List Block). length l) (array-at before codings k j h)
+            ∙ r.holds.sized;
         each = λ i own. behind-own k (record { slot = j; index = i }) h own;
       }
 
   -- The scan is read as the blocks behind it.
-  pub reads-scan : (fill code : ℕ) (m : Marker) (rest : List ℕ) → SpotsSuit p before codings → AllByRecursion HasGood codings → IsMarker code m
-      → arrays_at p (restart * mcu_size (components_of codings)) (vias_from 0 codings) spots scanned (bytes ++ marker fill code rest) ≡ Ok ((behind, Some m), rest)
+  pub reads-scan : (fill code : ℕ) (m : Marker) (rest : List ℕ) → SpotsSuit p before codings
+      → AllByRecursion HasGood codings → IsMarker code m
+      → arrays_at p (restart * mcu_size (components_of codings)) (vias_from 0 codings) spots scanned
+      (bytes ++ marker fill code rest) ≡ Ok ((behind, Some m), rest)
   reads-scan fill code m rest suit good h =
-      reads-arrays p (restart * mcu_size (components_of codings)) (vias_from 0 codings) spots scanned u bytes fill code m rest
+      reads-arrays p (restart * mcu_size (components_of codings))
+      (vias_from 0 codings) spots scanned u bytes fill code m rest
       (all-in (IsReadyAt p (vias_from 0 codings) scanned u) spots (λ s t.
-      let v = via-good codings s.slot good in record { at = record { dc_good = v.dc; ac_good = v.ac; suits = suits-at suit s t } }))
+      let v = via-good codings s.slot good in
+      record { at = record { dc_good = v.dc; ac_good = v.ac; suits = suits-at suit s t } }))
       h w.coded
 
 -- What a written scan is read as.
-pub record ReadsScan (frame : Frame) (restart : ℕ) (p : Pass) (codings : List Coding) (array : Coefficients) (levels : ℕ → Levels) (before : Arrays) (bytes : List ℕ) : Type 0 where
+pub record ReadsScan (frame : Frame) (restart : ℕ) (p : Pass) (codings : List Coding) (array : Coefficients)
+    (levels : ℕ → Levels) (before : Arrays) (bytes : List ℕ) : Type 0 where
   pub arrays : Arrays
   pub count : length arrays ≡ length codings
-  pub holds : (k : Coding) (j : ℕ) → At j codings k → HoldsOwn (grid_of k.component) (array k.place) (levels_behind p (levels k.place)) (get_or arrays j [])
+  pub holds : (k : Coding) (j : ℕ) → At j codings k
+      → HoldsOwn (grid_of k.component) (array k.place) (levels_behind p (levels k.place)) (get_or arrays j [])
   pub read : (fill code : ℕ) (m : Marker) (rest : List ℕ) → IsMarker code m
-      → arrays_at p (restart * mcu_size (components_of codings)) (vias_from 0 codings) (spots_of frame (components_of codings)) (arrays_of before codings) (bytes ++ marker fill code rest)
+      → arrays_at p (restart * mcu_size (components_of codings)) (vias_from 0 codings)
+      (spots_of frame (components_of codings)) (arrays_of before codings) (bytes ++ marker fill code rest)
       ≡ Ok ((arrays, Some m), rest)
 
 -- A written scan of a frame takes the blocks of its components to the levels behind it.
-pub scan-is_read : (frame : Frame) (restart : ℕ) (p : Pass) (codings : List Coding) (array : Coefficients) (levels : ℕ → Levels) (before : Arrays) (bytes : List ℕ)
-    → ((place row column : ℕ) → Is8Bit (array place row column)) → AllByRecursion (SlotReady frame p array levels before) codings → SpotsSuit p before codings
-    → AllByRecursion HasGood codings → WritesScan frame restart p codings array bytes → ReadsScan frame restart p codings array levels before bytes
+pub scan-is_read : (frame : Frame) (restart : ℕ) (p : Pass) (codings : List Coding) (array : Coefficients)
+    (levels : ℕ → Levels) (before : Arrays) (bytes : List ℕ)
+    → ((place row column : ℕ) → Is8Bit (array place row column))
+    → AllByRecursion (SlotReady frame p array levels before) codings → SpotsSuit p before codings
+    → AllByRecursion HasGood codings → WritesScan frame restart p codings array bytes
+    → ReadsScan frame restart p codings array levels before bytes
 scan-is_read frame restart p codings array levels before bytes range ready suit good w =
     record {
       arrays = behind frame restart p codings array levels before bytes range ready w;
-      count = put-count (f frame restart p codings array levels before bytes range ready w) (spots_of frame (components_of codings)) (arrays_of before codings)
+      count = put-count (f frame restart p codings array levels before bytes range ready w)
+          (spots_of frame (components_of codings)) (arrays_of before codings)
           ∙ length-map codings (λ (c : Coding). get_or before c.place []);
       holds = λ k j h. behind-held frame restart p codings array levels before bytes range ready w k j h;
-      read = λ fill code m rest h. reads-scan frame restart p codings array levels before bytes range ready w fill code m rest suit good h;
+      read = λ fill code m rest h. reads-scan frame restart p codings array levels before bytes range ready w fill
+          code m rest suit good h;
     }

@@ -1,14 +1,17 @@
 -- The markers that are written.
-use Rattle.std.proofs.Common.{◌≡◌, ℕ, zero, suc, ◌≤◌, ◌<◌, ◌+◌, ◌-◌, false, List, ◌∷◌, ◌++◌, replicate, Option, Some, refl, ap, append_assoc, arith, eqb}
+use Rattle.std.proofs.Common.{◌≡◌, ℕ, zero, suc, ◌≤◌, ◌<◌, ◌+◌, ◌-◌, false, List, ◌∷◌, ◌++◌, replicate, Option, Some}
+use Rattle.std.proofs.Common.{refl, ap, append_assoc, arith, eqb}
 use Rattle.std.proofs.lemmas.Bool.{lt-ltb, le-ltb, ne_eqb}
 use Rattle.jpeg_bits.specs.Marker.{marker_of}
 use Rattle.jpeg_bits.specs.declared.marker.Marker.{Marker}
 use Rattle.jpeg_bits.specs.declared.marker.Marker.TheVariants.{SOF, DHT, DQT, DRI, APP, COM}
 use Rattle.jpeg_segments.specs.Frame.{Frame}
-use Rattle.jpeg_segments.specs.WrittenSegments.{Segment, Quantization, Huffman, Interval, Application, Comment, Header, code_of, MayStand}
+use Rattle.jpeg_segments.specs.WrittenSegments.{Segment, Quantization, Huffman, Interval, Application, Comment}
+use Rattle.jpeg_segments.specs.WrittenSegments.{Header, code_of, MayStand}
 use Rattle.jpeg_decoder.specs.WrittenData.{marker}
 
-pub marker-append : (fill code : ℕ) (rest more : List ℕ) → marker fill code rest ++ more ≡ marker fill code (rest ++ more)
+pub marker-append : (fill code : ℕ) (rest more : List ℕ)
+    → marker fill code rest ++ more ≡ marker fill code (rest ++ more)
 marker-append fill code rest more = ap (λ (l : List ℕ). 255 ∷ l) (append_assoc (replicate fill 255) (code ∷ rest) more)
 
 abbrev pub marker_for : Segment → Marker
@@ -54,7 +57,8 @@ frame-marker (suc (suc zero)) h = refl
 frame-marker (suc (suc (suc zero))) h = refl
 frame-marker (suc (suc (suc (suc n)))) h = absurd (omega arith)
 
-pub segment-marker : (frame : Option Frame) (s : Segment) → MayStand frame s → marker_of (code_of s) ≡ Some (marker_for s)
+pub segment-marker : (frame : Option Frame) (s : Segment) → MayStand frame s
+    → marker_of (code_of s) ≡ Some (marker_for s)
 unfolding marker_of
 segment-marker frame (Quantization ts) may = refl
 segment-marker frame (Huffman ts) may = refl

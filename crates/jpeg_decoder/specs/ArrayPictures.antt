@@ -1,6 +1,6 @@
--- The picture of an array of coefficients, as far as their bits were sent (T.81, A.3.3 and G.1).
-use Rattle.std.specs.Prelude.{◌≡◌, ℕ, ◌+◌, ◌*◌, ◌≤◌, List, [], ◌∷◌, length, slice_index_or, Some, None}
-use Rattle.std.specs.Prelude.{Result, Ok, Err, nat_lt, if◌then◌else◌}
+-- The picture of the coefficients of an image, as far as their bits were sent (T.81, A.3.3, G.1).
+use Rattle.std.specs.Prelude.{◌≡◌, ℕ, ◌+◌, ◌*◌, ◌≤◌, List, [], ◌∷◌, length, slice_index_or}
+use Rattle.std.specs.Prelude.{Some, None, Result, Ok, Err, nat_lt, if◌then◌else◌}
 use Rattle.jpeg_bits.specs.Passes.{Block, listed}
 use Rattle.jpeg_bits.specs.Reading.{Outcome, Fault, Malformed, ◌>>=◌}
 use Rattle.jpeg_segments.specs.Frame.{Component, Frame}
@@ -14,43 +14,59 @@ use Rattle.jpeg_decoder.specs.Levels.{Levels, cut}
 use Rattle.jpeg_decoder.specs.Stream.{Found, Told, needed, picture_by, told_of}
 use Rattle.jpeg_decoder.specs.WrittenScans.{Coefficients}
 
--- ---- the picture of an array
+-- ---- the picture
 
--- the plane of a component, of blocks cut at these levels
+-- The plane of a component: each block, cut at the bits that were sent, is dequantized and
+-- transformed.
 unfoldable pub plane_of_array : Component → List ℕ → Levels → (ℕ → ℕ → Block) → List ℕ
 plane_of_array c table l array =
-    plane_of c.scale (values_in_block_order table) c.blocks_wide c.blocks_high (λ row column. coefficients_in_block_order (listed (cut l (array row column))))
+    plane_of c.scale (values_in_block_order table) c.blocks_wide c.blocks_high
+    (λ row column. coefficients_in_block_order (listed (cut l (array row column))))
 
--- those of some components, from a place on, by the quantization tables that were said
-unfoldable pub planes_of_array : Found → Coefficients → (ℕ → Levels) → ℕ → List Component → Result (List (List ℕ)) Fault
+-- the planes of some components, from a place in the frame on, by the tables that were said
+unfoldable pub planes_of_array :
+    Found → Coefficients → (ℕ → Levels) → ℕ → List Component → Result (List (List ℕ)) Fault
 planes_of_array w array levels place [] = Ok []
 planes_of_array w array levels place (c ∷ more) =
     needed (slice_index_or w.quantization c.factors.quantization None) >>= (λ table.
-    planes_of_array w array levels (place + 1) more >>= (λ others. Ok (plane_of_array c table (levels place) (array place) ∷ others)))
+    planes_of_array w array levels (place + 1) more >>= (λ others.
+    Ok (plane_of_array c table (levels place) (array place) ∷ others)))
 
--- the picture, within the limit
-unfoldable pub picture_of_array : Settings → Found → Coefficients → (ℕ → Levels) → Result (List ℕ) Fault
+-- The picture that the planes give, by upsampling and the conversion of colours, where it is within
+-- the limit.
+unfoldable pub picture_of_array :
+    Settings → Found → Coefficients → (ℕ → Levels) → Result (List ℕ) Fault
 picture_of_array settings w array levels = do
   f ← needed w.frame
-  if nat_lt settings.limit (length f.components * (f.output_width * f.output_height)) then Err Malformed else (do
-    planes ← planes_of_array w array levels 0 f.components
-    picture_by settings w.metadata f f.components planes)
+  if nat_lt settings.limit (length f.components * (f.output_width * f.output_height))
+      then Err Malformed else (do
+        planes ← planes_of_array w array levels 0 f.components
+        picture_by settings w.metadata f f.components planes)
 
--- what a stream means that ends with this: what is told, and the picture of an array cut at these levels
-abbrev pub meaning_of_array : Settings → Found → Coefficients → (ℕ → Levels) → List ℕ → Outcome (Told × List ℕ)
-meaning_of_array settings w array levels tail = picture_of_array settings w array levels >>= (λ picture. Ok ((told_of w, picture), tail))
+-- The meaning of a stream that says this and sends these levels: what is told, the picture, and the
+-- bytes after the image.
+abbrev pub meaning_of_array :
+    Settings → Found → Coefficients → (ℕ → Levels) → List ℕ → Outcome (Told × List ℕ)
+meaning_of_array settings w array levels tail =
+    picture_of_array settings w array levels >>= (λ picture. Ok ((told_of w, picture), tail))
 
--- the colour transform of a picture of several components is one that it can have
+-- ---- settings that take a picture
+
+-- The colour transform is one that so many components can have.
 abbrev pub HasTransform : Settings → Found → List Component → Type 0
 HasTransform settings w [] = ⊥
 HasTransform settings w (c ∷ []) = Unit {0}
 HasTransform settings w (c ∷ d ∷ more) =
-    (convert : ColorConvert)
-    × (conversion_of (length (c ∷ d ∷ more)) (transform_of settings.color_transform (identifiers_of (c ∷ d ∷ more)) w.metadata.jfif w.metadata.adobe) ≡ Ok convert)
+    let components = c ∷ d ∷ more in
+    let transform = transform_of settings.color_transform (identifiers_of components)
+    w.metadata.jfif w.metadata.adobe in
+    (convert : ColorConvert) × (conversion_of (length components) transform ≡ Ok convert)
 
--- The settings take the picture of the frame that was said: it is within the limit, and its transform is one that it can have.
+-- The settings take the picture of the frame that was said: its bytes are within the limit, and its
+-- components can have the colour transform.
 pub record Takes (settings : Settings) (w : Found) : Type 0 where
   pub frame : Frame
   pub is_said : w.frame ≡ Some frame
-  pub limit : length frame.components * (frame.output_width * frame.output_height) ≤ settings.limit
+  pub limit :
+      length frame.components * (frame.output_width * frame.output_height) ≤ settings.limit
   pub transform : HasTransform settings w frame.components

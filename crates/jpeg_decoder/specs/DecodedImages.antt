@@ -1,5 +1,5 @@
 -- What a call of `decode` gives where its source has a stream that is written for coefficients.
-use Rattle.std.specs.Prelude.{◌≡◌, ℕ, ◌++◌, List, Bool, true, false, Result, Ok, Err, MatchResult}
+use Rattle.std.specs.Prelude.{◌≡◌, ℕ, ◌++◌, List, true, false, Result, Ok, MatchResult}
 use Rattle.jpeg_bits.specs.Reading.{Fault, IsGivenUp}
 use Rattle.jpeg_bits.specs.Stream.{Stream}
 use Rattle.jpeg_bits.specs.declared.error.Error.{Error}
@@ -7,7 +7,7 @@ use Rattle.jpeg_bits.specs.declared.error.Error.TheVariants.{OutOfMemory}
 use Rattle.jpeg_decoder.specs.ArrayPictures.{picture_of_array, Takes}
 use Rattle.jpeg_decoder.specs.Levels.{Is8Bit, Levels}
 use Rattle.jpeg_decoder.specs.States.{Decoding, Stage, Fresh, HeaderRead, Finished, Failed}
-use Rattle.jpeg_decoder.specs.Stream.{Found, Told, header_at, sized_to, told_of}
+use Rattle.jpeg_decoder.specs.Stream.{Found, header_at, sized_to, told_of}
 use Rattle.jpeg_decoder.specs.WrittenImages.{WritesImage}
 use Rattle.jpeg_decoder.specs.WrittenScans.{Coefficients}
 

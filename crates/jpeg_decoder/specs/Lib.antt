@@ -25,3 +25,4 @@ pub mod ArrayPictures
 pub mod WholeImages
 pub mod WorkedImages
 pub mod DecodedImages
+pub mod WrittenParts

@@ -1,24 +1,29 @@
--- What a writer emits (T.81, F.1.2 and G.1.2), by its choices alone.
-use Rattle.std.specs.Prelude.{◌≡◌, ◌≢◌, ℕ, zero, suc, ◌+◌, ◌-◌, ◌*◌, ◌/◌, ◌%◌, ◌^◌, ◌<◌, ◌≤◌, Bool, List, [], ◌∷◌, ◌++◌, replicate, ℤ, pos, negsuc, neg_ℤ, ◌-ℤ◌, unsigned_abs, nat_le, true, false, ◌==◌, get_or, set, length, slice_index, Some}
+-- The entropy-coded data that a writer emits for coefficients (T.81, F.1.2 and G.1.2). Where the
+-- coding leaves a choice, as how far a run of blocks goes, each choice is one that may be written.
+use Rattle.std.specs.Prelude.{◌≡◌, ◌≢◌, ℕ, zero, suc, ◌+◌, ◌-◌, ◌*◌, ◌%◌, ◌^◌, ◌<◌, ◌≤◌, ◌==◌}
+use Rattle.std.specs.Prelude.{Bool, true, false, List, [], ◌∷◌, ◌++◌, replicate, get_or, set}
+use Rattle.std.specs.Prelude.{length, slice_index, ℤ, pos, negsuc, ◌-ℤ◌, unsigned_abs, nat_le}
 use Rattle.jpeg_bits.specs.Codes.{Table, code_lengths}
-use Rattle.jpeg_bits.specs.Written.{bit, low_bits, code_bits}
 use Rattle.jpeg_bits.specs.Entropy.{bits_of}
-use Rattle.jpeg_bits.specs.Passes.{Pass, Via, Block, band_of}
 use Rattle.jpeg_bits.specs.Intervals.{predictors_at_start}
+use Rattle.jpeg_bits.specs.Passes.{Pass, Via, Block, band_of}
+use Rattle.jpeg_bits.specs.Written.{bit, low_bits, code_bits}
 
--- The bits of a code of the table that has the symbol.
+-- ---- codes and values
+
+-- These are the bits of a code for the symbol, by a Huffman table (Annex C).
 pub record IsCoded (table : Table) (symbol : ℕ) (bits : List Bool) : Type 0 where
   pub place : ℕ
   pub listed : place < length (code_lengths table.counts)
   pub is_for : slice_index table.symbols place ≡ symbol
   pub has_bits : code_bits table place ≡ bits
 
--- s is the least number with |d| < 2 ^ s
+-- The category SSSS of a value: the least s with |d| < 2 ^ s (F.1.2.1.2).
 pub record IsCategory (d : ℤ) (s : ℕ) : Type 0 where
   pub holds : unsigned_abs d < 2 ^ s
   pub is_least : (t : ℕ) → unsigned_abs d < 2 ^ t → s ≤ t
 
--- The number whose s bits stand for d.
+-- The number whose s bits follow the category: d itself, or 2 ^ s - 1 + d where d is not positive.
 unfoldable pub number_for : ℤ → ℕ → ℕ
 number_for (pos zero) s = 2 ^ s - 1
 number_for (pos (suc n)) s = suc n
@@ -27,7 +32,7 @@ number_for (negsuc n) s = 2 ^ s - 1 - suc n
 abbrev pub bits_for : ℤ → ℕ → List Bool
 bits_for d s = low_bits s (number_for d s)
 
--- A DC difference: a code of its category, then its bits.
+-- A DC difference: a code for its category, and then its bits (F.1.2.1).
 pub record WritesDifference (table : Table) (d : ℤ) (bits : List Bool) : Type 0 where
   pub s : ℕ
   pub code : List Bool
@@ -35,15 +40,19 @@ pub record WritesDifference (table : Table) (d : ℤ) (bits : List Bool) : Type 
   pub coded : IsCoded table s code
   pub has_bits : code ++ bits_for d s ≡ bits
 
+-- ---- a band in its first scan (F.1.2.2 and G.1.2.2)
+
 abbrev pub no_numbers : ℕ → List ℤ
 no_numbers n = replicate n (pos 0)
 
--- The numbers of a band in a first pass, the bits that stand for them, and the blocks behind this one that the end
--- of the band stands for too. A token stands for r zeros and a number, for sixteen zeros, or for the rest.
+-- The numbers of a band, the bits that stand for them, and how many of the next blocks the end of
+-- this band stands for too. A code RRRRSSSS stands for a run of zeros and a value, for sixteen
+-- zeros (ZRL), or for the rest of the band, and of the bands of 2 ^ r - 1 + e blocks more (EOBr).
 pub data WritesBand (table : Table) : List ℤ → List Bool → ℕ → Type 0 where
   full : WritesBand table [] [] 0
   value : (r s : ℕ) (u : ℤ) (code : List Bool) (more : List ℤ) (bits : List Bool) (run : ℕ)
-      → r ≤ 15 → u ≢ pos 0 → IsCategory u s → IsCoded table (16 * r + s) code → WritesBand table more bits run
+      → r ≤ 15 → u ≢ pos 0 → IsCategory u s → IsCoded table (16 * r + s) code
+      → WritesBand table more bits run
       → WritesBand table (no_numbers r ++ u ∷ more) (code ++ bits_for u s ++ bits) run
   sixteen : (code : List Bool) (more : List ℤ) (bits : List Bool) (run : ℕ)
       → IsCoded table (16 * 15 + 0) code → WritesBand table more bits run
@@ -52,85 +61,111 @@ pub data WritesBand (table : Table) : List ℤ → List Bool → ℕ → Type 0 
       → r ≤ 14 → e < 2 ^ r → IsCoded table (16 * r + 0) code
       → WritesBand table (no_numbers (suc n)) (code ++ low_bits r e) (2 ^ r - 1 + e)
 
--- ---- refinement
+-- ---- a band in a refinement (G.1.2.3)
 
--- Whether a place is old: known not to be 0 before.
+-- At its new level a coefficient is old where it was not 0 at the level before, and new where it is
+-- 1 or -1 now and was 0 before.
 abbrev pub is_old : ℤ → Bool
 is_old u = nat_le 2 (unsigned_abs u)
 
--- how many places aren't old
+-- how many coefficients are not old
 unfoldable pub count_unknown : List ℤ → ℕ
 count_unknown [] = 0
-count_unknown (u ∷ us) = elim (is_old u) [ true ↦ count_unknown us | false ↦ suc (count_unknown us) ]
+count_unknown (u ∷ us) =
+    elim (is_old u) [ true ↦ count_unknown us | false ↦ suc (count_unknown us) ]
 
--- no place is new
+-- no coefficient is new
 unfoldable pub NoneNew : List ℤ → Type 0
 NoneNew [] = Unit {0}
 NoneNew (u ∷ us) = (unsigned_abs u ≢ 1) × NoneNew us
 
--- The correction bits of the old places, in order.
+-- The correction bits of the old coefficients, in order: the lowest bit of each magnitude.
 unfoldable pub corrections : List ℤ → List Bool
 corrections [] = []
-corrections (u ∷ us) = elim (is_old u) [ true ↦ bit (unsigned_abs u % 2) ∷ corrections us | false ↦ corrections us ]
+corrections (u ∷ us) =
+    elim (is_old u) [ true ↦ bit (unsigned_abs u % 2) ∷ corrections us | false ↦ corrections us ]
 
+-- 1 for a positive value, 0 for a negative one
 abbrev pub sign_bit : ℤ → ℕ
 sign_bit (pos n) = 1
 sign_bit (negsuc n) = 0
 
--- The numbers of a band in a refinement. A token stands for the places up to a new one, among them r that are neither
--- old nor new; for the places up to the sixteenth of those; or for the rest, where none is new.
+-- The numbers of a band, their bits, and how many of the next blocks the end of this band stands
+-- for too. A code stands for the coefficients up to a new one, r of them neither old nor new; for
+-- those up to the sixteenth that is neither; or for the rest, where none is new. The correction
+-- bits of the old ones among them follow.
 pub data WritesRefinement (table : Table) : List ℤ → List Bool → ℕ → Type 0 where
   refined : WritesRefinement table [] [] 0
-  found : (r : ℕ) (front : List ℤ) (u : ℤ) (code : List Bool) (more : List ℤ) (bits : List Bool) (run : ℕ)
-      → r ≤ 15 → NoneNew front → count_unknown front ≡ r → unsigned_abs u ≡ 1 → IsCoded table (16 * r + 1) code
-      → WritesRefinement table more bits run
-      → WritesRefinement table (front ++ u ∷ more) (code ++ (bit (sign_bit u) ∷ (corrections front ++ bits))) run
+  found : (r : ℕ) (front : List ℤ) (u : ℤ) (code : List Bool) (more : List ℤ) (bits : List Bool)
+      (run : ℕ)
+      → r ≤ 15 → NoneNew front → count_unknown front ≡ r → unsigned_abs u ≡ 1
+      → IsCoded table (16 * r + 1) code → WritesRefinement table more bits run
+      → WritesRefinement table (front ++ u ∷ more)
+      (code ++ (bit (sign_bit u) ∷ (corrections front ++ bits))) run
   passed : (front : List ℤ) (code : List Bool) (more : List ℤ) (bits : List Bool) (run : ℕ)
       → NoneNew front → count_unknown front ≡ 15 → IsCoded table (16 * 15 + 0) code
       → WritesRefinement table more bits run
       → WritesRefinement table (front ++ pos 0 ∷ more) (code ++ (corrections front ++ bits)) run
   none_left : (r e : ℕ) (u : ℤ) (others : List ℤ) (code : List Bool)
       → r ≤ 14 → e < 2 ^ r → NoneNew (u ∷ others) → IsCoded table (16 * r + 0) code
-      → WritesRefinement table (u ∷ others) (code ++ (low_bits r e ++ corrections (u ∷ others))) (2 ^ r - 1 + e)
+      → WritesRefinement table (u ∷ others) (code ++ (low_bits r e ++ corrections (u ∷ others)))
+      (2 ^ r - 1 + e)
 
 -- ---- blocks
 
--- The lowest bit of a number's two's complement.
+-- the lowest bit of a number's two's complement
 abbrev pub low_bit : ℤ → ℕ
 low_bit (pos n) = n % 2
 low_bit (negsuc n) = 1 - n % 2
 
--- The bits of DC, and the predictor behind it.
+-- The bits of DC, after a prediction, and the next prediction. A scan of AC alone has none, a first
+-- scan has the difference, and a refinement has one bit (G.1.2.1).
 pub data WritesDc (p : Pass) (table : Table) : ℤ → ℤ → List Bool → ℤ → Type 0 where
   other_band : (u predictor : ℤ) → p.ss ≢ 0 → WritesDc p table u predictor [] predictor
-  whole : (u predictor : ℤ) (bits : List Bool) → p.ss ≡ 0 → p.is_first ≡ true → WritesDifference table (u -ℤ predictor) bits → WritesDc p table u predictor bits u
-  one_bit : (u predictor : ℤ) → p.ss ≡ 0 → p.is_first ≡ false → WritesDc p table u predictor (bit (low_bit u) ∷ []) predictor
+  whole : (u predictor : ℤ) (bits : List Bool)
+      → p.ss ≡ 0 → p.is_first ≡ true → WritesDifference table (u -ℤ predictor) bits
+      → WritesDc p table u predictor bits u
+  one_bit : (u predictor : ℤ)
+      → p.ss ≡ 0 → p.is_first ≡ false
+      → WritesDc p table u predictor (bit (low_bit u) ∷ []) predictor
 
--- The bits of a band in a run of blocks, and the run behind it.
+-- The bits of a band, where the end of an earlier band stands for so many blocks from this one on,
+-- and for how many of the next after it. In such a run a first scan has no bits, and a refinement
+-- has the correction bits.
 pub data WritesAc (p : Pass) (table : Table) : List ℤ → ℕ → List Bool → ℕ → Type 0 where
   no_band : (run : ℕ) → WritesAc p table [] run [] run
-  first : (u : ℤ) (us : List ℤ) (bits : List Bool) (run : ℕ) → p.is_first ≡ true → WritesBand table (u ∷ us) bits run → WritesAc p table (u ∷ us) 0 bits run
-  first_run : (n run : ℕ) → p.is_first ≡ true → WritesAc p table (no_numbers (suc n)) (suc run) [] run
-  again : (u : ℤ) (us : List ℤ) (bits : List Bool) (run : ℕ) → p.is_first ≡ false → WritesRefinement table (u ∷ us) bits run → WritesAc p table (u ∷ us) 0 bits run
-  again_run : (u : ℤ) (us : List ℤ) (run : ℕ) → p.is_first ≡ false → NoneNew (u ∷ us) → WritesAc p table (u ∷ us) (suc run) (corrections (u ∷ us)) run
+  first : (u : ℤ) (us : List ℤ) (bits : List Bool) (run : ℕ)
+      → p.is_first ≡ true → WritesBand table (u ∷ us) bits run
+      → WritesAc p table (u ∷ us) 0 bits run
+  first_run : (n run : ℕ)
+      → p.is_first ≡ true → WritesAc p table (no_numbers (suc n)) (suc run) [] run
+  again : (u : ℤ) (us : List ℤ) (bits : List Bool) (run : ℕ)
+      → p.is_first ≡ false → WritesRefinement table (u ∷ us) bits run
+      → WritesAc p table (u ∷ us) 0 bits run
+  again_run : (u : ℤ) (us : List ℤ) (run : ℕ)
+      → p.is_first ≡ false → NoneNew (u ∷ us)
+      → WritesAc p table (u ∷ us) (suc run) (corrections (u ∷ us)) run
 
--- The bits of an interval. A block is given by its numbers at the level of the pass.
+-- The bits of some blocks, by the predictions of the components and the run that reaches them. Each
+-- block is given by its numbers at the level of the scan. No run goes beyond the last.
 pub data WritesBlocks (p : Pass) : List ℤ → ℕ → List (Via × Block) → List Bool → Type 0 where
   done : (predictors : List ℤ) → WritesBlocks p predictors 0 [] []
-  block : (predictors : List ℤ) (run behind : ℕ) (via : Via) (u : Block) (turns : List (Via × Block)) (dc ac bits : List Bool) (next : ℤ)
+  block : (predictors : List ℤ) (run behind : ℕ) (via : Via) (u : Block)
+      (turns : List (Via × Block)) (dc ac bits : List Bool) (next : ℤ)
       → WritesDc p via.dc u.dc (get_or predictors via.component (pos 0)) dc next
       → WritesAc p via.ac (band_of p u.acs) run ac behind
       → WritesBlocks p (set predictors via.component next) behind turns bits
       → WritesBlocks p predictors run ((via, u) ∷ turns) (dc ++ (ac ++ bits))
 
--- ---- bytes
+-- ---- bytes (B.1.1.5)
 
--- The bytes with 00 behind each FF.
+-- 00 follows each FF.
 unfoldable pub stuffed : List ℕ → List ℕ
 stuffed [] = []
-stuffed (b ∷ bytes) = elim (b == 0xFF) [ true ↦ 0xFF ∷ 0 ∷ stuffed bytes | false ↦ b ∷ stuffed bytes ]
+stuffed (b ∷ bytes) =
+    elim (b == 0xFF) [ true ↦ 0xFF ∷ 0 ∷ stuffed bytes | false ↦ b ∷ stuffed bytes ]
 
--- A marker behind any number of fill bytes, and what stands behind it.
+-- A marker after any number of fill bytes FF, by its second byte, and then more (B.1.1.2).
 abbrev pub marker : ℕ → ℕ → List ℕ → List ℕ
 marker fill code rest = 0xFF ∷ (replicate fill 0xFF ++ code ∷ rest)
 
@@ -138,7 +173,8 @@ unfoldable pub bits_of_bytes : List ℕ → List Bool
 bits_of_bytes [] = []
 bits_of_bytes (b ∷ bytes) = bits_of b ++ bits_of_bytes bytes
 
--- The bytes of an interval: its bits, and at most 7 of any value up to a whole byte.
+-- The bytes of a restart interval: its bits, from predictions of 0 and no run, and at most 7 more
+-- of any value, up to a whole byte.
 pub record WritesInterval (p : Pass) (turns : List (Via × Block)) (bytes : List ℕ) : Type 0 where
   pub bits : List Bool
   pub filling : List Bool
@@ -148,8 +184,13 @@ pub record WritesInterval (p : Pass) (turns : List (Via × Block)) (bytes : List
   pub whole : bits_of_bytes data_bytes ≡ bits ++ filling
   pub has_bytes : stuffed data_bytes ≡ bytes
 
-pub data WritesIntervals (p : Pass) : ℕ → List (Via × Block) → List (List (Via × Block)) → List ℕ → Type 0 where
-  last : (k : ℕ) (turns : List (Via × Block)) (bytes : List ℕ) → WritesInterval p turns bytes → WritesIntervals p k turns [] bytes
-  another : (k fill : ℕ) (turns next : List (Via × Block)) (more : List (List (Via × Block))) (bytes others : List ℕ)
+-- The bytes of some intervals, from number k on: after interval k, and before the next, stands the
+-- marker RSTm with m = k mod 8.
+pub data WritesIntervals (p : Pass) :
+    ℕ → List (Via × Block) → List (List (Via × Block)) → List ℕ → Type 0 where
+  last : (k : ℕ) (turns : List (Via × Block)) (bytes : List ℕ)
+      → WritesInterval p turns bytes → WritesIntervals p k turns [] bytes
+  another : (k fill : ℕ) (turns next : List (Via × Block)) (more : List (List (Via × Block)))
+      (bytes others : List ℕ)
       → WritesInterval p turns bytes → WritesIntervals p (suc k) next more others
       → WritesIntervals p k turns (next ∷ more) (bytes ++ marker fill (0xD0 + k % 8) others)

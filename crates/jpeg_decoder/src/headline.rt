@@ -1,20 +1,25 @@
 //! The headline: a stream that is written for coefficients means the picture of those coefficients.
 //! Theorems, each on a function without a body.
-ghost use Rattle.std.specs.Prelude.{◌≡◌, ℕ, ◌++◌, List, Some, Ok, false, Result};
+ghost use Rattle.std.specs.Prelude.{◌≡◌, ℕ, [], ◌∷◌, ◌++◌, length, List, Some, Ok, false, true};
+ghost use Rattle.std.specs.Prelude.{Result};
+ghost use Rattle.std.specs.List.{AllByRecursion};
+ghost use Rattle.jpeg_bits.specs.Passes.{Block};
 ghost use Rattle.jpeg_bits.specs.Reading.{Answers};
 ghost use Rattle.jpeg_bits.specs.declared.error.Error.{Error};
 ghost use Rattle.jpeg_segments.specs.Frame.{Frame};
 ghost use Rattle.jpeg_decoder.specs.ArrayPictures.{meaning_of_array, picture_of_array, Takes};
 ghost use Rattle.jpeg_decoder.specs.DecodedImages.{DecodesImages};
-ghost use Rattle.jpeg_decoder.specs.Levels.{Is8Bit, Levels};
+ghost use Rattle.jpeg_decoder.specs.Levels.{Is8Bit, Levels, cut, nothing_sent};
 ghost use Rattle.jpeg_decoder.specs.States.{Decoding, IsReading, ahead};
 ghost use Rattle.jpeg_decoder.specs.Stream.{Found, is_progressive, meaning, sized_meaning};
-ghost use Rattle.jpeg_decoder.specs.Stream.{sized_to, told_of};
+ghost use Rattle.jpeg_decoder.specs.Stream.{nothing_found, sized_to, told_of};
 ghost use Rattle.jpeg_decoder.specs.WholeImages.{AllComplete, whole_meaning};
 ghost use Rattle.jpeg_decoder.specs.WorkedImages.{IsWhollyWritten, grey_array, grey_bytes};
 ghost use Rattle.jpeg_decoder.specs.WorkedImages.{colour_array, colour_bytes};
-ghost use Rattle.jpeg_decoder.specs.WrittenImages.{WritesImage};
-ghost use Rattle.jpeg_decoder.specs.WrittenScans.{Coefficients};
+ghost use Rattle.jpeg_decoder.specs.WrittenImages.{Writes, WritesImage};
+ghost use Rattle.jpeg_decoder.specs.WrittenParts.{AgreeOnOwn, HaveSamePicture, WritesFront};
+ghost use Rattle.jpeg_decoder.specs.WrittenParts.{picture_meant_by};
+ghost use Rattle.jpeg_decoder.specs.WrittenScans.{Coefficients, HasTable, IsComplete};
 ghost use Rattle.jpeg_decoder.specs.declared.state.Settings.{Settings};
 
 /// A stream that is written for the coefficients of 8-bit samples means the picture of those
@@ -82,12 +87,73 @@ pub fn images_have_pictures()
         (picture : List ℕ)
         × (picture_of_array settings (sized_to width height final) array last ≡ Ok picture)
         × (sized_meaning width height settings (bytes ++ rest)
-        ≡ Ok (record { 0 = record { 0 = told_of (sized_to width height final); 1 = picture }; 1 = rest })) }
+        ≡ Ok (record {
+          0 = record { 0 = told_of (sized_to width height final); 1 = picture };
+          1 = rest;
+        })) }
 {}
 
-/// The relation holds of two streams that are worked by hand: a progressive one of three blocks, with
-/// DC and AC each in a first scan and a refinement and with runs of blocks; and a sequential one of
-/// three components, with padding and a restart.
+/// A block of which every bit was sent is itself.
+pub fn complete_blocks_are_whole()
+    ensures { (levels : Levels) (c : Block) →
+        IsComplete levels → length c.acs ≡ length levels.acs → cut levels c ≡ c }
+{}
+
+/// Streams that send every bit of the same coefficients mean the same picture, whatever their
+/// processes, Huffman tables, restart intervals and scripts, where their headers give the picture
+/// the same size, components, quantization tables and choice of colours.
+pub fn pictures_are_of_coefficients()
+    ensures { (settings : Settings) (array : Coefficients) (first second rest others : List ℕ)
+        (a b : Found) (last_a last_b : ℕ → Levels) →
+        ((place row column : ℕ) → Is8Bit (array place row column)) →
+        WritesImage array first a last_a → WritesImage array second b last_b →
+        (same : HaveSamePicture a b) →
+        AllComplete same.frame_a last_a → AllComplete same.frame_b last_b →
+        picture_meant_by settings (first ++ rest) ≡ picture_meant_by settings (second ++ others) }
+{}
+
+/// A stream for an array is one for each array that has the same blocks without padding, and their
+/// pictures are the same: no sample comes of padding.
+pub fn padding_is_not_seen()
+    ensures written { (a b : Coefficients) (bytes : List ℕ) (final : Found) (last : ℕ → Levels)
+        (frame : Frame) →
+        WritesImage a bytes final last → final.frame ≡ Some frame → AgreeOnOwn frame a b →
+        WritesImage b bytes final last }
+    ensures pictured { (settings : Settings) (a b : Coefficients) (bytes : List ℕ) (final : Found)
+        (last : ℕ → Levels) (frame : Frame) →
+        ((place row column : ℕ) → Is8Bit (a place row column)) →
+        ((place row column : ℕ) → Is8Bit (b place row column)) →
+        WritesImage a bytes final last → final.frame ≡ Some frame → AgreeOnOwn frame a b →
+        picture_of_array settings final a last ≡ picture_of_array settings final b last }
+{}
+
+/// A progressive stream may be cut after any of its scans and closed: it then means the picture of
+/// the coefficients, cut at the bits that were sent so far.
+pub fn progressive_images_may_end_early()
+    ensures written { (array : Coefficients) (front more : List ℕ) (said final : Found)
+        (levels last : ℕ → Levels) →
+        WritesFront array nothing_found (λ k. nothing_sent) false front said levels true →
+        Writes array said levels true more final last →
+        WritesImage array (255 ∷ 216 ∷ (front ++ more)) final last }
+    ensures closed { (array : Coefficients) (front : List ℕ) (said : Found) (levels : ℕ → Levels)
+        (frame : Frame) →
+        WritesFront array nothing_found (λ k. nothing_sent) false front said levels true →
+        said.frame ≡ Some frame → is_progressive frame.process ≡ true →
+        AllByRecursion (HasTable said) frame.components →
+        WritesImage array (255 ∷ 216 ∷ (front ++ (255 ∷ 217 ∷ []))) said levels }
+    ensures pictured { (settings : Settings) (array : Coefficients) (front rest : List ℕ)
+        (said : Found) (levels : ℕ → Levels) (frame : Frame) →
+        ((place row column : ℕ) → Is8Bit (array place row column)) →
+        WritesFront array nothing_found (λ k. nothing_sent) false front said levels true →
+        said.frame ≡ Some frame → is_progressive frame.process ≡ true →
+        AllByRecursion (HasTable said) frame.components →
+        meaning settings ((255 ∷ 216 ∷ (front ++ (255 ∷ 217 ∷ []))) ++ rest)
+        ≡ meaning_of_array settings said array levels rest }
+{}
+
+/// The relation holds of two streams that are worked by hand: a progressive one of three blocks,
+/// with DC and AC each in a first scan and a refinement and with runs of blocks; and a sequential
+/// one of three components, with padding and a restart.
 pub fn worked_images_are_written()
     ensures grey { IsWhollyWritten grey_array grey_bytes }
     ensures colour { IsWhollyWritten colour_array colour_bytes }

@@ -1,5 +1,5 @@
-//! Streams that are worked by hand, and what they mean by the definitions: each is computed as it is
-//! checked.
+//! Streams that are worked by hand, and what they mean by the definitions: each is computed as it
+//! is checked.
 ghost use Rattle.std.specs.Prelude.{◌≡◌, [], ◌∷◌, ◌++◌, replicate, Ok, Err, None, Some};
 ghost use Rattle.std.specs.List.{concat};
 ghost use Rattle.jpeg_bits.specs.Reading.{Malformed, Lacks, End};

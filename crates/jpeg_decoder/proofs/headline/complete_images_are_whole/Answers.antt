@@ -7,9 +7,11 @@ use Rattle.jpeg_decoder.proofs.headline.complete_images_are_whole.Goals as goal
 
 pub returns-clause-whole : goal.returns-clause-whole
 returns-clause-whole c = λ settings array bytes rest final last frame range w e done.
-    stream-means settings array rest (bytes ++ rest) final last range (image-accepted array rest bytes final last w) ∙ whole-is settings array bytes rest final last frame range w e done
+    stream-means settings array rest (bytes ++ rest) final last range (image-accepted array rest bytes final last w)
+    ∙ whole-is settings array bytes rest final last frame range w e done
 
 pub returns-clause-sized : goal.returns-clause-sized
 returns-clause-sized c = λ width height settings array bytes rest final last frame range w e done.
-    stream-means_sized width height settings array rest (bytes ++ rest) final last range (image-accepted array rest bytes final last w)
+    stream-means_sized width height settings array rest (bytes ++ rest) final last range
+    (image-accepted array rest bytes final last w)
     ∙ sized-whole width height settings array bytes rest final last frame range w e done

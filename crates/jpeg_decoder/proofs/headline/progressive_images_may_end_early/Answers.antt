@@ -1,0 +1,24 @@
+use Rattle.std.proofs.Common.{[], ◌∷◌, ◌++◌, false, true, refl}
+use Rattle.jpeg_decoder.specs.Levels.{nothing_sent}
+use Rattle.jpeg_decoder.specs.Stream.{nothing_found}
+use Rattle.jpeg_decoder.proofs.AcceptedImages.{image-accepted}
+use Rattle.jpeg_decoder.proofs.WrittenParts.{front-append, front-closed}
+use Rattle.jpeg_decoder.proofs.WrittenPictures.{stream-means}
+use Rattle.jpeg_decoder.proofs.headline.progressive_images_may_end_early.Goals as goal
+
+pub returns-clause-written : goal.returns-clause-written
+returns-clause-written c = λ array front more said final levels last f w. record {
+  behind = front ++ more;
+  starts = refl;
+  written = front-append array nothing_found said final (λ k. nothing_sent) levels last false true front more f w;
+}
+
+pub returns-clause-closed : goal.returns-clause-closed
+returns-clause-closed c = front-closed
+
+pub returns-clause-pictured : goal.returns-clause-pictured
+returns-clause-pictured c = λ settings array front rest said levels frame range f framed progressive tables.
+    let image = 255 ∷ 216 ∷ (front ++ (255 ∷ 217 ∷ [])) in
+    stream-means settings array rest (image ++ rest) said levels range
+    (image-accepted array rest image said levels
+    (front-closed array front said levels frame f framed progressive tables))
