@@ -1,7 +1,7 @@
 -- The data of a scan, of what is read of its blocks, and the planes that it decides.
 use Rattle.std.proofs.Common.{◌≡◌, ◌<◌, ◌≤◌, ℕ, zero, suc, ◌+◌, ◌*◌, ℤ, Bool, true, false, Option, Some, None, Result, Ok, Err, List, [], ◌∷◌, refl, sym, ap, ap₂, subst, ◌∙◌, length, get_or, set, map, drop, arith}
 use Rattle.std.proofs.Math.Logic.{inl, inr}
-use Rattle.std.specs.Prelude.{All, ◌&&◌, slice_set, slice_index_or}
+use Rattle.std.specs.Prelude.{All, OnOk, ◌&&◌, slice_set, slice_index_or}
 use Rattle.std.specs.List.{AllByRecursion, list_all}
 use Rattle.std.proofs.Math.Bool.{cond}
 use Rattle.std.specs.declared.alloc.Global.{Global}
@@ -27,7 +27,7 @@ use Rattle.jpeg_decoder.specs.Steps.{blocks_at, coding_in, components_of, decide
 use Rattle.jpeg_decoder.specs.Stream.{Found, Coding, arrays_before, decided, finished_by, held_behind, is_progressive, plane_by, put_arrays, vias_from, with_arrays, with_blocks, with_plane}
 use Rattle.jpeg_decoder.specs.Strips as strips
 use Rattle.jpeg_decoder.specs.Strips.{planes_by, planes_at}
-use Rattle.jpeg_decoder.proofs.Apart.{At}
+use Rattle.jpeg_decoder.proofs.Apart.{At, zeros-sized}
 use Rattle.jpeg_decoder.proofs.BlocksBefore.{plane_by-length}
 use Rattle.jpeg_decoder.proofs.PlacedCodings.{coded-components}
 use Rattle.jpeg_decoder.proofs.PutLoops.{Held, blocks-are, arrays-more, planes-more}
@@ -291,3 +291,19 @@ rising-codings (c ∷ d ∷ cs) h = (λ n. below c.place d cs h.0 h.1 n, rising-
     below p d cs lt r (inl e) = omega (arith, e)
     below p d [] lt r (inr n) = n
     below p d (x ∷ cs) lt r (inr n) = below p x cs (let q = r.0 in omega (arith, q)) r.1 n
+
+-- ---- what is held after a scan
+
+before-held : (f : Found) (frame : Frame) → is_progressive frame.process ≡ true → f.scanned ≡ true → arrays_before f frame ≡ f.held
+unfolding arrays_before
+before-held f frame e s = rw (e, s) refl
+
+pub held-afterwards : {X E : Type 0} (r : Result X E) (f : Found) (frame : Frame) → is_progressive frame.process ≡ true → f.scanned ≡ true
+    → OnOk r (AreArrays frame.components f.held) → OnOk r (AreArrays frame.components (arrays_before f frame))
+held-afterwards (Ok x) f frame e s h = subst (AreArrays frame.components) (sym (before-held f frame e s)) h
+held-afterwards (Err x) f frame e s h = tt
+
+pub none-held : {X E : Type 0} (r : Result X E) (f : Found) (frame : Frame) → is_progressive frame.process ≡ false
+    → OnOk r (AreArrays frame.components (arrays_before f frame))
+none-held (Ok x) f frame e = subst (AreArrays frame.components) (sym (before-sequential f frame e)) (zeros-sized frame.components)
+none-held (Err x) f frame e = tt

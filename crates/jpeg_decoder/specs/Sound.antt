@@ -36,3 +36,7 @@ pub record IsSound (found : Found) : Type 0 where
   pub held : (frame : Frame) → found.frame ≡ Some frame → AreArrays frame.components (arrays_before found frame)
   pub planes : (frame : Frame) → found.frame ≡ Some frame → ArePlanes frame.components found.planes
   pub unread : found.frame ≡ None → (found.scanned ≡ false) × (found.planes ≡ replicate 4 None)
+
+-- The frame, where one was read, is one that is decoded.
+abbrev pub HasDecodedFrame : Found → Type 0
+HasDecodedFrame found = (frame : Frame) → found.frame ≡ Some frame → IsDecodedFrame frame
