@@ -71,3 +71,4 @@ pub mod TakenBlocks
 pub mod BlocksBefore
 pub mod RenderedPlanes
 pub mod DecodedImages
+pub mod EndedPlanes

@@ -24,3 +24,4 @@ pub mod ArrayPictures
 pub mod WholeImages
 pub mod WorkedImages
 pub mod DecodedImages
+pub mod EndPlanes
