@@ -231,7 +231,7 @@ decoded-scales f p =
     subst (λ (g : Frame). AllByRecursion (λ c. IsScale c.scale) g.components) (sym p.made)
     (scaled-frame p.scale p.full (scale-is p.scale p.is_scale))
 
-element : (P : Component → Type 0) (cs : List Component) (i : ℕ) (d : Component) → AllByRecursion P cs → i < length cs
+pub element : (P : Component → Type 0) (cs : List Component) (i : ℕ) (d : Component) → AllByRecursion P cs → i < length cs
     → P (get_or cs i d)
 element P [] i d p h = absurd (omega arith)
 element P (c ∷ cs) zero d p h = p.0

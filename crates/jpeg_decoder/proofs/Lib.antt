@@ -72,3 +72,4 @@ pub mod BlocksBefore
 pub mod RenderedPlanes
 pub mod DecodedImages
 pub mod EndedPlanes
+pub mod PicturesOfPlanes
