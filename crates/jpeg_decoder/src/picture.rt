@@ -178,6 +178,7 @@ fn picture_by(
 }
 
 /// The picture of what was found, which is taken: within the limit, of planes that are there.
+#[tactic(auto, unfolding(crate::specs::Stream::picture_of))]
 fn picture(
     alloc: Global,
     state: &State,
