@@ -82,3 +82,5 @@ pub mod DecodedImages
 pub mod WrittenParts
 pub mod PutLoops
 pub mod ScanData
+pub mod EndedPlanes
+pub mod PicturesOfPlanes
