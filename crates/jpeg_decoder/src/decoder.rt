@@ -5,6 +5,7 @@ ghost use Rattle.jpeg_bits.specs.Stream.{stream_of};
 ghost use Rattle.jpeg_bits.specs.declared.error.Error.TheVariants.{OutOfMemory};
 ghost use Rattle.jpeg_decoder.specs.Stream.{nothing_found, header_at, sized_header_at, sized_to, told_of, IsOfTurns};
 ghost use Rattle.jpeg_decoder.specs.States.{Decoding, MovesToHeader, MovesToEnd, IsReading, ahead, told_ahead, turns_ahead, OnTold, OnToldRefusal, Fresh, HeaderRead};
+ghost use Rattle.jpeg_decoder.specs.DecodedImages.{DecodesImages};
 ghost use Rattle.jpeg_decoder.specs.Seen.{format_of, info_of};
 ghost use Rattle.jpeg_decoder.specs.declared.decoder.Progress.TheVariants.{Failed};
 ghost use Rattle.jpeg_segments.specs.FrameView.{frame_in};
@@ -283,6 +284,7 @@ impl<R: Read + Drop> Decoder<R> {
     }
 
     /// Reads through the end of the image and no byte behind it, and gives the picture: its samples line by line.
+    /// Where the stream is one that a writer emits for the coefficients of an image, that is their picture.
     ///
     /// Errors: `Format` where a rule is broken or the picture is above the limit, `Unsupported` by the name of a feature, `Io` where the bytes end or
     /// a read fails, and `OutOfMemory`; `Internal` where the decoder has failed or has decoded its image, and nowhere else. A refusal leaves a
@@ -290,6 +292,7 @@ impl<R: Read + Drop> Decoder<R> {
     pub fn decode(&mut self) -> Result<Vec<u8>>
         ensures stage { MovesToEnd self.old.stage self.new.stage result }
         ensures reads { IsReading self.old.stage → Answers (λ v. (told_of self.new.found, v.items)) (ahead self.old.stage self.old.settings self.old.found) self.old.source result self.new.source }
+        ensures images { DecodesImages (λ v. v.items) self.old result self.new }
         ensures told { IsReading self.old.stage → OnTold self.old.source self.new.source result (told_of self.new.found ≡ told_ahead false self.old.stage self.old.found self.old.source.bytes) }
         ensures turns { IsReading self.old.stage → self.old.source.known ≡ true → IsOfTurns (λ n. turns_ahead n false self.old.stage self.old.found self.old.source.bytes) (told_of self.new.found) }
         ensures settings { self.new.settings ≡ self.old.settings }

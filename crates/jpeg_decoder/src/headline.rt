@@ -1,16 +1,11 @@
 //! The headline: a stream that is written for coefficients means the picture of those coefficients.
 //! Theorems, each on a function without a body.
 ghost use Rattle.std.specs.Prelude.{◌≡◌, ℕ, [], ◌∷◌, ◌++◌, length, List, Some, Ok, false, true};
-ghost use Rattle.std.specs.Prelude.{Result};
 ghost use Rattle.std.specs.List.{AllByRecursion};
 ghost use Rattle.jpeg_bits.specs.Passes.{Block};
-ghost use Rattle.jpeg_bits.specs.Reading.{Answers};
-ghost use Rattle.jpeg_bits.specs.declared.error.Error.{Error};
 ghost use Rattle.jpeg_segments.specs.Frame.{Frame};
 ghost use Rattle.jpeg_decoder.specs.ArrayPictures.{meaning_of_array, picture_of_array, Takes};
-ghost use Rattle.jpeg_decoder.specs.DecodedImages.{DecodesImages};
 ghost use Rattle.jpeg_decoder.specs.Levels.{Is8Bit, Levels, cut, nothing_sent};
-ghost use Rattle.jpeg_decoder.specs.States.{Decoding, IsReading, ahead};
 ghost use Rattle.jpeg_decoder.specs.Stream.{Found, is_progressive, meaning, sized_meaning};
 ghost use Rattle.jpeg_decoder.specs.Stream.{nothing_found, sized_to, told_of};
 ghost use Rattle.jpeg_decoder.specs.WholeImages.{AllComplete, whole_meaning};
@@ -157,13 +152,4 @@ pub fn progressive_images_may_end_early()
 pub fn worked_images_are_written()
     ensures grey { IsWhollyWritten grey_array grey_bytes }
     ensures colour { IsWhollyWritten colour_array colour_bytes }
-{}
-
-/// A call whose result is the meaning of what its source has left decodes images.
-pub fn calls_decode_images()
-    ensures { (old new : Decoding) (result : Result (List ℕ) Error) →
-        (IsReading old.stage →
-        Answers (λ picture. (told_of new.found, picture))
-        (ahead old.stage old.settings old.found) old.source result new.source) →
-        DecodesImages (λ picture. picture) old result new }
 {}
