@@ -6,10 +6,9 @@ use Rattle.std.specs.declared.alloc.Global.{Global}
 use Rattle.jpeg_segments.specs.Frame.{Component}
 use Rattle.jpeg_pixels.specs.Planes.{plane_of}
 
--- A plane that is being made: the samples a side of a block, the blocks of a row of blocks, the rows of blocks in
--- each row that comes, the
--- quantization table in block order, the samples that rows have brought so far, and the number of samples that the
--- whole plane has.
+-- A plane that is being made: the samples a side of a block, the blocks of a row of blocks, the rows of
+-- blocks in each row that comes, the quantization table in block order, the samples that rows have brought
+-- so far, and the number of samples that the whole plane has.
 pub record Work : Type 0 where
   pub scale : ℕ
   pub wide : ℕ

@@ -1,6 +1,6 @@
 //! Planes of samples: the samples of a component, line by line (T.81, A.1.1 and A.2).
-ghost use Rattle.std.specs.Prelude.{◌≡◌, ℕ, ◌+◌, ◌≤◌, ◌<◌, ◌*◌, ◌++◌, length, slice_index, slice_index_or};
-ghost use Rattle.std.specs.Prelude.{OnOk, OnErr};
+ghost use Rattle.std.specs.Prelude.{◌≡◌, ℕ, ◌+◌, ◌≤◌, ◌<◌, ◌*◌, ◌++◌, OnOk, OnErr};
+ghost use Rattle.std.specs.Prelude.{length, slice_index, slice_index_or};
 ghost use Rattle.jpeg_pixels.specs.Planes.{plane_of, strip_of, zero_coefficients, cropped};
 ghost use Rattle.jpeg_pixels.specs.Scaled.{IsScale};
 

@@ -48,7 +48,8 @@ impl ImmediateWorker {
     ghost use Rattle.jpeg_bits.specs.declared.error.Error.TheVariants.{OutOfMemory};
     ghost use Rattle.jpeg_segments.specs.FrameView.{component_in};
     ghost use Rattle.jpeg_pixels.specs.Scaled.{IsScale};
-    ghost use Rattle.jpeg_pixels.specs.Workers.{AreRows, IsRowAt, plane_at, with_row, with_rows, work_of};
+    ghost use Rattle.jpeg_pixels.specs.Workers.{AreRows, IsRowAt, plane_at, with_row, with_rows};
+    ghost use Rattle.jpeg_pixels.specs.Workers.{work_of};
 
     /// A worker whose four places hold no plane.
     pub fn default_in_memory(alloc: Global) -> Result<ImmediateWorker>
@@ -60,8 +61,8 @@ impl ImmediateWorker {
         })
     }
 
-    /// Starts the plane of a component at a place that holds none, and takes the room for all of it:
-    /// each sample is 0 until its row comes.
+    /// Starts the plane of a component at a place that holds none, and allocates all of it: each
+    /// sample is 0 until its row comes.
     ///
     /// The only error is that no memory is left; nothing has changed then.
     pub fn start(&mut self, row_data: RowData) -> Result<()>
@@ -83,10 +84,11 @@ impl ImmediateWorker {
     }
 
     /// Appends the samples of a row to the plane at a place: as many rows of blocks as the vertical
-    /// factor of the component says. It takes no memory, and gives no error.
+    /// factor of the component says. It allocates nothing, and returns no error.
     ///
-    /// The row holds the coefficients of its blocks, block by block, from the left and row of blocks
-    /// by row of blocks. Those of a block stand in block order, as its quantization table does.
+    /// The row holds the coefficients of its blocks, block by block, from the left and row of
+    /// blocks by row of blocks. Those of a block stand in block order, as its quantization table
+    /// does.
     pub fn append_row(&mut self, row: (usize, Vec<i16>)) -> Result<()>
         requires place { row.0 < 4 }
         requires row { IsRowAt (get_or self.old row.0 None) row.1.items }
@@ -98,8 +100,7 @@ impl ImmediateWorker {
         Ok(())
     }
 
-    /// Appends each row that an iterator gives, as `append_row` does. It takes no memory of its own,
-    /// and gives no error.
+    /// Appends each row that an iterator yields, as `append_row` does. It returns no error.
     pub fn append_rows<I: Iterator<Item = (usize, Vec<i16>)> + Drop>(
         &mut self,
         rows: I,
@@ -127,8 +128,8 @@ impl ImmediateWorker {
         }
     }
 
-    /// The plane at a place, which holds none afterwards: 0 where no row has come yet, and empty
-    /// where none was started. It takes no memory, and gives no error.
+    /// Takes the plane at a place: its samples are 0 where no row has come yet. It is empty where
+    /// the place holds none. It allocates nothing, and returns no error.
     pub fn get_result(&mut self, index: usize) -> Result<Vec<u8>>
         requires place { index < 4 }
         ensures plane { MatchResult result
