@@ -84,3 +84,4 @@ pub mod PutLoops
 pub mod ScanData
 pub mod EndedPlanes
 pub mod PicturesOfPlanes
+pub mod SizedHeaders
