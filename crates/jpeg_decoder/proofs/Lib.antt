@@ -81,3 +81,4 @@ pub mod DecodedImages
 pub mod WrittenParts
 pub mod PutLoops
 pub mod ScanData
+pub mod PicturedFrames
