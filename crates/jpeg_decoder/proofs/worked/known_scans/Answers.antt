@@ -63,8 +63,7 @@ returns c = record {
   lines = refl;
   limit = refl;
   factors = refl;
-  restart =
-      refl;
+  restart = refl;
   wrong_restart = refl;
   first_decides = refl;
   refined = refl;
