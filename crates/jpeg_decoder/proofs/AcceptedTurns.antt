@@ -186,7 +186,7 @@ coding-facts w frame p tables place d a k e =
       refl,
     )
 
-codings-facts_from : (w : Found) (frame : Frame) (p : Pass) (tables : Tables) (places ds ks : List ℕ)
+pub codings-facts_from : (w : Found) (frame : Frame) (p : Pass) (tables : Tables) (places ds ks : List ℕ)
     (codings : List Coding) → length ds ≡ length places → length ks ≡ length places
     → codings_from w frame p tables places ds ks ≡ Ok codings
     → (length codings ≡ length places) × AllByRecursion (CodingFacts w frame) codings
@@ -287,7 +287,7 @@ then-other : (c : Coding) (o r : Result (List Coding) Fault) → o ≡ r
     → (o >>= (λ others. Ok (c ∷ others))) ≡ (r >>= (λ others. Ok (c ∷ others)))
 then-other c o r e = ap (λ (x : Result (List Coding) Fault). x >>= (λ (others : List Coding). Ok (c ∷ others))) e
 
-codings-same_from : (w : Found) (sc : Bool) (h : Arrays) (fi : List (List Bool)) (pl : List (Option (List ℕ)))
+pub codings-same_from : (w : Found) (sc : Bool) (h : Arrays) (fi : List (List Bool)) (pl : List (Option (List ℕ)))
     (frame : Frame) (p : Pass) (tables : Tables) (places ds ks : List ℕ)
     → codings_from (reading w sc h fi pl) frame p tables places ds ks ≡ codings_from w frame p tables places ds ks
 unfolding codings_from
@@ -308,7 +308,7 @@ codings-same_from w sc h fi pl frame p tables (x ∷ places) (d ∷ ds) (a ∷ k
     go (Ok c) e = then-other c _ _ e
     go (Err e') e = refl
 
-tables-same : (w : Found) (sc : Bool) (h : Arrays) (fi : List (List Bool)) (pl : List (Option (List ℕ))) (s : Scan)
+pub tables-same : (w : Found) (sc : Bool) (h : Arrays) (fi : List (List Bool)) (pl : List (Option (List ℕ))) (s : Scan)
     → tables_of (reading w sc h fi pl) s ≡ tables_of w s
 unfolding tables_of
 tables-same w sc h fi pl s = refl

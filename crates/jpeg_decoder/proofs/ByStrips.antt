@@ -1,5 +1,5 @@
 -- The planes of a sequential scan are the strips of its rows of MCUs, one after the other.
-use Rattle.std.proofs.Common.{◌≡◌, ℕ, zero, suc, ◌+◌, ◌-◌, ◌*◌, ◌<◌, ◌≤◌, List, [], ◌∷◌, ◌++◌, map, take, drop, length, replicate, Option, Result, Ok, Err, refl, sym, ap, ap₂, ◌∙◌, append_assoc, append-nil, arith, add-mul, suc-mul, mul_assoc, length-take, length-drop, take-append-drop}
+use Rattle.std.proofs.Common.{◌≡◌, ℕ, zero, suc, ◌+◌, ◌*◌, List, [], ◌∷◌, ◌++◌, map, take, drop, length, Option, Result, Ok, Err, refl, sym, ap, ap₂, ◌∙◌, append_assoc, append-nil, arith, add-mul, suc-mul, mul_assoc, length-take, length-drop, take-append-drop}
 use Rattle.std.proofs.lemmas.List.FromFn.{length-map-range_with_len}
 use Rattle.std.specs.List.{AllByRecursion}
 use Rattle.jpeg_bits.specs.Reading as reading
@@ -7,21 +7,21 @@ use Rattle.jpeg_bits.specs.Reading.{Outcome, Fault}
 use Rattle.jpeg_bits.specs.Entropy.{Text, upcoming, fresh, marker_from}
 use Rattle.jpeg_bits.specs.Readers.{Reads, read_on, gives}
 use Rattle.jpeg_bits.specs.declared.marker.Marker.{Marker}
-use Rattle.jpeg_bits.specs.Passes.{Pass, Via, Block, zero_block}
+use Rattle.jpeg_bits.specs.Passes.{Pass, Via, Block}
 use Rattle.jpeg_segments.specs.Frame.{Frame, Component}
 use Rattle.jpeg_pixels.specs.Planes.{plane_of, strip_of}
 use Rattle.jpeg_pixels.specs.Zigzag.{values_in_block_order}
 use Rattle.jpeg_pixels.proofs.PlaneRows.{plane-none}
-use Rattle.jpeg_decoder.specs.Order.{Spot, spots_of, mcu_size}
-use Rattle.jpeg_decoder.specs.Scans.{Arrays, zero_arrays, arrays_at}
+use Rattle.jpeg_decoder.specs.Order.{Spot}
+use Rattle.jpeg_decoder.specs.Scans.{Arrays, zero_arrays}
 use Rattle.jpeg_decoder.specs.Rasters.{in_raster, ordered}
 use Rattle.jpeg_decoder.specs.InTurn.{Counted, Fits, mcus_from, counted_at_start}
 use Rattle.jpeg_decoder.specs.McuRows.{row_mcus, own_row_mcus, zero_rows, rows_of, joined, with_arrays, rows_from, scan_by_rows}
 use Rattle.jpeg_decoder.specs.Stream.{Coding, plane_by}
 use Rattle.jpeg_decoder.specs.Strips.{components_of, planes_by, planes_at, samples_of, with_strips, strips_from, planes_by_rows}
 use Rattle.jpeg_decoder.proofs.Apart.{zeros-sized}
-use Rattle.jpeg_decoder.proofs.Mcus.{frame-scans, on-on, same-on}
-use Rattle.jpeg_decoder.proofs.McuRows.{AreRows, KeepsCounted, mcus-any, rows-kept, counted-where, joined-rows, no-blocks, zero-rows, scans-by-rows}
+use Rattle.jpeg_decoder.proofs.Mcus.{frame-scans, on-on}
+use Rattle.jpeg_decoder.proofs.McuRows.{AreRows, mcus-any, rows-kept, counted-where, joined-rows, no-blocks, zero-rows, scans-by-rows}
 use Rattle.jpeg_decoder.proofs.PlaneStrips.{plane-strips}
 
 -- ---- rows of blocks after rows of blocks
@@ -59,7 +59,7 @@ plane-joined s table wide n (suc k) xs ys e f =
     ∙ ap (λ (l : List ℕ). l ++ last) (plane-joined s table wide n k xs front e fl)
     ∙ append_assoc above middle last
     ∙ ap (λ (l : List ℕ). above ++ l) (sym (plane-strips s table wide k front row fl rl)
-      ∙ ap₂ (λ (m : ℕ) (l : List Block). plane_of s table wide m (in_raster wide l)) (sym one) whole)
+    ∙ ap₂ (λ (m : ℕ) (l : List Block). plane_of s table wide m (in_raster wide l)) (sym one) whole)
 
 -- ---- planes of so many rows of MCUs
 
@@ -109,7 +109,7 @@ strips-in-turn p vias n codings (mcus ∷ rows) r front old t h =
     ap (λ (l : List (List ℕ)). strips_from p vias n codings rows l (with_arrays [] s) u) (strips-grow r codings front s.reached.arrays h k)
     ∙ strips-in-turn p vias n codings rows (r + 1) (joined front s.reached.arrays) s u (joined-rows r cs front s.reached.arrays h k)
     ∙ ap (λ (m : ℕ). read_on (λ (s : Counted). gives (grown m codings s.reached.arrays)) (rows_from p vias n cs rows (joined front s.reached.arrays) s u))
-      (let z : r + 1 + length rows ≡ r + suc (length rows) = omega arith in z))
+    (let z : r + 1 + length rows ≡ r + suc (length rows) = omega arith in z))
     o (mcus-any (AreRows 1 cs) (rows-kept 1 cs) p vias n mcus start t (zero-rows 1 cs))
     ∙ sym (on-on (λ s. λ u. rows_from p vias n cs rows (joined front s.reached.arrays) s u) end o)
 
@@ -176,12 +176,12 @@ planes-by-rows frame c codings p n vias bytes fits =
     let o = rows_from p vias n cs rows none start t in
     let count : 0 + length rows ≡ high = let e = count-rows frame c.component (components_of codings) in omega arith in
     ap (made (planes_by all))
-      (frame-scans frame c.component (components_of codings) p vias n (zero_arrays cs) bytes fits (zeros-sized cs) ∙ scans-by-rows frame c.component (components_of codings) p vias n bytes fits)
+    (frame-scans frame c.component (components_of codings) p vias n (zero_arrays cs) bytes fits (zeros-sized cs) ∙ scans-by-rows frame c.component (components_of codings) p vias n bytes fits)
     ∙ sym (ap (λ (l : List (List ℕ)). ended (strips_from p vias n all rows l start t)) (none-grown all)
-      ∙ ap ended (strips-in-turn p vias n all rows 0 none start t (no-blocks cs))
-      ∙ ap (λ (k : ℕ). ended (read_on (λ (s : Counted). gives (grown k all s.reached.arrays)) o)) count
-      ∙ ends (grown high all) o
-      ∙ same (finished o))
+    ∙ ap ended (strips-in-turn p vias n all rows 0 none start t (no-blocks cs))
+    ∙ ap (λ (k : ℕ). ended (read_on (λ (s : Counted). gives (grown k all s.reached.arrays)) o)) count
+    ∙ ends (grown high all) o
+    ∙ same (finished o))
   where
     same : (o : Outcome (Arrays × Option Marker)) → made (grown frame.mcus_high (c ∷ codings)) o ≡ made (planes_by (c ∷ codings)) o
     same (Ok r) = ap (λ (l : List (List ℕ)). Ok ((l, r.0.1), r.1)) (all-grown frame (c ∷ codings) r.0.0 fits)

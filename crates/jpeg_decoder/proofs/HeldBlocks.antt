@@ -43,7 +43,7 @@ arrays-set : (vs : List Held) (slot index : ℕ) (v : Held) (x : List ℤ) → s
 arrays-set vs slot index v x h e =
     map-set blocks_in vs slot (with_item v index x)
     ∙ ap (λ (l : List Block). set (arrays_in vs) slot l) (map-set to_block v.items index x
-      ∙ ap (λ (l : List Block). set l index (to_block x)) (ap blocks_in e ∙ sym (get-map blocks_in vs slot v [] h)))
+    ∙ ap (λ (l : List Block). set l index (to_block x)) (ap blocks_in e ∙ sym (get-map blocks_in vs slot v [] h)))
 
 block-held : (vs : List Held) (slot index : ℕ) (v : Held) (x : List ℤ) → slot < length vs → v ≡ get_or vs slot v → index < length v.items → x ≡ get_or v.items index x
     → block_at (arrays_in vs) (spot slot index) ≡ to_block x
@@ -68,7 +68,7 @@ put_turn component slot index old r = gives (record { arrays = put_block (spot s
 
 turn-whole : (p : Pass) (vias : List Via) (slot index : ℕ) (old : Reached) (t : Text)
     → turn_from p vias (spot slot index) old t ≡ read_on (put_turn (via_at vias slot).component slot index old)
-      (block_from p (via_at vias slot).dc (via_at vias slot).ac (get_or old.predictors (via_at vias slot).component (pos 0)) old.run (block_at old.arrays (spot slot index)) t)
+    (block_from p (via_at vias slot).dc (via_at vias slot).ac (get_or old.predictors (via_at vias slot).component (pos 0)) old.run (block_at old.arrays (spot slot index)) t)
 unfolding turn_from
 turn-whole p vias slot index old t = refl
 

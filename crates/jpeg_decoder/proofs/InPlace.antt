@@ -1,5 +1,5 @@
 -- Lists whose elements are replaced one after the other, and lists that grow element by element.
-use Rattle.std.proofs.Common.{◌≡◌, ℕ, zero, suc, ◌+◌, ◌<◌, ◌≤◌, List, [], ◌∷◌, ◌++◌, map, take, drop, length, get_or, set, refl, sym, ap, ◌∙◌, arith}
+use Rattle.std.proofs.Common.{◌≡◌, ℕ, zero, suc, ◌+◌, ◌<◌, ◌≤◌, List, [], ◌∷◌, ◌++◌, map, take, drop, length, get_or, set, refl, ap, ◌∙◌, arith}
 
 -- the first elements of one list, and the others of another
 abbrev pub patched : {A : Type 0} → ℕ → List A → List A → List A

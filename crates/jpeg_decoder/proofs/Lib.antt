@@ -1,7 +1,6 @@
 pub mod WriterLemmas
 pub mod OutputLemmas
 pub mod Updates
-pub mod ScanParts
 pub mod Shorter
 pub mod ShorterSegments
 pub mod ShorterTexts
@@ -71,6 +70,8 @@ pub mod WorkedGrey
 pub mod WorkedColour
 pub mod DecidedPlanes
 pub mod Soundness
+pub mod ReadableScans
+pub mod ScanReads
 pub mod SlotCodings
 pub mod ScanCodings
 pub mod TakenBlocks
@@ -82,3 +83,5 @@ pub mod WrittenParts
 pub mod PutLoops
 pub mod ScanData
 pub mod PicturedFrames
+pub mod EndedPlanes
+pub mod PicturesOfPlanes

@@ -21,10 +21,10 @@ line-same f slot k (suc n) index same =
     let a : k ≡ k + 0 = omega arith in
     let b : index + 0 ≡ index = omega arith in
     ap₂ (λ (x : Spot) (xs : List Spot). x ∷ xs) (ap f a ∙ same 0 ∙ ap (spot slot) b)
-      (line-same f slot (k + 1) n (index + 1) (λ h.
-        let c : k + 1 + h ≡ k + suc h = omega arith in
-        let d : index + suc h ≡ index + 1 + h = omega arith in
-        ap f c ∙ same (suc h) ∙ ap (spot slot) d))
+    (line-same f slot (k + 1) n (index + 1) (λ h.
+    let c : k + 1 + h ≡ k + suc h = omega arith in
+    let d : index + suc h ≡ index + 1 + h = omega arith in
+    ap f c ∙ same (suc h) ∙ ap (spot slot) d))
 
 part-same : (g : ℕ → List Spot) (slot wide count k n index : ℕ) → ((v : ℕ) → g (k + v) ≡ line_of slot (index + v * wide) count) → flat_map g (range_with_len k n) ≡ part_of slot wide count index n
 unfolding part_of
@@ -33,21 +33,21 @@ part-same g slot wide count k (suc n) index same =
     let a : k ≡ k + 0 = omega arith in
     let b : index + 0 * wide ≡ index = omega arith in
     ap₂ (λ (x xs : List Spot). x ++ xs) (ap g a ∙ same 0 ∙ ap (λ (i : ℕ). line_of slot i count) b)
-      (part-same g slot wide count (k + 1) n (index + wide) (λ v.
-        let c : k + 1 + v ≡ k + suc v = omega arith in
-        let d : index + suc v * wide ≡ index + wide + v * wide = omega (arith, suc-mul v wide) in
-        ap g c ∙ same (suc v) ∙ ap (λ (i : ℕ). line_of slot i count) d))
+    (part-same g slot wide count (k + 1) n (index + wide) (λ v.
+    let c : k + 1 + v ≡ k + suc v = omega arith in
+    let d : index + suc v * wide ≡ index + wide + v * wide = omega (arith, suc-mul v wide) in
+    ap g c ∙ same (suc v) ∙ ap (λ (i : ℕ). line_of slot i count) d))
 
 part-is : (row column slot : ℕ) (c : Coded) → part_spots row column slot (component_in c.component.now) ≡ part_in slot (first_in row column c) c
 unfolding part_spots
 part-is row column slot c =
     part-same (λ v. map (part_spot row column slot (component_in c.component.now) v) (range_with_len 0 (across_in c))) slot (wide_in c) (across_in c) 0 (down_in c) (first_in row column c) (λ v.
-      line-same (part_spot row column slot (component_in c.component.now) (0 + v)) slot 0 (across_in c) (first_in row column c + v * wide_in c) (λ h.
-        let a : (row * down_in c + (0 + v)) * wide_in c ≡ row * down_in c * wide_in c + (0 + v) * wide_in c = add-mul (row * down_in c) (0 + v) (wide_in c) in
-        let z : 0 + v ≡ v = omega arith in
-        let b : (0 + v) * wide_in c ≡ v * wide_in c = ap (λ (k : ℕ). k * wide_in c) z in
-        let e : (row * down_in c + (0 + v)) * wide_in c + (column * across_in c + (0 + h)) ≡ first_in row column c + v * wide_in c + h = omega (arith, a, b) in
-        ap (spot slot) e))
+    line-same (part_spot row column slot (component_in c.component.now) (0 + v)) slot 0 (across_in c) (first_in row column c + v * wide_in c) (λ h.
+    let a : (row * down_in c + (0 + v)) * wide_in c ≡ row * down_in c * wide_in c + (0 + v) * wide_in c = add-mul (row * down_in c) (0 + v) (wide_in c) in
+    let z : 0 + v ≡ v = omega arith in
+    let b : (0 + v) * wide_in c ≡ v * wide_in c = ap (λ (k : ℕ). k * wide_in c) z in
+    let e : (row * down_in c + (0 + v)) * wide_in c + (column * across_in c + (0 + h)) ≡ first_in row column c + v * wide_in c + h = omega (arith, a, b) in
+    ap (spot slot) e))
 
 next-slot : (slot : ℕ) (cs : List Coded) (c : Coded) → slot < length cs → c ≡ get_or cs slot c → drop slot cs ≡ c ∷ drop (slot + 1) cs
 next-slot slot [] c h e = absurd (omega arith)

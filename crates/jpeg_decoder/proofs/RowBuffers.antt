@@ -45,14 +45,13 @@ pub cleared-next : (old items : List Held) (i : ℕ) (v w : Held) → i < length
 cleared-next old items i v w h sizes arrays is new =
     let long : length items ≡ length old = sym (sizes-long items) ∙ ap (λ (l : List ℕ). length l) sizes ∙ sizes-long old in
     let same : length (zeros_of (sizes_of old)) ≡ length (arrays_in old) = length-map (sizes_of old) (λ n. replicate n zero_block) ∙ sizes-long old ∙ sym (length-map old blocks_in) in
-    let size : get_or (sizes_of old) i 0 ≡ length v.items = ap (λ (l : List ℕ). get_or l i 0) (sym sizes) ∙ size-at items i v (omega (arith, sizes-long items)) is in
-    (
+    let size : get_or (sizes_of old) i 0 ≡ length v.items = ap (λ (l : List ℕ). get_or l i 0) (sym sizes) ∙ size-at items i v (omega (arith, sizes-long items)) is in (
       sizes-put items i v w (ap (λ (l : List (List ℤ)). length l) new ∙ length-replicate (length v.items) (replicate 64 (pos 0))) is ∙ sizes,
       map-set blocks_in items i w
-      ∙ ap (λ (l : Arrays). set l i (blocks_in w)) arrays
-      ∙ patched-next (zeros_of (sizes_of old)) (arrays_in old) i (blocks_in w) [] same (omega (arith, length-map old blocks_in))
-      (ap (λ (l : List (List ℤ)). map to_block l) new ∙ zeros (length v.items)
-      ∙ sym (get-map (λ (n : ℕ). replicate n zero_block) (sizes_of old) i 0 [] (omega (arith, sizes-long old)) ∙ ap (λ (n : ℕ). replicate n zero_block) size)),
+          ∙ ap (λ (l : Arrays). set l i (blocks_in w)) arrays
+          ∙ patched-next (zeros_of (sizes_of old)) (arrays_in old) i (blocks_in w) [] same (omega (arith, length-map old blocks_in))
+          (ap (λ (l : List (List ℤ)). map to_block l) new ∙ zeros (length v.items)
+          ∙ sym (get-map (λ (n : ℕ). replicate n zero_block) (sizes_of old) i 0 [] (omega (arith, sizes-long old)) ∙ ap (λ (n : ℕ). replicate n zero_block) size)),
     )
 
 pub all-cleared : (old items : List Held) (i : ℕ) → length items ≤ i → sizes_of items ≡ sizes_of old
@@ -111,17 +110,17 @@ module _ (cs : List Coded) (old : List Held) (start : List Plane) (sizes : sizes
       let view : Plane → List ℕ = λ x. x.items in
       let pl = planes-long planes slot inv in
       let before : p.items ≡ get_or (planes_in start) slot [] =
-          ap view at ∙ sym (get-map view planes slot p [] (omega (arith, pl))) ∙ ap (λ (l : List (List ℕ)). get_or l slot []) inv
-          ∙ patched-at all (planes_in start) slot [] all-long in
+      ap view at ∙ sym (get-map view planes slot p [] (omega (arith, pl))) ∙ ap (λ (l : List (List ℕ)). get_or l slot []) inv
+      ∙ patched-at all (planes_in start) slot [] all-long in
       let blocks : get_or (arrays_in old) slot [] ≡ map to_block v.items =
-          get-map blocks_in old slot v [] (omega (arith, old-long)) ∙ sym (ap blocks_in (row-at rows slot v h e held)) in
+      get-map blocks_in old slot v [] (omega (arith, old-long)) ∙ sym (ap blocks_in (row-at rows slot v h e held)) in
       let coded : coding_in c ≡ get_or codings slot (coding_in c) = ap coding_in is ∙ sym (get-map coding_in cs slot c (coding_in c) h) in
       map-set view planes slot q
       ∙ ap (λ (l : List (List ℕ)). set l slot q.items) inv
       ∙ patched-next all (planes_in start) slot q.items [] all-long (omega (arith, start-long, length-map cs coding_in))
       (new ∙ ap (λ (l : List ℕ). l ++ samples_of (down_in c) (coding_in c) (map to_block v.items)) before
       ∙ sym (strips-at codings (arrays_in old) (planes_in start) slot (coding_in c) arrays-long start-long (omega (arith, length-map cs coding_in)) coded
-        ∙ ap (λ (l : List Block). get_or (planes_in start) slot [] ++ samples_of (down_in c) (coding_in c) l) blocks))
+      ∙ ap (λ (l : List Block). get_or (planes_in start) slot [] ++ samples_of (down_in c) (coding_in c) l) blocks))
 
   pub planes-all : (planes : List Plane) (slot : ℕ) → length cs ≤ slot → planes_in planes ≡ patched slot all (planes_in start) → planes_in planes ≡ all
   planes-all planes slot h e = e ∙ patched-all all (planes_in start) slot all-long (omega (arith, start-long, length-map cs coding_in))

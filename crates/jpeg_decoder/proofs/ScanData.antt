@@ -1,6 +1,7 @@
 -- The data of a scan, of what is read of its blocks, and the planes that it decides.
 use Rattle.std.proofs.Common.{◌≡◌, ◌<◌, ◌≤◌, ℕ, zero, suc, ◌+◌, ◌*◌, ℤ, Bool, true, false, Option, Some, None, Result, Ok, Err, List, [], ◌∷◌, refl, sym, ap, ap₂, subst, ◌∙◌, length, get_or, set, map, drop, arith}
-use Rattle.std.specs.Prelude.{◌&&◌, slice_set, slice_index_or}
+use Rattle.std.proofs.Math.Logic.{inl, inr}
+use Rattle.std.specs.Prelude.{All, OnOk, ◌&&◌, slice_set, slice_index_or}
 use Rattle.std.specs.List.{AllByRecursion, list_all}
 use Rattle.std.proofs.Math.Bool.{cond}
 use Rattle.std.specs.declared.alloc.Global.{Global}
@@ -16,18 +17,19 @@ use Rattle.jpeg_bits.specs.BlockView.{to_block}
 use Rattle.jpeg_segments.specs.Frame.{Frame, Component}
 use Rattle.jpeg_decoder.specs.declared.codings.Coded.{Coded}
 use Rattle.jpeg_decoder.specs.declared.decoded.Decoded.{Decoded}
-use Rattle.jpeg_decoder.specs.InTurn.{AreArrays}
+use Rattle.jpeg_decoder.specs.InTurn.{AreApart, AreArrays, IsIn}
 use Rattle.jpeg_decoder.specs.Order.{spots_of, mcu_size}
 use Rattle.jpeg_decoder.specs.Scans.{Arrays, zero_arrays, arrays_at}
 use Rattle.jpeg_decoder.specs.Scanning.{vias_in, arrays_in, blocks_in, sizes_of, components_in}
 use Rattle.jpeg_decoder.specs.Seen.{planes_in}
 use Rattle.jpeg_decoder.specs.Sound.{IsPlaneOf, ArePlanes}
-use Rattle.jpeg_decoder.specs.Steps.{blocks_at, coding_in, components_of, decided_planes, marks_after, scan_data, with_decoded, with_its_plane, with_planes, IsCodingOf}
+use Rattle.jpeg_decoder.specs.Steps.{blocks_at, coding_in, components_of, decided_planes, marks_after, scan_data, with_decoded, with_its_plane, with_planes, IsCodingOf, AreRising}
 use Rattle.jpeg_decoder.specs.Stream.{Found, Coding, arrays_before, decided, finished_by, held_behind, is_progressive, plane_by, put_arrays, vias_from, with_arrays, with_blocks, with_plane}
 use Rattle.jpeg_decoder.specs.Strips as strips
 use Rattle.jpeg_decoder.specs.Strips.{planes_by, planes_at}
-use Rattle.jpeg_decoder.proofs.Apart.{At}
+use Rattle.jpeg_decoder.proofs.Apart.{At, zeros-sized}
 use Rattle.jpeg_decoder.proofs.BlocksBefore.{plane_by-length}
+use Rattle.jpeg_decoder.proofs.PlacedCodings.{coded-components}
 use Rattle.jpeg_decoder.proofs.PutLoops.{Held, blocks-are, arrays-more, planes-more}
 use Rattle.jpeg_decoder.proofs.ScanArrays.{IsOf, first-at, zeros-of}
 
@@ -71,7 +73,7 @@ arrays-by-planes p (c ∷ codings) (blocks ∷ arrays) found =
     ∙ arrays-by-planes p codings arrays (with_its_plane p c.place (plane_by c.component c.quantization blocks) found)
 
 -- the blocks at their places, of those of the frame
-abbrev read_at : Found → Frame → Pass → List Coding → Arrays → List ℕ → Outcome (Arrays × Option Marker)
+abbrev pub read_at : Found → Frame → Pass → List Coding → Arrays → List ℕ → Outcome (Arrays × Option Marker)
 read_at f frame p codings arrays bytes =
     arrays_at p (f.restart * mcu_size (components_of codings)) (vias_from 0 codings) (spots_of frame (components_of codings)) arrays bytes
 
@@ -245,3 +247,63 @@ arrays-whole frame p (c ∷ codings) (blocks ∷ arrays) found of h =
 pub answers-err : {X Y Z W : Type 0} (v : X → Y) (view : Z → W) (read : List ℕ → Outcome Y) (whole : List ℕ → Outcome W) (old new : Stream) (e : Error)
     → ((f : Fault) → read old.bytes ≡ Err f → whole old.bytes ≡ Err f) → Answers v read old (Err e) new → Answers view whole old (Err e) new
 answers-err v view read whole old new e h p = (p.0, (λ k l. Names-through e _ _ h (p.1 k l)), p.2)
+
+-- ---- scans on held blocks
+
+no-arrays : (c : Component) (more : List Component) → AreArrays (c ∷ more) [] → ⊥
+unfolding AreArrays
+no-arrays c more h = h
+
+other-arrays : (c : Component) (more : List Component) (blocks : List Block) (arrays : Arrays) → AreArrays (c ∷ more) (blocks ∷ arrays) → AreArrays more arrays
+unfolding AreArrays
+other-arrays c more blocks arrays h = h.1
+
+-- the blocks are read as the code reads them
+pub read-as : (f : Found) (frame : Frame) (p : Pass) (cs : List Coded) (n : ℕ) (arrays : Arrays) (bytes : List ℕ) → n ≡ f.restart
+    → read_at f frame p (map coding_in cs) arrays bytes ≡ arrays_at p (n * mcu_size (components_in cs)) (vias_in 0 cs) (spots_of frame (components_in cs)) arrays bytes
+read-as f frame p cs n arrays bytes e =
+    ap (λ (v : List Via). arrays_at p (f.restart * mcu_size (components_of (map coding_in cs))) v (spots_of frame (components_of (map coding_in cs))) arrays bytes) (vias-same 0 cs)
+    ∙ ap₂ (λ (l : List Component) (k : ℕ). arrays_at p (k * mcu_size l) (vias_in 0 cs) (spots_of frame l) arrays bytes) (coded-components cs) (sym e)
+
+-- the places of a scan's components are places of the arrays
+pub coded-within-held : (frame : Frame) (cs : List Coded) (held : List Held) → AllByRecursion (IsCodingOf frame) (map coding_in cs) → AreArrays frame.components (arrays_in held)
+    → All (λ (x : Coded). x.place < length held) cs
+coded-within-held frame cs held of a k d h = at cs of k d h
+  where
+    long : (components : List Component) (vs : List Held) → AreArrays components (arrays_in vs) → (place : ℕ) (c : Component) → At place components c → place < length vs
+    long [] vs a place c at = absurd at
+    long (x ∷ components) [] a place c at = absurd (no-arrays x components a)
+    long (x ∷ components) (v ∷ vs) a zero c at = omega arith
+    long (x ∷ components) (v ∷ vs) a (suc place) c at = let r = long components vs (other-arrays x components (blocks_in v) (arrays_in vs) a) place c at in omega (arith, r)
+
+    at : (cs : List Coded) → AllByRecursion (IsCodingOf frame) (map coding_in cs) → (k : ℕ) (d : Coded) → k < length cs → (get_or cs k d).place < length held
+    at [] of k d h = absurd (omega arith)
+    at (c ∷ cs) of zero d h = long frame.components held a c.place (coding_in c).component (first-at c.place frame.components (coding_in c).component of.0)
+    at (c ∷ cs) of (suc k) d h = at cs of.1 k d (omega arith)
+
+-- places that rise are apart
+pub rising-codings : (cs : List Coded) → AreRising (map coding_in cs) → AreApart (map (λ (x : Coded). x.place) cs)
+rising-codings [] h = tt
+rising-codings (c ∷ []) h = ((λ n. n), tt)
+rising-codings (c ∷ d ∷ cs) h = (λ n. below c.place d cs h.0 h.1 n, rising-codings (d ∷ cs) h.1)
+  where
+    below : (p : ℕ) (d : Coded) (cs : List Coded) → p < d.place → AreRising (map coding_in (d ∷ cs)) → IsIn p (map (λ (x : Coded). x.place) (d ∷ cs)) → ⊥
+    below p d cs lt r (inl e) = omega (arith, e)
+    below p d [] lt r (inr n) = n
+    below p d (x ∷ cs) lt r (inr n) = below p x cs (let q = r.0 in omega (arith, q)) r.1 n
+
+-- ---- what is held after a scan
+
+before-held : (f : Found) (frame : Frame) → is_progressive frame.process ≡ true → f.scanned ≡ true → arrays_before f frame ≡ f.held
+unfolding arrays_before
+before-held f frame e s = rw (e, s) refl
+
+pub held-afterwards : {X E : Type 0} (r : Result X E) (f : Found) (frame : Frame) → is_progressive frame.process ≡ true → f.scanned ≡ true
+    → OnOk r (AreArrays frame.components f.held) → OnOk r (AreArrays frame.components (arrays_before f frame))
+held-afterwards (Ok x) f frame e s h = subst (AreArrays frame.components) (sym (before-held f frame e s)) h
+held-afterwards (Err x) f frame e s h = tt
+
+pub none-held : {X E : Type 0} (r : Result X E) (f : Found) (frame : Frame) → is_progressive frame.process ≡ false
+    → OnOk r (AreArrays frame.components (arrays_before f frame))
+none-held (Ok x) f frame e = subst (AreArrays frame.components) (sym (before-sequential f frame e)) (zeros-sized frame.components)
+none-held (Err x) f frame e = tt

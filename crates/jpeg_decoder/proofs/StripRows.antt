@@ -1,11 +1,11 @@
 -- The samples of a component's blocks in a row of MCUs.
-use Rattle.std.proofs.Common.{◌≡◌, ℕ, zero, suc, ◌+◌, ◌-◌, ◌*◌, ◌<◌, ◌≤◌, List, [], ◌∷◌, ◌++◌, map, take, drop, length, get_or, ℤ, refl, sym, ap, ◌∙◌, arith, append-nil, suc-mul, length-take, length-drop}
+use Rattle.std.proofs.Common.{◌≡◌, ℕ, zero, suc, ◌+◌, ◌*◌, ◌<◌, ◌≤◌, List, [], ◌∷◌, ◌++◌, map, take, drop, length, get_or, ℤ, refl, sym, ap, ◌∙◌, arith, append-nil, suc-mul, length-take, length-drop}
 use Rattle.std.proofs.Math.Nat.{mul-le-mul_right}
-use Rattle.std.proofs.lemmas.List.{ext_get_or, get_or-take, get_or-drop, get_or_default, length-map}
+use Rattle.std.proofs.lemmas.List.{ext_get_or, get_or-take, get_or-drop, get_or_default}
 use Rattle.std.proofs.lemmas.List.FromFn.{length-map-range_with_len, get_or-map-range_with_len}
 use Rattle.std.specs.List.{range_with_len}
 use Rattle.jpeg_bits.specs.BlockView.{to_block}
-use Rattle.jpeg_bits.specs.Passes.{Block, zero_block}
+use Rattle.jpeg_bits.specs.Passes.{zero_block}
 use Rattle.jpeg_pixels.specs.Planes.{plane_of, strip_of, zero_coefficients}
 use Rattle.jpeg_pixels.specs.Zigzag.{coefficients_in_block_order, zigzag_places, values_in_block_order}
 use Rattle.jpeg_pixels.proofs.PlaneRows.{plane-more, plane-same, plane-none}

@@ -1,5 +1,5 @@
 -- Steps of the loop over the rows of MCUs of a sequential scan.
-use Rattle.std.proofs.Common.{◌≡◌, ℕ, zero, suc, ◌+◌, ◌-◌, ◌*◌, ◌<◌, ◌≤◌, List, [], ◌∷◌, ◌++◌, map, drop, length, replicate, get_or, Result, Ok, Err, refl, sym, ap, ap₂, ◌∙◌, arith, add-mul, mul-add, mul_comm}
+use Rattle.std.proofs.Common.{◌≡◌, ℕ, suc, ◌+◌, ◌-◌, ◌*◌, ◌<◌, ◌≤◌, List, [], ◌∷◌, ◌++◌, map, drop, length, replicate, get_or, Ok, Err, refl, sym, ap, ap₂, ◌∙◌, arith, add-mul, mul-add, mul_comm}
 use Rattle.std.proofs.lemmas.List.{length-map}
 use Rattle.std.proofs.lemmas.List.FromFn.{length-map-range_with_len}
 use Rattle.jpeg_pixels.specs.Planes.{plane_of}
@@ -17,7 +17,7 @@ use Rattle.jpeg_decoder.specs.Order.{Spot, grid_of}
 use Rattle.jpeg_decoder.specs.Scans.{Arrays}
 use Rattle.jpeg_decoder.specs.InTurn.{Counted, Fits, mcus_from}
 use Rattle.jpeg_decoder.specs.McuRows.{zero_rows, rows_of, row_mcus, own_row_mcus, with_arrays}
-use Rattle.jpeg_decoder.specs.Scanning.{components_in, arrays_in, blocks_in, sizes_of, wide_in, across_in, down_in, first_in, HoldsMcu, row_in, own_rows}
+use Rattle.jpeg_decoder.specs.Scanning.{components_in, arrays_in, blocks_in, sizes_of, wide_in, across_in, down_in, HoldsMcu, row_in, own_rows}
 use Rattle.jpeg_decoder.specs.Steps.{coding_in}
 use Rattle.jpeg_decoder.specs.Stream.{Coding}
 use Rattle.jpeg_decoder.specs.Strips.{components_of, row_at, row_sizes, samples_in, samples_of, zeros_of, with_strips, strips_from}
@@ -183,8 +183,8 @@ lengths-next (c ∷ cs) (a ∷ arrays) (p ∷ planes) row e h =
     let tail = ap (λ (l : List ℕ). drop 1 l) h in
     ap₂ (λ (n : ℕ) (l : List ℕ). n ∷ l)
     (length-both p (samples_of (down_in c) (coding_in c) a)
-      ∙ ap₂ (λ (m n : ℕ). m + n) head (length-samples (down_in c) (coding_in c) a)
-      ∙ one-row-more (s * wide_in c) s row (down_in c))
+    ∙ ap₂ (λ (m n : ℕ). m + n) head (length-samples (down_in c) (coding_in c) a)
+    ∙ one-row-more (s * wide_in c) s row (down_in c))
     (lengths-next cs arrays planes row (omega arith) tail)
 
 pub row-count : (cs : List Coded) (vs : List Held) → sizes_of vs ≡ row_sizes cs → length (arrays_in vs) ≡ length cs

@@ -268,3 +268,9 @@ pub within-end : (header : Bool) (before : Before) (found : Found) (met : Option
     → turn_at before found met bytes ≡ Ok (t, rest) → told_within 1 header before found met bytes ≡ t.found
 unfolding told_within
 within-end header before found met bytes rest t p e q = rw (p, q, e) refl
+
+-- While a header is read on, the frame is not read yet.
+pub not-framed : {A : Type 0} (header : Bool) (o : Option A) → (header && is_some o) ≡ false → header ≡ true → o ≡ None
+not-framed true None e h = refl
+not-framed true (Some x) e h = absurd (let n : ⊥ = cc in n)
+not-framed false o e h = absurd (let n : ⊥ = cc in n)

@@ -26,3 +26,4 @@ pub mod WholeImages
 pub mod WorkedImages
 pub mod DecodedImages
 pub mod WrittenParts
+pub mod EndPlanes

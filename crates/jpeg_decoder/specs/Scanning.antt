@@ -7,14 +7,15 @@ use Rattle.jpeg_bits.specs.declared.codes.HuffmanTableClass.TheVariants.{AC}
 use Rattle.jpeg_segments.specs.Frame.{Component}
 use Rattle.jpeg_pixels.specs.Scaled.{IsScale}
 use Rattle.jpeg_segments.specs.FrameView.{component_in}
-use Rattle.jpeg_bits.specs.Passes.{Via, Block}
+use Rattle.jpeg_bits.specs.Passes.{Pass, Via, Block}
 use Rattle.jpeg_decoder.specs.Scans.{Arrays}
 use Rattle.jpeg_decoder.specs.InTurn.{Reached, Counted}
 use Rattle.jpeg_decoder.specs.declared.codings.Coded.{Coded}
 use Rattle.jpeg_decoder.specs.declared.scans.Interval.{Interval}
+use Rattle.jpeg_decoder.specs.declared.scans.Scan.{Scan}
 use Rattle.jpeg_decoder.specs.Order.{Spot, mcu_spots}
 use Rattle.jpeg_decoder.specs.Layout.{part_of}
-use Rattle.jpeg_bits.specs.BlockView.{to_block}
+use Rattle.jpeg_bits.specs.BlockView.{to_block, pass_in}
 
 -- the ways of a scan's slots, from one on
 unfoldable pub vias_in : ℕ → List Coded → List Via
@@ -23,6 +24,16 @@ vias_in slot (c ∷ more) = record { component = slot; dc = c.dc.now; ac = c.ac.
 
 abbrev pub components_in : List Coded → List Component
 components_in cs = map (λ c. component_in c.component.now) cs
+
+-- what a scan codes, and the ways and the components of its slots
+abbrev pub scan_pass : Scan → Pass
+scan_pass s = pass_in s.pass
+
+abbrev pub scan_vias : Scan → List Via
+scan_vias s = vias_in 0 s.components.items
+
+abbrev pub scan_components : Scan → List Component
+scan_components s = components_in s.components.items
 
 -- each AC table is of class AC
 abbrev pub HasAc : Coded → Type 0

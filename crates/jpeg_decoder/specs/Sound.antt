@@ -25,6 +25,10 @@ ArePlanes [] planes = Unit {0}
 ArePlanes (c ∷ more) [] = ⊥
 ArePlanes (c ∷ more) (plane ∷ planes) = IsPlaneOf c plane × ArePlanes more planes
 
+-- No scan was read yet, and no plane is decided.
+abbrev pub IsUnread : Found → Type 0
+IsUnread found = (found.scanned ≡ false) × (found.planes ≡ replicate 4 None)
+
 -- Where a frame was read it is one that is decoded, and the blocks that are held and the planes that are decided are of its components. Before
 -- it no scan was read.
 pub record IsSound (found : Found) : Type 0 where
@@ -32,3 +36,7 @@ pub record IsSound (found : Found) : Type 0 where
   pub held : (frame : Frame) → found.frame ≡ Some frame → AreArrays frame.components (arrays_before found frame)
   pub planes : (frame : Frame) → found.frame ≡ Some frame → ArePlanes frame.components found.planes
   pub unread : found.frame ≡ None → (found.scanned ≡ false) × (found.planes ≡ replicate 4 None)
+
+-- The frame, where one was read, is one that is decoded.
+abbrev pub HasDecodedFrame : Found → Type 0
+HasDecodedFrame found = (frame : Frame) → found.frame ≡ Some frame → IsDecodedFrame frame

@@ -104,3 +104,8 @@ IfRefused (errors.Io error) P = P
 abbrev pub OnTold : {X : Type 0} → Stream → Stream → Result X Error → Type 0 → Type 0
 OnTold old new (Ok x) P = old.known ≡ true → P
 OnTold old new (Err e) P = old.known ≡ true → new.known ≡ true → IfRefused e P
+
+-- Where such a call is refused.
+abbrev pub OnToldRefusal : {X : Type 0} → Stream → Stream → Result X Error → Type 0 → Type 0
+OnToldRefusal old new (Ok x) P = Unit {0}
+OnToldRefusal old new (Err e) P = old.known ≡ true → new.known ≡ true → IfRefused e P

@@ -467,6 +467,12 @@ meaning settings bytes = do
 abbrev pub sized_to : ℕ → ℕ → Found → Found
 sized_to width height found = record found { frame = option_map (sized width height) found.frame }
 
+-- The header of a stream whose picture is to be at least so wide or so high.
+unfoldable pub sized_header_at : ℕ → ℕ → List ℕ → Outcome Found
+sized_header_at width height bytes = do
+  header ← header_at bytes
+  Ok (sized_to width height header.0, header.1)
+
 -- The meaning of a stream whose picture is to be at least so wide or so high.
 unfoldable pub sized_meaning : ℕ → ℕ → Settings → List ℕ → Outcome (Told × List ℕ)
 sized_meaning width height settings bytes = do

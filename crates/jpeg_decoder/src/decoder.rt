@@ -1,14 +1,15 @@
 //! The decoder and its states.
-ghost use Rattle.std.specs.Prelude.{◌≡◌, if◌then◌else◌, IfOk, IfErr, MatchResult, option_map, is_some, Err, true, false};
+ghost use Rattle.std.specs.Prelude.{◌≡◌, if◌then◌else◌, IfOk, IfErr, MatchResult, OnErr, OnOk, Some, option_map, is_some, Err, true, false};
 ghost use Rattle.jpeg_bits.specs.Reading.{Answers};
 ghost use Rattle.jpeg_bits.specs.Stream.{stream_of};
 ghost use Rattle.jpeg_bits.specs.declared.error.Error.TheVariants.{OutOfMemory};
-ghost use Rattle.jpeg_decoder.specs.Stream.{nothing_found, header_at, told_of, IsOfTurns};
-ghost use Rattle.jpeg_decoder.specs.States.{Decoding, MovesToHeader, MovesToEnd, IsReading, ahead, told_ahead, turns_ahead, OnTold, Fresh, HeaderRead};
+ghost use Rattle.jpeg_decoder.specs.Stream.{nothing_found, header_at, sized_header_at, sized_to, told_of, IsOfTurns};
+ghost use Rattle.jpeg_decoder.specs.States.{Decoding, MovesToHeader, MovesToEnd, IsReading, ahead, told_ahead, turns_ahead, OnTold, OnToldRefusal, Fresh, HeaderRead};
 ghost use Rattle.jpeg_decoder.specs.DecodedImages.{DecodesImages};
 ghost use Rattle.jpeg_decoder.specs.Seen.{format_of, info_of};
 ghost use Rattle.jpeg_decoder.specs.declared.decoder.Progress.TheVariants.{Failed};
 ghost use Rattle.jpeg_segments.specs.FrameView.{frame_in};
+ghost use Rattle.jpeg_segments.specs.Scales.{IsSizedFrame, sized};
 ghost use Rattle.jpeg_decoder.specs.Output.{default_settings};
 ghost use Rattle.jpeg_decoder.specs.Profile.{profile_of};
 ghost use Rattle.std.specs.Option.{option_copied};
@@ -20,7 +21,9 @@ pub use jpeg_bits::color_transform::ColorTransform;
 use jpeg_bits::error::{Error, Result};
 pub use jpeg_bits::scan::MAX_COMPONENTS;
 use jpeg_bits::source::Source;
-use jpeg_segments::parser::{CodingProcess, FrameInfo};
+use jpeg_pixels::idct::choose_idct_size;
+use jpeg_segments::parser::{CodingProcess, Dimensions, FrameInfo};
+use jpeg_segments::sizes::scale_frame;
 use std::alloc::Global;
 use std::io::Read;
 use std::marker::Model;
@@ -93,6 +96,24 @@ fn info_of(frame: &FrameInfo) -> ImageInfo
     }
 }
 
+/// Sizes a frame at the scale whose picture is at least so wide or so high, and returns the size of
+/// its picture. A lossless frame keeps its size.
+fn size_frame(frame: &mut FrameInfo, width: u16, height: u16) -> (u16, u16)
+    requires sized { IsSizedFrame (frame_in frame.old) }
+    ensures frame { frame_in frame.new ≡ sized width height (frame_in frame.old) }
+    ensures size { (result.0 ≡ (frame_in frame.new).output_width) × (result.1 ≡ (frame_in frame.new).output_height) }
+{
+    match frame.coding_process {
+        CodingProcess::DctSequential | CodingProcess::DctProgressive => {
+            let requested = Dimensions { width, height };
+            let scale = choose_idct_size(frame.image_size, requested);
+            scale_frame(frame, scale);
+        }
+        CodingProcess::Lossless => {}
+    }
+    (frame.output_size.width, frame.output_size.height)
+}
+
 /// How far a decoder has come.
 #[derive(Clone, Copy, Debug, PartialEq)]
 enum Progress {
@@ -121,7 +142,8 @@ pub struct Decoder<R: Read + Drop> {
 
 impl<R: Read + Drop> Model for Decoder<R> {
     ghost use Rattle.std.specs.Prelude.{◌≡◌, is_some, true};
-    ghost use Rattle.jpeg_decoder.specs.States.{Decoding, Fresh, HasHeader};
+    ghost use Rattle.jpeg_decoder.specs.Sound.{HasDecodedFrame, IsSound, IsUnread};
+    ghost use Rattle.jpeg_decoder.specs.States.{Decoding, Fresh, HasHeader, HeaderRead};
     ghost use Rattle.jpeg_decoder.specs.Stream.{nothing_found};
     ghost use Rattle.jpeg_decoder.specs.Seen.{found_in, stage_of};
 
@@ -134,8 +156,12 @@ impl<R: Read + Drop> Model for Decoder<R> {
       settings = d.settings;
     } };
 
-    // A fresh decoder has found nothing, and one whose header was read has a frame.
-    ghost invariant = { λ d. (stage_of d.progress ≡ Fresh → found_in d.state ≡ nothing_found) × (HasHeader (stage_of d.progress) → is_some (found_in d.state).frame ≡ true) };
+    // A fresh decoder has found nothing. One whose header was read has a frame, which is decoded; and
+    // until it is decoded no scan was read.
+    ghost invariant = { λ d. (stage_of d.progress ≡ Fresh → found_in d.state ≡ nothing_found)
+        × (HasHeader (stage_of d.progress) → is_some (found_in d.state).frame ≡ true)
+        × (HasHeader (stage_of d.progress) → HasDecodedFrame (found_in d.state))
+        × (stage_of d.progress ≡ HeaderRead → IsSound (found_in d.state) × IsUnread (found_in d.state)) };
 }
 
 impl<R: Read + Drop> Decoder<R> {
@@ -232,6 +258,29 @@ impl<R: Read + Drop> Decoder<R> {
         };
         self.progress = progress_behind(result.is_ok(), Progress::HeaderRead);
         result
+    }
+
+    /// Scales the picture down to the least of 1/8, 1/4, 1/2 and all of its size at which it is as wide or
+    /// as high as is asked for, and returns the size of the picture at that scale. Reads the header first
+    /// where it wasn't read; the last call counts. A lossless picture keeps its size.
+    ///
+    /// After `decode` the call changes what `info` returns, and no picture. The errors are those of
+    /// `read_info`; a refusal leaves a failed decoder.
+    pub fn scale(&mut self, requested_width: u16, requested_height: u16) -> Result<(u16, u16)>
+        ensures stage { MovesToHeader self.old.stage self.new.stage result }
+        ensures reads { self.old.stage ≡ Fresh → Answers (λ _. self.new.found) (sized_header_at requested_width requested_height) self.old.source result self.new.source }
+        ensures told { self.old.stage ≡ Fresh → OnToldRefusal self.old.source self.new.source result (told_of self.new.found ≡ told_ahead true self.old.stage self.old.found self.old.source.bytes) }
+        ensures turns { self.old.stage ≡ Fresh → self.old.source.known ≡ true → OnErr result (IsOfTurns (λ n. turns_ahead n true self.old.stage self.old.found self.old.source.bytes) (told_of self.new.found)) }
+        ensures scaled { (self.old.stage ≡ Fresh → ⊥) → OnOk result (self.new ≡ record self.old { found = sized_to requested_width requested_height self.old.found }) }
+        ensures still { (self.old.stage ≡ Fresh → ⊥) → OnErr result (self.new ≡ self.old) }
+        ensures size { IfOk result (λ size. option_map (λ f. (f.output_width, f.output_height)) self.new.found.frame ≡ Some (size.0, size.1)) }
+        ensures settings { self.new.settings ≡ self.old.settings }
+    {
+        self.read_info()?;
+        match &mut self.state.frame {
+            Some(frame) => Ok(size_frame(frame, requested_width, requested_height)),
+            None => Err(Error::Internal("decoder has no frame")),
+        }
     }
 
     /// Reads through the end of the image and no byte behind it, and gives the picture: its samples line by line.

@@ -1,20 +1,22 @@
 //! A stream from its start to its picture (T.81, B.2).
-ghost use Rattle.std.specs.Prelude.{◌≡◌, ◌*◌, true, false, MatchResult, IfOk, is_some, not, nat_lt};
-ghost use Rattle.jpeg_bits.specs.Reading.{Answers, Names, NamesFormat};
-ghost use Rattle.jpeg_decoder.specs.Stream.{nothing_found, start_at, header_at, told_of, picture_of, rest_at, meaning, told_rest, told_by_stream, told_in_turns, told_by_turns, IsOfTurns};
-ghost use Rattle.jpeg_decoder.specs.States.{OnTold};
-ghost use Rattle.jpeg_decoder.specs.Seen.{found_in};
-ghost use Rattle.jpeg_segments.specs.FrameView.{frame_in};
+ghost use Rattle.std.specs.Prelude.{◌≡◌, ◌*◌, ◌+◌, ◌<◌, ◌&&◌, IfOk, List, MatchResult, None, OnOk, Ok, Some, drop, false, is_some, length, map, nat_lt, not, option_map, replicate, slice_index_or, true};
+ghost use Rattle.jpeg_bits.specs.Reading.{Answers, Names};
+ghost use Rattle.jpeg_segments.specs.FrameView.{component_in, frame_in};
+ghost use Rattle.jpeg_pixels.specs.Pictures.{AreWhole};
 ghost use Rattle.jpeg_pixels.specs.Scaled.{IsScale};
-ghost use Rattle.jpeg_decoder.specs.Steps.{cropped_to};
-ghost use Rattle.jpeg_segments.specs.FrameView.{component_in};
+ghost use Rattle.jpeg_decoder.specs.EndPlanes.{AreBlocksOf, blocks_if, is_held, plane_or};
+ghost use Rattle.jpeg_decoder.specs.Scanning.{arrays_in, blocks_in};
+ghost use Rattle.jpeg_decoder.specs.Seen.{found_in, metadata_in, planes_in};
+ghost use Rattle.jpeg_decoder.specs.Sound.{IsDecodedFrame, IsPlaneOf, IsSound};
+ghost use Rattle.jpeg_decoder.specs.States.{OnTold};
+ghost use Rattle.jpeg_decoder.specs.Steps.{IsRefusal, cropped_to, with_decoded};
+ghost use Rattle.jpeg_decoder.specs.Stream.{IsOfTurns, header_at, meaning, nothing_found, picture_by, picture_of, planes_from, rest_at, start_at, told_by_stream, told_by_turns, told_in_turns, told_of, told_rest};
 
 use crate::codings::is_progressive;
 use crate::color_choice::choose_color_transform;
 use crate::decoded::{Decoded, render};
 use crate::places::{needed, table_at};
 use crate::state::{Settings, State};
-use jpeg_bits::color_transform::ColorTransform;
 use jpeg_bits::error::{Result, format_error};
 use jpeg_bits::reads::read_u8;
 use jpeg_bits::source::Source;
@@ -57,8 +59,32 @@ fn is_within(limit: usize, count: usize, area: usize) -> bool
     }
 }
 
-/// The plane of a component at the end of an image: the one that is decided, or else, in a
-/// progressive frame that had a scan, that of the blocks that are held.
+/// Whether blocks are held of a frame: it is progressive, and a scan of it was read.
+fn are_held(state: &State, frame: &FrameInfo) -> bool
+    ensures { result ≡ is_held (found_in state.now) (frame_in frame.now) }
+{
+    is_progressive(frame.coding_process) && state.scanned
+}
+
+/// Takes the blocks of a component out of those that are held, where blocks are held.
+fn take_held(
+    alloc: Global,
+    is_held: bool,
+    held: &mut Vec<Vec<[i16; 64]>>,
+    place: usize,
+) -> Option<Vec<[i16; 64]>>
+    requires { is_held ≡ true → place < length held.old.items }
+    ensures taken { option_map blocks_in result ≡ blocks_if is_held (arrays_in held.old.items) place }
+    ensures left { drop (place + 1) (arrays_in held.new.items) ≡ drop (place + 1) (arrays_in held.old.items) }
+{
+    if !is_held {
+        return None;
+    }
+    Some(std::mem::replace(&mut held[place], Vec::new(alloc)))
+}
+
+/// The plane of a component at the end of an image: the one that is decided, or else that of the
+/// blocks that are held, by the quantization table in force.
 fn plane_at_end(
     alloc: Global,
     state: &State,
@@ -66,6 +92,13 @@ fn plane_at_end(
     plane: Option<Vec<u8>>,
     held: Option<Vec<[i16; 64]>>,
 ) -> Result<Vec<u8>>
+    requires scale { IsScale component.now.dct_scale }
+    requires plane { IsPlaneOf (component_in component.now) (option_map (λ v. v.items) plane) }
+    requires blocks { AreBlocksOf (component_in component.now) (option_map blocks_in held) }
+    ensures plane { let table = slice_index_or state.now.quantization component.now.quantization_table_index None in
+        let expected = plane_or (component_in component.now) table (option_map (λ v. v.items) plane) (option_map blocks_in held) in
+        MatchResult result (λ v. expected ≡ Ok v.items) (λ e. IsRefusal e × Names e expected) }
+    ensures whole { IfOk result (λ v. IsPlaneOf (component_in component.now) (Some v.items)) }
 {
     if let Some(plane) = plane {
         return Ok(plane);
@@ -76,23 +109,26 @@ fn plane_at_end(
     Ok(render(alloc, component, table, &blocks)?)
 }
 
-/// The planes of a frame's components at the end of an image.
+/// The planes of a frame's components at the end of an image, which are taken. Blocks that are held
+/// are rendered where no plane is decided, one component after the other, and freed.
 fn planes_at_end(
     alloc: Global,
     state: &State,
     frame: &FrameInfo,
     decoded: &mut Decoded,
 ) -> Result<Vec<Vec<u8>>>
+    requires sound { IsSound (with_decoded (found_in state.now) decoded.old) }
+    requires frame { (found_in state.now).frame ≡ Some (frame_in frame.now) }
+    ensures planes { let expected = planes_from (with_decoded (found_in state.now) decoded.old) (frame_in frame.now) 0 (frame_in frame.now).components in
+        MatchResult result (λ v. expected ≡ Ok (map (λ p. p.items) v.items)) (λ e. IsRefusal e × Names e expected) }
+    ensures whole { IfOk result (λ v. AreWhole (frame_in frame.now).components (map (λ p. p.items) v.items)) }
+    ensures count { IfOk result (λ v. length v.items ≡ length (frame_in frame.now).components) }
 {
-    let is_held = is_progressive(frame.coding_process) && state.scanned;
+    let is_held = are_held(state, frame);
     let mut planes = Vec::with_capacity(alloc, frame.components.len())?;
     for place in 0..frame.components.len() {
         let plane = decoded.planes[place].take();
-        let held = if is_held {
-            Some(std::mem::replace(&mut decoded.held[place], Vec::new(alloc)))
-        } else {
-            None
-        };
+        let held = take_held(alloc, is_held, &mut decoded.held, place);
         planes.push(plane_at_end(alloc, state, &frame.components[place], plane, held)?)?;
     }
     Ok(planes)
@@ -116,8 +152,13 @@ fn picture_by(
     state: &State,
     frame: &FrameInfo,
     planes: Vec<Vec<u8>>,
-    color_transform: Option<ColorTransform>,
+    settings: Settings,
 ) -> Result<Vec<u8>>
+    requires frame { IsDecodedFrame (frame_in frame.now) }
+    requires planes { AreWhole (frame_in frame.now).components (map (λ p. p.items) planes.items) }
+    requires count { length planes.items ≡ length (frame_in frame.now).components }
+    ensures { let expected = picture_by settings (metadata_in state.now.metadata) (frame_in frame.now) (frame_in frame.now).components (map (λ p. p.items) planes.items) in
+        MatchResult result (λ v. expected ≡ Ok v.items) (λ e. IsRefusal e × Names e expected) }
 {
     let components = frame.components.as_slice();
     if components.len() == 1 {
@@ -127,25 +168,37 @@ fn picture_by(
         return Ok(plane);
     }
     let metadata = &state.metadata;
-    let transform =
-        choose_color_transform(color_transform, components, metadata.jfif, metadata.adobe);
+    let transform = choose_color_transform(
+        settings.color_transform,
+        components,
+        metadata.jfif,
+        metadata.adobe,
+    );
     compute_image_rows(alloc, components, &planes, frame.output_size, transform)
 }
 
 /// The picture of what was found, which is taken: within the limit, of planes that are there.
+#[tactic(auto, unfolding(crate::specs::Stream::picture_of))]
 fn picture(
     alloc: Global,
     state: &State,
     decoded: &mut Decoded,
     settings: Settings,
 ) -> Result<Vec<u8>>
+    requires sound { IsSound (with_decoded (found_in state.now) decoded.old) }
+    ensures { let expected = picture_of settings (with_decoded (found_in state.now) decoded.old) in
+        MatchResult result (λ v. expected ≡ Ok v.items) (λ e. IsRefusal e × Names e expected) }
 {
     let frame = needed(alloc, state.frame.as_ref(), "an image without a frame")?;
-    if !is_within(settings.limit, frame.components.len(), area_of(frame.output_size)) {
+    if !is_within(
+        settings.limit,
+        frame.components.len(),
+        area_of(frame.output_size),
+    ) {
         return Err(format_error(alloc, "the picture is larger than the limit"));
     }
     let planes = planes_at_end(alloc, state, frame, decoded)?;
-    picture_by(alloc, state, frame, planes, settings.color_transform)
+    picture_by(alloc, state, frame, planes, settings)
 }
 
 /// Reads the header of a stream: all through the frame's segment.
@@ -160,6 +213,8 @@ pub fn read_header<R: Read + Drop>(
     ensures told { OnTold source.old source.new result (told_of (found_in state.new) ≡ told_by_stream true source.old.bytes) }
     ensures turns { source.old.known ≡ true → IsOfTurns (λ n. told_by_turns n true source.old.bytes) (told_of (found_in state.new)) }
     ensures framed { IfOk result (λ _. is_some (found_in state.new).frame ≡ true) }
+    ensures sound { OnOk result (IsSound (found_in state.new)) }
+    ensures unread { OnOk result (((found_in state.new).scanned ≡ false) × ((found_in state.new).planes ≡ replicate 4 None)) }
 {
     read_start(alloc, source)?;
     state.read(alloc, source, true)
@@ -173,6 +228,7 @@ fn read_picture<R: Read + Drop>(
     state: &mut State,
     settings: Settings,
 ) -> Result<Vec<u8>>
+    requires sound { IsSound (found_in state.old) }
     ensures reads { Answers (λ v. (told_of (found_in state.new), v.items)) (rest_at settings (found_in state.old)) source.old result source.new }
     ensures told { OnTold source.old source.new result (told_of (found_in state.new) ≡ told_rest false (found_in state.old) source.old.bytes) }
     ensures turns { source.old.known ≡ true → IsOfTurns (λ n. told_in_turns n false (found_in state.old) source.old.bytes) (told_of (found_in state.new)) }
@@ -184,13 +240,15 @@ fn read_picture<R: Read + Drop>(
     picture(alloc, state, &mut decoded, settings)
 }
 
-/// Reads the rest of a stream, behind its start or its header, and gives its picture. No planes are kept.
+/// Reads the rest of a stream, after its start or its header, and gives its picture. No blocks or
+/// planes are kept.
 pub fn read_rest<R: Read + Drop>(
     alloc: Global,
     source: &mut Source<R>,
     state: &mut State,
     settings: Settings,
 ) -> Result<Vec<u8>>
+    requires sound { IsSound (found_in state.old) }
     ensures reads { Answers (λ v. (told_of (found_in state.new), v.items)) (rest_at settings (found_in state.old)) source.old result source.new }
     ensures told { OnTold source.old source.new result (told_of (found_in state.new) ≡ told_rest false (found_in state.old) source.old.bytes) }
     ensures turns { source.old.known ≡ true → IsOfTurns (λ n. told_in_turns n false (found_in state.old) source.old.bytes) (told_of (found_in state.new)) }
@@ -202,7 +260,7 @@ pub fn read_rest<R: Read + Drop>(
     result
 }
 
-/// Reads a whole stream and gives its picture. No planes are kept.
+/// Reads a whole stream and gives its picture. No blocks or planes are kept.
 #[tactic(auto, unfolding(crate::specs::Stream::meaning, crate::specs::Stream::told_by_stream))]
 pub fn read_stream<R: Read + Drop>(
     alloc: Global,

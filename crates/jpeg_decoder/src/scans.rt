@@ -1,15 +1,22 @@
-//! Scans of several components, on blocks that are held.
-ghost use Rattle.std.specs.Prelude.{ℕ, [], ◌∷◌, map, ◌≡◌, ◌≤◌, ◌<◌, ◌+◌, ◌-◌, ◌*◌, ◌^◌, get_or, length};
+//! Scans whose blocks are held: of one component and of several, in every pass (T.81, A.2).
+ghost use Rattle.std.specs.Prelude.{ℕ, [], ◌∷◌, map, get_or, length};
+ghost use Rattle.std.specs.Prelude.{◌≡◌, ◌≤◌, ◌<◌, ◌+◌, ◌-◌, ◌*◌, ◌^◌};
 ghost use Rattle.std.specs.List.{All, AllByRecursion, range_with_len};
 ghost use Rattle.jpeg_bits.specs.Reading.{Answers};
 ghost use Rattle.jpeg_bits.specs.Entropy.{Takes, fresh};
-ghost use Rattle.jpeg_decoder.specs.InTurn.{turn_from, turns_from, begun_from, counted_at_start, mcu_from, mcus_from, scan_from, Fits, AreArrays};
+ghost use Rattle.jpeg_decoder.specs.InTurn.{turn_from, turns_from, begun_from, mcu_from};
+ghost use Rattle.jpeg_decoder.specs.InTurn.{mcus_from, scan_from, Fits, AreArrays};
 ghost use Rattle.jpeg_decoder.specs.Order.{mcu_spots, spots_of, mcu_size, grid_of};
 ghost use Rattle.jpeg_segments.specs.FrameView.{frame_in};
 ghost use Rattle.jpeg_decoder.specs.Scans.{Arrays, arrays_at};
 ghost use Rattle.jpeg_decoder.specs.Layout.{line_of, part_of};
-ghost use Rattle.jpeg_bits.specs.BlockView.{pass_in, IsPass};
-ghost use Rattle.jpeg_decoder.specs.Scanning.{vias_in, HasAc, HasCodedScale, arrays_in, sizes_of, reached, counted, IsHeld, OfSlot, AreWithin, wide_in, across_in, down_in, part_in, first_in, HoldsMcu, components_in, row_in, rows_in, own_mcu, own_row, own_rows};
+ghost use Rattle.jpeg_bits.specs.Intervals.{predictors_at_start};
+ghost use Rattle.jpeg_bits.specs.BlockView.{IsPass};
+ghost use Rattle.jpeg_decoder.specs.Scanning.{HasAc, HasCodedScale, IsHeld, AreWithin, HoldsMcu};
+ghost use Rattle.jpeg_decoder.specs.Scanning.{scan_pass, scan_vias, scan_components};
+ghost use Rattle.jpeg_decoder.specs.Scanning.{arrays_in, sizes_of, reached, counted};
+ghost use Rattle.jpeg_decoder.specs.Scanning.{wide_in, across_in, down_in, part_in, first_in};
+ghost use Rattle.jpeg_decoder.specs.Scanning.{mcu_in, row_in, rows_in, own_mcu, own_row, own_rows};
 
 use crate::codings::Coded;
 use crate::grids::{Grid, grid_of};
@@ -23,7 +30,8 @@ use jpeg_segments::parser::FrameInfo;
 use std::alloc::Global;
 use std::io::Read;
 
-/// A scan: what it codes, the MCUs of a restart interval (0 is none), and its components.
+/// A scan: what it codes, the number of MCUs of a restart interval (0 is no intervals), and its
+/// components.
 #[derive(Drop)]
 pub struct Scan<'a> {
     pub pass: Pass,
@@ -31,7 +39,8 @@ pub struct Scan<'a> {
     pub components: Vec<Coded<'a>>,
 }
 
-/// Where the reading of a scan is: inside an interval, and between MCUs.
+/// The state between two blocks of a scan: of the entropy decoder and the predictors inside a
+/// restart interval, the MCUs that are left of it, and the number of the restart marker after it.
 #[derive(Drop)]
 pub struct Interval {
     alloc: Global,
@@ -42,10 +51,24 @@ pub struct Interval {
     number: u8,
 }
 
+/// A block of a scan: its component's slot in the scan, and its index among that component's
+/// blocks.
+#[derive(Clone, Copy)]
+struct Spot {
+    slot: usize,
+    index: usize,
+}
+
 /// The start of a scan, where a restart interval has `left` MCUs (0 is none).
 pub fn first_interval(alloc: Global, left: u16) -> Interval
-    ensures decoder { result.decoder ≡ fresh }
-    ensures start { (arrays : Arrays) → counted result arrays ≡ counted_at_start left arrays }
+    ensures { result ≡ record {
+      alloc = alloc;
+      decoder = fresh;
+      predictors = predictors_at_start;
+      run = 0;
+      left = left;
+      number = 0;
+    } }
 {
     Interval {
         alloc,
@@ -57,29 +80,29 @@ pub fn first_interval(alloc: Global, left: u16) -> Interval
     }
 }
 
-/// Reads the next block, of a component and at an index of its blocks.
+/// Reads the next block, which is that at a spot.
 fn read_turn<R: Read + Drop>(
     interval: &mut Interval,
     source: &mut Source<R>,
     scan: &Scan<'_>,
     arrays: &mut Vec<Vec<[i16; 64]>>,
-    slot: usize,
-    index: usize,
+    spot: Spot,
 ) -> Result<()>
-    requires pass { IsPass (pass_in scan.now.pass) }
+    requires pass { IsPass (scan_pass scan.now) }
     requires classes { All HasAc scan.now.components.items }
-    requires slot { slot < length scan.now.components.items }
+    requires slot { spot.slot < length scan.now.components.items }
     requires few { length scan.now.components.items ≤ 4 }
-    requires held { IsHeld (sizes_of arrays.now.items) slot index }
+    requires held { IsHeld (sizes_of arrays.now.items) spot.slot spot.index }
     ensures sizes { sizes_of arrays.new.items ≡ sizes_of arrays.old.items }
     ensures left { interval.new.left ≡ interval.old.left }
     ensures number { interval.new.number ≡ interval.old.number }
     ensures turn { Takes (λ _. reached interval.new (arrays_in arrays.new.items))
-        (turn_from (pass_in scan.now.pass) (vias_in 0 scan.now.components.items) (record { slot = slot; index = index })
+        (turn_from (scan_pass scan.now) (scan_vias scan.now)
+        (record { slot = spot.slot; index = spot.index })
         (reached interval.old (arrays_in arrays.old.items)))
         interval.old.decoder source.old result interval.new.decoder source.new }
 {
-    let coded = &scan.components[slot];
+    let coded = &scan.components[spot.slot];
     read_block(
         interval.alloc,
         &mut interval.decoder,
@@ -87,87 +110,88 @@ fn read_turn<R: Read + Drop>(
         coded.dc,
         coded.ac,
         scan.pass,
-        &mut interval.predictors[slot],
+        &mut interval.predictors[spot.slot],
         &mut interval.run,
-        &mut arrays[slot][index],
+        &mut arrays[spot.slot][spot.index],
     )?;
     Ok(())
 }
 
-/// Reads so many blocks of a component from an index on.
+/// Reads `count` blocks of a component from a spot on.
 #[tactic(auto, using(crate::proofs::LineSteps::line_rules))]
 fn read_line<R: Read + Drop>(
     interval: &mut Interval,
     source: &mut Source<R>,
     scan: &Scan<'_>,
     arrays: &mut Vec<Vec<[i16; 64]>>,
-    slot: usize,
-    start: usize,
+    start: Spot,
     count: u8,
 ) -> Result<()>
-    requires pass { IsPass (pass_in scan.now.pass) }
+    requires pass { IsPass (scan_pass scan.now) }
     requires classes { All HasAc scan.now.components.items }
-    requires slot { slot < length scan.now.components.items }
+    requires slot { start.slot < length scan.now.components.items }
     requires few { length scan.now.components.items ≤ 4 }
-    requires array { slot < length (sizes_of arrays.now.items) }
-    requires within { start + count ≤ get_or (sizes_of arrays.now.items) slot 0 }
-    requires small { start ≤ 2 ^ 56 }
+    requires array { start.slot < length (sizes_of arrays.now.items) }
+    requires within { start.index + count ≤ get_or (sizes_of arrays.now.items) start.slot 0 }
+    requires small { start.index ≤ 2 ^ 56 }
     ensures sizes { sizes_of arrays.new.items ≡ sizes_of arrays.old.items }
     ensures left { interval.new.left ≡ interval.old.left }
     ensures number { interval.new.number ≡ interval.old.number }
     ensures turns { Takes (λ _. reached interval.new (arrays_in arrays.new.items))
-        (turns_from (pass_in scan.now.pass) (vias_in 0 scan.now.components.items) (line_of slot start count)
+        (turns_from (scan_pass scan.now) (scan_vias scan.now) (line_of start.slot start.index count)
         (reached interval.old (arrays_in arrays.old.items)))
         interval.old.decoder source.old result interval.new.decoder source.new }
 {
-    let mut index = start;
+    let mut spot = start;
     let mut left = count;
     while left > 0 {
-        read_turn(interval, source, scan, arrays, slot, index)?;
-        index += 1;
+        read_turn(interval, source, scan, arrays, spot)?;
+        spot.index += 1;
         left -= 1;
     }
     Ok(())
 }
 
-/// Reads the part of a component in an MCU, the first block of which has an index.
+/// Reads the part of a component in an MCU, whose first block is at a spot.
 #[tactic(auto, using(crate::proofs::LineSteps::part_rules))]
 fn read_part<R: Read + Drop>(
     interval: &mut Interval,
     source: &mut Source<R>,
     scan: &Scan<'_>,
     arrays: &mut Vec<Vec<[i16; 64]>>,
-    slot: usize,
     coded: &Coded<'_>,
-    start: usize,
+    start: Spot,
 ) -> Result<()>
-    requires pass { IsPass (pass_in scan.now.pass) }
+    requires pass { IsPass (scan_pass scan.now) }
     requires classes { All HasAc scan.now.components.items }
-    requires slot { slot < length scan.now.components.items }
+    requires slot { start.slot < length scan.now.components.items }
     requires few { length scan.now.components.items ≤ 4 }
-    requires array { slot < length (sizes_of arrays.now.items) }
-    requires within { AreWithin (get_or (sizes_of arrays.now.items) slot 0) (wide_in coded.now) (across_in coded.now)
-        start (down_in coded.now) }
-    requires small { start ≤ 2 ^ 48 }
+    requires array { start.slot < length (sizes_of arrays.now.items) }
+    requires within { AreWithin (get_or (sizes_of arrays.now.items) start.slot 0)
+        (wide_in coded.now) (across_in coded.now) start.index (down_in coded.now) }
+    requires small { start.index ≤ 2 ^ 48 }
     ensures sizes { sizes_of arrays.new.items ≡ sizes_of arrays.old.items }
     ensures left { interval.new.left ≡ interval.old.left }
     ensures number { interval.new.number ≡ interval.old.number }
     ensures turns { Takes (λ _. reached interval.new (arrays_in arrays.new.items))
-        (turns_from (pass_in scan.now.pass) (vias_in 0 scan.now.components.items) (part_in slot start coded.now)
+        (turns_from (scan_pass scan.now) (scan_vias scan.now)
+        (part_in start.slot start.index coded.now)
         (reached interval.old (arrays_in arrays.old.items)))
         interval.old.decoder source.old result interval.new.decoder source.new }
 {
-    let mut index = start;
-    let mut left = coded.component.vertical_sampling_factor;
+    let component = coded.component;
+    let across = component.horizontal_sampling_factor;
+    let mut spot = start;
+    let mut left = component.vertical_sampling_factor;
     while left > 0 {
-        read_line(interval, source, scan, arrays, slot, index, coded.component.horizontal_sampling_factor)?;
-        index += usize::from(coded.component.block_size.width);
+        read_line(interval, source, scan, arrays, spot, across)?;
+        spot.index += usize::from(component.block_size.width);
         left -= 1;
     }
     Ok(())
 }
 
-/// Before an MCU: the next interval, where no MCU is left of one of `n`.
+/// Begins the next restart interval, of `n` MCUs, where no MCU is left of this one.
 #[tactic(auto, using(crate::proofs::LineSteps::begun_rules))]
 fn begin<R: Read + Drop>(interval: &mut Interval, source: &mut Source<R>, n: u16) -> Result<()>
     ensures { (arrays : Arrays) → Takes (λ _. counted interval.new arrays)
@@ -180,7 +204,12 @@ fn begin<R: Read + Drop>(interval: &mut Interval, source: &mut Source<R>, n: u16
     if interval.left > 0 {
         return Ok(());
     }
-    read_restart(interval.alloc, &mut interval.decoder, source, interval.number)?;
+    read_restart(
+        interval.alloc,
+        &mut interval.decoder,
+        source,
+        interval.number,
+    )?;
     interval.predictors = [0; 4];
     interval.run = 0;
     interval.left = n;
@@ -188,8 +217,8 @@ fn begin<R: Read + Drop>(interval: &mut Interval, source: &mut Source<R>, n: u16
     Ok(())
 }
 
-/// The index of the first block of a component in the MCU in a row and a column, where a component has so many blocks down
-/// and across in an MCU, and so many across in all.
+/// The index of the first block of a component in the MCU in a row and a column. The component has
+/// `down` times `across` blocks in an MCU, and its rows are `wide` blocks wide.
 fn index_at(row: u16, down: u8, wide: u16, column: u16, across: u8) -> usize
     ensures value { result ≡ row * down * wide + column * across }
     ensures small { result ≤ 2 ^ 48 }
@@ -198,6 +227,7 @@ fn index_at(row: u16, down: u8, wide: u16, column: u16, across: u8) -> usize
     rows * usize::from(wide) + usize::from(column) * usize::from(across)
 }
 
+/// The index of the first block of a component in the MCU in a row and a column.
 fn first_index(coded: &Coded<'_>, row: u16, column: u16) -> usize
     ensures value { result ≡ first_in row column coded.now }
     ensures small { result ≤ 2 ^ 48 }
@@ -222,7 +252,7 @@ fn read_parts<R: Read + Drop>(
     row: u16,
     column: u16,
 ) -> Result<()>
-    requires pass { IsPass (pass_in scan.now.pass) }
+    requires pass { IsPass (scan_pass scan.now) }
     requires classes { All HasAc scan.now.components.items }
     requires few { length scan.now.components.items ≤ 4 }
     requires held { HoldsMcu scan.now.components.items (sizes_of arrays.now.items) row column }
@@ -230,21 +260,25 @@ fn read_parts<R: Read + Drop>(
     ensures left { interval.new.left ≡ interval.old.left }
     ensures number { interval.new.number ≡ interval.old.number }
     ensures turns { Takes (λ _. reached interval.new (arrays_in arrays.new.items))
-        (turns_from (pass_in scan.now.pass) (vias_in 0 scan.now.components.items) (mcu_spots row column 0 (components_in scan.now.components.items))
+        (turns_from (scan_pass scan.now) (scan_vias scan.now)
+        (mcu_in (scan_components scan.now) row column)
         (reached interval.old (arrays_in arrays.old.items)))
         interval.old.decoder source.old result interval.new.decoder source.new }
 {
     let mut slot = 0;
     while slot < scan.components.len() {
         let coded = &scan.components[slot];
-        let start = first_index(coded, row, column);
-        read_part(interval, source, scan, arrays, slot, coded, start)?;
+        let start = Spot {
+            slot,
+            index: first_index(coded, row, column),
+        };
+        read_part(interval, source, scan, arrays, coded, start)?;
         slot += 1;
     }
     Ok(())
 }
 
-/// Reads an MCU of several components, and before it the restart of an interval, where one is due.
+/// Reads an MCU of several components, and before it the restart marker, where one is due.
 fn read_mcu<R: Read + Drop>(
     interval: &mut Interval,
     source: &mut Source<R>,
@@ -253,14 +287,14 @@ fn read_mcu<R: Read + Drop>(
     row: u16,
     column: u16,
 ) -> Result<()>
-    requires pass { IsPass (pass_in scan.now.pass) }
+    requires pass { IsPass (scan_pass scan.now) }
     requires classes { All HasAc scan.now.components.items }
     requires few { length scan.now.components.items ≤ 4 }
     requires held { HoldsMcu scan.now.components.items (sizes_of arrays.now.items) row column }
     ensures sizes { sizes_of arrays.new.items ≡ sizes_of arrays.old.items }
     ensures mcu { Takes (λ _. counted interval.new (arrays_in arrays.new.items))
-        (mcu_from (pass_in scan.now.pass) (vias_in 0 scan.now.components.items) scan.now.restart_interval
-        (mcu_spots row column 0 (components_in scan.now.components.items))
+        (mcu_from (scan_pass scan.now) (scan_vias scan.now) scan.now.restart_interval
+        (mcu_spots row column 0 (scan_components scan.now))
         (counted interval.old (arrays_in arrays.old.items)))
         interval.old.decoder source.old result interval.new.decoder source.new }
 {
@@ -270,7 +304,7 @@ fn read_mcu<R: Read + Drop>(
     Ok(())
 }
 
-/// Reads a row of so many MCUs.
+/// Reads a row of `wide` MCUs.
 #[tactic(auto, using(crate::proofs::McuSteps::mcus_rules))]
 pub fn read_row<R: Read + Drop>(
     interval: &mut Interval,
@@ -280,14 +314,15 @@ pub fn read_row<R: Read + Drop>(
     row: u16,
     wide: u16,
 ) -> Result<()>
-    requires pass { IsPass (pass_in scan.now.pass) }
+    requires pass { IsPass (scan_pass scan.now) }
     requires classes { All HasAc scan.now.components.items }
     requires few { length scan.now.components.items ≤ 4 }
-    requires held { (column : ℕ) → column < wide → HoldsMcu scan.now.components.items (sizes_of arrays.now.items) row column }
+    requires held { (column : ℕ) → column < wide →
+        HoldsMcu scan.now.components.items (sizes_of arrays.now.items) row column }
     ensures sizes { sizes_of arrays.new.items ≡ sizes_of arrays.old.items }
     ensures mcus { Takes (λ _. counted interval.new (arrays_in arrays.new.items))
-        (mcus_from (pass_in scan.now.pass) (vias_in 0 scan.now.components.items) scan.now.restart_interval
-        (row_in (components_in scan.now.components.items) wide row)
+        (mcus_from (scan_pass scan.now) (scan_vias scan.now) scan.now.restart_interval
+        (row_in (scan_components scan.now) wide row)
         (counted interval.old (arrays_in arrays.old.items)))
         interval.old.decoder source.old result interval.new.decoder source.new }
 {
@@ -301,7 +336,7 @@ pub fn read_row<R: Read + Drop>(
     Ok(())
 }
 
-/// Reads so many rows of MCUs.
+/// Reads `high` rows of `wide` MCUs.
 #[tactic(auto, using(crate::proofs::McuSteps::rows_rules))]
 fn read_rows<R: Read + Drop>(
     interval: &mut Interval,
@@ -311,14 +346,15 @@ fn read_rows<R: Read + Drop>(
     wide: u16,
     high: u16,
 ) -> Result<()>
-    requires pass { IsPass (pass_in scan.now.pass) }
+    requires pass { IsPass (scan_pass scan.now) }
     requires classes { All HasAc scan.now.components.items }
     requires few { length scan.now.components.items ≤ 4 }
-    requires held { (row column : ℕ) → row < high → column < wide → HoldsMcu scan.now.components.items (sizes_of arrays.now.items) row column }
+    requires held { (row column : ℕ) → row < high → column < wide →
+        HoldsMcu scan.now.components.items (sizes_of arrays.now.items) row column }
     ensures sizes { sizes_of arrays.new.items ≡ sizes_of arrays.old.items }
     ensures mcus { Takes (λ _. counted interval.new (arrays_in arrays.new.items))
-        (mcus_from (pass_in scan.now.pass) (vias_in 0 scan.now.components.items) scan.now.restart_interval
-        (rows_in (components_in scan.now.components.items) wide high)
+        (mcus_from (scan_pass scan.now) (scan_vias scan.now) scan.now.restart_interval
+        (rows_in (scan_components scan.now) wide high)
         (counted interval.old (arrays_in arrays.old.items)))
         interval.old.decoder source.old result interval.new.decoder source.new }
 {
@@ -332,7 +368,8 @@ fn read_rows<R: Read + Drop>(
     Ok(())
 }
 
-/// Reads a scan of several components on the blocks that are held of them, and gives the marker behind it, if it was met.
+/// Reads a scan of several components on the blocks that are held of them, and returns the marker
+/// after it, if it was met.
 #[tactic(auto, unfolding(crate::specs::InTurn::scan_from))]
 pub fn read_interleaved<R: Read + Drop>(
     alloc: Global,
@@ -342,14 +379,15 @@ pub fn read_interleaved<R: Read + Drop>(
     wide: u16,
     high: u16,
 ) -> Result<Option<Marker>>
-    requires pass { IsPass (pass_in scan.now.pass) }
+    requires pass { IsPass (scan_pass scan.now) }
     requires classes { All HasAc scan.now.components.items }
     requires few { length scan.now.components.items ≤ 4 }
-    requires held { (row column : ℕ) → row < high → column < wide → HoldsMcu scan.now.components.items (sizes_of arrays.now.items) row column }
+    requires held { (row column : ℕ) → row < high → column < wide →
+        HoldsMcu scan.now.components.items (sizes_of arrays.now.items) row column }
     ensures sizes { sizes_of arrays.new.items ≡ sizes_of arrays.old.items }
     ensures scan { Answers (λ m. (arrays_in arrays.new.items, m))
-        (scan_from (pass_in scan.now.pass) (vias_in 0 scan.now.components.items) scan.now.restart_interval
-        (rows_in (components_in scan.now.components.items) wide high) (arrays_in arrays.old.items))
+        (scan_from (scan_pass scan.now) (scan_vias scan.now) scan.now.restart_interval
+        (rows_in (scan_components scan.now) wide high) (arrays_in arrays.old.items))
         source.old result source.new }
 {
     let mut interval = first_interval(alloc, scan.restart_interval);
@@ -357,7 +395,8 @@ pub fn read_interleaved<R: Read + Drop>(
     interval.decoder.take_marker(source)
 }
 
-/// Reads a block of a component that is alone in a scan, and before it the restart of an interval, where one is due.
+/// Reads a block of a component that is alone in a scan, and before it the restart marker, where
+/// one is due.
 fn read_own_mcu<R: Read + Drop>(
     interval: &mut Interval,
     source: &mut Source<R>,
@@ -365,25 +404,26 @@ fn read_own_mcu<R: Read + Drop>(
     arrays: &mut Vec<Vec<[i16; 64]>>,
     index: usize,
 ) -> Result<()>
-    requires pass { IsPass (pass_in scan.now.pass) }
+    requires pass { IsPass (scan_pass scan.now) }
     requires classes { All HasAc scan.now.components.items }
     requires some { 0 < length scan.now.components.items }
     requires few { length scan.now.components.items ≤ 4 }
     requires held { IsHeld (sizes_of arrays.now.items) 0 index }
     ensures sizes { sizes_of arrays.new.items ≡ sizes_of arrays.old.items }
     ensures mcu { Takes (λ _. counted interval.new (arrays_in arrays.new.items))
-        (mcu_from (pass_in scan.now.pass) (vias_in 0 scan.now.components.items) scan.now.restart_interval
+        (mcu_from (scan_pass scan.now) (scan_vias scan.now) scan.now.restart_interval
         (record { slot = 0; index = index } ∷ [])
         (counted interval.old (arrays_in arrays.old.items)))
         interval.old.decoder source.old result interval.new.decoder source.new }
 {
     begin(interval, source, scan.restart_interval)?;
-    read_turn(interval, source, scan, arrays, 0, index)?;
+    let spot = Spot { slot: 0, index };
+    read_turn(interval, source, scan, arrays, spot)?;
     interval.left = interval.left.saturating_sub(1);
     Ok(())
 }
 
-/// Reads so many blocks of a component that is alone in a scan, from an index on.
+/// Reads `count` blocks of a component that is alone in a scan, from an index on.
 #[tactic(auto, using(crate::proofs::McuSteps::mcus_rules))]
 fn read_own_row<R: Read + Drop>(
     interval: &mut Interval,
@@ -393,7 +433,7 @@ fn read_own_row<R: Read + Drop>(
     start: usize,
     count: u16,
 ) -> Result<()>
-    requires pass { IsPass (pass_in scan.now.pass) }
+    requires pass { IsPass (scan_pass scan.now) }
     requires classes { All HasAc scan.now.components.items }
     requires some { 0 < length scan.now.components.items }
     requires few { length scan.now.components.items ≤ 4 }
@@ -402,7 +442,7 @@ fn read_own_row<R: Read + Drop>(
     requires small { start ≤ 2 ^ 48 }
     ensures sizes { sizes_of arrays.new.items ≡ sizes_of arrays.old.items }
     ensures mcus { Takes (λ _. counted interval.new (arrays_in arrays.new.items))
-        (mcus_from (pass_in scan.now.pass) (vias_in 0 scan.now.components.items) scan.now.restart_interval
+        (mcus_from (scan_pass scan.now) (scan_vias scan.now) scan.now.restart_interval
         (map (own_mcu start) (range_with_len 0 count))
         (counted interval.old (arrays_in arrays.old.items)))
         interval.old.decoder source.old result interval.new.decoder source.new }
@@ -427,15 +467,16 @@ pub fn read_own_rows<R: Read + Drop>(
     arrays: &mut Vec<Vec<[i16; 64]>>,
     grid: Grid,
 ) -> Result<()>
-    requires pass { IsPass (pass_in scan.now.pass) }
+    requires pass { IsPass (scan_pass scan.now) }
     requires classes { All HasAc scan.now.components.items }
     requires some { 0 < length scan.now.components.items }
     requires few { length scan.now.components.items ≤ 4 }
     requires array { 0 < length (sizes_of arrays.now.items) }
-    requires within { (row : ℕ) → row < grid.own_high → row * grid.wide + grid.own_wide ≤ get_or (sizes_of arrays.now.items) 0 0 }
+    requires within { (row : ℕ) → row < grid.own_high →
+        row * grid.wide + grid.own_wide ≤ get_or (sizes_of arrays.now.items) 0 0 }
     ensures sizes { sizes_of arrays.new.items ≡ sizes_of arrays.old.items }
     ensures mcus { Takes (λ _. counted interval.new (arrays_in arrays.new.items))
-        (mcus_from (pass_in scan.now.pass) (vias_in 0 scan.now.components.items) scan.now.restart_interval
+        (mcus_from (scan_pass scan.now) (scan_vias scan.now) scan.now.restart_interval
         (own_rows grid.wide grid.own_wide grid.own_high)
         (counted interval.old (arrays_in arrays.old.items)))
         interval.old.decoder source.old result interval.new.decoder source.new }
@@ -460,7 +501,8 @@ fn row_start(row: u16, wide: u16) -> usize
     usize::from(row) * usize::from(wide)
 }
 
-/// Reads a scan of one component on the blocks that are held of it, and gives the marker behind it, if it was met.
+/// Reads a scan of one component on the blocks that are held of it, and returns the marker after
+/// it, if it was met.
 #[tactic(auto, unfolding(crate::specs::InTurn::scan_from))]
 pub fn read_alone<R: Read + Drop>(
     alloc: Global,
@@ -469,15 +511,16 @@ pub fn read_alone<R: Read + Drop>(
     arrays: &mut Vec<Vec<[i16; 64]>>,
     grid: Grid,
 ) -> Result<Option<Marker>>
-    requires pass { IsPass (pass_in scan.now.pass) }
+    requires pass { IsPass (scan_pass scan.now) }
     requires classes { All HasAc scan.now.components.items }
     requires some { 0 < length scan.now.components.items }
     requires few { length scan.now.components.items ≤ 4 }
     requires array { 0 < length (sizes_of arrays.now.items) }
-    requires within { (row : ℕ) → row < grid.own_high → row * grid.wide + grid.own_wide ≤ get_or (sizes_of arrays.now.items) 0 0 }
+    requires within { (row : ℕ) → row < grid.own_high →
+        row * grid.wide + grid.own_wide ≤ get_or (sizes_of arrays.now.items) 0 0 }
     ensures sizes { sizes_of arrays.new.items ≡ sizes_of arrays.old.items }
     ensures scan { Answers (λ m. (arrays_in arrays.new.items, m))
-        (scan_from (pass_in scan.now.pass) (vias_in 0 scan.now.components.items) scan.now.restart_interval
+        (scan_from (scan_pass scan.now) (scan_vias scan.now) scan.now.restart_interval
         (own_rows grid.wide grid.own_wide grid.own_high) (arrays_in arrays.old.items))
         source.old result source.new }
 {
@@ -486,8 +529,8 @@ pub fn read_alone<R: Read + Drop>(
     interval.decoder.take_marker(source)
 }
 
-/// Reads a scan of several components of a frame on the blocks that are held of them, and gives the marker behind it, if it
-/// was met.
+/// Reads a scan of several components of a frame on the blocks that are held of them, and returns
+/// the marker after it, if it was met.
 pub fn read_several<R: Read + Drop>(
     alloc: Global,
     source: &mut Source<R>,
@@ -495,23 +538,32 @@ pub fn read_several<R: Read + Drop>(
     arrays: &mut Vec<Vec<[i16; 64]>>,
     frame: &FrameInfo,
 ) -> Result<Option<Marker>>
-    requires pass { IsPass (pass_in scan.now.pass) }
+    requires pass { IsPass (scan_pass scan.now) }
     requires classes { All HasAc scan.now.components.items }
     requires several { 1 < length scan.now.components.items }
     requires few { length scan.now.components.items ≤ 4 }
-    requires fits { AllByRecursion (Fits (frame_in frame.now)) (components_in scan.now.components.items) }
-    requires arrays { AreArrays (components_in scan.now.components.items) (arrays_in arrays.now.items) }
+    requires fits { AllByRecursion (Fits (frame_in frame.now)) (scan_components scan.now) }
+    requires arrays { AreArrays (scan_components scan.now) (arrays_in arrays.now.items) }
     ensures sizes { sizes_of arrays.new.items ≡ sizes_of arrays.old.items }
     ensures scan { Answers (λ m. (arrays_in arrays.new.items, m))
-        (arrays_at (pass_in scan.now.pass) (scan.now.restart_interval * mcu_size (components_in scan.now.components.items))
-        (vias_in 0 scan.now.components.items) (spots_of (frame_in frame.now) (components_in scan.now.components.items))
+        (arrays_at (scan_pass scan.now)
+        (scan.now.restart_interval * mcu_size (scan_components scan.now))
+        (scan_vias scan.now) (spots_of (frame_in frame.now) (scan_components scan.now))
         (arrays_in arrays.old.items))
         source.old result source.new }
 {
-    read_interleaved(alloc, source, scan, arrays, frame.mcu_size.width, frame.mcu_size.height)
+    read_interleaved(
+        alloc,
+        source,
+        scan,
+        arrays,
+        frame.mcu_size.width,
+        frame.mcu_size.height,
+    )
 }
 
-/// Reads a scan of one component of a frame on the blocks that are held of it, and gives the marker behind it, if it was met.
+/// Reads a scan of one component of a frame on the blocks that are held of it, and returns the
+/// marker after it, if it was met.
 pub fn read_single<R: Read + Drop>(
     alloc: Global,
     source: &mut Source<R>,
@@ -520,16 +572,17 @@ pub fn read_single<R: Read + Drop>(
     frame: &FrameInfo,
     grid: Grid,
 ) -> Result<Option<Marker>>
-    requires pass { IsPass (pass_in scan.now.pass) }
+    requires pass { IsPass (scan_pass scan.now) }
     requires classes { All HasAc scan.now.components.items }
     requires one { length scan.now.components.items ≡ 1 }
-    requires grid { AllByRecursion (λ c. grid ≡ grid_of c) (components_in scan.now.components.items) }
-    requires fits { AllByRecursion (Fits (frame_in frame.now)) (components_in scan.now.components.items) }
-    requires arrays { AreArrays (components_in scan.now.components.items) (arrays_in arrays.now.items) }
+    requires grid { AllByRecursion (λ c. grid ≡ grid_of c) (scan_components scan.now) }
+    requires fits { AllByRecursion (Fits (frame_in frame.now)) (scan_components scan.now) }
+    requires arrays { AreArrays (scan_components scan.now) (arrays_in arrays.now.items) }
     ensures sizes { sizes_of arrays.new.items ≡ sizes_of arrays.old.items }
     ensures scan { Answers (λ m. (arrays_in arrays.new.items, m))
-        (arrays_at (pass_in scan.now.pass) (scan.now.restart_interval * mcu_size (components_in scan.now.components.items))
-        (vias_in 0 scan.now.components.items) (spots_of (frame_in frame.now) (components_in scan.now.components.items))
+        (arrays_at (scan_pass scan.now)
+        (scan.now.restart_interval * mcu_size (scan_components scan.now))
+        (scan_vias scan.now) (spots_of (frame_in frame.now) (scan_components scan.now))
         (arrays_in arrays.old.items))
         source.old result source.new }
 {
@@ -545,17 +598,18 @@ pub fn read_blocks<R: Read + Drop>(
     arrays: &mut Vec<Vec<[i16; 64]>>,
     frame: &FrameInfo,
 ) -> Result<Option<Marker>>
-    requires pass { IsPass (pass_in scan.now.pass) }
+    requires pass { IsPass (scan_pass scan.now) }
     requires classes { All HasAc scan.now.components.items }
     requires some { 1 ≤ length scan.now.components.items }
     requires few { length scan.now.components.items ≤ 4 }
     requires scales { All HasCodedScale scan.now.components.items }
-    requires fits { AllByRecursion (Fits (frame_in frame.now)) (components_in scan.now.components.items) }
-    requires arrays { AreArrays (components_in scan.now.components.items) (arrays_in arrays.now.items) }
+    requires fits { AllByRecursion (Fits (frame_in frame.now)) (scan_components scan.now) }
+    requires arrays { AreArrays (scan_components scan.now) (arrays_in arrays.now.items) }
     ensures sizes { sizes_of arrays.new.items ≡ sizes_of arrays.old.items }
     ensures scan { Answers (λ m. (arrays_in arrays.new.items, m))
-        (arrays_at (pass_in scan.now.pass) (scan.now.restart_interval * mcu_size (components_in scan.now.components.items))
-        (vias_in 0 scan.now.components.items) (spots_of (frame_in frame.now) (components_in scan.now.components.items))
+        (arrays_at (scan_pass scan.now)
+        (scan.now.restart_interval * mcu_size (scan_components scan.now))
+        (scan_vias scan.now) (spots_of (frame_in frame.now) (scan_components scan.now))
         (arrays_in arrays.old.items))
         source.old result source.new }
 {

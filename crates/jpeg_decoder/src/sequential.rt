@@ -1,15 +1,18 @@
 //! Sequential scans, whose planes are made row by row of MCUs (T.81, A.2 and F.2).
 ghost use Rattle.std.specs.Prelude.{[], map, min, All, OnOk, IfOk, length, ◌≡◌, ◌≤◌, ◌<◌, ◌*◌, ◌-◌};
 ghost use Rattle.std.specs.List.{AllByRecursion};
-ghost use Rattle.jpeg_bits.specs.BlockView.{pass_in, IsPass};
+ghost use Rattle.jpeg_bits.specs.BlockView.{IsPass};
 ghost use Rattle.jpeg_bits.specs.Entropy.{Takes};
 ghost use Rattle.jpeg_bits.specs.Reading.{Answers};
 ghost use Rattle.jpeg_segments.specs.FrameView.{frame_in};
 ghost use Rattle.jpeg_decoder.specs.InTurn.{Fits, mcus_from};
 ghost use Rattle.jpeg_decoder.specs.McuRows.{rows_of};
-ghost use Rattle.jpeg_decoder.specs.Scanning.{HasAc, HasCodedScale, arrays_in, components_in, counted, down_in, sizes_of, vias_in};
+ghost use Rattle.jpeg_decoder.specs.Scanning.{HasAc, HasCodedScale, arrays_in, sizes_of};
+ghost use Rattle.jpeg_decoder.specs.Scanning.{counted, down_in};
+ghost use Rattle.jpeg_decoder.specs.Scanning.{scan_pass, scan_vias, scan_components};
 ghost use Rattle.jpeg_decoder.specs.Steps.{coding_in};
-ghost use Rattle.jpeg_decoder.specs.Strips.{components_of, planes_at, planes_by_rows, planes_in, row_at, row_sizes, samples_in, strips_from};
+ghost use Rattle.jpeg_decoder.specs.Strips.{components_of, planes_in, row_sizes, samples_in};
+ghost use Rattle.jpeg_decoder.specs.Strips.{row_at, planes_at, planes_by_rows, strips_from};
 
 use crate::grids::{Grid, grid_of};
 use crate::scans::{Interval, Scan, first_interval, read_own_rows, read_row};
@@ -39,17 +42,17 @@ fn read_mcus<R: Read + Drop>(
     rows: &mut Vec<Vec<[i16; 64]>>,
     row: u16,
 ) -> Result<()>
-    requires pass { IsPass (pass_in scan.now.pass) }
+    requires pass { IsPass (scan_pass scan.now) }
     requires classes { All HasAc scan.now.components.items }
     requires some { 1 ≤ length scan.now.components.items }
     requires few { length scan.now.components.items ≤ 4 }
     requires scales { All HasCodedScale scan.now.components.items }
-    requires fits { AllByRecursion (Fits (frame_in frame.now)) (components_in scan.now.components.items) }
+    requires fits { AllByRecursion (Fits (frame_in frame.now)) (scan_components scan.now) }
     requires sizes { sizes_of rows.now.items ≡ row_sizes scan.now.components.items }
     ensures sizes { sizes_of rows.new.items ≡ sizes_of rows.old.items }
     ensures mcus { Takes (λ _. counted interval.new (arrays_in rows.new.items))
-        (mcus_from (pass_in scan.now.pass) (vias_in 0 scan.now.components.items) scan.now.restart_interval
-        (row_at (frame_in frame.now) (components_in scan.now.components.items) row)
+        (mcus_from (scan_pass scan.now) (scan_vias scan.now) scan.now.restart_interval
+        (row_at (frame_in frame.now) (scan_components scan.now) row)
         (counted interval.old (arrays_in rows.old.items)))
         interval.old.decoder source.old result interval.new.decoder source.new }
 {
@@ -76,19 +79,22 @@ fn read_strips<R: Read + Drop>(
     rows: &mut Vec<Vec<[i16; 64]>>,
     planes: &mut Vec<Vec<u8>>,
 ) -> Result<()>
-    requires pass { IsPass (pass_in scan.now.pass) }
+    requires pass { IsPass (scan_pass scan.now) }
     requires classes { All HasAc scan.now.components.items }
     requires some { 1 ≤ length scan.now.components.items }
     requires few { length scan.now.components.items ≤ 4 }
     requires scales { All HasCodedScale scan.now.components.items }
-    requires fits { AllByRecursion (Fits (frame_in frame.now)) (components_in scan.now.components.items) }
+    requires fits { AllByRecursion (Fits (frame_in frame.now)) (scan_components scan.now) }
     requires sizes { sizes_of rows.now.items ≡ row_sizes scan.now.components.items }
-    requires planes { planes_in planes.now.items ≡ map (λ c. []) (map coding_in scan.now.components.items) }
+    requires planes { planes_in planes.now.items
+        ≡ map (λ c. []) (map coding_in scan.now.components.items) }
     ensures sizes { OnOk result (map length (planes_in planes.new.items)
-        ≡ map (λ c. samples_in ((frame_in frame.now).mcus_high * down_in c) c) scan.now.components.items) }
+        ≡ map (λ c. samples_in ((frame_in frame.now).mcus_high * down_in c) c)
+        scan.now.components.items) }
     ensures strips { Takes (λ _. planes_in planes.new.items)
-        (strips_from (pass_in scan.now.pass) (vias_in 0 scan.now.components.items) scan.now.restart_interval
-        (map coding_in scan.now.components.items) (rows_of (frame_in frame.now) (components_of (map coding_in scan.now.components.items)))
+        (strips_from (scan_pass scan.now) (scan_vias scan.now) scan.now.restart_interval
+        (map coding_in scan.now.components.items)
+        (rows_of (frame_in frame.now) (components_of (map coding_in scan.now.components.items)))
         (planes_in planes.old.items) (counted interval.old []))
         interval.old.decoder source.old result interval.new.decoder source.new }
 {
@@ -108,16 +114,17 @@ fn read_by_rows<R: Read + Drop>(
     scan: &Scan<'_>,
     frame: &FrameInfo,
 ) -> Result<(Vec<Vec<u8>>, Option<Marker>)>
-    requires pass { IsPass (pass_in scan.now.pass) }
+    requires pass { IsPass (scan_pass scan.now) }
     requires classes { All HasAc scan.now.components.items }
     requires some { 1 ≤ length scan.now.components.items }
     requires few { length scan.now.components.items ≤ 4 }
     requires scales { All HasCodedScale scan.now.components.items }
-    requires fits { AllByRecursion (Fits (frame_in frame.now)) (components_in scan.now.components.items) }
+    requires fits { AllByRecursion (Fits (frame_in frame.now)) (scan_components scan.now) }
     ensures sizes { IfOk result (λ r. map length (planes_in r.0.items)
-        ≡ map (λ c. samples_in ((frame_in frame.now).mcus_high * down_in c) c) scan.now.components.items) }
+        ≡ map (λ c. samples_in ((frame_in frame.now).mcus_high * down_in c) c)
+        scan.now.components.items) }
     ensures planes { Answers (λ r. (planes_in r.0.items, r.1))
-        (planes_by_rows (pass_in scan.now.pass) (vias_in 0 scan.now.components.items) scan.now.restart_interval
+        (planes_by_rows (scan_pass scan.now) (scan_vias scan.now) scan.now.restart_interval
         (frame_in frame.now) (map coding_in scan.now.components.items))
         source.old result source.new }
 {
@@ -133,7 +140,8 @@ fn read_by_rows<R: Read + Drop>(
 /// marker after the scan, if it was met.
 ///
 /// The blocks are read from zeros, row by row of MCUs, and those of one row are held at a time. A
-/// plane has the samples of all blocks of its component, also of those that only fill its last MCUs.
+/// plane has the samples of all blocks of its component, also of those that only fill its last
+/// MCUs.
 /// The errors are those of the source, a refused code or category (T.81, F.2.2), a restart marker
 /// that is missing or out of turn, and no memory.
 pub fn read_planes<R: Read + Drop>(
@@ -142,16 +150,17 @@ pub fn read_planes<R: Read + Drop>(
     scan: &Scan<'_>,
     frame: &FrameInfo,
 ) -> Result<(Vec<Vec<u8>>, Option<Marker>)>
-    requires pass { IsPass (pass_in scan.now.pass) }
+    requires pass { IsPass (scan_pass scan.now) }
     requires classes { All HasAc scan.now.components.items }
     requires some { 1 ≤ length scan.now.components.items }
     requires few { length scan.now.components.items ≤ 4 }
     requires scales { All HasCodedScale scan.now.components.items }
-    requires fits { AllByRecursion (Fits (frame_in frame.now)) (components_in scan.now.components.items) }
+    requires fits { AllByRecursion (Fits (frame_in frame.now)) (scan_components scan.now) }
     ensures sizes { IfOk result (λ r. map length (planes_in r.0.items)
-        ≡ map (λ c. c.blocks_high * c.scale * (c.blocks_wide * c.scale)) (components_in scan.now.components.items)) }
+        ≡ map (λ c. c.blocks_high * c.scale * (c.blocks_wide * c.scale))
+        (scan_components scan.now)) }
     ensures planes { Answers (λ r. (planes_in r.0.items, r.1))
-        (planes_at (pass_in scan.now.pass) scan.now.restart_interval (vias_in 0 scan.now.components.items)
+        (planes_at (scan_pass scan.now) scan.now.restart_interval (scan_vias scan.now)
         (frame_in frame.now) (map coding_in scan.now.components.items))
         source.old result source.new }
 {

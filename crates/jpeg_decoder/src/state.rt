@@ -80,7 +80,7 @@ impl State {
     ghost use Rattle.jpeg_decoder.specs.States.{OnTold};
     ghost use Rattle.jpeg_decoder.specs.Seen.{found_in};
     ghost use Rattle.jpeg_decoder.specs.Steps.{turn_of};
-    ghost use Rattle.jpeg_decoder.specs.Sound.{IsSound};
+    ghost use Rattle.jpeg_decoder.specs.Sound.{IsSound, IsUnread};
     ghost use Rattle.jpeg_decoder.specs.declared.state.Before.TheVariants.{Elsewhere};
 
     /// The state at the start of a stream.
@@ -113,6 +113,7 @@ impl State {
         ensures onward { IfOk result (λ s. s.ended ≡ false) }
         ensures stays { is_some (found_in self.old).frame ≡ true → (found_in self.new).frame ≡ (found_in self.old).frame }
         ensures sound { IsSound (found_in self.old) → OnOk result (IsSound (found_in self.new)) }
+        ensures unread { IsUnread (found_in self.old) → OnOk result (IsUnread (found_in self.new)) }
     {
         if self.frame.is_some() {
             return Err(Error::Unsupported(UnsupportedFeature::Hierarchical));
@@ -135,6 +136,7 @@ impl State {
         ensures onward { IfOk result (λ s. s.ended ≡ false) }
         ensures stays { is_some (found_in self.old).frame ≡ true → (found_in self.new).frame ≡ (found_in self.old).frame }
         ensures sound { IsSound (found_in self.old) → OnOk result (IsSound (found_in self.new)) }
+        ensures unread { IsUnread (found_in self.old) → OnOk result (IsUnread (found_in self.new)) }
     {
         let mut tables = parse_dqt(alloc, source)?;
         update(&mut self.quantization, &mut tables);
@@ -153,6 +155,7 @@ impl State {
         ensures onward { IfOk result (λ s. s.ended ≡ false) }
         ensures stays { is_some (found_in self.old).frame ≡ true → (found_in self.new).frame ≡ (found_in self.old).frame }
         ensures sound { IsSound (found_in self.old) → OnOk result (IsSound (found_in self.new)) }
+        ensures unread { IsUnread (found_in self.old) → OnOk result (IsUnread (found_in self.new)) }
     {
         let is_baseline = self.frame.as_ref().map(|frame| frame.is_baseline);
         let (mut dc_tables, mut ac_tables) = parse_dht(alloc, source, is_baseline)?;
@@ -173,6 +176,7 @@ impl State {
         ensures onward { IfOk result (λ s. s.ended ≡ false) }
         ensures stays { is_some (found_in self.old).frame ≡ true → (found_in self.new).frame ≡ (found_in self.old).frame }
         ensures sound { IsSound (found_in self.old) → OnOk result (IsSound (found_in self.new)) }
+        ensures unread { IsUnread (found_in self.old) → OnOk result (IsUnread (found_in self.new)) }
     {
         self.restart_interval = parse_dri(alloc, source)?;
         Ok(ONWARD)
@@ -191,6 +195,7 @@ impl State {
         ensures onward { IfOk result (λ s. s.ended ≡ false) }
         ensures stays { is_some (found_in self.old).frame ≡ true → (found_in self.new).frame ≡ (found_in self.old).frame }
         ensures sound { IsSound (found_in self.old) → OnOk result (IsSound (found_in self.new)) }
+        ensures unread { IsUnread (found_in self.old) → OnOk result (IsUnread (found_in self.new)) }
     {
         let said = parse_app(alloc, source, Marker::APP(number))?;
         self.metadata.add(said)?;
@@ -243,6 +248,7 @@ impl State {
         ensures onward { IfOk result (λ s. s.ended ≡ false) }
         ensures stays { is_some (found_in self.old).frame ≡ true → (found_in self.new).frame ≡ (found_in self.old).frame }
         ensures sound { IsSound (found_in self.old) → OnOk result (IsSound (found_in self.new)) }
+        ensures unread { (found_in self.old).frame ≡ None → OnOk result (IsUnread (found_in self.new)) }
     {
         let mut decoded = std::mem::replace(&mut self.decoded, Decoded::new(alloc));
         let result = read_scan(alloc, source, self, &mut decoded);
@@ -282,11 +288,13 @@ impl State {
         marker: Marker,
         before: Before,
     ) -> Result<Step>
+        requires sound { IsSound (found_in self.old) }
         ensures reads { Answers (turn_of self.new) (segment_at marker before (found_in self.old)) source.old result source.new }
         ensures kept { OnErr result (told_of (found_in self.new) ≡ told_of (found_in self.old)) }
         ensures framed { IfOk result (λ s. s.ended ≡ true → is_some (found_in self.new).frame ≡ true) }
         ensures stays { is_some (found_in self.old).frame ≡ true → (found_in self.new).frame ≡ (found_in self.old).frame }
         ensures sound { IsSound (found_in self.old) → OnOk result (IsSound (found_in self.new)) }
+        ensures unread { (found_in self.old).frame ≡ None → OnOk result (IsUnread (found_in self.new)) }
     {
         match marker {
             Marker::SOF(number) => self.read_frame(alloc, source, number),
@@ -314,12 +322,14 @@ impl State {
         before: Before,
         met: Option<Marker>,
     ) -> Result<Step>
+        requires sound { IsSound (found_in self.old) }
         ensures reads { Answers (turn_of self.new) (turn_at before (found_in self.old) met) source.old result source.new }
         ensures kept { OnErr result (told_of (found_in self.new) ≡ told_of (found_in self.old)) }
         ensures short { met ≡ None → IsShort source.old }
         ensures framed { IfOk result (λ s. s.ended ≡ true → is_some (found_in self.new).frame ≡ true) }
         ensures stays { is_some (found_in self.old).frame ≡ true → (found_in self.new).frame ≡ (found_in self.old).frame }
         ensures sound { IsSound (found_in self.old) → OnOk result (IsSound (found_in self.new)) }
+        ensures unread { (found_in self.old).frame ≡ None → OnOk result (IsUnread (found_in self.new)) }
     {
         let marker = marker_or_next(alloc, source, met)?;
         self.read_segment(alloc, source, marker, before)
@@ -339,12 +349,14 @@ impl State {
         source: &mut Source<R>,
         header: bool,
     ) -> Result<()>
+        requires sound { IsSound (found_in self.old) }
         ensures reads { Answers (λ _. found_in self.new) (segments_at header Elsewhere (found_in self.old) None) source.old result source.new }
         ensures told { OnTold source.old source.new result (told_of (found_in self.new) ≡ told_rest header (found_in self.old) source.old.bytes) }
         ensures turns { source.old.known ≡ true → IsOfTurns (λ n. told_in_turns n header (found_in self.old) source.old.bytes) (told_of (found_in self.new)) }
         ensures framed { IfOk result (λ _. is_some (found_in self.new).frame ≡ true) }
         ensures stays { is_some (found_in self.old).frame ≡ true → (found_in self.new).frame ≡ (found_in self.old).frame }
         ensures sound { IsSound (found_in self.old) → OnOk result (IsSound (found_in self.new)) }
+        ensures unread { header ≡ true → (found_in self.old).frame ≡ None → OnOk result (IsUnread (found_in self.new)) }
     {
         let mut before = Before::Elsewhere;
         let mut met = None;

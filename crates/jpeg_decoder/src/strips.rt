@@ -1,11 +1,13 @@
 //! The planes of a sequential scan, as they grow row by row of MCUs (T.81, A.2).
-ghost use Rattle.std.specs.Prelude.{ℕ, [], map, ◌≡◌, ◌≤◌, ◌*◌, ◌++◌, IfOk, OnOk, All, length, pos, replicate};
+ghost use Rattle.std.specs.Prelude.{[], map, length, pos, replicate, All, IfOk, OnOk};
+ghost use Rattle.std.specs.Prelude.{◌≡◌, ◌≤◌, ◌*◌, ◌++◌};
 ghost use Rattle.jpeg_bits.specs.BlockView.{to_block};
 ghost use Rattle.jpeg_pixels.specs.Planes.{plane_of};
 ghost use Rattle.jpeg_pixels.specs.Zigzag.{coefficients_in_block_order, values_in_block_order};
 ghost use Rattle.jpeg_decoder.specs.Scanning.{HasCodedScale, arrays_in, sizes_of, down_in, wide_in};
 ghost use Rattle.jpeg_decoder.specs.Steps.{coding_in};
-ghost use Rattle.jpeg_decoder.specs.Strips.{planes_in, row_sizes, block_in, samples_of, with_strips, zeros_of};
+ghost use Rattle.jpeg_decoder.specs.Strips.{planes_in, row_sizes, block_in, zeros_of};
+ghost use Rattle.jpeg_decoder.specs.Strips.{samples_of, with_strips};
 
 use crate::codings::Coded;
 use jpeg_pixels::plane::append_row;
@@ -13,10 +15,7 @@ use jpeg_pixels::zigzag::{coefficients_in_order, values_in_order};
 use std::alloc::{AllocError, Global};
 
 /// Room for the blocks of a row of MCUs: for each component of a scan as many as it has in one.
-pub fn row_buffers(
-    alloc: Global,
-    codings: &[Coded<'_>],
-) -> Result<Vec<Vec<[i16; 64]>>, AllocError>
+pub fn row_buffers(alloc: Global, codings: &[Coded<'_>]) -> Result<Vec<Vec<[i16; 64]>>, AllocError>
     ensures { IfOk result (λ v. sizes_of v.items ≡ row_sizes codings.now) }
 {
     let mut rows = Vec::with_capacity(alloc, codings.len())?;
@@ -88,8 +87,9 @@ fn append_rows(
     requires scale { HasCodedScale coded.now }
     requires size { length blocks.now ≡ down_in coded.now * wide_in coded.now }
     ensures { OnOk result (plane.new.items ≡ plane.old.items
-        ++ plane_of coded.now.component.now.dct_scale (values_in_block_order coded.now.quantization.now)
-        (wide_in coded.now) (down_in coded.now) (block_in (wide_in coded.now) blocks.now)) }
+        ++ plane_of coded.now.component.now.dct_scale
+        (values_in_block_order coded.now.quantization.now) (wide_in coded.now)
+        (down_in coded.now) (block_in (wide_in coded.now) blocks.now)) }
 {
     let component = coded.component;
     let table = values_in_order(coded.quantization);
@@ -131,7 +131,8 @@ pub fn append_strips(
     requires sizes { sizes_of rows.now.items ≡ row_sizes codings.now }
     ensures sizes { sizes_of rows.new.items ≡ sizes_of rows.old.items }
     ensures planes { OnOk result (planes_in planes.new.items
-        ≡ with_strips (map coding_in codings.now) (arrays_in rows.old.items) (planes_in planes.old.items)) }
+        ≡ with_strips (map coding_in codings.now) (arrays_in rows.old.items)
+        (planes_in planes.old.items)) }
 {
     for slot in 0..codings.len() {
         append_strip(&mut planes[slot], &codings[slot], &mut rows[slot])?;

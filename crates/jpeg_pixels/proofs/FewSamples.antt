@@ -1,5 +1,6 @@
 -- A few samples are written one by one.
-use Rattle.std.proofs.Common.{◌≡◌, ◌≢◌, ℕ, zero, suc, ◌+◌, ◌*◌, ◌<◌, ◌≤◌, ℤ, pos, neg_ℤ, ◌+ℤ◌, ◌-ℤ◌, List, length, set, get_or, slice_index, ap, ◌∙◌, arith, get_or-set_other, length-set}
+use Rattle.std.proofs.Common.{◌≡◌, ◌≢◌, ℕ, zero, suc, ◌+◌, ◌*◌, ◌<◌, ◌≤◌, ℤ, pos, neg_ℤ, ◌+ℤ◌, ◌-ℤ◌, List, length}
+use Rattle.std.proofs.Common.{set, get_or, slice_index, ap, ◌∙◌, arith, get_or-set_other, length-set}
 use Rattle.std.proofs.lemmas.Grind.{get_or-set_at}
 use Rattle.std.proofs.lemmas.Int.{int_wrap-add_left}
 use Rattle.std.specs.Int.{w32, int_wrap, int_shr}
@@ -7,7 +8,8 @@ use Rattle.jpeg_pixels.specs.Samples.{clamped}
 use Rattle.jpeg_pixels.specs.Scaled.{sample_by}
 use Rattle.jpeg_pixels.specs.Blocks.{WritesBlock}
 
-pub one_sample : (stride : ℕ) (f : ℕ → ℕ → ℕ) (old : List ℕ) (a : ℕ) → 1 ≤ stride → 1 ≤ length old → a ≡ f 0 0 → WritesBlock 1 1 stride f old (set old 0 a)
+pub one_sample : (stride : ℕ) (f : ℕ → ℕ → ℕ) (old : List ℕ) (a : ℕ) → 1 ≤ stride → 1 ≤ length old → a ≡ f 0 0
+    → WritesBlock 1 1 stride f old (set old 0 a)
 one_sample stride f old a wide room is = record { inside = inside; right = right; below = below }
   where
     inside : (x y : ℕ) → x < 1 → y < 1 → slice_index (set old 0 a) (y * stride + x) ≡ f x y
@@ -15,7 +17,8 @@ one_sample stride f old a wide room is = record { inside = inside; right = right
     inside zero (suc y) hx hy = absurd (omega arith)
     inside (suc x) y hx hy = absurd (omega arith)
 
-    right : (x y : ℕ) → 1 ≤ x → x < stride → y < 1 → slice_index (set old 0 a) (y * stride + x) ≡ slice_index old (y * stride + x)
+    right : (x y : ℕ) → 1 ≤ x → x < stride → y < 1 → slice_index (set old 0 a) (y * stride + x)
+        ≡ slice_index old (y * stride + x)
     right x y hx hs hy = get_or-set_other old 0 (y * stride + x) a 0 (omega arith)
 
     below : (i : ℕ) → 1 * stride ≤ i → slice_index (set old 0 a) i ≡ slice_index old i
@@ -25,7 +28,8 @@ one_sample stride f old a wide room is = record { inside = inside; right = right
 abbrev pub two_lines : ℕ → List ℕ → ℕ → ℕ → ℕ → ℕ → List ℕ
 two_lines stride old a b d e = set (set (set (set old 0 a) 1 b) stride d) (stride + 1) e
 
-two_kept : (stride : ℕ) (old : List ℕ) (a b d e i : ℕ) → i ≢ 0 → i ≢ 1 → i ≢ stride → i ≢ stride + 1 → get_or (two_lines stride old a b d e) i 0 ≡ get_or old i 0
+two_kept : (stride : ℕ) (old : List ℕ) (a b d e i : ℕ) → i ≢ 0 → i ≢ 1 → i ≢ stride → i ≢ stride + 1
+    → get_or (two_lines stride old a b d e) i 0 ≡ get_or old i 0
 two_kept stride old a b d e i h0 h1 h2 h3 =
     get_or-set_other (set (set (set old 0 a) 1 b) stride d) (stride + 1) i e 0 h3
     ∙ get_or-set_other (set (set old 0 a) 1 b) stride i d 0 h2
@@ -70,9 +74,12 @@ four_samples stride f old a b d e wide room is0 is1 is2 is3 = record { inside = 
     inside zero (suc (suc y)) hx hy = absurd (omega arith)
     inside (suc zero) (suc (suc y)) hx hy = absurd (omega arith)
 
-    right : (x y : ℕ) → 2 ≤ x → x < stride → y < 2 → slice_index (two_lines stride old a b d e) (y * stride + x) ≡ slice_index old (y * stride + x)
-    right x zero hx hs hy = two_kept stride old a b d e (0 * stride + x) (omega arith) (omega arith) (omega arith) (omega arith)
-    right x (suc zero) hx hs hy = two_kept stride old a b d e (1 * stride + x) (omega arith) (omega arith) (omega arith) (omega arith)
+    right : (x y : ℕ) → 2 ≤ x → x < stride → y < 2 → slice_index (two_lines stride old a b d e) (y * stride + x)
+        ≡ slice_index old (y * stride + x)
+    right x zero hx hs hy = two_kept stride old a b d e (0 * stride + x) (omega arith) (omega arith) (omega arith)
+        (omega arith)
+    right x (suc zero) hx hs hy = two_kept stride old a b d e (1 * stride + x) (omega arith) (omega arith)
+        (omega arith) (omega arith)
     right x (suc (suc y)) hx hs hy = absurd (omega arith)
 
     below : (i : ℕ) → 2 * stride ≤ i → slice_index (two_lines stride old a b d e) i ≡ slice_index old i
@@ -101,4 +108,5 @@ sum_down s m a d b e0 e1 e2 e3 = wrapped_eighths _ ∙ (λ i. eighths (e0 i +ℤ
 
 pub sum_across : (s : ℕ → ℕ → ℤ) (m a d b : ℤ) → m ≡ s 0 0 → a ≡ s 0 1 → d ≡ s 1 0 → b ≡ s 1 1
     → eighths (int_wrap w32 (m -ℤ a -ℤ (d -ℤ b))) ≡ sample_by s 1 1
-sum_across s m a d b e0 e1 e2 e3 = wrapped_eighths _ ∙ (λ i. eighths (e0 i +ℤ neg_ℤ (e1 i) +ℤ neg_ℤ (e2 i +ℤ neg_ℤ (e3 i))))
+sum_across s m a d b e0 e1 e2 e3 = wrapped_eighths _
+    ∙ (λ i. eighths (e0 i +ℤ neg_ℤ (e1 i) +ℤ neg_ℤ (e2 i +ℤ neg_ℤ (e3 i))))

@@ -1,20 +1,25 @@
 -- Blocks of one coefficient, the first, at less than full size.
-use Rattle.std.proofs.Common.{◌≡◌, ℕ, zero, suc, ◌+◌, ◌-◌, ◌*◌, ◌/◌, ◌<◌, ◌≤◌, List, get_or, ℤ, pos, negsuc, neg_ℤ, ◌+ℤ◌, ◌-ℤ◌, ◌*ℤ◌, unsigned_abs}
+use Rattle.std.proofs.Common.{◌≡◌, ℕ, zero, suc, ◌+◌, ◌-◌, ◌*◌, ◌/◌, ◌<◌, ◌≤◌, List, get_or, ℤ, pos, negsuc, ◌+ℤ◌}
+use Rattle.std.proofs.Common.{◌*ℤ◌, unsigned_abs}
 use Rattle.std.proofs.Common.{refl, sym, ap, ◌∙◌, arith, FitsSigned, lit<}
 use Rattle.std.proofs.Math.Logic.{⊎_elim}
 use Rattle.std.proofs.lemmas.Bool.{cases_lt}
 use Rattle.std.proofs.lemmas.Int.{ints, int_wrap_fits}
 use Rattle.std.specs.Int.{w32, int_shr, int_wrap}
 use Rattle.jpeg_pixels.specs.Samples.{dequantized, clamped, HasFirstOnly}
-use Rattle.jpeg_pixels.specs.Scaled.{even_part, odd_part, column_by, signed, column_of_4, sample_of_4, sample_of_2, sample_of_1}
+use Rattle.jpeg_pixels.specs.Scaled.{even_part, odd_part, column_by, signed, column_of_4, sample_of_4, sample_of_2}
+use Rattle.jpeg_pixels.specs.Scaled.{sample_of_1}
 use Rattle.jpeg_pixels.specs.SmallBlocks.{four}
 use Rattle.jpeg_pixels.proofs.Fours.{column_by_same, row_sum, row_by_same}
 use Rattle.jpeg_pixels.proofs.FlatBlocks.{scaled}
 
 -- each other product is 0
-no_product : (coefficients : List ℤ) (quantization : List ℕ) (row column : ℕ) → HasFirstOnly coefficients → 0 < row * 8 + column → row * 8 + column < 64 → dequantized coefficients quantization row column ≡ pos 0
+no_product : (coefficients : List ℤ) (quantization : List ℕ) (row column : ℕ) → HasFirstOnly coefficients
+    → 0 < row * 8 + column → row * 8 + column < 64 → dequantized coefficients quantization row column ≡ pos 0
 unfolding dequantized
-no_product coefficients quantization row column first some h = ap (λ z. z *ℤ pos (get_or quantization (row * 8 + column) 0)) (first.others (row * 8 + column) some h) ∙ omega (arith, ints)
+no_product coefficients quantization row column first some h = ap
+    (λ z. z *ℤ pos (get_or quantization (row * 8 + column) 0)) (first.others (row * 8 + column) some h)
+    ∙ omega (arith, ints)
 
 -- a column of one number
 column_one : (v : ℤ) (row : ℕ) → row < 4 → column_by (four v (pos 0) (pos 0) (pos 0)) row ≡ int_wrap w32 (pos 4 *ℤ v)
@@ -26,7 +31,8 @@ column_one v (suc (suc (suc zero))) h = ap (int_wrap w32) (omega (arith, ints))
 column_one v (suc (suc (suc (suc n)))) h = absurd (omega arith)
 
 -- a row of one number
-row_one : (v : ℤ) (x : ℕ) → x < 4 → row_sum (four v (pos 0) (pos 0) (pos 0)) x ≡ int_wrap w32 (pos 4096 *ℤ v +ℤ pos 16842752)
+row_one : (v : ℤ) (x : ℕ) → x < 4 → row_sum (four v (pos 0) (pos 0) (pos 0)) x
+    ≡ int_wrap w32 (pos 4096 *ℤ v +ℤ pos 16842752)
 unfolding even_part odd_part
 row_one v zero h = ap (int_wrap w32) (omega (arith, ints))
 row_one v (suc zero) h = ap (int_wrap w32) (omega (arith, ints))
@@ -35,18 +41,23 @@ row_one v (suc (suc (suc zero))) h = ap (int_wrap w32) (omega (arith, ints))
 row_one v (suc (suc (suc (suc n)))) h = absurd (omega arith)
 
 -- the columns of such a block
-column_first : (coefficients : List ℤ) (quantization : List ℕ) (row column : ℕ) → HasFirstOnly coefficients → row < 4 → column < 8
-    → column_of_4 coefficients quantization row column ≡ int_wrap w32 (pos 4 *ℤ dequantized coefficients quantization 0 column)
+column_first : (coefficients : List ℤ) (quantization : List ℕ) (row column : ℕ) → HasFirstOnly coefficients → row < 4
+    → column < 8
+    → column_of_4 coefficients quantization row column
+    ≡ int_wrap w32 (pos 4 *ℤ dequantized coefficients quantization 0 column)
 unfolding column_of_4
 column_first coefficients quantization row column first hr hc =
-    sym (column_by_same (λ k. dequantized coefficients quantization k column) (dequantized coefficients quantization 0 column) (pos 0) (pos 0) (pos 0) row refl
+    sym (column_by_same (λ k. dequantized coefficients quantization k column)
+    (dequantized coefficients quantization 0 column) (pos 0) (pos 0) (pos 0) row refl
     (sym (no_product coefficients quantization 1 column first (omega arith) (omega arith)))
     (sym (no_product coefficients quantization 2 column first (omega arith) (omega arith)))
     (sym (no_product coefficients quantization 3 column first (omega arith) (omega arith))))
     ∙ column_one (dequantized coefficients quantization 0 column) row hr
 
-pub half_first_only : (coefficients : List ℤ) (quantization : List ℕ) (x y : ℕ) → HasFirstOnly coefficients → x < 4 → y < 4 → unsigned_abs (dequantized coefficients quantization 0 0) ≤ 65536
-    → sample_of_4 coefficients quantization x y ≡ clamped (int_shr (dequantized coefficients quantization 0 0 +ℤ pos 4) 3 +ℤ pos 128)
+pub half_first_only : (coefficients : List ℤ) (quantization : List ℕ) (x y : ℕ) → HasFirstOnly coefficients → x < 4
+    → y < 4 → unsigned_abs (dequantized coefficients quantization 0 0) ≤ 65536
+    → sample_of_4 coefficients quantization x y
+    ≡ clamped (int_shr (dequantized coefficients quantization 0 0 +ℤ pos 4) 3 +ℤ pos 128)
 unfolding sample_of_4
 half_first_only coefficients quantization x y first hx hy small =
     let p = dequantized coefficients quantization 0 0 in
@@ -55,8 +66,12 @@ half_first_only coefficients quantization x y first hx hy small =
     let value : pos 4 *ℤ p ≡ column_of_4 coefficients quantization y 0 =
     sym (column_first coefficients quantization y 0 first hy (lit< tt) ∙ int_wrap_fits w32 (pos 4 *ℤ p) four_fits) in
     let nothing : (k : ℕ) → 0 < k → k < 8 → pos 0 ≡ column_of_4 coefficients quantization y k =
-    λ k some h. sym (column_first coefficients quantization y k first hy h ∙ ap (λ z. int_wrap w32 (pos 4 *ℤ z)) (no_product coefficients quantization 0 k first (omega arith) (omega arith)) ∙ int_wrap_fits w32 (pos 0) (record { sfits = lit< tt })) in
-    ap (λ z. clamped (int_shr z 17)) (sym (row_by_same (column_of_4 coefficients quantization y) (pos 4 *ℤ p) (pos 0) (pos 0) (pos 0) x value (nothing 1 (lit< tt) (lit< tt)) (nothing 2 (lit< tt) (lit< tt)) (nothing 3 (lit< tt) (lit< tt)))
+    λ k some h. sym (column_first coefficients quantization y k first hy h
+    ∙ ap (λ z. int_wrap w32 (pos 4 *ℤ z)) (no_product coefficients quantization 0 k first (omega arith)
+    (omega arith)) ∙ int_wrap_fits w32 (pos 0) (record { sfits = lit< tt })) in
+    ap (λ z. clamped (int_shr z 17)) (sym (row_by_same (column_of_4 coefficients quantization y) (pos 4 *ℤ p) (pos 0)
+    (pos 0) (pos 0) x value (nothing 1 (lit< tt) (lit< tt)) (nothing 2 (lit< tt) (lit< tt))
+    (nothing 3 (lit< tt) (lit< tt)))
     ∙ row_one (pos 4 *ℤ p) x hx ∙ int_wrap_fits w32 (pos 4096 *ℤ (pos 4 *ℤ p) +ℤ pos 16842752) sum_fits)
     ∙ scaled p
 
@@ -81,7 +96,8 @@ more_eighths (negsuc n) = ⊎_elim near far (cases_lt n 1024)
         let d : (n - 1024) / 8 ≡ n / 8 - 128 = omega arith in
         ap (λ z. int_shr z 3) a ∙ ap negsuc d ∙ sym b
 
-pub eighth_first_only : (coefficients : List ℤ) (quantization : List ℕ) → unsigned_abs (dequantized coefficients quantization 0 0) ≤ 65536
+pub eighth_first_only : (coefficients : List ℤ) (quantization : List ℕ)
+    → unsigned_abs (dequantized coefficients quantization 0 0) ≤ 65536
     → sample_of_1 coefficients quantization ≡ clamped (int_shr (dequantized coefficients quantization 0 0) 3 +ℤ pos 128)
 unfolding sample_of_1
 eighth_first_only coefficients quantization small =
@@ -102,8 +118,10 @@ quarter_sum p (suc (suc x)) y hx hy = absurd (omega arith)
 quarter_sum p zero (suc (suc y)) hx hy = absurd (omega arith)
 quarter_sum p (suc zero) (suc (suc y)) hx hy = absurd (omega arith)
 
-pub quarter_first_only : (coefficients : List ℤ) (quantization : List ℕ) (x y : ℕ) → HasFirstOnly coefficients → x < 2 → y < 2 → unsigned_abs (dequantized coefficients quantization 0 0) ≤ 65536
-    → sample_of_2 coefficients quantization x y ≡ clamped (int_shr (dequantized coefficients quantization 0 0 +ℤ pos 4) 3 +ℤ pos 128)
+pub quarter_first_only : (coefficients : List ℤ) (quantization : List ℕ) (x y : ℕ) → HasFirstOnly coefficients
+    → x < 2 → y < 2 → unsigned_abs (dequantized coefficients quantization 0 0) ≤ 65536
+    → sample_of_2 coefficients quantization x y
+    ≡ clamped (int_shr (dequantized coefficients quantization 0 0 +ℤ pos 4) 3 +ℤ pos 128)
 unfolding sample_of_2
 quarter_first_only coefficients quantization x y first hx hy small =
     let p = dequantized coefficients quantization 0 0 in

@@ -1,18 +1,21 @@
 -- The transform of four numbers.
-use Rattle.std.proofs.Common.{◌≡◌, ℕ, zero, suc, ◌+◌, ◌<◌, List, [], ◌∷◌, ℤ, pos, neg_ℤ, ◌+ℤ◌, ◌-ℤ◌, ◌*ℤ◌, slice_index_or, refl, sym, ap, ap₂, ◌∙◌, arith}
-use Rattle.std.proofs.lemmas.Int.{ints, int_wrap-add_left}
+use Rattle.std.proofs.Common.{◌≡◌, ℕ, zero, suc, ◌<◌, List, [], ◌∷◌, ℤ, pos, neg_ℤ, ◌+ℤ◌, ◌-ℤ◌, ◌*ℤ◌, slice_index_or}
+use Rattle.std.proofs.Common.{ap, ◌∙◌, arith}
+use Rattle.std.proofs.lemmas.Int.{int_wrap-add_left}
 use Rattle.std.specs.Int.{w32, int_wrap, int_shr}
-use Rattle.jpeg_pixels.specs.Scaled.{joined, even_part, odd_part, column_by, row_by}
+use Rattle.jpeg_pixels.specs.Scaled.{joined, even_part, odd_part, column_by}
 use Rattle.jpeg_pixels.specs.SmallBlocks.{four}
 use Rattle.jpeg_pixels.proofs.Residues.{wrapped_parts, wrapped_apart, wrapped_inside}
 
 -- by the first four numbers of a column
-pub column_by_same : (s : ℕ → ℤ) (s0 s1 s2 s3 : ℤ) (row : ℕ) → s0 ≡ s 0 → s1 ≡ s 1 → s2 ≡ s 2 → s3 ≡ s 3 → column_by (four s0 s1 s2 s3) row ≡ column_by s row
+pub column_by_same : (s : ℕ → ℤ) (s0 s1 s2 s3 : ℤ) (row : ℕ) → s0 ≡ s 0 → s1 ≡ s 1 → s2 ≡ s 2 → s3 ≡ s 3
+    → column_by (four s0 s1 s2 s3) row ≡ column_by s row
 unfolding even_part odd_part
 column_by_same s s0 s1 s2 s3 row e0 e1 e2 e3 = λ i. column_by (four (e0 i) (e1 i) (e2 i) (e3 i)) row
 
 -- an entry of four
-entry_is : (xs : List ℤ) (f : ℕ → ℤ) (a b d e : ℤ) → xs ≡ a ∷ b ∷ d ∷ e ∷ [] → a ≡ f 0 → b ≡ f 1 → d ≡ f 2 → e ≡ f 3 → (k : ℕ) → k < 4 → slice_index_or xs k (pos 0) ≡ f k
+entry_is : (xs : List ℤ) (f : ℕ → ℤ) (a b d e : ℤ) → xs ≡ a ∷ b ∷ d ∷ e ∷ [] → a ≡ f 0 → b ≡ f 1 → d ≡ f 2 → e ≡ f 3
+    → (k : ℕ) → k < 4 → slice_index_or xs k (pos 0) ≡ f k
 entry_is xs f a b d e is e0 e1 e2 e3 zero h = ap (λ (l : List ℤ). slice_index_or l 0 (pos 0)) is ∙ e0
 entry_is xs f a b d e is e0 e1 e2 e3 (suc zero) h = ap (λ (l : List ℤ). slice_index_or l 1 (pos 0)) is ∙ e1
 entry_is xs f a b d e is e0 e1 e2 e3 (suc (suc zero)) h = ap (λ (l : List ℤ). slice_index_or l 2 (pos 0)) is ∙ e2
@@ -27,31 +30,38 @@ difference_left : (x y a b : ℤ) → x ≡ int_wrap w32 a → y ≡ b → int_w
 difference_left x y a b ex ey = (λ i. int_wrap w32 (ex i -ℤ ey i)) ∙ int_wrap-add_left w32 a (neg_ℤ b)
 
 -- what is rounded of a sum that was wrapped
-rounded_is : (t o z : ℤ) → o ≡ int_wrap w32 z → t ≡ int_shr (int_wrap w32 (o +ℤ pos 512)) 10 → t ≡ int_shr (int_wrap w32 (z +ℤ pos 512)) 10
-rounded_is t o z eo et = et ∙ ap (λ y. int_shr (int_wrap w32 (y +ℤ pos 512)) 10) eo ∙ ap (λ y. int_shr y 10) (int_wrap-add_left w32 z (pos 512))
+rounded_is : (t o z : ℤ) → o ≡ int_wrap w32 z → t ≡ int_shr (int_wrap w32 (o +ℤ pos 512)) 10 → t
+    ≡ int_shr (int_wrap w32 (z +ℤ pos 512)) 10
+rounded_is t o z eo et = et ∙ ap (λ y. int_shr (int_wrap w32 (y +ℤ pos 512)) 10) eo
+    ∙ ap (λ y. int_shr y 10) (int_wrap-add_left w32 z (pos 512))
 
 -- what the four numbers of a column become
 pub column_is : (s0 s1 s2 s3 outer_even inner_even outer inner t u : ℤ) (xs : List ℤ)
     → outer_even ≡ int_wrap w32 (pos 4 *ℤ (s0 +ℤ s2)) → inner_even ≡ int_wrap w32 (pos 4 *ℤ (s0 -ℤ s2))
     → outer ≡ int_wrap w32 (pos 5352 *ℤ s1 +ℤ pos 2217 *ℤ s3) → inner ≡ int_wrap w32 (pos 2217 *ℤ s1 -ℤ pos 5350 *ℤ s3)
     → t ≡ int_shr (int_wrap w32 (outer +ℤ pos 512)) 10 → u ≡ int_shr (int_wrap w32 (inner +ℤ pos 512)) 10
-    → xs ≡ int_wrap w32 (outer_even +ℤ t) ∷ int_wrap w32 (inner_even +ℤ u) ∷ int_wrap w32 (inner_even -ℤ u) ∷ int_wrap w32 (outer_even -ℤ t) ∷ []
+    → xs ≡ int_wrap w32 (outer_even +ℤ t) ∷ int_wrap w32 (inner_even +ℤ u) ∷ int_wrap w32
+    (inner_even -ℤ u) ∷ int_wrap w32 (outer_even -ℤ t) ∷ []
     → (row : ℕ) → row < 4 → slice_index_or xs row (pos 0) ≡ column_by (four s0 s1 s2 s3) row
 unfolding even_part odd_part
 column_is s0 s1 s2 s3 outer_even inner_even outer inner t u xs eo ei oo oi et eu is =
     let t_is = rounded_is t outer _ oo et in
     let u_is = rounded_is u inner _ oi eu in
     entry_is xs (column_by (four s0 s1 s2 s3)) _ _ _ _ is
-    (sum_left outer_even t _ _ eo t_is) (sum_left inner_even u _ _ ei u_is) (difference_left inner_even u _ _ ei u_is) (difference_left outer_even t _ _ eo t_is)
+    (sum_left outer_even t _ _ eo t_is) (sum_left inner_even u _ _ ei u_is)
+    (difference_left inner_even u _ _ ei u_is) (difference_left outer_even t _ _ eo t_is)
 
 -- a sum of a row, with its bias
-biased_is : (x y z : ℤ) → y ≡ int_wrap w32 z → x ≡ int_wrap w32 (pos 4096 *ℤ y +ℤ pos 16842752) → x ≡ int_wrap w32 (pos 4096 *ℤ z +ℤ pos 16842752)
-biased_is x y z ey ex = ex ∙ ap (λ v. int_wrap w32 (pos 4096 *ℤ v +ℤ pos 16842752)) ey ∙ wrapped_inside (pos 4096) (pos 16842752) z
+biased_is : (x y z : ℤ) → y ≡ int_wrap w32 z → x ≡ int_wrap w32 (pos 4096 *ℤ y +ℤ pos 16842752) → x
+    ≡ int_wrap w32 (pos 4096 *ℤ z +ℤ pos 16842752)
+biased_is x y z ey ex = ex ∙ ap (λ v. int_wrap w32 (pos 4096 *ℤ v +ℤ pos 16842752)) ey
+    ∙ wrapped_inside (pos 4096) (pos 16842752) z
 
 both_sum : (x y a b : ℤ) → x ≡ int_wrap w32 a → y ≡ int_wrap w32 b → int_wrap w32 (x +ℤ y) ≡ int_wrap w32 (a +ℤ b)
 both_sum x y a b ex ey = (λ i. int_wrap w32 (ex i +ℤ ey i)) ∙ wrapped_parts a b
 
-both_difference : (x y a b : ℤ) → x ≡ int_wrap w32 a → y ≡ int_wrap w32 b → int_wrap w32 (x -ℤ y) ≡ int_wrap w32 (a -ℤ b)
+both_difference : (x y a b : ℤ) → x ≡ int_wrap w32 a → y ≡ int_wrap w32 b → int_wrap w32 (x -ℤ y)
+    ≡ int_wrap w32 (a -ℤ b)
 both_difference x y a b ex ey = (λ i. int_wrap w32 (ex i -ℤ ey i)) ∙ wrapped_apart a b
 
 -- a value of a row before the last shift
@@ -61,17 +71,21 @@ row_sum s x = int_wrap w32 (joined x (pos 4096 *ℤ even_part s x +ℤ pos 16842
 pub row_is : (s0 s1 s2 s3 outer_sum inner_sum outer_even inner_even outer inner : ℤ) (xs : List ℤ)
     → outer_sum ≡ int_wrap w32 (s0 +ℤ s2) → inner_sum ≡ int_wrap w32 (s0 -ℤ s2)
     → outer ≡ int_wrap w32 (pos 5352 *ℤ s1 +ℤ pos 2217 *ℤ s3) → inner ≡ int_wrap w32 (pos 2217 *ℤ s1 -ℤ pos 5350 *ℤ s3)
-    → outer_even ≡ int_wrap w32 (pos 4096 *ℤ outer_sum +ℤ pos 16842752) → inner_even ≡ int_wrap w32 (pos 4096 *ℤ inner_sum +ℤ pos 16842752)
-    → xs ≡ int_wrap w32 (outer_even +ℤ outer) ∷ int_wrap w32 (inner_even +ℤ inner) ∷ int_wrap w32 (inner_even -ℤ inner) ∷ int_wrap w32 (outer_even -ℤ outer) ∷ []
+    → outer_even ≡ int_wrap w32 (pos 4096 *ℤ outer_sum +ℤ pos 16842752) → inner_even
+    ≡ int_wrap w32 (pos 4096 *ℤ inner_sum +ℤ pos 16842752)
+    → xs ≡ int_wrap w32 (outer_even +ℤ outer) ∷ int_wrap w32 (inner_even +ℤ inner) ∷ int_wrap w32
+    (inner_even -ℤ inner) ∷ int_wrap w32 (outer_even -ℤ outer) ∷ []
     → (x : ℕ) → x < 4 → slice_index_or xs x (pos 0) ≡ row_sum (four s0 s1 s2 s3) x
 unfolding even_part odd_part
 row_is s0 s1 s2 s3 outer_sum inner_sum outer_even inner_even outer inner xs eo ei oo oi bo bi is =
     let o_is = biased_is outer_even outer_sum _ eo bo in
     let i_is = biased_is inner_even inner_sum _ ei bi in
     entry_is xs (row_sum (four s0 s1 s2 s3)) _ _ _ _ is
-    (both_sum outer_even outer _ _ o_is oo) (both_sum inner_even inner _ _ i_is oi) (both_difference inner_even inner _ _ i_is oi) (both_difference outer_even outer _ _ o_is oo)
+    (both_sum outer_even outer _ _ o_is oo) (both_sum inner_even inner _ _ i_is oi)
+    (both_difference inner_even inner _ _ i_is oi) (both_difference outer_even outer _ _ o_is oo)
 
 -- by the first four numbers of a row
-pub row_by_same : (s : ℕ → ℤ) (s0 s1 s2 s3 : ℤ) (x : ℕ) → s0 ≡ s 0 → s1 ≡ s 1 → s2 ≡ s 2 → s3 ≡ s 3 → row_sum (four s0 s1 s2 s3) x ≡ row_sum s x
+pub row_by_same : (s : ℕ → ℤ) (s0 s1 s2 s3 : ℤ) (x : ℕ) → s0 ≡ s 0 → s1 ≡ s 1 → s2 ≡ s 2 → s3 ≡ s 3
+    → row_sum (four s0 s1 s2 s3) x ≡ row_sum s x
 unfolding even_part odd_part
 row_by_same s s0 s1 s2 s3 x e0 e1 e2 e3 = λ i. row_sum (four (e0 i) (e1 i) (e2 i) (e3 i)) x

@@ -15,12 +15,15 @@ pub mod FrameCovers
 pub mod FramesOfFactors
 pub mod ComponentLines
 pub mod CroppedLines
+pub mod GivenRows
 pub mod Greys
+pub mod Growing
 pub mod JoinedLines
 pub mod LinesOfColour
 pub mod Pieces
 pub mod PlaneRows
 pub mod Rows
+pub mod RowsOfBlocks
 pub mod SourceLists
 pub mod SquareFrames
 pub mod Strips

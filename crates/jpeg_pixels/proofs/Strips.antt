@@ -1,9 +1,11 @@
 -- The lines of a row of blocks are written block by block.
-use Rattle.std.proofs.Common.{◌≡◌, ℕ, zero, suc, ◌+◌, ◌-◌, ◌*◌, ◌<◌, ◌≤◌, ◌/◌, ◌%◌, ℤ, List, length, get_or, slice_index, slice_index_or, sym, ap, ◌∙◌, arith}
+use Rattle.std.proofs.Common.{◌≡◌, ℕ, zero, suc, ◌+◌, ◌-◌, ◌*◌, ◌<◌, ◌≤◌, ◌/◌, ◌%◌, ℤ, List, length, get_or}
+use Rattle.std.proofs.Common.{slice_index, slice_index_or, sym, ap, ◌∙◌, arith}
 use Rattle.std.proofs.lemmas.List.FromFn.{fill_by_all}
 use Rattle.std.proofs.lemmas.Bool.{cases_lt}
 use Rattle.std.proofs.Math.Logic.{⊎_elim}
-use Rattle.std.proofs.Math.Nat.{mul_comm, mod-lt, mod-eq_of_lt, mul-le-mul_right, mul-add-div, mul-add-mod_self_left, div-add-mod}
+use Rattle.std.proofs.Math.Nat.{mul_comm, mod-lt, mod-eq_of_lt, mul-le-mul_right, mul-add-div, mul-add-mod_self_left}
+use Rattle.std.proofs.Math.Nat.{div-add-mod}
 use borrow.Rule.Slice.PartMut.{put_mid, mid_of}
 use Rattle.jpeg_pixels.specs.Scaled.{sample_at}
 use Rattle.jpeg_pixels.specs.Planes.{plane_of, plane_sample, strip_of, zero_coefficients}
@@ -16,7 +18,8 @@ pub record HoldsSamples (lines stride columns : ℕ) (at : ℕ → ℕ → ℕ) 
   pub held : (x y : ℕ) → x < columns → y < lines → slice_index strip (y * stride + x) ≡ at x y
 
 -- the place of a block in a row
-pub block_has_room : (s column count room : ℕ) → 1 ≤ s → column < count → room ≡ s * s * count → (s * column + s ≤ s * count) × (s * column ≤ room)
+pub block_has_room : (s column count room : ℕ) → 1 ≤ s → column < count → room ≡ s * s * count
+    → (s * column + s ≤ s * count) × (s * column ≤ room)
 block_has_room s column count room some h is =
     let within : s * column + s ≤ s * count = omega (arith, mul-le-mul_right s h) in
     (within, omega (arith, mul-le-mul_right (s * count) some))
@@ -34,7 +37,8 @@ HoldsSamples-next s stride column k at block_at now new wide room whole same wri
     a : ℕ
     a = s * column
 
-    here : (x y : ℕ) → x < s * (column + 1) → y < s → s * column ≤ x → get_or (put_mid (s * column) k now new) (y * stride + x) 0 ≡ at x y
+    here : (x y : ℕ) → x < s * (column + 1) → y < s → s * column ≤ x
+        → get_or (put_mid (s * column) k now new) (y * stride + x) 0 ≡ at x y
     here x y hx hy le =
         let more : s * (column + 1) ≡ s * column + s = omega arith in
         let place : y * stride + x ≡ s * column + (y * stride + (x - s * column)) = omega arith in
@@ -46,7 +50,8 @@ HoldsSamples-next s stride column k at block_at now new wide room whole same wri
         ∙ ap (λ i. at i y) back
 
     left : (x y : ℕ) → y < s → x < s * column → get_or (put_mid (s * column) k now new) (y * stride + x) 0 ≡ at x y
-    left x zero hy lt = put_tail_below (s * column) k now new (0 * stride + x) room (omega arith) ∙ before.held x 0 lt hy
+    left x zero hy lt = put_tail_below (s * column) k now new (0 * stride + x) room (omega arith)
+        ∙ before.held x 0 lt hy
     left x (suc y) hy lt =
         let across = x + stride - s * column in
         let place : suc y * stride + x ≡ s * column + (y * stride + across) = omega arith in
@@ -60,10 +65,13 @@ HoldsSamples-next s stride column k at block_at now new wide room whole same wri
 -- a block of a row is at its column
 pub block_in_row : (s : ℕ) (table : List ℕ) (blocks : List (List ℤ)) (column : ℕ) (block : List ℤ)
     → block ≡ slice_index_or blocks column zero_coefficients → (x y : ℕ) → x < s → y < s
-    → sample_at s block table x y ≡ plane_sample s table (λ row place. slice_index_or blocks place zero_coefficients) (s * column + x) y
+    → sample_at s block table x y ≡ plane_sample s table (λ row place. slice_index_or blocks place zero_coefficients)
+    (s * column + x) y
 block_in_row s table blocks column block is x y hx hy =
-    let none : x / s ≡ 0 = let below : x / s < 1 = line_lt s 1 x (let e : s * 1 ≡ s = omega arith in omega arith) in omega arith in
-    let place : (s * column + x) / s ≡ column = mul-add-div (let some : 0 < s = omega arith in some) column x ∙ omega (arith, none) in
+    let none : x / s ≡ 0 = let below : x / s < 1 = line_lt s 1 x
+    (let e : s * 1 ≡ s = omega arith in omega arith) in omega arith in
+    let place : (s * column + x) / s ≡ column = mul-add-div (let some : 0 < s = omega arith in some) column x
+    ∙ omega (arith, none) in
     let across : (s * column + x) % s ≡ x = mul-add-mod_self_left s column x ∙ mod-eq_of_lt hx in
     ap (λ (b : List ℤ). sample_at s b table x y) is
     ∙ sym (ap (λ n. sample_at s (slice_index_or blocks n zero_coefficients) table ((s * column + x) % s) (y % s)) place
@@ -71,16 +79,20 @@ block_in_row s table blocks column block is x y hx hy =
     ∙ ap (λ n. sample_at s (slice_index_or blocks column zero_coefficients) table x n) (mod-eq_of_lt hy))
 
 -- all columns
-pub HoldsSamples-all : (s : ℕ) (table : List ℕ) (blocks : List (List ℤ)) (strip : List ℕ) → length strip ≡ s * s * length blocks
-    → HoldsSamples s (s * length blocks) (s * length blocks) (plane_sample s table (λ row place. slice_index_or blocks place zero_coefficients)) strip
+pub HoldsSamples-all : (s : ℕ) (table : List ℕ) (blocks : List (List ℤ)) (strip : List ℕ) → length strip
+    ≡ s * s * length blocks
+    → HoldsSamples s (s * length blocks) (s * length blocks)
+    (plane_sample s table (λ row place. slice_index_or blocks place zero_coefficients)) strip
     → strip ≡ strip_of s table blocks
 unfolding plane_of
 HoldsSamples-all s table blocks strip n holds =
     let stride = s * length blocks in
     let one : s * 1 ≡ s = omega arith in
-    fill_by_all (λ i. plane_sample s table (λ row place. slice_index_or blocks place zero_coefficients) (i % stride) (i / stride)) strip (stride * (s * 1)) 0 (n ∙ omega arith)
+    fill_by_all (λ i. plane_sample s table (λ row place. slice_index_or blocks place zero_coefficients) (i % stride)
+    (i / stride)) strip (stride * (s * 1)) 0 (n ∙ omega arith)
     (λ i h.
     let some : 0 < stride = some-left stride (s * 1) i h in
     let line : i / stride < s = omega (arith, line_lt stride (s * 1) i h, one) in
-    let is : i / stride * stride + i % stride ≡ i = (λ j. mul_comm (i / stride) stride j + i % stride) ∙ div-add-mod i stride in
+    let is : i / stride * stride + i % stride ≡ i = (λ j. mul_comm (i / stride) stride j + i % stride)
+    ∙ div-add-mod i stride in
     ap (λ m. get_or strip m 0) (sym is) ∙ holds.held (i % stride) (i / stride) (mod-lt i some) line)

@@ -1,20 +1,24 @@
 -- Rows and columns of which all but the first number is 0.
-use Rattle.std.proofs.Common.{◌≡◌, ℕ, zero, suc, ◌+◌, ◌*◌, ◌<◌, List, ℤ, pos, negsuc, neg_ℤ, ◌+ℤ◌, ◌*ℤ◌, ◌≤ℤ◌, ◌<ℤ◌, Bool, true, false, ◌&&◌, ◌==◌, unsigned_abs}
+use Rattle.std.proofs.Common.{◌≡◌, ℕ, zero, suc, ◌+◌, ◌*◌, ◌<◌, List, ℤ, pos, negsuc, neg_ℤ, ◌+ℤ◌, ◌*ℤ◌, ◌≤ℤ◌, ◌<ℤ◌}
+use Rattle.std.proofs.Common.{Bool, true, false, ◌&&◌, ◌==◌, unsigned_abs}
 use Rattle.std.proofs.Common.{refl, sym, ap, ◌∙◌, arith, FitsSigned, get_or, ◌/◌}
 use Rattle.std.proofs.Math.Logic.{⊎_elim}
 use Rattle.std.proofs.lemmas.Bool.{cases_lt, eqb-true}
 use Rattle.std.proofs.lemmas.Int.{ints, int_wrap_fits}
 use Rattle.std.specs.Int.{w32, int_shr, int_wrap}
-use Rattle.jpeg_pixels.specs.Samples.{all_below, is_zero_at, is_flat_column, dequantized, transformed, column_value, sample, clamped}
+use Rattle.jpeg_pixels.specs.Samples.{all_below, is_zero_at, is_flat_column, dequantized, transformed, column_value}
+use Rattle.jpeg_pixels.specs.Samples.{sample, clamped}
 use Rattle.jpeg_pixels.proofs.Columns.{flat_value}
 use Rattle.jpeg_pixels.proofs.Sums.{transformed_one}
 
 pub zero_row : (coefficients : List ℤ) (quantization : List ℕ) (x y : ℕ) → x < 8
     → ((k : ℕ) → 0 < k → k < 8 → column_value coefficients quantization y k ≡ pos 0)
-    → sample coefficients quantization x y ≡ clamped (int_shr (int_wrap w32 (pos 4096 *ℤ column_value coefficients quantization y 0 +ℤ pos 16842752)) 17)
+    → sample coefficients quantization x y
+    ≡ clamped (int_shr (int_wrap w32 (pos 4096 *ℤ column_value coefficients quantization y 0 +ℤ pos 16842752)) 17)
 unfolding sample
 zero_row coefficients quantization x y h none =
-    ap (λ z. clamped (int_shr (int_wrap w32 (z +ℤ pos 16842752)) 17)) (transformed_one (column_value coefficients quantization y) x h none)
+    ap (λ z. clamped (int_shr (int_wrap w32 (z +ℤ pos 16842752)) 17))
+    (transformed_one (column_value coefficients quantization y) x h none)
 
 both_true : (a b : Bool) → (a && b) ≡ true → (a ≡ true) × (b ≡ true)
 both_true true true e = (refl, refl)
@@ -31,18 +35,22 @@ none_of : (z : ℤ) → (unsigned_abs z == 0) ≡ true → z ≡ pos 0
 none_of z e = let n : unsigned_abs z ≡ 0 = eqb-true (unsigned_abs z) 0 e in omega (arith, ints, n)
 
 -- below the first row of a flat column each product is 0
-no_product : (coefficients : List ℤ) (quantization : List ℕ) (column k : ℕ) → is_flat_column coefficients column ≡ true → 0 < k → k < 8 → dequantized coefficients quantization k column ≡ pos 0
+no_product : (coefficients : List ℤ) (quantization : List ℕ) (column k : ℕ) → is_flat_column coefficients column
+    ≡ true → 0 < k → k < 8 → dequantized coefficients quantization k column ≡ pos 0
 unfolding dequantized is_flat_column
 no_product coefficients quantization column zero flat some h = absurd (omega arith)
 no_product coefficients quantization column (suc k) flat some h =
-    ap (λ z. z *ℤ pos (get_or quantization (suc k * 8 + column) 0)) (none_of _ (below_true (is_zero_at coefficients column) 7 k flat (omega arith))) ∙ omega (arith, ints)
+    ap (λ z. z *ℤ pos (get_or quantization (suc k * 8 + column) 0))
+    (none_of _ (below_true (is_zero_at coefficients column) 7 k flat (omega arith))) ∙ omega (arith, ints)
 
 -- four times a number, by way of 4096 times
-four_of : (p : ℤ) → neg_ℤ (pos 524288) ≤ℤ p → p <ℤ pos 524288 → int_wrap w32 (pos 4 *ℤ p) ≡ int_shr (int_wrap w32 (pos 4096 *ℤ p +ℤ pos 512)) 10
+four_of : (p : ℤ) → neg_ℤ (pos 524288) ≤ℤ p → p <ℤ pos 524288 → int_wrap w32 (pos 4 *ℤ p)
+    ≡ int_shr (int_wrap w32 (pos 4096 *ℤ p +ℤ pos 512)) 10
 four_of p low high =
     let small : FitsSigned w32 (pos 4 *ℤ p) = omega (arith, ints) in
     let large : FitsSigned w32 (pos 4096 *ℤ p +ℤ pos 512) = omega (arith, ints) in
-    int_wrap_fits w32 (pos 4 *ℤ p) small ∙ sym (ap (λ z. int_shr z 10) (int_wrap_fits w32 (pos 4096 *ℤ p +ℤ pos 512) large) ∙ shifted p)
+    int_wrap_fits w32 (pos 4 *ℤ p) small ∙ sym (ap (λ z. int_shr z 10)
+    (int_wrap_fits w32 (pos 4096 *ℤ p +ℤ pos 512) large) ∙ shifted p)
   where
     shifted : (p : ℤ) → int_shr (pos 4096 *ℤ p +ℤ pos 512) 10 ≡ pos 4 *ℤ p
     shifted (pos n) =
@@ -54,10 +62,15 @@ four_of p low high =
         let d : (4096 * n + 3583) / 1024 ≡ 4 * n + 3 = omega arith in
         ap (λ z. int_shr z 10) e ∙ ap negsuc d ∙ omega (arith, ints)
 
-pub zero_column : (coefficients : List ℤ) (quantization : List ℕ) (row column : ℕ) → row < 8 → is_flat_column coefficients column ≡ true
-    → neg_ℤ (pos 524288) ≤ℤ dequantized coefficients quantization 0 column → dequantized coefficients quantization 0 column <ℤ pos 524288
-    → column_value coefficients quantization row column ≡ int_shr (int_wrap w32 (transformed (λ k. dequantized coefficients quantization k column) row +ℤ pos 512)) 10
+pub zero_column : (coefficients : List ℤ) (quantization : List ℕ) (row column : ℕ) → row < 8
+    → is_flat_column coefficients column ≡ true
+    → neg_ℤ (pos 524288) ≤ℤ dequantized coefficients quantization 0 column
+    → dequantized coefficients quantization 0 column <ℤ pos 524288
+    → column_value coefficients quantization row column
+    ≡ int_shr (int_wrap w32 (transformed (λ k. dequantized coefficients quantization k column) row +ℤ pos 512)) 10
 zero_column coefficients quantization row column h flat low high =
     flat_value coefficients quantization row column flat
     ∙ four_of (dequantized coefficients quantization 0 column) low high
-    ∙ sym (ap (λ z. int_shr (int_wrap w32 (z +ℤ pos 512)) 10) (transformed_one (λ k. dequantized coefficients quantization k column) row h (λ k some hk. no_product coefficients quantization column k flat some hk)))
+    ∙ sym (ap (λ z. int_shr (int_wrap w32 (z +ℤ pos 512)) 10)
+    (transformed_one (λ k. dequantized coefficients quantization k column) row h
+    (λ k some hk. no_product coefficients quantization column k flat some hk)))

@@ -10,3 +10,5 @@ pub mod Upsampling
 pub mod Colour
 pub mod Pictures
 pub mod PicturesView
+pub mod Workers
+pub mod GrowingView

@@ -71,7 +71,8 @@ pub fn zigzag_places_are_inverse()
     ensures back { map (λ place. slice_index zigzag_places place) zigzag ≡ range_with_len 0 64 }
 {}
 
-/// A plane is its rows of blocks, one after the other, at every scale.
+/// A plane is its rows of blocks, one after the other, at every scale. So is one that grows by some
+/// rows of blocks at a time.
 pub fn planes_are_their_rows()
     ensures none { (scale : ℕ) (table : List ℕ) (wide : ℕ) (block_at : ℕ → ℕ → List ℤ) →
         plane_of scale table wide 0 block_at ≡ [] }
@@ -79,6 +80,10 @@ pub fn planes_are_their_rows()
         plane_of scale table wide (high + 1) block_at ≡
         plane_of scale table wide high block_at
         ++ strip_of scale table (map (block_at high) (range_with_len 0 wide)) }
+    ensures joined { (scale : ℕ) (table : List ℕ) (wide high more : ℕ) (block_at : ℕ → ℕ → List ℤ) →
+        plane_of scale table wide (high + more) block_at ≡
+        plane_of scale table wide high block_at
+        ++ plane_of scale table wide more (λ row column. block_at (high + row) column) }
     ensures same { (scale : ℕ) (table : List ℕ) (wide high : ℕ) (f g : ℕ → ℕ → List ℤ) →
         ((row column : ℕ) → row < high → column < wide → f row column ≡ g row column) →
         plane_of scale table wide high f ≡ plane_of scale table wide high g }

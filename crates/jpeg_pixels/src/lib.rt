@@ -5,6 +5,7 @@ pub mod arch;
 mod color_rows;
 #[cfg(test)]
 mod color_tests;
+mod growing_plane;
 pub mod idct;
 pub mod laws;
 mod picture_lines;
@@ -20,4 +21,6 @@ mod upsample_rows;
 mod upsample_tests;
 pub mod upsampler;
 pub mod worker;
+#[cfg(test)]
+mod worker_tests;
 pub mod zigzag;

@@ -1,7 +1,7 @@
 //! Planes of samples: the samples of a component, line by line (T.81, A.1.1 and A.2).
-ghost use Rattle.std.specs.Prelude.{◌≡◌, ℕ, ◌+◌, ◌≤◌, ◌<◌, ◌*◌, ◌++◌, length, slice_index};
-ghost use Rattle.std.specs.Prelude.{OnOk, OnErr};
-ghost use Rattle.jpeg_pixels.specs.Planes.{strip_of, cropped};
+ghost use Rattle.std.specs.Prelude.{◌≡◌, ℕ, ◌+◌, ◌≤◌, ◌<◌, ◌*◌, ◌++◌, OnOk, OnErr};
+ghost use Rattle.std.specs.Prelude.{length, slice_index, slice_index_or};
+ghost use Rattle.jpeg_pixels.specs.Planes.{plane_of, strip_of, zero_coefficients, cropped};
 ghost use Rattle.jpeg_pixels.specs.Scaled.{IsScale};
 
 use crate::idct::dequantize_and_idct_block;
@@ -29,6 +29,36 @@ pub fn append_row(
     plane.resize(start + scale * scale * blocks.len(), 0)?;
     write_strip(scale, &mut plane[start..], blocks, quantization_table);
     Ok(())
+}
+
+// Writes the samples of some rows of blocks, one after the other.
+pub(crate) fn write_strips(
+    scale: usize,
+    strips: &mut [u8],
+    blocks: &[[i16; 64]],
+    blocks_wide: usize,
+    rows: usize,
+    quantization_table: &[u16; 64],
+)
+    requires scale { IsScale scale }
+    requires few { blocks_wide ≤ 65535 }
+    requires few_rows { rows ≤ 255 }
+    requires blocks { length blocks.now ≡ blocks_wide * rows }
+    requires room { length strips.old ≡ scale * blocks_wide * (scale * rows) }
+    ensures { strips.new ≡ plane_of scale quantization_table.now blocks_wide rows
+        (λ row column. slice_index_or blocks.now (row * blocks_wide + column) zero_coefficients) }
+{
+    let size = scale * scale * blocks_wide;
+    for row in 0..rows {
+        let start = row * size;
+        let first = row * blocks_wide;
+        write_strip(
+            scale,
+            &mut strips[start..start + size],
+            &blocks[first..first + blocks_wide],
+            quantization_table,
+        );
+    }
 }
 
 // Writes the samples of a row of blocks.

@@ -135,9 +135,9 @@ fn write_row(sums: &[i32; 4], output: &mut [u8])
 /// 4x4 samples from 0 to 255, with 128 added to each.
 ///
 /// Coefficients and quantization values stand in block order: row `v` and column `u` at
-/// `8 * v + u`. The sample at `(x, y)` goes to byte `y * output_linestride + x` of the output, which
-/// has room for three lines of `output_linestride` bytes and four bytes more. Its other bytes stay
-/// as they are. Sums that are too large for an `i32` wrap.
+/// `8 * v + u`. The sample at `(x, y)` goes to byte `y * output_linestride + x` of the output,
+/// which has room for three lines of `output_linestride` bytes and four bytes more. Its other bytes
+/// stay as they are. Sums that are too large for an `i32` wrap.
 pub fn dequantize_and_idct_block_4x4(
     coefficients: &[i16; 64],
     quantization_table: &[u16; 64],
@@ -170,9 +170,9 @@ fn sample_of_eighths(sum: i32) -> u8
 /// 2x2 samples from 0 to 255, with 128 added to each.
 ///
 /// Coefficients and quantization values stand in block order: row `v` and column `u` at
-/// `8 * v + u`. The sample at `(x, y)` goes to byte `y * output_linestride + x` of the output, which
-/// has room for a line of `output_linestride` bytes and two bytes more. Its other bytes stay as they
-/// are. Sums that are too large for an `i32` wrap.
+/// `8 * v + u`. The sample at `(x, y)` goes to byte `y * output_linestride + x` of the output,
+/// which has room for a line of `output_linestride` bytes and two bytes more. Its other bytes stay
+/// as they are. Sums that are too large for an `i32` wrap.
 pub fn dequantize_and_idct_block_2x2(
     coefficients: &[i16; 64],
     quantization_table: &[u16; 64],

@@ -1,15 +1,147 @@
-//! The picture of several components.
+//! The planes of components, and the picture that is made of them.
 ghost use Rattle.std.specs.Prelude.{◌≡◌, ◌≤◌, List, map, length, Ok, MatchResult};
 ghost use Rattle.jpeg_bits.specs.Reading.{Names};
 ghost use Rattle.jpeg_segments.specs.FrameView.{component_in};
 ghost use Rattle.jpeg_pixels.specs.Pictures.{Source, sources_of, AllCover, image_of};
 ghost use Rattle.jpeg_segments.specs.Frame.{AllHaveFactors};
 
+use crate::growing_plane::GrowingPlane;
 use crate::upsampler::{ColorConvert, Upsampler};
 use jpeg_bits::color_transform::ColorTransform;
 use jpeg_bits::error::Result;
 use jpeg_segments::parser::{Component, Dimensions};
 use std::alloc::Global;
+use std::marker::Model;
+
+/// A component whose plane is to be made at a place of a worker.
+#[derive(Drop)]
+pub struct RowData {
+    /// The place: 0 to 3.
+    pub index: usize,
+    pub component: Component,
+    /// The quantization table in block order: the value of row `v` and column `u` at `8 * v + u`.
+    pub quantization_table: [u16; 64],
+}
+
+/// Makes the planes of up to four components, row by row, as the rows come.
+#[derive(Drop)]
+pub struct ImmediateWorker {
+    alloc: Global,
+    planes: [Option<GrowingPlane>; 4],
+}
+
+impl Model for ImmediateWorker {
+    ghost use Rattle.std.specs.Prelude.{List, Option};
+    ghost use Rattle.jpeg_pixels.specs.Workers.{Work};
+
+    ghost Value = { List (Option Work) };
+
+    ghost view = { λ w. w.planes };
+}
+
+impl ImmediateWorker {
+    ghost use Rattle.std.specs.Prelude.{◌≡◌, ◌<◌, ℕ, ℤ, List, ◌∷◌, [], set, get_or, Some, None};
+    ghost use Rattle.std.specs.Prelude.{Ok, MatchResult, OnOk, OnErr, IfErr};
+    ghost use Rattle.std.specs.declared.vec.Vec.{Vec};
+    ghost use Rattle.std.specs.declared.alloc.Global.{Global};
+    ghost use Rattle.std.specs.Iterator.{Drains, HoldsAlong, IsFinite};
+    ghost use Rattle.jpeg_bits.specs.declared.error.Error.TheVariants.{OutOfMemory};
+    ghost use Rattle.jpeg_segments.specs.FrameView.{component_in};
+    ghost use Rattle.jpeg_pixels.specs.Scaled.{IsScale};
+    ghost use Rattle.jpeg_pixels.specs.Workers.{AreRows, IsRowAt, plane_at, with_row, with_rows};
+    ghost use Rattle.jpeg_pixels.specs.Workers.{work_of};
+
+    /// A worker whose four places hold no plane.
+    pub fn default_in_memory(alloc: Global) -> Result<ImmediateWorker>
+        ensures { result ≡ Ok (None ∷ None ∷ None ∷ None ∷ []) }
+    {
+        Ok(ImmediateWorker {
+            alloc,
+            planes: [None, None, None, None],
+        })
+    }
+
+    /// Starts the plane of a component at a place that holds none, and allocates all of it: each
+    /// sample is 0 until its row comes.
+    ///
+    /// The only error is that no memory is left; nothing has changed then.
+    pub fn start(&mut self, row_data: RowData) -> Result<()>
+        requires place { row_data.index < 4 }
+        requires none_held { get_or self.old row_data.index None ≡ None }
+        requires scale { IsScale row_data.component.dct_scale }
+        ensures ok { OnOk result (self.new ≡ set self.old row_data.index
+            (Some (work_of (component_in row_data.component) row_data.quantization_table))) }
+        ensures err { OnErr result (self.new ≡ self.old) }
+        ensures memory { IfErr result (λ e. e ≡ OutOfMemory) }
+    {
+        let plane = GrowingPlane::new(
+            self.alloc,
+            &row_data.component,
+            row_data.quantization_table,
+        )?;
+        self.planes[row_data.index] = Some(plane);
+        Ok(())
+    }
+
+    /// Appends the samples of a row to the plane at a place: as many rows of blocks as the vertical
+    /// factor of the component says. It allocates nothing, and returns no error.
+    ///
+    /// The row holds the coefficients of its blocks, block by block, from the left and row of
+    /// blocks by row of blocks. Those of a block stand in block order, as its quantization table
+    /// does.
+    pub fn append_row(&mut self, row: (usize, Vec<i16>)) -> Result<()>
+        requires place { row.0 < 4 }
+        requires row { IsRowAt (get_or self.old row.0 None) row.1.items }
+        ensures ok { result ≡ Ok tt }
+        ensures row { self.new ≡ with_row self.old row.0 row.1.items }
+    {
+        let (index, coefficients) = row;
+        self.append(index, &coefficients);
+        Ok(())
+    }
+
+    /// Appends each row that an iterator yields, as `append_row` does. It returns no error.
+    pub fn append_rows<I: Iterator<Item = (usize, Vec<i16>)> + Drop>(
+        &mut self,
+        rows: I,
+    ) -> Result<()>
+        requires can { I.can_next rows }
+        requires ends { IsFinite (I.remaining rows) }
+        requires rows { HoldsAlong I.next_gives rows (AreRows self.old) }
+        ensures ok { result ≡ Ok tt }
+        ensures rows { (given : List (ℕ × Vec ℤ Global)) × Drains I.next_gives rows given
+            × (self.new ≡ with_rows self.old given) }
+    {
+        for (index, coefficients) in rows {
+            self.append(index, &coefficients);
+        }
+        Ok(())
+    }
+
+    fn append(&mut self, index: usize, coefficients: &[i16])
+        requires place { index < 4 }
+        requires row { IsRowAt (get_or self.old index None) coefficients.now }
+        ensures { self.new ≡ with_row self.old index coefficients.now }
+    {
+        if let Some(plane) = &mut self.planes[index] {
+            plane.append(coefficients);
+        }
+    }
+
+    /// Takes the plane at a place: its samples are 0 where no row has come yet. It is empty where
+    /// the place holds none. It allocates nothing, and returns no error.
+    pub fn get_result(&mut self, index: usize) -> Result<Vec<u8>>
+        requires place { index < 4 }
+        ensures plane { MatchResult result
+            (λ plane. plane.items ≡ plane_at (get_or self.old index None)) (λ e. ⊥) }
+        ensures none_left { self.new ≡ set self.old index None }
+    {
+        match self.planes[index].take() {
+            Some(plane) => Ok(plane.into_samples()),
+            None => Ok(Vec::new(self.alloc)),
+        }
+    }
+}
 
 /// The picture of three or four components, of which each has a plane: its lines from above, each
 /// upsampled and converted.

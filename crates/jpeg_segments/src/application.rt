@@ -17,7 +17,7 @@ use std::io::Read;
 /// What a payload says, where there is memory to hold it.
 type Said = std::result::Result<Option<AppData>, AllocError>;
 
-/// The bytes behind the first `count`.
+/// The bytes after the first `count`.
 fn bytes_behind(
     alloc: Global,
     payload: &[u8],
@@ -85,7 +85,7 @@ fn application_13(alloc: Global, payload: &[u8]) -> Said
     }
 }
 
-/// What the payload behind the marker `APP(number)` says.
+/// What the payload after the marker `APP(number)` says.
 #[tactic(auto, unfolding(crate::specs::Application::application_by))]
 fn application_by(alloc: Global, number: u8, payload: &[u8]) -> Said
     ensures { IfOk result (λ said. option_map application_in said ≡ application_by number payload.now) }
@@ -111,7 +111,7 @@ fn pass_over<R: Read + Drop>(
     Ok(None)
 }
 
-/// Passes over `left` bytes behind a transform.
+/// Passes over `left` bytes after a transform.
 fn pass_over_behind<R: Read + Drop>(
     alloc: Global,
     source: &mut Source<R>,
@@ -135,8 +135,8 @@ fn transform_by(number: u8) -> Option<AdobeColorTransform>
     }
 }
 
-/// The payload behind the marker `APP(14)`, where it has `left` bytes and at least twelve: an Adobe segment, whose twelfth byte is the
-/// transform, or none.
+/// The payload after the marker `APP(14)`, where it has `left` bytes and at least twelve: an Adobe
+/// segment, whose twelfth byte is the transform, or none.
 #[tactic(auto, unfolding(crate::specs::Application::adobe_at))]
 fn read_adobe<R: Read + Drop>(
     alloc: Global,
@@ -156,7 +156,7 @@ fn read_adobe<R: Read + Drop>(
     }
 }
 
-/// The payload behind the marker `APP(14)`, of `left` bytes.
+/// The payload after the marker `APP(14)`, of `left` bytes.
 #[tactic(auto, unfolding(crate::specs::Application::application_14))]
 fn read_application_14<R: Read + Drop>(
     alloc: Global,
@@ -172,7 +172,8 @@ fn read_application_14<R: Read + Drop>(
     }
 }
 
-/// The payload behind the marker `APP(number)`, of `left` bytes. It is held only where it may say something.
+/// The payload after the marker `APP(number)`, of `left` bytes. It is held only where it may say
+/// something.
 fn read_payload<R: Read + Drop>(
     alloc: Global,
     source: &mut Source<R>,
@@ -188,7 +189,7 @@ fn read_payload<R: Read + Drop>(
     }
 }
 
-/// The payload behind the marker `APP(number)`, of `left` bytes.
+/// The payload after the marker `APP(number)`, of `left` bytes.
 #[tactic(auto, unfolding(crate::specs::Application::payload_at))]
 fn read_known_payload<R: Read + Drop>(
     alloc: Global,
@@ -218,12 +219,13 @@ fn read_application<R: Read + Drop>(
     }
 }
 
-/// Reads a segment behind the marker `APP(number)` (T.81, B.2.4.6), and tells what it says, where it is known: APP0 of JFIF or AVI1, APP1 of
-/// Exif or XMP, APP2 of an ICC profile, APP13 of Photoshop, and APP14 of Adobe. The data is what stands behind the name;
-/// of an ICC profile, behind its part's number and their count.
+/// Reads a segment after the marker `APP(number)` (T.81, B.2.4.6), and returns what it says, where
+/// that is known: APP0 of JFIF or AVI1, APP1 of Exif or XMP, APP2 of an ICC profile, APP13 of
+/// Photoshop, and APP14 of Adobe. The data is what follows the name, and in an ICC profile the
+/// part's number and the count of the parts.
 ///
-/// Errors: `Format` for another marker, where the length is below 2, and where an Adobe segment names a transform above 2; `Io` where the
-/// bytes end or a read fails; `OutOfMemory`.
+/// Errors: `Format` for another marker, where the length is below 2, and where an Adobe segment
+/// names a transform above 2; `Io` where the bytes end or a read fails; `OutOfMemory`.
 pub fn parse_app<R: Read + Drop>(
     alloc: Global,
     reader: &mut Source<R>,
@@ -240,7 +242,8 @@ pub fn parse_app<R: Read + Drop>(
 
 /// Reads a comment (T.81, B.2.4.5): its bytes, which are the rest of its segment.
 ///
-/// Errors: `Format` where the length is below 2; `Io` where the bytes end or a read fails; `OutOfMemory`.
+/// Errors: `Format` where the length is below 2; `Io` where the bytes end or a read fails;
+/// `OutOfMemory`.
 #[tactic(auto, unfolding(crate::specs::Application::com_at))]
 pub fn parse_com<R: Read + Drop>(alloc: Global, reader: &mut Source<R>) -> Result<Vec<u8>>
     ensures { Answers (λ v. v.items) com_at reader.old result reader.new }
@@ -251,7 +254,8 @@ pub fn parse_com<R: Read + Drop>(alloc: Global, reader: &mut Source<R>) -> Resul
 
 /// Reads a restart interval, in MCUs (T.81, B.2.4.4). 0 means none.
 ///
-/// Errors: `Format` where the length is not 4; `Io` where the bytes end or a read fails; `OutOfMemory`.
+/// Errors: `Format` where the length is not 4; `Io` where the bytes end or a read fails;
+/// `OutOfMemory`.
 #[tactic(auto, unfolding(crate::specs::Application::dri_at))]
 pub fn parse_dri<R: Read + Drop>(alloc: Global, reader: &mut Source<R>) -> Result<u16>
     ensures { Answers (λ n. n) dri_at reader.old result reader.new }

@@ -17,7 +17,8 @@ use jpeg_bits::source::Source;
 use std::alloc::{AllocError, Global};
 use std::io::Read;
 
-/// What stands in front of the components: the precision, the size and the number of components.
+/// The parameters before those of the components: the precision, the size and the number of
+/// components.
 #[derive(Clone, Copy)]
 struct Head {
     precision: u8,
@@ -34,7 +35,7 @@ pub(crate) struct Factors {
     pub quantization: usize,
 }
 
-/// A height of 0 would be told by a later DNL segment.
+/// The size of the frame. A height of 0 would be defined by a later DNL segment.
 #[tactic(auto, unfolding(crate::specs::Frame::size_at))]
 fn read_size<R: Read + Drop>(alloc: Global, source: &mut Source<R>) -> Result<Dimensions>
     ensures answers { Answers (λ d. (d.width, d.height)) size_at source.old result source.new }
@@ -135,7 +136,7 @@ fn is_place(lossless: bool, place: u8) -> bool
     if lossless { place == 0 } else { place <= 3 }
 }
 
-/// The sampling factors and the quantization table's place, behind the identifier.
+/// The sampling factors and the destination of the quantization table, after the identifier.
 #[tactic(auto, unfolding(crate::specs::Frame::parameters_at))]
 fn read_parameters<R: Read + Drop>(
     alloc: Global,
@@ -176,14 +177,14 @@ fn has_identifier(front: &[Factors], identifier: u8) -> bool
         .any(|component| component.identifier == identifier)
 }
 
-/// Whether a component in front has this identifier.
+/// Whether a component in `front` has this identifier.
 fn is_taken(front: &[Factors], identifier: u8) -> bool
     ensures { result ≡ is_taken (map factors_of front.now) identifier }
 {
     has_identifier(front, identifier)
 }
 
-/// The next component, behind those in front.
+/// The next component, after those in `front`.
 #[tactic(auto, unfolding(crate::specs::Frame::factors_at))]
 fn read_factors<R: Read + Drop>(
     alloc: Global,
@@ -202,7 +203,7 @@ fn read_factors<R: Read + Drop>(
     read_parameters(alloc, source, lossless, identifier)
 }
 
-/// So many components.
+/// `count` components.
 fn read_components<R: Read + Drop>(
     alloc: Global,
     source: &mut Source<R>,
@@ -272,11 +273,12 @@ fn read_frame<R: Read + Drop>(
     Ok(frame_of(alloc, number, head, &components)?)
 }
 
-/// Reads a frame header behind the marker `SOF(number)` (T.81, B.2.2): the process, the precision in bits, the size in samples, and the
-/// components with their sizes in samples and in blocks. The number says the process (Table B.1), and the parser takes each.
+/// Reads a frame header after the marker `SOF(number)` (T.81, B.2.2): the process, the precision in
+/// bits, the size in samples, and the components with their sizes in samples and in blocks. The
+/// number says the process (Table B.1), and the parser takes each.
 ///
-/// Errors: `Format` for another marker, and where the header breaks a rule; `Unsupported(DNL)` where the height is 0; `Io` where the bytes
-/// end or a read fails; `OutOfMemory`.
+/// Errors: `Format` for another marker, and where the header breaks a rule; `Unsupported(DNL)`
+/// where the height is 0; `Io` where the bytes end or a read fails; `OutOfMemory`.
 pub fn parse_sof<R: Read + Drop>(
     alloc: Global,
     reader: &mut Source<R>,

@@ -56,8 +56,8 @@ fn read_table<R: Read + Drop>(
     HuffmanTable::new(alloc, counts, &symbols, class)
 }
 
-/// The next table of this class, where `left` bytes are left of the segment: how many bytes it takes with the byte of its class, and the
-/// table.
+/// The next table of this class, where `left` bytes are left of the segment: how many bytes it
+/// takes with the byte of its class, and the table.
 #[tactic(auto, unfolding(crate::specs::HuffmanTables::codes_at))]
 fn read_codes<R: Read + Drop>(
     alloc: Global,
@@ -168,11 +168,13 @@ pub(crate) fn greatest_place(is_baseline: Option<bool>) -> u8
     }
 }
 
-/// Reads the tables of a segment (T.81, B.2.4.2): two lists of four places, for DC and for AC. `is_baseline` tells what the frame is, where
-/// one was read: in a baseline frame a place is 0 or 1, else 0 to 3.
+/// Reads the tables of a segment (T.81, B.2.4.2): two lists of four places, for DC and for AC.
+/// `is_baseline` is of the frame, where one was read: in a baseline frame a place is 0 or 1, else 0
+/// to 3.
 ///
-/// Errors: `Format` where the length, a class, a place, the number of codes or their lengths break a rule, or where 1 to 17 bytes are left
-/// behind the last table; `Io` where the bytes end or a read fails; `OutOfMemory`.
+/// Errors: `Format` where the length, a class, a place, the number of codes or their lengths break
+/// a rule, or where 1 to 17 bytes are left after the last table; `Io` where the bytes end or a read
+/// fails; `OutOfMemory`.
 #[tactic(auto, unfolding(crate::specs::HuffmanTables::dht_at))]
 pub fn parse_dht<R: Read + Drop>(
     alloc: Global,

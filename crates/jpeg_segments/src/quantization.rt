@@ -76,11 +76,11 @@ fn read_placed_table<R: Read + Drop>(
     Ok((size, index, table))
 }
 
-/// Reads the quantization tables of a segment (T.81, B.2.4.1), each in zigzag order, by their places 0 to 3. Of two tables for one place the
-/// later stays.
+/// Reads the quantization tables of a segment (T.81, B.2.4.1), each in zigzag order, by their
+/// places 0 to 3. Of two tables for one place the later stays.
 ///
-/// Errors: `Format` where the length, a precision, a place or a value of 0 breaks a rule; `Io` where the bytes end or a read fails;
-/// `OutOfMemory`.
+/// Errors: `Format` where the length, a precision, a place or a value of 0 breaks a rule; `Io`
+/// where the bytes end or a read fails; `OutOfMemory`.
 #[tactic(auto, unfolding(crate::specs::Quantization::dqt_at))]
 pub fn parse_dqt<R: Read + Drop>(
     alloc: Global,

@@ -13,7 +13,8 @@ use jpeg_bits::source::Source;
 use std::alloc::{AllocError, Global};
 use std::io::Read;
 
-/// A component's place in the frame, the places of its tables, and the blocks that it has in an MCU.
+/// A component's place in the frame, the places of its tables, and the blocks that it has in an
+/// MCU.
 #[derive(Clone, Copy)]
 struct Selector {
     component: usize,
@@ -22,7 +23,7 @@ struct Selector {
     blocks: u16,
 }
 
-/// How many components the scan has, where the length fits them.
+/// The number of components of the scan, where the length is the one that they need.
 #[tactic(auto, unfolding(crate::specs::ScanHeader::count_at))]
 fn read_count<R: Read + Drop>(alloc: Global, source: &mut Source<R>) -> Result<u8>
     ensures answers { Answers (λ n. n) count_at source.old result source.new }
@@ -68,7 +69,7 @@ fn block_count(component: &Component) -> u16
     u16::from(component.horizontal_sampling_factor) * u16::from(component.vertical_sampling_factor)
 }
 
-/// How many blocks the component at a place has in an MCU.
+/// The number of blocks that the component at a place has in an MCU.
 fn blocks_by(components: &[Component], place: usize) -> u16
     requires { place < length components.now }
     ensures { result ≡ blocks_by (map component_in components.now) place }
@@ -107,7 +108,8 @@ fn read_tables<R: Read + Drop>(
     })
 }
 
-/// The next component, whose place in the frame is at least the one named: components stand in the frame's order.
+/// The next component, whose place in the frame is at least `least`: components stand in the order
+/// of the frame.
 #[tactic(auto, unfolding(crate::specs::ScanHeader::selector_at))]
 fn read_selector<R: Read + Drop>(
     alloc: Global,
@@ -129,7 +131,7 @@ fn read_selector<R: Read + Drop>(
     }
 }
 
-/// So many components.
+/// `count` components.
 fn read_selectors<R: Read + Drop>(
     alloc: Global,
     source: &mut Source<R>,
@@ -154,7 +156,7 @@ fn read_selectors<R: Read + Drop>(
     Ok(selectors)
 }
 
-/// How many blocks an MCU has.
+/// The number of blocks of an MCU.
 fn total(selectors: &[Selector]) -> u32
     requires { length selectors.now ≤ 4 }
     ensures { result ≡ sum_by (λ s. s.blocks) selectors.now }
@@ -174,7 +176,8 @@ fn is_mcu(selectors: &[Selector]) -> bool
     selectors.len() <= 1 || total(selectors) <= 10
 }
 
-/// A refinement goes one level down. DC has scans of its own, and the others of one component alone.
+/// A progressive scan (T.81, G.1.1.1) codes the DC coefficients or others: never both, and others
+/// of one component alone. A refinement lowers the level by one.
 fn is_progressive_band(count: usize, first: u8, last: u8, high: u8, low: u8) -> bool
     ensures { result ≡ is_progressive_band count first last high low }
 {
@@ -239,7 +242,7 @@ fn predictor_of(process: CodingProcess, first: u8) -> Predictor
     }
 }
 
-/// The place behind the last coefficient.
+/// The place after the last coefficient.
 fn behind_of(process: CodingProcess, last: u8) -> u8
     requires { last ≤ 63 }
     ensures { result ≡ behind_of process last }
@@ -341,12 +344,14 @@ fn read_band<R: Read + Drop>(
     Ok(scan_of(alloc, frame.coding_process, selectors, band)?)
 }
 
-/// Reads a scan header of a frame (T.81, B.2.3): the places of its components in the frame and of the components' tables, the coefficients
-/// that it codes by their places in zigzag order, the predictor, the levels and the point transform. In a sequential scan all 64 coefficients
-/// are coded, and a last coefficient of 0 is read as 63.
+/// Reads a scan header of a frame (T.81, B.2.3): the places of its components in the frame and of
+/// the components' tables, the coefficients that it codes by their places in zigzag order, the
+/// predictor, the levels and the point transform. In a sequential scan all 64 coefficients are
+/// coded, and a last coefficient of 0 is read as 63.
 ///
-/// Errors: `Format` where the header breaks a rule, names a component that the frame does not have, or names components out of the frame's
-/// order; `Io` where the bytes end or a read fails; `OutOfMemory`.
+/// Errors: `Format` where the header breaks a rule, names a component that the frame does not have,
+/// or names components out of the frame's order; `Io` where the bytes end or a read fails;
+/// `OutOfMemory`.
 #[tactic(auto, unfolding(crate::specs::ScanHeader::sos_at))]
 pub fn parse_sos<R: Read + Drop>(
     alloc: Global,

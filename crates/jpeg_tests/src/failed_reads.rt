@@ -32,15 +32,15 @@ const SEGMENTS: [(&str, &str); 20] = [
     ("DC table", "FFC4 0015 00 00*15 02 0B 00"),
     ("AC table", "FFC4 0014 10 01 00*15 00"),
     ("scan header", "FFDA 0008 01 01 00 00 3F 00"),
-    // The differences +1024, 0, -1024, 0, 0, 0, +1024, 0, 0, and 46 bits behind them. Of what is
-    // read ahead, some blocks leave less than the next category, the next bits of a difference, the
-    // next code of an AC coefficient, or the marker needs.
+    // The differences +1024, 0, -1024, 0, 0, 0, +1024, 0, 0, and 46 bits after them. What is read ahead
+    // runs out before a category, before the bits of a difference, before the code of an AC
+    // coefficient, and before the marker.
     (
         "scan",
         "0000800000100003 FF00 0000800040002000 0800000100 00BF FF00 00*4",
     ),
     ("restart markers", "FFFFFFD0 FFD1"),
-    ("comment behind the scan", "FFFE 0003 43"),
+    ("comment after the scan", "FFFE 0003 43"),
     ("end", "FFD9"),
 ];
 

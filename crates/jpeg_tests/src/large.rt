@@ -8,8 +8,8 @@ use jpeg_decoder::run::run;
 use std::alloc::Global;
 use std::test::Fail;
 
-/// A stream of 1040 by 1016 pixels of 129. Its scan codes a first block of DC 8; all others are the
-/// zeros behind the end: no difference.
+/// A stream of 1040 by 1016 pixels of 129. Its scan codes a first block of DC 8; all others are
+/// zeros after the end of the scan: no difference.
 const LARGE: [&str; 8] = [
     "FFD8",
     "FFDB 0043 00 01*64",
@@ -61,7 +61,7 @@ fn a_large_picture_is_written(rt: HostRuntime) -> Result<(), Fail> {
     Ok(())
 }
 
-/// The stream of a row with one more segment behind its start.
+/// The stream of a row with one more segment after its start.
 fn row_with(alloc: Global, segment: &str) -> Result<Vec<u8>, Fail> {
     let mut stream = bytes(alloc, &["FFD8", segment])?;
     let row = bytes(alloc, &ROW)?;

@@ -38,7 +38,7 @@ const INFO: ImageInfo = ImageInfo {
     coding_process: CodingProcess::DctSequential,
 };
 
-/// Whether what is reported of a segment fits the bytes given: its data where they go on behind it,
+/// Whether what is reported of a segment fits the bytes given: its data where they go on after it,
 /// and nothing where they end within it. Where they end with it, its data may be what there was no
 /// memory for.
 fn fits<T: PartialEq + Drop>(reported: Option<T>, data: T, end: usize, given: usize) -> bool {

@@ -4,8 +4,7 @@ use crate::bytes::bytes;
 use crate::rows::{AC_0, DC_4, END, FRAME, Gives, ONES, SCAN, assert_gives};
 use std::test::Fail;
 
-/// A DC table of one code of one bit, of category 12, which no difference of 8 bits has (T.81,
-/// Table F.1).
+/// A DC table of one code of category 12, which no difference has at 8 bits (T.81, Table F.1).
 const DC_12: &str = "FFC4 0014 00 01 00*15 0C";
 
 const REFUSED: [(&str, [&str; 8], Gives); 6] = [

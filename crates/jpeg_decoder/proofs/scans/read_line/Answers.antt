@@ -13,12 +13,13 @@ returns-in_err-read_turn-clause-turns g c =
     let e = err_from_is_err_and c.from_residual.result c.from_residual.ensures.1 in
     let p = pass_in c.args.scan.now.pass in
     let vias = vias_in 0 c.args.scan.now.components.items in
-    let slot = c.args.slot in
+    let start = c.args.start in
     let l = c.loop-left in
+    let slot = l.spot.slot in
     let now = reached l.interval (arrays_in l.arrays.items) in
     rw (e.1, e.2) (refused_behind (λ (u : Unit {0}). now) (λ (u : Unit {0}). reached c.read_turn.new.interval (arrays_in c.read_turn.new.arrays.items))
-    (turns_from p vias (line_of slot c.args.start c.args.count) (reached c.args.interval.now (arrays_in c.args.arrays.now.items))) (turns_from p vias (line_of slot l.index l.left) now)
-    (turn_from p vias (spot slot l.index) now)
+    (turns_from p vias (line_of start.slot start.index c.args.count) (reached c.args.interval.now (arrays_in c.args.arrays.now.items))) (turns_from p vias (line_of slot l.spot.index l.left) now)
+    (turn_from p vias (spot slot l.spot.index) now)
     c.args.interval.now.decoder l.interval.decoder c.read_turn.new.interval.decoder c.args.source.now l.source c.read_turn.new.source _
-    (λ t f h. line_refused p vias slot l.index l.left now t f c.loop-left-test.true h)
+    (λ t f h. line_refused p vias slot l.spot.index l.left now t f c.loop-left-test.true h)
     l.invariant.turns c.in_err-read_turn.ensures.turn)

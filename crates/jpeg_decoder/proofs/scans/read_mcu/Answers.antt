@@ -61,7 +61,9 @@ returns-clause-mcu g c =
       r.turns.0 ∙ q.0,
       λ k.
           let at = q.1 k in
-          let by = r.turns.1 at.0 in
-          (by.0, mcu_begun p (vias_in 0 cs) n mcu (counted i arrays) (counted j arrays) (upcoming i.decoder c.args.source.now.bytes) (upcoming j.decoder c.begin.new.source.bytes) at.1
-            ∙ mcu_turns p (vias_in 0 cs) mcu (counted j arrays) (reached c.read_parts.new.interval (arrays_in c.read_parts.new.arrays.items)) (upcoming j.decoder c.begin.new.source.bytes) (upcoming c.read_parts.new.interval.decoder c.read_parts.new.source.bytes) by.1),
+          let by = r.turns.1 at.0 in (
+            by.0,
+            mcu_begun p (vias_in 0 cs) n mcu (counted i arrays) (counted j arrays) (upcoming i.decoder c.args.source.now.bytes) (upcoming j.decoder c.begin.new.source.bytes) at.1
+                ∙ mcu_turns p (vias_in 0 cs) mcu (counted j arrays) (reached c.read_parts.new.interval (arrays_in c.read_parts.new.arrays.items)) (upcoming j.decoder c.begin.new.source.bytes) (upcoming c.read_parts.new.interval.decoder c.read_parts.new.source.bytes) by.1,
+          ),
     )

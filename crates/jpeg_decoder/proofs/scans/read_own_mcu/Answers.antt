@@ -62,7 +62,9 @@ returns-clause-mcu g c =
       r.turn.0 ∙ q.0,
       λ k.
           let at = q.1 k in
-          let by = r.turn.1 at.0 in
-          (by.0, mcu_begun p (vias_in 0 cs) n mcu (counted i arrays) (counted j arrays) (upcoming i.decoder c.args.source.now.bytes) (upcoming j.decoder c.begin.new.source.bytes) at.1
-            ∙ mcu_turns p (vias_in 0 cs) mcu (counted j arrays) (reached c.read_turn.new.interval (arrays_in c.read_turn.new.arrays.items)) (upcoming j.decoder c.begin.new.source.bytes) (upcoming c.read_turn.new.interval.decoder c.read_turn.new.source.bytes) (one_turn p (vias_in 0 cs) (spot 0 c.args.index) (reached j arrays) (reached c.read_turn.new.interval (arrays_in c.read_turn.new.arrays.items)) (upcoming j.decoder c.begin.new.source.bytes) (upcoming c.read_turn.new.interval.decoder c.read_turn.new.source.bytes) by.1)),
+          let by = r.turn.1 at.0 in (
+            by.0,
+            mcu_begun p (vias_in 0 cs) n mcu (counted i arrays) (counted j arrays) (upcoming i.decoder c.args.source.now.bytes) (upcoming j.decoder c.begin.new.source.bytes) at.1
+                ∙ mcu_turns p (vias_in 0 cs) mcu (counted j arrays) (reached c.read_turn.new.interval (arrays_in c.read_turn.new.arrays.items)) (upcoming j.decoder c.begin.new.source.bytes) (upcoming c.read_turn.new.interval.decoder c.read_turn.new.source.bytes) (one_turn p (vias_in 0 cs) (spot 0 c.args.index) (reached j arrays) (reached c.read_turn.new.interval (arrays_in c.read_turn.new.arrays.items)) (upcoming j.decoder c.begin.new.source.bytes) (upcoming c.read_turn.new.interval.decoder c.read_turn.new.source.bytes) by.1),
+          ),
     )

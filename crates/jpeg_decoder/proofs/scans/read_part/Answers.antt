@@ -14,31 +14,32 @@ returns-in_err-read_line-clause-turns g c =
     let e = err_from_is_err_and c.from_residual.result c.from_residual.ensures.1 in
     let p = pass_in c.args.scan.now.pass in
     let vias = vias_in 0 c.args.scan.now.components.items in
-    let slot = c.args.slot in
     let l = c.loop-left in
+    let slot = l.spot.slot in
     let wide = wide_in c.args.coded.now in
     let across = across_in c.args.coded.now in
     let now = reached l.interval (arrays_in l.arrays.items) in
     rw (e.1, e.2) (refused_behind (λ (u : Unit {0}). now) (λ (u : Unit {0}). reached c.read_line.new.interval (arrays_in c.read_line.new.arrays.items))
-    (turns_from p vias (part_in slot c.args.start c.args.coded.now) (reached c.args.interval.now (arrays_in c.args.arrays.now.items))) (turns_from p vias (part_of slot wide across l.index l.left) now)
-    (turns_from p vias (line_of slot l.index across) now)
+    (turns_from p vias (part_in c.args.start.slot c.args.start.index c.args.coded.now) (reached c.args.interval.now (arrays_in c.args.arrays.now.items))) (turns_from p vias (part_of slot wide across l.spot.index l.left) now)
+    (turns_from p vias (line_of slot l.spot.index across) now)
     c.args.interval.now.decoder l.interval.decoder c.read_line.new.interval.decoder c.args.source.now l.source c.read_line.new.source _
-    (λ t f h. part_refused p vias slot wide across l.index l.left now t f c.loop-left-test.true h)
+    (λ t f h. part_refused p vias slot wide across l.spot.index l.left now t f c.loop-left-test.true h)
     l.invariant.turns c.in_err-read_line.ensures.turns)
 
 pub loop-left-preserved : goal.loop-left-preserved
 loop-left-preserved g c =
     let p = pass_in c.args.scan.now.pass in
     let vias = vias_in 0 c.args.scan.now.components.items in
-    let slot = c.args.slot in
     let l = c.loop-left in
+    let slot = l.spot.slot in
     let wide = wide_in c.args.coded.now in
     let across = across_in c.args.coded.now in
     let i = l.invariant in
     let q = c.in_ok-read_line.ensures in
-    rw c.from-index.ensures record {
+    rw c.from.ensures record {
       at = omega arith;
-      within = within-more (get_or (sizes_of c.args.arrays.now.items) slot 0) wide across l.index l.left c.loop-left-test.true i.within;
+      slot = i.slot;
+      within = within-more (get_or (sizes_of c.args.arrays.now.items) c.args.start.slot 0) wide across l.spot.index l.left c.loop-left-test.true i.within;
       sizes = q.sizes ∙ i.sizes;
       left = q.left ∙ i.left;
       number = q.number ∙ i.number;
@@ -47,6 +48,6 @@ loop-left-preserved g c =
         λ k.
             let at = i.turns.1 k in
             let by = q.turns.1 at.0 in
-            (by.0, at.1 ∙ part_step p vias slot wide across l.index l.left (reached l.interval (arrays_in l.arrays.items)) (reached c.read_line.new.interval (arrays_in c.read_line.new.arrays.items)) (upcoming l.interval.decoder l.source.bytes) (upcoming c.read_line.new.interval.decoder c.read_line.new.source.bytes) c.loop-left-test.true by.1),
+            (by.0, at.1 ∙ part_step p vias slot wide across l.spot.index l.left (reached l.interval (arrays_in l.arrays.items)) (reached c.read_line.new.interval (arrays_in c.read_line.new.arrays.items)) (upcoming l.interval.decoder l.source.bytes) (upcoming c.read_line.new.interval.decoder c.read_line.new.source.bytes) c.loop-left-test.true by.1),
       );
     }

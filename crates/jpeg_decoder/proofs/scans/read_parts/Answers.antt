@@ -25,4 +25,4 @@ returns-in_err-read_part-clause-turns g c =
     (turns_from p vias (part_in l.slot (first_in row column coded) coded) now)
     c.args.interval.now.decoder l.interval.decoder c.read_part.new.interval.decoder c.args.source.now l.source c.read_part.new.source _
     (λ t f h. slot_refused p vias row column l.slot cs coded now t f inside c.index-coded.ensures h)
-    l.invariant.turns (rw c.first_index-start.ensures.value at c.in_err-read_part.ensures.turns))
+    l.invariant.turns (rw c.first_index.ensures.value at c.in_err-read_part.ensures.turns))

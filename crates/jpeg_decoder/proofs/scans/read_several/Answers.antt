@@ -21,5 +21,5 @@ returns-clause-scan g c =
     let n = c.args.scan.now.restart_interval in
     let frame = frame_in c.args.frame.now in
     let same : arrays_at p (n * mcu_size (components_in cs)) (vias_in 0 cs) (spots_of frame (components_in cs)) (arrays_in vs) ≡ scan_from p (vias_in 0 cs) n (rows_in (components_in cs) frame.mcus_wide frame.mcus_high) (arrays_in vs)
-        = λ i bytes. several-scan frame cs vs p n bytes c.requires.several c.requires.fits c.requires.arrays i in
+    = λ i bytes. several-scan frame cs vs p n bytes c.requires.several c.requires.fits c.requires.arrays i in
     subst (λ (f : List ℕ → Outcome _). Answers (λ m. (arrays_in c.read_interleaved.new.arrays.items, m)) f c.args.source.now c.read_interleaved.result c.read_interleaved.new.source) (sym same) c.read_interleaved.ensures.scan

@@ -25,5 +25,5 @@ returns-clause-scan g c =
     let frame = frame_in c.args.frame.now in
     let grid = c.args.grid in
     let same : arrays_at p (n * mcu_size (components_in cs)) (vias_in 0 cs) (spots_of frame (components_in cs)) (arrays_in vs) ≡ scan_from p (vias_in 0 cs) n (own_rows grid.wide grid.own_wide grid.own_high) (arrays_in vs)
-        = λ i bytes. alone-scan frame cs vs grid p n bytes c.requires.one c.requires.grid c.requires.fits c.requires.arrays i in
+    = λ i bytes. alone-scan frame cs vs grid p n bytes c.requires.one c.requires.grid c.requires.fits c.requires.arrays i in
     subst (λ (f : List ℕ → Outcome _). Answers (λ m. (arrays_in c.read_alone.new.arrays.items, m)) f c.args.source.now c.read_alone.result c.read_alone.new.source) (sym same) c.read_alone.ensures.scan

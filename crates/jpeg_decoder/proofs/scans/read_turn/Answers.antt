@@ -11,29 +11,30 @@ use Rattle.jpeg_decoder.proofs.HeldBlocks.{spot, sizes-set, sizes-long, size-at,
 use Rattle.jpeg_decoder.proofs.scans.read_turn.Goals as goal
 
 pub returns-in_err-read_block-clause-sizes : goal.returns-in_err-read_block-clause-sizes
-returns-in_err-read_block-clause-sizes g c = sizes-set c.args.arrays.now.items c.args.slot c.args.index c.index_mut.result.now c.read_block.new.block c.index_mut.ensures.value
+returns-in_err-read_block-clause-sizes g c = sizes-set c.args.arrays.now.items c.args.spot.slot c.args.spot.index c.index_mut.result.now c.read_block.new.block c.index_mut.ensures.value
 
 pub returns-clause-sizes : goal.returns-clause-sizes
-returns-clause-sizes g c = sizes-set c.args.arrays.now.items c.args.slot c.args.index c.index_mut.result.now c.read_block.new.block c.index_mut.ensures.value
+returns-clause-sizes g c = sizes-set c.args.arrays.now.items c.args.spot.slot c.args.spot.index c.index_mut.result.now c.read_block.new.block c.index_mut.ensures.value
 
 pub returns-clause-turn : goal.returns-clause-turn
 returns-clause-turn g c =
     let cs = c.args.scan.now.components.items in
     let vs = c.args.arrays.now.items in
     let i = c.args.interval.now in
-    let slot = c.args.slot in
-    let index = c.args.index in
+    let slot = c.args.spot.slot in
+    let index = c.args.spot.index in
     let first = slice_index_or i.predictors slot (pos 0) in
     let inside : slot < length vs = omega (arith, c.requires.held.has_slot, sizes-long vs) in
     let within : index < length c.index_mut.result.now.items = omega (arith, c.requires.held.has_index, size-at vs slot c.index_mut.result.now c.requires.held.has_slot c.index_mut.ensures.value) in
-    let q = c.in_ok-read_block.ensures in
-    (
+    let q = c.in_ok-read_block.ensures in (
       q.0,
       λ k.
-          let at = q.1 k in
-          (at.0, turn-read (pass_in c.args.scan.now.pass) cs slot index c.index-coded.result.now vs c.index_mut.result.now c.index_mut-2.result.now i.predictors i.run first
-            c.requires.slot c.index-coded.ensures inside c.index_mut.ensures.value within c.index_mut-2.ensures.value refl
-            c.read_block.new.block c.read_block.new.predictor c.read_block.new.run (upcoming i.decoder c.args.source.now.bytes) (upcoming c.read_block.new.decoder c.read_block.new.source.bytes) at.1),
+          let at = q.1 k in (
+            at.0,
+            turn-read (pass_in c.args.scan.now.pass) cs slot index c.index-coded.result.now vs c.index_mut.result.now c.index_mut-2.result.now i.predictors i.run first
+                c.requires.slot c.index-coded.ensures inside c.index_mut.ensures.value within c.index_mut-2.ensures.value refl
+                c.read_block.new.block c.read_block.new.predictor c.read_block.new.run (upcoming i.decoder c.args.source.now.bytes) (upcoming c.read_block.new.decoder c.read_block.new.source.bytes) at.1,
+          ),
     )
 
 pub returns-in_err-read_block-clause-turn : goal.returns-in_err-read_block-clause-turn
@@ -43,8 +44,8 @@ returns-in_err-read_block-clause-turn g c =
     let cs = c.args.scan.now.components.items in
     let vs = c.args.arrays.now.items in
     let i = c.args.interval.now in
-    let slot = c.args.slot in
-    let index = c.args.index in
+    let slot = c.args.spot.slot in
+    let index = c.args.spot.index in
     let first = slice_index_or i.predictors slot (pos 0) in
     let inside : slot < length vs = omega (arith, c.requires.held.has_slot, sizes-long vs) in
     let within : index < length c.index_mut.result.now.items = omega (arith, c.requires.held.has_index, size-at vs slot c.index_mut.result.now c.requires.held.has_slot c.index_mut.ensures.value) in
@@ -54,5 +55,5 @@ returns-in_err-read_block-clause-turn g c =
     whole whole (block_from p coded.dc.now coded.ac.now first i.run (to_block c.index_mut-2.result.now))
     i.decoder i.decoder c.read_block.new.decoder c.args.source.now c.args.source.now c.read_block.new.source _
     (λ t f h. turn-refused p cs slot index coded vs c.index_mut.result.now c.index_mut-2.result.now i.predictors i.run first
-      c.requires.slot c.index-coded.ensures inside c.index_mut.ensures.value within c.index_mut-2.ensures.value refl t f h)
+    c.requires.slot c.index-coded.ensures inside c.index_mut.ensures.value within c.index_mut-2.ensures.value refl t f h)
     (Leaves-whole whole i.decoder c.args.source.now) c.in_err-read_block.ensures)

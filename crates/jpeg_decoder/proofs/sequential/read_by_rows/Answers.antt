@@ -6,6 +6,7 @@ use Rattle.std.proofs.lemmas.Result.{err_from_is_err_and}
 use Rattle.jpeg_bits.specs.BlockView.{pass_in}
 use Rattle.jpeg_segments.specs.FrameView.{frame_in}
 use Rattle.jpeg_decoder.specs.declared.codings.Coded.{Coded}
+use Rattle.jpeg_decoder.specs.declared.scans.Interval.{Interval}
 use Rattle.jpeg_decoder.specs.Stream.{Coding}
 use Rattle.jpeg_decoder.specs.Scanning.{counted, vias_in}
 use Rattle.jpeg_decoder.specs.Steps.{coding_in}
@@ -24,9 +25,9 @@ returns-in_err-read_strips-clause-planes g c =
     let start = planes_in c.in_ok-planes.planes.items in
     let nothing : start ≡ map (λ (x : Coding). []) (map coding_in cs) = c.in_ok-planes.ensures ∙ ap (λ (l : List Coded). map (λ (x : Coding). []) (map coding_in l)) c.deref-2.ensures.value in
     rw (e.1, e.2) (rows-refused (pass_in c.args.scan.now.pass) (vias_in 0 cs) c.args.scan.now.restart_interval (frame_in c.args.frame.now) (map coding_in cs) start
-      (counted i.result []) i.result.decoder c.args.source.now nothing (i.ensures.start []) i.ensures.decoder
-      (λ (u : Unit {0}). planes_in c.read_strips.new.planes.items) (λ (r : Made). (planes_in r.0.items, r.1)) c.read_strips.new.interval.decoder c.read_strips.new.source _
-      c.in_err-read_strips.ensures.strips)
+    (counted i.result []) i.result.decoder c.args.source.now nothing (ap (λ (r : Interval). counted r []) i.ensures) (ap (λ (r : Interval). r.decoder) i.ensures)
+    (λ (u : Unit {0}). planes_in c.read_strips.new.planes.items) (λ (r : Made). (planes_in r.0.items, r.1)) c.read_strips.new.interval.decoder c.read_strips.new.source _
+    c.in_err-read_strips.ensures.strips)
 
 pub returns-in_err-met-clause-planes : goal.returns-in_err-met-clause-planes
 returns-in_err-met-clause-planes g c =
@@ -36,9 +37,9 @@ returns-in_err-met-clause-planes g c =
     let start = planes_in c.in_ok-planes.planes.items in
     let nothing : start ≡ map (λ (x : Coding). []) (map coding_in cs) = c.in_ok-planes.ensures ∙ ap (λ (l : List Coded). map (λ (x : Coding). []) (map coding_in l)) c.deref-2.ensures.value in
     rw (e.1, e.2) (marker-refused (pass_in c.args.scan.now.pass) (vias_in 0 cs) c.args.scan.now.restart_interval (frame_in c.args.frame.now) (map coding_in cs) start
-      (counted i.result []) i.result.decoder c.args.source.now nothing (i.ensures.start []) i.ensures.decoder
-      (λ (u : Unit {0}). planes_in c.read_strips.new.planes.items) (λ (r : Made). (planes_in r.0.items, r.1)) c.read_strips.new.interval.decoder c.read_strips.new.source
-      c.take_marker.new.source tt _ c.in_ok-read_strips.ensures.strips c.in_err-met.ensures.answers)
+    (counted i.result []) i.result.decoder c.args.source.now nothing (ap (λ (r : Interval). counted r []) i.ensures) (ap (λ (r : Interval). r.decoder) i.ensures)
+    (λ (u : Unit {0}). planes_in c.read_strips.new.planes.items) (λ (r : Made). (planes_in r.0.items, r.1)) c.read_strips.new.interval.decoder c.read_strips.new.source
+    c.take_marker.new.source tt _ c.in_ok-read_strips.ensures.strips c.in_err-met.ensures.answers)
 
 pub returns-clause-planes : goal.returns-clause-planes
 returns-clause-planes g c =
@@ -47,6 +48,6 @@ returns-clause-planes g c =
     let start = planes_in c.in_ok-planes.planes.items in
     let nothing : start ≡ map (λ (x : Coding). []) (map coding_in cs) = c.in_ok-planes.ensures ∙ ap (λ (l : List Coded). map (λ (x : Coding). []) (map coding_in l)) c.deref-2.ensures.value in
     scan-read (pass_in c.args.scan.now.pass) (vias_in 0 cs) c.args.scan.now.restart_interval (frame_in c.args.frame.now) (map coding_in cs) start
-    (counted i.result []) i.result.decoder c.args.source.now nothing (i.ensures.start []) i.ensures.decoder
+    (counted i.result []) i.result.decoder c.args.source.now nothing (ap (λ (r : Interval). counted r []) i.ensures) (ap (λ (r : Interval). r.decoder) i.ensures)
     (λ (u : Unit {0}). planes_in c.read_strips.new.planes.items) (λ (r : Made). (planes_in r.0.items, r.1)) c.read_strips.new.interval.decoder c.read_strips.new.source
     c.take_marker.new.source tt c.in_ok-met.met (c.read_strips.new.planes, c.in_ok-met.met) c.in_ok-read_strips.ensures.strips c.in_ok-met.ensures.answers refl

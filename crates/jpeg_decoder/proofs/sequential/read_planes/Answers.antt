@@ -1,9 +1,9 @@
-use Rattle.std.proofs.Common.{◌≡◌, ◌∙◌, ◌*◌, ap, map, sym, subst, length, List, ℕ}
+use Rattle.std.proofs.Common.{◌≡◌, map, sym, subst, length, List, ℕ}
 use Rattle.std.specs.Prelude.{IfOk}
 use Rattle.jpeg_bits.specs.BlockView.{pass_in}
 use Rattle.jpeg_bits.specs.Reading.{Answers, Outcome}
 use Rattle.jpeg_segments.specs.FrameView.{frame_in}
-use Rattle.jpeg_decoder.specs.Scanning.{components_in, vias_in}
+use Rattle.jpeg_decoder.specs.Scanning.{vias_in}
 use Rattle.jpeg_decoder.specs.Steps.{coding_in}
 use Rattle.jpeg_decoder.specs.Strips.{planes_at, planes_by_rows, planes_in}
 use Rattle.jpeg_decoder.proofs.StripSteps.{lengths-all}

@@ -8,7 +8,6 @@ use Rattle.jpeg_bits.proofs.WholeBlocks.{refused_behind}
 use Rattle.jpeg_segments.specs.FrameView.{frame_in}
 use Rattle.jpeg_decoder.specs.declared.codings.Coded.{Coded}
 use Rattle.jpeg_decoder.specs.Order.{Spot}
-use Rattle.jpeg_decoder.specs.Scans.{Arrays}
 use Rattle.jpeg_decoder.specs.InTurn.{mcus_from}
 use Rattle.jpeg_decoder.specs.McuRows.{rows_of, zero_rows}
 use Rattle.jpeg_decoder.specs.Scanning.{arrays_in, components_in, counted, down_in, sizes_of, vias_in}
@@ -29,8 +28,11 @@ loop-row-init g c =
       lengths = lengths-none cs planes c.requires.planes;
       strips = (
         refl,
-        λ k. (k, ap (λ (rows : List (List (List Spot))). strips_from p (vias_in 0 cs) n (map coding_in cs) rows planes (counted i []) (upcoming i.decoder c.args.source.now.bytes))
-          (rows-of-scan (frame_in c.args.frame.now) cs c.requires.some)),
+        λ k. (
+          k,
+          ap (λ (rows : List (List (List Spot))). strips_from p (vias_in 0 cs) n (map coding_in cs) rows planes (counted i []) (upcoming i.decoder c.args.source.now.bytes))
+              (rows-of-scan (frame_in c.args.frame.now) cs c.requires.some),
+        ),
       );
     }
 
@@ -84,14 +86,13 @@ loop-row-preserved g c =
         q.mcus.0 ∙ l.invariant.strips.0,
         λ k.
             let at = l.invariant.strips.1 k in
-            let by = q.mcus.1 at.0 in
-            (
+            let by = q.mcus.1 at.0 in (
               by.0,
               at.1
-              ∙ strips_step p (vias_in 0 cs) n codings f l.row high planes zeros (counted l.interval []) (counted c.read_mcus.new.interval (arrays_in read))
-                (upcoming l.interval.decoder l.source.bytes) (upcoming c.read_mcus.new.interval.decoder c.read_mcus.new.source.bytes) c.loop-row-test.true none by.1
-              ∙ ap (λ (x : List (List ℕ)). strips_from p (vias_in 0 cs) n codings (map f (range_with_len (l.row + 1) (high - (l.row + 1)))) x (counted c.read_mcus.new.interval [])
-                (upcoming c.read_mcus.new.interval.decoder c.read_mcus.new.source.bytes)) (sym made),
+                  ∙ strips_step p (vias_in 0 cs) n codings f l.row high planes zeros (counted l.interval []) (counted c.read_mcus.new.interval (arrays_in read))
+                  (upcoming l.interval.decoder l.source.bytes) (upcoming c.read_mcus.new.interval.decoder c.read_mcus.new.source.bytes) c.loop-row-test.true none by.1
+                  ∙ ap (λ (x : List (List ℕ)). strips_from p (vias_in 0 cs) n codings (map f (range_with_len (l.row + 1) (high - (l.row + 1)))) x (counted c.read_mcus.new.interval [])
+                  (upcoming c.read_mcus.new.interval.decoder c.read_mcus.new.source.bytes)) (sym made),
             ),
       );
     }

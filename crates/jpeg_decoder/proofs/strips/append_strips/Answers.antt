@@ -1,11 +1,10 @@
-use Rattle.std.proofs.Common.{◌≡◌, ◌∙◌, ◌+◌, ◌*◌, ◌++◌, ap, map, drop, length, ℕ, ℤ, List, sym, arith}
+use Rattle.std.proofs.Common.{◌≡◌, ◌∙◌, ◌++◌, ap, map, length, ℤ, List, sym, arith}
 use Rattle.std.specs.Vec.{with_items}
 use Rattle.jpeg_bits.specs.BlockView.{to_block}
 use Rattle.jpeg_decoder.specs.Scanning.{down_in}
 use Rattle.jpeg_decoder.specs.Steps.{coding_in}
 use Rattle.jpeg_decoder.specs.Strips.{samples_of}
 use Rattle.std.proofs.lemmas.List.{with_items_is}
-use Rattle.jpeg_decoder.proofs.HeldBlocks.{Held}
 use Rattle.jpeg_decoder.proofs.RowBuffers.{planes-long, row-size, planes-next, planes-all, sizes-put, rest-put}
 use Rattle.jpeg_decoder.proofs.strips.append_strips.Goals as goal
 
@@ -47,7 +46,7 @@ loop-slot-preserved c =
           c.index_mut.result.now c.append_strip.new.plane c.loop-slot-test.true c.index-codings-slot.is l.invariant.rest c.index_mut-in-loop-slot.ensures.value
           l.invariant.planes c.index_mut.ensures.value
           (c.in_ok-append_strip.ensures
-            ∙ ap (λ (x : List (List ℤ)). c.index_mut.result.now.items ++ samples_of (down_in c.index-codings-slot.result) (coding_in c.index-codings-slot.result) (map to_block x)) c.deref_mut.ensures.value);
+          ∙ ap (λ (x : List (List ℤ)). c.index_mut.result.now.items ++ samples_of (down_in c.index-codings-slot.result) (coding_in c.index-codings-slot.result) (map to_block x)) c.deref_mut.ensures.value);
     }
 
 pub returns-clause-planes : goal.returns-clause-planes

@@ -1,4 +1,4 @@
-use Rattle.std.proofs.Common.{◌≡◌, ◌∙◌, ap, set, get_or, length, replicate, [], sym, List, ℤ, pos, refl, arith}
+use Rattle.std.proofs.Common.{◌∙◌, ap, set, length, replicate, [], sym, List, ℤ, pos, arith}
 use Rattle.std.proofs.lemmas.List.{length-replicate, get_or-replicate}
 use Rattle.jpeg_decoder.proofs.InPlace.{patched-next, patched-all}
 use Rattle.jpeg_decoder.proofs.strips.clear_blocks.Goals as goal

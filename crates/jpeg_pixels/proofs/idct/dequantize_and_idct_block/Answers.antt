@@ -1,4 +1,4 @@
-use Rattle.std.proofs.Common.{◌≡◌, arith, sym}
+use Rattle.std.proofs.Common.{◌≡◌, arith}
 use Rattle.jpeg_pixels.proofs.AtScales.{at_8, at_4, at_2, at_1}
 use Rattle.jpeg_pixels.proofs.idct.dequantize_and_idct_block.Goals as goal
 

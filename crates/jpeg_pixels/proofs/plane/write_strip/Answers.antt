@@ -1,4 +1,4 @@
-use Rattle.std.proofs.Common.{◌≡◌, ◌+◌, ◌-◌, ◌*◌, ◌≤◌, length, slice_index_or, [], arith, subst}
+use Rattle.std.proofs.Common.{◌≡◌, ◌-◌, ◌*◌, ◌≤◌, length, slice_index_or, [], arith, subst}
 use Rattle.std.proofs.lemmas.List.{get_or_default}
 use Rattle.jpeg_pixels.specs.Scaled.{sample_at}
 use Rattle.jpeg_pixels.specs.Planes.{plane_sample, zero_coefficients}
@@ -18,7 +18,8 @@ loop-column-preserved c =
     HoldsSamples-next s (s * length blocks) column (length strip - s * column)
     (plane_sample s table (λ row place. slice_index_or blocks place zero_coefficients)) (sample_at s block table)
     strip c.dequantize_and_idct_block.new.output place.0 place.1 (omega arith)
-    (block_in_row s table blocks column block (get_or_default blocks column [] zero_coefficients c.loop-column-test.true))
+    (block_in_row s table blocks column block (get_or_default blocks column [] zero_coefficients
+    c.loop-column-test.true))
     c.dequantize_and_idct_block.ensures c.loop-column.invariant
 
 pub returns : goal.returns
@@ -28,5 +29,6 @@ returns c =
     let all : c.loop-column.column ≡ length blocks = omega arith in
     HoldsSamples-all s c.args.quantization_table.now blocks c.loop-column.strip (omega arith)
     (subst (λ n. HoldsSamples s (s * length blocks) (s * n)
-    (plane_sample s c.args.quantization_table.now (λ row place. slice_index_or blocks place zero_coefficients)) c.loop-column.strip)
+    (plane_sample s c.args.quantization_table.now (λ row place. slice_index_or blocks place zero_coefficients))
+    c.loop-column.strip)
     all c.loop-column.invariant)

@@ -19,5 +19,6 @@ returns c =
     let inner_down = simp to_z-of_z at c.rounded-2.ensures in
     let joined = simp (to_z-of_z w32 c.rounded.result f2, to_z-of_z w32 c.rounded-2.result f3) at c.join.ensures in
     column_is c.args.s0 c.args.s1 c.args.s2 c.args.s3 _ _ _ _ _ _ c.join.result
-    (four_times_sum c.args.s0 c.args.s2 c.ranges.s0 c.ranges.s2) (four_times_difference c.args.s0 c.args.s2 c.ranges.s0 c.ranges.s2)
+    (four_times_sum c.args.s0 c.args.s2 c.ranges.s0 c.ranges.s2)
+    (four_times_difference c.args.s0 c.args.s2 c.ranges.s0 c.ranges.s2)
     outer inner outer_down inner_down joined

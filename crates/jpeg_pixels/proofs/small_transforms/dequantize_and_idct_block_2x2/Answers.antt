@@ -26,7 +26,8 @@ returns c =
     let h1 = simp (b0, b1, b2, b3, residue_add, residue_sub, read_residue) at c.sample_of_eighths-2.ensures in
     let h2 = simp (b0, b1, b2, b3, residue_add, residue_sub, read_residue) at c.sample_of_eighths-3.ensures in
     let h3 = simp (b0, b1, b2, b3, residue_add, residue_sub, read_residue) at c.sample_of_eighths-4.ensures in
-    four_samples c.args.output_linestride (sample_of_2 c.args.coefficients.now c.args.quantization_table.now) c.args.output.now
+    four_samples c.args.output_linestride (sample_of_2 c.args.coefficients.now c.args.quantization_table.now)
+    c.args.output.now
     _ _ _ _ c.requires.wide c.requires.room
     (h0 ∙ sum_both s _ _ _ _ e0 e1 e2 e3) (h1 ∙ sum_right s _ _ _ _ e0 e1 e2 e3)
     (h2 ∙ sum_down s _ _ _ _ e0 e1 e2 e3) (h3 ∙ sum_across s _ _ _ _ e0 e1 e2 e3)

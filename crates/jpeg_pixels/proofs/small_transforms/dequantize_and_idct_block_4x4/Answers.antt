@@ -1,4 +1,4 @@
-use Rattle.std.proofs.Common.{◌≡◌, ◌≤◌, ◌*◌, ◌-◌, ℤ, pos, length, slice_index_or, arith, rules, FitsSigned, ap, ◌∙◌}
+use Rattle.std.proofs.Common.{◌≤◌, ◌*◌, ◌-◌, pos, length, slice_index_or, arith, rules, FitsSigned, ap, ◌∙◌}
 use Rattle.std.proofs.Math.Nat.{mul-le-mul_right}
 use Rattle.std.proofs.lemmas.Int.{to_z-of_z}
 use Rattle.std.specs.Int.{w32, int_shr}
@@ -22,10 +22,13 @@ loop-y-preserved c =
     let f1 : FitsSigned w32 (slice_index_or c.transform_column-column_1.result y (pos 0)) = search rules in
     let f2 : FitsSigned w32 (slice_index_or c.transform_column-column_2.result y (pos 0)) = search rules in
     let f3 : FitsSigned w32 (slice_index_or c.transform_column-column_3.result y (pos 0)) = search rules in
-    WritesBlock-next 4 y stride (sample_of_4 coefficients quantization) c.args.output.now c.loop-y.output c.write_row.new.output (length c.loop-y.output - y * stride)
+    WritesBlock-next 4 y stride (sample_of_4 coefficients quantization) c.args.output.now c.loop-y.output
+    c.write_row.new.output (length c.loop-y.output - y * stride)
     c.requires.wide room (omega arith)
     (λ x hx. c.write_row.ensures.inside x hx ∙ ap (λ z. clamped (int_shr z 17)) (c.row_sums-sums.ensures x hx
     ∙ row_by_same (column_of_4 coefficients quantization y) _ _ _ _ x
-    (to_z-of_z w32 _ f0 ∙ c.transform_column-column_0.ensures y h) (to_z-of_z w32 _ f1 ∙ c.transform_column-column_1.ensures y h)
-    (to_z-of_z w32 _ f2 ∙ c.transform_column-column_2.ensures y h) (to_z-of_z w32 _ f3 ∙ c.transform_column-column_3.ensures y h)))
+    (to_z-of_z w32 _ f0 ∙ c.transform_column-column_0.ensures y h)
+    (to_z-of_z w32 _ f1 ∙ c.transform_column-column_1.ensures y h)
+    (to_z-of_z w32 _ f2 ∙ c.transform_column-column_2.ensures y h)
+    (to_z-of_z w32 _ f3 ∙ c.transform_column-column_3.ensures y h)))
     c.write_row.ensures.others c.loop-y.invariant

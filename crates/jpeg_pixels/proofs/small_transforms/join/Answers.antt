@@ -1,5 +1,5 @@
 use Rattle.std.proofs.Common.{refl}
-use Rattle.jpeg_pixels.proofs.Residues.{residue_bits, wrapping, wrapped_list4}
+use Rattle.jpeg_pixels.proofs.Residues.{residue_bits, wrapping}
 use Rattle.jpeg_pixels.proofs.small_transforms.join.Goals as goal
 
 pub returns : goal.returns

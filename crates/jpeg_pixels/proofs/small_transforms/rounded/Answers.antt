@@ -1,5 +1,4 @@
-use Rattle.std.proofs.Common.{ap, lit<, ◌∙◌}
-use Rattle.std.specs.Int.{int_shr}
+use Rattle.std.proofs.Common.{lit<}
 use Rattle.jpeg_pixels.proofs.Residues.{wrapped_more, shifted_back}
 use Rattle.jpeg_pixels.proofs.small_transforms.rounded.Goals as goal
 

@@ -17,5 +17,6 @@ returns c =
     let inner = simp to_z-of_z at c.odd_sums-outer.ensures.inner in
     let joined = simp to_z-of_z at c.join.ensures in
     row_is c.args.s0 c.args.s1 c.args.s2 c.args.s3 _ _ _ _ _ _ c.join.result
-    (wrapped_sum c.args.s0 c.args.s2 c.ranges.s0 c.ranges.s2) (wrapped_difference c.args.s0 c.args.s2 c.ranges.s0 c.ranges.s2)
+    (wrapped_sum c.args.s0 c.args.s2 c.ranges.s0 c.ranges.s2)
+    (wrapped_difference c.args.s0 c.args.s2 c.ranges.s0 c.ranges.s2)
     outer inner c.biased.ensures c.biased-2.ensures joined

@@ -9,7 +9,7 @@ use Rattle.jpeg_segments.specs.Frame.{Frame}
 use Rattle.jpeg_decoder.specs.declared.state.State.{State}
 use Rattle.jpeg_decoder.specs.Steps.{turn_of}
 use Rattle.jpeg_decoder.proofs.Refusals.{short-step, told-err, never-met}
-use Rattle.jpeg_decoder.proofs.Turns.{segments-stop, segments-refused, segments-end, segments-next, told-stop, told-refused, told-end, told-next, turn-takes, within-end, within-next, within-none}
+use Rattle.jpeg_decoder.proofs.Turns.{not-framed, segments-stop, segments-refused, segments-end, segments-next, told-stop, told-refused, told-end, told-next, turn-takes, within-end, within-next, within-none}
 use Rattle.jpeg_decoder.proofs.state.State.read.Given.{Over}
 use Rattle.jpeg_decoder.proofs.state.State.read.Goals as goal
 use Rattle.jpeg_decoder.proofs.state.State.read.Goals.{else-loop-test, then-loop-test+else-is_read_for+in_ok-step+else-step+else-counter-lt18446744073709551615}
@@ -127,6 +127,8 @@ loop-preserved g c =
           omega (arith, c.loop.invariant.took k, less);
       short = λ _. short-step c.loop.counter c.loop.met c.loop.source c.args.source.now c.loop.invariant.short c.loop.invariant.first c.in_ok-step.ensures.short;
       stays = λ h. stays-on c.loop.self c.read_turn.new.self c.args.self.now (c.loop.invariant.stays h) c.in_ok-step.ensures.stays h;
+      sound = c.in_ok-step.ensures.sound c.loop.invariant.sound;
+      unread = λ h _. c.in_ok-step.ensures.unread (not-framed c.args.header found.frame (sym c.if-is_read_for.ensures) h);
       first = λ e. absurd (omega arith);
     }
 

@@ -5,6 +5,7 @@ use Rattle.jpeg_decoder.specs.declared.state.Before.TheVariants.{Elsewhere}
 use Rattle.jpeg_decoder.specs.Stream.{segments_at, told_at, told_within}
 use Rattle.jpeg_decoder.specs.Seen.{found_in}
 use Rattle.jpeg_decoder.specs.Steps.{is_restart}
+use Rattle.jpeg_decoder.specs.Sound.{IsSound, IsUnread}
 use Rattle.jpeg_decoder.proofs.state.State.read.Given as goal
 
 abbrev pub invariant-loop : goal.invariant-loop
@@ -16,5 +17,7 @@ invariant-loop g l = record {
   took : Took l.fn.source l.counter l.source;
   short : 0 < l.counter → IsShort l.fn.source;
   stays : is_some (found_in l.fn.self).frame ≡ true → (found_in l.self).frame ≡ (found_in l.fn.self).frame;
+  sound : IsSound (found_in l.self);
+  unread : l.fn.header ≡ true → (found_in l.fn.self).frame ≡ None → IsUnread (found_in l.self);
   first : l.counter ≡ 0 → (l.met ≡ None) × (l.source ≡ l.fn.source);
 }

@@ -2,6 +2,7 @@ use Rattle.std.proofs.Common.{sym, refl}
 use Rattle.jpeg_segments.specs.FrameView.{frame_in}
 use Rattle.jpeg_decoder.specs.Seen.{found_in}
 use Rattle.jpeg_decoder.proofs.SegmentParts.{no-frame, frame-read}
+use Rattle.jpeg_decoder.proofs.Soundness.{sound-framed}
 use Rattle.jpeg_decoder.proofs.state.State.read_frame.Goals as goal
 
 pub returns-clause-reads : goal.returns-clause-reads
@@ -12,3 +13,8 @@ returns-clause-reads g c =
           let at = a.1 k in
           (at.0, frame-read c.args.number (found_in c.args.self.now) c.args.source.now.bytes c.parse_sof.new.reader.bytes (frame_in c.in_ok-frame.frame) (no-frame c.args.self.now.frame (sym c.if-is_some.ensures)) at.1 c.in_ok-check_frame.ensures),
     )
+
+pub returns-clause-sound : goal.returns-clause-sound
+returns-clause-sound g c sound =
+    sound-framed (found_in c.args.self.now) (frame_in c.in_ok-frame.frame) sound
+    (no-frame c.args.self.now.frame (sym c.if-is_some.ensures)) c.in_ok-frame.ensures.made c.in_ok-check_frame.ensures

@@ -1,0 +1,328 @@
+-- The planes of a frame's components at the end of an image, one after the other.
+use Rattle.std.proofs.Common.{◌≡◌, ◌<◌, ◌≤◌, ℕ, zero, suc, ◌+◌, ◌*◌, ℤ, Bool, true, false, List, [], ◌∷◌, ◌++◌, refl, sym, ap, ◌∙◌, subst, length, get_or, set, map, drop, drop_of_length-le, arith, Option, Some, None, Result, Ok, Err}
+use Rattle.std.specs.Prelude.{◌==◌, ◌||◌, ◌&&◌, option_map, slice_index_or}
+use Rattle.std.specs.List.{AllByRecursion}
+use Rattle.std.proofs.Math.Logic.{inl, inr}
+use Rattle.std.proofs.lemmas.Bool.{eqb-true}
+use Rattle.std.specs.declared.alloc.Global.{Global}
+use Rattle.std.specs.declared.vec.Vec.{Vec}
+use Rattle.std.proofs.Math.Bool.{cond}
+use Rattle.std.proofs.lemmas.List.{append_assoc, append-nil, drop_more, drop-set-lt, drop-drop, get_or-drop, get_or-map, length-drop, length-map, map-set}
+use Rattle.jpeg_bits.specs.Passes.{Block}
+use Rattle.jpeg_bits.specs.Reading.{Fault, Malformed, Names, ◌>>=◌}
+use Rattle.jpeg_bits.specs.declared.error.Error.{Error}
+use Rattle.jpeg_bits.proofs.Loops.{Names-through}
+use Rattle.jpeg_segments.specs.Frame.{Frame, Component}
+use Rattle.jpeg_segments.specs.Scales.{component_at, frame_at, is_scale}
+use Rattle.jpeg_pixels.specs.Pictures.{AreWhole}
+use Rattle.jpeg_pixels.specs.Scaled.{IsScale}
+use Rattle.jpeg_decoder.specs.EndPlanes.{AreBlocksOf, blocks_if, is_held, plane_or}
+use Rattle.jpeg_decoder.specs.InTurn.{AreArrays}
+use Rattle.jpeg_decoder.specs.Scanning.{arrays_in, blocks_in}
+use Rattle.jpeg_decoder.specs.Scans.{Arrays, zero_arrays}
+use Rattle.jpeg_decoder.specs.Sound.{ArePlanes, IsDecodedFrame, IsPlaneOf, IsSound}
+use Rattle.jpeg_decoder.proofs.Soundness.{count-few, decoded-count}
+use Rattle.jpeg_decoder.specs.Stream.{Found, arrays_before, is_progressive, needed, plane_at_end, plane_by, planes_from}
+
+-- ---- what is left after some places
+
+-- A place that is set leaves what is after it.
+pub rest-kept : (held : List (Vec (List ℤ) Global)) (place : ℕ) (v : Vec (List ℤ) Global)
+    → drop (place + 1) (arrays_in (set held place v)) ≡ drop (place + 1) (arrays_in held)
+rest-kept held place v =
+    ap (drop (place + 1)) (map-set blocks_in held place v)
+    ∙ drop-set-lt (place + 1) (arrays_in held) place (blocks_in v) (omega arith)
+
+pub planes-kept : (planes : List (Option (Vec ℕ Global))) (place : ℕ) (p : Option (Vec ℕ Global))
+    → drop (place + 1) (map (λ q. option_map (λ v. v.items) q) (set planes place p))
+    ≡ drop (place + 1) (map (λ q. option_map (λ v. v.items) q) planes)
+planes-kept planes place p =
+    ap (drop (place + 1)) (map-set (λ (q : Option (Vec ℕ Global)). option_map (λ v. v.items) q) planes place p)
+    ∙ drop-set-lt (place + 1) (map (λ (q : Option (Vec ℕ Global)). option_map (λ v. v.items) q) planes) place
+    (option_map (λ v. v.items) p) (omega arith)
+
+-- Lists that are the same from a place on are so there, and from the next on.
+pub same-at : {A : Type 0} (xs ys : List A) (i : ℕ) (d : A) → drop i xs ≡ drop i ys → get_or xs i d ≡ get_or ys i d
+same-at xs ys i d e =
+    let n : i + 0 ≡ i = omega arith in
+    let a : get_or xs (i + 0) d ≡ get_or ys (i + 0) d = sym (get_or-drop i xs 0 d) ∙ (ap (λ (l : List _). get_or l 0 d) e ∙ get_or-drop i ys 0 d) in
+    subst (λ (k : ℕ). get_or xs k d ≡ get_or ys k d) n a
+
+pub same-next : {A : Type 0} (xs ys : List A) (i : ℕ) → drop i xs ≡ drop i ys → drop (i + 1) xs ≡ drop (i + 1) ys
+same-next xs ys i e =
+    sym (drop-drop 1 i xs) ∙ (ap (drop 1) e ∙ drop-drop 1 i ys)
+
+pub same-within : {A : Type 0} (xs ys : List A) (i : ℕ) → drop i xs ≡ drop i ys → i < length ys → i < length xs
+same-within xs ys i e h = omega (arith, length-drop i xs, length-drop i ys, ap length e)
+
+-- an element by what a caller sees of it
+pub mapped-or : {A B : Type 0} (f : A → B) (xs : List A) (i : ℕ) (x d : A) (e : B) → i < length xs → x ≡ get_or xs i d
+    → f x ≡ get_or (map f xs) i e
+mapped-or f xs i x d e h is = ap f is ∙ sym (get_or-map f xs i d e h)
+
+pub mapped-within : {A B : Type 0} (f : A → B) (xs : List A) (i : ℕ) → i < length xs → i < length (map f xs)
+mapped-within f xs i h = omega (arith, length-map xs f, h)
+
+pub none-left : {A B : Type 0} (f : A → B) (xs : List A) (i : ℕ) → length xs ≤ i → drop i (map f xs) ≡ []
+none-left f xs i h = drop_of_length-le (map f xs) (omega (arith, length-map xs f, h))
+
+-- ---- what is there of a component
+
+pub at-end : (found : Found) (frame : Frame) (place : ℕ) (c : Component)
+    → plane_at_end found frame place c
+    ≡ plane_or c (slice_index_or found.quantization c.factors.quantization None) (slice_index_or found.planes place None)
+    (blocks_if (is_held found frame) found.held place)
+unfolding plane_at_end
+at-end found frame place c = go (slice_index_or found.planes place None) (is_held found frame)
+  where
+    go : (o : Option (List ℕ)) (b : Bool)
+        → elim o as (λ _. Result (List ℕ) Fault) [
+          | Some plane ↦ Ok plane
+          | None ↦ elim b as (λ _. Result (List ℕ) Fault) [
+            | true ↦ needed (slice_index_or found.quantization c.factors.quantization None) >>= (λ quantization. Ok (plane_by c quantization (get_or found.held place [])))
+            | false ↦ Err Malformed
+          ]
+        ]
+        ≡ plane_or c (slice_index_or found.quantization c.factors.quantization None) o (blocks_if b found.held place)
+    go (Some plane) b = refl
+    go None true = refl
+    go None false = refl
+
+-- ---- in turn
+
+abbrev pub others-after : List (List ℕ) → List (List ℕ) → Result (List (List ℕ)) Fault
+others-after front others = Ok (front ++ others)
+
+pub planes-none : (o : Result (List (List ℕ)) Fault) → o ≡ (o >>= others-after [])
+planes-none (Ok planes) = refl
+planes-none (Err fault) = refl
+
+pub planes-more : (found : Found) (frame : Frame) (place : ℕ) (c : Component) (more : List Component)
+    (front : List (List ℕ)) (plane : List ℕ) (whole : Result (List (List ℕ)) Fault)
+    → whole ≡ (planes_from found frame place (c ∷ more) >>= others-after front)
+    → plane_at_end found frame place c ≡ Ok plane
+    → whole ≡ (planes_from found frame (place + 1) more >>= others-after (front ++ plane ∷ []))
+unfolding planes_from
+planes-more found frame place c more front plane whole e h =
+    e ∙ go (plane_at_end found frame place c) (planes_from found frame (place + 1) more) h
+  where
+    go : (o : Result (List ℕ) Fault) (r : Result (List (List ℕ)) Fault) → o ≡ Ok plane
+        → (o >>= (λ (p : List ℕ). r >>= (λ (others : List (List ℕ)). Ok (p ∷ others))) >>= others-after front)
+        ≡ (r >>= others-after (front ++ plane ∷ []))
+    go (Err fault) r k = absurd (let n : ⊥ = cc in n)
+    go (Ok p) (Err fault) k = refl
+    go (Ok p) (Ok others) k =
+        let same : p ≡ plane = cc in
+        rw (same) (ap (λ (l : List (List ℕ)). Ok l) (sym (append_assoc front (plane ∷ []) others)))
+
+pub planes-failed : (found : Found) (frame : Frame) (place : ℕ) (c : Component) (more : List Component)
+    (front : List (List ℕ)) (error : Error) (whole : Result (List (List ℕ)) Fault)
+    → whole ≡ (planes_from found frame place (c ∷ more) >>= others-after front)
+    → Names error (plane_at_end found frame place c) → Names error whole
+unfolding planes_from
+planes-failed found frame place c more front error whole e n =
+    Names-through error (plane_at_end found frame place c) whole
+    (λ f h. e ∙ go (plane_at_end found frame place c) (planes_from found frame (place + 1) more) f h) n
+  where
+    go : (o : Result (List ℕ) Fault) (r : Result (List (List ℕ)) Fault) (f : Fault) → o ≡ Err f
+        → (o >>= (λ (p : List ℕ). r >>= (λ (others : List (List ℕ)). Ok (p ∷ others))) >>= others-after front) ≡ Err f
+    go (Ok p) r f k = absurd (let n : ⊥ = cc in n)
+    go (Err fault) r f k = cc
+
+pub planes-all : (found : Found) (frame : Frame) (place : ℕ) (left : List Component) (front : List (List ℕ))
+    (whole : Result (List (List ℕ)) Fault) → left ≡ []
+    → whole ≡ (planes_from found frame place left >>= others-after front) → whole ≡ Ok front
+unfolding planes_from
+planes-all found frame place left front whole n e =
+    e ∙ (rw (n, planes_from) (ap (λ (l : List (List ℕ)). Ok l) (append-nil front)))
+
+-- ---- all blocks
+
+-- what so many planes make whole, with those after them
+abbrev pub AreWholeWith : List Component → ℕ → List (List ℕ) → Type 0
+AreWholeWith cs place front = (others : List (List ℕ)) → AreWhole (drop place cs) others → AreWhole cs (front ++ others)
+
+pub whole-none : (cs : List Component) → AreWholeWith cs 0 []
+whole-none cs others h = h
+
+pub whole-more : (cs : List Component) (place : ℕ) (c : Component) (front : List (List ℕ)) (plane : List ℕ)
+    → AreWholeWith cs place front → drop place cs ≡ c ∷ drop (place + 1) cs
+    → length plane ≡ (c.blocks_high * c.scale) * (c.blocks_wide * c.scale)
+    → AreWholeWith cs (place + 1) (front ++ plane ∷ [])
+unfolding AreWhole
+whole-more cs place c front plane old e l others h =
+    subst (AreWhole cs) (sym (append_assoc front (plane ∷ []) others))
+    (old (plane ∷ others) (subst (λ (left : List Component). AreWhole left (plane ∷ others)) (sym e) (l, h)))
+
+pub whole-all : (cs : List Component) (place : ℕ) (front : List (List ℕ)) → AreWholeWith cs place front
+    → drop place cs ≡ [] → AreWhole cs front
+unfolding AreWhole
+whole-all cs place front old e =
+    subst (AreWhole cs) (append-nil front) (old [] (subst (λ (left : List Component). AreWhole left []) (sym e) tt))
+
+-- ---- what is known at a place
+
+pub plane-at : (cs : List Component) (planes : List (Option (List ℕ))) (i : ℕ) (d : Component) → ArePlanes cs planes
+    → i < length cs → IsPlaneOf (get_or cs i d) (get_or planes i None)
+unfolding ArePlanes
+plane-at [] planes i d p h = absurd (omega arith)
+plane-at (c ∷ cs) [] i d p h = absurd p
+plane-at (c ∷ cs) (plane ∷ planes) zero d p h = p.0
+plane-at (c ∷ cs) (plane ∷ planes) (suc i) d p h = plane-at cs planes i d p.1 (omega arith)
+
+blocks-at : (cs : List Component) (arrays : Arrays) (i : ℕ) (d : Component) → AreArrays cs arrays → i < length cs
+    → length (get_or arrays i []) ≡ (get_or cs i d).blocks_high * (get_or cs i d).blocks_wide
+unfolding AreArrays
+blocks-at [] arrays i d p h = absurd (omega arith)
+blocks-at (c ∷ cs) [] i d p h = absurd p
+blocks-at (c ∷ cs) (blocks ∷ arrays) zero d p h = p.0
+blocks-at (c ∷ cs) (blocks ∷ arrays) (suc i) d p h = blocks-at cs arrays i d p.1 (omega arith)
+
+pub held-arrays : (found : Found) (frame : Frame) → AreArrays frame.components (arrays_before found frame)
+    → is_held found frame ≡ true → AreArrays frame.components found.held
+unfolding arrays_before
+held-arrays found frame p h = go (is_held found frame) h p
+  where
+    go : (b : Bool) → b ≡ true → AreArrays frame.components (cond b found.held (zero_arrays frame.components))
+        → AreArrays frame.components found.held
+    go true e p = p
+    go false e p = absurd (let n : ⊥ = cc in n)
+
+arrays-count : (cs : List Component) (arrays : Arrays) → AreArrays cs arrays → length cs ≤ length arrays
+unfolding AreArrays
+arrays-count [] arrays p = omega arith
+arrays-count (c ∷ cs) [] p = absurd p
+arrays-count (c ∷ cs) (blocks ∷ arrays) p = omega (arith, arrays-count cs arrays p.1)
+
+pub held-blocks : (found : Found) (frame : Frame) (i : ℕ) (d : Component)
+    → AreArrays frame.components (arrays_before found frame) → i < length frame.components
+    → AreBlocksOf (get_or frame.components i d) (blocks_if (is_held found frame) found.held i)
+held-blocks found frame i d p h = go (is_held found frame) refl
+  where
+    go : (b : Bool) → is_held found frame ≡ b → AreBlocksOf (get_or frame.components i d) (blocks_if b found.held i)
+    go true e = blocks-at frame.components found.held i d (held-arrays found frame p e) h
+    go false e = tt
+
+-- ---- the components of a frame are at a scale
+
+scale-is : (s : ℕ) → is_scale s ≡ true → IsScale s
+scale-is s h = go (s == 1) refl (s == 2) refl (s == 4) refl (s == 8) refl h
+  where
+    go : (a : Bool) → (s == 1) ≡ a → (b : Bool) → (s == 2) ≡ b → (c : Bool) → (s == 4) ≡ c
+        → (d : Bool) → (s == 8) ≡ d → (a || (b || (c || d))) ≡ true → IsScale s
+    go true e b f c g d i h = inl (eqb-true s 1 e)
+    go false e true f c g d i h = inr (inl (eqb-true s 2 f))
+    go false e false f true g d i h = inr (inr (inl (eqb-true s 4 g)))
+    go false e false f false g true i h = inr (inr (inr (eqb-true s 8 i)))
+    go false e false f false g false i h = absurd (let n : ⊥ = cc in n)
+
+scaled-components : (s width height h v : ℕ) (cs : List Component) → IsScale s
+    → AllByRecursion (λ c. IsScale c.scale) (map (component_at s width height h v) cs)
+unfolding component_at
+scaled-components s width height h v [] p = tt
+scaled-components s width height h v (c ∷ cs) p = (p, scaled-components s width height h v cs p)
+
+scaled-frame : (s : ℕ) (f : Frame) → IsScale s → AllByRecursion (λ c. IsScale c.scale) (frame_at s f).components
+unfolding frame_at
+scaled-frame s f p = scaled-components s f.width f.height _ _ f.components p
+
+pub decoded-scales : (f : Frame) → IsDecodedFrame f → AllByRecursion (λ c. IsScale c.scale) f.components
+decoded-scales f p =
+    subst (λ (g : Frame). AllByRecursion (λ c. IsScale c.scale) g.components) (sym p.made)
+    (scaled-frame p.scale p.full (scale-is p.scale p.is_scale))
+
+pub element : (P : Component → Type 0) (cs : List Component) (i : ℕ) (d : Component) → AllByRecursion P cs → i < length cs
+    → P (get_or cs i d)
+element P [] i d p h = absurd (omega arith)
+element P (c ∷ cs) zero d p h = p.0
+element P (c ∷ cs) (suc i) d p h = element P cs i d p.1 (omega arith)
+
+-- ---- at a place of what was found
+
+pub reached-four : (found : Found) (frame : Frame) (place : ℕ) → IsSound found → found.frame ≡ Some frame
+    → place < length frame.components → place < 4
+reached-four found frame place s f h =
+    let few = count-few (length frame.components) (decoded-count frame (s.frames frame f)) in omega (arith, few.1, h)
+
+pub reached-held : (found : Found) (frame : Frame) (place : ℕ) (held : Arrays) → IsSound found
+    → found.frame ≡ Some frame → place < length frame.components → drop place held ≡ drop place found.held
+    → is_held found frame ≡ true → place < length held
+reached-held found frame place held s f h e b =
+    let count = arrays-count frame.components found.held (held-arrays found frame (s.held frame f) b) in
+    same-within held found.held place e (omega (arith, count, h))
+
+pub reached-plane : (found : Found) (frame : Frame) (place : ℕ) (c : Component) (planes : List (Option (List ℕ)))
+    (o : Option (List ℕ)) → IsSound found
+    → found.frame ≡ Some frame → place < length frame.components → c ≡ get_or frame.components place c
+    → drop place planes ≡ drop place found.planes → o ≡ get_or planes place None → IsPlaneOf c o
+reached-plane found frame place c planes o s f h e left is =
+    let at = plane-at frame.components found.planes place c (s.planes frame f) h in
+    let same : o ≡ get_or found.planes place None = is ∙ same-at planes found.planes place None left in
+    subst (λ (x : Option (List ℕ)). IsPlaneOf c x) (sym same) (subst (λ (x : Component). IsPlaneOf x (get_or found.planes place None)) (sym e) at)
+
+blocks-same : (b : Bool) (held old : Arrays) (place : ℕ) → drop place held ≡ drop place old
+    → blocks_if b held place ≡ blocks_if b old place
+blocks-same true held old place e = ap (λ (l : List Block). Some l) (same-at held old place [] e)
+blocks-same false held old place e = refl
+
+pub reached-blocks : (found : Found) (frame : Frame) (place : ℕ) (c : Component) (held : Arrays) (b : Bool)
+    (o : Option (List Block)) → IsSound found
+    → found.frame ≡ Some frame → place < length frame.components → c ≡ get_or frame.components place c
+    → drop place held ≡ drop place found.held → b ≡ is_held found frame → o ≡ blocks_if b held place
+    → AreBlocksOf c o
+reached-blocks found frame place c held b o s f h e left is given =
+    let at = held-blocks found frame place c (s.held frame f) h in
+    let same : o ≡ blocks_if (is_held found frame) found.held place = given ∙ (ap (λ (x : Bool). blocks_if x held place) is ∙ blocks-same (is_held found frame) held found.held place left) in
+    subst (λ (x : Option (List Block)). AreBlocksOf c x) (sym same) (subst (λ (x : Component). AreBlocksOf x (blocks_if (is_held found frame) found.held place)) (sym e) at)
+
+-- the plane there, by what is left
+pub reached-end : (found : Found) (frame : Frame) (place : ℕ) (c : Component) (planes : List (Option (List ℕ)))
+    (held : Arrays) (table : Option (List ℕ)) (plane : Option (List ℕ)) (b : Bool) (blocks : Option (List Block))
+    → table ≡ slice_index_or found.quantization c.factors.quantization None
+    → drop place planes ≡ drop place found.planes → plane ≡ get_or planes place None
+    → drop place held ≡ drop place found.held → b ≡ is_held found frame → blocks ≡ blocks_if b held place
+    → plane_at_end found frame place c ≡ plane_or c table plane blocks
+reached-end found frame place c planes held table plane b blocks t left is held_left held_is given =
+    let p : plane ≡ get_or found.planes place None = is ∙ same-at planes found.planes place None left in
+    let q : blocks ≡ blocks_if (is_held found frame) found.held place = given ∙ (ap (λ (x : Bool). blocks_if x held place) held_is ∙ blocks-same (is_held found frame) held found.held place held_left) in
+    at-end found frame place c ∙ (rw (p, q, t) refl)
+
+pub reached-scale : (found : Found) (frame : Frame) (place : ℕ) (c : Component) → IsSound found
+    → found.frame ≡ Some frame → place < length frame.components → c ≡ get_or frame.components place c
+    → IsScale c.scale
+reached-scale found frame place c s f h e =
+    subst (λ (x : Component). IsScale x.scale) (sym e) (element (λ x. IsScale x.scale) frame.components place c
+    (decoded-scales frame (s.frames frame f)) h)
+
+pub failed-there : (found : Found) (frame : Frame) (place : ℕ) (c : Component) (front : List (List ℕ)) (error : Error)
+    (o : Result (List ℕ) Fault) (whole : Result (List (List ℕ)) Fault) → place < length frame.components
+    → c ≡ get_or frame.components place c
+    → whole ≡ (planes_from found frame place (drop place frame.components) >>= others-after front)
+    → plane_at_end found frame place c ≡ o → Names error o → Names error whole
+failed-there found frame place c front error o whole h e given is n =
+    let left : drop place frame.components ≡ c ∷ drop (place + 1) frame.components =
+    drop_more frame.components place c h ∙ ap (λ (x : Component). x ∷ drop (place + 1) frame.components) (sym e) in
+    planes-failed found frame place c (drop (place + 1) frame.components) front error whole
+    (given ∙ ap (λ (l : List Component). planes_from found frame place l >>= others-after front) left)
+    (subst (λ (r : Result (List ℕ) Fault). Names error r) (sym is) n)
+
+pub more-there : (found : Found) (frame : Frame) (place : ℕ) (c : Component) (front new : List (List ℕ)) (plane : List ℕ)
+    (o : Result (List ℕ) Fault) (whole : Result (List (List ℕ)) Fault) → place < length frame.components
+    → c ≡ get_or frame.components place c
+    → whole ≡ (planes_from found frame place (drop place frame.components) >>= others-after front)
+    → plane_at_end found frame place c ≡ o → o ≡ Ok plane → new ≡ front ++ plane ∷ []
+    → whole ≡ (planes_from found frame (place + 1) (drop (place + 1) frame.components) >>= others-after new)
+more-there found frame place c front new plane o whole h e given is ok joined =
+    let left : drop place frame.components ≡ c ∷ drop (place + 1) frame.components =
+    drop_more frame.components place c h ∙ ap (λ (x : Component). x ∷ drop (place + 1) frame.components) (sym e) in
+    planes-more found frame place c (drop (place + 1) frame.components) front plane whole
+    (given ∙ ap (λ (l : List Component). planes_from found frame place l >>= others-after front) left) (is ∙ ok)
+    ∙ ap (λ (l : List (List ℕ)). planes_from found frame (place + 1) (drop (place + 1) frame.components) >>= others-after l) (sym joined)
+
+pub whole-there : (cs : List Component) (place : ℕ) (c : Component) (front new : List (List ℕ)) (plane : List ℕ)
+    → place < length cs → c ≡ get_or cs place c → AreWholeWith cs place front → IsPlaneOf c (Some plane)
+    → new ≡ front ++ plane ∷ [] → AreWholeWith cs (place + 1) new
+whole-there cs place c front new plane h e old l joined =
+    let left : drop place cs ≡ c ∷ drop (place + 1) cs =
+    drop_more cs place c h ∙ ap (λ (x : Component). x ∷ drop (place + 1) cs) (sym e) in
+    subst (AreWholeWith cs (place + 1)) (sym joined) (whole-more cs place c front plane old left l)

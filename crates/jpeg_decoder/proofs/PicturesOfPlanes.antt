@@ -1,0 +1,193 @@
+-- The picture of a frame's planes: of one component, and of several.
+use Rattle.std.proofs.Common.{◌≡◌, ◌≢◌, ◌<◌, ◌≤◌, ℕ, zero, suc, ◌+◌, ◌*◌, List, [], ◌∷◌, ◌++◌, refl, sym, ap, ◌∙◌, subst, length, get_or, map, arith, Bool, true, false, Option, Some, None, Result, Ok, Err}
+use Rattle.std.specs.Prelude.{◌==◌, ◌||◌, MatchResult}
+use Rattle.std.proofs.lemmas.Bool.{eqb-true}
+use Rattle.std.proofs.Math.Bool.{cond}
+use Rattle.std.specs.List.{AllByRecursion}
+use Rattle.std.proofs.lemmas.List.{length-append, length-map}
+use Rattle.jpeg_bits.specs.Reading.{Fault, Malformed, Lacks, End, Names, ◌>>=◌}
+use Rattle.jpeg_bits.specs.declared.color_transform.ColorTransform.{ColorTransform}
+use Rattle.jpeg_bits.specs.declared.color_transform.ColorTransform.TheVariants as transforms
+use Rattle.jpeg_bits.specs.declared.error.Error.{Error}
+use Rattle.jpeg_bits.specs.declared.error.Error.TheVariants as errors
+use Rattle.jpeg_segments.specs.Frame.{Frame, Component, AllHaveFactors}
+use Rattle.jpeg_segments.specs.FrameView.{component_in}
+use Rattle.jpeg_segments.specs.declared.parser.Component as declared
+use Rattle.jpeg_pixels.specs.Scaled.{IsScale}
+use Rattle.jpeg_segments.proofs.ScaleLemmas.{sized_frames_have_factors}
+use Rattle.jpeg_pixels.specs.declared.upsampler.ColorConvert.{ColorConvert}
+use Rattle.jpeg_pixels.specs.declared.upsampler.ColorConvert.TheVariants as converts
+use Rattle.jpeg_pixels.specs.Colour.{conversion_of}
+use Rattle.jpeg_pixels.specs.Pictures.{Source, AllCover, AreWhole, HasSources, image_of, picture_bytes, sources_of}
+use Rattle.jpeg_decoder.specs.ColourChoice.{identifiers_of, transform_of}
+use Rattle.jpeg_decoder.specs.Sound.{IsDecodedFrame}
+use Rattle.jpeg_decoder.specs.Steps.{IsRefusal, cropped_to}
+use Rattle.jpeg_decoder.specs.Stream.{Metadata, is_count, picture_by}
+use Rattle.jpeg_decoder.specs.declared.state.Settings.{Settings}
+use Rattle.jpeg_decoder.proofs.EndedPlanes.{decoded-scales, element, mapped-or, mapped-within}
+use Rattle.jpeg_decoder.proofs.Soundness.{decoded-count, decoded-sized, decoded-sources}
+
+-- ---- counts
+
+-- A frame that is decoded has one component, or three or four.
+pub decoded-several : (f : Frame) → IsDecodedFrame f → length f.components ≢ 1
+    → (3 ≤ length f.components) × (length f.components ≤ 4)
+decoded-several f p other = go (length f.components) other (decoded-count f p)
+  where
+    go : (n : ℕ) → n ≢ 1 → is_count n ≡ true → (3 ≤ n) × (n ≤ 4)
+    go n other h = at n other (n == 1) refl (n == 3) refl (n == 4) refl h
+      where
+        at : (n : ℕ) → n ≢ 1 → (a : Bool) → (n == 1) ≡ a → (b : Bool) → (n == 3) ≡ b → (c : Bool) → (n == 4) ≡ c
+            → (a || (b || c)) ≡ true → (3 ≤ n) × (n ≤ 4)
+        at n other true e b f c g h = absurd (other (eqb-true n 1 e))
+        at n other false e true f c g h = let k : n ≡ 3 = eqb-true n 3 f in (omega arith, omega arith)
+        at n other false e false f true g h = let k : n ≡ 4 = eqb-true n 4 g in (omega arith, omega arith)
+        at n other false e false f false g h = absurd (let z : ⊥ = cc in z)
+
+pub decoded-factors : (f : Frame) → IsDecodedFrame f → AllHaveFactors f.components
+decoded-factors f p = sized_frames_have_factors f (decoded-sized f p)
+
+-- ---- room for the samples
+
+ok-same : (r : Result (List Source) Fault) (x y : List Source) → r ≡ Ok x → r ≡ Ok y → x ≡ y
+ok-same (Err fault) x y a b = absurd (let n : ⊥ = cc in n)
+ok-same (Ok z) x y a b = let p : z ≡ x = cc in let q : z ≡ y = cc in sym p ∙ q
+
+-- Planes of all blocks have the samples that a picture asks for.
+pub decoded-cover : (f : Frame) → IsDecodedFrame f → (planes : List (List ℕ)) → AreWhole f.components planes
+    → (sources : List Source) → sources_of f.components f.output_width f.output_height ≡ Ok sources
+    → AllCover sources planes f.output_width f.output_height
+decoded-cover f p planes whole sources e =
+    let s = decoded-sources f p in
+    subst (λ (x : List Source). AllCover x planes f.output_width f.output_height) (ok-same _ s.sources sources s.is e) (s.cover planes whole)
+
+-- ---- refusals
+
+never-end : (n : ℕ) (t : ColorTransform) (r : Result (List Source) Fault) (sources : List Source)
+    (bytes : ColorConvert → List Source → List ℕ) → r ≡ Ok sources
+    → (conversion_of n t >>= (λ (convert : ColorConvert). r >>= (λ (s : List Source). Ok (bytes convert s)))) ≡ Err End → ⊥
+unfolding conversion_of
+never-end n t (Err fault) sources bytes r e = absurd (let z : ⊥ = cc in z)
+never-end n transforms.None (Ok s) sources bytes r e = cc
+never-end n transforms.RGB (Ok s) sources bytes r e = go (n == 3) e
+  where
+    go : (b : Bool) → (cond b (Ok converts.Rgb) (Err Malformed) >>= (λ (convert : ColorConvert). Ok (bytes convert s))) ≡ Err End → ⊥
+    go true e = cc
+    go false e = cc
+never-end n transforms.YCbCr (Ok s) sources bytes r e = go (n == 3) e
+  where
+    go : (b : Bool) → (cond b (Ok converts.YCbCr) (Err Malformed) >>= (λ (convert : ColorConvert). Ok (bytes convert s))) ≡ Err End → ⊥
+    go true e = cc
+    go false e = cc
+never-end n transforms.CMYK (Ok s) sources bytes r e = go (n == 4) e
+  where
+    go : (b : Bool) → (cond b (Ok converts.Cmyk) (Err Malformed) >>= (λ (convert : ColorConvert). Ok (bytes convert s))) ≡ Err End → ⊥
+    go true e = cc
+    go false e = cc
+never-end n transforms.YCCK (Ok s) sources bytes r e = go (n == 4) e
+  where
+    go : (b : Bool) → (cond b (Ok converts.Ycck) (Err Malformed) >>= (λ (convert : ColorConvert). Ok (bytes convert s))) ≡ Err End → ⊥
+    go true e = cc
+    go false e = cc
+never-end n transforms.Grayscale (Ok s) sources bytes r e = cc
+never-end n transforms.Unknown (Ok s) sources bytes r e = cc
+never-end n transforms.JcsBgYcc (Ok s) sources bytes r e = cc
+never-end n transforms.JcsBgRgb (Ok s) sources bytes r e = cc
+
+refused : {Y : Type 0} (e : Error) (o : Result Y Fault) → (o ≡ Err End → ⊥) → Names e o → IsRefusal e
+refused (errors.Format text) o h n = tt
+refused (errors.Unsupported feature) o h n = tt
+refused (errors.Io x) o h n = h n.0
+refused (errors.Internal text) o h n = n
+refused errors.OutOfMemory o h n = tt
+
+-- An image of a frame that is decoded is refused by name alone.
+pub image-refused : (f : Frame) → IsDecodedFrame f → (planes : List (List ℕ)) (t : ColorTransform) (e : Error)
+    → Names e (image_of f.components planes f.output_width f.output_height t) → IsRefusal e
+unfolding image_of
+image-refused f p planes t e n =
+    let s = decoded-sources f p in
+    refused e (image_of f.components planes f.output_width f.output_height t)
+      (never-end (length f.components) t (sources_of f.components f.output_width f.output_height) s.sources
+        (λ convert sources. picture_bytes convert sources planes f.output_width f.output_height) s.is) n
+
+-- ---- the picture
+
+-- of one component
+pub picture-one : (settings : Settings) (m : Metadata) (f : Frame) (cs : List Component) (c : Component)
+    (planes : List (List ℕ)) (plane picture : List ℕ) → length cs ≡ 1 → c ≡ get_or cs 0 c → planes ≡ plane ∷ []
+    → picture ≡ cropped_to c f.output_width f.output_height plane
+    → picture_by settings m f cs planes ≡ Ok picture
+unfolding picture_by
+picture-one settings m f [] c planes plane picture h e is made = absurd (omega arith)
+picture-one settings m f (x ∷ []) c planes plane picture h e is made = rw (is, made, e, picture_by) refl
+picture-one settings m f (x ∷ y ∷ more) c planes plane picture h e is made = absurd (omega arith)
+
+-- of several
+pub picture-several : (settings : Settings) (m : Metadata) (f : Frame) (cs : List Component) (planes : List (List ℕ))
+    → length cs ≢ 1 → picture_by settings m f cs planes
+    ≡ image_of cs planes f.output_width f.output_height (transform_of settings.color_transform (identifiers_of cs) m.jfif m.adobe)
+unfolding picture_by
+picture-several settings m f [] planes h = refl
+picture-several settings m f (c ∷ []) planes h = absurd (h (omega arith))
+picture-several settings m f (c ∷ d ∷ more) planes h = refl
+
+-- what an image of some components and planes gives, where they are those of the frame
+pub several-given : {R : Type 0} (view : R → List ℕ) (settings : Settings) (m : Metadata) (f : Frame)
+    (cs : List Component) (planes given : List (List ℕ)) (t : ColorTransform) (r : Result R Error)
+    → IsDecodedFrame f → length f.components ≢ 1 → cs ≡ f.components → given ≡ planes
+    → t ≡ transform_of settings.color_transform (identifiers_of cs) m.jfif m.adobe
+    → MatchResult r (λ v. image_of cs given f.output_width f.output_height t ≡ Ok (view v))
+      (λ e. Names e (image_of cs given f.output_width f.output_height t))
+    → MatchResult r (λ v. picture_by settings m f f.components planes ≡ Ok (view v))
+      (λ e. IsRefusal e × Names e (picture_by settings m f f.components planes))
+several-given {R = R} view settings m f cs planes given t r p other ec ep et h = go r h
+  where
+    image-is : image_of cs given f.output_width f.output_height t ≡ picture_by settings m f f.components planes
+    image-is =
+        ap (λ (l : List Component). image_of l given f.output_width f.output_height t) ec
+        ∙ ap (λ (l : List (List ℕ)). image_of f.components l f.output_width f.output_height t) ep
+        ∙ ap (λ (x : ColorTransform). image_of f.components planes f.output_width f.output_height x)
+          (et ∙ ap (λ (l : List Component). transform_of settings.color_transform (identifiers_of l) m.jfif m.adobe) ec)
+        ∙ sym (picture-several settings m f f.components planes other)
+
+    go : (r : Result R Error)
+        → MatchResult r (λ v. image_of cs given f.output_width f.output_height t ≡ Ok (view v))
+          (λ e. Names e (image_of cs given f.output_width f.output_height t))
+        → MatchResult r (λ v. picture_by settings m f f.components planes ≡ Ok (view v))
+          (λ e. IsRefusal e × Names e (picture_by settings m f f.components planes))
+    go (Ok v) h = sym image-is ∙ h
+    go (Err e) h =
+        let named = subst (λ (o : Result (List ℕ) Fault). Names e o) image-is h in
+        (image-refused f p planes _ e (subst (λ (o : Result (List ℕ) Fault). Names e o)
+        (picture-several settings m f f.components planes other) named), named)
+
+-- the only one that is popped
+pub popped-only : {A : Type 0} (xs front : List A) (x : A) → xs ≡ front ++ x ∷ [] → length xs ≡ 1 → xs ≡ x ∷ []
+popped-only xs [] x e h = e
+popped-only xs (y ∷ front) x e h = absurd (omega (arith, ap length e, length-append front (x ∷ []), h))
+
+-- the first of the components that the code has
+first-is : (items slice : List declared.Component) (d : declared.Component) → slice ≡ items → length slice ≡ 1
+    → component_in (get_or slice 0 d) ≡ get_or (map component_in items) 0 (component_in (get_or slice 0 d))
+first-is items slice d e one =
+    mapped-or component_in items 0 (get_or slice 0 d) d _ (omega (arith, ap length e, one))
+      (ap (λ (l : List declared.Component). get_or l 0 d) e)
+
+pub scale-first : (f : Frame) (items slice : List declared.Component) (d : declared.Component) → IsDecodedFrame f
+    → f.components ≡ map component_in items → slice ≡ items → length slice ≡ 1 → IsScale (get_or slice 0 d).dct_scale
+scale-first f items slice d p is e one =
+    let some : 0 < length items = omega (arith, ap length e, one) in
+    let all = subst (λ (l : List Component). AllByRecursion (λ c. IsScale c.scale) l) is (decoded-scales f p) in
+    subst (λ (x : Component). IsScale x.scale) (sym (first-is items slice d e one))
+      (element (λ x. IsScale x.scale) (map component_in items) 0 (component_in (get_or slice 0 d)) all
+      (mapped-within component_in items 0 some))
+
+pub picture-first : (settings : Settings) (m : Metadata) (f : Frame) (items slice : List declared.Component)
+    (d : declared.Component) (planes : List (List ℕ)) (plane picture : List ℕ) → slice ≡ items → length slice ≡ 1
+    → planes ≡ plane ∷ []
+    → picture ≡ cropped_to (component_in (get_or slice 0 d)) f.output_width f.output_height plane
+    → picture_by settings m f (map component_in items) planes ≡ Ok picture
+picture-first settings m f items slice d planes plane picture e one is made =
+    picture-one settings m f (map component_in items) (component_in (get_or slice 0 d)) planes plane picture
+      (omega (arith, length-map items component_in, ap length e, one)) (first-is items slice d e one) is made

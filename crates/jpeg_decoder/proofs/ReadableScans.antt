@@ -1,0 +1,162 @@
+-- Scans that are ready to be read, by what was found before them.
+use Rattle.std.proofs.Common.{◌≡◌, ◌⊎◌, inl, inr, ◌≤◌, ◌<◌, ◌+◌, ◌==◌, ◌||◌, All, ℕ, zero, suc, Bool, true, false, List, [], ◌∷◌, length, map, drop, Option, Some, None, Ok, refl, sym, ap, ◌∙◌, subst, arith}
+use Rattle.std.specs.List.{AllByRecursion}
+use Rattle.std.proofs.lemmas.Bool.{eqb-true}
+use Rattle.std.proofs.lemmas.List.Elements.{All-from_recursion, recursion_from_All}
+use Rattle.jpeg_bits.specs.BlockView.{pass_in, IsPass}
+use Rattle.jpeg_segments.specs.declared.parser.CodingProcess.{CodingProcess}
+use Rattle.jpeg_segments.specs.declared.parser.CodingProcess.TheVariants.{DctSequential, DctProgressive, Lossless}
+use Rattle.jpeg_segments.specs.Frame.{Frame, Component}
+use Rattle.jpeg_segments.specs.FrameView.{component_in}
+use Rattle.jpeg_segments.specs.HuffmanTables.{Tables}
+use Rattle.jpeg_segments.specs.Scales.{component_at, frame_at, is_scale}
+use Rattle.jpeg_segments.specs.ScanHeader as headers
+use Rattle.jpeg_segments.specs.ScanHeader.{IsCoded, IsRising, IsScanOf}
+use Rattle.jpeg_pixels.specs.Scaled.{IsScale}
+use Rattle.jpeg_decoder.specs.declared.codings.Coded.{Coded}
+use Rattle.jpeg_decoder.specs.declared.decoded.Decoded.{Decoded}
+use Rattle.jpeg_decoder.specs.declared.scans.Scan.{Scan}
+use Rattle.jpeg_decoder.specs.InTurn.{AreArrays, Fits}
+use Rattle.jpeg_decoder.specs.Scanning.{HasAc, HasCodedScale, arrays_in, components_in}
+use Rattle.jpeg_decoder.specs.Seen.{planes_in}
+use Rattle.jpeg_decoder.specs.Sound.{ArePlanes, IsDecodedFrame, IsSound}
+use Rattle.jpeg_decoder.specs.Stream.{Coding, Found, arrays_before, codings_from, first_of, is_decoded, pass_of, tables_of}
+use Rattle.jpeg_decoder.specs.Steps.{AreRising, HasPlace, IsCodingOf, IsReadable, coding_in, codings_in_force, with_decoded}
+use Rattle.jpeg_decoder.proofs.AcceptedTurns.{CodingFacts, codings-facts_from, codings-same_from, tables-same}
+use Rattle.jpeg_decoder.proofs.OwnSpots.{At}
+use Rattle.jpeg_decoder.proofs.Soundness.{count-few, decoded-count, decoded-fits}
+use Rattle.jpeg_decoder.proofs.WrittenFrameScans.{at-all}
+
+-- What scans have given changes no table in force.
+pub codings-kept : (found : Found) (d : Decoded) (frame : Frame) (header : headers.Scan)
+    → codings_in_force (with_decoded found d) frame header ≡ codings_in_force found frame header
+codings-kept found d frame header =
+    ap (λ (t : Tables). codings_from (with_decoded found d) frame (pass_of header) t header.components
+    header.dc_places header.ac_places)
+    (tables-same found found.scanned (arrays_in d.held.items) d.finished (planes_in d.planes) header)
+    ∙ codings-same_from found found.scanned (arrays_in d.held.items) d.finished (planes_in d.planes) frame
+    (pass_of header) (tables_of found header) header.components header.dc_places header.ac_places
+
+-- ---- the pass of a scan
+
+pub some-behind : (process : CodingProcess) (first behind high low : ℕ) → IsCoded process first behind high low
+    → 1 ≤ behind
+some-behind DctSequential first behind high low c = omega (arith, c.1)
+some-behind DctProgressive first behind high low c = omega (arith, c.0)
+some-behind Lossless first behind high low c = omega (arith, c.1)
+
+is-pass : (process : CodingProcess) (s : headers.Scan) → is_decoded process ≡ true
+    → IsCoded process s.first s.behind s.high s.low → IsPass (pass_of s)
+unfolding pass_of
+is-pass DctSequential s e c = record {
+  order = omega (arith, c.0);
+  end = omega (arith, c.1);
+  level = omega (arith, c.3);
+}
+is-pass DctProgressive s e c = record {
+  order = omega (arith, c.0);
+  end = omega (arith, c.1);
+  level = c.3;
+}
+is-pass Lossless s e c = absurd (let n : ⊥ = cc in n)
+
+-- ---- the scales of a frame's components
+
+scale-so : (s : ℕ) → is_scale s ≡ true → IsScale s
+scale-so s h = go (s == 1) refl (s == 2) refl (s == 4) refl (s == 8) refl h
+  where
+    go : (a : Bool) → (s == 1) ≡ a → (b : Bool) → (s == 2) ≡ b → (c : Bool) → (s == 4) ≡ c → (d : Bool) → (s == 8) ≡ d
+        → (a || (b || (c || d))) ≡ true → IsScale s
+    go true e b f c g d i h = inl (eqb-true s 1 e)
+    go false e true f c g d i h = inr (inl (eqb-true s 2 f))
+    go false e false f true g d i h = inr (inr (inl (eqb-true s 4 g)))
+    go false e false f false g true i h = inr (inr (inr (eqb-true s 8 i)))
+    go false e false f false g false i h = absurd (cc)
+
+abbrev HasScale : Component → Type 0
+HasScale c = IsScale c.scale
+
+scales-at : (s width height h v : ℕ) (cs : List Component) → IsScale s
+    → AllByRecursion HasScale (map (component_at s width height h v) cs)
+unfolding component_at
+scales-at s width height h v [] is = tt
+scales-at s width height h v (c ∷ cs) is = (is, scales-at s width height h v cs is)
+
+decoded-scales : (f : Frame) → IsDecodedFrame f → AllByRecursion HasScale f.components
+unfolding frame_at
+decoded-scales f p =
+    subst (λ (g : Frame). AllByRecursion HasScale g.components) (sym p.made)
+    (scales-at p.scale p.full.width p.full.height _ _ p.full.components (scale-so p.scale p.is_scale))
+
+-- ---- the components of a scan
+
+-- what each component of a frame has, those of its scans have
+each-at : (Q : Component → Type 0) (found : Found) (frame : Frame) (cs : List Coded)
+    → AllByRecursion Q frame.components → AllByRecursion (CodingFacts found frame) (map coding_in cs)
+    → AllByRecursion (λ c. Q (component_in c.component.now)) cs
+each-at Q found frame [] h facts = tt
+each-at Q found frame (c ∷ cs) h facts = (
+  at-all Q c.place frame.components (component_in c.component.now) h facts.0.at,
+  each-at Q found frame cs h facts.1,
+)
+
+fits-at : (frame : Frame) (cs : List Coded) → AllByRecursion (λ c. Fits frame (component_in c.component.now)) cs
+    → AllByRecursion (Fits frame) (components_in cs)
+fits-at frame [] h = tt
+fits-at frame (c ∷ cs) h = (h.0, fits-at frame cs h.1)
+
+drop-first : {A : Type 0} (n : ℕ) (xs : List A) (x : A) → At n xs x → first_of (drop n xs) ≡ Some x
+drop-first n [] x h = absurd h
+drop-first {A} zero (y ∷ xs) x h = ap (λ (z : A). Some z) h
+drop-first (suc n) (y ∷ xs) x h = drop-first n xs x h
+
+of-frame : (found : Found) (frame : Frame) (codings : List Coding) → AllByRecursion (CodingFacts found frame) codings
+    → AllByRecursion (IsCodingOf frame) codings
+of-frame found frame [] facts = tt
+of-frame found frame (c ∷ codings) facts =
+    (drop-first c.place frame.components c.component facts.0.at, of-frame found frame codings facts.1)
+
+places-at : (n : ℕ) (cs : List Coded) → n ≤ 4
+    → AllByRecursion (λ place. place < n) (map (λ (c : Coding). c.place) (map coding_in cs))
+    → AllByRecursion HasPlace cs
+places-at n [] most h = tt
+places-at n (c ∷ cs) most h = let first = h.0 in (omega (arith, first, most), places-at n cs most h.1)
+
+rising-at : (codings : List Coding) (least : ℕ) → IsRising least (map (λ (c : Coding). c.place) codings)
+    → AreRising codings
+unfolding IsRising
+rising-at [] least h = tt
+rising-at (c ∷ []) least h = tt
+rising-at (c ∷ d ∷ more) least h =
+    let next = h.1.0 in (omega (arith, next), rising-at (d ∷ more) (c.place + 1) h.1)
+
+-- ---- a scan
+
+-- A scan with the tables in force for its header is ready to be read.
+pub ready : (found : Found) (frame : Frame) (header : headers.Scan) (scan : Scan) → IsDecodedFrame frame
+    → is_decoded frame.process ≡ true → IsScanOf frame header → pass_in scan.pass ≡ pass_of header
+    → scan.restart_interval ≡ found.restart → All HasAc scan.components.items
+    → codings_in_force found frame header ≡ Ok (map coding_in scan.components.items)
+    → length scan.components.items ≡ length header.components
+    → IsReadable frame found scan
+ready found frame header scan decoded is_dct legal pass restart classes codings count =
+    let cs = scan.components.items in
+    let facts =
+        codings-facts_from found frame (pass_of header) (tables_of found header) header.components header.dc_places
+        header.ac_places (map coding_in cs) legal.dc_length legal.ac_length codings in
+    let few = (count-few (length frame.components) (decoded-count frame decoded)).1 in
+    record {
+      pass = subst IsPass (sym pass) (is-pass frame.process header is_dct legal.coded);
+      restart = restart;
+      some = subst (λ (n : ℕ). 1 ≤ n) (sym count) legal.some;
+      few = subst (λ (n : ℕ). n ≤ 4) (sym count) legal.most;
+      classes = classes;
+      scales = All-from_recursion HasCodedScale cs (each-at HasScale found frame cs (decoded-scales frame decoded) facts.1);
+      places =
+          All-from_recursion HasPlace cs (places-at (length frame.components) cs few
+          (subst (AllByRecursion (λ place. place < length frame.components)) (sym facts.2)
+          (recursion_from_All (λ place. place < length frame.components) header.components legal.components)));
+      fits = fits-at frame cs (each-at (Fits frame) found frame cs (decoded-fits frame decoded) facts.1);
+      of_frame = of-frame found frame (map coding_in cs) facts.1;
+      rising = rising-at (map coding_in cs) 0 (subst (IsRising 0) (sym facts.2) legal.rising);
+    }

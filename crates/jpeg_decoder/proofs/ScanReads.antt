@@ -1,0 +1,170 @@
+-- The steps of a scan that is read, and what they are to a segment of the stream.
+use Rattle.std.proofs.Common.{◌≡◌, ℕ, suc, Bool, true, false, List, length, Option, Some, Result, Ok, Err, refl, sym, ap, ◌∙◌}
+use Rattle.std.specs.Prelude.{if◌then◌else◌}
+use Rattle.jpeg_bits.specs.Stream.{Stream}
+use Rattle.jpeg_bits.specs.Reading.{Answers, Fault, Malformed, MayFail, Names, Outcome, ◌>>=◌}
+use Rattle.jpeg_bits.specs.Passes.{Pass}
+use Rattle.jpeg_bits.specs.declared.error.Error.{Error}
+use Rattle.jpeg_bits.specs.declared.error.Error.TheVariants as errors
+use Rattle.jpeg_bits.specs.declared.marker.Marker.{Marker}
+use Rattle.jpeg_bits.proofs.Loops.{Continues, Continues-err, Names-through, bind_at, bind_err, still_known}
+use Rattle.jpeg_segments.specs.Frame.{Frame}
+use Rattle.jpeg_segments.specs.ScanHeader.{Scan, sos_at}
+use Rattle.jpeg_decoder.specs.declared.state.Before.{Before}
+use Rattle.jpeg_decoder.specs.Scans.{Arrays}
+use Rattle.jpeg_decoder.specs.Stream.{Coding, Found, Turn, behind_restarts, behind_scan, codings_of, is_decoded, needed, pass_of, scan_arrays, scan_before, scan_segment}
+use Rattle.jpeg_decoder.specs.Steps.{IsRefusal, behind_all, codings_in_force, scan_data, scan_read}
+
+-- ---- calls on a source
+
+-- a refusal of a call with no source
+refusal-fails : (e : Error) (a b : Bool) → IsRefusal e → b ≡ a → MayFail e a b
+refusal-fails (errors.Format text) a b r h = h
+refusal-fails (errors.Unsupported feature) a b r h = h
+refusal-fails (errors.Io x) a b r h = absurd r
+refusal-fails (errors.Internal text) a b r h = absurd r
+refusal-fails errors.OutOfMemory a b r h = h
+
+pub refused : {X Y Z : Type 0} (view : X → Y) (whole rest : List ℕ → Outcome Y) (old new : Stream) (e : Error)
+    (o : Result Z Fault) → Continues whole old rest new → IsRefusal e → Names e o
+    → ((f : Fault) → o ≡ Err f → rest new.bytes ≡ Err f) → Answers view whole old (Err e) new
+refused view whole rest old new e o p r n through = (
+  refusal-fails e old.failed new.failed r p.0,
+  λ k known.
+      let at = p.1 k in
+      Names-through e _ _ (λ f h. at.1 ∙ through f h) n,
+  λ k unknown. still_known e new.failed (p.1 k).0 unknown,
+)
+
+-- the last step of the whole
+pub last-step : {X Y W : Type 0} (view : X → Y) (v : X → W) (whole rest : List ℕ → Outcome Y) (read : List ℕ → Outcome W)
+    (old cur new : Stream) (r : Result X Error)
+    → ((x : X) → read cur.bytes ≡ Ok (v x, new.bytes) → rest cur.bytes ≡ Ok (view x, new.bytes))
+    → ((f : Fault) → read cur.bytes ≡ Err f → rest cur.bytes ≡ Err f)
+    → Continues whole old rest cur → Answers v read cur r new → Answers view whole old r new
+last-step view v whole rest read old cur new (Ok x) ok err p q =
+    (q.0 ∙ p.0, λ k. let at = p.1 k in let by = q.1 at.0 in (by.0, at.1 ∙ ok x by.1))
+last-step view v whole rest read old cur new (Err e) ok err p q =
+    Continues-err view v whole rest read old cur new e err p q
+
+-- ---- the steps of a scan
+
+-- after the data
+abbrev pub after_data : (Found × Option Marker) × List ℕ → Outcome (Found × Option Marker)
+after_data r = behind_all r.0.1 r.1 >>= (λ (met : Option Marker × List ℕ). Ok ((r.0.0, met.0), met.1))
+
+-- after the tables in force, by the pass
+abbrev pub after_codings : Found → Frame → Pass → List Coding → List ℕ → Outcome (Found × Option Marker)
+after_codings found frame p codings bytes = scan_data found frame p codings bytes >>= after_data
+
+-- after the header
+abbrev pub after_header : Found → Frame → Scan → List ℕ → Outcome (Found × Option Marker)
+after_header found frame scan bytes =
+    codings_in_force found frame scan >>= (λ (codings : List Coding). after_codings found frame (pass_of scan) codings bytes)
+
+header-read : (found : Found) (frame : Frame) (scan : Scan) (bytes rest : List ℕ) → found.frame ≡ Some frame
+    → sos_at frame bytes ≡ Ok (scan, rest) → is_decoded frame.process ≡ true
+    → scan_read found bytes ≡ after_header found frame scan rest
+unfolding scan_read
+header-read found frame scan bytes rest a b c = rw (a, b, c, scan_read) refl
+
+pub codings-refused : (found : Found) (frame : Frame) (scan : Scan) (bytes : List ℕ) (f : Fault)
+    → codings_in_force found frame scan ≡ Err f → after_header found frame scan bytes ≡ Err f
+codings-refused found frame scan bytes f e =
+    bind_err (λ (codings : List Coding). after_codings found frame (pass_of scan) codings bytes) _ f e
+
+codings-read : (found : Found) (frame : Frame) (scan : Scan) (p : Pass) (codings : List Coding) (bytes : List ℕ)
+    → codings_in_force found frame scan ≡ Ok codings → p ≡ pass_of scan
+    → after_header found frame scan bytes ≡ after_codings found frame p codings bytes
+codings-read found frame scan p codings bytes e is =
+    bind_at (λ (codings : List Coding). after_codings found frame (pass_of scan) codings bytes) _ codings e
+    ∙ ap (λ (q : Pass). after_codings found frame q codings bytes) (sym is)
+
+-- what a call has read of a source that is known
+abbrev pub HasRead : {Y : Type 0} → (List ℕ → Outcome Y) → Stream → Y → Stream → Type 0
+HasRead read old y new =
+    (new.failed ≡ old.failed) × (old.known ≡ true → (new.known ≡ true) × (read old.bytes ≡ Ok (y, new.bytes)))
+
+pub header-begun : (found : Found) (frame : Frame) (scan : Scan) (old new : Stream) → found.frame ≡ Some frame
+    → is_decoded frame.process ≡ true → HasRead (sos_at frame) old scan new
+    → Continues (scan_read found) old (after_header found frame scan) new
+header-begun found frame scan old new stands is_dct read =
+    (read.0, λ k. let at = read.1 k in (at.0, header-read found frame scan old.bytes new.bytes stands at.1 is_dct))
+
+pub data-begun : (found : Found) (frame : Frame) (scan : Scan) (p : Pass) (codings : List Coding) (old new : Stream)
+    → codings_in_force found frame scan ≡ Ok codings → p ≡ pass_of scan
+    → Continues (scan_read found) old (after_header found frame scan) new
+    → Continues (scan_read found) old (after_codings found frame p codings) new
+data-begun found frame scan p codings old new e is begun =
+    (begun.0, λ k. let at = begun.1 k in (at.0, at.1 ∙ codings-read found frame scan p codings new.bytes e is))
+
+-- The restart markers after the data are passed over, and the scan is read.
+pub scan-ends : (whole rest : List ℕ → Outcome (Found × Option Marker)) (next : Found) (met : Option Marker)
+    (old cur mid new : Stream) (r : Result (Option Marker) Error)
+    → (read : List ℕ → Outcome (Found × Option Marker)) → ((bytes : List ℕ) → rest bytes ≡ (read bytes >>= after_data))
+    → Continues whole old rest cur → HasRead read cur (next, met) mid
+    → Answers (λ (m : Option Marker). m) (behind_all met) mid r new
+    → Answers (λ (m : Option Marker). (next, m)) whole old r new
+scan-ends whole rest next met old cur mid new r read is begun has ends =
+    last-step {X = Option Marker} (λ m. (next, m)) (λ m. m) whole (λ bytes. after_data ((next, met), bytes)) (behind_all met)
+    old mid new r
+    (λ m h. bind_at (λ (m : Option Marker × List ℕ). Ok ((next, m.0), m.1)) _ (m, new.bytes) h)
+    (λ f h. bind_err (λ (m : Option Marker × List ℕ). Ok ((next, m.0), m.1)) _ f h)
+    (has.0 ∙ begun.0, λ k.
+    let at = begun.1 k in
+    let by = has.1 at.0 in
+    (by.0, at.1 ∙ is cur.bytes ∙ bind_at after_data _ ((next, met), mid.bytes) by.1))
+    ends
+
+-- ---- a segment of the stream
+
+-- the turn that a scan leads to
+abbrev pub scan_turn : Found → (Found × Option Marker) × List ℕ → Outcome Turn
+scan_turn found r = Ok (record { found = r.0.0; before = scan_before found; met = r.0.1; ended = false }, r.1)
+
+through : {A B C : Type 0} (o : Result A Fault) (s : A → Result C Fault) (r : A → Result B Fault) (t : B → Result C Fault)
+    → ((x : A) → s x ≡ (r x >>= t)) → (o >>= s) ≡ ((o >>= r) >>= t)
+through (Ok x) s r t h = h x
+through (Err e) s r t h = refl
+
+through-test : {A B C : Type 0} (b : Bool) (o : Result A Fault) (s : A → Result C Fault) (r : A → Result B Fault)
+    (t : B → Result C Fault) → ((x : A) → s x ≡ (r x >>= t))
+    → ((if b then o else Err Malformed) >>= s) ≡ ((if b then (o >>= r) else Err Malformed) >>= t)
+through-test true o s r t h = through o s r t h
+through-test false o s r t h = refl
+
+-- the last steps, where a value is made of what is read
+through-made : {A B C D : Type 0} (o : Result A Fault) (made : A → B) (k : B → Result C Fault) (s : A → Result D Fault)
+    (t : C → Result D Fault) → ((x : A) → s x ≡ (k (made x) >>= t))
+    → (o >>= s) ≡ (((o >>= (λ (x : A). Ok (made x))) >>= k) >>= t)
+through-made (Ok x) made k s t h = h x
+through-made (Err e) made k s t h = refl
+
+data-parts : (found : Found) (frame : Frame) (scan : Scan) (bytes : List ℕ) (codings : List Coding)
+    → (scan_arrays found frame scan codings bytes >>= (λ (read : (Arrays × Option Marker) × List ℕ).
+    behind_restarts (suc (length read.1)) read.0.1 read.1 >>= (λ (met : Option Marker × List ℕ).
+    Ok (record { found = behind_scan found frame scan codings read.0.0; before = scan_before found; met = met.0; ended = false }, met.1))))
+    ≡ (after_codings found frame (pass_of scan) codings bytes >>= scan_turn found)
+unfolding scan_arrays scan_data behind_scan behind_all
+data-parts found frame scan bytes codings =
+    through-made _ _ after_data _ (scan_turn found) (λ (r : (Arrays × Option Marker) × List ℕ).
+    through (behind_restarts (suc (length r.1)) r.0.1 r.1) _ _ (scan_turn found) (λ met. refl))
+
+-- A segment of a scan is a scan that is read.
+scan-parts : (found : Found) (bytes : List ℕ) → scan_segment found bytes ≡ (scan_read found bytes >>= scan_turn found)
+unfolding scan_segment scan_read codings_of
+scan-parts found bytes =
+    through (needed found.frame) _ _ (scan_turn found) (λ (frame : Frame).
+    through (sos_at frame bytes) _ _ (scan_turn found) (λ (scan : Scan × List ℕ).
+    through-test (is_decoded frame.process) (codings_in_force found frame scan.0) _ _ (scan_turn found)
+    (data-parts found frame scan.0 scan.1)))
+
+pub scan-turned : (found next : Found) (met : Option Marker) (b : Before) (bytes rest : List ℕ)
+    → scan_read found bytes ≡ Ok ((next, met), rest) → b ≡ scan_before found
+    → scan_segment found bytes ≡ Ok (record { found = next; before = b; met = met; ended = false }, rest)
+scan-turned found next met b bytes rest e is =
+    scan-parts found bytes ∙ bind_at (scan_turn found) (scan_read found bytes) ((next, met), rest) e ∙ rw is refl
+
+pub turn-refused : (found : Found) (bytes : List ℕ) (f : Fault) → scan_read found bytes ≡ Err f
+    → scan_segment found bytes ≡ Err f
+turn-refused found bytes f e = scan-parts found bytes ∙ bind_err (scan_turn found) (scan_read found bytes) f e

@@ -1,0 +1,20 @@
+use Rattle.std.proofs.Common.{◌≡◌, drop, length, map}
+use Rattle.jpeg_bits.specs.Reading.{◌>>=◌}
+use Rattle.jpeg_segments.specs.FrameView.{component_in, frame_in}
+use Rattle.jpeg_decoder.specs.Scanning.{arrays_in}
+use Rattle.jpeg_decoder.specs.Seen.{found_in, planes_in}
+use Rattle.jpeg_decoder.specs.Steps.{with_decoded}
+use Rattle.jpeg_decoder.specs.Stream.{planes_from}
+use Rattle.jpeg_decoder.proofs.EndedPlanes.{AreWholeWith, others-after}
+use Rattle.jpeg_decoder.proofs.picture.planes_at_end.Given as goal
+
+abbrev pub invariant-loop-place : goal.invariant-loop-place
+invariant-loop-place l = record {
+  decided : drop l.place (planes_in l.decoded.planes) ≡ drop l.place (planes_in l.fn.decoded.planes);
+  held : drop l.place (arrays_in l.decoded.held.items) ≡ drop l.place (arrays_in l.fn.decoded.held.items);
+  given : planes_from (with_decoded (found_in l.fn.state) l.fn.decoded) (frame_in l.fn.frame) 0 (frame_in l.fn.frame).components
+      ≡ (planes_from (with_decoded (found_in l.fn.state) l.fn.decoded) (frame_in l.fn.frame) l.place
+      (drop l.place (frame_in l.fn.frame).components) >>= others-after (map (λ v. v.items) l.planes.items));
+  whole : AreWholeWith (frame_in l.fn.frame).components l.place (map (λ v. v.items) l.planes.items);
+  count : length l.planes.items ≡ l.place;
+}
