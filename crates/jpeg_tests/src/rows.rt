@@ -363,7 +363,7 @@ const MARKER_STREAMS: [([&str; 8], Gives); 7] = [
         ],
         Gives::Format,
     ),
-    // A restart interval of 0 is none; another one is not decoded yet.
+    // A restart interval of 0 is none, and one that holds the whole scan has no marker.
     (
         [
             "FFD8",
@@ -388,7 +388,7 @@ const MARKER_STREAMS: [([&str; 8], Gives); 7] = [
             SCAN,
             "43 FFD9",
         ],
-        Gives::Format,
+        Gives::Lines("81*8", 8),
     ),
 ];
 
