@@ -44,12 +44,12 @@ length-both (x ∷ xs) ys = let r = length-both xs ys in omega arith
 pub plane-joined : (s : ℕ) (table : List ℕ) (wide n k : ℕ) (xs ys : List Block) → length xs ≡ n * wide → length ys
     ≡ k * wide
     → plane_of s table wide (n + k) (in_raster wide (xs ++ ys))
-        ≡ plane_of s table wide n (in_raster wide xs) ++ plane_of s table wide k (in_raster wide ys)
+    ≡ plane_of s table wide n (in_raster wide xs) ++ plane_of s table wide k (in_raster wide ys)
 plane-joined s table wide n zero xs [] e f =
     ap₂ (λ (m : ℕ) (l : List Block). plane_of s table wide m (in_raster wide l)) (let z : n + 0
-        ≡ n = omega arith in z) (append-nil xs)
+    ≡ n = omega arith in z) (append-nil xs)
     ∙ sym (ap (λ (l : List ℕ). plane_of s table wide n (in_raster wide xs) ++ l) (plane-none s table wide
-        (in_raster wide [])) ∙ append-nil (plane_of s table wide n (in_raster wide xs)))
+    (in_raster wide [])) ∙ append-nil (plane_of s table wide n (in_raster wide xs)))
 plane-joined s table wide n zero xs (y ∷ ys) e f = absurd (let z : 0 * wide ≡ 0 = omega arith in omega arith)
 plane-joined s table wide n (suc k) xs ys e f =
     let front = take (k * wide) ys in
@@ -58,14 +58,14 @@ plane-joined s table wide n (suc k) xs ys e f =
     let fl = front-long wide k ys f in
     let rl = back-long wide k ys f in
     let long : length (xs ++ front) ≡
-        (n + k) * wide = let l = length-both xs front in let m = add-mul n k wide in omega arith in
+    (n + k) * wide = let l = length-both xs front in let m = add-mul n k wide in omega arith in
     let above = plane_of s table wide n (in_raster wide xs) in
     let middle = plane_of s table wide k (in_raster wide front) in
     let last = strip_of s table (map ordered row) in
     let up : n + suc k ≡ n + k + 1 = omega arith in
     let one : suc k ≡ k + 1 = omega arith in
     ap₂ (λ (m : ℕ) (l : List Block). plane_of s table wide m (in_raster wide l)) up (ap (λ (l : List Block). xs ++ l)
-        (sym whole) ∙ sym (append_assoc xs front row))
+    (sym whole) ∙ sym (append_assoc xs front row))
     ∙ plane-strips s table wide (n + k) (xs ++ front) row long rl
     ∙ ap (λ (l : List ℕ). l ++ last) (plane-joined s table wide n k xs front e fl)
     ∙ append_assoc above middle last
@@ -82,9 +82,9 @@ grown rows (c ∷ codings) [] = []
 
 one-more : (r : ℕ) (c : Coding) (a b : List Block)
     → length a ≡ r * (c.component.factors.vertical * c.component.blocks_wide) → length b
-        ≡ 1 * (c.component.factors.vertical * c.component.blocks_wide)
+    ≡ 1 * (c.component.factors.vertical * c.component.blocks_wide)
     → samples_of (r * c.component.factors.vertical) c a ++ samples_of c.component.factors.vertical c b
-        ≡ samples_of ((r + 1) * c.component.factors.vertical) c (a ++ b)
+    ≡ samples_of ((r + 1) * c.component.factors.vertical) c (a ++ b)
 unfolding samples_of
 one-more r c a b e f =
     let v = c.component.factors.vertical in
@@ -92,7 +92,7 @@ one-more r c a b e f =
     let m : r * v * w ≡ r * (v * w) = mul_assoc r v w in
     let up : r * v + v ≡ (r + 1) * v = let p : (r + 1) * v ≡ r * v + 1 * v = add-mul r 1 v in omega arith in
     sym (plane-joined c.component.scale (values_in_block_order c.quantization) w (r * v) v a b (omega arith)
-        (omega arith))
+    (omega arith))
     ∙ ap (λ (n : ℕ). plane_of c.component.scale (values_in_block_order c.quantization) w n (in_raster w (a ++ b))) up
 
 strips-grow : (r : ℕ) (codings : List Coding) (front arrays : Arrays) → AreRows r (components_of codings) front
@@ -106,14 +106,14 @@ strips-grow r (c ∷ codings) [] arrays h k = absurd h
 strips-grow r (c ∷ codings) (a ∷ front) [] h k = absurd k
 strips-grow r (c ∷ codings) (a ∷ front) (b ∷ arrays) h k =
     ap₂ (λ (x : List ℕ) (l : List (List ℕ)). x ∷ l) (one-more r c a b h.0 k.0)
-        (strips-grow r codings front arrays h.1 k.1)
+    (strips-grow r codings front arrays h.1 k.1)
 
 strips-in-turn : (p : Pass) (vias : List Via) (n : ℕ) (codings : List Coding) (rows : List (List (List Spot)))
     (r : ℕ) (front : Arrays) (old : Counted) (t : Text)
     → AreRows r (components_of codings) front
     → strips_from p vias n codings rows (grown r codings front) (with_arrays [] old) t
     ≡ read_on (λ s. gives (grown (r + length rows) codings s.reached.arrays)) (rows_from p vias n
-        (components_of codings) rows front old t)
+    (components_of codings) rows front old t)
 unfolding strips_from rows_from
 strips-in-turn p vias n codings [] r front old t h = ap (λ (k : ℕ). gives (grown k codings front) t) (let z : r
     ≡ r + 0 = omega arith in z)
@@ -124,15 +124,15 @@ strips-in-turn p vias n codings (mcus ∷ rows) r front old t h =
     let end : Counted → Reads (List (List ℕ)) = λ s. gives (grown (r + suc (length rows)) codings s.reached.arrays) in
     counted-where (AreRows 1 cs)
     (λ s. λ u. strips_from p vias n codings rows (with_strips codings s.reached.arrays (grown r codings front))
-        (with_arrays [] s) u)
+    (with_arrays [] s) u)
     (λ s. λ u. read_on end (rows_from p vias n cs rows (joined front s.reached.arrays) s u))
     (λ s u k.
     ap (λ (l : List (List ℕ)). strips_from p vias n codings rows l (with_arrays [] s) u)
-        (strips-grow r codings front s.reached.arrays h k)
+    (strips-grow r codings front s.reached.arrays h k)
     ∙ strips-in-turn p vias n codings rows (r + 1) (joined front s.reached.arrays) s u
-        (joined-rows r cs front s.reached.arrays h k)
+    (joined-rows r cs front s.reached.arrays h k)
     ∙ ap (λ (m : ℕ). read_on (λ (s : Counted). gives (grown m codings s.reached.arrays)) (rows_from p vias n cs rows
-        (joined front s.reached.arrays) s u))
+    (joined front s.reached.arrays) s u))
     (let z : r + 1 + length rows ≡ r + suc (length rows) = omega arith in z))
     o (mcus-any (AreRows 1 cs) (rows-kept 1 cs) p vias n mcus start t (zero-rows 1 cs))
     ∙ sym (on-on (λ s. λ u. rows_from p vias n cs rows (joined front s.reached.arrays) s u) end o)
@@ -173,9 +173,9 @@ none-grown (c ∷ codings) = ap₂ (λ (x : List ℕ) (l : List (List ℕ)). x �
     none c =
         let z : 0 ≡ 0 * c.component.factors.vertical = omega arith in
         sym (plane-none c.component.scale (values_in_block_order c.quantization) c.component.blocks_wide
-            (in_raster c.component.blocks_wide []))
+        (in_raster c.component.blocks_wide []))
         ∙ ap (λ (n : ℕ). plane_of c.component.scale (values_in_block_order c.quantization) c.component.blocks_wide n
-            (in_raster c.component.blocks_wide [])) z
+        (in_raster c.component.blocks_wide [])) z
 
 all-grown : (frame : Frame) (codings : List Coding) (arrays : Arrays)
     → AllByRecursion (Fits frame) (components_of codings) → grown frame.mcus_high codings arrays
@@ -185,7 +185,7 @@ all-grown frame [] arrays fits = refl
 all-grown frame (c ∷ codings) [] fits = refl
 all-grown frame (c ∷ codings) (blocks ∷ arrays) fits =
     ap₂ (λ (n : ℕ) (l : List (List ℕ)). plane_of c.component.scale
-        (values_in_block_order c.quantization) c.component.blocks_wide n (in_raster c.component.blocks_wide blocks) ∷ l)
+    (values_in_block_order c.quantization) c.component.blocks_wide n (in_raster c.component.blocks_wide blocks) ∷ l)
     (sym fits.0.high) (all-grown frame codings arrays fits.1)
 
 pub count-rows : (frame : Frame) (c : Component) (more : List Component) → length (rows_of frame (c ∷ more))
@@ -212,7 +212,7 @@ planes-by-rows frame c codings p n vias bytes fits =
     let count : 0 + length rows ≡ high = let e = count-rows frame c.component (components_of codings) in omega arith in
     ap (made (planes_by all))
     (frame-scans frame c.component (components_of codings) p vias n (zero_arrays cs) bytes fits (zeros-sized cs)
-        ∙ scans-by-rows frame c.component (components_of codings) p vias n bytes fits)
+    ∙ scans-by-rows frame c.component (components_of codings) p vias n bytes fits)
     ∙ sym (ap (λ (l : List (List ℕ)). ended (strips_from p vias n all rows l start t)) (none-grown all)
     ∙ ap ended (strips-in-turn p vias n all rows 0 none start t (no-blocks cs))
     ∙ ap (λ (k : ℕ). ended (read_on (λ (s : Counted). gives (grown k all s.reached.arrays)) o)) count

@@ -25,6 +25,8 @@ pub sized-answers : {U : Type 0} (width height : ℕ) (old cur new : Stream) (fo
     → Answers (λ (x : ℕ × ℕ). sized) (sized_header_at width height) old (Ok size) new
 sized-answers width height old cur new found sized u size p s e = (
   ap (λ (x : Stream). x.failed) s ∙ p.0,
-  λ k. let at = p.1 k in (ap (λ (x : Stream). x.known) s ∙ at.0,
-    sized-read width height old.bytes cur.bytes found sized at.1 e ∙ ap (λ (x : Stream). Ok (sized, x.bytes)) (sym s)),
+  λ k. let at = p.1 k in (
+    ap (λ (x : Stream). x.known) s ∙ at.0,
+    sized-read width height old.bytes cur.bytes found sized at.1 e ∙ ap (λ (x : Stream). Ok (sized, x.bytes)) (sym s),
+  ),
 )

@@ -82,7 +82,7 @@ decoded-fits f p =
     let q = p.is_read in
     let s = scale-bounds p.scale p.is_scale in
     subst (λ (g : Frame). AllByRecursion (Fits g) g.components) (sym (p.made ∙ ap (frame_at p.scale) q.made))
-      (scaled-frames-fit p.scale q.number q.precision q.width q.height q.factors s.0 (recursion_from_All IsInRange q.factors q.in_range))
+    (scaled-frames-fit p.scale q.number q.precision q.width q.height q.factors s.0 (recursion_from_All IsInRange q.factors q.in_range))
 
 sized-sources : (number precision width height : ℕ) (factors : List Factors) (sources : List Source)
     → sources_of (frame_of number precision width height factors).components (frame_of number precision width height factors).output_width (frame_of number precision width height factors).output_height ≡ Ok sources
@@ -94,8 +94,8 @@ read-sources : (f : Frame) → IsFrame f → (sources : List Source) → sources
     → (s : ℕ) → 0 < s → s ≤ 8 → HasSources (frame_at s f)
 read-sources f q sources e s some most =
     subst (λ (g : Frame). HasSources (frame_at s g)) (sym q.made)
-      (frames-have-sources s q.number q.precision q.width q.height q.factors sources (recursion_from_All IsInRange q.factors q.in_range) some most q.some_width q.some_height
-        (sized-sources q.number q.precision q.width q.height q.factors sources (subst (λ (g : Frame). sources_of g.components g.output_width g.output_height ≡ Ok sources) q.made e)))
+    (frames-have-sources s q.number q.precision q.width q.height q.factors sources (recursion_from_All IsInRange q.factors q.in_range) some most q.some_width q.some_height
+    (sized-sources q.number q.precision q.width q.height q.factors sources (subst (λ (g : Frame). sources_of g.components g.output_width g.output_height ≡ Ok sources) q.made e)))
 
 pub decoded-sources : (f : Frame) → IsDecodedFrame f → HasSources f
 decoded-sources f p =

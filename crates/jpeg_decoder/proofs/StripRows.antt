@@ -31,7 +31,7 @@ row-of wide v blocks h =
     let d = length-drop (v * wide) blocks in
     let t = length-take wide (drop (v * wide) blocks) in
     ext_get_or [] (map (block_in wide blocks v) (range_with_len 0 wide)) (take wide (drop (v * wide) blocks))
-        (omega arith)
+    (omega arith)
     (λ i k.
     let lt : i < wide = omega arith in
     get_or-map-range_with_len (block_in wide blocks v) 0 wide i i [] lt (omega arith)
@@ -40,10 +40,10 @@ row-of wide v blocks h =
 
 pub strip-next : (s : ℕ) (table : List ℕ) (wide v : ℕ) (blocks : List (List ℤ)) → v * wide + wide ≤ length blocks
     → plane_of s table wide v (block_in wide blocks) ++ strip_of s table (take wide (drop (v * wide) blocks))
-        ≡ plane_of s table wide (v + 1) (block_in wide blocks)
+    ≡ plane_of s table wide (v + 1) (block_in wide blocks)
 strip-next s table wide v blocks h =
     ap (λ (l : List (List ℤ)). plane_of s table wide v (block_in wide blocks) ++ strip_of s table l) (sym
-        (row-of wide v blocks h))
+    (row-of wide v blocks h))
     ∙ sym (plane-more s table wide v (block_in wide blocks))
 
 -- ---- blocks in block order
@@ -55,13 +55,13 @@ in-order (x ∷ l) = refl
 
 pub ordered-samples : (high : ℕ) (c : Coding) (blocks : List (List ℤ)) → length blocks ≡ high * c.component.blocks_wide
     → plane_of c.component.scale (values_in_block_order c.quantization) c.component.blocks_wide high
-        (block_in c.component.blocks_wide (map coefficients_in_block_order blocks))
+    (block_in c.component.blocks_wide (map coefficients_in_block_order blocks))
     ≡ samples_of high c (map to_block blocks)
 unfolding samples_of
 ordered-samples high c blocks e =
     let wide = c.component.blocks_wide in
     plane-same c.component.scale (values_in_block_order c.quantization) wide high (block_in wide
-        (map coefficients_in_block_order blocks)) (in_raster wide (map to_block blocks))
+    (map coefficients_in_block_order blocks)) (in_raster wide (map to_block blocks))
     (λ r k h i.
     let f = rows-fit r high wide (length blocks) h e in
     let inside : r * wide + k < length blocks = omega arith in
@@ -87,7 +87,7 @@ pub strips-at : (codings : List Coding) (arrays : Arrays) (planes : List (List �
     → length arrays ≡ length codings → length planes ≡ length codings
     → slot < length codings → c ≡ get_or codings slot c
     → get_or (with_strips codings arrays planes) slot []
-        ≡ get_or planes slot [] ++ samples_of c.component.factors.vertical c (get_or arrays slot [])
+    ≡ get_or planes slot [] ++ samples_of c.component.factors.vertical c (get_or arrays slot [])
 unfolding with_strips
 strips-at [] arrays planes slot c e f h is = absurd (omega arith)
 strips-at (d ∷ codings) [] planes slot c e f h is = absurd (omega arith)
@@ -120,7 +120,7 @@ pub drop-next : (wide v : ℕ) (blocks : List (List ℤ)) → drop wide (drop (v
 drop-next wide v blocks =
     drop-drop wide (v * wide) blocks
     ∙ ap (λ (k : ℕ). drop k blocks) (let n : suc v * wide ≡ v * wide + wide = suc-mul v wide in let z : suc v
-        ≡ v + 1 = omega arith in sym n ∙ ap (λ (k : ℕ). k * wide) z)
+    ≡ v + 1 = omega arith in sym n ∙ ap (λ (k : ℕ). k * wide) z)
 
 pub rest-long : (wide v : ℕ) (blocks : List (List ℤ)) → v * wide + wide ≤ length blocks
     → wide ≤ length (drop (v * wide) blocks)

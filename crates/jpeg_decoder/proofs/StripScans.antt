@@ -40,9 +40,9 @@ module _ (p : Pass) (vias : List Via) (n : ℕ) (frame : Frame) (codings : List 
   unfolding planes_by_rows ended
   whole-is bytes =
       ap (λ (x : Planes). ended (strips_from p vias n codings (rows_of frame (components_of codings)) x
-          (counted_at_start n []) (upcoming fresh bytes))) (sym nothing)
+      (counted_at_start n []) (upcoming fresh bytes))) (sym nothing)
       ∙ ap (λ (x : Counted). ended (strips_from p vias n codings (rows_of frame (components_of codings)) start x
-          (upcoming fresh bytes))) (sym first)
+      (upcoming fresh bytes))) (sym first)
       ∙ ap (λ (x : Ahead). ended (whole (upcoming x bytes))) (sym none)
 
   -- a refusal in the rows
@@ -50,14 +50,18 @@ module _ (p : Pass) (vias : List Via) (n : ℕ) (frame : Frame) (codings : List 
       × Option Marker) (b : Ahead) (new : Stream) (e : Error)
       → Takes v whole a old (Err e) b new → Answers view (planes_by_rows p vias n frame codings) old (Err e) new
   unfolding ended
-  rows-refused v view b new e q = (q.0, λ k known. Names-through e _ _ (λ f h. whole-is old.bytes
-      ∙ ap ended h) (q.1 k known), q.2)
+  rows-refused v view b new e q = (
+    q.0,
+    λ k known. Names-through e _ _ (λ f h. whole-is old.bytes
+        ∙ ap ended h) (q.1 k known),
+    q.2,
+  )
 
   -- one after them
   pub marker-refused : {X Y : Type 0} (v : X → Planes) (view : Y → Planes
       × Option Marker) (b : Ahead) (cur new : Stream) (u : X) (e : Error)
       → Takes v whole a old (Ok u) b cur → Answers (λ (m : Option Marker). m) (λ bytes. marker_from
-          (upcoming b bytes)) cur (Err e) new
+      (upcoming b bytes)) cur (Err e) new
       → Answers view (planes_by_rows p vias n frame codings) old (Err e) new
   unfolding ended
   marker-refused v view b cur new u e q m = (
@@ -71,16 +75,18 @@ module _ (p : Pass) (vias : List Via) (n : ℕ) (frame : Frame) (codings : List 
   pub scan-read : {X Y : Type 0} (v : X → Planes) (view : Y → Planes
       × Option Marker) (b : Ahead) (cur new : Stream) (u : X) (met : Option Marker) (y : Y)
       → Takes v whole a old (Ok u) b cur → Answers (λ (m : Option Marker). m) (λ bytes. marker_from
-          (upcoming b bytes)) cur (Ok met) new → view y ≡ (v u, met)
+      (upcoming b bytes)) cur (Ok met) new → view y ≡ (v u, met)
       → Answers view (planes_by_rows p vias n frame codings) old (Ok y) new
   unfolding ended
   scan-read v view b cur new u met y q m e = (
     m.0 ∙ q.0,
     λ k.
         let at = q.1 k in
-        let by = m.1 at.0 in
-        (by.0, whole-is old.bytes ∙ ap ended at.1 ∙ ap (marked (v u)) by.1 ∙ ap (λ (x : Planes
-            × Option Marker). Ok (x, new.bytes)) (sym e)),
+        let by = m.1 at.0 in (
+          by.0,
+          whole-is old.bytes ∙ ap ended at.1 ∙ ap (marked (v u)) by.1 ∙ ap (λ (x : Planes
+              × Option Marker). Ok (x, new.bytes)) (sym e),
+        ),
   )
 
 pub scan-by-rows : (frame : Frame) (cs : List Coded) (p : Pass) (n : ℕ) (vias : List Via) (bytes : List ℕ)
@@ -89,4 +95,4 @@ pub scan-by-rows : (frame : Frame) (cs : List Coded) (p : Pass) (n : ℕ) (vias 
 scan-by-rows frame [] p n vias bytes h fits = absurd (omega arith)
 scan-by-rows frame (c ∷ cs) p n vias bytes h fits =
     planes-by-rows frame (coding_in c) (map coding_in cs) p n vias bytes (subst (λ
-        (l : List Component). AllByRecursion (Fits frame) l) (sym (components-are (c ∷ cs))) fits)
+    (l : List Component). AllByRecursion (Fits frame) l) (sym (components-are (c ∷ cs))) fits)

@@ -43,20 +43,20 @@ strips-more : (p : Pass) (vias : List Via) (n : ℕ) (codings : List Coding) (f 
     → k < high → zeros ≡ zero_rows 1 (components_of codings)
     → strips_from p vias n codings (map f (range_with_len k (high - k))) planes old t
     ≡ read_on (behind p vias n codings (map f (range_with_len (k + 1) (high - (k + 1)))) planes) (mcus_from p vias n
-        (f k) (with_arrays zeros old) t)
+    (f k) (with_arrays zeros old) t)
 unfolding strips_from behind
 strips-more p vias n codings f k high planes zeros old t h e =
     ap (λ (l : List ℕ). strips_from p vias n codings (map f l) planes old t) (one-less k high h)
     ∙ ap (λ (z : Arrays). read_on (behind p vias n codings (map f (range_with_len (k + 1) (high - (k + 1)))) planes)
-        (mcus_from p vias n (f k) (with_arrays z old) t)) (sym e)
+    (mcus_from p vias n (f k) (with_arrays z old) t)) (sym e)
 
 pub strips_step : (p : Pass) (vias : List Via) (n : ℕ) (codings : List Coding) (f : ℕ
     → List (List Spot)) (k high : ℕ) (planes : List (List ℕ)) (zeros : Arrays) (old new : Counted) (t u : Text)
     → k < high → zeros ≡ zero_rows 1 (components_of codings) → mcus_from p vias n (f k) (with_arrays zeros old) t
-        ≡ Ok (new, u)
+    ≡ Ok (new, u)
     → strips_from p vias n codings (map f (range_with_len k (high - k))) planes old t
     ≡ strips_from p vias n codings (map f (range_with_len (k + 1) (high - (k + 1))))
-        (with_strips codings new.reached.arrays planes) (with_arrays [] new) u
+    (with_strips codings new.reached.arrays planes) (with_arrays [] new) u
 unfolding behind
 strips_step p vias n codings f k high planes zeros old new t u h e r =
     strips-more p vias n codings f k high planes zeros old t h e
@@ -66,7 +66,7 @@ pub strips_refused : (p : Pass) (vias : List Via) (n : ℕ) (codings : List Codi
     → List (List Spot)) (k high : ℕ) (planes : List (List ℕ)) (zeros : Arrays) (old : Counted) (t : Text)
     (fault : Fault)
     → k < high → zeros ≡ zero_rows 1 (components_of codings) → mcus_from p vias n (f k) (with_arrays zeros old) t
-        ≡ Err fault
+    ≡ Err fault
     → strips_from p vias n codings (map f (range_with_len k (high - k))) planes old t ≡ Err fault
 strips_refused p vias n codings f k high planes zeros old t fault h e r =
     strips-more p vias n codings f k high planes zeros old t h e
@@ -109,7 +109,7 @@ several-row frame (c ∷ d ∷ cs) row h = refl
 pub alone-row : (frame : Frame) (cs : List Coded) (c : Coded) (g : Grid) (row lines : ℕ) → length cs ≤ 1 → c
     ≡ get_or cs 0 c → 0 < length cs → g ≡ grid_of (component_in c.component.now)
     → lines ≡ min (down_in c) (g.own_high - row * down_in c) → own_rows g.wide g.own_wide lines
-        ≡ row_at frame (components_in cs) row
+    ≡ row_at frame (components_in cs) row
 unfolding row_at own_row_mcus
 alone-row frame [] c g row lines one is some e f = absurd (omega arith)
 alone-row frame (x ∷ y ∷ cs) c g row lines one is some e f = absurd (omega arith)
@@ -128,14 +128,17 @@ pub row-holds : (frame : Frame) (cs : List Coded) (vs : List Held) (column : ℕ
     → AllByRecursion (Fits frame) (components_in cs) → sizes_of vs ≡ row_sizes cs
     → column < frame.mcus_wide → HoldsMcu cs (sizes_of vs) 0 column
 row-holds frame cs vs column fits sizes k = record {
-  slots = let e = ap (λ (l : List ℕ). length l) sizes in omega (arith, length-map cs (λ
-      (c : Coded). down_in c * wide_in c));
+  slots = let e = ap (λ (l : List ℕ). length l) sizes in omega (
+    arith,
+    length-map cs (λ
+        (c : Coded). down_in c * wide_in c),
+  );
   parts = λ slot c l e v h.
       let f = fits-at frame cs slot c l e fits in
       let s = size-is cs vs slot c l e sizes in
       let one : down_in c ≡ 1 * down_in c = omega arith in
       let p = place-within 0 column v (down_in c) (across_in c) frame.mcus_wide 1 (wide_in c) (down_in c)
-          (omega arith) k h f.wide one in
+      (omega arith) k h f.wide one in
       omega arith;
 }
 
@@ -150,13 +153,13 @@ own-within frame cs vs c g lines some is e fits sizes few row h =
     let o : g.own_wide ≡ (grid_of (component_in c.component.now)).own_wide = ap (λ (x : Grid). x.own_wide) e in
     let fw = f.own_wide in
     rw (w, o) (row-within row (wide_in c) (grid_of (component_in c.component.now)).own_wide lines (get_or
-        (sizes_of vs) 0 0) (down_in c) h fw few s)
+    (sizes_of vs) 0 0) (down_in c) h fw few s)
 
 -- ---- the loop
 
 pub rows-of-scan : (frame : Frame) (cs : List Coded) → 1 ≤ length cs
     → rows_of frame (components_of (map coding_in cs))
-        ≡ map (row_at frame (components_in cs)) (range_with_len 0 (frame.mcus_high - 0))
+    ≡ map (row_at frame (components_in cs)) (range_with_len 0 (frame.mcus_high - 0))
 rows-of-scan frame [] h = absurd (omega arith)
 rows-of-scan frame (c ∷ cs) h =
     let e : frame.mcus_high ≡ frame.mcus_high - 0 = omega arith in
@@ -200,7 +203,7 @@ lengths-none cs planes e = ap lengths e ∙ go cs
 pub lengths-next : (cs : List Coded) (arrays : Arrays) (planes : List (List ℕ)) (row : ℕ) → length arrays ≡ length cs
     → lengths planes ≡ map (λ (c : Coded). samples_in (row * down_in c) c) cs
     → lengths (with_strips (map coding_in cs) arrays planes)
-        ≡ map (λ (c : Coded). samples_in ((row + 1) * down_in c) c) cs
+    ≡ map (λ (c : Coded). samples_in ((row + 1) * down_in c) c) cs
 unfolding with_strips
 lengths-next [] [] [] row e h = refl
 lengths-next [] [] (p ∷ planes) row e h = absurd (let n = ap (λ (l : List ℕ). length l) h in omega arith)
@@ -220,12 +223,12 @@ lengths-next (c ∷ cs) (a ∷ arrays) (p ∷ planes) row e h =
 pub row-count : (cs : List Coded) (vs : List Held) → sizes_of vs ≡ row_sizes cs → length (arrays_in vs) ≡ length cs
 row-count cs vs sizes =
     length-map vs blocks_in ∙ sym (sizes-long vs) ∙ ap (λ (l : List ℕ). length l) sizes
-        ∙ length-map cs (λ (c : Coded). down_in c * wide_in c)
+    ∙ length-map cs (λ (c : Coded). down_in c * wide_in c)
 
 -- a plane of all rows of MCUs has the samples of all blocks
 pub lengths-all : (frame : Frame) (cs : List Coded) → AllByRecursion (Fits frame) (components_in cs)
     → map (λ (c : Coded). samples_in (frame.mcus_high * down_in c) c) cs
-        ≡ map (λ (c : Component). c.blocks_high * c.scale * (c.blocks_wide * c.scale)) (components_in cs)
+    ≡ map (λ (c : Component). c.blocks_high * c.scale * (c.blocks_wide * c.scale)) (components_in cs)
 lengths-all frame [] fits = refl
 lengths-all frame (c ∷ cs) fits =
     let s = c.component.now.dct_scale in
@@ -233,5 +236,5 @@ lengths-all frame (c ∷ cs) fits =
     let h = c.component.now.block_size.height in
     ap₂ (λ (n : ℕ) (l : List ℕ). n ∷ l)
     (ap (λ (n : ℕ). s * w * (s * n)) (sym fits.0.high) ∙ mul_comm (s * w) (s * h)
-        ∙ ap₂ (λ (m n : ℕ). m * n) (mul_comm s h) (mul_comm s w))
+    ∙ ap₂ (λ (m n : ℕ). m * n) (mul_comm s h) (mul_comm s w))
     (lengths-all frame cs fits.1)

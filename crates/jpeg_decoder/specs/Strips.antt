@@ -37,7 +37,7 @@ unfoldable pub planes_at : Pass → ℕ → List Via → Frame → List Coding �
     → Outcome (List (List ℕ) × Option Marker)
 planes_at p n vias frame codings bytes =
     reading.◌>>=◌ (arrays_at p (n * mcu_size (components_of codings)) vias (spots_of frame
-        (components_of codings)) (zero_arrays (components_of codings)) bytes) (λ r.
+    (components_of codings)) (zero_arrays (components_of codings)) bytes) (λ r.
     Ok ((planes_by codings r.0.0, r.0.1), r.1))
 
 -- ---- row by row of MCUs
@@ -46,8 +46,8 @@ planes_at p n vias frame codings bytes =
 unfoldable pub samples_of : ℕ → Coding → List Block → List ℕ
 samples_of high c blocks =
     plane_of c.component.scale
-        (values_in_block_order c.quantization) c.component.blocks_wide high
-        (in_raster c.component.blocks_wide blocks)
+    (values_in_block_order c.quantization) c.component.blocks_wide high
+    (in_raster c.component.blocks_wide blocks)
 
 -- after each plane the samples of its component's blocks in a row of MCUs
 unfoldable pub with_strips : List Coding → Arrays → List (List ℕ) → List (List ℕ)
@@ -62,14 +62,14 @@ strips_from p vias n codings [] planes old = gives planes
 strips_from p vias n codings (mcus ∷ rows) planes old =
     mcus_from p vias n mcus (with_arrays (zero_rows 1 (components_of codings)) old) >>= (λ r.
     strips_from p vias n codings rows (with_strips codings r.reached.arrays planes)
-        (with_arrays [] r))
+    (with_arrays [] r))
 
 -- a scan from zeros, row by row of MCUs
 unfoldable pub planes_by_rows : Pass → List Via → ℕ → Frame → List Coding → List ℕ
     → Outcome (List (List ℕ) × Option Marker)
 planes_by_rows p vias n frame codings bytes =
     reading.◌>>=◌ (strips_from p vias n codings (rows_of frame (components_of codings)) (map
-        (λ c. []) codings) (counted_at_start n []) (upcoming fresh bytes)) (λ r.
+    (λ c. []) codings) (counted_at_start n []) (upcoming fresh bytes)) (λ r.
     reading.◌>>=◌ (marker_from r.1) (λ m. Ok ((r.0, m.0), m.1)))
 
 -- the MCUs of each row, by the row's number

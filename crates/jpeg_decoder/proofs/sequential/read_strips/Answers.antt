@@ -54,17 +54,17 @@ returns-in_err-read_mcus-clause-strips g c =
     let planes = planes_in l.planes.items in
     let zeros = arrays_in c.clear_rows.new.rows.items in
     let none : zeros ≡ zero_rows 1 (components_of codings) = c.clear_rows.ensures.zeros
-        ∙ ap zeros_of l.invariant.sizes ∙ zeros-are cs in
+    ∙ ap zeros_of l.invariant.sizes ∙ zeros-are cs in
     rw (e.1, e.2) (refused_behind (λ (u : Unit {0}). planes) (λ (u : Unit {0}). counted c.read_mcus.new.interval
-        (arrays_in c.read_mcus.new.rows.items))
+    (arrays_in c.read_mcus.new.rows.items))
     (strips_from p (vias_in 0 cs) n codings (rows_of frame (components_of codings))
-        (planes_in c.args.planes.now.items) (counted i []))
+    (planes_in c.args.planes.now.items) (counted i []))
     (strips_from p (vias_in 0 cs) n codings (map f (range_with_len l.row (high - l.row))) planes
-        (counted l.interval []))
+    (counted l.interval []))
     (mcus_from p (vias_in 0 cs) n (f l.row) (counted l.interval zeros))
     i.decoder l.interval.decoder c.read_mcus.new.interval.decoder c.args.source.now l.source c.read_mcus.new.source _
     (λ t fault h. strips_refused p (vias_in 0 cs) n codings f l.row high planes zeros
-        (counted l.interval []) t fault c.loop-row-test.true none h)
+    (counted l.interval []) t fault c.loop-row-test.true none h)
     l.invariant.strips c.in_err-read_mcus.ensures.mcus)
 
 pub loop-row-preserved : goal.loop-row-preserved
@@ -81,7 +81,7 @@ loop-row-preserved g c =
     let planes = planes_in l.planes.items in
     let zeros = arrays_in c.clear_rows.new.rows.items in
     let none : zeros ≡ zero_rows 1 (components_of codings) = c.clear_rows.ensures.zeros
-        ∙ ap zeros_of l.invariant.sizes ∙ zeros-are cs in
+    ∙ ap zeros_of l.invariant.sizes ∙ zeros-are cs in
     let q = c.in_ok-read_mcus.ensures in
     let read = c.read_mcus.new.rows.items in
     let sizes : sizes_of read ≡ row_sizes cs = q.sizes ∙ c.clear_rows.ensures.sizes ∙ l.invariant.sizes in
@@ -100,12 +100,12 @@ loop-row-preserved g c =
               by.0,
               at.1
                   ∙ strips_step p (vias_in 0 cs) n codings f l.row high planes zeros (counted l.interval [])
-                      (counted c.read_mcus.new.interval (arrays_in read))
+                  (counted c.read_mcus.new.interval (arrays_in read))
                   (upcoming l.interval.decoder l.source.bytes)
-                      (upcoming c.read_mcus.new.interval.decoder c.read_mcus.new.source.bytes) c.loop-row-test.true
-                      none by.1
+                  (upcoming c.read_mcus.new.interval.decoder c.read_mcus.new.source.bytes) c.loop-row-test.true
+                  none by.1
                   ∙ ap (λ (x : List (List ℕ)). strips_from p (vias_in 0 cs) n codings (map f (range_with_len
-                      (l.row + 1) (high - (l.row + 1)))) x (counted c.read_mcus.new.interval [])
+                  (l.row + 1) (high - (l.row + 1)))) x (counted c.read_mcus.new.interval [])
                   (upcoming c.read_mcus.new.interval.decoder c.read_mcus.new.source.bytes)) (sym made),
             ),
       );
@@ -132,9 +132,9 @@ returns-clause-strips g c =
     let planes = planes_in l.planes.items in
     Leaves-end (λ (u : Unit {0}). planes)
     (strips_from p (vias_in 0 cs) n codings (rows_of frame (components_of codings))
-        (planes_in c.args.planes.now.items) (counted i []))
+    (planes_in c.args.planes.now.items) (counted i []))
     (strips_from p (vias_in 0 cs) n codings (map f (range_with_len l.row (high - l.row))) planes
-        (counted l.interval []))
+    (counted l.interval []))
     i.decoder l.interval.decoder c.args.source.now l.source tt
     (λ t. strips_none p (vias_in 0 cs) n codings f l.row high planes (counted l.interval []) t c.loop-row-test.false)
     l.invariant.strips

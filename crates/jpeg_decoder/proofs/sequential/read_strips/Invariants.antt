@@ -17,11 +17,11 @@ invariant-loop-row g l = record {
   strips : Leaves (strips_from (pass_in l.fn.scan.pass)
       (vias_in 0 l.fn.scan.components.items) l.fn.scan.restart_interval (map coding_in l.fn.scan.components.items)
       (rows_of (frame_in l.fn.frame) (components_of (map coding_in l.fn.scan.components.items)))
-          (planes_in l.fn.planes.items) (counted l.fn.interval []))
+      (planes_in l.fn.planes.items) (counted l.fn.interval []))
       l.fn.interval.decoder l.fn.source
       (strips_from (pass_in l.fn.scan.pass) (vias_in 0 l.fn.scan.components.items) l.fn.scan.restart_interval
-          (map coding_in l.fn.scan.components.items)
+      (map coding_in l.fn.scan.components.items)
       (map (row_at (frame_in l.fn.frame) (components_in l.fn.scan.components.items)) (range_with_len l.row
-          (l.fn.frame.mcu_size.height - l.row))) (planes_in l.planes.items) (counted l.interval []))
+      (l.fn.frame.mcu_size.height - l.row))) (planes_in l.planes.items) (counted l.interval []))
       l.interval.decoder l.source;
 }

@@ -22,8 +22,13 @@ split_at-requires c =
     let blocks = c.args.blocks.now in
     let v = c.loop.counter in
     let fit = rows-fit v (down_in coded) wide (length blocks) c.loop-test.true c.requires.size in
-    omega (arith, rest-long wide v blocks fit, ap (λ (l : List
-        (List ℤ)). length l) c.loop.invariant.0, c.from-wide.ensures)
+    omega (
+      arith,
+      rest-long wide v blocks fit,
+      ap (λ (l : List
+          (List ℤ)). length l) c.loop.invariant.0,
+      c.from-wide.ensures,
+    )
 
 pub loop-preserved : goal.loop-preserved
 loop-preserved c =
@@ -38,12 +43,12 @@ loop-preserved c =
     let before = plane_of s table wide v (block_in wide blocks) in
     let row : c.split_at.result.0.now ≡ take wide (drop (v * wide) blocks)
     = c.split_at.ensures.front ∙ ap (λ (n : ℕ). take n c.loop.rest.now) c.from-wide.ensures
-        ∙ ap (λ (l : List (List ℤ)). take wide l) c.loop.invariant.0 in (
+    ∙ ap (λ (l : List (List ℤ)). take wide l) c.loop.invariant.0 in (
       c.split_at.ensures.back ∙ ap (λ (n : ℕ). drop n c.loop.rest.now) c.from-wide.ensures
           ∙ ap (λ (l : List (List ℤ)). drop wide l) c.loop.invariant.0 ∙ drop-next wide v blocks,
       c.in_ok-append_row.ensures.ok
           ∙ ap (λ (l : List ℕ). l ++ strip_of s c.values_in_order-table.result c.split_at.result.0.now)
-              c.loop.invariant.1
+          c.loop.invariant.1
           ∙ ap (λ (l : List ℕ). (old ++ before) ++ strip_of s l c.split_at.result.0.now) c.values_in_order-table.ensures
           ∙ ap (λ (l : List (List ℤ)). (old ++ before) ++ strip_of s table l) row
           ∙ append_assoc old before (strip_of s table (take wide (drop (v * wide) blocks)))

@@ -10,4 +10,4 @@ invariant-loop l =
     (l.rest ≡ drop (l.counter * wide_in l.coded) l.blocks)
     × (l.plane.items ≡ l.fn.plane.items
     ++ plane_of l.coded.component.now.dct_scale (values_in_block_order l.coded.quantization.now)
-        (wide_in l.coded) l.counter (block_in (wide_in l.coded) l.blocks))
+    (wide_in l.coded) l.counter (block_in (wide_in l.coded) l.blocks))
