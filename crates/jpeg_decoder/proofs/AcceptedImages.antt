@@ -15,6 +15,7 @@ use Rattle.jpeg_segments.proofs.Fields.{sized-read, skip-read}
 use Rattle.jpeg_segments.proofs.TableSegments.{dqt-read, dht-read}
 use Rattle.jpeg_segments.proofs.OtherSegments.{dri-read, app-read}
 use Rattle.jpeg_segments.proofs.HeaderSegments.{sof-read, sos-read}
+use Rattle.jpeg_decoder.proofs.PicturedFrames.{header-accepted}
 use Rattle.jpeg_decoder.proofs.WrittenMarkers.{marker-append, marker_for, segment-marker}
 use Rattle.jpeg_decoder.specs.Levels.{Levels, nothing_sent}
 use Rattle.jpeg_decoder.proofs.AcceptedStreams.{IsMarker}
@@ -190,7 +191,8 @@ frame-begins array tail said final last number h more may dct b =
     (sized (payload_of (Header number h)) ++ l) final last) (sym b.is)
     (streams.WritesHead.frame said final last b.m number b.fill b.code (sized (payload_of (Header number h))) b.behind
     (frame_written number h)
-    dct (record { accepted = λ rest. sof-read number h rest may.0.1 }) may.1 b.makes b.rest)
+    dct (record { accepted = λ rest. sof-read number h rest may.0.1 })
+    (header-accepted number h dct may.1) b.makes b.rest)
 
 frame-head : (array : Coefficients) (tail : List ℕ) (said final : Found) (last : ℕ → Levels) (s : Segment)
     (number : ℕ) (h : FrameHeader) (more : List ℕ) → s ≡ Header number h → Stands said s → IsDct s

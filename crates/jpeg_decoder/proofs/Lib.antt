@@ -82,5 +82,7 @@ pub mod DecodedImages
 pub mod WrittenParts
 pub mod PutLoops
 pub mod ScanData
+pub mod PicturedFrames
 pub mod EndedPlanes
 pub mod PicturesOfPlanes
+pub mod SizedHeaders

@@ -26,7 +26,7 @@ or-follows true b c d f g h = rw (f refl) refl
 or-follows false b true d f g h = refl
 or-follows false b false d f g h = g h
 
-abbrev pick : Bool → Bool → Bool → Bool → Bool → UpsampleRule → Option UpsampleRule
+abbrev pub pick : Bool → Bool → Bool → Bool → Bool → UpsampleRule → Option UpsampleRule
 pick a b c d e last =
     if a then Some H1V1 else
     (if b then Some H2V1 else (if c then Some H1V2 else (if d then Some H2V2 else (if e then Some last else None))))
@@ -42,7 +42,7 @@ pick-test false false false false false l r h = absurd (no h)
     no : ◌≡◌ {A = Option UpsampleRule} None (Some r) → ⊥
     no e = cc
 
-pick-some : (a b c d e : Bool) (l : UpsampleRule) → (a || (b || (c || (d || e)))) ≡ true
+pub pick-some : (a b c d e : Bool) (l : UpsampleRule) → (a || (b || (c || (d || e)))) ≡ true
     → (r : UpsampleRule) × (pick a b c d e l ≡ Some r)
 pick-some true b c d e l h = (H1V1, refl)
 pick-some false true c d e l h = (H2V1, refl)

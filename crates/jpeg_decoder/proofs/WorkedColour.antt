@@ -1,7 +1,8 @@
 -- A sequential stream of three components, with padding and a restart, worked by hand, is one that is written.
 use Rattle.std.proofs.Common.{◌≡◌, ℕ, zero, suc, ◌*◌, ◌+◌, ◌/◌, ◌%◌, ◌^◌, ◌<◌, ◌≤◌, Bool, false, List, [], ◌∷◌, ◌++◌}
-use Rattle.std.proofs.Common.{replicate, ℤ, pos, negsuc, ◌-ℤ◌, unsigned_abs, Some, None, Ok, refl, sym, arith}
+use Rattle.std.proofs.Common.{replicate, ℤ, pos, negsuc, ◌-ℤ◌, unsigned_abs, Some, None, refl, sym, arith}
 use Rattle.std.proofs.Common.{true≢false}
+use Rattle.std.proofs.Common.{inl, inr}
 use Rattle.std.specs.List.{AllByRecursion}
 use Rattle.std.specs.Prelude.{get_or, set, ◌≤ℤ◌}
 use Rattle.jpeg_bits.proofs.Tables.{tested-exist}
@@ -10,8 +11,6 @@ use Rattle.jpeg_bits.specs.Intervals.{groups}
 use Rattle.jpeg_bits.specs.Passes.{Block, Via}
 use Rattle.jpeg_bits.specs.Written.{low_bits}
 use Rattle.jpeg_bits.specs.declared.codes.HuffmanTableClass.TheVariants as classes
-use Rattle.jpeg_pixels.specs.Pictures.{sources_by}
-use Rattle.jpeg_pixels.specs.Upsampling.{rule_of}
 use Rattle.jpeg_segments.specs.Frame.{Factors, Frame, frame_of, component_of}
 use Rattle.jpeg_segments.specs.ScanHeader.{scan_of}
 use Rattle.jpeg_segments.specs.WrittenSegments.{IsHuffmanTable, FrameHeader, IsFrame, Segment, Quantization, Huffman}
@@ -21,8 +20,8 @@ use Rattle.jpeg_segments.specs.WrittenSegments.{quantization_bytes, sized}
 use Rattle.jpeg_segments.specs.ScanHeaders.{Choice, ScanHeader, AreChoices, IsScan, scan_payload, scan_written}
 use Rattle.jpeg_decoder.specs.Levels.{Levels, Is8Bit, IsLegal, nothing_sent}
 use Rattle.jpeg_decoder.specs.Order.{Spot, all_spots, mcu_size, mcu_spots, part_spots, spots_of}
-use Rattle.jpeg_decoder.specs.SaidSegments.{found_behind}
-use Rattle.jpeg_decoder.specs.Stream.{Found, Coding, nothing_found, accepted, pass_of, tables_of, updated, vias_from}
+use Rattle.jpeg_decoder.specs.SaidSegments.{HasPicture, found_behind}
+use Rattle.jpeg_decoder.specs.Stream.{Found, Coding, nothing_found, pass_of, tables_of, updated, vias_from}
 use Rattle.jpeg_decoder.specs.WorkedImages.{IsWhollyWritten, flat_block, colour_array, colour_bytes}
 use Rattle.jpeg_decoder.specs.WrittenData.{IsCategory, IsCoded, WritesAc, WritesBlocks, WritesInterval, bits_for}
 use Rattle.jpeg_decoder.specs.WrittenData.{bits_of_bytes}
@@ -252,9 +251,13 @@ ac-written most = record {
   exists = one-exists;
 }
 
-accepted-frame : accepted the_frame ≡ Ok the_frame
-unfolding accepted frame_of component_of sources_by rule_of
-accepted-frame = refl
+has-picture : HasPicture header
+has-picture = record {
+  precise = refl;
+  counted = inr (inl refl);
+  upsampled =
+      (inl (inl refl, inl refl), (inl (inr (inl refl), inl refl), (inl (inr (inl refl), inl refl), tt)));
+}
 
 header-written : IsFrame 0 header
 unfolding AreComponents
@@ -422,7 +425,7 @@ colour-written = record {
     written =
         segment nothing_found said levels_0 levels_1 false 0 (Quantization (sixteens ∷ [])) _
         ((sixteens-written, tt), tt) tt (λ e. absurd (true≢false (sym e))) (
-        segment said_1 said levels_0 levels_1 false 0 (Header 0 header) _ ((refl, header-written), accepted-frame)
+        segment said_1 said levels_0 levels_1 false 0 (Header 0 header) _ ((refl, header-written), has-picture)
         (omega arith) (λ e. absurd (true≢false (sym e))) (
         segment said_2 said levels_0 levels_1 false 0 dc_segment _ ((dc-written _, tt), tt) tt (λ e. tt) (
         segment said_3 said levels_0 levels_1 false 0 ac_segment _ ((ac-written _, tt), tt) tt (λ e. tt) (

@@ -1,14 +1,13 @@
 -- A progressive stream of three blocks, worked by hand, is one that is written.
 use Rattle.std.proofs.Common.{◌≡◌, ℕ, zero, suc, ◌*◌, ◌+◌, ◌%◌, ◌^◌, ◌<◌, ◌≤◌, true, false, List, [], ◌∷◌, ◌++◌}
 use Rattle.std.proofs.Common.{replicate}
-use Rattle.std.proofs.Common.{pos, negsuc, unsigned_abs, Option, Some, None, Ok, refl, sym, ◌∙◌, arith, true≢false}
+use Rattle.std.proofs.Common.{pos, negsuc, unsigned_abs, Option, Some, None, refl, sym, ◌∙◌, arith, true≢false}
+use Rattle.std.proofs.Common.{inl}
 use Rattle.std.specs.List.{AllByRecursion}
 use Rattle.jpeg_bits.proofs.Tables.{tested-exist}
 use Rattle.jpeg_bits.specs.Codes.{Table, HasCodes, lengths_from, code_lengths, code_value, codes_exist}
 use Rattle.jpeg_bits.specs.Written.{low_bits}
 use Rattle.jpeg_bits.specs.declared.codes.HuffmanTableClass.TheVariants as classes
-use Rattle.jpeg_pixels.specs.Pictures.{sources_by}
-use Rattle.jpeg_pixels.specs.Upsampling.{rule_of}
 use Rattle.jpeg_segments.specs.Frame.{Factors, Frame, frame_of, component_of}
 use Rattle.jpeg_segments.specs.ScanHeader.{scan_of}
 use Rattle.jpeg_segments.specs.WrittenSegments.{QuantizationTable, IsQuantizationTable, IsHuffmanTable, FrameHeader}
@@ -18,9 +17,9 @@ use Rattle.jpeg_segments.specs.WrittenSegments.{Segment, Quantization, Huffman, 
 use Rattle.jpeg_segments.specs.ScanHeaders.{ScanHeader, AreChoices, IsScan, scan_payload, scan_written}
 use Rattle.jpeg_decoder.specs.Levels.{Levels, Is8Bit, nothing_sent}
 use Rattle.jpeg_decoder.specs.Order.{Spot, own_spots, spots_of, mcu_size}
-use Rattle.jpeg_decoder.specs.SaidSegments.{found_behind}
+use Rattle.jpeg_decoder.specs.SaidSegments.{HasPicture, found_behind}
 use Rattle.jpeg_decoder.specs.Scans.{no_table}
-use Rattle.jpeg_decoder.specs.Stream.{Found, Coding, nothing_found, accepted, is_progressive, pass_of, tables_of}
+use Rattle.jpeg_decoder.specs.Stream.{Found, Coding, nothing_found, is_progressive, pass_of, tables_of}
 use Rattle.jpeg_decoder.specs.Stream.{updated, vias_from}
 use Rattle.jpeg_decoder.specs.WorkedImages.{IsWhollyWritten, flat_block, grey_array, grey_bytes}
 use Rattle.jpeg_decoder.specs.WrittenData.{IsCategory, IsCoded, NoneNew, bits_of_bytes, corrections, count_unknown}
@@ -358,9 +357,8 @@ ac-written most = record {
   exists = three-exist;
 }
 
-accepted-frame : accepted the_frame ≡ Ok the_frame
-unfolding accepted frame_of component_of sources_by rule_of
-accepted-frame = refl
+has-picture : HasPicture header
+has-picture = record { precise = refl; counted = inl refl; upsampled = (inl (inl refl, inl refl), tt) }
 
 header-written : IsFrame 2 header
 unfolding AreComponents
@@ -573,7 +571,7 @@ grey-written = record {
     written =
         segment nothing_found said levels_0 levels_4 false 0 (Quantization (sixteens ∷ [])) _
         ((sixteens-written, tt), tt) tt (λ e. absurd (true≢false (sym e))) (
-        segment said_1 said levels_0 levels_4 false 0 (Header 2 header) _ ((refl, header-written), accepted-frame)
+        segment said_1 said levels_0 levels_4 false 0 (Header 2 header) _ ((refl, header-written), has-picture)
         (omega arith) (λ e. absurd (true≢false (sym e))) (
         segment said_2 said levels_0 levels_4 false 0 dc_segment _ ((dc-written _, tt), tt) tt (λ e. tt) (
         segment said_3 said levels_0 levels_4 false 0 ac_segment _ ((ac-written _, tt), tt) tt (λ e. tt) (

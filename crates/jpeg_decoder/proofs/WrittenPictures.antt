@@ -4,10 +4,15 @@ use Rattle.std.proofs.Common.{[], ◌∷◌, map, length, get_or, slice_index, s
 use Rattle.std.proofs.Common.{Result, Ok, Err, refl, sym, ap, ap₂, ◌∙◌, subst, arith, min, true≢false, if◌then◌else◌}
 use Rattle.std.proofs.Math.Nat.{div-lt_iff_lt-mul, mul_comm, div-mul-le_self}
 use Rattle.std.proofs.lemmas.Nat.{div-mul-add, mod-mul-add}
-use Rattle.std.proofs.lemmas.Bool.{le-ltb}
+use Rattle.std.proofs.lemmas.Bool.{eq-eqb, le-ltb}
 use Rattle.std.proofs.lemmas.List.FromFn.{get_or-map-range_with_len, length-map-range_with_len}
 use Rattle.std.specs.List.{AllByRecursion, range_with_len, list_all}
 use Rattle.jpeg_bits.specs.Reading.{Fault, Malformed, ◌>>=◌}
+use Rattle.jpeg_bits.specs.declared.color_transform.ColorTransform.{ColorTransform}
+use Rattle.jpeg_bits.specs.declared.color_transform.ColorTransform.TheVariants as transforms
+use Rattle.jpeg_pixels.specs.Colour.{conversion_of}
+use Rattle.jpeg_pixels.specs.declared.upsampler.ColorConvert.{ColorConvert}
+use Rattle.jpeg_pixels.specs.declared.upsampler.ColorConvert.TheVariants as converts
 use Rattle.jpeg_segments.specs.Frame.{Frame, Component, ceiling}
 use Rattle.jpeg_pixels.specs.Zigzag.{coefficients_in_block_order, values_in_block_order}
 use Rattle.jpeg_pixels.specs.Pictures.{Source, sources_of, image_of}
@@ -26,7 +31,7 @@ use Rattle.jpeg_decoder.specs.declared.state.Before.TheVariants.{Elsewhere}
 use Rattle.jpeg_decoder.specs.Levels.{Levels, Is8Bit, cut}
 use Rattle.jpeg_decoder.proofs.FinishedPlaces.{is_level_0}
 use Rattle.jpeg_decoder.specs.WrittenScans.{Coefficients, HasTable, IsComplete}
-use Rattle.jpeg_decoder.specs.ArrayPictures.{HasTransform, Takes, plane_of_array, planes_of_array, picture_of_array}
+use Rattle.jpeg_decoder.specs.ArrayPictures.{HasTransform, IsTransformOf, Takes, plane_of_array, planes_of_array, picture_of_array}
 use Rattle.jpeg_decoder.specs.Stream.{told_of}
 use Rattle.jpeg_decoder.proofs.AcceptedStreams.{WritesStream}
 use Rattle.jpeg_decoder.proofs.OwnSpots.{At, at-within, Fits, in-below}
@@ -320,6 +325,19 @@ some-of : {A B : Type 0} (o : Result A Fault) (f : A → Result B Fault) (x : A)
     → (y : B) × ((o >>= f) ≡ Ok y)
 some-of o f x e y = (y.0, then-ok o f x (Ok y.0) e y.1)
 
+conversion-there : (count : ℕ) (t : ColorTransform) → IsTransformOf count t
+    → (convert : ColorConvert) × (conversion_of count t ≡ Ok convert)
+unfolding conversion_of
+conversion-there count transforms.None h = (converts.None, refl)
+conversion-there count transforms.RGB h = (converts.Rgb, rw (eq-eqb count 3 h) refl)
+conversion-there count transforms.YCbCr h = (converts.YCbCr, rw (eq-eqb count 3 h) refl)
+conversion-there count transforms.CMYK h = (converts.Cmyk, rw (eq-eqb count 4 h) refl)
+conversion-there count transforms.YCCK h = (converts.Ycck, rw (eq-eqb count 4 h) refl)
+conversion-there count transforms.Grayscale h = absurd h
+conversion-there count transforms.Unknown h = absurd h
+conversion-there count transforms.JcsBgYcc h = absurd h
+conversion-there count transforms.JcsBgRgb h = absurd h
+
 picture-there : (settings : Settings) (w : Found) (f : Frame) (components : List Component)
     (ours planes : List (List ℕ)) (sources : List Source) → HasTransform settings w components
     → sources_of components f.output_width f.output_height ≡ Ok sources → AllAlike components ours planes
@@ -330,7 +348,8 @@ picture-there settings w f (c ∷ []) [] planes sources t e h = absurd h
 picture-there settings w f (c ∷ []) (o ∷ ours) [] sources t e h = absurd h
 picture-there settings w f (c ∷ []) (o ∷ ours) (p ∷ planes) sources t e h = (picture_in f c p, refl)
 picture-there settings w f (c ∷ d ∷ more) ours planes sources t e h =
-    some-of _ _ t.0 t.1 (some-of (sources_of (c ∷ d ∷ more) f.output_width f.output_height) _ sources e (_, refl))
+    let convert = conversion-there (length (c ∷ d ∷ more)) _ t in
+    some-of _ _ convert.0 convert.1 (some-of (sources_of (c ∷ d ∷ more) f.output_width f.output_height) _ sources e (_, refl))
 
 within-limit : (a b : ℕ) (x : Result (List ℕ) Fault) → b ≤ a → cond (nat_lt a b) (Err Malformed) x ≡ x
 within-limit a b x h = rw (le-ltb a b h) refl

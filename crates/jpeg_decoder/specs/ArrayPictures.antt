@@ -3,11 +3,11 @@ use Rattle.std.specs.Prelude.{◌≡◌, ℕ, ◌+◌, ◌*◌, ◌≤◌, List,
 use Rattle.std.specs.Prelude.{Some, None, Result, Ok, Err, nat_lt, if◌then◌else◌}
 use Rattle.jpeg_bits.specs.Passes.{Block, listed}
 use Rattle.jpeg_bits.specs.Reading.{Outcome, Fault, Malformed, ◌>>=◌}
+use Rattle.jpeg_bits.specs.declared.color_transform.ColorTransform.{ColorTransform}
+use Rattle.jpeg_bits.specs.declared.color_transform.ColorTransform.TheVariants as transforms
 use Rattle.jpeg_segments.specs.Frame.{Component, Frame}
-use Rattle.jpeg_pixels.specs.Colour.{conversion_of}
 use Rattle.jpeg_pixels.specs.Planes.{plane_of}
 use Rattle.jpeg_pixels.specs.Zigzag.{coefficients_in_block_order, values_in_block_order}
-use Rattle.jpeg_pixels.specs.declared.upsampler.ColorConvert.{ColorConvert}
 use Rattle.jpeg_decoder.specs.ColourChoice.{identifiers_of, transform_of}
 use Rattle.jpeg_decoder.specs.declared.state.Settings.{Settings}
 use Rattle.jpeg_decoder.specs.Levels.{Levels, cut}
@@ -52,15 +52,28 @@ meaning_of_array settings w array levels tail =
 
 -- ---- settings that take a picture
 
--- The colour transform is one that so many components can have.
+-- The colour transforms that a picture of so many components can have: none, for three components
+-- RGB and YCbCr, and for four CMYK and YCCK.
+abbrev pub IsTransformOf : ℕ → ColorTransform → Type 0
+IsTransformOf count transforms.None = Unit {0}
+IsTransformOf count transforms.RGB = count ≡ 3
+IsTransformOf count transforms.YCbCr = count ≡ 3
+IsTransformOf count transforms.CMYK = count ≡ 4
+IsTransformOf count transforms.YCCK = count ≡ 4
+IsTransformOf count transforms.Grayscale = ⊥
+IsTransformOf count transforms.Unknown = ⊥
+IsTransformOf count transforms.JcsBgYcc = ⊥
+IsTransformOf count transforms.JcsBgRgb = ⊥
+
+-- A picture of several components can have the transform that is set, or else that its segments and
+-- the components' identifiers tell.
 abbrev pub HasTransform : Settings → Found → List Component → Type 0
 HasTransform settings w [] = ⊥
 HasTransform settings w (c ∷ []) = Unit {0}
 HasTransform settings w (c ∷ d ∷ more) =
-    let components = c ∷ d ∷ more in
-    let transform = transform_of settings.color_transform (identifiers_of components)
-    w.metadata.jfif w.metadata.adobe in
-    (convert : ColorConvert) × (conversion_of (length components) transform ≡ Ok convert)
+    IsTransformOf (length (c ∷ d ∷ more))
+    (transform_of settings.color_transform (identifiers_of (c ∷ d ∷ more)) w.metadata.jfif
+    w.metadata.adobe)
 
 -- The settings take the picture of the frame that was said: its bytes are within the limit, and its
 -- components can have the colour transform.

@@ -57,5 +57,16 @@ unfolding int_wrap next_u16 length_at times skip_at marker_of next_marker filled
     start_at header_at plane_at_end planes_from picture_by picture_of rest_at meaning sized_meaning
     quantization.value_at quantization.table_at quantization.placed_table_at quantization.tables_from
     quantization.dqt_at tables.symbols_at tables.codes_at tables.placed_codes_at tables.tables_from tables.dht_at
-returns c = record { at_once = refl; in_turn = refl; lines = refl; limit = refl; factors = refl; restart =
-    refl; wrong_restart = refl; first_decides = refl; refined = refl; unrefined = refl; run = refl }
+returns c = record {
+  at_once = refl;
+  in_turn = refl;
+  lines = refl;
+  limit = refl;
+  factors = refl;
+  restart = refl;
+  wrong_restart = refl;
+  first_decides = refl;
+  refined = refl;
+  unrefined = refl;
+  run = refl;
+}

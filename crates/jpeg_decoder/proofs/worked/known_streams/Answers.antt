@@ -57,5 +57,16 @@ unfolding int_wrap next_u16 length_at times skip_at marker_of next_marker filled
     start_at header_at plane_at_end planes_from picture_by picture_of rest_at meaning sized_meaning
     quantization.value_at quantization.table_at quantization.placed_table_at quantization.tables_from
     quantization.dqt_at tables.symbols_at tables.codes_at tables.placed_codes_at tables.tables_from tables.dht_at
-returns c = record { flat = refl; behind_marker = refl; no_code = refl; met = refl; passed = refl; restarts =
-    refl; lines = refl; no_height = refl; one_coefficient = refl; empty = refl }
+returns c = record {
+  flat = refl;
+  behind_marker = refl;
+  no_code = refl;
+  met = refl;
+  passed = refl;
+  restarts =
+      refl;
+  lines = refl;
+  no_height = refl;
+  one_coefficient = refl;
+  empty = refl;
+}
