@@ -85,3 +85,4 @@ pub mod ScanData
 pub mod PicturedFrames
 pub mod EndedPlanes
 pub mod PicturesOfPlanes
+pub mod SizedAgain
