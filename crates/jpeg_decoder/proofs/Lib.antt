@@ -86,3 +86,4 @@ pub mod PicturedFrames
 pub mod EndedPlanes
 pub mod PicturesOfPlanes
 pub mod SizedHeaders
+pub mod SizedAgain

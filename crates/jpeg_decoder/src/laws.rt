@@ -19,7 +19,7 @@ ghost use Rattle.jpeg_decoder.specs.McuRows.{scan_by_rows};
 ghost use Rattle.jpeg_decoder.specs.Rasters.{ordered, in_raster};
 ghost use Rattle.jpeg_decoder.specs.Stream.{Found, Coding, header_at, rest_at, meaning};
 ghost use Rattle.jpeg_decoder.specs.Stream.{is_progressive, pass_of, codings_of, vias_from};
-ghost use Rattle.jpeg_decoder.specs.Stream.{arrays_before, scan_arrays};
+ghost use Rattle.jpeg_decoder.specs.Stream.{arrays_before, scan_arrays, sized_to};
 ghost use Rattle.jpeg_decoder.specs.declared.state.Settings.{Settings};
 
 /// A header and then the rest of its stream are the whole stream, and a refused header is a refused
@@ -127,4 +127,12 @@ pub fn planes_grow_by_strips()
         plane_of scale table wide (n + 1) (in_raster wide (blocks ++ row))
         ≡ plane_of scale table wide n (in_raster wide blocks)
         ++ strip_of scale table (map ordered row) }
+{}
+
+/// Of two sizes that are asked for the last counts: a frame at a scale, brought to another, is the
+/// frame at that one.
+pub fn last_sizes_count()
+    ensures { (width height other_width other_height : ℕ) (found : Found) →
+        sized_to width height (sized_to other_width other_height found)
+        ≡ sized_to width height found }
 {}
