@@ -86,3 +86,5 @@ pub mod PicturedFrames
 pub mod EndedPlanes
 pub mod PicturesOfPlanes
 pub mod SizedAgain
+pub mod EncodedBlocks
+pub mod EncodedImages
