@@ -87,3 +87,5 @@ pub mod EndedPlanes
 pub mod PicturesOfPlanes
 pub mod SizedHeaders
 pub mod SizedAgain
+pub mod EncodedBlocks
+pub mod EncodedImages

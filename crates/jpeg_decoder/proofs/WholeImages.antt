@@ -34,11 +34,11 @@ over-one n = omega arith
 times-one : (u : ℤ) → u *ℤ pos (2 ^ 0) ≡ u
 times-one u = omega (arith, ints)
 
-floor-whole : (u : ℤ) → floor_at 0 u ≡ u
+pub floor-whole : (u : ℤ) → floor_at 0 u ≡ u
 floor-whole (pos n) = ap pos (over-one n)
 floor-whole (negsuc n) = ap negsuc (over-one n)
 
-toward-whole : (u : ℤ) → toward_zero 0 u ≡ u
+pub toward-whole : (u : ℤ) → toward_zero 0 u ≡ u
 toward-whole (pos n) = ap pos (over-one n)
 toward-whole (negsuc n) = ap (λ (k : ℕ). neg_ℤ (pos k)) (over-one (suc n))
 

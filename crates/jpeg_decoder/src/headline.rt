@@ -1,9 +1,11 @@
 //! The headline: a stream that is written for coefficients means the picture of those coefficients.
 //! Theorems, each on a function without a body.
-ghost use Rattle.std.specs.Prelude.{◌≡◌, ℕ, [], ◌∷◌, ◌++◌, length, List, Some, Ok, false, true};
+ghost use Rattle.std.specs.Prelude.{◌≡◌, ℕ, ◌≤◌, [], ◌∷◌, ◌++◌, length, List, Some, Ok, false, true};
 ghost use Rattle.std.specs.List.{AllByRecursion};
 ghost use Rattle.jpeg_bits.specs.Passes.{Block};
 ghost use Rattle.jpeg_segments.specs.Frame.{Frame};
+ghost use Rattle.jpeg_segments.specs.WrittenSegments.{FrameHeader, IsFrame};
+ghost use Rattle.jpeg_decoder.specs.SaidSegments.{HasPicture};
 ghost use Rattle.jpeg_decoder.specs.ArrayPictures.{meaning_of_array, picture_of_array, Takes};
 ghost use Rattle.jpeg_decoder.specs.Levels.{Is8Bit, Levels, cut, nothing_sent};
 ghost use Rattle.jpeg_decoder.specs.Stream.{Found, is_progressive, meaning, sized_meaning};
@@ -152,4 +154,13 @@ pub fn progressive_images_may_end_early()
 pub fn worked_images_are_written()
     ensures grey { IsWhollyWritten grey_array grey_bytes }
     ensures colour { IsWhollyWritten colour_array colour_bytes }
+{}
+
+/// There is a stream for every image: the coefficients of 8-bit samples in any frame of SOF0 or
+/// SOF1 that has a picture have one, and it sends every bit.
+pub fn every_image_has_a_stream()
+    ensures { (number : ℕ) (h : FrameHeader) (array : Coefficients) →
+        number ≤ 1 → IsFrame number h → HasPicture h →
+        ((place row column : ℕ) → Is8Bit (array place row column)) →
+        (bytes : List ℕ) × IsWhollyWritten array bytes }
 {}
