@@ -181,6 +181,7 @@ fn headers_before_a_refused_scan(rt: HostRuntime) -> Result<(), Fail> {
     Ok(())
 }
 
+/// Headers of several components, of which the stream's one scan leaves some without samples.
 #[test]
 fn headers_of_several_components(rt: HostRuntime) -> Result<(), Fail> {
     let narrow = "FFC0 0011 08 0008 0001 03 01 31 00 02 21 00 03 21 00";

@@ -2,7 +2,6 @@
 
 use crate::bytes::bytes;
 use crate::streams::{Reader, Trouble};
-use jpeg_decoder::idct::dequantize_and_idct_block;
 use jpeg_decoder::{Decoder, ImageInfo};
 use std::alloc::Global;
 use std::process::Abort;
@@ -224,15 +223,4 @@ fn a_finished_decoder_is_scaled(rt: HostRuntime) -> Result<(), Fail> {
     let info: ImageInfo = decoder.info().ok_or("no info")?;
     assert!(rt; (info.width, info.height) == (2, 2));
     Ok(())
-}
-
-#[test]
-fn a_block_of_dc_alone_is_rounded_by_its_scale(rt: HostRuntime) {
-    let mut coefficients = [0; 64];
-    coefficients[0] = 2;
-    for (scale, sample) in [(1, 128), (2, 129), (4, 129), (8, 129)] {
-        let mut samples = [0; 64];
-        dequantize_and_idct_block(scale, &coefficients, &[2; 64], 8, &mut samples);
-        assert_eq!(rt; samples[0], sample);
-    }
 }
