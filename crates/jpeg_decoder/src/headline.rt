@@ -1,6 +1,7 @@
 //! The headline: a stream that is written for coefficients means the picture of those coefficients.
 //! Theorems, each on a function without a body.
-ghost use Rattle.std.specs.Prelude.{◌≡◌, ℕ, ◌≤◌, [], ◌∷◌, ◌++◌, length, List, Some, Ok, false, true};
+ghost use Rattle.std.specs.Prelude.{◌≡◌, ℕ, ◌≤◌, [], ◌∷◌, ◌++◌, length, List, Some, Ok, false};
+ghost use Rattle.std.specs.Prelude.{true};
 ghost use Rattle.std.specs.List.{AllByRecursion};
 ghost use Rattle.jpeg_bits.specs.Passes.{Block};
 ghost use Rattle.jpeg_segments.specs.Frame.{Frame};
@@ -156,11 +157,11 @@ pub fn worked_images_are_written()
     ensures colour { IsWhollyWritten colour_array colour_bytes }
 {}
 
-/// There is a stream for every image: the coefficients of 8-bit samples in any frame of SOF0 or
-/// SOF1 that has a picture have one, and it sends every bit.
+/// There is a stream for every image: the coefficients of 8-bit samples in any frame of SOF0, SOF1
+/// or SOF2 that has a picture have one that sends every bit.
 pub fn every_image_has_a_stream()
     ensures { (number : ℕ) (h : FrameHeader) (array : Coefficients) →
-        number ≤ 1 → IsFrame number h → HasPicture h →
+        number ≤ 2 → IsFrame number h → HasPicture h →
         ((place row column : ℕ) → Is8Bit (array place row column)) →
         (bytes : List ℕ) × IsWhollyWritten array bytes }
 {}
