@@ -32,14 +32,13 @@ place_zero al z t e = rw e refl
 abbrev in_front : ℤ → List ℤ × Text → Result (List ℤ × Text) Fault
 in_front z o = Ok (z ∷ o.0, o.1)
 
-
 -- one place of a piece, and then the others
 piece_step : (al n : ℕ) (z : ℤ) (rest : List ℤ) (t : Text) → piece_of al (suc n) (z ∷ rest) t ≡ (place_from al z t >>= λ (f : ℤ × Text). one_more f.0 (piece_of al n rest f.1))
 unfolding piece_of corrected
 piece_step al n z rest t = by_place (place_from al z t)
   where
     by_place : (o : Result (ℤ × Text) Fault) → ((o >>= λ (f : ℤ × Text). corrected al (take n rest) f.1 >>= λ (x : List ℤ × Text). in_front f.0 x) >>= λ (front : List ℤ × Text). with_rest (suc n) (z ∷ rest) front)
-      ≡ (o >>= λ (f : ℤ × Text). one_more f.0 (corrected al (take n rest) f.1 >>= λ (front : List ℤ × Text). with_rest n rest front))
+        ≡ (o >>= λ (f : ℤ × Text). one_more f.0 (corrected al (take n rest) f.1 >>= λ (front : List ℤ × Text). with_rest n rest front))
     by_place (Ok f) = under_other f.0 (corrected al (take n rest) f.1)
       where
         under_other : (y : ℤ) (o : Result (List ℤ × Text) Fault) → ((o >>= λ (x : List ℤ × Text). in_front y x) >>= λ (front : List ℤ × Text). with_rest (suc n) (z ∷ rest) front) ≡ one_more y (o >>= λ (front : List ℤ × Text). with_rest n rest front)
@@ -72,10 +71,10 @@ unfolding walk_from through_zero
 piece_walk al r [] t = piece_zero al [] t
 piece_walk al zero (z ∷ places) t =
     by_bool (is_zero z) (λ e. rw (e, through_zero, walk_from) (walk_ends al z places t e))
-      (λ e. rw (e, through_zero, walk_from) (walk_value_at al (through_zero zero places) z places t (walk_from al zero places) (λ t. piece_walk al zero places t)))
+    (λ e. rw (e, through_zero, walk_from) (walk_value_at al (through_zero zero places) z places t (walk_from al zero places) (λ t. piece_walk al zero places t)))
 piece_walk al (suc r) (z ∷ places) t =
     by_bool (is_zero z) (λ e. rw (e, through_zero, walk_from) (walk_over al (through_zero r places) z places t (walk_from al r places t) e (piece_walk al r places t)))
-      (λ e. rw (e, through_zero, walk_from) (walk_value_at al (through_zero (suc r) places) z places t (walk_from al (suc r) places) (λ t. piece_walk al (suc r) places t)))
+    (λ e. rw (e, through_zero, walk_from) (walk_value_at al (through_zero (suc r) places) z places t (walk_from al (suc r) places) (λ t. piece_walk al (suc r) places t)))
 
 abbrev pub behind : ℕ → List ℤ → (ℕ × List ℤ) × Text → Walk
 behind i front w = Ok ((i + w.0.0, front ++ w.0.1), w.1)
@@ -157,9 +156,9 @@ walk_value al r cur i t h e =
     ∙ ap (λ o. o >>= λ w. behind i (take i cur) w) (walk_nonzero al r z (drop (i + 1) cur) t (not_zero z e))
     ∙ bind_bind (place_from al z t) (λ (f : ℤ × Text). one_more f.0 (walk_from al r (drop (i + 1) cur) f.1)) i (take i cur)
     ∙ bind_same (place_from al z t) _ _ (λ f.
-      more_left i (take i cur) f.0 (walk_from al r (drop (i + 1) cur) f.1)
-      ∙ ap (λ (ys : List ℤ). walk_from al r (drop (i + 1) cur) f.1 >>= λ w. behind (i + 1) ys w) (sym (take_more_set cur i f.0 h))
-      ∙ ap (λ (ys : List ℤ). walk_from al r ys f.1 >>= λ w. behind (i + 1) (take (i + 1) (set cur i f.0)) w) (sym (drop-set-lt (i + 1) cur i f.0 (omega arith))))
+    more_left i (take i cur) f.0 (walk_from al r (drop (i + 1) cur) f.1)
+    ∙ ap (λ (ys : List ℤ). walk_from al r (drop (i + 1) cur) f.1 >>= λ w. behind (i + 1) ys w) (sym (take_more_set cur i f.0 h))
+    ∙ ap (λ (ys : List ℤ). walk_from al r ys f.1 >>= λ w. behind (i + 1) (take (i + 1) (set cur i f.0)) w) (sym (drop-set-lt (i + 1) cur i f.0 (omega arith))))
 
 -- a step at a place that isn't zero, which is read as y
 pub value_step : (al r : ℕ) (cur : List ℤ) (i : ℕ) (x y z : ℤ) (t u : Text) → i < length cur → (get_or cur i (pos 0) ≡ pos 0 → ⊥) → x ≡ get_or cur i (pos 0) → y ≡ z

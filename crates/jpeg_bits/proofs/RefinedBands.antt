@@ -48,8 +48,8 @@ refined-fuel table al (suc n) zero (x ∷ rest) t h k = absurd (omega arith)
 refined-fuel table al (suc n) (suc m) (x ∷ rest) t h k =
     bind_same (refinement_from table al t) _ _ (λ c.
     piece-same al (refined_ac table al n) (refined_ac table al m) x rest c.0 c.1 (λ j t g.
-      let d = length-drop j (x ∷ rest) in
-      refined-fuel table al n m (drop j (x ∷ rest)) t (omega arith) (omega arith)))
+    let d = length-drop j (x ∷ rest) in
+    refined-fuel table al n m (drop j (x ∷ rest)) t (omega arith) (omega arith)))
 
 -- a band is its first piece and then a band
 band-step : (table : Table) (al : ℕ) (rest : List ℤ) (t : Text) → 0 < length rest
@@ -59,8 +59,8 @@ band-step table al [] t h = absurd (omega arith)
 band-step table al (x ∷ rest) t h =
     bind_same (refinement_from table al t) _ _ (λ c.
     piece-same al (refined_ac table al (length rest)) (refined_band_from table al) x rest c.0 c.1 (λ j t g.
-      let d = length-drop j (x ∷ rest) in
-      refined-fuel table al (length rest) (length (drop j (x ∷ rest))) (drop j (x ∷ rest)) t (omega arith) (le_refl _)))
+    let d = length-drop j (x ∷ rest) in
+    refined-fuel table al (length rest) (length (drop j (x ∷ rest))) (drop j (x ∷ rest)) t (omega arith) (le_refl _)))
 
 -- what the places from i on give, behind those before them
 unfoldable pub refined_left : Table → ℕ → List ℤ → ℕ → Text → Result (Band × Text) Fault
@@ -152,13 +152,13 @@ pub step_refused : (table : Table) (al : ℕ) (band rest : List ℤ) (i all : �
 unfolding refined_step refined_piece
 step_refused table al band rest i all Zeros t f e le h =
     ap (λ (o : Result (List ℤ × Text) Fault). before (take i band) (o >>= λ front. before front.0 (refined_band_from table al (drop (through_zero 15 (drop i band)) (drop i band)) front.1)))
-      (corrected_refused al 15 (drop i band) t f (ap (λ (ys : List ℤ). piece_from al 15 ys t) (sym e) ∙ h))
+    (corrected_refused al 15 (drop i band) t f (ap (λ (ys : List ℤ). piece_from al 15 ys t) (sym e) ∙ h))
 step_refused table al band rest i all (New r v) t f e le h =
     ap (λ (o : Result (List ℤ × Text) Fault). before (take i band) (o >>= λ front. before (with_last v front.0) (refined_band_from table al (drop (through_zero r (drop i band)) (drop i band)) front.1)))
-      (corrected_refused al r (drop i band) t f (ap (λ (ys : List ℤ). piece_from al r ys t) (sym e) ∙ h))
+    (corrected_refused al r (drop i band) t f (ap (λ (ys : List ℤ). piece_from al r ys t) (sym e) ∙ h))
 step_refused table al band rest i all (End run) t f e le h =
     ap (λ (o : Result (List ℤ × Text) Fault). before (take i band) (o >>= λ x. ended run x))
-      (ap (λ (ys : List ℤ). corrected al ys t) (sym e) ∙ ap (λ (ys : List ℤ). corrected al ys t) (sym (take_all (through_zero all rest) rest (omega (arith, through_all all rest le)))) ∙ corrected_refused al all rest t f h)
+    (ap (λ (ys : List ℤ). corrected al ys t) (sym e) ∙ ap (λ (ys : List ℤ). corrected al ys t) (sym (take_all (through_zero all rest) rest (omega (arith, through_all all rest le)))) ∙ corrected_refused al all rest t f h)
 
 take_front : (k : ℕ) (xs ys : List ℤ) → length xs ≡ k → take k (xs ++ ys) ≡ xs
 take_front k xs ys e = take-append-le k xs ys (omega arith) ∙ take_all k xs (omega arith)
@@ -191,12 +191,12 @@ unfolding piece_from ok_of
 is_piece al r rest t n ys u h = by_result (corrected al (take (through_zero r rest) rest) t) refl (corrected-length al (take (through_zero r rest) rest) t) h
   where
     by_result : (o : Result (List ℤ × Text) Fault) → corrected al (take (through_zero r rest) rest) t ≡ o → KeepsLength (length (take (through_zero r rest) rest)) o
-      → (o >>= λ (front : List ℤ × Text). pieced (through_zero r rest) rest front) ≡ Ok ((n, ys), u) → IsPiece al r rest t n ys u
+        → (o >>= λ (front : List ℤ × Text). pieced (through_zero r rest) rest front) ≡ Ok ((n, ys), u) → IsPiece al r rest t n ys u
     by_result (Ok x) e l h =
         let same = ap (λ (w : Walk). ok_of ((n, ys), u) w) h in
         piece x.0 (e ∙ ap (λ (w : Text). Ok (x.0, w)) (ap (λ (z : (ℕ × List ℤ) × Text). z.1) same))
-          (let a = length-take (through_zero r rest) rest in let b = through_zero_le r rest in l ∙ length_short (through_zero r rest) rest b)
-          (sym (ap (λ (z : (ℕ × List ℤ) × Text). z.0.0) same)) (sym (ap (λ (z : (ℕ × List ℤ) × Text). z.0.1) same))
+        (let a = length-take (through_zero r rest) rest in let b = through_zero_le r rest in l ∙ length_short (through_zero r rest) rest b)
+        (sym (ap (λ (z : (ℕ × List ℤ) × Text). z.0.0) same)) (sym (ap (λ (z : (ℕ × List ℤ) × Text). z.0.1) same))
     by_result (Err g) e l h = absurd (false≢true (ap is_ok h))
 
 module _ (table : Table) (al i n : ℕ) (band nb rest ys : List ℤ) (t u : Text) (le : i ≤ length band) (old : rest ≡ drop i band) (new : nb ≡ take i band ++ ys) where
@@ -228,8 +228,8 @@ module _ (table : Table) (al i n : ℕ) (band nb rest ys : List ℤ) (t u : Text
           let k : length (take i band ++ front) ≡ i + n = front_length front ∙ omega arith in
           let b : nb ≡ (take i band ++ front) ++ more = new ∙ ap (λ (xs : List ℤ). take i band ++ xs) e ∙ sym (append_assoc (take i band) front more) in
           let s : set nb (i + n - 1) v ≡ (take i band ++ with_last v front) ++ more
-                = ap (λ (xs : List ℤ). set xs (i + n - 1) v) b ∙ set-append_left (take i band ++ front) more (i + n - 1) v (omega arith)
-                  ∙ ap (λ (xs : List ℤ). xs ++ more) (set_last (take i band) front v (i + n - 1) (omega arith) (omega arith)) in
+          = ap (λ (xs : List ℤ). set xs (i + n - 1) v) b ∙ set-append_left (take i band ++ front) more (i + n - 1) v (omega arith)
+          ∙ ap (λ (xs : List ℤ). xs ++ more) (set_last (take i band) front v (i + n - 1) (omega arith) (omega arith)) in
           let k' : length (take i band ++ with_last v front) ≡ i + n = front_length (with_last v front) ∙ ap (λ (z : ℕ). i + z) (with_last-length v front ∙ l ∙ sym m) in
           ap (λ (o : Result (List ℤ × Text) Fault). before (take i band) (o >>= λ front. before (with_last v front.0) (refined_band_from table al more front.1))) c
           ∙ before-before (take i band) (with_last v front) (refined_band_from table al more u)
@@ -246,7 +246,7 @@ module _ (table : Table) (al i n : ℕ) (band nb rest ys : List ℤ) (t u : Text
           let none : drop (through_zero all rest) rest ≡ [] = drop_all (through_zero all rest) rest (omega (arith, through_all all rest few)) in
           let b : nb ≡ take i band ++ front = new ∙ ap (λ (xs : List ℤ). take i band ++ xs) (e ∙ ap (λ (xs : List ℤ). front ++ xs) none ∙ append-nil front) in
           ap (λ (o : Result (List ℤ × Text) Fault). before (take i band) (o >>= λ x. ended run x))
-            (ap (λ (xs : List ℤ). corrected al xs t) (sym old) ∙ ap (λ (xs : List ℤ). corrected al xs t) (sym whole) ∙ c)
+          (ap (λ (xs : List ℤ). corrected al xs t) (sym old) ∙ ap (λ (xs : List ℤ). corrected al xs t) (sym whole) ∙ c)
           ∙ ap (λ (xs : List ℤ). Ok ((xs, run), u)) (sym b)
 
 -- the places from i on, and the band with others in their place, as a borrowed part of it is read and put back

@@ -104,14 +104,14 @@ refined-same table al (suc n) (x ∷ rest) t = go (λ xs u. refined-same table a
     new others r (Err e) = refl
 
     by : Others table al n → (r s : ℕ) (u : Text) → ((if s == 0 then (if r == 15 then Ok (Zeros, u) else (run_from r u >>= λ (e : ℕ × Text). Ok (End e.0, e.1)))
-          else (if s == 1 then (bits_from 1 u >>= λ (sign : ℕ × Text). Ok (New r (new_number al sign.0), sign.1)) else Err Malformed)) >>= λ (k : Refinement × Text). refined_piece al (refined_ac table al n) (x ∷ rest) k.0 k.1)
+        else (if s == 1 then (bits_from 1 u >>= λ (sign : ℕ × Text). Ok (New r (new_number al sign.0), sign.1)) else Err Malformed)) >>= λ (k : Refinement × Text). refined_piece al (refined_ac table al n) (x ∷ rest) k.0 k.1)
         ≡ defined.refined_piece al (defined.refined_ac table al n) (x ∷ rest) r s u
     by others r zero u = zeros others r u (r == 15)
     by others r (suc zero) u = new others r (bits_from 1 u)
     by others r (suc (suc s)) u = rw (ne_eqb (suc (suc s)) 0 (λ e. omega arith), ne_eqb (suc (suc s)) 1 (λ e. omega arith)) refl
 
     go : Others table al n → (o : Result (ℕ × Text) Fault) → ((o >>= λ (c : ℕ × Text). if c.0 % 16 == 0 then (if c.0 / 16 == 15 then Ok (Zeros, c.1) else (run_from (c.0 / 16) c.1 >>= λ (e : ℕ × Text). Ok (End e.0, e.1)))
-          else (if c.0 % 16 == 1 then (bits_from 1 c.1 >>= λ (sign : ℕ × Text). Ok (New (c.0 / 16) (new_number al sign.0), sign.1)) else Err Malformed)) >>= λ (k : Refinement × Text). refined_piece al (refined_ac table al n) (x ∷ rest) k.0 k.1)
+        else (if c.0 % 16 == 1 then (bits_from 1 c.1 >>= λ (sign : ℕ × Text). Ok (New (c.0 / 16) (new_number al sign.0), sign.1)) else Err Malformed)) >>= λ (k : Refinement × Text). refined_piece al (refined_ac table al n) (x ∷ rest) k.0 k.1)
         ≡ read_on (λ (c : ℕ). defined.refined_piece al (defined.refined_ac table al n) (x ∷ rest) (c / 16) (c % 16)) o
     go others (Ok c) = by others (c.0 / 16) (c.0 % 16) c.1
     go others (Err e) = refl

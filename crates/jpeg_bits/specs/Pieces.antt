@@ -42,12 +42,12 @@ unfoldable pub refinement_from : Table → ℕ → Text → Result (Refinement �
 refinement_from table al t = do
   c ← symbol_from table t
   if c.0 % 16 == 0 then (if c.0 / 16 == 15 then Ok (Zeros, c.1) else (do
-        e ← run_from (c.0 / 16) c.1
-        Ok (End e.0, e.1)))
-    else (if c.0 % 16 == 1 then (do
+    e ← run_from (c.0 / 16) c.1
+    Ok (End e.0, e.1)))
+      else (if c.0 % 16 == 1 then (do
         sign ← bits_from 1 c.1
         Ok (New (c.0 / 16) (new_number al sign.0), sign.1))
-    else Err Malformed)
+      else Err Malformed)
 
 -- The piece of a token; `others` reads what is behind it.
 unfoldable pub refined_piece : ℕ → ReadsBand → List ℤ → Refinement → Text → Result (Band × Text) Fault

@@ -5,9 +5,9 @@ ghost use Rattle.jpeg_bits.specs.declared.codes.HuffmanTableClass.TheVariants.{A
 ghost use Rattle.jpeg_bits.specs.Passes.{dc_part, band_part, block_from, or_bit};
 ghost use Rattle.jpeg_bits.specs.BlockView.{to_block, pass_in, IsPass};
 
-use crate::refinement::{correct_band, lacks_bit, read_refined_band, unit};
 use crate::error::Result;
 use crate::huffman::{HuffmanDecoder, HuffmanTable};
+use crate::refinement::{correct_band, lacks_bit, read_refined_band, unit};
 use crate::source::Source;
 use crate::tokens::{read_difference, read_first_band, shifted, wrapped_sum};
 use std::alloc::Global;
@@ -126,6 +126,14 @@ pub fn read_block<R: Read + Drop>(
     block[0] = read_dc(alloc, decoder, source, dc_table, pass, block[0], predictor)?;
     let start = usize::from(pass.ss.max(1));
     let end = usize::from(pass.se) + 1;
-    read_band(alloc, decoder, source, ac_table, pass, run, &mut block[start..end])?;
+    read_band(
+        alloc,
+        decoder,
+        source,
+        ac_table,
+        pass,
+        run,
+        &mut block[start..end],
+    )?;
     Ok(())
 }

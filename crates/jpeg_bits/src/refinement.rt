@@ -5,9 +5,8 @@ ghost use Rattle.jpeg_bits.specs.Entropy.{Takes};
 ghost use Rattle.jpeg_bits.specs.Refinement.{bit_of, new_number};
 ghost use Rattle.jpeg_bits.specs.Pieces.{moved_within, run_from, place_from, piece_from, refinement_from, refined_band_from, corrected};
 
-use crate::error::Result;
+use crate::error::{Result, format_error};
 use crate::huffman::{HuffmanDecoder, HuffmanTable};
-use crate::error::format_error;
 use crate::source::Source;
 use crate::tokens::power_of_two;
 use std::alloc::Global;
@@ -186,7 +185,14 @@ pub fn read_refined_band<R: Read + Drop>(
                 index += correct_piece(alloc, decoder, source, al, 15, &mut band[index..])?;
             }
             Refinement::New(run, value) => {
-                index += correct_piece(alloc, decoder, source, al, usize::from(run), &mut band[index..])?;
+                index += correct_piece(
+                    alloc,
+                    decoder,
+                    source,
+                    al,
+                    usize::from(run),
+                    &mut band[index..],
+                )?;
                 band[index - 1] = value;
             }
             Refinement::End(blocks) => {

@@ -1,5 +1,7 @@
 -- The planes of a sequential scan are the strips of its rows of MCUs, one after the other.
-use Rattle.std.proofs.Common.{◌≡◌, ℕ, zero, suc, ◌+◌, ◌*◌, List, [], ◌∷◌, ◌++◌, map, take, drop, length, Option, Result, Ok, Err, refl, sym, ap, ap₂, ◌∙◌, append_assoc, append-nil, arith, add-mul, suc-mul, mul_assoc, length-take, length-drop, take-append-drop}
+use Rattle.std.proofs.Common.{◌≡◌, ℕ, zero, suc, ◌+◌, ◌*◌, List, [], ◌∷◌, ◌++◌, map, take, drop, length, Option, Result}
+use Rattle.std.proofs.Common.{Ok, Err, refl, sym, ap, ap₂, ◌∙◌, append_assoc, append-nil, arith, add-mul, suc-mul}
+use Rattle.std.proofs.Common.{mul_assoc, length-take, length-drop, take-append-drop}
 use Rattle.std.proofs.lemmas.List.FromFn.{length-map-range_with_len}
 use Rattle.std.specs.List.{AllByRecursion}
 use Rattle.jpeg_bits.specs.Reading as reading
@@ -16,12 +18,15 @@ use Rattle.jpeg_decoder.specs.Order.{Spot}
 use Rattle.jpeg_decoder.specs.Scans.{Arrays, zero_arrays}
 use Rattle.jpeg_decoder.specs.Rasters.{in_raster, ordered}
 use Rattle.jpeg_decoder.specs.InTurn.{Counted, Fits, mcus_from, counted_at_start}
-use Rattle.jpeg_decoder.specs.McuRows.{row_mcus, own_row_mcus, zero_rows, rows_of, joined, with_arrays, rows_from, scan_by_rows}
+use Rattle.jpeg_decoder.specs.McuRows.{row_mcus, own_row_mcus, zero_rows, rows_of, joined, with_arrays, rows_from}
+use Rattle.jpeg_decoder.specs.McuRows.{scan_by_rows}
 use Rattle.jpeg_decoder.specs.Stream.{Coding, plane_by}
-use Rattle.jpeg_decoder.specs.Strips.{components_of, planes_by, planes_at, samples_of, with_strips, strips_from, planes_by_rows}
+use Rattle.jpeg_decoder.specs.Strips.{components_of, planes_by, planes_at, samples_of, with_strips, strips_from}
+use Rattle.jpeg_decoder.specs.Strips.{planes_by_rows}
 use Rattle.jpeg_decoder.proofs.Apart.{zeros-sized}
 use Rattle.jpeg_decoder.proofs.Mcus.{frame-scans, on-on}
-use Rattle.jpeg_decoder.proofs.McuRows.{AreRows, mcus-any, rows-kept, counted-where, joined-rows, no-blocks, zero-rows, scans-by-rows}
+use Rattle.jpeg_decoder.proofs.McuRows.{AreRows, mcus-any, rows-kept, counted-where, joined-rows, no-blocks, zero-rows}
+use Rattle.jpeg_decoder.proofs.McuRows.{scans-by-rows}
 use Rattle.jpeg_decoder.proofs.PlaneStrips.{plane-strips}
 
 -- ---- rows of blocks after rows of blocks
@@ -36,11 +41,15 @@ length-both : (xs ys : List Block) → length (xs ++ ys) ≡ length xs + length 
 length-both [] ys = omega arith
 length-both (x ∷ xs) ys = let r = length-both xs ys in omega arith
 
-pub plane-joined : (s : ℕ) (table : List ℕ) (wide n k : ℕ) (xs ys : List Block) → length xs ≡ n * wide → length ys ≡ k * wide
-    → plane_of s table wide (n + k) (in_raster wide (xs ++ ys)) ≡ plane_of s table wide n (in_raster wide xs) ++ plane_of s table wide k (in_raster wide ys)
+pub plane-joined : (s : ℕ) (table : List ℕ) (wide n k : ℕ) (xs ys : List Block) → length xs ≡ n * wide → length ys
+    ≡ k * wide
+    → plane_of s table wide (n + k) (in_raster wide (xs ++ ys))
+    ≡ plane_of s table wide n (in_raster wide xs) ++ plane_of s table wide k (in_raster wide ys)
 plane-joined s table wide n zero xs [] e f =
-    ap₂ (λ (m : ℕ) (l : List Block). plane_of s table wide m (in_raster wide l)) (let z : n + 0 ≡ n = omega arith in z) (append-nil xs)
-    ∙ sym (ap (λ (l : List ℕ). plane_of s table wide n (in_raster wide xs) ++ l) (plane-none s table wide (in_raster wide [])) ∙ append-nil (plane_of s table wide n (in_raster wide xs)))
+    ap₂ (λ (m : ℕ) (l : List Block). plane_of s table wide m (in_raster wide l)) (let z : n + 0
+    ≡ n = omega arith in z) (append-nil xs)
+    ∙ sym (ap (λ (l : List ℕ). plane_of s table wide n (in_raster wide xs) ++ l) (plane-none s table wide
+    (in_raster wide [])) ∙ append-nil (plane_of s table wide n (in_raster wide xs)))
 plane-joined s table wide n zero xs (y ∷ ys) e f = absurd (let z : 0 * wide ≡ 0 = omega arith in omega arith)
 plane-joined s table wide n (suc k) xs ys e f =
     let front = take (k * wide) ys in
@@ -48,39 +57,46 @@ plane-joined s table wide n (suc k) xs ys e f =
     let whole : front ++ row ≡ ys = take-append-drop (k * wide) ys in
     let fl = front-long wide k ys f in
     let rl = back-long wide k ys f in
-    let long : length (xs ++ front) ≡ (n + k) * wide = let l = length-both xs front in let m = add-mul n k wide in omega arith in
+    let long : length (xs ++ front) ≡
+    (n + k) * wide = let l = length-both xs front in let m = add-mul n k wide in omega arith in
     let above = plane_of s table wide n (in_raster wide xs) in
     let middle = plane_of s table wide k (in_raster wide front) in
     let last = strip_of s table (map ordered row) in
     let up : n + suc k ≡ n + k + 1 = omega arith in
     let one : suc k ≡ k + 1 = omega arith in
-    ap₂ (λ (m : ℕ) (l : List Block). plane_of s table wide m (in_raster wide l)) up (ap (λ (l : List Block). xs ++ l) (sym whole) ∙ sym (append_assoc xs front row))
+    ap₂ (λ (m : ℕ) (l : List Block). plane_of s table wide m (in_raster wide l)) up (ap (λ (l : List Block). xs ++ l)
+    (sym whole) ∙ sym (append_assoc xs front row))
     ∙ plane-strips s table wide (n + k) (xs ++ front) row long rl
     ∙ ap (λ (l : List ℕ). l ++ last) (plane-joined s table wide n k xs front e fl)
     ∙ append_assoc above middle last
     ∙ ap (λ (l : List ℕ). above ++ l) (sym (plane-strips s table wide k front row fl rl)
     ∙ ap₂ (λ (m : ℕ) (l : List Block). plane_of s table wide m (in_raster wide l)) (sym one) whole)
 
--- ---- planes of so many rows of MCUs
+-- ---- the planes of some rows of MCUs
 
 grown : ℕ → List Coding → Arrays → List (List ℕ)
-grown rows (c ∷ codings) (blocks ∷ arrays) = samples_of (rows * c.component.factors.vertical) c blocks ∷ grown rows codings arrays
+grown rows (c ∷ codings) (blocks ∷ arrays) = samples_of
+    (rows * c.component.factors.vertical) c blocks ∷ grown rows codings arrays
 grown rows [] arrays = []
 grown rows (c ∷ codings) [] = []
 
 one-more : (r : ℕ) (c : Coding) (a b : List Block)
-    → length a ≡ r * (c.component.factors.vertical * c.component.blocks_wide) → length b ≡ 1 * (c.component.factors.vertical * c.component.blocks_wide)
-    → samples_of (r * c.component.factors.vertical) c a ++ samples_of c.component.factors.vertical c b ≡ samples_of ((r + 1) * c.component.factors.vertical) c (a ++ b)
+    → length a ≡ r * (c.component.factors.vertical * c.component.blocks_wide) → length b
+    ≡ 1 * (c.component.factors.vertical * c.component.blocks_wide)
+    → samples_of (r * c.component.factors.vertical) c a ++ samples_of c.component.factors.vertical c b
+    ≡ samples_of ((r + 1) * c.component.factors.vertical) c (a ++ b)
 unfolding samples_of
 one-more r c a b e f =
     let v = c.component.factors.vertical in
     let w = c.component.blocks_wide in
     let m : r * v * w ≡ r * (v * w) = mul_assoc r v w in
     let up : r * v + v ≡ (r + 1) * v = let p : (r + 1) * v ≡ r * v + 1 * v = add-mul r 1 v in omega arith in
-    sym (plane-joined c.component.scale (values_in_block_order c.quantization) w (r * v) v a b (omega arith) (omega arith))
+    sym (plane-joined c.component.scale (values_in_block_order c.quantization) w (r * v) v a b (omega arith)
+    (omega arith))
     ∙ ap (λ (n : ℕ). plane_of c.component.scale (values_in_block_order c.quantization) w n (in_raster w (a ++ b))) up
 
-strips-grow : (r : ℕ) (codings : List Coding) (front arrays : Arrays) → AreRows r (components_of codings) front → AreRows 1 (components_of codings) arrays
+strips-grow : (r : ℕ) (codings : List Coding) (front arrays : Arrays) → AreRows r (components_of codings) front
+    → AreRows 1 (components_of codings) arrays
     → with_strips codings arrays (grown r codings front) ≡ grown (r + 1) codings (joined front arrays)
 unfolding AreRows with_strips joined grown
 strips-grow r [] [] [] h k = refl
@@ -89,26 +105,34 @@ strips-grow r [] (a ∷ front) arrays h k = absurd h
 strips-grow r (c ∷ codings) [] arrays h k = absurd h
 strips-grow r (c ∷ codings) (a ∷ front) [] h k = absurd k
 strips-grow r (c ∷ codings) (a ∷ front) (b ∷ arrays) h k =
-    ap₂ (λ (x : List ℕ) (l : List (List ℕ)). x ∷ l) (one-more r c a b h.0 k.0) (strips-grow r codings front arrays h.1 k.1)
+    ap₂ (λ (x : List ℕ) (l : List (List ℕ)). x ∷ l) (one-more r c a b h.0 k.0)
+    (strips-grow r codings front arrays h.1 k.1)
 
-strips-in-turn : (p : Pass) (vias : List Via) (n : ℕ) (codings : List Coding) (rows : List (List (List Spot))) (r : ℕ) (front : Arrays) (old : Counted) (t : Text)
+strips-in-turn : (p : Pass) (vias : List Via) (n : ℕ) (codings : List Coding) (rows : List (List (List Spot)))
+    (r : ℕ) (front : Arrays) (old : Counted) (t : Text)
     → AreRows r (components_of codings) front
     → strips_from p vias n codings rows (grown r codings front) (with_arrays [] old) t
-    ≡ read_on (λ s. gives (grown (r + length rows) codings s.reached.arrays)) (rows_from p vias n (components_of codings) rows front old t)
+    ≡ read_on (λ s. gives (grown (r + length rows) codings s.reached.arrays)) (rows_from p vias n
+    (components_of codings) rows front old t)
 unfolding strips_from rows_from
-strips-in-turn p vias n codings [] r front old t h = ap (λ (k : ℕ). gives (grown k codings front) t) (let z : r ≡ r + 0 = omega arith in z)
+strips-in-turn p vias n codings [] r front old t h = ap (λ (k : ℕ). gives (grown k codings front) t) (let z : r
+    ≡ r + 0 = omega arith in z)
 strips-in-turn p vias n codings (mcus ∷ rows) r front old t h =
     let cs = components_of codings in
     let start = with_arrays (zero_rows 1 cs) old in
     let o = mcus_from p vias n mcus start t in
     let end : Counted → Reads (List (List ℕ)) = λ s. gives (grown (r + suc (length rows)) codings s.reached.arrays) in
     counted-where (AreRows 1 cs)
-    (λ s. λ u. strips_from p vias n codings rows (with_strips codings s.reached.arrays (grown r codings front)) (with_arrays [] s) u)
+    (λ s. λ u. strips_from p vias n codings rows (with_strips codings s.reached.arrays (grown r codings front))
+    (with_arrays [] s) u)
     (λ s. λ u. read_on end (rows_from p vias n cs rows (joined front s.reached.arrays) s u))
     (λ s u k.
-    ap (λ (l : List (List ℕ)). strips_from p vias n codings rows l (with_arrays [] s) u) (strips-grow r codings front s.reached.arrays h k)
-    ∙ strips-in-turn p vias n codings rows (r + 1) (joined front s.reached.arrays) s u (joined-rows r cs front s.reached.arrays h k)
-    ∙ ap (λ (m : ℕ). read_on (λ (s : Counted). gives (grown m codings s.reached.arrays)) (rows_from p vias n cs rows (joined front s.reached.arrays) s u))
+    ap (λ (l : List (List ℕ)). strips_from p vias n codings rows l (with_arrays [] s) u)
+    (strips-grow r codings front s.reached.arrays h k)
+    ∙ strips-in-turn p vias n codings rows (r + 1) (joined front s.reached.arrays) s u
+    (joined-rows r cs front s.reached.arrays h k)
+    ∙ ap (λ (m : ℕ). read_on (λ (s : Counted). gives (grown m codings s.reached.arrays)) (rows_from p vias n cs rows
+    (joined front s.reached.arrays) s u))
     (let z : r + 1 + length rows ≡ r + suc (length rows) = omega arith in z))
     o (mcus-any (AreRows 1 cs) (rows-kept 1 cs) p vias n mcus start t (zero-rows 1 cs))
     ∙ sym (on-on (λ s. λ u. rows_from p vias n cs rows (joined front s.reached.arrays) s u) end o)
@@ -127,17 +151,20 @@ finished o = reading.◌>>=◌ o (λ r. reading.◌>>=◌ (marker_from r.1) (λ 
 abbrev made : (Arrays → List (List ℕ)) → Outcome (Arrays × Option Marker) → Outcome Grown
 made f o = reading.◌>>=◌ o (λ (r : (Arrays × Option Marker) × List ℕ). Ok ((f r.0.0, r.0.1), r.1))
 
-ends : (f : Arrays → List (List ℕ)) (o : Result (Counted × Text) Fault) → ended (read_on (λ s. gives (f s.reached.arrays)) o) ≡ made f (finished o)
+ends : (f : Arrays → List (List ℕ)) (o : Result (Counted × Text) Fault)
+    → ended (read_on (λ s. gives (f s.reached.arrays)) o) ≡ made f (finished o)
 unfolding ended
 ends f (Ok r) = go (marker_from r.1)
   where
-    go : (m : Outcome (Option Marker)) → ◌≡◌ {A = Outcome Grown} (reading.◌>>=◌ m (λ (x : Option Marker × List ℕ). Ok ((f r.0.reached.arrays, x.0), x.1)))
+    go : (m : Outcome (Option Marker)) → ◌≡◌ {A = Outcome Grown} (reading.◌>>=◌ m (λ (x : Option Marker
+        × List ℕ). Ok ((f r.0.reached.arrays, x.0), x.1)))
         (made f (reading.◌>>=◌ m (λ (x : Option Marker × List ℕ). Ok ((r.0.reached.arrays, x.0), x.1))))
     go (Ok x) = refl
     go (Err e) = refl
 ends f (Err e) = refl
 
-none-grown : (codings : List Coding) → map (λ (c : Coding). []) codings ≡ grown 0 codings (map (λ (c : Component). []) (components_of codings))
+none-grown : (codings : List Coding) → map (λ (c : Coding). []) codings
+    ≡ grown 0 codings (map (λ (c : Component). []) (components_of codings))
 unfolding samples_of grown
 none-grown [] = refl
 none-grown (c ∷ codings) = ap₂ (λ (x : List ℕ) (l : List (List ℕ)). x ∷ l) (none c) (none-grown codings)
@@ -145,24 +172,32 @@ none-grown (c ∷ codings) = ap₂ (λ (x : List ℕ) (l : List (List ℕ)). x �
     none : (c : Coding) → [] ≡ samples_of (0 * c.component.factors.vertical) c []
     none c =
         let z : 0 ≡ 0 * c.component.factors.vertical = omega arith in
-        sym (plane-none c.component.scale (values_in_block_order c.quantization) c.component.blocks_wide (in_raster c.component.blocks_wide []))
-        ∙ ap (λ (n : ℕ). plane_of c.component.scale (values_in_block_order c.quantization) c.component.blocks_wide n (in_raster c.component.blocks_wide [])) z
+        sym (plane-none c.component.scale (values_in_block_order c.quantization) c.component.blocks_wide
+        (in_raster c.component.blocks_wide []))
+        ∙ ap (λ (n : ℕ). plane_of c.component.scale (values_in_block_order c.quantization) c.component.blocks_wide n
+        (in_raster c.component.blocks_wide [])) z
 
-all-grown : (frame : Frame) (codings : List Coding) (arrays : Arrays) → AllByRecursion (Fits frame) (components_of codings) → grown frame.mcus_high codings arrays ≡ planes_by codings arrays
+all-grown : (frame : Frame) (codings : List Coding) (arrays : Arrays)
+    → AllByRecursion (Fits frame) (components_of codings) → grown frame.mcus_high codings arrays
+    ≡ planes_by codings arrays
 unfolding planes_by samples_of plane_by grown
 all-grown frame [] arrays fits = refl
 all-grown frame (c ∷ codings) [] fits = refl
 all-grown frame (c ∷ codings) (blocks ∷ arrays) fits =
-    ap₂ (λ (n : ℕ) (l : List (List ℕ)). plane_of c.component.scale (values_in_block_order c.quantization) c.component.blocks_wide n (in_raster c.component.blocks_wide blocks) ∷ l)
+    ap₂ (λ (n : ℕ) (l : List (List ℕ)). plane_of c.component.scale
+    (values_in_block_order c.quantization) c.component.blocks_wide n (in_raster c.component.blocks_wide blocks) ∷ l)
     (sym fits.0.high) (all-grown frame codings arrays fits.1)
 
-pub count-rows : (frame : Frame) (c : Component) (more : List Component) → length (rows_of frame (c ∷ more)) ≡ frame.mcus_high
+pub count-rows : (frame : Frame) (c : Component) (more : List Component) → length (rows_of frame (c ∷ more))
+    ≡ frame.mcus_high
 unfolding rows_of
 count-rows frame c [] = length-map-range_with_len (own_row_mcus c) 0 frame.mcus_high
-count-rows frame c (d ∷ more) = length-map-range_with_len (λ (row : ℕ). row_mcus frame.mcus_wide (c ∷ d ∷ more)) 0 frame.mcus_high
+count-rows frame c (d ∷ more) = length-map-range_with_len (λ (row : ℕ). row_mcus frame.mcus_wide
+    (c ∷ d ∷ more)) 0 frame.mcus_high
 
 -- A sequential scan is its rows of MCUs, each of which gives a strip of each plane.
-pub planes-by-rows : (frame : Frame) (c : Coding) (codings : List Coding) (p : Pass) (n : ℕ) (vias : List Via) (bytes : List ℕ) → AllByRecursion (Fits frame) (components_of (c ∷ codings))
+pub planes-by-rows : (frame : Frame) (c : Coding) (codings : List Coding) (p : Pass) (n : ℕ) (vias : List Via)
+    (bytes : List ℕ) → AllByRecursion (Fits frame) (components_of (c ∷ codings))
     → planes_at p n vias frame (c ∷ codings) bytes ≡ planes_by_rows p vias n frame (c ∷ codings) bytes
 unfolding planes_at planes_by_rows scan_by_rows ended
 planes-by-rows frame c codings p n vias bytes fits =
@@ -176,13 +211,15 @@ planes-by-rows frame c codings p n vias bytes fits =
     let o = rows_from p vias n cs rows none start t in
     let count : 0 + length rows ≡ high = let e = count-rows frame c.component (components_of codings) in omega arith in
     ap (made (planes_by all))
-    (frame-scans frame c.component (components_of codings) p vias n (zero_arrays cs) bytes fits (zeros-sized cs) ∙ scans-by-rows frame c.component (components_of codings) p vias n bytes fits)
+    (frame-scans frame c.component (components_of codings) p vias n (zero_arrays cs) bytes fits (zeros-sized cs)
+    ∙ scans-by-rows frame c.component (components_of codings) p vias n bytes fits)
     ∙ sym (ap (λ (l : List (List ℕ)). ended (strips_from p vias n all rows l start t)) (none-grown all)
     ∙ ap ended (strips-in-turn p vias n all rows 0 none start t (no-blocks cs))
     ∙ ap (λ (k : ℕ). ended (read_on (λ (s : Counted). gives (grown k all s.reached.arrays)) o)) count
     ∙ ends (grown high all) o
     ∙ same (finished o))
   where
-    same : (o : Outcome (Arrays × Option Marker)) → made (grown frame.mcus_high (c ∷ codings)) o ≡ made (planes_by (c ∷ codings)) o
+    same : (o : Outcome (Arrays × Option Marker)) → made (grown frame.mcus_high (c ∷ codings)) o
+        ≡ made (planes_by (c ∷ codings)) o
     same (Ok r) = ap (λ (l : List (List ℕ)). Ok ((l, r.0.1), r.1)) (all-grown frame (c ∷ codings) r.0.0 fits)
     same (Err e) = refl

@@ -38,7 +38,7 @@ unfolding with_its_plane
 its_plane_kept p place plane found finished planes e k h =
     ap (λ (f : List (List Bool)). record found { finished = f; planes = planes }) e
     ∙ ap (λ (ps : List (Option (List ℕ))). record found { finished = slice_set found.finished place (marks_after p found.finished place); planes = ps })
-      (k ∙ sym (planes_kept (marks_after p found.finished place) place plane found.planes h))
+    (k ∙ sym (planes_kept (marks_after p found.finished place) place plane found.planes h))
 
 -- and one whose plane is
 pub its_plane_set : (p : Pass) (place : ℕ) (plane : List ℕ) (found : Found) (finished : List (List Bool)) (planes : List (Option (List ℕ)))
@@ -49,6 +49,6 @@ unfolding with_its_plane
 its_plane_set p place plane found finished planes e k h =
     ap (λ (f : List (List Bool)). record found { finished = f; planes = planes }) e
     ∙ ap (λ (ps : List (Option (List ℕ))). record found { finished = slice_set found.finished place (marks_after p found.finished place); planes = ps })
-      (k ∙ sym (planes_set (marks_after p found.finished place) place plane found.planes h))
+    (k ∙ sym (planes_set (marks_after p found.finished place) place plane found.planes h))
 
 pub ruleset plane_rules = (its_plane_kept, its_plane_set)

@@ -85,6 +85,7 @@ pub mod ScanData
 pub mod PicturedFrames
 pub mod EndedPlanes
 pub mod PicturesOfPlanes
+pub mod SizedHeaders
 pub mod SizedAgain
 pub mod EncodedBlocks
 pub mod EncodedImages

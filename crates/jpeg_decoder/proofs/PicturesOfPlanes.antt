@@ -108,8 +108,8 @@ unfolding image_of
 image-refused f p planes t e n =
     let s = decoded-sources f p in
     refused e (image_of f.components planes f.output_width f.output_height t)
-      (never-end (length f.components) t (sources_of f.components f.output_width f.output_height) s.sources
-        (λ convert sources. picture_bytes convert sources planes f.output_width f.output_height) s.is) n
+    (never-end (length f.components) t (sources_of f.components f.output_width f.output_height) s.sources
+    (λ convert sources. picture_bytes convert sources planes f.output_width f.output_height) s.is) n
 
 -- ---- the picture
 
@@ -138,9 +138,9 @@ pub several-given : {R : Type 0} (view : R → List ℕ) (settings : Settings) (
     → IsDecodedFrame f → length f.components ≢ 1 → cs ≡ f.components → given ≡ planes
     → t ≡ transform_of settings.color_transform (identifiers_of cs) m.jfif m.adobe
     → MatchResult r (λ v. image_of cs given f.output_width f.output_height t ≡ Ok (view v))
-      (λ e. Names e (image_of cs given f.output_width f.output_height t))
+    (λ e. Names e (image_of cs given f.output_width f.output_height t))
     → MatchResult r (λ v. picture_by settings m f f.components planes ≡ Ok (view v))
-      (λ e. IsRefusal e × Names e (picture_by settings m f f.components planes))
+    (λ e. IsRefusal e × Names e (picture_by settings m f f.components planes))
 several-given {R = R} view settings m f cs planes given t r p other ec ep et h = go r h
   where
     image-is : image_of cs given f.output_width f.output_height t ≡ picture_by settings m f f.components planes
@@ -148,19 +148,21 @@ several-given {R = R} view settings m f cs planes given t r p other ec ep et h =
         ap (λ (l : List Component). image_of l given f.output_width f.output_height t) ec
         ∙ ap (λ (l : List (List ℕ)). image_of f.components l f.output_width f.output_height t) ep
         ∙ ap (λ (x : ColorTransform). image_of f.components planes f.output_width f.output_height x)
-          (et ∙ ap (λ (l : List Component). transform_of settings.color_transform (identifiers_of l) m.jfif m.adobe) ec)
+        (et ∙ ap (λ (l : List Component). transform_of settings.color_transform (identifiers_of l) m.jfif m.adobe) ec)
         ∙ sym (picture-several settings m f f.components planes other)
 
     go : (r : Result R Error)
         → MatchResult r (λ v. image_of cs given f.output_width f.output_height t ≡ Ok (view v))
-          (λ e. Names e (image_of cs given f.output_width f.output_height t))
+        (λ e. Names e (image_of cs given f.output_width f.output_height t))
         → MatchResult r (λ v. picture_by settings m f f.components planes ≡ Ok (view v))
-          (λ e. IsRefusal e × Names e (picture_by settings m f f.components planes))
+        (λ e. IsRefusal e × Names e (picture_by settings m f f.components planes))
     go (Ok v) h = sym image-is ∙ h
     go (Err e) h =
-        let named = subst (λ (o : Result (List ℕ) Fault). Names e o) image-is h in
-        (image-refused f p planes _ e (subst (λ (o : Result (List ℕ) Fault). Names e o)
-        (picture-several settings m f f.components planes other) named), named)
+        let named = subst (λ (o : Result (List ℕ) Fault). Names e o) image-is h in (
+          image-refused f p planes _ e (subst (λ (o : Result (List ℕ) Fault). Names e o)
+              (picture-several settings m f f.components planes other) named),
+          named,
+        )
 
 -- the only one that is popped
 pub popped-only : {A : Type 0} (xs front : List A) (x : A) → xs ≡ front ++ x ∷ [] → length xs ≡ 1 → xs ≡ x ∷ []
@@ -172,7 +174,7 @@ first-is : (items slice : List declared.Component) (d : declared.Component) → 
     → component_in (get_or slice 0 d) ≡ get_or (map component_in items) 0 (component_in (get_or slice 0 d))
 first-is items slice d e one =
     mapped-or component_in items 0 (get_or slice 0 d) d _ (omega (arith, ap length e, one))
-      (ap (λ (l : List declared.Component). get_or l 0 d) e)
+    (ap (λ (l : List declared.Component). get_or l 0 d) e)
 
 pub scale-first : (f : Frame) (items slice : List declared.Component) (d : declared.Component) → IsDecodedFrame f
     → f.components ≡ map component_in items → slice ≡ items → length slice ≡ 1 → IsScale (get_or slice 0 d).dct_scale
@@ -180,8 +182,8 @@ scale-first f items slice d p is e one =
     let some : 0 < length items = omega (arith, ap length e, one) in
     let all = subst (λ (l : List Component). AllByRecursion (λ c. IsScale c.scale) l) is (decoded-scales f p) in
     subst (λ (x : Component). IsScale x.scale) (sym (first-is items slice d e one))
-      (element (λ x. IsScale x.scale) (map component_in items) 0 (component_in (get_or slice 0 d)) all
-      (mapped-within component_in items 0 some))
+    (element (λ x. IsScale x.scale) (map component_in items) 0 (component_in (get_or slice 0 d)) all
+    (mapped-within component_in items 0 some))
 
 pub picture-first : (settings : Settings) (m : Metadata) (f : Frame) (items slice : List declared.Component)
     (d : declared.Component) (planes : List (List ℕ)) (plane picture : List ℕ) → slice ≡ items → length slice ≡ 1
@@ -190,4 +192,4 @@ pub picture-first : (settings : Settings) (m : Metadata) (f : Frame) (items slic
     → picture_by settings m f (map component_in items) planes ≡ Ok picture
 picture-first settings m f items slice d planes plane picture e one is made =
     picture-one settings m f (map component_in items) (component_in (get_or slice 0 d)) planes plane picture
-      (omega (arith, length-map items component_in, ap length e, one)) (first-is items slice d e one) is made
+    (omega (arith, length-map items component_in, ap length e, one)) (first-is items slice d e one) is made

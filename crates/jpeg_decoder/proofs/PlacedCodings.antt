@@ -200,5 +200,8 @@ not-in-rising place least (p ∷ places) h r (inr i) = not-in-rising place (p + 
 pub rising-apart : (least : ℕ) (places : List ℕ) → IsRising least places → AreApart places
 unfolding IsRising
 rising-apart least [] r = tt
-rising-apart least (p ∷ places) r = (not-in-rising p (p + 1) places (omega arith) r.1, rising-apart (p + 1) places
-    r.1)
+rising-apart least (p ∷ places) r = (
+  not-in-rising p (p + 1) places (omega arith) r.1,
+  rising-apart (p + 1) places
+      r.1,
+)

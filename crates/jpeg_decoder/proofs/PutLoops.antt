@@ -91,7 +91,7 @@ put-none arrays held = refl
 pub put-step : (cs : List Coded) (i : ℕ) (d : Coded) (arrays held : List Held) (empty blocks : Held)
     → i < length cs → length arrays ≡ length cs → blocks ≡ get_or arrays i blocks
     → put_arrays (drop (i + 1) (map coding_in cs)) (drop (i + 1) (arrays_in (set arrays i empty))) (arrays_in (set held (get_or cs i d).place blocks))
-      ≡ put_arrays (drop i (map coding_in cs)) (drop i (arrays_in arrays)) (arrays_in held)
+    ≡ put_arrays (drop i (map coding_in cs)) (drop i (arrays_in arrays)) (arrays_in held)
 put-step cs i d arrays held empty blocks h e is =
     let c = get_or cs i d in
     let front : drop i (map coding_in cs) ≡ coding_in c ∷ drop (i + 1) (map coding_in cs) = seen-any coding_in cs i d h in
@@ -107,7 +107,7 @@ put-step cs i d arrays held empty blocks h e is =
 pub planes-step : (p : Pass) (cs : List Coded) (i : ℕ) (d : Coded) (planes : List (Vec ℕ Global)) (empty plane : Vec ℕ Global) (before after : Found)
     → i < length cs → length planes ≡ length cs → plane ≡ get_or planes i plane → after ≡ with_its_plane p (get_or cs i d).place plane.items before
     → with_planes p (drop (i + 1) (map coding_in cs)) (drop (i + 1) (map (λ (v : Vec ℕ Global). v.items) (set planes i empty))) after
-      ≡ with_planes p (drop i (map coding_in cs)) (drop i (map (λ (v : Vec ℕ Global). v.items) planes)) before
+    ≡ with_planes p (drop i (map coding_in cs)) (drop i (map (λ (v : Vec ℕ Global). v.items) planes)) before
 planes-step p cs i d planes empty plane before after h e is made =
     let c = get_or cs i d in
     let items : Vec ℕ Global → List ℕ = λ v. v.items in
@@ -123,7 +123,7 @@ pub arrays-step : (p : Pass) (cs : List Coded) (i : ℕ) (d : Coded) (arrays : L
     → i < length cs → i < length arrays → blocks ≡ get_or arrays i blocks
     → after ≡ with_its_plane p (get_or cs i d).place (plane_by (coding_in (get_or cs i d)).component (coding_in (get_or cs i d)).quantization (blocks_in blocks)) before
     → with_arrays p (drop (i + 1) (map coding_in cs)) (drop (i + 1) (arrays_in arrays)) after
-      ≡ with_arrays p (drop i (map coding_in cs)) (drop i (arrays_in arrays)) before
+    ≡ with_arrays p (drop i (map coding_in cs)) (drop i (arrays_in arrays)) before
 arrays-step p cs i d arrays blocks before after h k is made =
     let c = get_or cs i d in
     let front : drop i (map coding_in cs) ≡ coding_in c ∷ drop (i + 1) (map coding_in cs) = seen-any coding_in cs i d h in
@@ -156,5 +156,5 @@ pub decided-as : (p : Pass) (place : ℕ) (plane : Vec ℕ Global) (base : Found
 decided-as p place plane base old new a b e w =
     ap (λ (h : Vec Held Global). record base { held = arrays_in h.items; finished = new.finished; planes = planes_in (slice_set new.planes place (Some plane)) }) a
     ∙ its_plane_set p place plane.items (with_decoded base old) new.finished (planes_in (slice_set new.planes place (Some plane))) e
-      (map-set (λ (q : Option (Vec ℕ Global)). option_map (λ (v : Vec ℕ Global). v.items) q) new.planes place (Some plane) ∙ ap (λ (ps : List (Option (List ℕ))). slice_set ps place (Some plane.items)) b)
-      (sym w)
+    (map-set (λ (q : Option (Vec ℕ Global)). option_map (λ (v : Vec ℕ Global). v.items) q) new.planes place (Some plane) ∙ ap (λ (ps : List (Option (List ℕ))). slice_set ps place (Some plane.items)) b)
+    (sym w)

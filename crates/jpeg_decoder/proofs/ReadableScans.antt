@@ -142,8 +142,8 @@ pub ready : (found : Found) (frame : Frame) (header : headers.Scan) (scan : Scan
 ready found frame header scan decoded is_dct legal pass restart classes codings count =
     let cs = scan.components.items in
     let facts =
-        codings-facts_from found frame (pass_of header) (tables_of found header) header.components header.dc_places
-        header.ac_places (map coding_in cs) legal.dc_length legal.ac_length codings in
+    codings-facts_from found frame (pass_of header) (tables_of found header) header.components header.dc_places
+    header.ac_places (map coding_in cs) legal.dc_length legal.ac_length codings in
     let few = (count-few (length frame.components) (decoded-count frame decoded)).1 in
     record {
       pass = subst IsPass (sym pass) (is-pass frame.process header is_dct legal.coded);

@@ -1,5 +1,6 @@
 -- The blocks of a row of MCUs, as they are cleared and as their samples are appended.
-use Rattle.std.proofs.Common.{◌≡◌, ℕ, zero, suc, ◌+◌, ◌*◌, ◌<◌, ◌≤◌, List, [], ◌∷◌, ◌++◌, map, drop, length, get_or, set, replicate, ℤ, pos, refl, sym, ap, ◌∙◌, arith}
+use Rattle.std.proofs.Common.{◌≡◌, ℕ, zero, suc, ◌+◌, ◌*◌, ◌<◌, ◌≤◌, List, [], ◌∷◌, ◌++◌, map, drop, length, get_or}
+use Rattle.std.proofs.Common.{set, replicate, ℤ, pos, refl, sym, ap, ◌∙◌, arith}
 use Rattle.std.proofs.lemmas.List.{length-map, map-set, get_or-drop, drop-set-lt, length-replicate}
 use Rattle.std.specs.declared.alloc.Global.{Global}
 use Rattle.std.specs.declared.vec.Vec.{Vec}
@@ -18,19 +19,23 @@ use Rattle.jpeg_decoder.proofs.StripRows.{strips-at, strips-length}
 abbrev pub Plane : Type 0
 Plane = Vec ℕ Global
 
-pub sizes-put : (vs : List Held) (slot : ℕ) (v w : Held) → length w.items ≡ length v.items → v ≡ get_or vs slot v → sizes_of (set vs slot w) ≡ sizes_of vs
+pub sizes-put : (vs : List Held) (slot : ℕ) (v w : Held) → length w.items ≡ length v.items → v ≡ get_or vs slot v
+    → sizes_of (set vs slot w) ≡ sizes_of vs
 sizes-put [] slot v w l e = refl
 sizes-put (u ∷ vs) zero v w l e = ap (λ (n : ℕ). n ∷ sizes_of vs) (l ∙ ap (λ (x : Held). length x.items) e)
 sizes-put (u ∷ vs) (suc slot) v w l e = ap (λ (m : List ℕ). length u.items ∷ m) (sizes-put vs slot v w l e)
 
-pub rest-put : (vs old : List Held) (slot : ℕ) (w : Held) → drop slot vs ≡ drop slot old → drop (slot + 1) (set vs slot w) ≡ drop (slot + 1) old
+pub rest-put : (vs old : List Held) (slot : ℕ) (w : Held) → drop slot vs ≡ drop slot old
+    → drop (slot + 1) (set vs slot w) ≡ drop (slot + 1) old
 rest-put vs old slot w e =
-    drop-set-lt (slot + 1) vs slot w (omega arith) ∙ sym (one-more vs slot) ∙ ap (λ (l : List Held). drop 1 l) e ∙ one-more old slot
+    drop-set-lt (slot + 1) vs slot w (omega arith) ∙ sym (one-more vs slot) ∙ ap (λ (l : List Held). drop 1 l) e
+    ∙ one-more old slot
   where
     one-more : (l : List Held) (n : ℕ) → drop 1 (drop n l) ≡ drop (n + 1) l
     one-more l zero = refl
     one-more [] (suc n) = let z : suc (n + 1) ≡ suc n + 1 = omega arith in ap (λ (k : ℕ). drop {A = Held} k []) z
-    one-more (x ∷ l) (suc n) = one-more l n ∙ (let z : suc (n + 1) ≡ suc n + 1 = omega arith in ap (λ (k : ℕ). drop k (x ∷ l)) z)
+    one-more (x ∷ l) (suc n) = one-more l n ∙ (let z : suc (n + 1)
+        ≡ suc n + 1 = omega arith in ap (λ (k : ℕ). drop k (x ∷ l)) z)
 
 -- ---- rows that are cleared
 
@@ -40,30 +45,43 @@ zeros zero = refl
 zeros (suc n) = ap (λ (l : List Block). zero_block ∷ l) (zeros n)
 
 pub cleared-next : (old items : List Held) (i : ℕ) (v w : Held) → i < length items → sizes_of items ≡ sizes_of old
-    → arrays_in items ≡ patched i (zeros_of (sizes_of old)) (arrays_in old) → v ≡ get_or items i v → w.items ≡ replicate (length v.items) (replicate 64 (pos 0))
-    → (sizes_of (set items i w) ≡ sizes_of old) × (arrays_in (set items i w) ≡ patched (i + 1) (zeros_of (sizes_of old)) (arrays_in old))
+    → arrays_in items ≡ patched i (zeros_of (sizes_of old)) (arrays_in old) → v ≡ get_or items i v → w.items
+    ≡ replicate (length v.items) (replicate 64 (pos 0))
+    → (sizes_of (set items i w) ≡ sizes_of old) × (arrays_in (set items i w)
+    ≡ patched (i + 1) (zeros_of (sizes_of old)) (arrays_in old))
 cleared-next old items i v w h sizes arrays is new =
-    let long : length items ≡ length old = sym (sizes-long items) ∙ ap (λ (l : List ℕ). length l) sizes ∙ sizes-long old in
-    let same : length (zeros_of (sizes_of old)) ≡ length (arrays_in old) = length-map (sizes_of old) (λ n. replicate n zero_block) ∙ sizes-long old ∙ sym (length-map old blocks_in) in
-    let size : get_or (sizes_of old) i 0 ≡ length v.items = ap (λ (l : List ℕ). get_or l i 0) (sym sizes) ∙ size-at items i v (omega (arith, sizes-long items)) is in (
-      sizes-put items i v w (ap (λ (l : List (List ℤ)). length l) new ∙ length-replicate (length v.items) (replicate 64 (pos 0))) is ∙ sizes,
+    let long : length items ≡ length old = sym (sizes-long items) ∙ ap (λ (l : List ℕ). length l) sizes
+    ∙ sizes-long old in
+    let same : length (zeros_of (sizes_of old))
+    ≡ length (arrays_in old) = length-map (sizes_of old) (λ n. replicate n zero_block) ∙ sizes-long old
+    ∙ sym (length-map old blocks_in) in
+    let size : get_or (sizes_of old) i 0 ≡ length v.items = ap (λ (l : List ℕ). get_or l i 0) (sym sizes)
+    ∙ size-at items i v (omega (arith, sizes-long items)) is in (
+      sizes-put items i v w (ap (λ (l : List (List ℤ)). length l) new
+          ∙ length-replicate (length v.items) (replicate 64 (pos 0))) is ∙ sizes,
       map-set blocks_in items i w
           ∙ ap (λ (l : Arrays). set l i (blocks_in w)) arrays
-          ∙ patched-next (zeros_of (sizes_of old)) (arrays_in old) i (blocks_in w) [] same (omega (arith, length-map old blocks_in))
+          ∙ patched-next (zeros_of (sizes_of old)) (arrays_in old) i (blocks_in w) [] same (omega
+          (arith, length-map old blocks_in))
           (ap (λ (l : List (List ℤ)). map to_block l) new ∙ zeros (length v.items)
-          ∙ sym (get-map (λ (n : ℕ). replicate n zero_block) (sizes_of old) i 0 [] (omega (arith, sizes-long old)) ∙ ap (λ (n : ℕ). replicate n zero_block) size)),
+          ∙ sym (get-map (λ (n : ℕ). replicate n zero_block) (sizes_of old) i 0 [] (omega (arith, sizes-long old))
+          ∙ ap (λ (n : ℕ). replicate n zero_block) size)),
     )
 
 pub all-cleared : (old items : List Held) (i : ℕ) → length items ≤ i → sizes_of items ≡ sizes_of old
     → arrays_in items ≡ patched i (zeros_of (sizes_of old)) (arrays_in old) → arrays_in items ≡ zeros_of (sizes_of old)
 all-cleared old items i h sizes arrays =
-    let long : length items ≡ length old = sym (sizes-long items) ∙ ap (λ (l : List ℕ). length l) sizes ∙ sizes-long old in
-    let same : length (zeros_of (sizes_of old)) ≡ length (arrays_in old) = length-map (sizes_of old) (λ n. replicate n zero_block) ∙ sizes-long old ∙ sym (length-map old blocks_in) in
+    let long : length items ≡ length old = sym (sizes-long items) ∙ ap (λ (l : List ℕ). length l) sizes
+    ∙ sizes-long old in
+    let same : length (zeros_of (sizes_of old))
+    ≡ length (arrays_in old) = length-map (sizes_of old) (λ n. replicate n zero_block) ∙ sizes-long old
+    ∙ sym (length-map old blocks_in) in
     arrays ∙ patched-all (zeros_of (sizes_of old)) (arrays_in old) i same (omega (arith, length-map old blocks_in))
 
 -- ---- samples that are appended
 
-module _ (cs : List Coded) (old : List Held) (start : List Plane) (sizes : sizes_of old ≡ row_sizes cs) (long : length start ≡ length cs) where
+module _ (cs : List Coded) (old : List Held) (start : List Plane) (sizes : sizes_of old
+    ≡ row_sizes cs) (long : length start ≡ length cs) where
   abbrev codings : List Coding
   codings = map coding_in cs
 
@@ -71,7 +89,8 @@ module _ (cs : List Coded) (old : List Held) (start : List Plane) (sizes : sizes
   all = with_strips codings (arrays_in old) (planes_in start)
 
   old-long : length old ≡ length cs
-  old-long = sym (sizes-long old) ∙ ap (λ (l : List ℕ). length l) sizes ∙ length-map cs (λ (c : Coded). down_in c * wide_in c)
+  old-long = sym (sizes-long old) ∙ ap (λ (l : List ℕ). length l) sizes
+      ∙ length-map cs (λ (c : Coded). down_in c * wide_in c)
 
   arrays-long : length (arrays_in old) ≡ length codings
   arrays-long = length-map old blocks_in ∙ old-long ∙ sym (length-map cs coding_in)
@@ -82,12 +101,15 @@ module _ (cs : List Coded) (old : List Held) (start : List Plane) (sizes : sizes
   all-long : length all ≡ length (planes_in start)
   all-long = strips-length codings (arrays_in old) (planes_in start) arrays-long start-long ∙ sym start-long
 
-  pub planes-long : (planes : List Plane) (slot : ℕ) → planes_in planes ≡ patched slot all (planes_in start) → length planes ≡ length cs
+  pub planes-long : (planes : List Plane) (slot : ℕ) → planes_in planes ≡ patched slot all (planes_in start)
+      → length planes ≡ length cs
   planes-long planes slot e =
-      sym (length-map planes (λ (v : Plane). v.items)) ∙ ap (λ (l : List (List ℕ)). length l) e ∙ patched-length all (planes_in start) slot all-long
+      sym (length-map planes (λ (v : Plane). v.items)) ∙ ap (λ (l : List (List ℕ)). length l) e
+      ∙ patched-length all (planes_in start) slot all-long
       ∙ length-map start (λ (v : Plane). v.items) ∙ long
 
-  row-at : (rows : List Held) (slot : ℕ) (v : Held) → slot < length cs → drop slot rows ≡ drop slot old → v ≡ get_or rows slot v → v ≡ get_or old slot v
+  row-at : (rows : List Held) (slot : ℕ) (v : Held) → slot < length cs → drop slot rows ≡ drop slot old → v
+      ≡ get_or rows slot v → v ≡ get_or old slot v
   row-at rows slot v h e is =
       let z : slot + 0 ≡ slot = omega arith in
       is ∙ sym (get_or-drop slot rows 0 v ∙ ap (λ (k : ℕ). get_or rows k v) z)
@@ -95,32 +117,41 @@ module _ (cs : List Coded) (old : List Held) (start : List Plane) (sizes : sizes
       ∙ get_or-drop slot old 0 v ∙ ap (λ (k : ℕ). get_or old k v) z
 
   -- the next component's blocks are those of a row of MCUs
-  pub row-size : (rows : List Held) (slot : ℕ) (c : Coded) (v : Held) → slot < length cs → drop slot rows ≡ drop slot old → c ≡ get_or cs slot c → v ≡ get_or rows slot v
+  pub row-size : (rows : List Held) (slot : ℕ) (c : Coded) (v : Held) → slot < length cs → drop slot rows
+      ≡ drop slot old → c ≡ get_or cs slot c → v ≡ get_or rows slot v
       → length v.items ≡ down_in c * wide_in c
   row-size rows slot c v h e is held =
       sym (size-at old slot v (omega (arith, sizes-long old, old-long)) (row-at rows slot v h e held))
       ∙ ap (λ (l : List ℕ). get_or l slot 0) sizes
-      ∙ get-map (λ (x : Coded). down_in x * wide_in x) cs slot c 0 h ∙ sym (ap (λ (x : Coded). down_in x * wide_in x) is)
+      ∙ get-map (λ (x : Coded). down_in x * wide_in x) cs slot c 0 h
+      ∙ sym (ap (λ (x : Coded). down_in x * wide_in x) is)
 
-  pub planes-next : (rows : List Held) (planes : List Plane) (slot : ℕ) (c : Coded) (v : Held) (p q : Plane) → slot < length cs → c ≡ get_or cs slot c
+  pub planes-next : (rows : List Held) (planes : List Plane) (slot : ℕ) (c : Coded) (v : Held) (p q : Plane)
+      → slot < length cs → c ≡ get_or cs slot c
       → drop slot rows ≡ drop slot old → v ≡ get_or rows slot v
-      → planes_in planes ≡ patched slot all (planes_in start) → p ≡ get_or planes slot p → q.items ≡ p.items ++ samples_of (down_in c) (coding_in c) (map to_block v.items)
+      → planes_in planes ≡ patched slot all (planes_in start) → p ≡ get_or planes slot p → q.items
+      ≡ p.items ++ samples_of (down_in c) (coding_in c) (map to_block v.items)
       → planes_in (set planes slot q) ≡ patched (slot + 1) all (planes_in start)
   planes-next rows planes slot c v p q h is e held inv at new =
       let view : Plane → List ℕ = λ x. x.items in
       let pl = planes-long planes slot inv in
       let before : p.items ≡ get_or (planes_in start) slot [] =
-      ap view at ∙ sym (get-map view planes slot p [] (omega (arith, pl))) ∙ ap (λ (l : List (List ℕ)). get_or l slot []) inv
+      ap view at ∙ sym (get-map view planes slot p [] (omega (arith, pl)))
+      ∙ ap (λ (l : List (List ℕ)). get_or l slot []) inv
       ∙ patched-at all (planes_in start) slot [] all-long in
       let blocks : get_or (arrays_in old) slot [] ≡ map to_block v.items =
       get-map blocks_in old slot v [] (omega (arith, old-long)) ∙ sym (ap blocks_in (row-at rows slot v h e held)) in
-      let coded : coding_in c ≡ get_or codings slot (coding_in c) = ap coding_in is ∙ sym (get-map coding_in cs slot c (coding_in c) h) in
+      let coded : coding_in c ≡ get_or codings slot (coding_in c) = ap coding_in is
+      ∙ sym (get-map coding_in cs slot c (coding_in c) h) in
       map-set view planes slot q
       ∙ ap (λ (l : List (List ℕ)). set l slot q.items) inv
       ∙ patched-next all (planes_in start) slot q.items [] all-long (omega (arith, start-long, length-map cs coding_in))
       (new ∙ ap (λ (l : List ℕ). l ++ samples_of (down_in c) (coding_in c) (map to_block v.items)) before
-      ∙ sym (strips-at codings (arrays_in old) (planes_in start) slot (coding_in c) arrays-long start-long (omega (arith, length-map cs coding_in)) coded
+      ∙ sym (strips-at codings (arrays_in old) (planes_in start) slot (coding_in c) arrays-long start-long (omega
+      (arith, length-map cs coding_in)) coded
       ∙ ap (λ (l : List Block). get_or (planes_in start) slot [] ++ samples_of (down_in c) (coding_in c) l) blocks))
 
-  pub planes-all : (planes : List Plane) (slot : ℕ) → length cs ≤ slot → planes_in planes ≡ patched slot all (planes_in start) → planes_in planes ≡ all
-  planes-all planes slot h e = e ∙ patched-all all (planes_in start) slot all-long (omega (arith, start-long, length-map cs coding_in))
+  pub planes-all : (planes : List Plane) (slot : ℕ) → length cs ≤ slot → planes_in planes
+      ≡ patched slot all (planes_in start) → planes_in planes ≡ all
+  planes-all planes slot h e = e ∙ patched-all all (planes_in start) slot all-long (omega
+      (arith, start-long, length-map cs coding_in))

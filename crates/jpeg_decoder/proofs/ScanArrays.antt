@@ -64,7 +64,7 @@ coding-of found frame p tables place d a = first (first_of (drop place frame.com
         (λ component. needed (slice_index_or found.quantization component.factors.quantization None) >>=
         (λ quantization.
         needed_if (p.ss == 0) classes.DC (slice_index_or tables.dc d None) >>=
-            (λ dc. needed_if (nat_lt 0 p.se) classes.AC (slice_index_or tables.ac a None) >>= (λ ac.
+        (λ dc. needed_if (nat_lt 0 p.se) classes.AC (slice_index_or tables.ac a None) >>= (λ ac.
         Ok (record { place = place; component = component; quantization = quantization; dc = dc; ac = ac }))))))
     first None e = tt
     first (Some c) e = rest c (first-at place frame.components c e)
@@ -184,7 +184,7 @@ sequential-scan found frame scan c codings bytes process fits of =
     let cs = components_of all in
     let fit = fits-of frame all fits of in
     let start : (if is_progressive frame.process && found.scanned then found.held else zero_arrays frame.components)
-        ≡ zero_arrays frame.components
+    ≡ zero_arrays frame.components
     = ap (λ (b : Bool). if b && found.scanned then found.held else zero_arrays frame.components) process in
     ap (λ (l : Arrays). arrays_at (pass_of scan) (found.restart * mcu_size cs) (vias_from 0 all)
     (spots_of frame cs) l bytes)
@@ -226,8 +226,14 @@ scan-sized found frame scan codings bytes held of =
   where
     go : (o : Outcome (List Block × Option Marker))
         → AreSizedBehind codings (o >>= (λ (r : (List Block × Option Marker) × List ℕ).
-        Ok ((put_blocks (spots_of frame (components_of codings)) r.0.0
-        (arrays_of codings (arrays_before found frame)), r.0.1), r.1)))
+        Ok (
+          (
+            put_blocks (spots_of frame (components_of codings)) r.0.0
+                (arrays_of codings (arrays_before found frame)),
+            r.0.1,
+          ),
+          r.1,
+        )))
     go (Ok r) = put-sized (components_of codings) (spots_of frame (components_of codings)) r.0.0
         (arrays_of codings (arrays_before found frame))
         (arrays-sized frame codings (arrays_before found frame) held of)

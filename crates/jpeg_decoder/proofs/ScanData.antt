@@ -139,7 +139,7 @@ zeros-read f frame codings e of = ap (blocks_at codings) (before-sequential f fr
 
 planes-are : (n : ℕ) (frame : Frame) (p : Pass) (codings : List Coding) (vias : List Via) (bytes : List ℕ)
     → planes_at p n vias frame codings bytes
-      ≡ (arrays_at p (n * mcu_size (components_of codings)) vias (spots_of frame (components_of codings)) (zero_arrays (components_of codings)) bytes >>= planes_after codings)
+    ≡ (arrays_at p (n * mcu_size (components_of codings)) vias (spots_of frame (components_of codings)) (zero_arrays (components_of codings)) bytes >>= planes_after codings)
 unfolding planes_at
 planes-are n frame p codings vias bytes = refl
 
@@ -230,7 +230,7 @@ planes-whole frame p (c ∷ codings) [] found of k h = h
 planes-whole frame p (c ∷ codings) (plane ∷ planes) found of k h =
     let a : length plane ≡ (c.component.blocks_high * c.component.scale) * (c.component.blocks_wide * c.component.scale) = ap (λ (l : List ℕ). get_or l 0 0) k in
     planes-whole frame p codings planes (with_its_plane p c.place plane found) of.1 (ap (λ (l : List ℕ). drop 1 l) k)
-      (one-whole frame.components p c.place c.component plane found of.0.here a h)
+    (one-whole frame.components p c.place c.component plane found of.0.here a h)
 
 pub arrays-whole : (frame : Frame) (p : Pass) (codings : List Coding) (arrays : Arrays) (found : Found) → AllByRecursion (IsOf frame) codings
     → ArePlanes frame.components found.planes → ArePlanes frame.components (with_arrays p codings arrays found).planes
@@ -239,8 +239,8 @@ arrays-whole frame p [] arrays found of h = h
 arrays-whole frame p (c ∷ codings) [] found of h = h
 arrays-whole frame p (c ∷ codings) (blocks ∷ arrays) found of h =
     arrays-whole frame p codings arrays (with_blocks p c blocks found) of.1
-      (subst (λ (x : Found). ArePlanes frame.components x.planes) (sym (blocks-are p c blocks found))
-        (one-whole frame.components p c.place c.component (plane_by c.component c.quantization blocks) found of.0.here (plane_by-length c.component c.quantization blocks) h))
+    (subst (λ (x : Found). ArePlanes frame.components x.planes) (sym (blocks-are p c blocks found))
+    (one-whole frame.components p c.place c.component (plane_by c.component c.quantization blocks) found of.0.here (plane_by-length c.component c.quantization blocks) h))
 
 -- ---- refusals
 

@@ -109,11 +109,13 @@ scan-ends whole rest next met old cur mid new r read is begun has ends =
     last-step {X = Option Marker} (λ m. (next, m)) (λ m. m) whole (λ bytes. after_data ((next, met), bytes)) (behind_all met)
     old mid new r
     (λ m h. bind_at (λ (m : Option Marker × List ℕ). Ok ((next, m.0), m.1)) _ (m, new.bytes) h)
-    (λ f h. bind_err (λ (m : Option Marker × List ℕ). Ok ((next, m.0), m.1)) _ f h)
-    (has.0 ∙ begun.0, λ k.
-    let at = begun.1 k in
-    let by = has.1 at.0 in
-    (by.0, at.1 ∙ is cur.bytes ∙ bind_at after_data _ ((next, met), mid.bytes) by.1))
+    (λ f h. bind_err (λ (m : Option Marker × List ℕ). Ok ((next, m.0), m.1)) _ f h) (
+      has.0 ∙ begun.0,
+      λ k.
+          let at = begun.1 k in
+          let by = has.1 at.0 in
+          (by.0, at.1 ∙ is cur.bytes ∙ bind_at after_data _ ((next, met), mid.bytes) by.1),
+    )
     ends
 
 -- ---- a segment of the stream

@@ -9,13 +9,16 @@ use Rattle.std.proofs.lemmas.List.Elements.{recursion_from_All}
 use Rattle.jpeg_bits.specs.Reading.{Fault, Lacks, ◌>>=◌}
 use Rattle.jpeg_bits.specs.declared.error.UnsupportedFeature.TheVariants as features
 use Rattle.jpeg_segments.specs.Frame.{Frame, Component, Factors, IsFrame, IsInRange, frame_of}
-use Rattle.jpeg_segments.specs.Scales.{IsSizedFrame, frame_at, component_at, is_scale}
-use Rattle.jpeg_segments.proofs.ScaleLemmas.{full_frames, scaled_again}
+use Rattle.jpeg_segments.specs.Scales.{IsSizedFrame, frame_at, component_at, is_scale, scale_for, sized, sized_by}
+use Rattle.jpeg_segments.specs.declared.parser.CodingProcess.{CodingProcess}
+use Rattle.jpeg_segments.specs.declared.parser.CodingProcess.TheVariants.{DctSequential, DctProgressive, Lossless}
+use Rattle.std.specs.Prelude.{option_map}
+use Rattle.jpeg_segments.proofs.ScaleLemmas.{full_frames, scaled_again, scale_for_is_scale}
 use Rattle.jpeg_pixels.specs.Pictures.{Source, HasSources, sources_of}
 use Rattle.jpeg_decoder.specs.InTurn.{Fits, AreArrays}
 use Rattle.jpeg_decoder.specs.Scans.{zero_arrays}
-use Rattle.jpeg_decoder.specs.Stream.{Found, accepted, is_arithmetic, is_precision, is_count, is_progressive, arrays_before}
-use Rattle.jpeg_decoder.specs.Sound.{IsDecodedFrame, IsPlaneOf, ArePlanes, IsSound}
+use Rattle.jpeg_decoder.specs.Stream.{Found, nothing_found, sized_to, accepted, is_arithmetic, is_precision, is_count, is_progressive, arrays_before}
+use Rattle.jpeg_decoder.specs.Sound.{HasDecodedFrame, IsUnread, IsDecodedFrame, IsPlaneOf, ArePlanes, IsSound}
 use Rattle.jpeg_decoder.proofs.Apart.{zeros-sized}
 use Rattle.jpeg_decoder.proofs.FrameFits.{scaled-frames-fit}
 use Rattle.jpeg_decoder.proofs.ScaledCovers.{frames-have-sources}
@@ -79,7 +82,7 @@ decoded-fits f p =
     let q = p.is_read in
     let s = scale-bounds p.scale p.is_scale in
     subst (λ (g : Frame). AllByRecursion (Fits g) g.components) (sym (p.made ∙ ap (frame_at p.scale) q.made))
-      (scaled-frames-fit p.scale q.number q.precision q.width q.height q.factors s.0 (recursion_from_All IsInRange q.factors q.in_range))
+    (scaled-frames-fit p.scale q.number q.precision q.width q.height q.factors s.0 (recursion_from_All IsInRange q.factors q.in_range))
 
 sized-sources : (number precision width height : ℕ) (factors : List Factors) (sources : List Source)
     → sources_of (frame_of number precision width height factors).components (frame_of number precision width height factors).output_width (frame_of number precision width height factors).output_height ≡ Ok sources
@@ -91,8 +94,8 @@ read-sources : (f : Frame) → IsFrame f → (sources : List Source) → sources
     → (s : ℕ) → 0 < s → s ≤ 8 → HasSources (frame_at s f)
 read-sources f q sources e s some most =
     subst (λ (g : Frame). HasSources (frame_at s g)) (sym q.made)
-      (frames-have-sources s q.number q.precision q.width q.height q.factors sources (recursion_from_All IsInRange q.factors q.in_range) some most q.some_width q.some_height
-        (sized-sources q.number q.precision q.width q.height q.factors sources (subst (λ (g : Frame). sources_of g.components g.output_width g.output_height ≡ Ok sources) q.made e)))
+    (frames-have-sources s q.number q.precision q.width q.height q.factors sources (recursion_from_All IsInRange q.factors q.in_range) some most q.some_width q.some_height
+    (sized-sources q.number q.precision q.width q.height q.factors sources (subst (λ (g : Frame). sources_of g.components g.output_width g.output_height ≡ Ok sources) q.made e)))
 
 pub decoded-sources : (f : Frame) → IsDecodedFrame f → HasSources f
 decoded-sources f p =
@@ -166,3 +169,61 @@ sound-framed found f p e q a = let n = p.unread (none found.frame e) in sound-fr
     none : (o : Option Frame) → is_some o ≡ false → o ≡ None
     none None e = refl
     none (Some g) e = absurd (cc)
+
+-- ---- the start of a stream
+
+sound-start : IsSound nothing_found
+unfolding nothing_found
+sound-start = record {
+  frames = λ f e. absurd (cc);
+  held = λ f e. absurd (cc);
+  planes = λ f e. absurd (cc);
+  unread = λ e. (refl, refl);
+}
+
+pub sound-nothing : (found : Found) → found ≡ nothing_found → IsSound found
+sound-nothing found e = subst IsSound (sym e) sound-start
+
+no-frame-yet : nothing_found.frame ≡ None
+unfolding nothing_found
+no-frame-yet = refl
+
+pub nothing-framed : (found : Found) → found ≡ nothing_found → found.frame ≡ None
+nothing-framed found e = ap (λ (f : Found). f.frame) e ∙ no-frame-yet
+
+-- ---- frames at a scale
+
+decoded-asked : (width height : ℕ) (f : Frame) → IsDecodedFrame f → IsDecodedFrame (sized width height f)
+decoded-asked width height f p = go f.process
+  where
+    at : IsDecodedFrame (frame_at (scale_for f.width f.height width height) f)
+    at = decoded-scaled (scale_for f.width f.height width height) f (scale_for_is_scale f.width f.height width height) p
+
+    go : (process : CodingProcess) → IsDecodedFrame (sized_by process width height f)
+    go DctSequential = at
+    go DctProgressive = at
+    go Lossless = p
+
+pub sized_of : (f : Frame) → IsDecodedFrame f → IsSizedFrame f
+sized_of f p = decoded-sized f p
+
+pub frames_scaled : (width height : ℕ) (old new : Found) → new ≡ sized_to width height old → HasDecodedFrame old → HasDecodedFrame new
+frames_scaled width height old new e h = λ f k. go old.frame refl f (ap (λ (x : Found). x.frame) (sym e) ∙ k)
+  where
+    go : (o : Option Frame) → old.frame ≡ o → (f : Frame) → option_map (sized width height) o ≡ Some f → IsDecodedFrame f
+    go None q f k = absurd (cc)
+    go (Some g) q f k = let s : sized width height g ≡ f = cc in subst IsDecodedFrame s (decoded-asked width height g (h g q))
+
+pub sound_scaled : (width height : ℕ) (old new : Found) → new ≡ sized_to width height old → IsSound old → IsUnread old → IsSound new
+sound_scaled width height old new e p u = subst IsSound (sym e) (go old.frame refl)
+  where
+    go : (o : Option Frame) → old.frame ≡ o → IsSound (record old { frame = option_map (sized width height) o })
+    go None q = record {
+      frames = λ f k. absurd (cc);
+      held = λ f k. absurd (cc);
+      planes = λ f k. absurd (cc);
+      unread = λ k. u;
+    }
+    go (Some g) q = sound-frame old (sized width height g) (decoded-asked width height g (p.frames g q)) u.0 u.1
+
+pub ruleset scaled_rules = (sized_of, frames_scaled, sound_scaled)

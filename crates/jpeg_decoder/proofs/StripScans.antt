@@ -1,5 +1,6 @@
--- A sequential scan behind its rows of MCUs: what was read, and the refusals.
-use Rattle.std.proofs.Common.{◌≡◌, ℕ, ◌≤◌, List, [], ◌∷◌, map, length, Option, Result, Ok, Err, sym, ap, ◌∙◌, subst, arith}
+-- A sequential scan after its rows of MCUs: what was read, and the refusals.
+use Rattle.std.proofs.Common.{◌≡◌, ℕ, ◌≤◌, List, [], ◌∷◌, map, length, Option, Result, Ok, Err, sym, ap, ◌∙◌, subst}
+use Rattle.std.proofs.Common.{arith}
 use Rattle.std.specs.List.{AllByRecursion}
 use Rattle.jpeg_bits.specs.Stream.{Stream}
 use Rattle.jpeg_bits.specs.Reading as reading
@@ -29,7 +30,8 @@ marked planes o = reading.◌>>=◌ o (λ (m : Option Marker × List ℕ). Ok ((
 ended : Result (Planes × Text) Fault → Outcome (Planes × Option Marker)
 ended o = reading.◌>>=◌ o (λ (r : Planes × Text). marked r.0 (marker_from r.1))
 
-module _ (p : Pass) (vias : List Via) (n : ℕ) (frame : Frame) (codings : List Coding) (start : Planes) (i : Counted) (a : Ahead) (old : Stream)
+module _ (p : Pass) (vias : List Via) (n : ℕ) (frame : Frame) (codings : List Coding) (start : Planes) (i : Counted)
+    (a : Ahead) (old : Stream)
     (nothing : start ≡ map (λ (c : Coding). []) codings) (first : i ≡ counted_at_start n []) (none : a ≡ fresh) where
   abbrev whole : Text → Result (Planes × Text) Fault
   whole = strips_from p vias n codings (rows_of frame (components_of codings)) start i
@@ -37,19 +39,29 @@ module _ (p : Pass) (vias : List Via) (n : ℕ) (frame : Frame) (codings : List 
   whole-is : (bytes : List ℕ) → planes_by_rows p vias n frame codings bytes ≡ ended (whole (upcoming a bytes))
   unfolding planes_by_rows ended
   whole-is bytes =
-      ap (λ (x : Planes). ended (strips_from p vias n codings (rows_of frame (components_of codings)) x (counted_at_start n []) (upcoming fresh bytes))) (sym nothing)
-      ∙ ap (λ (x : Counted). ended (strips_from p vias n codings (rows_of frame (components_of codings)) start x (upcoming fresh bytes))) (sym first)
+      ap (λ (x : Planes). ended (strips_from p vias n codings (rows_of frame (components_of codings)) x
+      (counted_at_start n []) (upcoming fresh bytes))) (sym nothing)
+      ∙ ap (λ (x : Counted). ended (strips_from p vias n codings (rows_of frame (components_of codings)) start x
+      (upcoming fresh bytes))) (sym first)
       ∙ ap (λ (x : Ahead). ended (whole (upcoming x bytes))) (sym none)
 
   -- a refusal in the rows
-  pub rows-refused : {X Y : Type 0} (v : X → Planes) (view : Y → Planes × Option Marker) (b : Ahead) (new : Stream) (e : Error)
+  pub rows-refused : {X Y : Type 0} (v : X → Planes) (view : Y → Planes
+      × Option Marker) (b : Ahead) (new : Stream) (e : Error)
       → Takes v whole a old (Err e) b new → Answers view (planes_by_rows p vias n frame codings) old (Err e) new
   unfolding ended
-  rows-refused v view b new e q = (q.0, λ k known. Names-through e _ _ (λ f h. whole-is old.bytes ∙ ap ended h) (q.1 k known), q.2)
+  rows-refused v view b new e q = (
+    q.0,
+    λ k known. Names-through e _ _ (λ f h. whole-is old.bytes
+        ∙ ap ended h) (q.1 k known),
+    q.2,
+  )
 
-  -- one behind them
-  pub marker-refused : {X Y : Type 0} (v : X → Planes) (view : Y → Planes × Option Marker) (b : Ahead) (cur new : Stream) (u : X) (e : Error)
-      → Takes v whole a old (Ok u) b cur → Answers (λ (m : Option Marker). m) (λ bytes. marker_from (upcoming b bytes)) cur (Err e) new
+  -- one after them
+  pub marker-refused : {X Y : Type 0} (v : X → Planes) (view : Y → Planes
+      × Option Marker) (b : Ahead) (cur new : Stream) (u : X) (e : Error)
+      → Takes v whole a old (Ok u) b cur → Answers (λ (m : Option Marker). m) (λ bytes. marker_from
+      (upcoming b bytes)) cur (Err e) new
       → Answers view (planes_by_rows p vias n frame codings) old (Err e) new
   unfolding ended
   marker-refused v view b cur new u e q m = (
@@ -60,20 +72,27 @@ module _ (p : Pass) (vias : List Via) (n : ℕ) (frame : Frame) (codings : List 
     λ k. m.2 (q.1 k).0,
   )
 
-  pub scan-read : {X Y : Type 0} (v : X → Planes) (view : Y → Planes × Option Marker) (b : Ahead) (cur new : Stream) (u : X) (met : Option Marker) (y : Y)
-      → Takes v whole a old (Ok u) b cur → Answers (λ (m : Option Marker). m) (λ bytes. marker_from (upcoming b bytes)) cur (Ok met) new → view y ≡ (v u, met)
+  pub scan-read : {X Y : Type 0} (v : X → Planes) (view : Y → Planes
+      × Option Marker) (b : Ahead) (cur new : Stream) (u : X) (met : Option Marker) (y : Y)
+      → Takes v whole a old (Ok u) b cur → Answers (λ (m : Option Marker). m) (λ bytes. marker_from
+      (upcoming b bytes)) cur (Ok met) new → view y ≡ (v u, met)
       → Answers view (planes_by_rows p vias n frame codings) old (Ok y) new
   unfolding ended
   scan-read v view b cur new u met y q m e = (
     m.0 ∙ q.0,
     λ k.
         let at = q.1 k in
-        let by = m.1 at.0 in
-        (by.0, whole-is old.bytes ∙ ap ended at.1 ∙ ap (marked (v u)) by.1 ∙ ap (λ (x : Planes × Option Marker). Ok (x, new.bytes)) (sym e)),
+        let by = m.1 at.0 in (
+          by.0,
+          whole-is old.bytes ∙ ap ended at.1 ∙ ap (marked (v u)) by.1 ∙ ap (λ (x : Planes
+              × Option Marker). Ok (x, new.bytes)) (sym e),
+        ),
   )
 
-pub scan-by-rows : (frame : Frame) (cs : List Coded) (p : Pass) (n : ℕ) (vias : List Via) (bytes : List ℕ) → 1 ≤ length cs → AllByRecursion (Fits frame) (components_in cs)
+pub scan-by-rows : (frame : Frame) (cs : List Coded) (p : Pass) (n : ℕ) (vias : List Via) (bytes : List ℕ)
+    → 1 ≤ length cs → AllByRecursion (Fits frame) (components_in cs)
     → planes_at p n vias frame (map coding_in cs) bytes ≡ planes_by_rows p vias n frame (map coding_in cs) bytes
 scan-by-rows frame [] p n vias bytes h fits = absurd (omega arith)
 scan-by-rows frame (c ∷ cs) p n vias bytes h fits =
-    planes-by-rows frame (coding_in c) (map coding_in cs) p n vias bytes (subst (λ (l : List Component). AllByRecursion (Fits frame) l) (sym (components-are (c ∷ cs))) fits)
+    planes-by-rows frame (coding_in c) (map coding_in cs) p n vias bytes (subst (λ
+    (l : List Component). AllByRecursion (Fits frame) l) (sym (components-are (c ∷ cs))) fits)

@@ -1,5 +1,7 @@
--- The planes of a sequential scan, as they grow row by row of MCUs, so that no blocks are held of more than one row.
-use Rattle.std.specs.Prelude.{ℕ, ◌+◌, ◌*◌, ℤ, List, [], ◌∷◌, ◌++◌, map, replicate, slice_index_or, Option, Ok}
+-- The planes of a sequential scan, as they grow row by row of MCUs, so that no blocks are held of
+-- more than one row.
+use Rattle.std.specs.Prelude.{ℕ, ◌+◌, ◌*◌, ℤ, List, [], ◌∷◌, ◌++◌, map, replicate, slice_index_or}
+use Rattle.std.specs.Prelude.{Option, Ok}
 use Rattle.std.specs.declared.alloc.Global.{Global}
 use Rattle.std.specs.declared.vec.Vec.{Vec}
 use Rattle.jpeg_bits.specs.Reading as reading
@@ -25,21 +27,27 @@ components_of codings = map (λ c. c.component) codings
 
 -- the planes of a scan's components by their blocks
 unfoldable pub planes_by : List Coding → Arrays → List (List ℕ)
-planes_by (c ∷ codings) (blocks ∷ arrays) = plane_by c.component c.quantization blocks ∷ planes_by codings arrays
+planes_by (c ∷ codings)
+    (blocks ∷ arrays) = plane_by c.component c.quantization blocks ∷ planes_by codings arrays
 planes_by _ _ = []
 
--- The planes of a sequential scan, and the marker after it, if it is met: of n blocks an interval, where 0 is one interval.
-unfoldable pub planes_at : Pass → ℕ → List Via → Frame → List Coding → List ℕ → Outcome (List (List ℕ) × Option Marker)
+-- The planes of a sequential scan, and the marker after it, if it is met: of n blocks an interval,
+-- where 0 is one interval.
+unfoldable pub planes_at : Pass → ℕ → List Via → Frame → List Coding → List ℕ
+    → Outcome (List (List ℕ) × Option Marker)
 planes_at p n vias frame codings bytes =
-    reading.◌>>=◌ (arrays_at p (n * mcu_size (components_of codings)) vias (spots_of frame (components_of codings)) (zero_arrays (components_of codings)) bytes) (λ r.
+    reading.◌>>=◌ (arrays_at p (n * mcu_size (components_of codings)) vias (spots_of frame
+    (components_of codings)) (zero_arrays (components_of codings)) bytes) (λ r.
     Ok ((planes_by codings r.0.0, r.0.1), r.1))
 
 -- ---- row by row of MCUs
 
--- the samples of the blocks of a component, so many blocks high
+-- the samples of the blocks of a component that are `high` blocks high
 unfoldable pub samples_of : ℕ → Coding → List Block → List ℕ
 samples_of high c blocks =
-    plane_of c.component.scale (values_in_block_order c.quantization) c.component.blocks_wide high (in_raster c.component.blocks_wide blocks)
+    plane_of c.component.scale
+    (values_in_block_order c.quantization) c.component.blocks_wide high
+    (in_raster c.component.blocks_wide blocks)
 
 -- after each plane the samples of its component's blocks in a row of MCUs
 unfoldable pub with_strips : List Coding → Arrays → List (List ℕ) → List (List ℕ)
@@ -47,17 +55,21 @@ with_strips (c ∷ codings) (blocks ∷ arrays) (plane ∷ planes) =
     (plane ++ samples_of c.component.factors.vertical c blocks) ∷ with_strips codings arrays planes
 with_strips _ _ _ = []
 
--- so many rows of MCUs more, each read into blocks of its own
-unfoldable pub strips_from : Pass → List Via → ℕ → List Coding → List (List (List Spot)) → List (List ℕ) → Counted → Reads (List (List ℕ))
+-- the planes after some more rows of MCUs, each of which is read into blocks of its own
+unfoldable pub strips_from : Pass → List Via → ℕ → List Coding → List (List (List Spot))
+    → List (List ℕ) → Counted → Reads (List (List ℕ))
 strips_from p vias n codings [] planes old = gives planes
 strips_from p vias n codings (mcus ∷ rows) planes old =
     mcus_from p vias n mcus (with_arrays (zero_rows 1 (components_of codings)) old) >>= (λ r.
-    strips_from p vias n codings rows (with_strips codings r.reached.arrays planes) (with_arrays [] r))
+    strips_from p vias n codings rows (with_strips codings r.reached.arrays planes)
+    (with_arrays [] r))
 
 -- a scan from zeros, row by row of MCUs
-unfoldable pub planes_by_rows : Pass → List Via → ℕ → Frame → List Coding → List ℕ → Outcome (List (List ℕ) × Option Marker)
+unfoldable pub planes_by_rows : Pass → List Via → ℕ → Frame → List Coding → List ℕ
+    → Outcome (List (List ℕ) × Option Marker)
 planes_by_rows p vias n frame codings bytes =
-    reading.◌>>=◌ (strips_from p vias n codings (rows_of frame (components_of codings)) (map (λ c. []) codings) (counted_at_start n []) (upcoming fresh bytes)) (λ r.
+    reading.◌>>=◌ (strips_from p vias n codings (rows_of frame (components_of codings)) (map
+    (λ c. []) codings) (counted_at_start n []) (upcoming fresh bytes)) (λ r.
     reading.◌>>=◌ (marker_from r.1) (λ m. Ok ((r.0, m.0), m.1)))
 
 -- the MCUs of each row, by the row's number
@@ -75,14 +87,14 @@ planes_in planes = map (λ v. v.items) planes
 abbrev pub row_sizes : List Coded → List ℕ
 row_sizes cs = map (λ c. down_in c * wide_in c) cs
 
--- so many blocks of zeros for each component
+-- blocks of zeros, by their number for each component
 abbrev pub zeros_of : List ℕ → Arrays
 zeros_of sizes = map (λ n. replicate n zero_block) sizes
 
--- the samples of the component's blocks that are so many blocks high
+-- the number of samples of a component's blocks that are `high` blocks high
 abbrev pub samples_in : ℕ → Coded → ℕ
 samples_in high c = c.component.now.dct_scale * wide_in c * (c.component.now.dct_scale * high)
 
--- the block in a row and a column of blocks in raster order, so many wide, each in block order
+-- the block in a row and a column of blocks in raster order, `wide` blocks wide
 abbrev pub block_in : ℕ → List (List ℤ) → ℕ → ℕ → List ℤ
 block_in wide blocks row column = slice_index_or blocks (row * wide + column) zero_coefficients

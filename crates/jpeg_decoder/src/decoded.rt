@@ -105,8 +105,7 @@ pub fn render(
     blocks: &[[i16; 64]],
 ) -> std::result::Result<Vec<u8>, AllocError>
     requires scale { IsScale component.now.dct_scale }
-    requires blocks {
-        length blocks.now ≡ component.now.block_size.height * component.now.block_size.width }
+    requires blocks { length blocks.now ≡ component.now.block_size.height * component.now.block_size.width }
     ensures { IfOk result (λ v. v.items
         ≡ plane_by (component_in component.now) quantization.now (map to_block blocks.now)) }
 {

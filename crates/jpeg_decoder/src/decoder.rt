@@ -1,12 +1,13 @@
 //! The decoder and its states.
-ghost use Rattle.std.specs.Prelude.{◌≡◌, if◌then◌else◌, IfOk, IfErr, MatchResult, OnErr, OnOk, Some, option_map, is_some, Err, true, false};
+ghost use Rattle.std.specs.Prelude.{◌≡◌, if◌then◌else◌, IfOk, IfErr, MatchResult, OnErr, OnOk, IfNone, IfSome, None, option_map, is_some, Err, true, false};
 ghost use Rattle.jpeg_bits.specs.Reading.{Answers};
 ghost use Rattle.jpeg_bits.specs.Stream.{stream_of};
 ghost use Rattle.jpeg_bits.specs.declared.error.Error.TheVariants.{OutOfMemory};
 ghost use Rattle.jpeg_decoder.specs.Stream.{nothing_found, header_at, sized_header_at, sized_to, told_of, IsOfTurns};
 ghost use Rattle.jpeg_decoder.specs.States.{Decoding, MovesToHeader, MovesToEnd, IsReading, ahead, told_ahead, turns_ahead, OnTold, OnToldRefusal, Fresh, HeaderRead};
 ghost use Rattle.jpeg_decoder.specs.DecodedImages.{DecodesImages};
-ghost use Rattle.jpeg_decoder.specs.Seen.{format_of, info_of};
+ghost use Rattle.jpeg_decoder.specs.Seen.{format_of, found_in, info_of};
+ghost use Rattle.jpeg_decoder.specs.Sound.{HasDecodedFrame, IsSound, IsUnread};
 ghost use Rattle.jpeg_decoder.specs.declared.decoder.Progress.TheVariants.{Failed};
 ghost use Rattle.jpeg_segments.specs.FrameView.{frame_in};
 ghost use Rattle.jpeg_segments.specs.Scales.{IsSizedFrame, sized};
@@ -112,6 +113,22 @@ fn size_frame(frame: &mut FrameInfo, width: u16, height: u16) -> (u16, u16)
         CodingProcess::Lossless => {}
     }
     (frame.output_size.width, frame.output_size.height)
+}
+
+/// Sizes the frame that was read, if one was.
+#[tactic(auto, using(crate::proofs::Soundness::scaled_rules))]
+fn scale_state(state: &mut State, width: u16, height: u16) -> Option<(u16, u16)>
+    requires frames { HasDecodedFrame (found_in state.old) }
+    ensures found { found_in state.new ≡ sized_to width height (found_in state.old) }
+    ensures none { IfNone result ((found_in state.old).frame ≡ None) }
+    ensures size { IfSome result (λ size. IfSome (found_in state.new).frame (λ f. (f.output_width ≡ size.0) × (f.output_height ≡ size.1))) }
+    ensures frames { HasDecodedFrame (found_in state.new) }
+    ensures sound { IsSound (found_in state.old) → IsUnread (found_in state.old) → IsSound (found_in state.new) × IsUnread (found_in state.new) }
+{
+    match &mut state.frame {
+        Some(frame) => Some(size_frame(frame, width, height)),
+        None => None,
+    }
 }
 
 /// How far a decoder has come.
@@ -273,12 +290,13 @@ impl<R: Read + Drop> Decoder<R> {
         ensures turns { self.old.stage ≡ Fresh → self.old.source.known ≡ true → OnErr result (IsOfTurns (λ n. turns_ahead n true self.old.stage self.old.found self.old.source.bytes) (told_of self.new.found)) }
         ensures scaled { (self.old.stage ≡ Fresh → ⊥) → OnOk result (self.new ≡ record self.old { found = sized_to requested_width requested_height self.old.found }) }
         ensures still { (self.old.stage ≡ Fresh → ⊥) → OnErr result (self.new ≡ self.old) }
-        ensures size { IfOk result (λ size. option_map (λ f. (f.output_width, f.output_height)) self.new.found.frame ≡ Some (size.0, size.1)) }
+        ensures size { IfOk result (λ size. IfSome self.new.found.frame (λ f. (f.output_width ≡ size.0) × (f.output_height ≡ size.1))) }
+        ensures framed { IfOk result (λ _. is_some self.new.found.frame ≡ true) }
         ensures settings { self.new.settings ≡ self.old.settings }
     {
         self.read_info()?;
-        match &mut self.state.frame {
-            Some(frame) => Ok(size_frame(frame, requested_width, requested_height)),
+        match scale_state(&mut self.state, requested_width, requested_height) {
+            Some(size) => Ok(size),
             None => Err(Error::Internal("decoder has no frame")),
         }
     }

@@ -7,7 +7,7 @@ ghost use Rattle.jpeg_pixels.specs.Scaled.{IsScale};
 ghost use Rattle.jpeg_decoder.specs.EndPlanes.{AreBlocksOf, blocks_if, is_held, plane_or};
 ghost use Rattle.jpeg_decoder.specs.Scanning.{arrays_in, blocks_in};
 ghost use Rattle.jpeg_decoder.specs.Seen.{found_in, metadata_in, planes_in};
-ghost use Rattle.jpeg_decoder.specs.Sound.{IsDecodedFrame, IsPlaneOf, IsSound};
+ghost use Rattle.jpeg_decoder.specs.Sound.{IsDecodedFrame, IsPlaneOf, IsSound, HasDecodedFrame, IsUnread};
 ghost use Rattle.jpeg_decoder.specs.States.{OnTold};
 ghost use Rattle.jpeg_decoder.specs.Steps.{IsRefusal, cropped_to, with_decoded};
 ghost use Rattle.jpeg_decoder.specs.Stream.{IsOfTurns, header_at, meaning, nothing_found, picture_by, picture_of, planes_from, rest_at, start_at, told_by_stream, told_by_turns, told_in_turns, told_of, told_rest};
@@ -214,7 +214,7 @@ pub fn read_header<R: Read + Drop>(
     ensures turns { source.old.known ≡ true → IsOfTurns (λ n. told_by_turns n true source.old.bytes) (told_of (found_in state.new)) }
     ensures framed { IfOk result (λ _. is_some (found_in state.new).frame ≡ true) }
     ensures sound { OnOk result (IsSound (found_in state.new)) }
-    ensures unread { OnOk result (((found_in state.new).scanned ≡ false) × ((found_in state.new).planes ≡ replicate 4 None)) }
+    ensures unread { OnOk result (IsUnread (found_in state.new)) }
 {
     read_start(alloc, source)?;
     state.read(alloc, source, true)
@@ -234,6 +234,7 @@ fn read_picture<R: Read + Drop>(
     ensures turns { source.old.known ≡ true → IsOfTurns (λ n. told_in_turns n false (found_in state.old) source.old.bytes) (told_of (found_in state.new)) }
     ensures framed { IfOk result (λ _. is_some (found_in state.new).frame ≡ true) }
     ensures stays { is_some (found_in state.old).frame ≡ true → (found_in state.new).frame ≡ (found_in state.old).frame }
+    ensures frames { OnOk result (HasDecodedFrame (found_in state.new)) }
 {
     state.read(alloc, source, false)?;
     let mut decoded = std::mem::replace(&mut state.decoded, Decoded::new(alloc));
@@ -254,6 +255,7 @@ pub fn read_rest<R: Read + Drop>(
     ensures turns { source.old.known ≡ true → IsOfTurns (λ n. told_in_turns n false (found_in state.old) source.old.bytes) (told_of (found_in state.new)) }
     ensures framed { IfOk result (λ _. is_some (found_in state.new).frame ≡ true) }
     ensures stays { is_some (found_in state.old).frame ≡ true → (found_in state.new).frame ≡ (found_in state.old).frame }
+    ensures frames { OnOk result (HasDecodedFrame (found_in state.new)) }
 {
     let result = read_picture(alloc, source, state, settings);
     state.decoded = Decoded::new(alloc);
@@ -273,6 +275,7 @@ pub fn read_stream<R: Read + Drop>(
     ensures told { OnTold source.old source.new result (told_of (found_in state.new) ≡ told_by_stream false source.old.bytes) }
     ensures turns { source.old.known ≡ true → IsOfTurns (λ n. told_by_turns n false source.old.bytes) (told_of (found_in state.new)) }
     ensures framed { IfOk result (λ _. is_some (found_in state.new).frame ≡ true) }
+    ensures frames { OnOk result (HasDecodedFrame (found_in state.new)) }
 {
     read_start(alloc, source)?;
     read_rest(alloc, source, state, settings)

@@ -15,9 +15,7 @@ use jpeg_bits::huffman::HuffmanTable;
 use jpeg_bits::marker::{Marker, read_marker};
 use jpeg_bits::reads::{read_length, skip};
 use jpeg_bits::source::Source;
-use jpeg_segments::parser::{
-    FrameInfo, parse_app, parse_dht, parse_dqt, parse_dri, parse_sof,
-};
+use jpeg_segments::parser::{FrameInfo, parse_app, parse_dht, parse_dqt, parse_dri, parse_sof};
 use std::alloc::Global;
 use std::io::Read;
 

@@ -4,9 +4,13 @@
 #[cfg(test)]
 mod bytes;
 #[cfg(test)]
+mod colours;
+#[cfg(test)]
 mod failed_reads;
 #[cfg(test)]
 mod failed_writes;
+#[cfg(test)]
+mod faults;
 #[cfg(test)]
 mod interruptions;
 #[cfg(test)]
@@ -20,8 +24,18 @@ mod parts;
 #[cfg(test)]
 mod program;
 #[cfg(test)]
+mod progressive;
+#[cfg(test)]
+mod refinement;
+#[cfg(test)]
 mod refusals;
 #[cfg(test)]
+mod restarts;
+#[cfg(test)]
 mod rows;
+#[cfg(test)]
+mod scales;
+#[cfg(test)]
+mod sequential;
 #[cfg(test)]
 mod streams;

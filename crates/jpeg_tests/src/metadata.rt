@@ -161,8 +161,10 @@ fn a_header_and_then_its_picture(rt: HostRuntime) -> Result<(), Fail> {
     Ok(())
 }
 
+/// Headers of a progressive frame, whose scan must not mix DC and AC, and of a lossless one, which
+/// `decode` refuses.
 #[test]
-fn headers_of_frames_that_are_not_decoded_yet(rt: HostRuntime) -> Result<(), Fail> {
+fn headers_before_a_refused_scan(rt: HostRuntime) -> Result<(), Fail> {
     let progressive = "FFC2 000B 08 0008 0008 01 01 11 00";
     let lossless = "FFC3 000B 10 0008 0008 01 01 11 00";
     for (frame, process) in [

@@ -3,7 +3,7 @@
 use crate::bytes::bytes;
 use crate::streams::{Ended, Reader, Trouble};
 use jpeg_decoder::run::run;
-use jpeg_decoder::{Decoder, Error, ImageInfo, PixelFormat, UnsupportedFeature};
+use jpeg_decoder::{ColorTransform, Decoder, Error, ImageInfo, PixelFormat, UnsupportedFeature};
 use std::alloc::Global;
 use std::io::ErrorKind;
 use std::process::Abort;
@@ -27,13 +27,16 @@ pub const END: &str = "FFD9";
 /// What a stream gives: its picture, or the name of its refusal.
 #[derive(Clone, Copy)]
 pub enum Gives {
-    /// Lines of these bytes, so many times.
+    /// Grey lines of these bytes, so many times.
     Lines(&'static str, usize),
+    /// The line that `run` writes before the pixels, and lines of these bytes, so many times.
+    Colours(&'static str, &'static str, usize),
     Format,
     Dnl,
     Precision(u8),
     Hierarchical,
     Arithmetic,
+    Transform(ColorTransform),
     /// The bytes end.
     Io,
 }
@@ -363,7 +366,7 @@ const MARKER_STREAMS: [([&str; 8], Gives); 7] = [
         ],
         Gives::Format,
     ),
-    // A restart interval of 0 is none; another one is not decoded yet.
+    // A restart interval of 0 is none, and one that holds the whole scan has no marker.
     (
         [
             "FFD8",
@@ -388,7 +391,7 @@ const MARKER_STREAMS: [([&str; 8], Gives); 7] = [
             SCAN,
             "43 FFD9",
         ],
-        Gives::Format,
+        Gives::Lines("81*8", 8),
     ),
 ];
 
@@ -426,13 +429,17 @@ fn is_refusal<T>(answer: &Result<T, Error>, gives: Gives) -> bool {
         (Gives::Hierarchical, Err(Error::Unsupported(UnsupportedFeature::Hierarchical))) => true,
         (Gives::Arithmetic, Err(Error::Unsupported(UnsupportedFeature::ArithmeticEntropyCoding))) =>
             true,
+        (
+            Gives::Transform(transform),
+            Err(Error::Unsupported(UnsupportedFeature::ColorTransform(refused))),
+        ) => *refused == transform,
         (Gives::Io, Err(Error::Io(error))) => error.kind() == ErrorKind::UnexpectedEof,
         _ => false,
     }
 }
 
-/// The picture of lines that are all the same.
-fn picture_of(alloc: Global, line: &str, times: usize) -> Result<Vec<u8>, Fail> {
+/// The bytes of a line, so many times.
+fn repeated(alloc: Global, line: &str, times: usize) -> Result<Vec<u8>, Fail> {
     let line = bytes(alloc, &[line])?;
     let mut picture = Vec::new(alloc);
     for _ in 0..times {
@@ -441,42 +448,60 @@ fn picture_of(alloc: Global, line: &str, times: usize) -> Result<Vec<u8>, Fail> 
     Ok(picture)
 }
 
-/// What `run` writes of the picture of lines that are all the same.
-fn output_of(alloc: Global, line: &str, times: usize) -> Result<Vec<u8>, Fail> {
-    let width = bytes(alloc, &[line])?.len();
-    let header = format!(in alloc; "{width} {times} L8\n")?;
-    let mut output = header.as_bytes().to_vec(alloc)?;
-    output.extend_from_slice(&picture_of(alloc, line, times)?)?;
-    Ok(output)
+/// The picture that is wanted, or none where a refusal is.
+fn picture_of(alloc: Global, gives: Gives) -> Result<Option<Vec<u8>>, Fail> {
+    match gives {
+        Gives::Lines(line, times) | Gives::Colours(_, line, times) => {
+            Ok(Some(repeated(alloc, line, times)?))
+        }
+        _ => Ok(None),
+    }
+}
+
+/// What `run` writes before the pixels of the picture that is wanted.
+fn header_of(alloc: Global, gives: Gives) -> Result<String, Fail> {
+    match gives {
+        Gives::Lines(line, times) => {
+            let width = bytes(alloc, &[line])?.len();
+            Ok(format!(in alloc; "{width} {times} L8\n")?)
+        }
+        Gives::Colours(header, _, _) => Ok(format!(in alloc; "{header}\n")?),
+        _ => Ok(String::new(alloc)),
+    }
 }
 
 /// Whether `run` writes the picture that is wanted, or names the refusal and writes nothing.
 fn runs_as_wanted(alloc: Global, stream: &[u8], gives: Gives) -> Result<bool, Fail> {
     let mut written = Vec::new(alloc);
     let answer = run(alloc, stream, &mut written);
-    if let Gives::Lines(line, times) = gives {
-        let output = output_of(alloc, line, times)?;
-        return Ok(answer.is_ok() && written.as_slice() == output.as_slice());
+    match picture_of(alloc, gives)? {
+        Some(picture) => {
+            let header = header_of(alloc, gives)?;
+            let pixels = written.as_slice().strip_prefix(header.as_bytes());
+            Ok(answer.is_ok() && pixels == Some(picture.as_slice()))
+        }
+        None => Ok(is_refusal(&answer, gives) && written.is_empty()),
     }
-    Ok(is_refusal(&answer, gives) && written.is_empty())
 }
 
-/// Whether a stream that is read in pieces of `step` bytes gives what is wanted, and a refusal leaves a failed decoder.
-fn is_as_wanted(alloc: Global, stream: &[u8], gives: Gives, step: usize) -> Result<bool, Fail> {
-    let reader = Reader::new(stream, step, usize::MAX, Trouble::Fails);
-    let mut decoder = Decoder::new(alloc, reader)?;
+/// Whether a decoder returns the picture that is wanted, or names the refusal and has failed.
+pub fn decodes_as_wanted(
+    alloc: Global,
+    decoder: &mut Decoder<Reader<'_>>,
+    gives: Gives,
+) -> Result<bool, Fail> {
     let answer = decoder.decode();
-    if let Gives::Lines(line, times) = gives {
-        let picture = picture_of(alloc, line, times)?;
-        return Ok(answer?.as_slice() == picture.as_slice());
+    match picture_of(alloc, gives)? {
+        Some(picture) => Ok(match &answer {
+            Ok(samples) => samples.as_slice() == picture.as_slice(),
+            Err(_) => false,
+        }),
+        None => {
+            let after = decoder.decode();
+            let has_failed = matches!(&after, Err(Error::Internal("decoder has failed")));
+            Ok(is_refusal(&answer, gives) && has_failed)
+        }
     }
-    Ok(
-        is_refusal(&answer, gives)
-            && matches!(
-                &decoder.decode(),
-                Err(Error::Internal("decoder has failed"))
-            ),
-    )
 }
 
 /// Asserts that a stream of this name gives what is wanted, by `decode`, in pieces of several
@@ -489,9 +514,25 @@ pub fn assert_gives(
     gives: Gives,
 ) -> Result<(), Fail> {
     for step in [1, 2, 3, 1000] {
-        assert!(rt; is_as_wanted(alloc, stream, gives, step)?, "{name}");
+        let reader = Reader::new(stream, step, usize::MAX, Trouble::Fails);
+        let mut decoder = Decoder::new(alloc, reader)?;
+        let is_wanted = decodes_as_wanted(alloc, &mut decoder, gives)?;
+        assert!(rt; is_wanted, "{name}");
     }
     assert!(rt; runs_as_wanted(alloc, stream, gives)?, "run: {name}");
+    Ok(())
+}
+
+/// Asserts that each named stream of a table gives what is wanted.
+pub fn assert_named(
+    rt: &impl Abort,
+    alloc: Global,
+    streams: &[(&str, &str, Gives)],
+) -> Result<(), Fail> {
+    for (name, stream, gives) in streams.iter() {
+        let stream = bytes(alloc, &[*stream])?;
+        assert_gives(rt, alloc, name, &stream, *gives)?;
+    }
     Ok(())
 }
 

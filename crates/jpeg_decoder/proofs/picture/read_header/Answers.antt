@@ -1,4 +1,6 @@
-use Rattle.std.proofs.Common.{◌∙◌, sym, ap, true}
+use Rattle.jpeg_decoder.specs.Seen.{found_in}
+use Rattle.jpeg_decoder.proofs.Soundness.{sound-nothing, nothing-framed}
+use Rattle.std.proofs.Common.{◌∙◌, sym, ap, true, refl}
 use Rattle.std.proofs.lemmas.Result.{err_from_is_err_and}
 use Rattle.jpeg_decoder.specs.Stream.{IsOfTurns, Found, told_of, start_at, told_rest, told_in_turns}
 use Rattle.jpeg_decoder.proofs.Refusals.{told-err}
@@ -33,3 +35,12 @@ returns-clause-turns g c k =
       read.1 ∙ ap (λ (f : Found). told_in_turns read.0 true f c.read_start.new.source.bytes) c.requires
           ∙ sym (turns-start read.0 true c.args.source.now.bytes c.read_start.new.source.bytes at.1),
     )
+
+pub read-requires : goal.read-requires
+read-requires g c = record { sound = sound-nothing (found_in c.args.state.now) c.requires }
+
+pub returns-clause-sound : goal.returns-clause-sound
+returns-clause-sound g c = c.read.ensures.sound (sound-nothing (found_in c.args.state.now) c.requires)
+
+pub returns-clause-unread : goal.returns-clause-unread
+returns-clause-unread g c = c.read.ensures.unread refl (nothing-framed (found_in c.args.state.now) c.requires)

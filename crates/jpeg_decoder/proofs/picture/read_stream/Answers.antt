@@ -1,3 +1,5 @@
+use Rattle.jpeg_decoder.specs.Seen.{found_in}
+use Rattle.jpeg_decoder.proofs.Soundness.{sound-nothing}
 use Rattle.std.proofs.Common.{◌∙◌, sym, ap, false}
 use Rattle.std.proofs.lemmas.Result.{err_from_is_err_and}
 use Rattle.jpeg_decoder.specs.Stream.{IsOfTurns, Found, told_of, start_at, told_in_turns}
@@ -25,3 +27,6 @@ returns-clause-turns g c k =
       rest.1 ∙ ap (λ (f : Found). told_in_turns rest.0 false f c.read_start.new.source.bytes) c.requires
           ∙ sym (turns-start rest.0 false c.args.source.now.bytes c.read_start.new.source.bytes at.1),
     )
+
+pub read_rest-requires : goal.read_rest-requires
+read_rest-requires g c = record { sound = sound-nothing (found_in c.args.state.now) c.requires }

@@ -20,8 +20,8 @@ returns-in_err-codings_of-clause-reads g c =
     let stands : found.frame ≡ Some frame = search rules in
     let is_dct : is_decoded frame.process ≡ true = search rules in
     let begun =
-        header-begun found frame header c.args.source.now c.parse_sos.new.reader stands is_dct
-        c.in_ok-header.ensures.answers in
+    header-begun found frame header c.args.source.now c.parse_sos.new.reader stands is_dct
+    c.in_ok-header.ensures.answers in
     rw (p.1, p.2) (refused {X = Option Marker} (λ m. (found, m)) (scan_read found) (after_header found frame header)
     c.args.source.now c.parse_sos.new.reader _ _ begun c.in_err-codings_of.ensures.codings.0
     c.in_err-codings_of.ensures.codings.1 (λ f h. codings-refused found frame header c.parse_sos.new.reader.bytes f
@@ -45,10 +45,10 @@ returns-in_err-met-clause-reads g c =
     let stands : found.frame ≡ Some frame = search rules in
     let is_dct : is_decoded frame.process ≡ true = search rules in
     let begun =
-        data-begun found frame header (pass_in c.pass_of.result) codings c.args.source.now c.parse_sos.new.reader
-        (codings-kept (found_in c.args.state.now) c.args.decoded.now frame header ∙ c.in_ok-codings_of.ensures.codings)
-        c.pass_of.ensures (header-begun found frame header c.args.source.now c.parse_sos.new.reader stands is_dct
-        c.in_ok-header.ensures.answers) in
+    data-begun found frame header (pass_in c.pass_of.result) codings c.args.source.now c.parse_sos.new.reader
+    (codings-kept (found_in c.args.state.now) c.args.decoded.now frame header ∙ c.in_ok-codings_of.ensures.codings)
+    c.pass_of.ensures (header-begun found frame header c.args.source.now c.parse_sos.new.reader stands is_dct
+    c.in_ok-header.ensures.answers) in
     rw (p.1, p.2) (Continues-err {X = Option Marker} {Z = Option Marker} (λ m. (found, m))
     (λ m. (record (with_decoded (found_in c.args.state.now) c.read.new.self) { scanned = true }, m)) (scan_read found)
     (after_codings found frame (pass_in c.pass_of.result) codings)
@@ -64,10 +64,10 @@ returns-clause-reads g c =
     let stands : found.frame ≡ Some frame = search rules in
     let is_dct : is_decoded frame.process ≡ true = search rules in
     let begun =
-        data-begun found frame header (pass_in c.pass_of.result) codings c.args.source.now c.parse_sos.new.reader
-        (codings-kept (found_in c.args.state.now) c.args.decoded.now frame header ∙ c.in_ok-codings_of.ensures.codings)
-        c.pass_of.ensures (header-begun found frame header c.args.source.now c.parse_sos.new.reader stands is_dct
-        c.in_ok-header.ensures.answers) in
+    data-begun found frame header (pass_in c.pass_of.result) codings c.args.source.now c.parse_sos.new.reader
+    (codings-kept (found_in c.args.state.now) c.args.decoded.now frame header ∙ c.in_ok-codings_of.ensures.codings)
+    c.pass_of.ensures (header-begun found frame header c.args.source.now c.parse_sos.new.reader stands is_dct
+    c.in_ok-header.ensures.answers) in
     scan-ends (scan_read found) (after_codings found frame (pass_in c.pass_of.result) codings)
     (record (with_decoded (found_in c.args.state.now) c.read.new.self) { scanned = true }) c.in_ok-met.met
     c.args.source.now c.parse_sos.new.reader c.read.new.source c.pass_restarts.new.source c.pass_restarts.result

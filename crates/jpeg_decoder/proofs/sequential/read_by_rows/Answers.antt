@@ -19,14 +19,19 @@ Made = Vec (Vec ℕ Global) Global × Option Marker
 
 pub returns-in_err-read_strips-clause-planes : goal.returns-in_err-read_strips-clause-planes
 returns-in_err-read_strips-clause-planes g c =
-    let e = err_from_is_err_and c.from_residual-in_err-read_strips.result c.from_residual-in_err-read_strips.ensures.1 in
+    let e = err_from_is_err_and c.from_residual-in_err-read_strips.result c.from_residual-in_err-read_strips.ensures.1
+    in
     let cs = c.args.scan.now.components.items in
     let i = c.first_interval-interval in
     let start = planes_in c.in_ok-planes.planes.items in
-    let nothing : start ≡ map (λ (x : Coding). []) (map coding_in cs) = c.in_ok-planes.ensures ∙ ap (λ (l : List Coded). map (λ (x : Coding). []) (map coding_in l)) c.deref-2.ensures.value in
-    rw (e.1, e.2) (rows-refused (pass_in c.args.scan.now.pass) (vias_in 0 cs) c.args.scan.now.restart_interval (frame_in c.args.frame.now) (map coding_in cs) start
-    (counted i.result []) i.result.decoder c.args.source.now nothing (ap (λ (r : Interval). counted r []) i.ensures) (ap (λ (r : Interval). r.decoder) i.ensures)
-    (λ (u : Unit {0}). planes_in c.read_strips.new.planes.items) (λ (r : Made). (planes_in r.0.items, r.1)) c.read_strips.new.interval.decoder c.read_strips.new.source _
+    let nothing : start ≡ map (λ (x : Coding). []) (map coding_in cs) = c.in_ok-planes.ensures
+    ∙ ap (λ (l : List Coded). map (λ (x : Coding). []) (map coding_in l)) c.deref-2.ensures.value in
+    rw (e.1, e.2) (rows-refused (pass_in c.args.scan.now.pass) (vias_in 0 cs) c.args.scan.now.restart_interval
+    (frame_in c.args.frame.now) (map coding_in cs) start
+    (counted i.result []) i.result.decoder c.args.source.now nothing (ap (λ (r : Interval). counted r []) i.ensures)
+    (ap (λ (r : Interval). r.decoder) i.ensures)
+    (λ (u : Unit {0}). planes_in c.read_strips.new.planes.items) (λ (r : Made).
+    (planes_in r.0.items, r.1)) c.read_strips.new.interval.decoder c.read_strips.new.source _
     c.in_err-read_strips.ensures.strips)
 
 pub returns-in_err-met-clause-planes : goal.returns-in_err-met-clause-planes
@@ -35,10 +40,14 @@ returns-in_err-met-clause-planes g c =
     let cs = c.args.scan.now.components.items in
     let i = c.first_interval-interval in
     let start = planes_in c.in_ok-planes.planes.items in
-    let nothing : start ≡ map (λ (x : Coding). []) (map coding_in cs) = c.in_ok-planes.ensures ∙ ap (λ (l : List Coded). map (λ (x : Coding). []) (map coding_in l)) c.deref-2.ensures.value in
-    rw (e.1, e.2) (marker-refused (pass_in c.args.scan.now.pass) (vias_in 0 cs) c.args.scan.now.restart_interval (frame_in c.args.frame.now) (map coding_in cs) start
-    (counted i.result []) i.result.decoder c.args.source.now nothing (ap (λ (r : Interval). counted r []) i.ensures) (ap (λ (r : Interval). r.decoder) i.ensures)
-    (λ (u : Unit {0}). planes_in c.read_strips.new.planes.items) (λ (r : Made). (planes_in r.0.items, r.1)) c.read_strips.new.interval.decoder c.read_strips.new.source
+    let nothing : start ≡ map (λ (x : Coding). []) (map coding_in cs) = c.in_ok-planes.ensures
+    ∙ ap (λ (l : List Coded). map (λ (x : Coding). []) (map coding_in l)) c.deref-2.ensures.value in
+    rw (e.1, e.2) (marker-refused (pass_in c.args.scan.now.pass) (vias_in 0 cs) c.args.scan.now.restart_interval
+    (frame_in c.args.frame.now) (map coding_in cs) start
+    (counted i.result []) i.result.decoder c.args.source.now nothing (ap (λ (r : Interval). counted r []) i.ensures)
+    (ap (λ (r : Interval). r.decoder) i.ensures)
+    (λ (u : Unit {0}). planes_in c.read_strips.new.planes.items) (λ (r : Made).
+    (planes_in r.0.items, r.1)) c.read_strips.new.interval.decoder c.read_strips.new.source
     c.take_marker.new.source tt _ c.in_ok-read_strips.ensures.strips c.in_err-met.ensures.answers)
 
 pub returns-clause-planes : goal.returns-clause-planes
@@ -46,8 +55,13 @@ returns-clause-planes g c =
     let cs = c.args.scan.now.components.items in
     let i = c.first_interval-interval in
     let start = planes_in c.in_ok-planes.planes.items in
-    let nothing : start ≡ map (λ (x : Coding). []) (map coding_in cs) = c.in_ok-planes.ensures ∙ ap (λ (l : List Coded). map (λ (x : Coding). []) (map coding_in l)) c.deref-2.ensures.value in
-    scan-read (pass_in c.args.scan.now.pass) (vias_in 0 cs) c.args.scan.now.restart_interval (frame_in c.args.frame.now) (map coding_in cs) start
-    (counted i.result []) i.result.decoder c.args.source.now nothing (ap (λ (r : Interval). counted r []) i.ensures) (ap (λ (r : Interval). r.decoder) i.ensures)
-    (λ (u : Unit {0}). planes_in c.read_strips.new.planes.items) (λ (r : Made). (planes_in r.0.items, r.1)) c.read_strips.new.interval.decoder c.read_strips.new.source
-    c.take_marker.new.source tt c.in_ok-met.met (c.read_strips.new.planes, c.in_ok-met.met) c.in_ok-read_strips.ensures.strips c.in_ok-met.ensures.answers refl
+    let nothing : start ≡ map (λ (x : Coding). []) (map coding_in cs) = c.in_ok-planes.ensures
+    ∙ ap (λ (l : List Coded). map (λ (x : Coding). []) (map coding_in l)) c.deref-2.ensures.value in
+    scan-read (pass_in c.args.scan.now.pass) (vias_in 0 cs) c.args.scan.now.restart_interval
+    (frame_in c.args.frame.now) (map coding_in cs) start
+    (counted i.result []) i.result.decoder c.args.source.now nothing (ap (λ (r : Interval). counted r []) i.ensures)
+    (ap (λ (r : Interval). r.decoder) i.ensures)
+    (λ (u : Unit {0}). planes_in c.read_strips.new.planes.items) (λ (r : Made).
+    (planes_in r.0.items, r.1)) c.read_strips.new.interval.decoder c.read_strips.new.source
+    c.take_marker.new.source tt c.in_ok-met.met
+    (c.read_strips.new.planes, c.in_ok-met.met) c.in_ok-read_strips.ensures.strips c.in_ok-met.ensures.answers refl

@@ -12,8 +12,10 @@ use Rattle.jpeg_decoder.specs.InTurn.{mcus_from}
 use Rattle.jpeg_decoder.specs.McuRows.{rows_of, zero_rows}
 use Rattle.jpeg_decoder.specs.Scanning.{arrays_in, components_in, counted, down_in, sizes_of, vias_in}
 use Rattle.jpeg_decoder.specs.Steps.{coding_in}
-use Rattle.jpeg_decoder.specs.Strips.{components_of, planes_in, row_at, row_sizes, samples_in, strips_from, with_strips, zeros_of}
-use Rattle.jpeg_decoder.proofs.StripSteps.{strips_step, strips_refused, strips_none, rows-of-scan, zeros-are, lengths, lengths-none, lengths-next, row-count}
+use Rattle.jpeg_decoder.specs.Strips.{components_of, planes_in, row_at, row_sizes, samples_in, strips_from, with_strips}
+use Rattle.jpeg_decoder.specs.Strips.{zeros_of}
+use Rattle.jpeg_decoder.proofs.StripSteps.{strips_step, strips_refused, strips_none, rows-of-scan, zeros-are, lengths}
+use Rattle.jpeg_decoder.proofs.StripSteps.{lengths-none, lengths-next, row-count}
 use Rattle.jpeg_decoder.proofs.sequential.read_strips.Goals as goal
 
 pub loop-row-init : goal.loop-row-init
@@ -30,7 +32,8 @@ loop-row-init g c =
         refl,
         λ k. (
           k,
-          ap (λ (rows : List (List (List Spot))). strips_from p (vias_in 0 cs) n (map coding_in cs) rows planes (counted i []) (upcoming i.decoder c.args.source.now.bytes))
+          ap (λ (rows : List (List (List Spot))). strips_from p (vias_in 0 cs) n (map coding_in cs) rows planes
+              (counted i []) (upcoming i.decoder c.args.source.now.bytes))
               (rows-of-scan (frame_in c.args.frame.now) cs c.requires.some),
         ),
       );
@@ -50,13 +53,18 @@ returns-in_err-read_mcus-clause-strips g c =
     let high = c.args.frame.now.mcu_size.height in
     let planes = planes_in l.planes.items in
     let zeros = arrays_in c.clear_rows.new.rows.items in
-    let none : zeros ≡ zero_rows 1 (components_of codings) = c.clear_rows.ensures.zeros ∙ ap zeros_of l.invariant.sizes ∙ zeros-are cs in
-    rw (e.1, e.2) (refused_behind (λ (u : Unit {0}). planes) (λ (u : Unit {0}). counted c.read_mcus.new.interval (arrays_in c.read_mcus.new.rows.items))
-    (strips_from p (vias_in 0 cs) n codings (rows_of frame (components_of codings)) (planes_in c.args.planes.now.items) (counted i []))
-    (strips_from p (vias_in 0 cs) n codings (map f (range_with_len l.row (high - l.row))) planes (counted l.interval []))
+    let none : zeros ≡ zero_rows 1 (components_of codings) = c.clear_rows.ensures.zeros
+    ∙ ap zeros_of l.invariant.sizes ∙ zeros-are cs in
+    rw (e.1, e.2) (refused_behind (λ (u : Unit {0}). planes) (λ (u : Unit {0}). counted c.read_mcus.new.interval
+    (arrays_in c.read_mcus.new.rows.items))
+    (strips_from p (vias_in 0 cs) n codings (rows_of frame (components_of codings))
+    (planes_in c.args.planes.now.items) (counted i []))
+    (strips_from p (vias_in 0 cs) n codings (map f (range_with_len l.row (high - l.row))) planes
+    (counted l.interval []))
     (mcus_from p (vias_in 0 cs) n (f l.row) (counted l.interval zeros))
     i.decoder l.interval.decoder c.read_mcus.new.interval.decoder c.args.source.now l.source c.read_mcus.new.source _
-    (λ t fault h. strips_refused p (vias_in 0 cs) n codings f l.row high planes zeros (counted l.interval []) t fault c.loop-row-test.true none h)
+    (λ t fault h. strips_refused p (vias_in 0 cs) n codings f l.row high planes zeros
+    (counted l.interval []) t fault c.loop-row-test.true none h)
     l.invariant.strips c.in_err-read_mcus.ensures.mcus)
 
 pub loop-row-preserved : goal.loop-row-preserved
@@ -72,7 +80,8 @@ loop-row-preserved g c =
     let high = c.args.frame.now.mcu_size.height in
     let planes = planes_in l.planes.items in
     let zeros = arrays_in c.clear_rows.new.rows.items in
-    let none : zeros ≡ zero_rows 1 (components_of codings) = c.clear_rows.ensures.zeros ∙ ap zeros_of l.invariant.sizes ∙ zeros-are cs in
+    let none : zeros ≡ zero_rows 1 (components_of codings) = c.clear_rows.ensures.zeros
+    ∙ ap zeros_of l.invariant.sizes ∙ zeros-are cs in
     let q = c.in_ok-read_mcus.ensures in
     let read = c.read_mcus.new.rows.items in
     let sizes : sizes_of read ≡ row_sizes cs = q.sizes ∙ c.clear_rows.ensures.sizes ∙ l.invariant.sizes in
@@ -81,7 +90,8 @@ loop-row-preserved g c =
     = a.planes ∙ ap (λ (x : List Coded). with_strips (map coding_in x) (arrays_in read) planes) c.deref.ensures.value in
     record {
       sizes = a.sizes ∙ sizes;
-      lengths = ap lengths made ∙ lengths-next cs (arrays_in read) planes l.row (row-count cs read sizes) l.invariant.lengths;
+      lengths = ap lengths made ∙ lengths-next cs (arrays_in read) planes l.row
+          (row-count cs read sizes) l.invariant.lengths;
       strips = (
         q.mcus.0 ∙ l.invariant.strips.0,
         λ k.
@@ -89,9 +99,13 @@ loop-row-preserved g c =
             let by = q.mcus.1 at.0 in (
               by.0,
               at.1
-                  ∙ strips_step p (vias_in 0 cs) n codings f l.row high planes zeros (counted l.interval []) (counted c.read_mcus.new.interval (arrays_in read))
-                  (upcoming l.interval.decoder l.source.bytes) (upcoming c.read_mcus.new.interval.decoder c.read_mcus.new.source.bytes) c.loop-row-test.true none by.1
-                  ∙ ap (λ (x : List (List ℕ)). strips_from p (vias_in 0 cs) n codings (map f (range_with_len (l.row + 1) (high - (l.row + 1)))) x (counted c.read_mcus.new.interval [])
+                  ∙ strips_step p (vias_in 0 cs) n codings f l.row high planes zeros (counted l.interval [])
+                  (counted c.read_mcus.new.interval (arrays_in read))
+                  (upcoming l.interval.decoder l.source.bytes)
+                  (upcoming c.read_mcus.new.interval.decoder c.read_mcus.new.source.bytes) c.loop-row-test.true
+                  none by.1
+                  ∙ ap (λ (x : List (List ℕ)). strips_from p (vias_in 0 cs) n codings (map f (range_with_len
+                  (l.row + 1) (high - (l.row + 1)))) x (counted c.read_mcus.new.interval [])
                   (upcoming c.read_mcus.new.interval.decoder c.read_mcus.new.source.bytes)) (sym made),
             ),
       );
@@ -117,8 +131,10 @@ returns-clause-strips g c =
     let high = c.args.frame.now.mcu_size.height in
     let planes = planes_in l.planes.items in
     Leaves-end (λ (u : Unit {0}). planes)
-    (strips_from p (vias_in 0 cs) n codings (rows_of frame (components_of codings)) (planes_in c.args.planes.now.items) (counted i []))
-    (strips_from p (vias_in 0 cs) n codings (map f (range_with_len l.row (high - l.row))) planes (counted l.interval []))
+    (strips_from p (vias_in 0 cs) n codings (rows_of frame (components_of codings))
+    (planes_in c.args.planes.now.items) (counted i []))
+    (strips_from p (vias_in 0 cs) n codings (map f (range_with_len l.row (high - l.row))) planes
+    (counted l.interval []))
     i.decoder l.interval.decoder c.args.source.now l.source tt
     (λ t. strips_none p (vias_in 0 cs) n codings f l.row high planes (counted l.interval []) t c.loop-row-test.false)
     l.invariant.strips

@@ -12,11 +12,16 @@ use Rattle.jpeg_decoder.proofs.sequential.read_strips.Given as goal
 abbrev pub invariant-loop-row : goal.invariant-loop-row
 invariant-loop-row g l = record {
   sizes : sizes_of l.rows.items ≡ row_sizes l.fn.scan.components.items;
-  lengths : map length (planes_in l.planes.items) ≡ map (λ c. samples_in (l.row * down_in c) c) l.fn.scan.components.items;
-  strips : Leaves (strips_from (pass_in l.fn.scan.pass) (vias_in 0 l.fn.scan.components.items) l.fn.scan.restart_interval (map coding_in l.fn.scan.components.items)
-      (rows_of (frame_in l.fn.frame) (components_of (map coding_in l.fn.scan.components.items))) (planes_in l.fn.planes.items) (counted l.fn.interval []))
+  lengths : map length (planes_in l.planes.items)
+      ≡ map (λ c. samples_in (l.row * down_in c) c) l.fn.scan.components.items;
+  strips : Leaves (strips_from (pass_in l.fn.scan.pass)
+      (vias_in 0 l.fn.scan.components.items) l.fn.scan.restart_interval (map coding_in l.fn.scan.components.items)
+      (rows_of (frame_in l.fn.frame) (components_of (map coding_in l.fn.scan.components.items)))
+      (planes_in l.fn.planes.items) (counted l.fn.interval []))
       l.fn.interval.decoder l.fn.source
-      (strips_from (pass_in l.fn.scan.pass) (vias_in 0 l.fn.scan.components.items) l.fn.scan.restart_interval (map coding_in l.fn.scan.components.items)
-      (map (row_at (frame_in l.fn.frame) (components_in l.fn.scan.components.items)) (range_with_len l.row (l.fn.frame.mcu_size.height - l.row))) (planes_in l.planes.items) (counted l.interval []))
+      (strips_from (pass_in l.fn.scan.pass) (vias_in 0 l.fn.scan.components.items) l.fn.scan.restart_interval
+      (map coding_in l.fn.scan.components.items)
+      (map (row_at (frame_in l.fn.frame) (components_in l.fn.scan.components.items)) (range_with_len l.row
+      (l.fn.frame.mcu_size.height - l.row))) (planes_in l.planes.items) (counted l.interval []))
       l.interval.decoder l.source;
 }

@@ -9,4 +9,5 @@ abbrev pub invariant-loop : goal.invariant-loop
 invariant-loop l =
     (l.rest ≡ drop (l.counter * wide_in l.coded) l.blocks)
     × (l.plane.items ≡ l.fn.plane.items
-    ++ plane_of l.coded.component.now.dct_scale (values_in_block_order l.coded.quantization.now) (wide_in l.coded) l.counter (block_in (wide_in l.coded) l.blocks))
+    ++ plane_of l.coded.component.now.dct_scale (values_in_block_order l.coded.quantization.now)
+    (wide_in l.coded) l.counter (block_in (wide_in l.coded) l.blocks))

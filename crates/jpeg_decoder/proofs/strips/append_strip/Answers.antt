@@ -12,8 +12,12 @@ use Rattle.jpeg_decoder.proofs.strips.append_strip.Goals as goal
 pub returns : goal.returns
 returns c =
     let coded = c.args.coded.now in
-    let samples : plane_of coded.component.now.dct_scale (values_in_block_order coded.quantization.now) (wide_in coded) (down_in coded) (block_in (wide_in coded) c.order_blocks.new.blocks)
+    let samples : plane_of coded.component.now.dct_scale (values_in_block_order coded.quantization.now)
+    (wide_in coded) (down_in coded) (block_in (wide_in coded) c.order_blocks.new.blocks)
     ≡ samples_of (down_in coded) (coding_in coded) (map to_block c.args.blocks.now)
-    = ap (λ (l : List (List ℤ)). plane_of coded.component.now.dct_scale (values_in_block_order coded.quantization.now) (wide_in coded) (down_in coded) (block_in (wide_in coded) l)) c.order_blocks.ensures
+    = ap (λ (l : List (List ℤ)). plane_of coded.component.now.dct_scale
+    (values_in_block_order coded.quantization.now) (wide_in coded) (down_in coded) (block_in
+    (wide_in coded) l)) c.order_blocks.ensures
     ∙ ordered-samples (down_in coded) (coding_in coded) c.args.blocks.now c.requires.size in
-    subst (λ (l : List ℕ). OnOk c.append_rows.result (c.append_rows.new.plane.items ≡ c.args.plane.now.items ++ l)) samples c.append_rows.ensures
+    subst (λ (l : List ℕ). OnOk c.append_rows.result (c.append_rows.new.plane.items
+    ≡ c.args.plane.now.items ++ l)) samples c.append_rows.ensures

@@ -10,5 +10,6 @@ invariant-loop-slot l = record {
   sizes : sizes_of l.rows.items ≡ sizes_of l.fn.rows.items;
   rest : drop l.slot l.rows.items ≡ drop l.slot l.fn.rows.items;
   planes : planes_in l.planes.items
-      ≡ patched l.slot (with_strips (map coding_in l.codings) (arrays_in l.fn.rows.items) (planes_in l.fn.planes.items)) (planes_in l.fn.planes.items);
+      ≡ patched l.slot (with_strips (map coding_in l.codings) (arrays_in l.fn.rows.items)
+      (planes_in l.fn.planes.items)) (planes_in l.fn.planes.items);
 }

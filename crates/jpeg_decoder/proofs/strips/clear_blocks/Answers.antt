@@ -10,10 +10,12 @@ loop-block-preserved c =
     let zero = replicate 64 (pos 0) in
     let new = replicate (length old) zero in
     ap (λ (l : List (List ℤ)). set l i zero) c.loop-block.invariant
-    ∙ patched-next new old i zero [] (length-replicate (length old) zero) c.loop-block-test.true (sym (get_or-replicate (length old) i zero [] c.loop-block-test.true))
+    ∙ patched-next new old i zero [] (length-replicate (length old) zero) c.loop-block-test.true (sym
+    (get_or-replicate (length old) i zero [] c.loop-block-test.true))
 
 pub returns : goal.returns
 returns c =
     let old = c.args.blocks.now in
     let zero = replicate 64 (pos 0) in
-    c.loop-block.invariant ∙ patched-all (replicate (length old) zero) old c.loop-block.block-index (length-replicate (length old) zero) (omega arith)
+    c.loop-block.invariant ∙ patched-all (replicate (length old) zero) old c.loop-block.block-index (length-replicate
+    (length old) zero) (omega arith)

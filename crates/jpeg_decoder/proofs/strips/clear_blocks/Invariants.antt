@@ -3,4 +3,5 @@ use Rattle.jpeg_decoder.proofs.InPlace.{patched}
 use Rattle.jpeg_decoder.proofs.strips.clear_blocks.Given as goal
 
 abbrev pub invariant-loop-block : goal.invariant-loop-block
-invariant-loop-block l = l.blocks ≡ patched l.block-index (replicate (length l.fn.blocks) (replicate 64 (pos 0))) l.fn.blocks
+invariant-loop-block l = l.blocks ≡ patched l.block-index (replicate (length l.fn.blocks) (replicate 64
+    (pos 0))) l.fn.blocks

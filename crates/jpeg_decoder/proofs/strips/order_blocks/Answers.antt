@@ -11,7 +11,9 @@ loop-block-preserved c =
     let i = c.loop-block.block-index in
     let new = map coefficients_in_block_order old in
     ap (λ (l : List (List ℤ)). set l i c.coefficients_in_order.result) c.loop-block.invariant
-    ∙ patched-next new old i c.coefficients_in_order.result [] (length-map old coefficients_in_block_order) c.loop-block-test.true
+    ∙ patched-next new old i c.coefficients_in_order.result []
+    (length-map old coefficients_in_block_order) c.loop-block-test.true
     (c.coefficients_in_order.ensures
-    ∙ ap coefficients_in_block_order (ap (λ (l : List (List ℤ)). get_or l i []) c.loop-block.invariant ∙ patched-at new old i [] (length-map old coefficients_in_block_order))
+    ∙ ap coefficients_in_block_order (ap (λ (l : List (List ℤ)). get_or l i []) c.loop-block.invariant
+    ∙ patched-at new old i [] (length-map old coefficients_in_block_order))
     ∙ sym (get-map coefficients_in_block_order old i [] [] c.loop-block-test.true))

@@ -25,8 +25,10 @@ returns-clause-reads g c =
     let reads = rw c.replace-decoded.ensures.value at c.in_ok-met.ensures.reads in (
       reads.0,
       λ k.
-          let at = reads.1 k in
-          (at.0, scan-turned found (record (with_decoded found c.read_scan-result.new.decoded) { scanned = true })
-          c.in_ok-met.met _ c.args.source.now.bytes c.read_scan-result.new.source.bytes at.1
-          c.scan_before-before.ensures),
+          let at = reads.1 k in (
+            at.0,
+            scan-turned found (record (with_decoded found c.read_scan-result.new.decoded) { scanned = true })
+                c.in_ok-met.met _ c.args.source.now.bytes c.read_scan-result.new.source.bytes at.1
+                c.scan_before-before.ensures,
+          ),
     )

@@ -1,0 +1,31 @@
+use Rattle.std.proofs.Common.{◌≡◌, ◌∙◌, ap, sym, rules, ℕ}
+use Rattle.std.proofs.lemmas.Result.{err_from_is_err_and}
+use Rattle.jpeg_decoder.specs.Seen.{found_in}
+use Rattle.jpeg_decoder.specs.Stream.{header_at, sized_header_at, sized_to}
+use Rattle.jpeg_decoder.proofs.ScanData.{answers-err}
+use Rattle.jpeg_decoder.proofs.SizedHeaders.{sized-answers, sized-refused}
+use Rattle.jpeg_decoder.proofs.decoder.Decoder.scale.Goals as goal
+use Rattle.jpeg_decoder.proofs.decoder.Decoder.scale.Goals.{in-Some, in-None}
+
+pub returns-in_err-read_info-clause-reads : goal.returns-in_err-read_info-clause-reads
+returns-in_err-read_info-clause-reads g c =
+    let e = err_from_is_err_and c.from_residual.result c.from_residual.ensures.1 in
+    let w = c.args.requested_width in
+    let h = c.args.requested_height in
+    let bytes = c.args.self.now.source.bytes in
+    rw (e.1, e.2) (λ fresh.
+    answers-err (λ (u : Unit {0}). c.read_info.new.self.found) (λ (size : ℕ × ℕ). c.read_info.new.self.found) header_at (sized_header_at w h) c.args.self.now.source c.read_info.new.self.source _
+    (λ fault k. sized-refused w h bytes fault k) (c.in_err-read_info.ensures.reads fresh))
+
+pub returns-clause-reads : goal.returns-clause-reads
+returns-clause-reads g c =
+    let w = c.args.requested_width in
+    let h = c.args.requested_height in
+    let e : found_in c.scale_state.new.state ≡ sized_to w h c.read_info.new.self.found = search rules in
+    let s : c.self.inside.source ≡ c.read_info.new.self.source = search rules in
+    elim c.match-scale_state.branch [
+      | in-Some x ↦ rw x.result-is (λ fresh.
+          sized-answers w h c.args.self.now.source c.read_info.new.self.source c.self.inside.source c.read_info.new.self.found (found_in c.scale_state.new.state) (tt {0}) (0, 0)
+          (c.in_ok-read_info.ensures.reads fresh) s e)
+      | in-None x ↦ absurd (search rules)
+    ]

@@ -1,0 +1,152 @@
+//! Pictures of several components.
+
+use crate::bytes::bytes;
+use crate::rows::{Gives, assert_gives, assert_named, decodes_as_wanted};
+use crate::streams::{Reader, Trouble};
+use jpeg_decoder::{ColorTransform, Decoder, Error};
+use std::test::Fail;
+
+/// One scan of three components of 8 by 8 samples: 129, 127 and 130.
+const RGB: &str = "FFD8 Q(01) FFC0 0011 08 0008 0008 03 52 11 00 47 11 00 42 11 00 D(04) A(00)
+    FFDA 000C 03 52 00 47 00 42 00 00 3F 00 40E7BF FFD9";
+
+const COLOURS: [(&str, &str, Gives); 8] = [
+    (
+        "identifiers of RGB",
+        RGB,
+        Gives::Colours("8 8 RGB24", "817F82*8", 8),
+    ),
+    (
+        "identifiers of YCbCr",
+        "FFD8 Q(01) FFC0 0011 08 0008 0008 03 01 11 00 02 11 00 03 11 00 D(04) A(00)
+         FFDA 000C 03 01 00 02 00 03 00 00 3F 00 40E7BF FFD9",
+        Gives::Colours("8 8 RGB24", "84807F*8", 8),
+    ),
+    (
+        "four components",
+        "FFD8 Q(01) FFC0 0014 08 0008 0008 04 01 11 00 02 11 00 03 11 00 04 11 00 D(04) A(00)
+         FFDA 000E 04 01 00 02 00 03 00 04 00 00 3F 00 40E790 FFD9",
+        Gives::Colours("8 8 CMYK32", "7E807D7E*8", 8),
+    ),
+    (
+        "a first component twice as wide, in one scan",
+        "FFD8 Q(01) FFC0 0011 08 0008 0010 03 52 21 00 47 11 00 42 11 00 D(04) A(00)
+         FFDA 000C 03 52 00 47 00 42 00 00 3F 00 40E40E FFD9",
+        Gives::Colours("16 8 RGB24", "81817F*8 80817F*8", 8),
+    ),
+    (
+        "a component of half the greatest width, alone in its scan",
+        "FFD8 Q(01) FFC0 0011 08 0008 0010 03 52 41 00 47 21 00 42 41 00 D(04) A(00)
+         FFDA 0008 01 52 00 00 3F 00 40EF FFDA 0008 01 47 00 00 3F 00 43
+         FFDA 0008 01 42 00 00 3F 00 40EF FFD9",
+        Gives::Colours("16 8 RGB24", "818181*8 808180*8", 8),
+    ),
+    (
+        "DC of three components in one progressive scan",
+        "FFD8 Q(01) FFC2 0011 08 0008 0008 03 52 11 00 47 11 00 42 11 00 D(04) A(00)
+         FFDA 000C 03 52 00 47 00 42 00 00 00 00 41DF FFD9",
+        Gives::Colours("8 8 RGB24", "817F82*8", 8),
+    ),
+    (
+        "a component without a scan",
+        "FFD8 Q(01) FFC0 0011 08 0008 0008 03 52 11 00 47 11 00 42 11 00 D(04) A(00)
+         FFDA 0008 01 52 00 00 3F 00 43 FFDA 0008 01 42 00 00 3F 00 7B FFD9",
+        Gives::Format,
+    ),
+    (
+        "components of a scan out of the order of the frame",
+        "FFD8 Q(01) FFC0 0011 08 0008 0008 03 52 11 00 47 11 00 42 11 00 D(04) A(00)
+         FFDA 000C 03 47 00 52 00 42 00 00 3F 00 40E7BF FFD9",
+        Gives::Format,
+    ),
+];
+
+#[test]
+fn components_give_their_colours(rt: HostRuntime) -> Result<(), Fail> {
+    assert_named(&rt, rt.alloc(), &COLOURS)
+}
+
+/// A scan of each of the three components of RGB.
+const RED: &str = "FFDA 0008 01 52 00 00 3F 00 43";
+
+const GREEN: &str = "FFDA 0008 01 47 00 00 3F 00 3B";
+
+const BLUE: &str = "FFDA 0008 01 42 00 00 3F 00 7B";
+
+#[test]
+fn scans_of_components_stand_in_any_order(rt: HostRuntime) -> Result<(), Fail> {
+    let front = "FFD8 Q(01) FFC0 0011 08 0008 0008 03 52 11 00 47 11 00 42 11 00 D(04) A(00)";
+    for scans in [
+        [RED, GREEN, BLUE],
+        [RED, BLUE, GREEN],
+        [GREEN, RED, BLUE],
+        [GREEN, BLUE, RED],
+        [BLUE, RED, GREEN],
+        [BLUE, GREEN, RED],
+    ] {
+        let [first, second, third] = scans;
+        let stream = bytes(rt.alloc(), &[front, first, second, third, "FFD9"])?;
+        let gives = Gives::Colours("8 8 RGB24", "817F82*8", 8);
+        assert_gives(&rt, rt.alloc(), first, &stream, gives)?;
+    }
+    Ok(())
+}
+
+/// What each colour transform makes of the three components.
+const TRANSFORMS: [(ColorTransform, Gives); 9] = [
+    (
+        ColorTransform::None,
+        Gives::Colours("8 8 RGB24", "81*8 7F*8 82*8", 8),
+    ),
+    (
+        ColorTransform::RGB,
+        Gives::Colours("8 8 RGB24", "817F82*8", 8),
+    ),
+    (
+        ColorTransform::YCbCr,
+        Gives::Colours("8 8 RGB24", "84807F*8", 8),
+    ),
+    (ColorTransform::CMYK, Gives::Format),
+    (ColorTransform::YCCK, Gives::Format),
+    (ColorTransform::Grayscale, Gives::Format),
+    (ColorTransform::Unknown, Gives::Format),
+    (
+        ColorTransform::JcsBgYcc,
+        Gives::Transform(ColorTransform::JcsBgYcc),
+    ),
+    (
+        ColorTransform::JcsBgRgb,
+        Gives::Transform(ColorTransform::JcsBgRgb),
+    ),
+];
+
+#[test]
+fn a_colour_transform_that_is_set_decides(rt: HostRuntime) -> Result<(), Fail> {
+    let stream = bytes(rt.alloc(), &[RGB])?;
+    for (transform, gives) in TRANSFORMS {
+        let reader = Reader::new(&stream, 1000, usize::MAX, Trouble::Fails);
+        let mut decoder = Decoder::new(rt.alloc(), reader)?;
+        decoder.set_color_transform(transform);
+        let is_wanted = decodes_as_wanted(rt.alloc(), &mut decoder, gives)?;
+        assert!(rt; is_wanted, "{transform:?}");
+    }
+    Ok(())
+}
+
+#[test]
+fn the_limit_counts_bytes(rt: HostRuntime) -> Result<(), Fail> {
+    let stream = bytes(rt.alloc(), &[RGB])?;
+    for (limit, fits) in [(191, false), (192, true)] {
+        let mut decoder = Decoder::new(rt.alloc(), stream.as_slice())?;
+        decoder.set_max_decoding_buffer_size(limit);
+        let answer = decoder.decode();
+        assert!(rt;
+            if fits {
+                answer.is_ok()
+            } else {
+                matches!(&answer, Err(Error::Format(_)))
+            }
+        );
+    }
+    Ok(())
+}

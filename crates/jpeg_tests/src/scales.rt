@@ -1,0 +1,238 @@
+//! Pictures at a scale, and the sizes that are chosen.
+
+use crate::bytes::bytes;
+use crate::streams::{Reader, Trouble};
+use jpeg_decoder::idct::dequantize_and_idct_block;
+use jpeg_decoder::{Decoder, ImageInfo};
+use std::alloc::Global;
+use std::process::Abort;
+use std::test::Fail;
+
+/// A size, in columns and lines.
+type Size = (u16, u16);
+
+/// A name, a stream, the size asked for, the size that is answered, and the picture.
+type Scaled = (&'static str, &'static str, Size, Size, &'static str);
+
+const SEQUENTIAL: [Scaled; 9] = [
+    (
+        "DC alone",
+        "FFD8 Q(01) F(C0) D(04) A(00) S(003F00) 43 FFD9",
+        (1, 1),
+        (1, 1),
+        "81",
+    ),
+    (
+        "a half at full size",
+        "FFD8 Q(01) F(C0) D(03) A(00) S(003F00) 47 FFD9",
+        (8, 8),
+        (8, 8),
+        "81*64",
+    ),
+    (
+        "a half in one sample, which is rounded down",
+        "FFD8 Q(01) F(C0) D(03) A(00) S(003F00) 47 FFD9",
+        (1, 1),
+        (1, 1),
+        "80",
+    ),
+    (
+        "an AC coefficient, more than full size",
+        "FFD8 Q(40) F(C0) D(00) FFC4 0015 10 01 01 00*14 01 00 S(003F00) 37 FFD9",
+        (9, 9),
+        (8, 8),
+        "8B8986827E7A7775*8",
+    ),
+    (
+        "an AC coefficient, 4 by 4",
+        "FFD8 Q(40) F(C0) D(00) FFC4 0015 10 01 01 00*14 01 00 S(003F00) 37 FFD9",
+        (4, 4),
+        (4, 4),
+        "8A847C76*4",
+    ),
+    (
+        "an AC coefficient, 2 by 2",
+        "FFD8 Q(40) F(C0) D(00) FFC4 0015 10 01 01 00*14 01 00 S(003F00) 37 FFD9",
+        (2, 2),
+        (2, 2),
+        "8878*2",
+    ),
+    (
+        "an AC coefficient, where one line is enough",
+        "FFD8 Q(40) F(C0) D(00) FFC4 0015 10 01 01 00*14 01 00 S(003F00) 37 FFD9",
+        (2, 1),
+        (1, 1),
+        "80",
+    ),
+    (
+        "two AC coefficients",
+        "FFD8 Q(10) F(C0) D(00) FFC4 0016 10 01 01 01 00*13 01 02 00 S(003F00) 59BF FFD9",
+        (2, 2),
+        (2, 2),
+        "8478887C",
+    ),
+    (
+        "three components",
+        "FFD8 Q(01) FFC0 0011 08 0008 0008 03 52 11 00 47 11 00 42 11 00 D(04) A(00)
+         FFDA 000C 03 52 00 47 00 42 00 00 3F 00 40E7BF FFD9",
+        (2, 2),
+        (2, 2),
+        "817F82*4",
+    ),
+];
+
+/// The coefficients 3 and -1 at places 1 and 2, in scans of several kinds and orders.
+const TWO_COEFFICIENTS: [Scaled; 6] = [
+    (
+        "a refinement of a band",
+        "FFD8 Q(10) F(C2) D(00) FFC4 0015 10 01 01 00*14 01 00 S(000000) 7F S(010201) 6F
+         S(010210) 3F FFD9",
+        (2, 2),
+        (2, 2),
+        "8478887C",
+    ),
+    (
+        "a band without its last bits",
+        "FFD8 Q(10) F(C2) D(00) FFC4 0015 10 01 01 00*14 01 00 S(000000) 7F S(010201) 6F FFD9",
+        (2, 2),
+        (2, 2),
+        "847C847C",
+    ),
+    (
+        "a refinement by a value where no zero is left",
+        "FFD8 Q(10) F(C2) D(00) FFC4 0015 10 01 01 00*14 01 00 S(000000) 7F S(010201) 6F
+         S(010110) 7F FFD9",
+        (2, 2),
+        (2, 2),
+        "827E827E",
+    ),
+    (
+        "bands in another order",
+        "FFD8 Q(10) F(C2) D(00) FFC4 0016 10 01 01 01 00*13 01 02 00 S(000000) 7F S(023F00) 37
+         S(010100) BF FFD9",
+        (2, 2),
+        (2, 2),
+        "8478887C",
+    ),
+    (
+        "refinements of one coefficient each",
+        "FFD8 Q(10) F(C2) D(00) FFC4 0015 10 01 01 00*14 01 00 S(000000) 7F S(010201) 6F
+         S(020210) 3F S(010110) BF FFD9",
+        (2, 2),
+        (2, 2),
+        "8478887C",
+    ),
+    (
+        "a refinement of the second coefficient alone",
+        "FFD8 Q(10) F(C2) D(00) FFC4 0015 10 01 01 00*14 01 00 S(000000) 7F S(010201) 6F
+         S(020210) 3F FFD9",
+        (2, 2),
+        (2, 2),
+        "827A867E",
+    ),
+];
+
+/// A run of 16 zeros, before and after its refinement, and DC alone.
+const RUNS_OF_ZEROS: [Scaled; 3] = [
+    (
+        "a refinement after a run of 16 zeros",
+        "FFD8 Q(10) F(C2) D(00) FFC4 0016 10 01 01 01 00*13 01 F0 00 S(000000) 7F S(013F01) 9D
+         S(013F10) 9E FFD9",
+        (4, 4),
+        (4, 4),
+        "8477877E 7A8A7B81 7F857686 8279897C",
+    ),
+    (
+        "a coefficient after a run of 16 zeros",
+        "FFD8 Q(10) F(C2) D(00) FFC4 0016 10 01 01 01 00*13 01 F0 00 S(000000) 7F S(013F01) 9D
+         FFD9",
+        (4, 4),
+        (4, 4),
+        "827B857E 7E857B82 7E857B82 827B857E",
+    ),
+    (
+        "DC of a progressive frame",
+        "FFD8 Q(10) F(C2) D(00) S(000000) 7F FFD9",
+        (2, 2),
+        (2, 2),
+        "80*4",
+    ),
+];
+
+/// Asserts that each stream of a table has the picture and the size that are wanted at its scale.
+fn assert_scaled(rt: &impl Abort, alloc: Global, table: &[Scaled]) -> Result<(), Fail> {
+    for (name, stream, asked, size, picture) in table.iter() {
+        let stream = bytes(alloc, &[*stream])?;
+        let picture = bytes(alloc, &[*picture])?;
+        for step in [1, 2, 3, 1000] {
+            let reader = Reader::new(&stream, step, usize::MAX, Trouble::Fails);
+            let mut decoder = Decoder::new(alloc, reader)?;
+            let answer = decoder.scale(asked.0, asked.1)?;
+            assert!(rt; answer == *size, "{name}: size");
+            let info: ImageInfo = decoder.info().ok_or("no info")?;
+            assert!(rt; (info.width, info.height) == *size, "{name}: info");
+            let samples = decoder.decode()?;
+            assert!(rt; samples.as_slice() == picture.as_slice(), "{name}");
+        }
+    }
+    Ok(())
+}
+
+#[test]
+fn sequential_pictures_at_a_scale(rt: HostRuntime) -> Result<(), Fail> {
+    assert_scaled(&rt, rt.alloc(), &SEQUENTIAL)
+}
+
+#[test]
+fn progressive_pictures_at_a_scale(rt: HostRuntime) -> Result<(), Fail> {
+    assert_scaled(&rt, rt.alloc(), &TWO_COEFFICIENTS)
+}
+
+#[test]
+fn runs_of_zeros_at_a_scale(rt: HostRuntime) -> Result<(), Fail> {
+    assert_scaled(&rt, rt.alloc(), &RUNS_OF_ZEROS)
+}
+
+#[test]
+fn the_last_scale_counts(rt: HostRuntime) -> Result<(), Fail> {
+    let stream = bytes(rt.alloc(), &["FFD8 FFC0 000B 08 0009 0011 01 01 11 00"])?;
+    let mut decoder = Decoder::new(rt.alloc(), stream.as_slice())?;
+    for (asked, size) in [
+        ((3, 9), (3, 2)),
+        ((4, 3), (5, 3)),
+        ((9, 9), (9, 5)),
+        ((10, 6), (17, 9)),
+        ((3, 9), (3, 2)),
+    ] {
+        let (width, height): Size = asked;
+        assert!(rt; decoder.scale(width, height)? == size);
+        let info: ImageInfo = decoder.info().ok_or("no info")?;
+        assert!(rt; (info.width, info.height) == size);
+    }
+    Ok(())
+}
+
+#[test]
+fn a_finished_decoder_is_scaled(rt: HostRuntime) -> Result<(), Fail> {
+    let stream = bytes(
+        rt.alloc(),
+        &["FFD8 Q(01) F(C0) D(04) A(00) S(003F00) 43 FFD9"],
+    )?;
+    let mut decoder = Decoder::new(rt.alloc(), stream.as_slice())?;
+    assert_eq!(rt; decoder.decode()?.as_slice(), [129; 64].as_slice());
+    assert!(rt; decoder.scale(2, 2)? == (2, 2));
+    let info: ImageInfo = decoder.info().ok_or("no info")?;
+    assert!(rt; (info.width, info.height) == (2, 2));
+    Ok(())
+}
+
+#[test]
+fn a_block_of_dc_alone_is_rounded_by_its_scale(rt: HostRuntime) {
+    let mut coefficients = [0; 64];
+    coefficients[0] = 2;
+    for (scale, sample) in [(1, 128), (2, 129), (4, 129), (8, 129)] {
+        let mut samples = [0; 64];
+        dequantize_and_idct_block(scale, &coefficients, &[2; 64], 8, &mut samples);
+        assert_eq!(rt; samples[0], sample);
+    }
+}
