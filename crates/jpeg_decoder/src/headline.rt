@@ -1,12 +1,14 @@
 //! The headline: a stream that is written for coefficients means the picture of those coefficients.
 //! Theorems, each on a function without a body.
 ghost use Rattle.std.specs.Prelude.{◌≡◌, ℕ, ◌≤◌, [], ◌∷◌, ◌++◌, length, List, Some, Ok, false};
-ghost use Rattle.std.specs.Prelude.{true};
+ghost use Rattle.std.specs.Prelude.{true, option_map};
 ghost use Rattle.std.specs.List.{AllByRecursion};
 ghost use Rattle.jpeg_bits.specs.Passes.{Block};
 ghost use Rattle.jpeg_segments.specs.Frame.{Frame};
 ghost use Rattle.jpeg_segments.specs.WrittenSegments.{FrameHeader, IsFrame};
+ghost use Rattle.jpeg_decoder.specs.Output.{default_settings, line_of, output_of};
 ghost use Rattle.jpeg_decoder.specs.SaidSegments.{HasPicture};
+ghost use Rattle.jpeg_decoder.specs.Seen.{info_of};
 ghost use Rattle.jpeg_decoder.specs.ArrayPictures.{meaning_of_array, picture_of_array, Takes};
 ghost use Rattle.jpeg_decoder.specs.Levels.{Is8Bit, Levels, cut, nothing_sent};
 ghost use Rattle.jpeg_decoder.specs.Stream.{Found, is_progressive, meaning, sized_meaning};
@@ -89,6 +91,17 @@ pub fn images_have_pictures()
           0 = record { 0 = told_of (sized_to width height final); 1 = picture };
           1 = rest;
         })) }
+{}
+
+/// Where the default settings take the picture, the program prints it after its size and format.
+pub fn images_are_printed()
+    ensures { (array : Coefficients) (image rest : List ℕ) (final : Found) (last : ℕ → Levels) →
+        ((place row column : ℕ) → Is8Bit (array place row column)) →
+        WritesImage array image final last → Takes default_settings final →
+        (picture : List ℕ)
+        × (picture_of_array default_settings final array last ≡ Ok picture)
+        × (output_of (image ++ rest)
+        ≡ Some (line_of (option_map info_of final.frame) ++ picture)) }
 {}
 
 /// A block of which every bit was sent is itself.
