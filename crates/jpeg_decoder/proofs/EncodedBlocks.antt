@@ -13,7 +13,7 @@ use Rattle.std.specs.List.{AllByRecursion, range_with_len}
 use Rattle.jpeg_bits.proofs.Tables.{tested-exist}
 use Rattle.jpeg_bits.specs.Codes.{code_lengths, code_value, codes_exist, HasCodes, lengths_from, Table}
 use Rattle.jpeg_bits.specs.Entropy.{bits_of}
-use Rattle.jpeg_bits.specs.Passes.{band_of, Block, Via, whole_pass}
+use Rattle.jpeg_bits.specs.Passes.{band_of, Block, Pass, Via, whole_pass}
 use Rattle.jpeg_bits.specs.Written.{code_bits, low_bits}
 use Rattle.jpeg_bits.specs.declared.codes.HuffmanTableClass.{HuffmanTableClass}
 use Rattle.jpeg_bits.specs.declared.codes.HuffmanTableClass.TheVariants as classes
@@ -24,7 +24,7 @@ use Rattle.jpeg_decoder.specs.WrittenData.{WritesDc, WritesDifference, WritesInt
 use Rattle.jpeg_decoder.specs.WrittenData.WritesAc.{first, no_band}
 use Rattle.jpeg_decoder.specs.WrittenData.WritesBand.{ended, full, sixteen, value}
 use Rattle.jpeg_decoder.specs.WrittenData.WritesBlocks.{block, done}
-use Rattle.jpeg_decoder.specs.WrittenData.WritesDc.{whole}
+use Rattle.jpeg_decoder.specs.WrittenData.WritesDc.{other_band, whole}
 
 -- ---- tables
 
@@ -144,15 +144,16 @@ band-written (negsuc n ∷ us) z small =
     zeros-written z z (negsuc n) us (omega arith)
     (λ e. absurd (let h : suc n ≡ 0 = ap unsigned_abs e in omega arith)) small.0 (band-written us 0 small.1)
 
-ac-written : (us : List ℤ) → AllByRecursion Small us → (b : List Bool) × WritesAc whole_pass ac us 0 b 0
+ac-written : (p : Pass) (us : List ℤ) → p.is_first ≡ true → AllByRecursion Small us
+    → (b : List Bool) × WritesAc p ac us 0 b 0
 unfolding Written
-ac-written [] small = ([], no_band 0)
-ac-written (u ∷ us) small = let w = band-written (u ∷ us) 0 small in (w.0, first u us w.0 0 refl w.1)
+ac-written p [] f small = ([], no_band 0)
+ac-written p (u ∷ us) f small = let w = band-written (u ∷ us) 0 small in (w.0, first u us w.0 0 f w.1)
 
 -- ---- blocks
 
 -- each prediction is in range
-abbrev Ranged : ℤ → Type 0
+abbrev pub Ranged : ℤ → Type 0
 Ranged d = (negsuc 1023 ≤ℤ d) × (d ≤ℤ pos 1023)
 
 abbrev AllRanged : List ℤ → Type 0
@@ -168,33 +169,104 @@ set-ranged (p ∷ ps) (suc i) d r all (suc j) = set-ranged ps i d r (λ k. all (
 far-below : (a b : ℤ) → Ranged a → Ranged b → unsigned_abs (a -ℤ b) < 2 ^ 11
 far-below a b ra rb = let la = ra.0 in let ha = ra.1 in let lb = rb.0 in let hb = rb.1 in omega (arith, ints)
 
--- a block in a scan is in range, and coded by the flat tables
+-- the bits of a block after a prediction, and the next prediction
+pub record BlockBits (p : Pass) (t : Via × Block) (prediction : ℤ) : Type 0 where
+  pub dc : List Bool
+  pub ac : List Bool
+  pub next : ℤ
+  pub ranged : Ranged next
+  pub writes_dc : WritesDc p t.0.dc t.1.dc prediction dc next
+  pub writes_ac : WritesAc p t.0.ac (band_of p t.1.acs) 0 ac 0
+
+-- each block that is good can be written
+abbrev pub Each : Pass → (Via × Block → Type 0) → Type 0
+Each p Good = (t : Via × Block) → Good t → (prediction : ℤ) → Ranged prediction → BlockBits p t prediction
+
+blocks-written : (p : Pass) (Good : Via × Block → Type 0) → Each p Good → (ps : List ℤ) (turns : List (Via × Block))
+    → AllRanged ps
+    → AllByRecursion Good turns → (b : List Bool) × WritesBlocks p ps 0 turns b
+blocks-written p Good each ps [] ranged good = ([], done ps)
+blocks-written p Good each ps (t ∷ turns) ranged good =
+    let b = each t good.0 (get_or ps t.0.component (pos 0)) (ranged t.0.component) in
+    let more = blocks-written p Good each (set ps t.0.component b.next) turns
+    (set-ranged ps t.0.component b.next b.ranged ranged) good.1 in
+    (_, block ps 0 0 t.0 t.1 turns b.dc b.ac more.0 b.next b.writes_dc b.writes_ac more.1)
+
+-- ---- blocks of each pass
+
+-- the first scans of DC and of AC
+abbrev pub dc_pass : Pass
+dc_pass = record { is_first = true; ss = 0; se = 0; al = 0 }
+
+abbrev pub ac_pass : Pass
+ac_pass = record { is_first = true; ss = 1; se = 63; al = 0 }
+
+-- a block is in range, and coded by the flat tables
+pub record HasFlatDc (t : Via × Block) : Type 0 where
+  pub dc : t.0.dc ≡ flat_table classes.DC
+  pub range : Is8Bit t.1
+
+pub record HasFlatAc (t : Via × Block) : Type 0 where
+  pub ac : t.0.ac ≡ flat_table classes.AC
+  pub range : Is8Bit t.1
+
 pub record IsFlat (t : Via × Block) : Type 0 where
   pub dc : t.0.dc ≡ flat_table classes.DC
   pub ac : t.0.ac ≡ flat_table classes.AC
   pub range : Is8Bit t.1
 
-blocks-written : (ps : List ℤ) (turns : List (Via × Block)) → AllRanged ps → AllByRecursion IsFlat turns
-    → (b : List Bool) × WritesBlocks whole_pass ps 0 turns b
-blocks-written ps [] ranged flat = ([], done ps)
-blocks-written ps (t ∷ turns) ranged flat =
-    let here = flat.0 in
-    let u = t.1 in
-    let range : Ranged u.dc = (here.range.dc_low, here.range.dc_high) in
-    let prediction = get_or ps t.0.component (pos 0) in
+block-range : (u : Block) → Is8Bit u → Ranged u.dc
+block-range u range = (range.dc_low, range.dc_high)
+
+dc-bits : (p : Pass) (table : Table) (u : Block) (prediction : ℤ) → p.ss ≡ 0 → p.is_first ≡ true
+    → table ≡ flat_table classes.DC → Is8Bit u
+    → Ranged prediction → (b : List Bool) × WritesDc p table u.dc prediction b u.dc
+dc-bits p table u prediction s f e range ranged =
     let d = difference-written classes.DC (u.dc -ℤ prediction)
-    (far-below u.dc prediction range (ranged t.0.component)) in
-    let dc : WritesDc whole_pass t.0.dc u.dc prediction d.0 u.dc =
-    subst (λ (x : Table). WritesDc whole_pass x u.dc prediction d.0 u.dc) (sym here.dc)
-    (whole u.dc prediction d.0 refl refl d.1) in
-    let band : band_of whole_pass u.acs ≡ u.acs = take_all 63 u.acs (omega (arith)) in
-    let w = ac-written u.acs here.range.acs in
-    let a : WritesAc whole_pass t.0.ac (band_of whole_pass u.acs) 0 w.0 0 =
-    subst (λ (x : Table). WritesAc whole_pass x (band_of whole_pass u.acs) 0 w.0 0) (sym here.ac)
-    (subst (λ (l : List ℤ). WritesAc whole_pass ac l 0 w.0 0) (sym band) w.1) in
-    let more = blocks-written (set ps t.0.component u.dc) turns
-    (set-ranged ps t.0.component u.dc range ranged) flat.1 in
-    (_, block ps 0 0 t.0 u turns d.0 w.0 more.0 u.dc dc a more.1)
+    (far-below u.dc prediction (block-range u range) ranged) in
+    (d.0, subst (λ (x : Table). WritesDc p x u.dc prediction d.0 u.dc) (sym e) (whole u.dc prediction d.0 s f d.1))
+
+ac-bits : (p : Pass) (table : Table) (us : List ℤ) → p.is_first ≡ true → table ≡ flat_table classes.AC
+    → AllByRecursion Small us
+    → (b : List Bool) × WritesAc p table us 0 b 0
+ac-bits p table us f e small =
+    let w = ac-written p us f small in (w.0, subst (λ (x : Table). WritesAc p x us 0 w.0 0) (sym e) w.1)
+
+pub each-whole : Each whole_pass IsFlat
+each-whole t good prediction ranged =
+    let u = t.1 in
+    let d = dc-bits whole_pass t.0.dc u prediction refl refl good.dc good.range ranged in
+    let band : band_of whole_pass u.acs ≡ u.acs = let n = good.range.count in take_all 63 u.acs (omega arith) in
+    let a = ac-bits whole_pass t.0.ac u.acs refl good.ac good.range.acs in
+    record {
+      dc = d.0;
+      ac = a.0;
+      next = u.dc;
+      ranged = block-range u good.range;
+      writes_dc = d.1;
+      writes_ac = subst (λ (l : List ℤ). WritesAc whole_pass t.0.ac l 0 a.0 0) (sym band) a.1;
+    }
+
+pub each-dc : Each dc_pass HasFlatDc
+each-dc t good prediction ranged =
+    let u = t.1 in
+    let d = dc-bits dc_pass t.0.dc u prediction refl refl good.dc good.range ranged in
+    record { dc = d.0; ac = []; next = u.dc; ranged = block-range u good.range; writes_dc = d.1; writes_ac = no_band 0 }
+
+pub each-ac : Each ac_pass HasFlatAc
+each-ac t good prediction ranged =
+    let u = t.1 in
+    let band : band_of ac_pass u.acs ≡ u.acs = let n = good.range.count in take_all 63 u.acs (omega arith) in
+    let a = ac-bits ac_pass t.0.ac u.acs refl good.ac good.range.acs in
+    record {
+      dc = [];
+      ac = a.0;
+      next = prediction;
+      ranged = ranged;
+      writes_dc =
+          other_band u.dc prediction (λ e. absurd (omega arith));
+      writes_ac = subst (λ (l : List ℤ). WritesAc ac_pass t.0.ac l 0 a.0 0) (sym band) a.1;
+    }
 
 start-ranged : AllRanged (replicate 4 (pos 0))
 start-ranged zero = (record { le = tt }, record { le = tt })
@@ -287,20 +359,21 @@ packed (a ∷ b ∷ c ∷ d ∷ e ∷ f ∷ g ∷ h ∷ more) =
       whole = ap₂ (λ (p q : List Bool). p ++ q) x.1 r.whole;
     }
 
-pub interval-written : (turns : List (Via × Block)) → AllByRecursion IsFlat turns
-    → (bytes : List ℕ) × WritesInterval whole_pass turns bytes
-interval-written turns flat =
-    let w = blocks-written (replicate 4 (pos 0)) turns start-ranged flat in
-    let p = packed w.0 in (
-      stuffed p.bytes,
+pub interval-written : (p : Pass) (Good : Via × Block → Type 0) → Each p Good → (turns : List (Via × Block))
+    → AllByRecursion Good turns
+    → (bytes : List ℕ) × WritesInterval p turns bytes
+interval-written p Good each turns good =
+    let w = blocks-written p Good each (replicate 4 (pos 0)) turns start-ranged good in
+    let b = packed w.0 in (
+      stuffed b.bytes,
       record {
         bits = w.0;
-        filling = p.filling;
-        data_bytes = p.bytes;
+        filling = b.filling;
+        data_bytes = b.bytes;
         coded = w.1;
-        is_short = p.is_short;
+        is_short = b.is_short;
         whole =
-            p.whole;
+            b.whole;
         has_bytes = refl;
       },
     )

@@ -1,11 +1,14 @@
 //! The headline: a stream that is written for coefficients means the picture of those coefficients.
 //! Theorems, each on a function without a body.
-ghost use Rattle.std.specs.Prelude.{◌≡◌, ℕ, ◌≤◌, [], ◌∷◌, ◌++◌, length, List, Some, Ok, false, true};
+ghost use Rattle.std.specs.Prelude.{◌≡◌, ℕ, ◌≤◌, [], ◌∷◌, ◌++◌, length, List, Some, Ok, false};
+ghost use Rattle.std.specs.Prelude.{true, option_map};
 ghost use Rattle.std.specs.List.{AllByRecursion};
 ghost use Rattle.jpeg_bits.specs.Passes.{Block};
 ghost use Rattle.jpeg_segments.specs.Frame.{Frame};
 ghost use Rattle.jpeg_segments.specs.WrittenSegments.{FrameHeader, IsFrame};
+ghost use Rattle.jpeg_decoder.specs.Output.{default_settings, line_of, output_of};
 ghost use Rattle.jpeg_decoder.specs.SaidSegments.{HasPicture};
+ghost use Rattle.jpeg_decoder.specs.Seen.{info_of};
 ghost use Rattle.jpeg_decoder.specs.ArrayPictures.{meaning_of_array, picture_of_array, Takes};
 ghost use Rattle.jpeg_decoder.specs.Levels.{Is8Bit, Levels, cut, nothing_sent};
 ghost use Rattle.jpeg_decoder.specs.Stream.{Found, is_progressive, meaning, sized_meaning};
@@ -90,6 +93,17 @@ pub fn images_have_pictures()
         })) }
 {}
 
+/// Where the default settings take the picture, the program prints it after its size and format.
+pub fn images_are_printed()
+    ensures { (array : Coefficients) (image rest : List ℕ) (final : Found) (last : ℕ → Levels) →
+        ((place row column : ℕ) → Is8Bit (array place row column)) →
+        WritesImage array image final last → Takes default_settings final →
+        (picture : List ℕ)
+        × (picture_of_array default_settings final array last ≡ Ok picture)
+        × (output_of (image ++ rest)
+        ≡ Some (line_of (option_map info_of final.frame) ++ picture)) }
+{}
+
 /// A block of which every bit was sent is itself.
 pub fn complete_blocks_are_whole()
     ensures { (levels : Levels) (c : Block) →
@@ -156,11 +170,11 @@ pub fn worked_images_are_written()
     ensures colour { IsWhollyWritten colour_array colour_bytes }
 {}
 
-/// There is a stream for every image: the coefficients of 8-bit samples in any frame of SOF0 or
-/// SOF1 that has a picture have one, and it sends every bit.
+/// There is a stream for every image: the coefficients of 8-bit samples in any frame of SOF0, SOF1
+/// or SOF2 that has a picture have one that sends every bit.
 pub fn every_image_has_a_stream()
     ensures { (number : ℕ) (h : FrameHeader) (array : Coefficients) →
-        number ≤ 1 → IsFrame number h → HasPicture h →
+        number ≤ 2 → IsFrame number h → HasPicture h →
         ((place row column : ℕ) → Is8Bit (array place row column)) →
         (bytes : List ℕ) × IsWhollyWritten array bytes }
 {}
