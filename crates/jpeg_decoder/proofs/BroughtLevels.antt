@@ -21,7 +21,7 @@ use Rattle.jpeg_decoder.specs.Stream.{Coding, Found, none_finished, pass_of, is_
 use Rattle.jpeg_decoder.specs.Stream.{held_behind, put_arrays, scan_arrays, behind_scan, with_arrays}
 use Rattle.jpeg_decoder.specs.Levels.{Levels, Is8Bit, IsLegal, levels_behind, nothing_sent}
 use Rattle.jpeg_decoder.specs.WrittenScans.{Coefficients, levels_of_one, levels_after, IsLegalScan, WritesScan}
-use Rattle.jpeg_decoder.proofs.PutBlocks.{AreApart}
+use Rattle.jpeg_decoder.proofs.PlacesApart.{AreApart}
 use Rattle.jpeg_decoder.specs.WrittenData.{marker}
 use Rattle.jpeg_decoder.proofs.AcceptedStreams.{IsMarker}
 use Rattle.jpeg_decoder.proofs.FinishedMarks.{IsBand, marks-start}

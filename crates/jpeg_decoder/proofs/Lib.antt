@@ -1,3 +1,4 @@
+pub mod PlacesApart
 pub mod WriterLemmas
 pub mod OutputLemmas
 pub mod Updates
@@ -46,7 +47,6 @@ pub mod CutLevels
 pub mod WrittenBlocks
 pub mod WrittenIntervals
 pub mod WrittenArrays
-pub mod PutBlocks
 pub mod OwnSpots
 pub mod FinishedPlaces
 pub mod FinishedMarks

@@ -9,7 +9,7 @@ use Rattle.jpeg_segments.specs.Frame.{Frame, Component}
 use Rattle.jpeg_decoder.specs.declared.grids.Grid.{Grid}
 use Rattle.jpeg_decoder.specs.Order.{Spot, grid_of, own_spots, part_spots, mcu_spots, all_spots, spots_of}
 use Rattle.jpeg_decoder.specs.WrittenScans.{IsOwn}
-use Rattle.jpeg_decoder.proofs.PutBlocks.{IsIn}
+use Rattle.jpeg_decoder.specs.InTurn.{IsIn}
 
 -- ---- lists
 

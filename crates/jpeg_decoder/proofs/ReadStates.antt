@@ -16,7 +16,7 @@ use Rattle.jpeg_decoder.specs.Stream.{with_blocks, with_arrays, put_arrays}
 use Rattle.jpeg_decoder.specs.Levels.{Levels, IsLegal, levels_behind}
 use Rattle.jpeg_decoder.proofs.FinishedPlaces.{is_level_0}
 use Rattle.jpeg_decoder.specs.WrittenScans.{Coefficients, levels_of_one, levels_after}
-use Rattle.jpeg_decoder.proofs.PutBlocks.{IsAbsent, AreApart}
+use Rattle.jpeg_decoder.proofs.PlacesApart.{IsAbsent, AreApart}
 use Rattle.jpeg_decoder.proofs.WrittenIntervals.{not-equal}
 use Rattle.jpeg_decoder.proofs.FinishedMarks.{marks_of, IsBand, marks-behind}
 use Rattle.jpeg_decoder.proofs.FinishedPlaces.{dc-open}

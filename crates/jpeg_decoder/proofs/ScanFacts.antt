@@ -14,7 +14,7 @@ use Rattle.jpeg_segments.specs.ScanHeader.{Scan, Selector, place_of, tables_at, 
 use Rattle.jpeg_segments.specs.ScanHeader.{selectors_from, is_mcu, is_band, behind_of, scan_of, band_at, count_at}
 use Rattle.jpeg_segments.specs.ScanHeader.{sos_at}
 use Rattle.jpeg_decoder.specs.Stream.{pass_of, is_progressive}
-use Rattle.jpeg_decoder.proofs.PutBlocks.{IsAbsent, AreApart}
+use Rattle.jpeg_decoder.proofs.PlacesApart.{IsAbsent, AreApart}
 use Rattle.jpeg_decoder.proofs.AcceptedTurns.{err-ok, ok-same, bind-ok}
 use Rattle.jpeg_decoder.proofs.FrameShapes.{if-ok, unless-ok}
 use Rattle.jpeg_decoder.proofs.BroughtLevels.{ScanFacts, PassSo, sequential, progressive, progressive-pass}

@@ -22,7 +22,8 @@ use Rattle.jpeg_decoder.proofs.SentBlocks.{held, InRange, Suits, behind_pass}
 use Rattle.jpeg_decoder.proofs.AcceptedStreams.{IsMarker}
 use Rattle.jpeg_decoder.proofs.CutLevels.{suits-cut, cut-behind, all-same, cut-unsent, floor-range, floor-fits}
 use Rattle.jpeg_decoder.proofs.WrittenArrays.{IsReadyAt, reads-arrays, map-map_any}
-use Rattle.jpeg_decoder.proofs.PutBlocks.{IsIn, IsInside, reaches}
+use Rattle.jpeg_decoder.proofs.Put.{reaches}
+use Rattle.jpeg_decoder.specs.InTurn.{IsIn, IsInside}
 use Rattle.jpeg_decoder.proofs.OwnSpots.{At, at-within, at-get, IsOwnSpot, own-only, Fits, covered}
 
 -- ---- blocks of a component
