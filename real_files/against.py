@@ -1,72 +1,70 @@
-"""Encodes colour pictures by cjpeg, decodes each by jpegraw and by another program of the same output, and compares the bytes.
+"""Compares jpegraw with another program of the same output, byte for byte, on files of many kinds.
 
-against.py JPEGRAW PEER: PEER reads a JPEG stream and writes what jpegraw writes, for example a program of the original crate. The
-status is 1 where one of them refuses a file that the other decodes, or where their outputs differ.
+against.py JPEGRAW THUMBNAIL FRAMES PEER: PEER reads a JPEG stream and writes what jpegraw writes, for example a program of the original
+crate. The pixels of THUMBNAIL at each scale are compared with those of `PEER --scale WIDTHxHEIGHT`, and those of FRAMES, the program
+mjpeg_frames, with those of PEER for each frame. The status is 1 where one of them refuses a file that the other decodes, or where their
+outputs differ.
 """
 
-import random
 import subprocess
 import sys
 
-SIZES = [(1, 1), (7, 5), (8, 8), (17, 9), (33, 40), (64, 48), (100, 75), (203, 151)]
-# The sampling factors of the components, as `cjpeg -sample` takes them; it repeats the last for those that are not named.
-SAMPLINGS = ["1x1", "2x1", "1x2", "2x2", "4x1", "1x1,2x1", "2x2,1x1,1x2", "1x1,1x1,2x2"]
-CODINGS = {
-    "plain": [],
-    "progressive": ["-progressive"],
-    "a restart after each row of MCUs": ["-restart", "1"],
-    "a restart after each two MCUs": ["-restart", "2B"],
-    "optimised tables, quality 30": ["-optimize", "-quality", "30"],
-    "progressive, a restart after each row of MCUs": ["-progressive", "-restart", "1"],
-}
+from damaged import damaged
+from streams import CODINGS, FEW_SIZES, SAMPLINGS, drawn, groups, mjpeg_frames, output_of
 
 
-def gradient(width, height):
-    """Each colour rises in a direction of its own."""
-    right, down = max(1, width - 1), max(1, height - 1)
-    return bytes(
-        value for y in range(height) for x in range(width) for value in (255 * x // right, 255 * y // down, 3 * (x + y) % 256)
-    )
-
-
-def checks(width, height):
-    """Rectangles with sharp edges, tinted by their place."""
-
-    def colour(x, y):
-        light = 255 if (x // 7 + y // 5) % 2 else 30
-        return light, (2 * light + x) % 256, (255 - light + y) % 256
-
-    return bytes(value for y in range(height) for x in range(width) for value in colour(x, y))
-
-
-def noise(width, height):
-    """Samples of no order, the same in each run."""
-    return random.Random(f"{width}x{height}").randbytes(3 * width * height)
-
-
-PICTURES = {"gradient": gradient, "checks": checks, "noise": noise}
-
-
-def output_of(program, stream):
-    """The status of a program and what it writes for a stream."""
-    done = subprocess.run([program], input=stream, capture_output=True)
+def answer_of(words, stream):
+    """Whether a program refuses a stream, and what it writes for it."""
+    done = subprocess.run(words, input=stream, capture_output=True)
     return done.returncode != 0, done.stdout
 
 
-def main(jpegraw, peer):
-    total = differing = 0
-    for width, height in SIZES:
-        for kind, draw in PICTURES.items():
-            picture = b"P6\n%d %d\n255\n" % (width, height) + draw(width, height)
-            for sampling in SAMPLINGS:
-                for coding, words in CODINGS.items():
-                    command = ["cjpeg", "-quality", "80", "-sample", sampling, *words]
-                    stream = subprocess.run(command, input=picture, capture_output=True, check=True).stdout
-                    total += 1
-                    if output_of(jpegraw, stream) != output_of(peer, stream):
-                        differing += 1
-                        print(f"{kind} {width}x{height}, sampling {sampling}, {coding}: the outputs differ")
-    print(f"{total} files: {differing} differ")
+def scaled_answers(thumbnail, peer, size, stream):
+    """The pixels of both programs for a picture that reaches a size; a header of the netpbm formats has three lines."""
+    ours, picture = answer_of([thumbnail, *map(str, size)], stream)
+    theirs, raw = answer_of([peer, "--scale", "%dx%d" % size], stream)
+    return (ours, picture.split(b"\n", 3)[-1]), (theirs, raw.split(b"\n", 1)[-1])
+
+
+def scaled(thumbnail, peer):
+    """The answers of both programs at each scale."""
+    for name, picture in drawn(FEW_SIZES):
+        width, height = map(int, picture.split(b"\n", 2)[1].split())
+        for sampling in SAMPLINGS:
+            for coding in ("plain", "progressive"):
+                stream = output_of(["cjpeg", "-sample", sampling, *CODINGS[coding]], picture)
+                for scale in (1, 2, 4, 8):
+                    size = -(-width * scale // 8), -(-height * scale // 8)
+                    yield f"{name}; {sampling}; {coding}; {scale}/8", *scaled_answers(thumbnail, peer, size, stream)
+
+
+def as_one_stream(frames_program, peer):
+    """The answers for all MJPEG frames, one after the other and one by one."""
+    frames = [stream for _, stream in mjpeg_frames()]
+    theirs = [answer_of([peer], frame) for frame in frames]
+    yield "all frames", answer_of([frames_program, "pixels"], b"".join(frames)), (False, b"".join(text for _, text in theirs))
+
+
+def counted(title, answers):
+    """Counts the files and prints those whose answers differ, and gives how many these are."""
+    total = refused = differing = 0
+    for name, ours, theirs in answers:
+        total += 1
+        refused += ours[0]
+        if ours != theirs:
+            differing += 1
+            print(f"{title}: {name}: the outputs differ")
+    print(f"{title}: {total} files, {refused} refused, {differing} differ", flush=True)
+    return differing
+
+
+def main(jpegraw, thumbnail, frames_program, peer):
+    differing = 0
+    for title, files in [*groups(), ("damaged files", damaged())]:
+        answers = ((name, answer_of([jpegraw], stream), answer_of([peer], stream)) for name, stream in files)
+        differing += counted(title, answers)
+    differing += counted("scales", scaled(thumbnail, peer))
+    differing += counted("MJPEG frames as one stream", as_one_stream(frames_program, peer))
     return 1 if differing else 0
 
 

@@ -1,134 +1,134 @@
-"""Encodes grey pictures by cjpeg, decodes each by jpegraw and by djpeg, and compares the samples.
+"""Compares jpegraw with djpeg of libjpeg-turbo, and with itself on files of the same coefficients.
 
-compare.py JPEGRAW FOLDER: the program, and a folder for the files. The status is 1 where a file is refused, where a size differs, or
-where a sample differs by more than 1.
+compare.py JPEGRAW JPEGINFO prints, for grey pictures and for each sampling of colour, the greatest and the mean difference of a sample from what
+`djpeg -dct int` gives, for how many pictures every coding of the same coefficients gives the same output, how many ICC profiles that
+cjpeg put into files JPEGINFO takes out of them again, and how many of exiftool's Exif and XMP data it gives as exiftool does. The status is 1
+where such data aren't the same, where a file is refused, where a size differs, where a sample of one that is not upsampled differs by more than 1 as grey, red, green or blue, or
+where codings of the same coefficients give different outputs.
 """
 
+import operator
 import random
 import subprocess
 import sys
-import time
+import tempfile
 
-SIZES = [(1, 1), (7, 9), (8, 8), (16, 8), (17, 33), (100, 75), (640, 480), (1000, 1000)]
-QUALITIES = [10, 50, 75, 95, 100]
-# At a low quality cjpeg writes an extended sequential frame with wide quantization tables unless it is held to baseline.
-TABLES = {"plain": [], "baseline": ["-baseline"], "optimised": ["-optimize"]}
-TIMED_SIZE = (1000, 1000)
-TIMED_QUALITY = 75
-TIMED_RUNS = 5
+from pictures import ppm
+from streams import one_sample_a_component, output_of, same_coefficients, sampled
 
+# A segment has room for 65519 bytes of a profile.
+PROFILE_SIZES = [1, 1000, 65519, 65520, 131038, 1000000]
 
-def gradient(width, height):
-    """Light from the upper left to the lower right."""
-    return bytes(255 * (x + y) // max(1, width + height - 2) for y in range(height) for x in range(width))
+# The kinds whose samples are those of the transform alone: by it the two programs differ by 1 at most.
+TRANSFORM_ALONE = ("grey", "red, green and blue")
 
 
-def noise(width, height):
-    """Samples of no order, the same in each run."""
-    return random.Random(f"{width}x{height}").randbytes(width * height)
+class Differences:
+    """How far the samples of some files are from others."""
+
+    def __init__(self):
+        self.files = self.samples = self.sum = self.greatest = self.equal = 0
+
+    def add(self, ours, theirs):
+        differences = list(map(abs, map(operator.sub, ours, theirs)))
+        self.files += 1
+        self.samples += len(differences)
+        self.sum += sum(differences)
+        self.greatest = max(self.greatest, *differences)
+        self.equal += ours == theirs
+
+    def __str__(self):
+        mean = self.sum / self.samples
+        return f"{self.files} files, {self.equal} equal, greatest difference {self.greatest}, mean {mean:.4f}"
 
 
-def shapes(width, height):
-    """A disc, a frame and slanted bars, with sharp edges."""
-    radius = min(width, height) / 3
-
-    def sample(x, y):
-        if (x - width / 2) ** 2 + (y - height / 2) ** 2 < radius**2:
-            return 230
-        if min(x, y, width - 1 - x, height - 1 - y) < 3:
-            return 0
-        return 40 if (x + 2 * y) // 11 % 2 else 150
-
-    return bytes(sample(x, y) for y in range(height) for x in range(width))
-
-
-PICTURES = {"gradient": gradient, "noise": noise, "shapes": shapes}
-
-
-def output_of(words, stdin):
-    """What a program writes for some input."""
-    done = subprocess.run(words, input=stdin, capture_output=True)
+def picture_of(words, stream):
+    """The width, the height and the samples that a program gives for a stream, or None where it is refused."""
+    done = subprocess.run(words, input=stream, capture_output=True)
     if done.returncode != 0:
-        sys.exit(f"compare: {words[0]}: {done.stderr.decode(errors='replace').strip()}")
-    return done.stdout
+        return None
+    if done.stdout.startswith((b"P5", b"P6")):
+        _, size, _, samples = done.stdout.split(b"\n", 3)
+    else:
+        line, samples = done.stdout.split(b"\n", 1)
+        size = line.rsplit(b" ", 1)[0]
+    return size, samples
 
 
-def djpeg_picture(stream):
-    """The width, the height and the samples as djpeg gives them."""
-    kind, size, greatest, samples = output_of(["djpeg", "-dct", "int", "-pnm"], stream).split(b"\n", 3)
-    assert kind == b"P5" and greatest == b"255", "djpeg gave no grey picture of 8 bits"
-    width, height = size.split()
-    return int(width), int(height), samples
+def kind_of(name):
+    """The kind of a file by its name: the picture, the sampling or the colours, and the coding."""
+    return name.split("; ")[1]
 
 
-def jpegraw_picture(jpegraw, stream):
-    """The width, the height and the samples as jpegraw gives them, or why there are none."""
-    done = subprocess.run([jpegraw], input=stream, capture_output=True)
-    if done.returncode != 0:
-        return None, done.stderr.decode(errors="replace").strip() or f"status {done.returncode}"
-    line, _, samples = done.stdout.partition(b"\n")
-    words = line.split(b" ")
-    if len(words) != 3 or words[2] != b"L8":
-        return None, f"the line is {line[:80]!r}"
-    return (int(words[0]), int(words[1]), samples), None
+def against_djpeg(jpegraw):
+    """Prints the differences from djpeg by kind, and gives how many faults there are."""
+    kinds, faults = {}, 0
+    for files in (one_sample_a_component(), sampled()):
+        for name, stream in files:
+            ours = picture_of([jpegraw], stream)
+            theirs = picture_of(["djpeg", "-dct", "int", "-pnm"], stream)
+            if ours is None or theirs is None or ours[0] != theirs[0]:
+                faults += 1
+                print(f"{name}: a refusal, or another size")
+            else:
+                kinds.setdefault(kind_of(name), Differences()).add(ours[1], theirs[1])
+    for kind, differences in kinds.items():
+        print(f"{kind}: {differences}", flush=True)
+        faults += kind in TRANSFORM_ALONE and differences.greatest > 1
+    return faults
 
 
-def compared(jpegraw, stream):
-    """The greatest difference of two samples, or why there is none."""
-    picture, refusal = jpegraw_picture(jpegraw, stream)
-    if picture is None:
-        return None, refusal
-    width, height, samples = picture
-    wanted_width, wanted_height, wanted = djpeg_picture(stream)
-    if (width, height) != (wanted_width, wanted_height) or len(samples) != len(wanted):
-        return None, f"{width}x{height} with {len(samples)} samples in place of {wanted_width}x{wanted_height} with {len(wanted)}"
-    if samples == wanted:
-        return 0, None
-    return max(abs(ours - theirs) for ours, theirs in zip(samples, wanted)), None
+def of_the_same_coefficients(jpegraw):
+    """Prints for how many pictures all codings give the same output, and gives how many don't."""
+    pictures = files = faults = 0
+    for name, codings in same_coefficients():
+        outputs = {coding: picture_of([jpegraw], stream) for coding, stream in codings.items()}
+        pictures += 1
+        files += len(outputs)
+        others = [coding for coding, output in outputs.items() if output is None or output != outputs["cjpeg"]]
+        if others:
+            faults += 1
+            print(f"{name}: other pictures by the codings {others}")
+    print(f"the same coefficients: {pictures} pictures in {files} files, {faults} with different outputs")
+    return faults
 
 
-def best_time(words, path):
-    """The least time in seconds that a program takes for a file."""
-    times = []
-    for _ in range(TIMED_RUNS):
-        with open(path, "rb") as stdin:
-            start = time.monotonic()
-            subprocess.run(words, stdin=stdin, stdout=subprocess.DEVNULL, stderr=subprocess.DEVNULL)
-            times.append(time.monotonic() - start)
-    return min(times)
+def of_profiles(jpeginfo):
+    """Prints how many profiles are taken out of files as they were put in, and gives how many aren't."""
+    equal = 0
+    for size in PROFILE_SIZES:
+        profile = random.Random(size).randbytes(size)
+        with tempfile.NamedTemporaryFile(suffix=".icc") as file:
+            file.write(profile)
+            file.flush()
+            stream = output_of(["cjpeg", "-icc", file.name], ppm("checks", 17, 9))
+        done = subprocess.run([jpeginfo, "icc"], input=stream, capture_output=True)
+        equal += done.returncode == 0 and done.stdout == profile
+    print(f"ICC profiles: {equal} of {len(PROFILE_SIZES)} are the same bytes")
+    return len(PROFILE_SIZES) - equal
 
 
-def main(jpegraw, folder):
-    counts = {"equal": 0, "by 1": 0, "by more": 0, "failed": 0}
-    timed = []
-    for width, height in SIZES:
-        for kind, draw in PICTURES.items():
-            picture = b"P5\n%d %d\n255\n" % (width, height) + draw(width, height)
-            for quality in QUALITIES:
-                for tables, words in TABLES.items():
-                    stream = output_of(["cjpeg", "-grayscale", "-quality", str(quality), *words], picture)
-                    name = f"{kind} {width}x{height} quality {quality} {tables}"
-                    greatest, reason = compared(jpegraw, stream)
-                    if greatest is None:
-                        counts["failed"] += 1
-                        print(f"{name}: FAILED: {reason}")
-                    else:
-                        counts["equal" if greatest == 0 else "by 1" if greatest == 1 else "by more"] += 1
-                        print(f"{name}: greatest difference {greatest}")
-                    if (width, height) == TIMED_SIZE and quality == TIMED_QUALITY and tables == "plain":
-                        path = f"{folder}/{kind}.jpg"
-                        with open(path, "wb") as file:
-                            file.write(stream)
-                        timed.append((name, path))
-    for name, path in timed:
-        ours = best_time([jpegraw], path)
-        theirs = best_time(["djpeg", "-dct", "int", "-pnm"], path)
-        print(f"time of {name}: jpegraw {1000 * ours:.1f} ms, djpeg {1000 * theirs:.1f} ms, the best of {TIMED_RUNS} runs")
-    print(
-        f"{sum(counts.values())} files: {counts['equal']} equal, {counts['by 1']} differ by 1, "
-        f"{counts['by more']} by more, {counts['failed']} failed"
-    )
-    return 1 if counts["by more"] or counts["failed"] else 0
+def of_metadata(jpeginfo):
+    """Prints how many of exiftool's data are given as exiftool gives them, and gives how many aren't."""
+    equal = total = 0
+    for number, words in enumerate(([], ["-progressive"], ["-grayscale"], ["-restart", "1"]), 1):
+        with tempfile.NamedTemporaryFile(suffix=".jpg") as file:
+            file.write(output_of(["cjpeg", *words], ppm("checks", 17, 9)))
+            file.flush()
+            tags = ["-Artist=nobody", "-ExposureTime=1/60", "-GPSLatitude=12.5", "-XMP-dc:Description=" + 300 * number * "x"]
+            output_of(["exiftool", "-overwrite_original_in_place", *tags, file.name], b"")
+            for word in ("exif", "xmp"):
+                with open(file.name, "rb") as stdin:
+                    ours = subprocess.run([jpeginfo, word], stdin=stdin, capture_output=True).stdout
+                total += 1
+                equal += ours != b"" and ours == output_of(["exiftool", "-b", f"-{word.upper()}", file.name], b"")
+    print(f"Exif and XMP data: {equal} of {total} are the bytes that exiftool gives")
+    return total - equal
+
+
+def main(jpegraw, jpeginfo):
+    faults = against_djpeg(jpegraw) + of_the_same_coefficients(jpegraw) + of_profiles(jpeginfo) + of_metadata(jpeginfo)
+    return 1 if faults else 0
 
 
 if __name__ == "__main__":

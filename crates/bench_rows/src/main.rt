@@ -1,5 +1,5 @@
-//! How fast lines of a 4:2:0 picture are made: H2V2 and YCbCr at 4000 columns. Writes a number that tells the bytes apart, and on standard error
-//! the time in microseconds.
+//! How fast lines of a 4:2:0 picture are made: H2V2 and YCbCr at 4000 columns. Writes a number that
+//! tells the bytes apart, and on standard error the time in microseconds.
 #![tactic(auto)]
 
 ghost use Rattle.std.specs.Prelude.{◌≡◌, [], ◌∷◌, length, map, IfOk};

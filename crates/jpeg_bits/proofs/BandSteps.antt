@@ -1,10 +1,11 @@
 -- Steps of loops over a decoder.
-use Rattle.std.proofs.Common.{◌≡◌, ℕ, zero, suc, ◌<◌, Bool, true, List, Result, Ok, Err, refl, sym, ap, ◌∙◌, arith, ◌++◌, append_assoc, ℤ}
+use Rattle.std.proofs.Common.{◌≡◌, ℕ, zero, suc, ◌<◌, Bool, List, Result, Ok, Err, refl, sym, ap, ◌∙◌, arith, ◌++◌}
+use Rattle.std.proofs.Common.{append_assoc, ℤ}
 use Rattle.jpeg_bits.specs.Stream.{Stream}
-use Rattle.jpeg_bits.specs.Reading.{Fault, Names, ◌>>=◌}
-use Rattle.std.proofs.Common.{[], length}
+use Rattle.jpeg_bits.specs.Reading.{Fault, ◌>>=◌}
+use Rattle.std.proofs.Common.{length}
 use Rattle.std.proofs.lemmas.Bool.{le-leb}
-use Rattle.jpeg_bits.specs.Entropy.{Text, Ahead, upcoming, Takes, Ending, Found, Broken, has_bits, bits_from}
+use Rattle.jpeg_bits.specs.Entropy.{Text, Ahead, Takes, Ending, Found, Broken, has_bits, bits_from}
 use Rattle.jpeg_bits.specs.declared.error.Error.{Error}
 use Rattle.jpeg_bits.proofs.Loops.{Names-through, MayFail-from}
 use Rattle.jpeg_bits.specs.Bands.{Band}
@@ -17,7 +18,7 @@ pub Leaves-ok : {X Y W : Type 0} (view : X → W) (whole rest next : Text → Re
 Leaves-ok view whole rest next read a b d old cur new x step p q =
     (q.0 ∙ p.0, λ k. let at = p.1 k in let by = q.1 at.0 in (by.0, at.1 ∙ step _ _ by.1))
 
--- a refusal behind a part of the whole
+-- a refusal after a part of the whole
 pub Leaves-err : {X Y Z W : Type 0} (v : X → Y) (view : Z → W) (whole rest : Text → Result (Y × Text) Fault) (read : Text → Result (W × Text) Fault) (a b d : Ahead) (old cur new : Stream) (e : Error)
     → ((t : Text) (f : Fault) → read t ≡ Err f → rest t ≡ Err f) → Leaves whole a old rest b cur → Takes view read b cur (Err e) d new → Takes v whole a old (Err e) d new
 Leaves-err v view whole rest read a b d old cur new e through p q = (

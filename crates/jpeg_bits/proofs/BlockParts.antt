@@ -1,5 +1,6 @@
 -- The parts of a block, of any pass.
-use Rattle.std.proofs.Common.{◌≡◌, ℕ, zero, suc, ◌-◌, ◌+◌, ◌*◌, ◌==◌, ◌<◌, ◌≤◌, ◌^◌, Bool, true, false, List, [], ◌∷◌, ◌++◌, length, take, drop, set, slice_index_or, ℤ, pos, ◌+ℤ◌, ◌*ℤ◌, Result, Ok, Err, refl, sym, ap, ◌∙◌, arith}
+use Rattle.std.proofs.Common.{◌≡◌, ℕ, zero, suc, ◌-◌, ◌+◌, ◌<◌, ◌^◌, true, false, List, [], ◌∷◌, ◌++◌, length, take}
+use Rattle.std.proofs.Common.{drop, set, slice_index_or, ℤ, pos, ◌+ℤ◌, ◌*ℤ◌, Result, Ok, Err, refl, sym, ap, ◌∙◌, arith}
 use Rattle.std.proofs.lemmas.Bool.{ne_eqb}
 use Rattle.std.proofs.lemmas.List.{drop-drop}
 use Rattle.jpeg_bits.specs.Reading.{Fault}
@@ -7,8 +8,8 @@ use Rattle.jpeg_bits.specs.Entropy.{Text, bits_from}
 use Rattle.jpeg_bits.specs.Codes.{Table}
 use Rattle.jpeg_bits.specs.Readers.{Reads, gives, read_on}
 use Rattle.jpeg_bits.specs.Bands.{Band, wrapped, difference, first_dc, first_ac}
-use Rattle.jpeg_bits.specs.Refinement as defined
-use Rattle.jpeg_bits.specs.Passes.{Pass, Block, or_bit, band_of, with_band, before_band, band_size, dc_part, band_part, block_from}
+use Rattle.jpeg_bits.specs.Passes.{Pass, Block, or_bit, band_of, with_band, before_band, band_size, dc_part, band_part}
+use Rattle.jpeg_bits.specs.Passes.{block_from}
 use Rattle.jpeg_bits.specs.Pieces.{corrected, refined_band_from}
 use Rattle.jpeg_bits.specs.BlockView.{to_block}
 use Rattle.jpeg_bits.proofs.RefinedPieces.{corrected-same, refined-same}
@@ -112,53 +113,53 @@ pub ruleset dc_rules = (dc_kept, dc_first, dc_first_refused, dc_refined, dc_refi
 abbrev with_dc : Pass → ℤ × ℤ → List ℤ → Band → Reads (Block × ℤ × ℕ)
 with_dc p d acs b = gives (record { dc = d.0; acs = with_band p acs b.0 }, d.1, b.1)
 
--- what stands behind DC
-unfoldable pub behind_dc : Pass → Table → ℕ → List ℤ → ℤ × ℤ → Reads (Block × ℤ × ℕ)
-behind_dc p ac run block d t = read_on (with_dc p d (drop 1 block)) (band_part p ac (band_of p (drop 1 block)) run t)
+-- what stands after DC
+unfoldable pub after_dc : Pass → Table → ℕ → List ℤ → ℤ × ℤ → Reads (Block × ℤ × ℕ)
+after_dc p ac run block d t = read_on (with_dc p d (drop 1 block)) (band_part p ac (band_of p (drop 1 block)) run t)
 
 block-whole : (p : Pass) (dc ac : Table) (predictor : ℤ) (run : ℕ) (block : List ℤ) (t : Text)
-    → block_from p dc ac predictor run (to_block block) t ≡ read_on (behind_dc p ac run block) (dc_part p dc (slice_index_or block 0 (pos 0)) predictor t)
-unfolding block_from behind_dc
+    → block_from p dc ac predictor run (to_block block) t ≡ read_on (after_dc p ac run block) (dc_part p dc (slice_index_or block 0 (pos 0)) predictor t)
+unfolding block_from after_dc
 block-whole p dc ac predictor run block t = refl
 
 pub dc_step : (p : Pass) (dc ac : Table) (predictor z next value : ℤ) (run : ℕ) (block : List ℤ) (t u : Text) → z ≡ slice_index_or block 0 (pos 0)
     → dc_part p dc z predictor t ≡ Ok ((value, next), u)
-    → block_from p dc ac predictor run (to_block block) t ≡ behind_dc p ac run block (value, next) u
+    → block_from p dc ac predictor run (to_block block) t ≡ after_dc p ac run block (value, next) u
 dc_step p dc ac predictor z next value run block t u s e =
-    block-whole p dc ac predictor run block t ∙ ap (λ (y : ℤ). read_on (behind_dc p ac run block) (dc_part p dc y predictor t)) (sym s) ∙ ap (read_on (behind_dc p ac run block)) e
+    block-whole p dc ac predictor run block t ∙ ap (λ (y : ℤ). read_on (after_dc p ac run block) (dc_part p dc y predictor t)) (sym s) ∙ ap (read_on (after_dc p ac run block)) e
 
 pub dc_refused : (p : Pass) (dc ac : Table) (predictor z : ℤ) (run : ℕ) (block : List ℤ) (t : Text) (f : Fault) → z ≡ slice_index_or block 0 (pos 0)
     → dc_part p dc z predictor t ≡ Err f → block_from p dc ac predictor run (to_block block) t ≡ Err f
 dc_refused p dc ac predictor z run block t f s e =
-    block-whole p dc ac predictor run block t ∙ ap (λ (y : ℤ). read_on (behind_dc p ac run block) (dc_part p dc y predictor t)) (sym s) ∙ ap (read_on (behind_dc p ac run block)) e
+    block-whole p dc ac predictor run block t ∙ ap (λ (y : ℤ). read_on (after_dc p ac run block) (dc_part p dc y predictor t)) (sym s) ∙ ap (read_on (after_dc p ac run block)) e
 
 pub band_step : (p : Pass) (ac : Table) (value next : ℤ) (run more : ℕ) (block part band blk : List ℤ) (t u : Text) → part ≡ band_of p (drop 1 block)
     → to_block blk ≡ record { dc = value; acs = with_band p (drop 1 block) band } → band_part p ac part run t ≡ Ok ((band, more), u)
-    → behind_dc p ac run block (value, next) t ≡ Ok ((to_block blk, next, more), u)
-unfolding behind_dc
+    → after_dc p ac run block (value, next) t ≡ Ok ((to_block blk, next, more), u)
+unfolding after_dc
 band_step p ac value next run more block part band blk t u e b h =
     ap (read_on (with_dc p (value, next) (drop 1 block))) (ap (λ (xs : List ℤ). band_part p ac xs run t) (sym e) ∙ h) ∙ ap (λ (x : Block). Ok ((x, next, more), u)) (sym b)
 
 pub band_fails : (p : Pass) (ac : Table) (value next : ℤ) (run : ℕ) (block part : List ℤ) (t : Text) (f : Fault) → part ≡ band_of p (drop 1 block)
-    → band_part p ac part run t ≡ Err f → behind_dc p ac run block (value, next) t ≡ Err f
-unfolding behind_dc
+    → band_part p ac part run t ≡ Err f → after_dc p ac run block (value, next) t ≡ Err f
+unfolding after_dc
 band_fails p ac value next run block part t f e h =
     ap (read_on (with_dc p (value, next) (drop 1 block))) (ap (λ (xs : List ℤ). band_part p ac xs run t) (sym e) ∙ h)
 
-part-behind : (block : List ℤ) (y : ℤ) (k n : ℕ) → 0 < length block → take n (drop (suc k) (set block 0 y)) ≡ take n (drop k (drop 1 block))
-part-behind [] y k n h = absurd (omega arith)
-part-behind (b ∷ bs) y k n h = refl
+part-after : (block : List ℤ) (y : ℤ) (k n : ℕ) → 0 < length block → take n (drop (suc k) (set block 0 y)) ≡ take n (drop k (drop 1 block))
+part-after [] y k n h = absurd (omega arith)
+part-after (b ∷ bs) y k n h = refl
 
 -- the part of a block that is the band of a pass
 pub block_part : (p : Pass) (block : List ℤ) (y : ℤ) (s n : ℕ) → 0 < length block → s ≡ suc (before_band p) → n ≡ band_size p
     → take n (drop s (set block 0 y)) ≡ band_of p (drop 1 block)
 block_part p block y s n h e f =
-    ap (λ (k : ℕ). take n (drop k (set block 0 y))) e ∙ part-behind block y (before_band p) n h ∙ ap (λ (k : ℕ). take k (drop (before_band p) (drop 1 block))) f
+    ap (λ (k : ℕ). take n (drop k (set block 0 y))) e ∙ part-after block y (before_band p) n h ∙ ap (λ (k : ℕ). take k (drop (before_band p) (drop 1 block))) f
 
-put-behind : (block band : List ℤ) (y : ℤ) (k n : ℕ) → 0 < length block
+put-after : (block band : List ℤ) (y : ℤ) (k n : ℕ) → 0 < length block
     → to_block (take (suc k) (set block 0 y) ++ (band ++ drop n (drop (suc k) (set block 0 y)))) ≡ record { dc = y; acs = take k (drop 1 block) ++ (band ++ drop n (drop k (drop 1 block))) }
-put-behind [] band y k n h = absurd (omega arith)
-put-behind (b ∷ bs) band y k n h = refl
+put-after [] band y k n h = absurd (omega arith)
+put-after (b ∷ bs) band y k n h = refl
 
 drop-both : (n k : ℕ) (xs : List ℤ) → drop n (drop k xs) ≡ drop (k + n) xs
 drop-both n k xs = drop-drop n k xs
@@ -166,5 +167,5 @@ drop-both n k xs = drop-drop n k xs
 pub block_put : (p : Pass) (block band : List ℤ) (y : ℤ) (s n : ℕ) → 0 < length block → s ≡ suc (before_band p) → n ≡ band_size p
     → to_block (take s (set block 0 y) ++ (band ++ drop n (drop s (set block 0 y)))) ≡ record { dc = y; acs = with_band p (drop 1 block) band }
 block_put p block band y s n h e f =
-    ap (λ (k : ℕ). to_block (take k (set block 0 y) ++ (band ++ drop n (drop k (set block 0 y))))) e ∙ put-behind block band y (before_band p) n h
+    ap (λ (k : ℕ). to_block (take k (set block 0 y) ++ (band ++ drop n (drop k (set block 0 y))))) e ∙ put-after block band y (before_band p) n h
     ∙ ap (λ (l : List ℤ). record { dc = y; acs = take (before_band p) (drop 1 block) ++ (band ++ l) }) (drop-both n (before_band p) (drop 1 block) ∙ ap (λ (k : ℕ). drop (before_band p + k) (drop 1 block)) f)

@@ -1,12 +1,14 @@
 -- The default tables have codes, and how places are filled.
-use Rattle.std.proofs.Common.{◌≡◌, ◌≤◌, Bool, ℕ, List, [], ◌∷◌, length, get_or, set, true, Option, inl, inr, ◌∙◌, ap, refl, arith}
+use Rattle.std.proofs.Common.{◌≡◌, ◌≤◌, Bool, ℕ, List, [], ◌∷◌, length, get_or, set, true, Option, inl, inr, ◌∙◌, ap}
+use Rattle.std.proofs.Common.{refl, arith}
 use Rattle.jpeg_bits.specs.Codes.{Table, HasCodes, RefusesCodes, code_lengths, code_value, codes_exist, lengths_from}
-use Rattle.jpeg_bits.specs.DefaultTables.{AreBetween, AreCodes, filled, names, with_defaults, luminance_ac, luminance_dc, chrominance_ac, chrominance_dc}
+use Rattle.jpeg_bits.specs.DefaultTables.{AreBetween, AreCodes, filled, names, with_defaults, luminance_ac}
+use Rattle.jpeg_bits.specs.DefaultTables.{luminance_dc, chrominance_ac, chrominance_dc}
 use Rattle.jpeg_bits.specs.declared.error.Error.{Error}
 use Rattle.jpeg_bits.specs.declared.error.Error.TheVariants as errors
 use Rattle.jpeg_bits.proofs.Tables.{tested-exist}
 
--- where the codes exist, a table is refused for want of memory alone
+-- where the codes exist, a table is refused for lack of memory alone
 pub only-memory : (e : Error) (lengths : List ℕ) → RefusesCodes e lengths → HasCodes lengths → e ≡ errors.OutOfMemory
 only-memory (errors.Format text) lengths refused exist = absurd (refused exist)
 only-memory (errors.Unsupported feature) lengths refused exist = absurd refused

@@ -1,55 +1,58 @@
--- Where reading goes on behind an interval.
-use Rattle.std.proofs.Common.{◌≡◌, ◌⊎◌, inl, inr, ℕ, zero, suc, ◌+◌, ◌-◌, ◌/◌, ◌<◌, ◌≤◌, Bool, true, false, cond, List, [], ◌∷◌, ◌++◌, length, drop, get_or, replicate, None, Ok, refl, sym, ap, ◌∙◌, arith, eqb, length-append, length-drop}
+-- Where reading goes on after an interval.
+use Rattle.std.proofs.Common.{◌≡◌, ◌⊎◌, inl, inr, ℕ, zero, suc, ◌+◌, ◌-◌, ◌/◌, ◌<◌, ◌≤◌, Bool, true, false, cond, List}
+use Rattle.std.proofs.Common.{[], ◌∷◌, ◌++◌, length, drop, get_or, replicate, None, Ok, refl, sym, ap, ◌∙◌, arith, eqb}
+use Rattle.std.proofs.Common.{length-append, length-drop}
 use Rattle.std.proofs.lemmas.List.{length-replicate, drop-drop, drop_more, get_or_append_left, get_or-replicate}
 use Rattle.std.proofs.lemmas.Bool.{le-leb, lt-leb, cases_lt}
 use Rattle.jpeg_bits.specs.Reading.{End}
-use Rattle.jpeg_bits.specs.Entropy.{Text, Ending, Found, Broken, bits_of, text_at, add_byte, no_bits, ending_by, filled_end, upcoming, fresh, advance, marker_from, marker_by}
-use Rattle.jpeg_bits.specs.Ends.{behind_bytes, met, end_behind}
+use Rattle.jpeg_bits.specs.Entropy.{Text, Ending, Found, Broken, bits_of, text_at, add_byte, no_bits, ending_by}
+use Rattle.jpeg_bits.specs.Entropy.{filled_end, upcoming, fresh, advance, marker_from, marker_by}
+use Rattle.jpeg_bits.specs.Ends.{after_bytes, met, end_after}
 
--- Each bit of a text has the place behind the byte that has it.
+-- Each bit of a text has the place after the byte that has it.
 pub record IsPlaced (bytes : List ℕ) (t : Text) : Type 0 where
   pub sized : length t.places ≡ length t.bits
-  pub each : (i : ℕ) → i < length t.bits → get_or t.places i [] ≡ behind_bytes (suc (i / 8)) bytes
+  pub each : (i : ℕ) → i < length t.bits → get_or t.places i [] ≡ after_bytes (suc (i / 8)) bytes
 
-get_or-behind : {A : Type 0} (n i : ℕ) (x d : A) (ys : List A) → get_or (replicate n x ++ ys) (n + i) d ≡ get_or ys i d
-get_or-behind zero i x d ys = let e : zero + i ≡ i = omega arith in ap (λ (k : ℕ). get_or ys k d) e
-get_or-behind (suc n) i x d ys = let e : suc n + i ≡ suc (n + i) = omega arith in ap (λ (k : ℕ). get_or (x ∷ (replicate n x ++ ys)) k d) e ∙ get_or-behind n i x d ys
+get_or-after : {A : Type 0} (n i : ℕ) (x d : A) (ys : List A) → get_or (replicate n x ++ ys) (n + i) d ≡ get_or ys i d
+get_or-after zero i x d ys = let e : zero + i ≡ i = omega arith in ap (λ (k : ℕ). get_or ys k d) e
+get_or-after (suc n) i x d ys = let e : suc n + i ≡ suc (n + i) = omega arith in ap (λ (k : ℕ). get_or (x ∷ (replicate n x ++ ys)) k d) e ∙ get_or-after n i x d ys
 
 none-placed : (bytes : List ℕ) (e : Ending) → IsPlaced bytes (no_bits e)
 none-placed bytes e = record { sized = refl; each = λ i h. absurd (omega arith) }
 
--- one more byte in front, behind which the bytes go on with rest
-add-placed : (bytes rest : List ℕ) (b : ℕ) (t : Text) → ((n : ℕ) → behind_bytes (suc n) bytes ≡ behind_bytes n rest) → IsPlaced rest t → IsPlaced bytes (add_byte b rest t)
-unfolding behind_bytes
+-- one more byte in front, after which the bytes go on with rest
+add-placed : (bytes rest : List ℕ) (b : ℕ) (t : Text) → ((n : ℕ) → after_bytes (suc n) bytes ≡ after_bytes n rest) → IsPlaced rest t → IsPlaced bytes (add_byte b rest t)
+unfolding after_bytes
 add-placed bytes rest b t step h = record {
   sized = omega (arith, length-append (replicate 8 rest) t.places, length-replicate 8 rest, length-append (bits_of b) t.bits, h.sized);
   each = λ i lt. elim (cases_lt i 8) [
     | inl low ↦
         let z : i / 8 ≡ 0 = omega arith in
         get_or_append_left (replicate 8 rest) t.places [] i (omega (arith, length-replicate 8 rest)) ∙ get_or-replicate 8 i rest [] low
-        ∙ sym (ap (λ (n : ℕ). behind_bytes (suc n) bytes) z ∙ step 0)
+        ∙ sym (ap (λ (n : ℕ). after_bytes (suc n) bytes) z ∙ step 0)
     | inr high ↦
         let j = i - 8 in
         let e : i ≡ 8 + j = omega arith in
         let d : i / 8 ≡ suc (j / 8) = omega arith in
-        ap (λ (k : ℕ). get_or (replicate 8 rest ++ t.places) k []) e ∙ get_or-behind 8 j rest [] t.places
+        ap (λ (k : ℕ). get_or (replicate 8 rest ++ t.places) k []) e ∙ get_or-after 8 j rest [] t.places
         ∙ h.each j (omega (arith, length-append (bits_of b) t.bits))
-        ∙ sym (ap (λ (n : ℕ). behind_bytes (suc n) bytes) d ∙ step (suc (j / 8)))
+        ∙ sym (ap (λ (n : ℕ). after_bytes (suc n) bytes) d ∙ step (suc (j / 8)))
   ];
 }
 
-one-step : (b : ℕ) (n : ℕ) → behind_bytes (suc n) (b ∷ []) ≡ behind_bytes n []
-unfolding behind_bytes
+one-step : (b : ℕ) (n : ℕ) → after_bytes (suc n) (b ∷ []) ≡ after_bytes n []
+unfolding after_bytes
 one-step b zero = refl
 one-step b (suc n) = refl
 
-plain-step : (b c : ℕ) (rest : List ℕ) → eqb b 255 ≡ false → (n : ℕ) → behind_bytes (suc n) (b ∷ c ∷ rest) ≡ behind_bytes n (c ∷ rest)
-unfolding behind_bytes
-plain-step b c rest e n = rw (e, behind_bytes) refl
+plain-step : (b c : ℕ) (rest : List ℕ) → eqb b 255 ≡ false → (n : ℕ) → after_bytes (suc n) (b ∷ c ∷ rest) ≡ after_bytes n (c ∷ rest)
+unfolding after_bytes
+plain-step b c rest e n = rw (e, after_bytes) refl
 
-stuffed-step : (b c : ℕ) (rest : List ℕ) → eqb b 255 ≡ true → (n : ℕ) → behind_bytes (suc n) (b ∷ c ∷ rest) ≡ behind_bytes n rest
-unfolding behind_bytes
-stuffed-step b c rest e n = rw (e, behind_bytes) refl
+stuffed-step : (b c : ℕ) (rest : List ℕ) → eqb b 255 ≡ true → (n : ℕ) → after_bytes (suc n) (b ∷ c ∷ rest) ≡ after_bytes n rest
+unfolding after_bytes
+stuffed-step b c rest e n = rw (e, after_bytes) refl
 
 pub placed : (bytes : List ℕ) → IsPlaced bytes (text_at bytes)
 unfolding text_at
@@ -72,22 +75,22 @@ marker-met [] (Found m rest) h = refl
 marker-met [] (Broken f) h = refl
 marker-met (x ∷ places) e h = absurd (omega arith)
 
--- Behind k bits of the text that begins with bytes, the end is met where at most 56 bits are left, and otherwise
--- reading goes on behind the bytes of the bits taken and 57 more.
-pub ends-so : (k : ℕ) (bytes : List ℕ) → marker_from (advance k (upcoming fresh bytes)) ≡ end_behind k bytes (drop k (text_at bytes).bits) (text_at bytes).ending
-unfolding upcoming end_behind
+-- After k bits of the text that begins with bytes, the end is met where at most 56 bits are left, and otherwise
+-- reading goes on after the bytes of the bits taken and 57 more.
+pub ends-so : (k : ℕ) (bytes : List ℕ) → marker_from (advance k (upcoming fresh bytes)) ≡ end_after k bytes (drop k (text_at bytes).bits) (text_at bytes).ending
+unfolding upcoming end_after
 ends-so k bytes = go (cases_lt 56 (length (drop k t.bits)))
   where
     t : Text
     t = text_at bytes
 
     go : (56 < length (drop k (text_at bytes).bits)) ⊎ (length (drop k (text_at bytes).bits) ≤ 56)
-        → marker_by (drop k (drop 56 (text_at bytes).places)) (text_at bytes).ending ≡ end_behind k bytes (drop k (text_at bytes).bits) (text_at bytes).ending
+        → marker_by (drop k (drop 56 (text_at bytes).places)) (text_at bytes).ending ≡ end_after k bytes (drop k (text_at bytes).bits) (text_at bytes).ending
     go (inr few) =
         let t = text_at bytes in
         let is = placed bytes in
         let none : length (drop k (drop 56 t.places)) ≡ 0 = omega (arith, length-drop k (drop 56 t.places), length-drop 56 t.places, length-drop k t.bits, is.sized) in
-        rw (le-leb (length (drop k t.bits)) 56 few, end_behind) (marker-met (drop k (drop 56 t.places)) t.ending none)
+        rw (le-leb (length (drop k t.bits)) 56 few, end_after) (marker-met (drop k (drop 56 t.places)) t.ending none)
     go (inl many) =
         let t = text_at bytes in
         let is = placed bytes in
@@ -96,6 +99,6 @@ ends-so k bytes = go (cases_lt 56 (length (drop k t.bits)))
         let head : drop k (drop 56 t.places) ≡ get_or t.places (k + 56) [] ∷ drop (k + 56 + 1) t.places
         = drop-drop k 56 t.places ∙ ap (λ (n : ℕ). drop n t.places) order ∙ drop_more t.places (k + 56) [] (omega (arith, is.sized)) in
         let count : suc ((k + 56) / 8) ≡ (k + 57 + 7) / 8 = omega arith in
-        rw (lt-leb (length (drop k t.bits)) 56 many, end_behind)
+        rw (lt-leb (length (drop k t.bits)) 56 many, end_after)
         (ap (λ (p : List (List ℕ)). marker_by p t.ending) head
-        ∙ ap (λ (r : List ℕ). Ok (None, r)) (is.each (k + 56) within ∙ ap (λ (n : ℕ). behind_bytes n bytes) count))
+        ∙ ap (λ (r : List ℕ). Ok (None, r)) (is.each (k + 56) within ∙ ap (λ (n : ℕ). after_bytes n bytes) count))

@@ -1,9 +1,13 @@
 -- A token that is looked up is the token that is defined.
-use Rattle.std.proofs.Common.{◌≡◌, ◌⊎◌, inl, inr, ℕ, zero, suc, ◌+◌, ◌-◌, ◌/◌, ◌%◌, ◌^◌, ◌==◌, ◌<◌, ◌≤◌, nat_lt, nat_le, Bool, true, false, cond, List, ◌++◌, length, take, drop, replicate, slice_index, ℤ, Option, Some, None, Result, Ok, Err, refl, sym, ap, ◌∙◌, arith, length-drop}
+use Rattle.std.proofs.Common.{◌≡◌, ◌⊎◌, inl, inr, ℕ, zero, suc, ◌+◌, ◌-◌, ◌/◌, ◌%◌, ◌^◌, ◌==◌, ◌<◌, ◌≤◌, nat_lt, nat_le}
+use Rattle.std.proofs.Common.{Bool, true, false, cond, List, ◌++◌, length, take, drop, replicate, slice_index, ℤ}
+use Rattle.std.proofs.Common.{Option, Some, None, Result, Ok, Err, refl, sym, ap, ◌∙◌, arith, length-drop}
 use Rattle.std.proofs.lemmas.Bool.{le-leb, lt-leb, lt-ltb, cases_lt, false≢true}
 use Rattle.jpeg_bits.specs.Reading.{Fault, ◌>>=◌ as ◌>>r=◌}
 use Rattle.jpeg_bits.specs.Entropy.{Text, Ending, Found, Broken, has_bits, bits_from, advance, number_of}
-use Rattle.jpeg_bits.specs.Codes.{Table, code_in, code_lengths, next_16, symbol_by, symbol_from, is_ac, short_token, behind_code, short_code_by, short_code_from, short_value, fast_from, if_held, code_by, code_from}
+use Rattle.jpeg_bits.specs.Codes.{Table, code_in, code_lengths, next_16, symbol_by, symbol_from, is_ac, short_token}
+use Rattle.jpeg_bits.specs.Codes.{after_code, short_code_by, short_code_from, short_value, fast_from, if_held, code_by}
+use Rattle.jpeg_bits.specs.Codes.{code_from}
 use Rattle.jpeg_bits.specs.Readers.{Reads, ◌>>=◌, gives, read_on, signed_from}
 use Rattle.jpeg_bits.specs.Bands.{token_at, token_from}
 use Rattle.jpeg_bits.specs.Lookups.{value_token, slow_token, fast_or, looked_up}
@@ -72,7 +76,7 @@ both-held n s bits (Broken f) h = go (cases_lt (length bits) n)
     go (inl few) = absurd (no f (sym (ap (λ b. cond b (Ok tt) (Err f)) (lt-leb (n + s) (length bits) (omega arith))) ∙ h))
     go (inr enough) = ap (λ b. cond b (Ok tt) (Err f)) (le-leb n (length bits) enough)
 
--- where n + s bits can't be taken, the n can't, or the s behind them
+-- where n + s bits can't be taken, the n can't, or the s after them
 not-held : (n s : ℕ) (bits : List Bool) (e : Ending) (f : Fault) → has_bits (n + s) bits e ≡ Err f
     → (has_bits n bits e ≡ Err f) ⊎ ((has_bits n bits e ≡ Ok tt) × (has_bits s (drop n bits) e ≡ Err f))
 not-held n s bits (Found m rest) f h = absurd (no f h)
@@ -149,7 +153,7 @@ module _ (table : Table) (room : ℕ) (ac : is_ac table.class ≡ true) (t : Tex
   at-slow c hs none a ha long =
       at-long room c.1 (slice_index table.symbols c.0) (advance c.1 t) a ha long (has_bits c.1 t.bits t.ending)
       ∙ ap (read_on (λ (c : ℕ). slow_token room (c / 16) (c % 16))) (sym hs)
-      ∙ sym (ap (λ k. by_look table room (behind_code c.1 t k)) none)
+      ∙ sym (ap (λ k. by_look table room (after_code c.1 t k)) none)
 
   at-code : (c : ℕ × ℕ) → symbol_from table t ≡ symbol_by table t (Some c) → (a b : Bool)
       → nat_lt 0 (slice_index table.symbols c.0 % 16) ≡ a → nat_le (c.1 + slice_index table.symbols c.0 % 16) 8 ≡ b
@@ -158,7 +162,7 @@ module _ (table : Table) (room : ℕ) (ac : is_ac table.class ≡ true) (t : Tex
       let symbol = slice_index table.symbols c.0 in
       let short : short_token table c ≡ Some (symbol / 16, symbol % 16) = rw (ac, ha, hb) refl in
       at-short table room c.1 symbol t ha hb (has_bits (c.1 + symbol % 16) t.bits t.ending) refl
-      ∙ sym (ap (λ k. by_look table room (behind_code c.1 t k)) short)
+      ∙ sym (ap (λ k. by_look table room (after_code c.1 t k)) short)
   at-code c hs true false ha hb = at-slow c hs (rw (ac, ha, hb) refl) true ha (λ e. hb)
   at-code c hs false b ha hb = at-slow c hs (rw (ac, ha) refl) false ha (λ e. absurd (false≢true e))
 

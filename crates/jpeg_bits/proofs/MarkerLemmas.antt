@@ -1,5 +1,7 @@
 -- The next marker is at the least index.
-use Rattle.std.proofs.Common.{◌≡◌, ◌⊎◌, inl, inr, ℕ, zero, suc, ◌+◌, ◌<◌, ◌≤◌, Bool, true, false, cond, eqb, List, [], ◌∷◌, length, drop, get_or, Option, Some, None, Ok, Err, is_ok, refl, sym, ap, subst, ◌∙◌, arith}
+use Rattle.std.proofs.Common.{◌≡◌, ◌⊎◌, inl, inr, ℕ, zero, suc, ◌+◌, ◌<◌, ◌≤◌, Bool, true, false, cond, eqb, List, []}
+use Rattle.std.proofs.Common.{◌∷◌, length, drop, get_or, Option, Some, None, Ok, Err, is_ok, refl, sym, ap, subst, ◌∙◌}
+use Rattle.std.proofs.Common.{arith}
 use Rattle.std.proofs.lemmas.Bool.{false≢true, cases_lt, eqb-true, eq-eqb}
 use Rattle.jpeg_bits.specs.Reading.{Outcome, Fault, End}
 use Rattle.jpeg_bits.specs.Marker.{marker_of, marker_at, found_or, next_marker}
@@ -18,7 +20,7 @@ marker_at-none a b h e = ap (λ (x : Bool). cond x (marker_of b) None) (sym (eq-
 
 -- a marker at the first byte
 here : (a b : ℕ) (rest : List ℕ) (m : Marker) → (x : Bool) → eqb a 255 ≡ x → cond x (marker_of b) None ≡ Some m → IsNextMarker (a ∷ b ∷ rest) 0 m rest
-here a b rest m true t e = record { within = omega arith; first = eqb-true a 255 t; second = e; behind = refl; least = λ j h. absurd (omega arith) }
+here a b rest m true t e = record { within = omega arith; first = eqb-true a 255 t; second = e; after = refl; least = λ j h. absurd (omega arith) }
 here a b rest m false t e = cc
 
 before : (a b : ℕ) (rest : List ℕ) → marker_at a b ≡ None → (n : ℕ) → ((j : ℕ) → j < n → IsNoMarker (b ∷ rest) j) → (j : ℕ) → j < suc n → IsNoMarker (a ∷ b ∷ rest) j
@@ -35,7 +37,7 @@ later a b rest others i m h k =
       within = omega (arith, k.within);
       first = k.first;
       second = ap (λ (x : ℕ). marker_of (get_or (a ∷ b ∷ rest) x 0)) e ∙ k.second;
-      behind = k.behind ∙ sym (ap (λ (x : ℕ). drop x (a ∷ b ∷ rest)) f);
+      after = k.after ∙ sym (ap (λ (x : ℕ). drop x (a ∷ b ∷ rest)) f);
       least = before a b rest h i k.least;
     }
 
@@ -66,7 +68,7 @@ marker-same bytes i j m n a b p q e =
     let y = q.second in
     let s : Some n ≡ Some m = sym y ∙ ap (λ (k : ℕ). marker_of (get_or bytes (k + 1) 0)) (sym e) ∙ x in
     let t : n ≡ m = cc in
-    let u : b ≡ a = q.behind ∙ ap (λ (k : ℕ). drop (k + 2) bytes) (sym e) ∙ sym p.behind in
+    let u : b ≡ a = q.after ∙ ap (λ (k : ℕ). drop (k + 2) bytes) (sym e) ∙ sym p.after in
     ap (λ (k : Marker). Ok (k, b)) t ∙ ap (λ (k : List ℕ). Ok (m, k)) u
 
 found-by : (bytes : List ℕ) (o : Outcome Marker) (i : ℕ) (m : Marker) (rest : List ℕ) → IsNextMarker bytes i m rest → Finds bytes o → o ≡ Ok (m, rest)

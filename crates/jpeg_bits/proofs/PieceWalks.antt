@@ -1,7 +1,10 @@
 -- A piece of a refinement, as it is walked.
-use Rattle.std.proofs.Common.{◌≡◌, ℕ, zero, suc, ◌+◌, ◌-◌, ◌*◌, ◌<◌, ◌≤◌, Bool, true, false, List, [], ◌∷◌, ◌++◌, length, take, drop, set, get_or, ℤ, pos, negsuc, Result, Ok, Err, refl, sym, ap, ◌∙◌, subst, arith, append_assoc, length-drop, length-set}
-use Rattle.std.proofs.lemmas.List.{drop-drop, drop_all, drop_more, drop-set, take_all, append-nil, take-append-drop, take_more_set, drop-set-lt, set-get_or}
-use Rattle.jpeg_bits.specs.Reading.{Fault, Malformed, ◌>>=◌}
+use Rattle.std.proofs.Common.{◌≡◌, ℕ, zero, suc, ◌+◌, ◌-◌, ◌<◌, ◌≤◌, Bool, true, false, List, [], ◌∷◌, ◌++◌, length}
+use Rattle.std.proofs.Common.{take, drop, set, get_or, ℤ, pos, negsuc, Result, Ok, Err, refl, sym, ap, ◌∙◌, arith}
+use Rattle.std.proofs.Common.{append_assoc}
+use Rattle.std.proofs.lemmas.List.{drop_all, drop_more, take_all, append-nil, take-append-drop, take_more_set}
+use Rattle.std.proofs.lemmas.List.{drop-set-lt, set-get_or}
+use Rattle.jpeg_bits.specs.Reading.{Fault, ◌>>=◌}
 use Rattle.jpeg_bits.specs.Entropy.{Text}
 use Rattle.jpeg_bits.specs.Refinement.{is_zero, through_zero}
 use Rattle.jpeg_bits.specs.Pieces.{place_from, corrected, piece_from}
@@ -76,15 +79,15 @@ piece_walk al (suc r) (z ∷ places) t =
     by_bool (is_zero z) (λ e. rw (e, through_zero, walk_from) (walk_over al (through_zero r places) z places t (walk_from al r places t) e (piece_walk al r places t)))
     (λ e. rw (e, through_zero, walk_from) (walk_value_at al (through_zero (suc r) places) z places t (walk_from al (suc r) places) (λ t. piece_walk al (suc r) places t)))
 
-abbrev pub behind : ℕ → List ℤ → (ℕ × List ℤ) × Text → Walk
-behind i front w = Ok ((i + w.0.0, front ++ w.0.1), w.1)
+abbrev pub after : ℕ → List ℤ → (ℕ × List ℤ) × Text → Walk
+after i front w = Ok ((i + w.0.0, front ++ w.0.1), w.1)
 
--- what the places from i on give, behind those before them
+-- what the places from i on give, after those before them
 unfoldable pub walk_left : ℕ → ℕ → List ℤ → ℕ → Text → Walk
-walk_left al r cur i t = walk_from al r (drop i cur) t >>= λ w. behind i (take i cur) w
+walk_left al r cur i t = walk_from al r (drop i cur) t >>= λ w. after i (take i cur) w
 
 abbrev pub at_zero : Walk → Walk
-at_zero w = w >>= λ w. behind 0 [] w
+at_zero w = w >>= λ w. after 0 [] w
 
 pub walk_all : (al r : ℕ) (rest : List ℤ) (t : Text) → walk_left al r rest 0 t ≡ piece_from al r rest t
 unfolding walk_left piece_from piece_of
@@ -98,10 +101,10 @@ pub walk_none : (al r : ℕ) (cur : List ℤ) (i : ℕ) (t : Text) → length cu
 unfolding walk_left walk_from
 walk_none al r cur i t h =
     let n : i + 0 ≡ i = omega arith in
-    ap (λ (ys : List ℤ). walk_from al r ys t >>= λ w. behind i (take i cur) w) (drop_all i cur h)
+    ap (λ (ys : List ℤ). walk_from al r ys t >>= λ w. after i (take i cur) w) (drop_all i cur h)
     ∙ ap (λ (ys : List ℤ). Ok ((i + 0, ys), t)) (append-nil (take i cur) ∙ take_all i cur h) ∙ ap (λ n. Ok ((n, cur), t)) n
 
-more_left : (i : ℕ) (front : List ℤ) (z : ℤ) (w : Walk) → (one_more z w >>= λ w. behind i front w) ≡ (w >>= λ w. behind (i + 1) (front ++ z ∷ []) w)
+more_left : (i : ℕ) (front : List ℤ) (z : ℤ) (w : Walk) → (one_more z w >>= λ w. after i front w) ≡ (w >>= λ w. after (i + 1) (front ++ z ∷ []) w)
 more_left i front z (Ok x) =
     let n : i + suc x.0.0 ≡ i + 1 + x.0.0 = omega arith in
     ap (λ n. Ok ((n, front ++ z ∷ x.0.1), x.1)) n ∙ ap (λ (ys : List ℤ). Ok ((i + 1 + x.0.0, ys), x.1)) (sym (append_assoc front (z ∷ []) x.0.1))
@@ -118,7 +121,7 @@ through_here cur i z h e =
 pub walk_stop : (al r : ℕ) (cur : List ℤ) (i : ℕ) (t : Text) → i < length cur → get_or cur i (pos 0) ≡ pos 0 → r ≡ 0 → walk_left al r cur i t ≡ Ok ((i + 1, cur), t)
 unfolding walk_left walk_from
 walk_stop al r cur i t h e z =
-    rw z (ap (λ (ys : List ℤ). walk_from al 0 ys t >>= λ w. behind i (take i cur) w) (from_here cur i (pos 0) h e)
+    rw z (ap (λ (ys : List ℤ). walk_from al 0 ys t >>= λ w. after i (take i cur) w) (from_here cur i (pos 0) h e)
     ∙ ap (λ (ys : List ℤ). Ok ((i + 1, take i cur ++ ys), t)) (sym (from_here cur i (pos 0) h e)) ∙ ap (λ (ys : List ℤ). Ok ((i + 1, ys), t)) (take-append-drop i cur))
 
 -- a zero before it
@@ -127,10 +130,10 @@ unfolding walk_left walk_from
 walk_skip al zero cur i t h e k = absurd (omega arith)
 walk_skip al (suc r) cur i t h e k =
     let n : suc r - 1 ≡ r = omega arith in
-    ap (λ (ys : List ℤ). walk_from al (suc r) ys t >>= λ w. behind i (take i cur) w) (from_here cur i (pos 0) h e)
+    ap (λ (ys : List ℤ). walk_from al (suc r) ys t >>= λ w. after i (take i cur) w) (from_here cur i (pos 0) h e)
     ∙ more_left i (take i cur) (pos 0) (walk_from al r (drop (i + 1) cur) t)
-    ∙ ap (λ (ys : List ℤ). walk_from al r (drop (i + 1) cur) t >>= λ w. behind (i + 1) ys w) (through_here cur i (pos 0) h e)
-    ∙ ap (λ m. walk_from al m (drop (i + 1) cur) t >>= λ w. behind (i + 1) (take (i + 1) cur) w) (sym n)
+    ∙ ap (λ (ys : List ℤ). walk_from al r (drop (i + 1) cur) t >>= λ w. after (i + 1) ys w) (through_here cur i (pos 0) h e)
+    ∙ ap (λ m. walk_from al m (drop (i + 1) cur) t >>= λ w. after (i + 1) (take (i + 1) cur) w) (sym n)
 
 walk_nonzero : (al r : ℕ) (z : ℤ) (rest : List ℤ) (t : Text) → is_zero z ≡ false → walk_from al r (z ∷ rest) t ≡ (place_from al z t >>= λ (f : ℤ × Text). one_more f.0 (walk_from al r rest f.1))
 unfolding walk_from
@@ -142,7 +145,7 @@ not_zero (pos zero) h = absurd (h refl)
 not_zero (pos (suc n)) h = refl
 not_zero (negsuc n) h = refl
 
-bind_bind : (o : Result (ℤ × Text) Fault) (f : ℤ × Text → Walk) (i : ℕ) (front : List ℤ) → ((o >>= f) >>= λ w. behind i front w) ≡ (o >>= λ (x : ℤ × Text). (f x >>= λ w. behind i front w))
+bind_bind : (o : Result (ℤ × Text) Fault) (f : ℤ × Text → Walk) (i : ℕ) (front : List ℤ) → ((o >>= f) >>= λ w. after i front w) ≡ (o >>= λ (x : ℤ × Text). (f x >>= λ w. after i front w))
 bind_bind (Ok x) f i front = refl
 bind_bind (Err e) f i front = refl
 
@@ -152,13 +155,13 @@ pub walk_value : (al r : ℕ) (cur : List ℤ) (i : ℕ) (t : Text) → i < leng
 unfolding walk_left
 walk_value al r cur i t h e =
     let z = get_or cur i (pos 0) in
-    ap (λ (ys : List ℤ). walk_from al r ys t >>= λ w. behind i (take i cur) w) (from_here cur i z h refl)
-    ∙ ap (λ o. o >>= λ w. behind i (take i cur) w) (walk_nonzero al r z (drop (i + 1) cur) t (not_zero z e))
+    ap (λ (ys : List ℤ). walk_from al r ys t >>= λ w. after i (take i cur) w) (from_here cur i z h refl)
+    ∙ ap (λ o. o >>= λ w. after i (take i cur) w) (walk_nonzero al r z (drop (i + 1) cur) t (not_zero z e))
     ∙ bind_bind (place_from al z t) (λ (f : ℤ × Text). one_more f.0 (walk_from al r (drop (i + 1) cur) f.1)) i (take i cur)
     ∙ bind_same (place_from al z t) _ _ (λ f.
     more_left i (take i cur) f.0 (walk_from al r (drop (i + 1) cur) f.1)
-    ∙ ap (λ (ys : List ℤ). walk_from al r (drop (i + 1) cur) f.1 >>= λ w. behind (i + 1) ys w) (sym (take_more_set cur i f.0 h))
-    ∙ ap (λ (ys : List ℤ). walk_from al r ys f.1 >>= λ w. behind (i + 1) (take (i + 1) (set cur i f.0)) w) (sym (drop-set-lt (i + 1) cur i f.0 (omega arith))))
+    ∙ ap (λ (ys : List ℤ). walk_from al r (drop (i + 1) cur) f.1 >>= λ w. after (i + 1) ys w) (sym (take_more_set cur i f.0 h))
+    ∙ ap (λ (ys : List ℤ). walk_from al r ys f.1 >>= λ w. after (i + 1) (take (i + 1) (set cur i f.0)) w) (sym (drop-set-lt (i + 1) cur i f.0 (omega arith))))
 
 -- a step at a place that isn't zero, which is read as y
 pub value_step : (al r : ℕ) (cur : List ℤ) (i : ℕ) (x y z : ℤ) (t u : Text) → i < length cur → (get_or cur i (pos 0) ≡ pos 0 → ⊥) → x ≡ get_or cur i (pos 0) → y ≡ z

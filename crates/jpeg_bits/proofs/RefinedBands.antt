@@ -1,9 +1,11 @@
--- Bands of a refinement: what is left behind some places.
-use Rattle.std.proofs.Common.{is_ok, ◌≡◌, ℕ, zero, suc, ◌+◌, ◌-◌, ◌*◌, ◌<◌, ◌≤◌, Bool, true, false, List, [], ◌∷◌, ◌++◌, length, take, drop, set, ℤ, Result, Ok, Err, refl, sym, ap, ◌∙◌, subst, arith, append_assoc, length-drop, length-set, length-take, length-append, le_refl}
-use Rattle.std.proofs.Math.Seq.{take-add}
-use Rattle.std.proofs.lemmas.List.{drop-drop, drop_all, take_all, append-nil, take-append-drop, take-append-le, drop-append-le, length-take-le, set-append_left, take_rest}
+-- Bands of a refinement: what is left after some places.
+use Rattle.std.proofs.Common.{is_ok, ◌≡◌, ℕ, zero, suc, ◌+◌, ◌-◌, ◌<◌, ◌≤◌, List, [], ◌∷◌, ◌++◌, length, take, drop}
+use Rattle.std.proofs.Common.{set, ℤ, Result, Ok, Err, refl, sym, ap, ◌∙◌, arith, append_assoc, length-drop}
+use Rattle.std.proofs.Common.{length-take, length-append, le_refl}
+use Rattle.std.proofs.lemmas.List.{drop_all, take_all, append-nil, take-append-le, drop-append-le, length-take-le}
+use Rattle.std.proofs.lemmas.List.{set-append_left, take_rest}
 use Rattle.std.proofs.lemmas.Bool.{false≢true}
-use Rattle.jpeg_bits.specs.Reading.{Fault, Malformed, ◌>>=◌}
+use Rattle.jpeg_bits.specs.Reading.{Fault, ◌>>=◌}
 use Rattle.jpeg_bits.specs.Entropy.{Text}
 use Rattle.jpeg_bits.specs.Codes.{Table}
 use Rattle.jpeg_bits.specs.declared.refinement.Refinement.{Refinement}
@@ -11,7 +13,8 @@ use Rattle.jpeg_bits.specs.declared.refinement.Refinement.TheVariants.{Zeros, Ne
 use Rattle.jpeg_bits.specs.Bands.{Band}
 use Rattle.jpeg_bits.specs.Pieces.{ReadsBand, before}
 use Rattle.jpeg_bits.specs.Refinement.{is_zero, through_zero, with_last}
-use Rattle.jpeg_bits.specs.Pieces.{place_from, corrected, refinement_from, refined_piece, refined_ac, refined_band_from, piece_from}
+use Rattle.jpeg_bits.specs.Pieces.{place_from, corrected, refinement_from, refined_piece, refined_ac, refined_band_from}
+use Rattle.jpeg_bits.specs.Pieces.{piece_from}
 use Rattle.jpeg_bits.proofs.BandSteps.{bind_same, before-before}
 use Rattle.jpeg_bits.proofs.PieceWalks.{by_bool, Walk}
 
@@ -62,7 +65,7 @@ band-step table al (x ∷ rest) t h =
     let d = length-drop j (x ∷ rest) in
     refined-fuel table al (length rest) (length (drop j (x ∷ rest))) (drop j (x ∷ rest)) t (omega arith) (le_refl _)))
 
--- what the places from i on give, behind those before them
+-- what the places from i on give, after those before them
 unfoldable pub refined_left : Table → ℕ → List ℤ → ℕ → Text → Result (Band × Text) Fault
 refined_left table al band i t = before (take i band) (refined_band_from table al (drop i band) t)
 
@@ -140,7 +143,7 @@ corrected_refused al r rest t f h = by_result (corrected al (take (through_zero 
     by_result (Ok x) e = absurd (false≢true (ap is_ok (sym e)))
     by_result (Err g) e = ap (λ (w : Walk). fault_of g w) e
 
--- the zeros that a token asks for, in the rest of a band of so many places
+-- the zeros that a token asks for, in the rest of a band of this many places
 abbrev pub zeros_of : ℕ → Refinement → ℕ
 zeros_of all Zeros = 15
 zeros_of all (New r v) = r

@@ -1,14 +1,16 @@
 -- A refinement of a band by its tokens is the one of the definition.
-use Rattle.std.proofs.Common.{◌≡◌, ℕ, zero, suc, ◌+◌, ◌-◌, ◌/◌, ◌%◌, ◌^◌, ◌==◌, if◌then◌else◌, Bool, true, false, List, [], ◌∷◌, ◌++◌, length, take, drop, ℤ, pos, neg_ℤ, Result, Ok, Err, refl, sym, ap, ◌∙◌, arith}
+use Rattle.std.proofs.Common.{◌≡◌, ℕ, zero, suc, ◌+◌, ◌-◌, ◌/◌, ◌%◌, ◌^◌, ◌==◌, if◌then◌else◌, Bool, true, false, List}
+use Rattle.std.proofs.Common.{[], ◌∷◌, take, drop, ℤ, Result, Ok, Err, refl, ap, ◌∙◌, arith}
 use Rattle.std.proofs.lemmas.Bool.{ne_eqb}
 use Rattle.jpeg_bits.specs.Reading.{Fault, Malformed, ◌>>=◌}
 use Rattle.jpeg_bits.specs.Entropy.{Text, bits_from}
 use Rattle.jpeg_bits.specs.Codes.{Table, symbol_from}
 use Rattle.jpeg_bits.specs.Readers.{Reads, read_on, gives, refused}
 use Rattle.jpeg_bits.specs.Bands.{Band, before_more}
-use Rattle.jpeg_bits.specs.Refinement.{is_zero, bit_of, moved, fits_i16, corrected_by, through_zero, with_last, new_number}
+use Rattle.jpeg_bits.specs.Refinement.{is_zero, bit_of, moved, fits_i16, corrected_by, through_zero, with_last}
+use Rattle.jpeg_bits.specs.Refinement.{new_number}
 use Rattle.jpeg_bits.specs.Refinement as defined
-use Rattle.jpeg_bits.specs.Pieces.{before, run_from, place_from, corrected, refinement_from, refined_piece, refined_ac, refined_band_from}
+use Rattle.jpeg_bits.specs.Pieces.{before, run_from, place_from, corrected, refinement_from, refined_piece, refined_ac}
 use Rattle.jpeg_bits.specs.declared.refinement.Refinement.{Refinement}
 use Rattle.jpeg_bits.specs.declared.refinement.Refinement.TheVariants.{Zeros, New, End}
 

@@ -1,13 +1,16 @@
 -- Bits in a word of 64.
-use Rattle.std.proofs.Common.{◌≡◌, ℕ, zero, suc, ◌+◌, ◌-◌, ◌*◌, ◌/◌, ◌%◌, ◌^◌, ◌<◌, ◌≤◌, Bool, false, List, [], ◌∷◌, ◌++◌, length, take, drop, replicate, refl, sym, ap, ◌∙◌, arith, pow-suc, pow-add, pow_pos, add-zero, mul_assoc, inl, inr}
-use Rattle.std.proofs.Math.Nat.{mul-add-div_right, div-div-eq-div-mul, mod-lt, mul-mod_left, zero-div, div-lt_iff_lt-mul, mul-le-mul_right, zero-mod, add-mul, one-mul}
+use Rattle.std.proofs.Common.{◌≡◌, ℕ, zero, suc, ◌+◌, ◌-◌, ◌*◌, ◌/◌, ◌%◌, ◌^◌, ◌<◌, ◌≤◌, Bool, false, List, [], ◌∷◌}
+use Rattle.std.proofs.Common.{◌++◌, length, take, drop, replicate, refl, sym, ap, ◌∙◌, arith, pow-suc, pow-add, pow_pos}
+use Rattle.std.proofs.Common.{add-zero, mul_assoc, inl, inr}
+use Rattle.std.proofs.Math.Nat.{mul-add-div_right, div-div-eq-div-mul, mod-lt, mul-mod_left, zero-div}
+use Rattle.std.proofs.Math.Nat.{div-lt_iff_lt-mul, mul-le-mul_right, zero-mod, add-mul, one-mul}
 use Rattle.std.proofs.lemmas.Nat.{div-mul-add, div-add-mod', mod-pow-add, shl-shr}
 use Rattle.std.proofs.lemmas.List.{take-replicate, take-append-le, drop_at, drop_all, take_all}
 use Rattle.std.proofs.Math.Pow.{shl_exact}
 use Rattle.std.proofs.lemmas.Bool.{cases_lt}
 use Rattle.jpeg_bits.specs.Written.{bit, low_bits}
 use Rattle.jpeg_bits.specs.Entropy.{bits_of, number_of}
-use Rattle.jpeg_bits.specs.Reservoir.{bits_held, HasZerosBehind}
+use Rattle.jpeg_bits.specs.Reservoir.{bits_held, HasZerosAfter}
 use Rattle.jpeg_bits.proofs.WrittenBits.{number_of-low_bits, length-low_bits}
 
 -- bits above the low ones do not count
@@ -62,7 +65,7 @@ same_zeros (x ∷ xs) zero n k h g = refl
 same_zeros (x ∷ xs) (suc m) n k h g = ap (λ (l : List Bool). x ∷ l) (same_zeros xs m n k (omega arith) (omega arith))
 
 -- the whole word
-pub whole_word : (word count : ℕ) → count ≤ 64 → HasZerosBehind word count → low_bits 64 word ≡ bits_held word count ++ replicate (64 - count) false
+pub whole_word : (word count : ℕ) → count ≤ 64 → HasZerosAfter word count → low_bits 64 word ≡ bits_held word count ++ replicate (64 - count) false
 whole_word word count h z =
     let e : 64 ≡ count + (64 - count) = omega arith in
     let k = 64 - count in
@@ -70,8 +73,8 @@ whole_word word count h z =
     ∙ ap (λ (y : ℕ). bits_held word count ++ low_bits k y) z
     ∙ ap (λ (l : List Bool). bits_held word count ++ l) (low_bits-zeros k)
 
--- the first n bits, with zeros behind them
-pub front_bits : (word count n : ℕ) → count ≤ 64 → n ≤ 64 → HasZerosBehind word count → take n (bits_held word count ++ replicate n false) ≡ low_bits n (word / 2 ^ (64 - n))
+-- the first n bits, with zeros after them
+pub front_bits : (word count n : ℕ) → count ≤ 64 → n ≤ 64 → HasZerosAfter word count → take n (bits_held word count ++ replicate n false) ≡ low_bits n (word / 2 ^ (64 - n))
 front_bits word count n h g z =
     let l = length-low_bits count (word / 2 ^ (64 - count)) in
     let e : 64 ≡ n + (64 - n) = omega arith in
@@ -84,22 +87,22 @@ front_small word n m h =
     let p = pow-add 2 n m in
     (div-lt_iff_lt-mul (pow_pos m)).1 (omega (arith, p))
 
-pub front_number : (word count n : ℕ) → word < 2 ^ 64 → count ≤ 64 → n ≤ 64 → HasZerosBehind word count → word / 2 ^ (64 - n) ≡ number_of (take n (bits_held word count ++ replicate n false))
+pub front_number : (word count n : ℕ) → word < 2 ^ 64 → count ≤ 64 → n ≤ 64 → HasZerosAfter word count → word / 2 ^ (64 - n) ≡ number_of (take n (bits_held word count ++ replicate n false))
 front_number word count n w h g z =
     let e : 64 ≡ n + (64 - n) = omega arith in
     let p : 2 ^ 64 ≡ 2 ^ (n + (64 - n)) = ap (λ (k : ℕ). 2 ^ k) e in
     sym (ap number_of (front_bits word count n h g z) ∙ number_of-low_bits n (word / 2 ^ (64 - n)) (front_small word n (64 - n) (omega (arith, p))))
 
 -- the word by the bits of it
-by_bits : (word count : ℕ) → HasZerosBehind word count → word ≡ word / 2 ^ (64 - count) * 2 ^ (64 - count)
+by_bits : (word count : ℕ) → HasZerosAfter word count → word ≡ word / 2 ^ (64 - count) * 2 ^ (64 - count)
 by_bits word count z = sym (div-add-mod' word (2 ^ (64 - count))) ∙ omega (arith, z)
 
 byte_bits : (b : ℕ) → low_bits 8 b ≡ bits_of b
 unfolding low_bits
 byte_bits b = let e : b / 1 ≡ b = omega arith in ap (λ (v : ℕ). bit (b / 128 % 2) ∷ bit (b / 64 % 2) ∷ bit (b / 32 % 2) ∷ bit (b / 16 % 2) ∷ bit (b / 8 % 2) ∷ bit (b / 4 % 2) ∷ bit (b / 2 % 2) ∷ bit (v % 2) ∷ []) e
 
--- a byte behind the bits
-module _ (word count byte : ℕ) (few : count ≤ 56) (z : HasZerosBehind word count) where
+-- a byte after the bits
+module _ (word count byte : ℕ) (few : count ≤ 56) (z : HasZerosAfter word count) where
   with_byte : word + byte * 2 ^ (56 - count) ≡ (word / 2 ^ (64 - count) * 256 + byte) * 2 ^ (56 - count)
   with_byte =
       let k = 56 - count in
@@ -111,7 +114,7 @@ module _ (word count byte : ℕ) (few : count ≤ 56) (z : HasZerosBehind word c
       let d = add-mul (q * 256) byte (2 ^ k) in
       omega (arith, w, a, d)
 
-  pub byte_zeros : HasZerosBehind (word + byte * 2 ^ (56 - count)) (count + 8)
+  pub byte_zeros : HasZerosAfter (word + byte * 2 ^ (56 - count)) (count + 8)
   byte_zeros =
       let k = 56 - count in
       let e : 64 - (count + 8) ≡ k = omega arith in
@@ -146,7 +149,7 @@ module _ (word count byte : ℕ) (few : count ≤ 56) (z : HasZerosBehind word c
       omega (arith, m, d, o, t, pos, with_byte)
 
 -- the first n bits taken away
-module _ (word count n : ℕ) (few : count ≤ 64) (z : HasZerosBehind word count) where
+module _ (word count n : ℕ) (few : count ≤ 64) (z : HasZerosAfter word count) where
   moved : word * 2 ^ n ≡ word / 2 ^ (64 - count) * 2 ^ (64 - count + n)
   moved =
       let k = 64 - count in
@@ -166,7 +169,7 @@ module _ (word count n : ℕ) (few : count ≤ 64) (z : HasZerosBehind word coun
       ∙ add-zero (q % 2 ^ m * 2 ^ k)
       ∙ ap (λ (j : ℕ). q % 2 ^ m * 2 ^ j) f
 
-  pub rest_zeros : n ≤ 64 → HasZerosBehind (word * 2 ^ n % 2 ^ 64) (count - n)
+  pub rest_zeros : n ≤ 64 → HasZerosAfter (word * 2 ^ n % 2 ^ 64) (count - n)
   rest_zeros top =
       elim (cases_lt count n) [
         | inr le ↦ ap (λ (v : ℕ). v % 2 ^ (64 - (count - n))) (shifted le) ∙ mul-mod_left _ (2 ^ (64 - (count - n)))

@@ -4,7 +4,8 @@ use Rattle.std.proofs.lemmas.Bool.{eqb-true, cases_lt}
 use Rattle.std.proofs.lemmas.Int.{int_wrap_fits, ints}
 use Rattle.std.specs.Int.{int_wrap}
 use Rattle.jpeg_bits.specs.Passes.{or_bit}
-use Rattle.std.proofs.Common.{◌⊎◌, inl, inr, Bool, true, false, ◌==◌, ◌+ℤ◌, sym, ◌≡◌, ℕ, zero, suc, ◌+◌, ◌-◌, ◌*◌, ◌/◌, ◌%◌, ◌^◌, ◌<◌, ◌≤◌, ℤ, pos, negsuc, refl, ap, ◌∙◌, arith, w16, FitsSigned}
+use Rattle.std.proofs.Common.{◌⊎◌, inl, inr, Bool, true, false, ◌==◌, ◌+ℤ◌, sym, ◌≡◌, ℕ, zero, suc, ◌+◌, ◌-◌, ◌*◌, ◌/◌}
+use Rattle.std.proofs.Common.{◌%◌, ◌^◌, ◌<◌, ◌≤◌, ℤ, pos, negsuc, refl, ap, ◌∙◌, arith, w16, FitsSigned}
 use Rattle.std.specs.Int.{cast_unsigned}
 use Rattle.jpeg_bits.specs.Refinement.{bit_of}
 
@@ -48,8 +49,8 @@ or_none al z b e = rw e (go (bit_of al z == 0))
 pub or_kept : (al : ℕ) (z : ℤ) (b : ℕ) → (bit_of al z == 0) ≡ false → or_bit al z b ≡ z
 or_kept al z b e = ap (λ (t : Bool). elim t as (λ _. ℤ) [ true ↦ z +ℤ pos (b * 2 ^ al) | false ↦ z ]) e
 
-behind : (n k : ℕ) → n < 32768 → k < 32768 → FitsSigned w16 (negsuc n +ℤ pos k)
-behind n k h i = go (cases_lt n k)
+after : (n k : ℕ) → n < 32768 → k < 32768 → FitsSigned w16 (negsuc n +ℤ pos k)
+after n k h i = go (cases_lt n k)
   where
     go : (n < k) ⊎ (k ≤ n) → FitsSigned w16 (negsuc n +ℤ pos k)
     go (inl l) = let e : negsuc n +ℤ pos k ≡ pos (k - suc n) = omega (arith, ints) in rw e record { sfits = omega arith }
@@ -57,7 +58,7 @@ behind n k h i = go (cases_lt n k)
 
 set-fits : (al : ℕ) (z : ℤ) → al ≤ 13 → FitsSigned w16 z → bit_of al z ≡ 0 → FitsSigned w16 (z +ℤ pos (2 ^ al))
 set-fits al (pos n) h f e = let s = f.sfits in let m = set-below n (omega arith) al h e in record { sfits = m }
-set-fits al (negsuc n) h f e = let s = f.sfits in let m : 2 ^ al ≤ 2 ^ 13 = pow_mono h in behind n (2 ^ al) (omega arith) (omega arith)
+set-fits al (negsuc n) h f e = let s = f.sfits in let m : 2 ^ al ≤ 2 ^ 13 = pow_mono h in after n (2 ^ al) (omega arith) (omega arith)
 
 pub or_set : (al : ℕ) (z : ℤ) (b : ℕ) → al ≤ 13 → FitsSigned w16 z → (bit_of al z == 0) ≡ true → b ≡ 1 → int_wrap w16 (z +ℤ pos (2 ^ al)) ≡ or_bit al z b
 or_set al z b h f t e =

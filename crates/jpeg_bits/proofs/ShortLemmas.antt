@@ -1,22 +1,30 @@
 -- Codes and values of at most 8 bits.
-use Rattle.std.proofs.Common.{◌≡◌, ◌≢◌, length-set, set, below_more, get_or-set_other, get_or-set_same, ℕ, ℤ, zero, suc, ◌+◌, ◌-◌, ◌*◌, ◌/◌, ◌%◌, ◌^◌, ◌<◌, ◌≤◌, Bool, true, false, cond, eqb, leb, ltb, ◌&&◌, List, [], ◌∷◌, ◌++◌, length, take, drop, get_or, replicate, Option, Some, None, Result, Ok, Err, refl, sym, ap, ◌∙◌, subst, arith, inl, inr, length-append, length-take, length-drop, IfSome, is_ok, is_some}
+use Rattle.std.proofs.Common.{◌≡◌, ◌≢◌, length-set, set, below_more, get_or-set_other, get_or-set_same, ℕ, ℤ, zero, suc}
+use Rattle.std.proofs.Common.{◌+◌, ◌-◌, ◌*◌, ◌/◌, ◌%◌, ◌^◌, ◌<◌, ◌≤◌, Bool, true, false, cond, eqb, leb, ltb, ◌&&◌}
+use Rattle.std.proofs.Common.{List, [], ◌∷◌, ◌++◌, length, take, drop, get_or, replicate, Option, Some, None, Result}
+use Rattle.std.proofs.Common.{Ok, Err, refl, sym, ap, ◌∙◌, subst, arith, inl, inr, length-append, length-take}
+use Rattle.std.proofs.Common.{length-drop, IfSome, is_ok, is_some}
 use Rattle.std.specs.Option.{option_map}
 use Rattle.std.proofs.Math.Seq.{drop-nil}
-use Rattle.std.proofs.lemmas.List.{take-take, take-append-le, take_all, take-replicate, drop-replicate, drop-take, drop-drop, length-replicate}
+use Rattle.std.proofs.lemmas.List.{take-take, take-append-le, take_all, take-replicate, drop-replicate, drop-take}
+use Rattle.std.proofs.lemmas.List.{drop-drop, length-replicate}
 use Rattle.std.proofs.lemmas.Bool.{cases_lt, false≢true}
 use Rattle.std.proofs.lemmas.Bool.Decides.{nat_tests}
 use Rattle.jpeg_bits.specs.Reading.{Fault, ◌>>=◌}
 use Rattle.jpeg_bits.specs.Entropy.{Text, number_of, extended, upcoming_by, has_held, advance, IsFilled, text_at}
 use Rattle.jpeg_bits.specs.Readers.{read_on, gives, signed_from}
 use Rattle.jpeg_bits.specs.Written.{low_bits}
-use Rattle.jpeg_bits.specs.Codes.{Table, code_in, code_lengths, code_value, begins, first_from, next_16, is_ac, short_token, behind_code, short_code_by, short_code_from, short_value, fast_from}
-use Rattle.jpeg_bits.specs.ShortCodes.{named, symbol_in, short_only, short_code, short_value_by, short_value_of, next_8, HoldsCodes}
+use Rattle.jpeg_bits.specs.Codes.{Table, code_in, code_lengths, code_value, begins, first_from, next_16, is_ac}
+use Rattle.jpeg_bits.specs.Codes.{short_token, after_code, short_code_by, short_code_from, short_value, fast_from}
+use Rattle.jpeg_bits.specs.ShortCodes.{named, symbol_in, short_only, short_code, short_value_by, short_value_of, next_8}
+use Rattle.jpeg_bits.specs.ShortCodes.{HoldsCodes}
 use Rattle.jpeg_bits.specs.declared.ahead.DataEnd.{DataEnd}
 use Rattle.jpeg_bits.specs.declared.ahead.DataEnd.TheVariants as ends
 use Rattle.std.proofs.Math.Nat.{mod-lt}
 use Rattle.std.proofs.Common.{pow_pos}
 use Rattle.jpeg_bits.proofs.WrittenBits.{length-low_bits, number_of-low_bits}
-use Rattle.jpeg_bits.proofs.Reservoirs.{low_bits-append, low_bits-zeros, low_bits-take, low_bits-drop, same_zeros, front_small}
+use Rattle.jpeg_bits.proofs.Reservoirs.{low_bits-append, low_bits-zeros, low_bits-take, low_bits-drop, same_zeros}
+use Rattle.jpeg_bits.proofs.Reservoirs.{front_small}
 use Rattle.jpeg_bits.proofs.Tables.{IsRising, ordered, all-rising}
 use Rattle.jpeg_bits.proofs.Held.{has_bits-held, advance-held, bits_from-held, filled-less}
 
@@ -73,7 +81,7 @@ length_set xs i v n h = length-set xs i v ∙ h
 
 -- ---- codes by their first 8 bits
 
--- a byte's bits with zeros behind them
+-- a byte's bits with zeros after them
 pub byte_padded : (b : ℕ) → low_bits 16 (b * 256) ≡ low_bits 8 b ++ replicate 8 false
 byte_padded b =
     let e : b * 256 ≡ b * 2 ^ 8 + 0 = omega arith in
@@ -137,7 +145,7 @@ short_code-only table t (Some c) = go (leb c.1 8) refl
   where
     go : (b : Bool) → leb c.1 8 ≡ b → short_code_by table t (Some c) ≡ short_code_by table t (short_only (Some c))
     go true e = rw e refl
-    go false e = let n : short_token table c ≡ None = long-token table c e in rw e (ap (behind_code c.1 t) n)
+    go false e = let n : short_token table c ≡ None = long-token table c e in rw e (ap (after_code c.1 t) n)
 
 -- whether the rest of some bits can be taken
 rest-held : (l n : ℕ) (bits : List Bool) (met : Option DataEnd) → l + n ≤ length bits → has_held n (drop l bits) met ≡ Ok tt
@@ -160,14 +168,14 @@ both-held l n bits (Some ends.Ended) h = go (leb (l + n) (length bits)) refl
     go true e = let w : l + n ≤ length bits = grind (arith, nat_tests) in rest-held l n bits (Some ends.Ended) w
     go false e = absurd (false≢true (ap is_ok (rw e at h)))
 
-zeros-behind : (bits : List Bool) (l n k : ℕ) → l + n ≤ k → take n (drop l (bits ++ replicate k false)) ≡ take n (drop l bits ++ replicate n false)
-zeros-behind [] l n k h =
+zeros-after : (bits : List Bool) (l n k : ℕ) → l + n ≤ k → take n (drop l (bits ++ replicate k false)) ≡ take n (drop l bits ++ replicate n false)
+zeros-after [] l n k h =
     ap (take n) (drop-replicate l k false) ∙ take-replicate n (k - l) false (omega arith)
     ∙ sym (ap (λ (ys : List Bool). take n (ys ++ replicate n false)) (drop-nil l) ∙ take-replicate n n false (omega arith))
-zeros-behind (x ∷ xs) zero n k h = same_zeros (x ∷ xs) n k n (omega arith) (omega arith)
-zeros-behind (x ∷ xs) (suc l) n k h = zeros-behind xs l n k (omega arith)
+zeros-after (x ∷ xs) zero n k h = same_zeros (x ∷ xs) n k n (omega arith) (omega arith)
+zeros-after (x ∷ xs) (suc l) n k h = zeros-after xs l n k (omega arith)
 
--- the bits of a value behind its code, of the first 8
+-- the bits of a value after its code, of the first 8
 value-bits : (bits : List Bool) (l n : ℕ) → l + n ≤ 8 → take n (drop l (next_8 bits)) ≡ take n (drop l bits ++ replicate n false)
 value-bits bits l n h =
     let z = bits ++ replicate 8 false in
@@ -175,7 +183,7 @@ value-bits bits l n h =
     ap (λ (k : ℕ). take n (drop l (take k z))) e
     ∙ ap (take n) (drop-take l (8 - l) z)
     ∙ take-take n (8 - l) (drop l z) (omega arith)
-    ∙ zeros-behind bits l n 8 h
+    ∙ zeros-after bits l n 8 h
 
 abbrev is_short : Table → ℕ × ℕ → Bool
 is_short table c = is_ac table.class && (ltb 0 (get_or table.symbols c.0 0 % 16) && leb (c.1 + get_or table.symbols c.0 0 % 16) 8)
@@ -237,7 +245,7 @@ module _ (table : Table) (bits : List Bool) (met : Option DataEnd) (bytes : List
       ∙ ap (short_code_by table t) (short_agree lens (all-rising table.counts counted) (next_16 t.bits) (next_8 bits ++ replicate 8 false)
       (next_8-held bits met bytes filled ∙ sym (eight_front (next_8 bits) (length-next_8 bits))))
 
-  -- the value behind a code
+  -- the value after a code
   value-read : (l r s : ℕ) → l + s ≤ 8 → has_held (l + s) bits met ≡ Ok tt
       → short_value (Some (r, s)) (upcoming_by (drop l bits) met bytes) ≡ Ok (Some (extended (number_of (take s (drop l (next_8 bits)))) s, r), upcoming_by (drop (l + s) bits) met bytes)
   unfolding signed_from
@@ -250,14 +258,14 @@ module _ (table : Table) (bits : List Bool) (met : Option DataEnd) (bytes : List
       ∙ ap (λ (b : List Bool). Ok (Some (extended (number_of (take s (drop l (next_8 bits)))) s, r), upcoming_by b met bytes)) d
 
   token-text : (c : ℕ × ℕ) (v : ℤ) (r n : ℕ) → IsToken table c (next_8 bits) v r n
-      → read_on short_value (behind_code c.1 (upcoming_by bits met bytes) (short_token table c)) ≡ (has_held n bits met >>= λ (u : Unit {0}). Ok (Some (v, r), upcoming_by (drop n bits) met bytes))
+      → read_on short_value (after_code c.1 (upcoming_by bits met bytes) (short_token table c)) ≡ (has_held n bits met >>= λ (u : Unit {0}). Ok (Some (v, r), upcoming_by (drop n bits) met bytes))
   token-text c v r n k =
       let t = upcoming_by bits met bytes in
       let m = c.1 + k.size in
       let w = k.few in
       let f = filled-less m 8 bits met w filled in
       let g = filled-less c.1 8 bits met (omega arith) filled in
-      ap (λ (o : Option (ℕ × ℕ)). read_on short_value (behind_code c.1 t o)) k.token
+      ap (λ (o : Option (ℕ × ℕ)). read_on short_value (after_code c.1 t o)) k.token
       ∙ ap (λ (o : Result (Unit {0}) Fault). read_on short_value (o >>= λ (u : Unit {0}). Ok (Some (r, k.size), advance c.1 t))) (has_bits-held m bits met bytes f)
       ∙ ap (λ (u : Text). read_on short_value (has_held m bits met >>= λ (_ : Unit {0}). Ok (Some (r, k.size), u))) (advance-held c.1 bits met bytes g)
       ∙ go (has_held m bits met) refl
@@ -275,7 +283,7 @@ module _ (table : Table) (bits : List Bool) (met : Option DataEnd) (bytes : List
     where
       go : (o : Option (ℕ × ℕ)) → short_value_by table.class (next_8 bits) (named table.symbols o) ≡ None → read_on short_value (short_code_by table (upcoming_by bits met bytes) o) ≡ Ok (None, upcoming_by bits met bytes)
       go None n = refl
-      go (Some c) n = ap (λ (r : Option (ℕ × ℕ)). read_on short_value (behind_code c.1 (upcoming_by bits met bytes) r)) (token_none table c (next_8 bits) n)
+      go (Some c) n = ap (λ (r : Option (ℕ × ℕ)). read_on short_value (after_code c.1 (upcoming_by bits met bytes) r)) (token_none table c (next_8 bits) n)
 
   -- a short token, and how many bits it takes
   pub fast-some : (v : ℤ) (r n : ℕ) → short_value_of table (next_8 bits) ≡ Some (v, r, n)
@@ -310,7 +318,7 @@ short_small symbols (Some c) = go (leb c.1 8) refl
     go true e = let w : c.1 ≤ 8 = grind (arith, nat_tests) in rw e w
     go false e = rw e tt
 
--- the number of a value behind a code of l bits
+-- the number of a value after a code of l bits
 pub value_below : (byte l s : ℕ) → l + s ≤ 8 → byte % 2 ^ (8 - l) / 2 ^ (8 - l - s) < 2 ^ s
 value_below byte l s h =
     let m = 8 - l in

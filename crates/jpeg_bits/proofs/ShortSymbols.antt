@@ -1,5 +1,6 @@
 -- Symbols and short values of bits that are held.
-use Rattle.std.proofs.Common.{◌≡◌, ℕ, ℤ, ◌≤◌, Bool, true, List, drop, length, Option, Some, None, Result, Ok, Err, refl, sym, ap, ◌∙◌, subst, is_ok, is_some, get_or}
+use Rattle.std.proofs.Common.{◌≡◌, ℕ, ℤ, ◌≤◌, Bool, true, List, drop, length, Option, Some, None, Result, Ok, Err, refl}
+use Rattle.std.proofs.Common.{sym, ap, ◌∙◌, subst, is_ok, is_some, get_or}
 use Rattle.std.proofs.lemmas.Bool.{false≢true}
 use Rattle.jpeg_bits.specs.Stream.{Stream}
 use Rattle.jpeg_bits.specs.Reading.{Fault, ◌>>=◌, Names, NamesFormat}

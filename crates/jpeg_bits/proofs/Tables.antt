@@ -1,5 +1,8 @@
 -- Each code of a table that exists is read as itself, and no other begins its bits.
-use Rattle.std.proofs.Common.{◌≡◌, inl, inr, ℕ, zero, suc, ◌+◌, ◌-◌, ◌*◌, ◌^◌, ◌<◌, ◌≤◌, Bool, true, false, cond, List, [], ◌∷◌, ◌++◌, length, take, drop, get_or, replicate, slice_index, sum_by, Option, Some, None, Result, Ok, Err, refl, sym, ap, ◌∙◌, subst, length-append, length-take, length-drop, mul_assoc, arith, pow-suc, pow-add, le_refl}
+use Rattle.std.proofs.Common.{◌≡◌, inl, inr, ℕ, zero, suc, ◌+◌, ◌-◌, ◌*◌, ◌^◌, ◌<◌, ◌≤◌, Bool, true, false, cond, List}
+use Rattle.std.proofs.Common.{[], ◌∷◌, ◌++◌, length, take, drop, get_or, replicate, slice_index, sum_by, Option, Some}
+use Rattle.std.proofs.Common.{None, Result, Ok, Err, refl, sym, ap, ◌∙◌, subst, length-append, length-take, length-drop}
+use Rattle.std.proofs.Common.{mul_assoc, arith, pow-suc, pow-add, le_refl}
 use Rattle.std.proofs.Math.Nat.{add-mul, one-mul, zero-mul, mul-le-mul_right}
 use Rattle.std.proofs.Math.Seq.{take-add}
 use Rattle.std.specs.Option.{option_map}
@@ -8,7 +11,8 @@ use Rattle.std.proofs.Math.Logic.{⊎_elim}
 use Rattle.std.proofs.Common.{◌&&◌}
 use Rattle.std.proofs.lemmas.List.{take-append-le, take_all, drop_at, take-take, get_or-take, length-replicate}
 use Rattle.std.proofs.lemmas.List.Sums.{sum_by-append, sum_by_more, sum_by-take-le}
-use Rattle.jpeg_bits.specs.Codes.{Table, code_lengths, lengths_from, code_value, HasCodes, codes_exist, all_below, begins, first_from, code_in, next_16, symbol_by, symbol_from}
+use Rattle.jpeg_bits.specs.Codes.{Table, code_lengths, lengths_from, code_value, HasCodes, codes_exist, all_below}
+use Rattle.jpeg_bits.specs.Codes.{begins, first_from, code_in, next_16, symbol_by, symbol_from}
 use Rattle.jpeg_bits.specs.Reading.{Fault, ◌>>=◌ as ◌>>r=◌}
 use Rattle.jpeg_bits.specs.Entropy.{Text, number_of, has_bits, advance}
 use Rattle.jpeg_bits.proofs.CodeLemmas.{first_from-skip, first_from-hit}
@@ -71,7 +75,7 @@ ordered n most (l ∷ ls) (suc k) zero h le lt = absurd (omega arith)
 ordered n most (l ∷ ls) (suc k) (suc i) h le lt = ordered l most ls k i h.2 (omega arith) (omega arith)
 
 module _ (n most : ℕ) (lens : List ℕ) (rising : IsRising n most lens) where
-  -- a code's value is behind all that begin with an earlier code
+  -- a code's value is after all that begin with an earlier code
   pub value-after : (i j : ℕ) → i < j → j < length lens → (code_value lens i + 1) * 2 ^ (get_or lens j 0 - get_or lens i 0) ≤ code_value lens j
   unfolding code_value
   value-after i j lt within =

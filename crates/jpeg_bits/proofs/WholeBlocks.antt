@@ -1,5 +1,5 @@
 -- What a call left of a whole that is read in parts.
-use Rattle.std.proofs.Common.{◌≡◌, Result, Ok, Err, refl, ◌∙◌}
+use Rattle.std.proofs.Common.{◌≡◌, Err, refl, ◌∙◌}
 use Rattle.jpeg_bits.specs.Stream.{Stream}
 use Rattle.jpeg_bits.specs.Reading.{Fault}
 use Rattle.jpeg_bits.specs.Entropy.{Text, Ahead, Takes}
@@ -8,10 +8,10 @@ use Rattle.jpeg_bits.proofs.Loops.{Names-through, MayFail-from}
 use Rattle.jpeg_bits.specs.Readers.{Reads}
 use Rattle.jpeg_bits.proofs.BandLoop.{Leaves}
 
--- a refusal behind a part of the whole
-pub refused_behind : {X Y Z W : Type 0} (v : X → Y) (view : Z → W) (whole rest : Reads Y) (read : Reads W) (a b d : Ahead) (old cur new : Stream) (e : Error)
+-- a refusal after a part of the whole
+pub refused_after : {X Y Z W : Type 0} (v : X → Y) (view : Z → W) (whole rest : Reads Y) (read : Reads W) (a b d : Ahead) (old cur new : Stream) (e : Error)
     → ((t : Text) (f : Fault) → read t ≡ Err f → rest t ≡ Err f) → Leaves whole a old rest b cur → Takes view read b cur (Err e) d new → Takes v whole a old (Err e) d new
-refused_behind v view whole rest read a b d old cur new e through p q = (
+refused_after v view whole rest read a b d old cur new e through p q = (
   MayFail-from e _ _ _ p.0 q.0,
   λ k known.
       let at = p.1 k in

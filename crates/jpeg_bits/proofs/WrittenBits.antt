@@ -1,5 +1,7 @@
 -- What is read of bits that were written.
-use Rattle.std.proofs.Common.{◌≡◌, ℕ, zero, suc, ◌+◌, ◌*◌, ◌/◌, ◌%◌, ◌^◌, ◌<◌, Bool, false, cond, List, [], ◌∷◌, ◌++◌, length, take, drop, replicate, fold, Ok, refl, sym, ap, ◌∙◌, subst, append_assoc, length-append, mul_assoc, arith}
+use Rattle.std.proofs.Common.{◌≡◌, ℕ, zero, suc, ◌+◌, ◌*◌, ◌/◌, ◌%◌, ◌^◌, ◌<◌, Bool, false, cond, List, [], ◌∷◌, ◌++◌}
+use Rattle.std.proofs.Common.{length, take, drop, replicate, fold, Ok, refl, sym, ap, ◌∙◌, subst, append_assoc}
+use Rattle.std.proofs.Common.{length-append, mul_assoc, arith}
 use Rattle.std.proofs.Math.Arith.{mod-mul}
 use Rattle.std.proofs.Math.Nat.{mod-one, add-mul}
 use Rattle.std.proofs.lemmas.List.{take-append-le, take_all, drop_at, drop-drop}
@@ -12,8 +14,8 @@ use Rattle.jpeg_bits.specs.Written.{bit, low_bits}
 pub takes-gives : {A : Type 0} (x : A) → ReadsJust (gives x) [] x
 takes-gives x = record { read = λ rest places e. refl }
 
-pub places-behind : (bits more : List Bool) (places : List (List ℕ)) → drop (length more) (drop (length bits) places) ≡ drop (length (bits ++ more)) places
-places-behind bits more places = drop-drop (length more) (length bits) places ∙ ap (λ (n : ℕ). drop n places) (sym (length-append bits more))
+pub places-after : (bits more : List Bool) (places : List (List ℕ)) → drop (length more) (drop (length bits) places) ≡ drop (length (bits ++ more)) places
+places-after bits more places = drop-drop (length more) (length bits) places ∙ ap (λ (n : ℕ). drop n places) (sym (length-append bits more))
 
 pub takes-bind : {A B : Type 0} (p : Reads A) (f : A → Reads B) (bits more : List Bool) (x : A) (y : B)
     → ReadsJust p bits x → ReadsJust (f x) more y → ReadsJust (p >>= f) (bits ++ more) y
@@ -22,7 +24,7 @@ takes-bind {A} {B} p f bits more x y h k = record {
       ap (λ (b : List Bool). read_on f (p (text b places e))) (append_assoc bits more rest)
       ∙ ap (read_on f) (h.read (more ++ rest) places e)
       ∙ k.read rest (drop (length bits) places) e
-      ∙ ap (λ (l : List (List ℕ)). Ok (y, text rest l e)) (places-behind bits more places);
+      ∙ ap (λ (l : List (List ℕ)). Ok (y, text rest l e)) (places-after bits more places);
 }
 
 pub low_bits-mod : (n v : ℕ) → v % 2 ^ suc n ≡ (v / 2 ^ n % 2) * 2 ^ n + v % 2 ^ n

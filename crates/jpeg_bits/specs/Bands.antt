@@ -1,5 +1,8 @@
--- The coefficients of a block in entropy-coded bits (T.81, F.2.2 and G.1.2): tokens, and the band that they fill.
-use Rattle.std.specs.Prelude.{ℕ, zero, suc, ◌<◌, ◌+◌, ◌-◌, ◌/◌, ◌%◌, ◌^◌, ◌==◌, nat_le, nat_lt, true, false, List, [], ◌∷◌, ◌++◌, length, take, drop, ℤ, pos, ◌+ℤ◌, ◌*ℤ◌}
+-- The coefficients of a block in entropy-coded bits (T.81, F.2.2 and G.1.2): tokens, and the band
+-- that they fill.
+use Rattle.std.specs.Prelude.{ℕ, zero, suc, ◌<◌, ◌+◌, ◌-◌, ◌/◌, ◌%◌, ◌^◌, ◌==◌, nat_le, nat_lt}
+use Rattle.std.specs.Prelude.{true, false, List, [], ◌∷◌, ◌++◌, length, take, drop, ℤ, pos, ◌+ℤ◌}
+use Rattle.std.specs.Prelude.{◌*ℤ◌}
 use Rattle.std.specs.Int.{int_wrap, w16}
 use Rattle.jpeg_bits.specs.Entropy.{bits_from}
 use Rattle.jpeg_bits.specs.Readers.{Reads, ◌>>=◌, gives, refused, signed_from}
@@ -31,8 +34,8 @@ first_dc table al predictor = do
 
 -- ---- AC
 
--- The token of run r and size s, whose code has the size named, where so much room is left of the band. A value that is longer than the room
--- is taken where it and its code have at most 8 bits.
+-- The token of run r and size s, whose code has the size named, where so much room is left of the
+-- band. A value that is longer than the room is taken where it and its code have at most 8 bits.
 unfoldable pub token_at : ℕ → ℕ → ℕ → ℕ → Reads Token
 token_at room size r s =
     elim (nat_lt 0 s) [
@@ -43,7 +46,7 @@ token_at room size r s =
       | false ↦ elim (r == 15) [ true ↦ gives Sixteen | false ↦ bits_from r >>= (λ e. gives (Rest (2 ^ r - 1 + e))) ]
     ]
 
--- the next token: a code of the symbol 16 r + s, and the bits behind it
+-- the next token: a code of the symbol 16 r + s, and the bits after it
 unfoldable pub token_from : Table → ℕ → Reads Token
 token_from table room = code_from table >>= (λ c. token_at room c.0 (c.1 / 16) (c.1 % 16))
 
@@ -54,20 +57,21 @@ Band = List ℤ × ℕ
 abbrev pub before_more : List ℤ → Band → Band
 before_more front more = (front ++ more.0, more.1)
 
--- The piece of a token of a first pass, where `others` reads what is behind it: r places and a value, sixteen places, or the rest, which is
--- kept. A value that is longer than the rest writes nothing.
-abbrev pub behind_token : ℕ → (List ℤ → Reads Band) → List ℤ → Token → Reads Band
-behind_token al others rest (Value r v) =
+-- The piece of a token of a first pass, where `others` reads what is after it: r places and a
+-- value, sixteen places, or the rest, which is kept. A value that is longer than the rest writes
+-- nothing.
+abbrev pub after_token : ℕ → (List ℤ → Reads Band) → List ℤ → Token → Reads Band
+after_token al others rest (Value r v) =
     others (drop (r + 1) rest) >>= (λ more. gives (before_more (take r rest ++ wrapped (v *ℤ pos (2 ^ al)) ∷ []) more))
-behind_token al others rest Sixteen = others (drop 16 rest) >>= (λ more. gives (before_more (take 16 rest) more))
-behind_token al others rest (Rest run) = gives (rest, run)
-behind_token al others rest Overlong = gives (rest, 0)
+after_token al others rest Sixteen = others (drop 16 rest) >>= (λ more. gives (before_more (take 16 rest) more))
+after_token al others rest (Rest run) = gives (rest, run)
+after_token al others rest Overlong = gives (rest, 0)
 
 -- The rest of a band, of at most n places, cut into pieces, one a token.
 unfoldable pub first_ac : Table → ℕ → ℕ → List ℤ → Reads Band
 first_ac table al n [] = gives ([], 0)
 first_ac table al zero (x ∷ rest) = refused
-first_ac table al (suc n) (x ∷ rest) = token_from table (length (x ∷ rest)) >>= behind_token al (first_ac table al n) (x ∷ rest)
+first_ac table al (suc n) (x ∷ rest) = token_from table (length (x ∷ rest)) >>= after_token al (first_ac table al n) (x ∷ rest)
 
 -- the zeros of a value are within the room
 abbrev pub IsWithinRoom : ℕ → Token → Type 0

@@ -1,5 +1,5 @@
 -- What a caller sees of the state of a scan.
-use Rattle.std.specs.Prelude.{◌≤◌, ℕ, List, ℤ, pos, map, drop, slice_index_or}
+use Rattle.std.specs.Prelude.{◌≤◌, List, ℤ, pos, drop, slice_index_or}
 use Rattle.jpeg_bits.specs.Passes.{Pass, Block}
 use Rattle.jpeg_bits.specs.declared.blocks.Pass as declared
 

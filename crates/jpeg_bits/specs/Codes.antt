@@ -1,5 +1,8 @@
 -- Huffman codes (T.81, Annex C), and the code that begins some bits.
-use Rattle.std.specs.Prelude.{◌≡◌, ℕ, zero, suc, ◌+◌, ◌-◌, ◌^◌, ◌<◌, List, [], ◌∷◌, ◌++◌, length, take, replicate, Bool, true, false, Option, Some, None, Result, Ok, Err, ◌==◌, if◌then◌else◌, sum_by, slice_index, ◌/◌, ◌%◌, ◌&&◌, nat_lt, nat_le, ℤ}
+use Rattle.std.specs.Prelude.{◌≡◌, ℕ, zero, suc, ◌+◌, ◌-◌, ◌^◌, ◌<◌, List, [], ◌∷◌, ◌++◌, length}
+use Rattle.std.specs.Prelude.{take, replicate, Bool, true, false, Option, Some, None, Result, Ok}
+use Rattle.std.specs.Prelude.{Err, ◌==◌, if◌then◌else◌, sum_by, slice_index, ◌/◌, ◌%◌, ◌&&◌, nat_lt}
+use Rattle.std.specs.Prelude.{nat_le, ℤ}
 use Rattle.std.specs.Option.{option_map}
 use Rattle.jpeg_bits.specs.Reading.{Fault, Malformed, ◌>>=◌}
 use Rattle.jpeg_bits.specs.Entropy.{Text, advance, number_of, has_bits}
@@ -49,7 +52,7 @@ pub record IsTable (table : Table) : Type 0 where
   pub counted : length table.counts ≡ 16
   pub exists : HasCodes (code_lengths table.counts)
 
--- the next 16 bits, with zeros behind them
+-- the next 16 bits, with zeros after them
 abbrev pub next_16 : List Bool → List Bool
 next_16 bits = take 16 (bits ++ replicate 16 false)
 
@@ -61,7 +64,7 @@ symbol_by table t (Some c) = has_bits c.1 t.bits t.ending >>= λ _. Ok (slice_in
 unfoldable pub symbol_from : Table → Text → Result (ℕ × Text) Fault
 symbol_from table t = symbol_by table t (code_in (code_lengths table.counts) (next_16 t.bits))
 
--- a value and the text behind it, where the bits of it can be taken
+-- a value and the text after it, where the bits of it can be taken
 abbrev pub if_held : {A : Type 0} → A → Text → Result (Unit {0}) Fault → Result (A × Text) Fault
 if_held x t (Ok u) = Ok (x, t)
 if_held x t (Err e) = Err e
@@ -84,14 +87,14 @@ short_token table c =
     let symbol = slice_index table.symbols c.0 in
     if is_ac table.class && (nat_lt 0 (symbol % 16) && nat_le (c.1 + symbol % 16) 8) then Some (symbol / 16, symbol % 16) else None
 
--- behind the code, where the value has its bits too
-abbrev pub behind_code : ℕ → Text → Option (ℕ × ℕ) → Result (Option (ℕ × ℕ) × Text) Fault
-behind_code length t None = Ok (None, t)
-behind_code length t (Some token) = has_bits (length + token.1) t.bits t.ending >>= λ _. Ok (Some token, advance length t)
+-- after the code, where the value has its bits too
+abbrev pub after_code : ℕ → Text → Option (ℕ × ℕ) → Result (Option (ℕ × ℕ) × Text) Fault
+after_code length t None = Ok (None, t)
+after_code length t (Some token) = has_bits (length + token.1) t.bits t.ending >>= λ _. Ok (Some token, advance length t)
 
 abbrev pub short_code_by : Table → Text → Option (ℕ × ℕ) → Result (Option (ℕ × ℕ) × Text) Fault
 short_code_by table t None = Ok (None, t)
-short_code_by table t (Some c) = behind_code c.1 t (short_token table c)
+short_code_by table t (Some c) = after_code c.1 t (short_token table c)
 
 unfoldable pub short_code_from : Table → Text → Result (Option (ℕ × ℕ) × Text) Fault
 short_code_from table t = short_code_by table t (code_in (code_lengths table.counts) (next_16 t.bits))

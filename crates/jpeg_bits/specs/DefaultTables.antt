@@ -1,5 +1,6 @@
 -- The tables that the frames of an MJPEG stream may leave out (T.81, K.3.3).
-use Rattle.std.specs.Prelude.{◌≡◌, ◌≤◌, ◌⊎◌, ℕ, sum, length, ◌==◌, List, [], ◌∷◌, Bool, Option, Some, None, if◌then◌else◌}
+use Rattle.std.specs.Prelude.{◌≡◌, ◌≤◌, ◌⊎◌, ℕ, sum, length, ◌==◌, List, [], ◌∷◌, Bool, Option}
+use Rattle.std.specs.Prelude.{Some, None, if◌then◌else◌}
 use Rattle.std.specs.List.{list_any}
 use Rattle.jpeg_bits.specs.Codes.{HasCodes, Table, code_lengths}
 use Rattle.jpeg_bits.specs.declared.codes.HuffmanTableClass.TheVariants.{DC, AC}
@@ -69,7 +70,8 @@ abbrev pub filled : Table → Bool → Option Table → Option Table
 filled default named (Some table) = Some table
 filled default named None = if named then Some default else None
 
--- Places 0 and 1 of some tables, with the default tables of luminance and of chrominance where a scan names them and they are unset.
+-- Places 0 and 1 of some tables, with the default tables of luminance and of chrominance where a
+-- scan names them and they are unset.
 abbrev pub with_defaults : Table → Table → List ℕ → List (Option Table) → List (Option Table)
 with_defaults luminance chrominance places [] = []
 with_defaults luminance chrominance places (a ∷ []) = filled luminance (names places 0) a ∷ []

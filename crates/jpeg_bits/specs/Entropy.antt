@@ -1,6 +1,10 @@
 -- Entropy-coded data (F.1.2.3, B.1.1.5): the bits that come, and how they end.
-use Rattle.std.specs.Prelude.{◌≡◌, ℕ, ℤ, pos, ◌-ℤ◌, ◌-◌, nat_lt, ◌+◌, ◌*◌, ◌/◌, ◌%◌, ◌^◌, ◌≤◌, List, [], ◌∷◌, ◌++◌, length, take, drop, replicate, Bool, true, false, Option, Some, None, Result, Ok, Err, nat_le, ◌==◌, if◌then◌else◌, fold}
-use Rattle.jpeg_bits.specs.Reading.{Outcome, Fault, Malformed, End, Names, MayFail, IsGivenUp, ◌>>=◌}
+use Rattle.std.specs.Prelude.{◌≡◌, ℕ, ℤ, pos, ◌-ℤ◌, ◌-◌, nat_lt, ◌+◌, ◌*◌, ◌/◌, ◌%◌, ◌^◌, ◌≤◌, List}
+use Rattle.std.specs.Prelude.{[], ◌∷◌, ◌++◌, length, take, drop, replicate, Bool, true, false}
+use Rattle.std.specs.Prelude.{Option, Some, None, Result, Ok, Err, nat_le, ◌==◌, if◌then◌else◌}
+use Rattle.std.specs.Prelude.{fold}
+use Rattle.jpeg_bits.specs.Reading.{Outcome, Fault, Malformed, End, Names, MayFail, IsGivenUp}
+use Rattle.jpeg_bits.specs.Reading.{◌>>=◌}
 use Rattle.jpeg_bits.specs.Marker.{marker_of}
 use Rattle.jpeg_bits.specs.Stream.{Stream}
 use Rattle.jpeg_bits.specs.declared.marker.Marker.{Marker}
@@ -10,12 +14,12 @@ use Rattle.jpeg_bits.specs.declared.ahead.Piece.TheVariants.{Byte, Data}
 use Rattle.jpeg_bits.specs.declared.ahead.DataEnd.{DataEnd}
 use Rattle.jpeg_bits.specs.declared.ahead.DataEnd.TheVariants as ends
 
--- how a text ends: with a marker, and the bytes behind it, or with a fault
+-- how a text ends: with a marker, and the bytes after it, or with a fault
 pub data Ending : Type 0 where
   Found : Marker → List ℕ → Ending
   Broken : Fault → Ending
 
--- the bits of a text, for each of them the bytes behind the byte that has it, and the end
+-- the bits of a text, for each of them the bytes after the byte that has it, and the end
 pub record Text : Type 0 where
   pub bits : List Bool
   pub places : List (List ℕ)
@@ -28,22 +32,22 @@ bits_of b = (b / 128 % 2 == 1) ∷ (b / 64 % 2 == 1) ∷ (b / 32 % 2 == 1) ∷ (
 abbrev pub no_bits : Ending → Text
 no_bits e = record { bits = []; places = []; ending = e }
 
--- a byte in front of a text, where rest stands behind the byte
+-- a byte in front of a text, where rest stands after the byte
 abbrev pub add_byte : ℕ → List ℕ → Text → Text
 add_byte b rest t = record { bits = bits_of b ++ t.bits; places = replicate 8 rest ++ t.places; ending = t.ending }
 
--- how the data ended, where rest stands behind it
+-- how the data ended, where rest stands after it
 abbrev pub ending_of : DataEnd → List ℕ → Ending
 ending_of (ends.Marker m) rest = Found m rest
 ending_of ends.Malformed rest = Broken Malformed
 ending_of ends.Ended rest = Broken End
 
--- the end that a byte behind FF makes
+-- the end that a byte after FF makes
 abbrev pub end_by : Option Marker → DataEnd
 end_by None = ends.Malformed
 end_by (Some m) = ends.Marker m
 
--- behind FF, where no stuffing stands: any more FF, and a marker; and what stands behind it
+-- after FF, where no stuffing stands: any more FF, and a marker; and what stands after it
 unfoldable pub filled_end : List ℕ → DataEnd × List ℕ
 filled_end [] = (ends.Ended, [])
 filled_end (c ∷ rest) = if c == 255 then filled_end rest else (end_by (marker_of c), rest)
@@ -59,7 +63,8 @@ text_at (b ∷ c ∷ rest) =
     if b == 255 then (if c == 0 then add_byte 255 rest (text_at rest) else no_bits (ending_by (filled_end (c ∷ rest))))
     else add_byte b (c ∷ rest) (text_at (c ∷ rest))
 
--- What a decoder holds: the bits read ahead, and how the data ended where that was met and not taken.
+-- What a decoder holds: the bits read ahead, and how the data ended where that was met and not
+-- taken.
 pub record Ahead : Type 0 where
   pub bits : List Bool
   pub met : Option DataEnd
@@ -68,18 +73,18 @@ pub record Ahead : Type 0 where
 abbrev pub fresh : Ahead
 fresh = record { bits = []; met = None }
 
--- The text that held bits, a marker that was met and the bytes behind them stand for. The places are those of the
--- bits from the 57th on: only there can reading go on.
+-- The text that held bits, a marker that was met and the bytes after them stand for. The places are
+-- those of the bits from the 57th on: only there can reading go on.
 abbrev pub upcoming_by : List Bool → Option DataEnd → List ℕ → Text
 upcoming_by bits None bytes =
     record { bits = bits ++ (text_at bytes).bits; places = drop 56 (replicate (length bits) bytes ++ (text_at bytes).places); ending = (text_at bytes).ending }
 upcoming_by bits (Some e) bytes = record { bits = bits; places = drop 56 (replicate (length bits) bytes); ending = ending_of e bytes }
 
--- the text that a decoder and the bytes behind it stand for
+-- the text that a decoder and the bytes after it stand for
 unfoldable pub upcoming : Ahead → List ℕ → Text
 upcoming a bytes = upcoming_by a.bits a.met bytes
 
--- the text behind its first n bits
+-- the text after its first n bits
 abbrev pub advance : ℕ → Text → Text
 advance n t = record { bits = drop n t.bits; places = drop n t.places; ending = t.ending }
 
@@ -87,7 +92,7 @@ advance n t = record { bits = drop n t.bits; places = drop n t.places; ending = 
 abbrev pub number_of : List Bool → ℕ
 number_of bits = fold (λ n b. 2 * n + (if b then 1 else 0)) 0 bits
 
--- n bits can be taken: behind a marker zeros come without end
+-- n bits can be taken: after a marker zeros come without end
 abbrev pub has_bits : ℕ → List Bool → Ending → Result (Unit {0}) Fault
 has_bits n bits (Found m rest) = Ok tt
 has_bits n bits (Broken f) = if nat_le n (length bits) then Ok tt else Err f
@@ -98,7 +103,8 @@ bits_from n t = do
   _ ← has_bits n t.bits t.ending
   Ok (number_of (take n (t.bits ++ replicate n false)), advance n t)
 
--- The end is met where at most 56 bits are left. Otherwise reading goes on behind the byte that has the 57th.
+-- The end is met where at most 56 bits are left. Otherwise reading goes on after the byte that has
+-- the 57th.
 abbrev pub marker_by : List (List ℕ) → Ending → Outcome (Option Marker)
 marker_by (rest ∷ rests) e = Ok (None, rest)
 marker_by [] (Found m rest) = Ok (Some m, rest)
@@ -107,7 +113,8 @@ marker_by [] (Broken f) = Err f
 abbrev pub marker_from : Text → Outcome (Option Marker)
 marker_from t = marker_by t.places t.ending
 
--- A call on a decoder and a source, from a and old to b and new, answered what reading the text that they stand for gives.
+-- A call on a decoder and a source, from a and old to b and new, answered what reading the text
+-- that they stand for gives.
 abbrev pub Takes : {X Y : Type 0} → (X → Y) → (Text → Result (Y × Text) Fault) → Ahead → Stream → Result X Error → Ahead → Stream → Type 0
 Takes view read a old (Ok x) b new =
     (new.failed ≡ old.failed) × (old.known ≡ true → (new.known ≡ true) × (read (upcoming a old.bytes) ≡ Ok (view x, upcoming b new.bytes)))
@@ -130,13 +137,13 @@ abbrev pub same_text : Text → Result (ℕ × Text) Fault
 same_text t = Ok (0, t)
 
 -- what comes next: a byte with its stuffing taken out, or the end
-abbrev pub behind_ff : List ℕ → Piece × List ℕ
-behind_ff [] = (Data ends.Ended, [])
-behind_ff (c ∷ rest) = if c == 0 then (Byte 255, rest) else (Data (filled_end (c ∷ rest)).0, (filled_end (c ∷ rest)).1)
+abbrev pub after_ff : List ℕ → Piece × List ℕ
+after_ff [] = (Data ends.Ended, [])
+after_ff (c ∷ rest) = if c == 0 then (Byte 255, rest) else (Data (filled_end (c ∷ rest)).0, (filled_end (c ∷ rest)).1)
 
 abbrev pub piece_of : List ℕ → Piece × List ℕ
 piece_of [] = (Data ends.Ended, [])
-piece_of (b ∷ rest) = if b == 255 then behind_ff rest else (Byte b, rest)
+piece_of (b ∷ rest) = if b == 255 then after_ff rest else (Byte b, rest)
 
 unfoldable pub piece_at : List ℕ → Outcome Piece
 piece_at bytes = Ok (piece_of bytes)

@@ -1,5 +1,6 @@
 -- The intervals of a scan in bytes (T.81, E.2.4 and F.1.2.3).
-use Rattle.std.specs.Prelude.{ℕ, zero, suc, ◌%◌, ◌==◌, Bool, true, false, List, [], ◌∷◌, ◌++◌, length, take, drop, replicate, ℤ, pos, Option, Some, Ok, Err}
+use Rattle.std.specs.Prelude.{ℕ, zero, suc, ◌%◌, ◌==◌, Bool, true, false, List, [], ◌∷◌, ◌++◌}
+use Rattle.std.specs.Prelude.{length, take, drop, replicate, ℤ, pos, Option, Some, Ok, Err}
 use Rattle.jpeg_bits.specs.Reading.{Outcome, Malformed, ◌>>=◌}
 use Rattle.jpeg_bits.specs.Entropy.{upcoming, fresh, marker_from}
 use Rattle.jpeg_bits.specs.declared.marker.Marker.{Marker}
@@ -10,7 +11,7 @@ use Rattle.jpeg_bits.specs.Passes.{Pass, Via, Block, blocks_of}
 abbrev pub predictors_at_start : List ℤ
 predictors_at_start = replicate 4 (pos 0)
 
--- The blocks of the interval that begins these bytes, and the marker behind it, if it is met.
+-- The blocks of the interval that begins these bytes, and the marker after it, if it is met.
 unfoldable pub interval : Pass → List (Via × Block) → List ℕ → Outcome (List Block × Option Marker)
 interval p turns bytes = do
   r ← blocks_of p predictors_at_start 0 turns (upcoming fresh bytes)
@@ -25,14 +26,14 @@ is_restart k _ = false
 abbrev pub blocks_before : List Block → Outcome (List Block × Option Marker) → Outcome (List Block × Option Marker)
 blocks_before blocks others = others >>= λ s. Ok ((blocks ++ s.0.0, s.0.1), s.1)
 
--- what stands behind an interval: the others, where it ends with RST k
-abbrev pub behind_restart : ℕ → (List ℕ → Outcome (List Block × Option Marker)) → (List Block × Option Marker) × List ℕ → Outcome (List Block × Option Marker)
-behind_restart k others r = elim (is_restart k r.0.1) [ true ↦ blocks_before r.0.0 (others r.1) | false ↦ Err Malformed ]
+-- what stands after an interval: the others, where it ends with RST k
+abbrev pub after_restart : ℕ → (List ℕ → Outcome (List Block × Option Marker)) → (List Block × Option Marker) × List ℕ → Outcome (List Block × Option Marker)
+after_restart k others r = elim (is_restart k r.0.1) [ true ↦ blocks_before r.0.0 (others r.1) | false ↦ Err Malformed ]
 
 -- The blocks of one interval and more, between which RST stand in turn from number k on.
 unfoldable pub intervals : Pass → ℕ → List (Via × Block) → List (List (Via × Block)) → List ℕ → Outcome (List Block × Option Marker)
 intervals p k turns [] bytes = interval p turns bytes
-intervals p k turns (next ∷ more) bytes = interval p turns bytes >>= behind_restart k (intervals p (suc k) next more)
+intervals p k turns (next ∷ more) bytes = interval p turns bytes >>= after_restart k (intervals p (suc k) next more)
 
 -- A list cut into groups of n, the last of which may be smaller; and, where n is 0, into one.
 unfoldable pub groups : {A : Type 0} → ℕ → ℕ → List A → List (List A)

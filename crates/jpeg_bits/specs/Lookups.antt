@@ -1,12 +1,14 @@
--- A token as it is looked up: a short one, whose code and value have at most 8 bits, at once, and any other by its symbol.
-use Rattle.std.specs.Prelude.{ℕ, ◌+◌, ◌-◌, ◌/◌, ◌%◌, ◌^◌, ◌==◌, nat_lt, true, false, ℤ, Option, Some, None}
+-- A token as it is looked up: a short one, whose code and value have at most 8 bits, at once, and
+-- any other by its symbol.
+use Rattle.std.specs.Prelude.{ℕ, ◌+◌, ◌-◌, ◌/◌, ◌%◌, ◌^◌, ◌==◌, nat_lt, true, false, ℤ, Option}
+use Rattle.std.specs.Prelude.{Some, None}
 use Rattle.jpeg_bits.specs.Entropy.{bits_from}
 use Rattle.jpeg_bits.specs.Readers.{Reads, ◌>>=◌, gives, signed_from}
 use Rattle.jpeg_bits.specs.Codes.{Table, symbol_from, fast_from}
 use Rattle.jpeg_bits.specs.declared.tokens.Token.{Token}
 use Rattle.jpeg_bits.specs.declared.tokens.Token.TheVariants.{Value, Sixteen, Rest, Overlong}
 
--- a value behind r zeros, where r is within the room
+-- a value after r zeros, where r is within the room
 abbrev pub value_token : ℕ → ℕ → ℤ → Token
 value_token room r v = elim (nat_lt r room) [ true ↦ Value r v | false ↦ Overlong ]
 

@@ -1,4 +1,5 @@
--- The next marker in plain words (T.81, B.1.1.2): the first byte 255 with a byte behind it that makes a marker.
+-- The next marker in plain words (T.81, B.1.1.2): the first byte 255 with a byte after it that
+-- makes a marker.
 use Rattle.std.specs.Prelude.{◌≡◌, ℕ, ◌+◌, ◌<◌, List, length, drop, slice_index, Some, None}
 use Rattle.jpeg_bits.specs.Marker.{marker_of}
 use Rattle.jpeg_bits.specs.declared.marker.Marker.{Marker}
@@ -7,12 +8,13 @@ use Rattle.jpeg_bits.specs.declared.marker.Marker.{Marker}
 abbrev pub IsNoMarker : List ℕ → ℕ → Type 0
 IsNoMarker bytes j = slice_index bytes j ≡ 255 → marker_of (slice_index bytes (j + 1)) ≡ None
 
--- byte i is 255, the byte behind it makes m, the others stand behind both, and no marker begins before it
+-- byte i is 255, the byte after it makes m, the others stand after both, and no marker begins
+-- before it
 pub record IsNextMarker (bytes : List ℕ) (i : ℕ) (m : Marker) (others : List ℕ) : Type 0 where
   pub within : i + 1 < length bytes
   pub first : slice_index bytes i ≡ 255
   pub second : marker_of (slice_index bytes (i + 1)) ≡ Some m
-  pub behind : others ≡ drop (i + 2) bytes
+  pub after : others ≡ drop (i + 2) bytes
   pub least : (j : ℕ) → j < i → IsNoMarker bytes j
 
 -- no marker begins in the bytes

@@ -1,12 +1,14 @@
 -- The blocks of an interval (T.81, F.2 and G.2), in the order of the scan.
-use Rattle.std.specs.Prelude.{ℕ, zero, suc, ◌+◌, ◌-◌, ◌*◌, ◌^◌, ◌==◌, Bool, true, false, List, [], ◌∷◌, ◌++◌, length, take, drop, set, get_or, replicate, ℤ, pos, ◌+ℤ◌}
+use Rattle.std.specs.Prelude.{ℕ, zero, suc, ◌+◌, ◌-◌, ◌*◌, ◌^◌, ◌==◌, Bool, true, false, List, []}
+use Rattle.std.specs.Prelude.{◌∷◌, ◌++◌, length, take, drop, set, get_or, replicate, ℤ, pos, ◌+ℤ◌}
 use Rattle.jpeg_bits.specs.Entropy.{bits_from}
 use Rattle.jpeg_bits.specs.Readers.{Reads, ◌>>=◌, gives}
 use Rattle.jpeg_bits.specs.Codes.{Table}
 use Rattle.jpeg_bits.specs.Bands.{Band, first_dc, first_ac}
 use Rattle.jpeg_bits.specs.Refinement.{bit_of, corrected, refined_ac}
 
--- What a scan codes: the places from ss to se at point transform al, for the first time or as a refinement.
+-- What a scan codes: the places from ss to se at point transform al, for the first time or as a
+-- refinement.
 pub record Pass : Type 0 where
   pub is_first : Bool
   pub ss : ℕ
@@ -35,7 +37,7 @@ zero_block = record { dc = pos 0; acs = replicate 63 (pos 0) }
 abbrev pub listed : Block → List ℤ
 listed b = b.dc ∷ b.acs
 
--- The places of a pass behind DC: how many AC places stand before them, and how many there are.
+-- The places of a pass after DC: how many AC places stand before them, and how many there are.
 abbrev pub before_band : Pass → ℕ
 before_band p = p.ss - 1
 
@@ -60,8 +62,8 @@ dc_part p dc z predictor =
       | false ↦ gives (z, predictor)
     ]
 
--- The band and the blocks of the run that follows, from those of the run that this block is in: where the run isn't 0 the band has no token,
--- and in a refinement its correction bits alone.
+-- The band and the blocks of the run that follows, from those of the run that this block is in:
+-- where the run isn't 0 the band has no token, and in a refinement its correction bits alone.
 unfoldable pub band_part : Pass → Table → List ℤ → ℕ → Reads Band
 band_part p ac [] run = gives ([], run)
 band_part p ac (x ∷ band) zero =
@@ -72,14 +74,15 @@ band_part p ac (x ∷ band) zero =
 band_part p ac (x ∷ band) (suc run) =
     elim p.is_first [ true ↦ gives (x ∷ band, run) | false ↦ corrected p.al (x ∷ band) >>= (λ all. gives (all, run)) ]
 
--- A block on what is held of it: the block, the next predictor of its component, and the blocks of the run that follows.
+-- A block on what is held of it: the block, the next predictor of its component, and the blocks of
+-- the run that follows.
 unfoldable pub block_from : Pass → Table → Table → ℤ → ℕ → Block → Reads (Block × ℤ × ℕ)
 block_from p dc ac predictor run old =
     dc_part p dc old.dc predictor >>= (λ d.
     band_part p ac (band_of p old.acs) run >>= (λ b.
     gives (record { dc = d.0; acs = with_band p old.acs b.0 }, d.1, b.1)))
 
--- The blocks behind the pass; the predictors of the components and the run go from block to block.
+-- The blocks after the pass; the predictors of the components and the run go from block to block.
 unfoldable pub blocks_of : Pass → List ℤ → ℕ → List (Via × Block) → Reads (List Block)
 blocks_of p predictors run [] = gives []
 blocks_of p predictors run (t ∷ turns) =

@@ -1,10 +1,12 @@
 -- A refinement of a band, token by token, as it is read (T.81, G.1.2.3).
-use Rattle.std.specs.Prelude.{ℕ, zero, suc, ◌+◌, ◌-◌, ◌/◌, ◌%◌, ◌^◌, ◌==◌, if◌then◌else◌, true, false, List, [], ◌∷◌, ◌++◌, length, take, drop, ℤ, Result, Ok, Err}
+use Rattle.std.specs.Prelude.{ℕ, zero, suc, ◌+◌, ◌-◌, ◌/◌, ◌%◌, ◌^◌, ◌==◌, if◌then◌else◌, List, []}
+use Rattle.std.specs.Prelude.{◌∷◌, ◌++◌, length, take, drop, ℤ, Result, Ok, Err}
 use Rattle.jpeg_bits.specs.Reading.{Fault, Malformed, ◌>>=◌}
 use Rattle.jpeg_bits.specs.Entropy.{Text, bits_from}
 use Rattle.jpeg_bits.specs.Codes.{Table, symbol_from}
 use Rattle.jpeg_bits.specs.Bands.{Band}
-use Rattle.jpeg_bits.specs.Refinement.{is_zero, bit_of, moved, fits_i16, through_zero, with_last, new_number}
+use Rattle.jpeg_bits.specs.Refinement.{is_zero, bit_of, moved, fits_i16, through_zero, with_last}
+use Rattle.jpeg_bits.specs.Refinement.{new_number}
 use Rattle.jpeg_bits.specs.declared.refinement.Refinement.{Refinement}
 use Rattle.jpeg_bits.specs.declared.refinement.Refinement.TheVariants.{Zeros, New, End}
 
@@ -15,7 +17,7 @@ ReadsBand = List ℤ → Text → Result (Band × Text) Fault
 abbrev pub before : List ℤ → Result (Band × Text) Fault → Result (Band × Text) Fault
 before front more = more >>= λ m. Ok ((front ++ m.0.0, m.0.1), m.1)
 
--- How many blocks behind this one have no tokens: r bits e say 2 ^ r - 1 + e.
+-- How many blocks after this one have no tokens: r bits e say 2 ^ r - 1 + e.
 unfoldable pub run_from : ℕ → Text → Result (ℕ × Text) Fault
 run_from r t = do
   e ← bits_from r t
@@ -49,7 +51,7 @@ refinement_from table al t = do
         Ok (New (c.0 / 16) (new_number al sign.0), sign.1))
       else Err Malformed)
 
--- The piece of a token; `others` reads what is behind it.
+-- The piece of a token; `others` reads what is after it.
 unfoldable pub refined_piece : ℕ → ReadsBand → List ℤ → Refinement → Text → Result (Band × Text) Fault
 refined_piece al others rest Zeros t =
     corrected al (take (through_zero 15 rest) rest) t >>= λ front. before front.0 (others (drop (through_zero 15 rest) rest) front.1)
@@ -67,6 +69,7 @@ refined_ac table al (suc n) (x ∷ rest) t = refinement_from table al t >>= λ k
 unfoldable pub refined_band_from : Table → ℕ → List ℤ → Text → Result (Band × Text) Fault
 refined_band_from table al band t = refined_ac table al (length band) band t
 
--- How many places the piece up to zero number r has, and the rest of the band with the piece corrected.
+-- How many places the piece up to zero number r has, and the rest of the band with the piece
+-- corrected.
 unfoldable pub piece_from : ℕ → ℕ → List ℤ → Text → Result ((ℕ × List ℤ) × Text) Fault
 piece_from al r rest t = corrected al (take (through_zero r rest) rest) t >>= λ front. Ok ((through_zero r rest, front.0 ++ drop (through_zero r rest) rest), front.1)

@@ -1,4 +1,4 @@
--- Readers of entropy-coded bits: a value and the text behind it, or the first fault.
+-- Readers of entropy-coded bits: a value and the text after it, or the first fault.
 use Rattle.std.specs.Prelude.{◌≡◌, ℕ, ℤ, Bool, List, ◌++◌, length, drop, Result, Ok, Err}
 use Rattle.jpeg_bits.specs.Reading.{Fault, Malformed}
 use Rattle.jpeg_bits.specs.Entropy.{Text, Ending, bits_from, extended}

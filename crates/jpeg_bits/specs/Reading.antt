@@ -1,5 +1,7 @@
 -- Reading from left to right, with the first fault that is met.
-use Rattle.std.specs.Prelude.{◌≡◌, ℕ, zero, suc, ◌+◌, ◌-◌, ◌*◌, ◌<◌, ◌≤◌, ◌^◌, ◌++◌, List, [], ◌∷◌, length, take, Bool, true, false, Result, Ok, Err, nat_lt, if◌then◌else◌}
+use Rattle.std.specs.Prelude.{◌≡◌, ℕ, zero, suc, ◌+◌, ◌-◌, ◌*◌, ◌<◌, ◌≤◌, ◌^◌, ◌++◌, List, [], ◌∷◌}
+use Rattle.std.specs.Prelude.{length, take, Bool, true, false, Result, Ok, Err, nat_lt}
+use Rattle.std.specs.Prelude.{if◌then◌else◌}
 use Rattle.jpeg_bits.specs.Stream.{Stream}
 use Rattle.jpeg_bits.specs.declared.error.UnsupportedFeature.{UnsupportedFeature}
 use Rattle.jpeg_bits.specs.declared.error.Error.{Error}
@@ -14,7 +16,7 @@ pub data Fault : Type 0 where
   Lacks : UnsupportedFeature → Fault
   End : Fault
 
--- a value and the bytes behind it, or the first fault
+-- a value and the bytes after it, or the first fault
 abbrev pub Outcome : Type 0 → Type 0
 Outcome Y = Result (Y × List ℕ) Fault
 
@@ -23,7 +25,7 @@ abbrev pub ◌>>=◌ : {A B : Type 0} → Result A Fault → (A → Result B Fau
 (Ok x) >>= f = f x
 (Err e) >>= f = Err e
 
--- the fault that an error names; want of memory names none
+-- the fault that an error names; `OutOfMemory` names none
 abbrev pub Names : {Y : Type 0} → Error → Result Y Fault → Type 0
 Names (errors.Format text) outcome = outcome ≡ Err Malformed
 Names (errors.Unsupported feature) outcome = outcome ≡ Err (Lacks feature)
@@ -31,7 +33,8 @@ Names (errors.Io e) outcome = (outcome ≡ Err End) × (error_kind e ≡ Unexpec
 Names (errors.Internal text) outcome = ⊥
 Names errors.OutOfMemory outcome = Unit {0}
 
--- A source that has failed stays so, and becomes so only with Io. An Io of a source that has not failed is the end of its bytes.
+-- A source that has failed stays so, and becomes so only with Io. An Io of a source that has not
+-- failed is the end of its bytes.
 abbrev pub MayFail : Error → Bool → Bool → Type 0
 MayFail (errors.Io e) old new = (old ≡ true → new ≡ true) × (new ≡ false → error_kind e ≡ UnexpectedEof)
 MayFail (errors.Format text) old new = new ≡ old
@@ -39,7 +42,8 @@ MayFail (errors.Unsupported feature) old new = new ≡ old
 MayFail (errors.Internal text) old new = ⊥
 MayFail errors.OutOfMemory old new = new ≡ old
 
--- why a source is known no more: a failed read, or interruptions without end, whose refusal has no text
+-- why a source is known no more: a failed read, or interruptions without end, whose refusal has no
+-- text
 abbrev pub IsGivenUp : Error → Bool → Type 0
 IsGivenUp (errors.Io e) failed = failed ≡ true
 IsGivenUp (errors.Format text) failed = string_bytes text ≡ []
@@ -64,7 +68,7 @@ abbrev pub next_byte : List ℕ → Outcome ℕ
 next_byte [] = Err End
 next_byte (b ∷ bs) = Ok (b, bs)
 
--- what a refusal of a broken rule is: its text, or want of memory
+-- what a refusal of a broken rule is: its text, or `OutOfMemory`
 abbrev pub NamesFormat : Error → Type 0
 NamesFormat (errors.Format text) = Unit {0}
 NamesFormat (errors.Unsupported feature) = ⊥
@@ -99,7 +103,7 @@ length_at bytes = do
   n ← next_u16 bytes
   if nat_lt n.0 2 then Err Malformed else Ok (n.0 - 2, n.1)
 
--- n values in a row, and the bytes behind them
+-- n values in a row, and the bytes after them
 unfoldable pub times : {A : Type 0} → ℕ → (List ℕ → Outcome A) → List ℕ → Outcome (List A)
 times zero read bytes = Ok ([], bytes)
 times (suc n) read bytes = do

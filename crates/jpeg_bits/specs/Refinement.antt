@@ -1,5 +1,6 @@
 -- Refinement of coefficients (T.81, G.1.2.3 and G.2.3).
-use Rattle.std.specs.Prelude.{ℕ, zero, suc, ◌+◌, ◌-◌, ◌/◌, ◌%◌, ◌^◌, ◌==◌, nat_lt, Bool, true, false, List, [], ◌∷◌, take, drop, ℤ, pos, negsuc, neg_ℤ}
+use Rattle.std.specs.Prelude.{ℕ, zero, suc, ◌+◌, ◌-◌, ◌/◌, ◌%◌, ◌^◌, ◌==◌, nat_lt, Bool, true}
+use Rattle.std.specs.Prelude.{false, List, [], ◌∷◌, take, drop, ℤ, pos, negsuc, neg_ℤ}
 use Rattle.jpeg_bits.specs.Entropy.{bits_from}
 use Rattle.jpeg_bits.specs.Codes.{Table, symbol_from}
 use Rattle.jpeg_bits.specs.Readers.{Reads, ◌>>=◌, gives, refused}
@@ -58,8 +59,9 @@ with_last x [] = []
 with_last x (y ∷ []) = x ∷ []
 with_last x (y ∷ z ∷ places) = y ∷ with_last x (z ∷ places)
 
--- The piece of a token of run r and size s, where `others` reads what is behind it: the places through zero number r, counted from 0, the last
--- of which becomes a new number; those through the sixteenth zero; or the rest.
+-- The piece of a token of run r and size s, where `others` reads what is after it: the places
+-- through zero number r, counted from 0, the last of which becomes a new number; those through the
+-- sixteenth zero; or the rest.
 unfoldable pub refined_piece : ℕ → (List ℤ → Reads Band) → List ℤ → ℕ → ℕ → Reads Band
 refined_piece al others rest r zero =
     elim (r == 15) [

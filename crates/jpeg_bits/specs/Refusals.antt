@@ -1,4 +1,5 @@
--- Calls that hold the refusal that they meet in a place of their caller's (this project's own form).
+-- Calls that hold the refusal that they meet in a place of their caller's (this project's own
+-- form).
 use Rattle.std.specs.Prelude.{◌≡◌, is_some, Bool, true, false, Option, Some, None, Result, Ok, Err}
 use Rattle.jpeg_bits.specs.declared.error.Error.{Error}
 use Rattle.jpeg_bits.specs.declared.error.Error.TheVariants as errors

@@ -1,5 +1,7 @@
 -- Codes and values that 8 bits begin with (F.2.2.3, with the look-up that it allows).
-use Rattle.std.specs.Prelude.{◌≡◌, ℕ, ℤ, ◌+◌, ◌*◌, ◌/◌, ◌%◌, ◌<◌, List, ◌++◌, take, drop, replicate, Bool, false, Option, Some, None, if◌then◌else◌, slice_index, slice_index_or, sum, fold, ◌&&◌, nat_lt, nat_le}
+use Rattle.std.specs.Prelude.{◌≡◌, ℕ, ℤ, ◌+◌, ◌*◌, ◌/◌, ◌%◌, ◌<◌, List, ◌++◌, take, drop, replicate}
+use Rattle.std.specs.Prelude.{Bool, false, Option, Some, None, if◌then◌else◌, slice_index}
+use Rattle.std.specs.Prelude.{slice_index_or, sum, fold, ◌&&◌, nat_lt, nat_le}
 use Rattle.std.specs.Option.{option_map}
 use Rattle.jpeg_bits.specs.Entropy.{number_of, extended}
 use Rattle.jpeg_bits.specs.Written.{low_bits}
@@ -24,8 +26,8 @@ short_only (Some c) = if nat_le c.1 8 then Some c else None
 abbrev pub short_code : List ℕ → List ℕ → List Bool → Option (ℕ × ℕ)
 short_code counts symbols eight = named symbols (short_only (code_in (code_lengths counts) (eight ++ replicate 8 false)))
 
--- The value and the run of a symbol whose code of so many bits begins 8 bits, and the bits of both, where they are at
--- most 8, in a table of class AC.
+-- The value and the run of a symbol whose code of this many bits begins 8 bits, and the bits of
+-- both, where they are at most 8, in a table of class AC.
 abbrev pub short_value_by : HuffmanTableClass → List Bool → Option (ℕ × ℕ) → Option (ℤ × ℕ × ℕ)
 short_value_by class eight None = None
 short_value_by class eight (Some c) =
@@ -37,7 +39,7 @@ short_value_by class eight (Some c) =
 abbrev pub short_value_of : Table → List Bool → Option (ℤ × ℕ × ℕ)
 short_value_of table eight = short_value_by table.class eight (short_code table.counts table.symbols eight)
 
--- the next 8 bits, with zeros behind them
+-- the next 8 bits, with zeros after them
 abbrev pub next_8 : List Bool → List Bool
 next_8 bits = take 8 (bits ++ replicate 8 false)
 
@@ -49,9 +51,9 @@ HoldsCodes counts symbols codes = (b : ℕ) → b < 256 → slice_index_or codes
 abbrev pub HoldsValues : Table → List (Option (ℤ × ℕ × ℕ)) → Type 0
 HoldsValues table values = (b : ℕ) → b < 256 → slice_index_or values b None ≡ short_value_of table (low_bits 8 b)
 
--- the value behind the codes of at most i bits, as a number of i bits
-abbrev pub value_behind : List ℕ → ℕ → ℕ
-value_behind counts i = fold (λ v c. 2 * v + c) 0 (take i counts)
+-- the value after the codes of at most i bits, as a number of i bits
+abbrev pub value_after : List ℕ → ℕ → ℕ
+value_after counts i = fold (λ v c. 2 * v + c) 0 (take i counts)
 
 -- no codes
 abbrev pub no_row : Row
@@ -59,7 +61,7 @@ no_row = record { end = 0; first = 0; place = 0 }
 
 -- the codes of i + 1 bits
 abbrev pub row_at : List ℕ → ℕ → Row
-row_at counts i = record { end = value_behind counts (i + 1); first = 2 * value_behind counts i; place = sum (take i counts) }
+row_at counts i = record { end = value_after counts (i + 1); first = 2 * value_after counts i; place = sum (take i counts) }
 
 -- each row stands at its place
 abbrev pub HoldsRows : List ℕ → List Row → Type 0

@@ -2,11 +2,13 @@
 ghost use Rattle.std.specs.Prelude.{◌≡◌, ◌++◌, Ok, is_some, true, false};
 ghost use Rattle.jpeg_bits.specs.Reading.{Answers, IsShort, Gives, NamesFormat};
 ghost use Rattle.jpeg_bits.specs.Refusals.{held_refusal, answer_of, IsHeld};
-ghost use Rattle.jpeg_bits.specs.Entropy.{piece_at, behind_ff, byte_or_end, marker_held};
+ghost use Rattle.jpeg_bits.specs.Entropy.{piece_at, after_ff, byte_or_end, marker_held, has_held};
+ghost use Rattle.std.specs.Prelude.{ℕ, ◌<◌, Bool, List, length, is_ok};
+ghost use Rattle.jpeg_bits.specs.Reading.{Names};
 
-use crate::bits::Bits;
+use crate::bits::{Bits, extend};
 use crate::codes::HuffmanTable;
-use crate::error::{Error, Result, end_of_bytes, format_error};
+use crate::error::{Error, Result, end_of_bytes, format_error, hold_format_error};
 use crate::marker::Marker;
 use crate::source::Source;
 use std::alloc::Global;
@@ -18,7 +20,7 @@ use std::marker::Model;
 pub enum DataEnd {
     /// A marker follows.
     Marker(Marker),
-    /// FF 00 stands behind fill bytes.
+    /// FF 00 stands after fill bytes.
     Malformed,
     /// The bytes end.
     Ended,
@@ -40,29 +42,31 @@ fn next_piece<R: Read + Drop>(
     source: &mut Source<R>,
     refusal: &mut Option<Error>,
 ) -> Option<Piece>
-    ensures answers { Answers (λ p. p) piece_at source.old (answer_of result refusal.new) source.new }
+    ensures answers { Answers (λ p. p) piece_at source.old (answer_of result refusal.new)
+        source.new }
     ensures held { IsHeld result refusal.new }
 {
     match source.next(alloc, refusal) {
-        Some(Some(0xff)) => next_behind_ff(alloc, source, refusal),
+        Some(Some(0xff)) => next_after_ff(alloc, source, refusal),
         Some(Some(byte)) => Some(Piece::Byte(byte)),
         Some(None) => Some(Piece::Data(DataEnd::Ended)),
         None => None,
     }
 }
 
-/// What a byte FF and those behind it are. A refusal is held in its place, and answered by none.
+/// What a byte FF and those after it are. A refusal is held in its place, and answered by none.
 #[cold]
 #[inline(never)]
-fn next_behind_ff<R: Read + Drop>(
+fn next_after_ff<R: Read + Drop>(
     alloc: Global,
     source: &mut Source<R>,
     refusal: &mut Option<Error>,
 ) -> Option<Piece>
-    ensures answers { Answers (λ p. p) (λ bytes. Ok (behind_ff bytes)) source.old (answer_of result refusal.new) source.new }
+    ensures answers { Answers (λ p. p) (λ bytes. Ok (after_ff bytes)) source.old
+        (answer_of result refusal.new) source.new }
     ensures held { IsHeld result refusal.new }
 {
-    match read_behind_ff(alloc, source) {
+    match read_after_ff(alloc, source) {
         Ok(piece) => Some(piece),
         Err(e) => {
             *refusal = Some(e);
@@ -71,10 +75,10 @@ fn next_behind_ff<R: Read + Drop>(
     }
 }
 
-/// What a byte FF and those behind it are.
+/// What a byte FF and those after it are.
 #[tactic(auto, unfolding(crate::specs::Entropy::filled_end))]
-fn read_behind_ff<R: Read + Drop>(alloc: Global, source: &mut Source<R>) -> Result<Piece>
-    ensures { Answers (λ p. p) (λ bytes. Ok (behind_ff bytes)) source.old result source.new }
+fn read_after_ff<R: Read + Drop>(alloc: Global, source: &mut Source<R>) -> Result<Piece>
+    ensures { Answers (λ p. p) (λ bytes. Ok (after_ff bytes)) source.old result source.new }
 {
     let Some(mut next) = read_or_end(alloc, source)? else {
         return Ok(Piece::Data(DataEnd::Ended));
@@ -110,6 +114,7 @@ fn read_or_end<R: Read + Drop>(alloc: Global, source: &mut Source<R>) -> Result<
 /// The bits read ahead of a source, and the end that was met.
 #[derive(Debug, Drop)]
 pub(crate) struct Held {
+    alloc: Global,
     bits: Bits,
     end: Option<DataEnd>,
 }
@@ -126,59 +131,99 @@ impl Model for Held {
 }
 
 impl Held {
-    ghost use Rattle.std.specs.Prelude.{◌≡◌, ◌≤◌, ◌<◌, ◌^◌, ◌++◌, ℕ, [], None, IfSome, true, false, is_ok, is_some, length, take, drop, replicate};
-    ghost use Rattle.jpeg_bits.specs.Codes.{next_16};
+    ghost use Rattle.std.specs.Prelude.{◌≡◌, ◌≤◌, ◌<◌, ◌^◌, ◌++◌, ℕ, [], None, IfSome, true, false};
+    ghost use Rattle.std.specs.Prelude.{is_ok, is_some, length, take, drop, replicate};
+    ghost use Rattle.jpeg_bits.specs.Codes.{next_16, symbol_from, fast_from};
     ghost use Rattle.jpeg_bits.specs.ShortCodes.{symbol_in, short_value_of, next_8};
     ghost use Rattle.jpeg_bits.specs.Reading.{Names, Gives};
-    ghost use Rattle.jpeg_bits.specs.Refusals.{outcome_of};
-    ghost use Rattle.jpeg_bits.specs.Entropy.{Takes, fresh, same_text, has_held, marker_held, number_of, IsFilled};
+    ghost use Rattle.jpeg_bits.specs.Readers.{signed_from};
+    ghost use Rattle.jpeg_bits.specs.Refusals.{outcome_of, answer_of, IsHeld};
+    ghost use Rattle.jpeg_bits.specs.Entropy.{Takes, fresh, same_text, has_held, marker_held};
+    ghost use Rattle.jpeg_bits.specs.Entropy.{number_of, IsFilled, bits_from};
 
-    pub(crate) fn new() -> Held
+    pub(crate) fn new(alloc: Global) -> Held
         ensures { result ≡ fresh }
     {
         Held {
+            alloc,
             bits: Bits::new(),
             end: None,
         }
     }
 
-    /// Sees that `count` bits are held, or that the end is met. A refusal is held in its place, and answered by false.
+    #[inline(always)]
+    pub(crate) fn alloc(&self) -> Global {
+        self.alloc
+    }
+
+    /// A copy, so that the hot loops work on a local of their own, which stays in registers.
+    #[inline(always)]
+    pub(crate) fn copied(&self) -> Held
+        ensures { result ≡ self.now }
+    {
+        Held {
+            alloc: self.alloc,
+            bits: self.bits.copied(),
+            end: self.end,
+        }
+    }
+
+    /// Sees that `count` bits are held, or that the end is met. A refusal is held in its place, and
+    /// answered by false.
     #[inline(always)]
     #[tactic(auto, using(crate::proofs::Rules::filled))]
     pub(crate) fn hold<R: Read + Drop>(
         &mut self,
-        alloc: Global,
         source: &mut Source<R>,
         count: usize,
         refusal: &mut Option<Error>,
     ) -> bool
         requires { count ≤ 57 }
-        ensures holds { Takes (λ _. 0) same_text self.old source.old (outcome_of result refusal.new) self.new source.new }
+        ensures holds { Takes (λ _. 0) same_text self.old source.old (outcome_of result refusal.new)
+            self.new source.new }
         ensures full { result ≡ true → IsFilled count self.new.bits self.new.met }
         ensures held { result ≡ false → is_some refusal.new ≡ true }
     {
         if count <= self.bits.len() {
             return true;
         }
-        self.fill(alloc, source, refusal)
+        // A local's address goes to the call, so that `self` can stay in registers.
+        let mut held = self.copied();
+        let is_full = held.refill(source, refusal);
+        *self = held;
+        is_full
     }
 
-    /// Reads ahead until at least 57 bits are held, or the end is met, which is read once. A refusal is held in its
-    /// place, and answered by false.
+    /// As `fill`, on a local that stays in registers.
     #[inline(never)]
-    #[tactic(auto, unfolding(crate::specs::Entropy::upcoming))]
-    fn fill<R: Read + Drop>(
+    fn refill<R: Read + Drop>(
         &mut self,
-        alloc: Global,
         source: &mut Source<R>,
         refusal: &mut Option<Error>,
     ) -> bool
-        ensures fills { Takes (λ _. 0) same_text self.old source.old (outcome_of result refusal.new) self.new source.new }
+        ensures fills { Takes (λ _. 0) same_text self.old source.old (outcome_of result refusal.new)
+            self.new source.new }
+        ensures full { result ≡ true → IsFilled 57 self.new.bits self.new.met }
+        ensures held { result ≡ false → is_some refusal.new ≡ true }
+    {
+        let mut held = self.copied();
+        let is_full = held.fill(source, refusal);
+        *self = held;
+        is_full
+    }
+
+    /// Reads ahead until at least 57 bits are held, or the end is met, which is read once. A
+    /// refusal is held in its place, and answered by false.
+    #[inline(always)]
+    #[tactic(auto, unfolding(crate::specs::Entropy::upcoming))]
+    fn fill<R: Read + Drop>(&mut self, source: &mut Source<R>, refusal: &mut Option<Error>) -> bool
+        ensures fills { Takes (λ _. 0) same_text self.old source.old (outcome_of result refusal.new)
+            self.new source.new }
         ensures full { result ≡ true → IsFilled 57 self.new.bits self.new.met }
         ensures held { result ≡ false → is_some refusal.new ≡ true }
     {
         while self.bits.len() <= 56 && self.end.is_none() {
-            match next_piece(alloc, source, refusal) {
+            match next_piece(self.alloc, source, refusal) {
                 Some(Piece::Byte(byte)) => self.bits.push(byte),
                 Some(Piece::Data(end)) => self.end = Some(end),
                 None => return false,
@@ -192,35 +237,117 @@ impl Held {
     pub(crate) fn has(&self, count: usize) -> bool
         ensures { result ≡ is_ok (has_held count self.now.bits self.now.met) }
     {
-        count <= self.bits.len() || self.is_padded()
+        count <= self.bits.len() || is_padded(self.end)
     }
 
-    /// Whether no fault was met.
-    #[cold]
-    #[inline(never)]
-    fn is_padded(&self) -> bool
-        ensures { (count : ℕ) → length self.now.bits < count → result ≡ is_ok (has_held count self.now.bits self.now.met) }
+    /// The next `count` bits, from 1 to 16, as a number, the highest first. A refusal is held in
+    /// its place, and answered by none.
+    #[inline(always)]
+    pub(crate) fn take_number<R: Read + Drop>(
+        &mut self,
+        source: &mut Source<R>,
+        count: u8,
+        refusal: &mut Option<Error>,
+    ) -> Option<u16>
+        requires some { 1 ≤ count }
+        requires most { count ≤ 16 }
+        ensures bits { Takes (λ n. n) (bits_from count) self.old source.old
+            (answer_of result refusal.new) self.new source.new }
+        ensures small { IfSome result (λ n. n < 2 ^ count) }
+        ensures held { IsHeld result refusal.new }
     {
-        match self.end {
-            None | Some(DataEnd::Marker(_)) => true,
-            Some(_) => false,
+        let count = usize::from(count);
+        if !self.hold(source, count, refusal) {
+            return None;
+        }
+        if !self.has(count) {
+            hold_fault(self.alloc, self.end, refusal);
+            return None;
+        }
+        Some(self.take(count))
+    }
+
+    /// The next `count` bits, from 1 to 15, as a signed number (T.81, F.2.2.1). A refusal is held
+    /// in its place, and answered by none.
+    #[inline(always)]
+    #[tactic(auto, unfolding(crate::specs::Readers::signed_from))]
+    pub(crate) fn take_signed<R: Read + Drop>(
+        &mut self,
+        source: &mut Source<R>,
+        count: u8,
+        refusal: &mut Option<Error>,
+    ) -> Option<i16>
+        requires some { 1 ≤ count }
+        requires most { count ≤ 15 }
+        ensures number { Takes (λ v. v) (signed_from count) self.old source.old
+            (answer_of result refusal.new) self.new source.new }
+        ensures held { IsHeld result refusal.new }
+    {
+        match self.take_number(source, count, refusal) {
+            Some(value) => Some(extend(value, count)),
+            None => None,
         }
     }
 
-    /// The fault that stands before `count` bits of those held.
-    #[cold]
-    #[inline(never)]
-    pub(crate) fn fault(&self, alloc: Global, count: usize) -> Error
-        requires { is_ok (has_held count self.now.bits self.now.met) ≡ false }
-        ensures { Names result (has_held count self.now.bits self.now.met) }
+    /// The symbol whose code begins the bits (T.81, F.2.2.3). A refusal is held in its place, and
+    /// answered by none.
+    #[inline(always)]
+    pub(crate) fn take_symbol<R: Read + Drop>(
+        &mut self,
+        source: &mut Source<R>,
+        table: &HuffmanTable,
+        refusal: &mut Option<Error>,
+    ) -> Option<u8>
+        ensures symbol { Takes (λ n. n) (symbol_from table.now) self.old source.old
+            (answer_of result refusal.new) self.new source.new }
+        ensures held { IsHeld result refusal.new }
     {
-        match self.end {
-            Some(DataEnd::Malformed) => malformed_end(alloc),
-            _ => end_of_bytes(),
+        if !self.hold(source, 16, refusal) {
+            return None;
         }
+        let Some((symbol, length)) = self.symbol(table) else {
+            hold_no_code(self.alloc, refusal);
+            return None;
+        };
+        let length = usize::from(length);
+        if !self.has(length) {
+            hold_fault(self.alloc, self.end, refusal);
+            return None;
+        }
+        self.skip(length);
+        Some(symbol)
     }
 
-    /// The first `count` bits of those held, with zeros behind them.
+    /// The value and the run of zeros before it, where a code of a table of class AC and the value
+    /// after it take at most 8 bits together (T.81, F.2.2.2), or none within. A refusal is held in
+    /// its place, and answered by none.
+    #[inline(always)]
+    pub(crate) fn take_short_value<R: Read + Drop>(
+        &mut self,
+        source: &mut Source<R>,
+        table: &HuffmanTable,
+        refusal: &mut Option<Error>,
+    ) -> Option<Option<(i16, u8)>>
+        ensures value { Takes (λ v. v) (fast_from table.now) self.old source.old
+            (answer_of result refusal.new) self.new source.new }
+        ensures held { IsHeld result refusal.new }
+    {
+        if !self.hold(source, 8, refusal) {
+            return None;
+        }
+        let Some((value, run, bits)) = self.short_value(table) else {
+            return Some(None);
+        };
+        let count = usize::from(bits);
+        if !self.has(count) {
+            hold_fault(self.alloc, self.end, refusal);
+            return None;
+        }
+        self.skip(count);
+        Some(Some((value, run)))
+    }
+
+    /// The first `count` bits of those held, with zeros after them.
     #[inline(always)]
     pub(crate) fn take(&mut self, count: usize) -> u16
         requires some { 1 ≤ count }
@@ -254,9 +381,10 @@ impl Held {
         table.symbol_of(self.bits.front_16())
     }
 
-    /// The value and the run that the bits held begin with, and how many bits they take, where they are at most 8.
+    /// The value and the run that the bits held begin with, and how many bits they take, where they
+    /// are at most 8.
     #[inline(always)]
-    pub(crate) fn short_value(&self, table: &HuffmanTable) -> Option<(i16, u8, u8)>
+    pub(crate) fn short_value(&self, table: &HuffmanTable) -> Option<(i16, u8, u16)>
         ensures value { result ≡ short_value_of table.now (next_8 self.now.bits) }
         ensures within { IfSome result (λ t. t.2 ≤ 8) }
         ensures counted { length table.now.counts ≡ 16 }
@@ -270,17 +398,54 @@ impl Held {
         self.bits.clear();
     }
 
-    /// The end that was met, which is met no more.
+    /// The end that was met. Nothing is held any more.
     pub(crate) fn take_end(&mut self) -> Option<DataEnd>
         ensures end { result ≡ self.old.met }
-        ensures none { self.new.met ≡ None }
-        ensures bits { self.new.bits ≡ self.old.bits }
+        ensures none { self.new ≡ fresh }
     {
-        self.end.take()
+        let empty = Held::new(self.alloc);
+        std::mem::replace(self, empty).end
     }
 }
 
-/// The refusal of FF 00 behind fill bytes.
+/// Whether no fault was met where the held bits end.
+#[cold]
+#[inline(never)]
+fn is_padded(end: Option<DataEnd>) -> bool
+    ensures { (count : ℕ) (bits : List Bool) → length bits < count → result
+        ≡ is_ok (has_held count bits end) }
+{
+    match end {
+        None | Some(DataEnd::Marker(_)) => true,
+        Some(_) => false,
+    }
+}
+
+/// Holds the fault that stands where the held bits end.
+#[cold]
+#[inline(never)]
+fn hold_fault(alloc: Global, end: Option<DataEnd>, refusal: &mut Option<Error>)
+    ensures names { (count : ℕ) (bits : List Bool) → is_ok (has_held count bits end) ≡ false
+        → Names (held_refusal refusal.new) (has_held count bits end) }
+    ensures held { is_some refusal.new ≡ true }
+{
+    *refusal = Some(match end {
+        Some(DataEnd::Malformed) => malformed_end(alloc),
+        _ => end_of_bytes(),
+    });
+}
+
+/// Holds the refusal of bits that are no code.
+#[cold]
+#[inline(never)]
+fn hold_no_code(alloc: Global, refusal: &mut Option<Error>)
+    ensures names { NamesFormat (held_refusal refusal.new) }
+    ensures held { is_some refusal.new ≡ true }
+{
+    hold_format_error(alloc, "failed to decode huffman code", refusal);
+}
+
+/// The refusal of FF 00 after fill bytes.
 #[cold]
 #[inline(never)]
 fn malformed_end(alloc: Global) -> Error

@@ -4,7 +4,7 @@ ghost use Rattle.jpeg_bits.specs.Entropy.{extended};
 
 use std::marker::Model;
 
-/// At most 64 bits. The first is the highest of the word, which has zeros behind them.
+/// At most 64 bits. The first is the highest of the word, which has zeros after them.
 #[derive(Debug, Drop)]
 pub(crate) struct Bits {
     word: u64,
@@ -23,7 +23,8 @@ impl Model for Bits {
 }
 
 impl Bits {
-    ghost use Rattle.std.specs.Prelude.{◌≡◌, ◌≤◌, ◌<◌, ◌^◌, ◌++◌, [], take, drop, length, replicate, false};
+    ghost use Rattle.std.specs.Prelude.{◌≡◌, ◌≤◌, ◌<◌, ◌^◌, ◌++◌, [], take, drop, length};
+    ghost use Rattle.std.specs.Prelude.{replicate, false};
     ghost use Rattle.jpeg_bits.specs.Codes.{next_16};
     ghost use Rattle.jpeg_bits.specs.ShortCodes.{next_8};
     ghost use Rattle.jpeg_bits.specs.Written.{low_bits};
@@ -33,6 +34,16 @@ impl Bits {
         ensures { result ≡ [] }
     {
         Bits { word: 0, count: 0 }
+    }
+
+    #[inline(always)]
+    pub(crate) fn copied(&self) -> Bits
+        ensures { result ≡ self.now }
+    {
+        Bits {
+            word: self.word,
+            count: self.count,
+        }
     }
 
     #[inline(always)]
@@ -51,7 +62,7 @@ impl Bits {
         self.count
     }
 
-    /// Puts a byte's bits behind those held.
+    /// Puts a byte's bits after those held.
     #[inline(always)]
     pub(crate) fn push(&mut self, byte: u8)
         requires { length self.old ≤ 56 }
@@ -61,7 +72,7 @@ impl Bits {
         self.count += 8;
     }
 
-    /// The first `count` bits, with zeros behind them, as a number.
+    /// The first `count` bits, with zeros after them, as a number.
     #[inline(always)]
     pub(crate) fn front(&self, count: usize) -> u16
         requires some { 1 ≤ count }
@@ -72,7 +83,7 @@ impl Bits {
         (self.word >> (64 - count)) as u16
     }
 
-    /// The first 16 bits, with zeros behind them, as a number.
+    /// The first 16 bits, with zeros after them, as a number.
     #[inline(always)]
     pub(crate) fn front_16(&self) -> u16
         ensures { low_bits 16 result ≡ next_16 self.now }
@@ -80,7 +91,7 @@ impl Bits {
         (self.word >> 48) as u16
     }
 
-    /// The first 8 bits, with zeros behind them, as a number.
+    /// The first 8 bits, with zeros after them, as a number.
     #[inline(always)]
     pub(crate) fn front_8(&self) -> u8
         ensures { low_bits 8 result ≡ next_8 self.now }

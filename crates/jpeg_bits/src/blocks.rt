@@ -1,11 +1,13 @@
 //! A block of a scan, of any pass.
-ghost use Rattle.std.specs.Prelude.{◌≡◌, ◌≤◌, length};
+ghost use Rattle.std.specs.Prelude.{◌≡◌, ◌≤◌, length, is_some, true, false};
+ghost use Rattle.jpeg_bits.specs.Refusals.{answer_of, outcome_of, IsHeld};
 ghost use Rattle.jpeg_bits.specs.Entropy.{Takes};
 ghost use Rattle.jpeg_bits.specs.declared.codes.HuffmanTableClass.TheVariants.{AC};
 ghost use Rattle.jpeg_bits.specs.Passes.{dc_part, band_part, block_from, or_bit};
 ghost use Rattle.jpeg_bits.specs.BlockView.{to_block, pass_in, IsPass};
 
-use crate::error::Result;
+use crate::ahead::Held;
+use crate::error::{Error, Result, take_refusal};
 use crate::huffman::{HuffmanDecoder, HuffmanTable};
 use crate::refinement::{correct_band, lacks_bit, read_refined_band, unit};
 use crate::source::Source;
@@ -40,69 +42,143 @@ fn with_bit(value: i16, al: u8, bit: u16) -> i16
     value
 }
 
-/// The DC coefficient of a block.
+/// The DC coefficient of a block. A refusal is held in its place, and answered by none.
+#[inline]
 #[tactic(auto, using(crate::proofs::BlockParts::dc_rules))]
 fn read_dc<R: Read + Drop>(
-    alloc: Global,
-    decoder: &mut HuffmanDecoder,
+    held: &mut Held,
     source: &mut Source<R>,
     table: &HuffmanTable,
     pass: Pass,
     value: i16,
     predictor: &mut i16,
-) -> Result<i16>
+    refusal: &mut Option<Error>,
+) -> Option<i16>
     requires { IsPass (pass_in pass) }
-    ensures { Takes (λ z. (z, predictor.new)) (dc_part (pass_in pass) table.now value predictor.old)
-        decoder.old source.old result decoder.new source.new }
+    ensures part { Takes (λ z. (z, predictor.new)) (dc_part (pass_in pass) table.now value predictor.old)
+        held.old source.old (answer_of result refusal.new) held.new source.new }
+    ensures held { IsHeld result refusal.new }
 {
     if pass.ss > 0 {
-        return Ok(value);
+        return Some(value);
     }
     if pass.is_first {
-        let difference = read_difference(alloc, decoder, source, table)?;
+        let Some(difference) = read_difference(held, source, table, refusal) else {
+            return None;
+        };
         *predictor = wrapped_sum(*predictor, difference);
-        return Ok(shifted(*predictor, pass.al));
+        return Some(shifted(*predictor, pass.al));
     }
-    let bit = decoder.get_bits(source, 1)?;
-    Ok(with_bit(value, pass.al, bit))
+    match held.take_number(source, 1, refusal) {
+        Some(bit) => Some(with_bit(value, pass.al, bit)),
+        None => None,
+    }
 }
 
 /// The band of a block. In a run of blocks without tokens it stays as it is, and in a refinement it
-/// is corrected.
+/// is corrected. A refusal is held in its place, and answered by false.
+#[inline]
 #[tactic(auto, using(crate::proofs::BlockParts::band_rules))]
 fn read_band<R: Read + Drop>(
-    alloc: Global,
-    decoder: &mut HuffmanDecoder,
+    held: &mut Held,
     source: &mut Source<R>,
     table: &HuffmanTable,
     pass: Pass,
     run: &mut u16,
     band: &mut [i16],
-) -> Result<()>
+    refusal: &mut Option<Error>,
+) -> bool
     requires class { table.now.class ≡ AC }
     requires pass { IsPass (pass_in pass) }
     ensures len { length band.new ≡ length band.old }
     ensures band { Takes (λ _. (band.new, run.new)) (band_part (pass_in pass) table.now band.old run.old)
-        decoder.old source.old result decoder.new source.new }
+        held.old source.old (outcome_of result refusal.new) held.new source.new }
+    ensures held { result ≡ false → is_some refusal.new ≡ true }
 {
     if band.is_empty() {
-        return Ok(());
+        return true;
     }
     if *run > 0 {
         if pass.is_first {
             *run -= 1;
-            return Ok(());
+            return true;
         }
-        correct_band(alloc, decoder, source, pass.al, band)?;
+        if !correct_band(held, source, pass.al, band, refusal) {
+            return false;
+        }
         *run -= 1;
-        return Ok(());
+        return true;
     }
-    if pass.is_first {
-        *run = read_first_band(decoder, source, table, pass.al, band)?;
-        return Ok(());
+    let next = if pass.is_first {
+        read_first_band(held, source, table, pass.al, band, refusal)
+    } else {
+        read_refined_band(held, source, table, pass.al, band, refusal)
+    };
+    match next {
+        Some(blocks) => {
+            *run = blocks;
+            true
+        }
+        None => false,
     }
-    *run = read_refined_band(alloc, decoder, source, table, pass.al, band)?;
-    Ok(())
+}
+
+/// A block, in zigzag order, read on what is held of it. A refusal is held in its place, and
+/// answered by false.
+pub(crate) fn read_held_block<R: Read + Drop>(
+    held: &mut Held,
+    source: &mut Source<R>,
+    dc_table: &HuffmanTable,
+    ac_table: &HuffmanTable,
+    pass: Pass,
+    predictor: &mut i16,
+    run: &mut u16,
+    block: &mut [i16; 64],
+    refusal: &mut Option<Error>,
+) -> bool
+    requires class { ac_table.now.class ≡ AC }
+    requires pass { IsPass (pass_in pass) }
+    ensures block { Takes (λ _. (to_block block.new, predictor.new, run.new))
+        (block_from (pass_in pass) dc_table.now ac_table.now predictor.old run.old (to_block block.old))
+        held.old source.old (outcome_of result refusal.new) held.new source.new }
+    ensures held { result ≡ false → is_some refusal.new ≡ true }
+{
+    let Some(dc) = read_dc(held, source, dc_table, pass, block[0], predictor, refusal) else {
+        return false;
+    };
+    block[0] = dc;
+    let start = usize::from(pass.ss.max(1));
+    let end = usize::from(pass.se) + 1;
+    let band = &mut block[start..end];
+    if !read_band(held, source, ac_table, pass, run, band, refusal) {
+        return false;
+    }
+    true
+}
+
+/// A block, in zigzag order, read on what is held of it. A refusal is put into its place, and
+/// answered by false.
+pub fn take_block<R: Read + Drop>(
+    decoder: &mut HuffmanDecoder,
+    source: &mut Source<R>,
+    dc_table: &HuffmanTable,
+    ac_table: &HuffmanTable,
+    pass: Pass,
+    predictor: &mut i16,
+    run: &mut u16,
+    block: &mut [i16; 64],
+    refusal: &mut Option<Error>,
+) -> bool
+    requires class { ac_table.now.class ≡ AC }
+    requires pass { IsPass (pass_in pass) }
+    ensures block { Takes (λ _. (to_block block.new, predictor.new, run.new))
+        (block_from (pass_in pass) dc_table.now ac_table.now predictor.old run.old (to_block block.old))
+        decoder.old source.old (outcome_of result refusal.new) decoder.new source.new }
+    ensures held { result ≡ false → is_some refusal.new ≡ true }
+{
+    decoder.take_block(
+        source, dc_table, ac_table, pass, predictor, run, block, refusal,
+    )
 }
 
 /// A block, in zigzag order, read on what is held of it.
@@ -123,17 +199,18 @@ pub fn read_block<R: Read + Drop>(
         (block_from (pass_in pass) dc_table.now ac_table.now predictor.old run.old (to_block block.old))
         decoder.old source.old result decoder.new source.new }
 {
-    block[0] = read_dc(alloc, decoder, source, dc_table, pass, block[0], predictor)?;
-    let start = usize::from(pass.ss.max(1));
-    let end = usize::from(pass.se) + 1;
-    read_band(
-        alloc,
-        decoder,
+    let mut refusal = None;
+    if decoder.take_block(
         source,
+        dc_table,
         ac_table,
         pass,
+        predictor,
         run,
-        &mut block[start..end],
-    )?;
-    Ok(())
+        block,
+        &mut refusal,
+    ) {
+        return Ok(());
+    }
+    Err(take_refusal(&mut refusal))
 }

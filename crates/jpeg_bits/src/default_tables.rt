@@ -1,6 +1,8 @@
 //! The tables that the frames of an MJPEG stream may leave out (T.81, K.3.3).
 ghost use Rattle.std.specs.Prelude.{◌≡◌, ◌≤◌, length, MatchResult};
-ghost use Rattle.jpeg_bits.specs.DefaultTables.{AreBetween, AreCodes, luminance_ac, luminance_dc, chrominance_ac, chrominance_dc, filled, names, with_defaults};
+ghost use Rattle.jpeg_bits.specs.DefaultTables.{AreBetween, AreCodes, luminance_ac, luminance_dc};
+ghost use Rattle.jpeg_bits.specs.DefaultTables.{chrominance_ac, chrominance_dc, filled, names};
+ghost use Rattle.jpeg_bits.specs.DefaultTables.{with_defaults};
 ghost use Rattle.jpeg_bits.specs.declared.error.Error.TheVariants.{OutOfMemory};
 
 use crate::codes::{HuffmanTable, HuffmanTableClass};
@@ -78,7 +80,8 @@ fn fill(
     Ok(())
 }
 
-/// Fills places 0 and 1, where they are named and unset, with the tables of luminance and of chrominance.
+/// Fills places 0 and 1, where they are named and unset, with the tables of luminance and of
+/// chrominance.
 fn fill_both(
     alloc: Global,
     tables: &mut [Option<HuffmanTable>],
@@ -114,8 +117,9 @@ fn fill_both(
     )
 }
 
-/// Puts the default tables of T.81 (Tables K.3 to K.6), which the frames of an MJPEG stream may leave out, at those of the places 0 and 1 that
-/// a scan names and that are unset. All other places stay as they are. The lists have a table for each place, DC and AC.
+/// Puts the default tables of T.81 (Tables K.3 to K.6), which the frames of an MJPEG stream may
+/// leave out, at those of the places 0 and 1 that a scan names and that are unset. All other places
+/// stay as they are. The lists have a table for each place, DC and AC.
 ///
 /// The only error is `OutOfMemory`; places that were filled before it stay filled.
 pub fn fill_default_mjpeg_tables(

@@ -1,5 +1,6 @@
 //! Errors, and the reader whose failures they name.
-ghost use Rattle.std.specs.Prelude.{◌≡◌};
+ghost use Rattle.std.specs.Prelude.{◌≡◌, is_some, true};
+ghost use Rattle.jpeg_bits.specs.Refusals.{held_refusal};
 ghost use Rattle.jpeg_bits.specs.Reading.{NamesFormat, NamesEnd};
 ghost use Rattle.jpeg_bits.specs.declared.error.Error.TheVariants.{Io, OutOfMemory};
 
@@ -12,17 +13,25 @@ use std::io::ErrorKind;
 /// A feature of JPEG that is refused by name. A number is what the stream asks for.
 #[derive(Clone, Debug, PartialEq, Eq, Hash, Drop)]
 pub enum UnsupportedFeature {
+    /// Hierarchical coding (T.81, Annex J), also a second frame or a differential one.
     Hierarchical,
+    /// Arithmetic coding (T.81, Annex D).
     ArithmeticEntropyCoding,
+    /// A precision of this number of bits a sample.
     SamplePrecision(u8),
+    /// A frame of this number of components: 0, 2 or more than 4; 255 also stands for more.
     ComponentCount(u8),
+    /// A number of lines after the first scan (T.81, B.2.5).
     DNL,
+    /// Not answered: kept for callers of the original crate.
     SubsamplingRatio,
+    /// Sampling factors that don't divide the greatest ones.
     NonIntegerSubsamplingRatio,
+    /// A colour transform that is not known here.
     ColorTransform(ColorTransform),
 }
 
-/// Why a stream could not be decoded.
+/// Why a stream can't be decoded.
 #[derive(Debug, Drop, thiserror::Error)]
 pub enum Error {
     /// The stream breaks a rule, which the text says.
@@ -37,7 +46,7 @@ pub enum Error {
     /// A call that is not allowed in the state the decoder is in.
     #[error("{0}")]
     Internal(&'static str),
-    /// Memory is wanting.
+    /// An allocation was refused.
     #[error("out of memory")]
     OutOfMemory,
 }
@@ -69,7 +78,8 @@ impl<T: Drop> From<AllocFailed<T>> for Error {
     }
 }
 
-/// A refusal of a broken rule, whose text says which: a `Format`, or `OutOfMemory` where there is none for the text.
+/// A refusal of a broken rule, whose text says which: a `Format`, or `OutOfMemory` where there is
+/// none for the text.
 #[cold]
 #[inline(never)]
 pub fn format_error(alloc: Global, text: &str) -> Error
@@ -81,6 +91,17 @@ pub fn format_error(alloc: Global, text: &str) -> Error
     }
 }
 
+/// Holds `format_error` in the place of a refusal: a call in which no `Error` stands has none to
+/// make room for.
+#[cold]
+#[inline(never)]
+pub(crate) fn hold_format_error(alloc: Global, text: &str, refusal: &mut Option<Error>)
+    ensures names { NamesFormat (held_refusal refusal.new) }
+    ensures held { is_some refusal.new ≡ true }
+{
+    *refusal = Some(format_error(alloc, text));
+}
+
 /// The refusal where the bytes end: an `Io` of the kind `UnexpectedEof`.
 #[cold]
 #[inline(never)]
@@ -88,4 +109,17 @@ pub fn end_of_bytes() -> Error
     ensures { NamesEnd result }
 {
     Error::Io(io::Error::new(ErrorKind::UnexpectedEof, "failed to fill whole buffer"))
+}
+
+/// The refusal that a call has put into its place, taken out.
+#[cold]
+#[inline(never)]
+pub fn take_refusal(refusal: &mut Option<Error>) -> Error
+    requires { is_some refusal.old ≡ true }
+    ensures { result ≡ held_refusal refusal.old }
+{
+    match refusal.take() {
+        Some(e) => e,
+        None => Error::OutOfMemory,
+    }
 }

@@ -1,35 +1,22 @@
 //! Entropy-coded bits (T.81, B.1.1.5 and F.2.2).
-ghost use Rattle.std.specs.Prelude.{◌≡◌, ◌≤◌, ◌<◌, ◌^◌, true, is_some};
-ghost use Rattle.jpeg_bits.specs.Reading.{NamesFormat};
-ghost use Rattle.jpeg_bits.specs.Refusals.{held_refusal};
+ghost use Rattle.std.specs.Prelude.{◌≡◌, ◌≤◌, ◌<◌, ◌^◌};
 
 use crate::ahead::{Held, marker_of_end};
 use crate::bits::extend;
+use crate::blocks::{Pass, read_held_block};
 pub use crate::codes::{HuffmanTable, HuffmanTableClass};
 pub use crate::default_tables::fill_default_mjpeg_tables;
-use crate::error::{Error, Result, format_error};
+use crate::error::{Error, Result, take_refusal};
 use crate::marker::Marker;
 use crate::source::Source;
 use std::alloc::Global;
 use std::io::Read;
 use std::marker::Model;
 
-/// The refusal that is held, taken out.
-#[cold]
-#[inline(never)]
-fn take_refusal(refusal: &mut Option<Error>) -> Error
-    requires { is_some refusal.old ≡ true }
-    ensures { result ≡ held_refusal refusal.old }
-{
-    match refusal.take() {
-        Some(e) => e,
-        None => Error::OutOfMemory,
-    }
-}
-
-/// A reader of entropy-coded bits (T.81, F.2.2): those read ahead of a source, at most 64, and the end that was met.
-/// Stuffed zeros are taken out (B.1.1.5). Behind a marker, zeros come without end. A fault that is met is refused
-/// only where a bit behind it is taken, and a read that fails at once, by the call that meets it.
+/// A reader of entropy-coded bits (T.81, F.2.2): those read ahead of a source, at most 64, and the
+/// end that was met. Stuffed zeros are taken out (B.1.1.5). After a marker, zeros come without end.
+/// A fault that is met is refused only where a bit after it is taken, and a read that fails at
+/// once, by the call that meets it.
 #[derive(Debug, Drop)]
 pub struct HuffmanDecoder {
     alloc: Global,
@@ -46,7 +33,12 @@ impl Model for HuffmanDecoder {
 }
 
 impl HuffmanDecoder {
-    ghost use Rattle.std.specs.Prelude.{◌≡◌, ◌≤◌, ◌<◌, ◌^◌, [], None, OnOk, IfOk, IfSome};
+    ghost use Rattle.std.specs.Prelude.{◌≡◌, ◌≤◌, ◌<◌, ◌^◌, [], None, OnOk, IfOk, is_some, true};
+    ghost use Rattle.std.specs.Prelude.{false};
+    ghost use Rattle.jpeg_bits.specs.declared.codes.HuffmanTableClass.TheVariants.{AC};
+    ghost use Rattle.jpeg_bits.specs.Passes.{block_from};
+    ghost use Rattle.jpeg_bits.specs.BlockView.{to_block, pass_in, IsPass};
+    ghost use Rattle.jpeg_bits.specs.Refusals.{outcome_of};
     ghost use Rattle.jpeg_bits.specs.Codes.{symbol_from, fast_from};
     ghost use Rattle.jpeg_bits.specs.Reading.{Answers};
     ghost use Rattle.jpeg_bits.specs.Readers.{signed_from};
@@ -58,7 +50,7 @@ impl HuffmanDecoder {
     {
         HuffmanDecoder {
             alloc,
-            held: Held::new(),
+            held: Held::new(alloc),
             refusal: None,
         }
     }
@@ -70,27 +62,25 @@ impl HuffmanDecoder {
         self.held.clear();
     }
 
-    /// The next `count` bits, from 1 to 16, as a number, the highest first. Behind a marker they are zeros. It is
-    /// `Format` where FF 00 stands for a marker before them, and `Io` where the bytes end before them or a read fails.
+    /// The next `count` bits, from 1 to 16, as a number, the highest first. After a marker they are
+    /// zeros. It is `Format` where FF 00 stands for a marker before them, and `Io` where the bytes
+    /// end before them or a read fails.
     #[inline(always)]
     pub fn get_bits<R: Read + Drop>(&mut self, source: &mut Source<R>, count: u8) -> Result<u16>
         requires some { 1 ≤ count }
         requires most { count ≤ 16 }
-        ensures bits { Takes (λ n. n) (bits_from count) self.old source.old result self.new source.new }
+        ensures bits { Takes (λ n. n) (bits_from count) self.old source.old result self.new
+            source.new }
         ensures small { IfOk result (λ n. n < 2 ^ count) }
     {
-        let count = usize::from(count);
-        if !self.held.hold(self.alloc, source, count, &mut self.refusal) {
-            return Err(take_refusal(&mut self.refusal));
+        match self.held.take_number(source, count, &mut self.refusal) {
+            Some(number) => Ok(number),
+            None => Err(take_refusal(&mut self.refusal)),
         }
-        if !self.held.has(count) {
-            return Err(self.held.fault(self.alloc, count));
-        }
-        Ok(self.held.take(count))
     }
 
-    /// The next `count` bits, from 1 to 15, as a signed number (T.81, F.2.2.1): those below half their range stand for
-    /// the negative ones. Errors are those of `get_bits`.
+    /// The next `count` bits, from 1 to 15, as a signed number (T.81, F.2.2.1): those below half
+    /// their range stand for the negative ones. Errors are those of `get_bits`.
     #[inline(always)]
     #[tactic(auto, unfolding(crate::specs::Readers::signed_from))]
     pub fn receive_extend<R: Read + Drop>(
@@ -100,81 +90,87 @@ impl HuffmanDecoder {
     ) -> Result<i16>
         requires some { 1 ≤ count }
         requires most { count ≤ 15 }
-        ensures { Takes (λ v. v) (signed_from count) self.old source.old result self.new source.new }
+        ensures { Takes (λ v. v) (signed_from count) self.old source.old result self.new
+            source.new }
     {
         let value = self.get_bits(source, count)?;
         Ok(extend(value, count))
     }
 
-    /// The symbol whose code begins the bits (T.81, F.2.2.3), whose bits are taken. It is `Format` where no code of
-    /// the table begins them; the other errors are those of `get_bits`.
+    /// The symbol whose code begins the bits (T.81, F.2.2.3), whose bits are taken. It is `Format`
+    /// where no code of the table begins them; the other errors are those of `get_bits`.
     #[inline(always)]
     pub fn decode<R: Read + Drop>(
         &mut self,
         source: &mut Source<R>,
         table: &HuffmanTable,
     ) -> Result<u8>
-        ensures { Takes (λ n. n) (symbol_from table.now) self.old source.old result self.new source.new }
+        ensures { Takes (λ n. n) (symbol_from table.now) self.old source.old result self.new
+            source.new }
     {
-        if !self.held.hold(self.alloc, source, 16, &mut self.refusal) {
-            return Err(take_refusal(&mut self.refusal));
+        match self.held.take_symbol(source, table, &mut self.refusal) {
+            Some(symbol) => Ok(symbol),
+            None => Err(take_refusal(&mut self.refusal)),
         }
-        let Some((symbol, length)) = self.held.symbol(table) else {
-            return Err(no_code(self.alloc));
-        };
-        let length = usize::from(length);
-        if !self.held.has(length) {
-            return Err(self.held.fault(self.alloc, length));
-        }
-        self.held.skip(length);
-        Ok(symbol)
     }
 
-    /// The value and the run of zeros before it, where a code of a table of class AC and the value behind it take at
-    /// most 8 bits together (T.81, F.2.2.2), all of which are taken. Otherwise none, and no bit is taken. Errors are
-    /// those of `get_bits`.
+    /// The value and the run of zeros before it, where a code of a table of class AC and the value
+    /// after it take at most 8 bits together (T.81, F.2.2.2), all of which are taken. Otherwise
+    /// none, and no bit is taken. Errors are those of `get_bits`.
     #[inline(always)]
     pub fn decode_fast_ac<R: Read + Drop>(
         &mut self,
         source: &mut Source<R>,
         table: &HuffmanTable,
     ) -> Result<Option<(i16, u8)>>
-        ensures { Takes (λ v. v) (fast_from table.now) self.old source.old result self.new source.new }
+        ensures { Takes (λ v. v) (fast_from table.now) self.old source.old result self.new
+            source.new }
     {
-        if !self.held.hold(self.alloc, source, 8, &mut self.refusal) {
-            return Err(take_refusal(&mut self.refusal));
+        match self.held.take_short_value(source, table, &mut self.refusal) {
+            Some(value) => Ok(value),
+            None => Err(take_refusal(&mut self.refusal)),
         }
-        let Some((value, run, bits)) = self.held.short_value(table) else {
-            return Ok(None);
-        };
-        let count = usize::from(bits);
-        if !self.held.has(count) {
-            return Err(self.held.fault(self.alloc, count));
-        }
-        self.held.skip(count);
-        Ok(Some((value, run)))
     }
 
-    /// The marker behind the bits taken, where at most 56 bits stand before it, which is met no more; the source goes
-    /// on behind it. Otherwise none, and the source goes on behind the byte of the 57th bit. It is `Format` where FF 00
-    /// stands for the marker, and `Io` where the bytes end first or a read fails.
+    /// The marker after the bits taken, where at most 56 bits stand before it; no bit is held any
+    /// more, and the source goes on after it. Otherwise none, and the source goes on after the byte
+    /// of the 57th bit. It is `Format` where FF 00 stands for the marker, and `Io` where the bytes
+    /// end first or a read fails.
     pub fn take_marker<R: Read + Drop>(&mut self, source: &mut Source<R>) -> Result<Option<Marker>>
-        ensures answers { Answers (λ m. m) (λ bytes. marker_from (upcoming self.old bytes)) source.old result source.new }
-        ensures taken { OnOk result (self.new.met ≡ None) }
+        ensures answers { Answers (λ m. m) (λ bytes. marker_from (upcoming self.old bytes))
+            source.old result source.new }
+        ensures taken { OnOk result (self.new ≡ fresh) }
     {
-        if !self.held.hold(self.alloc, source, 57, &mut self.refusal) {
+        if !self.held.hold(source, 57, &mut self.refusal) {
             return Err(take_refusal(&mut self.refusal));
         }
         let end = self.held.take_end();
         marker_of_end(self.alloc, end)
     }
-}
 
-/// The refusal of bits that are no code.
-#[cold]
-#[inline(never)]
-fn no_code(alloc: Global) -> Error
-    ensures { NamesFormat result }
-{
-    format_error(alloc, "failed to decode huffman code")
+    /// A block, in zigzag order, read on what is held of it. A refusal is put into its place, and
+    /// answered by false.
+    pub(crate) fn take_block<R: Read + Drop>(
+        &mut self,
+        source: &mut Source<R>,
+        dc_table: &HuffmanTable,
+        ac_table: &HuffmanTable,
+        pass: Pass,
+        predictor: &mut i16,
+        run: &mut u16,
+        block: &mut [i16; 64],
+        refusal: &mut Option<Error>,
+    ) -> bool
+        requires class { ac_table.now.class ≡ AC }
+        requires pass { IsPass (pass_in pass) }
+        ensures block { Takes (λ _. (to_block block.new, predictor.new, run.new))
+            (block_from (pass_in pass) dc_table.now ac_table.now predictor.old run.old (to_block block.old))
+            self.old source.old (outcome_of result refusal.new) self.new source.new }
+        ensures held { result ≡ false → is_some refusal.new ≡ true }
+    {
+        let held = &mut self.held;
+        read_held_block(
+            held, source, dc_table, ac_table, pass, predictor, run, block, refusal,
+        )
+    }
 }

@@ -1,10 +1,14 @@
-//! What the definitions of entropy-coded data mean in plain words, each a theorem on a function without a body.
-ghost use Rattle.std.specs.Prelude.{◌≡◌, ℕ, ◌<◌, ◌≤◌, ◌^◌, List, Bool, true, drop, length, slice_index, Some, Ok, Err};
-ghost use Rattle.jpeg_bits.specs.Entropy.{bits_from, text_at, upcoming, fresh, advance, marker_from};
-ghost use Rattle.jpeg_bits.specs.Codes.{Table, IsTable, HasCodes, codes_exist, code_lengths, code_in, begins, symbol_from};
+//! What the definitions of entropy-coded data mean in plain words, each a theorem on a function
+//! without a body.
+ghost use Rattle.std.specs.Prelude.{◌≡◌, ℕ, ◌<◌, ◌≤◌, ◌^◌, List, Bool, true, drop, length};
+ghost use Rattle.std.specs.Prelude.{slice_index, Some, Ok, Err};
+ghost use Rattle.jpeg_bits.specs.Entropy.{bits_from, text_at, upcoming, fresh, advance};
+ghost use Rattle.jpeg_bits.specs.Entropy.{marker_from};
+ghost use Rattle.jpeg_bits.specs.Codes.{Table, IsTable, HasCodes, codes_exist, code_lengths};
+ghost use Rattle.jpeg_bits.specs.Codes.{code_in, begins, symbol_from};
 ghost use Rattle.jpeg_bits.specs.Written.{low_bits, code_bits};
 ghost use Rattle.jpeg_bits.specs.Readers.{ReadsJust};
-ghost use Rattle.jpeg_bits.specs.Ends.{end_behind};
+ghost use Rattle.jpeg_bits.specs.Ends.{end_after};
 ghost use Rattle.jpeg_bits.specs.Reading.{Fault, End};
 ghost use Rattle.jpeg_bits.specs.Marker.{next_marker};
 ghost use Rattle.jpeg_bits.specs.NextMarker.{IsNextMarker, HasNoMarker};
@@ -38,7 +42,7 @@ pub fn codes_are_unique()
 /// How an interval ends in which k bits were taken.
 pub fn intervals_end()
     ensures { (k : ℕ) (bytes : List ℕ) → marker_from (advance k (upcoming fresh bytes))
-        ≡ end_behind k bytes (drop k (text_at bytes).bits) (text_at bytes).ending }
+        ≡ end_after k bytes (drop k (text_at bytes).bits) (text_at bytes).ending }
 {}
 
 /// Whether the codes of a table exist can be computed.
@@ -47,8 +51,9 @@ pub fn codes_exist_or_not()
     ensures tested { (lengths : List ℕ) → codes_exist lengths ≡ true → HasCodes lengths }
 {}
 
-/// The next marker is at the least index where a byte 255 and the byte behind it make a marker (T.81, B.1.1.2), and
-/// what is read on is all behind both. Where they make one at no index, the bytes end first.
+/// The next marker is at the least index where a byte 255 and the byte after it make a marker
+/// (T.81, B.1.1.2), and what is read on is all after both. Where they make one at no index, the
+/// bytes end first.
 pub fn next_markers_are_first()
     ensures found { (bytes : List ℕ) (i : ℕ) (m : Marker) (rest : List ℕ) → IsNextMarker bytes i m rest →
         next_marker bytes ≡ Ok (m, rest) }

@@ -1,6 +1,8 @@
 //! Reads of a source: bytes, numbers and skips.
-ghost use Rattle.std.specs.Prelude.{◌≡◌};
-ghost use Rattle.jpeg_bits.specs.Reading.{Answers, IsShort, next_byte, next_u16, length_at, skip_at};
+ghost use Rattle.std.specs.Prelude.{◌≡◌, true, Err};
+ghost use Rattle.jpeg_bits.specs.Reading.{Answers, IsShort, Malformed, next_byte, next_u16};
+ghost use Rattle.jpeg_bits.specs.Reading.{length_at, skip_at};
+ghost use Rattle.jpeg_bits.specs.declared.error.Error.TheVariants.{OutOfMemory};
 
 use crate::error::{Result, end_of_bytes, format_error};
 use crate::source::Source;
@@ -10,6 +12,8 @@ use std::io::Read;
 /// The next byte. It is `Io` where the bytes end or a read fails.
 pub fn read_u8<R: Read + Drop>(alloc: Global, source: &mut Source<R>) -> Result<u8>
     ensures answers { Answers (λ b. b) next_byte source.old result source.new }
+    ensures room { source.old.known ≡ true → result ≡ Err OutOfMemory
+        → next_byte source.old.bytes ≡ Err Malformed }
     ensures short { IsShort source.old }
 {
     let mut buffer = [0u8];
@@ -23,18 +27,22 @@ pub fn read_u8<R: Read + Drop>(alloc: Global, source: &mut Source<R>) -> Result<
 /// The next two bytes as a number, the higher first (T.81, B.1.1.1). Errors are those of `read_u8`.
 #[tactic(auto, unfolding(crate::specs::Reading::next_u16))]
 pub fn read_u16_be<R: Read + Drop>(alloc: Global, source: &mut Source<R>) -> Result<u16>
-    ensures { Answers (λ n. n) next_u16 source.old result source.new }
+    ensures answers { Answers (λ n. n) next_u16 source.old result source.new }
+    ensures room { source.old.known ≡ true → result ≡ Err OutOfMemory
+        → next_u16 source.old.bytes ≡ Err Malformed }
 {
     let high = read_u8(alloc, source)?;
     let low = read_u8(alloc, source)?;
     Ok(256 * u16::from(high) + u16::from(low))
 }
 
-/// A length field of two bytes, which counts itself (T.81, B.1.1.4): how many bytes follow it. It is `Format` where
-/// the field is below 2; the other errors are those of `read_u8`.
+/// A length field of two bytes, which counts itself (T.81, B.1.1.4): how many bytes follow it. It
+/// is `Format` where the field is below 2; the other errors are those of `read_u8`.
 #[tactic(auto, unfolding(crate::specs::Reading::length_at))]
 pub fn read_length<R: Read + Drop>(alloc: Global, source: &mut Source<R>) -> Result<u16>
-    ensures { Answers (λ n. n) length_at source.old result source.new }
+    ensures answers { Answers (λ n. n) length_at source.old result source.new }
+    ensures room { source.old.known ≡ true → result ≡ Err OutOfMemory
+        → length_at source.old.bytes ≡ Err Malformed }
 {
     let length = read_u16_be(alloc, source)?;
     if length < 2 {
@@ -46,7 +54,9 @@ pub fn read_length<R: Read + Drop>(alloc: Global, source: &mut Source<R>) -> Res
 /// Passes over `count` bytes. Errors are those of `read_u8`.
 #[tactic(auto, using(crate::proofs::Skips::skip_more, crate::proofs::Skips::skip_none))]
 pub fn skip<R: Read + Drop>(alloc: Global, source: &mut Source<R>, count: u16) -> Result<()>
-    ensures { Answers (λ u. u) (skip_at count) source.old result source.new }
+    ensures answers { Answers (λ u. u) (skip_at count) source.old result source.new }
+    ensures room { source.old.known ≡ true → result ≡ Err OutOfMemory
+        → skip_at count source.old.bytes ≡ Err Malformed }
 {
     let mut left = count;
     while left > 0 {

@@ -1,25 +1,29 @@
 //! Refinement of the coefficients of a block.
-ghost use Rattle.std.specs.Prelude.{◌≡◌, ◌≤◌, ◌==◌, ◌^◌, ◌+◌, ◌<◌, pos, length, IfOk};
+ghost use Rattle.std.specs.Prelude.{◌≡◌, ◌≤◌, ◌==◌, ◌^◌, ◌+◌, ◌<◌, pos, length, IfSome, is_some};
+ghost use Rattle.std.specs.Prelude.{true, false};
+ghost use Rattle.jpeg_bits.specs.Refusals.{answer_of, outcome_of, IsHeld};
 ghost use Rattle.jpeg_bits.specs.Reading.{Gives};
 ghost use Rattle.jpeg_bits.specs.Entropy.{Takes};
 ghost use Rattle.jpeg_bits.specs.Refinement.{bit_of, new_number};
-ghost use Rattle.jpeg_bits.specs.Pieces.{moved_within, run_from, place_from, piece_from, refinement_from, refined_band_from, corrected};
+ghost use Rattle.jpeg_bits.specs.Pieces.{moved_within, run_from, place_from, piece_from};
+ghost use Rattle.jpeg_bits.specs.Pieces.{refinement_from, refined_band_from, corrected};
 
-use crate::error::{Result, format_error};
-use crate::huffman::{HuffmanDecoder, HuffmanTable};
+use crate::ahead::Held;
+use crate::error::{Error, hold_format_error};
+use crate::huffman::HuffmanTable;
 use crate::source::Source;
 use crate::tokens::power_of_two;
 use std::alloc::Global;
 use std::io::Read;
 
-/// What a token of a refinement says of the places behind it.
+/// What a token of a refinement says of the places after it.
 #[derive(Clone, Copy, Debug, PartialEq)]
 pub enum Refinement {
     /// The piece ends with the sixteenth zero.
     Zeros,
-    /// So many zeros are kept, and the one behind them has a new value.
+    /// This many zeros are kept, and the one after them has a new value.
     New(u8, i16),
-    /// The band ends here, and so do those of so many blocks behind it.
+    /// The band ends here, and so do those of this many blocks after it.
     End(u16),
 }
 
@@ -41,27 +45,36 @@ pub(crate) fn lacks_bit(value: i16, al: u8) -> bool
     (value.cast_unsigned() >> al) % 2 == 0
 }
 
-/// How many blocks behind this one have no tokens.
+/// How many blocks after this one have no tokens.
+#[inline(always)]
 #[tactic(auto, unfolding(crate::specs::Pieces::run_from), using(crate::proofs::BandSteps::no_bits_taken))]
 fn read_run<R: Read + Drop>(
-    decoder: &mut HuffmanDecoder,
+    held: &mut Held,
     source: &mut Source<R>,
     exponent: u8,
-) -> Result<u16>
+    refusal: &mut Option<Error>,
+) -> Option<u16>
     requires { exponent ≤ 14 }
-    ensures { Takes (λ n. n) (run_from exponent) decoder.old source.old result decoder.new source.new }
+    ensures run { Takes (λ n. n) (run_from exponent) held.old source.old
+        (answer_of result refusal.new) held.new source.new }
+    ensures held { IsHeld result refusal.new }
 {
     if exponent == 0 {
-        return Ok(0);
+        return Some(0);
     }
-    let extra = decoder.get_bits(source, exponent)?;
-    Ok(power_of_two(exponent) - 1 + extra)
+    match held.take_number(source, exponent, refusal) {
+        Some(extra) => Some(power_of_two(exponent) - 1 + extra),
+        None => None,
+    }
 }
 
-/// A number that isn't 0, moved away from zero.
-fn move_away(alloc: Global, value: i16, al: u8) -> Result<i16>
+/// A number that isn't 0, moved away from zero. A refusal is held in its place, and answered by
+/// none.
+#[inline]
+fn move_away(alloc: Global, value: i16, al: u8, refusal: &mut Option<Error>) -> Option<i16>
     requires { al ≤ 13 }
-    ensures { Gives (moved_within (2 ^ al) value) result }
+    ensures moved { Gives (moved_within (2 ^ al) value) (answer_of result refusal.new) }
+    ensures held { IsHeld result refusal.new }
 {
     let moved = if value >= 0 {
         value.checked_add(unit(al))
@@ -69,61 +82,75 @@ fn move_away(alloc: Global, value: i16, al: u8) -> Result<i16>
         value.checked_sub(unit(al))
     };
     match moved {
-        Some(moved) => Ok(moved),
-        None => Err(format_error(alloc, "a coefficient overflows")),
+        Some(moved) => Some(moved),
+        None => {
+            hold_format_error(alloc, "a coefficient overflows", refusal);
+            None
+        }
     }
 }
 
 /// A place of a piece, with its correction bit.
+#[inline(always)]
 #[tactic(auto, unfolding(crate::specs::Pieces::place_from))]
 fn correct<R: Read + Drop>(
-    alloc: Global,
-    decoder: &mut HuffmanDecoder,
+    held: &mut Held,
     source: &mut Source<R>,
     al: u8,
     value: i16,
-) -> Result<i16>
+    refusal: &mut Option<Error>,
+) -> Option<i16>
     requires { al ≤ 13 }
-    ensures { Takes (λ v. v) (place_from al value) decoder.old source.old result decoder.new source.new }
+    ensures place { Takes (λ v. v) (place_from al value) held.old source.old
+        (answer_of result refusal.new) held.new source.new }
+    ensures held { IsHeld result refusal.new }
 {
     if value == 0 {
-        return Ok(0);
+        return Some(0);
     }
-    let bit = decoder.get_bits(source, 1)?;
+    let Some(bit) = held.take_number(source, 1, refusal) else {
+        return None;
+    };
     if bit == 0 || !lacks_bit(value, al) {
-        return Ok(value);
+        return Some(value);
     }
-    move_away(alloc, value, al)
+    move_away(held.alloc(), value, al, refusal)
 }
 
-/// Corrects a piece, which ends with the zero behind so many zeros, or is the whole rest of the band. Gives how many
-/// places it has.
+/// Corrects a piece, which ends with the zero after this many zeros, or is the whole rest of the
+/// band. Gives how many places it has.
+#[inline(always)]
 #[tactic(auto, using(crate::proofs::PieceWalks::walk_all, crate::proofs::PieceWalks::walk_none, crate::proofs::PieceWalks::walk_stop, crate::proofs::PieceWalks::walk_skip, crate::proofs::PieceWalks::walk_value))]
 fn correct_piece<R: Read + Drop>(
-    alloc: Global,
-    decoder: &mut HuffmanDecoder,
+    held: &mut Held,
     source: &mut Source<R>,
     al: u8,
     zeros: usize,
     rest: &mut [i16],
-) -> Result<usize>
+    refusal: &mut Option<Error>,
+) -> Option<usize>
     requires { al ≤ 13 }
     ensures len { length rest.new ≡ length rest.old }
-    ensures within { IfOk result (λ n. (n ≤ length rest.old) × (0 < length rest.old → 0 < n)) }
-    ensures piece { Takes (λ n. (n, rest.new)) (piece_from al zeros rest.old) decoder.old source.old result decoder.new source.new }
+    ensures within { IfSome result (λ n. (n ≤ length rest.old) × (0 < length rest.old → 0 < n)) }
+    ensures piece { Takes (λ n. (n, rest.new)) (piece_from al zeros rest.old) held.old source.old
+        (answer_of result refusal.new) held.new source.new }
+    ensures held { IsHeld result refusal.new }
 {
     let mut left = zeros;
     for index in 0..rest.len() {
         let value = rest[index];
         if value != 0 {
-            rest[index] = correct(alloc, decoder, source, al, value)?;
+            let Some(corrected) = correct(held, source, al, value, refusal) else {
+                return None;
+            };
+            rest[index] = corrected;
         } else if left == 0 {
-            return Ok(index + 1);
+            return Some(index + 1);
         } else {
             left -= 1;
         }
     }
-    Ok(rest.len())
+    Some(rest.len())
 }
 
 /// The new number of a sign bit.
@@ -135,90 +162,138 @@ fn signed_unit(sign: u16, al: u8) -> i16
 }
 
 /// A token of a refinement, and its sign bit or the bits of its run.
+#[inline(always)]
 #[tactic(auto, unfolding(crate::specs::Pieces::refinement_from))]
 fn read_refinement<R: Read + Drop>(
-    alloc: Global,
-    decoder: &mut HuffmanDecoder,
+    held: &mut Held,
     source: &mut Source<R>,
     table: &HuffmanTable,
     al: u8,
-) -> Result<Refinement>
+    refusal: &mut Option<Error>,
+) -> Option<Refinement>
     requires { al ≤ 13 }
-    ensures { Takes (λ t. t) (refinement_from table.now al) decoder.old source.old result decoder.new source.new }
+    ensures token { Takes (λ t. t) (refinement_from table.now al) held.old source.old
+        (answer_of result refusal.new) held.new source.new }
+    ensures held { IsHeld result refusal.new }
 {
-    let symbol = decoder.decode(source, table)?;
+    let Some(symbol) = held.take_symbol(source, table, refusal) else {
+        return None;
+    };
     let run = symbol / 16;
     match symbol % 16 {
         0 => {
             if run == 15 {
-                return Ok(Refinement::Zeros);
+                return Some(Refinement::Zeros);
             }
-            let blocks = read_run(decoder, source, run)?;
-            Ok(Refinement::End(blocks))
+            match read_run(held, source, run, refusal) {
+                Some(blocks) => Some(Refinement::End(blocks)),
+                None => None,
+            }
         }
-        1 => {
-            let sign = decoder.get_bits(source, 1)?;
-            Ok(Refinement::New(run, signed_unit(sign, al)))
+        1 => match held.take_number(source, 1, refusal) {
+            Some(sign) => Some(Refinement::New(run, signed_unit(sign, al))),
+            None => None,
+        },
+        _ => {
+            hold_format_error(held.alloc(), "unexpected huffman code", refusal);
+            None
         }
-        _ => Err(format_error(alloc, "unexpected huffman code")),
     }
 }
 
-/// A band of a refinement, in zigzag order, and how many blocks behind this one have no tokens.
+/// A band of a refinement, in zigzag order, and how many blocks after this one have no tokens.
+#[inline(always)]
 #[tactic(auto, using(crate::proofs::RefinedBands::refined_more, crate::proofs::RefinedBands::refined_none, crate::proofs::RefinedBands::refined_all))]
-pub fn read_refined_band<R: Read + Drop>(
-    alloc: Global,
-    decoder: &mut HuffmanDecoder,
+fn read_refined_places<R: Read + Drop>(
+    held: &mut Held,
     source: &mut Source<R>,
     table: &HuffmanTable,
     al: u8,
     band: &mut [i16],
-) -> Result<u16>
+    refusal: &mut Option<Error>,
+) -> Option<u16>
     requires { al ≤ 13 }
     ensures len { length band.new ≡ length band.old }
-    ensures reads { Takes (λ run. (band.new, run)) (refined_band_from table.now al band.old) decoder.old source.old result decoder.new source.new }
+    ensures reads { Takes (λ run. (band.new, run)) (refined_band_from table.now al band.old)
+        held.old source.old (answer_of result refusal.new) held.new source.new }
+    ensures held { IsHeld result refusal.new }
 {
     let mut index = 0;
     while index < band.len() {
-        match read_refinement(alloc, decoder, source, table, al)? {
+        let Some(token) = read_refinement(held, source, table, al, refusal) else {
+            return None;
+        };
+        match token {
             Refinement::Zeros => {
-                index += correct_piece(alloc, decoder, source, al, 15, &mut band[index..])?;
+                let part = &mut band[index..];
+                let Some(count) = correct_piece(held, source, al, 15, part, refusal) else {
+                    return None;
+                };
+                index += count;
             }
             Refinement::New(run, value) => {
-                index += correct_piece(
-                    alloc,
-                    decoder,
-                    source,
-                    al,
-                    usize::from(run),
-                    &mut band[index..],
-                )?;
+                let zeros = usize::from(run);
+                let part = &mut band[index..];
+                let Some(count) = correct_piece(held, source, al, zeros, part, refusal) else {
+                    return None;
+                };
+                index += count;
                 band[index - 1] = value;
             }
             Refinement::End(blocks) => {
                 let zeros = band.len();
-                correct_piece(alloc, decoder, source, al, zeros, &mut band[index..])?;
-                return Ok(blocks);
+                let part = &mut band[index..];
+                return match correct_piece(held, source, al, zeros, part, refusal) {
+                    Some(_) => Some(blocks),
+                    None => None,
+                };
             }
         }
     }
-    Ok(0)
+    Some(0)
 }
 
-/// The whole band, one correction bit for each place that isn't zero.
+/// As `read_refined_places`, on a copy of what is held: a local that stays in registers.
+#[inline(never)]
+pub(crate) fn read_refined_band<R: Read + Drop>(
+    held: &mut Held,
+    source: &mut Source<R>,
+    table: &HuffmanTable,
+    al: u8,
+    band: &mut [i16],
+    refusal: &mut Option<Error>,
+) -> Option<u16>
+    requires { al ≤ 13 }
+    ensures len { length band.new ≡ length band.old }
+    ensures reads { Takes (λ run. (band.new, run)) (refined_band_from table.now al band.old)
+        held.old source.old (answer_of result refusal.new) held.new source.new }
+    ensures held { IsHeld result refusal.new }
+{
+    let mut local = held.copied();
+    let run = read_refined_places(&mut local, source, table, al, band, refusal);
+    *held = local;
+    run
+}
+
+/// The whole band, one correction bit for each place that isn't zero. A refusal is held in its
+/// place, and answered by false.
 #[tactic(auto, using(crate::proofs::RefinedBands::whole_piece))]
-pub fn correct_band<R: Read + Drop>(
-    alloc: Global,
-    decoder: &mut HuffmanDecoder,
+pub(crate) fn correct_band<R: Read + Drop>(
+    held: &mut Held,
     source: &mut Source<R>,
     al: u8,
     band: &mut [i16],
-) -> Result<()>
+    refusal: &mut Option<Error>,
+) -> bool
     requires { al ≤ 13 }
     ensures len { length band.new ≡ length band.old }
-    ensures band { Takes (λ _. band.new) (corrected al band.old) decoder.old source.old result decoder.new source.new }
+    ensures band { Takes (λ _. band.new) (corrected al band.old)
+        held.old source.old (outcome_of result refusal.new) held.new source.new }
+    ensures held { result ≡ false → is_some refusal.new ≡ true }
 {
     let zeros = band.len();
-    correct_piece(alloc, decoder, source, al, zeros, band)?;
-    Ok(())
+    let mut local = held.copied();
+    let count = correct_piece(&mut local, source, al, zeros, band, refusal);
+    *held = local;
+    count.is_some()
 }

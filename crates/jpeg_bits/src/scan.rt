@@ -8,13 +8,21 @@ pub const MAX_COMPONENTS: usize = 4;
 /// How a lossless sample is predicted (T.81, Table H.1).
 #[derive(Clone, Copy, Debug, PartialEq)]
 pub enum Predictor {
+    /// Selection 0, of differential frames: the difference is the sample.
     NoPrediction,
+    /// Selection 1: the sample to the left.
     Ra,
+    /// Selection 2: the sample above.
     Rb,
+    /// Selection 3: the sample above and to the left.
     Rc,
+    /// Selection 4: Ra + Rb - Rc.
     RaRbRc1,
+    /// Selection 5: Ra + ((Rb - Rc) >> 1).
     RaRbRc2,
+    /// Selection 6: Rb + ((Ra - Rc) >> 1).
     RaRbRc3,
+    /// Selection 7: (Ra + Rb) / 2.
     RaRb,
 }
 

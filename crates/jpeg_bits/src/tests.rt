@@ -91,7 +91,7 @@ fn the_end_is_no_failure(rt: HostRuntime) {
 }
 
 #[test]
-fn markers_behind_other_bytes(rt: HostRuntime) -> Result<(), Fail> {
+fn markers_after_other_bytes(rt: HostRuntime) -> Result<(), Fail> {
     let mut source = Source::new(reader_of(&[0x41, 0xff, 0, 0x42, 0xff, 0xff, 0xc0], 2));
     assert!(rt; read_marker(rt.alloc(), &mut source)? == Marker::SOF(0));
     Ok(())
@@ -195,7 +195,7 @@ fn an_end_within_56_bits(rt: HostRuntime) -> Result<(), Fail> {
 }
 
 #[test]
-fn an_end_behind_57_bits(rt: HostRuntime) -> Result<(), Fail> {
+fn an_end_after_57_bits(rt: HostRuntime) -> Result<(), Fail> {
     let mut source = Source::new(reader_of(&[0x43, 0, 0, 0, 0, 0, 0, 0, 0xff, 0xd0], 3));
     let mut decoder = HuffmanDecoder::new(rt.alloc());
     assert_eq!(rt; decoder.get_bits(&mut source, 7)?, 0x21);
@@ -228,7 +228,7 @@ fn a_reset_forgets_bits_but_no_marker(rt: HostRuntime) -> Result<(), Fail> {
 }
 
 #[test]
-fn bits_behind_the_end(rt: HostRuntime) -> Result<(), Fail> {
+fn bits_after_the_end(rt: HostRuntime) -> Result<(), Fail> {
     let mut source = Source::new(reader_of(&[0x81], 1));
     let mut decoder = HuffmanDecoder::new(rt.alloc());
     assert_eq!(rt; decoder.get_bits(&mut source, 8)?, 0x81);

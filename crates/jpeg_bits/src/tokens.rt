@@ -1,49 +1,56 @@
 //! The coefficients of a block in entropy-coded bits: DC differences, and the tokens of a band
 //! (T.81, F.2.2 and G.1.2).
-ghost use Rattle.std.specs.Prelude.{◌≡◌, ◌≤◌, ◌^◌, ◌+ℤ◌, ◌*ℤ◌, pos, length, IfOk};
+ghost use Rattle.std.specs.Prelude.{◌≡◌, ◌≤◌, ◌^◌, ◌+ℤ◌, ◌*ℤ◌, pos, length, IfSome};
+ghost use Rattle.jpeg_bits.specs.Refusals.{answer_of, IsHeld};
 ghost use Rattle.jpeg_bits.specs.Entropy.{Takes};
 ghost use Rattle.jpeg_bits.specs.declared.codes.HuffmanTableClass.TheVariants.{AC};
 ghost use Rattle.jpeg_bits.specs.Bands.{wrapped, difference, token_from, first_ac, IsWithinRoom};
 ghost use Rattle.jpeg_bits.specs.Lookups.{slow_token, looked_up};
 
-use crate::error::{Result, format_error};
-use crate::huffman::{HuffmanDecoder, HuffmanTable};
+use crate::ahead::Held;
+use crate::error::{Error, hold_format_error};
+use crate::huffman::HuffmanTable;
 use crate::source::Source;
-use std::alloc::Global;
 use std::io::Read;
 
 /// What a token of a first pass stands for.
 #[derive(Clone, Copy, Debug, PartialEq)]
 pub enum Token {
-    /// A value behind some zeros.
+    /// A value after some zeros.
     Value(u8, i16),
     /// Sixteen zeros.
     Sixteen,
-    /// Zeros to the end of the band, and so in some blocks behind.
+    /// Zeros to the end of the band, and so in some blocks after.
     Rest(u16),
     /// A value beyond the end of the band.
     Overlong,
 }
 
-/// A DC difference.
+/// A DC difference. A refusal is held in its place, and answered by none.
+#[inline(always)]
 #[tactic(auto, unfolding(crate::specs::Bands::difference))]
 pub(crate) fn read_difference<R: Read + Drop>(
-    alloc: Global,
-    decoder: &mut HuffmanDecoder,
+    held: &mut Held,
     source: &mut Source<R>,
     table: &HuffmanTable,
-) -> Result<i16>
-    ensures { Takes (λ v. v) (difference table.now)
-        decoder.old source.old result decoder.new source.new }
+    refusal: &mut Option<Error>,
+) -> Option<i16>
+    ensures difference { Takes (λ v. v) (difference table.now)
+        held.old source.old (answer_of result refusal.new) held.new source.new }
+    ensures held { IsHeld result refusal.new }
 {
-    let category = decoder.decode(source, table)?;
+    let Some(category) = held.take_symbol(source, table, refusal) else {
+        return None;
+    };
     if category > 11 {
-        return Err(format_error(alloc, "invalid DC difference magnitude category"));
+        let text = "invalid DC difference magnitude category";
+        hold_format_error(held.alloc(), text, refusal);
+        return None;
     }
     if category == 0 {
-        return Ok(0);
+        return Some(0);
     }
-    decoder.receive_extend(source, category)
+    held.take_signed(source, category, refusal)
 }
 
 /// A sum modulo 2^16.
@@ -65,74 +72,93 @@ pub(crate) fn power_of_two(exponent: u8) -> u16
     1 << exponent
 }
 
-/// The token of a symbol that is not short.
+/// The token of a symbol that is not short. A refusal is held in its place, and answered by none.
+#[inline(always)]
 #[tactic(auto, unfolding(crate::specs::Lookups::slow_token))]
 fn read_slow_token<R: Read + Drop>(
-    decoder: &mut HuffmanDecoder,
+    held: &mut Held,
     source: &mut Source<R>,
     room: usize,
     run: u8,
     size: u8,
-) -> Result<Token>
+    refusal: &mut Option<Error>,
+) -> Option<Token>
     requires run { run ≤ 15 }
     requires size { size ≤ 15 }
     ensures token { Takes (λ t. t) (slow_token room run size)
-        decoder.old source.old result decoder.new source.new }
-    ensures room { IfOk result (IsWithinRoom room) }
+        held.old source.old (answer_of result refusal.new) held.new source.new }
+    ensures held { IsHeld result refusal.new }
+    ensures room { IfSome result (IsWithinRoom room) }
 {
     if size > 0 {
         if usize::from(run) < room {
-            let value = decoder.receive_extend(source, size)?;
-            return Ok(Token::Value(run, value));
+            return match held.take_signed(source, size, refusal) {
+                Some(value) => Some(Token::Value(run, value)),
+                None => None,
+            };
         }
-        return Ok(Token::Overlong);
+        return Some(Token::Overlong);
     }
     if run == 15 {
-        return Ok(Token::Sixteen);
+        return Some(Token::Sixteen);
     }
     if run > 0 {
-        let extra = decoder.get_bits(source, run)?;
-        return Ok(Token::Rest(power_of_two(run) - 1 + extra));
+        return match held.take_number(source, run, refusal) {
+            Some(extra) => Some(Token::Rest(power_of_two(run) - 1 + extra)),
+            None => None,
+        };
     }
-    Ok(Token::Rest(0))
+    Some(Token::Rest(0))
 }
 
-/// The next token of a first pass, looked up.
+/// The next token of a first pass, looked up. A refusal is held in its place, and answered by none.
+#[inline(always)]
 #[tactic(auto, unfolding(crate::specs::Lookups::looked_up))]
 fn look_up_token<R: Read + Drop>(
-    decoder: &mut HuffmanDecoder,
+    held: &mut Held,
     source: &mut Source<R>,
     table: &HuffmanTable,
     room: usize,
-) -> Result<Token>
+    refusal: &mut Option<Error>,
+) -> Option<Token>
     ensures token { Takes (λ t. t) (looked_up table.now room)
-        decoder.old source.old result decoder.new source.new }
-    ensures room { IfOk result (IsWithinRoom room) }
+        held.old source.old (answer_of result refusal.new) held.new source.new }
+    ensures held { IsHeld result refusal.new }
+    ensures room { IfSome result (IsWithinRoom room) }
 {
-    if let Some((value, run)) = decoder.decode_fast_ac(source, table)? {
-        return Ok(if usize::from(run) < room {
+    let Some(short) = held.take_short_value(source, table, refusal) else {
+        return None;
+    };
+    if let Some((value, run)) = short {
+        return Some(if usize::from(run) < room {
             Token::Value(run, value)
         } else {
             Token::Overlong
         });
     }
-    let symbol = decoder.decode(source, table)?;
-    read_slow_token(decoder, source, room, symbol / 16, symbol % 16)
+    let Some(symbol) = held.take_symbol(source, table, refusal) else {
+        return None;
+    };
+    read_slow_token(held, source, room, symbol / 16, symbol % 16, refusal)
 }
 
-/// The next token of a first pass, where `room` places are left of the band.
+/// The next token of a first pass, where `room` places are left of the band. A refusal is held in
+/// its place, and answered by none.
+#[inline(always)]
 fn read_token<R: Read + Drop>(
-    decoder: &mut HuffmanDecoder,
+    held: &mut Held,
     source: &mut Source<R>,
     table: &HuffmanTable,
     room: usize,
-) -> Result<Token>
+    refusal: &mut Option<Error>,
+) -> Option<Token>
     requires { table.now.class ≡ AC }
     ensures token { Takes (λ t. t) (token_from table.now room)
-        decoder.old source.old result decoder.new source.new }
-    ensures room { IfOk result (IsWithinRoom room) }
+        held.old source.old (answer_of result refusal.new) held.new source.new }
+    ensures held { IsHeld result refusal.new }
+    ensures room { IfSome result (IsWithinRoom room) }
 {
-    look_up_token(decoder, source, table, room)
+    look_up_token(held, source, table, room, refusal)
 }
 
 #[inline]
@@ -152,23 +178,30 @@ pub(crate) fn shifted(value: i16, point: u8) -> i16
     value.wrapping_mul(power_i16(point))
 }
 
-/// The places of a band in a first pass, and the blocks of the run that follows.
-pub(crate) fn read_first_band<R: Read + Drop>(
-    decoder: &mut HuffmanDecoder,
+/// The places of a band in a first pass, and the blocks of the run that follows. A refusal is held
+/// in its place, and answered by none.
+#[inline(always)]
+fn read_places<R: Read + Drop>(
+    held: &mut Held,
     source: &mut Source<R>,
     table: &HuffmanTable,
     point: u8,
     band: &mut [i16],
-) -> Result<u16>
+    refusal: &mut Option<Error>,
+) -> Option<u16>
     requires class { table.now.class ≡ AC }
     requires point { point ≤ 13 }
     ensures len { length band.new ≡ length band.old }
     ensures band { Takes (λ run. (band.new, run)) (first_ac table.now point (length band.old) band.old)
-        decoder.old source.old result decoder.new source.new }
+        held.old source.old (answer_of result refusal.new) held.new source.new }
+    ensures held { IsHeld result refusal.new }
 {
     let mut at = 0;
     while at < band.len() {
-        match read_token(decoder, source, table, band.len() - at)? {
+        let Some(token) = read_token(held, source, table, band.len() - at, refusal) else {
+            return None;
+        };
+        match token {
             Token::Value(run, value) => {
                 at += usize::from(run);
                 band[at] = shifted(value, point);
@@ -179,9 +212,32 @@ pub(crate) fn read_first_band<R: Read + Drop>(
             } else {
                 band.len()
             },
-            Token::Rest(run) => return Ok(run),
-            Token::Overlong => return Ok(0),
+            Token::Rest(run) => return Some(run),
+            Token::Overlong => return Some(0),
         }
     }
-    Ok(0)
+    Some(0)
+}
+
+/// As `read_places`, on a copy of what is held: a local that stays in registers.
+#[inline(never)]
+pub(crate) fn read_first_band<R: Read + Drop>(
+    held: &mut Held,
+    source: &mut Source<R>,
+    table: &HuffmanTable,
+    point: u8,
+    band: &mut [i16],
+    refusal: &mut Option<Error>,
+) -> Option<u16>
+    requires class { table.now.class ≡ AC }
+    requires point { point ≤ 13 }
+    ensures len { length band.new ≡ length band.old }
+    ensures band { Takes (λ run. (band.new, run)) (first_ac table.now point (length band.old) band.old)
+        held.old source.old (answer_of result refusal.new) held.new source.new }
+    ensures held { IsHeld result refusal.new }
+{
+    let mut local = held.copied();
+    let run = read_places(&mut local, source, table, point, band, refusal);
+    *held = local;
+    run
 }

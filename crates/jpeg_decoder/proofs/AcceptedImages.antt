@@ -1,4 +1,4 @@
--- What is written by fields is accepted, whatever stands behind it.
+-- What is written by fields is accepted, whatever stands after it.
 use Rattle.std.proofs.Common.{◌≡◌, ℕ, ◌≤◌, Bool, true, false, List, [], ◌∷◌, ◌++◌, map, Option, Some, None, Ok, refl}
 use Rattle.std.proofs.Common.{sym, ap, ◌∙◌, subst, append_assoc}
 use Rattle.std.specs.Prelude.{option_map}
@@ -24,18 +24,18 @@ use Rattle.jpeg_decoder.proofs.AcceptedStreams as streams
 use Rattle.jpeg_decoder.specs.WrittenScans.{Coefficients, levels_after}
 use Rattle.jpeg_decoder.proofs.AcceptedStreams.{WritesScans, WritesHead, WritesStream, comment_at}
 use Rattle.jpeg_decoder.proofs.AcceptedStreams.WritesStream.{stream}
-use Rattle.jpeg_decoder.specs.SaidSegments.{Stands, found_behind}
+use Rattle.jpeg_decoder.specs.SaidSegments.{Stands, found_after}
 use Rattle.jpeg_decoder.specs.WrittenImages.{Writes, closed, segment, scan, WritesImage, MayFollow, IsDct}
 
--- The bytes begin with a marker, and what stands behind it is so.
+-- The bytes begin with a marker, and what stands after it is so.
 pub record Begins (Rest : Marker → List ℕ → Type 0) (bytes : List ℕ) : Type 0 where
   pub fill : ℕ
   pub code : ℕ
   pub m : Marker
-  pub behind : List ℕ
-  pub is : bytes ≡ marker fill code behind
+  pub after : List ℕ
+  pub is : bytes ≡ marker fill code after
   pub makes : IsMarker code m
-  pub rest : Rest m behind
+  pub rest : Rest m after
 
 comment-read : (payload rest : List ℕ) → comment_at (sized payload ++ rest) ≡ Ok (tt, rest)
 unfolding comment_at
@@ -47,7 +47,7 @@ IsOther (Header number h) = ⊥
 IsOther _ = Unit {0}
 
 accepted : (said : Found) (s : Segment) → Stands said s → IsOther s
-    → streams.WritesSegment said (marker_for s) (sized (payload_of s)) (found_behind said s)
+    → streams.WritesSegment said (marker_for s) (sized (payload_of s)) (found_after said s)
 accepted said (Quantization ts) may other =
     streams.WritesSegment.quantization said (sized (payload_of (Quantization ts))) (quantization_tables ts)
     (record { accepted = λ rest. dqt-read ts rest may.0 })
@@ -63,7 +63,7 @@ accepted said (Comment payload) may other =
     streams.WritesSegment.comment said (sized payload) (record { accepted = comment-read payload })
 accepted said (Header number h) may other = absurd other
 
-pub frame-stays : (said : Found) (s : Segment) → IsOther s → (found_behind said s).frame ≡ said.frame
+pub frame-stays : (said : Found) (s : Segment) → IsOther s → (found_after said s).frame ≡ said.frame
 frame-stays said (Quantization ts) other = refl
 frame-stays said (Huffman ts) other = refl
 frame-stays said (Interval n) other = refl
@@ -100,9 +100,9 @@ none-stands said frame number h s e f may = let here : Stands said (Header numbe
 pub same-frame : (a b : Frame) (o : Option Frame) → o ≡ Some a → o ≡ Some b → a ≡ b
 same-frame a b o e f = let s : ◌≡◌ {A = Option Frame} (Some a) (Some b) = sym e ∙ f in cc
 
--- ---- behind the frame
+-- ---- after the frame
 
--- a marker and what is written behind it, and the bytes behind the end of the image
+-- a marker and what is written after it, and the bytes after the end of the image
 pub segment-tail : (fill code : ℕ) (bytes more tail : List ℕ)
     → marker fill code (bytes ++ more) ++ tail ≡ marker fill code (bytes ++ (more ++ tail))
 segment-tail fill code bytes more tail = marker-append fill code (bytes ++ more) tail
@@ -130,7 +130,7 @@ scans-begin array tail frame said final levels last scanned bytes
       fill = fill;
       code = 217;
       m = EOI;
-      behind = tail;
+      after = tail;
       is = marker-append fill 217 [] tail;
       makes = record { is = refl };
       rest = subst (λ (x : Frame). WritesScans array x tail said levels true EOI tail said levels) same
@@ -139,19 +139,19 @@ scans-begin array tail frame said final levels last scanned bytes
 scans-begin array tail frame said final levels last scanned bytes
     (segment said' final' levels' last' scanned' fill s more may dct follows w) e =
     frame-or s (λ number h f. none-stands said frame number h s e f may) (λ other.
-    let b = scans-begin array tail frame (found_behind said s) final levels last scanned more w
+    let b = scans-begin array tail frame (found_after said s) final levels last scanned more w
     (frame-stays said s other ∙ e) in
     record {
       fill = fill;
       code = code_of s;
       m = marker_for s;
-      behind = sized (payload_of s) ++ (more ++ tail);
+      after = sized (payload_of s) ++ (more ++ tail);
       is = segment-tail fill (code_of s) (sized (payload_of s)) more tail;
       makes = record { is = segment-marker said.frame s may.0 };
       rest = subst (λ (l : List ℕ). WritesScans array frame tail said levels scanned (marker_for s)
           (sized (payload_of s) ++ l) final last) (sym b.is)
-          (streams.WritesScans.segment said (found_behind said s) final levels last scanned
-          (marker_for s) b.m b.fill b.code (sized (payload_of s)) b.behind
+          (streams.WritesScans.segment said (found_after said s) final levels last scanned
+          (marker_for s) b.m b.fill b.code (sized (payload_of s)) b.after
           (accepted said s may other) (λ g. not-dqt s (follows g)) b.makes b.rest);
     })
 scans-begin array tail frame said final levels last scanned bytes
@@ -164,7 +164,7 @@ scans-begin array tail frame said final levels last scanned bytes
       fill = fill;
       code = 218;
       m = SOS;
-      behind = sized (scan_payload h) ++ (data_bytes ++ (more ++ tail));
+      after = sized (scan_payload h) ++ (data_bytes ++ (more ++ tail));
       is = scan-tail fill 218 (sized (scan_payload h)) data_bytes more tail;
       makes = record { is = refl };
       rest = subst (λ (x : Frame). WritesScans array x tail said levels scanned SOS
@@ -172,7 +172,7 @@ scans-begin array tail frame said final levels last scanned bytes
           (subst (λ (l : List ℕ). WritesScans array f tail said levels scanned SOS
           (sized (scan_payload h) ++ (data_bytes ++ l)) final last) (sym b.is)
           (streams.WritesScans.scan said final levels last scanned b.m b.fill b.code
-          (sized (scan_payload h)) data_bytes b.behind (scan_written f h) codings
+          (sized (scan_payload h)) data_bytes b.after (scan_written f h) codings
           (record { accepted = λ rest. sos-read f h rest is }) legal written b.makes b.rest));
     }
 
@@ -183,30 +183,30 @@ Head array tail said final last m bytes = WritesHead array tail said m bytes fin
 
 frame-begins : (array : Coefficients) (tail : List ℕ) (said final : Found) (last : ℕ → Levels) (number : ℕ)
     (h : FrameHeader) (more : List ℕ) → Stands said (Header number h) → number ≤ 2
-    → Begins (Scans array (frame_written number h) tail (found_behind said (Header number h))
+    → Begins (Scans array (frame_written number h) tail (found_after said (Header number h))
     (λ k. nothing_sent) false final last) more
     → WritesHead array tail said (SOF number) (sized (payload_of (Header number h)) ++ more) final last
 frame-begins array tail said final last number h more may dct b =
     subst (λ (l : List ℕ). WritesHead array tail said (SOF number)
     (sized (payload_of (Header number h)) ++ l) final last) (sym b.is)
-    (streams.WritesHead.frame said final last b.m number b.fill b.code (sized (payload_of (Header number h))) b.behind
+    (streams.WritesHead.frame said final last b.m number b.fill b.code (sized (payload_of (Header number h))) b.after
     (frame_written number h)
     dct (record { accepted = λ rest. sof-read number h rest may.0.1 })
     (header-accepted number h dct may.1) b.makes b.rest)
 
 frame-head : (array : Coefficients) (tail : List ℕ) (said final : Found) (last : ℕ → Levels) (s : Segment)
     (number : ℕ) (h : FrameHeader) (more : List ℕ) → s ≡ Header number h → Stands said s → IsDct s
-    → Begins (Scans array (frame_written number h) tail (found_behind said s) (λ k. nothing_sent) false final last) more
+    → Begins (Scans array (frame_written number h) tail (found_after said s) (λ k. nothing_sent) false final last) more
     → WritesHead array tail said (marker_for s) (sized (payload_of s) ++ more) final last
 frame-head array tail said final last s number h more e may dct b =
     subst (λ (x : Segment). WritesHead array tail said (marker_for x) (sized (payload_of x) ++ more) final last) (sym e)
     (frame-begins array tail said final last number h more (subst (Stands said) e may) (subst IsDct e dct)
     (subst (λ (x : Segment). Begins
-    (Scans array (frame_written number h) tail (found_behind said x) (λ k. nothing_sent) false final last) more) e b))
+    (Scans array (frame_written number h) tail (found_after said x) (λ k. nothing_sent) false final last) more) e b))
 
-framed-behind : (said : Found) (s : Segment) (number : ℕ) (h : FrameHeader) → s ≡ Header number h
-    → (found_behind said s).frame ≡ Some (frame_written number h)
-framed-behind said s number h e = ap (λ (x : Segment). (found_behind said x).frame) e
+framed-after : (said : Found) (s : Segment) (number : ℕ) (h : FrameHeader) → s ≡ Header number h
+    → (found_after said s).frame ≡ Some (frame_written number h)
+framed-after said s number h e = ap (λ (x : Segment). (found_after said x).frame) e
 
 head-begins : (array : Coefficients) (tail : List ℕ) (said final : Found) (levels last : ℕ → Levels) (scanned : Bool)
     (bytes : List ℕ) → Writes array said levels scanned bytes final last
@@ -220,35 +220,35 @@ head-begins array tail said final levels last scanned bytes
       fill = fill;
       code = code_of s;
       m = marker_for s;
-      behind = sized (payload_of s) ++ (more ++ tail);
+      after = sized (payload_of s) ++ (more ++ tail);
       is = segment-tail fill (code_of s) (sized (payload_of s)) more tail;
       makes = record { is = segment-marker said.frame s may.0 };
       rest = frame-or s
           (λ number h f. frame-head array tail said final last s number h (more ++ tail) f may dct
-          (scans-begin array tail (frame_written number h) (found_behind said s) final
+          (scans-begin array tail (frame_written number h) (found_after said s) final
           (λ k. nothing_sent) last false more
-          (subst (λ (x : Bool). Writes array (found_behind said s) (λ k. nothing_sent) x more final last) none
-          (subst (λ (l : ℕ → Levels). Writes array (found_behind said s) l scanned more final last) fresh w))
-          (framed-behind said s number h f)))
+          (subst (λ (x : Bool). Writes array (found_after said s) (λ k. nothing_sent) x more final last) none
+          (subst (λ (l : ℕ → Levels). Writes array (found_after said s) l scanned more final last) fresh w))
+          (framed-after said s number h f)))
           (λ other.
-          let b = head-begins array tail (found_behind said s) final levels last scanned more w
+          let b = head-begins array tail (found_after said s) final levels last scanned more w
           (frame-stays said s other ∙ e) fresh none in
           subst (λ (l : List ℕ). WritesHead array tail said (marker_for s) (sized (payload_of s) ++ l) final last)
           (sym b.is)
-          (streams.WritesHead.before said (found_behind said s) final last (marker_for s) b.m b.fill b.code
-          (sized (payload_of s)) b.behind (accepted said s may other) b.makes b.rest));
+          (streams.WritesHead.before said (found_after said s) final last (marker_for s) b.m b.fill b.code
+          (sized (payload_of s)) b.after (accepted said s may other) b.makes b.rest));
     }
 head-begins array tail said final levels last scanned bytes
     (scan said' final' levels' last' scanned' f fill h codings data_bytes more framed is legal written w) e fresh
     none = some-none f said.frame framed e
 
--- A stream that is written by fields is one that is accepted, whatever stands behind it.
+-- A stream that is written by fields is one that is accepted, whatever stands after it.
 pub image-accepted : (array : Coefficients) (tail bytes : List ℕ) (final : Found) (last : ℕ → Levels)
     → WritesImage array bytes final last → WritesStream array tail (bytes ++ tail) final last
 unfolding nothing_found
 image-accepted array tail bytes final last w =
     let b = head-begins array tail nothing_found final
-    (λ k. nothing_sent) last false w.behind w.written refl refl refl in
+    (λ k. nothing_sent) last false w.after w.written refl refl refl in
     subst (λ (l : List ℕ). WritesStream array tail l final last)
     (sym (ap (λ (l : List ℕ). l ++ tail) w.starts ∙ ap (λ (l : List ℕ). 255 ∷ 216 ∷ l) b.is))
-    (stream b.m b.fill b.code b.behind final last b.makes b.rest)
+    (stream b.m b.fill b.code b.after final last b.makes b.rest)

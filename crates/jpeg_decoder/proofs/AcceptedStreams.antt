@@ -17,20 +17,20 @@ use Rattle.jpeg_decoder.specs.Stream.{is_progressive, nothing_found}
 use Rattle.jpeg_decoder.specs.WrittenData.{marker}
 use Rattle.jpeg_decoder.specs.WrittenScans.{Coefficients, WritesScan, levels_after, IsLegalScan, IsComplete, HasTable}
 
--- the byte makes this marker behind FF
+-- the byte makes this marker after FF
 pub record IsMarker (code : ℕ) (m : Marker) : Type 0 where
   pub is : marker_of code ≡ Some m
 
 -- ---- segments
 
--- These bytes are x by a rule of segments, whatever stands behind them.
+-- These bytes are x by a rule of segments, whatever stands after them.
 pub record IsAccepted {A : Type 0} (rule : List ℕ → Outcome A) (bytes : List ℕ) (x : A) : Type 0 where
   pub accepted : (rest : List ℕ) → rule (bytes ++ rest) ≡ Ok (x, rest)
 
 unfoldable pub comment_at : List ℕ → Outcome (Unit {0})
 comment_at bytes = length_at bytes >>= (λ n. skip_at n.0 n.1)
 
--- A segment behind its marker that is neither a frame nor a scan, and what is said before and behind it.
+-- A segment after its marker that is neither a frame nor a scan, and what is said before and after it.
 pub data WritesSegment : Found → Marker → List ℕ → Found → Type 0 where
   quantization : (w : Found) (bytes : List ℕ) (t : List (Option (List ℕ))) → IsAccepted dqt_at bytes t
       → WritesSegment w DQT bytes (record w { quantization = updated w.quantization t })
@@ -45,24 +45,24 @@ pub data WritesSegment : Found → Marker → List ℕ → Found → Type 0 wher
 
 -- ---- streams
 
--- From a marker behind the frame on, where w was said and the levels were sent, and whether a scan
+-- From a marker after the frame on, where w was said and the levels were sent, and whether a scan
 -- was. At the end of the image `final` is said
 -- and the last levels are sent. Quantization tables stand before the first scan. A sequential
 -- stream ends where all is sent, a progressive one
--- behind any scan.
+-- after any scan.
 pub data WritesScans (array : Coefficients) (f : Frame) (tail : List ℕ) : Found → (ℕ → Levels) → Bool → Marker
     → List ℕ → Found → (ℕ → Levels) → Type 0 where
-  segment : (w next final : Found) (levels last : ℕ → Levels) (scanned : Bool) (m behind : Marker) (fill code : ℕ)
+  segment : (w next final : Found) (levels last : ℕ → Levels) (scanned : Bool) (m after : Marker) (fill code : ℕ)
       (bytes more : List ℕ)
-      → WritesSegment w m bytes next → (scanned ≡ true → m ≡ DQT → ⊥) → IsMarker code behind
-      → WritesScans array f tail next levels scanned behind more final last
+      → WritesSegment w m bytes next → (scanned ≡ true → m ≡ DQT → ⊥) → IsMarker code after
+      → WritesScans array f tail next levels scanned after more final last
       → WritesScans array f tail w levels scanned m (bytes ++ marker fill code more) final last
-  scan : (w final : Found) (levels last : ℕ → Levels) (scanned : Bool) (behind : Marker) (fill code : ℕ)
+  scan : (w final : Found) (levels last : ℕ → Levels) (scanned : Bool) (after : Marker) (fill code : ℕ)
       (header bytes more : List ℕ) (s : Scan) (codings : List Coding)
       → IsAccepted (sos_at f) header s → IsLegalScan w f levels s codings
-      → WritesScan f w.restart (pass_of s) codings array bytes → IsMarker code behind
+      → WritesScan f w.restart (pass_of s) codings array bytes → IsMarker code after
       → WritesScans array f tail w
-      (levels_after (pass_of s) (map (λ c. c.place) codings) levels) true behind more final last
+      (levels_after (pass_of s) (map (λ c. c.place) codings) levels) true after more final last
       → WritesScans array f tail w levels scanned SOS (header ++ (bytes ++ marker fill code more)) final last
   closed : (w : Found) (levels : ℕ → Levels) → AllByRecursion (HasTable w) f.components
       → (is_progressive f.process ≡ false
@@ -72,17 +72,17 @@ pub data WritesScans (array : Coefficients) (f : Frame) (tail : List ℕ) : Foun
 -- From a marker before the frame on.
 pub data WritesHead (array : Coefficients) (tail : List ℕ) : Found → Marker → List ℕ → Found → (ℕ → Levels)
     → Type 0 where
-  before : (w next final : Found) (last : ℕ → Levels) (m behind : Marker) (fill code : ℕ) (bytes more : List ℕ)
-      → WritesSegment w m bytes next → IsMarker code behind → WritesHead array tail next behind more final last
+  before : (w next final : Found) (last : ℕ → Levels) (m after : Marker) (fill code : ℕ) (bytes more : List ℕ)
+      → WritesSegment w m bytes next → IsMarker code after → WritesHead array tail next after more final last
       → WritesHead array tail w m (bytes ++ marker fill code more) final last
-  frame : (w final : Found) (last : ℕ → Levels) (behind : Marker) (number fill code : ℕ) (bytes more : List ℕ)
+  frame : (w final : Found) (last : ℕ → Levels) (after : Marker) (number fill code : ℕ) (bytes more : List ℕ)
       (f : Frame)
-      → number ≤ 2 → IsAccepted (sof_at number) bytes f → accepted f ≡ Ok f → IsMarker code behind
-      → WritesScans array f tail (record w { frame = Some f }) (λ k. nothing_sent) false behind more final last
+      → number ≤ 2 → IsAccepted (sof_at number) bytes f → accepted f ≡ Ok f → IsMarker code after
+      → WritesScans array f tail (record w { frame = Some f }) (λ k. nothing_sent) false after more final last
       → WritesHead array tail w (SOF number) (bytes ++ marker fill code more) final last
 
 -- A stream of an array: at its end this is said, and these levels are sent.
 pub data WritesStream (array : Coefficients) (tail : List ℕ) : List ℕ → Found → (ℕ → Levels) → Type 0 where
-  stream : (behind : Marker) (fill code : ℕ) (more : List ℕ) (final : Found) (last : ℕ → Levels) → IsMarker code behind
-      → WritesHead array tail nothing_found behind more final last
+  stream : (after : Marker) (fill code : ℕ) (more : List ℕ) (final : Found) (last : ℕ → Levels) → IsMarker code after
+      → WritesHead array tail nothing_found after more final last
       → WritesStream array tail (0xFF ∷ 0xD8 ∷ marker fill code more) final last

@@ -1,5 +1,5 @@
 -- A turn of a written stream.
-use Rattle.std.proofs.Common.{◌≡◌, ◌≢◌, ℕ, zero, suc, nat_lt, ◌==◌, Bool, true, false, cond, List, [], ◌∷◌, ◌++◌, map}
+use Rattle.std.proofs.Common.{◌≡◌, ◌≢◌, ℕ, zero, suc, nat_lt, ◌==◌, Bool, true, false, List, [], ◌∷◌, ◌++◌, map}
 use Rattle.std.proofs.Common.{length, drop, replicate, slice_index_or, Option, Some, None, Result, Ok, Err, refl, sym}
 use Rattle.std.proofs.Common.{ap, ap₂, ◌∙◌, subst, arith}
 use Rattle.std.specs.List.{AllByRecursion}
@@ -13,11 +13,12 @@ use Rattle.jpeg_segments.specs.HuffmanTables.{Tables}
 use Rattle.jpeg_decoder.specs.declared.state.Before.{Before}
 use Rattle.jpeg_bits.specs.Passes.{Pass}
 use Rattle.jpeg_decoder.specs.Scans.{Arrays}
-use Rattle.jpeg_decoder.specs.Stream.{Coding, Found, Turn, onward, needed, needed_if, first_of, tables_of, coding_of}
-use Rattle.jpeg_decoder.specs.Stream.{codings_from, codings_of, pass_of, scan_arrays, behind_scan, behind_restarts}
+use Rattle.jpeg_decoder.specs.Needed.{first_of, needed}
+use Rattle.jpeg_decoder.specs.Stream.{Coding, Found, Turn, onward, needed_if, tables_of, coding_of}
+use Rattle.jpeg_decoder.specs.Stream.{codings_from, codings_of, pass_of, scan_arrays, after_scan, after_restarts}
 use Rattle.jpeg_decoder.specs.Stream.{scan_before, scan_segment, segment_at, turn_at, segments_within}
 use Rattle.jpeg_decoder.specs.Stream.{quantization_segment, huffman_segment, restart_segment, application_segment}
-use Rattle.jpeg_decoder.specs.Stream.{skipped_segment, is_decoded}
+use Rattle.jpeg_decoder.specs.Stream.{skipped_segment, blocks_scan, scan_by}
 use Rattle.jpeg_bits.specs.declared.codes.HuffmanTableClass.{HuffmanTableClass}
 use Rattle.jpeg_bits.specs.declared.codes.HuffmanTableClass.TheVariants as classes
 use Rattle.jpeg_segments.specs.declared.parser.CodingProcess.{CodingProcess}
@@ -48,7 +49,7 @@ pub next-marker : (fill code : ℕ) (m : Marker) (rest : List ℕ) → IsMarker 
 next-marker zero code m rest h = next-one code m rest h
 next-marker (suc fill) code m rest h = next-fill (replicate fill 0xFF ++ code ∷ rest) ∙ next-marker fill code m rest h
 
--- what is left is behind this marker
+-- what is left is after this marker
 pub record StandsAt (met : Option Marker) (all : List ℕ) (m : Marker) (bytes : List ℕ) : Type 0 where
   pub turn : (before : Before) (f : Found) → turn_at before f met all ≡ segment_at m before f bytes
 
@@ -122,11 +123,11 @@ frame-kept w next m bytes (restart w' bytes' n a) = refl
 frame-kept w next m bytes (application w' number bytes' t a) = refl
 frame-kept w next m bytes (comment w' bytes' a) = refl
 
--- ---- what stands behind a scan
+-- ---- what stands after a scan
 
 segment-plain : (w next : Found) (m : Marker) (bytes all : List ℕ) (turns : ℕ) → WritesSegment w m bytes next
-    → behind_restarts (suc turns) (Some m) all ≡ Ok (Some m, all)
-unfolding behind_restarts
+    → after_restarts (suc turns) (Some m) all ≡ Ok (Some m, all)
+unfolding after_restarts
 segment-plain w next m bytes all turns (quantization w' bytes' t a) = refl
 segment-plain w next m bytes all turns (huffman w' bytes' t a) = refl
 segment-plain w next m bytes all turns (restart w' bytes' n a) = refl
@@ -136,13 +137,13 @@ segment-plain w next m bytes all turns (comment w' bytes' a) = refl
 pub scans-plain : (array : Coefficients) (f : Frame) (tail : List ℕ) (w final : Found) (levels last : ℕ → Levels)
     (scanned : Bool) (m : Marker) (bytes all : List ℕ) (turns : ℕ)
     → WritesScans array f tail w levels scanned m bytes final last
-    → behind_restarts (suc turns) (Some m) all ≡ Ok (Some m, all)
-unfolding behind_restarts
+    → after_restarts (suc turns) (Some m) all ≡ Ok (Some m, all)
+unfolding after_restarts
 scans-plain array f tail w final levels last scanned m bytes all turns
-    (segment w' next final' levels' last' scanned' m' behind fill code payload more s q i r) =
+    (segment w' next final' levels' last' scanned' m' after fill code payload more s q i r) =
     segment-plain w next m payload all turns s
 scans-plain array f tail w final levels last scanned m bytes all turns
-    (scan w' final' levels' last' scanned' behind fill code header payload more s codings a l x i r) = refl
+    (scan w' final' levels' last' scanned' after fill code header payload more s codings a l x i r) = refl
 scans-plain array f tail w final levels last scanned m bytes all turns (closed w' levels' t c) = refl
 
 -- ---- the tables of a scan
@@ -207,25 +208,19 @@ codings-facts_from w frame p tables (x ∷ places) (d ∷ ds) (a ∷ ks) codings
     × (map (λ c. c.place) l ≡ x ∷ places)) (ok-same (one.0 ∷ more.0) codings more.2)
     (ap suc rest.0, (first.0, rest.1), ap₂ (λ (m : ℕ) (l : List ℕ). m ∷ l) first.1 rest.2)
 
-pub codings-by : (w : Found) (frame : Frame) (s : Scan) (b : Bool) → is_decoded frame.process ≡ b
-    → codings_of w frame s
-    ≡ cond b (codings_from w frame (pass_of s) (tables_of w s) s.components s.dc_places s.ac_places) (Err Malformed)
+pub codings-by : (w : Found) (frame : Frame) (s : Scan)
+    → codings_of w frame s ≡ codings_from w frame (pass_of s) (tables_of w s) s.components s.dc_places s.ac_places
 unfolding codings_of
-codings-by w frame s b e = rw (e, codings_of) refl
+codings-by w frame s = refl
 
 pub codings-facts : (w : Found) (frame : Frame) (s : Scan) (codings : List Coding)
     → length s.dc_places ≡ length s.components → length s.ac_places ≡ length s.components
     → codings_of w frame s ≡ Ok codings
     → (length codings ≡ length s.components) × AllByRecursion (CodingFacts w frame) codings
     × (map (λ c. c.place) codings ≡ s.components)
-codings-facts w frame s codings h g e = go (is_decoded frame.process) refl
-  where
-    go : (b : Bool) → is_decoded frame.process ≡ b
-        → (length codings ≡ length s.components) × AllByRecursion (CodingFacts w frame) codings
-        × (map (λ c. c.place) codings ≡ s.components)
-    go true f = codings-facts_from w frame (pass_of s)
-        (tables_of w s) s.components s.dc_places s.ac_places codings h g (sym (codings-by w frame s true f) ∙ e)
-    go false f = absurd (err-ok Malformed codings (sym (codings-by w frame s false f) ∙ e))
+codings-facts w frame s codings h g e =
+    codings-facts_from w frame (pass_of s) (tables_of w s) s.components s.dc_places s.ac_places codings h g
+    (sym (codings-by w frame s) ∙ e)
 
 -- ---- the tables in force
 
@@ -264,16 +259,11 @@ codings-read_from w frame p tables places ds ks codings (and_more place d a plac
     (then-ok (codings_from w frame p tables places' ds' ks') _ more _
     (codings-read_from w frame p tables places' ds' ks' more r) refl)
 
-decoded-so : (p : CodingProcess) → p ≢ Lossless → is_decoded p ≡ true
-decoded-so DctSequential h = refl
-decoded-so DctProgressive h = refl
-decoded-so Lossless h = absurd (h refl)
-
-pub codings-read : (w : Found) (frame : Frame) (s : Scan) (codings : List Coding) → frame.process ≢ Lossless
+pub codings-read : (w : Found) (frame : Frame) (s : Scan) (codings : List Coding)
     → AreCodings w frame (pass_of s) (tables_of w s) s.components s.dc_places s.ac_places codings
     → codings_of w frame s ≡ Ok codings
-codings-read w frame s codings n h =
-    codings-by w frame s true (decoded-so frame.process n)
+codings-read w frame s codings h =
+    codings-by w frame s
     ∙ codings-read_from w frame (pass_of s) (tables_of w s) s.components s.dc_places s.ac_places codings h
 
 -- what scans have brought doesn't change them
@@ -316,28 +306,30 @@ tables-same w sc h fi pl s = refl
 pub codings-same : (w : Found) (sc : Bool) (h : Arrays) (fi : List (List Bool)) (pl : List (Option (List ℕ)))
     (frame : Frame) (s : Scan)
     → codings_of (reading w sc h fi pl) frame s ≡ codings_of w frame s
-codings-same w sc h fi pl frame s = go (is_decoded frame.process) refl
-  where
-    go : (b : Bool) → is_decoded frame.process ≡ b → codings_of (reading w sc h fi pl) frame s ≡ codings_of w frame s
-    go true e =
-        codings-by (reading w sc h fi pl) frame s true e
-        ∙ ap (λ (t : Tables). codings_from (reading w sc h fi pl) frame
-        (pass_of s) t s.components s.dc_places s.ac_places) (tables-same w sc h fi pl s)
-        ∙ codings-same_from w sc h fi pl frame (pass_of s) (tables_of w s) s.components s.dc_places s.ac_places
-        ∙ sym (codings-by w frame s true e)
-    go false e = codings-by (reading w sc h fi pl) frame s false e ∙ sym (codings-by w frame s false e)
+codings-same w sc h fi pl frame s =
+    codings-by (reading w sc h fi pl) frame s
+    ∙ ap (λ (t : Tables). codings_from (reading w sc h fi pl) frame
+    (pass_of s) t s.components s.dc_places s.ac_places) (tables-same w sc h fi pl s)
+    ∙ codings-same_from w sc h fi pl frame (pass_of s) (tables_of w s) s.components s.dc_places s.ac_places
+    ∙ sym (codings-by w frame s)
 
 -- ---- a scan
 
+blocks-by : (p : CodingProcess) → p ≢ Lossless → (found : Found) (frame : Frame) (s : Scan) (bytes : List ℕ)
+    → scan_by p found frame s bytes ≡ blocks_scan found frame s bytes
+blocks-by DctSequential h found frame s bytes = refl
+blocks-by DctProgressive h found frame s bytes = refl
+blocks-by Lossless h found frame s bytes = absurd (h refl)
+
 pub scan-by : (found : Found) (frame : Frame) (s : Scan) (codings : List Coding) (arrays : Arrays) (m : Marker)
-    (bytes data_bytes more : List ℕ)
+    (bytes data_bytes more : List ℕ) → frame.process ≢ Lossless
     → found.frame ≡ Some frame → sos_at frame bytes ≡ Ok (s, data_bytes) → codings_of found frame s ≡ Ok codings
     → scan_arrays found frame s codings data_bytes ≡ Ok ((arrays, Some m), more)
-    → behind_restarts (suc (length more)) (Some m) more ≡ Ok (Some m, more)
+    → after_restarts (suc (length more)) (Some m) more ≡ Ok (Some m, more)
     → scan_segment found bytes
     ≡ Ok (
       record {
-        found = behind_scan found frame s codings arrays;
+        found = after_scan found frame s codings arrays;
         before = scan_before found;
         met = Some m;
         ended =
@@ -345,10 +337,10 @@ pub scan-by : (found : Found) (frame : Frame) (s : Scan) (codings : List Coding)
       },
       more,
     )
-unfolding scan_segment
-scan-by found frame s codings arrays m bytes data_bytes more a b c d e =
+unfolding scan_segment blocks_scan
+scan-by found frame s codings arrays m bytes data_bytes more n a b c d e =
     then-ok (needed found.frame) _ frame _ (ap needed a)
     (then-ok (sos_at frame bytes) _ (s, data_bytes) _ b
-    (then-ok (codings_of found frame s) _ codings _ c
+    (blocks-by frame.process n found frame s data_bytes ∙ then-ok (codings_of found frame s) _ codings _ c
     (then-ok (scan_arrays found frame s codings data_bytes) _ ((arrays, Some m), more) _ d
-    (then-ok (behind_restarts (suc (length more)) (Some m) more) _ (Some m, more) _ e refl))))
+    (then-ok (after_restarts (suc (length more)) (Some m) more) _ (Some m, more) _ e refl))))

@@ -1,5 +1,6 @@
 -- What a scan begins with, what it finishes, and the length of a plane.
-use Rattle.std.proofs.Common.{◌≡◌, ◌≢◌, ◌≤◌, ℕ, zero, suc, ◌+◌, ◌-◌, ◌*◌, ℤ, pos, Bool, true, List, [], ◌∷◌, ◌++◌, refl, ap, ◌∙◌, length, map, take, drop, replicate, arith, ne_eqb, Result, Ok, Err}
+use Rattle.std.proofs.Common.{◌≡◌, ◌≢◌, ◌≤◌, ℕ, zero, suc, ◌+◌, ◌-◌, ◌*◌, ℤ, pos, Bool, true, List, [], ◌∷◌, ◌++◌, refl}
+use Rattle.std.proofs.Common.{ap, ◌∙◌, length, map, take, drop, replicate, arith, ne_eqb, Result, Ok, Err}
 use Rattle.std.specs.Prelude.{slice_index_or, IfOk}
 use Rattle.std.specs.Array.{AllZipBelow}
 use Rattle.std.specs.List.{each_same}

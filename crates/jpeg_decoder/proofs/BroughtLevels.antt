@@ -18,8 +18,8 @@ use Rattle.jpeg_decoder.specs.Order.{grid_of}
 use Rattle.jpeg_segments.specs.Scales.{frame_at}
 use Rattle.jpeg_decoder.specs.Scans.{Arrays, zero_arrays}
 use Rattle.jpeg_decoder.specs.Stream.{Coding, Found, none_finished, pass_of, is_progressive, arrays_before}
-use Rattle.jpeg_decoder.specs.Stream.{held_behind, put_arrays, scan_arrays, behind_scan, with_arrays}
-use Rattle.jpeg_decoder.specs.Levels.{Levels, Is8Bit, IsLegal, levels_behind, nothing_sent}
+use Rattle.jpeg_decoder.specs.Stream.{held_after, put_arrays, scan_arrays, after_scan, with_arrays}
+use Rattle.jpeg_decoder.specs.Levels.{Levels, Is8Bit, IsLegal, sent_after, nothing_sent}
 use Rattle.jpeg_decoder.specs.WrittenScans.{Coefficients, levels_of_one, levels_after, IsLegalScan, WritesScan}
 use Rattle.jpeg_decoder.proofs.PlacesApart.{AreApart}
 use Rattle.jpeg_decoder.specs.WrittenData.{marker}
@@ -28,7 +28,7 @@ use Rattle.jpeg_decoder.proofs.FinishedMarks.{IsBand, marks-start}
 use Rattle.jpeg_decoder.proofs.OwnSpots.{At, at-get, Fits}
 use Rattle.jpeg_decoder.proofs.WrittenFrameScans.{HoldsOwn, HasGood, SlotReady, SpotsSuit, none_read, dc_alone}
 use Rattle.jpeg_decoder.proofs.WrittenFrameScans.{one_component, ReadsScan, scan-is_read, cut-nothing, at-all}
-use Rattle.jpeg_decoder.proofs.ReadStates.{reading, Marked, AllDone, places_of, Brought, brings, AllHeld, held-behind}
+use Rattle.jpeg_decoder.proofs.ReadStates.{reading, Marked, AllDone, places_of, Brought, brings, AllHeld, held-after}
 use Rattle.jpeg_decoder.proofs.AcceptedTurns.{CodingFacts, codings-facts, codings-read}
 
 -- ---- the frame
@@ -53,7 +53,7 @@ pub record Shaped (f : Frame) : Type 0 where
   pub fits : (k : ℕ) (c : Component) → At k f.components c → Fits f c
   pub lossy : f.process ≢ Lossless
 
--- what is held, finished and decided behind some scans
+-- what is held, finished and decided after some scans
 pub record Framed (w : Found) (f : Frame) (array : Coefficients) (levels : ℕ → Levels) (sc : Bool) (h : Arrays)
     (fi : List (List Bool)) (pl : List (Option (List ℕ))) : Type 0 where
   pub marked : Marked w f array levels fi pl
@@ -134,13 +134,13 @@ framed-start w f array h fi pl range e g = record {
 
 -- ---- levels
 
-pub levels-length : (p : Pass) (l : Levels) → length l.acs ≡ 63 → length (levels_behind p l).acs ≡ 63
+pub levels-length : (p : Pass) (l : Levels) → length l.acs ≡ 63 → length (sent_after p l).acs ≡ 63
 levels-length p l h =
     let b = before_band p in
     let s = band_size p in
     let ls = l.acs in
     let band = length-take s (drop b ls) in
-    let behind = length-drop b ls in
+    let after = length-drop b ls in
     let now = length-replicate (length (band_of p ls)) (Some p.al) in
     let one = length-append (take b ls) (replicate (length (band_of p ls)) (Some p.al) ++ drop (b + s) ls) in
     let two = length-append (replicate (length (band_of p ls)) (Some p.al)) (drop (b + s) ls) in
@@ -153,7 +153,7 @@ one-length : (p : Pass) (place k : ℕ) (levels : ℕ → Levels) → ((j : ℕ)
 one-length p place k levels h = go (eqb k place) (levels k) (h k)
   where
     go : (b : Bool) (l : Levels) → length l.acs ≡ 63
-        → length (elim b as (λ _. Levels) [ true ↦ levels_behind p l | false ↦ l ]).acs ≡ 63
+        → length (elim b as (λ _. Levels) [ true ↦ sent_after p l | false ↦ l ]).acs ≡ 63
     go true l e = levels-length p l e
     go false l e = e
 
@@ -176,8 +176,8 @@ one-fresh p place k levels e h n =
     (sym e) (go (eqb k place) (levels k) (h k)) n
   where
     go : (b : Bool) (l : Levels) → (l.dc ≡ None → l ≡ nothing_sent)
-        → (elim b as (λ _. Levels) [ true ↦ levels_behind whole_pass l | false ↦ l ]).dc ≡ None
-        → elim b as (λ _. Levels) [ true ↦ levels_behind whole_pass l | false ↦ l ] ≡ nothing_sent
+        → (elim b as (λ _. Levels) [ true ↦ sent_after whole_pass l | false ↦ l ]).dc ≡ None
+        → elim b as (λ _. Levels) [ true ↦ sent_after whole_pass l | false ↦ l ] ≡ nothing_sent
     go true l g m = absurd (some-none 0 m)
     go false l g m = g m
 
@@ -203,13 +203,13 @@ not-true : (a : Bool) → not a ≡ true → a ≡ false
 not-true true e = absurd (true≢false (sym e))
 not-true false e = refl
 
-pub pass-by : (s : Scan) → pass_of s ≡ record { is_first = eqb s.high 0; ss = s.first; se = s.behind - 1; al = s.low }
+pub pass-by : (s : Scan) → pass_of s ≡ record { is_first = eqb s.high 0; ss = s.first; se = s.after - 1; al = s.low }
 unfolding pass_of
 pass-by s = refl
 
 -- a pass that starts with DC has DC alone, and one that doesn't is of one component
 pub record IsProgressivePass (s : Scan) : Type 0 where
-  pub dc : s.first ≡ 0 → s.behind - 1 ≡ 0
+  pub dc : s.first ≡ 0 → s.after - 1 ≡ 0
   pub ac : (s.first ≡ 0) ⊎ (length s.components ≡ 1)
 
 pub progressive-pass : (count first last high low : ℕ) → is_progressive_band count first last high low ≡ true
@@ -232,8 +232,8 @@ progressive-pass count first last high low e =
 -- what the process says of a scan
 pub data PassSo (f : Frame) (s : Scan) : Type 0 where
   sequential : is_progressive f.process ≡ false → pass_of s ≡ whole_pass → PassSo f s
-  progressive : is_progressive f.process ≡ true → (s.first ≡ 0 → s.behind - 1 ≡ 0)
-      → (s.first ≡ 0) ⊎ (length s.components ≡ 1) → s.first < s.behind → s.behind ≤ 64 → PassSo f s
+  progressive : is_progressive f.process ≡ true → (s.first ≡ 0 → s.after - 1 ≡ 0)
+      → (s.first ≡ 0) ⊎ (length s.components ≡ 1) → s.first < s.after → s.after ≤ 64 → PassSo f s
 
 -- what a scan header says
 pub record ScanFacts (f : Frame) (s : Scan) : Type 0 where
@@ -277,22 +277,22 @@ pub held-arrays : (w : Found) (h : Arrays) (fi : List (List Bool)) (pl : List (O
 unfolding arrays_before
 held-arrays w h fi pl f e = rw (e, arrays_before) refl
 
-held-behind_is : (found : Found) (f : Frame) (codings : List Coding) (arrays : Arrays) → is_progressive f.process ≡ true
-    → held_behind found f codings arrays ≡ put_arrays codings arrays (arrays_before found f)
-held-behind_is found f codings arrays e = rw (e, held_behind) refl
+held-after_is : (found : Found) (f : Frame) (codings : List Coding) (arrays : Arrays) → is_progressive f.process ≡ true
+    → held_after found f codings arrays ≡ put_arrays codings arrays (arrays_before found f)
+held-after_is found f codings arrays e = rw (e, held_after) refl
 
-behind-is : (w : Found) (sc : Bool) (h : Arrays) (fi : List (List Bool)) (pl : List (Option (List ℕ))) (f : Frame)
+after-is : (w : Found) (sc : Bool) (h : Arrays) (fi : List (List Bool)) (pl : List (Option (List ℕ))) (f : Frame)
     (s : Scan) (codings : List Coding) (arrays : Arrays)
-    → behind_scan (reading w sc h fi pl) f s codings arrays
+    → after_scan (reading w sc h fi pl) f s codings arrays
     ≡ with_arrays (pass_of s) codings arrays
-    (reading w true (held_behind (reading w sc h fi pl) f codings arrays) fi pl)
-unfolding behind_scan
-behind-is w sc h fi pl f s codings arrays = refl
+    (reading w true (held_after (reading w sc h fi pl) f codings arrays) fi pl)
+unfolding after_scan
+after-is w sc h fi pl f s codings arrays = refl
 
 all-done : (w : Found) (f : Frame) (p : Pass) (array : Coefficients) (levels : ℕ → Levels) (codings : List Coding)
     (arrays : Arrays) → length arrays ≡ length codings
     → ((k : Coding) (j : ℕ) → At j codings k
-    → HoldsOwn (grid_of k.component) (array k.place) (levels_behind p (levels k.place)) (get_or arrays j []))
+    → HoldsOwn (grid_of k.component) (array k.place) (sent_after p (levels k.place)) (get_or arrays j []))
     → AllByRecursion (CodingFacts w f) codings → AllByRecursion (λ c. IsLegal p (levels c.place)) codings
     → ((k : ℕ) → length (levels k).acs ≡ 63)
     → AllDone w f p array levels codings arrays
@@ -334,7 +334,7 @@ pub record Scanned (w : Found) (f : Frame) (array : Coefficients) (levels : ℕ 
   pub planes : List (Option (List ℕ))
   pub read : (fill code : ℕ) (m : Marker) (rest : List ℕ) → IsMarker code m
       → scan_arrays (reading w sc h fi pl) f s codings (bytes ++ marker fill code rest) ≡ Ok ((arrays, Some m), rest)
-  pub behind : behind_scan (reading w sc h fi pl) f s codings arrays ≡ reading w true held finished planes
+  pub after : after_scan (reading w sc h fi pl) f s codings arrays ≡ reading w true held finished planes
   pub framed : Framed w f array (levels_after (pass_of s) (places_of codings) levels) true held finished planes
 
 module _ (w : Found) (f : Frame) (array : Coefficients) (levels : ℕ → Levels) (sc : Bool) (h : Arrays)
@@ -350,7 +350,7 @@ module _ (w : Found) (f : Frame) (array : Coefficients) (levels : ℕ → Levels
   facts : (length codings ≡ length s.components) × AllByRecursion (CodingFacts w f) codings
       × (places_of codings ≡ s.components)
   facts = codings-facts w f s codings rules.dc_length rules.ac_length
-      (codings-read w f s codings shape.lossy legal.are_in_force)
+      (codings-read w f s codings legal.are_in_force)
 
   apart : AreApart (places_of codings)
   apart = subst AreApart (sym facts.2) rules.apart
@@ -365,7 +365,7 @@ module _ (w : Found) (f : Frame) (array : Coefficients) (levels : ℕ → Levels
   ss-is : (pass_of s).ss ≡ s.first
   ss-is = ap (λ (p : Pass). p.ss) (pass-by s)
 
-  se-is : (pass_of s).se ≡ s.behind - 1
+  se-is : (pass_of s).se ≡ s.after - 1
   se-is = ap (λ (p : Pass). p.se) (pass-by s)
 
   holds-now : PassSo f s → (k : Coding) → CodingFacts w f k → IsLegal (pass_of s) (levels k.place)
@@ -400,11 +400,11 @@ module _ (w : Found) (f : Frame) (array : Coefficients) (levels : ℕ → Levels
   done = all-done w f (pass_of s) array levels codings reads-now.arrays reads-now.count reads-now.holds facts.1
       legal.legal framed.sized
 
-  abbrev behind_held : Arrays
-  behind_held = held_behind now f codings reads-now.arrays
+  abbrev after_held : Arrays
+  after_held = held_after now f codings reads-now.arrays
 
-  brought : Brought w f (pass_of s) array levels codings reads-now.arrays true behind_held fi pl
-  brought = brings w f (pass_of s) array levels codings reads-now.arrays true behind_held fi pl shape.few
+  brought : Brought w f (pass_of s) array levels codings reads-now.arrays true after_held fi pl
+  brought = brings w f (pass_of s) array levels codings reads-now.arrays true after_held fi pl shape.few
       (band-so f s so) apart done framed.marked
 
   scan-read : (fill code : ℕ) (m : Marker) (rest : List ℕ) → IsMarker code m
@@ -412,35 +412,35 @@ module _ (w : Found) (f : Frame) (array : Coefficients) (levels : ℕ → Levels
   unfolding scan_arrays
   scan-read fill code m rest i = reads-now.read fill code m rest i
 
-  fresh-behind : PassSo f s → is_progressive f.process ≡ false → (k : ℕ)
+  fresh-after : PassSo f s → is_progressive f.process ≡ false → (k : ℕ)
       → (levels_after (pass_of s) (places_of codings) levels k).dc ≡ None
       → levels_after (pass_of s) (places_of codings) levels k ≡ nothing_sent
-  fresh-behind (sequential e q) g = after-fresh (pass_of s) (places_of codings) levels q (framed.fresh e)
-  fresh-behind (progressive e d a lt le) g = absurd (true≢false (sym e ∙ g))
+  fresh-after (sequential e q) g = after-fresh (pass_of s) (places_of codings) levels q (framed.fresh e)
+  fresh-after (progressive e d a lt le) g = absurd (true≢false (sym e ∙ g))
 
   held-now : is_progressive f.process ≡ true
       → AllHeld f array (levels_after (pass_of s) (places_of codings) levels)
-      (arrays_before (reading w true behind_held brought.finished brought.planes) f)
+      (arrays_before (reading w true after_held brought.finished brought.planes) f)
   held-now e =
       subst (AllHeld f array (levels_after (pass_of s) (places_of codings) levels))
-      (sym (held-arrays w behind_held brought.finished brought.planes f e
-      ∙ held-behind_is now f codings reads-now.arrays e))
-      (held-behind w f (pass_of s) array levels codings reads-now.arrays (arrays_before now f) apart done
+      (sym (held-arrays w after_held brought.finished brought.planes f e
+      ∙ held-after_is now f codings reads-now.arrays e))
+      (held-after w f (pass_of s) array levels codings reads-now.arrays (arrays_before now f) apart done
       (framed.held e))
 
-  -- A written scan brings what the levels behind it say.
+  -- A written scan brings what the levels after it say.
   pub scan-brings : Scanned w f array levels sc h fi pl s codings bytes
   scan-brings = record {
     arrays = reads-now.arrays;
-    held = behind_held;
+    held = after_held;
     finished = brought.finished;
     planes = brought.planes;
     read = scan-read;
-    behind = behind-is w sc h fi pl f s codings reads-now.arrays ∙ brought.is;
+    after = after-is w sc h fi pl f s codings reads-now.arrays ∙ brought.is;
     framed = record {
       marked = brought.marked;
       sized = after-length (pass_of s) (places_of codings) levels framed.sized;
       held = held-now;
-      fresh = λ g. fresh-behind so g;
+      fresh = λ g. fresh-after so g;
     };
   }

@@ -1,4 +1,4 @@
--- A legal scan takes the blocks at its levels to the blocks at the levels behind it.
+-- A legal scan takes the blocks at its levels to the blocks at the levels after it.
 use Rattle.std.proofs.Common.{◌≡◌, ℕ, zero, suc, ◌+◌, ◌*◌, ◌/◌, ◌^◌, ◌<◌, ◌≤◌, Bool, true, false, List, [], ◌∷◌, ◌++◌}
 use Rattle.std.proofs.Common.{map, take, drop, replicate, length, ℤ, pos, negsuc, neg_ℤ, ◌≤ℤ◌, unsigned_abs, Option}
 use Rattle.std.proofs.Common.{Some, None, refl, sym, ap, ap₂, ◌∙◌, subst, arith, eqb, pow_mono, w16, length-take}
@@ -14,10 +14,10 @@ use Rattle.std.specs.List.{AllByRecursion}
 use Rattle.jpeg_bits.specs.Bands.{wrapped}
 use Rattle.jpeg_bits.specs.Passes.{Pass, Block, or_bit, band_of, with_band, before_band, band_size}
 use Rattle.jpeg_decoder.specs.Levels.{floor_at, toward_zero, numbers_at, Levels, cut_dc, cut_ac, cut_acs, cut}
-use Rattle.jpeg_decoder.specs.Levels.{IsLegal, levels_behind, Is8Bit}
+use Rattle.jpeg_decoder.specs.Levels.{IsLegal, sent_after, Is8Bit}
 use Rattle.jpeg_decoder.specs.WrittenData.{no_numbers, low_bit}
 use Rattle.jpeg_decoder.proofs.SentBlocks.{halved}
-use Rattle.jpeg_decoder.proofs.SentBlocks.{scaled, held, InRange, InDcRange, Suits, behind_pass, dc_held, floor_half}
+use Rattle.jpeg_decoder.proofs.SentBlocks.{scaled, held, InRange, InDcRange, Suits, after_pass, dc_held, floor_half}
 use Rattle.jpeg_decoder.proofs.WrittenBands.{abs-scaled, mag-le}
 use Rattle.jpeg_decoder.proofs.WrittenBlocks.{dc-refined}
 
@@ -159,7 +159,7 @@ pub same-band : (p : Pass) (cs : List ℤ) (ls : List (Option ℕ)) → length c
 same-band p cs ls h =
     same-take (band_size p) (drop (before_band p) cs) (drop (before_band p) ls) (same-drop (before_band p) cs ls h)
 
--- a list is what stands before a band, the band, and what stands behind it
+-- a list is what stands before a band, the band, and what stands after it
 pub around-band : (p : Pass) (cs : List ℤ) → with_band p cs (band_of p cs) ≡ cs
 around-band p cs =
     ap (λ (l : List ℤ). take (before_band p) cs ++ (band_of p cs ++ l))
@@ -208,10 +208,10 @@ suits-cut p l c range same legal = record {
   dc_fits = floor-fits p.al c.dc legal.low range.dc_low range.dc_high;
 }
 
-pub acs-behind : (p : Pass) (l : Levels) (c : Block) → length c.acs ≡ length l.acs
+pub acs-after : (p : Pass) (l : Levels) (c : Block) → length c.acs ≡ length l.acs
     → with_band p (cut_acs c.acs l.acs) (map (scaled p.al) (band_of p (map (toward_zero p.al) c.acs)))
-    ≡ cut_acs c.acs (levels_behind p l).acs
-acs-behind p l c same =
+    ≡ cut_acs c.acs (sent_after p l).acs
+acs-after p l c same =
     let b = before_band p in
     let s = band_size p in
     let count = length (band_of p l.acs) in
@@ -228,25 +228,25 @@ acs-behind p l c same =
     (sym (cut-append (band_of p c.acs) (drop (b + s) c.acs) now (drop (b + s) l.acs) sizes))
     ∙ sym (cut-append (take b c.acs) (band_of p c.acs ++ drop (b + s) c.acs) (take b l.acs)
     (now ++ drop (b + s) l.acs) (same-take b c.acs l.acs same))
-    ∙ ap (λ (x : List ℤ). cut_acs x (levels_behind p l).acs) (around-band p c.acs)
+    ∙ ap (λ (x : List ℤ). cut_acs x (sent_after p l).acs) (around-band p c.acs)
 
-pub dc-behind : (p : Pass) (l : Levels) (c : Block) → IsLegal p l
-    → (behind_pass p (cut l c) (numbers_at p.al c)).dc ≡ (cut (levels_behind p l) c).dc
-dc-behind p l c legal = go (eqb p.ss 0) refl p.is_first refl
+pub dc-then : (p : Pass) (l : Levels) (c : Block) → IsLegal p l
+    → (after_pass p (cut l c) (numbers_at p.al c)).dc ≡ (cut (sent_after p l) c).dc
+dc-then p l c legal = go (eqb p.ss 0) refl p.is_first refl
   where
     go : (t : Bool) → eqb p.ss 0 ≡ t → (f : Bool) → p.is_first ≡ f
-        → (behind_pass p (cut l c) (numbers_at p.al c)).dc ≡ (cut (levels_behind p l) c).dc
-    go true e true f = rw (e, f, behind_pass) (rw (e, levels_behind) refl)
+        → (after_pass p (cut l c) (numbers_at p.al c)).dc ≡ (cut (sent_after p l) c).dc
+    go true e true f = rw (e, f, after_pass) (rw (e, sent_after) refl)
     go true e false f =
         let before : cut_dc c.dc l.dc ≡ dc_held p.al (floor_at p.al c.dc)
         = ap (cut_dc c.dc) (legal.dc_sent (eqb-true p.ss 0 e) f)
         ∙ ap (scaled (suc p.al)) (sym (half-floor p.al c.dc)) in
-        rw (e, f, behind_pass) (rw (e, levels_behind)
+        rw (e, f, after_pass) (rw (e, sent_after)
         (ap (λ (x : ℤ). or_bit p.al x (low_bit (floor_at p.al c.dc))) before ∙ dc-refined p.al (floor_at p.al c.dc)))
-    go false e f g = rw (e, behind_pass) (rw (e, levels_behind) refl)
+    go false e f g = rw (e, after_pass) (rw (e, sent_after) refl)
 
--- A legal scan takes the block at its levels to the block at the levels behind it.
-pub cut-behind : (p : Pass) (l : Levels) (c : Block) → length c.acs ≡ length l.acs → IsLegal p l
-    → behind_pass p (cut l c) (numbers_at p.al c) ≡ cut (levels_behind p l) c
-cut-behind p l c same legal =
-    ap₂ (λ (d : ℤ) (a : List ℤ). record { dc = d; acs = a }) (dc-behind p l c legal) (acs-behind p l c same)
+-- A legal scan takes the block at its levels to the block at the levels after it.
+pub cut-after : (p : Pass) (l : Levels) (c : Block) → length c.acs ≡ length l.acs → IsLegal p l
+    → after_pass p (cut l c) (numbers_at p.al c) ≡ cut (sent_after p l) c
+cut-after p l c same legal =
+    ap₂ (λ (d : ℤ) (a : List ℤ). record { dc = d; acs = a }) (dc-then p l c legal) (acs-after p l c same)

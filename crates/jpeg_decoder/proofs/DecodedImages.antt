@@ -24,7 +24,7 @@ use Rattle.jpeg_decoder.proofs.WrittenPictures.{taken-means}
 
 -- ---- what is left
 
-left-reading : (size : Size) (bytes : List ℕ) (stage : Stage) (found : Found) (left : List ℕ)
+pub left-reading : (size : Size) (bytes : List ℕ) (stage : Stage) (found : Found) (left : List ℕ)
     → HasLeft size bytes stage found left → IsReading stage
 left-reading FullSize bytes Fresh found left h = tt
 left-reading (AtLeast width height) bytes Fresh found left h = absurd h
@@ -33,7 +33,7 @@ left-reading size bytes Finished found left h = absurd h
 left-reading size bytes Failed found left h = absurd h
 
 -- the meaning of a stream whose picture is to have a size
-abbrev means_at : Size → Settings → List ℕ → Outcome (Told × List ℕ)
+abbrev pub means_at : Size → Settings → List ℕ → Outcome (Told × List ℕ)
 means_at FullSize settings bytes = meaning settings bytes
 means_at (AtLeast width height) settings bytes = sized_meaning width height settings bytes
 
@@ -56,7 +56,7 @@ rest-begins : (size : Size) (settings : Settings) (found : Found) (bytes rest : 
 rest-begins FullSize settings found bytes rest e = header-begins settings found bytes rest e
 rest-begins (AtLeast width height) settings found bytes rest e = sized-begins width height settings found bytes rest e
 
-left-means : (size : Size) (settings : Settings) (bytes : List ℕ) (stage : Stage) (found : Found) (left : List ℕ)
+pub left-means : (size : Size) (settings : Settings) (bytes : List ℕ) (stage : Stage) (found : Found) (left : List ℕ)
     (o : Outcome (Told × List ℕ))
     → HasLeft size bytes stage found left → means_at size settings bytes ≡ o → ahead stage settings found left ≡ o
 left-means FullSize settings bytes Fresh found left o h e = ap (meaning settings) h ∙ e
@@ -87,7 +87,7 @@ only-memory (errors.Io x) o y h n = no-refusal o y _ h n.0
 only-memory (errors.Internal text) o y h n = absurd n
 only-memory errors.OutOfMemory o y h n = refl
 
-gives : {X : Type 0} (bytes_of : X → List ℕ) (o : Result (List ℕ) Fault) (picture rest : List ℕ) (final : Found)
+pub gives : {X : Type 0} (bytes_of : X → List ℕ) (o : Result (List ℕ) Fault) (picture rest : List ℕ) (final : Found)
     (new : Decoding)
     (read : List ℕ → Outcome (Told × List ℕ)) (old : Stream) (result : Result X Error)
     → Answers (λ x. (told_of new.found, bytes_of x)) read old result new.source → o ≡ Ok picture

@@ -25,11 +25,12 @@ use Rattle.jpeg_segments.specs.WrittenSegments.{IsHuffmanTable}
 use Rattle.jpeg_segments.specs.WrittenSegments.{IsQuantizationTable, payload_of, Quantization, QuantizationTable}
 use Rattle.jpeg_segments.specs.WrittenSegments.{sized}
 use Rattle.jpeg_decoder.specs.declared.grids.Grid.{Grid}
-use Rattle.jpeg_decoder.specs.Levels.{Is8Bit, IsLegal, Levels, levels_behind, nothing_sent, numbers_at}
+use Rattle.jpeg_decoder.specs.Levels.{Is8Bit, IsLegal, Levels, sent_after, nothing_sent, numbers_at}
 use Rattle.jpeg_decoder.specs.Order.{grid_of, mcu_size, own_spots, Spot, spots_of}
-use Rattle.jpeg_decoder.specs.SaidSegments.{found_behind, HasPicture}
+use Rattle.jpeg_decoder.specs.SaidSegments.{found_after, HasPicture}
 use Rattle.jpeg_decoder.specs.Scans.{no_table, via_at}
-use Rattle.jpeg_decoder.specs.Stream.{Coding, first_of, Found, nothing_found, pass_of, tables_of, updated, vias_from}
+use Rattle.jpeg_decoder.specs.Needed.{first_of}
+use Rattle.jpeg_decoder.specs.Stream.{Coding, Found, nothing_found, pass_of, tables_of, updated, vias_from}
 use Rattle.jpeg_decoder.specs.WorkedImages.{IsWhollyWritten}
 use Rattle.jpeg_decoder.specs.WrittenData.{marker}
 use Rattle.jpeg_decoder.specs.WrittenData.WritesIntervals.{last as last_interval}
@@ -61,13 +62,13 @@ flat_tables = record { place = 0; table = flat_table classes.DC } ∷ record {
 } ∷ []
 
 abbrev said_1 : Found
-said_1 = found_behind nothing_found (Quantization all_ones)
+said_1 = found_after nothing_found (Quantization all_ones)
 
 abbrev said_2 : ℕ → FrameHeader → Found
-said_2 number h = found_behind said_1 (Header number h)
+said_2 number h = found_after said_1 (Header number h)
 
 abbrev said : ℕ → FrameHeader → Found
-said number h = found_behind (said_2 number h) (Huffman flat_tables)
+said number h = found_after (said_2 number h) (Huffman flat_tables)
 
 abbrev component_in : FrameHeader → Factors → Component
 component_in h c = component_of h.width h.height (greatest (λ f. f.horizontal) h.components)
@@ -411,17 +412,17 @@ scan-legal kind number h front more c levels fits e low was = record {
 
 -- after a scan of one component
 after-same : (p : Pass) (place : ℕ) (levels : ℕ → Levels)
-    → levels_after p (place ∷ []) levels place ≡ levels_behind p (levels place)
+    → levels_after p (place ∷ []) levels place ≡ sent_after p (levels place)
 unfolding levels_after
 after-same p place levels =
-    ap (λ (b : Bool). elim b as (λ _. Levels) [ true ↦ levels_behind p (levels place) | false ↦ levels place ])
+    ap (λ (b : Bool). elim b as (λ _. Levels) [ true ↦ sent_after p (levels place) | false ↦ levels place ])
     (eq-eqb place place refl)
 
 after-other : (p : Pass) (place k : ℕ) (levels : ℕ → Levels) → k ≢ place
     → levels_after p (place ∷ []) levels k ≡ levels k
 unfolding levels_after
 after-other p place k levels ne =
-    ap (λ (b : Bool). elim b as (λ _. Levels) [ true ↦ levels_behind p (levels k) | false ↦ levels k ])
+    ap (λ (b : Bool). elim b as (λ _. Levels) [ true ↦ sent_after p (levels k) | false ↦ levels k ])
     (ne_eqb k place ne)
 
 have-tables : (number : ℕ) (h : FrameHeader) (front cs : List Factors) → number ≤ 2 → AreComponents number front cs
@@ -522,17 +523,17 @@ Steps number h array =
 whole-after : (p : Pass) (place : ℕ) (levels : ℕ → Levels) → p ≡ whole_pass → levels place ≡ nothing_sent
     → IsComplete (levels_after p (place ∷ []) levels place)
 whole-after p place levels e f =
-    subst IsComplete (sym (after-same p place levels ∙ ap₂ levels_behind e f))
+    subst IsComplete (sym (after-same p place levels ∙ ap₂ sent_after e f))
     (record { dc = refl; acs = all-same (Some 0) 63 })
 
 dc-after : (p : Pass) (place : ℕ) (levels : ℕ → Levels) → p ≡ dc_pass → levels place ≡ nothing_sent
     → levels_after p (place ∷ []) levels place ≡ before OfAc
-dc-after p place levels e f = after-same p place levels ∙ ap₂ levels_behind e f
+dc-after p place levels e f = after-same p place levels ∙ ap₂ sent_after e f
 
 ac-after : (p : Pass) (place : ℕ) (levels : ℕ → Levels) → p ≡ ac_pass → levels place ≡ before OfAc
     → IsComplete (levels_after p (place ∷ []) levels place)
 ac-after p place levels e f =
-    subst IsComplete (sym (after-same p place levels ∙ ap₂ levels_behind e f))
+    subst IsComplete (sym (after-same p place levels ∙ ap₂ sent_after e f))
     (record { dc = refl; acs = all-same (Some 0) 63 })
 
 sequential-steps : (number : ℕ) (h : FrameHeader) (array : Coefficients) → number ≤ 1 → HasPicture h
@@ -647,7 +648,7 @@ image-written number h array le is p range =
         last = r.1;
         frame = frame_written number h;
         written = record {
-          behind = front_bytes number h r.0;
+          after = front_bytes number h r.0;
           starts = refl;
           written =
               segment nothing_found (said number h) (λ k. nothing_sent) r.1 false 0 (Quantization all_ones) _ (

@@ -1,13 +1,16 @@
 -- The planes of a frame's components at the end of an image, one after the other.
-use Rattle.std.proofs.Common.{◌≡◌, ◌<◌, ◌≤◌, ℕ, zero, suc, ◌+◌, ◌*◌, ℤ, Bool, true, false, List, [], ◌∷◌, ◌++◌, refl, sym, ap, ◌∙◌, subst, length, get_or, set, map, drop, drop_of_length-le, arith, Option, Some, None, Result, Ok, Err}
-use Rattle.std.specs.Prelude.{◌==◌, ◌||◌, ◌&&◌, option_map, slice_index_or}
+use Rattle.std.proofs.Common.{◌≡◌, ◌<◌, ◌≤◌, ℕ, zero, suc, ◌+◌, ◌*◌, ℤ, Bool, true, false, List, [], ◌∷◌, ◌++◌, refl}
+use Rattle.std.proofs.Common.{sym, ap, ◌∙◌, subst, length, get_or, set, map, drop, drop_of_length-le, arith, Option}
+use Rattle.std.proofs.Common.{Some, None, Result, Ok, Err}
+use Rattle.std.specs.Prelude.{◌==◌, ◌||◌, option_map, slice_index_or}
 use Rattle.std.specs.List.{AllByRecursion}
 use Rattle.std.proofs.Math.Logic.{inl, inr}
 use Rattle.std.proofs.lemmas.Bool.{eqb-true}
 use Rattle.std.specs.declared.alloc.Global.{Global}
 use Rattle.std.specs.declared.vec.Vec.{Vec}
 use Rattle.std.proofs.Math.Bool.{cond}
-use Rattle.std.proofs.lemmas.List.{append_assoc, append-nil, drop_more, drop-set-lt, drop-drop, get_or-drop, get_or-map, length-drop, length-map, map-set}
+use Rattle.std.proofs.lemmas.List.{append_assoc, append-nil, drop_more, drop-set-lt, drop-drop, get_or-drop, get_or-map}
+use Rattle.std.proofs.lemmas.List.{length-drop, length-map, map-set}
 use Rattle.jpeg_bits.specs.Passes.{Block}
 use Rattle.jpeg_bits.specs.Reading.{Fault, Malformed, Names, ◌>>=◌}
 use Rattle.jpeg_bits.specs.declared.error.Error.{Error}
@@ -22,7 +25,8 @@ use Rattle.jpeg_decoder.specs.Scanning.{arrays_in, blocks_in}
 use Rattle.jpeg_decoder.specs.Scans.{Arrays, zero_arrays}
 use Rattle.jpeg_decoder.specs.Sound.{ArePlanes, IsDecodedFrame, IsPlaneOf, IsSound}
 use Rattle.jpeg_decoder.proofs.Soundness.{count-few, decoded-count}
-use Rattle.jpeg_decoder.specs.Stream.{Found, arrays_before, is_progressive, needed, plane_at_end, plane_by, planes_from}
+use Rattle.jpeg_decoder.specs.Needed.{needed}
+use Rattle.jpeg_decoder.specs.Stream.{Found, arrays_before, plane_at_end, plane_by, planes_from}
 
 -- ---- what is left after some places
 
@@ -138,7 +142,7 @@ planes-all found frame place left front whole n e =
 
 -- ---- all blocks
 
--- what so many planes make whole, with those after them
+-- what this many planes make whole, with those after them
 abbrev pub AreWholeWith : List Component → ℕ → List (List ℕ) → Type 0
 AreWholeWith cs place front = (others : List (List ℕ)) → AreWhole (drop place cs) others → AreWhole cs (front ++ others)
 

@@ -5,7 +5,7 @@ use Rattle.std.proofs.Common.{true≢false}
 use Rattle.std.proofs.lemmas.Bool.{eqb-true, eq-eqb}
 use lib.ListN.{length-map}
 use Rattle.jpeg_bits.specs.Passes.{Pass, band_of, with_band, before_band, band_size}
-use Rattle.jpeg_decoder.specs.Levels.{Levels, IsLegal, levels_behind, nothing_sent}
+use Rattle.jpeg_decoder.specs.Levels.{Levels, IsLegal, sent_after, nothing_sent}
 use Rattle.jpeg_decoder.proofs.FinishedPlaces.{Finished, finish, is_level_0, at_level_0}
 use Rattle.jpeg_decoder.specs.Stream.{finished_by, none_finished}
 use Rattle.jpeg_decoder.proofs.WrittenIntervals.{not-equal}
@@ -28,7 +28,7 @@ from-dc : (se m b k n : ℕ) (d : Bool) (xs : List Bool) → n ≡ suc se → b 
     → replicate n true ++ drop (suc se) (d ∷ xs) ≡ true ∷ (take b xs ++ (replicate m true ++ drop k xs))
 from-dc se m b k n d xs e f g h = rw (e, f, g, h) refl
 
--- behind DC
+-- after DC
 from-ac : (ss se m b k n : ℕ) (d : Bool) (xs : List Bool) → ss ≡ suc b → n ≡ m → k ≡ se
     → take ss (d ∷ xs) ++ (replicate n true ++ drop (suc se) (d ∷ xs))
     ≡ d ∷ (take b xs ++ (replicate m true ++ drop k xs))
@@ -83,9 +83,9 @@ finished-listed p f band h = go p.al refl
         ∙ ap marks_listed (sym (finish-yes p f e))
     go (suc a) e = marks-no p (marks_listed f) a e ∙ ap marks_listed (sym (finish-no p f a e))
 
-pub marks-behind : (p : Pass) (l : Levels) → IsLegal p l → IsBand p → length l.acs ≡ 63
-    → finished_by p (marks_of l) ≡ marks_of (levels_behind p l)
-marks-behind p l legal band h =
+pub marks-after : (p : Pass) (l : Levels) → IsLegal p l → IsBand p → length l.acs ≡ 63
+    → finished_by p (marks_of l) ≡ marks_of (sent_after p l)
+marks-after p l legal band h =
     finished-listed p (at_level_0 l) band (length-map l.acs is_level_0 ∙ h) ∙ ap marks_listed (finish-legal p l legal)
 
 pub marks-start : none_finished ≡ marks_of nothing_sent

@@ -7,7 +7,7 @@ use Rattle.jpeg_decoder.proofs.WrittenIntervals.{not-equal, map-take_any, map-dr
 use lib.ListN.{length-map}
 use Rattle.std.specs.List.{AllByRecursion}
 use Rattle.jpeg_bits.specs.Passes.{Pass, band_of, with_band, before_band, band_size}
-use Rattle.jpeg_decoder.specs.Levels.{Levels, IsLegal, levels_behind}
+use Rattle.jpeg_decoder.specs.Levels.{Levels, IsLegal, sent_after}
 
 -- ---- finished places
 
@@ -79,7 +79,7 @@ finish-yes p f e = rw (eq-eqb p.al 0 e, finish) refl
 pub finish-no : (p : Pass) (f : Finished) (a : ℕ) → p.al ≡ suc a → finish p f ≡ f
 finish-no p f a e = rw (not-equal p.al 0 (λ g. absurd (omega arith)), finish) refl
 
-levels-acs : (p : Pass) (l : Levels) → map is_level_0 (levels_behind p l).acs
+levels-acs : (p : Pass) (l : Levels) → map is_level_0 (sent_after p l).acs
     ≡ with_band p (map is_level_0 l.acs)
     (replicate (length (band_of p (map is_level_0 l.acs))) (is_level_0 (Some p.al)))
 levels-acs p l =
@@ -108,14 +108,14 @@ pub dc-open : (p : Pass) (l : Levels) → IsLegal p l → p.ss ≡ 0 → (f : Bo
 dc-open p l legal e true k = ap is_level_0 (legal.dc_unsent e k)
 dc-open p l legal e false k = ap is_level_0 (legal.dc_sent e k)
 
-pub finish-legal : (p : Pass) (l : Levels) → IsLegal p l → finish p (at_level_0 l) ≡ at_level_0 (levels_behind p l)
+pub finish-legal : (p : Pass) (l : Levels) → IsLegal p l → finish p (at_level_0 l) ≡ at_level_0 (sent_after p l)
 finish-legal p l legal = go p.al refl (eqb p.ss 0) refl
   where
     as_record : (d e : Bool) (x y : List Bool) → d ≡ e → x ≡ y
         → ◌≡◌ {A = Finished} (record { dc = d; acs = x }) (record { dc = e; acs = y })
     as_record d e x y g h = ap₂ (λ (b : Bool) (l : List Bool). record { dc = b; acs = l }) g h
 
-    go : (a : ℕ) → p.al ≡ a → (t : Bool) → eqb p.ss 0 ≡ t → finish p (at_level_0 l) ≡ at_level_0 (levels_behind p l)
+    go : (a : ℕ) → p.al ≡ a → (t : Bool) → eqb p.ss 0 ≡ t → finish p (at_level_0 l) ≡ at_level_0 (sent_after p l)
     go zero e t g = finish-yes p (at_level_0 l) e
         ∙ as_record _ _ _ _ (dc t g)
         (sym (levels-acs p l ∙
@@ -124,9 +124,9 @@ finish-legal p l legal = go p.al refl (eqb p.ss 0) refl
       where
         dc : (t : Bool) → eqb p.ss 0 ≡ t
             → elim (p.ss == 0) as (λ _. Bool) [ true ↦ true | false ↦ is_level_0 l.dc ]
-            ≡ is_level_0 (levels_behind p l).dc
-        dc true g = rw (g, levels_behind) (ap (λ (k : ℕ). is_level_0 (Some k)) (sym e))
-        dc false g = rw (g, levels_behind) refl
+            ≡ is_level_0 (sent_after p l).dc
+        dc true g = rw (g, sent_after) (ap (λ (k : ℕ). is_level_0 (Some k)) (sym e))
+        dc false g = rw (g, sent_after) refl
     go (suc a) e t g = finish-no p (at_level_0 l) a e ∙ as_record _ _ _ _ (dc t g)
         (sym (levels-acs p l ∙
         ap (λ (b : Bool). with_band p (map is_level_0 l.acs)
@@ -134,7 +134,7 @@ finish-legal p l legal = go p.al refl (eqb p.ss 0) refl
         ∙ ap (with_band p (map is_level_0 l.acs)) (sym (band-open p l legal p.is_first refl))
         ∙ around p (map is_level_0 l.acs)))
       where
-        dc : (t : Bool) → eqb p.ss 0 ≡ t → is_level_0 l.dc ≡ is_level_0 (levels_behind p l).dc
-        dc true g = rw (g, levels_behind)
+        dc : (t : Bool) → eqb p.ss 0 ≡ t → is_level_0 l.dc ≡ is_level_0 (sent_after p l).dc
+        dc true g = rw (g, sent_after)
             (dc-open p l legal (eqb-true p.ss 0 g) p.is_first refl ∙ sym (ap (λ (k : ℕ). is_level_0 (Some k)) e))
-        dc false g = rw (g, levels_behind) refl
+        dc false g = rw (g, sent_after) refl

@@ -1,5 +1,6 @@
 -- A scan of a frame is its MCUs.
-use Rattle.std.proofs.Common.{◌≡◌, ℕ, zero, suc, ◌+◌, ◌*◌, ◌<◌, ◌≤◌, List, [], ◌∷◌, ◌++◌, map, length, get_or, refl, sym, ap, ap₂, ◌∙◌, arith, add-mul, suc-mul}
+use Rattle.std.proofs.Common.{◌≡◌, ℕ, zero, suc, ◌+◌, ◌*◌, ◌<◌, ◌≤◌, List, [], ◌∷◌, ◌++◌, map, length, get_or, refl}
+use Rattle.std.proofs.Common.{sym, ap, ap₂, ◌∙◌, arith, add-mul, suc-mul}
 use Rattle.std.proofs.lemmas.List.{length-map}
 use Rattle.std.proofs.Math.Nat.{mul-le-mul_right}
 use Rattle.std.specs.List.{AllByRecursion, range_with_len, flat_map}
@@ -13,7 +14,8 @@ use Rattle.jpeg_bits.specs.BlockView.{to_block}
 use Rattle.jpeg_decoder.specs.Order.{Spot, grid_of, own_spots, spots_of, mcu_size}
 use Rattle.jpeg_decoder.specs.InTurn.{Fits, AreArrays, mcus_of, scan_from}
 use Rattle.jpeg_decoder.specs.declared.codings.Coded.{Coded}
-use Rattle.jpeg_decoder.specs.Scanning.{vias_in, components_in, arrays_in, sizes_of, wide_in, across_in, down_in, HoldsMcu, row_in, rows_in, own_rows}
+use Rattle.jpeg_decoder.specs.Scanning.{vias_in, components_in, arrays_in, sizes_of, wide_in, across_in, down_in}
+use Rattle.jpeg_decoder.specs.Scanning.{HoldsMcu, row_in, rows_in, own_rows}
 use Rattle.jpeg_decoder.specs.McuRows.{row_mcus}
 use Rattle.jpeg_decoder.proofs.HeldBlocks.{Held, sizes-long}
 

@@ -1,17 +1,22 @@
 -- The header of a stream, and what stands in front of a frame.
-use Rattle.std.proofs.Common.{◌≡◌, ◌<◌, ℕ, zero, suc, List, Result, Ok, Err, Bool, true, false, Option, Some, None, refl, sym, ap, ◌∙◌, length, arith}
+use Rattle.std.proofs.Common.{◌≡◌, ◌<◌, ℕ, zero, suc, List, Result, Ok, Err, Bool, true, false, Option, Some, None}
+use Rattle.std.proofs.Common.{refl, sym, ap, ◌∙◌, length, arith}
 use Rattle.std.specs.Prelude.{if◌then◌else◌, is_some, option_map}
 use Rattle.std.proofs.Math.Bool.{cond}
 use Rattle.jpeg_bits.specs.Reading.{Outcome, Fault, End, ◌>>=◌, length_at, skip_at}
 use Rattle.jpeg_bits.specs.Marker.{next_marker}
 use Rattle.jpeg_bits.specs.declared.marker.Marker.{Marker}
-use Rattle.jpeg_bits.specs.declared.marker.Marker.TheVariants.{SOF, JPG, DHT, DAC, RST, SOI, EOI, SOS, DQT, DNL, DRI, DHP, EXP, APP, JPGn, COM, TEM, RES}
+use Rattle.jpeg_bits.specs.declared.marker.Marker.TheVariants.{SOF, JPG, DHT, DAC, RST, SOI, EOI, SOS, DQT, DNL, DRI}
+use Rattle.jpeg_bits.specs.declared.marker.Marker.TheVariants.{DHP, EXP, APP, JPGn, COM, TEM, RES}
 use Rattle.jpeg_segments.specs.Frame.{Frame, sof_at}
 use Rattle.jpeg_segments.specs.Quantization.{dqt_at}
 use Rattle.jpeg_segments.specs.HuffmanTables.{dht_at}
 use Rattle.jpeg_segments.specs.Application.{app_at, dri_at}
 use Rattle.jpeg_decoder.specs.declared.state.Before.TheVariants.{Elsewhere}
-use Rattle.jpeg_decoder.specs.Stream.{Found, Turn, onward, needed, accepted, frame_segment, quantization_segment, huffman_segment, restart_segment, application_segment, skipped_segment, scan_segment, end_segment, segment_at, turn_at, segments_within, segments_at}
+use Rattle.jpeg_decoder.specs.Needed.{needed}
+use Rattle.jpeg_decoder.specs.Stream.{Found, Turn, onward, accepted, frame_segment, quantization_segment}
+use Rattle.jpeg_decoder.specs.Stream.{huffman_segment, restart_segment, application_segment, skipped_segment}
+use Rattle.jpeg_decoder.specs.Stream.{scan_segment, end_segment, segment_at, turn_at, segments_within, segments_at}
 use Rattle.jpeg_decoder.proofs.Turns.{turn-takes, segments-refused, segments-next}
 
 -- ---- turns in front of a frame
@@ -135,12 +140,12 @@ pub bind-err : {A B P : Type 0} (r : Result A Fault) (f : A → Result B Fault) 
 bind-err (Ok x) f fault e p q = q x refl e
 bind-err (Err other) f fault e p q = let same : other ≡ fault = cc in p (rw same refl)
 
--- the turns behind one in front of the frame
-abbrev pub behind : ℕ → Turn × List ℕ → Outcome Found
-behind n t = if t.0.ended then Ok (t.0.found, t.1) else segments_within n true t.0.before t.0.found t.0.met t.1
+-- the turns after one in front of the frame
+abbrev pub after : ℕ → Turn × List ℕ → Outcome Found
+after n t = if t.0.ended then Ok (t.0.found, t.1) else segments_within n true t.0.before t.0.found t.0.met t.1
 
-behind-begun : (n : ℕ) (t : Turn) (rest : List ℕ) → t.ended ≡ false → t.before ≡ Elsewhere → t.met ≡ None → behind n (t, rest) ≡ segments_within n true Elsewhere t.found None rest
-behind-begun n t rest e b m = rw (e, b, m) refl
+after-begun : (n : ℕ) (t : Turn) (rest : List ℕ) → t.ended ≡ false → t.before ≡ Elsewhere → t.met ≡ None → after n (t, rest) ≡ segments_within n true Elsewhere t.found None rest
+after-begun n t rest e b m = rw (e, b, m) refl
 
 next-begun : (found : Found) (bytes rest : List ℕ) (t : Turn) → t.ended ≡ false → t.before ≡ Elsewhere → t.met ≡ None → turn_at Elsewhere found None bytes ≡ Ok (t, rest)
     → segments_at false Elsewhere found None bytes ≡ segments_at false Elsewhere t.found None rest
@@ -152,25 +157,25 @@ pub header-rest : (n : ℕ) (found next : Found) (bytes rest : List ℕ) → seg
 unfolding segments_within
 header-rest zero found next bytes rest e = not-ok End _ e
 header-rest (suc n) found next bytes rest e =
-    chosen (is_some found.frame) (Ok (found, bytes)) (turn_at Elsewhere found None bytes >>= behind n) (Ok (next, rest)) e
+    chosen (is_some found.frame) (Ok (found, bytes)) (turn_at Elsewhere found None bytes >>= after n) (Ok (next, rest)) e
     (λ some is. let parts = same-parts found next bytes rest is in rw (parts.0, parts.1) refl)
-    (λ none is. bind-ok (turn_at Elsewhere found None bytes) (behind n) (next, rest) is (λ turn was more.
+    (λ none is. bind-ok (turn_at Elsewhere found None bytes) (after n) (next, rest) is (λ turn was more.
     let s = begins-at (turn_at Elsewhere found None bytes) turn (turn-begins found bytes none) was in
     next-begun found bytes turn.1 turn.0 s.0 s.1.0 s.1.1 was
-    ∙ header-rest n turn.0.found next turn.1 rest (sym (behind-begun n turn.0 turn.1 s.0 s.1.0 s.1.1) ∙ more)))
+    ∙ header-rest n turn.0.found next turn.1 rest (sym (after-begun n turn.0 turn.1 s.0 s.1.0 s.1.1) ∙ more)))
 
 pub header-refused : (n : ℕ) (found : Found) (bytes : List ℕ) (fault : Fault) → length bytes < n → segments_within n true Elsewhere found None bytes ≡ Err fault
     → segments_at false Elsewhere found None bytes ≡ Err fault
 unfolding segments_within
 header-refused zero found bytes fault few e = absurd (omega arith)
 header-refused (suc n) found bytes fault few e =
-    chosen (is_some found.frame) (Ok (found, bytes)) (turn_at Elsewhere found None bytes >>= behind n) (Err fault) e
+    chosen (is_some found.frame) (Ok (found, bytes)) (turn_at Elsewhere found None bytes >>= after n) (Err fault) e
     (λ some is. not-err fault _ is)
-    (λ none is. bind-err (turn_at Elsewhere found None bytes) (behind n) fault is
+    (λ none is. bind-err (turn_at Elsewhere found None bytes) (after n) fault is
     (λ was. segments-refused false Elsewhere found None bytes fault refl was)
     (λ turn was more.
     let s = begins-at (turn_at Elsewhere found None bytes) turn (turn-begins found bytes none) was in
     let took = turn-takes Elsewhere found None bytes turn refl was s.0 in
     let less : length turn.1 < length bytes = took.0 in
     next-begun found bytes turn.1 turn.0 s.0 s.1.0 s.1.1 was
-    ∙ header-refused n turn.0.found turn.1 fault (omega arith) (sym (behind-begun n turn.0 turn.1 s.0 s.1.0 s.1.1) ∙ more)))
+    ∙ header-refused n turn.0.found turn.1 fault (omega arith) (sym (after-begun n turn.0 turn.1 s.0 s.1.0 s.1.1) ∙ more)))

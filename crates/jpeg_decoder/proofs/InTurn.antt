@@ -10,7 +10,7 @@ use Rattle.jpeg_bits.specs.Readers.{read_on, gives}
 use Rattle.jpeg_bits.specs.declared.marker.Marker.{Marker}
 use Rattle.jpeg_bits.specs.Passes.{Pass, Via, Block, block_from, blocks_of}
 use Rattle.jpeg_bits.specs.Intervals.{predictors_at_start, interval, intervals, is_restart, blocks_before}
-use Rattle.jpeg_bits.specs.Intervals.{behind_restart}
+use Rattle.jpeg_bits.specs.Intervals.{after_restart}
 use Rattle.jpeg_decoder.specs.Order.{Spot}
 use Rattle.jpeg_decoder.specs.Scans.{Arrays, block_at, put_block, put_blocks, via_at, turns_of}
 use Rattle.jpeg_decoder.specs.InTurn.{Reached, turn_from, turns_from, at_start, interval_from, next_interval}
@@ -19,9 +19,9 @@ use Rattle.jpeg_decoder.proofs.Put.{same-spot, put-other, put-inside}
 
 -- ---- spots
 
-pub kept-behind : (q r : Spot) (b : Block) (arrays : Arrays) → IsInside arrays r → (q ≡ r → ⊥)
+pub kept-after : (q r : Spot) (b : Block) (arrays : Arrays) → IsInside arrays r → (q ≡ r → ⊥)
     → block_at (put_block q b arrays) r ≡ block_at arrays r
-kept-behind q r b arrays h n = go (same-spot q r)
+kept-after q r b arrays h n = go (same-spot q r)
   where
     go : (q ≡ r) ⊎ ((q.slot ≢ r.slot) ⊎ ((q.slot ≡ r.slot) × (q.index ≢ r.index)))
         → block_at (put_block q b arrays) r ≡ block_at arrays r
@@ -38,13 +38,13 @@ same-turns vias (s ∷ spots) arrays others h =
     ap₂ (λ (b : Block) (l : List (Via × Block)). (via_at vias s.slot, b) ∷ l) (h s (inl refl))
     (same-turns vias spots arrays others (λ r t. h r (inr t)))
 
-pub inside-behind : (spots : List Spot) (blocks : List Block) (arrays : Arrays) (q : Spot) → IsInside arrays q
+pub inside-after : (spots : List Spot) (blocks : List Block) (arrays : Arrays) (q : Spot) → IsInside arrays q
     → IsInside (put_blocks spots blocks arrays) q
 unfolding put_blocks
-inside-behind [] blocks arrays q h = h
-inside-behind (s ∷ spots) [] arrays q h = h
-inside-behind (s ∷ spots) (b ∷ blocks) arrays q h =
-    inside-behind spots blocks (put_block s b arrays) q (put-inside s q b arrays h)
+inside-after [] blocks arrays q h = h
+inside-after (s ∷ spots) [] arrays q h = h
+inside-after (s ∷ spots) (b ∷ blocks) arrays q h =
+    inside-after spots blocks (put_block s b arrays) q (put-inside s q b arrays h)
 
 pub others-kept : (spots : List Spot) (blocks : List Block) (arrays : Arrays) (q : Spot) → IsInside arrays q
     → (IsIn q spots → ⊥)
@@ -54,7 +54,7 @@ others-kept [] blocks arrays q h n = refl
 others-kept (s ∷ spots) [] arrays q h n = refl
 others-kept (s ∷ spots) (b ∷ blocks) arrays q h n =
     others-kept spots blocks (put_block s b arrays) q (put-inside s q b arrays h) (λ t. n (inr t))
-    ∙ kept-behind s q b arrays h (λ e. n (inl e))
+    ∙ kept-after s q b arrays h (λ e. n (inl e))
 
 pub put-both : (spots more : List Spot) (blocks others : List Block) (arrays : Arrays) → length blocks ≡ length spots
     → put_blocks (spots ++ more) (blocks ++ others) arrays ≡ put_blocks more others (put_blocks spots blocks arrays)
@@ -138,44 +138,44 @@ in-turn p vias (s ∷ spots) arrays predictors run t apart inside =
         ∙ ap (λ (l : List (Via × Block)). put_in spots new
         (blocks_of p (set predictors (via_at vias s.slot).component r.0.1) r.0.2 l r.1))
         (same-turns vias spots arrays new
-        (λ q h. kept-behind s q r.0.0 arrays (inside q (inr h))
+        (λ q h. kept-after s q r.0.0 arrays (inside q (inr h))
         (λ e. apart.0 (subst (λ (x : Spot). IsIn x spots) (sym e) h))))
         ∙ all r.0.0 (blocks_of p (set predictors (via_at vias s.slot).component r.0.1) r.0.2
         (turns_of vias spots arrays) r.1)
 
 -- ---- intervals
 
-abbrev pub behind_in : Result (Arrays × Text) Fault → Outcome (Arrays × Option Marker)
-behind_in o = reading.◌>>=◌ o (λ r. reading.◌>>=◌ (marker_from r.1) (λ m. Ok ((r.0, m.0), m.1)))
+abbrev pub after_in : Result (Arrays × Text) Fault → Outcome (Arrays × Option Marker)
+after_in o = reading.◌>>=◌ o (λ r. reading.◌>>=◌ (marker_from r.1) (λ m. Ok ((r.0, m.0), m.1)))
 
-abbrev pub put_behind : List Spot → Arrays → Outcome (List Block × Option Marker) → Outcome (Arrays × Option Marker)
-put_behind spots arrays (Ok r) = Ok ((put_blocks spots r.0.0 arrays, r.0.1), r.1)
-put_behind spots arrays (Err e) = Err e
+abbrev pub put_after : List Spot → Arrays → Outcome (List Block × Option Marker) → Outcome (Arrays × Option Marker)
+put_after spots arrays (Ok r) = Ok ((put_blocks spots r.0.0 arrays, r.0.1), r.1)
+put_after spots arrays (Err e) = Err e
 
 pub interval-in-turn : (p : Pass) (vias : List Via) (spots : List Spot) (arrays : Arrays) (bytes : List ℕ)
     → AreApart spots → ((q : Spot) → IsIn q spots → IsInside arrays q)
-    → interval_from p vias spots arrays bytes ≡ put_behind spots arrays (interval p (turns_of vias spots arrays) bytes)
+    → interval_from p vias spots arrays bytes ≡ put_after spots arrays (interval p (turns_of vias spots arrays) bytes)
 unfolding interval_from interval
 interval-in-turn p vias spots arrays bytes apart inside =
     one (turns_from p vias spots (at_start arrays) (upcoming fresh bytes))
-    ∙ ap behind_in (in-turn p vias spots arrays predictors_at_start 0 (upcoming fresh bytes) apart inside)
+    ∙ ap after_in (in-turn p vias spots arrays predictors_at_start 0 (upcoming fresh bytes) apart inside)
     ∙ two (blocks_of p predictors_at_start 0 (turns_of vias spots arrays) (upcoming fresh bytes))
   where
     one : (o : Result (Reached × Text) Fault)
         → reading.◌>>=◌ o (λ r. reading.◌>>=◌ (marker_from r.1) (λ m. Ok ((r.0.arrays, m.0), m.1)))
-        ≡ behind_in (arrays_in o)
+        ≡ after_in (arrays_in o)
     one (Ok r) = refl
     one (Err e) = refl
 
     marker : (r : List Block × Text) (m : Outcome (Option Marker))
         → reading.◌>>=◌ m (λ (m : Option Marker × List ℕ). Ok ((put_blocks spots r.0 arrays, m.0), m.1))
-        ≡ put_behind spots arrays (reading.◌>>=◌ m (λ (m : Option Marker × List ℕ). Ok ((r.0, m.0), m.1)))
+        ≡ put_after spots arrays (reading.◌>>=◌ m (λ (m : Option Marker × List ℕ). Ok ((r.0, m.0), m.1)))
     marker r (Ok m) = refl
     marker r (Err e) = refl
 
     two : (o : Result (List Block × Text) Fault)
-        → behind_in (put_in spots arrays o)
-        ≡ put_behind spots arrays (reading.◌>>=◌ o (λ r. reading.◌>>=◌ (marker_from r.1) (λ m. Ok ((r.0, m.0), m.1))))
+        → after_in (put_in spots arrays o)
+        ≡ put_after spots arrays (reading.◌>>=◌ o (λ r. reading.◌>>=◌ (marker_from r.1) (λ m. Ok ((r.0, m.0), m.1))))
     two (Ok r) = marker r (marker_from r.1)
     two (Err e) = refl
 
@@ -206,24 +206,24 @@ blocks-long p (v ∷ turns) predictors run t =
         (rec (set predictors v.0.component r.0.1) r.0.2 r.1)
     step rec (Err e) = tt
 
-abbrev pub IsLongBehind : ℕ → Outcome (List Block × Option Marker) → Type 0
-IsLongBehind n (Ok r) = length r.0.0 ≡ n
-IsLongBehind n (Err e) = Unit {0}
+abbrev pub IsLongAfter : ℕ → Outcome (List Block × Option Marker) → Type 0
+IsLongAfter n (Ok r) = length r.0.0 ≡ n
+IsLongAfter n (Err e) = Unit {0}
 
 pub interval-long : (p : Pass) (turns : List (Via × Block)) (bytes : List ℕ)
-    → IsLongBehind (length turns) (interval p turns bytes)
+    → IsLongAfter (length turns) (interval p turns bytes)
 unfolding interval
 interval-long p turns bytes =
     go (blocks_of p predictors_at_start 0 turns (upcoming fresh bytes))
     (blocks-long p turns predictors_at_start 0 (upcoming fresh bytes))
   where
     marker : (r : List Block × Text) (m : Outcome (Option Marker)) → length r.0 ≡ length turns
-        → IsLongBehind (length turns) (reading.◌>>=◌ m (λ (m : Option Marker × List ℕ). Ok ((r.0, m.0), m.1)))
+        → IsLongAfter (length turns) (reading.◌>>=◌ m (λ (m : Option Marker × List ℕ). Ok ((r.0, m.0), m.1)))
     marker r (Ok m) h = h
     marker r (Err e) h = tt
 
     go : (o : Result (List Block × Text) Fault) → IsLong (length turns) o
-        → IsLongBehind (length turns)
+        → IsLongAfter (length turns)
         (reading.◌>>=◌ o (λ r. reading.◌>>=◌ (marker_from r.1) (λ m. Ok ((r.0, m.0), m.1))))
     go (Ok r) h = marker r (marker_from r.1) h
     go (Err e) h = tt
@@ -255,12 +255,12 @@ pub intervals-in-turn : (p : Pass) (vias : List Via) (k : ℕ) (spots : List Spo
     (arrays : Arrays) (bytes : List ℕ)
     → AreApart (spots ++ all_of others) → ((q : Spot) → IsIn q (spots ++ all_of others) → IsInside arrays q)
     → intervals_from p vias k spots others arrays bytes
-    ≡ put_behind (spots ++ all_of others) arrays
+    ≡ put_after (spots ++ all_of others) arrays
     (intervals p k (turns_of vias spots arrays) (all_turns vias arrays others) bytes)
 unfolding intervals_from intervals
 intervals-in-turn p vias k spots [] arrays bytes apart inside =
     interval-in-turn p vias spots arrays bytes (apart-front spots [] apart) (λ q t. inside q (in-front q spots [] t))
-    ∙ ap (λ (l : List Spot). put_behind l arrays (interval p (turns_of vias spots arrays) bytes))
+    ∙ ap (λ (l : List Spot). put_after l arrays (interval p (turns_of vias spots arrays) bytes))
     (sym (append-nil spots))
 intervals-in-turn p vias k spots (next ∷ more) arrays bytes apart inside =
     ap (λ (o : Outcome (Arrays × Option Marker)). reading.◌>>=◌ o
@@ -268,31 +268,31 @@ intervals-in-turn p vias k spots (next ∷ more) arrays bytes apart inside =
     (interval-in-turn p vias spots arrays bytes (apart-front spots (all_of (next ∷ more)) apart)
     (λ q t. inside q (in-front q spots (all_of (next ∷ more)) t)))
     ∙ go (interval p (turns_of vias spots arrays) bytes)
-    (subst (λ (n : ℕ). IsLongBehind n (interval p (turns_of vias spots arrays) bytes)) (turns-long vias spots arrays)
+    (subst (λ (n : ℕ). IsLongAfter n (interval p (turns_of vias spots arrays) bytes)) (turns-long vias spots arrays)
     (interval-long p (turns_of vias spots arrays) bytes))
     (λ blocks rest. intervals-in-turn p vias (suc k) next more (put_blocks spots blocks arrays) rest
     (apart-back spots (all_of (next ∷ more)) apart)
-    (λ q t. inside-behind spots blocks arrays q (inside q (in-back q spots (all_of (next ∷ more)) t))))
+    (λ q t. inside-after spots blocks arrays q (inside q (in-back q spots (all_of (next ∷ more)) t))))
   where
-    behind : List Spot
-    behind = all_of (next ∷ more)
+    after : List Spot
+    after = all_of (next ∷ more)
 
-    kept : (blocks : List Block) (q : Spot) → IsIn q behind
+    kept : (blocks : List Block) (q : Spot) → IsIn q after
         → block_at (put_blocks spots blocks arrays) q ≡ block_at arrays q
-    kept blocks q t = others-kept spots blocks arrays q (inside q (in-back q spots behind t))
-        (λ u. apart-between q spots behind apart u t)
+    kept blocks q t = others-kept spots blocks arrays q (inside q (in-back q spots after t))
+        (λ u. apart-between q spots after apart u t)
 
     both : (r : (List Block × Option Marker) × List ℕ) → length r.0.0 ≡ length spots
         → (o : Outcome (List Block × Option Marker))
-        → put_behind behind (put_blocks spots r.0.0 arrays) o
-        ≡ put_behind (spots ++ behind) arrays (blocks_before r.0.0 o)
-    both r h (Ok s) = ap (λ (l : Arrays). Ok ((l, s.0.1), s.1)) (sym (put-both spots behind r.0.0 s.0.0 arrays h))
+        → put_after after (put_blocks spots r.0.0 arrays) o
+        ≡ put_after (spots ++ after) arrays (blocks_before r.0.0 o)
+    both r h (Ok s) = ap (λ (l : Arrays). Ok ((l, s.0.1), s.1)) (sym (put-both spots after r.0.0 s.0.0 arrays h))
     both r h (Err e) = refl
 
     test : (r : (List Block × Option Marker) × List ℕ) → length r.0.0 ≡ length spots
         → ((blocks : List Block) (rest : List ℕ)
         → intervals_from p vias (suc k) next more (put_blocks spots blocks arrays) rest
-        ≡ put_behind behind (put_blocks spots blocks arrays)
+        ≡ put_after after (put_blocks spots blocks arrays)
         (intervals p (suc k) (turns_of vias next (put_blocks spots blocks arrays))
         (all_turns vias (put_blocks spots blocks arrays) more) rest))
         → (b : Bool)
@@ -302,7 +302,7 @@ intervals-in-turn p vias k spots (next ∷ more) arrays bytes apart inside =
               (put_blocks spots r.0.0 arrays) r.1
           | false ↦ Err Malformed
         ])
-        (put_behind (spots ++ behind) arrays
+        (put_after (spots ++ after) arrays
         (elim b [
           | true ↦ blocks_before r.0.0
               (intervals p (suc k) (turns_of vias next arrays) (all_turns vias arrays more) r.1)
@@ -312,22 +312,22 @@ intervals-in-turn p vias k spots (next ∷ more) arrays bytes apart inside =
     test r h rec true =
         let new = put_blocks spots r.0.0 arrays in
         rec r.0.0 r.1
-        ∙ ap (λ (l : List (Via × Block)). put_behind behind new (intervals p (suc k) l (all_turns vias new more) r.1))
+        ∙ ap (λ (l : List (Via × Block)). put_after after new (intervals p (suc k) l (all_turns vias new more) r.1))
         (same-turns vias next arrays new (λ q t. kept r.0.0 q (in-front q next (all_of more) t)))
-        ∙ ap (λ (l : List (List (Via × Block))). put_behind behind new
+        ∙ ap (λ (l : List (List (Via × Block))). put_after after new
         (intervals p (suc k) (turns_of vias next arrays) l r.1))
         (same-groups vias more arrays new (λ q t. kept r.0.0 q (in-back q next (all_of more) t)))
         ∙ both r h (intervals p (suc k) (turns_of vias next arrays) (all_turns vias arrays more) r.1)
 
-    go : (o : Outcome (List Block × Option Marker)) → IsLongBehind (length spots) o
+    go : (o : Outcome (List Block × Option Marker)) → IsLongAfter (length spots) o
         → ((blocks : List Block) (rest : List ℕ)
         → intervals_from p vias (suc k) next more (put_blocks spots blocks arrays) rest
-        ≡ put_behind behind (put_blocks spots blocks arrays)
+        ≡ put_after after (put_blocks spots blocks arrays)
         (intervals p (suc k) (turns_of vias next (put_blocks spots blocks arrays))
         (all_turns vias (put_blocks spots blocks arrays) more) rest))
-        → reading.◌>>=◌ (put_behind spots arrays o) (next_interval k (intervals_from p vias (suc k) next more))
-        ≡ put_behind (spots ++ behind) arrays
-        (reading.◌>>=◌ o (behind_restart k
+        → reading.◌>>=◌ (put_after spots arrays o) (next_interval k (intervals_from p vias (suc k) next more))
+        ≡ put_after (spots ++ after) arrays
+        (reading.◌>>=◌ o (after_restart k
         (intervals p (suc k) (turns_of vias next arrays) (all_turns vias arrays more))))
     go (Ok r) h rec = test r h rec (is_restart k r.0.1)
     go (Err e) h rec = refl

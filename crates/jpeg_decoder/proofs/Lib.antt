@@ -1,5 +1,6 @@
 pub mod PlacesApart
 pub mod WriterLemmas
+pub mod Callers
 pub mod OutputLemmas
 pub mod Updates
 pub mod Shorter
@@ -89,3 +90,14 @@ pub mod SizedHeaders
 pub mod SizedAgain
 pub mod EncodedBlocks
 pub mod EncodedImages
+pub mod PrintedImages
+mod ShorterSamples
+mod PlainFrames
+mod LosslessReads
+mod SaidTables
+mod LosslessFrames
+mod WrittenSamples
+mod WrittenLosslessStreams
+mod LosslessPixels
+mod DecodedSamples
+mod WorkedSamples

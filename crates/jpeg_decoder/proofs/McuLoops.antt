@@ -1,4 +1,4 @@
--- Steps of the loops over the blocks of a scan: what is left behind one more turn, at a refusal, and at the end.
+-- Steps of the loops over the blocks of a scan: what is left after one more turn, at a refusal, and at the end.
 use Rattle.std.proofs.Common.{◌≡◌, ℕ, zero, suc, ◌+◌, ◌-◌, ◌<◌, ◌≤◌, List, [], ◌∷◌, map, drop, length, get_or, Ok}
 use Rattle.std.proofs.Common.{Err, refl, ap, ◌∙◌, arith}
 use Rattle.std.specs.List.{range_with_len, flat_map}

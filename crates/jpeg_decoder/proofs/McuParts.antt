@@ -1,5 +1,6 @@
 -- The blocks of an MCU, component by component.
-use Rattle.std.proofs.Common.{◌≡◌, ℕ, zero, suc, ◌+◌, ◌-◌, ◌*◌, ◌<◌, ◌≤◌, List, [], ◌∷◌, ◌++◌, map, drop, length, get_or, Ok, Err, refl, sym, ap, ap₂, ◌∙◌, arith, add-mul, suc-mul}
+use Rattle.std.proofs.Common.{◌≡◌, ℕ, zero, suc, ◌+◌, ◌-◌, ◌*◌, ◌<◌, ◌≤◌, List, [], ◌∷◌, ◌++◌, map, drop, length}
+use Rattle.std.proofs.Common.{get_or, Ok, Err, refl, sym, ap, ap₂, ◌∙◌, arith, add-mul, suc-mul}
 use Rattle.std.specs.List.{range_with_len, flat_map}
 use Rattle.jpeg_bits.specs.Reading.{Fault}
 use Rattle.jpeg_bits.specs.Entropy.{Text}
@@ -88,12 +89,12 @@ pub ruleset slot_rules = (slot_step, slot_refused, slot_none)
 
 -- ---- an MCU
 
-abbrev behind_turns : Counted → Reached → Reads Counted
-behind_turns now r = gives (record { reached = r; left = now.left - 1; number = now.number })
+abbrev turns_then : Counted → Reached → Reads Counted
+turns_then now r = gives (record { reached = r; left = now.left - 1; number = now.number })
 
--- what is left behind the start of an MCU
+-- what is left after the start of an MCU
 unfoldable pub begun_mcu : Pass → List Via → List Spot → Counted → Reads Counted
-begun_mcu p vias mcu now t = read_on (behind_turns now) (turns_from p vias mcu now.reached t)
+begun_mcu p vias mcu now t = read_on (turns_then now) (turns_from p vias mcu now.reached t)
 
 mcu-is : (p : Pass) (vias : List Via) (n : ℕ) (mcu : List Spot) (old : Counted) (t : Text) → mcu_from p vias n mcu old t ≡ read_on (begun_mcu p vias mcu) (begun_from n old t)
 unfolding mcu_from begun_mcu
@@ -108,8 +109,8 @@ mcu_unbegun p vias n mcu old t f e = mcu-is p vias n mcu old t ∙ ap (read_on (
 pub mcu_turns : (p : Pass) (vias : List Via) (mcu : List Spot) (now : Counted) (r : Reached) (t u : Text) → turns_from p vias mcu now.reached t ≡ Ok (r, u)
     → begun_mcu p vias mcu now t ≡ Ok (record { reached = r; left = now.left - 1; number = now.number }, u)
 unfolding begun_mcu
-mcu_turns p vias mcu now r t u e = ap (read_on (behind_turns now)) e
+mcu_turns p vias mcu now r t u e = ap (read_on (turns_then now)) e
 
 pub mcu_refused : (p : Pass) (vias : List Via) (mcu : List Spot) (now : Counted) (t : Text) (f : Fault) → turns_from p vias mcu now.reached t ≡ Err f → begun_mcu p vias mcu now t ≡ Err f
 unfolding begun_mcu
-mcu_refused p vias mcu now t f e = ap (read_on (behind_turns now)) e
+mcu_refused p vias mcu now t f e = ap (read_on (turns_then now)) e

@@ -1,5 +1,7 @@
 -- A scan of several components is its rows of MCUs, each read into blocks of its own.
-use Rattle.std.proofs.Common.{◌≡◌, ◌⊎◌, inl, inr, ℕ, zero, suc, ◌+◌, ◌-◌, ◌*◌, ◌/◌, ◌%◌, ◌≤◌, ◌<◌, Bool, true, false, List, [], ◌∷◌, ◌++◌, map, length, set, get_or, replicate, ℤ, pos, Result, Ok, Err, refl, sym, ap, ap₂, ◌∙◌, subst, append_assoc, append-nil, arith, length-set}
+use Rattle.std.proofs.Common.{◌≡◌, ◌⊎◌, inl, inr, ℕ, zero, suc, ◌+◌, ◌-◌, ◌*◌, ◌/◌, ◌%◌, ◌≤◌, ◌<◌, Bool, true, false}
+use Rattle.std.proofs.Common.{List, [], ◌∷◌, ◌++◌, map, length, set, get_or, replicate, ℤ, pos, Result, Ok, Err, refl}
+use Rattle.std.proofs.Common.{sym, ap, ap₂, ◌∙◌, subst, append_assoc, append-nil, arith, length-set}
 use Rattle.std.specs.Prelude.{◌==◌, ◌&&◌, nat_lt, min}
 use Rattle.std.specs.List.{AllByRecursion, range_with_len, flat_map}
 use Rattle.jpeg_bits.specs.Reading.{Fault}
@@ -9,8 +11,10 @@ use Rattle.jpeg_segments.specs.Frame.{Frame, Component}
 use Rattle.jpeg_bits.specs.Passes.{Pass, Via, Block, zero_block, block_from}
 use Rattle.jpeg_decoder.specs.Order.{Spot, grid_of, own_spots, part_spots, mcu_spots}
 use Rattle.jpeg_decoder.specs.Scans.{Arrays, zero_arrays, block_at, put_block, via_at}
-use Rattle.jpeg_decoder.specs.InTurn.{Reached, turn_from, turns_from, at_start, restart_from, Counted, begun_from, mcu_from, mcus_from, IsIn, IsInside}
-use Rattle.jpeg_decoder.specs.McuRows.{row_mcus, zero_rows, row_size, own_row_mcus, rows_of, joined, with_arrays, rows_from, scan_by_rows}
+use Rattle.jpeg_decoder.specs.InTurn.{Reached, turn_from, turns_from, at_start, restart_from, Counted, begun_from}
+use Rattle.jpeg_decoder.specs.InTurn.{mcu_from, mcus_from, IsIn, IsInside}
+use Rattle.jpeg_decoder.specs.McuRows.{row_mcus, zero_rows, row_size, own_row_mcus, rows_of, joined, with_arrays}
+use Rattle.jpeg_decoder.specs.McuRows.{rows_from, scan_by_rows}
 use Rattle.jpeg_decoder.proofs.InTurn.{in-front, in-back}
 use Rattle.jpeg_decoder.proofs.Put.{put-inside}
 use Rattle.std.proofs.Math.Nat.{add-mul, mul_assoc, div-lt_iff_lt-mul}
@@ -49,36 +53,36 @@ get-inside {A} x y z i d h = front x (length x + i) refl
 
 -- ---- arrays inside others
 
--- arrays with some in front and the rest behind
+-- arrays with some in front and the rest after
 abbrev pub around : Arrays → Arrays → Arrays → Arrays
 around (x ∷ front) (y ∷ arrays) (z ∷ rest) = (x ++ (y ++ z)) ∷ around front arrays rest
 around _ _ _ = []
 
 pub record Aligned (front arrays rest : Arrays) : Type 0 where
   pub before : length front ≡ length arrays
-  pub behind : length rest ≡ length arrays
+  pub after : length rest ≡ length arrays
 
 get-around : (front arrays rest : Arrays) (slot : ℕ) → Aligned front arrays rest → slot < length arrays
     → get_or (around front arrays rest) slot [] ≡ get_or front slot [] ++ (get_or arrays slot [] ++ get_or rest slot [])
 get-around [] [] rest slot a h = absurd (omega arith)
 get-around [] (y ∷ arrays) rest slot a h = absurd (let b = a.before in omega arith)
 get-around (x ∷ front) [] rest slot a h = absurd (omega arith)
-get-around (x ∷ front) (y ∷ arrays) [] slot a h = absurd (let b = a.behind in omega arith)
+get-around (x ∷ front) (y ∷ arrays) [] slot a h = absurd (let b = a.after in omega arith)
 get-around (x ∷ front) (y ∷ arrays) (z ∷ rest) zero a h = refl
 get-around (x ∷ front) (y ∷ arrays) (z ∷ rest) (suc slot) a h =
-    get-around front arrays rest slot (record { before = let b = a.before in omega arith; behind = let b = a.behind in omega arith }) (omega arith)
+    get-around front arrays rest slot (record { before = let b = a.before in omega arith; after = let b = a.after in omega arith }) (omega arith)
 
 set-around : (front arrays rest : Arrays) (slot : ℕ) (y : List Block) → Aligned front arrays rest
     → set (around front arrays rest) slot (get_or front slot [] ++ (y ++ get_or rest slot [])) ≡ around front (set arrays slot y) rest
 set-around [] [] rest slot y a = refl
 set-around [] (b ∷ arrays) rest slot y a = absurd (let e = a.before in omega arith)
 set-around (x ∷ front) [] rest slot y a = absurd (let e = a.before in omega arith)
-set-around (x ∷ front) (b ∷ arrays) [] slot y a = absurd (let e = a.behind in omega arith)
+set-around (x ∷ front) (b ∷ arrays) [] slot y a = absurd (let e = a.after in omega arith)
 set-around (x ∷ front) (b ∷ arrays) (z ∷ rest) zero y a = refl
 set-around (x ∷ front) (b ∷ arrays) (z ∷ rest) (suc slot) y a =
-    ap (λ l. (x ++ (b ++ z)) ∷ l) (set-around front arrays rest slot y (record { before = let e = a.before in omega arith; behind = let e = a.behind in omega arith }))
+    ap (λ l. (x ++ (b ++ z)) ∷ l) (set-around front arrays rest slot y (record { before = let e = a.before in omega arith; after = let e = a.after in omega arith }))
 
--- a spot behind those in front
+-- a spot after those in front
 abbrev pub shifted : Arrays → Spot → Spot
 shifted front s = record { slot = s.slot; index = length (get_or front s.slot []) + s.index }
 
@@ -99,7 +103,7 @@ put-shifted front arrays rest s b a h =
 put-aligned : (front arrays rest : Arrays) (s : Spot) (b : Block) → Aligned front arrays rest → Aligned front (put_block s b arrays) rest
 put-aligned front arrays rest s b a =
     let e = length-set arrays s.slot (set (get_or arrays s.slot []) s.index b) in
-    record { before = let x = a.before in omega arith; behind = let x = a.behind in omega arith }
+    record { before = let x = a.before in omega arith; after = let x = a.after in omega arith }
 
 -- ---- reading
 
@@ -368,7 +372,7 @@ mcus-any P kept p vias n (m ∷ mcus) old t h =
 
 -- ---- rows
 
--- each component has the blocks of so many rows of MCUs
+-- each component has the blocks of this many rows of MCUs
 unfoldable pub AreRows : ℕ → List Component → Arrays → Type 0
 AreRows rows [] [] = Unit {0}
 AreRows rows [] (a ∷ arrays) = ⊥
@@ -445,7 +449,7 @@ first-row rows r (c ∷ cs) (a ∷ front) h =
     (replicate-both (1 * n) (rows * n) (suc rows * n) zero_block (let p : (rows + 1) * n ≡ rows * n + 1 * n = add-mul rows 1 n in omega arith))
     (first-row rows r cs front h.1)
 
--- rows behind rows
+-- rows after rows
 around-joined : (front arrays rest : Arrays) → around front arrays rest ≡ joined (joined front arrays) rest
 unfolding joined
 around-joined [] arrays rest = refl
@@ -569,7 +573,7 @@ rows-in-turn p vias n cs (mcus ∷ rows) row front old t fits h =
     let holds : Holds front rest (flat mcus) one = record {
       aligned = record {
         before = rows-count row cs front h ∙ sym (rows-count 1 cs one sized);
-        behind = rows-count (length rows) cs rest (zero-rows (length rows) cs) ∙ sym (rows-count 1 cs one sized);
+        after = rows-count (length rows) cs rest (zero-rows (length rows) cs) ∙ sym (rows-count 1 cs one sized);
       };
       inside = λ s k. fits.0.inside one s sized k;
     } in

@@ -173,7 +173,7 @@ restarts p vias n number m mcus old t some =
 
 -- ---- groups of MCUs
 
--- each MCU has so many blocks
+-- each MCU has this many blocks
 abbrev pub AreOf : ℕ → List (List Spot) → Type 0
 AreOf size mcus = AllByRecursion (λ (m : List Spot). length m ≡ size) mcus
 
@@ -279,14 +279,14 @@ pub some-product : (n size : ℕ) → 0 < n → 0 < size → 0 < n * size
 some-product n (suc size) a b = let p : n * (size + 1) ≡ n * size + n * 1 = mul-add n size 1 in omega arith
 some-product n zero a b = absurd (omega arith)
 
--- what stands behind an interval: a restart, and the MCUs behind it
-behind-restart : (p : Pass) (vias : List Via) (k : ℕ) (old : Reached) (t : Text)
+-- what stands after an interval: a restart, and the MCUs after it
+after-restart : (p : Pass) (vias : List Via) (k : ℕ) (old : Reached) (t : Text)
     (F : Arrays → List ℕ → Outcome (Arrays × Option Marker)) (G : Reads Counted)
     → ((bytes : List ℕ) → finished (G (upcoming fresh bytes)) ≡ F old.arrays bytes)
     → finished (read_on (λ (u : Unit {0}). G) (restart_from k t))
     ≡ reading.◌>>=◌ (reading.◌>>=◌ (marker_from t) (λ m. Ok ((old.arrays, m.0), m.1))) (next_interval k F)
 unfolding restart_from
-behind-restart p vias k old t F G same = go (marker_from t)
+after-restart p vias k old t F G same = go (marker_from t)
   where
     test : (m : Option Marker × List ℕ) (b : Bool)
         → finished (read_on (λ (u : Unit {0}). G)
@@ -399,7 +399,7 @@ intervals-in-mcus p vias n size (suc fuel) xs (y ∷ ys) j k arrays bytes same s
         → (o : Result (Reached × Text) Fault)
         → finished (read_on (λ r. λ v. read_on (λ (u : Unit {0}). G r) (restart_from k v)) o)
         ≡ reading.◌>>=◌ (closed o) (next_interval k F)
-    close G F same (Ok r) = behind-restart p vias k r.0 r.1 F (G r.0) (λ b. same r.0 b)
+    close G F same (Ok r) = after-restart p vias k r.0 r.1 F (G r.0) (λ b. same r.0 b)
     close G F same (Err e) = refl
 
 first-some : (n : ℕ) (l : List Spot) → 0 < n → first_group n l ≡ take n l

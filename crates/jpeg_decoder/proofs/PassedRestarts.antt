@@ -1,23 +1,25 @@
--- Restart markers behind a scan.
-use Rattle.std.proofs.Common.{◌≡◌, ◌<◌, ℕ, zero, suc, List, Result, Ok, Err, Bool, true, false, Option, Some, None, refl, sym, ap, ◌∙◌, length, arith}
+-- Restart markers after a scan.
+use Rattle.std.proofs.Common.{◌≡◌, ◌<◌, ℕ, zero, suc, List, Result, Ok, Err, Bool, true, false, Option, Some, None}
+use Rattle.std.proofs.Common.{refl, sym, ap, ◌∙◌, length, arith}
 use Rattle.jpeg_bits.specs.Reading.{Outcome, Fault, ◌>>=◌}
 use Rattle.jpeg_bits.specs.Marker.{next_marker}
 use Rattle.jpeg_bits.specs.declared.marker.Marker.{Marker}
-use Rattle.jpeg_bits.specs.declared.marker.Marker.TheVariants.{SOF, JPG, DHT, DAC, RST, SOI, EOI, SOS, DQT, DNL, DRI, DHP, EXP, APP, JPGn, COM, TEM, RES}
-use Rattle.jpeg_decoder.specs.Stream.{behind_restarts}
-use Rattle.jpeg_decoder.specs.Steps.{is_restart, behind_all}
+use Rattle.jpeg_bits.specs.declared.marker.Marker.TheVariants.{SOF, JPG, DHT, DAC, RST, SOI, EOI, SOS, DQT, DNL, DRI}
+use Rattle.jpeg_bits.specs.declared.marker.Marker.TheVariants.{DHP, EXP, APP, JPGn, COM, TEM, RES}
+use Rattle.jpeg_decoder.specs.Stream.{after_restarts}
+use Rattle.jpeg_decoder.specs.Steps.{is_restart, after_all}
 use Rattle.jpeg_decoder.proofs.Shorter.{LeavesBelow, below-at, marker-below}
 
 pub bind-same : {A B : Type 0} (r : Result A Fault) (f g : A → Result B Fault) → ((x : A) → r ≡ Ok x → f x ≡ g x) → r >>= f ≡ r >>= g
 bind-same (Ok x) f g h = h x refl
 bind-same (Err fault) f g h = refl
 
--- the markers behind the first, which is a restart marker
+-- the markers after the first, which is a restart marker
 abbrev pub others : ℕ → List ℕ → Outcome (Option Marker)
-others turns bytes = next_marker bytes >>= (λ (m : Marker × List ℕ). behind_restarts turns (Some m.0) m.1)
+others turns bytes = next_marker bytes >>= (λ (m : Marker × List ℕ). after_restarts turns (Some m.0) m.1)
 
-restarts-none : (turns : ℕ) (met : Option Marker) (bytes : List ℕ) → is_restart met ≡ false → behind_restarts (suc turns) met bytes ≡ Ok (met, bytes)
-unfolding behind_restarts
+restarts-none : (turns : ℕ) (met : Option Marker) (bytes : List ℕ) → is_restart met ≡ false → after_restarts (suc turns) met bytes ≡ Ok (met, bytes)
+unfolding after_restarts
 restarts-none turns None bytes e = refl
 restarts-none turns (Some (RST n)) bytes e = absurd (let n : ⊥ = cc in n)
 restarts-none turns (Some (SOF n)) bytes e = refl
@@ -38,8 +40,8 @@ restarts-none turns (Some COM) bytes e = refl
 restarts-none turns (Some TEM) bytes e = refl
 restarts-none turns (Some RES) bytes e = refl
 
-restarts-more : (turns : ℕ) (met : Option Marker) (bytes : List ℕ) → is_restart met ≡ true → behind_restarts (suc turns) met bytes ≡ others turns bytes
-unfolding behind_restarts
+restarts-more : (turns : ℕ) (met : Option Marker) (bytes : List ℕ) → is_restart met ≡ true → after_restarts (suc turns) met bytes ≡ others turns bytes
+unfolding after_restarts
 restarts-more turns (Some (RST n)) bytes e = refl
 restarts-more turns None bytes e = absurd (let n : ⊥ = cc in n)
 restarts-more turns (Some (SOF n)) bytes e = absurd (let n : ⊥ = cc in n)
@@ -65,7 +67,7 @@ either true f g = f refl
 either false f g = g refl
 
 -- more turns than bytes change nothing
-restarts-enough : (m n : ℕ) (met : Option Marker) (bytes : List ℕ) → length bytes < m → length bytes < n → behind_restarts m met bytes ≡ behind_restarts n met bytes
+restarts-enough : (m n : ℕ) (met : Option Marker) (bytes : List ℕ) → length bytes < m → length bytes < n → after_restarts m met bytes ≡ after_restarts n met bytes
 restarts-enough zero n met bytes p q = absurd (omega arith)
 restarts-enough (suc m) zero met bytes p q = absurd (omega arith)
 restarts-enough (suc m) (suc n) met bytes p q =
@@ -80,19 +82,19 @@ marker-takes bytes r is = below-at (length bytes) (next_marker bytes) r (marker-
 
 -- ---- all of them
 
-pub behind-done : (met : Option Marker) (bytes : List ℕ) → is_restart met ≡ false → behind_all met bytes ≡ Ok (met, bytes)
-unfolding behind_all
-behind-done met bytes e = restarts-none (length bytes) met bytes e
+pub after-done : (met : Option Marker) (bytes : List ℕ) → is_restart met ≡ false → after_all met bytes ≡ Ok (met, bytes)
+unfolding after_all
+after-done met bytes e = restarts-none (length bytes) met bytes e
 
-pub behind-refused : (met : Option Marker) (bytes : List ℕ) (fault : Fault) → is_restart met ≡ true → next_marker bytes ≡ Err fault → behind_all met bytes ≡ Err fault
-unfolding behind_all
-behind-refused met bytes fault e q = restarts-more (length bytes) met bytes e ∙ rw q refl
+pub after-refused : (met : Option Marker) (bytes : List ℕ) (fault : Fault) → is_restart met ≡ true → next_marker bytes ≡ Err fault → after_all met bytes ≡ Err fault
+unfolding after_all
+after-refused met bytes fault e q = restarts-more (length bytes) met bytes e ∙ rw q refl
 
-pub behind-next : (met : Option Marker) (bytes rest : List ℕ) (m : Marker) → is_restart met ≡ true → next_marker bytes ≡ Ok (m, rest) → behind_all met bytes ≡ behind_all (Some m) rest
-unfolding behind_all
-behind-next met bytes rest m e q =
+pub after-next : (met : Option Marker) (bytes rest : List ℕ) (m : Marker) → is_restart met ≡ true → next_marker bytes ≡ Ok (m, rest) → after_all met bytes ≡ after_all (Some m) rest
+unfolding after_all
+after-next met bytes rest m e q =
     let less : length rest < length bytes = marker-takes bytes (m, rest) q in
-    restarts-more (length bytes) met bytes e ∙ ap (λ (o : Outcome Marker). o >>= (λ (x : Marker × List ℕ). behind_restarts (length bytes) (Some x.0) x.1)) q
+    restarts-more (length bytes) met bytes e ∙ ap (λ (o : Outcome Marker). o >>= (λ (x : Marker × List ℕ). after_restarts (length bytes) (Some x.0) x.1)) q
     ∙ restarts-enough (length bytes) (suc (length rest)) (Some m) rest less (omega arith)
 
 -- Fewer bytes are left than the limit, and no restart marker is met.
@@ -116,8 +118,8 @@ none-passes limit fault = tt
 as-passes : (limit : ℕ) (r s : Outcome (Option Marker)) → r ≡ s → Passes limit s → Passes limit r
 as-passes limit r s e h = rw e h
 
-restarts-pass : (limit turns : ℕ) (met : Option Marker) (bytes : List ℕ) → length bytes < limit → Passes limit (behind_restarts turns met bytes)
-unfolding behind_restarts
+restarts-pass : (limit turns : ℕ) (met : Option Marker) (bytes : List ℕ) → length bytes < limit → Passes limit (after_restarts turns met bytes)
+unfolding after_restarts
 restarts-pass limit zero met bytes h = none-passes limit _
 restarts-pass limit (suc turns) met bytes h =
     either (is_restart met)
@@ -125,5 +127,5 @@ restarts-pass limit (suc turns) met bytes h =
     (bind-passes limit (length bytes) (next_marker bytes) _ (marker-below bytes) (λ m p. restarts-pass limit turns (Some m.0) m.1 (omega arith))))
     (λ e. as-passes limit _ _ (restarts-none turns met bytes e) (ok-passes limit met bytes h e))
 
-pub behind-passes : (limit : ℕ) (met : Option Marker) (bytes : List ℕ) → length bytes < limit → Passes limit (behind_restarts (suc (length bytes)) met bytes)
-behind-passes limit met bytes h = restarts-pass limit (suc (length bytes)) met bytes h
+pub after-passes : (limit : ℕ) (met : Option Marker) (bytes : List ℕ) → length bytes < limit → Passes limit (after_restarts (suc (length bytes)) met bytes)
+after-passes limit met bytes h = restarts-pass limit (suc (length bytes)) met bytes h

@@ -12,7 +12,7 @@ use Rattle.jpeg_pixels.specs.Pictures.{Source, source_by, source_of, sources_by,
 use Rattle.jpeg_pixels.specs.Upsampling.{divides, rule_of}
 use Rattle.jpeg_segments.specs.Frame.{Component, component_of, Factors, Frame, frame_of, greatest}
 use Rattle.jpeg_segments.specs.WrittenSegments.{FrameHeader, frame_written}
-use Rattle.jpeg_decoder.specs.SaidSegments.{HasPicture, IsNear}
+use Rattle.jpeg_decoder.specs.SaidSegments.{HasPicture, IsNear, IsUpsampled}
 use Rattle.jpeg_decoder.specs.Stream.{accepted, is_arithmetic, is_count, is_precision}
 use Rattle.jpeg_decoder.proofs.AcceptedTurns.{then-ok}
 use Rattle.jpeg_decoder.proofs.FrameShapes.{factors-back}
@@ -99,19 +99,19 @@ all-made P width height h v (x ∷ xs) u = (u.0, all-made P width height h v xs 
 
 -- ---- frames
 
-accepted-by : (f : Frame) (sources : List Source) → f.is_differential ≡ false → is_arithmetic f.coding ≡ false
+pub accepted-by : (f : Frame) (sources : List Source) → f.is_differential ≡ false → is_arithmetic f.coding ≡ false
     → is_precision f.process f.precision ≡ true → is_count (length f.components) ≡ true
     → sources_of f.components f.output_width f.output_height ≡ Ok sources → accepted f ≡ Ok f
 unfolding accepted
 accepted-by f sources a b c d e =
     rw (a, b, c, d) (then-ok (sources_of f.components f.output_width f.output_height) _ sources _ e refl)
 
-count-test : (n : ℕ) → (n ≡ 1) ⊎ ((n ≡ 3) ⊎ (n ≡ 4)) → is_count n ≡ true
+pub count-test : (n : ℕ) → (n ≡ 1) ⊎ ((n ≡ 3) ⊎ (n ≡ 4)) → is_count n ≡ true
 count-test n (inl e) = or-left (n == 1) _ (eq-eqb n 1 e)
 count-test n (inr (inl e)) = or-right (n == 1) _ (or-left (n == 3) _ (eq-eqb n 3 e))
 count-test n (inr (inr e)) = or-right (n == 1) _ (or-right (n == 3) _ (eq-eqb n 4 e))
 
-header-sources : (number : ℕ) (h : FrameHeader) → HasPicture h → (sources : List Source)
+pub header-sources : (number : ℕ) (h : FrameHeader) → AllByRecursion (IsUpsampled h) h.components → (sources : List Source)
     × (sources_of (frame_written number h).components (frame_written number h).output_width
     (frame_written number h).output_height ≡ Ok sources)
 unfolding frame_of
@@ -121,17 +121,18 @@ header-sources number h p =
     let cs = map (component_of h.width h.height most_h most_v) h.components in
     let back = factors-back h.width h.height most_h most_v h.components in
     let s = sources-some most_h most_v h.width h.height cs
-    (all-made (Upsampled most_h most_v h.width h.height) h.width h.height most_h most_v h.components p.upsampled) in (
+    (all-made (Upsampled most_h most_v h.width h.height) h.width h.height most_h most_v h.components p) in (
       s.0,
       ap₂ (λ (a b : ℕ). sources_by a b h.width h.height cs) (ap (greatest (λ f. f.horizontal)) back)
           (ap (greatest (λ f. f.vertical)) back) ∙ s.1,
     )
 
-header-count : (number : ℕ) (h : FrameHeader) → HasPicture h
+pub header-count : (number : ℕ) (h : FrameHeader)
+    → (length h.components ≡ 1) ⊎ ((length h.components ≡ 3) ⊎ (length h.components ≡ 4))
     → is_count (length (frame_written number h).components) ≡ true
 unfolding frame_of
 header-count number h p =
-    ap is_count (length-map h.components _) ∙ count-test (length h.components) p.counted
+    ap is_count (length-map h.components _) ∙ count-test (length h.components) p
 
 -- SOF0 to SOF2 are neither differential nor arithmetic, and are decoded at 8 bits.
 header-process : (number : ℕ) (h : FrameHeader) → number ≤ 2 → HasPicture h
@@ -146,6 +147,6 @@ header-process (suc (suc (suc number))) h le p = absurd (omega arith)
 pub header-accepted : (number : ℕ) (h : FrameHeader) → number ≤ 2 → HasPicture h
     → accepted (frame_written number h) ≡ Ok (frame_written number h)
 header-accepted number h le p =
-    let s = header-sources number h p in
+    let s = header-sources number h p.upsampled in
     let f = header-process number h le p in
-    accepted-by (frame_written number h) s.0 f.0 f.1 f.2 (header-count number h p) s.1
+    accepted-by (frame_written number h) s.0 f.0 f.1 f.2 (header-count number h p.counted) s.1

@@ -1,5 +1,6 @@
 -- The picture of a frame's planes: of one component, and of several.
-use Rattle.std.proofs.Common.{◌≡◌, ◌≢◌, ◌<◌, ◌≤◌, ℕ, zero, suc, ◌+◌, ◌*◌, List, [], ◌∷◌, ◌++◌, refl, sym, ap, ◌∙◌, subst, length, get_or, map, arith, Bool, true, false, Option, Some, None, Result, Ok, Err}
+use Rattle.std.proofs.Common.{◌≡◌, ◌≢◌, ◌<◌, ◌≤◌, ℕ, zero, suc, ◌+◌, ◌*◌, List, [], ◌∷◌, ◌++◌, refl, sym, ap, ◌∙◌}
+use Rattle.std.proofs.Common.{subst, length, get_or, map, arith, Bool, true, false, Option, Some, None, Result, Ok, Err}
 use Rattle.std.specs.Prelude.{◌==◌, ◌||◌, MatchResult}
 use Rattle.std.proofs.lemmas.Bool.{eqb-true}
 use Rattle.std.proofs.Math.Bool.{cond}
@@ -10,7 +11,7 @@ use Rattle.jpeg_bits.specs.declared.color_transform.ColorTransform.{ColorTransfo
 use Rattle.jpeg_bits.specs.declared.color_transform.ColorTransform.TheVariants as transforms
 use Rattle.jpeg_bits.specs.declared.error.Error.{Error}
 use Rattle.jpeg_bits.specs.declared.error.Error.TheVariants as errors
-use Rattle.jpeg_segments.specs.Frame.{Frame, Component, AllHaveFactors}
+use Rattle.jpeg_segments.specs.Frame.{Frame, Component, AllHaveSampling}
 use Rattle.jpeg_segments.specs.FrameView.{component_in}
 use Rattle.jpeg_segments.specs.declared.parser.Component as declared
 use Rattle.jpeg_pixels.specs.Scaled.{IsScale}
@@ -44,7 +45,7 @@ decoded-several f p other = go (length f.components) other (decoded-count f p)
         at n other false e false f true g h = let k : n ≡ 4 = eqb-true n 4 g in (omega arith, omega arith)
         at n other false e false f false g h = absurd (let z : ⊥ = cc in z)
 
-pub decoded-factors : (f : Frame) → IsDecodedFrame f → AllHaveFactors f.components
+pub decoded-factors : (f : Frame) → IsDecodedFrame f → AllHaveSampling f.components
 decoded-factors f p = sized_frames_have_factors f (decoded-sized f p)
 
 -- ---- room for the samples

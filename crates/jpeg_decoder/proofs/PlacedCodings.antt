@@ -1,5 +1,6 @@
 -- The codings of a scan are those of components of the frame, in the order of its header.
-use Rattle.std.proofs.Common.{◌≡◌, ◌<◌, ◌+◌, inl, inr, ℕ, zero, suc, List, [], ◌∷◌, Some, Ok, Err, refl, sym, ap, ap₂, ◌∙◌, length, get_or, map, drop, arith, All, Option, None, Result, subst}
+use Rattle.std.proofs.Common.{◌≡◌, ◌<◌, ◌+◌, inl, inr, ℕ, zero, suc, List, [], ◌∷◌, Some, Ok, Err, refl, sym, ap, ap₂}
+use Rattle.std.proofs.Common.{◌∙◌, length, get_or, map, drop, arith, All, Option, None, Result, subst}
 use Rattle.std.specs.List.{AllByRecursion}
 use Rattle.std.proofs.lemmas.List.{length-map}
 use Rattle.std.specs.Prelude.{◌==◌, nat_lt}
@@ -15,7 +16,8 @@ use Rattle.jpeg_pixels.specs.Scaled.{IsScale}
 use Rattle.jpeg_decoder.specs.declared.codings.Coded.{Coded}
 use Rattle.jpeg_decoder.specs.InTurn.{AreApart, IsIn}
 use Rattle.jpeg_decoder.specs.Scanning.{HasCodedScale, components_in}
-use Rattle.jpeg_decoder.specs.Stream.{Found, Coding, first_of, needed, needed_if, coding_of, codings_from}
+use Rattle.jpeg_decoder.specs.Needed.{first_of, needed}
+use Rattle.jpeg_decoder.specs.Stream.{Found, Coding, needed_if, coding_of, codings_from}
 use Rattle.jpeg_decoder.specs.Steps.{coding_in, codings_in_force}
 use Rattle.jpeg_decoder.proofs.TakenBlocks.{places_of}
 

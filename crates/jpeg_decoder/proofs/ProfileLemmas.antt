@@ -1,5 +1,6 @@
 -- The parts of a profile.
-use Rattle.std.proofs.Common.{◌≡◌, ◌+◌, ◌-◌, ◌<◌, ◌≤◌, ℕ, suc, List, [], ◌∷◌, ◌++◌, Bool, true, false, Option, Some, None, refl, sym, ap, ◌∙◌, map, arith, append_assoc}
+use Rattle.std.proofs.Common.{◌≡◌, ◌+◌, ◌-◌, ◌<◌, ◌≤◌, ℕ, suc, List, [], ◌∷◌, ◌++◌, Bool, true, false, Option, Some}
+use Rattle.std.proofs.Common.{None, refl, sym, ap, ◌∙◌, map, arith, append_assoc}
 use Rattle.std.proofs.lemmas.List.{append-nil}
 use Rattle.std.specs.Prelude.{◌==◌, option_map, option_and_then, if◌then◌else◌}
 use Rattle.std.specs.List.{find}
@@ -18,7 +19,7 @@ part_find number (c ∷ chunks) = go (c.seq_no == number) (part number (map chun
     go true p f e = refl
     go false p f e = e
 
--- so many parts are joined
+-- this many parts are joined
 abbrev pub Joins : ℕ → List Chunk → ℕ → List ℕ → Type 0
 Joins count all index bytes = parts_from count 1 all ≡ option_map (λ (rest : List ℕ). bytes ++ rest) (parts_from (count - index) (index + 1) all)
 

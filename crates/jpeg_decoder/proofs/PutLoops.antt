@@ -1,5 +1,6 @@
 -- The loops that add the planes and the blocks of a scan's components, one after the other.
-use Rattle.std.proofs.Common.{◌≡◌, ◌<◌, ℕ, zero, suc, ◌+◌, ◌*◌, ℤ, true, Option, Some, None, List, [], ◌∷◌, refl, sym, ap, ap₂, ◌∙◌, length, get_or, set, map, drop, arith}
+use Rattle.std.proofs.Common.{◌≡◌, ◌<◌, ℕ, zero, suc, ◌+◌, ◌*◌, ℤ, true, Option, Some, None, List, [], ◌∷◌, refl, sym}
+use Rattle.std.proofs.Common.{ap, ap₂, ◌∙◌, length, get_or, set, map, drop, arith}
 use Rattle.std.proofs.lemmas.List.{map-set, length-map}
 use Rattle.std.specs.declared.alloc.Global.{Global}
 use Rattle.std.specs.declared.vec.Vec.{Vec}
@@ -8,7 +9,7 @@ use Rattle.jpeg_decoder.specs.declared.codings.Coded.{Coded}
 use Rattle.jpeg_decoder.specs.Scans.{Arrays}
 use Rattle.jpeg_decoder.specs.Scanning.{arrays_in, blocks_in, components_in}
 use Rattle.jpeg_decoder.specs.Steps.{coding_in, with_its_plane, with_planes}
-use Rattle.jpeg_decoder.specs.Stream.{Found, Coding, decided, finished_by, none_finished, plane_by, put_arrays, with_arrays, with_blocks, with_plane}
+use Rattle.jpeg_decoder.specs.Stream.{Found, Coding, plane_by, put_arrays, with_arrays, with_blocks, with_plane}
 use Rattle.jpeg_decoder.specs.Steps.{decided_planes, is_wanted, marks_after, with_decoded}
 use Rattle.jpeg_decoder.specs.declared.decoded.Decoded.{Decoded}
 use Rattle.jpeg_decoder.specs.InTurn.{AreArrays}
@@ -31,16 +32,16 @@ seen-any f xs i d h =
 pub seen-at : {A B : Type 0} (f : A → B) (xs : List A) (i : ℕ) (x : A) → i < length xs → x ≡ get_or xs i x → drop i (map f xs) ≡ f x ∷ drop (i + 1) (map f xs)
 seen-at f xs i x h e = seen-any f xs i x h ∙ ap (λ (y : _). f y ∷ drop (i + 1) (map f xs)) (sym e)
 
--- what stands behind an item that is replaced
-set-behind : {A : Type 0} (xs : List A) (i : ℕ) (x : A) → drop (suc i) (set xs i x) ≡ drop (suc i) xs
-set-behind [] i x = refl
-set-behind (y ∷ ys) zero x = refl
-set-behind (y ∷ ys) (suc i) x = set-behind ys i x
+-- what stands after an item that is replaced
+set-later : {A : Type 0} (xs : List A) (i : ℕ) (x : A) → drop (suc i) (set xs i x) ≡ drop (suc i) xs
+set-later [] i x = refl
+set-later (y ∷ ys) zero x = refl
+set-later (y ∷ ys) (suc i) x = set-later ys i x
 
 pub drop-set : {A : Type 0} (xs : List A) (i : ℕ) (x : A) → drop (i + 1) (set xs i x) ≡ drop (i + 1) xs
 drop-set xs i x =
     let e : i + 1 ≡ suc i = omega arith in
-    ap (λ (k : ℕ). drop k (set xs i x)) e ∙ (set-behind xs i x ∙ ap (λ (k : ℕ). drop k xs) (sym e))
+    ap (λ (k : ℕ). drop k (set xs i x)) e ∙ (set-later xs i x ∙ ap (λ (k : ℕ). drop k xs) (sym e))
 
 pub none-left : {A B : Type 0} (f : A → B) (xs : List A) → drop (length xs) (map f xs) ≡ []
 none-left f [] = refl
@@ -150,11 +151,23 @@ long-at (c ∷ cs) (x ∷ vs) (suc i) a h = let r = long-at cs vs i a.1 (omega a
 
 -- a plane is decided of one that is given
 pub decided-as : (p : Pass) (place : ℕ) (plane : Vec ℕ Global) (base : Found) (old new : Decoded)
-    → new.held ≡ old.held → planes_in new.planes ≡ planes_in old.planes → new.finished ≡ slice_set old.finished place (marks_after p old.finished place)
+    → new.held ≡ old.held → new.samples ≡ old.samples → planes_in new.planes ≡ planes_in old.planes
+    → new.finished ≡ slice_set old.finished place (marks_after p old.finished place)
     → true ≡ is_wanted (marks_after p old.finished place) (slice_index_or (planes_in old.planes) place None)
     → with_decoded base (record new { planes = slice_set new.planes place (Some plane) }) ≡ with_its_plane p place plane.items (with_decoded base old)
-decided-as p place plane base old new a b e w =
-    ap (λ (h : Vec Held Global). record base { held = arrays_in h.items; finished = new.finished; planes = planes_in (slice_set new.planes place (Some plane)) }) a
+decided-as p place plane base old new a s b e w =
+    ap (λ (h : Vec Held Global). record base {
+      held = arrays_in h.items;
+      finished = new.finished;
+      planes = planes_in (slice_set new.planes place (Some plane));
+      samples = planes_in new.samples;
+    }) a
+    ∙ ap (λ (l : List (Option (Vec ℕ Global))). record base {
+      held = arrays_in old.held.items;
+      finished = new.finished;
+      planes = planes_in (slice_set new.planes place (Some plane));
+      samples = planes_in l;
+    }) s
     ∙ its_plane_set p place plane.items (with_decoded base old) new.finished (planes_in (slice_set new.planes place (Some plane))) e
     (map-set (λ (q : Option (Vec ℕ Global)). option_map (λ (v : Vec ℕ Global). v.items) q) new.planes place (Some plane) ∙ ap (λ (ps : List (Option (List ℕ))). slice_set ps place (Some plane.items)) b)
     (sym w)

@@ -1,4 +1,4 @@
--- What a decoder holds behind the scans of a written stream.
+-- What a decoder holds after the scans of a written stream.
 use Rattle.std.proofs.Common.{◌≡◌, ◌≢◌, ◌⊎◌, inl, inr, ℕ, zero, suc, ◌-◌, ◌<◌, ◌≤◌, Bool, true, false, List, [], ◌∷◌}
 use Rattle.std.proofs.Common.{map, length, take, drop, get_or, set, slice_index_or, Option, Some, None, refl, sym, ap}
 use Rattle.std.proofs.Common.{◌∙◌, subst, arith, length-set, get_or-set_same, get_or-set_other, leb}
@@ -13,12 +13,12 @@ use Rattle.jpeg_decoder.specs.Order.{grid_of}
 use Rattle.jpeg_decoder.specs.Scans.{Arrays}
 use Rattle.jpeg_decoder.specs.Stream.{Coding, Found, none_finished, finished_by, decided, plane_by, with_plane}
 use Rattle.jpeg_decoder.specs.Stream.{with_blocks, with_arrays, put_arrays}
-use Rattle.jpeg_decoder.specs.Levels.{Levels, IsLegal, levels_behind}
+use Rattle.jpeg_decoder.specs.Levels.{Levels, IsLegal, sent_after}
 use Rattle.jpeg_decoder.proofs.FinishedPlaces.{is_level_0}
 use Rattle.jpeg_decoder.specs.WrittenScans.{Coefficients, levels_of_one, levels_after}
 use Rattle.jpeg_decoder.proofs.PlacesApart.{IsAbsent, AreApart}
 use Rattle.jpeg_decoder.proofs.WrittenIntervals.{not-equal}
-use Rattle.jpeg_decoder.proofs.FinishedMarks.{marks_of, IsBand, marks-behind}
+use Rattle.jpeg_decoder.proofs.FinishedMarks.{marks_of, IsBand, marks-after}
 use Rattle.jpeg_decoder.proofs.FinishedPlaces.{dc-open}
 use Rattle.jpeg_decoder.proofs.OwnSpots.{At, at-within}
 use Rattle.jpeg_decoder.proofs.WrittenFrameScans.{HoldsOwn}
@@ -78,7 +78,7 @@ first-of_band Q d (suc b) n (x ∷ xs) h lt = first-of_band Q d b n xs h (omega 
 -- ---- levels
 
 pub one-same : (p : Pass) (place : ℕ) (levels : ℕ → Levels)
-    → levels_of_one p place levels place ≡ levels_behind p (levels place)
+    → levels_of_one p place levels place ≡ sent_after p (levels place)
 one-same p place levels = rw (eq-eqb place place refl, levels_of_one) refl
 
 pub one-other : (p : Pass) (place k : ℕ) (levels : ℕ → Levels) → k ≢ place → levels_of_one p place levels k ≡ levels k
@@ -125,14 +125,14 @@ legal-open p l legal band h = go p.ss refl
 
 -- ---- one component of a scan
 
--- a component of the scan, and its blocks behind it
+-- a component of the scan, and its blocks after it
 pub record CodingDone (w : Found) (frame : Frame) (p : Pass) (array : Coefficients) (levels : ℕ → Levels) (k : Coding)
     (blocks : List Block) : Type 0 where
   pub at : At k.place frame.components k.component
   pub table : slice_index_or w.quantization k.component.factors.quantization None ≡ Some k.quantization
   pub legal : IsLegal p (levels k.place)
   pub sized : length (levels k.place).acs ≡ 63
-  pub holds : HoldsOwn (grid_of k.component) (array k.place) (levels_behind p (levels k.place)) blocks
+  pub holds : HoldsOwn (grid_of k.component) (array k.place) (sent_after p (levels k.place)) blocks
 
 plane-yes : (k : Coding) (blocks : List Block) (marks : List Bool) (pl : List (Option (List ℕ)))
     → list_all (λ mark. mark) marks ≡ true
@@ -177,11 +177,11 @@ module _ (w : Found) (frame : Frame) (p : Pass) (array : Coefficients) (levels :
   marks = finished_by p (slice_index_or fi k.place none_finished)
 
   abbrev next : Levels
-  next = levels_behind p (levels k.place)
+  next = sent_after p (levels k.place)
 
   marks-are : marks ≡ marks_of next
   marks-are = ap (finished_by p) (before.marks k.place k.component done.at)
-      ∙ marks-behind p (levels k.place) done.legal band done.sized
+      ∙ marks-after p (levels k.place) done.legal band done.sized
 
   was-open : is_whole (levels k.place) ≡ false
   was-open = legal-open p (levels k.place) done.legal band done.sized
@@ -287,13 +287,13 @@ done-others w frame p array levels place (k ∷ codings) (b ∷ arrays) apart h 
         table = d.table;
         legal = subst (IsLegal p) same d.legal;
         sized = subst (λ (l : Levels). length l.acs ≡ 63) same d.sized;
-        holds = subst (λ (l : Levels). HoldsOwn (grid_of k.component) (array k.place) (levels_behind p l) b) same
+        holds = subst (λ (l : Levels). HoldsOwn (grid_of k.component) (array k.place) (sent_after p l) b) same
             d.holds;
       },
       done-others w frame p array levels place codings arrays apart.1 h.1,
     )
 
--- What scans have brought, behind the components of one.
+-- What scans have brought, after the components of one.
 pub record Brought (w : Found) (frame : Frame) (p : Pass) (array : Coefficients) (levels : ℕ → Levels)
     (codings : List Coding) (arrays : Arrays) (s : Bool) (h : Arrays)
     (fi : List (List Bool)) (pl : List (Option (List ℕ))) : Type 0 where
@@ -373,7 +373,7 @@ held-one w frame p array levels k blocks held done before = record {
         (get_or (set held k.place blocks) k.place [])) (sym own)
         (subst (λ (l : Levels). HoldsOwn (grid_of k.component) (array k.place) l
         (get_or (set held k.place blocks) k.place [])) (sym (one-same p k.place levels))
-        (subst (HoldsOwn (grid_of k.component) (array k.place) (levels_behind p (levels k.place)))
+        (subst (HoldsOwn (grid_of k.component) (array k.place) (sent_after p (levels k.place)))
         (sym (get_or-set_same held k.place blocks [] within)) done.holds)))
     go j c h (inr n) =
         subst (λ (l : Levels). HoldsOwn (grid_of c) (array j) l (get_or (set held k.place blocks) j []))
@@ -390,18 +390,18 @@ put-none : (held : Arrays) → put_arrays [] [] held ≡ held
 unfolding put_arrays
 put-none held = refl
 
-pub held-behind : (w : Found) (frame : Frame) (p : Pass) (array : Coefficients) (levels : ℕ → Levels)
+pub held-after : (w : Found) (frame : Frame) (p : Pass) (array : Coefficients) (levels : ℕ → Levels)
     (codings : List Coding) (arrays held : Arrays) → AreApart (places_of codings)
     → AllDone w frame p array levels codings arrays → AllHeld frame array levels held
     → AllHeld frame array (levels_after p (places_of codings) levels) (put_arrays codings arrays held)
 unfolding levels_after
-held-behind w frame p array levels [] [] held apart done before =
+held-after w frame p array levels [] [] held apart done before =
     subst (AllHeld frame array levels) (sym (put-none held)) before
-held-behind w frame p array levels [] (b ∷ arrays) held apart done before = absurd done
-held-behind w frame p array levels (k ∷ codings) [] held apart done before = absurd done
-held-behind w frame p array levels (k ∷ codings) (b ∷ arrays) held apart done before =
+held-after w frame p array levels [] (b ∷ arrays) held apart done before = absurd done
+held-after w frame p array levels (k ∷ codings) [] held apart done before = absurd done
+held-after w frame p array levels (k ∷ codings) (b ∷ arrays) held apart done before =
     subst (AllHeld frame array (levels_after p (places_of codings) (levels_of_one p k.place levels)))
     (sym (put-one k codings b arrays held))
-    (held-behind w frame p array (levels_of_one p k.place levels) codings arrays (set held k.place b) apart.1
+    (held-after w frame p array (levels_of_one p k.place levels) codings arrays (set held k.place b) apart.1
     (done-others w frame p array levels k.place codings arrays apart.0 done.1)
     (held-one w frame p array levels k b held done.0 before))

@@ -156,38 +156,38 @@ pub reads-scans : (array : Coefficients) (f : Frame) (tail : List ℕ) (w final 
 reads-scans array f tail w final levels last sc m bytes h fi pl zero bf met all range shape good e none fr r at room =
     absurd (omega arith)
 reads-scans array f tail w final levels last sc m bytes h fi pl (suc turns) bf met all range shape good e none fr
-    (segment w' next final' levels' last' sc' m' behind fill code payload more s q i r) at room =
+    (segment w' next final' levels' last' sc' m' after fill code payload more s q i r) at room =
     let sizes = length-append payload (marker fill code more) in
     let fills = length-append (replicate fill 0xFF) (code ∷ more) in
     read-to f array tail final last _ _
     (turn-on turns bf (reading w sc h fi pl) met all (marker fill code more) (onward (reading next sc h fi pl))
     (at.turn bf (reading w sc h fi pl) ∙ segment-read w next m payload (marker fill code more) bf sc h fi pl s) refl)
-    (reads-scans array f tail next final levels last sc behind more h fi pl turns Elsewhere None
+    (reads-scans array f tail next final levels last sc after more h fi pl turns Elsewhere None
     (marker fill code more) range shape (good-next w next m payload s good) (frame-kept w next m payload s ∙ e) none
-    (framed-next w next m payload f array levels sc h fi pl q none s fr) r (stands-next fill code behind more i)
+    (framed-next w next m payload f array levels sc h fi pl q none s fr) r (stands-next fill code after more i)
     (omega arith))
 reads-scans array f tail w final levels last sc m bytes h fi pl (suc turns) bf met all range shape good e none fr
-    (scan w' final' levels' last' sc' behind fill code header payload more s codings a l x i r) at room =
+    (scan w' final' levels' last' sc' after fill code header payload more s codings a l x i r) at room =
     let rules = sos-facts f (header ++ []) (s, []) shape.lossy (a.accepted []) in
     let b = scan-brings w f array levels sc h fi pl s codings payload range shape fr rules
-    (codings-good w f s codings good (codings-read w f s codings shape.lossy l.are_in_force)) l x in
+    (codings-good w f s codings good (codings-read w f s codings l.are_in_force)) l x in
     let sizes = length-append header (payload ++ marker fill code more) in
     let others = length-append payload (marker fill code more) in
     let fills = length-append (replicate fill 0xFF) (code ∷ more) in
     let now = reading w sc h fi pl in
-    let turn = scan-by now f s codings b.arrays behind (header ++ (payload ++ marker fill code more))
-    (payload ++ marker fill code more) more e (a.accepted (payload ++ marker fill code more))
-    (codings-same w sc h fi pl f s ∙ codings-read w f s codings shape.lossy l.are_in_force)
-    (b.read fill code behind more i)
-    (scans-plain array f tail w final _ last true behind more more (length more) r) in
+    let turn = scan-by now f s codings b.arrays after (header ++ (payload ++ marker fill code more))
+    (payload ++ marker fill code more) more shape.lossy e (a.accepted (payload ++ marker fill code more))
+    (codings-same w sc h fi pl f s ∙ codings-read w f s codings l.are_in_force)
+    (b.read fill code after more i)
+    (scans-plain array f tail w final _ last true after more more (length more) r) in
     read-to f array tail final last _ _
     (turn-on turns bf now met all more _
     (at.turn bf now ∙ scan-turn bf now (header ++ (payload ++ marker fill code more)) _ turn) refl
-    ∙ ap (λ (x : Found). segments_within turns false (scan_before now) x (Some behind) more) b.behind)
+    ∙ ap (λ (x : Found). segments_within turns false (scan_before now) x (Some after) more) b.after)
     (reads-scans array f tail w final
-    (levels_after (pass_of s) (places_of codings) levels) last true behind more b.held b.finished b.planes turns
-    (scan_before now) (Some behind) more
-    range shape good e (λ g. absurd (true≢false g)) b.framed r (stands-met behind more) (omega arith))
+    (levels_after (pass_of s) (places_of codings) levels) last true after more b.held b.finished b.planes turns
+    (scan_before now) (Some after) more
+    range shape good e (λ g. absurd (true≢false g)) b.framed r (stands-met after more) (omega arith))
 reads-scans array f tail w final levels last sc m bytes h fi pl (suc turns) bf met all range shape good e none fr
     (closed w' levels' t c) at room =
     record {
@@ -260,7 +260,7 @@ pub reads-head : (array : Coefficients) (tail : List ℕ) (w final : Found) (las
     (segments_within turns false bf (reading w false [] nothing_finished no_planes) met all)
 reads-head array tail w final last m bytes zero bf met all range shapes good n r at room = absurd (omega arith)
 reads-head array tail w final last m bytes (suc turns) bf met all range shapes good n
-    (earlier w' next final' last' m' behind fill code payload more s i r) at room =
+    (earlier w' next final' last' m' after fill code payload more s i r) at room =
     let sizes = length-append payload (marker fill code more) in
     let fills = length-append (replicate fill 0xFF) (code ∷ more) in
     let now = reading w false [] nothing_finished no_planes in
@@ -268,11 +268,11 @@ reads-head array tail w final last m bytes (suc turns) bf met all range shapes g
     (turn-on turns bf now met all (marker fill code more) (onward (reading next false [] nothing_finished no_planes))
     (at.turn bf now ∙ segment-read w next m payload (marker fill code more) bf false [] nothing_finished no_planes s)
     refl)
-    (reads-head array tail next final last behind more turns Elsewhere None (marker fill code more) range shapes
-    (good-next w next m payload s good) (frame-kept w next m payload s ∙ n) r (stands-next fill code behind more i)
+    (reads-head array tail next final last after more turns Elsewhere None (marker fill code more) range shapes
+    (good-next w next m payload s good) (frame-kept w next m payload s ∙ n) r (stands-next fill code after more i)
     (omega arith))
 reads-head array tail w final last m bytes (suc turns) bf met all range shapes good n
-    (framing w' final' last' behind number fill code payload more f small a ok i r) at room =
+    (framing w' final' last' after number fill code payload more f small a ok i r) at room =
     let sizes = length-append payload (marker fill code more) in
     let fills = length-append (replicate fill 0xFF) (code ∷ more) in
     let now = reading w false [] nothing_finished no_planes in
@@ -289,11 +289,11 @@ reads-head array tail w final last m bytes (suc turns) bf met all range shapes g
           (frame-by number now f (payload ++ marker fill code more) (marker fill code more) n
           (a.accepted (marker fill code more)) ok)) refl)
           (reads-scans array f tail next final
-          (λ k. nothing_sent) last false behind more [] nothing_finished no_planes turns Elsewhere None
+          (λ k. nothing_sent) last false after more [] nothing_finished no_planes turns Elsewhere None
           (marker fill code more)
           range shape good refl (λ g k. refl)
           (framed-start next f array [] nothing_finished no_planes range refl refl) r
-          (stands-next fill code behind more i) (omega arith));
+          (stands-next fill code after more i) (omega arith));
     }
 
 pub nothing-is : nothing_found ≡ reading nothing_found false [] nothing_finished no_planes
@@ -304,7 +304,7 @@ pub no-frame : nothing_found.frame ≡ None
 unfolding nothing_found
 no-frame = refl
 
--- What a written stream is read as, behind its first two bytes.
+-- What a written stream is read as, after its first two bytes.
 pub record ReadStream (array : Coefficients) (tail : List ℕ) (bytes : List ℕ) (final : Found)
     (last : ℕ → Levels) : Type 0 where
   pub rest : List ℕ
@@ -324,7 +324,7 @@ within-so found bytes = refl
 pub stream-read : (array : Coefficients) (tail : List ℕ) (bytes : List ℕ) (final : Found) (last : ℕ → Levels)
     → ((place row column : ℕ) → Is8Bit (array place row column)) → AllShaped
     → WritesStream array tail bytes final last → ReadStream array tail bytes final last
-stream-read array tail bytes final last range shapes (stream behind fill code more final' last' i r) =
+stream-read array tail bytes final last range shapes (stream after fill code more final' last' i r) =
     let all = marker fill code more in
     let fills = length-append (replicate fill 0xFF) (code ∷ more) in
     record {
@@ -333,7 +333,7 @@ stream-read array tail bytes final last range shapes (stream behind fill code mo
       whole = whole-by array tail final last _ _
           (within-so nothing_found all
           ∙ ap (λ (x : Found). segments_within (suc (length all)) false Elsewhere x None all) nothing-is)
-          (reads-head array tail nothing_found final last behind more
+          (reads-head array tail nothing_found final last after more
           (suc (length all)) Elsewhere None all range shapes good-start no-frame r
-          (stands-next fill code behind more i) (omega arith));
+          (stands-next fill code after more i) (omega arith));
     }

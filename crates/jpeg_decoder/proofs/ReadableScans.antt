@@ -1,5 +1,6 @@
 -- Scans that are ready to be read, by what was found before them.
-use Rattle.std.proofs.Common.{◌≡◌, ◌⊎◌, inl, inr, ◌≤◌, ◌<◌, ◌+◌, ◌==◌, ◌||◌, All, ℕ, zero, suc, Bool, true, false, List, [], ◌∷◌, length, map, drop, Option, Some, None, Ok, refl, sym, ap, ◌∙◌, subst, arith}
+use Rattle.std.proofs.Common.{◌≡◌, inl, inr, ◌≤◌, ◌<◌, ◌+◌, ◌==◌, ◌||◌, All, ℕ, zero, suc, Bool, true, false, List, []}
+use Rattle.std.proofs.Common.{◌∷◌, length, map, drop, Some, Ok, refl, sym, ap, ◌∙◌, subst, arith}
 use Rattle.std.specs.List.{AllByRecursion}
 use Rattle.std.proofs.lemmas.Bool.{eqb-true}
 use Rattle.std.proofs.lemmas.List.Elements.{All-from_recursion, recursion_from_All}
@@ -16,12 +17,14 @@ use Rattle.jpeg_pixels.specs.Scaled.{IsScale}
 use Rattle.jpeg_decoder.specs.declared.codings.Coded.{Coded}
 use Rattle.jpeg_decoder.specs.declared.decoded.Decoded.{Decoded}
 use Rattle.jpeg_decoder.specs.declared.scans.Scan.{Scan}
-use Rattle.jpeg_decoder.specs.InTurn.{AreArrays, Fits}
+use Rattle.jpeg_decoder.specs.InTurn.{Fits}
 use Rattle.jpeg_decoder.specs.Scanning.{HasAc, HasCodedScale, arrays_in, components_in}
 use Rattle.jpeg_decoder.specs.Seen.{planes_in}
-use Rattle.jpeg_decoder.specs.Sound.{ArePlanes, IsDecodedFrame, IsSound}
-use Rattle.jpeg_decoder.specs.Stream.{Coding, Found, arrays_before, codings_from, first_of, is_decoded, pass_of, tables_of}
-use Rattle.jpeg_decoder.specs.Steps.{AreRising, HasPlace, IsCodingOf, IsReadable, coding_in, codings_in_force, with_decoded}
+use Rattle.jpeg_decoder.specs.Sound.{IsDecodedFrame}
+use Rattle.jpeg_decoder.specs.Needed.{first_of}
+use Rattle.jpeg_decoder.specs.Stream.{Coding, Found, codings_from, coding_of, pass_of, tables_of}
+use Rattle.jpeg_decoder.specs.Steps.{AreRising, HasPlace, IsCodingOf, IsDct, IsReadable, coding_in, codings_in_force}
+use Rattle.jpeg_decoder.specs.Steps.{with_decoded}
 use Rattle.jpeg_decoder.proofs.AcceptedTurns.{CodingFacts, codings-facts_from, codings-same_from, tables-same}
 use Rattle.jpeg_decoder.proofs.OwnSpots.{At}
 use Rattle.jpeg_decoder.proofs.Soundness.{count-few, decoded-count, decoded-fits}
@@ -30,6 +33,7 @@ use Rattle.jpeg_decoder.proofs.WrittenFrameScans.{at-all}
 -- What scans have given changes no table in force.
 pub codings-kept : (found : Found) (d : Decoded) (frame : Frame) (header : headers.Scan)
     → codings_in_force (with_decoded found d) frame header ≡ codings_in_force found frame header
+unfolding codings_from coding_of tables_of
 codings-kept found d frame header =
     ap (λ (t : Tables). codings_from (with_decoded found d) frame (pass_of header) t header.components
     header.dc_places header.ac_places)
@@ -39,14 +43,14 @@ codings-kept found d frame header =
 
 -- ---- the pass of a scan
 
-pub some-behind : (process : CodingProcess) (first behind high low : ℕ) → IsCoded process first behind high low
-    → 1 ≤ behind
-some-behind DctSequential first behind high low c = omega (arith, c.1)
-some-behind DctProgressive first behind high low c = omega (arith, c.0)
-some-behind Lossless first behind high low c = omega (arith, c.1)
+pub some-after : (process : CodingProcess) (first after high low : ℕ) → IsCoded process first after high low
+    → 1 ≤ after
+some-after DctSequential first after high low c = omega (arith, c.1)
+some-after DctProgressive first after high low c = omega (arith, c.0)
+some-after Lossless first after high low c = omega (arith, c.1)
 
-is-pass : (process : CodingProcess) (s : headers.Scan) → is_decoded process ≡ true
-    → IsCoded process s.first s.behind s.high s.low → IsPass (pass_of s)
+is-pass : (process : CodingProcess) (s : headers.Scan) → IsDct process
+    → IsCoded process s.first s.after s.high s.low → IsPass (pass_of s)
 unfolding pass_of
 is-pass DctSequential s e c = record {
   order = omega (arith, c.0);
@@ -58,7 +62,7 @@ is-pass DctProgressive s e c = record {
   end = omega (arith, c.1);
   level = c.3;
 }
-is-pass Lossless s e c = absurd (let n : ⊥ = cc in n)
+is-pass Lossless s e c = absurd e
 
 -- ---- the scales of a frame's components
 
@@ -134,7 +138,7 @@ rising-at (c ∷ d ∷ more) least h =
 
 -- A scan with the tables in force for its header is ready to be read.
 pub ready : (found : Found) (frame : Frame) (header : headers.Scan) (scan : Scan) → IsDecodedFrame frame
-    → is_decoded frame.process ≡ true → IsScanOf frame header → pass_in scan.pass ≡ pass_of header
+    → IsDct frame.process → IsScanOf frame header → pass_in scan.pass ≡ pass_of header
     → scan.restart_interval ≡ found.restart → All HasAc scan.components.items
     → codings_in_force found frame header ≡ Ok (map coding_in scan.components.items)
     → length scan.components.items ≡ length header.components

@@ -1,7 +1,8 @@
 -- Refusals, and the turn that tells that known bytes are few.
 use Rattle.std.proofs.Common.{◌≡◌, ◌<◌, ℕ, zero, suc, List, Result, Err, Bool, true, Option, None, refl, subst, arith}
 use Rattle.jpeg_bits.specs.Stream.{Stream}
-use Rattle.jpeg_bits.specs.Reading.{Outcome, Fault, Malformed, Lacks, End, Answers, Names, NamesFormat, MayFail, IsShort}
+use Rattle.jpeg_bits.specs.Reading.{Outcome, Fault, Malformed, Lacks, End, Answers, Names, NamesFormat, MayFail}
+use Rattle.jpeg_bits.specs.Reading.{IsShort}
 use Rattle.jpeg_bits.specs.declared.error.Error.{Error}
 use Rattle.jpeg_bits.specs.declared.error.Error.TheVariants as errors
 use Rattle.jpeg_bits.specs.declared.marker.Marker.{Marker}

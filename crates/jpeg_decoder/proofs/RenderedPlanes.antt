@@ -1,5 +1,6 @@
 -- The plane of a component, which grows by the strip of each row of its blocks.
-use Rattle.std.proofs.Common.{◌≡◌, ◌<◌, ◌≤◌, ℕ, ◌+◌, ◌*◌, ℤ, List, [], ◌∷◌, ◌++◌, refl, sym, ap, ap₂, ◌∙◌, length, map, take, drop, arith}
+use Rattle.std.proofs.Common.{◌≡◌, ◌<◌, ◌≤◌, ℕ, ◌+◌, ◌*◌, ℤ, List, [], ◌∷◌, ◌++◌, refl, sym, ap, ap₂, ◌∙◌, length, map}
+use Rattle.std.proofs.Common.{take, drop, arith}
 use Rattle.std.proofs.lemmas.List.{length-map, length-take-le, length-drop, map-append, take_all}
 use Rattle.std.proofs.Math.Seq.{take-add}
 use Rattle.std.proofs.Math.Nat.{add-mul, mul-le-mul_right}

@@ -1,7 +1,9 @@
 -- The planes of a frame's components cover its picture, at each scale.
-use Rattle.std.proofs.Common.{◌≡◌, ◌≤◌, ◌<◌, ℕ, zero, suc, ◌+◌, ◌-◌, ◌*◌, ◌/◌, ◌%◌, List, [], ◌∷◌, length, map, Bool, true, false, Option, Some, None, Result, Ok, Err, refl, ap, sym, ◌∙◌, subst, arith}
+use Rattle.std.proofs.Common.{◌≡◌, ◌≤◌, ◌<◌, ℕ, zero, suc, ◌+◌, ◌-◌, ◌*◌, ◌/◌, ◌%◌, List, [], ◌∷◌, length, map, Bool}
+use Rattle.std.proofs.Common.{true, false, Option, Some, None, Result, Ok, Err, refl, ap, sym, ◌∙◌, subst, arith}
 use Rattle.std.specs.Prelude.{◌==◌, ◌&&◌, ◌||◌, if◌then◌else◌}
-use Rattle.std.proofs.Math.Nat.{add-mul, div-add-mod, mul-add, mul_assoc, mul_comm, le-mul_of_pos_right, le_of_mul-le-mul_left, lt_of_mul-lt-mul_left, mul-le-mul_right}
+use Rattle.std.proofs.Math.Nat.{add-mul, div-add-mod, mul-add, mul_assoc, mul_comm, le-mul_of_pos_right}
+use Rattle.std.proofs.Math.Nat.{le_of_mul-le-mul_left, lt_of_mul-lt-mul_left, mul-le-mul_right}
 use Rattle.std.proofs.lemmas.Bool.{eqb-true, eq-eqb}
 use Rattle.std.specs.List.{AllByRecursion}
 use Rattle.jpeg_bits.specs.Reading.{Fault, ◌>>=◌}
@@ -9,7 +11,8 @@ use Rattle.jpeg_segments.specs.Frame.{Component, Factors, IsInRange, ceiling, co
 use Rattle.jpeg_pixels.specs.declared.upsampler.UpsampleRule.{UpsampleRule}
 use Rattle.jpeg_pixels.specs.declared.upsampler.UpsampleRule.TheVariants.{H1V1, H2V1, H1V2, H2V2, Generic}
 use Rattle.jpeg_pixels.specs.Upsampling.{across, divides, down, rule_of}
-use Rattle.jpeg_pixels.specs.Pictures.{AllCover, AreWhole, Covers, Source, source_by, sources_by, sources_of, factors_of}
+use Rattle.jpeg_pixels.specs.Pictures.{AllCover, AreWhole, Covers, Source, source_by, sources_by, sources_of}
+use Rattle.jpeg_pixels.specs.Pictures.{factors_of}
 use Rattle.jpeg_pixels.proofs.FrameCovers.{ceiling-low, ceiling-high}
 use Rattle.jpeg_segments.specs.Scales.{component_at, frame_at}
 use Rattle.jpeg_pixels.specs.Pictures.{HasSources}
@@ -25,7 +28,7 @@ samples_at s width h m = ceiling (width * h * s) (m * 8)
 abbrev pub outputs_at : ℕ → ℕ → ℕ
 outputs_at s width = ceiling (width * s) 8
 
--- So many samples, each of which stands for k outputs, reach the last of width outputs, and one sample fewer doesn't.
+-- This many samples, each of which stands for k outputs, reach the last of width outputs, and one sample fewer doesn't.
 record Fits (k count width : ℕ) : Type 0 where
   some : 0 < k
   enough : width ≤ k * count
@@ -424,7 +427,8 @@ all-covered s width height h v (x ∷ xs) sources some most some_width some_heig
     go (Some rule) e (Ok others) f k rec =
         let r = scaled-rule s x.horizontal x.vertical h v width height rule some most e in first r.rule r.is (rec others f)
 
--- The picture of a frame that is accepted at full size has its sources at each scale, and planes of all blocks cover it.
+-- The picture of a frame that is accepted at full size has its sources at each scale, and planes of all blocks cover
+-- it.
 pub record ScaledSources (scale : ℕ) (components : List Component) (width height : ℕ) : Type 0 where
   pub sources : List Source
   pub is : sources_of components (outputs_at scale width) (outputs_at scale height) ≡ Ok sources

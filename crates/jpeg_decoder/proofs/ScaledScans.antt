@@ -22,7 +22,8 @@ use Rattle.jpeg_bits.specs.Passes.{Block}
 use Rattle.jpeg_bits.specs.Intervals.{first_group, other_groups}
 use Rattle.jpeg_decoder.specs.Levels.{Levels, IsLegal, numbers_at}
 use Rattle.jpeg_decoder.specs.WrittenData.{WritesIntervals}
-use Rattle.jpeg_decoder.specs.Stream.{Found, Coding, first_of, tables_of, pass_of, is_progressive, vias_from}
+use Rattle.jpeg_decoder.specs.Needed.{first_of}
+use Rattle.jpeg_decoder.specs.Stream.{Found, Coding, tables_of, pass_of, is_progressive, vias_from}
 use Rattle.jpeg_decoder.specs.WrittenScans.{Coefficients, IsOwn, no_grid, grid_at, components_of, written_turns}
 use Rattle.jpeg_decoder.specs.WrittenScans.{IsCoding, AreCodings, WritesScan, levels_after, IsComplete, HasTable}
 use Rattle.jpeg_decoder.proofs.AcceptedStreams.{IsAccepted, WritesSegment, WritesScans}
@@ -400,16 +401,16 @@ pub scans-alike : (array : Coefficients) (f g : Frame) (tail : List ℕ) (w fina
     → WritesScans array f tail w levels sc m bytes final last
     → WritesScans array g tail (at_frame w g) levels sc m bytes (at_frame final g) last
 scans-alike array f g tail w final levels last sc m bytes same e
-    (segment w' next final' levels' last' sc' m' behind fill code payload more s q i r) =
-    segment (at_frame w g) (at_frame next g) (at_frame final g) levels last sc m behind fill code payload more
+    (segment w' next final' levels' last' sc' m' after fill code payload more s q i r) =
+    segment (at_frame w g) (at_frame next g) (at_frame final g) levels last sc m after fill code payload more
     (segment-alike w next m payload f g same e s) q i
-    (scans-alike array f g tail next final levels last sc behind more same (frame-kept w next m payload s ∙ e) r)
+    (scans-alike array f g tail next final levels last sc after more same (frame-kept w next m payload s ∙ e) r)
 scans-alike array f g tail w final levels last sc m bytes same e
-    (scan w' final' levels' last' sc' behind fill code header payload more s codings a l x i r) =
+    (scan w' final' levels' last' sc' after fill code header payload more s codings a l x i r) =
     let o = codings-alike w f g same (pass_of s)
     (tables_of w s) s.components s.dc_places s.ac_places codings l.are_in_force in
     let places = places-alike codings o.0 o.2 in
-    scan (at_frame w g) (at_frame final g) levels last sc behind fill code header payload more s o.0
+    scan (at_frame w g) (at_frame final g) levels last sc after fill code header payload more s o.0
     (record { accepted = λ rest. sos-same f g same (header ++ rest) ∙ a.accepted rest })
     (record {
       are_in_force = subst (λ (t : Tables). AreCodings (at_frame w g) g
@@ -418,9 +419,9 @@ scans-alike array f g tail w final levels last sc m bytes same e
     })
     (scan-alike f g w.restart (pass_of s) codings o.0 array payload same o.2 x) i
     (subst (λ (p : List ℕ). WritesScans array g tail (at_frame w g)
-    (levels_after (pass_of s) p levels) true behind more (at_frame final g) last) (sym places)
+    (levels_after (pass_of s) p levels) true after more (at_frame final g) last) (sym places)
     (scans-alike array f g tail w final
-    (levels_after (pass_of s) (map (λ (c : Coding). c.place) codings) levels) last true behind more same e r))
+    (levels_after (pass_of s) (map (λ (c : Coding). c.place) codings) levels) last true after more same e r))
 scans-alike array f g tail w final levels last sc m bytes same e (closed w' levels' t c) =
     closed (at_frame w g) levels (tables-there w g f.components g.components same.components t)
     (λ n. subst (λ (k : ℕ). AllByRecursion (λ j. IsComplete (levels j)) (range_with_len 0 k))

@@ -1,10 +1,10 @@
--- The blocks of a scan's components, before it and behind it.
-use Rattle.std.proofs.Common.{◌≡◌, ℕ, zero, suc, ◌*◌, Bool, true, false, List, [], ◌∷◌, map, drop, length, set}
+-- The blocks of a scan's components, before it and after it.
+use Rattle.std.proofs.Common.{◌≡◌, ℕ, zero, suc, ◌*◌, Bool, false, List, [], ◌∷◌, map, drop, length, set}
 use Rattle.std.proofs.Common.{get_or, replicate, Option, Some, None, Result, Ok, Err, refl, sym, ap, ap₂, ◌∙◌}
 use Rattle.std.proofs.Common.{length-set}
 use Rattle.std.specs.Prelude.{◌&&◌, ◌==◌, nat_lt, slice_index_or, if◌then◌else◌}
 use Rattle.std.specs.List.{AllByRecursion}
-use Rattle.jpeg_bits.specs.Reading.{Outcome, Fault, Malformed, ◌>>=◌}
+use Rattle.jpeg_bits.specs.Reading.{Outcome, Fault, ◌>>=◌}
 use Rattle.jpeg_bits.specs.declared.marker.Marker.{Marker}
 use Rattle.jpeg_bits.specs.Codes.{Table}
 use Rattle.jpeg_bits.specs.declared.codes.HuffmanTableClass.TheVariants as classes
@@ -17,7 +17,8 @@ use Rattle.jpeg_decoder.specs.Order.{Spot, spots_of, mcu_size}
 use Rattle.jpeg_decoder.specs.Scans.{Arrays, zero_arrays, put_block, put_blocks, turns_of, arrays_at}
 use Rattle.jpeg_decoder.specs.InTurn.{Fits, AreArrays, scan_from, mcus_of}
 use Rattle.jpeg_decoder.specs.McuRows.{scan_by_rows}
-use Rattle.jpeg_decoder.specs.Stream.{Found, Coding, needed, needed_if, first_of, is_progressive, is_decoded, pass_of}
+use Rattle.jpeg_decoder.specs.Needed.{first_of, needed}
+use Rattle.jpeg_decoder.specs.Stream.{Found, Coding, needed_if, is_progressive, pass_of}
 use Rattle.jpeg_decoder.specs.Stream.{tables_of, coding_of, codings_from, codings_of, vias_from, arrays_before}
 use Rattle.jpeg_decoder.specs.Stream.{scan_arrays, put_arrays}
 use Rattle.jpeg_decoder.proofs.Apart.{At, at-all, sized, zeros-sized}
@@ -90,14 +91,8 @@ codings-from found frame p tables (place ∷ places) (d ∷ dcs) (a ∷ acs) =
 
 pub codings-are-of : (found : Found) (frame : Frame) (scan : Scan) → AllOf frame (codings_of found frame scan)
 unfolding codings_of
-codings-are-of found frame scan = test (is_decoded frame.process)
-  where
-    test : (b : Bool) → AllOf frame
-        (if b then codings_from found frame (pass_of scan)
-        (tables_of found scan) scan.components scan.dc_places scan.ac_places else Err Malformed)
-    test true = codings-from found frame (pass_of scan)
-        (tables_of found scan) scan.components scan.dc_places scan.ac_places
-    test false = tt
+codings-are-of found frame scan = codings-from found frame (pass_of scan)
+    (tables_of found scan) scan.components scan.dc_places scan.ac_places
 
 -- ---- blocks
 
@@ -207,14 +202,14 @@ progressive-scan found frame scan c codings bytes held fits of =
     (arrays_of (c ∷ codings) (arrays_before found frame)) bytes
     (fits-of frame (c ∷ codings) fits of) (arrays-sized frame (c ∷ codings) (arrays_before found frame) held of)
 
-abbrev pub AreSizedBehind : List Coding → Outcome (Arrays × Option Marker) → Type 0
-AreSizedBehind codings (Ok r) = AreArrays (components_of codings) r.0.0
-AreSizedBehind codings (Err e) = Unit {0}
+abbrev pub AreSizedAfter : List Coding → Outcome (Arrays × Option Marker) → Type 0
+AreSizedAfter codings (Ok r) = AreArrays (components_of codings) r.0.0
+AreSizedAfter codings (Err e) = Unit {0}
 
--- the blocks behind a scan are of the same sizes
+-- the blocks after a scan are of the same sizes
 pub scan-sized : (found : Found) (frame : Frame) (scan : Scan) (codings : List Coding) (bytes : List ℕ)
     → AreArrays frame.components (arrays_before found frame) → AllByRecursion (IsOf frame) codings
-    → AreSizedBehind codings (scan_arrays found frame scan codings bytes)
+    → AreSizedAfter codings (scan_arrays found frame scan codings bytes)
 unfolding scan_arrays arrays_at
 scan-sized found frame scan codings bytes held of =
     let cs = components_of codings in
@@ -225,7 +220,7 @@ scan-sized found frame scan codings bytes held of =
     go (intervals (pass_of scan) 0 (first_group n turns) (other_groups n turns) bytes)
   where
     go : (o : Outcome (List Block × Option Marker))
-        → AreSizedBehind codings (o >>= (λ (r : (List Block × Option Marker) × List ℕ).
+        → AreSizedAfter codings (o >>= (λ (r : (List Block × Option Marker) × List ℕ).
         Ok (
           (
             put_blocks (spots_of frame (components_of codings)) r.0.0

@@ -1,11 +1,9 @@
 -- The data of a scan, of what is read of its blocks, and the planes that it decides.
-use Rattle.std.proofs.Common.{◌≡◌, ◌<◌, ◌≤◌, ℕ, zero, suc, ◌+◌, ◌*◌, ℤ, Bool, true, false, Option, Some, None, Result, Ok, Err, List, [], ◌∷◌, refl, sym, ap, ap₂, subst, ◌∙◌, length, get_or, set, map, drop, arith}
+use Rattle.std.proofs.Common.{◌≡◌, ◌<◌, ℕ, zero, suc, ◌+◌, ◌*◌, Bool, true, false, Option, Some, None, Result, Ok, Err}
+use Rattle.std.proofs.Common.{List, [], ◌∷◌, refl, sym, ap, ap₂, subst, ◌∙◌, length, get_or, set, map, drop, arith}
 use Rattle.std.proofs.Math.Logic.{inl, inr}
-use Rattle.std.specs.Prelude.{All, OnOk, ◌&&◌, slice_set, slice_index_or}
+use Rattle.std.specs.Prelude.{All, OnOk, slice_set, slice_index_or}
 use Rattle.std.specs.List.{AllByRecursion, list_all}
-use Rattle.std.proofs.Math.Bool.{cond}
-use Rattle.std.specs.declared.alloc.Global.{Global}
-use Rattle.std.specs.declared.vec.Vec.{Vec}
 use Rattle.std.proofs.lemmas.List.{length-map}
 use Rattle.jpeg_bits.specs.Stream.{Stream}
 use Rattle.jpeg_bits.specs.Reading.{Outcome, Fault, Answers, ◌>>=◌}
@@ -23,14 +21,15 @@ use Rattle.jpeg_decoder.specs.Scans.{Arrays, zero_arrays, arrays_at}
 use Rattle.jpeg_decoder.specs.Scanning.{vias_in, arrays_in, blocks_in, sizes_of, components_in}
 use Rattle.jpeg_decoder.specs.Seen.{planes_in}
 use Rattle.jpeg_decoder.specs.Sound.{IsPlaneOf, ArePlanes}
-use Rattle.jpeg_decoder.specs.Steps.{blocks_at, coding_in, components_of, decided_planes, marks_after, scan_data, with_decoded, with_its_plane, with_planes, IsCodingOf, AreRising}
-use Rattle.jpeg_decoder.specs.Stream.{Found, Coding, arrays_before, decided, finished_by, held_behind, is_progressive, plane_by, put_arrays, vias_from, with_arrays, with_blocks, with_plane}
-use Rattle.jpeg_decoder.specs.Strips as strips
+use Rattle.jpeg_decoder.specs.Steps.{blocks_at, coding_in, components_of, decided_planes, marks_after, scan_data}
+use Rattle.jpeg_decoder.specs.Steps.{with_decoded, with_its_plane, with_planes, IsCodingOf, AreRising}
+use Rattle.jpeg_decoder.specs.Stream.{Found, Coding, arrays_before, decided, held_after, is_progressive, plane_by}
+use Rattle.jpeg_decoder.specs.Stream.{put_arrays, vias_from, with_arrays, with_blocks}
 use Rattle.jpeg_decoder.specs.Strips.{planes_by, planes_at}
 use Rattle.jpeg_decoder.proofs.Apart.{At, zeros-sized}
 use Rattle.jpeg_decoder.proofs.BlocksBefore.{plane_by-length}
 use Rattle.jpeg_decoder.proofs.PlacedCodings.{coded-components}
-use Rattle.jpeg_decoder.proofs.PutLoops.{Held, blocks-are, arrays-more, planes-more}
+use Rattle.jpeg_decoder.proofs.PutLoops.{Held, blocks-are}
 use Rattle.jpeg_decoder.proofs.ScanArrays.{IsOf, first-at, zeros-of}
 
 -- ---- the scan's components
@@ -78,7 +77,7 @@ read_at f frame p codings arrays bytes =
     arrays_at p (f.restart * mcu_size (components_of codings)) (vias_from 0 codings) (spots_of frame (components_of codings)) arrays bytes
 
 abbrev after_read : Found → Frame → Pass → List Coding → (Arrays × Option Marker) × List ℕ → Outcome (Found × Option Marker)
-after_read f frame p codings r = Ok ((with_arrays p codings r.0.0 (record f { scanned = true; held = held_behind f frame codings r.0.0 }), r.0.1), r.1)
+after_read f frame p codings r = Ok ((with_arrays p codings r.0.0 (record f { scanned = true; held = held_after f frame codings r.0.0 }), r.0.1), r.1)
 
 data-is : (f : Found) (frame : Frame) (p : Pass) (codings : List Coding) (bytes : List ℕ)
     → scan_data f frame p codings bytes ≡ (read_at f frame p codings (blocks_at codings (arrays_before f frame)) bytes >>= after_read f frame p codings)
@@ -86,10 +85,10 @@ unfolding scan_data
 data-is f frame p codings bytes = refl
 
 held-progressive : (f : Found) (frame : Frame) (codings : List Coding) (arrays : Arrays) → is_progressive frame.process ≡ true
-    → held_behind f frame codings arrays ≡ put_arrays codings arrays (arrays_before f frame)
+    → held_after f frame codings arrays ≡ put_arrays codings arrays (arrays_before f frame)
 held-progressive f frame codings arrays e = rw e refl
 
-held-sequential : (f : Found) (frame : Frame) (codings : List Coding) (arrays : Arrays) → is_progressive frame.process ≡ false → held_behind f frame codings arrays ≡ []
+held-sequential : (f : Found) (frame : Frame) (codings : List Coding) (arrays : Arrays) → is_progressive frame.process ≡ false → held_after f frame codings arrays ≡ []
 held-sequential f frame codings arrays e = rw e refl
 
 before-sequential : (f : Found) (frame : Frame) → is_progressive frame.process ≡ false → arrays_before f frame ≡ zero_arrays frame.components
@@ -101,10 +100,11 @@ pub data-held : (f : Found) (frame : Frame) (p : Pass) (codings : List Coding) (
     → is_progressive frame.process ≡ true
     → read_at f frame p codings (blocks_at codings (arrays_before f frame)) bytes ≡ Ok ((arrays, met), rest)
     → ((base : Found) → with_decoded base two ≡ with_arrays p codings arrays (with_decoded base one))
-    → one.finished ≡ f.finished → planes_in one.planes ≡ f.planes
+    → one.finished ≡ f.finished → planes_in one.planes ≡ f.planes → planes_in one.samples ≡ f.samples
     → held ≡ put_arrays codings arrays (arrays_before f frame)
-    → scan_data f frame p codings bytes ≡ Ok ((record f { scanned = true; held = held; finished = two.finished; planes = planes_in two.planes }, met), rest)
-data-held f frame p codings arrays met bytes rest one two held e r added fin pl h =
+    → scan_data f frame p codings bytes
+    ≡ Ok ((record f { scanned = true; held = held; finished = two.finished; planes = planes_in two.planes; samples = planes_in two.samples }, met), rest)
+data-held f frame p codings arrays met bytes rest one two held e r added fin pl sa h =
     data-is f frame p codings bytes
     ∙ ap (λ (o : Outcome (Arrays × Option Marker)). o >>= after_read f frame p codings) r
     ∙ ap (λ (x : Found). answer x) same
@@ -115,11 +115,13 @@ data-held f frame p codings arrays met bytes rest one two held e r added fin pl 
     answer : Found → Outcome (Found × Option Marker)
     answer x = Ok ((x, met), rest)
 
-    same : with_arrays p codings arrays (record f { scanned = true; held = held_behind f frame codings arrays })
-        ≡ record f { scanned = true; held = held; finished = two.finished; planes = planes_in two.planes }
+    same : with_arrays p codings arrays (record f { scanned = true; held = held_after f frame codings arrays })
+        ≡ record f { scanned = true; held = held; finished = two.finished; planes = planes_in two.planes; samples = planes_in two.samples }
     same =
         ap (λ (x : Arrays). with_arrays p codings arrays (record f { scanned = true; held = x })) (held-progressive f frame codings arrays e ∙ sym h)
-        ∙ ap₂ (λ (a : List (List Bool)) (b : List (Option (List ℕ))). with_arrays p codings arrays (record f { scanned = true; held = held; finished = a; planes = b })) (sym fin) (sym pl)
+        ∙ ap (λ (a : List (Option (List ℕ))). with_arrays p codings arrays (record f { scanned = true; held = held; samples = a })) (sym sa)
+        ∙ ap₂ (λ (a : List (List Bool)) (b : List (Option (List ℕ))).
+        with_arrays p codings arrays (record f { scanned = true; held = held; finished = a; planes = b; samples = planes_in one.samples })) (sym fin) (sym pl)
         ∙ sym (held-kept p codings arrays (with_decoded base one) held)
         ∙ sym (ap (λ (x : Found). record x { held = held }) (added base))
 
@@ -150,9 +152,9 @@ pub data-planes : (f : Found) (frame : Frame) (p : Pass) (codings : List Coding)
     → is_progressive frame.process ≡ false → AllByRecursion (IsOf frame) codings
     → planes_at p f.restart (vias_from 0 codings) frame codings bytes ≡ Ok ((planes, met), rest)
     → ((base : Found) → with_decoded base two ≡ with_planes p codings planes (with_decoded base one))
-    → one.finished ≡ f.finished → planes_in one.planes ≡ f.planes → arrays_in one.held.items ≡ []
+    → one.finished ≡ f.finished → planes_in one.planes ≡ f.planes → planes_in one.samples ≡ f.samples → arrays_in one.held.items ≡ []
     → scan_data f frame p codings bytes ≡ Ok ((record (with_decoded f two) { scanned = true }, met), rest)
-data-planes f frame p codings planes met bytes rest one two e of r added fin pl none =
+data-planes f frame p codings planes met bytes rest one two e of r added fin pl sa none =
     data-is f frame p codings bytes
     ∙ ap (λ (a : Arrays). read_at f frame p codings a bytes >>= after_read f frame p codings) (zeros-read f frame codings e of)
     ∙ go (read_at f frame p codings (zero_arrays (components_of codings)) bytes) (sym (planes-are f.restart frame p codings (vias_from 0 codings) bytes) ∙ r)
@@ -161,10 +163,12 @@ data-planes f frame p codings planes met bytes rest one two e of r added fin pl 
     base = record f { scanned = true }
 
     made : (arrays : Arrays) → planes_by codings arrays ≡ planes
-        → with_arrays p codings arrays (record f { scanned = true; held = held_behind f frame codings arrays }) ≡ record (with_decoded f two) { scanned = true }
+        → with_arrays p codings arrays (record f { scanned = true; held = held_after f frame codings arrays }) ≡ record (with_decoded f two) { scanned = true }
     made arrays q =
         ap (λ (x : Arrays). with_arrays p codings arrays (record f { scanned = true; held = x })) (held-sequential f frame codings arrays e ∙ sym none)
-        ∙ ap₂ (λ (a : List (List Bool)) (b : List (Option (List ℕ))). with_arrays p codings arrays (record f { scanned = true; held = arrays_in one.held.items; finished = a; planes = b })) (sym fin) (sym pl)
+        ∙ ap (λ (a : List (Option (List ℕ))). with_arrays p codings arrays (record f { scanned = true; held = arrays_in one.held.items; samples = a })) (sym sa)
+        ∙ ap₂ (λ (a : List (List Bool)) (b : List (Option (List ℕ))).
+        with_arrays p codings arrays (record f { scanned = true; held = arrays_in one.held.items; finished = a; planes = b; samples = planes_in one.samples })) (sym fin) (sym pl)
         ∙ arrays-by-planes p codings arrays (with_decoded base one)
         ∙ ap (λ (ps : List (List ℕ)). with_planes p codings ps (with_decoded base one)) q
         ∙ sym (added base)

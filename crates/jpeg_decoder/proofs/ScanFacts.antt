@@ -11,7 +11,7 @@ use Rattle.jpeg_segments.specs.declared.parser.CodingProcess.TheVariants.{DctSeq
 use Rattle.jpeg_segments.specs.Frame.{Frame}
 use Rattle.jpeg_segments.specs.HuffmanTables.{greatest_place}
 use Rattle.jpeg_segments.specs.ScanHeader.{Scan, Selector, place_of, tables_at, tables_by, selector_at}
-use Rattle.jpeg_segments.specs.ScanHeader.{selectors_from, is_mcu, is_band, behind_of, scan_of, band_at, count_at}
+use Rattle.jpeg_segments.specs.ScanHeader.{selectors_from, is_mcu, is_band, after_of, scan_of, band_at, count_at}
 use Rattle.jpeg_segments.specs.ScanHeader.{sos_at}
 use Rattle.jpeg_decoder.specs.Stream.{pass_of, is_progressive}
 use Rattle.jpeg_decoder.proofs.PlacesApart.{IsAbsent, AreApart}
@@ -19,7 +19,7 @@ use Rattle.jpeg_decoder.proofs.AcceptedTurns.{err-ok, ok-same, bind-ok}
 use Rattle.jpeg_decoder.proofs.FrameShapes.{if-ok, unless-ok}
 use Rattle.jpeg_decoder.proofs.BroughtLevels.{ScanFacts, PassSo, sequential, progressive, progressive-pass}
 
--- ---- the components, each behind those before it
+-- ---- the components, each after those before it
 
 pub record Rising (least : ℕ) (sel : List Selector) : Type 0 where
   pub below : AllByRecursion (λ s. s.component < least) sel
@@ -34,10 +34,10 @@ tables-component f place bytes s h =
     let y = unless-ok (nat_lt (greatest_place (Some f.is_baseline)) (b.0.0 % 16)) _ Malformed s x.1 in
     ap (λ (z : Selector × List ℕ). z.0.component) (sym (ok-same _ s y.1))
 
-selector-behind : (f : Frame) (least : ℕ) (bytes : List ℕ) (s : Selector × List ℕ) → selector_at f least bytes ≡ Ok s
+selector-after : (f : Frame) (least : ℕ) (bytes : List ℕ) (s : Selector × List ℕ) → selector_at f least bytes ≡ Ok s
     → least ≤ s.0.component
 unfolding selector_at
-selector-behind f least bytes s h =
+selector-after f least bytes s h =
     let b = bind-ok (next_byte bytes) _ s h in
     go (place_of f.components b.0.0) b.0.1 b.2
   where
@@ -96,7 +96,7 @@ selectors-rise f zero front least bytes s r h =
     (ok-same (front, bytes) s h) (r.apart, omega arith)
 selectors-rise f (suc n) front least bytes s r h =
     let one = bind-ok (selector_at f least bytes) _ s h in
-    let le = selector-behind f least bytes one.0 one.1 in
+    let le = selector-after f least bytes one.0 one.1 in
     let more = selectors-rise f n (front ++ one.0.0 ∷ []) (one.0.0.component + 1) one.0.1 s
     (rising-end least front one.0.0 r le) one.2 in
     let count = length-append front (one.0.0 ∷ []) in
@@ -133,8 +133,8 @@ scan-is f sel first last levels n b = go f.process refl b
         let b = both (nat_le last 63) _ a.1 in
         let le = leb-true first last a.0 in
         let top = leb-true last 63 b.0 in
-        let behind : (scan_of f sel first last levels).behind ≡ last + 1 =
-        ap (λ (p : CodingProcess). behind_of p last) e in
+        let after : (scan_of f sel first last levels).after ≡ last + 1 =
+        ap (λ (p : CodingProcess). after_of p last) e in
         progressive (ap is_progressive e) (λ z. let l = q.0 z in omega arith)
         (one (length (scan_of f sel first last levels).components) count q.1) (omega arith) (omega arith)
       where

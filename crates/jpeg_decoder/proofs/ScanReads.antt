@@ -1,19 +1,26 @@
 -- The steps of a scan that is read, and what they are to a segment of the stream.
-use Rattle.std.proofs.Common.{◌≡◌, ℕ, suc, Bool, true, false, List, length, Option, Some, Result, Ok, Err, refl, sym, ap, ◌∙◌}
-use Rattle.std.specs.Prelude.{if◌then◌else◌}
+use Rattle.std.proofs.Common.{◌≡◌, ℕ, suc, Bool, true, false, List, length, Option, Some, Result, Ok, Err, refl, sym}
+use Rattle.std.proofs.Common.{ap, ◌∙◌}
 use Rattle.jpeg_bits.specs.Stream.{Stream}
-use Rattle.jpeg_bits.specs.Reading.{Answers, Fault, Malformed, MayFail, Names, Outcome, ◌>>=◌}
+use Rattle.jpeg_bits.specs.Reading.{Answers, Fault, MayFail, Names, Outcome, ◌>>=◌}
 use Rattle.jpeg_bits.specs.Passes.{Pass}
 use Rattle.jpeg_bits.specs.declared.error.Error.{Error}
 use Rattle.jpeg_bits.specs.declared.error.Error.TheVariants as errors
 use Rattle.jpeg_bits.specs.declared.marker.Marker.{Marker}
 use Rattle.jpeg_bits.proofs.Loops.{Continues, Continues-err, Names-through, bind_at, bind_err, still_known}
 use Rattle.jpeg_segments.specs.Frame.{Frame}
+use Rattle.jpeg_segments.specs.declared.parser.CodingProcess.{CodingProcess}
+use Rattle.jpeg_segments.specs.declared.parser.CodingProcess.TheVariants.{DctSequential, DctProgressive, Lossless}
 use Rattle.jpeg_segments.specs.ScanHeader.{Scan, sos_at}
 use Rattle.jpeg_decoder.specs.declared.state.Before.{Before}
 use Rattle.jpeg_decoder.specs.Scans.{Arrays}
-use Rattle.jpeg_decoder.specs.Stream.{Coding, Found, Turn, behind_restarts, behind_scan, codings_of, is_decoded, needed, pass_of, scan_arrays, scan_before, scan_segment}
-use Rattle.jpeg_decoder.specs.Steps.{IsRefusal, behind_all, codings_in_force, scan_data, scan_read}
+use Rattle.jpeg_decoder.specs.Needed.{needed}
+use Rattle.jpeg_decoder.specs.Stream.{Coding, Found, Turn, after_restarts, after_scan, blocks_scan, codings_of}
+use Rattle.jpeg_decoder.specs.Stream.{lossless_scan, pass_of, scan_arrays, scan_before, scan_by, scan_samples}
+use Rattle.jpeg_decoder.specs.Stream.{scan_segment}
+use Rattle.jpeg_decoder.specs.LosslessScans.{lossless_codings, without_factors}
+use Rattle.jpeg_decoder.specs.Steps.{IsDct, IsRefusal, after_all, blocks_read, codings_in_force, read_by, samples_read}
+use Rattle.jpeg_decoder.specs.Steps.{scan_data, scan_read}
 
 -- ---- calls on a source
 
@@ -51,7 +58,7 @@ last-step view v whole rest read old cur new (Err e) ok err p q =
 
 -- after the data
 abbrev pub after_data : (Found × Option Marker) × List ℕ → Outcome (Found × Option Marker)
-after_data r = behind_all r.0.1 r.1 >>= (λ (met : Option Marker × List ℕ). Ok ((r.0.0, met.0), met.1))
+after_data r = after_all r.0.1 r.1 >>= (λ (met : Option Marker × List ℕ). Ok ((r.0.0, met.0), met.1))
 
 -- after the tables in force, by the pass
 abbrev pub after_codings : Found → Frame → Pass → List Coding → List ℕ → Outcome (Found × Option Marker)
@@ -63,10 +70,10 @@ after_header found frame scan bytes =
     codings_in_force found frame scan >>= (λ (codings : List Coding). after_codings found frame (pass_of scan) codings bytes)
 
 header-read : (found : Found) (frame : Frame) (scan : Scan) (bytes rest : List ℕ) → found.frame ≡ Some frame
-    → sos_at frame bytes ≡ Ok (scan, rest) → is_decoded frame.process ≡ true
-    → scan_read found bytes ≡ after_header found frame scan rest
+    → sos_at frame bytes ≡ Ok (scan, rest)
+    → scan_read found bytes ≡ read_by frame.process found frame scan rest
 unfolding scan_read
-header-read found frame scan bytes rest a b c = rw (a, b, c, scan_read) refl
+header-read found frame scan bytes rest a b = rw (a, b, scan_read) refl
 
 pub codings-refused : (found : Found) (frame : Frame) (scan : Scan) (bytes : List ℕ) (f : Fault)
     → codings_in_force found frame scan ≡ Err f → after_header found frame scan bytes ≡ Err f
@@ -86,27 +93,53 @@ HasRead read old y new =
     (new.failed ≡ old.failed) × (old.known ≡ true → (new.known ≡ true) × (read old.bytes ≡ Ok (y, new.bytes)))
 
 pub header-begun : (found : Found) (frame : Frame) (scan : Scan) (old new : Stream) → found.frame ≡ Some frame
-    → is_decoded frame.process ≡ true → HasRead (sos_at frame) old scan new
-    → Continues (scan_read found) old (after_header found frame scan) new
-header-begun found frame scan old new stands is_dct read =
-    (read.0, λ k. let at = read.1 k in (at.0, header-read found frame scan old.bytes new.bytes stands at.1 is_dct))
+    → HasRead (sos_at frame) old scan new
+    → Continues (scan_read found) old (read_by frame.process found frame scan) new
+header-begun found frame scan old new stands read =
+    (read.0, λ k. let at = read.1 k in (at.0, header-read found frame scan old.bytes new.bytes stands at.1))
 
-pub data-begun : (found : Found) (frame : Frame) (scan : Scan) (p : Pass) (codings : List Coding) (old new : Stream)
+-- A scan of blocks begins with its tables.
+pub blocks-begun : (found : Found) (frame : Frame) (scan : Scan) (old : Stream)
+    → Continues (blocks_read found frame scan) old (after_header found frame scan) old
+unfolding blocks_read
+blocks-begun found frame scan old = (refl, λ k. (k, refl))
+
+pub data-begun : (whole : List ℕ → Outcome (Found × Option Marker)) (found : Found) (frame : Frame) (scan : Scan) (p : Pass)
+    (codings : List Coding) (old new : Stream)
     → codings_in_force found frame scan ≡ Ok codings → p ≡ pass_of scan
-    → Continues (scan_read found) old (after_header found frame scan) new
-    → Continues (scan_read found) old (after_codings found frame p codings) new
-data-begun found frame scan p codings old new e is begun =
+    → Continues whole old (after_header found frame scan) new
+    → Continues whole old (after_codings found frame p codings) new
+data-begun whole found frame scan p codings old new e is begun =
     (begun.0, λ k. let at = begun.1 k in (at.0, at.1 ∙ codings-read found frame scan p codings new.bytes e is))
+
+-- A scan of a process is the whole scan after its header.
+pub blocks-by : (p : CodingProcess) → IsDct p → (found : Found) (frame : Frame) (scan : Scan)
+    → read_by p found frame scan ≡ blocks_read found frame scan
+blocks-by DctSequential h found frame scan = refl
+blocks-by DctProgressive h found frame scan = refl
+blocks-by Lossless h found frame scan = absurd h
+
+pub scan-through : (found : Found) (frame : Frame) (scan : Scan) (read : List ℕ → Outcome (Found × Option Marker)) (next : Found)
+    (old mid new : Stream) (r : Result (Option Marker) Error) → found.frame ≡ Some frame
+    → HasRead (sos_at frame) old scan mid → read_by frame.process found frame scan ≡ read
+    → Answers (λ (m : Option Marker). (next, m)) read mid r new
+    → Answers (λ (m : Option Marker). (next, m)) (scan_read found) old r new
+scan-through found frame scan read next old mid new r stands has is answers =
+    last-step (λ (m : Option Marker). (next, m)) (λ (m : Option Marker). (next, m)) (scan_read found)
+    (read_by frame.process found frame scan) read old mid new r
+    (λ m h. ap (λ (f : List ℕ → Outcome (Found × Option Marker)). f mid.bytes) is ∙ h)
+    (λ f h. ap (λ (g : List ℕ → Outcome (Found × Option Marker)). g mid.bytes) is ∙ h)
+    (header-begun found frame scan old mid stands has) answers
 
 -- The restart markers after the data are passed over, and the scan is read.
 pub scan-ends : (whole rest : List ℕ → Outcome (Found × Option Marker)) (next : Found) (met : Option Marker)
     (old cur mid new : Stream) (r : Result (Option Marker) Error)
     → (read : List ℕ → Outcome (Found × Option Marker)) → ((bytes : List ℕ) → rest bytes ≡ (read bytes >>= after_data))
     → Continues whole old rest cur → HasRead read cur (next, met) mid
-    → Answers (λ (m : Option Marker). m) (behind_all met) mid r new
+    → Answers (λ (m : Option Marker). m) (after_all met) mid r new
     → Answers (λ (m : Option Marker). (next, m)) whole old r new
 scan-ends whole rest next met old cur mid new r read is begun has ends =
-    last-step {X = Option Marker} (λ m. (next, m)) (λ m. m) whole (λ bytes. after_data ((next, met), bytes)) (behind_all met)
+    last-step {X = Option Marker} (λ m. (next, m)) (λ m. m) whole (λ bytes. after_data ((next, met), bytes)) (after_all met)
     old mid new r
     (λ m h. bind_at (λ (m : Option Marker × List ℕ). Ok ((next, m.0), m.1)) _ (m, new.bytes) h)
     (λ f h. bind_err (λ (m : Option Marker × List ℕ). Ok ((next, m.0), m.1)) _ f h) (
@@ -129,12 +162,6 @@ through : {A B C : Type 0} (o : Result A Fault) (s : A → Result C Fault) (r : 
 through (Ok x) s r t h = h x
 through (Err e) s r t h = refl
 
-through-test : {A B C : Type 0} (b : Bool) (o : Result A Fault) (s : A → Result C Fault) (r : A → Result B Fault)
-    (t : B → Result C Fault) → ((x : A) → s x ≡ (r x >>= t))
-    → ((if b then o else Err Malformed) >>= s) ≡ ((if b then (o >>= r) else Err Malformed) >>= t)
-through-test true o s r t h = through o s r t h
-through-test false o s r t h = refl
-
 -- the last steps, where a value is made of what is read
 through-made : {A B C D : Type 0} (o : Result A Fault) (made : A → B) (k : B → Result C Fault) (s : A → Result D Fault)
     (t : C → Result D Fault) → ((x : A) → s x ≡ (k (made x) >>= t))
@@ -144,22 +171,41 @@ through-made (Err e) made k s t h = refl
 
 data-parts : (found : Found) (frame : Frame) (scan : Scan) (bytes : List ℕ) (codings : List Coding)
     → (scan_arrays found frame scan codings bytes >>= (λ (read : (Arrays × Option Marker) × List ℕ).
-    behind_restarts (suc (length read.1)) read.0.1 read.1 >>= (λ (met : Option Marker × List ℕ).
-    Ok (record { found = behind_scan found frame scan codings read.0.0; before = scan_before found; met = met.0; ended = false }, met.1))))
+    after_restarts (suc (length read.1)) read.0.1 read.1 >>= (λ (met : Option Marker × List ℕ).
+    Ok (record { found = after_scan found frame scan codings read.0.0; before = scan_before found; met = met.0; ended = false }, met.1))))
     ≡ (after_codings found frame (pass_of scan) codings bytes >>= scan_turn found)
-unfolding scan_arrays scan_data behind_scan behind_all
+unfolding scan_arrays scan_data after_scan after_all
 data-parts found frame scan bytes codings =
     through-made _ _ after_data _ (scan_turn found) (λ (r : (Arrays × Option Marker) × List ℕ).
-    through (behind_restarts (suc (length r.1)) r.0.1 r.1) _ _ (scan_turn found) (λ met. refl))
+    through (after_restarts (suc (length r.1)) r.0.1 r.1) _ _ (scan_turn found) (λ met. refl))
+
+blocks-parts : (found : Found) (frame : Frame) (scan : Scan) (bytes : List ℕ)
+    → blocks_scan found frame scan bytes ≡ (blocks_read found frame scan bytes >>= scan_turn found)
+unfolding blocks_scan blocks_read codings_of
+blocks-parts found frame scan bytes =
+    through (codings_in_force found frame scan) _ _ (scan_turn found) (data-parts found frame scan bytes)
+
+samples-parts : (found : Found) (frame : Frame) (scan : Scan) (bytes : List ℕ)
+    → lossless_scan found frame scan bytes ≡ (samples_read found frame scan bytes >>= scan_turn found)
+unfolding lossless_scan samples_read after_all
+samples-parts found frame scan bytes =
+    through (lossless_codings found.huffman.dc frame scan.components scan.dc_places) _ _ (scan_turn found) (λ codings.
+    through (scan_samples found frame scan codings bytes) _ _ (scan_turn found) (λ (r : (List (List ℕ) × Option Marker) × List ℕ).
+    through (after_restarts (suc (length r.1)) r.0.1 r.1) _ _ (scan_turn found) (λ met. refl)))
+
+process-parts : (p : CodingProcess) (found : Found) (frame : Frame) (scan : Scan) (bytes : List ℕ)
+    → scan_by p found frame scan bytes ≡ (read_by p found frame scan bytes >>= scan_turn found)
+process-parts DctSequential found frame scan bytes = blocks-parts found frame scan bytes
+process-parts DctProgressive found frame scan bytes = blocks-parts found frame scan bytes
+process-parts Lossless found frame scan bytes = samples-parts found (without_factors frame) scan bytes
 
 -- A segment of a scan is a scan that is read.
 scan-parts : (found : Found) (bytes : List ℕ) → scan_segment found bytes ≡ (scan_read found bytes >>= scan_turn found)
-unfolding scan_segment scan_read codings_of
+unfolding scan_segment scan_read
 scan-parts found bytes =
     through (needed found.frame) _ _ (scan_turn found) (λ (frame : Frame).
     through (sos_at frame bytes) _ _ (scan_turn found) (λ (scan : Scan × List ℕ).
-    through-test (is_decoded frame.process) (codings_in_force found frame scan.0) _ _ (scan_turn found)
-    (data-parts found frame scan.0 scan.1)))
+    process-parts frame.process found frame scan.0 scan.1))
 
 pub scan-turned : (found next : Found) (met : Option Marker) (b : Before) (bytes rest : List ℕ)
     → scan_read found bytes ≡ Ok ((next, met), rest) → b ≡ scan_before found

@@ -5,7 +5,8 @@ use Rattle.jpeg_segments.specs.declared.parser.FrameInfo.{FrameInfo}
 use Rattle.jpeg_segments.specs.Frame.{Frame, sof_at}
 use Rattle.jpeg_segments.specs.FrameView.{frame_in}
 use Rattle.jpeg_segments.specs.Application.{Application, app_at}
-use Rattle.jpeg_decoder.specs.Stream.{Found, Metadata, onward, accepted, with_application, frame_segment, application_segment}
+use Rattle.jpeg_decoder.specs.Stream.{Found, Metadata, onward, accepted, with_application, frame_segment}
+use Rattle.jpeg_decoder.specs.Stream.{application_segment}
 
 pub no-frame : (o : Option FrameInfo) → is_some o ≡ false → is_some (option_map frame_in o) ≡ false
 no-frame None e = refl

@@ -1,4 +1,4 @@
--- What is held of coefficients before a pass and behind it, where they are given at the level of the pass.
+-- What is held of coefficients before a pass and after it, where they are given at the level of the pass.
 use Rattle.std.specs.Prelude.{◌≡◌, ℕ, suc, neg_ℤ, ◌*◌, ◌/◌, ◌^◌, ◌<◌, ◌==◌, true, false, List, length, map, ℤ, pos}
 use Rattle.std.specs.Prelude.{negsuc, ◌*ℤ◌, ◌≤ℤ◌, unsigned_abs}
 use Rattle.std.specs.List.{AllByRecursion}
@@ -43,9 +43,9 @@ pub record Suits (p : Pass) (old u : Block) : Type 0 where
   pub dc_range : InDcRange u.dc
   pub dc_fits : wrapped (scaled p.al u.dc) ≡ scaled p.al u.dc
 
--- The block behind the pass.
-abbrev pub behind_pass : Pass → Block → Block → Block
-behind_pass p old u = record {
+-- The block after the pass.
+abbrev pub after_pass : Pass → Block → Block → Block
+after_pass p old u = record {
   dc = elim (p.ss == 0) as (λ _. ℤ) [
     | true ↦ elim p.is_first as (λ _. ℤ) [ true ↦ scaled p.al u.dc | false ↦ or_bit p.al old.dc (low_bit u.dc) ]
     | false ↦ old.dc

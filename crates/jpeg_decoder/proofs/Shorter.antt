@@ -1,5 +1,6 @@
 -- What a reading of bytes leaves.
-use Rattle.std.proofs.Common.{◌≡◌, ◌≤◌, ◌<◌, ℕ, zero, suc, List, [], ◌∷◌, Ok, Err, Bool, true, false, Option, Some, None, length, arith}
+use Rattle.std.proofs.Common.{◌≡◌, ◌≤◌, ◌<◌, ℕ, zero, suc, List, [], ◌∷◌, Ok, Err, Bool, true, false, Option, Some}
+use Rattle.std.proofs.Common.{None, length, arith}
 use Rattle.std.specs.Prelude.{if◌then◌else◌}
 use Rattle.jpeg_bits.specs.Reading.{Outcome, Fault, ◌>>=◌, next_byte, next_u16, length_at, skip_at, times}
 use Rattle.jpeg_bits.specs.Marker.{next_marker, found_or, marker_at}

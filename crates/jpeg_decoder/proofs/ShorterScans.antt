@@ -1,5 +1,6 @@
 -- What a scan leaves.
-use Rattle.std.proofs.Common.{◌+◌, ◌-◌, ◌*◌, ◌/◌, ◌%◌, ◌^◌, ◌<◌, ℕ, zero, suc, List, [], ◌∷◌, take, drop, set, get_or, Bool, true, false, Option, Err, ℤ, pos, length}
+use Rattle.std.proofs.Common.{◌+◌, ◌-◌, ◌/◌, ◌%◌, ◌^◌, ◌<◌, ℕ, zero, suc, List, [], ◌∷◌, take, drop, set, get_or, Bool}
+use Rattle.std.proofs.Common.{true, false, Option, Err, ℤ, pos, length}
 use Rattle.std.specs.Prelude.{◌==◌, nat_le, nat_lt}
 use Rattle.jpeg_bits.specs.Reading.{Outcome, Malformed}
 use Rattle.jpeg_bits.specs.Entropy.{upcoming, fresh, marker_from, bits_from}
@@ -8,14 +9,19 @@ use Rattle.jpeg_bits.specs.Codes.{Table, symbol_from, code_from}
 use Rattle.jpeg_bits.specs.declared.marker.Marker.{Marker}
 use Rattle.jpeg_bits.specs.declared.tokens.Token.{Token}
 use Rattle.jpeg_bits.specs.declared.tokens.Token.TheVariants.{Value, Sixteen, Rest, Overlong}
-use Rattle.jpeg_bits.specs.Bands.{Band, category_number, difference, first_dc, token_at, token_from, behind_token, first_ac}
+use Rattle.jpeg_bits.specs.Bands.{Band, category_number, difference, first_dc, token_at, token_from, after_token}
+use Rattle.jpeg_bits.specs.Bands.{first_ac}
 use Rattle.jpeg_bits.specs.Passes.{Pass, Via, Block, dc_part, band_part, band_of, block_from, blocks_of}
-use Rattle.jpeg_bits.specs.Intervals.{interval, intervals, is_restart, blocks_before, predictors_at_start, first_group, other_groups}
-use Rattle.jpeg_bits.specs.Refinement.{is_zero, bit_of, moved, fits_i16, corrected_by, corrected, through_zero, refined_piece, refined_ac}
+use Rattle.jpeg_bits.specs.Intervals.{interval, intervals, is_restart, blocks_before, predictors_at_start, first_group}
+use Rattle.jpeg_bits.specs.Intervals.{other_groups}
+use Rattle.jpeg_bits.specs.Refinement.{is_zero, bit_of, moved, fits_i16, corrected_by, corrected, through_zero}
+use Rattle.jpeg_bits.specs.Refinement.{refined_piece, refined_ac}
 use Rattle.jpeg_decoder.specs.Order.{Spot}
 use Rattle.jpeg_decoder.specs.Scans.{Arrays, turns_of, arrays_at}
 use Rattle.jpeg_decoder.proofs.Shorter.{LeavesBelow, below-ok, below-err, below-bind}
-use Rattle.jpeg_decoder.proofs.ShorterTexts.{StaysBelow, bind-stays, gives-stays, refused-stays, elim-stays, bits-stays, signed-stays, code-stays, symbol-stays, texts-below, upcoming-below, marker_from-below}
+use Rattle.jpeg_decoder.proofs.ShorterTexts.{StaysBelow, bind-stays, gives-stays, refused-stays, elim-stays, bits-stays}
+use Rattle.jpeg_decoder.proofs.ShorterTexts.{signed-stays, code-stays, symbol-stays, texts-below, upcoming-below}
+use Rattle.jpeg_decoder.proofs.ShorterTexts.{marker_from-below}
 
 -- ---- blocks
 
@@ -50,11 +56,11 @@ unfolding token_from
 token_from-stays limit table room =
     bind-stays limit (code_from table) _ (code-stays limit table) (λ c. token_at-stays limit room c.0 (c.1 / 16) (c.1 % 16))
 
-behind-stays : (limit al : ℕ) (others : List ℤ → Reads Band) (rest : List ℤ) → ((rest : List ℤ) → StaysBelow limit (others rest)) → (token : Token) → StaysBelow limit (behind_token al others rest token)
-behind-stays limit al others rest h (Value r v) = bind-stays limit (others (drop (r + 1) rest)) _ (h (drop (r + 1) rest)) (λ more. gives-stays limit _)
-behind-stays limit al others rest h Sixteen = bind-stays limit (others (drop 16 rest)) _ (h (drop 16 rest)) (λ more. gives-stays limit _)
-behind-stays limit al others rest h (Rest run) = gives-stays limit _
-behind-stays limit al others rest h Overlong = gives-stays limit _
+after-stays : (limit al : ℕ) (others : List ℤ → Reads Band) (rest : List ℤ) → ((rest : List ℤ) → StaysBelow limit (others rest)) → (token : Token) → StaysBelow limit (after_token al others rest token)
+after-stays limit al others rest h (Value r v) = bind-stays limit (others (drop (r + 1) rest)) _ (h (drop (r + 1) rest)) (λ more. gives-stays limit _)
+after-stays limit al others rest h Sixteen = bind-stays limit (others (drop 16 rest)) _ (h (drop 16 rest)) (λ more. gives-stays limit _)
+after-stays limit al others rest h (Rest run) = gives-stays limit _
+after-stays limit al others rest h Overlong = gives-stays limit _
 
 first_ac-stays : (limit : ℕ) (table : Table) (al n : ℕ) (rest : List ℤ) → StaysBelow limit (first_ac table al n rest)
 unfolding first_ac
@@ -62,7 +68,7 @@ first_ac-stays limit table al n [] = gives-stays limit _
 first_ac-stays limit table al zero (x ∷ rest) = refused-stays Band limit
 first_ac-stays limit table al (suc n) (x ∷ rest) =
     bind-stays limit (token_from table (length (x ∷ rest))) _ (token_from-stays limit table (length (x ∷ rest)))
-    (behind-stays limit al (first_ac table al n) (x ∷ rest) (first_ac-stays limit table al n))
+    (after-stays limit al (first_ac table al n) (x ∷ rest) (first_ac-stays limit table al n))
 
 dc-stays : (limit : ℕ) (p : Pass) (dc : Table) (z predictor : ℤ) → StaysBelow limit (dc_part p dc z predictor)
 unfolding dc_part

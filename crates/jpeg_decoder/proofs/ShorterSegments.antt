@@ -1,17 +1,22 @@
 -- What the segments leave.
-use Rattle.std.proofs.Common.{◌+◌, ◌-◌, ◌*◌, ◌/◌, ◌%◌, ◌≤◌, ◌<◌, ℕ, zero, suc, List, [], ◌∷◌, ◌++◌, Bool, Option, Some, None, length, nat_lt, sum, arith}
+use Rattle.std.proofs.Common.{◌+◌, ◌-◌, ◌*◌, ◌/◌, ◌%◌, ◌≤◌, ◌<◌, ℕ, zero, suc, List, [], ◌∷◌, ◌++◌, Bool, Option, Some}
+use Rattle.std.proofs.Common.{None, length, nat_lt, sum, arith}
 use Rattle.std.specs.Prelude.{◌==◌, slice_index}
 use Rattle.jpeg_bits.specs.Reading.{next_byte, next_u16, length_at, skip_at, times}
 use Rattle.jpeg_bits.specs.declared.codes.HuffmanTableClass.{HuffmanTableClass}
-use Rattle.jpeg_segments.specs.Frame.{Frame, Factors, is_precision, is_count, is_factor, is_place, is_taken, is_lossless, size_at, head_at, parameters_at, factors_at, components_from, sof_at}
-use Rattle.jpeg_segments.specs.ScanHeader.{Selector, place_of, is_mcu, count_at, tables_at, tables_by, selector_at, selectors_from, band_at, sos_at}
-use Rattle.jpeg_segments.specs.Application.{Application, begins_with, adobe_name, transform_by, passed_over, adobe_by, adobe_at, application_14, payload_at, app_at, dri_at}
+use Rattle.jpeg_segments.specs.Frame.{Frame, Factors, is_precision, is_count, is_factor, is_place, is_taken}
+use Rattle.jpeg_segments.specs.Frame.{is_lossless, size_at, head_at, parameters_at, factors_at, components_from, sof_at}
+use Rattle.jpeg_segments.specs.ScanHeader.{Selector, place_of, is_mcu, count_at, tables_at, tables_by, selector_at}
+use Rattle.jpeg_segments.specs.ScanHeader.{selectors_from, band_at, sos_at}
+use Rattle.jpeg_segments.specs.Application.{Application, begins_with, adobe_name, transform_by, passed_over, adobe_by}
+use Rattle.jpeg_segments.specs.Application.{adobe_at, application_14, payload_at, app_at, dri_at}
 use Rattle.jpeg_segments.specs.declared.parser.AdobeColorTransform.{AdobeColorTransform}
 use Rattle.jpeg_segments.specs.Quantization as quantization
 use Rattle.jpeg_segments.specs.Quantization.{table_size, value_at, table_at, placed_table_at, dqt_at}
 use Rattle.jpeg_segments.specs.HuffmanTables as huffman
 use Rattle.jpeg_segments.specs.HuffmanTables.{symbols_at, codes_at, placed_codes_at, dht_at, greatest_place, class_of}
-use Rattle.jpeg_decoder.proofs.Shorter.{LeavesBelow, below-ok, below-err, below-cond, below-else, below-then, below-bind, byte-below, u16-below, length-below, skip-below, times-below}
+use Rattle.jpeg_decoder.proofs.Shorter.{LeavesBelow, below-ok, below-err, below-cond, below-else, below-then}
+use Rattle.jpeg_decoder.proofs.Shorter.{below-bind, byte-below, u16-below, length-below, skip-below, times-below}
 
 -- ---- frames
 

@@ -1,12 +1,16 @@
 -- What entropy-coded bits leave.
-use Rattle.std.proofs.Common.{◌≤◌, ◌<◌, ℕ, zero, suc, List, [], ◌∷◌, ◌++◌, drop, replicate, Result, Ok, Err, Bool, true, false, Option, Some, None, length, arith}
+use Rattle.std.proofs.Common.{◌≤◌, ◌<◌, ℕ, zero, suc, List, [], ◌∷◌, ◌++◌, drop, replicate, Result, Ok, Err, Bool, true}
+use Rattle.std.proofs.Common.{false, Option, Some, None, length, arith}
 use Rattle.std.specs.Prelude.{◌==◌, if◌then◌else◌}
 use Rattle.jpeg_bits.specs.Reading as reading
 use Rattle.jpeg_bits.specs.Reading.{Outcome, Fault}
-use Rattle.jpeg_bits.specs.Entropy.{Text, Ending, Found, Broken, no_bits, add_byte, ending_by, ending_of, filled_end, end_by, text_at, upcoming, fresh, advance, has_bits, bits_from, marker_from, marker_by}
+use Rattle.jpeg_bits.specs.Entropy.{Text, Ending, Found, Broken, no_bits, add_byte, ending_by, ending_of, filled_end}
+use Rattle.jpeg_bits.specs.Entropy.{end_by, text_at, upcoming, fresh, advance, has_bits, bits_from, marker_from}
+use Rattle.jpeg_bits.specs.Entropy.{marker_by}
 use Rattle.jpeg_bits.specs.Marker.{marker_of}
 use Rattle.jpeg_bits.specs.Readers.{Reads, read_on, ◌>>=◌, gives, refused, signed_from}
-use Rattle.jpeg_bits.specs.Codes.{Table, symbol_by, symbol_from, if_held, code_by, code_from, code_in, code_lengths, next_16}
+use Rattle.jpeg_bits.specs.Codes.{Table, symbol_by, symbol_from, if_held, code_by, code_from, code_in, code_lengths}
+use Rattle.jpeg_bits.specs.Codes.{next_16}
 use Rattle.jpeg_bits.specs.declared.ahead.DataEnd.{DataEnd}
 use Rattle.jpeg_bits.specs.declared.ahead.DataEnd.TheVariants as ends
 use Rattle.jpeg_bits.specs.declared.marker.Marker.{Marker}
@@ -94,41 +98,41 @@ marker_from-below limit t h = go t.places t.ending h.places h.ending
 
 -- ---- readers
 
--- behind a reader the text is below the limit
-unfoldable pub BehindIsBelow : {A : Type 0} → ℕ → Result (A × Text) Fault → Type 0
-BehindIsBelow limit (Ok x) = IsBelow limit x.1
-BehindIsBelow limit (Err fault) = Unit {0}
+-- after a reader the text is below the limit
+unfoldable pub AfterIsBelow : {A : Type 0} → ℕ → Result (A × Text) Fault → Type 0
+AfterIsBelow limit (Ok x) = IsBelow limit x.1
+AfterIsBelow limit (Err fault) = Unit {0}
 
 pub record StaysBelow {A : Type 0} (limit : ℕ) (p : Reads A) : Type 0 where
-  pub stays : (t : Text) → IsBelow limit t → BehindIsBelow limit (p t)
+  pub stays : (t : Text) → IsBelow limit t → AfterIsBelow limit (p t)
 
 pub bind-stays : {A B : Type 0} (limit : ℕ) (p : Reads A) (f : A → Reads B) → StaysBelow limit p → ((x : A) → StaysBelow limit (f x)) → StaysBelow limit (p >>= f)
-unfolding BehindIsBelow
+unfolding AfterIsBelow
 bind-stays {A} {B} limit p f h each = record { stays = λ t a. go (p t) (h.stays t a) }
   where
-    go : (r : Result (A × Text) Fault) → BehindIsBelow limit r → BehindIsBelow limit (read_on f r)
+    go : (r : Result (A × Text) Fault) → AfterIsBelow limit r → AfterIsBelow limit (read_on f r)
     go (Ok x) a = (each x.0).stays x.1 a
     go (Err fault) a = tt
 
 pub gives-stays : {A : Type 0} (limit : ℕ) (x : A) → StaysBelow limit (gives x)
-unfolding BehindIsBelow
+unfolding AfterIsBelow
 gives-stays limit x = record { stays = λ t a. a }
 
 pub refused-stays : (A : Type 0) (limit : ℕ) → StaysBelow {A = A} limit refused
-unfolding BehindIsBelow
+unfolding AfterIsBelow
 refused-stays A limit = record { stays = λ t a. tt }
 
 pub elim-stays : {A : Type 0} (limit : ℕ) (b : Bool) (p q : Reads A) → StaysBelow limit p → StaysBelow limit q → StaysBelow limit (elim b as (λ _. Reads A) [ true ↦ p | false ↦ q ])
 elim-stays limit true p q x y = x
 elim-stays limit false p q x y = y
 
-held-below : {A : Type 0} (limit : ℕ) (x : A) (t : Text) (r : Result (Unit {0}) Fault) → IsBelow limit t → BehindIsBelow limit (reading.◌>>=◌ r (λ _. Ok (x, t)))
-unfolding BehindIsBelow
+held-below : {A : Type 0} (limit : ℕ) (x : A) (t : Text) (r : Result (Unit {0}) Fault) → IsBelow limit t → AfterIsBelow limit (reading.◌>>=◌ r (λ _. Ok (x, t)))
+unfolding AfterIsBelow
 held-below limit x t (Ok u) h = h
 held-below limit x t (Err f) h = tt
 
-if_held-below : {A : Type 0} (limit : ℕ) (x : A) (t : Text) (r : Result (Unit {0}) Fault) → IsBelow limit t → BehindIsBelow limit (if_held x t r)
-unfolding BehindIsBelow
+if_held-below : {A : Type 0} (limit : ℕ) (x : A) (t : Text) (r : Result (Unit {0}) Fault) → IsBelow limit t → AfterIsBelow limit (if_held x t r)
+unfolding AfterIsBelow
 if_held-below limit x t (Ok u) h = h
 if_held-below limit x t (Err f) h = tt
 
@@ -141,23 +145,23 @@ unfolding signed_from
 signed-stays limit n = bind-stays limit (bits_from n) _ (bits-stays limit n) (λ v. gives-stays limit _)
 
 pub code-stays : (limit : ℕ) (table : Table) → StaysBelow limit (code_from table)
-unfolding code_from BehindIsBelow
+unfolding code_from AfterIsBelow
 code-stays limit table = record { stays = λ t a. go t a (code_in (code_lengths table.counts) (next_16 t.bits)) }
   where
-    go : (t : Text) → IsBelow limit t → (o : Option (ℕ × ℕ)) → BehindIsBelow limit (code_by table t o)
+    go : (t : Text) → IsBelow limit t → (o : Option (ℕ × ℕ)) → AfterIsBelow limit (code_by table t o)
     go t a None = tt
     go t a (Some c) = if_held-below limit _ (advance c.1 t) (has_bits c.1 t.bits t.ending) (advance-below limit c.1 t a)
 
 pub symbol-stays : (limit : ℕ) (table : Table) → StaysBelow limit (symbol_from table)
-unfolding symbol_from BehindIsBelow
+unfolding symbol_from AfterIsBelow
 symbol-stays limit table = record { stays = λ t a. go t a (code_in (code_lengths table.counts) (next_16 t.bits)) }
   where
-    go : (t : Text) → IsBelow limit t → (o : Option (ℕ × ℕ)) → BehindIsBelow limit (symbol_by table t o)
+    go : (t : Text) → IsBelow limit t → (o : Option (ℕ × ℕ)) → AfterIsBelow limit (symbol_by table t o)
     go t a None = tt
     go t a (Some c) = held-below limit _ (advance c.1 t) (has_bits c.1 t.bits t.ending) (advance-below limit c.1 t a)
 
 -- bits and then bytes
-pub texts-below : {A B : Type 0} (limit : ℕ) (r : Result (A × Text) Fault) (f : A × Text → Outcome B) → BehindIsBelow limit r → ((x : A × Text) → IsBelow limit x.1 → LeavesBelow limit (f x)) → LeavesBelow limit (reading.◌>>=◌ r f)
-unfolding BehindIsBelow
+pub texts-below : {A B : Type 0} (limit : ℕ) (r : Result (A × Text) Fault) (f : A × Text → Outcome B) → AfterIsBelow limit r → ((x : A × Text) → IsBelow limit x.1 → LeavesBelow limit (f x)) → LeavesBelow limit (reading.◌>>=◌ r f)
+unfolding AfterIsBelow
 texts-below limit (Ok x) f a h = h x a
 texts-below {A} {B} limit (Err fault) f a h = below-err B limit fault

@@ -159,14 +159,14 @@ sized-is width height f n = go f.process refl
 kept-in : (array : Coefficients) (f : Frame) (tail : List ℕ) (w final : Found) (levels last : ℕ → Levels) (sc : Bool)
     (m : Marker) (bytes : List ℕ) → WritesScans array f tail w levels sc m bytes final last → final.frame ≡ w.frame
 kept-in array f tail w final levels last sc m bytes
-    (segment w' next final' levels' last' sc' m' behind fill code payload more s q i r) =
-    kept-in array f tail next final levels last sc behind more r ∙ frame-kept w next m payload s
+    (segment w' next final' levels' last' sc' m' after fill code payload more s q i r) =
+    kept-in array f tail next final levels last sc after more r ∙ frame-kept w next m payload s
 kept-in array f tail w final levels last sc m bytes
-    (scan w' final' levels' last' sc' behind fill code header payload more s codings a l x i r) =
-    kept-in array f tail w final _ last true behind more r
+    (scan w' final' levels' last' sc' after fill code header payload more s codings a l x i r) =
+    kept-in array f tail w final _ last true after more r
 kept-in array f tail w final levels last sc m bytes (closed w' levels' t c) = refl
 
--- what is found behind the frame, and what stands there
+-- what is found after the frame, and what stands there
 pub record ReadHeader (array : Coefficients) (tail : List ℕ) (final : Found) (last : ℕ → Levels)
     (found : Outcome Found) : Type 0 where
   pub w : Found
@@ -175,13 +175,13 @@ pub record ReadHeader (array : Coefficients) (tail : List ℕ) (final : Found) (
   pub is_accepted : accepted frame ≡ Ok frame
   pub good : GoodTables w.huffman
   pub shape : Shaped frame
-  pub behind : Marker
+  pub after : Marker
   pub fill : ℕ
   pub code : ℕ
   pub more : List ℕ
-  pub is_marker : IsMarker code behind
+  pub is_marker : IsMarker code after
   pub is : found ≡ Ok (reading (at_frame w frame) false [] nothing_finished no_planes, marker fill code more)
-  pub written : WritesScans array frame tail (at_frame w frame) (λ k. nothing_sent) false behind more final last
+  pub written : WritesScans array frame tail (at_frame w frame) (λ k. nothing_sent) false after more final last
 
 header-by : (array : Coefficients) (tail : List ℕ) (final : Found) (last : ℕ → Levels) (one other : Outcome Found)
     → one ≡ other → ReadHeader array tail final last other → ReadHeader array tail final last one
@@ -194,7 +194,7 @@ header-by array tail final last one other e r =
       good = r.good;
       shape =
           r.shape;
-      behind = r.behind;
+      after = r.after;
       fill = r.fill;
       code = r.code;
       more = r.more;
@@ -224,7 +224,7 @@ pub reads-header : (array : Coefficients) (tail : List ℕ) (w final : Found) (l
     (segments_within turns true bf (reading w false [] nothing_finished no_planes) met all)
 reads-header array tail w final last m bytes zero bf met all good n r at room = absurd (omega arith)
 reads-header array tail w final last m bytes (suc turns) bf met all good n
-    (earlier w' next final' last' m' behind fill code payload more s i r) at room =
+    (earlier w' next final' last' m' after fill code payload more s i r) at room =
     let sizes = length-append payload (marker fill code more) in
     let fills = length-append (replicate fill 0xFF) (code ∷ more) in
     let now = reading w false [] nothing_finished no_planes in
@@ -232,11 +232,11 @@ reads-header array tail w final last m bytes (suc turns) bf met all good n
     (head-on turns bf now met all (marker fill code more) (onward (reading next false [] nothing_finished no_planes)) n
     (at.turn bf now ∙ segment-read w next m payload (marker fill code more) bf false [] nothing_finished no_planes s)
     refl)
-    (reads-header array tail next final last behind more turns Elsewhere None (marker fill code more)
-    (good-next w next m payload s good) (frame-kept w next m payload s ∙ n) r (stands-next fill code behind more i)
+    (reads-header array tail next final last after more turns Elsewhere None (marker fill code more)
+    (good-next w next m payload s good) (frame-kept w next m payload s ∙ n) r (stands-next fill code after more i)
     (omega arith))
 reads-header array tail w final last m bytes (suc turns) bf met all good n
-    (framing w' final' last' behind number fill code payload more f small a ok i r) at room =
+    (framing w' final' last' after number fill code payload more f small a ok i r) at room =
     let sizes = length-append payload (marker fill code more) in
     let fills = length-append (replicate fill 0xFF) (code ∷ more) in
     let now = reading w false [] nothing_finished no_planes in
@@ -249,7 +249,7 @@ reads-header array tail w final last m bytes (suc turns) bf met all good n
       frame = f;
       plain = sof-plain number (payload ++ []) (f, []) (a.accepted []);
       shape = all-shaped number payload f small a ok;
-      behind = behind;
+      after = after;
       fill = fill;
       code = code;
       more = more;
@@ -296,14 +296,14 @@ pub stream-means_sized : (width height : ℕ) (settings : Settings) (array : Coe
     → sized_meaning width height settings bytes
     ≡ meaning_of_array settings (sized_to width height final) array last tail
 stream-means_sized width height settings array tail bytes final last range
-    (stream behind fill code more final' last' i r) =
+    (stream after fill code more final' last' i r) =
     let all = marker fill code more in
     let fills = length-append (replicate fill 0xFF) (code ∷ more) in
     let head = header-by array tail final last _ _
     (header-so bytes all (starts-so all) ∙ header-within nothing_found all
     ∙ ap (λ (x : Found). segments_within (suc (length all)) true Elsewhere x None all) nothing-is)
-    (reads-header array tail nothing_found final last behind more
-    (suc (length all)) Elsewhere None all good-start no-frame r (stands-next fill code behind more i) (omega arith))
+    (reads-header array tail nothing_found final last after more
+    (suc (length all)) Elsewhere None all good-start no-frame r (stands-next fill code after more i) (omega arith))
     in
     let f = head.frame in
     let g = sized width height f in
@@ -314,15 +314,15 @@ stream-means_sized width height settings array tail bytes final last range
     let left = marker head.fill head.code head.more in
     let lefts = length-append (replicate head.fill 0xFF) (head.code ∷ head.more) in
     let end = reads-scans array g tail (at_frame w g) (at_frame final g)
-    (λ k. nothing_sent) last false head.behind head.more [] nothing_finished no_planes
+    (λ k. nothing_sent) last false head.after head.more [] nothing_finished no_planes
     (suc (length left)) Elsewhere None left
     range shape head.good refl (λ e k. refl)
     (framed-start (at_frame w g) g array [] nothing_finished no_planes range refl refl)
-    (scans-alike array f g tail w final (λ k. nothing_sent) last false head.behind head.more same refl head.written)
-    (stands-next head.fill head.code head.behind head.more head.is_marker) (omega arith) in
+    (scans-alike array f g tail w final (λ k. nothing_sent) last false head.after head.more same refl head.written)
+    (stands-next head.fill head.code head.after head.more head.is_marker) (omega arith) in
     let found = reading (at_frame final g) true end.held end.finished end.planes in
     let frame : final.frame ≡ Some f =
-    kept-in array f tail w final (λ k. nothing_sent) last false head.behind head.more head.written in
+    kept-in array f tail w final (λ k. nothing_sent) last false head.after head.more head.written in
     let told : sized_to width height final ≡ at_frame final g =
     ap (λ (o : Option Frame). record final { frame = option_map (sized width height) o }) frame in
     sized-by width height settings bytes left (reading w false [] nothing_finished no_planes) head.is
@@ -390,14 +390,14 @@ pub sized-taken : (width height : ℕ) (settings : Settings) (array : Coefficien
     → (picture : List ℕ) × (picture_of_array settings (sized_to width height final) array last ≡ Ok picture)
     × (sized_meaning width height settings bytes ≡ Ok ((told_of (sized_to width height final), picture), tail))
 sized-taken width height settings array tail bytes final last range
-    (stream behind fill code more final' last' i r) takes =
+    (stream after fill code more final' last' i r) takes =
     let all = marker fill code more in
     let fills = length-append (replicate fill 0xFF) (code ∷ more) in
     let head = header-by array tail final last _ _
     (header-so bytes all (starts-so all) ∙ header-within nothing_found all
     ∙ ap (λ (x : Found). segments_within (suc (length all)) true Elsewhere x None all) nothing-is)
-    (reads-header array tail nothing_found final last behind more
-    (suc (length all)) Elsewhere None all good-start no-frame r (stands-next fill code behind more i) (omega arith))
+    (reads-header array tail nothing_found final last after more
+    (suc (length all)) Elsewhere None all good-start no-frame r (stands-next fill code after more i) (omega arith))
     in
     let f = head.frame in
     let g = sized width height f in
@@ -408,14 +408,14 @@ sized-taken width height settings array tail bytes final last range
     let left = marker head.fill head.code head.more in
     let lefts = length-append (replicate head.fill 0xFF) (head.code ∷ head.more) in
     let end = reads-scans array g tail (at_frame w g) (at_frame final g)
-    (λ k. nothing_sent) last false head.behind head.more [] nothing_finished no_planes
+    (λ k. nothing_sent) last false head.after head.more [] nothing_finished no_planes
     (suc (length left)) Elsewhere None left
     range shape head.good refl (λ e k. refl)
     (framed-start (at_frame w g) g array [] nothing_finished no_planes range refl refl)
-    (scans-alike array f g tail w final (λ k. nothing_sent) last false head.behind head.more same refl head.written)
-    (stands-next head.fill head.code head.behind head.more head.is_marker) (omega arith) in
+    (scans-alike array f g tail w final (λ k. nothing_sent) last false head.after head.more same refl head.written)
+    (stands-next head.fill head.code head.after head.more head.is_marker) (omega arith) in
     let frame : final.frame ≡ Some f =
-    kept-in array f tail w final (λ k. nothing_sent) last false head.behind head.more head.written in
+    kept-in array f tail w final (λ k. nothing_sent) last false head.after head.more head.written in
     let told : sized_to width height final ≡ at_frame final g =
     ap (λ (o : Option Frame). record final { frame = option_map (sized width height) o }) frame in
     let first = accepted-sources f f head.is_accepted in
@@ -429,6 +429,6 @@ sized-taken width height settings array tail bytes final last range
       p.0,
       q,
       stream-means_sized width height settings array tail bytes final last range
-          (stream behind fill code more final last i r)
+          (stream after fill code more final last i r)
           ∙ then-ok (picture_of_array settings (sized_to width height final) array last) _ p.0 _ q refl,
     )

@@ -1,11 +1,13 @@
 -- The coding of the component in a slot of a scan, by the tables in force.
-use Rattle.std.proofs.Common.{◌≡◌, ◌<◌, ◌-◌, ℕ, zero, suc, List, [], ◌∷◌, Option, Some, None, Result, Ok, Err, Bool, true, false, refl, sym, ap, ◌∙◌, length, get_or, map, drop, replicate, arith, cond}
+use Rattle.std.proofs.Common.{◌≡◌, ◌<◌, ◌-◌, ℕ, zero, suc, List, [], ◌∷◌, Option, Some, None, Result, Ok, Err, Bool}
+use Rattle.std.proofs.Common.{true, false, refl, sym, ap, ◌∙◌, length, get_or, map, drop, replicate, arith, cond}
 use Rattle.std.specs.Prelude.{◌==◌, nat_lt}
 use Rattle.std.proofs.lemmas.Bool.Decides.{nat_tests}
 use Rattle.jpeg_bits.specs.Passes.{Pass}
 use Rattle.jpeg_bits.specs.Reading.{Fault, Malformed, Names, NamesFormat, ◌>>=◌}
 use Rattle.jpeg_bits.specs.Codes.{Table, is_ac}
-use Rattle.jpeg_bits.specs.DefaultTables.{luminance_dc, chrominance_dc, luminance_ac, chrominance_ac, filled, names, with_defaults}
+use Rattle.jpeg_bits.specs.DefaultTables.{luminance_dc, chrominance_dc, luminance_ac, chrominance_ac, filled, names}
+use Rattle.jpeg_bits.specs.DefaultTables.{with_defaults}
 use Rattle.jpeg_bits.specs.declared.codes.HuffmanTableClass.{HuffmanTableClass}
 use Rattle.jpeg_bits.specs.declared.codes.HuffmanTableClass.TheVariants as classes
 use Rattle.std.proofs.lemmas.Grind.{get_or_default_zero}
@@ -21,7 +23,8 @@ use Rattle.jpeg_segments.specs.HuffmanTables.{Tables, all_ac, is_ac_or_none}
 use Rattle.jpeg_decoder.specs.declared.codings.Spare.{Spare}
 use Rattle.jpeg_decoder.specs.declared.state.State.{State}
 use Rattle.jpeg_decoder.specs.Scans.{no_table}
-use Rattle.jpeg_decoder.specs.Stream.{Found, first_of, needed, needed_if, pass_of, tables_of, coding_of}
+use Rattle.jpeg_decoder.specs.Needed.{first_of, needed}
+use Rattle.jpeg_decoder.specs.Stream.{Found, needed_if, pass_of, tables_of, coding_of}
 use Rattle.jpeg_decoder.specs.Seen.{found_in}
 use Rattle.jpeg_decoder.specs.Steps.{IsRefusal, IsSpareOf, coding_in_slot, default_ac, in_force, or_spare, table_if}
 use Rattle.jpeg_decoder.proofs.Updates.{both}
@@ -154,15 +157,15 @@ needed-either : (needs : Bool) (class : HuffmanTableClass) (o : Option Table)
 needed-either true class o = refl
 needed-either false class o = refl
 
-some-behind : (n : ℕ) → nat_lt 0 (n - 1) ≡ nat_lt 1 n
-some-behind n = grind (arith, nat_tests)
+some-after : (n : ℕ) → nat_lt 0 (n - 1) ≡ nat_lt 1 n
+some-after n = grind (arith, nat_tests)
 
 -- the table that is needed of the component in a slot
 abbrev dc_of : Found → Scan → Spare → ℕ → Result Table Fault
 dc_of found scan spare place = table_if (scan.first == 0) spare.no_dc (in_force found.huffman.dc spare.dc place)
 
 abbrev ac_of : Found → Scan → Spare → ℕ → Result Table Fault
-ac_of found scan spare place = table_if (nat_lt 1 scan.behind) spare.no_ac (in_force found.huffman.ac spare.ac place)
+ac_of found scan spare place = table_if (nat_lt 1 scan.after) spare.no_ac (in_force found.huffman.ac spare.ac place)
 
 dc-needed : (found : Found) (scan : Scan) (spare : Spare) (place : ℕ) → IsSpareOf found scan spare
     → length found.huffman.dc ≡ 4
@@ -180,11 +183,11 @@ ac-needed : (found : Found) (scan : Scan) (spare : Spare) (place : ℕ) → IsSp
     ≡ ac_of found scan spare place
 unfolding pass_of
 ac-needed found scan spare place s e =
-    ap (needed_if (nat_lt 0 (scan.behind - 1)) classes.AC) (forced-ac found scan spare place s e)
-    ∙ needed-either (nat_lt 0 (scan.behind - 1)) classes.AC (in_force found.huffman.ac spare.ac place)
+    ap (needed_if (nat_lt 0 (scan.after - 1)) classes.AC) (forced-ac found scan spare place s e)
+    ∙ needed-either (nat_lt 0 (scan.after - 1)) classes.AC (in_force found.huffman.ac spare.ac place)
     ∙ ap (λ (b : Bool). table_if b (no_table classes.AC) (in_force found.huffman.ac spare.ac place))
-    (some-behind scan.behind)
-    ∙ ap (λ (t : Table). table_if (nat_lt 1 scan.behind) t (in_force found.huffman.ac spare.ac place)) (sym s.no_ac)
+    (some-after scan.after)
+    ∙ ap (λ (t : Table). table_if (nat_lt 1 scan.after) t (in_force found.huffman.ac spare.ac place)) (sym s.no_ac)
 
 -- what is there of the component in a slot, by the places of the header
 pub record HasComponent (found : Found) (frame : Frame) (scan : Scan) (spare : Spare) (slot index : ℕ)

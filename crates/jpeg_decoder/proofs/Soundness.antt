@@ -1,15 +1,16 @@
 -- The state between segments: frames that are decoded, at a scale, and what is kept from turn to turn.
-use Rattle.std.proofs.Common.{◌≡◌, ◌≤◌, ◌<◌, ℕ, ◌*◌, List, [], ◌∷◌, map, length, replicate, refl, ap, sym, ◌∙◌, subst, arith, Bool, true, false, Option, Some, None, Result, Ok, Err}
-use Rattle.std.specs.Prelude.{◌==◌, ◌||◌, ◌&&◌, not, min, All, is_some, if◌then◌else◌}
+use Rattle.std.proofs.Common.{◌≡◌, ◌≤◌, ◌<◌, ℕ, ◌*◌, List, [], ◌∷◌, length, replicate, refl, ap, sym, ◌∙◌, subst, arith}
+use Rattle.std.proofs.Common.{Bool, true, false, Option, Some, None, Result, Ok, Err}
+use Rattle.std.specs.Prelude.{◌==◌, ◌||◌, ◌&&◌, not, min, nat_le, is_some}
 use Rattle.std.specs.List.{AllByRecursion}
 use Rattle.std.proofs.Math.Bool.{cond}
-use Rattle.std.proofs.lemmas.Bool.{eqb-true}
+use Rattle.std.proofs.lemmas.Bool.{eqb-true, leb-true}
 use Rattle.std.proofs.lemmas.List.{length-map}
 use Rattle.std.proofs.lemmas.List.Elements.{recursion_from_All}
 use Rattle.jpeg_bits.specs.Reading.{Fault, Lacks, ◌>>=◌}
 use Rattle.jpeg_bits.specs.declared.error.UnsupportedFeature.TheVariants as features
 use Rattle.jpeg_segments.specs.Frame.{Frame, Component, Factors, IsFrame, IsInRange, frame_of}
-use Rattle.jpeg_segments.specs.Scales.{IsSizedFrame, frame_at, component_at, is_scale, scale_for, sized, sized_by}
+use Rattle.jpeg_segments.specs.Scales.{IsSizedFrame, frame_at, is_scale, scale_for, sized, sized_by}
 use Rattle.jpeg_segments.specs.declared.parser.CodingProcess.{CodingProcess}
 use Rattle.jpeg_segments.specs.declared.parser.CodingProcess.TheVariants.{DctSequential, DctProgressive, Lossless}
 use Rattle.std.specs.Prelude.{option_map}
@@ -17,8 +18,9 @@ use Rattle.jpeg_segments.proofs.ScaleLemmas.{full_frames, scaled_again, scale_fo
 use Rattle.jpeg_pixels.specs.Pictures.{Source, HasSources, sources_of}
 use Rattle.jpeg_decoder.specs.InTurn.{Fits, AreArrays}
 use Rattle.jpeg_decoder.specs.Scans.{zero_arrays}
-use Rattle.jpeg_decoder.specs.Stream.{Found, nothing_found, sized_to, accepted, is_arithmetic, is_precision, is_count, is_progressive, arrays_before}
-use Rattle.jpeg_decoder.specs.Sound.{HasDecodedFrame, IsUnread, IsDecodedFrame, IsPlaneOf, ArePlanes, IsSound}
+use Rattle.jpeg_decoder.specs.Stream.{Found, nothing_found, sized_to, accepted, is_arithmetic, is_precision, is_count}
+use Rattle.jpeg_decoder.specs.Stream.{is_progressive, arrays_before}
+use Rattle.jpeg_decoder.specs.Sound.{HasDecodedFrame, IsSampled, IsUnread, IsDecodedFrame, ArePlanes, IsSound}
 use Rattle.jpeg_decoder.proofs.Apart.{zeros-sized}
 use Rattle.jpeg_decoder.proofs.FrameFits.{scaled-frames-fit}
 use Rattle.jpeg_decoder.proofs.ScaledCovers.{frames-have-sources}
@@ -46,6 +48,43 @@ accepted-facts f g h =
     let c = unless-ok (not (is_precision f.process f.precision)) _ (Lacks (features.SamplePrecision f.precision)) g b.1 in
     let d = if-ok (is_count (length f.components)) (sources_of f.components f.output_width f.output_height >>= (λ sources. Ok f)) (Lacks (features.ComponentCount (min 255 (length f.components)))) g c.1 in
     (d.0, has-sources (sources_of f.components f.output_width f.output_height) f g d.1)
+
+both-hold : (a b : Bool) → (a && b) ≡ true → (a ≡ true) × (b ≡ true)
+both-hold true true h = (refl, refl)
+both-hold true false h = absurd (cc)
+both-hold false b h = absurd (cc)
+
+not-false : (b : Bool) → not b ≡ false → b ≡ true
+not-false true h = refl
+not-false false h = absurd (cc)
+
+-- a precision that the process can be decoded at
+accepted-precision : (f g : Frame) → accepted f ≡ Ok g → is_precision f.process f.precision ≡ true
+unfolding accepted
+accepted-precision f g h =
+    let a = unless-ok f.is_differential _ _ g h in
+    let b = unless-ok (is_arithmetic f.coding) _ (Lacks features.ArithmeticEntropyCoding) g a.1 in
+    not-false (is_precision f.process f.precision)
+    (unless-ok (not (is_precision f.process f.precision)) _ (Lacks (features.SamplePrecision f.precision)) g b.1).0
+
+-- Samples of lossless frames have at most 16 bits.
+pub decoded-precision : (f : Frame) → IsDecodedFrame f → f.process ≡ Lossless → f.precision ≤ 16
+unfolding frame_at
+decoded-precision f p e =
+    let process : p.full.process ≡ Lossless = ap (λ (x : Frame). x.process) (sym p.made) ∙ e in
+    let is : is_precision Lossless p.full.precision ≡ true =
+    ap (λ (x : CodingProcess). is_precision x p.full.precision) (sym process) ∙ accepted-precision p.full p.full p.is_accepted in
+    let most : p.full.precision ≤ 16 = leb-true p.full.precision 16 (both-hold (nat_le 2 p.full.precision) (nat_le p.full.precision 16) is).1 in
+    subst (λ (n : ℕ). n ≤ 16) (ap (λ (x : Frame). x.precision) (sym p.made)) most
+
+-- A frame has columns and lines.
+pub decoded-some : (f : Frame) → IsDecodedFrame f → (0 < f.width) × (0 < f.height)
+unfolding frame_at frame_of
+decoded-some f p =
+    let q = p.is_read in
+    let full : (0 < p.full.width) × (0 < p.full.height) =
+    subst (λ (x : Frame). (0 < x.width) × (0 < x.height)) (sym q.made) (q.some_width, q.some_height) in
+    subst (λ (x : Frame). (0 < x.width) × (0 < x.height)) (sym p.made) full
 
 scale-bounds : (s : ℕ) → is_scale s ≡ true → (0 < s) × (s ≤ 8)
 scale-bounds s h = go (s == 1) refl (s == 2) refl (s == 4) refl (s == 8) refl h
@@ -122,12 +161,14 @@ before-same : (old new : Found) (f : Frame) → new.scanned ≡ old.scanned → 
 unfolding arrays_before
 before-same old new f b c = rw (b, c) refl
 
-pub sound_kept : (old new : Found) → IsSound old → new.frame ≡ old.frame → new.scanned ≡ old.scanned → new.held ≡ old.held → new.planes ≡ old.planes → IsSound new
-sound_kept old new p a b c d = record {
+pub sound_kept : (old new : Found) → IsSound old → new.frame ≡ old.frame → new.scanned ≡ old.scanned → new.held ≡ old.held → new.planes ≡ old.planes
+    → new.samples ≡ old.samples → IsSound new
+sound_kept old new p a b c d s = record {
   frames = λ f e. p.frames f (sym a ∙ e);
   held = λ f e. subst (AreArrays f.components) (sym (before-same old new f b c)) (p.held f (sym a ∙ e));
   planes = λ f e. subst (ArePlanes f.components) (sym d) (p.planes f (sym a ∙ e));
-  unread = λ e. let q = p.unread (sym a ∙ e) in (b ∙ q.0, d ∙ q.1);
+  samples = λ f e. subst (AllByRecursion (IsSampled (f.width * f.height))) (sym s) (p.samples f (sym a ∙ e));
+  unread = λ e. let q = p.unread (sym a ∙ e) in (b ∙ q.0, d ∙ q.1, s ∙ q.2);
 }
 
 no-planes : (cs : List Component) → length cs ≤ 4 → ArePlanes cs (replicate 4 None)
@@ -148,12 +189,14 @@ zeros-before found x e = go (is_progressive x.process) found.scanned e
     go true false e = zeros-sized x.components
     go false s e = zeros-sized x.components
 
--- a frame behind which nothing was read yet
-pub sound-frame : (found : Found) (f : Frame) → IsDecodedFrame f → found.scanned ≡ false → found.planes ≡ replicate 4 None → IsSound (record found { frame = Some f })
-sound-frame found f p e n = record {
+-- a frame after which nothing was read yet
+pub sound-frame : (found : Found) (f : Frame) → IsDecodedFrame f → found.scanned ≡ false → found.planes ≡ replicate 4 None
+    → found.samples ≡ replicate 4 None → IsSound (record found { frame = Some f })
+sound-frame found f p e n s = record {
   frames = λ g h. subst IsDecodedFrame (some-same f g h) p;
   held = λ g h. subst (λ (x : Frame). AreArrays x.components (arrays_before (record found { frame = Some f }) x)) (some-same f g h) (zeros-before (record found { frame = Some f }) f e);
   planes = λ g h. subst (λ (x : Frame). ArePlanes x.components found.planes) (some-same f g h) (subst (ArePlanes f.components) (sym n) (no-planes f.components (count-few (length f.components) (decoded-count f p)).1));
+  samples = λ g h. subst (AllByRecursion (IsSampled (g.width * g.height))) (sym s) (tt, (tt, (tt, (tt, tt))));
   unread = λ h. absurd (none-some h);
 }
   where
@@ -164,7 +207,7 @@ sound-frame found f p e n = record {
     none-some h = cc
 
 pub sound-framed : (found : Found) (f : Frame) → IsSound found → is_some found.frame ≡ false → IsFrame f → accepted f ≡ Ok f → IsSound (record found { frame = Some f })
-sound-framed found f p e q a = let n = p.unread (none found.frame e) in sound-frame found f (decoded-read f q a) n.0 n.1
+sound-framed found f p e q a = let n = p.unread (none found.frame e) in sound-frame found f (decoded-read f q a) n.0 n.1 n.2
   where
     none : (o : Option Frame) → is_some o ≡ false → o ≡ None
     none None e = refl
@@ -178,7 +221,8 @@ sound-start = record {
   frames = λ f e. absurd (cc);
   held = λ f e. absurd (cc);
   planes = λ f e. absurd (cc);
-  unread = λ e. (refl, refl);
+  samples = λ f e. absurd (cc);
+  unread = λ e. (refl, refl, refl);
 }
 
 pub sound-nothing : (found : Found) → found ≡ nothing_found → IsSound found
@@ -222,8 +266,9 @@ sound_scaled width height old new e p u = subst IsSound (sym e) (go old.frame re
       frames = λ f k. absurd (cc);
       held = λ f k. absurd (cc);
       planes = λ f k. absurd (cc);
+      samples = λ f k. absurd (cc);
       unread = λ k. u;
     }
-    go (Some g) q = sound-frame old (sized width height g) (decoded-asked width height g (p.frames g q)) u.0 u.1
+    go (Some g) q = sound-frame old (sized width height g) (decoded-asked width height g (p.frames g q)) u.0 u.1 u.2
 
 pub ruleset scaled_rules = (sized_of, frames_scaled, sound_scaled)

@@ -34,20 +34,20 @@ one-less k high h =
     let e : high - k ≡ suc (high - (k + 1)) = omega arith in
     ap (range_with_len k) e
 
-behind : Pass → List Via → ℕ → List Coding → List (List (List Spot)) → List (List ℕ) → Counted → Reads (List (List ℕ))
-behind p vias n codings rows planes r = strips_from p vias n codings rows
+after : Pass → List Via → ℕ → List Coding → List (List (List Spot)) → List (List ℕ) → Counted → Reads (List (List ℕ))
+after p vias n codings rows planes r = strips_from p vias n codings rows
     (with_strips codings r.reached.arrays planes) (with_arrays [] r)
 
 strips-more : (p : Pass) (vias : List Via) (n : ℕ) (codings : List Coding) (f : ℕ
     → List (List Spot)) (k high : ℕ) (planes : List (List ℕ)) (zeros : Arrays) (old : Counted) (t : Text)
     → k < high → zeros ≡ zero_rows 1 (components_of codings)
     → strips_from p vias n codings (map f (range_with_len k (high - k))) planes old t
-    ≡ read_on (behind p vias n codings (map f (range_with_len (k + 1) (high - (k + 1)))) planes) (mcus_from p vias n
+    ≡ read_on (after p vias n codings (map f (range_with_len (k + 1) (high - (k + 1)))) planes) (mcus_from p vias n
     (f k) (with_arrays zeros old) t)
-unfolding strips_from behind
+unfolding strips_from after
 strips-more p vias n codings f k high planes zeros old t h e =
     ap (λ (l : List ℕ). strips_from p vias n codings (map f l) planes old t) (one-less k high h)
-    ∙ ap (λ (z : Arrays). read_on (behind p vias n codings (map f (range_with_len (k + 1) (high - (k + 1)))) planes)
+    ∙ ap (λ (z : Arrays). read_on (after p vias n codings (map f (range_with_len (k + 1) (high - (k + 1)))) planes)
     (mcus_from p vias n (f k) (with_arrays z old) t)) (sym e)
 
 pub strips_step : (p : Pass) (vias : List Via) (n : ℕ) (codings : List Coding) (f : ℕ
@@ -57,10 +57,10 @@ pub strips_step : (p : Pass) (vias : List Via) (n : ℕ) (codings : List Coding)
     → strips_from p vias n codings (map f (range_with_len k (high - k))) planes old t
     ≡ strips_from p vias n codings (map f (range_with_len (k + 1) (high - (k + 1))))
     (with_strips codings new.reached.arrays planes) (with_arrays [] new) u
-unfolding behind
+unfolding after
 strips_step p vias n codings f k high planes zeros old new t u h e r =
     strips-more p vias n codings f k high planes zeros old t h e
-    ∙ ap (read_on (behind p vias n codings (map f (range_with_len (k + 1) (high - (k + 1)))) planes)) r
+    ∙ ap (read_on (after p vias n codings (map f (range_with_len (k + 1) (high - (k + 1)))) planes)) r
 
 pub strips_refused : (p : Pass) (vias : List Via) (n : ℕ) (codings : List Coding) (f : ℕ
     → List (List Spot)) (k high : ℕ) (planes : List (List ℕ)) (zeros : Arrays) (old : Counted) (t : Text)
@@ -70,7 +70,7 @@ pub strips_refused : (p : Pass) (vias : List Via) (n : ℕ) (codings : List Codi
     → strips_from p vias n codings (map f (range_with_len k (high - k))) planes old t ≡ Err fault
 strips_refused p vias n codings f k high planes zeros old t fault h e r =
     strips-more p vias n codings f k high planes zeros old t h e
-    ∙ ap (read_on (behind p vias n codings (map f (range_with_len (k + 1) (high - (k + 1)))) planes)) r
+    ∙ ap (read_on (after p vias n codings (map f (range_with_len (k + 1) (high - (k + 1)))) planes)) r
 
 pub strips_none : (p : Pass) (vias : List Via) (n : ℕ) (codings : List Coding) (f : ℕ
     → List (List Spot)) (k high : ℕ) (planes : List (List ℕ)) (old : Counted) (t : Text)

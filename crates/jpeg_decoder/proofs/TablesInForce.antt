@@ -19,12 +19,13 @@ use Rattle.jpeg_segments.specs.HuffmanTables.{Tables, no_tables, PlacedTable, cl
 use Rattle.jpeg_segments.specs.HuffmanTables.{placed_codes_at, with_table, greatest_place, tables_from, dht_at}
 use Rattle.jpeg_bits.specs.Passes.{Pass}
 use Rattle.jpeg_decoder.specs.Scans.{no_table}
-use Rattle.jpeg_decoder.specs.Stream.{Found, Coding, needed, needed_if, first_of, updated, tables_of, coding_of}
-use Rattle.jpeg_decoder.specs.Stream.{codings_from, codings_of, pass_of, is_decoded, nothing_found}
+use Rattle.jpeg_decoder.specs.Needed.{first_of, needed}
+use Rattle.jpeg_decoder.specs.Stream.{Found, Coding, needed_if, updated, tables_of, coding_of}
+use Rattle.jpeg_decoder.specs.Stream.{codings_from, codings_of, pass_of, nothing_found}
 use Rattle.jpeg_decoder.proofs.AcceptedStreams.{WritesSegment}
 use Rattle.jpeg_decoder.proofs.AcceptedStreams.WritesSegment.{quantization, huffman, restart, application, comment}
 use Rattle.jpeg_decoder.proofs.WrittenFrameScans.{no-codes}
-use Rattle.jpeg_decoder.proofs.AcceptedTurns.{err-ok, ok-same, bind-ok, needed-some, codings-by}
+use Rattle.jpeg_decoder.proofs.AcceptedTurns.{ok-same, bind-ok, needed-some, codings-by}
 use Rattle.jpeg_decoder.proofs.FrameShapes.{if-ok, unless-ok}
 
 abbrev pub IsGoodOr : Option Table → Type 0
@@ -233,9 +234,6 @@ codings-good_from w f p tables (x ∷ places) (d ∷ ds) (a ∷ ks) codings good
 -- The tables of a scan exist.
 pub codings-good : (w : Found) (f : Frame) (s : Scan) (codings : List Coding) → GoodTables w.huffman
     → codings_of w f s ≡ Ok codings → AllByRecursion (λ c. IsTable c.dc × IsTable c.ac) codings
-codings-good w f s codings good e = go (is_decoded f.process) refl
-  where
-    go : (b : Bool) → is_decoded f.process ≡ b → AllByRecursion (λ c. IsTable c.dc × IsTable c.ac) codings
-    go true h = codings-good_from w f (pass_of s) (tables_of w s) s.components s.dc_places s.ac_places codings
-        (in-force w s good) (sym (codings-by w f s true h) ∙ e)
-    go false h = absurd (err-ok Malformed codings (sym (codings-by w f s false h) ∙ e))
+codings-good w f s codings good e =
+    codings-good_from w f (pass_of s) (tables_of w s) s.components s.dc_places s.ac_places codings
+    (in-force w s good) (sym (codings-by w f s) ∙ e)

@@ -5,7 +5,8 @@ use Rattle.jpeg_bits.specs.declared.error.Error.{Error}
 use Rattle.jpeg_bits.specs.declared.error.Error.TheVariants as errors
 use Rattle.jpeg_decoder.specs.States.{IfRefused, OnTold}
 use Rattle.jpeg_bits.specs.Reading.{Fault, Outcome}
-use Rattle.jpeg_decoder.specs.Stream.{Told, told_of, nothing_found, start_at, told_rest, told_by_stream, told_within, told_in_turns, told_by_turns}
+use Rattle.jpeg_decoder.specs.Stream.{Told, told_of, nothing_found, start_at, told_rest, told_by_stream, told_within}
+use Rattle.jpeg_decoder.specs.Stream.{told_in_turns, told_by_turns}
 
 pub told-no_start : (header : Bool) (bytes : List ℕ) (fault : Fault) → start_at bytes ≡ Err fault → told_by_stream header bytes ≡ told_of nothing_found
 unfolding told_by_stream
@@ -27,7 +28,7 @@ pub told-through : {X : Type 0} (old mid new : Stream) (r : Result X Error) (P Q
 told-through old mid new (Ok x) P Q f h = λ k. let a = f k in a.1 (h a.0)
 told-through old mid new (Err e) P Q f h = λ k known. let a = f k in refused-through e P Q a.1 (h a.0 known)
 
--- ---- so many turns
+-- ---- this many turns
 
 pub turns-none : (header : Bool) (bytes : List ℕ) → told_by_turns 0 header bytes ≡ told_of nothing_found
 unfolding told_by_turns told_within nothing_found

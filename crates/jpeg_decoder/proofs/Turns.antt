@@ -1,24 +1,35 @@
 -- The segments of a stream, a turn at a time.
-use Rattle.std.proofs.Common.{◌≡◌, ◌≤◌, ◌<◌, ℕ, zero, suc, List, Result, Ok, Err, Bool, true, false, Option, Some, None, refl, ◌∙◌, length, arith}
+use Rattle.std.proofs.Common.{◌≡◌, ◌≤◌, ◌<◌, ℕ, zero, suc, List, Result, Ok, Err, Bool, true, false, Option, Some, None}
+use Rattle.std.proofs.Common.{refl, ◌∙◌, length, arith}
 use Rattle.std.specs.Prelude.{if◌then◌else◌, ◌&&◌, is_some, option_map}
 use Rattle.std.proofs.Math.Bool.{cond}
 use Rattle.jpeg_bits.specs.Reading.{Outcome, Fault, Malformed, ◌>>=◌, length_at, skip_at}
 use Rattle.jpeg_bits.specs.Marker.{next_marker}
 use Rattle.jpeg_bits.specs.declared.marker.Marker.{Marker}
-use Rattle.jpeg_bits.specs.declared.marker.Marker.TheVariants.{SOF, JPG, DHT, DAC, RST, SOI, EOI, SOS, DQT, DNL, DRI, DHP, EXP, APP, JPGn, COM, TEM, RES}
-use Rattle.jpeg_segments.specs.Frame.{sof_at}
-use Rattle.jpeg_segments.specs.ScanHeader.{sos_at}
+use Rattle.jpeg_bits.specs.declared.marker.Marker.TheVariants.{SOF, JPG, DHT, DAC, RST, SOI, EOI, SOS, DQT, DNL, DRI}
+use Rattle.jpeg_bits.specs.declared.marker.Marker.TheVariants.{DHP, EXP, APP, JPGn, COM, TEM, RES}
+use Rattle.jpeg_segments.specs.Frame.{Frame, sof_at}
+use Rattle.jpeg_segments.specs.ScanHeader.{Scan, sos_at}
+use Rattle.jpeg_segments.specs.declared.parser.CodingProcess.{CodingProcess}
+use Rattle.jpeg_segments.specs.declared.parser.CodingProcess.TheVariants.{DctSequential, DctProgressive, Lossless}
+use Rattle.jpeg_decoder.specs.LosslessScans.{lossless_codings, without_factors}
 use Rattle.jpeg_segments.specs.Quantization.{dqt_at}
 use Rattle.jpeg_segments.specs.HuffmanTables.{dht_at}
 use Rattle.jpeg_segments.specs.Application.{app_at, dri_at}
 use Rattle.jpeg_decoder.specs.declared.state.Before.{Before}
 use Rattle.jpeg_decoder.specs.declared.state.Before.TheVariants.{FirstScan, LaterScan, Elsewhere}
-use Rattle.jpeg_decoder.specs.Stream.{Found, Turn, onward, needed, accepted, codings_of, scan_arrays, behind_restarts, frame_segment, quantization_segment, huffman_segment, restart_segment, application_segment, skipped_segment, scan_segment, end_segment, stray_restart, line_count, segment_at, turn_at, segments_within, segments_at, told_within, told_at}
+use Rattle.jpeg_decoder.specs.Needed.{needed}
+use Rattle.jpeg_decoder.specs.Stream.{Found, Turn, onward, accepted, blocks_scan, codings_of, lossless_scan}
+use Rattle.jpeg_decoder.specs.Stream.{scan_arrays, scan_by, scan_samples, after_restarts, frame_segment}
+use Rattle.jpeg_decoder.specs.Stream.{quantization_segment, huffman_segment, restart_segment, application_segment}
+use Rattle.jpeg_decoder.specs.Stream.{skipped_segment, scan_segment, end_segment, stray_restart, line_count, segment_at}
+use Rattle.jpeg_decoder.specs.Stream.{turn_at, segments_within, segments_at, told_within, told_at}
 use Rattle.jpeg_decoder.specs.Steps.{is_restart}
 use Rattle.jpeg_decoder.proofs.Shorter.{LeavesBelow, length-below, skip-below, marker-below}
 use Rattle.jpeg_decoder.proofs.ShorterSegments.{sof-below, dqt-below, dht-below, sos-below, app-below, dri-below}
 use Rattle.jpeg_decoder.proofs.ShorterScans.{arrays-below}
-use Rattle.jpeg_decoder.proofs.PassedRestarts.{Passes, behind-passes, bind-same}
+use Rattle.jpeg_decoder.proofs.ShorterSamples.{samples-below}
+use Rattle.jpeg_decoder.proofs.PassedRestarts.{Passes, after-passes, bind-same}
 
 -- ---- what a turn takes
 
@@ -94,15 +105,36 @@ skipped-goes limit found bytes h =
     goes-bind limit limit (length_at bytes) _ (length-below limit bytes h) (λ n p.
     goes-bind limit limit (skip_at n.0 n.1) _ (skip-below limit n.0 n.1 p) (λ u q. goes-onward limit found u.1 q))
 
+blocks-go : (limit : ℕ) (found : Found) (frame : Frame) (scan : Scan) (bytes : List ℕ) → length bytes < limit
+    → GoesBelow limit (blocks_scan found frame scan bytes)
+unfolding blocks_scan scan_arrays
+blocks-go limit found frame scan bytes p =
+    goes-needs limit (codings_of found frame scan) _ (λ codings.
+    goes-bind limit limit (scan_arrays found frame scan codings bytes) _ (arrays-below limit _ _ _ _ _ bytes p) (λ read q.
+    goes-passes limit (after_restarts (suc (length read.1)) read.0.1 read.1) _ (after-passes limit read.0.1 read.1 q) (λ met r e.
+    goes-ok limit _ met.1 r e)))
+
+samples-go : (limit : ℕ) (found : Found) (frame : Frame) (scan : Scan) (bytes : List ℕ) → length bytes < limit
+    → GoesBelow limit (lossless_scan found frame scan bytes)
+unfolding lossless_scan
+samples-go limit found frame scan bytes p =
+    goes-needs limit (lossless_codings found.huffman.dc frame scan.components scan.dc_places) _ (λ codings.
+    goes-bind limit limit (scan_samples found frame scan codings bytes) _ (samples-below limit _ _ _ _ bytes p) (λ read q.
+    goes-passes limit (after_restarts (suc (length read.1)) read.0.1 read.1) _ (after-passes limit read.0.1 read.1 q) (λ met r e.
+    goes-ok limit _ met.1 r e)))
+
+process-goes : (limit : ℕ) (p : CodingProcess) (found : Found) (frame : Frame) (scan : Scan) (bytes : List ℕ) → length bytes < limit
+    → GoesBelow limit (scan_by p found frame scan bytes)
+process-goes limit DctSequential found frame scan bytes h = blocks-go limit found frame scan bytes h
+process-goes limit DctProgressive found frame scan bytes h = blocks-go limit found frame scan bytes h
+process-goes limit Lossless found frame scan bytes h = samples-go limit found (without_factors frame) scan bytes h
+
 scan-goes : (limit : ℕ) (found : Found) (bytes : List ℕ) → length bytes ≤ limit → GoesBelow limit (scan_segment found bytes)
-unfolding scan_segment scan_arrays
+unfolding scan_segment
 scan-goes limit found bytes h =
     goes-needs limit (needed found.frame) _ (λ frame.
     goes-bind limit limit (sos_at frame bytes) _ (sos-below limit frame bytes h) (λ scan p.
-    goes-needs limit (codings_of found frame scan.0) _ (λ codings.
-    goes-bind limit limit (scan_arrays found frame scan.0 codings scan.1) _ (arrays-below limit _ _ _ _ _ scan.1 p) (λ read q.
-    goes-passes limit (behind_restarts (suc (length read.1)) read.0.1 read.1) _ (behind-passes limit read.0.1 read.1 q) (λ met r e.
-    goes-ok limit _ met.1 r e)))))
+    process-goes limit frame.process found frame scan.0 scan.1 p))
 
 end-goes : (limit : ℕ) (found : Found) (bytes : List ℕ) → GoesBelow limit (end_segment found bytes)
 unfolding end_segment GoesBelow
@@ -149,7 +181,8 @@ turn-goes before found (Some m) bytes none = segment-goes (length bytes) m befor
 turn-goes before found None bytes none =
     goes-bind (length bytes) (length bytes) (next_marker bytes) _ (marker-below bytes) (λ m p. segment-goes (length bytes) m.0 before found m.1 (omega arith) (λ _. p))
 
--- A turn behind which the image goes on takes at least one byte, where no restart marker is met; and none is met behind it.
+-- A turn after which the image goes on takes at least one byte, where no restart marker is met; and none is met after
+-- it.
 pub turn-takes : (before : Before) (found : Found) (met : Option Marker) (bytes : List ℕ) (r : Turn × List ℕ) → is_restart met ≡ false → turn_at before found met bytes ≡ Ok r → r.0.ended ≡ false
     → (length r.1 < length bytes) × (is_restart r.0.met ≡ false)
 turn-takes before found met bytes r none e = goes-at (length bytes) (turn_at before found met bytes) r (turn-goes before found met bytes none) e
@@ -192,7 +225,7 @@ told-enough (suc m) (suc n) header before found met bytes none p q =
     let less : length t.1 < length bytes = took.0 in
     told-enough m n header t.0.before t.0.found t.0.met t.1 took.1 (omega arith) (omega arith))))
 
--- the segments are one turn and then the segments behind it
+-- the segments are one turn and then the segments after it
 pub segments-turn : (header : Bool) (before : Before) (found : Found) (met : Option Marker) (bytes : List ℕ) → is_restart met ≡ false
     → segments_at header before found met bytes ≡ (if header && is_some found.frame then Ok (found, bytes) else
     (turn_at before found met bytes >>= λ (t : Turn × List ℕ). if t.0.ended then Ok (t.0.found, t.1) else segments_at header t.0.before t.0.found t.0.met t.1))
@@ -253,7 +286,7 @@ pub told-next : (header : Bool) (before : Before) (found : Found) (met : Option 
     → turn_at before found met bytes ≡ Ok (t, rest) → told_at header before found met bytes ≡ told_at header t.before t.found t.met rest
 told-next header before found met bytes rest t none p e q = told-turn header before found met bytes none ∙ rw (p, q, e) refl
 
--- ---- so many turns
+-- ---- this many turns
 
 pub within-none : (header : Bool) (before : Before) (found : Found) (met : Option Marker) (bytes : List ℕ) → told_within 0 header before found met bytes ≡ found
 unfolding told_within

@@ -17,7 +17,8 @@ use Rattle.std.specs.Prelude.{option_map}
 use Rattle.jpeg_segments.specs.declared.parser.CodingProcess.{CodingProcess}
 use Rattle.jpeg_segments.specs.declared.parser.CodingProcess.TheVariants.{DctSequential, DctProgressive, Lossless}
 use Rattle.jpeg_segments.specs.Scales.{frame_at, sized_by, sized}
-use Rattle.jpeg_decoder.specs.Stream.{Found, needed, picture_by, is_progressive, sized_to}
+use Rattle.jpeg_decoder.specs.Needed.{needed}
+use Rattle.jpeg_decoder.specs.Stream.{Found, picture_by, is_progressive, sized_to}
 use Rattle.jpeg_decoder.specs.WrittenScans.{Coefficients, IsComplete}
 use Rattle.jpeg_decoder.specs.ArrayPictures.{plane_of_array, planes_of_array, picture_of_array, meaning_of_array}
 use Rattle.jpeg_decoder.specs.Stream.{told_of}
@@ -81,10 +82,10 @@ plane-whole c table l array done h =
     (λ row column. ap (λ (b : Block). coefficients_in_block_order (listed b))
     (cut-whole l (array row column) done (h row column)))
 
-pub same-behind : {A B : Type 0} (o : Result A Fault) (f g : A → Result B Fault) → ((x : A) → f x ≡ g x)
+pub same-after : {A B : Type 0} (o : Result A Fault) (f g : A → Result B Fault) → ((x : A) → f x ≡ g x)
     → (o >>= f) ≡ (o >>= g)
-same-behind (Ok x) f g h = h x
-same-behind (Err e) f g h = refl
+same-after (Ok x) f g h = h x
+same-after (Err e) f g h = refl
 
 planes-whole : (said : Found) (array : Coefficients) (levels : ℕ → Levels) (place : ℕ) (cs : List Component)
     → AllByRecursion (λ k. IsComplete (levels k)) (range_with_len place (length cs))
@@ -93,7 +94,7 @@ planes-whole : (said : Found) (array : Coefficients) (levels : ℕ → Levels) (
 unfolding planes_of_array planes_whole
 planes-whole said array levels place [] done h = refl
 planes-whole said array levels place (c ∷ cs) done h =
-    same-behind (needed (slice_index_or said.quantization c.factors.quantization None)) _ _ (λ table.
+    same-after (needed (slice_index_or said.quantization c.factors.quantization None)) _ _ (λ table.
     ap₂ (λ (plane : List ℕ) (o : Result (List (List ℕ)) Fault). o >>=
     (λ (others : List (List ℕ)). Ok (plane ∷ others)))
     (plane-whole c table (levels place) (array place) done.0 (h place))
@@ -151,7 +152,7 @@ pub whole-is : (settings : Settings) (array : Coefficients) (bytes tail : List �
     → WritesImage array bytes final last → final.frame ≡ Some frame → AllComplete frame last
     → meaning_of_array settings final array last tail ≡ whole_meaning settings final array tail
 whole-is settings array bytes tail final last frame range w e done =
-    let sized = levels-sized array _ final _ last false w.behind w.written (λ k. refl) in
+    let sized = levels-sized array _ final _ last false w.after w.written (λ k. refl) in
     ap (λ (o : Result (List ℕ) Fault). o >>= (λ (picture : List ℕ). Ok ((told_of final, picture), tail)))
     (picture-whole settings final array last frame e done (λ k row column. (range k row column).count ∙ sym (sized k)))
 
@@ -159,7 +160,7 @@ pub sequential-whole : (array : Coefficients) (bytes : List ℕ) (final : Found)
     → WritesImage array bytes final last → final.frame ≡ Some frame
     → is_progressive frame.process ≡ false → AllComplete frame last
 sequential-whole array bytes final last frame w e n =
-    sequential-complete array _ final _ last false w.behind frame w.written e n
+    sequential-complete array _ final _ last false w.after frame w.written e n
 
 -- ---- at a scale
 
@@ -176,7 +177,7 @@ pub sized-whole : (width height : ℕ) (settings : Settings) (array : Coefficien
     → meaning_of_array settings (sized_to width height final) array last tail
     ≡ whole_meaning settings (sized_to width height final) array tail
 sized-whole width height settings array bytes tail final last frame range w e done =
-    let lengths = levels-sized array _ final _ last false w.behind w.written (λ k. refl) in
+    let lengths = levels-sized array _ final _ last false w.after w.written (λ k. refl) in
     let count = sized-count width height frame.process frame in
     ap (λ (o : Result (List ℕ) Fault). o >>=
     (λ (picture : List ℕ). Ok ((told_of (sized_to width height final), picture), tail)))

@@ -9,7 +9,7 @@ use Rattle.jpeg_bits.specs.Intervals.{intervals, groups, first_group, other_grou
 use Rattle.jpeg_decoder.specs.Order.{Spot}
 use Rattle.jpeg_decoder.specs.Scans.{Arrays, put_blocks, turns_of, arrays_at, via_at, block_at}
 use Rattle.jpeg_decoder.specs.InTurn.{intervals_from, IsIn, AreApart, IsInside}
-use Rattle.jpeg_decoder.proofs.InTurn.{put_behind, all_of, intervals-in-turn}
+use Rattle.jpeg_decoder.proofs.InTurn.{put_after, all_of, intervals-in-turn}
 
 groups-whole : (turns n : ℕ) (xs : List Spot) → length xs ≤ turns → all_of (groups turns (suc n) xs) ≡ xs
 unfolding groups
@@ -74,15 +74,15 @@ scans-in-turn p n vias spots arrays bytes apart inside =
     sym (intervals-in-turn p vias 0 (first_group n spots) (other_groups n spots) arrays bytes
     (subst (λ (l : List Spot). AreApart l) (sym whole) apart)
     (λ q t. inside q (subst (λ (l : List Spot). IsIn q l) whole t))
-    ∙ ap (λ (l : List Spot). put_behind l arrays
+    ∙ ap (λ (l : List Spot). put_after l arrays
     (intervals p 0 (map turn (first_group n spots)) (map (map turn) (other_groups n spots)) bytes)) whole
-    ∙ ap (λ (l : List (Via × Block)). put_behind spots arrays
+    ∙ ap (λ (l : List (Via × Block)). put_after spots arrays
     (intervals p 0 l (map (map turn) (other_groups n spots)) bytes)) (first-map turn n spots)
-    ∙ ap (λ (l : List (List (Via × Block))). put_behind spots arrays
+    ∙ ap (λ (l : List (List (Via × Block))). put_after spots arrays
     (intervals p 0 (first_group n (map turn spots)) l bytes)) (others-map turn n spots)
     ∙ go (intervals p 0 (first_group n (map turn spots)) (other_groups n (map turn spots)) bytes))
   where
-    go : (o : Outcome (List Block × Option Marker)) → put_behind spots arrays o
+    go : (o : Outcome (List Block × Option Marker)) → put_after spots arrays o
         ≡ reading.◌>>=◌ o (λ (r : (List Block × Option Marker) × List ℕ). Ok
         ((put_blocks spots r.0.0 arrays, r.0.1), r.1))
     go (Ok r) = refl

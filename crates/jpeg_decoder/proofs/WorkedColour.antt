@@ -20,7 +20,7 @@ use Rattle.jpeg_segments.specs.WrittenSegments.{quantization_bytes, sized}
 use Rattle.jpeg_segments.specs.ScanHeaders.{Choice, ScanHeader, AreChoices, IsScan, scan_payload, scan_written}
 use Rattle.jpeg_decoder.specs.Levels.{Levels, Is8Bit, IsLegal, nothing_sent}
 use Rattle.jpeg_decoder.specs.Order.{Spot, all_spots, mcu_size, mcu_spots, part_spots, spots_of}
-use Rattle.jpeg_decoder.specs.SaidSegments.{HasPicture, found_behind}
+use Rattle.jpeg_decoder.specs.SaidSegments.{HasPicture, found_after}
 use Rattle.jpeg_decoder.specs.Stream.{Found, Coding, nothing_found, pass_of, tables_of, updated, vias_from}
 use Rattle.jpeg_decoder.specs.WorkedImages.{IsWhollyWritten, flat_block, colour_array, colour_bytes}
 use Rattle.jpeg_decoder.specs.WrittenData.{IsCategory, IsCoded, WritesAc, WritesBlocks, WritesInterval, bits_for}
@@ -339,19 +339,19 @@ abbrev ac_segment : Segment
 ac_segment = Huffman (record { place = 0; table = ac_table } ∷ [])
 
 abbrev said_1 : Found
-said_1 = found_behind nothing_found (Quantization (sixteens ∷ []))
+said_1 = found_after nothing_found (Quantization (sixteens ∷ []))
 
 abbrev said_2 : Found
-said_2 = found_behind said_1 (Header 0 header)
+said_2 = found_after said_1 (Header 0 header)
 
 abbrev said_3 : Found
-said_3 = found_behind said_2 dc_segment
+said_3 = found_after said_2 dc_segment
 
 abbrev said_4 : Found
-said_4 = found_behind said_3 ac_segment
+said_4 = found_after said_3 ac_segment
 
 abbrev said : Found
-said = found_behind said_4 (Interval 1)
+said = found_after said_4 (Interval 1)
 
 abbrev levels_0 : ℕ → Levels
 levels_0 k = nothing_sent
@@ -406,8 +406,8 @@ all-sent = (
 abbrev bytes_1 : List ℕ
 bytes_1 = marker 0 218 (sized (scan_payload the_header) ++ (scan_bytes ++ marker 0 217 []))
 
-abbrev bytes_behind : List ℕ
-bytes_behind =
+abbrev bytes_after : List ℕ
+bytes_after =
     marker 0 219 (sized (payload_of (Quantization (sixteens ∷ [])))
     ++ marker 0 192 (sized (payload_of (Header 0 header))
     ++ marker 0 196 (sized (payload_of dc_segment)
@@ -420,7 +420,7 @@ colour-written = record {
   last = levels_1;
   frame = the_frame;
   written = record {
-    behind = bytes_behind;
+    after = bytes_after;
     starts = refl;
     written =
         segment nothing_found said levels_0 levels_1 false 0 (Quantization (sixteens ∷ [])) _

@@ -17,7 +17,7 @@ use Rattle.jpeg_segments.specs.WrittenSegments.{Segment, Quantization, Huffman, 
 use Rattle.jpeg_segments.specs.ScanHeaders.{ScanHeader, AreChoices, IsScan, scan_payload, scan_written}
 use Rattle.jpeg_decoder.specs.Levels.{Levels, Is8Bit, nothing_sent}
 use Rattle.jpeg_decoder.specs.Order.{Spot, own_spots, spots_of, mcu_size}
-use Rattle.jpeg_decoder.specs.SaidSegments.{HasPicture, found_behind}
+use Rattle.jpeg_decoder.specs.SaidSegments.{HasPicture, found_after}
 use Rattle.jpeg_decoder.specs.Scans.{no_table}
 use Rattle.jpeg_decoder.specs.Stream.{Found, Coding, nothing_found, is_progressive, pass_of, tables_of}
 use Rattle.jpeg_decoder.specs.Stream.{updated, vias_from}
@@ -441,16 +441,16 @@ abbrev ac_segment : Segment
 ac_segment = Huffman (record { place = 0; table = ac_table } ∷ [])
 
 abbrev said_1 : Found
-said_1 = found_behind nothing_found (Quantization (sixteens ∷ []))
+said_1 = found_after nothing_found (Quantization (sixteens ∷ []))
 
 abbrev said_2 : Found
-said_2 = found_behind said_1 (Header 2 header)
+said_2 = found_after said_1 (Header 2 header)
 
 abbrev said_3 : Found
-said_3 = found_behind said_2 dc_segment
+said_3 = found_after said_2 dc_segment
 
 abbrev said : Found
-said = found_behind said_3 ac_segment
+said = found_after said_3 ac_segment
 
 some-none : (a : ℕ) → ◌≡◌ {A = Option ℕ} (Some a) None → ⊥
 some-none a e = cc
@@ -553,8 +553,8 @@ bytes_2 = marker 0 218 (sized (scan_payload header_2) ++ ((99 ∷ 63 ∷ []) ++ 
 abbrev bytes_1 : List ℕ
 bytes_1 = marker 0 218 (sized (scan_payload header_1) ++ ((66 ∷ 79 ∷ []) ++ bytes_2))
 
-abbrev bytes_behind : List ℕ
-bytes_behind =
+abbrev bytes_after : List ℕ
+bytes_after =
     marker 0 219 (sized (payload_of (Quantization (sixteens ∷ [])))
     ++ marker 0 194 (sized (payload_of (Header 2 header))
     ++ marker 0 196 (sized (payload_of dc_segment) ++ marker 0 196 (sized (payload_of ac_segment) ++ bytes_1))))
@@ -566,7 +566,7 @@ grey-written = record {
   last = levels_4;
   frame = the_frame;
   written = record {
-    behind = bytes_behind;
+    after = bytes_after;
     starts = refl;
     written =
         segment nothing_found said levels_0 levels_4 false 0 (Quantization (sixteens ∷ [])) _

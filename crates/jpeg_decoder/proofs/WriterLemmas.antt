@@ -24,7 +24,7 @@ pub TakesBeginning-front : (old new : Option (List ℕ)) (first second : List �
 TakesBeginning-front old new first second h =
     (h.0, h.1 ++ second, ap (λ xs. xs ++ second) h.2 ∙ append_assoc h.0 h.1 second, h.3)
 
--- behind the first text a beginning of the second is one of both
-pub TakesBeginning-behind : (old mid new : Option (List ℕ)) (first second : List ℕ) → Appends old mid first → TakesBeginning mid new second → TakesBeginning old new (first ++ second)
-TakesBeginning-behind old mid new first second p h =
+-- after the first text a beginning of the second is one of both
+pub TakesBeginning-after : (old mid new : Option (List ℕ)) (first second : List ℕ) → Appends old mid first → TakesBeginning mid new second → TakesBeginning old new (first ++ second)
+TakesBeginning-after old mid new first second p h =
     (first ++ h.0, h.1, ap (λ xs. first ++ xs) h.2 ∙ sym (append_assoc first h.0 h.1), Appends-trans old mid new first h.0 p h.3)

@@ -9,7 +9,7 @@ use Rattle.jpeg_decoder.specs.Order.{Spot}
 use Rattle.jpeg_decoder.specs.Scans.{Arrays, block_at, put_blocks, via_at, turns_of, arrays_at}
 use Rattle.jpeg_decoder.specs.WrittenData.{marker, WritesIntervals}
 use Rattle.jpeg_decoder.specs.WrittenScans.{written_turns}
-use Rattle.jpeg_decoder.proofs.SentBlocks.{behind_pass, reads_of, numbers_of}
+use Rattle.jpeg_decoder.proofs.SentBlocks.{after_pass, reads_of, numbers_of}
 use Rattle.jpeg_decoder.proofs.AcceptedStreams.{IsMarker}
 use Rattle.jpeg_decoder.proofs.WrittenBlocks.{IsReady}
 use Rattle.jpeg_decoder.proofs.WrittenIntervals.{reads-groups}
@@ -47,14 +47,14 @@ turns-are : (vias : List Via) (spots : List Spot) (arrays : Arrays) (u : Spot �
 unfolding turns_of
 turns-are vias spots arrays u = map-map_any (turn_with vias arrays u) (λ (t : Via × Block × Block). (t.0, t.1)) spots
 
--- A scan that was written is read as the blocks behind the pass, put back at their spots.
+-- A scan that was written is read as the blocks after the pass, put back at their spots.
 pub reads-arrays : (p : Pass) (n : ℕ) (vias : List Via) (spots : List Spot) (arrays : Arrays) (u : Spot → Block)
     (bytes : List ℕ) (fill code : ℕ) (m : Marker) (rest : List ℕ)
     → AllByRecursion (IsReadyAt p vias arrays u) spots → IsMarker code m
     → WritesIntervals p 0 (first_group n (written_turns vias spots u))
     (other_groups n (written_turns vias spots u)) bytes
     → arrays_at p n vias spots arrays (bytes ++ marker fill code rest)
-    ≡ Ok ((put_blocks spots (map (λ s. behind_pass p (block_at arrays s) (u s)) spots) arrays, Some m), rest)
+    ≡ Ok ((put_blocks spots (map (λ s. after_pass p (block_at arrays s) (u s)) spots) arrays, Some m), rest)
 reads-arrays p n vias spots arrays u bytes fill code m rest ready h w =
     let all = bytes ++ marker fill code rest in
     let turns = map (turn_with vias arrays u) spots in
@@ -68,4 +68,4 @@ reads-arrays p n vias spots arrays u bytes fill code m rest ready h w =
     ∙ ap (λ (o : Outcome (List Block × Option Marker)). o >>= put_back spots arrays)
     (reads-groups p n turns bytes fill code m rest (ready-turns p vias arrays u spots ready) h written)
     ∙ ap (λ (l : List Block). Ok ((put_blocks spots l arrays, Some m), rest))
-    (map-map_any (turn_with vias arrays u) (λ (t : Via × Block × Block). behind_pass p t.1 t.2) spots)
+    (map-map_any (turn_with vias arrays u) (λ (t : Via × Block × Block). after_pass p t.1 t.2) spots)

@@ -16,7 +16,7 @@ use Rattle.jpeg_bits.specs.Entropy.{bits_from, extended}
 use Rattle.jpeg_bits.specs.Codes.{Table, code_from}
 use Rattle.jpeg_bits.specs.Written.{low_bits, code_size, code_bits}
 use Rattle.jpeg_bits.specs.Readers.{Reads, signed_from, ReadsJust}
-use Rattle.jpeg_bits.specs.Bands.{wrapped, Band, before_more, token_at, token_from, behind_token, first_ac}
+use Rattle.jpeg_bits.specs.Bands.{wrapped, Band, before_more, token_at, token_from, after_token, first_ac}
 use Rattle.jpeg_bits.specs.declared.tokens.Token.{Token}
 use Rattle.jpeg_bits.specs.declared.tokens.Token.TheVariants.{Value, Sixteen, Rest}
 use Rattle.jpeg_decoder.specs.WrittenData.{IsCoded, IsCategory, number_for, bits_for, no_numbers, WritesBand}
@@ -78,7 +78,7 @@ takes-signed u t cat = record {
 
 -- ---- tokens
 
--- a token is read of its code and the bits behind it
+-- a token is read of its code and the bits after it
 pub token-read : (table : Table) (room r s : ℕ) (code bits : List Bool) (x : Token) → IsGood table
     → IsCoded table (16 * r + s) code → s ≤ 15
     → ((size : ℕ) → ReadsJust (token_at room size r s) bits x) → ReadsJust (token_from table room) (code ++ bits) x
@@ -98,15 +98,15 @@ token-read table room r s code bits x good coded small piece =
 pub takes-token : (table : Table) (al m j r s : ℕ) (code own bits : List Bool) (x : Token) (y : Band) → IsGood table
     → IsCoded table (16 * r + s) code → s ≤ 15
     → ((room size : ℕ) → room ≡ suc j → ReadsJust (token_at room size r s) own x)
-    → ReadsJust (behind_token al (first_ac table al m) (no_numbers (suc j)) x) bits y
+    → ReadsJust (after_token al (first_ac table al m) (no_numbers (suc j)) x) bits y
     → ReadsJust (first_ac table al (suc m) (no_numbers (suc j))) ((code ++ own) ++ bits) y
 unfolding first_ac
-takes-token table al m j r s code own bits x y good coded small token behind =
+takes-token table al m j r s code own bits x y good coded small token after =
     takes-bind (token_from table (length (no_numbers (suc j))))
-    (behind_token al (first_ac table al m) (no_numbers (suc j))) (code ++ own) bits x y
+    (after_token al (first_ac table al m) (no_numbers (suc j))) (code ++ own) bits x y
     (token-read table (length (no_numbers (suc j))) r s code own x good coded small
     (λ size. token (length (no_numbers (suc j))) size (length-replicate (suc j) (pos 0))))
-    behind
+    after
 
 pub token-value : (room size r t : ℕ) (u : ℤ) → r < room → IsCategory u (suc t)
     → ReadsJust (token_at room size r (suc t)) (bits_for u (suc t)) (Value r u)
@@ -126,17 +126,17 @@ token-rest room size r e h f =
     let no : eqb r 15 ≡ false = grind (arith, nat_tests) in
     rw (no, token_at) (takes-map (bits_from r) (λ (k : ℕ). Rest (2 ^ r - 1 + k)) (low_bits r e) e (takes-number r e f))
 
-pub behind-value : (al : ℕ) (others : List ℤ → Reads Band) (places : List ℤ) (r : ℕ) (u : ℤ) (bits : List Bool)
+pub after-value : (al : ℕ) (others : List ℤ → Reads Band) (places : List ℤ) (r : ℕ) (u : ℤ) (bits : List Bool)
     (more : Band)
     → wrapped (scaled al u) ≡ scaled al u → ReadsJust (others (drop (r + 1) places)) bits more
-    → ReadsJust (behind_token al others places (Value r u)) bits (before_more (take r places ++ scaled al u ∷ []) more)
-behind-value al others places r u bits more fits w =
+    → ReadsJust (after_token al others places (Value r u)) bits (before_more (take r places ++ scaled al u ∷ []) more)
+after-value al others places r u bits more fits w =
     rw fits (takes-map (others (drop (r + 1) places)) (before_more (take r places ++ scaled al u ∷ [])) bits more w)
 
-pub behind-sixteen : (al : ℕ) (others : List ℤ → Reads Band) (places : List ℤ) (bits : List Bool) (more : Band)
+pub after-sixteen : (al : ℕ) (others : List ℤ → Reads Band) (places : List ℤ) (bits : List Bool) (more : Band)
     → ReadsJust (others (drop 16 places)) bits more
-    → ReadsJust (behind_token al others places Sixteen) bits (before_more (take 16 places) more)
-behind-sixteen al others places bits more w =
+    → ReadsJust (after_token al others places Sixteen) bits (before_more (take 16 places) more)
+after-sixteen al others places bits more w =
     takes-map (others (drop 16 places)) (before_more (take 16 places)) bits more w
 
 -- ---- bands
@@ -211,7 +211,7 @@ band-value table al r (suc t) (suc m) u code more bits run good range nz cat cod
     let token = takes-token table al m (r + k) r (suc t) code (bits_for u (suc t)) bits (Value r u) _ good coded
     (category-small al u (suc t) range cat)
     (λ room size e. token-value room size r t u (omega arith) cat)
-    (behind-value al (first_ac table al m) places r u bits (map (scaled al) more, run) (scaled-fits al u range) w) in
+    (after-value al (first_ac table al m) places r u bits (map (scaled al) more, run) (scaled-fits al u range) w) in
     subst (λ (l : ℕ). ReadsJust (first_ac table al (suc m) (no_numbers l)) (code ++ bits_for u (suc t) ++ bits)
     (map (scaled al) (no_numbers r ++ u ∷ more), run))
     (sym given) (takes-as _ _ _ _ _ refl (ap (λ (l : List ℤ). (l, run)) numbers) token)
@@ -235,7 +235,7 @@ band-sixteen table al (suc m) code more bits run good coded room others =
     = ap (λ (l : List ℤ). l ++ map (scaled al) more) front ∙ sym (map-no_numbers al 16 more) in
     let token = takes-token table al m (15 + k) 15 0 code [] bits Sixteen _ good coded (omega arith)
     (λ room size e. token-sixteen room size)
-    (behind-sixteen al (first_ac table al m) places bits (map (scaled al) more, run) w) in
+    (after-sixteen al (first_ac table al m) places bits (map (scaled al) more, run) w) in
     subst (λ (l : ℕ). ReadsJust (first_ac table al (suc m) (no_numbers l)) (code ++ bits)
     (map (scaled al) (no_numbers 16 ++ more), run))
     (sym given) (takes-as _ _ _ _ _ (ap (λ (b : List Bool). b ++ bits) (append-nil code))
@@ -258,12 +258,12 @@ band-rest table al k (suc m) r e code good h f coded room =
     (sym (length-replicate (suc k) (pos 0)))
     (takes-as _ _ _ _ _ (append-nil (code ++ low_bits r e)) (ap (λ (l : List ℤ). (l, 2 ^ r - 1 + e)) numbers) token)
 
-pub all-behind : (P : ℤ → Type 0) (r : ℕ) (more : List ℤ) → AllByRecursion P (no_numbers r ++ more)
+pub all-after : (P : ℤ → Type 0) (r : ℕ) (more : List ℤ) → AllByRecursion P (no_numbers r ++ more)
     → AllByRecursion P more
-all-behind P zero more h = h
-all-behind P (suc r) more h = all-behind P r more h.1
+all-after P zero more h = h
+all-after P (suc r) more h = all-after P r more h.1
 
--- A band that was written is read as its numbers times 2 ^ al, and as the run behind it.
+-- A band that was written is read as its numbers times 2 ^ al, and as the run after it.
 pub takes-band : (table : Table) (al : ℕ) (band : List ℤ) (bits : List Bool) (run : ℕ) → IsGood table
     → AllByRecursion (InRange al) band
     → WritesBand table band bits run → (n : ℕ) → length band ≤ n
@@ -271,14 +271,14 @@ pub takes-band : (table : Table) (al : ℕ) (band : List ℤ) (bits : List Bool)
 unfolding first_ac
 takes-band table al band bits run good range full n room = takes-gives ([], 0)
 takes-band table al band bits run good range (value r s u code more bits' run' h nz cat coded w) n room =
-    let rest = all-behind (InRange al) r (u ∷ more) range in
+    let rest = all-after (InRange al) r (u ∷ more) range in
     let size = length-no_numbers r (u ∷ more) in
     band-value table al r s n u code more bits' run' good rest.0 nz cat coded (omega arith)
     (takes-band table al more bits' run' good rest.1 w)
 takes-band table al band bits run good range (sixteen code more bits' run' coded w) n room =
     let size = length-no_numbers 16 more in
     band-sixteen table al n code more bits' run' good coded (omega arith)
-    (takes-band table al more bits' run' good (all-behind (InRange al) 16 more range) w)
+    (takes-band table al more bits' run' good (all-after (InRange al) 16 more range) w)
 takes-band table al band bits run good range (ended k r e code h f coded) n room =
     let size = length-replicate (suc k) (pos 0) in
     band-rest table al k n r e code good h f coded (omega arith)

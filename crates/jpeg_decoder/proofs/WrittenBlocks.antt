@@ -27,7 +27,7 @@ use Rattle.jpeg_decoder.specs.WrittenData.WritesAc.{no_band, first, first_run, a
 use Rattle.jpeg_decoder.specs.WrittenData.WritesBlocks.{done, block}
 use Rattle.jpeg_bits.proofs.WrittenBits.{takes-gives, takes-bind, takes-bit, takes-map, takes-as}
 use Rattle.jpeg_bits.proofs.Tables.{IsGood, takes-symbol}
-use Rattle.jpeg_decoder.proofs.SentBlocks.{scaled, held, InRange, InDcRange, dc_held, Suits, behind_pass, reads_of}
+use Rattle.jpeg_decoder.proofs.SentBlocks.{scaled, held, InRange, InDcRange, dc_held, Suits, after_pass, reads_of}
 use Rattle.jpeg_decoder.proofs.SentBlocks.{numbers_of}
 use Rattle.jpeg_decoder.proofs.WrittenBands.{takes-signed, takes-band, map-no_numbers, abs-zero}
 use Rattle.jpeg_decoder.proofs.WrittenRefinements.{even-bit, even-bit_neg, times-two_power, spread, takes-corrected}
@@ -143,15 +143,15 @@ low-small (negsuc n) = omega arith
 pub takes-dc_part : (p : Pass) (table : Table) (old u : Block) (predictor next : ℤ) (bits : List Bool) → IsGood table
     → Suits p old u → InDcRange predictor
     → WritesDc p table u.dc predictor bits next
-    → ReadsJust (dc_part p table old.dc predictor) bits ((behind_pass p old u).dc, next)
+    → ReadsJust (dc_part p table old.dc predictor) bits ((after_pass p old u).dc, next)
 unfolding dc_part
 takes-dc_part p table old u predictor next bits good suits before (other_band v predictor' n) =
-    rw (eqb_no p.ss 0 n, dc_part, behind_pass) (takes-gives (old.dc, predictor))
+    rw (eqb_no p.ss 0 n, dc_part, after_pass) (takes-gives (old.dc, predictor))
 takes-dc_part p table old u predictor next bits good suits before (whole v predictor' bits' e f w) =
-    rw (eq-eqb p.ss 0 e, f, dc_part, behind_pass)
+    rw (eq-eqb p.ss 0 e, f, dc_part, after_pass)
     (takes-first_dc table p.al u.dc predictor bits good suits.dc_range before suits.dc_fits w)
 takes-dc_part p table old u predictor next bits good suits before (one_bit v predictor' e f) =
-    rw (eq-eqb p.ss 0 e, f, dc_part, behind_pass)
+    rw (eq-eqb p.ss 0 e, f, dc_part, after_pass)
     (takes-map (bits_from 1) (λ (b : ℕ). (or_bit p.al old.dc b, predictor)) (bit (low_bit u.dc) ∷ []) (low_bit u.dc)
     (takes-bit (low_bit u.dc) (low-small u.dc)))
 
@@ -161,25 +161,25 @@ next-range p table u predictor next bits h k (other_band v w n) = k
 next-range p table u predictor next bits h k (whole v w bits' e f d) = h
 next-range p table u predictor next bits h k (one_bit v w e f) = k
 
-pub takes-band_part : (p : Pass) (table : Table) (band us : List ℤ) (run behind : ℕ) (bits : List Bool) → IsGood table
+pub takes-band_part : (p : Pass) (table : Table) (band us : List ℤ) (run after : ℕ) (bits : List Bool) → IsGood table
     → (p.is_first ≡ true → band ≡ no_numbers (length us)) → (p.is_first ≡ false → band ≡ map (held p.al) us)
     → AllByRecursion (InRange p.al) us
-    → WritesAc p table us run bits behind → ReadsJust (band_part p table band run) bits (map (scaled p.al) us, behind)
+    → WritesAc p table us run bits after → ReadsJust (band_part p table band run) bits (map (scaled p.al) us, after)
 unfolding band_part
-takes-band_part p table band us run behind bits good unsent sent range (no_band run') =
+takes-band_part p table band us run after bits good unsent sent range (no_band run') =
     subst (λ (l : List ℤ). ReadsJust (band_part p table l run) [] ([], run)) (sym (none p.is_first refl))
     (takes-gives ([], run))
   where
     none : (b : Bool) → p.is_first ≡ b → band ≡ []
     none true e = unsent e
     none false e = sent e
-takes-band_part p table band us run behind bits good unsent sent range (first u more bits' run' f w) =
+takes-band_part p table band us run after bits good unsent sent range (first u more bits' run' f w) =
     subst (λ (l : List ℤ). ReadsJust (band_part p table l 0) bits' (map (scaled p.al) (u ∷ more), run'))
     (sym (unsent f))
     (rw (f, band_part) (takes-band table p.al (u ∷ more) bits' run' good range w
     (length (no_numbers (suc (length more))))
     (let size = length-replicate (suc (length more)) (pos 0) in omega arith)))
-takes-band_part p table band us run behind bits good unsent sent range (first_run n run' f) =
+takes-band_part p table band us run after bits good unsent sent range (first_run n run' f) =
     let same : band ≡ no_numbers (suc n) = unsent f ∙ ap no_numbers (length-replicate (suc n) (pos 0)) in
     let numbers : no_numbers (suc n) ≡ map (scaled p.al) (no_numbers (suc n))
     = sym (append-nil (no_numbers (suc n))) ∙ sym (map-no_numbers p.al (suc n) [])
@@ -188,11 +188,11 @@ takes-band_part p table band us run behind bits good unsent sent range (first_ru
     (map (scaled p.al) (no_numbers (suc n)), run')) (sym same)
     (rw (f, band_part) (takes-as _ _ _ _ _ refl (ap (λ (l : List ℤ). (l, run')) numbers)
     (takes-gives (no_numbers (suc n), run'))))
-takes-band_part p table band us run behind bits good unsent sent range (again u more bits' run' f w) =
+takes-band_part p table band us run after bits good unsent sent range (again u more bits' run' f w) =
     subst (λ (l : List ℤ). ReadsJust (band_part p table l 0) bits' (map (scaled p.al) (u ∷ more), run')) (sym (sent f))
     (rw (f, band_part) (takes-refinement table p.al (u ∷ more) bits' run' good range w
     (length (map (held p.al) (u ∷ more))) (le_refl _)))
-takes-band_part p table band us run behind bits good unsent sent range (again_run u more run' f none) =
+takes-band_part p table band us run after bits good unsent sent range (again_run u more run' f none) =
     subst (λ (l : List ℤ). ReadsJust (band_part p table l (suc run')) (corrections (u ∷ more))
     (map (scaled p.al) (u ∷ more), run')) (sym (sent f))
     (rw (f, band_part) (takes-map (corrected p.al (map (held p.al) (u ∷ more))) (λ (l : List ℤ). (l, run'))
@@ -217,39 +217,39 @@ pub record IsReady (p : Pass) (t : Via × Block × Block) : Type 0 where
   pub ac_good : IsGood t.0.ac
   pub suits : Suits p t.1 t.2
 
--- A block that was written is read as the block behind the pass.
-pub takes-block : (p : Pass) (via : Via) (old u : Block) (predictor next : ℤ) (run behind : ℕ) (dc ac : List Bool)
+-- A block that was written is read as the block after the pass.
+pub takes-block : (p : Pass) (via : Via) (old u : Block) (predictor next : ℤ) (run after : ℕ) (dc ac : List Bool)
     → IsReady p (via, old, u) → InDcRange predictor
-    → WritesDc p via.dc u.dc predictor dc next → WritesAc p via.ac (band_of p u.acs) run ac behind
-    → ReadsJust (block_from p via.dc via.ac predictor run old) (dc ++ ac) (behind_pass p old u, next, behind)
+    → WritesDc p via.dc u.dc predictor dc next → WritesAc p via.ac (band_of p u.acs) run ac after
+    → ReadsJust (block_from p via.dc via.ac predictor run old) (dc ++ ac) (after_pass p old u, next, after)
 unfolding block_from
-takes-block p via old u predictor next run behind dc ac good before wd wa =
-    takes-bind (dc_part p via.dc old.dc predictor) _ dc ac ((behind_pass p old u).dc, next) _
+takes-block p via old u predictor next run after dc ac good before wd wa =
+    takes-bind (dc_part p via.dc old.dc predictor) _ dc ac ((after_pass p old u).dc, next) _
     (takes-dc_part p via.dc old u predictor next dc good.dc_good good.suits before wd)
     (takes-map (band_part p via.ac (band_of p old.acs) run)
-    (λ (b : List ℤ × ℕ). (record { dc = (behind_pass p old u).dc; acs = with_band p old.acs b.0 }, next, b.1)) ac
-    (map (scaled p.al) (band_of p u.acs), behind)
+    (λ (b : List ℤ × ℕ). (record { dc = (after_pass p old u).dc; acs = with_band p old.acs b.0 }, next, b.1)) ac
+    (map (scaled p.al) (band_of p u.acs), after)
     (takes-band_part p via.ac (band_of p old.acs)
-    (band_of p u.acs) run behind ac good.ac_good good.suits.unsent good.suits.sent good.suits.range wa))
+    (band_of p u.acs) run after ac good.ac_good good.suits.unsent good.suits.sent good.suits.range wa))
 
--- The blocks of an interval that were written are read as the blocks behind the pass.
+-- The blocks of an interval that were written are read as the blocks after the pass.
 pub takes-blocks : (p : Pass) (turns : List (Via × Block × Block)) (predictors : List ℤ) (run : ℕ) (bits : List Bool)
     → Predicts predictors
     → AllByRecursion (IsReady p) turns → WritesBlocks p predictors run (numbers_of turns) bits
-    → ReadsJust (blocks_of p predictors run (reads_of turns)) bits (map (λ t. behind_pass p t.1 t.2) turns)
+    → ReadsJust (blocks_of p predictors run (reads_of turns)) bits (map (λ t. after_pass p t.1 t.2) turns)
 unfolding blocks_of
 takes-blocks p [] predictors run bits predict ready (done preds) = takes-gives []
 takes-blocks p (t ∷ turns) predictors run bits predict ready
-    (block preds run' behind via u turns' dc ac more next wd wa w) =
+    (block preds run' run_after via u turns' dc ac more next wd wa w) =
     let good = ready.0 in
     let before = predict.each t.0.component in
     let after = next-range p t.0.dc t.2.dc
     (get_or predictors t.0.component (pos 0)) next dc good.suits.dc_range before wd in
     takes-as _ ((dc ++ ac) ++ more) (dc ++ (ac ++ more)) _ _ (append_assoc dc ac more) refl
     (takes-bind (block_from p t.0.dc t.0.ac (get_or predictors t.0.component (pos 0)) run t.1) _ (dc ++ ac) more
-    (behind_pass p t.1 t.2, next, behind) _
-    (takes-block p t.0 t.1 t.2 (get_or predictors t.0.component (pos 0)) next run behind dc ac good before wd wa)
-    (takes-map (blocks_of p (set predictors t.0.component next) behind (reads_of turns))
-    (λ (l : List Block). behind_pass p t.1 t.2 ∷ l) more _
-    (takes-blocks p turns (set predictors t.0.component next) behind more
+    (after_pass p t.1 t.2, next, run_after) _
+    (takes-block p t.0 t.1 t.2 (get_or predictors t.0.component (pos 0)) next run run_after dc ac good before wd wa)
+    (takes-map (blocks_of p (set predictors t.0.component next) run_after (reads_of turns))
+    (λ (l : List Block). after_pass p t.1 t.2 ∷ l) more _
+    (takes-blocks p turns (set predictors t.0.component next) run_after more
     (predicts-set predictors t.0.component next predict after) ready.1 w)))

@@ -15,12 +15,12 @@ use Rattle.jpeg_bits.specs.Passes.{Pass, Via, Block, whole_pass, zero_block, ban
 use Rattle.jpeg_decoder.specs.Order.{Spot, grid_of, own_spots, spots_of, mcu_size}
 use Rattle.jpeg_decoder.specs.Scans.{Arrays, block_at, put_block, put_blocks, via_at, no_table, arrays_at}
 use Rattle.jpeg_decoder.specs.Stream.{Coding, vias_from}
-use Rattle.jpeg_decoder.specs.Levels.{Levels, Is8Bit, numbers_at, cut, nothing_sent, IsLegal, levels_behind}
+use Rattle.jpeg_decoder.specs.Levels.{Levels, Is8Bit, numbers_at, cut, nothing_sent, IsLegal, sent_after}
 use Rattle.jpeg_decoder.specs.WrittenData.{marker, no_numbers}
 use Rattle.jpeg_decoder.specs.WrittenScans.{Coefficients, IsOwn, grid_at, no_grid, components_of, WritesScan}
-use Rattle.jpeg_decoder.proofs.SentBlocks.{held, InRange, Suits, behind_pass}
+use Rattle.jpeg_decoder.proofs.SentBlocks.{held, InRange, Suits, after_pass}
 use Rattle.jpeg_decoder.proofs.AcceptedStreams.{IsMarker}
-use Rattle.jpeg_decoder.proofs.CutLevels.{suits-cut, cut-behind, all-same, cut-unsent, floor-range, floor-fits}
+use Rattle.jpeg_decoder.proofs.CutLevels.{suits-cut, cut-after, all-same, cut-unsent, floor-range, floor-fits}
 use Rattle.jpeg_decoder.proofs.WrittenArrays.{IsReadyAt, reads-arrays, map-map_any}
 use Rattle.jpeg_decoder.proofs.Put.{reaches}
 use Rattle.jpeg_decoder.specs.InTurn.{IsIn, IsInside}
@@ -251,10 +251,10 @@ module _ (frame : Frame) (restart : ℕ) (p : Pass) (codings : List Coding) (arr
       suits-own k s (subst (λ (n : ℕ). At n codings k) (sym own.slot) first) own.own
 
   abbrev f : Spot → Block
-  f s = behind_pass p (block_at scanned s) (u s)
+  f s = after_pass p (block_at scanned s) (u s)
 
-  abbrev behind : Arrays
-  behind = put_blocks spots (map f spots) scanned
+  abbrev after : Arrays
+  after = put_blocks spots (map f spots) scanned
 
   inside : (k : Coding) (s : Spot) → At s.slot codings k → IsOwn (grid_of k.component) s.index → IsInside scanned s
   inside k s h own =
@@ -265,34 +265,34 @@ module _ (frame : Frame) (restart : ℕ) (p : Pass) (codings : List Coding) (arr
       let room = own-within (grid_of k.component) s.index own r.fits.own_wide r.fits.own_high in
       record { slot = omega arith; index = let e = r.holds.sized in omega arith }
 
-  behind-own : (k : Coding) (s : Spot) → At s.slot codings k → IsOwn (grid_of k.component) s.index
-      → block_at behind s ≡ cut (levels_behind p (levels k.place))
+  after-own : (k : Coding) (s : Spot) → At s.slot codings k → IsOwn (grid_of k.component) s.index
+      → block_at after s ≡ cut (sent_after p (levels k.place))
       (array k.place (s.index / k.component.blocks_wide) (s.index % k.component.blocks_wide))
-  behind-own k s h own =
+  after-own k s h own =
       let r = at-all (SlotReady frame p array levels before) s.slot codings k ready h in
       let c = array k.place (s.index / k.component.blocks_wide) (s.index % k.component.blocks_wide) in
       let here : Is8Bit c = range k.place (s.index / k.component.blocks_wide) (s.index % k.component.blocks_wide) in
       reaches f s spots scanned (inside k s h own)
       (covered frame (components_of codings) k.component s
       (at-map (λ (x : Coding). x.component) s.slot codings k h) r.fits own)
-      ∙ ap₂ (λ (b d : Block). behind_pass p b (numbers_at p.al d)) (held-own k s h own) (sent-own k s h own)
-      ∙ cut-behind p (levels k.place) c (here.count ∙ sym r.sized) r.legal
+      ∙ ap₂ (λ (b d : Block). after_pass p b (numbers_at p.al d)) (held-own k s h own) (sent-own k s h own)
+      ∙ cut-after p (levels k.place) c (here.count ∙ sym r.sized) r.legal
 
-  behind-held : (k : Coding) (j : ℕ) → At j codings k
-      → HoldsOwn (grid_of k.component) (array k.place) (levels_behind p (levels k.place)) (get_or behind j [])
-  behind-held k j h =
+  after-held : (k : Coding) (j : ℕ) → At j codings k
+      → HoldsOwn (grid_of k.component) (array k.place) (sent_after p (levels k.place)) (get_or after j [])
+  after-held k j h =
       let r = at-all (SlotReady frame p array levels before) j codings k ready h in
       record {
         sized = put-size f j spots scanned ∙ ap (λ (l : List Block). length l) (array-at before codings k j h)
             ∙ r.holds.sized;
-        each = λ i own. behind-own k (record { slot = j; index = i }) h own;
+        each = λ i own. after-own k (record { slot = j; index = i }) h own;
       }
 
-  -- The scan is read as the blocks behind it.
+  -- The scan is read as the blocks after it.
   pub reads-scan : (fill code : ℕ) (m : Marker) (rest : List ℕ) → SpotsSuit p before codings
       → AllByRecursion HasGood codings → IsMarker code m
       → arrays_at p (restart * mcu_size (components_of codings)) (vias_from 0 codings) spots scanned
-      (bytes ++ marker fill code rest) ≡ Ok ((behind, Some m), rest)
+      (bytes ++ marker fill code rest) ≡ Ok ((after, Some m), rest)
   reads-scan fill code m rest suit good h =
       reads-arrays p (restart * mcu_size (components_of codings))
       (vias_from 0 codings) spots scanned u bytes fill code m rest
@@ -307,13 +307,13 @@ pub record ReadsScan (frame : Frame) (restart : ℕ) (p : Pass) (codings : List 
   pub arrays : Arrays
   pub count : length arrays ≡ length codings
   pub holds : (k : Coding) (j : ℕ) → At j codings k
-      → HoldsOwn (grid_of k.component) (array k.place) (levels_behind p (levels k.place)) (get_or arrays j [])
+      → HoldsOwn (grid_of k.component) (array k.place) (sent_after p (levels k.place)) (get_or arrays j [])
   pub read : (fill code : ℕ) (m : Marker) (rest : List ℕ) → IsMarker code m
       → arrays_at p (restart * mcu_size (components_of codings)) (vias_from 0 codings)
       (spots_of frame (components_of codings)) (arrays_of before codings) (bytes ++ marker fill code rest)
       ≡ Ok ((arrays, Some m), rest)
 
--- A written scan of a frame takes the blocks of its components to the levels behind it.
+-- A written scan of a frame takes the blocks of its components to the levels after it.
 pub scan-is_read : (frame : Frame) (restart : ℕ) (p : Pass) (codings : List Coding) (array : Coefficients)
     (levels : ℕ → Levels) (before : Arrays) (bytes : List ℕ)
     → ((place row column : ℕ) → Is8Bit (array place row column))
@@ -322,11 +322,11 @@ pub scan-is_read : (frame : Frame) (restart : ℕ) (p : Pass) (codings : List Co
     → ReadsScan frame restart p codings array levels before bytes
 scan-is_read frame restart p codings array levels before bytes range ready suit good w =
     record {
-      arrays = behind frame restart p codings array levels before bytes range ready w;
+      arrays = after frame restart p codings array levels before bytes range ready w;
       count = put-count (f frame restart p codings array levels before bytes range ready w)
           (spots_of frame (components_of codings)) (arrays_of before codings)
           ∙ length-map codings (λ (c : Coding). get_or before c.place []);
-      holds = λ k j h. behind-held frame restart p codings array levels before bytes range ready w k j h;
+      holds = λ k j h. after-held frame restart p codings array levels before bytes range ready w k j h;
       read = λ fill code m rest h. reads-scan frame restart p codings array levels before bytes range ready w fill
           code m rest suit good h;
     }

@@ -17,11 +17,11 @@ use Rattle.jpeg_bits.specs.declared.marker.Marker.TheVariants as markers
 use Rattle.jpeg_bits.specs.declared.ahead.DataEnd.TheVariants as ends
 use Rattle.jpeg_bits.specs.Readers.{text, ReadsJust}
 use Rattle.jpeg_bits.specs.Passes.{Pass, Via, Block, blocks_of}
-use Rattle.jpeg_bits.specs.Intervals.{interval, intervals, behind_restart, blocks_before, groups, first_group}
+use Rattle.jpeg_bits.specs.Intervals.{interval, intervals, after_restart, blocks_before, groups, first_group}
 use Rattle.jpeg_bits.specs.Intervals.{other_groups, predictors_at_start}
 use Rattle.jpeg_decoder.specs.WrittenData.{stuffed, marker, bits_of_bytes, WritesInterval, WritesIntervals}
 use Rattle.jpeg_decoder.specs.WrittenData.WritesIntervals.{last, another}
-use Rattle.jpeg_decoder.proofs.SentBlocks.{InDcRange, behind_pass, reads_of, numbers_of}
+use Rattle.jpeg_decoder.proofs.SentBlocks.{InDcRange, after_pass, reads_of, numbers_of}
 use Rattle.jpeg_decoder.proofs.AcceptedStreams.{IsMarker}
 use Rattle.jpeg_decoder.proofs.WrittenBlocks.{Predicts, IsReady, takes-blocks}
 
@@ -135,7 +135,7 @@ end-met : (places : List (List ℕ)) (m : Marker) (rest : List ℕ) → length p
 end-met [] m rest h = refl
 end-met (x ∷ places) m rest h = absurd (omega arith)
 
--- what is read of a text, and the marker behind it
+-- what is read of a text, and the marker after it
 abbrev pub and_marker : Result (List Block × Text) Fault → Outcome (List Block × Option Marker)
 and_marker o = o >>= λ r. (marker_from r.1 >>= λ m. Ok ((r.0, m.0), m.1))
 
@@ -170,12 +170,12 @@ in-text p turns bytes rest m bits filling blocks read is h =
     ∙ ap (λ (o : Outcome (Option Marker)). o >>= λ m. Ok ((blocks, m.0), m.1))
     (end-met (drop (length bits) places) m rest left)
 
--- An interval that was written is read as the blocks behind the pass, up to the marker.
+-- An interval that was written is read as the blocks after the pass, up to the marker.
 pub reads-interval : (p : Pass) (turns : List (Via × Block × Block)) (bytes : List ℕ) (fill code : ℕ) (m : Marker)
     (rest : List ℕ)
     → AllByRecursion (IsReady p) turns → IsMarker code m → WritesInterval p (numbers_of turns) bytes
     → interval p (reads_of turns) (bytes ++ marker fill code rest)
-    ≡ Ok ((map (λ t. behind_pass p t.1 t.2) turns, Some m), rest)
+    ≡ Ok ((map (λ t. after_pass p t.1 t.2) turns, Some m), rest)
 reads-interval p turns bytes fill code m rest ready h w =
     let all = bytes ++ marker fill code rest in
     let is : IsText (text_at all) (w.bits ++ w.filling) (Found m rest)
@@ -202,22 +202,22 @@ rst (suc (suc (suc (suc (suc (suc (suc (suc n)))))))) h = absurd (omega arith)
 pub rst-marker : (k : ℕ) → IsMarker (0xD0 + k % 8) (markers.RST (k % 8))
 rst-marker k = record { is = rst (k % 8) (omega arith) }
 
-abbrev pub all_behind : Pass → List (Via × Block × Block) → List (List (Via × Block × Block)) → List Block
-all_behind p turns [] = map (λ t. behind_pass p t.1 t.2) turns
-all_behind p turns (next ∷ more) = map (λ t. behind_pass p t.1 t.2) turns ++ all_behind p next more
+abbrev pub all_after : Pass → List (Via × Block × Block) → List (List (Via × Block × Block)) → List Block
+all_after p turns [] = map (λ t. after_pass p t.1 t.2) turns
+all_after p turns (next ∷ more) = map (λ t. after_pass p t.1 t.2) turns ++ all_after p next more
 
 when-restart : {A : Type 0} (k : ℕ) (x : Result A Fault)
     → elim (eqb k k) as (λ _. Result A Fault) [ true ↦ x | false ↦ Err Malformed ] ≡ x
 when-restart k x = rw (eq-eqb k k refl) refl
 
 pub next-interval : (p : Pass) (k : ℕ) (turns next : List (Via × Block)) (more : List (List (Via × Block)))
-    (bytes rest behind : List ℕ) (first others : List Block) (m : Option Marker)
+    (bytes rest after : List ℕ) (first others : List Block) (m : Option Marker)
     → interval p turns bytes ≡ Ok ((first, Some (markers.RST (k % 8))), rest)
-    → intervals p (suc k) next more rest ≡ Ok ((others, m), behind)
-    → intervals p k turns (next ∷ more) bytes ≡ Ok ((first ++ others, m), behind)
+    → intervals p (suc k) next more rest ≡ Ok ((others, m), after)
+    → intervals p k turns (next ∷ more) bytes ≡ Ok ((first ++ others, m), after)
 unfolding intervals
-next-interval p k turns next more bytes rest behind first others m e f =
-    ap (λ o. o >>= behind_restart k (intervals p (suc k) next more)) e
+next-interval p k turns next more bytes rest after first others m e f =
+    ap (λ o. o >>= after_restart k (intervals p (suc k) next more)) e
     ∙ when-restart (k % 8) (blocks_before first (intervals p (suc k) next more rest))
     ∙ ap (blocks_before first) f
 
@@ -226,13 +226,13 @@ pub marker-append : (fill code : ℕ) (rest more : List ℕ)
 marker-append fill code rest more =
     ap (λ (l : List ℕ). 0xFF ∷ l) (append_assoc (replicate fill 0xFF) (code ∷ rest) more)
 
--- Intervals that were written are read as the blocks behind the pass, up to the marker behind the last.
+-- Intervals that were written are read as the blocks after the pass, up to the marker after the last.
 pub reads-intervals : (p : Pass) (k : ℕ) (turns : List (Via × Block × Block))
     (more : List (List (Via × Block × Block))) (bytes : List ℕ) (fill code : ℕ) (m : Marker) (rest : List ℕ)
     → AllByRecursion (IsReady p) turns → AllByRecursion (AllByRecursion (IsReady p)) more → IsMarker code m
     → WritesIntervals p k (numbers_of turns) (map numbers_of more) bytes
     → intervals p k (reads_of turns) (map reads_of more) (bytes ++ marker fill code rest)
-    ≡ Ok ((all_behind p turns more, Some m), rest)
+    ≡ Ok ((all_after p turns more, Some m), rest)
 unfolding intervals
 reads-intervals p k turns [] bytes fill code m rest ready all h (last k' turns' bytes' w) =
     reads-interval p turns bytes fill code m rest ready h w
@@ -282,24 +282,24 @@ pub map-joined : {A B : Type 0} (f : A → B) (xs ys : List A) → map f (xs ++ 
 map-joined f [] ys = refl
 map-joined f (x ∷ xs) ys = ap (λ l. f x ∷ l) (map-joined f xs ys)
 
-groups-behind : (p : Pass) (turns n : ℕ) (xs ys : List (Via × Block × Block)) → length ys ≤ turns
-    → all_behind p xs (groups turns (suc n) ys) ≡ map (λ t. behind_pass p t.1 t.2) (xs ++ ys)
+groups-after : (p : Pass) (turns n : ℕ) (xs ys : List (Via × Block × Block)) → length ys ≤ turns
+    → all_after p xs (groups turns (suc n) ys) ≡ map (λ t. after_pass p t.1 t.2) (xs ++ ys)
 unfolding groups
-groups-behind p turns n xs [] h = ap (map (λ t. behind_pass p t.1 t.2)) (sym (append-nil xs))
-groups-behind p zero n xs (y ∷ ys) h = absurd (omega arith)
-groups-behind p (suc turns) n xs (y ∷ ys) h =
-    ap (λ (l : List Block). map (λ t. behind_pass p t.1 t.2) xs ++ l)
-    (groups-behind p turns n (take (suc n) (y ∷ ys)) (drop (suc n) (y ∷ ys))
+groups-after p turns n xs [] h = ap (map (λ t. after_pass p t.1 t.2)) (sym (append-nil xs))
+groups-after p zero n xs (y ∷ ys) h = absurd (omega arith)
+groups-after p (suc turns) n xs (y ∷ ys) h =
+    ap (λ (l : List Block). map (λ t. after_pass p t.1 t.2) xs ++ l)
+    (groups-after p turns n (take (suc n) (y ∷ ys)) (drop (suc n) (y ∷ ys))
     (let d = length-drop (suc n) (y ∷ ys) in omega arith)
-    ∙ ap (map (λ t. behind_pass p t.1 t.2)) (take-append-drop (suc n) (y ∷ ys)))
-    ∙ sym (map-joined (λ t. behind_pass p t.1 t.2) xs (y ∷ ys))
+    ∙ ap (map (λ t. after_pass p t.1 t.2)) (take-append-drop (suc n) (y ∷ ys)))
+    ∙ sym (map-joined (λ t. after_pass p t.1 t.2) xs (y ∷ ys))
 
 pub all-groups : (p : Pass) (n : ℕ) (xs : List (Via × Block × Block))
-    → all_behind p (first_group n xs) (other_groups n xs) ≡ map (λ t. behind_pass p t.1 t.2) xs
+    → all_after p (first_group n xs) (other_groups n xs) ≡ map (λ t. after_pass p t.1 t.2) xs
 all-groups p zero xs = refl
 all-groups p (suc n) xs =
-    groups-behind p (length xs) n (take (suc n) xs) (drop (suc n) xs) (let d = length-drop (suc n) xs in omega arith)
-    ∙ ap (map (λ t. behind_pass p t.1 t.2)) (take-append-drop (suc n) xs)
+    groups-after p (length xs) n (take (suc n) xs) (drop (suc n) xs) (let d = length-drop (suc n) xs in omega arith)
+    ∙ ap (map (λ t. after_pass p t.1 t.2)) (take-append-drop (suc n) xs)
 
 ready-take : {A : Type 0} (Q : A → Type 0) (n : ℕ) (xs : List A) → AllByRecursion Q xs → AllByRecursion Q (take n xs)
 ready-take Q zero xs h = tt
@@ -329,13 +329,13 @@ pub ready-others : {A : Type 0} (Q : A → Type 0) (n : ℕ) (xs : List A) → A
 ready-others Q zero xs h = tt
 ready-others Q (suc n) xs h = ready-groups Q (length xs) (suc n) (drop (suc n) xs) (ready-drop Q (suc n) xs h)
 
--- A scan that was written is read as the blocks behind the pass.
+-- A scan that was written is read as the blocks after the pass.
 pub reads-groups : (p : Pass) (n : ℕ) (turns : List (Via × Block × Block)) (bytes : List ℕ) (fill code : ℕ)
     (m : Marker) (rest : List ℕ)
     → AllByRecursion (IsReady p) turns → IsMarker code m
     → WritesIntervals p 0 (first_group n (numbers_of turns)) (other_groups n (numbers_of turns)) bytes
     → intervals p 0 (first_group n (reads_of turns)) (other_groups n (reads_of turns)) (bytes ++ marker fill code rest)
-    ≡ Ok ((map (λ t. behind_pass p t.1 t.2) turns, Some m), rest)
+    ≡ Ok ((map (λ t. after_pass p t.1 t.2) turns, Some m), rest)
 reads-groups p n turns bytes fill code m rest ready h w =
     let all = bytes ++ marker fill code rest in
     let number : Via × Block × Block → Via × Block = λ t. (t.0, t.2) in

@@ -16,8 +16,9 @@ use Rattle.jpeg_decoder.specs.declared.grids.Grid.{Grid}
 use Rattle.jpeg_decoder.specs.declared.state.Settings.{Settings}
 use Rattle.jpeg_decoder.specs.Levels.{Is8Bit, Levels, nothing_sent}
 use Rattle.jpeg_decoder.specs.Order.{grid_of, Spot}
-use Rattle.jpeg_decoder.specs.SaidSegments.{found_behind}
-use Rattle.jpeg_decoder.specs.Stream.{Coding, first_of, Found, is_progressive, Metadata, needed, nothing_found}
+use Rattle.jpeg_decoder.specs.SaidSegments.{found_after}
+use Rattle.jpeg_decoder.specs.Needed.{first_of, needed}
+use Rattle.jpeg_decoder.specs.Stream.{Coding, Found, is_progressive, Metadata, nothing_found}
 use Rattle.jpeg_decoder.specs.Stream.{pass_of, picture_by, Told, told_of}
 use Rattle.jpeg_decoder.specs.WholeImages.{AllComplete, picture_whole, plane_whole, planes_whole}
 use Rattle.jpeg_decoder.specs.WrittenImages.{closed, scan as then_scan, segment as then_segment, Writes, WritesImage}
@@ -29,7 +30,7 @@ use Rattle.jpeg_decoder.specs.WrittenScans.AreCodings.{and_more, no_more}
 use Rattle.jpeg_decoder.proofs.AcceptedImages.{frame-or, frame-stays, image-accepted, none-stands, same-frame}
 use Rattle.jpeg_decoder.proofs.AcceptedImages.{scan-tail, segment-tail}
 use Rattle.jpeg_decoder.proofs.AcceptedTurns.{then-ok}
-use Rattle.jpeg_decoder.proofs.WholeImages.{same-behind, whole-is}
+use Rattle.jpeg_decoder.proofs.WholeImages.{same-after, whole-is}
 use Rattle.jpeg_decoder.proofs.WrittenPictures.{stream-means}
 
 -- ---- fronts
@@ -44,7 +45,7 @@ front-append array said next final levels reached last scanned after front more
     subst (λ (l : List ℕ). Writes array said levels scanned l final last)
     (sym (segment-tail fill (code_of s) (sized (payload_of s)) others more))
     (then_segment said final levels last scanned fill s (others ++ more) stands dct follows
-    (front-append array (found_behind said s) next final levels reached last scanned after others more f w))
+    (front-append array (found_after said s) next final levels reached last scanned after others more f w))
 front-append array said next final levels reached last scanned after front more
     (scan said' next' levels' reached' scanned' after' frame fill h codings data_bytes others framed is legal written
     f) w =
@@ -61,7 +62,7 @@ pub front-closed : (array : Coefficients) (front : List ℕ) (said : Found) (lev
     → AllByRecursion (HasTable said) frame.components
     → WritesImage array (255 ∷ 216 ∷ (front ++ (255 ∷ 217 ∷ []))) said levels
 front-closed array front said levels frame f framed progressive tables = record {
-  behind = front ++ (255 ∷ 217 ∷ []);
+  after = front ++ (255 ∷ 217 ∷ []);
   starts = refl;
   written = front-append array nothing_found said said (λ k. nothing_sent) levels levels false true front
       (255 ∷ 217 ∷ []) f
@@ -90,7 +91,7 @@ same-planes a b array place (c ∷ cs) h =
     ap (λ (o : Option (List ℕ)). needed o >>=
     (λ (table : List ℕ). planes_whole a array (place + 1) cs >>=
     (λ (others : List (List ℕ)). Ok (plane_whole c table (array place) ∷ others)))) h.0
-    ∙ same-behind (needed (slice_index_or b.quantization c.factors.quantization None)) _ _ (λ table.
+    ∙ same-after (needed (slice_index_or b.quantization c.factors.quantization None)) _ _ (λ table.
     ap (λ (o : Result (List (List ℕ)) Fault). o >>=
     (λ (others : List (List ℕ)). Ok (plane_whole c table (array place) ∷ others)))
     (same-planes a b array (place + 1) cs h.1))
@@ -125,7 +126,7 @@ same-framed settings array a b h =
     ≡ length g.components * (g.output_width * g.output_height) =
     ap (λ (cs : List Component). length cs * (f.output_width * f.output_height)) h.components
     ∙ ap₂ (λ (x y : ℕ). length g.components * (x * y)) h.width h.height in
-    let first = same-behind (planes_whole a array 0 f.components)
+    let first = same-after (planes_whole a array 0 f.components)
     (λ (planes : List (List ℕ)). picture_by settings a.metadata f f.components planes)
     (λ (planes : List (List ℕ)). picture_by settings b.metadata g f.components planes)
     (λ planes. same-colours settings a.metadata b.metadata f g f.components planes h.width h.height h.jfif h.adobe) in
@@ -224,7 +225,7 @@ frame-kept array said final levels last scanned bytes f (closed said' levels' g 
 frame-kept array said final levels last scanned bytes f
     (then_segment said' final' levels' last' scanned' fill s more may dct follows w) e =
     frame-or s (λ number h is. none-stands said f number h s e is may) (λ other.
-    frame-kept array (found_behind said s) final levels last scanned more f w (frame-stays said s other ∙ e))
+    frame-kept array (found_after said s) final levels last scanned more f w (frame-stays said s other ∙ e))
 frame-kept array said final levels last scanned bytes f
     (then_scan said' final' levels' last' scanned' g fill h codings data_bytes more framed is legal written w) e =
     frame-kept array said final _ last true more f w e
@@ -238,7 +239,7 @@ also-writes a b said final levels last scanned bytes frame
 also-writes a b said final levels last scanned bytes frame
     (then_segment said' final' levels' last' scanned' fill s more may dct follows w) e agree =
     then_segment said final levels last scanned fill s more may dct follows
-    (also-writes a b (found_behind said s) final levels last scanned more frame w e agree)
+    (also-writes a b (found_after said s) final levels last scanned more frame w e agree)
 also-writes a b said final levels last scanned bytes frame
     (then_scan said' final' levels' last' scanned' f fill h codings data_bytes more framed is legal written w) e
     agree =
@@ -259,9 +260,9 @@ also-writes a b said final levels last scanned bytes frame
 pub also-written : (a b : Coefficients) (bytes : List ℕ) (final : Found) (last : ℕ → Levels) (frame : Frame)
     → WritesImage a bytes final last → final.frame ≡ Some frame → AgreeOnOwn frame a b → WritesImage b bytes final last
 also-written a b bytes final last frame w e agree = record {
-  behind = w.behind;
+  after = w.after;
   starts = w.starts;
-  written = also-writes a b nothing_found final (λ k. nothing_sent) last false w.behind frame w.written e agree;
+  written = also-writes a b nothing_found final (λ k. nothing_sent) last false w.after frame w.written e agree;
 }
 
 array-picture : (settings : Settings) (array : Coefficients) (bytes : List ℕ) (final : Found) (last : ℕ → Levels)

@@ -1,7 +1,8 @@
 -- The picture of a written stream is that of its array, cut at the levels that were sent.
 use Rattle.std.proofs.Common.{◌≡◌, ℕ, suc, ◌+◌, ◌*◌, ◌/◌, ◌%◌, ◌<◌, ◌≤◌, ◌&&◌, nat_lt, Bool, true, false, cond, List}
 use Rattle.std.proofs.Common.{[], ◌∷◌, map, length, get_or, slice_index, slice_index_or, ℤ, Option, Some, None}
-use Rattle.std.proofs.Common.{Result, Ok, Err, refl, sym, ap, ap₂, ◌∙◌, subst, arith, min, true≢false, if◌then◌else◌}
+use Rattle.std.proofs.Common.{◌≢◌, Result, Ok, Err, refl, sym, ap, ap₂, ◌∙◌, subst, arith, min, true≢false}
+use Rattle.std.proofs.Common.{if◌then◌else◌}
 use Rattle.std.proofs.Math.Nat.{div-lt_iff_lt-mul, mul_comm, div-mul-le_self}
 use Rattle.std.proofs.lemmas.Nat.{div-mul-add, mod-mul-add}
 use Rattle.std.proofs.lemmas.Bool.{eq-eqb, le-ltb}
@@ -24,14 +25,19 @@ use Rattle.jpeg_decoder.specs.Order.{grid_of}
 use Rattle.jpeg_decoder.specs.Scans.{Arrays}
 use Rattle.jpeg_pixels.specs.Scaled.{sample_at}
 use Rattle.jpeg_pixels.specs.Planes.{plane_sample, plane_of, cropped}
-use Rattle.jpeg_decoder.specs.Stream.{Found, Metadata, needed, is_progressive, plane_by, plane_at_end, planes_from}
-use Rattle.jpeg_decoder.specs.Stream.{picture_in, picture_by, picture_of, rest_at, meaning, nothing_found, start_at}
+use Rattle.jpeg_decoder.specs.Needed.{needed}
+use Rattle.jpeg_decoder.specs.Stream.{Found, Metadata, is_progressive, plane_by, plane_at_end, planes_from}
+use Rattle.jpeg_segments.specs.declared.parser.CodingProcess.{CodingProcess}
+use Rattle.jpeg_segments.specs.declared.parser.CodingProcess.TheVariants.{DctSequential, DctProgressive, Lossless}
+use Rattle.jpeg_decoder.specs.Stream.{blocks_picture, picture_in, picture_by, picture_by_process, picture_of, rest_at}
+use Rattle.jpeg_decoder.specs.Stream.{meaning, nothing_found, start_at}
 use Rattle.jpeg_decoder.specs.Stream.{segments_at}
 use Rattle.jpeg_decoder.specs.declared.state.Before.TheVariants.{Elsewhere}
 use Rattle.jpeg_decoder.specs.Levels.{Levels, Is8Bit, cut}
 use Rattle.jpeg_decoder.proofs.FinishedPlaces.{is_level_0}
 use Rattle.jpeg_decoder.specs.WrittenScans.{Coefficients, HasTable, IsComplete}
-use Rattle.jpeg_decoder.specs.ArrayPictures.{HasTransform, IsTransformOf, Takes, plane_of_array, planes_of_array, picture_of_array}
+use Rattle.jpeg_decoder.specs.ArrayPictures.{HasTransform, IsTransformOf, Takes, plane_of_array, planes_of_array}
+use Rattle.jpeg_decoder.specs.ArrayPictures.{picture_of_array}
 use Rattle.jpeg_decoder.specs.Stream.{told_of}
 use Rattle.jpeg_decoder.proofs.AcceptedStreams.{WritesStream}
 use Rattle.jpeg_decoder.proofs.OwnSpots.{At, at-within, Fits, in-below}
@@ -250,18 +256,24 @@ picture-by-same settings m f (c ∷ d ∷ more) ps qs e made alike =
 
 -- ---- the meaning
 
-found-picture : (settings : Settings) (found : Found) (f : Frame) (planes : List (List ℕ)) → found.frame ≡ Some f
-    → planes_from found f 0 f.components ≡ Ok planes
+blocks-picture : (p : CodingProcess) → p ≢ Lossless → (settings : Settings) (found : Found) (f : Frame)
+    → picture_by_process p settings found f ≡ blocks_picture settings found f
+blocks-picture DctSequential h settings found f = refl
+blocks-picture DctProgressive h settings found f = refl
+blocks-picture Lossless h settings found f = absurd (h refl)
+
+found-picture : (settings : Settings) (found : Found) (f : Frame) (planes : List (List ℕ)) → f.process ≢ Lossless
+    → found.frame ≡ Some f → planes_from found f 0 f.components ≡ Ok planes
     → picture_of settings found
     ≡ (if nat_lt settings.limit
     (length f.components * (f.output_width * f.output_height)) then Err Malformed else picture_by settings
     found.metadata f f.components planes)
-unfolding picture_of
-found-picture settings found f planes e p =
+unfolding picture_of blocks_picture
+found-picture settings found f planes n e p =
     then-ok (needed found.frame) _ f _ (ap needed e)
     (ap (λ (o : Result (List ℕ) Fault). cond
     (nat_lt settings.limit (length f.components * (f.output_width * f.output_height))) (Err Malformed) o)
-    (then-ok (planes_from found f 0 f.components) _ planes _ p refl))
+    (blocks-picture f.process n settings found f ∙ then-ok (planes_from found f 0 f.components) _ planes _ p refl))
 
 array-picture : (settings : Settings) (w : Found) (array : Coefficients) (levels : ℕ → Levels) (f : Frame)
     (planes : List (List ℕ)) → w.frame ≡ Some f → planes_of_array w array levels 0 f.components ≡ Ok planes
@@ -286,7 +298,7 @@ pub pictures-same : (settings : Settings) (f : Frame) (array : Coefficients) (fi
 pictures-same settings f array final last h fi pl shape e framed tables complete =
     let b = planes-end f array final last h fi pl shape framed tables complete (scale-made f shape.made) 0 f.components
     (λ j c t. let start : 0 + j ≡ j = omega arith in subst (λ (n : ℕ). At n f.components c) (sym start) t) in
-    found-picture settings (reading final true h fi pl) f b.ours e b.ours_are
+    found-picture settings (reading final true h fi pl) f b.ours shape.lossy e b.ours_are
     ∙ ap (λ (o : Result (List ℕ) Fault). cond
     (nat_lt settings.limit (length f.components * (f.output_width * f.output_height))) (Err Malformed) o)
     (picture-by-same settings final.metadata f f.components b.ours b.theirs refl shape.made b.alike)

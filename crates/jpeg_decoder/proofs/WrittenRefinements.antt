@@ -249,7 +249,7 @@ pub through-first : (z : ℤ) (zs : List ℤ) → z ≡ pos 0 → through_zero (
 unfolding through_zero count_unknown
 through-first z zs e = ap (λ (x : ℤ). through_zero 0 (x ∷ zs)) e
 
--- the piece of a token ends with the place behind those that are neither old nor new
+-- the piece of a token ends with the place after those that are neither old nor new
 pub through : (al : ℕ) (front : List ℤ) (u : ℤ) (more : List ℤ) → held al u ≡ pos 0
     → NoneNew front → through_zero (count_unknown front) (map (held al) (front ++ u ∷ more)) ≡ suc (length front)
 unfolding NoneNew
@@ -436,9 +436,9 @@ refined-step table al zero r s (z ∷ zs) code bits x good coded small some room
 refined-step table al (suc m) r s (z ∷ zs) code bits x good coded small some room piece =
     refined-token table al m r s z zs code bits x good coded small (piece m refl)
 
-pub range-behind : (P : ℤ → Type 0) (front more : List ℤ) → AllByRecursion P (front ++ more) → AllByRecursion P more
-range-behind P [] more h = h
-range-behind P (v ∷ front) more h = range-behind P front more h.1
+pub range-after : (P : ℤ → Type 0) (front more : List ℤ) → AllByRecursion P (front ++ more) → AllByRecursion P more
+range-after P [] more h = h
+range-after P (v ∷ front) more h = range-after P front more h.1
 
 -- how many places a band has whose front ends with one more
 pub places-of : (al : ℕ) (front : List ℤ) (u : ℤ) (more : List ℤ)
@@ -447,7 +447,7 @@ places-of al [] u more = omega arith
 places-of al (v ∷ front) u more = let e = places-of al front u more in omega arith
 
 -- A refinement that was written is read as its numbers times 2 ^ al, from what is held before it,
--- and as the run behind it.
+-- and as the run after it.
 pub takes-refinement : (table : Table) (al : ℕ) (band : List ℤ) (bits : List Bool) (run : ℕ) → IsGood table
     → AllByRecursion (InRange al) band
     → WritesRefinement table band bits run → (n : ℕ) → length (map (held al) band) ≤ n
@@ -460,7 +460,7 @@ takes-refinement table al band bits run good range
     refined-step table al n r 1 (map (held al) (front ++ u ∷ more)) code _ _ good coded (omega arith) (omega arith) room
     (λ m e. piece-found al r (refined_ac table al m) front u more bits' run' none count new range
     (takes-refinement table al more bits' run' good
-    (range-behind (InRange al) (front ++ u ∷ []) more
+    (range-after (InRange al) (front ++ u ∷ []) more
     (subst (AllByRecursion (InRange al)) (sym (append_assoc front (u ∷ []) more)) range)) w m (omega arith)))
 takes-refinement table al band bits run good range (passed front code more bits' run' none count coded w) n room =
     let size = places-of al front (pos 0) more in
@@ -468,7 +468,7 @@ takes-refinement table al band bits run good range (passed front code more bits'
     (omega arith) room
     (λ m e. piece-passed al (refined_ac table al m) front more bits' run' none count range
     (takes-refinement table al more bits' run' good
-    (range-behind (InRange al) (front ++ pos 0 ∷ []) more
+    (range-after (InRange al) (front ++ pos 0 ∷ []) more
     (subst (AllByRecursion (InRange al)) (sym (append_assoc front (pos 0 ∷ []) more)) range)) w m (omega arith)))
 takes-refinement table al band bits run good range (none_left r e u others code h f none coded) n room =
     refined-step table al n r 0 (map (held al) (u ∷ others)) code _ _ good coded (omega arith) (omega arith) room

@@ -11,7 +11,8 @@ use Rattle.jpeg_pixels.specs.Zigzag.{coefficients_in_block_order, values_in_bloc
 use Rattle.jpeg_decoder.specs.ColourChoice.{identifiers_of, transform_of}
 use Rattle.jpeg_decoder.specs.declared.state.Settings.{Settings}
 use Rattle.jpeg_decoder.specs.Levels.{Levels, cut}
-use Rattle.jpeg_decoder.specs.Stream.{Found, Told, needed, picture_by, told_of}
+use Rattle.jpeg_decoder.specs.Needed.{needed}
+use Rattle.jpeg_decoder.specs.Stream.{Found, Told, picture_by, told_of}
 use Rattle.jpeg_decoder.specs.WrittenScans.{Coefficients}
 
 -- ---- the picture
@@ -52,7 +53,7 @@ meaning_of_array settings w array levels tail =
 
 -- ---- settings that take a picture
 
--- The colour transforms that a picture of so many components can have: none, for three components
+-- The colour transforms that a picture of this many components can have: none, for three components
 -- RGB and YCbCr, and for four CMYK and YCCK.
 abbrev pub IsTransformOf : ℕ → ColorTransform → Type 0
 IsTransformOf count transforms.None = Unit {0}

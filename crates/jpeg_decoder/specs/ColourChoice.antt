@@ -1,7 +1,10 @@
 -- The colour transform of a frame of three or four components (JFIF, and Adobe's segment).
-use Rattle.std.specs.Prelude.{ℕ, ◌==◌, ◌&&◌, List, [], ◌∷◌, map, length, Bool, false, Option, Some, None, if◌then◌else◌}
+use Rattle.std.specs.Prelude.{ℕ, ◌==◌, ◌&&◌, List, [], ◌∷◌, map, length, Bool, false, Option, Some}
+use Rattle.std.specs.Prelude.{None, if◌then◌else◌}
 use Rattle.jpeg_bits.specs.declared.color_transform.ColorTransform.{ColorTransform}
-use Rattle.jpeg_bits.specs.declared.color_transform.ColorTransform.TheVariants.{RGB, YCbCr, CMYK, YCCK, JcsBgYcc, JcsBgRgb}
+use Rattle.jpeg_bits.specs.declared.color_transform.ColorTransform.TheVariants.{RGB, YCbCr, CMYK}
+use Rattle.jpeg_bits.specs.declared.color_transform.ColorTransform.TheVariants.{YCCK, JcsBgYcc}
+use Rattle.jpeg_bits.specs.declared.color_transform.ColorTransform.TheVariants.{JcsBgRgb}
 use Rattle.jpeg_segments.specs.declared.parser.AdobeColorTransform.{AdobeColorTransform}
 use Rattle.jpeg_segments.specs.declared.parser.AdobeColorTransform.TheVariants as adobe
 use Rattle.jpeg_segments.specs.Frame.{Component}
@@ -17,7 +20,8 @@ are_three a b c (x ∷ y ∷ []) = false
 are_three a b c (x ∷ y ∷ z ∷ []) = x == a && (y == b && z == c)
 are_three a b c (x ∷ y ∷ z ∷ w ∷ more) = false
 
--- by the identifiers of three components: 1, 2, 3 of JFIF; 1, 34, 35 and the letters rgb of wide gamuts; the letters RGB
+-- by the identifiers of three components: 1, 2, 3 of JFIF; 1, 34, 35 and the letters rgb of wide
+-- gamuts; the letters RGB
 unfoldable pub by_identifiers : List ℕ → Option ColorTransform
 by_identifiers identifiers =
     if are_three 1 2 3 identifiers then Some YCbCr else (
@@ -36,7 +40,8 @@ abbrev pub or_else : Option ColorTransform → ColorTransform → ColorTransform
 or_else (Some transform) other = transform
 or_else None other = other
 
--- What a caller sets goes first; then the identifiers of three components; then that JFIF was named, for three; then Adobe's segment.
+-- What a caller sets goes first; then the identifiers of three components; then that JFIF was
+-- named, for three; then Adobe's segment.
 unfoldable pub transform_of : Option ColorTransform → List ℕ → Bool → Option AdobeColorTransform → ColorTransform
 transform_of set identifiers jfif adobe_transform =
     let is_three = length identifiers == 3 in

@@ -51,7 +51,7 @@ pub record FailsOutside (e : Error) (source : Stream) : Type 0 where
 
 -- A call on a decoder whose source has a stream that is written for the coefficients of 8-bit
 -- samples, and whose settings take its picture, gives that picture, cut at the bits that were sent,
--- and leaves what follows the image; or it fails for want of memory or by its reader.
+-- and leaves what follows the image; or it fails for lack of memory or by its reader.
 abbrev pub DecodesImages :
     {X : Type 0} → (X → List ℕ) → Decoding → Result X Error → Decoding → Type 0
 DecodesImages bytes_of old result new =

@@ -1,5 +1,7 @@
 -- The blocks of a scan one after the other, as they are read on what is held of them and put back.
-use Rattle.std.specs.Prelude.{◌≡◌, ◌⊎◌, ◌<◌, ◌≤◌, ◌+◌, ◌*◌, ◌-◌, ◌%◌, ◌==◌, ◌&&◌, nat_lt, ℕ, suc, true, false, List, [], ◌∷◌, length, map, set, get_or, ℤ, pos, Option, Ok, Err}
+use Rattle.std.specs.Prelude.{◌≡◌, ◌⊎◌, ◌<◌, ◌≤◌, ◌+◌, ◌*◌, ◌-◌, ◌%◌, ◌==◌, ◌&&◌, nat_lt, ℕ, suc}
+use Rattle.std.specs.Prelude.{true, false, List, [], ◌∷◌, length, map, set, get_or, ℤ, pos, Option}
+use Rattle.std.specs.Prelude.{Ok, Err}
 use Rattle.std.specs.List.{range_with_len, flat_map}
 use Rattle.jpeg_bits.specs.Reading as reading
 use Rattle.jpeg_bits.specs.Reading.{Outcome, Malformed}
@@ -24,7 +26,7 @@ turn_from p vias s old =
     block_from p (via_at vias s.slot).dc (via_at vias s.slot).ac (get_or old.predictors (via_at vias s.slot).component (pos 0)) old.run (block_at old.arrays s) >>= (λ r.
     gives (record { arrays = put_block s r.0 old.arrays; predictors = set old.predictors (via_at vias s.slot).component r.1; run = r.2 }))
 
--- so many blocks more
+-- this many blocks more
 unfoldable pub turns_from : Pass → List Via → List Spot → Reached → Reads Reached
 turns_from p vias [] old = gives old
 turns_from p vias (s ∷ spots) old = turn_from p vias s old >>= turns_from p vias spots
@@ -32,13 +34,13 @@ turns_from p vias (s ∷ spots) old = turn_from p vias s old >>= turns_from p vi
 abbrev pub at_start : Arrays → Reached
 at_start arrays = record { arrays = arrays; predictors = predictors_at_start; run = 0 }
 
--- the blocks behind the interval that begins these bytes, and the marker behind it, if it is met
+-- the blocks after the interval that begins these bytes, and the marker after it, if it is met
 unfoldable pub interval_from : Pass → List Via → List Spot → Arrays → List ℕ → Outcome (Arrays × Option Marker)
 interval_from p vias spots arrays bytes =
     reading.◌>>=◌ (turns_from p vias spots (at_start arrays) (upcoming fresh bytes)) (λ r.
     reading.◌>>=◌ (marker_from r.1) (λ m. Ok ((r.0.arrays, m.0), m.1)))
 
--- behind an interval: the others on its blocks, where it ends with RST k
+-- after an interval: the others on its blocks, where it ends with RST k
 abbrev pub next_interval : ℕ → (Arrays → List ℕ → Outcome (Arrays × Option Marker)) → (Arrays × Option Marker) × List ℕ → Outcome (Arrays × Option Marker)
 next_interval k others r = elim (is_restart k r.0.1) [ true ↦ others r.0.0 r.1 | false ↦ Err Malformed ]
 
@@ -50,12 +52,12 @@ intervals_from p vias k spots (next ∷ more) arrays bytes =
 
 -- ---- MCU by MCU
 
--- behind an interval RST k has to be met, and the next begins
+-- after an interval RST k has to be met, and the next begins
 unfoldable pub restart_from : ℕ → Reads (Unit {0})
 restart_from k t = reading.◌>>=◌ (marker_from t) (λ m. elim (is_restart k m.0) [ true ↦ Ok (tt, upcoming fresh m.1) | false ↦ Err Malformed ])
 
--- What is held between MCUs: what is reached in an interval, how many MCUs are left of it, and the number of the restart marker behind it,
--- which counts modulo 8.
+-- What is held between MCUs: what is reached in an interval, how many MCUs are left of it, and the
+-- number of the restart marker after it, which counts modulo 8.
 pub record Counted : Type 0 where
   pub reached : Reached
   pub left : ℕ
@@ -76,7 +78,7 @@ mcu_from p vias n mcu old =
     turns_from p vias mcu now.reached >>= (λ r.
     gives (record { reached = r; left = now.left - 1; number = now.number })))
 
--- so many MCUs more
+-- this many MCUs more
 unfoldable pub mcus_from : Pass → List Via → ℕ → List (List Spot) → Counted → Reads Counted
 mcus_from p vias n [] old = gives old
 mcus_from p vias n (mcu ∷ mcus) old = mcu_from p vias n mcu old >>= mcus_from p vias n mcus
@@ -84,7 +86,7 @@ mcus_from p vias n (mcu ∷ mcus) old = mcu_from p vias n mcu old >>= mcus_from 
 abbrev pub counted_at_start : ℕ → Arrays → Counted
 counted_at_start n arrays = record { reached = at_start arrays; left = n; number = 0 }
 
--- a scan of these MCUs: the blocks behind it, and the marker behind it, if it is met
+-- a scan of these MCUs: the blocks after it, and the marker after it, if it is met
 unfoldable pub scan_from : Pass → List Via → ℕ → List (List Spot) → Arrays → List ℕ → Outcome (Arrays × Option Marker)
 scan_from p vias n mcus arrays bytes =
     reading.◌>>=◌ (mcus_from p vias n mcus (counted_at_start n arrays) (upcoming fresh bytes)) (λ r.

@@ -75,8 +75,8 @@ pub record IsLegal (p : Pass) (l : Levels) : Type 0 where
       p.is_first ≡ false → AllByRecursion (λ x. x ≡ Some (suc p.al)) (band_of p l.acs)
 
 -- The levels after the scan.
-abbrev pub levels_behind : Pass → Levels → Levels
-levels_behind p l = record {
+abbrev pub sent_after : Pass → Levels → Levels
+sent_after p l = record {
   dc = elim (p.ss == 0) as (λ _. Option ℕ) [ true ↦ Some p.al | false ↦ l.dc ];
   acs = with_band p l.acs (replicate (length (band_of p l.acs)) (Some p.al));
 }

@@ -6,12 +6,15 @@ pub mod McuRows
 pub mod Strips
 pub mod Layout
 pub mod Scanning
+pub mod Needed
+pub mod LosslessScans
 pub mod Stream
 pub mod Sound
 pub mod Profile
 pub mod States
 pub mod Seen
 pub mod Output
+pub mod PrintedImages
 pub mod Worked
 pub mod Steps
 pub mod Pixels
@@ -25,5 +28,8 @@ pub mod ArrayPictures
 pub mod WholeImages
 pub mod WorkedImages
 pub mod DecodedImages
+pub mod WrittenLossless
 pub mod WrittenParts
 pub mod EndPlanes
+pub mod DecodedSamples
+pub mod WorkedSamples

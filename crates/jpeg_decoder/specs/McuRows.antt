@@ -1,5 +1,6 @@
 -- The blocks of a sequential scan, row by row of MCUs, as they are read into the blocks of a row.
-use Rattle.std.specs.Prelude.{ℕ, ◌+◌, ◌-◌, ◌*◌, min, List, [], ◌∷◌, ◌++◌, map, replicate, Option, Ok}
+use Rattle.std.specs.Prelude.{ℕ, ◌+◌, ◌-◌, ◌*◌, min, List, [], ◌∷◌, ◌++◌, map, replicate, Option}
+use Rattle.std.specs.Prelude.{Ok}
 use Rattle.std.specs.List.{range_with_len, flat_map}
 use Rattle.jpeg_bits.specs.Reading as reading
 use Rattle.jpeg_bits.specs.Reading.{Outcome}
@@ -32,11 +33,11 @@ rows_of frame [] = []
 rows_of frame (c ∷ []) = map (own_row_mcus c) (range_with_len 0 frame.mcus_high)
 rows_of frame (c ∷ d ∷ more) = map (λ row. row_mcus frame.mcus_wide (c ∷ d ∷ more)) (range_with_len 0 frame.mcus_high)
 
--- the blocks of so many rows of MCUs, in which nothing was read yet
+-- the blocks of this many rows of MCUs, in which nothing was read yet
 unfoldable pub zero_rows : ℕ → List Component → Arrays
 zero_rows rows components = map (λ c. replicate (rows * row_size c) zero_block) components
 
--- each component's blocks, with more behind
+-- each component's blocks, with more after
 unfoldable pub joined : Arrays → Arrays → Arrays
 joined (a ∷ front) (b ∷ more) = (a ++ b) ∷ joined front more
 joined _ _ = []
@@ -44,7 +45,7 @@ joined _ _ = []
 abbrev pub with_arrays : Arrays → Counted → Counted
 with_arrays arrays c = record { reached = record { arrays = arrays; predictors = c.reached.predictors; run = c.reached.run }; left = c.left; number = c.number }
 
--- rows of MCUs behind the blocks in front, each read into blocks of its own
+-- rows of MCUs after the blocks in front, each read into blocks of its own
 unfoldable pub rows_from : Pass → List Via → ℕ → List Component → List (List (List Spot)) → Arrays → Counted → Reads Counted
 rows_from p vias n components [] front old = gives (with_arrays front old)
 rows_from p vias n components (mcus ∷ rows) front old =

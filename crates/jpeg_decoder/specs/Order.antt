@@ -50,7 +50,7 @@ mcu_spots row column slot [] = []
 mcu_spots row column slot (c ∷ more) =
     part_spots row column slot c ++ mcu_spots row column (slot + 1) more
 
--- The blocks of the MCUs, so many across and down, in raster order of the MCUs.
+-- The blocks of the MCUs, this many across and down, in raster order of the MCUs.
 unfoldable pub all_spots : ℕ → ℕ → List Component → List Spot
 all_spots wide high components =
     flat_map

@@ -1,10 +1,12 @@
 -- What the program writes for a stream.
-use Rattle.std.specs.Prelude.{◌≡◌, ◌<◌, ◌^◌, ℕ, List, [], ◌∷◌, ◌++◌, ◌⊎◌, Ok, Err, Option, Some, None, option_map, codes, length, string_bytes}
+use Rattle.std.specs.Prelude.{◌≡◌, ◌<◌, ◌^◌, ℕ, List, [], ◌∷◌, ◌++◌, ◌⊎◌, Ok, Err, Option, Some}
+use Rattle.std.specs.Prelude.{None, option_map, codes, length, string_bytes}
 use Rattle.std.specs.Fmt.{decimal}
 use Rattle.std.specs.Io.KnownBytes.{Appends}
 use Rattle.jpeg_bits.specs.Reading.{Names}
 use Rattle.jpeg_bits.specs.declared.error.Error.{Error}
-use Rattle.jpeg_bits.specs.declared.error.Error.TheVariants.{Format, Unsupported, Io, Internal, OutOfMemory}
+use Rattle.jpeg_bits.specs.declared.error.Error.TheVariants.{Format, Unsupported, Io, Internal}
+use Rattle.jpeg_bits.specs.declared.error.Error.TheVariants.{OutOfMemory}
 use Rattle.jpeg_decoder.specs.declared.state.Settings.{Settings}
 use Rattle.jpeg_decoder.specs.declared.decoder.ImageInfo.{ImageInfo}
 use Rattle.jpeg_decoder.specs.declared.decoder.PixelFormat.{PixelFormat}
@@ -43,7 +45,7 @@ IsOutside OutOfMemory = ⊥
 IsOutside (Unsupported feature) = ⊥
 IsOutside (Internal text) = ⊥
 
--- want of memory, or an error of the reader or the writer
+-- out of memory, or an error of the reader or the writer
 abbrev pub IsOutsideOrMemory : Error → Type 0
 IsOutsideOrMemory (Io error) = Unit {0}
 IsOutsideOrMemory (Format text) = string_bytes text ≡ []
@@ -51,7 +53,7 @@ IsOutsideOrMemory OutOfMemory = Unit {0}
 IsOutsideOrMemory (Unsupported feature) = ⊥
 IsOutsideOrMemory (Internal text) = ⊥
 
--- the fault of these bytes by its name, or an error of the reader or the writer, or want of memory
+-- the fault of these bytes by its name, or an error of the reader or the writer, or out of memory
 abbrev pub NamesOrOutside : List ℕ → Error → Type 0
 NamesOrOutside bytes e = Names e (meaning default_settings bytes) ⊎ IsOutsideOrMemory e
 

@@ -7,6 +7,6 @@ use Rattle.jpeg_bits.specs.Passes.{Block, zero_block, listed}
 abbrev pub ordered : Block → List ℤ
 ordered b = coefficients_in_block_order (listed b)
 
--- the block in a row and a column of blocks in raster order, so many wide
+-- the block in a row and a column of blocks in raster order, this many wide
 abbrev pub in_raster : ℕ → List Block → ℕ → ℕ → List ℤ
 in_raster wide blocks row column = ordered (get_or blocks (row * wide + column) zero_block)

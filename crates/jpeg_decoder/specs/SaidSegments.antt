@@ -41,13 +41,13 @@ abbrev pub Stands : Found → Segment → Type 0
 Stands said s = MayStand said.frame s × IsDecoded s
 
 -- What is known after it: tables take the places of earlier ones (B.2.4).
-abbrev pub found_behind : Found → Segment → Found
-found_behind said (Quantization ts) =
+abbrev pub found_after : Found → Segment → Found
+found_after said (Quantization ts) =
     record said { quantization = updated said.quantization (quantization_tables ts) }
-found_behind said (Huffman ts) =
+found_after said (Huffman ts) =
     record said { huffman = with_huffman said.huffman (huffman_tables ts) }
-found_behind said (Interval n) = record said { restart = n }
-found_behind said (Application number payload) =
+found_after said (Interval n) = record said { restart = n }
+found_after said (Application number payload) =
     record said { metadata = with_application said.metadata (said_by number payload) }
-found_behind said (Comment payload) = said
-found_behind said (Header number h) = record said { frame = Some (frame_written number h) }
+found_after said (Comment payload) = said
+found_after said (Header number h) = record said { frame = Some (frame_written number h) }

@@ -78,7 +78,7 @@ down_in c = c.component.now.vertical_sampling_factor
 abbrev pub part_in : ℕ → ℕ → Coded → List Spot
 part_in slot start c = part_of slot (wide_in c) (across_in c) start (down_in c)
 
--- each of the lines that are left lies within so many blocks
+-- each of the lines that are left lies within this many blocks
 abbrev pub AreWithin : ℕ → ℕ → ℕ → ℕ → ℕ → Type 0
 AreWithin size wide count index left = (v : ℕ) → v < left → index + v * wide + count ≤ size
 
@@ -106,7 +106,7 @@ mcu_in components row column = mcu_spots row column 0 components
 abbrev pub row_in : List Component → ℕ → ℕ → List (List Spot)
 row_in components wide row = map (mcu_in components row) (range_with_len 0 wide)
 
--- the MCUs of so many rows
+-- the MCUs of this many rows
 abbrev pub rows_in : List Component → ℕ → ℕ → List (List Spot)
 rows_in components wide high = flat_map (row_in components wide) (range_with_len 0 high)
 

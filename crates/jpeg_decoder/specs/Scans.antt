@@ -1,4 +1,4 @@
--- The blocks behind a scan (T.81, A.2, E.2.3 and G.1).
+-- The blocks after a scan (T.81, A.2, E.2.3 and G.1).
 use Rattle.std.specs.Prelude.{ℕ, ◌*◌, List, [], ◌∷◌, map, set, get_or, replicate, Option, Ok}
 use Rattle.jpeg_bits.specs.Reading.{Outcome, ◌>>=◌}
 use Rattle.jpeg_bits.specs.Codes.{Table}
@@ -46,8 +46,8 @@ via_at vias slot = get_or vias slot (record { component = slot; dc = no_table cl
 unfoldable pub turns_of : List Via → List Spot → Arrays → List (Via × Block)
 turns_of vias spots arrays = map (λ s. (via_at vias s.slot, block_at arrays s)) spots
 
--- A scan: the blocks at its spots are read in intervals of n blocks, or in one where n is 0, and are put back; and the marker behind the scan,
--- if it is met.
+-- A scan: the blocks at its spots are read in intervals of n blocks, or in one where n is 0, and
+-- are put back; and the marker after the scan, if it is met.
 unfoldable pub arrays_at : Pass → ℕ → List Via → List Spot → Arrays → List ℕ → Outcome (Arrays × Option Marker)
 arrays_at p n vias spots arrays bytes =
     let turns = turns_of vias spots arrays in do

@@ -43,6 +43,7 @@ found_in s = record {
   held = arrays_in s.decoded.held.items;
   finished = s.decoded.finished;
   planes = planes_in s.decoded.planes;
+  samples = planes_in s.decoded.samples;
 }
 
 abbrev pub stage_of : Progress → Stage
@@ -51,7 +52,8 @@ stage_of progress.HeaderRead = HeaderRead
 stage_of progress.Finished = Finished
 stage_of progress.Failed = Failed
 
--- one component has 8 or 16 bits a sample, three are red, green and blue, and four cyan, magenta, yellow and black
+-- one component has 8 or 16 bits a sample, three are red, green and blue, and four cyan, magenta,
+-- yellow and black
 abbrev pub format_of : ℕ → ℕ → PixelFormat
 format_of count precision = if count == 3 then RGB24 else (if count == 4 then CMYK32 else (if nat_le precision 8 then L8 else L16))
 

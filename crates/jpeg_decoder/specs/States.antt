@@ -5,7 +5,8 @@ use Rattle.jpeg_bits.specs.Stream.{Stream}
 use Rattle.jpeg_bits.specs.declared.error.Error.{Error}
 use Rattle.jpeg_bits.specs.declared.error.Error.TheVariants as errors
 use Rattle.jpeg_decoder.specs.declared.state.Settings.{Settings}
-use Rattle.jpeg_decoder.specs.Stream.{Found, Told, told_of, meaning, rest_at, told_by_stream, told_by_turns, told_in_turns, told_rest}
+use Rattle.jpeg_decoder.specs.Stream.{Found, Told, told_of, meaning, rest_at, told_by_stream}
+use Rattle.jpeg_decoder.specs.Stream.{told_by_turns, told_in_turns, told_rest}
 
 pub data Stage : Type 0 where
   Fresh : Stage
@@ -69,7 +70,7 @@ HasHeader HeaderRead = Unit {0}
 HasHeader Finished = Unit {0}
 HasHeader Failed = ⊥
 
--- the meaning of what lies ahead of a decoder: a whole stream, or the rest of one behind its header
+-- the meaning of what lies ahead of a decoder: a whole stream, or the rest of one after its header
 abbrev pub ahead : Stage → Settings → Found → List ℕ → Outcome (Told × List ℕ)
 ahead Fresh settings found bytes = meaning settings bytes
 ahead HeaderRead settings found bytes = rest_at settings found bytes
@@ -83,7 +84,7 @@ told_ahead header HeaderRead found bytes = told_rest header found bytes
 told_ahead header Finished found bytes = told_of found
 told_ahead header Failed found bytes = told_of found
 
--- what so many turns of what lies ahead have said
+-- what this many turns of what lies ahead have said
 abbrev pub turns_ahead : ℕ → Bool → Stage → Found → List ℕ → Told
 turns_ahead turns header Fresh found bytes = told_by_turns turns header bytes
 turns_ahead turns header HeaderRead found bytes = told_in_turns turns header found bytes
@@ -92,7 +93,7 @@ turns_ahead turns header Failed found bytes = told_of found
 
 -- ---- calls that read
 
--- a fact, unless memory was wanting
+-- a fact, unless memory ran out
 abbrev pub IfRefused : Error → Type 0 → Type 0
 IfRefused errors.OutOfMemory P = Unit {0}
 IfRefused (errors.Internal text) P = P

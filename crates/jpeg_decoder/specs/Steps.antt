@@ -1,9 +1,13 @@
--- What the decoder's own clauses need beside the meaning of a stream: what a caller sees after a segment, the marker after a scan, and the
--- components of a scan with their tables.
-use Rattle.std.specs.Prelude.{◌≡◌, ◌<◌, ◌≤◌, All, ℕ, suc, drop, ◌&&◌, not, is_some, slice_set, ◌*◌, ◌/◌, min, List, [], ◌∷◌, map, set, length, replicate, get_or, Bool, true, false, Option, slice_index_or, Some, None, Result, Ok, Err, nat_lt, ◌==◌, if◌then◌else◌}
-use Rattle.jpeg_bits.specs.Reading.{Outcome, Fault, Malformed, ◌>>=◌}
+-- What the decoder's own clauses need beside the meaning of a stream: what a caller sees after a
+-- segment, the marker after a scan, and the components of a scan with their tables.
+use Rattle.std.specs.Prelude.{◌≡◌, ◌<◌, ◌≤◌, All, ℕ, suc, drop, ◌&&◌, not, is_some, slice_set, ◌*◌}
+use Rattle.std.specs.Prelude.{◌/◌, min, List, [], ◌∷◌, map, set, length, replicate, get_or, Bool}
+use Rattle.std.specs.Prelude.{true, false, Option, slice_index_or, Some, None, Result, Ok}
+use Rattle.std.specs.Prelude.{if◌then◌else◌}
+use Rattle.jpeg_bits.specs.Reading.{Outcome, Fault, ◌>>=◌}
 use Rattle.jpeg_bits.specs.Codes.{Table}
-use Rattle.jpeg_bits.specs.DefaultTables.{luminance_dc, chrominance_dc, luminance_ac, chrominance_ac, with_defaults}
+use Rattle.jpeg_bits.specs.DefaultTables.{luminance_dc, chrominance_dc, luminance_ac}
+use Rattle.jpeg_bits.specs.DefaultTables.{chrominance_ac, with_defaults}
 use Rattle.jpeg_bits.specs.declared.error.Error.{Error}
 use Rattle.jpeg_bits.specs.declared.error.Error.TheVariants as errors
 use Rattle.jpeg_bits.specs.declared.marker.Marker.{Marker}
@@ -26,9 +30,17 @@ use Rattle.jpeg_decoder.specs.declared.state.State.{State}
 use Rattle.jpeg_decoder.specs.declared.state.Step.{Step}
 use Rattle.jpeg_decoder.specs.declared.codings.Coded.{Coded}
 use Rattle.jpeg_decoder.specs.declared.codings.Spare.{Spare}
-use Rattle.jpeg_decoder.specs.Scans.{no_table, zero_arrays}
+use Rattle.jpeg_decoder.specs.Scans.{no_table}
 use Rattle.jpeg_bits.specs.declared.codes.HuffmanTableClass.TheVariants as classes
-use Rattle.jpeg_decoder.specs.Stream.{Found, Turn, Coding, first_of, is_decoded, needed, pass_of, tables_of, coding_of, codings_from, behind_restarts, finished_by, none_finished, decided, plane_by, vias_from, arrays_before, with_arrays, held_behind}
+use Rattle.jpeg_decoder.specs.Needed.{first_of, needed}
+use Rattle.jpeg_decoder.specs.Stream.{Found, Turn, Coding, pass_of, tables_of, coding_of}
+use Rattle.jpeg_decoder.specs.Stream.{codings_from, after_restarts, finished_by, none_finished}
+use Rattle.jpeg_decoder.specs.Stream.{decided, vias_from, arrays_before, with_arrays, held_after}
+use Rattle.jpeg_decoder.specs.Stream.{after_samples, scan_samples}
+use Rattle.jpeg_decoder.specs.LosslessScans.{lossless_codings, without_factors}
+use Rattle.jpeg_segments.specs.declared.parser.CodingProcess.{CodingProcess}
+use Rattle.jpeg_segments.specs.declared.parser.CodingProcess.TheVariants.{DctSequential}
+use Rattle.jpeg_segments.specs.declared.parser.CodingProcess.TheVariants.{DctProgressive, Lossless}
 use Rattle.jpeg_decoder.specs.Seen.{found_in, planes_in}
 
 abbrev pub turn_of : State → Step → Turn
@@ -42,8 +54,8 @@ is_restart (Some (RST n)) = true
 is_restart _ = false
 
 -- the marker after a scan, where all restart markers are passed over
-unfoldable pub behind_all : Option Marker → List ℕ → Outcome (Option Marker)
-behind_all met bytes = behind_restarts (suc (length bytes)) met bytes
+unfoldable pub after_all : Option Marker → List ℕ → Outcome (Option Marker)
+after_all met bytes = after_restarts (suc (length bytes)) met bytes
 
 -- ---- the tables of a scan
 
@@ -92,7 +104,12 @@ pub record IsSpareOf (found : Found) (scan : headers.Scan) (spare : Spare) : Typ
 
 -- a state with what scans have given
 abbrev pub with_decoded : Found → Decoded → Found
-with_decoded found d = record found { held = arrays_in d.held.items; finished = d.finished; planes = planes_in d.planes }
+with_decoded found d = record found {
+  held = arrays_in d.held.items;
+  finished = d.finished;
+  planes = planes_in d.planes;
+  samples = planes_in d.samples;
+}
 
 -- Planes with that of a component: where all of these places are finished the first one decides.
 unfoldable pub decided_planes : List Bool → ℕ → List ℕ → List (Option (List ℕ)) → List (Option (List ℕ))
@@ -133,7 +150,7 @@ unfoldable pub scan_data : Found → Frame → Pass → List Coding → List ℕ
 scan_data found frame p codings bytes = do
   r ← arrays_at p (found.restart * mcu_size (components_of codings)) (vias_from 0 codings) (spots_of frame (components_of codings))
       (blocks_at codings (arrays_before found frame)) bytes
-  Ok ((with_arrays p codings r.0.0 (record found { scanned = true; held = held_behind found frame codings r.0.0 }), r.0.1), r.1)
+  Ok ((with_arrays p codings r.0.0 (record found { scanned = true; held = held_after found frame codings r.0.0 }), r.0.1), r.1)
 
 -- the place of a component in its frame
 abbrev pub HasPlace : Coded → Type 0
@@ -174,16 +191,39 @@ cropped_to c width height plane =
 
 -- ---- a scan
 
--- a scan by what was found before it: what is found after it, and the marker after it and its restart markers
+-- a process by blocks
+abbrev pub IsDct : CodingProcess → Type 0
+IsDct DctSequential = Unit {0}
+IsDct DctProgressive = Unit {0}
+IsDct Lossless = ⊥
+
+-- a scan of blocks: what is found after it, and the marker after it and its restart markers
+unfoldable pub blocks_read : Found → Frame → headers.Scan → List ℕ → Outcome (Found × Option Marker)
+blocks_read found frame scan bytes = do
+  codings ← codings_in_force found frame scan
+  r ← scan_data found frame (pass_of scan) codings bytes
+  met ← after_all r.0.1 r.1
+  Ok ((r.0.0, met.0), met.1)
+
+-- a lossless scan
+unfoldable pub samples_read : Found → Frame → headers.Scan → List ℕ → Outcome (Found × Option Marker)
+samples_read found frame scan bytes = do
+  codings ← lossless_codings found.huffman.dc frame scan.components scan.dc_places
+  r ← scan_samples found frame scan codings bytes
+  met ← after_all r.0.1 r.1
+  Ok ((after_samples found codings r.0.0, met.0), met.1)
+
+abbrev pub read_by : CodingProcess → Found → Frame → headers.Scan → List ℕ → Outcome (Found × Option Marker)
+read_by DctSequential found frame scan bytes = blocks_read found frame scan bytes
+read_by DctProgressive found frame scan bytes = blocks_read found frame scan bytes
+read_by Lossless found frame scan bytes = samples_read found (without_factors frame) scan bytes
+
+-- a scan by what was found before it
 unfoldable pub scan_read : Found → List ℕ → Outcome (Found × Option Marker)
 scan_read found bytes = do
   frame ← needed found.frame
   scan ← sos_at frame bytes
-  if is_decoded frame.process then (do
-    codings ← codings_in_force found frame scan.0
-    r ← scan_data found frame (pass_of scan.0) codings scan.1
-    met ← behind_all r.0.1 r.1
-    Ok ((r.0.0, met.0), met.1)) else Err Malformed
+  read_by frame.process found frame scan.0 scan.1
 
 -- ---- refusals
 

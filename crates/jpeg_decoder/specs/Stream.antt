@@ -1,17 +1,25 @@
 -- The state that the segments of a stream lead to, and the meaning of a stream (T.81, B.2).
-use Rattle.std.specs.Prelude.{◌≡◌, ℕ, zero, suc, ◌+◌, ◌-◌, ◌*◌, ◌/◌, ◌==◌, min, not, ◌&&◌, ◌||◌, nat_lt, nat_le, List, [], ◌∷◌, ◌++◌, map, length, take, drop, set, get_or, replicate, slice_index_or, slice_set, Bool, true, false, Option, Some, None, option_map, is_some, Result, Ok, Err, if◌then◌else◌}
+use Rattle.std.specs.Prelude.{◌≡◌, ℕ, zero, suc, ◌+◌, ◌-◌, ◌*◌, ◌/◌, ◌==◌, min, not, ◌&&◌, ◌||◌}
+use Rattle.std.specs.Prelude.{nat_lt, nat_le, List, [], ◌∷◌, ◌++◌, map, length, take, drop, set}
+use Rattle.std.specs.Prelude.{get_or, replicate, slice_index_or, slice_set, Bool, true, false}
+use Rattle.std.specs.Prelude.{Option, Some, None, option_map, is_some, Result, Ok, Err}
+use Rattle.std.specs.Prelude.{if◌then◌else◌}
 use Rattle.std.specs.List.{list_all}
-use Rattle.jpeg_bits.specs.Reading.{Outcome, Fault, Malformed, Lacks, End, ◌>>=◌, next_byte, length_at, skip_at}
+use Rattle.jpeg_bits.specs.Reading.{Outcome, Fault, Malformed, Lacks, End, ◌>>=◌, next_byte}
+use Rattle.jpeg_bits.specs.Reading.{length_at, skip_at}
 use Rattle.jpeg_bits.specs.Marker.{next_marker}
 use Rattle.jpeg_bits.specs.Codes.{Table}
-use Rattle.jpeg_bits.specs.DefaultTables.{luminance_dc, chrominance_dc, luminance_ac, chrominance_ac, with_defaults}
+use Rattle.jpeg_bits.specs.DefaultTables.{luminance_dc, chrominance_dc, luminance_ac}
+use Rattle.jpeg_bits.specs.DefaultTables.{chrominance_ac, with_defaults}
 use Rattle.jpeg_bits.specs.declared.codes.HuffmanTableClass.{HuffmanTableClass}
 use Rattle.jpeg_bits.specs.declared.codes.HuffmanTableClass.TheVariants as classes
 use Rattle.jpeg_bits.specs.declared.marker.Marker.{Marker}
-use Rattle.jpeg_bits.specs.declared.marker.Marker.TheVariants.{SOF, DHT, DAC, RST, EOI, SOS, DQT, DNL, DRI, DHP, EXP, APP, COM}
+use Rattle.jpeg_bits.specs.declared.marker.Marker.TheVariants.{SOF, DHT, DAC, RST, EOI, SOS, DQT}
+use Rattle.jpeg_bits.specs.declared.marker.Marker.TheVariants.{DNL, DRI, DHP, EXP, APP, COM}
 use Rattle.jpeg_bits.specs.declared.error.UnsupportedFeature.TheVariants as features
 use Rattle.jpeg_segments.specs.declared.parser.CodingProcess.{CodingProcess}
-use Rattle.jpeg_segments.specs.declared.parser.CodingProcess.TheVariants.{DctSequential, DctProgressive, Lossless}
+use Rattle.jpeg_segments.specs.declared.parser.CodingProcess.TheVariants.{DctSequential}
+use Rattle.jpeg_segments.specs.declared.parser.CodingProcess.TheVariants.{DctProgressive, Lossless}
 use Rattle.jpeg_segments.specs.declared.parser.EntropyCoding.{EntropyCoding}
 use Rattle.jpeg_segments.specs.declared.parser.EntropyCoding.TheVariants.{Huffman, Arithmetic}
 use Rattle.jpeg_segments.specs.declared.parser.AdobeColorTransform.{AdobeColorTransform}
@@ -19,7 +27,8 @@ use Rattle.jpeg_segments.specs.Frame.{Frame, Component, sof_at}
 use Rattle.jpeg_segments.specs.ScanHeader.{Scan, sos_at}
 use Rattle.jpeg_segments.specs.Quantization.{dqt_at}
 use Rattle.jpeg_segments.specs.HuffmanTables.{Tables, no_tables, dht_at}
-use Rattle.jpeg_segments.specs.Application.{Application, Chunk, Adobe, Jfif, Avi1, Icc, Exif, Xmp, Psir, app_at, dri_at}
+use Rattle.jpeg_segments.specs.Application.{Application, Chunk, Adobe, Jfif, Avi1, Icc, Exif, Xmp}
+use Rattle.jpeg_segments.specs.Application.{Psir, app_at, dri_at}
 use Rattle.jpeg_pixels.specs.Zigzag.{values_in_block_order}
 use Rattle.jpeg_pixels.specs.Pictures.{sources_of, image_of}
 use Rattle.jpeg_decoder.specs.ColourChoice.{identifiers_of, transform_of}
@@ -29,12 +38,17 @@ use Rattle.jpeg_bits.specs.Passes.{Pass, Via, Block}
 use Rattle.jpeg_decoder.specs.Rasters.{in_raster}
 use Rattle.jpeg_decoder.specs.Order.{spots_of, mcu_size}
 use Rattle.jpeg_decoder.specs.Scans.{Arrays, zero_arrays, no_table, arrays_at}
+use Rattle.jpeg_lossless.specs.Scans.{scan_at}
+use Rattle.jpeg_decoder.specs.LosslessScans.{LosslessCoding, lossless_codings, lossless_picture}
+use Rattle.jpeg_decoder.specs.LosslessScans.{mcus_down, samples_from, way_of, with_samples}
+use Rattle.jpeg_decoder.specs.LosslessScans.{without_factors}
+use Rattle.jpeg_decoder.specs.Needed.{first_of, needed}
 use Rattle.jpeg_decoder.specs.declared.state.Settings.{Settings}
 use Rattle.jpeg_decoder.specs.declared.state.Before.{Before}
 use Rattle.jpeg_decoder.specs.declared.state.Before.TheVariants.{FirstScan, LaterScan, Elsewhere}
 
--- What the segments of applications have said: whether JFIF or an MJPEG frame was named, and the last Adobe transform, Exif, XMP and
--- Photoshop data; parts of ICC profiles add up.
+-- What the segments of applications have said: whether JFIF or an MJPEG frame was named, and the
+-- last Adobe transform, Exif, XMP and Photoshop data; parts of ICC profiles add up.
 pub record Metadata : Type 0 where
   pub jfif : Bool
   pub avi1 : Bool
@@ -47,9 +61,11 @@ pub record Metadata : Type 0 where
 abbrev pub no_metadata : Metadata
 no_metadata = record { jfif = false; avi1 = false; adobe = None; exif = None; xmp = None; psir = None; icc = [] }
 
--- What the segments and scans so far have said: the frame; the tables in force, by their places; the restart interval; whether a scan was
--- read; the metadata; and by the components' places in the frame the blocks that are held between the scans of a progressive frame, which
--- of the 64 places of a block are finished, and the planes that are decided. Quantization tables stand in zigzag order.
+-- What the segments and scans so far have said: the frame; the tables in force, by their places;
+-- the restart interval; whether a scan was read; the metadata; and by the components' places in the
+-- frame the blocks that are held between the scans of a progressive frame, which of the 64 places
+-- of a block are finished, and the planes that are decided. Quantization tables stand in zigzag
+-- order. By the components' places in a lossless frame, their samples.
 pub record Found : Type 0 where
   pub frame : Option Frame
   pub quantization : List (Option (List ℕ))
@@ -60,6 +76,7 @@ pub record Found : Type 0 where
   pub held : Arrays
   pub finished : List (List Bool)
   pub planes : List (Option (List ℕ))
+  pub samples : List (Option (List ℕ))
 
 -- no place of a block is finished
 abbrev pub none_finished : List Bool
@@ -76,11 +93,13 @@ nothing_found = record {
   held = [];
   finished = replicate 4 none_finished;
   planes = replicate 4 None;
+  samples = replicate 4 None;
 }
 
 -- ---- segments
 
--- What a segment leads to: the state, what stands before the next marker, that marker, if it is met already, and whether the image has ended.
+-- What a segment leads to: the state, what stands before the next marker, that marker, if it is met
+-- already, and whether the image has ended.
 pub record Turn : Type 0 where
   pub found : Found
   pub before : Before
@@ -113,7 +132,8 @@ is_arithmetic Arithmetic = true
 abbrev pub is_count : ℕ → Bool
 is_count count = count == 1 || (count == 3 || count == 4)
 
--- The frame that is decoded: of one, three or four components, each with a way to upsample it. A number of components is told as a byte.
+-- The frame that is decoded: of one, three or four components, each with a way to upsample it. A
+-- number of components is told as a byte.
 unfoldable pub accepted : Frame → Result Frame Fault
 accepted frame =
     if frame.is_differential then Err (Lacks features.Hierarchical) else (
@@ -146,7 +166,7 @@ restart_segment found bytes = do
   interval ← dri_at bytes
   Ok (onward (record found { restart = interval.0 }), interval.1)
 
--- the metadata behind what a segment of an application says
+-- the metadata after what a segment of an application says
 abbrev pub with_application : Metadata → Option Application → Metadata
 with_application m None = m
 with_application m (Some (Adobe transform)) = record m { adobe = Some transform }
@@ -171,31 +191,17 @@ skipped_segment found bytes = do
 
 -- ---- scans
 
--- something that has to be there
-abbrev pub needed : {A : Type 0} → Option A → Result A Fault
-needed None = Err Malformed
-needed (Some x) = Ok x
-
-abbrev pub first_of : {A : Type 0} → List A → Option A
-first_of [] = None
-first_of (x ∷ more) = Some x
-
 abbrev pub is_progressive : CodingProcess → Bool
 is_progressive DctSequential = false
 is_progressive DctProgressive = true
 is_progressive Lossless = false
 
--- Scans of lossless frames are refused for now.
-abbrev pub is_decoded : CodingProcess → Bool
-is_decoded DctSequential = true
-is_decoded DctProgressive = true
-is_decoded Lossless = false
-
 -- what a scan codes
 unfoldable pub pass_of : Scan → Pass
-pass_of scan = record { is_first = scan.high == 0; ss = scan.first; se = scan.behind - 1; al = scan.low }
+pass_of scan = record { is_first = scan.high == 0; ss = scan.first; se = scan.after - 1; al = scan.low }
 
--- The Huffman tables in force for a scan. In a frame of an MJPEG stream the default ones stand in the unset places that the scan names.
+-- The Huffman tables in force for a scan. In a frame of an MJPEG stream the default ones stand in
+-- the unset places that the scan names.
 unfoldable pub tables_of : Found → Scan → Tables
 tables_of found scan =
     if found.metadata.avi1 then record {
@@ -203,7 +209,8 @@ tables_of found scan =
       ac = with_defaults luminance_ac chrominance_ac scan.ac_places found.huffman.ac;
     } else found.huffman
 
--- A component of a scan: its place in the frame, the component, its quantization table, and its Huffman tables.
+-- A component of a scan: its place in the frame, the component, its quantization table, and its
+-- Huffman tables.
 pub record Coding : Type 0 where
   pub place : ℕ
   pub component : Component
@@ -216,7 +223,8 @@ abbrev pub needed_if : Bool → HuffmanTableClass → Option Table → Result Ta
 needed_if true class table = needed table
 needed_if false class table = Ok (no_table class)
 
--- The quantization table is needed, a table for DC where the pass has DC, also in a refinement, and one for AC where it has AC.
+-- The quantization table is needed, a table for DC where the pass has DC, also in a refinement, and
+-- one for AC where it has AC.
 unfoldable pub coding_of : Found → Frame → Pass → Tables → ℕ → ℕ → ℕ → Result Coding Fault
 coding_of found frame p tables place dc_place ac_place = do
   component ← needed (first_of (drop place frame.components))
@@ -233,29 +241,29 @@ codings_from found frame p tables _ _ _ = Ok []
 
 unfoldable pub codings_of : Found → Frame → Scan → Result (List Coding) Fault
 codings_of found frame scan =
-    if is_decoded frame.process
-    then codings_from found frame (pass_of scan) (tables_of found scan) scan.components scan.dc_places scan.ac_places
-    else Err Malformed
+    codings_from found frame (pass_of scan) (tables_of found scan) scan.components scan.dc_places scan.ac_places
 
 -- how the blocks of each component of a scan are coded, from a slot on
 unfoldable pub vias_from : ℕ → List Coding → List Via
 vias_from slot [] = []
 vias_from slot (c ∷ more) = record { component = slot; dc = c.dc; ac = c.ac } ∷ vias_from (slot + 1) more
 
--- The blocks of a frame's components before a scan: in a progressive frame those held, and in a sequential one zeros.
+-- The blocks of a frame's components before a scan: in a progressive frame those held, and in a
+-- sequential one zeros.
 unfoldable pub arrays_before : Found → Frame → Arrays
 arrays_before found frame = if is_progressive frame.process && found.scanned then found.held else zero_arrays frame.components
 
--- The blocks of the scan's components behind it, and the marker behind it, if it is met.
+-- The blocks of the scan's components after it, and the marker after it, if it is met.
 unfoldable pub scan_arrays : Found → Frame → Scan → List Coding → List ℕ → Outcome (Arrays × Option Marker)
 scan_arrays found frame scan codings bytes =
     let components = map (λ c. c.component) codings in
     arrays_at (pass_of scan) (found.restart * mcu_size components) (vias_from 0 codings) (spots_of frame components)
     (map (λ c. get_or (arrays_before found frame) c.place []) codings) bytes
 
--- ---- behind a scan
+-- ---- after a scan
 
--- The samples of a component by its quantization table in zigzag order and its blocks, those of all MCUs in raster order.
+-- The samples of a component by its quantization table in zigzag order and its blocks, those of all
+-- MCUs in raster order.
 unfoldable pub plane_by : Component → List ℕ → List Block → List ℕ
 plane_by c quantization blocks =
     plane_of c.scale (values_in_block_order quantization) c.blocks_wide c.blocks_high (in_raster c.blocks_wide blocks)
@@ -269,7 +277,8 @@ abbrev pub decided : Option (List ℕ) → List ℕ → Option (List ℕ)
 decided None plane = Some plane
 decided (Some first) plane = Some first
 
--- A component of the scan whose places are all finished now: its plane is decided, by the quantization table in force.
+-- A component of the scan whose places are all finished now: its plane is decided, by the
+-- quantization table in force.
 unfoldable pub with_plane : Coding → List Block → List Bool → List (Option (List ℕ)) → List (Option (List ℕ))
 with_plane c blocks marks planes =
     elim (list_all (λ mark. mark) marks) [
@@ -292,30 +301,58 @@ unfoldable pub put_arrays : List Coding → Arrays → Arrays → Arrays
 put_arrays (c ∷ codings) (blocks ∷ arrays) held = put_arrays codings arrays (set held c.place blocks)
 put_arrays _ _ held = held
 
-abbrev pub held_behind : Found → Frame → List Coding → Arrays → Arrays
-held_behind found frame codings arrays = if is_progressive frame.process then put_arrays codings arrays (arrays_before found frame) else []
+abbrev pub held_after : Found → Frame → List Coding → Arrays → Arrays
+held_after found frame codings arrays = if is_progressive frame.process then put_arrays codings arrays (arrays_before found frame) else []
 
-unfoldable pub behind_scan : Found → Frame → Scan → List Coding → Arrays → Found
-behind_scan found frame scan codings arrays =
-    with_arrays (pass_of scan) codings arrays (record found { scanned = true; held = held_behind found frame codings arrays })
+unfoldable pub after_scan : Found → Frame → Scan → List Coding → Arrays → Found
+after_scan found frame scan codings arrays =
+    with_arrays (pass_of scan) codings arrays (record found { scanned = true; held = held_after found frame codings arrays })
 
--- The marker behind a scan, where restart markers at its end are passed over, fewer than so many.
-unfoldable pub behind_restarts : ℕ → Option Marker → List ℕ → Outcome (Option Marker)
-behind_restarts zero met bytes = Err End
-behind_restarts (suc turns) (Some (RST n)) bytes = next_marker bytes >>= (λ m. behind_restarts turns (Some m.0) m.1)
-behind_restarts (suc turns) met bytes = Ok (met, bytes)
+-- The marker after a scan, where restart markers at its end are passed over, fewer than this many.
+unfoldable pub after_restarts : ℕ → Option Marker → List ℕ → Outcome (Option Marker)
+after_restarts zero met bytes = Err End
+after_restarts (suc turns) (Some (RST n)) bytes = next_marker bytes >>= (λ m. after_restarts turns (Some m.0) m.1)
+after_restarts (suc turns) met bytes = Ok (met, bytes)
 
 abbrev pub scan_before : Found → Before
 scan_before found = if found.scanned then LaterScan else FirstScan
+
+-- A scan of blocks.
+unfoldable pub blocks_scan : Found → Frame → Scan → List ℕ → Outcome Turn
+blocks_scan found frame scan bytes = do
+  codings ← codings_of found frame scan
+  read ← scan_arrays found frame scan codings bytes
+  met ← after_restarts (suc (length read.1)) read.0.1 read.1
+  Ok (record { found = after_scan found frame scan codings read.0.0; before = scan_before found; met = met.0; ended = false }, met.1)
+
+-- The samples of a lossless scan, and the marker after it, if it is met.
+abbrev pub scan_samples : Found → Frame → Scan → List LosslessCoding → List ℕ → Outcome (List (List ℕ) × Option Marker)
+scan_samples found frame scan codings bytes =
+    scan_at (way_of frame scan.predictor scan.point_transform codings) (mcus_down frame codings) found.restart scan.point_transform bytes
+
+-- The last scan of a component decides its samples.
+abbrev pub after_samples : Found → List LosslessCoding → List (List ℕ) → Found
+after_samples found codings planes =
+    record found { scanned = true; samples = with_samples (map (λ k. k.place) codings) planes found.samples }
+
+-- A lossless scan. It has no quantization tables, and no default tables.
+unfoldable pub lossless_scan : Found → Frame → Scan → List ℕ → Outcome Turn
+lossless_scan found frame scan bytes = do
+  codings ← lossless_codings found.huffman.dc frame scan.components scan.dc_places
+  read ← scan_samples found frame scan codings bytes
+  met ← after_restarts (suc (length read.1)) read.0.1 read.1
+  Ok (record { found = after_samples found codings read.0.0; before = scan_before found; met = met.0; ended = false }, met.1)
+
+abbrev pub scan_by : CodingProcess → Found → Frame → Scan → List ℕ → Outcome Turn
+scan_by DctSequential found frame scan bytes = blocks_scan found frame scan bytes
+scan_by DctProgressive found frame scan bytes = blocks_scan found frame scan bytes
+scan_by Lossless found frame scan bytes = lossless_scan found (without_factors frame) scan bytes
 
 unfoldable pub scan_segment : Found → List ℕ → Outcome Turn
 scan_segment found bytes = do
   frame ← needed found.frame
   scan ← sos_at frame bytes
-  codings ← codings_of found frame scan.0
-  read ← scan_arrays found frame scan.0 codings scan.1
-  met ← behind_restarts (suc (length read.1)) read.0.1 read.1
-  Ok (record { found = behind_scan found frame scan.0 codings read.0.0; before = scan_before found; met = met.0; ended = false }, met.1)
+  scan_by frame.process found frame scan.0 scan.1
 
 -- ---- the stream
 
@@ -324,19 +361,19 @@ unfoldable pub end_segment : Found → List ℕ → Outcome Turn
 end_segment found bytes =
     if is_some found.frame then Ok (record { found = found; before = Elsewhere; met = None; ended = true }, bytes) else Err Malformed
 
--- A restart marker behind a scan is ignored, once.
+-- A restart marker after a scan is ignored, once.
 abbrev pub stray_restart : Before → Found → List ℕ → Outcome Turn
 stray_restart Elsewhere found bytes = Err Malformed
 stray_restart FirstScan found bytes = Ok (onward found, bytes)
 stray_restart LaterScan found bytes = Ok (onward found, bytes)
 
--- A DNL segment behind the first scan would tell the height.
+-- A DNL segment after the first scan would tell the height.
 abbrev pub line_count : Before → Outcome Turn
 line_count FirstScan = Err (Lacks features.DNL)
 line_count LaterScan = Err Malformed
 line_count Elsewhere = Err Malformed
 
--- Behind a marker. SOI, TEM, RES, JPG and JPGn have no place here.
+-- After a marker. SOI, TEM, RES, JPG and JPGn have no place here.
 unfoldable pub segment_at : Marker → Before → Found → List ℕ → Outcome Turn
 segment_at (SOF number) before found bytes = frame_segment number found bytes
 segment_at DQT before found bytes = quantization_segment found bytes
@@ -363,8 +400,8 @@ turn_at before found met bytes = do
   m ← marker_or met bytes
   segment_at m.0 before found m.1
 
--- Segments and scans up to the end of the image, or, where the header is wanted alone, up to the frame. Each behind which the image goes on
--- takes at least one byte.
+-- Segments and scans up to the end of the image, or, where the header is wanted alone, up to the
+-- frame. Each after which the image goes on takes at least one byte.
 unfoldable pub segments_within : ℕ → Bool → Before → Found → Option Marker → List ℕ → Outcome Found
 segments_within zero header before found met bytes = Err End
 segments_within (suc turns) header before found met bytes =
@@ -404,8 +441,8 @@ header_at bytes = do
 
 -- ---- the picture
 
--- The plane of a component at the end of the image: the one that is decided; else, in a progressive frame of which a scan was read, that of
--- the blocks held, by the quantization table in force.
+-- The plane of a component at the end of the image: the one that is decided; else, in a progressive
+-- frame of which a scan was read, that of the blocks held, by the quantization table in force.
 unfoldable pub plane_at_end : Found → Frame → ℕ → Component → Result (List ℕ) Fault
 plane_at_end found frame place c =
     elim (slice_index_or found.planes place None) [
@@ -434,13 +471,29 @@ picture_by settings m frame (c ∷ []) planes = needed (first_of planes) >>= (λ
 picture_by settings m frame components planes =
     image_of components planes frame.output_width frame.output_height (transform_of settings.color_transform (identifiers_of components) m.jfif m.adobe)
 
+-- The picture of a frame of blocks.
+unfoldable pub blocks_picture : Settings → Found → Frame → Result (List ℕ) Fault
+blocks_picture settings found frame = do
+  planes ← planes_from found frame 0 frame.components
+  picture_by settings found.metadata frame frame.components planes
+
+-- The picture of a lossless frame.
+unfoldable pub samples_picture : Found → Frame → Result (List ℕ) Fault
+samples_picture found frame = do
+  planes ← samples_from found.samples 0 frame.components
+  Ok (lossless_picture frame planes)
+
+abbrev pub picture_by_process : CodingProcess → Settings → Found → Frame → Result (List ℕ) Fault
+picture_by_process DctSequential settings found frame = blocks_picture settings found frame
+picture_by_process DctProgressive settings found frame = blocks_picture settings found frame
+picture_by_process Lossless settings found frame = samples_picture found (without_factors frame)
+
 -- The picture of what was found: within the limit, of planes that are there.
 unfoldable pub picture_of : Settings → Found → Result (List ℕ) Fault
 picture_of settings found = do
   frame ← needed found.frame
-  if nat_lt settings.limit (length frame.components * (frame.output_width * frame.output_height)) then Err Malformed else (do
-    planes ← planes_from found frame 0 frame.components
-    picture_by settings found.metadata frame frame.components planes)
+  if nat_lt settings.limit (length frame.components * (frame.output_width * frame.output_height)) then Err Malformed else
+      picture_by_process frame.process settings found frame
 
 -- What a decoder tells: the frame, and the metadata.
 pub record Told : Type 0 where
@@ -450,7 +503,7 @@ pub record Told : Type 0 where
 abbrev pub told_of : Found → Told
 told_of found = record { frame = found.frame; metadata = found.metadata }
 
--- The rest of a stream behind its start or its header: what it tells, and its picture.
+-- The rest of a stream after its start or its header: what it tells, and its picture.
 unfoldable pub rest_at : Settings → Found → List ℕ → Outcome (Told × List ℕ)
 rest_at settings found bytes = do
   all ← segments_at false Elsewhere found None bytes
@@ -487,7 +540,7 @@ told_rest header found bytes = told_of (told_at header Elsewhere found None byte
 unfoldable pub told_by_stream : Bool → List ℕ → Told
 told_by_stream header bytes = elim (start_at bytes) [ Err fault ↦ told_of nothing_found | Ok start ↦ told_rest header nothing_found start.1 ]
 
--- ---- what some turns have said, the first and those behind it
+-- ---- what some turns have said, the first and those after it
 
 -- the first turns of a header, or of the rest of a stream
 abbrev pub told_in_turns : ℕ → Bool → Found → List ℕ → Told
@@ -497,6 +550,6 @@ told_in_turns turns header found bytes = told_of (told_within turns header Elsew
 unfoldable pub told_by_turns : ℕ → Bool → List ℕ → Told
 told_by_turns turns header bytes = elim (start_at bytes) [ Err fault ↦ told_of nothing_found | Ok start ↦ told_in_turns turns header nothing_found start.1 ]
 
--- what is found is what some first turns have said, where `said` tells what so many have
+-- what is found is what some first turns have said, where `said` tells what this many have
 unfoldable pub IsOfTurns : {A : Type 0} → (ℕ → A) → A → Type 0
 IsOfTurns said found = (turns : ℕ) × (found ≡ said turns)

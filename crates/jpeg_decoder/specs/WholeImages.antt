@@ -9,7 +9,8 @@ use Rattle.jpeg_pixels.specs.Planes.{plane_of}
 use Rattle.jpeg_pixels.specs.Zigzag.{coefficients_in_block_order, values_in_block_order}
 use Rattle.jpeg_decoder.specs.declared.state.Settings.{Settings}
 use Rattle.jpeg_decoder.specs.Levels.{Levels}
-use Rattle.jpeg_decoder.specs.Stream.{Found, Told, needed, picture_by, told_of}
+use Rattle.jpeg_decoder.specs.Needed.{needed}
+use Rattle.jpeg_decoder.specs.Stream.{Found, Told, picture_by, told_of}
 use Rattle.jpeg_decoder.specs.WrittenScans.{Coefficients, IsComplete}
 
 -- Every bit of each coefficient of a frame was sent.

@@ -49,7 +49,7 @@ abbrev pub two_codes : ℕ → ℕ → ℕ → List ℕ
 two_codes place first second =
     255 ∷ 196 ∷ 0 ∷ 21 ∷ place ∷ 1 ∷ 1 ∷ (replicate 14 0 ++ first ∷ second ∷ [])
 
--- A restart interval of so many MCUs, up to 255.
+-- A restart interval of this many MCUs, up to 255.
 abbrev pub restart_interval : ℕ → List ℕ
 restart_interval count = 255 ∷ 221 ∷ 0 ∷ 4 ∷ 0 ∷ count ∷ []
 

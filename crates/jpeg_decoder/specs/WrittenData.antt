@@ -129,9 +129,9 @@ pub data WritesDc (p : Pass) (table : Table) : ℤ → ℤ → List Bool → ℤ
       → p.ss ≡ 0 → p.is_first ≡ false
       → WritesDc p table u predictor (bit (low_bit u) ∷ []) predictor
 
--- The bits of a band, where the end of an earlier band stands for so many blocks from this one on,
--- and for how many of the next after it. In such a run a first scan has no bits, and a refinement
--- has the correction bits.
+-- The bits of a band, where the end of an earlier band stands for this many blocks from this one
+-- on, and for how many of the next after it. In such a run a first scan has no bits, and a
+-- refinement has the correction bits.
 pub data WritesAc (p : Pass) (table : Table) : List ℤ → ℕ → List Bool → ℕ → Type 0 where
   no_band : (run : ℕ) → WritesAc p table [] run [] run
   first : (u : ℤ) (us : List ℤ) (bits : List Bool) (run : ℕ)
@@ -150,11 +150,11 @@ pub data WritesAc (p : Pass) (table : Table) : List ℤ → ℕ → List Bool �
 -- block is given by its numbers at the level of the scan. No run goes beyond the last.
 pub data WritesBlocks (p : Pass) : List ℤ → ℕ → List (Via × Block) → List Bool → Type 0 where
   done : (predictors : List ℤ) → WritesBlocks p predictors 0 [] []
-  block : (predictors : List ℤ) (run behind : ℕ) (via : Via) (u : Block)
+  block : (predictors : List ℤ) (run after : ℕ) (via : Via) (u : Block)
       (turns : List (Via × Block)) (dc ac bits : List Bool) (next : ℤ)
       → WritesDc p via.dc u.dc (get_or predictors via.component (pos 0)) dc next
-      → WritesAc p via.ac (band_of p u.acs) run ac behind
-      → WritesBlocks p (set predictors via.component next) behind turns bits
+      → WritesAc p via.ac (band_of p u.acs) run ac after
+      → WritesBlocks p (set predictors via.component next) after turns bits
       → WritesBlocks p predictors run ((via, u) ∷ turns) (dc ++ (ac ++ bits))
 
 -- ---- bytes (B.1.1.5)

@@ -8,7 +8,7 @@ use Rattle.jpeg_segments.specs.ScanHeaders.{ScanHeader, scan_payload, IsScan, sc
 use Rattle.jpeg_segments.specs.WrittenSegments.{code_of, Header, payload_of, Quantization, Segment}
 use Rattle.jpeg_segments.specs.WrittenSegments.{sized}
 use Rattle.jpeg_decoder.specs.Levels.{Levels, nothing_sent}
-use Rattle.jpeg_decoder.specs.SaidSegments.{Stands, found_behind}
+use Rattle.jpeg_decoder.specs.SaidSegments.{Stands, found_after}
 use Rattle.jpeg_decoder.specs.Stream.{Coding, Found, is_progressive, nothing_found, pass_of}
 use Rattle.jpeg_decoder.specs.WrittenData.{marker}
 use Rattle.jpeg_decoder.specs.WrittenScans.{Coefficients, HasTable, IsComplete, IsLegalScan}
@@ -38,7 +38,7 @@ pub data Writes (array : Coefficients) :
   segment : (said final : Found) (levels last : ℕ → Levels) (scanned : Bool) (fill : ℕ)
       (s : Segment) (more : List ℕ)
       → Stands said s → IsDct s → (scanned ≡ true → MayFollow s)
-      → Writes array (found_behind said s) levels scanned more final last
+      → Writes array (found_after said s) levels scanned more final last
       → Writes array said levels scanned
       (marker fill (code_of s) (sized (payload_of s) ++ more)) final last
   scan : (said final : Found) (levels last : ℕ → Levels) (scanned : Bool) (frame : Frame)
@@ -56,6 +56,6 @@ pub data Writes (array : Coefficients) :
 -- what is said at its end, and `last` are the levels at which each component was sent last.
 pub record WritesImage (array : Coefficients) (bytes : List ℕ) (final : Found)
     (last : ℕ → Levels) : Type 0 where
-  pub behind : List ℕ
-  pub starts : bytes ≡ 255 ∷ 216 ∷ behind
-  pub written : Writes array nothing_found (λ k. nothing_sent) false behind final last
+  pub after : List ℕ
+  pub starts : bytes ≡ 255 ∷ 216 ∷ after
+  pub written : Writes array nothing_found (λ k. nothing_sent) false after final last

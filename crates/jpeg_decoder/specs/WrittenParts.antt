@@ -8,8 +8,9 @@ use Rattle.jpeg_segments.specs.ScanHeaders.{IsScan, ScanHeader, scan_payload, sc
 use Rattle.jpeg_segments.specs.WrittenSegments.{code_of, payload_of, Segment, sized}
 use Rattle.jpeg_decoder.specs.Levels.{Levels}
 use Rattle.jpeg_decoder.specs.Order.{grid_of}
-use Rattle.jpeg_decoder.specs.SaidSegments.{found_behind, Stands}
-use Rattle.jpeg_decoder.specs.Stream.{Coding, first_of, Found, meaning, pass_of}
+use Rattle.jpeg_decoder.specs.SaidSegments.{found_after, Stands}
+use Rattle.jpeg_decoder.specs.Needed.{first_of}
+use Rattle.jpeg_decoder.specs.Stream.{Coding, Found, meaning, pass_of}
 use Rattle.jpeg_decoder.specs.WrittenData.{marker}
 use Rattle.jpeg_decoder.specs.WrittenImages.{IsDct, MayFollow}
 use Rattle.jpeg_decoder.specs.WrittenScans.{Coefficients, IsLegalScan, levels_after, WritesScan}
@@ -26,7 +27,7 @@ pub data WritesFront (array : Coefficients) :
   segment : (said next : Found) (levels reached : ℕ → Levels) (scanned after : Bool) (fill : ℕ)
       (s : Segment) (more : List ℕ)
       → Stands said s → IsDct s → (scanned ≡ true → MayFollow s)
-      → WritesFront array (found_behind said s) levels scanned more next reached after
+      → WritesFront array (found_after said s) levels scanned more next reached after
       → WritesFront array said levels scanned
       (marker fill (code_of s) (sized (payload_of s) ++ more)) next reached after
   scan : (said next : Found) (levels reached : ℕ → Levels) (scanned after : Bool) (frame : Frame)

@@ -12,10 +12,11 @@ use Rattle.jpeg_segments.specs.Frame.{Frame, Component}
 use Rattle.jpeg_segments.specs.HuffmanTables.{Tables}
 use Rattle.jpeg_segments.specs.ScanHeader.{Scan}
 use Rattle.jpeg_decoder.specs.declared.grids.Grid.{Grid}
-use Rattle.jpeg_decoder.specs.Levels.{Is8Bit, IsLegal, Levels, levels_behind, numbers_at}
+use Rattle.jpeg_decoder.specs.Levels.{Is8Bit, IsLegal, Levels, sent_after, numbers_at}
 use Rattle.jpeg_decoder.specs.Order.{Spot, grid_of, mcu_size, spots_of}
 use Rattle.jpeg_decoder.specs.Scans.{no_table, via_at}
-use Rattle.jpeg_decoder.specs.Stream.{Coding, Found, first_of, pass_of, tables_of, vias_from}
+use Rattle.jpeg_decoder.specs.Needed.{first_of}
+use Rattle.jpeg_decoder.specs.Stream.{Coding, Found, pass_of, tables_of, vias_from}
 use Rattle.jpeg_decoder.specs.WrittenData.{WritesIntervals}
 
 -- ---- the coefficients of an image
@@ -109,7 +110,7 @@ pub record HasTable (w : Found) (c : Component) : Type 0 where
 -- the levels of each component after a scan of one
 abbrev pub levels_of_one : Pass → ℕ → (ℕ → Levels) → ℕ → Levels
 levels_of_one p place levels k =
-    elim (k == place) as (λ _. Levels) [ true ↦ levels_behind p (levels k) | false ↦ levels k ]
+    elim (k == place) as (λ _. Levels) [ true ↦ sent_after p (levels k) | false ↦ levels k ]
 
 -- after a scan of some
 unfoldable pub levels_after : Pass → List ℕ → (ℕ → Levels) → ℕ → Levels

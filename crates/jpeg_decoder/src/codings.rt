@@ -10,8 +10,10 @@ ghost use Rattle.jpeg_segments.specs.ScanHeader.{IsScanOf};
 ghost use Rattle.jpeg_decoder.specs.Scans.{no_table};
 ghost use Rattle.jpeg_decoder.specs.Scanning.{HasAc};
 ghost use Rattle.jpeg_decoder.specs.Seen.{found_in};
-ghost use Rattle.jpeg_decoder.specs.Steps.{IsRefusal, IsSpareOf, codings_in_force, coding_in, coding_in_slot, default_dc, default_ac, in_force, table_if};
-ghost use Rattle.jpeg_decoder.specs.Stream.{is_decoded, is_progressive, pass_of};
+ghost use Rattle.jpeg_decoder.specs.Steps.{IsRefusal, IsSpareOf, codings_in_force, coding_in};
+ghost use Rattle.jpeg_decoder.specs.Steps.{coding_in_slot, default_dc, default_ac, in_force};
+ghost use Rattle.jpeg_decoder.specs.Steps.{table_if};
+ghost use Rattle.jpeg_decoder.specs.Stream.{is_progressive, pass_of};
 
 use crate::places::{needed, table_at};
 use crate::state::State;
@@ -45,16 +47,6 @@ pub struct Spare {
     no_ac: HuffmanTable,
 }
 
-/// Whether the scans of a process are decoded. Those of lossless frames are refused for now.
-pub fn is_decoded(process: CodingProcess) -> bool
-    ensures { result ≡ is_decoded process }
-{
-    match process {
-        CodingProcess::DctSequential | CodingProcess::DctProgressive => true,
-        CodingProcess::Lossless => false,
-    }
-}
-
 /// Whether a process is progressive, so that its scans refine what earlier ones gave.
 pub fn is_progressive(process: CodingProcess) -> bool
     ensures { result ≡ is_progressive process }
@@ -67,7 +59,7 @@ pub fn is_progressive(process: CodingProcess) -> bool
 
 /// What a scan codes.
 pub fn pass_of(header: &ScanInfo) -> Pass
-    requires { 1 ≤ (scan_in header.now).behind }
+    requires { 1 ≤ (scan_in header.now).after }
     ensures { pass_in result ≡ pass_of (scan_in header.now) }
 {
     Pass {

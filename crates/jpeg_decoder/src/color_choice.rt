@@ -1,14 +1,16 @@
 //! Which colour transform the components of a picture need.
 ghost use Rattle.std.specs.Prelude.{◌≡◌, map};
 ghost use Rattle.jpeg_segments.specs.FrameView.{component_in};
-ghost use Rattle.jpeg_decoder.specs.ColourChoice.{identifiers_of, are_three, by_identifiers, by_adobe, transform_of};
+ghost use Rattle.jpeg_decoder.specs.ColourChoice.{identifiers_of, are_three, by_identifiers};
+ghost use Rattle.jpeg_decoder.specs.ColourChoice.{by_adobe, transform_of};
 
 use jpeg_bits::color_transform::ColorTransform;
 use jpeg_segments::parser::{AdobeColorTransform, Component};
 
 /// Whether there are three components, of these identifiers.
 fn are_three(components: &[Component], first: u8, second: u8, third: u8) -> bool
-    ensures { result ≡ are_three first second third (identifiers_of (map component_in components.now)) }
+    ensures { result ≡ are_three first second third
+        (identifiers_of (map component_in components.now)) }
 {
     match components {
         [a, b, c] => a.identifier == first && (b.identifier == second && c.identifier == third),
@@ -66,7 +68,8 @@ pub fn choose_color_transform(
     jfif: bool,
     adobe: Option<AdobeColorTransform>,
 ) -> ColorTransform
-    ensures { result ≡ transform_of set (identifiers_of (map component_in components.now)) jfif adobe }
+    ensures { result ≡ transform_of set (identifiers_of (map component_in components.now)) jfif
+        adobe }
 {
     if let Some(transform) = set {
         return transform;

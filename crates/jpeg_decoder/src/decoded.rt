@@ -1,5 +1,6 @@
 //! What the scans of a frame have given so far: blocks, and planes (T.81, A.2 and G.1).
-ghost use Rattle.std.specs.Prelude.{◌≡◌, ◌<◌, ◌≤◌, ◌*◌, [], All, pos, IfOk, IfErr, MatchResult, None, OnOk, length, map, replicate, slice_index_or, slice_set};
+ghost use Rattle.std.specs.Prelude.{◌≡◌, ◌<◌, ◌≤◌, ◌*◌, [], All, pos, IfOk, IfErr, MatchResult};
+ghost use Rattle.std.specs.Prelude.{None, OnOk, length, map, replicate, slice_index_or, slice_set};
 ghost use Rattle.std.specs.List.{list_all};
 ghost use Rattle.jpeg_bits.specs.BlockView.{pass_in, to_block, IsPass};
 ghost use Rattle.jpeg_pixels.specs.Scaled.{IsScale};
@@ -8,7 +9,8 @@ ghost use Rattle.jpeg_segments.specs.FrameView.{component_in, frame_in};
 ghost use Rattle.jpeg_bits.specs.Reading.{Answers};
 ghost use Rattle.std.specs.List.{AllByRecursion};
 ghost use Rattle.jpeg_decoder.specs.InTurn.{AreApart, Fits};
-ghost use Rattle.jpeg_decoder.specs.Scanning.{arrays_in, blocks_in, components_in, sizes_of, HasAc, HasCodedScale};
+ghost use Rattle.jpeg_decoder.specs.Scanning.{arrays_in, blocks_in, components_in, sizes_of, HasAc};
+ghost use Rattle.jpeg_decoder.specs.Scanning.{HasCodedScale};
 ghost use Rattle.jpeg_decoder.specs.Scans.{zero_arrays, zero_of};
 ghost use Rattle.jpeg_decoder.specs.Seen.{planes_in};
 ghost use Rattle.jpeg_decoder.specs.Stream.{finished_by, none_finished, plane_by, put_arrays};
@@ -39,6 +41,8 @@ pub struct Decoded {
     pub finished: [[bool; 64]; 4],
     /// The planes that are decided.
     pub planes: [Option<Vec<u8>>; 4],
+    /// The samples of a lossless frame's components, line by line.
+    pub samples: [Option<Vec<u16>>; 4],
 }
 
 /// Marks the coefficients that a pass finishes: those that it codes at level 0.
@@ -47,8 +51,8 @@ fn finish(pass: Pass, marks: &mut [bool; 64])
     ensures { marks.new ≡ finished_by (pass_in pass) marks.old }
 {
     if pass.al == 0 {
-        let behind = usize::from(pass.se) + 1;
-        marks[usize::from(pass.ss)..behind].fill(true);
+        let after = usize::from(pass.se) + 1;
+        marks[usize::from(pass.ss)..after].fill(true);
     }
 }
 
@@ -105,7 +109,8 @@ pub fn render(
     blocks: &[[i16; 64]],
 ) -> std::result::Result<Vec<u8>, AllocError>
     requires scale { IsScale component.now.dct_scale }
-    requires blocks { length blocks.now ≡ component.now.block_size.height * component.now.block_size.width }
+    requires blocks { length blocks.now ≡ component.now.block_size.height *
+        component.now.block_size.width }
     ensures { IfOk result (λ v. v.items
         ≡ plane_by (component_in component.now) quantization.now (map to_block blocks.now)) }
 {
@@ -157,7 +162,8 @@ fn put_blocks(
 )
     requires count { length arrays.old.items ≡ length codings.now }
     requires places { All (λ c. c.place < length held.old.items) codings.now }
-    ensures { arrays_in held.new.items ≡ put_arrays (map coding_in codings.now) (arrays_in arrays.old.items) (arrays_in held.old.items) }
+    ensures { arrays_in held.new.items ≡ put_arrays (map coding_in codings.now)
+        (arrays_in arrays.old.items) (arrays_in held.old.items) }
 {
     let mut slot = 0;
     while slot < codings.len() {
@@ -167,28 +173,57 @@ fn put_blocks(
 }
 
 impl Decoded {
-    ghost use Rattle.std.specs.Prelude.{◌≡◌, ◌<◌, ◌≤◌, [], All, IfOk, OnOk, None, Some, List, ℕ, ◌*◌, true, false, length, map, replicate, slice_index_or, slice_set};
+    ghost use Rattle.std.specs.Prelude.{◌≡◌, ◌<◌, ◌≤◌, [], All, IfOk, OnOk, None, Some, List, ℕ};
+    ghost use Rattle.std.specs.Prelude.{◌*◌, true, false, length, map, replicate, slice_index_or};
+    ghost use Rattle.std.specs.Prelude.{slice_set};
     ghost use Rattle.jpeg_bits.specs.Reading.{Answers};
     ghost use Rattle.jpeg_bits.specs.BlockView.{pass_in, IsPass, to_block};
     ghost use Rattle.jpeg_pixels.specs.Scaled.{IsScale};
     ghost use Rattle.jpeg_segments.specs.FrameView.{component_in, frame_in};
     ghost use Rattle.jpeg_decoder.specs.InTurn.{AreArrays};
+    ghost use Rattle.jpeg_decoder.specs.LosslessScans.{with_samples};
     ghost use Rattle.jpeg_decoder.specs.Sound.{ArePlanes};
-    ghost use Rattle.jpeg_decoder.specs.Scanning.{arrays_in, components_in, sizes_of, HasAc, HasCodedScale};
+    ghost use Rattle.jpeg_decoder.specs.Scanning.{arrays_in, components_in, sizes_of, HasAc};
+    ghost use Rattle.jpeg_decoder.specs.Scanning.{HasCodedScale};
     ghost use Rattle.jpeg_decoder.specs.Seen.{found_in, planes_in};
-    ghost use Rattle.jpeg_decoder.specs.Steps.{coding_in, HasPlace, IsReadable, is_wanted, marks_after, scan_data, with_decoded, with_its_plane, with_planes};
-    ghost use Rattle.jpeg_decoder.specs.Stream.{Found, arrays_before, is_progressive, none_finished, plane_by, with_arrays};
+    ghost use Rattle.jpeg_decoder.specs.Steps.{coding_in, HasPlace, IsReadable, is_wanted};
+    ghost use Rattle.jpeg_decoder.specs.Steps.{marks_after, scan_data, with_decoded};
+    ghost use Rattle.jpeg_decoder.specs.Steps.{with_its_plane, with_planes};
+    ghost use Rattle.jpeg_decoder.specs.Stream.{Found, arrays_before, is_progressive};
+    ghost use Rattle.jpeg_decoder.specs.Stream.{none_finished, plane_by, with_arrays};
 
     /// Nothing was read.
     pub fn new(alloc: Global) -> Decoded
         ensures held { arrays_in result.held.items ≡ [] }
         ensures finished { result.finished ≡ replicate 4 none_finished }
         ensures planes { planes_in result.planes ≡ replicate 4 None }
+        ensures samples { planes_in result.samples ≡ replicate 4 None }
     {
         Decoded {
             held: Vec::new(alloc),
             finished: [[false; 64]; 4],
             planes: [None, None, None, None],
+            samples: [None, None, None, None],
+        }
+    }
+
+    /// Puts the samples of a lossless scan at the places of its components, where they replace
+    /// those of earlier scans.
+    pub fn put_samples(&mut self, alloc: Global, places: &[usize], planes: &mut Vec<Vec<u16>>)
+        requires count { length planes.old.items ≡ length places.now }
+        requires places { All (λ place. place < 4) places.now }
+        ensures held { self.new.held ≡ self.old.held }
+        ensures finished { self.new.finished ≡ self.old.finished }
+        ensures planes { self.new.planes ≡ self.old.planes }
+        ensures samples { planes_in self.new.samples
+            ≡ with_samples places.now (map (λ v. v.items) planes.old.items)
+            (planes_in self.old.samples) }
+    {
+        let mut slot = 0;
+        while slot < places.len() {
+            let plane = std::mem::replace(&mut planes[slot], Vec::new(alloc));
+            self.samples[places[slot]] = Some(plane);
+            slot += 1;
         }
     }
 
@@ -198,9 +233,12 @@ impl Decoded {
         requires pass { IsPass (pass_in pass) }
         requires place { place < 4 }
         ensures held { self.new.held ≡ self.old.held }
+        ensures samples { self.new.samples ≡ self.old.samples }
         ensures planes { planes_in self.new.planes ≡ planes_in self.old.planes }
-        ensures finished { self.new.finished ≡ slice_set self.old.finished place (marks_after (pass_in pass) self.old.finished place) }
-        ensures wanted { result ≡ is_wanted (marks_after (pass_in pass) self.old.finished place) (slice_index_or (planes_in self.old.planes) place None) }
+        ensures finished { self.new.finished ≡ slice_set self.old.finished place
+            (marks_after (pass_in pass) self.old.finished place) }
+        ensures wanted { result ≡ is_wanted (marks_after (pass_in pass) self.old.finished place)
+            (slice_index_or (planes_in self.old.planes) place None) }
     {
         let marks = &mut self.finished[place];
         finish(pass, marks);
@@ -213,6 +251,7 @@ impl Decoded {
         requires pass { IsPass (pass_in pass) }
         requires place { place < 4 }
         ensures held { self.new.held ≡ self.old.held }
+        ensures samples { self.new.samples ≡ self.old.samples }
         ensures plane { (base : Found) →
             with_decoded base self.new ≡ with_its_plane (pass_in pass) place plane.items (with_decoded base self.old) }
     {
@@ -233,8 +272,10 @@ impl Decoded {
         requires pass { IsPass (pass_in pass) }
         requires place { coded.now.place < 4 }
         requires scale { IsScale coded.now.component.now.dct_scale }
-        requires blocks { length blocks.now ≡ (component_in coded.now.component.now).blocks_high * (component_in coded.now.component.now).blocks_wide }
+        requires blocks { length blocks.now ≡ (component_in coded.now.component.now).blocks_high *
+            (component_in coded.now.component.now).blocks_wide }
         ensures held { OnOk result (self.new.held ≡ self.old.held) }
+        ensures samples { OnOk result (self.new.samples ≡ self.old.samples) }
         ensures plane { OnOk result ((base : Found) →
             with_decoded base self.new
             ≡ with_its_plane (pass_in pass) coded.now.place (plane_by (component_in coded.now.component.now) coded.now.quantization.now (map to_block blocks.now)) (with_decoded base self.old)) }
@@ -252,6 +293,7 @@ impl Decoded {
         requires places { All HasPlace scan.now.components.items }
         requires count { length planes.old.items ≡ length scan.now.components.items }
         ensures held { self.new.held ≡ self.old.held }
+        ensures samples { self.new.samples ≡ self.old.samples }
         ensures planes { (base : Found) → with_decoded base self.new
             ≡ with_planes (pass_in scan.now.pass) (map coding_in scan.now.components.items) (map (λ v. v.items) planes.old.items) (with_decoded base self.old) }
     {
@@ -273,8 +315,10 @@ impl Decoded {
         requires pass { IsPass (pass_in scan.now.pass) }
         requires places { All HasPlace scan.now.components.items }
         requires scales { All HasCodedScale scan.now.components.items }
-        requires blocks { AreArrays (components_in scan.now.components.items) (arrays_in arrays.now.items) }
+        requires blocks { AreArrays (components_in scan.now.components.items)
+            (arrays_in arrays.now.items) }
         ensures held { OnOk result (self.new.held ≡ self.old.held) }
+        ensures samples { OnOk result (self.new.samples ≡ self.old.samples) }
         ensures planes { OnOk result ((base : Found) → with_decoded base self.new
             ≡ with_arrays (pass_in scan.now.pass) (map coding_in scan.now.components.items) (arrays_in arrays.now.items) (with_decoded base self.old)) }
     {
@@ -296,9 +340,11 @@ impl Decoded {
         frame: &FrameInfo,
     ) -> std::result::Result<(), AllocError>
         requires process { is_progressive (frame_in frame.now).process ≡ true }
-        ensures held { OnOk result (arrays_in self.new.held.items ≡ arrays_before (with_decoded (found_in state.now) self.old) (frame_in frame.now)) }
+        ensures held { OnOk result (arrays_in self.new.held.items
+            ≡ arrays_before (with_decoded (found_in state.now) self.old) (frame_in frame.now)) }
         ensures finished { self.new.finished ≡ self.old.finished }
         ensures planes { self.new.planes ≡ self.old.planes }
+        ensures samples { self.new.samples ≡ self.old.samples }
     {
         if !state.scanned {
             self.held = zero_frame(alloc, frame)?;
@@ -306,8 +352,8 @@ impl Decoded {
         Ok(())
     }
 
-    /// Reads a scan of a progressive frame on the blocks that are held, and returns the marker after
-    /// it, if it was met.
+    /// Reads a scan of a progressive frame on the blocks that are held, and returns the marker
+    /// after it, if it was met.
     fn read_held<R: Read + Drop>(
         &mut self,
         alloc: Global,
@@ -318,12 +364,16 @@ impl Decoded {
     ) -> Result<Option<Marker>>
         requires process { is_progressive (frame_in frame.now).process ≡ true }
         requires ready { IsReadable (frame_in frame.now) (found_in state.now) scan.now }
-        requires held { AreArrays (frame_in frame.now).components (arrays_before (with_decoded (found_in state.now) self.old) (frame_in frame.now)) }
+        requires held { AreArrays (frame_in frame.now).components
+            (arrays_before (with_decoded (found_in state.now) self.old) (frame_in frame.now)) }
         ensures data { Answers (λ m. (record (with_decoded (found_in state.now) self.new) { scanned = true }, m))
             (scan_data (with_decoded (found_in state.now) self.old) (frame_in frame.now) (pass_in scan.now.pass) (map coding_in scan.now.components.items))
             source.old result source.new }
-        ensures held { OnOk result (AreArrays (frame_in frame.now).components (arrays_in self.new.held.items)) }
-        ensures planes { ArePlanes (frame_in frame.now).components (planes_in self.old.planes) → OnOk result (ArePlanes (frame_in frame.now).components (planes_in self.new.planes)) }
+        ensures held { OnOk result (AreArrays (frame_in frame.now).components
+            (arrays_in self.new.held.items)) }
+        ensures planes { ArePlanes (frame_in frame.now).components (planes_in self.old.planes)
+            → OnOk result (ArePlanes (frame_in frame.now).components (planes_in self.new.planes)) }
+        ensures samples { OnOk result (self.new.samples ≡ self.old.samples) }
     {
         self.hold(alloc, state, frame)?;
         let mut arrays = take_blocks(alloc, &scan.components, &mut self.held)?;
@@ -347,7 +397,9 @@ impl Decoded {
         ensures data { Answers (λ m. (record (with_decoded (found_in state.now) self.new) { scanned = true }, m))
             (scan_data (with_decoded (found_in state.now) self.old) (frame_in frame.now) (pass_in scan.now.pass) (map coding_in scan.now.components.items))
             source.old result source.new }
-        ensures planes { ArePlanes (frame_in frame.now).components (planes_in self.old.planes) → OnOk result (ArePlanes (frame_in frame.now).components (planes_in self.new.planes)) }
+        ensures planes { ArePlanes (frame_in frame.now).components (planes_in self.old.planes)
+            → OnOk result (ArePlanes (frame_in frame.now).components (planes_in self.new.planes)) }
+        ensures samples { OnOk result (self.new.samples ≡ self.old.samples) }
     {
         let (mut planes, met) = read_planes(alloc, source, scan, frame)?;
         self.held = Vec::new(alloc);
@@ -365,12 +417,17 @@ impl Decoded {
         scan: &Scan<'_>,
     ) -> Result<Option<Marker>>
         requires ready { IsReadable (frame_in frame.now) (found_in state.now) scan.now }
-        requires held { AreArrays (frame_in frame.now).components (arrays_before (with_decoded (found_in state.now) self.old) (frame_in frame.now)) }
+        requires held { AreArrays (frame_in frame.now).components
+            (arrays_before (with_decoded (found_in state.now) self.old) (frame_in frame.now)) }
         ensures data { Answers (λ m. (record (with_decoded (found_in state.now) self.new) { scanned = true }, m))
             (scan_data (with_decoded (found_in state.now) self.old) (frame_in frame.now) (pass_in scan.now.pass) (map coding_in scan.now.components.items))
             source.old result source.new }
-        ensures held { OnOk result (AreArrays (frame_in frame.now).components (arrays_before (record (with_decoded (found_in state.now) self.new) { scanned = true }) (frame_in frame.now))) }
-        ensures planes { ArePlanes (frame_in frame.now).components (planes_in self.old.planes) → OnOk result (ArePlanes (frame_in frame.now).components (planes_in self.new.planes)) }
+        ensures held { OnOk result (AreArrays (frame_in frame.now).components
+            (arrays_before (record (with_decoded (found_in state.now) self.new) { scanned = true })
+            (frame_in frame.now))) }
+        ensures planes { ArePlanes (frame_in frame.now).components (planes_in self.old.planes)
+            → OnOk result (ArePlanes (frame_in frame.now).components (planes_in self.new.planes)) }
+        ensures samples { OnOk result (self.new.samples ≡ self.old.samples) }
     {
         if is_progressive(frame.coding_process) {
             self.read_held(alloc, source, state, frame, scan)

@@ -1,11 +1,16 @@
 //! The decoder and its states.
-ghost use Rattle.std.specs.Prelude.{◌≡◌, if◌then◌else◌, IfOk, IfErr, MatchResult, OnErr, OnOk, IfNone, IfSome, None, option_map, is_some, Err, true, false};
+ghost use Rattle.std.specs.Prelude.{◌≡◌, if◌then◌else◌, IfOk, IfErr, MatchResult, OnErr, OnOk};
+ghost use Rattle.std.specs.Prelude.{IfNone, IfSome, None, option_map, is_some, Err, true, false};
 ghost use Rattle.jpeg_bits.specs.Reading.{Answers};
 ghost use Rattle.jpeg_bits.specs.Stream.{stream_of};
 ghost use Rattle.jpeg_bits.specs.declared.error.Error.TheVariants.{OutOfMemory};
-ghost use Rattle.jpeg_decoder.specs.Stream.{nothing_found, header_at, sized_header_at, sized_to, told_of, IsOfTurns};
-ghost use Rattle.jpeg_decoder.specs.States.{Decoding, MovesToHeader, MovesToEnd, IsReading, ahead, told_ahead, turns_ahead, OnTold, OnToldRefusal, Fresh, HeaderRead};
+ghost use Rattle.jpeg_decoder.specs.Stream.{nothing_found, header_at, sized_header_at, sized_to};
+ghost use Rattle.jpeg_decoder.specs.Stream.{told_of, IsOfTurns};
+ghost use Rattle.jpeg_decoder.specs.States.{Decoding, MovesToHeader, MovesToEnd, IsReading, ahead};
+ghost use Rattle.jpeg_decoder.specs.States.{told_ahead, turns_ahead, OnTold, OnToldRefusal, Fresh};
+ghost use Rattle.jpeg_decoder.specs.States.{HeaderRead};
 ghost use Rattle.jpeg_decoder.specs.DecodedImages.{DecodesImages};
+ghost use Rattle.jpeg_decoder.specs.DecodedSamples.{DecodesSamples};
 ghost use Rattle.jpeg_decoder.specs.Seen.{format_of, found_in, info_of};
 ghost use Rattle.jpeg_decoder.specs.Sound.{HasDecodedFrame, IsSound, IsUnread};
 ghost use Rattle.jpeg_decoder.specs.declared.decoder.Progress.TheVariants.{Failed};
@@ -59,16 +64,20 @@ impl PixelFormat {
     }
 }
 
-/// What a frame header tells of the picture.
+/// What a frame header says of the picture.
 #[derive(Clone, Copy, Debug, PartialEq)]
 pub struct ImageInfo {
+    /// The width of the picture in pixels, at the scale that was chosen.
     pub width: u16,
+    /// The height of the picture in pixels, at the scale that was chosen.
     pub height: u16,
+    /// How the bytes of the picture stand for its pixels.
     pub pixel_format: PixelFormat,
+    /// The process of the frame.
     pub coding_process: CodingProcess,
 }
 
-/// The format of so many components at a precision.
+/// The format of this many components at a precision.
 fn format_of(count: usize, precision: u8) -> PixelFormat
     ensures { result ≡ format_of count precision }
 {
@@ -102,7 +111,8 @@ fn info_of(frame: &FrameInfo) -> ImageInfo
 fn size_frame(frame: &mut FrameInfo, width: u16, height: u16) -> (u16, u16)
     requires sized { IsSizedFrame (frame_in frame.old) }
     ensures frame { frame_in frame.new ≡ sized width height (frame_in frame.old) }
-    ensures size { (result.0 ≡ (frame_in frame.new).output_width) × (result.1 ≡ (frame_in frame.new).output_height) }
+    ensures size { (result.0 ≡ (frame_in frame.new).output_width)
+        × (result.1 ≡ (frame_in frame.new).output_height) }
 {
     match frame.coding_process {
         CodingProcess::DctSequential | CodingProcess::DctProgressive => {
@@ -121,9 +131,11 @@ fn scale_state(state: &mut State, width: u16, height: u16) -> Option<(u16, u16)>
     requires frames { HasDecodedFrame (found_in state.old) }
     ensures found { found_in state.new ≡ sized_to width height (found_in state.old) }
     ensures none { IfNone result ((found_in state.old).frame ≡ None) }
-    ensures size { IfSome result (λ size. IfSome (found_in state.new).frame (λ f. (f.output_width ≡ size.0) × (f.output_height ≡ size.1))) }
+    ensures size { IfSome result (λ size. IfSome (found_in state.new).frame (λ f. (f.output_width
+        ≡ size.0) × (f.output_height ≡ size.1))) }
     ensures frames { HasDecodedFrame (found_in state.new) }
-    ensures sound { IsSound (found_in state.old) → IsUnread (found_in state.old) → IsSound (found_in state.new) × IsUnread (found_in state.new) }
+    ensures sound { IsSound (found_in state.old) → IsUnread (found_in state.old)
+        → IsSound (found_in state.new) × IsUnread (found_in state.new) }
 {
     match &mut state.frame {
         Some(frame) => Some(size_frame(frame, width, height)),
@@ -140,8 +152,8 @@ enum Progress {
     Failed,
 }
 
-/// How far a decoder has come behind a call: a refusal fails it.
-fn progress_behind(is_ok: bool, progress: Progress) -> Progress
+/// How far a decoder has come after a call: a refusal fails it.
+fn progress_after(is_ok: bool, progress: Progress) -> Progress
     ensures { result ≡ (if is_ok then progress else Failed) }
 {
     if is_ok { progress } else { Progress::Failed }
@@ -173,8 +185,8 @@ impl<R: Read + Drop> Model for Decoder<R> {
       settings = d.settings;
     } };
 
-    // A fresh decoder has found nothing. One whose header was read has a frame, which is decoded; and
-    // until it is decoded no scan was read.
+    // A fresh decoder has found nothing. One whose header was read has a frame, which is decoded;
+    // and until it is decoded no scan was read.
     ghost invariant = { λ d. (stage_of d.progress ≡ Fresh → found_in d.state ≡ nothing_found)
         × (HasHeader (stage_of d.progress) → is_some (found_in d.state).frame ≡ true)
         × (HasHeader (stage_of d.progress) → HasDecodedFrame (found_in d.state))
@@ -182,7 +194,8 @@ impl<R: Read + Drop> Model for Decoder<R> {
 }
 
 impl<R: Read + Drop> Decoder<R> {
-    /// A decoder of the stream that the reader gives. The only error is want of memory; the reader is then dropped.
+    /// A decoder of the stream that the reader gives. The only error is `OutOfMemory`; the reader
+    /// is then dropped.
     pub fn new(alloc: Global, reader: R) -> Result<Decoder<R>>
         ensures ok { IfOk result (λ d. d ≡ record {
           source = stream_of (R.remaining reader) false false;
@@ -204,24 +217,31 @@ impl<R: Read + Drop> Decoder<R> {
         })
     }
 
-    /// The size and the format of the picture, once a frame was accepted. Tells what was read in every state.
+    /// The size and the format of the picture, once a frame was accepted. Tells what was read in
+    /// every state.
     pub fn info(&self) -> Option<ImageInfo>
         ensures { result ≡ option_map info_of self.now.found.frame }
     {
         self.state.frame.as_ref().map(|frame| info_of(frame))
     }
 
-    /// The colour transform of a picture of several components, in place of the one that its segments tell. One that does not fit is refused
-    /// by `decode`.
+    /// The colour transform of a picture of several components, in place of the one that its
+    /// segments tell. One that does not fit is refused by `decode`.
     pub fn set_color_transform(&mut self, transform: ColorTransform)
-        ensures { self.new ≡ record self.old { settings = record self.old.settings { color_transform = Some transform } } }
+        ensures { self.new ≡ record self.old {
+          settings = record self.old.settings
+              { color_transform = Some transform };
+        } }
     {
         self.settings.color_transform = Some(transform);
     }
 
     /// The bytes of a picture that are decoded at most. A picture of more is refused by `decode`.
     pub fn set_max_decoding_buffer_size(&mut self, max: usize)
-        ensures { self.new ≡ record self.old { settings = record self.old.settings { limit = max } } }
+        ensures { self.new ≡ record self.old {
+          settings = record self.old.settings
+              { limit = max };
+        } }
     {
         self.settings.limit = max;
     }
@@ -248,22 +268,31 @@ impl<R: Read + Drop> Decoder<R> {
             .map(|bytes| bytes.as_slice())
     }
 
-    /// The ICC profile that was read (ICC.1, Annex B.4), where all its parts were. The only error is want of memory.
+    /// The ICC profile that was read (ICC.1, Annex B.4), where all its parts were. The only error
+    /// is `OutOfMemory`.
     pub fn icc_profile(&self) -> Result<Option<Vec<u8>>>
-        ensures { MatchResult result (λ o. option_map (λ v. v.items) o ≡ profile_of self.now.found.metadata.icc) (λ e. e ≡ OutOfMemory) }
+        ensures { MatchResult result (λ o. option_map (λ v. v.items) o
+            ≡ profile_of self.now.found.metadata.icc) (λ e. e ≡ OutOfMemory) }
     {
         profile(self.alloc, self.state.metadata.icc.as_slice())
     }
 
-    /// Reads through the frame's segment, so that `info` tells of the picture. Once it is read, nothing more is read.
+    /// Reads through the frame's segment, so that `info` tells of the picture. Once it is read,
+    /// nothing more is read.
     ///
-    /// Errors: `Format` where a rule is broken, `Unsupported` by the name of a feature, `Io` where the bytes end or a read fails, and `OutOfMemory`;
-    /// `Internal` where the decoder has failed, and nowhere else. A refusal leaves a failed decoder, which tells what was read.
+    /// Errors: `Format` where a rule is broken, `Unsupported` by the name of a feature, `Io` where
+    /// the bytes end or a read fails, and `OutOfMemory`; `Internal` where the decoder has failed,
+    /// and nowhere else. A refusal leaves a failed decoder, which tells what was read.
     pub fn read_info(&mut self) -> Result<()>
         ensures stage { MovesToHeader self.old.stage self.new.stage result }
-        ensures reads { self.old.stage ≡ Fresh → Answers (λ _. self.new.found) header_at self.old.source result self.new.source }
-        ensures told { self.old.stage ≡ Fresh → OnTold self.old.source self.new.source result (told_of self.new.found ≡ told_ahead true self.old.stage self.old.found self.old.source.bytes) }
-        ensures turns { self.old.stage ≡ Fresh → self.old.source.known ≡ true → IsOfTurns (λ n. turns_ahead n true self.old.stage self.old.found self.old.source.bytes) (told_of self.new.found) }
+        ensures reads { self.old.stage ≡ Fresh → Answers (λ _. self.new.found) header_at
+            self.old.source result self.new.source }
+        ensures told { self.old.stage ≡ Fresh → OnTold self.old.source self.new.source result
+            (told_of self.new.found ≡ told_ahead true self.old.stage self.old.found
+            self.old.source.bytes) }
+        ensures turns { self.old.stage ≡ Fresh → self.old.source.known ≡ true
+            → IsOfTurns (λ n. turns_ahead n true self.old.stage self.old.found
+            self.old.source.bytes) (told_of self.new.found) }
         ensures settings { self.new.settings ≡ self.old.settings }
         ensures still { (self.old.stage ≡ Fresh → ⊥) → self.new ≡ self.old }
         ensures framed { IfOk result (λ _. is_some self.new.found.frame ≡ true) }
@@ -273,24 +302,34 @@ impl<R: Read + Drop> Decoder<R> {
             Progress::HeaderRead | Progress::Finished => return Ok(()),
             Progress::Failed => return Err(Error::Internal("decoder has failed")),
         };
-        self.progress = progress_behind(result.is_ok(), Progress::HeaderRead);
+        self.progress = progress_after(result.is_ok(), Progress::HeaderRead);
         result
     }
 
-    /// Scales the picture down to the least of 1/8, 1/4, 1/2 and all of its size at which it is as wide or
-    /// as high as is asked for, and returns the size of the picture at that scale. Reads the header first
-    /// where it wasn't read; the last call counts. A lossless picture keeps its size.
+    /// Scales the picture down to the least of 1/8, 1/4, 1/2 and all of its size at which it is as
+    /// wide or as high as is asked for, and returns the size of the picture at that scale. Reads
+    /// the header first where it wasn't read; the last call counts. A lossless picture keeps its
+    /// size.
     ///
     /// After `decode` the call changes what `info` returns, and no picture. The errors are those of
     /// `read_info`; a refusal leaves a failed decoder.
     pub fn scale(&mut self, requested_width: u16, requested_height: u16) -> Result<(u16, u16)>
         ensures stage { MovesToHeader self.old.stage self.new.stage result }
-        ensures reads { self.old.stage ≡ Fresh → Answers (λ _. self.new.found) (sized_header_at requested_width requested_height) self.old.source result self.new.source }
-        ensures told { self.old.stage ≡ Fresh → OnToldRefusal self.old.source self.new.source result (told_of self.new.found ≡ told_ahead true self.old.stage self.old.found self.old.source.bytes) }
-        ensures turns { self.old.stage ≡ Fresh → self.old.source.known ≡ true → OnErr result (IsOfTurns (λ n. turns_ahead n true self.old.stage self.old.found self.old.source.bytes) (told_of self.new.found)) }
-        ensures scaled { (self.old.stage ≡ Fresh → ⊥) → OnOk result (self.new ≡ record self.old { found = sized_to requested_width requested_height self.old.found }) }
+        ensures reads { self.old.stage ≡ Fresh → Answers (λ _. self.new.found)
+            (sized_header_at requested_width requested_height) self.old.source result
+            self.new.source }
+        ensures told { self.old.stage ≡ Fresh → OnToldRefusal self.old.source self.new.source result
+            (told_of self.new.found ≡ told_ahead true self.old.stage self.old.found
+            self.old.source.bytes) }
+        ensures turns { self.old.stage ≡ Fresh → self.old.source.known ≡ true
+            → OnErr result (IsOfTurns (λ n. turns_ahead n true self.old.stage self.old.found
+            self.old.source.bytes) (told_of self.new.found)) }
+        ensures scaled { (self.old.stage ≡ Fresh → ⊥)
+            → OnOk result (self.new ≡ record self.old
+            { found = sized_to requested_width requested_height self.old.found }) }
         ensures still { (self.old.stage ≡ Fresh → ⊥) → OnErr result (self.new ≡ self.old) }
-        ensures size { IfOk result (λ size. IfSome self.new.found.frame (λ f. (f.output_width ≡ size.0) × (f.output_height ≡ size.1))) }
+        ensures size { IfOk result (λ size. IfSome self.new.found.frame (λ f. (f.output_width
+            ≡ size.0) × (f.output_height ≡ size.1))) }
         ensures framed { IfOk result (λ _. is_some self.new.found.frame ≡ true) }
         ensures settings { self.new.settings ≡ self.old.settings }
     {
@@ -301,21 +340,50 @@ impl<R: Read + Drop> Decoder<R> {
         }
     }
 
-    /// Reads through the end of the image and no byte behind it, and gives the picture: its samples line by line.
-    /// Where the stream is one that a writer emits for the coefficients of an image, that is their picture.
+    /// Reads through the end of the image and no byte after it, and gives the picture: its samples
+    /// line by line. Where the stream is one that a writer emits for the coefficients of an image,
+    /// that is their picture; and where it is a lossless one for samples, it is these samples.
     ///
-    /// Errors: `Format` where a rule is broken or the picture is above the limit, `Unsupported` by the name of a feature, `Io` where the bytes end or
-    /// a read fails, and `OutOfMemory`; `Internal` where the decoder has failed or has decoded its image, and nowhere else. A refusal leaves a
-    /// failed decoder, which tells what was read, but a finished one stays finished. No samples are kept behind either.
+    /// Errors: `Format` where a rule is broken or the picture is above the limit, `Unsupported` by
+    /// the name of a feature, `Io` where the bytes end or a read fails, and `OutOfMemory`;
+    /// `Internal` where the decoder has failed or has decoded its image, and nowhere else. A
+    /// refusal leaves a failed decoder, which tells what was read, but a finished one stays
+    /// finished. No samples are kept after either.
     pub fn decode(&mut self) -> Result<Vec<u8>>
+        // The state table: an Ok finishes the decoder, a refusal fails it.
         ensures stage { MovesToEnd self.old.stage self.new.stage result }
-        ensures reads { IsReading self.old.stage → Answers (λ v. (told_of self.new.found, v.items)) (ahead self.old.stage self.old.settings self.old.found) self.old.source result self.new.source }
+
+        // For any bytes, the answer is what they mean by T.81, or the name of their fault.
+        ensures reads { IsReading self.old.stage → Answers (λ v. (told_of self.new.found, v.items))
+            (ahead self.old.stage self.old.settings self.old.found) self.old.source result
+            self.new.source }
+
+        // Where the bytes are written for the coefficients of an image, it is their picture.
         ensures images { DecodesImages (λ v. v.items) self.old result self.new }
-        ensures told { IsReading self.old.stage → OnTold self.old.source self.new.source result (told_of self.new.found ≡ told_ahead false self.old.stage self.old.found self.old.source.bytes) }
-        ensures turns { IsReading self.old.stage → self.old.source.known ≡ true → IsOfTurns (λ n. turns_ahead n false self.old.stage self.old.found self.old.source.bytes) (told_of self.new.found) }
+
+        // Where they are written for the samples of a lossless image, it is these samples.
+        ensures samples { DecodesSamples (λ v. v.items) self.old result self.new }
+
+        // What is told after it is what the segments up to the end or the fault have said.
+        ensures told { IsReading self.old.stage → OnTold self.old.source self.new.source result
+            (told_of self.new.found ≡ told_ahead false self.old.stage self.old.found
+            self.old.source.bytes) }
+
+        // The same after `OutOfMemory` or a failed read, of some first segments, each whole.
+        ensures turns { IsReading self.old.stage → self.old.source.known ≡ true
+            → IsOfTurns (λ n. turns_ahead n false self.old.stage self.old.found
+            self.old.source.bytes) (told_of self.new.found) }
+
+        // The settings stay.
         ensures settings { self.new.settings ≡ self.old.settings }
+
+        // Where no image is left to decode nothing changes.
         ensures still { (IsReading self.old.stage → ⊥) → self.new ≡ self.old }
+
+        // The frame that `read_info` read stays.
         ensures stays { self.old.stage ≡ HeaderRead → self.new.found.frame ≡ self.old.found.frame }
+
+        // After an Ok there is a frame, so that `info` answers.
         ensures framed { IfOk result (λ _. is_some self.new.found.frame ≡ true) }
     {
         let result = match self.progress {
@@ -334,7 +402,7 @@ impl<R: Read + Drop> Decoder<R> {
             Progress::Finished => return Err(Error::Internal("image was already decoded")),
             Progress::Failed => return Err(Error::Internal("decoder has failed")),
         };
-        self.progress = progress_behind(result.is_ok(), Progress::Finished);
+        self.progress = progress_after(result.is_ok(), Progress::Finished);
         result
     }
 }

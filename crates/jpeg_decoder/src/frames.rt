@@ -3,7 +3,7 @@ ghost use Rattle.jpeg_pixels.specs.Pictures.{sources_of};
 ghost use Rattle.std.specs.Prelude.{◌≡◌, Ok, MatchResult, ◌≤◌, length, map, IsOk};
 ghost use Rattle.jpeg_bits.specs.Reading.{Names};
 ghost use Rattle.jpeg_decoder.specs.Stream.{is_precision, is_arithmetic, accepted};
-ghost use Rattle.jpeg_segments.specs.Frame.{AllHaveFactors};
+ghost use Rattle.jpeg_segments.specs.Frame.{AllHaveSampling};
 ghost use Rattle.jpeg_segments.specs.FrameView.{component_in, frame_in};
 ghost use Rattle.jpeg_decoder.specs.Steps.{IsRefusal};
 
@@ -36,7 +36,7 @@ fn is_precision(process: CodingProcess, precision: u8) -> bool
 fn check_ratios(alloc: Global, frame: &FrameInfo) -> Result<()>
     requires some { 1 ≤ length frame.now.components.items }
     requires most { length frame.now.components.items ≤ 4 }
-    requires factors { AllHaveFactors (map component_in frame.now.components.items) }
+    requires factors { AllHaveSampling (map component_in frame.now.components.items) }
     ensures { MatchResult result
         (λ _. IsOk (sources_of (frame_in frame.now).components (frame_in frame.now).output_width (frame_in frame.now).output_height))
         (λ e. IsRefusal e × Names e (sources_of (frame_in frame.now).components (frame_in frame.now).output_width (frame_in frame.now).output_height)) }
@@ -49,8 +49,9 @@ fn check_ratios(alloc: Global, frame: &FrameInfo) -> Result<()>
 /// Checks that a frame is one that is decoded.
 #[tactic(auto, unfolding(crate::specs::Stream::accepted))]
 pub fn check_frame(alloc: Global, frame: &FrameInfo) -> Result<()>
-    requires { AllHaveFactors (map component_in frame.now.components.items) }
-    ensures { MatchResult result (λ _. accepted (frame_in frame.now) ≡ Ok (frame_in frame.now)) (λ e. IsRefusal e × Names e (accepted (frame_in frame.now))) }
+    requires { AllHaveSampling (map component_in frame.now.components.items) }
+    ensures { MatchResult result (λ _. accepted (frame_in frame.now)
+        ≡ Ok (frame_in frame.now)) (λ e. IsRefusal e × Names e (accepted (frame_in frame.now))) }
 {
     if frame.is_differential {
         return Err(Error::Unsupported(UnsupportedFeature::Hierarchical));

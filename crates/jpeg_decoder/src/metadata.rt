@@ -4,8 +4,8 @@ use jpeg_bits::error::Result;
 use jpeg_segments::parser::{AdobeColorTransform, AppData, IccChunk};
 use std::alloc::Global;
 
-/// What the segments of applications have said: whether JFIF or an MJPEG frame was named, and the last Adobe transform, Exif, XMP and Photoshop
-/// data; parts of ICC profiles add up.
+/// What the segments of applications have said: whether JFIF or an MJPEG frame was named, and the
+/// last Adobe transform, Exif, XMP and Photoshop data; parts of ICC profiles add up.
 #[derive(Drop)]
 pub struct Metadata {
     pub jfif: bool,
@@ -39,9 +39,11 @@ impl Metadata {
         }
     }
 
-    /// What the segment of an application says is added. Where memory is wanting nothing changes.
+    /// What the segment of an application says is added. Where memory runs out nothing changes.
     pub fn add(&mut self, said: Option<AppData>) -> Result<()>
-        ensures { MatchResult result (λ _. metadata_in self.new ≡ with_application (metadata_in self.old) (option_map application_in said)) (λ e. (e ≡ OutOfMemory) × (metadata_in self.new ≡ metadata_in self.old)) }
+        ensures { MatchResult result (λ _. metadata_in self.new
+            ≡ with_application (metadata_in self.old) (option_map application_in said)) (λ e. (e
+            ≡ OutOfMemory) × (metadata_in self.new ≡ metadata_in self.old)) }
     {
         match said {
             None => {}

@@ -1,16 +1,23 @@
 //! A stream from its start to its picture (T.81, B.2).
-ghost use Rattle.std.specs.Prelude.{◌≡◌, ◌*◌, ◌+◌, ◌<◌, ◌&&◌, IfOk, List, MatchResult, None, OnOk, Ok, Some, drop, false, is_some, length, map, nat_lt, not, option_map, replicate, slice_index_or, true};
+ghost use Rattle.std.specs.Prelude.{◌≡◌, ◌*◌, ◌+◌, ◌<◌, ◌≤◌, ◌&&◌, IfOk, List, MatchResult, None};
+ghost use Rattle.std.specs.Prelude.{OnOk, Ok, Some, drop, false, is_some, length, map, nat_lt, not};
+ghost use Rattle.std.specs.Prelude.{option_map, replicate, slice_index_or, true};
 ghost use Rattle.jpeg_bits.specs.Reading.{Answers, Names};
 ghost use Rattle.jpeg_segments.specs.FrameView.{component_in, frame_in};
 ghost use Rattle.jpeg_pixels.specs.Pictures.{AreWhole};
 ghost use Rattle.jpeg_pixels.specs.Scaled.{IsScale};
 ghost use Rattle.jpeg_decoder.specs.EndPlanes.{AreBlocksOf, blocks_if, is_held, plane_or};
+ghost use Rattle.jpeg_decoder.specs.LosslessScans.{samples_from, without_factors};
 ghost use Rattle.jpeg_decoder.specs.Scanning.{arrays_in, blocks_in};
 ghost use Rattle.jpeg_decoder.specs.Seen.{found_in, metadata_in, planes_in};
-ghost use Rattle.jpeg_decoder.specs.Sound.{IsDecodedFrame, IsPlaneOf, IsSound, HasDecodedFrame, IsUnread};
+ghost use Rattle.jpeg_decoder.specs.Sound.{IsDecodedFrame, IsPlaneOf, IsSound, HasDecodedFrame};
+ghost use Rattle.jpeg_decoder.specs.Sound.{IsUnread};
 ghost use Rattle.jpeg_decoder.specs.States.{OnTold};
 ghost use Rattle.jpeg_decoder.specs.Steps.{IsRefusal, cropped_to, with_decoded};
-ghost use Rattle.jpeg_decoder.specs.Stream.{IsOfTurns, header_at, meaning, nothing_found, picture_by, picture_of, planes_from, rest_at, start_at, told_by_stream, told_by_turns, told_in_turns, told_of, told_rest};
+ghost use Rattle.jpeg_decoder.specs.Stream.{IsOfTurns, blocks_picture, header_at, meaning};
+ghost use Rattle.jpeg_decoder.specs.Stream.{nothing_found, picture_by, picture_of, planes_from};
+ghost use Rattle.jpeg_decoder.specs.Stream.{rest_at, samples_picture, start_at, told_by_stream};
+ghost use Rattle.jpeg_decoder.specs.Stream.{told_by_turns, told_in_turns, told_of, told_rest};
 
 use crate::codings::is_progressive;
 use crate::color_choice::choose_color_transform;
@@ -20,9 +27,10 @@ use crate::state::{Settings, State};
 use jpeg_bits::error::{Result, format_error};
 use jpeg_bits::reads::read_u8;
 use jpeg_bits::source::Source;
+use jpeg_lossless::lossless::compute_image_lossless;
 use jpeg_pixels::plane::crop;
 use jpeg_pixels::worker::compute_image_rows;
-use jpeg_segments::parser::{Component, Dimensions, FrameInfo};
+use jpeg_segments::parser::{CodingProcess, Component, Dimensions, FrameInfo};
 use std::alloc::Global;
 use std::io::Read;
 
@@ -49,7 +57,7 @@ fn area_of(size: Dimensions) -> usize
     usize::from(size.width) * usize::from(size.height)
 }
 
-/// Whether so many components of a picture are within a limit.
+/// Whether this many components of a picture are within a limit.
 fn is_within(limit: usize, count: usize, area: usize) -> bool
     ensures { result ≡ not (nat_lt limit (count * area)) }
 {
@@ -74,8 +82,10 @@ fn take_held(
     place: usize,
 ) -> Option<Vec<[i16; 64]>>
     requires { is_held ≡ true → place < length held.old.items }
-    ensures taken { option_map blocks_in result ≡ blocks_if is_held (arrays_in held.old.items) place }
-    ensures left { drop (place + 1) (arrays_in held.new.items) ≡ drop (place + 1) (arrays_in held.old.items) }
+    ensures taken { option_map blocks_in result ≡ blocks_if is_held (arrays_in held.old.items)
+        place }
+    ensures left { drop (place + 1) (arrays_in held.new.items)
+        ≡ drop (place + 1) (arrays_in held.old.items) }
 {
     if !is_held {
         return None;
@@ -121,7 +131,8 @@ fn planes_at_end(
     requires frame { (found_in state.now).frame ≡ Some (frame_in frame.now) }
     ensures planes { let expected = planes_from (with_decoded (found_in state.now) decoded.old) (frame_in frame.now) 0 (frame_in frame.now).components in
         MatchResult result (λ v. expected ≡ Ok (map (λ p. p.items) v.items)) (λ e. IsRefusal e × Names e expected) }
-    ensures whole { IfOk result (λ v. AreWhole (frame_in frame.now).components (map (λ p. p.items) v.items)) }
+    ensures whole { IfOk result (λ v. AreWhole (frame_in frame.now).components
+        (map (λ p. p.items) v.items)) }
     ensures count { IfOk result (λ v. length v.items ≡ length (frame_in frame.now).components) }
 {
     let is_held = are_held(state, frame);
@@ -137,7 +148,8 @@ fn planes_at_end(
 /// A plane of a component cropped to the picture in place, as far as the plane goes.
 fn crop_to(plane: &mut Vec<u8>, component: &Component, size: Dimensions)
     requires { IsScale component.now.dct_scale }
-    ensures { plane.new.items ≡ cropped_to (component_in component.now) size.width size.height plane.old.items }
+    ensures { plane.new.items ≡ cropped_to (component_in component.now) size.width size.height
+        plane.old.items }
 {
     let stride = component.dct_scale * usize::from(component.block_size.width);
     let lines = plane.len().checked_div(stride).unwrap_or(0);
@@ -177,6 +189,56 @@ fn picture_by(
     compute_image_rows(alloc, components, &planes, frame.output_size, transform)
 }
 
+/// The picture of a frame of blocks.
+#[tactic(auto, unfolding(crate::specs::Stream::blocks_picture))]
+fn blocks_picture(
+    alloc: Global,
+    state: &State,
+    frame: &FrameInfo,
+    decoded: &mut Decoded,
+    settings: Settings,
+) -> Result<Vec<u8>>
+    requires sound { IsSound (with_decoded (found_in state.now) decoded.old) }
+    requires frame { (found_in state.now).frame ≡ Some (frame_in frame.now) }
+    ensures { let expected = blocks_picture settings (with_decoded (found_in state.now) decoded.old) (frame_in frame.now) in
+        MatchResult result (λ v. expected ≡ Ok v.items) (λ e. IsRefusal e × Names e expected) }
+{
+    let planes = planes_at_end(alloc, state, frame, decoded)?;
+    picture_by(alloc, state, frame, planes, settings)
+}
+
+/// The samples of a lossless frame's components, which are taken.
+fn samples_at_end(alloc: Global, frame: &FrameInfo, decoded: &mut Decoded) -> Result<Vec<Vec<u16>>>
+    requires count { length (frame_in frame.now).components ≤ 4 }
+    ensures planes { let expected = samples_from (planes_in decoded.old.samples) 0 (frame_in frame.now).components in
+        MatchResult result (λ v. expected ≡ Ok (map (λ p. p.items) v.items)) (λ e. IsRefusal e × Names e expected) }
+    ensures count { IfOk result (λ v. length v.items ≡ length (frame_in frame.now).components) }
+{
+    let mut planes = Vec::with_capacity(alloc, frame.components.len())?;
+    for place in 0..frame.components.len() {
+        let plane = decoded.samples[place].take();
+        planes.push(needed(alloc, plane, "an image without samples")?)?;
+    }
+    Ok(planes)
+}
+
+/// The picture of a lossless frame.
+#[tactic(auto, unfolding(crate::specs::Stream::samples_picture))]
+fn samples_picture(
+    alloc: Global,
+    state: &State,
+    frame: &FrameInfo,
+    decoded: &mut Decoded,
+) -> Result<Vec<u8>>
+    requires sound { IsSound (with_decoded (found_in state.now) decoded.old) }
+    requires frame { (found_in state.now).frame ≡ Some (frame_in frame.now) }
+    ensures { let expected = samples_picture (with_decoded (found_in state.now) decoded.old) (without_factors (frame_in frame.now)) in
+        MatchResult result (λ v. expected ≡ Ok v.items) (λ e. IsRefusal e × Names e expected) }
+{
+    let planes = samples_at_end(alloc, frame, decoded)?;
+    compute_image_lossless(alloc, frame, planes)
+}
+
 /// The picture of what was found, which is taken: within the limit, of planes that are there.
 #[tactic(auto, unfolding(crate::specs::Stream::picture_of))]
 fn picture(
@@ -197,8 +259,12 @@ fn picture(
     ) {
         return Err(format_error(alloc, "the picture is larger than the limit"));
     }
-    let planes = planes_at_end(alloc, state, frame, decoded)?;
-    picture_by(alloc, state, frame, planes, settings)
+    match frame.coding_process {
+        CodingProcess::DctSequential | CodingProcess::DctProgressive => {
+            blocks_picture(alloc, state, frame, decoded, settings)
+        }
+        CodingProcess::Lossless => samples_picture(alloc, state, frame, decoded),
+    }
 }
 
 /// Reads the header of a stream: all through the frame's segment.
@@ -210,8 +276,10 @@ pub fn read_header<R: Read + Drop>(
 ) -> Result<()>
     requires { found_in state.old ≡ nothing_found }
     ensures reads { Answers (λ _. found_in state.new) header_at source.old result source.new }
-    ensures told { OnTold source.old source.new result (told_of (found_in state.new) ≡ told_by_stream true source.old.bytes) }
-    ensures turns { source.old.known ≡ true → IsOfTurns (λ n. told_by_turns n true source.old.bytes) (told_of (found_in state.new)) }
+    ensures told { OnTold source.old source.new result (told_of (found_in state.new)
+        ≡ told_by_stream true source.old.bytes) }
+    ensures turns { source.old.known ≡ true → IsOfTurns (λ n. told_by_turns n true source.old.bytes)
+        (told_of (found_in state.new)) }
     ensures framed { IfOk result (λ _. is_some (found_in state.new).frame ≡ true) }
     ensures sound { OnOk result (IsSound (found_in state.new)) }
     ensures unread { OnOk result (IsUnread (found_in state.new)) }
@@ -229,11 +297,16 @@ fn read_picture<R: Read + Drop>(
     settings: Settings,
 ) -> Result<Vec<u8>>
     requires sound { IsSound (found_in state.old) }
-    ensures reads { Answers (λ v. (told_of (found_in state.new), v.items)) (rest_at settings (found_in state.old)) source.old result source.new }
-    ensures told { OnTold source.old source.new result (told_of (found_in state.new) ≡ told_rest false (found_in state.old) source.old.bytes) }
-    ensures turns { source.old.known ≡ true → IsOfTurns (λ n. told_in_turns n false (found_in state.old) source.old.bytes) (told_of (found_in state.new)) }
+    ensures reads { Answers (λ v. (told_of (found_in state.new), v.items))
+        (rest_at settings (found_in state.old)) source.old result source.new }
+    ensures told { OnTold source.old source.new result (told_of (found_in state.new)
+        ≡ told_rest false (found_in state.old) source.old.bytes) }
+    ensures turns { source.old.known ≡ true → IsOfTurns
+        (λ n. told_in_turns n false (found_in state.old) source.old.bytes)
+        (told_of (found_in state.new)) }
     ensures framed { IfOk result (λ _. is_some (found_in state.new).frame ≡ true) }
-    ensures stays { is_some (found_in state.old).frame ≡ true → (found_in state.new).frame ≡ (found_in state.old).frame }
+    ensures stays { is_some (found_in state.old).frame ≡ true → (found_in state.new).frame
+        ≡ (found_in state.old).frame }
     ensures frames { OnOk result (HasDecodedFrame (found_in state.new)) }
 {
     state.read(alloc, source, false)?;
@@ -250,11 +323,16 @@ pub fn read_rest<R: Read + Drop>(
     settings: Settings,
 ) -> Result<Vec<u8>>
     requires sound { IsSound (found_in state.old) }
-    ensures reads { Answers (λ v. (told_of (found_in state.new), v.items)) (rest_at settings (found_in state.old)) source.old result source.new }
-    ensures told { OnTold source.old source.new result (told_of (found_in state.new) ≡ told_rest false (found_in state.old) source.old.bytes) }
-    ensures turns { source.old.known ≡ true → IsOfTurns (λ n. told_in_turns n false (found_in state.old) source.old.bytes) (told_of (found_in state.new)) }
+    ensures reads { Answers (λ v. (told_of (found_in state.new), v.items))
+        (rest_at settings (found_in state.old)) source.old result source.new }
+    ensures told { OnTold source.old source.new result (told_of (found_in state.new)
+        ≡ told_rest false (found_in state.old) source.old.bytes) }
+    ensures turns { source.old.known ≡ true → IsOfTurns
+        (λ n. told_in_turns n false (found_in state.old) source.old.bytes)
+        (told_of (found_in state.new)) }
     ensures framed { IfOk result (λ _. is_some (found_in state.new).frame ≡ true) }
-    ensures stays { is_some (found_in state.old).frame ≡ true → (found_in state.new).frame ≡ (found_in state.old).frame }
+    ensures stays { is_some (found_in state.old).frame ≡ true → (found_in state.new).frame
+        ≡ (found_in state.old).frame }
     ensures frames { OnOk result (HasDecodedFrame (found_in state.new)) }
 {
     let result = read_picture(alloc, source, state, settings);
@@ -271,9 +349,12 @@ pub fn read_stream<R: Read + Drop>(
     settings: Settings,
 ) -> Result<Vec<u8>>
     requires { found_in state.old ≡ nothing_found }
-    ensures reads { Answers (λ v. (told_of (found_in state.new), v.items)) (meaning settings) source.old result source.new }
-    ensures told { OnTold source.old source.new result (told_of (found_in state.new) ≡ told_by_stream false source.old.bytes) }
-    ensures turns { source.old.known ≡ true → IsOfTurns (λ n. told_by_turns n false source.old.bytes) (told_of (found_in state.new)) }
+    ensures reads { Answers (λ v. (told_of (found_in state.new), v.items)) (meaning settings)
+        source.old result source.new }
+    ensures told { OnTold source.old source.new result (told_of (found_in state.new)
+        ≡ told_by_stream false source.old.bytes) }
+    ensures turns { source.old.known ≡ true → IsOfTurns
+        (λ n. told_by_turns n false source.old.bytes) (told_of (found_in state.new)) }
     ensures framed { IfOk result (λ _. is_some (found_in state.new).frame ≡ true) }
     ensures frames { OnOk result (HasDecodedFrame (found_in state.new)) }
 {

@@ -44,9 +44,10 @@ fn have_count(chunks: &[IccChunk], count: usize) -> bool
     all_name(chunks, count)
 }
 
-/// The bytes of so many parts, which are numbered from 1, in turn.
+/// The bytes of this many parts, which are numbered from 1, in turn.
 fn joined(alloc: Global, chunks: &[IccChunk], count: usize) -> Result<Option<Vec<u8>>>
-    ensures { MatchResult result (λ o. option_map (λ v. v.items) o ≡ parts_from count 1 (map chunk_in chunks.now)) (λ e. e ≡ OutOfMemory) }
+    ensures { MatchResult result (λ o. option_map (λ v. v.items) o
+        ≡ parts_from count 1 (map chunk_in chunks.now)) (λ e. e ≡ OutOfMemory) }
 {
     let mut bytes = Vec::new(alloc);
     for index in 0..count {
@@ -58,11 +59,12 @@ fn joined(alloc: Global, chunks: &[IccChunk], count: usize) -> Result<Option<Vec
     Ok(Some(bytes))
 }
 
-/// The profile: there where 1 to 254 parts are, each names their number, and they are numbered 1, 2 and so on, in any order. The only error
-/// is want of memory.
+/// The profile: there where 1 to 254 parts are, each names their number, and they are numbered 1, 2
+/// and so on, in any order. The only error is want of memory.
 #[tactic(auto, unfolding(crate::specs::Profile::profile_of))]
 pub fn profile(alloc: Global, chunks: &[IccChunk]) -> Result<Option<Vec<u8>>>
-    ensures { MatchResult result (λ o. option_map (λ v. v.items) o ≡ profile_of (map chunk_in chunks.now)) (λ e. e ≡ OutOfMemory) }
+    ensures { MatchResult result (λ o. option_map (λ v. v.items) o
+        ≡ profile_of (map chunk_in chunks.now)) (λ e. e ≡ OutOfMemory) }
 {
     let count = chunks.len();
     if count == 0 || count > 254 || !have_count(chunks, count) {

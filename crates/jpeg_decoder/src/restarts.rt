@@ -4,7 +4,7 @@ ghost use Rattle.jpeg_bits.specs.Reading.{Answers};
 ghost use Rattle.jpeg_bits.specs.Entropy.{Takes};
 ghost use Rattle.jpeg_bits.specs.Intervals as intervals;
 ghost use Rattle.jpeg_decoder.specs.InTurn.{restart_from};
-ghost use Rattle.jpeg_decoder.specs.Steps.{is_restart, behind_all};
+ghost use Rattle.jpeg_decoder.specs.Steps.{is_restart, after_all};
 
 use jpeg_bits::error::{Result, format_error};
 use jpeg_bits::huffman::HuffmanDecoder;
@@ -55,7 +55,7 @@ pub fn pass_restarts<R: Read + Drop>(
     source: &mut Source<R>,
     met: Option<Marker>,
 ) -> Result<Option<Marker>>
-    ensures { Answers (λ m. m) (behind_all met) source.old result source.new }
+    ensures { Answers (λ m. m) (after_all met) source.old result source.new }
 {
     let mut met = met;
     for _ in 0..=u64::MAX {

@@ -1,9 +1,12 @@
 //! The program's engine: a stream from a reader, its picture to a writer, and what a refusal tells.
-ghost use Rattle.std.specs.Prelude.{◌≡◌, ◌++◌, ℕ, List, Some, None, option_map, Err, IsSome, IsSomeAnd, OnOk, OnErr, IfErr, IfOk, IsErr, string_bytes};
+ghost use Rattle.std.specs.Prelude.{◌≡◌, ◌++◌, ℕ, List, Some, None, option_map, Err, IsSome};
+ghost use Rattle.std.specs.Prelude.{IsSomeAnd, OnOk, OnErr, IfErr, IfOk, IsErr, string_bytes};
 ghost use Rattle.jpeg_decoder.specs.States.{IsOfBytes};
 ghost use Rattle.std.specs.Io.KnownBytes.{Appends, Keeps};
 ghost use Rattle.jpeg_bits.specs.declared.error.Error.TheVariants.{OutOfMemory};
-ghost use Rattle.jpeg_decoder.specs.Output.{output_of, line_of, name_of, Tells, TakesBeginning, IsOutside, IsOutsideOrMemory, NamesOrOutside};
+ghost use Rattle.jpeg_decoder.specs.Output.{output_of, line_of, name_of, Tells, TakesBeginning};
+ghost use Rattle.jpeg_decoder.specs.Output.{IsOutside, IsOutsideOrMemory, NamesOrOutside};
+ghost use Rattle.jpeg_decoder.specs.PrintedImages.{PrintsImages};
 
 use crate::decoder::{Decoder, ImageInfo, PixelFormat};
 use jpeg_bits::error::{Error, Result};
@@ -11,11 +14,12 @@ use std::alloc::{AllocError, Global};
 use std::io;
 use std::io::{ErrorKind, Read, Write};
 
-/// Writes all of the bytes, again after each interruption. A write of 0 bytes is refused as `WriteZero`, and interruptions without end by
-/// a `Format` with no text.
+/// Writes all of the bytes, again after each interruption. A write of 0 bytes is refused as
+/// `WriteZero`, and interruptions without end by a `Format` with no text.
 fn write_fully<W: Write>(alloc: Global, writer: &mut W, bytes: &[u8]) -> Result<()>
     ensures ok { OnOk result (Appends (W.contents writer.old) (W.contents writer.new) bytes.now) }
-    ensures err { OnErr result (TakesBeginning (W.contents writer.old) (W.contents writer.new) bytes.now) }
+    ensures err { OnErr result (TakesBeginning (W.contents writer.old) (W.contents writer.new)
+        bytes.now) }
     ensures outside { IfErr result IsOutside }
 {
     let mut rest = bytes;
@@ -75,8 +79,10 @@ fn header_line(alloc: Global, info: Option<ImageInfo>) -> std::result::Result<St
 
 /// Writes two texts, one after the other.
 fn write_both<W: Write>(alloc: Global, writer: &mut W, first: &[u8], second: &[u8]) -> Result<()>
-    ensures ok { OnOk result (Appends (W.contents writer.old) (W.contents writer.new) (first.now ++ second.now)) }
-    ensures err { OnErr result (TakesBeginning (W.contents writer.old) (W.contents writer.new) (first.now ++ second.now)) }
+    ensures ok { OnOk result (Appends (W.contents writer.old) (W.contents writer.new)
+        (first.now ++ second.now)) }
+    ensures err { OnErr result (TakesBeginning (W.contents writer.old) (W.contents writer.new)
+        (first.now ++ second.now)) }
     ensures outside { IfErr result IsOutside }
 {
     write_fully(alloc, writer, first)?;
@@ -89,7 +95,8 @@ fn line_and_pixels<R: Read + Drop>(alloc: Global, reader: R) -> Result<(String, 
         → IfOk result (λ made. output_of bytes ≡ Some (string_bytes made.0 ++ made.1.items)) }
     ensures err { (bytes : List ℕ) → Tells (R.remaining reader) bytes
         → IsSome (output_of bytes) → IfErr result IsOutsideOrMemory }
-    ensures named { (bytes : List ℕ) → Tells (R.remaining reader) bytes → IfErr result (NamesOrOutside bytes) }
+    ensures named { (bytes : List ℕ) → Tells (R.remaining reader) bytes
+        → IfErr result (NamesOrOutside bytes) }
     ensures own { IfErr result IsOfBytes }
 {
     let mut decoder = Decoder::new(alloc, reader)?;
@@ -98,9 +105,14 @@ fn line_and_pixels<R: Read + Drop>(alloc: Global, reader: R) -> Result<(String, 
     Ok((line, pixels))
 }
 
-/// Decodes the stream that the reader gives, and writes the header line `WIDTH HEIGHT FORMAT` with a line feed and then the pixels, line
-/// by line from the top. All is decoded before anything is written.
+/// Decodes the stream that the reader gives, and writes the header line `WIDTH HEIGHT FORMAT` with
+/// a line feed and then the pixels, line by line from the top. All is decoded before anything is
+/// written.
 pub fn run<R: Read + Drop, W: Write>(alloc: Global, reader: R, writer: &mut W) -> Result<()>
+    // A stream that is written for the coefficients of an image is printed as their picture.
+    ensures images { PrintsImages (R.remaining reader) (W.contents writer.old) result
+        (W.contents writer.new) }
+
     // What an Ok wrote is the line and the pixels.
     ensures ok { (bytes : List ℕ) → Tells (R.remaining reader) bytes
         → OnOk result (IsSomeAnd (output_of bytes) (Appends (W.contents writer.old) (W.contents writer.new))) }
@@ -113,15 +125,17 @@ pub fn run<R: Read + Drop, W: Write>(alloc: Global, reader: R, writer: &mut W) -
     ensures beginning { (bytes : List ℕ) → Tells (R.remaining reader) bytes
         → (text : List ℕ) → output_of bytes ≡ Some text → TakesBeginning (W.contents writer.old) (W.contents writer.new) text }
 
-    // A stream with a meaning is refused by the reader, the writer or want of memory alone.
+    // A stream with a meaning is refused by the reader, the writer or memory alone.
     ensures refused { (bytes : List ℕ) → Tells (R.remaining reader) bytes
         → IsSome (output_of bytes) → IfErr result IsOutsideOrMemory }
 
     // Any other refusal names the stream's fault.
-    ensures named { (bytes : List ℕ) → Tells (R.remaining reader) bytes → IfErr result (NamesOrOutside bytes) }
+    ensures named { (bytes : List ℕ) → Tells (R.remaining reader) bytes
+        → IfErr result (NamesOrOutside bytes) }
 
-    // Want of memory comes before anything is written.
-    ensures memory { result ≡ Err OutOfMemory → Keeps (W.contents writer.old) (W.contents writer.new) }
+    // Out of memory comes before anything is written.
+    ensures memory { result ≡ Err OutOfMemory → Keeps (W.contents writer.old)
+        (W.contents writer.new) }
 
     // No error is one of a decoder's state.
     ensures own { IfErr result IsOfBytes }
@@ -130,10 +144,11 @@ pub fn run<R: Read + Drop, W: Write>(alloc: Global, reader: R, writer: &mut W) -
     write_both(alloc, writer, line.as_bytes(), pixels.as_slice())
 }
 
-/// Tells a refusal in one line, and answers the program's status: 0 for `Ok`, of which nothing is told, and 1 for a refusal. Where the
-/// line can't be written, the status still tells.
+/// Tells a refusal in one line, and answers the program's status: 0 for `Ok`, of which nothing is
+/// told, and 1 for a refusal. Where the line can't be written, the status still tells.
 pub fn report<W: Write>(alloc: Global, outcome: &Result<()>, writer: &mut W) -> u8
-    ensures ok { OnOk outcome.now ((result ≡ 0) × Keeps (W.contents writer.old) (W.contents writer.new)) }
+    ensures ok { OnOk outcome.now ((result ≡ 0) × Keeps (W.contents writer.old)
+        (W.contents writer.new)) }
     ensures err { OnErr outcome.now (result ≡ 1) }
 {
     match outcome {

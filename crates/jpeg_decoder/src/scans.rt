@@ -1,4 +1,6 @@
 //! Scans whose blocks are held: of one component and of several, in every pass (T.81, A.2).
+ghost use Rattle.std.specs.Prelude.{None, is_some, true, false};
+ghost use Rattle.jpeg_bits.specs.Refusals.{outcome_of};
 ghost use Rattle.std.specs.Prelude.{ℕ, [], ◌∷◌, map, get_or, length};
 ghost use Rattle.std.specs.Prelude.{◌≡◌, ◌≤◌, ◌<◌, ◌+◌, ◌-◌, ◌*◌, ◌^◌};
 ghost use Rattle.std.specs.List.{All, AllByRecursion, range_with_len};
@@ -21,8 +23,8 @@ ghost use Rattle.jpeg_decoder.specs.Scanning.{mcu_in, row_in, rows_in, own_mcu, 
 use crate::codings::Coded;
 use crate::grids::{Grid, grid_of};
 use crate::restarts::read_restart;
-use jpeg_bits::blocks::{Pass, read_block};
-use jpeg_bits::error::Result;
+use jpeg_bits::blocks::{Pass, take_block};
+use jpeg_bits::error::{Error, Result, take_refusal};
 use jpeg_bits::huffman::HuffmanDecoder;
 use jpeg_bits::marker::Marker;
 use jpeg_bits::source::Source;
@@ -40,7 +42,8 @@ pub struct Scan<'a> {
 }
 
 /// The state between two blocks of a scan: of the entropy decoder and the predictors inside a
-/// restart interval, the MCUs that are left of it, and the number of the restart marker after it.
+/// restart interval, the MCUs that are left of it, the number of the restart marker after it, and
+/// the place of a refusal.
 #[derive(Drop)]
 pub struct Interval {
     alloc: Global,
@@ -49,6 +52,7 @@ pub struct Interval {
     run: u16,
     left: u16,
     number: u8,
+    refusal: Option<Error>,
 }
 
 /// A block of a scan: its component's slot in the scan, and its index among that component's
@@ -68,6 +72,7 @@ pub fn first_interval(alloc: Global, left: u16) -> Interval
       run = 0;
       left = left;
       number = 0;
+      refusal = None;
     } }
 {
     Interval {
@@ -77,6 +82,7 @@ pub fn first_interval(alloc: Global, left: u16) -> Interval
         run: 0,
         left,
         number: 0,
+        refusal: None,
     }
 }
 
@@ -87,7 +93,7 @@ fn read_turn<R: Read + Drop>(
     scan: &Scan<'_>,
     arrays: &mut Vec<Vec<[i16; 64]>>,
     spot: Spot,
-) -> Result<()>
+) -> bool
     requires pass { IsPass (scan_pass scan.now) }
     requires classes { All HasAc scan.now.components.items }
     requires slot { spot.slot < length scan.now.components.items }
@@ -100,11 +106,11 @@ fn read_turn<R: Read + Drop>(
         (turn_from (scan_pass scan.now) (scan_vias scan.now)
         (record { slot = spot.slot; index = spot.index })
         (reached interval.old (arrays_in arrays.old.items)))
-        interval.old.decoder source.old result interval.new.decoder source.new }
+        interval.old.decoder source.old (outcome_of result interval.new.refusal) interval.new.decoder source.new }
+    ensures held { result ≡ false → is_some interval.new.refusal ≡ true }
 {
     let coded = &scan.components[spot.slot];
-    read_block(
-        interval.alloc,
+    if !take_block(
         &mut interval.decoder,
         source,
         coded.dc,
@@ -113,8 +119,11 @@ fn read_turn<R: Read + Drop>(
         &mut interval.predictors[spot.slot],
         &mut interval.run,
         &mut arrays[spot.slot][spot.index],
-    )?;
-    Ok(())
+        &mut interval.refusal,
+    ) {
+        return false;
+    }
+    true
 }
 
 /// Reads `count` blocks of a component from a spot on.
@@ -126,7 +135,7 @@ fn read_line<R: Read + Drop>(
     arrays: &mut Vec<Vec<[i16; 64]>>,
     start: Spot,
     count: u8,
-) -> Result<()>
+) -> bool
     requires pass { IsPass (scan_pass scan.now) }
     requires classes { All HasAc scan.now.components.items }
     requires slot { start.slot < length scan.now.components.items }
@@ -140,16 +149,19 @@ fn read_line<R: Read + Drop>(
     ensures turns { Takes (λ _. reached interval.new (arrays_in arrays.new.items))
         (turns_from (scan_pass scan.now) (scan_vias scan.now) (line_of start.slot start.index count)
         (reached interval.old (arrays_in arrays.old.items)))
-        interval.old.decoder source.old result interval.new.decoder source.new }
+        interval.old.decoder source.old (outcome_of result interval.new.refusal) interval.new.decoder source.new }
+    ensures held { result ≡ false → is_some interval.new.refusal ≡ true }
 {
     let mut spot = start;
     let mut left = count;
     while left > 0 {
-        read_turn(interval, source, scan, arrays, spot)?;
+        if !read_turn(interval, source, scan, arrays, spot) {
+            return false;
+        }
         spot.index += 1;
         left -= 1;
     }
-    Ok(())
+    true
 }
 
 /// Reads the part of a component in an MCU, whose first block is at a spot.
@@ -161,7 +173,7 @@ fn read_part<R: Read + Drop>(
     arrays: &mut Vec<Vec<[i16; 64]>>,
     coded: &Coded<'_>,
     start: Spot,
-) -> Result<()>
+) -> bool
     requires pass { IsPass (scan_pass scan.now) }
     requires classes { All HasAc scan.now.components.items }
     requires slot { start.slot < length scan.now.components.items }
@@ -177,44 +189,47 @@ fn read_part<R: Read + Drop>(
         (turns_from (scan_pass scan.now) (scan_vias scan.now)
         (part_in start.slot start.index coded.now)
         (reached interval.old (arrays_in arrays.old.items)))
-        interval.old.decoder source.old result interval.new.decoder source.new }
+        interval.old.decoder source.old (outcome_of result interval.new.refusal) interval.new.decoder source.new }
+    ensures held { result ≡ false → is_some interval.new.refusal ≡ true }
 {
     let component = coded.component;
     let across = component.horizontal_sampling_factor;
     let mut spot = start;
     let mut left = component.vertical_sampling_factor;
     while left > 0 {
-        read_line(interval, source, scan, arrays, spot, across)?;
+        if !read_line(interval, source, scan, arrays, spot, across) {
+            return false;
+        }
         spot.index += usize::from(component.block_size.width);
         left -= 1;
     }
-    Ok(())
+    true
 }
 
 /// Begins the next restart interval, of `n` MCUs, where no MCU is left of this one.
 #[tactic(auto, using(crate::proofs::LineSteps::begun_rules))]
-fn begin<R: Read + Drop>(interval: &mut Interval, source: &mut Source<R>, n: u16) -> Result<()>
-    ensures { (arrays : Arrays) → Takes (λ _. counted interval.new arrays)
+fn begin<R: Read + Drop>(interval: &mut Interval, source: &mut Source<R>, n: u16) -> bool
+    ensures begun { (arrays : Arrays) → Takes (λ _. counted interval.new arrays)
         (begun_from n (counted interval.old arrays))
-        interval.old.decoder source.old result interval.new.decoder source.new }
+        interval.old.decoder source.old (outcome_of result interval.new.refusal) interval.new.decoder source.new }
+    ensures held { result ≡ false → is_some interval.new.refusal ≡ true }
 {
     if n == 0 {
-        return Ok(());
+        return true;
     }
     if interval.left > 0 {
-        return Ok(());
+        return true;
     }
-    read_restart(
-        interval.alloc,
-        &mut interval.decoder,
-        source,
-        interval.number,
-    )?;
+    let alloc = interval.alloc;
+    if let Err(e) = read_restart(alloc, &mut interval.decoder, source, interval.number) {
+        interval.refusal = Some(e);
+        return false;
+    }
     interval.predictors = [0; 4];
     interval.run = 0;
     interval.left = n;
     interval.number = interval.number.wrapping_add(1) % 8;
-    Ok(())
+    true
 }
 
 /// The index of the first block of a component in the MCU in a row and a column. The component has
@@ -251,7 +266,7 @@ fn read_parts<R: Read + Drop>(
     arrays: &mut Vec<Vec<[i16; 64]>>,
     row: u16,
     column: u16,
-) -> Result<()>
+) -> bool
     requires pass { IsPass (scan_pass scan.now) }
     requires classes { All HasAc scan.now.components.items }
     requires few { length scan.now.components.items ≤ 4 }
@@ -263,7 +278,8 @@ fn read_parts<R: Read + Drop>(
         (turns_from (scan_pass scan.now) (scan_vias scan.now)
         (mcu_in (scan_components scan.now) row column)
         (reached interval.old (arrays_in arrays.old.items)))
-        interval.old.decoder source.old result interval.new.decoder source.new }
+        interval.old.decoder source.old (outcome_of result interval.new.refusal) interval.new.decoder source.new }
+    ensures held { result ≡ false → is_some interval.new.refusal ≡ true }
 {
     let mut slot = 0;
     while slot < scan.components.len() {
@@ -272,10 +288,12 @@ fn read_parts<R: Read + Drop>(
             slot,
             index: first_index(coded, row, column),
         };
-        read_part(interval, source, scan, arrays, coded, start)?;
+        if !read_part(interval, source, scan, arrays, coded, start) {
+            return false;
+        }
         slot += 1;
     }
-    Ok(())
+    true
 }
 
 /// Reads an MCU of several components, and before it the restart marker, where one is due.
@@ -286,7 +304,7 @@ fn read_mcu<R: Read + Drop>(
     arrays: &mut Vec<Vec<[i16; 64]>>,
     row: u16,
     column: u16,
-) -> Result<()>
+) -> bool
     requires pass { IsPass (scan_pass scan.now) }
     requires classes { All HasAc scan.now.components.items }
     requires few { length scan.now.components.items ≤ 4 }
@@ -296,12 +314,17 @@ fn read_mcu<R: Read + Drop>(
         (mcu_from (scan_pass scan.now) (scan_vias scan.now) scan.now.restart_interval
         (mcu_spots row column 0 (scan_components scan.now))
         (counted interval.old (arrays_in arrays.old.items)))
-        interval.old.decoder source.old result interval.new.decoder source.new }
+        interval.old.decoder source.old (outcome_of result interval.new.refusal) interval.new.decoder source.new }
+    ensures held { result ≡ false → is_some interval.new.refusal ≡ true }
 {
-    begin(interval, source, scan.restart_interval)?;
-    read_parts(interval, source, scan, arrays, row, column)?;
+    if !begin(interval, source, scan.restart_interval) {
+        return false;
+    }
+    if !read_parts(interval, source, scan, arrays, row, column) {
+        return false;
+    }
     interval.left = interval.left.saturating_sub(1);
-    Ok(())
+    true
 }
 
 /// Reads a row of `wide` MCUs.
@@ -329,7 +352,9 @@ pub fn read_row<R: Read + Drop>(
     let mut column = 0;
     let mut left = wide;
     while left > 0 {
-        read_mcu(interval, source, scan, arrays, row, column)?;
+        if !read_mcu(interval, source, scan, arrays, row, column) {
+            return Err(take_refusal(&mut interval.refusal));
+        }
         column += 1;
         left -= 1;
     }
@@ -403,7 +428,7 @@ fn read_own_mcu<R: Read + Drop>(
     scan: &Scan<'_>,
     arrays: &mut Vec<Vec<[i16; 64]>>,
     index: usize,
-) -> Result<()>
+) -> bool
     requires pass { IsPass (scan_pass scan.now) }
     requires classes { All HasAc scan.now.components.items }
     requires some { 0 < length scan.now.components.items }
@@ -414,13 +439,18 @@ fn read_own_mcu<R: Read + Drop>(
         (mcu_from (scan_pass scan.now) (scan_vias scan.now) scan.now.restart_interval
         (record { slot = 0; index = index } ∷ [])
         (counted interval.old (arrays_in arrays.old.items)))
-        interval.old.decoder source.old result interval.new.decoder source.new }
+        interval.old.decoder source.old (outcome_of result interval.new.refusal) interval.new.decoder source.new }
+    ensures held { result ≡ false → is_some interval.new.refusal ≡ true }
 {
-    begin(interval, source, scan.restart_interval)?;
+    if !begin(interval, source, scan.restart_interval) {
+        return false;
+    }
     let spot = Spot { slot: 0, index };
-    read_turn(interval, source, scan, arrays, spot)?;
+    if !read_turn(interval, source, scan, arrays, spot) {
+        return false;
+    }
     interval.left = interval.left.saturating_sub(1);
-    Ok(())
+    true
 }
 
 /// Reads `count` blocks of a component that is alone in a scan, from an index on.
@@ -451,7 +481,9 @@ fn read_own_row<R: Read + Drop>(
     let mut left = count;
     while left > 0 {
         let index = start + usize::from(column);
-        read_own_mcu(interval, source, scan, arrays, index)?;
+        if !read_own_mcu(interval, source, scan, arrays, index) {
+            return Err(take_refusal(&mut interval.refusal));
+        }
         column += 1;
         left -= 1;
     }

@@ -24,12 +24,13 @@ use std::io::Read;
 pub struct Settings {
     /// The greatest number of bytes of a picture.
     pub limit: usize,
-    /// The colour transform of pictures of several components, where the segments are not to choose it.
+    /// The colour transform of pictures of several components, where the segments are not to choose
+    /// it.
     pub color_transform: Option<ColorTransform>,
 }
 
-/// What the segments of a stream have said so far: the frame, the tables in force by their places, and the planes that are decided, by the
-/// components' places in the frame.
+/// What the segments of a stream have said so far: the frame, the tables in force by their places,
+/// and the planes that are decided, by the components' places in the frame.
 #[derive(Drop)]
 pub struct State {
     pub frame: Option<FrameInfo>,
@@ -55,7 +56,8 @@ pub enum Before {
     Elsewhere,
 }
 
-/// What stands behind a segment: what stands before the next marker, that marker, if it was met already, and whether the image has ended.
+/// What stands after a segment: what stands before the next marker, that marker, if it was met
+/// already, and whether the image has ended.
 #[derive(Clone, Copy, Debug, PartialEq)]
 pub struct Step {
     pub before: Before,
@@ -63,7 +65,7 @@ pub struct Step {
     pub ended: bool,
 }
 
-/// What stands behind a segment that ends before the next marker.
+/// What stands after a segment that ends before the next marker.
 const ONWARD: Step = Step {
     before: Before::Elsewhere,
     met: None,
@@ -74,7 +76,12 @@ impl State {
     ghost use Rattle.std.specs.Prelude.{◌≡◌, ◌&&◌, true, is_some, None, OnErr, OnOk, IfOk, false};
     ghost use Rattle.jpeg_bits.specs.Reading.{Answers, IsShort};
     ghost use Rattle.jpeg_segments.specs.FrameView.{component_in, frame_in, scan_in};
-    ghost use Rattle.jpeg_decoder.specs.Stream.{nothing_found, frame_segment, quantization_segment, huffman_segment, restart_segment, application_segment, skipped_segment, scan_before, scan_segment, end_segment, stray_restart, segment_at, turn_at, segments_at, told_of, told_rest, told_in_turns, IsOfTurns};
+    ghost use Rattle.jpeg_decoder.specs.Stream.{nothing_found, frame_segment, quantization_segment};
+    ghost use Rattle.jpeg_decoder.specs.Stream.{huffman_segment, restart_segment};
+    ghost use Rattle.jpeg_decoder.specs.Stream.{application_segment, skipped_segment, scan_before};
+    ghost use Rattle.jpeg_decoder.specs.Stream.{scan_segment, end_segment, stray_restart};
+    ghost use Rattle.jpeg_decoder.specs.Stream.{segment_at, turn_at, segments_at, told_of};
+    ghost use Rattle.jpeg_decoder.specs.Stream.{told_rest, told_in_turns, IsOfTurns};
     ghost use Rattle.jpeg_decoder.specs.States.{OnTold};
     ghost use Rattle.jpeg_decoder.specs.Seen.{found_in};
     ghost use Rattle.jpeg_decoder.specs.Steps.{turn_of};
@@ -106,10 +113,12 @@ impl State {
         source: &mut Source<R>,
         number: u8,
     ) -> Result<Step>
-        ensures reads { Answers (turn_of self.new) (frame_segment number (found_in self.old)) source.old result source.new }
+        ensures reads { Answers (turn_of self.new) (frame_segment number (found_in self.old))
+            source.old result source.new }
         ensures kept { OnErr result (told_of (found_in self.new) ≡ told_of (found_in self.old)) }
         ensures onward { IfOk result (λ s. s.ended ≡ false) }
-        ensures stays { is_some (found_in self.old).frame ≡ true → (found_in self.new).frame ≡ (found_in self.old).frame }
+        ensures stays { is_some (found_in self.old).frame ≡ true → (found_in self.new).frame
+            ≡ (found_in self.old).frame }
         ensures sound { IsSound (found_in self.old) → OnOk result (IsSound (found_in self.new)) }
         ensures unread { IsUnread (found_in self.old) → OnOk result (IsUnread (found_in self.new)) }
     {
@@ -129,10 +138,12 @@ impl State {
         alloc: Global,
         source: &mut Source<R>,
     ) -> Result<Step>
-        ensures reads { Answers (turn_of self.new) (quantization_segment (found_in self.old)) source.old result source.new }
+        ensures reads { Answers (turn_of self.new) (quantization_segment (found_in self.old))
+            source.old result source.new }
         ensures kept { OnErr result (told_of (found_in self.new) ≡ told_of (found_in self.old)) }
         ensures onward { IfOk result (λ s. s.ended ≡ false) }
-        ensures stays { is_some (found_in self.old).frame ≡ true → (found_in self.new).frame ≡ (found_in self.old).frame }
+        ensures stays { is_some (found_in self.old).frame ≡ true → (found_in self.new).frame
+            ≡ (found_in self.old).frame }
         ensures sound { IsSound (found_in self.old) → OnOk result (IsSound (found_in self.new)) }
         ensures unread { IsUnread (found_in self.old) → OnOk result (IsUnread (found_in self.new)) }
     {
@@ -148,10 +159,12 @@ impl State {
         alloc: Global,
         source: &mut Source<R>,
     ) -> Result<Step>
-        ensures reads { Answers (turn_of self.new) (huffman_segment (found_in self.old)) source.old result source.new }
+        ensures reads { Answers (turn_of self.new) (huffman_segment (found_in self.old)) source.old
+            result source.new }
         ensures kept { OnErr result (told_of (found_in self.new) ≡ told_of (found_in self.old)) }
         ensures onward { IfOk result (λ s. s.ended ≡ false) }
-        ensures stays { is_some (found_in self.old).frame ≡ true → (found_in self.new).frame ≡ (found_in self.old).frame }
+        ensures stays { is_some (found_in self.old).frame ≡ true → (found_in self.new).frame
+            ≡ (found_in self.old).frame }
         ensures sound { IsSound (found_in self.old) → OnOk result (IsSound (found_in self.new)) }
         ensures unread { IsUnread (found_in self.old) → OnOk result (IsUnread (found_in self.new)) }
     {
@@ -169,10 +182,12 @@ impl State {
         alloc: Global,
         source: &mut Source<R>,
     ) -> Result<Step>
-        ensures reads { Answers (turn_of self.new) (restart_segment (found_in self.old)) source.old result source.new }
+        ensures reads { Answers (turn_of self.new) (restart_segment (found_in self.old)) source.old
+            result source.new }
         ensures kept { OnErr result (told_of (found_in self.new) ≡ told_of (found_in self.old)) }
         ensures onward { IfOk result (λ s. s.ended ≡ false) }
-        ensures stays { is_some (found_in self.old).frame ≡ true → (found_in self.new).frame ≡ (found_in self.old).frame }
+        ensures stays { is_some (found_in self.old).frame ≡ true → (found_in self.new).frame
+            ≡ (found_in self.old).frame }
         ensures sound { IsSound (found_in self.old) → OnOk result (IsSound (found_in self.new)) }
         ensures unread { IsUnread (found_in self.old) → OnOk result (IsUnread (found_in self.new)) }
     {
@@ -188,10 +203,12 @@ impl State {
         source: &mut Source<R>,
         number: u8,
     ) -> Result<Step>
-        ensures reads { Answers (turn_of self.new) (application_segment number (found_in self.old)) source.old result source.new }
+        ensures reads { Answers (turn_of self.new) (application_segment number (found_in self.old))
+            source.old result source.new }
         ensures kept { OnErr result (told_of (found_in self.new) ≡ told_of (found_in self.old)) }
         ensures onward { IfOk result (λ s. s.ended ≡ false) }
-        ensures stays { is_some (found_in self.old).frame ≡ true → (found_in self.new).frame ≡ (found_in self.old).frame }
+        ensures stays { is_some (found_in self.old).frame ≡ true → (found_in self.new).frame
+            ≡ (found_in self.old).frame }
         ensures sound { IsSound (found_in self.old) → OnOk result (IsSound (found_in self.new)) }
         ensures unread { IsUnread (found_in self.old) → OnOk result (IsUnread (found_in self.new)) }
     {
@@ -203,7 +220,8 @@ impl State {
     /// A segment that is passed over.
     #[tactic(auto, unfolding(crate::specs::Stream::skipped_segment))]
     fn skip_segment<R: Read + Drop>(&self, alloc: Global, source: &mut Source<R>) -> Result<Step>
-        ensures reads { Answers (turn_of self.now) (skipped_segment (found_in self.now)) source.old result source.new }
+        ensures reads { Answers (turn_of self.now) (skipped_segment (found_in self.now)) source.old
+            result source.new }
         ensures onward { IfOk result (λ s. s.ended ≡ false) }
     {
         let length = read_length(alloc, source)?;
@@ -214,7 +232,8 @@ impl State {
     /// The end of the image, which needs a frame.
     #[tactic(auto, unfolding(crate::specs::Stream::end_segment))]
     fn end<R: Read + Drop>(&self, alloc: Global, source: &mut Source<R>) -> Result<Step>
-        ensures reads { Answers (turn_of self.now) (end_segment (found_in self.now)) source.old result source.new }
+        ensures reads { Answers (turn_of self.now) (end_segment (found_in self.now)) source.old
+            result source.new }
         ensures framed { IfOk result (λ _. is_some (found_in self.now).frame ≡ true) }
     {
         if self.frame.is_none() {
@@ -227,7 +246,7 @@ impl State {
         })
     }
 
-    /// What a scan is to the marker behind it.
+    /// What a scan is to the marker after it.
     fn scan_before(&self) -> Before
         ensures { result ≡ scan_before (found_in self.now) }
     {
@@ -241,12 +260,15 @@ impl State {
     /// A scan (T.81, B.2.3).
     fn read_scan<R: Read + Drop>(&mut self, alloc: Global, source: &mut Source<R>) -> Result<Step>
         requires sound { IsSound (found_in self.old) }
-        ensures reads { Answers (turn_of self.new) (scan_segment (found_in self.old)) source.old result source.new }
+        ensures reads { Answers (turn_of self.new) (scan_segment (found_in self.old)) source.old
+            result source.new }
         ensures kept { OnErr result (told_of (found_in self.new) ≡ told_of (found_in self.old)) }
         ensures onward { IfOk result (λ s. s.ended ≡ false) }
-        ensures stays { is_some (found_in self.old).frame ≡ true → (found_in self.new).frame ≡ (found_in self.old).frame }
+        ensures stays { is_some (found_in self.old).frame ≡ true → (found_in self.new).frame
+            ≡ (found_in self.old).frame }
         ensures sound { IsSound (found_in self.old) → OnOk result (IsSound (found_in self.new)) }
-        ensures unread { (found_in self.old).frame ≡ None → OnOk result (IsUnread (found_in self.new)) }
+        ensures unread { (found_in self.old).frame ≡ None
+            → OnOk result (IsUnread (found_in self.new)) }
     {
         let mut decoded = std::mem::replace(&mut self.decoded, Decoded::new(alloc));
         let result = read_scan(alloc, source, self, &mut decoded);
@@ -261,14 +283,15 @@ impl State {
         })
     }
 
-    /// A restart marker behind a scan is ignored, once.
+    /// A restart marker after a scan is ignored, once.
     fn stray_restart<R: Read + Drop>(
         &self,
         alloc: Global,
         source: &mut Source<R>,
         before: Before,
     ) -> Result<Step>
-        ensures reads { Answers (turn_of self.now) (stray_restart before (found_in self.now)) source.old result source.new }
+        ensures reads { Answers (turn_of self.now) (stray_restart before (found_in self.now))
+            source.old result source.new }
         ensures onward { IfOk result (λ s. s.ended ≡ false) }
     {
         match before {
@@ -277,7 +300,7 @@ impl State {
         }
     }
 
-    /// What stands behind a marker.
+    /// What stands after a marker.
     #[tactic(auto, unfolding(crate::specs::Stream::segment_at))]
     fn read_segment<R: Read + Drop>(
         &mut self,
@@ -287,12 +310,16 @@ impl State {
         before: Before,
     ) -> Result<Step>
         requires sound { IsSound (found_in self.old) }
-        ensures reads { Answers (turn_of self.new) (segment_at marker before (found_in self.old)) source.old result source.new }
+        ensures reads { Answers (turn_of self.new) (segment_at marker before (found_in self.old))
+            source.old result source.new }
         ensures kept { OnErr result (told_of (found_in self.new) ≡ told_of (found_in self.old)) }
-        ensures framed { IfOk result (λ s. s.ended ≡ true → is_some (found_in self.new).frame ≡ true) }
-        ensures stays { is_some (found_in self.old).frame ≡ true → (found_in self.new).frame ≡ (found_in self.old).frame }
+        ensures framed { IfOk result (λ s. s.ended ≡ true → is_some (found_in self.new).frame
+            ≡ true) }
+        ensures stays { is_some (found_in self.old).frame ≡ true → (found_in self.new).frame
+            ≡ (found_in self.old).frame }
         ensures sound { IsSound (found_in self.old) → OnOk result (IsSound (found_in self.new)) }
-        ensures unread { (found_in self.old).frame ≡ None → OnOk result (IsUnread (found_in self.new)) }
+        ensures unread { (found_in self.old).frame ≡ None
+            → OnOk result (IsUnread (found_in self.new)) }
     {
         match marker {
             Marker::SOF(number) => self.read_frame(alloc, source, number),
@@ -311,7 +338,7 @@ impl State {
         }
     }
 
-    /// One marker, which may have been met already, and what stands behind it.
+    /// One marker, which may have been met already, and what stands after it.
     #[tactic(auto, unfolding(crate::specs::Stream::turn_at))]
     fn read_turn<R: Read + Drop>(
         &mut self,
@@ -321,13 +348,17 @@ impl State {
         met: Option<Marker>,
     ) -> Result<Step>
         requires sound { IsSound (found_in self.old) }
-        ensures reads { Answers (turn_of self.new) (turn_at before (found_in self.old) met) source.old result source.new }
+        ensures reads { Answers (turn_of self.new) (turn_at before (found_in self.old) met)
+            source.old result source.new }
         ensures kept { OnErr result (told_of (found_in self.new) ≡ told_of (found_in self.old)) }
         ensures short { met ≡ None → IsShort source.old }
-        ensures framed { IfOk result (λ s. s.ended ≡ true → is_some (found_in self.new).frame ≡ true) }
-        ensures stays { is_some (found_in self.old).frame ≡ true → (found_in self.new).frame ≡ (found_in self.old).frame }
+        ensures framed { IfOk result (λ s. s.ended ≡ true → is_some (found_in self.new).frame
+            ≡ true) }
+        ensures stays { is_some (found_in self.old).frame ≡ true → (found_in self.new).frame
+            ≡ (found_in self.old).frame }
         ensures sound { IsSound (found_in self.old) → OnOk result (IsSound (found_in self.new)) }
-        ensures unread { (found_in self.old).frame ≡ None → OnOk result (IsUnread (found_in self.new)) }
+        ensures unread { (found_in self.old).frame ≡ None
+            → OnOk result (IsUnread (found_in self.new)) }
     {
         let marker = marker_or_next(alloc, source, met)?;
         self.read_segment(alloc, source, marker, before)
@@ -340,7 +371,8 @@ impl State {
         header && self.frame.is_some()
     }
 
-    /// Reads segments and scans up to the end of the image, or, where the header is wanted alone, through the frame's segment.
+    /// Reads segments and scans up to the end of the image, or, where the header is wanted alone,
+    /// through the frame's segment.
     pub fn read<R: Read + Drop>(
         &mut self,
         alloc: Global,
@@ -348,13 +380,19 @@ impl State {
         header: bool,
     ) -> Result<()>
         requires sound { IsSound (found_in self.old) }
-        ensures reads { Answers (λ _. found_in self.new) (segments_at header Elsewhere (found_in self.old) None) source.old result source.new }
-        ensures told { OnTold source.old source.new result (told_of (found_in self.new) ≡ told_rest header (found_in self.old) source.old.bytes) }
-        ensures turns { source.old.known ≡ true → IsOfTurns (λ n. told_in_turns n header (found_in self.old) source.old.bytes) (told_of (found_in self.new)) }
+        ensures reads { Answers (λ _. found_in self.new)
+            (segments_at header Elsewhere (found_in self.old) None) source.old result source.new }
+        ensures told { OnTold source.old source.new result (told_of (found_in self.new)
+            ≡ told_rest header (found_in self.old) source.old.bytes) }
+        ensures turns { source.old.known ≡ true → IsOfTurns
+            (λ n. told_in_turns n header (found_in self.old) source.old.bytes)
+            (told_of (found_in self.new)) }
         ensures framed { IfOk result (λ _. is_some (found_in self.new).frame ≡ true) }
-        ensures stays { is_some (found_in self.old).frame ≡ true → (found_in self.new).frame ≡ (found_in self.old).frame }
+        ensures stays { is_some (found_in self.old).frame ≡ true → (found_in self.new).frame
+            ≡ (found_in self.old).frame }
         ensures sound { IsSound (found_in self.old) → OnOk result (IsSound (found_in self.new)) }
-        ensures unread { header ≡ true → (found_in self.old).frame ≡ None → OnOk result (IsUnread (found_in self.new)) }
+        ensures unread { header ≡ true → (found_in self.old).frame ≡ None
+            → OnOk result (IsUnread (found_in self.new)) }
     {
         let mut before = Before::Elsewhere;
         let mut met = None;

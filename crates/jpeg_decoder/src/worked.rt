@@ -30,7 +30,7 @@ pub fn known_streams()
     ensures flat { picture_meant (stream_with 8 (67 ∷ [])) ≡ Ok (replicate 64 129) }
 
     // Bits after the marker are zeros: a second block has a difference of -15, and so DC -7.
-    ensures behind_marker { picture_meant (stream_with 16 (64 ∷ []))
+    ensures after_marker { picture_meant (stream_with 16 (64 ∷ []))
         ≡ Ok (eight_times (replicate 8 129 ++ replicate 8 127)) }
 
     // Bits that begin no code are refused.

@@ -1,5 +1,6 @@
 -- The lines of the components of a picture.
-use Rattle.std.proofs.Common.{◌≡◌, ℕ, zero, suc, ◌+◌, ◌*◌, ◌<◌, ◌≤◌, List, [], ◌∷◌, ◌++◌, length, get_or, slice_index, take, drop, sym, ap, ◌∙◌, refl, arith, length-take, add-one, subst}
+use Rattle.std.proofs.Common.{◌≡◌, ℕ, zero, suc, ◌+◌, ◌*◌, ◌<◌, ◌≤◌, List, [], ◌∷◌, ◌++◌, length, get_or, slice_index}
+use Rattle.std.proofs.Common.{take, drop, sym, ap, ◌∙◌, refl, arith, length-take, add-one, subst}
 use Rattle.std.proofs.lemmas.List.{append-nil}
 use Rattle.std.proofs.lemmas.List.FromFn.{length-map-range_with_len, fill_by_all}
 use Rattle.std.proofs.lemmas.List.Folds.{concat-append}
@@ -70,7 +71,7 @@ lines_of-long (s ∷ sources) (p ∷ planes) width row e = record { each = by_pl
     by_place others zero h = length-map-range_with_len (λ x. upsampled s.rule (λ i j. slice_index p (j * s.stride + i)) s.width s.height x row) 0 width
     by_place others (suc k) h = others.each k (omega arith)
 
--- a part written behind the first a places
+-- a part written after the first a places
 pub take-put : (a n k : ℕ) (xs ys : List ℕ) → a ≤ length xs → length ys ≡ n → take (a + n) (put_mid a k xs ys) ≡ take a xs ++ ys
 take-put a n k xs ys le e =
     let front : length (take a xs) ≡ a = omega (arith, length-take {A = ℕ}) in
@@ -78,7 +79,7 @@ take-put a n k xs ys le e =
     ∙ take-append-add (take a xs) (ys ++ drop k (drop a xs)) n
     ∙ ap (λ (l : List ℕ). take a xs ++ l) (ap (λ m. take m (ys ++ drop k (drop a xs))) (sym e) ∙ take-append_seam ys (drop k (drop a xs)))
 
--- one more line behind the first lines
+-- one more line after the first lines
 pub lines-more : (all : List (List ℕ)) (index width k : ℕ) (now new : List ℕ) → index < length all → index * width ≤ length now → length new ≡ width
     → new ≡ get_or all index []
     → take (index * width) now ≡ concat (take index all)

@@ -1,5 +1,6 @@
 -- Lines are moved together.
-use Rattle.std.proofs.Common.{◌≡◌, ℕ, zero, suc, ◌+◌, ◌-◌, ◌*◌, ◌<◌, ◌≤◌, ◌/◌, ◌%◌, List, length, get_or, slice_index, sym, ap, ◌∙◌, arith, take, length-take}
+use Rattle.std.proofs.Common.{◌≡◌, ℕ, zero, suc, ◌+◌, ◌-◌, ◌*◌, ◌<◌, ◌≤◌, ◌/◌, ◌%◌, List, length, get_or, slice_index}
+use Rattle.std.proofs.Common.{sym, ap, ◌∙◌, arith, take, length-take}
 use Rattle.std.proofs.lemmas.List.FromFn.{fill_by_all}
 use Rattle.std.proofs.lemmas.List.{get_or-take}
 use Rattle.std.proofs.lemmas.Bool.{cases_lt}
@@ -24,18 +25,18 @@ next_line stride width y end old now new narrow is copied before = (
     here : (r x : ℕ) → x < width → r ≡ y → slice_index new (r * width + x) ≡ slice_index old (r * stride + x)
     here r x hx e =
         let from : y * stride + (y * width + x - y * width) ≡ y * stride + x = omega arith in
-        let behind : y * width ≤ y * stride + x = omega (arith, mul-le-mul_left y narrow) in
+        let after : y * width ≤ y * stride + x = omega (arith, mul-le-mul_left y narrow) in
         ap (λ n. get_or new (n * width + x) 0) e
         ∙ copied.0 (y * width + x) 0 (omega arith) (omega arith)
         ∙ ap (λ i. get_or now i 0) from
-        ∙ before.1 (y * stride + x) behind
+        ∙ before.1 (y * stride + x) after
         ∙ ap (λ n. get_or old (n * stride + x) 0) (sym e)
 
 some_width : (width height i : ℕ) → i < width * height → 0 < width
 some_width zero height i h = absurd (omega arith)
 some_width (suc width) height i h = omega arith
 
--- all lines, and nothing behind them
+-- all lines, and nothing after them
 pub all_lines : (stride width height : ℕ) (old new : List ℕ) → width ≤ stride → height * stride ≤ length new
     → ((y x : ℕ) → y < height → x < width → slice_index new (y * width + x) ≡ slice_index old (y * stride + x))
     → take (width * height) new ≡ cropped stride width height old
@@ -46,8 +47,8 @@ all_lines stride width height old new narrow room each =
     fill_by_all (λ i. slice_index old (i / width * stride + i % width)) (take (width * height) new) (width * height) 0 (omega (arith, length-take {A = ℕ}))
     (λ i h.
     let some : 0 < width = some_width width height i h in
-    let behind : i < height * width = omega (arith, turned) in
-    let line : i / width < height = (div-lt_iff_lt-mul {k = width} {x = i} {y = height} some).1 behind in
+    let after : i < height * width = omega (arith, turned) in
+    let line : i / width < height = (div-lt_iff_lt-mul {k = width} {x = i} {y = height} some).1 after in
     let is : i / width * width + i % width ≡ i = (λ j. mul_comm (i / width) width j + i % width) ∙ div-add-mod i width in
     get_or-take (width * height) new i 0 h ∙ ap (λ n. get_or new n 0) (sym is) ∙ each (i / width) (i % width) line (mod-lt i some))
 

@@ -1,10 +1,12 @@
 -- Laws of the samples.
-use Rattle.std.proofs.Common.{◌≡◌, ℕ, zero, suc, ◌+◌, ◌*◌, ◌<◌, ◌≤◌, ◌/◌, List, get_or, ℤ, pos, negsuc, ◌+ℤ◌, ◌*ℤ◌, refl, sym, ap, ◌∙◌, arith, Bool, true, ◌&&◌, ◌==◌, unsigned_abs, FitsSigned, lit<, ◌-◌}
+use Rattle.std.proofs.Common.{◌≡◌, ℕ, zero, suc, ◌+◌, ◌*◌, ◌<◌, ◌≤◌, ◌/◌, List, get_or, ℤ, pos, negsuc, ◌+ℤ◌, ◌*ℤ◌}
+use Rattle.std.proofs.Common.{refl, sym, ap, ◌∙◌, arith, Bool, true, ◌&&◌, ◌==◌, unsigned_abs, FitsSigned, lit<, ◌-◌}
 use Rattle.std.proofs.Math.Logic.{⊎_elim}
 use Rattle.std.proofs.lemmas.Bool.{cases_lt}
 use Rattle.std.proofs.lemmas.Int.{ints, int_wrap_fits}
 use Rattle.std.specs.Int.{w32, int_shr, int_wrap}
-use Rattle.jpeg_pixels.specs.Samples.{all_below, is_zero_at, is_flat_column, dequantized, column_value, sample, clamped, HasFirstOnly}
+use Rattle.jpeg_pixels.specs.Samples.{all_below, is_zero_at, is_flat_column, dequantized, column_value, sample, clamped}
+use Rattle.jpeg_pixels.specs.Samples.{HasFirstOnly}
 use Rattle.jpeg_pixels.proofs.Columns.{flat_value}
 use Rattle.jpeg_pixels.proofs.Sums.{transformed_one}
 

@@ -1,7 +1,9 @@
 -- The planes of a frame's components cover its picture.
-use Rattle.std.proofs.Common.{◌≡◌, ◌≤◌, ◌<◌, ℕ, zero, suc, ◌+◌, ◌-◌, ◌*◌, ◌/◌, ◌%◌, List, [], ◌∷◌, length, map, Bool, true, false, Option, Some, None, Result, Ok, Err, All, refl, ap, sym, ◌∙◌, subst, arith}
+use Rattle.std.proofs.Common.{◌≡◌, ◌≤◌, ◌<◌, ℕ, zero, suc, ◌+◌, ◌-◌, ◌*◌, ◌/◌, ◌%◌, List, [], ◌∷◌, length, map, Bool}
+use Rattle.std.proofs.Common.{true, false, Option, Some, None, Result, Ok, Err, All, refl, ap, sym, ◌∙◌, subst, arith}
 use Rattle.std.specs.Prelude.{◌==◌, ◌&&◌, ◌||◌, if◌then◌else◌}
-use Rattle.std.proofs.Math.Nat.{add-mul, div-add-mod, mod-lt, mul-add, mul_assoc, mul_comm, le-mul_of_pos_right, le_of_mul-le-mul_left, lt_of_mul-lt-mul_left, mul-le-mul_right}
+use Rattle.std.proofs.Math.Nat.{add-mul, div-add-mod, mod-lt, mul-add, mul_assoc, mul_comm, le-mul_of_pos_right}
+use Rattle.std.proofs.Math.Nat.{le_of_mul-le-mul_left, lt_of_mul-lt-mul_left, mul-le-mul_right}
 use Rattle.std.proofs.lemmas.Bool.{eqb-true}
 use Rattle.std.proofs.lemmas.List.Elements.{All-cons, All-head, All-nil, All-tail}
 use Rattle.jpeg_bits.specs.Reading.{Fault, ◌>>=◌}
@@ -24,7 +26,7 @@ ceiling-high n d some =
     let e : d * ((n + (d - 1)) / d) + (n + (d - 1)) % d ≡ n + (d - 1) = div-add-mod (n + (d - 1)) d in
     omega (arith, e, some)
 
--- So many samples, each of which stands for k outputs, reach the last of width outputs, and one sample fewer doesn't.
+-- This many samples, each of which stands for k outputs, reach the last of width outputs, and one sample fewer doesn't.
 record Fits (k count width : ℕ) : Type 0 where
   some : 0 < k
   enough : width ≤ k * count

@@ -1,6 +1,6 @@
 -- Frames of given factors, as the tests make them.
 use Rattle.std.proofs.Common.{◌≡◌, ◌≤◌, ℕ, List, Ok, All, subst, sym}
-use Rattle.jpeg_segments.specs.Frame.{AllHaveFactors, Component, Factors, IsInRange, frame_of, greatest}
+use Rattle.jpeg_segments.specs.Frame.{AllHaveSampling, Component, Factors, IsInRange, frame_of, greatest}
 use Rattle.jpeg_segments.proofs.FrameLemmas.{all-in-range}
 use Rattle.jpeg_pixels.specs.Pictures.{AllCover, HaveRoom, Source, sources_of}
 use Rattle.jpeg_pixels.proofs.FrameCovers.{frames-are-covered}
@@ -12,10 +12,10 @@ by_factors across down = record { identifier = 1; horizontal = across; vertical 
 abbrev pub components : ℕ → ℕ → List Factors → List Component
 components width height factors = (frame_of 0 8 width height factors).components
 
-pub have-factors : (width height : ℕ) (factors : List Factors) (seen : List Component) → seen ≡ components width height factors → All IsInRange factors → AllHaveFactors seen
+pub have-factors : (width height : ℕ) (factors : List Factors) (seen : List Component) → seen ≡ components width height factors → All IsInRange factors → AllHaveSampling seen
 unfolding frame_of
 have-factors width height factors seen is all =
-    subst AllHaveFactors (sym is) (all-in-range width height (greatest (λ f. f.horizontal) factors) (greatest (λ f. f.vertical) factors) factors all)
+    subst AllHaveSampling (sym is) (all-in-range width height (greatest (λ f. f.horizontal) factors) (greatest (λ f. f.vertical) factors) factors all)
 
 pub are-covered : (width height : ℕ) (factors : List Factors) (seen : List Component) (planes : List (List ℕ)) → seen ≡ components width height factors → All IsInRange factors
     → 1 ≤ width → 1 ≤ height → HaveRoom (components width height factors) planes

@@ -15,7 +15,7 @@ use Rattle.jpeg_pixels.specs.declared.growing_plane.GrowingPlane.TheInside.{Insi
 use Rattle.jpeg_pixels.proofs.PlaneRows.{plane-same}
 use Rattle.jpeg_pixels.proofs.RowsOfBlocks.{take_next}
 
--- the samples after a row was written behind the first w
+-- the samples after a row was written after the first w
 put_length : (w size k : ℕ) (items strips : List ℕ) → k ≡ size → w + size ≤ length items → length strips ≡ size
     → length (put_mid w k items strips) ≡ length items
 put_length w size k items strips e room count =
@@ -33,12 +33,12 @@ put_rest : (w size k : ℕ) (items strips : List ℕ) → k ≡ size → w + siz
     → drop w items ≡ replicate (length items - w) 0
     → drop (w + size) (put_mid w k items strips) ≡ replicate (length (put_mid w k items strips) - (w + size)) 0
 put_rest w size k items strips e room count rest =
-    let behind = drop k (drop w items) in
+    let after = drop k (drop w items) in
     let front : length (take w items) ≡ w = omega (arith, length-take w items) in
-    ap (λ (n : ℕ). drop (n + size) (take w items ++ (strips ++ behind))) (sym front)
-    ∙ drop-append-add (take w items) (strips ++ behind) size
-    ∙ ap (λ (n : ℕ). drop n (strips ++ behind)) (sym count)
-    ∙ drop-append_seam strips behind
+    ap (λ (n : ℕ). drop (n + size) (take w items ++ (strips ++ after))) (sym front)
+    ∙ drop-append-add (take w items) (strips ++ after) size
+    ∙ ap (λ (n : ℕ). drop n (strips ++ after)) (sym count)
+    ∙ drop-append_seam strips after
     ∙ ap (drop k) rest
     ∙ drop-replicate k (length items - w) 0
     ∙ ap (λ (n : ℕ). replicate n 0) (omega (arith, put_length w size k items strips e room count))

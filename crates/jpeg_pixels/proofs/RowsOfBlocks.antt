@@ -10,7 +10,7 @@ use borrow.Rule.Slice.PartMut.{put_mid}
 use Rattle.jpeg_pixels.specs.Planes.{plane_of, strip_of, zero_coefficients}
 use Rattle.jpeg_pixels.proofs.PlaneRows.{plane-more}
 
--- what stands in front, after a piece was written behind it
+-- what stands in front, after a piece was written after it
 pub take_next : (a size k : ℕ) (now piece above : List ℕ) → take a now ≡ above → a ≤ length now → length piece ≡ size
     → take (a + size) (put_mid a k now piece) ≡ above ++ piece
 take_next a size k now piece above is room e =

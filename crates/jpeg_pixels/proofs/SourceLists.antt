@@ -1,12 +1,13 @@
 -- The components of a frame, one after the other.
-use Rattle.std.proofs.Common.{◌≡◌, ℕ, zero, suc, ◌<◌, ◌≤◌, List, [], ◌∷◌, ◌++◌, length, get_or, max, sym, ap, ◌∙◌, refl, arith, append_assoc, Result, Ok, Err}
+use Rattle.std.proofs.Common.{◌≡◌, ℕ, zero, suc, ◌<◌, ◌≤◌, List, [], ◌∷◌, ◌++◌, length, get_or, max, sym, ap, ◌∙◌, refl}
+use Rattle.std.proofs.Common.{arith, append_assoc, Result, Ok, Err}
 use Rattle.std.proofs.lemmas.List.{append-nil}
 use Rattle.jpeg_bits.specs.Reading.{Fault, Malformed, Lacks, Names, ◌>>=◌}
 use Rattle.jpeg_bits.specs.declared.error.Error.{Error}
 use Rattle.jpeg_bits.specs.declared.error.Error.TheVariants as errors
 use Rattle.jpeg_segments.specs.Frame.{Component, Factors, greatest}
 use Rattle.jpeg_pixels.specs.Pictures.{Source, source_of, sources_by}
-use Rattle.jpeg_segments.specs.Frame.{HasFactors, AllHaveFactors}
+use Rattle.jpeg_segments.specs.Frame.{HasSampling, AllHaveSampling}
 
 -- the greatest factor is at least 1
 greatest-some : (f : Factors → ℕ) (cs : List Factors) → 1 ≤ greatest f cs
@@ -16,26 +17,26 @@ greatest-some f (c ∷ more) = let h = greatest-some f more in omega arith
 pub greatest-start : (f : Factors → ℕ) (cs : List Factors) → max 1 (greatest f cs) ≡ greatest f cs
 greatest-start f cs = let h = greatest-some f cs in omega arith
 
-pub factors-at : (cs : List Component) (k : ℕ) (c : Component) → AllHaveFactors cs → k < length cs → HasFactors (get_or cs k c)
-unfolding AllHaveFactors
+pub factors-at : (cs : List Component) (k : ℕ) (c : Component) → AllHaveSampling cs → k < length cs → HasSampling (get_or cs k c)
+unfolding AllHaveSampling
 factors-at [] k c all h = absurd (omega arith)
 factors-at (d ∷ more) zero c all h = all.0
 factors-at (d ∷ more) (suc k) c all h = factors-at more k c all.1 (omega arith)
 
 -- some sources in front of others
-pub behind : List Source → Result (List Source) Fault → Result (List Source) Fault
-behind before (Ok others) = Ok (before ++ others)
-behind before (Err e) = Err e
+pub after : List Source → Result (List Source) Fault → Result (List Source) Fault
+after before (Ok others) = Ok (before ++ others)
+after before (Err e) = Err e
 
 abbrev as_all : List Source → Result (List Source) Fault
 as_all l = Ok l
 
 -- what all sources are, by the first and by those that are still to come
 pub record Continues (before : List Source) (rest all : Result (List Source) Fault) : Type 0 where
-  pub same : all ≡ behind before rest
+  pub same : all ≡ after before rest
 
 pub sources-start : (all : Result (List Source) Fault) → Continues [] all all
-unfolding behind
+unfolding after
 sources-start (Ok others) = record { same = refl }
 sources-start (Err e) = record { same = refl }
 
@@ -43,20 +44,20 @@ pub sources-more : (most_h most_v width height : ℕ) (before : List Source) (c 
     → source_of most_h most_v width height c ≡ Ok s
     → Continues before (sources_by most_h most_v width height (c ∷ more)) all
     → Continues (before ++ (s ∷ [])) (sources_by most_h most_v width height more) all
-unfolding behind sources_by
+unfolding after sources_by
 sources-more most_h most_v width height before c more s all is so_far = record {
   same = so_far.same
-      ∙ ap (λ (o : Result Source Fault). behind before (o >>= (λ t. sources_by most_h most_v width height more >>= (λ others. Ok (t ∷ others))))) is
+      ∙ ap (λ (o : Result Source Fault). after before (o >>= (λ t. sources_by most_h most_v width height more >>= (λ others. Ok (t ∷ others))))) is
       ∙ moved (sources_by most_h most_v width height more);
 }
   where
-    moved : (rest : Result (List Source) Fault) → behind before (rest >>= (λ others. Ok (s ∷ others))) ≡ behind (before ++ (s ∷ [])) rest
+    moved : (rest : Result (List Source) Fault) → after before (rest >>= (λ others. Ok (s ∷ others))) ≡ after (before ++ (s ∷ [])) rest
     moved (Ok others) = ap as_all (sym (append_assoc before (s ∷ []) others))
     moved (Err e) = refl
 
 pub sources-end : (most_h most_v width height : ℕ) (before : List Source) (all : Result (List Source) Fault)
     → Continues before (sources_by most_h most_v width height []) all → all ≡ Ok before
-unfolding behind sources_by
+unfolding after sources_by
 sources-end most_h most_v width height before all so_far = so_far.same ∙ ap as_all (append-nil before)
 
 -- an error that names the fault of one outcome names that of another with the same faults
@@ -71,9 +72,9 @@ pub sources-err : (most_h most_v width height : ℕ) (before : List Source) (c :
     → Names e (source_of most_h most_v width height c)
     → Continues before (sources_by most_h most_v width height (c ∷ more)) all
     → Names e all
-unfolding behind sources_by
+unfolding after sources_by
 sources-err most_h most_v width height before c more e all names so_far = Names-on e (source_of most_h most_v width height c) all
-    (λ f is. so_far.same ∙ ap (λ (o : Result Source Fault). behind before (o >>= (λ t. sources_by most_h most_v width height more >>= (λ others. Ok (t ∷ others))))) is) names
+    (λ f is. so_far.same ∙ ap (λ (o : Result Source Fault). after before (o >>= (λ t. sources_by most_h most_v width height more >>= (λ others. Ok (t ∷ others))))) is) names
 
 -- as many sources as components
 pub sources-length : (most_h most_v width height : ℕ) (cs : List Component) (sources : List Source) → sources_by most_h most_v width height cs ≡ Ok sources → length sources ≡ length cs

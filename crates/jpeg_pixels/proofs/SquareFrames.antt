@@ -1,7 +1,7 @@
 -- Frames whose components have each one factor across and down, as the tests make them.
 use Rattle.std.proofs.Common.{◌≡◌, ◌≤◌, ℕ, List, map, Ok, All}
 use Rattle.std.proofs.lemmas.List.Elements.{All-map}
-use Rattle.jpeg_segments.specs.Frame.{AllHaveFactors, Component, Factors, IsInRange}
+use Rattle.jpeg_segments.specs.Frame.{AllHaveSampling, Component, Factors, IsInRange}
 use Rattle.jpeg_pixels.specs.Pictures.{AllCover, HaveRoom, Source, sources_of}
 use Rattle.jpeg_pixels.proofs.FramesOfFactors.{are-covered, by_factors, components, have-factors}
 
@@ -19,7 +19,7 @@ in-range : (factors : List ℕ) → All IsFactor factors → All IsInRange (map 
 in-range factors all = All-map IsInRange square factors (λ k d lt.
     let p = all k d lt in record { horizontal_some = p.0; horizontal_most = p.1; vertical_some = p.0; vertical_most = p.1 })
 
-pub squares-have-factors : (width height : ℕ) (factors : List ℕ) (seen : List Component) → seen ≡ squares width height factors → All IsFactor factors → AllHaveFactors seen
+pub squares-have-factors : (width height : ℕ) (factors : List ℕ) (seen : List Component) → seen ≡ squares width height factors → All IsFactor factors → AllHaveSampling seen
 squares-have-factors width height factors seen is all = have-factors width height (map square factors) seen is (in-range factors all)
 
 pub squares-are-covered : (width height : ℕ) (factors : List ℕ) (seen : List Component) (planes : List (List ℕ)) → seen ≡ squares width height factors → All IsFactor factors

@@ -1,5 +1,7 @@
 -- A picture is its lines from above.
-use Rattle.std.proofs.Common.{◌≡◌, ℕ, ◌+◌, ◌==◌, Bool, true, false, List, [], ◌∷◌, ◌++◌, length, map, sym, ap, subst, ◌∙◌, refl, arith, take, drop, length-drop, ◌-◌, Vec, Global, MatchResult, Result, Ok, Err, if◌then◌else◌}
+use Rattle.std.proofs.Common.{◌≡◌, ℕ, ◌+◌, ◌==◌, Bool, true, false, List, [], ◌∷◌, ◌++◌, length, map, sym, ap, subst}
+use Rattle.std.proofs.Common.{◌∙◌, refl, arith, take, drop, length-drop, ◌-◌, Vec, Global, MatchResult, Result, Ok, Err}
+use Rattle.std.proofs.Common.{if◌then◌else◌}
 use Rattle.std.proofs.lemmas.List.{append-nil, take-append-drop}
 use Rattle.std.proofs.Math.ListN.{drop_of_length-le}
 use Rattle.std.proofs.Math.Seq.{take-append_seam}
@@ -25,7 +27,7 @@ use Rattle.jpeg_pixels.proofs.SourceLists.{Names-on, sources-length}
 abbrev as_convert : ColorConvert → Result ColorConvert Fault
 as_convert k = Ok k
 
--- what was grown, and then written behind its old end
+-- what was grown, and then written after its old end
 pub grown : (start size : ℕ) (old whole new tail : List ℕ) → start ≡ length old → whole ≡ take (start + size) old ++ tail → length whole ≡ start + size
     → put_mid start (length whole - start) whole new ≡ old ++ new
 grown start size old whole new tail begins is long =
@@ -33,8 +35,8 @@ grown start size old whole new tail begins is long =
     let all : take (start + size) old ≡ old =
     sym (append-nil (take (start + size) old)) ∙ ap (λ (l : List ℕ). take (start + size) old ++ l) (sym none) ∙ take-append-drop (start + size) old in
     let front : take start whole ≡ old = ap (λ (l : List ℕ). take start l) (is ∙ ap (λ (l : List ℕ). l ++ tail) all) ∙ ap (λ n. take n (old ++ tail)) begins ∙ take-append_seam old tail in
-    let behind : drop (length whole - start) (drop start whole) ≡ [] = drop_of_length-le (drop start whole) (omega (arith, length-drop {A = ℕ})) in
-    (λ i. front i ++ (new ++ behind i)) ∙ ap (λ (l : List ℕ). old ++ l) (append-nil new)
+    let after : drop (length whole - start) (drop start whole) ≡ [] = drop_of_length-le (drop start whole) (omega (arith, length-drop {A = ℕ})) in
+    (λ i. front i ++ (new ++ after i)) ∙ ap (λ (l : List ℕ). old ++ l) (append-nil new)
 
 -- one more line
 pub picture-more : (convert : ColorConvert) (sources : List Source) (planes : List (List ℕ)) (width height : ℕ)

@@ -1,5 +1,7 @@
 -- The colours of a pixel (JFIF, and Adobe's transforms), in whole numbers.
-use Rattle.std.specs.Prelude.{ℕ, ◌+◌, ◌-◌, ◌*◌, ◌^◌, ◌==◌, ℤ, pos, ◌+ℤ◌, ◌-ℤ◌, ◌*ℤ◌, List, [], ◌∷◌, map, take, slice_index, Bool, true, false, Result, Ok, Err, if◌then◌else◌}
+use Rattle.std.specs.Prelude.{ℕ, ◌+◌, ◌-◌, ◌*◌, ◌^◌, ◌==◌, ℤ, pos, ◌+ℤ◌, ◌-ℤ◌, ◌*ℤ◌, List, [], ◌∷◌}
+use Rattle.std.specs.Prelude.{map, take, slice_index, Bool, true, false, Result, Ok, Err}
+use Rattle.std.specs.Prelude.{if◌then◌else◌}
 use Rattle.std.specs.Int.{int_shr}
 use Rattle.std.specs.List.{range_with_len, concat}
 use Rattle.jpeg_bits.specs.Reading.{Fault, Malformed, Lacks}
@@ -46,14 +48,15 @@ is_by_component converts.YCbCr = false
 is_by_component converts.Cmyk = false
 is_by_component converts.Ycck = false
 
--- The bytes of a line of the picture, by the lines of its components: pixel by pixel, or without a conversion component after component.
+-- The bytes of a line of the picture, by the lines of its components: pixel by pixel, or without a
+-- conversion component after component.
 unfoldable pub line_bytes : ColorConvert → ℕ → List (List ℕ) → List ℕ
 line_bytes convert width lines =
     if is_by_component convert
     then concat (map (take width) lines)
     else concat (map (λ x. colour_of convert (map (λ line. slice_index line x) lines)) (range_with_len 0 width))
 
--- The conversion of a transform for so many components, where it fits.
+-- The conversion of a transform for this many components, where it fits.
 unfoldable pub conversion_of : ℕ → ColorTransform → Result ColorConvert Fault
 conversion_of count transforms.None = Ok converts.None
 conversion_of count transforms.RGB = if count == 3 then Ok converts.Rgb else Err Malformed

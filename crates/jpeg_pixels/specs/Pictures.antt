@@ -1,5 +1,6 @@
 -- The picture of several components.
-use Rattle.std.specs.Prelude.{◌≡◌, ℕ, ◌+◌, ◌-◌, ◌*◌, ◌<◌, ◌≤◌, List, [], ◌∷◌, map, length, slice_index, Option, Some, None, Result, Ok, Err}
+use Rattle.std.specs.Prelude.{◌≡◌, ℕ, ◌+◌, ◌-◌, ◌*◌, ◌<◌, ◌≤◌, List, [], ◌∷◌, map, length}
+use Rattle.std.specs.Prelude.{slice_index, Option, Some, None, Result, Ok, Err}
 use Rattle.std.specs.List.{range_with_len, concat}
 use Rattle.jpeg_bits.specs.Reading.{Fault, Lacks, ◌>>=◌}
 use Rattle.jpeg_bits.specs.declared.error.UnsupportedFeature.TheVariants.{NonIntegerSubsamplingRatio}
@@ -10,7 +11,8 @@ use Rattle.jpeg_pixels.specs.declared.upsampler.ColorConvert.{ColorConvert}
 use Rattle.jpeg_pixels.specs.Upsampling.{upsampled, rule_of, across, down}
 use Rattle.jpeg_pixels.specs.Colour.{line_bytes, conversion_of}
 
--- A component's samples: how they are upsampled, their size, and the samples that a line of its plane has.
+-- A component's samples: how they are upsampled, their size, and the samples that a line of its
+-- plane has.
 pub record Source : Type 0 where
   pub rule : UpsampleRule
   pub width : ℕ
@@ -20,7 +22,8 @@ pub record Source : Type 0 where
 abbrev pub factors_of : List Component → List Factors
 factors_of components = map (λ c. c.factors) components
 
--- how a component is upsampled in a picture of this width and height, in a frame of these greatest factors
+-- how a component is upsampled in a picture of this width and height, in a frame of these greatest
+-- factors
 abbrev pub source_by : Component → Option UpsampleRule → Result Source Fault
 source_by c None = Err (Lacks NonIntegerSubsamplingRatio)
 source_by c (Some rule) = Ok (record { rule = rule; width = c.width; height = c.height; stride = c.blocks_wide * c.scale })
@@ -77,7 +80,8 @@ AllCover [] planes width height = Unit {0}
 AllCover (s ∷ sources) [] width height = ⊥
 AllCover (s ∷ sources) (plane ∷ planes) width height = Covers s plane width height × AllCover sources planes width height
 
--- planes with room for the samples of these components, where a line is as long as the component's blocks
+-- planes with room for the samples of these components, where a line is as long as the component's
+-- blocks
 unfoldable pub HaveRoom : List Component → List (List ℕ) → Type 0
 HaveRoom [] planes = Unit {0}
 HaveRoom (c ∷ more) [] = ⊥
@@ -89,7 +93,8 @@ AreWhole [] planes = Unit {0}
 AreWhole (c ∷ more) [] = ⊥
 AreWhole (c ∷ more) (plane ∷ planes) = (length plane ≡ (c.blocks_high * c.scale) * (c.blocks_wide * c.scale)) × AreWhole more planes
 
--- A frame has a way to upsample each component to the size of its picture, and planes of all blocks have the samples for it.
+-- A frame has a way to upsample each component to the size of its picture, and planes of all blocks
+-- have the samples for it.
 pub record HasSources (frame : Frame) : Type 0 where
   pub sources : List Source
   pub is : sources_of frame.components frame.output_width frame.output_height ≡ Ok sources

@@ -8,7 +8,7 @@ use Rattle.jpeg_pixels.specs.declared.upsampler.ColorConvert.TheVariants as conv
 abbrev pub source_in : ComponentSource → Source
 source_in c = record { rule = c.rule; width = c.width; height = c.height; stride = c.row_stride }
 
--- a conversion is for so many components
+-- a conversion is for this many components
 abbrev pub IsFor : ℕ → ColorConvert → Type 0
 IsFor count converts.None = Unit {0}
 IsFor count converts.Rgb = count ≡ 3

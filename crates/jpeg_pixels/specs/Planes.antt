@@ -1,5 +1,6 @@
 -- The samples of a component at a scale, and the picture of one (T.81, A.1.1 and A.2).
-use Rattle.std.specs.Prelude.{ℕ, ◌+◌, ◌*◌, ◌/◌, ◌%◌, List, map, length, slice_index, slice_index_or, ℤ, pos, replicate}
+use Rattle.std.specs.Prelude.{ℕ, ◌+◌, ◌*◌, ◌/◌, ◌%◌, List, map, length, slice_index, slice_index_or}
+use Rattle.std.specs.Prelude.{ℤ, pos, replicate}
 use Rattle.std.specs.List.{range_with_len}
 use Rattle.jpeg_pixels.specs.Scaled.{sample_at}
 
@@ -7,12 +8,13 @@ use Rattle.jpeg_pixels.specs.Scaled.{sample_at}
 abbrev pub zero_coefficients : List ℤ
 zero_coefficients = replicate 64 (pos 0)
 
--- The sample at (x, y) of a component whose block at a row and a column is given, in block order, as its quantization table is, and gives so
--- many samples a side: the sample at (x mod scale, y mod scale) of the block in row y / scale and column x / scale.
+-- The sample at (x, y) of a component whose block at a row and a column is given, in block order,
+-- as its quantization table is, and gives so many samples a side: the sample at (x mod scale, y mod
+-- scale) of the block in row y / scale and column x / scale.
 abbrev pub plane_sample : ℕ → List ℕ → (ℕ → ℕ → List ℤ) → ℕ → ℕ → ℕ
 plane_sample scale table block_at x y = sample_at scale (block_at (y / scale) (x / scale)) table (x % scale) (y % scale)
 
--- the samples of some rows of blocks, so many blocks wide, line by line
+-- the samples of some rows of blocks, this many blocks wide, line by line
 unfoldable pub plane_of : ℕ → List ℕ → ℕ → ℕ → (ℕ → ℕ → List ℤ) → List ℕ
 plane_of scale table wide high block_at =
     map (λ i. plane_sample scale table block_at (i % (scale * wide)) (i / (scale * wide))) (range_with_len 0 (scale * wide * (scale * high)))

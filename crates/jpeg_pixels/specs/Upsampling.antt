@@ -1,9 +1,13 @@
--- Samples of a component between its own (the centres of A.1.1). Where the greatest sampling factors are the component's or twice those, across
--- and down, samples are blended in each direction that is doubled: three parts of the nearer sample and one of the farther. Where one of the two
--- ratios is another number, as for factors 1x1 under 2x4, samples are repeated in both directions, also in one that is doubled.
-use Rattle.std.specs.Prelude.{ℕ, ◌+◌, ◌-◌, ◌*◌, ◌/◌, ◌%◌, ◌==◌, ◌&&◌, ◌||◌, min, Bool, Option, Some, None, if◌then◌else◌}
+-- Samples of a component between its own (the centres of A.1.1). Where the greatest sampling
+-- factors are the component's or twice those, across and down, samples are blended in each
+-- direction that is doubled: three parts of the nearer sample and one of the farther. Where one of
+-- the two ratios is another number, as for factors 1x1 under 2x4, samples are repeated in both
+-- directions, also in one that is doubled.
+use Rattle.std.specs.Prelude.{ℕ, ◌+◌, ◌-◌, ◌*◌, ◌/◌, ◌%◌, ◌==◌, ◌&&◌, ◌||◌, min, Bool, Option, Some}
+use Rattle.std.specs.Prelude.{None, if◌then◌else◌}
 use Rattle.jpeg_pixels.specs.declared.upsampler.UpsampleRule.{UpsampleRule}
-use Rattle.jpeg_pixels.specs.declared.upsampler.UpsampleRule.TheVariants.{H1V1, H2V1, H1V2, H2V2, Generic}
+use Rattle.jpeg_pixels.specs.declared.upsampler.UpsampleRule.TheVariants.{H1V1, H2V1, H1V2, H2V2}
+use Rattle.jpeg_pixels.specs.declared.upsampler.UpsampleRule.TheVariants.{Generic}
 
 -- the outputs across and down that a sample of the component stands for
 abbrev pub across : UpsampleRule → ℕ
@@ -20,7 +24,8 @@ down H1V2 = 2
 down H2V2 = 2
 down (Generic h v) = v
 
--- of the two places next to place i / 2 the one that i is nearer to, where there are so many places: at the ends it is the place itself
+-- of the two places next to place i / 2 the one that i is nearer to, where there are this many
+-- places: at the ends it is the place itself
 abbrev pub far_place : ℕ → ℕ → ℕ
 far_place count i = if i % 2 == 0 then i / 2 - 1 else min (i / 2 + 1) (count - 1)
 
@@ -32,8 +37,8 @@ blended near far = (3 * near + far + 2) / 4
 abbrev pub line_sum : (ℕ → ℕ → ℕ) → ℕ → ℕ → ℕ → ℕ
 line_sum plane height row i = 3 * plane i (row / 2) + plane i (far_place height row)
 
--- The sample at column x and row of the output, where plane gives the sample of the component at a column and a row, of which it has width
--- and height.
+-- The sample at column x and row of the output, where plane gives the sample of the component at a
+-- column and a row, of which it has width and height.
 unfoldable pub upsampled : UpsampleRule → (ℕ → ℕ → ℕ) → ℕ → ℕ → ℕ → ℕ → ℕ
 upsampled H1V1 plane width height x row = plane x row
 upsampled H2V1 plane width height x row = blended (plane (x / 2) row) (plane (far_place width x) row)
@@ -46,9 +51,10 @@ upsampled (Generic h v) plane width height x row = plane (x / h) (row / v)
 abbrev pub divides : ℕ → ℕ → Bool
 divides d n = n % d == 0
 
--- The rule of a component with factors h and v, in a frame whose greatest are those and whose output has this width and height. For the first
--- four rules a factor counts as the greatest where the output has one sample in that direction. Where none of them fits, both ratios have to
--- be whole; else there is no rule.
+-- The rule of a component with factors h and v, in a frame whose greatest are those and whose
+-- output has this width and height. For the first four rules a factor counts as the greatest where
+-- the output has one sample in that direction. Where none of them fits, both ratios have to be
+-- whole; else there is no rule.
 unfoldable pub rule_of : ℕ → ℕ → ℕ → ℕ → ℕ → ℕ → Option UpsampleRule
 rule_of h v greatest_h greatest_v width height =
     let h1 = h == greatest_h || width == 1 in

@@ -1,14 +1,16 @@
--- Planes that are made row by row, each row of all coefficients of one row of MCUs (own to the decoder).
-use Rattle.std.specs.Prelude.{◌≡◌, ◌<◌, ◌≤◌, ℕ, ◌+◌, ◌-◌, ◌*◌, List, [], ◌∷◌, ◌++◌, length, take, drop, set}
+-- Planes that are made row by row, each row of all coefficients of one row of MCUs (own to the
+-- decoder).
+use Rattle.std.specs.Prelude.{◌≡◌, ◌<◌, ◌≤◌, ℕ, ◌+◌, ◌-◌, ◌*◌, List, [], ◌∷◌, ◌++◌, length, take}
+use Rattle.std.specs.Prelude.{drop, set}
 use Rattle.std.specs.Prelude.{replicate, get_or, option_map, ℤ, Option, Some, None}
 use Rattle.std.specs.declared.vec.Vec.{Vec}
 use Rattle.std.specs.declared.alloc.Global.{Global}
 use Rattle.jpeg_segments.specs.Frame.{Component}
 use Rattle.jpeg_pixels.specs.Planes.{plane_of}
 
--- A plane that is being made: the samples a side of a block, the blocks of a row of blocks, the rows of
--- blocks in each row that comes, the quantization table in block order, the samples that rows have brought
--- so far, and the number of samples that the whole plane has.
+-- A plane that is being made: the samples a side of a block, the blocks of a row of blocks, the
+-- rows of blocks in each row that comes, the quantization table in block order, the samples that
+-- rows have brought so far, and the number of samples that the whole plane has.
 pub record Work : Type 0 where
   pub scale : ℕ
   pub wide : ℕ
@@ -28,7 +30,8 @@ work_of c table = record {
   room = c.scale * c.blocks_wide * (c.scale * c.blocks_high);
 }
 
--- The block in a row of blocks and a column, of coefficients that stand block by block, so many blocks to a row.
+-- The block in a row of blocks and a column, of coefficients that stand block by block, this many
+-- blocks to a row.
 abbrev pub block_in : List ℤ → ℕ → ℕ → ℕ → List ℤ
 block_in coefficients wide row column = take 64 (drop (64 * (row * wide + column)) coefficients)
 
@@ -50,7 +53,8 @@ abbrev pub IsRowAt : Option Work → List ℤ → Type 0
 IsRowAt None coefficients = ⊥
 IsRowAt (Some w) coefficients = IsRowOf w coefficients
 
--- What is seen of a place: the samples that rows have brought, and 0 for those that no row has brought yet.
+-- What is seen of a place: the samples that rows have brought, and 0 for those that no row has
+-- brought yet.
 abbrev pub plane_at : Option Work → List ℕ
 plane_at None = []
 plane_at (Some w) = w.samples ++ replicate (w.room - length w.samples) 0

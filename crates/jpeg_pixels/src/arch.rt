@@ -1,8 +1,12 @@
-//! The inverse transform of a block over lanes, and the colours of a line in chunks of eight pixels.
-ghost use Rattle.std.specs.Prelude.{◌≡◌, ℕ, ◌+◌, ◌*◌, ◌<◌, ◌≤◌, pos, neg_ℤ, ◌+ℤ◌, ◌-ℤ◌, ◌*ℤ◌, length, slice_index_or, [], ◌∷◌, map, ⊤, slice_index, if◌then◌else◌, ◌%◌, ◌/◌, ◌==◌};
+//! The inverse transform of a block over lanes, and the colours of a line in chunks of eight
+//! pixels.
+ghost use Rattle.std.specs.Prelude.{◌≡◌, ℕ, ◌+◌, ◌*◌, ◌<◌, ◌≤◌, pos, neg_ℤ, ◌+ℤ◌, ◌-ℤ◌, ◌*ℤ◌};
+ghost use Rattle.std.specs.Prelude.{length, slice_index_or, [], ◌∷◌, map, ⊤, slice_index};
+ghost use Rattle.std.specs.Prelude.{if◌then◌else◌, ◌%◌, ◌/◌, ◌==◌};
 ghost use Rattle.std.specs.Int.{w32, int_wrap, int_shr};
 ghost use Rattle.std.specs.List.{range_with_len};
-ghost use Rattle.jpeg_pixels.specs.Samples.{transformed, clamped, is_flat_column, dequantized, column_value, sample};
+ghost use Rattle.jpeg_pixels.specs.Samples.{transformed, clamped, is_flat_column, dequantized};
+ghost use Rattle.jpeg_pixels.specs.Samples.{column_value, sample};
 ghost use Rattle.jpeg_pixels.specs.Lanes.{lanes, lane, lane_is_zero};
 ghost use Rattle.jpeg_pixels.specs.Blocks.{WritesBlock};
 ghost use Rattle.jpeg_pixels.specs.LaneRows.{lane_at, HasNumbers, IsTurned};
@@ -26,10 +30,18 @@ struct Rows {
 
 // What the even numbers give, in each lane.
 fn kernel_x(s: Rows, x_scale: i32) -> (i32x8, i32x8, i32x8, i32x8)
-    ensures x0 { result.0 ≡ lanes (λ j. int_wrap w32 (pos 4096 *ℤ lane s.r0 j +ℤ pos 5352 *ℤ lane s.r2 j +ℤ pos 4096 *ℤ lane s.r4 j +ℤ pos 2217 *ℤ lane s.r6 j +ℤ x_scale)) }
-    ensures x1 { result.1 ≡ lanes (λ j. int_wrap w32 (pos 4096 *ℤ lane s.r0 j +ℤ pos 2217 *ℤ lane s.r2 j -ℤ pos 4096 *ℤ lane s.r4 j -ℤ pos 5350 *ℤ lane s.r6 j +ℤ x_scale)) }
-    ensures x2 { result.2 ≡ lanes (λ j. int_wrap w32 (pos 4096 *ℤ lane s.r0 j -ℤ pos 2217 *ℤ lane s.r2 j -ℤ pos 4096 *ℤ lane s.r4 j +ℤ pos 5350 *ℤ lane s.r6 j +ℤ x_scale)) }
-    ensures x3 { result.3 ≡ lanes (λ j. int_wrap w32 (pos 4096 *ℤ lane s.r0 j -ℤ pos 5352 *ℤ lane s.r2 j +ℤ pos 4096 *ℤ lane s.r4 j -ℤ pos 2217 *ℤ lane s.r6 j +ℤ x_scale)) }
+    ensures x0 { result.0 ≡ lanes (λ j. int_wrap w32
+        (pos 4096 *ℤ lane s.r0 j +ℤ pos 5352 *ℤ lane s.r2 j +ℤ pos 4096 *ℤ lane s.r4 j +ℤ pos 2217
+        *ℤ lane s.r6 j +ℤ x_scale)) }
+    ensures x1 { result.1 ≡ lanes (λ j. int_wrap w32
+        (pos 4096 *ℤ lane s.r0 j +ℤ pos 2217 *ℤ lane s.r2 j -ℤ pos 4096 *ℤ lane s.r4 j -ℤ pos 5350
+        *ℤ lane s.r6 j +ℤ x_scale)) }
+    ensures x2 { result.2 ≡ lanes (λ j. int_wrap w32
+        (pos 4096 *ℤ lane s.r0 j -ℤ pos 2217 *ℤ lane s.r2 j -ℤ pos 4096 *ℤ lane s.r4 j +ℤ pos 5350
+        *ℤ lane s.r6 j +ℤ x_scale)) }
+    ensures x3 { result.3 ≡ lanes (λ j. int_wrap w32
+        (pos 4096 *ℤ lane s.r0 j -ℤ pos 5352 *ℤ lane s.r2 j +ℤ pos 4096 *ℤ lane s.r4 j -ℤ pos 2217
+        *ℤ lane s.r6 j +ℤ x_scale)) }
 {
     let p1 = (s.r2 + s.r6) * i32x8::splat(2217);
     let t2 = p1 + s.r6 * i32x8::splat(-7567);
@@ -47,10 +59,18 @@ fn kernel_x(s: Rows, x_scale: i32) -> (i32x8, i32x8, i32x8, i32x8)
 
 // What the odd numbers give, in each lane.
 fn kernel_t(s: Rows) -> (i32x8, i32x8, i32x8, i32x8)
-    ensures t0 { result.0 ≡ lanes (λ j. int_wrap w32 (pos 1131 *ℤ lane s.r1 j -ℤ pos 3218 *ℤ lane s.r3 j +ℤ pos 4816 *ℤ lane s.r5 j -ℤ pos 5680 *ℤ lane s.r7 j)) }
-    ensures t1 { result.1 ≡ lanes (λ j. int_wrap w32 (pos 3219 *ℤ lane s.r1 j -ℤ pos 5681 *ℤ lane s.r3 j +ℤ pos 1132 *ℤ lane s.r5 j +ℤ pos 4816 *ℤ lane s.r7 j)) }
-    ensures t2 { result.2 ≡ lanes (λ j. int_wrap w32 (pos 4816 *ℤ lane s.r1 j -ℤ pos 1129 *ℤ lane s.r3 j -ℤ pos 5681 *ℤ lane s.r5 j -ℤ pos 3218 *ℤ lane s.r7 j)) }
-    ensures t3 { result.3 ≡ lanes (λ j. int_wrap w32 (pos 5683 *ℤ lane s.r1 j +ℤ pos 4816 *ℤ lane s.r3 j +ℤ pos 3219 *ℤ lane s.r5 j +ℤ pos 1131 *ℤ lane s.r7 j)) }
+    ensures t0 { result.0 ≡ lanes (λ j. int_wrap w32
+        (pos 1131 *ℤ lane s.r1 j -ℤ pos 3218 *ℤ lane s.r3 j +ℤ pos 4816 *ℤ lane s.r5 j -ℤ pos 5680
+        *ℤ lane s.r7 j)) }
+    ensures t1 { result.1 ≡ lanes (λ j. int_wrap w32
+        (pos 3219 *ℤ lane s.r1 j -ℤ pos 5681 *ℤ lane s.r3 j +ℤ pos 1132 *ℤ lane s.r5 j +ℤ pos 4816
+        *ℤ lane s.r7 j)) }
+    ensures t2 { result.2 ≡ lanes (λ j. int_wrap w32
+        (pos 4816 *ℤ lane s.r1 j -ℤ pos 1129 *ℤ lane s.r3 j -ℤ pos 5681 *ℤ lane s.r5 j -ℤ pos 3218
+        *ℤ lane s.r7 j)) }
+    ensures t3 { result.3 ≡ lanes (λ j. int_wrap w32
+        (pos 5683 *ℤ lane s.r1 j +ℤ pos 4816 *ℤ lane s.r3 j +ℤ pos 3219 *ℤ lane s.r5 j +ℤ pos 1131
+        *ℤ lane s.r7 j)) }
 {
     let p3 = s.r7 + s.r3;
     let p4 = s.r5 + s.r1;
@@ -115,7 +135,8 @@ fn transpose(rows: Rows) -> Rows
 
 fn products(coefficients: [i16; 64], quantization_table: &[u16; 64], at: usize) -> i32x8
     requires { at + 8 ≤ 64 }
-    ensures { result ≡ lanes (λ j. slice_index_or coefficients (at + j) (pos 0) *ℤ pos (slice_index quantization_table.now (at + j))) }
+    ensures { result ≡ lanes (λ j. slice_index_or coefficients (at + j) (pos 0) *ℤ pos
+        (slice_index quantization_table.now (at + j))) }
 {
     let c = i16x8::from_slice(&coefficients[at..]).cast::<i32>();
     let q = u16x8::from_slice(&quantization_table[at..]).cast::<i32>();
@@ -138,7 +159,8 @@ fn below_first_row(coefficients: [i16; 64]) -> i32x8
 
 // What the flat columns hold.
 fn flat_row(coefficients: [i16; 64], quantization_table: &[u16; 64]) -> i32x8
-    ensures { result ≡ lanes (λ j. int_wrap w32 (pos 4 *ℤ dequantized coefficients quantization_table.now 0 j)) }
+    ensures { result ≡ lanes (λ j. int_wrap w32 (pos 4 *ℤ dequantized coefficients
+        quantization_table.now 0 j)) }
 {
     products(coefficients, quantization_table, 0) << 2
 }
@@ -190,7 +212,9 @@ fn transform_rows(columns: Rows) -> Rows
 
 // The sums of the samples, before the last shift.
 fn sums_of(coefficients: [i16; 64], quantization_table: &[u16; 64]) -> [[i32; 8]; 8]
-    ensures { (y x : ℕ) → y < 8 → x < 8 → slice_index_or (slice_index_or result y []) x (pos 0) ≡ int_wrap w32 (transformed (column_value coefficients quantization_table.now y) x +ℤ pos 16842752) }
+    ensures { (y x : ℕ) → y < 8 → x < 8 → slice_index_or (slice_index_or result y []) x (pos 0)
+        ≡ int_wrap w32 (transformed (column_value coefficients quantization_table.now y) x +ℤ pos
+        16842752) }
 {
     let rows = transform_rows(transform_columns(coefficients, quantization_table));
     [
@@ -208,12 +232,36 @@ fn sums_of(coefficients: [i16; 64], quantization_table: &[u16; 64]) -> [[i32; 8]
 // Writes the samples of a row to the front of the bytes.
 fn write_samples(sums: &[i32; 8], output: &mut [u8])
     requires { 8 ≤ length output.old }
-    ensures inside { (x : ℕ) → x < 8 → slice_index output.new x ≡ clamped (int_shr (slice_index_or sums.now x (pos 0)) 17) }
+    ensures inside { (x : ℕ) → x < 8 → slice_index output.new x
+        ≡ clamped (int_shr (slice_index_or sums.now x (pos 0)) 17) }
     ensures others { (i : ℕ) → 8 ≤ i → slice_index output.new i ≡ slice_index output.old i }
 {
     for x in 0..8 {
         output[x] = sample_of(sums[x]);
     }
+}
+
+// The samples of a block, line by line. They stand in an array of their own, which is known to be
+// apart from the sums: so their clamps are vectorised.
+fn samples_of(sums: &[[i32; 8]; 8]) -> [u8; 64]
+    ensures { (x y : ℕ) → x < 8 → y < 8 → slice_index result (y * 8 + x)
+        ≡ clamped (int_shr (slice_index_or (slice_index_or sums.now y []) x (pos 0)) 17) }
+{
+    let mut samples = [0u8; 64];
+    for y in 0..8 {
+        write_samples(&sums[y], &mut samples[y * 8..]);
+    }
+    samples
+}
+
+// Copies eight samples to the front of the bytes.
+fn copy_line(line: &[u8], output: &mut [u8])
+    requires line { length line.now ≡ 8 }
+    requires room { 8 ≤ length output.old }
+    ensures inside { (x : ℕ) → x < 8 → slice_index output.new x ≡ slice_index line.now x }
+    ensures others { (i : ℕ) → 8 ≤ i → slice_index output.new i ≡ slice_index output.old i }
+{
+    output[..8].copy_from_slice(line);
 }
 
 /// Dequantizes a block of 8x8 coefficients and transforms it to 8x8 samples, as
@@ -226,10 +274,15 @@ pub fn dequantize_and_idct_block_8x8(
 )
     requires wide { 8 ≤ output_linestride }
     requires room { 7 * output_linestride + 8 ≤ length output.old }
-    ensures { WritesBlock 8 8 output_linestride (sample coefficients.now quantization_table.now) output.old output.new }
+    ensures { WritesBlock 8 8 output_linestride (sample coefficients.now quantization_table.now)
+        output.old output.new }
 {
-    let sums = sums_of(*coefficients, quantization_table);
+    let samples = samples_of(&sums_of(*coefficients, quantization_table));
     for y in 0..8 {
-        write_samples(&sums[y], &mut output[y * output_linestride..]);
+        let first = y * 8;
+        copy_line(
+            &samples[first..first + 8],
+            &mut output[y * output_linestride..],
+        );
     }
 }

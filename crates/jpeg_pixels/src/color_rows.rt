@@ -119,7 +119,8 @@ fn interleave_three(
     ensures third { (x : ℕ) → x < count → slice_index output.new (3 * (start + x) + 2)
         ≡ slice_index third.now x }
     ensures before { (i : ℕ) → i < 3 * start → slice_index output.new i ≡ slice_index output.old i }
-    ensures behind { (i : ℕ) → 3 * (start + count) ≤ i → slice_index output.new i ≡ slice_index output.old i }
+    ensures after { (i : ℕ) → 3 * (start + count) ≤ i → slice_index output.new i
+        ≡ slice_index output.old i }
 {
     for x in 0..count {
         output[3 * (start + x)] = first[x];
@@ -176,7 +177,8 @@ fn write_ycbcr_piece(y: &[u8], cb: &[u8], cr: &[u8], start: usize, count: usize,
     ensures blue { (x : ℕ) → x < count → slice_index output.new (3 * (start + x) + 2)
         ≡ blue_of (slice_index y.now (start + x)) (slice_index cb.now (start + x)) }
     ensures before { (i : ℕ) → i < 3 * start → slice_index output.new i ≡ slice_index output.old i }
-    ensures behind { (i : ℕ) → 3 * (start + count) ≤ i → slice_index output.new i ≡ slice_index output.old i }
+    ensures after { (i : ℕ) → 3 * (start + count) ≤ i → slice_index output.new i
+        ≡ slice_index output.old i }
 {
     let mut red = [0; 64];
     let mut green = [0; 64];
@@ -187,9 +189,9 @@ fn write_ycbcr_piece(y: &[u8], cb: &[u8], cr: &[u8], start: usize, count: usize,
     interleave_three(&red, &green, &blue, count, output, start);
 }
 
-/// Writes red, green and blue of pixels by their brightness and two colour differences, in chunks of
-/// eight: of the pixels for which the output has room, those that make whole chunks. Their number is
-/// answered; the output's other bytes stay.
+/// Writes red, green and blue of pixels by their brightness and two colour differences, in chunks
+/// of eight: of the pixels for which the output has room, those that make whole chunks. Their
+/// number is answered; the output's other bytes stay.
 pub fn color_convert_line_ycbcr(y: &[u8], cb: &[u8], cr: &[u8], output: &mut [u8]) -> usize
     requires whole { 3 * (length output.old / 3) ≡ length output.old }
     requires y_long { length output.old ≤ 3 * length y.now }

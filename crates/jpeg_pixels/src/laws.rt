@@ -11,11 +11,13 @@ ghost use Rattle.jpeg_pixels.specs.Samples.{is_flat_column, sample, transformed}
 ghost use Rattle.jpeg_pixels.specs.Scaled.{sample_of_1, sample_of_2, sample_of_4};
 ghost use Rattle.jpeg_pixels.specs.Planes.{plane_of, strip_of};
 ghost use Rattle.jpeg_pixels.specs.Colour.{colour_of, line_bytes};
-ghost use Rattle.jpeg_pixels.specs.declared.upsampler.ColorConvert.TheVariants.{None, Rgb, YCbCr, Cmyk, Ycck};
+ghost use Rattle.jpeg_pixels.specs.declared.upsampler.ColorConvert.TheVariants.{None, Rgb, YCbCr};
+ghost use Rattle.jpeg_pixels.specs.declared.upsampler.ColorConvert.TheVariants.{Cmyk, Ycck};
 ghost use Rattle.jpeg_pixels.specs.Zigzag.{zigzag, zigzag_places};
 ghost use Rattle.jpeg_pixels.specs.Upsampling.{across, down, line_sum, upsampled};
 ghost use Rattle.jpeg_pixels.specs.declared.upsampler.UpsampleRule.{UpsampleRule};
-ghost use Rattle.jpeg_pixels.specs.declared.upsampler.UpsampleRule.TheVariants.{H1V1, H2V1, H1V2, H2V2, Generic};
+ghost use Rattle.jpeg_pixels.specs.declared.upsampler.UpsampleRule.TheVariants.{H1V1, H2V1, H1V2};
+ghost use Rattle.jpeg_pixels.specs.declared.upsampler.UpsampleRule.TheVariants.{H2V2, Generic};
 
 /// A block whose only coefficient is the first has the same sample everywhere, at each scale: its
 /// eighth and 128, rounded to the nearest, or at one sample a block rounded down.
@@ -89,8 +91,8 @@ pub fn planes_are_their_rows()
         plane_of scale table wide high f ≡ plane_of scale table wide high g }
 {}
 
-/// What is asked of planes can be had in each frame: planes of all blocks have room for the samples,
-/// and planes with that room cover the picture.
+/// What is asked of planes can be had in each frame: planes of all blocks have room for the
+/// samples, and planes with that room cover the picture.
 pub fn frames_are_covered()
     ensures whole { (number precision width height : ℕ) (factors : List Factors) (planes : List (List ℕ)) → All IsInRange factors → 0 < width → 0 < height →
         AreWhole (frame_of number precision width height factors).components planes → HaveRoom (frame_of number precision width height factors).components planes }
@@ -102,7 +104,8 @@ pub fn frames_are_covered()
 /// The samples of three blocks, computed: the first coefficient alone; the largest coefficients and
 /// quantization values; one large product. And those of a small block at less than full size.
 pub fn known_blocks()
-    ensures first_only { plane_of 8 (replicate 64 1) 1 1 (λ row column. pos 8 ∷ replicate 63 (pos 0)) ≡ replicate 64 129 }
+    ensures first_only { plane_of 8 (replicate 64 1) 1 1
+        (λ row column. pos 8 ∷ replicate 63 (pos 0)) ≡ replicate 64 129 }
     ensures largest { plane_of 8 (replicate 64 65535) 1 1 (λ row column. replicate 64 (pos 32767)) ≡
         0 ∷ 0 ∷ 0 ∷ 255 ∷ 255 ∷ 0 ∷ 0 ∷ 255
         ∷ 0 ∷ 0 ∷ 215 ∷ 0 ∷ 0 ∷ 255 ∷ 255 ∷ 0
@@ -157,13 +160,16 @@ pub fn known_colours()
 pub fn ends_are_kept()
     ensures alone { (rule : UpsampleRule) (plane : ℕ → ℕ → ℕ) (x row : ℕ) → x < across rule → row < down rule →
         upsampled rule plane 1 1 x row ≡ plane 0 0 }
-    ensures first_across { (plane : ℕ → ℕ → ℕ) (width height row : ℕ) → upsampled H2V1 plane width height 0 row ≡ plane 0 row }
+    ensures first_across { (plane : ℕ → ℕ → ℕ) (width height row : ℕ)
+        → upsampled H2V1 plane width height 0 row ≡ plane 0 row }
     ensures last_across { (plane : ℕ → ℕ → ℕ) (width height row : ℕ) → 1 ≤ width →
         upsampled H2V1 plane width height (2 * width - 1) row ≡ plane (width - 1) row }
-    ensures first_down { (plane : ℕ → ℕ → ℕ) (width height x : ℕ) → upsampled H1V2 plane width height x 0 ≡ plane x 0 }
+    ensures first_down { (plane : ℕ → ℕ → ℕ) (width height x : ℕ)
+        → upsampled H1V2 plane width height x 0 ≡ plane x 0 }
     ensures last_down { (plane : ℕ → ℕ → ℕ) (width height x : ℕ) → 1 ≤ height →
         upsampled H1V2 plane width height x (2 * height - 1) ≡ plane x (height - 1) }
-    ensures first_corner { (plane : ℕ → ℕ → ℕ) (width height : ℕ) → upsampled H2V2 plane width height 0 0 ≡ plane 0 0 }
+    ensures first_corner { (plane : ℕ → ℕ → ℕ) (width height : ℕ)
+        → upsampled H2V2 plane width height 0 0 ≡ plane 0 0 }
     ensures last_corner { (plane : ℕ → ℕ → ℕ) (width height : ℕ) → 1 ≤ width → 1 ≤ height →
         upsampled H2V2 plane width height (2 * width - 1) (2 * height - 1) ≡ plane (width - 1) (height - 1) }
     ensures first_column { (plane : ℕ → ℕ → ℕ) (width height row : ℕ) →

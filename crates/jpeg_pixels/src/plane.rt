@@ -93,7 +93,7 @@ pub fn crop(plane: &mut Vec<u8>, stride: usize, width: usize, height: usize)
     plane.truncate(width * height);
 }
 
-// Moves the first `width` samples of each line to the front, line behind line.
+// Moves the first `width` samples of each line to the front, line after line.
 fn close_lines(lines: &mut [u8], stride: usize, width: usize, height: usize)
     requires width { width ≤ stride }
     requires room { height * stride ≤ length lines.old }

@@ -7,7 +7,7 @@ ghost use Rattle.jpeg_segments.specs.FrameView.{component_in};
 ghost use Rattle.jpeg_pixels.specs.Upsampling.{rule_of};
 ghost use Rattle.jpeg_pixels.specs.Pictures.{factors_of, source_of, sources_of};
 ghost use Rattle.jpeg_pixels.specs.PicturesView.{source_in};
-ghost use Rattle.jpeg_segments.specs.Frame.{HasFactors, AllHaveFactors};
+ghost use Rattle.jpeg_segments.specs.Frame.{HasSampling, AllHaveSampling};
 
 use crate::upsampler::{ComponentSource, UpsampleRule};
 use jpeg_bits::error::{Error, Result, UnsupportedFeature};
@@ -57,7 +57,7 @@ fn component_source(
     width: u16,
     height: u16,
 ) -> Result<ComponentSource>
-    requires { HasFactors (component_in component.now) }
+    requires { HasSampling (component_in component.now) }
     ensures { MatchResult result
         (λ s. source_of greatest_h greatest_v width height (component_in component.now)
         ≡ Ok (source_in s))
@@ -67,18 +67,12 @@ fn component_source(
     let v = component.vertical_sampling_factor;
     match choose_rule(h, v, greatest_h, greatest_v, width, height) {
         None => Err(Error::Unsupported(UnsupportedFeature::NonIntegerSubsamplingRatio)),
-        Some(rule) => {
-            // No memory holds a longer line.
-            match usize::from(component.block_size.width).checked_mul(component.dct_scale) {
-                None => Err(Error::OutOfMemory),
-                Some(row_stride) => Ok(ComponentSource {
-                    rule,
-                    width: usize::from(component.size.width),
-                    height: usize::from(component.size.height),
-                    row_stride,
-                }),
-            }
-        }
+        Some(rule) => Ok(ComponentSource {
+            rule,
+            width: usize::from(component.size.width),
+            height: usize::from(component.size.height),
+            row_stride: usize::from(component.block_size.width) * component.dct_scale,
+        }),
     }
 }
 
@@ -105,14 +99,14 @@ fn greatest_vertical(components: &[Component]) -> u8
 }
 
 /// How each component is upsampled for a picture of this size. A component for which there is no
-/// rule is `Unsupported(NonIntegerSubsamplingRatio)`, and want of memory is `OutOfMemory`.
+/// rule is `Unsupported(NonIntegerSubsamplingRatio)`, and a refused allocation is `OutOfMemory`.
 pub(crate) fn component_sources(
     alloc: Global,
     components: &[Component],
     output_width: u16,
     output_height: u16,
 ) -> Result<Vec<ComponentSource>>
-    requires { AllHaveFactors (map component_in components.now) }
+    requires { AllHaveSampling (map component_in components.now) }
     ensures { MatchResult result
         (λ v. sources_of (map component_in components.now) output_width output_height
         ≡ Ok (map source_in v.items))

@@ -6,7 +6,7 @@ use crate::plane::{append_row, crop};
 use crate::zigzag::{coefficients_in_order, values_in_order};
 use std::test::Fail;
 
-// The samples of a block, its lines one behind the other.
+// The samples of a block, its lines one after the other.
 fn samples_of(coefficients: &[i16; 64], quantization_table: &[u16; 64]) -> [u8; 64] {
     let mut samples = [7; 64];
     dequantize_and_idct_block_8x8(coefficients, quantization_table, 8, &mut samples);
@@ -147,7 +147,7 @@ fn rows_of_blocks_cropped(rt: HostRuntime) -> Result<(), Fail> {
     Ok(())
 }
 
-// The samples of a block by lanes, its lines one behind the other.
+// The samples of a block by lanes, its lines one after the other.
 fn samples_by_lanes(coefficients: &[i16; 64], quantization_table: &[u16; 64]) -> [u8; 64] {
     let mut samples = [7; 64];
     arch::dequantize_and_idct_block_8x8(coefficients, quantization_table, 8, &mut samples);

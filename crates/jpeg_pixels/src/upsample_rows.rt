@@ -1,5 +1,6 @@
 //! Rows of a component made as wide as the picture, one function for each rule.
-ghost use Rattle.std.specs.Prelude.{◌≡◌, ℕ, ◌+◌, ◌-◌, ◌*◌, ◌/◌, ◌<◌, ◌≤◌, ◌%◌, ◌≢◌, length, slice_index};
+ghost use Rattle.std.specs.Prelude.{◌≡◌, ℕ, ◌+◌, ◌-◌, ◌*◌, ◌/◌, ◌<◌, ◌≤◌, ◌%◌, ◌≢◌, length};
+ghost use Rattle.std.specs.Prelude.{slice_index};
 ghost use Rattle.jpeg_pixels.specs.Upsampling.{blended, far_place};
 
 // The line of a plane whose lines are `row_stride` bytes apart.
@@ -113,7 +114,8 @@ fn spread(line: &[u8], step: usize, first: usize, output: &mut [u8])
     requires no_wider { step * length line.now < length output.old + step }
     ensures samples { (i : ℕ) → i * step + first < length output.old →
         slice_index output.new (i * step + first) ≡ slice_index line.now i }
-    ensures others { (x : ℕ) → x % step ≢ first → slice_index output.new x ≡ slice_index output.old x }
+    ensures others { (x : ℕ) → x % step ≢ first → slice_index output.new x
+        ≡ slice_index output.old x }
 {
     for i in 0..line.len() {
         let x = i * step + first;
@@ -123,7 +125,7 @@ fn spread(line: &[u8], step: usize, first: usize, output: &mut [u8])
     }
 }
 
-// Each sample of a line so many times; the last one fewer times, where the output ends.
+// Each sample of a line this many times; the last one fewer times, where the output ends.
 pub fn repeat_samples(line: &[u8], times: usize, output: &mut [u8])
     requires some { 1 ≤ times }
     requires wide { length output.old ≤ times * length line.now }

@@ -15,14 +15,19 @@ use jpeg_segments::parser::Component;
 use std::alloc::Global;
 use std::marker::Model;
 
-/// How the samples of a component become those of the picture: by the factors across (H) and down (V).
+/// How the samples of a component become those of the picture: by the factors across (H) and down
+/// (V).
 #[derive(Clone, Copy, Debug, PartialEq)]
 pub enum UpsampleRule {
+    /// The samples are those of the picture.
     H1V1,
+    /// Twice as many samples across, blended 3 to 1 from the nearer and the farther one.
     H2V1,
+    /// Twice as many samples down, blended 3 to 1.
     H1V2,
+    /// Twice as many samples across and down, blended 9 to 3 to 3 to 1.
     H2V2,
-    /// Each sample stands for so many across and down.
+    /// Each sample is repeated this often across and down.
     Generic(u8, u8),
 }
 
@@ -30,10 +35,12 @@ impl UpsampleRule {
     ghost use Rattle.std.specs.Prelude.{◌≡◌, ℕ, ◌+◌, ◌-◌, ◌*◌, ◌<◌, ◌≤◌, length, slice_index};
     ghost use Rattle.jpeg_pixels.specs.Upsampling.{upsampled, across, down};
 
-    /// Writes the first `output_width` samples of row `row` of the picture to the front of the output; its other bytes stay.
+    /// Writes the first `output_width` samples of row `row` of the picture to the front of the
+    /// output; its other bytes stay.
     ///
-    /// The component has `input_height` lines of `input_width` samples, and each line begins `row_stride` bytes behind the
-    /// beginning of the one above. The output is at most `across` times as wide as that.
+    /// The component has `input_height` lines of `input_width` samples, and each line begins
+    /// `row_stride` bytes after the beginning of the one above. The output is at most `across`
+    /// times as wide as that.
     pub fn upsample_row(
         &self,
         input: &[u8],
@@ -53,7 +60,8 @@ impl UpsampleRule {
         requires output_room { output_width ≤ length output.old }
         ensures samples { (x : ℕ) → x < output_width → slice_index output.new x
             ≡ upsampled self.now (λ i j. slice_index input.now (j * row_stride + i)) input_width input_height x row }
-        ensures others { (i : ℕ) → output_width ≤ i → slice_index output.new i ≡ slice_index output.old i }
+        ensures others { (i : ℕ) → output_width ≤ i → slice_index output.new i
+            ≡ slice_index output.old i }
     {
         if output_width == 0 {
             return;
@@ -92,26 +100,34 @@ impl UpsampleRule {
 pub enum ColorConvert {
     /// No conversion; the components of a line stand one after the other.
     None,
+    /// Red, green and blue, interleaved.
     Rgb,
+    /// YCbCr (JFIF 1.02) to red, green and blue.
     YCbCr,
+    /// Cyan, magenta, yellow and black, inverted and interleaved.
     Cmyk,
+    /// YCbCr to red, green and blue in place of cyan, magenta and yellow, and black inverted.
     Ycck,
 }
 
 impl ColorConvert {
-    ghost use Rattle.jpeg_bits.specs.Reading.{Gives};
+    ghost use Rattle.std.specs.Prelude.{◌≡◌, Err};
+    ghost use Rattle.jpeg_bits.specs.Reading.{Gives, Malformed};
+    ghost use Rattle.jpeg_bits.specs.declared.error.Error.TheVariants.{OutOfMemory};
     ghost use Rattle.jpeg_pixels.specs.Colour.{conversion_of};
 
     /// The conversion of a transform for three or four components. A transform that doesn't fit is
-    /// `Format`, or `OutOfMemory` where there is no room for the text, and one that is not known here
-    /// is `Unsupported(ColorTransform(..))`.
+    /// `Format`, or `OutOfMemory` where there is no room for the text, and one that is not known
+    /// here is `Unsupported(ColorTransform(..))`.
     #[tactic(auto, unfolding(crate::specs::Colour::conversion_of))]
     pub fn choose(
         alloc: Global,
         component_count: usize,
         color_transform: ColorTransform,
     ) -> Result<ColorConvert>
-        ensures { Gives (conversion_of component_count color_transform) result }
+        ensures answers { Gives (conversion_of component_count color_transform) result }
+        ensures room { result ≡ Err OutOfMemory
+            → conversion_of component_count color_transform ≡ Err Malformed }
     {
         match color_transform {
             ColorTransform::None => Ok(ColorConvert::None),
@@ -127,7 +143,7 @@ impl ColorConvert {
     }
 }
 
-// The refusal of a transform that doesn't fit so many components.
+// The refusal of a transform that doesn't fit this many components.
 #[cold]
 #[inline(never)]
 fn misfit(alloc: Global, component_count: usize, color_transform: ColorTransform) -> Error
@@ -146,9 +162,13 @@ fn misfit(alloc: Global, component_count: usize, color_transform: ColorTransform
 /// its plane has.
 #[derive(Clone, Copy, Debug, PartialEq)]
 pub struct ComponentSource {
+    /// How its samples become those of the picture.
     pub rule: UpsampleRule,
+    /// How many samples a line has.
     pub width: usize,
+    /// How many lines there are.
     pub height: usize,
+    /// How many samples after the beginning of a line the next one begins.
     pub row_stride: usize,
 }
 
@@ -176,12 +196,12 @@ impl Upsampler {
     ghost use Rattle.jpeg_segments.specs.FrameView.{component_in};
     ghost use Rattle.jpeg_pixels.specs.Pictures.{sources_of, AllCover, picture_line, picture_bytes};
     ghost use Rattle.jpeg_pixels.specs.PicturesView.{IsFor};
-    ghost use Rattle.jpeg_segments.specs.Frame.{AllHaveFactors};
+    ghost use Rattle.jpeg_segments.specs.Frame.{AllHaveSampling};
 
     /// The upsampler of a frame's components for a picture of this size in pixels.
     ///
-    /// A component for which there is no rule is `Unsupported(NonIntegerSubsamplingRatio)`, and want
-    /// of memory is `OutOfMemory`.
+    /// A component for which there is no rule is `Unsupported(NonIntegerSubsamplingRatio)`, and
+    /// want of memory is `OutOfMemory`.
     pub fn new(
         alloc: Global,
         components: &[Component],
@@ -190,7 +210,7 @@ impl Upsampler {
     ) -> Result<Upsampler>
         requires some { 1 ≤ length components.now }
         requires most { length components.now ≤ 4 }
-        requires factors { AllHaveFactors (map component_in components.now) }
+        requires factors { AllHaveSampling (map component_in components.now) }
         ensures { Gives (sources_of
             (map component_in components.now) output_width output_height) result }
     {
@@ -201,8 +221,8 @@ impl Upsampler {
         })
     }
 
-    /// Writes line `row` of the picture, of `output_width` pixels. `component_data` has the plane of
-    /// each component. The only error is want of memory; the output's bytes are then open.
+    /// Writes line `row` of the picture, of `output_width` pixels. `component_data` has the plane
+    /// of each component. The only error is `OutOfMemory`; the output's bytes are then open.
     pub fn upsample_and_interleave_row(
         &self,
         component_data: &[Vec<u8>],

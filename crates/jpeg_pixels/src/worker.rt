@@ -3,7 +3,7 @@ ghost use Rattle.std.specs.Prelude.{◌≡◌, ◌≤◌, List, map, length, Ok,
 ghost use Rattle.jpeg_bits.specs.Reading.{Names};
 ghost use Rattle.jpeg_segments.specs.FrameView.{component_in};
 ghost use Rattle.jpeg_pixels.specs.Pictures.{Source, sources_of, AllCover, image_of};
-ghost use Rattle.jpeg_segments.specs.Frame.{AllHaveFactors};
+ghost use Rattle.jpeg_segments.specs.Frame.{AllHaveSampling};
 
 use crate::growing_plane::GrowingPlane;
 use crate::upsampler::{ColorConvert, Upsampler};
@@ -147,7 +147,7 @@ impl ImmediateWorker {
 /// upsampled and converted.
 ///
 /// A transform that doesn't fit is `Format` or `Unsupported(ColorTransform(..))`, a component for
-/// which there is no rule `Unsupported(NonIntegerSubsamplingRatio)`, and want of memory
+/// which there is no rule `Unsupported(NonIntegerSubsamplingRatio)`, and a refused allocation
 /// `OutOfMemory`.
 pub fn compute_image_rows(
     alloc: Global,
@@ -159,7 +159,7 @@ pub fn compute_image_rows(
     requires some { 3 ≤ length components.now }
     requires most { length components.now ≤ 4 }
     requires planes { length planes.now ≡ length components.now }
-    requires factors { AllHaveFactors (map component_in components.now) }
+    requires factors { AllHaveSampling (map component_in components.now) }
     requires cover { (sources : List Source) →
         sources_of (map component_in components.now) output_size.width output_size.height
         ≡ Ok sources

@@ -1,6 +1,7 @@
 //! The zigzag order of a block.
 ghost use Rattle.std.specs.Prelude.{◌≡◌, ◌<◌, slice_index};
-ghost use Rattle.jpeg_pixels.specs.Zigzag.{zigzag_places, coefficients_in_block_order, values_in_block_order};
+ghost use Rattle.jpeg_pixels.specs.Zigzag.{zigzag_places, coefficients_in_block_order};
+ghost use Rattle.jpeg_pixels.specs.Zigzag.{values_in_block_order};
 
 // The place in zigzag order of each place in the block.
 const PLACES: [usize; 64] = [
@@ -30,8 +31,12 @@ pub fn coefficients_in_order(coefficients: &[i16; 64]) -> [i16; 64]
     ensures { result ≡ coefficients_in_block_order coefficients.now }
 {
     let mut ordered = [0i16; 64];
-    for place in 0..64 {
-        ordered[place] = coefficients[zigzag_place(place)];
+    // Two loops of eight, which compilers unroll.
+    for row in 0..8 {
+        for column in 0..8 {
+            let place = 8 * row + column;
+            ordered[place] = coefficients[zigzag_place(place)];
+        }
     }
     ordered
 }

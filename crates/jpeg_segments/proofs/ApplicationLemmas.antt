@@ -1,5 +1,6 @@
 -- A payload that says nothing is passed over.
-use Rattle.std.proofs.Common.{◌≡◌, ◌≢◌, ℕ, zero, suc, ◌<◌, false, List, [], ◌∷◌, refl, ap, ◌∙◌, Option, None, Result, Ok, Err, arith, eqb}
+use Rattle.std.proofs.Common.{◌≡◌, ◌≢◌, ℕ, zero, suc, ◌<◌, false, List, [], ◌∷◌, refl, ap, ◌∙◌, Option, None, Result}
+use Rattle.std.proofs.Common.{Ok, Err, arith, eqb}
 use Rattle.std.proofs.lemmas.Bool.Decides.{nat_tests}
 use Rattle.jpeg_bits.specs.Stream.{Stream}
 use Rattle.jpeg_bits.specs.Reading.{Outcome, Answers, ◌>>=◌, times, skip_at, next_byte}

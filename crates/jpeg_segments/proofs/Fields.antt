@@ -1,5 +1,6 @@
 -- Fields that were written are read again.
-use Rattle.std.proofs.Common.{◌≡◌, ℕ, suc, ◌<◌, ◌+◌, ◌-◌, ◌*◌, ◌/◌, ◌%◌, Bool, true, false, cond, List, [], ◌∷◌, ◌++◌, length, Ok, Err, refl, ap, ◌∙◌, append_assoc, arith, ltb}
+use Rattle.std.proofs.Common.{◌≡◌, ℕ, suc, ◌<◌, ◌+◌, ◌-◌, ◌*◌, ◌/◌, ◌%◌, Bool, true, false, cond, List, [], ◌∷◌, ◌++◌}
+use Rattle.std.proofs.Common.{length, Ok, Err, refl, ap, ◌∙◌, append_assoc, arith, ltb}
 use Rattle.std.proofs.lemmas.Bool.{le-ltb}
 use Rattle.std.specs.Prelude.{flat_map}
 use Rattle.std.specs.List.{AllByRecursion}
@@ -12,7 +13,7 @@ pub record ReadsBytes {A : Type 0} (reader : List ℕ → Outcome A) (bytes : Li
 
 -- ---- steps
 
--- what is read behind a value
+-- what is read after a value
 pub read-on : {A B : Type 0} (o : Outcome A) (f : A × List ℕ → Outcome B) (x : A) (rest : List ℕ) (y : Outcome B)
     → o ≡ Ok (x, rest) → f (x, rest) ≡ y → (o >>= f) ≡ y
 read-on o f x rest y e g = ap (λ r. r >>= f) e ∙ g
@@ -40,7 +41,7 @@ length-read n rest =
     read-on (next_u16 (u16_bytes (n + 2) ++ rest)) _ (n + 2) rest _ (u16-read (n + 2) rest)
     (not-refused (ltb (n + 2) 2) (Err Malformed) _ (le-ltb (n + 2) 2 (omega arith)) ∙ ap (λ (x : ℕ). Ok (x, rest)) e)
 
--- a payload behind its length field
+-- a payload after its length field
 pub sized-read : {B : Type 0} (payload rest : List ℕ) (f : ℕ × List ℕ → Outcome B)
     → (length_at (sized payload ++ rest) >>= f) ≡ f (length payload, payload ++ rest)
 sized-read payload rest f =

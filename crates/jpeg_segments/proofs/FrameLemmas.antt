@@ -1,11 +1,13 @@
 -- Steps of the parser of frame headers.
-use Rattle.std.proofs.Common.{◌≡◌, ℕ, zero, suc, ◌+◌, ◌-◌, ◌<◌, ◌≤◌, Bool, List, [], ◌∷◌, ◌++◌, map, max, take, length, refl, ap, Ok, arith, All, get_or}
+use Rattle.std.proofs.Common.{◌≡◌, ℕ, zero, suc, ◌+◌, ◌-◌, ◌<◌, ◌≤◌, Bool, List, [], ◌∷◌, ◌++◌, map, max, take, length}
+use Rattle.std.proofs.Common.{refl, ap, Ok, arith, All, get_or}
 use Rattle.std.specs.List.{list_any}
 use Rattle.std.specs.Prelude.{◌||◌}
 use Rattle.std.proofs.lemmas.List.Elements.{All-head, All-tail, All-cons, All-nil}
 use Rattle.std.proofs.lemmas.List.{take_more, map-append}
 use Rattle.jpeg_bits.specs.Reading.{◌>>=◌}
-use Rattle.jpeg_segments.specs.Frame.{Factors, HasFactors, AllHaveFactors, IsInRange, component_of, components_from, factors_at, greatest}
+use Rattle.jpeg_segments.specs.Frame.{Factors, HasSampling, AllHaveSampling, IsInRange, component_of, components_from}
+use Rattle.jpeg_segments.specs.Frame.{factors_at, greatest}
 
 pub components_from-more : (lossless : Bool) (n : ℕ) (front : List Factors) (bytes : List ℕ) → 0 < n
     → components_from lossless n front bytes ≡ (factors_at lossless front bytes >>= λ (c : Factors × List ℕ). components_from lossless (n - 1) (front ++ c.0 ∷ []) c.1)
@@ -51,17 +53,18 @@ greatest-covers of f m (y ∷ ys) h =
 
 -- ---- the components
 
-in-range : (width height h v : ℕ) (c : Factors) → IsInRange c → HasFactors (component_of width height h v c)
+in-range : (width height h v : ℕ) (c : Factors) → IsInRange c → HasSampling (component_of width height h v c)
 unfolding component_of
 in-range width height h v c p = record {
   horizontal_some = p.horizontal_some;
   horizontal_most = p.horizontal_most;
   vertical_some = p.vertical_some;
   vertical_most = p.vertical_most;
+  scale_most = omega arith;
 }
 
-pub all-in-range : (width height h v : ℕ) (xs : List Factors) → All IsInRange xs → AllHaveFactors (map (component_of width height h v) xs)
-unfolding AllHaveFactors
+pub all-in-range : (width height h v : ℕ) (xs : List Factors) → All IsInRange xs → AllHaveSampling (map (component_of width height h v) xs)
+unfolding AllHaveSampling
 all-in-range width height h v [] p = tt
 all-in-range width height h v (x ∷ xs) p =
     (in-range width height h v x (All-head IsInRange x xs p), all-in-range width height h v xs (All-tail IsInRange x xs p))

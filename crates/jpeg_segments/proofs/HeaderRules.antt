@@ -1,5 +1,6 @@
 -- A scan header that is written keeps the rules of scans.
-use Rattle.std.proofs.Common.{◌≡◌, ℕ, suc, ◌≤◌, ◌<◌, ◌+◌, ◌-◌, ◌/◌, ◌%◌, Bool, true, false, List, [], ◌∷◌, map, length, All, Some, refl, sym, ap, ◌∙◌, subst, arith, eqb}
+use Rattle.std.proofs.Common.{◌≡◌, ℕ, suc, ◌≤◌, ◌<◌, ◌+◌, ◌-◌, ◌/◌, ◌%◌, Bool, true, false, List, [], ◌∷◌, map, length}
+use Rattle.std.proofs.Common.{All, Some, refl, sym, ap, ◌∙◌, subst, arith, eqb}
 use Rattle.std.proofs.lemmas.Bool.{ltb-true}
 use Rattle.std.proofs.lemmas.Bool.Decides.{nat_tests}
 use Rattle.std.proofs.lemmas.List.Elements.{All-cons, All-nil}
@@ -8,14 +9,15 @@ use Rattle.jpeg_segments.specs.declared.parser.CodingProcess.{CodingProcess}
 use Rattle.jpeg_segments.specs.declared.parser.CodingProcess.TheVariants.{DctSequential, DctProgressive, Lossless}
 use Rattle.jpeg_segments.specs.Frame.{Frame, Component}
 use Rattle.jpeg_segments.specs.HuffmanTables.{greatest_place}
-use Rattle.jpeg_segments.specs.ScanHeader.{place_of, is_band, behind_of, scan_of, IsCoded, IsRising, IsSelectorOf, IsScanOf}
+use Rattle.jpeg_segments.specs.ScanHeader.{place_of, is_band, after_of, scan_of, IsCoded, IsRising, IsSelectorOf}
+use Rattle.jpeg_segments.specs.ScanHeader.{IsScanOf}
 use Rattle.jpeg_segments.proofs.ScanLemmas.{is-scan, legal-again}
 use Rattle.jpeg_segments.specs.WrittenSegments.{nibbles}
 use Rattle.jpeg_segments.specs.ScanHeaders.{Choice, ScanHeader, selector_of, IsChoice, AreChoices, IsScan, scan_written}
 use Rattle.jpeg_segments.proofs.Fields.{nibbles-high, nibbles-low}
 
 coded-by : (p : CodingProcess) (count first last high low : ℕ) → is_band p count first last high low ≡ true
-    → IsCoded p first (behind_of p last) high low
+    → IsCoded p first (after_of p last) high low
 coded-by DctSequential count first last high low e = grind (arith, nat_tests)
 coded-by DctProgressive count first last high low e = grind (arith, nat_tests)
 coded-by Lossless count first last high low e = grind (arith, nat_tests)
@@ -66,15 +68,15 @@ header-rules frame h is =
     let most = is.most in
     let high : nibbles h.high h.low / 16 ≡ h.high = nibbles-high h.high h.low is.narrow in
     let low : nibbles h.high h.low % 16 ≡ h.low = nibbles-low h.high h.low is.narrow in
-    let coded = subst (λ (x : ℕ). IsCoded frame.process h.first (behind_of frame.process h.last)
+    let coded = subst (λ (x : ℕ). IsCoded frame.process h.first (after_of frame.process h.last)
     (nibbles h.high h.low / 16) x) (sym low)
-    (subst (λ (x : ℕ). IsCoded frame.process h.first (behind_of frame.process h.last) x h.low) (sym high)
+    (subst (λ (x : ℕ). IsCoded frame.process h.first (after_of frame.process h.last) x h.low) (sym high)
     (coded-by frame.process (length h.choices) h.first h.last h.high h.low is.band)) in
-    let band = ap (λ (x : ℕ). is_band frame.process x h.first (behind_of frame.process h.last - 1)
+    let band = ap (λ (x : ℕ). is_band frame.process x h.first (after_of frame.process h.last - 1)
     (nibbles h.high h.low / 16) (nibbles h.high h.low % 16)) count
-    ∙ ap (λ (x : ℕ). is_band frame.process (length h.choices) h.first (behind_of frame.process h.last - 1) x
+    ∙ ap (λ (x : ℕ). is_band frame.process (length h.choices) h.first (after_of frame.process h.last - 1) x
     (nibbles h.high h.low % 16)) high
-    ∙ ap (λ (x : ℕ). is_band frame.process (length h.choices) h.first (behind_of frame.process h.last - 1) h.high x) low
+    ∙ ap (λ (x : ℕ). is_band frame.process (length h.choices) h.first (after_of frame.process h.last - 1) h.high x) low
     ∙ legal-again frame.process (length h.choices) h.first h.last h.high h.low is.band in
     is-scan frame (map (selector_of frame) h.choices) (scan_written frame h) (omega arith) (omega arith)
     (all-select frame 0 h.choices is.choices)

@@ -1,13 +1,20 @@
 -- Frame headers and scan headers that were written are read again.
-use Rattle.std.proofs.Common.{◌≡◌, ℕ, zero, suc, ◌≤◌, ◌<◌, ◌+◌, ◌*◌, ◌/◌, ◌%◌, Bool, true, false, List, [], ◌∷◌, ◌++◌, map, length, length-append, append-nil, Some, Ok, Err, refl, sym, ap, ◌∙◌, append_assoc, arith, eqb, ltb}
+use Rattle.std.proofs.Common.{◌≡◌, ℕ, zero, suc, ◌≤◌, ◌<◌, ◌+◌, ◌*◌, ◌/◌, ◌%◌, Bool, true, false, List, [], ◌∷◌, ◌++◌}
+use Rattle.std.proofs.Common.{map, length, length-append, append-nil, Some, Ok, Err, refl, sym, ap, ◌∙◌, append_assoc}
+use Rattle.std.proofs.Common.{arith, eqb, ltb}
 use Rattle.std.proofs.lemmas.Bool.{le-ltb, le-leb, eq-eqb, ne_eqb}
 use Rattle.std.specs.Prelude.{flat_map, if◌then◌else◌}
 use Rattle.jpeg_bits.specs.Reading.{Outcome, Malformed, ◌>>=◌, next_byte, next_u16}
-use Rattle.jpeg_segments.specs.Frame.{Factors, IsInRange, Frame, Head, frame_of, is_factor, is_place, is_lossless, is_precision, is_count, parameters_at, factors_at, components_from, size_at, head_at, sof_at}
+use Rattle.jpeg_segments.specs.Frame.{Factors, IsInRange, Frame, Head, frame_of, is_factor, is_place, is_lossless}
+use Rattle.jpeg_segments.specs.Frame.{is_precision, is_count, parameters_at, factors_at, components_from, size_at}
+use Rattle.jpeg_segments.specs.Frame.{head_at, sof_at}
 use Rattle.jpeg_segments.specs.HuffmanTables.{greatest_place}
-use Rattle.jpeg_segments.specs.ScanHeader.{Selector, tables_at, selector_at, selectors_from, is_mcu, is_band, band_at, count_at, sos_at}
-use Rattle.jpeg_segments.specs.WrittenSegments.{u16_bytes, sized, nibbles, FrameHeader, factors_bytes, frame_payload, AreComponents, IsFrame}
-use Rattle.jpeg_segments.specs.ScanHeaders.{Choice, ScanHeader, choice_bytes, scan_payload, selector_of, IsChoice, AreChoices, IsScan, scan_written}
+use Rattle.jpeg_segments.specs.ScanHeader.{Selector, tables_at, selector_at, selectors_from, is_mcu, is_band, band_at}
+use Rattle.jpeg_segments.specs.ScanHeader.{count_at, sos_at}
+use Rattle.jpeg_segments.specs.WrittenSegments.{u16_bytes, sized, nibbles, FrameHeader, factors_bytes, frame_payload}
+use Rattle.jpeg_segments.specs.WrittenSegments.{AreComponents, IsFrame}
+use Rattle.jpeg_segments.specs.ScanHeaders.{Choice, ScanHeader, choice_bytes, scan_payload, selector_of, IsChoice}
+use Rattle.jpeg_segments.specs.ScanHeaders.{AreChoices, IsScan, scan_written}
 use Rattle.jpeg_segments.proofs.Fields.{read-on, not-refused, kept, u16-read, sized-read, nibbles-high, nibbles-low}
 
 -- ---- frame headers
@@ -78,7 +85,7 @@ head_of h = record {
   count = length h.components;
 }
 
--- what stands behind the length
+-- what stands after the length
 abbrev fields_at : ℕ → ℕ → List ℕ → Outcome Head
 fields_at number left bytes = do
   precision ← next_byte bytes
@@ -114,11 +121,11 @@ fields-read : (number left : ℕ) (h : FrameHeader) (rest : List ℕ) → IsFram
     )
 unfolding frame_payload
 fields-read number left h rest is e =
-    let behind = flat_map factors_bytes h.components ++ rest in
+    let after = flat_map factors_bytes h.components ++ rest in
     kept (is_precision number h.precision) _ (Err Malformed) is.precise
-    ∙ read-on (size_at (u16_bytes h.height ++ (u16_bytes h.width ++ (length h.components ∷ behind)))) _
-    (h.width, h.height) (length h.components ∷ behind) _
-    (size-read h.width h.height (length h.components ∷ behind) is.wide is.high)
+    ∙ read-on (size_at (u16_bytes h.height ++ (u16_bytes h.width ++ (length h.components ∷ after)))) _
+    (h.width, h.height) (length h.components ∷ after) _
+    (size-read h.width h.height (length h.components ∷ after) is.wide is.high)
     (kept (is_count number (length h.components)) _ (Err Malformed) is.counted
     ∙ kept (eqb left (6 + 3 * length h.components)) _ (Err Malformed) (eq-eqb left (6 + 3 * length h.components) e))
 
@@ -138,9 +145,9 @@ pub sof-read : (number : ℕ) (h : FrameHeader) (rest : List ℕ) → IsFrame nu
     ≡ Ok (frame_of number h.precision h.width h.height h.components, rest)
 unfolding sof_at
 sof-read number h rest is =
-    let behind = flat_map factors_bytes h.components ++ rest in
-    read-on (head_at number (sized (frame_payload h) ++ rest)) _ (head_of h) behind _ (head-read number h rest is)
-    (read-on (components_from (is_lossless number) (length h.components) [] behind) _ h.components rest _
+    let after = flat_map factors_bytes h.components ++ rest in
+    read-on (head_at number (sized (frame_payload h) ++ rest)) _ (head_of h) after _ (head-read number h rest is)
+    (read-on (components_from (is_lossless number) (length h.components) [] after) _ h.components rest _
     (components-read number [] h.components rest is.components) refl)
 
 -- ---- scan headers
@@ -197,15 +204,15 @@ unfolding scan_payload
 scan-length h = omega
     (arith, choices-length h.choices, length-append (flat_map choice_bytes h.choices) (levels_bytes h))
 
-abbrev count_behind : ℕ → List ℕ → Outcome ℕ
-count_behind left bytes = do
+abbrev count_after : ℕ → List ℕ → Outcome ℕ
+count_after left bytes = do
   count ← next_byte bytes
   if eqb count.0 0 then Err Malformed else (if ltb 4 count.0 then Err Malformed else (
       if eqb left (4 + 2 * count.0) then Ok (count.0, count.1) else Err Malformed))
 
 components-count : (left : ℕ) (h : ScanHeader) (rest : List ℕ) → 1 ≤ length h.choices → length h.choices ≤ 4
     → left ≡ 4 + 2 * length h.choices
-    → count_behind left (scan_payload h ++ rest)
+    → count_after left (scan_payload h ++ rest)
     ≡ Ok (length h.choices, (flat_map choice_bytes h.choices ++ levels_bytes h) ++ rest)
 unfolding scan_payload
 components-count left h rest some most e =

@@ -1,16 +1,19 @@
 -- Steps of the parser of Huffman tables.
-use Rattle.std.proofs.Common.{◌≡◌, ℕ, zero, suc, ◌-◌, ◌<◌, ◌≤◌, Bool, true, false, List, refl, ◌∙◌, Result, Ok, Err, arith, eqb, ltb}
+use Rattle.std.proofs.Common.{◌≡◌, ℕ, zero, suc, ◌-◌, ◌<◌, ◌≤◌, Bool, true, false, List, refl, ◌∙◌, Result, Ok, Err}
+use Rattle.std.proofs.Common.{arith, eqb, ltb}
 use Rattle.std.proofs.lemmas.Bool.Decides.{nat_tests}
 use Rattle.std.specs.Prelude.{if◌then◌else◌, sum, IfOk, IfErr}
 use Rattle.jpeg_bits.specs.Stream.{Stream}
-use Rattle.jpeg_bits.specs.Reading.{Fault, Malformed, Outcome, Answers, MayFail, Names, NamesFormat, ◌>>=◌, times, next_byte}
+use Rattle.jpeg_bits.specs.Reading.{Fault, Malformed, Outcome, Answers, MayFail, Names, NamesFormat, ◌>>=◌, times}
+use Rattle.jpeg_bits.specs.Reading.{next_byte}
 use Rattle.jpeg_bits.specs.Codes.{Table, HasCodes, RefusesCodes, codes_exist, code_lengths}
 use Rattle.jpeg_bits.specs.declared.codes.HuffmanTableClass.{HuffmanTableClass}
 use Rattle.jpeg_bits.specs.declared.error.Error.{Error}
 use Rattle.jpeg_bits.specs.declared.error.Error.TheVariants as errors
 use Rattle.jpeg_bits.proofs.Loops.{Continues, still_known}
 use Rattle.jpeg_bits.proofs.Tables.{exist-tested, tested-exist}
-use Rattle.jpeg_segments.specs.HuffmanTables.{Tables, PlacedTable, size_of, symbols_at, with_table, tables_from, placed_codes_at}
+use Rattle.jpeg_segments.specs.HuffmanTables.{Tables, PlacedTable, size_of, symbols_at, with_table, tables_from}
+use Rattle.jpeg_segments.specs.HuffmanTables.{placed_codes_at}
 
 MayFail-format : (e : Error) (a b : Bool) → NamesFormat e → b ≡ a → MayFail e a b
 MayFail-format (errors.Format text) a b n h = h

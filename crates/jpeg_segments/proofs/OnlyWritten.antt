@@ -1,11 +1,18 @@
 -- What is accepted of bytes was written: segments between scans.
-use Rattle.std.proofs.Common.{◌≡◌, ℕ, zero, suc, ◌≤◌, ◌<◌, ◌+◌, ◌-◌, ◌*◌, ◌/◌, ◌%◌, Bool, true, false, cond, List, [], ◌∷◌, ◌++◌, length, take, get_or, length-append, Option, Some, None, Result, Ok, Err, refl, sym, ap, ap₂, ◌∙◌, subst, append_assoc, append-nil, arith, eqb, ltb}
-use Rattle.std.proofs.lemmas.Bool.{eqb-true, eqb-false, ltb-true, ltb-false, lt-ltb, le-ltb, leb-true, not-true, and_parts}
+use Rattle.std.proofs.Common.{◌≡◌, ℕ, zero, suc, ◌≤◌, ◌<◌, ◌+◌, ◌-◌, ◌*◌, ◌/◌, ◌%◌, Bool, true, false, cond, List, []}
+use Rattle.std.proofs.Common.{◌∷◌, ◌++◌, length, take, get_or, length-append, Option, Some, None, Result, Ok, Err, refl}
+use Rattle.std.proofs.Common.{sym, ap, ap₂, ◌∙◌, subst, append_assoc, append-nil, arith, eqb, ltb}
+use Rattle.std.proofs.lemmas.Bool.{eqb-true, eqb-false, ltb-true, ltb-false, lt-ltb, le-ltb, leb-true, not-true}
+use Rattle.std.proofs.lemmas.Bool.{and_parts}
 use Rattle.std.specs.Prelude.{not, map}
-use Rattle.jpeg_segments.specs.ScanHeader.{Scan, Selector, place_of, blocks_by, tables_at, tables_by, selector_at, selectors_from, is_mcu, is_band, scan_of, band_at, count_at, sos_at}
-use Rattle.jpeg_segments.specs.ScanHeaders.{Choice, ScanHeader, choice_bytes, scan_payload, selector_of, IsChoice, AreChoices, IsScan, scan_written}
+use Rattle.jpeg_segments.specs.ScanHeader.{Scan, Selector, place_of, blocks_by, tables_at, tables_by, selector_at}
+use Rattle.jpeg_segments.specs.ScanHeader.{selectors_from, is_mcu, is_band, scan_of, band_at, count_at, sos_at}
+use Rattle.jpeg_segments.specs.ScanHeaders.{Choice, ScanHeader, choice_bytes, scan_payload, selector_of, IsChoice}
+use Rattle.jpeg_segments.specs.ScanHeaders.{AreChoices, IsScan, scan_written}
 use Rattle.std.proofs.Common.{leb}
-use Rattle.jpeg_segments.specs.Frame.{Factors, IsInRange, Frame, Head, frame_of, is_factor, is_place, is_lossless, is_taken, is_precision, is_count, parameters_at, factors_at, components_from, size_at, head_at, sof_at}
+use Rattle.jpeg_segments.specs.Frame.{Factors, IsInRange, Frame, Head, frame_of, is_factor, is_place, is_lossless}
+use Rattle.jpeg_segments.specs.Frame.{is_taken, is_precision, is_count, parameters_at, factors_at, components_from}
+use Rattle.jpeg_segments.specs.Frame.{size_at, head_at, sof_at}
 use Rattle.std.proofs.lemmas.List.{take-append-le, take_all, get_or_append_left}
 use Rattle.std.specs.Prelude.{flat_map, is_some, if◌then◌else◌, sum}
 use Rattle.std.specs.List.{AllByRecursion, list_any}
@@ -14,12 +21,17 @@ use Rattle.jpeg_bits.specs.Codes.{Table, code_lengths, codes_exist}
 use Rattle.jpeg_bits.specs.declared.codes.HuffmanTableClass.{HuffmanTableClass}
 use Rattle.jpeg_bits.proofs.Tables.{tested-exist}
 use Rattle.jpeg_segments.specs.declared.parser.AdobeColorTransform.{AdobeColorTransform}
-use Rattle.jpeg_segments.specs.Application.{Application, Adobe, application_by, begins_with, adobe_name, transform_by, passed_over, adobe_by, adobe_at, application_14, payload_at, app_at, dri_at}
+use Rattle.jpeg_segments.specs.Application.{Application, Adobe, application_by, begins_with, adobe_name, transform_by}
+use Rattle.jpeg_segments.specs.Application.{passed_over, adobe_by, adobe_at, application_14, payload_at, app_at, dri_at}
 use Rattle.std.specs.Prelude.{option_map}
 use Rattle.jpeg_segments.specs.Quantization as quantization
 use Rattle.jpeg_segments.specs.Quantization.{value_at, table_at, table_size, placed_table_at, dqt_at}
-use Rattle.jpeg_segments.specs.HuffmanTables.{Tables, PlacedTable, size_of, class_of, with_table, greatest_place, symbols_at, codes_at, placed_codes_at, tables_from, dht_at}
-use Rattle.jpeg_segments.specs.WrittenSegments.{u16_bytes, sized, nibbles, QuantizationTable, IsQuantizationTable, value_bytes, quantization_bytes, quantization_tables, IsHuffmanTable, class_number, huffman_bytes, huffman_tables, is_adobe, said_by, FrameHeader, factors_bytes, frame_payload, IsComponent, AreComponents}
+use Rattle.jpeg_segments.specs.HuffmanTables.{Tables, PlacedTable, size_of, class_of, with_table, greatest_place}
+use Rattle.jpeg_segments.specs.HuffmanTables.{symbols_at, codes_at, placed_codes_at, tables_from, dht_at}
+use Rattle.jpeg_segments.specs.WrittenSegments.{u16_bytes, sized, nibbles, QuantizationTable, IsQuantizationTable}
+use Rattle.jpeg_segments.specs.WrittenSegments.{value_bytes, quantization_bytes, quantization_tables, IsHuffmanTable}
+use Rattle.jpeg_segments.specs.WrittenSegments.{class_number, huffman_bytes, huffman_tables, is_adobe, said_by}
+use Rattle.jpeg_segments.specs.WrittenSegments.{FrameHeader, factors_bytes, frame_payload, IsComponent, AreComponents}
 use Rattle.jpeg_segments.proofs.TableSegments.{table-length, codes-length, with_values}
 use Rattle.std.proofs.Common.{fold, set}
 
@@ -406,19 +418,19 @@ codes-only left class bytes rest t all e =
     let four = kept-if (codes_exist (code_lengths counts)) _ Malformed (t, rest) s.2 in
     let same = ok-same (record { class = class; counts = counts; symbols = s.0.0 }, s.0.1) (t, rest) four.1 in
     let front = bytes-only 16 bytes c.0.1 counts all c.1 in
-    let behind = bytes-only (sum counts) c.0.1 s.0.1 s.0.0 front.1.others s.1 in
+    let after = bytes-only (sum counts) c.0.1 s.0.1 s.0.0 front.1.others s.1 in
     let left_is : s.0.1 ≡ rest = ap (λ q. q.1) same in
     let none = eqb-false (sum counts) 0 one.0 in
     let it : CodesSo left class bytes rest (record { class = class; counts = counts; symbols = s.0.0 }) = record {
       classed = refl;
       counted = front.0;
-      has_symbols = behind.0;
+      has_symbols = after.0;
       some = grind (arith, none);
       at_most = ltb-false 256 (sum counts) two.0;
       room = ltb-false left (17 + sum counts) three.0;
       exists = tested-exist (code_lengths counts) four.0;
       begins = begins-more counts s.0.0 bytes c.0.1 rest front.1
-          (subst (λ (l : List ℕ). Begins s.0.0 c.0.1 l) left_is behind.1);
+          (subst (λ (l : List ℕ). Begins s.0.0 c.0.1 l) left_is after.1);
     } in
     subst (CodesSo left class bytes rest) (ap (λ q. q.0) same) it
 
@@ -543,7 +555,7 @@ dht-only is_baseline bytes rest new all e =
 
 -- ---- application data
 
--- a payload of so many bytes, and what it says
+-- a payload of this many bytes, and what it says
 pub record SaysSo (Says : List ℕ → Type 0) (left : ℕ) (bytes rest : List ℕ) : Type 0 where
   pub payload : List ℕ
   pub counted : length payload ≡ left
@@ -595,12 +607,12 @@ by-only left None found bytes rest all e = absurd (err-ok _ _ e)
 by-only left (Some t) found bytes rest all e = let p =
     passed-only left (Some (Adobe t)) found bytes rest all e in (p.0, (refl, p.1))
 
-behind-twelve : (left : ℕ) (head bytes between rest : List ℕ) (said : Option Application) → 12 ≤ left
+after-twelve : (left : ℕ) (head bytes between rest : List ℕ) (said : Option Application) → 12 ≤ left
     → length head ≡ 12 → Begins head bytes between → Passed (left - 12) between rest
     → (said ≡ cond (begins_with head adobe_name) (option_map Adobe (transform_by (get_or head 11 0))) None)
     × (begins_with head adobe_name ≡ true → is_some (transform_by (get_or head 11 0)) ≡ true)
     → SaysSo (AdobeSo said) left bytes rest
-behind-twelve left head bytes between rest said enough h b p so = record {
+after-twelve left head bytes between rest said enough h b p so = record {
   payload = head ++ p.xs;
   counted = let c = p.counted in omega (arith, length-append head p.xs);
   begins = begins-more head p.xs bytes between rest b p.begins;
@@ -621,14 +633,14 @@ adobe-only left bytes rest said all enough e =
         (passed_over (left - 12) None between) ≡ Ok (said, rest) → SaysSo (AdobeSo said) left bytes rest
     go head between h b true t e =
         let p = by-only (left - 12) (transform_by (get_or head 11 0)) said between rest b.others e in
-        behind-twelve left head bytes between rest said enough h b p.1.1 (
+        after-twelve left head bytes between rest said enough h b p.1.1 (
           sym p.0 ∙ sym (ap (λ (x : Bool). cond x (option_map Adobe (transform_by (get_or head 11 0))) None) t),
           λ q.
               p.1.0,
         )
     go head between h b false t e =
         let p = passed-only (left - 12) None said between rest b.others e in
-        behind-twelve left head bytes between rest said enough h b p.1 (
+        after-twelve left head bytes between rest said enough h b p.1 (
           sym p.0 ∙ sym (ap (λ (x : Bool). cond x (option_map Adobe (transform_by (get_or head 11 0))) None) t),
           λ q.
               absurd (let n : true ≡ false = sym q ∙ t in (let m : ⊥ = cc in m)),
@@ -674,10 +686,10 @@ pub record ApplicationIs (number : ℕ) (bytes rest : List ℕ) (said : Option A
   pub says : ApplicationSo number said payload
   pub begins : Begins (sized payload) bytes rest
 
-sized-behind : (number : ℕ) (said : Option Application) (left : ℕ) (bytes between rest : List ℕ)
+sized-after : (number : ℕ) (said : Option Application) (left : ℕ) (bytes between rest : List ℕ)
     → Begins (u16_bytes (left + 2)) bytes between → SaysSo (ApplicationSo number said) left between rest
     → ApplicationIs number bytes rest said
-sized-behind number said left bytes between rest front p = record {
+sized-after number said left bytes between rest front p = record {
   payload = p.payload;
   says = p.says;
   begins = record {
@@ -693,7 +705,7 @@ unfolding app_at payload_at said_by
 app-only number bytes rest said all e =
     let one = bind-ok (length_at bytes) _ (said, rest) e in
     let front = length-only bytes one.0.1 one.0.0 all one.1 in
-    sized-behind number said one.0.0 bytes one.0.1 rest front
+    sized-after number said one.0.0 bytes one.0.1 rest front
     (go one.0.0 one.0.1 front.others (eqb number 14) refl one.2)
   where
     go : (left : ℕ) (between : List ℕ) → AreBytes between → (b : Bool) → eqb number 14 ≡ b
@@ -739,7 +751,7 @@ factor-only n e =
     let some = eqb-false n 0 (not-true (eqb n 0) p.0) in
     (grind (arith, some), leb-true n 4 p.1)
 
--- a component that is read, behind its identifier
+-- a component that is read, after its identifier
 record ParametersSo (lossless : Bool) (identifier : ℕ) (bytes rest : List ℕ) (c : Factors) : Type 0 where
   named : c.identifier ≡ identifier
   ranged : IsInRange c

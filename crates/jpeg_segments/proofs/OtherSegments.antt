@@ -1,11 +1,14 @@
 -- Restart intervals, application data and comments that were written are read again.
-use Rattle.std.proofs.Common.{◌≡◌, ℕ, ◌≤◌, ◌-◌, Bool, true, false, cond, List, ◌++◌, length, take, drop, get_or, length-take, length-drop, take-append-drop, Option, Some, None, Ok, refl, sym, ap, ◌∙◌, subst, append_assoc, arith, eqb, ltb}
+use Rattle.std.proofs.Common.{◌≡◌, ℕ, ◌≤◌, ◌-◌, Bool, true, false, cond, List, ◌++◌, length, take, drop, get_or}
+use Rattle.std.proofs.Common.{length-take, length-drop, take-append-drop, Option, Some, None, Ok, refl, sym, ap, ◌∙◌}
+use Rattle.std.proofs.Common.{subst, append_assoc, arith, eqb, ltb}
 use Rattle.std.proofs.lemmas.Bool.{lt-ltb, le-ltb, eq-eqb, ne_eqb, ltb-true, ltb-false}
 use Rattle.std.proofs.lemmas.List.{get_or-take}
 use Rattle.std.specs.Prelude.{is_some, option_map, if◌then◌else◌}
 use Rattle.jpeg_bits.specs.Reading.{next_byte, times, skip_at}
 use Rattle.jpeg_segments.specs.declared.parser.AdobeColorTransform.{AdobeColorTransform}
-use Rattle.jpeg_segments.specs.Application.{Application, Adobe, application_by, begins_with, adobe_name, transform_by, passed_over, adobe_by, adobe_at, application_14, payload_at, app_at, dri_at}
+use Rattle.jpeg_segments.specs.Application.{Application, Adobe, application_by, begins_with, adobe_name, transform_by}
+use Rattle.jpeg_segments.specs.Application.{passed_over, adobe_by, adobe_at, application_14, payload_at, app_at, dri_at}
 use Rattle.jpeg_segments.specs.WrittenSegments.{u16_bytes, sized, is_adobe, said_by, IsApplication}
 use Rattle.jpeg_segments.proofs.Fields.{read-on, u16-read, sized-read, bytes-read, skip-read}
 

@@ -7,8 +7,10 @@ use Rattle.jpeg_bits.specs.declared.error.UnsupportedFeature.TheVariants.{DNL}
 use Rattle.jpeg_bits.specs.declared.scan.Predictor.TheVariants.{NoPrediction}
 use Rattle.jpeg_segments.specs.declared.parser.CodingProcess.TheVariants.{DctSequential, DctProgressive}
 use Rattle.jpeg_segments.specs.declared.parser.EntropyCoding.TheVariants.{Huffman}
-use Rattle.jpeg_segments.specs.Frame.{Frame, sof_at, head_at, size_at, components_from, factors_at, parameters_at, frame_of, component_of}
-use Rattle.jpeg_segments.specs.Application.{Exif, Adobe, app_at, payload_at, application_by, application_1, application_14, adobe_at, com_at, dri_at}
+use Rattle.jpeg_segments.specs.Frame.{Frame, sof_at, head_at, size_at, components_from, factors_at, parameters_at}
+use Rattle.jpeg_segments.specs.Frame.{frame_of, component_of}
+use Rattle.jpeg_segments.specs.Application.{Exif, Adobe, app_at, payload_at, application_by, application_1}
+use Rattle.jpeg_segments.specs.Application.{application_14, adobe_at, com_at, dri_at}
 use Rattle.jpeg_segments.specs.declared.parser.AdobeColorTransform.TheVariants.{YCbCr}
 use Rattle.jpeg_segments.specs.HuffmanTables.{dht_at, tables_from, placed_codes_at, codes_at, symbols_at}
 use Rattle.jpeg_segments.specs.ScanHeader.{sos_at, count_at, selectors_from, selector_at, tables_at, band_at, scan_of}
@@ -66,7 +68,7 @@ unfolding dht_at tables_from placed_codes_at length_at next_u16
 place-row = refl
 
 -- a scan of the frame's component, by DC table 0 and AC table 1; the last place of 0 is read as 63
-scan-row : sos_at frame (0 ∷ 8 ∷ 1 ∷ 1 ∷ 1 ∷ 0 ∷ 0 ∷ 0 ∷ 255 ∷ []) ≡ Ok (record { components = 0 ∷ []; dc_places = 0 ∷ []; ac_places = 1 ∷ []; first = 0; behind = 64; predictor = NoPrediction; high = 0; low = 0; point_transform = 0 }, 255 ∷ [])
+scan-row : sos_at frame (0 ∷ 8 ∷ 1 ∷ 1 ∷ 1 ∷ 0 ∷ 0 ∷ 0 ∷ 255 ∷ []) ≡ Ok (record { components = 0 ∷ []; dc_places = 0 ∷ []; ac_places = 1 ∷ []; first = 0; after = 64; predictor = NoPrediction; high = 0; low = 0; point_transform = 0 }, 255 ∷ [])
 unfolding sos_at count_at selectors_from selector_at tables_at band_at scan_of length_at next_u16
 scan-row = refl
 
@@ -106,7 +108,7 @@ unfolding sof_at head_at size_at components_from factors_at parameters_at length
 repeated-row = refl
 
 -- the first scan of the DC coefficients of all components
-dc-row : sos_at three (0 ∷ 12 ∷ 3 ∷ 1 ∷ 0 ∷ 2 ∷ 17 ∷ 3 ∷ 17 ∷ 0 ∷ 0 ∷ 1 ∷ []) ≡ Ok (record { components = 0 ∷ 1 ∷ 2 ∷ []; dc_places = 0 ∷ 1 ∷ 1 ∷ []; ac_places = 0 ∷ 1 ∷ 1 ∷ []; first = 0; behind = 1; predictor = NoPrediction; high = 0; low = 1; point_transform = 1 }, [])
+dc-row : sos_at three (0 ∷ 12 ∷ 3 ∷ 1 ∷ 0 ∷ 2 ∷ 17 ∷ 3 ∷ 17 ∷ 0 ∷ 0 ∷ 1 ∷ []) ≡ Ok (record { components = 0 ∷ 1 ∷ 2 ∷ []; dc_places = 0 ∷ 1 ∷ 1 ∷ []; ac_places = 0 ∷ 1 ∷ 1 ∷ []; first = 0; after = 1; predictor = NoPrediction; high = 0; low = 1; point_transform = 1 }, [])
 unfolding sos_at count_at selectors_from selector_at tables_at band_at scan_of length_at next_u16
 dc-row = refl
 
@@ -122,7 +124,7 @@ exif-row : app_at 1 (0 ∷ 11 ∷ 69 ∷ 120 ∷ 105 ∷ 102 ∷ 0 ∷ 0 ∷ 1 �
 unfolding app_at payload_at application_by application_1 times length_at next_u16
 exif-row = refl
 
--- an Adobe segment with a byte behind its transform
+-- an Adobe segment with a byte after its transform
 adobe-row : app_at 14 (0 ∷ 15 ∷ 65 ∷ 100 ∷ 111 ∷ 98 ∷ 101 ∷ 0 ∷ 100 ∷ 0 ∷ 0 ∷ 0 ∷ 0 ∷ 1 ∷ 9 ∷ 255 ∷ []) ≡ Ok (Some (Adobe YCbCr), 255 ∷ [])
 unfolding app_at application_14 adobe_at times skip_at length_at next_u16
 adobe-row = refl

@@ -1,5 +1,6 @@
 -- Frames at scales.
-use Rattle.std.proofs.Common.{◌≡◌, ◌≤◌, ◌<◌, ℕ, zero, suc, ◌+◌, ◌*◌, List, [], ◌∷◌, map, length, get_or, set, Bool, true, false, All, refl, ap, ap₂, sym, ◌∙◌, subst, arith}
+use Rattle.std.proofs.Common.{◌≡◌, ◌≤◌, ◌<◌, ℕ, zero, suc, ◌+◌, ◌*◌, List, [], ◌∷◌, map, length, get_or, set, Bool}
+use Rattle.std.proofs.Common.{true, false, All, refl, ap, ap₂, sym, ◌∙◌, subst, arith}
 use Rattle.std.specs.Prelude.{◌==◌, ◌||◌, if◌then◌else◌}
 use Rattle.std.proofs.lemmas.Bool.{eqb-true}
 use Rattle.std.proofs.lemmas.List.{length-map, map-set, get_or-map}
@@ -7,9 +8,11 @@ use Rattle.std.proofs.lemmas.List.Elements.{All-cons, All-get_or, All-nil}
 use Rattle.jpeg_segments.specs.declared.parser.Component.{Component as Seen}
 use Rattle.jpeg_segments.specs.declared.parser.CodingProcess.{CodingProcess}
 use Rattle.jpeg_segments.specs.declared.parser.CodingProcess.TheVariants.{DctSequential, DctProgressive, Lossless}
-use Rattle.jpeg_segments.specs.Frame.{AllHaveFactors, Component, Factors, Frame, HasFactors, IsFrame, IsInRange, ceiling, component_of, frame_of, greatest}
+use Rattle.jpeg_segments.specs.Frame.{AllHaveSampling, Component, Factors, Frame, HasSampling, IsFrame, IsInRange}
+use Rattle.jpeg_segments.specs.Frame.{ceiling, component_of, frame_of, greatest}
 use Rattle.jpeg_segments.specs.FrameView.{component_in, factors_in}
-use Rattle.jpeg_segments.specs.Scales.{IsSizedFrame, component_at, frame_at, is_scale, reaches, scale_for, sized, sized_by}
+use Rattle.jpeg_segments.specs.Scales.{IsSizedFrame, component_at, frame_at, is_scale, reaches, scale_for, sized}
+use Rattle.jpeg_segments.specs.Scales.{sized_by}
 use Rattle.jpeg_segments.proofs.Ceilings.{ceiling-eights}
 use Rattle.jpeg_segments.proofs.FrameLemmas.{all-in-range, greatest-some}
 
@@ -19,11 +22,11 @@ pub factors-seen : (xs : List Seen) → map (λ c. c.factors) (map component_in 
 factors-seen [] = refl
 factors-seen (x ∷ xs) = ap (λ l. factors_in x ∷ l) (factors-seen xs)
 
-pub seen-in-range : (xs : List Seen) → AllHaveFactors (map component_in xs) → All IsInRange (map factors_in xs)
-unfolding AllHaveFactors
+pub seen-in-range : (xs : List Seen) → AllHaveSampling (map component_in xs) → All IsInRange (map factors_in xs)
+unfolding AllHaveSampling
 seen-in-range [] h = All-nil IsInRange
 seen-in-range (x ∷ xs) h =
-    let p : HasFactors (component_in x) = h.0 in
+    let p : HasSampling (component_in x) = h.0 in
     All-cons IsInRange (factors_in x) (map factors_in xs)
     (record {
       horizontal_some = p.horizontal_some;
@@ -33,7 +36,7 @@ seen-in-range (x ∷ xs) h =
     })
     (seen-in-range xs h.1)
 
--- ---- the first so many of a list changed
+-- ---- the first ones of a list changed
 
 unfoldable pub changed : (Component → Component) → ℕ → List Component → List Component
 changed f n [] = []
@@ -267,41 +270,42 @@ frames_are_sized f p = record {
 -- ---- factors
 
 read-have-factors : (number precision width height : ℕ) (xs : List Factors) → All IsInRange xs
-    → AllHaveFactors (frame_of number precision width height xs).components
+    → AllHaveSampling (frame_of number precision width height xs).components
 unfolding frame_of
 read-have-factors number precision width height xs range =
     all-in-range width height (greatest (λ c. c.horizontal) xs) (greatest (λ c. c.vertical) xs) xs range
 
-frames-have-factors : (f : Frame) → IsFrame f → AllHaveFactors f.components
+frames-have-factors : (f : Frame) → IsFrame f → AllHaveSampling f.components
 frames-have-factors f p =
-    subst (λ (g : Frame). AllHaveFactors g.components) (sym p.made)
+    subst (λ (g : Frame). AllHaveSampling g.components) (sym p.made)
     (read-have-factors p.number p.precision p.width p.height p.factors p.in_range)
 
-scaled-have-factors : (s width height h v : ℕ) (cs : List Component) → AllHaveFactors cs
-    → AllHaveFactors (map (component_at s width height h v) cs)
-unfolding AllHaveFactors component_at
-scaled-have-factors s width height h v [] p = tt
-scaled-have-factors s width height h v (c ∷ cs) p =
-    let q : HasFactors c = p.0 in (
+scaled-have-factors : (s width height h v : ℕ) (cs : List Component) → s ≤ 8 → AllHaveSampling cs
+    → AllHaveSampling (map (component_at s width height h v) cs)
+unfolding AllHaveSampling component_at
+scaled-have-factors s width height h v [] most p = tt
+scaled-have-factors s width height h v (c ∷ cs) most p =
+    let q : HasSampling c = p.0 in (
       record {
         horizontal_some = q.horizontal_some;
         horizontal_most = q.horizontal_most;
         vertical_some = q.vertical_some;
         vertical_most = q.vertical_most;
+        scale_most = most;
       },
-      scaled-have-factors s width height h v cs p.1,
+      scaled-have-factors s width height h v cs most p.1,
     )
 
-at-scale-have-factors : (s : ℕ) (f : Frame) → AllHaveFactors f.components → AllHaveFactors (frame_at s f).components
+at-scale-have-factors : (s : ℕ) (f : Frame) → s ≤ 8 → AllHaveSampling f.components → AllHaveSampling (frame_at s f).components
 unfolding frame_at
-at-scale-have-factors s f p =
+at-scale-have-factors s f most p =
     scaled-have-factors s f.width f.height (greatest (λ x. x.horizontal) (map (λ c. c.factors) f.components))
-    (greatest (λ x. x.vertical) (map (λ c. c.factors) f.components)) f.components p
+    (greatest (λ x. x.vertical) (map (λ c. c.factors) f.components)) f.components most p
 
-pub sized_frames_have_factors : (f : Frame) → IsSizedFrame f → AllHaveFactors f.components
+pub sized_frames_have_factors : (f : Frame) → IsSizedFrame f → AllHaveSampling f.components
 sized_frames_have_factors f p =
-    subst (λ (g : Frame). AllHaveFactors g.components) (sym p.made)
-    (at-scale-have-factors p.scale p.full (frames-have-factors p.full p.is_read))
+    subst (λ (g : Frame). AllHaveSampling g.components) (sym p.made)
+    (at-scale-have-factors p.scale p.full (scale-most p.scale p.is_scale) (frames-have-factors p.full p.is_read))
 
 -- ---- the scale that is asked for
 

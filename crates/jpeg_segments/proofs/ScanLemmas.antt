@@ -1,5 +1,7 @@
 -- Steps of the parser of scan headers.
-use Rattle.std.proofs.Common.{All, sym, true, false, ◌∙◌, ◌≡◌, ◌≤◌, ℕ, zero, suc, ◌+◌, ◌-◌, ◌*◌, ◌<◌, Bool, not, cond, List, [], ◌∷◌, ◌++◌, map, length, refl, ap, ap₂, subst, Ok, arith, get_or, nat_le, sum_by, append-nil, append_assoc}
+use Rattle.std.proofs.Common.{All, sym, true, false, ◌∙◌, ◌≡◌, ◌≤◌, ℕ, zero, suc, ◌+◌, ◌-◌, ◌*◌, ◌<◌, Bool, not, cond}
+use Rattle.std.proofs.Common.{List, [], ◌∷◌, ◌++◌, map, length, refl, ap, ap₂, subst, Ok, arith, get_or, nat_le, sum_by}
+use Rattle.std.proofs.Common.{append-nil, append_assoc}
 use Rattle.std.specs.List.{AllByRecursion, position, position_or_len}
 use Rattle.std.proofs.lemmas.List.{length-map}
 use Rattle.std.proofs.lemmas.List.Elements.{All-head, All-map, All-tail, All-weaker}
@@ -13,7 +15,8 @@ use Rattle.jpeg_segments.specs.declared.parser.Component.{Component as Seen}
 use Rattle.jpeg_segments.specs.Frame.{Component}
 use Rattle.jpeg_segments.specs.Frame as frames
 use Rattle.jpeg_segments.specs.FrameView.{component_in}
-use Rattle.jpeg_segments.specs.ScanHeader.{IsCoded, behind_of, is_band, is_mcu, IsRising, IsScanOf, IsSelectorOf, Scan, Selector, blocks_by, selector_at, selectors_from}
+use Rattle.jpeg_segments.specs.ScanHeader.{IsCoded, after_of, is_band, is_mcu, IsRising, IsScanOf, IsSelectorOf, Scan}
+use Rattle.jpeg_segments.specs.ScanHeader.{Selector, blocks_by, selector_at, selectors_from}
 
 pub selectors_from-more : (frame : frames.Frame) (n : ℕ) (front : List Selector) (least : ℕ) (bytes : List ℕ) → 0 < n
     → selectors_from frame n front least bytes
@@ -55,7 +58,7 @@ all-of P Q field f xs h = All-map Q field xs (All-weaker P (λ s. Q (field s)) f
 
 -- a band that a header may name passes the rules by the places that it stands for
 pub legal-again : (p : CodingProcess) (count first last high low : ℕ) → is_band p count first last high low ≡ true
-    → is_band p count first (behind_of p last - 1) high low ≡ true
+    → is_band p count first (after_of p last - 1) high low ≡ true
 legal-again DctSequential count first last high low e =
     go (first == 0) (last == 0 || last == 63) (high == 0 && low == 0) e
   where
@@ -157,8 +160,8 @@ pub is-scan : (frame : frames.Frame) (xs : List Selector) (s : Scan) → 1 ≤ l
     → All (IsSelectorOf frame) xs
     → IsRising 0 (map (λ x. x.component) xs) → is_mcu xs ≡ true
     → s.components ≡ map (λ x. x.component) xs → s.dc_places ≡ map (λ x. x.dc) xs → s.ac_places ≡ map (λ x. x.ac) xs
-    → IsCoded frame.process s.first s.behind s.high s.low
-    → is_band frame.process (length xs) s.first (s.behind - 1) s.high s.low ≡ true
+    → IsCoded frame.process s.first s.after s.high s.low
+    → is_band frame.process (length xs) s.first (s.after - 1) s.high s.low ≡ true
     → s.low < frame.precision → s.point_transform ≡ s.low → IsScanOf frame s
 is-scan frame xs s some most places rising mcu components dc ac coded legal below same_point =
     let count : length s.components ≡ length xs = ap length components ∙ length-map xs (λ x. x.component) in

@@ -1,5 +1,7 @@
 -- Segments of tables that were written are read again.
-use Rattle.std.proofs.Common.{◌≡◌, ℕ, zero, suc, ◌≤◌, ◌<◌, ◌+◌, ◌-◌, ◌*◌, ◌/◌, ◌%◌, Bool, true, false, List, [], ◌∷◌, ◌++◌, length, set, length-append, Option, Some, None, Ok, Err, refl, ap, ◌∙◌, subst, append_assoc, arith, eqb, fold}
+use Rattle.std.proofs.Common.{◌≡◌, ℕ, zero, suc, ◌≤◌, ◌<◌, ◌+◌, ◌-◌, ◌*◌, ◌/◌, ◌%◌, Bool, true, false, List, [], ◌∷◌}
+use Rattle.std.proofs.Common.{◌++◌, length, set, length-append, Option, Some, None, Ok, Err, refl, ap, ◌∙◌, subst}
+use Rattle.std.proofs.Common.{append_assoc, arith, eqb, fold}
 use Rattle.std.proofs.lemmas.Bool.{le-ltb, ne_eqb}
 use Rattle.std.specs.Prelude.{flat_map, sum}
 use Rattle.std.specs.List.{AllByRecursion, list_any}
@@ -10,11 +12,16 @@ use Rattle.jpeg_bits.specs.declared.codes.HuffmanTableClass.TheVariants as class
 use Rattle.jpeg_bits.proofs.Tables.{exist-tested}
 use Rattle.jpeg_segments.specs.Quantization as quantization
 use Rattle.jpeg_segments.specs.Quantization.{value_at, table_at, table_size, placed_table_at, dqt_at}
-use Rattle.jpeg_segments.specs.HuffmanTables.{Tables, PlacedTable, size_of, class_of, no_tables, with_table, greatest_place, symbols_at, codes_at, placed_codes_at, tables_from, dht_at}
+use Rattle.jpeg_segments.specs.HuffmanTables.{Tables, PlacedTable, size_of, class_of, no_tables, with_table}
+use Rattle.jpeg_segments.specs.HuffmanTables.{greatest_place, symbols_at, codes_at, placed_codes_at, tables_from}
+use Rattle.jpeg_segments.specs.HuffmanTables.{dht_at}
 use Rattle.jpeg_segments.proofs.QuantizationLemmas as quantizing
 use Rattle.jpeg_segments.proofs.HuffmanLemmas.{tables_from-more, tables_from-rest}
-use Rattle.jpeg_segments.specs.WrittenSegments.{sized, nibbles, QuantizationTable, IsQuantizationTable, value_bytes, quantization_bytes, quantization_tables, IsHuffmanTable, class_number, huffman_bytes, huffman_tables}
-use Rattle.jpeg_segments.proofs.Fields.{ReadsBytes, read-on, not-refused, kept, u16-read, sized-read, nibbles-high, nibbles-low, times-read, bytes-read}
+use Rattle.jpeg_segments.specs.WrittenSegments.{sized, nibbles, QuantizationTable, IsQuantizationTable, value_bytes}
+use Rattle.jpeg_segments.specs.WrittenSegments.{quantization_bytes, quantization_tables, IsHuffmanTable, class_number}
+use Rattle.jpeg_segments.specs.WrittenSegments.{huffman_bytes, huffman_tables}
+use Rattle.jpeg_segments.proofs.Fields.{ReadsBytes, read-on, not-refused, kept, u16-read, sized-read, nibbles-high}
+use Rattle.jpeg_segments.proofs.Fields.{nibbles-low, times-read, bytes-read}
 
 -- ---- quantization tables
 

@@ -1,9 +1,13 @@
 -- Application data (T.81, B.2.4.6), comments (B.2.4.5) and restart intervals (B.2.4.4).
-use Rattle.std.specs.Prelude.{ℕ, zero, suc, ◌-◌, List, [], ◌∷◌, ◌++◌, length, drop, slice_index, codes, Bool, ◌&&◌, Option, Some, None, Ok, Err, nat_lt, nat_eq, ◌==◌, if◌then◌else◌}
+use Rattle.std.specs.Prelude.{ℕ, zero, suc, ◌-◌, List, [], ◌∷◌, ◌++◌, length, drop, slice_index}
+use Rattle.std.specs.Prelude.{codes, Bool, ◌&&◌, Option, Some, None, Ok, Err, nat_lt, nat_eq, ◌==◌}
+use Rattle.std.specs.Prelude.{if◌then◌else◌}
 use Rattle.std.specs.List.{starts_with}
-use Rattle.jpeg_bits.specs.Reading.{Outcome, Malformed, ◌>>=◌, next_byte, next_u16, length_at, times, skip_at}
+use Rattle.jpeg_bits.specs.Reading.{Outcome, Malformed, ◌>>=◌, next_byte, next_u16, length_at}
+use Rattle.jpeg_bits.specs.Reading.{times, skip_at}
 use Rattle.jpeg_segments.specs.declared.parser.AdobeColorTransform.{AdobeColorTransform}
-use Rattle.jpeg_segments.specs.declared.parser.AdobeColorTransform.TheVariants.{Unknown, YCbCr, YCCK}
+use Rattle.jpeg_segments.specs.declared.parser.AdobeColorTransform.TheVariants.{Unknown, YCbCr}
+use Rattle.jpeg_segments.specs.declared.parser.AdobeColorTransform.TheVariants.{YCCK}
 
 -- a part of an ICC profile: its number, the number of parts, and its bytes
 pub record Chunk : Type 0 where

@@ -1,10 +1,14 @@
 -- Frame headers (T.81, B.2.2), and the sizes that they give (A.1.1, A.2).
-use Rattle.std.specs.Prelude.{ℕ, zero, suc, ◌≤◌, ◌+◌, ◌-◌, ◌*◌, ◌/◌, ◌%◌, max, List, [], ◌∷◌, ◌++◌, ◌≡◌, ◌<◌, All, Bool, not, ◌&&◌, ◌||◌, Ok, Err, nat_lt, nat_le, ◌==◌, if◌then◌else◌, map}
+use Rattle.std.specs.Prelude.{ℕ, zero, suc, ◌≤◌, ◌+◌, ◌-◌, ◌*◌, ◌/◌, ◌%◌, max, List, [], ◌∷◌, ◌++◌}
+use Rattle.std.specs.Prelude.{◌≡◌, ◌<◌, All, Bool, not, ◌&&◌, ◌||◌, Ok, Err, nat_lt, nat_le, ◌==◌}
+use Rattle.std.specs.Prelude.{if◌then◌else◌, map}
 use Rattle.std.specs.List.{list_any}
-use Rattle.jpeg_bits.specs.Reading.{Outcome, Malformed, Lacks, ◌>>=◌, next_byte, next_u16, length_at}
+use Rattle.jpeg_bits.specs.Reading.{Outcome, Malformed, Lacks, ◌>>=◌, next_byte, next_u16}
+use Rattle.jpeg_bits.specs.Reading.{length_at}
 use Rattle.jpeg_bits.specs.declared.error.UnsupportedFeature.TheVariants.{DNL}
 use Rattle.jpeg_segments.specs.declared.parser.CodingProcess.{CodingProcess}
-use Rattle.jpeg_segments.specs.declared.parser.CodingProcess.TheVariants.{DctSequential, DctProgressive, Lossless}
+use Rattle.jpeg_segments.specs.declared.parser.CodingProcess.TheVariants.{DctSequential}
+use Rattle.jpeg_segments.specs.declared.parser.CodingProcess.TheVariants.{DctProgressive, Lossless}
 use Rattle.jpeg_segments.specs.declared.parser.EntropyCoding.{EntropyCoding}
 use Rattle.jpeg_segments.specs.declared.parser.EntropyCoding.TheVariants.{Huffman, Arithmetic}
 
@@ -181,16 +185,17 @@ sof_at number bytes = do
 
 -- ---- what each frame that is read has
 
--- the sampling factors of a component are 1 to 4
-pub record HasFactors (c : Component) : Type 0 where
+-- the sampling factors of a component are 1 to 4, and a block gives at most 8 samples a side
+pub record HasSampling (c : Component) : Type 0 where
   pub horizontal_some : 1 ≤ c.factors.horizontal
   pub horizontal_most : c.factors.horizontal ≤ 4
   pub vertical_some : 1 ≤ c.factors.vertical
   pub vertical_most : c.factors.vertical ≤ 4
+  pub scale_most : c.scale ≤ 8
 
-unfoldable pub AllHaveFactors : List Component → Type 0
-AllHaveFactors [] = Unit {0}
-AllHaveFactors (c ∷ more) = HasFactors c × AllHaveFactors more
+unfoldable pub AllHaveSampling : List Component → Type 0
+AllHaveSampling [] = Unit {0}
+AllHaveSampling (c ∷ more) = HasSampling c × AllHaveSampling more
 
 -- the sampling factors that a header gives a component are 1 to 4
 pub record IsInRange (c : Factors) : Type 0 where

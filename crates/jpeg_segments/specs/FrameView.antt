@@ -6,7 +6,8 @@ use Rattle.jpeg_segments.specs.declared.frame_header.Factors.{Factors}
 use Rattle.jpeg_segments.specs.declared.parser.IccChunk.{IccChunk}
 use Rattle.jpeg_segments.specs.declared.parser.AppData.{AppData}
 use Rattle.jpeg_segments.specs.declared.parser.AppData.TheVariants as seen
-use Rattle.jpeg_segments.specs.Application.{Application, Chunk, Adobe, Jfif, Avi1, Icc, Exif, Xmp, Psir}
+use Rattle.jpeg_segments.specs.Application.{Application, Chunk, Adobe, Jfif, Avi1, Icc, Exif, Xmp}
+use Rattle.jpeg_segments.specs.Application.{Psir}
 use Rattle.jpeg_segments.specs.Frame as frames
 use Rattle.jpeg_segments.specs.ScanHeader as scans
 use Rattle.jpeg_segments.specs.ScanHeader.{Scan}
@@ -61,7 +62,7 @@ scan_in s = record {
   dc_places = s.dc_table_indices.items;
   ac_places = s.ac_table_indices.items;
   first = s.spectral_selection.start;
-  behind = s.spectral_selection.end;
+  after = s.spectral_selection.end;
   predictor = s.predictor_selection;
   high = s.successive_approximation_high;
   low = s.successive_approximation_low;

@@ -1,5 +1,6 @@
 -- Huffman tables (T.81, B.2.4.2).
-use Rattle.std.specs.Prelude.{ℕ, zero, suc, ◌+◌, ◌-◌, ◌/◌, ◌%◌, List, Bool, true, Option, Some, None, Ok, Err, nat_lt, ◌==◌, if◌then◌else◌, replicate, slice_set, sum}
+use Rattle.std.specs.Prelude.{ℕ, zero, suc, ◌+◌, ◌-◌, ◌/◌, ◌%◌, List, Bool, true, Option, Some}
+use Rattle.std.specs.Prelude.{None, Ok, Err, nat_lt, ◌==◌, if◌then◌else◌, replicate, slice_set, sum}
 use Rattle.std.specs.List.{list_all}
 use Rattle.jpeg_bits.specs.Reading.{Outcome, Malformed, ◌>>=◌, next_byte, length_at, times}
 use Rattle.jpeg_bits.specs.Codes.{Table, code_lengths, codes_exist, is_ac}

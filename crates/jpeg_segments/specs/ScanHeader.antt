@@ -1,10 +1,14 @@
 -- Scan headers (T.81, B.2.3).
-use Rattle.std.specs.Prelude.{◌≡◌, ◌≤◌, ◌<◌, ℕ, zero, suc, All, true, ◌+◌, ◌-◌, ◌*◌, ◌/◌, ◌%◌, List, [], ◌∷◌, ◌++◌, map, length, sum_by, Bool, not, ◌&&◌, ◌||◌, Option, Some, None, Ok, Err, nat_lt, nat_le, ◌==◌, if◌then◌else◌, position}
+use Rattle.std.specs.Prelude.{◌≡◌, ◌≤◌, ◌<◌, ℕ, zero, suc, All, true, ◌+◌, ◌-◌, ◌*◌, ◌/◌, ◌%◌, List}
+use Rattle.std.specs.Prelude.{[], ◌∷◌, ◌++◌, map, length, sum_by, Bool, not, ◌&&◌, ◌||◌, Option}
+use Rattle.std.specs.Prelude.{Some, None, Ok, Err, nat_lt, nat_le, ◌==◌, if◌then◌else◌, position}
 use Rattle.jpeg_bits.specs.Reading.{Outcome, Malformed, ◌>>=◌, next_byte, length_at}
 use Rattle.jpeg_bits.specs.declared.scan.Predictor.{Predictor}
-use Rattle.jpeg_bits.specs.declared.scan.Predictor.TheVariants.{NoPrediction, Ra, Rb, Rc, RaRbRc1, RaRbRc2, RaRbRc3, RaRb}
+use Rattle.jpeg_bits.specs.declared.scan.Predictor.TheVariants.{NoPrediction, Ra, Rb, Rc, RaRbRc1}
+use Rattle.jpeg_bits.specs.declared.scan.Predictor.TheVariants.{RaRbRc2, RaRbRc3, RaRb}
 use Rattle.jpeg_segments.specs.declared.parser.CodingProcess.{CodingProcess}
-use Rattle.jpeg_segments.specs.declared.parser.CodingProcess.TheVariants.{DctSequential, DctProgressive, Lossless}
+use Rattle.jpeg_segments.specs.declared.parser.CodingProcess.TheVariants.{DctSequential}
+use Rattle.jpeg_segments.specs.declared.parser.CodingProcess.TheVariants.{DctProgressive, Lossless}
 use Rattle.jpeg_segments.specs.Frame.{Frame, Component}
 use Rattle.jpeg_segments.specs.HuffmanTables.{greatest_place}
 
@@ -17,7 +21,7 @@ pub record Scan : Type 0 where
   pub dc_places : List ℕ
   pub ac_places : List ℕ
   pub first : ℕ
-  pub behind : ℕ
+  pub after : ℕ
   pub predictor : Predictor
   pub high : ℕ
   pub low : ℕ
@@ -112,10 +116,10 @@ predictor_of DctSequential first = NoPrediction
 predictor_of DctProgressive first = NoPrediction
 predictor_of Lossless first = predictor_by first
 
-abbrev pub behind_of : CodingProcess → ℕ → ℕ
-behind_of DctSequential last = 64
-behind_of DctProgressive last = last + 1
-behind_of Lossless last = last + 1
+abbrev pub after_of : CodingProcess → ℕ → ℕ
+after_of DctSequential last = 64
+after_of DctProgressive last = last + 1
+after_of Lossless last = last + 1
 
 unfoldable pub scan_of : Frame → List Selector → ℕ → ℕ → ℕ → Scan
 scan_of frame selectors first last levels = record {
@@ -123,7 +127,7 @@ scan_of frame selectors first last levels = record {
   dc_places = map (λ s. s.dc) selectors;
   ac_places = map (λ s. s.ac) selectors;
   first = first;
-  behind = behind_of frame.process last;
+  after = after_of frame.process last;
   predictor = predictor_of frame.process first;
   high = levels / 16;
   low = levels % 16;
@@ -173,10 +177,10 @@ IsRising least (place ∷ more) = (least ≤ place) × IsRising (place + 1) more
 -- The coefficients, from the first to the one after the last, and the levels of successive
 -- approximation that a process may code.
 abbrev pub IsCoded : CodingProcess → ℕ → ℕ → ℕ → ℕ → Type 0
-IsCoded DctSequential first behind high low = (first ≡ 0) × (behind ≡ 64) × (high ≡ 0) × (low ≡ 0)
-IsCoded DctProgressive first behind high low =
-    (first < behind) × (behind ≤ 64) × (high ≤ 13) × (low ≤ 13)
-IsCoded Lossless first behind high low = (first ≤ 7) × (behind ≡ 1) × (high ≡ 0)
+IsCoded DctSequential first after high low = (first ≡ 0) × (after ≡ 64) × (high ≡ 0) × (low ≡ 0)
+IsCoded DctProgressive first after high low =
+    (first < after) × (after ≤ 64) × (high ≤ 13) × (low ≤ 13)
+IsCoded Lossless first after high low = (first ≤ 7) × (after ≡ 1) × (high ≡ 0)
 
 -- A scan has one to four components of the frame, which stand in the order of the frame, each once,
 -- and of which two or more have at most 10 blocks in an MCU; two tables for each; and coefficients
@@ -192,8 +196,8 @@ pub record IsScanOf (frame : Frame) (s : Scan) : Type 0 where
   pub dc_places : All (λ place. place ≤ 3) s.dc_places
   pub ac_length : length s.ac_places ≡ length s.components
   pub ac_places : All (λ place. place ≤ 3) s.ac_places
-  pub coded : IsCoded frame.process s.first s.behind s.high s.low
+  pub coded : IsCoded frame.process s.first s.after s.high s.low
   pub legal :
-      is_band frame.process (length s.components) s.first (s.behind - 1) s.high s.low ≡ true
+      is_band frame.process (length s.components) s.first (s.after - 1) s.high s.low ≡ true
   pub below : s.low < frame.precision
   pub same_point : s.point_transform ≡ s.low

@@ -1,9 +1,11 @@
 -- Scan headers as a writer emits them (T.81, B.2.3): their parameters, the bytes of those, and the
 -- rules that they keep. Nothing here speaks of reading.
-use Rattle.std.specs.Prelude.{◌≡◌, ℕ, ◌≤◌, ◌<◌, ◌+◌, true, List, [], ◌∷◌, ◌++◌, length, map, flat_map, Some, nat_lt}
+use Rattle.std.specs.Prelude.{◌≡◌, ℕ, ◌≤◌, ◌<◌, ◌+◌, true, List, [], ◌∷◌, ◌++◌, length, map}
+use Rattle.std.specs.Prelude.{flat_map, Some, nat_lt}
 use Rattle.jpeg_segments.specs.Frame.{Frame}
 use Rattle.jpeg_segments.specs.HuffmanTables.{greatest_place}
-use Rattle.jpeg_segments.specs.ScanHeader.{Scan, Selector, place_of, blocks_by, is_mcu, is_band, scan_of}
+use Rattle.jpeg_segments.specs.ScanHeader.{Scan, Selector, place_of, blocks_by, is_mcu, is_band}
+use Rattle.jpeg_segments.specs.ScanHeader.{scan_of}
 use Rattle.jpeg_segments.specs.WrittenSegments.{nibbles}
 
 -- A component of a scan: its identifier Csj, its place in the frame, and the destinations Tdj and

@@ -1,8 +1,14 @@
 //! Segments of applications, comments, and restart intervals.
-ghost use Rattle.std.specs.Prelude.{◌≡◌, ◌≤◌, ℕ, None, Some, IfOk, IsErrAnd, drop, length, option_map};
-ghost use Rattle.jpeg_bits.specs.Reading.{Answers, NamesFormat};
+ghost use Rattle.std.specs.Prelude.{◌≡◌, ◌≤◌, ℕ, None, Some, IfOk, IsErrAnd, drop, length};
+ghost use Rattle.std.specs.Prelude.{option_map};
+ghost use Rattle.std.specs.Prelude.{true, Err};
+ghost use Rattle.jpeg_bits.specs.Reading.{Answers, Malformed, NamesFormat};
+ghost use Rattle.jpeg_bits.specs.declared.error.Error.TheVariants.{OutOfMemory};
 ghost use Rattle.jpeg_bits.specs.declared.marker.Marker.TheVariants.{APP};
-ghost use Rattle.jpeg_segments.specs.Application.{Adobe, app_at, com_at, dri_at, payload_at, application_0, application_1, application_2, application_13, application_14, application_by, transform_by, passed_over, adobe_at};
+ghost use Rattle.jpeg_segments.specs.Application.{Adobe, app_at, com_at, dri_at, payload_at};
+ghost use Rattle.jpeg_segments.specs.Application.{application_0, application_1, application_2};
+ghost use Rattle.jpeg_segments.specs.Application.{application_13, application_14, application_by};
+ghost use Rattle.jpeg_segments.specs.Application.{transform_by, passed_over, adobe_at};
 ghost use Rattle.jpeg_segments.specs.FrameView.{application_in};
 
 use crate::parser::{AdobeColorTransform, AppData, IccChunk};
@@ -18,7 +24,7 @@ use std::io::Read;
 type Said = std::result::Result<Option<AppData>, AllocError>;
 
 /// The bytes after the first `count`.
-fn bytes_behind(
+fn bytes_after(
     alloc: Global,
     payload: &[u8],
     count: usize,
@@ -49,9 +55,9 @@ fn application_1(alloc: Global, payload: &[u8]) -> Said
     ensures { IfOk result (λ said. option_map application_in said ≡ application_1 payload.now) }
 {
     if payload.starts_with(b"Exif\0\0") {
-        Ok(Some(AppData::Exif(bytes_behind(alloc, payload, 6)?)))
+        Ok(Some(AppData::Exif(bytes_after(alloc, payload, 6)?)))
     } else if payload.starts_with(b"http://ns.adobe.com/xap/1.0/\0") {
-        Ok(Some(AppData::Xmp(bytes_behind(alloc, payload, 29)?)))
+        Ok(Some(AppData::Xmp(bytes_after(alloc, payload, 29)?)))
     } else {
         Ok(None)
     }
@@ -66,7 +72,7 @@ fn application_2(alloc: Global, payload: &[u8]) -> Said
         Ok(Some(AppData::Icc(IccChunk {
             num_markers: payload[13],
             seq_no: payload[12],
-            bytes: bytes_behind(alloc, payload, 14)?,
+            bytes: bytes_after(alloc, payload, 14)?,
         })))
     } else {
         Ok(None)
@@ -79,7 +85,7 @@ fn application_13(alloc: Global, payload: &[u8]) -> Said
     ensures { IfOk result (λ said. option_map application_in said ≡ application_13 payload.now) }
 {
     if payload.starts_with(b"Photoshop 3.0\0") {
-        Ok(Some(AppData::Psir(bytes_behind(alloc, payload, 14)?)))
+        Ok(Some(AppData::Psir(bytes_after(alloc, payload, 14)?)))
     } else {
         Ok(None)
     }
@@ -88,7 +94,8 @@ fn application_13(alloc: Global, payload: &[u8]) -> Said
 /// What the payload after the marker `APP(number)` says.
 #[tactic(auto, unfolding(crate::specs::Application::application_by))]
 fn application_by(alloc: Global, number: u8, payload: &[u8]) -> Said
-    ensures { IfOk result (λ said. option_map application_in said ≡ application_by number payload.now) }
+    ensures { IfOk result (λ said. option_map application_in said
+        ≡ application_by number payload.now) }
 {
     match number {
         0 => Ok(application_0(payload)),
@@ -105,20 +112,22 @@ fn pass_over<R: Read + Drop>(
     source: &mut Source<R>,
     left: u16,
 ) -> Result<Option<AppData>>
-    ensures { Answers (option_map application_in) (passed_over left None) source.old result source.new }
+    ensures { Answers (option_map application_in) (passed_over left None) source.old result
+        source.new }
 {
     skip(alloc, source, left)?;
     Ok(None)
 }
 
 /// Passes over `left` bytes after a transform.
-fn pass_over_behind<R: Read + Drop>(
+fn pass_over_after<R: Read + Drop>(
     alloc: Global,
     source: &mut Source<R>,
     left: u16,
     transform: AdobeColorTransform,
 ) -> Result<Option<AppData>>
-    ensures { Answers (option_map application_in) (passed_over left (Some (Adobe transform))) source.old result source.new }
+    ensures { Answers (option_map application_in) (passed_over left (Some (Adobe transform)))
+        source.old result source.new }
 {
     skip(alloc, source, left)?;
     Ok(Some(AppData::Adobe(transform)))
@@ -151,7 +160,7 @@ fn read_adobe<R: Read + Drop>(
         return pass_over(alloc, source, left - 12);
     }
     match transform_by(head[11]) {
-        Some(transform) => pass_over_behind(alloc, source, left - 12, transform),
+        Some(transform) => pass_over_after(alloc, source, left - 12, transform),
         None => Err(format_error(alloc, "the transform of an Adobe segment is above 2")),
     }
 }
@@ -163,7 +172,8 @@ fn read_application_14<R: Read + Drop>(
     source: &mut Source<R>,
     left: u16,
 ) -> Result<Option<AppData>>
-    ensures { Answers (option_map application_in) (application_14 left) source.old result source.new }
+    ensures { Answers (option_map application_in) (application_14 left) source.old result
+        source.new }
 {
     if left < 12 {
         pass_over(alloc, source, left)
@@ -180,7 +190,8 @@ fn read_payload<R: Read + Drop>(
     number: u8,
     left: u16,
 ) -> Result<Option<AppData>>
-    ensures { Answers (option_map application_in) (payload_at number left) source.old result source.new }
+    ensures { Answers (option_map application_in) (payload_at number left) source.old result
+        source.new }
 {
     if number <= 2 || number == 13 {
         read_known_payload(alloc, source, number, left)
@@ -197,7 +208,8 @@ fn read_known_payload<R: Read + Drop>(
     number: u8,
     left: u16,
 ) -> Result<Option<AppData>>
-    ensures { Answers (option_map application_in) (payload_at number left) source.old result source.new }
+    ensures { Answers (option_map application_in) (payload_at number left) source.old result
+        source.new }
 {
     let payload = read_bytes(alloc, source, left)?;
     Ok(application_by(alloc, number, &payload)?)
@@ -231,8 +243,10 @@ pub fn parse_app<R: Read + Drop>(
     reader: &mut Source<R>,
     marker: Marker,
 ) -> Result<Option<AppData>>
-    ensures answers { (number : ℕ) → marker ≡ APP number → Answers (option_map application_in) (app_at number) reader.old result reader.new }
-    ensures others { ((number : ℕ) → marker ≡ APP number → ⊥) → IsErrAnd result NamesFormat × (reader.new ≡ reader.old) }
+    ensures answers { (number : ℕ) → marker ≡ APP number
+        → Answers (option_map application_in) (app_at number) reader.old result reader.new }
+    ensures others { ((number : ℕ) → marker ≡ APP number → ⊥) → IsErrAnd result NamesFormat
+        × (reader.new ≡ reader.old) }
 {
     match marker {
         Marker::APP(number) => read_application(alloc, reader, number),
@@ -258,7 +272,9 @@ pub fn parse_com<R: Read + Drop>(alloc: Global, reader: &mut Source<R>) -> Resul
 /// `OutOfMemory`.
 #[tactic(auto, unfolding(crate::specs::Application::dri_at))]
 pub fn parse_dri<R: Read + Drop>(alloc: Global, reader: &mut Source<R>) -> Result<u16>
-    ensures { Answers (λ n. n) dri_at reader.old result reader.new }
+    ensures answers { Answers (λ n. n) dri_at reader.old result reader.new }
+    ensures room { reader.old.known ≡ true → result ≡ Err OutOfMemory
+        → dri_at reader.old.bytes ≡ Err Malformed }
 {
     let left = read_length(alloc, reader)?;
     if left != 2 {

@@ -1,10 +1,15 @@
 //! Frame headers.
-ghost use Rattle.std.specs.Prelude.{◌≡◌, ◌≤◌, ◌<◌, ◌+◌, ◌*◌, ◌-◌, ◌^◌, ℕ, IfOk, IsErrAnd, All, [], ◌∷◌, map, max};
+ghost use Rattle.std.specs.Prelude.{◌≡◌, ◌≤◌, ◌<◌, ◌+◌, ◌*◌, ◌-◌, ◌^◌, ℕ, IfOk, IsErrAnd, All, []};
+ghost use Rattle.std.specs.Prelude.{◌∷◌, map, max};
 ghost use Rattle.std.specs.Prelude.{◌==◌};
 ghost use Rattle.std.specs.List.{list_any};
 ghost use Rattle.jpeg_bits.specs.Reading.{Answers, NamesFormat};
 ghost use Rattle.jpeg_bits.specs.declared.marker.Marker.TheVariants.{SOF};
-ghost use Rattle.jpeg_segments.specs.Frame.{AllHaveFactors, IsFrame, IsInRange, components_from, factors_at, frame_of, head_at, is_count, is_lossless, is_place, is_precision, is_taken, parameters_at, process_of, coding_of, is_differential_number, size_at, sof_at};
+ghost use Rattle.jpeg_segments.specs.Frame.{AllHaveSampling, IsFrame, IsInRange, components_from};
+ghost use Rattle.jpeg_segments.specs.Frame.{factors_at, frame_of, head_at, is_count, is_lossless};
+ghost use Rattle.jpeg_segments.specs.Frame.{is_place, is_precision, is_taken, parameters_at};
+ghost use Rattle.jpeg_segments.specs.Frame.{process_of, coding_of, is_differential_number, size_at};
+ghost use Rattle.jpeg_segments.specs.Frame.{sof_at};
 ghost use Rattle.jpeg_segments.specs.Scales.{IsSizedFrame};
 ghost use Rattle.jpeg_segments.specs.FrameView.{component_in, frame_in, factors_of};
 
@@ -144,7 +149,8 @@ fn read_parameters<R: Read + Drop>(
     lossless: bool,
     identifier: u8,
 ) -> Result<Factors>
-    ensures answers { Answers factors_of (parameters_at lossless identifier) source.old result source.new }
+    ensures answers { Answers factors_of (parameters_at lossless identifier) source.old result
+        source.new }
     ensures horizontal { IfOk result (λ c. (1 ≤ c.horizontal) × (c.horizontal ≤ 4)) }
     ensures vertical { IfOk result (λ c. (1 ≤ c.vertical) × (c.vertical ≤ 4)) }
 {
@@ -192,7 +198,8 @@ fn read_factors<R: Read + Drop>(
     lossless: bool,
     front: &[Factors],
 ) -> Result<Factors>
-    ensures answers { Answers factors_of (factors_at lossless (map factors_of front.now)) source.old result source.new }
+    ensures answers { Answers factors_of (factors_at lossless (map factors_of front.now)) source.old
+        result source.new }
     ensures horizontal { IfOk result (λ c. (1 ≤ c.horizontal) × (c.horizontal ≤ 4)) }
     ensures vertical { IfOk result (λ c. (1 ≤ c.vertical) × (c.vertical ≤ 4)) }
 {
@@ -210,7 +217,8 @@ fn read_components<R: Read + Drop>(
     lossless: bool,
     count: u8,
 ) -> Result<Vec<Factors>>
-    ensures answers { Answers (λ v. map factors_of v.items) (components_from lossless count []) source.old result source.new }
+    ensures answers { Answers (λ v. map factors_of v.items) (components_from lossless count [])
+        source.old result source.new }
     ensures factors { IfOk result (λ v. All IsInRange (map factors_of v.items)) }
 {
     let mut components = Vec::with_capacity(alloc, usize::from(count))?;
@@ -236,7 +244,7 @@ fn frame_of(
     requires some_height { 0 < head.size.height }
     ensures frame { IfOk result (λ f. frame_in f ≡
         frame_of number head.precision head.size.width head.size.height (map factors_of components.now)) }
-    ensures factors { IfOk result (λ f. AllHaveFactors (map component_in f.components.items)) }
+    ensures factors { IfOk result (λ f. AllHaveSampling (map component_in f.components.items)) }
     ensures made { IfOk result (λ f. IsFrame (frame_in f)) }
 {
     let (horizontal, vertical) = greatest_factors(components);
@@ -264,7 +272,7 @@ fn read_frame<R: Read + Drop>(
     number: u8,
 ) -> Result<FrameInfo>
     ensures answers { Answers frame_in (sof_at number) source.old result source.new }
-    ensures factors { IfOk result (λ f. AllHaveFactors (map component_in f.components.items)) }
+    ensures factors { IfOk result (λ f. AllHaveSampling (map component_in f.components.items)) }
     ensures made { IfOk result (λ f. IsFrame (frame_in f)) }
     ensures sized { IfOk result (λ f. IsSizedFrame (frame_in f)) }
 {
@@ -284,9 +292,11 @@ pub fn parse_sof<R: Read + Drop>(
     reader: &mut Source<R>,
     marker: Marker,
 ) -> Result<FrameInfo>
-    ensures answers { (number : ℕ) → marker ≡ SOF number → Answers frame_in (sof_at number) reader.old result reader.new }
-    ensures others { ((number : ℕ) → marker ≡ SOF number → ⊥) → IsErrAnd result NamesFormat × (reader.new ≡ reader.old) }
-    ensures factors { IfOk result (λ f. AllHaveFactors (map component_in f.components.items)) }
+    ensures answers { (number : ℕ) → marker ≡ SOF number
+        → Answers frame_in (sof_at number) reader.old result reader.new }
+    ensures others { ((number : ℕ) → marker ≡ SOF number → ⊥) → IsErrAnd result NamesFormat
+        × (reader.new ≡ reader.old) }
+    ensures factors { IfOk result (λ f. AllHaveSampling (map component_in f.components.items)) }
     ensures made { IfOk result (λ f. IsFrame (frame_in f)) }
     ensures sized { IfOk result (λ f. IsSizedFrame (frame_in f)) }
 {

@@ -2,7 +2,8 @@
 ghost use Rattle.std.specs.Prelude.{◌≡◌, ◌≤◌, ◌<◌, ◌+◌, true, None, replicate, length, sum, IfOk};
 ghost use Rattle.jpeg_bits.specs.Codes.{is_ac};
 ghost use Rattle.jpeg_bits.specs.Reading.{Answers, times, next_byte};
-ghost use Rattle.jpeg_segments.specs.HuffmanTables.{symbols_at, codes_at, placed_codes_at, greatest_place, with_table, dht_at, all_ac};
+ghost use Rattle.jpeg_segments.specs.HuffmanTables.{symbols_at, codes_at, placed_codes_at};
+ghost use Rattle.jpeg_segments.specs.HuffmanTables.{greatest_place, with_table, dht_at, all_ac};
 
 use crate::payload::read_bytes;
 use jpeg_bits::error::{Result, format_error};
@@ -103,7 +104,8 @@ fn read_placed_table<R: Read + Drop>(
     left: u16,
 ) -> Result<PlacedTable>
     requires { greatest ≤ 3 }
-    ensures answers { Answers (λ t. record { place = t.place; table = t.table }) (placed_codes_at greatest left) source.old result source.new }
+    ensures answers { Answers (λ t. record { place = t.place; table = t.table })
+        (placed_codes_at greatest left) source.old result source.new }
     ensures place { IfOk result (λ t. t.place ≤ 3) }
     ensures class { IfOk result (λ t. t.table.class ≡ t.class) }
     ensures size { IfOk result (λ t. (t.size ≡ 17 + sum t.table.counts) × (t.size ≤ left)) }
@@ -140,7 +142,9 @@ fn place_table(tables: &mut PlacedTables, placed: PlacedTable)
     requires ac { length tables.old.1.items ≡ 4 }
     requires place { placed.place ≤ 3 }
     requires class { placed.table.class ≡ placed.class }
-    ensures tables { record { dc = tables.new.0.items; ac = tables.new.1.items } ≡ with_table (record { dc = tables.old.0.items; ac = tables.old.1.items }) (record { place = placed.place; table = placed.table }) }
+    ensures tables { record { dc = tables.new.0.items; ac = tables.new.1.items }
+        ≡ with_table (record { dc = tables.old.0.items; ac = tables.old.1.items })
+        (record { place = placed.place; table = placed.table }) }
     ensures dc { length tables.new.0.items ≡ 4 }
     ensures ac { length tables.new.1.items ≡ 4 }
     ensures classes { all_ac tables.old.1.items ≡ true → all_ac tables.new.1.items ≡ true }
@@ -181,7 +185,8 @@ pub fn parse_dht<R: Read + Drop>(
     reader: &mut Source<R>,
     is_baseline: Option<bool>,
 ) -> Result<PlacedTables>
-    ensures tables { Answers (λ t. record { dc = t.0.items; ac = t.1.items }) (dht_at is_baseline) reader.old result reader.new }
+    ensures tables { Answers (λ t. record { dc = t.0.items; ac = t.1.items }) (dht_at is_baseline)
+        reader.old result reader.new }
     ensures places { IfOk result (λ t. (length t.0.items ≡ 4) × (length t.1.items ≡ 4)) }
     ensures classes { IfOk result (λ t. all_ac t.1.items ≡ true) }
 {
@@ -194,7 +199,7 @@ pub fn parse_dht<R: Read + Drop>(
         place_table(&mut tables, placed);
     }
     if left > 0 {
-        return Err(format_error(alloc, "bytes are left behind the last Huffman table"));
+        return Err(format_error(alloc, "bytes are left after the last Huffman table"));
     }
     Ok(tables)
 }

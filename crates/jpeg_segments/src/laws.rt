@@ -1,13 +1,19 @@
 //! The definitions of segments accept exactly what a writer emits by its parameters. Each law is a
 //! theorem on a function without a body.
-ghost use Rattle.std.specs.Prelude.{◌≡◌, ℕ, ◌<◌, ◌≤◌, ◌++◌, List, length, flat_map, Bool, Option, Ok};
+ghost use Rattle.std.specs.Prelude.{◌≡◌, ℕ, ◌<◌, ◌≤◌, ◌++◌, List, length, flat_map, Bool, Option};
+ghost use Rattle.std.specs.Prelude.{Ok};
 ghost use Rattle.std.specs.List.{AllByRecursion};
 ghost use Rattle.jpeg_segments.specs.Quantization.{dqt_at};
 ghost use Rattle.jpeg_segments.specs.HuffmanTables.{Tables, PlacedTable, greatest_place, dht_at};
 ghost use Rattle.jpeg_segments.specs.Application.{Application, app_at, dri_at};
 ghost use Rattle.jpeg_segments.specs.Frame.{Frame, sof_at};
 ghost use Rattle.jpeg_segments.specs.ScanHeader.{Scan, sos_at};
-ghost use Rattle.jpeg_segments.specs.WrittenSegments.{u16_bytes, sized, QuantizationTable, IsQuantizationTable, quantization_bytes, quantization_tables, IsHuffmanTable, huffman_bytes, huffman_tables, IsApplication, said_by, FrameHeader, frame_payload, IsFrame, frame_written};
+ghost use Rattle.jpeg_segments.specs.WrittenSegments.{u16_bytes, sized, QuantizationTable};
+ghost use Rattle.jpeg_segments.specs.WrittenSegments.{IsQuantizationTable, quantization_bytes};
+ghost use Rattle.jpeg_segments.specs.WrittenSegments.{quantization_tables, IsHuffmanTable};
+ghost use Rattle.jpeg_segments.specs.WrittenSegments.{huffman_bytes, huffman_tables, IsApplication};
+ghost use Rattle.jpeg_segments.specs.WrittenSegments.{said_by, FrameHeader, frame_payload, IsFrame};
+ghost use Rattle.jpeg_segments.specs.WrittenSegments.{frame_written};
 ghost use Rattle.jpeg_segments.specs.ScanHeaders.{ScanHeader, scan_payload, IsScan, scan_written};
 
 /// A segment that is written by its parameters is accepted, with the meaning that they have,

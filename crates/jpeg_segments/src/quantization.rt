@@ -1,6 +1,7 @@
 //! Quantization tables.
-ghost use Rattle.std.specs.Prelude.{◌≡◌, ◌≤◌, ◌<◌, IfOk};
-ghost use Rattle.jpeg_bits.specs.Reading.{Answers, times};
+ghost use Rattle.std.specs.Prelude.{◌≡◌, ◌≤◌, ◌<◌, IfOk, true, Err};
+ghost use Rattle.jpeg_bits.specs.Reading.{Answers, Malformed, times};
+ghost use Rattle.jpeg_bits.specs.declared.error.Error.TheVariants.{OutOfMemory};
 ghost use Rattle.jpeg_segments.specs.Quantization.{value_at, table_at, placed_table_at, dqt_at};
 
 use jpeg_bits::error::{Result, format_error};
@@ -11,7 +12,9 @@ use std::io::Read;
 
 #[tactic(auto, unfolding(crate::specs::Quantization::value_at))]
 fn read_value<R: Read + Drop>(alloc: Global, source: &mut Source<R>, is_wide: bool) -> Result<u16>
-    ensures { Answers (λ v. v) (value_at is_wide) source.old result source.new }
+    ensures answers { Answers (λ v. v) (value_at is_wide) source.old result source.new }
+    ensures room { source.old.known ≡ true → result ≡ Err OutOfMemory
+        → value_at is_wide source.old.bytes ≡ Err Malformed }
 {
     if is_wide {
         read_u16_be(alloc, source)
@@ -25,7 +28,9 @@ fn read_values<R: Read + Drop>(
     source: &mut Source<R>,
     is_wide: bool,
 ) -> Result<[u16; 64]>
-    ensures { Answers (λ v. v) (times 64 (value_at is_wide)) source.old result source.new }
+    ensures answers { Answers (λ v. v) (times 64 (value_at is_wide)) source.old result source.new }
+    ensures room { source.old.known ≡ true → result ≡ Err OutOfMemory
+        → times 64 (value_at is_wide) source.old.bytes ≡ Err Malformed }
 {
     let mut values = [0u16; 64];
     for i in 0..64 {
@@ -40,7 +45,9 @@ fn read_table<R: Read + Drop>(
     source: &mut Source<R>,
     is_wide: bool,
 ) -> Result<[u16; 64]>
-    ensures { Answers (λ v. v) (table_at is_wide) source.old result source.new }
+    ensures answers { Answers (λ v. v) (table_at is_wide) source.old result source.new }
+    ensures room { source.old.known ≡ true → result ≡ Err OutOfMemory
+        → table_at is_wide source.old.bytes ≡ Err Malformed }
 {
     let values = read_values(alloc, source, is_wide)?;
     if values.contains(&0) {
@@ -57,6 +64,8 @@ fn read_placed_table<R: Read + Drop>(
     left: u16,
 ) -> Result<(u16, usize, [u16; 64])>
     ensures answers { Answers (λ t. t) (placed_table_at left) source.old result source.new }
+    ensures room { source.old.known ≡ true → result ≡ Err OutOfMemory
+        → placed_table_at left source.old.bytes ≡ Err Malformed }
     ensures place { IfOk result (λ t. (t.0 ≤ left) × (0 < t.0) × (t.1 < 4)) }
 {
     let byte = read_u8(alloc, source)?;
@@ -86,7 +95,9 @@ pub fn parse_dqt<R: Read + Drop>(
     alloc: Global,
     reader: &mut Source<R>,
 ) -> Result<[Option<[u16; 64]>; 4]>
-    ensures { Answers (λ v. v) dqt_at reader.old result reader.new }
+    ensures answers { Answers (λ v. v) dqt_at reader.old result reader.new }
+    ensures room { reader.old.known ≡ true → result ≡ Err OutOfMemory
+        → dqt_at reader.old.bytes ≡ Err Malformed }
 {
     let mut left = read_length(alloc, reader)?;
     let mut tables = [None; 4];

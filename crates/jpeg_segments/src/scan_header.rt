@@ -1,8 +1,14 @@
 //! Scan headers.
-ghost use Rattle.std.specs.Prelude.{◌≡◌, ◌≤◌, ◌<◌, ◌==◌, ◌*◌, [], map, position, length, sum_by, IsTrue, IfOk, IfSome, All, true};
+ghost use Rattle.std.specs.Prelude.{◌≡◌, ◌≤◌, ◌<◌, ◌==◌, ◌*◌, [], map, position, length, sum_by};
+ghost use Rattle.std.specs.Prelude.{IsTrue, IfOk, IfSome, All, true};
 ghost use Rattle.jpeg_bits.specs.Reading.{Answers};
 ghost use Rattle.jpeg_segments.specs.HuffmanTables.{greatest_place};
-ghost use Rattle.jpeg_segments.specs.ScanHeader.{IsCoded, IsRising, IsScanOf, IsSelectorOf, band_at, behind_of, blocks_by, count_at, is_band, is_lossless_band, is_mcu, is_progressive_band, is_sequential_band, place_of, predictor_by, predictor_of, scan_of, selector_at, selectors_from, sos_at, tables_at, tables_by};
+ghost use Rattle.jpeg_segments.specs.ScanHeader.{IsCoded, IsRising, IsScanOf, IsSelectorOf};
+ghost use Rattle.jpeg_segments.specs.ScanHeader.{band_at, after_of, blocks_by, count_at, is_band};
+ghost use Rattle.jpeg_segments.specs.ScanHeader.{is_lossless_band, is_mcu, is_progressive_band};
+ghost use Rattle.jpeg_segments.specs.ScanHeader.{is_sequential_band, place_of, predictor_by};
+ghost use Rattle.jpeg_segments.specs.ScanHeader.{predictor_of, scan_of, selector_at};
+ghost use Rattle.jpeg_segments.specs.ScanHeader.{selectors_from, sos_at, tables_at, tables_by};
 ghost use Rattle.jpeg_segments.specs.FrameView.{component_in, frame_in, scan_in, selector_of};
 
 use crate::huffman_tables::greatest_place;
@@ -64,7 +70,8 @@ fn place_of(components: &[Component], identifier: u8) -> Option<usize>
 }
 
 fn block_count(component: &Component) -> u16
-    ensures { result ≡ component.now.horizontal_sampling_factor * component.now.vertical_sampling_factor }
+    ensures { result ≡ component.now.horizontal_sampling_factor *
+        component.now.vertical_sampling_factor }
 {
     u16::from(component.horizontal_sampling_factor) * u16::from(component.vertical_sampling_factor)
 }
@@ -86,7 +93,8 @@ fn read_tables<R: Read + Drop>(
     place: usize,
 ) -> Result<Selector>
     requires { place < length frame.now.components.items }
-    ensures answers { Answers selector_of (tables_at (frame_in frame.now) place) source.old result source.new }
+    ensures answers { Answers selector_of (tables_at (frame_in frame.now) place) source.old result
+        source.new }
     ensures place { IfOk result (λ s. IsSelectorOf (frame_in frame.now) (selector_of s)) }
     ensures same { IfOk result (λ s. s.component ≡ place) }
 {
@@ -117,7 +125,8 @@ fn read_selector<R: Read + Drop>(
     frame: &FrameInfo,
     least: usize,
 ) -> Result<Selector>
-    ensures answers { Answers selector_of (selector_at (frame_in frame.now) least) source.old result source.new }
+    ensures answers { Answers selector_of (selector_at (frame_in frame.now) least) source.old result
+        source.new }
     ensures place { IfOk result (λ s. IsSelectorOf (frame_in frame.now) (selector_of s)) }
     ensures least { IfOk result (λ s. least ≤ s.component) }
 {
@@ -138,9 +147,11 @@ fn read_selectors<R: Read + Drop>(
     frame: &FrameInfo,
     count: u8,
 ) -> Result<Vec<Selector>>
-    ensures answers { Answers (λ v. map selector_of v.items) (selectors_from (frame_in frame.now) count [] 0) source.old result source.new }
+    ensures answers { Answers (λ v. map selector_of v.items)
+        (selectors_from (frame_in frame.now) count [] 0) source.old result source.new }
     ensures length { IfOk result (λ v. length v.items ≡ count) }
-    ensures places { IfOk result (λ v. All (IsSelectorOf (frame_in frame.now)) (map selector_of v.items)) }
+    ensures places { IfOk result (λ v. All (IsSelectorOf (frame_in frame.now))
+        (map selector_of v.items)) }
     ensures rising { IfOk result (λ v.
         IsRising 0 (map (λ s. s.component) (map selector_of v.items))) }
 {
@@ -201,7 +212,8 @@ struct Band {
 fn is_band(process: CodingProcess, count: usize, band: Band) -> bool
     ensures value { result ≡ is_band process count band.first band.last band.high band.low }
     ensures small { IsTrue result → band.last ≤ 63 }
-    ensures coded { IsTrue result → IsCoded process band.first (behind_of process band.last) band.high band.low }
+    ensures coded { IsTrue result → IsCoded process band.first (after_of process band.last)
+        band.high band.low }
 {
     let Band {
         first,
@@ -243,9 +255,9 @@ fn predictor_of(process: CodingProcess, first: u8) -> Predictor
 }
 
 /// The place after the last coefficient.
-fn behind_of(process: CodingProcess, last: u8) -> u8
+fn after_of(process: CodingProcess, last: u8) -> u8
     requires { last ≤ 63 }
-    ensures { result ≡ behind_of process last }
+    ensures { result ≡ after_of process last }
 {
     match process {
         CodingProcess::DctSequential => 64,
@@ -262,7 +274,8 @@ struct Places {
 }
 
 fn places_of(alloc: Global, selectors: &[Selector]) -> std::result::Result<Places, AllocError>
-    ensures components { IfOk result (λ p. p.components.items ≡ map (λ s. s.component) (map selector_of selectors.now)) }
+    ensures components { IfOk result (λ p. p.components.items
+        ≡ map (λ s. s.component) (map selector_of selectors.now)) }
     ensures dc { IfOk result (λ p. p.dc.items ≡ map (λ s. s.dc) (map selector_of selectors.now)) }
     ensures ac { IfOk result (λ p. p.ac.items ≡ map (λ s. s.ac) (map selector_of selectors.now)) }
 {
@@ -290,7 +303,7 @@ fn scan_of(
       dc_places = map (λ s. s.dc) (map selector_of selectors.now);
       ac_places = map (λ s. s.ac) (map selector_of selectors.now);
       first = band.first;
-      behind = behind_of process band.last;
+      after = after_of process band.last;
       predictor = predictor_of process band.first;
       high = band.high;
       low = band.low;
@@ -302,7 +315,7 @@ fn scan_of(
         component_indices: components,
         dc_table_indices: dc,
         ac_table_indices: ac,
-        spectral_selection: band.first..behind_of(process, band.last),
+        spectral_selection: band.first..after_of(process, band.last),
         predictor_selection: predictor_of(process, band.first),
         successive_approximation_high: band.high,
         successive_approximation_low: band.low,
@@ -323,7 +336,8 @@ fn read_band<R: Read + Drop>(
     requires places { All (IsSelectorOf (frame_in frame.now)) (map selector_of selectors.now) }
     requires rising { IsRising 0 (map (λ s. s.component) (map selector_of selectors.now)) }
     requires mcu { is_mcu (map selector_of selectors.now) ≡ true }
-    ensures answers { Answers scan_in (band_at (frame_in frame.now) (map selector_of selectors.now)) source.old result source.new }
+    ensures answers { Answers scan_in (band_at (frame_in frame.now) (map selector_of selectors.now))
+        source.old result source.new }
     ensures scan { IfOk result (λ s. IsScanOf (frame_in frame.now) (scan_in s)) }
 {
     let first = read_u8(alloc, source)?;

@@ -1,7 +1,8 @@
 //! The sizes of a frame and of its components in samples, MCUs and blocks (T.81, A.1.1 and A.2), at
 //! full size and at a scale.
 ghost use Rattle.std.specs.Prelude.{◌≡◌, ◌≤◌, ◌<◌, ◌+◌, ◌*◌, ◌-◌, ◌^◌, IfOk, All, map, max, true};
-ghost use Rattle.jpeg_segments.specs.Frame.{AllHaveFactors, IsInRange, ceiling, component_of, greatest};
+ghost use Rattle.jpeg_segments.specs.Frame.{AllHaveSampling, IsInRange, ceiling, component_of};
+ghost use Rattle.jpeg_segments.specs.Frame.{greatest};
 ghost use Rattle.jpeg_segments.specs.FrameView.{component_in, frame_in, factors_in, factors_of};
 ghost use Rattle.jpeg_segments.specs.Scales.{IsSizedFrame, component_at, frame_at, is_scale};
 
@@ -135,7 +136,7 @@ pub(crate) fn components_of(
 
 /// The greatest sampling factors of the components of a frame, across and down.
 fn greatest_of(components: &[Component]) -> (u8, u8)
-    requires { AllHaveFactors (map component_in components.now) }
+    requires { AllHaveSampling (map component_in components.now) }
     ensures horizontal { result.0 ≡ greatest (λ f. f.horizontal) (map factors_in components.now) }
     ensures vertical { result.1 ≡ greatest (λ f. f.vertical) (map factors_in components.now) }
     ensures some_horizontal { 1 ≤ result.0 }

@@ -397,7 +397,7 @@ fn places_of_tables(rt: HostRuntime) {
 fn lengths_of_tables(rt: HostRuntime) {
     let mut bytes = [0u8; 300];
     bytes[..20].copy_from_slice(&short_table(20, 0));
-    // bytes behind the last table
+    // bytes after the last table
     for length in 2..38 {
         bytes[1] = length;
         let outcome = if length == 2 || length == 20 {
@@ -812,7 +812,7 @@ enum Seen {
     Psir,
 }
 
-/// A segment behind the marker `APP(number)`, of a name and the bytes behind it.
+/// A segment after the marker `APP(number)`, of a name and the bytes after it.
 fn app_of(alloc: Global, number: u8, name: &[u8], data: &[u8]) -> Result<Option<AppData>> {
     let mut bytes = Vec::new(alloc);
     let length = name.len().saturating_add(data.len()).saturating_add(2);
@@ -925,7 +925,7 @@ fn outcomes_of_applications(rt: HostRuntime) {
 
 /// A segment is read to its end, whether it says something or not.
 #[test]
-fn bytes_behind_applications(rt: HostRuntime) -> std::result::Result<(), Fail> {
+fn bytes_after_applications(rt: HostRuntime) -> std::result::Result<(), Fail> {
     let segments: [(u8, &[u8]); 4] = [
         (0, b"\x00\x08JFIF\0\x01\x00\x04\x01\x02"),
         (7, b"\x00\x08JFIF\0\x01\x00\x04\x01\x02"),

@@ -34,7 +34,7 @@ pub fn bytes(alloc: Global, pieces: &[&str]) -> Result<Vec<u8>, Fail> {
     Ok(all)
 }
 
-/// Appends the bytes of hex digits so many times.
+/// Appends the bytes of hex digits this many times.
 fn append(alloc: Global, all: &mut Vec<u8>, digits: &str, count: u16) -> Result<(), Fail> {
     let word = hex::decode(alloc, digits)?;
     for _ in 0..count {

@@ -1,9 +1,11 @@
 //! Pictures of several components.
 
 use crate::bytes::bytes;
-use crate::rows::{Gives, assert_gives, assert_named, decodes_as_wanted};
+use crate::metadata::keeps_limit;
+use crate::rows::{Gives, assert_named, assert_pieces, decodes_as_wanted};
 use crate::streams::{Reader, Trouble};
-use jpeg_decoder::{ColorTransform, Decoder, Error};
+use jpeg_decoder::{ColorTransform, Decoder};
+use std::alloc::Global;
 use std::test::Fail;
 
 /// One scan of three components of 8 by 8 samples: 129, 127 and 130.
@@ -66,6 +68,27 @@ fn components_give_their_colours(rt: HostRuntime) -> Result<(), Fail> {
     assert_named(&rt, rt.alloc(), &COLOURS)
 }
 
+/// Components whose identifiers name a colour transform that there is none of.
+const REFUSED_COLOURS: [(&str, &str, Gives); 2] = [
+    (
+        "identifiers of YCC with a big gamut",
+        "FFD8 Q(01) FFC0 0011 08 0008 0008 03 01 11 00 22 11 00 23 11 00 D(04) A(00)
+         FFDA 000C 03 01 00 22 00 23 00 00 3F 00 40E7BF FFD9",
+        Gives::Transform(ColorTransform::JcsBgYcc),
+    ),
+    (
+        "identifiers of RGB with a big gamut",
+        "FFD8 Q(01) FFC0 0011 08 0008 0008 03 72 11 00 67 11 00 62 11 00 D(04) A(00)
+         FFDA 000C 03 72 00 67 00 62 00 00 3F 00 40E7BF FFD9",
+        Gives::Transform(ColorTransform::JcsBgRgb),
+    ),
+];
+
+#[test]
+fn components_of_other_colours_are_refused(rt: HostRuntime) -> Result<(), Fail> {
+    assert_named(&rt, rt.alloc(), &REFUSED_COLOURS)
+}
+
 /// A scan of each of the three components of RGB.
 const RED: &str = "FFDA 0008 01 52 00 00 3F 00 43";
 
@@ -85,9 +108,9 @@ fn scans_of_components_stand_in_any_order(rt: HostRuntime) -> Result<(), Fail> {
         [BLUE, GREEN, RED],
     ] {
         let [first, second, third] = scans;
-        let stream = bytes(rt.alloc(), &[front, first, second, third, "FFD9"])?;
+        let pieces = [front, first, second, third, "FFD9"];
         let gives = Gives::Colours("8 8 RGB24", "817F82*8", 8);
-        assert_gives(&rt, rt.alloc(), first, &stream, gives)?;
+        assert_pieces(&rt, rt.alloc(), first, &pieces, gives)?;
     }
     Ok(())
 }
@@ -120,15 +143,19 @@ const TRANSFORMS: [(ColorTransform, Gives); 9] = [
     ),
 ];
 
+/// Whether the three components give what is wanted by a colour transform that is set.
+fn gives_by(alloc: Global, transform: ColorTransform, gives: Gives) -> Result<bool, Fail> {
+    let stream = bytes(alloc, &[RGB])?;
+    let reader = Reader::new(&stream, 1000, usize::MAX, Trouble::Fails);
+    let mut decoder = Decoder::new(alloc, reader)?;
+    decoder.set_color_transform(transform);
+    decodes_as_wanted(alloc, &mut decoder, gives)
+}
+
 #[test]
 fn a_colour_transform_that_is_set_decides(rt: HostRuntime) -> Result<(), Fail> {
-    let stream = bytes(rt.alloc(), &[RGB])?;
-    for (transform, gives) in TRANSFORMS {
-        let reader = Reader::new(&stream, 1000, usize::MAX, Trouble::Fails);
-        let mut decoder = Decoder::new(rt.alloc(), reader)?;
-        decoder.set_color_transform(transform);
-        let is_wanted = decodes_as_wanted(rt.alloc(), &mut decoder, gives)?;
-        assert!(rt; is_wanted, "{transform:?}");
+    for (transform, gives) in TRANSFORMS.iter() {
+        assert!(rt; gives_by(rt.alloc(), *transform, *gives)?, "{transform:?}");
     }
     Ok(())
 }
@@ -136,17 +163,7 @@ fn a_colour_transform_that_is_set_decides(rt: HostRuntime) -> Result<(), Fail> {
 #[test]
 fn the_limit_counts_bytes(rt: HostRuntime) -> Result<(), Fail> {
     let stream = bytes(rt.alloc(), &[RGB])?;
-    for (limit, fits) in [(191, false), (192, true)] {
-        let mut decoder = Decoder::new(rt.alloc(), stream.as_slice())?;
-        decoder.set_max_decoding_buffer_size(limit);
-        let answer = decoder.decode();
-        assert!(rt;
-            if fits {
-                answer.is_ok()
-            } else {
-                matches!(&answer, Err(Error::Format(_)))
-            }
-        );
-    }
+    assert!(rt; keeps_limit(rt.alloc(), &stream, 191, false)?);
+    assert!(rt; keeps_limit(rt.alloc(), &stream, 192, true)?);
     Ok(())
 }

@@ -6,6 +6,7 @@ use jpeg_decoder::Decoder;
 use jpeg_decoder::decoder::MAX_COMPONENTS;
 use jpeg_decoder::run::run;
 use std::alloc::Global;
+use std::process::Abort;
 use std::test::Fail;
 
 /// A stream of 1040 by 1016 pixels of 129. Its scan codes a first block of DC 8; all others are
@@ -70,19 +71,25 @@ fn row_with(alloc: Global, segment: &str) -> Result<Vec<u8>, Fail> {
     Ok(stream)
 }
 
+/// Asserts that a stream with a segment of this name has its picture, and the segment's data.
+fn assert_long(rt: &impl Abort, alloc: Global, name: &str, segment: &str) -> Result<(), Fail> {
+    let stream = row_with(alloc, segment)?;
+    let mut decoder = Decoder::new(alloc, stream.as_slice())?;
+    assert!(rt;
+        decoder.decode()?.as_slice() == [129; 64].as_slice(),
+        "{name}"
+    );
+    let exif = decoder.exif_data().map(|data| data.len());
+    assert!(rt; exif == (name == "Exif").then_some(65527), "{name}");
+    let profile = decoder.icc_profile()?.map(|data| data.len());
+    assert!(rt; profile == (name == "ICC").then_some(65519), "{name}");
+    Ok(())
+}
+
 #[test]
 fn segments_of_the_greatest_length_are_read(rt: HostRuntime) -> Result<(), Fail> {
     for (name, segment) in LONG_SEGMENTS.iter() {
-        let stream = row_with(rt.alloc(), segment)?;
-        let mut decoder = Decoder::new(rt.alloc(), stream.as_slice())?;
-        assert!(rt;
-            decoder.decode()?.as_slice() == [129; 64].as_slice(),
-            "{name}"
-        );
-        let exif = decoder.exif_data().map(|data| data.len());
-        assert!(rt; exif == (*name == "Exif").then_some(65527), "{name}");
-        let profile = decoder.icc_profile()?.map(|data| data.len());
-        assert!(rt; profile == (*name == "ICC").then_some(65519), "{name}");
+        assert_long(&rt, rt.alloc(), name, segment)?;
     }
     Ok(())
 }

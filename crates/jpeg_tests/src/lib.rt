@@ -16,6 +16,8 @@ mod interruptions;
 #[cfg(test)]
 mod large;
 #[cfg(test)]
+mod lossless;
+#[cfg(test)]
 mod memory;
 #[cfg(test)]
 mod metadata;

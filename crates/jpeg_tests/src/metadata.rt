@@ -1,12 +1,14 @@
 //! Headers, metadata, states and limits.
 
 use crate::bytes::bytes;
+use crate::rows::{is_failed, is_finished};
 use crate::streams::{Reader, Trouble};
 use jpeg_decoder::run::run;
 use jpeg_decoder::{
     CodingProcess, ColorTransform, Decoder, Error, ImageInfo, PixelFormat, UnsupportedFeature,
 };
 use std::alloc::Global;
+use std::process::Abort;
 use std::test::Fail;
 
 /// A quantization table, a frame of 8 by 8, and the rest of a stream of 64 samples of 129.
@@ -25,51 +27,76 @@ const XMP: &str = "FFE1 0020 687474703A2F2F6E732E61646F62652E636F6D2F7861702F312
 
 const WRONG_ADOBE: &str = "FFEE 000E 41646F626500 6400000000 03";
 
-#[test]
-fn exif_and_xmp_data(rt: HostRuntime) -> Result<(), Fail> {
-    let stream = bytes(rt.alloc(), &["FFD8", EXIF, TABLE, FRAME, REST])?;
-    let mut decoder = Decoder::new(rt.alloc(), stream.as_slice())?;
-    assert_eq!(rt; decoder.exif_data(), None);
-    decoder.read_info()?;
-    assert_eq!(rt; decoder.exif_data().ok_or("none")?, [1, 2, 3].as_slice());
-    assert_eq!(rt; decoder.xmp_data(), None);
-    assert_eq!(rt; decoder.decode()?.as_slice(), [129; 64].as_slice());
-    assert_eq!(rt; decoder.exif_data().ok_or("none")?, [1, 2, 3].as_slice());
-    let stream = bytes(rt.alloc(), &["FFD8", EXIF, EMPTY_EXIF, TABLE, FRAME, REST])?;
-    let mut decoder = Decoder::new(rt.alloc(), stream.as_slice())?;
-    decoder.decode()?;
-    assert_eq!(rt; decoder.exif_data().ok_or("none")?.len(), 0);
-    let stream = bytes(rt.alloc(), &["FFD8", EXIF, XMP, TABLE, FRAME, REST])?;
-    let mut decoder = Decoder::new(rt.alloc(), stream.as_slice())?;
-    decoder.decode()?;
-    assert_eq!(rt; decoder.exif_data().ok_or("none")?, [1, 2, 3].as_slice());
-    assert_eq!(rt; decoder.xmp_data().ok_or("none")?, b"<".as_slice());
+const EXIF_DATA: [u8; 3] = [1, 2, 3];
+
+/// What the frame says.
+const INFO: ImageInfo = ImageInfo {
+    width: 8,
+    height: 8,
+    pixel_format: PixelFormat::L8,
+    coding_process: CodingProcess::DctSequential,
+};
+
+/// Asserts what Exif and XMP data a decoder has read.
+fn assert_data(rt: &impl Abort, decoder: &Decoder<&[u8]>, exif: Option<&[u8]>, xmp: Option<&[u8]>) {
+    assert!(rt; decoder.exif_data() == exif);
+    assert!(rt; decoder.xmp_data() == xmp);
+}
+
+/// Asserts what Exif and XMP data a stream with these segments has.
+fn assert_read_data(
+    rt: &impl Abort,
+    alloc: Global,
+    segments: &[&str],
+    exif: &[u8],
+    xmp: Option<&[u8]>,
+) -> Result<(), Fail> {
+    let mut stream = bytes(alloc, &["FFD8"])?;
+    stream.extend_from_slice(&bytes(alloc, segments)?)?;
+    stream.extend_from_slice(&bytes(alloc, &[TABLE, FRAME, REST])?)?;
+    let mut decoder = Decoder::new(alloc, stream.as_slice())?;
+    assert!(rt; decoder.decode().is_ok());
+    assert_data(rt, &decoder, Some(exif), xmp);
     Ok(())
 }
 
 #[test]
-fn metadata_behind_a_refusal(rt: HostRuntime) -> Result<(), Fail> {
+fn exif_data_is_there_after_the_header(rt: HostRuntime) -> Result<(), Fail> {
+    let stream = bytes(rt.alloc(), &["FFD8", EXIF, TABLE, FRAME, REST])?;
+    let mut decoder = Decoder::new(rt.alloc(), stream.as_slice())?;
+    assert_data(&rt, &decoder, None, None);
+    assert!(rt; decoder.read_info().is_ok());
+    assert_data(&rt, &decoder, Some(EXIF_DATA.as_slice()), None);
+    assert!(rt; decoder.decode()?.as_slice() == [129; 64].as_slice());
+    assert_data(&rt, &decoder, Some(EXIF_DATA.as_slice()), None);
+    Ok(())
+}
+
+#[test]
+fn the_last_exif_data_counts(rt: HostRuntime) -> Result<(), Fail> {
+    assert_read_data(&rt, rt.alloc(), &[EXIF, EMPTY_EXIF], &[], None)
+}
+
+#[test]
+fn exif_and_xmp_data(rt: HostRuntime) -> Result<(), Fail> {
+    let xmp = Some(b"<".as_slice());
+    assert_read_data(&rt, rt.alloc(), &[EXIF, XMP], EXIF_DATA.as_slice(), xmp)
+}
+
+#[test]
+fn metadata_after_a_refusal(rt: HostRuntime) -> Result<(), Fail> {
     let stream = bytes(rt.alloc(), &["FFD8", EXIF, TABLE, WRONG_ADOBE, FRAME, REST])?;
     let mut decoder = Decoder::new(rt.alloc(), stream.as_slice())?;
     assert!(rt; matches!(&decoder.decode(), Err(Error::Format(_))));
-    assert_eq!(rt; decoder.exif_data().ok_or("none")?, [1, 2, 3].as_slice());
-    assert_eq!(rt; decoder.info(), None);
-    assert!(rt;
-        matches!(
-            &decoder.read_info(),
-            Err(Error::Internal("decoder has failed"))
-        )
-    );
-    assert!(rt;
-        matches!(
-            &decoder.decode(),
-            Err(Error::Internal("decoder has failed"))
-        )
-    );
+    assert_data(&rt, &decoder, Some(EXIF_DATA.as_slice()), None);
+    assert!(rt; decoder.info().is_none());
+    assert!(rt; is_failed(&decoder.read_info()));
+    assert!(rt; is_failed(&decoder.decode()));
     Ok(())
 }
 
-/// A stream with parts of an ICC profile: numbers from `first` down to `last`, each with one byte, its number; and one more part.
+/// A stream with parts of an ICC profile: numbers from `first` down to `last`, each with one byte,
+/// its number; and one more part.
 fn with_profile(
     alloc: Global,
     first: u8,
@@ -132,32 +159,60 @@ fn a_profile_that_is_not_whole(rt: HostRuntime) -> Result<(), Fail> {
     Ok(())
 }
 
+/// Asserts that a stream's header is read, however often, and then its picture.
+fn assert_header_first(
+    rt: &impl Abort,
+    alloc: Global,
+    stream: &[u8],
+    step: usize,
+) -> Result<(), Fail> {
+    let reader = Reader::new(stream, step, usize::MAX, Trouble::Fails);
+    let mut decoder = Decoder::new(alloc, reader)?;
+    for _ in 0..2 {
+        assert!(rt; decoder.read_info().is_ok());
+        assert!(rt; decoder.info() == Some(INFO));
+    }
+    assert!(rt; decoder.decode()?.as_slice() == [129; 64].as_slice());
+    assert!(rt; decoder.read_info().is_ok());
+    assert!(rt; decoder.info() == Some(INFO));
+    assert!(rt; is_finished(&decoder.decode()));
+    Ok(())
+}
+
 #[test]
 fn a_header_and_then_its_picture(rt: HostRuntime) -> Result<(), Fail> {
     let stream = bytes(rt.alloc(), &["FFD8", TABLE, FRAME, REST])?;
     for step in [1, 2, 3, 1000] {
-        let reader = Reader::new(&stream, step, usize::MAX, Trouble::Fails);
-        let mut decoder = Decoder::new(rt.alloc(), reader)?;
-        decoder.read_info()?;
-        let info: ImageInfo = decoder.info().ok_or("no info")?;
-        assert_eq!(rt; (info.width, info.height), (8, 8));
-        assert_eq!(rt; info.pixel_format, PixelFormat::L8);
-        assert_eq!(rt; info.coding_process, CodingProcess::DctSequential);
-        decoder.read_info()?;
-        assert_eq!(rt; decoder.decode()?.as_slice(), [129; 64].as_slice());
-        decoder.read_info()?;
-        assert!(rt; decoder.info() == Some(info));
-        assert!(rt;
-            matches!(
-                &decoder.decode(),
-                Err(Error::Internal("image was already decoded"))
-            )
-        );
+        assert_header_first(&rt, rt.alloc(), &stream, step)?;
     }
+    Ok(())
+}
+
+#[test]
+fn no_bytes_have_no_header(rt: HostRuntime) -> Result<(), Fail> {
     let nothing: &[u8] = &[];
     let mut decoder = Decoder::new(rt.alloc(), nothing)?;
     assert!(rt; matches!(&decoder.read_info(), Err(Error::Io(_))));
-    assert_eq!(rt; decoder.info(), None);
+    assert!(rt; decoder.info().is_none());
+    Ok(())
+}
+
+/// Asserts what is read of a frame before a scan that is refused.
+fn assert_header(
+    rt: &impl Abort,
+    alloc: Global,
+    frame: &str,
+    format: Option<PixelFormat>,
+    process: CodingProcess,
+) -> Result<(), Fail> {
+    let stream = bytes(alloc, &["FFD8", TABLE, frame, REST])?;
+    let mut decoder = Decoder::new(alloc, stream.as_slice())?;
+    decoder.set_color_transform(ColorTransform::RGB);
+    assert!(rt; decoder.read_info().is_ok());
+    let info: ImageInfo = decoder.info().ok_or("no info")?;
+    assert!(rt; info.coding_process == process);
+    assert!(rt; format.is_none_or(|format| format == info.pixel_format));
+    assert!(rt; matches!(&decoder.decode(), Err(Error::Format(_))));
     Ok(())
 }
 
@@ -166,19 +221,15 @@ fn a_header_and_then_its_picture(rt: HostRuntime) -> Result<(), Fail> {
 #[test]
 fn headers_before_a_refused_scan(rt: HostRuntime) -> Result<(), Fail> {
     let progressive = "FFC2 000B 08 0008 0008 01 01 11 00";
+    assert_header(
+        &rt,
+        rt.alloc(),
+        progressive,
+        None,
+        CodingProcess::DctProgressive,
+    )?;
     let lossless = "FFC3 000B 10 0008 0008 01 01 11 00";
-    for (frame, process) in [
-        (progressive, CodingProcess::DctProgressive),
-        (lossless, CodingProcess::Lossless),
-    ] {
-        let stream = bytes(rt.alloc(), &["FFD8", TABLE, frame, REST])?;
-        let mut decoder = Decoder::new(rt.alloc(), stream.as_slice())?;
-        decoder.read_info()?;
-        let info = decoder.info().ok_or("no info")?;
-        assert_eq!(rt; info.coding_process, process);
-        assert!(rt; matches!(&decoder.decode(), Err(Error::Format(_))));
-    }
-    Ok(())
+    assert_header(&rt, rt.alloc(), lossless, None, CodingProcess::Lossless)
 }
 
 /// Headers of several components, of which the stream's one scan leaves some without samples.
@@ -192,32 +243,28 @@ fn headers_of_several_components(rt: HostRuntime) -> Result<(), Fail> {
         (halves, PixelFormat::RGB24),
         (four, PixelFormat::CMYK32),
     ] {
-        let stream = bytes(rt.alloc(), &["FFD8", TABLE, frame, REST])?;
-        let mut decoder = Decoder::new(rt.alloc(), stream.as_slice())?;
-        decoder.set_color_transform(ColorTransform::RGB);
-        decoder.read_info()?;
-        let info = decoder.info().ok_or("no info")?;
-        assert_eq!(rt; info.pixel_format, format);
-        assert!(rt; matches!(&decoder.decode(), Err(Error::Format(_))));
+        let process = CodingProcess::DctSequential;
+        assert_header(&rt, rt.alloc(), frame, Some(format), process)?;
     }
     Ok(())
+}
+
+/// Whether a picture of these bytes is decoded, or refused as `Format`, under a limit.
+pub fn keeps_limit(alloc: Global, stream: &[u8], limit: usize, fits: bool) -> Result<bool, Fail> {
+    let mut decoder = Decoder::new(alloc, stream)?;
+    decoder.set_max_decoding_buffer_size(limit);
+    Ok(match &decoder.decode() {
+        Ok(_) => fits,
+        Err(Error::Format(_)) => !fits,
+        Err(_) => false,
+    })
 }
 
 #[test]
 fn a_limit_on_the_picture(rt: HostRuntime) -> Result<(), Fail> {
     let stream = bytes(rt.alloc(), &["FFD8", TABLE, FRAME, REST])?;
-    for (limit, fits) in [(63, false), (64, true)] {
-        let mut decoder = Decoder::new(rt.alloc(), stream.as_slice())?;
-        decoder.set_max_decoding_buffer_size(limit);
-        let answer = decoder.decode();
-        assert!(rt;
-            if fits {
-                answer.is_ok()
-            } else {
-                matches!(&answer, Err(Error::Format(_)))
-            }
-        );
-    }
+    assert!(rt; keeps_limit(rt.alloc(), &stream, 63, false)?);
+    assert!(rt; keeps_limit(rt.alloc(), &stream, 64, true)?);
     Ok(())
 }
 
@@ -253,22 +300,35 @@ const REFUSED: [(&str, UnsupportedFeature); 7] = [
     ),
 ];
 
+/// Whether a call refused a feature by name.
+fn is_refused<T>(answer: &Result<T, Error>, feature: &UnsupportedFeature) -> bool {
+    match answer {
+        Err(Error::Unsupported(refused)) => refused == feature,
+        _ => false,
+    }
+}
+
+/// Asserts that a frame is refused by `decode` and by `run`, which writes nothing.
+fn assert_refused(
+    rt: &impl Abort,
+    alloc: Global,
+    frame: &str,
+    feature: &UnsupportedFeature,
+) -> Result<(), Fail> {
+    let stream = bytes(alloc, &["FFD8", TABLE, frame, REST])?;
+    let mut decoder = Decoder::new(alloc, stream.as_slice())?;
+    assert!(rt; is_refused(&decoder.decode(), feature), "{frame}");
+    let mut written = Vec::new(alloc);
+    let answer = run(alloc, stream.as_slice(), &mut written);
+    assert!(rt; is_refused(&answer, feature), "{frame}");
+    assert!(rt; written.is_empty(), "{frame}");
+    Ok(())
+}
+
 #[test]
 fn frames_that_are_refused_by_name(rt: HostRuntime) -> Result<(), Fail> {
     for (frame, feature) in REFUSED.iter() {
-        let stream = bytes(rt.alloc(), &["FFD8", TABLE, *frame, REST])?;
-        let mut decoder = Decoder::new(rt.alloc(), stream.as_slice())?;
-        let mut written = Vec::new(rt.alloc());
-        for answer in [
-            decoder.decode().map(|_| ()),
-            run(rt.alloc(), stream.as_slice(), &mut written),
-        ] {
-            match answer {
-                Err(Error::Unsupported(refused)) => assert!(rt; refused == *feature, "{frame}"),
-                _ => assert!(rt; false, "{frame}"),
-            }
-        }
-        assert!(rt; written.is_empty(), "{frame}");
+        assert_refused(&rt, rt.alloc(), frame, feature)?;
     }
     Ok(())
 }

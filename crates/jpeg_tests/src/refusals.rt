@@ -1,7 +1,6 @@
 //! Refusals that no other row has, each with its name.
 
-use crate::bytes::bytes;
-use crate::rows::{AC_0, DC_4, END, FRAME, Gives, ONES, SCAN, assert_gives};
+use crate::rows::{AC_0, DC_4, END, FRAME, Gives, ONES, SCAN, assert_pieces};
 use std::test::Fail;
 
 /// A DC table of one code of category 12, which no difference has at 8 bits (T.81, Table F.1).
@@ -43,8 +42,7 @@ const REFUSED: [(&str, [&str; 8], Gives); 6] = [
 #[test]
 fn refusals_have_their_names(rt: HostRuntime) -> Result<(), Fail> {
     for (name, pieces, gives) in REFUSED.iter() {
-        let stream = bytes(rt.alloc(), pieces.as_slice())?;
-        assert_gives(&rt, rt.alloc(), name, &stream, *gives)?;
+        assert_pieces(&rt, rt.alloc(), name, pieces.as_slice(), *gives)?;
     }
     Ok(())
 }

@@ -3,7 +3,9 @@
 use crate::bytes::bytes;
 use crate::streams::{Ended, Reader, Trouble};
 use jpeg_decoder::run::run;
-use jpeg_decoder::{ColorTransform, Decoder, Error, ImageInfo, PixelFormat, UnsupportedFeature};
+use jpeg_decoder::{
+    CodingProcess, ColorTransform, Decoder, Error, ImageInfo, PixelFormat, UnsupportedFeature,
+};
 use std::alloc::Global;
 use std::io::ErrorKind;
 use std::process::Abort;
@@ -11,10 +13,9 @@ use std::test::Fail;
 
 /// A quantization table of 64 times one value.
 pub const ONES: &str = "FFDB 0043 00 01*64";
-/// A frame of 8 by 8, and one of 16 by 8.
+/// A frame of 8 by 8.
 pub const FRAME: &str = "FFC0 000B 08 0008 0008 01 01 11 00";
 
-const WIDE: &str = "FFC0 000B 08 0008 0010 01 01 11 00";
 /// Huffman tables of one code of one bit: DC of category 4, and AC of the end of band.
 pub const DC_4: &str = "FFC4 0014 00 01 00*15 04";
 
@@ -27,9 +28,9 @@ pub const END: &str = "FFD9";
 /// What a stream gives: its picture, or the name of its refusal.
 #[derive(Clone, Copy)]
 pub enum Gives {
-    /// Grey lines of these bytes, so many times.
+    /// Grey lines of these bytes, this many times.
     Lines(&'static str, usize),
-    /// The line that `run` writes before the pixels, and lines of these bytes, so many times.
+    /// The line that `run` writes before the pixels, and lines of these bytes, this many times.
     Colours(&'static str, &'static str, usize),
     Format,
     Dnl,
@@ -41,356 +42,196 @@ pub enum Gives {
     Io,
 }
 
-const STREAMS: [([&str; 8], Gives); 23] = [
-    // DC 8 alone: 129 everywhere.
+/// Entropy-coded data of one block or two, and where a fault after it is met.
+const DATA: [(&str, &str, Gives); 7] = [
     (
-        ["FFD8", ONES, FRAME, DC_4, AC_0, SCAN, "43", END],
+        "DC alone",
+        "FFD8 Q(01) F(C0) D(04) A(00) S(003F00) 43 FFD9",
         Gives::Lines("81*8", 8),
     ),
-    // A second block whose bits are the zeros behind the marker: DC 8 - 15.
     (
-        ["FFD8", ONES, WIDE, DC_4, AC_0, SCAN, "40", END],
+        "a second block whose bits are the zeros after the data",
+        "FFD8 Q(01) FFC0 000B 08 0008 0010 01 01 11 00 D(04) A(00) S(003F00) 40 FFD9",
         Gives::Lines("81*8 7F*8", 8),
     ),
-    // The bits 11 begin no code.
     (
-        ["FFD8", ONES, WIDE, DC_4, AC_0, SCAN, "43", END],
+        "bits that begin no code",
+        "FFD8 Q(01) FFC0 000B 08 0008 0010 01 01 11 00 D(04) A(00) S(003F00) 43 FFD9",
         Gives::Format,
     ),
-    // One AC coefficient.
     (
-        [
-            "FFD8",
-            "FFDB 0043 00 40*64",
-            FRAME,
-            "FFC4 0014 00 01 00*15 00",
-            "FFC4 0015 10 01 01 00*14 01 00",
-            SCAN,
-            "37",
-            END,
-        ],
+        "an AC coefficient",
+        "FFD8 FFDB 0043 00 40*64 F(C0) FFC4 0014 00 01 00*15 00 FFC4 0015 10 01 01 00*14 01 00
+         S(003F00) 37 FFD9",
         Gives::Lines("8B 89 86 82 7E 7A 77 75", 8),
     ),
-    // A fault within 56 bits behind the bits taken is refused, and one further is passed over.
     (
-        ["FFD8", ONES, FRAME, DC_4, AC_0, SCAN, "43 FFFF00", END],
+        "a fault right after the bits taken",
+        "FFD8 Q(01) F(C0) D(04) A(00) S(003F00) 43 FFFF00 FFD9",
         Gives::Format,
     ),
     (
-        ["FFD8", ONES, FRAME, DC_4, AC_0, SCAN, "43 00*6 FFFF00", END],
+        "a fault within 56 bits after the bits taken",
+        "FFD8 Q(01) F(C0) D(04) A(00) S(003F00) 43 00*6 FFFF00 FFD9",
         Gives::Format,
     ),
     (
-        ["FFD8", ONES, FRAME, DC_4, AC_0, SCAN, "43 00*7 FFFF00", END],
+        "a fault further than 56 bits after the bits taken",
+        "FFD8 Q(01) F(C0) D(04) A(00) S(003F00) 43 00*7 FFFF00 FFD9",
         Gives::Lines("81*8", 8),
     ),
-    // No height.
+];
+
+/// Frames of several kinds and sizes.
+const FRAMES: [(&str, &str, Gives); 9] = [
     (
-        [
-            "FFD8",
-            ONES,
-            "FFC0 000B 08 0000 0008 01 01 11 00",
-            DC_4,
-            AC_0,
-            SCAN,
-            "43",
-            END,
-        ],
+        "no height",
+        "FFD8 Q(01) FFC0 000B 08 0000 0008 01 01 11 00 D(04) A(00) S(003F00) 43 FFD9",
         Gives::Dnl,
     ),
-    // Extended sequential frames, of 8 bits alone.
     (
-        [
-            "FFD8",
-            ONES,
-            "FFC1 000B 08 0008 0008 01 01 11 00",
-            DC_4,
-            AC_0,
-            SCAN,
-            "43",
-            END,
-        ],
+        "an extended sequential frame",
+        "FFD8 Q(01) FFC1 000B 08 0008 0008 01 01 11 00 D(04) A(00) S(003F00) 43 FFD9",
         Gives::Lines("81*8", 8),
     ),
     (
-        [
-            "FFD8",
-            ONES,
-            "FFC1 000B 0C 0008 0008 01 01 11 00",
-            DC_4,
-            AC_0,
-            SCAN,
-            "43",
-            END,
-        ],
+        "an extended sequential frame of 12 bits",
+        "FFD8 Q(01) FFC1 000B 0C 0008 0008 01 01 11 00 D(04) A(00) S(003F00) 43 FFD9",
         Gives::Precision(12),
     ),
     (
-        [
-            "FFD8",
-            ONES,
-            "FFC0 000B 0C 0008 0008 01 01 11 00",
-            DC_4,
-            AC_0,
-            SCAN,
-            "43",
-            END,
-        ],
+        "a baseline frame of 12 bits",
+        "FFD8 Q(01) FFC0 000B 0C 0008 0008 01 01 11 00 D(04) A(00) S(003F00) 43 FFD9",
         Gives::Format,
     ),
     (
-        ["FFD8", ONES, FRAME, FRAME, DC_4, AC_0, SCAN, "43 FFD9"],
+        "two frames",
+        "FFD8 Q(01) F(C0) F(C0) D(04) A(00) S(003F00) 43 FFD9",
         Gives::Hierarchical,
     ),
-    // A table of 16-bit values; sampling factors of a component that is alone.
     (
-        [
-            "FFD8",
-            "FFDB 0083 10 0001*64",
-            FRAME,
-            DC_4,
-            AC_0,
-            SCAN,
-            "43",
-            END,
-        ],
+        "a quantization table of 16-bit values",
+        "FFD8 FFDB 0083 10 0001*64 F(C0) D(04) A(00) S(003F00) 43 FFD9",
         Gives::Lines("81*8", 8),
     ),
     (
-        [
-            "FFD8",
-            ONES,
-            "FFC0 000B 08 0008 0008 01 01 22 00",
-            DC_4,
-            AC_0,
-            SCAN,
-            "43",
-            END,
-        ],
+        "sampling factors of a component that is alone",
+        "FFD8 Q(01) FFC0 000B 08 0008 0008 01 01 22 00 D(04) A(00) S(003F00) 43 FFD9",
         Gives::Lines("81*8", 8),
     ),
-    // Pictures that end inside a block.
     (
-        [
-            "FFD8",
-            ONES,
-            "FFC0 000B 08 0003 0005 01 01 11 00",
-            DC_4,
-            AC_0,
-            SCAN,
-            "43",
-            END,
-        ],
+        "a picture that ends inside its block",
+        "FFD8 Q(01) FFC0 000B 08 0003 0005 01 01 11 00 D(04) A(00) S(003F00) 43 FFD9",
         Gives::Lines("81*5", 3),
     ),
     (
-        [
-            "FFD8",
-            ONES,
-            "FFC0 000B 08 0003 0009 01 01 11 00",
-            DC_4,
-            AC_0,
-            SCAN,
-            "40",
-            END,
-        ],
+        "a picture that ends inside its second block",
+        "FFD8 Q(01) FFC0 000B 08 0003 0009 01 01 11 00 D(04) A(00) S(003F00) 40 FFD9",
         Gives::Lines("81*8 7F", 3),
     ),
-    // Tables that are missing, or hold a 0; a scan before its frame, an end before it, and a frame without a scan.
+];
+
+/// Streams that lack something, or have it too late.
+const UNFINISHED: [(&str, &str, Gives); 7] = [
     (
-        ["FFD8", "", FRAME, DC_4, AC_0, SCAN, "43", END],
+        "no quantization table",
+        "FFD8 F(C0) D(04) A(00) S(003F00) 43 FFD9",
         Gives::Format,
     ),
     (
-        ["FFD8", ONES, FRAME, DC_4, "", SCAN, "43", END],
+        "no AC table",
+        "FFD8 Q(01) F(C0) D(04) S(003F00) 43 FFD9",
         Gives::Format,
     ),
     (
-        [
-            "FFD8",
-            "FFDB 0043 00 01*63 00",
-            FRAME,
-            DC_4,
-            AC_0,
-            SCAN,
-            "43",
-            END,
-        ],
+        "a quantization table that holds a 0",
+        "FFD8 FFDB 0043 00 01*63 00 F(C0) D(04) A(00) S(003F00) 43 FFD9",
         Gives::Format,
     ),
     (
-        ["FFD8", ONES, DC_4, AC_0, SCAN, "43", FRAME, END],
+        "a scan before its frame",
+        "FFD8 Q(01) D(04) A(00) S(003F00) 43 F(C0) FFD9",
         Gives::Format,
     ),
-    (["FFD8", END, "", "", "", "", "", ""], Gives::Format),
+    ("nothing but an end", "FFD8 FFD9", Gives::Format),
     (
-        ["FFD8", ONES, FRAME, DC_4, AC_0, END, "", ""],
+        "a frame without a scan",
+        "FFD8 Q(01) F(C0) D(04) A(00) FFD9",
         Gives::Format,
     ),
-    // No bytes.
-    (["", "", "", "", "", "", "", ""], Gives::Io),
+    ("no bytes", "", Gives::Io),
 ];
 
 /// Streams with what is passed over.
-const PASSED_OVER: [([&str; 8], Gives); 6] = [
-    // A comment before the frame and behind it, data of an application, bytes between segments, and fill bytes.
+const PASSED_OVER: [(&str, &str, Gives); 6] = [
     (
-        [
-            "FFD8",
-            ONES,
-            "FFFE 0003 43",
-            FRAME,
-            DC_4,
-            AC_0,
-            SCAN,
-            "43 FFD9",
-        ],
+        "a comment before the frame",
+        "FFD8 Q(01) FFFE 0003 43 F(C0) D(04) A(00) S(003F00) 43 FFD9",
         Gives::Lines("81*8", 8),
     ),
     (
-        [
-            "FFD8",
-            ONES,
-            FRAME,
-            "FFFE 0003 43",
-            DC_4,
-            AC_0,
-            SCAN,
-            "43 FFD9",
-        ],
+        "a comment after the frame",
+        "FFD8 Q(01) F(C0) FFFE 0003 43 D(04) A(00) S(003F00) 43 FFD9",
         Gives::Lines("81*8", 8),
     ),
     (
-        [
-            "FFD8",
-            "FFE0 0010 4A46494600 01*9",
-            ONES,
-            FRAME,
-            DC_4,
-            AC_0,
-            SCAN,
-            "43 FFD9",
-        ],
+        "data of an application",
+        "FFD8 FFE0 0010 4A46494600 01*9 Q(01) F(C0) D(04) A(00) S(003F00) 43 FFD9",
         Gives::Lines("81*8", 8),
     ),
     (
-        [
-            "FFD8",
-            ONES,
-            "41FF0042FFFF",
-            FRAME,
-            DC_4,
-            AC_0,
-            SCAN,
-            "43 FFFFFFD9",
-        ],
-        Gives::Lines("81*8", 8),
-    ),
-    // The first scan decides, and bytes behind the end say nothing.
-    (
-        [
-            "FFD8",
-            ONES,
-            FRAME,
-            DC_4,
-            AC_0,
-            SCAN,
-            "43 FFDA 0008 01 01 00 00 3F 00 7B",
-            END,
-        ],
+        "bytes between segments, and fill bytes",
+        "FFD8 Q(01) 41FF0042FFFF F(C0) D(04) A(00) S(003F00) 43 FFFFFFD9",
         Gives::Lines("81*8", 8),
     ),
     (
-        [
-            "FFD8",
-            ONES,
-            FRAME,
-            DC_4,
-            AC_0,
-            SCAN,
-            "43 FFD9 FFD8 00",
-            END,
-        ],
+        "a second scan that says otherwise",
+        "FFD8 Q(01) F(C0) D(04) A(00) S(003F00) 43 FFDA 0008 01 01 00 00 3F 00 7B FFD9",
+        Gives::Lines("81*8", 8),
+    ),
+    (
+        "bytes after the end",
+        "FFD8 Q(01) F(C0) D(04) A(00) S(003F00) 43 FFD9 FFD8 00 FFD9",
         Gives::Lines("81*8", 8),
     ),
 ];
 
-/// Streams of markers that come behind a scan, and of restart intervals.
-const MARKER_STREAMS: [([&str; 8], Gives); 7] = [
-    // Restart markers at the end of a scan: those behind a marker that was met are passed over, and one that was not is ignored once.
+/// Streams of markers that come after a scan, and of restart intervals.
+const MARKER_STREAMS: [(&str, &str, Gives); 7] = [
     (
-        ["FFD8", ONES, FRAME, DC_4, AC_0, SCAN, "43 FFD0 FFD0", END],
+        "restart markers after a marker that was met",
+        "FFD8 Q(01) F(C0) D(04) A(00) S(003F00) 43 FFD0 FFD0 FFD9",
         Gives::Lines("81*8", 8),
     ),
     (
-        ["FFD8", ONES, FRAME, DC_4, AC_0, SCAN, "43 00*7 FFD0", END],
+        "a restart marker further than 56 bits after the bits taken",
+        "FFD8 Q(01) F(C0) D(04) A(00) S(003F00) 43 00*7 FFD0 FFD9",
         Gives::Lines("81*8", 8),
     ),
     (
-        [
-            "FFD8",
-            ONES,
-            FRAME,
-            DC_4,
-            AC_0,
-            SCAN,
-            "43 00*7 FFD0 FFD0",
-            END,
-        ],
+        "two restart markers further than 56 bits after the bits taken",
+        "FFD8 Q(01) F(C0) D(04) A(00) S(003F00) 43 00*7 FFD0 FFD0 FFD9",
         Gives::Format,
     ),
-    // A number of lines behind the first scan, and behind a later one.
     (
-        [
-            "FFD8",
-            ONES,
-            FRAME,
-            DC_4,
-            AC_0,
-            SCAN,
-            "43 FFDC 0004 0008",
-            END,
-        ],
+        "a number of lines after the first scan",
+        "FFD8 Q(01) F(C0) D(04) A(00) S(003F00) 43 FFDC 0004 0008 FFD9",
         Gives::Dnl,
     ),
     (
-        [
-            "FFD8",
-            ONES,
-            FRAME,
-            DC_4,
-            AC_0,
-            SCAN,
-            "43 FFDA 0008 01 01 00 00 3F 00 43 FFDC 0004 0008",
-            END,
-        ],
+        "a number of lines after a later scan",
+        "FFD8 Q(01) F(C0) D(04) A(00) S(003F00) 43 FFDA 0008 01 01 00 00 3F 00 43 FFDC 0004 0008
+         FFD9",
         Gives::Format,
     ),
-    // A restart interval of 0 is none, and one that holds the whole scan has no marker.
     (
-        [
-            "FFD8",
-            ONES,
-            FRAME,
-            "FFDD 0004 0000",
-            DC_4,
-            AC_0,
-            SCAN,
-            "43 FFD9",
-        ],
+        "a restart interval of 0",
+        "FFD8 Q(01) F(C0) FFDD 0004 0000 D(04) A(00) S(003F00) 43 FFD9",
         Gives::Lines("81*8", 8),
     ),
     (
-        [
-            "FFD8",
-            ONES,
-            FRAME,
-            "FFDD 0004 0001",
-            DC_4,
-            AC_0,
-            SCAN,
-            "43 FFD9",
-        ],
+        "a restart interval that holds the whole scan",
+        "FFD8 Q(01) F(C0) FFDD 0004 0001 D(04) A(00) S(003F00) 43 FFD9",
         Gives::Lines("81*8", 8),
     ),
 ];
@@ -438,7 +279,17 @@ fn is_refusal<T>(answer: &Result<T, Error>, gives: Gives) -> bool {
     }
 }
 
-/// The bytes of a line, so many times.
+/// Whether a call was refused after the end of the image.
+pub fn is_finished<T>(answer: &Result<T, Error>) -> bool {
+    matches!(answer, Err(Error::Internal("image was already decoded")))
+}
+
+/// Whether a call was refused after a refusal.
+pub fn is_failed<T>(answer: &Result<T, Error>) -> bool {
+    matches!(answer, Err(Error::Internal("decoder has failed")))
+}
+
+/// The bytes of a line, this many times.
 fn repeated(alloc: Global, line: &str, times: usize) -> Result<Vec<u8>, Fail> {
     let line = bytes(alloc, &[line])?;
     let mut picture = Vec::new(alloc);
@@ -496,11 +347,7 @@ pub fn decodes_as_wanted(
             Ok(samples) => samples.as_slice() == picture.as_slice(),
             Err(_) => false,
         }),
-        None => {
-            let after = decoder.decode();
-            let has_failed = matches!(&after, Err(Error::Internal("decoder has failed")));
-            Ok(is_refusal(&answer, gives) && has_failed)
-        }
+        None => { Ok(is_refusal(&answer, gives) && is_failed(&decoder.decode())) }
     }
 }
 
@@ -523,6 +370,18 @@ pub fn assert_gives(
     Ok(())
 }
 
+/// Asserts that a stream in pieces gives what is wanted.
+pub fn assert_pieces(
+    rt: &impl Abort,
+    alloc: Global,
+    name: &str,
+    pieces: &[&str],
+    gives: Gives,
+) -> Result<(), Fail> {
+    let stream = bytes(alloc, pieces)?;
+    assert_gives(rt, alloc, name, &stream, gives)
+}
+
 /// Asserts that each named stream of a table gives what is wanted.
 pub fn assert_named(
     rt: &impl Abort,
@@ -530,51 +389,43 @@ pub fn assert_named(
     streams: &[(&str, &str, Gives)],
 ) -> Result<(), Fail> {
     for (name, stream, gives) in streams.iter() {
-        let stream = bytes(alloc, &[*stream])?;
-        assert_gives(rt, alloc, name, &stream, *gives)?;
-    }
-    Ok(())
-}
-
-/// Asserts that each stream of a table gives what is wanted.
-fn assert_all_give(
-    rt: &impl Abort,
-    alloc: Global,
-    streams: &[([&str; 8], Gives)],
-) -> Result<(), Fail> {
-    for (number, (pieces, gives)) in streams.iter().enumerate() {
-        let name = format!(in alloc; "stream {number}")?;
-        let stream = bytes(alloc, pieces.as_slice())?;
-        assert_gives(rt, alloc, name.as_str(), &stream, *gives)?;
+        assert_pieces(rt, alloc, name, &[*stream], *gives)?;
     }
     Ok(())
 }
 
 #[test]
-fn streams_give_what_they_mean(rt: HostRuntime) -> Result<(), Fail> {
-    assert_all_give(&rt, rt.alloc(), &STREAMS)
+fn data_gives_what_it_means(rt: HostRuntime) -> Result<(), Fail> {
+    assert_named(&rt, rt.alloc(), &DATA)
+}
+
+#[test]
+fn frames_give_what_they_mean(rt: HostRuntime) -> Result<(), Fail> {
+    assert_named(&rt, rt.alloc(), &FRAMES)
+}
+
+#[test]
+fn unfinished_streams_are_refused(rt: HostRuntime) -> Result<(), Fail> {
+    assert_named(&rt, rt.alloc(), &UNFINISHED)
 }
 
 #[test]
 fn markers_give_what_they_mean(rt: HostRuntime) -> Result<(), Fail> {
-    assert_all_give(&rt, rt.alloc(), &MARKER_STREAMS)
+    assert_named(&rt, rt.alloc(), &MARKER_STREAMS)
 }
 
 #[test]
 fn what_is_passed_over_changes_nothing(rt: HostRuntime) -> Result<(), Fail> {
-    assert_all_give(&rt, rt.alloc(), &PASSED_OVER)
+    assert_named(&rt, rt.alloc(), &PASSED_OVER)
 }
 
 #[test]
 fn segments_without_a_place_are_refused(rt: HostRuntime) -> Result<(), Fail> {
     for (segment, gives) in REFUSED_SEGMENTS.iter() {
-        for pieces in [
-            ["FFD8", ONES, *segment, FRAME, DC_4, AC_0, SCAN, "43 FFD9"],
-            ["FFD8", ONES, FRAME, *segment, DC_4, AC_0, SCAN, "43 FFD9"],
-        ] {
-            let stream = bytes(rt.alloc(), pieces.as_slice())?;
-            assert_gives(&rt, rt.alloc(), segment, &stream, *gives)?;
-        }
+        let before = ["FFD8", ONES, *segment, FRAME, DC_4, AC_0, SCAN, "43 FFD9"];
+        let after = ["FFD8", ONES, FRAME, *segment, DC_4, AC_0, SCAN, "43 FFD9"];
+        assert_pieces(&rt, rt.alloc(), segment, &before, *gives)?;
+        assert_pieces(&rt, rt.alloc(), segment, &after, *gives)?;
     }
     Ok(())
 }
@@ -598,8 +449,16 @@ fn a_cut_stream_is_refused(rt: HostRuntime) -> Result<(), Fail> {
     Ok(())
 }
 
+/// Asserts that a stream's picture is read, and no byte after its end.
+fn assert_ends(rt: &impl Abort, alloc: Global, pieces: &[&str]) -> Result<(), Fail> {
+    let stream = bytes(alloc, pieces)?;
+    let mut decoder = Decoder::new(alloc, Ended { rest: &stream })?;
+    assert!(rt; decoder.decode()?.as_slice() == [129; 64].as_slice());
+    Ok(())
+}
+
 #[test]
-fn no_byte_behind_the_end_is_read(rt: HostRuntime) -> Result<(), Fail> {
+fn no_byte_after_the_end_is_read(rt: HostRuntime) -> Result<(), Fail> {
     for end in [
         "43 FFD9",
         "43 FFFFFFD9",
@@ -609,86 +468,84 @@ fn no_byte_behind_the_end_is_read(rt: HostRuntime) -> Result<(), Fail> {
         "43 FFFE 0003 43 FFD9",
     ] {
         let pieces = ["FFD8", ONES, FRAME, DC_4, AC_0, SCAN, end];
-        let stream = bytes(rt.alloc(), &pieces)?;
-        let mut decoder = Decoder::new(rt.alloc(), Ended { rest: &stream })?;
-        assert_eq!(rt; decoder.decode()?.as_slice(), [129; 64].as_slice());
+        assert_ends(&rt, rt.alloc(), &pieces)?;
     }
     Ok(())
 }
 
+/// Whether an answer is the error of a reader that was asked for more than it has.
+fn is_read_after_the_end<T>(alloc: Global, answer: &Result<T, Error>) -> Result<bool, Fail> {
+    match answer {
+        Err(Error::Io(error)) => {
+            let text = format!(in alloc; "{error}")?;
+            Ok(text.as_str() == "after the end")
+        }
+        _ => Ok(false),
+    }
+}
+
 #[test]
-fn no_byte_behind_the_header_is_read(rt: HostRuntime) -> Result<(), Fail> {
+fn no_byte_after_the_header_is_read(rt: HostRuntime) -> Result<(), Fail> {
     let stream = bytes(rt.alloc(), &["FFD8", ONES, FRAME])?;
     let mut decoder = Decoder::new(rt.alloc(), Ended { rest: &stream })?;
     decoder.read_info()?;
     assert!(rt; decoder.info().is_some());
-    match decoder.decode() {
-        Err(Error::Io(e)) => assert_eq!(rt;
-            format!(in rt.alloc(); "{e}")?.as_str(),
-            "behind the end"
-        ),
-        _ => assert!(rt; false),
-    }
+    let answer = decoder.decode();
+    assert!(rt; is_read_after_the_end(rt.alloc(), &answer)?);
     Ok(())
 }
+
+/// The row's header.
+const ROW_INFO: ImageInfo = ImageInfo {
+    width: 8,
+    height: 8,
+    pixel_format: PixelFormat::L8,
+    coding_process: CodingProcess::DctSequential,
+};
 
 #[test]
 fn a_second_decode_is_refused(rt: HostRuntime) -> Result<(), Fail> {
     let stream = bytes(rt.alloc(), &ROW)?;
     let mut decoder = Decoder::new(rt.alloc(), stream.as_slice())?;
-    assert_eq!(rt; decoder.info(), None);
+    assert!(rt; decoder.info().is_none());
     decoder.decode()?;
     for _ in 0..2 {
-        assert!(rt;
-            matches!(
-                &decoder.decode(),
-                Err(Error::Internal("image was already decoded"))
-            )
-        );
-        let info = decoder.info().ok_or("no info")?;
-        assert_eq!(rt; info.width, 8);
-        assert_eq!(rt; info.height, 8);
-        assert_eq!(rt; info.pixel_format, PixelFormat::L8);
-        assert_eq!(rt; info.pixel_format.pixel_bytes(), 1);
+        assert!(rt; is_finished(&decoder.decode()));
+        assert!(rt; decoder.info() == Some(ROW_INFO));
     }
     Ok(())
 }
 
 #[test]
-fn info_tells_what_was_read(rt: HostRuntime) -> Result<(), Fail> {
-    let stream = bytes(
-        rt.alloc(),
-        &[
-            "FFD8",
-            ONES,
-            "FFC0 000B 08 0003 0005 01 01 11 00",
-            SCAN,
-            "43",
-            END,
-        ],
-    )?;
-    let mut decoder = Decoder::new(rt.alloc(), stream.as_slice())?;
-    assert!(rt; matches!(&decoder.decode(), Err(Error::Format(_))));
-    let info: ImageInfo = decoder.info().ok_or("no info")?;
-    assert_eq!(rt; (info.width, info.height), (5, 3));
-    let stream = bytes(
-        rt.alloc(),
-        &[
-            "FFD8",
-            ONES,
-            "FFC0 000B 08 0000 0005 01 01 11 00",
-            SCAN,
-            "43",
-            END,
-        ],
-    )?;
-    let mut decoder = Decoder::new(rt.alloc(), stream.as_slice())?;
-    assert!(rt;
-        matches!(
-            &decoder.decode(),
-            Err(Error::Unsupported(UnsupportedFeature::DNL))
-        )
-    );
-    assert_eq!(rt; decoder.info(), None);
+fn a_grey_pixel_has_one_byte(rt: HostRuntime) {
+    assert_eq!(rt; PixelFormat::L8.pixel_bytes(), 1);
+}
+
+/// Asserts what a decoder returns of a frame before a scan that is refused.
+fn assert_info(
+    rt: &impl Abort,
+    alloc: Global,
+    frame: &str,
+    gives: Gives,
+    info: Option<ImageInfo>,
+) -> Result<(), Fail> {
+    let stream = bytes(alloc, &["FFD8", ONES, frame, SCAN, "43", END])?;
+    let mut decoder = Decoder::new(alloc, stream.as_slice())?;
+    assert!(rt; is_refusal(&decoder.decode(), gives), "{frame}");
+    assert!(rt; decoder.info() == info, "{frame}");
     Ok(())
+}
+
+#[test]
+fn info_is_what_was_read(rt: HostRuntime) -> Result<(), Fail> {
+    let info = ImageInfo {
+        width: 5,
+        height: 3,
+        pixel_format: PixelFormat::L8,
+        coding_process: CodingProcess::DctSequential,
+    };
+    let frame = "FFC0 000B 08 0003 0005 01 01 11 00";
+    assert_info(&rt, rt.alloc(), frame, Gives::Format, Some(info))?;
+    let frame = "FFC0 000B 08 0000 0005 01 01 11 00";
+    assert_info(&rt, rt.alloc(), frame, Gives::Dnl, None)
 }

@@ -158,20 +158,30 @@ const RUNS_OF_ZEROS: [Scaled; 3] = [
     ),
 ];
 
+/// Asserts that a decoder has the picture and the size that are wanted at a scale.
+fn assert_sized(
+    rt: &impl Abort,
+    decoder: &mut Decoder<Reader<'_>>,
+    scaled: &Scaled,
+    picture: &[u8],
+) -> Result<(), Fail> {
+    let (name, _, asked, size, _) = *scaled;
+    assert!(rt; decoder.scale(asked.0, asked.1)? == size, "{name}: size");
+    let info: ImageInfo = decoder.info().ok_or("no info")?;
+    assert!(rt; (info.width, info.height) == size, "{name}: info");
+    assert!(rt; decoder.decode()?.as_slice() == picture, "{name}");
+    Ok(())
+}
+
 /// Asserts that each stream of a table has the picture and the size that are wanted at its scale.
 fn assert_scaled(rt: &impl Abort, alloc: Global, table: &[Scaled]) -> Result<(), Fail> {
-    for (name, stream, asked, size, picture) in table.iter() {
-        let stream = bytes(alloc, &[*stream])?;
-        let picture = bytes(alloc, &[*picture])?;
+    for scaled in table.iter() {
+        let stream = bytes(alloc, &[scaled.1])?;
+        let picture = bytes(alloc, &[scaled.4])?;
         for step in [1, 2, 3, 1000] {
             let reader = Reader::new(&stream, step, usize::MAX, Trouble::Fails);
             let mut decoder = Decoder::new(alloc, reader)?;
-            let answer = decoder.scale(asked.0, asked.1)?;
-            assert!(rt; answer == *size, "{name}: size");
-            let info: ImageInfo = decoder.info().ok_or("no info")?;
-            assert!(rt; (info.width, info.height) == *size, "{name}: info");
-            let samples = decoder.decode()?;
-            assert!(rt; samples.as_slice() == picture.as_slice(), "{name}");
+            assert_sized(rt, &mut decoder, scaled, &picture)?;
         }
     }
     Ok(())
@@ -192,6 +202,15 @@ fn runs_of_zeros_at_a_scale(rt: HostRuntime) -> Result<(), Fail> {
     assert_scaled(&rt, rt.alloc(), &RUNS_OF_ZEROS)
 }
 
+/// Whether a decoder answers a scale by this size, and has it then.
+fn takes_size(decoder: &mut Decoder<&[u8]>, asked: Size, size: Size) -> bool {
+    let is_answered = matches!(&decoder.scale(asked.0, asked.1), Ok(answer) if *answer == size);
+    match decoder.info() {
+        Some(info) => is_answered && (info.width, info.height) == size,
+        None => false,
+    }
+}
+
 #[test]
 fn the_last_scale_counts(rt: HostRuntime) -> Result<(), Fail> {
     let stream = bytes(rt.alloc(), &["FFD8 FFC0 000B 08 0009 0011 01 01 11 00"])?;
@@ -203,24 +222,17 @@ fn the_last_scale_counts(rt: HostRuntime) -> Result<(), Fail> {
         ((10, 6), (17, 9)),
         ((3, 9), (3, 2)),
     ] {
-        let (width, height): Size = asked;
-        assert!(rt; decoder.scale(width, height)? == size);
-        let info: ImageInfo = decoder.info().ok_or("no info")?;
-        assert!(rt; (info.width, info.height) == size);
+        assert!(rt; takes_size(&mut decoder, asked, size));
     }
     Ok(())
 }
 
 #[test]
 fn a_finished_decoder_is_scaled(rt: HostRuntime) -> Result<(), Fail> {
-    let stream = bytes(
-        rt.alloc(),
-        &["FFD8 Q(01) F(C0) D(04) A(00) S(003F00) 43 FFD9"],
-    )?;
+    let stream = "FFD8 Q(01) F(C0) D(04) A(00) S(003F00) 43 FFD9";
+    let stream = bytes(rt.alloc(), &[stream])?;
     let mut decoder = Decoder::new(rt.alloc(), stream.as_slice())?;
-    assert_eq!(rt; decoder.decode()?.as_slice(), [129; 64].as_slice());
-    assert!(rt; decoder.scale(2, 2)? == (2, 2));
-    let info: ImageInfo = decoder.info().ok_or("no info")?;
-    assert!(rt; (info.width, info.height) == (2, 2));
+    assert!(rt; decoder.decode()?.as_slice() == [129; 64].as_slice());
+    assert!(rt; takes_size(&mut decoder, (2, 2), (2, 2)));
     Ok(())
 }

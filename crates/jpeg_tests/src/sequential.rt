@@ -3,7 +3,7 @@
 use crate::rows::{Gives, assert_named};
 use std::test::Fail;
 
-const SCANS: [(&str, &str, Gives); 7] = [
+const SCANS: [(&str, &str, Gives); 6] = [
     (
         "a second scan",
         "FFD8 Q(01) F(C0) D(04) A(00) S(003F00) 43 S(003F00) 7B FFD9",
@@ -33,12 +33,6 @@ const SCANS: [(&str, &str, Gives); 7] = [
         "tables of the stream in an AVI file",
         "FFD8 FFE0 0007 4156493100 Q(01) F(C0) D(04) A(00) S(003F00) 43 FFD9",
         Gives::Lines("81*8", 8),
-    ),
-    (
-        "a lossless frame",
-        "FFD8 FFC3 000B 08 0002 0002 01 01 11 00 FFC4 0015 00 01 01 00*14 00 01 S(010000)
-         B2BF FFD9",
-        Gives::Format,
     ),
 ];
 

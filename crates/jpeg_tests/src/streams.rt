@@ -113,7 +113,8 @@ impl Counts {
     }
 }
 
-/// A reader whose calls and bytes are counted, for a test to look at while a decoder has the reader.
+/// A reader whose calls and bytes are counted, for a test to look at while a decoder has the
+/// reader.
 #[derive(Drop)]
 pub struct Counted<'a> {
     reader: Reader<'a>,
@@ -146,7 +147,7 @@ impl Read for Ended<'_> {
     fn read(&mut self, buf: &mut [u8]) -> io::Result<usize> {
         let count = buf.len();
         if count > self.rest.len() {
-            return Err(io::Error::new(ErrorKind::Other, "behind the end"));
+            return Err(io::Error::new(ErrorKind::Other, "after the end"));
         }
         let (front, rest) = self.rest.split_at(count);
         buf.copy_from_slice(front);

@@ -1,7 +1,11 @@
-//! Decodes the JPEG stream on standard input. Writes its picture to standard output: a line `WIDTH HEIGHT FORMAT`, and then the pixels as
-//! they are, line by line from the top. A refusal is told in one line on standard error, and the status is then 1.
+//! Decodes the JPEG stream on standard input. Writes its picture to standard output: a line `WIDTH
+//! HEIGHT FORMAT`, and then the pixels as they are, line by line from the top. A refusal is told in
+//! one line on standard error, and the status is then 1.
 #![tactic(auto)]
 
+mod byte_reader;
+
+use crate::byte_reader::ByteReader;
 use jpeg_decoder::error::Error;
 use jpeg_decoder::run::{report, run};
 use std::io::BufReader;
@@ -9,7 +13,7 @@ use std::process::ExitCode;
 
 fn main(rt: HostRuntime) -> ExitCode {
     let outcome = match BufReader::new(rt.alloc(), rt.stdin()) {
-        Ok(reader) => run(rt.alloc(), reader, &mut rt.stdout()),
+        Ok(reader) => run(rt.alloc(), ByteReader::new(reader), &mut rt.stdout()),
         Err(error) => Err(Error::Io(error)),
     };
     ExitCode::from(report(rt.alloc(), &outcome, &mut rt.stderr()))

@@ -1,5 +1,5 @@
 use Rattle.std.proofs.Common.{◌≡◌, ◌+◌, ◌*◌, ◌^◌, ◌<◌, get_or, length, arith, ap, ℕ}
-use Rattle.jpeg_bits.specs.ShortCodes.{row_at, no_row, value_behind}
+use Rattle.jpeg_bits.specs.ShortCodes.{row_at, no_row, value_after}
 use Rattle.jpeg_bits.specs.declared.codes.Row.{Row}
 use Rattle.jpeg_bits.proofs.Held.{pow_more}
 use Rattle.jpeg_bits.proofs.ShortLemmas.{set_next, length_set}
@@ -19,8 +19,8 @@ loop-i-preserved c =
     let t : l + 1 + 8 ≡ l + 8 + 1 = omega arith in
     let r = ap (λ (k : ℕ). 2 ^ k) t in
     let row : Row = record { end = 2 * c.loop-i.end + c.from-count.result; first = 2 * c.loop-i.end; place = c.loop-i.place } in
-    let end : 2 * c.loop-i.end + c.from-count.result ≡ value_behind counts (l + 1) = omega (arith, v, c.from-count.ensures, i.end) in
-    let first : 2 * c.loop-i.end ≡ 2 * value_behind counts l = omega (arith, i.end) in
+    let end : 2 * c.loop-i.end + c.from-count.result ≡ value_after counts (l + 1) = omega (arith, v, c.from-count.ensures, i.end) in
+    let first : 2 * c.loop-i.end ≡ 2 * value_after counts l = omega (arith, i.end) in
     record {
       size = length_set c.loop-i.rows l row 16 i.size;
       end = end;

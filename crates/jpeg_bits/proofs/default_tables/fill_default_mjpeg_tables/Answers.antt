@@ -1,8 +1,10 @@
 use Rattle.std.proofs.Common.{◌≡◌}
 use Rattle.std.proofs.lemmas.Result.{MatchResult-weaker, err_from_is_err_and}
-use Rattle.jpeg_bits.specs.DefaultTables.{AreBetween, chrominance_ac, chrominance_dc, luminance_ac, luminance_dc, with_defaults}
+use Rattle.jpeg_bits.specs.DefaultTables.{AreBetween, chrominance_ac, chrominance_dc, luminance_ac, luminance_dc}
+use Rattle.jpeg_bits.specs.DefaultTables.{with_defaults}
 use Rattle.jpeg_bits.specs.declared.error.Error.TheVariants.{OutOfMemory}
-use Rattle.jpeg_bits.proofs.DefaultTables.{chrominance-ac-codes, chrominance-dc-codes, done, luminance-ac-codes, luminance-dc-codes, untouched}
+use Rattle.jpeg_bits.proofs.DefaultTables.{chrominance-ac-codes, chrominance-dc-codes, done, luminance-ac-codes}
+use Rattle.jpeg_bits.proofs.DefaultTables.{luminance-dc-codes, untouched}
 use Rattle.jpeg_bits.proofs.default_tables.fill_default_mjpeg_tables.Goals as goal
 
 pub fill_both-requires-clause-luminance : goal.fill_both-requires-clause-luminance

@@ -1,4 +1,4 @@
-use Rattle.std.proofs.Common.{◌≡◌, ◌∙◌, ◌==◌, ◌/◌, ◌%◌, ◌^◌, ap, ℕ, w16}
+use Rattle.std.proofs.Common.{◌∙◌, ◌==◌, ◌/◌, ◌%◌, ◌^◌, ap, ℕ, w16}
 use Rattle.std.proofs.lemmas.Int.{to_z-of_z}
 use Rattle.jpeg_bits.proofs.SetBits.{unsigned-bit}
 use Rattle.jpeg_bits.proofs.refinement.lacks_bit.Goals as goal

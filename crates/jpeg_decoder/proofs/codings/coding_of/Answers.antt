@@ -7,7 +7,8 @@ use Rattle.jpeg_bits.proofs.Loops.{Names-through}
 use Rattle.jpeg_segments.specs.FrameView.{frame_in, scan_in}
 use Rattle.jpeg_decoder.specs.Seen.{found_in}
 use Rattle.jpeg_decoder.specs.Steps.{table_if}
-use Rattle.jpeg_decoder.proofs.SlotCodings.{class-in-force, fails-quantization, fails-dc, fails-ac, gives-coding, is-there, is-dc, is-ac, format-refuses}
+use Rattle.jpeg_decoder.proofs.SlotCodings.{class-in-force, fails-quantization, fails-dc, fails-ac, gives-coding}
+use Rattle.jpeg_decoder.proofs.SlotCodings.{is-there, is-dc, is-ac, format-refuses}
 use Rattle.jpeg_decoder.proofs.codings.coding_of.Goals as goal
 
 pub returns-in_err-quantization-clause-coding : goal.returns-in_err-quantization-clause-coding

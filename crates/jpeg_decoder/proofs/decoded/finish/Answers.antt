@@ -5,7 +5,7 @@ use Rattle.jpeg_decoder.proofs.decoded.finish.Goals as goal
 
 pub returns-then-pass-eq0 : goal.returns-then-pass-eq0
 returns-then-pass-eq0 c =
-    let n = c.from-behind.result + 1 - c.from.result in
+    let n = c.from-after.result + 1 - c.from.result in
     let made : c.fill.new.self ≡ replicate n true = search rules in
     marked-by (pass_in c.args.pass) c.args.marks.now c.fill.new.self c.from.result n c.if-pass-eq0.true (search rules)
     (omega arith) c.requires.order made

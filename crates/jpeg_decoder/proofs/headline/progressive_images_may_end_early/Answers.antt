@@ -8,7 +8,7 @@ use Rattle.jpeg_decoder.proofs.headline.progressive_images_may_end_early.Goals a
 
 pub returns-clause-written : goal.returns-clause-written
 returns-clause-written c = λ array front more said final levels last f w. record {
-  behind = front ++ more;
+  after = front ++ more;
   starts = refl;
   written = front-append array nothing_found said final (λ k. nothing_sent) levels last false true front more f w;
 }

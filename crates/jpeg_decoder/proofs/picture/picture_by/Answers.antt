@@ -1,9 +1,11 @@
-use Rattle.std.proofs.Common.{◌≡◌, ◌≢◌, ◌<◌, List, Option, ◌∙◌, ◌∷◌, ◌++◌, [], rules, arith, refl, sym, ap, get_or, length, map, subst}
+use Rattle.std.proofs.Common.{◌≡◌, ◌≢◌, ◌<◌, List, Option, ◌∙◌, ◌∷◌, ◌++◌, [], rules, arith, refl, sym, ap, get_or}
+use Rattle.std.proofs.Common.{length, map, subst}
 use Rattle.std.specs.Option.{option_to_list}
 use Rattle.std.proofs.lemmas.List.{length-map}
 use Rattle.jpeg_segments.specs.FrameView.{component_in, frame_in}
 use Rattle.jpeg_decoder.specs.Seen.{metadata_in}
-use Rattle.jpeg_decoder.proofs.PicturesOfPlanes.{decoded-several, decoded-factors, decoded-cover, picture-first, popped-only, scale-first, several-given}
+use Rattle.jpeg_decoder.proofs.PicturesOfPlanes.{decoded-several, decoded-factors, decoded-cover, picture-first}
+use Rattle.jpeg_decoder.proofs.PicturesOfPlanes.{popped-only, scale-first, several-given}
 use Rattle.jpeg_decoder.proofs.picture.picture_by.Goals as goal
 
 pub crop_to-requires : goal.crop_to-requires

@@ -1,4 +1,5 @@
-use Rattle.std.proofs.Common.{◌≡◌, ◌<◌, ◌∷◌, ◌++◌, [], drop, get_or, length, map, rules, arith, refl, sym, ap, Some, None, Ok, ◌∙◌, ◌+◌}
+use Rattle.std.proofs.Common.{◌≡◌, ◌<◌, ◌∷◌, ◌++◌, [], drop, get_or, length, map, rules, arith, refl, sym, ap, Some}
+use Rattle.std.proofs.Common.{None, Ok, ◌∙◌, ◌+◌}
 use Rattle.std.specs.Prelude.{option_map}
 use Rattle.std.proofs.lemmas.List.{length-map, map-append}
 use Rattle.std.proofs.lemmas.Result.{err_from_is_err_and}
@@ -6,7 +7,9 @@ use Rattle.jpeg_segments.specs.FrameView.{component_in, frame_in}
 use Rattle.jpeg_decoder.specs.Scanning.{arrays_in, blocks_in}
 use Rattle.jpeg_decoder.specs.Seen.{found_in, planes_in}
 use Rattle.jpeg_decoder.specs.Steps.{with_decoded}
-use Rattle.jpeg_decoder.proofs.EndedPlanes.{mapped-or, mapped-within, none-left, same-next, planes-kept, reached-four, reached-held, reached-scale, reached-plane, reached-blocks, reached-end, failed-there, more-there, whole-there, planes-all, whole-all}
+use Rattle.jpeg_decoder.proofs.EndedPlanes.{mapped-or, mapped-within, none-left, same-next, planes-kept, reached-four}
+use Rattle.jpeg_decoder.proofs.EndedPlanes.{reached-held, reached-scale, reached-plane, reached-blocks, reached-end}
+use Rattle.jpeg_decoder.proofs.EndedPlanes.{failed-there, more-there, whole-there, planes-all, whole-all}
 use Rattle.jpeg_decoder.proofs.picture.planes_at_end.Goals as goal
 
 pub listed : goal.listed

@@ -3,15 +3,16 @@ use Rattle.jpeg_decoder.specs.Output.{line_of}
 use Rattle.jpeg_decoder.specs.Stream.{told_of}
 use Rattle.jpeg_decoder.specs.Seen.{info_of}
 use Rattle.std.proofs.lemmas.Result.{err_from_is_err_and}
-use Rattle.jpeg_decoder.proofs.OutputLemmas.{outside-decode, named-decode, output-some, known-told, bytes-told}
+use Rattle.jpeg_decoder.proofs.Callers.{bytes_are_known, known_bytes_are_told}
+use Rattle.jpeg_decoder.proofs.OutputLemmas.{outside-decode, named-decode, output-some}
 use Rattle.jpeg_decoder.proofs.run.line_and_pixels.Goals as goal
 
 pub returns-in_err-pixels-clause-err : goal.returns-in_err-pixels-clause-err
 returns-in_err-pixels-clause-err g c bytes tells some =
     let p = err_from_is_err_and c.from_residual-in_err-pixels.result c.from_residual-in_err-pixels.ensures.1 in
     let reads = rw c.in_ok-decoder.ensures.ok at c.in_err-pixels.ensures.reads in
-    let known = known-told (g.R.Read.remaining c.args.reader) bytes tells in
-    let same = bytes-told (g.R.Read.remaining c.args.reader) bytes tells in
+    let known = bytes_are_known (g.R.Read.remaining c.args.reader) bytes tells in
+    let same = known_bytes_are_told (g.R.Read.remaining c.args.reader) bytes tells in
     let here = reads tt in
     rw (p.1, p.2) (outside-decode c.decode.new.self.source.known _ _ bytes (λ k. rw same at here.1 known k) (λ k. here.2 known k) some)
 
@@ -19,16 +20,16 @@ pub returns-in_err-pixels-clause-named : goal.returns-in_err-pixels-clause-named
 returns-in_err-pixels-clause-named g c bytes tells =
     let p = err_from_is_err_and c.from_residual-in_err-pixels.result c.from_residual-in_err-pixels.ensures.1 in
     let reads = rw c.in_ok-decoder.ensures.ok at c.in_err-pixels.ensures.reads in
-    let known = known-told (g.R.Read.remaining c.args.reader) bytes tells in
-    let same = bytes-told (g.R.Read.remaining c.args.reader) bytes tells in
+    let known = bytes_are_known (g.R.Read.remaining c.args.reader) bytes tells in
+    let same = known_bytes_are_told (g.R.Read.remaining c.args.reader) bytes tells in
     let here = reads tt in
     rw (p.1, p.2) (named-decode c.decode.new.self.source.known c.decode.new.self.source.failed _ bytes (λ k. rw same at here.1 known k) (λ k. here.2 known k))
 
 pub returns-clause-ok : goal.returns-clause-ok
 returns-clause-ok g c bytes tells =
     let reads = rw c.in_ok-decoder.ensures.ok at c.in_ok-pixels.ensures.reads in
-    let known = known-told (g.R.Read.remaining c.args.reader) bytes tells in
-    let same = bytes-told (g.R.Read.remaining c.args.reader) bytes tells in
+    let known = bytes_are_known (g.R.Read.remaining c.args.reader) bytes tells in
+    let same = known_bytes_are_told (g.R.Read.remaining c.args.reader) bytes tells in
     let here = reads tt in
     let all = rw same at (here.1 known).1 in
     let text : string_bytes c.in_ok-line.line ≡ line_of (option_map info_of c.decode.new.self.found.frame) = c.in_ok-line.ensures ∙ ap line_of c.info.ensures in

@@ -1,7 +1,6 @@
 use Rattle.std.proofs.Common.{◌≡◌, ◌∙◌, ◌-◌, ℕ, [], ◌∷◌, ap}
-use Rattle.std.proofs.lemmas.Result.{err_from_is_err_and}
 use Rattle.jpeg_bits.specs.Entropy.{upcoming}
-use Rattle.jpeg_bits.proofs.WholeBlocks.{refused_behind}
+use Rattle.jpeg_bits.proofs.WholeBlocks.{refused_after}
 use Rattle.jpeg_decoder.specs.InTurn.{turn_from, begun_from, mcu_from}
 use Rattle.jpeg_bits.specs.BlockView.{pass_in}
 use Rattle.jpeg_decoder.specs.Scanning.{vias_in, arrays_in, reached, counted}
@@ -11,9 +10,8 @@ use Rattle.jpeg_decoder.proofs.HeldBlocks.{spot}
 use Rattle.jpeg_decoder.proofs.OwnMcus.{one_turn, one_refused}
 use Rattle.jpeg_decoder.proofs.scans.read_own_mcu.Goals as goal
 
-pub returns-in_err-begin-clause-mcu : goal.returns-in_err-begin-clause-mcu
-returns-in_err-begin-clause-mcu g c =
-    let e = err_from_is_err_and c.from_residual.result c.from_residual.ensures.1 in
+pub returns-then-not-begin-clause-mcu : goal.returns-then-not-begin-clause-mcu
+returns-then-not-begin-clause-mcu g c =
     let p = pass_in c.args.scan.now.pass in
     let cs = c.args.scan.now.components.items in
     let n = c.args.scan.now.restart_interval in
@@ -21,15 +19,14 @@ returns-in_err-begin-clause-mcu g c =
     let i = c.args.interval.now in
     let arrays = arrays_in c.args.arrays.now.items in
     let whole = mcu_from p (vias_in 0 cs) n mcu (counted i arrays) in
-    rw (e.1, e.2) (refused_behind (λ (u : Unit {0}). counted i arrays) (λ (u : Unit {0}). counted c.begin.new.interval arrays)
+    (refused_after (λ (u : Unit {0}). counted i arrays) (λ (u : Unit {0}). counted c.begin.new.interval arrays)
     whole whole (begun_from n (counted i arrays))
     i.decoder i.decoder c.begin.new.interval.decoder c.args.source.now c.args.source.now c.begin.new.source _
     (λ t f h. mcu_unbegun p (vias_in 0 cs) n mcu (counted i arrays) t f h)
-    (Leaves-whole whole i.decoder c.args.source.now) (c.in_err-begin.ensures arrays))
+    (Leaves-whole whole i.decoder c.args.source.now) (c.if-not-begin.ensures.begun arrays))
 
-pub returns-in_err-read_turn-clause-mcu : goal.returns-in_err-read_turn-clause-mcu
-returns-in_err-read_turn-clause-mcu g c =
-    let e = err_from_is_err_and c.from_residual-in_err-read_turn.result c.from_residual-in_err-read_turn.ensures.1 in
+pub returns-then-not-read_turn-clause-mcu : goal.returns-then-not-read_turn-clause-mcu
+returns-then-not-read_turn-clause-mcu g c =
     let p = pass_in c.args.scan.now.pass in
     let cs = c.args.scan.now.components.items in
     let n = c.args.scan.now.restart_interval in
@@ -38,13 +35,13 @@ returns-in_err-read_turn-clause-mcu g c =
     let j = c.begin.new.interval in
     let arrays = arrays_in c.args.arrays.now.items in
     let whole = mcu_from p (vias_in 0 cs) n mcu (counted i arrays) in
-    let q = c.in_ok-begin.ensures arrays in
-    rw (e.1, e.2) (refused_behind (λ (u : Unit {0}). counted i arrays) (λ (u : Unit {0}). reached c.read_turn.new.interval (arrays_in c.read_turn.new.arrays.items))
+    let q = c.if-not-begin.ensures.begun arrays in
+    (refused_after (λ (u : Unit {0}). counted i arrays) (λ (u : Unit {0}). reached c.read_turn.new.interval (arrays_in c.read_turn.new.arrays.items))
     whole (begun_mcu p (vias_in 0 cs) mcu (counted j arrays)) (turn_from p (vias_in 0 cs) (spot 0 c.args.index) (reached j arrays))
     i.decoder j.decoder c.read_turn.new.interval.decoder c.args.source.now c.begin.new.source c.read_turn.new.source _
     (λ t f h. mcu_refused p (vias_in 0 cs) mcu (counted j arrays) t f (one_refused p (vias_in 0 cs) (spot 0 c.args.index) (reached j arrays) t f h))
     (q.0, λ k. let at = q.1 k in (at.0, mcu_begun p (vias_in 0 cs) n mcu (counted i arrays) (counted j arrays) (upcoming i.decoder c.args.source.now.bytes) (upcoming j.decoder c.begin.new.source.bytes) at.1))
-    c.in_err-read_turn.ensures.turn)
+    c.if-not-read_turn.ensures.turn)
 
 pub returns-clause-mcu : goal.returns-clause-mcu
 returns-clause-mcu g c =
@@ -55,8 +52,8 @@ returns-clause-mcu g c =
     let i = c.args.interval.now in
     let j = c.begin.new.interval in
     let arrays = arrays_in c.args.arrays.now.items in
-    let q = c.in_ok-begin.ensures arrays in
-    let r = c.in_ok-read_turn.ensures in
+    let q = c.if-not-begin.ensures.begun arrays in
+    let r = c.if-not-read_turn.ensures in
     let left : c.saturating_sub-interval.result ≡ j.left - 1 = c.saturating_sub-interval.ensures ∙ ap (λ (m : ℕ). m - 1) r.left in
     rw (left, r.number) (
       r.turn.0 ∙ q.0,

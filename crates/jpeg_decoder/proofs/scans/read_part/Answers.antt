@@ -1,7 +1,6 @@
 use Rattle.std.proofs.Common.{◌∙◌, get_or, arith}
-use Rattle.std.proofs.lemmas.Result.{err_from_is_err_and}
 use Rattle.jpeg_bits.specs.Entropy.{upcoming}
-use Rattle.jpeg_bits.proofs.WholeBlocks.{refused_behind}
+use Rattle.jpeg_bits.proofs.WholeBlocks.{refused_after}
 use Rattle.jpeg_decoder.specs.InTurn.{turns_from}
 use Rattle.jpeg_decoder.specs.Layout.{line_of, part_of}
 use Rattle.jpeg_bits.specs.BlockView.{pass_in}
@@ -9,9 +8,8 @@ use Rattle.jpeg_decoder.specs.Scanning.{vias_in, arrays_in, reached, sizes_of, w
 use Rattle.jpeg_decoder.proofs.LineSteps.{part_step, part_refused, within-more}
 use Rattle.jpeg_decoder.proofs.scans.read_part.Goals as goal
 
-pub returns-in_err-read_line-clause-turns : goal.returns-in_err-read_line-clause-turns
-returns-in_err-read_line-clause-turns g c =
-    let e = err_from_is_err_and c.from_residual.result c.from_residual.ensures.1 in
+pub returns-then-not-read_line-clause-turns : goal.returns-then-not-read_line-clause-turns
+returns-then-not-read_line-clause-turns g c =
     let p = pass_in c.args.scan.now.pass in
     let vias = vias_in 0 c.args.scan.now.components.items in
     let l = c.loop-left in
@@ -19,12 +17,12 @@ returns-in_err-read_line-clause-turns g c =
     let wide = wide_in c.args.coded.now in
     let across = across_in c.args.coded.now in
     let now = reached l.interval (arrays_in l.arrays.items) in
-    rw (e.1, e.2) (refused_behind (λ (u : Unit {0}). now) (λ (u : Unit {0}). reached c.read_line.new.interval (arrays_in c.read_line.new.arrays.items))
+    (refused_after (λ (u : Unit {0}). now) (λ (u : Unit {0}). reached c.read_line.new.interval (arrays_in c.read_line.new.arrays.items))
     (turns_from p vias (part_in c.args.start.slot c.args.start.index c.args.coded.now) (reached c.args.interval.now (arrays_in c.args.arrays.now.items))) (turns_from p vias (part_of slot wide across l.spot.index l.left) now)
     (turns_from p vias (line_of slot l.spot.index across) now)
     c.args.interval.now.decoder l.interval.decoder c.read_line.new.interval.decoder c.args.source.now l.source c.read_line.new.source _
     (λ t f h. part_refused p vias slot wide across l.spot.index l.left now t f c.loop-left-test.true h)
-    l.invariant.turns c.in_err-read_line.ensures.turns)
+    l.invariant.turns c.if-not-read_line.ensures.turns)
 
 pub loop-left-preserved : goal.loop-left-preserved
 loop-left-preserved g c =
@@ -35,7 +33,7 @@ loop-left-preserved g c =
     let wide = wide_in c.args.coded.now in
     let across = across_in c.args.coded.now in
     let i = l.invariant in
-    let q = c.in_ok-read_line.ensures in
+    let q = c.if-not-read_line.ensures in
     rw c.from.ensures record {
       at = omega arith;
       slot = i.slot;

@@ -1,7 +1,7 @@
 use Rattle.std.proofs.Common.{ℕ, List, subst, sym, arith}
 use Rattle.std.specs.List.{range_with_len, flat_map}
 use Rattle.std.proofs.lemmas.Result.{err_from_is_err_and}
-use Rattle.jpeg_bits.proofs.WholeBlocks.{refused_behind}
+use Rattle.jpeg_bits.proofs.WholeBlocks.{refused_after}
 use Rattle.jpeg_decoder.specs.InTurn.{mcus_from}
 use Rattle.jpeg_decoder.proofs.McuLoops.{mcu_rows_refused}
 use Rattle.jpeg_bits.specs.BlockView.{pass_in}
@@ -23,7 +23,7 @@ returns-in_err-read_row-clause-mcus g c =
     let l = c.loop-left in
     let f : ℕ → List (List _) = row_in (components_in cs) c.args.wide in
     let now = counted l.interval (arrays_in l.arrays.items) in
-    rw (e.1, e.2) (refused_behind (λ (u : Unit {0}). now) (λ (u : Unit {0}). counted c.read_row.new.interval (arrays_in c.read_row.new.arrays.items))
+    rw (e.1, e.2) (refused_after (λ (u : Unit {0}). now) (λ (u : Unit {0}). counted c.read_row.new.interval (arrays_in c.read_row.new.arrays.items))
     (mcus_from p vias n (rows_in (components_in cs) c.args.wide c.args.high) (counted c.args.interval.now (arrays_in c.args.arrays.now.items))) (mcus_from p vias n (flat_map f (range_with_len l.row l.left)) now)
     (mcus_from p vias n (f l.row) now)
     c.args.interval.now.decoder l.interval.decoder c.read_row.new.interval.decoder c.args.source.now l.source c.read_row.new.source _

@@ -1,20 +1,19 @@
 use Rattle.std.proofs.Common.{◌<◌, pos, refl, length, slice_index_or, arith}
-use Rattle.std.proofs.lemmas.Result.{err_from_is_err_and}
 use Rattle.jpeg_bits.specs.Entropy.{upcoming}
 use Rattle.jpeg_bits.specs.Passes.{block_from}
 use Rattle.jpeg_decoder.specs.InTurn.{turn_from}
 use Rattle.jpeg_bits.specs.BlockView.{to_block, pass_in}
 use Rattle.jpeg_decoder.specs.Scanning.{vias_in, arrays_in, reached}
 use Rattle.jpeg_bits.proofs.BandSteps.{Leaves-whole}
-use Rattle.jpeg_bits.proofs.WholeBlocks.{refused_behind}
+use Rattle.jpeg_bits.proofs.WholeBlocks.{refused_after}
 use Rattle.jpeg_decoder.proofs.HeldBlocks.{spot, sizes-set, sizes-long, size-at, turn-read, turn-refused}
 use Rattle.jpeg_decoder.proofs.scans.read_turn.Goals as goal
 
-pub returns-in_err-read_block-clause-sizes : goal.returns-in_err-read_block-clause-sizes
-returns-in_err-read_block-clause-sizes g c = sizes-set c.args.arrays.now.items c.args.spot.slot c.args.spot.index c.index_mut.result.now c.read_block.new.block c.index_mut.ensures.value
+pub returns-then-not-take_block-clause-sizes : goal.returns-then-not-take_block-clause-sizes
+returns-then-not-take_block-clause-sizes g c = sizes-set c.args.arrays.now.items c.args.spot.slot c.args.spot.index c.index_mut.result.now c.take_block.new.block c.index_mut.ensures.value
 
 pub returns-clause-sizes : goal.returns-clause-sizes
-returns-clause-sizes g c = sizes-set c.args.arrays.now.items c.args.spot.slot c.args.spot.index c.index_mut.result.now c.read_block.new.block c.index_mut.ensures.value
+returns-clause-sizes g c = sizes-set c.args.arrays.now.items c.args.spot.slot c.args.spot.index c.index_mut.result.now c.take_block.new.block c.index_mut.ensures.value
 
 pub returns-clause-turn : goal.returns-clause-turn
 returns-clause-turn g c =
@@ -26,20 +25,19 @@ returns-clause-turn g c =
     let first = slice_index_or i.predictors slot (pos 0) in
     let inside : slot < length vs = omega (arith, c.requires.held.has_slot, sizes-long vs) in
     let within : index < length c.index_mut.result.now.items = omega (arith, c.requires.held.has_index, size-at vs slot c.index_mut.result.now c.requires.held.has_slot c.index_mut.ensures.value) in
-    let q = c.in_ok-read_block.ensures in (
+    let q = c.if-not-take_block.ensures.block in (
       q.0,
       λ k.
           let at = q.1 k in (
             at.0,
             turn-read (pass_in c.args.scan.now.pass) cs slot index c.index-coded.result.now vs c.index_mut.result.now c.index_mut-2.result.now i.predictors i.run first
                 c.requires.slot c.index-coded.ensures inside c.index_mut.ensures.value within c.index_mut-2.ensures.value refl
-                c.read_block.new.block c.read_block.new.predictor c.read_block.new.run (upcoming i.decoder c.args.source.now.bytes) (upcoming c.read_block.new.decoder c.read_block.new.source.bytes) at.1,
+                c.take_block.new.block c.take_block.new.predictor c.take_block.new.run (upcoming i.decoder c.args.source.now.bytes) (upcoming c.take_block.new.decoder c.take_block.new.source.bytes) at.1,
           ),
     )
 
-pub returns-in_err-read_block-clause-turn : goal.returns-in_err-read_block-clause-turn
-returns-in_err-read_block-clause-turn g c =
-    let e = err_from_is_err_and c.from_residual.result c.from_residual.ensures.1 in
+pub returns-then-not-take_block-clause-turn : goal.returns-then-not-take_block-clause-turn
+returns-then-not-take_block-clause-turn g c =
     let p = pass_in c.args.scan.now.pass in
     let cs = c.args.scan.now.components.items in
     let vs = c.args.arrays.now.items in
@@ -51,9 +49,9 @@ returns-in_err-read_block-clause-turn g c =
     let within : index < length c.index_mut.result.now.items = omega (arith, c.requires.held.has_index, size-at vs slot c.index_mut.result.now c.requires.held.has_slot c.index_mut.ensures.value) in
     let whole = turn_from p (vias_in 0 cs) (spot slot index) (reached i (arrays_in vs)) in
     let coded = c.index-coded.result.now in
-    rw (e.1, e.2) (refused_behind (λ (u : Unit {0}). reached i (arrays_in vs)) (λ (u : Unit {0}). (to_block c.read_block.new.block, c.read_block.new.predictor, c.read_block.new.run))
+    (refused_after (λ (u : Unit {0}). reached i (arrays_in vs)) (λ (u : Unit {0}). (to_block c.take_block.new.block, c.take_block.new.predictor, c.take_block.new.run))
     whole whole (block_from p coded.dc.now coded.ac.now first i.run (to_block c.index_mut-2.result.now))
-    i.decoder i.decoder c.read_block.new.decoder c.args.source.now c.args.source.now c.read_block.new.source _
+    i.decoder i.decoder c.take_block.new.decoder c.args.source.now c.args.source.now c.take_block.new.source _
     (λ t f h. turn-refused p cs slot index coded vs c.index_mut.result.now c.index_mut-2.result.now i.predictors i.run first
     c.requires.slot c.index-coded.ensures inside c.index_mut.ensures.value within c.index_mut-2.ensures.value refl t f h)
-    (Leaves-whole whole i.decoder c.args.source.now) c.in_err-read_block.ensures)
+    (Leaves-whole whole i.decoder c.args.source.now) c.if-not-take_block.ensures.block)

@@ -4,7 +4,7 @@ use Rattle.std.proofs.lemmas.Result.{err_from_is_err_and}
 use Rattle.jpeg_bits.specs.BlockView.{pass_in}
 use Rattle.jpeg_bits.specs.Entropy.{upcoming}
 use Rattle.jpeg_bits.proofs.BandSteps.{Leaves-end}
-use Rattle.jpeg_bits.proofs.WholeBlocks.{refused_behind}
+use Rattle.jpeg_bits.proofs.WholeBlocks.{refused_after}
 use Rattle.jpeg_segments.specs.FrameView.{frame_in}
 use Rattle.jpeg_decoder.specs.declared.codings.Coded.{Coded}
 use Rattle.jpeg_decoder.specs.Order.{Spot}
@@ -55,7 +55,7 @@ returns-in_err-read_mcus-clause-strips g c =
     let zeros = arrays_in c.clear_rows.new.rows.items in
     let none : zeros ≡ zero_rows 1 (components_of codings) = c.clear_rows.ensures.zeros
     ∙ ap zeros_of l.invariant.sizes ∙ zeros-are cs in
-    rw (e.1, e.2) (refused_behind (λ (u : Unit {0}). planes) (λ (u : Unit {0}). counted c.read_mcus.new.interval
+    rw (e.1, e.2) (refused_after (λ (u : Unit {0}). planes) (λ (u : Unit {0}). counted c.read_mcus.new.interval
     (arrays_in c.read_mcus.new.rows.items))
     (strips_from p (vias_in 0 cs) n codings (rows_of frame (components_of codings))
     (planes_in c.args.planes.now.items) (counted i []))

@@ -33,9 +33,11 @@ use Rattle.jpeg_decoder.specs.Stream.{nothing_found, updated, accepted, frame_se
 use Rattle.jpeg_decoder.specs.Stream.{huffman_segment, restart_segment, application_segment, skipped_segment, pass_of}
 use Rattle.jpeg_decoder.specs.Stream.{tables_of, coding_of, codings_from, codings_of, vias_from, arrays_before}
 use Rattle.jpeg_decoder.specs.Stream.{scan_arrays, plane_by, finished_by, with_plane, with_blocks, with_arrays}
-use Rattle.jpeg_decoder.specs.Stream.{put_arrays, behind_scan, behind_restarts, scan_segment, end_segment, segment_at}
+use Rattle.jpeg_decoder.specs.Stream.{put_arrays, after_scan, after_restarts, blocks_scan, scan_segment, end_segment}
+use Rattle.jpeg_decoder.specs.Stream.{segment_at}
 use Rattle.jpeg_decoder.specs.Stream.{turn_at, segments_within, segments_at, start_at, header_at, plane_at_end}
-use Rattle.jpeg_decoder.specs.Stream.{planes_from, picture_by, picture_of, rest_at, meaning, sized_meaning}
+use Rattle.jpeg_decoder.specs.Stream.{blocks_picture, planes_from, picture_by, picture_of, rest_at, meaning}
+use Rattle.jpeg_decoder.specs.Stream.{sized_meaning}
 use Rattle.jpeg_decoder.proofs.worked.known_streams.Goals as goal
 
 pub returns : goal.returns
@@ -53,13 +55,13 @@ unfolding int_wrap next_u16 length_at times skip_at marker_of next_marker filled
     scale_for component_at frame_at nothing_found updated accepted frame_segment quantization_segment
     huffman_segment restart_segment application_segment skipped_segment pass_of tables_of coding_of codings_from
     codings_of vias_from arrays_before scan_arrays plane_by finished_by with_plane with_blocks with_arrays
-    put_arrays behind_scan behind_restarts scan_segment end_segment segment_at turn_at segments_within segments_at
-    start_at header_at plane_at_end planes_from picture_by picture_of rest_at meaning sized_meaning
+    put_arrays after_scan after_restarts blocks_scan scan_segment end_segment segment_at turn_at segments_within segments_at
+    start_at header_at plane_at_end planes_from picture_by blocks_picture picture_of rest_at meaning sized_meaning
     quantization.value_at quantization.table_at quantization.placed_table_at quantization.tables_from
     quantization.dqt_at tables.symbols_at tables.codes_at tables.placed_codes_at tables.tables_from tables.dht_at
 returns c = record {
   flat = refl;
-  behind_marker = refl;
+  after_marker = refl;
   no_code = refl;
   met = refl;
   passed = refl;

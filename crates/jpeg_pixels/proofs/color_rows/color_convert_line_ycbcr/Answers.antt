@@ -13,7 +13,7 @@ loop-piece-preserved c =
           (omega arith) (λ x h. omega arith) c.loop-piece.invariant.green c.write_ycbcr_piece.ensures.green c.write_ycbcr_piece.ensures.before;
       blue = piece_joined (λ x. 3 * x + 2) (λ x. blue_of (slice_index c.args.y.now x) (slice_index c.args.cb.now x)) start 64 (64 * (c.loop-piece.piece + 1)) (3 * start) c.loop-piece.output c.write_ycbcr_piece.new.output
           (omega arith) (λ x h. omega arith) c.loop-piece.invariant.blue c.write_ycbcr_piece.ensures.blue c.write_ycbcr_piece.ensures.before;
-      rest = λ i h. c.write_ycbcr_piece.ensures.behind i (omega arith) ∙ c.loop-piece.invariant.rest i (omega arith);
+      rest = λ i h. c.write_ycbcr_piece.ensures.after i (omega arith) ∙ c.loop-piece.invariant.rest i (omega arith);
     }
 
 pub returns : goal.returns
@@ -27,6 +27,6 @@ returns c =
           (omega arith) (λ x h. omega arith) (λ x h. c.loop-piece.invariant.green x (omega arith)) c.write_ycbcr_piece-2.ensures.green c.write_ycbcr_piece-2.ensures.before;
       blue = piece_joined (λ x. 3 * x + 2) (λ x. blue_of (slice_index c.args.y.now x) (slice_index c.args.cb.now x)) start (count % 64) count (3 * start) c.loop-piece.output c.write_ycbcr_piece-2.new.output
           (omega arith) (λ x h. omega arith) (λ x h. c.loop-piece.invariant.blue x (omega arith)) c.write_ycbcr_piece-2.ensures.blue c.write_ycbcr_piece-2.ensures.before;
-      rest = λ i h. c.write_ycbcr_piece-2.ensures.behind i (omega arith) ∙ c.loop-piece.invariant.rest i (omega arith);
+      rest = λ i h. c.write_ycbcr_piece-2.ensures.after i (omega arith) ∙ c.loop-piece.invariant.rest i (omega arith);
       count = omega arith;
     }

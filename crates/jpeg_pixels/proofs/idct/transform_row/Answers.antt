@@ -1,4 +1,5 @@
-use Rattle.std.proofs.Common.{◌≡◌, ◌<◌, ◌+◌, ℕ, ℤ, pos, ◌+ℤ◌, length, List, slice_index_or, arith, rules, FitsSigned, ap, ◌∙◌, sym, refl, ◌≢◌, ◌-◌, get_or-set_other, lit<, take, drop, length-drop}
+use Rattle.std.proofs.Common.{◌≡◌, ◌<◌, ◌+◌, ℕ, ℤ, pos, ◌+ℤ◌, length, List, slice_index_or, arith, rules, FitsSigned}
+use Rattle.std.proofs.Common.{ap, ◌∙◌, sym, refl, ◌≢◌, ◌-◌, get_or-set_other, lit<, take, drop, length-drop}
 use Rattle.std.proofs.Math.Seq.{take-length}
 use Rattle.std.proofs.lemmas.List.{get_or-drop}
 use borrow.Rule.Slice.PartMut.{mid_of}

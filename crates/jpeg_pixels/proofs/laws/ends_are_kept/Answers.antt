@@ -1,4 +1,5 @@
-use Rattle.jpeg_pixels.proofs.UpsampledEnds.{alone, first_across, last_across, first_down, last_down, first_corner, last_corner, first_column, last_column, first_line, repeated}
+use Rattle.jpeg_pixels.proofs.UpsampledEnds.{alone, first_across, last_across, first_down, last_down, first_corner}
+use Rattle.jpeg_pixels.proofs.UpsampledEnds.{last_corner, first_column, last_column, first_line, repeated}
 use Rattle.jpeg_pixels.proofs.laws.ends_are_kept.Goals as goal
 
 pub returns : goal.returns

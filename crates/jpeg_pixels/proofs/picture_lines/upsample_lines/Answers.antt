@@ -11,7 +11,7 @@ use Rattle.jpeg_pixels.specs.PicturesView.{source_in}
 use Rattle.jpeg_pixels.proofs.ComponentLines.{cover-of, line-of, lines-more, lines_of-length}
 use Rattle.jpeg_pixels.proofs.picture_lines.upsample_lines.Goals as goal
 
--- what stands behind all components
+-- what stands after all components
 abbrev none : ComponentSource
 none = record { rule = H1V1; width = 0; height = 0; row_stride = 0 }
 

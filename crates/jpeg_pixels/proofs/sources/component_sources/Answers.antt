@@ -1,4 +1,5 @@
-use Rattle.std.proofs.Common.{◌≡◌, ◌+◌, ◌<◌, List, [], ◌∷◌, ◌++◌, length, get_or, map, drop, ap, sym, ◌∙◌, arith, subst, add-one, drop-cons, Result}
+use Rattle.std.proofs.Common.{◌≡◌, ◌+◌, ◌<◌, List, [], ◌∷◌, ◌++◌, length, get_or, map, drop, ap, sym, ◌∙◌, arith, subst}
+use Rattle.std.proofs.Common.{add-one, drop-cons, Result}
 use Rattle.std.proofs.Math.ListN.{drop_of_length-le}
 use Rattle.std.proofs.Math.ListN as lists
 use Rattle.std.proofs.lemmas.List.{map-append, length-map}
@@ -9,11 +10,11 @@ use Rattle.jpeg_segments.specs.declared.parser.Component.{Component}
 use Rattle.jpeg_segments.specs.FrameView.{component_in}
 use Rattle.jpeg_pixels.specs.Pictures.{Source, sources_by}
 use Rattle.jpeg_pixels.specs.PicturesView.{source_in}
-use Rattle.jpeg_segments.specs.Frame.{HasFactors}
+use Rattle.jpeg_segments.specs.Frame.{HasSampling}
 use Rattle.jpeg_pixels.proofs.SourceLists.{Continues, sources-start, sources-more, sources-end, sources-err, factors-at}
 use Rattle.jpeg_pixels.proofs.sources.component_sources.Goals as goal
 
--- what stands behind all components
+-- what stands after all components
 abbrev none : Component
 none = record {
   identifier = 0;
@@ -35,7 +36,7 @@ component_source-requires c =
     let components = c.args.components.now in
     let index = c.loop-component.component-index in
     let count : length (map component_in components) ≡ length components = length-map components component_in in
-    subst HasFactors (lists.get_or-map component_in components index none)
+    subst HasSampling (lists.get_or-map component_in components index none)
     (factors-at (map component_in components) index (component_in none) c.requires (omega arith))
 
 pub loop-component-preserved : goal.loop-component-preserved

@@ -1,7 +1,8 @@
 use Rattle.std.proofs.Common.{◌≡◌, ◌-◌, true, false, arith, ◌∙◌, List, ℕ, Vec, Global, Option, refl, eqb}
 use Rattle.std.proofs.lemmas.Bool.Decides.{nat_tests}
 use Rattle.std.proofs.lemmas.Result.{err_from_is_err_and}
-use Rattle.jpeg_segments.specs.HuffmanTables.{Tables, PlacedTable, size_of, with_table, dht_at, tables_from, placed_codes_at}
+use Rattle.jpeg_segments.specs.HuffmanTables.{Tables, PlacedTable, size_of, with_table, dht_at, tables_from}
+use Rattle.jpeg_segments.specs.HuffmanTables.{placed_codes_at}
 use Rattle.jpeg_segments.specs.declared.huffman_tables.PlacedTable.{PlacedTable as Read}
 use Rattle.jpeg_bits.specs.Codes.{Table}
 use Rattle.jpeg_bits.proofs.Loops.{Continues-ok, Continues-err, Continues-end, bind_at, bind_err}

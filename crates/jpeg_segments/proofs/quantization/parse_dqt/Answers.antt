@@ -1,7 +1,10 @@
 use Rattle.std.proofs.Common.{◌≡◌, ◌-◌, set, arith, ap, ◌∙◌, List, ℕ, Some, length-set}
+use Rattle.std.proofs.Common.{Err}
+use Rattle.jpeg_bits.specs.Reading.{Fault, Outcome}
+use Rattle.jpeg_bits.specs.declared.error.Error.TheVariants.{OutOfMemory}
 use Rattle.std.proofs.lemmas.Result.{err_from_is_err_and}
 use Rattle.jpeg_segments.specs.Quantization.{Tables, dqt_at, tables_from, placed_table_at}
-use Rattle.jpeg_bits.proofs.Loops.{Continues-ok, Continues-err, Continues-end, bind_at, bind_err}
+use Rattle.jpeg_bits.proofs.Loops.{Continues-ok, Continues-err, Continues-room, Continues-end, bind_at, bind_err}
 use Rattle.jpeg_segments.proofs.QuantizationLemmas.{tables_from-more, tables_from-none}
 use Rattle.jpeg_segments.proofs.quantization.parse_dqt.Goals as goal
 
@@ -30,14 +33,21 @@ returns-in_err-size g c =
     let i = c.loop-left.invariant.rest in
     let left = c.loop-left.left in
     let tables = c.loop-left.tables in
-    rw (p.1, p.2) (Continues-err (λ (v : Tables). v) (λ (t : ℕ × ℕ × List ℕ). t) dqt_at (λ (bs : List ℕ). tables_from i.0 left tables bs)
-    (placed_table_at left) c.args.reader.now c.loop-left.reader c.read_placed_table.new.source _
-    (λ f e. tables_from-more i.0 left tables c.loop-left.reader.bytes c.loop-left-test.true i.1 ∙ bind_err _ _ _ e)
-    i.2 c.in_err-size.ensures.answers)
+    let rest : List ℕ → Outcome Tables = λ (bs : List ℕ). tables_from i.0 left tables bs in
+    let through : (f : Fault) → placed_table_at left c.loop-left.reader.bytes ≡ Err f → rest c.loop-left.reader.bytes ≡ Err f = λ f e. tables_from-more i.0 left tables c.loop-left.reader.bytes c.loop-left-test.true i.1 ∙ bind_err _ _ f e in
+    let part = c.in_err-size.ensures in
+    rw (p.1, p.2) record {
+      answers = Continues-err (λ (v : Tables). v) (λ (t : ℕ × ℕ × List ℕ). t) dqt_at rest (placed_table_at left)
+          c.args.reader.now c.loop-left.reader c.read_placed_table.new.source _ through i.2 part.answers;
+      room = λ k e. Continues-room dqt_at rest (placed_table_at left) c.args.reader.now c.loop-left.reader through i.2 (λ known. part.room known (let same : c.in_err-size.field-0.0 ≡ OutOfMemory = cc in ap Err same)) k;
+    }
 
 pub returns : goal.returns
 returns g c =
     let i = c.loop-left.invariant.rest in
     let z : c.loop-left.left ≡ 0 = omega arith in
-    Continues-end (λ (v : Tables). v) dqt_at (λ (bs : List ℕ). tables_from i.0 c.loop-left.left c.loop-left.tables bs) c.args.reader.now c.loop-left.reader c.loop-left.tables
-    (ap (λ n. tables_from i.0 n c.loop-left.tables c.loop-left.reader.bytes) z ∙ tables_from-none i.0 c.loop-left.tables c.loop-left.reader.bytes) i.2
+    record {
+      answers = Continues-end (λ (v : Tables). v) dqt_at (λ (bs : List ℕ). tables_from i.0 c.loop-left.left c.loop-left.tables bs) c.args.reader.now c.loop-left.reader c.loop-left.tables
+          (ap (λ n. tables_from i.0 n c.loop-left.tables c.loop-left.reader.bytes) z ∙ tables_from-none i.0 c.loop-left.tables c.loop-left.reader.bytes) i.2;
+      room = λ k e. absurd (let n : ⊥ = cc in n);
+    }

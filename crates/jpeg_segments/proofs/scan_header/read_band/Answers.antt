@@ -15,14 +15,14 @@ returns-clause-scan g c =
     (ap (λ (s : Scan). s.components) e) (ap (λ (s : Scan). s.dc_places) e) (ap (λ (s : Scan). s.ac_places) e)
     (rw (
       ap (λ (s : Scan). s.first) e,
-      ap (λ (s : Scan). s.behind) e,
+      ap (λ (s : Scan). s.after) e,
       ap (λ (s : Scan). s.high) e,
       ap
           (λ (s : Scan). s.low) e,
     ) (c.is_band.ensures.coded c.if-not-is_band.false))
     (rw (
       ap (λ (s : Scan). s.first) e,
-      ap (λ (s : Scan). s.behind) e,
+      ap (λ (s : Scan). s.after) e,
       ap (λ (s : Scan). s.high) e,
       ap
           (λ (s : Scan). s.low) e,

@@ -37,6 +37,7 @@ loop-slot-preserved c =
     record {
       within = search rules;
       held = search rules;
+      samples = search rules;
       added = λ base.
           arrays-step p cs l.slot coded c.args.arrays.now.items c.index.result.now (with_decoded base l.self) (with_decoded base c.add_blocks.new.self) h
           (long-at cs c.args.arrays.now.items l.slot c.requires.blocks h) (search rules)

@@ -9,6 +9,7 @@ abbrev pub invariant-loop-slot : goal.invariant-loop-slot
 invariant-loop-slot l = record {
   within : l.slot ≤ length l.scan.components.items;
   held : l.self.held ≡ l.fn.self.held;
+  samples : l.self.samples ≡ l.fn.self.samples;
   added : (base : Found) →
       with_arrays (pass_in l.scan.pass) (drop l.slot (map coding_in l.scan.components.items)) (drop l.slot (arrays_in l.arrays.items)) (with_decoded base l.self)
       ≡ with_arrays (pass_in l.scan.pass) (map coding_in l.scan.components.items) (arrays_in l.arrays.items) (with_decoded base l.fn.self);

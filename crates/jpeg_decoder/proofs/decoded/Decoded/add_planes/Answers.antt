@@ -1,4 +1,4 @@
-use Rattle.std.proofs.Common.{◌≡◌, ◌∙◌, sym, ap, arith, rules, length, drop, map, get_or}
+use Rattle.std.proofs.Common.{◌≡◌, ◌∙◌, sym, ap, rules, length, drop, map, get_or}
 use Rattle.jpeg_decoder.specs.declared.codings.Coded.{Coded}
 use Rattle.jpeg_bits.specs.BlockView.{pass_in}
 use Rattle.jpeg_decoder.specs.Steps.{coding_in, with_decoded, with_its_plane, with_planes}
@@ -14,6 +14,7 @@ loop-slot-preserved c =
       within = search rules;
       planes = search rules;
       held = search rules;
+      samples = search rules;
       added = λ base.
           planes-step (pass_in c.args.scan.now.pass) c.args.scan.now.components.items l.slot c.index.result.now l.planes.items c.replace-plane.new.dest c.replace-plane.result
           (with_decoded base l.self) (with_decoded base c.add_plane.new.self) (search rules) l.invariant.planes (search rules)

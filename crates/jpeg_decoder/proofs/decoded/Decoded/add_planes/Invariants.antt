@@ -9,6 +9,7 @@ invariant-loop-slot l = record {
   within : l.slot ≤ length l.scan.components.items;
   planes : length l.planes.items ≡ length l.scan.components.items;
   held : l.self.held ≡ l.fn.self.held;
+  samples : l.self.samples ≡ l.fn.self.samples;
   added : (base : Found) →
       with_planes (pass_in l.scan.pass) (drop l.slot (map coding_in l.scan.components.items)) (drop l.slot (map (λ v. v.items) l.planes.items)) (with_decoded base l.self)
       ≡ with_planes (pass_in l.scan.pass) (map coding_in l.scan.components.items) (map (λ v. v.items) l.fn.planes.items) (with_decoded base l.fn.self);

@@ -1,11 +1,10 @@
-use Rattle.std.proofs.Common.{◌≡◌, ◌∙◌, ◌<◌, ◌*◌, ap, ap₂, sym, refl, subst, rules, arith, List, map, length, ℕ, Ok, Err, Option, true}
+use Rattle.std.proofs.Common.{◌≡◌, ◌∙◌, ◌<◌, ◌*◌, ap, ap₂, sym, subst, List, map, length, ℕ, Option}
 use Rattle.std.specs.Prelude.{All}
 use Rattle.std.specs.declared.alloc.Global.{Global}
 use Rattle.std.specs.declared.vec.Vec.{Vec}
 use Rattle.std.proofs.lemmas.Result.{err_from_is_err_and}
 use Rattle.std.proofs.lemmas.List.{length-map}
 use Rattle.jpeg_bits.specs.declared.marker.Marker.{Marker}
-use Rattle.jpeg_bits.specs.Passes.{Via}
 use Rattle.jpeg_bits.specs.BlockView.{pass_in}
 use Rattle.jpeg_bits.specs.Reading.{Outcome}
 use Rattle.std.specs.List.{AllByRecursion}
@@ -18,13 +17,15 @@ use Rattle.jpeg_decoder.specs.Scans.{Arrays, arrays_at}
 use Rattle.jpeg_decoder.specs.Seen.{found_in, planes_in}
 use Rattle.jpeg_decoder.specs.Sound.{ArePlanes}
 use Rattle.jpeg_decoder.specs.Scanning.{arrays_in, blocks_in, components_in, sizes_of, vias_in}
-use Rattle.jpeg_decoder.specs.Steps.{blocks_at, coding_in, components_of, scan_data, with_decoded, without_blocks, AreRising, IsCodingOf}
-use Rattle.jpeg_decoder.specs.Stream.{Found, Coding, arrays_before, put_arrays, vias_from, with_arrays}
+use Rattle.jpeg_decoder.specs.Steps.{blocks_at, coding_in, scan_data, with_decoded, without_blocks, AreRising}
+use Rattle.jpeg_decoder.specs.Steps.{IsCodingOf}
+use Rattle.jpeg_decoder.specs.Stream.{Found, arrays_before, put_arrays}
 use Rattle.jpeg_decoder.proofs.PlacedCodings.{coded-components, coded-places}
 use Rattle.jpeg_decoder.proofs.PutLoops.{Held}
-use Rattle.jpeg_decoder.proofs.ScanArrays.{IsOf, arrays-sized, held-sized}
+use Rattle.jpeg_decoder.proofs.ScanArrays.{arrays-sized, held-sized}
 use Rattle.jpeg_decoder.proofs.TakenBlocks.{put-back}
-use Rattle.jpeg_decoder.proofs.ScanData.{vias-same, of-frame, arrays-by-sizes, coded-within-held, read-as, rising-codings, data-held, data-held-refused, arrays-whole, answers-err}
+use Rattle.jpeg_decoder.proofs.ScanData.{of-frame, arrays-by-sizes, coded-within-held, read-as, rising-codings}
+use Rattle.jpeg_decoder.proofs.ScanData.{data-held, data-held-refused, arrays-whole, answers-err}
 use Rattle.jpeg_decoder.proofs.decoded.Decoded.read_held.Goals as goal
 
 pub take_blocks-requires-clause-within : goal.take_blocks-requires-clause-within
@@ -130,7 +131,7 @@ returns-clause-data g c =
             data-held f frame p (map coding_in cs) (arrays_in c.read_blocks.new.arrays.items) c.in_ok-met.met bytes c.read_blocks.new.source.bytes
                 (record c.hold.new.self { held = c.take_blocks.new.held }) c.add_arrays.new.self (arrays_in c.put_blocks.new.held.items) c.requires.process
                 (read-as f frame p cs n (blocks_at (map coding_in cs) (arrays_before f frame)) bytes c.requires.ready.restart ∙ (ap (λ (a : Arrays). read a bytes) (sym t.0) ∙ at.1))
-                c.in_ok-add_arrays.ensures.planes c.in_ok-hold.ensures.finished (ap planes_in c.in_ok-hold.ensures.planes)
+                c.in_ok-add_arrays.ensures.planes c.in_ok-hold.ensures.finished (ap planes_in c.in_ok-hold.ensures.planes) (ap planes_in c.in_ok-hold.ensures.samples)
                 (put-held cs c.deref.result.now c.deref-2.result.now c.hold.new.self.held.items c.add_arrays.new.self.held.items c.read_blocks.new.arrays.items c.put_blocks.new.held.items
                 (arrays_before f frame) c.deref.ensures.value c.deref-2.ensures.value c.in_ok-hold.ensures.held
                 (ap (λ (v : Vec Held Global). arrays_in v.items) c.in_ok-add_arrays.ensures.held ∙ c.in_ok-arrays.ensures.left) c.put_blocks.ensures c.requires.ready.rising long),

@@ -1,24 +1,22 @@
-use Rattle.std.proofs.Common.{◌≡◌, ◌∙◌, ap, sym, subst, rules, refl, List, map, length, ℕ, ◌*◌, Ok, Err, Option}
+use Rattle.std.proofs.Common.{◌≡◌, ◌∙◌, ap, sym, subst, refl, List, map, ℕ, ◌*◌, Ok, Err, Option}
 use Rattle.std.proofs.lemmas.Result.{err_from_is_err_and}
-use Rattle.std.specs.List.{AllByRecursion}
 use Rattle.std.specs.declared.alloc.Global.{Global}
 use Rattle.std.specs.declared.vec.Vec.{Vec}
 use Rattle.jpeg_bits.specs.declared.marker.Marker.{Marker}
 use Rattle.jpeg_bits.specs.Passes.{Via}
-use Rattle.jpeg_bits.specs.Reading.{Outcome}
 use Rattle.jpeg_bits.specs.BlockView.{pass_in}
 use Rattle.jpeg_segments.specs.Frame.{Component}
 use Rattle.jpeg_segments.specs.FrameView.{frame_in}
 use Rattle.jpeg_decoder.specs.Seen.{found_in}
 use Rattle.jpeg_decoder.specs.Sound.{ArePlanes}
-use Rattle.jpeg_decoder.specs.Scanning.{components_in, vias_in}
-use Rattle.jpeg_decoder.specs.Steps.{coding_in, components_of, scan_data, with_decoded}
+use Rattle.jpeg_decoder.specs.Scanning.{vias_in}
+use Rattle.jpeg_decoder.specs.Steps.{coding_in, scan_data, with_decoded}
 use Rattle.jpeg_decoder.specs.Stream.{Found, vias_from}
 use Rattle.jpeg_decoder.specs.Strips.{planes_at}
 use Rattle.jpeg_decoder.specs.Strips as strips
 use Rattle.jpeg_decoder.proofs.PlacedCodings.{coded-components}
-use Rattle.jpeg_decoder.proofs.ScanArrays.{IsOf}
-use Rattle.jpeg_decoder.proofs.ScanData.{vias-same, of-frame, data-planes, data-planes-refused, planes-whole, answers-err}
+use Rattle.jpeg_decoder.proofs.ScanData.{vias-same, of-frame, data-planes, data-planes-refused, planes-whole}
+use Rattle.jpeg_decoder.proofs.ScanData.{answers-err}
 use Rattle.jpeg_decoder.proofs.decoded.Decoded.read_sequential.Goals as goal
 
 pub returns-in_err-planes-clause-data : goal.returns-in_err-planes-clause-data
@@ -56,7 +54,7 @@ returns-clause-data g c =
                 c.requires.process (of-frame frame codings c.requires.ready.of_frame)
                 (subst (λ (k : ℕ). planes_at p k (vias_from 0 codings) frame codings bytes ≡ Ok ((strips.planes_in c.in_ok-planes.planes.items, c.in_ok-planes.met), c.read_planes.new.source.bytes)) c.requires.ready.restart
                 (ap (λ (v : List Via). planes_at p n v frame codings bytes) (vias-same 0 cs) ∙ at.1))
-                c.add_planes.ensures.planes refl refl (ap (map _) c.new.ensures.items),
+                c.add_planes.ensures.planes refl refl refl (ap (map _) c.new.ensures.items),
           ),
     )
 

@@ -9,10 +9,13 @@ use Rattle.jpeg_segments.specs.Frame.{Frame}
 use Rattle.jpeg_decoder.specs.declared.state.State.{State}
 use Rattle.jpeg_decoder.specs.Steps.{turn_of}
 use Rattle.jpeg_decoder.proofs.Refusals.{short-step, told-err, never-met}
-use Rattle.jpeg_decoder.proofs.Turns.{not-framed, segments-stop, segments-refused, segments-end, segments-next, told-stop, told-refused, told-end, told-next, turn-takes, within-end, within-next, within-none}
+use Rattle.jpeg_decoder.proofs.Turns.{not-framed, segments-stop, segments-refused, segments-end, segments-next}
+use Rattle.jpeg_decoder.proofs.Turns.{told-stop, told-refused, told-end, told-next, turn-takes, within-end, within-next}
+use Rattle.jpeg_decoder.proofs.Turns.{within-none}
 use Rattle.jpeg_decoder.proofs.state.State.read.Given.{Over}
 use Rattle.jpeg_decoder.proofs.state.State.read.Goals as goal
-use Rattle.jpeg_decoder.proofs.state.State.read.Goals.{else-loop-test, then-loop-test+else-is_read_for+in_ok-step+else-step+else-counter-lt18446744073709551615}
+use Rattle.jpeg_decoder.proofs.state.State.read.Goals.{else-loop-test}
+use Rattle.jpeg_decoder.proofs.state.State.read.Goals.{then-loop-test+else-is_read_for+in_ok-step+else-step+else-counter-lt18446744073709551615}
 
 pub returns-in_err-step-clause-reads : goal.returns-in_err-step-clause-reads
 returns-in_err-step-clause-reads g c =

@@ -1,7 +1,9 @@
-use Rattle.std.proofs.Common.{ℕ, ◌+◌, ◌*◌, ◌/◌, ◌≤◌, ◌∙◌, arith, ap, subst, slice_index, get_or, List, length, length-take}
+use Rattle.std.proofs.Common.{ℕ, ◌+◌, ◌*◌, ◌/◌, ◌≤◌, ◌∙◌, arith, ap, subst, slice_index, get_or, List, length}
+use Rattle.std.proofs.Common.{length-take}
 use Rattle.std.specs.Int.{div_ceil}
 use Rattle.jpeg_pixels.specs.Upsampling.{across}
-use Rattle.jpeg_pixels.proofs.UpsampledRows.{in_front, as_h1v1, as_h2v1, as_h1v2, as_h2v2, as_generic, repeated_within, used_enough}
+use Rattle.jpeg_pixels.proofs.UpsampledRows.{in_front, as_h1v1, as_h2v1, as_h1v2, as_h2v2, as_generic, repeated_within}
+use Rattle.jpeg_pixels.proofs.UpsampledRows.{used_enough}
 use Rattle.jpeg_pixels.proofs.upsampler.UpsampleRule.upsample_row.Goals as goal
 
 pub returns-in-H1V1-clause-samples : goal.returns-in-H1V1-clause-samples

@@ -1,0 +1,552 @@
+-- A lossless scan as it is read: its tables, its samples and where they are put.
+use Rattle.std.proofs.Common.{◌≡◌, ℕ, ℤ, zero, suc, ◌+◌, ◌*◌, ◌<◌, ◌≤◌, Bool, true, List, [], ◌∷◌, ◌++◌, All}
+use Rattle.std.proofs.Common.{length, map, drop, get_or, set, Option, Some, None, Result, Ok, Err, refl, sym, ap}
+use Rattle.std.proofs.Common.{ap₂, ◌∙◌, subst, arith}
+use Rattle.std.specs.Prelude.{IfErr, IfOk, MatchResult, OnOk, option_map, slice_index_or, slice_set}
+use Rattle.std.specs.declared.alloc.Global.{Global}
+use Rattle.std.specs.declared.vec.Vec.{Vec}
+use Rattle.std.proofs.lemmas.List.{length-map, map-set}
+use Rattle.std.specs.List.{AllByRecursion}
+use Rattle.std.proofs.lemmas.List.{append_assoc, append-nil, drop_all, drop_more}
+use Rattle.std.proofs.lemmas.List.Elements.{All-from_recursion, recursion_from_All}
+use Rattle.jpeg_bits.specs.Codes.{Table}
+use Rattle.jpeg_bits.specs.Reading.{Answers, Fault, Malformed, Names, Outcome, ◌>>=◌}
+use Rattle.jpeg_bits.specs.Stream.{Stream}
+use Rattle.jpeg_bits.specs.declared.error.Error.{Error}
+use Rattle.jpeg_bits.specs.declared.marker.Marker.{Marker}
+use Rattle.jpeg_bits.specs.declared.scan.Predictor.{Predictor}
+use Rattle.jpeg_bits.proofs.Loops.{Continues, Continues-err, Names-through, bind_at, bind_err}
+use Rattle.jpeg_segments.specs.Frame.{Frame, Component}
+use Rattle.jpeg_segments.specs.ScanHeader.{Scan}
+use Rattle.jpeg_segments.specs.declared.parser.CodingProcess.TheVariants.{Lossless}
+use Rattle.jpeg_lossless.specs.Codings.{part_by, way_by}
+use Rattle.jpeg_lossless.specs.declared.scan.Coding.{Coding}
+use Rattle.jpeg_lossless.specs.Pictures.{AreWhole, layer_by, picture_bytes}
+use Rattle.jpeg_lossless.specs.Prediction.{start_of}
+use Rattle.jpeg_lossless.specs.Scans.{Way, scan_at}
+use Rattle.jpeg_decoder.specs.InTurn.{AreArrays}
+use Rattle.jpeg_decoder.specs.LosslessScans.{LosslessCoding, lossless_coding, lossless_codings, mcus_down}
+use Rattle.jpeg_decoder.specs.LosslessScans.{one_by_one, samples_from, tables_in, way_of, with_samples}
+use Rattle.jpeg_decoder.specs.LosslessScans.{without_factors}
+use Rattle.jpeg_decoder.specs.Needed.{first_of, needed}
+use Rattle.jpeg_decoder.specs.Scanning.{arrays_in}
+use Rattle.jpeg_decoder.specs.Scans.{Arrays, zero_arrays}
+use Rattle.jpeg_decoder.specs.declared.decoded.Decoded.{Decoded}
+use Rattle.jpeg_decoder.specs.Sound.{IsDecodedFrame, IsSampled, IsSound}
+use Rattle.jpeg_decoder.specs.Steps.{IsRefusal, after_all, samples_read, with_decoded}
+use Rattle.jpeg_decoder.specs.Stream.{Found, arrays_before, after_samples, samples_picture, scan_samples}
+use Rattle.jpeg_decoder.proofs.AcceptedTurns.{bind-ok, ok-same, then-ok}
+use Rattle.jpeg_decoder.proofs.PlainFrames.{codings-plain, down-plain, picture-plain, way-plain}
+use Rattle.jpeg_decoder.specs.Seen.{planes_in}
+use Rattle.jpeg_decoder.proofs.PutLoops.{drop-set, seen-at}
+use Rattle.jpeg_decoder.proofs.ScanReads.{HasRead, last-step}
+use Rattle.jpeg_decoder.proofs.Soundness.{count-few, decoded-count}
+use Rattle.jpeg_bits.specs.declared.error.Error.TheVariants.{OutOfMemory}
+
+-- ---- tables, slot after slot
+
+abbrev pub tables-after : List Table → List Table → Result (List Table) Fault
+tables-after front others = Ok (front ++ others)
+
+pub tables-none : (o : Result (List Table) Fault) → o ≡ (o >>= tables-after [])
+tables-none (Ok tables) = refl
+tables-none (Err fault) = refl
+
+tables-more : (ts : List (Option Table)) (d : ℕ) (more : List ℕ) (front : List Table) (table : Table)
+    → slice_index_or ts d None ≡ Some table
+    → (tables_in ts (d ∷ more) >>= tables-after front) ≡ (tables_in ts more >>= tables-after (front ++ table ∷ []))
+unfolding tables_in
+tables-more ts d more front table e =
+    go (slice_index_or ts d None) (tables_in ts more) e
+  where
+    go : (o : Option Table) (r : Result (List Table) Fault) → o ≡ Some table
+        → (needed o >>= (λ (t : Table). r >>= (λ (others : List Table). Ok (t ∷ others))) >>= tables-after front)
+        ≡ (r >>= tables-after (front ++ table ∷ []))
+    go None r k = absurd (let n : ⊥ = cc in n)
+    go (Some t) (Err fault) k = refl
+    go (Some t) (Ok others) k =
+        let same : t ≡ table = cc in
+        rw same (ap (λ (l : List Table). Ok l) (sym (append_assoc front (table ∷ []) others)))
+
+tables-failed : (ts : List (Option Table)) (d : ℕ) (more : List ℕ) (front : List Table) (f : Fault)
+    → needed (slice_index_or ts d None) ≡ Err f → (tables_in ts (d ∷ more) >>= tables-after front) ≡ Err f
+unfolding tables_in
+tables-failed ts d more front f e = go (needed (slice_index_or ts d None)) (tables_in ts more) e
+  where
+    go : (o : Result Table Fault) (r : Result (List Table) Fault) → o ≡ Err f
+        → (o >>= (λ (t : Table). r >>= (λ (others : List Table). Ok (t ∷ others))) >>= tables-after front) ≡ Err f
+    go (Ok t) r k = absurd (let n : ⊥ = cc in n)
+    go (Err fault) r k = cc
+
+dropped : (ds : List ℕ) (slot d : ℕ) → slot < length ds → d ≡ get_or ds slot d → drop slot ds ≡ d ∷ drop (slot + 1) ds
+dropped ds slot d h e = drop_more ds slot d h ∙ ap (λ (x : ℕ). x ∷ drop (slot + 1) ds) (sym e)
+
+-- a slot more
+pub tables-there : (ts : List (Option Table)) (ds : List ℕ) (slot d : ℕ) (front new : List Table) (table : Table)
+    (whole : Result (List Table) Fault) → slot < length ds → d ≡ get_or ds slot d
+    → slice_index_or ts d None ≡ Some table → new ≡ front ++ table ∷ []
+    → whole ≡ (tables_in ts (drop slot ds) >>= tables-after front)
+    → whole ≡ (tables_in ts (drop (slot + 1) ds) >>= tables-after new)
+tables-there ts ds slot d front new table whole h e is joined w =
+    w ∙ ap (λ (l : List ℕ). tables_in ts l >>= tables-after front) (dropped ds slot d h e)
+    ∙ tables-more ts d (drop (slot + 1) ds) front table is
+    ∙ ap (λ (l : List Table). tables_in ts (drop (slot + 1) ds) >>= tables-after l) (sym joined)
+
+-- a slot without a table
+pub tables-lacking : (ts : List (Option Table)) (ds : List ℕ) (slot d : ℕ) (front : List Table)
+    (whole : Result (List Table) Fault) → slot < length ds → d ≡ get_or ds slot d
+    → slice_index_or ts d None ≡ None → whole ≡ (tables_in ts (drop slot ds) >>= tables-after front)
+    → whole ≡ Err Malformed
+tables-lacking ts ds slot d front whole h is none w =
+    w ∙ ap (λ (l : List ℕ). tables_in ts l >>= tables-after front) (dropped ds slot d h is)
+    ∙ tables-failed ts d (drop (slot + 1) ds) front Malformed (ap needed none)
+
+-- all slots
+pub tables-all : (ts : List (Option Table)) (ds : List ℕ) (slot : ℕ) (front : List Table)
+    (whole : Result (List Table) Fault)
+    → length ds ≤ slot → whole ≡ (tables_in ts (drop slot ds) >>= tables-after front) → whole ≡ Ok front
+unfolding tables_in
+tables-all ts ds slot front whole h w =
+    w ∙ (rw (drop_all slot ds h, tables_in) (ap (λ (l : List Table). Ok l) (append-nil front)))
+
+-- ---- the components of a scan, by its tables
+
+-- Components by their places and their tables.
+pub record AreCodings (tables : List (Option Table)) (frame : Frame) (places ds : List ℕ) (ts : List Table) : Type 0 where
+  pub codings : List LosslessCoding
+  pub are : lossless_codings tables frame places ds ≡ Ok codings
+  pub places_are : map (λ k. k.place) codings ≡ places
+  pub tables_are : map (λ k. k.table) codings ≡ ts
+
+first-at : (n : ℕ) (cs : List Component) → n < length cs → (c : Component) × (first_of (drop n cs) ≡ Some c)
+first-at n [] h = absurd (omega arith)
+first-at zero (c ∷ cs) h = (c, refl)
+first-at (suc n) (c ∷ cs) h = first-at n cs (omega arith)
+
+pub codings-by-tables : (tables : List (Option Table)) (frame : Frame) (places ds : List ℕ) (ts : List Table)
+    → AllByRecursion (λ place. place < length frame.components) places → length ds ≡ length places
+    → tables_in tables ds ≡ Ok ts → AreCodings tables frame places ds ts
+unfolding lossless_codings lossless_coding tables_in
+codings-by-tables tables frame [] [] ts within long e =
+    record { codings = []; are = refl; places_are = refl; tables_are = ok-same [] ts e }
+codings-by-tables tables frame [] (d ∷ ds) ts within long e = absurd (omega arith)
+codings-by-tables tables frame (p ∷ places) [] ts within long e = absurd (omega arith)
+codings-by-tables tables frame (p ∷ places) (d ∷ ds) ts within long e =
+    let one = bind-ok (needed (slice_index_or tables d None)) _ ts e in
+    let more = bind-ok (tables_in tables ds) _ ts one.2 in
+    let rest = codings-by-tables tables frame places ds more.0 within.1 (omega arith) more.1 in
+    let c = first-at p frame.components within.0 in
+    let k : LosslessCoding = record { place = p; component = c.0; table = one.0 } in
+    record {
+      codings = k ∷ rest.codings;
+      are =
+          then-ok (lossless_coding tables frame p d) _ k _
+          (then-ok (needed (first_of (drop p frame.components))) _ c.0 _ (ap needed c.1)
+          (then-ok (needed (slice_index_or tables d None)) _ one.0 _ one.1 refl))
+          (then-ok (lossless_codings tables frame places ds) _ rest.codings _ rest.are refl);
+      places_are = ap (λ (l : List ℕ). p ∷ l) rest.places_are;
+      tables_are = ap (λ (l : List Table). one.0 ∷ l) rest.tables_are ∙ ok-same (one.0 ∷ more.0) ts more.2;
+    }
+
+pub codings-lacking : (tables : List (Option Table)) (frame : Frame) (places ds : List ℕ) (f : Fault)
+    → AllByRecursion (λ place. place < length frame.components) places → length ds ≡ length places
+    → tables_in tables ds ≡ Err f → lossless_codings tables frame places ds ≡ Err f
+unfolding lossless_codings lossless_coding tables_in
+codings-lacking tables frame [] [] f within long e = absurd (let n : ⊥ = cc in n)
+codings-lacking tables frame [] (d ∷ ds) f within long e = absurd (omega arith)
+codings-lacking tables frame (p ∷ places) [] f within long e = absurd (omega arith)
+codings-lacking tables frame (p ∷ places) (d ∷ ds) f within long e =
+    let c = first-at p frame.components within.0 in
+    go (first_of (drop p frame.components)) (ap needed c.1) (slice_index_or tables d None) (tables_in tables ds)
+    (lossless_codings tables frame places ds) e (λ h. codings-lacking tables frame places ds f within.1 (omega arith) h)
+  where
+    go : (c : Option Component) {x : Component} → needed c ≡ Ok x → (t : Option Table) (o : Result (List Table) Fault)
+        (r : Result (List LosslessCoding) Fault)
+        → (needed t >>= (λ (table : Table). o >>= (λ (others : List Table). Ok (table ∷ others)))) ≡ Err f
+        → (o ≡ Err f → r ≡ Err f)
+        → ((needed c >>= (λ (component : Component). needed t >>= (λ (table : Table).
+        Ok (record { place = p; component = component; table = table }))))
+        >>= (λ (k : LosslessCoding). r >>= (λ (others : List LosslessCoding). Ok (k ∷ others)))) ≡ Err f
+    go None h t o r e k = absurd (let n : ⊥ = cc in n)
+    go (Some x) h None o r e k = cc
+    go (Some x) h (Some table) (Ok others) r e k = absurd (let n : ⊥ = cc in n)
+    go (Some x) h (Some table) (Err g) r e k = rw (k e) refl
+
+-- ---- where factors are ignored
+
+pub plain-places : (frame : Frame) (places : List ℕ) → All (λ place. place < length frame.components) places
+    → AllByRecursion (λ place. place < length (without_factors frame).components) places
+plain-places frame places h =
+    subst (λ (n : ℕ). AllByRecursion (λ place. place < n) places) (sym (length-map frame.components (one_by_one frame)))
+    (recursion_from_All (λ place. place < length frame.components) places h)
+
+-- Samples are read of MCUs that are pixels.
+pub plain-read : (tables : List (Option Table)) (frame : Frame) (places ds : List ℕ) (ts : List Table)
+    (a : AreCodings tables (without_factors frame) places ds ts) (predictor : Predictor) (point restart : ℕ)
+    → scan_at (way_of (without_factors frame) predictor point a.codings)
+    (mcus_down (without_factors frame) a.codings) restart point
+    ≡ scan_at (record {
+      wide = frame.width;
+      selection = predictor;
+      start = start_of frame.precision point;
+      parts = map (part_by frame.width frame.height) ts;
+    }) frame.height restart point
+plain-read tables frame places ds ts a predictor point restart =
+    ap₂ (λ (w : Way) (high : ℕ). scan_at w high restart point)
+    (way-plain tables frame places ds a.codings predictor point a.are
+    ∙ ap (λ (l : List Table). record {
+      wide = frame.width;
+      selection = predictor;
+      start = start_of frame.precision point;
+      parts = map (part_by frame.width frame.height) l;
+    }) a.tables_are)
+    (down-plain frame a.codings (codings-plain tables frame places ds a.codings a.are))
+
+-- ---- steps of a scan
+
+pub begun : (whole : List ℕ → Outcome (Found × Option Marker)) (old : Stream) → Continues whole old whole old
+begun whole old = (refl, λ k. (k, refl))
+
+pub samples-lacking : (found : Found) (frame : Frame) (scan : Scan) (bytes : List ℕ) (f : Fault)
+    → lossless_codings found.huffman.dc frame scan.components scan.dc_places ≡ Err f
+    → samples_read found frame scan bytes ≡ Err f
+unfolding samples_read
+samples-lacking found frame scan bytes f e = bind_err _ _ f e
+
+-- what is found after planes, and the marker after them and after restart markers
+abbrev pub after_planes : Found → List LosslessCoding → (List (List ℕ) × Option Marker) × List ℕ
+    → Outcome (Found × Option Marker)
+after_planes found codings r =
+    after_all r.0.1 r.1 >>= (λ (met : Option Marker × List ℕ). Ok ((after_samples found codings r.0.0, met.0), met.1))
+
+samples-then : (found : Found) (frame : Frame) (scan : Scan) (codings : List LosslessCoding) (bytes : List ℕ)
+    → lossless_codings found.huffman.dc frame scan.components scan.dc_places ≡ Ok codings
+    → samples_read found frame scan bytes ≡ (scan_samples found frame scan codings bytes >>= after_planes found codings)
+unfolding samples_read
+samples-then found frame scan codings bytes e = then-ok _ _ codings _ e refl
+
+-- The data of a scan are refused.
+pub samples-fail : {X Z : Type 0} (v : X → Found × Option Marker) (view : Z → List (List ℕ) × Option Marker)
+    (found : Found)
+    (frame : Frame) (scan : Scan) (codings : List LosslessCoding) (read : List ℕ → Outcome (List (List ℕ) × Option Marker))
+    (old new : Stream) (e : Error)
+    → lossless_codings found.huffman.dc frame scan.components scan.dc_places ≡ Ok codings
+    → scan_samples found frame scan codings ≡ read
+    → Answers view read old (Err e) new → Answers v (samples_read found frame scan) old (Err e) new
+samples-fail v view found frame scan codings read old new e c is =
+    Continues-err v view (samples_read found frame scan) (samples_read found frame scan) read old old new e
+    (λ f h. samples-then found frame scan codings old.bytes c
+    ∙ bind_err (after_planes found codings) _ f (ap (λ (g : List ℕ → Outcome (List (List ℕ) × Option Marker)). g old.bytes) is ∙ h))
+    (begun (samples_read found frame scan) old)
+
+-- The data are read, and the restart markers after them are passed over.
+pub samples-end : (found next : Found) (frame : Frame) (scan : Scan) (codings : List LosslessCoding)
+    (read : List ℕ → Outcome (List (List ℕ) × Option Marker)) (planes : List (List ℕ)) (met : Option Marker)
+    (old mid new : Stream) (r : Result (Option Marker) Error)
+    → lossless_codings found.huffman.dc frame scan.components scan.dc_places ≡ Ok codings
+    → scan_samples found frame scan codings ≡ read → next ≡ after_samples found codings planes
+    → HasRead read old (planes, met) mid → Answers (λ (m : Option Marker). m) (after_all met) mid r new
+    → Answers (λ (m : Option Marker). (next, m)) (samples_read found frame scan) old r new
+samples-end found next frame scan codings read planes met old mid new r c is made has =
+    last-step (λ (m : Option Marker). (next, m)) (λ (m : Option Marker). m) (samples_read found frame scan)
+    (λ bytes. after_planes found codings ((planes, met), bytes)) (after_all met) old mid new r
+    (λ m h. bind_at (λ (m : Option Marker × List ℕ). Ok ((after_samples found codings planes, m.0), m.1)) _ (m, new.bytes) h
+    ∙ ap (λ (x : Found). Ok ((x, m), new.bytes)) (sym made))
+    (λ f h. bind_err (λ (m : Option Marker × List ℕ). Ok ((after_samples found codings planes, m.0), m.1)) _ f h) (
+      has.0,
+      λ k.
+          let at = has.1 k in (
+            at.0,
+            samples-then found frame scan codings old.bytes c
+                ∙ bind_at (after_planes found codings) _ ((planes, met), mid.bytes)
+                (ap (λ (g : List ℕ → Outcome (List (List ℕ) × Option Marker)). g old.bytes) is ∙ at.1),
+          ),
+    )
+
+-- ---- what is found after it
+
+before-lossless : (found : Found) (f : Frame) → f.process ≡ Lossless
+    → arrays_before found f ≡ zero_arrays f.components
+unfolding arrays_before
+before-lossless found f e = rw e refl
+
+set-sized : (n : ℕ) (samples : List (Option (List ℕ))) (place : ℕ) (plane : List ℕ) → length plane ≡ n
+    → AllByRecursion (IsSampled n) samples → AllByRecursion (IsSampled n) (set samples place (Some plane))
+set-sized n [] place plane e h = tt
+set-sized n (x ∷ samples) zero plane e h = (e, h.1)
+set-sized n (x ∷ samples) (suc place) plane e h = (h.0, set-sized n samples place plane e h.1)
+
+with-sized : (n : ℕ) (places : List ℕ) (planes : List (List ℕ)) (samples : List (Option (List ℕ))) → AreWhole n planes
+    → AllByRecursion (IsSampled n) samples → AllByRecursion (IsSampled n) (with_samples places planes samples)
+unfolding with_samples AreWhole
+with-sized n [] planes samples w h = h
+with-sized n (p ∷ places) [] samples w h = h
+with-sized n (p ∷ places) (plane ∷ planes) samples w h =
+    with-sized n places planes (slice_set samples p (Some plane)) w.1 (set-sized n samples p plane w.0 h)
+
+-- A lossless scan leaves a sound state.
+pub samples-sound : (found next : Found) (frame : Frame) (places : List ℕ) (planes : List (List ℕ))
+    → IsSound found → found.frame ≡ Some frame → frame.process ≡ Lossless
+    → AreWhole (frame.width * frame.height) planes
+    → next ≡ record found { scanned = true; samples = with_samples places planes found.samples } → IsSound next
+unfolding arrays_before
+samples-sound found next frame places planes sound e lossless whole is = subst IsSound (sym is) (record {
+  frames = sound.frames;
+  held = λ f k.
+      let p : f.process ≡ Lossless = subst (λ (x : Frame). x.process ≡ Lossless) (same f k) lossless in
+      subst (AreArrays f.components)
+      (before-lossless found f p ∙ sym (before-lossless (record found { scanned = true; samples = with_samples places planes found.samples }) f p)) (sound.held f k);
+  planes = sound.planes;
+  samples = λ f k.
+      with-sized (f.width * f.height) places planes found.samples
+      (subst (λ (x : Frame). AreWhole (x.width * x.height) planes) (same f k) whole) (sound.samples f k);
+  unread = λ k. absurd (none-some (sym k ∙ e));
+})
+  where
+    some-same : (f g : Frame) → Some f ≡ Some g → f ≡ g
+    some-same f g h = cc
+
+    same : (f : Frame) → found.frame ≡ Some f → frame ≡ f
+    same f k = some-same frame f (sym e ∙ k)
+
+    none-some : None ≡ Some frame → ⊥
+    none-some h = cc
+
+-- ---- where samples are put
+
+with-more : (p : ℕ) (places : List ℕ) (plane : List ℕ) (planes : List (List ℕ)) (samples : List (Option (List ℕ)))
+    → with_samples (p ∷ places)
+    (plane ∷ planes) samples ≡ with_samples places planes (slice_set samples p (Some plane))
+unfolding with_samples
+with-more p places plane planes samples = refl
+
+with-none : (planes : List (List ℕ)) (samples : List (Option (List ℕ))) → with_samples [] planes samples ≡ samples
+unfolding with_samples
+with-none planes samples = refl
+
+-- a slot more
+pub put-step : (places : List ℕ) (i : ℕ) (planes : List (Vec ℕ Global)) (empty plane : Vec ℕ Global)
+    (before : List (Option (Vec ℕ Global))) → i < length places → length planes ≡ length places → plane ≡ get_or planes i plane
+    → with_samples (drop (i + 1) places) (drop (i + 1) (map (λ (v : Vec ℕ Global). v.items) (set planes i empty)))
+    (planes_in (slice_set before (slice_index_or places i 0) (Some plane)))
+    ≡ with_samples (drop i places) (drop i (map (λ (v : Vec ℕ Global). v.items) planes)) (planes_in before)
+put-step places i planes empty plane before h e is =
+    let items : Vec ℕ Global → List ℕ = λ v. v.items in
+    let p = get_or places i 0 in
+    let back : drop i (map items planes) ≡ plane.items ∷ drop (i + 1) (map items planes) = seen-at items planes i plane (omega arith) is in
+    let rest : drop (i + 1) (map items (set planes i empty)) ≡ drop (i + 1) (map items planes)
+    = ap (drop (i + 1)) (map-set items planes i empty) ∙ drop-set (map items planes) i empty.items in
+    ap₂ (λ (ps : List (List ℕ)) (s : List (Option (List ℕ))). with_samples (drop (i + 1) places) ps s) rest
+    (map-set (λ (q : Option (Vec ℕ Global)). option_map (λ (v : Vec ℕ Global). v.items) q) before p (Some plane))
+    ∙ sym (with-more p (drop (i + 1) places) plane.items (drop (i + 1) (map items planes)) (planes_in before))
+    ∙ sym (ap₂ (λ (l : List ℕ) (ps : List (List ℕ)). with_samples l ps (planes_in before)) (drop_more places i 0 h) back)
+
+-- all slots
+pub put-all : (places : List ℕ) (i : ℕ) (planes : List (List ℕ)) (samples whole : List (Option (List ℕ)))
+    → length places ≤ i → with_samples (drop i places) planes samples ≡ whole → samples ≡ whole
+put-all places i planes samples whole h w =
+    sym (with-none planes samples)
+    ∙ ap (λ (l : List ℕ). with_samples l planes samples) (sym (drop_all i places h)) ∙ w
+
+-- ---- samples at the end of an image
+
+abbrev pub others-after : List (List ℕ) → List (List ℕ) → Result (List (List ℕ)) Fault
+others-after front others = Ok (front ++ others)
+
+pub samples-none : (o : Result (List (List ℕ)) Fault) → o ≡ (o >>= others-after [])
+samples-none (Ok planes) = refl
+samples-none (Err fault) = refl
+
+samples-more : (samples : List (Option (List ℕ))) (place : ℕ) (c : Component) (more : List Component)
+    (front : List (List ℕ)) (plane : List ℕ) → slice_index_or samples place None ≡ Some plane
+    → (samples_from samples place (c ∷ more) >>= others-after front)
+    ≡ (samples_from samples (place + 1) more >>= others-after (front ++ plane ∷ []))
+unfolding samples_from
+samples-more samples place c more front plane e =
+    go (slice_index_or samples place None) (samples_from samples (place + 1) more) e
+  where
+    go : (o : Option (List ℕ)) (r : Result (List (List ℕ)) Fault) → o ≡ Some plane
+        → (needed o >>= (λ (p : List ℕ). r >>= (λ (others : List (List ℕ)). Ok (p ∷ others))) >>= others-after front)
+        ≡ (r >>= others-after (front ++ plane ∷ []))
+    go None r k = absurd (let n : ⊥ = cc in n)
+    go (Some p) (Err fault) k = refl
+    go (Some p) (Ok others) k =
+        let same : p ≡ plane = cc in
+        rw same (ap (λ (l : List (List ℕ)). Ok l) (sym (append_assoc front (plane ∷ []) others)))
+
+samples-failed : (samples : List (Option (List ℕ))) (place : ℕ) (c : Component) (more : List Component)
+    (front : List (List ℕ)) (f : Fault) → needed (slice_index_or samples place None) ≡ Err f
+    → (samples_from samples place (c ∷ more) >>= others-after front) ≡ Err f
+unfolding samples_from
+samples-failed samples place c more front f e =
+    go (needed (slice_index_or samples place None)) (samples_from samples (place + 1) more) e
+  where
+    go : (o : Result (List ℕ) Fault) (r : Result (List (List ℕ)) Fault) → o ≡ Err f
+        → (o >>= (λ (p : List ℕ). r >>= (λ (others : List (List ℕ)). Ok (p ∷ others))) >>= others-after front) ≡ Err f
+    go (Ok p) r k = absurd (let n : ⊥ = cc in n)
+    go (Err fault) r k = cc
+
+first-left : (cs : List Component) (place : ℕ) → place < length cs
+    → (c : Component) × (drop place cs ≡ c ∷ drop (place + 1) cs)
+first-left [] place h = absurd (omega arith)
+first-left (c ∷ cs) zero h = (c, refl)
+first-left (c ∷ cs) (suc place) h =
+    let r = first-left cs place (omega arith) in
+    let e : suc place + 1 ≡ suc (place + 1) = omega arith in
+    (r.0, r.1 ∙ ap (λ (n : ℕ). r.0 ∷ drop n (c ∷ cs)) (sym e))
+
+-- a component more
+pub samples-there : (samples : List (Option (List ℕ))) (cs : List Component) (place : ℕ) (front new : List (List ℕ))
+    (plane : List ℕ) (whole : Result (List (List ℕ)) Fault) → place < length cs
+    → slice_index_or samples place None ≡ Some plane → new ≡ front ++ plane ∷ []
+    → whole ≡ (samples_from samples place (drop place cs) >>= others-after front)
+    → whole ≡ (samples_from samples (place + 1) (drop (place + 1) cs) >>= others-after new)
+samples-there samples cs place front new plane whole h is joined w =
+    let c = first-left cs place h in
+    w ∙ ap (λ (l : List Component). samples_from samples place l >>= others-after front) c.1
+    ∙ samples-more samples place c.0 (drop (place + 1) cs) front plane is
+    ∙ ap (λ (l : List (List ℕ)). samples_from samples (place + 1) (drop (place + 1) cs) >>= others-after l) (sym joined)
+
+-- a component without samples
+pub samples-lack : (samples : List (Option (List ℕ))) (cs : List Component) (place : ℕ) (front : List (List ℕ))
+    (whole : Result (List (List ℕ)) Fault) → place < length cs → slice_index_or samples place None ≡ None
+    → whole ≡ (samples_from samples place (drop place cs) >>= others-after front) → whole ≡ Err Malformed
+samples-lack samples cs place front whole h none w =
+    let c = first-left cs place h in
+    w ∙ ap (λ (l : List Component). samples_from samples place l >>= others-after front) c.1
+    ∙ samples-failed samples place c.0 (drop (place + 1) cs) front Malformed (ap needed none)
+
+-- all components
+pub samples-all : (samples : List (Option (List ℕ))) (cs : List Component) (place : ℕ) (front : List (List ℕ))
+    (whole : Result (List (List ℕ)) Fault) → length cs ≤ place
+    → whole ≡ (samples_from samples place (drop place cs) >>= others-after front) → whole ≡ Ok front
+unfolding samples_from
+samples-all samples cs place front whole h w =
+    w ∙ (rw (drop_all place cs h, samples_from) (ap (λ (l : List (List ℕ)). Ok l) (append-nil front)))
+
+sampled-at : (n : ℕ) (samples : List (Option (List ℕ))) (place : ℕ) (plane : List ℕ)
+    → AllByRecursion (IsSampled n) samples
+    → slice_index_or samples place None ≡ Some plane → length plane ≡ n
+sampled-at n [] place plane h e = absurd (let n : ⊥ = cc in n)
+sampled-at n (None ∷ samples) zero plane h e = absurd (let n : ⊥ = cc in n)
+sampled-at n (Some p ∷ samples) zero plane h e = let s : p ≡ plane = cc in ap (λ (l : List ℕ). length l) (sym s) ∙ h.0
+sampled-at n (x ∷ samples) (suc place) plane h e = sampled-at n samples place plane h.1 e
+
+needed-of : {A : Type 0} (o : Option A) (x : A) → needed o ≡ Ok x → o ≡ Some x
+needed-of None x e = absurd (let n : ⊥ = cc in n)
+needed-of (Some y) x e = ap (λ (z : _). Some z) (ok-same y x e)
+
+-- Samples are those of each pixel.
+pub samples-whole : (n : ℕ) (samples : List (Option (List ℕ))) (place : ℕ) (cs : List Component)
+    (planes : List (List ℕ))
+    → AllByRecursion (IsSampled n) samples → samples_from samples place cs ≡ Ok planes → AreWhole n planes
+unfolding samples_from AreWhole
+samples-whole n samples place [] planes h e = subst (AreWhole n) (ok-same [] planes e) tt
+samples-whole n samples place (c ∷ cs) planes h e =
+    let one = bind-ok (needed (slice_index_or samples place None)) _ planes e in
+    let more = bind-ok (samples_from samples (place + 1) cs) _ planes one.2 in
+    subst (AreWhole n) (ok-same (one.0 ∷ more.0) planes more.2) (
+      sampled-at n samples place one.0 h (needed-of (slice_index_or samples place None) one.0 one.1),
+      samples-whole n samples (place + 1) cs more.0 h more.1,
+    )
+
+-- components with their factors ignored are as many
+pub plain-from : (samples : List (Option (List ℕ))) (place : ℕ) (frame : Frame) (cs : List Component)
+    → samples_from samples place (map (one_by_one frame) cs) ≡ samples_from samples place cs
+unfolding samples_from
+plain-from samples place frame [] = refl
+plain-from samples place frame (c ∷ cs) =
+    ap (λ (r : Result (List (List ℕ)) Fault). needed (slice_index_or samples place None) >>= (λ (plane : List ℕ).
+    r >>= (λ (others : List (List ℕ)). Ok (plane ∷ others)))) (plain-from samples (place + 1) frame cs)
+
+-- ---- what a call knows
+
+pub on-ok : {X P : Type 0} (r : Result X Error) → P → OnOk r P
+on-ok (Ok x) p = p
+on-ok (Err e) p = tt
+
+-- The samples of a scan by how it is coded.
+pub plain-by : (found : Found) (frame : Frame) (scan : Scan) (ts : List Table)
+    (a : AreCodings found.huffman.dc (without_factors frame) scan.components scan.dc_places ts) (k : Coding)
+    → k ≡ record {
+      wide = frame.width;
+      high = frame.height;
+      precision = frame.precision;
+      predictor = scan.predictor;
+      point_transform = scan.point_transform;
+      restart_interval = found.restart;
+    }
+    → scan_samples found (without_factors frame) scan a.codings
+    ≡ scan_at (way_by k ts) k.high k.restart_interval k.point_transform
+plain-by found frame scan ts a k e =
+    plain-read found.huffman.dc frame scan.components scan.dc_places ts a scan.predictor scan.point_transform found.restart
+    ∙ ap (λ (x : Coding). scan_at (way_by x ts) x.high x.restart_interval x.point_transform) (sym e)
+
+-- What is found after samples are put.
+pub put-made : (base : Found) (old new : Decoded) (samples : List (Option (List ℕ))) → new.held ≡ old.held
+    → new.finished ≡ old.finished → new.planes ≡ old.planes → planes_in new.samples ≡ samples
+    → ◌≡◌ {A = Found} (record (with_decoded base new) { scanned = true })
+    (record (with_decoded base old) { scanned = true; samples = samples })
+put-made base old new samples h f p s =
+    ap (λ (x : Arrays). found_with x new.finished (planes_in new.planes) (planes_in new.samples)) (ap held_in h)
+    ∙ ap (λ (x : List (List Bool)). found_with (held_in old.held) x (planes_in new.planes) (planes_in new.samples)) f
+    ∙ ap (λ (x : List (Option (List ℕ))). found_with (held_in old.held) old.finished x (planes_in new.samples)) (ap planes_in p)
+    ∙ ap (found_with (held_in old.held) old.finished (planes_in old.planes)) s
+  where
+    held_in : Vec (Vec (List ℤ) Global) Global → Arrays
+    held_in v = arrays_in v.items
+
+    found_with : Arrays → List (List Bool) → List (Option (List ℕ)) → List (Option (List ℕ)) → Found
+    found_with held finished planes samples =
+        record base { scanned = true; held = held; finished = finished; planes = planes; samples = samples }
+
+-- as many tables as places
+pub codings-count : (tables : List (Option Table)) (frame : Frame) (places ds : List ℕ) (ts : List Table)
+    → AreCodings tables frame places ds ts → length ts ≡ length places
+codings-count tables frame places ds ts a =
+    ap (λ (l : List Table). length l) (sym a.tables_are) ∙ length-map a.codings (λ (k : LosslessCoding). k.table)
+    ∙ sym (length-map a.codings (λ (k : LosslessCoding). k.place)) ∙ ap (λ (l : List ℕ). length l) a.places_are
+
+below-four : (n : ℕ) (places : List ℕ) → n ≤ 4 → AllByRecursion (λ place. place < n) places
+    → AllByRecursion (λ place. place < 4) places
+below-four n [] most h = tt
+below-four n (p ∷ places) most h = let first = h.0 in (omega (arith, first, most), below-four n places most h.1)
+
+-- Places of a frame's components are below 4.
+pub four-places : (frame : Frame) (places : List ℕ) → IsDecodedFrame frame
+    → All (λ place. place < length frame.components) places
+    → All (λ place. place < 4) places
+four-places frame places decoded h =
+    All-from_recursion (λ place. place < 4) places
+    (below-four (length frame.components) places (count-few (length frame.components) (decoded-count frame decoded)).1
+    (recursion_from_All (λ place. place < length frame.components) places h))
+
+-- ---- the picture
+
+pub picture-lacks : (found : Found) (frame : Frame) (e : Error)
+    → Names e (samples_from found.samples 0 frame.components)
+    → Names e (samples_picture found (without_factors frame))
+unfolding samples_picture
+picture-lacks found frame e n =
+    Names-through e (samples_from found.samples 0 frame.components) _
+    (λ f h. bind_err _ _ f (plain-from found.samples 0 frame frame.components ∙ h)) n
+
+pub picture-made : (found : Found) (frame : Frame) (planes : List (List ℕ))
+    → samples_from found.samples 0 frame.components ≡ Ok planes → length planes ≡ length frame.components
+    → samples_picture found (without_factors frame)
+    ≡ Ok (picture_bytes frame.precision 1 1 frame.width frame.height (map (layer_by frame.width) planes))
+unfolding samples_picture
+picture-made found frame planes h e =
+    then-ok _ _ planes _ (plain-from found.samples 0 frame frame.components ∙ h)
+    (ap (λ (l : List ℕ). Ok l) (picture-plain frame planes e))
+
+memory-names : (e : Error) (o : Result (List ℕ) Fault) → e ≡ OutOfMemory → IsRefusal e × Names e o
+memory-names e o h = subst (λ (x : Error). IsRefusal x × Names x o) (sym h) (tt, tt)
+
+-- What is given is the picture, or memory is out.
+pub picture-given : {X : Type 0} (view : X → List ℕ) (r : Result X Error) (o : Result (List ℕ) Fault)
+    (picture : List ℕ)
+    → o ≡ Ok picture → IfOk r (λ v. view v ≡ picture) → IfErr r (λ e. e ≡ OutOfMemory)
+    → MatchResult r (λ v. o ≡ Ok (view v)) (λ e. IsRefusal e × Names e o)
+picture-given view (Ok v) o picture e h m = e ∙ ap (λ (l : List ℕ). Ok l) (sym h)
+picture-given view (Err x) o picture e h m = memory-names x o m

@@ -1,0 +1,576 @@
+-- Lossless streams that are written give their samples, and keep their size.
+use Rattle.std.proofs.Common.{◌≡◌, ℕ, zero, suc, ◌+◌, ◌*◌, ◌<◌, ◌≤◌, true, false, List, [], ◌∷◌, ◌++◌, map, length}
+use Rattle.std.proofs.Common.{replicate, set, get_or, Option, Some, None, Result, Ok, Err, refl, sym, ap, ◌∙◌}
+use Rattle.std.proofs.Common.{subst, arith, append_assoc, length-append, length-set, ltb, inl, inr}
+use Rattle.std.proofs.lemmas.Bool.{le-ltb}
+use Rattle.std.specs.Prelude.{is_some, option_map, slice_index_or, slice_set}
+use Rattle.std.specs.List.{AllByRecursion, concat, range_with_len}
+use Rattle.jpeg_bits.specs.Reading.{Fault, Malformed, ◌>>=◌, skip_at}
+use Rattle.jpeg_bits.specs.Marker.{marker_of}
+use Rattle.jpeg_bits.specs.declared.marker.Marker.{Marker}
+use Rattle.jpeg_bits.specs.declared.marker.Marker.TheVariants.{EOI, SOS}
+use Rattle.jpeg_segments.specs.declared.parser.CodingProcess.{CodingProcess}
+use Rattle.jpeg_segments.specs.declared.parser.CodingProcess.TheVariants.{Lossless}
+use Rattle.jpeg_segments.specs.Frame.{Frame, Component, sof_at}
+use Rattle.jpeg_segments.specs.Quantization.{dqt_at}
+use Rattle.jpeg_segments.specs.HuffmanTables.{dht_at}
+use Rattle.jpeg_segments.specs.Application.{app_at, dri_at}
+use Rattle.jpeg_segments.specs.Scales.{sized_by}
+use Rattle.jpeg_segments.specs.ScanHeaders.{Choice, ScanHeader, scan_payload, IsScan}
+use Rattle.jpeg_segments.specs.WrittenSegments.{sized, Segment, Quantization, Huffman, Interval, Application}
+use Rattle.jpeg_segments.specs.WrittenSegments.{Comment, Header, FrameHeader, code_of, payload_of, frame_written}
+use Rattle.jpeg_segments.proofs.Fields.{read-on, not-refused, kept, sized-read, skip-read}
+use Rattle.jpeg_segments.proofs.TableSegments.{dqt-read, dht-read}
+use Rattle.jpeg_segments.proofs.OtherSegments.{dri-read, app-read}
+use Rattle.jpeg_segments.proofs.HeaderSegments.{sof-read}
+use Rattle.jpeg_segments.proofs.HeaderRules.{header-rules}
+use Rattle.jpeg_segments.specs.ScanHeader.{scan_of}
+use Rattle.std.proofs.lemmas.List.Elements.{recursion_from_All}
+use Rattle.jpeg_lossless.specs.Written.{marker}
+use Rattle.jpeg_decoder.specs.declared.state.Before.{Before}
+use Rattle.jpeg_decoder.specs.declared.state.Before.TheVariants.{Elsewhere}
+use Rattle.jpeg_decoder.specs.declared.state.Settings.{Settings}
+use Rattle.jpeg_decoder.specs.LosslessScans.{lossless_picture, samples_from, with_samples, without_factors}
+use Rattle.jpeg_decoder.specs.Needed.{needed}
+use Rattle.jpeg_decoder.specs.SaidSegments.{found_after}
+use Rattle.jpeg_decoder.specs.Stream.{Found, Turn, onward, nothing_found, accepted, frame_segment}
+use Rattle.jpeg_decoder.specs.Stream.{quantization_segment, huffman_segment, restart_segment, application_segment}
+use Rattle.jpeg_decoder.specs.Stream.{skipped_segment, end_segment, start_at, after_restarts, scan_before}
+use Rattle.jpeg_decoder.specs.Stream.{scan_segment, segment_at, turn_at, segments_within, segments_at, header_at}
+use Rattle.jpeg_decoder.specs.Stream.{picture_by_process, picture_of, rest_at, meaning, samples_picture}
+use Rattle.jpeg_decoder.specs.Stream.{sized_meaning, sized_to, told_of}
+use Rattle.jpeg_decoder.specs.WrittenLossless.{IsIn, Samples, Stands, Writes, WritesSamples, WritesScan, closed}
+use Rattle.jpeg_decoder.specs.WrittenLossless.{said_after_scan, scan, segment}
+use Rattle.jpeg_decoder.proofs.AcceptedTurns.{then-ok, stands-next}
+use Rattle.jpeg_decoder.proofs.LosslessFrames.{IsShaped, header-shaped, lossless-accepted}
+use Rattle.jpeg_decoder.proofs.LosslessReads.{plain-from}
+use Rattle.jpeg_decoder.proofs.SaidTables.{HasTables, no-tables, segment-tables}
+use Rattle.jpeg_decoder.proofs.WrittenMarkers.{marker-append, marker_for, segment-marker}
+use Rattle.jpeg_decoder.proofs.WrittenSamples.{IsEnd, and_samples, components-of, places_of, planes_for, scan-read}
+use Rattle.jpeg_decoder.proofs.WrittenSamples.{turn_after}
+
+-- ---- samples that are decided
+
+-- the samples at these places are those that were written
+abbrev pub AreHeld : Samples → List (Option (List ℕ)) → List ℕ → Type 0
+AreHeld samples decided sent = AllByRecursion (λ k. slice_index_or decided k None ≡ Some (concat (samples k))) sent
+
+set-keeps : {A : Type 0} (v : ℕ → A) (xs : List A) (j k : ℕ) (d : A) → get_or xs k d ≡ v k
+    → get_or (set xs j (v j)) k d ≡ v k
+set-keeps v [] j k d h = h
+set-keeps v (x ∷ xs) zero zero d h = refl
+set-keeps v (x ∷ xs) zero (suc k) d h = h
+set-keeps v (x ∷ xs) (suc j) zero d h = h
+set-keeps v (x ∷ xs) (suc j) (suc k) d h = set-keeps (λ n. v (suc n)) xs j k d h
+
+set-there : {A : Type 0} (xs : List A) (j : ℕ) (x d : A) → j < length xs → get_or (set xs j x) j d ≡ x
+set-there [] j x d h = absurd (omega arith)
+set-there (y ∷ xs) zero x d h = refl
+set-there (y ∷ xs) (suc j) x d h = set-there xs j x d (omega arith)
+
+with-keeps : (samples : Samples) (places : List ℕ) (decided : List (Option (List ℕ))) (k : ℕ)
+    → slice_index_or decided k None ≡ Some (concat (samples k))
+    → slice_index_or (with_samples places (planes_for samples places) decided) k None ≡ Some (concat (samples k))
+unfolding with_samples
+with-keeps samples [] decided k h = h
+with-keeps samples (p ∷ places) decided k h =
+    with-keeps samples places (slice_set decided p (Some (concat (samples p)))) k (set-keeps (λ n. Some (concat (samples n))) decided p k None h)
+
+with-length : (samples : Samples) (places : List ℕ) (decided : List (Option (List ℕ)))
+    → length (with_samples places (planes_for samples places) decided) ≡ length decided
+unfolding with_samples
+with-length samples [] decided = refl
+with-length samples (p ∷ places) decided =
+    with-length samples places (slice_set decided p (Some (concat (samples p)))) ∙ length-set decided p (Some (concat (samples p)))
+
+with-there : (samples : Samples) (places : List ℕ) (decided : List (Option (List ℕ)))
+    → AllByRecursion (λ k. k < length decided) places
+    → AreHeld samples (with_samples places (planes_for samples places) decided) places
+unfolding with_samples
+with-there samples [] decided h = tt
+with-there samples (p ∷ places) decided h =
+    let next = slice_set decided p (Some (concat (samples p))) in (
+      with-keeps samples places next p (set-there decided p (Some (concat (samples p))) None h.0),
+      with-there samples places next (subst (λ (n : ℕ). AllByRecursion (λ (k : ℕ). k < n) places) (sym (length-set decided p (Some (concat (samples p))))) h.1),
+    )
+
+held-append : (samples : Samples) (decided : List (Option (List ℕ))) (xs ys : List ℕ) → AreHeld samples decided xs
+    → AreHeld samples decided ys → AreHeld samples decided (xs ++ ys)
+held-append samples decided [] ys h g = g
+held-append samples decided (x ∷ xs) ys h g = (h.0, held-append samples decided xs ys h.1 g)
+
+all-kept : (samples : Samples) (places : List ℕ) (decided : List (Option (List ℕ))) (sent : List ℕ)
+    → AreHeld samples decided sent
+    → AreHeld samples (with_samples places (planes_for samples places) decided) sent
+all-kept samples places decided [] h = tt
+all-kept samples places decided (k ∷ sent) h = (with-keeps samples places decided k h.0, all-kept samples places decided sent h.1)
+
+held-after : (samples : Samples) (places : List ℕ) (decided : List (Option (List ℕ))) (sent : List ℕ)
+    → AllByRecursion (λ k. k < length decided) places
+    → AreHeld samples decided sent
+    → AreHeld samples (with_samples places (planes_for samples places) decided) (places ++ sent)
+held-after samples places decided sent h g =
+    let next = with_samples places (planes_for samples places) decided in
+    held-append samples next places sent (with-there samples places decided h) (all-kept samples places decided sent g)
+
+one-held : (P : ℕ → Type 0) (k : ℕ) (sent : List ℕ) → AllByRecursion P sent → IsIn k sent → P k
+one-held P k [] h e = absurd e
+one-held P k (x ∷ sent) h (inl e) = subst P e h.0
+one-held P k (x ∷ sent) h (inr e) = one-held P k sent h.1 e
+
+pub all-in : (P : ℕ → Type 0) (ks sent : List ℕ) → AllByRecursion P sent → AllByRecursion (λ k. IsIn k sent) ks
+    → AllByRecursion P ks
+all-in P [] sent h e = tt
+all-in P (k ∷ ks) sent h e = (one-held P k sent h e.0, all-in P ks sent h e.1)
+
+-- ---- segments
+
+frame-turn : (said : Found) (decided : List (Option (List ℕ))) (number : ℕ) (h : FrameHeader) (rest : List ℕ)
+    → Stands said (Header number h)
+    → frame_segment number (and_samples said decided)
+    (sized (payload_of (Header number h)) ++ rest) ≡ Ok (onward (and_samples (found_after said (Header number h)) decided), rest)
+unfolding frame_segment
+frame-turn said decided number h rest may =
+    let frame = frame_written number h in
+    not-refused (is_some said.frame) _ _ (ap is_some may.0.0)
+    ∙ read-on (sof_at number (sized (payload_of (Header number h)) ++ rest)) _ frame rest _ (sof-read number h rest may.0.1)
+    (ap (λ (o : Result Frame Fault). o >>= λ (decoded : Frame). Ok (onward (record (and_samples said decided) { frame = Some decoded }), rest))
+    (lossless-accepted number h may.0.1 may.1))
+
+segment-read : (before : Before) (said : Found) (decided : List (Option (List ℕ))) (s : Segment) (rest : List ℕ)
+    → Stands said s
+    → segment_at (marker_for s) before (and_samples said decided)
+    (sized (payload_of s) ++ rest) ≡ Ok (onward (and_samples (found_after said s) decided), rest)
+unfolding segment_at quantization_segment huffman_segment restart_segment application_segment skipped_segment
+segment-read before said decided (Quantization ts) rest may =
+    read-on (dqt_at (sized (payload_of (Quantization ts)) ++ rest)) _ _ rest _ (dqt-read ts rest may.0) refl
+segment-read before said decided (Huffman ts) rest may =
+    read-on (dht_at (option_map (λ (f : Frame). f.is_baseline) said.frame) (sized (payload_of (Huffman ts)) ++ rest)) _ _ rest _ (dht-read _ ts rest may.0) refl
+segment-read before said decided (Interval n) rest may =
+    read-on (dri_at (sized (payload_of (Interval n)) ++ rest)) _ n rest _ (dri-read n rest) refl
+segment-read before said decided (Application number payload) rest may =
+    read-on (app_at number (sized payload ++ rest)) _ _ rest _ (app-read number payload rest may.0) refl
+segment-read before said decided (Comment payload) rest may =
+    sized-read payload rest _ ∙ read-on (skip_at (length payload) (payload ++ rest)) _ tt rest _ (skip-read payload rest) refl
+segment-read before said decided (Header number h) rest may = frame-turn said decided number h rest may
+
+-- ---- turns
+
+-- the turn of a marker and what stands after it
+marker-turn : (before : Before) (found : Found) (fill code : ℕ) (m : Marker) (rest : List ℕ) → marker_of code ≡ Some m
+    → turn_at before found None (marker fill code rest) ≡ segment_at m before found rest
+marker-turn before found fill code m rest h = (stands-next fill code m rest (record { is = h })).turn before found
+
+met-turn : (before : Before) (found : Found) (m : Marker) (rest : List ℕ)
+    → turn_at before found (Some m) rest ≡ segment_at m before found rest
+unfolding turn_at
+met-turn before found m rest = refl
+
+-- a marker is met or stands next, and these are the bytes from it on
+record StandsAt (met : Option Marker) (all bytes : List ℕ) : Type 0 where
+  turn : (before : Before) (found : Found) → turn_at before found met all ≡ turn_at before found None bytes
+
+stands-here : (bytes : List ℕ) → StandsAt None bytes bytes
+stands-here bytes = record { turn = λ before found. refl }
+
+stands-met : (fill code : ℕ) (m : Marker) (rest : List ℕ) → marker_of code ≡ Some m
+    → StandsAt (Some m) rest (marker fill code rest)
+stands-met fill code m rest h = record { turn = λ before found. met-turn before found m rest ∙ sym (marker-turn before found fill code m rest h) }
+
+turn-on : (turns : ℕ) (before : Before) (found : Found) (met : Option Marker) (all rest : List ℕ) (t : Turn)
+    → turn_at before found met all ≡ Ok (t, rest) → t.ended ≡ false
+    → segments_within (suc turns) false before found met all ≡ segments_within turns false t.before t.found t.met rest
+unfolding segments_within
+turn-on turns before found met all rest t e g = rw e (rw g refl)
+
+turn-end : (turns : ℕ) (before : Before) (found : Found) (met : Option Marker) (all rest : List ℕ) (t : Turn)
+    → turn_at before found met all ≡ Ok (t, rest) → t.ended ≡ true
+    → segments_within (suc turns) false before found met all ≡ Ok (t.found, rest)
+unfolding segments_within
+turn-end turns before found met all rest t e g = rw e (rw g refl)
+
+-- ---- what begins with a marker
+
+record Starts (bytes : List ℕ) : Type 0 where
+  fill : ℕ
+  code : ℕ
+  m : Marker
+  after : List ℕ
+  is : bytes ≡ marker fill code after
+  makes : marker_of code ≡ Some m
+  ends : IsEnd m
+
+segment-ends : (s : Segment) → IsEnd (marker_for s)
+unfolding after_restarts
+segment-ends (Quantization ts) = λ turns bytes. refl
+segment-ends (Huffman ts) = λ turns bytes. refl
+segment-ends (Interval n) = λ turns bytes. refl
+segment-ends (Application number payload) = λ turns bytes. refl
+segment-ends (Comment payload) = λ turns bytes. refl
+segment-ends (Header number h) = λ turns bytes. refl
+
+eoi-ends : IsEnd EOI
+unfolding after_restarts
+eoi-ends = λ turns bytes. refl
+
+sos-ends : IsEnd SOS
+unfolding after_restarts
+sos-ends = λ turns bytes. refl
+
+starts : (samples : Samples) (said : Found) (sent bytes : List ℕ) (final : Found)
+    → Writes samples said sent bytes final → Starts bytes
+unfolding marker_of
+starts samples said sent bytes final (closed said' sent' frame fill framed lossless all) =
+    record { fill = fill; code = 217; m = EOI; after = []; is = refl; makes = refl; ends = eoi-ends }
+starts samples said sent bytes final (segment said' final' sent' fill s more may w) =
+    record { fill = fill; code = code_of s; m = marker_for s; after = sized (payload_of s) ++ more; is = refl; makes = segment-marker said.frame s may.0; ends = segment-ends s }
+starts samples said sent bytes final (scan said' final' sent' frame fill h data_bytes more framed lossless is data_of w) =
+    record { fill = fill; code = 218; m = SOS; after = sized (scan_payload h) ++ (data_bytes ++ more); is = refl; makes = refl; ends = sos-ends }
+
+-- ---- what is kept
+
+-- what was said by written segments: tables that exist, and a frame of some size
+record IsSaid (said : Found) : Type 0 where
+  tables : HasTables said.huffman
+  shaped : (frame : Frame) → said.frame ≡ Some frame → IsShaped frame
+
+nothing-said : IsSaid nothing_found
+unfolding nothing_found
+nothing-said = record { tables = no-tables; shaped = λ frame e. absurd (let n : ⊥ = cc in n) }
+
+pub some-same : (a b : Frame) → ◌≡◌ {A = Option Frame} (Some a) (Some b) → a ≡ b
+some-same a b e = cc
+
+segment-shaped : (said : Found) (s : Segment) → Stands said s → IsSaid said → (frame : Frame)
+    → (found_after said s).frame ≡ Some frame → IsShaped frame
+segment-shaped said (Quantization ts) may h frame e = h.shaped frame e
+segment-shaped said (Huffman ts) may h frame e = h.shaped frame e
+segment-shaped said (Interval n) may h frame e = h.shaped frame e
+segment-shaped said (Application number payload) may h frame e = h.shaped frame e
+segment-shaped said (Comment payload) may h frame e = h.shaped frame e
+segment-shaped said (Header number header) may h frame e =
+    subst IsShaped (some-same (frame_written number header) frame e) (header-shaped number header may.0.1 (lossless-accepted number header may.0.1 may.1))
+
+segment-said : (said : Found) (s : Segment) → Stands said s → IsSaid said → IsSaid (found_after said s)
+segment-said said s may h = record { tables = segment-tables said said s may h.tables; shaped = segment-shaped said s may h }
+
+-- ---- the rest of a stream
+
+-- the bytes after the marker, and those after the end of the image
+segment-tail : (fill code : ℕ) (bytes more tail : List ℕ)
+    → marker fill code (bytes ++ more) ++ tail ≡ marker fill code (bytes ++ (more ++ tail))
+segment-tail fill code bytes more tail = marker-append fill code (bytes ++ more) tail ∙ ap (marker fill code) (append_assoc bytes more tail)
+
+scan-tail : (fill code : ℕ) (header bytes more tail : List ℕ)
+    → marker fill code (header ++ (bytes ++ more)) ++ tail ≡ marker fill code (header ++ (bytes ++ (more ++ tail)))
+scan-tail fill code header bytes more tail =
+    segment-tail fill code header (bytes ++ more) tail ∙ ap (λ (l : List ℕ). marker fill code (header ++ l)) (append_assoc bytes more tail)
+
+-- what is found by the end: all samples, of a size
+record Ends (samples : Samples) (turns : ℕ) (before : Before) (said final : Found) (decided : List (Option (List ℕ))) (met : Option Marker) (all rest : List ℕ) : Type 0 where
+  last : List (Option (List ℕ))
+  is : segments_within turns false before (and_samples said decided) met all ≡ Ok (and_samples final last, rest)
+  frame : Frame
+  framed : final.frame ≡ Some frame
+  lossless : frame.process ≡ Lossless
+  held : AreHeld samples last (range_with_len 0 (length frame.components))
+
+end-turn : (before : Before) (found : Found) (rest : List ℕ) → is_some found.frame ≡ true
+    → segment_at EOI before found rest ≡ Ok (record { found = found; before = Elsewhere; met = None; ended = true }, rest)
+unfolding segment_at end_segment
+end-turn before found rest some = kept (is_some found.frame) _ (Err Malformed) some
+
+scan-turn : (before : Before) (found : Found) (rest : List ℕ)
+    → segment_at SOS before found rest ≡ scan_segment found rest
+unfolding segment_at
+scan-turn before found rest = refl
+
+after-turn : (samples : Samples) (turns : ℕ) (before next : Before) (said between final : Found)
+    (decided others : List (Option (List ℕ))) (met after : Option Marker) (all left rest : List ℕ)
+    → segments_within (suc turns) false before (and_samples said decided) met all ≡ segments_within turns false next (and_samples between others) after left
+    → Ends samples turns next between final others after left rest
+    → Ends samples (suc turns) before said final decided met all rest
+after-turn samples turns before next said between final decided others met after all left rest e f =
+    record { last = f.last; is = e ∙ f.is; frame = f.frame; framed = f.framed; lossless = f.lossless; held = f.held }
+
+marker-longer : (fill code n : ℕ) (bytes more : List ℕ) → length (marker fill code (bytes ++ more)) < suc n
+    → length more < n
+marker-longer fill code n bytes more h =
+    omega (arith, h, length-append bytes more, length-append (replicate fill 255) (code ∷ (bytes ++ more)))
+
+scan-longer : (fill code n : ℕ) (header bytes more : List ℕ)
+    → length (marker fill code (header ++ (bytes ++ more))) < suc n → length more < n
+scan-longer fill code n header bytes more h =
+    omega (arith, h, length-append bytes more, length-append header (bytes ++ more), length-append (replicate fill 255) (code ∷ (header ++ (bytes ++ more))))
+
+abbrev Reads : Samples → List ℕ → ℕ → Found → Found → List ℕ → List ℕ → Type 0
+Reads samples rest turns said final sent bytes =
+    (before : Before) (decided : List (Option (List ℕ))) (met : Option Marker) (all : List ℕ) → IsSaid said → length decided ≡ 4 → AreHeld samples decided sent → StandsAt met all (bytes ++ rest)
+    → Ends samples turns before said final decided met all rest
+
+closed-read : (samples : Samples) (rest : List ℕ) (turns : ℕ) (said : Found) (sent : List ℕ) (frame : Frame)
+    (fill : ℕ) → said.frame ≡ Some frame → frame.process ≡ Lossless
+    → AllByRecursion (λ k. IsIn k sent) (range_with_len 0 (length frame.components))
+    → Reads samples rest (suc turns) said said sent (marker fill 217 [])
+unfolding marker_of
+closed-read samples rest turns said sent frame fill framed lossless sends before decided met all is four held stands = record {
+  last = decided;
+  is = turn-end turns before (and_samples said decided) met all rest (record { found = and_samples said decided; before = Elsewhere; met = None; ended = true })
+      (stands.turn before (and_samples said decided) ∙ ap (turn_at before (and_samples said decided) None) (marker-append fill 217 [] rest)
+      ∙ marker-turn before (and_samples said decided) fill 217 EOI rest refl ∙ end-turn before (and_samples said decided) rest (ap is_some framed)) refl;
+  frame = frame;
+  framed = framed;
+  lossless = lossless;
+  held = all-in (λ k. slice_index_or decided k None ≡ Some (concat (samples k))) (range_with_len 0 (length frame.components)) sent held sends;
+}
+
+segment-next : (samples : Samples) (rest : List ℕ) (turns : ℕ) (said final : Found) (sent : List ℕ) (fill : ℕ)
+    (s : Segment) (more : List ℕ) → Stands said s
+    → Reads samples rest turns (found_after said s) final sent more
+    → Reads samples rest (suc turns) said final sent (marker fill (code_of s) (sized (payload_of s) ++ more))
+segment-next samples rest turns said final sent fill s more may again before decided met all is four held stands =
+    after-turn samples turns before Elsewhere said (found_after said s) final decided decided met None all (more ++ rest) rest
+    (turn-on turns before (and_samples said decided) met all (more ++ rest) (onward (and_samples (found_after said s) decided))
+    (stands.turn before (and_samples said decided) ∙ ap (turn_at before (and_samples said decided) None) (segment-tail fill (code_of s) (sized (payload_of s)) more rest)
+    ∙ marker-turn before (and_samples said decided) fill (code_of s) (marker_for s) (sized (payload_of s) ++ (more ++ rest)) (segment-marker said.frame s may.0)
+    ∙ segment-read before said decided s (more ++ rest) may) refl)
+    (again Elsewhere decided None (more ++ rest) (segment-said said s may is) four held (stands-here (more ++ rest)))
+
+below-four : (n m : ℕ) (places : List ℕ) → n ≤ m → AllByRecursion (λ k. k < n) places
+    → AllByRecursion (λ k. k < m) places
+below-four n m [] le h = tt
+below-four n m (p ∷ places) le h = let first = h.0 in (omega (arith, first, le), below-four n m places le h.1)
+
+places-below : (frame : Frame) (h : ScanHeader) → IsScan frame h
+    → AllByRecursion (λ k. k < length frame.components) (places_of h.choices)
+unfolding scan_of
+places-below frame h is =
+    subst (AllByRecursion (λ (k : ℕ). k < length frame.components)) (components-of frame h.choices)
+    (recursion_from_All (λ (k : ℕ). k < length frame.components) _ (header-rules frame h is).components)
+
+scan-next : (samples : Samples) (rest : List ℕ) (turns : ℕ) (said final : Found) (sent : List ℕ) (frame : Frame)
+    (fill : ℕ) (h : ScanHeader) (data_bytes more : List ℕ)
+    → said.frame ≡ Some frame → frame.process ≡ Lossless → IsScan frame h
+    → WritesScan said frame h samples data_bytes → Starts more
+    → Reads samples rest turns (said_after_scan said) final (places_of h.choices ++ sent) more
+    → Reads samples rest (suc turns) said final sent (marker fill 218 (sized (scan_payload h) ++ (data_bytes ++ more)))
+unfolding marker_of
+scan-next samples rest turns said final sent frame fill h data_bytes more framed lossless header w s again before decided met all is four held stands =
+    let shaped = is.shaped frame framed in
+    let few = shaped.few in
+    let places = places_of h.choices in
+    let next = with_samples places (planes_for samples places) decided in
+    let left = s.after ++ rest in
+    let there : more ++ rest ≡ marker s.fill s.code left = ap (λ (l : List ℕ). l ++ rest) s.is ∙ marker-append s.fill s.code s.after rest in
+    after-turn samples turns before (scan_before said) said (said_after_scan said) final decided next met (Some s.m) all left rest
+    (turn-on turns before (and_samples said decided) met all left (turn_after said places samples decided s.m)
+    (stands.turn before (and_samples said decided)
+    ∙ ap (turn_at before (and_samples said decided) None) (scan-tail fill 218 (sized (scan_payload h)) data_bytes more rest ∙ ap (λ (l : List ℕ). marker fill 218 (sized (scan_payload h) ++ (data_bytes ++ l))) there)
+    ∙ marker-turn before (and_samples said decided) fill 218 SOS (sized (scan_payload h) ++ (data_bytes ++ marker s.fill s.code left)) refl
+    ∙ scan-turn before (and_samples said decided) (sized (scan_payload h) ++ (data_bytes ++ marker s.fill s.code left))
+    ∙ scan-read said decided frame h samples data_bytes left s.fill s.code s.m w framed header lossless shaped is.tables s.makes s.ends) refl)
+    (again (scan_before said) next (Some s.m) left (record { tables = is.tables; shaped = is.shaped })
+    (with-length samples places decided ∙ four)
+    (held-after samples places decided sent (below-four (length frame.components) (length decided) places (omega (arith, few, four)) (places-below frame h header)) held)
+    (subst (StandsAt (Some s.m) left) (sym there) (stands-met s.fill s.code s.m left s.makes)))
+
+stream-read : (samples : Samples) (rest : List ℕ) (turns : ℕ) (said : Found) (sent bytes : List ℕ) (final : Found)
+    → Writes samples said sent bytes final → length bytes < turns → Reads samples rest turns said final sent bytes
+stream-read samples rest zero said sent bytes final w h = absurd (omega arith)
+stream-read samples rest (suc turns) said sent bytes final (closed said' sent' frame fill framed lossless all) h =
+    closed-read samples rest turns said sent frame fill framed lossless all
+stream-read samples rest (suc turns) said sent bytes final (segment said' final' sent' fill s more may w) h =
+    segment-next samples rest turns said final sent fill s more may
+    (stream-read samples rest turns (found_after said s) sent more final w (marker-longer fill (code_of s) turns (sized (payload_of s)) more h))
+stream-read samples rest (suc turns) said sent bytes final (scan said' final' sent' frame fill h' data_bytes more framed lossless is data_of w) h =
+    scan-next samples rest turns said final sent frame fill h' data_bytes more framed lossless is data_of
+    (starts samples (said_after_scan said) (places_of h'.choices ++ sent) more final w)
+    (stream-read samples rest turns (said_after_scan said) (places_of h'.choices ++ sent) more final w (scan-longer fill 218 turns (sized (scan_payload h')) data_bytes more h))
+
+-- ---- the picture
+
+-- the picture of a frame of these samples
+abbrev pub drawn : Frame → Samples → List ℕ
+drawn frame samples = lossless_picture (without_factors frame) (planes_for samples (range_with_len 0 (length frame.components)))
+
+planes-there : (decided : List (Option (List ℕ))) (samples : Samples) (place : ℕ) (cs : List Component)
+    → AreHeld samples decided (range_with_len place (length cs))
+    → samples_from decided place cs ≡ Ok (planes_for samples (range_with_len place (length cs)))
+unfolding samples_from
+planes-there decided samples place [] h = refl
+planes-there decided samples place (c ∷ cs) h =
+    then-ok (needed (slice_index_or decided place None)) _ (concat (samples place)) _ (ap needed h.0)
+    (then-ok (samples_from decided (place + 1) cs) _ (planes_for samples (range_with_len (place + 1) (length cs))) _ (planes-there decided samples (place + 1) cs h.1) refl)
+
+samples-drawn : (found : Found) (samples : Samples) (frame : Frame)
+    → AreHeld samples found.samples (range_with_len 0 (length frame.components))
+    → samples_picture found (without_factors frame) ≡ Ok (drawn frame samples)
+unfolding samples_picture
+samples-drawn found samples frame held =
+    then-ok (samples_from found.samples 0 (without_factors frame).components) _ (planes_for samples (range_with_len 0 (length frame.components))) _
+    (plain-from found.samples 0 frame frame.components ∙ planes-there found.samples samples 0 frame.components held) refl
+
+picture-there : (settings : Settings) (found : Found) (samples : Samples) (frame : Frame)
+    → found.frame ≡ Some frame → frame.process ≡ Lossless
+    → length frame.components * (frame.output_width * frame.output_height) ≤ settings.limit
+    → AreHeld samples found.samples (range_with_len 0 (length frame.components))
+    → picture_of settings found ≡ Ok (drawn frame samples)
+unfolding picture_of
+picture-there settings found samples frame framed lossless within held =
+    then-ok (needed found.frame) _ frame _ (ap needed framed)
+    (not-refused (ltb settings.limit (length frame.components * (frame.output_width * frame.output_height))) _ _ (le-ltb settings.limit (length frame.components * (frame.output_width * frame.output_height)) within)
+    ∙ ap (λ (p : CodingProcess). picture_by_process p settings found frame) lossless
+    ∙ samples-drawn found samples frame held)
+
+rest-read : (samples : Samples) (settings : Settings) (bytes rest : List ℕ) (said final : Found) (frame : Frame)
+    → Writes samples said [] bytes final → IsSaid said
+    → final.frame ≡ Some frame → length frame.components * (frame.output_width * frame.output_height) ≤ settings.limit
+    → rest_at settings (and_samples said (replicate 4 None))
+    (bytes ++ rest) ≡ Ok ((told_of final, drawn frame samples), rest)
+unfolding rest_at segments_at
+rest-read samples settings bytes rest said final frame w is framed within =
+    let long = length-append bytes rest in
+    let e = stream-read samples rest (suc (length (bytes ++ rest))) said [] bytes final w (omega (arith, long))
+    Elsewhere (replicate 4 None) None (bytes ++ rest) is refl tt (stands-here (bytes ++ rest)) in
+    let same : e.frame ≡ frame = some-same e.frame frame (sym e.framed ∙ framed) in
+    let held = subst (λ (f : Frame). AreHeld samples e.last (range_with_len 0 (length f.components))) same e.held in
+    let lossless = subst (λ (f : Frame). f.process ≡ Lossless) same e.lossless in
+    then-ok (segments_within (suc (length (bytes ++ rest))) false Elsewhere (and_samples said (replicate 4 None)) None (bytes ++ rest)) _ (and_samples final e.last, rest) _ e.is
+    (then-ok (picture_of settings (and_samples final e.last)) _ (drawn frame samples) _
+    (picture-there settings (and_samples final e.last) samples frame framed lossless within held) refl)
+
+-- A stream that was written for samples means their picture, and what stands after it is left.
+pub samples-meant : (settings : Settings) (samples : Samples) (bytes rest : List ℕ) (final : Found) (frame : Frame)
+    → WritesSamples samples bytes final
+    → final.frame ≡ Some frame → length frame.components * (frame.output_width * frame.output_height) ≤ settings.limit
+    → meaning settings (bytes ++ rest) ≡ Ok ((told_of final, drawn frame samples), rest)
+unfolding meaning start_at nothing_found
+samples-meant settings samples bytes rest final frame w framed within =
+    ap (λ (l : List ℕ). meaning settings (l ++ rest)) w.starts
+    ∙ rest-read samples settings w.after rest nothing_found final frame w.written nothing-said framed within
+
+-- ---- the frame
+
+some-none : {P : Type 0} (f : Frame) (o : Option Frame) → o ≡ Some f → o ≡ None → P
+some-none f o e g = absurd (let n : ⊥ = cc in n)
+
+frame-stays : (said : Found) (s : Segment) (frame : Frame) → Stands said s → said.frame ≡ Some frame
+    → (found_after said s).frame ≡ Some frame
+frame-stays said (Quantization ts) frame may e = e
+frame-stays said (Huffman ts) frame may e = e
+frame-stays said (Interval n) frame may e = e
+frame-stays said (Application number payload) frame may e = e
+frame-stays said (Comment payload) frame may e = e
+frame-stays said (Header number h) frame may e = some-none frame said.frame e may.0.0
+
+pub final-framed : (samples : Samples) (frame : Frame) (said : Found) (sent bytes : List ℕ) (final : Found)
+    → Writes samples said sent bytes final → said.frame ≡ Some frame → final.frame ≡ Some frame
+final-framed samples frame said sent bytes final (closed said' sent' f fill framed lossless all) e = e
+final-framed samples frame said sent bytes final (segment said' final' sent' fill s more may w) e =
+    final-framed samples frame (found_after said s) sent more final w (frame-stays said s frame may e)
+final-framed samples frame said sent bytes final (scan said' final' sent' f fill h data_bytes more framed lossless is data_of w) e =
+    final-framed samples frame (said_after_scan said) _ more final w e
+
+pub final-lossless : (samples : Samples) (frame : Frame) (said : Found) (sent bytes : List ℕ) (final : Found)
+    → Writes samples said sent bytes final → final.frame ≡ Some frame → frame.process ≡ Lossless
+final-lossless samples frame said sent bytes final (closed said' sent' f fill framed lossless all) e =
+    subst (λ (g : Frame). g.process ≡ Lossless) (some-same f frame (sym framed ∙ e)) lossless
+final-lossless samples frame said sent bytes final (segment said' final' sent' fill s more may w) e =
+    final-lossless samples frame (found_after said s) sent more final w e
+final-lossless samples frame said sent bytes final (scan said' final' sent' f fill h data_bytes more framed lossless is data_of w) e =
+    final-lossless samples frame (said_after_scan said) _ more final w e
+
+-- ---- the header
+
+header-on : (turns : ℕ) (before : Before) (found : Found) (met : Option Marker) (all rest : List ℕ) (t : Turn)
+    → is_some found.frame ≡ false
+    → turn_at before found met all ≡ Ok (t, rest) → t.ended ≡ false
+    → segments_within (suc turns) true before found met all ≡ segments_within turns true t.before t.found t.met rest
+unfolding segments_within
+header-on turns before found met all rest t n e g = rw (n, segments_within) (rw e (rw g refl))
+
+stop : (turns : ℕ) (before : Before) (found : Found) (met : Option Marker) (all : List ℕ) → 0 < turns
+    → is_some found.frame ≡ true → segments_within turns true before found met all ≡ Ok (found, all)
+unfolding segments_within
+stop zero before found met all h e = absurd (omega arith)
+stop (suc turns) before found met all h e = rw (e, segments_within) refl
+
+-- what is found up to the frame
+record Headed (samples : Samples) (turns : ℕ) (before : Before) (said final : Found) (decided : List (Option (List ℕ))) (sent bytes rest : List ℕ) : Type 0 where
+  between : Found
+  frame : Frame
+  after : List ℕ
+  framed : between.frame ≡ Some frame
+  written : Writes samples between sent after final
+  is_said : IsSaid between
+  is : segments_within turns true before (and_samples said decided) None (bytes ++ rest) ≡ Ok (and_samples between decided, after ++ rest)
+
+-- a frame, or none
+frame-or : {P : Type 0} (s : Segment) → ((number : ℕ) (h : FrameHeader) → s ≡ Header number h → P)
+    → (((said : Found) → (found_after said s).frame ≡ said.frame) → P) → P
+frame-or (Quantization ts) f g = g (λ said. refl)
+frame-or (Huffman ts) f g = g (λ said. refl)
+frame-or (Interval n) f g = g (λ said. refl)
+frame-or (Application number payload) f g = g (λ said. refl)
+frame-or (Comment payload) f g = g (λ said. refl)
+frame-or (Header number h) f g = f number h refl
+
+header-read : (samples : Samples) (rest : List ℕ) (decided : List (Option (List ℕ))) (turns : ℕ) (before : Before)
+    (said : Found) (sent bytes : List ℕ) (final : Found)
+    → Writes samples said sent bytes final → length bytes < turns → IsSaid said → said.frame ≡ None
+    → Headed samples turns before said final decided sent bytes rest
+header-read samples rest decided zero before said sent bytes final w l is e = absurd (omega arith)
+header-read samples rest decided (suc turns) before said sent bytes final (closed said' sent' f fill framed lossless all) l is e = some-none f said.frame framed e
+header-read samples rest decided (suc turns) before said sent bytes final (scan said' final' sent' f fill h data_bytes more framed lossless header data_of w) l is e = some-none f said.frame framed e
+header-read samples rest decided (suc turns) before said sent bytes final (segment said' final' sent' fill s more may w) l is e =
+    let shorter = marker-longer fill (code_of s) turns (sized (payload_of s)) more l in
+    let next = segment-said said s may is in
+    let step : segments_within (suc turns) true before (and_samples said decided) None (marker fill (code_of s) (sized (payload_of s) ++ more) ++ rest)
+    ≡ segments_within turns true Elsewhere (and_samples (found_after said s) decided) None (more ++ rest)
+    = header-on turns before (and_samples said decided) None (marker fill (code_of s) (sized (payload_of s) ++ more) ++ rest) (more ++ rest) (onward (and_samples (found_after said s) decided)) (ap is_some e)
+    (ap (turn_at before (and_samples said decided) None) (segment-tail fill (code_of s) (sized (payload_of s)) more rest)
+    ∙ marker-turn before (and_samples said decided) fill (code_of s) (marker_for s) (sized (payload_of s) ++ (more ++ rest)) (segment-marker said.frame s may.0)
+    ∙ segment-read before said decided s (more ++ rest) may) refl in
+    frame-or s
+    (λ number h f.
+    let framed : (found_after said s).frame ≡ Some (frame_written number h) = ap (λ (x : Segment). (found_after said x).frame) f in
+    record {
+      between = found_after said s;
+      frame = frame_written number h;
+      after = more;
+      framed = framed;
+      written = w;
+      is_said = next;
+      is = step ∙ stop turns Elsewhere (and_samples (found_after said s) decided) None (more ++ rest) (omega (arith, shorter)) (ap is_some framed);
+    })
+    (λ same.
+    let r = header-read samples rest decided turns Elsewhere (found_after said s) sent more final w shorter next (same said ∙ e) in
+    record { between = r.between; frame = r.frame; after = r.after; framed = r.framed; written = r.written; is_said = r.is_said; is = step ∙ r.is })
+
+-- ---- the whole
+
+abbrev some_frame : Frame → Option Frame
+some_frame f = Some f
+
+pub keeps-size : (width height : ℕ) (found : Found) (frame : Frame) → found.frame ≡ Some frame
+    → frame.process ≡ Lossless → sized_to width height found ≡ found
+keeps-size width height found frame framed lossless =
+    let grown : Frame → Frame = λ f. sized_by f.process width height f in
+    let same : option_map grown found.frame ≡ found.frame
+    = ap (option_map grown) framed ∙ ap (λ (p : CodingProcess). some_frame (sized_by p width height frame)) lossless ∙ sym framed in
+    ap (λ (o : Option Frame). record found { frame = o }) same
+
+pub samples-sized : (width height : ℕ) (settings : Settings) (samples : Samples) (bytes rest : List ℕ)
+    (final : Found) (frame : Frame) → WritesSamples samples bytes final
+    → final.frame ≡ Some frame → length frame.components * (frame.output_width * frame.output_height) ≤ settings.limit
+    → sized_meaning width height settings (bytes ++ rest) ≡ Ok ((told_of final, drawn frame samples), rest)
+unfolding sized_meaning header_at start_at segments_at nothing_found
+samples-sized width height settings samples bytes rest final frame w framed within =
+    let long = length-append w.after rest in
+    let r = header-read samples rest (replicate 4 None) (suc (length (w.after ++ rest))) Elsewhere nothing_found [] w.after final w.written (omega (arith, long)) nothing-said refl in
+    let frame_of_all = final-framed samples r.frame r.between [] r.after final r.written r.framed in
+    let lossless = final-lossless samples r.frame r.between [] r.after final r.written frame_of_all in
+    ap (λ (l : List ℕ). sized_meaning width height settings (l ++ rest)) w.starts
+    ∙ then-ok (segments_within (suc (length (w.after ++ rest))) true Elsewhere nothing_found None (w.after ++ rest)) _ (and_samples r.between (replicate 4 None), r.after ++ rest) _ r.is
+    (ap (λ (f : Found). rest_at settings f (r.after ++ rest)) (keeps-size width height (and_samples r.between (replicate 4 None)) r.frame r.framed lossless)
+    ∙ rest-read samples settings r.after rest r.between final frame r.written r.is_said framed within)

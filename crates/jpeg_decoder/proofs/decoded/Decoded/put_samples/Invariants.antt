@@ -1,0 +1,18 @@
+use Rattle.std.proofs.Common.{◌≡◌, ◌≤◌, ◌-◌, drop, length, map}
+use Rattle.jpeg_decoder.specs.LosslessScans.{with_samples}
+use Rattle.jpeg_decoder.specs.Seen.{planes_in}
+use Rattle.jpeg_decoder.proofs.decoded.Decoded.put_samples.Given as goal
+
+abbrev pub invariant-loop-slot : goal.invariant-loop-slot
+invariant-loop-slot l = record {
+  within : l.slot ≤ length l.places;
+  count : length l.planes.items ≡ length l.places;
+  held : l.self.held ≡ l.fn.self.held;
+  finished : l.self.finished ≡ l.fn.self.finished;
+  planes : l.self.planes ≡ l.fn.self.planes;
+  samples : with_samples (drop l.slot l.places) (drop l.slot (map (λ v. v.items) l.planes.items)) (planes_in l.self.samples)
+      ≡ with_samples l.places (map (λ v. v.items) l.fn.planes.items) (planes_in l.fn.self.samples);
+}
+
+abbrev pub decreases-loop-slot : goal.decreases-loop-slot
+decreases-loop-slot l = length l.places - l.slot

@@ -1,0 +1,5 @@
+use Rattle.jpeg_decoder.proofs.WorkedSamples.{three-written}
+use Rattle.jpeg_decoder.proofs.lossless_laws.worked_samples_are_written.Goals as goal
+
+pub returns : goal.returns
+returns c = three-written

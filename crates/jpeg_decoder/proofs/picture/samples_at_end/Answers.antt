@@ -1,0 +1,54 @@
+use Rattle.std.proofs.Common.{◌≡◌, ◌<◌, ◌∷◌, ◌++◌, ◌∙◌, [], None, Some, ap, sym, arith, get_or, map, rules}
+use Rattle.std.specs.Prelude.{option_map, slice_index_or}
+use Rattle.std.proofs.lemmas.List.{length-map, map-append}
+use Rattle.std.proofs.lemmas.Result.{err_from_is_err_and}
+use Rattle.jpeg_segments.specs.FrameView.{component_in, frame_in}
+use Rattle.jpeg_decoder.specs.Seen.{planes_in}
+use Rattle.jpeg_decoder.proofs.EndedPlanes.{mapped-or, mapped-within, planes-kept, same-at, same-next}
+use Rattle.jpeg_decoder.proofs.LosslessReads.{samples-all, samples-lack, samples-there}
+use Rattle.jpeg_decoder.proofs.SlotCodings.{format-refuses}
+use Rattle.jpeg_decoder.proofs.picture.samples_at_end.Goals as goal
+
+pub returns-in_err-needed-clause-planes : goal.returns-in_err-needed-clause-planes
+returns-in_err-needed-clause-planes c =
+    let l = c.loop-place in
+    let cs = c.args.frame.now.components.items in
+    let samples = planes_in c.args.decoded.now.samples in
+    let within = mapped-within component_in cs l.place (omega arith) in
+    let four : l.place < 4 = omega (arith, within, c.requires) in
+    let taken : option_map (λ v. v.items) c.take-plane.result ≡ get_or (planes_in l.decoded.samples) l.place None =
+    mapped-or (λ p. option_map (λ v. v.items) p) l.decoded.samples l.place c.take-plane.result _ None (omega (arith, four)) c.take-plane.ensures.value in
+    let none : option_map (λ v. v.items) c.take-plane.result ≡ None = search rules in
+    let unset : slice_index_or samples l.place None ≡ None = sym (same-at (planes_in l.decoded.samples) samples l.place None l.invariant.left) ∙ sym taken ∙ none in
+    let p = err_from_is_err_and c.from_residual-in_err-needed.result c.from_residual-in_err-needed.ensures.1 in
+    rw (p.1, p.2) (format-refuses c.in_err-needed.field-0.0 _ c.in_err-needed.ensures.1
+    (samples-lack samples (frame_in c.args.frame.now).components l.place (map (λ v. v.items) l.planes.items) _ within unset l.invariant.given))
+
+pub loop-place-preserved : goal.loop-place-preserved
+loop-place-preserved c =
+    let l = c.loop-place in
+    let cs = c.args.frame.now.components.items in
+    let samples = planes_in c.args.decoded.now.samples in
+    let within = mapped-within component_in cs l.place (omega arith) in
+    let four : l.place < 4 = omega (arith, within, c.requires) in
+    let plane = c.in_ok-needed.field-0 in
+    let taken : option_map (λ v. v.items) c.take-plane.result ≡ get_or (planes_in l.decoded.samples) l.place None =
+    mapped-or (λ p. option_map (λ v. v.items) p) l.decoded.samples l.place c.take-plane.result _ None (omega (arith, four)) c.take-plane.ensures.value in
+    let some : option_map (λ v. v.items) c.take-plane.result ≡ Some plane.items = search rules in
+    let set : slice_index_or samples l.place None ≡ Some plane.items =
+    sym (same-at (planes_in l.decoded.samples) samples l.place None l.invariant.left) ∙ sym taken ∙ some in
+    let front = map (λ v. v.items) l.planes.items in
+    let pushed : c.push.new.self.items ≡ l.planes.items ++ plane ∷ [] = search rules in
+    let joined : map (λ v. v.items) c.push.new.self.items ≡ front ++ plane.items ∷ [] =
+    ap (map (λ v. v.items)) pushed ∙ map-append (λ v. v.items) l.planes.items (plane ∷ []) in
+    record {
+      left = planes-kept l.decoded.samples l.place _ ∙ same-next (planes_in l.decoded.samples) samples l.place l.invariant.left;
+      given = samples-there samples (frame_in c.args.frame.now).components l.place front _ plane.items _ within set joined l.invariant.given;
+      count = search rules;
+    }
+
+pub returns-clause-planes : goal.returns-clause-planes
+returns-clause-planes c =
+    let l = c.loop-place in
+    samples-all (planes_in c.args.decoded.now.samples) (frame_in c.args.frame.now).components l.place
+    (map (λ v. v.items) l.planes.items) _ (omega (arith, length-map c.args.frame.now.components.items component_in)) l.invariant.given

@@ -1,0 +1,63 @@
+use Rattle.std.proofs.Common.{refl, ◌∙◌, Option, true, map}
+use Rattle.std.proofs.lemmas.Result.{err_from_is_err_and}
+use Rattle.jpeg_bits.specs.BlockView.{pass_in}
+use Rattle.jpeg_bits.specs.declared.marker.Marker.{Marker}
+use Rattle.jpeg_bits.proofs.Loops.{Continues-err, bind_err}
+use Rattle.jpeg_segments.specs.FrameView.{frame_in, scan_in}
+use Rattle.jpeg_decoder.specs.Seen.{found_in}
+use Rattle.jpeg_decoder.specs.Steps.{coding_in, blocks_read, scan_data, with_decoded}
+use Rattle.jpeg_decoder.proofs.ReadableScans.{codings-kept, ready}
+use Rattle.jpeg_decoder.proofs.ScanReads.{after_codings, after_data, after_header, blocks-begun, codings-refused}
+use Rattle.jpeg_decoder.proofs.ScanReads.{data-begun, refused, scan-ends}
+use Rattle.jpeg_decoder.proofs.scan_segment.read_blocks_scan.Goals as goal
+
+pub returns-in_err-codings_of-clause-reads : goal.returns-in_err-codings_of-clause-reads
+returns-in_err-codings_of-clause-reads g c =
+    let p = err_from_is_err_and c.from_residual-in_err-codings_of.result c.from_residual-in_err-codings_of.ensures.1 in
+    let found = with_decoded (found_in c.args.state.now) c.args.decoded.now in
+    let frame = frame_in c.args.frame.now in
+    let header = scan_in c.args.header.now in
+    rw (p.1, p.2) (refused {X = Option Marker} (λ m. (found, m)) (blocks_read found frame header) (after_header found frame header)
+    c.args.source.now c.args.source.now _ _ (blocks-begun found frame header c.args.source.now) c.in_err-codings_of.ensures.codings.0
+    c.in_err-codings_of.ensures.codings.1 (λ f h. codings-refused found frame header c.args.source.now.bytes f
+    (codings-kept (found_in c.args.state.now) c.args.decoded.now frame header ∙ h)))
+
+pub read-requires-clause-ready : goal.read-requires-clause-ready
+read-requires-clause-ready g c =
+    let frame = frame_in c.args.frame.now in
+    ready (found_in c.args.state.now) frame (scan_in c.args.header.now) _ (c.requires.sound.frames frame c.requires.frame)
+    c.requires.process c.requires.legal c.pass_of.ensures refl c.in_ok-codings_of.ensures.classes
+    c.in_ok-codings_of.ensures.codings c.in_ok-codings_of.ensures.count
+
+pub returns-in_err-met-clause-reads : goal.returns-in_err-met-clause-reads
+returns-in_err-met-clause-reads g c =
+    let p = err_from_is_err_and c.from_residual-in_err-met.result c.from_residual-in_err-met.ensures.1 in
+    let found = with_decoded (found_in c.args.state.now) c.args.decoded.now in
+    let frame = frame_in c.args.frame.now in
+    let header = scan_in c.args.header.now in
+    let codings = map coding_in c.in_ok-codings_of.field-0.items in
+    let begun =
+    data-begun (blocks_read found frame header) found frame header (pass_in c.pass_of.result) codings c.args.source.now c.args.source.now
+    (codings-kept (found_in c.args.state.now) c.args.decoded.now frame header ∙ c.in_ok-codings_of.ensures.codings)
+    c.pass_of.ensures (blocks-begun found frame header c.args.source.now) in
+    rw (p.1, p.2) (Continues-err {X = Option Marker} {Z = Option Marker} (λ m. (found, m))
+    (λ m. (record (with_decoded (found_in c.args.state.now) c.read.new.self) { scanned = true }, m)) (blocks_read found frame header)
+    (after_codings found frame (pass_in c.pass_of.result) codings)
+    (scan_data found frame (pass_in c.pass_of.result) codings) c.args.source.now c.args.source.now
+    c.read.new.source _ (λ f h. bind_err after_data _ f h) begun c.in_err-met.ensures.data)
+
+pub returns-clause-reads : goal.returns-clause-reads
+returns-clause-reads g c =
+    let found = with_decoded (found_in c.args.state.now) c.args.decoded.now in
+    let frame = frame_in c.args.frame.now in
+    let header = scan_in c.args.header.now in
+    let codings = map coding_in c.in_ok-codings_of.field-0.items in
+    let begun =
+    data-begun (blocks_read found frame header) found frame header (pass_in c.pass_of.result) codings c.args.source.now c.args.source.now
+    (codings-kept (found_in c.args.state.now) c.args.decoded.now frame header ∙ c.in_ok-codings_of.ensures.codings)
+    c.pass_of.ensures (blocks-begun found frame header c.args.source.now) in
+    scan-ends (blocks_read found frame header) (after_codings found frame (pass_in c.pass_of.result) codings)
+    (record (with_decoded (found_in c.args.state.now) c.read.new.self) { scanned = true }) c.in_ok-met.met
+    c.args.source.now c.args.source.now c.read.new.source c.pass_restarts.new.source c.pass_restarts.result
+    (scan_data found frame (pass_in c.pass_of.result) codings) (λ bytes. refl) begun c.in_ok-met.ensures.data
+    c.pass_restarts.ensures

@@ -1,0 +1,35 @@
+//! Theorems on lossless streams, each on a function without a body. docs/HEADLINE.md says them in
+//! plain words.
+ghost use Rattle.std.specs.Prelude.{◌≡◌, ℕ, ◌++◌, List, Ok};
+ghost use Rattle.jpeg_segments.specs.Frame.{Frame};
+ghost use Rattle.jpeg_decoder.specs.declared.state.Settings.{Settings};
+ghost use Rattle.jpeg_decoder.specs.Stream.{Found, meaning, sized_meaning, told_of};
+ghost use Rattle.jpeg_decoder.specs.WorkedSamples.{AreWritten, three_bytes, three_samples};
+ghost use Rattle.jpeg_decoder.specs.WrittenLossless.{IsWithin, Samples, WritesSamples};
+ghost use Rattle.jpeg_decoder.specs.WrittenLossless.{picture_of_samples};
+
+/// A lossless stream that is written for samples means the picture of those samples, with any
+/// segments and fill bytes, scans of any components in any order, selections and codes, and restart
+/// intervals of whole lines. What follows the image is left.
+pub fn lossless_streams_are_read()
+    ensures { (settings : Settings) (samples : Samples) (image rest : List ℕ) (final : Found)
+        (frame : Frame) →
+        WritesSamples samples image final → IsWithin settings.limit final frame →
+        meaning settings (image ++ rest)
+        ≡ Ok ((told_of final, picture_of_samples frame samples), rest) }
+{}
+
+/// It keeps its size, whatever size is asked for.
+pub fn lossless_streams_keep_their_size()
+    ensures { (width height : ℕ) (settings : Settings) (samples : Samples) (image rest : List ℕ)
+        (final : Found) (frame : Frame) →
+        WritesSamples samples image final → IsWithin settings.limit final frame →
+        sized_meaning width height settings (image ++ rest)
+        ≡ Ok ((told_of final, picture_of_samples frame samples), rest) }
+{}
+
+/// The relation holds of a stream that is worked by hand: three components in two scans, one of
+/// them interleaved, with restarts and a fill byte.
+pub fn worked_samples_are_written()
+    ensures { AreWritten three_samples three_bytes }
+{}

@@ -1,0 +1,21 @@
+-- A byte that is taken from the front of a buffer.
+use Rattle.std.proofs.Common.{◌≡◌, ℕ, ◌<◌, Bool, true, false, List, [], ◌∷◌, ◌++◌, length, take, slice_set}
+use Rattle.std.proofs.Common.{slice_index_or, Option, Some, None, if◌then◌else◌, refl, arith}
+use Rattle.std.specs.Io.KnownBytes.{Consumes, prepend_known}
+use Rattle.std.specs.Io.BufRead.{DropsConsumable}
+
+pub consumes-front : (is_none : Bool) (x : ℕ) (held : List ℕ) (inner new : Option (List ℕ))
+    → DropsConsumable (if is_none then None else prepend_known (x ∷ held) inner) new (Some (length (x ∷ held))) 1
+    → Consumes (if is_none then None else prepend_known (x ∷ held) inner) new (x ∷ [])
+consumes-front true x held inner new h = tt
+consumes-front false x held None new h = tt
+consumes-front false x held (Some ys) new h = let e : new ≡ Some (held ++ ys) = h (omega arith) in rw e refl
+
+-- the byte is put into a place for one
+pub takes-front : (is_none : Bool) (held buf : List ℕ) (inner new : Option (List ℕ)) → 0 < length held → length buf ≡ 1
+    → DropsConsumable (if is_none then None else prepend_known held inner) new (Some (length held)) 1
+    → Consumes (if is_none then None else prepend_known held inner) new (take 1 (slice_set buf 0 (slice_index_or held 0 0)))
+takes-front z [] buf inner new some one h = absurd (omega (arith, some))
+takes-front z (x ∷ held) [] inner new some one h = absurd (omega (arith, one))
+takes-front z (x ∷ held) (b ∷ []) inner new some one h = consumes-front z x held inner new h
+takes-front z (x ∷ held) (b ∷ c ∷ rest) inner new some one h = absurd (omega (arith, one))

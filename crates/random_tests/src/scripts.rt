@@ -1,0 +1,162 @@
+//! Random scripts of scans (T.81, G.1.1.1).
+
+use crate::coder::Scan;
+use crate::images::{Image, UNSENT};
+use crate::random::{Random, low_byte};
+use std::alloc::{AllocError, Global};
+
+/// The levels that were sent of each coefficient, 64 a component.
+#[derive(Drop)]
+pub struct Levels {
+    pub all: Vec<u8>,
+}
+
+impl Levels {
+    /// No coefficient is sent.
+    pub fn new(alloc: Global, components: usize) -> Result<Levels, AllocError> {
+        let all = vec![in alloc; UNSENT; components.saturating_mul(64)]?;
+        Ok(Levels { all })
+    }
+
+    /// Whether each bit of each coefficient is sent.
+    pub fn are_complete(&self) -> bool {
+        self.all.iter().all(|level| *level == 0)
+    }
+
+    /// The level of a component's coefficient.
+    fn level(&self, component: usize, place: usize) -> u8 {
+        let place = component.saturating_mul(64).saturating_add(place);
+        self.all.get(place).copied().unwrap_or(0)
+    }
+
+    /// Notes what a scan sends.
+    pub fn note(&mut self, scan: &Scan) {
+        for (levels, is_included) in self.all.chunks_mut(64).zip(scan.includes) {
+            if is_included {
+                for (place, level) in levels.iter_mut().enumerate() {
+                    if place >= scan.start && place <= scan.end {
+                        *level = scan.level;
+                    }
+                }
+            }
+        }
+    }
+
+    /// A scan of all coefficients of some components of which nothing is sent.
+    pub fn sequential_scan(&self, random: &mut Random, image: &Image, is_plain: bool) -> Scan {
+        Scan {
+            includes: self.group(random, image, UNSENT, is_plain),
+            start: 0,
+            end: 63,
+            before: 0,
+            level: 0,
+            greatest_run: 1,
+        }
+    }
+
+    /// A scan of a progressive frame that may follow.
+    pub fn progressive_scan(&self, random: &mut Random, image: &Image) -> Scan {
+        let (component, place) = self.open_place(random, image.components.len());
+        let level = self.level(component, place);
+        let includes = if place == 0 {
+            self.group(random, image, level, false)
+        } else {
+            only(component)
+        };
+        let end = if place == 0 {
+            0
+        } else {
+            self.band_end(random, component, place)
+        };
+        let run = random.one_of(&[1, 2, 5, 0x7FFF, 0x7FFF]);
+        Scan {
+            includes,
+            start: place,
+            end,
+            before: if level == UNSENT { 0 } else { level },
+            level: if level == UNSENT {
+                first_level(random)
+            } else {
+                level.wrapping_sub(1)
+            },
+            greatest_run: u16::try_from(run).unwrap_or(1),
+        }
+    }
+
+    /// A component and a coefficient of which some bits are left to send, and may be sent.
+    fn open_place(&self, random: &mut Random, components: usize) -> (usize, usize) {
+        let component = random.below(components);
+        let any = random.below(64);
+        let place = random.one_of(&[0, 1, 1, any]);
+        let total = components.saturating_mul(64);
+        let first = component.saturating_mul(64).saturating_add(place);
+        for step in 0..total {
+            let index = first.saturating_add(step) % total.max(1);
+            let (component, place) = (index / 64, index % 64);
+            let is_open = place == 0 || self.level(component, 0) != UNSENT;
+            if is_open && self.level(component, place) != 0 {
+                return (component, place);
+            }
+        }
+        (0, 0)
+    }
+
+    /// The end of a band that begins at a place, and whose coefficients are sent at one level.
+    fn band_end(&self, random: &mut Random, component: usize, start: usize) -> usize {
+        let level = self.level(component, start);
+        let mut end = start;
+        for place in start..64 {
+            if self.level(component, place) != level {
+                break;
+            }
+            end = place;
+        }
+        if random.is_one_in(3) {
+            random.between(start, end)
+        } else {
+            end
+        }
+    }
+
+    /// Some components whose DC is sent at this level: one alone, or an MCU of at most 10 blocks.
+    fn group(&self, random: &mut Random, image: &Image, level: u8, is_plain: bool) -> [bool; 4] {
+        let count = image.components.len();
+        let first = if is_plain { 0 } else { random.below(count) };
+        let mut group = [false; 4];
+        let mut blocks = 0usize;
+        for step in 0..count {
+            let number = first.saturating_add(step) % count.max(1);
+            let more = blocks_in_mcu(image, number).saturating_add(blocks);
+            let is_wanted = blocks == 0 || (more <= 10 && (is_plain || random.is_one_in(2)));
+            if is_wanted && self.level(number, 0) == level {
+                if let Some(place) = group.get_mut(number) {
+                    *place = true;
+                }
+                blocks = more;
+            }
+        }
+        group
+    }
+}
+
+/// A group of one component.
+fn only(component: usize) -> [bool; 4] {
+    let mut group = [false; 4];
+    if let Some(place) = group.get_mut(component) {
+        *place = true;
+    }
+    group
+}
+
+/// The blocks of a component in an MCU.
+fn blocks_in_mcu(image: &Image, component: usize) -> usize {
+    match image.components.get(component) {
+        Some(component) => component.blocks_in_mcu(),
+        None => 0,
+    }
+}
+
+/// The level of a first scan.
+fn first_level(random: &mut Random) -> u8 {
+    low_byte(random.one_of(&[0, 0, 0, 1, 1, 2, 2, 3, 4, 7]))
+}

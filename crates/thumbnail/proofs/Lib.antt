@@ -1,0 +1,2 @@
+mod Pictures
+mod Turned

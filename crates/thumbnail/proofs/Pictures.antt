@@ -1,0 +1,36 @@
+-- A header that was sized, and then the rest of its stream, are the picture of the stream.
+use Rattle.std.proofs.Common.{◌≡◌, ◌∙◌, ℕ, List, Result, Ok, Err, Some, refl, ap, option_map}
+use Rattle.jpeg_bits.specs.Reading.{Fault, Outcome}
+use Rattle.jpeg_decoder.specs.Output.{default_settings}
+use Rattle.jpeg_decoder.specs.Seen.{info_of}
+use Rattle.jpeg_decoder.specs.Stream.{Found, Told, header_at, rest_at, sized_header_at, sized_meaning, sized_to}
+use Rattle.jpeg_decoder.proofs.AcceptedTurns.{then-ok}
+use Rattle.jpeg_decoder.proofs.Headers.{bind-ok}
+use Rattle.thumbnail.specs.Thumbnails.{picture_at}
+
+value_or : {Y : Type 0} → Y → Result Y Fault → Y
+value_or d (Ok y) = y
+value_or d (Err f) = d
+
+same-value : {Y : Type 0} (x y : Y) → ◌≡◌ {A = Result Y Fault} (Ok x) (Ok y) → x ≡ y
+unfolding value_or
+same-value x y e = ap (value_or x) e
+
+abbrev rest_after : ℕ → ℕ → Found × List ℕ → Outcome (Told × List ℕ)
+rest_after width height header = rest_at default_settings (sized_to width height header.0) header.1
+
+sized-rest : (width height : ℕ) (bytes rest : List ℕ) (found : Found) → sized_header_at width height bytes ≡ Ok (found, rest)
+    → sized_meaning width height default_settings bytes ≡ rest_at default_settings found rest
+unfolding sized_header_at sized_meaning
+sized-rest width height bytes rest found e =
+    bind-ok (header_at bytes) _ (found, rest) e (λ header is e1.
+    let same = same-value (sized_to width height header.0, header.1) (found, rest) e1 in
+    then-ok (header_at bytes) _ header _ is (ap (λ (p : Found × List ℕ). rest_at default_settings p.0 p.1) same))
+
+pub picture-some : (width height : ℕ) (bytes rest left : List ℕ) (found : Found) (told : Told) (pixels : List ℕ)
+    → sized_header_at width height bytes ≡ Ok (found, rest)
+    → rest_at default_settings found rest ≡ Ok ((told, pixels), left)
+    → picture_at width height bytes ≡ Some (option_map info_of told.frame, pixels)
+unfolding picture_at
+picture-some width height bytes rest left found told pixels header picture =
+    rw (picture_at, sized-rest width height bytes rest found header ∙ picture) refl

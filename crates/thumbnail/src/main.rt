@@ -1,0 +1,109 @@
+//! Writes the picture of the JPEG stream on standard input to standard output, as a file that the
+//! netpbm tools and most viewers read: `thumbnail WIDTH HEIGHT < photo.jpg > thumb.ppm`.
+//!
+//! The picture is the least of 1/8, 1/4, 1/2 and all of its size that is as wide as WIDTH or as
+//! high as HEIGHT (`Decoder::scale`); where none is, all of it. Without arguments it is all of the
+//! picture. Its format decides the file's:
+//!
+//! - `L8`: a grey picture, PGM (`P5`) of 8 bits.
+//! - `L16`: PGM with 65535 as its greatest value, two bytes a sample, the higher byte first.
+//! - `RGB24`: PPM (`P6`).
+//! - `CMYK32`: PAM (`P7`) of depth 4 and tuple type `CMYK`, 8 bits a sample.
+//!
+//! A refusal is one line on standard error, and the status is then 1. Where the arguments aren't
+//! two numbers of at most 65535, their use is written to standard error, and the status is 2.
+#![tactic(auto)]
+
+ghost use Rattle.std.specs.Prelude.{◌≡◌, List, ℕ, IfOk, OnOk, Some, IsSomeAnd};
+ghost use Rattle.std.specs.Io.KnownBytes.{Appends};
+ghost use Rattle.jpeg_decoder.specs.Output.{Tells};
+ghost use Rattle.thumbnail.specs.Thumbnails.{file_at, picture_at};
+
+mod netpbm;
+
+use jpeg_decoder::error::{Error, Result};
+use jpeg_decoder::parser::Dimensions;
+use jpeg_decoder::{Decoder, ImageInfo};
+use netpbm::write_picture;
+use std::alloc::Global;
+use std::env;
+use std::env::Args;
+use std::io::{BufReader, Read, Write};
+use std::process::ExitCode;
+
+/// The size that asks for all of a picture.
+const FULL_SIZE: Dimensions = Dimensions {
+    width: u16::MAX,
+    height: u16::MAX,
+};
+
+/// The size that the arguments ask for, unless they are none that the program takes.
+fn requested_size(mut arguments: Args) -> Option<Dimensions> {
+    let _program = arguments.next();
+    let Some(width) = arguments.next() else {
+        return Some(FULL_SIZE);
+    };
+    let height = arguments.next()?;
+    if arguments.next().is_some() {
+        return None;
+    }
+    let width = width.parse::<u16>().ok()?;
+    let height = height.parse::<u16>().ok()?;
+    Some(Dimensions { width, height })
+}
+
+/// Decodes the stream that the reader gives at the scale for a size: what its picture is, and its
+/// pixels.
+fn read_picture<R: Read + Drop>(
+    alloc: Global,
+    reader: R,
+    size: Dimensions,
+) -> Result<(Option<ImageInfo>, Vec<u8>)>
+    ensures { (bytes : List ℕ) → Tells (R.remaining reader) bytes
+        → IfOk result (λ made. picture_at size.width size.height bytes ≡ Some (made.0, made.1.items)) }
+{
+    let mut decoder = Decoder::new(alloc, reader)?;
+    decoder.scale(size.width, size.height)?;
+    let pixels = decoder.decode()?;
+    Ok((decoder.info(), pixels))
+}
+
+/// Decodes the stream that the reader gives, and writes its picture at the scale for a size.
+fn write_thumbnail<R: Read + Drop, W: Write>(
+    alloc: Global,
+    reader: R,
+    size: Dimensions,
+    writer: &mut W,
+) -> Result<()>
+    ensures { (bytes : List ℕ) → Tells (R.remaining reader) bytes
+        → OnOk result (IsSomeAnd (file_at size.width size.height bytes)
+        (Appends (W.contents writer.old) (W.contents writer.new))) }
+{
+    let (info, pixels) = read_picture(alloc, reader, size)?;
+    match info {
+        Some(info) => write_picture(alloc, info, pixels, writer),
+        None => Ok(()),
+    }
+}
+
+fn main(rt: HostRuntime) -> ExitCode {
+    let arguments = env::args(&rt);
+    let Some(size) = arguments
+        .ok()
+        .and_then(|arguments| requested_size(arguments))
+    else {
+        let _ = eprintln!(rt; "usage: thumbnail [WIDTH HEIGHT] < photo.jpg > thumb.ppm");
+        return ExitCode::from(2);
+    };
+    let outcome = match BufReader::new(rt.alloc(), rt.stdin()) {
+        Ok(reader) => write_thumbnail(rt.alloc(), reader, size, &mut rt.stdout()),
+        Err(error) => Err(Error::Io(error)),
+    };
+    match outcome {
+        Ok(()) => ExitCode::SUCCESS,
+        Err(error) => {
+            let _ = eprintln!(rt; "thumbnail: {error}");
+            ExitCode::from(1)
+        }
+    }
+}
