@@ -9,12 +9,16 @@ abbrev pub factors : List ℕ
 factors = 2 ∷ 1 ∷ 1 ∷ []
 
 pub are-factors : All IsFactor factors
-are-factors = All-cons IsFactor 2 (1 ∷ 1 ∷ []) (omega arith, omega arith) (All-cons IsFactor 1 (1 ∷ []) (omega arith, omega arith) (All-cons IsFactor 1 [] (omega arith, omega arith) (All-nil IsFactor)))
+are-factors = All-cons IsFactor 2 (1 ∷ 1 ∷ []) (omega arith, omega arith) (All-cons IsFactor 1 (1 ∷ []) (
+  omega arith,
+  omega arith,
+) (All-cons IsFactor 1 [] (omega arith, omega arith) (All-nil IsFactor)))
 
 same : (a b c x y z : ℕ) → a ∷ b ∷ c ∷ [] ≡ x ∷ y ∷ z ∷ [] → (a ≡ x) × (b ≡ y) × (c ≡ z)
 same a b c x y z e = (cc, cc, cc)
 
-pub have-room : (planes : List (Vec ℕ Global)) → map (λ v. length v.items) planes ≡ 2048000 ∷ 512000 ∷ 512000 ∷ [] → HaveRoom (squares 4000 512 factors) (map (λ v. v.items) planes)
+pub have-room : (planes : List (Vec ℕ Global)) → map (λ v. length v.items) planes ≡ 2048000 ∷ 512000 ∷ 512000 ∷ []
+    → HaveRoom (squares 4000 512 factors) (map (λ v. v.items) planes)
 unfolding frame_of component_of HaveRoom
 have-room [] e = absurd (cc)
 have-room (a ∷ []) e = absurd (cc)

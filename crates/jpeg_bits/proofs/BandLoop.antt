@@ -17,21 +17,24 @@ use Rattle.jpeg_bits.specs.declared.tokens.Token.TheVariants.{Value, Sixteen, Re
 
 -- A band's rest is read token by token.
 first_ac-token : (table : Table) (al n : ℕ) (x : ℤ) (rest : List ℤ) (t : Text)
-    → first_ac table al (suc n) (x ∷ rest) t ≡ read_on (after_token al (first_ac table al n) (x ∷ rest)) (token_from table (length (x ∷ rest)) t)
+    → first_ac table al (suc n) (x ∷ rest) t ≡ read_on (after_token al (first_ac table al n) (x ∷ rest))
+    (token_from table (length (x ∷ rest)) t)
 unfolding first_ac
 first_ac-token table al n x rest t = refl
 
 -- what is left to read of a whole
 abbrev pub Leaves : {A : Type 0} → Reads A → Ahead → Stream → Reads A → Ahead → Stream → Type 0
 Leaves whole a old rest b new =
-    (new.failed ≡ old.failed) × (old.known ≡ true → (new.known ≡ true) × (whole (upcoming a old.bytes) ≡ rest (upcoming b new.bytes)))
+    (new.failed ≡ old.failed) × (old.known ≡ true → (new.known ≡ true)
+    × (whole (upcoming a old.bytes) ≡ rest (upcoming b new.bytes)))
 
 -- a band whose front is written, and what reads the places after it
 abbrev pub after_front : List ℤ → Reads Band → Reads Band
 after_front front others = others >>= (λ more. gives (before_more front more))
 
 joined : (xs ys : List ℤ) (o : Result (Band × Text) Fault)
-    → read_on (λ more. gives (before_more xs more)) (read_on (λ more. gives (before_more ys more)) o) ≡ read_on (λ more. gives (before_more (xs ++ ys) more)) o
+    → read_on (λ more. gives (before_more xs more)) (read_on (λ more. gives (before_more ys more)) o)
+    ≡ read_on (λ more. gives (before_more (xs ++ ys) more)) o
 joined xs ys (Ok m) = ap (λ (l : List ℤ). Ok ((l, m.0.1), m.1)) (sym (append_assoc xs ys m.0.0))
 joined xs ys (Err e) = refl
 
@@ -42,7 +45,8 @@ nothing-before (Err e) = refl
 pub Leaves-start : (whole : Reads Band) (a : Ahead) (old : Stream) → Leaves whole a old (after_front [] whole) a old
 Leaves-start whole a old = (refl, λ k. (k, nothing-before (whole (upcoming a old.bytes))))
 
-module _ (table : Table) (al : ℕ) (whole : Reads Band) (a b d : Ahead) (old cur new : Stream) (front : List ℤ) (n : ℕ) (x : ℤ) (rest : List ℤ) where
+module _ (table : Table) (al : ℕ) (whole : Reads Band) (a b d : Ahead) (old cur new : Stream) (front : List ℤ) (n : ℕ)
+    (x : ℤ) (rest : List ℤ) where
   abbrev places : List ℤ
   places = x ∷ rest
 
@@ -50,61 +54,93 @@ module _ (table : Table) (al : ℕ) (whole : Reads Band) (a b d : Ahead) (old cu
   reader = token_from table (length (x ∷ rest))
 
   -- what a token leaves to read
-  step : (k : Token) → Leaves whole a old (after_front front (first_ac table al (suc n) places)) b cur → Takes (λ (t : Token). t) reader b cur (Ok k) d new
+  step : (k : Token) → Leaves whole a old (after_front front (first_ac table al (suc n) places)) b cur
+      → Takes (λ (t : Token). t) reader b cur (Ok k) d new
       → Leaves whole a old (after_front front (after_token al (first_ac table al n) places k)) d new
   step k p q = (
     q.0 ∙ p.0,
     λ known. let at = p.1 known in let by = q.1 at.0 in (
       by.0,
-      at.1 ∙ ap (read_on (λ more. gives (before_more front more))) (first_ac-token table al n x rest (upcoming b cur.bytes) ∙ ap (read_on (after_token al (first_ac table al n) places)) by.1),
+      at.1 ∙ ap (read_on (λ more. gives (before_more front more))) (first_ac-token table al n x rest
+          (upcoming b cur.bytes) ∙ ap (read_on (after_token al (first_ac table al n) places)) by.1),
     ),
   )
 
-  pub Leaves-value : (r : ℕ) (v : ℤ) → Leaves whole a old (after_front front (first_ac table al (suc n) places)) b cur → Takes (λ (t : Token). t) reader b cur (Ok (Value r v)) d new
-      → Leaves whole a old (after_front (front ++ (take r places ++ wrapped (v *ℤ pos (2 ^ al)) ∷ [])) (first_ac table al n (drop (r + 1) places))) d new
+  pub Leaves-value : (r : ℕ) (v : ℤ) → Leaves whole a old (after_front front (first_ac table al (suc n) places)) b cur
+      → Takes (λ (t : Token). t) reader b cur (Ok (Value r v)) d new
+      → Leaves whole a old (after_front (front ++ (take r places ++ wrapped (v *ℤ pos (2 ^ al)) ∷ []))
+      (first_ac table al n (drop (r + 1) places))) d new
   Leaves-value r v p q =
-      let s = step (Value r v) p q in
-      (s.0, λ known. let at = s.1 known in (at.0, at.1 ∙ joined front (take r places ++ wrapped (v *ℤ pos (2 ^ al)) ∷ []) (first_ac table al n (drop (r + 1) places) (upcoming d new.bytes))))
+      let s = step (Value r v) p q in (
+        s.0,
+        λ known. let at = s.1 known in (
+          at.0,
+          at.1 ∙ joined front (take r places ++ wrapped (v *ℤ pos (2 ^ al)) ∷ [])
+              (first_ac table al n (drop (r + 1) places) (upcoming d new.bytes)),
+        ),
+      )
 
-  pub Leaves-sixteen : Leaves whole a old (after_front front (first_ac table al (suc n) places)) b cur → Takes (λ (t : Token). t) reader b cur (Ok Sixteen) d new
+  pub Leaves-sixteen : Leaves whole a old (after_front front (first_ac table al (suc n) places)) b cur
+      → Takes (λ (t : Token). t) reader b cur (Ok Sixteen) d new
       → Leaves whole a old (after_front (front ++ take 16 places) (first_ac table al n (drop 16 places))) d new
   Leaves-sixteen p q =
-      let s = step Sixteen p q in
-      (s.0, λ known. let at = s.1 known in (at.0, at.1 ∙ joined front (take 16 places) (first_ac table al n (drop 16 places) (upcoming d new.bytes))))
+      let s = step Sixteen p q in (
+        s.0,
+        λ known. let at = s.1 known in
+            (at.0, at.1 ∙ joined front (take 16 places) (first_ac table al n (drop 16 places) (upcoming d new.bytes))),
+      )
 
-  pub Leaves-rest : {X : Type 0} (view : X → Band) (run : ℕ) (y : X) → view y ≡ (front ++ places, run) → Leaves whole a old (after_front front (first_ac table al (suc n) places)) b cur → Takes (λ (t : Token). t) reader b cur (Ok (Rest run)) d new
+  pub Leaves-rest : {X : Type 0} (view : X → Band) (run : ℕ) (y : X) → view y ≡ (front ++ places, run)
+      → Leaves whole a old (after_front front (first_ac table al (suc n) places)) b cur
+      → Takes (λ (t : Token). t) reader b cur (Ok (Rest run)) d new
       → Takes view whole a old (Ok y) d new
   Leaves-rest view run y e p q =
       let s = step (Rest run) p q in
       (s.0, λ known. let at = s.1 known in (at.0, at.1 ∙ ap (λ (z : Band). Ok (z, upcoming d new.bytes)) (sym e)))
 
-  pub Leaves-overlong : {X : Type 0} (view : X → Band) (y : X) → view y ≡ (front ++ places, 0) → Leaves whole a old (after_front front (first_ac table al (suc n) places)) b cur → Takes (λ (t : Token). t) reader b cur (Ok Overlong) d new
+  pub Leaves-overlong : {X : Type 0} (view : X → Band) (y : X) → view y ≡ (front ++ places, 0)
+      → Leaves whole a old (after_front front (first_ac table al (suc n) places)) b cur
+      → Takes (λ (t : Token). t) reader b cur (Ok Overlong) d new
       → Takes view whole a old (Ok y) d new
   Leaves-overlong view y e p q =
       let s = step Overlong p q in
       (s.0, λ known. let at = s.1 known in (at.0, at.1 ∙ ap (λ (z : Band). Ok (z, upcoming d new.bytes)) (sym e)))
 
-  pub Leaves-refused : {X : Type 0} (view : X → Band) (e : Error) → Leaves whole a old (after_front front (first_ac table al (suc n) places)) b cur → Takes (λ (t : Token). t) reader b cur (Err e) d new
+  pub Leaves-refused : {X : Type 0} (view : X → Band) (e : Error)
+      → Leaves whole a old (after_front front (first_ac table al (suc n) places)) b cur
+      → Takes (λ (t : Token). t) reader b cur (Err e) d new
       → Takes view whole a old (Err e) d new
   Leaves-refused view e p q = (
     MayFail-from e _ _ _ p.0 q.0,
-    (λ known still. let at = p.1 known in Names-through e _ _ (λ f h. at.1 ∙ ap (read_on (λ more. gives (before_more front more))) (first_ac-token table al n x rest (upcoming b cur.bytes) ∙ ap (read_on (after_token al (first_ac table al n) places)) h)) (q.1 at.0 still)),
+    (λ known still. let at = p.1 known in
+        Names-through e _ _ (λ f h. at.1 ∙ ap (read_on (λ more. gives (before_more front more)))
+        (first_ac-token table al n x rest (upcoming b cur.bytes)
+        ∙ ap (read_on (after_token al (first_ac table al n) places)) h)) (q.1 at.0 still)),
     λ known. q.2 (p.1 known).0,
   )
 
-pub Leaves-none : {X : Type 0} (view : X → Band) (table : Table) (al n : ℕ) (whole : Reads Band) (a b : Ahead) (old new : Stream) (front : List ℤ) (y : X) → view y ≡ (front, 0)
+pub Leaves-none : {X : Type 0} (view : X → Band) (table : Table) (al n : ℕ) (whole : Reads Band) (a b : Ahead)
+    (old new : Stream) (front : List ℤ) (y : X) → view y ≡ (front, 0)
     → Leaves whole a old (after_front front (first_ac table al n [])) b new → Takes view whole a old (Ok y) b new
 unfolding first_ac
-Leaves-none view table al n whole a b old new front y e p =
-    (p.0, λ known. let at = p.1 known in (at.0, at.1 ∙ ap (λ (z : Band). Ok (z, upcoming b new.bytes)) (ap (λ (l : List ℤ). (l, 0)) (append-nil front) ∙ sym e)))
+Leaves-none view table al n whole a b old new front y e p = (
+  p.0,
+  λ known. let at = p.1 known in (
+    at.0,
+    at.1 ∙ ap (λ (z : Band). Ok (z, upcoming b new.bytes)) (ap (λ (l : List ℤ). (l, 0)) (append-nil front)
+        ∙ sym e),
+  ),
+)
 
 -- a band is written up to a place, and what is left is read with some turns
 abbrev pub IsAt : Table → ℕ → Reads Band → Ahead → Stream → List ℤ → ℕ → Ahead → Stream → Type 0
 IsAt table al whole a old band at b cur =
-    (turns : ℕ) × (length band - at ≤ turns) × Leaves whole a old (after_front (take at band) (first_ac table al turns (drop at band))) b cur
+    (turns : ℕ) × (length band - at ≤ turns)
+    × Leaves whole a old (after_front (take at band) (first_ac table al turns (drop at band))) b cur
 
 -- what is left, where some place is left
-pub record Parts (table : Table) (al : ℕ) (whole : Reads Band) (a : Ahead) (old : Stream) (band : List ℤ) (at : ℕ) (b : Ahead) (cur : Stream) : Type 0 where
+pub record Parts (table : Table) (al : ℕ) (whole : Reads Band) (a : Ahead) (old : Stream) (band : List ℤ) (at : ℕ)
+    (b : Ahead) (cur : Stream) : Type 0 where
   pub n : ℕ
   pub x : ℤ
   pub rest : List ℤ
@@ -113,11 +149,13 @@ pub record Parts (table : Table) (al : ℕ) (whole : Reads Band) (a : Ahead) (ol
   pub long : length band - at ≡ length (x ∷ rest)
   pub text : Leaves whole a old (after_front (take at band) (first_ac table al (suc n) (x ∷ rest))) b cur
 
-module _ (table : Table) (al : ℕ) (whole : Reads Band) (a b d : Ahead) (old cur new : Stream) (band : List ℤ) (at : ℕ) (lt : at < length band) where
+module _ (table : Table) (al : ℕ) (whole : Reads Band) (a b d : Ahead) (old cur new : Stream) (band : List ℤ) (at : ℕ)
+    (lt : at < length band) where
   pub parts : IsAt table al whole a old band at b cur → Parts table al whole a old band at b cur
   parts p = go p.0 (drop at band) refl p.1 p.2
     where
-      go : (turns : ℕ) (places : List ℤ) → drop at band ≡ places → length band - at ≤ turns → Leaves whole a old (after_front (take at band) (first_ac table al turns (drop at band))) b cur
+      go : (turns : ℕ) (places : List ℤ) → drop at band ≡ places → length band - at ≤ turns
+          → Leaves whole a old (after_front (take at band) (first_ac table al turns (drop at band))) b cur
           → Parts table al whole a old band at b cur
       go turns [] e h t = absurd (omega (arith, ap length e, length-drop at band))
       go zero (x ∷ rest) e h t = absurd (omega arith)
@@ -128,17 +166,23 @@ module _ (table : Table) (al : ℕ) (whole : Reads Band) (a b d : Ahead) (old cu
         is = e;
         room = h;
         long = sym (length-drop at band) ∙ ap length e;
-        text = subst (λ (l : List ℤ). Leaves whole a old (after_front (take at band) (first_ac table al (suc n) l)) b cur) e t;
+        text = subst (λ (l : List ℤ). Leaves whole a old (after_front (take at band) (first_ac table al (suc n) l)) b
+            cur) e t;
       }
 
-  token-of : {X : Type 0} (view : X → Token) (r : Result X Error) (w : Parts table al whole a old band at b cur) → Takes view (token_from table (length band - at)) b cur r d new → Takes view (token_from table (length (w.x ∷ w.rest))) b cur r d new
+  token-of : {X : Type 0} (view : X → Token) (r : Result X Error) (w : Parts table al whole a old band at b cur)
+      → Takes view (token_from table (length band - at)) b cur r d new
+      → Takes view (token_from table (length (w.x ∷ w.rest))) b cur r d new
   token-of view r w q = subst (λ (k : ℕ). Takes view (token_from table k) b cur r d new) w.long q
 
-  pub IsAt-value : (r : ℕ) (v w : ℤ) → r < length band - at → w ≡ wrapped (v *ℤ pos (2 ^ al)) → IsAt table al whole a old band at b cur
-      → Takes (λ (t : Token). t) (token_from table (length band - at)) b cur (Ok (Value r v)) d new → IsAt table al whole a old (set band (at + r) w) (at + r + 1) d new
+  pub IsAt-value : (r : ℕ) (v w : ℤ) → r < length band - at → w ≡ wrapped (v *ℤ pos (2 ^ al))
+      → IsAt table al whole a old band at b cur
+      → Takes (λ (t : Token). t) (token_from table (length band - at)) b cur (Ok (Value r v)) d new
+      → IsAt table al whole a old (set band (at + r) w) (at + r + 1) d new
   IsAt-value r v w within is p q =
       let m = parts p in
-      let s = Leaves-value table al whole a b d old cur new (take at band) m.n m.x m.rest r v m.text (token-of (λ (t : Token). t) (Ok (Value r v)) m q) in
+      let s = Leaves-value table al whole a b d old cur new (take at band) m.n m.x m.rest r v m.text
+      (token-of (λ (t : Token). t) (Ok (Value r v)) m q) in
       let value = wrapped (v *ℤ pos (2 ^ al)) in
       let front : take at band ++ (take r (m.x ∷ m.rest) ++ value ∷ []) ≡ take (at + r + 1) (set band (at + r) w)
       = ap (λ (l : List ℤ). take at band ++ (take r l ++ value ∷ [])) (sym m.is)
@@ -148,58 +192,85 @@ module _ (table : Table) (al : ℕ) (whole : Reads Band) (a b d : Ahead) (old cu
       ∙ sym (take_more_set band (at + r) w (omega arith)) in
       let place : at + (r + 1) ≡ at + r + 1 = omega arith in
       let back : drop (r + 1) (m.x ∷ m.rest) ≡ drop (at + r + 1) (set band (at + r) w)
-      = ap (drop (r + 1)) (sym m.is) ∙ drop-drop (r + 1) at band ∙ ap (λ (k : ℕ). drop k band) place ∙ sym (drop-set-lt (at + r + 1) band (at + r) w (omega arith)) in
+      = ap (drop (r + 1)) (sym m.is) ∙ drop-drop (r + 1) at band ∙ ap (λ (k : ℕ). drop k band) place
+      ∙ sym (drop-set-lt (at + r + 1) band (at + r) w (omega arith)) in
       let room = m.room in (
         m.n,
         omega (arith, length-set band (at + r) w),
-        subst (λ (f : List ℤ). Leaves whole a old (after_front f (first_ac table al m.n (drop (at + r + 1) (set band (at + r) w)))) d new) front
-            (subst (λ (l : List ℤ). Leaves whole a old (after_front (take at band ++ (take r (m.x ∷ m.rest) ++ value ∷ [])) (first_ac table al m.n l)) d new) back s),
+        subst (λ (f : List ℤ). Leaves whole a old
+            (after_front f (first_ac table al m.n (drop (at + r + 1) (set band (at + r) w)))) d new) front
+            (subst (λ (l : List ℤ). Leaves whole a old
+            (after_front (take at band ++ (take r (m.x ∷ m.rest) ++ value ∷ [])) (first_ac table al m.n l)) d new)
+            back s),
       )
 
-  IsAt-after : (to : ℕ) → at < to → take at band ++ take 16 (drop at band) ≡ take to band → drop 16 (drop at band) ≡ drop to band → IsAt table al whole a old band at b cur
-      → Takes (λ (t : Token). t) (token_from table (length band - at)) b cur (Ok Sixteen) d new → IsAt table al whole a old band to d new
+  IsAt-after : (to : ℕ) → at < to → take at band ++ take 16 (drop at band) ≡ take to band
+      → drop 16 (drop at band) ≡ drop to band → IsAt table al whole a old band at b cur
+      → Takes (λ (t : Token). t) (token_from table (length band - at)) b cur (Ok Sixteen) d new
+      → IsAt table al whole a old band to d new
   IsAt-after to more front back p q =
       let m = parts p in
-      let s = Leaves-sixteen table al whole a b d old cur new (take at band) m.n m.x m.rest m.text (token-of (λ (t : Token). t) (Ok Sixteen) m q) in
+      let s = Leaves-sixteen table al whole a b d old cur new (take at band) m.n m.x m.rest m.text
+      (token-of (λ (t : Token). t) (Ok Sixteen) m q) in
       let room = m.room in (
         m.n,
         omega arith,
-        subst (λ (f : List ℤ). Leaves whole a old (after_front f (first_ac table al m.n (drop to band))) d new) (ap (λ (l : List ℤ). take at band ++ take 16 l) (sym m.is) ∙ front)
-            (subst (λ (l : List ℤ). Leaves whole a old (after_front (take at band ++ take 16 (m.x ∷ m.rest)) (first_ac table al m.n l)) d new) (ap (drop 16) (sym m.is) ∙ back) s),
+        subst (λ (f : List ℤ). Leaves whole a old (after_front f (first_ac table al m.n (drop to band))) d new)
+            (ap (λ (l : List ℤ). take at band ++ take 16 l) (sym m.is) ∙ front)
+            (subst (λ (l : List ℤ). Leaves whole a old (after_front (take at band ++ take 16 (m.x ∷ m.rest))
+            (first_ac table al m.n l)) d new) (ap (drop 16) (sym m.is) ∙ back) s),
       )
 
-  pub IsAt-sixteen : IsAt table al whole a old band at b cur → Takes (λ (t : Token). t) (token_from table (length band - at)) b cur (Ok Sixteen) d new → IsAt table al whole a old band (at + 16) d new
+  pub IsAt-sixteen : IsAt table al whole a old band at b cur
+      → Takes (λ (t : Token). t) (token_from table (length band - at)) b cur (Ok Sixteen) d new
+      → IsAt table al whole a old band (at + 16) d new
   IsAt-sixteen = IsAt-after (at + 16) (omega arith) (sym (take-add at 16 band)) (drop-drop 16 at band)
 
-  pub IsAt-all : length band - at ≤ 16 → IsAt table al whole a old band at b cur → Takes (λ (t : Token). t) (token_from table (length band - at)) b cur (Ok Sixteen) d new → IsAt table al whole a old band (length band) d new
+  pub IsAt-all : length band - at ≤ 16 → IsAt table al whole a old band at b cur
+      → Takes (λ (t : Token). t) (token_from table (length band - at)) b cur (Ok Sixteen) d new
+      → IsAt table al whole a old band (length band) d new
   IsAt-all few =
       let l : length (drop at band) ≤ 16 = omega (arith, length-drop at band) in
       IsAt-after (length band) lt
-      (ap (λ (l : List ℤ). take at band ++ l) (take_all 16 (drop at band) l) ∙ take-append-drop at band ∙ sym (take_all (length band) band (omega arith)))
+      (ap (λ (l : List ℤ). take at band ++ l) (take_all 16 (drop at band) l) ∙ take-append-drop at band
+      ∙ sym (take_all (length band) band (omega arith)))
       (drop_all 16 (drop at band) l ∙ sym (drop_all (length band) band (omega arith)))
 
-  pub IsAt-rest : {X : Type 0} (view : X → Band) (run : ℕ) (y : X) → view y ≡ (band, run) → IsAt table al whole a old band at b cur
-      → Takes (λ (t : Token). t) (token_from table (length band - at)) b cur (Ok (Rest run)) d new → Takes view whole a old (Ok y) d new
+  pub IsAt-rest : {X : Type 0} (view : X → Band) (run : ℕ) (y : X) → view y ≡ (band, run)
+      → IsAt table al whole a old band at b cur
+      → Takes (λ (t : Token). t) (token_from table (length band - at)) b cur (Ok (Rest run)) d new
+      → Takes view whole a old (Ok y) d new
   IsAt-rest view run y e p q =
       let m = parts p in
-      let all : take at band ++ (m.x ∷ m.rest) ≡ band = ap (λ (l : List ℤ). take at band ++ l) (sym m.is) ∙ take-append-drop at band in
-      Leaves-rest table al whole a b d old cur new (take at band) m.n m.x m.rest view run y (e ∙ ap (λ (l : List ℤ). (l, run)) (sym all)) m.text (token-of (λ (t : Token). t) (Ok (Rest run)) m q)
+      let all : take at band ++ (m.x ∷ m.rest) ≡ band = ap (λ (l : List ℤ). take at band ++ l) (sym m.is)
+      ∙ take-append-drop at band in
+      Leaves-rest table al whole a b d old cur new (take at band) m.n m.x m.rest view run y (e
+      ∙ ap (λ (l : List ℤ). (l, run)) (sym all)) m.text (token-of (λ (t : Token). t) (Ok (Rest run)) m q)
 
-  pub IsAt-overlong : {X : Type 0} (view : X → Band) (y : X) → view y ≡ (band, 0) → IsAt table al whole a old band at b cur
-      → Takes (λ (t : Token). t) (token_from table (length band - at)) b cur (Ok Overlong) d new → Takes view whole a old (Ok y) d new
+  pub IsAt-overlong : {X : Type 0} (view : X → Band) (y : X) → view y ≡ (band, 0)
+      → IsAt table al whole a old band at b cur
+      → Takes (λ (t : Token). t) (token_from table (length band - at)) b cur (Ok Overlong) d new
+      → Takes view whole a old (Ok y) d new
   IsAt-overlong view y e p q =
       let m = parts p in
-      let all : take at band ++ (m.x ∷ m.rest) ≡ band = ap (λ (l : List ℤ). take at band ++ l) (sym m.is) ∙ take-append-drop at band in
-      Leaves-overlong table al whole a b d old cur new (take at band) m.n m.x m.rest view y (e ∙ ap (λ (l : List ℤ). (l, 0)) (sym all)) m.text (token-of (λ (t : Token). t) (Ok Overlong) m q)
+      let all : take at band ++ (m.x ∷ m.rest) ≡ band = ap (λ (l : List ℤ). take at band ++ l) (sym m.is)
+      ∙ take-append-drop at band in
+      Leaves-overlong table al whole a b d old cur new (take at band) m.n m.x m.rest view y (e
+      ∙ ap (λ (l : List ℤ). (l, 0)) (sym all)) m.text (token-of (λ (t : Token). t) (Ok Overlong) m q)
 
   pub IsAt-refused : {X : Type 0} (view : X → Band) (e : Error) → IsAt table al whole a old band at b cur
-      → Takes (λ (t : Token). t) (token_from table (length band - at)) b cur (Err e) d new → Takes view whole a old (Err e) d new
+      → Takes (λ (t : Token). t) (token_from table (length band - at)) b cur (Err e) d new
+      → Takes view whole a old (Err e) d new
   IsAt-refused view e p q =
       let m = parts p in
-      Leaves-refused table al whole a b d old cur new (take at band) m.n m.x m.rest view e m.text (token-of (λ (t : Token). t) (Err e) m q)
+      Leaves-refused table al whole a b d old cur new (take at band) m.n m.x m.rest view e m.text
+      (token-of (λ (t : Token). t) (Err e) m q)
 
-pub IsAt-none : {X : Type 0} (view : X → Band) (table : Table) (al : ℕ) (whole : Reads Band) (a b : Ahead) (old new : Stream) (band : List ℤ) (at : ℕ) (y : X) → length band ≤ at → view y ≡ (band, 0)
+pub IsAt-none : {X : Type 0} (view : X → Band) (table : Table) (al : ℕ) (whole : Reads Band) (a b : Ahead)
+    (old new : Stream) (band : List ℤ) (at : ℕ) (y : X) → length band ≤ at → view y ≡ (band, 0)
     → IsAt table al whole a old band at b new → Takes view whole a old (Ok y) b new
 IsAt-none view table al whole a b old new band at y end e p =
-    Leaves-none view table al p.0 whole a b old new (take at band) y (e ∙ ap (λ (l : List ℤ). (l, 0)) (sym (take_all at band end)))
-    (subst (λ (l : List ℤ). Leaves whole a old (after_front (take at band) (first_ac table al p.0 l)) b new) (drop_all at band end) p.2)
+    Leaves-none view table al p.0 whole a b old new (take at band) y (e
+    ∙ ap (λ (l : List ℤ). (l, 0)) (sym (take_all at band end)))
+    (subst (λ (l : List ℤ). Leaves whole a old (after_front (take at band) (first_ac table al p.0 l)) b new)
+    (drop_all at band end) p.2)

@@ -13,14 +13,18 @@ use Rattle.jpeg_bits.proofs.BandLoop.{Leaves}
 use Rattle.jpeg_bits.specs.Pieces.{before}
 
 -- one step of the whole
-pub Leaves-ok : {X Y W : Type 0} (view : X → W) (whole rest next : Text → Result (Y × Text) Fault) (read : Text → Result (W × Text) Fault) (a b d : Ahead) (old cur new : Stream) (x : X)
-    → ((t u : Text) → read t ≡ Ok (view x, u) → rest t ≡ next u) → Leaves whole a old rest b cur → Takes view read b cur (Ok x) d new → Leaves whole a old next d new
+pub Leaves-ok : {X Y W : Type 0} (view : X → W) (whole rest next : Text → Result (Y × Text) Fault) (read : Text
+    → Result (W × Text) Fault) (a b d : Ahead) (old cur new : Stream) (x : X)
+    → ((t u : Text) → read t ≡ Ok (view x, u) → rest t ≡ next u) → Leaves whole a old rest b cur
+    → Takes view read b cur (Ok x) d new → Leaves whole a old next d new
 Leaves-ok view whole rest next read a b d old cur new x step p q =
     (q.0 ∙ p.0, λ k. let at = p.1 k in let by = q.1 at.0 in (by.0, at.1 ∙ step _ _ by.1))
 
 -- a refusal after a part of the whole
-pub Leaves-err : {X Y Z W : Type 0} (v : X → Y) (view : Z → W) (whole rest : Text → Result (Y × Text) Fault) (read : Text → Result (W × Text) Fault) (a b d : Ahead) (old cur new : Stream) (e : Error)
-    → ((t : Text) (f : Fault) → read t ≡ Err f → rest t ≡ Err f) → Leaves whole a old rest b cur → Takes view read b cur (Err e) d new → Takes v whole a old (Err e) d new
+pub Leaves-err : {X Y Z W : Type 0} (v : X → Y) (view : Z → W) (whole rest : Text → Result (Y × Text) Fault)
+    (read : Text → Result (W × Text) Fault) (a b d : Ahead) (old cur new : Stream) (e : Error)
+    → ((t : Text) (f : Fault) → read t ≡ Err f → rest t ≡ Err f) → Leaves whole a old rest b cur
+    → Takes view read b cur (Err e) d new → Takes v whole a old (Err e) d new
 Leaves-err v view whole rest read a b d old cur new e through p q = (
   MayFail-from e _ _ _ p.0 q.0,
   λ k known.
@@ -30,14 +34,17 @@ Leaves-err v view whole rest read a b d old cur new e through p q = (
 )
 
 -- the end of the whole
-pub Leaves-end : {X Y : Type 0} (v : X → Y) (whole rest : Text → Result (Y × Text) Fault) (a b : Ahead) (old new : Stream) (x : X)
+pub Leaves-end : {X Y : Type 0} (v : X → Y) (whole rest : Text → Result (Y × Text) Fault) (a b : Ahead)
+    (old new : Stream) (x : X)
     → ((t : Text) → rest t ≡ Ok (v x, t)) → Leaves whole a old rest b new → Takes v whole a old (Ok x) b new
 Leaves-end v whole rest a b old new x e p = (p.0, λ k. let at = p.1 k in (at.0, at.1 ∙ e _))
 
-pub Leaves-whole : {Y : Type 0} (whole : Text → Result (Y × Text) Fault) (a : Ahead) (old : Stream) → Leaves whole a old whole a old
+pub Leaves-whole : {Y : Type 0} (whole : Text → Result (Y × Text) Fault) (a : Ahead) (old : Stream)
+    → Leaves whole a old whole a old
 Leaves-whole whole a old = (refl, λ k. (k, refl))
 
-pub bind_same : {A B : Type 0} (r : Result A Fault) (f g : A → Result B Fault) → ((x : A) → f x ≡ g x) → (r >>= f) ≡ (r >>= g)
+pub bind_same : {A B : Type 0} (r : Result A Fault) (f g : A → Result B Fault) → ((x : A) → f x ≡ g x)
+    → (r >>= f) ≡ (r >>= g)
 bind_same (Ok x) f g h = h x
 bind_same (Err e) f g h = refl
 

@@ -21,19 +21,43 @@ exists counts e = tested-exist (code_lengths counts) e
 
 pub luminance-dc-codes : AreCodes luminance_dc.counts luminance_dc.symbols
 unfolding codes_exist code_value lengths_from
-luminance-dc-codes = record { count = refl; some = omega arith; most = omega arith; exist = exists luminance_dc.counts refl }
+luminance-dc-codes =
+    record {
+      count = refl;
+      some = omega arith;
+      most = omega arith;
+      exist = exists luminance_dc.counts refl;
+    }
 
 pub chrominance-dc-codes : AreCodes chrominance_dc.counts chrominance_dc.symbols
 unfolding codes_exist code_value lengths_from
-chrominance-dc-codes = record { count = refl; some = omega arith; most = omega arith; exist = exists chrominance_dc.counts refl }
+chrominance-dc-codes =
+    record {
+      count = refl;
+      some = omega arith;
+      most = omega arith;
+      exist = exists chrominance_dc.counts refl;
+    }
 
 pub luminance-ac-codes : AreCodes luminance_ac.counts luminance_ac.symbols
 unfolding codes_exist code_value lengths_from
-luminance-ac-codes = record { count = refl; some = omega arith; most = omega arith; exist = exists luminance_ac.counts refl }
+luminance-ac-codes =
+    record {
+      count = refl;
+      some = omega arith;
+      most = omega arith;
+      exist = exists luminance_ac.counts refl;
+    }
 
 pub chrominance-ac-codes : AreCodes chrominance_ac.counts chrominance_ac.symbols
 unfolding codes_exist code_value lengths_from
-chrominance-ac-codes = record { count = refl; some = omega arith; most = omega arith; exist = exists chrominance_ac.counts refl }
+chrominance-ac-codes =
+    record {
+      count = refl;
+      some = omega arith;
+      most = omega arith;
+      exist = exists chrominance_ac.counts refl;
+    }
 
 -- ---- places
 
@@ -42,8 +66,10 @@ unfolding AreBetween
 all-same [] = tt
 all-same (t ∷ ts) = (inl refl, all-same ts)
 
-pub both-filled : (l r : Table) (places : List ℕ) (ts : List (Option Table)) (n m : Bool) (d e a b : Option Table) → 2 ≤ length ts
-    → n ≡ names places 0 → m ≡ names places 1 → a ≡ filled l n (get_or ts 0 d) → b ≡ filled r m (get_or (set ts 0 a) 1 e)
+pub both-filled : (l r : Table) (places : List ℕ) (ts : List (Option Table)) (n m : Bool) (d e a b : Option Table)
+    → 2 ≤ length ts
+    → n ≡ names places 0 → m ≡ names places 1 → a ≡ filled l n (get_or ts 0 d)
+    → b ≡ filled r m (get_or (set ts 0 a) 1 e)
     → set (set ts 0 a) 1 b ≡ with_defaults l r places ts
 both-filled l r places [] n m d e a b two is_n is_m first second = absurd (omega arith)
 both-filled l r places (x ∷ []) n m d e a b two is_n is_m first second = absurd (omega arith)
@@ -66,7 +92,8 @@ first-refused l r places [] d a two first = absurd (omega arith)
 first-refused l r places (x ∷ []) d a two first = absurd (omega arith)
 first-refused l r places (x ∷ y ∷ more) d a two first = (inl first, (inl refl, all-same more))
 
-pub second-refused : (l r : Table) (places : List ℕ) (ts : List (Option Table)) (n m : Bool) (d e a b : Option Table) → 2 ≤ length ts
+pub second-refused : (l r : Table) (places : List ℕ) (ts : List (Option Table)) (n m : Bool) (d e a b : Option Table)
+    → 2 ≤ length ts
     → n ≡ names places 0 → m ≡ names places 1 → a ≡ filled l n (get_or ts 0 d) → b ≡ get_or (set ts 0 a) 1 e
     → AreBetween ts (with_defaults l r places ts) (set (set ts 0 a) 1 b)
 unfolding AreBetween
@@ -75,22 +102,26 @@ second-refused l r places (x ∷ []) n m d e a b two is_n is_m first second = ab
 second-refused l r places (x ∷ y ∷ more) n m d e a b two is_n is_m first second =
     (inr (first ∙ ap (λ (k : Bool). filled l k x) is_n), (inl second, all-same more))
 
-same-length : (l r : Table) (places : List ℕ) (ts : List (Option Table)) → length (with_defaults l r places ts) ≡ length ts
+same-length : (l r : Table) (places : List ℕ) (ts : List (Option Table)) → length (with_defaults l r places ts)
+    ≡ length ts
 same-length l r places [] = refl
 same-length l r places (a ∷ []) = refl
 same-length l r places (a ∷ b ∷ more) = refl
 
 -- tables that nothing was done to
-pub untouched : (l r : Table) (places : List ℕ) (ts : List (Option Table)) → AreBetween ts (with_defaults l r places ts) ts
+pub untouched : (l r : Table) (places : List ℕ) (ts : List (Option Table))
+    → AreBetween ts (with_defaults l r places ts) ts
 untouched l r places ts = as-it-was (with_defaults l r places ts) ts (same-length l r places ts)
 
 -- tables that were filled
-pub all-done : (whole : List (Option Table)) (ts : List (Option Table)) → length whole ≡ length ts → AreBetween ts whole whole
+pub all-done : (whole : List (Option Table)) (ts : List (Option Table)) → length whole ≡ length ts
+    → AreBetween ts whole whole
 unfolding AreBetween
 all-done [] [] same = tt
 all-done [] (t ∷ ts) same = absurd (omega arith)
 all-done (w ∷ whole) [] same = absurd (omega arith)
 all-done (w ∷ whole) (t ∷ ts) same = (inr refl, all-done whole ts (omega arith))
 
-pub done : (l r : Table) (places : List ℕ) (ts : List (Option Table)) → AreBetween ts (with_defaults l r places ts) (with_defaults l r places ts)
+pub done : (l r : Table) (places : List ℕ) (ts : List (Option Table))
+    → AreBetween ts (with_defaults l r places ts) (with_defaults l r places ts)
 done l r places ts = all-done (with_defaults l r places ts) ts (same-length l r places ts)

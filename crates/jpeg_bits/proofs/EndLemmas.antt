@@ -16,20 +16,29 @@ pub record IsPlaced (bytes : List ℕ) (t : Text) : Type 0 where
 
 get_or-after : {A : Type 0} (n i : ℕ) (x d : A) (ys : List A) → get_or (replicate n x ++ ys) (n + i) d ≡ get_or ys i d
 get_or-after zero i x d ys = let e : zero + i ≡ i = omega arith in ap (λ (k : ℕ). get_or ys k d) e
-get_or-after (suc n) i x d ys = let e : suc n + i ≡ suc (n + i) = omega arith in ap (λ (k : ℕ). get_or (x ∷ (replicate n x ++ ys)) k d) e ∙ get_or-after n i x d ys
+get_or-after (suc n) i x d ys = let e : suc n + i ≡ suc (n + i) =
+    omega arith in ap (λ (k : ℕ). get_or (x ∷ (replicate n x ++ ys)) k d) e ∙ get_or-after n i x d ys
 
 none-placed : (bytes : List ℕ) (e : Ending) → IsPlaced bytes (no_bits e)
 none-placed bytes e = record { sized = refl; each = λ i h. absurd (omega arith) }
 
 -- one more byte in front, after which the bytes go on with rest
-add-placed : (bytes rest : List ℕ) (b : ℕ) (t : Text) → ((n : ℕ) → after_bytes (suc n) bytes ≡ after_bytes n rest) → IsPlaced rest t → IsPlaced bytes (add_byte b rest t)
+add-placed : (bytes rest : List ℕ) (b : ℕ) (t : Text) → ((n : ℕ) → after_bytes (suc n) bytes ≡ after_bytes n rest)
+    → IsPlaced rest t → IsPlaced bytes (add_byte b rest t)
 unfolding after_bytes
 add-placed bytes rest b t step h = record {
-  sized = omega (arith, length-append (replicate 8 rest) t.places, length-replicate 8 rest, length-append (bits_of b) t.bits, h.sized);
+  sized = omega (
+    arith,
+    length-append (replicate 8 rest) t.places,
+    length-replicate 8 rest,
+    length-append (bits_of b) t.bits,
+    h.sized,
+  );
   each = λ i lt. elim (cases_lt i 8) [
     | inl low ↦
         let z : i / 8 ≡ 0 = omega arith in
-        get_or_append_left (replicate 8 rest) t.places [] i (omega (arith, length-replicate 8 rest)) ∙ get_or-replicate 8 i rest [] low
+        get_or_append_left (replicate 8 rest) t.places [] i (omega (arith, length-replicate 8 rest))
+        ∙ get_or-replicate 8 i rest [] low
         ∙ sym (ap (λ (n : ℕ). after_bytes (suc n) bytes) z ∙ step 0)
     | inr high ↦
         let j = i - 8 in
@@ -46,11 +55,13 @@ unfolding after_bytes
 one-step b zero = refl
 one-step b (suc n) = refl
 
-plain-step : (b c : ℕ) (rest : List ℕ) → eqb b 255 ≡ false → (n : ℕ) → after_bytes (suc n) (b ∷ c ∷ rest) ≡ after_bytes n (c ∷ rest)
+plain-step : (b c : ℕ) (rest : List ℕ) → eqb b 255 ≡ false → (n : ℕ)
+    → after_bytes (suc n) (b ∷ c ∷ rest) ≡ after_bytes n (c ∷ rest)
 unfolding after_bytes
 plain-step b c rest e n = rw (e, after_bytes) refl
 
-stuffed-step : (b c : ℕ) (rest : List ℕ) → eqb b 255 ≡ true → (n : ℕ) → after_bytes (suc n) (b ∷ c ∷ rest) ≡ after_bytes n rest
+stuffed-step : (b c : ℕ) (rest : List ℕ) → eqb b 255 ≡ true → (n : ℕ)
+    → after_bytes (suc n) (b ∷ c ∷ rest) ≡ after_bytes n rest
 unfolding after_bytes
 stuffed-step b c rest e n = rw (e, after_bytes) refl
 
@@ -64,8 +75,10 @@ placed (b ∷ []) = go (eqb b 255)
     go false = add-placed (b ∷ []) [] b (no_bits (Broken End)) (one-step b) (none-placed [] (Broken End))
 placed (b ∷ c ∷ rest) = go (eqb b 255) refl (eqb c 0) (placed rest) (placed (c ∷ rest))
   where
-    go : (x : Bool) → eqb b 255 ≡ x → (y : Bool) → IsPlaced rest (text_at rest) → IsPlaced (c ∷ rest) (text_at (c ∷ rest))
-        → IsPlaced (b ∷ c ∷ rest) (cond x (cond y (add_byte 255 rest (text_at rest)) (no_bits (ending_by (filled_end (c ∷ rest))))) (add_byte b (c ∷ rest) (text_at (c ∷ rest))))
+    go : (x : Bool) → eqb b 255 ≡ x → (y : Bool) → IsPlaced rest (text_at rest)
+        → IsPlaced (c ∷ rest) (text_at (c ∷ rest))
+        → IsPlaced (b ∷ c ∷ rest) (cond x (cond y (add_byte 255 rest (text_at rest))
+        (no_bits (ending_by (filled_end (c ∷ rest))))) (add_byte b (c ∷ rest) (text_at (c ∷ rest))))
     go true e true h k = add-placed (b ∷ c ∷ rest) rest 255 (text_at rest) (stuffed-step b c rest e) h
     go true e false h k = none-placed (b ∷ c ∷ rest) (ending_by (filled_end (c ∷ rest)))
     go false e y h k = add-placed (b ∷ c ∷ rest) (c ∷ rest) b (text_at (c ∷ rest)) (plain-step b c rest e) k
@@ -77,7 +90,8 @@ marker-met (x ∷ places) e h = absurd (omega arith)
 
 -- After k bits of the text that begins with bytes, the end is met where at most 56 bits are left, and otherwise
 -- reading goes on after the bytes of the bits taken and 57 more.
-pub ends-so : (k : ℕ) (bytes : List ℕ) → marker_from (advance k (upcoming fresh bytes)) ≡ end_after k bytes (drop k (text_at bytes).bits) (text_at bytes).ending
+pub ends-so : (k : ℕ) (bytes : List ℕ) → marker_from (advance k (upcoming fresh bytes)) ≡ end_after k bytes
+    (drop k (text_at bytes).bits) (text_at bytes).ending
 unfolding upcoming end_after
 ends-so k bytes = go (cases_lt 56 (length (drop k t.bits)))
   where
@@ -85,11 +99,18 @@ ends-so k bytes = go (cases_lt 56 (length (drop k t.bits)))
     t = text_at bytes
 
     go : (56 < length (drop k (text_at bytes).bits)) ⊎ (length (drop k (text_at bytes).bits) ≤ 56)
-        → marker_by (drop k (drop 56 (text_at bytes).places)) (text_at bytes).ending ≡ end_after k bytes (drop k (text_at bytes).bits) (text_at bytes).ending
+        → marker_by (drop k (drop 56 (text_at bytes).places)) (text_at bytes).ending ≡ end_after k bytes
+        (drop k (text_at bytes).bits) (text_at bytes).ending
     go (inr few) =
         let t = text_at bytes in
         let is = placed bytes in
-        let none : length (drop k (drop 56 t.places)) ≡ 0 = omega (arith, length-drop k (drop 56 t.places), length-drop 56 t.places, length-drop k t.bits, is.sized) in
+        let none : length (drop k (drop 56 t.places)) ≡ 0 = omega (
+          arith,
+          length-drop k (drop 56 t.places),
+          length-drop 56 t.places,
+          length-drop k t.bits,
+          is.sized,
+        ) in
         rw (le-leb (length (drop k t.bits)) 56 few, end_after) (marker-met (drop k (drop 56 t.places)) t.ending none)
     go (inl many) =
         let t = text_at bytes in
@@ -97,7 +118,8 @@ ends-so k bytes = go (cases_lt 56 (length (drop k t.bits)))
         let within : k + 56 < length t.bits = omega (arith, length-drop k t.bits) in
         let order : 56 + k ≡ k + 56 = omega arith in
         let head : drop k (drop 56 t.places) ≡ get_or t.places (k + 56) [] ∷ drop (k + 56 + 1) t.places
-        = drop-drop k 56 t.places ∙ ap (λ (n : ℕ). drop n t.places) order ∙ drop_more t.places (k + 56) [] (omega (arith, is.sized)) in
+        = drop-drop k 56 t.places ∙ ap (λ (n : ℕ). drop n t.places) order
+        ∙ drop_more t.places (k + 56) [] (omega (arith, is.sized)) in
         let count : suc ((k + 56) / 8) ≡ (k + 57 + 7) / 8 = omega arith in
         rw (lt-leb (length (drop k t.bits)) 56 many, end_after)
         (ap (λ (p : List (List ℕ)). marker_by p t.ending) head

@@ -29,35 +29,62 @@ unfolding bits_from
 no-bits t = rw (has-none t.bits t.ending, take-none (t.bits ++ replicate 0 false), advance-none t) refl
 
 rest-same : (r : ℕ) (t : Text) → read_on (λ e. gives (Rest (2 ^ r - 1 + e))) (bits_from r t)
-    ≡ (elim (nat_lt 0 r) as (λ _. Reads Token) [ true ↦ bits_from r >>= (λ e. gives (Rest (2 ^ r - 1 + e))) | false ↦ gives (Rest 0) ]) t
+    ≡ (elim (nat_lt 0 r) as (λ _. Reads Token) [
+      | true ↦ bits_from r >>= (λ e. gives (Rest (2 ^ r - 1 + e)))
+      | false ↦ gives (Rest 0)
+    ]) t
 rest-same zero t = ap (read_on (λ e. gives (Rest (2 ^ 0 - 1 + e)))) (no-bits t)
 rest-same (suc r) t = rw (lt-ltb 0 (suc r) (omega arith)) refl
 
 -- a token that isn't short
-slow-same : (room size r s : ℕ) (t : Text) (a : Bool) → nat_lt 0 s ≡ a → (a ≡ true → nat_le (size + s) 8 ≡ false) → token_at room size r s t ≡ slow_token room r s t
+slow-same : (room size r s : ℕ) (t : Text) (a : Bool) → nat_lt 0 s ≡ a → (a ≡ true → nat_le (size + s) 8 ≡ false)
+    → token_at room size r s t ≡ slow_token room r s t
 unfolding token_at slow_token
 slow-same room size r s t false e long = rw (e, token_at, slow_token) (go (r == 15))
   where
-    go : (b : Bool) → (elim b as (λ _. Reads Token) [ true ↦ gives Sixteen | false ↦ bits_from r >>= (λ e. gives (Rest (2 ^ r - 1 + e))) ]) t
-        ≡ (elim b as (λ _. Reads Token) [ true ↦ gives Sixteen | false ↦ elim (nat_lt 0 r) as (λ _. Reads Token) [ true ↦ bits_from r >>= (λ e. gives (Rest (2 ^ r - 1 + e))) | false ↦ gives (Rest 0) ] ]) t
+    go : (b : Bool) → (elim b as (λ _. Reads Token) [
+      | true ↦ gives Sixteen
+      | false ↦ bits_from r
+          >>= (λ e. gives (Rest (2 ^ r - 1 + e)))
+    ]) t
+        ≡ (elim b as (λ _. Reads Token) [
+          | true ↦ gives Sixteen
+          | false ↦ elim (nat_lt 0 r) as (λ _. Reads Token)
+              [ true ↦ bits_from r >>= (λ e. gives (Rest (2 ^ r - 1 + e))) | false ↦ gives (Rest 0) ]
+        ]) t
     go true = refl
     go false = rest-same r t
-slow-same room size r s t true e long = rw (e, token_at, slow_token) (go (nat_lt r room) (nat_le (size + s) 8) (long refl))
+slow-same room size r s t true e long =
+    rw (e, token_at, slow_token) (go (nat_lt r room) (nat_le (size + s) 8) (long refl))
   where
     go : (b c : Bool) → c ≡ false
-        → (elim b as (λ _. Reads Token) [ true ↦ signed_from s >>= (λ v. gives (Value r v)) | false ↦ elim c as (λ _. Reads Token) [ true ↦ signed_from s >>= (λ v. gives Overlong) | false ↦ gives Overlong ] ]) t
-        ≡ (elim b as (λ _. Reads Token) [ true ↦ signed_from s >>= (λ v. gives (Value r v)) | false ↦ gives Overlong ]) t
+        → (elim b as (λ _. Reads Token) [
+          | true ↦ signed_from s >>= (λ v. gives (Value r v))
+          | false ↦ elim c as (λ _. Reads Token) [
+            | true ↦ signed_from s >>= (λ v. gives Overlong)
+            | false ↦ gives Overlong
+          ]
+        ]) t
+        ≡ (elim b as (λ _. Reads Token) [ true ↦ signed_from s >>= (λ v. gives (Value r v)) | false ↦ gives Overlong ])
+        t
     go true c h = refl
     go false true h = absurd (false≢true (sym h))
     go false false h = refl
 
 -- a token that is short
-value-same : (room size r s : ℕ) (t : Text) → nat_lt 0 s ≡ true → nat_le (size + s) 8 ≡ true → token_at room size r s t ≡ read_on (λ v. gives (value_token room r v)) (signed_from s t)
+value-same : (room size r s : ℕ) (t : Text) → nat_lt 0 s ≡ true → nat_le (size + s) 8 ≡ true
+    → token_at room size r s t ≡ read_on (λ v. gives (value_token room r v)) (signed_from s t)
 unfolding token_at
 value-same room size r s t e short = rw (e, token_at) (go (nat_lt r room) (nat_le (size + s) 8) short)
   where
     go : (b c : Bool) → c ≡ true
-        → (elim b as (λ _. Reads Token) [ true ↦ signed_from s >>= (λ v. gives (Value r v)) | false ↦ elim c as (λ _. Reads Token) [ true ↦ signed_from s >>= (λ v. gives Overlong) | false ↦ gives Overlong ] ]) t
+        → (elim b as (λ _. Reads Token) [
+          | true ↦ signed_from s >>= (λ v. gives (Value r v))
+          | false ↦ elim c as (λ _. Reads Token) [
+            | true ↦ signed_from s >>= (λ v. gives Overlong)
+            | false ↦ gives Overlong
+          ]
+        ]) t
         ≡ read_on (λ v. gives (elim b as (λ _. Token) [ true ↦ Value r v | false ↦ Overlong ])) (signed_from s t)
     go true c h = refl
     go false true h = refl
@@ -73,7 +100,8 @@ both-held n s bits (Broken f) h = go (cases_lt (length bits) n)
     no f e = cc
 
     go : (length bits < n) ⊎ (n ≤ length bits) → has_bits n bits (Broken f) ≡ Ok tt
-    go (inl few) = absurd (no f (sym (ap (λ b. cond b (Ok tt) (Err f)) (lt-leb (n + s) (length bits) (omega arith))) ∙ h))
+    go (inl few) = absurd (no f (sym (ap (λ b. cond b (Ok tt) (Err f)) (lt-leb (n + s) (length bits) (omega arith)))
+        ∙ h))
     go (inr enough) = ap (λ b. cond b (Ok tt) (Err f)) (le-leb n (length bits) enough)
 
 -- where n + s bits can't be taken, the n can't, or the s after them
@@ -92,7 +120,8 @@ not-held n s bits (Broken g) f h = go (cases_lt (length bits) (n + s)) (cases_lt
     by m xs few = ap (λ b. cond b (Ok tt) (Err g)) (lt-leb m (length xs) few)
 
     go : (length bits < n + s) ⊎ (n + s ≤ length bits) → (length bits < n) ⊎ (n ≤ length bits)
-        → (has_bits n bits (Broken g) ≡ Err f) ⊎ ((has_bits n bits (Broken g) ≡ Ok tt) × (has_bits s (drop n bits) (Broken g) ≡ Err f))
+        → (has_bits n bits (Broken g) ≡ Err f) ⊎ ((has_bits n bits (Broken g) ≡ Ok tt)
+        × (has_bits s (drop n bits) (Broken g) ≡ Err f))
     go (inr enough) x = absurd (no f (sym (ap (λ b. cond b (Ok tt) (Err g)) (le-leb (n + s) (length bits) enough)) ∙ h))
     go (inl few) (inl less) =
         let same : ◌≡◌ {A = Result (Unit {0}) Fault} (Err g) (Err f) = sym (by (n + s) bits few) ∙ h in
@@ -117,18 +146,24 @@ abbrev by_look : Table → ℕ → Result (Option (ℕ × ℕ) × Text) Fault �
 by_look table room o = read_on (fast_or table room) (read_on short_value o)
 
 value-look : (table : Table) (room r : ℕ) (o : Result (ℤ × Text) Fault)
-    → read_on (λ v. gives (value_token room r v)) o ≡ read_on (fast_or table room) (read_on (λ v. gives (Some (v, r))) o)
+    → read_on (λ v. gives (value_token room r v)) o ≡ read_on (fast_or table room) (read_on (λ v. gives (Some (v, r)))
+    o)
 value-look table room r (Ok v) = refl
 value-look table room r (Err f) = refl
 
 -- a code of a symbol that is short
-module _ (table : Table) (room n symbol : ℕ) (t : Text) (some : nat_lt 0 (symbol % 16) ≡ true) (short : nat_le (n + symbol % 16) 8 ≡ true) where
-  at-value : by_code room (Ok ((n, symbol), advance n t)) ≡ read_on (λ v. gives (value_token room (symbol / 16) v)) (signed_from (symbol % 16) (advance n t))
+module _ (table : Table) (room n symbol : ℕ) (t : Text) (some : nat_lt 0 (symbol % 16) ≡ true)
+    (short : nat_le (n + symbol % 16) 8 ≡ true) where
+  at-value : by_code room (Ok ((n, symbol), advance n t)) ≡ read_on (λ v. gives (value_token room (symbol / 16) v))
+      (signed_from (symbol % 16) (advance n t))
   at-value = value-same room n (symbol / 16) (symbol % 16) (advance n t) some short
 
   pub at-short : (o : Result (Unit {0}) Fault) → has_bits (n + symbol % 16) t.bits t.ending ≡ o
       → by_code room (if_held (n, symbol) (advance n t) (has_bits n t.bits t.ending))
-      ≡ by_look table room (◌>>r=◌ {B = Option (ℕ × ℕ) × Text} o (λ (u : Unit {0}). Ok (Some (symbol / 16, symbol % 16), advance n t)))
+      ≡ by_look table room (◌>>r=◌ {B = Option (ℕ × ℕ) × Text} o (λ (u : Unit {0}). Ok (
+        Some (symbol / 16, symbol % 16),
+        advance n t,
+      )))
   at-short (Ok u) h =
       ap (λ o. by_code room (if_held (n, symbol) (advance n t) o)) (both-held n (symbol % 16) t.bits t.ending h)
       ∙ at-value ∙ value-look table room (symbol / 16) (signed_from (symbol % 16) (advance n t))
@@ -137,18 +172,22 @@ module _ (table : Table) (room n symbol : ℕ) (t : Text) (some : nat_lt 0 (symb
         | inl e ↦ ap (λ o. by_code room (if_held (n, symbol) (advance n t) o)) e
         | inr p ↦
             ap (λ o. by_code room (if_held (n, symbol) (advance n t) o)) p.0
-            ∙ at-value ∙ ap (read_on (λ v. gives (value_token room (symbol / 16) v))) (signed-refused (symbol % 16) (advance n t) f p.1)
+            ∙ at-value ∙ ap (read_on (λ v. gives (value_token room (symbol / 16) v)))
+            (signed-refused (symbol % 16) (advance n t) f p.1)
       ]
 
 -- a code of another symbol
-at-long : (room n symbol : ℕ) (t : Text) (a : Bool) → nat_lt 0 (symbol % 16) ≡ a → (a ≡ true → nat_le (n + symbol % 16) 8 ≡ false) → (o : Result (Unit {0}) Fault)
-    → by_code room (if_held (n, symbol) t o) ≡ read_on (λ (c : ℕ). slow_token room (c / 16) (c % 16)) (◌>>r=◌ {B = ℕ × Text} o (λ (u : Unit {0}). Ok (symbol, t)))
+at-long : (room n symbol : ℕ) (t : Text) (a : Bool) → nat_lt 0 (symbol % 16) ≡ a
+    → (a ≡ true → nat_le (n + symbol % 16) 8 ≡ false) → (o : Result (Unit {0}) Fault)
+    → by_code room (if_held (n, symbol) t o) ≡ read_on (λ (c : ℕ). slow_token room (c / 16) (c % 16))
+    (◌>>r=◌ {B = ℕ × Text} o (λ (u : Unit {0}). Ok (symbol, t)))
 at-long room n symbol t a e long (Ok u) = slow-same room n (symbol / 16) (symbol % 16) t a e long
 at-long room n symbol t a e long (Err f) = refl
 
 module _ (table : Table) (room : ℕ) (ac : is_ac table.class ≡ true) (t : Text) where
   at-slow : (c : ℕ × ℕ) → symbol_from table t ≡ symbol_by table t (Some c) → short_token table c ≡ None → (a : Bool)
-      → nat_lt 0 (slice_index table.symbols c.0 % 16) ≡ a → (a ≡ true → nat_le (c.1 + slice_index table.symbols c.0 % 16) 8 ≡ false)
+      → nat_lt 0 (slice_index table.symbols c.0 % 16) ≡ a
+      → (a ≡ true → nat_le (c.1 + slice_index table.symbols c.0 % 16) 8 ≡ false)
       → by_code room (code_by table t (Some c)) ≡ by_look table room (short_code_by table t (Some c))
   at-slow c hs none a ha long =
       at-long room c.1 (slice_index table.symbols c.0) (advance c.1 t) a ha long (has_bits c.1 t.bits t.ending)
@@ -166,9 +205,11 @@ module _ (table : Table) (room : ℕ) (ac : is_ac table.class ≡ true) (t : Tex
   at-code c hs true false ha hb = at-slow c hs (rw (ac, ha, hb) refl) true ha (λ e. hb)
   at-code c hs false b ha hb = at-slow c hs (rw (ac, ha) refl) false ha (λ e. absurd (false≢true e))
 
-  at-any : (o : Option (ℕ × ℕ)) → symbol_from table t ≡ symbol_by table t o → by_code room (code_by table t o) ≡ by_look table room (short_code_by table t o)
+  at-any : (o : Option (ℕ × ℕ)) → symbol_from table t ≡ symbol_by table t o
+      → by_code room (code_by table t o) ≡ by_look table room (short_code_by table t o)
   at-any None hs = sym (ap (read_on (λ (c : ℕ). slow_token room (c / 16) (c % 16))) hs)
-  at-any (Some c) hs = at-code c hs (nat_lt 0 (slice_index table.symbols c.0 % 16)) (nat_le (c.1 + slice_index table.symbols c.0 % 16) 8) refl refl
+  at-any (Some c) hs = at-code c hs (nat_lt 0 (slice_index table.symbols c.0 % 16))
+      (nat_le (c.1 + slice_index table.symbols c.0 % 16) 8) refl refl
 
   -- A token that is looked up, in a table for AC, is the token that is defined.
   pub tokens-same : token_from table room t ≡ looked_up table room t

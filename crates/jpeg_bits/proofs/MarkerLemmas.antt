@@ -10,7 +10,8 @@ use Rattle.jpeg_bits.specs.declared.marker.Marker.{Marker}
 
 -- what a search finds, with what was found
 abbrev pub Finds : List ℕ → Outcome Marker → Type 0
-Finds bytes o = ((i : ℕ) × (m : Marker) × (rest : List ℕ) × (o ≡ Ok (m, rest)) × IsNextMarker bytes i m rest) ⊎ ((o ≡ Err End) × HasNoMarker bytes)
+Finds bytes o = ((i : ℕ) × (m : Marker) × (rest : List ℕ) × (o ≡ Ok (m, rest)) × IsNextMarker bytes i m rest)
+    ⊎ ((o ≡ Err End) × HasNoMarker bytes)
 
 none-short : (bytes : List ℕ) → length bytes ≤ 1 → HasNoMarker bytes
 none-short bytes h j lt = absurd (omega arith)
@@ -19,17 +20,27 @@ marker_at-none : (a b : ℕ) → marker_at a b ≡ None → a ≡ 255 → marker
 marker_at-none a b h e = ap (λ (x : Bool). cond x (marker_of b) None) (sym (eq-eqb a 255 e)) ∙ h
 
 -- a marker at the first byte
-here : (a b : ℕ) (rest : List ℕ) (m : Marker) → (x : Bool) → eqb a 255 ≡ x → cond x (marker_of b) None ≡ Some m → IsNextMarker (a ∷ b ∷ rest) 0 m rest
-here a b rest m true t e = record { within = omega arith; first = eqb-true a 255 t; second = e; after = refl; least = λ j h. absurd (omega arith) }
+here : (a b : ℕ) (rest : List ℕ) (m : Marker) → (x : Bool) → eqb a 255 ≡ x → cond x (marker_of b) None ≡ Some m
+    → IsNextMarker (a ∷ b ∷ rest) 0 m rest
+here a b rest m true t e =
+    record {
+      within = omega arith;
+      first = eqb-true a 255 t;
+      second = e;
+      after = refl;
+      least = λ j h. absurd (omega arith);
+    }
 here a b rest m false t e = cc
 
-before : (a b : ℕ) (rest : List ℕ) → marker_at a b ≡ None → (n : ℕ) → ((j : ℕ) → j < n → IsNoMarker (b ∷ rest) j) → (j : ℕ) → j < suc n → IsNoMarker (a ∷ b ∷ rest) j
+before : (a b : ℕ) (rest : List ℕ) → marker_at a b ≡ None → (n : ℕ) → ((j : ℕ) → j < n → IsNoMarker (b ∷ rest) j)
+    → (j : ℕ) → j < suc n → IsNoMarker (a ∷ b ∷ rest) j
 before a b rest h n k zero lt = marker_at-none a b h
 before a b rest h n k (suc j) lt =
     let e : suc j + 1 ≡ suc (j + 1) = omega arith in
     λ is. ap (λ (x : ℕ). marker_of (get_or (a ∷ b ∷ rest) x 0)) e ∙ k j (omega arith) is
 
-later : (a b : ℕ) (rest others : List ℕ) (i : ℕ) (m : Marker) → marker_at a b ≡ None → IsNextMarker (b ∷ rest) i m others → IsNextMarker (a ∷ b ∷ rest) (suc i) m others
+later : (a b : ℕ) (rest others : List ℕ) (i : ℕ) (m : Marker) → marker_at a b ≡ None
+    → IsNextMarker (b ∷ rest) i m others → IsNextMarker (a ∷ b ∷ rest) (suc i) m others
 later a b rest others i m h k =
     let e : suc i + 1 ≡ suc (i + 1) = omega arith in
     let f : suc i + 2 ≡ suc (i + 2) = omega arith in
@@ -41,7 +52,8 @@ later a b rest others i m h k =
       least = before a b rest h i k.least;
     }
 
-step : (a b : ℕ) (rest : List ℕ) (x : Option Marker) → marker_at a b ≡ x → Finds (b ∷ rest) (next_marker (b ∷ rest)) → Finds (a ∷ b ∷ rest) (found_or x rest (next_marker (b ∷ rest)))
+step : (a b : ℕ) (rest : List ℕ) (x : Option Marker) → marker_at a b ≡ x → Finds (b ∷ rest) (next_marker (b ∷ rest))
+    → Finds (a ∷ b ∷ rest) (found_or x rest (next_marker (b ∷ rest)))
 step a b rest (Some m) e h = inl (0, m, rest, refl, here a b rest m (eqb a 255) refl e)
 step a b rest None e (inl h) = inl (suc h.0, h.1, h.2, h.3, later a b rest h.2 h.0 h.1 e h.4)
 step a b rest None e (inr h) = inr (h.0, λ j lt. before a b rest e j (λ k l. h.1 k (omega arith)) j (omega arith))
@@ -53,16 +65,19 @@ finds (a ∷ []) = inr (refl, none-short (a ∷ []) (omega arith))
 finds (a ∷ b ∷ rest) = step a b rest (marker_at a b) refl (finds (b ∷ rest))
 
 -- a marker begins at one least index alone
-same-index : (bytes : List ℕ) (i j : ℕ) (m n : Marker) (a b : List ℕ) → IsNextMarker bytes i m a → IsNextMarker bytes j n b → i < j → ⊥
+same-index : (bytes : List ℕ) (i j : ℕ) (m n : Marker) (a b : List ℕ) → IsNextMarker bytes i m a
+    → IsNextMarker bytes j n b → i < j → ⊥
 same-index bytes i j m n a b p q lt = let e = q.least i lt p.first in let d = p.second in cc
 
-only-one : (bytes : List ℕ) (i j : ℕ) (m n : Marker) (a b : List ℕ) → IsNextMarker bytes i m a → IsNextMarker bytes j n b → i ≡ j
+only-one : (bytes : List ℕ) (i j : ℕ) (m n : Marker) (a b : List ℕ) → IsNextMarker bytes i m a
+    → IsNextMarker bytes j n b → i ≡ j
 only-one bytes i j m n a b p q = elim (cases_lt i j) [
   | inl lt ↦ absurd (same-index bytes i j m n a b p q lt)
   | inr le ↦ elim (cases_lt j i) [ inl lt ↦ absurd (same-index bytes j i n m b a q p lt) | inr ge ↦ omega arith ]
 ]
 
-marker-same : (bytes : List ℕ) (i j : ℕ) (m n : Marker) (a b : List ℕ) → IsNextMarker bytes i m a → IsNextMarker bytes j n b → i ≡ j → ◌≡◌ {A = Outcome Marker} (Ok (n, b)) (Ok (m, a))
+marker-same : (bytes : List ℕ) (i j : ℕ) (m n : Marker) (a b : List ℕ) → IsNextMarker bytes i m a
+    → IsNextMarker bytes j n b → i ≡ j → ◌≡◌ {A = Outcome Marker} (Ok (n, b)) (Ok (m, a))
 marker-same bytes i j m n a b p q e =
     let x = p.second in
     let y = q.second in
@@ -71,11 +86,14 @@ marker-same bytes i j m n a b p q e =
     let u : b ≡ a = q.after ∙ ap (λ (k : ℕ). drop (k + 2) bytes) (sym e) ∙ sym p.after in
     ap (λ (k : Marker). Ok (k, b)) t ∙ ap (λ (k : List ℕ). Ok (m, k)) u
 
-found-by : (bytes : List ℕ) (o : Outcome Marker) (i : ℕ) (m : Marker) (rest : List ℕ) → IsNextMarker bytes i m rest → Finds bytes o → o ≡ Ok (m, rest)
-found-by bytes o i m rest p (inl h) = h.3 ∙ marker-same bytes i h.0 m h.1 rest h.2 p h.4 (only-one bytes i h.0 m h.1 rest h.2 p h.4)
+found-by : (bytes : List ℕ) (o : Outcome Marker) (i : ℕ) (m : Marker) (rest : List ℕ) → IsNextMarker bytes i m rest
+    → Finds bytes o → o ≡ Ok (m, rest)
+found-by bytes o i m rest p (inl h) =
+    h.3 ∙ marker-same bytes i h.0 m h.1 rest h.2 p h.4 (only-one bytes i h.0 m h.1 rest h.2 p h.4)
 found-by bytes o i m rest p (inr h) = let e = h.1 i p.within p.first in let d = p.second in absurd cc
 
-only-by : (bytes : List ℕ) (o : Outcome Marker) (m : Marker) (rest : List ℕ) → o ≡ Ok (m, rest) → Finds bytes o → (i : ℕ) × IsNextMarker bytes i m rest
+only-by : (bytes : List ℕ) (o : Outcome Marker) (m : Marker) (rest : List ℕ) → o ≡ Ok (m, rest) → Finds bytes o
+    → (i : ℕ) × IsNextMarker bytes i m rest
 only-by bytes o m rest e (inl h) =
     let s : ◌≡◌ {A = Outcome Marker} (Ok (h.1, h.2)) (Ok (m, rest)) = sym h.3 ∙ e in
     let p : ◌≡◌ {A = Marker × List ℕ} (h.1, h.2) (m, rest) = cc in
@@ -90,10 +108,12 @@ refused-by : (bytes : List ℕ) (o : Outcome Marker) (f : Fault) → o ≡ Err f
 refused-by bytes o f e (inl h) = absurd (false≢true (ap is_ok (sym e ∙ h.3)))
 refused-by bytes o f e (inr h) = h.1
 
-pub is-found : (bytes : List ℕ) (i : ℕ) (m : Marker) (rest : List ℕ) → IsNextMarker bytes i m rest → next_marker bytes ≡ Ok (m, rest)
+pub is-found : (bytes : List ℕ) (i : ℕ) (m : Marker) (rest : List ℕ) → IsNextMarker bytes i m rest
+    → next_marker bytes ≡ Ok (m, rest)
 is-found bytes i m rest p = found-by bytes (next_marker bytes) i m rest p (finds bytes)
 
-pub only-found : (bytes : List ℕ) (m : Marker) (rest : List ℕ) → next_marker bytes ≡ Ok (m, rest) → (i : ℕ) × IsNextMarker bytes i m rest
+pub only-found : (bytes : List ℕ) (m : Marker) (rest : List ℕ) → next_marker bytes ≡ Ok (m, rest)
+    → (i : ℕ) × IsNextMarker bytes i m rest
 only-found bytes m rest e = only-by bytes (next_marker bytes) m rest e (finds bytes)
 
 pub none-found : (bytes : List ℕ) → HasNoMarker bytes → next_marker bytes ≡ Err End

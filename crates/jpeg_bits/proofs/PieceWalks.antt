@@ -19,8 +19,16 @@ one_more z w = w >>= λ w. Ok ((suc w.0.0, z ∷ w.0.1), w.1)
 -- the piece up to zero number r, place by place
 unfoldable pub walk_from : ℕ → ℕ → List ℤ → Text → Walk
 walk_from al r [] t = Ok ((0, []), t)
-walk_from al zero (z ∷ places) t = elim (is_zero z) [ true ↦ Ok ((1, z ∷ places), t) | false ↦ place_from al z t >>= λ f. one_more f.0 (walk_from al zero places f.1) ]
-walk_from al (suc r) (z ∷ places) t = elim (is_zero z) [ true ↦ one_more z (walk_from al r places t) | false ↦ place_from al z t >>= λ f. one_more f.0 (walk_from al (suc r) places f.1) ]
+walk_from al zero (z ∷ places) t =
+    elim (is_zero z) [
+      | true ↦ Ok ((1, z ∷ places), t)
+      | false ↦ place_from al z t >>= λ f. one_more f.0 (walk_from al zero places f.1)
+    ]
+walk_from al (suc r) (z ∷ places) t =
+    elim (is_zero z) [
+      | true ↦ one_more z (walk_from al r places t)
+      | false ↦ place_from al z t >>= λ f. one_more f.0 (walk_from al (suc r) places f.1)
+    ]
 
 abbrev with_rest : ℕ → List ℤ → List ℤ × Text → Walk
 with_rest n rest front = Ok ((n, front.0 ++ drop n rest), front.1)
@@ -36,15 +44,21 @@ abbrev in_front : ℤ → List ℤ × Text → Result (List ℤ × Text) Fault
 in_front z o = Ok (z ∷ o.0, o.1)
 
 -- one place of a piece, and then the others
-piece_step : (al n : ℕ) (z : ℤ) (rest : List ℤ) (t : Text) → piece_of al (suc n) (z ∷ rest) t ≡ (place_from al z t >>= λ (f : ℤ × Text). one_more f.0 (piece_of al n rest f.1))
+piece_step : (al n : ℕ) (z : ℤ) (rest : List ℤ) (t : Text) → piece_of al (suc n) (z ∷ rest) t ≡ (place_from al z t
+    >>= λ (f : ℤ × Text). one_more f.0 (piece_of al n rest f.1))
 unfolding piece_of corrected
 piece_step al n z rest t = by_place (place_from al z t)
   where
-    by_place : (o : Result (ℤ × Text) Fault) → ((o >>= λ (f : ℤ × Text). corrected al (take n rest) f.1 >>= λ (x : List ℤ × Text). in_front f.0 x) >>= λ (front : List ℤ × Text). with_rest (suc n) (z ∷ rest) front)
-        ≡ (o >>= λ (f : ℤ × Text). one_more f.0 (corrected al (take n rest) f.1 >>= λ (front : List ℤ × Text). with_rest n rest front))
+    by_place : (o : Result (ℤ × Text) Fault)
+        → ((o >>= λ (f : ℤ × Text). corrected al (take n rest) f.1 >>= λ (x : List ℤ × Text). in_front f.0 x)
+        >>= λ (front : List ℤ × Text). with_rest (suc n) (z ∷ rest) front)
+        ≡ (o >>= λ (f : ℤ × Text). one_more f.0 (corrected al (take n rest) f.1
+        >>= λ (front : List ℤ × Text). with_rest n rest front))
     by_place (Ok f) = under_other f.0 (corrected al (take n rest) f.1)
       where
-        under_other : (y : ℤ) (o : Result (List ℤ × Text) Fault) → ((o >>= λ (x : List ℤ × Text). in_front y x) >>= λ (front : List ℤ × Text). with_rest (suc n) (z ∷ rest) front) ≡ one_more y (o >>= λ (front : List ℤ × Text). with_rest n rest front)
+        under_other : (y : ℤ) (o : Result (List ℤ × Text) Fault) → ((o >>= λ (x : List ℤ × Text). in_front y x)
+            >>= λ (front : List ℤ × Text). with_rest (suc n) (z ∷ rest) front) ≡ one_more y (o
+            >>= λ (front : List ℤ × Text). with_rest n rest front)
         under_other y (Ok x) = refl
         under_other y (Err e) = refl
     by_place (Err e) = refl
@@ -54,30 +68,41 @@ unfolding piece_of corrected
 piece_zero al rest t = refl
 
 -- a zero that ends the piece
-walk_ends : (al : ℕ) (z : ℤ) (places : List ℤ) (t : Text) → is_zero z ≡ true → piece_of al 1 (z ∷ places) t ≡ Ok ((1, z ∷ places), t)
+walk_ends : (al : ℕ) (z : ℤ) (places : List ℤ) (t : Text) → is_zero z ≡ true
+    → piece_of al 1 (z ∷ places) t ≡ Ok ((1, z ∷ places), t)
 walk_ends al z places t e =
-    piece_step al 0 z places t ∙ ap (λ o. o >>= λ (f : ℤ × Text). one_more f.0 (piece_of al 0 places f.1)) (place_zero al z t e) ∙ ap (one_more z) (piece_zero al places t)
+    piece_step al 0 z places t ∙ ap (λ o. o >>= λ (f : ℤ × Text). one_more f.0 (piece_of al 0 places f.1))
+    (place_zero al z t e) ∙ ap (one_more z) (piece_zero al places t)
 
-walk_over : (al n : ℕ) (z : ℤ) (places : List ℤ) (t : Text) (w : Walk) → is_zero z ≡ true → piece_of al n places t ≡ w → piece_of al (suc n) (z ∷ places) t ≡ one_more z w
+walk_over : (al n : ℕ) (z : ℤ) (places : List ℤ) (t : Text) (w : Walk) → is_zero z ≡ true → piece_of al n places t ≡ w
+    → piece_of al (suc n) (z ∷ places) t ≡ one_more z w
 walk_over al n z places t w e h =
-    piece_step al n z places t ∙ ap (λ o. o >>= λ (f : ℤ × Text). one_more f.0 (piece_of al n places f.1)) (place_zero al z t e) ∙ ap (one_more z) h
+    piece_step al n z places t ∙ ap (λ o. o >>= λ (f : ℤ × Text). one_more f.0 (piece_of al n places f.1))
+    (place_zero al z t e) ∙ ap (one_more z) h
 
-walk_value_at : (al n : ℕ) (z : ℤ) (places : List ℤ) (t : Text) (w : Text → Walk) → ((t : Text) → piece_of al n places t ≡ w t) → piece_of al (suc n) (z ∷ places) t ≡ (place_from al z t >>= λ (f : ℤ × Text). one_more f.0 (w f.1))
-walk_value_at al n z places t w h = piece_step al n z places t ∙ bind_same (place_from al z t) _ _ (λ f. ap (one_more f.0) (h f.1))
+walk_value_at : (al n : ℕ) (z : ℤ) (places : List ℤ) (t : Text) (w : Text → Walk)
+    → ((t : Text) → piece_of al n places t ≡ w t) → piece_of al (suc n) (z ∷ places) t ≡ (place_from al z t
+    >>= λ (f : ℤ × Text). one_more f.0 (w f.1))
+walk_value_at al n z places t w h = piece_step al n z places t
+    ∙ bind_same (place_from al z t) _ _ (λ f. ap (one_more f.0) (h f.1))
 
 pub by_bool : {P : Type 0} (b : Bool) → (b ≡ true → P) → (b ≡ false → P) → P
 by_bool true f g = f refl
 by_bool false f g = g refl
 
-pub piece_walk : (al r : ℕ) (rest : List ℤ) (t : Text) → piece_of al (through_zero r rest) rest t ≡ walk_from al r rest t
+pub piece_walk : (al r : ℕ) (rest : List ℤ) (t : Text) → piece_of al (through_zero r rest) rest t ≡ walk_from al r rest
+    t
 unfolding walk_from through_zero
 piece_walk al r [] t = piece_zero al [] t
 piece_walk al zero (z ∷ places) t =
     by_bool (is_zero z) (λ e. rw (e, through_zero, walk_from) (walk_ends al z places t e))
-    (λ e. rw (e, through_zero, walk_from) (walk_value_at al (through_zero zero places) z places t (walk_from al zero places) (λ t. piece_walk al zero places t)))
+    (λ e. rw (e, through_zero, walk_from) (walk_value_at al (through_zero zero places) z places t
+    (walk_from al zero places) (λ t. piece_walk al zero places t)))
 piece_walk al (suc r) (z ∷ places) t =
-    by_bool (is_zero z) (λ e. rw (e, through_zero, walk_from) (walk_over al (through_zero r places) z places t (walk_from al r places t) e (piece_walk al r places t)))
-    (λ e. rw (e, through_zero, walk_from) (walk_value_at al (through_zero (suc r) places) z places t (walk_from al (suc r) places) (λ t. piece_walk al (suc r) places t)))
+    by_bool (is_zero z) (λ e. rw (e, through_zero, walk_from) (walk_over al (through_zero r places) z places t
+    (walk_from al r places t) e (piece_walk al r places t)))
+    (λ e. rw (e, through_zero, walk_from) (walk_value_at al (through_zero (suc r) places) z places t
+    (walk_from al (suc r) places) (λ t. piece_walk al (suc r) places t)))
 
 abbrev pub after : ℕ → List ℤ → (ℕ × List ℤ) × Text → Walk
 after i front w = Ok ((i + w.0.0, front ++ w.0.1), w.1)
@@ -97,45 +122,58 @@ walk_all al r rest t = by_walk (walk_from al r rest t) ∙ sym (piece_walk al r 
     by_walk (Ok x) = ap (λ n. Ok ((n, x.0.1), x.1)) (omega arith)
     by_walk (Err e) = refl
 
-pub walk_none : (al r : ℕ) (cur : List ℤ) (i : ℕ) (t : Text) → length cur ≤ i → walk_left al r cur i t ≡ Ok ((i, cur), t)
+pub walk_none : (al r : ℕ) (cur : List ℤ) (i : ℕ) (t : Text) → length cur ≤ i → walk_left al r cur i t ≡ Ok (
+  (i, cur),
+  t,
+)
 unfolding walk_left walk_from
 walk_none al r cur i t h =
     let n : i + 0 ≡ i = omega arith in
     ap (λ (ys : List ℤ). walk_from al r ys t >>= λ w. after i (take i cur) w) (drop_all i cur h)
-    ∙ ap (λ (ys : List ℤ). Ok ((i + 0, ys), t)) (append-nil (take i cur) ∙ take_all i cur h) ∙ ap (λ n. Ok ((n, cur), t)) n
+    ∙ ap (λ (ys : List ℤ). Ok ((i + 0, ys), t)) (append-nil (take i cur) ∙ take_all i cur h)
+    ∙ ap (λ n. Ok ((n, cur), t)) n
 
-more_left : (i : ℕ) (front : List ℤ) (z : ℤ) (w : Walk) → (one_more z w >>= λ w. after i front w) ≡ (w >>= λ w. after (i + 1) (front ++ z ∷ []) w)
+more_left : (i : ℕ) (front : List ℤ) (z : ℤ) (w : Walk) → (one_more z w >>= λ w. after i front w) ≡ (w >>= λ w.
+    after (i + 1) (front ++ z ∷ []) w)
 more_left i front z (Ok x) =
     let n : i + suc x.0.0 ≡ i + 1 + x.0.0 = omega arith in
-    ap (λ n. Ok ((n, front ++ z ∷ x.0.1), x.1)) n ∙ ap (λ (ys : List ℤ). Ok ((i + 1 + x.0.0, ys), x.1)) (sym (append_assoc front (z ∷ []) x.0.1))
+    ap (λ n. Ok ((n, front ++ z ∷ x.0.1), x.1)) n ∙ ap (λ (ys : List ℤ). Ok ((i + 1 + x.0.0, ys), x.1))
+    (sym (append_assoc front (z ∷ []) x.0.1))
 more_left i front z (Err e) = refl
 
-from_here : (cur : List ℤ) (i : ℕ) (z : ℤ) → i < length cur → get_or cur i (pos 0) ≡ z → drop i cur ≡ z ∷ drop (i + 1) cur
+from_here : (cur : List ℤ) (i : ℕ) (z : ℤ) → i < length cur → get_or cur i (pos 0) ≡ z
+    → drop i cur ≡ z ∷ drop (i + 1) cur
 from_here cur i z h e = drop_more cur i (pos 0) h ∙ ap (λ (z : ℤ). z ∷ drop (i + 1) cur) e
 
-through_here : (cur : List ℤ) (i : ℕ) (z : ℤ) → i < length cur → get_or cur i (pos 0) ≡ z → take i cur ++ z ∷ [] ≡ take (i + 1) cur
+through_here : (cur : List ℤ) (i : ℕ) (z : ℤ) → i < length cur → get_or cur i (pos 0) ≡ z
+    → take i cur ++ z ∷ [] ≡ take (i + 1) cur
 through_here cur i z h e =
     sym (take_more_set cur i z h) ∙ ap (take (i + 1)) (ap (λ (z : ℤ). set cur i z) (sym e) ∙ set-get_or cur i (pos 0))
 
 -- the zero that ends the piece
-pub walk_stop : (al r : ℕ) (cur : List ℤ) (i : ℕ) (t : Text) → i < length cur → get_or cur i (pos 0) ≡ pos 0 → r ≡ 0 → walk_left al r cur i t ≡ Ok ((i + 1, cur), t)
+pub walk_stop : (al r : ℕ) (cur : List ℤ) (i : ℕ) (t : Text) → i < length cur → get_or cur i (pos 0) ≡ pos 0 → r ≡ 0
+    → walk_left al r cur i t ≡ Ok ((i + 1, cur), t)
 unfolding walk_left walk_from
 walk_stop al r cur i t h e z =
     rw z (ap (λ (ys : List ℤ). walk_from al 0 ys t >>= λ w. after i (take i cur) w) (from_here cur i (pos 0) h e)
-    ∙ ap (λ (ys : List ℤ). Ok ((i + 1, take i cur ++ ys), t)) (sym (from_here cur i (pos 0) h e)) ∙ ap (λ (ys : List ℤ). Ok ((i + 1, ys), t)) (take-append-drop i cur))
+    ∙ ap (λ (ys : List ℤ). Ok ((i + 1, take i cur ++ ys), t)) (sym (from_here cur i (pos 0) h e))
+    ∙ ap (λ (ys : List ℤ). Ok ((i + 1, ys), t)) (take-append-drop i cur))
 
 -- a zero before it
-pub walk_skip : (al r : ℕ) (cur : List ℤ) (i : ℕ) (t : Text) → i < length cur → get_or cur i (pos 0) ≡ pos 0 → 0 < r → walk_left al r cur i t ≡ walk_left al (r - 1) cur (i + 1) t
+pub walk_skip : (al r : ℕ) (cur : List ℤ) (i : ℕ) (t : Text) → i < length cur → get_or cur i (pos 0) ≡ pos 0 → 0 < r
+    → walk_left al r cur i t ≡ walk_left al (r - 1) cur (i + 1) t
 unfolding walk_left walk_from
 walk_skip al zero cur i t h e k = absurd (omega arith)
 walk_skip al (suc r) cur i t h e k =
     let n : suc r - 1 ≡ r = omega arith in
     ap (λ (ys : List ℤ). walk_from al (suc r) ys t >>= λ w. after i (take i cur) w) (from_here cur i (pos 0) h e)
     ∙ more_left i (take i cur) (pos 0) (walk_from al r (drop (i + 1) cur) t)
-    ∙ ap (λ (ys : List ℤ). walk_from al r (drop (i + 1) cur) t >>= λ w. after (i + 1) ys w) (through_here cur i (pos 0) h e)
+    ∙ ap (λ (ys : List ℤ). walk_from al r (drop (i + 1) cur) t >>= λ w. after (i + 1) ys w)
+    (through_here cur i (pos 0) h e)
     ∙ ap (λ m. walk_from al m (drop (i + 1) cur) t >>= λ w. after (i + 1) (take (i + 1) cur) w) (sym n)
 
-walk_nonzero : (al r : ℕ) (z : ℤ) (rest : List ℤ) (t : Text) → is_zero z ≡ false → walk_from al r (z ∷ rest) t ≡ (place_from al z t >>= λ (f : ℤ × Text). one_more f.0 (walk_from al r rest f.1))
+walk_nonzero : (al r : ℕ) (z : ℤ) (rest : List ℤ) (t : Text) → is_zero z ≡ false
+    → walk_from al r (z ∷ rest) t ≡ (place_from al z t >>= λ (f : ℤ × Text). one_more f.0 (walk_from al r rest f.1))
 unfolding walk_from
 walk_nonzero al zero z rest t e = rw (e, walk_from) refl
 walk_nonzero al (suc r) z rest t e = rw (e, walk_from) refl
@@ -145,34 +183,43 @@ not_zero (pos zero) h = absurd (h refl)
 not_zero (pos (suc n)) h = refl
 not_zero (negsuc n) h = refl
 
-bind_bind : (o : Result (ℤ × Text) Fault) (f : ℤ × Text → Walk) (i : ℕ) (front : List ℤ) → ((o >>= f) >>= λ w. after i front w) ≡ (o >>= λ (x : ℤ × Text). (f x >>= λ w. after i front w))
+bind_bind : (o : Result (ℤ × Text) Fault) (f : ℤ × Text → Walk) (i : ℕ) (front : List ℤ)
+    → ((o >>= f) >>= λ w. after i front w) ≡ (o >>= λ (x : ℤ × Text). (f x >>= λ w. after i front w))
 bind_bind (Ok x) f i front = refl
 bind_bind (Err e) f i front = refl
 
 -- a place that isn't zero
 pub walk_value : (al r : ℕ) (cur : List ℤ) (i : ℕ) (t : Text) → i < length cur → (get_or cur i (pos 0) ≡ pos 0 → ⊥)
-    → walk_left al r cur i t ≡ (place_from al (get_or cur i (pos 0)) t >>= λ (f : ℤ × Text). walk_left al r (set cur i f.0) (i + 1) f.1)
+    → walk_left al r cur i t ≡ (place_from al (get_or cur i (pos 0)) t
+    >>= λ (f : ℤ × Text). walk_left al r (set cur i f.0) (i + 1) f.1)
 unfolding walk_left
 walk_value al r cur i t h e =
     let z = get_or cur i (pos 0) in
     ap (λ (ys : List ℤ). walk_from al r ys t >>= λ w. after i (take i cur) w) (from_here cur i z h refl)
     ∙ ap (λ o. o >>= λ w. after i (take i cur) w) (walk_nonzero al r z (drop (i + 1) cur) t (not_zero z e))
-    ∙ bind_bind (place_from al z t) (λ (f : ℤ × Text). one_more f.0 (walk_from al r (drop (i + 1) cur) f.1)) i (take i cur)
+    ∙ bind_bind (place_from al z t) (λ (f : ℤ × Text). one_more f.0 (walk_from al r (drop (i + 1) cur) f.1)) i
+    (take i cur)
     ∙ bind_same (place_from al z t) _ _ (λ f.
     more_left i (take i cur) f.0 (walk_from al r (drop (i + 1) cur) f.1)
-    ∙ ap (λ (ys : List ℤ). walk_from al r (drop (i + 1) cur) f.1 >>= λ w. after (i + 1) ys w) (sym (take_more_set cur i f.0 h))
-    ∙ ap (λ (ys : List ℤ). walk_from al r ys f.1 >>= λ w. after (i + 1) (take (i + 1) (set cur i f.0)) w) (sym (drop-set-lt (i + 1) cur i f.0 (omega arith))))
+    ∙ ap (λ (ys : List ℤ). walk_from al r (drop (i + 1) cur) f.1 >>= λ w. after (i + 1) ys w)
+    (sym (take_more_set cur i f.0 h))
+    ∙ ap (λ (ys : List ℤ). walk_from al r ys f.1 >>= λ w. after (i + 1) (take (i + 1) (set cur i f.0)) w)
+    (sym (drop-set-lt (i + 1) cur i f.0 (omega arith))))
 
 -- a step at a place that isn't zero, which is read as y
-pub value_step : (al r : ℕ) (cur : List ℤ) (i : ℕ) (x y z : ℤ) (t u : Text) → i < length cur → (get_or cur i (pos 0) ≡ pos 0 → ⊥) → x ≡ get_or cur i (pos 0) → y ≡ z
+pub value_step : (al r : ℕ) (cur : List ℤ) (i : ℕ) (x y z : ℤ) (t u : Text) → i < length cur
+    → (get_or cur i (pos 0) ≡ pos 0 → ⊥) → x ≡ get_or cur i (pos 0) → y ≡ z
     → place_from al x t ≡ Ok (z, u) → walk_left al r cur i t ≡ walk_left al r (set cur i y) (i + 1) u
 value_step al r cur i x y z t u h e p q o =
     walk_value al r cur i t h e
-    ∙ ap (λ (k : Result (ℤ × Text) Fault). k >>= λ (f : ℤ × Text). walk_left al r (set cur i f.0) (i + 1) f.1) (ap (λ (x : ℤ). place_from al x t) (sym p) ∙ o)
+    ∙ ap (λ (k : Result (ℤ × Text) Fault). k >>= λ (f : ℤ × Text). walk_left al r (set cur i f.0) (i + 1) f.1)
+    (ap (λ (x : ℤ). place_from al x t) (sym p) ∙ o)
     ∙ ap (λ (z : ℤ). walk_left al r (set cur i z) (i + 1) u) (sym q)
 
-pub value_refused : (al r : ℕ) (cur : List ℤ) (i : ℕ) (x : ℤ) (t : Text) (f : Fault) → i < length cur → (get_or cur i (pos 0) ≡ pos 0 → ⊥) → x ≡ get_or cur i (pos 0)
+pub value_refused : (al r : ℕ) (cur : List ℤ) (i : ℕ) (x : ℤ) (t : Text) (f : Fault) → i < length cur
+    → (get_or cur i (pos 0) ≡ pos 0 → ⊥) → x ≡ get_or cur i (pos 0)
     → place_from al x t ≡ Err f → walk_left al r cur i t ≡ Err f
 value_refused al r cur i x t f h e p o =
     walk_value al r cur i t h e
-    ∙ ap (λ (k : Result (ℤ × Text) Fault). k >>= λ (f : ℤ × Text). walk_left al r (set cur i f.0) (i + 1) f.1) (ap (λ (x : ℤ). place_from al x t) (sym p) ∙ o)
+    ∙ ap (λ (k : Result (ℤ × Text) Fault). k >>= λ (f : ℤ × Text). walk_left al r (set cur i f.0) (i + 1) f.1)
+    (ap (λ (x : ℤ). place_from al x t) (sym p) ∙ o)

@@ -20,30 +20,45 @@ use Rattle.jpeg_bits.proofs.PieceWalks.{by_bool, Walk}
 
 through_zero_pos : (r : ℕ) (z : ℤ) (places : List ℤ) → 0 < through_zero r (z ∷ places)
 unfolding through_zero
-through_zero_pos zero z places = by_bool (is_zero z) (λ e. rw (e, through_zero) (omega arith)) (λ e. rw (e, through_zero) (omega arith))
-through_zero_pos (suc r) z places = by_bool (is_zero z) (λ e. rw (e, through_zero) (omega arith)) (λ e. rw (e, through_zero) (omega arith))
+through_zero_pos zero z places = by_bool (is_zero z) (λ e. rw (e, through_zero) (omega arith)) (λ e. rw (
+  e,
+  through_zero,
+) (omega arith))
+through_zero_pos (suc r) z places = by_bool (is_zero z) (λ e. rw (e, through_zero) (omega arith)) (λ e. rw (
+  e,
+  through_zero,
+) (omega arith))
 
 through_zero_le : (r : ℕ) (places : List ℤ) → through_zero r places ≤ length places
 unfolding through_zero
 through_zero_le r [] = omega arith
-through_zero_le zero (z ∷ places) = let h = through_zero_le zero places in by_bool (is_zero z) (λ e. rw (e, through_zero) (omega arith)) (λ e. rw (e, through_zero) (omega arith))
-through_zero_le (suc r) (z ∷ places) = let h = through_zero_le r places in let k = through_zero_le (suc r) places in by_bool (is_zero z) (λ e. rw (e, through_zero) (omega arith)) (λ e. rw (e, through_zero) (omega arith))
+through_zero_le zero (z ∷ places) = let h = through_zero_le zero places in
+    by_bool (is_zero z) (λ e. rw (e, through_zero) (omega arith)) (λ e. rw (e, through_zero) (omega arith))
+through_zero_le (suc r) (z ∷ places) = let h = through_zero_le r places in let k = through_zero_le (suc r) places in
+    by_bool (is_zero z) (λ e. rw (e, through_zero) (omega arith)) (λ e. rw (e, through_zero) (omega arith))
 
 -- where there are too few zeros the piece is all places
 pub through_all : (r : ℕ) (places : List ℤ) → length places ≤ r → through_zero r places ≡ length places
 unfolding through_zero
 through_all r [] h = refl
 through_all zero (z ∷ places) h = absurd (omega arith)
-through_all (suc r) (z ∷ places) h = let p = through_all r places (omega arith) in let q = through_all (suc r) places (omega arith) in by_bool (is_zero z) (λ e. rw (e, through_zero) (omega arith)) (λ e. rw (e, through_zero) (omega arith))
+through_all (suc r) (z ∷ places) h = let p = through_all r places (omega arith) in
+    let q = through_all (suc r) places (omega arith) in
+    by_bool (is_zero z) (λ e. rw (e, through_zero) (omega arith)) (λ e. rw (e, through_zero) (omega arith))
 
-piece-same : (al : ℕ) (f g : ReadsBand) (x : ℤ) (places : List ℤ) (k : Refinement) (t : Text) → ((j : ℕ) (t : Text) → 0 < j → f (drop j (x ∷ places)) t ≡ g (drop j (x ∷ places)) t)
+piece-same : (al : ℕ) (f g : ReadsBand) (x : ℤ) (places : List ℤ) (k : Refinement) (t : Text)
+    → ((j : ℕ) (t : Text) → 0 < j → f (drop j (x ∷ places)) t ≡ g (drop j (x ∷ places)) t)
     → refined_piece al f (x ∷ places) k t ≡ refined_piece al g (x ∷ places) k t
 unfolding refined_piece
-piece-same al f g x places Zeros t h = bind_same (corrected al (take (through_zero 15 (x ∷ places)) (x ∷ places)) t) _ _ (λ front. ap (before front.0) (h (through_zero 15 (x ∷ places)) front.1 (through_zero_pos 15 x places)))
-piece-same al f g x places (New r v) t h = bind_same (corrected al (take (through_zero r (x ∷ places)) (x ∷ places)) t) _ _ (λ front. ap (before (with_last v front.0)) (h (through_zero r (x ∷ places)) front.1 (through_zero_pos r x places)))
+piece-same al f g x places Zeros t h = bind_same (corrected al (take (through_zero 15 (x ∷ places)) (x ∷ places)) t) _ _
+    (λ front. ap (before front.0) (h (through_zero 15 (x ∷ places)) front.1 (through_zero_pos 15 x places)))
+piece-same al f g x places (New r v) t h = bind_same (corrected al (take (through_zero r (x ∷ places)) (x ∷ places)) t)
+    _ _ (λ front. ap (before (with_last v front.0)) (h (through_zero r (x ∷ places)) front.1
+    (through_zero_pos r x places)))
 piece-same al f g x places (End run) t h = refl
 
-refined-fuel : (table : Table) (al n m : ℕ) (rest : List ℤ) (t : Text) → length rest ≤ n → length rest ≤ m → refined_ac table al n rest t ≡ refined_ac table al m rest t
+refined-fuel : (table : Table) (al n m : ℕ) (rest : List ℤ) (t : Text) → length rest ≤ n → length rest ≤ m
+    → refined_ac table al n rest t ≡ refined_ac table al m rest t
 unfolding refined_ac
 refined-fuel table al n m [] t h k = refl
 refined-fuel table al zero m (x ∷ rest) t h k = absurd (omega arith)
@@ -56,7 +71,8 @@ refined-fuel table al (suc n) (suc m) (x ∷ rest) t h k =
 
 -- a band is its first piece and then a band
 band-step : (table : Table) (al : ℕ) (rest : List ℤ) (t : Text) → 0 < length rest
-    → refined_band_from table al rest t ≡ (refinement_from table al t >>= λ (k : Refinement × Text). refined_piece al (refined_band_from table al) rest k.0 k.1)
+    → refined_band_from table al rest t ≡ (refinement_from table al t >>= λ (k : Refinement × Text). refined_piece al
+    (refined_band_from table al) rest k.0 k.1)
 unfolding refined_band_from refined_ac
 band-step table al [] t h = absurd (omega arith)
 band-step table al (x ∷ rest) t h =
@@ -71,26 +87,33 @@ refined_left table al band i t = before (take i band) (refined_band_from table a
 
 -- what a token at place i makes of the band
 unfoldable pub refined_step : Table → ℕ → List ℤ → ℕ → Refinement → Text → Result (Band × Text) Fault
-refined_step table al band i k t = before (take i band) (refined_piece al (refined_band_from table al) (drop i band) k t)
+refined_step table al band i k t = before (take i band) (refined_piece al (refined_band_from table al) (drop i band) k
+    t)
 
-bind_before : (a : List ℤ) (r : Result (Refinement × Text) Fault) (f : Refinement × Text → Result (Band × Text) Fault) → before a (r >>= f) ≡ (r >>= λ (k : Refinement × Text). before a (f k))
+bind_before : (a : List ℤ) (r : Result (Refinement × Text) Fault) (f : Refinement × Text → Result (Band × Text) Fault)
+    → before a (r >>= f) ≡ (r >>= λ (k : Refinement × Text). before a (f k))
 bind_before a (Ok x) f = refl
 bind_before a (Err e) f = refl
 
 pub refined_more : (table : Table) (al : ℕ) (band : List ℤ) (i : ℕ) (t : Text) → i < length band
-    → refined_left table al band i t ≡ (refinement_from table al t >>= λ (k : Refinement × Text). refined_step table al band i k.0 k.1)
+    → refined_left table al band i t ≡ (refinement_from table al t >>= λ (k : Refinement × Text). refined_step table al
+    band i k.0 k.1)
 unfolding refined_left refined_step
 refined_more table al band i t h =
     let d = length-drop i band in
     ap (before (take i band)) (band-step table al (drop i band) t (omega arith))
-    ∙ bind_before (take i band) (refinement_from table al t) (λ (k : Refinement × Text). refined_piece al (refined_band_from table al) (drop i band) k.0 k.1)
+    ∙ bind_before (take i band) (refinement_from table al t) (λ (k : Refinement × Text). refined_piece al
+    (refined_band_from table al) (drop i band) k.0 k.1)
 
-pub refined_none : (table : Table) (al : ℕ) (band : List ℤ) (i : ℕ) (t : Text) → length band ≤ i → refined_left table al band i t ≡ Ok ((band, 0), t)
+pub refined_none : (table : Table) (al : ℕ) (band : List ℤ) (i : ℕ) (t : Text) → length band ≤ i
+    → refined_left table al band i t ≡ Ok ((band, 0), t)
 unfolding refined_left refined_band_from refined_ac
 refined_none table al band i t h =
-    ap (λ (ys : List ℤ). before (take i band) (refined_band_from table al ys t)) (drop_all i band h) ∙ ap (λ (ys : List ℤ). Ok ((ys, 0), t)) (append-nil (take i band) ∙ take_all i band h)
+    ap (λ (ys : List ℤ). before (take i band) (refined_band_from table al ys t)) (drop_all i band h)
+    ∙ ap (λ (ys : List ℤ). Ok ((ys, 0), t)) (append-nil (take i band) ∙ take_all i band h)
 
-pub refined_all : (table : Table) (al : ℕ) (band : List ℤ) (t : Text) → refined_left table al band 0 t ≡ refined_band_from table al band t
+pub refined_all : (table : Table) (al : ℕ) (band : List ℤ) (t : Text)
+    → refined_left table al band 0 t ≡ refined_band_from table al band t
 unfolding refined_left
 refined_all table al band t = by_result (refined_band_from table al band t)
   where
@@ -110,11 +133,14 @@ unfolding corrected
 corrected-length al [] t = refl
 corrected-length al (z ∷ places) t = by_place (place_from al z t) (λ t. corrected-length al places t)
   where
-    by_others : (y : ℤ) (o : Result (List ℤ × Text) Fault) → KeepsLength (length places) o → KeepsLength (length (z ∷ places)) (o >>= λ (o : List ℤ × Text). in_front y o)
+    by_others : (y : ℤ) (o : Result (List ℤ × Text) Fault) → KeepsLength (length places) o
+        → KeepsLength (length (z ∷ places)) (o >>= λ (o : List ℤ × Text). in_front y o)
     by_others y (Ok x) h = omega (arith, h)
     by_others y (Err e) h = tt
 
-    by_place : (f : Result (ℤ × Text) Fault) → ((t : Text) → KeepsLength (length places) (corrected al places t)) → KeepsLength (length (z ∷ places)) (f >>= λ (f : ℤ × Text). corrected al places f.1 >>= λ (o : List ℤ × Text). in_front f.0 o)
+    by_place : (f : Result (ℤ × Text) Fault) → ((t : Text) → KeepsLength (length places) (corrected al places t))
+        → KeepsLength (length (z ∷ places)) (f >>= λ (f : ℤ × Text). corrected al places f.1
+        >>= λ (o : List ℤ × Text). in_front f.0 o)
     by_place (Ok x) h = by_others x.0 (corrected al places x.1) (h x.1)
     by_place (Err e) h = tt
 
@@ -135,11 +161,13 @@ ended run all = Ok ((all.0, run), all.1)
 length_short : (n : ℕ) (xs : List ℤ) → n ≤ length xs → length (take n xs) ≡ n
 length_short n xs h = length-take-le n xs h
 
-corrected_refused : (al r : ℕ) (rest : List ℤ) (t : Text) (f : Fault) → piece_from al r rest t ≡ Err f → corrected al (take (through_zero r rest) rest) t ≡ Err f
+corrected_refused : (al r : ℕ) (rest : List ℤ) (t : Text) (f : Fault) → piece_from al r rest t ≡ Err f
+    → corrected al (take (through_zero r rest) rest) t ≡ Err f
 unfolding piece_from fault_of
 corrected_refused al r rest t f h = by_result (corrected al (take (through_zero r rest) rest) t) h
   where
-    by_result : (o : Result (List ℤ × Text) Fault) → (o >>= λ (front : List ℤ × Text). pieced (through_zero r rest) rest front) ≡ Err f → o ≡ Err f
+    by_result : (o : Result (List ℤ × Text) Fault)
+        → (o >>= λ (front : List ℤ × Text). pieced (through_zero r rest) rest front) ≡ Err f → o ≡ Err f
     by_result (Ok x) e = absurd (false≢true (ap is_ok (sym e)))
     by_result (Err g) e = ap (λ (w : Walk). fault_of g w) e
 
@@ -150,32 +178,42 @@ zeros_of all (New r v) = r
 zeros_of all (End run) = all
 
 -- a refusal within a piece
-pub step_refused : (table : Table) (al : ℕ) (band rest : List ℤ) (i all : ℕ) (k : Refinement) (t : Text) (f : Fault) → rest ≡ drop i band → length rest ≤ all
+pub step_refused : (table : Table) (al : ℕ) (band rest : List ℤ) (i all : ℕ) (k : Refinement) (t : Text) (f : Fault)
+    → rest ≡ drop i band → length rest ≤ all
     → piece_from al (zeros_of all k) rest t ≡ Err f → refined_step table al band i k t ≡ Err f
 unfolding refined_step refined_piece
 step_refused table al band rest i all Zeros t f e le h =
-    ap (λ (o : Result (List ℤ × Text) Fault). before (take i band) (o >>= λ front. before front.0 (refined_band_from table al (drop (through_zero 15 (drop i band)) (drop i band)) front.1)))
+    ap (λ (o : Result (List ℤ × Text) Fault). before (take i band) (o >>= λ front.
+    before front.0 (refined_band_from table al (drop (through_zero 15 (drop i band)) (drop i band)) front.1)))
     (corrected_refused al 15 (drop i band) t f (ap (λ (ys : List ℤ). piece_from al 15 ys t) (sym e) ∙ h))
 step_refused table al band rest i all (New r v) t f e le h =
-    ap (λ (o : Result (List ℤ × Text) Fault). before (take i band) (o >>= λ front. before (with_last v front.0) (refined_band_from table al (drop (through_zero r (drop i band)) (drop i band)) front.1)))
+    ap (λ (o : Result (List ℤ × Text) Fault). before (take i band) (o >>= λ front.
+    before (with_last v front.0) (refined_band_from table al (drop (through_zero r (drop i band)) (drop i band))
+    front.1)))
     (corrected_refused al r (drop i band) t f (ap (λ (ys : List ℤ). piece_from al r ys t) (sym e) ∙ h))
 step_refused table al band rest i all (End run) t f e le h =
     ap (λ (o : Result (List ℤ × Text) Fault). before (take i band) (o >>= λ x. ended run x))
-    (ap (λ (ys : List ℤ). corrected al ys t) (sym e) ∙ ap (λ (ys : List ℤ). corrected al ys t) (sym (take_all (through_zero all rest) rest (omega (arith, through_all all rest le)))) ∙ corrected_refused al all rest t f h)
+    (ap (λ (ys : List ℤ). corrected al ys t) (sym e)
+    ∙ ap (λ (ys : List ℤ). corrected al ys t)
+    (sym (take_all (through_zero all rest) rest (omega (arith, through_all all rest le))))
+    ∙ corrected_refused al all rest t f h)
 
 take_front : (k : ℕ) (xs ys : List ℤ) → length xs ≡ k → take k (xs ++ ys) ≡ xs
 take_front k xs ys e = take-append-le k xs ys (omega arith) ∙ take_all k xs (omega arith)
 
 drop_front : (k : ℕ) (xs ys : List ℤ) → length xs ≡ k → drop k (xs ++ ys) ≡ ys
-drop_front k xs ys e = drop-append-le k xs ys (omega arith) ∙ ap (λ (zs : List ℤ). zs ++ ys) (drop_all k xs (omega arith))
+drop_front k xs ys e = drop-append-le k xs ys (omega arith)
+    ∙ ap (λ (zs : List ℤ). zs ++ ys) (drop_all k xs (omega arith))
 
-set_last : (a front : List ℤ) (v : ℤ) (k : ℕ) → k + 1 ≡ length a + length front → 0 < length front → set (a ++ front) k v ≡ a ++ with_last v front
+set_last : (a front : List ℤ) (v : ℤ) (k : ℕ) → k + 1 ≡ length a + length front → 0 < length front
+    → set (a ++ front) k v ≡ a ++ with_last v front
 unfolding with_last
 set_last [] [] v k e h = absurd (omega arith)
 set_last [] (y ∷ []) v zero e h = refl
 set_last [] (y ∷ []) v (suc k) e h = absurd (omega arith)
 set_last [] (y ∷ z ∷ ps) v zero e h = absurd (omega arith)
-set_last [] (y ∷ z ∷ ps) v (suc k) e h = ap (λ (xs : List ℤ). y ∷ xs) (set_last [] (z ∷ ps) v k (omega arith) (omega arith))
+set_last [] (y ∷ z ∷ ps) v (suc k) e h =
+    ap (λ (xs : List ℤ). y ∷ xs) (set_last [] (z ∷ ps) v k (omega arith) (omega arith))
 set_last (x ∷ a) front v zero e h = absurd (omega arith)
 set_last (x ∷ a) front v (suc k) e h = ap (λ (xs : List ℤ). x ∷ xs) (set_last a front v k (omega arith) h)
 
@@ -187,67 +225,94 @@ with_last-length v (y ∷ z ∷ xs) = ap (λ (n : ℕ). suc n) (with_last-length
 
 -- what a piece that was read is
 data IsPiece (al r : ℕ) (rest : List ℤ) (t : Text) (n : ℕ) (ys : List ℤ) (u : Text) : Type 0 where
-  piece : (front : List ℤ) → corrected al (take (through_zero r rest) rest) t ≡ Ok (front, u) → length front ≡ through_zero r rest → n ≡ through_zero r rest → ys ≡ front ++ drop (through_zero r rest) rest → IsPiece al r rest t n ys u
+  piece : (front : List ℤ) → corrected al (take (through_zero r rest) rest) t ≡ Ok (front, u)
+      → length front ≡ through_zero r rest → n ≡ through_zero r rest → ys ≡ front ++ drop (through_zero r rest) rest
+      → IsPiece al r rest t n ys u
 
-is_piece : (al r : ℕ) (rest : List ℤ) (t : Text) (n : ℕ) (ys : List ℤ) (u : Text) → piece_from al r rest t ≡ Ok ((n, ys), u) → IsPiece al r rest t n ys u
+is_piece : (al r : ℕ) (rest : List ℤ) (t : Text) (n : ℕ) (ys : List ℤ) (u : Text)
+    → piece_from al r rest t ≡ Ok ((n, ys), u) → IsPiece al r rest t n ys u
 unfolding piece_from ok_of
-is_piece al r rest t n ys u h = by_result (corrected al (take (through_zero r rest) rest) t) refl (corrected-length al (take (through_zero r rest) rest) t) h
+is_piece al r rest t n ys u h = by_result (corrected al (take (through_zero r rest) rest) t) refl
+    (corrected-length al (take (through_zero r rest) rest) t) h
   where
-    by_result : (o : Result (List ℤ × Text) Fault) → corrected al (take (through_zero r rest) rest) t ≡ o → KeepsLength (length (take (through_zero r rest) rest)) o
-        → (o >>= λ (front : List ℤ × Text). pieced (through_zero r rest) rest front) ≡ Ok ((n, ys), u) → IsPiece al r rest t n ys u
+    by_result : (o : Result (List ℤ × Text) Fault) → corrected al (take (through_zero r rest) rest) t ≡ o
+        → KeepsLength (length (take (through_zero r rest) rest)) o
+        → (o >>= λ (front : List ℤ × Text). pieced (through_zero r rest) rest front) ≡ Ok ((n, ys), u)
+        → IsPiece al r rest t n ys u
     by_result (Ok x) e l h =
         let same = ap (λ (w : Walk). ok_of ((n, ys), u) w) h in
         piece x.0 (e ∙ ap (λ (w : Text). Ok (x.0, w)) (ap (λ (z : (ℕ × List ℤ) × Text). z.1) same))
-        (let a = length-take (through_zero r rest) rest in let b = through_zero_le r rest in l ∙ length_short (through_zero r rest) rest b)
+        (let a = length-take (through_zero r rest) rest in let b = through_zero_le r rest in
+        l ∙ length_short (through_zero r rest) rest b)
         (sym (ap (λ (z : (ℕ × List ℤ) × Text). z.0.0) same)) (sym (ap (λ (z : (ℕ × List ℤ) × Text). z.0.1) same))
     by_result (Err g) e l h = absurd (false≢true (ap is_ok h))
 
-module _ (table : Table) (al i n : ℕ) (band nb rest ys : List ℤ) (t u : Text) (le : i ≤ length band) (old : rest ≡ drop i band) (new : nb ≡ take i band ++ ys) where
+module _ (table : Table) (al i n : ℕ) (band nb rest ys : List ℤ) (t u : Text) (le : i ≤ length band)
+    (old : rest ≡ drop i band) (new : nb ≡ take i band ++ ys) where
   front_length : (front : List ℤ) → length (take i band ++ front) ≡ i + length front
   front_length front = length-append (take i band) front ∙ ap (λ k. k + length front) (length_short i band le)
 
-  pub zeros_step : piece_from al 15 rest t ≡ Ok ((n, ys), u) → refined_step table al band i Zeros t ≡ refined_left table al nb (i + n) u
+  pub zeros_step : piece_from al 15 rest t ≡ Ok ((n, ys), u) → refined_step table al band i Zeros t ≡ refined_left table
+      al nb (i + n) u
   unfolding refined_step refined_piece refined_left
   zeros_step h = by (is_piece al 15 (drop i band) t n ys u (ap (λ (xs : List ℤ). piece_from al 15 xs t) (sym old) ∙ h))
     where
-      by : IsPiece al 15 (drop i band) t n ys u → refined_step table al band i Zeros t ≡ refined_left table al nb (i + n) u
+      by : IsPiece al 15 (drop i band) t n ys u → refined_step table al band i Zeros t ≡ refined_left table al nb
+          (i + n) u
       by (piece front c l m e) =
           let more = drop (through_zero 15 (drop i band)) (drop i band) in
           let k : length (take i band ++ front) ≡ i + n = front_length front ∙ omega arith in
-          let b : nb ≡ (take i band ++ front) ++ more = new ∙ ap (λ (xs : List ℤ). take i band ++ xs) e ∙ sym (append_assoc (take i band) front more) in
-          ap (λ (o : Result (List ℤ × Text) Fault). before (take i band) (o >>= λ front. before front.0 (refined_band_from table al more front.1))) c
+          let b : nb ≡ (take i band ++ front) ++ more = new ∙ ap (λ (xs : List ℤ). take i band ++ xs) e
+          ∙ sym (append_assoc (take i band) front more) in
+          ap (λ (o : Result (List ℤ × Text) Fault). before (take i band) (o >>= λ front.
+          before front.0 (refined_band_from table al more front.1))) c
           ∙ before-before (take i band) front (refined_band_from table al more u)
-          ∙ ap (λ (xs : List ℤ). before xs (refined_band_from table al more u)) (sym (ap (take (i + n)) b ∙ take_front (i + n) (take i band ++ front) more k))
-          ∙ ap (λ (xs : List ℤ). before (take (i + n) nb) (refined_band_from table al xs u)) (sym (ap (drop (i + n)) b ∙ drop_front (i + n) (take i band ++ front) more k))
+          ∙ ap (λ (xs : List ℤ). before xs (refined_band_from table al more u)) (sym (ap (take (i + n)) b
+          ∙ take_front (i + n) (take i band ++ front) more k))
+          ∙ ap (λ (xs : List ℤ). before (take (i + n) nb) (refined_band_from table al xs u)) (sym (ap (drop (i + n)) b
+          ∙ drop_front (i + n) (take i band ++ front) more k))
 
-  pub new_step : (r : ℕ) (v : ℤ) → 0 < n → piece_from al r rest t ≡ Ok ((n, ys), u) → refined_step table al band i (New r v) t ≡ refined_left table al (set nb (i + n - 1) v) (i + n) u
+  pub new_step : (r : ℕ) (v : ℤ) → 0 < n → piece_from al r rest t ≡ Ok ((n, ys), u)
+      → refined_step table al band i (New r v) t ≡ refined_left table al (set nb (i + n - 1) v) (i + n) u
   unfolding refined_step refined_piece refined_left
-  new_step r v pos h = by (is_piece al r (drop i band) t n ys u (ap (λ (xs : List ℤ). piece_from al r xs t) (sym old) ∙ h))
+  new_step r v pos h = by (is_piece al r (drop i band) t n ys u (ap (λ (xs : List ℤ). piece_from al r xs t) (sym old)
+      ∙ h))
     where
-      by : IsPiece al r (drop i band) t n ys u → refined_step table al band i (New r v) t ≡ refined_left table al (set nb (i + n - 1) v) (i + n) u
+      by : IsPiece al r (drop i band) t n ys u → refined_step table al band i (New r v) t ≡ refined_left table al
+          (set nb (i + n - 1) v) (i + n) u
       by (piece front c l m e) =
           let more = drop (through_zero r (drop i band)) (drop i band) in
           let j = length_short i band le in
           let k : length (take i band ++ front) ≡ i + n = front_length front ∙ omega arith in
-          let b : nb ≡ (take i band ++ front) ++ more = new ∙ ap (λ (xs : List ℤ). take i band ++ xs) e ∙ sym (append_assoc (take i band) front more) in
+          let b : nb ≡ (take i band ++ front) ++ more = new ∙ ap (λ (xs : List ℤ). take i band ++ xs) e
+          ∙ sym (append_assoc (take i band) front more) in
           let s : set nb (i + n - 1) v ≡ (take i band ++ with_last v front) ++ more
-          = ap (λ (xs : List ℤ). set xs (i + n - 1) v) b ∙ set-append_left (take i band ++ front) more (i + n - 1) v (omega arith)
+          = ap (λ (xs : List ℤ). set xs (i + n - 1) v) b ∙ set-append_left (take i band ++ front) more (i + n - 1) v
+          (omega arith)
           ∙ ap (λ (xs : List ℤ). xs ++ more) (set_last (take i band) front v (i + n - 1) (omega arith) (omega arith)) in
-          let k' : length (take i band ++ with_last v front) ≡ i + n = front_length (with_last v front) ∙ ap (λ (z : ℕ). i + z) (with_last-length v front ∙ l ∙ sym m) in
-          ap (λ (o : Result (List ℤ × Text) Fault). before (take i band) (o >>= λ front. before (with_last v front.0) (refined_band_from table al more front.1))) c
+          let k' : length (take i band ++ with_last v front) ≡ i + n = front_length (with_last v front)
+          ∙ ap (λ (z : ℕ). i + z) (with_last-length v front ∙ l ∙ sym m) in
+          ap (λ (o : Result (List ℤ × Text) Fault). before (take i band) (o >>= λ front.
+          before (with_last v front.0) (refined_band_from table al more front.1))) c
           ∙ before-before (take i band) (with_last v front) (refined_band_from table al more u)
-          ∙ ap (λ (xs : List ℤ). before xs (refined_band_from table al more u)) (sym (ap (take (i + n)) s ∙ take_front (i + n) (take i band ++ with_last v front) more k'))
-          ∙ ap (λ (xs : List ℤ). before (take (i + n) (set nb (i + n - 1) v)) (refined_band_from table al xs u)) (sym (ap (drop (i + n)) s ∙ drop_front (i + n) (take i band ++ with_last v front) more k'))
+          ∙ ap (λ (xs : List ℤ). before xs (refined_band_from table al more u)) (sym (ap (take (i + n)) s
+          ∙ take_front (i + n) (take i band ++ with_last v front) more k'))
+          ∙ ap (λ (xs : List ℤ). before (take (i + n) (set nb (i + n - 1) v)) (refined_band_from table al xs u))
+          (sym (ap (drop (i + n)) s ∙ drop_front (i + n) (take i band ++ with_last v front) more k'))
 
-  pub end_step : (run all : ℕ) → length rest ≤ all → piece_from al all rest t ≡ Ok ((n, ys), u) → refined_step table al band i (End run) t ≡ Ok ((nb, run), u)
+  pub end_step : (run all : ℕ) → length rest ≤ all → piece_from al all rest t ≡ Ok ((n, ys), u)
+      → refined_step table al band i (End run) t ≡ Ok ((nb, run), u)
   unfolding refined_step refined_piece
   end_step run all few h = by (is_piece al all rest t n ys u h)
     where
       by : IsPiece al all rest t n ys u → refined_step table al band i (End run) t ≡ Ok ((nb, run), u)
       by (piece front c l m e) =
-          let whole : take (through_zero all rest) rest ≡ rest = take_all (through_zero all rest) rest (omega (arith, through_all all rest few)) in
-          let none : drop (through_zero all rest) rest ≡ [] = drop_all (through_zero all rest) rest (omega (arith, through_all all rest few)) in
-          let b : nb ≡ take i band ++ front = new ∙ ap (λ (xs : List ℤ). take i band ++ xs) (e ∙ ap (λ (xs : List ℤ). front ++ xs) none ∙ append-nil front) in
+          let whole : take (through_zero all rest) rest ≡ rest =
+          take_all (through_zero all rest) rest (omega (arith, through_all all rest few)) in
+          let none : drop (through_zero all rest) rest ≡ [] =
+          drop_all (through_zero all rest) rest (omega (arith, through_all all rest few)) in
+          let b : nb ≡ take i band ++ front = new ∙ ap (λ (xs : List ℤ). take i band ++ xs) (e
+          ∙ ap (λ (xs : List ℤ). front ++ xs) none ∙ append-nil front) in
           ap (λ (o : Result (List ℤ × Text) Fault). before (take i band) (o >>= λ x. ended run x))
           (ap (λ (xs : List ℤ). corrected al xs t) (sym old) ∙ ap (λ (xs : List ℤ). corrected al xs t) (sym whole) ∙ c)
           ∙ ap (λ (xs : List ℤ). Ok ((xs, run), u)) (sym b)
@@ -265,28 +330,38 @@ part_rest i band = take_rest band i
 pub patched_rest : (i : ℕ) (band ys : List ℤ) → patched i band ys ≡ take i band ++ ys
 patched_rest i band ys =
     let d = length-drop i band in
-    ap (λ (zs : List ℤ). take i band ++ (ys ++ zs)) (drop_all (length band - i) (drop i band) (omega arith)) ∙ ap (λ (zs : List ℤ). take i band ++ zs) (append-nil ys)
+    ap (λ (zs : List ℤ). take i band ++ (ys ++ zs)) (drop_all (length band - i) (drop i band) (omega arith))
+    ∙ ap (λ (zs : List ℤ). take i band ++ zs) (append-nil ys)
 
 pub part-length : (i : ℕ) (band : List ℤ) → length (part i band) ≡ length band - i
 part-length i band = ap length (part_rest i band) ∙ length-drop i band
 
-pub patched-length : (i : ℕ) (band ys : List ℤ) → i ≤ length band → length ys ≡ length (part i band) → length (patched i band ys) ≡ length band
+pub patched-length : (i : ℕ) (band ys : List ℤ) → i ≤ length band → length ys ≡ length (part i band)
+    → length (patched i band ys) ≡ length band
 patched-length i band ys le e =
     let a = length-append (take i band) ys in let b = length_short i band le in let p = part-length i band in
     ap length (patched_rest i band ys) ∙ omega arith
 
-pub refined_token : (table : Table) (al : ℕ) (band : List ℤ) (i : ℕ) (k : Refinement) (t u : Text) → i < length band → refinement_from table al t ≡ Ok (k, u) → refined_left table al band i t ≡ refined_step table al band i k u
-refined_token table al band i k t u h e = refined_more table al band i t h ∙ ap (λ (o : Result (Refinement × Text) Fault). o >>= λ (k : Refinement × Text). refined_step table al band i k.0 k.1) e
+pub refined_token : (table : Table) (al : ℕ) (band : List ℤ) (i : ℕ) (k : Refinement) (t u : Text) → i < length band
+    → refinement_from table al t ≡ Ok (k, u) → refined_left table al band i t ≡ refined_step table al band i k u
+refined_token table al band i k t u h e = refined_more table al band i t h
+    ∙ ap (λ (o : Result (Refinement × Text) Fault). o >>= λ (k : Refinement × Text). refined_step table al band i k.0
+    k.1) e
 
 -- a piece that is the whole band
-pub whole_piece : (al : ℕ) (band : List ℤ) (t : Text) → corrected al band t ≡ (piece_from al (length band) band t >>= λ (p : (ℕ × List ℤ) × Text). Ok (p.0.1, p.1))
+pub whole_piece : (al : ℕ) (band : List ℤ) (t : Text) → corrected al band t ≡ (piece_from al (length band) band t
+    >>= λ (p : (ℕ × List ℤ) × Text). Ok (p.0.1, p.1))
 unfolding piece_from
 whole_piece al band t =
     let n = through_all (length band) band (le_refl _) in
-    let whole : take (through_zero (length band) band) band ≡ band = take_all (through_zero (length band) band) band (omega (arith, n)) in
-    let none : drop (through_zero (length band) band) band ≡ [] = drop_all (through_zero (length band) band) band (omega (arith, n)) in
+    let whole : take (through_zero (length band) band) band ≡ band =
+    take_all (through_zero (length band) band) band (omega (arith, n)) in
+    let none : drop (through_zero (length band) band) band ≡ [] =
+    drop_all (through_zero (length band) band) band (omega (arith, n)) in
     rw (whole, none) (by_result (corrected al band t))
   where
-    by_result : (o : Result (List ℤ × Text) Fault) → o ≡ ((o >>= λ (front : List ℤ × Text). Ok ((through_zero (length band) band, front.0 ++ []), front.1)) >>= λ (p : (ℕ × List ℤ) × Text). Ok (p.0.1, p.1))
+    by_result : (o : Result (List ℤ × Text) Fault)
+        → o ≡ ((o >>= λ (front : List ℤ × Text). Ok ((through_zero (length band) band, front.0 ++ []), front.1))
+        >>= λ (p : (ℕ × List ℤ) × Text). Ok (p.0.1, p.1))
     by_result (Ok x) = ap (λ (xs : List ℤ). Ok (xs, x.1)) (sym (append-nil x.0))
     by_result (Err e) = refl

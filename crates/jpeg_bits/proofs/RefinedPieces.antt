@@ -16,29 +16,46 @@ use Rattle.jpeg_bits.specs.declared.refinement.Refinement.TheVariants.{Zeros, Ne
 
 -- a place as the definition has it
 abbrev place_by : ℕ → ℤ → Bool → Reads ℤ
-place_by al z b t = (elim b as (λ _. Reads ℤ) [ true ↦ gives z | false ↦ λ u. read_on (λ b. corrected_by al z b) (bits_from 1 u) ]) t
+place_by al z b t = (elim b as (λ _. Reads ℤ) [
+  | true ↦ gives z
+  | false ↦ λ u. read_on (λ b. corrected_by al z b)
+      (bits_from 1 u)
+]) t
 
 place-same : (al : ℕ) (z : ℤ) (t : Text) → place_from al z t ≡ place_by al z (is_zero z) t
 unfolding place_from
 place-same al z t = go (is_zero z)
   where
-    two : (u : Text) (b f : Bool) → (if b then ((if f then Ok (moved (2 ^ al) z) else Err Malformed) >>= λ (m : ℤ). Ok (m, u)) else Ok (z, u))
-        ≡ (elim b as (λ _. Reads ℤ) [ true ↦ elim f as (λ _. Reads ℤ) [ true ↦ gives (moved (2 ^ al) z) | false ↦ refused ] | false ↦ gives z ]) u
+    two : (u : Text) (b f : Bool) → (if b then ((if f then Ok (moved (2 ^ al) z) else Err Malformed)
+        >>= λ (m : ℤ). Ok (m, u)) else Ok (z, u))
+        ≡ (elim b as (λ _. Reads ℤ) [
+          | true ↦ elim f as (λ _. Reads ℤ) [
+            | true ↦ gives (moved (2 ^ al) z)
+            | false ↦ refused
+          ]
+          | false ↦ gives z
+        ]) u
     two u true true = refl
     two u true false = refl
     two u false f = refl
 
-    one : (n : ℕ) (u : Text) → (if n == 0 then Ok (z, u) else (if bit_of al z == 0 then ((if fits_i16 (moved (2 ^ al) z) then Ok (moved (2 ^ al) z) else Err Malformed) >>= λ (m : ℤ). Ok (m, u)) else Ok (z, u)))
+    one : (n : ℕ) (u : Text) → (if n == 0 then Ok (z, u)
+        else (if bit_of al z == 0 then ((if fits_i16 (moved (2 ^ al) z) then Ok (moved (2 ^ al) z) else Err Malformed)
+        >>= λ (m : ℤ). Ok (m, u)) else Ok (z, u)))
         ≡ corrected_by al z n u
     one zero u = refl
     one (suc n) u = rw (ne_eqb (suc n) 0 (λ e. omega arith)) (two u (bit_of al z == 0) (fits_i16 (moved (2 ^ al) z)))
 
-    bits : (o : Result (ℕ × Text) Fault) → (o >>= λ (b : ℕ × Text). if b.0 == 0 then Ok (z, b.1) else (if bit_of al z == 0 then ((if fits_i16 (moved (2 ^ al) z) then Ok (moved (2 ^ al) z) else Err Malformed) >>= λ (m : ℤ). Ok (m, b.1)) else Ok (z, b.1)))
+    bits : (o : Result (ℕ × Text) Fault) → (o >>= λ (b : ℕ × Text). if b.0 == 0 then Ok (z, b.1)
+        else (if bit_of al z == 0 then ((if fits_i16 (moved (2 ^ al) z) then Ok (moved (2 ^ al) z) else Err Malformed)
+        >>= λ (m : ℤ). Ok (m, b.1)) else Ok (z, b.1)))
         ≡ read_on (λ (b : ℕ). corrected_by al z b) o
     bits (Ok b) = one b.0 b.1
     bits (Err e) = refl
 
-    go : (b : Bool) → (if b then Ok (z, t) else (bits_from 1 t >>= λ (b : ℕ × Text). if b.0 == 0 then Ok (z, b.1) else (if bit_of al z == 0 then ((if fits_i16 (moved (2 ^ al) z) then Ok (moved (2 ^ al) z) else Err Malformed) >>= λ (m : ℤ). Ok (m, b.1)) else Ok (z, b.1))))
+    go : (b : Bool) → (if b then Ok (z, t) else (bits_from 1 t >>= λ (b : ℕ × Text). if b.0 == 0 then Ok (z, b.1)
+        else (if bit_of al z == 0 then ((if fits_i16 (moved (2 ^ al) z) then Ok (moved (2 ^ al) z) else Err Malformed)
+        >>= λ (m : ℤ). Ok (m, b.1)) else Ok (z, b.1))))
         ≡ place_by al z b t
     go true = refl
     go false = bits (bits_from 1 t)
@@ -46,74 +63,125 @@ place-same al z t = go (is_zero z)
 pub corrected-same : (al : ℕ) (places : List ℤ) (t : Text) → corrected al places t ≡ defined.corrected al places t
 unfolding corrected defined.corrected
 corrected-same al [] t = refl
-corrected-same al (z ∷ places) t = go (λ u. corrected-same al places u) (place_from al z t) ∙ ap (read_on (λ (x : ℤ). λ u. read_on (λ (xs : List ℤ). gives (x ∷ xs)) (defined.corrected al places u))) (place-same al z t)
+corrected-same al (z ∷ places) t = go (λ u. corrected-same al places u) (place_from al z t)
+    ∙ ap (read_on (λ (x : ℤ). λ u. read_on (λ (xs : List ℤ). gives (x ∷ xs)) (defined.corrected al places u)))
+    (place-same al z t)
   where
-    last : (x : ℤ) (o : Result (List ℤ × Text) Fault) → (o >>= λ (o : List ℤ × Text). Ok (x ∷ o.0, o.1)) ≡ read_on (λ (xs : List ℤ). gives (x ∷ xs)) o
+    last : (x : ℤ) (o : Result (List ℤ × Text) Fault) → (o >>= λ (o : List ℤ × Text). Ok (x ∷ o.0, o.1))
+        ≡ read_on (λ (xs : List ℤ). gives (x ∷ xs)) o
     last x (Ok o) = refl
     last x (Err e) = refl
 
     go : ((u : Text) → corrected al places u ≡ defined.corrected al places u) → (o : Result (ℤ × Text) Fault)
         → (o >>= λ (f : ℤ × Text). corrected al places f.1 >>= λ (o : List ℤ × Text). Ok (f.0 ∷ o.0, o.1))
         ≡ read_on (λ (x : ℤ). λ u. read_on (λ (xs : List ℤ). gives (x ∷ xs)) (defined.corrected al places u)) o
-    go rec (Ok x) = ap (λ (o : Result (List ℤ × Text) Fault). o >>= λ (o : List ℤ × Text). Ok (x.0 ∷ o.0, o.1)) (rec x.1) ∙ last x.0 (defined.corrected al places x.1)
+    go rec (Ok x) = ap (λ (o : Result (List ℤ × Text) Fault). o >>= λ (o : List ℤ × Text). Ok (x.0 ∷ o.0, o.1))
+        (rec x.1) ∙ last x.0 (defined.corrected al places x.1)
     go rec (Err e) = refl
 
-before-same : (front : List ℤ) (o : Result (Band × Text) Fault) → before front o ≡ read_on (λ (more : Band). gives (before_more front more)) o
+before-same : (front : List ℤ) (o : Result (Band × Text) Fault)
+    → before front o ≡ read_on (λ (more : Band). gives (before_more front more)) o
 before-same front (Ok x) = refl
 before-same front (Err e) = refl
 
-abbrev read_piece : (List ℤ → List ℤ) → ℕ → (List ℤ → Reads Band) → List ℤ → Result (List ℤ × Text) Fault → Result (Band × Text) Fault
-read_piece f n others rest o = read_on {B = Band} (λ (front : List ℤ). λ t. read_on (λ (more : Band). gives (before_more (f front) more)) (others (drop n rest) t)) o
+abbrev read_piece : (List ℤ → List ℤ) → ℕ → (List ℤ → Reads Band) → List ℤ → Result (List ℤ × Text) Fault
+    → Result (Band × Text) Fault
+read_piece f n others rest o = read_on {B = Band} (λ (front : List ℤ). λ t. read_on
+    (λ (more : Band). gives (before_more (f front) more)) (others (drop n rest) t)) o
 
-piece-on : (f : List ℤ → List ℤ) (n : ℕ) (mine theirs : List ℤ → Reads Band) (rest : List ℤ) → ((xs : List ℤ) (u : Text) → mine xs u ≡ theirs xs u)
-    → (o : Result (List ℤ × Text) Fault) → (o >>= λ (front : List ℤ × Text). before (f front.0) (mine (drop n rest) front.1)) ≡ read_piece f n theirs rest o
-piece-on f n mine theirs rest same (Ok x) = ap (before (f x.0)) (same (drop n rest) x.1) ∙ before-same (f x.0) (theirs (drop n rest) x.1)
+piece-on : (f : List ℤ → List ℤ) (n : ℕ) (mine theirs : List ℤ → Reads Band) (rest : List ℤ)
+    → ((xs : List ℤ) (u : Text) → mine xs u ≡ theirs xs u)
+    → (o : Result (List ℤ × Text) Fault)
+    → (o >>= λ (front : List ℤ × Text). before (f front.0) (mine (drop n rest) front.1)) ≡ read_piece f n theirs
+    rest o
+piece-on f n mine theirs rest same (Ok x) =
+    ap (before (f x.0)) (same (drop n rest) x.1) ∙ before-same (f x.0) (theirs (drop n rest) x.1)
 piece-on f n mine theirs rest same (Err e) = refl
 
-end-on : (run : ℕ) (o : Result (List ℤ × Text) Fault) → (o >>= λ (all : List ℤ × Text). Ok ((all.0, run), all.1)) ≡ read_on {B = Band} (λ (all : List ℤ). gives (all, run)) o
+end-on : (run : ℕ) (o : Result (List ℤ × Text) Fault) → (o >>= λ (all : List ℤ × Text). Ok ((all.0, run), all.1))
+    ≡ read_on {B = Band} (λ (all : List ℤ). gives (all, run)) o
 end-on run (Ok x) = refl
 end-on run (Err e) = refl
 
 abbrev Others : Table → ℕ → ℕ → Type 0
 Others table al n = (xs : List ℤ) (u : Text) → refined_ac table al n xs u ≡ defined.refined_ac table al n xs u
 
-pub refined-same : (table : Table) (al n : ℕ) (rest : List ℤ) (t : Text) → refined_ac table al n rest t ≡ defined.refined_ac table al n rest t
+pub refined-same : (table : Table) (al n : ℕ) (rest : List ℤ) (t : Text)
+    → refined_ac table al n rest t ≡ defined.refined_ac table al n rest t
 unfolding refined_ac defined.refined_ac refined_piece defined.refined_piece refinement_from run_from
 refined-same table al n [] t = refl
 refined-same table al zero (x ∷ rest) t = refl
 refined-same table al (suc n) (x ∷ rest) t = go (λ xs u. refined-same table al n xs u) (symbol_from table t)
   where
-    run : (r : ℕ) (o : Result (ℕ × Text) Fault) → (((o >>= λ (e : ℕ × Text). Ok (2 ^ r - 1 + e.0, e.1)) >>= λ (e : ℕ × Text). Ok (End e.0, e.1)) >>= λ (k : Refinement × Text). refined_piece al (refined_ac table al n) (x ∷ rest) k.0 k.1)
-        ≡ read_on {B = Band} (λ (e : ℕ). λ u. read_on {B = Band} (λ (all : List ℤ). gives (all, 2 ^ r - 1 + e)) (defined.corrected al (x ∷ rest) u)) o
-    run r (Ok e) = ap (λ (o : Result (List ℤ × Text) Fault). o >>= λ (all : List ℤ × Text). Ok ((all.0, 2 ^ r - 1 + e.0), all.1)) (corrected-same al (x ∷ rest) e.1) ∙ end-on (2 ^ r - 1 + e.0) (defined.corrected al (x ∷ rest) e.1)
+    run : (r : ℕ) (o : Result (ℕ × Text) Fault)
+        → (((o >>= λ (e : ℕ × Text). Ok (2 ^ r - 1 + e.0, e.1)) >>= λ (e : ℕ × Text). Ok (End e.0, e.1))
+        >>= λ (k : Refinement × Text). refined_piece al (refined_ac table al n) (x ∷ rest) k.0 k.1)
+        ≡ read_on {B = Band} (λ (e : ℕ). λ u. read_on {B = Band} (λ (all : List ℤ). gives (all, 2 ^ r - 1 + e))
+        (defined.corrected al (x ∷ rest) u)) o
+    run r (Ok e) = ap (λ (o : Result (List ℤ × Text) Fault). o
+        >>= λ (all : List ℤ × Text). Ok ((all.0, 2 ^ r - 1 + e.0), all.1)) (corrected-same al (x ∷ rest) e.1)
+        ∙ end-on (2 ^ r - 1 + e.0) (defined.corrected al (x ∷ rest) e.1)
     run r (Err e) = refl
 
-    zeros : Others table al n → (r : ℕ) (u : Text) (b : Bool) → ((if b then Ok (Zeros, u) else (run_from r u >>= λ (e : ℕ × Text). Ok (End e.0, e.1))) >>= λ (k : Refinement × Text). refined_piece al (refined_ac table al n) (x ∷ rest) k.0 k.1)
+    zeros : Others table al n → (r : ℕ) (u : Text) (b : Bool)
+        → ((if b then Ok (Zeros, u) else (run_from r u >>= λ (e : ℕ × Text). Ok (End e.0, e.1)))
+        >>= λ (k : Refinement × Text). refined_piece al (refined_ac table al n) (x ∷ rest) k.0 k.1)
         ≡ (elim b as (λ _. Reads Band) [
-          | true ↦ λ u. read_on {B = Band} (λ (front : List ℤ). λ t. read_on {B = Band} (λ (more : Band). gives (before_more front more)) (defined.refined_ac table al n (drop (through_zero 15 (x ∷ rest)) (x ∷ rest)) t)) (defined.corrected al (take (through_zero 15 (x ∷ rest)) (x ∷ rest)) u)
-          | false ↦ λ u. read_on {B = Band} (λ (e : ℕ). λ u. read_on {B = Band} (λ (all : List ℤ). gives (all, 2 ^ r - 1 + e)) (defined.corrected al (x ∷ rest) u)) (bits_from r u)
+          | true ↦ λ u. read_on {B = Band} (λ (front : List ℤ). λ t. read_on {B = Band}
+              (λ (more : Band). gives (before_more front more)) (defined.refined_ac table al n
+              (drop (through_zero 15 (x ∷ rest)) (x ∷ rest)) t))
+              (defined.corrected al (take (through_zero 15 (x ∷ rest)) (x ∷ rest)) u)
+          | false ↦ λ u. read_on {B = Band} (λ (e : ℕ). λ u. read_on {B = Band} (λ (all : List ℤ). gives (
+            all,
+            2 ^ r - 1 + e,
+          )) (defined.corrected al (x ∷ rest) u)) (bits_from r u)
         ]) u
     zeros others r u true =
-        ap (λ (o : Result (List ℤ × Text) Fault). o >>= λ (front : List ℤ × Text). before front.0 (refined_ac table al n (drop (through_zero 15 (x ∷ rest)) (x ∷ rest)) front.1)) (corrected-same al (take (through_zero 15 (x ∷ rest)) (x ∷ rest)) u)
-        ∙ piece-on (λ (l : List ℤ). l) (through_zero 15 (x ∷ rest)) (refined_ac table al n) (defined.refined_ac table al n) (x ∷ rest) others (defined.corrected al (take (through_zero 15 (x ∷ rest)) (x ∷ rest)) u)
+        ap (λ (o : Result (List ℤ × Text) Fault). o >>= λ (front : List ℤ × Text). before front.0
+        (refined_ac table al n (drop (through_zero 15 (x ∷ rest)) (x ∷ rest)) front.1))
+        (corrected-same al (take (through_zero 15 (x ∷ rest)) (x ∷ rest)) u)
+        ∙ piece-on (λ (l : List ℤ). l) (through_zero 15 (x ∷ rest)) (refined_ac table al n)
+        (defined.refined_ac table al n) (x ∷ rest) others
+        (defined.corrected al (take (through_zero 15 (x ∷ rest)) (x ∷ rest)) u)
     zeros others r u false = run r (bits_from r u)
 
-    new : Others table al n → (r : ℕ) (o : Result (ℕ × Text) Fault) → ((o >>= λ (sign : ℕ × Text). Ok (New r (new_number al sign.0), sign.1)) >>= λ (k : Refinement × Text). refined_piece al (refined_ac table al n) (x ∷ rest) k.0 k.1)
-        ≡ read_on (λ (sign : ℕ). λ u. read_piece (with_last (new_number al sign)) (through_zero r (x ∷ rest)) (defined.refined_ac table al n) (x ∷ rest) (defined.corrected al (take (through_zero r (x ∷ rest)) (x ∷ rest)) u)) o
+    new : Others table al n → (r : ℕ) (o : Result (ℕ × Text) Fault)
+        → ((o >>= λ (sign : ℕ × Text). Ok (New r (new_number al sign.0), sign.1))
+        >>= λ (k : Refinement × Text). refined_piece al (refined_ac table al n) (x ∷ rest) k.0 k.1)
+        ≡ read_on (λ (sign : ℕ). λ u. read_piece (with_last (new_number al sign)) (through_zero r (x ∷ rest))
+        (defined.refined_ac table al n) (x ∷ rest)
+        (defined.corrected al (take (through_zero r (x ∷ rest)) (x ∷ rest)) u)) o
     new others r (Ok s) =
-        ap (λ (o : Result (List ℤ × Text) Fault). o >>= λ (front : List ℤ × Text). before (with_last (new_number al s.0) front.0) (refined_ac table al n (drop (through_zero r (x ∷ rest)) (x ∷ rest)) front.1)) (corrected-same al (take (through_zero r (x ∷ rest)) (x ∷ rest)) s.1)
-        ∙ piece-on (with_last (new_number al s.0)) (through_zero r (x ∷ rest)) (refined_ac table al n) (defined.refined_ac table al n) (x ∷ rest) others (defined.corrected al (take (through_zero r (x ∷ rest)) (x ∷ rest)) s.1)
+        ap (λ (o : Result (List ℤ × Text) Fault). o
+        >>= λ (front : List ℤ × Text). before (with_last (new_number al s.0) front.0)
+        (refined_ac table al n (drop (through_zero r (x ∷ rest)) (x ∷ rest)) front.1))
+        (corrected-same al (take (through_zero r (x ∷ rest)) (x ∷ rest)) s.1)
+        ∙ piece-on (with_last (new_number al s.0)) (through_zero r (x ∷ rest)) (refined_ac table al n)
+        (defined.refined_ac table al n) (x ∷ rest) others
+        (defined.corrected al (take (through_zero r (x ∷ rest)) (x ∷ rest)) s.1)
     new others r (Err e) = refl
 
-    by : Others table al n → (r s : ℕ) (u : Text) → ((if s == 0 then (if r == 15 then Ok (Zeros, u) else (run_from r u >>= λ (e : ℕ × Text). Ok (End e.0, e.1)))
-        else (if s == 1 then (bits_from 1 u >>= λ (sign : ℕ × Text). Ok (New r (new_number al sign.0), sign.1)) else Err Malformed)) >>= λ (k : Refinement × Text). refined_piece al (refined_ac table al n) (x ∷ rest) k.0 k.1)
+    by : Others table al n → (r s : ℕ) (u : Text)
+        → ((if s == 0 then (if r == 15 then Ok (Zeros, u) else (run_from r u >>= λ (e : ℕ × Text). Ok (End e.0, e.1)))
+        else (if s == 1 then (bits_from 1 u >>= λ (sign : ℕ × Text). Ok (New r (new_number al sign.0), sign.1))
+        else Err Malformed)) >>= λ (k : Refinement × Text). refined_piece al (refined_ac table al n) (x ∷ rest) k.0
+        k.1)
         ≡ defined.refined_piece al (defined.refined_ac table al n) (x ∷ rest) r s u
     by others r zero u = zeros others r u (r == 15)
     by others r (suc zero) u = new others r (bits_from 1 u)
-    by others r (suc (suc s)) u = rw (ne_eqb (suc (suc s)) 0 (λ e. omega arith), ne_eqb (suc (suc s)) 1 (λ e. omega arith)) refl
+    by others r (suc (suc s)) u = rw (
+      ne_eqb (suc (suc s)) 0 (λ e. omega arith),
+      ne_eqb (suc (suc s)) 1 (λ e. omega arith),
+    ) refl
 
-    go : Others table al n → (o : Result (ℕ × Text) Fault) → ((o >>= λ (c : ℕ × Text). if c.0 % 16 == 0 then (if c.0 / 16 == 15 then Ok (Zeros, c.1) else (run_from (c.0 / 16) c.1 >>= λ (e : ℕ × Text). Ok (End e.0, e.1)))
-        else (if c.0 % 16 == 1 then (bits_from 1 c.1 >>= λ (sign : ℕ × Text). Ok (New (c.0 / 16) (new_number al sign.0), sign.1)) else Err Malformed)) >>= λ (k : Refinement × Text). refined_piece al (refined_ac table al n) (x ∷ rest) k.0 k.1)
+    go : Others table al n → (o : Result (ℕ × Text) Fault)
+        → ((o >>= λ (c : ℕ × Text). if c.0 % 16 == 0 then (if c.0 / 16 == 15 then Ok (Zeros, c.1)
+        else (run_from (c.0 / 16) c.1 >>= λ (e : ℕ × Text). Ok (End e.0, e.1)))
+        else (if c.0 % 16 == 1 then (bits_from 1 c.1 >>= λ (sign : ℕ × Text). Ok (
+          New (c.0 / 16) (new_number al sign.0),
+          sign.1,
+        )) else Err Malformed)) >>= λ (k : Refinement × Text). refined_piece al (refined_ac table al n)
+        (x ∷ rest) k.0 k.1)
         ≡ read_on (λ (c : ℕ). defined.refined_piece al (defined.refined_ac table al n) (x ∷ rest) (c / 16) (c % 16)) o
     go others (Ok c) = by others (c.0 / 16) (c.0 % 16) c.1
     go others (Err e) = refl

@@ -23,7 +23,8 @@ low_bits-high (suc n) a y =
     let e : x ≡ a * 2 * 2 ^ n + y = ap (λ (p : ℕ). a * p + y) d ∙ ap (λ (p : ℕ). p + y) (sym (mul_assoc a 2 (2 ^ n))) in
     let h : x / 2 ^ n ≡ a * 2 + y / 2 ^ n = ap (λ (v : ℕ). v / 2 ^ n) e ∙ mul-add-div_right (pow_pos n) (a * 2) y in
     let b : x / 2 ^ n % 2 ≡ y / 2 ^ n % 2 = omega (arith, h) in
-    ap (λ (v : ℕ). bit v ∷ low_bits n x) b ∙ ap (λ (l : List Bool). bit (y / 2 ^ n % 2) ∷ l) (ap (low_bits n) e ∙ low_bits-high n (a * 2) y)
+    ap (λ (v : ℕ). bit v ∷ low_bits n x) b ∙ ap (λ (l : List Bool). bit (y / 2 ^ n % 2) ∷ l) (ap (low_bits n) e
+    ∙ low_bits-high n (a * 2) y)
 
 pub low_bits-append : (a b x y : ℕ) → y < 2 ^ b → low_bits (a + b) (x * 2 ^ b + y) ≡ low_bits a x ++ low_bits b y
 unfolding low_bits
@@ -35,13 +36,15 @@ low_bits-append (suc a) b x y h =
     let s : suc a + b ≡ suc (a + b) = omega arith in
     let t : a + b ≡ b + a = omega arith in
     let q : v / 2 ^ (a + b) ≡ x / 2 ^ a
-    = ap (λ (n : ℕ). v / 2 ^ n) t ∙ ap (λ (d : ℕ). v / d) (pow-add 2 b a) ∙ sym (div-div-eq-div-mul v (2 ^ b) (2 ^ a)) ∙ ap (λ (k : ℕ). k / 2 ^ a) (div-mul-add x (2 ^ b) y h) in
+    = ap (λ (n : ℕ). v / 2 ^ n) t ∙ ap (λ (d : ℕ). v / d) (pow-add 2 b a) ∙ sym (div-div-eq-div-mul v (2 ^ b) (2 ^ a))
+    ∙ ap (λ (k : ℕ). k / 2 ^ a) (div-mul-add x (2 ^ b) y h) in
     ap (λ (n : ℕ). low_bits n v) s
     ∙ ap (λ (k : ℕ). bit (k % 2) ∷ low_bits (a + b) v) q
     ∙ ap (λ (l : List Bool). bit (x / 2 ^ a % 2) ∷ l) (low_bits-append a b x y h)
 
 pub low_bits-split : (n m x : ℕ) → low_bits (n + m) x ≡ low_bits n (x / 2 ^ m) ++ low_bits m (x % 2 ^ m)
-low_bits-split n m x = ap (low_bits (n + m)) (sym (div-add-mod' x (2 ^ m))) ∙ low_bits-append n m (x / 2 ^ m) (x % 2 ^ m) (mod-lt x (pow_pos m))
+low_bits-split n m x = ap (low_bits (n + m)) (sym (div-add-mod' x (2 ^ m)))
+    ∙ low_bits-append n m (x / 2 ^ m) (x % 2 ^ m) (mod-lt x (pow_pos m))
 
 pub low_bits-take : (n m x : ℕ) → take n (low_bits (n + m) x) ≡ low_bits n (x / 2 ^ m)
 low_bits-take n m x =
@@ -52,20 +55,24 @@ low_bits-take n m x =
 
 pub low_bits-drop : (n m x : ℕ) → drop n (low_bits (n + m) x) ≡ low_bits m (x % 2 ^ m)
 low_bits-drop n m x =
-    ap (drop n) (low_bits-split n m x) ∙ drop_at (low_bits n (x / 2 ^ m)) (low_bits m (x % 2 ^ m)) n (length-low_bits n (x / 2 ^ m))
+    ap (drop n) (low_bits-split n m x) ∙ drop_at (low_bits n (x / 2 ^ m)) (low_bits m (x % 2 ^ m)) n
+    (length-low_bits n (x / 2 ^ m))
 
 pub low_bits-zeros : (n : ℕ) → low_bits n 0 ≡ replicate n false
 unfolding low_bits
 low_bits-zeros zero = refl
-low_bits-zeros (suc n) = ap (λ (v : ℕ). bit (v % 2) ∷ low_bits n 0) (zero-div (2 ^ n)) ∙ ap (λ (l : List Bool). false ∷ l) (low_bits-zeros n)
+low_bits-zeros (suc n) = ap (λ (v : ℕ). bit (v % 2) ∷ low_bits n 0) (zero-div (2 ^ n))
+    ∙ ap (λ (l : List Bool). false ∷ l) (low_bits-zeros n)
 
-pub same_zeros : (xs : List Bool) (m n k : ℕ) → m ≤ length xs + n → m ≤ length xs + k → take m (xs ++ replicate n false) ≡ take m (xs ++ replicate k false)
+pub same_zeros : (xs : List Bool) (m n k : ℕ) → m ≤ length xs + n → m ≤ length xs + k
+    → take m (xs ++ replicate n false) ≡ take m (xs ++ replicate k false)
 same_zeros [] m n k h g = take-replicate m n false (omega arith) ∙ sym (take-replicate m k false (omega arith))
 same_zeros (x ∷ xs) zero n k h g = refl
 same_zeros (x ∷ xs) (suc m) n k h g = ap (λ (l : List Bool). x ∷ l) (same_zeros xs m n k (omega arith) (omega arith))
 
 -- the whole word
-pub whole_word : (word count : ℕ) → count ≤ 64 → HasZerosAfter word count → low_bits 64 word ≡ bits_held word count ++ replicate (64 - count) false
+pub whole_word : (word count : ℕ) → count ≤ 64 → HasZerosAfter word count
+    → low_bits 64 word ≡ bits_held word count ++ replicate (64 - count) false
 whole_word word count h z =
     let e : 64 ≡ count + (64 - count) = omega arith in
     let k = 64 - count in
@@ -74,7 +81,8 @@ whole_word word count h z =
     ∙ ap (λ (l : List Bool). bits_held word count ++ l) (low_bits-zeros k)
 
 -- the first n bits, with zeros after them
-pub front_bits : (word count n : ℕ) → count ≤ 64 → n ≤ 64 → HasZerosAfter word count → take n (bits_held word count ++ replicate n false) ≡ low_bits n (word / 2 ^ (64 - n))
+pub front_bits : (word count n : ℕ) → count ≤ 64 → n ≤ 64 → HasZerosAfter word count
+    → take n (bits_held word count ++ replicate n false) ≡ low_bits n (word / 2 ^ (64 - n))
 front_bits word count n h g z =
     let l = length-low_bits count (word / 2 ^ (64 - count)) in
     let e : 64 ≡ n + (64 - n) = omega arith in
@@ -87,11 +95,13 @@ front_small word n m h =
     let p = pow-add 2 n m in
     (div-lt_iff_lt-mul (pow_pos m)).1 (omega (arith, p))
 
-pub front_number : (word count n : ℕ) → word < 2 ^ 64 → count ≤ 64 → n ≤ 64 → HasZerosAfter word count → word / 2 ^ (64 - n) ≡ number_of (take n (bits_held word count ++ replicate n false))
+pub front_number : (word count n : ℕ) → word < 2 ^ 64 → count ≤ 64 → n ≤ 64 → HasZerosAfter word count
+    → word / 2 ^ (64 - n) ≡ number_of (take n (bits_held word count ++ replicate n false))
 front_number word count n w h g z =
     let e : 64 ≡ n + (64 - n) = omega arith in
     let p : 2 ^ 64 ≡ 2 ^ (n + (64 - n)) = ap (λ (k : ℕ). 2 ^ k) e in
-    sym (ap number_of (front_bits word count n h g z) ∙ number_of-low_bits n (word / 2 ^ (64 - n)) (front_small word n (64 - n) (omega (arith, p))))
+    sym (ap number_of (front_bits word count n h g z) ∙ number_of-low_bits n (word / 2 ^ (64 - n))
+    (front_small word n (64 - n) (omega (arith, p))))
 
 -- the word by the bits of it
 by_bits : (word count : ℕ) → HasZerosAfter word count → word ≡ word / 2 ^ (64 - count) * 2 ^ (64 - count)
@@ -99,7 +109,9 @@ by_bits word count z = sym (div-add-mod' word (2 ^ (64 - count))) ∙ omega (ari
 
 byte_bits : (b : ℕ) → low_bits 8 b ≡ bits_of b
 unfolding low_bits
-byte_bits b = let e : b / 1 ≡ b = omega arith in ap (λ (v : ℕ). bit (b / 128 % 2) ∷ bit (b / 64 % 2) ∷ bit (b / 32 % 2) ∷ bit (b / 16 % 2) ∷ bit (b / 8 % 2) ∷ bit (b / 4 % 2) ∷ bit (b / 2 % 2) ∷ bit (v % 2) ∷ []) e
+byte_bits b = let e : b / 1 ≡ b = omega arith in
+    ap (λ (v : ℕ). bit (b / 128 % 2) ∷ bit (b / 64 % 2) ∷ bit (b / 32 % 2) ∷ bit (b / 16 % 2) ∷ bit (b / 8 % 2)
+    ∷ bit (b / 4 % 2) ∷ bit (b / 2 % 2) ∷ bit (v % 2) ∷ []) e
 
 -- a byte after the bits
 module _ (word count byte : ℕ) (few : count ≤ 56) (z : HasZerosAfter word count) where
@@ -120,7 +132,8 @@ module _ (word count byte : ℕ) (few : count ≤ 56) (z : HasZerosAfter word co
       let e : 64 - (count + 8) ≡ k = omega arith in
       ap (λ (n : ℕ). (word + byte * 2 ^ k) % 2 ^ n) e ∙ ap (λ (v : ℕ). v % 2 ^ k) with_byte ∙ mul-mod_left _ (2 ^ k)
 
-  pub byte_held : byte < 256 → bits_held (word + byte * 2 ^ (56 - count)) (count + 8) ≡ bits_held word count ++ bits_of byte
+  pub byte_held : byte < 256 → bits_held (word + byte * 2 ^ (56 - count)) (count + 8) ≡ bits_held word count ++ bits_of
+      byte
   byte_held small =
       let k = 56 - count in
       let q = word / 2 ^ (64 - count) in
@@ -154,7 +167,8 @@ module _ (word count n : ℕ) (few : count ≤ 64) (z : HasZerosAfter word count
   moved =
       let k = 64 - count in
       let q = word / 2 ^ k in
-      ap (λ (v : ℕ). v * 2 ^ n) (by_bits word count z) ∙ mul_assoc q (2 ^ k) (2 ^ n) ∙ ap (λ (v : ℕ). q * v) (sym (pow-add 2 k n))
+      ap (λ (v : ℕ). v * 2 ^ n) (by_bits word count z) ∙ mul_assoc q (2 ^ k) (2 ^ n)
+      ∙ ap (λ (v : ℕ). q * v) (sym (pow-add 2 k n))
 
   shifted : n ≤ count → word * 2 ^ n % 2 ^ 64 ≡ word / 2 ^ (64 - count) % 2 ^ (count - n) * 2 ^ (64 - (count - n))
   shifted le =
@@ -179,7 +193,8 @@ module _ (word count n : ℕ) (few : count ≤ 64) (z : HasZerosAfter word count
             let e : 64 - count + n ≡ j + 64 = omega arith in
             let d : count - n ≡ 0 = omega arith in
             let f : word * 2 ^ n % 2 ^ 64 ≡ 0
-            = ap (λ (v : ℕ). v % 2 ^ 64) (moved ∙ ap (λ (i : ℕ). q * 2 ^ i) e ∙ ap (λ (v : ℕ). q * v) (pow-add 2 j 64) ∙ sym (mul_assoc q (2 ^ j) (2 ^ 64))) ∙ mul-mod_left (q * 2 ^ j) (2 ^ 64) in
+            = ap (λ (v : ℕ). v % 2 ^ 64) (moved ∙ ap (λ (i : ℕ). q * 2 ^ i) e ∙ ap (λ (v : ℕ). q * v) (pow-add 2 j 64)
+            ∙ sym (mul_assoc q (2 ^ j) (2 ^ 64))) ∙ mul-mod_left (q * 2 ^ j) (2 ^ 64) in
             ap (λ (v : ℕ). v % 2 ^ (64 - (count - n))) f ∙ zero-mod (2 ^ (64 - (count - n)))
       ]
 
@@ -196,7 +211,10 @@ module _ (word count n : ℕ) (few : count ≤ 64) (z : HasZerosAfter word count
         | inl lt ↦
             let d : count - n ≡ 0 = omega arith in
             let v = word * 2 ^ n % 2 ^ 64 in
-            ap (λ (i : ℕ). bits_held v i) d ∙ sym (drop_all n (bits_held word count) (omega (arith, length-low_bits count (word / 2 ^ (64 - count)))))
+            ap (λ (i : ℕ). bits_held v i) d ∙ sym (drop_all n (bits_held word count) (omega (
+              arith,
+              length-low_bits count (word / 2 ^ (64 - count)),
+            )))
       ]
 
 pub none_held : (word : ℕ) → bits_held word 0 ≡ []
@@ -212,11 +230,13 @@ front_below word n h g =
     let p : 2 ^ 64 ≡ 2 ^ (n + (64 - n)) = ap (λ (k : ℕ). 2 ^ k) e in
     front_small word n (64 - n) (omega (arith, p))
 
-pub byte_shifted : (count byte : ℕ) → count ≤ 56 → byte < 256 → byte * 2 ^ (56 - count) % 2 ^ 64 ≡ byte * 2 ^ (56 - count)
+pub byte_shifted : (count byte : ℕ) → count ≤ 56 → byte < 256
+    → byte * 2 ^ (56 - count) % 2 ^ 64 ≡ byte * 2 ^ (56 - count)
 byte_shifted count byte h small = shl_exact 8 (56 - count) 64 small (omega arith)
 
 -- the first bits of 16 as a number
-pub prefix_number : (bits l : ℕ) → bits < 2 ^ 16 → l < 16 → bits / 2 ^ (15 - l) ≡ number_of (take (l + 1) (low_bits 16 bits))
+pub prefix_number : (bits l : ℕ) → bits < 2 ^ 16 → l < 16
+    → bits / 2 ^ (15 - l) ≡ number_of (take (l + 1) (low_bits 16 bits))
 prefix_number bits l h lt =
     let e : 16 ≡ l + 1 + (15 - l) = omega arith in
     let p : 2 ^ 16 ≡ 2 ^ (l + 1 + (15 - l)) = ap (λ (k : ℕ). 2 ^ k) e in

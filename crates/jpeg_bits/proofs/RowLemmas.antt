@@ -11,21 +11,26 @@ use Rattle.jpeg_bits.proofs.CodeLemmas.{Tried, Tried-none, Tried-more, code_foun
 use Rattle.jpeg_bits.proofs.Reservoirs.{prefix_number}
 use Rattle.jpeg_bits.proofs.Held.{pow_more}
 
-pub value-more : (counts : List ℕ) (i : ℕ) → i < length counts → value_after counts (i + 1) ≡ 2 * value_after counts i + get_or counts i 0
+pub value-more : (counts : List ℕ) (i : ℕ) → i < length counts → value_after counts (i + 1) ≡ 2 * value_after counts i
+    + get_or counts i 0
 value-more counts i lt = fold_more (λ (v c : ℕ). 2 * v + c) 0 counts i 0 lt
 
-pub place-more : (counts : List ℕ) (i : ℕ) → i < length counts → sum (take (i + 1) counts) ≡ sum (take i counts) + get_or counts i 0
+pub place-more : (counts : List ℕ) (i : ℕ) → i < length counts → sum (take (i + 1) counts) ≡ sum (take i counts)
+    + get_or counts i 0
 place-more counts i lt = sum_by_more (λ (x : ℕ). x) counts i 0 lt
 
-pub tried-at : (counts : List ℕ) (i : ℕ) → i ≤ length counts → Tried (code_lengths counts) counts i (sum (take i counts)) (value_after counts i)
+pub tried-at : (counts : List ℕ) (i : ℕ) → i ≤ length counts
+    → Tried (code_lengths counts) counts i (sum (take i counts)) (value_after counts i)
 tried-at counts zero h = Tried-none counts
 tried-at counts (suc i) h =
     let lens = code_lengths counts in
     let lt : i < length counts = omega arith in
-    let t = Tried-more lens counts i (sum (take i counts)) (value_after counts i) lt (tried-at counts i (omega arith)) in
+    let t = Tried-more lens counts i (sum (take i counts)) (value_after counts i) lt
+    (tried-at counts i (omega arith)) in
     subst (λ (k : ℕ). Tried lens counts k (sum (take k counts)) (value_after counts k)) (add-one i)
     (subst (λ (n : ℕ). Tried lens counts (i + 1) n (value_after counts (i + 1))) (sym (place-more counts i lt))
-    (subst (λ (n : ℕ). Tried lens counts (i + 1) (sum (take i counts) + get_or counts i 0) n) (sym (value-more counts i lt)) t))
+    (subst (λ (n : ℕ). Tried lens counts (i + 1) (sum (take i counts) + get_or counts i 0) n)
+    (sym (value-more counts i lt)) t))
 
 -- one bit less
 pub halved : (bits i : ℕ) → i < 16 → bits / 2 ^ (15 - i) / 2 ≡ bits / 2 ^ (16 - i)
@@ -38,9 +43,11 @@ halved bits i h =
 abbrev pub NoneYet : List ℕ → ℕ → ℕ → Type 0
 NoneYet counts bits i =
     first_from (begins (code_lengths counts) (low_bits 16 bits)) 0 (length (code_lengths counts))
-    ≡ first_from (begins (code_lengths counts) (low_bits 16 bits)) (sum (take i counts)) (length (code_lengths counts) - sum (take i counts))
+    ≡ first_from (begins (code_lengths counts) (low_bits 16 bits)) (sum (take i counts)) (length (code_lengths counts)
+    - sum (take i counts))
 
-module _ (counts : List ℕ) (rows : List Row) (bits i : ℕ) (counted : length counts ≡ 16) (holds : HoldsRows counts rows) (lt : i < 16) (fits : bits < 2 ^ 16) (above : value_after counts i ≤ bits / 2 ^ (16 - i)) where
+module _ (counts : List ℕ) (rows : List Row) (bits i : ℕ) (counted : length counts ≡ 16) (holds : HoldsRows counts rows)
+    (lt : i < 16) (fits : bits < 2 ^ 16) (above : value_after counts i ≤ bits / 2 ^ (16 - i)) where
   within : i < length counts
   within = omega arith
 
@@ -49,41 +56,60 @@ module _ (counts : List ℕ) (rows : List Row) (bits i : ℕ) (counted : length 
       let e = ap (λ (r : Row). r.first) (holds i lt) in
       omega (arith, e, halved bits i lt, above)
 
-  pub few_below : bits / 2 ^ (15 - i) < (get_or rows i no_row).end → bits / 2 ^ (15 - i) - 2 * value_after counts i < get_or counts i 0
+  pub few_below : bits / 2 ^ (15 - i) < (get_or rows i no_row).end → bits / 2 ^ (15 - i) - 2 * value_after counts i
+      < get_or counts i 0
   few_below h =
       let e = ap (λ (r : Row). r.end) (holds i lt) in
       omega (arith, e, value-more counts i within, halved bits i lt, above, h)
 
-  pub index_within : bits / 2 ^ (15 - i) < (get_or rows i no_row).end → (get_or rows i no_row).place + (bits / 2 ^ (15 - i) - (get_or rows i no_row).first) < length (code_lengths counts)
+  pub index_within : bits / 2 ^ (15 - i) < (get_or rows i no_row).end
+      → (get_or rows i no_row).place + (bits / 2 ^ (15 - i) - (get_or rows i no_row).first)
+      < length (code_lengths counts)
   index_within h =
       let e = ap (λ (r : Row). r.first) (holds i lt) in
       let p = ap (λ (r : Row). r.place) (holds i lt) in
-      let w = place_within (code_lengths counts) counts i (sum (take i counts)) (value_after counts i) within (tried-at counts i (omega arith)) (bits / 2 ^ (15 - i) - 2 * value_after counts i) (few_below h) in
+      let w = place_within (code_lengths counts) counts i (sum (take i counts)) (value_after counts i) within
+      (tried-at counts i (omega arith)) (bits / 2 ^ (15 - i) - 2 * value_after counts i) (few_below h) in
       omega (arith, e, p, w)
 
   pub row_found : bits / 2 ^ (15 - i) < (get_or rows i no_row).end → NoneYet counts bits i
-      → code_in (code_lengths counts) (low_bits 16 bits) ≡ Some ((get_or rows i no_row).place + (bits / 2 ^ (15 - i) - (get_or rows i no_row).first), i + 1)
+      → code_in (code_lengths counts) (low_bits 16 bits) ≡ Some (
+        (get_or rows i no_row).place
+            + (bits / 2 ^ (15 - i) - (get_or rows i no_row).first),
+        i + 1,
+      )
   row_found h none =
       let e = ap (λ (r : Row). r.first) (holds i lt) in
       let f = first_le in
-      code_found (code_lengths counts) counts i (sum (take i counts)) (value_after counts i) within (tried-at counts i (omega arith)) (low_bits 16 bits) (bits / 2 ^ (15 - i)) (prefix_number bits i fits lt) (omega (arith, e, f)) (few_below h) none
+      code_found (code_lengths counts) counts i (sum (take i counts)) (value_after counts i) within
+      (tried-at counts i (omega arith)) (low_bits 16 bits) (bits / 2 ^ (15 - i)) (prefix_number bits i fits lt)
+      (omega (arith, e, f)) (few_below h) none
       ∙ ap (λ (r : Row). Some (r.place + (bits / 2 ^ (15 - i) - r.first), i + 1)) (sym (holds i lt))
 
-  pub row_missed : (get_or rows i no_row).end ≤ bits / 2 ^ (15 - i) → NoneYet counts bits i → NoneYet counts bits (i + 1)
+  pub row_missed : (get_or rows i no_row).end ≤ bits / 2 ^ (15 - i) → NoneYet counts bits i
+      → NoneYet counts bits (i + 1)
   row_missed h none =
       let e = ap (λ (r : Row). r.end) (holds i lt) in
       let v = value-more counts i within in
-      subst (λ (n : ℕ). first_from (begins (code_lengths counts) (low_bits 16 bits)) 0 (length (code_lengths counts)) ≡ first_from (begins (code_lengths counts) (low_bits 16 bits)) n (length (code_lengths counts) - n)) (sym (place-more counts i within))
-      (code_missed (code_lengths counts) counts i (sum (take i counts)) (value_after counts i) within (tried-at counts i (omega arith)) (low_bits 16 bits) (bits / 2 ^ (15 - i)) (prefix_number bits i fits lt) (λ g. omega (arith, e, v, h)) none)
+      subst (λ (n : ℕ). first_from (begins (code_lengths counts) (low_bits 16 bits)) 0 (length (code_lengths counts))
+      ≡ first_from (begins (code_lengths counts) (low_bits 16 bits)) n (length (code_lengths counts) - n))
+      (sym (place-more counts i within))
+      (code_missed (code_lengths counts) counts i (sum (take i counts)) (value_after counts i) within
+      (tried-at counts i (omega arith)) (low_bits 16 bits) (bits / 2 ^ (15 - i)) (prefix_number bits i fits lt)
+      (λ g. omega (arith, e, v, h)) none)
 
-  pub above_more : (get_or rows i no_row).end ≤ bits / 2 ^ (15 - i) → value_after counts (i + 1) ≤ bits / 2 ^ (16 - (i + 1))
+  pub above_more : (get_or rows i no_row).end ≤ bits / 2 ^ (15 - i)
+      → value_after counts (i + 1) ≤ bits / 2 ^ (16 - (i + 1))
   above_more h =
       let e = ap (λ (r : Row). r.end) (holds i lt) in
       let s : 16 - (i + 1) ≡ 15 - i = omega arith in
       subst (λ (k : ℕ). value_after counts (i + 1) ≤ bits / 2 ^ k) (sym s) (omega (arith, e, h))
 
-pub none_found : (counts : List ℕ) (bits i : ℕ) → length counts ≡ 16 → 16 ≤ i → i ≤ 16 → NoneYet counts bits i → code_in (code_lengths counts) (low_bits 16 bits) ≡ None
-none_found counts bits i counted h g none = code_none (code_lengths counts) counts i (sum (take i counts)) (value_after counts i) (low_bits 16 bits) (omega arith) (tried-at counts i (omega arith)) none
+pub none_found : (counts : List ℕ) (bits i : ℕ) → length counts ≡ 16 → 16 ≤ i → i ≤ 16 → NoneYet counts bits i
+    → code_in (code_lengths counts) (low_bits 16 bits) ≡ None
+none_found counts bits i counted h g none = code_none (code_lengths counts) counts i (sum (take i counts))
+    (value_after counts i) (low_bits 16 bits) (omega arith) (tried-at counts i (omega arith)) none
 
-pub same_row : (a b c d e f : ℕ) → a ≡ d → b ≡ e → c ≡ f → ◌≡◌ {A = Row} (record { end = a; first = b; place = c }) (record { end = d; first = e; place = f })
+pub same_row : (a b c d e f : ℕ) → a ≡ d → b ≡ e → c ≡ f → ◌≡◌ {A = Row} (record { end = a; first = b; place = c })
+    (record { end = d; first = e; place = f })
 same_row a b c d e f p q r = rw (p, q, r) refl

@@ -14,8 +14,10 @@ use Rattle.jpeg_bits.specs.Written.{bit, low_bits}
 pub takes-gives : {A : Type 0} (x : A) → ReadsJust (gives x) [] x
 takes-gives x = record { read = λ rest places e. refl }
 
-pub places-after : (bits more : List Bool) (places : List (List ℕ)) → drop (length more) (drop (length bits) places) ≡ drop (length (bits ++ more)) places
-places-after bits more places = drop-drop (length more) (length bits) places ∙ ap (λ (n : ℕ). drop n places) (sym (length-append bits more))
+pub places-after : (bits more : List Bool) (places : List (List ℕ)) → drop (length more) (drop (length bits) places)
+    ≡ drop (length (bits ++ more)) places
+places-after bits more places = drop-drop (length more) (length bits) places
+    ∙ ap (λ (n : ℕ). drop n places) (sym (length-append bits more))
 
 pub takes-bind : {A B : Type 0} (p : Reads A) (f : A → Reads B) (bits more : List Bool) (x : A) (y : B)
     → ReadsJust p bits x → ReadsJust (f x) more y → ReadsJust (p >>= f) (bits ++ more) y
@@ -48,7 +50,8 @@ pub onto-bits : (n a v : ℕ) → number_onto a (low_bits n v) ≡ a * 2 ^ n + v
 unfolding low_bits
 onto-bits zero a v = omega (arith, mod-one v)
 onto-bits (suc n) a v =
-    let e : (2 * a + v / 2 ^ n % 2) * 2 ^ n + v % 2 ^ n ≡ a * 2 ^ suc n + v % 2 ^ suc n = carry a (v / 2 ^ n % 2) (2 ^ n) (v % 2 ^ n) _ _ (pow-suc 2 n) (low_bits-mod n v) in
+    let e : (2 * a + v / 2 ^ n % 2) * 2 ^ n + v % 2 ^ n ≡ a * 2 ^ suc n + v % 2 ^ suc n =
+    carry a (v / 2 ^ n % 2) (2 ^ n) (v % 2 ^ n) _ _ (pow-suc 2 n) (low_bits-mod n v) in
     ap (λ (b : ℕ). number_onto (2 * a + b) (low_bits n v)) (bit-value (v / 2 ^ n % 2) (omega arith))
     ∙ onto-bits n (2 * a + v / 2 ^ n % 2) v ∙ e
 
@@ -71,12 +74,18 @@ pub takes-bits : (n : ℕ) (bits : List Bool) → length bits ≡ n → ReadsJus
 unfolding bits_from
 takes-bits n bits h = record {
   read = λ rest places e.
-      rw (has_enough n (bits ++ rest) e (omega (arith, length-append bits rest)), front n bits rest h, drop_at bits rest n h, h) refl;
+      rw (
+        has_enough n (bits ++ rest) e (omega (arith, length-append bits rest)),
+        front n bits rest h,
+        drop_at bits rest n h,
+        h,
+      ) refl;
 }
 
 pub takes-number : (n v : ℕ) → v < 2 ^ n → ReadsJust (bits_from n) (low_bits n v) v
 takes-number n v h =
-    subst (λ (x : ℕ). ReadsJust (bits_from n) (low_bits n v) x) (number_of-low_bits n v h) (takes-bits n (low_bits n v) (length-low_bits n v))
+    subst (λ (x : ℕ). ReadsJust (bits_from n) (low_bits n v) x) (number_of-low_bits n v h)
+    (takes-bits n (low_bits n v) (length-low_bits n v))
 
 pub one-bit : (b : ℕ) → b < 2 → number_of (bit b ∷ []) ≡ b
 one-bit b h = omega (arith, bit-value b h)
@@ -85,8 +94,11 @@ pub takes-bit : (b : ℕ) → b < 2 → ReadsJust (bits_from 1) (bit b ∷ []) b
 takes-bit b h =
     subst (λ (x : ℕ). ReadsJust (bits_from 1) (bit b ∷ []) x) (one-bit b h) (takes-bits 1 (bit b ∷ []) refl)
 
-pub takes-map : {A B : Type 0} (p : Reads A) (f : A → B) (bits : List Bool) (x : A) → ReadsJust p bits x → ReadsJust (p >>= (λ r. gives (f r))) bits (f x)
+pub takes-map : {A B : Type 0} (p : Reads A) (f : A → B) (bits : List Bool) (x : A) → ReadsJust p bits x
+    → ReadsJust (p >>= (λ r. gives (f r))) bits (f x)
 takes-map p f bits x h = record { read = λ rest places e. rw (h.read rest places e) refl }
 
-pub takes-as : {A : Type 0} (p : Reads A) (bits more : List Bool) (x y : A) → bits ≡ more → x ≡ y → ReadsJust p bits x → ReadsJust p more y
-takes-as {A} p bits more x y e f h = subst (λ (b : List Bool). ReadsJust p b y) e (subst (λ (z : A). ReadsJust p bits z) f h)
+pub takes-as : {A : Type 0} (p : Reads A) (bits more : List Bool) (x y : A) → bits ≡ more → x ≡ y → ReadsJust p bits x
+    → ReadsJust p more y
+takes-as {A} p bits more x y e f h = subst (λ (b : List Bool). ReadsJust p b y) e (subst (λ (z : A). ReadsJust p bits z)
+    f h)

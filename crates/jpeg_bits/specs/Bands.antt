@@ -41,9 +41,15 @@ token_at room size r s =
     elim (nat_lt 0 s) [
       | true ↦ elim (nat_lt r room) [
         | true ↦ signed_from s >>= (λ v. gives (Value r v))
-        | false ↦ elim (nat_le (size + s) 8) [ true ↦ signed_from s >>= (λ v. gives Overlong) | false ↦ gives Overlong ]
+        | false ↦ elim (nat_le (size + s) 8) [
+          | true ↦ signed_from s >>= (λ v. gives Overlong)
+          | false ↦ gives Overlong
+        ]
       ]
-      | false ↦ elim (r == 15) [ true ↦ gives Sixteen | false ↦ bits_from r >>= (λ e. gives (Rest (2 ^ r - 1 + e))) ]
+      | false ↦ elim (r == 15) [
+        | true ↦ gives Sixteen
+        | false ↦ bits_from r >>= (λ e. gives (Rest (2 ^ r - 1 + e)))
+      ]
     ]
 
 -- the next token: a code of the symbol 16 r + s, and the bits after it
@@ -62,8 +68,10 @@ before_more front more = (front ++ more.0, more.1)
 -- nothing.
 abbrev pub after_token : ℕ → (List ℤ → Reads Band) → List ℤ → Token → Reads Band
 after_token al others rest (Value r v) =
-    others (drop (r + 1) rest) >>= (λ more. gives (before_more (take r rest ++ wrapped (v *ℤ pos (2 ^ al)) ∷ []) more))
-after_token al others rest Sixteen = others (drop 16 rest) >>= (λ more. gives (before_more (take 16 rest) more))
+    others (drop (r + 1) rest) >>= (λ more.
+    gives (before_more (take r rest ++ wrapped (v *ℤ pos (2 ^ al)) ∷ []) more))
+after_token al others rest Sixteen =
+    others (drop 16 rest) >>= (λ more. gives (before_more (take 16 rest) more))
 after_token al others rest (Rest run) = gives (rest, run)
 after_token al others rest Overlong = gives (rest, 0)
 
@@ -71,7 +79,8 @@ after_token al others rest Overlong = gives (rest, 0)
 unfoldable pub first_ac : Table → ℕ → ℕ → List ℤ → Reads Band
 first_ac table al n [] = gives ([], 0)
 first_ac table al zero (x ∷ rest) = refused
-first_ac table al (suc n) (x ∷ rest) = token_from table (length (x ∷ rest)) >>= after_token al (first_ac table al n) (x ∷ rest)
+first_ac table al (suc n) (x ∷ rest) =
+    token_from table (length (x ∷ rest)) >>= after_token al (first_ac table al n) (x ∷ rest)
 
 -- the zeros of a value are within the room
 abbrev pub IsWithinRoom : ℕ → Token → Type 0

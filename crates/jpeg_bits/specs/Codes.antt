@@ -39,7 +39,8 @@ first_from test i (suc n) = if test i then Some i else first_from test (i + 1) n
 
 -- the place and the length of the code that begins the bits
 unfoldable pub code_in : List ℕ → List Bool → Option (ℕ × ℕ)
-code_in lengths bits = option_map (λ i. (i, slice_index lengths i)) (first_from (begins lengths bits) 0 (length lengths))
+code_in lengths bits = option_map (λ i. (i, slice_index lengths i))
+    (first_from (begins lengths bits) 0 (length lengths))
 
 -- what a table is: its class, its counts and its symbols
 pub record Table : Type 0 where
@@ -58,7 +59,8 @@ next_16 bits = take 16 (bits ++ replicate 16 false)
 
 abbrev pub symbol_by : Table → Text → Option (ℕ × ℕ) → Result (ℕ × Text) Fault
 symbol_by table t None = Err Malformed
-symbol_by table t (Some c) = has_bits c.1 t.bits t.ending >>= λ _. Ok (slice_index table.symbols c.0, advance c.1 t)
+symbol_by table t (Some c) = has_bits c.1 t.bits t.ending >>= λ _.
+    Ok (slice_index table.symbols c.0, advance c.1 t)
 
 -- the symbol whose code begins the bits
 unfoldable pub symbol_from : Table → Text → Result (ℕ × Text) Fault
@@ -71,7 +73,8 @@ if_held x t (Err e) = Err e
 
 abbrev pub code_by : Table → Text → Option (ℕ × ℕ) → Result ((ℕ × ℕ) × Text) Fault
 code_by table t None = Err Malformed
-code_by table t (Some c) = if_held (c.1, slice_index table.symbols c.0) (advance c.1 t) (has_bits c.1 t.bits t.ending)
+code_by table t (Some c) = if_held (c.1, slice_index table.symbols c.0) (advance c.1 t)
+    (has_bits c.1 t.bits t.ending)
 
 -- the code that begins the bits: its length and its symbol
 unfoldable pub code_from : Table → Reads (ℕ × ℕ)
@@ -85,19 +88,22 @@ is_ac classes.AC = true
 abbrev pub short_token : Table → ℕ × ℕ → Option (ℕ × ℕ)
 short_token table c =
     let symbol = slice_index table.symbols c.0 in
-    if is_ac table.class && (nat_lt 0 (symbol % 16) && nat_le (c.1 + symbol % 16) 8) then Some (symbol / 16, symbol % 16) else None
+    if is_ac table.class && (nat_lt 0 (symbol % 16) && nat_le (c.1 + symbol % 16) 8)
+    then Some (symbol / 16, symbol % 16) else None
 
 -- after the code, where the value has its bits too
 abbrev pub after_code : ℕ → Text → Option (ℕ × ℕ) → Result (Option (ℕ × ℕ) × Text) Fault
 after_code length t None = Ok (None, t)
-after_code length t (Some token) = has_bits (length + token.1) t.bits t.ending >>= λ _. Ok (Some token, advance length t)
+after_code length t (Some token) =
+    has_bits (length + token.1) t.bits t.ending >>= λ _. Ok (Some token, advance length t)
 
 abbrev pub short_code_by : Table → Text → Option (ℕ × ℕ) → Result (Option (ℕ × ℕ) × Text) Fault
 short_code_by table t None = Ok (None, t)
 short_code_by table t (Some c) = after_code c.1 t (short_token table c)
 
 unfoldable pub short_code_from : Table → Text → Result (Option (ℕ × ℕ) × Text) Fault
-short_code_from table t = short_code_by table t (code_in (code_lengths table.counts) (next_16 t.bits))
+short_code_from table t = short_code_by table t (code_in (code_lengths table.counts)
+    (next_16 t.bits))
 
 -- the value and the run of a short token, or none
 abbrev pub short_value : Option (ℕ × ℕ) → Reads (Option (ℤ × ℕ))
@@ -122,4 +128,5 @@ all_below p (suc n) = all_below p n && p n
 
 -- whether the codes exist, as a test
 unfoldable pub codes_exist : List ℕ → Bool
-codes_exist lengths = all_below (λ i. nat_lt (code_value lengths i) (2 ^ slice_index lengths i)) (length lengths)
+codes_exist lengths = all_below (λ i. nat_lt (code_value lengths i) (2 ^ slice_index lengths i))
+    (length lengths)

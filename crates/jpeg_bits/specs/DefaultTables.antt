@@ -11,11 +11,21 @@ categories = 0 ∷ 1 ∷ 2 ∷ 3 ∷ 4 ∷ 5 ∷ 6 ∷ 7 ∷ 8 ∷ 9 ∷ 10 ∷ 
 
 -- Table K.3: DC differences of luminance.
 abbrev pub luminance_dc : Table
-luminance_dc = record { class = DC; counts = 0 ∷ 1 ∷ 5 ∷ 1 ∷ 1 ∷ 1 ∷ 1 ∷ 1 ∷ 1 ∷ 0 ∷ 0 ∷ 0 ∷ 0 ∷ 0 ∷ 0 ∷ 0 ∷ []; symbols = categories }
+luminance_dc =
+    record {
+      class = DC;
+      counts = 0 ∷ 1 ∷ 5 ∷ 1 ∷ 1 ∷ 1 ∷ 1 ∷ 1 ∷ 1 ∷ 0 ∷ 0 ∷ 0 ∷ 0 ∷ 0 ∷ 0 ∷ 0 ∷ [];
+      symbols = categories;
+    }
 
 -- Table K.4: DC differences of chrominance.
 abbrev pub chrominance_dc : Table
-chrominance_dc = record { class = DC; counts = 0 ∷ 3 ∷ 1 ∷ 1 ∷ 1 ∷ 1 ∷ 1 ∷ 1 ∷ 1 ∷ 1 ∷ 1 ∷ 0 ∷ 0 ∷ 0 ∷ 0 ∷ 0 ∷ []; symbols = categories }
+chrominance_dc =
+    record {
+      class = DC;
+      counts = 0 ∷ 3 ∷ 1 ∷ 1 ∷ 1 ∷ 1 ∷ 1 ∷ 1 ∷ 1 ∷ 1 ∷ 1 ∷ 0 ∷ 0 ∷ 0 ∷ 0 ∷ 0 ∷ [];
+      symbols = categories;
+    }
 
 abbrev pub luminance_symbols : List ℕ
 luminance_symbols =
@@ -33,7 +43,12 @@ luminance_symbols =
 
 -- Table K.5: AC coefficients of luminance.
 abbrev pub luminance_ac : Table
-luminance_ac = record { class = AC; counts = 0 ∷ 2 ∷ 1 ∷ 3 ∷ 3 ∷ 2 ∷ 4 ∷ 3 ∷ 5 ∷ 5 ∷ 4 ∷ 4 ∷ 0 ∷ 0 ∷ 1 ∷ 125 ∷ []; symbols = luminance_symbols }
+luminance_ac =
+    record {
+      class = AC;
+      counts = 0 ∷ 2 ∷ 1 ∷ 3 ∷ 3 ∷ 2 ∷ 4 ∷ 3 ∷ 5 ∷ 5 ∷ 4 ∷ 4 ∷ 0 ∷ 0 ∷ 1 ∷ 125 ∷ [];
+      symbols = luminance_symbols;
+    }
 
 abbrev pub chrominance_symbols : List ℕ
 chrominance_symbols =
@@ -51,7 +66,12 @@ chrominance_symbols =
 
 -- Table K.6: AC coefficients of chrominance.
 abbrev pub chrominance_ac : Table
-chrominance_ac = record { class = AC; counts = 0 ∷ 2 ∷ 1 ∷ 2 ∷ 4 ∷ 4 ∷ 3 ∷ 4 ∷ 7 ∷ 5 ∷ 4 ∷ 4 ∷ 0 ∷ 1 ∷ 2 ∷ 119 ∷ []; symbols = chrominance_symbols }
+chrominance_ac =
+    record {
+      class = AC;
+      counts = 0 ∷ 2 ∷ 1 ∷ 2 ∷ 4 ∷ 4 ∷ 3 ∷ 4 ∷ 7 ∷ 5 ∷ 4 ∷ 4 ∷ 0 ∷ 1 ∷ 2 ∷ 119 ∷ [];
+      symbols = chrominance_symbols;
+    }
 
 -- ---- what is filled
 
@@ -75,7 +95,8 @@ filled default named None = if named then Some default else None
 abbrev pub with_defaults : Table → Table → List ℕ → List (Option Table) → List (Option Table)
 with_defaults luminance chrominance places [] = []
 with_defaults luminance chrominance places (a ∷ []) = filled luminance (names places 0) a ∷ []
-with_defaults luminance chrominance places (a ∷ b ∷ more) = filled luminance (names places 0) a ∷ filled chrominance (names places 1) b ∷ more
+with_defaults luminance chrominance places (a ∷ b ∷ more) =
+    filled luminance (names places 0) a ∷ filled chrominance (names places 1) b ∷ more
 
 -- Each place is as it was or as it would be.
 unfoldable pub AreBetween : List (Option Table) → List (Option Table) → List (Option Table) → Type 0

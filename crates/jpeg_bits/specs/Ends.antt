@@ -10,7 +10,11 @@ unfoldable pub after_bytes : ℕ → List ℕ → List ℕ
 after_bytes zero bytes = bytes
 after_bytes (suc n) [] = []
 after_bytes (suc n) (b ∷ []) = []
-after_bytes (suc n) (b ∷ c ∷ bytes) = elim (b == 0xFF) [ true ↦ after_bytes n bytes | false ↦ after_bytes n (c ∷ bytes) ]
+after_bytes (suc n) (b ∷ c ∷ bytes) =
+    elim (b == 0xFF) [
+      | true ↦ after_bytes n bytes
+      | false ↦ after_bytes n (c ∷ bytes)
+    ]
 
 -- the end that is met: its marker and the bytes after it, or its fault
 abbrev pub met : Ending → Outcome (Option Marker)
@@ -21,4 +25,7 @@ met (Broken f) = Err f
 -- before it. Else reading goes on after the bytes that hold the bits taken and 57 more.
 unfoldable pub end_after : ℕ → List ℕ → List Bool → Ending → Outcome (Option Marker)
 end_after k bytes left e =
-    elim (nat_le (length left) 56) [ true ↦ met e | false ↦ Ok (None, after_bytes ((k + 57 + 7) / 8) bytes) ]
+    elim (nat_le (length left) 56) [
+      | true ↦ met e
+      | false ↦ Ok (None, after_bytes ((k + 57 + 7) / 8) bytes)
+    ]

@@ -27,14 +27,20 @@ pub record Text : Type 0 where
 
 -- a byte as eight bits, the highest first
 abbrev pub bits_of : ℕ → List Bool
-bits_of b = (b / 128 % 2 == 1) ∷ (b / 64 % 2 == 1) ∷ (b / 32 % 2 == 1) ∷ (b / 16 % 2 == 1) ∷ (b / 8 % 2 == 1) ∷ (b / 4 % 2 == 1) ∷ (b / 2 % 2 == 1) ∷ (b % 2 == 1) ∷ []
+bits_of b = (b / 128 % 2 == 1) ∷ (b / 64 % 2 == 1) ∷ (b / 32 % 2 == 1) ∷ (b / 16 % 2 == 1)
+    ∷ (b / 8 % 2 == 1) ∷ (b / 4 % 2 == 1) ∷ (b / 2 % 2 == 1) ∷ (b % 2 == 1) ∷ []
 
 abbrev pub no_bits : Ending → Text
 no_bits e = record { bits = []; places = []; ending = e }
 
 -- a byte in front of a text, where rest stands after the byte
 abbrev pub add_byte : ℕ → List ℕ → Text → Text
-add_byte b rest t = record { bits = bits_of b ++ t.bits; places = replicate 8 rest ++ t.places; ending = t.ending }
+add_byte b rest t =
+    record {
+      bits = bits_of b ++ t.bits;
+      places = replicate 8 rest ++ t.places;
+      ending = t.ending;
+    }
 
 -- how the data ended, where rest stands after it
 abbrev pub ending_of : DataEnd → List ℕ → Ending
@@ -60,7 +66,8 @@ unfoldable pub text_at : List ℕ → Text
 text_at [] = no_bits (Broken End)
 text_at (b ∷ []) = if b == 255 then no_bits (Broken End) else add_byte b [] (no_bits (Broken End))
 text_at (b ∷ c ∷ rest) =
-    if b == 255 then (if c == 0 then add_byte 255 rest (text_at rest) else no_bits (ending_by (filled_end (c ∷ rest))))
+    if b == 255 then (if c == 0 then add_byte 255 rest (text_at rest)
+    else no_bits (ending_by (filled_end (c ∷ rest))))
     else add_byte b (c ∷ rest) (text_at (c ∷ rest))
 
 -- What a decoder holds: the bits read ahead, and how the data ended where that was met and not
@@ -77,8 +84,17 @@ fresh = record { bits = []; met = None }
 -- those of the bits from the 57th on: only there can reading go on.
 abbrev pub upcoming_by : List Bool → Option DataEnd → List ℕ → Text
 upcoming_by bits None bytes =
-    record { bits = bits ++ (text_at bytes).bits; places = drop 56 (replicate (length bits) bytes ++ (text_at bytes).places); ending = (text_at bytes).ending }
-upcoming_by bits (Some e) bytes = record { bits = bits; places = drop 56 (replicate (length bits) bytes); ending = ending_of e bytes }
+    record {
+      bits = bits ++ (text_at bytes).bits;
+      places = drop 56 (replicate (length bits) bytes ++ (text_at bytes).places);
+      ending = (text_at bytes).ending;
+    }
+upcoming_by bits (Some e) bytes =
+    record {
+      bits = bits;
+      places = drop 56 (replicate (length bits) bytes);
+      ending = ending_of e bytes;
+    }
 
 -- the text that a decoder and the bytes after it stand for
 unfoldable pub upcoming : Ahead → List ℕ → Text
@@ -115,9 +131,11 @@ marker_from t = marker_by t.places t.ending
 
 -- A call on a decoder and a source, from a and old to b and new, answered what reading the text
 -- that they stand for gives.
-abbrev pub Takes : {X Y : Type 0} → (X → Y) → (Text → Result (Y × Text) Fault) → Ahead → Stream → Result X Error → Ahead → Stream → Type 0
+abbrev pub Takes : {X Y : Type 0} → (X → Y) → (Text → Result (Y × Text) Fault) → Ahead → Stream
+    → Result X Error → Ahead → Stream → Type 0
 Takes view read a old (Ok x) b new =
-    (new.failed ≡ old.failed) × (old.known ≡ true → (new.known ≡ true) × (read (upcoming a old.bytes) ≡ Ok (view x, upcoming b new.bytes)))
+    (new.failed ≡ old.failed) × (old.known ≡ true → (new.known ≡ true)
+    × (read (upcoming a old.bytes) ≡ Ok (view x, upcoming b new.bytes)))
 Takes view read a old (Err e) b new =
     MayFail e old.failed new.failed
     × (old.known ≡ true → new.known ≡ true → Names e (read (upcoming a old.bytes)))
@@ -139,7 +157,10 @@ same_text t = Ok (0, t)
 -- what comes next: a byte with its stuffing taken out, or the end
 abbrev pub after_ff : List ℕ → Piece × List ℕ
 after_ff [] = (Data ends.Ended, [])
-after_ff (c ∷ rest) = if c == 0 then (Byte 255, rest) else (Data (filled_end (c ∷ rest)).0, (filled_end (c ∷ rest)).1)
+after_ff (c ∷ rest) = if c == 0 then (Byte 255, rest) else (
+  Data (filled_end (c ∷ rest)).0,
+  (filled_end (c ∷ rest)).1,
+)
 
 abbrev pub piece_of : List ℕ → Piece × List ℕ
 piece_of [] = (Data ends.Ended, [])

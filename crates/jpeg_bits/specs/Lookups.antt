@@ -15,10 +15,16 @@ value_token room r v = elim (nat_lt r room) [ true ↦ Value r v | false ↦ Ove
 unfoldable pub slow_token : ℕ → ℕ → ℕ → Reads Token
 slow_token room r s =
     elim (nat_lt 0 s) [
-      | true ↦ elim (nat_lt r room) [ true ↦ signed_from s >>= (λ v. gives (Value r v)) | false ↦ gives Overlong ]
+      | true ↦ elim (nat_lt r room) [
+        | true ↦ signed_from s >>= (λ v. gives (Value r v))
+        | false ↦ gives Overlong
+      ]
       | false ↦ elim (r == 15) [
         | true ↦ gives Sixteen
-        | false ↦ elim (nat_lt 0 r) [ true ↦ bits_from r >>= (λ e. gives (Rest (2 ^ r - 1 + e))) | false ↦ gives (Rest 0) ]
+        | false ↦ elim (nat_lt 0 r) [
+          | true ↦ bits_from r >>= (λ e. gives (Rest (2 ^ r - 1 + e)))
+          | false ↦ gives (Rest 0)
+        ]
       ]
     ]
 

@@ -58,7 +58,10 @@ or_bit al z b = elim (bit_of al z == 0) [ true ↦ z +ℤ pos (b * 2 ^ al) | fal
 unfoldable pub dc_part : Pass → Table → ℤ → ℤ → Reads (ℤ × ℤ)
 dc_part p dc z predictor =
     elim (p.ss == 0) [
-      | true ↦ elim p.is_first [ true ↦ first_dc dc p.al predictor | false ↦ bits_from 1 >>= (λ b. gives (or_bit p.al z b, predictor)) ]
+      | true ↦ elim p.is_first [
+        | true ↦ first_dc dc p.al predictor
+        | false ↦ bits_from 1 >>= (λ b. gives (or_bit p.al z b, predictor))
+      ]
       | false ↦ gives (z, predictor)
     ]
 
@@ -72,7 +75,10 @@ band_part p ac (x ∷ band) zero =
       | false ↦ refined_ac ac p.al (length (x ∷ band)) (x ∷ band)
     ]
 band_part p ac (x ∷ band) (suc run) =
-    elim p.is_first [ true ↦ gives (x ∷ band, run) | false ↦ corrected p.al (x ∷ band) >>= (λ all. gives (all, run)) ]
+    elim p.is_first [
+      | true ↦ gives (x ∷ band, run)
+      | false ↦ corrected p.al (x ∷ band) >>= (λ all. gives (all, run))
+    ]
 
 -- A block on what is held of it: the block, the next predictor of its component, and the blocks of
 -- the run that follows.

@@ -6,7 +6,8 @@ use Rattle.jpeg_bits.specs.Entropy.{Text, Ending, bits_from, extended}
 abbrev pub Reads : Type 0 → Type 0
 Reads A = Text → Result (A × Text) Fault
 
-abbrev pub read_on : {A B : Type 0} → (A → Reads B) → Result (A × Text) Fault → Result (B × Text) Fault
+abbrev pub read_on : {A B : Type 0} → (A → Reads B) → Result (A × Text) Fault
+    → Result (B × Text) Fault
 read_on f (Ok r) = f r.0 r.1
 read_on f (Err e) = Err e
 
@@ -33,4 +34,5 @@ text bits places e = record { bits = bits; places = places; ending = e }
 
 -- Of a text that begins with these bits, these are read, and give x.
 pub record ReadsJust {A : Type 0} (p : Reads A) (bits : List Bool) (x : A) : Type 0 where
-  pub read : (rest : List Bool) (places : List (List ℕ)) (e : Ending) → p (text (bits ++ rest) places e) ≡ Ok (x, text rest (drop (length bits) places) e)
+  pub read : (rest : List Bool) (places : List (List ℕ)) (e : Ending)
+      → p (text (bits ++ rest) places e) ≡ Ok (x, text rest (drop (length bits) places) e)

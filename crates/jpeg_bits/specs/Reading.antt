@@ -36,7 +36,8 @@ Names errors.OutOfMemory outcome = Unit {0}
 -- A source that has failed stays so, and becomes so only with Io. An Io of a source that has not
 -- failed is the end of its bytes.
 abbrev pub MayFail : Error → Bool → Bool → Type 0
-MayFail (errors.Io e) old new = (old ≡ true → new ≡ true) × (new ≡ false → error_kind e ≡ UnexpectedEof)
+MayFail (errors.Io e) old new =
+    (old ≡ true → new ≡ true) × (new ≡ false → error_kind e ≡ UnexpectedEof)
 MayFail (errors.Format text) old new = new ≡ old
 MayFail (errors.Unsupported feature) old new = new ≡ old
 MayFail (errors.Internal text) old new = ⊥
@@ -56,9 +57,11 @@ abbrev pub IsShort : Stream → Type 0
 IsShort s = s.known ≡ true → length s.bytes < 2 ^ 64
 
 -- A call on a source, from old to new, answered what reading the bytes of old gives.
-abbrev pub Answers : {X Y : Type 0} → (X → Y) → (List ℕ → Outcome Y) → Stream → Result X Error → Stream → Type 0
+abbrev pub Answers : {X Y : Type 0} → (X → Y) → (List ℕ → Outcome Y) → Stream → Result X Error
+    → Stream → Type 0
 Answers view read old (Ok x) new =
-    (new.failed ≡ old.failed) × (old.known ≡ true → (new.known ≡ true) × (read old.bytes ≡ Ok (view x, new.bytes)))
+    (new.failed ≡ old.failed) × (old.known ≡ true → (new.known ≡ true)
+    × (read old.bytes ≡ Ok (view x, new.bytes)))
 Answers view read old (Err e) new =
     MayFail e old.failed new.failed
     × (old.known ≡ true → new.known ≡ true → Names e (read old.bytes))
@@ -87,8 +90,11 @@ NamesEnd errors.OutOfMemory = ⊥
 abbrev pub ReadsSome : Stream → Result ℕ Error → List ℕ → Stream → Type 0
 ReadsSome old (Ok n) buffer new =
     (n ≤ length buffer) × (new.failed ≡ old.failed)
-    × (old.known ≡ true → (new.known ≡ true) × (old.bytes ≡ take n buffer ++ new.bytes) × (n ≡ 0 → 0 < length buffer → new.bytes ≡ []))
-ReadsSome old (Err e) buffer new = MayFail e old.failed new.failed × (old.known ≡ true → new.known ≡ true → ⊥) × (old.known ≡ true → new.known ≡ false → IsGivenUp e new.failed)
+    × (old.known ≡ true → (new.known ≡ true) × (old.bytes ≡ take n buffer ++ new.bytes)
+    × (n ≡ 0 → 0 < length buffer → new.bytes ≡ []))
+ReadsSome old (Err e) buffer new = MayFail e old.failed new.failed
+    × (old.known ≡ true → new.known ≡ true → ⊥) × (old.known ≡ true → new.known ≡ false
+    → IsGivenUp e new.failed)
 
 -- the higher byte first
 unfoldable pub next_u16 : List ℕ → Outcome ℕ

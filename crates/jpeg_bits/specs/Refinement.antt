@@ -30,7 +30,10 @@ abbrev pub corrected_by : ℕ → ℤ → ℕ → Reads ℤ
 corrected_by al z zero = gives z
 corrected_by al z (suc b) =
     elim (bit_of al z == 0) [
-      | true ↦ elim (fits_i16 (moved (2 ^ al) z)) [ true ↦ gives (moved (2 ^ al) z) | false ↦ refused ]
+      | true ↦ elim (fits_i16 (moved (2 ^ al) z)) [
+        | true ↦ gives (moved (2 ^ al) z)
+        | false ↦ refused
+      ]
       | false ↦ gives z
     ]
 
@@ -38,15 +41,23 @@ corrected_by al z (suc b) =
 unfoldable pub corrected : ℕ → List ℤ → Reads (List ℤ)
 corrected al [] = gives []
 corrected al (z ∷ places) =
-    (elim (is_zero z) [ true ↦ gives z | false ↦ bits_from 1 >>= (λ b. corrected_by al z b) ]) >>= (λ first.
+    (elim (is_zero z) [ true ↦ gives z | false ↦ bits_from 1 >>= (λ b. corrected_by al z b) ])
+    >>= (λ first.
     corrected al places >>= (λ others. gives (first ∷ others)))
 
 -- How many places there are up to zero number r, counted from 0, and with it; or all of them.
 unfoldable pub through_zero : ℕ → List ℤ → ℕ
 through_zero r [] = 0
-through_zero zero (z ∷ places) = elim (is_zero z) [ true ↦ 1 | false ↦ suc (through_zero zero places) ]
+through_zero zero (z ∷ places) =
+    elim (is_zero z) [
+      | true ↦ 1
+      | false ↦ suc (through_zero zero places)
+    ]
 through_zero (suc r) (z ∷ places) =
-    elim (is_zero z) [ true ↦ suc (through_zero r places) | false ↦ suc (through_zero (suc r) places) ]
+    elim (is_zero z) [
+      | true ↦ suc (through_zero r places)
+      | false ↦ suc (through_zero (suc r) places)
+    ]
 
 -- the new number of a sign bit.
 abbrev pub new_number : ℕ → ℕ → ℤ
@@ -71,7 +82,8 @@ refined_piece al others rest r zero =
     ]
 refined_piece al others rest r (suc zero) =
     bits_from 1 >>= (λ sign. corrected al (take (through_zero r rest) rest) >>= (λ front.
-    others (drop (through_zero r rest) rest) >>= (λ more. gives (before_more (with_last (new_number al sign) front) more))))
+    others (drop (through_zero r rest) rest)
+    >>= (λ more. gives (before_more (with_last (new_number al sign) front) more))))
 refined_piece al others rest r (suc (suc s)) = refused
 
 -- The rest of a band, of at most n places, cut into pieces, one a token.
@@ -79,4 +91,5 @@ unfoldable pub refined_ac : Table → ℕ → ℕ → List ℤ → Reads Band
 refined_ac table al n [] = gives ([], 0)
 refined_ac table al zero (x ∷ rest) = refused
 refined_ac table al (suc n) (x ∷ rest) =
-    symbol_from table >>= (λ c. refined_piece al (refined_ac table al n) (x ∷ rest) (c / 16) (c % 16))
+    symbol_from table >>= (λ c. refined_piece al (refined_ac table al n) (x ∷ rest) (c / 16)
+    (c % 16))

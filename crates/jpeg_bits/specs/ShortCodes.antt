@@ -24,7 +24,8 @@ short_only (Some c) = if nat_le c.1 8 then Some c else None
 
 -- the symbol and the length of the code of at most 8 bits that begins 8 bits
 abbrev pub short_code : List ℕ → List ℕ → List Bool → Option (ℕ × ℕ)
-short_code counts symbols eight = named symbols (short_only (code_in (code_lengths counts) (eight ++ replicate 8 false)))
+short_code counts symbols eight =
+    named symbols (short_only (code_in (code_lengths counts) (eight ++ replicate 8 false)))
 
 -- The value and the run of a symbol whose code of this many bits begins 8 bits, and the bits of
 -- both, where they are at most 8, in a table of class AC.
@@ -32,12 +33,17 @@ abbrev pub short_value_by : HuffmanTableClass → List Bool → Option (ℕ × �
 short_value_by class eight None = None
 short_value_by class eight (Some c) =
     if is_ac class && (nat_lt 0 (c.0 % 16) && nat_le (c.1 + c.0 % 16) 8)
-    then Some (extended (number_of (take (c.0 % 16) (drop c.1 eight))) (c.0 % 16), c.0 / 16, c.1 + c.0 % 16)
+    then Some (
+      extended (number_of (take (c.0 % 16) (drop c.1 eight))) (c.0 % 16),
+      c.0 / 16,
+      c.1 + c.0 % 16,
+    )
     else None
 
 -- what 8 bits begin with
 abbrev pub short_value_of : Table → List Bool → Option (ℤ × ℕ × ℕ)
-short_value_of table eight = short_value_by table.class eight (short_code table.counts table.symbols eight)
+short_value_of table eight = short_value_by table.class eight (short_code table.counts table.symbols
+    eight)
 
 -- the next 8 bits, with zeros after them
 abbrev pub next_8 : List Bool → List Bool
@@ -45,11 +51,13 @@ next_8 bits = take 8 (bits ++ replicate 8 false)
 
 -- at the place of each 8 bits stands the code that begins them
 abbrev pub HoldsCodes : List ℕ → List ℕ → List (Option (ℕ × ℕ)) → Type 0
-HoldsCodes counts symbols codes = (b : ℕ) → b < 256 → slice_index_or codes b None ≡ short_code counts symbols (low_bits 8 b)
+HoldsCodes counts symbols codes =
+    (b : ℕ) → b < 256 → slice_index_or codes b None ≡ short_code counts symbols (low_bits 8 b)
 
 -- at the place of each 8 bits stands the value that they begin with
 abbrev pub HoldsValues : Table → List (Option (ℤ × ℕ × ℕ)) → Type 0
-HoldsValues table values = (b : ℕ) → b < 256 → slice_index_or values b None ≡ short_value_of table (low_bits 8 b)
+HoldsValues table values = (b : ℕ) → b < 256
+    → slice_index_or values b None ≡ short_value_of table (low_bits 8 b)
 
 -- the value after the codes of at most i bits, as a number of i bits
 abbrev pub value_after : List ℕ → ℕ → ℕ
@@ -61,7 +69,12 @@ no_row = record { end = 0; first = 0; place = 0 }
 
 -- the codes of i + 1 bits
 abbrev pub row_at : List ℕ → ℕ → Row
-row_at counts i = record { end = value_after counts (i + 1); first = 2 * value_after counts i; place = sum (take i counts) }
+row_at counts i =
+    record {
+      end = value_after counts (i + 1);
+      first = 2 * value_after counts i;
+      place = sum (take i counts);
+    }
 
 -- each row stands at its place
 abbrev pub HoldsRows : List ℕ → List Row → Type 0

@@ -55,7 +55,8 @@ fn read_dc<R: Read + Drop>(
     refusal: &mut Option<Error>,
 ) -> Option<i16>
     requires { IsPass (pass_in pass) }
-    ensures part { Takes (λ z. (z, predictor.new)) (dc_part (pass_in pass) table.now value predictor.old)
+    ensures part { Takes (λ z. (z, predictor.new)) (dc_part (pass_in pass) table.now value
+        predictor.old)
         held.old source.old (answer_of result refusal.new) held.new source.new }
     ensures held { IsHeld result refusal.new }
 {
@@ -91,7 +92,8 @@ fn read_band<R: Read + Drop>(
     requires class { table.now.class ≡ AC }
     requires pass { IsPass (pass_in pass) }
     ensures len { length band.new ≡ length band.old }
-    ensures band { Takes (λ _. (band.new, run.new)) (band_part (pass_in pass) table.now band.old run.old)
+    ensures band { Takes (λ _. (band.new, run.new)) (band_part (pass_in pass) table.now band.old
+        run.old)
         held.old source.old (outcome_of result refusal.new) held.new source.new }
     ensures held { result ≡ false → is_some refusal.new ≡ true }
 {
@@ -139,7 +141,8 @@ pub(crate) fn read_held_block<R: Read + Drop>(
     requires class { ac_table.now.class ≡ AC }
     requires pass { IsPass (pass_in pass) }
     ensures block { Takes (λ _. (to_block block.new, predictor.new, run.new))
-        (block_from (pass_in pass) dc_table.now ac_table.now predictor.old run.old (to_block block.old))
+        (block_from (pass_in pass) dc_table.now ac_table.now predictor.old run.old
+        (to_block block.old))
         held.old source.old (outcome_of result refusal.new) held.new source.new }
     ensures held { result ≡ false → is_some refusal.new ≡ true }
 {
@@ -172,7 +175,8 @@ pub fn take_block<R: Read + Drop>(
     requires class { ac_table.now.class ≡ AC }
     requires pass { IsPass (pass_in pass) }
     ensures block { Takes (λ _. (to_block block.new, predictor.new, run.new))
-        (block_from (pass_in pass) dc_table.now ac_table.now predictor.old run.old (to_block block.old))
+        (block_from (pass_in pass) dc_table.now ac_table.now predictor.old run.old
+        (to_block block.old))
         decoder.old source.old (outcome_of result refusal.new) decoder.new source.new }
     ensures held { result ≡ false → is_some refusal.new ≡ true }
 {
@@ -196,7 +200,8 @@ pub fn read_block<R: Read + Drop>(
     requires class { ac_table.now.class ≡ AC }
     requires pass { IsPass (pass_in pass) }
     ensures { Takes (λ _. (to_block block.new, predictor.new, run.new))
-        (block_from (pass_in pass) dc_table.now ac_table.now predictor.old run.old (to_block block.old))
+        (block_from (pass_in pass) dc_table.now ac_table.now predictor.old run.old
+        (to_block block.old))
         decoder.old source.old result decoder.new source.new }
 {
     let mut refusal = None;

@@ -71,7 +71,9 @@ fn fill(
 ) -> Result<()>
     requires { AreCodes counts.now symbols.now }
     ensures { MatchResult result
-        (λ _. table.new ≡ filled (record { class = class; counts = counts.now; symbols = symbols.now }) named table.old)
+        (λ _. table.new
+        ≡ filled (record { class = class; counts = counts.now; symbols = symbols.now })
+        named table.old)
         (λ e. (e ≡ OutOfMemory) × (table.new ≡ table.old)) }
 {
     if named && table.is_none() {
@@ -95,9 +97,12 @@ fn fill_both(
     requires places { 2 ≤ length tables.old }
     requires luminance { AreCodes luminance_counts.now luminance_symbols.now }
     requires chrominance { AreCodes chrominance_counts.now chrominance_symbols.now }
-    ensures { let whole = with_defaults (record { class = class; counts = luminance_counts.now; symbols = luminance_symbols.now })
-        (record { class = class; counts = chrominance_counts.now; symbols = chrominance_symbols.now }) places.now tables.old in
-        MatchResult result (λ _. tables.new ≡ whole) (λ e. (e ≡ OutOfMemory) × AreBetween tables.old whole tables.new) }
+    ensures { let whole = with_defaults
+        (record { class = class; counts = luminance_counts.now; symbols = luminance_symbols.now })
+        (record { class = class; counts = chrominance_counts.now; symbols = chrominance_symbols.now })
+        places.now tables.old in
+        MatchResult result (λ _. tables.new ≡ whole) (λ e. (e ≡ OutOfMemory)
+        × AreBetween tables.old whole tables.new) }
 {
     fill(
         alloc,
@@ -130,10 +135,14 @@ pub fn fill_default_mjpeg_tables(
 ) -> Result<()>
     requires dc { 2 ≤ length dc_huffman_tables.old }
     requires ac { 2 ≤ length ac_huffman_tables.old }
-    ensures dc { let whole = with_defaults luminance_dc chrominance_dc scan.now.dc_table_indices.items dc_huffman_tables.old in
-        MatchResult result (λ _. dc_huffman_tables.new ≡ whole) (λ e. (e ≡ OutOfMemory) × AreBetween dc_huffman_tables.old whole dc_huffman_tables.new) }
-    ensures ac { let whole = with_defaults luminance_ac chrominance_ac scan.now.ac_table_indices.items ac_huffman_tables.old in
-        MatchResult result (λ _. ac_huffman_tables.new ≡ whole) (λ e. (e ≡ OutOfMemory) × AreBetween ac_huffman_tables.old whole ac_huffman_tables.new) }
+    ensures dc { let whole = with_defaults luminance_dc chrominance_dc
+        scan.now.dc_table_indices.items dc_huffman_tables.old in
+        MatchResult result (λ _. dc_huffman_tables.new ≡ whole) (λ e. (e ≡ OutOfMemory)
+        × AreBetween dc_huffman_tables.old whole dc_huffman_tables.new) }
+    ensures ac { let whole = with_defaults luminance_ac chrominance_ac
+        scan.now.ac_table_indices.items ac_huffman_tables.old in
+        MatchResult result (λ _. ac_huffman_tables.new ≡ whole) (λ e. (e ≡ OutOfMemory)
+        × AreBetween ac_huffman_tables.old whole ac_huffman_tables.new) }
 {
     fill_both(
         alloc,

@@ -164,7 +164,8 @@ impl HuffmanDecoder {
         requires class { ac_table.now.class ≡ AC }
         requires pass { IsPass (pass_in pass) }
         ensures block { Takes (λ _. (to_block block.new, predictor.new, run.new))
-            (block_from (pass_in pass) dc_table.now ac_table.now predictor.old run.old (to_block block.old))
+            (block_from (pass_in pass) dc_table.now ac_table.now predictor.old run.old
+            (to_block block.old))
             self.old source.old (outcome_of result refusal.new) self.new source.new }
         ensures held { result ≡ false → is_some refusal.new ≡ true }
     {

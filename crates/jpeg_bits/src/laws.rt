@@ -31,10 +31,13 @@ pub fn codes_are_read()
 
 /// No two codes begin the same bits, and the one that does is found.
 pub fn codes_are_unique()
-    ensures only { (counts : List ℕ) (bits : List Bool) (i j : ℕ) → length counts ≡ 16 → 16 ≤ length bits →
+    ensures only { (counts : List ℕ) (bits : List Bool) (i j : ℕ) → length counts ≡ 16
+        → 16 ≤ length bits →
         i < length (code_lengths counts) → j < length (code_lengths counts) →
-        begins (code_lengths counts) bits i ≡ true → begins (code_lengths counts) bits j ≡ true → i ≡ j }
-    ensures found { (counts : List ℕ) (bits : List Bool) (i : ℕ) → length counts ≡ 16 → 16 ≤ length bits →
+        begins (code_lengths counts) bits i ≡ true → begins (code_lengths counts) bits j ≡ true
+        → i ≡ j }
+    ensures found { (counts : List ℕ) (bits : List Bool) (i : ℕ) → length counts ≡ 16
+        → 16 ≤ length bits →
         i < length (code_lengths counts) → begins (code_lengths counts) bits i ≡ true →
         code_in (code_lengths counts) bits ≡ Some (i, slice_index (code_lengths counts) i) }
 {}
@@ -55,9 +58,11 @@ pub fn codes_exist_or_not()
 /// (T.81, B.1.1.2), and what is read on is all after both. Where they make one at no index, the
 /// bytes end first.
 pub fn next_markers_are_first()
-    ensures found { (bytes : List ℕ) (i : ℕ) (m : Marker) (rest : List ℕ) → IsNextMarker bytes i m rest →
+    ensures found { (bytes : List ℕ) (i : ℕ) (m : Marker) (rest : List ℕ)
+        → IsNextMarker bytes i m rest →
         next_marker bytes ≡ Ok (m, rest) }
-    ensures only { (bytes : List ℕ) (m : Marker) (rest : List ℕ) → next_marker bytes ≡ Ok (m, rest) →
+    ensures only { (bytes : List ℕ) (m : Marker) (rest : List ℕ) → next_marker bytes ≡ Ok (m, rest)
+        →
         (i : ℕ) × IsNextMarker bytes i m rest }
     ensures none { (bytes : List ℕ) → HasNoMarker bytes → next_marker bytes ≡ Err End }
     ensures refused { (bytes : List ℕ) (f : Fault) → next_marker bytes ≡ Err f → HasNoMarker bytes }

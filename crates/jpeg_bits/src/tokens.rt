@@ -192,7 +192,8 @@ fn read_places<R: Read + Drop>(
     requires class { table.now.class ≡ AC }
     requires point { point ≤ 13 }
     ensures len { length band.new ≡ length band.old }
-    ensures band { Takes (λ run. (band.new, run)) (first_ac table.now point (length band.old) band.old)
+    ensures band { Takes (λ run. (band.new, run)) (first_ac table.now point (length band.old)
+        band.old)
         held.old source.old (answer_of result refusal.new) held.new source.new }
     ensures held { IsHeld result refusal.new }
 {
@@ -232,7 +233,8 @@ pub(crate) fn read_first_band<R: Read + Drop>(
     requires class { table.now.class ≡ AC }
     requires point { point ≤ 13 }
     ensures len { length band.new ≡ length band.old }
-    ensures band { Takes (λ run. (band.new, run)) (first_ac table.now point (length band.old) band.old)
+    ensures band { Takes (λ run. (band.new, run)) (first_ac table.now point (length band.old)
+        band.old)
         held.old source.old (answer_of result refusal.new) held.new source.new }
     ensures held { IsHeld result refusal.new }
 {

@@ -16,7 +16,8 @@ means-samples : (size : Size) (settings : Settings) (samples : Samples) (image r
     (frame : Frame)
     → WritesSamples samples image final → IsWithin settings.limit final frame
     → means_at size settings (image ++ rest) ≡ Ok ((told_of final, picture_of_samples frame samples), rest)
-means-samples FullSize settings samples image rest final frame w within = lossless-means settings samples image rest final frame w within
+means-samples FullSize settings samples image rest final frame w within =
+    lossless-means settings samples image rest final frame w within
 means-samples (AtLeast width height) settings samples image rest final frame w within =
     lossless-sized width height settings samples image rest final frame w within
 

@@ -49,7 +49,8 @@ planes-kept planes place p =
 pub same-at : {A : Type 0} (xs ys : List A) (i : ℕ) (d : A) → drop i xs ≡ drop i ys → get_or xs i d ≡ get_or ys i d
 same-at xs ys i d e =
     let n : i + 0 ≡ i = omega arith in
-    let a : get_or xs (i + 0) d ≡ get_or ys (i + 0) d = sym (get_or-drop i xs 0 d) ∙ (ap (λ (l : List _). get_or l 0 d) e ∙ get_or-drop i ys 0 d) in
+    let a : get_or xs (i + 0) d ≡ get_or ys (i + 0) d = sym (get_or-drop i xs 0 d)
+    ∙ (ap (λ (l : List _). get_or l 0 d) e ∙ get_or-drop i ys 0 d) in
     subst (λ (k : ℕ). get_or xs k d ≡ get_or ys k d) n a
 
 pub same-next : {A : Type 0} (xs ys : List A) (i : ℕ) → drop i xs ≡ drop i ys → drop (i + 1) xs ≡ drop (i + 1) ys
@@ -74,7 +75,8 @@ none-left f xs i h = drop_of_length-le (map f xs) (omega (arith, length-map xs f
 
 pub at-end : (found : Found) (frame : Frame) (place : ℕ) (c : Component)
     → plane_at_end found frame place c
-    ≡ plane_or c (slice_index_or found.quantization c.factors.quantization None) (slice_index_or found.planes place None)
+    ≡ plane_or c (slice_index_or found.quantization c.factors.quantization None) (slice_index_or found.planes place
+    None)
     (blocks_if (is_held found frame) found.held place)
 unfolding plane_at_end
 at-end found frame place c = go (slice_index_or found.planes place None) (is_held found frame)
@@ -83,7 +85,8 @@ at-end found frame place c = go (slice_index_or found.planes place None) (is_hel
         → elim o as (λ _. Result (List ℕ) Fault) [
           | Some plane ↦ Ok plane
           | None ↦ elim b as (λ _. Result (List ℕ) Fault) [
-            | true ↦ needed (slice_index_or found.quantization c.factors.quantization None) >>= (λ quantization. Ok (plane_by c quantization (get_or found.held place [])))
+            | true ↦ needed (slice_index_or found.quantization c.factors.quantization None)
+                >>= (λ quantization. Ok (plane_by c quantization (get_or found.held place [])))
             | false ↦ Err Malformed
           ]
         ]
@@ -235,7 +238,8 @@ decoded-scales f p =
     subst (λ (g : Frame). AllByRecursion (λ c. IsScale c.scale) g.components) (sym p.made)
     (scaled-frame p.scale p.full (scale-is p.scale p.is_scale))
 
-pub element : (P : Component → Type 0) (cs : List Component) (i : ℕ) (d : Component) → AllByRecursion P cs → i < length cs
+pub element : (P : Component → Type 0) (cs : List Component) (i : ℕ) (d : Component) → AllByRecursion P cs
+    → i < length cs
     → P (get_or cs i d)
 element P [] i d p h = absurd (omega arith)
 element P (c ∷ cs) zero d p h = p.0
@@ -262,7 +266,8 @@ pub reached-plane : (found : Found) (frame : Frame) (place : ℕ) (c : Component
 reached-plane found frame place c planes o s f h e left is =
     let at = plane-at frame.components found.planes place c (s.planes frame f) h in
     let same : o ≡ get_or found.planes place None = is ∙ same-at planes found.planes place None left in
-    subst (λ (x : Option (List ℕ)). IsPlaneOf c x) (sym same) (subst (λ (x : Component). IsPlaneOf x (get_or found.planes place None)) (sym e) at)
+    subst (λ (x : Option (List ℕ)). IsPlaneOf c x) (sym same)
+    (subst (λ (x : Component). IsPlaneOf x (get_or found.planes place None)) (sym e) at)
 
 blocks-same : (b : Bool) (held old : Arrays) (place : ℕ) → drop place held ≡ drop place old
     → blocks_if b held place ≡ blocks_if b old place
@@ -276,8 +281,11 @@ pub reached-blocks : (found : Found) (frame : Frame) (place : ℕ) (c : Componen
     → AreBlocksOf c o
 reached-blocks found frame place c held b o s f h e left is given =
     let at = held-blocks found frame place c (s.held frame f) h in
-    let same : o ≡ blocks_if (is_held found frame) found.held place = given ∙ (ap (λ (x : Bool). blocks_if x held place) is ∙ blocks-same (is_held found frame) held found.held place left) in
-    subst (λ (x : Option (List Block)). AreBlocksOf c x) (sym same) (subst (λ (x : Component). AreBlocksOf x (blocks_if (is_held found frame) found.held place)) (sym e) at)
+    let same : o ≡ blocks_if (is_held found frame) found.held place =
+    given ∙ (ap (λ (x : Bool). blocks_if x held place) is ∙ blocks-same (is_held found frame) held found.held place
+    left) in
+    subst (λ (x : Option (List Block)). AreBlocksOf c x) (sym same)
+    (subst (λ (x : Component). AreBlocksOf x (blocks_if (is_held found frame) found.held place)) (sym e) at)
 
 -- the plane there, by what is left
 pub reached-end : (found : Found) (frame : Frame) (place : ℕ) (c : Component) (planes : List (Option (List ℕ)))
@@ -288,7 +296,9 @@ pub reached-end : (found : Found) (frame : Frame) (place : ℕ) (c : Component) 
     → plane_at_end found frame place c ≡ plane_or c table plane blocks
 reached-end found frame place c planes held table plane b blocks t left is held_left held_is given =
     let p : plane ≡ get_or found.planes place None = is ∙ same-at planes found.planes place None left in
-    let q : blocks ≡ blocks_if (is_held found frame) found.held place = given ∙ (ap (λ (x : Bool). blocks_if x held place) held_is ∙ blocks-same (is_held found frame) held found.held place held_left) in
+    let q : blocks ≡ blocks_if (is_held found frame) found.held place =
+    given ∙ (ap (λ (x : Bool). blocks_if x held place) held_is ∙ blocks-same (is_held found frame) held found.held
+    place held_left) in
     at-end found frame place c ∙ (rw (p, q, t) refl)
 
 pub reached-scale : (found : Found) (frame : Frame) (place : ℕ) (c : Component) → IsSound found
@@ -310,7 +320,8 @@ failed-there found frame place c front error o whole h e given is n =
     (given ∙ ap (λ (l : List Component). planes_from found frame place l >>= others-after front) left)
     (subst (λ (r : Result (List ℕ) Fault). Names error r) (sym is) n)
 
-pub more-there : (found : Found) (frame : Frame) (place : ℕ) (c : Component) (front new : List (List ℕ)) (plane : List ℕ)
+pub more-there : (found : Found) (frame : Frame) (place : ℕ) (c : Component) (front new : List (List ℕ))
+    (plane : List ℕ)
     (o : Result (List ℕ) Fault) (whole : Result (List (List ℕ)) Fault) → place < length frame.components
     → c ≡ get_or frame.components place c
     → whole ≡ (planes_from found frame place (drop place frame.components) >>= others-after front)
@@ -321,7 +332,8 @@ more-there found frame place c front new plane o whole h e given is ok joined =
     drop_more frame.components place c h ∙ ap (λ (x : Component). x ∷ drop (place + 1) frame.components) (sym e) in
     planes-more found frame place c (drop (place + 1) frame.components) front plane whole
     (given ∙ ap (λ (l : List Component). planes_from found frame place l >>= others-after front) left) (is ∙ ok)
-    ∙ ap (λ (l : List (List ℕ)). planes_from found frame (place + 1) (drop (place + 1) frame.components) >>= others-after l) (sym joined)
+    ∙ ap (λ (l : List (List ℕ)). planes_from found frame (place + 1) (drop (place + 1) frame.components)
+    >>= others-after l) (sym joined)
 
 pub whole-there : (cs : List Component) (place : ℕ) (c : Component) (front new : List (List ℕ)) (plane : List ℕ)
     → place < length cs → c ≡ get_or cs place c → AreWholeWith cs place front → IsPlaneOf c (Some plane)

@@ -63,7 +63,8 @@ quantization-begins found bytes = begins-bind (dqt_at bytes) _ (λ t. begins-onw
 
 huffman-begins : (found : Found) (bytes : List ℕ) → Begins (huffman_segment found bytes)
 unfolding huffman_segment
-huffman-begins found bytes = begins-bind (dht_at (option_map (λ f. f.is_baseline) found.frame) bytes) _ (λ t. begins-onward _ t.1)
+huffman-begins found bytes = begins-bind (dht_at (option_map (λ f. f.is_baseline) found.frame) bytes) _
+    (λ t. begins-onward _ t.1)
 
 restart-begins : (found : Found) (bytes : List ℕ) → Begins (restart_segment found bytes)
 unfolding restart_segment
@@ -86,7 +87,8 @@ end-begins : (found : Found) (bytes : List ℕ) → is_some found.frame ≡ fals
 unfolding end_segment
 end-begins found bytes none = begins-then (is_some found.frame) _ _ none
 
-segment-begins : (m : Marker) (found : Found) (bytes : List ℕ) → is_some found.frame ≡ false → Begins (segment_at m Elsewhere found bytes)
+segment-begins : (m : Marker) (found : Found) (bytes : List ℕ) → is_some found.frame ≡ false
+    → Begins (segment_at m Elsewhere found bytes)
 unfolding segment_at
 segment-begins (SOF number) found bytes none = frame-begins number found bytes
 segment-begins DQT found bytes none = quantization-begins found bytes
@@ -107,7 +109,8 @@ segment-begins (JPGn n) found bytes none = begins-err _
 segment-begins TEM found bytes none = begins-err _
 segment-begins RES found bytes none = begins-err _
 
-turn-begins : (found : Found) (bytes : List ℕ) → is_some found.frame ≡ false → Begins (turn_at Elsewhere found None bytes)
+turn-begins : (found : Found) (bytes : List ℕ) → is_some found.frame ≡ false
+    → Begins (turn_at Elsewhere found None bytes)
 unfolding turn_at
 turn-begins found bytes none = begins-bind (next_marker bytes) _ (λ m. segment-begins m.0 found m.1 none)
 
@@ -128,10 +131,13 @@ not-ok fault x e = absurd (let n : ⊥ = cc in n)
 not-err : {A P : Type 0} (fault : Fault) (x : A) → let X : Type 0 = Result A Fault in Path X (Ok x) (Err fault) → P
 not-err fault x e = absurd (let n : ⊥ = cc in n)
 
-same-parts : {A : Type 0} (x y : A) (rest rest' : List ℕ) → let X : Type 0 = Outcome A in Path X (Ok (x, rest)) (Ok (y, rest')) → (x ≡ y) × (rest ≡ rest')
-same-parts {A} x y rest rest' e = let pair : Path (A × List ℕ) (x, rest) (y, rest') = cc in (ap (λ p. p.0) pair, ap (λ p. p.1) pair)
+same-parts : {A : Type 0} (x y : A) (rest rest' : List ℕ) → let X : Type 0 =
+    Outcome A in Path X (Ok (x, rest)) (Ok (y, rest')) → (x ≡ y) × (rest ≡ rest')
+same-parts {A} x y rest rest' e = let pair : Path (A × List ℕ) (x, rest) (y, rest') =
+    cc in (ap (λ p. p.0) pair, ap (λ p. p.1) pair)
 
-pub bind-ok : {A B P : Type 0} (r : Result A Fault) (f : A → Result B Fault) (y : B) → r >>= f ≡ Ok y → ((x : A) → r ≡ Ok x → f x ≡ Ok y → P) → P
+pub bind-ok : {A B P : Type 0} (r : Result A Fault) (f : A → Result B Fault) (y : B) → r >>= f ≡ Ok y
+    → ((x : A) → r ≡ Ok x → f x ≡ Ok y → P) → P
 bind-ok (Ok x) f y e next = next x refl e
 bind-ok (Err fault) f y e next = not-ok fault y e
 
@@ -144,27 +150,32 @@ bind-err (Err other) f fault e p q = let same : other ≡ fault = cc in p (rw sa
 abbrev pub after : ℕ → Turn × List ℕ → Outcome Found
 after n t = if t.0.ended then Ok (t.0.found, t.1) else segments_within n true t.0.before t.0.found t.0.met t.1
 
-after-begun : (n : ℕ) (t : Turn) (rest : List ℕ) → t.ended ≡ false → t.before ≡ Elsewhere → t.met ≡ None → after n (t, rest) ≡ segments_within n true Elsewhere t.found None rest
+after-begun : (n : ℕ) (t : Turn) (rest : List ℕ) → t.ended ≡ false → t.before ≡ Elsewhere → t.met ≡ None
+    → after n (t, rest) ≡ segments_within n true Elsewhere t.found None rest
 after-begun n t rest e b m = rw (e, b, m) refl
 
-next-begun : (found : Found) (bytes rest : List ℕ) (t : Turn) → t.ended ≡ false → t.before ≡ Elsewhere → t.met ≡ None → turn_at Elsewhere found None bytes ≡ Ok (t, rest)
+next-begun : (found : Found) (bytes rest : List ℕ) (t : Turn) → t.ended ≡ false → t.before ≡ Elsewhere → t.met ≡ None
+    → turn_at Elsewhere found None bytes ≡ Ok (t, rest)
     → segments_at false Elsewhere found None bytes ≡ segments_at false Elsewhere t.found None rest
 next-begun found bytes rest t e b m was =
     segments-next false Elsewhere found None bytes rest t refl refl e was ∙ rw (b, m) refl
 
-pub header-rest : (n : ℕ) (found next : Found) (bytes rest : List ℕ) → segments_within n true Elsewhere found None bytes ≡ Ok (next, rest)
+pub header-rest : (n : ℕ) (found next : Found) (bytes rest : List ℕ) → segments_within n true Elsewhere found None bytes
+    ≡ Ok (next, rest)
     → segments_at false Elsewhere found None bytes ≡ segments_at false Elsewhere next None rest
 unfolding segments_within
 header-rest zero found next bytes rest e = not-ok End _ e
 header-rest (suc n) found next bytes rest e =
-    chosen (is_some found.frame) (Ok (found, bytes)) (turn_at Elsewhere found None bytes >>= after n) (Ok (next, rest)) e
+    chosen (is_some found.frame) (Ok (found, bytes)) (turn_at Elsewhere found None bytes >>= after n) (Ok (next, rest))
+    e
     (λ some is. let parts = same-parts found next bytes rest is in rw (parts.0, parts.1) refl)
     (λ none is. bind-ok (turn_at Elsewhere found None bytes) (after n) (next, rest) is (λ turn was more.
     let s = begins-at (turn_at Elsewhere found None bytes) turn (turn-begins found bytes none) was in
     next-begun found bytes turn.1 turn.0 s.0 s.1.0 s.1.1 was
     ∙ header-rest n turn.0.found next turn.1 rest (sym (after-begun n turn.0 turn.1 s.0 s.1.0 s.1.1) ∙ more)))
 
-pub header-refused : (n : ℕ) (found : Found) (bytes : List ℕ) (fault : Fault) → length bytes < n → segments_within n true Elsewhere found None bytes ≡ Err fault
+pub header-refused : (n : ℕ) (found : Found) (bytes : List ℕ) (fault : Fault) → length bytes < n
+    → segments_within n true Elsewhere found None bytes ≡ Err fault
     → segments_at false Elsewhere found None bytes ≡ Err fault
 unfolding segments_within
 header-refused zero found bytes fault few e = absurd (omega arith)
@@ -178,4 +189,5 @@ header-refused (suc n) found bytes fault few e =
     let took = turn-takes Elsewhere found None bytes turn refl was s.0 in
     let less : length turn.1 < length bytes = took.0 in
     next-begun found bytes turn.1 turn.0 s.0 s.1.0 s.1.1 was
-    ∙ header-refused n turn.0.found turn.1 fault (omega arith) (sym (after-begun n turn.0 turn.1 s.0 s.1.0 s.1.1) ∙ more)))
+    ∙ header-refused n turn.0.found turn.1 fault (omega arith) (sym (after-begun n turn.0 turn.1 s.0 s.1.0 s.1.1)
+    ∙ more)))

@@ -22,22 +22,27 @@ Held = Vec (List ℤ) Global
 abbrev pub spot : ℕ → ℕ → Spot
 spot slot index = record { slot = slot; index = index }
 
-pub get-map : {A B : Type 0} (f : A → B) (l : List A) (i : ℕ) (d : A) (e : B) → i < length l → get_or (map f l) i e ≡ f (get_or l i d)
+pub get-map : {A B : Type 0} (f : A → B) (l : List A) (i : ℕ) (d : A) (e : B) → i < length l
+    → get_or (map f l) i e ≡ f (get_or l i d)
 get-map f [] i d e h = absurd (omega arith)
 get-map f (x ∷ l) zero d e h = refl
 get-map f (x ∷ l) (suc i) d e h = get-map f l i d e (omega arith)
 
-pub sizes-set : (vs : List Held) (slot index : ℕ) (v : Held) (x : List ℤ) → v ≡ get_or vs slot v → sizes_of (set vs slot (with_item v index x)) ≡ sizes_of vs
+pub sizes-set : (vs : List Held) (slot index : ℕ) (v : Held) (x : List ℤ) → v ≡ get_or vs slot v
+    → sizes_of (set vs slot (with_item v index x)) ≡ sizes_of vs
 sizes-set [] slot index v x e = refl
-sizes-set (w ∷ vs) zero index v x e = ap (λ (n : ℕ). n ∷ sizes_of vs) (length-set v.items index x ∙ ap (λ (u : Held). length u.items) e)
+sizes-set (w ∷ vs) zero index v x e =
+    ap (λ (n : ℕ). n ∷ sizes_of vs) (length-set v.items index x ∙ ap (λ (u : Held). length u.items) e)
 sizes-set (w ∷ vs) (suc slot) index v x e = ap (λ (l : List ℕ). length w.items ∷ l) (sizes-set vs slot index v x e)
 
 pub sizes-long : (vs : List Held) → length (sizes_of vs) ≡ length vs
 sizes-long [] = refl
 sizes-long (v ∷ vs) = ap (λ (n : ℕ). suc n) (sizes-long vs)
 
-pub size-at : (vs : List Held) (slot : ℕ) (v : Held) → slot < length (sizes_of vs) → v ≡ get_or vs slot v → get_or (sizes_of vs) slot 0 ≡ length v.items
-size-at vs slot v h e = get-map (λ (u : Held). length u.items) vs slot v 0 (omega (arith, sizes-long vs)) ∙ ap (λ (u : Held). length u.items) (sym e)
+pub size-at : (vs : List Held) (slot : ℕ) (v : Held) → slot < length (sizes_of vs) → v ≡ get_or vs slot v
+    → get_or (sizes_of vs) slot 0 ≡ length v.items
+size-at vs slot v h e = get-map (λ (u : Held). length u.items) vs slot v 0 (omega (arith, sizes-long vs))
+    ∙ ap (λ (u : Held). length u.items) (sym e)
 
 arrays-set : (vs : List Held) (slot index : ℕ) (v : Held) (x : List ℤ) → slot < length vs → v ≡ get_or vs slot v
     → arrays_in (set vs slot (with_item v index x)) ≡ put_block (spot slot index) (to_block x) (arrays_in vs)
@@ -46,7 +51,8 @@ arrays-set vs slot index v x h e =
     ∙ ap (λ (l : List Block). set (arrays_in vs) slot l) (map-set to_block v.items index x
     ∙ ap (λ (l : List Block). set l index (to_block x)) (ap blocks_in e ∙ sym (get-map blocks_in vs slot v [] h)))
 
-block-held : (vs : List Held) (slot index : ℕ) (v : Held) (x : List ℤ) → slot < length vs → v ≡ get_or vs slot v → index < length v.items → x ≡ get_or v.items index x
+block-held : (vs : List Held) (slot index : ℕ) (v : Held) (x : List ℤ) → slot < length vs → v ≡ get_or vs slot v
+    → index < length v.items → x ≡ get_or v.items index x
     → block_at (arrays_in vs) (spot slot index) ≡ to_block x
 block-held vs slot index v x h e i f =
     ap (λ (l : List Block). get_or l index zero_block) (get-map blocks_in vs slot v [] h ∙ sym (ap blocks_in e))
@@ -55,42 +61,70 @@ block-held vs slot index v x h e i f =
 abbrev pub via_of : ℕ → Coded → Via
 via_of slot c = record { component = slot; dc = c.dc.now; ac = c.ac.now }
 
-via-from : (cs : List Coded) (from slot : ℕ) (c : Coded) (d : Via) → slot < length cs → c ≡ get_or cs slot c → get_or (vias_in from cs) slot d ≡ via_of (from + slot) c
+via-from : (cs : List Coded) (from slot : ℕ) (c : Coded) (d : Via) → slot < length cs → c ≡ get_or cs slot c
+    → get_or (vias_in from cs) slot d ≡ via_of (from + slot) c
 unfolding vias_in
 via-from [] from slot c d h e = absurd (omega arith)
-via-from (x ∷ cs) from zero c d h e = let n : from ≡ from + 0 = omega arith in ap (via_of from) (sym e) ∙ ap (λ (k : ℕ). via_of k c) n
-via-from (x ∷ cs) from (suc slot) c d h e = let n : from + 1 + slot ≡ from + suc slot = omega arith in via-from cs (from + 1) slot c d (omega arith) e ∙ ap (λ (k : ℕ). via_of k c) n
+via-from (x ∷ cs) from zero c d h e = let n : from ≡ from + 0 =
+    omega arith in ap (via_of from) (sym e) ∙ ap (λ (k : ℕ). via_of k c) n
+via-from (x ∷ cs) from (suc slot) c d h e = let n : from + 1 + slot ≡ from + suc slot =
+    omega arith in via-from cs (from + 1) slot c d (omega arith) e ∙ ap (λ (k : ℕ). via_of k c) n
 
-via-is : (cs : List Coded) (slot : ℕ) (c : Coded) → slot < length cs → c ≡ get_or cs slot c → via_at (vias_in 0 cs) slot ≡ via_of slot c
-via-is cs slot c h e = let n : 0 + slot ≡ slot = omega arith in via-from cs 0 slot c _ h e ∙ ap (λ (k : ℕ). via_of k c) n
+via-is : (cs : List Coded) (slot : ℕ) (c : Coded) → slot < length cs → c ≡ get_or cs slot c
+    → via_at (vias_in 0 cs) slot ≡ via_of slot c
+via-is cs slot c h e = let n : 0 + slot ≡ slot =
+    omega arith in via-from cs 0 slot c _ h e ∙ ap (λ (k : ℕ). via_of k c) n
 
 abbrev put_turn : ℕ → ℕ → ℕ → Reached → Block × ℤ × ℕ → Reads Reached
-put_turn component slot index old r = gives (record { arrays = put_block (spot slot index) r.0 old.arrays; predictors = set old.predictors component r.1; run = r.2 })
+put_turn component slot index old r = gives (record {
+  arrays = put_block (spot slot index) r.0 old.arrays;
+  predictors = set old.predictors component r.1;
+  run = r.2;
+})
 
 turn-whole : (p : Pass) (vias : List Via) (slot index : ℕ) (old : Reached) (t : Text)
     → turn_from p vias (spot slot index) old t ≡ read_on (put_turn (via_at vias slot).component slot index old)
-    (block_from p (via_at vias slot).dc (via_at vias slot).ac (get_or old.predictors (via_at vias slot).component (pos 0)) old.run (block_at old.arrays (spot slot index)) t)
+    (block_from p (via_at vias slot).dc (via_at vias slot).ac (get_or old.predictors (via_at vias slot).component
+    (pos 0)) old.run (block_at old.arrays (spot slot index)) t)
 unfolding turn_from
 turn-whole p vias slot index old t = refl
 
-module _ (p : Pass) (cs : List Coded) (slot index : ℕ) (c : Coded) (vs : List Held) (v : Held) (x : List ℤ) (predictors : List ℤ) (run : ℕ) (z : ℤ)
-    (coded : slot < length cs) (is : c ≡ get_or cs slot c) (inside : slot < length vs) (array : v ≡ get_or vs slot v) (within : index < length v.items) (block : x ≡ get_or v.items index x)
+module _ (p : Pass) (cs : List Coded) (slot index : ℕ) (c : Coded) (vs : List Held) (v : Held) (x : List ℤ)
+    (predictors : List ℤ) (run : ℕ) (z : ℤ)
+    (coded : slot < length cs) (is : c ≡ get_or cs slot c) (inside : slot < length vs) (array : v ≡ get_or vs slot v)
+    (within : index < length v.items) (block : x ≡ get_or v.items index x)
     (predictor : z ≡ get_or predictors slot (pos 0)) where
   abbrev old : Reached
   old = record { arrays = arrays_in vs; predictors = predictors; run = run }
 
-  turn-is : (t : Text) → turn_from p (vias_in 0 cs) (spot slot index) old t ≡ read_on (put_turn slot slot index old) (block_from p c.dc.now c.ac.now z run (to_block x) t)
+  turn-is : (t : Text) → turn_from p (vias_in 0 cs) (spot slot index) old t ≡ read_on (put_turn slot slot index old)
+      (block_from p c.dc.now c.ac.now z run (to_block x) t)
   turn-is t =
       turn-whole p (vias_in 0 cs) slot index old t
-      ∙ ap (λ (w : Via). read_on (put_turn w.component slot index old) (block_from p w.dc w.ac (get_or predictors w.component (pos 0)) run (block_at (arrays_in vs) (spot slot index)) t)) (via-is cs slot c coded is)
-      ∙ ap (λ (b : Block). read_on (put_turn slot slot index old) (block_from p c.dc.now c.ac.now (get_or predictors slot (pos 0)) run b t)) (block-held vs slot index v x inside array within block)
-      ∙ ap (λ (y : ℤ). read_on (put_turn slot slot index old) (block_from p c.dc.now c.ac.now y run (to_block x) t)) (sym predictor)
+      ∙ ap (λ (w : Via). read_on (put_turn w.component slot index old)
+      (block_from p w.dc w.ac (get_or predictors w.component (pos 0)) run
+      (block_at (arrays_in vs) (spot slot index)) t)) (via-is cs slot c coded is)
+      ∙ ap (λ (b : Block). read_on (put_turn slot slot index old) (block_from p c.dc.now c.ac.now
+      (get_or predictors slot (pos 0)) run b t)) (block-held vs slot index v x inside array within block)
+      ∙ ap (λ (y : ℤ). read_on (put_turn slot slot index old) (block_from p c.dc.now c.ac.now y run (to_block x) t))
+      (sym predictor)
 
-  pub turn-read : (y : List ℤ) (next : ℤ) (more : ℕ) (t u : Text) → block_from p c.dc.now c.ac.now z run (to_block x) t ≡ Ok ((to_block y, next, more), u)
-      → turn_from p (vias_in 0 cs) (spot slot index) old t ≡ Ok (record { arrays = arrays_in (set vs slot (with_item v index y)); predictors = set predictors slot next; run = more }, u)
+  pub turn-read : (y : List ℤ) (next : ℤ) (more : ℕ) (t u : Text) → block_from p c.dc.now c.ac.now z run (to_block x) t
+      ≡ Ok ((to_block y, next, more), u)
+      → turn_from p (vias_in 0 cs) (spot slot index) old t
+      ≡ Ok (
+        record {
+          arrays = arrays_in (set vs slot (with_item v index y));
+          predictors = set predictors slot next;
+          run = more;
+        },
+        u,
+      )
   turn-read y next more t u e =
       turn-is t ∙ ap (read_on (put_turn slot slot index old)) e
-      ∙ ap (λ (a : Arrays). Ok (record { arrays = a; predictors = set predictors slot next; run = more }, u)) (sym (arrays-set vs slot index v y inside array))
+      ∙ ap (λ (a : Arrays). Ok (record { arrays = a; predictors = set predictors slot next; run = more }, u))
+      (sym (arrays-set vs slot index v y inside array))
 
-  pub turn-refused : (t : Text) (f : Fault) → block_from p c.dc.now c.ac.now z run (to_block x) t ≡ Err f → turn_from p (vias_in 0 cs) (spot slot index) old t ≡ Err f
+  pub turn-refused : (t : Text) (f : Fault) → block_from p c.dc.now c.ac.now z run (to_block x) t ≡ Err f
+      → turn_from p (vias_in 0 cs) (spot slot index) old t ≡ Err f
   turn-refused t f e = turn-is t ∙ ap (read_on (put_turn slot slot index old)) e

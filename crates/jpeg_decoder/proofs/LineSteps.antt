@@ -15,7 +15,8 @@ use Rattle.jpeg_decoder.proofs.HeldBlocks.{spot}
 -- ---- the blocks of a line
 
 line-more : (p : Pass) (vias : List Via) (slot index left : ℕ) (old : Reached) (t : Text) → 0 < left
-    → turns_from p vias (line_of slot index left) old t ≡ read_on (turns_from p vias (line_of slot (index + 1) (left - 1))) (turn_from p vias (spot slot index) old t)
+    → turns_from p vias (line_of slot index left) old t
+    ≡ read_on (turns_from p vias (line_of slot (index + 1) (left - 1))) (turn_from p vias (spot slot index) old t)
 unfolding turns_from line_of
 line-more p vias slot index zero old t h = absurd (omega arith)
 line-more p vias slot index (suc left) old t h = let e : suc left - 1 ≡ left = omega arith in rw e refl
@@ -23,11 +24,13 @@ line-more p vias slot index (suc left) old t h = let e : suc left - 1 ≡ left =
 pub line_step : (p : Pass) (vias : List Via) (slot index left : ℕ) (old new : Reached) (t u : Text) → 0 < left
     → turn_from p vias (spot slot index) old t ≡ Ok (new, u)
     → turns_from p vias (line_of slot index left) old t ≡ turns_from p vias (line_of slot (index + 1) (left - 1)) new u
-line_step p vias slot index left old new t u h e = line-more p vias slot index left old t h ∙ ap (read_on (turns_from p vias (line_of slot (index + 1) (left - 1)))) e
+line_step p vias slot index left old new t u h e =
+    line-more p vias slot index left old t h ∙ ap (read_on (turns_from p vias (line_of slot (index + 1) (left - 1)))) e
 
 pub line_refused : (p : Pass) (vias : List Via) (slot index left : ℕ) (old : Reached) (t : Text) (f : Fault) → 0 < left
     → turn_from p vias (spot slot index) old t ≡ Err f → turns_from p vias (line_of slot index left) old t ≡ Err f
-line_refused p vias slot index left old t f h e = line-more p vias slot index left old t h ∙ ap (read_on (turns_from p vias (line_of slot (index + 1) (left - 1)))) e
+line_refused p vias slot index left old t f h e =
+    line-more p vias slot index left old t h ∙ ap (read_on (turns_from p vias (line_of slot (index + 1) (left - 1)))) e
 
 pub line_none : (p : Pass) (vias : List Via) (slot index left : ℕ) (old : Reached) (t : Text) → left ≡ 0
     → turns_from p vias (line_of slot index left) old t ≡ Ok (old, t)
@@ -39,20 +42,29 @@ pub ruleset line_rules = (line_step, line_refused, line_none)
 -- ---- the lines of a part
 
 part-more : (p : Pass) (vias : List Via) (slot wide count index left : ℕ) (old : Reached) (t : Text) → 0 < left
-    → turns_from p vias (part_of slot wide count index left) old t ≡ read_on (turns_from p vias (part_of slot wide count (index + wide) (left - 1))) (turns_from p vias (line_of slot index count) old t)
+    → turns_from p vias (part_of slot wide count index left) old t
+    ≡ read_on (turns_from p vias (part_of slot wide count (index + wide) (left - 1)))
+    (turns_from p vias (line_of slot index count) old t)
 unfolding part_of
 part-more p vias slot wide count index zero old t h = absurd (omega arith)
 part-more p vias slot wide count index (suc left) old t h =
-    let e : suc left - 1 ≡ left = omega arith in rw e (turns-append p vias (line_of slot index count) (part_of slot wide count (index + wide) left) old t)
+    let e : suc left - 1 ≡ left = omega arith in
+    rw e (turns-append p vias (line_of slot index count) (part_of slot wide count (index + wide) left) old t)
 
-pub part_step : (p : Pass) (vias : List Via) (slot wide count index left : ℕ) (old new : Reached) (t u : Text) → 0 < left
+pub part_step : (p : Pass) (vias : List Via) (slot wide count index left : ℕ) (old new : Reached) (t u : Text)
+    → 0 < left
     → turns_from p vias (line_of slot index count) old t ≡ Ok (new, u)
-    → turns_from p vias (part_of slot wide count index left) old t ≡ turns_from p vias (part_of slot wide count (index + wide) (left - 1)) new u
-part_step p vias slot wide count index left old new t u h e = part-more p vias slot wide count index left old t h ∙ ap (read_on (turns_from p vias (part_of slot wide count (index + wide) (left - 1)))) e
+    → turns_from p vias (part_of slot wide count index left) old t ≡ turns_from p vias
+    (part_of slot wide count (index + wide) (left - 1)) new u
+part_step p vias slot wide count index left old new t u h e = part-more p vias slot wide count index left old t h
+    ∙ ap (read_on (turns_from p vias (part_of slot wide count (index + wide) (left - 1)))) e
 
-pub part_refused : (p : Pass) (vias : List Via) (slot wide count index left : ℕ) (old : Reached) (t : Text) (f : Fault) → 0 < left
-    → turns_from p vias (line_of slot index count) old t ≡ Err f → turns_from p vias (part_of slot wide count index left) old t ≡ Err f
-part_refused p vias slot wide count index left old t f h e = part-more p vias slot wide count index left old t h ∙ ap (read_on (turns_from p vias (part_of slot wide count (index + wide) (left - 1)))) e
+pub part_refused : (p : Pass) (vias : List Via) (slot wide count index left : ℕ) (old : Reached) (t : Text) (f : Fault)
+    → 0 < left
+    → turns_from p vias (line_of slot index count) old t ≡ Err f
+    → turns_from p vias (part_of slot wide count index left) old t ≡ Err f
+part_refused p vias slot wide count index left old t f h e = part-more p vias slot wide count index left old t h
+    ∙ ap (read_on (turns_from p vias (part_of slot wide count (index + wide) (left - 1)))) e
 
 pub part_none : (p : Pass) (vias : List Via) (slot wide count index left : ℕ) (old : Reached) (t : Text) → left ≡ 0
     → turns_from p vias (part_of slot wide count index left) old t ≡ Ok (old, t)
@@ -61,11 +73,14 @@ part_none p vias slot wide count index left old t e = rw e refl
 
 pub ruleset part_rules = (part_step, part_refused, part_none)
 
-pub within-first : (size wide count index left : ℕ) → 0 < left → AreWithin size wide count index left → index + count ≤ size
+pub within-first : (size wide count index left : ℕ) → 0 < left → AreWithin size wide count index left
+    → index + count ≤ size
 within-first size wide count index left h w = let e : 0 * wide ≡ 0 = omega arith in omega (arith, w 0 h, e)
 
-pub within-more : (size wide count index left : ℕ) → 0 < left → AreWithin size wide count index left → AreWithin size wide count (index + wide) (left - 1)
-within-more size wide count index left h w v l = let e : suc v * wide ≡ v * wide + wide = suc-mul v wide in omega (arith, w (suc v) (omega arith), e)
+pub within-more : (size wide count index left : ℕ) → 0 < left → AreWithin size wide count index left
+    → AreWithin size wide count (index + wide) (left - 1)
+within-more size wide count index left h w v l = let e : suc v * wide ≡ v * wide + wide =
+    suc-mul v wide in omega (arith, w (suc v) (omega arith), e)
 
 -- ---- between MCUs
 
@@ -75,7 +90,11 @@ begun_none n old t e = rw e refl
 
 abbrev begun_by : ℕ → Counted → Bool → Reads Counted
 begun_by n old b t = (elim b as (λ _. Reads Counted) [
-  | true ↦ λ u. read_on (λ (x : Unit {0}). gives (record { reached = at_start old.reached.arrays; left = n; number = (old.number + 1) % 8 })) (restart_from old.number u)
+  | true ↦ λ u. read_on (λ (x : Unit {0}). gives (record {
+    reached = at_start old.reached.arrays;
+    left = n;
+    number = (old.number + 1) % 8;
+  })) (restart_from old.number u)
   | false ↦ gives old
 ]) t
 
@@ -89,20 +108,38 @@ and-false false = refl
 
 pub begun_within : (n : ℕ) (old : Counted) (t : Text) → 0 < old.left → begun_from n old t ≡ Ok (old, t)
 begun_within n old t h =
-    begun-is n old t ∙ ap (λ (b : Bool). begun_by n old (nat_lt 0 n && b) t) (ne_eqb old.left 0 (λ e. omega (arith, h, e)))
+    begun-is n old t ∙ ap (λ (b : Bool). begun_by n old (nat_lt 0 n && b) t)
+    (ne_eqb old.left 0 (λ e. omega (arith, h, e)))
     ∙ ap (λ (b : Bool). begun_by n old b t) (and-false (nat_lt 0 n))
 
 begun-restart : (n : ℕ) (old : Counted) (t : Text) → 0 < n → old.left ≡ 0 → begun_from n old t ≡ begun_by n old true t
 begun-restart n old t h e =
-    begun-is n old t ∙ ap (λ (b : Bool). begun_by n old (b && old.left == 0) t) (lt-ltb 0 n h) ∙ ap (λ (k : ℕ). begun_by n old (k == 0) t) e
+    begun-is n old t ∙ ap (λ (b : Bool). begun_by n old (b && old.left == 0) t) (lt-ltb 0 n h)
+    ∙ ap (λ (k : ℕ). begun_by n old (k == 0) t) e
 
 pub begun_next : (n : ℕ) (old : Counted) (t u : Text) → 0 < n → old.left ≡ 0 → restart_from old.number t ≡ Ok (tt, u)
-    → begun_from n old t ≡ Ok (record { reached = at_start old.reached.arrays; left = n; number = (old.number + 1) % 8 }, u)
+    → begun_from n old t ≡ Ok (
+      record {
+        reached = at_start old.reached.arrays;
+        left = n;
+        number = (old.number + 1) % 8;
+      },
+      u,
+    )
 begun_next n old t u h e r =
-    begun-restart n old t h e ∙ ap (read_on (λ (x : Unit {0}). gives (record { reached = at_start old.reached.arrays; left = n; number = (old.number + 1) % 8 }))) r
+    begun-restart n old t h e ∙ ap (read_on (λ (x : Unit {0}). gives (record {
+      reached = at_start old.reached.arrays;
+      left = n;
+      number = (old.number + 1) % 8;
+    }))) r
 
-pub begun_refused : (n : ℕ) (old : Counted) (t : Text) (f : Fault) → 0 < n → old.left ≡ 0 → restart_from old.number t ≡ Err f → begun_from n old t ≡ Err f
+pub begun_refused : (n : ℕ) (old : Counted) (t : Text) (f : Fault) → 0 < n → old.left ≡ 0
+    → restart_from old.number t ≡ Err f → begun_from n old t ≡ Err f
 begun_refused n old t f h e r =
-    begun-restart n old t h e ∙ ap (read_on (λ (x : Unit {0}). gives (record { reached = at_start old.reached.arrays; left = n; number = (old.number + 1) % 8 }))) r
+    begun-restart n old t h e ∙ ap (read_on (λ (x : Unit {0}). gives (record {
+      reached = at_start old.reached.arrays;
+      left = n;
+      number = (old.number + 1) % 8;
+    }))) r
 
 pub ruleset begun_rules = (begun_none, begun_within, begun_next, begun_refused)

@@ -72,8 +72,12 @@ header-process : (h : FrameHeader) → HasSamples 3 h
     → ((frame_written 3 h).is_differential ≡ false) × (is_arithmetic (frame_written 3 h).coding ≡ false)
     × (is_precision (frame_written 3 h).process (frame_written 3 h).precision ≡ true)
 unfolding frame_of
-header-process h p =
-    (refl, refl, both-true (nat_le 2 h.precision) (nat_le h.precision 16) (le-leb 2 h.precision p.least) (le-leb h.precision 16 p.most))
+header-process h p = (
+  refl,
+  refl,
+  both-true (nat_le 2 h.precision) (nat_le h.precision 16) (le-leb 2 h.precision p.least)
+      (le-leb h.precision 16 p.most),
+)
 
 accepted-three : (h : FrameHeader) → IsFrame 3 h → HasSamples 3 h
     → accepted (frame_written 3 h) ≡ Ok (frame_written 3 h)

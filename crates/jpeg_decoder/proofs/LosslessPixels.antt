@@ -36,14 +36,17 @@ sent-sized : (samples : Samples) (frame : Frame) (said : Found) (sent bytes : Li
     → AllByRecursion (SizedAt frame samples) (range_with_len 0 (length frame.components))
 sent-sized samples frame said sent bytes final (closed said' sent' f fill framed lossless all) e h =
     all-in (SizedAt frame samples) (range_with_len 0 (length frame.components)) sent h
-    (subst (λ (g : Frame). AllByRecursion (λ k. IsIn k sent) (range_with_len 0 (length g.components))) (some-same f frame (sym framed ∙ e)) all)
+    (subst (λ (g : Frame). AllByRecursion (λ k. IsIn k sent) (range_with_len 0 (length g.components)))
+    (some-same f frame (sym framed ∙ e)) all)
 sent-sized samples frame said sent bytes final (segment said' final' sent' fill s more may w) e h =
     sent-sized samples frame (found_after said s) sent more final w e h
-sent-sized samples frame said sent bytes final (scan said' final' sent' f fill h' data_bytes more framed lossless is data_of w) e h =
+sent-sized samples frame said sent bytes final (scan said' final' sent' f fill h' data_bytes more framed lossless is
+    data_of w) e h =
     let same = some-same f frame (sym (final-framed samples f (said_after_scan said) _ more final w framed) ∙ e) in
     sent-sized samples frame (said_after_scan said) _ more final w e
     (all-append (SizedAt frame samples) (places_of h'.choices) sent
-    (subst (λ (g : Frame). AllByRecursion (SizedAt g samples) (places_of h'.choices)) same (scan-sized said f h' samples data_bytes data_of)) h)
+    (subst (λ (g : Frame). AllByRecursion (SizedAt g samples) (places_of h'.choices)) same
+    (scan-sized said f h' samples data_bytes data_of)) h)
 
 -- ---- lines in one list
 
@@ -63,13 +66,15 @@ at-flat w x (l ∷ lines) (suc y) even h k =
     let sum = add-mul y 1 w in
     let next : suc y * w ≡ (y + 1) * w = ap (λ (n : ℕ). n * w) (omega arith) in
     let i : suc y * w + x - w ≡ y * w + x = omega arith in
-    get_or-append_right l (concat lines) w (suc y * w + x) 0 even.0.0 (omega arith) ∙ ap (get_or_zero (concat lines)) i ∙ at-flat w x lines y even.1 (omega arith) k
+    get_or-append_right l (concat lines) w (suc y * w + x) 0 even.0.0 (omega arith) ∙ ap (get_or_zero (concat lines)) i
+    ∙ at-flat w x lines y even.1 (omega arith) k
 
 -- ---- pixels
 
 pixel-same : (precision wide high : ℕ) (samples : Samples) (ks : List ℕ) (x y : ℕ) → x < wide → y < high
     → AllByRecursion (λ k. HasSize wide high (samples k)) ks
-    → pixel_bytes precision 1 1 (map (layer_by wide) (planes_for samples ks)) y x ≡ concat (map (λ k. sample_bytes precision (at_place (samples k) x y)) ks)
+    → pixel_bytes precision 1 1 (map (layer_by wide) (planes_for samples ks)) y x
+    ≡ concat (map (λ k. sample_bytes precision (at_place (samples k) x y)) ks)
 pixel-same precision wide high samples [] x y h g all = refl
 pixel-same precision wide high samples (k ∷ ks) x y h g all =
     let count = all.0.count in
@@ -84,7 +89,8 @@ pixel-same precision wide high samples (k ∷ ks) x y h g all =
 mapped-same : {A : Type 0} (f g : ℕ → A) (from n most : ℕ) → from + n ≤ most → ((x : ℕ) → x < most → f x ≡ g x)
     → map f (range_with_len from n) ≡ map g (range_with_len from n)
 mapped-same f g from zero most le same = refl
-mapped-same f g from (suc n) most le same = ap₂ (λ a l. a ∷ l) (same from (omega arith)) (mapped-same f g (from + 1) n most (omega arith) same)
+mapped-same f g from (suc n) most le same =
+    ap₂ (λ a l. a ∷ l) (same from (omega arith)) (mapped-same f g (from + 1) n most (omega arith) same)
 
 samples-shown : (frame : Frame) (samples : Samples)
     → AllByRecursion (SizedAt frame samples) (range_with_len 0 (length frame.components))
@@ -93,11 +99,14 @@ unfolding picture_of_samples picture_bytes
 samples-shown frame samples all =
     let ks = range_with_len 0 (length frame.components) in
     let layers = map (layer_by frame.width) (planes_for samples ks) in
-    picture-plain frame (planes_for samples ks) (length-map-range_with_len (λ (k : ℕ). concat (samples k)) 0 (length frame.components))
+    picture-plain frame (planes_for samples ks) (length-map-range_with_len (λ (k : ℕ). concat (samples k)) 0
+    (length frame.components))
     ∙ ap (λ (l : List (List ℕ)). concat l)
-    (mapped-same (line_bytes frame.precision 1 1 frame.width layers) (line_of frame samples) 0 frame.height frame.height (omega arith)
+    (mapped-same (line_bytes frame.precision 1 1 frame.width layers) (line_of frame samples) 0 frame.height frame.height
+    (omega arith)
     (λ y k. ap (λ (l : List (List ℕ)). concat l)
-    (mapped-same (pixel_bytes frame.precision 1 1 layers y) (pixel_of frame.precision (length frame.components) samples y) 0 frame.width frame.width (omega arith)
+    (mapped-same (pixel_bytes frame.precision 1 1 layers y) (pixel_of frame.precision (length frame.components) samples
+    y) 0 frame.width frame.width (omega arith)
     (λ x h. pixel-same frame.precision frame.width frame.height samples ks x y h k all))))
 
 shown : (samples : Samples) (bytes : List ℕ) (final : Found) (frame : Frame) → WritesSamples samples bytes final

@@ -112,7 +112,8 @@ tables-all ts ds slot front whole h w =
 -- ---- the components of a scan, by its tables
 
 -- Components by their places and their tables.
-pub record AreCodings (tables : List (Option Table)) (frame : Frame) (places ds : List ℕ) (ts : List Table) : Type 0 where
+pub record AreCodings (tables : List (Option Table)) (frame : Frame) (places ds : List ℕ) (ts : List Table) : Type
+    0 where
   pub codings : List LosslessCoding
   pub are : lossless_codings tables frame places ds ≡ Ok codings
   pub places_are : map (λ k. k.place) codings ≡ places
@@ -228,7 +229,8 @@ samples-then found frame scan codings bytes e = then-ok _ _ codings _ e refl
 -- The data of a scan are refused.
 pub samples-fail : {X Z : Type 0} (v : X → Found × Option Marker) (view : Z → List (List ℕ) × Option Marker)
     (found : Found)
-    (frame : Frame) (scan : Scan) (codings : List LosslessCoding) (read : List ℕ → Outcome (List (List ℕ) × Option Marker))
+    (frame : Frame) (scan : Scan) (codings : List LosslessCoding) (read : List ℕ
+    → Outcome (List (List ℕ) × Option Marker))
     (old new : Stream) (e : Error)
     → lossless_codings found.huffman.dc frame scan.components scan.dc_places ≡ Ok codings
     → scan_samples found frame scan codings ≡ read
@@ -236,7 +238,8 @@ pub samples-fail : {X Z : Type 0} (v : X → Found × Option Marker) (view : Z �
 samples-fail v view found frame scan codings read old new e c is =
     Continues-err v view (samples_read found frame scan) (samples_read found frame scan) read old old new e
     (λ f h. samples-then found frame scan codings old.bytes c
-    ∙ bind_err (after_planes found codings) _ f (ap (λ (g : List ℕ → Outcome (List (List ℕ) × Option Marker)). g old.bytes) is ∙ h))
+    ∙ bind_err (after_planes found codings) _ f (ap (λ (g : List ℕ → Outcome (List (List ℕ) × Option Marker)). g
+    old.bytes) is ∙ h))
     (begun (samples_read found frame scan) old)
 
 -- The data are read, and the restart markers after them are passed over.
@@ -250,7 +253,10 @@ pub samples-end : (found next : Found) (frame : Frame) (scan : Scan) (codings : 
 samples-end found next frame scan codings read planes met old mid new r c is made has =
     last-step (λ (m : Option Marker). (next, m)) (λ (m : Option Marker). m) (samples_read found frame scan)
     (λ bytes. after_planes found codings ((planes, met), bytes)) (after_all met) old mid new r
-    (λ m h. bind_at (λ (m : Option Marker × List ℕ). Ok ((after_samples found codings planes, m.0), m.1)) _ (m, new.bytes) h
+    (λ m h. bind_at (λ (m : Option Marker × List ℕ). Ok ((after_samples found codings planes, m.0), m.1)) _ (
+      m,
+      new.bytes,
+    ) h
     ∙ ap (λ (x : Found). Ok ((x, m), new.bytes)) (sym made))
     (λ f h. bind_err (λ (m : Option Marker × List ℕ). Ok ((after_samples found codings planes, m.0), m.1)) _ f h) (
       has.0,
@@ -295,7 +301,10 @@ samples-sound found next frame places planes sound e lossless whole is = subst I
   held = λ f k.
       let p : f.process ≡ Lossless = subst (λ (x : Frame). x.process ≡ Lossless) (same f k) lossless in
       subst (AreArrays f.components)
-      (before-lossless found f p ∙ sym (before-lossless (record found { scanned = true; samples = with_samples places planes found.samples }) f p)) (sound.held f k);
+      (before-lossless found f p ∙ sym (before-lossless (record found {
+        scanned = true;
+        samples = with_samples places planes found.samples;
+      }) f p)) (sound.held f k);
   planes = sound.planes;
   samples = λ f k.
       with-sized (f.width * f.height) places planes found.samples
@@ -326,20 +335,23 @@ with-none planes samples = refl
 
 -- a slot more
 pub put-step : (places : List ℕ) (i : ℕ) (planes : List (Vec ℕ Global)) (empty plane : Vec ℕ Global)
-    (before : List (Option (Vec ℕ Global))) → i < length places → length planes ≡ length places → plane ≡ get_or planes i plane
+    (before : List (Option (Vec ℕ Global))) → i < length places → length planes ≡ length places
+    → plane ≡ get_or planes i plane
     → with_samples (drop (i + 1) places) (drop (i + 1) (map (λ (v : Vec ℕ Global). v.items) (set planes i empty)))
     (planes_in (slice_set before (slice_index_or places i 0) (Some plane)))
     ≡ with_samples (drop i places) (drop i (map (λ (v : Vec ℕ Global). v.items) planes)) (planes_in before)
 put-step places i planes empty plane before h e is =
     let items : Vec ℕ Global → List ℕ = λ v. v.items in
     let p = get_or places i 0 in
-    let back : drop i (map items planes) ≡ plane.items ∷ drop (i + 1) (map items planes) = seen-at items planes i plane (omega arith) is in
+    let back : drop i (map items planes) ≡ plane.items ∷ drop (i + 1) (map items planes) =
+    seen-at items planes i plane (omega arith) is in
     let rest : drop (i + 1) (map items (set planes i empty)) ≡ drop (i + 1) (map items planes)
     = ap (drop (i + 1)) (map-set items planes i empty) ∙ drop-set (map items planes) i empty.items in
     ap₂ (λ (ps : List (List ℕ)) (s : List (Option (List ℕ))). with_samples (drop (i + 1) places) ps s) rest
     (map-set (λ (q : Option (Vec ℕ Global)). option_map (λ (v : Vec ℕ Global). v.items) q) before p (Some plane))
     ∙ sym (with-more p (drop (i + 1) places) plane.items (drop (i + 1) (map items planes)) (planes_in before))
-    ∙ sym (ap₂ (λ (l : List ℕ) (ps : List (List ℕ)). with_samples l ps (planes_in before)) (drop_more places i 0 h) back)
+    ∙ sym (ap₂ (λ (l : List ℕ) (ps : List (List ℕ)). with_samples l ps (planes_in before)) (drop_more places i 0 h)
+    back)
 
 -- all slots
 pub put-all : (places : List ℕ) (i : ℕ) (planes : List (List ℕ)) (samples whole : List (Option (List ℕ)))
@@ -479,7 +491,8 @@ pub plain-by : (found : Found) (frame : Frame) (scan : Scan) (ts : List Table)
     → scan_samples found (without_factors frame) scan a.codings
     ≡ scan_at (way_by k ts) k.high k.restart_interval k.point_transform
 plain-by found frame scan ts a k e =
-    plain-read found.huffman.dc frame scan.components scan.dc_places ts a scan.predictor scan.point_transform found.restart
+    plain-read found.huffman.dc frame scan.components scan.dc_places ts a scan.predictor scan.point_transform
+    found.restart
     ∙ ap (λ (x : Coding). scan_at (way_by x ts) x.high x.restart_interval x.point_transform) (sym e)
 
 -- What is found after samples are put.
@@ -490,7 +503,8 @@ pub put-made : (base : Found) (old new : Decoded) (samples : List (Option (List 
 put-made base old new samples h f p s =
     ap (λ (x : Arrays). found_with x new.finished (planes_in new.planes) (planes_in new.samples)) (ap held_in h)
     ∙ ap (λ (x : List (List Bool)). found_with (held_in old.held) x (planes_in new.planes) (planes_in new.samples)) f
-    ∙ ap (λ (x : List (Option (List ℕ))). found_with (held_in old.held) old.finished x (planes_in new.samples)) (ap planes_in p)
+    ∙ ap (λ (x : List (Option (List ℕ))). found_with (held_in old.held) old.finished x (planes_in new.samples))
+    (ap planes_in p)
     ∙ ap (found_with (held_in old.held) old.finished (planes_in old.planes)) s
   where
     held_in : Vec (Vec (List ℤ) Global) Global → Arrays

@@ -7,10 +7,12 @@ use Rattle.jpeg_bits.specs.Passes.{Pass, Via}
 use Rattle.jpeg_decoder.specs.Order.{Spot}
 use Rattle.jpeg_decoder.specs.InTurn.{Reached, turn_from, turns_from}
 
-pub one_turn : (p : Pass) (vias : List Via) (s : Spot) (old r : Reached) (t u : Text) → turn_from p vias s old t ≡ Ok (r, u) → turns_from p vias (s ∷ []) old t ≡ Ok (r, u)
+pub one_turn : (p : Pass) (vias : List Via) (s : Spot) (old r : Reached) (t u : Text)
+    → turn_from p vias s old t ≡ Ok (r, u) → turns_from p vias (s ∷ []) old t ≡ Ok (r, u)
 unfolding turns_from
 one_turn p vias s old r t u e = ap (read_on (turns_from p vias [])) e
 
-pub one_refused : (p : Pass) (vias : List Via) (s : Spot) (old : Reached) (t : Text) (f : Fault) → turn_from p vias s old t ≡ Err f → turns_from p vias (s ∷ []) old t ≡ Err f
+pub one_refused : (p : Pass) (vias : List Via) (s : Spot) (old : Reached) (t : Text) (f : Fault)
+    → turn_from p vias s old t ≡ Err f → turns_from p vias (s ∷ []) old t ≡ Err f
 unfolding turns_from
 one_refused p vias s old t f e = ap (read_on (turns_from p vias [])) e

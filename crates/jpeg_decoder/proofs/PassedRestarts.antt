@@ -10,7 +10,8 @@ use Rattle.jpeg_decoder.specs.Stream.{after_restarts}
 use Rattle.jpeg_decoder.specs.Steps.{is_restart, after_all}
 use Rattle.jpeg_decoder.proofs.Shorter.{LeavesBelow, below-at, marker-below}
 
-pub bind-same : {A B : Type 0} (r : Result A Fault) (f g : A → Result B Fault) → ((x : A) → r ≡ Ok x → f x ≡ g x) → r >>= f ≡ r >>= g
+pub bind-same : {A B : Type 0} (r : Result A Fault) (f g : A → Result B Fault) → ((x : A) → r ≡ Ok x → f x ≡ g x)
+    → r >>= f ≡ r >>= g
 bind-same (Ok x) f g h = h x refl
 bind-same (Err fault) f g h = refl
 
@@ -18,7 +19,8 @@ bind-same (Err fault) f g h = refl
 abbrev pub others : ℕ → List ℕ → Outcome (Option Marker)
 others turns bytes = next_marker bytes >>= (λ (m : Marker × List ℕ). after_restarts turns (Some m.0) m.1)
 
-restarts-none : (turns : ℕ) (met : Option Marker) (bytes : List ℕ) → is_restart met ≡ false → after_restarts (suc turns) met bytes ≡ Ok (met, bytes)
+restarts-none : (turns : ℕ) (met : Option Marker) (bytes : List ℕ) → is_restart met ≡ false
+    → after_restarts (suc turns) met bytes ≡ Ok (met, bytes)
 unfolding after_restarts
 restarts-none turns None bytes e = refl
 restarts-none turns (Some (RST n)) bytes e = absurd (let n : ⊥ = cc in n)
@@ -40,7 +42,8 @@ restarts-none turns (Some COM) bytes e = refl
 restarts-none turns (Some TEM) bytes e = refl
 restarts-none turns (Some RES) bytes e = refl
 
-restarts-more : (turns : ℕ) (met : Option Marker) (bytes : List ℕ) → is_restart met ≡ true → after_restarts (suc turns) met bytes ≡ others turns bytes
+restarts-more : (turns : ℕ) (met : Option Marker) (bytes : List ℕ) → is_restart met ≡ true
+    → after_restarts (suc turns) met bytes ≡ others turns bytes
 unfolding after_restarts
 restarts-more turns (Some (RST n)) bytes e = refl
 restarts-more turns None bytes e = absurd (let n : ⊥ = cc in n)
@@ -67,7 +70,8 @@ either true f g = f refl
 either false f g = g refl
 
 -- more turns than bytes change nothing
-restarts-enough : (m n : ℕ) (met : Option Marker) (bytes : List ℕ) → length bytes < m → length bytes < n → after_restarts m met bytes ≡ after_restarts n met bytes
+restarts-enough : (m n : ℕ) (met : Option Marker) (bytes : List ℕ) → length bytes < m → length bytes < n
+    → after_restarts m met bytes ≡ after_restarts n met bytes
 restarts-enough zero n met bytes p q = absurd (omega arith)
 restarts-enough (suc m) zero met bytes p q = absurd (omega arith)
 restarts-enough (suc m) (suc n) met bytes p q =
@@ -86,15 +90,18 @@ pub after-done : (met : Option Marker) (bytes : List ℕ) → is_restart met ≡
 unfolding after_all
 after-done met bytes e = restarts-none (length bytes) met bytes e
 
-pub after-refused : (met : Option Marker) (bytes : List ℕ) (fault : Fault) → is_restart met ≡ true → next_marker bytes ≡ Err fault → after_all met bytes ≡ Err fault
+pub after-refused : (met : Option Marker) (bytes : List ℕ) (fault : Fault) → is_restart met ≡ true
+    → next_marker bytes ≡ Err fault → after_all met bytes ≡ Err fault
 unfolding after_all
 after-refused met bytes fault e q = restarts-more (length bytes) met bytes e ∙ rw q refl
 
-pub after-next : (met : Option Marker) (bytes rest : List ℕ) (m : Marker) → is_restart met ≡ true → next_marker bytes ≡ Ok (m, rest) → after_all met bytes ≡ after_all (Some m) rest
+pub after-next : (met : Option Marker) (bytes rest : List ℕ) (m : Marker) → is_restart met ≡ true
+    → next_marker bytes ≡ Ok (m, rest) → after_all met bytes ≡ after_all (Some m) rest
 unfolding after_all
 after-next met bytes rest m e q =
     let less : length rest < length bytes = marker-takes bytes (m, rest) q in
-    restarts-more (length bytes) met bytes e ∙ ap (λ (o : Outcome Marker). o >>= (λ (x : Marker × List ℕ). after_restarts (length bytes) (Some x.0) x.1)) q
+    restarts-more (length bytes) met bytes e ∙ ap (λ (o : Outcome Marker). o
+    >>= (λ (x : Marker × List ℕ). after_restarts (length bytes) (Some x.0) x.1)) q
     ∙ restarts-enough (length bytes) (suc (length rest)) (Some m) rest less (omega arith)
 
 -- Fewer bytes are left than the limit, and no restart marker is met.
@@ -102,12 +109,14 @@ unfoldable pub Passes : ℕ → Outcome (Option Marker) → Type 0
 Passes limit (Ok x) = (length x.1 < limit) × (is_restart x.0 ≡ false)
 Passes limit (Err fault) = Unit {0}
 
-bind-passes : (limit first : ℕ) (r : Outcome Marker) (f : Marker × List ℕ → Outcome (Option Marker)) → LeavesBelow first r → ((x : Marker × List ℕ) → length x.1 < first → Passes limit (f x)) → Passes limit (r >>= f)
+bind-passes : (limit first : ℕ) (r : Outcome Marker) (f : Marker × List ℕ → Outcome (Option Marker))
+    → LeavesBelow first r → ((x : Marker × List ℕ) → length x.1 < first → Passes limit (f x)) → Passes limit (r >>= f)
 unfolding Passes LeavesBelow
 bind-passes limit first (Ok x) f p q = q x p
 bind-passes limit first (Err fault) f p q = tt
 
-ok-passes : (limit : ℕ) (met : Option Marker) (bytes : List ℕ) → length bytes < limit → is_restart met ≡ false → Passes limit (Ok (met, bytes))
+ok-passes : (limit : ℕ) (met : Option Marker) (bytes : List ℕ) → length bytes < limit → is_restart met ≡ false
+    → Passes limit (Ok (met, bytes))
 unfolding Passes
 ok-passes limit met bytes h e = (h, e)
 
@@ -118,14 +127,17 @@ none-passes limit fault = tt
 as-passes : (limit : ℕ) (r s : Outcome (Option Marker)) → r ≡ s → Passes limit s → Passes limit r
 as-passes limit r s e h = rw e h
 
-restarts-pass : (limit turns : ℕ) (met : Option Marker) (bytes : List ℕ) → length bytes < limit → Passes limit (after_restarts turns met bytes)
+restarts-pass : (limit turns : ℕ) (met : Option Marker) (bytes : List ℕ) → length bytes < limit
+    → Passes limit (after_restarts turns met bytes)
 unfolding after_restarts
 restarts-pass limit zero met bytes h = none-passes limit _
 restarts-pass limit (suc turns) met bytes h =
     either (is_restart met)
     (λ e. as-passes limit _ _ (restarts-more turns met bytes e)
-    (bind-passes limit (length bytes) (next_marker bytes) _ (marker-below bytes) (λ m p. restarts-pass limit turns (Some m.0) m.1 (omega arith))))
+    (bind-passes limit (length bytes) (next_marker bytes) _ (marker-below bytes) (λ m p. restarts-pass limit turns
+    (Some m.0) m.1 (omega arith))))
     (λ e. as-passes limit _ _ (restarts-none turns met bytes e) (ok-passes limit met bytes h e))
 
-pub after-passes : (limit : ℕ) (met : Option Marker) (bytes : List ℕ) → length bytes < limit → Passes limit (after_restarts (suc (length bytes)) met bytes)
+pub after-passes : (limit : ℕ) (met : Option Marker) (bytes : List ℕ) → length bytes < limit
+    → Passes limit (after_restarts (suc (length bytes)) met bytes)
 after-passes limit met bytes h = restarts-pass limit (suc (length bytes)) met bytes h

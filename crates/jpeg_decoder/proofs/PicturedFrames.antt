@@ -111,7 +111,8 @@ count-test n (inl e) = or-left (n == 1) _ (eq-eqb n 1 e)
 count-test n (inr (inl e)) = or-right (n == 1) _ (or-left (n == 3) _ (eq-eqb n 3 e))
 count-test n (inr (inr e)) = or-right (n == 1) _ (or-right (n == 3) _ (eq-eqb n 4 e))
 
-pub header-sources : (number : ℕ) (h : FrameHeader) → AllByRecursion (IsUpsampled h) h.components → (sources : List Source)
+pub header-sources : (number : ℕ) (h : FrameHeader) → AllByRecursion (IsUpsampled h) h.components
+    → (sources : List Source)
     × (sources_of (frame_written number h).components (frame_written number h).output_width
     (frame_written number h).output_height ≡ Ok sources)
 unfolding frame_of

@@ -60,34 +60,40 @@ pub decoded-cover : (f : Frame) → IsDecodedFrame f → (planes : List (List �
     → AllCover sources planes f.output_width f.output_height
 decoded-cover f p planes whole sources e =
     let s = decoded-sources f p in
-    subst (λ (x : List Source). AllCover x planes f.output_width f.output_height) (ok-same _ s.sources sources s.is e) (s.cover planes whole)
+    subst (λ (x : List Source). AllCover x planes f.output_width f.output_height) (ok-same _ s.sources sources s.is e)
+    (s.cover planes whole)
 
 -- ---- refusals
 
 never-end : (n : ℕ) (t : ColorTransform) (r : Result (List Source) Fault) (sources : List Source)
     (bytes : ColorConvert → List Source → List ℕ) → r ≡ Ok sources
-    → (conversion_of n t >>= (λ (convert : ColorConvert). r >>= (λ (s : List Source). Ok (bytes convert s)))) ≡ Err End → ⊥
+    → (conversion_of n t >>= (λ (convert : ColorConvert). r >>= (λ (s : List Source). Ok (bytes convert s)))) ≡ Err End
+    → ⊥
 unfolding conversion_of
 never-end n t (Err fault) sources bytes r e = absurd (let z : ⊥ = cc in z)
 never-end n transforms.None (Ok s) sources bytes r e = cc
 never-end n transforms.RGB (Ok s) sources bytes r e = go (n == 3) e
   where
-    go : (b : Bool) → (cond b (Ok converts.Rgb) (Err Malformed) >>= (λ (convert : ColorConvert). Ok (bytes convert s))) ≡ Err End → ⊥
+    go : (b : Bool) → (cond b (Ok converts.Rgb) (Err Malformed) >>= (λ (convert : ColorConvert). Ok (bytes convert s)))
+        ≡ Err End → ⊥
     go true e = cc
     go false e = cc
 never-end n transforms.YCbCr (Ok s) sources bytes r e = go (n == 3) e
   where
-    go : (b : Bool) → (cond b (Ok converts.YCbCr) (Err Malformed) >>= (λ (convert : ColorConvert). Ok (bytes convert s))) ≡ Err End → ⊥
+    go : (b : Bool) → (cond b (Ok converts.YCbCr) (Err Malformed)
+        >>= (λ (convert : ColorConvert). Ok (bytes convert s))) ≡ Err End → ⊥
     go true e = cc
     go false e = cc
 never-end n transforms.CMYK (Ok s) sources bytes r e = go (n == 4) e
   where
-    go : (b : Bool) → (cond b (Ok converts.Cmyk) (Err Malformed) >>= (λ (convert : ColorConvert). Ok (bytes convert s))) ≡ Err End → ⊥
+    go : (b : Bool) → (cond b (Ok converts.Cmyk) (Err Malformed) >>= (λ (convert : ColorConvert). Ok (bytes convert s)))
+        ≡ Err End → ⊥
     go true e = cc
     go false e = cc
 never-end n transforms.YCCK (Ok s) sources bytes r e = go (n == 4) e
   where
-    go : (b : Bool) → (cond b (Ok converts.Ycck) (Err Malformed) >>= (λ (convert : ColorConvert). Ok (bytes convert s))) ≡ Err End → ⊥
+    go : (b : Bool) → (cond b (Ok converts.Ycck) (Err Malformed) >>= (λ (convert : ColorConvert). Ok (bytes convert s)))
+        ≡ Err End → ⊥
     go true e = cc
     go false e = cc
 never-end n transforms.Grayscale (Ok s) sources bytes r e = cc
@@ -127,7 +133,8 @@ picture-one settings m f (x ∷ y ∷ more) c planes plane picture h e is made =
 -- of several
 pub picture-several : (settings : Settings) (m : Metadata) (f : Frame) (cs : List Component) (planes : List (List ℕ))
     → length cs ≢ 1 → picture_by settings m f cs planes
-    ≡ image_of cs planes f.output_width f.output_height (transform_of settings.color_transform (identifiers_of cs) m.jfif m.adobe)
+    ≡ image_of cs planes f.output_width f.output_height (transform_of settings.color_transform (identifiers_of cs)
+    m.jfif m.adobe)
 unfolding picture_by
 picture-several settings m f [] planes h = refl
 picture-several settings m f (c ∷ []) planes h = absurd (h (omega arith))

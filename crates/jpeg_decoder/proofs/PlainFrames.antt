@@ -43,7 +43,10 @@ pub record IsPlain (frame : Frame) (c : Component) : Type 0 where
 
 all-plain : (frame : Frame) (cs : List Component) → AllByRecursion (IsPlain frame) (map (one_by_one frame) cs)
 all-plain frame [] = tt
-all-plain frame (c ∷ cs) = (record { horizontal = refl; vertical = refl; width = refl; height = refl }, all-plain frame cs)
+all-plain frame (c ∷ cs) = (
+  record { horizontal = refl; vertical = refl; width = refl; height = refl },
+  all-plain frame cs,
+)
 
 coding-plain : (tables : List (Option Table)) (frame : Frame) (place d : ℕ) (k : LosslessCoding)
     → lossless_coding tables (without_factors frame) place d ≡ Ok k → IsPlain frame k.component
@@ -59,8 +62,10 @@ pub codings-plain : (tables : List (Option Table)) (frame : Frame) (places ds : 
     (codings : List LosslessCoding) → lossless_codings tables (without_factors frame) places ds ≡ Ok codings
     → AllByRecursion (λ k. IsPlain frame k.component) codings
 unfolding lossless_codings
-codings-plain tables frame [] ds codings h = subst (AllByRecursion (λ k. IsPlain frame k.component)) (ok-same [] codings h) tt
-codings-plain tables frame (p ∷ places) [] codings h = subst (AllByRecursion (λ k. IsPlain frame k.component)) (ok-same [] codings h) tt
+codings-plain tables frame [] ds codings h =
+    subst (AllByRecursion (λ k. IsPlain frame k.component)) (ok-same [] codings h) tt
+codings-plain tables frame (p ∷ places) [] codings h =
+    subst (AllByRecursion (λ k. IsPlain frame k.component)) (ok-same [] codings h) tt
 codings-plain tables frame (p ∷ places) (d ∷ ds) codings h =
     let one = bind-ok (lossless_coding tables (without_factors frame) p d) _ codings h in
     let more = bind-ok (lossless_codings tables (without_factors frame) places ds) _ codings one.2 in
@@ -76,9 +81,11 @@ pub across-plain : (frame : Frame) (codings : List LosslessCoding)
     → AllByRecursion (λ k. IsPlain frame k.component) codings
     → mcus_across (without_factors frame) codings ≡ frame.width
 unfolding mcus_across
-across-plain frame [] h = ceiling-one frame.width (most_across (without_factors frame)) (ones-across frame frame.components)
+across-plain frame [] h = ceiling-one frame.width (most_across (without_factors frame))
+    (ones-across frame frame.components)
 across-plain frame (k ∷ []) h = h.0.width
-across-plain frame (k ∷ j ∷ codings) h = ceiling-one frame.width (most_across (without_factors frame)) (ones-across frame frame.components)
+across-plain frame (k ∷ j ∷ codings) h =
+    ceiling-one frame.width (most_across (without_factors frame)) (ones-across frame frame.components)
 
 pub down-plain : (frame : Frame) (codings : List LosslessCoding)
     → AllByRecursion (λ k. IsPlain frame k.component) codings
@@ -86,7 +93,8 @@ pub down-plain : (frame : Frame) (codings : List LosslessCoding)
 unfolding mcus_down
 down-plain frame [] h = ceiling-one frame.height (most_down (without_factors frame)) (ones-down frame frame.components)
 down-plain frame (k ∷ []) h = h.0.height
-down-plain frame (k ∷ j ∷ codings) h = ceiling-one frame.height (most_down (without_factors frame)) (ones-down frame frame.components)
+down-plain frame (k ∷ j ∷ codings) h =
+    ceiling-one frame.height (most_down (without_factors frame)) (ones-down frame frame.components)
 
 abbrev part : Table → ℕ → ℕ → ℕ → ℕ → Part
 part t a d w h = record { table = t; across = a; down = d; width = w; height = h }
@@ -94,14 +102,17 @@ part t a d w h = record { table = t; across = a; down = d; width = w; height = h
 part-plain : (frame : Frame) (k : LosslessCoding) (a d : ℕ) → IsPlain frame k.component → a ≡ 1 → d ≡ 1
     → part_of a d k ≡ part_by frame.width frame.height k.table
 part-plain frame k a d h e g =
-    ap₂ (λ (x y : ℕ). part k.table x y k.component.width k.component.height) e g ∙ ap₂ (part k.table 1 1) h.width h.height
+    ap₂ (λ (x y : ℕ). part k.table x y k.component.width k.component.height) e g
+    ∙ ap₂ (part k.table 1 1) h.width h.height
 
 mapped-plain : (frame : Frame) (codings : List LosslessCoding)
     → AllByRecursion (λ k. IsPlain frame k.component) codings
-    → map (λ k. part_of k.component.factors.horizontal k.component.factors.vertical k) codings ≡ map (part_by frame.width frame.height) (map (λ k. k.table) codings)
+    → map (λ k. part_of k.component.factors.horizontal k.component.factors.vertical k) codings
+    ≡ map (part_by frame.width frame.height) (map (λ k. k.table) codings)
 mapped-plain frame [] h = refl
 mapped-plain frame (k ∷ codings) h =
-    ap₂ (λ (x : Part) (xs : List Part). x ∷ xs) (part-plain frame k k.component.factors.horizontal k.component.factors.vertical h.0 h.0.horizontal h.0.vertical) (mapped-plain frame codings h.1)
+    ap₂ (λ (x : Part) (xs : List Part). x ∷ xs) (part-plain frame k k.component.factors.horizontal
+    k.component.factors.vertical h.0 h.0.horizontal h.0.vertical) (mapped-plain frame codings h.1)
 
 parts-plain : (frame : Frame) (codings : List LosslessCoding)
     → AllByRecursion (λ k. IsPlain frame k.component) codings
@@ -114,10 +125,20 @@ parts-plain frame (k ∷ j ∷ codings) h = mapped-plain frame (k ∷ j ∷ codi
 pub way-plain : (tables : List (Option Table)) (frame : Frame) (places ds : List ℕ) (codings : List LosslessCoding)
     (predictor : Predictor) (point : ℕ) → lossless_codings tables (without_factors frame) places ds ≡ Ok codings
     → way_of (without_factors frame) predictor point codings
-    ≡ record { wide = frame.width; selection = predictor; start = start_of frame.precision point; parts = map (part_by frame.width frame.height) (map (λ k. k.table) codings) }
+    ≡ record {
+      wide = frame.width;
+      selection = predictor;
+      start = start_of frame.precision point;
+      parts = map (part_by frame.width frame.height) (map (λ k. k.table) codings);
+    }
 way-plain tables frame places ds codings predictor point h =
     let plain = codings-plain tables frame places ds codings h in
-    ap₂ (λ (w : ℕ) (ps : List Part). record { wide = w; selection = predictor; start = start_of frame.precision point; parts = ps }) (across-plain frame codings plain) (parts-plain frame codings plain)
+    ap₂ (λ (w : ℕ) (ps : List Part). record {
+      wide = w;
+      selection = predictor;
+      start = start_of frame.precision point;
+      parts = ps;
+    }) (across-plain frame codings plain) (parts-plain frame codings plain)
 
 -- ---- pictures
 
@@ -127,11 +148,15 @@ unfolding layers_of
 layers-plain frame [] [] h = refl
 layers-plain frame [] (p ∷ planes) h = absurd (omega arith)
 layers-plain frame (c ∷ cs) [] h = absurd (omega arith)
-layers-plain frame (c ∷ cs) (p ∷ planes) h = ap (λ (l : List Layer). layer_by frame.width p ∷ l) (layers-plain frame cs planes (omega arith))
+layers-plain frame (c ∷ cs) (p ∷ planes) h =
+    ap (λ (l : List Layer). layer_by frame.width p ∷ l) (layers-plain frame cs planes (omega arith))
 
 pub picture-plain : (frame : Frame) (planes : List (List ℕ)) → length planes ≡ length frame.components
-    → lossless_picture (without_factors frame) planes ≡ picture_bytes frame.precision 1 1 frame.width frame.height (map (layer_by frame.width) planes)
+    → lossless_picture (without_factors frame) planes ≡ picture_bytes frame.precision 1 1 frame.width frame.height
+    (map (layer_by frame.width) planes)
 unfolding lossless_picture
 picture-plain frame planes h =
-    ap₂ (λ (a d : ℕ). picture_bytes frame.precision a d frame.width frame.height (layers_of (map (one_by_one frame) frame.components) planes)) (ones-across frame frame.components) (ones-down frame frame.components)
+    ap₂ (λ (a d : ℕ). picture_bytes frame.precision a d frame.width frame.height
+    (layers_of (map (one_by_one frame) frame.components) planes)) (ones-across frame frame.components)
+    (ones-down frame frame.components)
     ∙ ap (picture_bytes frame.precision 1 1 frame.width frame.height) (layers-plain frame frame.components planes h)

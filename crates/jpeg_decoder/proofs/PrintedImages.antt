@@ -17,12 +17,14 @@ use Rattle.jpeg_decoder.proofs.WrittenPictures.{taken-means}
 
 -- what is written for a stream of an image
 pub image-output : (array : Coefficients) (image rest : List ℕ) (final : Found) (last : ℕ → Levels)
-    → ((place row column : ℕ) → Is8Bit (array place row column)) → WritesImage array image final last → Takes default_settings final
+    → ((place row column : ℕ) → Is8Bit (array place row column)) → WritesImage array image final last
+    → Takes default_settings final
     → (picture : List ℕ) × (picture_of_array default_settings final array last ≡ Ok picture)
     × (output_of (image ++ rest) ≡ Some (line_of (option_map info_of final.frame) ++ picture))
 unfolding output_of
 image-output array image rest final last range w takes =
-    let p = taken-means default_settings array rest (image ++ rest) final last range (image-accepted array rest image final last w) takes in (
+    let p = taken-means default_settings array rest (image ++ rest) final last range (image-accepted array rest image
+    final last w) takes in (
       p.0,
       p.1,
       ap (λ (o : Outcome (Told × List ℕ)). elim o as (λ _. Option (List ℕ)) [
@@ -38,20 +40,27 @@ some-and (Some x) text P e h = let same : x ≡ text = cc in subst P same h
 is-some : (o : Option (List ℕ)) (text : List ℕ) → o ≡ Some text → IsSome o
 is-some o text e = rw e refl
 
-prints : {X : Type 0} (bytes text : List ℕ) (old new : Option (List ℕ)) (result : Result X Error) → output_of bytes ≡ Some text
+prints : {X : Type 0} (bytes text : List ℕ) (old new : Option (List ℕ)) (result : Result X Error)
+    → output_of bytes ≡ Some text
     → OnOk result (IsSomeAnd (output_of bytes) (Appends old new))
     → ((text : List ℕ) → output_of bytes ≡ Some text → TakesBeginning old new text)
     → (IsSome (output_of bytes) → IfErr result IsOutsideOrMemory)
     → Prints text old result new
 prints bytes text old new (Ok x) e ok beginning refused = some-and (output_of bytes) text (Appends old new) e ok
-prints bytes text old new (Err x) e ok beginning refused = (refused (is-some (output_of bytes) text e), beginning text e)
+prints bytes text old new (Err x) e ok beginning refused =
+    (refused (is-some (output_of bytes) text e), beginning text e)
 
 pub prints-images : {X : Type 0} (remaining old new : Option (List ℕ)) (result : Result X Error)
     → ((bytes : List ℕ) → Tells remaining bytes → OnOk result (IsSomeAnd (output_of bytes) (Appends old new)))
-    → ((bytes : List ℕ) → Tells remaining bytes → (text : List ℕ) → output_of bytes ≡ Some text → TakesBeginning old new text)
+    → ((bytes : List ℕ) → Tells remaining bytes → (text : List ℕ) → output_of bytes ≡ Some text
+    → TakesBeginning old new text)
     → ((bytes : List ℕ) → Tells remaining bytes → IsSome (output_of bytes) → IfErr result IsOutsideOrMemory)
     → PrintsImages remaining old result new
 prints-images remaining old new result ok beginning refused array image rest final last range w takes tells =
     let p = image-output array image rest final last range w takes in
-    let bytes = image ++ rest in
-    (p.0, p.1, prints bytes (line_of (option_map info_of final.frame) ++ p.0) old new result p.2 (ok bytes tells) (beginning bytes tells) (refused bytes tells))
+    let bytes = image ++ rest in (
+      p.0,
+      p.1,
+      prints bytes (line_of (option_map info_of final.frame) ++ p.0) old new result p.2 (ok bytes tells)
+          (beginning bytes tells) (refused bytes tells),
+    )

@@ -19,17 +19,20 @@ use Rattle.std.specs.Prelude.{slice_set, slice_index_or, option_map}
 use Rattle.jpeg_decoder.proofs.DecidedPlanes.{its_plane_set}
 
 -- the first of those that are left, in a list that is seen by a function
-seen-first : {A B : Type 0} (f : A → B) (xs : List A) (i : ℕ) (d : A) → i < length xs → drop i (map f xs) ≡ f (get_or xs i d) ∷ drop (suc i) (map f xs)
+seen-first : {A B : Type 0} (f : A → B) (xs : List A) (i : ℕ) (d : A) → i < length xs
+    → drop i (map f xs) ≡ f (get_or xs i d) ∷ drop (suc i) (map f xs)
 seen-first f [] i d h = absurd (omega arith)
 seen-first f (y ∷ ys) zero d h = refl
 seen-first f (y ∷ ys) (suc i) d h = seen-first f ys i d (omega arith)
 
-pub seen-any : {A B : Type 0} (f : A → B) (xs : List A) (i : ℕ) (d : A) → i < length xs → drop i (map f xs) ≡ f (get_or xs i d) ∷ drop (i + 1) (map f xs)
+pub seen-any : {A B : Type 0} (f : A → B) (xs : List A) (i : ℕ) (d : A) → i < length xs
+    → drop i (map f xs) ≡ f (get_or xs i d) ∷ drop (i + 1) (map f xs)
 seen-any f xs i d h =
     let e : suc i ≡ i + 1 = omega arith in
     seen-first f xs i d h ∙ ap (λ (k : ℕ). f (get_or xs i d) ∷ drop k (map f xs)) e
 
-pub seen-at : {A B : Type 0} (f : A → B) (xs : List A) (i : ℕ) (x : A) → i < length xs → x ≡ get_or xs i x → drop i (map f xs) ≡ f x ∷ drop (i + 1) (map f xs)
+pub seen-at : {A B : Type 0} (f : A → B) (xs : List A) (i : ℕ) (x : A) → i < length xs → x ≡ get_or xs i x
+    → drop i (map f xs) ≡ f x ∷ drop (i + 1) (map f xs)
 seen-at f xs i x h e = seen-any f xs i x h ∙ ap (λ (y : _). f y ∷ drop (i + 1) (map f xs)) (sym e)
 
 -- what stands after an item that is replaced
@@ -49,8 +52,10 @@ none-left f (x ∷ xs) = none-left f xs
 
 -- ---- planes
 
-pub planes-more : (p : Pass) (c : Coding) (codings : List Coding) (plane : List ℕ) (planes : List (List ℕ)) (found : Found)
-    → with_planes p (c ∷ codings) (plane ∷ planes) found ≡ with_planes p codings planes (with_its_plane p c.place plane found)
+pub planes-more : (p : Pass) (c : Coding) (codings : List Coding) (plane : List ℕ) (planes : List (List ℕ))
+    (found : Found)
+    → with_planes p (c ∷ codings) (plane ∷ planes) found ≡ with_planes p codings planes (with_its_plane p c.place plane
+    found)
 unfolding with_planes
 planes-more p c codings plane planes found = refl
 
@@ -65,8 +70,10 @@ pub blocks-are : (p : Pass) (c : Coding) (blocks : List Block) (found : Found)
 unfolding with_blocks with_plane with_its_plane decided_planes
 blocks-are p c blocks found = refl
 
-pub arrays-more : (p : Pass) (c : Coding) (codings : List Coding) (blocks : List Block) (arrays : Arrays) (found : Found)
-    → with_arrays p (c ∷ codings) (blocks ∷ arrays) found ≡ with_arrays p codings arrays (with_its_plane p c.place (plane_by c.component c.quantization blocks) found)
+pub arrays-more : (p : Pass) (c : Coding) (codings : List Coding) (blocks : List Block) (arrays : Arrays)
+    (found : Found)
+    → with_arrays p (c ∷ codings) (blocks ∷ arrays) found ≡ with_arrays p codings arrays
+    (with_its_plane p c.place (plane_by c.component c.quantization blocks) found)
 unfolding with_arrays
 arrays-more p c codings blocks arrays found = ap (with_arrays p codings arrays) (blocks-are p c blocks found)
 
@@ -91,58 +98,77 @@ put-none arrays held = refl
 -- one component more: where its blocks are taken from is empty afterwards
 pub put-step : (cs : List Coded) (i : ℕ) (d : Coded) (arrays held : List Held) (empty blocks : Held)
     → i < length cs → length arrays ≡ length cs → blocks ≡ get_or arrays i blocks
-    → put_arrays (drop (i + 1) (map coding_in cs)) (drop (i + 1) (arrays_in (set arrays i empty))) (arrays_in (set held (get_or cs i d).place blocks))
+    → put_arrays (drop (i + 1) (map coding_in cs)) (drop (i + 1) (arrays_in (set arrays i empty)))
+    (arrays_in (set held (get_or cs i d).place blocks))
     ≡ put_arrays (drop i (map coding_in cs)) (drop i (arrays_in arrays)) (arrays_in held)
 put-step cs i d arrays held empty blocks h e is =
     let c = get_or cs i d in
-    let front : drop i (map coding_in cs) ≡ coding_in c ∷ drop (i + 1) (map coding_in cs) = seen-any coding_in cs i d h in
-    let back : drop i (arrays_in arrays) ≡ blocks_in blocks ∷ drop (i + 1) (arrays_in arrays) = seen-at blocks_in arrays i blocks (omega arith) is in
+    let front : drop i (map coding_in cs) ≡ coding_in c ∷ drop (i + 1) (map coding_in cs) =
+    seen-any coding_in cs i d h in
+    let back : drop i (arrays_in arrays) ≡ blocks_in blocks ∷ drop (i + 1) (arrays_in arrays) =
+    seen-at blocks_in arrays i blocks (omega arith) is in
     let rest : drop (i + 1) (arrays_in (set arrays i empty)) ≡ drop (i + 1) (arrays_in arrays)
     = ap (drop (i + 1)) (map-set blocks_in arrays i empty) ∙ drop-set (arrays_in arrays) i (blocks_in empty) in
-    ap₂ (λ (a b : Arrays). put_arrays (drop (i + 1) (map coding_in cs)) a b) rest (map-set blocks_in held c.place blocks)
-    ∙ sym (put-more (coding_in c) (drop (i + 1) (map coding_in cs)) (blocks_in blocks) (drop (i + 1) (arrays_in arrays)) (arrays_in held))
+    ap₂ (λ (a b : Arrays). put_arrays (drop (i + 1) (map coding_in cs)) a b) rest (map-set blocks_in held c.place
+    blocks)
+    ∙ sym (put-more (coding_in c) (drop (i + 1) (map coding_in cs)) (blocks_in blocks) (drop (i + 1) (arrays_in arrays))
+    (arrays_in held))
     ∙ sym (ap₂ (λ (l : List Coding) (a : Arrays). put_arrays l a (arrays_in held)) front back)
 
 -- ---- the planes and the blocks of a slot
 
-pub planes-step : (p : Pass) (cs : List Coded) (i : ℕ) (d : Coded) (planes : List (Vec ℕ Global)) (empty plane : Vec ℕ Global) (before after : Found)
-    → i < length cs → length planes ≡ length cs → plane ≡ get_or planes i plane → after ≡ with_its_plane p (get_or cs i d).place plane.items before
-    → with_planes p (drop (i + 1) (map coding_in cs)) (drop (i + 1) (map (λ (v : Vec ℕ Global). v.items) (set planes i empty))) after
+pub planes-step : (p : Pass) (cs : List Coded) (i : ℕ) (d : Coded) (planes : List (Vec ℕ Global))
+    (empty plane : Vec ℕ Global) (before after : Found)
+    → i < length cs → length planes ≡ length cs → plane ≡ get_or planes i plane
+    → after ≡ with_its_plane p (get_or cs i d).place plane.items before
+    → with_planes p (drop (i + 1) (map coding_in cs))
+    (drop (i + 1) (map (λ (v : Vec ℕ Global). v.items) (set planes i empty))) after
     ≡ with_planes p (drop i (map coding_in cs)) (drop i (map (λ (v : Vec ℕ Global). v.items) planes)) before
 planes-step p cs i d planes empty plane before after h e is made =
     let c = get_or cs i d in
     let items : Vec ℕ Global → List ℕ = λ v. v.items in
-    let front : drop i (map coding_in cs) ≡ coding_in c ∷ drop (i + 1) (map coding_in cs) = seen-any coding_in cs i d h in
-    let back : drop i (map items planes) ≡ plane.items ∷ drop (i + 1) (map items planes) = seen-at items planes i plane (omega arith) is in
+    let front : drop i (map coding_in cs) ≡ coding_in c ∷ drop (i + 1) (map coding_in cs) =
+    seen-any coding_in cs i d h in
+    let back : drop i (map items planes) ≡ plane.items ∷ drop (i + 1) (map items planes) =
+    seen-at items planes i plane (omega arith) is in
     let rest : drop (i + 1) (map items (set planes i empty)) ≡ drop (i + 1) (map items planes)
     = ap (drop (i + 1)) (map-set items planes i empty) ∙ drop-set (map items planes) i empty.items in
     ap₂ (λ (ps : List (List ℕ)) (f : Found). with_planes p (drop (i + 1) (map coding_in cs)) ps f) rest made
-    ∙ sym (planes-more p (coding_in c) (drop (i + 1) (map coding_in cs)) plane.items (drop (i + 1) (map items planes)) before)
+    ∙ sym (planes-more p (coding_in c) (drop (i + 1) (map coding_in cs)) plane.items (drop (i + 1) (map items planes))
+    before)
     ∙ sym (ap₂ (λ (l : List Coding) (ps : List (List ℕ)). with_planes p l ps before) front back)
 
-pub arrays-step : (p : Pass) (cs : List Coded) (i : ℕ) (d : Coded) (arrays : List Held) (blocks : Held) (before after : Found)
+pub arrays-step : (p : Pass) (cs : List Coded) (i : ℕ) (d : Coded) (arrays : List Held) (blocks : Held)
+    (before after : Found)
     → i < length cs → i < length arrays → blocks ≡ get_or arrays i blocks
-    → after ≡ with_its_plane p (get_or cs i d).place (plane_by (coding_in (get_or cs i d)).component (coding_in (get_or cs i d)).quantization (blocks_in blocks)) before
+    → after ≡ with_its_plane p (get_or cs i d).place (plane_by (coding_in (get_or cs i d)).component
+    (coding_in (get_or cs i d)).quantization (blocks_in blocks)) before
     → with_arrays p (drop (i + 1) (map coding_in cs)) (drop (i + 1) (arrays_in arrays)) after
     ≡ with_arrays p (drop i (map coding_in cs)) (drop i (arrays_in arrays)) before
 arrays-step p cs i d arrays blocks before after h k is made =
     let c = get_or cs i d in
-    let front : drop i (map coding_in cs) ≡ coding_in c ∷ drop (i + 1) (map coding_in cs) = seen-any coding_in cs i d h in
-    let back : drop i (arrays_in arrays) ≡ blocks_in blocks ∷ drop (i + 1) (arrays_in arrays) = seen-at blocks_in arrays i blocks k is in
+    let front : drop i (map coding_in cs) ≡ coding_in c ∷ drop (i + 1) (map coding_in cs) =
+    seen-any coding_in cs i d h in
+    let back : drop i (arrays_in arrays) ≡ blocks_in blocks ∷ drop (i + 1) (arrays_in arrays) =
+    seen-at blocks_in arrays i blocks k is in
     ap (with_arrays p (drop (i + 1) (map coding_in cs)) (drop (i + 1) (arrays_in arrays))) made
-    ∙ sym (arrays-more p (coding_in c) (drop (i + 1) (map coding_in cs)) (blocks_in blocks) (drop (i + 1) (arrays_in arrays)) before)
+    ∙ sym (arrays-more p (coding_in c) (drop (i + 1) (map coding_in cs)) (blocks_in blocks)
+    (drop (i + 1) (arrays_in arrays)) before)
     ∙ sym (ap₂ (λ (l : List Coding) (a : Arrays). with_arrays p l a before) front back)
 
 -- each component has its blocks
-pub sized-at : (cs : List Coded) (vs : List Held) (i : ℕ) (d : Coded) (v : Held) → AreArrays (components_in cs) (arrays_in vs) → i < length cs
-    → (i < length vs) × (length (get_or vs i v).items ≡ (coding_in (get_or cs i d)).component.blocks_high * (coding_in (get_or cs i d)).component.blocks_wide)
+pub sized-at : (cs : List Coded) (vs : List Held) (i : ℕ) (d : Coded) (v : Held)
+    → AreArrays (components_in cs) (arrays_in vs) → i < length cs
+    → (i < length vs) × (length (get_or vs i v).items ≡ (coding_in (get_or cs i d)).component.blocks_high
+    * (coding_in (get_or cs i d)).component.blocks_wide)
 unfolding AreArrays
 sized-at [] vs i d v a h = absurd (omega arith)
 sized-at (c ∷ cs) [] i d v a h = absurd a
 sized-at (c ∷ cs) (x ∷ vs) zero d v a h = (omega arith, sym (length-map x.items to_block) ∙ a.0)
 sized-at (c ∷ cs) (x ∷ vs) (suc i) d v a h = let r = sized-at cs vs i d v a.1 (omega arith) in (omega (arith, r.0), r.1)
 
-pub long-at : (cs : List Coded) (vs : List Held) (i : ℕ) → AreArrays (components_in cs) (arrays_in vs) → i < length cs → i < length vs
+pub long-at : (cs : List Coded) (vs : List Held) (i : ℕ) → AreArrays (components_in cs) (arrays_in vs) → i < length cs
+    → i < length vs
 unfolding AreArrays
 long-at [] vs i a h = absurd (omega arith)
 long-at (c ∷ cs) [] i a h = absurd a
@@ -154,7 +180,8 @@ pub decided-as : (p : Pass) (place : ℕ) (plane : Vec ℕ Global) (base : Found
     → new.held ≡ old.held → new.samples ≡ old.samples → planes_in new.planes ≡ planes_in old.planes
     → new.finished ≡ slice_set old.finished place (marks_after p old.finished place)
     → true ≡ is_wanted (marks_after p old.finished place) (slice_index_or (planes_in old.planes) place None)
-    → with_decoded base (record new { planes = slice_set new.planes place (Some plane) }) ≡ with_its_plane p place plane.items (with_decoded base old)
+    → with_decoded base (record new { planes = slice_set new.planes place (Some plane) }) ≡ with_its_plane p place
+    plane.items (with_decoded base old)
 decided-as p place plane base old new a s b e w =
     ap (λ (h : Vec Held Global). record base {
       held = arrays_in h.items;
@@ -168,6 +195,8 @@ decided-as p place plane base old new a s b e w =
       planes = planes_in (slice_set new.planes place (Some plane));
       samples = planes_in l;
     }) s
-    ∙ its_plane_set p place plane.items (with_decoded base old) new.finished (planes_in (slice_set new.planes place (Some plane))) e
-    (map-set (λ (q : Option (Vec ℕ Global)). option_map (λ (v : Vec ℕ Global). v.items) q) new.planes place (Some plane) ∙ ap (λ (ps : List (Option (List ℕ))). slice_set ps place (Some plane.items)) b)
+    ∙ its_plane_set p place plane.items (with_decoded base old) new.finished
+    (planes_in (slice_set new.planes place (Some plane))) e
+    (map-set (λ (q : Option (Vec ℕ Global)). option_map (λ (v : Vec ℕ Global). v.items) q) new.planes place (Some plane)
+    ∙ ap (λ (ps : List (Option (List ℕ))). slice_set ps place (Some plane.items)) b)
     (sym w)

@@ -19,7 +19,8 @@ never-end : (h v width height : ℕ) (components : List Component) → sources_b
 unfolding sources_by
 never-end h v width height [] e = cc
 never-end h v width height (c ∷ more) e =
-    one c (rule_of c.factors.horizontal c.factors.vertical h v width height) (sources_by h v width height more) (never-end h v width height more) e
+    one c (rule_of c.factors.horizontal c.factors.vertical h v width height) (sources_by h v width height more)
+    (never-end h v width height more) e
 
 -- an error that names a refusal of ratios is one of a call with no source
 refused : (e : Error) (o : Result (List Source) Fault) → (o ≡ Err End → ⊥) → Names e o → IsRefusal e
@@ -29,7 +30,9 @@ refused (Io error) o h n = h n.0
 refused (Internal text) o h n = n
 refused OutOfMemory o h n = tt
 
-pub ratios-refused : (e : Error) (components : List Component) (width height : ℕ) → Names e (sources_of components width height) → IsRefusal e
+pub ratios-refused : (e : Error) (components : List Component) (width height : ℕ)
+    → Names e (sources_of components width height) → IsRefusal e
 ratios-refused e components width height n =
     refused e (sources_of components width height)
-    (never-end (greatest (λ f. f.horizontal) (factors_of components)) (greatest (λ f. f.vertical) (factors_of components)) width height components) n
+    (never-end (greatest (λ f. f.horizontal) (factors_of components))
+    (greatest (λ f. f.vertical) (factors_of components)) width height components) n

@@ -155,7 +155,8 @@ ready found frame header scan decoded is_dct legal pass restart classes codings 
       some = subst (λ (n : ℕ). 1 ≤ n) (sym count) legal.some;
       few = subst (λ (n : ℕ). n ≤ 4) (sym count) legal.most;
       classes = classes;
-      scales = All-from_recursion HasCodedScale cs (each-at HasScale found frame cs (decoded-scales frame decoded) facts.1);
+      scales = All-from_recursion HasCodedScale cs (each-at HasScale found frame cs (decoded-scales frame decoded)
+          facts.1);
       places =
           All-from_recursion HasPlace cs (places-at (length frame.components) cs few
           (subst (AllByRecursion (λ place. place < length frame.components)) (sym facts.2)

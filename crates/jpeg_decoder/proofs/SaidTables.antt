@@ -45,9 +45,22 @@ table-all : (most : ℕ) (tables : Tables) (t : PlacedTable) → HasTables table
     → HasTables (with_table tables t)
 table-all most tables t h is = go (is_ac t.table.class)
   where
-    go : (b : Bool) → HasTables (cond b (record tables { ac = set tables.ac t.place (Some t.table) }) (record tables { dc = set tables.dc t.place (Some t.table) }))
-    go true = record { dc = h.dc; ac = set-all IsTableOrNone tables.ac t.place (Some t.table) h.ac (record { counted = is.counted; exists = is.exists }) }
-    go false = record { dc = set-all IsTableOrNone tables.dc t.place (Some t.table) h.dc (record { counted = is.counted; exists = is.exists }); ac = h.ac }
+    go : (b : Bool) → HasTables (cond b (record tables { ac = set tables.ac t.place (Some t.table) })
+        (record tables { dc = set tables.dc t.place (Some t.table) }))
+    go true = record {
+      dc = h.dc;
+      ac = set-all IsTableOrNone tables.ac t.place (Some t.table) h.ac (record {
+        counted = is.counted;
+        exists = is.exists;
+      });
+    }
+    go false = record {
+      dc = set-all IsTableOrNone tables.dc t.place (Some t.table) h.dc (record {
+        counted = is.counted;
+        exists = is.exists;
+      });
+      ac = h.ac;
+    }
 
 tables-all : (most : ℕ) (tables : Tables) (ts : List PlacedTable) → HasTables tables
     → AllByRecursion (IsHuffmanTable most) ts → HasTables (fold with_table tables ts)
@@ -61,12 +74,16 @@ huffman-all : (most : ℕ) (old : Tables) (ts : List PlacedTable) → HasTables 
     → AllByRecursion (IsHuffmanTable most) ts → HasTables (with_huffman old (huffman_tables ts))
 huffman-all most old ts h all =
     let new = tables-all most no_tables ts no-tables all in
-    record { dc = updated-all old.dc (huffman_tables ts).dc h.dc new.dc; ac = updated-all old.ac (huffman_tables ts).ac h.ac new.ac }
+    record {
+      dc = updated-all old.dc (huffman_tables ts).dc h.dc new.dc;
+      ac = updated-all old.ac (huffman_tables ts).ac h.ac new.ac;
+    }
 
 pub segment-tables : (said found : Found) (s : Segment) → Stands said s → HasTables found.huffman
     → HasTables (found_after found s).huffman
 segment-tables said found (Quantization ts) may h = h
-segment-tables said found (Huffman ts) may h = huffman-all (greatest_place (option_map (λ (f : Frame). f.is_baseline) said.frame)) found.huffman ts h may.0
+segment-tables said found (Huffman ts) may h =
+    huffman-all (greatest_place (option_map (λ (f : Frame). f.is_baseline) said.frame)) found.huffman ts h may.0
 segment-tables said found (Interval n) may h = h
 segment-tables said found (Application number payload) may h = h
 segment-tables said found (Comment payload) may h = h
@@ -78,7 +95,8 @@ some-table (Some u) t e h = subst IsTable (let s : u ≡ t = cc in s) h
 
 pub table-there : (tables : List (Option Table)) (place : ℕ) (t : Table) → AllByRecursion IsTableOrNone tables
     → slice_index_or tables place None ≡ Some t → IsTable t
-table-there tables place t all e = some-table (get_or tables place None) t e (get-all IsTableOrNone tables place None all tt)
+table-there tables place t all e = some-table (get_or tables place None) t e (get-all IsTableOrNone tables place None
+    all tt)
 
 -- those that a scan names
 pub tables-there : (said : Found) (choices : List Choice) (tables : List Table) → HasTables said.huffman

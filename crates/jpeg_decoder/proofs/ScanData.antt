@@ -37,17 +37,24 @@ use Rattle.jpeg_decoder.proofs.ScanArrays.{IsOf, first-at, zeros-of}
 pub vias-same : (slot : ℕ) (cs : List Coded) → vias_from slot (map coding_in cs) ≡ vias_in slot cs
 unfolding vias_from vias_in
 vias-same slot [] = refl
-vias-same slot (c ∷ cs) = ap (λ (l : List Via). record { component = slot; dc = c.dc.now; ac = c.ac.now } ∷ l) (vias-same (slot + 1) cs)
+vias-same slot (c ∷ cs) = ap (λ (l : List Via). record { component = slot; dc = c.dc.now; ac = c.ac.now } ∷ l)
+    (vias-same (slot + 1) cs)
 
-pub of-frame : (frame : Frame) (codings : List Coding) → AllByRecursion (IsCodingOf frame) codings → AllByRecursion (IsOf frame) codings
+pub of-frame : (frame : Frame) (codings : List Coding) → AllByRecursion (IsCodingOf frame) codings
+    → AllByRecursion (IsOf frame) codings
 of-frame frame [] h = tt
-of-frame frame (c ∷ codings) h = (record { here = first-at c.place frame.components c.component h.0 }, of-frame frame codings h.1)
+of-frame frame (c ∷ codings) h = (
+  record { here = first-at c.place frame.components c.component h.0 },
+  of-frame frame codings h.1,
+)
 
-pub arrays-by-sizes : (cs : List Component) (old new : List Held) → AreArrays cs (arrays_in old) → sizes_of new ≡ sizes_of old → AreArrays cs (arrays_in new)
+pub arrays-by-sizes : (cs : List Component) (old new : List Held) → AreArrays cs (arrays_in old)
+    → sizes_of new ≡ sizes_of old → AreArrays cs (arrays_in new)
 unfolding AreArrays
 arrays-by-sizes [] old new h e = tt
 arrays-by-sizes (c ∷ cs) [] new h e = absurd h
-arrays-by-sizes (c ∷ cs) (o ∷ old) [] h e = absurd (let k : 0 ≡ suc (length (sizes_of old)) = ap length e in omega arith)
+arrays-by-sizes (c ∷ cs) (o ∷ old) [] h e =
+    absurd (let k : 0 ≡ suc (length (sizes_of old)) = ap length e in omega arith)
 arrays-by-sizes (c ∷ cs) (o ∷ old) (n ∷ new) h e =
     let a : length n.items ≡ length o.items = ap (λ (l : List ℕ). get_or l 0 0) e in
     let b : sizes_of new ≡ sizes_of old = ap (λ (l : List ℕ). drop 1 l) e in
@@ -56,7 +63,8 @@ arrays-by-sizes (c ∷ cs) (o ∷ old) (n ∷ new) h e =
 -- ---- what scans give
 
 pub held-kept : (p : Pass) (codings : List Coding) (arrays : Arrays) (found : Found) (h : Arrays)
-    → record (with_arrays p codings arrays found) { held = h } ≡ with_arrays p codings arrays (record found { held = h })
+    → record (with_arrays p codings arrays found) { held = h } ≡ with_arrays p codings arrays
+    (record found { held = h })
 unfolding with_arrays with_blocks
 held-kept p [] arrays found h = refl
 held-kept p (c ∷ codings) [] found h = refl
@@ -74,36 +82,64 @@ arrays-by-planes p (c ∷ codings) (blocks ∷ arrays) found =
 -- the blocks at their places, of those of the frame
 abbrev pub read_at : Found → Frame → Pass → List Coding → Arrays → List ℕ → Outcome (Arrays × Option Marker)
 read_at f frame p codings arrays bytes =
-    arrays_at p (f.restart * mcu_size (components_of codings)) (vias_from 0 codings) (spots_of frame (components_of codings)) arrays bytes
+    arrays_at p (f.restart * mcu_size (components_of codings)) (vias_from 0 codings)
+    (spots_of frame (components_of codings)) arrays bytes
 
-abbrev after_read : Found → Frame → Pass → List Coding → (Arrays × Option Marker) × List ℕ → Outcome (Found × Option Marker)
-after_read f frame p codings r = Ok ((with_arrays p codings r.0.0 (record f { scanned = true; held = held_after f frame codings r.0.0 }), r.0.1), r.1)
+abbrev after_read : Found → Frame → Pass → List Coding → (Arrays × Option Marker) × List ℕ
+    → Outcome (Found × Option Marker)
+after_read f frame p codings r = Ok (
+  (
+    with_arrays p codings r.0.0 (record f {
+      scanned = true;
+      held = held_after f frame codings r.0.0;
+    }),
+    r.0.1,
+  ),
+  r.1,
+)
 
 data-is : (f : Found) (frame : Frame) (p : Pass) (codings : List Coding) (bytes : List ℕ)
-    → scan_data f frame p codings bytes ≡ (read_at f frame p codings (blocks_at codings (arrays_before f frame)) bytes >>= after_read f frame p codings)
+    → scan_data f frame p codings bytes ≡ (read_at f frame p codings (blocks_at codings (arrays_before f frame)) bytes
+    >>= after_read f frame p codings)
 unfolding scan_data
 data-is f frame p codings bytes = refl
 
-held-progressive : (f : Found) (frame : Frame) (codings : List Coding) (arrays : Arrays) → is_progressive frame.process ≡ true
+held-progressive : (f : Found) (frame : Frame) (codings : List Coding) (arrays : Arrays)
+    → is_progressive frame.process ≡ true
     → held_after f frame codings arrays ≡ put_arrays codings arrays (arrays_before f frame)
 held-progressive f frame codings arrays e = rw e refl
 
-held-sequential : (f : Found) (frame : Frame) (codings : List Coding) (arrays : Arrays) → is_progressive frame.process ≡ false → held_after f frame codings arrays ≡ []
+held-sequential : (f : Found) (frame : Frame) (codings : List Coding) (arrays : Arrays)
+    → is_progressive frame.process ≡ false → held_after f frame codings arrays ≡ []
 held-sequential f frame codings arrays e = rw e refl
 
-before-sequential : (f : Found) (frame : Frame) → is_progressive frame.process ≡ false → arrays_before f frame ≡ zero_arrays frame.components
+before-sequential : (f : Found) (frame : Frame) → is_progressive frame.process ≡ false
+    → arrays_before f frame ≡ zero_arrays frame.components
 unfolding arrays_before
 before-sequential f frame e = rw e refl
 
 -- A scan of a progressive frame: of what is read and added, and of the blocks that are put back.
-pub data-held : (f : Found) (frame : Frame) (p : Pass) (codings : List Coding) (arrays : Arrays) (met : Option Marker) (bytes rest : List ℕ) (one two : Decoded) (held : Arrays)
+pub data-held : (f : Found) (frame : Frame) (p : Pass) (codings : List Coding) (arrays : Arrays) (met : Option Marker)
+    (bytes rest : List ℕ) (one two : Decoded) (held : Arrays)
     → is_progressive frame.process ≡ true
     → read_at f frame p codings (blocks_at codings (arrays_before f frame)) bytes ≡ Ok ((arrays, met), rest)
     → ((base : Found) → with_decoded base two ≡ with_arrays p codings arrays (with_decoded base one))
     → one.finished ≡ f.finished → planes_in one.planes ≡ f.planes → planes_in one.samples ≡ f.samples
     → held ≡ put_arrays codings arrays (arrays_before f frame)
     → scan_data f frame p codings bytes
-    ≡ Ok ((record f { scanned = true; held = held; finished = two.finished; planes = planes_in two.planes; samples = planes_in two.samples }, met), rest)
+    ≡ Ok (
+      (
+        record f {
+          scanned = true;
+          held = held;
+          finished = two.finished;
+          planes = planes_in two.planes;
+          samples = planes_in two.samples;
+        },
+        met,
+      ),
+      rest,
+    )
 data-held f frame p codings arrays met bytes rest one two held e r added fin pl sa h =
     data-is f frame p codings bytes
     ∙ ap (λ (o : Outcome (Arrays × Option Marker)). o >>= after_read f frame p codings) r
@@ -116,59 +152,96 @@ data-held f frame p codings arrays met bytes rest one two held e r added fin pl 
     answer x = Ok ((x, met), rest)
 
     same : with_arrays p codings arrays (record f { scanned = true; held = held_after f frame codings arrays })
-        ≡ record f { scanned = true; held = held; finished = two.finished; planes = planes_in two.planes; samples = planes_in two.samples }
+        ≡ record f {
+          scanned = true;
+          held = held;
+          finished = two.finished;
+          planes = planes_in two.planes;
+          samples = planes_in two.samples;
+        }
     same =
-        ap (λ (x : Arrays). with_arrays p codings arrays (record f { scanned = true; held = x })) (held-progressive f frame codings arrays e ∙ sym h)
-        ∙ ap (λ (a : List (Option (List ℕ))). with_arrays p codings arrays (record f { scanned = true; held = held; samples = a })) (sym sa)
+        ap (λ (x : Arrays). with_arrays p codings arrays (record f { scanned = true; held = x }))
+        (held-progressive f frame codings arrays e ∙ sym h)
+        ∙ ap (λ (a : List (Option (List ℕ))). with_arrays p codings arrays (record f {
+          scanned = true;
+          held = held;
+          samples = a;
+        })) (sym sa)
         ∙ ap₂ (λ (a : List (List Bool)) (b : List (Option (List ℕ))).
-        with_arrays p codings arrays (record f { scanned = true; held = held; finished = a; planes = b; samples = planes_in one.samples })) (sym fin) (sym pl)
+        with_arrays p codings arrays (record f {
+          scanned = true;
+          held = held;
+          finished = a;
+          planes = b;
+          samples = planes_in one.samples;
+        })) (sym fin) (sym pl)
         ∙ sym (held-kept p codings arrays (with_decoded base one) held)
         ∙ sym (ap (λ (x : Found). record x { held = held }) (added base))
 
 pub data-held-refused : (f : Found) (frame : Frame) (p : Pass) (codings : List Coding) (bytes : List ℕ) (fault : Fault)
-    → read_at f frame p codings (blocks_at codings (arrays_before f frame)) bytes ≡ Err fault → scan_data f frame p codings bytes ≡ Err fault
+    → read_at f frame p codings (blocks_at codings (arrays_before f frame)) bytes ≡ Err fault
+    → scan_data f frame p codings bytes ≡ Err fault
 data-held-refused f frame p codings bytes fault r =
-    data-is f frame p codings bytes ∙ ap (λ (o : Outcome (Arrays × Option Marker)). o >>= after_read f frame p codings) r
+    data-is f frame p codings bytes ∙ ap (λ (o : Outcome (Arrays × Option Marker)). o >>= after_read f frame p codings)
+    r
 
 -- A scan of a sequential frame.
 
 abbrev planes_after : List Coding → (Arrays × Option Marker) × List ℕ → Outcome (List (List ℕ) × Option Marker)
 planes_after codings r = Ok ((planes_by codings r.0.0, r.0.1), r.1)
 
-zeros-read : (f : Found) (frame : Frame) (codings : List Coding) → is_progressive frame.process ≡ false → AllByRecursion (IsOf frame) codings
+zeros-read : (f : Found) (frame : Frame) (codings : List Coding) → is_progressive frame.process ≡ false
+    → AllByRecursion (IsOf frame) codings
     → blocks_at codings (arrays_before f frame) ≡ zero_arrays (components_of codings)
 zeros-read f frame codings e of = ap (blocks_at codings) (before-sequential f frame e) ∙ zeros-of frame codings of
 
 planes-are : (n : ℕ) (frame : Frame) (p : Pass) (codings : List Coding) (vias : List Via) (bytes : List ℕ)
     → planes_at p n vias frame codings bytes
-    ≡ (arrays_at p (n * mcu_size (components_of codings)) vias (spots_of frame (components_of codings)) (zero_arrays (components_of codings)) bytes >>= planes_after codings)
+    ≡ (arrays_at p (n * mcu_size (components_of codings)) vias (spots_of frame (components_of codings))
+    (zero_arrays (components_of codings)) bytes >>= planes_after codings)
 unfolding planes_at
 planes-are n frame p codings vias bytes = refl
 
 ok-same : {A E : Type 0} (x y : A) → ◌≡◌ {A = Result A E} (Ok x) (Ok y) → x ≡ y
 ok-same x y h = cc
 
-pub data-planes : (f : Found) (frame : Frame) (p : Pass) (codings : List Coding) (planes : List (List ℕ)) (met : Option Marker) (bytes rest : List ℕ) (one two : Decoded)
+pub data-planes : (f : Found) (frame : Frame) (p : Pass) (codings : List Coding) (planes : List (List ℕ))
+    (met : Option Marker) (bytes rest : List ℕ) (one two : Decoded)
     → is_progressive frame.process ≡ false → AllByRecursion (IsOf frame) codings
     → planes_at p f.restart (vias_from 0 codings) frame codings bytes ≡ Ok ((planes, met), rest)
     → ((base : Found) → with_decoded base two ≡ with_planes p codings planes (with_decoded base one))
-    → one.finished ≡ f.finished → planes_in one.planes ≡ f.planes → planes_in one.samples ≡ f.samples → arrays_in one.held.items ≡ []
+    → one.finished ≡ f.finished → planes_in one.planes ≡ f.planes → planes_in one.samples ≡ f.samples
+    → arrays_in one.held.items ≡ []
     → scan_data f frame p codings bytes ≡ Ok ((record (with_decoded f two) { scanned = true }, met), rest)
 data-planes f frame p codings planes met bytes rest one two e of r added fin pl sa none =
     data-is f frame p codings bytes
-    ∙ ap (λ (a : Arrays). read_at f frame p codings a bytes >>= after_read f frame p codings) (zeros-read f frame codings e of)
-    ∙ go (read_at f frame p codings (zero_arrays (components_of codings)) bytes) (sym (planes-are f.restart frame p codings (vias_from 0 codings) bytes) ∙ r)
+    ∙ ap (λ (a : Arrays). read_at f frame p codings a bytes >>= after_read f frame p codings)
+    (zeros-read f frame codings e of)
+    ∙ go (read_at f frame p codings (zero_arrays (components_of codings)) bytes)
+    (sym (planes-are f.restart frame p codings (vias_from 0 codings) bytes) ∙ r)
   where
     base : Found
     base = record f { scanned = true }
 
     made : (arrays : Arrays) → planes_by codings arrays ≡ planes
-        → with_arrays p codings arrays (record f { scanned = true; held = held_after f frame codings arrays }) ≡ record (with_decoded f two) { scanned = true }
+        → with_arrays p codings arrays (record f { scanned = true; held = held_after f frame codings arrays })
+        ≡ record (with_decoded f two) { scanned = true }
     made arrays q =
-        ap (λ (x : Arrays). with_arrays p codings arrays (record f { scanned = true; held = x })) (held-sequential f frame codings arrays e ∙ sym none)
-        ∙ ap (λ (a : List (Option (List ℕ))). with_arrays p codings arrays (record f { scanned = true; held = arrays_in one.held.items; samples = a })) (sym sa)
+        ap (λ (x : Arrays). with_arrays p codings arrays (record f { scanned = true; held = x }))
+        (held-sequential f frame codings arrays e ∙ sym none)
+        ∙ ap (λ (a : List (Option (List ℕ))). with_arrays p codings arrays (record f {
+          scanned = true;
+          held = arrays_in one.held.items;
+          samples = a;
+        })) (sym sa)
         ∙ ap₂ (λ (a : List (List Bool)) (b : List (Option (List ℕ))).
-        with_arrays p codings arrays (record f { scanned = true; held = arrays_in one.held.items; finished = a; planes = b; samples = planes_in one.samples })) (sym fin) (sym pl)
+        with_arrays p codings arrays (record f {
+          scanned = true;
+          held = arrays_in one.held.items;
+          finished = a;
+          planes = b;
+          samples = planes_in one.samples;
+        })) (sym fin) (sym pl)
         ∙ arrays-by-planes p codings arrays (with_decoded base one)
         ∙ ap (λ (ps : List (List ℕ)). with_planes p codings ps (with_decoded base one)) q
         ∙ sym (added base)
@@ -184,59 +257,77 @@ data-planes f frame p codings planes met bytes rest one two e of r added fin pl 
         ap (λ (y : Found). Ok ((y, x.0.1), x.1)) (made x.0.0 a)
         ∙ ap₂ (λ (m : Option Marker) (l : List ℕ). Ok ((record (with_decoded f two) { scanned = true }, m), l)) b d
 
-pub data-planes-refused : (f : Found) (frame : Frame) (p : Pass) (codings : List Coding) (bytes : List ℕ) (fault : Fault)
+pub data-planes-refused : (f : Found) (frame : Frame) (p : Pass) (codings : List Coding) (bytes : List ℕ)
+    (fault : Fault)
     → is_progressive frame.process ≡ false → AllByRecursion (IsOf frame) codings
-    → planes_at p f.restart (vias_from 0 codings) frame codings bytes ≡ Err fault → scan_data f frame p codings bytes ≡ Err fault
+    → planes_at p f.restart (vias_from 0 codings) frame codings bytes ≡ Err fault
+    → scan_data f frame p codings bytes ≡ Err fault
 data-planes-refused f frame p codings bytes fault e of r =
     data-is f frame p codings bytes
-    ∙ ap (λ (a : Arrays). read_at f frame p codings a bytes >>= after_read f frame p codings) (zeros-read f frame codings e of)
-    ∙ go (read_at f frame p codings (zero_arrays (components_of codings)) bytes) (sym (planes-are f.restart frame p codings (vias_from 0 codings) bytes) ∙ r)
+    ∙ ap (λ (a : Arrays). read_at f frame p codings a bytes >>= after_read f frame p codings)
+    (zeros-read f frame codings e of)
+    ∙ go (read_at f frame p codings (zero_arrays (components_of codings)) bytes)
+    (sym (planes-are f.restart frame p codings (vias_from 0 codings) bytes) ∙ r)
   where
-    go : (o : Outcome (Arrays × Option Marker)) → (o >>= planes_after codings) ≡ Err fault → (o >>= after_read f frame p codings) ≡ Err fault
+    go : (o : Outcome (Arrays × Option Marker)) → (o >>= planes_after codings) ≡ Err fault
+        → (o >>= after_read f frame p codings) ≡ Err fault
     go (Err g) h = cc
     go (Ok x) h = absurd (cc)
 
 -- ---- planes of all blocks
 
-plane-at : (cs : List Component) (planes : List (Option (List ℕ))) (place : ℕ) (c : Component) → ArePlanes cs planes → At place cs c → IsPlaneOf c (get_or planes place None)
+plane-at : (cs : List Component) (planes : List (Option (List ℕ))) (place : ℕ) (c : Component) → ArePlanes cs planes
+    → At place cs c → IsPlaneOf c (get_or planes place None)
 unfolding ArePlanes
 plane-at [] planes place c h at = absurd at
 plane-at (d ∷ cs) [] place c h at = absurd h
 plane-at (d ∷ cs) (q ∷ planes) zero c h at = subst (λ (x : Component). IsPlaneOf x q) (at) h.0
 plane-at (d ∷ cs) (q ∷ planes) (suc place) c h at = plane-at cs planes place c h.1 at
 
-plane-set : (cs : List Component) (planes : List (Option (List ℕ))) (place : ℕ) (c : Component) (q : Option (List ℕ)) → ArePlanes cs planes → At place cs c → IsPlaneOf c q → ArePlanes cs (set planes place q)
+plane-set : (cs : List Component) (planes : List (Option (List ℕ))) (place : ℕ) (c : Component) (q : Option (List ℕ))
+    → ArePlanes cs planes → At place cs c → IsPlaneOf c q → ArePlanes cs (set planes place q)
 unfolding ArePlanes
 plane-set [] planes place c q h at k = tt
 plane-set (d ∷ cs) [] place c q h at k = absurd h
 plane-set (d ∷ cs) (x ∷ planes) zero c q h at k = (subst (λ (y : Component). IsPlaneOf y q) (sym (at)) k, h.1)
 plane-set (d ∷ cs) (x ∷ planes) (suc place) c q h at k = (h.0, plane-set cs planes place c q h.1 at k)
 
-decided-whole : (c : Component) (o : Option (List ℕ)) (plane : List ℕ) → IsPlaneOf c o → length plane ≡ (c.blocks_high * c.scale) * (c.blocks_wide * c.scale) → IsPlaneOf c (decided o plane)
+decided-whole : (c : Component) (o : Option (List ℕ)) (plane : List ℕ) → IsPlaneOf c o
+    → length plane ≡ (c.blocks_high * c.scale) * (c.blocks_wide * c.scale) → IsPlaneOf c (decided o plane)
 decided-whole c None plane h k = k
 decided-whole c (Some first) plane h k = h
 
-one-whole : (cs : List Component) (p : Pass) (place : ℕ) (c : Component) (plane : List ℕ) (found : Found) → At place cs c
-    → length plane ≡ (c.blocks_high * c.scale) * (c.blocks_wide * c.scale) → ArePlanes cs found.planes → ArePlanes cs (with_its_plane p place plane found).planes
+one-whole : (cs : List Component) (p : Pass) (place : ℕ) (c : Component) (plane : List ℕ) (found : Found)
+    → At place cs c
+    → length plane ≡ (c.blocks_high * c.scale) * (c.blocks_wide * c.scale) → ArePlanes cs found.planes
+    → ArePlanes cs (with_its_plane p place plane found).planes
 unfolding with_its_plane decided_planes
 one-whole cs p place c plane found at k h = go (list_all (λ mark. mark) (marks_after p found.finished place))
   where
-    go : (b : Bool) → ArePlanes cs (elim b as (λ _. List (Option (List ℕ))) [ true ↦ slice_set found.planes place (decided (slice_index_or found.planes place None) plane) | false ↦ found.planes ])
-    go true = plane-set cs found.planes place c _ h at (decided-whole c (get_or found.planes place None) plane (plane-at cs found.planes place c h at) k)
+    go : (b : Bool) → ArePlanes cs (elim b as (λ _. List (Option (List ℕ))) [
+      | true ↦ slice_set found.planes place (decided (slice_index_or found.planes place None) plane)
+      | false ↦ found.planes
+    ])
+    go true = plane-set cs found.planes place c _ h at (decided-whole c (get_or found.planes place None) plane
+        (plane-at cs found.planes place c h at) k)
     go false = h
 
-pub planes-whole : (frame : Frame) (p : Pass) (codings : List Coding) (planes : List (List ℕ)) (found : Found) → AllByRecursion (IsOf frame) codings
-    → map length planes ≡ map (λ (c : Component). (c.blocks_high * c.scale) * (c.blocks_wide * c.scale)) (components_of codings)
+pub planes-whole : (frame : Frame) (p : Pass) (codings : List Coding) (planes : List (List ℕ)) (found : Found)
+    → AllByRecursion (IsOf frame) codings
+    → map length planes ≡ map (λ (c : Component). (c.blocks_high * c.scale) * (c.blocks_wide * c.scale))
+    (components_of codings)
     → ArePlanes frame.components found.planes → ArePlanes frame.components (with_planes p codings planes found).planes
 unfolding with_planes
 planes-whole frame p [] planes found of k h = h
 planes-whole frame p (c ∷ codings) [] found of k h = h
 planes-whole frame p (c ∷ codings) (plane ∷ planes) found of k h =
-    let a : length plane ≡ (c.component.blocks_high * c.component.scale) * (c.component.blocks_wide * c.component.scale) = ap (λ (l : List ℕ). get_or l 0 0) k in
+    let a : length plane ≡ (c.component.blocks_high * c.component.scale)
+    * (c.component.blocks_wide * c.component.scale) = ap (λ (l : List ℕ). get_or l 0 0) k in
     planes-whole frame p codings planes (with_its_plane p c.place plane found) of.1 (ap (λ (l : List ℕ). drop 1 l) k)
     (one-whole frame.components p c.place c.component plane found of.0.here a h)
 
-pub arrays-whole : (frame : Frame) (p : Pass) (codings : List Coding) (arrays : Arrays) (found : Found) → AllByRecursion (IsOf frame) codings
+pub arrays-whole : (frame : Frame) (p : Pass) (codings : List Coding) (arrays : Arrays) (found : Found)
+    → AllByRecursion (IsOf frame) codings
     → ArePlanes frame.components found.planes → ArePlanes frame.components (with_arrays p codings arrays found).planes
 unfolding with_arrays
 arrays-whole frame p [] arrays found of h = h
@@ -244,12 +335,15 @@ arrays-whole frame p (c ∷ codings) [] found of h = h
 arrays-whole frame p (c ∷ codings) (blocks ∷ arrays) found of h =
     arrays-whole frame p codings arrays (with_blocks p c blocks found) of.1
     (subst (λ (x : Found). ArePlanes frame.components x.planes) (sym (blocks-are p c blocks found))
-    (one-whole frame.components p c.place c.component (plane_by c.component c.quantization blocks) found of.0.here (plane_by-length c.component c.quantization blocks) h))
+    (one-whole frame.components p c.place c.component (plane_by c.component c.quantization blocks) found of.0.here
+    (plane_by-length c.component c.quantization blocks) h))
 
 -- ---- refusals
 
-pub answers-err : {X Y Z W : Type 0} (v : X → Y) (view : Z → W) (read : List ℕ → Outcome Y) (whole : List ℕ → Outcome W) (old new : Stream) (e : Error)
-    → ((f : Fault) → read old.bytes ≡ Err f → whole old.bytes ≡ Err f) → Answers v read old (Err e) new → Answers view whole old (Err e) new
+pub answers-err : {X Y Z W : Type 0} (v : X → Y) (view : Z → W) (read : List ℕ → Outcome Y) (whole : List ℕ
+    → Outcome W) (old new : Stream) (e : Error)
+    → ((f : Fault) → read old.bytes ≡ Err f → whole old.bytes ≡ Err f) → Answers v read old (Err e) new
+    → Answers view whole old (Err e) new
 answers-err v view read whole old new e h p = (p.0, (λ k l. Names-through e _ _ h (p.1 k l)), p.2)
 
 -- ---- scans on held blocks
@@ -258,31 +352,41 @@ no-arrays : (c : Component) (more : List Component) → AreArrays (c ∷ more) [
 unfolding AreArrays
 no-arrays c more h = h
 
-other-arrays : (c : Component) (more : List Component) (blocks : List Block) (arrays : Arrays) → AreArrays (c ∷ more) (blocks ∷ arrays) → AreArrays more arrays
+other-arrays : (c : Component) (more : List Component) (blocks : List Block) (arrays : Arrays)
+    → AreArrays (c ∷ more) (blocks ∷ arrays) → AreArrays more arrays
 unfolding AreArrays
 other-arrays c more blocks arrays h = h.1
 
 -- the blocks are read as the code reads them
-pub read-as : (f : Found) (frame : Frame) (p : Pass) (cs : List Coded) (n : ℕ) (arrays : Arrays) (bytes : List ℕ) → n ≡ f.restart
-    → read_at f frame p (map coding_in cs) arrays bytes ≡ arrays_at p (n * mcu_size (components_in cs)) (vias_in 0 cs) (spots_of frame (components_in cs)) arrays bytes
+pub read-as : (f : Found) (frame : Frame) (p : Pass) (cs : List Coded) (n : ℕ) (arrays : Arrays) (bytes : List ℕ)
+    → n ≡ f.restart
+    → read_at f frame p (map coding_in cs) arrays bytes ≡ arrays_at p (n * mcu_size (components_in cs)) (vias_in 0 cs)
+    (spots_of frame (components_in cs)) arrays bytes
 read-as f frame p cs n arrays bytes e =
-    ap (λ (v : List Via). arrays_at p (f.restart * mcu_size (components_of (map coding_in cs))) v (spots_of frame (components_of (map coding_in cs))) arrays bytes) (vias-same 0 cs)
-    ∙ ap₂ (λ (l : List Component) (k : ℕ). arrays_at p (k * mcu_size l) (vias_in 0 cs) (spots_of frame l) arrays bytes) (coded-components cs) (sym e)
+    ap (λ (v : List Via). arrays_at p (f.restart * mcu_size (components_of (map coding_in cs))) v
+    (spots_of frame (components_of (map coding_in cs))) arrays bytes) (vias-same 0 cs)
+    ∙ ap₂ (λ (l : List Component) (k : ℕ). arrays_at p (k * mcu_size l) (vias_in 0 cs) (spots_of frame l) arrays bytes)
+    (coded-components cs) (sym e)
 
 -- the places of a scan's components are places of the arrays
-pub coded-within-held : (frame : Frame) (cs : List Coded) (held : List Held) → AllByRecursion (IsCodingOf frame) (map coding_in cs) → AreArrays frame.components (arrays_in held)
+pub coded-within-held : (frame : Frame) (cs : List Coded) (held : List Held)
+    → AllByRecursion (IsCodingOf frame) (map coding_in cs) → AreArrays frame.components (arrays_in held)
     → All (λ (x : Coded). x.place < length held) cs
 coded-within-held frame cs held of a k d h = at cs of k d h
   where
-    long : (components : List Component) (vs : List Held) → AreArrays components (arrays_in vs) → (place : ℕ) (c : Component) → At place components c → place < length vs
+    long : (components : List Component) (vs : List Held) → AreArrays components (arrays_in vs)
+        → (place : ℕ) (c : Component) → At place components c → place < length vs
     long [] vs a place c at = absurd at
     long (x ∷ components) [] a place c at = absurd (no-arrays x components a)
     long (x ∷ components) (v ∷ vs) a zero c at = omega arith
-    long (x ∷ components) (v ∷ vs) a (suc place) c at = let r = long components vs (other-arrays x components (blocks_in v) (arrays_in vs) a) place c at in omega (arith, r)
+    long (x ∷ components) (v ∷ vs) a (suc place) c at = let r =
+        long components vs (other-arrays x components (blocks_in v) (arrays_in vs) a) place c at in omega (arith, r)
 
-    at : (cs : List Coded) → AllByRecursion (IsCodingOf frame) (map coding_in cs) → (k : ℕ) (d : Coded) → k < length cs → (get_or cs k d).place < length held
+    at : (cs : List Coded) → AllByRecursion (IsCodingOf frame) (map coding_in cs) → (k : ℕ) (d : Coded) → k < length cs
+        → (get_or cs k d).place < length held
     at [] of k d h = absurd (omega arith)
-    at (c ∷ cs) of zero d h = long frame.components held a c.place (coding_in c).component (first-at c.place frame.components (coding_in c).component of.0)
+    at (c ∷ cs) of zero d h = long frame.components held a c.place (coding_in c).component
+        (first-at c.place frame.components (coding_in c).component of.0)
     at (c ∷ cs) of (suc k) d h = at cs of.1 k d (omega arith)
 
 -- places that rise are apart
@@ -291,23 +395,27 @@ rising-codings [] h = tt
 rising-codings (c ∷ []) h = ((λ n. n), tt)
 rising-codings (c ∷ d ∷ cs) h = (λ n. below c.place d cs h.0 h.1 n, rising-codings (d ∷ cs) h.1)
   where
-    below : (p : ℕ) (d : Coded) (cs : List Coded) → p < d.place → AreRising (map coding_in (d ∷ cs)) → IsIn p (map (λ (x : Coded). x.place) (d ∷ cs)) → ⊥
+    below : (p : ℕ) (d : Coded) (cs : List Coded) → p < d.place → AreRising (map coding_in (d ∷ cs))
+        → IsIn p (map (λ (x : Coded). x.place) (d ∷ cs)) → ⊥
     below p d cs lt r (inl e) = omega (arith, e)
     below p d [] lt r (inr n) = n
     below p d (x ∷ cs) lt r (inr n) = below p x cs (let q = r.0 in omega (arith, q)) r.1 n
 
 -- ---- what is held after a scan
 
-before-held : (f : Found) (frame : Frame) → is_progressive frame.process ≡ true → f.scanned ≡ true → arrays_before f frame ≡ f.held
+before-held : (f : Found) (frame : Frame) → is_progressive frame.process ≡ true → f.scanned ≡ true
+    → arrays_before f frame ≡ f.held
 unfolding arrays_before
 before-held f frame e s = rw (e, s) refl
 
-pub held-afterwards : {X E : Type 0} (r : Result X E) (f : Found) (frame : Frame) → is_progressive frame.process ≡ true → f.scanned ≡ true
+pub held-afterwards : {X E : Type 0} (r : Result X E) (f : Found) (frame : Frame) → is_progressive frame.process ≡ true
+    → f.scanned ≡ true
     → OnOk r (AreArrays frame.components f.held) → OnOk r (AreArrays frame.components (arrays_before f frame))
 held-afterwards (Ok x) f frame e s h = subst (AreArrays frame.components) (sym (before-held f frame e s)) h
 held-afterwards (Err x) f frame e s h = tt
 
 pub none-held : {X E : Type 0} (r : Result X E) (f : Found) (frame : Frame) → is_progressive frame.process ≡ false
     → OnOk r (AreArrays frame.components (arrays_before f frame))
-none-held (Ok x) f frame e = subst (AreArrays frame.components) (sym (before-sequential f frame e)) (zeros-sized frame.components)
+none-held (Ok x) f frame e = subst (AreArrays frame.components) (sym (before-sequential f frame e))
+    (zeros-sized frame.components)
 none-held (Err x) f frame e = tt

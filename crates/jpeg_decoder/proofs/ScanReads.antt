@@ -44,7 +44,8 @@ refused view whole rest old new e o p r n through = (
 )
 
 -- the last step of the whole
-pub last-step : {X Y W : Type 0} (view : X → Y) (v : X → W) (whole rest : List ℕ → Outcome Y) (read : List ℕ → Outcome W)
+pub last-step : {X Y W : Type 0} (view : X → Y) (v : X → W) (whole rest : List ℕ → Outcome Y) (read : List ℕ
+    → Outcome W)
     (old cur new : Stream) (r : Result X Error)
     → ((x : X) → read cur.bytes ≡ Ok (v x, new.bytes) → rest cur.bytes ≡ Ok (view x, new.bytes))
     → ((f : Fault) → read cur.bytes ≡ Err f → rest cur.bytes ≡ Err f)
@@ -67,7 +68,8 @@ after_codings found frame p codings bytes = scan_data found frame p codings byte
 -- after the header
 abbrev pub after_header : Found → Frame → Scan → List ℕ → Outcome (Found × Option Marker)
 after_header found frame scan bytes =
-    codings_in_force found frame scan >>= (λ (codings : List Coding). after_codings found frame (pass_of scan) codings bytes)
+    codings_in_force found frame scan >>= (λ (codings : List Coding). after_codings found frame (pass_of scan) codings
+    bytes)
 
 header-read : (found : Found) (frame : Frame) (scan : Scan) (bytes rest : List ℕ) → found.frame ≡ Some frame
     → sos_at frame bytes ≡ Ok (scan, rest)
@@ -104,7 +106,8 @@ pub blocks-begun : (found : Found) (frame : Frame) (scan : Scan) (old : Stream)
 unfolding blocks_read
 blocks-begun found frame scan old = (refl, λ k. (k, refl))
 
-pub data-begun : (whole : List ℕ → Outcome (Found × Option Marker)) (found : Found) (frame : Frame) (scan : Scan) (p : Pass)
+pub data-begun : (whole : List ℕ → Outcome (Found × Option Marker)) (found : Found) (frame : Frame) (scan : Scan)
+    (p : Pass)
     (codings : List Coding) (old new : Stream)
     → codings_in_force found frame scan ≡ Ok codings → p ≡ pass_of scan
     → Continues whole old (after_header found frame scan) new
@@ -119,7 +122,8 @@ blocks-by DctSequential h found frame scan = refl
 blocks-by DctProgressive h found frame scan = refl
 blocks-by Lossless h found frame scan = absurd h
 
-pub scan-through : (found : Found) (frame : Frame) (scan : Scan) (read : List ℕ → Outcome (Found × Option Marker)) (next : Found)
+pub scan-through : (found : Found) (frame : Frame) (scan : Scan) (read : List ℕ → Outcome (Found × Option Marker))
+    (next : Found)
     (old mid new : Stream) (r : Result (Option Marker) Error) → found.frame ≡ Some frame
     → HasRead (sos_at frame) old scan mid → read_by frame.process found frame scan ≡ read
     → Answers (λ (m : Option Marker). (next, m)) read mid r new
@@ -139,7 +143,8 @@ pub scan-ends : (whole rest : List ℕ → Outcome (Found × Option Marker)) (ne
     → Answers (λ (m : Option Marker). m) (after_all met) mid r new
     → Answers (λ (m : Option Marker). (next, m)) whole old r new
 scan-ends whole rest next met old cur mid new r read is begun has ends =
-    last-step {X = Option Marker} (λ m. (next, m)) (λ m. m) whole (λ bytes. after_data ((next, met), bytes)) (after_all met)
+    last-step {X = Option Marker} (λ m. (next, m)) (λ m. m) whole (λ bytes. after_data ((next, met), bytes))
+    (after_all met)
     old mid new r
     (λ m h. bind_at (λ (m : Option Marker × List ℕ). Ok ((next, m.0), m.1)) _ (m, new.bytes) h)
     (λ f h. bind_err (λ (m : Option Marker × List ℕ). Ok ((next, m.0), m.1)) _ f h) (
@@ -157,7 +162,8 @@ scan-ends whole rest next met old cur mid new r read is begun has ends =
 abbrev pub scan_turn : Found → (Found × Option Marker) × List ℕ → Outcome Turn
 scan_turn found r = Ok (record { found = r.0.0; before = scan_before found; met = r.0.1; ended = false }, r.1)
 
-through : {A B C : Type 0} (o : Result A Fault) (s : A → Result C Fault) (r : A → Result B Fault) (t : B → Result C Fault)
+through : {A B C : Type 0} (o : Result A Fault) (s : A → Result C Fault) (r : A → Result B Fault) (t : B
+    → Result C Fault)
     → ((x : A) → s x ≡ (r x >>= t)) → (o >>= s) ≡ ((o >>= r) >>= t)
 through (Ok x) s r t h = h x
 through (Err e) s r t h = refl
@@ -172,7 +178,15 @@ through-made (Err e) made k s t h = refl
 data-parts : (found : Found) (frame : Frame) (scan : Scan) (bytes : List ℕ) (codings : List Coding)
     → (scan_arrays found frame scan codings bytes >>= (λ (read : (Arrays × Option Marker) × List ℕ).
     after_restarts (suc (length read.1)) read.0.1 read.1 >>= (λ (met : Option Marker × List ℕ).
-    Ok (record { found = after_scan found frame scan codings read.0.0; before = scan_before found; met = met.0; ended = false }, met.1))))
+    Ok (
+      record {
+        found = after_scan found frame scan codings read.0.0;
+        before = scan_before found;
+        met = met.0;
+        ended = false;
+      },
+      met.1,
+    ))))
     ≡ (after_codings found frame (pass_of scan) codings bytes >>= scan_turn found)
 unfolding scan_arrays scan_data after_scan after_all
 data-parts found frame scan bytes codings =
@@ -190,7 +204,8 @@ samples-parts : (found : Found) (frame : Frame) (scan : Scan) (bytes : List ℕ)
 unfolding lossless_scan samples_read after_all
 samples-parts found frame scan bytes =
     through (lossless_codings found.huffman.dc frame scan.components scan.dc_places) _ _ (scan_turn found) (λ codings.
-    through (scan_samples found frame scan codings bytes) _ _ (scan_turn found) (λ (r : (List (List ℕ) × Option Marker) × List ℕ).
+    through (scan_samples found frame scan codings bytes) _ _ (scan_turn found)
+    (λ (r : (List (List ℕ) × Option Marker) × List ℕ).
     through (after_restarts (suc (length r.1)) r.0.1 r.1) _ _ (scan_turn found) (λ met. refl)))
 
 process-parts : (p : CodingProcess) (found : Found) (frame : Frame) (scan : Scan) (bytes : List ℕ)

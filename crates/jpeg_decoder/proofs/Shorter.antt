@@ -11,31 +11,39 @@ unfoldable pub LeavesBelow : {A : Type 0} → ℕ → Outcome A → Type 0
 LeavesBelow limit (Ok x) = length x.1 < limit
 LeavesBelow limit (Err fault) = Unit {0}
 
-pub below-at : {A : Type 0} (limit : ℕ) (r : Outcome A) (x : A × List ℕ) → LeavesBelow limit r → r ≡ Ok x → length x.1 < limit
+pub below-at : {A : Type 0} (limit : ℕ) (r : Outcome A) (x : A × List ℕ) → LeavesBelow limit r → r ≡ Ok x
+    → length x.1 < limit
 unfolding LeavesBelow
 below-at limit r x h e = rw e at h
 
-pub below-ok : {A : Type 0} (limit : ℕ) (x : A) (rest : List ℕ) → length rest < limit → let X : Type 0 = Outcome A in let r : X = Ok (x, rest) in LeavesBelow limit r
+pub below-ok : {A : Type 0} (limit : ℕ) (x : A) (rest : List ℕ) → length rest < limit → let X : Type 0 =
+    Outcome A in let r : X = Ok (x, rest) in LeavesBelow limit r
 unfolding LeavesBelow
 below-ok limit x rest h = h
 
-pub below-err : (A : Type 0) (limit : ℕ) (fault : Fault) → let X : Type 0 = Outcome A in let r : X = Err fault in LeavesBelow {A = A} limit r
+pub below-err : (A : Type 0) (limit : ℕ) (fault : Fault) → let X : Type 0 = Outcome A in let r : X =
+    Err fault in LeavesBelow {A = A} limit r
 unfolding LeavesBelow
 below-err A limit fault = tt
 
-pub below-cond : {A : Type 0} (limit : ℕ) (b : Bool) (x y : Outcome A) → LeavesBelow limit x → LeavesBelow limit y → LeavesBelow limit (if b then x else y)
+pub below-cond : {A : Type 0} (limit : ℕ) (b : Bool) (x y : Outcome A) → LeavesBelow limit x → LeavesBelow limit y
+    → LeavesBelow limit (if b then x else y)
 below-cond limit true x y p q = p
 below-cond limit false x y p q = q
 
 -- a test that leads to a refusal
-pub below-else : {A : Type 0} (limit : ℕ) (b : Bool) (fault : Fault) (x : Outcome A) → LeavesBelow limit x → LeavesBelow limit (if b then Err fault else x)
+pub below-else : {A : Type 0} (limit : ℕ) (b : Bool) (fault : Fault) (x : Outcome A) → LeavesBelow limit x
+    → LeavesBelow limit (if b then Err fault else x)
 below-else {A} limit b fault x p = below-cond limit b _ x (below-err A limit fault) p
 
 -- a test without which it is refused
-pub below-then : {A : Type 0} (limit : ℕ) (b : Bool) (fault : Fault) (x : Outcome A) → LeavesBelow limit x → LeavesBelow limit (if b then x else Err fault)
+pub below-then : {A : Type 0} (limit : ℕ) (b : Bool) (fault : Fault) (x : Outcome A) → LeavesBelow limit x
+    → LeavesBelow limit (if b then x else Err fault)
 below-then {A} limit b fault x p = below-cond limit b x _ p (below-err A limit fault)
 
-pub below-bind : {A B : Type 0} (limit : ℕ) (first : ℕ) (r : Outcome A) (f : A × List ℕ → Outcome B) → LeavesBelow first r → ((x : A × List ℕ) → length x.1 < first → LeavesBelow limit (f x)) → LeavesBelow limit (r >>= f)
+pub below-bind : {A B : Type 0} (limit : ℕ) (first : ℕ) (r : Outcome A) (f : A × List ℕ → Outcome B)
+    → LeavesBelow first r → ((x : A × List ℕ) → length x.1 < first → LeavesBelow limit (f x))
+    → LeavesBelow limit (r >>= f)
 unfolding LeavesBelow
 below-bind limit first (Ok x) f p q = q x p
 below-bind limit first (Err fault) f p q = tt
@@ -49,12 +57,14 @@ pub u16-below : (limit : ℕ) (bytes : List ℕ) → length bytes ≤ limit → 
 unfolding next_u16
 u16-below limit bytes h =
     below-bind limit limit (next_byte bytes) _ (byte-below limit bytes h) (λ high p.
-    below-bind limit limit (next_byte high.1) _ (byte-below limit high.1 (omega arith)) (λ low q. below-ok limit _ low.1 q))
+    below-bind limit limit (next_byte high.1) _ (byte-below limit high.1 (omega arith)) (λ low q. below-ok limit _ low.1
+    q))
 
 pub length-below : (limit : ℕ) (bytes : List ℕ) → length bytes ≤ limit → LeavesBelow limit (length_at bytes)
 unfolding length_at
 length-below limit bytes h =
-    below-bind limit limit (next_u16 bytes) _ (u16-below limit bytes h) (λ n p. below-else limit _ _ _ (below-ok limit _ n.1 p))
+    below-bind limit limit (next_u16 bytes) _ (u16-below limit bytes h) (λ n p. below-else limit _ _ _
+    (below-ok limit _ n.1 p))
 
 pub skip-below : (limit n : ℕ) (bytes : List ℕ) → length bytes < limit → LeavesBelow limit (skip_at n bytes)
 unfolding skip_at
@@ -62,14 +72,18 @@ skip-below limit zero bytes h = below-ok limit tt bytes h
 skip-below limit (suc n) bytes h =
     below-bind limit limit (next_byte bytes) _ (byte-below limit bytes (omega arith)) (λ b p. skip-below limit n b.1 p)
 
-pub times-below : {A : Type 0} (limit n : ℕ) (read : List ℕ → Outcome A) (bytes : List ℕ) → ((bs : List ℕ) → length bs < limit → LeavesBelow limit (read bs)) → length bytes < limit → LeavesBelow limit (times n read bytes)
+pub times-below : {A : Type 0} (limit n : ℕ) (read : List ℕ → Outcome A) (bytes : List ℕ)
+    → ((bs : List ℕ) → length bs < limit → LeavesBelow limit (read bs)) → length bytes < limit
+    → LeavesBelow limit (times n read bytes)
 unfolding times
 times-below limit zero read bytes each h = below-ok limit _ bytes h
 times-below limit (suc n) read bytes each h =
     below-bind limit limit (read bytes) _ (each bytes h) (λ x p.
-    below-bind limit limit (times n read x.1) _ (times-below limit n read x.1 each p) (λ more q. below-ok limit _ more.1 q))
+    below-bind limit limit (times n read x.1) _ (times-below limit n read x.1 each p) (λ more q. below-ok limit _ more.1
+    q))
 
-found-below : (limit : ℕ) (found : Option Marker) (rest : List ℕ) (others : Outcome Marker) → length rest < limit → LeavesBelow limit others → LeavesBelow limit (found_or found rest others)
+found-below : (limit : ℕ) (found : Option Marker) (rest : List ℕ) (others : Outcome Marker) → length rest < limit
+    → LeavesBelow limit others → LeavesBelow limit (found_or found rest others)
 found-below limit None rest others p q = q
 found-below limit (Some m) rest others p q = below-ok limit m rest p
 
@@ -83,4 +97,5 @@ unfolding next_marker
 marker-below [] = below-err Marker _ _
 marker-below (a ∷ []) = below-err Marker _ _
 marker-below (a ∷ b ∷ rest) =
-    found-below _ (marker_at a b) rest _ (omega arith) (below-more (suc (length rest)) (suc (suc (length rest))) (next_marker (b ∷ rest)) (omega arith) (marker-below (b ∷ rest)))
+    found-below _ (marker_at a b) rest _ (omega arith) (below-more (suc (length rest)) (suc (suc (length rest)))
+    (next_marker (b ∷ rest)) (omega arith) (marker-below (b ∷ rest)))

@@ -26,7 +26,8 @@ use Rattle.jpeg_decoder.proofs.ShorterTexts.{marker_from-below}
 -- ---- blocks
 
 category-stays : (limit s : ℕ) → StaysBelow limit (category_number s)
-category-stays limit s = elim-stays limit (s == 0) (gives (pos 0)) (signed_from s) (gives-stays limit _) (signed-stays limit s)
+category-stays limit s = elim-stays limit (s == 0) (gives (pos 0)) (signed_from s) (gives-stays limit _)
+    (signed-stays limit s)
 
 difference-stays : (limit : ℕ) (table : Table) → StaysBelow limit (difference table)
 unfolding difference
@@ -49,16 +50,22 @@ token_at-stays limit room size r s =
     (bind-stays limit (signed_from s) (λ v. gives Overlong) (signed-stays limit s) (λ v. gives-stays limit _))
     (gives-stays limit Overlong)))
     (elim-stays limit (r == 15) _ _ (gives-stays limit Sixteen)
-    (bind-stays limit (bits_from r) (λ e. gives (Rest (2 ^ r - 1 + e))) (bits-stays limit r) (λ e. gives-stays limit _)))
+    (bind-stays limit (bits_from r) (λ e. gives (Rest (2 ^ r - 1 + e))) (bits-stays limit r)
+    (λ e. gives-stays limit _)))
 
 token_from-stays : (limit : ℕ) (table : Table) (room : ℕ) → StaysBelow limit (token_from table room)
 unfolding token_from
 token_from-stays limit table room =
-    bind-stays limit (code_from table) _ (code-stays limit table) (λ c. token_at-stays limit room c.0 (c.1 / 16) (c.1 % 16))
+    bind-stays limit (code_from table) _ (code-stays limit table) (λ c. token_at-stays limit room c.0 (c.1 / 16)
+    (c.1 % 16))
 
-after-stays : (limit al : ℕ) (others : List ℤ → Reads Band) (rest : List ℤ) → ((rest : List ℤ) → StaysBelow limit (others rest)) → (token : Token) → StaysBelow limit (after_token al others rest token)
-after-stays limit al others rest h (Value r v) = bind-stays limit (others (drop (r + 1) rest)) _ (h (drop (r + 1) rest)) (λ more. gives-stays limit _)
-after-stays limit al others rest h Sixteen = bind-stays limit (others (drop 16 rest)) _ (h (drop 16 rest)) (λ more. gives-stays limit _)
+after-stays : (limit al : ℕ) (others : List ℤ → Reads Band) (rest : List ℤ)
+    → ((rest : List ℤ) → StaysBelow limit (others rest)) → (token : Token)
+    → StaysBelow limit (after_token al others rest token)
+after-stays limit al others rest h (Value r v) =
+    bind-stays limit (others (drop (r + 1) rest)) _ (h (drop (r + 1) rest)) (λ more. gives-stays limit _)
+after-stays limit al others rest h Sixteen =
+    bind-stays limit (others (drop 16 rest)) _ (h (drop 16 rest)) (λ more. gives-stays limit _)
 after-stays limit al others rest h (Rest run) = gives-stays limit _
 after-stays limit al others rest h Overlong = gives-stays limit _
 
@@ -74,7 +81,8 @@ dc-stays : (limit : ℕ) (p : Pass) (dc : Table) (z predictor : ℤ) → StaysBe
 unfolding dc_part
 dc-stays limit p dc z predictor =
     elim-stays limit (p.ss == 0) _ _
-    (elim-stays limit p.is_first _ _ (first_dc-stays limit dc p.al predictor) (bind-stays limit (bits_from 1) _ (bits-stays limit 1) (λ b. gives-stays limit _)))
+    (elim-stays limit p.is_first _ _ (first_dc-stays limit dc p.al predictor) (bind-stays limit (bits_from 1) _
+    (bits-stays limit 1) (λ b. gives-stays limit _)))
     (gives-stays limit _)
 
 -- a refinement
@@ -82,30 +90,40 @@ dc-stays limit p dc z predictor =
 moved-stays : (limit al : ℕ) (z : ℤ) (b : ℕ) → StaysBelow limit (corrected_by al z b)
 moved-stays limit al z zero = gives-stays limit z
 moved-stays limit al z (suc b) =
-    elim-stays limit (bit_of al z == 0) _ _ (elim-stays limit (fits_i16 (moved (2 ^ al) z)) _ _ (gives-stays limit _) (refused-stays ℤ limit)) (gives-stays limit z)
+    elim-stays limit (bit_of al z == 0) _ _ (elim-stays limit (fits_i16 (moved (2 ^ al) z)) _ _ (gives-stays limit _)
+    (refused-stays ℤ limit)) (gives-stays limit z)
 
 corrected-stays : (limit al : ℕ) (places : List ℤ) → StaysBelow limit (corrected al places)
 unfolding corrected
 corrected-stays limit al [] = gives-stays limit _
 corrected-stays limit al (z ∷ places) =
-    bind-stays limit (elim (is_zero z) as (λ _. Reads ℤ) [ true ↦ gives z | false ↦ bits_from 1 >>= (λ b. corrected_by al z b) ]) _
-    (elim-stays limit (is_zero z) _ _ (gives-stays limit z) (bind-stays limit (bits_from 1) _ (bits-stays limit 1) (λ b. moved-stays limit al z b))) (λ first.
+    bind-stays limit (elim (is_zero z) as (λ _. Reads ℤ) [
+      | true ↦ gives z
+      | false ↦ bits_from 1
+          >>= (λ b. corrected_by al z b)
+    ]) _
+    (elim-stays limit (is_zero z) _ _ (gives-stays limit z) (bind-stays limit (bits_from 1) _ (bits-stays limit 1)
+    (λ b. moved-stays limit al z b))) (λ first.
     bind-stays limit (corrected al places) _ (corrected-stays limit al places) (λ others. gives-stays limit _))
 
-piece-stays : (limit al : ℕ) (others : List ℤ → Reads Band) (rest : List ℤ) → ((rest : List ℤ) → StaysBelow limit (others rest)) → (r s : ℕ) → StaysBelow limit (refined_piece al others rest r s)
+piece-stays : (limit al : ℕ) (others : List ℤ → Reads Band) (rest : List ℤ)
+    → ((rest : List ℤ) → StaysBelow limit (others rest)) → (r s : ℕ)
+    → StaysBelow limit (refined_piece al others rest r s)
 unfolding refined_piece
 piece-stays limit al others rest h r zero =
     elim-stays limit (r == 15) _ _
     (bind-stays limit (corrected al (take (through_zero 15 rest) rest)) _ (corrected-stays limit al _) (λ front.
     bind-stays limit (others (drop (through_zero 15 rest) rest)) _ (h _) (λ more. gives-stays limit _)))
-    (bind-stays limit (bits_from r) _ (bits-stays limit r) (λ e. bind-stays limit (corrected al rest) _ (corrected-stays limit al rest) (λ all. gives-stays limit _)))
+    (bind-stays limit (bits_from r) _ (bits-stays limit r) (λ e. bind-stays limit (corrected al rest) _
+    (corrected-stays limit al rest) (λ all. gives-stays limit _)))
 piece-stays limit al others rest h r (suc zero) =
     bind-stays limit (bits_from 1) _ (bits-stays limit 1) (λ sign.
     bind-stays limit (corrected al (take (through_zero r rest) rest)) _ (corrected-stays limit al _) (λ front.
     bind-stays limit (others (drop (through_zero r rest) rest)) _ (h _) (λ more. gives-stays limit _)))
 piece-stays limit al others rest h r (suc (suc s)) = refused-stays Band limit
 
-refined_ac-stays : (limit : ℕ) (table : Table) (al n : ℕ) (rest : List ℤ) → StaysBelow limit (refined_ac table al n rest)
+refined_ac-stays : (limit : ℕ) (table : Table) (al n : ℕ) (rest : List ℤ)
+    → StaysBelow limit (refined_ac table al n rest)
 unfolding refined_ac
 refined_ac-stays limit table al n [] = gives-stays limit _
 refined_ac-stays limit table al zero (x ∷ rest) = refused-stays Band limit
@@ -117,17 +135,22 @@ band-stays : (limit : ℕ) (p : Pass) (ac : Table) (band : List ℤ) (run : ℕ)
 unfolding band_part
 band-stays limit p ac [] run = gives-stays limit _
 band-stays limit p ac (x ∷ band) zero =
-    elim-stays limit p.is_first _ _ (first_ac-stays limit ac p.al (length (x ∷ band)) (x ∷ band)) (refined_ac-stays limit ac p.al (length (x ∷ band)) (x ∷ band))
+    elim-stays limit p.is_first _ _ (first_ac-stays limit ac p.al (length (x ∷ band)) (x ∷ band))
+    (refined_ac-stays limit ac p.al (length (x ∷ band)) (x ∷ band))
 band-stays limit p ac (x ∷ band) (suc run) =
-    elim-stays limit p.is_first _ _ (gives-stays limit _) (bind-stays limit (corrected p.al (x ∷ band)) _ (corrected-stays limit p.al (x ∷ band)) (λ all. gives-stays limit _))
+    elim-stays limit p.is_first _ _ (gives-stays limit _) (bind-stays limit (corrected p.al (x ∷ band)) _
+    (corrected-stays limit p.al (x ∷ band)) (λ all. gives-stays limit _))
 
-block-stays : (limit : ℕ) (p : Pass) (dc ac : Table) (predictor : ℤ) (run : ℕ) (old : Block) → StaysBelow limit (block_from p dc ac predictor run old)
+block-stays : (limit : ℕ) (p : Pass) (dc ac : Table) (predictor : ℤ) (run : ℕ) (old : Block)
+    → StaysBelow limit (block_from p dc ac predictor run old)
 unfolding block_from
 block-stays limit p dc ac predictor run old =
     bind-stays limit (dc_part p dc old.dc predictor) _ (dc-stays limit p dc old.dc predictor) (λ d.
-    bind-stays limit (band_part p ac (band_of p old.acs) run) _ (band-stays limit p ac (band_of p old.acs) run) (λ b. gives-stays limit _))
+    bind-stays limit (band_part p ac (band_of p old.acs) run) _ (band-stays limit p ac (band_of p old.acs) run)
+    (λ b. gives-stays limit _))
 
-blocks-stay : (limit : ℕ) (p : Pass) (predictors : List ℤ) (run : ℕ) (turns : List (Via × Block)) → StaysBelow limit (blocks_of p predictors run turns)
+blocks-stay : (limit : ℕ) (p : Pass) (predictors : List ℤ) (run : ℕ) (turns : List (Via × Block))
+    → StaysBelow limit (blocks_of p predictors run turns)
 unfolding blocks_of
 blocks-stay limit p predictors run [] = gives-stays limit _
 blocks-stay limit p predictors run (t ∷ turns) =
@@ -138,28 +161,37 @@ blocks-stay limit p predictors run (t ∷ turns) =
 
 -- ---- intervals
 
-interval-below : (limit : ℕ) (p : Pass) (turns : List (Via × Block)) (bytes : List ℕ) → length bytes < limit → LeavesBelow limit (interval p turns bytes)
+interval-below : (limit : ℕ) (p : Pass) (turns : List (Via × Block)) (bytes : List ℕ) → length bytes < limit
+    → LeavesBelow limit (interval p turns bytes)
 unfolding interval
 interval-below limit p turns bytes h =
     texts-below limit (blocks_of p predictors_at_start 0 turns (upcoming fresh bytes)) _
-    ((blocks-stay limit p predictors_at_start 0 turns).stays (upcoming fresh bytes) (upcoming-below limit bytes h)) (λ r a.
+    ((blocks-stay limit p predictors_at_start 0 turns).stays (upcoming fresh bytes) (upcoming-below limit bytes h))
+    (λ r a.
     below-bind limit limit (marker_from r.1) _ (marker_from-below limit r.1 a) (λ m q. below-ok limit _ m.1 q))
 
-restart-below : (limit : ℕ) (blocks : List Block) (others : Outcome (List Block × Option Marker)) (b : Bool) → LeavesBelow limit others
-    → LeavesBelow limit (elim b as (λ _. Outcome (List Block × Option Marker)) [ true ↦ blocks_before blocks others | false ↦ Err Malformed ])
+restart-below : (limit : ℕ) (blocks : List Block) (others : Outcome (List Block × Option Marker)) (b : Bool)
+    → LeavesBelow limit others
+    → LeavesBelow limit (elim b as (λ _. Outcome (List Block × Option Marker)) [
+      | true ↦ blocks_before blocks others
+      | false ↦ Err Malformed
+    ])
 restart-below limit blocks others true h = below-bind limit limit others _ h (λ s u. below-ok limit _ s.1 u)
 restart-below limit blocks others false h = below-err (List Block × Option Marker) limit Malformed
 
-intervals-below : (limit : ℕ) (p : Pass) (k : ℕ) (turns : List (Via × Block)) (more : List (List (Via × Block))) (bytes : List ℕ) → length bytes < limit → LeavesBelow limit (intervals p k turns more bytes)
+intervals-below : (limit : ℕ) (p : Pass) (k : ℕ) (turns : List (Via × Block)) (more : List (List (Via × Block)))
+    (bytes : List ℕ) → length bytes < limit → LeavesBelow limit (intervals p k turns more bytes)
 unfolding intervals
 intervals-below limit p k turns [] bytes h = interval-below limit p turns bytes h
 intervals-below limit p k turns (next ∷ more) bytes h =
     below-bind limit limit (interval p turns bytes) _ (interval-below limit p turns bytes h) (λ r q.
-    restart-below limit r.0.0 (intervals p (suc k) next more r.1) (is_restart k r.0.1) (intervals-below limit p (suc k) next more r.1 q))
+    restart-below limit r.0.0 (intervals p (suc k) next more r.1) (is_restart k r.0.1) (intervals-below limit p (suc k)
+    next more r.1 q))
 
 -- ---- scans
 
-pub arrays-below : (limit : ℕ) (p : Pass) (n : ℕ) (vias : List Via) (spots : List Spot) (arrays : Arrays) (bytes : List ℕ) → length bytes < limit → LeavesBelow limit (arrays_at p n vias spots arrays bytes)
+pub arrays-below : (limit : ℕ) (p : Pass) (n : ℕ) (vias : List Via) (spots : List Spot) (arrays : Arrays)
+    (bytes : List ℕ) → length bytes < limit → LeavesBelow limit (arrays_at p n vias spots arrays bytes)
 unfolding arrays_at
 arrays-below limit p n vias spots arrays bytes h =
     let turns : List (Via × Block) = turns_of vias spots arrays in

@@ -34,7 +34,8 @@ drop-below limit zero ps h = h
 drop-below limit (suc n) [] h = tt
 drop-below limit (suc n) (p ∷ ps) h = drop-below limit n ps h.1
 
-repeated-below : (limit n : ℕ) (p : List ℕ) (ps : List (List ℕ)) → length p < limit → AllBelow limit ps → AllBelow limit (replicate n p ++ ps)
+repeated-below : (limit n : ℕ) (p : List ℕ) (ps : List (List ℕ)) → length p < limit → AllBelow limit ps
+    → AllBelow limit (replicate n p ++ ps)
 repeated-below limit zero p ps h a = a
 repeated-below limit (suc n) p ps h a = (h, repeated-below limit n p ps h a)
 
@@ -45,7 +46,8 @@ unfolding filled_end
 filled-shorter [] = omega arith
 filled-shorter (c ∷ rest) = either (c == 255) (filled_end rest) (end_by (marker_of c)) rest (filled-shorter rest)
   where
-    either : (b : Bool) (x : DataEnd × List ℕ) (e : DataEnd) (rest : List ℕ) → length x.1 ≤ length rest → let y : DataEnd × List ℕ = if b then x else (e, rest) in length y.1 ≤ suc (length rest)
+    either : (b : Bool) (x : DataEnd × List ℕ) (e : DataEnd) (rest : List ℕ) → length x.1 ≤ length rest
+        → let y : DataEnd × List ℕ = if b then x else (e, rest) in length y.1 ≤ suc (length rest)
     either true x e rest h = omega arith
     either false x e rest h = omega arith
 
@@ -60,10 +62,12 @@ ending-below limit x h = go x.0
 no_bits-below : (limit : ℕ) (e : Ending) → EndsBelow limit e → IsBelow limit (no_bits e)
 no_bits-below limit e h = record { places = tt; ending = h }
 
-add-below : (limit b : ℕ) (rest : List ℕ) (t : Text) → length rest < limit → IsBelow limit t → IsBelow limit (add_byte b rest t)
+add-below : (limit b : ℕ) (rest : List ℕ) (t : Text) → length rest < limit → IsBelow limit t
+    → IsBelow limit (add_byte b rest t)
 add-below limit b rest t h a = record { places = repeated-below limit 8 rest t.places h a.places; ending = a.ending }
 
-cond-below : (limit : ℕ) (b : Bool) (x y : Text) → IsBelow limit x → IsBelow limit y → IsBelow limit (if b then x else y)
+cond-below : (limit : ℕ) (b : Bool) (x y : Text) → IsBelow limit x → IsBelow limit y
+    → IsBelow limit (if b then x else y)
 cond-below limit true x y p q = p
 cond-below limit false x y p q = q
 
@@ -71,10 +75,12 @@ text-below : (limit : ℕ) (bytes : List ℕ) → length bytes < limit → IsBel
 unfolding text_at
 text-below limit [] h = no_bits-below limit _ tt
 text-below limit (b ∷ []) h =
-    cond-below limit (b == 255) _ _ (no_bits-below limit _ tt) (add-below limit b [] _ (omega arith) (no_bits-below limit _ tt))
+    cond-below limit (b == 255) _ _ (no_bits-below limit _ tt) (add-below limit b [] _ (omega arith)
+    (no_bits-below limit _ tt))
 text-below limit (b ∷ c ∷ rest) h =
     cond-below limit (b == 255) _ _
-    (cond-below limit (c == 0) _ _ (add-below limit 255 rest (text_at rest) (omega arith) (text-below limit rest (omega arith)))
+    (cond-below limit (c == 0) _ _ (add-below limit 255 rest (text_at rest) (omega arith)
+    (text-below limit rest (omega arith)))
     (no_bits-below limit _ (ending-below limit (filled_end (c ∷ rest)) (omega (arith, filled-shorter (c ∷ rest))))))
     (add-below limit b (c ∷ rest) (text_at (c ∷ rest)) (omega arith) (text-below limit (c ∷ rest) (omega arith)))
 
@@ -106,7 +112,8 @@ AfterIsBelow limit (Err fault) = Unit {0}
 pub record StaysBelow {A : Type 0} (limit : ℕ) (p : Reads A) : Type 0 where
   pub stays : (t : Text) → IsBelow limit t → AfterIsBelow limit (p t)
 
-pub bind-stays : {A B : Type 0} (limit : ℕ) (p : Reads A) (f : A → Reads B) → StaysBelow limit p → ((x : A) → StaysBelow limit (f x)) → StaysBelow limit (p >>= f)
+pub bind-stays : {A B : Type 0} (limit : ℕ) (p : Reads A) (f : A → Reads B) → StaysBelow limit p
+    → ((x : A) → StaysBelow limit (f x)) → StaysBelow limit (p >>= f)
 unfolding AfterIsBelow
 bind-stays {A} {B} limit p f h each = record { stays = λ t a. go (p t) (h.stays t a) }
   where
@@ -122,23 +129,29 @@ pub refused-stays : (A : Type 0) (limit : ℕ) → StaysBelow {A = A} limit refu
 unfolding AfterIsBelow
 refused-stays A limit = record { stays = λ t a. tt }
 
-pub elim-stays : {A : Type 0} (limit : ℕ) (b : Bool) (p q : Reads A) → StaysBelow limit p → StaysBelow limit q → StaysBelow limit (elim b as (λ _. Reads A) [ true ↦ p | false ↦ q ])
+pub elim-stays : {A : Type 0} (limit : ℕ) (b : Bool) (p q : Reads A) → StaysBelow limit p → StaysBelow limit q
+    → StaysBelow limit (elim b as (λ _. Reads A) [ true ↦ p | false ↦ q ])
 elim-stays limit true p q x y = x
 elim-stays limit false p q x y = y
 
-held-below : {A : Type 0} (limit : ℕ) (x : A) (t : Text) (r : Result (Unit {0}) Fault) → IsBelow limit t → AfterIsBelow limit (reading.◌>>=◌ r (λ _. Ok (x, t)))
+held-below : {A : Type 0} (limit : ℕ) (x : A) (t : Text) (r : Result (Unit {0}) Fault) → IsBelow limit t
+    → AfterIsBelow limit (reading.◌>>=◌ r (λ _. Ok (x, t)))
 unfolding AfterIsBelow
 held-below limit x t (Ok u) h = h
 held-below limit x t (Err f) h = tt
 
-if_held-below : {A : Type 0} (limit : ℕ) (x : A) (t : Text) (r : Result (Unit {0}) Fault) → IsBelow limit t → AfterIsBelow limit (if_held x t r)
+if_held-below : {A : Type 0} (limit : ℕ) (x : A) (t : Text) (r : Result (Unit {0}) Fault) → IsBelow limit t
+    → AfterIsBelow limit (if_held x t r)
 unfolding AfterIsBelow
 if_held-below limit x t (Ok u) h = h
 if_held-below limit x t (Err f) h = tt
 
 pub bits-stays : (limit n : ℕ) → StaysBelow limit (bits_from n)
 unfolding bits_from
-bits-stays limit n = record { stays = λ t a. held-below limit _ (advance n t) (has_bits n t.bits t.ending) (advance-below limit n t a) }
+bits-stays limit n = record {
+  stays = λ t a. held-below limit _ (advance n t) (has_bits n t.bits t.ending)
+      (advance-below limit n t a);
+}
 
 pub signed-stays : (limit n : ℕ) → StaysBelow limit (signed_from n)
 unfolding signed_from
@@ -161,7 +174,9 @@ symbol-stays limit table = record { stays = λ t a. go t a (code_in (code_length
     go t a (Some c) = held-below limit _ (advance c.1 t) (has_bits c.1 t.bits t.ending) (advance-below limit c.1 t a)
 
 -- bits and then bytes
-pub texts-below : {A B : Type 0} (limit : ℕ) (r : Result (A × Text) Fault) (f : A × Text → Outcome B) → AfterIsBelow limit r → ((x : A × Text) → IsBelow limit x.1 → LeavesBelow limit (f x)) → LeavesBelow limit (reading.◌>>=◌ r f)
+pub texts-below : {A B : Type 0} (limit : ℕ) (r : Result (A × Text) Fault) (f : A × Text → Outcome B)
+    → AfterIsBelow limit r → ((x : A × Text) → IsBelow limit x.1 → LeavesBelow limit (f x))
+    → LeavesBelow limit (reading.◌>>=◌ r f)
 unfolding AfterIsBelow
 texts-below limit (Ok x) f a h = h x a
 texts-below {A} {B} limit (Err fault) f a h = below-err B limit fault

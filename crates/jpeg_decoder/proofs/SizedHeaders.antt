@@ -7,17 +7,22 @@ use Rattle.jpeg_decoder.specs.Stream.{Found, header_at, sized_header_at, sized_t
 abbrev sized_after : ℕ → ℕ → Found × List ℕ → Outcome Found
 sized_after width height header = Ok (sized_to width height header.0, header.1)
 
-header-is : (width height : ℕ) (bytes : List ℕ) → sized_header_at width height bytes ≡ (header_at bytes >>= sized_after width height)
+header-is : (width height : ℕ) (bytes : List ℕ) → sized_header_at width height bytes ≡ (header_at bytes
+    >>= sized_after width height)
 unfolding sized_header_at
 header-is width height bytes = refl
 
-pub sized-read : (width height : ℕ) (bytes rest : List ℕ) (found new : Found) → header_at bytes ≡ Ok (found, rest) → new ≡ sized_to width height found
+pub sized-read : (width height : ℕ) (bytes rest : List ℕ) (found new : Found) → header_at bytes ≡ Ok (found, rest)
+    → new ≡ sized_to width height found
     → sized_header_at width height bytes ≡ Ok (new, rest)
 sized-read width height bytes rest found new e n =
-    header-is width height bytes ∙ ap (λ (o : Outcome Found). o >>= sized_after width height) e ∙ ap (λ (f : Found). Ok (f, rest)) (sym n)
+    header-is width height bytes ∙ ap (λ (o : Outcome Found). o >>= sized_after width height) e
+    ∙ ap (λ (f : Found). Ok (f, rest)) (sym n)
 
-pub sized-refused : (width height : ℕ) (bytes : List ℕ) (fault : Fault) → header_at bytes ≡ Err fault → sized_header_at width height bytes ≡ Err fault
-sized-refused width height bytes fault e = header-is width height bytes ∙ ap (λ (o : Outcome Found). o >>= sized_after width height) e
+pub sized-refused : (width height : ℕ) (bytes : List ℕ) (fault : Fault) → header_at bytes ≡ Err fault
+    → sized_header_at width height bytes ≡ Err fault
+sized-refused width height bytes fault e =
+    header-is width height bytes ∙ ap (λ (o : Outcome Found). o >>= sized_after width height) e
 
 -- a header that is read, and then sized
 pub sized-answers : {U : Type 0} (width height : ℕ) (old cur new : Stream) (found sized : Found) (u : U) (size : ℕ × ℕ)

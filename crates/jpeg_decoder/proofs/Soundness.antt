@@ -27,26 +27,32 @@ use Rattle.jpeg_decoder.proofs.ScaledCovers.{frames-have-sources}
 
 -- ---- frames
 
-if-ok : {A : Type 0} (b : Bool) (x : Result A Fault) (e : Fault) (y : A) → cond b x (Err e) ≡ Ok y → (b ≡ true) × (x ≡ Ok y)
+if-ok : {A : Type 0} (b : Bool) (x : Result A Fault) (e : Fault) (y : A) → cond b x (Err e) ≡ Ok y → (b ≡ true)
+    × (x ≡ Ok y)
 if-ok true x e y h = (refl, h)
 if-ok false x e y h = absurd (cc)
 
-unless-ok : {A : Type 0} (b : Bool) (x : Result A Fault) (e : Fault) (y : A) → cond b (Err e) x ≡ Ok y → (b ≡ false) × (x ≡ Ok y)
+unless-ok : {A : Type 0} (b : Bool) (x : Result A Fault) (e : Fault) (y : A) → cond b (Err e) x ≡ Ok y → (b ≡ false)
+    × (x ≡ Ok y)
 unless-ok true x e y h = absurd (cc)
 unless-ok false x e y h = (refl, h)
 
-has-sources : (o : Result (List Source) Fault) (f g : Frame) → (o >>= (λ sources. Ok f)) ≡ Ok g → (sources : List Source) × (o ≡ Ok sources)
+has-sources : (o : Result (List Source) Fault) (f g : Frame) → (o >>= (λ sources. Ok f)) ≡ Ok g
+    → (sources : List Source) × (o ≡ Ok sources)
 has-sources (Ok sources) f g h = (sources, refl)
 has-sources (Err e) f g h = absurd (cc)
 
 accepted-facts : (f g : Frame) → accepted f ≡ Ok g
-    → (is_count (length f.components) ≡ true) × ((sources : List Source) × (sources_of f.components f.output_width f.output_height ≡ Ok sources))
+    → (is_count (length f.components) ≡ true)
+    × ((sources : List Source) × (sources_of f.components f.output_width f.output_height ≡ Ok sources))
 unfolding accepted
 accepted-facts f g h =
     let a = unless-ok f.is_differential _ _ g h in
     let b = unless-ok (is_arithmetic f.coding) _ (Lacks features.ArithmeticEntropyCoding) g a.1 in
-    let c = unless-ok (not (is_precision f.process f.precision)) _ (Lacks (features.SamplePrecision f.precision)) g b.1 in
-    let d = if-ok (is_count (length f.components)) (sources_of f.components f.output_width f.output_height >>= (λ sources. Ok f)) (Lacks (features.ComponentCount (min 255 (length f.components)))) g c.1 in
+    let c = unless-ok (not (is_precision f.process f.precision)) _ (Lacks (features.SamplePrecision f.precision)) g
+    b.1 in
+    let d = if-ok (is_count (length f.components)) (sources_of f.components f.output_width f.output_height
+    >>= (λ sources. Ok f)) (Lacks (features.ComponentCount (min 255 (length f.components)))) g c.1 in
     (d.0, has-sources (sources_of f.components f.output_width f.output_height) f g d.1)
 
 both-hold : (a b : Bool) → (a && b) ≡ true → (a ≡ true) × (b ≡ true)
@@ -73,8 +79,10 @@ unfolding frame_at
 decoded-precision f p e =
     let process : p.full.process ≡ Lossless = ap (λ (x : Frame). x.process) (sym p.made) ∙ e in
     let is : is_precision Lossless p.full.precision ≡ true =
-    ap (λ (x : CodingProcess). is_precision x p.full.precision) (sym process) ∙ accepted-precision p.full p.full p.is_accepted in
-    let most : p.full.precision ≤ 16 = leb-true p.full.precision 16 (both-hold (nat_le 2 p.full.precision) (nat_le p.full.precision 16) is).1 in
+    ap (λ (x : CodingProcess). is_precision x p.full.precision) (sym process)
+    ∙ accepted-precision p.full p.full p.is_accepted in
+    let most : p.full.precision ≤ 16 = leb-true p.full.precision 16 (both-hold (nat_le 2 p.full.precision)
+    (nat_le p.full.precision 16) is).1 in
     subst (λ (n : ℕ). n ≤ 16) (ap (λ (x : Frame). x.precision) (sym p.made)) most
 
 -- A frame has columns and lines.
@@ -89,7 +97,8 @@ decoded-some f p =
 scale-bounds : (s : ℕ) → is_scale s ≡ true → (0 < s) × (s ≤ 8)
 scale-bounds s h = go (s == 1) refl (s == 2) refl (s == 4) refl (s == 8) refl h
   where
-    go : (a : Bool) → (s == 1) ≡ a → (b : Bool) → (s == 2) ≡ b → (c : Bool) → (s == 4) ≡ c → (d : Bool) → (s == 8) ≡ d → (a || (b || (c || d))) ≡ true → (0 < s) × (s ≤ 8)
+    go : (a : Bool) → (s == 1) ≡ a → (b : Bool) → (s == 2) ≡ b → (c : Bool) → (s == 4) ≡ c → (d : Bool) → (s == 8) ≡ d
+        → (a || (b || (c || d))) ≡ true → (0 < s) × (s ≤ 8)
     go true e b f c g d i h = let k : s ≡ 1 = eqb-true s 1 e in (omega arith, omega arith)
     go false e true f c g d i h = let k : s ≡ 2 = eqb-true s 2 f in (omega arith, omega arith)
     go false e false f true g d i h = let k : s ≡ 4 = eqb-true s 4 g in (omega arith, omega arith)
@@ -105,12 +114,14 @@ count-kept s f = length-map f.components _
 
 pub decoded-count : (f : Frame) → IsDecodedFrame f → is_count (length f.components) ≡ true
 decoded-count f p =
-    ap (λ (g : Frame). is_count (length g.components)) p.made ∙ (ap is_count (count-kept p.scale p.full) ∙ (accepted-facts p.full p.full p.is_accepted).0)
+    ap (λ (g : Frame). is_count (length g.components)) p.made ∙ (ap is_count (count-kept p.scale p.full)
+    ∙ (accepted-facts p.full p.full p.is_accepted).0)
 
 pub count-few : (n : ℕ) → is_count n ≡ true → (0 < n) × (n ≤ 4)
 count-few n h = go (n == 1) refl (n == 3) refl (n == 4) refl h
   where
-    go : (a : Bool) → (n == 1) ≡ a → (b : Bool) → (n == 3) ≡ b → (c : Bool) → (n == 4) ≡ c → (a || (b || c)) ≡ true → (0 < n) × (n ≤ 4)
+    go : (a : Bool) → (n == 1) ≡ a → (b : Bool) → (n == 3) ≡ b → (c : Bool) → (n == 4) ≡ c → (a || (b || c)) ≡ true
+        → (0 < n) × (n ≤ 4)
     go true e b f c g h = let k : n ≡ 1 = eqb-true n 1 e in (omega arith, omega arith)
     go false e true f c g h = let k : n ≡ 3 = eqb-true n 3 f in (omega arith, omega arith)
     go false e false f true g h = let k : n ≡ 4 = eqb-true n 4 g in (omega arith, omega arith)
@@ -121,20 +132,25 @@ decoded-fits f p =
     let q = p.is_read in
     let s = scale-bounds p.scale p.is_scale in
     subst (λ (g : Frame). AllByRecursion (Fits g) g.components) (sym (p.made ∙ ap (frame_at p.scale) q.made))
-    (scaled-frames-fit p.scale q.number q.precision q.width q.height q.factors s.0 (recursion_from_All IsInRange q.factors q.in_range))
+    (scaled-frames-fit p.scale q.number q.precision q.width q.height q.factors s.0
+    (recursion_from_All IsInRange q.factors q.in_range))
 
 sized-sources : (number precision width height : ℕ) (factors : List Factors) (sources : List Source)
-    → sources_of (frame_of number precision width height factors).components (frame_of number precision width height factors).output_width (frame_of number precision width height factors).output_height ≡ Ok sources
+    → sources_of (frame_of number precision width height factors).components (frame_of number precision width height
+    factors).output_width (frame_of number precision width height factors).output_height ≡ Ok sources
     → sources_of (frame_of number precision width height factors).components width height ≡ Ok sources
 unfolding frame_of
 sized-sources number precision width height factors sources e = e
 
-read-sources : (f : Frame) → IsFrame f → (sources : List Source) → sources_of f.components f.output_width f.output_height ≡ Ok sources
+read-sources : (f : Frame) → IsFrame f → (sources : List Source)
+    → sources_of f.components f.output_width f.output_height ≡ Ok sources
     → (s : ℕ) → 0 < s → s ≤ 8 → HasSources (frame_at s f)
 read-sources f q sources e s some most =
     subst (λ (g : Frame). HasSources (frame_at s g)) (sym q.made)
-    (frames-have-sources s q.number q.precision q.width q.height q.factors sources (recursion_from_All IsInRange q.factors q.in_range) some most q.some_width q.some_height
-    (sized-sources q.number q.precision q.width q.height q.factors sources (subst (λ (g : Frame). sources_of g.components g.output_width g.output_height ≡ Ok sources) q.made e)))
+    (frames-have-sources s q.number q.precision q.width q.height q.factors sources
+    (recursion_from_All IsInRange q.factors q.in_range) some most q.some_width q.some_height
+    (sized-sources q.number q.precision q.width q.height q.factors sources
+    (subst (λ (g : Frame). sources_of g.components g.output_width g.output_height ≡ Ok sources) q.made e)))
 
 pub decoded-sources : (f : Frame) → IsDecodedFrame f → HasSources f
 decoded-sources f p =
@@ -143,7 +159,15 @@ decoded-sources f p =
     subst HasSources (sym p.made) (read-sources p.full p.is_read a.1.0 a.1.1 p.scale s.0 s.1)
 
 pub decoded-read : (f : Frame) → IsFrame f → accepted f ≡ Ok f → IsDecodedFrame f
-decoded-read f q a = record { full = f; scale = 8; is_read = q; is_accepted = a; is_scale = refl; made = sym (full_frames f q) }
+decoded-read f q a =
+    record {
+      full = f;
+      scale = 8;
+      is_read = q;
+      is_accepted = a;
+      is_scale = refl;
+      made = sym (full_frames f q);
+    }
 
 pub decoded-scaled : (s : ℕ) (f : Frame) → is_scale s ≡ true → IsDecodedFrame f → IsDecodedFrame (frame_at s f)
 decoded-scaled s f e p = record {
@@ -157,11 +181,13 @@ decoded-scaled s f e p = record {
 
 -- ---- states
 
-before-same : (old new : Found) (f : Frame) → new.scanned ≡ old.scanned → new.held ≡ old.held → arrays_before new f ≡ arrays_before old f
+before-same : (old new : Found) (f : Frame) → new.scanned ≡ old.scanned → new.held ≡ old.held
+    → arrays_before new f ≡ arrays_before old f
 unfolding arrays_before
 before-same old new f b c = rw (b, c) refl
 
-pub sound_kept : (old new : Found) → IsSound old → new.frame ≡ old.frame → new.scanned ≡ old.scanned → new.held ≡ old.held → new.planes ≡ old.planes
+pub sound_kept : (old new : Found) → IsSound old → new.frame ≡ old.frame → new.scanned ≡ old.scanned
+    → new.held ≡ old.held → new.planes ≡ old.planes
     → new.samples ≡ old.samples → IsSound new
 sound_kept old new p a b c d s = record {
   frames = λ f e. p.frames f (sym a ∙ e);
@@ -190,12 +216,16 @@ zeros-before found x e = go (is_progressive x.process) found.scanned e
     go false s e = zeros-sized x.components
 
 -- a frame after which nothing was read yet
-pub sound-frame : (found : Found) (f : Frame) → IsDecodedFrame f → found.scanned ≡ false → found.planes ≡ replicate 4 None
+pub sound-frame : (found : Found) (f : Frame) → IsDecodedFrame f → found.scanned ≡ false
+    → found.planes ≡ replicate 4 None
     → found.samples ≡ replicate 4 None → IsSound (record found { frame = Some f })
 sound-frame found f p e n s = record {
   frames = λ g h. subst IsDecodedFrame (some-same f g h) p;
-  held = λ g h. subst (λ (x : Frame). AreArrays x.components (arrays_before (record found { frame = Some f }) x)) (some-same f g h) (zeros-before (record found { frame = Some f }) f e);
-  planes = λ g h. subst (λ (x : Frame). ArePlanes x.components found.planes) (some-same f g h) (subst (ArePlanes f.components) (sym n) (no-planes f.components (count-few (length f.components) (decoded-count f p)).1));
+  held = λ g h. subst (λ (x : Frame). AreArrays x.components (arrays_before (record found { frame = Some f }) x))
+      (some-same f g h) (zeros-before (record found { frame = Some f }) f e);
+  planes = λ g h. subst (λ (x : Frame). ArePlanes x.components found.planes) (some-same f g h)
+      (subst (ArePlanes f.components) (sym n)
+      (no-planes f.components (count-few (length f.components) (decoded-count f p)).1));
   samples = λ g h. subst (AllByRecursion (IsSampled (g.width * g.height))) (sym s) (tt, (tt, (tt, (tt, tt))));
   unread = λ h. absurd (none-some h);
 }
@@ -206,8 +236,10 @@ sound-frame found f p e n s = record {
     none-some : Some f ≡ None → ⊥
     none-some h = cc
 
-pub sound-framed : (found : Found) (f : Frame) → IsSound found → is_some found.frame ≡ false → IsFrame f → accepted f ≡ Ok f → IsSound (record found { frame = Some f })
-sound-framed found f p e q a = let n = p.unread (none found.frame e) in sound-frame found f (decoded-read f q a) n.0 n.1 n.2
+pub sound-framed : (found : Found) (f : Frame) → IsSound found → is_some found.frame ≡ false → IsFrame f
+    → accepted f ≡ Ok f → IsSound (record found { frame = Some f })
+sound-framed found f p e q a = let n =
+    p.unread (none found.frame e) in sound-frame found f (decoded-read f q a) n.0 n.1 n.2
   where
     none : (o : Option Frame) → is_some o ≡ false → o ≡ None
     none None e = refl
@@ -251,14 +283,18 @@ decoded-asked width height f p = go f.process
 pub sized_of : (f : Frame) → IsDecodedFrame f → IsSizedFrame f
 sized_of f p = decoded-sized f p
 
-pub frames_scaled : (width height : ℕ) (old new : Found) → new ≡ sized_to width height old → HasDecodedFrame old → HasDecodedFrame new
+pub frames_scaled : (width height : ℕ) (old new : Found) → new ≡ sized_to width height old → HasDecodedFrame old
+    → HasDecodedFrame new
 frames_scaled width height old new e h = λ f k. go old.frame refl f (ap (λ (x : Found). x.frame) (sym e) ∙ k)
   where
-    go : (o : Option Frame) → old.frame ≡ o → (f : Frame) → option_map (sized width height) o ≡ Some f → IsDecodedFrame f
+    go : (o : Option Frame) → old.frame ≡ o → (f : Frame) → option_map (sized width height) o ≡ Some f
+        → IsDecodedFrame f
     go None q f k = absurd (cc)
-    go (Some g) q f k = let s : sized width height g ≡ f = cc in subst IsDecodedFrame s (decoded-asked width height g (h g q))
+    go (Some g) q f k = let s : sized width height g ≡ f =
+        cc in subst IsDecodedFrame s (decoded-asked width height g (h g q))
 
-pub sound_scaled : (width height : ℕ) (old new : Found) → new ≡ sized_to width height old → IsSound old → IsUnread old → IsSound new
+pub sound_scaled : (width height : ℕ) (old new : Found) → new ≡ sized_to width height old → IsSound old → IsUnread old
+    → IsSound new
 sound_scaled width height old new e p u = subst IsSound (sym e) (go old.frame refl)
   where
     go : (o : Option Frame) → old.frame ≡ o → IsSound (record old { frame = option_map (sized width height) o })

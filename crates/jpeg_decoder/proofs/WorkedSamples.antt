@@ -62,10 +62,40 @@ header-written = record {
   high = omega arith;
   counted = refl;
   components = (
-    record { is_new = refl; ranged = record { horizontal_some = omega arith; horizontal_most = omega arith; vertical_some = omega arith; vertical_most = omega arith }; placed = refl },
+    record {
+      is_new = refl;
+      ranged = record {
+        horizontal_some = omega arith;
+        horizontal_most = omega arith;
+        vertical_some = omega arith;
+        vertical_most = omega arith;
+      };
+      placed = refl;
+    },
     (
-      record { is_new = refl; ranged = record { horizontal_some = omega arith; horizontal_most = omega arith; vertical_some = omega arith; vertical_most = omega arith }; placed = refl },
-      (record { is_new = refl; ranged = record { horizontal_some = omega arith; horizontal_most = omega arith; vertical_some = omega arith; vertical_most = omega arith }; placed = refl }, tt),
+      record {
+        is_new = refl;
+        ranged = record {
+          horizontal_some = omega arith;
+          horizontal_most = omega arith;
+          vertical_some = omega arith;
+          vertical_most = omega arith;
+        };
+        placed = refl;
+      },
+      (
+        record {
+          is_new = refl;
+          ranged = record {
+            horizontal_some = omega arith;
+            horizontal_most = omega arith;
+            vertical_some = omega arith;
+            vertical_most = omega arith;
+          };
+          placed = refl;
+        },
+        tt,
+      ),
     ),
   );
 }
@@ -76,7 +106,13 @@ has-samples = record {
   least = omega arith;
   most = omega arith;
   counted = inr (inl refl);
-  whole = inr (record { horizontal = refl; vertical = refl }, (record { horizontal = refl; vertical = refl }, (record { horizontal = refl; vertical = refl }, tt)));
+  whole = inr (
+    record { horizontal = refl; vertical = refl },
+    (
+      record { horizontal = refl; vertical = refl },
+      (record { horizontal = refl; vertical = refl }, tt),
+    ),
+  );
 }
 
 third-header : IsScan frame third_scan
@@ -155,13 +191,16 @@ less = record {
 }
 
 third-written : WritesScan said_3 frame third_scan three_samples third_data
-unfolding frame_of component_of nothing_found updated three_samples HaveTables mcu_tables tables_of strand strands lines_in first_differences rest_differences differences_below differences_of HaveDifferences residue stuffed bits_of_bytes all_above
+unfolding frame_of component_of nothing_found updated three_samples HaveTables mcu_tables tables_of strand strands
+    lines_in first_differences rest_differences differences_below differences_of HaveDifferences residue stuffed
+    bits_of_bytes all_above
 third-written = record {
   tables = small_table ∷ [];
   in_force = (refl, tt);
   point = refl;
   interval = whole_lines 0;
-  written = another 0 0 2 (((128 ∷ 129 ∷ []) ∷ []) ∷ []) (((128 ∷ 128 ∷ []) ∷ []) ∷ []) (0x5F ∷ []) (0x3F ∷ []) (omega arith)
+  written = another 0 0 2 (((128 ∷ 129 ∷ []) ∷ []) ∷ []) (((128 ∷ 128 ∷ []) ∷ []) ∷ []) (0x5F ∷ []) (0x3F ∷ [])
+      (omega arith)
       (record {
         rows = (0 ∷ 1 ∷ []) ∷ [];
         bits = false ∷ true ∷ false ∷ true ∷ [];
@@ -191,13 +230,16 @@ third-written = record {
 }
 
 other-written : WritesScan said_4 frame other_scan three_samples other_data
-unfolding frame_of component_of nothing_found updated three_samples HaveTables mcu_tables tables_of strand strands lines_in first_differences rest_differences differences_below differences_of HaveDifferences residue stuffed bits_of_bytes all_above
+unfolding frame_of component_of nothing_found updated three_samples HaveTables mcu_tables tables_of strand strands
+    lines_in first_differences rest_differences differences_below differences_of HaveDifferences residue stuffed
+    bits_of_bytes all_above
 other-written = record {
   tables = small_table ∷ small_table ∷ [];
   in_force = (refl, (refl, tt));
   point = refl;
   interval = whole_lines 0;
-  written = another 0 0 2 (((129 ∷ 129 ∷ []) ∷ []) ∷ ((128 ∷ 128 ∷ []) ∷ []) ∷ []) (((128 ∷ 128 ∷ []) ∷ []) ∷ ((129 ∷ 128 ∷ []) ∷ []) ∷ []) (0xA3 ∷ []) (0x54 ∷ []) (omega arith)
+  written = another 0 0 2 (((129 ∷ 129 ∷ []) ∷ []) ∷ ((128 ∷ 128 ∷ []) ∷ []) ∷ []) (((128 ∷ 128 ∷ []) ∷ [])
+      ∷ ((129 ∷ 128 ∷ []) ∷ []) ∷ []) (0xA3 ∷ []) (0x54 ∷ []) (omega arith)
       (record {
         rows = (1 ∷ 0 ∷ 0 ∷ 0 ∷ []) ∷ [];
         bits = true ∷ false ∷ true ∷ false ∷ false ∷ false ∷ [];
@@ -206,7 +248,8 @@ other-written = record {
         count = refl;
         sized = (((refl, (omega arith, (omega arith, tt))), tt), (((refl, (omega arith, (omega arith, tt))), tt), tt));
         placed = (refl, (refl, tt));
-        coded = row _ [] _ [] (one small_table _ 1 _ _ _ more (one small_table _ 0 _ _ _ same (one small_table _ 0 _ _ _ same (one small_table [] 0 [] _ [] same none)))) no_row;
+        coded = row _ [] _ [] (one small_table _ 1 _ _ _ more (one small_table _ 0 _ _ _ same
+            (one small_table _ 0 _ _ _ same (one small_table [] 0 [] _ [] same none)))) no_row;
         is_short = omega arith;
         whole = refl;
         has_bytes = refl;
@@ -219,7 +262,8 @@ other-written = record {
         count = refl;
         sized = (((refl, (omega arith, (omega arith, tt))), tt), (((refl, (omega arith, (omega arith, tt))), tt), tt));
         placed = (refl, (refl, tt));
-        coded = row _ [] _ [] (one small_table _ 0 _ _ _ same (one small_table _ 1 _ _ _ more (one small_table _ 0 _ _ _ same (one small_table [] 65535 [] _ [] less none)))) no_row;
+        coded = row _ [] _ [] (one small_table _ 0 _ _ _ same (one small_table _ 1 _ _ _ more
+            (one small_table _ 0 _ _ _ same (one small_table [] 65535 [] _ [] less none)))) no_row;
         is_short = omega arith;
         whole = refl;
         has_bytes = refl;
@@ -236,11 +280,18 @@ three-written = record {
     after = _;
     starts = refl;
     written =
-        segment nothing_found (said_after_scan said_4) [] 0 (Header 3 three_header) _ ((refl, header-written), has-samples) (
+        segment nothing_found (said_after_scan said_4) [] 0 (Header 3 three_header) _ (
+          (refl, header-written),
+          has-samples,
+        ) (
         segment said_1 (said_after_scan said_4) [] 0 table_segment _ ((table-written _, tt), tt) (
         segment said_2 (said_after_scan said_4) [] 1 (Interval 2) _ (tt, tt) (
         scan said_3 (said_after_scan said_4) [] frame 0 third_scan third_data _ refl refl third-header third-written (
-        scan said_4 (said_after_scan said_4) (2 ∷ []) frame 0 other_scan other_data _ refl refl other-header other-written (
-        closed (said_after_scan said_4) (0 ∷ 1 ∷ 2 ∷ []) frame 0 refl refl (inl refl, (inr (inl refl), (inr (inr (inl refl)), tt))))))));
+        scan said_4 (said_after_scan said_4) (2 ∷ []) frame 0 other_scan other_data _ refl refl other-header
+        other-written (
+        closed (said_after_scan said_4) (0 ∷ 1 ∷ 2 ∷ []) frame 0 refl refl (
+          inl refl,
+          (inr (inl refl), (inr (inr (inl refl)), tt)),
+        ))))));
   };
 }

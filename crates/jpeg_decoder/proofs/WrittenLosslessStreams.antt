@@ -74,14 +74,16 @@ with-keeps : (samples : Samples) (places : List ℕ) (decided : List (Option (Li
 unfolding with_samples
 with-keeps samples [] decided k h = h
 with-keeps samples (p ∷ places) decided k h =
-    with-keeps samples places (slice_set decided p (Some (concat (samples p)))) k (set-keeps (λ n. Some (concat (samples n))) decided p k None h)
+    with-keeps samples places (slice_set decided p (Some (concat (samples p)))) k
+    (set-keeps (λ n. Some (concat (samples n))) decided p k None h)
 
 with-length : (samples : Samples) (places : List ℕ) (decided : List (Option (List ℕ)))
     → length (with_samples places (planes_for samples places) decided) ≡ length decided
 unfolding with_samples
 with-length samples [] decided = refl
 with-length samples (p ∷ places) decided =
-    with-length samples places (slice_set decided p (Some (concat (samples p)))) ∙ length-set decided p (Some (concat (samples p)))
+    with-length samples places (slice_set decided p (Some (concat (samples p))))
+    ∙ length-set decided p (Some (concat (samples p)))
 
 with-there : (samples : Samples) (places : List ℕ) (decided : List (Option (List ℕ)))
     → AllByRecursion (λ k. k < length decided) places
@@ -91,7 +93,8 @@ with-there samples [] decided h = tt
 with-there samples (p ∷ places) decided h =
     let next = slice_set decided p (Some (concat (samples p))) in (
       with-keeps samples places next p (set-there decided p (Some (concat (samples p))) None h.0),
-      with-there samples places next (subst (λ (n : ℕ). AllByRecursion (λ (k : ℕ). k < n) places) (sym (length-set decided p (Some (concat (samples p))))) h.1),
+      with-there samples places next (subst (λ (n : ℕ). AllByRecursion (λ (k : ℕ). k < n) places)
+          (sym (length-set decided p (Some (concat (samples p))))) h.1),
     )
 
 held-append : (samples : Samples) (decided : List (Option (List ℕ))) (xs ys : List ℕ) → AreHeld samples decided xs
@@ -103,7 +106,8 @@ all-kept : (samples : Samples) (places : List ℕ) (decided : List (Option (List
     → AreHeld samples decided sent
     → AreHeld samples (with_samples places (planes_for samples places) decided) sent
 all-kept samples places decided [] h = tt
-all-kept samples places decided (k ∷ sent) h = (with-keeps samples places decided k h.0, all-kept samples places decided sent h.1)
+all-kept samples places decided (k ∷ sent) h =
+    (with-keeps samples places decided k h.0, all-kept samples places decided sent h.1)
 
 held-after : (samples : Samples) (places : List ℕ) (decided : List (Option (List ℕ))) (sent : List ℕ)
     → AllByRecursion (λ k. k < length decided) places
@@ -128,13 +132,16 @@ all-in P (k ∷ ks) sent h e = (one-held P k sent h e.0, all-in P ks sent h e.1)
 frame-turn : (said : Found) (decided : List (Option (List ℕ))) (number : ℕ) (h : FrameHeader) (rest : List ℕ)
     → Stands said (Header number h)
     → frame_segment number (and_samples said decided)
-    (sized (payload_of (Header number h)) ++ rest) ≡ Ok (onward (and_samples (found_after said (Header number h)) decided), rest)
+    (sized (payload_of (Header number h)) ++ rest)
+    ≡ Ok (onward (and_samples (found_after said (Header number h)) decided), rest)
 unfolding frame_segment
 frame-turn said decided number h rest may =
     let frame = frame_written number h in
     not-refused (is_some said.frame) _ _ (ap is_some may.0.0)
-    ∙ read-on (sof_at number (sized (payload_of (Header number h)) ++ rest)) _ frame rest _ (sof-read number h rest may.0.1)
-    (ap (λ (o : Result Frame Fault). o >>= λ (decoded : Frame). Ok (onward (record (and_samples said decided) { frame = Some decoded }), rest))
+    ∙ read-on (sof_at number (sized (payload_of (Header number h)) ++ rest)) _ frame rest _
+    (sof-read number h rest may.0.1)
+    (ap (λ (o : Result Frame Fault). o >>= λ (decoded : Frame).
+    Ok (onward (record (and_samples said decided) { frame = Some decoded }), rest))
     (lossless-accepted number h may.0.1 may.1))
 
 segment-read : (before : Before) (said : Found) (decided : List (Option (List ℕ))) (s : Segment) (rest : List ℕ)
@@ -145,13 +152,15 @@ unfolding segment_at quantization_segment huffman_segment restart_segment applic
 segment-read before said decided (Quantization ts) rest may =
     read-on (dqt_at (sized (payload_of (Quantization ts)) ++ rest)) _ _ rest _ (dqt-read ts rest may.0) refl
 segment-read before said decided (Huffman ts) rest may =
-    read-on (dht_at (option_map (λ (f : Frame). f.is_baseline) said.frame) (sized (payload_of (Huffman ts)) ++ rest)) _ _ rest _ (dht-read _ ts rest may.0) refl
+    read-on (dht_at (option_map (λ (f : Frame). f.is_baseline) said.frame) (sized (payload_of (Huffman ts)) ++ rest)) _
+    _ rest _ (dht-read _ ts rest may.0) refl
 segment-read before said decided (Interval n) rest may =
     read-on (dri_at (sized (payload_of (Interval n)) ++ rest)) _ n rest _ (dri-read n rest) refl
 segment-read before said decided (Application number payload) rest may =
     read-on (app_at number (sized payload ++ rest)) _ _ rest _ (app-read number payload rest may.0) refl
 segment-read before said decided (Comment payload) rest may =
-    sized-read payload rest _ ∙ read-on (skip_at (length payload) (payload ++ rest)) _ tt rest _ (skip-read payload rest) refl
+    sized-read payload rest _ ∙ read-on (skip_at (length payload) (payload ++ rest)) _ tt rest _
+    (skip-read payload rest) refl
 segment-read before said decided (Header number h) rest may = frame-turn said decided number h rest may
 
 -- ---- turns
@@ -175,7 +184,10 @@ stands-here bytes = record { turn = λ before found. refl }
 
 stands-met : (fill code : ℕ) (m : Marker) (rest : List ℕ) → marker_of code ≡ Some m
     → StandsAt (Some m) rest (marker fill code rest)
-stands-met fill code m rest h = record { turn = λ before found. met-turn before found m rest ∙ sym (marker-turn before found fill code m rest h) }
+stands-met fill code m rest h = record {
+  turn = λ before found. met-turn before found m rest
+      ∙ sym (marker-turn before found fill code m rest h);
+}
 
 turn-on : (turns : ℕ) (before : Before) (found : Found) (met : Option Marker) (all rest : List ℕ) (t : Turn)
     → turn_at before found met all ≡ Ok (t, rest) → t.ended ≡ false
@@ -223,9 +235,26 @@ unfolding marker_of
 starts samples said sent bytes final (closed said' sent' frame fill framed lossless all) =
     record { fill = fill; code = 217; m = EOI; after = []; is = refl; makes = refl; ends = eoi-ends }
 starts samples said sent bytes final (segment said' final' sent' fill s more may w) =
-    record { fill = fill; code = code_of s; m = marker_for s; after = sized (payload_of s) ++ more; is = refl; makes = segment-marker said.frame s may.0; ends = segment-ends s }
-starts samples said sent bytes final (scan said' final' sent' frame fill h data_bytes more framed lossless is data_of w) =
-    record { fill = fill; code = 218; m = SOS; after = sized (scan_payload h) ++ (data_bytes ++ more); is = refl; makes = refl; ends = sos-ends }
+    record {
+      fill = fill;
+      code = code_of s;
+      m = marker_for s;
+      after = sized (payload_of s) ++ more;
+      is = refl;
+      makes = segment-marker said.frame s may.0;
+      ends = segment-ends s;
+    }
+starts samples said sent bytes final (scan said' final' sent' frame fill h data_bytes more framed lossless is data_of
+    w) =
+    record {
+      fill = fill;
+      code = 218;
+      m = SOS;
+      after = sized (scan_payload h) ++ (data_bytes ++ more);
+      is = refl;
+      makes = refl;
+      ends = sos-ends;
+    }
 
 -- ---- what is kept
 
@@ -249,25 +278,33 @@ segment-shaped said (Interval n) may h frame e = h.shaped frame e
 segment-shaped said (Application number payload) may h frame e = h.shaped frame e
 segment-shaped said (Comment payload) may h frame e = h.shaped frame e
 segment-shaped said (Header number header) may h frame e =
-    subst IsShaped (some-same (frame_written number header) frame e) (header-shaped number header may.0.1 (lossless-accepted number header may.0.1 may.1))
+    subst IsShaped (some-same (frame_written number header) frame e) (header-shaped number header may.0.1
+    (lossless-accepted number header may.0.1 may.1))
 
 segment-said : (said : Found) (s : Segment) → Stands said s → IsSaid said → IsSaid (found_after said s)
-segment-said said s may h = record { tables = segment-tables said said s may h.tables; shaped = segment-shaped said s may h }
+segment-said said s may h =
+    record {
+      tables = segment-tables said said s may h.tables;
+      shaped = segment-shaped said s may h;
+    }
 
 -- ---- the rest of a stream
 
 -- the bytes after the marker, and those after the end of the image
 segment-tail : (fill code : ℕ) (bytes more tail : List ℕ)
     → marker fill code (bytes ++ more) ++ tail ≡ marker fill code (bytes ++ (more ++ tail))
-segment-tail fill code bytes more tail = marker-append fill code (bytes ++ more) tail ∙ ap (marker fill code) (append_assoc bytes more tail)
+segment-tail fill code bytes more tail =
+    marker-append fill code (bytes ++ more) tail ∙ ap (marker fill code) (append_assoc bytes more tail)
 
 scan-tail : (fill code : ℕ) (header bytes more tail : List ℕ)
     → marker fill code (header ++ (bytes ++ more)) ++ tail ≡ marker fill code (header ++ (bytes ++ (more ++ tail)))
 scan-tail fill code header bytes more tail =
-    segment-tail fill code header (bytes ++ more) tail ∙ ap (λ (l : List ℕ). marker fill code (header ++ l)) (append_assoc bytes more tail)
+    segment-tail fill code header (bytes ++ more) tail ∙ ap (λ (l : List ℕ). marker fill code (header ++ l))
+    (append_assoc bytes more tail)
 
 -- what is found by the end: all samples, of a size
-record Ends (samples : Samples) (turns : ℕ) (before : Before) (said final : Found) (decided : List (Option (List ℕ))) (met : Option Marker) (all rest : List ℕ) : Type 0 where
+record Ends (samples : Samples) (turns : ℕ) (before : Before) (said final : Found) (decided : List (Option (List ℕ)))
+    (met : Option Marker) (all rest : List ℕ) : Type 0 where
   last : List (Option (List ℕ))
   is : segments_within turns false before (and_samples said decided) met all ≡ Ok (and_samples final last, rest)
   frame : Frame
@@ -276,7 +313,10 @@ record Ends (samples : Samples) (turns : ℕ) (before : Before) (said final : Fo
   held : AreHeld samples last (range_with_len 0 (length frame.components))
 
 end-turn : (before : Before) (found : Found) (rest : List ℕ) → is_some found.frame ≡ true
-    → segment_at EOI before found rest ≡ Ok (record { found = found; before = Elsewhere; met = None; ended = true }, rest)
+    → segment_at EOI before found rest ≡ Ok (
+      record { found = found; before = Elsewhere; met = None; ended = true },
+      rest,
+    )
 unfolding segment_at end_segment
 end-turn before found rest some = kept (is_some found.frame) _ (Err Malformed) some
 
@@ -287,7 +327,8 @@ scan-turn before found rest = refl
 
 after-turn : (samples : Samples) (turns : ℕ) (before next : Before) (said between final : Found)
     (decided others : List (Option (List ℕ))) (met after : Option Marker) (all left rest : List ℕ)
-    → segments_within (suc turns) false before (and_samples said decided) met all ≡ segments_within turns false next (and_samples between others) after left
+    → segments_within (suc turns) false before (and_samples said decided) met all ≡ segments_within turns false next
+    (and_samples between others) after left
     → Ends samples turns next between final others after left rest
     → Ends samples (suc turns) before said final decided met all rest
 after-turn samples turns before next said between final decided others met after all left rest e f =
@@ -301,11 +342,18 @@ marker-longer fill code n bytes more h =
 scan-longer : (fill code n : ℕ) (header bytes more : List ℕ)
     → length (marker fill code (header ++ (bytes ++ more))) < suc n → length more < n
 scan-longer fill code n header bytes more h =
-    omega (arith, h, length-append bytes more, length-append header (bytes ++ more), length-append (replicate fill 255) (code ∷ (header ++ (bytes ++ more))))
+    omega (
+      arith,
+      h,
+      length-append bytes more,
+      length-append header (bytes ++ more),
+      length-append (replicate fill 255) (code ∷ (header ++ (bytes ++ more))),
+    )
 
 abbrev Reads : Samples → List ℕ → ℕ → Found → Found → List ℕ → List ℕ → Type 0
 Reads samples rest turns said final sent bytes =
-    (before : Before) (decided : List (Option (List ℕ))) (met : Option Marker) (all : List ℕ) → IsSaid said → length decided ≡ 4 → AreHeld samples decided sent → StandsAt met all (bytes ++ rest)
+    (before : Before) (decided : List (Option (List ℕ))) (met : Option Marker) (all : List ℕ) → IsSaid said
+    → length decided ≡ 4 → AreHeld samples decided sent → StandsAt met all (bytes ++ rest)
     → Ends samples turns before said final decided met all rest
 
 closed-read : (samples : Samples) (rest : List ℕ) (turns : ℕ) (said : Found) (sent : List ℕ) (frame : Frame)
@@ -313,26 +361,39 @@ closed-read : (samples : Samples) (rest : List ℕ) (turns : ℕ) (said : Found)
     → AllByRecursion (λ k. IsIn k sent) (range_with_len 0 (length frame.components))
     → Reads samples rest (suc turns) said said sent (marker fill 217 [])
 unfolding marker_of
-closed-read samples rest turns said sent frame fill framed lossless sends before decided met all is four held stands = record {
-  last = decided;
-  is = turn-end turns before (and_samples said decided) met all rest (record { found = and_samples said decided; before = Elsewhere; met = None; ended = true })
-      (stands.turn before (and_samples said decided) ∙ ap (turn_at before (and_samples said decided) None) (marker-append fill 217 [] rest)
-      ∙ marker-turn before (and_samples said decided) fill 217 EOI rest refl ∙ end-turn before (and_samples said decided) rest (ap is_some framed)) refl;
-  frame = frame;
-  framed = framed;
-  lossless = lossless;
-  held = all-in (λ k. slice_index_or decided k None ≡ Some (concat (samples k))) (range_with_len 0 (length frame.components)) sent held sends;
-}
+closed-read samples rest turns said sent frame fill framed lossless sends before decided met all is four held stands =
+    record {
+      last = decided;
+      is = turn-end turns before (and_samples said decided) met all rest (record {
+        found = and_samples said decided;
+        before = Elsewhere;
+        met = None;
+        ended = true;
+      })
+          (stands.turn before (and_samples said decided) ∙ ap (turn_at before (and_samples said decided) None)
+          (marker-append fill 217 [] rest)
+          ∙ marker-turn before (and_samples said decided) fill 217 EOI rest refl
+          ∙ end-turn before (and_samples said decided) rest (ap is_some framed)) refl;
+      frame = frame;
+      framed = framed;
+      lossless = lossless;
+      held = all-in (λ k. slice_index_or decided k None ≡ Some (concat (samples k)))
+          (range_with_len 0 (length frame.components)) sent held sends;
+    }
 
 segment-next : (samples : Samples) (rest : List ℕ) (turns : ℕ) (said final : Found) (sent : List ℕ) (fill : ℕ)
     (s : Segment) (more : List ℕ) → Stands said s
     → Reads samples rest turns (found_after said s) final sent more
     → Reads samples rest (suc turns) said final sent (marker fill (code_of s) (sized (payload_of s) ++ more))
 segment-next samples rest turns said final sent fill s more may again before decided met all is four held stands =
-    after-turn samples turns before Elsewhere said (found_after said s) final decided decided met None all (more ++ rest) rest
-    (turn-on turns before (and_samples said decided) met all (more ++ rest) (onward (and_samples (found_after said s) decided))
-    (stands.turn before (and_samples said decided) ∙ ap (turn_at before (and_samples said decided) None) (segment-tail fill (code_of s) (sized (payload_of s)) more rest)
-    ∙ marker-turn before (and_samples said decided) fill (code_of s) (marker_for s) (sized (payload_of s) ++ (more ++ rest)) (segment-marker said.frame s may.0)
+    after-turn samples turns before Elsewhere said (found_after said s) final decided decided met None all
+    (more ++ rest) rest
+    (turn-on turns before (and_samples said decided) met all (more ++ rest)
+    (onward (and_samples (found_after said s) decided))
+    (stands.turn before (and_samples said decided) ∙ ap (turn_at before (and_samples said decided) None)
+    (segment-tail fill (code_of s) (sized (payload_of s)) more rest)
+    ∙ marker-turn before (and_samples said decided) fill (code_of s) (marker_for s)
+    (sized (payload_of s) ++ (more ++ rest)) (segment-marker said.frame s may.0)
     ∙ segment-read before said decided s (more ++ rest) may) refl)
     (again Elsewhere decided None (more ++ rest) (segment-said said s may is) four held (stands-here (more ++ rest)))
 
@@ -355,23 +416,33 @@ scan-next : (samples : Samples) (rest : List ℕ) (turns : ℕ) (said final : Fo
     → Reads samples rest turns (said_after_scan said) final (places_of h.choices ++ sent) more
     → Reads samples rest (suc turns) said final sent (marker fill 218 (sized (scan_payload h) ++ (data_bytes ++ more)))
 unfolding marker_of
-scan-next samples rest turns said final sent frame fill h data_bytes more framed lossless header w s again before decided met all is four held stands =
+scan-next samples rest turns said final sent frame fill h data_bytes more framed lossless header w s again before
+    decided met all is four held stands =
     let shaped = is.shaped frame framed in
     let few = shaped.few in
     let places = places_of h.choices in
     let next = with_samples places (planes_for samples places) decided in
     let left = s.after ++ rest in
-    let there : more ++ rest ≡ marker s.fill s.code left = ap (λ (l : List ℕ). l ++ rest) s.is ∙ marker-append s.fill s.code s.after rest in
-    after-turn samples turns before (scan_before said) said (said_after_scan said) final decided next met (Some s.m) all left rest
+    let there : more ++ rest ≡ marker s.fill s.code left = ap (λ (l : List ℕ). l ++ rest) s.is
+    ∙ marker-append s.fill s.code s.after rest in
+    after-turn samples turns before (scan_before said) said (said_after_scan said) final decided next met (Some s.m) all
+    left rest
     (turn-on turns before (and_samples said decided) met all left (turn_after said places samples decided s.m)
     (stands.turn before (and_samples said decided)
-    ∙ ap (turn_at before (and_samples said decided) None) (scan-tail fill 218 (sized (scan_payload h)) data_bytes more rest ∙ ap (λ (l : List ℕ). marker fill 218 (sized (scan_payload h) ++ (data_bytes ++ l))) there)
-    ∙ marker-turn before (and_samples said decided) fill 218 SOS (sized (scan_payload h) ++ (data_bytes ++ marker s.fill s.code left)) refl
+    ∙ ap (turn_at before (and_samples said decided) None) (scan-tail fill 218 (sized (scan_payload h)) data_bytes more
+    rest ∙ ap (λ (l : List ℕ). marker fill 218 (sized (scan_payload h) ++ (data_bytes ++ l))) there)
+    ∙ marker-turn before (and_samples said decided) fill 218 SOS (sized (scan_payload h)
+    ++ (data_bytes ++ marker s.fill s.code left)) refl
     ∙ scan-turn before (and_samples said decided) (sized (scan_payload h) ++ (data_bytes ++ marker s.fill s.code left))
-    ∙ scan-read said decided frame h samples data_bytes left s.fill s.code s.m w framed header lossless shaped is.tables s.makes s.ends) refl)
+    ∙ scan-read said decided frame h samples data_bytes left s.fill s.code s.m w framed header lossless shaped is.tables
+    s.makes s.ends) refl)
     (again (scan_before said) next (Some s.m) left (record { tables = is.tables; shaped = is.shaped })
     (with-length samples places decided ∙ four)
-    (held-after samples places decided sent (below-four (length frame.components) (length decided) places (omega (arith, few, four)) (places-below frame h header)) held)
+    (held-after samples places decided sent (below-four (length frame.components) (length decided) places (omega (
+      arith,
+      few,
+      four,
+    )) (places-below frame h header)) held)
     (subst (StandsAt (Some s.m) left) (sym there) (stands-met s.fill s.code s.m left s.makes)))
 
 stream-read : (samples : Samples) (rest : List ℕ) (turns : ℕ) (said : Found) (sent bytes : List ℕ) (final : Found)
@@ -381,17 +452,21 @@ stream-read samples rest (suc turns) said sent bytes final (closed said' sent' f
     closed-read samples rest turns said sent frame fill framed lossless all
 stream-read samples rest (suc turns) said sent bytes final (segment said' final' sent' fill s more may w) h =
     segment-next samples rest turns said final sent fill s more may
-    (stream-read samples rest turns (found_after said s) sent more final w (marker-longer fill (code_of s) turns (sized (payload_of s)) more h))
-stream-read samples rest (suc turns) said sent bytes final (scan said' final' sent' frame fill h' data_bytes more framed lossless is data_of w) h =
+    (stream-read samples rest turns (found_after said s) sent more final w (marker-longer fill (code_of s) turns
+    (sized (payload_of s)) more h))
+stream-read samples rest (suc turns) said sent bytes final (scan said' final' sent' frame fill h' data_bytes more framed
+    lossless is data_of w) h =
     scan-next samples rest turns said final sent frame fill h' data_bytes more framed lossless is data_of
     (starts samples (said_after_scan said) (places_of h'.choices ++ sent) more final w)
-    (stream-read samples rest turns (said_after_scan said) (places_of h'.choices ++ sent) more final w (scan-longer fill 218 turns (sized (scan_payload h')) data_bytes more h))
+    (stream-read samples rest turns (said_after_scan said) (places_of h'.choices ++ sent) more final w
+    (scan-longer fill 218 turns (sized (scan_payload h')) data_bytes more h))
 
 -- ---- the picture
 
 -- the picture of a frame of these samples
 abbrev pub drawn : Frame → Samples → List ℕ
-drawn frame samples = lossless_picture (without_factors frame) (planes_for samples (range_with_len 0 (length frame.components)))
+drawn frame samples = lossless_picture (without_factors frame)
+    (planes_for samples (range_with_len 0 (length frame.components)))
 
 planes-there : (decided : List (Option (List ℕ))) (samples : Samples) (place : ℕ) (cs : List Component)
     → AreHeld samples decided (range_with_len place (length cs))
@@ -400,15 +475,18 @@ unfolding samples_from
 planes-there decided samples place [] h = refl
 planes-there decided samples place (c ∷ cs) h =
     then-ok (needed (slice_index_or decided place None)) _ (concat (samples place)) _ (ap needed h.0)
-    (then-ok (samples_from decided (place + 1) cs) _ (planes_for samples (range_with_len (place + 1) (length cs))) _ (planes-there decided samples (place + 1) cs h.1) refl)
+    (then-ok (samples_from decided (place + 1) cs) _ (planes_for samples (range_with_len (place + 1) (length cs))) _
+    (planes-there decided samples (place + 1) cs h.1) refl)
 
 samples-drawn : (found : Found) (samples : Samples) (frame : Frame)
     → AreHeld samples found.samples (range_with_len 0 (length frame.components))
     → samples_picture found (without_factors frame) ≡ Ok (drawn frame samples)
 unfolding samples_picture
 samples-drawn found samples frame held =
-    then-ok (samples_from found.samples 0 (without_factors frame).components) _ (planes_for samples (range_with_len 0 (length frame.components))) _
-    (plain-from found.samples 0 frame frame.components ∙ planes-there found.samples samples 0 frame.components held) refl
+    then-ok (samples_from found.samples 0 (without_factors frame).components) _
+    (planes_for samples (range_with_len 0 (length frame.components))) _
+    (plain-from found.samples 0 frame frame.components ∙ planes-there found.samples samples 0 frame.components held)
+    refl
 
 picture-there : (settings : Settings) (found : Found) (samples : Samples) (frame : Frame)
     → found.frame ≡ Some frame → frame.process ≡ Lossless
@@ -418,7 +496,8 @@ picture-there : (settings : Settings) (found : Found) (samples : Samples) (frame
 unfolding picture_of
 picture-there settings found samples frame framed lossless within held =
     then-ok (needed found.frame) _ frame _ (ap needed framed)
-    (not-refused (ltb settings.limit (length frame.components * (frame.output_width * frame.output_height))) _ _ (le-ltb settings.limit (length frame.components * (frame.output_width * frame.output_height)) within)
+    (not-refused (ltb settings.limit (length frame.components * (frame.output_width * frame.output_height))) _ _
+    (le-ltb settings.limit (length frame.components * (frame.output_width * frame.output_height)) within)
     ∙ ap (λ (p : CodingProcess). picture_by_process p settings found frame) lossless
     ∙ samples-drawn found samples frame held)
 
@@ -435,7 +514,8 @@ rest-read samples settings bytes rest said final frame w is framed within =
     let same : e.frame ≡ frame = some-same e.frame frame (sym e.framed ∙ framed) in
     let held = subst (λ (f : Frame). AreHeld samples e.last (range_with_len 0 (length f.components))) same e.held in
     let lossless = subst (λ (f : Frame). f.process ≡ Lossless) same e.lossless in
-    then-ok (segments_within (suc (length (bytes ++ rest))) false Elsewhere (and_samples said (replicate 4 None)) None (bytes ++ rest)) _ (and_samples final e.last, rest) _ e.is
+    then-ok (segments_within (suc (length (bytes ++ rest))) false Elsewhere (and_samples said (replicate 4 None)) None
+    (bytes ++ rest)) _ (and_samples final e.last, rest) _ e.is
     (then-ok (picture_of settings (and_samples final e.last)) _ (drawn frame samples) _
     (picture-there settings (and_samples final e.last) samples frame framed lossless within held) refl)
 
@@ -468,7 +548,8 @@ pub final-framed : (samples : Samples) (frame : Frame) (said : Found) (sent byte
 final-framed samples frame said sent bytes final (closed said' sent' f fill framed lossless all) e = e
 final-framed samples frame said sent bytes final (segment said' final' sent' fill s more may w) e =
     final-framed samples frame (found_after said s) sent more final w (frame-stays said s frame may e)
-final-framed samples frame said sent bytes final (scan said' final' sent' f fill h data_bytes more framed lossless is data_of w) e =
+final-framed samples frame said sent bytes final (scan said' final' sent' f fill h data_bytes more framed lossless is
+    data_of w) e =
     final-framed samples frame (said_after_scan said) _ more final w e
 
 pub final-lossless : (samples : Samples) (frame : Frame) (said : Found) (sent bytes : List ℕ) (final : Found)
@@ -477,7 +558,8 @@ final-lossless samples frame said sent bytes final (closed said' sent' f fill fr
     subst (λ (g : Frame). g.process ≡ Lossless) (some-same f frame (sym framed ∙ e)) lossless
 final-lossless samples frame said sent bytes final (segment said' final' sent' fill s more may w) e =
     final-lossless samples frame (found_after said s) sent more final w e
-final-lossless samples frame said sent bytes final (scan said' final' sent' f fill h data_bytes more framed lossless is data_of w) e =
+final-lossless samples frame said sent bytes final (scan said' final' sent' f fill h data_bytes more framed lossless is
+    data_of w) e =
     final-lossless samples frame (said_after_scan said) _ more final w e
 
 -- ---- the header
@@ -496,14 +578,16 @@ stop zero before found met all h e = absurd (omega arith)
 stop (suc turns) before found met all h e = rw (e, segments_within) refl
 
 -- what is found up to the frame
-record Headed (samples : Samples) (turns : ℕ) (before : Before) (said final : Found) (decided : List (Option (List ℕ))) (sent bytes rest : List ℕ) : Type 0 where
+record Headed (samples : Samples) (turns : ℕ) (before : Before) (said final : Found) (decided : List (Option (List ℕ)))
+    (sent bytes rest : List ℕ) : Type 0 where
   between : Found
   frame : Frame
   after : List ℕ
   framed : between.frame ≡ Some frame
   written : Writes samples between sent after final
   is_said : IsSaid between
-  is : segments_within turns true before (and_samples said decided) None (bytes ++ rest) ≡ Ok (and_samples between decided, after ++ rest)
+  is : segments_within turns true before (and_samples said decided) None (bytes ++ rest)
+      ≡ Ok (and_samples between decided, after ++ rest)
 
 -- a frame, or none
 frame-or : {P : Type 0} (s : Segment) → ((number : ℕ) (h : FrameHeader) → s ≡ Header number h → P)
@@ -520,20 +604,28 @@ header-read : (samples : Samples) (rest : List ℕ) (decided : List (Option (Lis
     → Writes samples said sent bytes final → length bytes < turns → IsSaid said → said.frame ≡ None
     → Headed samples turns before said final decided sent bytes rest
 header-read samples rest decided zero before said sent bytes final w l is e = absurd (omega arith)
-header-read samples rest decided (suc turns) before said sent bytes final (closed said' sent' f fill framed lossless all) l is e = some-none f said.frame framed e
-header-read samples rest decided (suc turns) before said sent bytes final (scan said' final' sent' f fill h data_bytes more framed lossless header data_of w) l is e = some-none f said.frame framed e
-header-read samples rest decided (suc turns) before said sent bytes final (segment said' final' sent' fill s more may w) l is e =
+header-read samples rest decided (suc turns) before said sent bytes final (closed said' sent' f fill framed lossless
+    all) l is e = some-none f said.frame framed e
+header-read samples rest decided (suc turns) before said sent bytes final (scan said' final' sent' f fill h data_bytes
+    more framed lossless header data_of w) l is e = some-none f said.frame framed e
+header-read samples rest decided (suc turns) before said sent bytes final (segment said' final' sent' fill s more may w)
+    l is e =
     let shorter = marker-longer fill (code_of s) turns (sized (payload_of s)) more l in
     let next = segment-said said s may is in
-    let step : segments_within (suc turns) true before (and_samples said decided) None (marker fill (code_of s) (sized (payload_of s) ++ more) ++ rest)
+    let step : segments_within (suc turns) true before (and_samples said decided) None
+    (marker fill (code_of s) (sized (payload_of s) ++ more) ++ rest)
     ≡ segments_within turns true Elsewhere (and_samples (found_after said s) decided) None (more ++ rest)
-    = header-on turns before (and_samples said decided) None (marker fill (code_of s) (sized (payload_of s) ++ more) ++ rest) (more ++ rest) (onward (and_samples (found_after said s) decided)) (ap is_some e)
-    (ap (turn_at before (and_samples said decided) None) (segment-tail fill (code_of s) (sized (payload_of s)) more rest)
-    ∙ marker-turn before (and_samples said decided) fill (code_of s) (marker_for s) (sized (payload_of s) ++ (more ++ rest)) (segment-marker said.frame s may.0)
+    = header-on turns before (and_samples said decided) None (marker fill (code_of s) (sized (payload_of s) ++ more)
+    ++ rest) (more ++ rest) (onward (and_samples (found_after said s) decided)) (ap is_some e)
+    (ap (turn_at before (and_samples said decided) None) (segment-tail fill (code_of s) (sized (payload_of s)) more
+    rest)
+    ∙ marker-turn before (and_samples said decided) fill (code_of s) (marker_for s)
+    (sized (payload_of s) ++ (more ++ rest)) (segment-marker said.frame s may.0)
     ∙ segment-read before said decided s (more ++ rest) may) refl in
     frame-or s
     (λ number h f.
-    let framed : (found_after said s).frame ≡ Some (frame_written number h) = ap (λ (x : Segment). (found_after said x).frame) f in
+    let framed : (found_after said s).frame ≡ Some (frame_written number h) =
+    ap (λ (x : Segment). (found_after said x).frame) f in
     record {
       between = found_after said s;
       frame = frame_written number h;
@@ -541,11 +633,23 @@ header-read samples rest decided (suc turns) before said sent bytes final (segme
       framed = framed;
       written = w;
       is_said = next;
-      is = step ∙ stop turns Elsewhere (and_samples (found_after said s) decided) None (more ++ rest) (omega (arith, shorter)) (ap is_some framed);
+      is = step ∙ stop turns Elsewhere (and_samples (found_after said s) decided) None (more ++ rest) (omega (
+        arith,
+        shorter,
+      )) (ap is_some framed);
     })
     (λ same.
-    let r = header-read samples rest decided turns Elsewhere (found_after said s) sent more final w shorter next (same said ∙ e) in
-    record { between = r.between; frame = r.frame; after = r.after; framed = r.framed; written = r.written; is_said = r.is_said; is = step ∙ r.is })
+    let r = header-read samples rest decided turns Elsewhere (found_after said s) sent more final w shorter next
+    (same said ∙ e) in
+    record {
+      between = r.between;
+      frame = r.frame;
+      after = r.after;
+      framed = r.framed;
+      written = r.written;
+      is_said = r.is_said;
+      is = step ∙ r.is;
+    })
 
 -- ---- the whole
 
@@ -557,7 +661,8 @@ pub keeps-size : (width height : ℕ) (found : Found) (frame : Frame) → found.
 keeps-size width height found frame framed lossless =
     let grown : Frame → Frame = λ f. sized_by f.process width height f in
     let same : option_map grown found.frame ≡ found.frame
-    = ap (option_map grown) framed ∙ ap (λ (p : CodingProcess). some_frame (sized_by p width height frame)) lossless ∙ sym framed in
+    = ap (option_map grown) framed ∙ ap (λ (p : CodingProcess). some_frame (sized_by p width height frame)) lossless
+    ∙ sym framed in
     ap (λ (o : Option Frame). record found { frame = o }) same
 
 pub samples-sized : (width height : ℕ) (settings : Settings) (samples : Samples) (bytes rest : List ℕ)
@@ -567,10 +672,13 @@ pub samples-sized : (width height : ℕ) (settings : Settings) (samples : Sample
 unfolding sized_meaning header_at start_at segments_at nothing_found
 samples-sized width height settings samples bytes rest final frame w framed within =
     let long = length-append w.after rest in
-    let r = header-read samples rest (replicate 4 None) (suc (length (w.after ++ rest))) Elsewhere nothing_found [] w.after final w.written (omega (arith, long)) nothing-said refl in
+    let r = header-read samples rest (replicate 4 None) (suc (length (w.after ++ rest))) Elsewhere nothing_found []
+    w.after final w.written (omega (arith, long)) nothing-said refl in
     let frame_of_all = final-framed samples r.frame r.between [] r.after final r.written r.framed in
     let lossless = final-lossless samples r.frame r.between [] r.after final r.written frame_of_all in
     ap (λ (l : List ℕ). sized_meaning width height settings (l ++ rest)) w.starts
-    ∙ then-ok (segments_within (suc (length (w.after ++ rest))) true Elsewhere nothing_found None (w.after ++ rest)) _ (and_samples r.between (replicate 4 None), r.after ++ rest) _ r.is
-    (ap (λ (f : Found). rest_at settings f (r.after ++ rest)) (keeps-size width height (and_samples r.between (replicate 4 None)) r.frame r.framed lossless)
+    ∙ then-ok (segments_within (suc (length (w.after ++ rest))) true Elsewhere nothing_found None (w.after ++ rest)) _
+    (and_samples r.between (replicate 4 None), r.after ++ rest) _ r.is
+    (ap (λ (f : Found). rest_at settings f (r.after ++ rest))
+    (keeps-size width height (and_samples r.between (replicate 4 None)) r.frame r.framed lossless)
     ∙ rest-read samples settings r.after rest r.between final frame r.written r.is_said framed within)

@@ -361,7 +361,10 @@ picture-there settings w f (c ∷ []) (o ∷ ours) [] sources t e h = absurd h
 picture-there settings w f (c ∷ []) (o ∷ ours) (p ∷ planes) sources t e h = (picture_in f c p, refl)
 picture-there settings w f (c ∷ d ∷ more) ours planes sources t e h =
     let convert = conversion-there (length (c ∷ d ∷ more)) _ t in
-    some-of _ _ convert.0 convert.1 (some-of (sources_of (c ∷ d ∷ more) f.output_width f.output_height) _ sources e (_, refl))
+    some-of _ _ convert.0 convert.1 (some-of (sources_of (c ∷ d ∷ more) f.output_width f.output_height) _ sources e (
+      _,
+      refl,
+    ))
 
 within-limit : (a b : ℕ) (x : Result (List ℕ) Fault) → b ≤ a → cond (nat_lt a b) (Err Malformed) x ≡ x
 within-limit a b x h = rw (le-ltb a b h) refl

@@ -117,7 +117,8 @@ placed-counted w n from [] [] rows e h = tt
 placed-counted w n from [] (l ∷ lines) rows e h = absurd h
 placed-counted w n from (p ∷ parts) [] rows e h = absurd h
 placed-counted w n from (p ∷ parts) (l ∷ lines) rows e h = (
-  sym (differences-count w.selection w.start [] l) ∙ ap (λ (x : List (List ℕ)). length x) (sym h.0) ∙ lines-count p w.wide (mcu_size w) from rows ∙ ap (λ (x : ℕ). x * p.down) e,
+  sym (differences-count w.selection w.start [] l) ∙ ap (λ (x : List (List ℕ)). length x) (sym h.0)
+      ∙ lines-count p w.wide (mcu_size w) from rows ∙ ap (λ (x : ℕ). x * p.down) e,
   placed-counted w n (from + p.down * p.across) parts lines rows e h.1,
 )
 
@@ -129,15 +130,20 @@ above-counted a b [] [] (m ∷ others) h g = absurd g
 above-counted a b [] (l ∷ front) others h g = absurd h
 above-counted a b (p ∷ parts) [] others h g = absurd h
 above-counted a b (p ∷ parts) (l ∷ front) [] h g = absurd g
-above-counted a b (p ∷ parts) (l ∷ front) (m ∷ others) h g =
-    (length-append l m ∙ ap₂ (λ (x y : ℕ). x + y) h.0 g.0 ∙ sym (add-mul a b p.down), above-counted a b parts front others h.1 g.1)
+above-counted a b (p ∷ parts) (l ∷ front) (m ∷ others) h g = (
+  length-append l m ∙ ap₂ (λ (x y : ℕ). x + y) h.0 g.0 ∙ sym (add-mul a b p.down),
+  above-counted a b parts front others h.1 g.1,
+)
 
 intervals-counted : (w : Way) (per k left : ℕ) (lines : List (List (List ℕ))) (bytes : List ℕ)
     → WritesIntervals w per k left lines bytes → AreCounted left w.parts lines
-intervals-counted w per k left lines bytes (last k' left' lines' bytes' le s) = placed-counted w left 0 w.parts lines s.rows s.count s.placed
+intervals-counted w per k left lines bytes (last k' left' lines' bytes' le s) =
+    placed-counted w left 0 w.parts lines s.rows s.count s.placed
 intervals-counted w per k left lines bytes (another k' fill' left' front others first after lt s more) =
-    subst (λ (n : ℕ). AreCounted n w.parts (all_above front others)) (let e : per + (left - per) ≡ left = omega arith in e)
-    (above-counted per (left - per) w.parts front others (placed-counted w per 0 w.parts front s.rows s.count s.placed) (intervals-counted w per (suc k) (left - per) others after more))
+    subst (λ (n : ℕ). AreCounted n w.parts (all_above front others)) (let e : per + (left - per) ≡ left = omega arith in
+    e)
+    (above-counted per (left - per) w.parts front others (placed-counted w per 0 w.parts front s.rows s.count s.placed)
+    (intervals-counted w per (suc k) (left - per) others after more))
 
 -- ---- how long they are
 
@@ -152,7 +158,8 @@ grids-above w [] [] others h g = g
 grids-above w [] (l ∷ front) others h g = absurd h
 grids-above w (p ∷ parts) [] others h g = absurd h
 grids-above w (p ∷ parts) (l ∷ front) [] h g = absurd g
-grids-above w (p ∷ parts) (l ∷ front) (m ∷ others) h g = (lines-above (w.wide * p.across) l m h.0 g.0, grids-above w parts front others h.1 g.1)
+grids-above w (p ∷ parts) (l ∷ front) (m ∷ others) h g =
+    (lines-above (w.wide * p.across) l m h.0 g.0, grids-above w parts front others h.1 g.1)
 
 intervals-grids : (w : Way) (per k left : ℕ) (lines : List (List (List ℕ))) (bytes : List ℕ)
     → WritesIntervals w per k left lines bytes → AreGrids w w.parts lines
@@ -271,7 +278,8 @@ have-read said from [] (t ∷ tables) h = absurd h
 have-read said from (c ∷ choices) [] h = absurd h
 have-read said from (c ∷ choices) (t ∷ tables) h =
     then-ok (needed (slice_index_or said.huffman.dc c.dc None)) _ t _ (ap needed h.0)
-    (then-ok (tables_in said.huffman.dc (map (λ s. s.dc) (map (selector_of from) choices))) _ tables _ (have-read said from choices tables h.1) refl)
+    (then-ok (tables_in said.huffman.dc (map (λ s. s.dc) (map (selector_of from) choices))) _ tables _
+    (have-read said from choices tables h.1) refl)
 
 -- ---- the data
 
@@ -296,10 +304,12 @@ data-read said frame h samples bytes rest fill code m w is all makes =
     let lines = map (λ (c : Choice). samples c.component) h.choices in
     let r = of-rows frame.width frame.height said.restart is.wide is.high w.interval in
     reads-scan way frame.height said.restart 0 lines bytes fill code m rest r.is r.some
-    (all-tables frame.width (mcu_tables way.parts) (parts-tables frame.width frame.height w.tables (tables-there said h.choices w.tables all w.in_force)))
+    (all-tables frame.width (mcu_tables way.parts) (parts-tables frame.width frame.height w.tables
+    (tables-there said h.choices w.tables all w.in_force)))
     (record { is = makes }) w.written
     ∙ ap (λ (l : List (List ℕ)). Ok ((l, Some m), rest))
-    (planes-are frame samples h.choices w.tables (have-count said h.choices w.tables w.in_force) (scan-sized said frame h samples bytes w))
+    (planes-are frame samples h.choices w.tables (have-count said h.choices w.tables w.in_force)
+    (scan-sized said frame h samples bytes w))
 
 -- ---- a scan
 
@@ -352,13 +362,18 @@ lossless-read said decided frame h samples bytes rest fill code m w scan lossles
     let s = scan_written frame h in
     let rules = header-rules frame h scan in
     let a = codings-by-tables said.huffman.dc (without_factors frame) s.components s.dc_places w.tables
-    (plain-places frame s.components rules.components) rules.dc_length (have-read said frame h.choices w.tables w.in_force) in
+    (plain-places frame s.components rules.components) rules.dc_length (have-read said frame h.choices w.tables
+    w.in_force) in
     let planes = planes_for samples (places_of h.choices) in
     then-ok (lossless_codings said.huffman.dc (without_factors frame) s.components s.dc_places) _ a.codings _ a.are
-    (then-ok (scan_samples (and_samples said decided) (without_factors frame) s a.codings all) _ ((planes, Some m), rest) _
+    (then-ok (scan_samples (and_samples said decided) (without_factors frame) s a.codings all) _ (
+      (planes, Some m),
+      rest,
+    ) _
     (ap (λ (f : List ℕ → Outcome (List (List ℕ) × Option Marker)). f all)
     (plain-read said.huffman.dc frame s.components s.dc_places w.tables a s.predictor s.point_transform said.restart)
-    ∙ ap₂ (λ (p : Predictor) (n : ℕ). by frame w.tables said.restart p n all) (predictor-of frame h lossless) (point-of frame h scan w.point)
+    ∙ ap₂ (λ (p : Predictor) (n : ℕ). by frame w.tables said.restart p n all) (predictor-of frame h lossless)
+    (point-of frame h scan w.point)
     ∙ data-read said frame h samples bytes rest fill code m w is tables makes)
     (then-ok (after_restarts (suc (length rest)) (Some m) rest) _ (Some m, rest) _ (end (length rest) rest)
     (ap (λ (places : List ℕ). Ok (

@@ -42,7 +42,9 @@ or_else None other = other
 
 -- What a caller sets goes first; then the identifiers of three components; then that JFIF was
 -- named, for three; then Adobe's segment.
-unfoldable pub transform_of : Option ColorTransform → List ℕ → Bool → Option AdobeColorTransform → ColorTransform
+unfoldable pub transform_of : Option ColorTransform → List ℕ → Bool → Option AdobeColorTransform
+    → ColorTransform
 transform_of set identifiers jfif adobe_transform =
     let is_three = length identifiers == 3 in
-    or_else set (or_else (by_identifiers identifiers) (if is_three && jfif then YCbCr else by_adobe is_three adobe_transform))
+    or_else set (or_else (by_identifiers identifiers) (if is_three && jfif then YCbCr
+    else by_adobe is_three adobe_transform))

@@ -18,9 +18,11 @@ abbrev pub is_held : Found → Frame → Bool
 is_held found frame = is_progressive frame.process && found.scanned
 
 -- The plane that is decided, or else that of the blocks that are held, by the quantization table.
-abbrev pub plane_or : Component → Option (List ℕ) → Option (List ℕ) → Option (List Block) → Result (List ℕ) Fault
+abbrev pub plane_or : Component → Option (List ℕ) → Option (List ℕ) → Option (List Block)
+    → Result (List ℕ) Fault
 plane_or c table (Some plane) blocks = Ok plane
-plane_or c table None (Some blocks) = needed table >>= (λ quantization. Ok (plane_by c quantization blocks))
+plane_or c table None (Some blocks) =
+    needed table >>= (λ quantization. Ok (plane_by c quantization blocks))
 plane_or c table None None = Err Malformed
 
 -- all blocks of a component, where there are some

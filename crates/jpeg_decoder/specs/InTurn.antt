@@ -23,8 +23,14 @@ pub record Reached : Type 0 where
 -- the next block
 unfoldable pub turn_from : Pass → List Via → Spot → Reached → Reads Reached
 turn_from p vias s old =
-    block_from p (via_at vias s.slot).dc (via_at vias s.slot).ac (get_or old.predictors (via_at vias s.slot).component (pos 0)) old.run (block_at old.arrays s) >>= (λ r.
-    gives (record { arrays = put_block s r.0 old.arrays; predictors = set old.predictors (via_at vias s.slot).component r.1; run = r.2 }))
+    block_from p (via_at vias s.slot).dc (via_at vias s.slot).ac
+    (get_or old.predictors (via_at vias s.slot).component (pos 0)) old.run
+    (block_at old.arrays s) >>= (λ r.
+    gives (record {
+      arrays = put_block s r.0 old.arrays;
+      predictors = set old.predictors (via_at vias s.slot).component r.1;
+      run = r.2;
+    }))
 
 -- this many blocks more
 unfoldable pub turns_from : Pass → List Via → List Spot → Reached → Reads Reached
@@ -35,26 +41,37 @@ abbrev pub at_start : Arrays → Reached
 at_start arrays = record { arrays = arrays; predictors = predictors_at_start; run = 0 }
 
 -- the blocks after the interval that begins these bytes, and the marker after it, if it is met
-unfoldable pub interval_from : Pass → List Via → List Spot → Arrays → List ℕ → Outcome (Arrays × Option Marker)
+unfoldable pub interval_from : Pass → List Via → List Spot → Arrays → List ℕ
+    → Outcome (Arrays × Option Marker)
 interval_from p vias spots arrays bytes =
     reading.◌>>=◌ (turns_from p vias spots (at_start arrays) (upcoming fresh bytes)) (λ r.
     reading.◌>>=◌ (marker_from r.1) (λ m. Ok ((r.0.arrays, m.0), m.1)))
 
 -- after an interval: the others on its blocks, where it ends with RST k
-abbrev pub next_interval : ℕ → (Arrays → List ℕ → Outcome (Arrays × Option Marker)) → (Arrays × Option Marker) × List ℕ → Outcome (Arrays × Option Marker)
-next_interval k others r = elim (is_restart k r.0.1) [ true ↦ others r.0.0 r.1 | false ↦ Err Malformed ]
+abbrev pub next_interval : ℕ → (Arrays → List ℕ → Outcome (Arrays × Option Marker))
+    → (Arrays × Option Marker) × List ℕ → Outcome (Arrays × Option Marker)
+next_interval k others r =
+    elim (is_restart k r.0.1) [
+      | true ↦ others r.0.0 r.1
+      | false ↦ Err Malformed
+    ]
 
 -- one interval and more, between which RST stand in turn from number k on
-unfoldable pub intervals_from : Pass → List Via → ℕ → List Spot → List (List Spot) → Arrays → List ℕ → Outcome (Arrays × Option Marker)
+unfoldable pub intervals_from : Pass → List Via → ℕ → List Spot → List (List Spot) → Arrays → List ℕ
+    → Outcome (Arrays × Option Marker)
 intervals_from p vias k spots [] arrays bytes = interval_from p vias spots arrays bytes
 intervals_from p vias k spots (next ∷ more) arrays bytes =
-    reading.◌>>=◌ (interval_from p vias spots arrays bytes) (next_interval k (intervals_from p vias (suc k) next more))
+    reading.◌>>=◌ (interval_from p vias spots arrays bytes)
+    (next_interval k (intervals_from p vias (suc k) next more))
 
 -- ---- MCU by MCU
 
 -- after an interval RST k has to be met, and the next begins
 unfoldable pub restart_from : ℕ → Reads (Unit {0})
-restart_from k t = reading.◌>>=◌ (marker_from t) (λ m. elim (is_restart k m.0) [ true ↦ Ok (tt, upcoming fresh m.1) | false ↦ Err Malformed ])
+restart_from k t = reading.◌>>=◌ (marker_from t) (λ m. elim (is_restart k m.0) [
+  | true ↦ Ok (tt, upcoming fresh m.1)
+  | false ↦ Err Malformed
+])
 
 -- What is held between MCUs: what is reached in an interval, how many MCUs are left of it, and the
 -- number of the restart marker after it, which counts modulo 8.
@@ -67,7 +84,11 @@ pub record Counted : Type 0 where
 unfoldable pub begun_from : ℕ → Counted → Reads Counted
 begun_from n old =
     elim (nat_lt 0 n && old.left == 0) [
-      | true ↦ restart_from old.number >>= (λ u. gives (record { reached = at_start old.reached.arrays; left = n; number = (old.number + 1) % 8 }))
+      | true ↦ restart_from old.number >>= (λ u. gives (record {
+        reached = at_start old.reached.arrays;
+        left = n;
+        number = (old.number + 1) % 8;
+      }))
       | false ↦ gives old
     ]
 
@@ -87,7 +108,8 @@ abbrev pub counted_at_start : ℕ → Arrays → Counted
 counted_at_start n arrays = record { reached = at_start arrays; left = n; number = 0 }
 
 -- a scan of these MCUs: the blocks after it, and the marker after it, if it is met
-unfoldable pub scan_from : Pass → List Via → ℕ → List (List Spot) → Arrays → List ℕ → Outcome (Arrays × Option Marker)
+unfoldable pub scan_from : Pass → List Via → ℕ → List (List Spot) → Arrays → List ℕ
+    → Outcome (Arrays × Option Marker)
 scan_from p vias n mcus arrays bytes =
     reading.◌>>=◌ (mcus_from p vias n mcus (counted_at_start n arrays) (upcoming fresh bytes)) (λ r.
     reading.◌>>=◌ (marker_from r.1) (λ m. Ok ((r.0.reached.arrays, m.0), m.1)))
@@ -97,7 +119,8 @@ unfoldable pub mcus_of : Frame → List Component → List (List Spot)
 mcus_of frame [] = []
 mcus_of frame (c ∷ []) = map (λ s. s ∷ []) (own_spots (grid_of c))
 mcus_of frame (c ∷ d ∷ more) =
-    flat_map (λ row. map (λ column. mcu_spots row column 0 (c ∷ d ∷ more)) (range_with_len 0 frame.mcus_wide)) (range_with_len 0 frame.mcus_high)
+    flat_map (λ row. map (λ column. mcu_spots row column 0 (c ∷ d ∷ more))
+    (range_with_len 0 frame.mcus_wide)) (range_with_len 0 frame.mcus_high)
 
 -- ---- spots that are apart
 
@@ -129,4 +152,5 @@ pub record Fits (frame : Frame) (c : Component) : Type 0 where
 unfoldable pub AreArrays : List Component → Arrays → Type 0
 AreArrays [] arrays = Unit {0}
 AreArrays (c ∷ more) [] = ⊥
-AreArrays (c ∷ more) (blocks ∷ arrays) = (length blocks ≡ c.blocks_high * c.blocks_wide) × AreArrays more arrays
+AreArrays (c ∷ more) (blocks ∷ arrays) =
+    (length blocks ≡ c.blocks_high * c.blocks_wide) × AreArrays more arrays

@@ -10,4 +10,5 @@ line_of slot index (suc n) = record { slot = slot; index = index } ∷ line_of s
 -- this many lines of blocks, each of them so far after the one before
 unfoldable pub part_of : ℕ → ℕ → ℕ → ℕ → ℕ → List Spot
 part_of slot wide count index zero = []
-part_of slot wide count index (suc n) = line_of slot index count ++ part_of slot wide count (index + wide) n
+part_of slot wide count index (suc n) =
+    line_of slot index count ++ part_of slot wide count (index + wide) n

@@ -27,15 +27,21 @@ name_of CMYK32 = codes "CMYK32"
 -- width, height and format, and a line feed
 abbrev pub line_of : Option ImageInfo → List ℕ
 line_of None = []
-line_of (Some info) = decimal info.width ++ 32 ∷ decimal info.height ++ 32 ∷ name_of info.pixel_format ++ 10 ∷ []
+line_of (Some info) = decimal info.width ++ 32 ∷ decimal info.height ++ 32 ∷ name_of
+    info.pixel_format ++ 10 ∷ []
 
 -- what is written for a stream that has a meaning
 unfoldable pub output_of : List ℕ → Option (List ℕ)
-output_of bytes = elim (meaning default_settings bytes) [ Ok stream ↦ Some (line_of (option_map info_of stream.0.0.frame) ++ stream.0.1) | Err fault ↦ None ]
+output_of bytes =
+    elim (meaning default_settings bytes) [
+      | Ok stream ↦ Some (line_of (option_map info_of stream.0.0.frame) ++ stream.0.1)
+      | Err fault ↦ None
+    ]
 
 -- the writer took a beginning of a text
 abbrev pub TakesBeginning : Option (List ℕ) → Option (List ℕ) → List ℕ → Type 0
-TakesBeginning old new text = (taken : List ℕ) × (rest : List ℕ) × (text ≡ taken ++ rest) × Appends old new taken
+TakesBeginning old new text = (taken : List ℕ) × (rest : List ℕ) × (text ≡ taken ++ rest)
+    × Appends old new taken
 
 -- an error of the reader or the writer
 abbrev pub IsOutside : Error → Type 0

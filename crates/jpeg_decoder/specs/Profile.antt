@@ -13,11 +13,13 @@ part number (c ∷ chunks) = if c.number == number then Some c.bytes else part n
 unfoldable pub parts_from : ℕ → ℕ → List Chunk → Option (List ℕ)
 parts_from zero number chunks = Some []
 parts_from (suc more) number chunks =
-    option_and_then (λ bytes. option_map (λ rest. bytes ++ rest) (parts_from more (number + 1) chunks)) (part number chunks)
+    option_and_then (λ bytes. option_map (λ rest. bytes ++ rest)
+    (parts_from more (number + 1) chunks)) (part number chunks)
 
 -- The profile: there where 1 to 254 parts are, each names their number, and they are numbered 1, 2
 -- and so on, in any order.
 unfoldable pub profile_of : List Chunk → Option (List ℕ)
 profile_of chunks =
     if length chunks == 0 || nat_lt 254 (length chunks) then None else (
-    if list_all (λ c. c.count == length chunks) chunks then parts_from (length chunks) 1 chunks else None)
+    if list_all (λ c. c.count == length chunks) chunks then parts_from (length chunks) 1 chunks
+    else None)

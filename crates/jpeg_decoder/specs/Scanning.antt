@@ -20,7 +20,8 @@ use Rattle.jpeg_bits.specs.BlockView.{to_block, pass_in}
 -- the ways of a scan's slots, from one on
 unfoldable pub vias_in : ℕ → List Coded → List Via
 vias_in slot [] = []
-vias_in slot (c ∷ more) = record { component = slot; dc = c.dc.now; ac = c.ac.now } ∷ vias_in (slot + 1) more
+vias_in slot (c ∷ more) = record { component = slot; dc = c.dc.now; ac = c.ac.now } ∷ vias_in
+    (slot + 1) more
 
 abbrev pub components_in : List Coded → List Component
 components_in cs = map (λ c. component_in c.component.now) cs
@@ -92,12 +93,14 @@ first_in row column c = row * down_in c * wide_in c + column * across_in c
 
 -- The part of the component in a slot, in the MCU in a row and a column, is held.
 abbrev pub HoldsPart : List ℕ → ℕ → ℕ → ℕ → Coded → Type 0
-HoldsPart sizes row column slot c = AreWithin (get_or sizes slot 0) (wide_in c) (across_in c) (first_in row column c) (down_in c)
+HoldsPart sizes row column slot c =
+    AreWithin (get_or sizes slot 0) (wide_in c) (across_in c) (first_in row column c) (down_in c)
 
 -- Each part of the MCU in a row and a column is held.
 pub record HoldsMcu (cs : List Coded) (sizes : List ℕ) (row column : ℕ) : Type 0 where
   pub slots : length cs ≤ length sizes
-  pub parts : (slot : ℕ) (c : Coded) → slot < length cs → c ≡ get_or cs slot c → HoldsPart sizes row column slot c
+  pub parts : (slot : ℕ) (c : Coded) → slot < length cs → c ≡ get_or cs slot c
+      → HoldsPart sizes row column slot c
 
 -- the MCU in a row and a column, and the MCUs of a row
 abbrev pub mcu_in : List Component → ℕ → ℕ → List Spot

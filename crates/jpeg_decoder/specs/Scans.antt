@@ -40,7 +40,11 @@ no_table class = record { class = class; counts = replicate 16 0; symbols = [] }
 
 -- how a block of a slot is coded, by the ways of the scan's slots
 abbrev pub via_at : List Via → ℕ → Via
-via_at vias slot = get_or vias slot (record { component = slot; dc = no_table classes.DC; ac = no_table classes.AC })
+via_at vias slot = get_or vias slot (record {
+  component = slot;
+  dc = no_table classes.DC;
+  ac = no_table classes.AC;
+})
 
 -- the blocks at the spots, and how each is coded
 unfoldable pub turns_of : List Via → List Spot → Arrays → List (Via × Block)
@@ -48,7 +52,8 @@ turns_of vias spots arrays = map (λ s. (via_at vias s.slot, block_at arrays s))
 
 -- A scan: the blocks at its spots are read in intervals of n blocks, or in one where n is 0, and
 -- are put back; and the marker after the scan, if it is met.
-unfoldable pub arrays_at : Pass → ℕ → List Via → List Spot → Arrays → List ℕ → Outcome (Arrays × Option Marker)
+unfoldable pub arrays_at : Pass → ℕ → List Via → List Spot → Arrays → List ℕ
+    → Outcome (Arrays × Option Marker)
 arrays_at p n vias spots arrays bytes =
     let turns = turns_of vias spots arrays in do
       r ← intervals p 0 (first_group n turns) (other_groups n turns) bytes

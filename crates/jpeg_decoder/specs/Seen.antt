@@ -55,7 +55,8 @@ stage_of progress.Failed = Failed
 -- one component has 8 or 16 bits a sample, three are red, green and blue, and four cyan, magenta,
 -- yellow and black
 abbrev pub format_of : ℕ → ℕ → PixelFormat
-format_of count precision = if count == 3 then RGB24 else (if count == 4 then CMYK32 else (if nat_le precision 8 then L8 else L16))
+format_of count precision = if count == 3 then RGB24 else (if count == 4 then CMYK32
+    else (if nat_le precision 8 then L8 else L16))
 
 -- what is told of a frame: its output size and its format
 abbrev pub info_of : Frame → ImageInfo

@@ -43,7 +43,8 @@ IsSampled size (Some samples) = length samples ≡ size
 -- the frame no scan was read.
 pub record IsSound (found : Found) : Type 0 where
   pub frames : (frame : Frame) → found.frame ≡ Some frame → IsDecodedFrame frame
-  pub held : (frame : Frame) → found.frame ≡ Some frame → AreArrays frame.components (arrays_before found frame)
+  pub held : (frame : Frame) → found.frame ≡ Some frame
+      → AreArrays frame.components (arrays_before found frame)
   pub planes : (frame : Frame) → found.frame ≡ Some frame → ArePlanes frame.components found.planes
   pub samples : (frame : Frame) → found.frame ≡ Some frame
       → AllByRecursion (IsSampled (frame.width * frame.height)) found.samples

@@ -44,7 +44,13 @@ use Rattle.jpeg_segments.specs.declared.parser.CodingProcess.TheVariants.{DctPro
 use Rattle.jpeg_decoder.specs.Seen.{found_in, planes_in}
 
 abbrev pub turn_of : State → Step → Turn
-turn_of s step = record { found = found_in s; before = step.before; met = step.met; ended = step.ended }
+turn_of s step =
+    record {
+      found = found_in s;
+      before = step.before;
+      met = step.met;
+      ended = step.ended;
+    }
 
 -- ---- after a scan
 
@@ -61,10 +67,12 @@ after_all met bytes = after_restarts (suc (length bytes)) met bytes
 
 -- the default tables at the places that a scan names, where a frame of an MJPEG stream was named
 abbrev pub default_dc : Bool → List ℕ → List (Option Table)
-default_dc is_mjpeg places = if is_mjpeg then with_defaults luminance_dc chrominance_dc places (replicate 4 None) else replicate 4 None
+default_dc is_mjpeg places = if is_mjpeg then with_defaults luminance_dc chrominance_dc places
+    (replicate 4 None) else replicate 4 None
 
 abbrev pub default_ac : Bool → List ℕ → List (Option Table)
-default_ac is_mjpeg places = if is_mjpeg then with_defaults luminance_ac chrominance_ac places (replicate 4 None) else replicate 4 None
+default_ac is_mjpeg places = if is_mjpeg then with_defaults luminance_ac chrominance_ac places
+    (replicate 4 None) else replicate 4 None
 
 -- the table at a place, or else the spare one there
 abbrev pub or_spare : Option Table → Option Table → Option Table
@@ -72,7 +80,8 @@ or_spare (Some table) spare = Some table
 or_spare None spare = spare
 
 abbrev pub in_force : List (Option Table) → List (Option Table) → ℕ → Option Table
-in_force tables spare place = or_spare (slice_index_or tables place None) (slice_index_or spare place None)
+in_force tables spare place = or_spare (slice_index_or tables place None)
+    (slice_index_or spare place None)
 
 -- the table where it is needed, and else another
 abbrev pub table_if : Bool → Table → Option Table → Result Table Fault
@@ -81,17 +90,26 @@ table_if false other table = Ok other
 
 -- what a caller sees of a component of a scan
 abbrev pub coding_in : Coded → Coding
-coding_in c = record { place = c.place; component = component_in c.component.now; quantization = c.quantization.now; dc = c.dc.now; ac = c.ac.now }
+coding_in c =
+    record {
+      place = c.place;
+      component = component_in c.component.now;
+      quantization = c.quantization.now;
+      dc = c.dc.now;
+      ac = c.ac.now;
+    }
 
 -- the component in a slot of a scan
 abbrev pub coding_in_slot : Found → Frame → headers.Scan → ℕ → Result Coding Fault
 coding_in_slot found frame scan slot =
-    coding_of found frame (pass_of scan) (tables_of found scan) (get_or scan.components slot 0) (get_or scan.dc_places slot 0) (get_or scan.ac_places slot 0)
+    coding_of found frame (pass_of scan) (tables_of found scan) (get_or scan.components slot 0)
+    (get_or scan.dc_places slot 0) (get_or scan.ac_places slot 0)
 
 -- all of them
 abbrev pub codings_in_force : Found → Frame → headers.Scan → Result (List Coding) Fault
 codings_in_force found frame scan =
-    codings_from found frame (pass_of scan) (tables_of found scan) scan.components scan.dc_places scan.ac_places
+    codings_from found frame (pass_of scan) (tables_of found scan) scan.components scan.dc_places
+    scan.ac_places
 
 -- The spare tables of a scan: the default ones by what was said, and those without codes.
 pub record IsSpareOf (found : Found) (scan : headers.Scan) (spare : Spare) : Type 0 where
@@ -112,7 +130,8 @@ with_decoded found d = record found {
 }
 
 -- Planes with that of a component: where all of these places are finished the first one decides.
-unfoldable pub decided_planes : List Bool → ℕ → List ℕ → List (Option (List ℕ)) → List (Option (List ℕ))
+unfoldable pub decided_planes : List Bool → ℕ → List ℕ → List (Option (List ℕ))
+    → List (Option (List ℕ))
 decided_planes marks place plane planes = elim (list_all (λ mark. mark) marks) [
   | true ↦ slice_set planes place (decided (slice_index_or planes place None) plane)
   | false ↦ planes
@@ -135,7 +154,8 @@ with_its_plane p place plane found = record found {
 
 -- each component of the scan with its plane
 unfoldable pub with_planes : Pass → List Coding → List (List ℕ) → Found → Found
-with_planes p (c ∷ codings) (plane ∷ planes) found = with_planes p codings planes (with_its_plane p c.place plane found)
+with_planes p (c ∷ codings) (plane ∷ planes) found =
+    with_planes p codings planes (with_its_plane p c.place plane found)
 with_planes p _ _ found = found
 
 abbrev pub components_of : List Coding → List Component
@@ -146,11 +166,22 @@ abbrev pub blocks_at : List Coding → Arrays → Arrays
 blocks_at codings held = map (λ c. get_or held c.place []) codings
 
 -- the data of a scan: what is found after it, and the marker after it, if it is met
-unfoldable pub scan_data : Found → Frame → Pass → List Coding → List ℕ → Outcome (Found × Option Marker)
+unfoldable pub scan_data : Found → Frame → Pass → List Coding → List ℕ
+    → Outcome (Found × Option Marker)
 scan_data found frame p codings bytes = do
-  r ← arrays_at p (found.restart * mcu_size (components_of codings)) (vias_from 0 codings) (spots_of frame (components_of codings))
+  r ← arrays_at p (found.restart * mcu_size (components_of codings)) (vias_from 0 codings)
+      (spots_of frame (components_of codings))
       (blocks_at codings (arrays_before found frame)) bytes
-  Ok ((with_arrays p codings r.0.0 (record found { scanned = true; held = held_after found frame codings r.0.0 }), r.0.1), r.1)
+  Ok (
+    (
+      with_arrays p codings r.0.0 (record found {
+        scanned = true;
+        held = held_after found frame codings r.0.0;
+      }),
+      r.0.1,
+    ),
+    r.1,
+  )
 
 -- the place of a component in its frame
 abbrev pub HasPlace : Coded → Type 0
@@ -187,7 +218,8 @@ without_blocks (c ∷ more) held = without_blocks more (set held c.place [])
 -- a plane of a component, cropped to a size as far as the plane goes
 abbrev pub cropped_to : Component → ℕ → ℕ → List ℕ → List ℕ
 cropped_to c width height plane =
-    let stride = c.scale * c.blocks_wide in cropped stride (min width stride) (min height (length plane / stride)) plane
+    let stride = c.scale * c.blocks_wide in
+    cropped stride (min width stride) (min height (length plane / stride)) plane
 
 -- ---- a scan
 
@@ -206,14 +238,16 @@ blocks_read found frame scan bytes = do
   Ok ((r.0.0, met.0), met.1)
 
 -- a lossless scan
-unfoldable pub samples_read : Found → Frame → headers.Scan → List ℕ → Outcome (Found × Option Marker)
+unfoldable pub samples_read : Found → Frame → headers.Scan → List ℕ
+    → Outcome (Found × Option Marker)
 samples_read found frame scan bytes = do
   codings ← lossless_codings found.huffman.dc frame scan.components scan.dc_places
   r ← scan_samples found frame scan codings bytes
   met ← after_all r.0.1 r.1
   Ok ((after_samples found codings r.0.0, met.0), met.1)
 
-abbrev pub read_by : CodingProcess → Found → Frame → headers.Scan → List ℕ → Outcome (Found × Option Marker)
+abbrev pub read_by : CodingProcess → Found → Frame → headers.Scan → List ℕ
+    → Outcome (Found × Option Marker)
 read_by DctSequential found frame scan bytes = blocks_read found frame scan bytes
 read_by DctProgressive found frame scan bytes = blocks_read found frame scan bytes
 read_by Lossless found frame scan bytes = samples_read found (without_factors frame) scan bytes

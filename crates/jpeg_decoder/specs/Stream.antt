@@ -59,7 +59,16 @@ pub record Metadata : Type 0 where
   pub icc : List Chunk
 
 abbrev pub no_metadata : Metadata
-no_metadata = record { jfif = false; avi1 = false; adobe = None; exif = None; xmp = None; psir = None; icc = [] }
+no_metadata =
+    record {
+      jfif = false;
+      avi1 = false;
+      adobe = None;
+      exif = None;
+      xmp = None;
+      psir = None;
+      icc = [];
+    }
 
 -- What the segments and scans so far have said: the frame; the tables in force, by their places;
 -- the restart interval; whether a scan was read; the metadata; and by the components' places in the
@@ -138,9 +147,11 @@ unfoldable pub accepted : Frame → Result Frame Fault
 accepted frame =
     if frame.is_differential then Err (Lacks features.Hierarchical) else (
     if is_arithmetic frame.coding then Err (Lacks features.ArithmeticEntropyCoding) else (
-    if not (is_precision frame.process frame.precision) then Err (Lacks (features.SamplePrecision frame.precision)) else (
+    if not (is_precision frame.process frame.precision)
+    then Err (Lacks (features.SamplePrecision frame.precision)) else (
     if is_count (length frame.components)
-    then sources_of frame.components frame.output_width frame.output_height >>= (λ sources. Ok frame)
+    then sources_of frame.components frame.output_width frame.output_height
+    >>= (λ sources. Ok frame)
     else Err (Lacks (features.ComponentCount (min 255 (length frame.components)))))))
 
 -- A frame, of which there is one.
@@ -198,7 +209,13 @@ is_progressive Lossless = false
 
 -- what a scan codes
 unfoldable pub pass_of : Scan → Pass
-pass_of scan = record { is_first = scan.high == 0; ss = scan.first; se = scan.after - 1; al = scan.low }
+pass_of scan =
+    record {
+      is_first = scan.high == 0;
+      ss = scan.first;
+      se = scan.after - 1;
+      al = scan.low;
+    }
 
 -- The Huffman tables in force for a scan. In a frame of an MJPEG stream the default ones stand in
 -- the unset places that the scan names.
@@ -231,33 +248,47 @@ coding_of found frame p tables place dc_place ac_place = do
   quantization ← needed (slice_index_or found.quantization component.factors.quantization None)
   dc ← needed_if (p.ss == 0) classes.DC (slice_index_or tables.dc dc_place None)
   ac ← needed_if (nat_lt 0 p.se) classes.AC (slice_index_or tables.ac ac_place None)
-  Ok (record { place = place; component = component; quantization = quantization; dc = dc; ac = ac })
+  Ok (record {
+    place = place;
+    component = component;
+    quantization = quantization;
+    dc = dc;
+    ac = ac;
+  })
 
 -- those at some places, with the places of their tables
-unfoldable pub codings_from : Found → Frame → Pass → Tables → List ℕ → List ℕ → List ℕ → Result (List Coding) Fault
+unfoldable pub codings_from : Found → Frame → Pass → Tables → List ℕ → List ℕ → List ℕ
+    → Result (List Coding) Fault
 codings_from found frame p tables (place ∷ places) (d ∷ dc_places) (a ∷ ac_places) =
-    coding_of found frame p tables place d a >>= (λ c. codings_from found frame p tables places dc_places ac_places >>= (λ others. Ok (c ∷ others)))
+    coding_of found frame p tables place d a
+    >>= (λ c. codings_from found frame p tables places dc_places ac_places
+    >>= (λ others. Ok (c ∷ others)))
 codings_from found frame p tables _ _ _ = Ok []
 
 unfoldable pub codings_of : Found → Frame → Scan → Result (List Coding) Fault
 codings_of found frame scan =
-    codings_from found frame (pass_of scan) (tables_of found scan) scan.components scan.dc_places scan.ac_places
+    codings_from found frame (pass_of scan) (tables_of found scan) scan.components scan.dc_places
+    scan.ac_places
 
 -- how the blocks of each component of a scan are coded, from a slot on
 unfoldable pub vias_from : ℕ → List Coding → List Via
 vias_from slot [] = []
-vias_from slot (c ∷ more) = record { component = slot; dc = c.dc; ac = c.ac } ∷ vias_from (slot + 1) more
+vias_from slot (c ∷ more) = record { component = slot; dc = c.dc; ac = c.ac } ∷ vias_from (slot + 1)
+    more
 
 -- The blocks of a frame's components before a scan: in a progressive frame those held, and in a
 -- sequential one zeros.
 unfoldable pub arrays_before : Found → Frame → Arrays
-arrays_before found frame = if is_progressive frame.process && found.scanned then found.held else zero_arrays frame.components
+arrays_before found frame = if is_progressive frame.process && found.scanned then found.held
+    else zero_arrays frame.components
 
 -- The blocks of the scan's components after it, and the marker after it, if it is met.
-unfoldable pub scan_arrays : Found → Frame → Scan → List Coding → List ℕ → Outcome (Arrays × Option Marker)
+unfoldable pub scan_arrays : Found → Frame → Scan → List Coding → List ℕ
+    → Outcome (Arrays × Option Marker)
 scan_arrays found frame scan codings bytes =
     let components = map (λ c. c.component) codings in
-    arrays_at (pass_of scan) (found.restart * mcu_size components) (vias_from 0 codings) (spots_of frame components)
+    arrays_at (pass_of scan) (found.restart * mcu_size components) (vias_from 0 codings)
+    (spots_of frame components)
     (map (λ c. get_or (arrays_before found frame) c.place []) codings) bytes
 
 -- ---- after a scan
@@ -266,11 +297,13 @@ scan_arrays found frame scan codings bytes =
 -- MCUs in raster order.
 unfoldable pub plane_by : Component → List ℕ → List Block → List ℕ
 plane_by c quantization blocks =
-    plane_of c.scale (values_in_block_order quantization) c.blocks_wide c.blocks_high (in_raster c.blocks_wide blocks)
+    plane_of c.scale (values_in_block_order quantization) c.blocks_wide c.blocks_high
+    (in_raster c.blocks_wide blocks)
 
 -- A pass at level 0 finishes its places.
 unfoldable pub finished_by : Pass → List Bool → List Bool
-finished_by p marks = if p.al == 0 then take p.ss marks ++ (replicate (suc p.se - p.ss) true ++ drop (suc p.se) marks) else marks
+finished_by p marks = if p.al == 0
+    then take p.ss marks ++ (replicate (suc p.se - p.ss) true ++ drop (suc p.se) marks) else marks
 
 -- The first plane stays.
 abbrev pub decided : Option (List ℕ) → List ℕ → Option (List ℕ)
@@ -279,39 +312,51 @@ decided (Some first) plane = Some first
 
 -- A component of the scan whose places are all finished now: its plane is decided, by the
 -- quantization table in force.
-unfoldable pub with_plane : Coding → List Block → List Bool → List (Option (List ℕ)) → List (Option (List ℕ))
+unfoldable pub with_plane : Coding → List Block → List Bool → List (Option (List ℕ))
+    → List (Option (List ℕ))
 with_plane c blocks marks planes =
     elim (list_all (λ mark. mark) marks) [
-      | true ↦ slice_set planes c.place (decided (slice_index_or planes c.place None) (plane_by c.component c.quantization blocks))
+      | true ↦ slice_set planes c.place (decided (slice_index_or planes c.place None)
+          (plane_by c.component c.quantization blocks))
       | false ↦ planes
     ]
 
 unfoldable pub with_blocks : Pass → Coding → List Block → Found → Found
 with_blocks p c blocks found =
     let marks = finished_by p (slice_index_or found.finished c.place none_finished) in
-    record found { finished = slice_set found.finished c.place marks; planes = with_plane c blocks marks found.planes }
+    record found {
+      finished = slice_set found.finished c.place marks;
+      planes = with_plane c blocks marks found.planes;
+    }
 
 -- with each component of the scan
 unfoldable pub with_arrays : Pass → List Coding → Arrays → Found → Found
-with_arrays p (c ∷ codings) (blocks ∷ arrays) found = with_arrays p codings arrays (with_blocks p c blocks found)
+with_arrays p (c ∷ codings) (blocks ∷ arrays) found =
+    with_arrays p codings arrays (with_blocks p c blocks found)
 with_arrays p _ _ found = found
 
 -- the blocks of a scan's components in place of those of the frame
 unfoldable pub put_arrays : List Coding → Arrays → Arrays → Arrays
-put_arrays (c ∷ codings) (blocks ∷ arrays) held = put_arrays codings arrays (set held c.place blocks)
+put_arrays (c ∷ codings) (blocks ∷ arrays) held =
+    put_arrays codings arrays (set held c.place blocks)
 put_arrays _ _ held = held
 
 abbrev pub held_after : Found → Frame → List Coding → Arrays → Arrays
-held_after found frame codings arrays = if is_progressive frame.process then put_arrays codings arrays (arrays_before found frame) else []
+held_after found frame codings arrays = if is_progressive frame.process
+    then put_arrays codings arrays (arrays_before found frame) else []
 
 unfoldable pub after_scan : Found → Frame → Scan → List Coding → Arrays → Found
 after_scan found frame scan codings arrays =
-    with_arrays (pass_of scan) codings arrays (record found { scanned = true; held = held_after found frame codings arrays })
+    with_arrays (pass_of scan) codings arrays (record found {
+      scanned = true;
+      held = held_after found frame codings arrays;
+    })
 
 -- The marker after a scan, where restart markers at its end are passed over, fewer than this many.
 unfoldable pub after_restarts : ℕ → Option Marker → List ℕ → Outcome (Option Marker)
 after_restarts zero met bytes = Err End
-after_restarts (suc turns) (Some (RST n)) bytes = next_marker bytes >>= (λ m. after_restarts turns (Some m.0) m.1)
+after_restarts (suc turns) (Some (RST n)) bytes =
+    next_marker bytes >>= (λ m. after_restarts turns (Some m.0) m.1)
 after_restarts (suc turns) met bytes = Ok (met, bytes)
 
 abbrev pub scan_before : Found → Before
@@ -323,17 +368,31 @@ blocks_scan found frame scan bytes = do
   codings ← codings_of found frame scan
   read ← scan_arrays found frame scan codings bytes
   met ← after_restarts (suc (length read.1)) read.0.1 read.1
-  Ok (record { found = after_scan found frame scan codings read.0.0; before = scan_before found; met = met.0; ended = false }, met.1)
+  Ok (
+    record {
+      found = after_scan found frame scan codings read.0.0;
+      before = scan_before found;
+      met = met.0;
+      ended = false;
+    },
+    met.1,
+  )
 
 -- The samples of a lossless scan, and the marker after it, if it is met.
-abbrev pub scan_samples : Found → Frame → Scan → List LosslessCoding → List ℕ → Outcome (List (List ℕ) × Option Marker)
+abbrev pub scan_samples : Found → Frame → Scan → List LosslessCoding → List ℕ
+    → Outcome (List (List ℕ) × Option Marker)
 scan_samples found frame scan codings bytes =
-    scan_at (way_of frame scan.predictor scan.point_transform codings) (mcus_down frame codings) found.restart scan.point_transform bytes
+    scan_at (way_of frame scan.predictor scan.point_transform codings) (mcus_down frame codings)
+    found.restart scan.point_transform bytes
 
 -- The last scan of a component decides its samples.
 abbrev pub after_samples : Found → List LosslessCoding → List (List ℕ) → Found
 after_samples found codings planes =
-    record found { scanned = true; samples = with_samples (map (λ k. k.place) codings) planes found.samples }
+    record found {
+      scanned = true;
+      samples = with_samples (map (λ k. k.place) codings) planes
+          found.samples;
+    }
 
 -- A lossless scan. It has no quantization tables, and no default tables.
 unfoldable pub lossless_scan : Found → Frame → Scan → List ℕ → Outcome Turn
@@ -341,7 +400,15 @@ lossless_scan found frame scan bytes = do
   codings ← lossless_codings found.huffman.dc frame scan.components scan.dc_places
   read ← scan_samples found frame scan codings bytes
   met ← after_restarts (suc (length read.1)) read.0.1 read.1
-  Ok (record { found = after_samples found codings read.0.0; before = scan_before found; met = met.0; ended = false }, met.1)
+  Ok (
+    record {
+      found = after_samples found codings read.0.0;
+      before = scan_before found;
+      met = met.0;
+      ended = false;
+    },
+    met.1,
+  )
 
 abbrev pub scan_by : CodingProcess → Found → Frame → Scan → List ℕ → Outcome Turn
 scan_by DctSequential found frame scan bytes = blocks_scan found frame scan bytes
@@ -359,7 +426,15 @@ scan_segment found bytes = do
 -- the end of the image, which needs a frame
 unfoldable pub end_segment : Found → List ℕ → Outcome Turn
 end_segment found bytes =
-    if is_some found.frame then Ok (record { found = found; before = Elsewhere; met = None; ended = true }, bytes) else Err Malformed
+    if is_some found.frame then Ok (
+      record {
+        found = found;
+        before = Elsewhere;
+        met = None;
+        ended = true;
+      },
+      bytes,
+    ) else Err Malformed
 
 -- A restart marker after a scan is ignored, once.
 abbrev pub stray_restart : Before → Found → List ℕ → Outcome Turn
@@ -407,10 +482,12 @@ segments_within zero header before found met bytes = Err End
 segments_within (suc turns) header before found met bytes =
     if header && is_some found.frame then Ok (found, bytes) else
     turn_at before found met bytes >>= (λ t.
-    if t.0.ended then Ok (t.0.found, t.1) else segments_within turns header t.0.before t.0.found t.0.met t.1)
+    if t.0.ended then Ok (t.0.found, t.1) else segments_within turns header t.0.before t.0.found
+    t.0.met t.1)
 
 unfoldable pub segments_at : Bool → Before → Found → Option Marker → List ℕ → Outcome Found
-segments_at header before found met bytes = segments_within (suc (length bytes)) header before found met bytes
+segments_at header before found met bytes =
+    segments_within (suc (length bytes)) header before found met bytes
 
 -- what they have said by the end, the frame or the refusal
 unfoldable pub told_within : ℕ → Bool → Before → Found → Option Marker → List ℕ → Found
@@ -419,11 +496,13 @@ told_within (suc turns) header before found met bytes =
     if header && is_some found.frame then found else
     elim (turn_at before found met bytes) [
       | Err fault ↦ found
-      | Ok t ↦ if t.0.ended then t.0.found else told_within turns header t.0.before t.0.found t.0.met t.1
+      | Ok t ↦ if t.0.ended then t.0.found else told_within turns header t.0.before t.0.found
+          t.0.met t.1
     ]
 
 unfoldable pub told_at : Bool → Before → Found → Option Marker → List ℕ → Found
-told_at header before found met bytes = told_within (suc (length bytes)) header before found met bytes
+told_at header before found met bytes =
+    told_within (suc (length bytes)) header before found met bytes
 
 -- A stream begins with FF D8.
 unfoldable pub start_at : List ℕ → Outcome (Unit {0})
@@ -448,7 +527,8 @@ plane_at_end found frame place c =
     elim (slice_index_or found.planes place None) [
       | Some plane ↦ Ok plane
       | None ↦ elim (is_progressive frame.process && found.scanned) [
-        | true ↦ needed (slice_index_or found.quantization c.factors.quantization None) >>= (λ quantization.
+        | true ↦ needed (slice_index_or found.quantization c.factors.quantization None)
+            >>= (λ quantization.
             Ok (plane_by c quantization (get_or found.held place [])))
         | false ↦ Err Malformed
       ]
@@ -458,18 +538,24 @@ plane_at_end found frame place c =
 unfoldable pub planes_from : Found → Frame → ℕ → List Component → Result (List (List ℕ)) Fault
 planes_from found frame place [] = Ok []
 planes_from found frame place (c ∷ more) =
-    plane_at_end found frame place c >>= (λ plane. planes_from found frame (place + 1) more >>= (λ others. Ok (plane ∷ others)))
+    plane_at_end found frame place c >>= (λ plane. planes_from found frame (place + 1) more
+    >>= (λ others. Ok (plane ∷ others)))
 
 -- The picture of one component: its plane, cropped to the picture as far as the plane goes.
 abbrev pub picture_in : Frame → Component → List ℕ → List ℕ
 picture_in frame c plane =
-    let stride = c.scale * c.blocks_wide in cropped stride (min frame.output_width stride) (min frame.output_height (length plane / stride)) plane
+    let stride = c.scale * c.blocks_wide in
+    cropped stride (min frame.output_width stride)
+    (min frame.output_height (length plane / stride)) plane
 
 -- The picture of planes: of one its samples, and of several their colours.
-unfoldable pub picture_by : Settings → Metadata → Frame → List Component → List (List ℕ) → Result (List ℕ) Fault
-picture_by settings m frame (c ∷ []) planes = needed (first_of planes) >>= (λ plane. Ok (picture_in frame c plane))
+unfoldable pub picture_by : Settings → Metadata → Frame → List Component → List (List ℕ)
+    → Result (List ℕ) Fault
+picture_by settings m frame (c ∷ []) planes =
+    needed (first_of planes) >>= (λ plane. Ok (picture_in frame c plane))
 picture_by settings m frame components planes =
-    image_of components planes frame.output_width frame.output_height (transform_of settings.color_transform (identifiers_of components) m.jfif m.adobe)
+    image_of components planes frame.output_width frame.output_height
+    (transform_of settings.color_transform (identifiers_of components) m.jfif m.adobe)
 
 -- The picture of a frame of blocks.
 unfoldable pub blocks_picture : Settings → Found → Frame → Result (List ℕ) Fault
@@ -492,7 +578,8 @@ picture_by_process Lossless settings found frame = samples_picture found (withou
 unfoldable pub picture_of : Settings → Found → Result (List ℕ) Fault
 picture_of settings found = do
   frame ← needed found.frame
-  if nat_lt settings.limit (length frame.components * (frame.output_width * frame.output_height)) then Err Malformed else
+  if nat_lt settings.limit (length frame.components * (frame.output_width * frame.output_height))
+      then Err Malformed else
       picture_by_process frame.process settings found frame
 
 -- What a decoder tells: the frame, and the metadata.
@@ -538,17 +625,26 @@ told_rest header found bytes = told_of (told_at header Elsewhere found None byte
 
 -- what a stream tells by the end of its header, or its own, or by the refusal
 unfoldable pub told_by_stream : Bool → List ℕ → Told
-told_by_stream header bytes = elim (start_at bytes) [ Err fault ↦ told_of nothing_found | Ok start ↦ told_rest header nothing_found start.1 ]
+told_by_stream header bytes =
+    elim (start_at bytes) [
+      | Err fault ↦ told_of nothing_found
+      | Ok start ↦ told_rest header nothing_found start.1
+    ]
 
 -- ---- what some turns have said, the first and those after it
 
 -- the first turns of a header, or of the rest of a stream
 abbrev pub told_in_turns : ℕ → Bool → Found → List ℕ → Told
-told_in_turns turns header found bytes = told_of (told_within turns header Elsewhere found None bytes)
+told_in_turns turns header found bytes =
+    told_of (told_within turns header Elsewhere found None bytes)
 
 -- the first turns of a stream
 unfoldable pub told_by_turns : ℕ → Bool → List ℕ → Told
-told_by_turns turns header bytes = elim (start_at bytes) [ Err fault ↦ told_of nothing_found | Ok start ↦ told_in_turns turns header nothing_found start.1 ]
+told_by_turns turns header bytes =
+    elim (start_at bytes) [
+      | Err fault ↦ told_of nothing_found
+      | Ok start ↦ told_in_turns turns header nothing_found start.1
+    ]
 
 -- what is found is what some first turns have said, where `said` tells what this many have
 unfoldable pub IsOfTurns : {A : Type 0} → (ℕ → A) → A → Type 0

@@ -253,7 +253,8 @@ impl Decoded {
         ensures held { self.new.held ≡ self.old.held }
         ensures samples { self.new.samples ≡ self.old.samples }
         ensures plane { (base : Found) →
-            with_decoded base self.new ≡ with_its_plane (pass_in pass) place plane.items (with_decoded base self.old) }
+            with_decoded base self.new ≡ with_its_plane (pass_in pass) place plane.items
+            (with_decoded base self.old) }
     {
         if self.is_wanted(pass, place) {
             self.planes[place] = Some(plane);
@@ -278,7 +279,9 @@ impl Decoded {
         ensures samples { OnOk result (self.new.samples ≡ self.old.samples) }
         ensures plane { OnOk result ((base : Found) →
             with_decoded base self.new
-            ≡ with_its_plane (pass_in pass) coded.now.place (plane_by (component_in coded.now.component.now) coded.now.quantization.now (map to_block blocks.now)) (with_decoded base self.old)) }
+            ≡ with_its_plane (pass_in pass) coded.now.place
+            (plane_by (component_in coded.now.component.now) coded.now.quantization.now
+            (map to_block blocks.now)) (with_decoded base self.old)) }
     {
         if self.is_wanted(pass, coded.place) {
             let plane = render(alloc, coded.component, coded.quantization, blocks)?;
@@ -295,7 +298,8 @@ impl Decoded {
         ensures held { self.new.held ≡ self.old.held }
         ensures samples { self.new.samples ≡ self.old.samples }
         ensures planes { (base : Found) → with_decoded base self.new
-            ≡ with_planes (pass_in scan.now.pass) (map coding_in scan.now.components.items) (map (λ v. v.items) planes.old.items) (with_decoded base self.old) }
+            ≡ with_planes (pass_in scan.now.pass) (map coding_in scan.now.components.items)
+            (map (λ v. v.items) planes.old.items) (with_decoded base self.old) }
     {
         let mut slot = 0;
         while slot < scan.components.len() {
@@ -320,7 +324,8 @@ impl Decoded {
         ensures held { OnOk result (self.new.held ≡ self.old.held) }
         ensures samples { OnOk result (self.new.samples ≡ self.old.samples) }
         ensures planes { OnOk result ((base : Found) → with_decoded base self.new
-            ≡ with_arrays (pass_in scan.now.pass) (map coding_in scan.now.components.items) (arrays_in arrays.now.items) (with_decoded base self.old)) }
+            ≡ with_arrays (pass_in scan.now.pass) (map coding_in scan.now.components.items)
+            (arrays_in arrays.now.items) (with_decoded base self.old)) }
     {
         let mut slot = 0;
         while slot < scan.components.len() {
@@ -366,8 +371,10 @@ impl Decoded {
         requires ready { IsReadable (frame_in frame.now) (found_in state.now) scan.now }
         requires held { AreArrays (frame_in frame.now).components
             (arrays_before (with_decoded (found_in state.now) self.old) (frame_in frame.now)) }
-        ensures data { Answers (λ m. (record (with_decoded (found_in state.now) self.new) { scanned = true }, m))
-            (scan_data (with_decoded (found_in state.now) self.old) (frame_in frame.now) (pass_in scan.now.pass) (map coding_in scan.now.components.items))
+        ensures data { Answers (λ m.
+            (record (with_decoded (found_in state.now) self.new) { scanned = true }, m))
+            (scan_data (with_decoded (found_in state.now) self.old) (frame_in frame.now)
+            (pass_in scan.now.pass) (map coding_in scan.now.components.items))
             source.old result source.new }
         ensures held { OnOk result (AreArrays (frame_in frame.now).components
             (arrays_in self.new.held.items)) }
@@ -394,8 +401,10 @@ impl Decoded {
     ) -> Result<Option<Marker>>
         requires process { is_progressive (frame_in frame.now).process ≡ false }
         requires ready { IsReadable (frame_in frame.now) (found_in state.now) scan.now }
-        ensures data { Answers (λ m. (record (with_decoded (found_in state.now) self.new) { scanned = true }, m))
-            (scan_data (with_decoded (found_in state.now) self.old) (frame_in frame.now) (pass_in scan.now.pass) (map coding_in scan.now.components.items))
+        ensures data { Answers (λ m.
+            (record (with_decoded (found_in state.now) self.new) { scanned = true }, m))
+            (scan_data (with_decoded (found_in state.now) self.old) (frame_in frame.now)
+            (pass_in scan.now.pass) (map coding_in scan.now.components.items))
             source.old result source.new }
         ensures planes { ArePlanes (frame_in frame.now).components (planes_in self.old.planes)
             → OnOk result (ArePlanes (frame_in frame.now).components (planes_in self.new.planes)) }
@@ -419,8 +428,10 @@ impl Decoded {
         requires ready { IsReadable (frame_in frame.now) (found_in state.now) scan.now }
         requires held { AreArrays (frame_in frame.now).components
             (arrays_before (with_decoded (found_in state.now) self.old) (frame_in frame.now)) }
-        ensures data { Answers (λ m. (record (with_decoded (found_in state.now) self.new) { scanned = true }, m))
-            (scan_data (with_decoded (found_in state.now) self.old) (frame_in frame.now) (pass_in scan.now.pass) (map coding_in scan.now.components.items))
+        ensures data { Answers (λ m.
+            (record (with_decoded (found_in state.now) self.new) { scanned = true }, m))
+            (scan_data (with_decoded (found_in state.now) self.old) (frame_in frame.now)
+            (pass_in scan.now.pass) (map coding_in scan.now.components.items))
             source.old result source.new }
         ensures held { OnOk result (AreArrays (frame_in frame.now).components
             (arrays_before (record (with_decoded (found_in state.now) self.new) { scanned = true })

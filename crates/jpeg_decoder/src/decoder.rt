@@ -190,7 +190,8 @@ impl<R: Read + Drop> Model for Decoder<R> {
     ghost invariant = { λ d. (stage_of d.progress ≡ Fresh → found_in d.state ≡ nothing_found)
         × (HasHeader (stage_of d.progress) → is_some (found_in d.state).frame ≡ true)
         × (HasHeader (stage_of d.progress) → HasDecodedFrame (found_in d.state))
-        × (stage_of d.progress ≡ HeaderRead → IsSound (found_in d.state) × IsUnread (found_in d.state)) };
+        × (stage_of d.progress ≡ HeaderRead → IsSound (found_in d.state)
+        × IsUnread (found_in d.state)) };
 }
 
 impl<R: Read + Drop> Decoder<R> {

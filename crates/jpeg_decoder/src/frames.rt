@@ -38,8 +38,10 @@ fn check_ratios(alloc: Global, frame: &FrameInfo) -> Result<()>
     requires most { length frame.now.components.items ≤ 4 }
     requires factors { AllHaveSampling (map component_in frame.now.components.items) }
     ensures { MatchResult result
-        (λ _. IsOk (sources_of (frame_in frame.now).components (frame_in frame.now).output_width (frame_in frame.now).output_height))
-        (λ e. IsRefusal e × Names e (sources_of (frame_in frame.now).components (frame_in frame.now).output_width (frame_in frame.now).output_height)) }
+        (λ _. IsOk (sources_of (frame_in frame.now).components (frame_in frame.now).output_width
+        (frame_in frame.now).output_height))
+        (λ e. IsRefusal e × Names e (sources_of (frame_in frame.now).components
+        (frame_in frame.now).output_width (frame_in frame.now).output_height)) }
 {
     let size = frame.output_size;
     Upsampler::new(alloc, &frame.components, size.width, size.height)?;

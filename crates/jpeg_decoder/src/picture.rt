@@ -105,8 +105,10 @@ fn plane_at_end(
     requires scale { IsScale component.now.dct_scale }
     requires plane { IsPlaneOf (component_in component.now) (option_map (λ v. v.items) plane) }
     requires blocks { AreBlocksOf (component_in component.now) (option_map blocks_in held) }
-    ensures plane { let table = slice_index_or state.now.quantization component.now.quantization_table_index None in
-        let expected = plane_or (component_in component.now) table (option_map (λ v. v.items) plane) (option_map blocks_in held) in
+    ensures plane { let table = slice_index_or state.now.quantization
+        component.now.quantization_table_index None in
+        let expected = plane_or (component_in component.now) table (option_map (λ v. v.items) plane)
+        (option_map blocks_in held) in
         MatchResult result (λ v. expected ≡ Ok v.items) (λ e. IsRefusal e × Names e expected) }
     ensures whole { IfOk result (λ v. IsPlaneOf (component_in component.now) (Some v.items)) }
 {
@@ -129,8 +131,10 @@ fn planes_at_end(
 ) -> Result<Vec<Vec<u8>>>
     requires sound { IsSound (with_decoded (found_in state.now) decoded.old) }
     requires frame { (found_in state.now).frame ≡ Some (frame_in frame.now) }
-    ensures planes { let expected = planes_from (with_decoded (found_in state.now) decoded.old) (frame_in frame.now) 0 (frame_in frame.now).components in
-        MatchResult result (λ v. expected ≡ Ok (map (λ p. p.items) v.items)) (λ e. IsRefusal e × Names e expected) }
+    ensures planes { let expected = planes_from (with_decoded (found_in state.now) decoded.old)
+        (frame_in frame.now) 0 (frame_in frame.now).components in
+        MatchResult result (λ v. expected ≡ Ok (map (λ p. p.items) v.items)) (λ e. IsRefusal e
+        × Names e expected) }
     ensures whole { IfOk result (λ v. AreWhole (frame_in frame.now).components
         (map (λ p. p.items) v.items)) }
     ensures count { IfOk result (λ v. length v.items ≡ length (frame_in frame.now).components) }
@@ -169,7 +173,8 @@ fn picture_by(
     requires frame { IsDecodedFrame (frame_in frame.now) }
     requires planes { AreWhole (frame_in frame.now).components (map (λ p. p.items) planes.items) }
     requires count { length planes.items ≡ length (frame_in frame.now).components }
-    ensures { let expected = picture_by settings (metadata_in state.now.metadata) (frame_in frame.now) (frame_in frame.now).components (map (λ p. p.items) planes.items) in
+    ensures { let expected = picture_by settings (metadata_in state.now.metadata)
+        (frame_in frame.now) (frame_in frame.now).components (map (λ p. p.items) planes.items) in
         MatchResult result (λ v. expected ≡ Ok v.items) (λ e. IsRefusal e × Names e expected) }
 {
     let components = frame.components.as_slice();
@@ -200,7 +205,8 @@ fn blocks_picture(
 ) -> Result<Vec<u8>>
     requires sound { IsSound (with_decoded (found_in state.now) decoded.old) }
     requires frame { (found_in state.now).frame ≡ Some (frame_in frame.now) }
-    ensures { let expected = blocks_picture settings (with_decoded (found_in state.now) decoded.old) (frame_in frame.now) in
+    ensures { let expected = blocks_picture settings (with_decoded (found_in state.now) decoded.old)
+        (frame_in frame.now) in
         MatchResult result (λ v. expected ≡ Ok v.items) (λ e. IsRefusal e × Names e expected) }
 {
     let planes = planes_at_end(alloc, state, frame, decoded)?;
@@ -210,8 +216,10 @@ fn blocks_picture(
 /// The samples of a lossless frame's components, which are taken.
 fn samples_at_end(alloc: Global, frame: &FrameInfo, decoded: &mut Decoded) -> Result<Vec<Vec<u16>>>
     requires count { length (frame_in frame.now).components ≤ 4 }
-    ensures planes { let expected = samples_from (planes_in decoded.old.samples) 0 (frame_in frame.now).components in
-        MatchResult result (λ v. expected ≡ Ok (map (λ p. p.items) v.items)) (λ e. IsRefusal e × Names e expected) }
+    ensures planes { let expected = samples_from (planes_in decoded.old.samples) 0
+        (frame_in frame.now).components in
+        MatchResult result (λ v. expected ≡ Ok (map (λ p. p.items) v.items)) (λ e. IsRefusal e
+        × Names e expected) }
     ensures count { IfOk result (λ v. length v.items ≡ length (frame_in frame.now).components) }
 {
     let mut planes = Vec::with_capacity(alloc, frame.components.len())?;
@@ -232,7 +240,8 @@ fn samples_picture(
 ) -> Result<Vec<u8>>
     requires sound { IsSound (with_decoded (found_in state.now) decoded.old) }
     requires frame { (found_in state.now).frame ≡ Some (frame_in frame.now) }
-    ensures { let expected = samples_picture (with_decoded (found_in state.now) decoded.old) (without_factors (frame_in frame.now)) in
+    ensures { let expected = samples_picture (with_decoded (found_in state.now) decoded.old)
+        (without_factors (frame_in frame.now)) in
         MatchResult result (λ v. expected ≡ Ok v.items) (λ e. IsRefusal e × Names e expected) }
 {
     let planes = samples_at_end(alloc, frame, decoded)?;

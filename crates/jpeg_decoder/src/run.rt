@@ -115,15 +115,18 @@ pub fn run<R: Read + Drop, W: Write>(alloc: Global, reader: R, writer: &mut W) -
 
     // What an Ok wrote is the line and the pixels.
     ensures ok { (bytes : List ℕ) → Tells (R.remaining reader) bytes
-        → OnOk result (IsSomeAnd (output_of bytes) (Appends (W.contents writer.old) (W.contents writer.new))) }
+        → OnOk result (IsSomeAnd (output_of bytes) (Appends (W.contents writer.old)
+        (W.contents writer.new))) }
 
     // A stream without a meaning is refused, and nothing is written.
     ensures none { (bytes : List ℕ) → Tells (R.remaining reader) bytes
-        → output_of bytes ≡ None → IsErr result × Keeps (W.contents writer.old) (W.contents writer.new) }
+        → output_of bytes ≡ None → IsErr result
+        × Keeps (W.contents writer.old) (W.contents writer.new) }
 
     // What the writer took is a beginning of the line and the pixels.
     ensures beginning { (bytes : List ℕ) → Tells (R.remaining reader) bytes
-        → (text : List ℕ) → output_of bytes ≡ Some text → TakesBeginning (W.contents writer.old) (W.contents writer.new) text }
+        → (text : List ℕ) → output_of bytes ≡ Some text
+        → TakesBeginning (W.contents writer.old) (W.contents writer.new) text }
 
     // A stream with a meaning is refused by the reader, the writer or memory alone.
     ensures refused { (bytes : List ℕ) → Tells (R.remaining reader) bytes

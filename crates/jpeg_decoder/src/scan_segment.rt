@@ -51,8 +51,10 @@ fn read_blocks_scan<R: Read + Drop>(
     requires frame { (found_in state.now).frame ≡ Some (frame_in frame.now) }
     requires process { IsDct (frame_in frame.now).process }
     requires legal { IsScanOf (frame_in frame.now) (scan_in header.now) }
-    ensures reads { Answers (λ m. (record (with_decoded (found_in state.now) decoded.new) { scanned = true }, m))
-        (blocks_read (with_decoded (found_in state.now) decoded.old) (frame_in frame.now) (scan_in header.now))
+    ensures reads { Answers (λ m.
+        (record (with_decoded (found_in state.now) decoded.new) { scanned = true }, m))
+        (blocks_read (with_decoded (found_in state.now) decoded.old) (frame_in frame.now)
+        (scan_in header.now))
         source.old result source.new }
     ensures sound { OnOk result (IsSound (record (with_decoded (found_in state.now) decoded.new)
         { scanned = true })) }
@@ -77,7 +79,8 @@ pub fn read_scan<R: Read + Drop>(
     decoded: &mut Decoded,
 ) -> Result<Option<Marker>>
     requires sound { IsSound (with_decoded (found_in state.now) decoded.old) }
-    ensures reads { Answers (λ m. (record (with_decoded (found_in state.now) decoded.new) { scanned = true }, m))
+    ensures reads { Answers (λ m.
+        (record (with_decoded (found_in state.now) decoded.new) { scanned = true }, m))
         (scan_read (with_decoded (found_in state.now) decoded.old)) source.old result source.new }
     ensures sound { OnOk result (IsSound (record (with_decoded (found_in state.now) decoded.new)
         { scanned = true })) }

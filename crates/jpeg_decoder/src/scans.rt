@@ -106,7 +106,8 @@ fn read_turn<R: Read + Drop>(
         (turn_from (scan_pass scan.now) (scan_vias scan.now)
         (record { slot = spot.slot; index = spot.index })
         (reached interval.old (arrays_in arrays.old.items)))
-        interval.old.decoder source.old (outcome_of result interval.new.refusal) interval.new.decoder source.new }
+        interval.old.decoder source.old (outcome_of result interval.new.refusal)
+        interval.new.decoder source.new }
     ensures held { result ≡ false → is_some interval.new.refusal ≡ true }
 {
     let coded = &scan.components[spot.slot];
@@ -149,7 +150,8 @@ fn read_line<R: Read + Drop>(
     ensures turns { Takes (λ _. reached interval.new (arrays_in arrays.new.items))
         (turns_from (scan_pass scan.now) (scan_vias scan.now) (line_of start.slot start.index count)
         (reached interval.old (arrays_in arrays.old.items)))
-        interval.old.decoder source.old (outcome_of result interval.new.refusal) interval.new.decoder source.new }
+        interval.old.decoder source.old (outcome_of result interval.new.refusal)
+        interval.new.decoder source.new }
     ensures held { result ≡ false → is_some interval.new.refusal ≡ true }
 {
     let mut spot = start;
@@ -189,7 +191,8 @@ fn read_part<R: Read + Drop>(
         (turns_from (scan_pass scan.now) (scan_vias scan.now)
         (part_in start.slot start.index coded.now)
         (reached interval.old (arrays_in arrays.old.items)))
-        interval.old.decoder source.old (outcome_of result interval.new.refusal) interval.new.decoder source.new }
+        interval.old.decoder source.old (outcome_of result interval.new.refusal)
+        interval.new.decoder source.new }
     ensures held { result ≡ false → is_some interval.new.refusal ≡ true }
 {
     let component = coded.component;
@@ -211,7 +214,8 @@ fn read_part<R: Read + Drop>(
 fn begin<R: Read + Drop>(interval: &mut Interval, source: &mut Source<R>, n: u16) -> bool
     ensures begun { (arrays : Arrays) → Takes (λ _. counted interval.new arrays)
         (begun_from n (counted interval.old arrays))
-        interval.old.decoder source.old (outcome_of result interval.new.refusal) interval.new.decoder source.new }
+        interval.old.decoder source.old (outcome_of result interval.new.refusal)
+        interval.new.decoder source.new }
     ensures held { result ≡ false → is_some interval.new.refusal ≡ true }
 {
     if n == 0 {
@@ -278,7 +282,8 @@ fn read_parts<R: Read + Drop>(
         (turns_from (scan_pass scan.now) (scan_vias scan.now)
         (mcu_in (scan_components scan.now) row column)
         (reached interval.old (arrays_in arrays.old.items)))
-        interval.old.decoder source.old (outcome_of result interval.new.refusal) interval.new.decoder source.new }
+        interval.old.decoder source.old (outcome_of result interval.new.refusal)
+        interval.new.decoder source.new }
     ensures held { result ≡ false → is_some interval.new.refusal ≡ true }
 {
     let mut slot = 0;
@@ -314,7 +319,8 @@ fn read_mcu<R: Read + Drop>(
         (mcu_from (scan_pass scan.now) (scan_vias scan.now) scan.now.restart_interval
         (mcu_spots row column 0 (scan_components scan.now))
         (counted interval.old (arrays_in arrays.old.items)))
-        interval.old.decoder source.old (outcome_of result interval.new.refusal) interval.new.decoder source.new }
+        interval.old.decoder source.old (outcome_of result interval.new.refusal)
+        interval.new.decoder source.new }
     ensures held { result ≡ false → is_some interval.new.refusal ≡ true }
 {
     if !begin(interval, source, scan.restart_interval) {
@@ -439,7 +445,8 @@ fn read_own_mcu<R: Read + Drop>(
         (mcu_from (scan_pass scan.now) (scan_vias scan.now) scan.now.restart_interval
         (record { slot = 0; index = index } ∷ [])
         (counted interval.old (arrays_in arrays.old.items)))
-        interval.old.decoder source.old (outcome_of result interval.new.refusal) interval.new.decoder source.new }
+        interval.old.decoder source.old (outcome_of result interval.new.refusal)
+        interval.new.decoder source.new }
     ensures held { result ≡ false → is_some interval.new.refusal ≡ true }
 {
     if !begin(interval, source, scan.restart_interval) {

@@ -11,45 +11,57 @@ use Rattle.jpeg_pixels.specs.Upsampling.{upsampled}
 use Rattle.jpeg_pixels.specs.Pictures.{Source, Covers, AllCover, line_of, lines_of}
 use Rattle.jpeg_pixels.proofs.JoinedLines.{AreLong}
 
-pub lines_of-length : (sources : List Source) (planes : List (List ℕ)) (width row : ℕ) → length planes ≡ length sources → length (lines_of sources planes width row) ≡ length sources
+pub lines_of-length : (sources : List Source) (planes : List (List ℕ)) (width row : ℕ) → length planes ≡ length sources
+    → length (lines_of sources planes width row) ≡ length sources
 unfolding lines_of
 lines_of-length [] planes width row e = refl
 lines_of-length (s ∷ sources) [] width row e = absurd (omega arith)
 lines_of-length (s ∷ sources) (p ∷ planes) width row e = ap suc (lines_of-length sources planes width row (omega arith))
 
-pub lines_of-at : (sources : List Source) (planes : List (List ℕ)) (width row k : ℕ) (s : Source) → length planes ≡ length sources → k < length sources
+pub lines_of-at : (sources : List Source) (planes : List (List ℕ)) (width row k : ℕ) (s : Source)
+    → length planes ≡ length sources → k < length sources
     → get_or (lines_of sources planes width row) k [] ≡ line_of (get_or sources k s) (get_or planes k []) width row
 unfolding lines_of
 lines_of-at [] planes width row k s e h = absurd (omega arith)
 lines_of-at (t ∷ sources) [] width row k s e h = absurd (omega arith)
 lines_of-at (t ∷ sources) (p ∷ planes) width row zero s e h = refl
-lines_of-at (t ∷ sources) (p ∷ planes) width row (suc k) s e h = lines_of-at sources planes width row k s (omega arith) (omega arith)
+lines_of-at (t ∷ sources) (p ∷ planes) width row (suc k) s e h =
+    lines_of-at sources planes width row k s (omega arith) (omega arith)
 
-pub cover-at : (sources : List Source) (planes : List (List ℕ)) (width height k : ℕ) (s : Source) → length planes ≡ length sources → AllCover sources planes width height → k < length sources
+pub cover-at : (sources : List Source) (planes : List (List ℕ)) (width height k : ℕ) (s : Source)
+    → length planes ≡ length sources → AllCover sources planes width height → k < length sources
     → Covers (get_or sources k s) (get_or planes k []) width height
 unfolding AllCover
 cover-at [] planes width height k s e all h = absurd (omega arith)
 cover-at (t ∷ sources) [] width height k s e all h = absurd all
 cover-at (t ∷ sources) (p ∷ planes) width height zero s e all h = all.0
-cover-at (t ∷ sources) (p ∷ planes) width height (suc k) s e all h = cover-at sources planes width height k s (omega arith) all.1 (omega arith)
+cover-at (t ∷ sources) (p ∷ planes) width height (suc k) s e all h =
+    cover-at sources planes width height k s (omega arith) all.1 (omega arith)
 
 -- the same of a source and a plane that are known by other words
-pub cover-of : (sources : List Source) (planes : List (List ℕ)) (width height k : ℕ) (s t : Source) (p : List ℕ) → length planes ≡ length sources → AllCover sources planes width height → k < length sources
+pub cover-of : (sources : List Source) (planes : List (List ℕ)) (width height k : ℕ) (s t : Source) (p : List ℕ)
+    → length planes ≡ length sources → AllCover sources planes width height → k < length sources
     → get_or sources k s ≡ t → get_or planes k [] ≡ p → Covers t p width height
 cover-of sources planes width height k s t p e all h source plane =
-    subst (λ (r : Source). Covers r p width height) source (subst (λ (l : List ℕ). Covers (get_or sources k s) l width height) plane (cover-at sources planes width height k s e all h))
+    subst (λ (r : Source). Covers r p width height) source
+    (subst (λ (l : List ℕ). Covers (get_or sources k s) l width height) plane (cover-at sources planes width height
+    k s e all h))
 
-pub line-of : (sources : List Source) (planes : List (List ℕ)) (width row k : ℕ) (s t : Source) (p : List ℕ) → length planes ≡ length sources → k < length sources
-    → get_or sources k s ≡ t → get_or planes k [] ≡ p → get_or (lines_of sources planes width row) k [] ≡ line_of t p width row
+pub line-of : (sources : List Source) (planes : List (List ℕ)) (width row k : ℕ) (s t : Source) (p : List ℕ)
+    → length planes ≡ length sources → k < length sources
+    → get_or sources k s ≡ t → get_or planes k [] ≡ p → get_or (lines_of sources planes width row) k []
+    ≡ line_of t p width row
 line-of sources planes width row k s t p e h source plane =
     lines_of-at sources planes width row k s e h ∙ (λ i. line_of (source i) (plane i) width row)
 
 -- planes that cover a picture cover its upper part
-pub cover-lower : (sources : List Source) (planes : List (List ℕ)) (width low high : ℕ) → low ≤ high → AllCover sources planes width high → AllCover sources planes width low
+pub cover-lower : (sources : List Source) (planes : List (List ℕ)) (width low high : ℕ) → low ≤ high
+    → AllCover sources planes width high → AllCover sources planes width low
 unfolding AllCover
 cover-lower [] planes width low high le all = tt
 cover-lower (s ∷ sources) [] width low high le all = all
-cover-lower (s ∷ sources) (p ∷ planes) width low high le all = (lower all.0, cover-lower sources planes width low high le all.1)
+cover-lower (s ∷ sources) (p ∷ planes) width low high le all =
+    (lower all.0, cover-lower sources planes width low high le all.1)
   where
     lower : Covers s p width high → Covers s p width low
     lower c = record {
@@ -61,32 +73,41 @@ cover-lower (s ∷ sources) (p ∷ planes) width low high le all = (lower all.0,
       room = c.room;
     }
 
-pub lines_of-long : (sources : List Source) (planes : List (List ℕ)) (width row : ℕ) → length planes ≡ length sources → AreLong width (lines_of sources planes width row)
+pub lines_of-long : (sources : List Source) (planes : List (List ℕ)) (width row : ℕ) → length planes ≡ length sources
+    → AreLong width (lines_of sources planes width row)
 unfolding lines_of
 lines_of-long [] planes width row e = record { each = λ k h. absurd (omega arith) }
 lines_of-long (s ∷ sources) [] width row e = absurd (omega arith)
-lines_of-long (s ∷ sources) (p ∷ planes) width row e = record { each = by_place (lines_of-long sources planes width row (omega arith)) }
+lines_of-long (s ∷ sources) (p ∷ planes) width row e =
+    record { each = by_place (lines_of-long sources planes width row (omega arith)) }
   where
-    by_place : AreLong width (lines_of sources planes width row) → (k : ℕ) → k < length (line_of s p width row ∷ lines_of sources planes width row) → length (get_or (line_of s p width row ∷ lines_of sources planes width row) k []) ≡ width
-    by_place others zero h = length-map-range_with_len (λ x. upsampled s.rule (λ i j. slice_index p (j * s.stride + i)) s.width s.height x row) 0 width
+    by_place : AreLong width (lines_of sources planes width row) → (k : ℕ)
+        → k < length (line_of s p width row ∷ lines_of sources planes width row)
+        → length (get_or (line_of s p width row ∷ lines_of sources planes width row) k []) ≡ width
+    by_place others zero h = length-map-range_with_len (λ x. upsampled s.rule (λ i j. slice_index p (j * s.stride + i))
+        s.width s.height x row) 0 width
     by_place others (suc k) h = others.each k (omega arith)
 
 -- a part written after the first a places
-pub take-put : (a n k : ℕ) (xs ys : List ℕ) → a ≤ length xs → length ys ≡ n → take (a + n) (put_mid a k xs ys) ≡ take a xs ++ ys
+pub take-put : (a n k : ℕ) (xs ys : List ℕ) → a ≤ length xs → length ys ≡ n
+    → take (a + n) (put_mid a k xs ys) ≡ take a xs ++ ys
 take-put a n k xs ys le e =
     let front : length (take a xs) ≡ a = omega (arith, length-take {A = ℕ}) in
     ap (λ m. take (m + n) (put_mid a k xs ys)) (sym front)
     ∙ take-append-add (take a xs) (ys ++ drop k (drop a xs)) n
-    ∙ ap (λ (l : List ℕ). take a xs ++ l) (ap (λ m. take m (ys ++ drop k (drop a xs))) (sym e) ∙ take-append_seam ys (drop k (drop a xs)))
+    ∙ ap (λ (l : List ℕ). take a xs ++ l) (ap (λ m. take m (ys ++ drop k (drop a xs))) (sym e)
+    ∙ take-append_seam ys (drop k (drop a xs)))
 
 -- one more line after the first lines
-pub lines-more : (all : List (List ℕ)) (index width k : ℕ) (now new : List ℕ) → index < length all → index * width ≤ length now → length new ≡ width
+pub lines-more : (all : List (List ℕ)) (index width k : ℕ) (now new : List ℕ) → index < length all
+    → index * width ≤ length now → length new ≡ width
     → new ≡ get_or all index []
     → take (index * width) now ≡ concat (take index all)
     → take ((index + 1) * width) (put_mid (index * width) k now new) ≡ concat (take (index + 1) all)
 lines-more all index width k now new h room long is before =
     let at : (index + 1) * width ≡ index * width + width = omega arith in
-    let next : take (index + 1) all ≡ take index all ++ (get_or all index [] ∷ []) = rw add-one (take-suc all index [] h) in
+    let next : take (index + 1) all ≡ take index all ++ (get_or all index [] ∷ []) =
+    rw add-one (take-suc all index [] h) in
     ap (λ n. take n (put_mid (index * width) k now new)) at
     ∙ take-put (index * width) width k now new room long
     ∙ (λ i. before i ++ is i)
@@ -96,6 +117,9 @@ lines-more all index width k now new h room long is before =
 
 -- a line by its samples
 pub line-by-samples : (s : Source) (plane : List ℕ) (width row : ℕ) (new : List ℕ) → length new ≡ width
-    → ((x : ℕ) → x < width → get_or new x 0 ≡ upsampled s.rule (λ i j. slice_index plane (j * s.stride + i)) s.width s.height x row)
+    → ((x : ℕ) → x < width → get_or new x 0 ≡ upsampled s.rule (λ i j. slice_index plane (j * s.stride + i)) s.width
+    s.height x row)
     → new ≡ line_of s plane width row
-line-by-samples s plane width row new long each = fill_by_all (λ x. upsampled s.rule (λ i j. slice_index plane (j * s.stride + i)) s.width s.height x row) new width 0 long each
+line-by-samples s plane width row new long each =
+    fill_by_all (λ x. upsampled s.rule (λ i j. slice_index plane (j * s.stride + i)) s.width s.height x row) new width 0
+    long each

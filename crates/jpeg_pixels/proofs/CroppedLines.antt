@@ -11,9 +11,12 @@ use Rattle.jpeg_pixels.specs.Planes.{cropped}
 
 -- one more line
 pub next_line : (stride width y end : ℕ) (old now new : List ℕ) → width ≤ stride → end ≡ y * stride + width
-    → CopiedTo now new (y * stride) (y * width) (end - y * stride) × SameBelow now new (y * width) × SameFrom now new (y * width + (end - y * stride))
-    → ((r x : ℕ) → r < y → x < width → slice_index now (r * width + x) ≡ slice_index old (r * stride + x)) × ((i : ℕ) → y * width ≤ i → slice_index now i ≡ slice_index old i)
-    → ((r x : ℕ) → r < y + 1 → x < width → slice_index new (r * width + x) ≡ slice_index old (r * stride + x)) × ((i : ℕ) → (y + 1) * width ≤ i → slice_index new i ≡ slice_index old i)
+    → CopiedTo now new (y * stride) (y * width) (end - y * stride) × SameBelow now new (y * width)
+    × SameFrom now new (y * width + (end - y * stride))
+    → ((r x : ℕ) → r < y → x < width → slice_index now (r * width + x) ≡ slice_index old (r * stride + x))
+    × ((i : ℕ) → y * width ≤ i → slice_index now i ≡ slice_index old i)
+    → ((r x : ℕ) → r < y + 1 → x < width → slice_index new (r * width + x) ≡ slice_index old (r * stride + x))
+    × ((i : ℕ) → (y + 1) * width ≤ i → slice_index new i ≡ slice_index old i)
 next_line stride width y end old now new narrow is copied before = (
   λ r x hr hx. ⊎_elim (earlier r x hx) (λ le. here r x hx (omega arith)) (cases_lt r y),
   λ i h. copied.2 i 0 (omega arith) ∙ before.1 i (omega arith),
@@ -44,16 +47,20 @@ unfolding cropped
 all_lines stride width height old new narrow room each =
     let turned : width * height ≡ height * width = mul_comm width height in
     let enough : width * height ≤ length new = omega (arith, turned, mul-le-mul_left height narrow) in
-    fill_by_all (λ i. slice_index old (i / width * stride + i % width)) (take (width * height) new) (width * height) 0 (omega (arith, length-take {A = ℕ}))
+    fill_by_all (λ i. slice_index old (i / width * stride + i % width)) (take (width * height) new) (width * height) 0
+    (omega (arith, length-take {A = ℕ}))
     (λ i h.
     let some : 0 < width = some_width width height i h in
     let after : i < height * width = omega (arith, turned) in
     let line : i / width < height = (div-lt_iff_lt-mul {k = width} {x = i} {y = height} some).1 after in
-    let is : i / width * width + i % width ≡ i = (λ j. mul_comm (i / width) width j + i % width) ∙ div-add-mod i width in
-    get_or-take (width * height) new i 0 h ∙ ap (λ n. get_or new n 0) (sym is) ∙ each (i / width) (i % width) line (mod-lt i some))
+    let is : i / width * width + i % width ≡ i = (λ j. mul_comm (i / width) width j + i % width)
+    ∙ div-add-mod i width in
+    get_or-take (width * height) new i 0 h ∙ ap (λ n. get_or new n 0) (sym is)
+    ∙ each (i / width) (i % width) line (mod-lt i some))
 
 -- lines that stand together already
-pub same_lines : (stride width height : ℕ) (old : List ℕ) → width ≡ stride → height * stride ≤ length old → take (width * height) old ≡ cropped stride width height old
+pub same_lines : (stride width height : ℕ) (old : List ℕ) → width ≡ stride → height * stride ≤ length old
+    → take (width * height) old ≡ cropped stride width height old
 same_lines stride width height old e room =
     let narrow : width ≤ stride = omega arith in
     all_lines stride width height old old narrow room (λ y x hy hx. ap (λ n. get_or old (y * n + x) 0) e)

@@ -14,13 +14,18 @@ all_below_true : (p : ℕ → Bool) (n : ℕ) → ((k : ℕ) → k < n → p k �
 all_below_true p zero h = refl
 all_below_true p (suc n) h = λ i. all_below_true p n (λ k l. h k (omega arith)) i && h n (omega arith) i
 
-is_flat : (coefficients : List ℤ) (column : ℕ) → HasFirstOnly coefficients → column < 8 → is_flat_column coefficients column ≡ true
+is_flat : (coefficients : List ℤ) (column : ℕ) → HasFirstOnly coefficients → column < 8
+    → is_flat_column coefficients column ≡ true
 unfolding is_flat_column
-is_flat coefficients column first h = all_below_true (is_zero_at coefficients column) 7 (λ k l. ap (λ z. unsigned_abs z == 0) (first.others (suc k * 8 + column) (omega arith) (omega arith)))
+is_flat coefficients column first h =
+    all_below_true (is_zero_at coefficients column) 7 (λ k l. ap (λ z. unsigned_abs z == 0)
+    (first.others (suc k * 8 + column) (omega arith) (omega arith)))
 
-no_product : (coefficients : List ℤ) (quantization : List ℕ) (column : ℕ) → HasFirstOnly coefficients → 0 < column → column < 8 → dequantized coefficients quantization 0 column ≡ pos 0
+no_product : (coefficients : List ℤ) (quantization : List ℕ) (column : ℕ) → HasFirstOnly coefficients → 0 < column
+    → column < 8 → dequantized coefficients quantization 0 column ≡ pos 0
 unfolding dequantized
-no_product coefficients quantization column first some h = ap (λ z. z *ℤ pos (get_or quantization (0 * 8 + column) 0)) (first.others (0 * 8 + column) (omega arith) (omega arith)) ∙ omega (arith, ints)
+no_product coefficients quantization column first some h = ap (λ z. z *ℤ pos (get_or quantization (0 * 8 + column) 0))
+    (first.others (0 * 8 + column) (omega arith) (omega arith)) ∙ omega (arith, ints)
 
 abbrev top : ℤ → ℕ
 top z = clamped (int_shr z 17)
@@ -45,27 +50,35 @@ middle n s l =
 
 below : (n : ℕ) → 1028 ≤ n → top (pos 4096 *ℤ (pos 4 *ℤ negsuc n) +ℤ pos 16842752) ≡ low (negsuc n +ℤ pos 4)
 below n l =
-    let a : pos 4096 *ℤ (pos 4 *ℤ negsuc n) +ℤ pos 16842752 ≡ negsuc (16384 * (n + 1) - 16842753) = omega (arith, ints) in
+    let a : pos 4096 *ℤ (pos 4 *ℤ negsuc n) +ℤ pos 16842752 ≡ negsuc (16384 * (n + 1) - 16842753) =
+    omega (arith, ints) in
     let b : negsuc n +ℤ pos 4 ≡ negsuc (n - 4) = omega (arith, ints) in
     let d : negsuc ((n - 4) / 8) +ℤ pos 128 ≡ negsuc ((n - 4) / 8 - 128) = omega (arith, ints) in
     ap top a ∙ ap clamped (sym d) ∙ ap low (sym b)
 
-pub scaled : (p : ℤ) → clamped (int_shr (pos 4096 *ℤ (pos 4 *ℤ p) +ℤ pos 16842752) 17) ≡ clamped (int_shr (p +ℤ pos 4) 3 +ℤ pos 128)
+pub scaled : (p : ℤ) → clamped (int_shr (pos 4096 *ℤ (pos 4 *ℤ p) +ℤ pos 16842752) 17) ≡ clamped (int_shr (p +ℤ pos 4) 3
+    +ℤ pos 128)
 scaled (pos n) = omega arith
 scaled (negsuc n) = ⊎_elim (above n) (λ s. ⊎_elim (middle n s) (below n) (cases_lt n 1028)) (cases_lt n 4)
 
-pub sample_first_only : (coefficients : List ℤ) (quantization : List ℕ) (x y : ℕ) → HasFirstOnly coefficients → x < 8 → y < 8 → unsigned_abs (dequantized coefficients quantization 0 0) ≤ 65536
-    → sample coefficients quantization x y ≡ clamped (int_shr (dequantized coefficients quantization 0 0 +ℤ pos 4) 3 +ℤ pos 128)
+pub sample_first_only : (coefficients : List ℤ) (quantization : List ℕ) (x y : ℕ) → HasFirstOnly coefficients → x < 8
+    → y < 8 → unsigned_abs (dequantized coefficients quantization 0 0) ≤ 65536
+    → sample coefficients quantization x y ≡ clamped (int_shr (dequantized coefficients quantization 0 0 +ℤ pos 4) 3
+    +ℤ pos 128)
 unfolding sample
 sample_first_only coefficients quantization x y first hx hy small =
     let p = dequantized coefficients quantization 0 0 in
-    let flat : (column : ℕ) → column < 8 → column_value coefficients quantization y column ≡ int_wrap w32 (pos 4 *ℤ dequantized coefficients quantization 0 column) =
+    let flat : (column : ℕ) → column < 8 → column_value coefficients quantization y column
+    ≡ int_wrap w32 (pos 4 *ℤ dequantized coefficients quantization 0 column) =
     λ column h. flat_value coefficients quantization y column (is_flat coefficients column first h) in
     let nothing : (k : ℕ) → 0 < k → k < 8 → column_value coefficients quantization y k ≡ pos 0 =
-    λ k some h. flat k h ∙ ap (λ z. int_wrap w32 (pos 4 *ℤ z)) (no_product coefficients quantization k first some h) ∙ int_wrap_fits w32 (pos 0) (record { sfits = lit< tt }) in
+    λ k some h. flat k h ∙ ap (λ z. int_wrap w32 (pos 4 *ℤ z)) (no_product coefficients quantization k first some h)
+    ∙ int_wrap_fits w32 (pos 0) (record { sfits = lit< tt }) in
     let four_fits : FitsSigned w32 (pos 4 *ℤ p) = omega (arith, ints) in
-    let value : column_value coefficients quantization y 0 ≡ pos 4 *ℤ p = flat 0 (lit< tt) ∙ int_wrap_fits w32 (pos 4 *ℤ p) four_fits in
+    let value : column_value coefficients quantization y 0 ≡ pos 4 *ℤ p = flat 0 (lit< tt)
+    ∙ int_wrap_fits w32 (pos 4 *ℤ p) four_fits in
     let sum_fits : FitsSigned w32 (pos 4096 *ℤ (pos 4 *ℤ p) +ℤ pos 16842752) = omega (arith, ints) in
-    ap (λ z. clamped (int_shr (int_wrap w32 (z +ℤ pos 16842752)) 17)) (transformed_one (column_value coefficients quantization y) x hx nothing ∙ ap (λ z. pos 4096 *ℤ z) value)
+    ap (λ z. clamped (int_shr (int_wrap w32 (z +ℤ pos 16842752)) 17))
+    (transformed_one (column_value coefficients quantization y) x hx nothing ∙ ap (λ z. pos 4096 *ℤ z) value)
     ∙ ap (λ z. clamped (int_shr z 17)) (int_wrap_fits w32 (pos 4096 *ℤ (pos 4 *ℤ p) +ℤ pos 16842752) sum_fits)
     ∙ scaled p

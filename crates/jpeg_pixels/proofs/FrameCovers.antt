@@ -51,13 +51,15 @@ fits-multiple h k m width h_some k_some e =
 
 -- one output
 fits-one : (h m : ℕ) → 0 < h → h ≤ m → Fits 1 (ceiling (1 * h) m) 1
-fits-one h m some most = go (ceiling (1 * h) m) (ceiling-low (1 * h) m (omega arith)) (ceiling-high (1 * h) m (omega arith))
+fits-one h m some most = go (ceiling (1 * h) m) (ceiling-low (1 * h) m (omega arith))
+    (ceiling-high (1 * h) m (omega arith))
   where
     go : (c : ℕ) → 1 * h ≤ m * c → m * c < 1 * h + m → Fits 1 c 1
     go zero low high = absurd (omega arith)
     go (suc zero) low high = record { some = omega arith; enough = omega arith; no_more = omega arith }
     go (suc (suc n)) low high =
-        let e : m * suc (suc n) ≡ m * n + 2 * m = ap (λ k. m * k) (of_two n) ∙ (mul-add m n 2 ∙ ap (λ k. m * n + k) (mul_comm m 2)) in
+        let e : m * suc (suc n) ≡ m * n + 2 * m = ap (λ k. m * k) (of_two n)
+        ∙ (mul-add m n 2 ∙ ap (λ k. m * n + k) (mul_comm m 2)) in
         absurd (omega (arith, e, high, some, most))
       where
         of_two : (k : ℕ) → suc (suc k) ≡ k + 2
@@ -90,10 +92,12 @@ chosen P false rule other rest first others e = others e
 fits-1 : (h m width : ℕ) → 0 < h → h ≤ m → (h == m || width == 1) ≡ true → Fits 1 (ceiling (width * h) m) width
 fits-1 h m width some most = either (h == m) (width == 1)
     (λ e. let p : h ≡ m = eqb-true h m e in fits-multiple h 1 m width some (omega arith) (omega (arith, p)))
-    (λ e. let p : width ≡ 1 = eqb-true width 1 e in subst (λ w. Fits 1 (ceiling (w * h) m) w) (sym p) (fits-one h m some most))
+    (λ e. let p : width ≡ 1 = eqb-true width 1 e in
+    subst (λ w. Fits 1 (ceiling (w * h) m) w) (sym p) (fits-one h m some most))
 
 fits-2 : (h m width : ℕ) → 0 < h → (2 * h == m) ≡ true → Fits 2 (ceiling (width * h) m) width
-fits-2 h m width some e = let p : 2 * h ≡ m = eqb-true (2 * h) m e in fits-multiple h 2 m width some (omega arith) (sym p ∙ mul_comm 2 h)
+fits-2 h m width some e = let p : 2 * h ≡ m =
+    eqb-true (2 * h) m e in fits-multiple h 2 m width some (omega arith) (sym p ∙ mul_comm 2 h)
 
 fits-generic : (h m width : ℕ) → 0 < h → h ≤ m → divides h m ≡ true → Fits (m / h) (ceiling (width * h) m) width
 fits-generic h m width some most e =
@@ -127,14 +131,17 @@ fits-rule h v most_h most_v width height rule h_some h_most v_some v_most =
     (chosen P (h1 && v2) rule H1V2 _ (λ e. let p = both h1 v2 e in (one_h p.0, two_v p.1))
     (chosen P (h2 && v2) rule H2V2 _ (λ e. let p = both h2 v2 e in (two_h p.0, two_v p.1))
     (chosen P (divides h most_h && divides v most_v) rule (Generic (most_h / h) (most_v / v)) None
-    (λ e. let p = both (divides h most_h) (divides v most_v) e in (fits-generic h most_h width h_some h_most p.0, fits-generic v most_v height v_some v_most p.1))
+    (λ e. let p = both (divides h most_h) (divides v most_v) e in
+    (fits-generic h most_h width h_some h_most p.0, fits-generic v most_v height v_some v_most p.1))
     (λ e. absurd (cc))))))
 
-fits-across : (columns lines width height : ℕ) (rule : UpsampleRule) → FitsBoth columns lines width height rule → Fits (across rule) columns width
+fits-across : (columns lines width height : ℕ) (rule : UpsampleRule) → FitsBoth columns lines width height rule
+    → Fits (across rule) columns width
 unfolding FitsBoth
 fits-across columns lines width height rule fit = fit.0
 
-fits-down : (columns lines width height : ℕ) (rule : UpsampleRule) → FitsBoth columns lines width height rule → Fits (down rule) lines height
+fits-down : (columns lines width height : ℕ) (rule : UpsampleRule) → FitsBoth columns lines width height rule
+    → Fits (down rule) lines height
 unfolding FitsBoth
 fits-down columns lines width height rule fit = fit.1
 
@@ -163,7 +170,8 @@ in-blocks width h m some most =
 covers : (width height most_h most_v : ℕ) (f : Factors) (rule : UpsampleRule) (plane : List ℕ) → 0 < width → 0 < height
     → IsInRange f → f.horizontal ≤ most_h → f.vertical ≤ most_v
     → rule_of f.horizontal f.vertical most_h most_v width height ≡ Some rule
-    → (ceiling (height * f.vertical) most_v - 1) * ((ceiling width (8 * most_h) * f.horizontal) * 8) + ceiling (width * f.horizontal) most_h ≤ length plane
+    → (ceiling (height * f.vertical) most_v - 1) * ((ceiling width (8 * most_h) * f.horizontal) * 8)
+    + ceiling (width * f.horizontal) most_h ≤ length plane
     → Covers (record {
       rule = rule;
       width = ceiling (width * f.horizontal) most_h;
@@ -171,8 +179,10 @@ covers : (width height most_h most_v : ℕ) (f : Factors) (rule : UpsampleRule) 
       stride = (ceiling width (8 * most_h) * f.horizontal) * 8;
     }) plane width height
 covers width height most_h most_v f rule plane some_width some_height range h_most v_most chosen room =
-    let fit : FitsBoth (ceiling (width * f.horizontal) most_h) (ceiling (height * f.vertical) most_v) width height rule =
-    fits-rule f.horizontal f.vertical most_h most_v width height rule range.horizontal_some h_most range.vertical_some v_most chosen in
+    let fit : FitsBoth (ceiling (width * f.horizontal) most_h) (ceiling (height * f.vertical) most_v) width height
+    rule =
+    fits-rule f.horizontal f.vertical most_h most_v width height rule range.horizontal_some h_most range.vertical_some
+    v_most chosen in
     let columns = fits-across _ _ _ _ rule fit in
     let lines = fits-down _ _ _ _ rule fit in
     record {
@@ -192,7 +202,8 @@ as_all l = Ok l
 ok-injective : (l m : List Source) → as_all l ≡ as_all m → l ≡ m
 ok-injective l m e = cc
 
-factors-back : (width height h v : ℕ) (xs : List Factors) → map (λ c. c.factors) (map (component_of width height h v) xs) ≡ xs
+factors-back : (width height h v : ℕ) (xs : List Factors)
+    → map (λ c. c.factors) (map (component_of width height h v) xs) ≡ xs
 unfolding component_of
 factors-back width height h v [] = refl
 factors-back width height h v (x ∷ xs) = ap (λ l. x ∷ l) (factors-back width height h v xs)
@@ -202,32 +213,46 @@ greatest-all : (f : Factors → ℕ) (m : ℕ) (xs : List Factors) → greatest 
 greatest-all f m [] h = All-nil (λ c. f c ≤ m)
 greatest-all f m (x ∷ xs) h = All-cons (λ c. f c ≤ m) x xs (omega arith) (greatest-all f m xs (omega arith))
 
-all-cover : (width height h v : ℕ) (xs : List Factors) (planes : List (List ℕ)) (sources : List Source) → 0 < width → 0 < height
+all-cover : (width height h v : ℕ) (xs : List Factors) (planes : List (List ℕ)) (sources : List Source) → 0 < width
+    → 0 < height
     → All IsInRange xs → All (λ f. f.horizontal ≤ h) xs → All (λ f. f.vertical ≤ v) xs
     → HaveRoom (map (component_of width height h v) xs) planes
     → sources_by h v width height (map (component_of width height h v) xs) ≡ Ok sources
     → AllCover sources planes width height
 unfolding component_of sources_by HaveRoom AllCover
-all-cover width height h v [] planes sources some_width some_height range across_most down_most room is = subst (λ (l : List Source). AllCover l planes width height) (ok-injective [] sources is) tt
+all-cover width height h v [] planes sources some_width some_height range across_most down_most room is =
+    subst (λ (l : List Source). AllCover l planes width height) (ok-injective [] sources is) tt
 all-cover width height h v (x ∷ xs) [] sources some_width some_height range across_most down_most room is = absurd room
-all-cover width height h v (x ∷ xs) (plane ∷ planes) sources some_width some_height range across_most down_most room is =
-    go (rule_of x.horizontal x.vertical h v width height) (sources_by h v width height (map (component_of width height h v) xs))
-    (λ rule e. covers width height h v x rule plane some_width some_height (All-head IsInRange x xs range) (All-head (λ f. f.horizontal ≤ h) x xs across_most) (All-head (λ f. f.vertical ≤ v) x xs down_most) e room.0)
-    (λ others e. all-cover width height h v xs planes others some_width some_height (All-tail IsInRange x xs range) (All-tail (λ f. f.horizontal ≤ h) x xs across_most) (All-tail (λ f. f.vertical ≤ v) x xs down_most) room.1 e) is
+all-cover width height h v (x ∷ xs) (plane ∷ planes) sources some_width some_height range across_most down_most room
+    is =
+    go (rule_of x.horizontal x.vertical h v width height)
+    (sources_by h v width height (map (component_of width height h v) xs))
+    (λ rule e. covers width height h v x rule plane some_width some_height (All-head IsInRange x xs range)
+    (All-head (λ f. f.horizontal ≤ h) x xs across_most) (All-head (λ f. f.vertical ≤ v) x xs down_most) e room.0)
+    (λ others e. all-cover width height h v xs planes others some_width some_height (All-tail IsInRange x xs range)
+    (All-tail (λ f. f.horizontal ≤ h) x xs across_most) (All-tail (λ f. f.vertical ≤ v) x xs down_most) room.1 e) is
   where
     c : Component
     c = component_of width height h v x
 
     go : (one : Option UpsampleRule) (rest : Result (List Source) Fault)
-        → ((rule : UpsampleRule) → one ≡ Some rule → Covers (record { rule = rule; width = c.width; height = c.height; stride = c.blocks_wide * c.scale }) plane width height)
+        → ((rule : UpsampleRule) → one ≡ Some rule → Covers (record {
+          rule = rule;
+          width = c.width;
+          height = c.height;
+          stride = c.blocks_wide * c.scale;
+        }) plane width height)
         → ((others : List Source) → rest ≡ Ok others → AllCover others planes width height)
-        → (source_by c one >>= (λ s. rest >>= (λ others. Ok (s ∷ others)))) ≡ Ok sources → AllCover sources (plane ∷ planes) width height
+        → (source_by c one >>= (λ s. rest >>= (λ others. Ok (s ∷ others)))) ≡ Ok sources
+        → AllCover sources (plane ∷ planes) width height
     go None rest first others is = absurd (cc)
     go (Some rule) (Err e) first others is = absurd (cc)
     go (Some rule) (Ok more) first others is =
-        subst (λ (l : List Source). AllCover l (plane ∷ planes) width height) (ok-injective _ sources is) (first rule refl, others more refl)
+        subst (λ (l : List Source). AllCover l (plane ∷ planes) width height) (ok-injective _ sources is)
+        (first rule refl, others more refl)
 
-pub frames-are-covered : (number precision width height : ℕ) (factors : List Factors) (planes : List (List ℕ)) (sources : List Source)
+pub frames-are-covered : (number precision width height : ℕ) (factors : List Factors) (planes : List (List ℕ))
+    (sources : List Source)
     → All IsInRange factors → 0 < width → 0 < height
     → HaveRoom (frame_of number precision width height factors).components planes
     → sources_of (frame_of number precision width height factors).components width height ≡ Ok sources
@@ -236,14 +261,18 @@ unfolding frame_of
 frames-are-covered number precision width height factors planes sources range some_width some_height room is =
     let h = greatest (λ f. f.horizontal) factors in
     let v = greatest (λ f. f.vertical) factors in
-    let back : map (λ c. c.factors) (map (component_of width height h v) factors) ≡ factors = factors-back width height h v factors in
+    let back : map (λ c. c.factors) (map (component_of width height h v) factors) ≡ factors =
+    factors-back width height h v factors in
     all-cover width height h v factors planes sources some_width some_height range
-    (greatest-all (λ f. f.horizontal) h factors (omega arith)) (greatest-all (λ f. f.vertical) v factors (omega arith)) room
-    (subst (λ (l : List Factors). sources_by (greatest (λ f. f.horizontal) l) (greatest (λ f. f.vertical) l) width height (map (component_of width height h v) factors) ≡ Ok sources) back is)
+    (greatest-all (λ f. f.horizontal) h factors (omega arith)) (greatest-all (λ f. f.vertical) v factors (omega arith))
+    room
+    (subst (λ (l : List Factors). sources_by (greatest (λ f. f.horizontal) l) (greatest (λ f. f.vertical) l) width
+    height (map (component_of width height h v) factors) ≡ Ok sources) back is)
 
 -- ---- planes of all blocks
 
-room-of : (columns lines stride most : ℕ) → 0 < lines → columns ≤ stride → lines ≤ most → (lines - 1) * stride + columns ≤ most * stride
+room-of : (columns lines stride most : ℕ) → 0 < lines → columns ≤ stride → lines ≤ most
+    → (lines - 1) * stride + columns ≤ most * stride
 room-of columns zero stride most some inside within = absurd (omega arith)
 room-of columns (suc k) stride most some inside within =
     let less : (k + 1) * stride ≤ most * stride = mul-le-mul_right stride (omega arith) in
@@ -253,7 +282,8 @@ room-of columns (suc k) stride most some inside within =
 
 have-room : (width height h v : ℕ) (xs : List Factors) (planes : List (List ℕ)) → 0 < width → 0 < height
     → All IsInRange xs → All (λ f. f.horizontal ≤ h) xs → All (λ f. f.vertical ≤ v) xs
-    → AreWhole (map (component_of width height h v) xs) planes → HaveRoom (map (component_of width height h v) xs) planes
+    → AreWhole (map (component_of width height h v) xs) planes
+    → HaveRoom (map (component_of width height h v) xs) planes
 unfolding component_of HaveRoom AreWhole
 have-room width height h v [] planes some_width some_height range across_most down_most whole = tt
 have-room width height h v (x ∷ xs) [] some_width some_height range across_most down_most whole = absurd whole
@@ -263,11 +293,15 @@ have-room width height h v (x ∷ xs) (plane ∷ planes) some_width some_height 
     let down_here : x.vertical ≤ v = All-head (λ f. f.vertical ≤ v) x xs down_most in
     let v_some : 0 < v = omega (arith, here.vertical_some, down_here) in
     let grows : height ≤ height * x.vertical = le-mul_of_pos_right height here.vertical_some in
-    let lines_some : 0 < ceiling (height * x.vertical) v = some-samples v (ceiling (height * x.vertical) v) (height * x.vertical) (omega (arith, grows, some_height)) (ceiling-low (height * x.vertical) v v_some) in
+    let lines_some : 0 < ceiling (height * x.vertical) v =
+    some-samples v (ceiling (height * x.vertical) v) (height * x.vertical) (omega (arith, grows, some_height))
+    (ceiling-low (height * x.vertical) v v_some) in
     let columns_inside = in-blocks width x.horizontal h here.horizontal_some across_here in
     let lines_inside = in-blocks height x.vertical v here.vertical_some down_here in (
-      rw whole.0 (room-of (ceiling (width * x.horizontal) h) (ceiling (height * x.vertical) v) _ _ lines_some columns_inside lines_inside),
-      have-room width height h v xs planes some_width some_height (All-tail IsInRange x xs range) (All-tail (λ f. f.horizontal ≤ h) x xs across_most) (All-tail (λ f. f.vertical ≤ v) x xs down_most) whole.1,
+      rw whole.0 (room-of (ceiling (width * x.horizontal) h) (ceiling (height * x.vertical) v) _ _ lines_some
+          columns_inside lines_inside),
+      have-room width height h v xs planes some_width some_height (All-tail IsInRange x xs range)
+          (All-tail (λ f. f.horizontal ≤ h) x xs across_most) (All-tail (λ f. f.vertical ≤ v) x xs down_most) whole.1,
     )
 
 pub whole-planes-have-room : (number precision width height : ℕ) (factors : List Factors) (planes : List (List ℕ))
@@ -279,4 +313,5 @@ whole-planes-have-room number precision width height factors planes range some_w
     let h = greatest (λ f. f.horizontal) factors in
     let v = greatest (λ f. f.vertical) factors in
     have-room width height h v factors planes some_width some_height range
-    (greatest-all (λ f. f.horizontal) h factors (omega arith)) (greatest-all (λ f. f.vertical) v factors (omega arith)) whole
+    (greatest-all (λ f. f.horizontal) h factors (omega arith)) (greatest-all (λ f. f.vertical) v factors (omega arith))
+    whole

@@ -12,12 +12,15 @@ by_factors across down = record { identifier = 1; horizontal = across; vertical 
 abbrev pub components : ℕ → ℕ → List Factors → List Component
 components width height factors = (frame_of 0 8 width height factors).components
 
-pub have-factors : (width height : ℕ) (factors : List Factors) (seen : List Component) → seen ≡ components width height factors → All IsInRange factors → AllHaveSampling seen
+pub have-factors : (width height : ℕ) (factors : List Factors) (seen : List Component)
+    → seen ≡ components width height factors → All IsInRange factors → AllHaveSampling seen
 unfolding frame_of
 have-factors width height factors seen is all =
-    subst AllHaveSampling (sym is) (all-in-range width height (greatest (λ f. f.horizontal) factors) (greatest (λ f. f.vertical) factors) factors all)
+    subst AllHaveSampling (sym is) (all-in-range width height (greatest (λ f. f.horizontal) factors)
+    (greatest (λ f. f.vertical) factors) factors all)
 
-pub are-covered : (width height : ℕ) (factors : List Factors) (seen : List Component) (planes : List (List ℕ)) → seen ≡ components width height factors → All IsInRange factors
+pub are-covered : (width height : ℕ) (factors : List Factors) (seen : List Component) (planes : List (List ℕ))
+    → seen ≡ components width height factors → All IsInRange factors
     → 1 ≤ width → 1 ≤ height → HaveRoom (components width height factors) planes
     → (sources : List Source) → sources_of seen width height ≡ Ok sources → AllCover sources planes width height
 are-covered width height factors seen planes is all some_width some_height room sources found =

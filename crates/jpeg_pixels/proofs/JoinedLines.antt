@@ -21,7 +21,8 @@ joined-length n (l ∷ lines) long =
     length-append l (concat lines) ∙ omega arith
 
 -- the entry at a place of a line
-pub joined-at : (n : ℕ) (lines : List (List ℕ)) (k x : ℕ) → AreLong n lines → k < length lines → x < n → get_or (concat lines) (k * n + x) 0 ≡ get_or (get_or lines k []) x 0
+pub joined-at : (n : ℕ) (lines : List (List ℕ)) (k x : ℕ) → AreLong n lines → k < length lines → x < n
+    → get_or (concat lines) (k * n + x) 0 ≡ get_or (get_or lines k []) x 0
 joined-at n [] k x long h lt = absurd (omega arith)
 joined-at n (l ∷ lines) zero x long h lt =
     let first : length l ≡ n = long.each 0 (omega arith) in
@@ -30,19 +31,26 @@ joined-at n (l ∷ lines) zero x long h lt =
     ap (λ i. get_or (l ++ concat lines) i 0) at ∙ get_or_append_left l (concat lines) 0 x inside
 joined-at n (l ∷ lines) (suc k) x long h lt =
     let first : length l ≡ n = long.each 0 (omega arith) in
-    let others : get_or (concat lines) (k * n + x) 0 ≡ get_or (get_or lines k []) x 0 = joined-at n lines k x (AreLong-more n l lines long) (omega arith) lt in
+    let others : get_or (concat lines) (k * n + x) 0 ≡ get_or (get_or lines k []) x 0 =
+    joined-at n lines k x (AreLong-more n l lines long) (omega arith) lt in
     let at : suc k * n + x - n ≡ k * n + x = omega arith in
-    get_or-append_right l (concat lines) n (suc k * n + x) 0 first (omega arith) ∙ ap (λ i. get_or (concat lines) i 0) at ∙ others
+    get_or-append_right l (concat lines) n (suc k * n + x) 0 first (omega arith)
+    ∙ ap (λ i. get_or (concat lines) i 0) at ∙ others
 
 -- a list that has at each place what lines made of numbers have there
-pub by_pixels : (n width : ℕ) (pixel : ℕ → List ℕ) (out : List ℕ) → 0 < n → ((x : ℕ) → length (pixel x) ≡ n) → length out ≡ n * width
+pub by_pixels : (n width : ℕ) (pixel : ℕ → List ℕ) (out : List ℕ) → 0 < n → ((x : ℕ) → length (pixel x) ≡ n)
+    → length out ≡ n * width
     → ((x k : ℕ) → x < width → k < n → get_or out (n * x + k) 0 ≡ get_or (pixel x) k 0)
     → out ≡ concat (map pixel (range_with_len 0 width))
 by_pixels n width pixel out some sizes long each =
     let lines = map pixel (range_with_len 0 width) in
     let count : length lines ≡ width = length-map-range_with_len pixel 0 width in
-    let line_is : (k : ℕ) → k < width → get_or lines k [] ≡ pixel k = λ k h. get_or-map-range_with_len pixel 0 width k k [] h (omega arith) in
-    let are_long : AreLong n lines = record { each = λ k h. ap (λ (l : List ℕ). length l) (line_is k (omega (arith, count))) ∙ sizes k } in
+    let line_is : (k : ℕ) → k < width → get_or lines k [] ≡ pixel k = λ k h. get_or-map-range_with_len pixel 0 width k k
+    [] h (omega arith) in
+    let are_long : AreLong n lines = record {
+      each = λ k h. ap (λ (l : List ℕ). length l)
+          (line_is k (omega (arith, count))) ∙ sizes k;
+    } in
     let all : length (concat lines) ≡ length lines * n = joined-length n lines are_long in
     let turned : n * width ≡ width * n = mul_comm n width in
     ext_get_or 0 out (concat lines) (long ∙ turned ∙ ap (λ m. m * n) (sym count) ∙ sym all)
@@ -61,4 +69,5 @@ by_pixels n width pixel out some sizes long each =
 -- the samples of a pixel stand in the lines
 pub sample-at : (n : ℕ) (lines : List (List ℕ)) (k x : ℕ) → AreLong n lines → k < length lines → x < n
     → get_or (map (λ (l : List ℕ). get_or l x 0) lines) k 0 ≡ get_or (concat lines) (k * n + x) 0
-sample-at n lines k x long h lt = get_or-map (λ (l : List ℕ). get_or l x 0) lines k [] 0 h ∙ sym (joined-at n lines k x long h lt)
+sample-at n lines k x long h lt = get_or-map (λ (l : List ℕ). get_or l x 0) lines k [] 0 h
+    ∙ sym (joined-at n lines k x long h lt)

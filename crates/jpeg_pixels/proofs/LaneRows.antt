@@ -24,37 +24,52 @@ eight_cases P a b c d e f g h (suc (suc (suc (suc (suc (suc zero)))))) l = g
 eight_cases P a b c d e f g h (suc (suc (suc (suc (suc (suc (suc zero))))))) l = h
 eight_cases P a b c d e f g h (suc (suc (suc (suc (suc (suc (suc (suc n)))))))) l = absurd (omega arith)
 
-pub lane_at_is : (rows : Rows) (f : ℕ → ℕ → ℤ) → HasNumbers rows f → (k j : ℕ) → k < 8 → j < 8 → lane_at rows k j ≡ f k j
+pub lane_at_is : (rows : Rows) (f : ℕ → ℕ → ℤ) → HasNumbers rows f → (k j : ℕ) → k < 8 → j < 8
+    → lane_at rows k j ≡ f k j
 lane_at_is rows f e k j hk hj = eight_cases (λ (i : ℕ). lane_at rows i j ≡ f i j)
-    (lane-lanes rows.r0 (f 0) e.r0 j hj) (lane-lanes rows.r1 (f 1) e.r1 j hj) (lane-lanes rows.r2 (f 2) e.r2 j hj) (lane-lanes rows.r3 (f 3) e.r3 j hj)
-    (lane-lanes rows.r4 (f 4) e.r4 j hj) (lane-lanes rows.r5 (f 5) e.r5 j hj) (lane-lanes rows.r6 (f 6) e.r6 j hj) (lane-lanes rows.r7 (f 7) e.r7 j hj) k hk
+    (lane-lanes rows.r0 (f 0) e.r0 j hj) (lane-lanes rows.r1 (f 1) e.r1 j hj) (lane-lanes rows.r2 (f 2) e.r2 j hj)
+    (lane-lanes rows.r3 (f 3) e.r3 j hj)
+    (lane-lanes rows.r4 (f 4) e.r4 j hj) (lane-lanes rows.r5 (f 5) e.r5 j hj) (lane-lanes rows.r6 (f 6) e.r6 j hj)
+    (lane-lanes rows.r7 (f 7) e.r7 j hj) k hk
 
 -- a row of the columns' values, as the kernel chooses it
-pub column_row : (coefficients : List ℤ) (quantization : List ℕ) (rows : Rows) (row : ℕ) (sums flat below : List ℤ) → length sums ≡ 8 → length flat ≡ 8 → length below ≡ 8
-    → ((j : ℕ) → FitsSigned w32 (lane sums j)) → ((j : ℕ) → FitsSigned w32 (lane flat j)) → ((j : ℕ) → FitsSigned w32 (lane below j))
+pub column_row : (coefficients : List ℤ) (quantization : List ℕ) (rows : Rows) (row : ℕ) (sums flat below : List ℤ)
+    → length sums ≡ 8 → length flat ≡ 8 → length below ≡ 8
+    → ((j : ℕ) → FitsSigned w32 (lane sums j)) → ((j : ℕ) → FitsSigned w32 (lane flat j))
+    → ((j : ℕ) → FitsSigned w32 (lane below j))
     → ((j : ℕ) → j < 8 → lane_is_zero below j ≡ is_flat_column coefficients j)
     → flat ≡ lanes (λ j. int_wrap w32 (pos 4 *ℤ dequantized coefficients quantization 0 j))
     → HasNumbers rows (dequantized coefficients quantization)
     → sums ≡ lanes (λ j. int_wrap w32 (transformed (λ k. lane_at rows k j) row +ℤ pos 512))
-    → map (to_z w32) (sel_l (map (top 31) (zip2 (λ a b. cond (eqb a b) 4294967295 0) (map (of_z w32) below) (replicate 8 0))) (map (of_z w32) flat)
+    → map (to_z w32) (sel_l (map (top 31) (zip2 (λ a b. cond (eqb a b) 4294967295 0) (map (of_z w32) below)
+    (replicate 8 0))) (map (of_z w32) flat)
     (zip2 (λ a b. of_z w32 (int_shr (to_z w32 a) b)) (map (of_z w32) sums) (replicate 8 10)))
     ≡ lanes (λ j. column_value coefficients quantization row j)
 column_row coefficients quantization rows row sums flat below ls lf lb fs ff fb zero_where flat_is products sums_are =
-    settled_is sums flat below ls lf lb fs ff fb ∙ lanes_same _ (λ j. column_value coefficients quantization row j) (λ j h.
-    ap (λ (t : Bool). cond t (lane flat j) (int_shr (lane sums j) 10)) (zero_where j h) ∙ by_flat j h (is_flat_column coefficients j) refl)
+    settled_is sums flat below ls lf lb fs ff fb ∙ lanes_same _ (λ j. column_value coefficients quantization row j)
+    (λ j h.
+    ap (λ (t : Bool). cond t (lane flat j) (int_shr (lane sums j) 10)) (zero_where j h)
+    ∙ by_flat j h (is_flat_column coefficients j) refl)
   where
-    by_flat : (j : ℕ) → j < 8 → (t : Bool) → is_flat_column coefficients j ≡ t → cond t (lane flat j) (int_shr (lane sums j) 10) ≡ column_value coefficients quantization row j
-    by_flat j h true e = lane-lanes flat (λ i. int_wrap w32 (pos 4 *ℤ dequantized coefficients quantization 0 i)) flat_is j h ∙ sym (flat_value coefficients quantization row j e)
-    by_flat j h false e = ap (λ z. int_shr z 10) (lane-lanes sums (λ i. int_wrap w32 (transformed (λ k. lane_at rows k i) row +ℤ pos 512)) sums_are j h
-        ∙ ap (λ z. int_wrap w32 (z +ℤ pos 512)) (transformed_same (λ k. lane_at rows k j) (λ k. dequantized coefficients quantization k j) row (λ k hk. lane_at_is rows (dequantized coefficients quantization) products k j hk h)))
+    by_flat : (j : ℕ) → j < 8 → (t : Bool) → is_flat_column coefficients j ≡ t
+        → cond t (lane flat j) (int_shr (lane sums j) 10) ≡ column_value coefficients quantization row j
+    by_flat j h true e = lane-lanes flat (λ i. int_wrap w32 (pos 4 *ℤ dequantized coefficients quantization 0 i))
+        flat_is j h ∙ sym (flat_value coefficients quantization row j e)
+    by_flat j h false e = ap (λ z. int_shr z 10)
+        (lane-lanes sums (λ i. int_wrap w32 (transformed (λ k. lane_at rows k i) row +ℤ pos 512)) sums_are j h
+        ∙ ap (λ z. int_wrap w32 (z +ℤ pos 512)) (transformed_same (λ k. lane_at rows k j) (λ k. dequantized coefficients
+        quantization k j) row (λ k hk. lane_at_is rows (dequantized coefficients quantization) products k j hk h)))
         ∙ sym (other_value coefficients quantization row j e)
 
 column_is : (rows : Rows) (f : ℕ → ℕ → ℤ) → HasNumbers rows f → (k : ℕ) → k < 8 → column_of rows k ≡ lanes (λ j. f j k)
 unfolding lanes
-column_is rows f e k h = λ i. lane-lanes rows.r0 (f 0) e.r0 k h i ∷ lane-lanes rows.r1 (f 1) e.r1 k h i ∷ lane-lanes rows.r2 (f 2) e.r2 k h i ∷ lane-lanes rows.r3 (f 3) e.r3 k h i
-    ∷ lane-lanes rows.r4 (f 4) e.r4 k h i ∷ lane-lanes rows.r5 (f 5) e.r5 k h i ∷ lane-lanes rows.r6 (f 6) e.r6 k h i ∷ lane-lanes rows.r7 (f 7) e.r7 k h i ∷ []
+column_is rows f e k h = λ i. lane-lanes rows.r0 (f 0) e.r0 k h i ∷ lane-lanes rows.r1 (f 1) e.r1 k h i ∷ lane-lanes
+    rows.r2 (f 2) e.r2 k h i ∷ lane-lanes rows.r3 (f 3) e.r3 k h i
+    ∷ lane-lanes rows.r4 (f 4) e.r4 k h i ∷ lane-lanes rows.r5 (f 5) e.r5 k h i ∷ lane-lanes rows.r6 (f 6) e.r6 k h i
+    ∷ lane-lanes rows.r7 (f 7) e.r7 k h i ∷ []
 
-pub turned_numbers : (rows turned : Rows) (f : ℕ → ℕ → ℤ) → HasNumbers rows f → IsTurned rows turned → HasNumbers turned (λ k j. f j k)
+pub turned_numbers : (rows turned : Rows) (f : ℕ → ℕ → ℤ) → HasNumbers rows f → IsTurned rows turned
+    → HasNumbers turned (λ k j. f j k)
 turned_numbers rows turned f e t = record {
   r0 = t.r0 ∙ column_is rows f e 0 (lit< tt);
   r1 = t.r1 ∙ column_is rows f e 1 (lit< tt);
@@ -67,22 +82,39 @@ turned_numbers rows turned f e t = record {
 }
 
 -- what the kernel leaves of rows whose numbers are known
-pub kernel_row : (rows : Rows) (f : ℕ → ℕ → ℤ) (bias : ℤ) (v : List ℤ) (place : ℕ) → HasNumbers rows f → v ≡ lanes (λ j. int_wrap w32 (transformed (λ k. lane_at rows k j) place +ℤ bias))
+pub kernel_row : (rows : Rows) (f : ℕ → ℕ → ℤ) (bias : ℤ) (v : List ℤ) (place : ℕ) → HasNumbers rows f
+    → v ≡ lanes (λ j. int_wrap w32 (transformed (λ k. lane_at rows k j) place +ℤ bias))
     → v ≡ lanes (λ j. int_wrap w32 (transformed (λ k. f k j) place +ℤ bias))
 kernel_row rows f bias v place e is = is ∙ lanes_same _ (λ j. int_wrap w32 (transformed (λ k. f k j) place +ℤ bias))
-    (λ j h. ap (λ z. int_wrap w32 (z +ℤ bias)) (transformed_same (λ k. lane_at rows k j) (λ k. f k j) place (λ k hk. lane_at_is rows f e k j hk h)))
+    (λ j h. ap (λ z. int_wrap w32 (z +ℤ bias)) (transformed_same (λ k. lane_at rows k j) (λ k. f k j) place
+    (λ k hk. lane_at_is rows f e k j hk h)))
 
 own_lanes : (v : List ℤ) → length v ≡ 8 → v ≡ lanes (λ j. lane v j)
 unfolding lanes
 own_lanes v e = fill_by_all (λ j. lane v j) v 8 (pos 0) e (λ k h. refl)
 
-pub own_numbers : (rows : Rows) → length rows.r0 ≡ 8 → length rows.r1 ≡ 8 → length rows.r2 ≡ 8 → length rows.r3 ≡ 8 → length rows.r4 ≡ 8 → length rows.r5 ≡ 8 → length rows.r6 ≡ 8 → length rows.r7 ≡ 8 → HasNumbers rows (lane_at rows)
-own_numbers rows a b c d e f g h = record { r0 = own_lanes rows.r0 a; r1 = own_lanes rows.r1 b; r2 = own_lanes rows.r2 c; r3 = own_lanes rows.r3 d; r4 = own_lanes rows.r4 e; r5 = own_lanes rows.r5 f; r6 = own_lanes rows.r6 g; r7 = own_lanes rows.r7 h }
+pub own_numbers : (rows : Rows) → length rows.r0 ≡ 8 → length rows.r1 ≡ 8 → length rows.r2 ≡ 8 → length rows.r3 ≡ 8
+    → length rows.r4 ≡ 8 → length rows.r5 ≡ 8 → length rows.r6 ≡ 8 → length rows.r7 ≡ 8 → HasNumbers rows (lane_at rows)
+own_numbers rows a b c d e f g h =
+    record {
+      r0 = own_lanes rows.r0 a;
+      r1 = own_lanes rows.r1 b;
+      r2 = own_lanes rows.r2 c;
+      r3 = own_lanes rows.r3 d;
+      r4 = own_lanes rows.r4 e;
+      r5 = own_lanes rows.r5 f;
+      r6 = own_lanes rows.r6 g;
+      r7 = own_lanes rows.r7 h;
+    }
 
 -- a row of sums, as it is read from its bits
-pub sums_row : (columns : Rows) (f : ℕ → ℕ → ℤ) (v : List ℤ) (y : ℕ) → HasNumbers columns f → y < 8 → v ≡ lanes (λ x. int_wrap w32 (transformed (λ k. lane_at columns y k) x +ℤ pos 16842752))
-    → (x : ℕ) → x < 8 → get_or (map (to_z w32) (map (of_z w32) v)) x (pos 0) ≡ int_wrap w32 (transformed (f y) x +ℤ pos 16842752)
+pub sums_row : (columns : Rows) (f : ℕ → ℕ → ℤ) (v : List ℤ) (y : ℕ) → HasNumbers columns f → y < 8
+    → v ≡ lanes (λ x. int_wrap w32 (transformed (λ k. lane_at columns y k) x +ℤ pos 16842752))
+    → (x : ℕ) → x < 8 → get_or (map (to_z w32) (map (of_z w32) v)) x (pos 0) ≡ int_wrap w32 (transformed (f y) x
+    +ℤ pos 16842752)
 sums_row columns f v y e hy is x hx =
-    lane-lanes (map (to_z w32) (map (of_z w32) v)) (λ j. int_wrap w32 (transformed (λ k. lane_at columns y k) j +ℤ pos 16842752))
+    lane-lanes (map (to_z w32) (map (of_z w32) v)) (λ j. int_wrap w32 (transformed (λ k. lane_at columns y k) j
+    +ℤ pos 16842752))
     (lanes_read (lane_wrapped v (λ j. transformed (λ k. lane_at columns y k) j +ℤ pos 16842752) is) (λ j. refl)) x hx
-    ∙ ap (λ z. int_wrap w32 (z +ℤ pos 16842752)) (transformed_same (λ k. lane_at columns y k) (f y) x (λ k hk. lane_at_is columns f e y k hy hk))
+    ∙ ap (λ z. int_wrap w32 (z +ℤ pos 16842752)) (transformed_same (λ k. lane_at columns y k) (f y) x
+    (λ k hk. lane_at_is columns f e y k hy hk))

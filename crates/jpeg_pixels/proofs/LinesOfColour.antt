@@ -25,21 +25,26 @@ by_four f g a b c d (suc (suc zero)) h = c
 by_four f g a b c d (suc (suc (suc zero))) h = d
 by_four f g a b c d (suc (suc (suc (suc k)))) h = absurd (omega arith)
 
-pub line-none : (width : ℕ) (lines : List (List ℕ)) → AreLong width lines → concat lines ≡ line_bytes converts.None width lines
+pub line-none : (width : ℕ) (lines : List (List ℕ)) → AreLong width lines
+    → concat lines ≡ line_bytes converts.None width lines
 unfolding line_bytes
-line-none width lines long = ap concat (ext_get_or [] lines (map (take width) lines) (sym (length-map lines (take width)))
+line-none width lines long = ap concat (ext_get_or [] lines (map (take width) lines)
+    (sym (length-map lines (take width)))
     (λ k h.
     let own : length (get_or lines k []) ≡ width = long.each k h in
-    sym (get_or-map (take width) lines k [] [] h ∙ ap (λ n. take n (get_or lines k [])) (sym own) ∙ take-length (get_or lines k []))))
+    sym (get_or-map (take width) lines k [] [] h ∙ ap (λ n. take n (get_or lines k [])) (sym own)
+    ∙ take-length (get_or lines k []))))
 
-pub line-rgb : (width : ℕ) (lines : List (List ℕ)) (out : List ℕ) → AreLong width lines → length lines ≡ 3 → length out ≡ 3 * width
+pub line-rgb : (width : ℕ) (lines : List (List ℕ)) (out : List ℕ) → AreLong width lines → length lines ≡ 3
+    → length out ≡ 3 * width
     → ((x : ℕ) → x < width → get_or out (3 * x) 0 ≡ get_or (concat lines) x 0)
     → ((x : ℕ) → x < width → get_or out (3 * x + 1) 0 ≡ get_or (concat lines) (width + x) 0)
     → ((x : ℕ) → x < width → get_or out (3 * x + 2) 0 ≡ get_or (concat lines) (2 * width + x) 0)
     → out ≡ line_bytes converts.Rgb width lines
 unfolding line_bytes colour_of
 line-rgb width lines out long three size red green blue =
-    by_pixels 3 width (λ x. colour_of converts.Rgb (samples lines x)) out (omega arith) (λ x. length-map lines (λ (l : List ℕ). get_or l x 0) ∙ three) size
+    by_pixels 3 width (λ x. colour_of converts.Rgb (samples lines x)) out (omega arith)
+    (λ x. length-map lines (λ (l : List ℕ). get_or l x 0) ∙ three) size
     (λ x k hx hk. by_three (λ k. get_or out (3 * x + k) 0) (λ k. get_or (samples lines x) k 0)
     (at (3 * x + 0) (3 * x) (omega arith) ∙ red x hx ∙ own 0 x x (omega arith) (omega arith) hx)
     (green x hx ∙ own 1 x (width + x) (omega arith) (omega arith) hx)
@@ -48,10 +53,12 @@ line-rgb width lines out long three size red green blue =
     at : (i j : ℕ) → i ≡ j → get_or out i 0 ≡ get_or out j 0
     at i j e = ap (λ m. get_or out m 0) e
 
-    own : (k x i : ℕ) → k < length lines → i ≡ k * width + x → x < width → get_or (concat lines) i 0 ≡ get_or (samples lines x) k 0
+    own : (k x i : ℕ) → k < length lines → i ≡ k * width + x → x < width
+        → get_or (concat lines) i 0 ≡ get_or (samples lines x) k 0
     own k x i h e lt = ap (λ m. get_or (concat lines) m 0) e ∙ sym (sample-at width lines k x long h lt)
 
-pub line-cmyk : (width : ℕ) (lines : List (List ℕ)) (out : List ℕ) → AreLong width lines → length lines ≡ 4 → length out ≡ 4 * width
+pub line-cmyk : (width : ℕ) (lines : List (List ℕ)) (out : List ℕ) → AreLong width lines → length lines ≡ 4
+    → length out ≡ 4 * width
     → ((x : ℕ) → x < width → get_or out (4 * x) 0 ≡ 255 - get_or (concat lines) x 0)
     → ((x : ℕ) → x < width → get_or out (4 * x + 1) 0 ≡ 255 - get_or (concat lines) (width + x) 0)
     → ((x : ℕ) → x < width → get_or out (4 * x + 2) 0 ≡ 255 - get_or (concat lines) (2 * width + x) 0)
@@ -70,19 +77,29 @@ line-cmyk width lines out long four size cyan magenta yellow black =
     at : (i j : ℕ) → i ≡ j → get_or out i 0 ≡ get_or out j 0
     at i j e = ap (λ m. get_or out m 0) e
 
-    own : (k x i : ℕ) → k < length lines → i ≡ k * width + x → x < width → 255 - get_or (concat lines) i 0 ≡ get_or (map (λ s. 255 - s) (samples lines x)) k 0
-    own k x i h e lt = ap (λ m. 255 - get_or (concat lines) m 0) e ∙ ap (λ v. 255 - v) (sym (sample-at width lines k x long h lt))
-        ∙ sym (get_or-map (λ s. 255 - s) (samples lines x) k 0 0 (omega (arith, length-map lines (λ (l : List ℕ). get_or l x 0))))
+    own : (k x i : ℕ) → k < length lines → i ≡ k * width + x → x < width
+        → 255 - get_or (concat lines) i 0 ≡ get_or (map (λ s. 255 - s) (samples lines x)) k 0
+    own k x i h e lt = ap (λ m. 255 - get_or (concat lines) m 0) e
+        ∙ ap (λ v. 255 - v) (sym (sample-at width lines k x long h lt))
+        ∙ sym (get_or-map (λ s. 255 - s) (samples lines x) k 0 0 (omega (
+          arith,
+          length-map lines (λ (l : List ℕ). get_or l x 0),
+        )))
 
 -- a sample of a pixel, by its place in the lines
-sample : (width : ℕ) (lines : List (List ℕ)) (k x i : ℕ) → AreLong width lines → k < length lines → i ≡ k * width + x → x < width
+sample : (width : ℕ) (lines : List (List ℕ)) (k x i : ℕ) → AreLong width lines → k < length lines → i ≡ k * width + x
+    → x < width
     → get_or (concat lines) i 0 ≡ get_or (samples lines x) k 0
 sample width lines k x i long h e lt = ap (λ m. get_or (concat lines) m 0) e ∙ sym (sample-at width lines k x long h lt)
 
-pub line-ycbcr : (width : ℕ) (lines : List (List ℕ)) (out : List ℕ) → AreLong width lines → length lines ≡ 3 → length out ≡ 3 * width
-    → ((x : ℕ) → x < width → get_or out (3 * x) 0 ≡ red_of (get_or (concat lines) x 0) (get_or (concat lines) (2 * width + x) 0))
-    → ((x : ℕ) → x < width → get_or out (3 * x + 1) 0 ≡ green_of (get_or (concat lines) x 0) (get_or (concat lines) (width + x) 0) (get_or (concat lines) (2 * width + x) 0))
-    → ((x : ℕ) → x < width → get_or out (3 * x + 2) 0 ≡ blue_of (get_or (concat lines) x 0) (get_or (concat lines) (width + x) 0))
+pub line-ycbcr : (width : ℕ) (lines : List (List ℕ)) (out : List ℕ) → AreLong width lines → length lines ≡ 3
+    → length out ≡ 3 * width
+    → ((x : ℕ) → x < width → get_or out (3 * x) 0 ≡ red_of (get_or (concat lines) x 0)
+    (get_or (concat lines) (2 * width + x) 0))
+    → ((x : ℕ) → x < width → get_or out (3 * x + 1) 0 ≡ green_of (get_or (concat lines) x 0)
+    (get_or (concat lines) (width + x) 0) (get_or (concat lines) (2 * width + x) 0))
+    → ((x : ℕ) → x < width → get_or out (3 * x + 2) 0 ≡ blue_of (get_or (concat lines) x 0)
+    (get_or (concat lines) (width + x) 0))
     → out ≡ line_bytes converts.YCbCr width lines
 unfolding line_bytes colour_of
 line-ycbcr width lines out long three size red green blue =
@@ -99,10 +116,14 @@ line-ycbcr width lines out long three size red green blue =
     at : (i j : ℕ) → i ≡ j → get_or out i 0 ≡ get_or out j 0
     at i j e = ap (λ m. get_or out m 0) e
 
-pub line-ycck : (width : ℕ) (lines : List (List ℕ)) (out : List ℕ) → AreLong width lines → length lines ≡ 4 → length out ≡ 4 * width
-    → ((x : ℕ) → x < width → get_or out (4 * x) 0 ≡ red_of (get_or (concat lines) x 0) (get_or (concat lines) (2 * width + x) 0))
-    → ((x : ℕ) → x < width → get_or out (4 * x + 1) 0 ≡ green_of (get_or (concat lines) x 0) (get_or (concat lines) (width + x) 0) (get_or (concat lines) (2 * width + x) 0))
-    → ((x : ℕ) → x < width → get_or out (4 * x + 2) 0 ≡ blue_of (get_or (concat lines) x 0) (get_or (concat lines) (width + x) 0))
+pub line-ycck : (width : ℕ) (lines : List (List ℕ)) (out : List ℕ) → AreLong width lines → length lines ≡ 4
+    → length out ≡ 4 * width
+    → ((x : ℕ) → x < width → get_or out (4 * x) 0 ≡ red_of (get_or (concat lines) x 0)
+    (get_or (concat lines) (2 * width + x) 0))
+    → ((x : ℕ) → x < width → get_or out (4 * x + 1) 0 ≡ green_of (get_or (concat lines) x 0)
+    (get_or (concat lines) (width + x) 0) (get_or (concat lines) (2 * width + x) 0))
+    → ((x : ℕ) → x < width → get_or out (4 * x + 2) 0 ≡ blue_of (get_or (concat lines) x 0)
+    (get_or (concat lines) (width + x) 0))
     → ((x : ℕ) → x < width → get_or out (4 * x + 3) 0 ≡ 255 - get_or (concat lines) (3 * width + x) 0)
     → out ≡ line_bytes converts.Ycck width lines
 unfolding line_bytes colour_of

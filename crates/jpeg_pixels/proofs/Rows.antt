@@ -45,7 +45,8 @@ pub half : plane_of 4 (replicate 64 64) 1 1 (λ row column. pos 0 ∷ pos 1 ∷ 
 unfolding dequantized even_part odd_part column_of_4 sample_of_4 sample_at plane_of int_wrap
 half = refl
 
-pub quarter : plane_of 2 (replicate 64 64) 1 1 (λ row column. pos 0 ∷ pos 1 ∷ replicate 62 (pos 0)) ≡ 136 ∷ 120 ∷ 136 ∷ 120 ∷ []
+pub quarter : plane_of 2 (replicate 64 64) 1 1 (λ row column. pos 0 ∷ pos 1 ∷ replicate 62 (pos 0)) ≡ 136 ∷ 120 ∷ 136
+    ∷ 120 ∷ []
 unfolding dequantized sample_of_2 sample_at plane_of int_wrap
 quarter = refl
 

@@ -17,7 +17,8 @@ greatest-some f (c ∷ more) = let h = greatest-some f more in omega arith
 pub greatest-start : (f : Factors → ℕ) (cs : List Factors) → max 1 (greatest f cs) ≡ greatest f cs
 greatest-start f cs = let h = greatest-some f cs in omega arith
 
-pub factors-at : (cs : List Component) (k : ℕ) (c : Component) → AllHaveSampling cs → k < length cs → HasSampling (get_or cs k c)
+pub factors-at : (cs : List Component) (k : ℕ) (c : Component) → AllHaveSampling cs → k < length cs
+    → HasSampling (get_or cs k c)
 unfolding AllHaveSampling
 factors-at [] k c all h = absurd (omega arith)
 factors-at (d ∷ more) zero c all h = all.0
@@ -40,18 +41,21 @@ unfolding after
 sources-start (Ok others) = record { same = refl }
 sources-start (Err e) = record { same = refl }
 
-pub sources-more : (most_h most_v width height : ℕ) (before : List Source) (c : Component) (more : List Component) (s : Source) (all : Result (List Source) Fault)
+pub sources-more : (most_h most_v width height : ℕ) (before : List Source) (c : Component) (more : List Component)
+    (s : Source) (all : Result (List Source) Fault)
     → source_of most_h most_v width height c ≡ Ok s
     → Continues before (sources_by most_h most_v width height (c ∷ more)) all
     → Continues (before ++ (s ∷ [])) (sources_by most_h most_v width height more) all
 unfolding after sources_by
 sources-more most_h most_v width height before c more s all is so_far = record {
   same = so_far.same
-      ∙ ap (λ (o : Result Source Fault). after before (o >>= (λ t. sources_by most_h most_v width height more >>= (λ others. Ok (t ∷ others))))) is
+      ∙ ap (λ (o : Result Source Fault). after before (o >>= (λ t. sources_by most_h most_v width height more
+      >>= (λ others. Ok (t ∷ others))))) is
       ∙ moved (sources_by most_h most_v width height more);
 }
   where
-    moved : (rest : Result (List Source) Fault) → after before (rest >>= (λ others. Ok (s ∷ others))) ≡ after (before ++ (s ∷ [])) rest
+    moved : (rest : Result (List Source) Fault) → after before (rest >>= (λ others. Ok (s ∷ others)))
+        ≡ after (before ++ (s ∷ [])) rest
     moved (Ok others) = ap as_all (sym (append_assoc before (s ∷ []) others))
     moved (Err e) = refl
 
@@ -61,28 +65,36 @@ unfolding after sources_by
 sources-end most_h most_v width height before all so_far = so_far.same ∙ ap as_all (append-nil before)
 
 -- an error that names the fault of one outcome names that of another with the same faults
-pub Names-on : {X Y : Type 0} (e : Error) (one : Result X Fault) (all : Result Y Fault) → ((f : Fault) → one ≡ Err f → all ≡ Err f) → Names e one → Names e all
+pub Names-on : {X Y : Type 0} (e : Error) (one : Result X Fault) (all : Result Y Fault)
+    → ((f : Fault) → one ≡ Err f → all ≡ Err f) → Names e one → Names e all
 Names-on (errors.Format text) one all same names = same Malformed names
 Names-on (errors.Unsupported feature) one all same names = same (Lacks feature) names
 Names-on (errors.Io e) one all same names = (same _ names.0, names.1)
 Names-on (errors.Internal text) one all same names = names
 Names-on errors.OutOfMemory one all same names = tt
 
-pub sources-err : (most_h most_v width height : ℕ) (before : List Source) (c : Component) (more : List Component) (e : Error) (all : Result (List Source) Fault)
+pub sources-err : (most_h most_v width height : ℕ) (before : List Source) (c : Component) (more : List Component)
+    (e : Error) (all : Result (List Source) Fault)
     → Names e (source_of most_h most_v width height c)
     → Continues before (sources_by most_h most_v width height (c ∷ more)) all
     → Names e all
 unfolding after sources_by
-sources-err most_h most_v width height before c more e all names so_far = Names-on e (source_of most_h most_v width height c) all
-    (λ f is. so_far.same ∙ ap (λ (o : Result Source Fault). after before (o >>= (λ t. sources_by most_h most_v width height more >>= (λ others. Ok (t ∷ others))))) is) names
+sources-err most_h most_v width height before c more e all names so_far =
+    Names-on e (source_of most_h most_v width height c) all
+    (λ f is. so_far.same ∙ ap (λ (o : Result Source Fault). after before (o
+    >>= (λ t. sources_by most_h most_v width height more >>= (λ others. Ok (t ∷ others))))) is) names
 
 -- as many sources as components
-pub sources-length : (most_h most_v width height : ℕ) (cs : List Component) (sources : List Source) → sources_by most_h most_v width height cs ≡ Ok sources → length sources ≡ length cs
+pub sources-length : (most_h most_v width height : ℕ) (cs : List Component) (sources : List Source)
+    → sources_by most_h most_v width height cs ≡ Ok sources → length sources ≡ length cs
 unfolding sources_by
 sources-length most_h most_v width height [] sources is = let e : [] ≡ sources = cc in sym (ap length e)
-sources-length most_h most_v width height (c ∷ more) sources is = by_source (source_of most_h most_v width height c) (sources_by most_h most_v width height more) (λ others e. sources-length most_h most_v width height more others e) is
+sources-length most_h most_v width height (c ∷ more) sources is = by_source (source_of most_h most_v width height c)
+    (sources_by most_h most_v width height more) (λ others e. sources-length most_h most_v width height more others e)
+    is
   where
-    by_source : (one : Result Source Fault) (rest : Result (List Source) Fault) → ((others : List Source) → rest ≡ Ok others → length others ≡ length more)
+    by_source : (one : Result Source Fault) (rest : Result (List Source) Fault)
+        → ((others : List Source) → rest ≡ Ok others → length others ≡ length more)
         → (one >>= (λ s. rest >>= (λ others. Ok (s ∷ others)))) ≡ Ok sources → length sources ≡ suc (length more)
     by_source (Err e) rest known is = absurd (cc)
     by_source (Ok s) (Err e) known is = absurd (cc)

@@ -17,12 +17,21 @@ IsFactor n = (1 ≤ n) × (n ≤ 4)
 
 in-range : (factors : List ℕ) → All IsFactor factors → All IsInRange (map square factors)
 in-range factors all = All-map IsInRange square factors (λ k d lt.
-    let p = all k d lt in record { horizontal_some = p.0; horizontal_most = p.1; vertical_some = p.0; vertical_most = p.1 })
+    let p = all k d lt in record {
+      horizontal_some = p.0;
+      horizontal_most = p.1;
+      vertical_some = p.0;
+      vertical_most = p.1;
+    })
 
-pub squares-have-factors : (width height : ℕ) (factors : List ℕ) (seen : List Component) → seen ≡ squares width height factors → All IsFactor factors → AllHaveSampling seen
-squares-have-factors width height factors seen is all = have-factors width height (map square factors) seen is (in-range factors all)
+pub squares-have-factors : (width height : ℕ) (factors : List ℕ) (seen : List Component)
+    → seen ≡ squares width height factors → All IsFactor factors → AllHaveSampling seen
+squares-have-factors width height factors seen is all =
+    have-factors width height (map square factors) seen is (in-range factors all)
 
-pub squares-are-covered : (width height : ℕ) (factors : List ℕ) (seen : List Component) (planes : List (List ℕ)) → seen ≡ squares width height factors → All IsFactor factors
+pub squares-are-covered : (width height : ℕ) (factors : List ℕ) (seen : List Component) (planes : List (List ℕ))
+    → seen ≡ squares width height factors → All IsFactor factors
     → 1 ≤ width → 1 ≤ height → HaveRoom (squares width height factors) planes
     → (sources : List Source) → sources_of seen width height ≡ Ok sources → AllCover sources planes width height
-squares-are-covered width height factors seen planes is all = are-covered width height (map square factors) seen planes is (in-range factors all)
+squares-are-covered width height factors seen planes is all =
+    are-covered width height (map square factors) seen planes is (in-range factors all)

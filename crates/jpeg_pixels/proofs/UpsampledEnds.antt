@@ -33,29 +33,38 @@ far_alone x h = elim (cases_eq (x % 2) 0) [
 
 pub first_across : (plane : ℕ → ℕ → ℕ) (width height row : ℕ) → upsampled H2V1 plane width height 0 row ≡ plane 0 row
 unfolding upsampled
-first_across plane width height row = ap (λ f. blended (plane 0 row) (plane f row)) (far_first width) ∙ alike (plane 0 row)
+first_across plane width height row =
+    ap (λ f. blended (plane 0 row) (plane f row)) (far_first width) ∙ alike (plane 0 row)
 
-pub last_across : (plane : ℕ → ℕ → ℕ) (width height row : ℕ) → 1 ≤ width → upsampled H2V1 plane width height (2 * width - 1) row ≡ plane (width - 1) row
+pub last_across : (plane : ℕ → ℕ → ℕ) (width height row : ℕ) → 1 ≤ width
+    → upsampled H2V1 plane width height (2 * width - 1) row ≡ plane (width - 1) row
 unfolding upsampled
-last_across plane width height row some = (λ i. blended (plane (near_last width some i) row) (plane (far_last width some i) row)) ∙ alike (plane (width - 1) row)
+last_across plane width height row some =
+    (λ i. blended (plane (near_last width some i) row) (plane (far_last width some i) row))
+    ∙ alike (plane (width - 1) row)
 
 pub first_down : (plane : ℕ → ℕ → ℕ) (width height x : ℕ) → upsampled H1V2 plane width height x 0 ≡ plane x 0
 unfolding upsampled
 first_down plane width height x = ap (λ f. blended (plane x 0) (plane x f)) (far_first height) ∙ alike (plane x 0)
 
-pub last_down : (plane : ℕ → ℕ → ℕ) (width height x : ℕ) → 1 ≤ height → upsampled H1V2 plane width height x (2 * height - 1) ≡ plane x (height - 1)
+pub last_down : (plane : ℕ → ℕ → ℕ) (width height x : ℕ) → 1 ≤ height
+    → upsampled H1V2 plane width height x (2 * height - 1) ≡ plane x (height - 1)
 unfolding upsampled
-last_down plane width height x some = (λ i. blended (plane x (near_last height some i)) (plane x (far_last height some i))) ∙ alike (plane x (height - 1))
+last_down plane width height x some =
+    (λ i. blended (plane x (near_last height some i)) (plane x (far_last height some i))) ∙ alike (plane x (height - 1))
 
 -- a sample of H2V2 by the four places that it is blended from
-at_places : (plane : ℕ → ℕ → ℕ) (width height x row near far upper lower : ℕ) → x / 2 ≡ near → far_place width x ≡ far → row / 2 ≡ upper → far_place height row ≡ lower →
-    upsampled H2V2 plane width height x row ≡ (3 * (3 * plane near upper + plane near lower) + (3 * plane far upper + plane far lower) + 8) / 16
+at_places : (plane : ℕ → ℕ → ℕ) (width height x row near far upper lower : ℕ) → x / 2 ≡ near → far_place width x ≡ far
+    → row / 2 ≡ upper → far_place height row ≡ lower →
+    upsampled H2V2 plane width height x row ≡ (3 * (3 * plane near upper + plane near lower)
+    + (3 * plane far upper + plane far lower) + 8) / 16
 unfolding upsampled
 at_places plane width height x row near far upper lower a b c d =
     λ i. (3 * (3 * plane (a i) (c i) + plane (a i) (d i)) + (3 * plane (b i) (c i) + plane (b i) (d i)) + 8) / 16
 
 pub first_corner : (plane : ℕ → ℕ → ℕ) (width height : ℕ) → upsampled H2V2 plane width height 0 0 ≡ plane 0 0
-first_corner plane width height = at_places plane width height 0 0 0 0 0 0 (omega arith) (far_first width) (omega arith) (far_first height) ∙ alike_twice (plane 0 0)
+first_corner plane width height = at_places plane width height 0 0 0 0 0 0 (omega arith) (far_first width) (omega arith)
+    (far_first height) ∙ alike_twice (plane 0 0)
 
 pub last_corner : (plane : ℕ → ℕ → ℕ) (width height : ℕ) → 1 ≤ width → 1 ≤ height →
     upsampled H2V2 plane width height (2 * width - 1) (2 * height - 1) ≡ plane (width - 1) (height - 1)
@@ -68,12 +77,15 @@ last_corner plane width height wide high =
 alike_sums : (a : ℕ) → (3 * a + a + 8) / 16 ≡ (a + 2) / 4
 alike_sums a = omega arith
 
-pub first_column : (plane : ℕ → ℕ → ℕ) (width height row : ℕ) → upsampled H2V2 plane width height 0 row ≡ (line_sum plane height row 0 + 2) / 4
+pub first_column : (plane : ℕ → ℕ → ℕ) (width height row : ℕ) → upsampled H2V2 plane width height 0 row
+    ≡ (line_sum plane height row 0 + 2) / 4
 first_column plane width height row =
-    at_places plane width height 0 row 0 0 (row / 2) (far_place height row) (omega arith) (far_first width) (λ i. row / 2) (λ i. far_place height row)
+    at_places plane width height 0 row 0 0 (row / 2) (far_place height row) (omega arith) (far_first width)
+    (λ i. row / 2) (λ i. far_place height row)
     ∙ alike_sums (line_sum plane height row 0)
 
-pub last_column : (plane : ℕ → ℕ → ℕ) (width height row : ℕ) → 1 ≤ width → upsampled H2V2 plane width height (2 * width - 1) row ≡ (line_sum plane height row (width - 1) + 2) / 4
+pub last_column : (plane : ℕ → ℕ → ℕ) (width height row : ℕ) → 1 ≤ width
+    → upsampled H2V2 plane width height (2 * width - 1) row ≡ (line_sum plane height row (width - 1) + 2) / 4
 last_column plane width height row wide =
     at_places plane width height (2 * width - 1) row (width - 1) (width - 1) (row / 2) (far_place height row)
     (near_last width wide) (far_last width wide) (λ i. row / 2) (λ i. far_place height row)
@@ -83,17 +95,21 @@ last_column plane width height row wide =
 one_line : (a b : ℕ) → (3 * (3 * a + a) + (3 * b + b) + 8) / 16 ≡ blended a b
 one_line a b = omega arith
 
-pub first_line : (plane : ℕ → ℕ → ℕ) (width height x : ℕ) → upsampled H2V2 plane width height x 0 ≡ upsampled H2V1 plane width height x 0
+pub first_line : (plane : ℕ → ℕ → ℕ) (width height x : ℕ) → upsampled H2V2 plane width height x 0 ≡ upsampled H2V1 plane
+    width height x 0
 unfolding upsampled
-first_line plane width height x = at_places plane width height x 0 (x / 2) (far_place width x) 0 0 (λ i. x / 2) (λ i. far_place width x) (omega arith) (far_first height)
+first_line plane width height x = at_places plane width height x 0 (x / 2) (far_place width x) 0 0 (λ i. x / 2)
+    (λ i. far_place width x) (omega arith) (far_first height)
     ∙ one_line (plane (x / 2) 0) (plane (far_place width x) 0)
 
-pub repeated : (plane : ℕ → ℕ → ℕ) (width height h v i j k l : ℕ) → k < h → l < v → upsampled (Generic h v) plane width height (i * h + k) (j * v + l) ≡ plane i j
+pub repeated : (plane : ℕ → ℕ → ℕ) (width height h v i j k l : ℕ) → k < h → l < v
+    → upsampled (Generic h v) plane width height (i * h + k) (j * v + l) ≡ plane i j
 unfolding upsampled
 repeated plane width height h v i j k l hk hl = λ p. plane (div-mul-add i h k hk p) (div-mul-add j v l hl p)
 
 -- a component of one sample
-pub alone : (rule : UpsampleRule) (plane : ℕ → ℕ → ℕ) (x row : ℕ) → x < across rule → row < down rule → upsampled rule plane 1 1 x row ≡ plane 0 0
+pub alone : (rule : UpsampleRule) (plane : ℕ → ℕ → ℕ) (x row : ℕ) → x < across rule → row < down rule
+    → upsampled rule plane 1 1 x row ≡ plane 0 0
 unfolding upsampled
 alone H1V1 plane x row hx hr = let a : x ≡ 0 = omega arith in let b : row ≡ 0 = omega arith in λ i. plane (a i) (b i)
 alone H2V1 plane x row hx hr =
@@ -106,7 +122,8 @@ alone H1V2 plane x row hx hr =
     let b : row / 2 ≡ 0 = omega arith in
     let f = far_alone row hr in
     (λ i. blended (plane (a i) (b i)) (plane (a i) (f i))) ∙ alike (plane 0 0)
-alone H2V2 plane x row hx hr = at_places plane 1 1 x row 0 0 0 0 (omega arith) (far_alone x hx) (omega arith) (far_alone row hr) ∙ alike_twice (plane 0 0)
+alone H2V2 plane x row hx hr = at_places plane 1 1 x row 0 0 0 0 (omega arith) (far_alone x hx) (omega arith)
+    (far_alone row hr) ∙ alike_twice (plane 0 0)
 alone (Generic h v) plane x row hx hr =
     let a : x / h ≡ 0 = ap (λ n. n / h) (let e : x ≡ 0 * h + x = omega arith in e) ∙ div-mul-add 0 h x hx in
     let b : row / v ≡ 0 = ap (λ n. n / v) (let e : row ≡ 0 * v + row = omega arith in e) ∙ div-mul-add 0 v row hr in

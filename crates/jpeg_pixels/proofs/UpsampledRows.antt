@@ -27,22 +27,26 @@ far_below count x h = elim (cases_eq (x % 2) 0) [
 ]
 
 -- the front of a row, once it is written
-pub in_front : (n : ℕ) (new old : List ℕ) (x : ℕ) → length new ≡ length (take n old) → n ≤ length old → x < n → get_or (new ++ drop n old) x 0 ≡ get_or new x 0
+pub in_front : (n : ℕ) (new old : List ℕ) (x : ℕ) → length new ≡ length (take n old) → n ≤ length old → x < n
+    → get_or (new ++ drop n old) x 0 ≡ get_or new x 0
 in_front n new old x long room h =
     let inside : x < length new = omega (arith, length-take n old) in
     get_or_append_left new (drop n old) 0 x inside
 
 -- the sample of each rule by the lines that it reads
 
-pub as_h1v1 : (rule : UpsampleRule) (plane : ℕ → ℕ → ℕ) (line : List ℕ) (used width height x row : ℕ) → rule ≡ H1V1 → x < used →
+pub as_h1v1 : (rule : UpsampleRule) (plane : ℕ → ℕ → ℕ) (line : List ℕ) (used width height x row : ℕ) → rule ≡ H1V1
+    → x < used →
     ((i : ℕ) → i < used → get_or line i 0 ≡ plane i row) →
     get_or line x 0 ≡ upsampled rule plane width height x row
 unfolding upsampled
 as_h1v1 rule plane line used width height x row e inside each = rw e (each x inside)
 
-pub as_h2v1 : (rule : UpsampleRule) (plane : ℕ → ℕ → ℕ) (line : List ℕ) (width height x row : ℕ) → rule ≡ H2V1 → length line ≡ width → x < across rule * width →
+pub as_h2v1 : (rule : UpsampleRule) (plane : ℕ → ℕ → ℕ) (line : List ℕ) (width height x row : ℕ) → rule ≡ H2V1
+    → length line ≡ width → x < across rule * width →
     ((i : ℕ) → i < width → get_or line i 0 ≡ plane i row) →
-    blended (get_or line (x / 2) 0) (get_or line (far_place (length line) x) 0) ≡ upsampled rule plane width height x row
+    blended (get_or line (x / 2) 0) (get_or line (far_place (length line) x) 0) ≡ upsampled rule plane width height x
+    row
 unfolding upsampled
 as_h2v1 rule plane line width height x row e long inside each = rw e (λ i. blended (near i) (far i))
   where
@@ -55,21 +59,26 @@ as_h2v1 rule plane line width height x row e long inside each = rw e (λ i. blen
     far : get_or line (far_place (length line) x) 0 ≡ plane (far_place width x) row
     far = ap (λ n. get_or line (far_place n x) 0) long ∙ each (far_place width x) (far_below width x below)
 
-pub as_h1v2 : (rule : UpsampleRule) (plane : ℕ → ℕ → ℕ) (near far : List ℕ) (used width height x row : ℕ) → rule ≡ H1V2 → x < used →
+pub as_h1v2 : (rule : UpsampleRule) (plane : ℕ → ℕ → ℕ) (near far : List ℕ) (used width height x row : ℕ) → rule ≡ H1V2
+    → x < used →
     ((i : ℕ) → i < used → get_or near i 0 ≡ plane i (row / 2)) →
     ((i : ℕ) → i < used → get_or far i 0 ≡ plane i (far_place height row)) →
     blended (get_or near x 0) (get_or far x 0) ≡ upsampled rule plane width height x row
 unfolding upsampled
-as_h1v2 rule plane near far used width height x row e inside near_is far_is = rw e (λ i. blended (near_is x inside i) (far_is x inside i))
+as_h1v2 rule plane near far used width height x row e inside near_is far_is =
+    rw e (λ i. blended (near_is x inside i) (far_is x inside i))
 
-pub as_h2v2 : (rule : UpsampleRule) (plane : ℕ → ℕ → ℕ) (near far : List ℕ) (width height x row : ℕ) → rule ≡ H2V2 → length near ≡ width → x < across rule * width →
+pub as_h2v2 : (rule : UpsampleRule) (plane : ℕ → ℕ → ℕ) (near far : List ℕ) (width height x row : ℕ) → rule ≡ H2V2
+    → length near ≡ width → x < across rule * width →
     ((i : ℕ) → i < width → get_or near i 0 ≡ plane i (row / 2)) →
     ((i : ℕ) → i < width → get_or far i 0 ≡ plane i (far_place height row)) →
-    (3 * (3 * get_or near (x / 2) 0 + get_or far (x / 2) 0) + (3 * get_or near (far_place (length near) x) 0 + get_or far (far_place (length near) x) 0) + 8) / 16
+    (3 * (3 * get_or near (x / 2) 0 + get_or far (x / 2) 0) + (3 * get_or near (far_place (length near) x) 0
+    + get_or far (far_place (length near) x) 0) + 8) / 16
     ≡ upsampled rule plane width height x row
 unfolding upsampled
 as_h2v2 rule plane near far width height x row e long inside near_is far_is =
-    rw (e, long) (λ i. (3 * (3 * near_is (x / 2) below i + far_is (x / 2) below i) + (3 * near_is (far_place width x) farther i + far_is (far_place width x) farther i) + 8) / 16)
+    rw (e, long) (λ i. (3 * (3 * near_is (x / 2) below i + far_is (x / 2) below i)
+    + (3 * near_is (far_place width x) farther i + far_is (far_place width x) farther i) + 8) / 16)
   where
     below : x / 2 < width
     below = let two : across rule ≡ 2 = ap across e in let h : x < 2 * width = rw (← two) inside in omega arith
@@ -77,7 +86,8 @@ as_h2v2 rule plane near far width height x row e long inside near_is far_is =
     farther : far_place width x < width
     farther = far_below width x below
 
-pub as_generic : (rule : UpsampleRule) (h v : ℕ) (plane : ℕ → ℕ → ℕ) (line : List ℕ) (used width height x row : ℕ) → rule ≡ Generic h v → 1 ≤ h → x < h * used →
+pub as_generic : (rule : UpsampleRule) (h v : ℕ) (plane : ℕ → ℕ → ℕ) (line : List ℕ) (used width height x row : ℕ)
+    → rule ≡ Generic h v → 1 ≤ h → x < h * used →
     ((i : ℕ) → i < used → get_or line i 0 ≡ plane i (row / v)) →
     get_or line (x / h) 0 ≡ upsampled rule plane width height x row
 unfolding upsampled
@@ -105,12 +115,15 @@ used_within output h used width some is wide =
     omega arith
 
 -- the samples that are repeated lie in the plane
-pub repeated_within : (rule : UpsampleRule) (h v output used width height stride row room : ℕ) → rule ≡ Generic h v → 1 ≤ across rule → 1 ≤ down rule → used ≡ div_ceil output h →
-    output ≤ across rule * width → row < down rule * height → (height - 1) * stride + width ≤ room → row / v * stride + used ≤ room
+pub repeated_within : (rule : UpsampleRule) (h v output used width height stride row room : ℕ) → rule ≡ Generic h v
+    → 1 ≤ across rule → 1 ≤ down rule → used ≡ div_ceil output h →
+    output ≤ across rule * width → row < down rule * height → (height - 1) * stride + width ≤ room
+    → row / v * stride + used ≤ room
 repeated_within rule h v output used width height stride row room e some_across some_down is wide high inside =
     let some_h : 0 < h = subst (λ n. 0 < n) (ap across e) some_across in
     let some_v : 0 < v = subst (λ n. 0 < n) (ap down e) some_down in
-    let short : used ≤ width = used_within output h used width some_h is (subst (λ n. output ≤ n * width) (ap across e) wide) in
+    let short : used ≤ width = used_within output h used width some_h is (subst (λ n. output ≤ n * width) (ap across e)
+    wide) in
     let rows : row < v * height = subst (λ n. row < n * height) (ap down e) high in
     let turned : row < height * v = rw (mul_comm height v) rows in
     let line : row / v < height = (div-lt_iff_lt-mul {k = v} {x = row} {y = height} some_v).1 turned in
@@ -118,17 +131,19 @@ repeated_within rule h v output used width height stride row room e some_across 
     omega (arith, mul-le-mul_right stride last, short, inside)
 
 -- one more sample, at its place among those that are `step` apart
-pub spread_samples : (line xs ys : List ℕ) (step first i : ℕ) → first < step → i * step + first < length xs → ys ≡ set xs (i * step + first) (get_or line i 0) →
+pub spread_samples : (line xs ys : List ℕ) (step first i : ℕ) → first < step → i * step + first < length xs
+    → ys ≡ set xs (i * step + first) (get_or line i 0) →
     ((k : ℕ) → k < i → k * step + first < length xs → get_or xs (k * step + first) 0 ≡ get_or line k 0) →
     (k : ℕ) → k < i + 1 → k * step + first < length ys → get_or ys (k * step + first) 0 ≡ get_or line k 0
-spread_samples line xs ys step first i some inside is before k h long = ap (λ (l : List ℕ). get_or l (k * step + first) 0) is ∙ (elim (cases_eq k i) [
-  | inl e ↦ ap (λ n. get_or (set xs (i * step + first) (get_or line i 0)) (n * step + first) 0) e
-      ∙ get_or-set_same xs (i * step + first) (get_or line i 0) 0 inside ∙ ap (λ n. get_or line n 0) (sym e)
-  | inr ne ↦ let next : k + 1 ≤ i = omega arith in
-      let apart : k * step + first ≢ i * step + first = omega (arith, mul-le-mul_right step next) in
-      get_or-set_other xs (i * step + first) (k * step + first) (get_or line i 0) 0 apart
-      ∙ before k (omega arith) (omega (arith, ap length is, length-set xs (i * step + first) (get_or line i 0)))
-])
+spread_samples line xs ys step first i some inside is before k h long =
+    ap (λ (l : List ℕ). get_or l (k * step + first) 0) is ∙ (elim (cases_eq k i) [
+      | inl e ↦ ap (λ n. get_or (set xs (i * step + first) (get_or line i 0)) (n * step + first) 0) e
+          ∙ get_or-set_same xs (i * step + first) (get_or line i 0) 0 inside ∙ ap (λ n. get_or line n 0) (sym e)
+      | inr ne ↦ let next : k + 1 ≤ i = omega arith in
+          let apart : k * step + first ≢ i * step + first = omega (arith, mul-le-mul_right step next) in
+          get_or-set_other xs (i * step + first) (k * step + first) (get_or line i 0) 0 apart
+          ∙ before k (omega arith) (omega (arith, ap length is, length-set xs (i * step + first) (get_or line i 0)))
+    ])
 
 -- the places between
 pub spread_others : (xs ys was : List ℕ) (step first i v : ℕ) → first < step → ys ≡ set xs (i * step + first) v →

@@ -28,19 +28,24 @@ abbrev as_convert : ColorConvert → Result ColorConvert Fault
 as_convert k = Ok k
 
 -- what was grown, and then written after its old end
-pub grown : (start size : ℕ) (old whole new tail : List ℕ) → start ≡ length old → whole ≡ take (start + size) old ++ tail → length whole ≡ start + size
+pub grown : (start size : ℕ) (old whole new tail : List ℕ) → start ≡ length old
+    → whole ≡ take (start + size) old ++ tail → length whole ≡ start + size
     → put_mid start (length whole - start) whole new ≡ old ++ new
 grown start size old whole new tail begins is long =
     let none : drop (start + size) old ≡ [] = drop_of_length-le old (omega arith) in
     let all : take (start + size) old ≡ old =
-    sym (append-nil (take (start + size) old)) ∙ ap (λ (l : List ℕ). take (start + size) old ++ l) (sym none) ∙ take-append-drop (start + size) old in
-    let front : take start whole ≡ old = ap (λ (l : List ℕ). take start l) (is ∙ ap (λ (l : List ℕ). l ++ tail) all) ∙ ap (λ n. take n (old ++ tail)) begins ∙ take-append_seam old tail in
-    let after : drop (length whole - start) (drop start whole) ≡ [] = drop_of_length-le (drop start whole) (omega (arith, length-drop {A = ℕ})) in
+    sym (append-nil (take (start + size) old)) ∙ ap (λ (l : List ℕ). take (start + size) old ++ l) (sym none)
+    ∙ take-append-drop (start + size) old in
+    let front : take start whole ≡ old = ap (λ (l : List ℕ). take start l) (is ∙ ap (λ (l : List ℕ). l ++ tail) all)
+    ∙ ap (λ n. take n (old ++ tail)) begins ∙ take-append_seam old tail in
+    let after : drop (length whole - start) (drop start whole) ≡ [] =
+    drop_of_length-le (drop start whole) (omega (arith, length-drop {A = ℕ})) in
     (λ i. front i ++ (new ++ after i)) ∙ ap (λ (l : List ℕ). old ++ l) (append-nil new)
 
 -- one more line
 pub picture-more : (convert : ColorConvert) (sources : List Source) (planes : List (List ℕ)) (width height : ℕ)
-    → picture_bytes convert sources planes width (height + 1) ≡ picture_bytes convert sources planes width height ++ picture_line convert sources planes width height
+    → picture_bytes convert sources planes width (height + 1) ≡ picture_bytes convert sources planes width height
+    ++ picture_line convert sources planes width height
 unfolding picture_bytes
 picture-more convert sources planes width height =
     let line = picture_line convert sources planes width in
@@ -48,19 +53,24 @@ picture-more convert sources planes width height =
     ∙ concat-append (map line (range_with_len 0 height)) (line height ∷ [])
     ∙ ap (λ (l : List ℕ). concat (map line (range_with_len 0 height)) ++ l) (append-nil (line height))
 
-pub picture-none : (convert : ColorConvert) (sources : List Source) (planes : List (List ℕ)) (width : ℕ) → picture_bytes convert sources planes width 0 ≡ []
+pub picture-none : (convert : ColorConvert) (sources : List Source) (planes : List (List ℕ)) (width : ℕ)
+    → picture_bytes convert sources planes width 0 ≡ []
 unfolding picture_bytes
 picture-none convert sources planes width = refl
 
-by_count : (count n : ℕ) (own convert : ColorConvert) → (count ≡ n → IsFor count own) → (if count == n then as_convert own else Err Malformed) ≡ as_convert convert → IsFor count convert
-by_count count n own convert fits is = by_test (count == n) (λ h. ⊎_elim (λ t. t.1) (λ t. let bad : true ≡ false = sym h ∙ t.0 in absurd (cc)) (eqb_tells count n)) is
+by_count : (count n : ℕ) (own convert : ColorConvert) → (count ≡ n → IsFor count own)
+    → (if count == n then as_convert own else Err Malformed) ≡ as_convert convert → IsFor count convert
+by_count count n own convert fits is = by_test (count == n) (λ h. ⊎_elim (λ t. t.1) (λ t. let bad : true ≡ false = sym h
+    ∙ t.0 in absurd (cc)) (eqb_tells count n)) is
   where
-    by_test : (b : Bool) → (b ≡ true → count ≡ n) → (if b then as_convert own else Err Malformed) ≡ as_convert convert → IsFor count convert
+    by_test : (b : Bool) → (b ≡ true → count ≡ n) → (if b then as_convert own else Err Malformed) ≡ as_convert convert
+        → IsFor count convert
     by_test true known is = let e : own ≡ convert = cc in subst (IsFor count) e (fits (known refl))
     by_test false known is = absurd (cc)
 
 -- a conversion that a transform gives fits the number of components
-pub conversion-fits : (count : ℕ) (transform : ColorTransform) (convert : ColorConvert) → conversion_of count transform ≡ Ok convert → IsFor count convert
+pub conversion-fits : (count : ℕ) (transform : ColorTransform) (convert : ColorConvert)
+    → conversion_of count transform ≡ Ok convert → IsFor count convert
 unfolding conversion_of
 conversion-fits count transforms.None convert is = let e : converts.None ≡ convert = cc in subst (IsFor count) e tt
 conversion-fits count transforms.RGB convert is = by_count count 3 converts.Rgb convert (λ e. e) is
@@ -75,37 +85,55 @@ conversion-fits count transforms.JcsBgRgb convert is = absurd (cc)
 abbrev as_bytes : List ℕ → Result (List ℕ) Fault
 as_bytes l = Ok l
 
-pub image-is : (components : List Component) (planes : List (List ℕ)) (width height : ℕ) (transform : ColorTransform) (convert : ColorConvert) (sources : List Source) (bytes : List ℕ)
-    → conversion_of (length components) transform ≡ Ok convert → sources_of components width height ≡ Ok sources → bytes ≡ picture_bytes convert sources planes width height
+pub image-is : (components : List Component) (planes : List (List ℕ)) (width height : ℕ) (transform : ColorTransform)
+    (convert : ColorConvert) (sources : List Source) (bytes : List ℕ)
+    → conversion_of (length components) transform ≡ Ok convert → sources_of components width height ≡ Ok sources
+    → bytes ≡ picture_bytes convert sources planes width height
     → image_of components planes width height transform ≡ Ok bytes
 unfolding image_of
 image-is components planes width height transform convert sources bytes conversion is same =
-    ap (λ (o : Result ColorConvert Fault). o >>= (λ k. sources_of components width height >>= (λ s. as_bytes (picture_bytes k s planes width height)))) conversion
+    ap (λ (o : Result ColorConvert Fault). o >>= (λ k. sources_of components width height
+    >>= (λ s. as_bytes (picture_bytes k s planes width height)))) conversion
     ∙ ap (λ (o : Result (List Source) Fault). o >>= (λ s. as_bytes (picture_bytes convert s planes width height))) is
     ∙ ap as_bytes (sym same)
 
-pub image-no_conversion : (components : List Component) (planes : List (List ℕ)) (width height : ℕ) (transform : ColorTransform) (e : Error)
-    → Names e (conversion_of (length components) transform) → Names e (image_of components planes width height transform)
+pub image-no_conversion : (components : List Component) (planes : List (List ℕ)) (width height : ℕ)
+    (transform : ColorTransform) (e : Error)
+    → Names e (conversion_of (length components) transform)
+    → Names e (image_of components planes width height transform)
 unfolding image_of
-image-no_conversion components planes width height transform e names = Names-on e (conversion_of (length components) transform) _
-    (λ f is. ap (λ (o : Result ColorConvert Fault). o >>= (λ k. sources_of components width height >>= (λ s. as_bytes (picture_bytes k s planes width height)))) is) names
+image-no_conversion components planes width height transform e names =
+    Names-on e (conversion_of (length components) transform) _
+    (λ f is. ap (λ (o : Result ColorConvert Fault). o >>= (λ k. sources_of components width height
+    >>= (λ s. as_bytes (picture_bytes k s planes width height)))) is) names
 
-pub image-no_sources : (components : List Component) (planes : List (List ℕ)) (width height : ℕ) (transform : ColorTransform) (convert : ColorConvert) (e : Error)
-    → conversion_of (length components) transform ≡ Ok convert → Names e (sources_of components width height) → Names e (image_of components planes width height transform)
+pub image-no_sources : (components : List Component) (planes : List (List ℕ)) (width height : ℕ)
+    (transform : ColorTransform) (convert : ColorConvert) (e : Error)
+    → conversion_of (length components) transform ≡ Ok convert → Names e (sources_of components width height)
+    → Names e (image_of components planes width height transform)
 unfolding image_of
-image-no_sources components planes width height transform convert e conversion names = Names-on e (sources_of components width height) _
-    (λ f is. ap (λ (o : Result ColorConvert Fault). o >>= (λ k. sources_of components width height >>= (λ s. as_bytes (picture_bytes k s planes width height)))) conversion
-    ∙ ap (λ (o : Result (List Source) Fault). o >>= (λ s. as_bytes (picture_bytes convert s planes width height))) is) names
+image-no_sources components planes width height transform convert e conversion names =
+    Names-on e (sources_of components width height) _
+    (λ f is. ap (λ (o : Result ColorConvert Fault). o >>= (λ k. sources_of components width height
+    >>= (λ s. as_bytes (picture_bytes k s planes width height)))) conversion
+    ∙ ap (λ (o : Result (List Source) Fault). o >>= (λ s. as_bytes (picture_bytes convert s planes width height))) is)
+    names
 
 -- what a call answered that gives the picture, or lacks memory
-pub image-answer : (components : List Component) (planes : List (List ℕ)) (width height : ℕ) (transform : ColorTransform) (convert : ColorConvert) (sources : List Source) (w h : ℕ) (result : Result (Vec ℕ Global) Error)
-    → conversion_of (length components) transform ≡ Ok convert → sources_of components width height ≡ Ok sources → w ≡ width → h ≡ height
+pub image-answer : (components : List Component) (planes : List (List ℕ)) (width height : ℕ)
+    (transform : ColorTransform) (convert : ColorConvert) (sources : List Source) (w h : ℕ)
+    (result : Result (Vec ℕ Global) Error)
+    → conversion_of (length components) transform ≡ Ok convert → sources_of components width height ≡ Ok sources
+    → w ≡ width → h ≡ height
     → MatchResult result (λ v. v.items ≡ picture_bytes convert sources planes w h) (λ e. e ≡ OutOfMemory)
-    → MatchResult result (λ v. image_of components planes width height transform ≡ Ok v.items) (λ e. Names e (image_of components planes width height transform))
+    → MatchResult result (λ v. image_of components planes width height transform ≡ Ok v.items)
+    (λ e. Names e (image_of components planes width height transform))
 image-answer components planes width height transform convert sources w h (Ok v) conversion is wide high same =
-    image-is components planes width height transform convert sources v.items conversion is (same ∙ (λ i. picture_bytes convert sources planes (wide i) (high i)))
+    image-is components planes width height transform convert sources v.items conversion is (same
+    ∙ (λ i. picture_bytes convert sources planes (wide i) (high i)))
 image-answer components planes width height transform convert sources w h (Err e) conversion is wide high same =
     subst (λ (d : Error). Names d (image_of components planes width height transform)) (sym same) tt
 
-pub sources-count : (components : List Component) (width height : ℕ) (sources : List Source) → sources_of components width height ≡ Ok sources → length sources ≡ length components
+pub sources-count : (components : List Component) (width height : ℕ) (sources : List Source)
+    → sources_of components width height ≡ Ok sources → length sources ≡ length components
 sources-count components width height sources is = sources-length _ _ width height components sources is

@@ -13,7 +13,8 @@ unfolding zigzag_places
 length_places = refl
 
 -- a list that holds, at each place of the block, what f says of its place in zigzag order
-pub filled_by_places : {A : Type 0} (f : ℕ → A) (xs : List A) (d : A) → length xs ≡ 64 → ((j : ℕ) → j < 64 → get_or xs j d ≡ f (get_or zigzag_places j 0)) → xs ≡ map f zigzag_places
+pub filled_by_places : {A : Type 0} (f : ℕ → A) (xs : List A) (d : A) → length xs ≡ 64
+    → ((j : ℕ) → j < 64 → get_or xs j d ≡ f (get_or zigzag_places j 0)) → xs ≡ map f zigzag_places
 filled_by_places f xs d n each =
     ext_get_or d xs (map f zigzag_places) (n ∙ sym (length-map zigzag_places f ∙ length_places))
     (λ i h.
@@ -22,7 +23,9 @@ filled_by_places f xs d n each =
     each i lt ∙ sym (get_or-map f zigzag_places i 0 d within))
 
 each_below : (xs : List ℕ) (n : ℕ) → list_all (λ x. ltb x n) xs ≡ true → (i : ℕ) → i < length xs → get_or xs i 0 < n
-each_below xs n all i h = ⊎_elim (λ lt. lt) (λ le. absurd (false≢true (sym (list_all_at (λ x. ltb x n) xs i 0 h (false_from_ne_true (ltb (get_or xs i 0) n) (λ e. omega (arith, ltb-true (get_or xs i 0) n e)))) ∙ all))) (cases_lt (get_or xs i 0) n)
+each_below xs n all i h = ⊎_elim (λ lt. lt)
+    (λ le. absurd (false≢true (sym (list_all_at (λ x. ltb x n) xs i 0 h (false_from_ne_true (ltb (get_or xs i 0) n)
+    (λ e. omega (arith, ltb-true (get_or xs i 0) n e)))) ∙ all))) (cases_lt (get_or xs i 0) n)
 
 -- each of them is a place
 pub place_lt : (place : ℕ) → place < 64 → get_or zigzag_places place 0 < 64

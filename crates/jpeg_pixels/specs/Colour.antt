@@ -23,7 +23,8 @@ unfoldable pub red_of : ℕ → ℕ → ℕ
 red_of y cr = clamped (int_shr (luma_of y +ℤ pos 1470104 *ℤ centred_of cr) 20)
 
 unfoldable pub green_of : ℕ → ℕ → ℕ → ℕ
-green_of y cb cr = clamped (int_shr (luma_of y -ℤ pos 360857 *ℤ centred_of cb -ℤ pos 748830 *ℤ centred_of cr) 20)
+green_of y cb cr = clamped (int_shr (luma_of y -ℤ pos 360857 *ℤ centred_of cb
+    -ℤ pos 748830 *ℤ centred_of cr) 20)
 
 unfoldable pub blue_of : ℕ → ℕ → ℕ
 blue_of y cb = clamped (int_shr (luma_of y +ℤ pos 1858077 *ℤ centred_of cb) 20)
@@ -33,11 +34,13 @@ unfoldable pub colour_of : ColorConvert → List ℕ → List ℕ
 colour_of converts.None samples = samples
 colour_of converts.Rgb samples = samples
 colour_of converts.YCbCr samples =
-    let y = slice_index samples 0 in let cb = slice_index samples 1 in let cr = slice_index samples 2 in
+    let y = slice_index samples 0 in let cb = slice_index samples 1 in
+    let cr = slice_index samples 2 in
     red_of y cr ∷ green_of y cb cr ∷ blue_of y cb ∷ []
 colour_of converts.Cmyk samples = map (λ s. 255 - s) samples
 colour_of converts.Ycck samples =
-    let y = slice_index samples 0 in let cb = slice_index samples 1 in let cr = slice_index samples 2 in
+    let y = slice_index samples 0 in let cb = slice_index samples 1 in
+    let cr = slice_index samples 2 in
     red_of y cr ∷ green_of y cb cr ∷ blue_of y cb ∷ (255 - slice_index samples 3) ∷ []
 
 -- whether the components of a row stand one after the other, and not pixel by pixel
@@ -54,7 +57,8 @@ unfoldable pub line_bytes : ColorConvert → ℕ → List (List ℕ) → List �
 line_bytes convert width lines =
     if is_by_component convert
     then concat (map (take width) lines)
-    else concat (map (λ x. colour_of convert (map (λ line. slice_index line x) lines)) (range_with_len 0 width))
+    else concat (map (λ x. colour_of convert (map (λ line. slice_index line x) lines))
+    (range_with_len 0 width))
 
 -- The conversion of a transform for this many components, where it fits.
 unfoldable pub conversion_of : ℕ → ColorTransform → Result ColorConvert Fault

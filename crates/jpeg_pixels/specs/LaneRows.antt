@@ -5,7 +5,8 @@ use Rattle.jpeg_pixels.specs.Lanes.{lane, lanes}
 
 -- what stands in this lane of each row, from above
 abbrev pub column_of : Rows → ℕ → List ℤ
-column_of rows k = lane rows.r0 k ∷ lane rows.r1 k ∷ lane rows.r2 k ∷ lane rows.r3 k ∷ lane rows.r4 k ∷ lane rows.r5 k ∷ lane rows.r6 k ∷ lane rows.r7 k ∷ []
+column_of rows k = lane rows.r0 k ∷ lane rows.r1 k ∷ lane rows.r2 k ∷ lane rows.r3 k ∷ lane rows.r4
+    k ∷ lane rows.r5 k ∷ lane rows.r6 k ∷ lane rows.r7 k ∷ []
 
 -- what stands in this lane of this row
 abbrev pub lane_at : Rows → ℕ → ℕ → ℤ

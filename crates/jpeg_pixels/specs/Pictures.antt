@@ -26,42 +26,56 @@ factors_of components = map (λ c. c.factors) components
 -- factors
 abbrev pub source_by : Component → Option UpsampleRule → Result Source Fault
 source_by c None = Err (Lacks NonIntegerSubsamplingRatio)
-source_by c (Some rule) = Ok (record { rule = rule; width = c.width; height = c.height; stride = c.blocks_wide * c.scale })
+source_by c (Some rule) = Ok (record {
+  rule = rule;
+  width = c.width;
+  height = c.height;
+  stride = c.blocks_wide * c.scale;
+})
 
 abbrev pub source_of : ℕ → ℕ → ℕ → ℕ → Component → Result Source Fault
-source_of most_h most_v width height c = source_by c (rule_of c.factors.horizontal c.factors.vertical most_h most_v width height)
+source_of most_h most_v width height c =
+    source_by c (rule_of c.factors.horizontal c.factors.vertical most_h most_v width height)
 
 -- each component's, or the first refusal
 unfoldable pub sources_by : ℕ → ℕ → ℕ → ℕ → List Component → Result (List Source) Fault
 sources_by most_h most_v width height [] = Ok []
 sources_by most_h most_v width height (c ∷ more) =
-    source_of most_h most_v width height c >>= (λ s. sources_by most_h most_v width height more >>= (λ others. Ok (s ∷ others)))
+    source_of most_h most_v width height c >>= (λ s. sources_by most_h most_v width height more
+    >>= (λ others. Ok (s ∷ others)))
 
 abbrev pub sources_of : List Component → ℕ → ℕ → Result (List Source) Fault
 sources_of components width height =
-    sources_by (greatest (λ f. f.horizontal) (factors_of components)) (greatest (λ f. f.vertical) (factors_of components)) width height components
+    sources_by (greatest (λ f. f.horizontal) (factors_of components))
+    (greatest (λ f. f.vertical) (factors_of components)) width height components
 
 -- a line of a component as wide as the picture
 abbrev pub line_of : Source → List ℕ → ℕ → ℕ → List ℕ
-line_of s plane width row = map (λ x. upsampled s.rule (λ i j. slice_index plane (j * s.stride + i)) s.width s.height x row) (range_with_len 0 width)
+line_of s plane width row = map (λ x. upsampled s.rule (λ i j. slice_index plane (j * s.stride + i))
+    s.width s.height x row) (range_with_len 0 width)
 
 unfoldable pub lines_of : List Source → List (List ℕ) → ℕ → ℕ → List (List ℕ)
 lines_of [] planes width row = []
 lines_of (s ∷ sources) [] width row = []
-lines_of (s ∷ sources) (plane ∷ planes) width row = line_of s plane width row ∷ lines_of sources planes width row
+lines_of (s ∷ sources) (plane ∷ planes) width row =
+    line_of s plane width row ∷ lines_of sources planes width row
 
 -- a line of the picture
 unfoldable pub picture_line : ColorConvert → List Source → List (List ℕ) → ℕ → ℕ → List ℕ
-picture_line convert sources planes width row = line_bytes convert width (lines_of sources planes width row)
+picture_line convert sources planes width row =
+    line_bytes convert width (lines_of sources planes width row)
 
 -- the picture: its lines from above
 unfoldable pub picture_bytes : ColorConvert → List Source → List (List ℕ) → ℕ → ℕ → List ℕ
-picture_bytes convert sources planes width height = concat (map (picture_line convert sources planes width) (range_with_len 0 height))
+picture_bytes convert sources planes width height =
+    concat (map (picture_line convert sources planes width) (range_with_len 0 height))
 
-unfoldable pub image_of : List Component → List (List ℕ) → ℕ → ℕ → ColorTransform → Result (List ℕ) Fault
+unfoldable pub image_of : List Component → List (List ℕ) → ℕ → ℕ → ColorTransform
+    → Result (List ℕ) Fault
 image_of components planes width height transform =
     conversion_of (length components) transform >>= (λ convert.
-    sources_of components width height >>= (λ sources. Ok (picture_bytes convert sources planes width height)))
+    sources_of components width height
+    >>= (λ sources. Ok (picture_bytes convert sources planes width height)))
 
 -- ---- what is asked of planes
 
@@ -78,24 +92,28 @@ pub record Covers (s : Source) (plane : List ℕ) (width height : ℕ) : Type 0 
 unfoldable pub AllCover : List Source → List (List ℕ) → ℕ → ℕ → Type 0
 AllCover [] planes width height = Unit {0}
 AllCover (s ∷ sources) [] width height = ⊥
-AllCover (s ∷ sources) (plane ∷ planes) width height = Covers s plane width height × AllCover sources planes width height
+AllCover (s ∷ sources) (plane ∷ planes) width height =
+    Covers s plane width height × AllCover sources planes width height
 
 -- planes with room for the samples of these components, where a line is as long as the component's
 -- blocks
 unfoldable pub HaveRoom : List Component → List (List ℕ) → Type 0
 HaveRoom [] planes = Unit {0}
 HaveRoom (c ∷ more) [] = ⊥
-HaveRoom (c ∷ more) (plane ∷ planes) = ((c.height - 1) * (c.blocks_wide * c.scale) + c.width ≤ length plane) × HaveRoom more planes
+HaveRoom (c ∷ more) (plane ∷ planes) =
+    ((c.height - 1) * (c.blocks_wide * c.scale) + c.width ≤ length plane) × HaveRoom more planes
 
 -- planes of all blocks of these components
 unfoldable pub AreWhole : List Component → List (List ℕ) → Type 0
 AreWhole [] planes = Unit {0}
 AreWhole (c ∷ more) [] = ⊥
-AreWhole (c ∷ more) (plane ∷ planes) = (length plane ≡ (c.blocks_high * c.scale) * (c.blocks_wide * c.scale)) × AreWhole more planes
+AreWhole (c ∷ more) (plane ∷ planes) =
+    (length plane ≡ (c.blocks_high * c.scale) * (c.blocks_wide * c.scale)) × AreWhole more planes
 
 -- A frame has a way to upsample each component to the size of its picture, and planes of all blocks
 -- have the samples for it.
 pub record HasSources (frame : Frame) : Type 0 where
   pub sources : List Source
   pub is : sources_of frame.components frame.output_width frame.output_height ≡ Ok sources
-  pub cover : (planes : List (List ℕ)) → AreWhole frame.components planes → AllCover sources planes frame.output_width frame.output_height
+  pub cover : (planes : List (List ℕ)) → AreWhole frame.components planes
+      → AllCover sources planes frame.output_width frame.output_height

@@ -12,17 +12,21 @@ zero_coefficients = replicate 64 (pos 0)
 -- as its quantization table is, and gives so many samples a side: the sample at (x mod scale, y mod
 -- scale) of the block in row y / scale and column x / scale.
 abbrev pub plane_sample : ℕ → List ℕ → (ℕ → ℕ → List ℤ) → ℕ → ℕ → ℕ
-plane_sample scale table block_at x y = sample_at scale (block_at (y / scale) (x / scale)) table (x % scale) (y % scale)
+plane_sample scale table block_at x y =
+    sample_at scale (block_at (y / scale) (x / scale)) table (x % scale) (y % scale)
 
 -- the samples of some rows of blocks, this many blocks wide, line by line
 unfoldable pub plane_of : ℕ → List ℕ → ℕ → ℕ → (ℕ → ℕ → List ℤ) → List ℕ
 plane_of scale table wide high block_at =
-    map (λ i. plane_sample scale table block_at (i % (scale * wide)) (i / (scale * wide))) (range_with_len 0 (scale * wide * (scale * high)))
+    map (λ i. plane_sample scale table block_at (i % (scale * wide)) (i / (scale * wide)))
+    (range_with_len 0 (scale * wide * (scale * high)))
 
 -- the samples of one row of blocks
 abbrev pub strip_of : ℕ → List ℕ → List (List ℤ) → List ℕ
-strip_of scale table blocks = plane_of scale table (length blocks) 1 (λ row column. slice_index_or blocks column zero_coefficients)
+strip_of scale table blocks = plane_of scale table (length blocks) 1
+    (λ row column. slice_index_or blocks column zero_coefficients)
 
 -- the first samples of the first lines of a plane with lines of a stride
 unfoldable pub cropped : ℕ → ℕ → ℕ → List ℕ → List ℕ
-cropped stride width height plane = map (λ i. slice_index plane (i / width * stride + i % width)) (range_with_len 0 (width * height))
+cropped stride width height plane = map (λ i. slice_index plane (i / width * stride + i % width))
+    (range_with_len 0 (width * height))

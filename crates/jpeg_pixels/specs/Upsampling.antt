@@ -41,8 +41,10 @@ line_sum plane height row i = 3 * plane i (row / 2) + plane i (far_place height 
 -- column and a row, of which it has width and height.
 unfoldable pub upsampled : UpsampleRule → (ℕ → ℕ → ℕ) → ℕ → ℕ → ℕ → ℕ → ℕ
 upsampled H1V1 plane width height x row = plane x row
-upsampled H2V1 plane width height x row = blended (plane (x / 2) row) (plane (far_place width x) row)
-upsampled H1V2 plane width height x row = blended (plane x (row / 2)) (plane x (far_place height row))
+upsampled H2V1 plane width height x row =
+    blended (plane (x / 2) row) (plane (far_place width x) row)
+upsampled H1V2 plane width height x row =
+    blended (plane x (row / 2)) (plane x (far_place height row))
 upsampled H2V2 plane width height x row =
     (3 * line_sum plane height row (x / 2) + line_sum plane height row (far_place width x) + 8) / 16
 upsampled (Generic h v) plane width height x row = plane (x / h) (row / v)
@@ -65,4 +67,5 @@ rule_of h v greatest_h greatest_v width height =
     if h2 && v1 then Some H2V1 else (
     if h1 && v2 then Some H1V2 else (
     if h2 && v2 then Some H2V2 else (
-    if divides h greatest_h && divides v greatest_v then Some (Generic (greatest_h / h) (greatest_v / v)) else None))))
+    if divides h greatest_h && divides v greatest_v
+    then Some (Generic (greatest_h / h) (greatest_v / v)) else None))))

@@ -68,7 +68,8 @@ fn green_row(y: &[u8], cb: &[u8], cr: &[u8], start: usize, count: usize, row: &m
     requires cb_room { start + count ≤ length cb.now }
     requires cr_room { start + count ≤ length cr.now }
     ensures { (x : ℕ) → x < count → slice_index row.new x ≡
-        green_of (slice_index y.now (start + x)) (slice_index cb.now (start + x)) (slice_index cr.now (start + x)) }
+        green_of (slice_index y.now (start + x)) (slice_index cb.now (start + x))
+        (slice_index cr.now (start + x)) }
 {
     for x in 0..count {
         row[x] = green(y[start + x], cb[start + x], cr[start + x]);
@@ -173,7 +174,8 @@ fn write_ycbcr_piece(y: &[u8], cb: &[u8], cr: &[u8], start: usize, count: usize,
     ensures red { (x : ℕ) → x < count → slice_index output.new (3 * (start + x))
         ≡ red_of (slice_index y.now (start + x)) (slice_index cr.now (start + x)) }
     ensures green { (x : ℕ) → x < count → slice_index output.new (3 * (start + x) + 1) ≡ green_of
-        (slice_index y.now (start + x)) (slice_index cb.now (start + x)) (slice_index cr.now (start + x)) }
+        (slice_index y.now (start + x)) (slice_index cb.now (start + x))
+        (slice_index cr.now (start + x)) }
     ensures blue { (x : ℕ) → x < count → slice_index output.new (3 * (start + x) + 2)
         ≡ blue_of (slice_index y.now (start + x)) (slice_index cb.now (start + x)) }
     ensures before { (i : ℕ) → i < 3 * start → slice_index output.new i ≡ slice_index output.old i }

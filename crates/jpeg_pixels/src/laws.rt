@@ -94,11 +94,16 @@ pub fn planes_are_their_rows()
 /// What is asked of planes can be had in each frame: planes of all blocks have room for the
 /// samples, and planes with that room cover the picture.
 pub fn frames_are_covered()
-    ensures whole { (number precision width height : ℕ) (factors : List Factors) (planes : List (List ℕ)) → All IsInRange factors → 0 < width → 0 < height →
-        AreWhole (frame_of number precision width height factors).components planes → HaveRoom (frame_of number precision width height factors).components planes }
-    ensures covered { (number precision width height : ℕ) (factors : List Factors) (planes : List (List ℕ)) (sources : List Source) →
-        All IsInRange factors → 0 < width → 0 < height → HaveRoom (frame_of number precision width height factors).components planes →
-        sources_of (frame_of number precision width height factors).components width height ≡ Ok sources → AllCover sources planes width height }
+    ensures whole { (number precision width height : ℕ) (factors : List Factors)
+        (planes : List (List ℕ)) → All IsInRange factors → 0 < width → 0 < height →
+        AreWhole (frame_of number precision width height factors).components planes
+        → HaveRoom (frame_of number precision width height factors).components planes }
+    ensures covered { (number precision width height : ℕ) (factors : List Factors)
+        (planes : List (List ℕ)) (sources : List Source) →
+        All IsInRange factors → 0 < width → 0 < height
+        → HaveRoom (frame_of number precision width height factors).components planes →
+        sources_of (frame_of number precision width height factors).components width height
+        ≡ Ok sources → AllCover sources planes width height }
 {}
 
 /// The samples of three blocks, computed: the first coefficient alone; the largest coefficients and
@@ -115,7 +120,8 @@ pub fn known_blocks()
         ∷ 255 ∷ 255 ∷ 0 ∷ 255 ∷ 255 ∷ 255 ∷ 170 ∷ 0
         ∷ 0 ∷ 255 ∷ 0 ∷ 0 ∷ 0 ∷ 0 ∷ 0 ∷ 255
         ∷ 255 ∷ 255 ∷ 0 ∷ 255 ∷ 0 ∷ 255 ∷ 0 ∷ 0 ∷ [] }
-    ensures second_only { plane_of 8 (replicate 64 64) 1 1 (λ row column. pos 0 ∷ pos 8192 ∷ replicate 62 (pos 0)) ≡
+    ensures second_only { plane_of 8 (replicate 64 64) 1 1 (λ row column. pos 0 ∷ pos 8192
+        ∷ replicate 62 (pos 0)) ≡
         0 ∷ 255 ∷ 0 ∷ 0 ∷ 255 ∷ 255 ∷ 0 ∷ 255
         ∷ 0 ∷ 255 ∷ 0 ∷ 0 ∷ 255 ∷ 255 ∷ 0 ∷ 255
         ∷ 0 ∷ 255 ∷ 0 ∷ 0 ∷ 255 ∷ 255 ∷ 0 ∷ 255
@@ -158,7 +164,8 @@ pub fn known_colours()
 /// the first and last samples of a row or a column are the component's own. Where it is made
 /// twice as wide and high, those of any row are blended from the two nearest lines alone.
 pub fn ends_are_kept()
-    ensures alone { (rule : UpsampleRule) (plane : ℕ → ℕ → ℕ) (x row : ℕ) → x < across rule → row < down rule →
+    ensures alone { (rule : UpsampleRule) (plane : ℕ → ℕ → ℕ) (x row : ℕ) → x < across rule
+        → row < down rule →
         upsampled rule plane 1 1 x row ≡ plane 0 0 }
     ensures first_across { (plane : ℕ → ℕ → ℕ) (width height row : ℕ)
         → upsampled H2V1 plane width height 0 row ≡ plane 0 row }
@@ -171,11 +178,13 @@ pub fn ends_are_kept()
     ensures first_corner { (plane : ℕ → ℕ → ℕ) (width height : ℕ)
         → upsampled H2V2 plane width height 0 0 ≡ plane 0 0 }
     ensures last_corner { (plane : ℕ → ℕ → ℕ) (width height : ℕ) → 1 ≤ width → 1 ≤ height →
-        upsampled H2V2 plane width height (2 * width - 1) (2 * height - 1) ≡ plane (width - 1) (height - 1) }
+        upsampled H2V2 plane width height (2 * width - 1) (2 * height - 1) ≡ plane (width - 1)
+        (height - 1) }
     ensures first_column { (plane : ℕ → ℕ → ℕ) (width height row : ℕ) →
         upsampled H2V2 plane width height 0 row ≡ (line_sum plane height row 0 + 2) / 4 }
     ensures last_column { (plane : ℕ → ℕ → ℕ) (width height row : ℕ) → 1 ≤ width →
-        upsampled H2V2 plane width height (2 * width - 1) row ≡ (line_sum plane height row (width - 1) + 2) / 4 }
+        upsampled H2V2 plane width height (2 * width - 1) row
+        ≡ (line_sum plane height row (width - 1) + 2) / 4 }
     ensures first_line { (plane : ℕ → ℕ → ℕ) (width height x : ℕ) →
         upsampled H2V2 plane width height x 0 ≡ upsampled H2V1 plane width height x 0 }
     ensures repeated { (plane : ℕ → ℕ → ℕ) (width height h v i j k l : ℕ) → k < h → l < v →
@@ -184,14 +193,19 @@ pub fn ends_are_kept()
 
 /// Rows of each rule, computed.
 pub fn known_rows()
-    ensures twice_across { map (λ x. upsampled H2V1 (λ i j. slice_index (10 ∷ 20 ∷ 30 ∷ []) i) 3 1 x 0) (range_with_len 0 6) ≡
+    ensures twice_across { map (λ x. upsampled H2V1 (λ i j. slice_index (10 ∷ 20 ∷ 30 ∷ []) i) 3 1 x
+        0) (range_with_len 0 6) ≡
         10 ∷ 13 ∷ 18 ∷ 23 ∷ 28 ∷ 30 ∷ [] }
-    ensures twice_down { map (λ row. upsampled H1V2 (λ i j. slice_index (10 ∷ 30 ∷ []) j) 1 2 0 row) (range_with_len 0 4) ≡
+    ensures twice_down { map (λ row. upsampled H1V2 (λ i j. slice_index (10 ∷ 30 ∷ []) j) 1 2 0 row)
+        (range_with_len 0 4) ≡
         10 ∷ 15 ∷ 25 ∷ 30 ∷ [] }
-    ensures both_first { map (λ x. upsampled H2V2 (λ i j. slice_index (10 ∷ 20 ∷ 30 ∷ 40 ∷ []) (j * 2 + i)) 2 2 x 0) (range_with_len 0 4) ≡
+    ensures both_first { map (λ x. upsampled H2V2 (λ i j. slice_index (10 ∷ 20 ∷ 30 ∷ 40 ∷ [])
+        (j * 2 + i)) 2 2 x 0) (range_with_len 0 4) ≡
         10 ∷ 13 ∷ 18 ∷ 20 ∷ [] }
-    ensures both_second { map (λ x. upsampled H2V2 (λ i j. slice_index (10 ∷ 20 ∷ 30 ∷ 40 ∷ []) (j * 2 + i)) 2 2 x 1) (range_with_len 0 4) ≡
+    ensures both_second { map (λ x. upsampled H2V2 (λ i j. slice_index (10 ∷ 20 ∷ 30 ∷ 40 ∷ [])
+        (j * 2 + i)) 2 2 x 1) (range_with_len 0 4) ≡
         15 ∷ 18 ∷ 23 ∷ 25 ∷ [] }
-    ensures four_times { map (λ x. upsampled (Generic 4 1) (λ i j. slice_index (10 ∷ 20 ∷ []) i) 2 1 x 0) (range_with_len 0 8) ≡
+    ensures four_times { map (λ x. upsampled (Generic 4 1) (λ i j. slice_index (10 ∷ 20 ∷ []) i) 2 1
+        x 0) (range_with_len 0 8) ≡
         10 ∷ 10 ∷ 10 ∷ 10 ∷ 20 ∷ 20 ∷ 20 ∷ 20 ∷ [] }
 {}

@@ -56,7 +56,8 @@ pub fn upsample_row_h2v1(line: &[u8], output: &mut [u8])
     requires some { 1 ≤ length output.old }
     requires wide { length output.old ≤ 2 * length line.now }
     ensures { (x : ℕ) → x < length output.old → slice_index output.new x ≡
-        blended (slice_index line.now (x / 2)) (slice_index line.now (far_place (length line.now) x)) }
+        blended (slice_index line.now (x / 2))
+        (slice_index line.now (far_place (length line.now) x)) }
 {
     let used = output.len().div_ceil(2);
     output[0] = line[0];

@@ -59,7 +59,8 @@ impl UpsampleRule {
         requires input_room { (input_height - 1) * row_stride + input_width ≤ length input.now }
         requires output_room { output_width ≤ length output.old }
         ensures samples { (x : ℕ) → x < output_width → slice_index output.new x
-            ≡ upsampled self.now (λ i j. slice_index input.now (j * row_stride + i)) input_width input_height x row }
+            ≡ upsampled self.now (λ i j. slice_index input.now (j * row_stride + i)) input_width
+            input_height x row }
         ensures others { (i : ℕ) → output_width ≤ i → slice_index output.new i
             ≡ slice_index output.old i }
     {

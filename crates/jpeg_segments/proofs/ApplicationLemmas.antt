@@ -8,7 +8,8 @@ use Rattle.jpeg_bits.specs.declared.error.Error.{Error}
 use Rattle.jpeg_segments.specs.Application.{Application, application_by, payload_at, passed_over}
 
 -- what is read in one way is read in another, which gives the same
-pub Answers-along : {X Y : Type 0} (view : X → Y) (read other : List ℕ → Outcome Y) (old new : Stream) (r : Result X Error)
+pub Answers-along : {X Y : Type 0} (view : X → Y) (read other : List ℕ → Outcome Y) (old new : Stream)
+    (r : Result X Error)
     → other old.bytes ≡ read old.bytes → Answers view read old r new → Answers view other old r new
 Answers-along view read other old new (Ok x) e p = (p.0, λ k. let at = p.1 k in (at.0, e ∙ at.1))
 Answers-along view read other old new (Err f) e p = (p.0, (λ k known. rw e (p.1 k known)), p.2)
@@ -27,7 +28,8 @@ after : (b : ℕ) (said : Option Application) (o : Outcome (List ℕ))
 after b said (Ok x) = refl
 after b said (Err e) = refl
 
-read-skipped : (n : ℕ) (said : Option Application) (bytes : List ℕ) → (times n next_byte bytes >>= saying said) ≡ passed_over n said bytes
+read-skipped : (n : ℕ) (said : Option Application) (bytes : List ℕ) → (times n next_byte bytes >>= saying said)
+    ≡ passed_over n said bytes
 unfolding times skip_at
 read-skipped zero said bytes = refl
 read-skipped (suc n) said [] = refl
@@ -47,6 +49,7 @@ each : (number : ℕ) (o : Outcome (List ℕ)) → 2 < number → number ≢ 13
 each number (Ok x) h g = ap (λ (a : Option Application). saying a x) (says-none number x.0 h g)
 each number (Err e) h g = refl
 
-pub payload-passed : (number left : ℕ) (bytes : List ℕ) → 2 < number → number ≢ 13 → payload_at number left bytes ≡ passed_over left None bytes
+pub payload-passed : (number left : ℕ) (bytes : List ℕ) → 2 < number → number ≢ 13
+    → payload_at number left bytes ≡ passed_over left None bytes
 unfolding payload_at
 payload-passed number left bytes h g = each number (times left next_byte bytes) h g ∙ read-skipped left None bytes

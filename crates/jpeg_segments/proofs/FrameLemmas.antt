@@ -10,18 +10,21 @@ use Rattle.jpeg_segments.specs.Frame.{Factors, HasSampling, AllHaveSampling, IsI
 use Rattle.jpeg_segments.specs.Frame.{factors_at, greatest}
 
 pub components_from-more : (lossless : Bool) (n : ℕ) (front : List Factors) (bytes : List ℕ) → 0 < n
-    → components_from lossless n front bytes ≡ (factors_at lossless front bytes >>= λ (c : Factors × List ℕ). components_from lossless (n - 1) (front ++ c.0 ∷ []) c.1)
+    → components_from lossless n front bytes ≡ (factors_at lossless front bytes
+    >>= λ (c : Factors × List ℕ). components_from lossless (n - 1) (front ++ c.0 ∷ []) c.1)
 unfolding components_from
 components_from-more lossless zero front bytes h = absurd (omega arith)
 components_from-more lossless (suc n) front bytes h = let e : suc n - 1 ≡ n = omega arith in rw e refl
 
-pub components_from-none : (lossless : Bool) (front : List Factors) (bytes : List ℕ) → components_from lossless 0 front bytes ≡ Ok (front, bytes)
+pub components_from-none : (lossless : Bool) (front : List Factors) (bytes : List ℕ)
+    → components_from lossless 0 front bytes ≡ Ok (front, bytes)
 unfolding components_from
 components_from-none lossless front bytes = refl
 
 -- ---- the greatest factor
 
-pub greatest-append : (f : Factors → ℕ) (xs : List Factors) (x : Factors) → greatest f (xs ++ x ∷ []) ≡ max (greatest f xs) (f x)
+pub greatest-append : (f : Factors → ℕ) (xs : List Factors) (x : Factors)
+    → greatest f (xs ++ x ∷ []) ≡ max (greatest f xs) (f x)
 greatest-append f [] x = omega arith
 greatest-append f (y ∷ ys) x =
     let h : greatest f (ys ++ x ∷ []) ≡ max (greatest f ys) (f x) = greatest-append f ys x in
@@ -31,7 +34,8 @@ pub greatest-some : (f : Factors → ℕ) (xs : List Factors) → 1 ≤ greatest
 greatest-some f [] = omega arith
 greatest-some f (y ∷ ys) = let h : 1 ≤ greatest f ys = greatest-some f ys in omega arith
 
-pub greatest-most : (f : Factors → ℕ) (xs : List Factors) → ((c : Factors) → IsInRange c → f c ≤ 4) → All IsInRange xs → greatest f xs ≤ 4
+pub greatest-most : (f : Factors → ℕ) (xs : List Factors) → ((c : Factors) → IsInRange c → f c ≤ 4) → All IsInRange xs
+    → greatest f xs ≤ 4
 greatest-most f [] small all = omega arith
 greatest-most f (y ∷ ys) small all =
     let h : greatest f ys ≤ 4 = greatest-most f ys small (All-tail IsInRange y ys all) in
@@ -42,9 +46,11 @@ greatest-most f (y ∷ ys) small all =
 pub greatest-next : {A : Type 0} (of : A → Factors) (f : Factors → ℕ) (xs : List A) (i : ℕ) (d : A) → i < length xs
     → greatest f (map of (take (i + 1) xs)) ≡ max (greatest f (map of (take i xs))) (f (of (get_or xs i d)))
 greatest-next of f xs i d h =
-    rw (take_more xs i d h, map-append of (take i xs) (get_or xs i d ∷ [])) (greatest-append f (map of (take i xs)) (of (get_or xs i d)))
+    rw (take_more xs i d h, map-append of (take i xs) (get_or xs i d ∷ [])) (greatest-append f (map of (take i xs))
+    (of (get_or xs i d)))
 
-pub greatest-covers : {A : Type 0} (of : A → Factors) (f : Factors → ℕ) (m : ℕ) (xs : List A) → greatest f (map of xs) ≤ m → All (λ c. f (of c) ≤ m) xs
+pub greatest-covers : {A : Type 0} (of : A → Factors) (f : Factors → ℕ) (m : ℕ) (xs : List A)
+    → greatest f (map of xs) ≤ m → All (λ c. f (of c) ≤ m) xs
 greatest-covers of f m [] h = All-nil (λ c. f (of c) ≤ m)
 greatest-covers of f m (y ∷ ys) h =
     let g : greatest f (map of ys) ≤ m = omega arith in
@@ -63,14 +69,18 @@ in-range width height h v c p = record {
   scale_most = omega arith;
 }
 
-pub all-in-range : (width height h v : ℕ) (xs : List Factors) → All IsInRange xs → AllHaveSampling (map (component_of width height h v) xs)
+pub all-in-range : (width height h v : ℕ) (xs : List Factors) → All IsInRange xs
+    → AllHaveSampling (map (component_of width height h v) xs)
 unfolding AllHaveSampling
 all-in-range width height h v [] p = tt
-all-in-range width height h v (x ∷ xs) p =
-    (in-range width height h v x (All-head IsInRange x xs p), all-in-range width height h v xs (All-tail IsInRange x xs p))
+all-in-range width height h v (x ∷ xs) p = (
+  in-range width height h v x (All-head IsInRange x xs p),
+  all-in-range width height h v xs (All-tail IsInRange x xs p),
+)
 
 -- ---- lists
 
-pub list_any-map : {A B : Type 0} (f : A → B) (test : B → Bool) (xs : List A) → list_any test (map f xs) ≡ list_any (λ x. test (f x)) xs
+pub list_any-map : {A B : Type 0} (f : A → B) (test : B → Bool) (xs : List A)
+    → list_any test (map f xs) ≡ list_any (λ x. test (f x)) xs
 list_any-map f test [] = refl
 list_any-map f test (x ∷ xs) = ap (λ b. test (f x) || b) (list_any-map f test xs)

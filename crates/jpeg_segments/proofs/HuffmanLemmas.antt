@@ -23,10 +23,12 @@ MayFail-format (errors.Internal text) a b n h = absurd n
 MayFail-format errors.OutOfMemory a b n h = h
 
 -- a refusal of codes is one of a broken rule
-pub refused-names : {Y : Type 0} (e : Error) (lengths : List ℕ) (found : Result Y Fault) → RefusesCodes e lengths → NamesFormat e × Names e (if codes_exist lengths then found else Err Malformed)
+pub refused-names : {Y : Type 0} (e : Error) (lengths : List ℕ) (found : Result Y Fault) → RefusesCodes e lengths
+    → NamesFormat e × Names e (if codes_exist lengths then found else Err Malformed)
 refused-names {Y} e lengths found h = go e (codes_exist lengths) refl h
   where
-    go : (e : Error) (b : Bool) → codes_exist lengths ≡ b → RefusesCodes e lengths → NamesFormat e × Names {Y = Y} e (if b then found else Err Malformed)
+    go : (e : Error) (b : Bool) → codes_exist lengths ≡ b → RefusesCodes e lengths → NamesFormat e
+        × Names {Y = Y} e (if b then found else Err Malformed)
     go (errors.Format text) true t h = absurd (h (tested-exist lengths t))
     go (errors.Format text) false t h = (tt, refl)
     go (errors.Unsupported u) b t h = absurd h
@@ -35,9 +37,11 @@ refused-names {Y} e lengths found h = go e (codes_exist lengths) refl h
     go errors.OutOfMemory b t h = (tt, tt)
 
 -- the symbols are read, and then the table is made of them
-pub table-found : (class : HuffmanTableClass) (counts : List ℕ) (old mid : Stream) (symbols : List ℕ) (r : Result Table Error)
+pub table-found : (class : HuffmanTableClass) (counts : List ℕ) (old mid : Stream) (symbols : List ℕ)
+    (r : Result Table Error)
     → Answers (λ (v : List ℕ). v) (times (sum counts) next_byte) old (Ok symbols) mid
-    → IfOk r (λ t. t ≡ record { class = class; counts = counts; symbols = symbols }) → IfOk r (λ t. HasCodes (code_lengths counts)) → IfErr r (λ e. RefusesCodes e (code_lengths counts))
+    → IfOk r (λ t. t ≡ record { class = class; counts = counts; symbols = symbols })
+    → IfOk r (λ t. HasCodes (code_lengths counts)) → IfErr r (λ e. RefusesCodes e (code_lengths counts))
     → Answers (λ (t : Table). t) (symbols_at class counts) old r mid
 unfolding symbols_at
 table-found class counts old mid symbols (Ok t) read made exist refused = (
@@ -49,13 +53,18 @@ table-found class counts old mid symbols (Ok t) read made exist refused = (
       (by.0, rw (e, test, made) refl),
 )
 table-found class counts old mid symbols (Err e) read made exist refused =
-    let p = refused-names e (code_lengths counts) (Ok (record { class = class; counts = counts; symbols = symbols }, mid.bytes)) refused in (
+    let p = refused-names e (code_lengths counts) (Ok (
+      record { class = class; counts = counts; symbols = symbols },
+      mid.bytes,
+    )) refused in (
       MayFail-format e old.failed mid.failed p.0 read.0,
       (λ k known. let by = (read.1 k).1 in rw by p.1),
       λ k. still_known e _ (read.1 k).0,
     )
 
-pub tables_from-more : (most greatest left : ℕ) (tables : Tables) (bytes : List ℕ) → 17 < left → left ≤ most → tables_from most greatest left tables bytes ≡ (placed_codes_at greatest left bytes >>= λ (t : PlacedTable × List ℕ). tables_from (most - 1) greatest (left - size_of t.0) (with_table tables t.0) t.1)
+pub tables_from-more : (most greatest left : ℕ) (tables : Tables) (bytes : List ℕ) → 17 < left → left ≤ most
+    → tables_from most greatest left tables bytes ≡ (placed_codes_at greatest left bytes
+    >>= λ (t : PlacedTable × List ℕ). tables_from (most - 1) greatest (left - size_of t.0) (with_table tables t.0) t.1)
 unfolding tables_from
 tables_from-more zero greatest left tables bytes p h = absurd (omega arith)
 tables_from-more (suc most) greatest left tables bytes p h =
@@ -63,7 +72,8 @@ tables_from-more (suc most) greatest left tables bytes p h =
     let z : ltb 17 left ≡ true = grind (arith, nat_tests) in
     rw (e, z) refl
 
-pub tables_from-rest : (most greatest left : ℕ) (tables : Tables) (bytes : List ℕ) → left ≤ 17 → tables_from most greatest left tables bytes ≡ (if eqb left 0 then Ok (tables, bytes) else Err Malformed)
+pub tables_from-rest : (most greatest left : ℕ) (tables : Tables) (bytes : List ℕ) → left ≤ 17
+    → tables_from most greatest left tables bytes ≡ (if eqb left 0 then Ok (tables, bytes) else Err Malformed)
 unfolding tables_from
 tables_from-rest zero greatest left tables bytes h = refl
 tables_from-rest (suc most) greatest left tables bytes h =
@@ -78,7 +88,8 @@ names-malformed (errors.Internal text) o n h = absurd n
 names-malformed errors.OutOfMemory o n h = tt
 
 -- what is left breaks a rule
-pub Continues-refused : {X Y : Type 0} (view : X → Y) (whole rest : List ℕ → Outcome Y) (old new : Stream) (e : Error) → NamesFormat e
+pub Continues-refused : {X Y : Type 0} (view : X → Y) (whole rest : List ℕ → Outcome Y) (old new : Stream) (e : Error)
+    → NamesFormat e
     → rest new.bytes ≡ Err Malformed → Continues whole old rest new → Answers view whole old (Err e) new
 Continues-refused view whole rest old new e n h p = (
   MayFail-format e old.failed new.failed n p.0,

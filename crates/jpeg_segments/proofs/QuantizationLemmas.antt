@@ -4,7 +4,9 @@ use Rattle.std.proofs.lemmas.Bool.Decides.{nat_tests}
 use Rattle.jpeg_bits.specs.Reading.{◌>>=◌}
 use Rattle.jpeg_segments.specs.Quantization.{Tables, tables_from, placed_table_at}
 
-pub tables_from-more : (most left : ℕ) (tables : Tables) (bytes : List ℕ) → 0 < left → left ≤ most → tables_from most left tables bytes ≡ (placed_table_at left bytes >>= λ (t : (ℕ × ℕ × List ℕ) × List ℕ). tables_from (most - 1) (left - t.0.0) (set tables t.0.1 (Some t.0.2)) t.1)
+pub tables_from-more : (most left : ℕ) (tables : Tables) (bytes : List ℕ) → 0 < left → left ≤ most
+    → tables_from most left tables bytes ≡ (placed_table_at left bytes
+    >>= λ (t : (ℕ × ℕ × List ℕ) × List ℕ). tables_from (most - 1) (left - t.0.0) (set tables t.0.1 (Some t.0.2)) t.1)
 unfolding tables_from
 tables_from-more zero left tables bytes p h = absurd (omega arith)
 tables_from-more (suc most) left tables bytes p h =
@@ -12,7 +14,10 @@ tables_from-more (suc most) left tables bytes p h =
     let z : eqb left 0 ≡ false = grind (arith, nat_tests) in
     rw (e, z) refl
 
-pub tables_from-none : (most : ℕ) (tables : Tables) (bytes : List ℕ) → tables_from most 0 tables bytes ≡ Ok (tables, bytes)
+pub tables_from-none : (most : ℕ) (tables : Tables) (bytes : List ℕ) → tables_from most 0 tables bytes ≡ Ok (
+  tables,
+  bytes,
+)
 unfolding tables_from
 tables_from-none zero tables bytes = refl
 tables_from-none (suc most) tables bytes = refl

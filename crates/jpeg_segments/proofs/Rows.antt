@@ -55,11 +55,17 @@ table = 0 ∷ 20 ∷ 18 ∷ 1 ∷ 0 ∷ 0 ∷ 0 ∷ 0 ∷ 0 ∷ 0 ∷ 0 ∷ 0 �
 tables-row : dht_at None table ≡ Ok (
   record {
     dc = None ∷ None ∷ None ∷ None ∷ [];
-    ac = None ∷ None ∷ Some (record { class = AC; counts = 1 ∷ 0 ∷ 0 ∷ 0 ∷ 0 ∷ 0 ∷ 0 ∷ 0 ∷ 0 ∷ 0 ∷ 0 ∷ 0 ∷ 0 ∷ 0 ∷ 0 ∷ 0 ∷ []; symbols = 4 ∷ [] }) ∷ None ∷ [];
+    ac = None ∷ None ∷ Some (record {
+      class = AC;
+      counts = 1 ∷ 0 ∷ 0 ∷ 0 ∷ 0 ∷ 0 ∷ 0 ∷ 0 ∷ 0 ∷ 0 ∷ 0 ∷ 0 ∷ 0 ∷ 0 ∷ 0 ∷ 0
+          ∷ [];
+      symbols = 4 ∷ [];
+    }) ∷ None ∷ [];
   },
   255 ∷ [],
 )
-unfolding dht_at tables_from placed_codes_at codes_at symbols_at codes_exist code_value lengths_from times length_at next_u16
+unfolding dht_at tables_from placed_codes_at codes_at symbols_at codes_exist code_value lengths_from times length_at
+    next_u16
 tables-row = refl
 
 -- its place is refused in a baseline frame
@@ -68,7 +74,21 @@ unfolding dht_at tables_from placed_codes_at length_at next_u16
 place-row = refl
 
 -- a scan of the frame's component, by DC table 0 and AC table 1; the last place of 0 is read as 63
-scan-row : sos_at frame (0 ∷ 8 ∷ 1 ∷ 1 ∷ 1 ∷ 0 ∷ 0 ∷ 0 ∷ 255 ∷ []) ≡ Ok (record { components = 0 ∷ []; dc_places = 0 ∷ []; ac_places = 1 ∷ []; first = 0; after = 64; predictor = NoPrediction; high = 0; low = 0; point_transform = 0 }, 255 ∷ [])
+scan-row : sos_at frame (0 ∷ 8 ∷ 1 ∷ 1 ∷ 1 ∷ 0 ∷ 0 ∷ 0 ∷ 255 ∷ []) ≡ Ok (
+  record {
+    components = 0 ∷ [];
+    dc_places = 0 ∷ [];
+    ac_places = 1 ∷ [];
+    first = 0;
+    after = 64;
+    predictor = NoPrediction;
+    high = 0;
+    low =
+        0;
+    point_transform = 0;
+  },
+  255 ∷ [],
+)
 unfolding sos_at count_at selectors_from selector_at tables_at band_at scan_of length_at next_u16
 scan-row = refl
 
@@ -93,9 +113,30 @@ three = record {
   mcus_wide = 1;
   mcus_high = 1;
   components =
-      record { factors = record { identifier = 1; horizontal = 2; vertical = 2; quantization = 0 }; scale = 8; width = 16; height = 8; blocks_wide = 2; blocks_high = 2 }
-      ∷ record { factors = record { identifier = 2; horizontal = 1; vertical = 1; quantization = 1 }; scale = 8; width = 8; height = 4; blocks_wide = 1; blocks_high = 1 }
-      ∷ record { factors = record { identifier = 3; horizontal = 1; vertical = 1; quantization = 1 }; scale = 8; width = 8; height = 4; blocks_wide = 1; blocks_high = 1 } ∷ [];
+      record {
+        factors = record { identifier = 1; horizontal = 2; vertical = 2; quantization = 0 };
+        scale = 8;
+        width = 16;
+        height = 8;
+        blocks_wide = 2;
+        blocks_high = 2;
+      }
+      ∷ record {
+        factors = record { identifier = 2; horizontal = 1; vertical = 1; quantization = 1 };
+        scale = 8;
+        width = 8;
+        height = 4;
+        blocks_wide = 1;
+        blocks_high = 1;
+      }
+      ∷ record {
+        factors = record { identifier = 3; horizontal = 1; vertical = 1; quantization = 1 };
+        scale = 8;
+        width = 8;
+        height = 4;
+        blocks_wide = 1;
+        blocks_high = 1;
+      } ∷ [];
 }
 
 three-row : sof_at 2 (0 ∷ 17 ∷ 8 ∷ 0 ∷ 8 ∷ 0 ∷ 16 ∷ 3 ∷ 1 ∷ 34 ∷ 0 ∷ 2 ∷ 17 ∷ 1 ∷ 3 ∷ 17 ∷ 1 ∷ []) ≡ Ok (three, [])
@@ -108,7 +149,21 @@ unfolding sof_at head_at size_at components_from factors_at parameters_at length
 repeated-row = refl
 
 -- the first scan of the DC coefficients of all components
-dc-row : sos_at three (0 ∷ 12 ∷ 3 ∷ 1 ∷ 0 ∷ 2 ∷ 17 ∷ 3 ∷ 17 ∷ 0 ∷ 0 ∷ 1 ∷ []) ≡ Ok (record { components = 0 ∷ 1 ∷ 2 ∷ []; dc_places = 0 ∷ 1 ∷ 1 ∷ []; ac_places = 0 ∷ 1 ∷ 1 ∷ []; first = 0; after = 1; predictor = NoPrediction; high = 0; low = 1; point_transform = 1 }, [])
+dc-row : sos_at three (0 ∷ 12 ∷ 3 ∷ 1 ∷ 0 ∷ 2 ∷ 17 ∷ 3 ∷ 17 ∷ 0 ∷ 0 ∷ 1 ∷ [])
+    ≡ Ok (
+      record {
+        components = 0 ∷ 1 ∷ 2 ∷ [];
+        dc_places = 0 ∷ 1 ∷ 1 ∷ [];
+        ac_places = 0 ∷ 1 ∷ 1 ∷ [];
+        first = 0;
+        after = 1;
+        predictor = NoPrediction;
+        high = 0;
+        low = 1;
+        point_transform = 1;
+      },
+      [],
+    )
 unfolding sos_at count_at selectors_from selector_at tables_at band_at scan_of length_at next_u16
 dc-row = refl
 
@@ -125,7 +180,8 @@ unfolding app_at payload_at application_by application_1 times length_at next_u1
 exif-row = refl
 
 -- an Adobe segment with a byte after its transform
-adobe-row : app_at 14 (0 ∷ 15 ∷ 65 ∷ 100 ∷ 111 ∷ 98 ∷ 101 ∷ 0 ∷ 100 ∷ 0 ∷ 0 ∷ 0 ∷ 0 ∷ 1 ∷ 9 ∷ 255 ∷ []) ≡ Ok (Some (Adobe YCbCr), 255 ∷ [])
+adobe-row : app_at 14 (0 ∷ 15 ∷ 65 ∷ 100 ∷ 111 ∷ 98 ∷ 101 ∷ 0 ∷ 100 ∷ 0 ∷ 0 ∷ 0 ∷ 0 ∷ 1 ∷ 9 ∷ 255 ∷ [])
+    ≡ Ok (Some (Adobe YCbCr), 255 ∷ [])
 unfolding app_at application_14 adobe_at times skip_at length_at next_u16
 adobe-row = refl
 

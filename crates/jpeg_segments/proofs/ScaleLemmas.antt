@@ -296,7 +296,8 @@ scaled-have-factors s width height h v (c ∷ cs) most p =
       scaled-have-factors s width height h v cs most p.1,
     )
 
-at-scale-have-factors : (s : ℕ) (f : Frame) → s ≤ 8 → AllHaveSampling f.components → AllHaveSampling (frame_at s f).components
+at-scale-have-factors : (s : ℕ) (f : Frame) → s ≤ 8 → AllHaveSampling f.components
+    → AllHaveSampling (frame_at s f).components
 unfolding frame_at
 at-scale-have-factors s f most p =
     scaled-have-factors s f.width f.height (greatest (λ x. x.horizontal) (map (λ c. c.factors) f.components))

@@ -56,7 +56,8 @@ adobe_name = codes "Adobe" ++ 0 ∷ []
 -- APP0
 unfoldable pub application_0 : List ℕ → Option Application
 application_0 payload =
-    if begins_with payload jfif_name then Some Jfif else (if begins_with payload avi1_name then Some Avi1 else None)
+    if begins_with payload jfif_name then Some Jfif else (if begins_with payload avi1_name
+    then Some Avi1 else None)
 
 -- APP1: the data is the rest.
 unfoldable pub application_1 : List ℕ → Option Application
@@ -68,17 +69,23 @@ application_1 payload =
 unfoldable pub application_2 : List ℕ → Option Application
 application_2 payload =
     if nat_lt 14 (length payload) && begins_with payload icc_name
-    then Some (Icc (record { number = slice_index payload 12; count = slice_index payload 13; bytes = drop 14 payload })) else None
+    then Some (Icc (record {
+      number = slice_index payload 12;
+      count = slice_index payload 13;
+      bytes = drop 14 payload;
+    })) else None
 
 -- APP13
 unfoldable pub application_13 : List ℕ → Option Application
-application_13 payload = if begins_with payload photoshop_name then Some (Psir (drop 14 payload)) else None
+application_13 payload = if begins_with payload photoshop_name then Some (Psir (drop 14 payload))
+    else None
 
 -- what a payload says, by the number n of the marker APPn
 unfoldable pub application_by : ℕ → List ℕ → Option Application
 application_by number payload =
     if number == 0 then application_0 payload else (if number == 1 then application_1 payload else (
-    if number == 2 then application_2 payload else (if number == 13 then application_13 payload else None)))
+    if number == 2 then application_2 payload else (if number == 13 then application_13 payload
+    else None)))
 
 -- ---- APP14
 
@@ -101,10 +108,12 @@ adobe_by left (Some transform) bytes = passed_over left (Some (Adobe transform))
 unfoldable pub adobe_at : ℕ → List ℕ → Outcome (Option Application)
 adobe_at left bytes = do
   head ← times 12 next_byte bytes
-  if begins_with head.0 adobe_name then adobe_by (left - 12) (transform_by (slice_index head.0 11)) head.1 else passed_over (left - 12) None head.1
+  if begins_with head.0 adobe_name then adobe_by (left - 12) (transform_by (slice_index head.0 11))
+      head.1 else passed_over (left - 12) None head.1
 
 unfoldable pub application_14 : ℕ → List ℕ → Outcome (Option Application)
-application_14 left bytes = if nat_lt left 12 then passed_over left None bytes else adobe_at left bytes
+application_14 left bytes = if nat_lt left 12 then passed_over left None bytes
+    else adobe_at left bytes
 
 -- ---- segments
 

@@ -69,7 +69,8 @@ component_of width height most_horizontal most_vertical c = record {
 -- ---- processes (Table B.1), by the number n of the marker SOFn
 
 abbrev pub process_of : ℕ → CodingProcess
-process_of number = if nat_lt (number % 4) 2 then DctSequential else (if number % 4 == 2 then DctProgressive else Lossless)
+process_of number = if nat_lt (number % 4) 2 then DctSequential
+    else (if number % 4 == 2 then DctProgressive else Lossless)
 
 abbrev pub is_lossless : ℕ → Bool
 is_lossless number = number % 4 == 3
@@ -123,14 +124,23 @@ parameters_at lossless identifier bytes = do
   if is_factor (factors.0 / 16) then (if is_factor (factors.0 % 16) then (do
     place ← next_byte factors.1
     if is_place lossless place.0
-        then Ok (record { identifier = identifier; horizontal = factors.0 / 16; vertical = factors.0 % 16; quantization = place.0 }, place.1)
+        then Ok (
+          record {
+            identifier = identifier;
+            horizontal = factors.0 / 16;
+            vertical = factors.0 % 16;
+            quantization = place.0;
+          },
+          place.1,
+        )
         else Err Malformed) else Err Malformed) else Err Malformed
 
 -- A component after those in `front`, with an identifier of its own.
 unfoldable pub factors_at : Bool → List Factors → List ℕ → Outcome Factors
 factors_at lossless front bytes = do
   identifier ← next_byte bytes
-  if is_taken front identifier.0 then Err Malformed else parameters_at lossless identifier.0 identifier.1
+  if is_taken front identifier.0 then Err Malformed
+      else parameters_at lossless identifier.0 identifier.1
 
 -- n more components, after those in `front`
 unfoldable pub components_from : Bool → ℕ → List Factors → List ℕ → Outcome (List Factors)
@@ -152,12 +162,14 @@ unfoldable pub size_at : List ℕ → Outcome (ℕ × ℕ)
 size_at bytes = do
   height ← next_u16 bytes
   width ← next_u16 height.1
-  if height.0 == 0 then Err (Lacks DNL) else (if width.0 == 0 then Err Malformed else Ok ((width.0, height.0), width.1))
+  if height.0 == 0 then Err (Lacks DNL) else (if width.0 == 0 then Err Malformed
+      else Ok ((width.0, height.0), width.1))
 
 -- 8 bits, or 12 where the frame is not baseline; in a lossless frame at most 16
 abbrev pub is_precision : ℕ → ℕ → Bool
 is_precision number precision =
-    if is_lossless number then nat_le precision 16 else precision == 8 || (precision == 12 && not (number == 0))
+    if is_lossless number then nat_le precision 16 else precision == 8
+    || (precision == 12 && not (number == 0))
 
 -- at least one component, and in a progressive frame at most 4
 abbrev pub is_count : ℕ → ℕ → Bool
@@ -173,7 +185,16 @@ head_at number bytes = do
       count ← next_byte size.1
       if is_count number count.0 then (
           if left.0 == 6 + 3 * count.0
-          then Ok (record { length = left.0; precision = precision.0; width = size.0.0; height = size.0.1; count = count.0 }, count.1)
+          then Ok (
+            record {
+              length = left.0;
+              precision = precision.0;
+              width = size.0.0;
+              height = size.0.1;
+              count = count.0;
+            },
+            count.1,
+          )
           else Err Malformed) else Err Malformed) else Err Malformed)
 
 -- The parameters of an SOFn segment, after the marker.

@@ -16,7 +16,13 @@ use Rattle.jpeg_bits.specs.declared.scan.ScanInfo.{ScanInfo}
 
 -- what is read of a component
 abbrev pub factors_of : Factors → frames.Factors
-factors_of c = record { identifier = c.identifier; horizontal = c.horizontal; vertical = c.vertical; quantization = c.quantization }
+factors_of c =
+    record {
+      identifier = c.identifier;
+      horizontal = c.horizontal;
+      vertical = c.vertical;
+      quantization = c.quantization;
+    }
 
 abbrev pub factors_in : Component → frames.Factors
 factors_in c = record {

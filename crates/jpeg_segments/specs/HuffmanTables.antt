@@ -36,35 +36,43 @@ size_of t = 17 + sum t.table.counts
 unfoldable pub symbols_at : HuffmanTableClass → List ℕ → List ℕ → Outcome Table
 symbols_at class counts bytes = do
   symbols ← times (sum counts) next_byte bytes
-  if codes_exist (code_lengths counts) then Ok (record { class = class; counts = counts; symbols = symbols.0 }, symbols.1) else Err Malformed
+  if codes_exist (code_lengths counts)
+      then Ok (record { class = class; counts = counts; symbols = symbols.0 }, symbols.1)
+      else Err Malformed
 
 -- The counts and the values, of which there are 1 to 256, and no more than bytes of the segment are
 -- left.
 unfoldable pub codes_at : ℕ → HuffmanTableClass → List ℕ → Outcome Table
 codes_at left class bytes = do
   counts ← times 16 next_byte bytes
-  if sum counts.0 == 0 then Err Malformed else (if nat_lt 256 (sum counts.0) then Err Malformed else (
-      if nat_lt left (17 + sum counts.0) then Err Malformed else symbols_at class counts.0 counts.1))
+  if sum counts.0 == 0 then Err Malformed else (if nat_lt 256 (sum counts.0) then Err Malformed
+      else (
+      if nat_lt left (17 + sum counts.0) then Err Malformed
+      else symbols_at class counts.0 counts.1))
 
 -- the next table, where `left` bytes of the segment are left
 unfoldable pub placed_codes_at : ℕ → ℕ → List ℕ → Outcome PlacedTable
 placed_codes_at greatest left bytes = do
   b ← next_byte bytes
-  if nat_lt 1 (b.0 / 16) then Err Malformed else (if nat_lt greatest (b.0 % 16) then Err Malformed else (do
-    table ← codes_at left (class_of (b.0 / 16)) b.1
-    Ok (record { place = b.0 % 16; table = table.0 }, table.1)))
+  if nat_lt 1 (b.0 / 16) then Err Malformed else (if nat_lt greatest (b.0 % 16) then Err Malformed
+      else (do
+        table ← codes_at left (class_of (b.0 / 16)) b.1
+        Ok (record { place = b.0 % 16; table = table.0 }, table.1)))
 
 -- the tables with one more
 abbrev pub with_table : Tables → PlacedTable → Tables
 with_table tables t =
-    if is_ac t.table.class then record tables { ac = slice_set tables.ac t.place (Some t.table) } else record tables { dc = slice_set tables.dc t.place (Some t.table) }
+    if is_ac t.table.class then record tables { ac = slice_set tables.ac t.place (Some t.table) }
+    else record tables { dc = slice_set tables.dc t.place (Some t.table) }
 
 -- At most `most` tables, while more than 17 bytes of the segment are left. Then none may be left.
 unfoldable pub tables_from : ℕ → ℕ → ℕ → Tables → List ℕ → Outcome Tables
-tables_from zero greatest left tables bytes = if left == 0 then Ok (tables, bytes) else Err Malformed
+tables_from zero greatest left tables bytes =
+    if left == 0 then Ok (tables, bytes) else Err Malformed
 tables_from (suc most) greatest left tables bytes =
     if nat_lt 17 left
-    then placed_codes_at greatest left bytes >>= (λ t. tables_from most greatest (left - size_of t.0) (with_table tables t.0) t.1)
+    then placed_codes_at greatest left bytes
+    >>= (λ t. tables_from most greatest (left - size_of t.0) (with_table tables t.0) t.1)
     else (if left == 0 then Ok (tables, bytes) else Err Malformed)
 
 unfoldable pub dht_at : Option Bool → List ℕ → Outcome Tables

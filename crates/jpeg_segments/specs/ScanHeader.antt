@@ -55,12 +55,21 @@ tables_at frame place bytes = do
   places ← next_byte bytes
   if nat_lt (greatest_place (Some frame.is_baseline)) (places.0 / 16) then Err Malformed else (
       if nat_lt (greatest_place (Some frame.is_baseline)) (places.0 % 16) then Err Malformed else
-      Ok (record { component = place; dc = places.0 / 16; ac = places.0 % 16; blocks = blocks_by frame.components place }, places.1))
+      Ok (
+        record {
+          component = place;
+          dc = places.0 / 16;
+          ac = places.0 % 16;
+          blocks = blocks_by frame.components place;
+        },
+        places.1,
+      ))
 
 -- The same, where the frame has the component and it stands after those before it.
 abbrev pub tables_by : Frame → ℕ → Option ℕ → List ℕ → Outcome Selector
 tables_by frame least None bytes = Err Malformed
-tables_by frame least (Some place) bytes = if nat_lt place least then Err Malformed else tables_at frame place bytes
+tables_by frame least (Some place) bytes =
+    if nat_lt place least then Err Malformed else tables_at frame place bytes
 
 -- The next component, whose place in the frame is at least `least`: components stand in the order
 -- of the frame.
@@ -73,7 +82,8 @@ selector_at frame least bytes = do
 unfoldable pub selectors_from : Frame → ℕ → List Selector → ℕ → List ℕ → Outcome (List Selector)
 selectors_from frame zero front least bytes = Ok (front, bytes)
 selectors_from frame (suc n) front least bytes =
-    selector_at frame least bytes >>= (λ s. selectors_from frame n (front ++ s.0 ∷ []) (s.0.component + 1) s.1)
+    selector_at frame least bytes
+    >>= (λ s. selectors_from frame n (front ++ s.0 ∷ []) (s.0.component + 1) s.1)
 
 -- An MCU of several components has at most 10 blocks.
 abbrev pub is_mcu : List Selector → Bool
@@ -85,7 +95,8 @@ is_mcu selectors = nat_le (length selectors) 1 || nat_le (sum_by (λ s. s.blocks
 -- component alone. A refinement lowers the level by one.
 abbrev pub is_progressive_band : ℕ → ℕ → ℕ → ℕ → ℕ → Bool
 is_progressive_band count first last high low =
-    nat_le first last && (nat_le last 63 && ((not (first == 0) || last == 0) && ((first == 0 || count == 1) && (
+    nat_le first last && (nat_le last 63 && ((not (first == 0) || last == 0)
+    && ((first == 0 || count == 1) && (
     nat_le high 13 && (nat_le low 13 && (high == 0 || high == low + 1))))))
 
 -- A lossless scan has a predictor of 0 to 7 (H.1.2.1).
@@ -94,7 +105,8 @@ is_lossless_band first last high = nat_le first 7 && (last == 0 && high == 0)
 
 -- A sequential scan codes all coefficients at once. A last coefficient of 0 is read as 63.
 abbrev pub is_sequential_band : ℕ → ℕ → ℕ → ℕ → Bool
-is_sequential_band first last high low = first == 0 && ((last == 0 || last == 63) && (high == 0 && low == 0))
+is_sequential_band first last high low =
+    first == 0 && ((last == 0 || last == 63) && (high == 0 && low == 0))
 
 abbrev pub is_band : CodingProcess → ℕ → ℕ → ℕ → ℕ → ℕ → Bool
 is_band DctSequential count first last high low = is_sequential_band first last high low
@@ -142,7 +154,8 @@ band_at frame selectors bytes = do
   levels ← next_byte last.1
   if nat_lt (levels.0 % 16) frame.precision then (
       if is_band frame.process (length selectors) first.0 last.0 (levels.0 / 16) (levels.0 % 16)
-      then Ok (scan_of frame selectors first.0 last.0 levels.0, levels.1) else Err Malformed) else Err Malformed
+      then Ok (scan_of frame selectors first.0 last.0 levels.0, levels.1) else Err Malformed)
+      else Err Malformed
 
 -- the number of components, where the length is the one that they need
 unfoldable pub count_at : List ℕ → Outcome ℕ

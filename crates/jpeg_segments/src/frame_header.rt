@@ -102,7 +102,14 @@ fn is_count(number: u8, count: u8) -> bool
 
 #[tactic(auto, unfolding(crate::specs::Frame::head_at))]
 fn read_head<R: Read + Drop>(alloc: Global, source: &mut Source<R>, number: u8) -> Result<Head>
-    ensures answers { Answers (λ h. record { length = 6 + 3 * h.count; precision = h.precision; width = h.size.width; height = h.size.height; count = h.count })
+    ensures answers { Answers (λ h.
+        record {
+          length = 6 + 3 * h.count;
+          precision = h.precision;
+          width = h.size.width;
+          height = h.size.height;
+          count = h.count;
+        })
         (head_at number) source.old result source.new }
     ensures some { IfOk result (λ h. (0 < h.size.width) × (0 < h.size.height)) }
 {
@@ -243,7 +250,8 @@ fn frame_of(
     requires some_width { 0 < head.size.width }
     requires some_height { 0 < head.size.height }
     ensures frame { IfOk result (λ f. frame_in f ≡
-        frame_of number head.precision head.size.width head.size.height (map factors_of components.now)) }
+        frame_of number head.precision head.size.width head.size.height
+        (map factors_of components.now)) }
     ensures factors { IfOk result (λ f. AllHaveSampling (map component_in f.components.items)) }
     ensures made { IfOk result (λ f. IsFrame (frame_in f)) }
 {

@@ -14,7 +14,8 @@ consumes-front false x held (Some ys) new h = let e : new ≡ Some (held ++ ys) 
 -- the byte is put into a place for one
 pub takes-front : (is_none : Bool) (held buf : List ℕ) (inner new : Option (List ℕ)) → 0 < length held → length buf ≡ 1
     → DropsConsumable (if is_none then None else prepend_known held inner) new (Some (length held)) 1
-    → Consumes (if is_none then None else prepend_known held inner) new (take 1 (slice_set buf 0 (slice_index_or held 0 0)))
+    → Consumes (if is_none then None else prepend_known held inner) new
+    (take 1 (slice_set buf 0 (slice_index_or held 0 0)))
 takes-front z [] buf inner new some one h = absurd (omega (arith, some))
 takes-front z (x ∷ held) [] inner new some one h = absurd (omega (arith, one))
 takes-front z (x ∷ held) (b ∷ []) inner new some one h = consumes-front z x held inner new h

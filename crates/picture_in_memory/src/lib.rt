@@ -23,7 +23,8 @@ use std::alloc::Global;
 pub fn picture_of(alloc: Global, bytes: &[u8]) -> Result<Vec<u8>>
     // An Ok is the picture that the bytes mean.
     ensures means { length bytes.now < 2 ^ 64 → IfOk result (λ pixels. (told : Told)
-        × (rest : List ℕ) × (meaning default_settings bytes.now ≡ Ok ((told, pixels.items), rest))) }
+        × (rest : List ℕ) × (meaning default_settings bytes.now
+        ≡ Ok ((told, pixels.items), rest))) }
 
     // Where the bytes are written for the coefficients of an image, it is their picture.
     ensures images { (array : Coefficients) (image rest : List ℕ) (final : Found)

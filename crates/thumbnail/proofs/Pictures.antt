@@ -19,7 +19,10 @@ same-value x y e = ap (value_or x) e
 abbrev rest_after : ℕ → ℕ → Found × List ℕ → Outcome (Told × List ℕ)
 rest_after width height header = rest_at default_settings (sized_to width height header.0) header.1
 
-sized-rest : (width height : ℕ) (bytes rest : List ℕ) (found : Found) → sized_header_at width height bytes ≡ Ok (found, rest)
+sized-rest : (width height : ℕ) (bytes rest : List ℕ) (found : Found) → sized_header_at width height bytes ≡ Ok (
+  found,
+  rest,
+)
     → sized_meaning width height default_settings bytes ≡ rest_at default_settings found rest
 unfolding sized_header_at sized_meaning
 sized-rest width height bytes rest found e =

@@ -13,7 +13,8 @@ swap-swapped : (xs : List ℕ) (i j : ℕ) → i < length xs → j < length xs �
 swap-swapped [] i j hi hj = refl
 swap-swapped (d ∷ xs) i j hi hj = rw (get_or_default_zero (d ∷ xs) i d hi, get_or_default_zero (d ∷ xs) j d hj) refl
 
-deeper : (low high : ℕ) (xs : List ℕ) (i j k l : ℕ) → k ≡ suc (suc i) → l ≡ suc (suc j) → swapped (low ∷ high ∷ xs) k l ≡ low ∷ high ∷ swapped xs i j
+deeper : (low high : ℕ) (xs : List ℕ) (i j k l : ℕ) → k ≡ suc (suc i) → l ≡ suc (suc j)
+    → swapped (low ∷ high ∷ xs) k l ≡ low ∷ high ∷ swapped xs i j
 deeper low high xs i j k l hk hl =
     ap (λ (n : ℕ). swapped (low ∷ high ∷ xs) n l) hk ∙ ap (λ (n : ℕ). swapped (low ∷ high ∷ xs) (suc (suc i)) n) hl
 
@@ -24,7 +25,8 @@ turned-length (suc count) [] = refl
 turned-length (suc count) (low ∷ []) = refl
 turned-length (suc count) (low ∷ high ∷ more) = ap (λ n. suc (suc n)) (turned-length count more)
 
-one-swapped : (place : ℕ) (xs : List ℕ) → 2 * place + 1 < length xs → swapped (first_turned place xs) (2 * place) (2 * place + 1) ≡ first_turned (suc place) xs
+one-swapped : (place : ℕ) (xs : List ℕ) → 2 * place + 1 < length xs
+    → swapped (first_turned place xs) (2 * place) (2 * place + 1) ≡ first_turned (suc place) xs
 unfolding first_turned
 one-swapped place [] h = absurd (let n : ⊥ = omega arith in n)
 one-swapped place (low ∷ []) h = absurd (let n : ⊥ = omega arith in n)
@@ -33,11 +35,16 @@ one-swapped (suc place) (low ∷ high ∷ more) h =
     let first : 2 * suc place ≡ suc (suc (2 * place)) = omega arith in
     let second : 2 * suc place + 1 ≡ suc (suc (2 * place + 1)) = omega arith in
     let room : 2 * place + 1 < length more = omega arith in
-    deeper high low (first_turned place more) (2 * place) (2 * place + 1) (2 * suc place) (2 * suc place + 1) first second
+    deeper high low (first_turned place more) (2 * place) (2 * place + 1) (2 * suc place) (2 * suc place + 1) first
+    second
     ∙ ap (λ (ys : List ℕ). high ∷ low ∷ ys) (one-swapped place more room)
 
-pub one-more : (place : ℕ) (xs : List ℕ) → 2 * place + 1 < length xs → swap (first_turned place xs) (2 * place) (2 * place + 1) ≡ first_turned (place + 1) xs
+pub one-more : (place : ℕ) (xs : List ℕ) → 2 * place + 1 < length xs
+    → swap (first_turned place xs) (2 * place) (2 * place + 1) ≡ first_turned (place + 1) xs
 one-more place xs h =
     let same = turned-length place xs in
     let next : place + 1 ≡ suc place = omega arith in
-    rw (swap-swapped (first_turned place xs) (2 * place) (2 * place + 1) (rw same (omega arith)) (rw same h), next) (one-swapped place xs h)
+    rw (
+      swap-swapped (first_turned place xs) (2 * place) (2 * place + 1) (rw same (omega arith)) (rw same h),
+      next,
+    ) (one-swapped place xs h)

@@ -7,11 +7,13 @@ use Rattle.jpeg_decoder.specs.declared.decoder.PixelFormat.TheVariants.{L8, L16,
 
 -- a header of PGM or PPM
 abbrev pub plain_header : List ℕ → ImageInfo → List ℕ → List ℕ
-plain_header kind info greatest = kind ++ 10 ∷ decimal info.width ++ 32 ∷ decimal info.height ++ 10 ∷ greatest ++ 10 ∷ []
+plain_header kind info greatest =
+    kind ++ 10 ∷ decimal info.width ++ 32 ∷ decimal info.height ++ 10 ∷ greatest ++ 10 ∷ []
 
 -- a header of PAM for four samples a pixel
 abbrev pub pam_header : ImageInfo → List ℕ
-pam_header info = codes "P7\nWIDTH " ++ decimal info.width ++ codes "\nHEIGHT " ++ decimal info.height
+pam_header info = codes "P7\nWIDTH " ++ decimal info.width ++ codes "\nHEIGHT " ++ decimal
+    info.height
     ++ 10 ∷ codes "DEPTH 4\nMAXVAL 255\nTUPLTYPE CMYK\nENDHDR" ++ 10 ∷ []
 
 -- what stands before the samples

@@ -60,7 +60,8 @@ fn read_picture<R: Read + Drop>(
     size: Dimensions,
 ) -> Result<(Option<ImageInfo>, Vec<u8>)>
     ensures { (bytes : List ℕ) → Tells (R.remaining reader) bytes
-        → IfOk result (λ made. picture_at size.width size.height bytes ≡ Some (made.0, made.1.items)) }
+        → IfOk result (λ made. picture_at size.width size.height bytes
+        ≡ Some (made.0, made.1.items)) }
 {
     let mut decoder = Decoder::new(alloc, reader)?;
     decoder.scale(size.width, size.height)?;

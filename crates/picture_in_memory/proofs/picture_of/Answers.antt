@@ -10,13 +10,15 @@ use Rattle.jpeg_decoder.specs.Stream.{Found, Told, meaning, told_of}
 use Rattle.jpeg_decoder.proofs.Callers.{bytes_are_known, known_bytes_are_told}
 use Rattle.picture_in_memory.proofs.picture_of.Goals as goal
 
-read-whole : {X : Type 0} (told : Told) (bytes_of : X → List ℕ) (read : List ℕ → Outcome (Told × List ℕ)) (old new : Stream) (r : Result X Error)
+read-whole : {X : Type 0} (told : Told) (bytes_of : X → List ℕ) (read : List ℕ → Outcome (Told × List ℕ))
+    (old new : Stream) (r : Result X Error)
     → Answers (λ x. (told, bytes_of x)) read old r new → old.known ≡ true
     → IfOk r (λ x. (t : Told) × (rest : List ℕ) × (read old.bytes ≡ Ok ((t, bytes_of x), rest)))
 read-whole told bytes_of read old new (Ok x) a k = (told, new.bytes, (a.1 k).1)
 read-whole told bytes_of read old new (Err e) a k = tt
 
-given : {X : Type 0} (bytes_of : X → List ℕ) (picture : Result (List ℕ) Fault) (rest : List ℕ) (final : Found) (new : Decoding) (r : Result X Error)
+given : {X : Type 0} (bytes_of : X → List ℕ) (picture : Result (List ℕ) Fault) (rest : List ℕ) (final : Found)
+    (new : Decoding) (r : Result X Error)
     → MatchResult r (λ x. Gives picture rest final (bytes_of x) new) (λ e. FailsOutside e new.source)
     → IfOk r (λ x. picture ≡ Ok (bytes_of x))
 given bytes_of picture rest final new (Ok x) h = h.pixels
@@ -31,7 +33,8 @@ returns-clause-means c few =
     let same = known_bytes_are_told (Some bytes) bytes tells in
     let whole : IfOk c.decode.result (λ x. (t : Told) × (rest : List ℕ)
     × (meaning default_settings (stream_of (Some bytes) false false).bytes ≡ Ok ((t, x.items), rest)))
-    = read-whole (told_of c.decode.new.self.found) (λ v. v.items) (meaning default_settings) (stream_of (Some bytes) false false)
+    = read-whole (told_of c.decode.new.self.found) (λ v. v.items) (meaning default_settings)
+    (stream_of (Some bytes) false false)
     c.decode.new.self.source c.decode.result (reads tt) known in
     rw same at whole
 

@@ -18,8 +18,13 @@ loop-i-preserved c =
     let q = pow_more (l + 8) in
     let t : l + 1 + 8 ≡ l + 8 + 1 = omega arith in
     let r = ap (λ (k : ℕ). 2 ^ k) t in
-    let row : Row = record { end = 2 * c.loop-i.end + c.from-count.result; first = 2 * c.loop-i.end; place = c.loop-i.place } in
-    let end : 2 * c.loop-i.end + c.from-count.result ≡ value_after counts (l + 1) = omega (arith, v, c.from-count.ensures, i.end) in
+    let row : Row = record {
+      end = 2 * c.loop-i.end + c.from-count.result;
+      first = 2 * c.loop-i.end;
+      place = c.loop-i.place;
+    } in
+    let end : 2 * c.loop-i.end + c.from-count.result ≡ value_after counts (l + 1) =
+    omega (arith, v, c.from-count.ensures, i.end) in
     let first : 2 * c.loop-i.end ≡ 2 * value_after counts l = omega (arith, i.end) in
     record {
       size = length_set c.loop-i.rows l row 16 i.size;
@@ -27,5 +32,6 @@ loop-i-preserved c =
       place = omega (arith, s, c.from-count.ensures, i.place);
       short = omega (arith, q, r, byte, c.from-count.ensures, i.short);
       few = omega (arith, byte, c.from-count.ensures, i.few);
-      rows = set_next c.loop-i.rows l row no_row (row_at counts) (omega (arith, i.size, c.loop-i-test.true)) i.rows (same_row _ _ _ _ _ _ end first i.place);
+      rows = set_next c.loop-i.rows l row no_row (row_at counts) (omega (arith, i.size, c.loop-i-test.true)) i.rows
+          (same_row _ _ _ _ _ _ end first i.place);
     }

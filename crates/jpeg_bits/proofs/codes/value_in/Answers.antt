@@ -6,7 +6,8 @@ use Rattle.jpeg_bits.proofs.ShortLemmas.{value_below, value_number}
 use Rattle.jpeg_bits.proofs.codes.value_in.Goals as goal
 
 pub extend-requires-clause-small : goal.extend-requires-clause-small
-extend-requires-clause-small c = rw (c.from.ensures, c.power_of_two.ensures.value) (value_below c.args.byte c.args.length c.args.size c.requires.most)
+extend-requires-clause-small c = rw (c.from.ensures, c.power_of_two.ensures.value)
+    (value_below c.args.byte c.args.length c.args.size c.requires.most)
 
 pub returns : goal.returns
 returns c =

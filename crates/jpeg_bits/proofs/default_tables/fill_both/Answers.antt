@@ -11,8 +11,22 @@ returns-in_err-fill c =
 
 pub returns : goal.returns
 returns c =
-    let l : Table = record { class = c.args.class; counts = c.args.luminance_counts.now; symbols = c.args.luminance_symbols.now } in
-    let r : Table = record { class = c.args.class; counts = c.args.chrominance_counts.now; symbols = c.args.chrominance_symbols.now } in
+    let l : Table = record {
+      class = c.args.class;
+      counts = c.args.luminance_counts.now;
+      symbols = c.args.luminance_symbols.now;
+    } in
+    let r : Table = record {
+      class = c.args.class;
+      counts = c.args.chrominance_counts.now;
+      symbols = c.args.chrominance_symbols.now;
+    } in
     MatchResult-weaker c.fill-2.result c.fill-2.ensures
-    (λ x e. both-filled l r c.args.places.now c.args.tables.now c.names.result c.names-2.result _ _ c.fill.new.table c.fill-2.new.table c.requires.places c.names.ensures c.names-2.ensures c.in_ok-fill.ensures e)
-    (λ x e. (e.0, second-refused l r c.args.places.now c.args.tables.now c.names.result c.names-2.result _ _ c.fill.new.table c.fill-2.new.table c.requires.places c.names.ensures c.names-2.ensures c.in_ok-fill.ensures e.1))
+    (λ x e. both-filled l r c.args.places.now c.args.tables.now c.names.result c.names-2.result _ _ c.fill.new.table
+    c.fill-2.new.table c.requires.places c.names.ensures c.names-2.ensures c.in_ok-fill.ensures e)
+    (λ x e. (
+      e.0,
+      second-refused l r c.args.places.now c.args.tables.now c.names.result c.names-2.result _ _
+          c.fill.new.table c.fill-2.new.table c.requires.places c.names.ensures c.names-2.ensures c.in_ok-fill.ensures
+          e.1,
+    ))

@@ -16,7 +16,10 @@ fill_both-requires-clause-chrominance c = chrominance-dc-codes
 pub returns-in_err-fill_both-clause-ac : goal.returns-in_err-fill_both-clause-ac
 returns-in_err-fill_both-clause-ac c =
     let p = err_from_is_err_and c.from_residual.result c.from_residual.ensures.1 in
-    rw (p.1, p.2) (c.in_err-fill_both.ensures.0, untouched luminance_ac chrominance_ac c.args.scan.now.ac_table_indices.items c.args.ac_huffman_tables.now)
+    rw (p.1, p.2) (
+      c.in_err-fill_both.ensures.0,
+      untouched luminance_ac chrominance_ac c.args.scan.now.ac_table_indices.items c.args.ac_huffman_tables.now,
+    )
 
 pub fill_both-requires-2-clause-luminance : goal.fill_both-requires-2-clause-luminance
 fill_both-requires-2-clause-luminance c = luminance-ac-codes
@@ -30,5 +33,10 @@ returns-clause-dc c =
     let whole = with_defaults luminance_dc chrominance_dc c.args.scan.now.dc_table_indices.items old in
     let shown : c.deref.result.now ≡ c.args.scan.now.dc_table_indices.items = c.deref.ensures.value in
     let filled : c.fill_both.new.tables ≡ whole = rw shown at c.in_ok-fill_both.ensures in
-    MatchResult-weaker c.fill_both-2.result {P' = λ x. c.fill_both.new.tables ≡ whole} {Q' = λ e. (e ≡ OutOfMemory) × AreBetween old whole c.fill_both.new.tables} c.fill_both-2.ensures
-    (λ x e. filled) (λ x e. (e.0, rw filled (done luminance_dc chrominance_dc c.args.scan.now.dc_table_indices.items old)))
+    MatchResult-weaker c.fill_both-2.result {P' = λ x. c.fill_both.new.tables ≡ whole} {Q' = λ e. (e ≡ OutOfMemory)
+    × AreBetween old whole c.fill_both.new.tables} c.fill_both-2.ensures
+    (λ x e. filled) (λ x e. (
+      e.0,
+      rw filled (done luminance_dc chrominance_dc c.args.scan.now.dc_table_indices.items
+          old),
+    ))

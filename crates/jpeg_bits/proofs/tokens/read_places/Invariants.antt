@@ -7,7 +7,8 @@ abbrev pub invariant-loop-at : goal.invariant-loop-at
 invariant-loop-at g l = record {
   len : length l.band ≡ length l.fn.band;
   within : l.at ≤ length l.band;
-  text : IsAt l.fn.table l.fn.point (first_ac l.fn.table l.fn.point (length l.fn.band) l.fn.band) l.fn.held l.fn.source l.band l.at l.held l.source;
+  text : IsAt l.fn.table l.fn.point (first_ac l.fn.table l.fn.point (length l.fn.band) l.fn.band) l.fn.held l.fn.source
+      l.band l.at l.held l.source;
 }
 
 abbrev pub decreases-loop-at : goal.decreases-loop-at

@@ -28,9 +28,11 @@ returns-in_err-tables-clause-reads g c =
     let places = plain-places frame header.components c.requires.legal.components in
     rw (p.1, p.2) (refused {X = Option Marker} (λ m. (found, m)) (samples_read found (without_factors frame) header)
     (samples_read found (without_factors frame) header) c.args.source.now c.args.source.now _ _
-    (begun (samples_read found (without_factors frame) header) c.args.source.now) c.in_err-tables.ensures.0 c.in_err-tables.ensures.1
+    (begun (samples_read found (without_factors frame) header) c.args.source.now) c.in_err-tables.ensures.0
+    c.in_err-tables.ensures.1
     (λ f h. samples-lacking found (without_factors frame) header c.args.source.now.bytes f
-    (codings-lacking found.huffman.dc (without_factors frame) header.components header.dc_places f places c.requires.legal.dc_length h)))
+    (codings-lacking found.huffman.dc (without_factors frame) header.components header.dc_places f places
+    c.requires.legal.dc_length h)))
 
 pub read_scan-requires-clause-wide : goal.read_scan-requires-clause-wide
 read_scan-requires-clause-wide g c =
@@ -45,7 +47,8 @@ read_scan-requires-clause-high g c =
 pub read_scan-requires-clause-precision : goal.read_scan-requires-clause-precision
 read_scan-requires-clause-precision g c =
     let frame = frame_in c.args.frame.now in
-    rw c.coding_of-coding.ensures (decoded-precision frame (c.requires.sound.frames frame c.requires.frame) c.requires.process)
+    rw c.coding_of-coding.ensures (decoded-precision frame (c.requires.sound.frames frame c.requires.frame)
+    c.requires.process)
 
 pub returns-in_err-planes-clause-reads : goal.returns-in_err-planes-clause-reads
 returns-in_err-planes-clause-reads g c =
@@ -57,11 +60,13 @@ returns-in_err-planes-clause-reads g c =
     let ts = map (λ t. t.now) c.deref.result.now in
     let tables : tables_in found.huffman.dc header.dc_places ≡ Ok ts =
     c.in_ok-tables.ensures ∙ ap (λ l. Ok (map (λ t. t.now) l)) (sym c.deref.ensures.value) in
-    let a = codings-by-tables found.huffman.dc (without_factors frame) header.components header.dc_places ts places c.requires.legal.dc_length tables in
+    let a = codings-by-tables found.huffman.dc (without_factors frame) header.components header.dc_places ts places
+    c.requires.legal.dc_length tables in
     let is = plain-by found frame header ts a c.coding_of-coding.result c.coding_of-coding.ensures in
     let k = c.coding_of-coding.result in
     rw (p.1, p.2) (samples-fail {X = Option Marker} (λ m. (found, m))
-    (λ (r : Vec (Vec ℕ Global) Global × Option Marker). (map (λ v. v.items) r.0.items, r.1)) found (without_factors frame) header a.codings
+    (λ (r : Vec (Vec ℕ Global) Global × Option Marker). (map (λ v. v.items) r.0.items, r.1)) found
+    (without_factors frame) header a.codings
     (scan_at (way_by k ts) k.high k.restart_interval k.point_transform)
     c.args.source.now c.read_scan.new.source _ a.are is c.in_err-planes.ensures.reads)
 
@@ -74,7 +79,8 @@ put_samples-requires-clause-count g c =
     let ts = map (λ t. t.now) c.deref.result.now in
     let tables : tables_in found.huffman.dc header.dc_places ≡ Ok ts =
     c.in_ok-tables.ensures ∙ ap (λ l. Ok (map (λ t. t.now) l)) (sym c.deref.ensures.value) in
-    let a = codings-by-tables found.huffman.dc (without_factors frame) header.components header.dc_places ts places c.requires.legal.dc_length tables in
+    let a = codings-by-tables found.huffman.dc (without_factors frame) header.components header.dc_places ts places
+    c.requires.legal.dc_length tables in
     let is = plain-by found frame header ts a c.coding_of-coding.result c.coding_of-coding.ensures in
     c.in_ok-planes.ensures.count ∙ sym (length-map c.deref.result.now (λ t. t.now))
     ∙ codings-count found.huffman.dc (without_factors frame) header.components header.dc_places ts a
@@ -95,15 +101,18 @@ returns-clause-reads g c =
     let ts = map (λ t. t.now) c.deref.result.now in
     let tables : tables_in found.huffman.dc header.dc_places ≡ Ok ts =
     c.in_ok-tables.ensures ∙ ap (λ l. Ok (map (λ t. t.now) l)) (sym c.deref.ensures.value) in
-    let a = codings-by-tables found.huffman.dc (without_factors frame) header.components header.dc_places ts places c.requires.legal.dc_length tables in
+    let a = codings-by-tables found.huffman.dc (without_factors frame) header.components header.dc_places ts places
+    c.requires.legal.dc_length tables in
     let is = plain-by found frame header ts a c.coding_of-coding.result c.coding_of-coding.ensures in
     let k = c.coding_of-coding.result in
     let planes = map (λ v. v.items) c.in_ok-planes.planes.items in
-    let put : planes_in c.put_samples.new.self.samples ≡ with_samples (map (λ (x : LosslessCoding). x.place) a.codings) planes found.samples =
+    let put : planes_in c.put_samples.new.self.samples ≡ with_samples (map (λ (x : LosslessCoding). x.place) a.codings)
+    planes found.samples =
     c.put_samples.ensures.samples
     ∙ ap (λ (l : List ℕ). with_samples l planes found.samples) (c.deref-2.ensures.value ∙ sym a.places_are) in
     samples-end found (record (with_decoded (found_in c.args.state.now) c.put_samples.new.self) { scanned = true })
-    (without_factors frame) header a.codings (scan_at (way_by k ts) k.high k.restart_interval k.point_transform) planes c.in_ok-planes.met
+    (without_factors frame) header a.codings (scan_at (way_by k ts) k.high k.restart_interval k.point_transform) planes
+    c.in_ok-planes.met
     c.args.source.now c.read_scan.new.source c.pass_restarts.new.source c.pass_restarts.result a.are is
     (put-made (found_in c.args.state.now) c.args.decoded.now c.put_samples.new.self _ c.put_samples.ensures.held
     c.put_samples.ensures.finished c.put_samples.ensures.planes put)
@@ -116,8 +125,10 @@ returns-clause-sound g c =
     let next = record (with_decoded (found_in c.args.state.now) c.put_samples.new.self) { scanned = true } in
     let planes = map (λ v. v.items) c.in_ok-planes.planes.items in
     let k = c.coding_of-coding.result in
-    let size : k.wide * k.high ≡ frame.width * frame.height = ap (λ (x : Coding). x.wide * x.high) c.coding_of-coding.ensures in
-    on-ok c.pass_restarts.result (samples-sound found next frame c.deref-2.result.now planes c.requires.sound c.requires.frame c.requires.process
+    let size : k.wide * k.high ≡ frame.width * frame.height =
+    ap (λ (x : Coding). x.wide * x.high) c.coding_of-coding.ensures in
+    on-ok c.pass_restarts.result (samples-sound found next frame c.deref-2.result.now planes c.requires.sound
+    c.requires.frame c.requires.process
     (subst (λ (n : ℕ). AreWhole n planes) size c.in_ok-planes.ensures.long)
     (put-made (found_in c.args.state.now) c.args.decoded.now c.put_samples.new.self _ c.put_samples.ensures.held
     c.put_samples.ensures.finished c.put_samples.ensures.planes c.put_samples.ensures.samples))

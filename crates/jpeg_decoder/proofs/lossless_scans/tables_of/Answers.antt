@@ -14,7 +14,8 @@ returns-in_err-needed c =
     let unset : slice_index_or ts c.index.result.now None ≡ None = search rules in
     let p = err_from_is_err_and c.from_residual-in_err-needed.result c.from_residual-in_err-needed.ensures.1 in
     rw (p.1, p.2) (format-refuses c.in_err-needed.field-0.0 _ c.in_err-needed.ensures.1
-    (tables-lacking ts ds c.loop-slot.slot c.index.result.now (map (λ t. t.now) c.loop-slot.tables.items) _ (search rules) at
+    (tables-lacking ts ds c.loop-slot.slot c.index.result.now (map (λ t. t.now) c.loop-slot.tables.items) _
+    (search rules) at
     unset c.loop-slot.invariant))
 
 pub loop-slot-preserved : goal.loop-slot-preserved

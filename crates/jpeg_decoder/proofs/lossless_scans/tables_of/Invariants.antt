@@ -8,4 +8,5 @@ use Rattle.jpeg_decoder.proofs.lossless_scans.tables_of.Given as goal
 abbrev pub invariant-loop-slot : goal.invariant-loop-slot
 invariant-loop-slot l =
     tables_in l.state.dc_tables (scan_in l.header).dc_places
-    ≡ (tables_in l.state.dc_tables (drop l.slot (scan_in l.header).dc_places) >>= tables-after (map (λ t. t.now) l.tables.items))
+    ≡ (tables_in l.state.dc_tables (drop l.slot (scan_in l.header).dc_places)
+    >>= tables-after (map (λ t. t.now) l.tables.items))

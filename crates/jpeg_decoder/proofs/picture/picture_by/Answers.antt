@@ -10,19 +10,28 @@ use Rattle.jpeg_decoder.proofs.picture.picture_by.Goals as goal
 
 pub crop_to-requires : goal.crop_to-requires
 crop_to-requires c =
-    scale-first (frame_in c.args.frame.now) c.args.frame.now.components.items c.as_slice-components.result.now _ c.requires.frame refl
+    scale-first (frame_in c.args.frame.now) c.args.frame.now.components.items c.as_slice-components.result.now _
+    c.requires.frame refl
     c.as_slice-components.ensures.value c.if-components-eq1.true
 
 pub returns-then-components-eq1 : goal.returns-then-components-eq1
 returns-then-components-eq1 c =
     let items = c.args.frame.now.components.items in
     let same = c.as_slice-components.ensures.value in
-    let one : length c.args.planes.items ≡ 1 = omega (arith, c.requires.count, length-map items component_in, ap length same, c.if-components-eq1.true) in
+    let one : length c.args.planes.items ≡ 1 = omega (
+      arith,
+      c.requires.count,
+      length-map items component_in,
+      ap length same,
+      c.if-components-eq1.true,
+    ) in
     let popped : c.args.planes.items ≡ c.pop.new.self.items ++ c.in_ok-plane.plane ∷ [] =
     c.pop.ensures.items ∙ ap (λ (o : Option _). c.pop.new.self.items ++ option_to_list o) c.in_ok-plane.ensures in
     let only = popped-only c.args.planes.items c.pop.new.self.items c.in_ok-plane.plane popped one in
-    picture-first c.args.settings (metadata_in c.args.state.now.metadata) (frame_in c.args.frame.now) items c.as_slice-components.result.now _
-    (map (λ v. v.items) c.args.planes.items) c.in_ok-plane.plane.items c.crop_to.new.plane.items same c.if-components-eq1.true
+    picture-first c.args.settings (metadata_in c.args.state.now.metadata) (frame_in c.args.frame.now) items
+    c.as_slice-components.result.now _
+    (map (λ v. v.items) c.args.planes.items) c.in_ok-plane.plane.items c.crop_to.new.plane.items same
+    c.if-components-eq1.true
     (ap (map (λ v. v.items)) only) c.crop_to.ensures
 
 pub compute_image_rows-requires-clause-some : goal.compute_image_rows-requires-clause-some
@@ -48,7 +57,8 @@ compute_image_rows-requires-clause-factors c =
 pub compute_image_rows-requires-clause-cover : goal.compute_image_rows-requires-clause-cover
 compute_image_rows-requires-clause-cover c =
     rw (c.as_slice-components.ensures.value, c.deref.ensures.value)
-    (decoded-cover (frame_in c.args.frame.now) c.requires.frame (map (λ v. v.items) c.args.planes.items) c.requires.planes)
+    (decoded-cover (frame_in c.args.frame.now) c.requires.frame (map (λ v. v.items) c.args.planes.items)
+    c.requires.planes)
 
 pub returns : goal.returns
 returns c =
@@ -56,7 +66,9 @@ returns c =
     let same = ap length c.as_slice-components.ensures.value in
     let count = length-map c.args.frame.now.components.items component_in in
     let other : length frame.components ≢ 1 = λ h. c.if-components-eq1.false (omega (arith, h, same, count)) in
-    several-given (λ v. v.items) c.args.settings (metadata_in c.args.state.now.metadata) frame (map component_in c.as_slice-components.result.now)
-    (map (λ v. v.items) c.args.planes.items) (map (λ v. v.items) c.deref.result.now) _ c.compute_image_rows.result c.requires.frame other
+    several-given (λ v. v.items) c.args.settings (metadata_in c.args.state.now.metadata) frame
+    (map component_in c.as_slice-components.result.now)
+    (map (λ v. v.items) c.args.planes.items) (map (λ v. v.items) c.deref.result.now) _ c.compute_image_rows.result
+    c.requires.frame other
     (ap (map component_in) c.as_slice-components.ensures.value) (ap (map (λ v. v.items)) c.deref.ensures.value)
     c.choose_color_transform-transform.ensures c.compute_image_rows.ensures

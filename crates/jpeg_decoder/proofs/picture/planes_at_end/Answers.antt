@@ -15,18 +15,22 @@ use Rattle.jpeg_decoder.proofs.picture.planes_at_end.Goals as goal
 pub listed : goal.listed
 listed c =
     let within = mapped-within component_in c.args.frame.now.components.items c.loop-place.place (omega arith) in
-    let four = reached-four (with_decoded (found_in c.args.state.now) c.args.decoded.now) (frame_in c.args.frame.now) c.loop-place.place c.requires.sound c.requires.frame within in
+    let four = reached-four (with_decoded (found_in c.args.state.now) c.args.decoded.now) (frame_in c.args.frame.now)
+    c.loop-place.place c.requires.sound c.requires.frame within in
     omega (arith, four)
 
 pub bounds-decoded-place : goal.bounds-decoded-place
 bounds-decoded-place c =
     let within = mapped-within component_in c.args.frame.now.components.items c.loop-place.place (omega arith) in
-    reached-four (with_decoded (found_in c.args.state.now) c.args.decoded.now) (frame_in c.args.frame.now) c.loop-place.place c.requires.sound c.requires.frame within
+    reached-four (with_decoded (found_in c.args.state.now) c.args.decoded.now) (frame_in c.args.frame.now)
+    c.loop-place.place c.requires.sound c.requires.frame within
 
 pub take_held-held-requires : goal.take_held-held-requires
 take_held-held-requires c h =
     let within = mapped-within component_in c.args.frame.now.components.items c.loop-place.place (omega arith) in
-    let some = reached-held (with_decoded (found_in c.args.state.now) c.args.decoded.now) (frame_in c.args.frame.now) c.loop-place.place (arrays_in c.loop-place.decoded.held.items) c.requires.sound c.requires.frame within c.loop-place.invariant.held (sym c.are_held-is_held.ensures ∙ h) in
+    let some = reached-held (with_decoded (found_in c.args.state.now) c.args.decoded.now) (frame_in c.args.frame.now)
+    c.loop-place.place (arrays_in c.loop-place.decoded.held.items) c.requires.sound c.requires.frame within
+    c.loop-place.invariant.held (sym c.are_held-is_held.ensures ∙ h) in
     omega (arith, some, length-map c.loop-place.decoded.held.items blocks_in)
 
 pub plane_at_end-requires-clause-scale : goal.plane_at_end-requires-clause-scale
@@ -34,8 +38,10 @@ plane_at_end-requires-clause-scale c =
     let cs = c.args.frame.now.components.items in
     let place = c.loop-place.place in
     let within = mapped-within component_in cs place (omega arith) in
-    let is = mapped-or component_in cs place c.index.result.now c.index.result.now (component_in c.index.result.now) (omega arith) c.index.ensures in
-    reached-scale (with_decoded (found_in c.args.state.now) c.args.decoded.now) (frame_in c.args.frame.now) place (component_in c.index.result.now) c.requires.sound c.requires.frame within is
+    let is = mapped-or component_in cs place c.index.result.now c.index.result.now (component_in c.index.result.now)
+    (omega arith) c.index.ensures in
+    reached-scale (with_decoded (found_in c.args.state.now) c.args.decoded.now) (frame_in c.args.frame.now) place
+    (component_in c.index.result.now) c.requires.sound c.requires.frame within is
 
 pub plane_at_end-requires-clause-plane : goal.plane_at_end-requires-clause-plane
 plane_at_end-requires-clause-plane c =
@@ -46,18 +52,25 @@ plane_at_end-requires-clause-plane c =
     let frame = frame_in c.args.frame.now in
     let within = mapped-within component_in cs place (omega arith) in
     let four = reached-four found frame place c.requires.sound c.requires.frame within in
-    let is = mapped-or component_in cs place c.index.result.now c.index.result.now (component_in c.index.result.now) (omega arith) c.index.ensures in
+    let is = mapped-or component_in cs place c.index.result.now c.index.result.now (component_in c.index.result.now)
+    (omega arith) c.index.ensures in
     let taken : option_map (λ v. v.items) c.take-plane.result ≡ get_or planes place None =
-    mapped-or (λ p. option_map (λ v. v.items) p) c.loop-place.decoded.planes place c.take-plane.result _ None (omega (arith, four)) c.take-plane.ensures.value in
-    reached-plane found frame place (component_in c.index.result.now) planes _ c.requires.sound c.requires.frame within is c.loop-place.invariant.decided taken
+    mapped-or (λ p. option_map (λ v. v.items) p) c.loop-place.decoded.planes place c.take-plane.result _ None
+    (omega (arith, four)) c.take-plane.ensures.value in
+    reached-plane found frame place (component_in c.index.result.now) planes _ c.requires.sound c.requires.frame within
+    is c.loop-place.invariant.decided taken
 
 pub plane_at_end-requires-clause-blocks : goal.plane_at_end-requires-clause-blocks
 plane_at_end-requires-clause-blocks c =
     let cs = c.args.frame.now.components.items in
     let place = c.loop-place.place in
     let within = mapped-within component_in cs place (omega arith) in
-    let is = mapped-or component_in cs place c.index.result.now c.index.result.now (component_in c.index.result.now) (omega arith) c.index.ensures in
-    reached-blocks (with_decoded (found_in c.args.state.now) c.args.decoded.now) (frame_in c.args.frame.now) place (component_in c.index.result.now) (arrays_in c.loop-place.decoded.held.items) c.are_held-is_held.result _ c.requires.sound c.requires.frame within is c.loop-place.invariant.held c.are_held-is_held.ensures c.take_held-held.ensures.taken
+    let is = mapped-or component_in cs place c.index.result.now c.index.result.now (component_in c.index.result.now)
+    (omega arith) c.index.ensures in
+    reached-blocks (with_decoded (found_in c.args.state.now) c.args.decoded.now) (frame_in c.args.frame.now) place
+    (component_in c.index.result.now) (arrays_in c.loop-place.decoded.held.items) c.are_held-is_held.result _
+    c.requires.sound c.requires.frame within is c.loop-place.invariant.held c.are_held-is_held.ensures
+    c.take_held-held.ensures.taken
 
 pub returns-in_err-plane_at_end-clause-planes : goal.returns-in_err-plane_at_end-clause-planes
 returns-in_err-plane_at_end-clause-planes c =
@@ -69,14 +82,20 @@ returns-in_err-plane_at_end-clause-planes c =
     let frame = frame_in c.args.frame.now in
     let within = mapped-within component_in cs place (omega arith) in
     let four = reached-four found frame place c.requires.sound c.requires.frame within in
-    let is = mapped-or component_in cs place c.index.result.now c.index.result.now component (omega arith) c.index.ensures in
+    let is = mapped-or component_in cs place c.index.result.now c.index.result.now component (omega arith)
+    c.index.ensures in
     let taken : option_map (λ v. v.items) c.take-plane.result ≡ get_or planes place None =
-    mapped-or (λ p. option_map (λ v. v.items) p) c.loop-place.decoded.planes place c.take-plane.result _ None (omega (arith, four)) c.take-plane.ensures.value in
-    let end = reached-end found frame place component planes (arrays_in c.loop-place.decoded.held.items) _ _ c.are_held-is_held.result _ refl c.loop-place.invariant.decided taken c.loop-place.invariant.held c.are_held-is_held.ensures c.take_held-held.ensures.taken in
-    let p = err_from_is_err_and c.from_residual-in_err-plane_at_end.result c.from_residual-in_err-plane_at_end.ensures.1 in
+    mapped-or (λ p. option_map (λ v. v.items) p) c.loop-place.decoded.planes place c.take-plane.result _ None
+    (omega (arith, four)) c.take-plane.ensures.value in
+    let end = reached-end found frame place component planes (arrays_in c.loop-place.decoded.held.items) _ _
+    c.are_held-is_held.result _ refl c.loop-place.invariant.decided taken c.loop-place.invariant.held
+    c.are_held-is_held.ensures c.take_held-held.ensures.taken in
+    let p = err_from_is_err_and c.from_residual-in_err-plane_at_end.result
+    c.from_residual-in_err-plane_at_end.ensures.1 in
     rw (p.1, p.2) (
       c.in_err-plane_at_end.ensures.plane.0,
-      failed-there found frame place component (map (λ v. v.items) c.loop-place.planes.items) _ _ _ within is c.loop-place.invariant.given end c.in_err-plane_at_end.ensures.plane.1,
+      failed-there found frame place component (map (λ v. v.items) c.loop-place.planes.items) _ _ _ within is
+          c.loop-place.invariant.given end c.in_err-plane_at_end.ensures.plane.1,
     )
 
 pub loop-place-preserved : goal.loop-place-preserved
@@ -90,27 +109,37 @@ loop-place-preserved c =
     let frame = frame_in c.args.frame.now in
     let within = mapped-within component_in cs place (omega arith) in
     let four = reached-four found frame place c.requires.sound c.requires.frame within in
-    let is = mapped-or component_in cs place c.index.result.now c.index.result.now component (omega arith) c.index.ensures in
+    let is = mapped-or component_in cs place c.index.result.now c.index.result.now component (omega arith)
+    c.index.ensures in
     let taken : option_map (λ v. v.items) c.take-plane.result ≡ get_or planes place None =
-    mapped-or (λ p. option_map (λ v. v.items) p) c.loop-place.decoded.planes place c.take-plane.result _ None (omega (arith, four)) c.take-plane.ensures.value in
-    let end = reached-end found frame place component planes held _ _ c.are_held-is_held.result _ refl c.loop-place.invariant.decided taken c.loop-place.invariant.held c.are_held-is_held.ensures c.take_held-held.ensures.taken in
+    mapped-or (λ p. option_map (λ v. v.items) p) c.loop-place.decoded.planes place c.take-plane.result _ None
+    (omega (arith, four)) c.take-plane.ensures.value in
+    let end = reached-end found frame place component planes held _ _ c.are_held-is_held.result _ refl
+    c.loop-place.invariant.decided taken c.loop-place.invariant.held c.are_held-is_held.ensures
+    c.take_held-held.ensures.taken in
     let front = map (λ v. v.items) c.loop-place.planes.items in
     let plane = c.in_ok-plane_at_end.field-0 in
     let pushed : c.push.new.self.items ≡ c.loop-place.planes.items ++ plane ∷ [] = search rules in
     let joined : map (λ v. v.items) c.push.new.self.items ≡ front ++ plane.items ∷ [] =
     ap (map (λ v. v.items)) pushed ∙ map-append (λ v. v.items) c.loop-place.planes.items (plane ∷ []) in
     record {
-      decided = planes-kept c.loop-place.decoded.planes place _ ∙ same-next planes (planes_in c.args.decoded.now.planes) place c.loop-place.invariant.decided;
-      held = c.take_held-held.ensures.left ∙ same-next held (arrays_in c.args.decoded.now.held.items) place c.loop-place.invariant.held;
-      given = more-there found frame place component front _ plane.items _ _ within is c.loop-place.invariant.given end c.in_ok-plane_at_end.ensures.plane joined;
-      whole = whole-there frame.components place component front _ plane.items within is c.loop-place.invariant.whole c.in_ok-plane_at_end.ensures.whole joined;
+      decided = planes-kept c.loop-place.decoded.planes place _ ∙ same-next planes (planes_in c.args.decoded.now.planes)
+          place c.loop-place.invariant.decided;
+      held = c.take_held-held.ensures.left ∙ same-next held (arrays_in c.args.decoded.now.held.items) place
+          c.loop-place.invariant.held;
+      given = more-there found frame place component front _ plane.items _ _ within is c.loop-place.invariant.given end
+          c.in_ok-plane_at_end.ensures.plane joined;
+      whole = whole-there frame.components place component front _ plane.items within is c.loop-place.invariant.whole
+          c.in_ok-plane_at_end.ensures.whole joined;
       count = search rules;
     }
 
 pub returns-clause-planes : goal.returns-clause-planes
 returns-clause-planes c =
-    planes-all (with_decoded (found_in c.args.state.now) c.args.decoded.now) (frame_in c.args.frame.now) c.loop-place.place _ _ _
-    (none-left component_in c.args.frame.now.components.items c.loop-place.place (omega arith)) c.loop-place.invariant.given
+    planes-all (with_decoded (found_in c.args.state.now) c.args.decoded.now) (frame_in c.args.frame.now)
+    c.loop-place.place _ _ _
+    (none-left component_in c.args.frame.now.components.items c.loop-place.place (omega arith))
+    c.loop-place.invariant.given
 
 pub returns-clause-whole : goal.returns-clause-whole
 returns-clause-whole c =

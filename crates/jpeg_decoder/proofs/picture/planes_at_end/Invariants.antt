@@ -12,7 +12,8 @@ abbrev pub invariant-loop-place : goal.invariant-loop-place
 invariant-loop-place l = record {
   decided : drop l.place (planes_in l.decoded.planes) ≡ drop l.place (planes_in l.fn.decoded.planes);
   held : drop l.place (arrays_in l.decoded.held.items) ≡ drop l.place (arrays_in l.fn.decoded.held.items);
-  given : planes_from (with_decoded (found_in l.fn.state) l.fn.decoded) (frame_in l.fn.frame) 0 (frame_in l.fn.frame).components
+  given : planes_from (with_decoded (found_in l.fn.state) l.fn.decoded) (frame_in l.fn.frame) 0
+      (frame_in l.fn.frame).components
       ≡ (planes_from (with_decoded (found_in l.fn.state) l.fn.decoded) (frame_in l.fn.frame) l.place
       (drop l.place (frame_in l.fn.frame).components) >>= others-after (map (λ v. v.items) l.planes.items));
   whole : AreWholeWith (frame_in l.fn.frame).components l.place (map (λ v. v.items) l.planes.items);

@@ -18,13 +18,17 @@ pub returns-clause-told : goal.returns-clause-told
 returns-clause-told g c =
     told-through {X = Unit {0}} c.args.source.now c.read_start.new.source c.read.new.source c.read.result _ _
     (λ k.
-    let at = c.in_ok-read_start.ensures.1 k in
-    (at.0, λ p. p ∙ ap (λ (f : Found). told_rest true f c.read_start.new.source.bytes) c.requires ∙ sym (told-start true c.args.source.now.bytes c.read_start.new.source.bytes at.1)))
+    let at = c.in_ok-read_start.ensures.1 k in (
+      at.0,
+      λ p. p ∙ ap (λ (f : Found). told_rest true f c.read_start.new.source.bytes) c.requires
+          ∙ sym (told-start true c.args.source.now.bytes c.read_start.new.source.bytes at.1),
+    ))
     c.read.ensures.told
 
 pub returns-in_err-read_start-clause-turns : goal.returns-in_err-read_start-clause-turns
 unfolding IsOfTurns
-returns-in_err-read_start-clause-turns g c k = (0, ap (λ (f : Found). told_of f) c.requires ∙ sym (turns-none true c.args.source.now.bytes))
+returns-in_err-read_start-clause-turns g c k =
+    (0, ap (λ (f : Found). told_of f) c.requires ∙ sym (turns-none true c.args.source.now.bytes))
 
 pub returns-clause-turns : goal.returns-clause-turns
 unfolding IsOfTurns

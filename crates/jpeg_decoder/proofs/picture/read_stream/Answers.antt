@@ -16,7 +16,8 @@ returns-in_err-read_start-clause-told g c =
 
 pub returns-in_err-read_start-clause-turns : goal.returns-in_err-read_start-clause-turns
 unfolding IsOfTurns
-returns-in_err-read_start-clause-turns g c k = (0, ap (λ (f : Found). told_of f) c.requires ∙ sym (turns-none false c.args.source.now.bytes))
+returns-in_err-read_start-clause-turns g c k =
+    (0, ap (λ (f : Found). told_of f) c.requires ∙ sym (turns-none false c.args.source.now.bytes))
 
 pub returns-clause-turns : goal.returns-clause-turns
 unfolding IsOfTurns

@@ -17,12 +17,17 @@ returns-in_err-needed-clause-planes c =
     let within = mapped-within component_in cs l.place (omega arith) in
     let four : l.place < 4 = omega (arith, within, c.requires) in
     let taken : option_map (λ v. v.items) c.take-plane.result ≡ get_or (planes_in l.decoded.samples) l.place None =
-    mapped-or (λ p. option_map (λ v. v.items) p) l.decoded.samples l.place c.take-plane.result _ None (omega (arith, four)) c.take-plane.ensures.value in
+    mapped-or (λ p. option_map (λ v. v.items) p) l.decoded.samples l.place c.take-plane.result _ None (omega (
+      arith,
+      four,
+    )) c.take-plane.ensures.value in
     let none : option_map (λ v. v.items) c.take-plane.result ≡ None = search rules in
-    let unset : slice_index_or samples l.place None ≡ None = sym (same-at (planes_in l.decoded.samples) samples l.place None l.invariant.left) ∙ sym taken ∙ none in
+    let unset : slice_index_or samples l.place None ≡ None =
+    sym (same-at (planes_in l.decoded.samples) samples l.place None l.invariant.left) ∙ sym taken ∙ none in
     let p = err_from_is_err_and c.from_residual-in_err-needed.result c.from_residual-in_err-needed.ensures.1 in
     rw (p.1, p.2) (format-refuses c.in_err-needed.field-0.0 _ c.in_err-needed.ensures.1
-    (samples-lack samples (frame_in c.args.frame.now).components l.place (map (λ v. v.items) l.planes.items) _ within unset l.invariant.given))
+    (samples-lack samples (frame_in c.args.frame.now).components l.place (map (λ v. v.items) l.planes.items) _ within
+    unset l.invariant.given))
 
 pub loop-place-preserved : goal.loop-place-preserved
 loop-place-preserved c =
@@ -33,7 +38,10 @@ loop-place-preserved c =
     let four : l.place < 4 = omega (arith, within, c.requires) in
     let plane = c.in_ok-needed.field-0 in
     let taken : option_map (λ v. v.items) c.take-plane.result ≡ get_or (planes_in l.decoded.samples) l.place None =
-    mapped-or (λ p. option_map (λ v. v.items) p) l.decoded.samples l.place c.take-plane.result _ None (omega (arith, four)) c.take-plane.ensures.value in
+    mapped-or (λ p. option_map (λ v. v.items) p) l.decoded.samples l.place c.take-plane.result _ None (omega (
+      arith,
+      four,
+    )) c.take-plane.ensures.value in
     let some : option_map (λ v. v.items) c.take-plane.result ≡ Some plane.items = search rules in
     let set : slice_index_or samples l.place None ≡ Some plane.items =
     sym (same-at (planes_in l.decoded.samples) samples l.place None l.invariant.left) ∙ sym taken ∙ some in
@@ -42,8 +50,10 @@ loop-place-preserved c =
     let joined : map (λ v. v.items) c.push.new.self.items ≡ front ++ plane.items ∷ [] =
     ap (map (λ v. v.items)) pushed ∙ map-append (λ v. v.items) l.planes.items (plane ∷ []) in
     record {
-      left = planes-kept l.decoded.samples l.place _ ∙ same-next (planes_in l.decoded.samples) samples l.place l.invariant.left;
-      given = samples-there samples (frame_in c.args.frame.now).components l.place front _ plane.items _ within set joined l.invariant.given;
+      left = planes-kept l.decoded.samples l.place _ ∙ same-next (planes_in l.decoded.samples) samples l.place
+          l.invariant.left;
+      given = samples-there samples (frame_in c.args.frame.now).components l.place front _ plane.items _ within set
+          joined l.invariant.given;
       count = search rules;
     }
 
@@ -51,4 +61,5 @@ pub returns-clause-planes : goal.returns-clause-planes
 returns-clause-planes c =
     let l = c.loop-place in
     samples-all (planes_in c.args.decoded.now.samples) (frame_in c.args.frame.now).components l.place
-    (map (λ v. v.items) l.planes.items) _ (omega (arith, length-map c.args.frame.now.components.items component_in)) l.invariant.given
+    (map (λ v. v.items) l.planes.items) _ (omega (arith, length-map c.args.frame.now.components.items component_in))
+    l.invariant.given

@@ -11,25 +11,34 @@ use Rattle.jpeg_decoder.proofs.picture.samples_picture.Goals as goal
 pub samples_at_end-requires : goal.samples_at_end-requires
 samples_at_end-requires c =
     let frame = frame_in c.args.frame.now in
-    record { count = (count-few (length frame.components) (decoded-count frame (c.requires.sound.frames frame c.requires.frame))).1 }
+    record {
+      count = (count-few (length frame.components)
+          (decoded-count frame (c.requires.sound.frames frame c.requires.frame))).1;
+    }
 
 pub returns-in_err-planes : goal.returns-in_err-planes
 returns-in_err-planes c =
     let p = err_from_is_err_and c.from_residual.result c.from_residual.ensures.1 in
     let found = with_decoded (found_in c.args.state.now) c.args.decoded.now in
-    rw (p.1, p.2) (c.in_err-planes.ensures.planes.0, picture-lacks found (frame_in c.args.frame.now) _ c.in_err-planes.ensures.planes.1)
+    rw (p.1, p.2) (
+      c.in_err-planes.ensures.planes.0,
+      picture-lacks found (frame_in c.args.frame.now) _
+          c.in_err-planes.ensures.planes.1,
+    )
 
 pub compute_image_lossless-requires-clause-most : goal.compute_image_lossless-requires-clause-most
 compute_image_lossless-requires-clause-most c =
     let frame = frame_in c.args.frame.now in
-    let few = (count-few (length frame.components) (decoded-count frame (c.requires.sound.frames frame c.requires.frame))).1 in
+    let few = (count-few (length frame.components)
+    (decoded-count frame (c.requires.sound.frames frame c.requires.frame))).1 in
     omega (arith, few, c.in_ok-planes.ensures.count)
 
 pub compute_image_lossless-requires-clause-whole : goal.compute_image_lossless-requires-clause-whole
 compute_image_lossless-requires-clause-whole c =
     let frame = frame_in c.args.frame.now in
     samples-whole (frame.width * frame.height) (planes_in c.args.decoded.now.samples) 0 frame.components
-    (map (λ v. v.items) c.in_ok-planes.planes.items) (c.requires.sound.samples frame c.requires.frame) c.in_ok-planes.ensures.planes
+    (map (λ v. v.items) c.in_ok-planes.planes.items) (c.requires.sound.samples frame c.requires.frame)
+    c.in_ok-planes.ensures.planes
 
 pub returns : goal.returns
 returns c =

@@ -21,31 +21,38 @@ pub returns-in_err-read_marker : goal.returns-in_err-read_marker
 returns-in_err-read_marker g c =
     let p = err_from_is_err_and c.from_residual.result c.from_residual.ensures.1 in
     let e : is_restart c.loop.met ≡ true = search rules in
-    rw (p.1, p.2) (Continues-err {X = Option Marker} {Z = Marker} (λ m. m) (λ m. m) (after_all c.args.met) (after_all c.loop.met) next_marker c.args.source.now c.loop.source c.read_marker.new.source _
-    (λ f h. after-refused c.loop.met c.loop.source.bytes f e h) c.loop.invariant.reads c.in_err-read_marker.ensures.answers)
+    rw (p.1, p.2) (Continues-err {X = Option Marker} {Z = Marker} (λ m. m) (λ m. m) (after_all c.args.met)
+    (after_all c.loop.met) next_marker c.args.source.now c.loop.source c.read_marker.new.source _
+    (λ f h. after-refused c.loop.met c.loop.source.bytes f e h) c.loop.invariant.reads
+    c.in_err-read_marker.ensures.answers)
 
 pub loop-preserved : goal.loop-preserved
 loop-preserved g c =
     let e : is_restart c.loop.met ≡ true = search rules in
     let m = c.in_ok-read_marker.field-0 in
     record {
-      reads = Continues-ok {X = Marker} (λ m. m) (after_all c.args.met) (after_all c.loop.met) (after_all (Some m)) next_marker c.args.source.now c.loop.source c.read_marker.new.source m
-          (λ q. after-next c.loop.met c.loop.source.bytes c.read_marker.new.source.bytes m e q) c.loop.invariant.reads c.in_ok-read_marker.ensures.answers;
+      reads = Continues-ok {X = Marker} (λ m. m) (after_all c.args.met) (after_all c.loop.met) (after_all (Some m))
+          next_marker c.args.source.now c.loop.source c.read_marker.new.source m
+          (λ q. after-next c.loop.met c.loop.source.bytes c.read_marker.new.source.bytes m e q) c.loop.invariant.reads
+          c.in_ok-read_marker.ensures.answers;
       took = λ k.
           let here = c.loop.invariant.reads.1 k in
           let there = c.in_ok-read_marker.ensures.answers.1 here.0 in
           let less = marker-takes c.loop.source.bytes (m, c.read_marker.new.source.bytes) there.1 in
           omega (arith, c.loop.invariant.took k, less);
-      short = λ _. short-first c.loop.counter c.loop.source c.args.source.now c.loop.invariant.short c.loop.invariant.first c.in_ok-read_marker.ensures.short;
+      short = λ _. short-first c.loop.counter c.loop.source c.args.source.now c.loop.invariant.short
+          c.loop.invariant.first c.in_ok-read_marker.ensures.short;
       first = λ e. absurd (omega arith);
     }
 
 pub returns : goal.returns
 returns g c =
-    never-met {X = Option Marker} (λ m. m) (after_all c.args.met) c.args.source.now c.loop-test.source c.format_error.result c.format_error.ensures
+    never-met {X = Option Marker} (λ m. m) (after_all c.args.met) c.args.source.now c.loop-test.source
+    c.format_error.result c.format_error.ensures
     (elim c.loop-test.branch as (λ _. c.loop-test.source.failed ≡ c.args.source.now.failed) [
       | else-loop-test w ↦ ap (λ s. s.failed) w.source-is ∙ c.loop.invariant.reads.0
-      | then-loop-test+else-not-is_restart+in_ok-read_marker+else-counter-lt18446744073709551615 w ↦ ap (λ s. s.failed) w.source-is ∙ w.in_ok-read_marker.ensures.answers.0 ∙ c.loop.invariant.reads.0
+      | then-loop-test+else-not-is_restart+in_ok-read_marker+else-counter-lt18446744073709551615 w ↦ ap (λ s. s.failed)
+          w.source-is ∙ w.in_ok-read_marker.ensures.answers.0 ∙ c.loop.invariant.reads.0
     ])
     (λ k.
     let some : 0 < c.loop.counter = elim c.loop-test.branch [

@@ -14,7 +14,8 @@ returns-in_err-pixels-clause-err g c bytes tells some =
     let known = bytes_are_known (g.R.Read.remaining c.args.reader) bytes tells in
     let same = known_bytes_are_told (g.R.Read.remaining c.args.reader) bytes tells in
     let here = reads tt in
-    rw (p.1, p.2) (outside-decode c.decode.new.self.source.known _ _ bytes (λ k. rw same at here.1 known k) (λ k. here.2 known k) some)
+    rw (p.1, p.2) (outside-decode c.decode.new.self.source.known _ _ bytes (λ k. rw same at here.1 known k)
+    (λ k. here.2 known k) some)
 
 pub returns-in_err-pixels-clause-named : goal.returns-in_err-pixels-clause-named
 returns-in_err-pixels-clause-named g c bytes tells =
@@ -23,7 +24,8 @@ returns-in_err-pixels-clause-named g c bytes tells =
     let known = bytes_are_known (g.R.Read.remaining c.args.reader) bytes tells in
     let same = known_bytes_are_told (g.R.Read.remaining c.args.reader) bytes tells in
     let here = reads tt in
-    rw (p.1, p.2) (named-decode c.decode.new.self.source.known c.decode.new.self.source.failed _ bytes (λ k. rw same at here.1 known k) (λ k. here.2 known k))
+    rw (p.1, p.2) (named-decode c.decode.new.self.source.known c.decode.new.self.source.failed _ bytes
+    (λ k. rw same at here.1 known k) (λ k. here.2 known k))
 
 pub returns-clause-ok : goal.returns-clause-ok
 returns-clause-ok g c bytes tells =
@@ -32,5 +34,7 @@ returns-clause-ok g c bytes tells =
     let same = known_bytes_are_told (g.R.Read.remaining c.args.reader) bytes tells in
     let here = reads tt in
     let all = rw same at (here.1 known).1 in
-    let text : string_bytes c.in_ok-line.line ≡ line_of (option_map info_of c.decode.new.self.found.frame) = c.in_ok-line.ensures ∙ ap line_of c.info.ensures in
-    output-some bytes c.decode.new.self.source.bytes (told_of c.decode.new.self.found) c.in_ok-pixels.pixels.items all ∙ ap (λ xs. Some (xs ++ c.in_ok-pixels.pixels.items)) (sym text)
+    let text : string_bytes c.in_ok-line.line ≡ line_of (option_map info_of c.decode.new.self.found.frame) =
+    c.in_ok-line.ensures ∙ ap line_of c.info.ensures in
+    output-some bytes c.decode.new.self.source.bytes (told_of c.decode.new.self.found) c.in_ok-pixels.pixels.items all
+    ∙ ap (λ xs. Some (xs ++ c.in_ok-pixels.pixels.items)) (sym text)

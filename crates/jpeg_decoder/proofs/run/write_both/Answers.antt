@@ -8,4 +8,5 @@ returns-in_err-write_fully-clause-err g c =
     rw p.1 (TakesBeginning-front _ _ c.args.first.now c.args.second.now c.in_err-write_fully.ensures.err)
 
 pub returns-clause-err : goal.returns-clause-err
-returns-clause-err g c = on_err_weaker c.write_fully-2.result (λ h. TakesBeginning-after _ _ _ c.args.first.now c.args.second.now c.in_ok-write_fully.ensures.ok h) c.write_fully-2.ensures.err
+returns-clause-err g c = on_err_weaker c.write_fully-2.result (λ h. TakesBeginning-after _ _ _ c.args.first.now
+    c.args.second.now c.in_ok-write_fully.ensures.ok h) c.write_fully-2.ensures.err

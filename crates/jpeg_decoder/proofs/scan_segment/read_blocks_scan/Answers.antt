@@ -17,15 +17,18 @@ returns-in_err-codings_of-clause-reads g c =
     let found = with_decoded (found_in c.args.state.now) c.args.decoded.now in
     let frame = frame_in c.args.frame.now in
     let header = scan_in c.args.header.now in
-    rw (p.1, p.2) (refused {X = Option Marker} (λ m. (found, m)) (blocks_read found frame header) (after_header found frame header)
-    c.args.source.now c.args.source.now _ _ (blocks-begun found frame header c.args.source.now) c.in_err-codings_of.ensures.codings.0
+    rw (p.1, p.2) (refused {X = Option Marker} (λ m. (found, m)) (blocks_read found frame header)
+    (after_header found frame header)
+    c.args.source.now c.args.source.now _ _ (blocks-begun found frame header c.args.source.now)
+    c.in_err-codings_of.ensures.codings.0
     c.in_err-codings_of.ensures.codings.1 (λ f h. codings-refused found frame header c.args.source.now.bytes f
     (codings-kept (found_in c.args.state.now) c.args.decoded.now frame header ∙ h)))
 
 pub read-requires-clause-ready : goal.read-requires-clause-ready
 read-requires-clause-ready g c =
     let frame = frame_in c.args.frame.now in
-    ready (found_in c.args.state.now) frame (scan_in c.args.header.now) _ (c.requires.sound.frames frame c.requires.frame)
+    ready (found_in c.args.state.now) frame (scan_in c.args.header.now) _ (c.requires.sound.frames frame
+    c.requires.frame)
     c.requires.process c.requires.legal c.pass_of.ensures refl c.in_ok-codings_of.ensures.classes
     c.in_ok-codings_of.ensures.codings c.in_ok-codings_of.ensures.count
 
@@ -37,11 +40,13 @@ returns-in_err-met-clause-reads g c =
     let header = scan_in c.args.header.now in
     let codings = map coding_in c.in_ok-codings_of.field-0.items in
     let begun =
-    data-begun (blocks_read found frame header) found frame header (pass_in c.pass_of.result) codings c.args.source.now c.args.source.now
+    data-begun (blocks_read found frame header) found frame header (pass_in c.pass_of.result) codings c.args.source.now
+    c.args.source.now
     (codings-kept (found_in c.args.state.now) c.args.decoded.now frame header ∙ c.in_ok-codings_of.ensures.codings)
     c.pass_of.ensures (blocks-begun found frame header c.args.source.now) in
     rw (p.1, p.2) (Continues-err {X = Option Marker} {Z = Option Marker} (λ m. (found, m))
-    (λ m. (record (with_decoded (found_in c.args.state.now) c.read.new.self) { scanned = true }, m)) (blocks_read found frame header)
+    (λ m. (record (with_decoded (found_in c.args.state.now) c.read.new.self) { scanned = true }, m))
+    (blocks_read found frame header)
     (after_codings found frame (pass_in c.pass_of.result) codings)
     (scan_data found frame (pass_in c.pass_of.result) codings) c.args.source.now c.args.source.now
     c.read.new.source _ (λ f h. bind_err after_data _ f h) begun c.in_err-met.ensures.data)
@@ -53,7 +58,8 @@ returns-clause-reads g c =
     let header = scan_in c.args.header.now in
     let codings = map coding_in c.in_ok-codings_of.field-0.items in
     let begun =
-    data-begun (blocks_read found frame header) found frame header (pass_in c.pass_of.result) codings c.args.source.now c.args.source.now
+    data-begun (blocks_read found frame header) found frame header (pass_in c.pass_of.result) codings c.args.source.now
+    c.args.source.now
     (codings-kept (found_in c.args.state.now) c.args.decoded.now frame header ∙ c.in_ok-codings_of.ensures.codings)
     c.pass_of.ensures (blocks-begun found frame header c.args.source.now) in
     scan-ends (blocks_read found frame header) (after_codings found frame (pass_in c.pass_of.result) codings)

@@ -27,5 +27,10 @@ returns-clause-begun g c arrays =
     let next : (i.number + 1) % 256 % 8 ≡ (i.number + 1) % 8 = omega arith in
     let q = c.in_default.ensures in (
       q.0,
-      λ k. let at = q.1 k in (at.0, rw next (begun_next c.args.n (counted i arrays) (upcoming i.decoder c.args.source.now.bytes) (upcoming c.read_restart.new.decoder c.read_restart.new.source.bytes) some none at.1)),
+      λ k. let at = q.1 k in (
+        at.0,
+        rw next (begun_next c.args.n (counted i arrays)
+            (upcoming i.decoder c.args.source.now.bytes) (upcoming c.read_restart.new.decoder
+            c.read_restart.new.source.bytes) some none at.1),
+      ),
     )

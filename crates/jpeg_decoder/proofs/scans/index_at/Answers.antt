@@ -10,14 +10,16 @@ overflow_mul-result c =
 
 pub overflow_add-result : goal.overflow_add-result
 overflow_add-result c =
-    let r = c.ranges.row.fits in let d = c.ranges.down.fits in let w = c.ranges.wide.fits in let k = c.ranges.column.fits in let a = c.ranges.across.fits in
+    let r = c.ranges.row.fits in let d = c.ranges.down.fits in let w = c.ranges.wide.fits in
+    let k = c.ranges.column.fits in let a = c.ranges.across.fits in
     let p = small-place c.from.result c.from-2.result c.from-3.result (omega arith) (omega arith) (omega arith) in
     let q = small-column c.from-4.result c.from-5.result (omega arith) (omega arith) in
     record { fits = omega arith }
 
 pub returns-clause-small : goal.returns-clause-small
 returns-clause-small c =
-    let r = c.ranges.row.fits in let d = c.ranges.down.fits in let w = c.ranges.wide.fits in let k = c.ranges.column.fits in let a = c.ranges.across.fits in
+    let r = c.ranges.row.fits in let d = c.ranges.down.fits in let w = c.ranges.wide.fits in
+    let k = c.ranges.column.fits in let a = c.ranges.across.fits in
     let p = small-place c.from.result c.from-2.result c.from-3.result (omega arith) (omega arith) (omega arith) in
     let q = small-column c.from-4.result c.from-5.result (omega arith) (omega arith) in
     omega arith

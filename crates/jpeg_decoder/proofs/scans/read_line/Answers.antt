@@ -15,9 +15,13 @@ returns-then-not-read_turn-clause-turns g c =
     let l = c.loop-left in
     let slot = l.spot.slot in
     let now = reached l.interval (arrays_in l.arrays.items) in
-    (refused_after (λ (u : Unit {0}). now) (λ (u : Unit {0}). reached c.read_turn.new.interval (arrays_in c.read_turn.new.arrays.items))
-    (turns_from p vias (line_of start.slot start.index c.args.count) (reached c.args.interval.now (arrays_in c.args.arrays.now.items))) (turns_from p vias (line_of slot l.spot.index l.left) now)
+    (refused_after (λ (u : Unit {0}). now) (λ (u : Unit {0}). reached c.read_turn.new.interval
+    (arrays_in c.read_turn.new.arrays.items))
+    (turns_from p vias (line_of start.slot start.index c.args.count)
+    (reached c.args.interval.now (arrays_in c.args.arrays.now.items)))
+    (turns_from p vias (line_of slot l.spot.index l.left) now)
     (turn_from p vias (spot slot l.spot.index) now)
-    c.args.interval.now.decoder l.interval.decoder c.read_turn.new.interval.decoder c.args.source.now l.source c.read_turn.new.source _
+    c.args.interval.now.decoder l.interval.decoder c.read_turn.new.interval.decoder c.args.source.now l.source
+    c.read_turn.new.source _
     (λ t f h. line_refused p vias slot l.spot.index l.left now t f c.loop-left-test.true h)
     l.invariant.turns c.if-not-read_turn.ensures.turn)

@@ -13,9 +13,11 @@ invariant-loop-left g l = record {
   sizes : sizes_of l.arrays.items ≡ sizes_of l.fn.arrays.items;
   left : l.interval.left ≡ l.fn.interval.left;
   number : l.interval.number ≡ l.fn.interval.number;
-  turns : Leaves (turns_from (pass_in l.fn.scan.pass) (vias_in 0 l.fn.scan.components.items) (line_of l.fn.start.slot l.fn.start.index l.fn.count) (reached l.fn.interval (arrays_in l.fn.arrays.items)))
+  turns : Leaves (turns_from (pass_in l.fn.scan.pass) (vias_in 0 l.fn.scan.components.items)
+      (line_of l.fn.start.slot l.fn.start.index l.fn.count) (reached l.fn.interval (arrays_in l.fn.arrays.items)))
       l.fn.interval.decoder l.fn.source
-      (turns_from (pass_in l.fn.scan.pass) (vias_in 0 l.fn.scan.components.items) (line_of l.spot.slot l.spot.index l.left) (reached l.interval (arrays_in l.arrays.items)))
+      (turns_from (pass_in l.fn.scan.pass) (vias_in 0 l.fn.scan.components.items) (line_of l.spot.slot l.spot.index
+      l.left) (reached l.interval (arrays_in l.arrays.items)))
       l.interval.decoder l.source;
 }
 

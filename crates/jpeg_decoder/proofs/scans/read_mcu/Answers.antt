@@ -35,11 +35,18 @@ returns-then-not-read_parts-clause-mcu g c =
     let arrays = arrays_in c.args.arrays.now.items in
     let whole = mcu_from p (vias_in 0 cs) n mcu (counted i arrays) in
     let q = c.if-not-begin.ensures.begun arrays in
-    (refused_after (λ (u : Unit {0}). counted i arrays) (λ (u : Unit {0}). reached c.read_parts.new.interval (arrays_in c.read_parts.new.arrays.items))
+    (refused_after (λ (u : Unit {0}). counted i arrays) (λ (u : Unit {0}). reached c.read_parts.new.interval
+    (arrays_in c.read_parts.new.arrays.items))
     whole (begun_mcu p (vias_in 0 cs) mcu (counted j arrays)) (turns_from p (vias_in 0 cs) mcu (reached j arrays))
     i.decoder j.decoder c.read_parts.new.interval.decoder c.args.source.now c.begin.new.source c.read_parts.new.source _
-    (λ t f h. mcu_refused p (vias_in 0 cs) mcu (counted j arrays) t f h)
-    (q.0, λ k. let at = q.1 k in (at.0, mcu_begun p (vias_in 0 cs) n mcu (counted i arrays) (counted j arrays) (upcoming i.decoder c.args.source.now.bytes) (upcoming j.decoder c.begin.new.source.bytes) at.1))
+    (λ t f h. mcu_refused p (vias_in 0 cs) mcu (counted j arrays) t f h) (
+      q.0,
+      λ k. let at = q.1 k in (
+        at.0,
+        mcu_begun p (vias_in 0 cs) n mcu (counted i arrays) (counted j arrays)
+            (upcoming i.decoder c.args.source.now.bytes) (upcoming j.decoder c.begin.new.source.bytes) at.1,
+      ),
+    )
     c.if-not-read_parts.ensures.turns)
 
 pub returns-clause-mcu : goal.returns-clause-mcu
@@ -53,14 +60,18 @@ returns-clause-mcu g c =
     let arrays = arrays_in c.args.arrays.now.items in
     let q = c.if-not-begin.ensures.begun arrays in
     let r = c.if-not-read_parts.ensures in
-    let left : c.saturating_sub-interval.result ≡ j.left - 1 = c.saturating_sub-interval.ensures ∙ ap (λ (m : ℕ). m - 1) r.left in
+    let left : c.saturating_sub-interval.result ≡ j.left - 1 = c.saturating_sub-interval.ensures
+    ∙ ap (λ (m : ℕ). m - 1) r.left in
     rw (left, r.number) (
       r.turns.0 ∙ q.0,
       λ k.
           let at = q.1 k in
           let by = r.turns.1 at.0 in (
             by.0,
-            mcu_begun p (vias_in 0 cs) n mcu (counted i arrays) (counted j arrays) (upcoming i.decoder c.args.source.now.bytes) (upcoming j.decoder c.begin.new.source.bytes) at.1
-                ∙ mcu_turns p (vias_in 0 cs) mcu (counted j arrays) (reached c.read_parts.new.interval (arrays_in c.read_parts.new.arrays.items)) (upcoming j.decoder c.begin.new.source.bytes) (upcoming c.read_parts.new.interval.decoder c.read_parts.new.source.bytes) by.1,
+            mcu_begun p (vias_in 0 cs) n mcu (counted i arrays) (counted j arrays)
+                (upcoming i.decoder c.args.source.now.bytes) (upcoming j.decoder c.begin.new.source.bytes) at.1
+                ∙ mcu_turns p (vias_in 0 cs) mcu (counted j arrays) (reached c.read_parts.new.interval
+                (arrays_in c.read_parts.new.arrays.items)) (upcoming j.decoder c.begin.new.source.bytes)
+                (upcoming c.read_parts.new.interval.decoder c.read_parts.new.source.bytes) by.1,
           ),
     )

@@ -16,9 +16,13 @@ returns-then-not-read_own_mcu-clause-mcus g c =
     let l = c.loop-left in
     let f : ℕ → List _ = own_mcu c.args.start in
     let now = counted l.interval (arrays_in l.arrays.items) in
-    rw c.take_refusal.ensures (refused_after (λ (u : Unit {0}). now) (λ (u : Unit {0}). counted c.read_own_mcu.new.interval (arrays_in c.read_own_mcu.new.arrays.items))
-    (mcus_from p vias n (map (own_mcu c.args.start) (range_with_len 0 c.args.count)) (counted c.args.interval.now (arrays_in c.args.arrays.now.items))) (mcus_from p vias n (map f (range_with_len l.column l.left)) now)
+    rw c.take_refusal.ensures (refused_after (λ (u : Unit {0}). now)
+    (λ (u : Unit {0}). counted c.read_own_mcu.new.interval (arrays_in c.read_own_mcu.new.arrays.items))
+    (mcus_from p vias n (map (own_mcu c.args.start) (range_with_len 0 c.args.count))
+    (counted c.args.interval.now (arrays_in c.args.arrays.now.items)))
+    (mcus_from p vias n (map f (range_with_len l.column l.left)) now)
     (mcu_from p vias n (f l.column) now)
-    c.args.interval.now.decoder l.interval.decoder c.read_own_mcu.new.interval.decoder c.args.source.now l.source c.read_own_mcu.new.source _
+    c.args.interval.now.decoder l.interval.decoder c.read_own_mcu.new.interval.decoder c.args.source.now l.source
+    c.read_own_mcu.new.source _
     (λ t fault h. mcus_refused p vias n f l.column l.left now t fault c.loop-left-test.true h)
     l.invariant.mcus (rw c.from.ensures at c.if-not-read_own_mcu.ensures.mcu))

@@ -10,9 +10,11 @@ abbrev pub invariant-loop-left : goal.invariant-loop-left
 invariant-loop-left g l = record {
   at : l.column + l.left ≡ l.fn.count;
   sizes : sizes_of l.arrays.items ≡ sizes_of l.fn.arrays.items;
-  mcus : Leaves (mcus_from (pass_in l.fn.scan.pass) (vias_in 0 l.fn.scan.components.items) l.fn.scan.restart_interval (map (own_mcu l.fn.start) (range_with_len 0 l.fn.count)) (counted l.fn.interval (arrays_in l.fn.arrays.items)))
+  mcus : Leaves (mcus_from (pass_in l.fn.scan.pass) (vias_in 0 l.fn.scan.components.items) l.fn.scan.restart_interval
+      (map (own_mcu l.fn.start) (range_with_len 0 l.fn.count)) (counted l.fn.interval (arrays_in l.fn.arrays.items)))
       l.fn.interval.decoder l.fn.source
-      (mcus_from (pass_in l.fn.scan.pass) (vias_in 0 l.fn.scan.components.items) l.fn.scan.restart_interval (map (own_mcu l.fn.start) (range_with_len l.column l.left)) (counted l.interval (arrays_in l.arrays.items)))
+      (mcus_from (pass_in l.fn.scan.pass) (vias_in 0 l.fn.scan.components.items) l.fn.scan.restart_interval
+      (map (own_mcu l.fn.start) (range_with_len l.column l.left)) (counted l.interval (arrays_in l.arrays.items)))
       l.interval.decoder l.source;
 }
 

@@ -13,7 +13,8 @@ read_own_row-requires-clause-within g c =
     let l = c.loop-left in
     let grid = c.args.grid in
     let h = c.requires.within l.row (omega arith) in
-    subst (λ (sizes : List ℕ). c.row_start-start.result + grid.own_wide ≤ get_or sizes 0 0) (sym l.invariant.sizes) (rw c.row_start-start.ensures.value h)
+    subst (λ (sizes : List ℕ). c.row_start-start.result + grid.own_wide ≤ get_or sizes 0 0) (sym l.invariant.sizes)
+    (rw c.row_start-start.ensures.value h)
 
 pub returns-in_err-read_own_row-clause-mcus : goal.returns-in_err-read_own_row-clause-mcus
 returns-in_err-read_own_row-clause-mcus g c =
@@ -25,9 +26,13 @@ returns-in_err-read_own_row-clause-mcus g c =
     let l = c.loop-left in
     let f : ℕ → List (List _) = own_row c.args.grid.wide c.args.grid.own_wide in
     let now = counted l.interval (arrays_in l.arrays.items) in
-    rw (e.1, e.2) (refused_after (λ (u : Unit {0}). now) (λ (u : Unit {0}). counted c.read_own_row.new.interval (arrays_in c.read_own_row.new.arrays.items))
-    (mcus_from p vias n (own_rows c.args.grid.wide c.args.grid.own_wide c.args.grid.own_high) (counted c.args.interval.now (arrays_in c.args.arrays.now.items))) (mcus_from p vias n (flat_map f (range_with_len l.row l.left)) now)
+    rw (e.1, e.2) (refused_after (λ (u : Unit {0}). now) (λ (u : Unit {0}). counted c.read_own_row.new.interval
+    (arrays_in c.read_own_row.new.arrays.items))
+    (mcus_from p vias n (own_rows c.args.grid.wide c.args.grid.own_wide c.args.grid.own_high)
+    (counted c.args.interval.now (arrays_in c.args.arrays.now.items)))
+    (mcus_from p vias n (flat_map f (range_with_len l.row l.left)) now)
     (mcus_from p vias n (f l.row) now)
-    c.args.interval.now.decoder l.interval.decoder c.read_own_row.new.interval.decoder c.args.source.now l.source c.read_own_row.new.source _
+    c.args.interval.now.decoder l.interval.decoder c.read_own_row.new.interval.decoder c.args.source.now l.source
+    c.read_own_row.new.source _
     (λ t fault h. mcu_rows_refused p vias n f l.row l.left now t fault c.loop-left-test.true h)
     l.invariant.mcus (rw c.row_start-start.ensures.value at c.in_err-read_own_row.ensures.mcus))

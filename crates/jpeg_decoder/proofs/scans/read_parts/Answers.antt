@@ -18,9 +18,13 @@ returns-then-not-read_part-clause-turns g c =
     let coded = c.index-coded.result.now in
     let inside : l.slot < length cs = omega (arith, c.len.ensures, c.loop-slot-test.true) in
     let now = reached l.interval (arrays_in l.arrays.items) in
-    (refused_after (λ (u : Unit {0}). now) (λ (u : Unit {0}). reached c.read_part.new.interval (arrays_in c.read_part.new.arrays.items))
-    (turns_from p vias (mcu_spots row column 0 (components_in cs)) (reached c.args.interval.now (arrays_in c.args.arrays.now.items))) (turns_from p vias (left_of row column l.slot cs) now)
+    (refused_after (λ (u : Unit {0}). now) (λ (u : Unit {0}). reached c.read_part.new.interval
+    (arrays_in c.read_part.new.arrays.items))
+    (turns_from p vias (mcu_spots row column 0 (components_in cs))
+    (reached c.args.interval.now (arrays_in c.args.arrays.now.items)))
+    (turns_from p vias (left_of row column l.slot cs) now)
     (turns_from p vias (part_in l.slot (first_in row column coded) coded) now)
-    c.args.interval.now.decoder l.interval.decoder c.read_part.new.interval.decoder c.args.source.now l.source c.read_part.new.source _
+    c.args.interval.now.decoder l.interval.decoder c.read_part.new.interval.decoder c.args.source.now l.source
+    c.read_part.new.source _
     (λ t f h. slot_refused p vias row column l.slot cs coded now t f inside c.index-coded.ensures h)
     l.invariant.turns (rw c.first_index.ensures.value at c.if-not-read_part.ensures.turns))

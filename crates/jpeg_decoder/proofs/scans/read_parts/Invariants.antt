@@ -13,9 +13,12 @@ invariant-loop-slot g l = record {
   sizes : sizes_of l.arrays.items ≡ sizes_of l.fn.arrays.items;
   left : l.interval.left ≡ l.fn.interval.left;
   number : l.interval.number ≡ l.fn.interval.number;
-  turns : Leaves (turns_from (pass_in l.fn.scan.pass) (vias_in 0 l.fn.scan.components.items) (mcu_spots l.fn.row l.fn.column 0 (components_in l.fn.scan.components.items)) (reached l.fn.interval (arrays_in l.fn.arrays.items)))
+  turns : Leaves (turns_from (pass_in l.fn.scan.pass) (vias_in 0 l.fn.scan.components.items)
+      (mcu_spots l.fn.row l.fn.column 0 (components_in l.fn.scan.components.items))
+      (reached l.fn.interval (arrays_in l.fn.arrays.items)))
       l.fn.interval.decoder l.fn.source
-      (turns_from (pass_in l.fn.scan.pass) (vias_in 0 l.fn.scan.components.items) (left_of l.fn.row l.fn.column l.slot l.fn.scan.components.items) (reached l.interval (arrays_in l.arrays.items)))
+      (turns_from (pass_in l.fn.scan.pass) (vias_in 0 l.fn.scan.components.items) (left_of l.fn.row l.fn.column l.slot
+      l.fn.scan.components.items) (reached l.interval (arrays_in l.arrays.items)))
       l.interval.decoder l.source;
 }
 

@@ -11,7 +11,8 @@ use Rattle.jpeg_decoder.proofs.scans.read_rows.Goals as goal
 pub read_row-requires-clause-held : goal.read_row-requires-clause-held
 read_row-requires-clause-held g c column inside =
     let l = c.loop-left in
-    subst (λ (sizes : List ℕ). HoldsMcu c.args.scan.now.components.items sizes l.row column) (sym l.invariant.sizes) (c.requires.held l.row column (omega arith) inside)
+    subst (λ (sizes : List ℕ). HoldsMcu c.args.scan.now.components.items sizes l.row column) (sym l.invariant.sizes)
+    (c.requires.held l.row column (omega arith) inside)
 
 pub returns-in_err-read_row-clause-mcus : goal.returns-in_err-read_row-clause-mcus
 returns-in_err-read_row-clause-mcus g c =
@@ -23,9 +24,13 @@ returns-in_err-read_row-clause-mcus g c =
     let l = c.loop-left in
     let f : ℕ → List (List _) = row_in (components_in cs) c.args.wide in
     let now = counted l.interval (arrays_in l.arrays.items) in
-    rw (e.1, e.2) (refused_after (λ (u : Unit {0}). now) (λ (u : Unit {0}). counted c.read_row.new.interval (arrays_in c.read_row.new.arrays.items))
-    (mcus_from p vias n (rows_in (components_in cs) c.args.wide c.args.high) (counted c.args.interval.now (arrays_in c.args.arrays.now.items))) (mcus_from p vias n (flat_map f (range_with_len l.row l.left)) now)
+    rw (e.1, e.2) (refused_after (λ (u : Unit {0}). now) (λ (u : Unit {0}). counted c.read_row.new.interval
+    (arrays_in c.read_row.new.arrays.items))
+    (mcus_from p vias n (rows_in (components_in cs) c.args.wide c.args.high)
+    (counted c.args.interval.now (arrays_in c.args.arrays.now.items)))
+    (mcus_from p vias n (flat_map f (range_with_len l.row l.left)) now)
     (mcus_from p vias n (f l.row) now)
-    c.args.interval.now.decoder l.interval.decoder c.read_row.new.interval.decoder c.args.source.now l.source c.read_row.new.source _
+    c.args.interval.now.decoder l.interval.decoder c.read_row.new.interval.decoder c.args.source.now l.source
+    c.read_row.new.source _
     (λ t fault h. mcu_rows_refused p vias n f l.row l.left now t fault c.loop-left-test.true h)
     l.invariant.mcus c.in_err-read_row.ensures.mcus)

@@ -55,7 +55,8 @@ unfolding int_wrap next_u16 length_at times skip_at marker_of next_marker filled
     scale_for component_at frame_at nothing_found updated accepted frame_segment quantization_segment
     huffman_segment restart_segment application_segment skipped_segment pass_of tables_of coding_of codings_from
     codings_of vias_from arrays_before scan_arrays plane_by finished_by with_plane with_blocks with_arrays
-    put_arrays after_scan after_restarts blocks_scan scan_segment end_segment segment_at turn_at segments_within segments_at
+    put_arrays after_scan after_restarts blocks_scan scan_segment end_segment segment_at turn_at segments_within
+    segments_at
     start_at header_at plane_at_end planes_from picture_by blocks_picture picture_of rest_at meaning sized_meaning
     quantization.value_at quantization.table_at quantization.placed_table_at quantization.tables_from
     quantization.dqt_at tables.symbols_at tables.codes_at tables.placed_codes_at tables.tables_from tables.dht_at

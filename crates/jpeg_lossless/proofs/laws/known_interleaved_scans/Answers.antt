@@ -11,7 +11,9 @@ use Rattle.jpeg_lossless.specs.Pictures.{picture_bytes}
 use Rattle.jpeg_lossless.proofs.laws.known_interleaved_scans.Goals as goal
 
 pub returns : goal.returns
-unfolding marker_of filled_end text_at upcoming bits_from extended signed_from lengths_from code_value begins first_from code_in symbol_from residue first_line line_rest line_below lines_below difference differences mcu_tables tables_of rows_from strand strands lines_in components_of interval all_above intervals planes_of scan_at picture_bytes
+unfolding marker_of filled_end text_at upcoming bits_from extended signed_from lengths_from code_value begins first_from
+    code_in symbol_from residue first_line line_rest line_below lines_below difference differences mcu_tables tables_of
+    rows_from strand strands lines_in components_of interval all_above intervals planes_of scan_at picture_bytes
 returns c = record {
   halves = refl;
   halves_picture = refl;

@@ -12,7 +12,9 @@ returns c =
     let b = c.transform_rows-rows.ensures in
     let numbers = c.transform_columns.ensures in
     let kept : List ℤ → List ℤ = λ v. map (to_z w32) (map (of_z w32) v) in
-    λ y x hy hx. eight_cases (λ (i : ℕ). slice_index_or (slice_index_or (kept rows.r0 ∷ kept rows.r1 ∷ kept rows.r2 ∷ kept rows.r3 ∷ kept rows.r4 ∷ kept rows.r5 ∷ kept rows.r6 ∷ kept rows.r7 ∷ []) i []) x (pos 0) ≡ int_wrap w32 (transformed (f i) x +ℤ pos 16842752))
+    λ y x hy hx. eight_cases (λ (i : ℕ). slice_index_or (slice_index_or (kept rows.r0 ∷ kept rows.r1 ∷ kept rows.r2
+    ∷ kept rows.r3 ∷ kept rows.r4 ∷ kept rows.r5 ∷ kept rows.r6 ∷ kept rows.r7 ∷ []) i []) x (pos 0)
+    ≡ int_wrap w32 (transformed (f i) x +ℤ pos 16842752))
     (sums_row columns f rows.r0 0 numbers (lit< tt) b.r0 x hx)
     (sums_row columns f rows.r1 1 numbers (lit< tt) b.r1 x hx)
     (sums_row columns f rows.r2 2 numbers (lit< tt) b.r2 x hx)

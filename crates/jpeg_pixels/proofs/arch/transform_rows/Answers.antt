@@ -29,4 +29,5 @@ returns c =
       r6 = kernel_row c.transpose.result (λ k j. at j k) (pos 16842752) c.kernel.result.r6 6 turned c.kernel.ensures.r6;
       r7 = kernel_row c.transpose.result (λ k j. at j k) (pos 16842752) c.kernel.result.r7 7 turned c.kernel.ensures.r7;
     } in
-    turned_numbers c.kernel.result c.transpose-2.result (λ p j. int_wrap w32 (transformed (λ k. at j k) p +ℤ pos 16842752)) sums c.transpose-2.ensures
+    turned_numbers c.kernel.result c.transpose-2.result (λ p j. int_wrap w32 (transformed (λ k. at j k) p
+    +ℤ pos 16842752)) sums c.transpose-2.ensures

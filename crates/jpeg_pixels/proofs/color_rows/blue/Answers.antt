@@ -14,5 +14,6 @@ unfolding blue_of
 returns c =
     let y = c.luma-y.ensures in
     let u = c.centred-cb.ensures in
-    let sum : kept (kept c.luma-y.result +ℤ kept (pos 1858077 *ℤ kept c.centred-cb.result)) ≡ luma_of c.args.y +ℤ pos 1858077 *ℤ centred_of c.args.cb = omega (arith, ints, y, u) in
+    let sum : kept (kept c.luma-y.result +ℤ kept (pos 1858077 *ℤ kept c.centred-cb.result)) ≡ luma_of c.args.y
+    +ℤ pos 1858077 *ℤ centred_of c.args.cb = omega (arith, ints, y, u) in
     c.scaled_down.ensures ∙ ap (λ z. clamped (int_shr z 20)) sum

@@ -5,5 +5,6 @@ use Rattle.jpeg_pixels.proofs.color_rows.blue_row.Given as goal
 abbrev pub invariant-loop-x : goal.invariant-loop-x
 invariant-loop-x l = record {
   long : length l.row ≡ 64;
-  done : (k : ℕ) → k < l.x → slice_index l.row k ≡ blue_of (slice_index l.y (l.start + k)) (slice_index l.cb (l.start + k));
+  done : (k : ℕ) → k < l.x → slice_index l.row k ≡ blue_of (slice_index l.y (l.start + k))
+      (slice_index l.cb (l.start + k));
 }

@@ -15,6 +15,8 @@ returns c =
     let y = c.luma-y.ensures in
     let u = c.centred-cb.ensures in
     let v = c.centred-cr.ensures in
-    let sum : kept (kept (kept c.luma-y.result -ℤ kept (pos 360857 *ℤ kept c.centred-cb.result)) -ℤ kept (pos 748830 *ℤ kept c.centred-cr.result))
-    ≡ luma_of c.args.y -ℤ pos 360857 *ℤ centred_of c.args.cb -ℤ pos 748830 *ℤ centred_of c.args.cr = omega (arith, ints, y, u, v) in
+    let sum : kept (kept (kept c.luma-y.result -ℤ kept (pos 360857 *ℤ kept c.centred-cb.result))
+    -ℤ kept (pos 748830 *ℤ kept c.centred-cr.result))
+    ≡ luma_of c.args.y -ℤ pos 360857 *ℤ centred_of c.args.cb -ℤ pos 748830 *ℤ centred_of c.args.cr =
+    omega (arith, ints, y, u, v) in
     c.scaled_down.ensures ∙ ap (λ z. clamped (int_shr z 20)) sum

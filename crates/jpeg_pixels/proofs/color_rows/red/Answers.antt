@@ -14,5 +14,6 @@ unfolding red_of
 returns c =
     let y = c.luma-y.ensures in
     let v = c.centred-cr.ensures in
-    let sum : kept (kept c.luma-y.result +ℤ kept (pos 1470104 *ℤ kept c.centred-cr.result)) ≡ luma_of c.args.y +ℤ pos 1470104 *ℤ centred_of c.args.cr = omega (arith, ints, y, v) in
+    let sum : kept (kept c.luma-y.result +ℤ kept (pos 1470104 *ℤ kept c.centred-cr.result)) ≡ luma_of c.args.y
+    +ℤ pos 1470104 *ℤ centred_of c.args.cr = omega (arith, ints, y, v) in
     c.scaled_down.ensures ∙ ap (λ z. clamped (int_shr z 20)) sum

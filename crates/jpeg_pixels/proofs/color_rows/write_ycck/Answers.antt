@@ -7,26 +7,48 @@ pub loop-piece-preserved : goal.loop-piece-preserved
 loop-piece-preserved c =
     let start = 64 * c.loop-piece.piece in
     record {
-      red = piece_joined (λ x. 4 * x) (λ x. red_of (slice_index c.args.lines.now x) (slice_index c.args.lines.now (2 * c.args.width + x))) start 64 (64 * (c.loop-piece.piece + 1)) (4 * start) c.loop-piece.output c.write_ycck_piece.new.output
-          (omega arith) (λ x h. omega arith) c.loop-piece.invariant.red c.write_ycck_piece.ensures.red c.write_ycck_piece.ensures.before;
-      green = piece_joined (λ x. 4 * x + 1) (λ x. green_of (slice_index c.args.lines.now x) (slice_index c.args.lines.now (c.args.width + x)) (slice_index c.args.lines.now (2 * c.args.width + x))) start 64 (64 * (c.loop-piece.piece + 1)) (4 * start) c.loop-piece.output c.write_ycck_piece.new.output
-          (omega arith) (λ x h. omega arith) c.loop-piece.invariant.green c.write_ycck_piece.ensures.green c.write_ycck_piece.ensures.before;
-      blue = piece_joined (λ x. 4 * x + 2) (λ x. blue_of (slice_index c.args.lines.now x) (slice_index c.args.lines.now (c.args.width + x))) start 64 (64 * (c.loop-piece.piece + 1)) (4 * start) c.loop-piece.output c.write_ycck_piece.new.output
-          (omega arith) (λ x h. omega arith) c.loop-piece.invariant.blue c.write_ycck_piece.ensures.blue c.write_ycck_piece.ensures.before;
-      black = piece_joined (λ x. 4 * x + 3) (λ x. 255 - slice_index c.args.lines.now (3 * c.args.width + x)) start 64 (64 * (c.loop-piece.piece + 1)) (4 * start) c.loop-piece.output c.write_ycck_piece.new.output
-          (omega arith) (λ x h. omega arith) c.loop-piece.invariant.black c.write_ycck_piece.ensures.black c.write_ycck_piece.ensures.before;
+      red = piece_joined (λ x. 4 * x) (λ x. red_of (slice_index c.args.lines.now x)
+          (slice_index c.args.lines.now (2 * c.args.width + x))) start 64 (64 * (c.loop-piece.piece + 1)) (4 * start)
+          c.loop-piece.output c.write_ycck_piece.new.output
+          (omega arith) (λ x h. omega arith) c.loop-piece.invariant.red c.write_ycck_piece.ensures.red
+          c.write_ycck_piece.ensures.before;
+      green = piece_joined (λ x. 4 * x + 1) (λ x. green_of (slice_index c.args.lines.now x)
+          (slice_index c.args.lines.now (c.args.width + x)) (slice_index c.args.lines.now (2 * c.args.width + x))) start
+          64 (64 * (c.loop-piece.piece + 1)) (4 * start) c.loop-piece.output c.write_ycck_piece.new.output
+          (omega arith) (λ x h. omega arith) c.loop-piece.invariant.green c.write_ycck_piece.ensures.green
+          c.write_ycck_piece.ensures.before;
+      blue = piece_joined (λ x. 4 * x + 2) (λ x. blue_of (slice_index c.args.lines.now x)
+          (slice_index c.args.lines.now (c.args.width + x))) start 64 (64 * (c.loop-piece.piece + 1)) (4 * start)
+          c.loop-piece.output c.write_ycck_piece.new.output
+          (omega arith) (λ x h. omega arith) c.loop-piece.invariant.blue c.write_ycck_piece.ensures.blue
+          c.write_ycck_piece.ensures.before;
+      black = piece_joined (λ x. 4 * x + 3) (λ x. 255 - slice_index c.args.lines.now (3 * c.args.width + x)) start 64
+          (64 * (c.loop-piece.piece + 1)) (4 * start) c.loop-piece.output c.write_ycck_piece.new.output
+          (omega arith) (λ x h. omega arith) c.loop-piece.invariant.black c.write_ycck_piece.ensures.black
+          c.write_ycck_piece.ensures.before;
     }
 
 pub returns : goal.returns
 returns c =
     let start = 64 * (c.args.width / 64) in
     record {
-      red = piece_joined (λ x. 4 * x) (λ x. red_of (slice_index c.args.lines.now x) (slice_index c.args.lines.now (2 * c.args.width + x))) start (c.args.width % 64) c.args.width (4 * start) c.loop-piece.output c.write_ycck_piece-2.new.output
-          (omega arith) (λ x h. omega arith) (λ x h. c.loop-piece.invariant.red x (omega arith)) c.write_ycck_piece-2.ensures.red c.write_ycck_piece-2.ensures.before;
-      green = piece_joined (λ x. 4 * x + 1) (λ x. green_of (slice_index c.args.lines.now x) (slice_index c.args.lines.now (c.args.width + x)) (slice_index c.args.lines.now (2 * c.args.width + x))) start (c.args.width % 64) c.args.width (4 * start) c.loop-piece.output c.write_ycck_piece-2.new.output
-          (omega arith) (λ x h. omega arith) (λ x h. c.loop-piece.invariant.green x (omega arith)) c.write_ycck_piece-2.ensures.green c.write_ycck_piece-2.ensures.before;
-      blue = piece_joined (λ x. 4 * x + 2) (λ x. blue_of (slice_index c.args.lines.now x) (slice_index c.args.lines.now (c.args.width + x))) start (c.args.width % 64) c.args.width (4 * start) c.loop-piece.output c.write_ycck_piece-2.new.output
-          (omega arith) (λ x h. omega arith) (λ x h. c.loop-piece.invariant.blue x (omega arith)) c.write_ycck_piece-2.ensures.blue c.write_ycck_piece-2.ensures.before;
-      black = piece_joined (λ x. 4 * x + 3) (λ x. 255 - slice_index c.args.lines.now (3 * c.args.width + x)) start (c.args.width % 64) c.args.width (4 * start) c.loop-piece.output c.write_ycck_piece-2.new.output
-          (omega arith) (λ x h. omega arith) (λ x h. c.loop-piece.invariant.black x (omega arith)) c.write_ycck_piece-2.ensures.black c.write_ycck_piece-2.ensures.before;
+      red = piece_joined (λ x. 4 * x) (λ x. red_of (slice_index c.args.lines.now x)
+          (slice_index c.args.lines.now (2 * c.args.width + x))) start (c.args.width % 64) c.args.width (4 * start)
+          c.loop-piece.output c.write_ycck_piece-2.new.output
+          (omega arith) (λ x h. omega arith) (λ x h. c.loop-piece.invariant.red x (omega arith))
+          c.write_ycck_piece-2.ensures.red c.write_ycck_piece-2.ensures.before;
+      green = piece_joined (λ x. 4 * x + 1) (λ x. green_of (slice_index c.args.lines.now x)
+          (slice_index c.args.lines.now (c.args.width + x)) (slice_index c.args.lines.now (2 * c.args.width + x))) start
+          (c.args.width % 64) c.args.width (4 * start) c.loop-piece.output c.write_ycck_piece-2.new.output
+          (omega arith) (λ x h. omega arith) (λ x h. c.loop-piece.invariant.green x (omega arith))
+          c.write_ycck_piece-2.ensures.green c.write_ycck_piece-2.ensures.before;
+      blue = piece_joined (λ x. 4 * x + 2) (λ x. blue_of (slice_index c.args.lines.now x)
+          (slice_index c.args.lines.now (c.args.width + x))) start (c.args.width % 64) c.args.width (4 * start)
+          c.loop-piece.output c.write_ycck_piece-2.new.output
+          (omega arith) (λ x h. omega arith) (λ x h. c.loop-piece.invariant.blue x (omega arith))
+          c.write_ycck_piece-2.ensures.blue c.write_ycck_piece-2.ensures.before;
+      black = piece_joined (λ x. 4 * x + 3) (λ x. 255 - slice_index c.args.lines.now (3 * c.args.width + x)) start
+          (c.args.width % 64) c.args.width (4 * start) c.loop-piece.output c.write_ycck_piece-2.new.output
+          (omega arith) (λ x h. omega arith) (λ x h. c.loop-piece.invariant.black x (omega arith))
+          c.write_ycck_piece-2.ensures.black c.write_ycck_piece-2.ensures.before;
     }

@@ -10,13 +10,22 @@ abbrev factors : List ℕ
 factors = 1 ∷ 1 ∷ 1 ∷ []
 
 are-factors : All IsFactor factors
-are-factors = All-cons IsFactor 1 (1 ∷ 1 ∷ []) (omega arith, omega arith) (All-cons IsFactor 1 (1 ∷ []) (omega arith, omega arith) (All-cons IsFactor 1 ([]) (omega arith, omega arith) (All-nil IsFactor)))
+are-factors = All-cons IsFactor 1 (1 ∷ 1 ∷ []) (omega arith, omega arith) (All-cons IsFactor 1 (1 ∷ []) (
+  omega arith,
+  omega arith,
+) (All-cons IsFactor 1 ([]) (omega arith, omega arith) (All-nil IsFactor)))
 
 pub compute_image_rows-requires-clause-factors : goal.compute_image_rows-requires-clause-factors
 unfolding frame_of component_of
-compute_image_rows-requires-clause-factors c = squares-have-factors 2 1 factors (component_in c.component-one.result ∷ component_in c.component-two.result ∷ component_in c.component-three.result ∷ []) (λ i. c.component-one.ensures i ∷ c.component-two.ensures i ∷ c.component-three.ensures i ∷ []) are-factors
+compute_image_rows-requires-clause-factors c =
+    squares-have-factors 2 1 factors (component_in c.component-one.result ∷ component_in c.component-two.result
+    ∷ component_in c.component-three.result ∷ []) (λ i. c.component-one.ensures i ∷ c.component-two.ensures i
+    ∷ c.component-three.ensures i ∷ []) are-factors
 
 pub compute_image_rows-requires-clause-cover : goal.compute_image_rows-requires-clause-cover
 unfolding frame_of component_of HaveRoom
 compute_image_rows-requires-clause-cover c =
-    squares-are-covered 2 1 factors (component_in c.component-one.result ∷ component_in c.component-two.result ∷ component_in c.component-three.result ∷ []) (c.args.first.items ∷ c.args.second.items ∷ c.args.third.items ∷ []) (λ i. c.component-one.ensures i ∷ c.component-two.ensures i ∷ c.component-three.ensures i ∷ []) are-factors (omega arith) (omega arith) (omega arith, (omega arith, (omega arith, tt)))
+    squares-are-covered 2 1 factors (component_in c.component-one.result ∷ component_in c.component-two.result
+    ∷ component_in c.component-three.result ∷ []) (c.args.first.items ∷ c.args.second.items ∷ c.args.third.items
+    ∷ []) (λ i. c.component-one.ensures i ∷ c.component-two.ensures i ∷ c.component-three.ensures i ∷ [])
+    are-factors (omega arith) (omega arith) (omega arith, (omega arith, (omega arith, tt)))

@@ -19,5 +19,7 @@ returns c =
     let x = simp to_z-of_z at c.kernel_x.ensures in
     let t = simp to_z-of_z at c.kernel_t.ensures in
     butterfly_is s c.args.x_scale _ _ _ _ _ _ _ _
-    (ap (λ (l : List ℤ). slice_index_or l 0 (pos 0)) x) (ap (λ (l : List ℤ). slice_index_or l 1 (pos 0)) x) (ap (λ (l : List ℤ). slice_index_or l 2 (pos 0)) x) (ap (λ (l : List ℤ). slice_index_or l 3 (pos 0)) x)
-    (ap (λ (l : List ℤ). slice_index_or l 0 (pos 0)) t) (ap (λ (l : List ℤ). slice_index_or l 1 (pos 0)) t) (ap (λ (l : List ℤ). slice_index_or l 2 (pos 0)) t) (ap (λ (l : List ℤ). slice_index_or l 3 (pos 0)) t)
+    (ap (λ (l : List ℤ). slice_index_or l 0 (pos 0)) x) (ap (λ (l : List ℤ). slice_index_or l 1 (pos 0)) x)
+    (ap (λ (l : List ℤ). slice_index_or l 2 (pos 0)) x) (ap (λ (l : List ℤ). slice_index_or l 3 (pos 0)) x)
+    (ap (λ (l : List ℤ). slice_index_or l 0 (pos 0)) t) (ap (λ (l : List ℤ). slice_index_or l 1 (pos 0)) t)
+    (ap (λ (l : List ℤ). slice_index_or l 2 (pos 0)) t) (ap (λ (l : List ℤ). slice_index_or l 3 (pos 0)) t)

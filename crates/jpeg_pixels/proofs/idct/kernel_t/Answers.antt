@@ -9,4 +9,5 @@ returns c =
     let b3 = residue_bits c.args.s3 c.ranges.s3 in
     let b5 = residue_bits c.args.s5 c.ranges.s5 in
     let b7 = residue_bits c.args.s7 c.ranges.s7 in
-    simp (b1, b3, b5, b7, wrapping) (wrapped_list4 (omega (arith, ints)) (omega (arith, ints)) (omega (arith, ints)) (omega (arith, ints)))
+    simp (b1, b3, b5, b7, wrapping) (wrapped_list4 (omega (arith, ints)) (omega (arith, ints)) (omega (arith, ints))
+    (omega (arith, ints)))

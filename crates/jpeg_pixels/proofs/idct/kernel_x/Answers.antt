@@ -10,4 +10,5 @@ returns c =
     let b4 = residue_bits c.args.s4 c.ranges.s4 in
     let b6 = residue_bits c.args.s6 c.ranges.s6 in
     let bx = residue_bits c.args.x_scale c.ranges.x_scale in
-    simp (b0, b2, b4, b6, bx, wrapping) (wrapped_list4 (omega (arith, ints)) (omega (arith, ints)) (omega (arith, ints)) (omega (arith, ints)))
+    simp (b0, b2, b4, b6, bx, wrapping) (wrapped_list4 (omega (arith, ints)) (omega (arith, ints)) (omega (arith, ints))
+    (omega (arith, ints)))

@@ -14,14 +14,18 @@ pub returns-clause-inside : goal.returns-clause-inside
 returns-clause-inside c = λ x h.
     let below : x < c.samples.x = omega arith in
     c.samples.invariant.0 x below
-    ∙ ap (λ z. clamped (int_shr z 17)) (table_at c.kernel-sums.result (λ j. int_wrap w32 (transformed (λ k. slice_index_or c.args.values.now k (pos 0)) j +ℤ pos 16842752)) c.kernel-sums.ensures x h)
+    ∙ ap (λ z. clamped (int_shr z 17)) (table_at c.kernel-sums.result
+    (λ j. int_wrap w32 (transformed (λ k. slice_index_or c.args.values.now k (pos 0)) j +ℤ pos 16842752))
+    c.kernel-sums.ensures x h)
 
 pub samples-preserved : goal.samples-preserved
 samples-preserved c =
     let x = c.samples.x in
     let sum = slice_index_or c.kernel-sums.result x (pos 0) in
     let fits : FitsSigned w32 sum = search rules in (
-      set_next c.samples.output x c.sample_of.result 0 (λ j. clamped (int_shr (slice_index_or c.kernel-sums.result j (pos 0)) 17)) (omega arith) c.samples.invariant.0
+      set_next c.samples.output x c.sample_of.result 0
+          (λ j. clamped (int_shr (slice_index_or c.kernel-sums.result j (pos 0)) 17)) (omega arith)
+          c.samples.invariant.0
           (c.sample_of.ensures ∙ ap (λ z. clamped (int_shr z 17)) (to_z-of_z w32 sum fits)),
       λ i h. let ne : i ≢ x = omega arith in rw get_or-set_other (c.samples.invariant.1 i h),
     )
@@ -35,10 +39,19 @@ returns-then-is_zero-clause-inside c = λ x h.
     let zeros = c.if-is_zero.ensures.0 refl in
     let none : (k : ℕ) → 0 < k → k < 8 → slice_index_or values k (pos 0) ≡ pos 0 = λ k some small.
     let seven : 7 ≡ length (drop 1 values) = omega (arith, length-drop {A = ℤ}, c.told-values) in
-    let part : mid_of 1 7 values ≡ drop 1 values = ap (λ (n : ℕ). take n (drop 1 values)) seven ∙ take-length (drop 1 values) in
+    let part : mid_of 1 7 values ≡ drop 1 values = ap (λ (n : ℕ). take n (drop 1 values)) seven
+    ∙ take-length (drop 1 values) in
     let at : 1 + (k - 1) ≡ k = omega arith in
-    let within : k - 1 < length (mid_of 1 7 values) = omega (arith, ap length part, length-drop {A = ℤ}, c.told-values) in
-    ap (λ (n : ℕ). slice_index_or values n (pos 0)) (sym at) ∙ sym (get_or-drop 1 values (k - 1) (pos 0)) ∙ ap (λ (l : List ℤ). slice_index_or l (k - 1) (pos 0)) (sym part)
+    let within : k - 1 < length (mid_of 1 7 values) = omega (
+      arith,
+      ap length part,
+      length-drop {A = ℤ},
+      c.told-values,
+    ) in
+    ap (λ (n : ℕ). slice_index_or values n (pos 0)) (sym at) ∙ sym (get_or-drop 1 values (k - 1) (pos 0))
+    ∙ ap (λ (l : List ℤ). slice_index_or l (k - 1) (pos 0)) (sym part)
     ∙ zeros (k - 1) (pos 0) within in
     c.loop-x.invariant.0 x below ∙ c.sample_of-sample.ensures
-    ∙ ap (λ z. clamped (int_shr z 17)) (wrapped_flat first 16842752 fits (lit< tt) ∙ ap (λ z. int_wrap w32 (z +ℤ pos 16842752)) (sym (transformed_one (λ k. slice_index_or values k (pos 0)) x h none)))
+    ∙ ap (λ z. clamped (int_shr z 17)) (wrapped_flat first 16842752 fits (lit< tt)
+    ∙ ap (λ z. int_wrap w32 (z +ℤ pos 16842752)) (sym (transformed_one (λ k. slice_index_or values k (pos 0)) x h
+    none)))

@@ -3,4 +3,10 @@ use Rattle.jpeg_pixels.proofs.FlatScaled.{half_first_only, quarter_first_only, e
 use Rattle.jpeg_pixels.proofs.laws.flat_blocks_are_flat.Goals as goal
 
 pub returns : goal.returns
-returns c = record { full = sample_first_only; half = half_first_only; quarter = quarter_first_only; eighth = eighth_first_only }
+returns c =
+    record {
+      full = sample_first_only;
+      half = half_first_only;
+      quarter = quarter_first_only;
+      eighth = eighth_first_only;
+    }

@@ -5,7 +5,8 @@ use Rattle.jpeg_pixels.proofs.picture_lines.lines_from_above.Given as goal
 
 abbrev pub invariant-loop-row : goal.invariant-loop-row
 invariant-loop-row l = record {
-  bytes : l.picture.items ≡ picture_bytes l.color_convert (map source_in l.components) (map (λ v. v.items) l.planes) l.width l.row;
+  bytes : l.picture.items ≡ picture_bytes l.color_convert (map source_in l.components) (map (λ v. v.items) l.planes)
+      l.width l.row;
   long : length l.picture.items ≡ l.row * (length l.components * l.width);
   buffer : length l.lines.items ≡ length l.components * l.width;
 }

@@ -26,10 +26,14 @@ upsample_line-requires-clause-cover c =
     let components = c.args.components.now in
     let planes = c.args.planes.now in
     let inside : index < length planes = omega arith in
-    let counts : length (map (λ v. v.items) planes) ≡ length (map source_in components) = length-map planes (λ v. v.items) ∙ c.requires.planes ∙ sym (length-map components source_in) in
-    cover-of (map source_in components) (map (λ v. v.items) planes) c.args.width (c.args.row + 1) index (source_in none) (source_in (get_or components index none)) c.deref.result.now
-    counts c.requires.cover (omega (arith, length-map components source_in)) (lists.get_or-map source_in components index none)
-    (get_or-map (λ v. v.items) planes index c.index-planes-index.result [] inside ∙ ap (λ v. v.items) (sym c.index-planes-index.is) ∙ sym c.deref.ensures.value)
+    let counts : length (map (λ v. v.items) planes) ≡ length (map source_in components) =
+    length-map planes (λ v. v.items) ∙ c.requires.planes ∙ sym (length-map components source_in) in
+    cover-of (map source_in components) (map (λ v. v.items) planes) c.args.width (c.args.row + 1) index (source_in none)
+    (source_in (get_or components index none)) c.deref.result.now
+    counts c.requires.cover (omega (arith, length-map components source_in)) (lists.get_or-map source_in components
+    index none)
+    (get_or-map (λ v. v.items) planes index c.index-planes-index.result [] inside
+    ∙ ap (λ v. v.items) (sym c.index-planes-index.is) ∙ sym c.deref.ensures.value)
 
 pub loop-index-preserved : goal.loop-index-preserved
 loop-index-preserved c =
@@ -40,14 +44,21 @@ loop-index-preserved c =
     let row = c.args.row in
     let inside : index < length planes = omega arith in
     let sources = map source_in components in
-    let counts : length (map (λ v. v.items) planes) ≡ length sources = length-map planes (λ v. v.items) ∙ c.requires.planes ∙ sym (length-map components source_in) in
+    let counts : length (map (λ v. v.items) planes) ≡ length sources = length-map planes (λ v. v.items)
+    ∙ c.requires.planes ∙ sym (length-map components source_in) in
     let all = lines_of sources (map (λ v. v.items) planes) width row in
     let below : index < length sources = omega (arith, length-map components source_in) in
-    let room : index * width ≤ length c.loop-index.lines = omega (arith, mul-le-mul_right width c.loop-index-test.true) in
-    let line : get_or all index [] ≡ _ = line-of sources (map (λ v. v.items) planes) width row index (source_in none) (source_in (get_or components index none)) c.deref.result.now
+    let room : index * width ≤ length c.loop-index.lines =
+    omega (arith, mul-le-mul_right width c.loop-index-test.true) in
+    let line : get_or all index [] ≡ _ = line-of sources (map (λ v. v.items) planes) width row index (source_in none)
+    (source_in (get_or components index none)) c.deref.result.now
     counts below (lists.get_or-map source_in components index none)
-    (get_or-map (λ v. v.items) planes index c.index-planes-index.result [] inside ∙ ap (λ v. v.items) (sym c.index-planes-index.is) ∙ sym c.deref.ensures.value) in
-    lines-more all index width _ c.loop-index.lines c.upsample_line.new.line (omega (arith, lines_of-length sources (map (λ v. v.items) planes) width row counts)) room
+    (get_or-map (λ v. v.items) planes index c.index-planes-index.result [] inside
+    ∙ ap (λ v. v.items) (sym c.index-planes-index.is) ∙ sym c.deref.ensures.value) in
+    lines-more all index width _ c.loop-index.lines c.upsample_line.new.line (omega (
+      arith,
+      lines_of-length sources (map (λ v. v.items) planes) width row counts,
+    )) room
     (omega (arith, c.upsample_line.auto.line)) (c.upsample_line.ensures ∙ sym line) c.loop-index.invariant
 
 pub returns : goal.returns
@@ -55,10 +66,13 @@ returns c =
     let components = c.args.components.now in
     let planes = c.args.planes.now in
     let sources = map source_in components in
-    let counts : length (map (λ v. v.items) planes) ≡ length sources = length-map planes (λ v. v.items) ∙ c.requires.planes ∙ sym (length-map components source_in) in
+    let counts : length (map (λ v. v.items) planes) ≡ length sources = length-map planes (λ v. v.items)
+    ∙ c.requires.planes ∙ sym (length-map components source_in) in
     let all = lines_of sources (map (λ v. v.items) planes) c.args.width c.args.row in
     let done : c.loop-index.index ≡ length components = omega arith in
-    let whole : c.loop-index.index * c.args.width ≡ length c.loop-index.lines = ap (λ n. n * c.args.width) done ∙ sym c.requires.room ∙ sym c.loop-index.auto.lines in
-    let count : c.loop-index.index ≡ length all = done ∙ sym (length-map components source_in) ∙ sym (lines_of-length sources (map (λ v. v.items) planes) c.args.width c.args.row counts) in
+    let whole : c.loop-index.index * c.args.width ≡ length c.loop-index.lines = ap (λ n. n * c.args.width) done
+    ∙ sym c.requires.room ∙ sym c.loop-index.auto.lines in
+    let count : c.loop-index.index ≡ length all = done ∙ sym (length-map components source_in)
+    ∙ sym (lines_of-length sources (map (λ v. v.items) planes) c.args.width c.args.row counts) in
     sym (take-length c.loop-index.lines) ∙ ap (λ n. take n c.loop-index.lines) (sym whole) ∙ c.loop-index.invariant
     ∙ ap (λ n. concat (take n all)) count ∙ ap concat (take-length all)

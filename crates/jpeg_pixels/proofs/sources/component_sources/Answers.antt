@@ -28,8 +28,10 @@ none = record {
 
 pub loop-component-init : goal.loop-component-init
 loop-component-init c =
-    let all = sources_by c.greatest_horizontal-greatest_h.result c.greatest_vertical-greatest_v.result c.args.output_width c.args.output_height (map component_in c.args.components.now) in
-    subst (λ (l : List ComponentSource). Continues (map source_in l) all all) (sym c.in_ok-sources.ensures.items) (sources-start all)
+    let all = sources_by c.greatest_horizontal-greatest_h.result c.greatest_vertical-greatest_v.result
+    c.args.output_width c.args.output_height (map component_in c.args.components.now) in
+    subst (λ (l : List ComponentSource). Continues (map source_in l) all all) (sym c.in_ok-sources.ensures.items)
+    (sources-start all)
 
 pub component_source-requires : goal.component_source-requires
 component_source-requires c =
@@ -50,13 +52,20 @@ loop-component-preserved c =
     let before = map source_in c.loop-component.sources.items in
     let all = sources_by h v width height (map component_in components) in
     let inside : index < length components = c.loop-component-test.true in
-    let next : drop index components ≡ get_or components index none ∷ drop (index + 1) components = rw add-one (drop-cons components index none inside) in
-    let so_far : Continues before (sources_by h v width height (component_in (get_or components index none) ∷ map component_in (drop (index + 1) components))) all =
-    subst (λ (l : List Component). Continues before (sources_by h v width height (map component_in l)) all) next c.loop-component.invariant in
+    let next : drop index components ≡ get_or components index none ∷ drop (index + 1) components =
+    rw add-one (drop-cons components index none inside) in
+    let so_far : Continues before (sources_by h v width height (component_in (get_or components index none)
+    ∷ map component_in (drop (index + 1) components))) all =
+    subst (λ (l : List Component). Continues before (sources_by h v width height (map component_in l)) all) next
+    c.loop-component.invariant in
     let grown : map source_in c.push.new.self.items ≡ before ++ (source_in c.in_ok-source.source ∷ []) =
-    ap (λ (l : List ComponentSource). map source_in l) c.in_ok-push.ensures.items ∙ map-append source_in c.loop-component.sources.items (c.in_ok-source.source ∷ []) in
-    subst (λ (l : List Source). Continues l (sources_by h v width height (map component_in (drop (index + 1) components))) all) (sym grown)
-    (sources-more h v width height before (component_in (get_or components index none)) (map component_in (drop (index + 1) components)) (source_in c.in_ok-source.source) all c.in_ok-source.ensures so_far)
+    ap (λ (l : List ComponentSource). map source_in l) c.in_ok-push.ensures.items
+    ∙ map-append source_in c.loop-component.sources.items (c.in_ok-source.source ∷ []) in
+    subst (λ (l : List Source). Continues l
+    (sources_by h v width height (map component_in (drop (index + 1) components))) all) (sym grown)
+    (sources-more h v width height before (component_in (get_or components index none))
+    (map component_in (drop (index + 1) components)) (source_in c.in_ok-source.source) all c.in_ok-source.ensures
+    so_far)
 
 pub returns-in_err-source : goal.returns-in_err-source
 returns-in_err-source c =
@@ -69,13 +78,18 @@ returns-in_err-source c =
     let before = map source_in c.loop-component.sources.items in
     let all = sources_by h v width height (map component_in components) in
     let inside : index < length components = c.loop-component-test.true in
-    let next : drop index components ≡ get_or components index none ∷ drop (index + 1) components = rw add-one (drop-cons components index none inside) in
-    let so_far : Continues before (sources_by h v width height (component_in (get_or components index none) ∷ map component_in (drop (index + 1) components))) all =
-    subst (λ (l : List Component). Continues before (sources_by h v width height (map component_in l)) all) next c.loop-component.invariant in
+    let next : drop index components ≡ get_or components index none ∷ drop (index + 1) components =
+    rw add-one (drop-cons components index none inside) in
+    let so_far : Continues before (sources_by h v width height (component_in (get_or components index none)
+    ∷ map component_in (drop (index + 1) components))) all =
+    subst (λ (l : List Component). Continues before (sources_by h v width height (map component_in l)) all) next
+    c.loop-component.invariant in
     let p = err_from_is_err_and c.from_residual-in_err-source.result c.from_residual-in_err-source.ensures.1 in
-    let names = sources-err h v width height before (component_in (get_or components index none)) (map component_in (drop (index + 1) components)) c.in_err-source.field-0.0 all c.in_err-source.ensures so_far in
+    let names = sources-err h v width height before (component_in (get_or components index none))
+    (map component_in (drop (index + 1) components)) c.in_err-source.field-0.0 all c.in_err-source.ensures so_far in
     rw (p.1, p.2) (subst (λ (o : Result (List Source) Fault). Names c.in_err-source.field-0.0 o)
-    (λ i. sources_by (c.greatest_horizontal-greatest_h.ensures i) (c.greatest_vertical-greatest_v.ensures i) width height (map component_in components)) names)
+    (λ i. sources_by (c.greatest_horizontal-greatest_h.ensures i) (c.greatest_vertical-greatest_v.ensures i) width
+    height (map component_in components)) names)
 
 pub returns : goal.returns
 returns c =
@@ -86,6 +100,10 @@ returns c =
     let height = c.args.output_height in
     let before = map source_in c.loop-component.sources.items in
     let all = sources_by h v width height (map component_in components) in
-    let nothing : drop c.loop-component.component-index components ≡ [] = drop_of_length-le components c.loop-component-test.false in
-    (λ i. sources_by (sym c.greatest_horizontal-greatest_h.ensures i) (sym c.greatest_vertical-greatest_v.ensures i) width height (map component_in components))
-    ∙ sources-end h v width height before all (subst (λ (l : List Component). Continues before (sources_by h v width height (map component_in l)) all) nothing c.loop-component.invariant)
+    let nothing : drop c.loop-component.component-index components ≡ [] =
+    drop_of_length-le components c.loop-component-test.false in
+    (λ i. sources_by (sym c.greatest_horizontal-greatest_h.ensures i) (sym c.greatest_vertical-greatest_v.ensures i)
+    width height (map component_in components))
+    ∙ sources-end h v width height before all
+    (subst (λ (l : List Component). Continues before (sources_by h v width height (map component_in l)) all) nothing
+    c.loop-component.invariant)

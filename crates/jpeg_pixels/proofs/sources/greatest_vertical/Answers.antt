@@ -8,12 +8,18 @@ use Rattle.jpeg_pixels.proofs.SourceLists.{greatest-start}
 use Rattle.jpeg_pixels.proofs.sources.greatest_vertical.Goals as goal
 
 pub loop-component-init : goal.loop-component-init
-loop-component-init c = record { some = omega arith; same = greatest-start (λ f. f.vertical) (factors_of (map component_in c.args.components.now)) }
+loop-component-init c =
+    record {
+      some = omega arith;
+      same = greatest-start (λ f. f.vertical) (factors_of (map component_in c.args.components.now));
+    }
 
 pub returns : goal.returns
 returns c =
     let most = c.loop-component.most in
     let components = c.args.components.now in
-    let nothing : drop c.loop-component.component-index components ≡ [] = drop_of_length-le components c.loop-component-test.false in
+    let nothing : drop c.loop-component.component-index components ≡ [] =
+    drop_of_length-le components c.loop-component-test.false in
     let own : most ≡ max most 1 = omega arith in
-    own ∙ ap (λ (l : List Component). max most (greatest (λ f. f.vertical) (factors_of (map component_in l)))) (sym nothing) ∙ c.loop-component.invariant.same
+    own ∙ ap (λ (l : List Component). max most (greatest (λ f. f.vertical) (factors_of (map component_in l))))
+    (sym nothing) ∙ c.loop-component.invariant.same

@@ -3,4 +3,5 @@ use Rattle.jpeg_pixels.specs.Upsampling.{blended, far_place}
 use Rattle.jpeg_pixels.proofs.upsample_rows.upsample_row_h2v1.Given as goal
 
 abbrev pub invariant-loop-i : goal.invariant-loop-i
-invariant-loop-i l = (x : ℕ) → x + 1 < 2 * l.i → slice_index l.output x ≡ blended (slice_index l.line (x / 2)) (slice_index l.line (far_place (length l.line) x))
+invariant-loop-i l = (x : ℕ) → x + 1 < 2 * l.i → slice_index l.output x ≡ blended (slice_index l.line (x / 2))
+    (slice_index l.line (far_place (length l.line) x))

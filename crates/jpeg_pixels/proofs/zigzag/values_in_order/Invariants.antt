@@ -3,4 +3,5 @@ use Rattle.jpeg_pixels.specs.Zigzag.{zigzag_places}
 use Rattle.jpeg_pixels.proofs.zigzag.values_in_order.Given as goal
 
 abbrev pub invariant-loop-place : goal.invariant-loop-place
-invariant-loop-place l = (length l.ordered ≡ 64) × ((j : ℕ) → j < l.place → slice_index l.ordered j ≡ slice_index l.values (slice_index zigzag_places j))
+invariant-loop-place l = (length l.ordered ≡ 64) × ((j : ℕ) → j < l.place
+    → slice_index l.ordered j ≡ slice_index l.values (slice_index zigzag_places j))

@@ -9,5 +9,6 @@ pub returns-else-number-eq13 : goal.returns-else-number-eq13
 returns-else-number-eq13 g c =
     let above : 2 < c.args.number = search rules in
     let other : c.args.number ≢ 13 = search rules in
-    Answers-along (option_map application_in) (passed_over c.args.left None) (payload_at c.args.number c.args.left) c.args.source.now c.pass_over.new.source c.pass_over.result
+    Answers-along (option_map application_in) (passed_over c.args.left None) (payload_at c.args.number c.args.left)
+    c.args.source.now c.pass_over.new.source c.pass_over.result
     (payload-passed c.args.number c.args.left c.args.source.now.bytes above other) c.pass_over.ensures

@@ -5,4 +5,6 @@ use Rattle.jpeg_segments.proofs.frame_header.frame_of.Goals as goal
 
 pub returns-clause-factors : goal.returns-clause-factors
 returns-clause-factors c =
-    rw c.in_ok-components_of.ensures (all-in-range c.args.head.size.width c.args.head.size.height c.greatest_factors-horizontal.result.0 c.greatest_factors-horizontal.result.1 (map factors_of c.args.components.now) c.requires.factors)
+    rw c.in_ok-components_of.ensures (all-in-range c.args.head.size.width c.args.head.size.height
+    c.greatest_factors-horizontal.result.0 c.greatest_factors-horizontal.result.1
+    (map factors_of c.args.components.now) c.requires.factors)

@@ -4,4 +4,5 @@ use Rattle.jpeg_segments.proofs.FrameLemmas.{list_any-map}
 use Rattle.jpeg_segments.proofs.frame_header.is_taken.Goals as goal
 
 pub returns : goal.returns
-returns c = c.has_identifier.ensures ∙ sym (list_any-map factors_of (λ x. eqb x.identifier c.args.identifier) c.args.front.now)
+returns c = c.has_identifier.ensures ∙ sym (list_any-map factors_of (λ x. eqb x.identifier c.args.identifier)
+    c.args.front.now)

@@ -19,12 +19,16 @@ loop-left-preserved g c =
     let front = all_of c.loop-left.components in
     let one = c.in_ok-factors.factors in
     let shown : c.deref.result.now ≡ c.loop-left.components.items = c.deref.ensures.value in
-    let e : all_of c.push.new.self ≡ front ++ factors_of one ∷ [] = ap (λ (v : List Read). map factors_of v) c.in_ok-push.ensures.items ∙ map-append factors_of c.loop-left.components.items (one ∷ []) in
+    let e : all_of c.push.new.self ≡ front ++ factors_of one ∷ [] =
+    ap (λ (v : List Read). map factors_of v) c.in_ok-push.ensures.items
+    ∙ map-append factors_of c.loop-left.components.items (one ∷ []) in
     record {
-      rest = rw e (Continues-ok factors_of (components_from lossless c.args.count []) (λ (bs : List ℕ). components_from lossless left front bs)
+      rest = rw e (Continues-ok factors_of (components_from lossless c.args.count []) (λ (bs : List ℕ). components_from
+          lossless left front bs)
           (λ (bs : List ℕ). components_from lossless (left - 1) (front ++ factors_of one ∷ []) bs)
           (factors_at lossless front) c.args.source.now c.loop-left.source c.read_factors.new.source one
-          (λ e. components_from-more lossless left front c.loop-left.source.bytes c.loop-left-test.true ∙ bind_at _ _ _ e)
+          (λ e. components_from-more lossless left front c.loop-left.source.bytes c.loop-left-test.true
+          ∙ bind_at _ _ _ e)
           c.loop-left.invariant.rest (rw shown at c.in_ok-factors.ensures.answers));
       factors = rw e (All-push IsInRange front (factors_of one) c.loop-left.invariant.factors (record {
         horizontal_some = c.in_ok-factors.ensures.horizontal.0;
@@ -41,7 +45,8 @@ returns-in_err-factors-clause-answers g c =
     let front = all_of c.loop-left.components in
     let shown : c.deref.result.now ≡ c.loop-left.components.items = c.deref.ensures.value in
     let p = err_from_is_err_and c.from_residual-in_err-factors.result c.from_residual-in_err-factors.ensures.1 in
-    rw (p.1, p.2) (Continues-err all_of factors_of (components_from lossless c.args.count []) (λ (bs : List ℕ). components_from lossless left front bs)
+    rw (p.1, p.2) (Continues-err all_of factors_of (components_from lossless c.args.count [])
+    (λ (bs : List ℕ). components_from lossless left front bs)
     (factors_at lossless front) c.args.source.now c.loop-left.source c.read_factors.new.source _
     (λ f e. components_from-more lossless left front c.loop-left.source.bytes c.loop-left-test.true ∙ bind_err _ _ _ e)
     c.loop-left.invariant.rest (rw shown at c.in_err-factors.ensures.answers))
@@ -49,5 +54,9 @@ returns-in_err-factors-clause-answers g c =
 pub returns-clause-answers : goal.returns-clause-answers
 returns-clause-answers g c =
     let z : c.loop-left.left ≡ 0 = omega (arith, c.loop-left-test.false) in
-    Continues-end all_of (components_from c.args.lossless c.args.count []) (λ (bs : List ℕ). components_from c.args.lossless c.loop-left.left (all_of c.loop-left.components) bs) c.args.source.now c.loop-left.source c.loop-left.components
-    (ap (λ n. components_from c.args.lossless n (all_of c.loop-left.components) c.loop-left.source.bytes) z ∙ components_from-none c.args.lossless (all_of c.loop-left.components) c.loop-left.source.bytes) c.loop-left.invariant.rest
+    Continues-end all_of (components_from c.args.lossless c.args.count []) (λ (bs : List ℕ). components_from
+    c.args.lossless c.loop-left.left (all_of c.loop-left.components) bs) c.args.source.now c.loop-left.source
+    c.loop-left.components
+    (ap (λ n. components_from c.args.lossless n (all_of c.loop-left.components) c.loop-left.source.bytes) z
+    ∙ components_from-none c.args.lossless (all_of c.loop-left.components) c.loop-left.source.bytes)
+    c.loop-left.invariant.rest

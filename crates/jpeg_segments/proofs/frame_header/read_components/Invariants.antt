@@ -6,7 +6,8 @@ use Rattle.jpeg_segments.proofs.frame_header.read_components.Given as goal
 
 abbrev pub invariant-loop-left : goal.invariant-loop-left
 invariant-loop-left g l = record {
-  rest : Continues (components_from l.lossless l.fn.count []) l.fn.source (λ (bs : List ℕ). components_from l.lossless l.left (map factors_of l.components.items) bs) l.source;
+  rest : Continues (components_from l.lossless l.fn.count []) l.fn.source (λ (bs : List ℕ). components_from l.lossless
+      l.left (map factors_of l.components.items) bs) l.source;
   factors : All IsInRange (map factors_of l.components.items);
 }
 

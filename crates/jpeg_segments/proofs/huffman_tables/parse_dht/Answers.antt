@@ -31,10 +31,13 @@ loop-left-preserved g c =
       rest = (
         i.0 - 1,
         omega arith,
-        rw (new, size) (Continues-ok placed_of (dht_at c.args.is_baseline) (λ (bs : List ℕ). tables_from i.0 greatest left tables bs)
+        rw (new, size) (Continues-ok placed_of (dht_at c.args.is_baseline) (λ (bs : List ℕ). tables_from i.0 greatest
+            left tables bs)
             (λ (bs : List ℕ). tables_from (i.0 - 1) greatest (left - size_of placed) (with_table tables placed) bs)
-            (placed_codes_at greatest left) c.args.reader.now c.loop-left.reader c.read_placed_table.new.source c.in_ok-placed.placed
-            (λ e. tables_from-more i.0 greatest left tables c.loop-left.reader.bytes c.loop-left-test.true i.1 ∙ bind_at _ _ _ e)
+            (placed_codes_at greatest left) c.args.reader.now c.loop-left.reader c.read_placed_table.new.source
+            c.in_ok-placed.placed
+            (λ e. tables_from-more i.0 greatest left tables c.loop-left.reader.bytes c.loop-left-test.true i.1
+            ∙ bind_at _ _ _ e)
             i.2 c.in_ok-placed.ensures.answers),
       );
     }
@@ -46,9 +49,11 @@ returns-in_err-placed-clause-tables g c =
     let left = c.loop-left.left in
     let greatest = c.greatest_place-greatest.result in
     let tables = view_of c.loop-left.tables in
-    rw (p.1, p.2) (Continues-err view_of placed_of (dht_at c.args.is_baseline) (λ (bs : List ℕ). tables_from i.0 greatest left tables bs)
+    rw (p.1, p.2) (Continues-err view_of placed_of (dht_at c.args.is_baseline) (λ (bs : List ℕ). tables_from i.0
+    greatest left tables bs)
     (placed_codes_at greatest left) c.args.reader.now c.loop-left.reader c.read_placed_table.new.source _
-    (λ f e. tables_from-more i.0 greatest left tables c.loop-left.reader.bytes c.loop-left-test.true i.1 ∙ bind_err _ _ _ e)
+    (λ f e. tables_from-more i.0 greatest left tables c.loop-left.reader.bytes c.loop-left-test.true i.1
+    ∙ bind_err _ _ _ e)
     i.2 c.in_err-placed.ensures.answers)
 
 pub returns-then-left-gt0-clause-tables : goal.returns-then-left-gt0-clause-tables
@@ -58,7 +63,8 @@ returns-then-left-gt0-clause-tables g c =
     let greatest = c.greatest_place-greatest.result in
     let tables = view_of c.loop-left.tables in
     let z : eqb left 0 ≡ false = grind (arith, nat_tests) in
-    Continues-refused view_of (dht_at c.args.is_baseline) (λ (bs : List ℕ). tables_from i.0 greatest left tables bs) c.args.reader.now c.loop-left.reader c.format_error.result c.format_error.ensures
+    Continues-refused view_of (dht_at c.args.is_baseline) (λ (bs : List ℕ). tables_from i.0 greatest left tables bs)
+    c.args.reader.now c.loop-left.reader c.format_error.result c.format_error.ensures
     (tables_from-rest i.0 greatest left tables c.loop-left.reader.bytes c.loop-left-test.false ∙ rw z refl) i.2
 
 pub returns-clause-tables : goal.returns-clause-tables
@@ -68,5 +74,6 @@ returns-clause-tables g c =
     let greatest = c.greatest_place-greatest.result in
     let tables = view_of c.loop-left.tables in
     let z : eqb left 0 ≡ true = grind (arith, nat_tests) in
-    Continues-end view_of (dht_at c.args.is_baseline) (λ (bs : List ℕ). tables_from i.0 greatest left tables bs) c.args.reader.now c.loop-left.reader c.loop-left.tables
+    Continues-end view_of (dht_at c.args.is_baseline) (λ (bs : List ℕ). tables_from i.0 greatest left tables bs)
+    c.args.reader.now c.loop-left.reader c.loop-left.tables
     (tables_from-rest i.0 greatest left tables c.loop-left.reader.bytes c.loop-left-test.false ∙ rw z refl) i.2

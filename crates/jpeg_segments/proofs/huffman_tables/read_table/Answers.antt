@@ -6,4 +6,5 @@ pub returns-clause-answers : goal.returns-clause-answers
 returns-clause-answers g c =
     let e = c.requires.count in
     let d : c.deref.result.now ≡ c.in_ok-symbols.symbols.items = c.deref.ensures.value in
-    table-found c.args.class c.args.counts.now c.args.source.now c.read_bytes.new.source _ c.new.result (rw (e, d) c.in_ok-symbols.ensures.answers) c.new.ensures.table c.new.ensures.codes c.new.ensures.refused
+    table-found c.args.class c.args.counts.now c.args.source.now c.read_bytes.new.source _ c.new.result
+    (rw (e, d) c.in_ok-symbols.ensures.answers) c.new.ensures.table c.new.ensures.codes c.new.ensures.refused

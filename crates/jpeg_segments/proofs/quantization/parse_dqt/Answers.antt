@@ -20,8 +20,10 @@ loop-left-preserved g c =
         i.0 - 1,
         omega arith,
         Continues-ok (λ (t : ℕ × ℕ × List ℕ). t) dqt_at (λ (bs : List ℕ). tables_from i.0 left tables bs)
-            (λ (bs : List ℕ). tables_from (i.0 - 1) (left - c.in_ok-size.size) (set tables c.in_ok-size.index (Some c.in_ok-size.table)) bs)
-            (placed_table_at left) c.args.reader.now c.loop-left.reader c.read_placed_table.new.source (c.in_ok-size.size, c.in_ok-size.index, c.in_ok-size.table)
+            (λ (bs : List ℕ). tables_from (i.0 - 1) (left - c.in_ok-size.size) (set tables c.in_ok-size.index
+            (Some c.in_ok-size.table)) bs)
+            (placed_table_at left) c.args.reader.now c.loop-left.reader c.read_placed_table.new.source
+            (c.in_ok-size.size, c.in_ok-size.index, c.in_ok-size.table)
             (λ e. tables_from-more i.0 left tables c.loop-left.reader.bytes c.loop-left-test.true i.1 ∙ bind_at _ _ _ e)
             i.2 c.in_ok-size.ensures.answers,
       );
@@ -34,12 +36,15 @@ returns-in_err-size g c =
     let left = c.loop-left.left in
     let tables = c.loop-left.tables in
     let rest : List ℕ → Outcome Tables = λ (bs : List ℕ). tables_from i.0 left tables bs in
-    let through : (f : Fault) → placed_table_at left c.loop-left.reader.bytes ≡ Err f → rest c.loop-left.reader.bytes ≡ Err f = λ f e. tables_from-more i.0 left tables c.loop-left.reader.bytes c.loop-left-test.true i.1 ∙ bind_err _ _ f e in
+    let through : (f : Fault) → placed_table_at left c.loop-left.reader.bytes ≡ Err f
+    → rest c.loop-left.reader.bytes ≡ Err f =
+    λ f e. tables_from-more i.0 left tables c.loop-left.reader.bytes c.loop-left-test.true i.1 ∙ bind_err _ _ f e in
     let part = c.in_err-size.ensures in
     rw (p.1, p.2) record {
       answers = Continues-err (λ (v : Tables). v) (λ (t : ℕ × ℕ × List ℕ). t) dqt_at rest (placed_table_at left)
           c.args.reader.now c.loop-left.reader c.read_placed_table.new.source _ through i.2 part.answers;
-      room = λ k e. Continues-room dqt_at rest (placed_table_at left) c.args.reader.now c.loop-left.reader through i.2 (λ known. part.room known (let same : c.in_err-size.field-0.0 ≡ OutOfMemory = cc in ap Err same)) k;
+      room = λ k e. Continues-room dqt_at rest (placed_table_at left) c.args.reader.now c.loop-left.reader through i.2
+          (λ known. part.room known (let same : c.in_err-size.field-0.0 ≡ OutOfMemory = cc in ap Err same)) k;
     }
 
 pub returns : goal.returns
@@ -47,7 +52,9 @@ returns g c =
     let i = c.loop-left.invariant.rest in
     let z : c.loop-left.left ≡ 0 = omega arith in
     record {
-      answers = Continues-end (λ (v : Tables). v) dqt_at (λ (bs : List ℕ). tables_from i.0 c.loop-left.left c.loop-left.tables bs) c.args.reader.now c.loop-left.reader c.loop-left.tables
-          (ap (λ n. tables_from i.0 n c.loop-left.tables c.loop-left.reader.bytes) z ∙ tables_from-none i.0 c.loop-left.tables c.loop-left.reader.bytes) i.2;
+      answers = Continues-end (λ (v : Tables). v) dqt_at (λ (bs : List ℕ). tables_from i.0 c.loop-left.left
+          c.loop-left.tables bs) c.args.reader.now c.loop-left.reader c.loop-left.tables
+          (ap (λ n. tables_from i.0 n c.loop-left.tables c.loop-left.reader.bytes) z
+          ∙ tables_from-none i.0 c.loop-left.tables c.loop-left.reader.bytes) i.2;
       room = λ k e. absurd (let n : ⊥ = cc in n);
     }

@@ -6,7 +6,8 @@ use Rattle.jpeg_segments.proofs.quantization.parse_dqt.Given as goal
 abbrev pub invariant-loop-left : goal.invariant-loop-left
 invariant-loop-left g l = record {
   len : length l.tables ≡ 4;
-  rest : (turns : ℕ) × (l.left ≤ turns) × Continues dqt_at l.fn.reader (λ (bs : List ℕ). tables_from turns l.left l.tables bs) l.reader;
+  rest : (turns : ℕ) × (l.left ≤ turns)
+      × Continues dqt_at l.fn.reader (λ (bs : List ℕ). tables_from turns l.left l.tables bs) l.reader;
 }
 
 abbrev pub decreases-loop-left : goal.decreases-loop-left

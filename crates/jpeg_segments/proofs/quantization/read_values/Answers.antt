@@ -15,7 +15,8 @@ loop-i-preserved g c =
     let lt : c.loop-i.i < length c.loop-i.values = omega (arith, c.loop-i.invariant.len) in
     record {
       len = length-set _ _ _ ∙ c.loop-i.invariant.len;
-      read = rw take_more_set (HasRead-more (λ (v : ℕ). v) 64 _ (value_at c.args.is_wide) _ _ _ _ _ c.loop-i-test.true c.loop-i.invariant.read c.in_ok-values.ensures.answers);
+      read = rw take_more_set (HasRead-more (λ (v : ℕ). v) 64 _ (value_at c.args.is_wide) _ _ _ _ _ c.loop-i-test.true
+          c.loop-i.invariant.read c.in_ok-values.ensures.answers);
     }
 
 pub returns-in_err-values : goal.returns-in_err-values
@@ -26,11 +27,17 @@ returns-in_err-values g c =
     let front = take c.loop-i.i c.loop-i.values in
     let part = c.in_err-values.ensures in
     rw (p.1, p.2) record {
-      answers = HasRead-err (λ (v : List ℕ). v) (λ (v : ℕ). v) 64 _ (value_at c.args.is_wide) c.args.source.now c.loop-i.source c.read_value.new.source front _ lt read part.answers;
-      room = λ k e. HasRead-room 64 _ (value_at c.args.is_wide) c.args.source.now c.loop-i.source front lt read (λ known. part.room known (let same : c.in_err-values.field-0.0 ≡ OutOfMemory = cc in ap Err same)) k;
+      answers = HasRead-err (λ (v : List ℕ). v) (λ (v : ℕ). v) 64 _ (value_at c.args.is_wide) c.args.source.now
+          c.loop-i.source c.read_value.new.source front _ lt read part.answers;
+      room = λ k e. HasRead-room 64 _ (value_at c.args.is_wide) c.args.source.now c.loop-i.source front lt read
+          (λ known. part.room known (let same : c.in_err-values.field-0.0 ≡ OutOfMemory = cc in ap Err same)) k;
     }
 
 pub returns : goal.returns
 returns g c =
     let e : take c.loop-i.i c.loop-i.values ≡ c.loop-i.values = take_all _ _ (omega (arith, c.loop-i.invariant.len)) in
-    record { answers = HasRead-all (λ (v : List ℕ). v) 64 c.loop-i.i (value_at c.args.is_wide) _ _ c.loop-i.values c.loop-i-test.false (rw e at c.loop-i.invariant.read); room = λ k e. absurd (let n : ⊥ = cc in n) }
+    record {
+      answers = HasRead-all (λ (v : List ℕ). v) 64 c.loop-i.i (value_at c.args.is_wide) _ _ c.loop-i.values
+          c.loop-i-test.false (rw e at c.loop-i.invariant.read);
+      room = λ k e. absurd (let n : ⊥ = cc in n);
+    }

@@ -4,4 +4,5 @@ use Rattle.jpeg_segments.proofs.ScanLemmas.{position-map}
 use Rattle.jpeg_segments.proofs.scan_header.place_of.Goals as goal
 
 pub returns-clause-place : goal.returns-clause-place
-returns-clause-place c = c.position_of.ensures ∙ sym (position-map component_in (λ x. eqb x.factors.identifier c.args.identifier) c.args.components.now)
+returns-clause-place c = c.position_of.ensures
+    ∙ sym (position-map component_in (λ x. eqb x.factors.identifier c.args.identifier) c.args.components.now)

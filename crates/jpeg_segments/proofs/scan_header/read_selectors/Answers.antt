@@ -21,18 +21,24 @@ loop-left-preserved g c =
     let front = all_of c.loop-left.selectors in
     let one = c.in_ok-selector.selector in
     let pushed : c.push.new.self.items ≡ c.loop-left.selectors.items ++ one ∷ [] = c.in_ok-push.ensures.items in
-    let e : all_of c.push.new.self ≡ front ++ selector_of one ∷ [] = ap (λ (v : List Read). map selector_of v) pushed ∙ map-append selector_of c.loop-left.selectors.items (one ∷ []) in
-    let longer : length c.push.new.self.items ≡ length c.loop-left.selectors.items + 1 = ap length pushed ∙ length-append c.loop-left.selectors.items (one ∷ []) in
+    let e : all_of c.push.new.self ≡ front ++ selector_of one ∷ [] = ap (λ (v : List Read). map selector_of v) pushed
+    ∙ map-append selector_of c.loop-left.selectors.items (one ∷ []) in
+    let longer : length c.push.new.self.items ≡ length c.loop-left.selectors.items + 1 = ap length pushed
+    ∙ length-append c.loop-left.selectors.items (one ∷ []) in
     record {
-      rest = rw e (Continues-ok selector_of (selectors_from frame c.args.count [] 0) (λ (bs : List ℕ). selectors_from frame left front least bs)
+      rest = rw e (Continues-ok selector_of (selectors_from frame c.args.count [] 0) (λ (bs : List ℕ). selectors_from
+          frame left front least bs)
           (λ (bs : List ℕ). selectors_from frame (left - 1) (front ++ selector_of one ∷ []) (one.component + 1) bs)
           (selector_at frame least) c.args.source.now c.loop-left.source c.read_selector.new.source one
-          (λ e. selectors_from-more frame left front least c.loop-left.source.bytes c.loop-left-test.true ∙ bind_at _ _ _ e)
+          (λ e. selectors_from-more frame left front least c.loop-left.source.bytes c.loop-left-test.true
+          ∙ bind_at _ _ _ e)
           c.loop-left.invariant.rest c.in_ok-selector.ensures.answers);
       length = omega (arith, longer, c.loop-left.invariant.length, c.loop-left-test.true);
       rising = rw (e, map-append (λ (s : Selector). s.component) front (selector_of one ∷ []))
-          (rises-more (map (λ (s : Selector). s.component) front) least one.component c.loop-left.invariant.rising c.in_ok-selector.ensures.least);
-      places = rw e (All-push (IsSelectorOf frame) front (selector_of one) c.loop-left.invariant.places c.in_ok-selector.ensures.place);
+          (rises-more (map (λ (s : Selector). s.component) front) least one.component c.loop-left.invariant.rising
+          c.in_ok-selector.ensures.least);
+      places = rw e (All-push (IsSelectorOf frame) front (selector_of one) c.loop-left.invariant.places
+          c.in_ok-selector.ensures.place);
     }
 
 pub returns-in_err-selector-clause-answers : goal.returns-in_err-selector-clause-answers
@@ -42,17 +48,24 @@ returns-in_err-selector-clause-answers g c =
     let least = c.loop-left.least in
     let front = all_of c.loop-left.selectors in
     let p = err_from_is_err_and c.from_residual-in_err-selector.result c.from_residual-in_err-selector.ensures.1 in
-    rw (p.1, p.2) (Continues-err all_of selector_of (selectors_from frame c.args.count [] 0) (λ (bs : List ℕ). selectors_from frame left front least bs)
+    rw (p.1, p.2) (Continues-err all_of selector_of (selectors_from frame c.args.count [] 0)
+    (λ (bs : List ℕ). selectors_from frame left front least bs)
     (selector_at frame least) c.args.source.now c.loop-left.source c.read_selector.new.source _
-    (λ f e. selectors_from-more frame left front least c.loop-left.source.bytes c.loop-left-test.true ∙ bind_err _ _ _ e)
+    (λ f e. selectors_from-more frame left front least c.loop-left.source.bytes c.loop-left-test.true
+    ∙ bind_err _ _ _ e)
     c.loop-left.invariant.rest c.in_err-selector.ensures.answers)
 
 pub returns-clause-answers : goal.returns-clause-answers
 returns-clause-answers g c =
     let frame = frame_in c.args.frame.now in
     let z : c.loop-left.left ≡ 0 = omega (arith, c.loop-left-test.false) in
-    Continues-end all_of (selectors_from frame c.args.count [] 0) (λ (bs : List ℕ). selectors_from frame c.loop-left.left (all_of c.loop-left.selectors) c.loop-left.least bs) c.args.source.now c.loop-left.source c.loop-left.selectors
-    (ap (λ n. selectors_from frame n (all_of c.loop-left.selectors) c.loop-left.least c.loop-left.source.bytes) z ∙ selectors_from-none frame (all_of c.loop-left.selectors) c.loop-left.least c.loop-left.source.bytes) c.loop-left.invariant.rest
+    Continues-end all_of (selectors_from frame c.args.count [] 0) (λ (bs : List ℕ). selectors_from frame
+    c.loop-left.left (all_of c.loop-left.selectors) c.loop-left.least bs) c.args.source.now c.loop-left.source
+    c.loop-left.selectors
+    (ap (λ n. selectors_from frame n (all_of c.loop-left.selectors) c.loop-left.least c.loop-left.source.bytes) z
+    ∙ selectors_from-none frame (all_of c.loop-left.selectors) c.loop-left.least c.loop-left.source.bytes)
+    c.loop-left.invariant.rest
 
 pub returns-clause-rising : goal.returns-clause-rising
-returns-clause-rising g c = rises-all (map (λ (s : Selector). s.component) (all_of c.loop-left.selectors)) c.loop-left.least c.loop-left.invariant.rising
+returns-clause-rising g c = rises-all (map (λ (s : Selector). s.component) (all_of c.loop-left.selectors))
+    c.loop-left.least c.loop-left.invariant.rising

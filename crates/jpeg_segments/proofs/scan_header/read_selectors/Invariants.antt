@@ -7,7 +7,8 @@ use Rattle.jpeg_segments.proofs.scan_header.read_selectors.Given as goal
 
 abbrev pub invariant-loop-left : goal.invariant-loop-left
 invariant-loop-left g l = record {
-  rest : Continues (selectors_from (frame_in l.frame) l.fn.count [] 0) l.fn.source (λ (bs : List ℕ). selectors_from (frame_in l.frame) l.left (map selector_of l.selectors.items) l.least bs) l.source;
+  rest : Continues (selectors_from (frame_in l.frame) l.fn.count [] 0) l.fn.source (λ (bs : List ℕ). selectors_from
+      (frame_in l.frame) l.left (map selector_of l.selectors.items) l.least bs) l.source;
   length : length l.selectors.items + l.left ≡ l.fn.count;
   rising : RisesTo (map (λ s. s.component) (map selector_of l.selectors.items)) l.least;
   places : All (IsSelectorOf (frame_in l.frame)) (map selector_of l.selectors.items);

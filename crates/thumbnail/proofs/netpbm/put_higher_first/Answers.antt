@@ -9,5 +9,7 @@ loop-place-init c = (refl, refl)
 
 pub loop-place-preserved : goal.loop-place-preserved
 loop-place-preserved c =
-    let room : 2 * c.loop-place.place + 1 < length c.args.samples.now = search rules in
-    (rw (c.swap.ensures.after, c.loop-place.invariant.0) (one-more c.loop-place.place c.args.samples.now room), c.swap.ensures.len ∙ c.loop-place.invariant.1)
+    let room : 2 * c.loop-place.place + 1 < length c.args.samples.now = search rules in (
+      rw (c.swap.ensures.after, c.loop-place.invariant.0) (one-more c.loop-place.place c.args.samples.now room),
+      c.swap.ensures.len ∙ c.loop-place.invariant.1,
+    )

@@ -3,4 +3,5 @@ use Rattle.thumbnail.specs.Netpbm.{first_turned}
 use Rattle.thumbnail.proofs.netpbm.put_higher_first.Given as goal
 
 abbrev pub invariant-loop-place : goal.invariant-loop-place
-invariant-loop-place l = (l.samples ≡ first_turned l.place l.initial.samples) × (length l.samples ≡ length l.initial.samples)
+invariant-loop-place l = (l.samples ≡ first_turned l.place l.initial.samples)
+    × (length l.samples ≡ length l.initial.samples)

@@ -11,7 +11,8 @@ loop-self-preserved-in-Some-Byte g c =
     let few : length s.bits ≤ 56 = omega arith in
     record {
       within = within_byte s.bits c.push.new.self s.end c.in-Some-Byte.byte none few c.push.ensures;
-      text = Holds-byte c.args.self.now c.args.source.now c.loop-self.source c.next_piece.new.source s.bits c.push.new.self s.end c.in-Some-Byte.byte none few
+      text = Holds-byte c.args.self.now c.args.source.now c.loop-self.source c.next_piece.new.source s.bits
+          c.push.new.self s.end c.in-Some-Byte.byte none few
           c.push.ensures c.loop-self.invariant.text (rw c.in-Some-Byte.field-0-is at c.in-Some-Byte.ensures.answers);
     }
 
@@ -22,7 +23,8 @@ loop-self-preserved g c =
     let few : length s.bits ≤ 56 = omega arith in
     record {
       within = few;
-      text = Holds-end c.args.self.now c.args.source.now c.loop-self.source c.next_piece.new.source s.bits s.end c.in-Some-Data.end none few
+      text = Holds-end c.args.self.now c.args.source.now c.loop-self.source c.next_piece.new.source s.bits s.end
+          c.in-Some-Data.end none few
           c.loop-self.invariant.text (rw c.in-Some-Data.field-0-is at c.in-Some-Data.ensures.answers);
     }
 
@@ -30,5 +32,6 @@ pub returns-in-None-clause-fills : goal.returns-in-None-clause-fills
 returns-in-None-clause-fills g c =
     let s = c.loop-self.self-inside in
     let b : Ahead = record { bits = s.bits; met = s.end } in
-    Holds-refused (Unit {0}) c.args.self.now b c.args.source.now c.loop-self.source c.next_piece.new.source s.bits s.end (held_refusal c.next_piece.new.refusal)
+    Holds-refused (Unit {0}) c.args.self.now b c.args.source.now c.loop-self.source c.next_piece.new.source s.bits s.end
+    (held_refusal c.next_piece.new.refusal)
     c.loop-self.invariant.text c.in-None.ensures.answers

@@ -7,11 +7,18 @@ use Rattle.jpeg_bits.proofs.ahead.Held.take_number.Goals as goal
 pub returns-clause-bits : goal.returns-clause-bits
 returns-clause-bits g c =
     let p = c.if-not-hold.ensures.holds in
-    rw c.from-count.ensures at (Takes-held c.from-count.result tt c.args.self.now c.hold.new.self c.take.new.self c.args.source.now c.hold.new.source c.take.result
-    (c.if-not-hold.ensures.full refl) (sym c.if-not-has.ensures) c.take.ensures.value c.take.ensures.bits c.take.ensures.met p)
+    rw c.from-count.ensures at (Takes-held c.from-count.result tt c.args.self.now c.hold.new.self c.take.new.self
+    c.args.source.now c.hold.new.source c.take.result
+    (c.if-not-hold.ensures.full refl) (sym c.if-not-has.ensures) c.take.ensures.value c.take.ensures.bits
+    c.take.ensures.met p)
 
 pub returns-then-not-has-clause-bits : goal.returns-then-not-has-clause-bits
 returns-then-not-has-clause-bits g c =
     let p = c.if-not-hold.ensures.holds in
-    rw c.from-count.ensures at (Takes-refused c.from-count.result tt c.args.self.now c.hold.new.self c.hold.new.self c.args.source.now c.hold.new.source (held_refusal c.hold_fault.new.refusal)
-    (c.if-not-hold.ensures.full refl) (rw (ap (λ (a : Ahead). a.met) c.self.view_is) at (c.hold_fault.ensures.names c.from-count.result c.hold.new.self.bits) (sym c.has.ensures ∙ c.if-not-has.true)) (MayFail-same _ (has_held c.from-count.result c.hold.new.self.bits c.hold.new.self.met) _ (rw (ap (λ (a : Ahead). a.met) c.self.view_is) at (c.hold_fault.ensures.names c.from-count.result c.hold.new.self.bits) (sym c.has.ensures ∙ c.if-not-has.true))) p)
+    rw c.from-count.ensures at (Takes-refused c.from-count.result tt c.args.self.now c.hold.new.self c.hold.new.self
+    c.args.source.now c.hold.new.source (held_refusal c.hold_fault.new.refusal)
+    (c.if-not-hold.ensures.full refl) (rw (ap (λ (a : Ahead). a.met) c.self.view_is) at
+    (c.hold_fault.ensures.names c.from-count.result c.hold.new.self.bits) (sym c.has.ensures ∙ c.if-not-has.true))
+    (MayFail-same _ (has_held c.from-count.result c.hold.new.self.bits c.hold.new.self.met) _
+    (rw (ap (λ (a : Ahead). a.met) c.self.view_is) at (c.hold_fault.ensures.names c.from-count.result
+    c.hold.new.self.bits) (sym c.has.ensures ∙ c.if-not-has.true))) p)

@@ -16,7 +16,8 @@ pub returns-clause-value : goal.returns-clause-value
 returns-clause-value c =
     let s = c.self.inside in
     let n = c.args.count in
-    front_number s.word s.count n c.self.invariant.1 c.self.invariant.0 (omega (arith, c.requires.most)) c.self.invariant.2
+    front_number s.word s.count n c.self.invariant.1 c.self.invariant.0 (omega (arith, c.requires.most))
+    c.self.invariant.2
     ∙ ap (λ (bs : List Bool). number_of (take n (bs ++ replicate n false))) c.self.view_is
 
 pub returns-clause-small : goal.returns-clause-small

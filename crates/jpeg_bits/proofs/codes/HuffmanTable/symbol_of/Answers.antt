@@ -10,5 +10,6 @@ returns-in-Some-clause-symbol c =
     let s = c.self.inside in
     let i = c.self.invariant in
     let table : Table = record { class = s.class; counts = s.counts; symbols = s.values.items } in
-    sym (symbol_found table c.args.bits c.in-Some.code i.0 (sym (i.3 (c.args.bits / 256) (omega (arith, c.ranges.bits.fits))) ∙ c.in-Some.is))
+    sym (symbol_found table c.args.bits c.in-Some.code i.0
+    (sym (i.3 (c.args.bits / 256) (omega (arith, c.ranges.bits.fits))) ∙ c.in-Some.is))
     ∙ ap (λ (t : Table). symbol_in t (low_bits 16 c.args.bits)) c.self.view_is

@@ -15,7 +15,8 @@ pub invariant_of-result : goal.invariant_of-result
 invariant_of-result c =
     let counts = replicate 16 0 in
     let same = sym c.new.ensures.items in
-    let codes = λ (b : ℕ) (lt : b < 256). c.short_codes-codes.ensures b lt ∙ ap (λ (xs : List ℕ). short_code counts xs (low_bits 8 b)) same in (
+    let codes = λ (b : ℕ) (lt : b < 256). c.short_codes-codes.ensures b lt
+    ∙ ap (λ (xs : List ℕ). short_code counts xs (low_bits 8 b)) same in (
       refl,
       no-lengths ∙ ap length same,
       c.rows_of.ensures,

@@ -24,7 +24,9 @@ add_blocks-requires-clause-blocks c =
     let r = sized-at cs vs slot coded c.index.result.now c.requires.blocks h in
     let at : c.index.result.now ≡ get_or vs slot c.index.result.now = search rules in
     let is : coded ≡ get_or cs slot coded = search rules in
-    ap length c.deref.ensures.value ∙ (ap (λ (v : Held). length v.items) at ∙ (r.1 ∙ sym (ap (λ (x : Coded). (coding_in x).component.blocks_high * (coding_in x).component.blocks_wide) is)))
+    ap length c.deref.ensures.value ∙ (ap (λ (v : Held). length v.items) at
+    ∙ (r.1 ∙ sym (ap (λ (x : Coded). (coding_in x).component.blocks_high * (coding_in x).component.blocks_wide)
+    is)))
 
 pub loop-slot-preserved : goal.loop-slot-preserved
 loop-slot-preserved c =
@@ -39,11 +41,14 @@ loop-slot-preserved c =
       held = search rules;
       samples = search rules;
       added = λ base.
-          arrays-step p cs l.slot coded c.args.arrays.now.items c.index.result.now (with_decoded base l.self) (with_decoded base c.add_blocks.new.self) h
+          arrays-step p cs l.slot coded c.args.arrays.now.items c.index.result.now (with_decoded base l.self)
+          (with_decoded base c.add_blocks.new.self) h
           (long-at cs c.args.arrays.now.items l.slot c.requires.blocks h) (search rules)
           (c.in_ok-add_blocks.ensures.plane base
-          ∙ (ap (λ bs. with_its_plane p coded.place (plane_by (coding_in coded).component (coding_in coded).quantization (map to_block bs)) (with_decoded base l.self)) c.deref.ensures.value
-          ∙ ap (λ (x : Coded). with_its_plane p x.place (plane_by (coding_in x).component (coding_in x).quantization (blocks_in c.index.result.now)) (with_decoded base l.self)) is))
+          ∙ (ap (λ bs. with_its_plane p coded.place (plane_by (coding_in coded).component (coding_in coded).quantization
+          (map to_block bs)) (with_decoded base l.self)) c.deref.ensures.value
+          ∙ ap (λ (x : Coded). with_its_plane p x.place (plane_by (coding_in x).component (coding_in x).quantization
+          (blocks_in c.index.result.now)) (with_decoded base l.self)) is))
           ∙ l.invariant.added base;
     }
 

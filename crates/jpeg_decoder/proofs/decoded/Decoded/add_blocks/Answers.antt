@@ -9,5 +9,6 @@ returns-in_ok-plane-clause-plane c =
     let q = c.if-is_wanted.ensures in
     let p = pass_in c.args.pass in
     let place = c.args.coded.now.place in
-    λ base. decided-as p place c.in_ok-plane.plane base c.args.self.now c.is_wanted.new.self q.held q.samples q.planes q.finished q.wanted
+    λ base. decided-as p place c.in_ok-plane.plane base c.args.self.now c.is_wanted.new.self q.held q.samples q.planes
+    q.finished q.wanted
     ∙ ap (λ plane. with_its_plane p place plane (with_decoded base c.args.self.now)) c.in_ok-plane.ensures

@@ -16,9 +16,12 @@ loop-slot-preserved c =
       held = search rules;
       samples = search rules;
       added = λ base.
-          planes-step (pass_in c.args.scan.now.pass) c.args.scan.now.components.items l.slot c.index.result.now l.planes.items c.replace-plane.new.dest c.replace-plane.result
-          (with_decoded base l.self) (with_decoded base c.add_plane.new.self) (search rules) l.invariant.planes (search rules)
-          (c.add_plane.ensures.plane base ∙ ap (λ (x : Coded). with_its_plane (pass_in c.args.scan.now.pass) x.place c.replace-plane.result.items (with_decoded base l.self)) is)
+          planes-step (pass_in c.args.scan.now.pass) c.args.scan.now.components.items l.slot c.index.result.now
+          l.planes.items c.replace-plane.new.dest c.replace-plane.result
+          (with_decoded base l.self) (with_decoded base c.add_plane.new.self) (search rules) l.invariant.planes
+          (search rules)
+          (c.add_plane.ensures.plane base ∙ ap (λ (x : Coded). with_its_plane (pass_in c.args.scan.now.pass) x.place
+          c.replace-plane.result.items (with_decoded base l.self)) is)
           ∙ l.invariant.added base;
     }
 
@@ -29,7 +32,9 @@ returns-clause-planes c =
     let p = pass_in c.args.scan.now.pass in
     let end : l.slot ≡ length cs = search rules in
     λ base.
-    sym (ap (λ k. with_planes p (drop k (map coding_in cs)) (drop l.slot (map (λ v. v.items) l.planes.items)) (with_decoded base l.self)) end
-    ∙ ap (λ xs. with_planes p xs (drop l.slot (map (λ v. v.items) l.planes.items)) (with_decoded base l.self)) (none-left coding_in cs)
+    sym (ap (λ k. with_planes p (drop k (map coding_in cs)) (drop l.slot (map (λ v. v.items) l.planes.items))
+    (with_decoded base l.self)) end
+    ∙ ap (λ xs. with_planes p xs (drop l.slot (map (λ v. v.items) l.planes.items)) (with_decoded base l.self))
+    (none-left coding_in cs)
     ∙ planes-none p (drop l.slot (map (λ v. v.items) l.planes.items)) (with_decoded base l.self))
     ∙ l.invariant.added base

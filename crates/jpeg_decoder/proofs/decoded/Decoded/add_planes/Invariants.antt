@@ -11,8 +11,10 @@ invariant-loop-slot l = record {
   held : l.self.held ≡ l.fn.self.held;
   samples : l.self.samples ≡ l.fn.self.samples;
   added : (base : Found) →
-      with_planes (pass_in l.scan.pass) (drop l.slot (map coding_in l.scan.components.items)) (drop l.slot (map (λ v. v.items) l.planes.items)) (with_decoded base l.self)
-      ≡ with_planes (pass_in l.scan.pass) (map coding_in l.scan.components.items) (map (λ v. v.items) l.fn.planes.items) (with_decoded base l.fn.self);
+      with_planes (pass_in l.scan.pass) (drop l.slot (map coding_in l.scan.components.items))
+      (drop l.slot (map (λ v. v.items) l.planes.items)) (with_decoded base l.self)
+      ≡ with_planes (pass_in l.scan.pass) (map coding_in l.scan.components.items) (map (λ v. v.items) l.fn.planes.items)
+      (with_decoded base l.fn.self);
 }
 
 abbrev pub decreases-loop-slot : goal.decreases-loop-slot

@@ -12,7 +12,8 @@ loop-slot-preserved c =
       finished = search rules;
       planes = search rules;
       samples =
-          put-step c.args.places.now l.slot l.planes.items c.replace-plane.new.dest c.replace-plane.result l.self.samples
+          put-step c.args.places.now l.slot l.planes.items c.replace-plane.new.dest c.replace-plane.result
+          l.self.samples
           (search rules) l.invariant.count (search rules) ∙ l.invariant.samples;
     }
 

@@ -10,7 +10,8 @@ invariant-loop-slot l = record {
   held : l.self.held ≡ l.fn.self.held;
   finished : l.self.finished ≡ l.fn.self.finished;
   planes : l.self.planes ≡ l.fn.self.planes;
-  samples : with_samples (drop l.slot l.places) (drop l.slot (map (λ v. v.items) l.planes.items)) (planes_in l.self.samples)
+  samples : with_samples (drop l.slot l.places) (drop l.slot (map (λ v. v.items) l.planes.items))
+      (planes_in l.self.samples)
       ≡ with_samples l.places (map (λ v. v.items) l.fn.planes.items) (planes_in l.fn.self.samples);
 }
 

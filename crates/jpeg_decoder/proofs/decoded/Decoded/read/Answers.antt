@@ -7,10 +7,12 @@ use Rattle.jpeg_decoder.proofs.decoded.Decoded.read.Goals as goal
 
 pub returns-then-is_progressive-clause-held : goal.returns-then-is_progressive-clause-held
 returns-then-is_progressive-clause-held g c =
-    held-afterwards c.read_held.result (record (with_decoded (found_in c.args.state.now) c.read_held.new.self) { scanned = true }) (frame_in c.args.frame.now)
+    held-afterwards c.read_held.result (record (with_decoded (found_in c.args.state.now) c.read_held.new.self)
+    { scanned = true }) (frame_in c.args.frame.now)
     (sym c.if-is_progressive.ensures) refl c.read_held.ensures.held
 
 pub returns-else-is_progressive-clause-held : goal.returns-else-is_progressive-clause-held
 returns-else-is_progressive-clause-held g c =
-    none-held c.read_sequential.result (record (with_decoded (found_in c.args.state.now) c.read_sequential.new.self) { scanned = true }) (frame_in c.args.frame.now)
+    none-held c.read_sequential.result (record (with_decoded (found_in c.args.state.now) c.read_sequential.new.self)
+    { scanned = true }) (frame_in c.args.frame.now)
     (sym c.if-is_progressive.ensures)

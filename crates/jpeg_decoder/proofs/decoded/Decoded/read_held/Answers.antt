@@ -35,15 +35,19 @@ take_blocks-requires-clause-within g c =
     let cs = c.args.scan.now.components.items in
     let held = c.hold.new.self.held.items in
     subst (λ (xs : List Coded). All (λ x. x.place < length held) xs) (sym c.deref.ensures.value)
-    (coded-within-held frame cs held c.requires.ready.of_frame (subst (AreArrays frame.components) (sym c.in_ok-hold.ensures.held) c.requires.held))
+    (coded-within-held frame cs held c.requires.ready.of_frame (subst (AreArrays frame.components)
+    (sym c.in_ok-hold.ensures.held) c.requires.held))
 
 pub take_blocks-requires-clause-apart : goal.take_blocks-requires-clause-apart
 take_blocks-requires-clause-apart g c =
-    subst (λ (xs : List Coded). AreApart (map (λ (x : Coded). x.place) xs)) (sym c.deref.ensures.value) (rising-codings c.args.scan.now.components.items c.requires.ready.rising)
+    subst (λ (xs : List Coded). AreApart (map (λ (x : Coded). x.place) xs)) (sym c.deref.ensures.value)
+    (rising-codings c.args.scan.now.components.items c.requires.ready.rising)
 
 -- the blocks that are taken are those of the components
-taken-sized : (frame : Frame) (cs seen : List Coded) (held taken : List Held) (before : Arrays) → seen ≡ cs → arrays_in held ≡ before
-    → arrays_in taken ≡ blocks_at (map coding_in seen) (arrays_in held) → AllByRecursion (IsCodingOf frame) (map coding_in cs) → AreArrays frame.components before
+taken-sized : (frame : Frame) (cs seen : List Coded) (held taken : List Held) (before : Arrays) → seen ≡ cs
+    → arrays_in held ≡ before
+    → arrays_in taken ≡ blocks_at (map coding_in seen) (arrays_in held)
+    → AllByRecursion (IsCodingOf frame) (map coding_in cs) → AreArrays frame.components before
     → (arrays_in taken ≡ blocks_at (map coding_in cs) before) × AreArrays (components_in cs) (arrays_in taken)
 taken-sized frame cs seen held taken before d e t of h =
     let is : arrays_in taken ≡ blocks_at (map coding_in cs) before
@@ -56,8 +60,10 @@ taken-sized frame cs seen held taken before d e t of h =
 
 pub read_blocks-requires-clause-arrays : goal.read_blocks-requires-clause-arrays
 read_blocks-requires-clause-arrays g c =
-    (taken-sized (frame_in c.args.frame.now) c.args.scan.now.components.items c.deref.result.now c.hold.new.self.held.items c.in_ok-arrays.arrays.items _
-    c.deref.ensures.value c.in_ok-hold.ensures.held c.in_ok-arrays.ensures.taken c.requires.ready.of_frame c.requires.held).1
+    (taken-sized (frame_in c.args.frame.now) c.args.scan.now.components.items c.deref.result.now
+    c.hold.new.self.held.items c.in_ok-arrays.arrays.items _
+    c.deref.ensures.value c.in_ok-hold.ensures.held c.in_ok-arrays.ensures.taken c.requires.ready.of_frame
+    c.requires.held).1
 
 pub returns-in_err-met-clause-data : goal.returns-in_err-met-clause-data
 returns-in_err-met-clause-data g c =
@@ -69,19 +75,26 @@ returns-in_err-met-clause-data g c =
     let n = c.args.scan.now.restart_interval in
     let bytes = c.args.source.now.bytes in
     let t = taken-sized frame cs c.deref.result.now c.hold.new.self.held.items c.in_ok-arrays.arrays.items _
-    c.deref.ensures.value c.in_ok-hold.ensures.held c.in_ok-arrays.ensures.taken c.requires.ready.of_frame c.requires.held in
-    let read : Arrays → List ℕ → Outcome (Arrays × Option Marker) = λ a. arrays_at p (n * mcu_size (components_in cs)) (vias_in 0 cs) (spots_of frame (components_in cs)) a in
-    rw (e.1, e.2) (answers-err (λ (m : Option Marker). (arrays_in c.read_blocks.new.arrays.items, m)) (λ (m : Option Marker). (f, m)) (read (arrays_in c.in_ok-arrays.arrays.items))
+    c.deref.ensures.value c.in_ok-hold.ensures.held c.in_ok-arrays.ensures.taken c.requires.ready.of_frame
+    c.requires.held in
+    let read : Arrays → List ℕ → Outcome (Arrays × Option Marker) = λ a. arrays_at p (n * mcu_size (components_in cs))
+    (vias_in 0 cs) (spots_of frame (components_in cs)) a in
+    rw (e.1, e.2) (answers-err (λ (m : Option Marker). (arrays_in c.read_blocks.new.arrays.items, m))
+    (λ (m : Option Marker). (f, m)) (read (arrays_in c.in_ok-arrays.arrays.items))
     (scan_data f frame p (map coding_in cs)) c.args.source.now c.read_blocks.new.source _
     (λ fault h. data-held-refused f frame p (map coding_in cs) bytes fault
-    (read-as f frame p cs n (blocks_at (map coding_in cs) (arrays_before f frame)) bytes c.requires.ready.restart ∙ (ap (λ (a : Arrays). read a bytes) (sym t.0) ∙ h)))
+    (read-as f frame p cs n (blocks_at (map coding_in cs) (arrays_before f frame)) bytes c.requires.ready.restart
+    ∙ (ap (λ (a : Arrays). read a bytes) (sym t.0) ∙ h)))
     c.in_err-met.ensures.scan)
 
 pub add_arrays-requires-clause-blocks : goal.add_arrays-requires-clause-blocks
 add_arrays-requires-clause-blocks g c =
-    let t = taken-sized (frame_in c.args.frame.now) c.args.scan.now.components.items c.deref.result.now c.hold.new.self.held.items c.in_ok-arrays.arrays.items _
-    c.deref.ensures.value c.in_ok-hold.ensures.held c.in_ok-arrays.ensures.taken c.requires.ready.of_frame c.requires.held in
-    arrays-by-sizes (components_in c.args.scan.now.components.items) c.in_ok-arrays.arrays.items c.read_blocks.new.arrays.items t.1 c.in_ok-met.ensures.sizes
+    let t = taken-sized (frame_in c.args.frame.now) c.args.scan.now.components.items c.deref.result.now
+    c.hold.new.self.held.items c.in_ok-arrays.arrays.items _
+    c.deref.ensures.value c.in_ok-hold.ensures.held c.in_ok-arrays.ensures.taken c.requires.ready.of_frame
+    c.requires.held in
+    arrays-by-sizes (components_in c.args.scan.now.components.items) c.in_ok-arrays.arrays.items
+    c.read_blocks.new.arrays.items t.1 c.in_ok-met.ensures.sizes
 
 pub put_blocks-requires-clause-places : goal.put_blocks-requires-clause-places
 put_blocks-requires-clause-places g c =
@@ -89,25 +102,34 @@ put_blocks-requires-clause-places g c =
     let cs = c.args.scan.now.components.items in
     let held = c.hold.new.self.held.items in
     let long : length held ≡ length c.add_arrays.new.self.held.items
-    = sym c.in_ok-arrays.ensures.length ∙ ap (λ (v : Vec Held Global). length v.items) (sym c.in_ok-add_arrays.ensures.held) in
-    subst (λ (xs : List Coded). All (λ x. x.place < length c.add_arrays.new.self.held.items) xs) (sym c.deref-2.ensures.value)
+    = sym c.in_ok-arrays.ensures.length ∙ ap (λ (v : Vec Held Global). length v.items)
+    (sym c.in_ok-add_arrays.ensures.held) in
+    subst (λ (xs : List Coded). All (λ x. x.place < length c.add_arrays.new.self.held.items) xs)
+    (sym c.deref-2.ensures.value)
     (subst (λ (k : ℕ). All (λ (x : Coded). x.place < k) cs) long
-    (coded-within-held frame cs held c.requires.ready.of_frame (subst (AreArrays frame.components) (sym c.in_ok-hold.ensures.held) c.requires.held)))
+    (coded-within-held frame cs held c.requires.ready.of_frame (subst (AreArrays frame.components)
+    (sym c.in_ok-hold.ensures.held) c.requires.held)))
 
-long-read : (cs : List Coded) (taken new : List Held) (before : Arrays) → arrays_in taken ≡ blocks_at (map coding_in cs) before → sizes_of new ≡ sizes_of taken → length new ≡ length cs
+long-read : (cs : List Coded) (taken new : List Held) (before : Arrays)
+    → arrays_in taken ≡ blocks_at (map coding_in cs) before → sizes_of new ≡ sizes_of taken → length new ≡ length cs
 long-read cs taken new before t e =
-    sym (length-map new (λ (v : Held). length v.items)) ∙ (ap length e ∙ length-map taken (λ (v : Held). length v.items))
+    sym (length-map new (λ (v : Held). length v.items))
+    ∙ (ap length e ∙ length-map taken (λ (v : Held). length v.items))
     ∙ (sym (length-map taken blocks_in) ∙ (ap length t ∙ (length-map (map coding_in cs) _ ∙ length-map cs coding_in)))
 
 -- the blocks that are held afterwards
-put-held : (cs seen again : List Coded) (held left arrays put : List Held) (before : Arrays) → seen ≡ cs → again ≡ cs → arrays_in held ≡ before
-    → arrays_in left ≡ without_blocks (map coding_in seen) (arrays_in held) → arrays_in put ≡ put_arrays (map coding_in again) (arrays_in arrays) (arrays_in left)
+put-held : (cs seen again : List Coded) (held left arrays put : List Held) (before : Arrays) → seen ≡ cs → again ≡ cs
+    → arrays_in held ≡ before
+    → arrays_in left ≡ without_blocks (map coding_in seen) (arrays_in held)
+    → arrays_in put ≡ put_arrays (map coding_in again) (arrays_in arrays) (arrays_in left)
     → AreRising (map coding_in cs) → length arrays ≡ length cs
     → arrays_in put ≡ put_arrays (map coding_in cs) (arrays_in arrays) before
 put-held cs seen again held left arrays put before d k e l h r n =
     h
-    ∙ ap₂ (λ (xs : List Coded) (a : Arrays). put_arrays (map coding_in xs) (arrays_in arrays) a) k (l ∙ ap (λ (xs : List Coded). without_blocks (map coding_in xs) (arrays_in held)) d)
-    ∙ put-back (map coding_in cs) (arrays_in arrays) (arrays_in held) (subst AreApart (sym (coded-places cs)) (rising-codings cs r))
+    ∙ ap₂ (λ (xs : List Coded) (a : Arrays). put_arrays (map coding_in xs) (arrays_in arrays) a) k (l
+    ∙ ap (λ (xs : List Coded). without_blocks (map coding_in xs) (arrays_in held)) d)
+    ∙ put-back (map coding_in cs) (arrays_in arrays) (arrays_in held) (subst AreApart (sym (coded-places cs))
+    (rising-codings cs r))
     (length-map arrays blocks_in ∙ (n ∙ sym (length-map cs coding_in)))
     ∙ ap (put_arrays (map coding_in cs) (arrays_in arrays)) e
 
@@ -120,21 +142,31 @@ returns-clause-data g c =
     let n = c.args.scan.now.restart_interval in
     let bytes = c.args.source.now.bytes in
     let t = taken-sized frame cs c.deref.result.now c.hold.new.self.held.items c.in_ok-arrays.arrays.items _
-    c.deref.ensures.value c.in_ok-hold.ensures.held c.in_ok-arrays.ensures.taken c.requires.ready.of_frame c.requires.held in
-    let read : Arrays → List ℕ → Outcome (Arrays × Option Marker) = λ a. arrays_at p (n * mcu_size (components_in cs)) (vias_in 0 cs) (spots_of frame (components_in cs)) a in
+    c.deref.ensures.value c.in_ok-hold.ensures.held c.in_ok-arrays.ensures.taken c.requires.ready.of_frame
+    c.requires.held in
+    let read : Arrays → List ℕ → Outcome (Arrays × Option Marker) = λ a. arrays_at p (n * mcu_size (components_in cs))
+    (vias_in 0 cs) (spots_of frame (components_in cs)) a in
     let q = c.in_ok-met.ensures.scan in
-    let long : length c.read_blocks.new.arrays.items ≡ length cs = long-read cs c.in_ok-arrays.arrays.items c.read_blocks.new.arrays.items (arrays_before f frame) t.0 c.in_ok-met.ensures.sizes in (
+    let long : length c.read_blocks.new.arrays.items ≡ length cs =
+    long-read cs c.in_ok-arrays.arrays.items c.read_blocks.new.arrays.items (arrays_before f frame) t.0
+    c.in_ok-met.ensures.sizes in (
       q.0,
       λ k.
           let at = q.1 k in (
             at.0,
-            data-held f frame p (map coding_in cs) (arrays_in c.read_blocks.new.arrays.items) c.in_ok-met.met bytes c.read_blocks.new.source.bytes
-                (record c.hold.new.self { held = c.take_blocks.new.held }) c.add_arrays.new.self (arrays_in c.put_blocks.new.held.items) c.requires.process
-                (read-as f frame p cs n (blocks_at (map coding_in cs) (arrays_before f frame)) bytes c.requires.ready.restart ∙ (ap (λ (a : Arrays). read a bytes) (sym t.0) ∙ at.1))
-                c.in_ok-add_arrays.ensures.planes c.in_ok-hold.ensures.finished (ap planes_in c.in_ok-hold.ensures.planes) (ap planes_in c.in_ok-hold.ensures.samples)
-                (put-held cs c.deref.result.now c.deref-2.result.now c.hold.new.self.held.items c.add_arrays.new.self.held.items c.read_blocks.new.arrays.items c.put_blocks.new.held.items
+            data-held f frame p (map coding_in cs) (arrays_in c.read_blocks.new.arrays.items) c.in_ok-met.met bytes
+                c.read_blocks.new.source.bytes
+                (record c.hold.new.self { held = c.take_blocks.new.held }) c.add_arrays.new.self
+                (arrays_in c.put_blocks.new.held.items) c.requires.process
+                (read-as f frame p cs n (blocks_at (map coding_in cs) (arrays_before f frame)) bytes
+                c.requires.ready.restart ∙ (ap (λ (a : Arrays). read a bytes) (sym t.0) ∙ at.1))
+                c.in_ok-add_arrays.ensures.planes c.in_ok-hold.ensures.finished
+                (ap planes_in c.in_ok-hold.ensures.planes) (ap planes_in c.in_ok-hold.ensures.samples)
+                (put-held cs c.deref.result.now c.deref-2.result.now c.hold.new.self.held.items
+                c.add_arrays.new.self.held.items c.read_blocks.new.arrays.items c.put_blocks.new.held.items
                 (arrays_before f frame) c.deref.ensures.value c.deref-2.ensures.value c.in_ok-hold.ensures.held
-                (ap (λ (v : Vec Held Global). arrays_in v.items) c.in_ok-add_arrays.ensures.held ∙ c.in_ok-arrays.ensures.left) c.put_blocks.ensures c.requires.ready.rising long),
+                (ap (λ (v : Vec Held Global). arrays_in v.items) c.in_ok-add_arrays.ensures.held
+                ∙ c.in_ok-arrays.ensures.left) c.put_blocks.ensures c.requires.ready.rising long),
           ),
     )
 
@@ -144,14 +176,23 @@ returns-clause-held g c =
     let frame = frame_in c.args.frame.now in
     let cs = c.args.scan.now.components.items in
     let t = taken-sized frame cs c.deref.result.now c.hold.new.self.held.items c.in_ok-arrays.arrays.items _
-    c.deref.ensures.value c.in_ok-hold.ensures.held c.in_ok-arrays.ensures.taken c.requires.ready.of_frame c.requires.held in
-    let long : length c.read_blocks.new.arrays.items ≡ length cs = long-read cs c.in_ok-arrays.arrays.items c.read_blocks.new.arrays.items (arrays_before f frame) t.0 c.in_ok-met.ensures.sizes in
-    let sized = arrays-by-sizes (components_in cs) c.in_ok-arrays.arrays.items c.read_blocks.new.arrays.items t.1 c.in_ok-met.ensures.sizes in
-    subst (AreArrays frame.components) (sym (put-held cs c.deref.result.now c.deref-2.result.now c.hold.new.self.held.items c.add_arrays.new.self.held.items c.read_blocks.new.arrays.items c.put_blocks.new.held.items
+    c.deref.ensures.value c.in_ok-hold.ensures.held c.in_ok-arrays.ensures.taken c.requires.ready.of_frame
+    c.requires.held in
+    let long : length c.read_blocks.new.arrays.items ≡ length cs =
+    long-read cs c.in_ok-arrays.arrays.items c.read_blocks.new.arrays.items (arrays_before f frame) t.0
+    c.in_ok-met.ensures.sizes in
+    let sized = arrays-by-sizes (components_in cs) c.in_ok-arrays.arrays.items c.read_blocks.new.arrays.items t.1
+    c.in_ok-met.ensures.sizes in
+    subst (AreArrays frame.components) (sym (put-held cs c.deref.result.now c.deref-2.result.now
+    c.hold.new.self.held.items c.add_arrays.new.self.held.items c.read_blocks.new.arrays.items
+    c.put_blocks.new.held.items
     (arrays_before f frame) c.deref.ensures.value c.deref-2.ensures.value c.in_ok-hold.ensures.held
-    (ap (λ (v : Vec Held Global). arrays_in v.items) c.in_ok-add_arrays.ensures.held ∙ c.in_ok-arrays.ensures.left) c.put_blocks.ensures c.requires.ready.rising long))
-    (held-sized frame (map coding_in cs) (arrays_in c.read_blocks.new.arrays.items) (arrays_before f frame) c.requires.held (of-frame frame (map coding_in cs) c.requires.ready.of_frame)
-    (subst (λ (l : List Component). AreArrays l (arrays_in c.read_blocks.new.arrays.items)) (sym (coded-components cs)) sized))
+    (ap (λ (v : Vec Held Global). arrays_in v.items) c.in_ok-add_arrays.ensures.held ∙ c.in_ok-arrays.ensures.left)
+    c.put_blocks.ensures c.requires.ready.rising long))
+    (held-sized frame (map coding_in cs) (arrays_in c.read_blocks.new.arrays.items) (arrays_before f frame)
+    c.requires.held (of-frame frame (map coding_in cs) c.requires.ready.of_frame)
+    (subst (λ (l : List Component). AreArrays l (arrays_in c.read_blocks.new.arrays.items)) (sym (coded-components cs))
+    sized))
 
 pub returns-clause-planes : goal.returns-clause-planes
 returns-clause-planes g c =
@@ -162,5 +203,6 @@ returns-clause-planes g c =
     let one = record c.hold.new.self { held = c.take_blocks.new.held } in
     λ h.
     subst (λ (x : Found). ArePlanes frame.components x.planes) (sym (c.in_ok-add_arrays.ensures.planes base))
-    (arrays-whole frame p codings (arrays_in c.read_blocks.new.arrays.items) (with_decoded base one) (of-frame frame codings c.requires.ready.of_frame)
+    (arrays-whole frame p codings (arrays_in c.read_blocks.new.arrays.items) (with_decoded base one)
+    (of-frame frame codings c.requires.ready.of_frame)
     (subst (ArePlanes frame.components) (sym (ap planes_in c.in_ok-hold.ensures.planes)) h))

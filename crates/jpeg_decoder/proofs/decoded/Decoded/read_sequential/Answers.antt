@@ -29,8 +29,11 @@ returns-in_err-planes-clause-data g c =
     let codings = map coding_in cs in
     let bytes = c.args.source.now.bytes in
     let n = c.args.scan.now.restart_interval in
-    rw (e.1, e.2) (answers-err (λ (r : Vec (Vec ℕ Global) Global × Option Marker). (strips.planes_in r.0.items, r.1)) (λ (m : Option Marker). (f, m)) (planes_at p n (vias_in 0 cs) frame codings) (scan_data f frame p codings) c.args.source.now c.read_planes.new.source _
-    (λ fault h. data-planes-refused f frame p codings bytes fault c.requires.process (of-frame frame codings c.requires.ready.of_frame)
+    rw (e.1, e.2) (answers-err (λ (r : Vec (Vec ℕ Global) Global × Option Marker). (strips.planes_in r.0.items, r.1))
+    (λ (m : Option Marker). (f, m)) (planes_at p n (vias_in 0 cs) frame codings) (scan_data f frame p codings)
+    c.args.source.now c.read_planes.new.source _
+    (λ fault h. data-planes-refused f frame p codings bytes fault c.requires.process
+    (of-frame frame codings c.requires.ready.of_frame)
     (subst (λ (k : ℕ). planes_at p k (vias_from 0 codings) frame codings bytes ≡ Err fault) c.requires.ready.restart
     (ap (λ (v : List Via). planes_at p n v frame codings bytes) (vias-same 0 cs) ∙ h)))
     c.in_err-planes.ensures.planes)
@@ -49,10 +52,15 @@ returns-clause-data g c =
       λ k.
           let at = q.1 k in (
             at.0,
-            data-planes f frame p codings (strips.planes_in c.in_ok-planes.planes.items) c.in_ok-planes.met bytes c.read_planes.new.source.bytes
+            data-planes f frame p codings (strips.planes_in c.in_ok-planes.planes.items) c.in_ok-planes.met bytes
+                c.read_planes.new.source.bytes
                 (record c.args.self.now { held = c.new.result }) c.add_planes.new.self
                 c.requires.process (of-frame frame codings c.requires.ready.of_frame)
-                (subst (λ (k : ℕ). planes_at p k (vias_from 0 codings) frame codings bytes ≡ Ok ((strips.planes_in c.in_ok-planes.planes.items, c.in_ok-planes.met), c.read_planes.new.source.bytes)) c.requires.ready.restart
+                (subst (λ (k : ℕ). planes_at p k (vias_from 0 codings) frame codings bytes
+                ≡ Ok (
+                  (strips.planes_in c.in_ok-planes.planes.items, c.in_ok-planes.met),
+                  c.read_planes.new.source.bytes,
+                )) c.requires.ready.restart
                 (ap (λ (v : List Via). planes_at p n v frame codings bytes) (vias-same 0 cs) ∙ at.1))
                 c.add_planes.ensures.planes refl refl refl (ap (map _) c.new.ensures.items),
           ),
@@ -68,5 +76,7 @@ returns-clause-planes g c =
     let one = record c.args.self.now { held = c.new.result } in
     λ h.
     subst (λ (x : Found). ArePlanes frame.components x.planes) (sym (c.add_planes.ensures.planes base))
-    (planes-whole frame p codings (strips.planes_in c.in_ok-planes.planes.items) (with_decoded base one) (of-frame frame codings c.requires.ready.of_frame)
-    (c.in_ok-planes.ensures.sizes ∙ ap (map (λ (x : Component). (x.blocks_high * x.scale) * (x.blocks_wide * x.scale))) (sym (coded-components cs))) h)
+    (planes-whole frame p codings (strips.planes_in c.in_ok-planes.planes.items) (with_decoded base one)
+    (of-frame frame codings c.requires.ready.of_frame)
+    (c.in_ok-planes.ensures.sizes ∙ ap (map (λ (x : Component). (x.blocks_high * x.scale) * (x.blocks_wide * x.scale)))
+    (sym (coded-components cs))) h)

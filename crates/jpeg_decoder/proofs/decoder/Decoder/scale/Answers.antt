@@ -14,7 +14,8 @@ returns-in_err-read_info-clause-reads g c =
     let h = c.args.requested_height in
     let bytes = c.args.self.now.source.bytes in
     rw (e.1, e.2) (λ fresh.
-    answers-err (λ (u : Unit {0}). c.read_info.new.self.found) (λ (size : ℕ × ℕ). c.read_info.new.self.found) header_at (sized_header_at w h) c.args.self.now.source c.read_info.new.self.source _
+    answers-err (λ (u : Unit {0}). c.read_info.new.self.found) (λ (size : ℕ × ℕ). c.read_info.new.self.found) header_at
+    (sized_header_at w h) c.args.self.now.source c.read_info.new.self.source _
     (λ fault k. sized-refused w h bytes fault k) (c.in_err-read_info.ensures.reads fresh))
 
 pub returns-clause-reads : goal.returns-clause-reads
@@ -25,7 +26,8 @@ returns-clause-reads g c =
     let s : c.self.inside.source ≡ c.read_info.new.self.source = search rules in
     elim c.match-scale_state.branch [
       | in-Some x ↦ rw x.result-is (λ fresh.
-          sized-answers w h c.args.self.now.source c.read_info.new.self.source c.self.inside.source c.read_info.new.self.found (found_in c.scale_state.new.state) (tt {0}) (0, 0)
+          sized-answers w h c.args.self.now.source c.read_info.new.self.source c.self.inside.source
+          c.read_info.new.self.found (found_in c.scale_state.new.state) (tt {0}) (0, 0)
           (c.in_ok-read_info.ensures.reads fresh) s e)
       | in-None x ↦ absurd (search rules)
     ]

@@ -10,9 +10,12 @@ use Rattle.jpeg_decoder.proofs.state.State.read.Given as goal
 
 abbrev pub invariant-loop : goal.invariant-loop
 invariant-loop g l = record {
-  reads : Continues (segments_at l.fn.header Elsewhere (found_in l.fn.self) None) l.fn.source (segments_at l.fn.header l.before (found_in l.self) l.met) l.source;
-  told : l.fn.source.known ≡ true → told_at l.fn.header Elsewhere (found_in l.fn.self) None l.fn.source.bytes ≡ told_at l.fn.header l.before (found_in l.self) l.met l.source.bytes;
-  turns : l.fn.source.known ≡ true → (m : ℕ) → told_within (l.counter + m) l.fn.header Elsewhere (found_in l.fn.self) None l.fn.source.bytes ≡ told_within m l.fn.header l.before (found_in l.self) l.met l.source.bytes;
+  reads : Continues (segments_at l.fn.header Elsewhere (found_in l.fn.self) None) l.fn.source
+      (segments_at l.fn.header l.before (found_in l.self) l.met) l.source;
+  told : l.fn.source.known ≡ true → told_at l.fn.header Elsewhere (found_in l.fn.self) None l.fn.source.bytes
+      ≡ told_at l.fn.header l.before (found_in l.self) l.met l.source.bytes;
+  turns : l.fn.source.known ≡ true → (m : ℕ) → told_within (l.counter + m) l.fn.header Elsewhere (found_in l.fn.self)
+      None l.fn.source.bytes ≡ told_within m l.fn.header l.before (found_in l.self) l.met l.source.bytes;
   none : l.fn.source.known ≡ true → is_restart l.met ≡ false;
   took : Took l.fn.source l.counter l.source;
   short : 0 < l.counter → IsShort l.fn.source;

@@ -10,6 +10,10 @@ returns-clause-reads g c =
     let a = c.in_ok-said.ensures.answers c.args.number refl in (
       a.0,
       λ k.
-          let at = a.1 k in
-          (at.0, application-read c.args.number (found_in c.args.self.now) c.args.source.now.bytes c.parse_app.new.reader.bytes (option_map application_in c.in_ok-said.said) (metadata_in c.add.new.self) at.1 c.in_ok-add.ensures),
+          let at = a.1 k in (
+            at.0,
+            application-read c.args.number (found_in c.args.self.now) c.args.source.now.bytes
+                c.parse_app.new.reader.bytes (option_map application_in c.in_ok-said.said) (metadata_in c.add.new.self)
+                at.1 c.in_ok-add.ensures,
+          ),
     )

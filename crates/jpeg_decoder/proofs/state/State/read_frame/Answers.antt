@@ -10,8 +10,12 @@ returns-clause-reads g c =
     let a = c.in_ok-frame.ensures.answers c.args.number refl in (
       a.0,
       λ k.
-          let at = a.1 k in
-          (at.0, frame-read c.args.number (found_in c.args.self.now) c.args.source.now.bytes c.parse_sof.new.reader.bytes (frame_in c.in_ok-frame.frame) (no-frame c.args.self.now.frame (sym c.if-is_some.ensures)) at.1 c.in_ok-check_frame.ensures),
+          let at = a.1 k in (
+            at.0,
+            frame-read c.args.number (found_in c.args.self.now) c.args.source.now.bytes
+                c.parse_sof.new.reader.bytes (frame_in c.in_ok-frame.frame) (no-frame c.args.self.now.frame
+                (sym c.if-is_some.ensures)) at.1 c.in_ok-check_frame.ensures,
+          ),
     )
 
 pub returns-clause-sound : goal.returns-clause-sound

@@ -9,54 +9,70 @@ use Rattle.jpeg_pixels.proofs.upsampler.UpsampleRule.upsample_row.Goals as goal
 pub returns-in-H1V1-clause-samples : goal.returns-in-H1V1-clause-samples
 returns-in-H1V1-clause-samples c = λ x h.
     let a = c.args in
-    in_front a.output_width c.copy_from_slice.new.self a.output.now x c.copy_from_slice.ensures.len c.requires.output_room h
+    in_front a.output_width c.copy_from_slice.new.self a.output.now x c.copy_from_slice.ensures.len
+    c.requires.output_room h
     ∙ ap (λ (l : List ℕ). get_or l x 0) c.copy_from_slice.ensures.after
-    ∙ as_h1v1 a.self.now (λ i j. slice_index a.input.now (j * a.row_stride + i)) c.line_at-line.result.now a.output_width a.input_width a.input_height x a.row
+    ∙ as_h1v1 a.self.now (λ i j. slice_index a.input.now (j * a.row_stride + i)) c.line_at-line.result.now
+    a.output_width a.input_width a.input_height x a.row
     c.in-H1V1.is h c.line_at-line.ensures.samples
 
 pub returns-in-H2V1-clause-samples : goal.returns-in-H2V1-clause-samples
 returns-in-H2V1-clause-samples c = λ x h.
     let a = c.args in
-    in_front a.output_width c.upsample_row_h2v1.new.output a.output.now x c.upsample_row_h2v1.auto.output c.requires.output_room h
+    in_front a.output_width c.upsample_row_h2v1.new.output a.output.now x c.upsample_row_h2v1.auto.output
+    c.requires.output_room h
     ∙ c.upsample_row_h2v1.ensures x (omega (arith, length-take {A = ℕ}))
-    ∙ as_h2v1 a.self.now (λ i j. slice_index a.input.now (j * a.row_stride + i)) c.line_at-line-in-H2V1.result.now a.input_width a.input_height x a.row
+    ∙ as_h2v1 a.self.now (λ i j. slice_index a.input.now (j * a.row_stride + i)) c.line_at-line-in-H2V1.result.now
+    a.input_width a.input_height x a.row
     c.in-H2V1.is c.line_at-line-in-H2V1.ensures.long (omega arith) c.line_at-line-in-H2V1.ensures.samples
 
 pub returns-in-H1V2-clause-samples : goal.returns-in-H1V2-clause-samples
 returns-in-H1V2-clause-samples c = λ x h.
     let a = c.args in
-    in_front a.output_width c.upsample_row_h1v2.new.output a.output.now x c.upsample_row_h1v2.auto.output c.requires.output_room h
+    in_front a.output_width c.upsample_row_h1v2.new.output a.output.now x c.upsample_row_h1v2.auto.output
+    c.requires.output_room h
     ∙ c.upsample_row_h1v2.ensures x (omega (arith, length-take {A = ℕ}))
-    ∙ as_h1v2 a.self.now (λ i j. slice_index a.input.now (j * a.row_stride + i)) c.line_at-near.result.now c.line_at-far.result.now a.output_width a.input_width a.input_height x a.row
+    ∙ as_h1v2 a.self.now (λ i j. slice_index a.input.now (j * a.row_stride + i)) c.line_at-near.result.now
+    c.line_at-far.result.now a.output_width a.input_width a.input_height x a.row
     c.in-H1V2.is h c.line_at-near.ensures.samples
-    (λ i b. c.line_at-far.ensures.samples i b ∙ ap (λ n. slice_index a.input.now (n * a.row_stride + i)) c.far_line.ensures)
+    (λ i b. c.line_at-far.ensures.samples i b ∙ ap (λ n. slice_index a.input.now (n * a.row_stride + i))
+    c.far_line.ensures)
 
 pub returns-in-H2V2-clause-samples : goal.returns-in-H2V2-clause-samples
 returns-in-H2V2-clause-samples c = λ x h.
     let a = c.args in
-    in_front a.output_width c.upsample_row_h2v2.new.output a.output.now x c.upsample_row_h2v2.auto.output c.requires.output_room h
+    in_front a.output_width c.upsample_row_h2v2.new.output a.output.now x c.upsample_row_h2v2.auto.output
+    c.requires.output_room h
     ∙ c.upsample_row_h2v2.ensures x (omega (arith, length-take {A = ℕ}))
-    ∙ as_h2v2 a.self.now (λ i j. slice_index a.input.now (j * a.row_stride + i)) c.line_at-near-in-H2V2.result.now c.line_at-far-in-H2V2.result.now a.input_width a.input_height x a.row
+    ∙ as_h2v2 a.self.now (λ i j. slice_index a.input.now (j * a.row_stride + i)) c.line_at-near-in-H2V2.result.now
+    c.line_at-far-in-H2V2.result.now a.input_width a.input_height x a.row
     c.in-H2V2.is c.line_at-near-in-H2V2.ensures.long (omega arith) c.line_at-near-in-H2V2.ensures.samples
-    (λ i b. c.line_at-far-in-H2V2.ensures.samples i b ∙ ap (λ n. slice_index a.input.now (n * a.row_stride + i)) c.far_line-in-H2V2.ensures)
+    (λ i b. c.line_at-far-in-H2V2.ensures.samples i b ∙ ap (λ n. slice_index a.input.now (n * a.row_stride + i))
+    c.far_line-in-H2V2.ensures)
 
 pub line_at-line-requires-in-Generic : goal.line_at-line-requires-in-Generic
 line_at-line-requires-in-Generic c =
     let a = c.args in
     let used = c.div_ceil-used.ensures ∙ ap (λ n. div_ceil a.output_width n) c.from.ensures in
     let same = ap (λ n. a.row / n * a.row_stride + c.div_ceil-used.result) c.from-in-Generic.ensures in
-    let within = repeated_within a.self.now c.in-Generic.across c.in-Generic.down a.output_width c.div_ceil-used.result a.input_width a.input_height a.row_stride a.row (length a.input.now)
-    c.in-Generic.is c.requires.some_across c.requires.some_down used c.requires.wide_enough c.requires.row c.requires.input_room in
+    let within = repeated_within a.self.now c.in-Generic.across c.in-Generic.down a.output_width c.div_ceil-used.result
+    a.input_width a.input_height a.row_stride a.row (length a.input.now)
+    c.in-Generic.is c.requires.some_across c.requires.some_down used c.requires.wide_enough c.requires.row
+    c.requires.input_room in
     omega (arith, same, within)
 
 pub returns-in-Generic-clause-samples : goal.returns-in-Generic-clause-samples
 returns-in-Generic-clause-samples c = λ x h.
     let a = c.args in
     let some : 1 ≤ c.in-Generic.across = subst (λ n. 1 ≤ n) (ap across c.in-Generic.is) c.requires.some_across in
-    let enough = used_enough a.output_width c.in-Generic.across c.div_ceil-used.result some (c.div_ceil-used.ensures ∙ ap (λ n. div_ceil a.output_width n) c.from.ensures) in
-    in_front a.output_width c.repeat_samples.new.output a.output.now x c.repeat_samples.auto.output c.requires.output_room h
+    let enough = used_enough a.output_width c.in-Generic.across c.div_ceil-used.result some (c.div_ceil-used.ensures
+    ∙ ap (λ n. div_ceil a.output_width n) c.from.ensures) in
+    in_front a.output_width c.repeat_samples.new.output a.output.now x c.repeat_samples.auto.output
+    c.requires.output_room h
     ∙ c.repeat_samples.ensures x (omega (arith, length-take {A = ℕ}))
     ∙ ap (λ n. slice_index c.line_at-line-in-Generic.result.now (x / n)) c.from-in-Generic-2.ensures
-    ∙ as_generic a.self.now c.in-Generic.across c.in-Generic.down (λ i j. slice_index a.input.now (j * a.row_stride + i)) c.line_at-line-in-Generic.result.now c.div_ceil-used.result
+    ∙ as_generic a.self.now c.in-Generic.across c.in-Generic.down (λ i j. slice_index a.input.now (j * a.row_stride
+    + i)) c.line_at-line-in-Generic.result.now c.div_ceil-used.result
     a.input_width a.input_height x a.row c.in-Generic.is some (omega (arith, enough))
-    (λ i b. c.line_at-line-in-Generic.ensures.samples i b ∙ ap (λ n. slice_index a.input.now (a.row / n * a.row_stride + i)) c.from-in-Generic.ensures)
+    (λ i b. c.line_at-line-in-Generic.ensures.samples i b
+    ∙ ap (λ n. slice_index a.input.now (a.row / n * a.row_stride + i)) c.from-in-Generic.ensures)

@@ -8,6 +8,7 @@ returns-then-ahead-gt0-clause-bytes g c =
     let r = c.args.self.now.inner in
     let some : 0 < length (reader_buffer r) = rw c.buffer-ahead.ensures at c.if-ahead-gt0.true in
     rw c.buffer-ahead.ensures (
-      takes-front (reader_capacity r == 0) (reader_buffer r) c.args.buf.now (g.R.Read.remaining r.inner) (reader_remaining g.R.Read.remaining c.consume.new.self) some c.if-buf-eq1.true c.consume.ensures.bytes,
+      takes-front (reader_capacity r == 0) (reader_buffer r) c.args.buf.now (g.R.Read.remaining r.inner)
+          (reader_remaining g.R.Read.remaining c.consume.new.self) some c.if-buf-eq1.true c.consume.ensures.bytes,
       λ e. absurd (omega (arith, e)),
     )
