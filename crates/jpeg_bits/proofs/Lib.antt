@@ -1,4 +1,5 @@
 pub mod Sources
+pub mod TakenBytes
 pub mod Loops
 pub mod Texts
 pub mod Held

@@ -4,6 +4,7 @@
 mod ahead;
 mod bits;
 pub mod blocks;
+pub mod byte_reader;
 pub mod codes;
 pub mod color_transform;
 mod default_tables;

@@ -1,4 +1,27 @@
-//! A decoder of JPEG streams (ITU-T T.81).
+//! A decoder of JPEG streams (ITU-T T.81) whose calls are proved: baseline, extended sequential and
+//! progressive streams of 8 bits, and lossless ones of 2 to 16 bits, with Huffman coding.
+//!
+//! [`Decoder`] takes the bytes from any reader. A [`ByteReader`] over a buffered reader is the
+//! fastest for files and pipes, and a slice of bytes is a reader too:
+//!
+//!     let reader = ByteReader::new(BufReader::new(alloc, file)?);
+//!     let mut decoder = Decoder::new(alloc, reader)?;
+//!     let pixels = decoder.decode()?;     // a Vec<u8>, line by line from the top
+//!     let info = decoder.info();          // width, height, pixel format and coding process
+//!     let exif = decoder.exif_data();     // also xmp_data and icc_profile
+//!
+//! `read_info` reads the header alone, which bounds the memory that a picture would need before any
+//! of it is taken (`set_max_decoding_buffer_size` refuses larger ones). `scale` asks for the picture
+//! at 1/8, 1/4, 1/2 or all of its size. [`run::run`] is a whole program: from a reader to a line of
+//! text and the pixels on a writer.
+//!
+//! Every call returns, whatever the reader gives, with a value or an [`Error`] that names what was
+//! wrong; after a refusal the frame and the metadata that were read before it are still there. What
+//! `decode` answers is the meaning of the bytes (clause `reads`), and for a stream that was written
+//! for the coefficients of an image it is their picture, however they were coded (clause `images`);
+//! a lossless stream gives back its samples (clause `samples`). [`headline`] and [`lossless_laws`]
+//! have these theorems as laws of their own. A caller with contracts of its own finds the lemmas
+//! that it needs in `proofs/Callers.antt`.
 #![tactic(auto)]
 
 mod codings;
@@ -27,6 +50,7 @@ mod strips;
 pub mod worked;
 
 pub use decoder::{Decoder, ImageInfo, PixelFormat};
+pub use jpeg_bits::byte_reader::ByteReader;
 pub use jpeg_bits::color_transform::ColorTransform;
 pub use jpeg_bits::error::{Error, UnsupportedFeature};
 pub use jpeg_bits::{error, huffman, marker};

@@ -12,7 +12,7 @@
 
 use jpeg_decoder::error::{Error, Result};
 use jpeg_decoder::parser::CodingProcess;
-use jpeg_decoder::{Decoder, ImageInfo};
+use jpeg_decoder::{ByteReader, Decoder, ImageInfo};
 use std::alloc::{AllocError, Global};
 use std::env;
 use std::env::Args;
@@ -130,7 +130,10 @@ fn main(rt: HostRuntime) -> ExitCode {
     let outcome = match BufReader::new(rt.alloc(), rt.stdin()) {
         Ok(reader) => match request {
             Request::Header => write_header(rt.alloc(), reader, &mut rt.stdout()),
-            _ => write_answer(rt.alloc(), reader, request, &mut rt.stdout()),
+            _ => {
+                let reader = ByteReader::new(reader);
+                write_answer(rt.alloc(), reader, request, &mut rt.stdout())
+            }
         },
         Err(error) => Err(Error::Io(error)),
     };

@@ -1,11 +1,9 @@
 //! Decodes the JPEG stream on standard input. Writes its picture to standard output: a line `WIDTH
-//! HEIGHT FORMAT`, and then the pixels as they are, line by line from the top. A refusal is told in
-//! one line on standard error, and the status is then 1.
+//! HEIGHT FORMAT`, and then the pixels as they are, line by line from the top. A refusal is one line
+//! on standard error, and the status is then 1.
 #![tactic(auto)]
 
-mod byte_reader;
-
-use crate::byte_reader::ByteReader;
+use jpeg_decoder::ByteReader;
 use jpeg_decoder::error::Error;
 use jpeg_decoder::run::{report, run};
 use std::io::BufReader;

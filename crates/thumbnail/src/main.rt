@@ -23,7 +23,7 @@ mod netpbm;
 
 use jpeg_decoder::error::{Error, Result};
 use jpeg_decoder::parser::Dimensions;
-use jpeg_decoder::{Decoder, ImageInfo};
+use jpeg_decoder::{ByteReader, Decoder, ImageInfo};
 use netpbm::write_picture;
 use std::alloc::Global;
 use std::env;
@@ -97,7 +97,10 @@ fn main(rt: HostRuntime) -> ExitCode {
         return ExitCode::from(2);
     };
     let outcome = match BufReader::new(rt.alloc(), rt.stdin()) {
-        Ok(reader) => write_thumbnail(rt.alloc(), reader, size, &mut rt.stdout()),
+        Ok(reader) => {
+            let reader = ByteReader::new(reader);
+            write_thumbnail(rt.alloc(), reader, size, &mut rt.stdout())
+        }
         Err(error) => Err(Error::Io(error)),
     };
     match outcome {

@@ -2,8 +2,8 @@
 
 use std::io::{BufRead, BufReader, Read, Result};
 
-/// A buffered reader. A read of one byte takes it out of the buffer, where one is there, without a
-/// call: entropy-coded data are read byte by byte.
+/// A buffered reader for a decoder. Entropy-coded data are read byte by byte: a read of one byte
+/// takes it out of the buffer, where one is there, without a call.
 #[derive(Drop)]
 pub struct ByteReader<R: Read + Drop> {
     inner: BufReader<R>,
@@ -12,6 +12,7 @@ pub struct ByteReader<R: Read + Drop> {
 impl<R: Read + Drop> ByteReader<R> {
     ghost use Rattle.std.specs.Prelude.{◌≡◌};
 
+    /// A reader that goes on where `inner` stands.
     pub fn new(inner: BufReader<R>) -> ByteReader<R>
         ensures { result ≡ record { inner = inner } }
     {

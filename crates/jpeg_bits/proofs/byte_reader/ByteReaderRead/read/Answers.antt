@@ -1,7 +1,7 @@
 use Rattle.std.proofs.Common.{◌<◌, ◌==◌, length, arith}
 use Rattle.std.specs.Io.Buffered.{reader_buffer, reader_capacity, reader_remaining}
-use Rattle.jpegraw.proofs.Front.{takes-front}
-use Rattle.jpegraw.proofs.byte_reader.ByteReaderRead.read.Goals as goal
+use Rattle.jpeg_bits.proofs.TakenBytes.{takes-front}
+use Rattle.jpeg_bits.proofs.byte_reader.ByteReaderRead.read.Goals as goal
 
 pub returns-then-ahead-gt0-clause-bytes : goal.returns-then-ahead-gt0-clause-bytes
 returns-then-ahead-gt0-clause-bytes g c =
