@@ -13,10 +13,10 @@ use Rattle.jpeg_bits.specs.Passes.{Block, Pass, zero_block, listed}
 use Rattle.jpeg_segments.specs.Frame.{Component}
 use Rattle.jpeg_pixels.specs.Planes.{plane_of}
 use Rattle.jpeg_pixels.specs.Zigzag.{coefficients_in_block_order}
-use Rattle.jpeg_decoder.specs.Rasters.{ordered}
+use Rattle.jpeg_streams.specs.Rasters.{ordered}
 use Rattle.jpeg_decoder.specs.Scanning.{blocks_in}
-use Rattle.jpeg_decoder.specs.Scans.{zero_of, zero_arrays}
-use Rattle.jpeg_decoder.specs.Stream.{finished_by, plane_by}
+use Rattle.jpeg_streams.specs.Scans.{zero_of, zero_arrays}
+use Rattle.jpeg_streams.specs.Stream.{finished_by, plane_by}
 
 -- ---- zeros
 

@@ -14,20 +14,20 @@ use Rattle.jpeg_segments.specs.Frame.{Frame, Component}
 use Rattle.jpeg_pixels.specs.Planes.{plane_of, strip_of}
 use Rattle.jpeg_pixels.specs.Zigzag.{values_in_block_order}
 use Rattle.jpeg_pixels.proofs.PlaneRows.{plane-none}
-use Rattle.jpeg_decoder.specs.Order.{Spot}
-use Rattle.jpeg_decoder.specs.Scans.{Arrays, zero_arrays}
-use Rattle.jpeg_decoder.specs.Rasters.{in_raster, ordered}
-use Rattle.jpeg_decoder.specs.InTurn.{Counted, Fits, mcus_from, counted_at_start}
-use Rattle.jpeg_decoder.specs.McuRows.{row_mcus, own_row_mcus, zero_rows, rows_of, joined, with_arrays, rows_from}
-use Rattle.jpeg_decoder.specs.McuRows.{scan_by_rows}
-use Rattle.jpeg_decoder.specs.Stream.{Coding, plane_by}
+use Rattle.jpeg_streams.specs.Order.{Spot}
+use Rattle.jpeg_streams.specs.Scans.{Arrays, zero_arrays}
+use Rattle.jpeg_streams.specs.Rasters.{in_raster, ordered}
+use Rattle.jpeg_streams.specs.InTurn.{Counted, Fits, mcus_from, counted_at_start}
+use Rattle.jpeg_streams.specs.McuRows.{row_mcus, own_row_mcus, zero_rows, rows_of, joined, with_arrays, rows_from}
+use Rattle.jpeg_streams.specs.McuRows.{scan_by_rows}
+use Rattle.jpeg_streams.specs.Stream.{Coding, plane_by}
 use Rattle.jpeg_decoder.specs.Strips.{components_of, planes_by, planes_at, samples_of, with_strips, strips_from}
 use Rattle.jpeg_decoder.specs.Strips.{planes_by_rows}
-use Rattle.jpeg_decoder.proofs.Apart.{zeros-sized}
-use Rattle.jpeg_decoder.proofs.Mcus.{frame-scans, on-on}
-use Rattle.jpeg_decoder.proofs.McuRows.{AreRows, mcus-any, rows-kept, counted-where, joined-rows, no-blocks, zero-rows}
-use Rattle.jpeg_decoder.proofs.McuRows.{scans-by-rows}
-use Rattle.jpeg_decoder.proofs.PlaneStrips.{plane-strips}
+use Rattle.jpeg_streams.proofs.Apart.{zeros-sized}
+use Rattle.jpeg_streams.proofs.Mcus.{frame-scans, on-on}
+use Rattle.jpeg_streams.proofs.McuRows.{AreRows, mcus-any, rows-kept, counted-where, joined-rows, no-blocks, zero-rows}
+use Rattle.jpeg_streams.proofs.McuRows.{scans-by-rows}
+use Rattle.jpeg_streams.proofs.PlaneStrips.{plane-strips}
 
 -- ---- rows of blocks after rows of blocks
 

@@ -2,7 +2,7 @@
 use Rattle.std.proofs.Common.{◌≡◌, ◌^◌, ℕ, List, length, Option, true, false, refl}
 use Rattle.std.proofs.lemmas.Bool.{lt-ltb}
 use Rattle.jpeg_bits.specs.Stream.{stream_of}
-use Rattle.jpeg_decoder.specs.Output.{Tells}
+use Rattle.jpeg_streams.specs.Output.{Tells}
 
 -- its bytes are known
 pub bytes_are_known : (remaining : Option (List ℕ)) (bytes : List ℕ) → Tells remaining bytes

@@ -6,21 +6,21 @@ use Rattle.jpeg_bits.specs.Reading.{Outcome, Fault, Answers, Names}
 use Rattle.jpeg_bits.specs.Stream.{Stream}
 use Rattle.jpeg_bits.specs.declared.error.Error.{Error}
 use Rattle.jpeg_bits.specs.declared.error.Error.TheVariants as errors
-use Rattle.jpeg_decoder.specs.ArrayPictures.{picture_of_array, Takes}
-use Rattle.jpeg_decoder.specs.DecodedImages.{AtLeast, DecodesImages, FailsOutside, FullSize, Gives, HasLeft, Size}
-use Rattle.jpeg_decoder.specs.DecodedImages.{at_size}
-use Rattle.jpeg_decoder.specs.Levels.{Is8Bit, Levels}
-use Rattle.jpeg_decoder.specs.States.{Decoding, Failed, Finished, Fresh, HeaderRead, IsReading, Stage, ahead}
-use Rattle.jpeg_decoder.specs.Stream.{Found, Told, header_at, meaning, nothing_found, rest_at, segments_at}
-use Rattle.jpeg_decoder.specs.Stream.{sized_meaning, start_at, told_of}
-use Rattle.jpeg_decoder.specs.WrittenImages.{WritesImage}
-use Rattle.jpeg_decoder.specs.WrittenScans.{Coefficients}
-use Rattle.jpeg_decoder.specs.declared.state.Settings.{Settings}
-use Rattle.jpeg_decoder.proofs.AcceptedImages.{image-accepted}
-use Rattle.jpeg_decoder.proofs.AcceptedTurns.{then-ok}
+use Rattle.jpeg_streams.specs.ArrayPictures.{picture_of_array, Takes}
+use Rattle.jpeg_streams.specs.DecodedImages.{AtLeast, DecodesImages, FailsOutside, FullSize, Gives, HasLeft, Size}
+use Rattle.jpeg_streams.specs.DecodedImages.{at_size}
+use Rattle.jpeg_streams.specs.Levels.{Is8Bit, Levels}
+use Rattle.jpeg_streams.specs.States.{Decoding, Failed, Finished, Fresh, HeaderRead, IsReading, Stage, ahead}
+use Rattle.jpeg_streams.specs.Stream.{Found, Told, header_at, meaning, nothing_found, rest_at, segments_at}
+use Rattle.jpeg_streams.specs.Stream.{sized_meaning, start_at, told_of}
+use Rattle.jpeg_streams.specs.WrittenImages.{WritesImage}
+use Rattle.jpeg_streams.specs.WrittenScans.{Coefficients}
+use Rattle.jpeg_streams.specs.declared.settings.Settings.{Settings}
+use Rattle.jpeg_streams.proofs.AcceptedImages.{image-accepted}
+use Rattle.jpeg_streams.proofs.AcceptedTurns.{then-ok}
 use Rattle.jpeg_decoder.proofs.Headers.{bind-ok, header-rest}
-use Rattle.jpeg_decoder.proofs.SizedStreams.{sized-taken}
-use Rattle.jpeg_decoder.proofs.WrittenPictures.{taken-means}
+use Rattle.jpeg_streams.proofs.SizedStreams.{sized-taken}
+use Rattle.jpeg_streams.proofs.WrittenPictures.{taken-means}
 
 -- ---- what is left
 

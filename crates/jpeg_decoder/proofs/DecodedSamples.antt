@@ -3,12 +3,12 @@ use Rattle.std.proofs.Common.{◌≡◌, ℕ, List, ◌++◌, Result, Ok, refl}
 use Rattle.jpeg_bits.specs.Reading.{Answers}
 use Rattle.jpeg_bits.specs.declared.error.Error.{Error}
 use Rattle.jpeg_segments.specs.Frame.{Frame}
-use Rattle.jpeg_decoder.specs.DecodedImages.{AtLeast, FullSize, Size}
-use Rattle.jpeg_decoder.specs.DecodedSamples.{DecodesSamples}
-use Rattle.jpeg_decoder.specs.States.{Decoding, IsReading, ahead}
-use Rattle.jpeg_decoder.specs.Stream.{Found, told_of}
-use Rattle.jpeg_decoder.specs.WrittenLossless.{IsWithin, Samples, WritesSamples, picture_of_samples}
-use Rattle.jpeg_decoder.specs.declared.state.Settings.{Settings}
+use Rattle.jpeg_streams.specs.DecodedImages.{AtLeast, FullSize, Size}
+use Rattle.jpeg_streams.specs.DecodedSamples.{DecodesSamples}
+use Rattle.jpeg_streams.specs.States.{Decoding, IsReading, ahead}
+use Rattle.jpeg_streams.specs.Stream.{Found, told_of}
+use Rattle.jpeg_streams.specs.WrittenLossless.{IsWithin, Samples, WritesSamples, picture_of_samples}
+use Rattle.jpeg_streams.specs.declared.settings.Settings.{Settings}
 use Rattle.jpeg_decoder.proofs.DecodedImages.{gives, left-means, left-reading, means_at}
 use Rattle.jpeg_decoder.proofs.LosslessPixels.{lossless-means, lossless-sized}
 

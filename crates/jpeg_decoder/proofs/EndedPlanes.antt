@@ -19,14 +19,14 @@ use Rattle.jpeg_segments.specs.Frame.{Frame, Component}
 use Rattle.jpeg_segments.specs.Scales.{component_at, frame_at, is_scale}
 use Rattle.jpeg_pixels.specs.Pictures.{AreWhole}
 use Rattle.jpeg_pixels.specs.Scaled.{IsScale}
-use Rattle.jpeg_decoder.specs.EndPlanes.{AreBlocksOf, blocks_if, is_held, plane_or}
-use Rattle.jpeg_decoder.specs.InTurn.{AreArrays}
+use Rattle.jpeg_streams.specs.EndPlanes.{AreBlocksOf, blocks_if, is_held, plane_or}
+use Rattle.jpeg_streams.specs.InTurn.{AreArrays}
 use Rattle.jpeg_decoder.specs.Scanning.{arrays_in, blocks_in}
-use Rattle.jpeg_decoder.specs.Scans.{Arrays, zero_arrays}
-use Rattle.jpeg_decoder.specs.Sound.{ArePlanes, IsDecodedFrame, IsPlaneOf, IsSound}
-use Rattle.jpeg_decoder.proofs.Soundness.{count-few, decoded-count}
-use Rattle.jpeg_decoder.specs.Needed.{needed}
-use Rattle.jpeg_decoder.specs.Stream.{Found, arrays_before, plane_at_end, plane_by, planes_from}
+use Rattle.jpeg_streams.specs.Scans.{Arrays, zero_arrays}
+use Rattle.jpeg_streams.specs.Sound.{ArePlanes, IsDecodedFrame, IsPlaneOf, IsSound}
+use Rattle.jpeg_streams.proofs.Soundness.{count-few, decoded-count}
+use Rattle.jpeg_streams.specs.Needed.{needed}
+use Rattle.jpeg_streams.specs.Stream.{Found, arrays_before, plane_at_end, plane_by, planes_from}
 
 -- ---- what is left after some places
 

@@ -6,17 +6,17 @@ use Rattle.std.proofs.Math.Nat.{mul-le-mul_right}
 use Rattle.std.specs.List.{AllByRecursion, range_with_len, flat_map}
 use Rattle.jpeg_segments.specs.Frame.{Frame, Component}
 use Rattle.jpeg_segments.specs.FrameView.{component_in}
-use Rattle.jpeg_decoder.specs.declared.grids.Grid.{Grid}
+use Rattle.jpeg_streams.specs.declared.grids.Grid.{Grid}
 use Rattle.jpeg_bits.specs.Passes.{Pass}
-use Rattle.jpeg_decoder.specs.Scans.{arrays_at}
-use Rattle.jpeg_decoder.proofs.Mcus.{frame-scans}
+use Rattle.jpeg_streams.specs.Scans.{arrays_at}
+use Rattle.jpeg_streams.proofs.Mcus.{frame-scans}
 use Rattle.jpeg_bits.specs.BlockView.{to_block}
-use Rattle.jpeg_decoder.specs.Order.{Spot, grid_of, own_spots, spots_of, mcu_size}
-use Rattle.jpeg_decoder.specs.InTurn.{Fits, AreArrays, mcus_of, scan_from}
+use Rattle.jpeg_streams.specs.Order.{Spot, grid_of, own_spots, spots_of, mcu_size}
+use Rattle.jpeg_streams.specs.InTurn.{Fits, AreArrays, mcus_of, scan_from}
 use Rattle.jpeg_decoder.specs.declared.codings.Coded.{Coded}
 use Rattle.jpeg_decoder.specs.Scanning.{vias_in, components_in, arrays_in, sizes_of, wide_in, across_in, down_in}
 use Rattle.jpeg_decoder.specs.Scanning.{HoldsMcu, row_in, rows_in, own_rows}
-use Rattle.jpeg_decoder.specs.McuRows.{row_mcus}
+use Rattle.jpeg_streams.specs.McuRows.{row_mcus}
 use Rattle.jpeg_decoder.proofs.HeldBlocks.{Held, sizes-long}
 
 -- ---- the MCUs

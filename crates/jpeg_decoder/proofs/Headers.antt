@@ -12,11 +12,11 @@ use Rattle.jpeg_segments.specs.Frame.{Frame, sof_at}
 use Rattle.jpeg_segments.specs.Quantization.{dqt_at}
 use Rattle.jpeg_segments.specs.HuffmanTables.{dht_at}
 use Rattle.jpeg_segments.specs.Application.{app_at, dri_at}
-use Rattle.jpeg_decoder.specs.declared.state.Before.TheVariants.{Elsewhere}
-use Rattle.jpeg_decoder.specs.Needed.{needed}
-use Rattle.jpeg_decoder.specs.Stream.{Found, Turn, onward, accepted, frame_segment, quantization_segment}
-use Rattle.jpeg_decoder.specs.Stream.{huffman_segment, restart_segment, application_segment, skipped_segment}
-use Rattle.jpeg_decoder.specs.Stream.{scan_segment, end_segment, segment_at, turn_at, segments_within, segments_at}
+use Rattle.jpeg_streams.specs.declared.before.Before.TheVariants.{Elsewhere}
+use Rattle.jpeg_streams.specs.Needed.{needed}
+use Rattle.jpeg_streams.specs.Stream.{Found, Turn, onward, accepted, frame_segment, quantization_segment}
+use Rattle.jpeg_streams.specs.Stream.{huffman_segment, restart_segment, application_segment, skipped_segment}
+use Rattle.jpeg_streams.specs.Stream.{scan_segment, end_segment, segment_at, turn_at, segments_within, segments_at}
 use Rattle.jpeg_decoder.proofs.Turns.{turn-takes, segments-refused, segments-next}
 
 -- ---- turns in front of a frame

@@ -9,9 +9,9 @@ use Rattle.jpeg_bits.specs.Reading.{Fault}
 use Rattle.jpeg_bits.specs.Entropy.{Text}
 use Rattle.jpeg_bits.specs.Readers.{Reads, gives, read_on}
 use Rattle.jpeg_bits.specs.Passes.{Pass, Via, Block, zero_block, block_from}
-use Rattle.jpeg_decoder.specs.Order.{Spot}
-use Rattle.jpeg_decoder.specs.Scans.{Arrays, block_at, put_block, via_at}
-use Rattle.jpeg_decoder.specs.InTurn.{Reached, turn_from}
+use Rattle.jpeg_streams.specs.Order.{Spot}
+use Rattle.jpeg_streams.specs.Scans.{Arrays, block_at, put_block, via_at}
+use Rattle.jpeg_streams.specs.InTurn.{Reached, turn_from}
 use Rattle.jpeg_decoder.specs.declared.codings.Coded.{Coded}
 use Rattle.jpeg_bits.specs.BlockView.{to_block}
 use Rattle.jpeg_decoder.specs.Scanning.{vias_in, blocks_in, arrays_in, sizes_of}

@@ -6,9 +6,9 @@ use Rattle.jpeg_bits.specs.Reading.{Fault}
 use Rattle.jpeg_bits.specs.Entropy.{Text}
 use Rattle.jpeg_bits.specs.Readers.{Reads, gives, read_on}
 use Rattle.jpeg_bits.specs.Passes.{Pass, Via}
-use Rattle.jpeg_decoder.specs.InTurn.{Reached, turn_from, turns_from, at_start, restart_from, Counted, begun_from}
-use Rattle.jpeg_decoder.proofs.Mcus.{turns-append}
-use Rattle.jpeg_decoder.specs.Layout.{line_of, part_of}
+use Rattle.jpeg_streams.specs.InTurn.{Reached, turn_from, turns_from, at_start, restart_from, Counted, begun_from}
+use Rattle.jpeg_streams.proofs.Mcus.{turns-append}
+use Rattle.jpeg_streams.specs.Layout.{line_of, part_of}
 use Rattle.jpeg_decoder.specs.Scanning.{AreWithin}
 use Rattle.jpeg_decoder.proofs.HeldBlocks.{spot}
 

@@ -10,12 +10,12 @@ use Rattle.jpeg_segments.specs.Frame.{Frame}
 use Rattle.jpeg_lossless.specs.Pictures.{layer_by, line_bytes, pixel_bytes, picture_bytes, sample_at, sample_bytes}
 use Rattle.jpeg_lossless.specs.Places.{at_place}
 use Rattle.jpeg_lossless.specs.Written.{AreLines}
-use Rattle.jpeg_decoder.specs.declared.state.Settings.{Settings}
-use Rattle.jpeg_decoder.specs.Stream.{Found, meaning, nothing_found, sized_meaning, told_of}
-use Rattle.jpeg_decoder.specs.WrittenLossless.{IsIn, IsWithin, Samples, Writes, WritesSamples, closed, line_of}
-use Rattle.jpeg_decoder.specs.WrittenLossless.{picture_of_samples, pixel_of, said_after_scan, scan, segment}
-use Rattle.jpeg_decoder.specs.SaidSegments.{found_after}
-use Rattle.jpeg_decoder.proofs.PlainFrames.{picture-plain}
+use Rattle.jpeg_streams.specs.declared.settings.Settings.{Settings}
+use Rattle.jpeg_streams.specs.Stream.{Found, meaning, nothing_found, sized_meaning, told_of}
+use Rattle.jpeg_streams.specs.WrittenLossless.{IsIn, IsWithin, Samples, Writes, WritesSamples, closed, line_of}
+use Rattle.jpeg_streams.specs.WrittenLossless.{picture_of_samples, pixel_of, said_after_scan, scan, segment}
+use Rattle.jpeg_streams.specs.SaidSegments.{found_after}
+use Rattle.jpeg_streams.proofs.PlainFrames.{picture-plain}
 use Rattle.jpeg_decoder.proofs.WrittenLosslessStreams.{all-in, drawn, final-framed, samples-meant, samples-sized}
 use Rattle.jpeg_decoder.proofs.WrittenLosslessStreams.{some-same}
 use Rattle.jpeg_decoder.proofs.WrittenSamples.{HasSize, places_of, planes_for, scan-sized}

@@ -24,23 +24,23 @@ use Rattle.jpeg_lossless.specs.declared.scan.Coding.{Coding}
 use Rattle.jpeg_lossless.specs.Pictures.{AreWhole, layer_by, picture_bytes}
 use Rattle.jpeg_lossless.specs.Prediction.{start_of}
 use Rattle.jpeg_lossless.specs.Scans.{Way, scan_at}
-use Rattle.jpeg_decoder.specs.InTurn.{AreArrays}
-use Rattle.jpeg_decoder.specs.LosslessScans.{LosslessCoding, lossless_coding, lossless_codings, mcus_down}
-use Rattle.jpeg_decoder.specs.LosslessScans.{one_by_one, samples_from, tables_in, way_of, with_samples}
-use Rattle.jpeg_decoder.specs.LosslessScans.{without_factors}
-use Rattle.jpeg_decoder.specs.Needed.{first_of, needed}
+use Rattle.jpeg_streams.specs.InTurn.{AreArrays}
+use Rattle.jpeg_streams.specs.LosslessScans.{LosslessCoding, lossless_coding, lossless_codings, mcus_down}
+use Rattle.jpeg_streams.specs.LosslessScans.{one_by_one, samples_from, tables_in, way_of, with_samples}
+use Rattle.jpeg_streams.specs.LosslessScans.{without_factors}
+use Rattle.jpeg_streams.specs.Needed.{first_of, needed}
 use Rattle.jpeg_decoder.specs.Scanning.{arrays_in}
-use Rattle.jpeg_decoder.specs.Scans.{Arrays, zero_arrays}
+use Rattle.jpeg_streams.specs.Scans.{Arrays, zero_arrays}
 use Rattle.jpeg_decoder.specs.declared.decoded.Decoded.{Decoded}
-use Rattle.jpeg_decoder.specs.Sound.{IsDecodedFrame, IsSampled, IsSound}
+use Rattle.jpeg_streams.specs.Sound.{IsDecodedFrame, IsSampled, IsSound}
 use Rattle.jpeg_decoder.specs.Steps.{IsRefusal, after_all, samples_read, with_decoded}
-use Rattle.jpeg_decoder.specs.Stream.{Found, arrays_before, after_samples, samples_picture, scan_samples}
-use Rattle.jpeg_decoder.proofs.AcceptedTurns.{bind-ok, ok-same, then-ok}
-use Rattle.jpeg_decoder.proofs.PlainFrames.{codings-plain, down-plain, picture-plain, way-plain}
+use Rattle.jpeg_streams.specs.Stream.{Found, arrays_before, after_samples, samples_picture, scan_samples}
+use Rattle.jpeg_streams.proofs.AcceptedTurns.{bind-ok, ok-same, then-ok}
+use Rattle.jpeg_streams.proofs.PlainFrames.{codings-plain, down-plain, picture-plain, way-plain}
 use Rattle.jpeg_decoder.specs.Seen.{planes_in}
 use Rattle.jpeg_decoder.proofs.PutLoops.{drop-set, seen-at}
 use Rattle.jpeg_decoder.proofs.ScanReads.{HasRead, last-step}
-use Rattle.jpeg_decoder.proofs.Soundness.{count-few, decoded-count}
+use Rattle.jpeg_streams.proofs.Soundness.{count-few, decoded-count}
 use Rattle.jpeg_bits.specs.declared.error.Error.TheVariants.{OutOfMemory}
 
 -- ---- tables, slot after slot

@@ -7,11 +7,11 @@ use Rattle.jpeg_bits.specs.Entropy.{Text}
 use Rattle.jpeg_bits.specs.Readers.{Reads, gives, read_on}
 use Rattle.jpeg_segments.specs.FrameView.{component_in}
 use Rattle.jpeg_bits.specs.Passes.{Pass, Via}
-use Rattle.jpeg_decoder.specs.Order.{Spot, part_spot, part_spots, mcu_spots}
-use Rattle.jpeg_decoder.specs.InTurn.{Reached, turns_from, Counted, begun_from, mcu_from}
-use Rattle.jpeg_decoder.proofs.Mcus.{turns-append}
+use Rattle.jpeg_streams.specs.Order.{Spot, part_spot, part_spots, mcu_spots}
+use Rattle.jpeg_streams.specs.InTurn.{Reached, turns_from, Counted, begun_from, mcu_from}
+use Rattle.jpeg_streams.proofs.Mcus.{turns-append}
 use Rattle.jpeg_decoder.specs.declared.codings.Coded.{Coded}
-use Rattle.jpeg_decoder.specs.Layout.{line_of, part_of}
+use Rattle.jpeg_streams.specs.Layout.{line_of, part_of}
 use Rattle.jpeg_decoder.specs.Scanning.{components_in, wide_in, across_in, down_in, part_in, first_in}
 use Rattle.jpeg_decoder.proofs.HeldBlocks.{spot}
 

@@ -6,9 +6,9 @@ use Rattle.jpeg_bits.specs.Marker.{next_marker}
 use Rattle.jpeg_bits.specs.declared.marker.Marker.{Marker}
 use Rattle.jpeg_bits.specs.declared.marker.Marker.TheVariants.{SOF, JPG, DHT, DAC, RST, SOI, EOI, SOS, DQT, DNL, DRI}
 use Rattle.jpeg_bits.specs.declared.marker.Marker.TheVariants.{DHP, EXP, APP, JPGn, COM, TEM, RES}
-use Rattle.jpeg_decoder.specs.Stream.{after_restarts}
+use Rattle.jpeg_streams.specs.Stream.{after_restarts}
 use Rattle.jpeg_decoder.specs.Steps.{is_restart, after_all}
-use Rattle.jpeg_decoder.proofs.Shorter.{LeavesBelow, below-at, marker-below}
+use Rattle.jpeg_streams.proofs.Shorter.{LeavesBelow, below-at, marker-below}
 
 pub bind-same : {A B : Type 0} (r : Result A Fault) (f g : A → Result B Fault) → ((x : A) → r ≡ Ok x → f x ≡ g x)
     → r >>= f ≡ r >>= g

@@ -20,13 +20,13 @@ use Rattle.jpeg_pixels.specs.declared.upsampler.ColorConvert.{ColorConvert}
 use Rattle.jpeg_pixels.specs.declared.upsampler.ColorConvert.TheVariants as converts
 use Rattle.jpeg_pixels.specs.Colour.{conversion_of}
 use Rattle.jpeg_pixels.specs.Pictures.{Source, AllCover, AreWhole, HasSources, image_of, picture_bytes, sources_of}
-use Rattle.jpeg_decoder.specs.ColourChoice.{identifiers_of, transform_of}
-use Rattle.jpeg_decoder.specs.Sound.{IsDecodedFrame}
+use Rattle.jpeg_streams.specs.ColourChoice.{identifiers_of, transform_of}
+use Rattle.jpeg_streams.specs.Sound.{IsDecodedFrame}
 use Rattle.jpeg_decoder.specs.Steps.{IsRefusal, cropped_to}
-use Rattle.jpeg_decoder.specs.Stream.{Metadata, is_count, picture_by}
-use Rattle.jpeg_decoder.specs.declared.state.Settings.{Settings}
+use Rattle.jpeg_streams.specs.Stream.{Metadata, is_count, picture_by}
+use Rattle.jpeg_streams.specs.declared.settings.Settings.{Settings}
 use Rattle.jpeg_decoder.proofs.EndedPlanes.{decoded-scales, element, mapped-or, mapped-within}
-use Rattle.jpeg_decoder.proofs.Soundness.{decoded-count, decoded-sized, decoded-sources}
+use Rattle.jpeg_streams.proofs.Soundness.{decoded-count, decoded-sized, decoded-sources}
 
 -- ---- counts
 

@@ -14,10 +14,10 @@ use Rattle.jpeg_segments.specs.HuffmanTables.{Tables}
 use Rattle.jpeg_segments.specs.ScanHeader.{Scan, IsRising}
 use Rattle.jpeg_pixels.specs.Scaled.{IsScale}
 use Rattle.jpeg_decoder.specs.declared.codings.Coded.{Coded}
-use Rattle.jpeg_decoder.specs.InTurn.{AreApart, IsIn}
+use Rattle.jpeg_streams.specs.InTurn.{AreApart, IsIn}
 use Rattle.jpeg_decoder.specs.Scanning.{HasCodedScale, components_in}
-use Rattle.jpeg_decoder.specs.Needed.{first_of, needed}
-use Rattle.jpeg_decoder.specs.Stream.{Found, Coding, needed_if, coding_of, codings_from}
+use Rattle.jpeg_streams.specs.Needed.{first_of, needed}
+use Rattle.jpeg_streams.specs.Stream.{Found, Coding, needed_if, coding_of, codings_from}
 use Rattle.jpeg_decoder.specs.Steps.{coding_in, codings_in_force}
 use Rattle.jpeg_decoder.proofs.TakenBlocks.{places_of}
 

@@ -6,13 +6,13 @@ use Rattle.std.specs.declared.alloc.Global.{Global}
 use Rattle.std.specs.declared.vec.Vec.{Vec}
 use Rattle.jpeg_bits.specs.Passes.{Pass, Block}
 use Rattle.jpeg_decoder.specs.declared.codings.Coded.{Coded}
-use Rattle.jpeg_decoder.specs.Scans.{Arrays}
+use Rattle.jpeg_streams.specs.Scans.{Arrays}
 use Rattle.jpeg_decoder.specs.Scanning.{arrays_in, blocks_in, components_in}
 use Rattle.jpeg_decoder.specs.Steps.{coding_in, with_its_plane, with_planes}
-use Rattle.jpeg_decoder.specs.Stream.{Found, Coding, plane_by, put_arrays, with_arrays, with_blocks, with_plane}
+use Rattle.jpeg_streams.specs.Stream.{Found, Coding, plane_by, put_arrays, with_arrays, with_blocks, with_plane}
 use Rattle.jpeg_decoder.specs.Steps.{decided_planes, is_wanted, marks_after, with_decoded}
 use Rattle.jpeg_decoder.specs.declared.decoded.Decoded.{Decoded}
-use Rattle.jpeg_decoder.specs.InTurn.{AreArrays}
+use Rattle.jpeg_streams.specs.InTurn.{AreArrays}
 use Rattle.jpeg_decoder.specs.Seen.{planes_in}
 use Rattle.jpeg_bits.specs.BlockView.{to_block}
 use Rattle.std.specs.Prelude.{slice_set, slice_index_or, option_map}

@@ -17,18 +17,18 @@ use Rattle.jpeg_pixels.specs.Scaled.{IsScale}
 use Rattle.jpeg_decoder.specs.declared.codings.Coded.{Coded}
 use Rattle.jpeg_decoder.specs.declared.decoded.Decoded.{Decoded}
 use Rattle.jpeg_decoder.specs.declared.scans.Scan.{Scan}
-use Rattle.jpeg_decoder.specs.InTurn.{Fits}
+use Rattle.jpeg_streams.specs.InTurn.{Fits}
 use Rattle.jpeg_decoder.specs.Scanning.{HasAc, HasCodedScale, arrays_in, components_in}
 use Rattle.jpeg_decoder.specs.Seen.{planes_in}
-use Rattle.jpeg_decoder.specs.Sound.{IsDecodedFrame}
-use Rattle.jpeg_decoder.specs.Needed.{first_of}
-use Rattle.jpeg_decoder.specs.Stream.{Coding, Found, codings_from, coding_of, pass_of, tables_of}
+use Rattle.jpeg_streams.specs.Sound.{IsDecodedFrame}
+use Rattle.jpeg_streams.specs.Needed.{first_of}
+use Rattle.jpeg_streams.specs.Stream.{Coding, Found, codings_from, coding_of, pass_of, tables_of}
 use Rattle.jpeg_decoder.specs.Steps.{AreRising, HasPlace, IsCodingOf, IsDct, IsReadable, coding_in, codings_in_force}
 use Rattle.jpeg_decoder.specs.Steps.{with_decoded}
-use Rattle.jpeg_decoder.proofs.AcceptedTurns.{CodingFacts, codings-facts_from, codings-same_from, tables-same}
-use Rattle.jpeg_decoder.proofs.OwnSpots.{At}
-use Rattle.jpeg_decoder.proofs.Soundness.{count-few, decoded-count, decoded-fits}
-use Rattle.jpeg_decoder.proofs.WrittenFrameScans.{at-all}
+use Rattle.jpeg_streams.proofs.AcceptedTurns.{CodingFacts, codings-facts_from, codings-same_from, tables-same}
+use Rattle.jpeg_streams.proofs.OwnSpots.{At}
+use Rattle.jpeg_streams.proofs.Soundness.{count-few, decoded-count, decoded-fits}
+use Rattle.jpeg_streams.proofs.WrittenFrameScans.{at-all}
 
 -- What scans have given changes no table in force.
 pub codings-kept : (found : Found) (d : Decoded) (frame : Frame) (header : headers.Scan)

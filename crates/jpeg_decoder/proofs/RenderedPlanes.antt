@@ -10,10 +10,10 @@ use Rattle.jpeg_pixels.specs.Planes.{plane_of, strip_of}
 use Rattle.jpeg_pixels.specs.Zigzag.{coefficients_in_block_order, values_in_block_order}
 use Rattle.jpeg_pixels.proofs.PlaneRows.{plane-none}
 use Rattle.jpeg_segments.specs.Frame.{Component}
-use Rattle.jpeg_decoder.specs.Rasters.{ordered, in_raster}
-use Rattle.jpeg_decoder.specs.Stream.{plane_by}
+use Rattle.jpeg_streams.specs.Rasters.{ordered, in_raster}
+use Rattle.jpeg_streams.specs.Stream.{plane_by}
 use Rattle.jpeg_decoder.proofs.BlocksBefore.{ordered-is}
-use Rattle.jpeg_decoder.proofs.PlaneStrips.{plane-strips}
+use Rattle.jpeg_streams.proofs.PlaneStrips.{plane-strips}
 
 -- the plane of the first rows of some blocks
 abbrev pub rows_done : ℕ → List ℕ → ℕ → ℕ → List (List ℤ) → List ℕ

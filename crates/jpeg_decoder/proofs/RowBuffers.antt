@@ -6,14 +6,14 @@ use Rattle.std.specs.declared.alloc.Global.{Global}
 use Rattle.std.specs.declared.vec.Vec.{Vec}
 use Rattle.jpeg_bits.specs.BlockView.{to_block}
 use Rattle.jpeg_bits.specs.Passes.{Block, zero_block}
-use Rattle.jpeg_decoder.specs.Scans.{Arrays}
-use Rattle.jpeg_decoder.specs.Stream.{Coding}
+use Rattle.jpeg_streams.specs.Scans.{Arrays}
+use Rattle.jpeg_streams.specs.Stream.{Coding}
 use Rattle.jpeg_decoder.specs.Steps.{coding_in}
 use Rattle.jpeg_decoder.specs.Scanning.{arrays_in, blocks_in, sizes_of, down_in, wide_in}
 use Rattle.jpeg_decoder.specs.Strips.{planes_in, row_sizes, zeros_of, samples_of, with_strips}
 use Rattle.jpeg_decoder.specs.declared.codings.Coded.{Coded}
 use Rattle.jpeg_decoder.proofs.HeldBlocks.{Held, get-map, sizes-long, size-at}
-use Rattle.jpeg_decoder.proofs.InPlace.{patched, patched-next, patched-at, patched-all, patched-length}
+use Rattle.jpeg_streams.proofs.InPlace.{patched, patched-next, patched-at, patched-all, patched-length}
 use Rattle.jpeg_decoder.proofs.StripRows.{strips-at, strips-length}
 
 abbrev pub Plane : Type 0

@@ -8,7 +8,7 @@ use Rattle.jpeg_segments.specs.Frame.{Frame}
 use Rattle.jpeg_segments.specs.HuffmanTables.{Tables}
 use Rattle.jpeg_segments.specs.ScanHeader.{Scan}
 use Rattle.jpeg_decoder.specs.declared.codings.Coded.{Coded}
-use Rattle.jpeg_decoder.specs.Stream.{Found, Coding, pass_of, tables_of, coding_of, codings_from}
+use Rattle.jpeg_streams.specs.Stream.{Found, Coding, pass_of, tables_of, coding_of, codings_from}
 use Rattle.jpeg_decoder.specs.Steps.{coding_in, coding_in_slot, codings_in_force}
 
 -- codings after those in front

@@ -15,22 +15,22 @@ use Rattle.jpeg_bits.specs.BlockView.{to_block}
 use Rattle.jpeg_segments.specs.Frame.{Frame, Component}
 use Rattle.jpeg_decoder.specs.declared.codings.Coded.{Coded}
 use Rattle.jpeg_decoder.specs.declared.decoded.Decoded.{Decoded}
-use Rattle.jpeg_decoder.specs.InTurn.{AreApart, AreArrays, IsIn}
-use Rattle.jpeg_decoder.specs.Order.{spots_of, mcu_size}
-use Rattle.jpeg_decoder.specs.Scans.{Arrays, zero_arrays, arrays_at}
+use Rattle.jpeg_streams.specs.InTurn.{AreApart, AreArrays, IsIn}
+use Rattle.jpeg_streams.specs.Order.{spots_of, mcu_size}
+use Rattle.jpeg_streams.specs.Scans.{Arrays, zero_arrays, arrays_at}
 use Rattle.jpeg_decoder.specs.Scanning.{vias_in, arrays_in, blocks_in, sizes_of, components_in}
 use Rattle.jpeg_decoder.specs.Seen.{planes_in}
-use Rattle.jpeg_decoder.specs.Sound.{IsPlaneOf, ArePlanes}
+use Rattle.jpeg_streams.specs.Sound.{IsPlaneOf, ArePlanes}
 use Rattle.jpeg_decoder.specs.Steps.{blocks_at, coding_in, components_of, decided_planes, marks_after, scan_data}
 use Rattle.jpeg_decoder.specs.Steps.{with_decoded, with_its_plane, with_planes, IsCodingOf, AreRising}
-use Rattle.jpeg_decoder.specs.Stream.{Found, Coding, arrays_before, decided, held_after, is_progressive, plane_by}
-use Rattle.jpeg_decoder.specs.Stream.{put_arrays, vias_from, with_arrays, with_blocks}
+use Rattle.jpeg_streams.specs.Stream.{Found, Coding, arrays_before, decided, held_after, is_progressive, plane_by}
+use Rattle.jpeg_streams.specs.Stream.{put_arrays, vias_from, with_arrays, with_blocks}
 use Rattle.jpeg_decoder.specs.Strips.{planes_by, planes_at}
-use Rattle.jpeg_decoder.proofs.Apart.{At, zeros-sized}
+use Rattle.jpeg_streams.proofs.Apart.{At, zeros-sized}
 use Rattle.jpeg_decoder.proofs.BlocksBefore.{plane_by-length}
 use Rattle.jpeg_decoder.proofs.PlacedCodings.{coded-components}
 use Rattle.jpeg_decoder.proofs.PutLoops.{Held, blocks-are}
-use Rattle.jpeg_decoder.proofs.ScanArrays.{IsOf, first-at, zeros-of}
+use Rattle.jpeg_streams.proofs.ScanArrays.{IsOf, first-at, zeros-of}
 
 -- ---- the scan's components
 

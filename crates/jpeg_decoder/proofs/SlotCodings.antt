@@ -22,12 +22,12 @@ use Rattle.jpeg_segments.specs.ScanHeader.{Scan}
 use Rattle.jpeg_segments.specs.HuffmanTables.{Tables, all_ac, is_ac_or_none}
 use Rattle.jpeg_decoder.specs.declared.codings.Spare.{Spare}
 use Rattle.jpeg_decoder.specs.declared.state.State.{State}
-use Rattle.jpeg_decoder.specs.Scans.{no_table}
-use Rattle.jpeg_decoder.specs.Needed.{first_of, needed}
-use Rattle.jpeg_decoder.specs.Stream.{Found, needed_if, pass_of, tables_of, coding_of}
+use Rattle.jpeg_streams.specs.Scans.{no_table}
+use Rattle.jpeg_streams.specs.Needed.{first_of, needed}
+use Rattle.jpeg_streams.specs.Stream.{Found, needed_if, pass_of, tables_of, coding_of}
 use Rattle.jpeg_decoder.specs.Seen.{found_in}
 use Rattle.jpeg_decoder.specs.Steps.{IsRefusal, IsSpareOf, coding_in_slot, default_ac, in_force, or_spare, table_if}
-use Rattle.jpeg_decoder.proofs.Updates.{both}
+use Rattle.jpeg_streams.proofs.Updates.{both}
 
 -- ---- the tables in force
 

@@ -10,9 +10,9 @@ use Rattle.jpeg_bits.specs.Passes.{zero_block}
 use Rattle.jpeg_pixels.specs.Planes.{plane_of, strip_of, zero_coefficients}
 use Rattle.jpeg_pixels.specs.Zigzag.{coefficients_in_block_order, zigzag_places, values_in_block_order}
 use Rattle.jpeg_pixels.proofs.PlaneRows.{plane-more, plane-same, plane-none}
-use Rattle.jpeg_decoder.specs.Scans.{Arrays}
-use Rattle.jpeg_decoder.specs.Rasters.{ordered, in_raster}
-use Rattle.jpeg_decoder.specs.Stream.{Coding}
+use Rattle.jpeg_streams.specs.Scans.{Arrays}
+use Rattle.jpeg_streams.specs.Rasters.{ordered, in_raster}
+use Rattle.jpeg_streams.specs.Stream.{Coding}
 use Rattle.jpeg_decoder.specs.Strips.{samples_of, with_strips, block_in}
 use Rattle.jpeg_decoder.proofs.HeldBlocks.{get-map}
 

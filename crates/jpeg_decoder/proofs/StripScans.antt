@@ -12,11 +12,11 @@ use Rattle.jpeg_bits.specs.Passes.{Pass, Via}
 use Rattle.jpeg_bits.proofs.Loops.{Names-through, MayFail-from}
 use Rattle.jpeg_segments.specs.Frame.{Frame, Component}
 use Rattle.jpeg_decoder.specs.declared.codings.Coded.{Coded}
-use Rattle.jpeg_decoder.specs.InTurn.{Counted, Fits, counted_at_start}
-use Rattle.jpeg_decoder.specs.McuRows.{rows_of}
+use Rattle.jpeg_streams.specs.InTurn.{Counted, Fits, counted_at_start}
+use Rattle.jpeg_streams.specs.McuRows.{rows_of}
 use Rattle.jpeg_decoder.specs.Scanning.{components_in}
 use Rattle.jpeg_decoder.specs.Steps.{coding_in}
-use Rattle.jpeg_decoder.specs.Stream.{Coding}
+use Rattle.jpeg_streams.specs.Stream.{Coding}
 use Rattle.jpeg_decoder.specs.Strips.{components_of, strips_from, planes_at, planes_by_rows}
 use Rattle.jpeg_decoder.proofs.ByStrips.{planes-by-rows}
 use Rattle.jpeg_decoder.proofs.StripSteps.{components-are}

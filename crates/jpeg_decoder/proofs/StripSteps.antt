@@ -12,16 +12,16 @@ use Rattle.jpeg_bits.specs.Readers.{Reads, read_on}
 use Rattle.jpeg_bits.specs.Passes.{Pass, Via, Block, zero_block}
 use Rattle.jpeg_segments.specs.Frame.{Frame, Component}
 use Rattle.jpeg_segments.specs.FrameView.{component_in}
-use Rattle.jpeg_decoder.specs.declared.grids.Grid.{Grid}
+use Rattle.jpeg_streams.specs.declared.grids.Grid.{Grid}
 use Rattle.jpeg_decoder.specs.declared.codings.Coded.{Coded}
-use Rattle.jpeg_decoder.specs.Order.{Spot, grid_of}
-use Rattle.jpeg_decoder.specs.Scans.{Arrays}
-use Rattle.jpeg_decoder.specs.InTurn.{Counted, Fits, mcus_from}
-use Rattle.jpeg_decoder.specs.McuRows.{zero_rows, rows_of, row_mcus, own_row_mcus, with_arrays}
+use Rattle.jpeg_streams.specs.Order.{Spot, grid_of}
+use Rattle.jpeg_streams.specs.Scans.{Arrays}
+use Rattle.jpeg_streams.specs.InTurn.{Counted, Fits, mcus_from}
+use Rattle.jpeg_streams.specs.McuRows.{zero_rows, rows_of, row_mcus, own_row_mcus, with_arrays}
 use Rattle.jpeg_decoder.specs.Scanning.{components_in, arrays_in, blocks_in, sizes_of, wide_in, across_in, down_in}
 use Rattle.jpeg_decoder.specs.Scanning.{HoldsMcu, row_in, own_rows}
 use Rattle.jpeg_decoder.specs.Steps.{coding_in}
-use Rattle.jpeg_decoder.specs.Stream.{Coding}
+use Rattle.jpeg_streams.specs.Stream.{Coding}
 use Rattle.jpeg_decoder.specs.Strips.{components_of, row_at, row_sizes, samples_in, samples_of, zeros_of, with_strips}
 use Rattle.jpeg_decoder.specs.Strips.{strips_from}
 use Rattle.jpeg_decoder.proofs.FrameScans.{place-within, fits-at, row-within}

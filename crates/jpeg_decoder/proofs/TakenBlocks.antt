@@ -8,11 +8,11 @@ use Rattle.std.proofs.lemmas.List.{get_or-set_other, map-append, map-set, set_co
 use Rattle.jpeg_bits.specs.Passes.{Block}
 use Rattle.jpeg_bits.specs.BlockView.{to_block}
 use Rattle.jpeg_decoder.specs.declared.codings.Coded.{Coded}
-use Rattle.jpeg_decoder.specs.InTurn.{AreApart, IsIn}
-use Rattle.jpeg_decoder.specs.Scans.{Arrays}
+use Rattle.jpeg_streams.specs.InTurn.{AreApart, IsIn}
+use Rattle.jpeg_streams.specs.Scans.{Arrays}
 use Rattle.jpeg_decoder.specs.Scanning.{arrays_in, blocks_in}
 use Rattle.jpeg_decoder.specs.Steps.{blocks_at, coding_in, without_blocks}
-use Rattle.jpeg_decoder.specs.Stream.{Coding, put_arrays}
+use Rattle.jpeg_streams.specs.Stream.{Coding, put_arrays}
 
 abbrev pub places_of : List Coding → List ℕ
 places_of codings = map (λ c. c.place) codings

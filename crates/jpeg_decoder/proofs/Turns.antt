@@ -12,23 +12,23 @@ use Rattle.jpeg_segments.specs.Frame.{Frame, sof_at}
 use Rattle.jpeg_segments.specs.ScanHeader.{Scan, sos_at}
 use Rattle.jpeg_segments.specs.declared.parser.CodingProcess.{CodingProcess}
 use Rattle.jpeg_segments.specs.declared.parser.CodingProcess.TheVariants.{DctSequential, DctProgressive, Lossless}
-use Rattle.jpeg_decoder.specs.LosslessScans.{lossless_codings, without_factors}
+use Rattle.jpeg_streams.specs.LosslessScans.{lossless_codings, without_factors}
 use Rattle.jpeg_segments.specs.Quantization.{dqt_at}
 use Rattle.jpeg_segments.specs.HuffmanTables.{dht_at}
 use Rattle.jpeg_segments.specs.Application.{app_at, dri_at}
-use Rattle.jpeg_decoder.specs.declared.state.Before.{Before}
-use Rattle.jpeg_decoder.specs.declared.state.Before.TheVariants.{FirstScan, LaterScan, Elsewhere}
-use Rattle.jpeg_decoder.specs.Needed.{needed}
-use Rattle.jpeg_decoder.specs.Stream.{Found, Turn, onward, accepted, blocks_scan, codings_of, lossless_scan}
-use Rattle.jpeg_decoder.specs.Stream.{scan_arrays, scan_by, scan_samples, after_restarts, frame_segment}
-use Rattle.jpeg_decoder.specs.Stream.{quantization_segment, huffman_segment, restart_segment, application_segment}
-use Rattle.jpeg_decoder.specs.Stream.{skipped_segment, scan_segment, end_segment, stray_restart, line_count, segment_at}
-use Rattle.jpeg_decoder.specs.Stream.{turn_at, segments_within, segments_at, told_within, told_at}
+use Rattle.jpeg_streams.specs.declared.before.Before.{Before}
+use Rattle.jpeg_streams.specs.declared.before.Before.TheVariants.{FirstScan, LaterScan, Elsewhere}
+use Rattle.jpeg_streams.specs.Needed.{needed}
+use Rattle.jpeg_streams.specs.Stream.{Found, Turn, onward, accepted, blocks_scan, codings_of, lossless_scan}
+use Rattle.jpeg_streams.specs.Stream.{scan_arrays, scan_by, scan_samples, after_restarts, frame_segment}
+use Rattle.jpeg_streams.specs.Stream.{quantization_segment, huffman_segment, restart_segment, application_segment}
+use Rattle.jpeg_streams.specs.Stream.{skipped_segment, scan_segment, end_segment, stray_restart, line_count, segment_at}
+use Rattle.jpeg_streams.specs.Stream.{turn_at, segments_within, segments_at, told_within, told_at}
 use Rattle.jpeg_decoder.specs.Steps.{is_restart}
-use Rattle.jpeg_decoder.proofs.Shorter.{LeavesBelow, length-below, skip-below, marker-below}
-use Rattle.jpeg_decoder.proofs.ShorterSegments.{sof-below, dqt-below, dht-below, sos-below, app-below, dri-below}
-use Rattle.jpeg_decoder.proofs.ShorterScans.{arrays-below}
-use Rattle.jpeg_decoder.proofs.ShorterSamples.{samples-below}
+use Rattle.jpeg_streams.proofs.Shorter.{LeavesBelow, length-below, skip-below, marker-below}
+use Rattle.jpeg_streams.proofs.ShorterSegments.{sof-below, dqt-below, dht-below, sos-below, app-below, dri-below}
+use Rattle.jpeg_streams.proofs.ShorterScans.{arrays-below}
+use Rattle.jpeg_streams.proofs.ShorterSamples.{samples-below}
 use Rattle.jpeg_decoder.proofs.PassedRestarts.{Passes, after-passes, bind-same}
 
 -- ---- what a turn takes

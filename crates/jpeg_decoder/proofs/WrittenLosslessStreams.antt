@@ -27,25 +27,25 @@ use Rattle.jpeg_segments.proofs.HeaderRules.{header-rules}
 use Rattle.jpeg_segments.specs.ScanHeader.{scan_of}
 use Rattle.std.proofs.lemmas.List.Elements.{recursion_from_All}
 use Rattle.jpeg_lossless.specs.Written.{marker}
-use Rattle.jpeg_decoder.specs.declared.state.Before.{Before}
-use Rattle.jpeg_decoder.specs.declared.state.Before.TheVariants.{Elsewhere}
-use Rattle.jpeg_decoder.specs.declared.state.Settings.{Settings}
-use Rattle.jpeg_decoder.specs.LosslessScans.{lossless_picture, samples_from, with_samples, without_factors}
-use Rattle.jpeg_decoder.specs.Needed.{needed}
-use Rattle.jpeg_decoder.specs.SaidSegments.{found_after}
-use Rattle.jpeg_decoder.specs.Stream.{Found, Turn, onward, nothing_found, accepted, frame_segment}
-use Rattle.jpeg_decoder.specs.Stream.{quantization_segment, huffman_segment, restart_segment, application_segment}
-use Rattle.jpeg_decoder.specs.Stream.{skipped_segment, end_segment, start_at, after_restarts, scan_before}
-use Rattle.jpeg_decoder.specs.Stream.{scan_segment, segment_at, turn_at, segments_within, segments_at, header_at}
-use Rattle.jpeg_decoder.specs.Stream.{picture_by_process, picture_of, rest_at, meaning, samples_picture}
-use Rattle.jpeg_decoder.specs.Stream.{sized_meaning, sized_to, told_of}
-use Rattle.jpeg_decoder.specs.WrittenLossless.{IsIn, Samples, Stands, Writes, WritesSamples, WritesScan, closed}
-use Rattle.jpeg_decoder.specs.WrittenLossless.{said_after_scan, scan, segment}
-use Rattle.jpeg_decoder.proofs.AcceptedTurns.{then-ok, stands-next}
-use Rattle.jpeg_decoder.proofs.LosslessFrames.{IsShaped, header-shaped, lossless-accepted}
+use Rattle.jpeg_streams.specs.declared.before.Before.{Before}
+use Rattle.jpeg_streams.specs.declared.before.Before.TheVariants.{Elsewhere}
+use Rattle.jpeg_streams.specs.declared.settings.Settings.{Settings}
+use Rattle.jpeg_streams.specs.LosslessScans.{lossless_picture, samples_from, with_samples, without_factors}
+use Rattle.jpeg_streams.specs.Needed.{needed}
+use Rattle.jpeg_streams.specs.SaidSegments.{found_after}
+use Rattle.jpeg_streams.specs.Stream.{Found, Turn, onward, nothing_found, accepted, frame_segment}
+use Rattle.jpeg_streams.specs.Stream.{quantization_segment, huffman_segment, restart_segment, application_segment}
+use Rattle.jpeg_streams.specs.Stream.{skipped_segment, end_segment, start_at, after_restarts, scan_before}
+use Rattle.jpeg_streams.specs.Stream.{scan_segment, segment_at, turn_at, segments_within, segments_at, header_at}
+use Rattle.jpeg_streams.specs.Stream.{picture_by_process, picture_of, rest_at, meaning, samples_picture}
+use Rattle.jpeg_streams.specs.Stream.{sized_meaning, sized_to, told_of}
+use Rattle.jpeg_streams.specs.WrittenLossless.{IsIn, Samples, Stands, Writes, WritesSamples, WritesScan, closed}
+use Rattle.jpeg_streams.specs.WrittenLossless.{said_after_scan, scan, segment}
+use Rattle.jpeg_streams.proofs.AcceptedTurns.{then-ok, stands-next}
+use Rattle.jpeg_streams.proofs.LosslessFrames.{IsShaped, header-shaped, lossless-accepted}
 use Rattle.jpeg_decoder.proofs.LosslessReads.{plain-from}
-use Rattle.jpeg_decoder.proofs.SaidTables.{HasTables, no-tables, segment-tables}
-use Rattle.jpeg_decoder.proofs.WrittenMarkers.{marker-append, marker_for, segment-marker}
+use Rattle.jpeg_streams.proofs.SaidTables.{HasTables, no-tables, segment-tables}
+use Rattle.jpeg_streams.proofs.WrittenMarkers.{marker-append, marker_for, segment-marker}
 use Rattle.jpeg_decoder.proofs.WrittenSamples.{IsEnd, and_samples, components-of, places_of, planes_for, scan-read}
 use Rattle.jpeg_decoder.proofs.WrittenSamples.{turn_after}
 

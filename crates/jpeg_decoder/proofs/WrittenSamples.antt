@@ -30,17 +30,17 @@ use Rattle.jpeg_lossless.specs.Written.{AreGrids, AreLines, AreSamples, AreTable
 use Rattle.jpeg_lossless.specs.Written.{WritesIntervals, differences_of, marker}
 use Rattle.jpeg_lossless.specs.Written.WritesIntervals.{last, another}
 use Rattle.jpeg_lossless.proofs.ReadBack.{reads-scan}
-use Rattle.jpeg_decoder.specs.LosslessScans.{LosslessCoding, lossless_codings, tables_in, with_samples}
-use Rattle.jpeg_decoder.specs.LosslessScans.{without_factors}
-use Rattle.jpeg_decoder.specs.Needed.{needed}
-use Rattle.jpeg_decoder.specs.Stream.{Found, Turn, after_restarts, lossless_scan, scan_before, scan_by}
-use Rattle.jpeg_decoder.specs.Stream.{scan_samples, scan_segment}
-use Rattle.jpeg_decoder.specs.WrittenLossless.{HaveTables, IsInterval, Samples, WritesScan, no_interval}
-use Rattle.jpeg_decoder.specs.WrittenLossless.{said_after_scan, whole_lines, whole_scan, written_way}
-use Rattle.jpeg_decoder.proofs.AcceptedTurns.{then-ok}
-use Rattle.jpeg_decoder.proofs.LosslessFrames.{IsShaped}
+use Rattle.jpeg_streams.specs.LosslessScans.{LosslessCoding, lossless_codings, tables_in, with_samples}
+use Rattle.jpeg_streams.specs.LosslessScans.{without_factors}
+use Rattle.jpeg_streams.specs.Needed.{needed}
+use Rattle.jpeg_streams.specs.Stream.{Found, Turn, after_restarts, lossless_scan, scan_before, scan_by}
+use Rattle.jpeg_streams.specs.Stream.{scan_samples, scan_segment}
+use Rattle.jpeg_streams.specs.WrittenLossless.{HaveTables, IsInterval, Samples, WritesScan, no_interval}
+use Rattle.jpeg_streams.specs.WrittenLossless.{said_after_scan, whole_lines, whole_scan, written_way}
+use Rattle.jpeg_streams.proofs.AcceptedTurns.{then-ok}
+use Rattle.jpeg_streams.proofs.LosslessFrames.{IsShaped}
 use Rattle.jpeg_decoder.proofs.LosslessReads.{AreCodings, codings-by-tables, plain-places, plain-read}
-use Rattle.jpeg_decoder.proofs.SaidTables.{HasTables, tables-there}
+use Rattle.jpeg_streams.proofs.SaidTables.{HasTables, tables-there}
 
 -- what was said, with the samples that scans have given
 abbrev pub and_samples : Found → List (Option (List ℕ)) → Found

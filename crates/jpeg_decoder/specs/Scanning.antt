@@ -8,13 +8,13 @@ use Rattle.jpeg_segments.specs.Frame.{Component}
 use Rattle.jpeg_pixels.specs.Scaled.{IsScale}
 use Rattle.jpeg_segments.specs.FrameView.{component_in}
 use Rattle.jpeg_bits.specs.Passes.{Pass, Via, Block}
-use Rattle.jpeg_decoder.specs.Scans.{Arrays}
-use Rattle.jpeg_decoder.specs.InTurn.{Reached, Counted}
+use Rattle.jpeg_streams.specs.Scans.{Arrays}
+use Rattle.jpeg_streams.specs.InTurn.{Reached, Counted}
 use Rattle.jpeg_decoder.specs.declared.codings.Coded.{Coded}
 use Rattle.jpeg_decoder.specs.declared.scans.Interval.{Interval}
 use Rattle.jpeg_decoder.specs.declared.scans.Scan.{Scan}
-use Rattle.jpeg_decoder.specs.Order.{Spot, mcu_spots}
-use Rattle.jpeg_decoder.specs.Layout.{part_of}
+use Rattle.jpeg_streams.specs.Order.{Spot, mcu_spots}
+use Rattle.jpeg_streams.specs.Layout.{part_of}
 use Rattle.jpeg_bits.specs.BlockView.{to_block, pass_in}
 
 -- the ways of a scan's slots, from one on

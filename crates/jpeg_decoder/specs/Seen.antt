@@ -1,17 +1,13 @@
 -- What a caller sees of the parts of a decoder.
-use Rattle.std.specs.Prelude.{ℕ, List, Option, nat_le, map, option_map, if◌then◌else◌, ◌==◌, length}
-use Rattle.jpeg_segments.specs.Frame.{Frame}
+use Rattle.std.specs.Prelude.{ℕ, List, Option, map, option_map}
 use Rattle.jpeg_segments.specs.FrameView.{frame_in, chunk_in}
 use Rattle.jpeg_decoder.specs.declared.state.State.{State}
 use Rattle.jpeg_decoder.specs.declared.decoder.Progress.{Progress}
 use Rattle.jpeg_decoder.specs.declared.decoder.Progress.TheVariants as progress
-use Rattle.jpeg_decoder.specs.declared.decoder.ImageInfo.{ImageInfo}
-use Rattle.jpeg_decoder.specs.declared.decoder.PixelFormat.TheVariants.{L8, L16, RGB24, CMYK32}
-use Rattle.jpeg_decoder.specs.declared.decoder.PixelFormat.{PixelFormat}
 use Rattle.jpeg_decoder.specs.declared.metadata.Metadata as declared
 use Rattle.jpeg_decoder.specs.Scanning.{arrays_in}
-use Rattle.jpeg_decoder.specs.Stream.{Found, Metadata}
-use Rattle.jpeg_decoder.specs.States.{Stage, Fresh, HeaderRead, Finished, Failed}
+use Rattle.jpeg_streams.specs.Stream.{Found, Metadata}
+use Rattle.jpeg_streams.specs.States.{Stage, Fresh, HeaderRead, Finished, Failed}
 use Rattle.std.specs.declared.alloc.Global.{Global}
 use Rattle.std.specs.declared.vec.Vec.{Vec}
 
@@ -51,18 +47,3 @@ stage_of progress.Fresh = Fresh
 stage_of progress.HeaderRead = HeaderRead
 stage_of progress.Finished = Finished
 stage_of progress.Failed = Failed
-
--- one component has 8 or 16 bits a sample, three are red, green and blue, and four cyan, magenta,
--- yellow and black
-abbrev pub format_of : ℕ → ℕ → PixelFormat
-format_of count precision = if count == 3 then RGB24 else (if count == 4 then CMYK32
-    else (if nat_le precision 8 then L8 else L16))
-
--- what is told of a frame: its output size and its format
-abbrev pub info_of : Frame → ImageInfo
-info_of f = record {
-  width = f.output_width;
-  height = f.output_height;
-  pixel_format = format_of (length f.components) f.precision;
-  coding_process = f.process;
-}

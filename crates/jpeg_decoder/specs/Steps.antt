@@ -14,9 +14,9 @@ use Rattle.jpeg_bits.specs.declared.marker.Marker.{Marker}
 use Rattle.jpeg_bits.specs.declared.marker.Marker.TheVariants.{RST}
 use Rattle.jpeg_segments.specs.Frame.{Frame, Component}
 use Rattle.jpeg_pixels.specs.Planes.{cropped}
-use Rattle.jpeg_decoder.specs.Scans.{Arrays, arrays_at}
+use Rattle.jpeg_streams.specs.Scans.{Arrays, arrays_at}
 use Rattle.jpeg_decoder.specs.Scanning.{arrays_in, components_in, HasAc, HasCodedScale}
-use Rattle.jpeg_decoder.specs.Order.{spots_of, mcu_size}
+use Rattle.jpeg_streams.specs.Order.{spots_of, mcu_size}
 use Rattle.jpeg_decoder.specs.declared.decoded.Decoded.{Decoded}
 use Rattle.jpeg_bits.specs.Passes.{Pass}
 use Rattle.std.specs.List.{list_all, AllByRecursion}
@@ -24,20 +24,20 @@ use Rattle.jpeg_segments.specs.FrameView.{component_in}
 use Rattle.jpeg_segments.specs.ScanHeader as headers
 use Rattle.jpeg_segments.specs.ScanHeader.{sos_at}
 use Rattle.jpeg_decoder.specs.declared.scans.Scan.{Scan}
-use Rattle.jpeg_decoder.specs.InTurn.{Fits}
+use Rattle.jpeg_streams.specs.InTurn.{Fits}
 use Rattle.jpeg_bits.specs.BlockView.{pass_in, IsPass}
 use Rattle.jpeg_decoder.specs.declared.state.State.{State}
 use Rattle.jpeg_decoder.specs.declared.state.Step.{Step}
 use Rattle.jpeg_decoder.specs.declared.codings.Coded.{Coded}
 use Rattle.jpeg_decoder.specs.declared.codings.Spare.{Spare}
-use Rattle.jpeg_decoder.specs.Scans.{no_table}
+use Rattle.jpeg_streams.specs.Scans.{no_table}
 use Rattle.jpeg_bits.specs.declared.codes.HuffmanTableClass.TheVariants as classes
-use Rattle.jpeg_decoder.specs.Needed.{first_of, needed}
-use Rattle.jpeg_decoder.specs.Stream.{Found, Turn, Coding, pass_of, tables_of, coding_of}
-use Rattle.jpeg_decoder.specs.Stream.{codings_from, after_restarts, finished_by, none_finished}
-use Rattle.jpeg_decoder.specs.Stream.{decided, vias_from, arrays_before, with_arrays, held_after}
-use Rattle.jpeg_decoder.specs.Stream.{after_samples, scan_samples}
-use Rattle.jpeg_decoder.specs.LosslessScans.{lossless_codings, without_factors}
+use Rattle.jpeg_streams.specs.Needed.{first_of, needed}
+use Rattle.jpeg_streams.specs.Stream.{Found, Turn, Coding, pass_of, tables_of, coding_of}
+use Rattle.jpeg_streams.specs.Stream.{codings_from, after_restarts, finished_by, none_finished}
+use Rattle.jpeg_streams.specs.Stream.{decided, vias_from, arrays_before, with_arrays, held_after}
+use Rattle.jpeg_streams.specs.Stream.{after_samples, scan_samples}
+use Rattle.jpeg_streams.specs.LosslessScans.{lossless_codings, without_factors}
 use Rattle.jpeg_segments.specs.declared.parser.CodingProcess.{CodingProcess}
 use Rattle.jpeg_segments.specs.declared.parser.CodingProcess.TheVariants.{DctSequential}
 use Rattle.jpeg_segments.specs.declared.parser.CodingProcess.TheVariants.{DctProgressive, Lossless}

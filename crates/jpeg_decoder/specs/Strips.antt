@@ -13,12 +13,12 @@ use Rattle.jpeg_bits.specs.Passes.{Pass, Via, Block, zero_block}
 use Rattle.jpeg_segments.specs.Frame.{Frame, Component}
 use Rattle.jpeg_pixels.specs.Planes.{plane_of, zero_coefficients}
 use Rattle.jpeg_pixels.specs.Zigzag.{values_in_block_order}
-use Rattle.jpeg_decoder.specs.Order.{Spot, spots_of, mcu_size}
-use Rattle.jpeg_decoder.specs.Scans.{Arrays, zero_arrays, arrays_at}
-use Rattle.jpeg_decoder.specs.Rasters.{in_raster}
-use Rattle.jpeg_decoder.specs.InTurn.{Counted, mcus_from, counted_at_start}
-use Rattle.jpeg_decoder.specs.McuRows.{zero_rows, rows_of, own_row_mcus, row_mcus, with_arrays}
-use Rattle.jpeg_decoder.specs.Stream.{Coding, plane_by}
+use Rattle.jpeg_streams.specs.Order.{Spot, spots_of, mcu_size}
+use Rattle.jpeg_streams.specs.Scans.{Arrays, zero_arrays, arrays_at}
+use Rattle.jpeg_streams.specs.Rasters.{in_raster}
+use Rattle.jpeg_streams.specs.InTurn.{Counted, mcus_from, counted_at_start}
+use Rattle.jpeg_streams.specs.McuRows.{zero_rows, rows_of, own_row_mcus, row_mcus, with_arrays}
+use Rattle.jpeg_streams.specs.Stream.{Coding, plane_by}
 use Rattle.jpeg_decoder.specs.declared.codings.Coded.{Coded}
 use Rattle.jpeg_decoder.specs.Scanning.{down_in, wide_in}
 

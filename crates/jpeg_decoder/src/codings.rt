@@ -7,13 +7,13 @@ ghost use Rattle.jpeg_bits.specs.declared.error.Error.TheVariants.{OutOfMemory};
 ghost use Rattle.jpeg_bits.specs.declared.codes.HuffmanTableClass.TheVariants.{DC, AC};
 ghost use Rattle.jpeg_segments.specs.FrameView.{frame_in, scan_in};
 ghost use Rattle.jpeg_segments.specs.ScanHeader.{IsScanOf};
-ghost use Rattle.jpeg_decoder.specs.Scans.{no_table};
+ghost use Rattle.jpeg_streams.specs.Scans.{no_table};
 ghost use Rattle.jpeg_decoder.specs.Scanning.{HasAc};
 ghost use Rattle.jpeg_decoder.specs.Seen.{found_in};
 ghost use Rattle.jpeg_decoder.specs.Steps.{IsRefusal, IsSpareOf, codings_in_force, coding_in};
 ghost use Rattle.jpeg_decoder.specs.Steps.{coding_in_slot, default_dc, default_ac, in_force};
 ghost use Rattle.jpeg_decoder.specs.Steps.{table_if};
-ghost use Rattle.jpeg_decoder.specs.Stream.{is_progressive, pass_of};
+ghost use Rattle.jpeg_streams.specs.Stream.{is_progressive, pass_of};
 
 use crate::places::{needed, table_at};
 use crate::state::State;

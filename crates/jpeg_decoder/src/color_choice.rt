@@ -1,8 +1,8 @@
 //! Which colour transform the components of a picture need.
 ghost use Rattle.std.specs.Prelude.{◌≡◌, map};
 ghost use Rattle.jpeg_segments.specs.FrameView.{component_in};
-ghost use Rattle.jpeg_decoder.specs.ColourChoice.{identifiers_of, are_three, by_identifiers};
-ghost use Rattle.jpeg_decoder.specs.ColourChoice.{by_adobe, transform_of};
+ghost use Rattle.jpeg_streams.specs.ColourChoice.{identifiers_of, are_three, by_identifiers};
+ghost use Rattle.jpeg_streams.specs.ColourChoice.{by_adobe, transform_of};
 
 use jpeg_bits::color_transform::ColorTransform;
 use jpeg_segments::parser::{AdobeColorTransform, Component};
@@ -19,7 +19,7 @@ fn are_three(components: &[Component], first: u8, second: u8, third: u8) -> bool
 }
 
 /// The transform that the identifiers of three components tell.
-#[tactic(auto, unfolding(crate::specs::ColourChoice::by_identifiers))]
+#[tactic(auto, unfolding(jpeg_streams::specs::ColourChoice::by_identifiers))]
 fn by_identifiers(components: &[Component]) -> Option<ColorTransform>
     ensures { result ≡ by_identifiers (identifiers_of (map component_in components.now)) }
 {
@@ -61,7 +61,7 @@ fn by_adobe(is_three: bool, adobe: Option<AdobeColorTransform>) -> ColorTransfor
 }
 
 /// The transform of three or four components: what a caller set, or what the segments tell.
-#[tactic(auto, unfolding(crate::specs::ColourChoice::transform_of))]
+#[tactic(auto, unfolding(jpeg_streams::specs::ColourChoice::transform_of))]
 pub fn choose_color_transform(
     set: Option<ColorTransform>,
     components: &[Component],

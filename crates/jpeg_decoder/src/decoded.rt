@@ -8,12 +8,12 @@ ghost use Rattle.jpeg_pixels.specs.Pictures.{AreWhole};
 ghost use Rattle.jpeg_segments.specs.FrameView.{component_in, frame_in};
 ghost use Rattle.jpeg_bits.specs.Reading.{Answers};
 ghost use Rattle.std.specs.List.{AllByRecursion};
-ghost use Rattle.jpeg_decoder.specs.InTurn.{AreApart, Fits};
+ghost use Rattle.jpeg_streams.specs.InTurn.{AreApart, Fits};
 ghost use Rattle.jpeg_decoder.specs.Scanning.{arrays_in, blocks_in, components_in, sizes_of, HasAc};
 ghost use Rattle.jpeg_decoder.specs.Scanning.{HasCodedScale};
-ghost use Rattle.jpeg_decoder.specs.Scans.{zero_arrays, zero_of};
+ghost use Rattle.jpeg_streams.specs.Scans.{zero_arrays, zero_of};
 ghost use Rattle.jpeg_decoder.specs.Seen.{planes_in};
-ghost use Rattle.jpeg_decoder.specs.Stream.{finished_by, none_finished, plane_by, put_arrays};
+ghost use Rattle.jpeg_streams.specs.Stream.{finished_by, none_finished, plane_by, put_arrays};
 ghost use Rattle.jpeg_decoder.specs.Steps.{blocks_at, coding_in, without_blocks};
 ghost use Rattle.jpeg_pixels.specs.Zigzag.{coefficients_in_block_order};
 
@@ -180,17 +180,17 @@ impl Decoded {
     ghost use Rattle.jpeg_bits.specs.BlockView.{pass_in, IsPass, to_block};
     ghost use Rattle.jpeg_pixels.specs.Scaled.{IsScale};
     ghost use Rattle.jpeg_segments.specs.FrameView.{component_in, frame_in};
-    ghost use Rattle.jpeg_decoder.specs.InTurn.{AreArrays};
-    ghost use Rattle.jpeg_decoder.specs.LosslessScans.{with_samples};
-    ghost use Rattle.jpeg_decoder.specs.Sound.{ArePlanes};
+    ghost use Rattle.jpeg_streams.specs.InTurn.{AreArrays};
+    ghost use Rattle.jpeg_streams.specs.LosslessScans.{with_samples};
+    ghost use Rattle.jpeg_streams.specs.Sound.{ArePlanes};
     ghost use Rattle.jpeg_decoder.specs.Scanning.{arrays_in, components_in, sizes_of, HasAc};
     ghost use Rattle.jpeg_decoder.specs.Scanning.{HasCodedScale};
     ghost use Rattle.jpeg_decoder.specs.Seen.{found_in, planes_in};
     ghost use Rattle.jpeg_decoder.specs.Steps.{coding_in, HasPlace, IsReadable, is_wanted};
     ghost use Rattle.jpeg_decoder.specs.Steps.{marks_after, scan_data, with_decoded};
     ghost use Rattle.jpeg_decoder.specs.Steps.{with_its_plane, with_planes};
-    ghost use Rattle.jpeg_decoder.specs.Stream.{Found, arrays_before, is_progressive};
-    ghost use Rattle.jpeg_decoder.specs.Stream.{none_finished, plane_by, with_arrays};
+    ghost use Rattle.jpeg_streams.specs.Stream.{Found, arrays_before, is_progressive};
+    ghost use Rattle.jpeg_streams.specs.Stream.{none_finished, plane_by, with_arrays};
 
     /// Nothing was read.
     pub fn new(alloc: Global) -> Decoded
@@ -337,7 +337,7 @@ impl Decoded {
     }
 
     /// Holds the blocks of a progressive frame's components: before its first scan, zeros.
-    #[tactic(auto, unfolding(crate::specs::Stream::arrays_before))]
+    #[tactic(auto, unfolding(jpeg_streams::specs::Stream::arrays_before))]
     fn hold(
         &mut self,
         alloc: Global,

@@ -4,25 +4,26 @@ ghost use Rattle.std.specs.Prelude.{IfNone, IfSome, None, option_map, is_some, E
 ghost use Rattle.jpeg_bits.specs.Reading.{Answers};
 ghost use Rattle.jpeg_bits.specs.Stream.{stream_of};
 ghost use Rattle.jpeg_bits.specs.declared.error.Error.TheVariants.{OutOfMemory};
-ghost use Rattle.jpeg_decoder.specs.Stream.{nothing_found, header_at, sized_header_at, sized_to};
-ghost use Rattle.jpeg_decoder.specs.Stream.{told_of, IsOfTurns};
-ghost use Rattle.jpeg_decoder.specs.States.{Decoding, MovesToHeader, MovesToEnd, IsReading, ahead};
-ghost use Rattle.jpeg_decoder.specs.States.{told_ahead, turns_ahead, OnTold, OnToldRefusal, Fresh};
-ghost use Rattle.jpeg_decoder.specs.States.{HeaderRead};
-ghost use Rattle.jpeg_decoder.specs.DecodedImages.{DecodesImages};
-ghost use Rattle.jpeg_decoder.specs.DecodedSamples.{DecodesSamples};
-ghost use Rattle.jpeg_decoder.specs.Seen.{format_of, found_in, info_of};
-ghost use Rattle.jpeg_decoder.specs.Sound.{HasDecodedFrame, IsSound, IsUnread};
+ghost use Rattle.jpeg_streams.specs.Stream.{nothing_found, header_at, sized_header_at, sized_to};
+ghost use Rattle.jpeg_streams.specs.Stream.{told_of, IsOfTurns};
+ghost use Rattle.jpeg_streams.specs.States.{Decoding, MovesToHeader, MovesToEnd, IsReading, ahead};
+ghost use Rattle.jpeg_streams.specs.States.{told_ahead, turns_ahead, OnTold, OnToldRefusal, Fresh};
+ghost use Rattle.jpeg_streams.specs.States.{HeaderRead};
+ghost use Rattle.jpeg_streams.specs.DecodedImages.{DecodesImages};
+ghost use Rattle.jpeg_streams.specs.DecodedSamples.{DecodesSamples};
+ghost use Rattle.jpeg_decoder.specs.Seen.{found_in};
+ghost use Rattle.jpeg_streams.specs.Pixels.{format_of, info_of};
+ghost use Rattle.jpeg_streams.specs.Sound.{HasDecodedFrame, IsSound, IsUnread};
 ghost use Rattle.jpeg_decoder.specs.declared.decoder.Progress.TheVariants.{Failed};
 ghost use Rattle.jpeg_segments.specs.FrameView.{frame_in};
 ghost use Rattle.jpeg_segments.specs.Scales.{IsSizedFrame, sized};
-ghost use Rattle.jpeg_decoder.specs.Output.{default_settings};
-ghost use Rattle.jpeg_decoder.specs.Profile.{profile_of};
+ghost use Rattle.jpeg_streams.specs.Output.{default_settings};
+ghost use Rattle.jpeg_streams.specs.Profile.{profile_of};
 ghost use Rattle.std.specs.Option.{option_copied};
 
 use crate::picture::{read_header, read_rest, read_stream};
 use crate::profile::profile;
-use crate::state::{Settings, State};
+use crate::state::State;
 pub use jpeg_bits::color_transform::ColorTransform;
 use jpeg_bits::error::{Error, Result};
 pub use jpeg_bits::scan::MAX_COMPONENTS;
@@ -30,52 +31,11 @@ use jpeg_bits::source::Source;
 use jpeg_pixels::idct::choose_idct_size;
 use jpeg_segments::parser::{CodingProcess, Dimensions, FrameInfo};
 use jpeg_segments::sizes::scale_frame;
+pub use jpeg_streams::images::{ImageInfo, PixelFormat};
+use jpeg_streams::settings::Settings;
 use std::alloc::Global;
 use std::io::Read;
 use std::marker::Model;
-
-/// How the bytes of a picture stand for its pixels.
-#[derive(Clone, Copy, Debug, PartialEq)]
-pub enum PixelFormat {
-    /// One sample of 8 bits.
-    L8,
-    /// One sample of 16 bits, the lower byte first.
-    L16,
-    /// Red, green and blue, 8 bits each.
-    RGB24,
-    /// Cyan, magenta, yellow and black, 8 bits each.
-    CMYK32,
-}
-
-impl PixelFormat {
-    ghost use Rattle.std.specs.Prelude.{◌≡◌};
-    ghost use Rattle.jpeg_decoder.specs.Pixels.{bytes_a_pixel};
-
-    /// How many bytes a pixel takes.
-    pub fn pixel_bytes(&self) -> usize
-        ensures { result ≡ bytes_a_pixel self.now }
-    {
-        match self {
-            PixelFormat::L8 => 1,
-            PixelFormat::L16 => 2,
-            PixelFormat::RGB24 => 3,
-            PixelFormat::CMYK32 => 4,
-        }
-    }
-}
-
-/// What a frame header says of the picture.
-#[derive(Clone, Copy, Debug, PartialEq)]
-pub struct ImageInfo {
-    /// The width of the picture in pixels, at the scale that was chosen.
-    pub width: u16,
-    /// The height of the picture in pixels, at the scale that was chosen.
-    pub height: u16,
-    /// How the bytes of the picture stand for its pixels.
-    pub pixel_format: PixelFormat,
-    /// The process of the frame.
-    pub coding_process: CodingProcess,
-}
 
 /// The format of this many components at a precision.
 fn format_of(count: usize, precision: u8) -> PixelFormat
@@ -126,7 +86,7 @@ fn size_frame(frame: &mut FrameInfo, width: u16, height: u16) -> (u16, u16)
 }
 
 /// Sizes the frame that was read, if one was.
-#[tactic(auto, using(crate::proofs::Soundness::scaled_rules))]
+#[tactic(auto, using(jpeg_streams::proofs::Soundness::scaled_rules))]
 fn scale_state(state: &mut State, width: u16, height: u16) -> Option<(u16, u16)>
     requires frames { HasDecodedFrame (found_in state.old) }
     ensures found { found_in state.new ≡ sized_to width height (found_in state.old) }
@@ -171,9 +131,9 @@ pub struct Decoder<R: Read + Drop> {
 
 impl<R: Read + Drop> Model for Decoder<R> {
     ghost use Rattle.std.specs.Prelude.{◌≡◌, is_some, true};
-    ghost use Rattle.jpeg_decoder.specs.Sound.{HasDecodedFrame, IsSound, IsUnread};
-    ghost use Rattle.jpeg_decoder.specs.States.{Decoding, Fresh, HasHeader, HeaderRead};
-    ghost use Rattle.jpeg_decoder.specs.Stream.{nothing_found};
+    ghost use Rattle.jpeg_streams.specs.Sound.{HasDecodedFrame, IsSound, IsUnread};
+    ghost use Rattle.jpeg_streams.specs.States.{Decoding, Fresh, HasHeader, HeaderRead};
+    ghost use Rattle.jpeg_streams.specs.Stream.{nothing_found};
     ghost use Rattle.jpeg_decoder.specs.Seen.{found_in, stage_of};
 
     ghost Value = { Decoding };

@@ -6,21 +6,21 @@ ghost use Rattle.std.specs.List.{AllByRecursion};
 ghost use Rattle.jpeg_bits.specs.Passes.{Block};
 ghost use Rattle.jpeg_segments.specs.Frame.{Frame};
 ghost use Rattle.jpeg_segments.specs.WrittenSegments.{FrameHeader, IsFrame};
-ghost use Rattle.jpeg_decoder.specs.Output.{default_settings, line_of, output_of};
-ghost use Rattle.jpeg_decoder.specs.SaidSegments.{HasPicture};
-ghost use Rattle.jpeg_decoder.specs.Seen.{info_of};
-ghost use Rattle.jpeg_decoder.specs.ArrayPictures.{meaning_of_array, picture_of_array, Takes};
-ghost use Rattle.jpeg_decoder.specs.Levels.{Is8Bit, Levels, cut, nothing_sent};
-ghost use Rattle.jpeg_decoder.specs.Stream.{Found, is_progressive, meaning, sized_meaning};
-ghost use Rattle.jpeg_decoder.specs.Stream.{nothing_found, sized_to, told_of};
-ghost use Rattle.jpeg_decoder.specs.WholeImages.{AllComplete, whole_meaning};
-ghost use Rattle.jpeg_decoder.specs.WorkedImages.{IsWhollyWritten, grey_array, grey_bytes};
-ghost use Rattle.jpeg_decoder.specs.WorkedImages.{colour_array, colour_bytes};
-ghost use Rattle.jpeg_decoder.specs.WrittenImages.{Writes, WritesImage};
-ghost use Rattle.jpeg_decoder.specs.WrittenParts.{AgreeOnOwn, HaveSamePicture, WritesFront};
-ghost use Rattle.jpeg_decoder.specs.WrittenParts.{picture_meant_by};
-ghost use Rattle.jpeg_decoder.specs.WrittenScans.{Coefficients, HasTable, IsComplete};
-ghost use Rattle.jpeg_decoder.specs.declared.state.Settings.{Settings};
+ghost use Rattle.jpeg_streams.specs.Output.{default_settings, line_of, output_of};
+ghost use Rattle.jpeg_streams.specs.SaidSegments.{HasPicture};
+ghost use Rattle.jpeg_streams.specs.Pixels.{info_of};
+ghost use Rattle.jpeg_streams.specs.ArrayPictures.{meaning_of_array, picture_of_array, Takes};
+ghost use Rattle.jpeg_streams.specs.Levels.{Is8Bit, Levels, cut, nothing_sent};
+ghost use Rattle.jpeg_streams.specs.Stream.{Found, is_progressive, meaning, sized_meaning};
+ghost use Rattle.jpeg_streams.specs.Stream.{nothing_found, sized_to, told_of};
+ghost use Rattle.jpeg_streams.specs.WholeImages.{AllComplete, whole_meaning};
+ghost use Rattle.jpeg_streams.specs.WorkedImages.{IsWhollyWritten, grey_array, grey_bytes};
+ghost use Rattle.jpeg_streams.specs.WorkedImages.{colour_array, colour_bytes};
+ghost use Rattle.jpeg_streams.specs.WrittenImages.{Writes, WritesImage};
+ghost use Rattle.jpeg_streams.specs.WrittenParts.{AgreeOnOwn, HaveSamePicture, WritesFront};
+ghost use Rattle.jpeg_streams.specs.WrittenParts.{picture_meant_by};
+ghost use Rattle.jpeg_streams.specs.WrittenScans.{Coefficients, HasTable, IsComplete};
+ghost use Rattle.jpeg_streams.specs.declared.settings.Settings.{Settings};
 
 /// A stream that is written for the coefficients of 8-bit samples means the picture of those
 /// coefficients, cut at the bits that were sent. The stream may be sequential or progressive, under

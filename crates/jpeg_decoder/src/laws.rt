@@ -11,16 +11,16 @@ ghost use Rattle.jpeg_segments.specs.ScanHeader.{Scan};
 ghost use Rattle.jpeg_segments.specs.Scales.{frame_at};
 ghost use Rattle.jpeg_pixels.specs.Pictures.{Source, sources_of, HasSources};
 ghost use Rattle.jpeg_pixels.specs.Planes.{plane_of, strip_of};
-ghost use Rattle.jpeg_decoder.specs.Order.{spots_of, mcu_size};
-ghost use Rattle.jpeg_decoder.specs.Scans.{Arrays, arrays_at, zero_arrays};
-ghost use Rattle.jpeg_decoder.specs.InTurn.{AreApart, AreArrays, Fits, intervals_from, mcus_of};
-ghost use Rattle.jpeg_decoder.specs.InTurn.{scan_from};
-ghost use Rattle.jpeg_decoder.specs.McuRows.{scan_by_rows};
-ghost use Rattle.jpeg_decoder.specs.Rasters.{ordered, in_raster};
-ghost use Rattle.jpeg_decoder.specs.Stream.{Found, Coding, header_at, rest_at, meaning};
-ghost use Rattle.jpeg_decoder.specs.Stream.{is_progressive, pass_of, codings_of, vias_from};
-ghost use Rattle.jpeg_decoder.specs.Stream.{arrays_before, scan_arrays, sized_to};
-ghost use Rattle.jpeg_decoder.specs.declared.state.Settings.{Settings};
+ghost use Rattle.jpeg_streams.specs.Order.{spots_of, mcu_size};
+ghost use Rattle.jpeg_streams.specs.Scans.{Arrays, arrays_at, zero_arrays};
+ghost use Rattle.jpeg_streams.specs.InTurn.{AreApart, AreArrays, Fits, intervals_from, mcus_of};
+ghost use Rattle.jpeg_streams.specs.InTurn.{scan_from};
+ghost use Rattle.jpeg_streams.specs.McuRows.{scan_by_rows};
+ghost use Rattle.jpeg_streams.specs.Rasters.{ordered, in_raster};
+ghost use Rattle.jpeg_streams.specs.Stream.{Found, Coding, header_at, rest_at, meaning};
+ghost use Rattle.jpeg_streams.specs.Stream.{is_progressive, pass_of, codings_of, vias_from};
+ghost use Rattle.jpeg_streams.specs.Stream.{arrays_before, scan_arrays, sized_to};
+ghost use Rattle.jpeg_streams.specs.declared.settings.Settings.{Settings};
 
 /// A header and then the rest of its stream are the whole stream, and a refused header is a refused
 /// stream.

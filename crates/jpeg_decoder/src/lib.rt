@@ -31,7 +31,6 @@ mod color_choice_tests;
 mod decoded;
 pub mod decoder;
 mod frames;
-mod grids;
 pub mod headline;
 pub mod laws;
 pub mod lossless_laws;

@@ -2,11 +2,11 @@
 //! plain words.
 ghost use Rattle.std.specs.Prelude.{◌≡◌, ℕ, ◌++◌, List, Ok};
 ghost use Rattle.jpeg_segments.specs.Frame.{Frame};
-ghost use Rattle.jpeg_decoder.specs.declared.state.Settings.{Settings};
-ghost use Rattle.jpeg_decoder.specs.Stream.{Found, meaning, sized_meaning, told_of};
-ghost use Rattle.jpeg_decoder.specs.WorkedSamples.{AreWritten, three_bytes, three_samples};
-ghost use Rattle.jpeg_decoder.specs.WrittenLossless.{IsWithin, Samples, WritesSamples};
-ghost use Rattle.jpeg_decoder.specs.WrittenLossless.{picture_of_samples};
+ghost use Rattle.jpeg_streams.specs.declared.settings.Settings.{Settings};
+ghost use Rattle.jpeg_streams.specs.Stream.{Found, meaning, sized_meaning, told_of};
+ghost use Rattle.jpeg_streams.specs.WorkedSamples.{AreWritten, three_bytes, three_samples};
+ghost use Rattle.jpeg_streams.specs.WrittenLossless.{IsWithin, Samples, WritesSamples};
+ghost use Rattle.jpeg_streams.specs.WrittenLossless.{picture_of_samples};
 
 /// A lossless stream that is written for samples means the picture of those samples, with any
 /// segments and fill bytes, scans of any components in any order, selections and codes, and restart

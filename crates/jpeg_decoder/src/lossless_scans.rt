@@ -4,9 +4,9 @@ ghost use Rattle.jpeg_bits.specs.Reading.{Answers, Names};
 ghost use Rattle.jpeg_segments.specs.FrameView.{frame_in, scan_in};
 ghost use Rattle.jpeg_segments.specs.ScanHeader.{IsScanOf};
 ghost use Rattle.jpeg_segments.specs.declared.parser.CodingProcess.TheVariants.{Lossless};
-ghost use Rattle.jpeg_decoder.specs.LosslessScans.{tables_in, without_factors};
+ghost use Rattle.jpeg_streams.specs.LosslessScans.{tables_in, without_factors};
 ghost use Rattle.jpeg_decoder.specs.Seen.{found_in};
-ghost use Rattle.jpeg_decoder.specs.Sound.{IsSound};
+ghost use Rattle.jpeg_streams.specs.Sound.{IsSound};
 ghost use Rattle.jpeg_decoder.specs.Steps.{IsRefusal, samples_read, with_decoded};
 
 use crate::decoded::Decoded;

@@ -6,24 +6,24 @@ ghost use Rattle.jpeg_bits.specs.Reading.{Answers, Names};
 ghost use Rattle.jpeg_segments.specs.FrameView.{component_in, frame_in};
 ghost use Rattle.jpeg_pixels.specs.Pictures.{AreWhole};
 ghost use Rattle.jpeg_pixels.specs.Scaled.{IsScale};
-ghost use Rattle.jpeg_decoder.specs.EndPlanes.{AreBlocksOf, blocks_if, is_held, plane_or};
-ghost use Rattle.jpeg_decoder.specs.LosslessScans.{samples_from, without_factors};
+ghost use Rattle.jpeg_streams.specs.EndPlanes.{AreBlocksOf, blocks_if, is_held, plane_or};
+ghost use Rattle.jpeg_streams.specs.LosslessScans.{samples_from, without_factors};
 ghost use Rattle.jpeg_decoder.specs.Scanning.{arrays_in, blocks_in};
 ghost use Rattle.jpeg_decoder.specs.Seen.{found_in, metadata_in, planes_in};
-ghost use Rattle.jpeg_decoder.specs.Sound.{IsDecodedFrame, IsPlaneOf, IsSound, HasDecodedFrame};
-ghost use Rattle.jpeg_decoder.specs.Sound.{IsUnread};
-ghost use Rattle.jpeg_decoder.specs.States.{OnTold};
+ghost use Rattle.jpeg_streams.specs.Sound.{IsDecodedFrame, IsPlaneOf, IsSound, HasDecodedFrame};
+ghost use Rattle.jpeg_streams.specs.Sound.{IsUnread};
+ghost use Rattle.jpeg_streams.specs.States.{OnTold};
 ghost use Rattle.jpeg_decoder.specs.Steps.{IsRefusal, cropped_to, with_decoded};
-ghost use Rattle.jpeg_decoder.specs.Stream.{IsOfTurns, blocks_picture, header_at, meaning};
-ghost use Rattle.jpeg_decoder.specs.Stream.{nothing_found, picture_by, picture_of, planes_from};
-ghost use Rattle.jpeg_decoder.specs.Stream.{rest_at, samples_picture, start_at, told_by_stream};
-ghost use Rattle.jpeg_decoder.specs.Stream.{told_by_turns, told_in_turns, told_of, told_rest};
+ghost use Rattle.jpeg_streams.specs.Stream.{IsOfTurns, blocks_picture, header_at, meaning};
+ghost use Rattle.jpeg_streams.specs.Stream.{nothing_found, picture_by, picture_of, planes_from};
+ghost use Rattle.jpeg_streams.specs.Stream.{rest_at, samples_picture, start_at, told_by_stream};
+ghost use Rattle.jpeg_streams.specs.Stream.{told_by_turns, told_in_turns, told_of, told_rest};
 
 use crate::codings::is_progressive;
 use crate::color_choice::choose_color_transform;
 use crate::decoded::{Decoded, render};
 use crate::places::{needed, table_at};
-use crate::state::{Settings, State};
+use crate::state::State;
 use jpeg_bits::error::{Result, format_error};
 use jpeg_bits::reads::read_u8;
 use jpeg_bits::source::Source;
@@ -31,11 +31,12 @@ use jpeg_lossless::lossless::compute_image_lossless;
 use jpeg_pixels::plane::crop;
 use jpeg_pixels::worker::compute_image_rows;
 use jpeg_segments::parser::{CodingProcess, Component, Dimensions, FrameInfo};
+use jpeg_streams::settings::Settings;
 use std::alloc::Global;
 use std::io::Read;
 
 /// Reads the start of a stream, FF D8.
-#[tactic(auto, unfolding(crate::specs::Stream::start_at))]
+#[tactic(auto, unfolding(jpeg_streams::specs::Stream::start_at))]
 fn read_start<R: Read + Drop>(alloc: Global, source: &mut Source<R>) -> Result<()>
     ensures { Answers (λ u. u) start_at source.old result source.new }
 {
@@ -195,7 +196,7 @@ fn picture_by(
 }
 
 /// The picture of a frame of blocks.
-#[tactic(auto, unfolding(crate::specs::Stream::blocks_picture))]
+#[tactic(auto, unfolding(jpeg_streams::specs::Stream::blocks_picture))]
 fn blocks_picture(
     alloc: Global,
     state: &State,
@@ -231,7 +232,7 @@ fn samples_at_end(alloc: Global, frame: &FrameInfo, decoded: &mut Decoded) -> Re
 }
 
 /// The picture of a lossless frame.
-#[tactic(auto, unfolding(crate::specs::Stream::samples_picture))]
+#[tactic(auto, unfolding(jpeg_streams::specs::Stream::samples_picture))]
 fn samples_picture(
     alloc: Global,
     state: &State,
@@ -249,7 +250,7 @@ fn samples_picture(
 }
 
 /// The picture of what was found, which is taken: within the limit, of planes that are there.
-#[tactic(auto, unfolding(crate::specs::Stream::picture_of))]
+#[tactic(auto, unfolding(jpeg_streams::specs::Stream::picture_of))]
 fn picture(
     alloc: Global,
     state: &State,
@@ -277,7 +278,7 @@ fn picture(
 }
 
 /// Reads the header of a stream: all through the frame's segment.
-#[tactic(auto, unfolding(crate::specs::Stream::header_at, crate::specs::Stream::told_by_stream))]
+#[tactic(auto, unfolding(jpeg_streams::specs::Stream::header_at, jpeg_streams::specs::Stream::told_by_stream))]
 pub fn read_header<R: Read + Drop>(
     alloc: Global,
     source: &mut Source<R>,
@@ -298,7 +299,7 @@ pub fn read_header<R: Read + Drop>(
 }
 
 /// Reads the rest of a stream and gives its picture.
-#[tactic(auto, unfolding(crate::specs::Stream::rest_at))]
+#[tactic(auto, unfolding(jpeg_streams::specs::Stream::rest_at))]
 fn read_picture<R: Read + Drop>(
     alloc: Global,
     source: &mut Source<R>,
@@ -350,7 +351,7 @@ pub fn read_rest<R: Read + Drop>(
 }
 
 /// Reads a whole stream and gives its picture. No blocks or planes are kept.
-#[tactic(auto, unfolding(crate::specs::Stream::meaning, crate::specs::Stream::told_by_stream))]
+#[tactic(auto, unfolding(jpeg_streams::specs::Stream::meaning, jpeg_streams::specs::Stream::told_by_stream))]
 pub fn read_stream<R: Read + Drop>(
     alloc: Global,
     source: &mut Source<R>,

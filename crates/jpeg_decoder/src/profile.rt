@@ -4,7 +4,7 @@ ghost use Rattle.std.specs.Option.{option_copied};
 ghost use Rattle.std.specs.List.{find, list_all};
 ghost use Rattle.jpeg_bits.specs.declared.error.Error.TheVariants.{OutOfMemory};
 ghost use Rattle.jpeg_segments.specs.FrameView.{chunk_in};
-ghost use Rattle.jpeg_decoder.specs.Profile.{part, parts_from, profile_of};
+ghost use Rattle.jpeg_streams.specs.Profile.{part, parts_from, profile_of};
 
 use jpeg_bits::error::Result;
 use jpeg_segments::parser::IccChunk;
@@ -61,7 +61,7 @@ fn joined(alloc: Global, chunks: &[IccChunk], count: usize) -> Result<Option<Vec
 
 /// The profile: there where 1 to 254 parts are, each names their number, and they are numbered 1, 2
 /// and so on, in any order. The only error is want of memory.
-#[tactic(auto, unfolding(crate::specs::Profile::profile_of))]
+#[tactic(auto, unfolding(jpeg_streams::specs::Profile::profile_of))]
 pub fn profile(alloc: Global, chunks: &[IccChunk]) -> Result<Option<Vec<u8>>>
     ensures { MatchResult result (λ o. option_map (λ v. v.items) o
         ≡ profile_of (map chunk_in chunks.now)) (λ e. e ≡ OutOfMemory) }

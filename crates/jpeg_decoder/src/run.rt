@@ -1,12 +1,12 @@
 //! The program's engine: a stream from a reader, its picture to a writer, and what a refusal tells.
 ghost use Rattle.std.specs.Prelude.{◌≡◌, ◌++◌, ℕ, List, Some, None, option_map, Err, IsSome};
 ghost use Rattle.std.specs.Prelude.{IsSomeAnd, OnOk, OnErr, IfErr, IfOk, IsErr, string_bytes};
-ghost use Rattle.jpeg_decoder.specs.States.{IsOfBytes};
+ghost use Rattle.jpeg_streams.specs.States.{IsOfBytes};
 ghost use Rattle.std.specs.Io.KnownBytes.{Appends, Keeps};
 ghost use Rattle.jpeg_bits.specs.declared.error.Error.TheVariants.{OutOfMemory};
-ghost use Rattle.jpeg_decoder.specs.Output.{output_of, line_of, name_of, Tells, TakesBeginning};
-ghost use Rattle.jpeg_decoder.specs.Output.{IsOutside, IsOutsideOrMemory, NamesOrOutside};
-ghost use Rattle.jpeg_decoder.specs.PrintedImages.{PrintsImages};
+ghost use Rattle.jpeg_streams.specs.Output.{output_of, line_of, name_of, Tells, TakesBeginning};
+ghost use Rattle.jpeg_streams.specs.Output.{IsOutside, IsOutsideOrMemory, NamesOrOutside};
+ghost use Rattle.jpeg_streams.specs.PrintedImages.{PrintsImages};
 
 use crate::decoder::{Decoder, ImageInfo, PixelFormat};
 use jpeg_bits::error::{Error, Result};

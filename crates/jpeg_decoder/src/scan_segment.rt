@@ -3,11 +3,11 @@
 ghost use Rattle.std.specs.Prelude.{◌≡◌, OnOk, Some, true};
 ghost use Rattle.jpeg_bits.specs.Reading.{Answers, Names};
 ghost use Rattle.jpeg_decoder.specs.Seen.{found_in};
-ghost use Rattle.jpeg_decoder.specs.Sound.{IsSound};
+ghost use Rattle.jpeg_streams.specs.Sound.{IsSound};
 ghost use Rattle.jpeg_segments.specs.FrameView.{frame_in, scan_in};
 ghost use Rattle.jpeg_segments.specs.ScanHeader.{IsScanOf};
 ghost use Rattle.jpeg_decoder.specs.Steps.{IsDct, IsRefusal, blocks_read, scan_read, with_decoded};
-ghost use Rattle.jpeg_decoder.specs.Stream.{line_count};
+ghost use Rattle.jpeg_streams.specs.Stream.{line_count};
 
 use crate::codings::{codings_of, pass_of, spare_tables};
 use crate::decoded::Decoded;
@@ -15,12 +15,13 @@ use crate::lossless_scans::read_lossless_scan;
 use crate::places::needed;
 use crate::restarts::pass_restarts;
 use crate::scans::Scan;
-use crate::state::{Before, State};
+use crate::state::State;
 use jpeg_bits::error::{Error, Result, UnsupportedFeature, format_error};
 use jpeg_bits::marker::Marker;
 use jpeg_bits::scan::ScanInfo;
 use jpeg_bits::source::Source;
 use jpeg_segments::parser::{CodingProcess, FrameInfo, parse_sos};
+use jpeg_streams::before::Before;
 use std::alloc::Global;
 use std::io::Read;
 

@@ -6,12 +6,12 @@ ghost use Rattle.std.specs.Prelude.{◌≡◌, ◌≤◌, ◌<◌, ◌+◌, ◌-
 ghost use Rattle.std.specs.List.{All, AllByRecursion, range_with_len};
 ghost use Rattle.jpeg_bits.specs.Reading.{Answers};
 ghost use Rattle.jpeg_bits.specs.Entropy.{Takes, fresh};
-ghost use Rattle.jpeg_decoder.specs.InTurn.{turn_from, turns_from, begun_from, mcu_from};
-ghost use Rattle.jpeg_decoder.specs.InTurn.{mcus_from, scan_from, Fits, AreArrays};
-ghost use Rattle.jpeg_decoder.specs.Order.{mcu_spots, spots_of, mcu_size, grid_of};
+ghost use Rattle.jpeg_streams.specs.InTurn.{turn_from, turns_from, begun_from, mcu_from};
+ghost use Rattle.jpeg_streams.specs.InTurn.{mcus_from, scan_from, Fits, AreArrays};
+ghost use Rattle.jpeg_streams.specs.Order.{mcu_spots, spots_of, mcu_size, grid_of};
 ghost use Rattle.jpeg_segments.specs.FrameView.{frame_in};
-ghost use Rattle.jpeg_decoder.specs.Scans.{Arrays, arrays_at};
-ghost use Rattle.jpeg_decoder.specs.Layout.{line_of, part_of};
+ghost use Rattle.jpeg_streams.specs.Scans.{Arrays, arrays_at};
+ghost use Rattle.jpeg_streams.specs.Layout.{line_of, part_of};
 ghost use Rattle.jpeg_bits.specs.Intervals.{predictors_at_start};
 ghost use Rattle.jpeg_bits.specs.BlockView.{IsPass};
 ghost use Rattle.jpeg_decoder.specs.Scanning.{HasAc, HasCodedScale, IsHeld, AreWithin, HoldsMcu};
@@ -21,7 +21,6 @@ ghost use Rattle.jpeg_decoder.specs.Scanning.{wide_in, across_in, down_in, part_
 ghost use Rattle.jpeg_decoder.specs.Scanning.{mcu_in, row_in, rows_in, own_mcu, own_row, own_rows};
 
 use crate::codings::Coded;
-use crate::grids::{Grid, grid_of};
 use crate::restarts::read_restart;
 use jpeg_bits::blocks::{Pass, take_block};
 use jpeg_bits::error::{Error, Result, take_refusal};
@@ -29,6 +28,7 @@ use jpeg_bits::huffman::HuffmanDecoder;
 use jpeg_bits::marker::Marker;
 use jpeg_bits::source::Source;
 use jpeg_segments::parser::FrameInfo;
+use jpeg_streams::grids::{Grid, grid_of};
 use std::alloc::Global;
 use std::io::Read;
 
@@ -334,7 +334,7 @@ fn read_mcu<R: Read + Drop>(
 }
 
 /// Reads a row of `wide` MCUs.
-#[tactic(auto, using(crate::proofs::McuSteps::mcus_rules))]
+#[tactic(auto, using(jpeg_streams::proofs::McuSteps::mcus_rules))]
 pub fn read_row<R: Read + Drop>(
     interval: &mut Interval,
     source: &mut Source<R>,
@@ -368,7 +368,7 @@ pub fn read_row<R: Read + Drop>(
 }
 
 /// Reads `high` rows of `wide` MCUs.
-#[tactic(auto, using(crate::proofs::McuSteps::rows_rules))]
+#[tactic(auto, using(jpeg_streams::proofs::McuSteps::rows_rules))]
 fn read_rows<R: Read + Drop>(
     interval: &mut Interval,
     source: &mut Source<R>,
@@ -401,7 +401,7 @@ fn read_rows<R: Read + Drop>(
 
 /// Reads a scan of several components on the blocks that are held of them, and returns the marker
 /// after it, if it was met.
-#[tactic(auto, unfolding(crate::specs::InTurn::scan_from))]
+#[tactic(auto, unfolding(jpeg_streams::specs::InTurn::scan_from))]
 pub fn read_interleaved<R: Read + Drop>(
     alloc: Global,
     source: &mut Source<R>,
@@ -461,7 +461,7 @@ fn read_own_mcu<R: Read + Drop>(
 }
 
 /// Reads `count` blocks of a component that is alone in a scan, from an index on.
-#[tactic(auto, using(crate::proofs::McuSteps::mcus_rules))]
+#[tactic(auto, using(jpeg_streams::proofs::McuSteps::mcus_rules))]
 fn read_own_row<R: Read + Drop>(
     interval: &mut Interval,
     source: &mut Source<R>,
@@ -498,7 +498,7 @@ fn read_own_row<R: Read + Drop>(
 }
 
 /// Reads the rows of a component's own blocks, where it is alone in a scan.
-#[tactic(auto, using(crate::proofs::McuSteps::rows_rules))]
+#[tactic(auto, using(jpeg_streams::proofs::McuSteps::rows_rules))]
 pub fn read_own_rows<R: Read + Drop>(
     interval: &mut Interval,
     source: &mut Source<R>,
@@ -542,7 +542,7 @@ fn row_start(row: u16, wide: u16) -> usize
 
 /// Reads a scan of one component on the blocks that are held of it, and returns the marker after
 /// it, if it was met.
-#[tactic(auto, unfolding(crate::specs::InTurn::scan_from))]
+#[tactic(auto, unfolding(jpeg_streams::specs::InTurn::scan_from))]
 pub fn read_alone<R: Read + Drop>(
     alloc: Global,
     source: &mut Source<R>,

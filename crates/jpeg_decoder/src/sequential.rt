@@ -5,8 +5,8 @@ ghost use Rattle.jpeg_bits.specs.BlockView.{IsPass};
 ghost use Rattle.jpeg_bits.specs.Entropy.{Takes};
 ghost use Rattle.jpeg_bits.specs.Reading.{Answers};
 ghost use Rattle.jpeg_segments.specs.FrameView.{frame_in};
-ghost use Rattle.jpeg_decoder.specs.InTurn.{Fits, mcus_from};
-ghost use Rattle.jpeg_decoder.specs.McuRows.{rows_of};
+ghost use Rattle.jpeg_streams.specs.InTurn.{Fits, mcus_from};
+ghost use Rattle.jpeg_streams.specs.McuRows.{rows_of};
 ghost use Rattle.jpeg_decoder.specs.Scanning.{HasAc, HasCodedScale, arrays_in, sizes_of};
 ghost use Rattle.jpeg_decoder.specs.Scanning.{counted, down_in};
 ghost use Rattle.jpeg_decoder.specs.Scanning.{scan_pass, scan_vias, scan_components};
@@ -14,13 +14,13 @@ ghost use Rattle.jpeg_decoder.specs.Steps.{coding_in};
 ghost use Rattle.jpeg_decoder.specs.Strips.{components_of, planes_in, row_sizes, samples_in};
 ghost use Rattle.jpeg_decoder.specs.Strips.{row_at, planes_at, planes_by_rows, strips_from};
 
-use crate::grids::{Grid, grid_of};
 use crate::scans::{Interval, Scan, first_interval, read_own_rows, read_row};
 use crate::strips::{append_strips, clear_rows, empty_planes, row_buffers};
 use jpeg_bits::error::Result;
 use jpeg_bits::marker::Marker;
 use jpeg_bits::source::Source;
 use jpeg_segments::parser::FrameInfo;
+use jpeg_streams::grids::{Grid, grid_of};
 use std::alloc::Global;
 use std::io::Read;
 

@@ -2,32 +2,22 @@
 ghost use Rattle.std.specs.Prelude.{◌≡◌, true, None};
 ghost use Rattle.jpeg_bits.specs.Reading.{Answers, IsShort};
 ghost use Rattle.jpeg_segments.specs.HuffmanTables.{all_ac};
-ghost use Rattle.jpeg_decoder.specs.Stream.{marker_or};
+ghost use Rattle.jpeg_streams.specs.Stream.{marker_or};
 
 use crate::decoded::Decoded;
 use crate::frames::check_frame;
 use crate::metadata::Metadata;
 use crate::places::update;
 use crate::scan_segment::{read_scan, refused_line_count};
-use jpeg_bits::color_transform::ColorTransform;
 use jpeg_bits::error::{Error, Result, UnsupportedFeature, format_error};
 use jpeg_bits::huffman::HuffmanTable;
 use jpeg_bits::marker::{Marker, read_marker};
 use jpeg_bits::reads::{read_length, skip};
 use jpeg_bits::source::Source;
 use jpeg_segments::parser::{FrameInfo, parse_app, parse_dht, parse_dqt, parse_dri, parse_sof};
+use jpeg_streams::before::Before;
 use std::alloc::Global;
 use std::io::Read;
-
-/// What a caller sets.
-#[derive(Clone, Copy, Debug, PartialEq)]
-pub struct Settings {
-    /// The greatest number of bytes of a picture.
-    pub limit: usize,
-    /// The colour transform of pictures of several components, where the segments are not to choose
-    /// it.
-    pub color_transform: Option<ColorTransform>,
-}
 
 /// What the segments of a stream have said so far: the frame, the tables in force by their places,
 /// and the planes that are decided, by the components' places in the frame.
@@ -46,14 +36,6 @@ pub struct State {
 
     // Each AC table is of class AC.
     ghost ac_classes: { all_ac ac_tables ≡ true },
-}
-
-/// What stands before a marker.
-#[derive(Clone, Copy, Debug, PartialEq)]
-pub enum Before {
-    FirstScan,
-    LaterScan,
-    Elsewhere,
 }
 
 /// What stands after a segment: what stands before the next marker, that marker, if it was met
@@ -76,20 +58,20 @@ impl State {
     ghost use Rattle.std.specs.Prelude.{◌≡◌, ◌&&◌, true, is_some, None, OnErr, OnOk, IfOk, false};
     ghost use Rattle.jpeg_bits.specs.Reading.{Answers, IsShort};
     ghost use Rattle.jpeg_segments.specs.FrameView.{component_in, frame_in, scan_in};
-    ghost use Rattle.jpeg_decoder.specs.Stream.{nothing_found, frame_segment, quantization_segment};
-    ghost use Rattle.jpeg_decoder.specs.Stream.{huffman_segment, restart_segment};
-    ghost use Rattle.jpeg_decoder.specs.Stream.{application_segment, skipped_segment, scan_before};
-    ghost use Rattle.jpeg_decoder.specs.Stream.{scan_segment, end_segment, stray_restart};
-    ghost use Rattle.jpeg_decoder.specs.Stream.{segment_at, turn_at, segments_at, told_of};
-    ghost use Rattle.jpeg_decoder.specs.Stream.{told_rest, told_in_turns, IsOfTurns};
-    ghost use Rattle.jpeg_decoder.specs.States.{OnTold};
+    ghost use Rattle.jpeg_streams.specs.Stream.{nothing_found, frame_segment, quantization_segment};
+    ghost use Rattle.jpeg_streams.specs.Stream.{huffman_segment, restart_segment};
+    ghost use Rattle.jpeg_streams.specs.Stream.{application_segment, skipped_segment, scan_before};
+    ghost use Rattle.jpeg_streams.specs.Stream.{scan_segment, end_segment, stray_restart};
+    ghost use Rattle.jpeg_streams.specs.Stream.{segment_at, turn_at, segments_at, told_of};
+    ghost use Rattle.jpeg_streams.specs.Stream.{told_rest, told_in_turns, IsOfTurns};
+    ghost use Rattle.jpeg_streams.specs.States.{OnTold};
     ghost use Rattle.jpeg_decoder.specs.Seen.{found_in};
     ghost use Rattle.jpeg_decoder.specs.Steps.{turn_of};
-    ghost use Rattle.jpeg_decoder.specs.Sound.{IsSound, IsUnread};
-    ghost use Rattle.jpeg_decoder.specs.declared.state.Before.TheVariants.{Elsewhere};
+    ghost use Rattle.jpeg_streams.specs.Sound.{IsSound, IsUnread};
+    ghost use Rattle.jpeg_streams.specs.declared.before.Before.TheVariants.{Elsewhere};
 
     /// The state at the start of a stream.
-    #[tactic(auto, unfolding(crate::specs::Stream::nothing_found))]
+    #[tactic(auto, unfolding(jpeg_streams::specs::Stream::nothing_found))]
     pub fn new(alloc: Global) -> State
         ensures { found_in result ≡ nothing_found }
     {
@@ -106,7 +88,7 @@ impl State {
     }
 
     /// A frame header (T.81, B.2.2).
-    #[tactic(auto, unfolding(crate::specs::Stream::frame_segment))]
+    #[tactic(auto, unfolding(jpeg_streams::specs::Stream::frame_segment))]
     fn read_frame<R: Read + Drop>(
         &mut self,
         alloc: Global,
@@ -132,7 +114,7 @@ impl State {
     }
 
     /// Quantization tables (T.81, B.2.4.1).
-    #[tactic(auto, unfolding(crate::specs::Stream::quantization_segment), using(crate::proofs::Soundness::sound_kept))]
+    #[tactic(auto, unfolding(jpeg_streams::specs::Stream::quantization_segment), using(jpeg_streams::proofs::Soundness::sound_kept))]
     fn read_quantization<R: Read + Drop>(
         &mut self,
         alloc: Global,
@@ -153,7 +135,7 @@ impl State {
     }
 
     /// Huffman tables (T.81, B.2.4.2).
-    #[tactic(auto, unfolding(crate::specs::Stream::huffman_segment), using(crate::proofs::Soundness::sound_kept))]
+    #[tactic(auto, unfolding(jpeg_streams::specs::Stream::huffman_segment), using(jpeg_streams::proofs::Soundness::sound_kept))]
     fn read_huffman<R: Read + Drop>(
         &mut self,
         alloc: Global,
@@ -176,7 +158,7 @@ impl State {
     }
 
     /// A restart interval (T.81, B.2.4.4).
-    #[tactic(auto, unfolding(crate::specs::Stream::restart_segment), using(crate::proofs::Soundness::sound_kept))]
+    #[tactic(auto, unfolding(jpeg_streams::specs::Stream::restart_segment), using(jpeg_streams::proofs::Soundness::sound_kept))]
     fn read_restart<R: Read + Drop>(
         &mut self,
         alloc: Global,
@@ -196,7 +178,7 @@ impl State {
     }
 
     /// Data of an application (T.81, B.2.4.6).
-    #[tactic(auto, unfolding(crate::specs::Stream::application_segment), using(crate::proofs::Soundness::sound_kept))]
+    #[tactic(auto, unfolding(jpeg_streams::specs::Stream::application_segment), using(jpeg_streams::proofs::Soundness::sound_kept))]
     fn read_application<R: Read + Drop>(
         &mut self,
         alloc: Global,
@@ -218,7 +200,7 @@ impl State {
     }
 
     /// A segment that is passed over.
-    #[tactic(auto, unfolding(crate::specs::Stream::skipped_segment))]
+    #[tactic(auto, unfolding(jpeg_streams::specs::Stream::skipped_segment))]
     fn skip_segment<R: Read + Drop>(&self, alloc: Global, source: &mut Source<R>) -> Result<Step>
         ensures reads { Answers (turn_of self.now) (skipped_segment (found_in self.now)) source.old
             result source.new }
@@ -230,7 +212,7 @@ impl State {
     }
 
     /// The end of the image, which needs a frame.
-    #[tactic(auto, unfolding(crate::specs::Stream::end_segment))]
+    #[tactic(auto, unfolding(jpeg_streams::specs::Stream::end_segment))]
     fn end<R: Read + Drop>(&self, alloc: Global, source: &mut Source<R>) -> Result<Step>
         ensures reads { Answers (turn_of self.now) (end_segment (found_in self.now)) source.old
             result source.new }
@@ -301,7 +283,7 @@ impl State {
     }
 
     /// What stands after a marker.
-    #[tactic(auto, unfolding(crate::specs::Stream::segment_at))]
+    #[tactic(auto, unfolding(jpeg_streams::specs::Stream::segment_at))]
     fn read_segment<R: Read + Drop>(
         &mut self,
         alloc: Global,
@@ -339,7 +321,7 @@ impl State {
     }
 
     /// One marker, which may have been met already, and what stands after it.
-    #[tactic(auto, unfolding(crate::specs::Stream::turn_at))]
+    #[tactic(auto, unfolding(jpeg_streams::specs::Stream::turn_at))]
     fn read_turn<R: Read + Drop>(
         &mut self,
         alloc: Global,

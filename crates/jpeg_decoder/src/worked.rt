@@ -6,13 +6,13 @@ ghost use Rattle.jpeg_bits.specs.Reading.{Malformed, Lacks, End};
 ghost use Rattle.jpeg_bits.specs.declared.color_transform.ColorTransform.TheVariants as transforms;
 ghost use Rattle.jpeg_bits.specs.declared.error.UnsupportedFeature.TheVariants.{DNL};
 ghost use Rattle.jpeg_segments.specs.Scales.{scale_for};
-ghost use Rattle.jpeg_decoder.specs.Worked.{picture_meant, picture_with, picture_sized};
-ghost use Rattle.jpeg_decoder.specs.Worked.{scan_of, eight_times, stream_with};
-ghost use Rattle.jpeg_decoder.specs.Worked.{stream_without_height, stream_of_one_coefficient};
-ghost use Rattle.jpeg_decoder.specs.Worked.{scanned_twice, with_restart, three_at_once};
-ghost use Rattle.jpeg_decoder.specs.WorkedImages.{colour_bytes, colour_picture};
-ghost use Rattle.jpeg_decoder.specs.WorkedImages.{grey_bytes, grey_picture};
-ghost use Rattle.jpeg_decoder.specs.Worked.{three_in_turn, two_to_one, refined, run_of_blocks};
+ghost use Rattle.jpeg_streams.specs.Worked.{picture_meant, picture_with, picture_sized};
+ghost use Rattle.jpeg_streams.specs.Worked.{scan_of, eight_times, stream_with};
+ghost use Rattle.jpeg_streams.specs.Worked.{stream_without_height, stream_of_one_coefficient};
+ghost use Rattle.jpeg_streams.specs.Worked.{scanned_twice, with_restart, three_at_once};
+ghost use Rattle.jpeg_streams.specs.WorkedImages.{colour_bytes, colour_picture};
+ghost use Rattle.jpeg_streams.specs.WorkedImages.{grey_bytes, grey_picture};
+ghost use Rattle.jpeg_streams.specs.Worked.{three_in_turn, two_to_one, refined, run_of_blocks};
 
 /// The scales for some sizes that are asked for.
 pub fn known_scales()

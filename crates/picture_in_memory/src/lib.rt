@@ -5,12 +5,12 @@
 #![tactic(auto)]
 
 ghost use Rattle.std.specs.Prelude.{◌≡◌, ◌++◌, ◌<◌, ◌^◌, ℕ, List, length, IfOk, Ok};
-ghost use Rattle.jpeg_decoder.specs.ArrayPictures.{picture_of_array, Takes};
-ghost use Rattle.jpeg_decoder.specs.Levels.{Is8Bit, Levels};
-ghost use Rattle.jpeg_decoder.specs.Output.{default_settings};
-ghost use Rattle.jpeg_decoder.specs.Stream.{Found, Told, meaning};
-ghost use Rattle.jpeg_decoder.specs.WrittenImages.{WritesImage};
-ghost use Rattle.jpeg_decoder.specs.WrittenScans.{Coefficients};
+ghost use Rattle.jpeg_streams.specs.ArrayPictures.{picture_of_array, Takes};
+ghost use Rattle.jpeg_streams.specs.Levels.{Is8Bit, Levels};
+ghost use Rattle.jpeg_streams.specs.Output.{default_settings};
+ghost use Rattle.jpeg_streams.specs.Stream.{Found, Told, meaning};
+ghost use Rattle.jpeg_streams.specs.WrittenImages.{WritesImage};
+ghost use Rattle.jpeg_streams.specs.WrittenScans.{Coefficients};
 
 #[cfg(test)]
 mod tests;

@@ -1,10 +1,10 @@
 -- A header that was sized, and then the rest of its stream, are the picture of the stream.
 use Rattle.std.proofs.Common.{◌≡◌, ◌∙◌, ℕ, List, Result, Ok, Err, Some, refl, ap, option_map}
 use Rattle.jpeg_bits.specs.Reading.{Fault, Outcome}
-use Rattle.jpeg_decoder.specs.Output.{default_settings}
-use Rattle.jpeg_decoder.specs.Seen.{info_of}
-use Rattle.jpeg_decoder.specs.Stream.{Found, Told, header_at, rest_at, sized_header_at, sized_meaning, sized_to}
-use Rattle.jpeg_decoder.proofs.AcceptedTurns.{then-ok}
+use Rattle.jpeg_streams.specs.Output.{default_settings}
+use Rattle.jpeg_streams.specs.Pixels.{info_of}
+use Rattle.jpeg_streams.specs.Stream.{Found, Told, header_at, rest_at, sized_header_at, sized_meaning, sized_to}
+use Rattle.jpeg_streams.proofs.AcceptedTurns.{then-ok}
 use Rattle.jpeg_decoder.proofs.Headers.{bind-ok}
 use Rattle.thumbnail.specs.Thumbnails.{picture_at}
 

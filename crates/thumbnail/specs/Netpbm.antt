@@ -1,9 +1,9 @@
 -- A picture as a file of the netpbm formats.
 use Rattle.std.specs.Prelude.{ℕ, zero, suc, ◌/◌, List, [], ◌∷◌, ◌++◌, length, codes}
 use Rattle.std.specs.Fmt.{decimal}
-use Rattle.jpeg_decoder.specs.declared.decoder.ImageInfo.{ImageInfo}
-use Rattle.jpeg_decoder.specs.declared.decoder.PixelFormat.{PixelFormat}
-use Rattle.jpeg_decoder.specs.declared.decoder.PixelFormat.TheVariants.{L8, L16, RGB24, CMYK32}
+use Rattle.jpeg_streams.specs.declared.images.ImageInfo.{ImageInfo}
+use Rattle.jpeg_streams.specs.declared.images.PixelFormat.{PixelFormat}
+use Rattle.jpeg_streams.specs.declared.images.PixelFormat.TheVariants.{L8, L16, RGB24, CMYK32}
 
 -- a header of PGM or PPM
 abbrev pub plain_header : List ℕ → ImageInfo → List ℕ → List ℕ

@@ -1,9 +1,9 @@
 -- The file that the program writes for a stream.
 use Rattle.std.specs.Prelude.{ℕ, List, [], Ok, Err, Option, Some, None, option_map}
-use Rattle.jpeg_decoder.specs.Output.{default_settings}
-use Rattle.jpeg_decoder.specs.Seen.{info_of}
-use Rattle.jpeg_decoder.specs.Stream.{sized_meaning}
-use Rattle.jpeg_decoder.specs.declared.decoder.ImageInfo.{ImageInfo}
+use Rattle.jpeg_streams.specs.Output.{default_settings}
+use Rattle.jpeg_streams.specs.Pixels.{info_of}
+use Rattle.jpeg_streams.specs.Stream.{sized_meaning}
+use Rattle.jpeg_streams.specs.declared.images.ImageInfo.{ImageInfo}
 use Rattle.thumbnail.specs.Netpbm.{file_of}
 
 -- what the picture of a stream is at the scale whose picture is as wide or as high as is asked for,

@@ -16,7 +16,7 @@
 
 ghost use Rattle.std.specs.Prelude.{◌≡◌, List, ℕ, IfOk, OnOk, Some, IsSomeAnd};
 ghost use Rattle.std.specs.Io.KnownBytes.{Appends};
-ghost use Rattle.jpeg_decoder.specs.Output.{Tells};
+ghost use Rattle.jpeg_streams.specs.Output.{Tells};
 ghost use Rattle.thumbnail.specs.Thumbnails.{file_at, picture_at};
 
 mod netpbm;

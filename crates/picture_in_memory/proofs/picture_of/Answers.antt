@@ -3,10 +3,10 @@ use Rattle.std.specs.Prelude.{IfOk, MatchResult}
 use Rattle.jpeg_bits.specs.Reading.{Answers, Fault, Outcome}
 use Rattle.jpeg_bits.specs.Stream.{Stream, stream_of}
 use Rattle.jpeg_bits.specs.declared.error.Error.{Error}
-use Rattle.jpeg_decoder.specs.DecodedImages.{FailsOutside, FullSize, Gives}
-use Rattle.jpeg_decoder.specs.Output.{Tells, default_settings}
-use Rattle.jpeg_decoder.specs.States.{Decoding}
-use Rattle.jpeg_decoder.specs.Stream.{Found, Told, meaning, told_of}
+use Rattle.jpeg_streams.specs.DecodedImages.{FailsOutside, FullSize, Gives}
+use Rattle.jpeg_streams.specs.Output.{Tells, default_settings}
+use Rattle.jpeg_streams.specs.States.{Decoding}
+use Rattle.jpeg_streams.specs.Stream.{Found, Told, meaning, told_of}
 use Rattle.jpeg_decoder.proofs.Callers.{bytes_are_known, known_bytes_are_told}
 use Rattle.picture_in_memory.proofs.picture_of.Goals as goal
 

@@ -1,7 +1,7 @@
 use Rattle.std.proofs.Common.{◌∙◌, ap, sym, refl, Some, Option}
 use Rattle.jpeg_decoder.proofs.Callers.{bytes_are_known, known_bytes_are_told}
-use Rattle.jpeg_decoder.specs.Stream.{told_of}
-use Rattle.jpeg_decoder.specs.declared.decoder.ImageInfo.{ImageInfo}
+use Rattle.jpeg_streams.specs.Stream.{told_of}
+use Rattle.jpeg_streams.specs.declared.images.ImageInfo.{ImageInfo}
 use Rattle.thumbnail.proofs.Pictures.{picture-some}
 use Rattle.thumbnail.proofs.read_picture.Goals as goal
 

@@ -1,7 +1,7 @@
 use Rattle.std.proofs.Common.{Some, rules}
 use Rattle.jpeg_segments.specs.FrameView.{frame_in}
 use Rattle.jpeg_decoder.specs.Seen.{found_in}
-use Rattle.jpeg_decoder.proofs.Soundness.{frames_scaled, sound_scaled}
+use Rattle.jpeg_streams.proofs.Soundness.{frames_scaled, sound_scaled}
 use Rattle.jpeg_decoder.proofs.decoder.scale_state.Goals as goal
 
 pub returns-in-Some-clause-frames : goal.returns-in-Some-clause-frames

@@ -1,8 +1,8 @@
 use Rattle.std.proofs.Common.{◌++◌, ◌∙◌}
-use Rattle.jpeg_decoder.proofs.WrittenPictures.{stream-means}
-use Rattle.jpeg_decoder.proofs.SizedStreams.{stream-means_sized}
-use Rattle.jpeg_decoder.proofs.AcceptedImages.{image-accepted}
-use Rattle.jpeg_decoder.proofs.WholeImages.{whole-is, sized-whole}
+use Rattle.jpeg_streams.proofs.WrittenPictures.{stream-means}
+use Rattle.jpeg_streams.proofs.SizedStreams.{stream-means_sized}
+use Rattle.jpeg_streams.proofs.AcceptedImages.{image-accepted}
+use Rattle.jpeg_streams.proofs.WholeImages.{whole-is, sized-whole}
 use Rattle.jpeg_decoder.proofs.headline.complete_images_are_whole.Goals as goal
 
 pub returns-clause-whole : goal.returns-clause-whole

@@ -1,4 +1,4 @@
-use Rattle.jpeg_decoder.proofs.EncodedImages.{image-written}
+use Rattle.jpeg_streams.proofs.EncodedImages.{image-written}
 use Rattle.jpeg_decoder.proofs.headline.every_image_has_a_stream.Goals as goal
 
 pub returns : goal.returns

@@ -1,6 +1,6 @@
 use Rattle.std.proofs.Common.{◌++◌}
-use Rattle.jpeg_decoder.proofs.SizedStreams.{stream-means_sized}
-use Rattle.jpeg_decoder.proofs.AcceptedImages.{image-accepted}
+use Rattle.jpeg_streams.proofs.SizedStreams.{stream-means_sized}
+use Rattle.jpeg_streams.proofs.AcceptedImages.{image-accepted}
 use Rattle.jpeg_decoder.proofs.headline.images_are_read_at_scales.Goals as goal
 
 pub returns : goal.returns

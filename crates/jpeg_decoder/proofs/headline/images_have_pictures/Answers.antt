@@ -1,7 +1,7 @@
 use Rattle.std.proofs.Common.{◌++◌}
-use Rattle.jpeg_decoder.proofs.WrittenPictures.{taken-means}
-use Rattle.jpeg_decoder.proofs.SizedStreams.{sized-taken}
-use Rattle.jpeg_decoder.proofs.AcceptedImages.{image-accepted}
+use Rattle.jpeg_streams.proofs.WrittenPictures.{taken-means}
+use Rattle.jpeg_streams.proofs.SizedStreams.{sized-taken}
+use Rattle.jpeg_streams.proofs.AcceptedImages.{image-accepted}
 use Rattle.jpeg_decoder.proofs.headline.images_have_pictures.Goals as goal
 
 pub returns-clause-plain : goal.returns-clause-plain

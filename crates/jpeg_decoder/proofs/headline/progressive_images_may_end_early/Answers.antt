@@ -1,9 +1,9 @@
 use Rattle.std.proofs.Common.{[], ◌∷◌, ◌++◌, false, true, refl}
-use Rattle.jpeg_decoder.specs.Levels.{nothing_sent}
-use Rattle.jpeg_decoder.specs.Stream.{nothing_found}
-use Rattle.jpeg_decoder.proofs.AcceptedImages.{image-accepted}
-use Rattle.jpeg_decoder.proofs.WrittenParts.{front-append, front-closed}
-use Rattle.jpeg_decoder.proofs.WrittenPictures.{stream-means}
+use Rattle.jpeg_streams.specs.Levels.{nothing_sent}
+use Rattle.jpeg_streams.specs.Stream.{nothing_found}
+use Rattle.jpeg_streams.proofs.AcceptedImages.{image-accepted}
+use Rattle.jpeg_streams.proofs.WrittenParts.{front-append, front-closed}
+use Rattle.jpeg_streams.proofs.WrittenPictures.{stream-means}
 use Rattle.jpeg_decoder.proofs.headline.progressive_images_may_end_early.Goals as goal
 
 pub returns-clause-written : goal.returns-clause-written

@@ -1,8 +1,8 @@
 use Rattle.std.proofs.Common.{◌∙◌, ◌∷◌}
-use Rattle.jpeg_decoder.specs.Scans.{zero_arrays}
-use Rattle.jpeg_decoder.proofs.Apart.{zeros-sized}
-use Rattle.jpeg_decoder.proofs.Mcus.{frame-scans}
-use Rattle.jpeg_decoder.proofs.McuRows.{scans-by-rows}
+use Rattle.jpeg_streams.specs.Scans.{zero_arrays}
+use Rattle.jpeg_streams.proofs.Apart.{zeros-sized}
+use Rattle.jpeg_streams.proofs.Mcus.{frame-scans}
+use Rattle.jpeg_streams.proofs.McuRows.{scans-by-rows}
 use Rattle.jpeg_decoder.proofs.laws.scans_go_by_rows.Goals as goal
 
 pub returns : goal.returns

@@ -1,6 +1,6 @@
-use Rattle.jpeg_decoder.specs.Order.{spots_of}
-use Rattle.jpeg_decoder.proofs.Apart.{spots-apart, spots-inside}
-use Rattle.jpeg_decoder.proofs.WholeScans.{scans-in-turn}
+use Rattle.jpeg_streams.specs.Order.{spots_of}
+use Rattle.jpeg_streams.proofs.Apart.{spots-apart, spots-inside}
+use Rattle.jpeg_streams.proofs.WholeScans.{scans-in-turn}
 use Rattle.jpeg_decoder.proofs.laws.scans_go_in_turn.Goals as goal
 
 pub returns : goal.returns

@@ -1,7 +1,7 @@
 use Rattle.std.proofs.Common.{List, subst, Result}
 use Rattle.jpeg_bits.specs.Reading.{Fault}
-use Rattle.jpeg_decoder.specs.Stream.{Coding}
-use Rattle.jpeg_decoder.proofs.ScanArrays.{AllOf, codings-are-of, sequential-scan, progressive-scan}
+use Rattle.jpeg_streams.specs.Stream.{Coding}
+use Rattle.jpeg_streams.proofs.ScanArrays.{AllOf, codings-are-of, sequential-scan, progressive-scan}
 use Rattle.jpeg_decoder.proofs.laws.scans_of_frames.Goals as goal
 
 pub returns : goal.returns

@@ -9,14 +9,14 @@ use Rattle.jpeg_lossless.specs.declared.scan.Coding.{Coding}
 use Rattle.std.proofs.lemmas.Result.{err_from_is_err_and}
 use Rattle.jpeg_bits.specs.declared.marker.Marker.{Marker}
 use Rattle.jpeg_segments.specs.FrameView.{frame_in, scan_in}
-use Rattle.jpeg_decoder.specs.LosslessScans.{LosslessCoding, tables_in, with_samples, without_factors}
+use Rattle.jpeg_streams.specs.LosslessScans.{LosslessCoding, tables_in, with_samples, without_factors}
 use Rattle.jpeg_decoder.specs.Seen.{found_in, planes_in}
 use Rattle.jpeg_decoder.specs.Steps.{samples_read, with_decoded}
 use Rattle.jpeg_decoder.proofs.LosslessReads.{begun, codings-by-tables, codings-count, codings-lacking, four-places}
 use Rattle.jpeg_decoder.proofs.LosslessReads.{on-ok, plain-by, plain-places, put-made, samples-end, samples-fail}
 use Rattle.jpeg_decoder.proofs.LosslessReads.{samples-lacking, samples-sound}
 use Rattle.jpeg_decoder.proofs.ScanReads.{refused}
-use Rattle.jpeg_decoder.proofs.Soundness.{decoded-precision, decoded-some}
+use Rattle.jpeg_streams.proofs.Soundness.{decoded-precision, decoded-some}
 use Rattle.jpeg_decoder.proofs.lossless_scans.read_lossless_scan.Goals as goal
 
 pub returns-in_err-tables-clause-reads : goal.returns-in_err-tables-clause-reads

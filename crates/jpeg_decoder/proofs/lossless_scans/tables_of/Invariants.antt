@@ -1,7 +1,7 @@
 use Rattle.std.proofs.Common.{◌≡◌, drop, map}
 use Rattle.jpeg_bits.specs.Reading.{◌>>=◌}
 use Rattle.jpeg_segments.specs.FrameView.{scan_in}
-use Rattle.jpeg_decoder.specs.LosslessScans.{tables_in}
+use Rattle.jpeg_streams.specs.LosslessScans.{tables_in}
 use Rattle.jpeg_decoder.proofs.LosslessReads.{tables-after}
 use Rattle.jpeg_decoder.proofs.lossless_scans.tables_of.Given as goal
 

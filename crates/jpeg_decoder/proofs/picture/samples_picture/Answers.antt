@@ -5,7 +5,7 @@ use Rattle.jpeg_segments.specs.FrameView.{frame_in}
 use Rattle.jpeg_decoder.specs.Seen.{found_in, planes_in}
 use Rattle.jpeg_decoder.specs.Steps.{with_decoded}
 use Rattle.jpeg_decoder.proofs.LosslessReads.{picture-given, picture-lacks, picture-made, samples-whole}
-use Rattle.jpeg_decoder.proofs.Soundness.{count-few, decoded-count}
+use Rattle.jpeg_streams.proofs.Soundness.{count-few, decoded-count}
 use Rattle.jpeg_decoder.proofs.picture.samples_picture.Goals as goal
 
 pub samples_at_end-requires : goal.samples_at_end-requires

@@ -1,7 +1,7 @@
 use Rattle.std.proofs.Common.{◌≡◌, ◌≢◌, ◌∙◌, ◌<◌, arith, length, refl, sym, below_more, get_or-set_other}
 use Rattle.std.proofs.Common.{get_or-set_same}
 use Rattle.std.proofs.Math.ListN.{length-set}
-use Rattle.jpeg_decoder.proofs.Updates.{moved-some, moved-none, updated-none}
+use Rattle.jpeg_streams.proofs.Updates.{moved-some, moved-none, updated-none}
 use Rattle.jpeg_decoder.proofs.places.update.Goals as goal
 use Rattle.jpeg_decoder.proofs.places.update.Goals.{in-Some+in-Some-1, in-Some+in-None-1, in_default}
 

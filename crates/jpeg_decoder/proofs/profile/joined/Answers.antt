@@ -1,6 +1,6 @@
 use Rattle.std.proofs.Common.{◌≤◌, ◌+◌, sym, subst, map, arith}
 use Rattle.jpeg_segments.specs.FrameView.{chunk_in}
-use Rattle.jpeg_decoder.proofs.ProfileLemmas.{Joins, joins-more, joins-missing, joins-all}
+use Rattle.jpeg_streams.proofs.ProfileLemmas.{Joins, joins-more, joins-missing, joins-all}
 use Rattle.jpeg_decoder.proofs.profile.joined.Goals as goal
 
 pub returns-in-None : goal.returns-in-None

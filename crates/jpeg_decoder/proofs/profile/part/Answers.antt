@@ -1,7 +1,7 @@
 use Rattle.std.proofs.Common.{◌∙◌, ap, sym, ℕ, List, Option, Some}
 use Rattle.std.specs.Prelude.{option_map}
 use Rattle.jpeg_segments.specs.declared.parser.IccChunk.{IccChunk}
-use Rattle.jpeg_decoder.proofs.ProfileLemmas.{part_find}
+use Rattle.jpeg_streams.proofs.ProfileLemmas.{part_find}
 use Rattle.jpeg_decoder.proofs.profile.part.Goals as goal
 
 pub returns-in-Some : goal.returns-in-Some

@@ -4,7 +4,7 @@ use Rattle.jpeg_bits.specs.Marker.{next_marker}
 use Rattle.jpeg_bits.specs.declared.marker.Marker.{Marker}
 use Rattle.jpeg_bits.proofs.Loops.{Continues-ok, Continues-err}
 use Rattle.jpeg_decoder.specs.Steps.{is_restart, after_all}
-use Rattle.jpeg_decoder.proofs.Refusals.{never-met, short-first}
+use Rattle.jpeg_streams.proofs.Refusals.{never-met, short-first}
 use Rattle.jpeg_decoder.proofs.PassedRestarts.{after-done, after-refused, after-next, marker-takes}
 use Rattle.jpeg_decoder.proofs.restarts.pass_restarts.Goals as goal
 use Rattle.jpeg_decoder.proofs.restarts.pass_restarts.Goals.{else-loop-test}

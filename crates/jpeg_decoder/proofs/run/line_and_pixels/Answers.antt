@@ -1,10 +1,10 @@
 use Rattle.std.proofs.Common.{◌≡◌, ◌∙◌, ap, sym, ◌++◌, Some, string_bytes, option_map}
-use Rattle.jpeg_decoder.specs.Output.{line_of}
-use Rattle.jpeg_decoder.specs.Stream.{told_of}
-use Rattle.jpeg_decoder.specs.Seen.{info_of}
+use Rattle.jpeg_streams.specs.Output.{line_of}
+use Rattle.jpeg_streams.specs.Stream.{told_of}
+use Rattle.jpeg_streams.specs.Pixels.{info_of}
 use Rattle.std.proofs.lemmas.Result.{err_from_is_err_and}
 use Rattle.jpeg_decoder.proofs.Callers.{bytes_are_known, known_bytes_are_told}
-use Rattle.jpeg_decoder.proofs.OutputLemmas.{outside-decode, named-decode, output-some}
+use Rattle.jpeg_streams.proofs.OutputLemmas.{outside-decode, named-decode, output-some}
 use Rattle.jpeg_decoder.proofs.run.line_and_pixels.Goals as goal
 
 pub returns-in_err-pixels-clause-err : goal.returns-in_err-pixels-clause-err

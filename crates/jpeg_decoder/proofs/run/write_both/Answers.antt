@@ -1,5 +1,5 @@
 use Rattle.std.proofs.lemmas.Result.{on_err_weaker, err_from_is_err_and}
-use Rattle.jpeg_decoder.proofs.WriterLemmas.{TakesBeginning-front, TakesBeginning-after}
+use Rattle.jpeg_streams.proofs.WriterLemmas.{TakesBeginning-front, TakesBeginning-after}
 use Rattle.jpeg_decoder.proofs.run.write_both.Goals as goal
 
 pub returns-in_err-write_fully-clause-err : goal.returns-in_err-write_fully-clause-err

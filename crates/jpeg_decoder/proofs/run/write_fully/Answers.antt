@@ -1,4 +1,4 @@
-use Rattle.jpeg_decoder.proofs.WriterLemmas.{Took-more, Took-kept}
+use Rattle.jpeg_streams.proofs.WriterLemmas.{Took-more, Took-kept}
 use Rattle.jpeg_decoder.proofs.run.write_fully.Goals as goal
 use Rattle.jpeg_decoder.proofs.run.write_fully.Goals.{in-Ok, in-Err+else-ne}
 

@@ -1,5 +1,5 @@
 use Rattle.std.proofs.Common.{arith}
-use Rattle.jpeg_decoder.proofs.Products.{small-place, small-column}
+use Rattle.jpeg_streams.proofs.Products.{small-place, small-column}
 use Rattle.jpeg_decoder.proofs.scans.index_at.Goals as goal
 
 pub overflow_mul-result : goal.overflow_mul-result

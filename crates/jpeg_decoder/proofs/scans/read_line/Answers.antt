@@ -1,6 +1,6 @@
 use Rattle.jpeg_bits.proofs.WholeBlocks.{refused_after}
-use Rattle.jpeg_decoder.specs.InTurn.{turn_from, turns_from}
-use Rattle.jpeg_decoder.specs.Layout.{line_of}
+use Rattle.jpeg_streams.specs.InTurn.{turn_from, turns_from}
+use Rattle.jpeg_streams.specs.Layout.{line_of}
 use Rattle.jpeg_bits.specs.BlockView.{pass_in}
 use Rattle.jpeg_decoder.specs.Scanning.{vias_in, arrays_in, reached}
 use Rattle.jpeg_decoder.proofs.HeldBlocks.{spot}

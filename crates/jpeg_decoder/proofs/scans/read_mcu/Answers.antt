@@ -1,8 +1,8 @@
 use Rattle.std.proofs.Common.{◌≡◌, ◌∙◌, ◌-◌, ℕ, ap}
 use Rattle.jpeg_bits.specs.Entropy.{upcoming}
 use Rattle.jpeg_bits.proofs.WholeBlocks.{refused_after}
-use Rattle.jpeg_decoder.specs.Order.{mcu_spots}
-use Rattle.jpeg_decoder.specs.InTurn.{turns_from, begun_from, mcu_from}
+use Rattle.jpeg_streams.specs.Order.{mcu_spots}
+use Rattle.jpeg_streams.specs.InTurn.{turns_from, begun_from, mcu_from}
 use Rattle.jpeg_bits.specs.BlockView.{pass_in}
 use Rattle.jpeg_decoder.specs.Scanning.{vias_in, arrays_in, reached, counted, components_in}
 use Rattle.jpeg_bits.proofs.BandSteps.{Leaves-whole}

@@ -1,13 +1,13 @@
 use Rattle.std.proofs.Common.{◌≡◌, ◌∙◌, ◌-◌, ℕ, [], ◌∷◌, ap}
 use Rattle.jpeg_bits.specs.Entropy.{upcoming}
 use Rattle.jpeg_bits.proofs.WholeBlocks.{refused_after}
-use Rattle.jpeg_decoder.specs.InTurn.{turn_from, begun_from, mcu_from}
+use Rattle.jpeg_streams.specs.InTurn.{turn_from, begun_from, mcu_from}
 use Rattle.jpeg_bits.specs.BlockView.{pass_in}
 use Rattle.jpeg_decoder.specs.Scanning.{vias_in, arrays_in, reached, counted}
 use Rattle.jpeg_bits.proofs.BandSteps.{Leaves-whole}
 use Rattle.jpeg_decoder.proofs.McuParts.{begun_mcu, mcu_begun, mcu_unbegun, mcu_turns, mcu_refused}
 use Rattle.jpeg_decoder.proofs.HeldBlocks.{spot}
-use Rattle.jpeg_decoder.proofs.OwnMcus.{one_turn, one_refused}
+use Rattle.jpeg_streams.proofs.OwnMcus.{one_turn, one_refused}
 use Rattle.jpeg_decoder.proofs.scans.read_own_mcu.Goals as goal
 
 pub returns-then-not-begin-clause-mcu : goal.returns-then-not-begin-clause-mcu

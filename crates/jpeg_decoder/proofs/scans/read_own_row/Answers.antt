@@ -1,8 +1,8 @@
 use Rattle.std.proofs.Common.{ℕ, List, map}
 use Rattle.std.specs.List.{range_with_len}
 use Rattle.jpeg_bits.proofs.WholeBlocks.{refused_after}
-use Rattle.jpeg_decoder.specs.InTurn.{mcu_from, mcus_from}
-use Rattle.jpeg_decoder.proofs.McuLoops.{mcus_refused}
+use Rattle.jpeg_streams.specs.InTurn.{mcu_from, mcus_from}
+use Rattle.jpeg_streams.proofs.McuLoops.{mcus_refused}
 use Rattle.jpeg_bits.specs.BlockView.{pass_in}
 use Rattle.jpeg_decoder.specs.Scanning.{vias_in, arrays_in, counted, own_mcu}
 use Rattle.jpeg_decoder.proofs.scans.read_own_row.Goals as goal

@@ -1,7 +1,7 @@
 use Rattle.std.proofs.Common.{◌≡◌, ◌+◌, map}
 use Rattle.std.specs.List.{range_with_len}
 use Rattle.jpeg_bits.proofs.BandLoop.{Leaves}
-use Rattle.jpeg_decoder.specs.InTurn.{mcus_from}
+use Rattle.jpeg_streams.specs.InTurn.{mcus_from}
 use Rattle.jpeg_bits.specs.BlockView.{pass_in}
 use Rattle.jpeg_decoder.specs.Scanning.{vias_in, arrays_in, counted, sizes_of, own_mcu}
 use Rattle.jpeg_decoder.proofs.scans.read_own_row.Given as goal

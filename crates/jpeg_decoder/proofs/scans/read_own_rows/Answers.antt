@@ -2,8 +2,8 @@ use Rattle.std.proofs.Common.{ℕ, List, get_or, ◌+◌, ◌≤◌, subst, sym,
 use Rattle.std.specs.List.{range_with_len, flat_map}
 use Rattle.std.proofs.lemmas.Result.{err_from_is_err_and}
 use Rattle.jpeg_bits.proofs.WholeBlocks.{refused_after}
-use Rattle.jpeg_decoder.specs.InTurn.{mcus_from}
-use Rattle.jpeg_decoder.proofs.McuLoops.{mcu_rows_refused}
+use Rattle.jpeg_streams.specs.InTurn.{mcus_from}
+use Rattle.jpeg_streams.proofs.McuLoops.{mcu_rows_refused}
 use Rattle.jpeg_bits.specs.BlockView.{pass_in}
 use Rattle.jpeg_decoder.specs.Scanning.{vias_in, arrays_in, counted, own_row, own_rows}
 use Rattle.jpeg_decoder.proofs.scans.read_own_rows.Goals as goal

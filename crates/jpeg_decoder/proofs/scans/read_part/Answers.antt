@@ -1,8 +1,8 @@
 use Rattle.std.proofs.Common.{◌∙◌, get_or, arith}
 use Rattle.jpeg_bits.specs.Entropy.{upcoming}
 use Rattle.jpeg_bits.proofs.WholeBlocks.{refused_after}
-use Rattle.jpeg_decoder.specs.InTurn.{turns_from}
-use Rattle.jpeg_decoder.specs.Layout.{line_of, part_of}
+use Rattle.jpeg_streams.specs.InTurn.{turns_from}
+use Rattle.jpeg_streams.specs.Layout.{line_of, part_of}
 use Rattle.jpeg_bits.specs.BlockView.{pass_in}
 use Rattle.jpeg_decoder.specs.Scanning.{vias_in, arrays_in, reached, sizes_of, wide_in, across_in, part_in}
 use Rattle.jpeg_decoder.proofs.LineSteps.{part_step, part_refused, within-more}

@@ -1,7 +1,7 @@
 use Rattle.std.proofs.Common.{◌≡◌, ◌+◌, ◌*◌, ◌≤◌, ◌^◌, get_or}
 use Rattle.jpeg_bits.proofs.BandLoop.{Leaves}
-use Rattle.jpeg_decoder.specs.InTurn.{turns_from}
-use Rattle.jpeg_decoder.specs.Layout.{part_of}
+use Rattle.jpeg_streams.specs.InTurn.{turns_from}
+use Rattle.jpeg_streams.specs.Layout.{part_of}
 use Rattle.jpeg_bits.specs.BlockView.{pass_in}
 use Rattle.jpeg_decoder.specs.Scanning.{vias_in, arrays_in, reached, sizes_of, AreWithin, wide_in, across_in, part_in}
 use Rattle.jpeg_decoder.proofs.scans.read_part.Given as goal

@@ -1,7 +1,7 @@
 use Rattle.std.proofs.Common.{◌<◌, length, arith}
 use Rattle.jpeg_bits.proofs.WholeBlocks.{refused_after}
-use Rattle.jpeg_decoder.specs.Order.{mcu_spots}
-use Rattle.jpeg_decoder.specs.InTurn.{turns_from}
+use Rattle.jpeg_streams.specs.Order.{mcu_spots}
+use Rattle.jpeg_streams.specs.InTurn.{turns_from}
 use Rattle.jpeg_bits.specs.BlockView.{pass_in}
 use Rattle.jpeg_decoder.specs.Scanning.{vias_in, arrays_in, reached, part_in, first_in, components_in}
 use Rattle.jpeg_decoder.proofs.McuParts.{left_of, slot_refused}

@@ -1,7 +1,7 @@
 use Rattle.std.proofs.Common.{◌≡◌, ◌≤◌, ◌-◌, length}
 use Rattle.jpeg_bits.proofs.BandLoop.{Leaves}
-use Rattle.jpeg_decoder.specs.InTurn.{turns_from}
-use Rattle.jpeg_decoder.specs.Order.{mcu_spots}
+use Rattle.jpeg_streams.specs.InTurn.{turns_from}
+use Rattle.jpeg_streams.specs.Order.{mcu_spots}
 use Rattle.jpeg_bits.specs.BlockView.{pass_in}
 use Rattle.jpeg_decoder.specs.Scanning.{vias_in, arrays_in, reached, sizes_of, components_in}
 use Rattle.jpeg_decoder.proofs.McuParts.{left_of}

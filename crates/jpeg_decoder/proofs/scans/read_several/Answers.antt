@@ -1,9 +1,9 @@
 use Rattle.std.proofs.Common.{◌≡◌, ◌*◌, ℕ, List, subst, sym}
 use Rattle.jpeg_bits.specs.Reading.{Outcome, Answers}
 use Rattle.jpeg_segments.specs.FrameView.{frame_in}
-use Rattle.jpeg_decoder.specs.Order.{spots_of, mcu_size}
-use Rattle.jpeg_decoder.specs.Scans.{arrays_at}
-use Rattle.jpeg_decoder.specs.InTurn.{scan_from}
+use Rattle.jpeg_streams.specs.Order.{spots_of, mcu_size}
+use Rattle.jpeg_streams.specs.Scans.{arrays_at}
+use Rattle.jpeg_streams.specs.InTurn.{scan_from}
 use Rattle.jpeg_bits.specs.BlockView.{pass_in}
 use Rattle.jpeg_decoder.specs.Scanning.{vias_in, arrays_in, components_in, rows_in}
 use Rattle.jpeg_decoder.proofs.FrameScans.{holds, several-scan}

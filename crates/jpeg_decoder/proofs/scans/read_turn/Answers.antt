@@ -1,7 +1,7 @@
 use Rattle.std.proofs.Common.{◌<◌, pos, refl, length, slice_index_or, arith}
 use Rattle.jpeg_bits.specs.Entropy.{upcoming}
 use Rattle.jpeg_bits.specs.Passes.{block_from}
-use Rattle.jpeg_decoder.specs.InTurn.{turn_from}
+use Rattle.jpeg_streams.specs.InTurn.{turn_from}
 use Rattle.jpeg_bits.specs.BlockView.{to_block, pass_in}
 use Rattle.jpeg_decoder.specs.Scanning.{vias_in, arrays_in, reached}
 use Rattle.jpeg_bits.proofs.BandSteps.{Leaves-whole}

@@ -2,8 +2,8 @@ use Rattle.std.proofs.Common.{◌<◌, ◌≤◌, List, subst, arith, length}
 use Rattle.jpeg_bits.specs.BlockView.{pass_in}
 use Rattle.jpeg_bits.specs.Entropy.{Takes}
 use Rattle.jpeg_segments.specs.FrameView.{frame_in}
-use Rattle.jpeg_decoder.specs.Order.{Spot}
-use Rattle.jpeg_decoder.specs.InTurn.{mcus_from}
+use Rattle.jpeg_streams.specs.Order.{Spot}
+use Rattle.jpeg_streams.specs.InTurn.{mcus_from}
 use Rattle.jpeg_decoder.specs.Scanning.{arrays_in, counted, vias_in}
 use Rattle.jpeg_decoder.proofs.StripSteps.{row-holds, several-row, alone-row}
 use Rattle.jpeg_decoder.proofs.sequential.read_mcus.Goals as goal

@@ -7,9 +7,9 @@ use Rattle.jpeg_bits.proofs.BandSteps.{Leaves-end}
 use Rattle.jpeg_bits.proofs.WholeBlocks.{refused_after}
 use Rattle.jpeg_segments.specs.FrameView.{frame_in}
 use Rattle.jpeg_decoder.specs.declared.codings.Coded.{Coded}
-use Rattle.jpeg_decoder.specs.Order.{Spot}
-use Rattle.jpeg_decoder.specs.InTurn.{mcus_from}
-use Rattle.jpeg_decoder.specs.McuRows.{rows_of, zero_rows}
+use Rattle.jpeg_streams.specs.Order.{Spot}
+use Rattle.jpeg_streams.specs.InTurn.{mcus_from}
+use Rattle.jpeg_streams.specs.McuRows.{rows_of, zero_rows}
 use Rattle.jpeg_decoder.specs.Scanning.{arrays_in, components_in, counted, down_in, sizes_of, vias_in}
 use Rattle.jpeg_decoder.specs.Steps.{coding_in}
 use Rattle.jpeg_decoder.specs.Strips.{components_of, planes_in, row_at, row_sizes, samples_in, strips_from, with_strips}

@@ -3,7 +3,7 @@ use Rattle.std.specs.List.{range_with_len}
 use Rattle.jpeg_bits.proofs.BandLoop.{Leaves}
 use Rattle.jpeg_bits.specs.BlockView.{pass_in}
 use Rattle.jpeg_segments.specs.FrameView.{frame_in}
-use Rattle.jpeg_decoder.specs.McuRows.{rows_of}
+use Rattle.jpeg_streams.specs.McuRows.{rows_of}
 use Rattle.jpeg_decoder.specs.Scanning.{components_in, counted, down_in, sizes_of, vias_in}
 use Rattle.jpeg_decoder.specs.Steps.{coding_in}
 use Rattle.jpeg_decoder.specs.Strips.{components_of, planes_in, row_at, row_sizes, samples_in, strips_from}

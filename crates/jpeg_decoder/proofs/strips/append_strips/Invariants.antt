@@ -2,7 +2,7 @@ use Rattle.std.proofs.Common.{◌≡◌, map, drop}
 use Rattle.jpeg_decoder.specs.Scanning.{arrays_in, sizes_of}
 use Rattle.jpeg_decoder.specs.Steps.{coding_in}
 use Rattle.jpeg_decoder.specs.Strips.{planes_in, with_strips}
-use Rattle.jpeg_decoder.proofs.InPlace.{patched}
+use Rattle.jpeg_streams.proofs.InPlace.{patched}
 use Rattle.jpeg_decoder.proofs.strips.append_strips.Given as goal
 
 abbrev pub invariant-loop-slot : goal.invariant-loop-slot

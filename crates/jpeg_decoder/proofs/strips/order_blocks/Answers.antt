@@ -1,7 +1,7 @@
 use Rattle.std.proofs.Common.{◌∙◌, ap, set, map, get_or, [], sym, List, ℤ}
 use Rattle.std.proofs.lemmas.List.{length-map}
 use Rattle.jpeg_pixels.specs.Zigzag.{coefficients_in_block_order}
-use Rattle.jpeg_decoder.proofs.InPlace.{patched-next, patched-at}
+use Rattle.jpeg_streams.proofs.InPlace.{patched-next, patched-at}
 use Rattle.jpeg_decoder.proofs.HeldBlocks.{get-map}
 use Rattle.jpeg_decoder.proofs.strips.order_blocks.Goals as goal
 

@@ -20,24 +20,24 @@ use Rattle.jpeg_pixels.specs.Upsampling.{rule_of, upsampled}
 use Rattle.jpeg_pixels.specs.Colour.{red_of, green_of, blue_of, colour_of, line_bytes, conversion_of}
 use Rattle.jpeg_pixels.specs.Pictures.{sources_by, lines_of, picture_line, picture_bytes, image_of}
 use Rattle.jpeg_bits.specs.Bands.{difference, first_dc, token_at, token_from, first_ac}
-use Rattle.jpeg_decoder.specs.ColourChoice.{by_identifiers, transform_of}
+use Rattle.jpeg_streams.specs.ColourChoice.{by_identifiers, transform_of}
 use Rattle.jpeg_bits.specs.Refinement.{corrected, through_zero, with_last, refined_piece, refined_ac}
 use Rattle.jpeg_bits.specs.Passes.{zero_block, dc_part, band_part, block_from, blocks_of}
 use Rattle.jpeg_bits.specs.Intervals.{interval, intervals, groups}
-use Rattle.jpeg_decoder.specs.Order.{own_spots, part_spots, mcu_spots, all_spots, spots_of, mcu_size}
-use Rattle.jpeg_decoder.specs.Scans.{put_blocks, zero_arrays, turns_of, arrays_at}
+use Rattle.jpeg_streams.specs.Order.{own_spots, part_spots, mcu_spots, all_spots, spots_of, mcu_size}
+use Rattle.jpeg_streams.specs.Scans.{put_blocks, zero_arrays, turns_of, arrays_at}
 use Rattle.jpeg_pixels.specs.Scaled.{even_part, odd_part, column_of_4, sample_of_4, sample_of_2, sample_of_1, sample_at}
 use Rattle.jpeg_pixels.specs.Planes.{plane_of, cropped}
 use Rattle.jpeg_segments.specs.Scales.{scale_for, component_at, frame_at}
-use Rattle.jpeg_decoder.specs.Stream.{nothing_found, updated, accepted, frame_segment, quantization_segment}
-use Rattle.jpeg_decoder.specs.Stream.{huffman_segment, restart_segment, application_segment, skipped_segment, pass_of}
-use Rattle.jpeg_decoder.specs.Stream.{tables_of, coding_of, codings_from, codings_of, vias_from, arrays_before}
-use Rattle.jpeg_decoder.specs.Stream.{scan_arrays, plane_by, finished_by, with_plane, with_blocks, with_arrays}
-use Rattle.jpeg_decoder.specs.Stream.{put_arrays, after_scan, after_restarts, blocks_scan, scan_segment, end_segment}
-use Rattle.jpeg_decoder.specs.Stream.{segment_at}
-use Rattle.jpeg_decoder.specs.Stream.{turn_at, segments_within, segments_at, start_at, header_at, plane_at_end}
-use Rattle.jpeg_decoder.specs.Stream.{blocks_picture, planes_from, picture_by, picture_of, rest_at, meaning}
-use Rattle.jpeg_decoder.specs.Stream.{sized_meaning}
+use Rattle.jpeg_streams.specs.Stream.{nothing_found, updated, accepted, frame_segment, quantization_segment}
+use Rattle.jpeg_streams.specs.Stream.{huffman_segment, restart_segment, application_segment, skipped_segment, pass_of}
+use Rattle.jpeg_streams.specs.Stream.{tables_of, coding_of, codings_from, codings_of, vias_from, arrays_before}
+use Rattle.jpeg_streams.specs.Stream.{scan_arrays, plane_by, finished_by, with_plane, with_blocks, with_arrays}
+use Rattle.jpeg_streams.specs.Stream.{put_arrays, after_scan, after_restarts, blocks_scan, scan_segment, end_segment}
+use Rattle.jpeg_streams.specs.Stream.{segment_at}
+use Rattle.jpeg_streams.specs.Stream.{turn_at, segments_within, segments_at, start_at, header_at, plane_at_end}
+use Rattle.jpeg_streams.specs.Stream.{blocks_picture, planes_from, picture_by, picture_of, rest_at, meaning}
+use Rattle.jpeg_streams.specs.Stream.{sized_meaning}
 use Rattle.jpeg_decoder.proofs.worked.known_images.Goals as goal
 
 pub returns : goal.returns

@@ -11,18 +11,18 @@ use Rattle.std.specs.List.{AllByRecursion}
 use Rattle.jpeg_segments.specs.Frame.{Frame, Component}
 use Rattle.jpeg_segments.specs.FrameView.{frame_in}
 use Rattle.jpeg_decoder.specs.declared.codings.Coded.{Coded}
-use Rattle.jpeg_decoder.specs.InTurn.{AreApart, AreArrays}
-use Rattle.jpeg_decoder.specs.Order.{spots_of, mcu_size}
-use Rattle.jpeg_decoder.specs.Scans.{Arrays, arrays_at}
+use Rattle.jpeg_streams.specs.InTurn.{AreApart, AreArrays}
+use Rattle.jpeg_streams.specs.Order.{spots_of, mcu_size}
+use Rattle.jpeg_streams.specs.Scans.{Arrays, arrays_at}
 use Rattle.jpeg_decoder.specs.Seen.{found_in, planes_in}
-use Rattle.jpeg_decoder.specs.Sound.{ArePlanes}
+use Rattle.jpeg_streams.specs.Sound.{ArePlanes}
 use Rattle.jpeg_decoder.specs.Scanning.{arrays_in, blocks_in, components_in, sizes_of, vias_in}
 use Rattle.jpeg_decoder.specs.Steps.{blocks_at, coding_in, scan_data, with_decoded, without_blocks, AreRising}
 use Rattle.jpeg_decoder.specs.Steps.{IsCodingOf}
-use Rattle.jpeg_decoder.specs.Stream.{Found, arrays_before, put_arrays}
+use Rattle.jpeg_streams.specs.Stream.{Found, arrays_before, put_arrays}
 use Rattle.jpeg_decoder.proofs.PlacedCodings.{coded-components, coded-places}
 use Rattle.jpeg_decoder.proofs.PutLoops.{Held}
-use Rattle.jpeg_decoder.proofs.ScanArrays.{arrays-sized, held-sized}
+use Rattle.jpeg_streams.proofs.ScanArrays.{arrays-sized, held-sized}
 use Rattle.jpeg_decoder.proofs.TakenBlocks.{put-back}
 use Rattle.jpeg_decoder.proofs.ScanData.{of-frame, arrays-by-sizes, coded-within-held, read-as, rising-codings}
 use Rattle.jpeg_decoder.proofs.ScanData.{data-held, data-held-refused, arrays-whole, answers-err}

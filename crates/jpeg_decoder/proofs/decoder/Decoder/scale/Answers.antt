@@ -1,9 +1,9 @@
 use Rattle.std.proofs.Common.{◌≡◌, ◌∙◌, ap, sym, rules, ℕ}
 use Rattle.std.proofs.lemmas.Result.{err_from_is_err_and}
 use Rattle.jpeg_decoder.specs.Seen.{found_in}
-use Rattle.jpeg_decoder.specs.Stream.{header_at, sized_header_at, sized_to}
+use Rattle.jpeg_streams.specs.Stream.{header_at, sized_header_at, sized_to}
 use Rattle.jpeg_decoder.proofs.ScanData.{answers-err}
-use Rattle.jpeg_decoder.proofs.SizedHeaders.{sized-answers, sized-refused}
+use Rattle.jpeg_streams.proofs.SizedHeaders.{sized-answers, sized-refused}
 use Rattle.jpeg_decoder.proofs.decoder.Decoder.scale.Goals as goal
 use Rattle.jpeg_decoder.proofs.decoder.Decoder.scale.Goals.{in-Some, in-None}
 

@@ -1,14 +1,14 @@
 use Rattle.std.proofs.Common.{is_some, Option, ◌≡◌, ◌∙◌, ◌+◌, ◌<◌, ◌^◌, suc, true, None, sym, ap, arith, length}
 use Rattle.std.proofs.lemmas.Result.{err_from_is_err_and}
 use Rattle.jpeg_bits.proofs.Loops.{Continues-err}
-use Rattle.jpeg_decoder.specs.declared.state.Before.TheVariants.{Elsewhere}
+use Rattle.jpeg_streams.specs.declared.before.Before.TheVariants.{Elsewhere}
 use Rattle.jpeg_decoder.specs.declared.state.Step.{Step}
-use Rattle.jpeg_decoder.specs.Stream.{Found, told_of, IsOfTurns, turn_at, segments_at, told_within}
+use Rattle.jpeg_streams.specs.Stream.{Found, told_of, IsOfTurns, turn_at, segments_at, told_within}
 use Rattle.jpeg_decoder.specs.Seen.{found_in}
 use Rattle.jpeg_segments.specs.Frame.{Frame}
 use Rattle.jpeg_decoder.specs.declared.state.State.{State}
 use Rattle.jpeg_decoder.specs.Steps.{turn_of}
-use Rattle.jpeg_decoder.proofs.Refusals.{short-step, told-err, never-met}
+use Rattle.jpeg_streams.proofs.Refusals.{short-step, told-err, never-met}
 use Rattle.jpeg_decoder.proofs.Turns.{not-framed, segments-stop, segments-refused, segments-end, segments-next}
 use Rattle.jpeg_decoder.proofs.Turns.{told-stop, told-refused, told-end, told-next, turn-takes, within-end, within-next}
 use Rattle.jpeg_decoder.proofs.Turns.{within-none}

@@ -1,11 +1,11 @@
 use Rattle.std.proofs.Common.{◌≡◌, ℕ, ◌+◌, ◌<◌, true, false, None, is_some}
 use Rattle.jpeg_bits.specs.Reading.{IsShort}
 use Rattle.jpeg_bits.proofs.Loops.{Continues, Took}
-use Rattle.jpeg_decoder.specs.declared.state.Before.TheVariants.{Elsewhere}
-use Rattle.jpeg_decoder.specs.Stream.{segments_at, told_at, told_within}
+use Rattle.jpeg_streams.specs.declared.before.Before.TheVariants.{Elsewhere}
+use Rattle.jpeg_streams.specs.Stream.{segments_at, told_at, told_within}
 use Rattle.jpeg_decoder.specs.Seen.{found_in}
 use Rattle.jpeg_decoder.specs.Steps.{is_restart}
-use Rattle.jpeg_decoder.specs.Sound.{IsSound, IsUnread}
+use Rattle.jpeg_streams.specs.Sound.{IsSound, IsUnread}
 use Rattle.jpeg_decoder.proofs.state.State.read.Given as goal
 
 abbrev pub invariant-loop : goal.invariant-loop

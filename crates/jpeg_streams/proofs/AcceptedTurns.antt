@@ -1,0 +1,346 @@
+-- A turn of a written stream.
+use Rattle.std.proofs.Common.{◌≡◌, ◌≢◌, ℕ, zero, suc, nat_lt, ◌==◌, Bool, true, false, List, [], ◌∷◌, ◌++◌, map}
+use Rattle.std.proofs.Common.{length, drop, replicate, slice_index_or, Option, Some, None, Result, Ok, Err, refl, sym}
+use Rattle.std.proofs.Common.{ap, ap₂, ◌∙◌, subst, arith}
+use Rattle.std.specs.List.{AllByRecursion}
+use Rattle.jpeg_bits.specs.Reading.{Fault, Malformed, ◌>>=◌, length_at, skip_at}
+use Rattle.jpeg_bits.specs.Codes.{Table}
+use Rattle.jpeg_bits.specs.Marker.{marker_of, next_marker}
+use Rattle.jpeg_bits.specs.declared.marker.Marker.{Marker}
+use Rattle.jpeg_segments.specs.Frame.{Frame}
+use Rattle.jpeg_segments.specs.ScanHeader.{Scan, sos_at}
+use Rattle.jpeg_segments.specs.HuffmanTables.{Tables}
+use Rattle.jpeg_streams.specs.declared.before.Before.{Before}
+use Rattle.jpeg_bits.specs.Passes.{Pass}
+use Rattle.jpeg_streams.specs.Scans.{Arrays}
+use Rattle.jpeg_streams.specs.Needed.{first_of, needed}
+use Rattle.jpeg_streams.specs.Stream.{Coding, Found, Turn, onward, needed_if, tables_of, coding_of}
+use Rattle.jpeg_streams.specs.Stream.{codings_from, codings_of, pass_of, scan_arrays, after_scan, after_restarts}
+use Rattle.jpeg_streams.specs.Stream.{scan_before, scan_segment, segment_at, turn_at, segments_within}
+use Rattle.jpeg_streams.specs.Stream.{quantization_segment, huffman_segment, restart_segment, application_segment}
+use Rattle.jpeg_streams.specs.Stream.{skipped_segment, blocks_scan, scan_by}
+use Rattle.jpeg_bits.specs.declared.codes.HuffmanTableClass.{HuffmanTableClass}
+use Rattle.jpeg_bits.specs.declared.codes.HuffmanTableClass.TheVariants as classes
+use Rattle.jpeg_segments.specs.declared.parser.CodingProcess.{CodingProcess}
+use Rattle.jpeg_segments.specs.declared.parser.CodingProcess.TheVariants.{DctSequential, DctProgressive, Lossless}
+use Rattle.jpeg_streams.specs.WrittenScans.{Coefficients, InForce, IsCoding, AreCodings}
+use Rattle.jpeg_streams.proofs.AcceptedStreams.{comment_at, WritesSegment, WritesScans}
+use Rattle.jpeg_streams.specs.WrittenScans.AreCodings.{no_more, and_more}
+use Rattle.jpeg_streams.proofs.AcceptedStreams.WritesSegment.{quantization, huffman, restart, application, comment}
+use Rattle.jpeg_streams.proofs.AcceptedStreams.WritesScans.{segment, scan, closed}
+use Rattle.jpeg_streams.specs.Levels.{Levels}
+use Rattle.jpeg_streams.specs.WrittenData.{marker}
+use Rattle.jpeg_streams.proofs.AcceptedStreams.{IsMarker}
+use Rattle.jpeg_streams.proofs.OwnSpots.{At}
+use Rattle.jpeg_streams.proofs.ReadStates.{reading}
+
+-- ---- the next marker
+
+next-one : (code : ℕ) (m : Marker) (rest : List ℕ) → IsMarker code m → next_marker (0xFF ∷ code ∷ rest) ≡ Ok (m, rest)
+unfolding next_marker
+next-one code m rest h = rw h.is refl
+
+next-fill : (rest : List ℕ) → next_marker (0xFF ∷ 0xFF ∷ rest) ≡ next_marker (0xFF ∷ rest)
+unfolding next_marker marker_of
+next-fill rest = refl
+
+pub next-marker : (fill code : ℕ) (m : Marker) (rest : List ℕ) → IsMarker code m
+    → next_marker (marker fill code rest) ≡ Ok (m, rest)
+next-marker zero code m rest h = next-one code m rest h
+next-marker (suc fill) code m rest h = next-fill (replicate fill 0xFF ++ code ∷ rest) ∙ next-marker fill code m rest h
+
+-- what is left is after this marker
+pub record StandsAt (met : Option Marker) (all : List ℕ) (m : Marker) (bytes : List ℕ) : Type 0 where
+  pub turn : (before : Before) (f : Found) → turn_at before f met all ≡ segment_at m before f bytes
+
+pub stands-met : (m : Marker) (bytes : List ℕ) → StandsAt (Some m) bytes m bytes
+unfolding turn_at
+stands-met m bytes = record { turn = λ before f. refl }
+
+turn-next : (before : Before) (f : Found) (all bytes : List ℕ) (m : Marker) → next_marker all ≡ Ok (m, bytes)
+    → turn_at before f None all ≡ segment_at m before f bytes
+unfolding turn_at
+turn-next before f all bytes m e = rw e refl
+
+pub stands-next : (fill code : ℕ) (m : Marker) (bytes : List ℕ) → IsMarker code m
+    → StandsAt None (marker fill code bytes) m bytes
+stands-next fill code m bytes h =
+    record {
+      turn = λ before f. turn-next before f (marker fill code bytes) bytes m
+          (next-marker fill code m bytes h);
+    }
+
+-- ---- steps
+
+pub err-ok : {C : Type 0} (x : Fault) (r : C) → ◌≡◌ {A = Result C Fault} (Err x) (Ok r) → ⊥
+err-ok x r e = cc
+
+pub ok-same : {C : Type 0} (x r : C) → ◌≡◌ {A = Result C Fault} (Ok x) (Ok r) → x ≡ r
+ok-same x r e = cc
+
+-- what a step gave, and the rest
+pub bind-ok : {A B : Type 0} (o : Result A Fault) (f : A → Result B Fault) (y : B) → (o >>= f) ≡ Ok y
+    → (x : A) × (o ≡ Ok x) × (f x ≡ Ok y)
+bind-ok (Ok x) f y e = (x, refl, e)
+bind-ok (Err x) f y e = absurd (err-ok x y e)
+
+pub then-ok : {A B : Type 0} (o : Result A Fault) (f : A → Result B Fault) (x : A) (y : Result B Fault) → o ≡ Ok x
+    → f x ≡ y → (o >>= f) ≡ y
+then-ok o f x y e g = ap (λ r. r >>= f) e ∙ g
+
+-- ---- segments
+
+pub turn-on : (turns : ℕ) (before : Before) (f : Found) (met : Option Marker) (all rest : List ℕ) (t : Turn)
+    → turn_at before f met all ≡ Ok (t, rest) → t.ended ≡ false
+    → segments_within (suc turns) false before f met all ≡ segments_within turns false t.before t.found t.met rest
+unfolding segments_within
+turn-on turns before f met all rest t e g = rw e (rw g refl)
+
+pub turn-end : (turns : ℕ) (before : Before) (f : Found) (met : Option Marker) (all rest : List ℕ) (t : Turn)
+    → turn_at before f met all ≡ Ok (t, rest) → t.ended ≡ true
+    → segments_within (suc turns) false before f met all ≡ Ok (t.found, rest)
+unfolding segments_within
+turn-end turns before f met all rest t e g = rw e (rw g refl)
+
+pub segment-read : (w next : Found) (m : Marker) (bytes rest : List ℕ) (before : Before) (s : Bool) (h : Arrays)
+    (fi : List (List Bool)) (pl : List (Option (List ℕ)))
+    → WritesSegment w m bytes next
+    → segment_at m before (reading w s h fi pl) (bytes ++ rest) ≡ Ok (onward (reading next s h fi pl), rest)
+unfolding segment_at quantization_segment huffman_segment restart_segment application_segment skipped_segment comment_at
+segment-read w next m bytes rest before s h fi pl (quantization w' bytes' t a) = rw (a.accepted rest) refl
+segment-read w next m bytes rest before s h fi pl (huffman w' bytes' t a) = rw (a.accepted rest) refl
+segment-read w next m bytes rest before s h fi pl (restart w' bytes' n a) = rw (a.accepted rest) refl
+segment-read w next m bytes rest before s h fi pl (application w' number bytes' t a) = rw (a.accepted rest) refl
+segment-read w next m bytes rest before s h fi pl (comment w' bytes' a) =
+    let step = bind-ok (length_at (bytes ++ rest)) (λ (n : ℕ × List ℕ). skip_at n.0 n.1) (tt, rest) (a.accepted rest) in
+    then-ok (length_at (bytes ++ rest)) _ step.0 _ step.1
+    (then-ok (skip_at step.0.0 step.0.1) _ (tt, rest) _ step.2 refl)
+
+pub frame-kept : (w next : Found) (m : Marker) (bytes : List ℕ) → WritesSegment w m bytes next → next.frame ≡ w.frame
+frame-kept w next m bytes (quantization w' bytes' t a) = refl
+frame-kept w next m bytes (huffman w' bytes' t a) = refl
+frame-kept w next m bytes (restart w' bytes' n a) = refl
+frame-kept w next m bytes (application w' number bytes' t a) = refl
+frame-kept w next m bytes (comment w' bytes' a) = refl
+
+-- ---- what stands after a scan
+
+segment-plain : (w next : Found) (m : Marker) (bytes all : List ℕ) (turns : ℕ) → WritesSegment w m bytes next
+    → after_restarts (suc turns) (Some m) all ≡ Ok (Some m, all)
+unfolding after_restarts
+segment-plain w next m bytes all turns (quantization w' bytes' t a) = refl
+segment-plain w next m bytes all turns (huffman w' bytes' t a) = refl
+segment-plain w next m bytes all turns (restart w' bytes' n a) = refl
+segment-plain w next m bytes all turns (application w' number bytes' t a) = refl
+segment-plain w next m bytes all turns (comment w' bytes' a) = refl
+
+pub scans-plain : (array : Coefficients) (f : Frame) (tail : List ℕ) (w final : Found) (levels last : ℕ → Levels)
+    (scanned : Bool) (m : Marker) (bytes all : List ℕ) (turns : ℕ)
+    → WritesScans array f tail w levels scanned m bytes final last
+    → after_restarts (suc turns) (Some m) all ≡ Ok (Some m, all)
+unfolding after_restarts
+scans-plain array f tail w final levels last scanned m bytes all turns
+    (segment w' next final' levels' last' scanned' m' after fill code payload more s q i r) =
+    segment-plain w next m payload all turns s
+scans-plain array f tail w final levels last scanned m bytes all turns
+    (scan w' final' levels' last' scanned' after fill code header payload more s codings a l x i r) = refl
+scans-plain array f tail w final levels last scanned m bytes all turns (closed w' levels' t c) = refl
+
+-- ---- the tables of a scan
+
+pub needed-some : {A : Type 0} (o : Option A) (x : A) → needed o ≡ Ok x → o ≡ Some x
+needed-some None x e = absurd (no e)
+  where
+    no : ◌≡◌ {A = Result _ Fault} (Err Malformed) (Ok x) → ⊥
+    no e = cc
+needed-some (Some y) x e = cc
+
+first-drop : {A : Type 0} (n : ℕ) (xs : List A) (x : A) → first_of (drop n xs) ≡ Some x → At n xs x
+first-drop n [] x e = no n e
+  where
+    no : (n : ℕ) → first_of (drop n []) ≡ Some x → ⊥
+    no zero e = cc
+    no (suc n) e = cc
+first-drop zero (y ∷ xs) x e = cc
+first-drop (suc n) (y ∷ xs) x e = first-drop n xs x e
+
+-- a coding is of a component of the frame, with its quantization table
+pub record CodingFacts (w : Found) (frame : Frame) (k : Coding) : Type 0 where
+  pub at : At k.place frame.components k.component
+  pub table : slice_index_or w.quantization k.component.factors.quantization None ≡ Some k.quantization
+
+coding-facts : (w : Found) (frame : Frame) (p : Pass) (tables : Tables) (place d a : ℕ) (k : Coding)
+    → coding_of w frame p tables place d a ≡ Ok k → CodingFacts w frame k × (k.place ≡ place)
+unfolding coding_of
+coding-facts w frame p tables place d a k e =
+    let component = bind-ok (needed (first_of (drop place frame.components))) _ k e in
+    let table = bind-ok (needed (slice_index_or w.quantization component.0.factors.quantization None)) _ k component.2
+    in
+    let dc = bind-ok (needed_if (p.ss == 0) _ (slice_index_or tables.dc d None)) _ k table.2 in
+    let ac = bind-ok (needed_if (nat_lt 0 p.se) _ (slice_index_or tables.ac a None)) _ k dc.2 in
+    subst (λ (x : Coding). CodingFacts w frame x × (x.place ≡ place)) (ok-same _ k ac.2) (
+      record {
+        at = first-drop place frame.components component.0
+            (needed-some (first_of (drop place frame.components)) component.0 component.1);
+        table = needed-some (slice_index_or w.quantization component.0.factors.quantization None) table.0 table.1;
+      },
+      refl,
+    )
+
+pub codings-facts_from : (w : Found) (frame : Frame) (p : Pass) (tables : Tables) (places ds ks : List ℕ)
+    (codings : List Coding) → length ds ≡ length places → length ks ≡ length places
+    → codings_from w frame p tables places ds ks ≡ Ok codings
+    → (length codings ≡ length places) × AllByRecursion (CodingFacts w frame) codings
+    × (map (λ c. c.place) codings ≡ places)
+unfolding codings_from
+codings-facts_from w frame p tables [] ds ks codings h g e =
+    let same = ok-same [] codings e in
+    subst (λ (l : List Coding). (length l ≡ 0) × AllByRecursion (CodingFacts w frame) l
+    × (map (λ c. c.place) l ≡ [])) same (refl, tt, refl)
+codings-facts_from w frame p tables (x ∷ places) [] ks codings h g e = absurd (omega arith)
+codings-facts_from w frame p tables (x ∷ places) (d ∷ ds) [] codings h g e = absurd (omega arith)
+codings-facts_from w frame p tables (x ∷ places) (d ∷ ds) (a ∷ ks) codings h g e =
+    let one = bind-ok (coding_of w frame p tables x d a) _ codings e in
+    let more = bind-ok (codings_from w frame p tables places ds ks) _ codings one.2 in
+    let rest = codings-facts_from w frame p tables places ds ks more.0 (omega arith) (omega arith) more.1 in
+    let first = coding-facts w frame p tables x d a one.0 one.1 in
+    subst (λ (l : List Coding). (length l ≡ suc (length places)) × AllByRecursion (CodingFacts w frame) l
+    × (map (λ c. c.place) l ≡ x ∷ places)) (ok-same (one.0 ∷ more.0) codings more.2)
+    (ap suc rest.0, (first.0, rest.1), ap₂ (λ (m : ℕ) (l : List ℕ). m ∷ l) first.1 rest.2)
+
+pub codings-by : (w : Found) (frame : Frame) (s : Scan)
+    → codings_of w frame s ≡ codings_from w frame (pass_of s) (tables_of w s) s.components s.dc_places s.ac_places
+unfolding codings_of
+codings-by w frame s = refl
+
+pub codings-facts : (w : Found) (frame : Frame) (s : Scan) (codings : List Coding)
+    → length s.dc_places ≡ length s.components → length s.ac_places ≡ length s.components
+    → codings_of w frame s ≡ Ok codings
+    → (length codings ≡ length s.components) × AllByRecursion (CodingFacts w frame) codings
+    × (map (λ c. c.place) codings ≡ s.components)
+codings-facts w frame s codings h g e =
+    codings-facts_from w frame (pass_of s) (tables_of w s) s.components s.dc_places s.ac_places codings h g
+    (sym (codings-by w frame s) ∙ e)
+
+-- ---- the tables in force
+
+in-force : (b : Bool) (class : HuffmanTableClass) (tables : List (Option Table)) (place : ℕ) (table : Table)
+    → InForce b class tables place table → needed_if b class (slice_index_or tables place None) ≡ Ok table
+in-force true class tables place table e = ap needed e
+in-force false class tables place table e = ap (λ (t : Table). Ok t) (sym e)
+
+coding-read : (w : Found) (frame : Frame) (p : Pass) (tables : Tables) (place d a : ℕ) (k : Coding)
+    → IsCoding w frame p tables place d a k → coding_of w frame p tables place d a ≡ Ok k
+unfolding coding_of
+coding-read w frame p tables place d a k h =
+    then-ok (needed (first_of (drop place frame.components))) _ k.component _ (ap needed h.component)
+    (then-ok (needed (slice_index_or w.quantization k.component.factors.quantization None)) _ k.quantization _
+    (ap needed h.quantization)
+    (then-ok (needed_if (p.ss == 0) classes.DC (slice_index_or tables.dc d None)) _ k.dc _
+    (in-force (p.ss == 0) classes.DC tables.dc d k.dc h.dc)
+    (then-ok (needed_if (nat_lt 0 p.se) classes.AC (slice_index_or tables.ac a None)) _ k.ac _
+    (in-force (nat_lt 0 p.se) classes.AC tables.ac a k.ac h.ac)
+    (ap (λ (n : ℕ). Ok (record {
+      place = n;
+      component = k.component;
+      quantization = k.quantization;
+      dc = k.dc;
+      ac =
+          k.ac;
+    })) (sym h.stands)))))
+
+codings-read_from : (w : Found) (frame : Frame) (p : Pass) (tables : Tables) (places ds ks : List ℕ)
+    (codings : List Coding) → AreCodings w frame p tables places ds ks codings
+    → codings_from w frame p tables places ds ks ≡ Ok codings
+unfolding codings_from
+codings-read_from w frame p tables places ds ks codings no_more = refl
+codings-read_from w frame p tables places ds ks codings (and_more place d a places' ds' ks' k more h r) =
+    then-ok (coding_of w frame p tables place d a) _ k _ (coding-read w frame p tables place d a k h)
+    (then-ok (codings_from w frame p tables places' ds' ks') _ more _
+    (codings-read_from w frame p tables places' ds' ks' more r) refl)
+
+pub codings-read : (w : Found) (frame : Frame) (s : Scan) (codings : List Coding)
+    → AreCodings w frame (pass_of s) (tables_of w s) s.components s.dc_places s.ac_places codings
+    → codings_of w frame s ≡ Ok codings
+codings-read w frame s codings h =
+    codings-by w frame s
+    ∙ codings-read_from w frame (pass_of s) (tables_of w s) s.components s.dc_places s.ac_places codings h
+
+-- what scans have brought doesn't change them
+coding-same : (w : Found) (sc : Bool) (h : Arrays) (fi : List (List Bool)) (pl : List (Option (List ℕ)))
+    (frame : Frame) (p : Pass) (tables : Tables) (place d a : ℕ)
+    → coding_of (reading w sc h fi pl) frame p tables place d a ≡ coding_of w frame p tables place d a
+unfolding coding_of
+coding-same w sc h fi pl frame p tables place d a = refl
+
+then-other : (c : Coding) (o r : Result (List Coding) Fault) → o ≡ r
+    → (o >>= (λ others. Ok (c ∷ others))) ≡ (r >>= (λ others. Ok (c ∷ others)))
+then-other c o r e = ap (λ (x : Result (List Coding) Fault). x >>= (λ (others : List Coding). Ok (c ∷ others))) e
+
+pub codings-same_from : (w : Found) (sc : Bool) (h : Arrays) (fi : List (List Bool)) (pl : List (Option (List ℕ)))
+    (frame : Frame) (p : Pass) (tables : Tables) (places ds ks : List ℕ)
+    → codings_from (reading w sc h fi pl) frame p tables places ds ks ≡ codings_from w frame p tables places ds ks
+unfolding codings_from
+codings-same_from w sc h fi pl frame p tables [] ds ks = refl
+codings-same_from w sc h fi pl frame p tables (x ∷ places) [] ks = refl
+codings-same_from w sc h fi pl frame p tables (x ∷ places) (d ∷ ds) [] = refl
+codings-same_from w sc h fi pl frame p tables (x ∷ places) (d ∷ ds) (a ∷ ks) =
+    let more = codings-same_from w sc h fi pl frame p tables places ds ks in
+    ap (λ (o : Result Coding Fault). o >>=
+    (λ c. codings_from (reading w sc h fi pl) frame p tables places ds ks >>= (λ others. Ok (c ∷ others))))
+    (coding-same w sc h fi pl frame p tables x d a)
+    ∙ go (coding_of w frame p tables x d a) more
+  where
+    go : (o : Result Coding Fault)
+        → codings_from (reading w sc h fi pl) frame p tables places ds ks ≡ codings_from w frame p tables places ds ks
+        → (o >>= (λ c. codings_from (reading w sc h fi pl) frame p tables places ds ks >>= (λ others. Ok (c ∷ others))))
+        ≡ (o >>= (λ c. codings_from w frame p tables places ds ks >>= (λ others. Ok (c ∷ others))))
+    go (Ok c) e = then-other c _ _ e
+    go (Err e') e = refl
+
+pub tables-same : (w : Found) (sc : Bool) (h : Arrays) (fi : List (List Bool)) (pl : List (Option (List ℕ))) (s : Scan)
+    → tables_of (reading w sc h fi pl) s ≡ tables_of w s
+unfolding tables_of
+tables-same w sc h fi pl s = refl
+
+pub codings-same : (w : Found) (sc : Bool) (h : Arrays) (fi : List (List Bool)) (pl : List (Option (List ℕ)))
+    (frame : Frame) (s : Scan)
+    → codings_of (reading w sc h fi pl) frame s ≡ codings_of w frame s
+codings-same w sc h fi pl frame s =
+    codings-by (reading w sc h fi pl) frame s
+    ∙ ap (λ (t : Tables). codings_from (reading w sc h fi pl) frame
+    (pass_of s) t s.components s.dc_places s.ac_places) (tables-same w sc h fi pl s)
+    ∙ codings-same_from w sc h fi pl frame (pass_of s) (tables_of w s) s.components s.dc_places s.ac_places
+    ∙ sym (codings-by w frame s)
+
+-- ---- a scan
+
+blocks-by : (p : CodingProcess) → p ≢ Lossless → (found : Found) (frame : Frame) (s : Scan) (bytes : List ℕ)
+    → scan_by p found frame s bytes ≡ blocks_scan found frame s bytes
+blocks-by DctSequential h found frame s bytes = refl
+blocks-by DctProgressive h found frame s bytes = refl
+blocks-by Lossless h found frame s bytes = absurd (h refl)
+
+pub scan-by : (found : Found) (frame : Frame) (s : Scan) (codings : List Coding) (arrays : Arrays) (m : Marker)
+    (bytes data_bytes more : List ℕ) → frame.process ≢ Lossless
+    → found.frame ≡ Some frame → sos_at frame bytes ≡ Ok (s, data_bytes) → codings_of found frame s ≡ Ok codings
+    → scan_arrays found frame s codings data_bytes ≡ Ok ((arrays, Some m), more)
+    → after_restarts (suc (length more)) (Some m) more ≡ Ok (Some m, more)
+    → scan_segment found bytes
+    ≡ Ok (
+      record {
+        found = after_scan found frame s codings arrays;
+        before = scan_before found;
+        met = Some m;
+        ended =
+            false;
+      },
+      more,
+    )
+unfolding scan_segment blocks_scan
+scan-by found frame s codings arrays m bytes data_bytes more n a b c d e =
+    then-ok (needed found.frame) _ frame _ (ap needed a)
+    (then-ok (sos_at frame bytes) _ (s, data_bytes) _ b
+    (blocks-by frame.process n found frame s data_bytes ∙ then-ok (codings_of found frame s) _ codings _ c
+    (then-ok (scan_arrays found frame s codings data_bytes) _ ((arrays, Some m), more) _ d
+    (then-ok (after_restarts (suc (length more)) (Some m) more) _ (Some m, more) _ e refl))))

@@ -1,0 +1,411 @@
+-- The spots of a scan are apart, and inside the arrays of its components.
+use Rattle.std.proofs.Common.{◌≡◌, ◌⊎◌, inl, inr, ℕ, zero, suc, ◌+◌, ◌*◌, ◌/◌, ◌%◌, ◌<◌, ◌≤◌, List, [], ◌∷◌, ◌++◌}
+use Rattle.std.proofs.Common.{map, length, get_or, replicate, refl, sym, ap, ◌∙◌, subst, arith}
+use Rattle.std.proofs.Math.Nat.{div-lt_iff_lt-mul}
+use Rattle.std.proofs.lemmas.Nat.{div-mul-add, mod-mul-add}
+use Rattle.std.specs.List.{AllByRecursion, range_with_len, flat_map}
+use Rattle.jpeg_segments.specs.Frame.{Frame, Component}
+use Rattle.jpeg_streams.specs.declared.grids.Grid.{Grid}
+use Rattle.jpeg_bits.specs.Passes.{Block, zero_block}
+use Rattle.jpeg_streams.specs.Order.{Spot, grid_of, own_spots, part_spots, mcu_spots, all_spots, spots_of}
+use Rattle.jpeg_streams.specs.Scans.{Arrays, zero_arrays}
+use Rattle.jpeg_streams.specs.InTurn.{IsIn, AreApart, IsInside, Fits, AreArrays}
+
+-- ---- lists
+
+pub in-either : {A : Type 0} (x : A) (xs ys : List A) → IsIn x (xs ++ ys) → IsIn x xs ⊎ IsIn x ys
+in-either x [] ys h = inr h
+in-either x (y ∷ xs) ys (inl e) = inl (inl e)
+in-either x (y ∷ xs) ys (inr t) = go (in-either x xs ys t)
+  where
+    go : IsIn x xs ⊎ IsIn x ys → ((y ≡ x) ⊎ IsIn x xs) ⊎ IsIn x ys
+    go (inl a) = inl (inr a)
+    go (inr b) = inr b
+
+pub apart-append : {A : Type 0} (xs ys : List A) → AreApart xs → AreApart ys → ((x : A) → IsIn x xs → IsIn x ys → ⊥)
+    → AreApart (xs ++ ys)
+apart-append [] ys a b n = b
+apart-append (x ∷ xs) ys a b n =
+    ((λ h. go (in-either x xs ys h)), apart-append xs ys a.1 b (λ z h k. n z (inr h) k))
+  where
+    go : IsIn x xs ⊎ IsIn x ys → ⊥
+    go (inl h) = a.0 h
+    go (inr k) = n x (inl refl) k
+
+-- a number from a on, and below a + n
+pub record Between (a n k : ℕ) : Type 0 where
+  pub low : a ≤ k
+  pub high : k < a + n
+
+-- f gives x of some number
+pub record GivesAt {A : Type 0} (f : ℕ → List A) (a n : ℕ) (x : A) : Type 0 where
+  pub at : ℕ
+  pub between : Between a n at
+  pub gives : IsIn x (f at)
+
+pub in-flat-back : {A : Type 0} (f : ℕ → List A) (x : A) (a n : ℕ) → IsIn x (flat_map f (range_with_len a n))
+    → GivesAt f a n x
+in-flat-back f x a zero h = absurd h
+in-flat-back {A} f x a (suc n) h =
+    go (λ t. in-flat-back f x (a + 1) n t) (in-either x (f a) (flat_map f (range_with_len (a + 1) n)) h)
+  where
+    go : (IsIn x (flat_map f (range_with_len (a + 1) n)) → GivesAt f (a + 1) n x)
+        → IsIn x (f a) ⊎ IsIn x (flat_map f (range_with_len (a + 1) n)) → GivesAt f a (suc n) x
+    go rec (inl g) = record { at = a; between = record { low = omega arith; high = omega arith }; gives = g }
+    go rec (inr t) = let r = rec t in let l = r.between.low in let h = r.between.high in
+        record { at = r.at; between = record { low = omega arith; high = omega arith }; gives = r.gives }
+
+pub record EqualAt {A : Type 0} (f : ℕ → A) (a n : ℕ) (x : A) : Type 0 where
+  pub at : ℕ
+  pub between : Between a n at
+  pub equal : f at ≡ x
+
+pub in-line-back : {A : Type 0} (f : ℕ → A) (x : A) (a n : ℕ) → IsIn x (map f (range_with_len a n)) → EqualAt f a n x
+in-line-back f x a zero h = absurd h
+in-line-back f x a (suc n) (inl e) =
+    record { at = a; between = record { low = omega arith; high = omega arith }; equal = e }
+in-line-back f x a (suc n) (inr t) = let r = in-line-back f x (a + 1) n t in let l = r.between.low in let h =
+    r.between.high in
+    record { at = r.at; between = record { low = omega arith; high = omega arith }; equal = r.equal }
+
+-- lists of elements that tell their number
+pub apart-flat : {A : Type 0} (f : ℕ → List A) (Tells : A → ℕ → Type 0) (a n : ℕ)
+    → ((k : ℕ) → Between a n k → AreApart (f k)) → ((k : ℕ) (x : A) → Between a n k → IsIn x (f k) → Tells x k)
+    → ((x : A) (k l : ℕ) → Tells x k → Tells x l → k ≡ l) → AreApart (flat_map f (range_with_len a n))
+apart-flat f Tells a zero each tells one = tt
+apart-flat {A} f Tells a (suc n) each tells one =
+    let first : Between a (suc n) a = record { low = omega arith; high = omega arith } in
+    apart-append (f a) (flat_map f (range_with_len (a + 1) n)) (each a first)
+    (apart-flat f Tells (a + 1) n (λ k b. each k (wider k b)) (λ k x b h. tells k x (wider k b) h) one)
+    (λ x h k. other x (tells a x first h) (in-flat-back f x (a + 1) n k))
+  where
+    wider : (k : ℕ) → Between (a + 1) n k → Between a (suc n) k
+    wider k b = let l = b.low in let h = b.high in record { low = omega arith; high = omega arith }
+
+    other : (x : A) → Tells x a → GivesAt f (a + 1) n x → ⊥
+    other x t g = let e : a ≡ g.at = one x a g.at t (tells g.at x (wider g.at g.between) g.gives) in let l =
+        g.between.low in absurd (omega arith)
+
+pub apart-line : {A : Type 0} (f : ℕ → A) (key : A → ℕ) (a n : ℕ) → ((k : ℕ) → Between a n k → key (f k) ≡ k)
+    → AreApart (map f (range_with_len a n))
+apart-line f key a zero tells = tt
+apart-line {A} f key a (suc n) tells =
+    ((λ h. other (in-line-back f (f a) (a + 1) n h)), apart-line f key (a + 1) n (λ k b. tells k (wider k b)))
+  where
+    wider : (k : ℕ) → Between (a + 1) n k → Between a (suc n) k
+    wider k b = let l = b.low in let h = b.high in record { low = omega arith; high = omega arith }
+
+    other : EqualAt f (a + 1) n (f a) → ⊥
+    other g = let e : g.at ≡ a = sym (tells g.at (wider g.at g.between)) ∙ ap key g.equal
+        ∙ tells a (record { low = omega arith; high = omega arith }) in
+        let l = g.between.low in absurd (omega arith)
+
+-- x stands at place j
+abbrev pub At : {A : Type 0} → ℕ → List A → A → Type 0
+At j [] x = ⊥
+At zero (y ∷ ys) x = y ≡ x
+At (suc j) (y ∷ ys) x = At j ys x
+
+pub at-one : {A : Type 0} (j : ℕ) (xs : List A) (x y : A) → At j xs x → At j xs y → x ≡ y
+at-one j [] x y h k = absurd h
+at-one zero (z ∷ xs) x y h k = sym h ∙ k
+at-one (suc j) (z ∷ xs) x y h k = at-one j xs x y h k
+
+pub at-all : {A : Type 0} (Q : A → Type 0) (j : ℕ) (xs : List A) (x : A) → AllByRecursion Q xs → At j xs x → Q x
+at-all Q j [] x h k = absurd k
+at-all Q zero (y ∷ xs) x h k = subst Q k h.0
+at-all Q (suc j) (y ∷ xs) x h k = at-all Q j xs x h.1 k
+
+-- ---- one component
+
+-- what a spot of a component that is alone tells
+pub record TellsOwn (g : Grid) (row column : ℕ) (s : Spot) : Type 0 where
+  pub slot : s.slot ≡ 0
+  pub row_of : s.index / g.wide ≡ row
+  pub column_of : s.index % g.wide ≡ column
+
+own-tells : (g : Grid) (row column : ℕ) (s : Spot) → column < g.wide
+    → record { slot = 0; index = row * g.wide + column } ≡ s → TellsOwn g row column s
+own-tells g row column s lt e =
+    subst (TellsOwn g row column) e
+    (record {
+      slot = refl;
+      row_of = div-mul-add row g.wide column lt;
+      column_of =
+          mod-mul-add row g.wide column lt;
+    })
+
+pub own-apart : (g : Grid) → g.own_wide ≤ g.wide → AreApart (own_spots g)
+unfolding own_spots
+own-apart g fits =
+    let line : ℕ → ℕ → Spot = λ row column. record { slot = 0; index = row * g.wide + column } in
+    apart-flat (λ row. map (line row) (range_with_len 0 g.own_wide)) (λ s row. s.index / g.wide ≡ row) 0 g.own_high
+    (λ row b. apart-line (line row) (λ s. s.index % g.wide) 0 g.own_wide
+    (λ column c. mod-mul-add row g.wide column (let h = c.high in omega arith)))
+    (λ row s b h. told (line row) row s (λ column lt. refl) (in-line-back (line row) s 0 g.own_wide h))
+    (λ s k l e f. sym e ∙ f)
+  where
+    told : (f : ℕ → Spot) (row : ℕ) (s : Spot)
+        → ((column : ℕ) → column < g.own_wide → f column ≡ record { slot = 0; index = row * g.wide + column })
+        → EqualAt f 0 g.own_wide s → s.index / g.wide ≡ row
+    told f row s is x = let h = x.between.high in
+        (own-tells g row x.at s (omega arith) (sym (is x.at (omega arith)) ∙ x.equal)).row_of
+
+-- ---- several components
+
+-- what a spot of a component's part of an MCU tells
+pub record Tells (frame : Frame) (c : Component) (slot row column : ℕ) (s : Spot) : Type 0 where
+  pub slot_of : s.slot ≡ slot
+  pub row_of : s.index / c.blocks_wide / c.factors.vertical ≡ row
+  pub column_of : s.index % c.blocks_wide / c.factors.horizontal ≡ column
+  pub inside : row < frame.mcus_high → s.index < c.blocks_high * c.blocks_wide
+
+-- a column of an MCU is within the component's blocks
+within : (frame : Frame) (c : Component) (column h : ℕ) → Fits frame c → column < frame.mcus_wide
+    → h < c.factors.horizontal
+    → column * c.factors.horizontal + h < c.blocks_wide
+within frame c column h fits lt l =
+    let d : (column * c.factors.horizontal + h) / c.factors.horizontal ≡ column =
+    div-mul-add column c.factors.horizontal h l in
+    let b : column * c.factors.horizontal + h < frame.mcus_wide * c.factors.horizontal =
+    (div-lt_iff_lt-mul fits.horizontal).0 (omega arith) in
+    let w = fits.wide in omega arith
+
+spot-tells : (frame : Frame) (c : Component) (slot row column v h : ℕ) (s : Spot) → Fits frame c
+    → column < frame.mcus_wide → v < c.factors.vertical → h < c.factors.horizontal
+    → record {
+      slot = slot;
+      index =
+          (row * c.factors.vertical + v) * c.blocks_wide + (column * c.factors.horizontal + h);
+    } ≡ s
+    → Tells frame c slot row column s
+spot-tells frame c slot row column v h s fits lt vl hl e =
+    let vt = c.factors.vertical in
+    let hz = c.factors.horizontal in
+    let w = c.blocks_wide in
+    let i = (row * vt + v) * w + (column * hz + h) in
+    let lw : column * hz + h < w = within frame c column h fits lt hl in
+    let wp : 0 < w = omega arith in
+    let by-row : i / w ≡ row * vt + v = div-mul-add (row * vt + v) w (column * hz + h) lw in
+    let by-column : i % w ≡ column * hz + h = mod-mul-add (row * vt + v) w (column * hz + h) lw in
+    let up : (row * vt + v) / vt ≡ row = div-mul-add row vt v vl in
+    subst (Tells frame c slot row column) e (record {
+      slot_of = refl;
+      row_of = ap (λ (k : ℕ). k / vt) by-row ∙ up;
+      column_of = ap (λ (k : ℕ). k / hz) by-column ∙ div-mul-add column hz h hl;
+      inside = λ high.
+          let r : row * vt + v < frame.mcus_high * vt = (div-lt_iff_lt-mul fits.vertical).0 (omega arith) in
+          let b : i / w < c.blocks_high = let f = fits.high in omega arith in
+          (div-lt_iff_lt-mul wp).0 b;
+    })
+
+part-tells : (frame : Frame) (c : Component) (slot row column : ℕ) (s : Spot) → Fits frame c → column < frame.mcus_wide
+    → IsIn s (part_spots row column slot c) → Tells frame c slot row column s
+unfolding part_spots
+part-tells frame c slot row column s fits lt h =
+    let at : ℕ → ℕ → Spot =
+    λ v h. record {
+      slot = slot;
+      index =
+          (row * c.factors.vertical + v) * c.blocks_wide + (column * c.factors.horizontal + h);
+    } in
+    let line : ℕ → List Spot = λ v. map (at v) (range_with_len 0 c.factors.horizontal) in
+    let g = in-flat-back line s 0 c.factors.vertical h in
+    let e = in-line-back (at g.at) s 0 c.factors.horizontal g.gives in
+    let gv = g.between.high in
+    let eh = e.between.high in
+    spot-tells frame c slot row column g.at e.at s fits lt (omega arith) (omega arith) e.equal
+
+part-apart : (frame : Frame) (c : Component) (slot row column : ℕ) → Fits frame c → column < frame.mcus_wide
+    → AreApart (part_spots row column slot c)
+unfolding part_spots
+part-apart frame c slot row column fits lt =
+    let vt = c.factors.vertical in
+    let hz = c.factors.horizontal in
+    let w = c.blocks_wide in
+    let at : ℕ → ℕ → Spot = λ v h. record { slot = slot; index = (row * vt + v) * w + (column * hz + h) } in
+    let by-row : (v h : ℕ) → h < hz → (at v h).index / w ≡ row * vt + v
+    = λ v h l. div-mul-add (row * vt + v) w (column * hz + h) (within frame c column h fits lt l) in
+    let by-column : (v h : ℕ) → h < hz → (at v h).index % w ≡ column * hz + h
+    = λ v h l. mod-mul-add (row * vt + v) w (column * hz + h) (within frame c column h fits lt l) in
+    apart-flat (λ v. map (at v) (range_with_len 0 hz)) (λ s v. s.index / w % vt ≡ v) 0 vt
+    (λ v b. apart-line (at v) (λ s. s.index % w % hz) 0 hz (λ h k.
+    let l : h < hz = let x = k.high in omega arith in ap (λ (n : ℕ). n % hz) (by-column v h l)
+    ∙ mod-mul-add column hz h l))
+    (λ v s b h.
+    let e = in-line-back (at v) s 0 hz h in
+    let vl : v < vt = let x = b.high in omega arith in
+    let hl : e.at < hz = let x = e.between.high in omega arith in
+    subst (λ (r : Spot). r.index / w % vt ≡ v) e.equal
+    (ap (λ (n : ℕ). n % vt) (by-row v e.at hl) ∙ mod-mul-add row vt v vl))
+    (λ s k l e f. sym e ∙ f)
+
+-- the component that a spot of an MCU is of
+pub record IsOf (frame : Frame) (components : List Component) (base row column : ℕ) (s : Spot) : Type 0 where
+  pub place : ℕ
+  pub component : Component
+  pub here : At place components component
+  pub tells : Tells frame component (base + place) row column s
+
+pub mcu-tells : (frame : Frame) (components : List Component) (base row column : ℕ) (s : Spot)
+    → AllByRecursion (Fits frame) components → column < frame.mcus_wide
+    → IsIn s (mcu_spots row column base components) → IsOf frame components base row column s
+unfolding mcu_spots
+mcu-tells frame [] base row column s fits lt h = absurd h
+mcu-tells frame (c ∷ more) base row column s fits lt h =
+    go (λ t. mcu-tells frame more (base + 1) row column s fits.1 lt t)
+    (in-either s (part_spots row column base c) (mcu_spots row column (base + 1) more) h)
+  where
+    go : (IsIn s (mcu_spots row column (base + 1) more) → IsOf frame more (base + 1) row column s)
+        → IsIn s (part_spots row column base c) ⊎ IsIn s (mcu_spots row column (base + 1) more)
+        → IsOf frame (c ∷ more) base row column s
+    go rec (inl p) = record {
+      place = 0;
+      component = c;
+      here = refl;
+      tells = subst (λ (n : ℕ). Tells frame c n row column s) (omega arith)
+          (part-tells frame c base row column s fits.0 lt p);
+    }
+    go rec (inr t) = let r = rec t in record {
+      place = suc r.place;
+      component = r.component;
+      here = r.here;
+      tells = subst (λ (n : ℕ). Tells frame r.component n row column s) (omega arith) r.tells;
+    }
+
+mcu-apart : (frame : Frame) (components : List Component) (base row column : ℕ)
+    → AllByRecursion (Fits frame) components → column < frame.mcus_wide
+    → AreApart (mcu_spots row column base components)
+unfolding mcu_spots
+mcu-apart frame [] base row column fits lt = tt
+mcu-apart frame (c ∷ more) base row column fits lt =
+    apart-append (part_spots row column base c) (mcu_spots row column (base + 1) more)
+    (part-apart frame c base row column fits.0 lt)
+    (mcu-apart frame more (base + 1) row column fits.1 lt)
+    (λ s h k. let a = (part-tells frame c base row column s fits.0 lt h).slot_of in let b =
+    (mcu-tells frame more (base + 1) row column s fits.1 lt k).tells.slot_of in absurd (omega arith))
+
+-- what a spot of a row of MCUs tells
+pub record TellsRow (components : List Component) (row : ℕ) (s : Spot) : Type 0 where
+  pub component : Component
+  pub here : At s.slot components component
+  pub row_of : s.index / component.blocks_wide / component.factors.vertical ≡ row
+
+pub record TellsColumn (components : List Component) (column : ℕ) (s : Spot) : Type 0 where
+  pub component : Component
+  pub here : At s.slot components component
+  pub column_of : s.index % component.blocks_wide / component.factors.horizontal ≡ column
+
+pub placed : (frame : Frame) (components : List Component) (row column : ℕ) (s : Spot)
+    (x : IsOf frame components 0 row column s) → At s.slot components x.component
+placed frame components row column s x =
+    let e : x.place ≡ s.slot = let t = x.tells.slot_of in omega arith in
+    subst (λ (n : ℕ). At n components x.component) e x.here
+
+one-row : (components : List Component) (s : Spot) (k l : ℕ) → TellsRow components k s → TellsRow components l s → k ≡ l
+one-row components s k l a b =
+    let e = at-one s.slot components a.component b.component a.here b.here in
+    sym a.row_of ∙ ap (λ (c : Component). s.index / c.blocks_wide / c.factors.vertical) e ∙ b.row_of
+
+one-column : (components : List Component) (s : Spot) (k l : ℕ) → TellsColumn components k s
+    → TellsColumn components l s → k ≡ l
+one-column components s k l a b =
+    let e = at-one s.slot components a.component b.component a.here b.here in
+    sym a.column_of ∙ ap (λ (c : Component). s.index % c.blocks_wide / c.factors.horizontal) e ∙ b.column_of
+
+pub all-apart : (frame : Frame) (components : List Component) → AllByRecursion (Fits frame) components
+    → AreApart (all_spots frame.mcus_wide frame.mcus_high components)
+unfolding all_spots
+all-apart frame components fits =
+    let wide = frame.mcus_wide in
+    let mcu : ℕ → ℕ → List Spot = λ row column. mcu_spots row column 0 components in
+    let of : (row column : ℕ) (s : Spot) → Between 0 wide column → IsIn s (mcu row column)
+    → IsOf frame components 0 row column s
+    = λ row column s b h. mcu-tells frame components 0 row column s fits (let x = b.high in omega arith) h in
+    apart-flat (λ row. flat_map (mcu row) (range_with_len 0 wide))
+    (λ s row. TellsRow components row s) 0 frame.mcus_high
+    (λ row b. apart-flat (mcu row) (λ s column. TellsColumn components column s) 0 wide
+    (λ column k. mcu-apart frame components 0 row column fits (let x = k.high in omega arith))
+    (λ column s k h. let x = of row column s k h in
+    record { component = x.component; here = placed frame components row column s x; column_of = x.tells.column_of })
+    (λ s k l a b. one-column components s k l a b))
+    (λ row s b h. let g = in-flat-back (mcu row) s 0 wide h in let x = of row g.at s g.between g.gives in
+    record { component = x.component; here = placed frame components row g.at s x; row_of = x.tells.row_of })
+    (λ s k l a b. one-row components s k l a b)
+
+-- The spots of a scan are apart.
+pub spots-apart : (frame : Frame) (components : List Component) → AllByRecursion (Fits frame) components
+    → AreApart (spots_of frame components)
+unfolding spots_of
+spots-apart frame [] fits = tt
+spots-apart frame (c ∷ []) fits = own-apart (grid_of c) fits.0.own_wide
+spots-apart frame (c ∷ d ∷ more) fits = all-apart frame (c ∷ d ∷ more) fits
+
+-- ---- inside
+
+pub sized : (components : List Component) (arrays : Arrays) (j : ℕ) (c : Component) → AreArrays components arrays
+    → At j components c
+    → (j < length arrays) × (length (get_or arrays j []) ≡ c.blocks_high * c.blocks_wide)
+unfolding AreArrays
+sized [] arrays j c h k = absurd k
+sized (d ∷ more) [] j c h k = absurd h
+sized (d ∷ more) (a ∷ arrays) zero c h k = (omega arith, h.0 ∙ ap (λ (x : Component). x.blocks_high * x.blocks_wide) k)
+sized (d ∷ more) (a ∷ arrays) (suc j) c h k = let r = sized more arrays j c h.1 k in (let l = r.0 in omega arith, r.1)
+
+own-inside : (c : Component) (frame : Frame) (arrays : Arrays) (q : Spot) → Fits frame c → AreArrays (c ∷ []) arrays
+    → IsIn q (own_spots (grid_of c)) → IsInside arrays q
+unfolding own_spots
+own-inside c frame arrays q fits h k =
+    let g = grid_of c in
+    let line : ℕ → ℕ → Spot = λ row column. record { slot = 0; index = row * g.wide + column } in
+    let x = in-flat-back (λ row. map (line row) (range_with_len 0 g.own_wide)) q 0 g.own_high k in
+    let y = in-line-back (line x.at) q 0 g.own_wide x.gives in
+    let xh = x.between.high in
+    let yh = y.between.high in
+    let ow = fits.own_wide in
+    let oh = fits.own_high in
+    let lt : y.at < g.wide = omega arith in
+    let t = own-tells g x.at y.at q lt y.equal in
+    let wp : 0 < c.blocks_wide = omega arith in
+    let b : q.index / c.blocks_wide < c.blocks_high = let r = t.row_of in omega arith in
+    let i : q.index < c.blocks_high * c.blocks_wide = (div-lt_iff_lt-mul wp).0 b in
+    let z = sized (c ∷ []) arrays 0 c h refl in
+    let e : 0 ≡ q.slot = sym t.slot in
+    let r : (q.slot < length arrays) × (q.index < length (get_or arrays q.slot []))
+    = subst (λ (n : ℕ). (n < length arrays) × (q.index < length (get_or arrays n []))) e
+    (z.0, (let l = z.1 in omega arith)) in
+    record { slot = r.0; index = r.1 }
+
+all-inside : (frame : Frame) (components : List Component) (arrays : Arrays) (q : Spot)
+    → AllByRecursion (Fits frame) components → AreArrays components arrays
+    → IsIn q (all_spots frame.mcus_wide frame.mcus_high components) → IsInside arrays q
+unfolding all_spots
+all-inside frame components arrays q fits h k =
+    let wide = frame.mcus_wide in
+    let mcu : ℕ → ℕ → List Spot = λ row column. mcu_spots row column 0 components in
+    let x = in-flat-back (λ row. flat_map (mcu row) (range_with_len 0 wide)) q 0 frame.mcus_high k in
+    let y = in-flat-back (mcu x.at) q 0 wide x.gives in
+    let xh = x.between.high in
+    let yh = y.between.high in
+    let of = mcu-tells frame components 0 x.at y.at q fits (omega arith) y.gives in
+    let z = sized components arrays q.slot of.component h (placed frame components x.at y.at q of) in
+    let i = of.tells.inside (omega arith) in
+    record { slot = z.0; index = let l = z.1 in omega arith }
+
+-- The spots of a scan are inside the arrays of its components.
+pub spots-inside : (frame : Frame) (components : List Component) (arrays : Arrays) (q : Spot)
+    → AllByRecursion (Fits frame) components → AreArrays components arrays
+    → IsIn q (spots_of frame components) → IsInside arrays q
+unfolding spots_of
+spots-inside frame [] arrays q fits h k = absurd k
+spots-inside frame (c ∷ []) arrays q fits h k = own-inside c frame arrays q fits.0 h k
+spots-inside frame (c ∷ d ∷ more) arrays q fits h k = all-inside frame (c ∷ d ∷ more) arrays q fits h k
+
+length-same : (n : ℕ) (b : Block) → length (replicate n b) ≡ n
+length-same zero b = refl
+length-same (suc n) b = ap suc (length-same n b)
+
+pub zeros-sized : (components : List Component) → AreArrays components (zero_arrays components)
+unfolding zero_arrays AreArrays
+zeros-sized [] = tt
+zeros-sized (c ∷ more) = (length-same (c.blocks_high * c.blocks_wide) zero_block, zeros-sized more)

@@ -1,0 +1,446 @@
+-- A written stream is read as the blocks of its array, cut at the levels that were sent.
+use Rattle.std.proofs.Common.{◌≡◌, ◌≢◌, ◌⊎◌, inl, inr, ℕ, zero, suc, ◌+◌, ◌-◌, ◌*◌, ◌/◌, ◌%◌, ◌<◌, ◌≤◌, ◌&&◌, ◌||◌}
+use Rattle.std.proofs.Common.{not, nat_le, ◌==◌, Bool, true, false, cond, List, [], ◌∷◌, ◌++◌, length, take, drop}
+use Rattle.std.proofs.Common.{replicate, get_or, Option, Some, None, Ok, refl, sym, ap, ◌∙◌, subst, arith, eqb}
+use Rattle.std.proofs.Common.{true≢false, length-append, length-take, length-drop}
+use Rattle.std.proofs.lemmas.Bool.{eqb-true, eq-eqb}
+use Rattle.std.proofs.lemmas.List.{length-replicate}
+use lib.ListN.{length-map}
+use Rattle.std.specs.List.{AllByRecursion}
+use Rattle.jpeg_bits.specs.Codes.{IsTable}
+use Rattle.jpeg_bits.proofs.Tables.{good-table}
+use Rattle.jpeg_bits.specs.declared.marker.Marker.{Marker}
+use Rattle.jpeg_segments.specs.declared.parser.CodingProcess.TheVariants.{Lossless}
+use Rattle.jpeg_segments.specs.Frame.{Frame, Component, Factors, IsInRange, frame_of}
+use Rattle.jpeg_segments.specs.ScanHeader.{Scan, is_progressive_band}
+use Rattle.jpeg_bits.specs.Passes.{Pass, Block, whole_pass, zero_block, band_of, before_band, band_size}
+use Rattle.jpeg_streams.specs.Order.{grid_of}
+use Rattle.jpeg_segments.specs.Scales.{frame_at}
+use Rattle.jpeg_streams.specs.Scans.{Arrays, zero_arrays}
+use Rattle.jpeg_streams.specs.Stream.{Coding, Found, none_finished, pass_of, is_progressive, arrays_before}
+use Rattle.jpeg_streams.specs.Stream.{held_after, put_arrays, scan_arrays, after_scan, with_arrays}
+use Rattle.jpeg_streams.specs.Levels.{Levels, Is8Bit, IsLegal, sent_after, nothing_sent}
+use Rattle.jpeg_streams.specs.WrittenScans.{Coefficients, levels_of_one, levels_after, IsLegalScan, WritesScan}
+use Rattle.jpeg_streams.proofs.PlacesApart.{AreApart}
+use Rattle.jpeg_streams.specs.WrittenData.{marker}
+use Rattle.jpeg_streams.proofs.AcceptedStreams.{IsMarker}
+use Rattle.jpeg_streams.proofs.FinishedMarks.{IsBand, marks-start}
+use Rattle.jpeg_streams.proofs.OwnSpots.{At, at-get, Fits}
+use Rattle.jpeg_streams.proofs.WrittenFrameScans.{HoldsOwn, HasGood, SlotReady, SpotsSuit, none_read, dc_alone}
+use Rattle.jpeg_streams.proofs.WrittenFrameScans.{one_component, ReadsScan, scan-is_read, cut-nothing, at-all}
+use Rattle.jpeg_streams.proofs.ReadStates.{reading, Marked, AllDone, places_of, Brought, brings, AllHeld, held-after}
+use Rattle.jpeg_streams.proofs.AcceptedTurns.{CodingFacts, codings-facts, codings-read}
+
+-- ---- the frame
+
+-- a frame that is made of factors, at a scale
+pub record Made (f : Frame) : Type 0 where
+  pub number : ℕ
+  pub precision : ℕ
+  pub width : ℕ
+  pub height : ℕ
+  pub factors : List Factors
+  pub in_range : AllByRecursion IsInRange factors
+  pub some_width : 0 < width
+  pub some_height : 0 < height
+  pub scale : ℕ
+  pub some_scale : 0 < scale
+  pub is : f ≡ frame_at scale (frame_of number precision width height factors)
+
+pub record Shaped (f : Frame) : Type 0 where
+  pub made : Made f
+  pub few : length f.components ≤ 4
+  pub fits : (k : ℕ) (c : Component) → At k f.components c → Fits f c
+  pub lossy : f.process ≢ Lossless
+
+-- what is held, finished and decided after some scans
+pub record Framed (w : Found) (f : Frame) (array : Coefficients) (levels : ℕ → Levels) (sc : Bool) (h : Arrays)
+    (fi : List (List Bool)) (pl : List (Option (List ℕ))) : Type 0 where
+  pub marked : Marked w f array levels fi pl
+  pub sized : (k : ℕ) → length (levels k).acs ≡ 63
+  pub held : is_progressive f.process ≡ true → AllHeld f array levels (arrays_before (reading w sc h fi pl) f)
+  pub fresh : is_progressive f.process ≡ false → (k : ℕ) → (levels k).dc ≡ None → levels k ≡ nothing_sent
+
+pub get-same : {A : Type 0} (x : A) (n k : ℕ) → get_or (replicate n x) k x ≡ x
+get-same x zero k = refl
+get-same x (suc n) zero = refl
+get-same x (suc n) (suc k) = get-same x n k
+
+get-replicate : (n i : ℕ) → get_or (replicate n zero_block) i zero_block ≡ zero_block
+get-replicate n i = get-same zero_block n i
+
+pub zeros-everywhere : (components : List Component) (place index : ℕ)
+    → get_or (get_or (zero_arrays components) place []) index zero_block ≡ zero_block
+unfolding zero_arrays
+zeros-everywhere [] place index = refl
+zeros-everywhere (c ∷ more) zero index = get-replicate (c.blocks_high * c.blocks_wide) index
+zeros-everywhere (c ∷ more) (suc place) index = zeros-everywhere more place index
+
+zero-at : (components : List Component) (k : ℕ) (c : Component) → At k components c
+    → get_or (zero_arrays components) k [] ≡ replicate (c.blocks_high * c.blocks_wide) zero_block
+unfolding zero_arrays
+zero-at components k c h =
+    at-get (λ (x : Component). replicate (x.blocks_high * x.blocks_wide) zero_block) [] k components c h
+
+zero-count : (components : List Component) → length (zero_arrays components) ≡ length components
+unfolding zero_arrays
+zero-count components = length-map components (λ (c : Component). replicate (c.blocks_high * c.blocks_wide) zero_block)
+
+pub zero-holds : (array : ℕ → ℕ → Block) (c : Component) → ((row column : ℕ) → Is8Bit (array row column))
+    → HoldsOwn (grid_of c) array nothing_sent (replicate (c.blocks_high * c.blocks_wide) zero_block)
+zero-holds array c range = record {
+  sized = length-replicate (c.blocks_high * c.blocks_wide) zero_block;
+  each = λ i own. get-replicate (c.blocks_high * c.blocks_wide) i
+      ∙ sym (cut-nothing (array (i / c.blocks_wide) (i % c.blocks_wide))
+      (range (i / c.blocks_wide) (i % c.blocks_wide)).count);
+}
+
+arrays-fresh : (w : Found) (h : Arrays) (fi : List (List Bool)) (pl : List (Option (List ℕ))) (f : Frame)
+    → arrays_before (reading w false h fi pl) f ≡ zero_arrays f.components
+unfolding arrays_before
+arrays-fresh w h fi pl f = go (is_progressive f.process)
+  where
+    go : (b : Bool) → cond (b && false) h (zero_arrays f.components) ≡ zero_arrays f.components
+    go true = refl
+    go false = refl
+
+get-none : (k : ℕ) (l : List (Option (List ℕ))) → l ≡ replicate 4 None → get_or l k None ≡ None
+get-none k l e = let none : Option (List ℕ) = None in ap (λ (x : List (Option (List ℕ))). get_or x k none) e
+    ∙ get-same none 4 k
+
+get-unmarked : (k : ℕ) (l : List (List Bool)) → l ≡ replicate 4 none_finished → get_or l k none_finished ≡ none_finished
+get-unmarked k l e = ap (λ (x : List (List Bool)). get_or x k none_finished) e ∙ get-same none_finished 4 k
+
+-- before the first scan
+pub framed-start : (w : Found) (f : Frame) (array : Coefficients) (h : Arrays) (fi : List (List Bool))
+    (pl : List (Option (List ℕ))) → ((place row column : ℕ) → Is8Bit (array place row column))
+    → fi ≡ replicate 4 none_finished → pl ≡ replicate 4 None → Framed w f array (λ k. nothing_sent) false h fi pl
+framed-start w f array h fi pl range e g = record {
+  marked = record {
+    fi_count = ap length e;
+    pl_count = ap length g;
+    marks = λ k c t. get-unmarked k fi e ∙ marks-start;
+    planes = λ k c t. record { decided = λ d. absurd (true≢false (sym d)); undecided = λ d. get-none k pl g };
+  };
+  sized = λ k. refl;
+  held = λ d. subst (AllHeld f array (λ k. nothing_sent)) (sym (arrays-fresh w h fi pl f))
+      (record {
+        count = zero-count f.components;
+        each = λ k c t. subst (HoldsOwn (grid_of c) (array k) nothing_sent) (sym (zero-at f.components k c t))
+            (zero-holds (array k) c (range k));
+      });
+  fresh = λ d k n. refl;
+}
+
+-- ---- levels
+
+pub levels-length : (p : Pass) (l : Levels) → length l.acs ≡ 63 → length (sent_after p l).acs ≡ 63
+levels-length p l h =
+    let b = before_band p in
+    let s = band_size p in
+    let ls = l.acs in
+    let band = length-take s (drop b ls) in
+    let after = length-drop b ls in
+    let now = length-replicate (length (band_of p ls)) (Some p.al) in
+    let one = length-append (take b ls) (replicate (length (band_of p ls)) (Some p.al) ++ drop (b + s) ls) in
+    let two = length-append (replicate (length (band_of p ls)) (Some p.al)) (drop (b + s) ls) in
+    let front = length-take b ls in
+    let rest = length-drop (b + s) ls in
+    omega arith
+
+one-length : (p : Pass) (place k : ℕ) (levels : ℕ → Levels) → ((j : ℕ) → length (levels j).acs ≡ 63)
+    → length (levels_of_one p place levels k).acs ≡ 63
+one-length p place k levels h = go (eqb k place) (levels k) (h k)
+  where
+    go : (b : Bool) (l : Levels) → length l.acs ≡ 63
+        → length (elim b as (λ _. Levels) [ true ↦ sent_after p l | false ↦ l ]).acs ≡ 63
+    go true l e = levels-length p l e
+    go false l e = e
+
+pub after-length : (p : Pass) (places : List ℕ) (levels : ℕ → Levels) → ((j : ℕ) → length (levels j).acs ≡ 63)
+    → (k : ℕ) → length (levels_after p places levels k).acs ≡ 63
+unfolding levels_after
+after-length p [] levels h k = h k
+after-length p (q ∷ places) levels h k =
+    after-length p places (levels_of_one p q levels) (λ j. one-length p q j levels h) k
+
+some-none : (a : ℕ) → ◌≡◌ {A = Option ℕ} (Some a) None → ⊥
+some-none a e = cc
+
+-- a whole pass leaves no component without DC but those that it doesn't have
+one-fresh : (p : Pass) (place k : ℕ) (levels : ℕ → Levels) → p ≡ whole_pass
+    → ((j : ℕ) → (levels j).dc ≡ None → levels j ≡ nothing_sent)
+    → (levels_of_one p place levels k).dc ≡ None → levels_of_one p place levels k ≡ nothing_sent
+one-fresh p place k levels e h n =
+    subst (λ (q : Pass). (levels_of_one q place levels k).dc ≡ None → levels_of_one q place levels k ≡ nothing_sent)
+    (sym e) (go (eqb k place) (levels k) (h k)) n
+  where
+    go : (b : Bool) (l : Levels) → (l.dc ≡ None → l ≡ nothing_sent)
+        → (elim b as (λ _. Levels) [ true ↦ sent_after whole_pass l | false ↦ l ]).dc ≡ None
+        → elim b as (λ _. Levels) [ true ↦ sent_after whole_pass l | false ↦ l ] ≡ nothing_sent
+    go true l g m = absurd (some-none 0 m)
+    go false l g m = g m
+
+pub after-fresh : (p : Pass) (places : List ℕ) (levels : ℕ → Levels) → p ≡ whole_pass
+    → ((j : ℕ) → (levels j).dc ≡ None → levels j ≡ nothing_sent)
+    → (k : ℕ) → (levels_after p places levels k).dc ≡ None → levels_after p places levels k ≡ nothing_sent
+unfolding levels_after
+after-fresh p [] levels e h k n = h k n
+after-fresh p (q ∷ places) levels e h k n =
+    after-fresh p places (levels_of_one p q levels) e (λ j. one-fresh p q j levels e h) k n
+
+-- ---- passes
+
+both : (a b : Bool) → (a && b) ≡ true → (a ≡ true) × (b ≡ true)
+both true b e = (refl, e)
+both false b e = absurd (true≢false (sym e))
+
+either-true : (a b : Bool) → (a || b) ≡ true → (a ≡ true) ⊎ (b ≡ true)
+either-true true b e = inl refl
+either-true false b e = inr e
+
+not-true : (a : Bool) → not a ≡ true → a ≡ false
+not-true true e = absurd (true≢false (sym e))
+not-true false e = refl
+
+pub pass-by : (s : Scan) → pass_of s ≡ record { is_first = eqb s.high 0; ss = s.first; se = s.after - 1; al = s.low }
+unfolding pass_of
+pass-by s = refl
+
+-- a pass that starts with DC has DC alone, and one that doesn't is of one component
+pub record IsProgressivePass (s : Scan) : Type 0 where
+  pub dc : s.first ≡ 0 → s.after - 1 ≡ 0
+  pub ac : (s.first ≡ 0) ⊎ (length s.components ≡ 1)
+
+pub progressive-pass : (count first last high low : ℕ) → is_progressive_band count first last high low ≡ true
+    → (first ≡ 0 → last ≡ 0) × ((first ≡ 0) ⊎ (count ≡ 1))
+progressive-pass count first last high low e =
+    let a = both (nat_le first last) _ e in
+    let b = both (nat_le last 63) _ a.1 in
+    let c = both (not (first == 0) || last == 0) _ b.1 in
+    let d = both (first == 0 || count == 1) _ c.1 in
+    ((λ z. go z (either-true (not (first == 0)) (last == 0) c.0)), one (either-true (first == 0) (count == 1) d.0))
+  where
+    go : first ≡ 0 → (not (first == 0) ≡ true) ⊎ ((last == 0) ≡ true) → last ≡ 0
+    go z (inl n) = absurd (true≢false (sym (eq-eqb first 0 z) ∙ not-true (eqb first 0) n))
+    go z (inr y) = eqb-true last 0 y
+
+    one : ((first == 0) ≡ true) ⊎ ((count == 1) ≡ true) → (first ≡ 0) ⊎ (count ≡ 1)
+    one (inl y) = inl (eqb-true first 0 y)
+    one (inr y) = inr (eqb-true count 1 y)
+
+-- what the process says of a scan
+pub data PassSo (f : Frame) (s : Scan) : Type 0 where
+  sequential : is_progressive f.process ≡ false → pass_of s ≡ whole_pass → PassSo f s
+  progressive : is_progressive f.process ≡ true → (s.first ≡ 0 → s.after - 1 ≡ 0)
+      → (s.first ≡ 0) ⊎ (length s.components ≡ 1) → s.first < s.after → s.after ≤ 64 → PassSo f s
+
+-- what a scan header says
+pub record ScanFacts (f : Frame) (s : Scan) : Type 0 where
+  pub some : 1 ≤ length s.components
+  pub dc_length : length s.dc_places ≡ length s.components
+  pub ac_length : length s.ac_places ≡ length s.components
+  pub apart : AreApart s.components
+  pub so : PassSo f s
+
+pub band-so : (f : Frame) (s : Scan) → PassSo f s → IsBand (pass_of s)
+unfolding pass_of
+band-so f s (sequential e p) = subst IsBand (sym p) (record { rising = omega arith; within = omega arith })
+band-so f s (progressive e d a lt le) = record { rising = omega arith; within = omega arith }
+
+-- ---- a scan
+
+single : {A : Type 0} (xs : List A) → length xs ≡ 1 → (x : A) × (xs ≡ x ∷ [])
+single [] h = absurd (omega arith)
+single (x ∷ []) h = (x, refl)
+single (x ∷ y ∷ xs) h = absurd (omega arith)
+
+some-first : {A : Type 0} (xs : List A) → 1 ≤ length xs → (x : A) × At 0 xs x
+some-first [] h = absurd (omega arith)
+some-first (x ∷ xs) h = (x, refl)
+
+all-good : (codings : List Coding) → AllByRecursion (λ c. IsTable c.dc × IsTable c.ac) codings
+    → AllByRecursion HasGood codings
+all-good [] h = tt
+all-good (k ∷ codings) h = (
+  record { dc = good-table k.dc h.0.0.counted h.0.0.exists; ac = good-table k.ac h.0.1.counted h.0.1.exists },
+  all-good codings h.1,
+)
+
+sequential-arrays : (found : Found) (f : Frame) → is_progressive f.process ≡ false
+    → arrays_before found f ≡ zero_arrays f.components
+unfolding arrays_before
+sequential-arrays found f e = rw (e, arrays_before) refl
+
+pub held-arrays : (w : Found) (h : Arrays) (fi : List (List Bool)) (pl : List (Option (List ℕ))) (f : Frame)
+    → is_progressive f.process ≡ true → arrays_before (reading w true h fi pl) f ≡ h
+unfolding arrays_before
+held-arrays w h fi pl f e = rw (e, arrays_before) refl
+
+held-after_is : (found : Found) (f : Frame) (codings : List Coding) (arrays : Arrays) → is_progressive f.process ≡ true
+    → held_after found f codings arrays ≡ put_arrays codings arrays (arrays_before found f)
+held-after_is found f codings arrays e = rw (e, held_after) refl
+
+after-is : (w : Found) (sc : Bool) (h : Arrays) (fi : List (List Bool)) (pl : List (Option (List ℕ))) (f : Frame)
+    (s : Scan) (codings : List Coding) (arrays : Arrays)
+    → after_scan (reading w sc h fi pl) f s codings arrays
+    ≡ with_arrays (pass_of s) codings arrays
+    (reading w true (held_after (reading w sc h fi pl) f codings arrays) fi pl)
+unfolding after_scan
+after-is w sc h fi pl f s codings arrays = refl
+
+all-done : (w : Found) (f : Frame) (p : Pass) (array : Coefficients) (levels : ℕ → Levels) (codings : List Coding)
+    (arrays : Arrays) → length arrays ≡ length codings
+    → ((k : Coding) (j : ℕ) → At j codings k
+    → HoldsOwn (grid_of k.component) (array k.place) (sent_after p (levels k.place)) (get_or arrays j []))
+    → AllByRecursion (CodingFacts w f) codings → AllByRecursion (λ c. IsLegal p (levels c.place)) codings
+    → ((k : ℕ) → length (levels k).acs ≡ 63)
+    → AllDone w f p array levels codings arrays
+all-done w f p array levels [] [] n holds facts legal sized = tt
+all-done w f p array levels [] (b ∷ arrays) n holds facts legal sized = absurd (omega arith)
+all-done w f p array levels (k ∷ codings) [] n holds facts legal sized = absurd (omega arith)
+all-done w f p array levels (k ∷ codings) (b ∷ arrays) n holds facts legal sized = (
+  record { at = facts.0.at; table = facts.0.table; legal = legal.0; sized = sized k.place; holds = holds k 0 refl },
+  all-done w f p array levels codings arrays (omega arith) (λ c j t. holds c (suc j) t) facts.1 legal.1 sized,
+)
+
+-- the components of the scan are ready, where their blocks are held
+all-ready : (w : Found) (f : Frame) (p : Pass) (array : Coefficients) (levels : ℕ → Levels) (before : Arrays)
+    (codings : List Coding) → Shaped f
+    → ((k : Coding) → CodingFacts w f k → IsLegal p (levels k.place)
+    → HoldsOwn (grid_of k.component) (array k.place) (levels k.place) (get_or before k.place []))
+    → AllByRecursion (CodingFacts w f) codings → AllByRecursion (λ c. IsLegal p (levels c.place)) codings
+    → ((k : ℕ) → length (levels k).acs ≡ 63)
+    → AllByRecursion (SlotReady f p array levels before) codings
+all-ready w f p array levels before [] shape holds facts legal sized = tt
+all-ready w f p array levels before (k ∷ codings) shape holds facts legal sized = (
+  record {
+    fits = shape.fits k.place k.component facts.0.at;
+    holds = holds k facts.0 legal.0;
+    legal = legal.0;
+    sized =
+        sized k.place;
+  },
+  all-ready w f p array levels before codings shape holds facts.1 legal.1 sized,
+)
+
+-- what a scan was read as
+pub record Scanned (w : Found) (f : Frame) (array : Coefficients) (levels : ℕ → Levels) (sc : Bool) (h : Arrays)
+    (fi : List (List Bool)) (pl : List (Option (List ℕ))) (s : Scan)
+    (codings : List Coding) (bytes : List ℕ) : Type 0 where
+  pub arrays : Arrays
+  pub held : Arrays
+  pub finished : List (List Bool)
+  pub planes : List (Option (List ℕ))
+  pub read : (fill code : ℕ) (m : Marker) (rest : List ℕ) → IsMarker code m
+      → scan_arrays (reading w sc h fi pl) f s codings (bytes ++ marker fill code rest) ≡ Ok ((arrays, Some m), rest)
+  pub after : after_scan (reading w sc h fi pl) f s codings arrays ≡ reading w true held finished planes
+  pub framed : Framed w f array (levels_after (pass_of s) (places_of codings) levels) true held finished planes
+
+module _ (w : Found) (f : Frame) (array : Coefficients) (levels : ℕ → Levels) (sc : Bool) (h : Arrays)
+    (fi : List (List Bool)) (pl : List (Option (List ℕ))) (s : Scan)
+    (codings : List Coding) (bytes : List ℕ) (range : (place row column : ℕ) → Is8Bit (array place row column))
+    (shape : Shaped f) (framed : Framed w f array levels sc h fi pl)
+    (rules : ScanFacts f s) (exist : AllByRecursion (λ c. IsTable c.dc × IsTable c.ac) codings)
+    (legal : IsLegalScan w f levels s codings)
+    (written : WritesScan f w.restart (pass_of s) codings array bytes) where
+  abbrev now : Found
+  now = reading w sc h fi pl
+
+  facts : (length codings ≡ length s.components) × AllByRecursion (CodingFacts w f) codings
+      × (places_of codings ≡ s.components)
+  facts = codings-facts w f s codings rules.dc_length rules.ac_length
+      (codings-read w f s codings legal.are_in_force)
+
+  apart : AreApart (places_of codings)
+  apart = subst AreApart (sym facts.2) rules.apart
+
+  so : PassSo f s
+  so = rules.so
+
+  low : (pass_of s).al ≤ 7
+  low = let k = some-first codings (let n = facts.0 in let r = rules.some in omega arith) in
+      (at-all (λ (c : Coding). IsLegal (pass_of s) (levels c.place)) 0 codings k.0 legal.legal k.1).low
+
+  ss-is : (pass_of s).ss ≡ s.first
+  ss-is = ap (λ (p : Pass). p.ss) (pass-by s)
+
+  se-is : (pass_of s).se ≡ s.after - 1
+  se-is = ap (λ (p : Pass). p.se) (pass-by s)
+
+  holds-now : PassSo f s → (k : Coding) → CodingFacts w f k → IsLegal (pass_of s) (levels k.place)
+      → HoldsOwn (grid_of k.component) (array k.place) (levels k.place) (get_or (arrays_before now f) k.place [])
+  holds-now (sequential e q) k fact l =
+      let none : levels k.place ≡ nothing_sent =
+      framed.fresh e k.place (l.dc_unsent (ap (λ (p : Pass). p.ss) q) (ap (λ (p : Pass). p.is_first) q)) in
+      subst (λ (a : Arrays). HoldsOwn (grid_of k.component) (array k.place) (levels k.place) (get_or a k.place []))
+      (sym (sequential-arrays now f e))
+      (subst (λ (x : Levels). HoldsOwn (grid_of k.component) (array k.place) x
+      (get_or (zero_arrays f.components) k.place [])) (sym none)
+      (subst (HoldsOwn (grid_of k.component) (array k.place) nothing_sent)
+      (sym (zero-at f.components k.place k.component fact.at))
+      (zero-holds (array k.place) k.component (range k.place))))
+  holds-now (progressive e d a lt le) k fact l = (framed.held e).each k.place k.component fact.at
+
+  suit-now : PassSo f s → SpotsSuit (pass_of s) (arrays_before now f) codings
+  suit-now (sequential e q) =
+      none_read q (subst (λ (a : Arrays). (place index : ℕ)
+      → get_or (get_or a place []) index zero_block ≡ zero_block) (sym (sequential-arrays now f e))
+      (zeros-everywhere f.components))
+  suit-now (progressive e d (inl z) lt le) = dc_alone (ss-is ∙ z) (se-is ∙ d z) low
+  suit-now (progressive e d (inr one) lt le) = let k = single codings (facts.0 ∙ one) in one_component k.0 k.1
+
+  reads-now : ReadsScan f w.restart (pass_of s) codings array levels (arrays_before now f) bytes
+  reads-now = scan-is_read f w.restart (pass_of s) codings array levels (arrays_before now f) bytes range
+      (all-ready w f (pass_of s) array levels (arrays_before now f) codings shape
+      (holds-now so) facts.1 legal.legal framed.sized)
+      (suit-now so) (all-good codings exist) written
+
+  done : AllDone w f (pass_of s) array levels codings reads-now.arrays
+  done = all-done w f (pass_of s) array levels codings reads-now.arrays reads-now.count reads-now.holds facts.1
+      legal.legal framed.sized
+
+  abbrev after_held : Arrays
+  after_held = held_after now f codings reads-now.arrays
+
+  brought : Brought w f (pass_of s) array levels codings reads-now.arrays true after_held fi pl
+  brought = brings w f (pass_of s) array levels codings reads-now.arrays true after_held fi pl shape.few
+      (band-so f s so) apart done framed.marked
+
+  scan-read : (fill code : ℕ) (m : Marker) (rest : List ℕ) → IsMarker code m
+      → scan_arrays now f s codings (bytes ++ marker fill code rest) ≡ Ok ((reads-now.arrays, Some m), rest)
+  unfolding scan_arrays
+  scan-read fill code m rest i = reads-now.read fill code m rest i
+
+  fresh-after : PassSo f s → is_progressive f.process ≡ false → (k : ℕ)
+      → (levels_after (pass_of s) (places_of codings) levels k).dc ≡ None
+      → levels_after (pass_of s) (places_of codings) levels k ≡ nothing_sent
+  fresh-after (sequential e q) g = after-fresh (pass_of s) (places_of codings) levels q (framed.fresh e)
+  fresh-after (progressive e d a lt le) g = absurd (true≢false (sym e ∙ g))
+
+  held-now : is_progressive f.process ≡ true
+      → AllHeld f array (levels_after (pass_of s) (places_of codings) levels)
+      (arrays_before (reading w true after_held brought.finished brought.planes) f)
+  held-now e =
+      subst (AllHeld f array (levels_after (pass_of s) (places_of codings) levels))
+      (sym (held-arrays w after_held brought.finished brought.planes f e
+      ∙ held-after_is now f codings reads-now.arrays e))
+      (held-after w f (pass_of s) array levels codings reads-now.arrays (arrays_before now f) apart done
+      (framed.held e))
+
+  -- A written scan brings what the levels after it say.
+  pub scan-brings : Scanned w f array levels sc h fi pl s codings bytes
+  scan-brings = record {
+    arrays = reads-now.arrays;
+    held = after_held;
+    finished = brought.finished;
+    planes = brought.planes;
+    read = scan-read;
+    after = after-is w sc h fi pl f s codings reads-now.arrays ∙ brought.is;
+    framed = record {
+      marked = brought.marked;
+      sized = after-length (pass_of s) (places_of codings) levels framed.sized;
+      held = held-now;
+      fresh = λ g. fresh-after so g;
+    };
+  }

@@ -1,0 +1,252 @@
+-- A legal scan takes the blocks at its levels to the blocks at the levels after it.
+use Rattle.std.proofs.Common.{◌≡◌, ℕ, zero, suc, ◌+◌, ◌*◌, ◌/◌, ◌^◌, ◌<◌, ◌≤◌, Bool, true, false, List, [], ◌∷◌, ◌++◌}
+use Rattle.std.proofs.Common.{map, take, drop, replicate, length, ℤ, pos, negsuc, neg_ℤ, ◌≤ℤ◌, unsigned_abs, Option}
+use Rattle.std.proofs.Common.{Some, None, refl, sym, ap, ap₂, ◌∙◌, subst, arith, eqb, pow_mono, w16, length-take}
+use Rattle.std.proofs.Common.{length-drop, drop-drop, take-append-drop}
+use Rattle.std.proofs.lemmas.List.{length-replicate}
+use lib.ListN.{length-map}
+use Rattle.std.proofs.Math.Nat.{div-le_self, div-mul-le_self, add-mul, one-mul}
+use lib.Pow.{shr-shr}
+use lib.Signed.{mag}
+use Rattle.std.proofs.lemmas.Int.{ints, int_wrap_fits}
+use Rattle.std.proofs.lemmas.Bool.{eqb-true}
+use Rattle.std.specs.List.{AllByRecursion}
+use Rattle.jpeg_bits.specs.Bands.{wrapped}
+use Rattle.jpeg_bits.specs.Passes.{Pass, Block, or_bit, band_of, with_band, before_band, band_size}
+use Rattle.jpeg_streams.specs.Levels.{floor_at, toward_zero, numbers_at, Levels, cut_dc, cut_ac, cut_acs, cut}
+use Rattle.jpeg_streams.specs.Levels.{IsLegal, sent_after, Is8Bit}
+use Rattle.jpeg_streams.specs.WrittenData.{no_numbers, low_bit}
+use Rattle.jpeg_streams.proofs.SentBlocks.{halved}
+use Rattle.jpeg_streams.proofs.SentBlocks.{scaled, held, InRange, InDcRange, Suits, after_pass, dc_held, floor_half}
+use Rattle.jpeg_streams.proofs.WrittenBands.{abs-scaled, mag-le}
+use Rattle.jpeg_streams.proofs.WrittenBlocks.{dc-refined}
+
+-- ---- numbers
+
+pub half-shift : (n al : ℕ) → n / 2 ^ al / 2 ≡ n / 2 ^ suc al
+half-shift n al = shr-shr n al 1 ∙ ap (λ (x : ℕ). n / 2 ^ x) (omega arith)
+
+pub halved-neg : (k : ℕ) → halved (neg_ℤ (pos k)) ≡ neg_ℤ (pos (k / 2))
+halved-neg zero = refl
+halved-neg (suc k) = refl
+
+pub halved-toward : (al : ℕ) (x : ℤ) → halved (toward_zero al x) ≡ toward_zero (suc al) x
+halved-toward al (pos n) = ap pos (half-shift n al)
+halved-toward al (negsuc n) = halved-neg (suc n / 2 ^ al) ∙ ap (λ (x : ℕ). neg_ℤ (pos x)) (half-shift (suc n) al)
+
+pub half-floor : (al : ℕ) (x : ℤ) → floor_half (floor_at al x) ≡ floor_at (suc al) x
+half-floor al (pos n) = ap pos (half-shift n al)
+half-floor al (negsuc n) = ap negsuc (half-shift n al)
+
+pub abs-toward : (al : ℕ) (x : ℤ) → unsigned_abs (toward_zero al x) ≡ unsigned_abs x / 2 ^ al
+abs-toward al (pos n) = refl
+abs-toward al (negsuc n) = abs-neg (suc n / 2 ^ al)
+  where
+    abs-neg : (k : ℕ) → unsigned_abs (neg_ℤ (pos k)) ≡ k
+    abs-neg zero = refl
+    abs-neg (suc k) = refl
+
+pub toward-range : (al : ℕ) (x : ℤ) → unsigned_abs x ≤ 1023 → InRange al (toward_zero al x)
+toward-range al x h =
+    record {
+      within = omega
+          (arith, ap (λ (y : ℕ). y * 2 ^ al) (abs-toward al x), div-mul-le_self (unsigned_abs x) (2 ^ al));
+    }
+
+pub floor-range : (al : ℕ) (x : ℤ) → negsuc 1023 ≤ℤ x → x ≤ℤ pos 1023 → InDcRange (floor_at al x)
+floor-range al (pos n) h k = let d = div-le_self n (2 ^ al) in
+    record { low = omega (arith, ints); high = omega (arith, ints) }
+floor-range al (negsuc n) h k = let d = div-le_self n (2 ^ al) in
+    record { low = omega (arith, ints); high = omega (arith, ints) }
+
+pub floor-fits : (al : ℕ) (x : ℤ) → al ≤ 7 → negsuc 1023 ≤ℤ x → x ≤ℤ pos 1023
+    → wrapped (scaled al (floor_at al x)) ≡ scaled al (floor_at al x)
+floor-fits al x low h k = int_wrap_fits w16 (scaled al (floor_at al x)) (record { sfits = small x h k })
+  where
+    power : 2 ^ al ≤ 2 ^ 7
+    power = pow_mono low
+
+    small : (x : ℤ) → negsuc 1023 ≤ℤ x → x ≤ℤ pos 1023 → mag (scaled al (floor_at al x)) < 2 ^ 15
+    small (pos n) h k = let d = div-mul-le_self n (2 ^ al) in omega (arith, ints)
+    small (negsuc n) h k =
+        let d = div-mul-le_self n (2 ^ al) in
+        let m = mag-le (scaled al (floor_at al (negsuc n))) in
+        let a = abs-scaled al (floor_at al (negsuc n)) in
+        let b = add-mul 1 (n / 2 ^ al) (2 ^ al) in
+        let e : suc (n / 2 ^ al) * 2 ^ al ≡ (1 + n / 2 ^ al) * 2 ^ al = ap (λ (y : ℕ). y * 2 ^ al) (omega arith) in
+        let o = one-mul (2 ^ al) in
+        let w : 2 ^ al ≤ 2 ^ 7 = power in
+        omega (arith, ints)
+
+-- ---- lists
+
+pub cut-take : (n : ℕ) (cs : List ℤ) (ls : List (Option ℕ)) → take n (cut_acs cs ls) ≡ cut_acs (take n cs) (take n ls)
+unfolding cut_acs
+cut-take zero cs ls = refl
+cut-take (suc n) [] ls = refl
+cut-take (suc n) (c ∷ cs) [] = refl
+cut-take (suc n) (c ∷ cs) (l ∷ ls) = ap (λ (m : List ℤ). cut_ac c l ∷ m) (cut-take n cs ls)
+
+pub cut-nil : (cs : List ℤ) → [] ≡ cut_acs cs []
+unfolding cut_acs
+cut-nil [] = refl
+cut-nil (c ∷ cs) = refl
+
+pub cut-drop : (n : ℕ) (cs : List ℤ) (ls : List (Option ℕ)) → drop n (cut_acs cs ls) ≡ cut_acs (drop n cs) (drop n ls)
+unfolding cut_acs
+cut-drop zero cs ls = refl
+cut-drop (suc n) [] ls = refl
+cut-drop (suc n) (c ∷ cs) [] = cut-nil (drop n cs)
+cut-drop (suc n) (c ∷ cs) (l ∷ ls) = cut-drop n cs ls
+
+pub cut-append : (xs ys : List ℤ) (ms ns : List (Option ℕ)) → length xs ≡ length ms
+    → cut_acs (xs ++ ys) (ms ++ ns) ≡ cut_acs xs ms ++ cut_acs ys ns
+unfolding cut_acs
+cut-append [] ys [] ns h = refl
+cut-append [] ys (m ∷ ms) ns h = absurd (omega arith)
+cut-append (x ∷ xs) ys [] ns h = absurd (omega arith)
+cut-append (x ∷ xs) ys (m ∷ ms) ns h = ap (λ (l : List ℤ). cut_ac x m ∷ l) (cut-append xs ys ms ns (omega arith))
+
+pub cut-unsent : (cs : List ℤ) (ls : List (Option ℕ)) → length cs ≡ length ls → AllByRecursion (λ x. x ≡ None) ls
+    → cut_acs cs ls ≡ no_numbers (length cs)
+unfolding cut_acs
+cut-unsent [] ls h all = refl
+cut-unsent (c ∷ cs) [] h all = absurd (omega arith)
+cut-unsent (c ∷ cs) (l ∷ ls) h all =
+    ap₂ (λ (x : ℤ) (xs : List ℤ). x ∷ xs) (ap (cut_ac c) all.0) (cut-unsent cs ls (omega arith) all.1)
+
+pub cut-sent : (a : ℕ) (cs : List ℤ) (ls : List (Option ℕ)) → length cs ≡ length ls
+    → AllByRecursion (λ x. x ≡ Some a) ls → cut_acs cs ls ≡ map (λ c. scaled a (toward_zero a c)) cs
+unfolding cut_acs
+cut-sent a [] ls h all = refl
+cut-sent a (c ∷ cs) [] h all = absurd (omega arith)
+cut-sent a (c ∷ cs) (l ∷ ls) h all =
+    ap₂ (λ (x : ℤ) (xs : List ℤ). x ∷ xs) (ap (cut_ac c) all.0) (cut-sent a cs ls (omega arith) all.1)
+
+pub map-take : (f : ℤ → ℤ) (n : ℕ) (xs : List ℤ) → take n (map f xs) ≡ map f (take n xs)
+map-take f zero xs = refl
+map-take f (suc n) [] = refl
+map-take f (suc n) (x ∷ xs) = ap (λ (l : List ℤ). f x ∷ l) (map-take f n xs)
+
+pub map-drop : (f : ℤ → ℤ) (n : ℕ) (xs : List ℤ) → drop n (map f xs) ≡ map f (drop n xs)
+map-drop f zero xs = refl
+map-drop f (suc n) [] = refl
+map-drop f (suc n) (x ∷ xs) = map-drop f n xs
+
+pub band-cut : (p : Pass) (cs : List ℤ) (ls : List (Option ℕ))
+    → band_of p (cut_acs cs ls) ≡ cut_acs (band_of p cs) (band_of p ls)
+band-cut p cs ls = ap (take (band_size p)) (cut-drop (before_band p) cs ls)
+    ∙ cut-take (band_size p) (drop (before_band p) cs) (drop (before_band p) ls)
+
+pub band-map : (p : Pass) (f : ℤ → ℤ) (cs : List ℤ) → band_of p (map f cs) ≡ map f (band_of p cs)
+band-map p f cs = ap (take (band_size p)) (map-drop f (before_band p) cs)
+    ∙ map-take f (band_size p) (drop (before_band p) cs)
+
+pub map-map : (f g h : ℤ → ℤ) → ((x : ℤ) → g (f x) ≡ h x) → (xs : List ℤ) → map g (map f xs) ≡ map h xs
+map-map f g h e [] = refl
+map-map f g h e (x ∷ xs) = ap₂ (λ (y : ℤ) (l : List ℤ). y ∷ l) (e x) (map-map f g h e xs)
+
+pub same-take : (n : ℕ) (cs : List ℤ) (ls : List (Option ℕ)) → length cs ≡ length ls
+    → length (take n cs) ≡ length (take n ls)
+same-take n cs ls h = omega (arith, length-take n cs, length-take n ls)
+
+pub same-drop : (n : ℕ) (cs : List ℤ) (ls : List (Option ℕ)) → length cs ≡ length ls
+    → length (drop n cs) ≡ length (drop n ls)
+same-drop n cs ls h = omega (arith, length-drop n cs, length-drop n ls)
+
+pub same-band : (p : Pass) (cs : List ℤ) (ls : List (Option ℕ)) → length cs ≡ length ls
+    → length (band_of p cs) ≡ length (band_of p ls)
+same-band p cs ls h =
+    same-take (band_size p) (drop (before_band p) cs) (drop (before_band p) ls) (same-drop (before_band p) cs ls h)
+
+-- a list is what stands before a band, the band, and what stands after it
+pub around-band : (p : Pass) (cs : List ℤ) → with_band p cs (band_of p cs) ≡ cs
+around-band p cs =
+    ap (λ (l : List ℤ). take (before_band p) cs ++ (band_of p cs ++ l))
+    (sym (drop-drop (band_size p) (before_band p) cs))
+    ∙ ap (λ (l : List ℤ). take (before_band p) cs ++ l) (take-append-drop (band_size p) (drop (before_band p) cs))
+    ∙ take-append-drop (before_band p) cs
+
+pub all-map : (P : ℤ → Type 0) (f : ℤ → ℤ) (Q : ℤ → Type 0) → ((x : ℤ) → Q x → P (f x)) → (xs : List ℤ)
+    → AllByRecursion Q xs → AllByRecursion P (map f xs)
+all-map P f Q g [] h = tt
+all-map P f Q g (x ∷ xs) h = (g x h.0, all-map P f Q g xs h.1)
+
+pub all-take : (Q : ℤ → Type 0) (n : ℕ) (xs : List ℤ) → AllByRecursion Q xs → AllByRecursion Q (take n xs)
+all-take Q zero xs h = tt
+all-take Q (suc n) [] h = tt
+all-take Q (suc n) (x ∷ xs) h = (h.0, all-take Q n xs h.1)
+
+pub all-drop : (Q : ℤ → Type 0) (n : ℕ) (xs : List ℤ) → AllByRecursion Q xs → AllByRecursion Q (drop n xs)
+all-drop Q zero xs h = h
+all-drop Q (suc n) [] h = tt
+all-drop Q (suc n) (x ∷ xs) h = all-drop Q n xs h.1
+
+pub all-same : (a : Option ℕ) (n : ℕ) → AllByRecursion (λ x. x ≡ a) (replicate n a)
+all-same a zero = tt
+all-same a (suc n) = (refl, all-same a n)
+
+-- ---- a scan
+
+-- The block at its levels suits a legal scan.
+pub suits-cut : (p : Pass) (l : Levels) (c : Block) → Is8Bit c → length c.acs ≡ length l.acs → IsLegal p l
+    → Suits p (cut l c) (numbers_at p.al c)
+suits-cut p l c range same legal = record {
+  unsent = λ f. band-cut p c.acs l.acs
+      ∙ cut-unsent (band_of p c.acs) (band_of p l.acs) (same-band p c.acs l.acs same) (legal.acs_unsent f)
+      ∙ ap no_numbers (sym (ap length (band-map p (toward_zero p.al) c.acs)
+      ∙ length-map (band_of p c.acs) (toward_zero p.al)));
+  sent = λ f. band-cut p c.acs l.acs
+      ∙ cut-sent (suc p.al) (band_of p c.acs) (band_of p l.acs) (same-band p c.acs l.acs same) (legal.acs_sent f)
+      ∙ sym (map-map (toward_zero p.al) (held p.al) (λ x. scaled (suc p.al) (toward_zero (suc p.al) x))
+      (λ x. ap (scaled (suc p.al)) (halved-toward p.al x)) (band_of p c.acs))
+      ∙ ap (map (held p.al)) (sym (band-map p (toward_zero p.al) c.acs));
+  range = subst (AllByRecursion (InRange p.al)) (sym (band-map p (toward_zero p.al) c.acs))
+      (all-map (InRange p.al) (toward_zero p.al) (λ x. unsigned_abs x ≤ 1023) (toward-range p.al) (band_of p c.acs)
+      (all-take _ (band_size p) (drop (before_band p) c.acs) (all-drop _ (before_band p) c.acs range.acs)));
+  dc_range = floor-range p.al c.dc range.dc_low range.dc_high;
+  dc_fits = floor-fits p.al c.dc legal.low range.dc_low range.dc_high;
+}
+
+pub acs-after : (p : Pass) (l : Levels) (c : Block) → length c.acs ≡ length l.acs
+    → with_band p (cut_acs c.acs l.acs) (map (scaled p.al) (band_of p (map (toward_zero p.al) c.acs)))
+    ≡ cut_acs c.acs (sent_after p l).acs
+acs-after p l c same =
+    let b = before_band p in
+    let s = band_size p in
+    let count = length (band_of p l.acs) in
+    let now = replicate count (Some p.al) in
+    let sizes : length (band_of p c.acs) ≡ length now = same-band p c.acs l.acs same
+    ∙ sym (length-replicate count (Some p.al)) in
+    let band : map (scaled p.al) (band_of p (map (toward_zero p.al) c.acs)) ≡ cut_acs (band_of p c.acs) now
+    = ap (map (scaled p.al)) (band-map p (toward_zero p.al) c.acs)
+    ∙ map-map (toward_zero p.al) (scaled p.al) (λ x. scaled p.al (toward_zero p.al x)) (λ x. refl) (band_of p c.acs)
+    ∙ sym (cut-sent p.al (band_of p c.acs) now sizes (all-same (Some p.al) count)) in
+    ap₂ (λ (x y : List ℤ). x ++ y) (cut-take b c.acs l.acs)
+    (ap₂ (λ (x y : List ℤ). x ++ y) band (cut-drop (b + s) c.acs l.acs))
+    ∙ ap (λ (x : List ℤ). cut_acs (take b c.acs) (take b l.acs) ++ x)
+    (sym (cut-append (band_of p c.acs) (drop (b + s) c.acs) now (drop (b + s) l.acs) sizes))
+    ∙ sym (cut-append (take b c.acs) (band_of p c.acs ++ drop (b + s) c.acs) (take b l.acs)
+    (now ++ drop (b + s) l.acs) (same-take b c.acs l.acs same))
+    ∙ ap (λ (x : List ℤ). cut_acs x (sent_after p l).acs) (around-band p c.acs)
+
+pub dc-then : (p : Pass) (l : Levels) (c : Block) → IsLegal p l
+    → (after_pass p (cut l c) (numbers_at p.al c)).dc ≡ (cut (sent_after p l) c).dc
+dc-then p l c legal = go (eqb p.ss 0) refl p.is_first refl
+  where
+    go : (t : Bool) → eqb p.ss 0 ≡ t → (f : Bool) → p.is_first ≡ f
+        → (after_pass p (cut l c) (numbers_at p.al c)).dc ≡ (cut (sent_after p l) c).dc
+    go true e true f = rw (e, f, after_pass) (rw (e, sent_after) refl)
+    go true e false f =
+        let before : cut_dc c.dc l.dc ≡ dc_held p.al (floor_at p.al c.dc)
+        = ap (cut_dc c.dc) (legal.dc_sent (eqb-true p.ss 0 e) f)
+        ∙ ap (scaled (suc p.al)) (sym (half-floor p.al c.dc)) in
+        rw (e, f, after_pass) (rw (e, sent_after)
+        (ap (λ (x : ℤ). or_bit p.al x (low_bit (floor_at p.al c.dc))) before ∙ dc-refined p.al (floor_at p.al c.dc)))
+    go false e f g = rw (e, after_pass) (rw (e, sent_after) refl)
+
+-- A legal scan takes the block at its levels to the block at the levels after it.
+pub cut-after : (p : Pass) (l : Levels) (c : Block) → length c.acs ≡ length l.acs → IsLegal p l
+    → after_pass p (cut l c) (numbers_at p.al c) ≡ cut (sent_after p l) c
+cut-after p l c same legal =
+    ap₂ (λ (d : ℤ) (a : List ℤ). record { dc = d; acs = a }) (dc-then p l c legal) (acs-after p l c same)

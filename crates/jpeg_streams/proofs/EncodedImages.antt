@@ -1,0 +1,673 @@
+-- Every image has a stream: for each component a scan, or in a progressive frame a scan of DC and one of AC.
+use Rattle.std.proofs.Common.{◌≡◌, ◌≢◌, ◌⊎◌, inl, inr, ℕ, zero, suc, ◌+◌, ◌/◌, ◌%◌, ◌<◌, ◌≤◌, ◌==◌, ◌||◌}
+use Rattle.std.proofs.Common.{nat_lt, not, Bool, true, false, cond}
+use Rattle.std.proofs.Common.{List, [], ◌∷◌, ◌++◌, map, length, drop, replicate, flat_map, ℤ}
+use Rattle.std.proofs.Common.{Option, Some, None}
+use Rattle.std.proofs.Common.{refl, sym, ap, ap₂, ◌∙◌, subst, append_assoc, length-append, arith, true≢false}
+use Rattle.std.proofs.Common.{leb-true}
+use Rattle.std.proofs.lemmas.Bool.{cases_lt, eq-eqb, ne_eqb, lt-ltb}
+use Rattle.std.proofs.lemmas.List.{append-nil}
+use lib.ListN.{length-map}
+use Rattle.std.specs.List.{AllByRecursion, prefix_len, range_with_len}
+use Rattle.std.specs.Prelude.{slice_index_or}
+use Rattle.jpeg_bits.specs.Passes.{Block, Pass, Via, whole_pass}
+use Rattle.jpeg_bits.specs.declared.codes.HuffmanTableClass.{HuffmanTableClass}
+use Rattle.jpeg_bits.specs.declared.codes.HuffmanTableClass.TheVariants as classes
+use Rattle.jpeg_segments.specs.Frame.{Component, component_of, Factors, Frame, frame_of, greatest, is_lossless}
+use Rattle.jpeg_segments.specs.Frame.{is_place, is_taken}
+use Rattle.jpeg_bits.specs.Codes.{Table}
+use Rattle.jpeg_segments.specs.HuffmanTables.{PlacedTable, Tables}
+use Rattle.jpeg_segments.specs.ScanHeader.{is_band, place_of, Scan, scan_of}
+use Rattle.jpeg_segments.specs.ScanHeaders.{AreChoices, IsScan, scan_payload, scan_written, ScanHeader}
+use Rattle.jpeg_segments.specs.WrittenSegments.{IsComponent, AreComponents, frame_written, FrameHeader, Header}
+use Rattle.jpeg_segments.specs.WrittenSegments.{Huffman, IsFrame}
+use Rattle.jpeg_segments.specs.WrittenSegments.{IsHuffmanTable}
+use Rattle.jpeg_segments.specs.WrittenSegments.{IsQuantizationTable, payload_of, Quantization, QuantizationTable}
+use Rattle.jpeg_segments.specs.WrittenSegments.{sized}
+use Rattle.jpeg_streams.specs.declared.grids.Grid.{Grid}
+use Rattle.jpeg_streams.specs.Levels.{Is8Bit, IsLegal, Levels, sent_after, nothing_sent, numbers_at}
+use Rattle.jpeg_streams.specs.Order.{grid_of, mcu_size, own_spots, Spot, spots_of}
+use Rattle.jpeg_streams.specs.SaidSegments.{found_after, HasPicture}
+use Rattle.jpeg_streams.specs.Scans.{no_table, via_at}
+use Rattle.jpeg_streams.specs.Needed.{first_of}
+use Rattle.jpeg_streams.specs.Stream.{Coding, Found, nothing_found, pass_of, tables_of, updated, vias_from}
+use Rattle.jpeg_streams.specs.WorkedImages.{IsWhollyWritten}
+use Rattle.jpeg_streams.specs.WrittenData.{marker}
+use Rattle.jpeg_streams.specs.WrittenData.WritesIntervals.{last as last_interval}
+use Rattle.jpeg_streams.specs.WrittenImages.{closed, scan, segment, Writes}
+use Rattle.jpeg_streams.specs.WrittenScans.{InForce, AreCodings, block_for, Coefficients, components_of, grid_at}
+use Rattle.jpeg_streams.specs.WrittenScans.{HasTable}
+use Rattle.jpeg_streams.specs.WrittenScans.{IsComplete, IsLegalScan}
+use Rattle.jpeg_streams.specs.WrittenScans.{levels_after, place_at, WritesScan, written_turns}
+use Rattle.jpeg_streams.specs.WrittenScans.AreCodings.{and_more, no_more}
+use Rattle.jpeg_streams.proofs.CutLevels.{all-same}
+use Rattle.jpeg_streams.proofs.EncodedBlocks.{ac_pass, dc_pass, Each, each-ac, each-dc, each-whole, flat-exist}
+use Rattle.jpeg_streams.proofs.EncodedBlocks.{flat_table, HasFlatAc}
+use Rattle.jpeg_streams.proofs.EncodedBlocks.{HasFlatDc, interval-written, IsFlat}
+use Rattle.jpeg_streams.proofs.WholeImages.{floor-whole, toward-whole}
+
+-- ---- what is written
+
+abbrev ones : ℕ → QuantizationTable
+ones place = record { precision = 0; place = place; values = replicate 64 1 }
+
+abbrev all_ones : List QuantizationTable
+all_ones = ones 0 ∷ ones 1 ∷ ones 2 ∷ ones 3 ∷ []
+
+abbrev flat_tables : List PlacedTable
+flat_tables = record { place = 0; table = flat_table classes.DC } ∷ record {
+  place = 0;
+  table =
+      flat_table classes.AC;
+} ∷ []
+
+abbrev said_1 : Found
+said_1 = found_after nothing_found (Quantization all_ones)
+
+abbrev said_2 : ℕ → FrameHeader → Found
+said_2 number h = found_after said_1 (Header number h)
+
+abbrev said : ℕ → FrameHeader → Found
+said number h = found_after (said_2 number h) (Huffman flat_tables)
+
+abbrev component_in : FrameHeader → Factors → Component
+component_in h c = component_of h.width h.height (greatest (λ f. f.horizontal) h.components)
+    (greatest (λ f. f.vertical) h.components) c
+
+-- the scans that are written: of all coefficients, of DC, and of AC
+data Kind : Type 0 where
+  Whole : Kind
+  OfDc : Kind
+  OfAc : Kind
+
+abbrev pass_for : Kind → Pass
+pass_for Whole = whole_pass
+pass_for OfDc = dc_pass
+pass_for OfAc = ac_pass
+
+abbrev from_for : Kind → ℕ
+from_for Whole = 0
+from_for OfDc = 0
+from_for OfAc = 1
+
+abbrev to_for : Kind → ℕ
+to_for Whole = 63
+to_for OfDc = 0
+to_for OfAc = 63
+
+abbrev dc_for : Kind → Table
+dc_for Whole = flat_table classes.DC
+dc_for OfDc = flat_table classes.DC
+dc_for OfAc = no_table classes.DC
+
+abbrev ac_for : Kind → Table
+ac_for Whole = flat_table classes.AC
+ac_for OfDc = no_table classes.AC
+ac_for OfAc = flat_table classes.AC
+
+abbrev Good : Kind → Via × Block → Type 0
+Good Whole t = IsFlat t
+Good OfDc t = HasFlatDc t
+Good OfAc t = HasFlatAc t
+
+-- the frames that it is written in
+abbrev Fits : Kind → ℕ → Type 0
+Fits Whole number = number ≤ 1
+Fits OfDc number = number ≡ 2
+Fits OfAc number = number ≡ 2
+
+-- what was sent of a component before it
+abbrev before : Kind → Levels
+before Whole = nothing_sent
+before OfDc = nothing_sent
+before OfAc = record { dc = Some 0; acs = replicate 63 None }
+
+each-for : (kind : Kind) → Each (pass_for kind) (Good kind)
+each-for Whole = each-whole
+each-for OfDc = each-dc
+each-for OfAc = each-ac
+
+abbrev coding : Kind → FrameHeader → ℕ → Factors → Coding
+coding kind h place c =
+    record {
+      place = place;
+      component = component_in h c;
+      quantization = replicate 64 1;
+      dc = dc_for kind;
+      ac =
+          ac_for kind;
+    }
+
+abbrev header_of : Kind → ℕ → Factors → ScanHeader
+header_of kind place c = record {
+  choices = (record { identifier = c.identifier; component = place; dc = 0; ac = 0 }) ∷ [];
+  first = from_for kind;
+  last = to_for kind;
+  high = 0;
+  low = 0;
+}
+
+-- ---- the blocks of a scan
+
+all-map : {A B : Type 0} (Q : A → Type 0) (P : B → Type 0) (f : A → B) (xs : List A) → ((x : A) → Q x → P (f x))
+    → AllByRecursion Q xs
+    → AllByRecursion P (map f xs)
+all-map Q P f [] h all = tt
+all-map Q P f (x ∷ xs) h all = (h x all.0, all-map Q P f xs h all.1)
+
+each-map : {A B : Type 0} (P : B → Type 0) (f : A → B) (xs : List A) → ((x : A) → P (f x)) → AllByRecursion P (map f xs)
+each-map P f [] h = tt
+each-map P f (x ∷ xs) h = (h x, each-map P f xs h)
+
+all-append : {A : Type 0} (P : A → Type 0) (xs ys : List A) → AllByRecursion P xs → AllByRecursion P ys
+    → AllByRecursion P (xs ++ ys)
+all-append P [] ys h k = k
+all-append P (x ∷ xs) ys h k = (h.0, all-append P xs ys h.1 k)
+
+each-flat : {A B : Type 0} (P : B → Type 0) (f : A → List B) (xs : List A) → ((x : A) → AllByRecursion P (f x))
+    → AllByRecursion P (flat_map f xs)
+each-flat P f [] h = tt
+each-flat P f (x ∷ xs) h = all-append P (f x) (flat_map f xs) (h x) (each-flat P f xs h)
+
+own-slots : (g : Grid) → AllByRecursion (λ s. s.slot ≡ 0) (own_spots g)
+unfolding own_spots
+own-slots g = each-flat (λ s. s.slot ≡ 0) _ (range_with_len 0 g.own_high)
+    (λ row. each-map (λ s. s.slot ≡ 0) _ (range_with_len 0 g.own_wide) (λ column. refl))
+
+map-whole : (f : ℤ → ℤ) (us : List ℤ) → ((u : ℤ) → f u ≡ u) → map f us ≡ us
+map-whole f [] h = refl
+map-whole f (u ∷ us) h = ap₂ (λ (x : ℤ) (xs : List ℤ). x ∷ xs) (h u) (map-whole f us h)
+
+numbers-whole : (b : Block) → numbers_at 0 b ≡ b
+numbers-whole b = ap₂ (λ (x : ℤ) (xs : List ℤ). record { dc = x; acs = xs }) (floor-whole b.dc)
+    (map-whole _ b.acs toward-whole)
+
+flat-spot : (kind : Kind) (h : FrameHeader) (place : ℕ) (c : Factors) (b : Block) → Is8Bit b
+    → Good kind (record { component = 0; dc = dc_for kind; ac = ac_for kind }, numbers_at (pass_for kind).al b)
+flat-spot Whole h place c b range = record { dc = refl; ac = refl; range = subst Is8Bit (sym (numbers-whole b)) range }
+flat-spot OfDc h place c b range = record { dc = refl; range = subst Is8Bit (sym (numbers-whole b)) range }
+flat-spot OfAc h place c b range = record { ac = refl; range = subst Is8Bit (sym (numbers-whole b)) range }
+
+spot-flat : (kind : Kind) (h : FrameHeader) (place : ℕ) (c : Factors) (b : Block) (slot : ℕ) → Is8Bit b → slot ≡ 0
+    → Good kind (via_at (vias_from 0 (coding kind h place c ∷ [])) slot, numbers_at (pass_for kind).al b)
+unfolding vias_from
+spot-flat kind h place c b slot range e =
+    subst (λ (n : ℕ). Good kind
+    (via_at (vias_from 0 (coding kind h place c ∷ [])) n, numbers_at (pass_for kind).al b)) (sym e)
+    (flat-spot kind h place c b range)
+
+data-written : (kind : Kind) (f : Frame) (h : FrameHeader) (place : ℕ) (c : Factors) (array : Coefficients)
+    → ((k row column : ℕ) → Is8Bit (array k row column))
+    → (data_bytes : List ℕ) × WritesScan f 0 (pass_for kind) (coding kind h place c ∷ []) array data_bytes
+unfolding spots_of mcu_size
+data-written kind f h place c array range =
+    let codings = coding kind h place c ∷ [] in
+    let spots = own_spots (grid_of (component_in h c)) in
+    let sent = block_for codings array in
+    let in_range : (s : Spot) → Is8Bit (sent s) =
+    λ s. range (place_at codings s.slot) (s.index / (grid_at (components_of codings) s.slot).wide)
+    (s.index % (grid_at (components_of codings) s.slot).wide) in
+    let turns = written_turns (vias_from 0 codings) spots (λ s. numbers_at (pass_for kind).al (sent s)) in
+    let w = interval-written (pass_for kind) (Good kind) (each-for kind) turns
+    (all-map (λ s. s.slot ≡ 0) (Good kind) _ spots (λ s e. spot-flat kind h place c (sent s) s.slot (in_range s) e)
+    (own-slots (grid_of (component_in h c)))) in
+    (w.0, record { sent = sent; in_range = in_range; is_own = λ s own. refl; coded = last_interval 0 turns w.0 w.1 })
+
+-- ---- components by their identifiers
+
+or-false : (a b : Bool) → (a || b) ≡ false → (a ≡ false) × (b ≡ false)
+or-false true b e = absurd (true≢false e)
+or-false false b e = (refl, e)
+
+not-true : (b : Bool) → b ≡ false → not b ≡ true
+not-true true e = absurd (true≢false e)
+not-true false e = refl
+
+abbrev is_not : ℕ → Component → Bool
+is_not identifier c = not (c.factors.identifier == identifier)
+
+before-it : (h : FrameHeader) (front more : List Factors) (c : Factors) → is_taken front c.identifier ≡ false
+    → prefix_len (is_not c.identifier) (map (component_in h) (front ++ c ∷ more)) ≡ length front
+unfolding component_of
+before-it h [] more c e = rw (eq-eqb c.identifier c.identifier refl) refl
+before-it h (x ∷ front) more c e =
+    let here = or-false (x.identifier == c.identifier) (is_taken front c.identifier) e in
+    rw (here.0) (ap (λ (n : ℕ). 1 + n) (before-it h front more c here.1) ∙ omega arith)
+
+place-is : (h : FrameHeader) (front more : List Factors) (c : Factors) → is_taken front c.identifier ≡ false
+    → place_of (map (component_in h) (front ++ c ∷ more)) c.identifier ≡ Some (length front)
+place-is h front more c e =
+    let cs = map (component_in h) (front ++ c ∷ more) in
+    let at = before-it h front more c e in
+    let size : length cs ≡ length front + suc (length more) = length-map (front ++ c ∷ more) (component_in h)
+    ∙ length-append front (c ∷ more) in
+    let less : nat_lt (prefix_len (is_not c.identifier) cs) (length cs) ≡ true = lt-ltb _ _ (omega arith) in
+    ap (λ (b : Bool). cond b (Some (prefix_len (is_not c.identifier) cs)) None) less ∙ ap (λ (n : ℕ). Some n) at
+
+first-is : (h : FrameHeader) (front more : List Factors) (c : Factors)
+    → first_of (drop (length front) (map (component_in h) (front ++ c ∷ more))) ≡ Some (component_in h c)
+first-is h [] more c = refl
+first-is h (x ∷ front) more c = first-is h front more c
+
+-- ---- scans
+
+pass-is : (kind : Kind) (number : ℕ) (h : FrameHeader) (place : ℕ) (c : Factors) → Fits kind number
+    → pass_of (scan_written (frame_written number h) (header_of kind place c)) ≡ pass_for kind
+unfolding pass_of scan_of frame_of
+pass-is Whole zero h place c fits = refl
+pass-is Whole (suc zero) h place c fits = refl
+pass-is Whole (suc (suc number)) h place c fits = absurd (omega arith)
+pass-is OfDc zero h place c fits = absurd (omega arith)
+pass-is OfDc (suc zero) h place c fits = absurd (omega arith)
+pass-is OfDc (suc (suc zero)) h place c fits = refl
+pass-is OfDc (suc (suc (suc number))) h place c fits = absurd (omega arith)
+pass-is OfAc zero h place c fits = absurd (omega arith)
+pass-is OfAc (suc zero) h place c fits = absurd (omega arith)
+pass-is OfAc (suc (suc zero)) h place c fits = refl
+pass-is OfAc (suc (suc (suc number))) h place c fits = absurd (omega arith)
+
+band-is : (kind : Kind) (number : ℕ) (h : FrameHeader) → Fits kind number
+    → is_band (frame_written number h).process 1 (from_for kind) (to_for kind) 0 0 ≡ true
+unfolding frame_of
+band-is Whole zero h fits = refl
+band-is Whole (suc zero) h fits = refl
+band-is Whole (suc (suc number)) h fits = absurd (omega arith)
+band-is OfDc zero h fits = absurd (omega arith)
+band-is OfDc (suc zero) h fits = absurd (omega arith)
+band-is OfDc (suc (suc zero)) h fits = refl
+band-is OfDc (suc (suc (suc number))) h fits = absurd (omega arith)
+band-is OfAc zero h fits = absurd (omega arith)
+band-is OfAc (suc zero) h fits = absurd (omega arith)
+band-is OfAc (suc (suc zero)) h fits = refl
+band-is OfAc (suc (suc (suc number))) h fits = absurd (omega arith)
+
+header-written : (kind : Kind) (number : ℕ) (h : FrameHeader) (front more : List Factors) (c : Factors)
+    → Fits kind number → HasPicture h
+    → h.components ≡ front ++ c ∷ more → is_taken front c.identifier ≡ false
+    → IsScan (frame_written number h) (header_of kind (length front) c)
+unfolding AreChoices frame_of
+header-written kind number h front more c fits p e new = record {
+  some = omega arith;
+  most = omega arith;
+  choices = (
+    record {
+      identified = ap (λ (cs : List Factors). place_of (map (component_in h) cs) c.identifier) e
+          ∙ place-is h front more c new;
+      ordered = omega arith;
+      dc_placed = omega arith;
+      ac_placed = omega arith;
+    },
+    tt,
+  );
+  fits = refl;
+  narrow = omega arith;
+  precise = lt-ltb 0 h.precision (let q = p.precise in omega arith);
+  band = band-is kind number h fits;
+}
+
+-- ---- tables in force
+
+table-at : (number : ℕ) (h : FrameHeader) (place : ℕ) → place ≤ 3
+    → slice_index_or (said number h).quantization place None ≡ Some (replicate 64 1)
+unfolding nothing_found updated
+table-at number h zero le = refl
+table-at number h (suc zero) le = refl
+table-at number h (suc (suc zero)) le = refl
+table-at number h (suc (suc (suc zero))) le = refl
+table-at number h (suc (suc (suc (suc place)))) le = absurd (omega arith)
+
+place-low : (number place : ℕ) → number ≤ 2 → is_place (is_lossless number) place ≡ true → place ≤ 3
+place-low zero place le e = leb-true place 3 e
+place-low (suc zero) place le e = leb-true place 3 e
+place-low (suc (suc zero)) place le e = leb-true place 3 e
+place-low (suc (suc (suc number))) place le e = absurd (omega arith)
+
+abbrev scan_for : Kind → ℕ → FrameHeader → ℕ → Factors → Scan
+scan_for kind number h place c = scan_written (frame_written number h) (header_of kind place c)
+
+abbrev tables_now : Kind → ℕ → FrameHeader → ℕ → Factors → Tables
+tables_now kind number h place c = tables_of (said number h) (scan_for kind number h place c)
+
+dc-force : (kind other : Kind) (number : ℕ) (h : FrameHeader) (place : ℕ) (c : Factors)
+    → InForce ((pass_for kind).ss == 0) classes.DC (tables_now other number h place c).dc 0 (dc_for kind)
+unfolding tables_of nothing_found updated
+dc-force Whole other number h place c = refl
+dc-force OfDc other number h place c = refl
+dc-force OfAc other number h place c = refl
+
+ac-force : (kind other : Kind) (number : ℕ) (h : FrameHeader) (place : ℕ) (c : Factors)
+    → InForce (nat_lt 0 (pass_for kind).se) classes.AC (tables_now other number h place c).ac 0 (ac_for kind)
+unfolding tables_of nothing_found updated
+ac-force Whole other number h place c = refl
+ac-force OfDc other number h place c = refl
+ac-force OfAc other number h place c = refl
+
+codings-are : (kind : Kind) (number : ℕ) (h : FrameHeader) (front more : List Factors) (c : Factors)
+    → h.components ≡ front ++ c ∷ more
+    → c.quantization ≤ 3
+    → AreCodings (said number h) (frame_written number h) (pass_for kind) (tables_now kind number h (length front) c)
+    (length front ∷ []) (0 ∷ []) (0 ∷ []) (coding kind h (length front) c ∷ [])
+unfolding frame_of component_of
+codings-are kind number h front more c e le =
+    and_more (length front) 0 0 [] [] [] (coding kind h (length front) c) []
+    (record {
+      stands = refl;
+      component = ap (λ (cs : List Factors). first_of (drop (length front) (map (component_in h) cs))) e
+          ∙ first-is h front more c;
+      quantization = table-at number h c.quantization le;
+      dc = dc-force kind kind number h (length front) c;
+      ac = ac-force kind kind number h (length front) c;
+    }) no_more
+
+some-none : (a : ℕ) → ◌≡◌ {A = Option ℕ} (Some a) None → ⊥
+some-none a e = cc
+
+kind-legal : (kind : Kind) → IsLegal (pass_for kind) (before kind)
+kind-legal Whole = record {
+  low = omega arith;
+  dc_unsent = λ e f. refl;
+  dc_sent = λ e f. absurd (true≢false f);
+  dc_before = λ n. absurd (n refl);
+  acs_unsent = λ f. all-same None 63;
+  acs_sent = λ f. absurd (true≢false f);
+}
+kind-legal OfDc = record {
+  low = omega arith;
+  dc_unsent = λ e f. refl;
+  dc_sent = λ e f. absurd (true≢false f);
+  dc_before = λ n. absurd (n refl);
+  acs_unsent = λ f. tt;
+  acs_sent = λ f. tt;
+}
+kind-legal OfAc = record {
+  low = omega arith;
+  dc_unsent = λ e f. absurd (omega arith);
+  dc_sent = λ e f. absurd (omega arith);
+  dc_before =
+      λ n e. some-none 0 e;
+  acs_unsent = λ f. all-same None 63;
+  acs_sent = λ f. absurd (true≢false f);
+}
+
+scan-legal : (kind : Kind) (number : ℕ) (h : FrameHeader) (front more : List Factors) (c : Factors)
+    (levels : ℕ → Levels) → Fits kind number
+    → h.components ≡ front ++ c ∷ more → c.quantization ≤ 3 → levels (length front) ≡ before kind
+    → IsLegalScan (said number h) (frame_written number h) levels (scan_for kind number h (length front) c)
+    (coding kind h (length front) c ∷ [])
+unfolding scan_of
+scan-legal kind number h front more c levels fits e low was = record {
+  are_in_force = subst
+      (λ (p : Pass). AreCodings (said number h) (frame_written number h) p (tables_now kind number h (length front) c)
+      (length front ∷ []) (0 ∷ []) (0 ∷ []) (coding kind h (length front) c ∷ []))
+      (sym (pass-is kind number h (length front) c fits)) (codings-are kind number h front more c e low);
+  legal = (legal-now, tt);
+}
+  where
+    legal-now : IsLegal (pass_of (scan_for kind number h (length front) c)) (levels (length front))
+    legal-now = subst (λ (p : Pass). IsLegal p (levels (length front)))
+        (sym (pass-is kind number h (length front) c fits))
+        (subst (λ (l : Levels). IsLegal (pass_for kind) l) (sym was) (kind-legal kind))
+
+-- ---- what is sent
+
+-- after a scan of one component
+after-same : (p : Pass) (place : ℕ) (levels : ℕ → Levels)
+    → levels_after p (place ∷ []) levels place ≡ sent_after p (levels place)
+unfolding levels_after
+after-same p place levels =
+    ap (λ (b : Bool). elim b as (λ _. Levels) [ true ↦ sent_after p (levels place) | false ↦ levels place ])
+    (eq-eqb place place refl)
+
+after-other : (p : Pass) (place k : ℕ) (levels : ℕ → Levels) → k ≢ place
+    → levels_after p (place ∷ []) levels k ≡ levels k
+unfolding levels_after
+after-other p place k levels ne =
+    ap (λ (b : Bool). elim b as (λ _. Levels) [ true ↦ sent_after p (levels k) | false ↦ levels k ])
+    (ne_eqb k place ne)
+
+have-tables : (number : ℕ) (h : FrameHeader) (front cs : List Factors) → number ≤ 2 → AreComponents number front cs
+    → AllByRecursion (HasTable (said number h)) (map (component_in h) cs)
+unfolding AreComponents component_of
+have-tables number h front [] le a = tt
+have-tables number h front (c ∷ cs) le a = (
+  record {
+    table = replicate 64 1;
+    is =
+        table-at number h c.quantization (place-low number c.quantization le a.0.placed);
+  },
+  have-tables number h (front ++ c ∷ []) cs le a.1,
+)
+
+in-range : (P : ℕ → Type 0) (a n : ℕ) → ((j : ℕ) → a ≤ j → j < a + n → P j) → AllByRecursion P (range_with_len a n)
+in-range P a zero all = tt
+in-range P a (suc n) all =
+    (all a (omega arith) (omega arith), in-range P (a + 1) n (λ j le lt. all j (omega arith) (omega arith)))
+
+-- ---- the stream
+
+abbrev Sends : ℕ → FrameHeader → Coefficients → (ℕ → Levels) → Bool → Type 0
+Sends number h array levels scanned =
+    (bytes : List ℕ) × (last : ℕ → Levels) × Writes array (said number h) levels scanned bytes (said number h) last
+    × ((j : ℕ) → j < length h.components → IsComplete (last j))
+
+-- what was sent of the components in front, and of none after them
+pub record HasSent (levels : ℕ → Levels) (front : ℕ) : Type 0 where
+  pub sent : (j : ℕ) → j < front → IsComplete (levels j)
+  pub unsent : (j : ℕ) → front ≤ j → levels j ≡ nothing_sent
+
+sent-more : (levels now : ℕ → Levels) (front : ℕ) → IsComplete (now front) → ((j : ℕ) → j ≢ front → now j ≡ levels j)
+    → HasSent levels front
+    → HasSent now (front + 1)
+sent-more levels now front done others s = record {
+  sent = λ j lt. go j (cases_lt j front) lt;
+  unsent = λ j le. others j (λ x. absurd (omega arith)) ∙ s.unsent j (omega arith);
+}
+  where
+    go : (j : ℕ) → (j < front) ⊎ (front ≤ j) → j < front + 1 → IsComplete (now j)
+    go j (inl lt) less = subst IsComplete (sym (others j (λ x. absurd (omega arith)))) (s.sent j lt)
+    go j (inr le) less = let same : j ≡ front = omega arith in subst (λ (n : ℕ). IsComplete (now n)) (sym same) done
+
+end-written : (number : ℕ) (h : FrameHeader) (array : Coefficients) (front : List Factors) (levels : ℕ → Levels)
+    (scanned : Bool)
+    → number ≤ 2 → AreComponents number [] h.components → h.components ≡ front → HasSent levels (length front)
+    → scanned ≡ true
+    → Sends number h array levels scanned
+unfolding frame_of
+end-written number h array front levels scanned le are e s is =
+    let all : (j : ℕ) → j < length h.components
+    → IsComplete (levels j) = λ j lt. s.sent j (subst (λ (l : List Factors). j < length l) e lt) in
+    let size : length (frame_written number h).components ≡ length h.components = length-map h.components _ in (
+      marker 0 217 [],
+      levels,
+      subst (λ (b : Bool). Writes array (said number h) levels b (marker 0 217 []) (said number h) levels) (sym is)
+          (closed (said number h) levels (frame_written number h) 0 refl (have-tables number h [] h.components le are)
+          (λ x. in-range (λ k. IsComplete (levels k)) 0 (length (frame_written number h).components)
+          (λ j low lt. all j (omega arith)))),
+      all,
+    )
+
+-- a scan before what is written after it
+one-scan : (kind : Kind) (number : ℕ) (h : FrameHeader) (array : Coefficients) (front more : List Factors)
+    (c : Factors) (levels last : ℕ → Levels)
+    (scanned : Bool) (bytes : List ℕ) → Fits kind number → number ≤ 2 → HasPicture h
+    → ((k row column : ℕ) → Is8Bit (array k row column))
+    → h.components ≡ front ++ c ∷ more → IsComponent number front c → levels (length front) ≡ before kind
+    → Writes array (said number h)
+    (levels_after (pass_of (scan_for kind number h (length front) c)) (length front ∷ []) levels) true bytes
+    (said number h) last
+    → (all : List ℕ) × Writes array (said number h) levels scanned all (said number h) last
+unfolding nothing_found
+one-scan kind number h array front more c levels last scanned bytes fits le p range e is was w =
+    let f = frame_written number h in
+    let head = header_of kind (length front) c in
+    let ks = coding kind h (length front) c ∷ [] in
+    let d = data-written kind f h (length front) c array range in
+    let coded : WritesScan f 0 (pass_of (scan_written f head)) ks array d.0 =
+    subst (λ (q : Pass). WritesScan f 0 q ks array d.0) (sym (pass-is kind number h (length front) c fits)) d.1 in
+    let legal = scan-legal kind number h front more c levels fits e
+    (place-low number c.quantization le is.placed) was in (
+      marker 0 218 (sized (scan_payload head) ++ (d.0 ++ bytes)),
+      scan (said number h) (said number h) levels last scanned f 0 head ks d.0 bytes refl
+          (header-written kind number h front more c fits p e is.is_new) legal coded w,
+    )
+
+-- The scans of a component: what was sent after them, and they stand before what is written then.
+abbrev Steps : ℕ → FrameHeader → Coefficients → Type 0
+Steps number h array =
+    (front more : List Factors) (c : Factors) (levels : ℕ → Levels) (scanned : Bool) → h.components ≡ front ++ c ∷ more
+    → IsComponent number front c → HasSent levels (length front)
+    → (now : ℕ → Levels) × HasSent now (length front + 1)
+    × ((bytes : List ℕ) (last : ℕ → Levels) → Writes array (said number h) now true bytes (said number h) last
+    → (all : List ℕ) × Writes array (said number h) levels scanned all (said number h) last)
+
+whole-after : (p : Pass) (place : ℕ) (levels : ℕ → Levels) → p ≡ whole_pass → levels place ≡ nothing_sent
+    → IsComplete (levels_after p (place ∷ []) levels place)
+whole-after p place levels e f =
+    subst IsComplete (sym (after-same p place levels ∙ ap₂ sent_after e f))
+    (record { dc = refl; acs = all-same (Some 0) 63 })
+
+dc-after : (p : Pass) (place : ℕ) (levels : ℕ → Levels) → p ≡ dc_pass → levels place ≡ nothing_sent
+    → levels_after p (place ∷ []) levels place ≡ before OfAc
+dc-after p place levels e f = after-same p place levels ∙ ap₂ sent_after e f
+
+ac-after : (p : Pass) (place : ℕ) (levels : ℕ → Levels) → p ≡ ac_pass → levels place ≡ before OfAc
+    → IsComplete (levels_after p (place ∷ []) levels place)
+ac-after p place levels e f =
+    subst IsComplete (sym (after-same p place levels ∙ ap₂ sent_after e f))
+    (record { dc = refl; acs = all-same (Some 0) 63 })
+
+sequential-steps : (number : ℕ) (h : FrameHeader) (array : Coefficients) → number ≤ 1 → HasPicture h
+    → ((k row column : ℕ) → Is8Bit (array k row column)) → Steps number h array
+sequential-steps number h array le p range front more c levels scanned e is s =
+    let place = length front in
+    let pass = pass_of (scan_for Whole number h place c) in
+    let unsent = s.unsent place (omega arith) in (
+      levels_after pass (place ∷ []) levels,
+      sent-more levels (levels_after pass (place ∷ []) levels) place
+          (whole-after pass place levels (pass-is Whole number h place c le) unsent)
+          (λ j n. after-other pass place j levels n) s,
+      λ bytes last w. one-scan Whole number h array front more c levels last scanned bytes le
+          (omega arith) p range e is unsent w,
+    )
+
+progressive-steps : (number : ℕ) (h : FrameHeader) (array : Coefficients) → number ≡ 2 → HasPicture h
+    → ((k row column : ℕ) → Is8Bit (array k row column)) → Steps number h array
+progressive-steps number h array two p range front more c levels scanned e is s =
+    let place = length front in
+    let low : number ≤ 2 = omega arith in
+    let dc = pass_of (scan_for OfDc number h place c) in
+    let ac = pass_of (scan_for OfAc number h place c) in
+    let mid = levels_after dc (place ∷ []) levels in
+    let unsent = s.unsent place (omega arith) in
+    let was : mid place ≡ before OfAc = dc-after dc place levels (pass-is OfDc number h place c two) unsent in (
+      levels_after ac (place ∷ []) mid,
+      sent-more levels (levels_after ac (place ∷ []) mid) place
+          (ac-after ac place mid (pass-is OfAc number h place c two) was)
+          (λ j n. after-other ac place j mid n ∙ after-other dc place j levels n) s,
+      λ bytes last w.
+          let second = one-scan OfAc number h array front more c mid last true bytes two low p range e is was w in
+          one-scan OfDc number h array front more c levels last scanned second.0 two low p range e is unsent second.1,
+    )
+
+scans-written : (number : ℕ) (h : FrameHeader) (array : Coefficients) (more front : List Factors)
+    (levels : ℕ → Levels) (scanned : Bool)
+    → number ≤ 2 → Steps number h array → AreComponents number [] h.components
+    → h.components ≡ front ++ more → AreComponents number front more → HasSent levels (length front)
+    → (more ≡ [] → scanned ≡ true)
+    → Sends number h array levels scanned
+unfolding AreComponents
+scans-written number h array [] front levels scanned le steps all e are s is =
+    end-written number h array front levels scanned le all (e ∙ append-nil front) s (is refl)
+scans-written number h array (c ∷ more) front levels scanned le steps all e are s is =
+    let step = steps front more c levels scanned e are.0 s in
+    let size : length front + 1 ≡ length (front ++ c ∷ []) = sym (length-append front (c ∷ [])) in
+    let rest = scans-written number h array more (front ++ c ∷ []) step.0 true le steps all
+    (e ∙ sym (append_assoc front (c ∷ []) more)) are.1 (subst (λ (n : ℕ). HasSent step.0 n) size step.1)
+    (λ x. refl) in
+    let w = step.2 rest.0 rest.1 rest.2 in
+    (w.0, rest.1, w.1, rest.3)
+
+each-steps : (number : ℕ) (h : FrameHeader) (array : Coefficients) → number ≤ 2 → HasPicture h
+    → ((k row column : ℕ) → Is8Bit (array k row column)) → Steps number h array
+each-steps number h array le p range = go (cases_lt number 2)
+  where
+    go : (number < 2) ⊎ (2 ≤ number) → Steps number h array
+    go (inl less) = sequential-steps number h array (omega arith) p range
+    go (inr more) = progressive-steps number h array (omega arith) p range
+
+-- ---- the segments
+
+some-ones : (n : ℕ) → AllByRecursion (λ v. 0 < v) (replicate n 1)
+some-ones zero = tt
+some-ones (suc n) = (omega arith, some-ones n)
+
+ones-written : (place : ℕ) → place ≤ 3 → IsQuantizationTable (ones place)
+ones-written place le = record { precise = omega arith; placed = le; counted = refl; some = some-ones 64 }
+
+flat-written : (most : ℕ) (class : HuffmanTableClass)
+    → IsHuffmanTable most (record { place = 0; table = flat_table class })
+flat-written most class =
+    record {
+      placed = omega arith;
+      counted = refl;
+      has_symbols = refl;
+      some = omega arith;
+      at_most =
+          omega arith;
+      exists = flat-exist;
+    }
+
+some-components : (h : FrameHeader) → HasPicture h → h.components ≡ [] → false ≡ true
+some-components h p e = absurd (go p.counted)
+  where
+    none : length h.components ≡ 0
+    none = ap length e
+
+    go : (length h.components ≡ 1) ⊎ ((length h.components ≡ 3) ⊎ (length h.components ≡ 4)) → ⊥
+    go (inl x) = let n = none in omega arith
+    go (inr (inl x)) = let n = none in omega arith
+    go (inr (inr x)) = let n = none in omega arith
+
+abbrev front_bytes : ℕ → FrameHeader → List ℕ → List ℕ
+front_bytes number h more =
+    marker 0 219 (sized (payload_of (Quantization all_ones))
+    ++ marker 0 (192 + number)
+    (sized (payload_of (Header number h)) ++ marker 0 196 (sized (payload_of (Huffman flat_tables)) ++ more)))
+
+pub image-written : (number : ℕ) (h : FrameHeader) (array : Coefficients) → number ≤ 2 → IsFrame number h → HasPicture h
+    → ((place row column : ℕ) → Is8Bit (array place row column)) → (bytes : List ℕ) × IsWhollyWritten array bytes
+unfolding nothing_found frame_of
+image-written number h array le is p range =
+    let r = scans-written number h array h.components []
+    (λ k. nothing_sent) false le (each-steps number h array le p range) is.components refl is.components
+    (record { sent = λ j lt. absurd (omega arith); unsent = λ j low. refl }) (some-components h p) in
+    let size : length (frame_written number h).components ≡ length h.components = length-map h.components _ in (
+      255 ∷ 216 ∷ front_bytes number h r.0,
+      record {
+        final = said number h;
+        last = r.1;
+        frame = frame_written number h;
+        written = record {
+          after = front_bytes number h r.0;
+          starts = refl;
+          written =
+              segment nothing_found (said number h) (λ k. nothing_sent) r.1 false 0 (Quantization all_ones) _ (
+                (
+                  ones-written 0 (omega arith),
+                  (ones-written 1 (omega arith), (ones-written 2 (omega arith), (ones-written 3 (omega arith), tt))),
+                ),
+                tt,
+              )
+              tt
+              (λ x. absurd (true≢false (sym x))) (
+              segment said_1 (said number h) (λ k. nothing_sent) r.1 false 0 (Header number h) _ ((refl, is), p)
+              (omega arith)
+              (λ x. absurd (true≢false (sym x))) (
+              segment (said_2 number h) (said number h) (λ k. nothing_sent) r.1 false 0 (Huffman flat_tables) _
+              ((flat-written _ classes.DC, (flat-written _ classes.AC, tt)), tt) tt (λ x. tt) r.2));
+        };
+        framed = refl;
+        complete = in-range (λ k. IsComplete (r.1 k)) 0 (length (frame_written number h).components)
+            (λ j low lt. r.3 j (omega arith));
+      },
+    )

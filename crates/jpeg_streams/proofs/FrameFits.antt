@@ -1,0 +1,176 @@
+-- The blocks of a frame's components at each scale.
+use Rattle.std.proofs.Common.{◌≡◌, ◌≤◌, ◌<◌, ℕ, ◌+◌, ◌*◌, List, [], ◌∷◌, map, refl, ap, ap₂, sym, ◌∙◌, subst, arith}
+use Rattle.std.proofs.Math.Nat.{mul-add, mul_assoc, mul_comm, lt_of_mul-lt-mul_left, mul-le-mul_right}
+use Rattle.std.specs.List.{AllByRecursion}
+use Rattle.jpeg_segments.specs.Frame.{Frame, Component, Factors, IsInRange, ceiling, component_of, frame_of, greatest}
+use Rattle.jpeg_pixels.specs.Pictures.{factors_of}
+use Rattle.jpeg_pixels.proofs.FrameCovers.{ceiling-low, ceiling-high}
+use Rattle.jpeg_segments.specs.Scales.{component_at, frame_at}
+use Rattle.jpeg_streams.specs.InTurn.{Fits}
+
+pub ceiling-le : (n d q : ℕ) → 0 < d → n ≤ d * q → ceiling n d ≤ q
+ceiling-le n d q some h =
+    let c = ceiling n d in
+    let high : d * c < n + d = ceiling-high n d some in
+    let e : d * (q + 1) ≡ d * q + d * 1 = mul-add d q 1 in
+    let less : c < q + 1 = lt_of_mul-lt-mul_left d (omega (arith, high, h, e)) in
+    omega (arith, less)
+
+-- the own blocks of a component are among those of all MCUs
+pub own-within : (width h m s : ℕ) → 0 < h → h ≤ m → 0 < s
+    → ceiling (ceiling (width * h * s) (m * 8)) s ≤ ceiling width (8 * m) * h
+own-within width h m s some most scaled =
+    let b = ceiling width (8 * m) in
+    let low : width ≤ (8 * m) * b = ceiling-low width (8 * m) (omega arith) in
+    let wide : width * h * s ≤ ((8 * m) * b) * h * s = mul-le-mul_right s (mul-le-mul_right h low) in
+    let e : ((8 * m) * b) * h * s ≡ (m * 8) * (s * (b * h))
+    = ap (λ n. n * s) (mul_assoc (8 * m) b h)
+    ∙ (mul_assoc (8 * m) (b * h) s ∙ ap₂ (λ x y. x * y) (mul_comm 8 m) (mul_comm (b * h) s)) in
+    let one : ceiling (width * h * s) (m * 8) ≤ s * (b * h) =
+    ceiling-le (width * h * s) (m * 8) (s * (b * h)) (omega arith) (omega (arith, wide, e)) in
+    ceiling-le (ceiling (width * h * s) (m * 8)) s (b * h) scaled one
+
+-- the same at full size, by the size as it is read
+pub own-within-full : (width h m : ℕ) → 0 < h → h ≤ m → ceiling (ceiling (width * h) m) 8 ≤ ceiling width (8 * m) * h
+own-within-full width h m some most =
+    let b = ceiling width (8 * m) in
+    let low : width ≤ (8 * m) * b = ceiling-low width (8 * m) (omega arith) in
+    let wide : width * h ≤ ((8 * m) * b) * h = mul-le-mul_right h low in
+    let e : ((8 * m) * b) * h ≡ m * (8 * (b * h))
+    = mul_assoc (8 * m) b h ∙ (ap (λ n. n * (b * h)) (mul_comm 8 m) ∙ mul_assoc m 8 (b * h)) in
+    let one : ceiling (width * h) m ≤ 8 * (b * h) =
+    ceiling-le (width * h) m (8 * (b * h)) (omega arith) (omega (arith, wide, e)) in
+    ceiling-le (ceiling (width * h) m) 8 (b * h) (omega arith) one
+
+-- eight times as much of eight times as much
+pub ceiling-eights : (n d : ℕ) → 0 < d → ceiling (n * 8) (d * 8) ≡ ceiling n d
+ceiling-eights n d some =
+    let q = ceiling n d in
+    let r = ceiling (n * 8) (d * 8) in
+    let low : n ≤ d * q = ceiling-low n d some in
+    let low-eights : n * 8 ≤ (d * 8) * r = ceiling-low (n * 8) (d * 8) (omega arith) in
+    let e : (k : ℕ) → (d * 8) * k ≡ (d * k) * 8 = λ k. mul_assoc d 8 k
+    ∙ (ap (λ n. d * n) (mul_comm 8 k) ∙ sym (mul_assoc d k 8)) in
+    let eq = e q in
+    let er = e r in
+    let a : r ≤ q = ceiling-le (n * 8) (d * 8) q (omega arith) (omega (arith, low, eq)) in
+    let b : q ≤ r = ceiling-le n d r some (omega (arith, low-eights, er)) in
+    omega (arith, a, b)
+
+pub factors-back : (width height h v : ℕ) (xs : List Factors) → factors_of (map (component_of width height h v) xs) ≡ xs
+unfolding component_of
+factors-back width height h v [] = refl
+factors-back width height h v (x ∷ xs) = ap (λ l. x ∷ l) (factors-back width height h v xs)
+
+-- ---- components fit their frame
+
+all-fit : (frame : Frame) (width height h v : ℕ) (xs : List Factors) → frame.mcus_wide ≡ ceiling width (8 * h)
+    → frame.mcus_high ≡ ceiling height (8 * v)
+    → AllByRecursion IsInRange xs → greatest (λ c. c.horizontal) xs ≤ h → greatest (λ c. c.vertical) xs ≤ v
+    → AllByRecursion (Fits frame) (map (component_of width height h v) xs)
+unfolding component_of
+all-fit frame width height h v [] wide high range across down = tt
+all-fit frame width height h v (x ∷ xs) wide high range across down =
+    let r = range.0 in
+    let hs = r.horizontal_some in
+    let vs = r.vertical_some in (
+      record {
+        horizontal = hs;
+        vertical = vs;
+        wide = ap (λ n. n * x.horizontal) (sym wide);
+        high = ap (λ n. n * x.vertical) (sym high);
+        own_wide = own-within-full width x.horizontal h hs (omega arith);
+        own_high = own-within-full height x.vertical v vs (omega arith);
+      },
+      all-fit frame width height h v xs wide high range.1 (omega arith) (omega arith),
+    )
+
+all-fit-scaled : (frame : Frame) (scale width height h v : ℕ) (xs : List Factors) → 0 < scale
+    → frame.mcus_wide ≡ ceiling width (8 * h) → frame.mcus_high ≡ ceiling height (8 * v)
+    → AllByRecursion IsInRange xs → greatest (λ c. c.horizontal) xs ≤ h → greatest (λ c. c.vertical) xs ≤ v
+    → AllByRecursion (Fits frame) (map (component_at scale width height h v) (map (component_of width height h v) xs))
+unfolding component_of component_at
+all-fit-scaled frame scale width height h v [] some wide high range across down = tt
+all-fit-scaled frame scale width height h v (x ∷ xs) some wide high range across down =
+    let r = range.0 in
+    let hs = r.horizontal_some in
+    let vs = r.vertical_some in (
+      record {
+        horizontal = hs;
+        vertical = vs;
+        wide = ap (λ n. n * x.horizontal) (sym wide);
+        high = ap (λ n. n * x.vertical) (sym high);
+        own_wide = own-within width x.horizontal h scale hs (omega arith) some;
+        own_high = own-within height x.vertical v scale vs (omega arith) some;
+      },
+      all-fit-scaled frame scale width height h v xs some wide high range.1 (omega arith) (omega arith),
+    )
+
+-- The components of a frame that is read fit it.
+pub frames-fit : (number precision width height : ℕ) (xs : List Factors) → AllByRecursion IsInRange xs
+    → AllByRecursion (Fits (frame_of number precision width height xs))
+    (frame_of number precision width height xs).components
+unfolding frame_of
+frames-fit number precision width height xs range =
+    let frame = frame_of number precision width height xs in
+    all-fit frame width height (greatest (λ c. c.horizontal) xs) (greatest (λ c. c.vertical) xs) xs refl refl range
+    (omega arith) (omega arith)
+
+-- and those of a frame at a scale
+pub scaled-frames-fit : (scale number precision width height : ℕ) (xs : List Factors) → 0 < scale
+    → AllByRecursion IsInRange xs
+    → AllByRecursion (Fits (frame_at scale (frame_of number precision width height xs)))
+    (frame_at scale (frame_of number precision width height xs)).components
+unfolding frame_of frame_at
+scaled-frames-fit scale number precision width height xs some range =
+    let h = greatest (λ c. c.horizontal) xs in
+    let v = greatest (λ c. c.vertical) xs in
+    let frame = frame_at scale (frame_of number precision width height xs) in
+    let back = factors-back width height h v xs in
+    subst (λ (l : List Factors).
+    AllByRecursion (Fits frame)
+    (map (component_at scale width height (greatest (λ c. c.horizontal) l) (greatest (λ c. c.vertical) l))
+    (map (component_of width height h v) xs)))
+    (sym back) (all-fit-scaled frame scale width height h v xs some refl refl range (omega arith) (omega arith))
+
+-- ---- full size
+
+same-components : (width height h v : ℕ) (xs : List Factors) → 0 < h → 0 < v
+    → map (component_at 8 width height h v) (map (component_of width height h v) xs)
+    ≡ map (component_of width height h v) xs
+unfolding component_of component_at
+same-components width height h v [] hs vs = refl
+same-components width height h v (x ∷ xs) hs vs =
+    ap₂ (λ (c : Component) (l : List Component). c ∷ l)
+    (ap₂ (λ (a b : ℕ). record {
+      factors = x;
+      scale = 8;
+      width = a;
+      height = b;
+      blocks_wide = ceiling width (8 * h) * x.horizontal;
+      blocks_high = ceiling height (8 * v) * x.vertical;
+    })
+    (ceiling-eights (width * x.horizontal) h hs) (ceiling-eights (height * x.vertical) v vs))
+    (same-components width height h v xs hs vs)
+
+some-greatest : (f : Factors → ℕ) (xs : List Factors) → 0 < greatest f xs
+some-greatest f [] = omega arith
+some-greatest f (x ∷ xs) = let s = some-greatest f xs in omega arith
+
+-- A frame that is read is its own at full size.
+pub full-size : (number precision width height : ℕ) (xs : List Factors)
+    → frame_at 8 (frame_of number precision width height xs) ≡ frame_of number precision width height xs
+unfolding frame_of frame_at
+full-size number precision width height xs =
+    let h = greatest (λ c. c.horizontal) xs in
+    let v = greatest (λ c. c.vertical) xs in
+    let old = frame_of number precision width height xs in
+    let of : ℕ → ℕ → List Component
+    → Frame = λ w g l. record old { output_width = w; output_height = g; components = l } in
+    let back = factors-back width height h v xs in
+    ap (λ (l : List Factors). of (ceiling (width * 8) 8) (ceiling (height * 8) 8)
+    (map (component_at 8 width height (greatest (λ c. c.horizontal) l) (greatest (λ c. c.vertical) l))
+    (map (component_of width height h v) xs))) back
+    ∙ ap (λ (l : List Component). of (ceiling (width * 8) 8) (ceiling (height * 8) 8) l)
+    (same-components width height h v xs (some-greatest (λ c. c.horizontal) xs) (some-greatest (λ c. c.vertical) xs))
+    ∙ ap₂ (λ (a b : ℕ). of a b (map (component_of width height h v) xs)) (omega arith) (omega arith)

@@ -1,0 +1,333 @@
+-- Blocks that are read one after the other, at spots apart, are read on the blocks as they were and put back.
+use Rattle.std.proofs.Common.{◌≡◌, ◌≢◌, ◌⊎◌, inl, inr, ℕ, suc, Bool, true, false, List, [], ◌∷◌, ◌++◌, map, length}
+use Rattle.std.proofs.Common.{set, get_or, ℤ, pos, Option, Result, Ok, Err, refl, sym, ap, ap₂, ◌∙◌, subst}
+use Rattle.std.proofs.Common.{append-nil, arith}
+use Rattle.std.specs.List.{flat_map}
+use Rattle.jpeg_bits.specs.Reading as reading
+use Rattle.jpeg_bits.specs.Reading.{Outcome, Fault, Malformed}
+use Rattle.jpeg_bits.specs.Entropy.{Text, upcoming, fresh, marker_from}
+use Rattle.jpeg_bits.specs.Readers.{read_on, gives}
+use Rattle.jpeg_bits.specs.declared.marker.Marker.{Marker}
+use Rattle.jpeg_bits.specs.Passes.{Pass, Via, Block, block_from, blocks_of}
+use Rattle.jpeg_bits.specs.Intervals.{predictors_at_start, interval, intervals, is_restart, blocks_before}
+use Rattle.jpeg_bits.specs.Intervals.{after_restart}
+use Rattle.jpeg_streams.specs.Order.{Spot}
+use Rattle.jpeg_streams.specs.Scans.{Arrays, block_at, put_block, put_blocks, via_at, turns_of}
+use Rattle.jpeg_streams.specs.InTurn.{Reached, turn_from, turns_from, at_start, interval_from, next_interval}
+use Rattle.jpeg_streams.specs.InTurn.{intervals_from, IsIn, AreApart, IsInside}
+use Rattle.jpeg_streams.proofs.Put.{same-spot, put-other, put-inside}
+
+-- ---- spots
+
+pub kept-after : (q r : Spot) (b : Block) (arrays : Arrays) → IsInside arrays r → (q ≡ r → ⊥)
+    → block_at (put_block q b arrays) r ≡ block_at arrays r
+kept-after q r b arrays h n = go (same-spot q r)
+  where
+    go : (q ≡ r) ⊎ ((q.slot ≢ r.slot) ⊎ ((q.slot ≡ r.slot) × (q.index ≢ r.index)))
+        → block_at (put_block q b arrays) r ≡ block_at arrays r
+    go (inl e) = absurd (n e)
+    go (inr m) = put-other q r b arrays h m
+
+-- spots that keep their blocks are read alike
+pub same-turns : (vias : List Via) (spots : List Spot) (arrays others : Arrays)
+    → ((r : Spot) → IsIn r spots → block_at others r ≡ block_at arrays r)
+    → turns_of vias spots others ≡ turns_of vias spots arrays
+unfolding turns_of
+same-turns vias [] arrays others h = refl
+same-turns vias (s ∷ spots) arrays others h =
+    ap₂ (λ (b : Block) (l : List (Via × Block)). (via_at vias s.slot, b) ∷ l) (h s (inl refl))
+    (same-turns vias spots arrays others (λ r t. h r (inr t)))
+
+pub inside-after : (spots : List Spot) (blocks : List Block) (arrays : Arrays) (q : Spot) → IsInside arrays q
+    → IsInside (put_blocks spots blocks arrays) q
+unfolding put_blocks
+inside-after [] blocks arrays q h = h
+inside-after (s ∷ spots) [] arrays q h = h
+inside-after (s ∷ spots) (b ∷ blocks) arrays q h =
+    inside-after spots blocks (put_block s b arrays) q (put-inside s q b arrays h)
+
+pub others-kept : (spots : List Spot) (blocks : List Block) (arrays : Arrays) (q : Spot) → IsInside arrays q
+    → (IsIn q spots → ⊥)
+    → block_at (put_blocks spots blocks arrays) q ≡ block_at arrays q
+unfolding put_blocks
+others-kept [] blocks arrays q h n = refl
+others-kept (s ∷ spots) [] arrays q h n = refl
+others-kept (s ∷ spots) (b ∷ blocks) arrays q h n =
+    others-kept spots blocks (put_block s b arrays) q (put-inside s q b arrays h) (λ t. n (inr t))
+    ∙ kept-after s q b arrays h (λ e. n (inl e))
+
+pub put-both : (spots more : List Spot) (blocks others : List Block) (arrays : Arrays) → length blocks ≡ length spots
+    → put_blocks (spots ++ more) (blocks ++ others) arrays ≡ put_blocks more others (put_blocks spots blocks arrays)
+unfolding put_blocks
+put-both [] more [] others arrays e = refl
+put-both [] more (b ∷ blocks) others arrays e = absurd (omega arith)
+put-both (s ∷ spots) more [] others arrays e = absurd (omega arith)
+put-both (s ∷ spots) more (b ∷ blocks) others arrays e =
+    put-both spots more blocks others (put_block s b arrays) (omega arith)
+
+pub apart-back : {A : Type 0} (xs ys : List A) → AreApart (xs ++ ys) → AreApart ys
+apart-back [] ys h = h
+apart-back (x ∷ xs) ys h = apart-back xs ys h.1
+
+pub in-back : {A : Type 0} (x : A) (xs ys : List A) → IsIn x ys → IsIn x (xs ++ ys)
+in-back x [] ys h = h
+in-back x (y ∷ xs) ys h = inr (in-back x xs ys h)
+
+pub in-front : {A : Type 0} (x : A) (xs ys : List A) → IsIn x xs → IsIn x (xs ++ ys)
+in-front x [] ys h = absurd h
+in-front x (y ∷ xs) ys (inl e) = inl e
+in-front x (y ∷ xs) ys (inr t) = inr (in-front x xs ys t)
+
+pub apart-front : {A : Type 0} (xs ys : List A) → AreApart (xs ++ ys) → AreApart xs
+apart-front [] ys h = tt
+apart-front (x ∷ xs) ys h = ((λ t. h.0 (in-front x xs ys t)), apart-front xs ys h.1)
+
+pub apart-between : {A : Type 0} (q : A) (xs ys : List A) → AreApart (xs ++ ys) → IsIn q xs → IsIn q ys → ⊥
+apart-between q [] ys h a b = a
+apart-between q (x ∷ xs) ys h (inl e) b = h.0 (subst (λ w. IsIn w (xs ++ ys)) (sym e) (in-back q xs ys b))
+apart-between q (x ∷ xs) ys h (inr t) b = apart-between q xs ys h.1 t b
+
+-- ---- an interval
+
+abbrev pub arrays_in : Result (Reached × Text) Fault → Result (Arrays × Text) Fault
+arrays_in (Ok r) = Ok (r.0.arrays, r.1)
+arrays_in (Err e) = Err e
+
+abbrev pub put_in : List Spot → Arrays → Result (List Block × Text) Fault → Result (Arrays × Text) Fault
+put_in spots arrays (Ok r) = Ok (put_blocks spots r.0 arrays, r.1)
+put_in spots arrays (Err e) = Err e
+
+-- blocks in turn are put back as all are
+pub in-turn : (p : Pass) (vias : List Via) (spots : List Spot) (arrays : Arrays) (predictors : List ℤ) (run : ℕ)
+    (t : Text)
+    → AreApart spots → ((q : Spot) → IsIn q spots → IsInside arrays q)
+    → arrays_in (turns_from p vias spots (record { arrays = arrays; predictors = predictors; run = run }) t)
+    ≡ put_in spots arrays (blocks_of p predictors run (turns_of vias spots arrays) t)
+unfolding turns_from turn_from blocks_of turns_of put_blocks
+in-turn p vias [] arrays predictors run t apart inside = refl
+in-turn p vias (s ∷ spots) arrays predictors run t apart inside =
+    step (λ b c n u. in-turn p vias spots (put_block s b arrays) c n u apart.1
+    (λ q h. put-inside s q b arrays (inside q (inr h))))
+    (block_from p (via_at vias s.slot).dc (via_at vias s.slot).ac
+    (get_or predictors (via_at vias s.slot).component (pos 0)) run (block_at arrays s) t)
+  where
+    all : (b : Block) (o : Result (List Block × Text) Fault)
+        → put_in spots (put_block s b arrays) o ≡ put_in (s ∷ spots) arrays (read_on (λ more. gives (b ∷ more)) o)
+    all b (Ok r) = refl
+    all b (Err e) = refl
+
+    step : ((b : Block) (c : List ℤ) (n : ℕ) (u : Text)
+        → arrays_in (turns_from p vias spots (record { arrays = put_block s b arrays; predictors = c; run = n }) u)
+        ≡ put_in spots (put_block s b arrays) (blocks_of p c n (turns_of vias spots (put_block s b arrays)) u))
+        → (o : Result ((Block × ℤ × ℕ) × Text) Fault)
+        → arrays_in (read_on (turns_from p vias spots)
+        (read_on (λ (r : Block × ℤ × ℕ). gives
+        (record {
+          arrays = put_block s r.0 arrays;
+          predictors =
+              set predictors (via_at vias s.slot).component r.1;
+          run = r.2;
+        })) o))
+        ≡ put_in (s ∷ spots) arrays (read_on (λ (r : Block × ℤ × ℕ). λ (u : Text).
+        read_on (λ more. gives (r.0 ∷ more))
+        (blocks_of p (set predictors (via_at vias s.slot).component r.1) r.2 (turns_of vias spots arrays) u)) o)
+    step rec (Err e) = refl
+    step rec (Ok r) =
+        let new = put_block s r.0.0 arrays in
+        rec r.0.0 (set predictors (via_at vias s.slot).component r.0.1) r.0.2 r.1
+        ∙ ap (λ (l : List (Via × Block)). put_in spots new
+        (blocks_of p (set predictors (via_at vias s.slot).component r.0.1) r.0.2 l r.1))
+        (same-turns vias spots arrays new
+        (λ q h. kept-after s q r.0.0 arrays (inside q (inr h))
+        (λ e. apart.0 (subst (λ (x : Spot). IsIn x spots) (sym e) h))))
+        ∙ all r.0.0 (blocks_of p (set predictors (via_at vias s.slot).component r.0.1) r.0.2
+        (turns_of vias spots arrays) r.1)
+
+-- ---- intervals
+
+abbrev pub after_in : Result (Arrays × Text) Fault → Outcome (Arrays × Option Marker)
+after_in o = reading.◌>>=◌ o (λ r. reading.◌>>=◌ (marker_from r.1) (λ m. Ok ((r.0, m.0), m.1)))
+
+abbrev pub put_after : List Spot → Arrays → Outcome (List Block × Option Marker) → Outcome (Arrays × Option Marker)
+put_after spots arrays (Ok r) = Ok ((put_blocks spots r.0.0 arrays, r.0.1), r.1)
+put_after spots arrays (Err e) = Err e
+
+pub interval-in-turn : (p : Pass) (vias : List Via) (spots : List Spot) (arrays : Arrays) (bytes : List ℕ)
+    → AreApart spots → ((q : Spot) → IsIn q spots → IsInside arrays q)
+    → interval_from p vias spots arrays bytes ≡ put_after spots arrays (interval p (turns_of vias spots arrays) bytes)
+unfolding interval_from interval
+interval-in-turn p vias spots arrays bytes apart inside =
+    one (turns_from p vias spots (at_start arrays) (upcoming fresh bytes))
+    ∙ ap after_in (in-turn p vias spots arrays predictors_at_start 0 (upcoming fresh bytes) apart inside)
+    ∙ two (blocks_of p predictors_at_start 0 (turns_of vias spots arrays) (upcoming fresh bytes))
+  where
+    one : (o : Result (Reached × Text) Fault)
+        → reading.◌>>=◌ o (λ r. reading.◌>>=◌ (marker_from r.1) (λ m. Ok ((r.0.arrays, m.0), m.1)))
+        ≡ after_in (arrays_in o)
+    one (Ok r) = refl
+    one (Err e) = refl
+
+    marker : (r : List Block × Text) (m : Outcome (Option Marker))
+        → reading.◌>>=◌ m (λ (m : Option Marker × List ℕ). Ok ((put_blocks spots r.0 arrays, m.0), m.1))
+        ≡ put_after spots arrays (reading.◌>>=◌ m (λ (m : Option Marker × List ℕ). Ok ((r.0, m.0), m.1)))
+    marker r (Ok m) = refl
+    marker r (Err e) = refl
+
+    two : (o : Result (List Block × Text) Fault)
+        → after_in (put_in spots arrays o)
+        ≡ put_after spots arrays (reading.◌>>=◌ o (λ r. reading.◌>>=◌ (marker_from r.1) (λ m. Ok ((r.0, m.0), m.1))))
+    two (Ok r) = marker r (marker_from r.1)
+    two (Err e) = refl
+
+abbrev pub IsLong : ℕ → Result (List Block × Text) Fault → Type 0
+IsLong n (Ok r) = length r.0 ≡ n
+IsLong n (Err e) = Unit {0}
+
+-- as many blocks as turns
+pub blocks-long : (p : Pass) (turns : List (Via × Block)) (predictors : List ℤ) (run : ℕ) (t : Text)
+    → IsLong (length turns) (blocks_of p predictors run turns t)
+unfolding blocks_of
+blocks-long p [] predictors run t = refl
+blocks-long p (v ∷ turns) predictors run t =
+    step (λ c n u. blocks-long p turns c n u)
+    (block_from p v.0.dc v.0.ac (get_or predictors v.0.component (pos 0)) run v.1 t)
+  where
+    more : (b : Block) (o : Result (List Block × Text) Fault) → IsLong (length turns) o
+        → IsLong (suc (length turns)) (read_on (λ more. gives (b ∷ more)) o)
+    more b (Ok r) h = ap suc h
+    more b (Err e) h = tt
+
+    step : ((c : List ℤ) (n : ℕ) (u : Text) → IsLong (length turns) (blocks_of p c n turns u))
+        → (o : Result ((Block × ℤ × ℕ) × Text) Fault)
+        → IsLong (suc (length turns))
+        (read_on (λ (r : Block × ℤ × ℕ). λ (u : Text). read_on (λ more. gives (r.0 ∷ more))
+        (blocks_of p (set predictors v.0.component r.1) r.2 turns u)) o)
+    step rec (Ok r) = more r.0.0 (blocks_of p (set predictors v.0.component r.0.1) r.0.2 turns r.1)
+        (rec (set predictors v.0.component r.0.1) r.0.2 r.1)
+    step rec (Err e) = tt
+
+abbrev pub IsLongAfter : ℕ → Outcome (List Block × Option Marker) → Type 0
+IsLongAfter n (Ok r) = length r.0.0 ≡ n
+IsLongAfter n (Err e) = Unit {0}
+
+pub interval-long : (p : Pass) (turns : List (Via × Block)) (bytes : List ℕ)
+    → IsLongAfter (length turns) (interval p turns bytes)
+unfolding interval
+interval-long p turns bytes =
+    go (blocks_of p predictors_at_start 0 turns (upcoming fresh bytes))
+    (blocks-long p turns predictors_at_start 0 (upcoming fresh bytes))
+  where
+    marker : (r : List Block × Text) (m : Outcome (Option Marker)) → length r.0 ≡ length turns
+        → IsLongAfter (length turns) (reading.◌>>=◌ m (λ (m : Option Marker × List ℕ). Ok ((r.0, m.0), m.1)))
+    marker r (Ok m) h = h
+    marker r (Err e) h = tt
+
+    go : (o : Result (List Block × Text) Fault) → IsLong (length turns) o
+        → IsLongAfter (length turns)
+        (reading.◌>>=◌ o (λ r. reading.◌>>=◌ (marker_from r.1) (λ m. Ok ((r.0, m.0), m.1))))
+    go (Ok r) h = marker r (marker_from r.1) h
+    go (Err e) h = tt
+
+pub turns-long : (vias : List Via) (spots : List Spot) (arrays : Arrays)
+    → length (turns_of vias spots arrays) ≡ length spots
+unfolding turns_of
+turns-long vias [] arrays = refl
+turns-long vias (s ∷ spots) arrays = ap suc (turns-long vias spots arrays)
+
+-- the spots of all intervals
+abbrev pub all_of : List (List Spot) → List Spot
+all_of others = flat_map (λ (l : List Spot). l) others
+
+abbrev pub all_turns : List Via → Arrays → List (List Spot) → List (List (Via × Block))
+all_turns vias arrays others = map (λ (l : List Spot). turns_of vias l arrays) others
+
+pub same-groups : (vias : List Via) (others : List (List Spot)) (arrays new : Arrays)
+    → ((r : Spot) → IsIn r (all_of others) → block_at new r ≡ block_at arrays r)
+    → all_turns vias new others ≡ all_turns vias arrays others
+same-groups vias [] arrays new h = refl
+same-groups vias (spots ∷ others) arrays new h =
+    ap₂ (λ (x : List (Via × Block)) (l : List (List (Via × Block))). x ∷ l)
+    (same-turns vias spots arrays new (λ r t. h r (in-front r spots (all_of others) t)))
+    (same-groups vias others arrays new (λ r t. h r (in-back r spots (all_of others) t)))
+
+-- intervals in turn are put back as all are
+pub intervals-in-turn : (p : Pass) (vias : List Via) (k : ℕ) (spots : List Spot) (others : List (List Spot))
+    (arrays : Arrays) (bytes : List ℕ)
+    → AreApart (spots ++ all_of others) → ((q : Spot) → IsIn q (spots ++ all_of others) → IsInside arrays q)
+    → intervals_from p vias k spots others arrays bytes
+    ≡ put_after (spots ++ all_of others) arrays
+    (intervals p k (turns_of vias spots arrays) (all_turns vias arrays others) bytes)
+unfolding intervals_from intervals
+intervals-in-turn p vias k spots [] arrays bytes apart inside =
+    interval-in-turn p vias spots arrays bytes (apart-front spots [] apart) (λ q t. inside q (in-front q spots [] t))
+    ∙ ap (λ (l : List Spot). put_after l arrays (interval p (turns_of vias spots arrays) bytes))
+    (sym (append-nil spots))
+intervals-in-turn p vias k spots (next ∷ more) arrays bytes apart inside =
+    ap (λ (o : Outcome (Arrays × Option Marker)). reading.◌>>=◌ o
+    (next_interval k (intervals_from p vias (suc k) next more)))
+    (interval-in-turn p vias spots arrays bytes (apart-front spots (all_of (next ∷ more)) apart)
+    (λ q t. inside q (in-front q spots (all_of (next ∷ more)) t)))
+    ∙ go (interval p (turns_of vias spots arrays) bytes)
+    (subst (λ (n : ℕ). IsLongAfter n (interval p (turns_of vias spots arrays) bytes)) (turns-long vias spots arrays)
+    (interval-long p (turns_of vias spots arrays) bytes))
+    (λ blocks rest. intervals-in-turn p vias (suc k) next more (put_blocks spots blocks arrays) rest
+    (apart-back spots (all_of (next ∷ more)) apart)
+    (λ q t. inside-after spots blocks arrays q (inside q (in-back q spots (all_of (next ∷ more)) t))))
+  where
+    after : List Spot
+    after = all_of (next ∷ more)
+
+    kept : (blocks : List Block) (q : Spot) → IsIn q after
+        → block_at (put_blocks spots blocks arrays) q ≡ block_at arrays q
+    kept blocks q t = others-kept spots blocks arrays q (inside q (in-back q spots after t))
+        (λ u. apart-between q spots after apart u t)
+
+    both : (r : (List Block × Option Marker) × List ℕ) → length r.0.0 ≡ length spots
+        → (o : Outcome (List Block × Option Marker))
+        → put_after after (put_blocks spots r.0.0 arrays) o
+        ≡ put_after (spots ++ after) arrays (blocks_before r.0.0 o)
+    both r h (Ok s) = ap (λ (l : Arrays). Ok ((l, s.0.1), s.1)) (sym (put-both spots after r.0.0 s.0.0 arrays h))
+    both r h (Err e) = refl
+
+    test : (r : (List Block × Option Marker) × List ℕ) → length r.0.0 ≡ length spots
+        → ((blocks : List Block) (rest : List ℕ)
+        → intervals_from p vias (suc k) next more (put_blocks spots blocks arrays) rest
+        ≡ put_after after (put_blocks spots blocks arrays)
+        (intervals p (suc k) (turns_of vias next (put_blocks spots blocks arrays))
+        (all_turns vias (put_blocks spots blocks arrays) more) rest))
+        → (b : Bool)
+        → ◌≡◌ {A = Outcome (Arrays × Option Marker)}
+        (elim b [
+          | true ↦ intervals_from p vias (suc k) next more
+              (put_blocks spots r.0.0 arrays) r.1
+          | false ↦ Err Malformed
+        ])
+        (put_after (spots ++ after) arrays
+        (elim b [
+          | true ↦ blocks_before r.0.0
+              (intervals p (suc k) (turns_of vias next arrays) (all_turns vias arrays more) r.1)
+          | false ↦ Err Malformed
+        ]))
+    test r h rec false = refl
+    test r h rec true =
+        let new = put_blocks spots r.0.0 arrays in
+        rec r.0.0 r.1
+        ∙ ap (λ (l : List (Via × Block)). put_after after new (intervals p (suc k) l (all_turns vias new more) r.1))
+        (same-turns vias next arrays new (λ q t. kept r.0.0 q (in-front q next (all_of more) t)))
+        ∙ ap (λ (l : List (List (Via × Block))). put_after after new
+        (intervals p (suc k) (turns_of vias next arrays) l r.1))
+        (same-groups vias more arrays new (λ q t. kept r.0.0 q (in-back q next (all_of more) t)))
+        ∙ both r h (intervals p (suc k) (turns_of vias next arrays) (all_turns vias arrays more) r.1)
+
+    go : (o : Outcome (List Block × Option Marker)) → IsLongAfter (length spots) o
+        → ((blocks : List Block) (rest : List ℕ)
+        → intervals_from p vias (suc k) next more (put_blocks spots blocks arrays) rest
+        ≡ put_after after (put_blocks spots blocks arrays)
+        (intervals p (suc k) (turns_of vias next (put_blocks spots blocks arrays))
+        (all_turns vias (put_blocks spots blocks arrays) more) rest))
+        → reading.◌>>=◌ (put_after spots arrays o) (next_interval k (intervals_from p vias (suc k) next more))
+        ≡ put_after (spots ++ after) arrays
+        (reading.◌>>=◌ o (after_restart k
+        (intervals p (suc k) (turns_of vias next arrays) (all_turns vias arrays more))))
+    go (Ok r) h rec = test r h rec (is_restart k r.0.1)
+    go (Err e) h rec = refl

@@ -1,0 +1,200 @@
+-- A picture is made of the samples inside its components.
+use Rattle.std.proofs.Common.{◌≡◌, ℕ, zero, suc, ◌+◌, ◌-◌, ◌*◌, ◌/◌, ◌%◌, ◌<◌, ◌≤◌, ◌==◌, Bool, true, false, cond}
+use Rattle.std.proofs.Common.{List, [], ◌∷◌, map, length, slice_index, Option, Some, None, Result, Ok, Err, refl, sym}
+use Rattle.std.proofs.Common.{ap, ap₂, ◌∙◌, subst, arith, min}
+use Rattle.std.proofs.Math.Nat.{div-lt_iff_lt-mul, mod-lt, mul_comm}
+use Rattle.std.specs.List.{range_with_len, concat}
+use Rattle.jpeg_bits.specs.Reading.{Fault, Lacks, ◌>>=◌}
+use Rattle.jpeg_bits.specs.declared.color_transform.ColorTransform.{ColorTransform}
+use Rattle.jpeg_segments.specs.Frame.{Component, greatest}
+use Rattle.jpeg_pixels.specs.declared.upsampler.UpsampleRule.{UpsampleRule}
+use Rattle.jpeg_pixels.specs.declared.upsampler.UpsampleRule.TheVariants.{H1V1, H2V1, H1V2, H2V2, Generic}
+use Rattle.jpeg_pixels.specs.declared.upsampler.ColorConvert.{ColorConvert}
+use Rattle.jpeg_pixels.specs.Upsampling.{upsampled, across, down, far_place, blended, line_sum, rule_of}
+use Rattle.jpeg_pixels.specs.Colour.{line_bytes, conversion_of}
+use Rattle.jpeg_pixels.specs.Pictures.{Source, source_by, source_of, sources_by, sources_of, line_of, lines_of}
+use Rattle.jpeg_pixels.specs.Pictures.{picture_line, picture_bytes, image_of}
+use Rattle.jpeg_pixels.specs.Planes.{cropped}
+use Rattle.jpeg_streams.proofs.AcceptedTurns.{err-ok, ok-same, bind-ok}
+
+-- ---- one sample
+
+-- planes that are the same inside
+abbrev pub Agree : ℕ → ℕ → (ℕ → ℕ → ℕ) → (ℕ → ℕ → ℕ) → Type 0
+Agree w h p q = (i j : ℕ) → i < w → j < h → p i j ≡ q i j
+
+far-within : (count i : ℕ) → 0 < count → i < 2 * count → far_place count i < count
+far-within count i some h = go (i % 2 == 0)
+  where
+    go : (b : Bool) → cond b (i / 2 - 1) (min (i / 2 + 1) (count - 1)) < count
+    go true = omega arith
+    go false = omega arith
+
+-- a sample between a component's own is made of those inside
+upsampled-inside : (rule : UpsampleRule) (w h width height x y : ℕ) (p q : ℕ → ℕ → ℕ) → 0 < w → 0 < h
+    → 0 < across rule → 0 < down rule
+    → width ≤ across rule * w → height ≤ down rule * h → x < width → y < height → Agree w h p q
+    → upsampled rule p w h x y ≡ upsampled rule q w h x y
+unfolding upsampled
+upsampled-inside H1V1 w h width height x y p q a b c d e f k l same = same x y (omega arith) (omega arith)
+upsampled-inside H2V1 w h width height x y p q a b c d e f k l same =
+    ap₂ blended (same (x / 2) y (omega arith) (omega arith))
+    (same (far_place w x) y (far-within w x a (omega arith)) (omega arith))
+upsampled-inside H1V2 w h width height x y p q a b c d e f k l same =
+    ap₂ blended (same x (y / 2) (omega arith) (omega arith))
+    (same x (far_place h y) (omega arith) (far-within h y b (omega arith)))
+upsampled-inside H2V2 w h width height x y p q a b c d e f k l same =
+    let far = far-within w x a (omega arith) in
+    let low = far-within h y b (omega arith) in
+    let one : line_sum p h y (x / 2) ≡ line_sum q h y (x / 2)
+    = ap₂ (λ (m n : ℕ). 3 * m + n) (same (x / 2) (y / 2) (omega arith) (omega arith))
+    (same (x / 2) (far_place h y) (omega arith) low) in
+    let two : line_sum p h y (far_place w x) ≡ line_sum q h y (far_place w x)
+    = ap₂ (λ (m n : ℕ). 3 * m + n) (same (far_place w x) (y / 2) far (omega arith))
+    (same (far_place w x) (far_place h y) far low) in
+    ap₂ (λ (m n : ℕ). (3 * m + n + 8) / 16) one two
+upsampled-inside (Generic s t) w h width height x y p q a b c d e f k l same =
+    let e1 = mul_comm s w in
+    let e2 = mul_comm t h in
+    same (x / s) (y / t) ((div-lt_iff_lt-mul c).1 (omega arith)) ((div-lt_iff_lt-mul d).1 (omega arith))
+
+-- ---- lines and pictures
+
+map-same : {B : Type 0} (f g : ℕ → B) (a n : ℕ) → ((k : ℕ) → a ≤ k → k < a + n → f k ≡ g k)
+    → map f (range_with_len a n) ≡ map g (range_with_len a n)
+map-same f g a zero h = refl
+map-same {B} f g a (suc n) h =
+    ap₂ (λ (x : B) (l : List B). x ∷ l) (h a (omega arith) (omega arith))
+    (map-same f g (a + 1) n (λ k low high. h k (omega arith) (omega arith)))
+
+-- two lists of samples, in lines of a stride, that are the same inside
+pub record SamePlane (stride w h : ℕ) (p q : List ℕ) : Type 0 where
+  pub count : length p ≡ length q
+  pub each : Agree w h (λ i j. slice_index p (j * stride + i)) (λ i j. slice_index q (j * stride + i))
+
+-- a component reaches the ends of the picture
+pub record Reaches (s : Source) (width height : ℕ) : Type 0 where
+  pub some_width : 0 < s.width
+  pub some_height : 0 < s.height
+  pub some_across : 0 < across s.rule
+  pub some_down : 0 < down s.rule
+  pub wide_enough : width ≤ across s.rule * s.width
+  pub high_enough : height ≤ down s.rule * s.height
+
+abbrev pub AllReach : List Source → ℕ → ℕ → Type 0
+AllReach [] width height = Unit {0}
+AllReach (s ∷ sources) width height = Reaches s width height × AllReach sources width height
+
+line-same : (s : Source) (p q : List ℕ) (width height row : ℕ) → Reaches s width height → row < height
+    → SamePlane s.stride s.width s.height p q
+    → line_of s p width row ≡ line_of s q width row
+line-same s p q width height row c low same =
+    map-same (λ x. upsampled s.rule (λ i j. slice_index p (j * s.stride + i)) s.width s.height x row)
+    (λ x. upsampled s.rule (λ i j. slice_index q (j * s.stride + i)) s.width s.height x row) 0 width
+    (λ x a b. upsampled-inside s.rule s.width s.height width height x row _ _ c.some_width c.some_height c.some_across
+    c.some_down c.wide_enough c.high_enough (omega arith) low same.each)
+
+abbrev pub AllSame : List Source → List (List ℕ) → List (List ℕ) → Type 0
+AllSame [] ps qs = Unit {0}
+AllSame (s ∷ sources) [] qs = ⊥
+AllSame (s ∷ sources) (p ∷ ps) [] = ⊥
+AllSame (s ∷ sources) (p ∷ ps) (q ∷ qs) = SamePlane s.stride s.width s.height p q × AllSame sources ps qs
+
+lines-same : (sources : List Source) (ps qs : List (List ℕ)) (width height row : ℕ) → AllReach sources width height
+    → row < height → AllSame sources ps qs
+    → lines_of sources ps width row ≡ lines_of sources qs width row
+unfolding lines_of
+lines-same [] ps qs width height row c low same = refl
+lines-same (s ∷ sources) [] qs width height row c low same = absurd same
+lines-same (s ∷ sources) (p ∷ ps) [] width height row c low same = absurd same
+lines-same (s ∷ sources) (p ∷ ps) (q ∷ qs) width height row c low same =
+    ap₂ (λ (x : List ℕ) (l : List (List ℕ)). x ∷ l) (line-same s p q width height row c.0 low same.0)
+    (lines-same sources ps qs width height row c.1 low same.1)
+
+picture-line : (convert : ColorConvert) (sources : List Source) (ps : List (List ℕ)) (width row : ℕ)
+    → picture_line convert sources ps width row ≡ line_bytes convert width (lines_of sources ps width row)
+unfolding picture_line
+picture-line convert sources ps width row = refl
+
+picture-same : (convert : ColorConvert) (sources : List Source) (ps qs : List (List ℕ)) (width height : ℕ)
+    → AllReach sources width height → AllSame sources ps qs
+    → picture_bytes convert sources ps width height ≡ picture_bytes convert sources qs width height
+unfolding picture_bytes
+picture-same convert sources ps qs width height c same =
+    ap concat (map-same (picture_line convert sources ps width) (picture_line convert sources qs width) 0 height
+    (λ row a b. picture-line convert sources ps width row
+    ∙ ap (line_bytes convert width) (lines-same sources ps qs width height row c (omega arith) same)
+    ∙ sym (picture-line convert sources qs width row)))
+
+-- ---- by components
+
+abbrev pub AllAlike : List Component → List (List ℕ) → List (List ℕ) → Type 0
+AllAlike [] ps qs = Unit {0}
+AllAlike (c ∷ more) [] qs = ⊥
+AllAlike (c ∷ more) (p ∷ ps) [] = ⊥
+AllAlike (c ∷ more) (p ∷ ps) (q ∷ qs) = SamePlane (c.blocks_wide * c.scale) c.width c.height p q × AllAlike more ps qs
+
+source-plane : (c : Component) (rule : Option UpsampleRule) (s : Source) (p q : List ℕ) → source_by c rule ≡ Ok s
+    → SamePlane (c.blocks_wide * c.scale) c.width c.height p q → SamePlane s.stride s.width s.height p q
+source-plane c None s p q e h = absurd (err-ok (Lacks _) s e)
+source-plane c (Some rule) s p q e h = subst (λ (x : Source). SamePlane x.stride x.width x.height p q) (ok-same _ s e) h
+
+sources-same : (a b width height : ℕ) (components : List Component) (sources : List Source) (ps qs : List (List ℕ))
+    → sources_by a b width height components ≡ Ok sources → AllAlike components ps qs
+    → AllSame sources ps qs
+unfolding sources_by
+sources-same a b width height [] sources ps qs e h =
+    subst (λ (l : List Source). AllSame l ps qs) (ok-same [] sources e) tt
+sources-same a b width height (c ∷ more) sources [] qs e h = absurd h
+sources-same a b width height (c ∷ more) sources (p ∷ ps) [] e h = absurd h
+sources-same a b width height (c ∷ more) sources (p ∷ ps) (q ∷ qs) e h =
+    let one = bind-ok (source_of a b width height c) _ sources e in
+    let others = bind-ok (sources_by a b width height more) _ sources one.2 in
+    subst (λ (l : List Source). AllSame l (p ∷ ps) (q ∷ qs)) (ok-same (one.0 ∷ others.0) sources others.2) (
+      source-plane c (rule_of c.factors.horizontal c.factors.vertical a b width height) one.0 p q one.1 h.0,
+      sources-same a b width height more others.0 ps qs others.1 h.1,
+    )
+
+-- The image of several components.
+pub image-same : (components : List Component) (ps qs : List (List ℕ)) (width height : ℕ) (transform : ColorTransform)
+    → ((sources : List Source) → sources_of components width height ≡ Ok sources → AllReach sources width height)
+    → AllAlike components ps qs
+    → image_of components ps width height transform ≡ image_of components qs width height transform
+unfolding image_of
+image-same components ps qs width height transform covers same = go (conversion_of (length components) transform)
+  where
+    then_ : (convert : ColorConvert) (o : Result (List Source) Fault) → sources_of components width height ≡ o
+        → (o >>= (λ sources. Ok (picture_bytes convert sources ps width height)))
+        ≡ (o >>= (λ sources. Ok (picture_bytes convert sources qs width height)))
+    then_ convert (Err e) f = refl
+    then_ convert (Ok sources) f =
+        ap (λ (x : List ℕ). Ok x) (picture-same convert sources ps qs width height (covers sources f)
+        (sources-same (greatest (λ x. x.horizontal) (map (λ c. c.factors) components))
+        (greatest (λ x. x.vertical) (map (λ c. c.factors) components)) width height components sources ps qs f same))
+
+    go : (o : Result ColorConvert Fault)
+        → (o >>= (λ convert. sources_of components width height >>=
+        (λ sources. Ok (picture_bytes convert sources ps width height))))
+        ≡ (o >>= (λ convert. sources_of components width height >>=
+        (λ sources. Ok (picture_bytes convert sources qs width height))))
+    go (Err e) = refl
+    go (Ok convert) = then_ convert (sources_of components width height) refl
+
+-- The first samples of the first lines.
+pub cropped-same : (stride w h width height : ℕ) (p q : List ℕ) → width ≤ w → height ≤ h → SamePlane stride w h p q
+    → cropped stride width height p ≡ cropped stride width height q
+unfolding cropped
+cropped-same stride w h width height p q a b same =
+    map-same (λ i. slice_index p (i / width * stride + i % width))
+    (λ i. slice_index q (i / width * stride + i % width)) 0 (width * height) (λ i low high. go width refl i high)
+  where
+    go : (n : ℕ) → n ≡ width → (i : ℕ) → i < 0 + width * height
+        → slice_index p (i / width * stride + i % width) ≡ slice_index q (i / width * stride + i % width)
+    go zero e i lt = absurd
+        (let z : width * height ≡ 0 = ap (λ (x : ℕ). x * height) (sym e) ∙ omega arith in omega arith)
+    go (suc n) e i lt =
+        let some : 0 < width = omega arith in
+        let c = mul_comm width height in
+        let row : i / width < height = (div-lt_iff_lt-mul some).1 (omega arith) in
+        let column : i % width < width = mod-lt i some in
+        same.each (i % width) (i / width) (omega arith) (omega arith)

@@ -1,0 +1,958 @@
+-- A scan of several components is its rows of MCUs, each read into blocks of its own.
+use Rattle.std.proofs.Common.{◌≡◌, ◌⊎◌, inl, inr, ℕ, zero, suc, ◌+◌, ◌-◌, ◌*◌, ◌/◌, ◌%◌, ◌≤◌, ◌<◌, Bool, true, false}
+use Rattle.std.proofs.Common.{List, [], ◌∷◌, ◌++◌, map, length, set, get_or, replicate, ℤ, pos, Result, Ok, Err, refl}
+use Rattle.std.proofs.Common.{sym, ap, ap₂, ◌∙◌, subst, append_assoc, append-nil, arith, length-set}
+use Rattle.std.specs.Prelude.{◌==◌, ◌&&◌, nat_lt, min}
+use Rattle.std.specs.List.{AllByRecursion, range_with_len, flat_map}
+use Rattle.jpeg_bits.specs.Reading.{Fault}
+use Rattle.jpeg_bits.specs.Entropy.{Text, upcoming, fresh}
+use Rattle.jpeg_bits.specs.Readers.{Reads, read_on, gives}
+use Rattle.jpeg_segments.specs.Frame.{Frame, Component}
+use Rattle.jpeg_bits.specs.Passes.{Pass, Via, Block, zero_block, block_from}
+use Rattle.jpeg_streams.specs.Order.{Spot, grid_of, own_spots, part_spots, mcu_spots}
+use Rattle.jpeg_streams.specs.Scans.{Arrays, zero_arrays, block_at, put_block, via_at}
+use Rattle.jpeg_streams.specs.InTurn.{Reached, turn_from, turns_from, at_start, restart_from, Counted, begun_from}
+use Rattle.jpeg_streams.specs.InTurn.{mcu_from, mcus_from, IsIn, IsInside}
+use Rattle.jpeg_streams.specs.McuRows.{row_mcus, zero_rows, row_size, own_row_mcus, rows_of, joined, with_arrays}
+use Rattle.jpeg_streams.specs.McuRows.{rows_from, scan_by_rows}
+use Rattle.jpeg_streams.proofs.InTurn.{in-front, in-back}
+use Rattle.jpeg_streams.proofs.Put.{put-inside}
+use Rattle.std.proofs.Math.Nat.{add-mul, mul_assoc, div-lt_iff_lt-mul}
+use Rattle.std.proofs.lemmas.Nat.{div-mul-add}
+use Rattle.jpeg_streams.specs.InTurn.{Fits, counted_at_start, scan_from, mcus_of}
+use Rattle.jpeg_streams.proofs.Apart.{At, at-all, in-flat-back, in-line-back, mcu-tells, placed}
+use Rattle.jpeg_streams.proofs.Mcus.{finished, on-on, mcus-append, flat, flat-append, flat-map, some-product}
+
+-- ---- a list inside another
+
+set-inside : {A : Type 0} (x y z : List A) (i : ℕ) (b : A) → i < length y → set (x ++ (y ++ z)) (length x + i) b
+    ≡ x ++ (set y i b ++ z)
+set-inside {A} x y z i b h = front x (length x + i) refl
+  where
+    middle : (y z : List A) (i : ℕ) (b : A) → i < length y → set (y ++ z) i b ≡ set y i b ++ z
+    middle [] z i b h = absurd (omega arith)
+    middle (a ∷ y) z zero b h = refl
+    middle (a ∷ y) z (suc i) b h = ap (λ l. a ∷ l) (middle y z i b (omega arith))
+
+    front : (x : List A) (n : ℕ) → n ≡ length x + i → set (x ++ (y ++ z)) n b ≡ x ++ (set y i b ++ z)
+    front [] n e = ap (λ (k : ℕ). set (y ++ z) k b) (omega arith) ∙ middle y z i b h
+    front (a ∷ x) zero e = absurd (omega arith)
+    front (a ∷ x) (suc n) e = ap (λ l. a ∷ l) (front x n (omega arith))
+
+get-inside : {A : Type 0} (x y z : List A) (i : ℕ) (d : A) → i < length y → get_or (x ++ (y ++ z)) (length x + i) d
+    ≡ get_or y i d
+get-inside {A} x y z i d h = front x (length x + i) refl
+  where
+    middle : (y z : List A) (i : ℕ) (d : A) → i < length y → get_or (y ++ z) i d ≡ get_or y i d
+    middle [] z i d h = absurd (omega arith)
+    middle (a ∷ y) z zero d h = refl
+    middle (a ∷ y) z (suc i) d h = middle y z i d (omega arith)
+
+    front : (x : List A) (n : ℕ) → n ≡ length x + i → get_or (x ++ (y ++ z)) n d ≡ get_or y i d
+    front [] n e = ap (λ (k : ℕ). get_or (y ++ z) k d) (omega arith) ∙ middle y z i d h
+    front (a ∷ x) zero e = absurd (omega arith)
+    front (a ∷ x) (suc n) e = front x n (omega arith)
+
+-- ---- arrays inside others
+
+-- arrays with some in front and the rest after
+abbrev pub around : Arrays → Arrays → Arrays → Arrays
+around (x ∷ front) (y ∷ arrays) (z ∷ rest) = (x ++ (y ++ z)) ∷ around front arrays rest
+around _ _ _ = []
+
+pub record Aligned (front arrays rest : Arrays) : Type 0 where
+  pub before : length front ≡ length arrays
+  pub after : length rest ≡ length arrays
+
+get-around : (front arrays rest : Arrays) (slot : ℕ) → Aligned front arrays rest → slot < length arrays
+    → get_or (around front arrays rest) slot [] ≡ get_or front slot [] ++ (get_or arrays slot [] ++ get_or rest slot [])
+get-around [] [] rest slot a h = absurd (omega arith)
+get-around [] (y ∷ arrays) rest slot a h = absurd (let b = a.before in omega arith)
+get-around (x ∷ front) [] rest slot a h = absurd (omega arith)
+get-around (x ∷ front) (y ∷ arrays) [] slot a h = absurd (let b = a.after in omega arith)
+get-around (x ∷ front) (y ∷ arrays) (z ∷ rest) zero a h = refl
+get-around (x ∷ front) (y ∷ arrays) (z ∷ rest) (suc slot) a h =
+    get-around front arrays rest slot (record {
+      before = let b = a.before in omega arith;
+      after = let b = a.after in
+          omega arith;
+    }) (omega arith)
+
+set-around : (front arrays rest : Arrays) (slot : ℕ) (y : List Block) → Aligned front arrays rest
+    → set (around front arrays rest) slot (get_or front slot [] ++ (y ++ get_or rest slot []))
+    ≡ around front (set arrays slot y) rest
+set-around [] [] rest slot y a = refl
+set-around [] (b ∷ arrays) rest slot y a = absurd (let e = a.before in omega arith)
+set-around (x ∷ front) [] rest slot y a = absurd (let e = a.before in omega arith)
+set-around (x ∷ front) (b ∷ arrays) [] slot y a = absurd (let e = a.after in omega arith)
+set-around (x ∷ front) (b ∷ arrays) (z ∷ rest) zero y a = refl
+set-around (x ∷ front) (b ∷ arrays) (z ∷ rest) (suc slot) y a =
+    ap (λ l. (x ++ (b ++ z)) ∷ l) (set-around front arrays rest slot y (record {
+      before = let e = a.before in omega arith;
+      after = let e = a.after in omega arith;
+    }))
+
+-- a spot after those in front
+abbrev pub shifted : Arrays → Spot → Spot
+shifted front s = record { slot = s.slot; index = length (get_or front s.slot []) + s.index }
+
+get-shifted : (front arrays rest : Arrays) (s : Spot) → Aligned front arrays rest → IsInside arrays s
+    → block_at (around front arrays rest) (shifted front s) ≡ block_at arrays s
+get-shifted front arrays rest s a h =
+    ap (λ (l : List Block). get_or l (length (get_or front s.slot []) + s.index) zero_block)
+    (get-around front arrays rest s.slot a h.slot)
+    ∙ get-inside (get_or front s.slot []) (get_or arrays s.slot []) (get_or rest s.slot []) s.index zero_block h.index
+
+put-shifted : (front arrays rest : Arrays) (s : Spot) (b : Block) → Aligned front arrays rest → IsInside arrays s
+    → put_block (shifted front s) b (around front arrays rest) ≡ around front (put_block s b arrays) rest
+put-shifted front arrays rest s b a h =
+    ap (λ (l : List Block). set (around front arrays rest) s.slot (set l (length (get_or front s.slot []) + s.index) b))
+    (get-around front arrays rest s.slot a h.slot)
+    ∙ ap (λ (l : List Block). set (around front arrays rest) s.slot l)
+    (set-inside (get_or front s.slot []) (get_or arrays s.slot []) (get_or rest s.slot []) s.index b h.index)
+    ∙ set-around front arrays rest s.slot (set (get_or arrays s.slot []) s.index b) a
+
+put-aligned : (front arrays rest : Arrays) (s : Spot) (b : Block) → Aligned front arrays rest
+    → Aligned front (put_block s b arrays) rest
+put-aligned front arrays rest s b a =
+    let e = length-set arrays s.slot (set (get_or arrays s.slot []) s.index b) in
+    record { before = let x = a.before in omega arith; after = let x = a.after in omega arith }
+
+-- ---- reading
+
+abbrev pub wrapped : Arrays → Arrays → Reached → Reached
+wrapped front rest r = record { arrays = around front r.arrays rest; predictors = r.predictors; run = r.run }
+
+abbrev pub wrapped_count : Arrays → Arrays → Counted → Counted
+wrapped_count front rest c = record { reached = wrapped front rest c.reached; left = c.left; number = c.number }
+
+-- what holds of arrays that reading keeps
+pub record Holds (front rest : Arrays) (spots : List Spot) (arrays : Arrays) : Type 0 where
+  pub aligned : Aligned front arrays rest
+  pub inside : (s : Spot) → IsIn s spots → IsInside arrays s
+
+put-holds : (front rest : Arrays) (spots : List Spot) (arrays : Arrays) (s : Spot) (b : Block)
+    → Holds front rest spots arrays → Holds front rest spots (put_block s b arrays)
+put-holds front rest spots arrays s b h =
+    record {
+      aligned = put-aligned front arrays rest s b h.aligned;
+      inside = λ q t. put-inside s q b arrays (h.inside q t);
+    }
+
+fewer-hold : (front rest : Arrays) (spots fewer : List Spot) (arrays : Arrays)
+    → ((s : Spot) → IsIn s fewer → IsIn s spots) → Holds front rest spots arrays → Holds front rest fewer arrays
+fewer-hold front rest spots fewer arrays f h = record { aligned = h.aligned; inside = λ s t. h.inside s (f s t) }
+
+-- What is read in blocks that stand inside others is read in those. The blocks that are held keep what holds of them.
+abbrev pub Keeps : (Arrays → Type 0) → Result (Reached × Text) Fault → Type 0
+Keeps P (Ok r) = P r.0.arrays
+Keeps P (Err e) = Unit {0}
+
+turn-shifted : (p : Pass) (vias : List Via) (front rest : Arrays) (s : Spot) (old : Reached) (t : Text)
+    → Aligned front old.arrays rest → IsInside old.arrays s
+    → turn_from p vias (shifted front s) (wrapped front rest old) t ≡ read_on (λ r. gives (wrapped front rest r))
+    (turn_from p vias s old t)
+unfolding turn_from
+turn-shifted p vias front rest s old t a h =
+    ap (λ (b : Block). read_on (λ (r : Block × ℤ × ℕ). gives (record {
+      arrays = put_block (shifted front s) r.0 (around front old.arrays rest);
+      predictors = set old.predictors (via_at vias s.slot).component r.1;
+      run = r.2;
+    }))
+    (block_from p (via_at vias s.slot).dc (via_at vias s.slot).ac (get_or old.predictors (via_at vias s.slot).component
+    (pos 0)) old.run b t))
+    (get-shifted front old.arrays rest s a h)
+    ∙ go (block_from p (via_at vias s.slot).dc (via_at vias s.slot).ac
+    (get_or old.predictors (via_at vias s.slot).component (pos 0)) old.run (block_at old.arrays s) t)
+  where
+    go : (o : Result ((Block × ℤ × ℕ) × Text) Fault)
+        → read_on (λ (r : Block × ℤ × ℕ). gives (record {
+          arrays = put_block (shifted front s) r.0 (around front old.arrays rest);
+          predictors = set old.predictors (via_at vias s.slot).component r.1;
+          run = r.2;
+        })) o
+        ≡ read_on (λ r. gives (wrapped front rest r)) (read_on (λ (r : Block × ℤ × ℕ). gives (record {
+          arrays = put_block s r.0 old.arrays;
+          predictors = set old.predictors (via_at vias s.slot).component r.1;
+          run = r.2;
+        })) o)
+    go (Ok r) = ap (λ (l : Arrays). Ok (
+      record {
+        arrays = l;
+        predictors = set old.predictors (via_at vias s.slot).component r.0.1;
+        run = r.0.2;
+      },
+      r.1,
+    ))
+        (put-shifted front old.arrays rest s r.0.0 a h)
+    go (Err e) = refl
+
+turn-keeps : (p : Pass) (vias : List Via) (front rest : Arrays) (spots : List Spot) (s : Spot) (old : Reached)
+    (t : Text) → Holds front rest spots old.arrays
+    → Keeps (Holds front rest spots) (turn_from p vias s old t)
+unfolding turn_from
+turn-keeps p vias front rest spots s old t h =
+    go (block_from p (via_at vias s.slot).dc (via_at vias s.slot).ac
+    (get_or old.predictors (via_at vias s.slot).component (pos 0)) old.run (block_at old.arrays s) t)
+  where
+    go : (o : Result ((Block × ℤ × ℕ) × Text) Fault)
+        → Keeps (Holds front rest spots) (read_on (λ (r : Block × ℤ × ℕ). gives (record {
+          arrays = put_block s r.0 old.arrays;
+          predictors = set old.predictors (via_at vias s.slot).component r.1;
+          run = r.2;
+        })) o)
+    go (Ok r) = put-holds front rest spots old.arrays s r.0.0 h
+    go (Err e) = tt
+
+-- on where what holds is kept
+same-where : {A : Type 0} (P : Arrays → Type 0) (f g : Reached → Reads A) → ((r : Reached) (t : Text) → P r.arrays
+    → f r t ≡ g r t)
+    → (o : Result (Reached × Text) Fault) → Keeps P o → read_on f o ≡ read_on g o
+same-where P f g h (Ok r) k = h r.0 r.1 k
+same-where P f g h (Err e) k = refl
+
+turns-shifted : (p : Pass) (vias : List Via) (front rest : Arrays) (spots : List Spot) (old : Reached) (t : Text)
+    → Holds front rest spots old.arrays
+    → turns_from p vias (map (shifted front) spots) (wrapped front rest old) t
+    ≡ read_on (λ r. gives (wrapped front rest r)) (turns_from p vias spots old t)
+unfolding turns_from
+turns-shifted p vias front rest [] old t h = refl
+turns-shifted p vias front rest (s ∷ spots) old t h =
+    let next = turns_from p vias (map (shifted front) spots) in
+    let wrap : Reached → Reads Reached = λ r. gives (wrapped front rest r) in
+    ap (read_on next) (turn-shifted p vias front rest s old t h.aligned (h.inside s (inl refl)))
+    ∙ on-on wrap next (turn_from p vias s old t)
+    ∙ same-where (Holds front rest (s ∷ spots)) (λ r. λ u. next (wrapped front rest r) u)
+    (λ r. λ u. read_on wrap (turns_from p vias spots r u))
+    (λ r u k. turns-shifted p vias front rest spots r u (fewer-hold front rest (s ∷ spots) spots r.arrays
+    (λ q q_in. inr q_in) k))
+    (turn_from p vias s old t) (turn-keeps p vias front rest (s ∷ spots) s old t h)
+    ∙ sym (on-on (turns_from p vias spots) wrap (turn_from p vias s old t))
+
+keeps-on : (P : Arrays → Type 0) (f : Reached → Reads Reached) → ((r : Reached) (t : Text) → P r.arrays
+    → Keeps P (f r t)) → (o : Result (Reached × Text) Fault) → Keeps P o → Keeps P (read_on f o)
+keeps-on P f h (Ok r) k = h r.0 r.1 k
+keeps-on P f h (Err e) k = tt
+
+turns-keep : (p : Pass) (vias : List Via) (front rest : Arrays) (all spots : List Spot) (old : Reached) (t : Text)
+    → Holds front rest all old.arrays
+    → Keeps (Holds front rest all) (turns_from p vias spots old t)
+unfolding turns_from
+turns-keep p vias front rest all [] old t h = h
+turns-keep p vias front rest all (s ∷ spots) old t h =
+    keeps-on (Holds front rest all) (turns_from p vias spots) (λ r u k. turns-keep p vias front rest all spots r u k)
+    (turn_from p vias s old t) (turn-keeps p vias front rest all s old t h)
+
+-- ---- MCUs
+
+abbrev pub KeepsCounted : (Arrays → Type 0) → Result (Counted × Text) Fault → Type 0
+KeepsCounted P (Ok r) = P r.0.reached.arrays
+KeepsCounted P (Err e) = Unit {0}
+
+begun-shifted : (n : ℕ) (front rest : Arrays) (old : Counted) (t : Text)
+    → begun_from n (wrapped_count front rest old) t ≡ read_on (λ r. gives (wrapped_count front rest r))
+    (begun_from n old t)
+unfolding begun_from
+begun-shifted n front rest old t = test (nat_lt 0 n && old.left == 0)
+  where
+    start : Arrays → Counted
+    start arrays = record { reached = at_start arrays; left = n; number = (old.number + 1) % 8 }
+
+    one : (o : Result (Unit {0} × Text) Fault)
+        → read_on (λ (u : Unit {0}). gives (start (around front old.reached.arrays rest))) o
+        ≡ read_on (λ r. gives (wrapped_count front rest r))
+        (read_on (λ (u : Unit {0}). gives (start old.reached.arrays)) o)
+    one (Ok r) = refl
+    one (Err e) = refl
+
+    test : (b : Bool) → ◌≡◌ {A = Result (Counted × Text) Fault}
+        ((elim b as (λ _. Reads Counted) [
+          | true ↦ (λ (v : Text). read_on (λ (u : Unit {0}). gives (start (around front old.reached.arrays rest)))
+              (restart_from old.number v))
+          | false ↦ gives (wrapped_count front rest old)
+        ]) t)
+        (read_on (λ r. gives (wrapped_count front rest r)) ((elim b as (λ _. Reads Counted) [
+          | true ↦ (λ (v : Text). read_on (λ (u : Unit {0}). gives (start old.reached.arrays))
+              (restart_from old.number v))
+          | false ↦ gives old
+        ]) t))
+    test true = one (restart_from old.number t)
+    test false = refl
+
+begun-keeps : (P : Arrays → Type 0) (n : ℕ) (old : Counted) (t : Text) → P old.reached.arrays
+    → KeepsCounted P (begun_from n old t)
+unfolding begun_from
+begun-keeps P n old t h = test (nat_lt 0 n && old.left == 0)
+  where
+    start : Counted
+    start = record { reached = at_start old.reached.arrays; left = n; number = (old.number + 1) % 8 }
+
+    one : (o : Result (Unit {0} × Text) Fault) → KeepsCounted P (read_on (λ (u : Unit {0}). gives start) o)
+    one (Ok r) = h
+    one (Err e) = tt
+
+    test : (b : Bool) → KeepsCounted P ((elim b as (λ _. Reads Counted) [
+      | true ↦ (λ (v : Text). read_on (λ (u : Unit {0}). gives start) (restart_from old.number v))
+      | false ↦ gives old
+    ]) t)
+    test true = one (restart_from old.number t)
+    test false = h
+
+pub counted-where : {A : Type 0} (P : Arrays → Type 0) (f g : Counted → Reads A)
+    → ((r : Counted) (t : Text) → P r.reached.arrays → f r t ≡ g r t)
+    → (o : Result (Counted × Text) Fault) → KeepsCounted P o → read_on f o ≡ read_on g o
+counted-where P f g h (Ok r) k = h r.0 r.1 k
+counted-where P f g h (Err e) k = refl
+
+abbrev pub after_turns : Counted → Reached → Counted
+after_turns now r = record { reached = r; left = now.left - 1; number = now.number }
+
+counts : (front rest : Arrays) (now : Counted) (o : Result (Reached × Text) Fault)
+    → read_on (λ r. gives (after_turns now r)) (read_on (λ r. gives (wrapped front rest r)) o)
+    ≡ read_on (λ r. gives (wrapped_count front rest r)) (read_on (λ r. gives (after_turns now r)) o)
+counts front rest now (Ok r) = refl
+counts front rest now (Err e) = refl
+
+mcu-shifted : (p : Pass) (vias : List Via) (n : ℕ) (front rest : Arrays) (mcu : List Spot) (old : Counted) (t : Text)
+    → Holds front rest mcu old.reached.arrays
+    → mcu_from p vias n (map (shifted front) mcu) (wrapped_count front rest old) t
+    ≡ read_on (λ r. gives (wrapped_count front rest r)) (mcu_from p vias n mcu old t)
+unfolding mcu_from
+mcu-shifted p vias n front rest mcu old t h =
+    let far : Counted → Reads Counted = λ now. λ u. read_on (λ r. gives (after_turns now r))
+    (turns_from p vias (map (shifted front) mcu) now.reached u) in
+    let near : Counted → Reads Counted = λ now. λ u. read_on (λ r. gives (after_turns now r))
+    (turns_from p vias mcu now.reached u) in
+    let wrap : Counted → Reads Counted = λ r. gives (wrapped_count front rest r) in
+    ap (read_on far) (begun-shifted n front rest old t)
+    ∙ on-on wrap far (begun_from n old t)
+    ∙ counted-where (Holds front rest mcu) (λ now. λ u. far (wrapped_count front rest now) u)
+    (λ now. λ u. read_on wrap (near now u))
+    (λ now u k. ap (read_on (λ r. gives (after_turns now r))) (turns-shifted p vias front rest mcu now.reached u k)
+    ∙ counts front rest now (turns_from p vias mcu now.reached u))
+    (begun_from n old t) (begun-keeps (Holds front rest mcu) n old t h)
+    ∙ sym (on-on near wrap (begun_from n old t))
+
+counted-on : (P : Arrays → Type 0) (f : Counted → Reads Counted) → ((r : Counted) (t : Text) → P r.reached.arrays
+    → KeepsCounted P (f r t))
+    → (o : Result (Counted × Text) Fault) → KeepsCounted P o → KeepsCounted P (read_on f o)
+counted-on P f h (Ok r) k = h r.0 r.1 k
+counted-on P f h (Err e) k = tt
+
+mcu-keeps : (p : Pass) (vias : List Via) (n : ℕ) (front rest : Arrays) (all mcu : List Spot) (old : Counted) (t : Text)
+    → Holds front rest all old.reached.arrays
+    → KeepsCounted (Holds front rest all) (mcu_from p vias n mcu old t)
+unfolding mcu_from
+mcu-keeps p vias n front rest all mcu old t h =
+    counted-on (Holds front rest all) (λ now. λ u. read_on (λ r. gives (after_turns now r))
+    (turns_from p vias mcu now.reached u))
+    (λ now u k. one now (turns_from p vias mcu now.reached u) (turns-keep p vias front rest all mcu now.reached u k))
+    (begun_from n old t) (begun-keeps (Holds front rest all) n old t h)
+  where
+    one : (now : Counted) (o : Result (Reached × Text) Fault) → Keeps (Holds front rest all) o
+        → KeepsCounted (Holds front rest all) (read_on (λ r. gives (after_turns now r)) o)
+    one now (Ok r) k = k
+    one now (Err e) k = tt
+
+pub mcus-keep : (p : Pass) (vias : List Via) (n : ℕ) (front rest : Arrays) (all : List Spot) (mcus : List (List Spot))
+    (old : Counted) (t : Text) → Holds front rest all old.reached.arrays
+    → KeepsCounted (Holds front rest all) (mcus_from p vias n mcus old t)
+unfolding mcus_from
+mcus-keep p vias n front rest all [] old t h = h
+mcus-keep p vias n front rest all (m ∷ mcus) old t h =
+    counted-on (Holds front rest all) (mcus_from p vias n mcus) (λ r u k. mcus-keep p vias n front rest all mcus r u k)
+    (mcu_from p vias n m old t) (mcu-keeps p vias n front rest all m old t h)
+
+-- MCUs that are read into blocks that stand inside others are read into those.
+pub mcus-shifted : (p : Pass) (vias : List Via) (n : ℕ) (front rest : Arrays) (mcus : List (List Spot)) (old : Counted)
+    (t : Text)
+    → Holds front rest (flat_map (λ (m : List Spot). m) mcus) old.reached.arrays
+    → mcus_from p vias n (map (map (shifted front)) mcus) (wrapped_count front rest old) t
+    ≡ read_on (λ r. gives (wrapped_count front rest r)) (mcus_from p vias n mcus old t)
+unfolding mcus_from
+mcus-shifted p vias n front rest [] old t h = refl
+mcus-shifted p vias n front rest (m ∷ mcus) old t h =
+    let all = flat_map (λ (m : List Spot). m) (m ∷ mcus) in
+    let more = flat_map (λ (m : List Spot). m) mcus in
+    let next = mcus_from p vias n (map (map (shifted front)) mcus) in
+    let wrap : Counted → Reads Counted = λ r. gives (wrapped_count front rest r) in
+    ap (read_on next) (mcu-shifted p vias n front rest m old t (fewer-hold front rest all m old.reached.arrays
+    (λ s k. in-front s m more k) h))
+    ∙ on-on wrap next (mcu_from p vias n m old t)
+    ∙ counted-where (Holds front rest all) (λ r. λ u. next (wrapped_count front rest r) u)
+    (λ r. λ u. read_on wrap (mcus_from p vias n mcus r u))
+    (λ r u k. mcus-shifted p vias n front rest mcus r u (fewer-hold front rest all more r.reached.arrays
+    (λ s q. in-back s m more q) k))
+    (mcu_from p vias n m old t) (mcu-keeps p vias n front rest all m old t h)
+    ∙ sym (on-on (mcus_from p vias n mcus) wrap (mcu_from p vias n m old t))
+
+-- ---- what reading keeps of the arrays
+
+-- blocks put in keep it
+abbrev pub IsKept : (Arrays → Type 0) → Type 0
+IsKept P = (arrays : Arrays) (s : Spot) (b : Block) → P arrays → P (put_block s b arrays)
+
+turn-any : (P : Arrays → Type 0) → IsKept P → (p : Pass) (vias : List Via) (s : Spot) (old : Reached) (t : Text)
+    → P old.arrays → Keeps P (turn_from p vias s old t)
+unfolding turn_from
+turn-any P kept p vias s old t h =
+    go (block_from p (via_at vias s.slot).dc (via_at vias s.slot).ac
+    (get_or old.predictors (via_at vias s.slot).component (pos 0)) old.run (block_at old.arrays s) t)
+  where
+    go : (o : Result ((Block × ℤ × ℕ) × Text) Fault)
+        → Keeps P (read_on (λ (r : Block × ℤ × ℕ). gives (record {
+          arrays = put_block s r.0 old.arrays;
+          predictors = set old.predictors (via_at vias s.slot).component r.1;
+          run = r.2;
+        })) o)
+    go (Ok r) = kept old.arrays s r.0.0 h
+    go (Err e) = tt
+
+turns-any : (P : Arrays → Type 0) → IsKept P → (p : Pass) (vias : List Via) (spots : List Spot) (old : Reached)
+    (t : Text) → P old.arrays → Keeps P (turns_from p vias spots old t)
+unfolding turns_from
+turns-any P kept p vias [] old t h = h
+turns-any P kept p vias (s ∷ spots) old t h =
+    keeps-on P (turns_from p vias spots) (λ r u k. turns-any P kept p vias spots r u k) (turn_from p vias s old t)
+    (turn-any P kept p vias s old t h)
+
+mcu-any : (P : Arrays → Type 0) → IsKept P → (p : Pass) (vias : List Via) (n : ℕ) (mcu : List Spot) (old : Counted)
+    (t : Text) → P old.reached.arrays
+    → KeepsCounted P (mcu_from p vias n mcu old t)
+unfolding mcu_from
+mcu-any P kept p vias n mcu old t h =
+    counted-on P (λ now. λ u. read_on (λ r. gives (after_turns now r)) (turns_from p vias mcu now.reached u))
+    (λ now u k. one now (turns_from p vias mcu now.reached u) (turns-any P kept p vias mcu now.reached u k))
+    (begun_from n old t) (begun-keeps P n old t h)
+  where
+    one : (now : Counted) (o : Result (Reached × Text) Fault) → Keeps P o
+        → KeepsCounted P (read_on (λ r. gives (after_turns now r)) o)
+    one now (Ok r) k = k
+    one now (Err e) k = tt
+
+pub mcus-any : (P : Arrays → Type 0) → IsKept P → (p : Pass) (vias : List Via) (n : ℕ) (mcus : List (List Spot))
+    (old : Counted) (t : Text) → P old.reached.arrays
+    → KeepsCounted P (mcus_from p vias n mcus old t)
+unfolding mcus_from
+mcus-any P kept p vias n [] old t h = h
+mcus-any P kept p vias n (m ∷ mcus) old t h =
+    counted-on P (mcus_from p vias n mcus) (λ r u k. mcus-any P kept p vias n mcus r u k) (mcu_from p vias n m old t)
+    (mcu-any P kept p vias n m old t h)
+
+-- ---- rows
+
+-- each component has the blocks of this many rows of MCUs
+unfoldable pub AreRows : ℕ → List Component → Arrays → Type 0
+AreRows rows [] [] = Unit {0}
+AreRows rows [] (a ∷ arrays) = ⊥
+AreRows rows (c ∷ more) [] = ⊥
+AreRows rows (c ∷ more) (a ∷ arrays) =
+    (length a ≡ rows * (c.factors.vertical * c.blocks_wide)) × AreRows rows more arrays
+
+rows-set : (rows : ℕ) (cs : List Component) (arrays : Arrays) (slot : ℕ) (y : List Block)
+    → length y ≡ length (get_or arrays slot []) → AreRows rows cs arrays → AreRows rows cs (set arrays slot y)
+unfolding AreRows
+rows-set rows [] [] slot y e h = tt
+rows-set rows [] (a ∷ arrays) slot y e h = absurd h
+rows-set rows (c ∷ cs) [] slot y e h = absurd h
+rows-set rows (c ∷ cs) (a ∷ arrays) zero y e h = (e ∙ h.0, h.1)
+rows-set rows (c ∷ cs) (a ∷ arrays) (suc slot) y e h = (h.0, rows-set rows cs arrays slot y e h.1)
+
+pub rows-kept : (rows : ℕ) (cs : List Component) → IsKept (AreRows rows cs)
+rows-kept rows cs arrays s b h = rows-set rows cs arrays s.slot (set (get_or arrays s.slot []) s.index b)
+    (length-set (get_or arrays s.slot []) s.index b) h
+
+rows-count : (rows : ℕ) (cs : List Component) (arrays : Arrays) → AreRows rows cs arrays → length arrays ≡ length cs
+unfolding AreRows
+rows-count rows [] [] h = refl
+rows-count rows [] (a ∷ arrays) h = absurd h
+rows-count rows (c ∷ cs) [] h = absurd h
+rows-count rows (c ∷ cs) (a ∷ arrays) h = ap suc (rows-count rows cs arrays h.1)
+
+rows-at : (rows : ℕ) (cs : List Component) (arrays : Arrays) (j : ℕ) (c : Component) → AreRows rows cs arrays
+    → At j cs c
+    → (length (get_or arrays j []) ≡ rows * (c.factors.vertical * c.blocks_wide)) × (j < length arrays)
+unfolding AreRows
+rows-at rows [] arrays j c h k = absurd k
+rows-at rows (d ∷ cs) [] j c h k = absurd h
+rows-at rows (d ∷ cs) (a ∷ arrays) zero c h k =
+    (h.0 ∙ ap (λ (x : Component). rows * (x.factors.vertical * x.blocks_wide)) k, omega arith)
+rows-at rows (d ∷ cs) (a ∷ arrays) (suc j) c h k = let r =
+    rows-at rows cs arrays j c h.1 k in (r.0, (let l = r.1 in omega arith))
+
+length-some : (n : ℕ) (b : Block) → length (replicate n b) ≡ n
+length-some zero b = refl
+length-some (suc n) b = ap suc (length-some n b)
+
+pub zero-rows : (rows : ℕ) (cs : List Component) → AreRows rows cs (zero_rows rows cs)
+unfolding AreRows zero_rows
+zero-rows rows [] = tt
+zero-rows rows (c ∷ cs) = (length-some (rows * (c.factors.vertical * c.blocks_wide)) zero_block, zero-rows rows cs)
+
+length-append_any : (x y : List Block) → length (x ++ y) ≡ length x + length y
+length-append_any [] y = omega arith
+length-append_any (a ∷ x) y = let r = length-append_any x y in omega arith
+
+pub joined-rows : (r : ℕ) (cs : List Component) (front arrays : Arrays) → AreRows r cs front → AreRows 1 cs arrays
+    → AreRows (r + 1) cs (joined front arrays)
+unfolding AreRows joined
+joined-rows r [] [] [] h k = tt
+joined-rows r [] [] (b ∷ arrays) h k = absurd k
+joined-rows r [] (a ∷ front) arrays h k = absurd h
+joined-rows r (c ∷ cs) [] arrays h k = absurd h
+joined-rows r (c ∷ cs) (a ∷ front) [] h k = absurd k
+joined-rows r (c ∷ cs) (a ∷ front) (b ∷ arrays) h k = (
+  length-append_any a b ∙ (let x = h.0 in let y = k.0 in let n = c.factors.vertical * c.blocks_wide in
+      let p : (r + 1) * n ≡ r * n + 1 * n = add-mul r 1 n in omega arith),
+  joined-rows r cs front arrays h.1 k.1,
+)
+
+replicate-both : (m n k : ℕ) (b : Block) → k ≡ m + n → replicate k b ≡ replicate m b ++ replicate n b
+replicate-both zero n k b e = ap (λ (i : ℕ). replicate i b) (omega arith)
+replicate-both (suc m) n zero b e = absurd (omega arith)
+replicate-both (suc m) n (suc k) b e = ap (λ l. b ∷ l) (replicate-both m n k b (omega arith))
+
+-- a row of zeros, and the others
+first-row : (rows r : ℕ) (cs : List Component) (front : Arrays) → AreRows r cs front
+    → joined front (zero_rows (suc rows) cs) ≡ around front (zero_rows 1 cs) (zero_rows rows cs)
+unfolding AreRows joined zero_rows
+first-row rows r [] [] h = refl
+first-row rows r [] (a ∷ front) h = absurd h
+first-row rows r (c ∷ cs) [] h = absurd h
+first-row rows r (c ∷ cs) (a ∷ front) h =
+    let n = c.factors.vertical * c.blocks_wide in
+    ap₂ (λ (x : List Block) (l : Arrays). (a ++ x) ∷ l)
+    (replicate-both (1 * n) (rows * n) (suc rows * n) zero_block (let p : (rows + 1) * n ≡ rows * n + 1 * n = add-mul
+    rows 1 n in omega arith))
+    (first-row rows r cs front h.1)
+
+-- rows after rows
+around-joined : (front arrays rest : Arrays) → around front arrays rest ≡ joined (joined front arrays) rest
+unfolding joined
+around-joined [] arrays rest = refl
+around-joined (x ∷ front) [] rest = refl
+around-joined (x ∷ front) (y ∷ arrays) [] = refl
+around-joined (x ∷ front) (y ∷ arrays) (z ∷ rest) =
+    ap₂ (λ (l : List Block) (m : Arrays). l ∷ m) (sym (append_assoc x y z)) (around-joined front arrays rest)
+
+no-rows : (r : ℕ) (cs : List Component) (front : Arrays) → AreRows r cs front → joined front (zero_rows 0 cs) ≡ front
+unfolding AreRows joined zero_rows
+no-rows r [] [] h = refl
+no-rows r [] (a ∷ front) h = absurd h
+no-rows r (c ∷ cs) [] h = absurd h
+no-rows r (c ∷ cs) (a ∷ front) h =
+    ap₂ (λ (l : List Block) (m : Arrays). l ∷ m)
+    (ap (λ (n : ℕ). a ++ replicate n zero_block) (let e : 0 * (c.factors.vertical * c.blocks_wide) ≡ 0 = omega arith in
+    e) ∙ append-nil a)
+    (no-rows r cs front h.1)
+
+-- ---- the spots of a row
+
+abbrev pub shifted_by : (ℕ → ℕ) → Spot → Spot
+shifted_by by s = record { slot = s.slot; index = by s.slot + s.index }
+
+map-append : (f : Spot → Spot) (xs ys : List Spot) → map f (xs ++ ys) ≡ map f xs ++ map f ys
+map-append f [] ys = refl
+map-append f (x ∷ xs) ys = ap (λ l. f x ∷ l) (map-append f xs ys)
+
+map-line : (f : Spot → Spot) (g h : ℕ → Spot) → ((k : ℕ) → f (g k) ≡ h k) → (ks : List ℕ) → map f (map g ks) ≡ map h ks
+map-line f g h e [] = refl
+map-line f g h e (k ∷ ks) = ap₂ (λ (s : Spot) (l : List Spot). s ∷ l) (e k) (map-line f g h e ks)
+
+map-grid : (f : Spot → Spot) (g h : ℕ → ℕ → Spot) → ((v k : ℕ) → f (g v k) ≡ h v k) → (ks vs : List ℕ)
+    → map f (flat_map (λ v. map (g v) ks) vs) ≡ flat_map (λ v. map (h v) ks) vs
+map-grid f g h e ks [] = refl
+map-grid f g h e ks (v ∷ vs) =
+    map-append f (map (g v) ks) (flat_map (λ v. map (g v) ks) vs)
+    ∙ ap₂ (λ l m. l ++ m) (map-line f (g v) (h v) (e v) ks) (map-grid f g h e ks vs)
+
+part-shift : (row column slot : ℕ) (c : Component) (by : ℕ → ℕ) → by slot ≡ row * (c.factors.vertical * c.blocks_wide)
+    → map (shifted_by by) (part_spots 0 column slot c) ≡ part_spots row column slot c
+unfolding part_spots
+part-shift row column slot c by e =
+    let vt = c.factors.vertical in
+    let w = c.blocks_wide in
+    let hz = c.factors.horizontal in
+    map-grid (shifted_by by) (λ v h. record { slot = slot; index = (0 * vt + v) * w + (column * hz + h) })
+    (λ v h. record { slot = slot; index = (row * vt + v) * w + (column * hz + h) })
+    (λ v h. ap (λ (i : ℕ). record { slot = slot; index = i })
+    (let p : (row * vt + v) * w ≡ row * vt * w + v * w = add-mul (row * vt) v w in
+    let q : row * vt * w ≡ row * (vt * w) = mul_assoc row vt w in
+    let z : 0 * vt + v ≡ v = omega arith in
+    let y : (0 * vt + v) * w ≡ v * w = ap (λ (n : ℕ). n * w) z in
+    omega arith))
+    (range_with_len 0 hz) (range_with_len 0 vt)
+
+mcu-shift : (row column base : ℕ) (cs : List Component) (by : ℕ → ℕ) → ((j : ℕ) (c : Component) → At j cs c
+    → by (base + j) ≡ row * (c.factors.vertical * c.blocks_wide))
+    → map (shifted_by by) (mcu_spots 0 column base cs) ≡ mcu_spots row column base cs
+unfolding mcu_spots
+mcu-shift row column base [] by e = refl
+mcu-shift row column base (c ∷ cs) by e =
+    map-append (shifted_by by) (part_spots 0 column base c) (mcu_spots 0 column (base + 1) cs)
+    ∙ ap₂ (λ l m. l ++ m)
+    (part-shift row column base c by (ap by (let z : base ≡ base + 0 = omega arith in z) ∙ e 0 c refl))
+    (mcu-shift row column (base + 1) cs by (λ j d h. ap by (let z : base + 1 + j ≡ base + suc j = omega arith in z)
+    ∙ e (suc j) d h))
+
+-- the blocks of a row of the component in a slot
+abbrev pub size_at : List Component → ℕ → ℕ
+size_at cs slot = get_or (map row_size cs) slot 0
+
+size-at : (cs : List Component) (j : ℕ) (c : Component) → At j cs c → size_at cs j ≡ row_size c
+size-at [] j c h = absurd h
+size-at (d ∷ cs) zero c h = ap row_size h
+size-at (d ∷ cs) (suc j) c h = size-at cs j c h
+
+front-size : (row : ℕ) (cs : List Component) (front : Arrays) (slot : ℕ) → AreRows row cs front
+    → length (get_or front slot []) ≡ row * size_at cs slot
+unfolding AreRows
+front-size row [] [] slot h = omega arith
+front-size row [] (a ∷ front) slot h = absurd h
+front-size row (c ∷ cs) [] slot h = absurd h
+front-size row (c ∷ cs) (a ∷ front) zero h = h.0
+front-size row (c ∷ cs) (a ∷ front) (suc slot) h = front-size row cs front slot h.1
+
+-- a row's MCUs at their places
+abbrev pub placed_row : List Component → ℕ → List (List Spot) → List (List Spot)
+placed_row cs row mcus = map (map (shifted_by (λ slot. row * size_at cs slot))) mcus
+
+pub placed_rows : List Component → ℕ → List (List (List Spot)) → List (List Spot)
+placed_rows cs row [] = []
+placed_rows cs row (mcus ∷ rows) = placed_row cs row mcus ++ placed_rows cs (row + 1) rows
+
+map-same : (f g : Spot → Spot) → ((s : Spot) → f s ≡ g s) → (m : List Spot) → map f m ≡ map g m
+map-same f g e [] = refl
+map-same f g e (s ∷ m) = ap₂ (λ (x : Spot) (l : List Spot). x ∷ l) (e s) (map-same f g e m)
+
+maps-same : (f g : Spot → Spot) → ((s : Spot) → f s ≡ g s) → (ms : List (List Spot)) → map (map f) ms ≡ map (map g) ms
+maps-same f g e [] = refl
+maps-same f g e (m ∷ ms) = ap₂ (λ (x : List Spot) (l : List (List Spot)). x ∷ l) (map-same f g e m) (maps-same f g e ms)
+
+row-shifted : (row : ℕ) (cs : List Component) (front : Arrays) (mcus : List (List Spot)) → AreRows row cs front
+    → placed_row cs row mcus ≡ map (map (shifted front)) mcus
+row-shifted row cs front mcus h =
+    maps-same (shifted_by (λ slot. row * size_at cs slot)) (shifted front)
+    (λ s. ap (λ (i : ℕ). record { slot = s.slot; index = i + s.index }) (sym (front-size row cs front s.slot h))) mcus
+
+-- the spots of a row are inside its blocks
+pub record IsRow (cs : List Component) (mcus : List (List Spot)) : Type 0 where
+  pub inside : (arrays : Arrays) (s : Spot) → AreRows 1 cs arrays → IsIn s (flat mcus) → IsInside arrays s
+
+pub rows-in-turn : (p : Pass) (vias : List Via) (n : ℕ) (cs : List Component) (rows : List (List (List Spot))) (row : ℕ)
+    (front : Arrays) (old : Counted) (t : Text)
+    → AllByRecursion (IsRow cs) rows → AreRows row cs front
+    → mcus_from p vias n (placed_rows cs row rows) (with_arrays (joined front (zero_rows (length rows) cs)) old) t
+    ≡ rows_from p vias n cs rows front old t
+unfolding mcus_from rows_from placed_rows
+rows-in-turn p vias n cs [] row front old t fits h =
+    ap (λ (l : Arrays). gives (with_arrays l old) t) (no-rows row cs front h)
+rows-in-turn p vias n cs (mcus ∷ rows) row front old t fits h =
+    let one = zero_rows 1 cs in
+    let rest = zero_rows (length rows) cs in
+    let sized : AreRows 1 cs one = zero-rows 1 cs in
+    let others = placed_rows cs (row + 1) rows in
+    let start : Counted = with_arrays one old in
+    let wrap : Counted → Reads Counted = λ r. gives (wrapped_count front rest r) in
+    let next = mcus_from p vias n others in
+    let o = mcus_from p vias n mcus start t in
+    let holds : Holds front rest (flat mcus) one = record {
+      aligned = record {
+        before = rows-count row cs front h ∙ sym (rows-count 1 cs one sized);
+        after = rows-count (length rows) cs rest (zero-rows (length rows) cs) ∙ sym (rows-count 1 cs one sized);
+      };
+      inside = λ s k. fits.0.inside one s sized k;
+    } in
+    ap (λ (l : Arrays). mcus_from p vias n (placed_row cs row mcus ++ others) (with_arrays l old) t)
+    (first-row (length rows) row cs front h)
+    ∙ mcus-append p vias n (placed_row cs row mcus) others (wrapped_count front rest start) t
+    ∙ ap (λ (m : List (List Spot)). read_on next (mcus_from p vias n m (wrapped_count front rest start) t))
+    (row-shifted row cs front mcus h)
+    ∙ ap (read_on next) (mcus-shifted p vias n front rest mcus start t holds)
+    ∙ on-on wrap next o
+    ∙ counted-where (AreRows 1 cs) (λ r. λ u. next (wrapped_count front rest r) u) (λ r. λ u. rows_from p vias n cs rows
+    (joined front r.reached.arrays) r u)
+    (λ r u k.
+    ap (λ (l : Arrays). next (with_arrays l r) u) (around-joined front r.reached.arrays rest)
+    ∙ rows-in-turn p vias n cs rows (row + 1) (joined front r.reached.arrays) r u fits.1
+    (joined-rows row cs front r.reached.arrays h k))
+    o (mcus-any (AreRows 1 cs) (rows-kept 1 cs) p vias n mcus start t sized)
+
+pub no-blocks : (cs : List Component) → AreRows 0 cs (map (λ c. []) cs)
+unfolding AreRows
+no-blocks [] = tt
+no-blocks (c ∷ cs) = ((let e : 0 ≡ 0 * row_size c = omega arith in e), no-blocks cs)
+
+all-zeros : (frame : Frame) (cs : List Component) → AllByRecursion (Fits frame) cs
+    → zero_arrays cs ≡ joined (map (λ c. []) cs) (zero_rows frame.mcus_high cs)
+unfolding zero_arrays zero_rows joined
+all-zeros frame [] fits = refl
+all-zeros frame (c ∷ cs) fits =
+    ap₂ (λ (n : ℕ) (l : Arrays). replicate n zero_block ∷ l)
+    (ap (λ (k : ℕ). k * c.blocks_wide) fits.0.high ∙ mul_assoc frame.mcus_high c.factors.vertical c.blocks_wide)
+    (all-zeros frame cs fits.1)
+
+-- ---- rows of several components
+
+several-shift : (row : ℕ) (cs : List Component) (columns : List ℕ)
+    → placed_row cs row (map (λ column. mcu_spots 0 column 0 cs) columns) ≡ map (λ column. mcu_spots row column 0 cs)
+    columns
+several-shift row cs [] = refl
+several-shift row cs (k ∷ columns) =
+    ap₂ (λ (m : List Spot) (l : List (List Spot)). m ∷ l)
+    (mcu-shift row k 0 cs (λ j. row * size_at cs j) (λ j c a. ap (λ (i : ℕ). row * size_at cs i) (let z : 0 + j
+    ≡ j = omega arith in z) ∙ ap (λ (i : ℕ). row * i) (size-at cs j c a)))
+    (several-shift row cs columns)
+
+several-rows : (wide : ℕ) (cs : List Component) (row rows : ℕ)
+    → placed_rows cs row (map (λ r. row_mcus wide cs) (range_with_len row rows))
+    ≡ flat_map (λ r. map (λ column. mcu_spots r column 0 cs) (range_with_len 0 wide)) (range_with_len row rows)
+unfolding placed_rows row_mcus
+several-rows wide cs row zero = refl
+several-rows wide cs row (suc rows) =
+    ap₂ (λ (l m : List (List Spot)). l ++ m) (several-shift row cs (range_with_len 0 wide))
+    (several-rows wide cs (row + 1) rows)
+
+-- the spots of a row are inside its blocks
+several-inside : (frame : Frame) (cs : List Component) (arrays : Arrays) (s : Spot) → AllByRecursion (Fits frame) cs
+    → AreRows 1 cs arrays
+    → IsIn s (flat (row_mcus frame.mcus_wide cs)) → IsInside arrays s
+unfolding row_mcus
+several-inside frame cs arrays s fits sized h =
+    let g = in-flat-back (λ column. mcu_spots 0 column 0 cs) s 0 frame.mcus_wide
+    (subst (λ (l : List Spot). IsIn s l) (flat-map (λ column. mcu_spots 0 column 0 cs)
+    (range_with_len 0 frame.mcus_wide)) h) in
+    let gh = g.between.high in
+    let of = mcu-tells frame cs 0 0 g.at s fits (omega arith) g.gives in
+    let c = of.component in
+    let here = placed frame cs 0 g.at s of in
+    let z = rows-at 1 cs arrays s.slot c sized here in
+    let f = at-all (Fits frame) s.slot cs c fits here in
+    let up : s.index / c.blocks_wide < 1 * c.factors.vertical =
+    (div-lt_iff_lt-mul f.vertical).0 (let r = of.tells.row_of in omega arith) in
+    let wp : 0 < c.blocks_wide = let q = some-product frame.mcus_wide c.factors.horizontal (omega arith) f.horizontal in
+    let w = f.wide in omega arith in
+    let i : s.index < 1 * c.factors.vertical * c.blocks_wide = (div-lt_iff_lt-mul wp).0 up in
+    let e : 1 * c.factors.vertical * c.blocks_wide ≡ 1 * (c.factors.vertical * c.blocks_wide) =
+    mul_assoc 1 c.factors.vertical c.blocks_wide in
+    record { slot = z.1; index = let l = z.0 in omega arith }
+
+all-rows : (cs : List Component) (f : ℕ → List (List Spot)) (a n : ℕ) → ((row : ℕ) → IsRow cs (f row))
+    → AllByRecursion (IsRow cs) (map f (range_with_len a n))
+all-rows cs f a zero h = tt
+all-rows cs f a (suc n) h = (h a, all-rows cs f (a + 1) n h)
+
+length-rows_of : (f : ℕ → List (List Spot)) (a n : ℕ) → length (map f (range_with_len a n)) ≡ n
+length-rows_of f a zero = refl
+length-rows_of f a (suc n) = ap suc (length-rows_of f (a + 1) n)
+
+-- ---- rows of one
+
+own-line : (c : Component) (row v : ℕ) (columns : List ℕ)
+    → placed_row (c ∷ []) row (map (λ column. record { slot = 0; index = v * c.blocks_wide + column } ∷ []) columns)
+    ≡ map (λ column. record { slot = 0; index = (row * c.factors.vertical + v) * c.blocks_wide + column } ∷ []) columns
+own-line c row v [] = refl
+own-line c row v (k ∷ columns) =
+    let vt = c.factors.vertical in
+    let w = c.blocks_wide in
+    ap₂ (λ (i : ℕ) (l : List (List Spot)). (record { slot = 0; index = i } ∷ []) ∷ l)
+    (let p : (row * vt + v) * w ≡ row * vt * w + v * w = add-mul (row * vt) v w in
+    let q : row * vt * w ≡ row * (vt * w) = mul_assoc row vt w in omega arith)
+    (own-line c row v columns)
+
+placed-append : (cs : List Component) (row : ℕ) (xs ys : List (List Spot))
+    → placed_row cs row (xs ++ ys) ≡ placed_row cs row xs ++ placed_row cs row ys
+placed-append cs row [] ys = refl
+placed-append cs row (x ∷ xs) ys = ap (λ l. map (shifted_by (λ slot. row * size_at cs slot)) x ∷ l)
+    (placed-append cs row xs ys)
+
+-- the own blocks of a line, each an MCU
+abbrev pub line_at : Component → ℕ → List (List Spot)
+line_at c line = map (λ column. record { slot = 0; index = line * c.blocks_wide + column } ∷ [])
+    (range_with_len 0 (grid_of c).own_wide)
+
+own-lines : (c : Component) (row a n : ℕ)
+    → placed_row (c ∷ []) row (flat_map (line_at c) (range_with_len a n)) ≡ flat_map (line_at c)
+    (range_with_len (row * c.factors.vertical + a) n)
+own-lines c row a zero = refl
+own-lines c row a (suc n) =
+    placed-append (c ∷ []) row (line_at c a) (flat_map (line_at c) (range_with_len (a + 1) n))
+    ∙ ap₂ (λ (l m : List (List Spot)). l ++ m) (own-line c row a (range_with_len 0 (grid_of c).own_wide))
+    (own-lines c row (a + 1) n ∙ ap (λ (i : ℕ). flat_map (line_at c) (range_with_len i n))
+    (let z : row * c.factors.vertical + (a + 1) ≡ row * c.factors.vertical + a + 1 = omega arith in z))
+
+range-split : (a m n k : ℕ) → k ≡ m + n → range_with_len a k ≡ range_with_len a m ++ range_with_len (a + m) n
+range-split a zero n k e = ap₂ (λ (i j : ℕ). range_with_len i j) (let z : a ≡ a + 0 = omega arith in z) (omega arith)
+range-split a (suc m) n zero e = absurd (omega arith)
+range-split a (suc m) n (suc k) e =
+    ap (λ l. a ∷ l) (range-split (a + 1) m n k (omega arith)
+    ∙ ap (λ (i : ℕ). range_with_len (a + 1) m ++ range_with_len i n) (let z : a + 1 + m ≡ a + suc m = omega arith in z))
+
+flat-both : (f : ℕ → List (List Spot)) (xs ys : List ℕ) → flat_map f (xs ++ ys) ≡ flat_map f xs ++ flat_map f ys
+flat-both f [] ys = refl
+flat-both f (x ∷ xs) ys = ap (λ l. f x ++ l) (flat-both f xs ys)
+    ∙ sym (append_assoc (f x) (flat_map f xs) (flat_map f ys))
+
+own-rows : (c : Component) (row rows : ℕ) → (grid_of c).own_high ≤ (row + rows) * c.factors.vertical
+    → placed_rows (c ∷ []) row (map (own_row_mcus c) (range_with_len row rows))
+    ≡ flat_map (line_at c) (range_with_len (row * c.factors.vertical) ((grid_of c).own_high - row * c.factors.vertical))
+unfolding placed_rows own_row_mcus
+own-rows c row zero h =
+    ap (λ (n : ℕ). flat_map (line_at c) (range_with_len (row * c.factors.vertical) n))
+    (let e : (row + 0) * c.factors.vertical ≡ row * c.factors.vertical = ap (λ (k : ℕ). k * c.factors.vertical)
+    (let z : row + 0 ≡ row = omega arith in z) in
+    let z : 0 ≡ (grid_of c).own_high - row * c.factors.vertical = omega arith in z)
+own-rows c row (suc rows) h =
+    let vt = c.factors.vertical in
+    let high = (grid_of c).own_high in
+    let k = min vt (high - row * vt) in
+    let up : (row + 1) * vt ≡ row * vt + 1 * vt = add-mul row 1 vt in
+    let more : (row + 1 + rows) * vt ≡ (row + suc rows) * vt =
+    ap (λ (i : ℕ). i * vt) (let z : row + 1 + rows ≡ row + suc rows = omega arith in z) in
+    let rest = high - (row + 1) * vt in
+    let split : high - row * vt ≡ k + rest = omega arith in
+    ap₂ (λ (l m : List (List Spot)). l ++ m)
+    (own-lines c row 0 k ∙ ap (λ (i : ℕ). flat_map (line_at c) (range_with_len i k)) (let z : row * vt + 0
+    ≡ row * vt = omega arith in z))
+    (own-rows c (row + 1) rows (omega arith))
+    ∙ ap (λ (l : List ℕ). flat_map (line_at c) (range_with_len (row * vt) k) ++ flat_map (line_at c) l)
+    (start-same rest ((row + 1) * vt) (row * vt + k) (meets row vt high up))
+    ∙ sym (flat-both (line_at c) (range_with_len (row * vt) k) (range_with_len (row * vt + k) rest))
+    ∙ ap (flat_map (line_at c)) (sym (range-split (row * vt) k rest (high - row * vt) split))
+  where
+    -- where some lines are left, the row was full
+    meets : (row vt high : ℕ) → (row + 1) * vt ≡ row * vt + 1 * vt → (high - (row + 1) * vt ≡ 0)
+        ⊎ ((row + 1) * vt ≡ row * vt + min vt (high - row * vt))
+    meets row vt high up = go (high - (row + 1) * vt) refl
+      where
+        go : (n : ℕ) → high - (row + 1) * vt ≡ n → (high - (row + 1) * vt ≡ 0)
+            ⊎ ((row + 1) * vt ≡ row * vt + min vt (high - row * vt))
+        go zero e = inl e
+        go (suc n) e = inr (omega arith)
+
+    start-same : (n a b : ℕ) → (n ≡ 0) ⊎ (a ≡ b) → range_with_len a n ≡ range_with_len b n
+    start-same n a b (inl e) = ap (range_with_len a) e ∙ sym (ap (range_with_len b) e)
+    start-same n a b (inr e) = ap (λ (i : ℕ). range_with_len i n) e
+
+single-lines : (c : Component) (lines : List ℕ)
+    → map (λ (s : Spot). s ∷ []) (flat_map (λ row. map (λ column. record {
+      slot = 0;
+      index = row * c.blocks_wide + column;
+    }) (range_with_len 0 (grid_of c).own_wide)) lines)
+    ≡ flat_map (line_at c) lines
+single-lines c [] = refl
+single-lines c (r ∷ lines) = first (range_with_len 0 (grid_of c).own_wide)
+    ∙ ap (λ l. line_at c r ++ l) (single-lines c lines)
+  where
+    others : List Spot
+    others = flat_map (λ row. map (λ column. record { slot = 0; index = row * c.blocks_wide + column })
+        (range_with_len 0 (grid_of c).own_wide)) lines
+
+    first : (columns : List ℕ)
+        → map (λ (s : Spot). s ∷ []) (map (λ column. record { slot = 0; index = r * c.blocks_wide + column }) columns
+        ++ others)
+        ≡ map (λ column. record { slot = 0; index = r * c.blocks_wide + column } ∷ []) columns
+        ++ map (λ (s : Spot). s ∷ []) others
+    first [] = refl
+    first (k ∷ columns) = ap (λ l. (record { slot = 0; index = r * c.blocks_wide + k } ∷ []) ∷ l) (first columns)
+
+-- an own spot of a row of MCUs stands in the row's blocks
+own-inside : (frame : Frame) (c : Component) (row : ℕ) (arrays : Arrays) (s : Spot) → Fits frame c
+    → AreRows 1 (c ∷ []) arrays
+    → IsIn s (flat (own_row_mcus c row)) → IsInside arrays s
+unfolding own_row_mcus
+own-inside frame c row arrays s fits sized h =
+    let vt = c.factors.vertical in
+    let w = c.blocks_wide in
+    let lines = min vt ((grid_of c).own_high - row * vt) in
+    let g = in-flat-back (λ v. flat (line_at c v)) s 0 lines (subst (λ (l : List Spot). IsIn s l)
+    (flat-lines (range_with_len 0 lines)) h) in
+    let e = in-line-back (λ column. record { slot = 0; index = g.at * w + column }) s 0 (grid_of c).own_wide
+    (subst (λ (l : List Spot). IsIn s l) (flat-line g.at (range_with_len 0 (grid_of c).own_wide)) g.gives) in
+    let gh = g.between.high in
+    let eh = e.between.high in
+    let ow = fits.own_wide in
+    let column : e.at < w = omega arith in
+    let v : g.at < 1 * vt = omega arith in
+    let wp : 0 < w = omega arith in
+    let d : (g.at * w + e.at) / w ≡ g.at = div-mul-add g.at w e.at column in
+    let i : g.at * w + e.at < 1 * vt * w = (div-lt_iff_lt-mul wp).0 (omega arith) in
+    let a : 1 * vt * w ≡ 1 * (vt * w) = mul_assoc 1 vt w in
+    let z = rows-at 1 (c ∷ []) arrays 0 c sized refl in
+    subst (IsInside arrays) e.equal (record { slot = z.1; index = let l = z.0 in omega arith })
+  where
+    flat-line : (v : ℕ) (columns : List ℕ)
+        → flat (map (λ column. record { slot = 0; index = v * c.blocks_wide + column } ∷ []) columns)
+        ≡ map (λ column. record { slot = 0; index = v * c.blocks_wide + column }) columns
+    flat-line v [] = refl
+    flat-line v (k ∷ columns) = ap (λ l. record { slot = 0; index = v * c.blocks_wide + k } ∷ l) (flat-line v columns)
+
+    flat-lines : (lines : List ℕ) → flat (flat_map (line_at c) lines) ≡ flat_map (λ v. flat (line_at c v)) lines
+    flat-lines [] = refl
+    flat-lines (v ∷ lines) = flat-append (line_at c v) (flat_map (line_at c) lines)
+        ∙ ap (λ l. flat (line_at c v) ++ l) (flat-lines lines)
+
+-- A scan that begins with zeros is its rows of MCUs, each read into blocks of its own.
+rows-of-scan : (frame : Frame) (cs : List Component) (p : Pass) (vias : List Via) (n : ℕ) (bytes : List ℕ)
+    → AllByRecursion (Fits frame) cs
+    → AllByRecursion (IsRow cs) (rows_of frame cs) → length (rows_of frame cs) ≡ frame.mcus_high
+    → mcus_of frame cs ≡ placed_rows cs 0 (rows_of frame cs)
+    → scan_from p vias n (mcus_of frame cs) (zero_arrays cs) bytes ≡ scan_by_rows p vias n frame cs bytes
+unfolding scan_from scan_by_rows
+rows-of-scan frame cs p vias n bytes fits inside long placed =
+    let t = upcoming fresh bytes in
+    ap₂ (λ (m : List (List Spot)) (l : Arrays). finished (mcus_from p vias n m (counted_at_start n l) t)) placed
+    (all-zeros frame cs fits ∙ ap (λ (k : ℕ). joined (map (λ c. []) cs) (zero_rows k cs)) (sym long))
+    ∙ ap finished (rows-in-turn p vias n cs (rows_of frame cs) 0 (map (λ c. []) cs) (counted_at_start n []) t inside
+    (no-blocks cs))
+
+one-inside : (frame : Frame) (c : Component) → Fits frame c → AllByRecursion (IsRow (c ∷ [])) (rows_of frame (c ∷ []))
+unfolding rows_of
+one-inside frame c fits = all-rows (c ∷ []) (own_row_mcus c) 0 frame.mcus_high
+    (λ row. record { inside = λ arrays s sized h. own-inside frame c row arrays s fits sized h })
+
+one-long : (frame : Frame) (c : Component) → length (rows_of frame (c ∷ [])) ≡ frame.mcus_high
+unfolding rows_of
+one-long frame c = length-rows_of (own_row_mcus c) 0 frame.mcus_high
+
+one-placed : (frame : Frame) (c : Component) → Fits frame c
+    → mcus_of frame (c ∷ []) ≡ placed_rows (c ∷ []) 0 (rows_of frame (c ∷ []))
+unfolding rows_of mcus_of own_spots
+one-placed frame c fits =
+    let vt = c.factors.vertical in
+    let high = (grid_of c).own_high in
+    single-lines c (range_with_len 0 high)
+    ∙ ap₂ (λ (a n : ℕ). flat_map (line_at c) (range_with_len a n)) (let z : 0 ≡ 0 * vt = omega arith in
+    z) (let z : 0 * vt ≡ 0 = omega arith in let y : high ≡ high - 0 * vt = omega arith in y)
+    ∙ sym (own-rows c 0 frame.mcus_high
+    (let z : (0 + frame.mcus_high) * vt ≡ frame.mcus_high * vt = ap (λ (k : ℕ). k * vt) (let y : 0 + frame.mcus_high
+    ≡ frame.mcus_high = omega arith in y) in
+    let a = fits.own_high in let b = fits.high in omega arith))
+
+some-inside : (frame : Frame) (c d : Component) (more : List Component) → AllByRecursion (Fits frame) (c ∷ d ∷ more)
+    → AllByRecursion (IsRow (c ∷ d ∷ more)) (rows_of frame (c ∷ d ∷ more))
+unfolding rows_of
+some-inside frame c d more fits =
+    all-rows (c ∷ d ∷ more) (λ row. row_mcus frame.mcus_wide (c ∷ d ∷ more)) 0 frame.mcus_high
+    (λ row. record { inside = λ arrays s sized h. several-inside frame (c ∷ d ∷ more) arrays s fits sized h })
+
+some-long : (frame : Frame) (c d : Component) (more : List Component) → length (rows_of frame (c ∷ d ∷ more))
+    ≡ frame.mcus_high
+unfolding rows_of
+some-long frame c d more = length-rows_of (λ row. row_mcus frame.mcus_wide (c ∷ d ∷ more)) 0 frame.mcus_high
+
+some-placed : (frame : Frame) (c d : Component) (more : List Component)
+    → mcus_of frame (c ∷ d ∷ more) ≡ placed_rows (c ∷ d ∷ more) 0 (rows_of frame (c ∷ d ∷ more))
+unfolding rows_of mcus_of
+some-placed frame c d more = sym (several-rows frame.mcus_wide (c ∷ d ∷ more) 0 frame.mcus_high)
+
+pub scans-by-rows : (frame : Frame) (c : Component) (more : List Component) (p : Pass) (vias : List Via) (n : ℕ)
+    (bytes : List ℕ) → AllByRecursion (Fits frame) (c ∷ more)
+    → scan_from p vias n (mcus_of frame (c ∷ more)) (zero_arrays (c ∷ more)) bytes ≡ scan_by_rows p vias n frame
+    (c ∷ more) bytes
+scans-by-rows frame c [] p vias n bytes fits =
+    rows-of-scan frame (c ∷ []) p vias n bytes fits (one-inside frame c fits.0) (one-long frame c)
+    (one-placed frame c fits.0)
+scans-by-rows frame c (d ∷ more) p vias n bytes fits =
+    rows-of-scan frame (c ∷ d ∷ more) p vias n bytes fits (some-inside frame c d more fits) (some-long frame c d more)
+    (some-placed frame c d more)

@@ -1,0 +1,51 @@
+-- What is written for a stream, by its meaning.
+use Rattle.std.proofs.Common.{◌≡◌, ℕ, List, ◌++◌, Bool, true, false, option_map, Option, None, Some, Ok, Err, refl}
+use Rattle.std.proofs.Common.{IsSome, rules, inl, inr}
+use Rattle.jpeg_bits.specs.declared.error.Error.{Error}
+use Rattle.jpeg_bits.specs.declared.error.Error.TheVariants.{Format, Unsupported, Io, Internal, OutOfMemory}
+use Rattle.jpeg_bits.specs.Reading.{Fault, Malformed, Lacks, Names, IsGivenUp}
+use Rattle.jpeg_streams.specs.Pixels.{info_of}
+use Rattle.jpeg_streams.specs.Stream.{Told, meaning}
+use Rattle.jpeg_streams.specs.Output.{output_of, line_of, default_settings, IsOutsideOrMemory, NamesOrOutside}
+
+pub output-none : (bytes : List ℕ) (fault : Fault) → meaning default_settings bytes ≡ Err fault → output_of bytes ≡ None
+unfolding output_of
+output-none bytes fault e = rw (output_of, e) refl
+
+pub output-some : (bytes rest : List ℕ) (found : Told) (pixels : List ℕ)
+    → meaning default_settings bytes ≡ Ok ((found, pixels), rest)
+    → output_of bytes ≡ Some (line_of (option_map info_of found.frame) ++ pixels)
+unfolding output_of
+output-some bytes rest found pixels e = rw (output_of, e) refl
+
+not-some : {P : Type 0} (o : Option (List ℕ)) → o ≡ None → IsSome o → P
+not-some None e h = absurd (let n : ⊥ = search rules in n)
+not-some (Some x) e h = absurd (let n : ⊥ = cc in n)
+
+-- an error at a stream with a meaning is the reader's, or out of memory
+pub outside-decode : (known failed : Bool) (e : Error) (bytes : List ℕ)
+    → (known ≡ true → Names e (meaning default_settings bytes)) → (known ≡ false → IsGivenUp e failed)
+    → IsSome (output_of bytes) → IsOutsideOrMemory e
+outside-decode true failed (Format text) bytes r f s =
+    not-some (output_of bytes) (output-none bytes Malformed (r refl)) s
+outside-decode true failed (Unsupported feature) bytes r f s =
+    not-some (output_of bytes) (output-none bytes (Lacks feature) (r refl)) s
+outside-decode true failed (Io error) bytes r f s = tt
+outside-decode true failed (Internal text) bytes r f s = r refl
+outside-decode true failed OutOfMemory bytes r f s = tt
+outside-decode false failed (Format text) bytes r f s = f refl
+outside-decode false failed (Unsupported feature) bytes r f s = f refl
+outside-decode false failed (Io error) bytes r f s = tt
+outside-decode false failed (Internal text) bytes r f s = f refl
+outside-decode false failed OutOfMemory bytes r f s = tt
+
+-- an error names the stream's fault, or is the reader's, or out of memory
+pub named-decode : (known failed : Bool) (e : Error) (bytes : List ℕ)
+    → (known ≡ true → Names e (meaning default_settings bytes)) → (known ≡ false → IsGivenUp e failed)
+    → NamesOrOutside bytes e
+named-decode true failed e bytes r f = inl (r refl)
+named-decode false failed (Format text) bytes r f = inr (f refl)
+named-decode false failed (Unsupported feature) bytes r f = inr (f refl)
+named-decode false failed (Io error) bytes r f = inr tt
+named-decode false failed (Internal text) bytes r f = inr (f refl)
+named-decode false failed OutOfMemory bytes r f = inr tt

@@ -1,0 +1,208 @@
+-- The order of a scan reaches each block of its components.
+use Rattle.std.proofs.Common.{◌≡◌, ◌⊎◌, inl, inr, ℕ, zero, suc, ◌+◌, ◌*◌, ◌/◌, ◌%◌, ◌<◌, ◌≤◌, true, false, List, []}
+use Rattle.std.proofs.Common.{◌∷◌, ◌++◌, map, length, get_or, refl, sym, ap, ap₂, ◌∙◌, subst, arith, leb}
+use Rattle.std.proofs.Math.Nat.{div-lt_iff_lt-mul, mod-lt}
+use Rattle.std.proofs.lemmas.Nat.{div-add-mod', div-mul-add, mod-mul-add}
+use Rattle.std.proofs.lemmas.Bool.Decides.{leb_tells}
+use Rattle.std.specs.List.{AllByRecursion, range_with_len, flat_map}
+use Rattle.jpeg_segments.specs.Frame.{Frame, Component}
+use Rattle.jpeg_streams.specs.declared.grids.Grid.{Grid}
+use Rattle.jpeg_streams.specs.Order.{Spot, grid_of, own_spots, part_spots, mcu_spots, all_spots, spots_of}
+use Rattle.jpeg_streams.specs.WrittenScans.{IsOwn}
+use Rattle.jpeg_streams.specs.InTurn.{IsIn}
+
+-- ---- lists
+
+pub in-map : {A B : Type 0} (f : A → B) (x : A) (xs : List A) → IsIn x xs → IsIn (f x) (map f xs)
+in-map f x [] h = absurd h
+in-map f x (y ∷ xs) (inl e) = inl (ap f e)
+in-map f x (y ∷ xs) (inr t) = inr (in-map f x xs t)
+
+pub in-front : {A : Type 0} (x : A) (xs ys : List A) → IsIn x xs → IsIn x (xs ++ ys)
+in-front x [] ys h = absurd h
+in-front x (y ∷ xs) ys (inl e) = inl e
+in-front x (y ∷ xs) ys (inr t) = inr (in-front x xs ys t)
+
+pub in-back : {A : Type 0} (x : A) (xs ys : List A) → IsIn x ys → IsIn x (xs ++ ys)
+in-back x [] ys h = h
+in-back x (y ∷ xs) ys h = inr (in-back x xs ys h)
+
+pub in-flat : {A B : Type 0} (f : A → List B) (x : B) (y : A) (ys : List A) → IsIn y ys → IsIn x (f y)
+    → IsIn x (flat_map f ys)
+in-flat f x y [] h k = absurd h
+in-flat f x y (z ∷ ys) (inl e) k = in-front x (f z) (flat_map f ys) (subst (λ w. IsIn x (f w)) (sym e) k)
+in-flat f x y (z ∷ ys) (inr t) k = in-back x (f z) (flat_map f ys) (in-flat f x y ys t k)
+
+pub in-range : (k a n : ℕ) → a ≤ k → k < a + n → IsIn k (range_with_len a n)
+in-range k a zero h lt = absurd (omega arith)
+in-range k a (suc n) h lt = go (leb_tells k a) (λ g. in-range k (a + 1) n (omega arith) (omega arith))
+  where
+    go : ((leb k a ≡ true) × (k ≤ a)) ⊎ ((leb k a ≡ false) × (a < k)) → (a < k → IsIn k (range_with_len (a + 1) n))
+        → IsIn k (range_with_len a (suc n))
+    go (inl x) ih = inl (omega arith)
+    go (inr x) ih = inr (ih x.1)
+
+pub in-below : (k n : ℕ) → k < n → IsIn k (range_with_len 0 n)
+in-below k n h = in-range k 0 n (omega arith) (omega arith)
+
+pub all-append : {A : Type 0} (Q : A → Type 0) (xs ys : List A) → AllByRecursion Q xs → AllByRecursion Q ys
+    → AllByRecursion Q (xs ++ ys)
+all-append Q [] ys h k = k
+all-append Q (x ∷ xs) ys h k = (h.0, all-append Q xs ys h.1 k)
+
+-- over the numbers from a on
+pub all-flat : {B : Type 0} (Q : B → Type 0) (f : ℕ → List B) (a n : ℕ)
+    → ((k : ℕ) → a ≤ k → k < a + n → AllByRecursion Q (f k)) → AllByRecursion Q (flat_map f (range_with_len a n))
+all-flat Q f a zero h = tt
+all-flat Q f a (suc n) h =
+    all-append Q (f a) (flat_map f (range_with_len (a + 1) n)) (h a (omega arith) (omega arith))
+    (all-flat Q f (a + 1) n (λ k g l. h k (omega arith) (omega arith)))
+
+pub all-line : {B : Type 0} (Q : B → Type 0) (f : ℕ → B) (a n : ℕ) → ((k : ℕ) → a ≤ k → k < a + n → Q (f k))
+    → AllByRecursion Q (map f (range_with_len a n))
+all-line Q f a zero h = tt
+all-line Q f a (suc n) h =
+    (h a (omega arith) (omega arith), all-line Q f (a + 1) n (λ k g l. h k (omega arith) (omega arith)))
+
+-- x stands at place j
+abbrev pub At : {A : Type 0} → ℕ → List A → A → Type 0
+At j [] x = ⊥
+At zero (y ∷ ys) x = y ≡ x
+At (suc j) (y ∷ ys) x = At j ys x
+
+pub at-some : {A : Type 0} (j : ℕ) (xs : List A) → j < length xs → (x : A) × At j xs x
+at-some j [] h = absurd (omega arith)
+at-some zero (x ∷ xs) h = (x, refl)
+at-some (suc j) (x ∷ xs) h = at-some j xs (omega arith)
+
+pub at-within : {A : Type 0} (j : ℕ) (xs : List A) (x : A) → At j xs x → j < length xs
+at-within j [] x h = absurd h
+at-within zero (y ∷ xs) x h = omega arith
+at-within (suc j) (y ∷ xs) x h = let r = at-within j xs x h in omega arith
+
+pub at-get : {A B : Type 0} (f : A → B) (d : B) (j : ℕ) (xs : List A) (x : A) → At j xs x → get_or (map f xs) j d ≡ f x
+at-get f d j [] x h = absurd h
+at-get f d zero (y ∷ xs) x h = ap f h
+at-get f d (suc j) (y ∷ xs) x h = at-get f d j xs x h
+
+pub get-beyond : {A : Type 0} (d : A) (j : ℕ) (xs : List A) → length xs ≤ j → get_or xs j d ≡ d
+get-beyond d j [] h = refl
+get-beyond d zero (x ∷ xs) h = absurd (omega arith)
+get-beyond d (suc j) (x ∷ xs) h = get-beyond d j xs (omega arith)
+
+-- ---- one component
+
+pub own-covered : (g : Grid) (s : Spot) → s.slot ≡ 0 → IsOwn g s.index → IsIn s (own_spots g)
+unfolding own_spots
+own-covered g s e own =
+    let row = s.index / g.wide in
+    let column = s.index % g.wide in
+    let at : ℕ → ℕ → Spot = λ r k. record { slot = 0; index = r * g.wide + k } in
+    let line : ℕ → List Spot = λ r. map (at r) (range_with_len 0 g.own_wide) in
+    let here : IsIn (at row column) (flat_map line (range_with_len 0 g.own_high))
+    = in-flat line (at row column) row (range_with_len 0 g.own_high) (in-below row g.own_high own.row)
+    (in-map (at row) column (range_with_len 0 g.own_wide) (in-below column g.own_wide own.column)) in
+    subst (λ (x : Spot). IsIn x (flat_map line (range_with_len 0 g.own_high)))
+    (ap₂ (λ (k i : ℕ). record { slot = k; index = i }) (sym e) (div-add-mod' s.index g.wide)) here
+
+-- a spot of the component in slot 0, of its own blocks
+pub record IsOwnSpot (g : Grid) (s : Spot) : Type 0 where
+  pub slot : s.slot ≡ 0
+  pub own : IsOwn g s.index
+
+pub own-only : (g : Grid) → g.own_wide ≤ g.wide → AllByRecursion (IsOwnSpot g) (own_spots g)
+unfolding own_spots
+own-only g h =
+    all-flat (IsOwnSpot g)
+    (λ row. map (λ column. record { slot = 0; index = row * g.wide + column }) (range_with_len 0 g.own_wide)) 0
+    g.own_high (λ row a lt.
+    all-line (IsOwnSpot g) (λ column. record { slot = 0; index = row * g.wide + column }) 0 g.own_wide (λ column b l.
+    let within : column < g.wide = omega arith in
+    record {
+      slot = refl;
+      own = record {
+        row = let e = div-mul-add row g.wide column within in omega arith;
+        column = let e = mod-mul-add row g.wide column within in omega arith;
+      };
+    }))
+
+-- ---- several components
+
+-- A component's blocks fill its part of all MCUs, and its own blocks are among them.
+pub record Fits (frame : Frame) (c : Component) : Type 0 where
+  pub horizontal : 0 < c.factors.horizontal
+  pub vertical : 0 < c.factors.vertical
+  pub wide : c.blocks_wide ≡ frame.mcus_wide * c.factors.horizontal
+  pub high : c.blocks_high ≡ frame.mcus_high * c.factors.vertical
+  pub own_wide : (grid_of c).own_wide ≤ c.blocks_wide
+  pub own_high : (grid_of c).own_high ≤ c.blocks_high
+
+pub in-mcu : (row column base j : ℕ) (components : List Component) (c : Component) (s : Spot) → At j components c
+    → IsIn s (part_spots row column (base + j) c) → IsIn s (mcu_spots row column base components)
+unfolding mcu_spots
+in-mcu row column base j [] c s h k = absurd h
+in-mcu row column base zero (d ∷ more) c s h k =
+    let e : base + 0 ≡ base = omega arith in
+    in-front s (part_spots row column base d) (mcu_spots row column (base + 1) more)
+    (subst (λ (x : Component). IsIn s (part_spots row column base x)) (sym h)
+    (subst (λ (n : ℕ). IsIn s (part_spots row column n c)) e k))
+in-mcu row column base (suc j) (d ∷ more) c s h k =
+    let e : base + suc j ≡ (base + 1) + j = omega arith in
+    in-back s (part_spots row column base d) (mcu_spots row column (base + 1) more)
+    (in-mcu row column (base + 1) j more c s h (subst (λ (n : ℕ). IsIn s (part_spots row column n c)) e k))
+
+place-parts : (i w hz vt : ℕ) → (i / w / vt * vt + i / w % vt) * w + (i % w / hz * hz + i % w % hz) ≡ i
+place-parts i w hz vt = ap₂ (λ (r k : ℕ). r * w + k) (div-add-mod' (i / w) vt) (div-add-mod' (i % w) hz)
+    ∙ div-add-mod' i w
+
+pub all-covered : (frame : Frame) (components : List Component) (c : Component) (s : Spot) → At s.slot components c
+    → Fits frame c
+    → IsOwn (grid_of c) s.index → IsIn s (all_spots frame.mcus_wide frame.mcus_high components)
+unfolding all_spots part_spots
+all-covered frame components c s here fits own =
+    let w = c.blocks_wide in
+    let hz = c.factors.horizontal in
+    let vt = c.factors.vertical in
+    let row = s.index / w in
+    let col = s.index % w in
+    let y = row / vt in
+    let x = col / hz in
+    let row-in : row < frame.mcus_high * vt = let a = own.row in let b = fits.own_high in let e = fits.high in
+    omega arith in
+    let col-in : col < frame.mcus_wide * hz = let a = own.column in let b = fits.own_wide in let e = fits.wide in
+    omega arith in
+    let y-in : y < frame.mcus_high = (div-lt_iff_lt-mul fits.vertical).1 row-in in
+    let x-in : x < frame.mcus_wide = (div-lt_iff_lt-mul fits.horizontal).1 col-in in
+    let v = row % vt in
+    let h = col % hz in
+    let at : ℕ → ℕ → Spot = λ b a. record { slot = s.slot; index = (y * vt + b) * w + (x * hz + a) } in
+    let line : ℕ → List Spot = λ b. map (at b) (range_with_len 0 hz) in
+    let in-part : IsIn (at v h) (part_spots y x s.slot c)
+    = in-flat line (at v h) v (range_with_len 0 vt) (in-below v vt (mod-lt row fits.vertical))
+    (in-map (at v) h (range_with_len 0 hz) (in-below h hz (mod-lt col fits.horizontal))) in
+    let zero-more : s.slot ≡ 0 + s.slot = omega arith in
+    let in-one : IsIn (at v h) (mcu_spots y x 0 components)
+    = in-mcu y x 0 s.slot components c (at v h) here
+    (subst (λ (n : ℕ). IsIn (at v h) (part_spots y x n c)) zero-more in-part) in
+    let across : ℕ → List Spot = λ b. flat_map (λ a. mcu_spots b a 0 components) (range_with_len 0 frame.mcus_wide) in
+    let found : IsIn (at v h) (flat_map across (range_with_len 0 frame.mcus_high))
+    = in-flat across (at v h) y (range_with_len 0 frame.mcus_high) (in-below y frame.mcus_high y-in)
+    (in-flat (λ a. mcu_spots y a 0 components) (at v h) x (range_with_len 0 frame.mcus_wide)
+    (in-below x frame.mcus_wide x-in) in-one) in
+    subst (λ (k : ℕ). IsIn (record { slot = s.slot; index = k }) (flat_map across (range_with_len 0 frame.mcus_high)))
+    (place-parts s.index w hz vt) found
+
+-- each own block of a scan's component stands in its order
+pub covered : (frame : Frame) (components : List Component) (c : Component) (s : Spot) → At s.slot components c
+    → Fits frame c
+    → IsOwn (grid_of c) s.index → IsIn s (spots_of frame components)
+unfolding spots_of
+covered frame [] c s here fits own = absurd here
+covered frame (d ∷ []) c s here fits own =
+    let alone = only s.slot here in
+    own-covered (grid_of d) s alone.0 (subst (λ (x : Component). IsOwn (grid_of x) s.index) (sym alone.1) own)
+  where
+    only : (j : ℕ) → At j (d ∷ []) c → (j ≡ 0) × (d ≡ c)
+    only zero h = (refl, h)
+    only (suc j) h = absurd h
+covered frame (d ∷ e ∷ more) c s here fits own = all-covered frame (d ∷ e ∷ more) c s here fits own

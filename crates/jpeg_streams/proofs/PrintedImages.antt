@@ -1,0 +1,66 @@
+-- A run that prints the meaning of a stream prints images.
+use Rattle.std.proofs.Common.{◌≡◌, ℕ, ◌++◌, List, Option, Some, None, Result, Ok, Err, refl, IsSome, ap, rules, subst}
+use Rattle.std.specs.Prelude.{IfErr, IsSomeAnd, OnOk, option_map}
+use Rattle.std.specs.Io.KnownBytes.{Appends}
+use Rattle.jpeg_bits.specs.Reading.{Outcome}
+use Rattle.jpeg_bits.specs.declared.error.Error.{Error}
+use Rattle.jpeg_streams.specs.ArrayPictures.{picture_of_array, Takes}
+use Rattle.jpeg_streams.specs.Levels.{Is8Bit, Levels}
+use Rattle.jpeg_streams.specs.Output.{default_settings, line_of, output_of, IsOutsideOrMemory, TakesBeginning, Tells}
+use Rattle.jpeg_streams.specs.PrintedImages.{Prints, PrintsImages}
+use Rattle.jpeg_streams.specs.Pixels.{info_of}
+use Rattle.jpeg_streams.specs.Stream.{Found, Told}
+use Rattle.jpeg_streams.specs.WrittenImages.{WritesImage}
+use Rattle.jpeg_streams.specs.WrittenScans.{Coefficients}
+use Rattle.jpeg_streams.proofs.AcceptedImages.{image-accepted}
+use Rattle.jpeg_streams.proofs.WrittenPictures.{taken-means}
+
+-- what is written for a stream of an image
+pub image-output : (array : Coefficients) (image rest : List ℕ) (final : Found) (last : ℕ → Levels)
+    → ((place row column : ℕ) → Is8Bit (array place row column)) → WritesImage array image final last
+    → Takes default_settings final
+    → (picture : List ℕ) × (picture_of_array default_settings final array last ≡ Ok picture)
+    × (output_of (image ++ rest) ≡ Some (line_of (option_map info_of final.frame) ++ picture))
+unfolding output_of
+image-output array image rest final last range w takes =
+    let p = taken-means default_settings array rest (image ++ rest) final last range (image-accepted array rest image
+    final last w) takes in (
+      p.0,
+      p.1,
+      ap (λ (o : Outcome (Told × List ℕ)). elim o as (λ _. Option (List ℕ)) [
+        | Ok stream ↦ Some (line_of (option_map info_of stream.0.0.frame) ++ stream.0.1)
+        | Err fault ↦ None
+      ]) p.2,
+    )
+
+some-and : (o : Option (List ℕ)) (text : List ℕ) (P : List ℕ → Type 0) → o ≡ Some text → IsSomeAnd o P → P text
+some-and None text P e h = absurd (let n : ⊥ = cc in n)
+some-and (Some x) text P e h = let same : x ≡ text = cc in subst P same h
+
+is-some : (o : Option (List ℕ)) (text : List ℕ) → o ≡ Some text → IsSome o
+is-some o text e = rw e refl
+
+prints : {X : Type 0} (bytes text : List ℕ) (old new : Option (List ℕ)) (result : Result X Error)
+    → output_of bytes ≡ Some text
+    → OnOk result (IsSomeAnd (output_of bytes) (Appends old new))
+    → ((text : List ℕ) → output_of bytes ≡ Some text → TakesBeginning old new text)
+    → (IsSome (output_of bytes) → IfErr result IsOutsideOrMemory)
+    → Prints text old result new
+prints bytes text old new (Ok x) e ok beginning refused = some-and (output_of bytes) text (Appends old new) e ok
+prints bytes text old new (Err x) e ok beginning refused =
+    (refused (is-some (output_of bytes) text e), beginning text e)
+
+pub prints-images : {X : Type 0} (remaining old new : Option (List ℕ)) (result : Result X Error)
+    → ((bytes : List ℕ) → Tells remaining bytes → OnOk result (IsSomeAnd (output_of bytes) (Appends old new)))
+    → ((bytes : List ℕ) → Tells remaining bytes → (text : List ℕ) → output_of bytes ≡ Some text
+    → TakesBeginning old new text)
+    → ((bytes : List ℕ) → Tells remaining bytes → IsSome (output_of bytes) → IfErr result IsOutsideOrMemory)
+    → PrintsImages remaining old result new
+prints-images remaining old new result ok beginning refused array image rest final last range w takes tells =
+    let p = image-output array image rest final last range w takes in
+    let bytes = image ++ rest in (
+      p.0,
+      p.1,
+      prints bytes (line_of (option_map info_of final.frame) ++ p.0) old new result p.2 (ok bytes tells)
+          (beginning bytes tells) (refused bytes tells),
+    )

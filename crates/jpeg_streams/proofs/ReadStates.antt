@@ -1,0 +1,407 @@
+-- What a decoder holds after the scans of a written stream.
+use Rattle.std.proofs.Common.{◌≡◌, ◌≢◌, ◌⊎◌, inl, inr, ℕ, zero, suc, ◌-◌, ◌<◌, ◌≤◌, Bool, true, false, List, [], ◌∷◌}
+use Rattle.std.proofs.Common.{map, length, take, drop, get_or, set, slice_index_or, Option, Some, None, refl, sym, ap}
+use Rattle.std.proofs.Common.{◌∙◌, subst, arith, length-set, get_or-set_same, get_or-set_other, leb}
+use Rattle.std.proofs.lemmas.Bool.{eq-eqb}
+use Rattle.std.proofs.lemmas.Bool.Decides.{leb_tells}
+use Rattle.std.proofs.lemmas.List.Folds.{list_all_at}
+use Rattle.std.specs.List.{AllByRecursion, list_all}
+use lib.ListN.{length-map}
+use Rattle.jpeg_segments.specs.Frame.{Frame, Component}
+use Rattle.jpeg_bits.specs.Passes.{Pass, Block, before_band, band_size}
+use Rattle.jpeg_streams.specs.Order.{grid_of}
+use Rattle.jpeg_streams.specs.Scans.{Arrays}
+use Rattle.jpeg_streams.specs.Stream.{Coding, Found, none_finished, finished_by, decided, plane_by, with_plane}
+use Rattle.jpeg_streams.specs.Stream.{with_blocks, with_arrays, put_arrays}
+use Rattle.jpeg_streams.specs.Levels.{Levels, IsLegal, sent_after}
+use Rattle.jpeg_streams.proofs.FinishedPlaces.{is_level_0}
+use Rattle.jpeg_streams.specs.WrittenScans.{Coefficients, levels_of_one, levels_after}
+use Rattle.jpeg_streams.proofs.PlacesApart.{IsAbsent, AreApart}
+use Rattle.jpeg_streams.proofs.WrittenIntervals.{not-equal}
+use Rattle.jpeg_streams.proofs.FinishedMarks.{marks_of, IsBand, marks-after}
+use Rattle.jpeg_streams.proofs.FinishedPlaces.{dc-open}
+use Rattle.jpeg_streams.proofs.OwnSpots.{At, at-within}
+use Rattle.jpeg_streams.proofs.WrittenFrameScans.{HoldsOwn}
+
+-- what was said, with what scans have brought
+abbrev pub reading : Found → Bool → Arrays → List (List Bool) → List (Option (List ℕ)) → Found
+reading w s h fi pl = record w { scanned = s; held = h; finished = fi; planes = pl }
+
+abbrev pub is_whole : Levels → Bool
+is_whole l = list_all (λ mark. mark) (marks_of l)
+
+-- the plane of a component is decided, of its own blocks
+pub record HasPlane (w : Found) (array : Coefficients) (l : Levels) (pl : List (Option (List ℕ))) (k : ℕ)
+    (c : Component) : Type 0 where
+  pub table : List ℕ
+  pub is_table : slice_index_or w.quantization c.factors.quantization None ≡ Some table
+  pub blocks : List Block
+  pub holds : HoldsOwn (grid_of c) (array k) l blocks
+  pub plane : slice_index_or pl k None ≡ Some (plane_by c table blocks)
+
+pub record PlaneSo (w : Found) (array : Coefficients) (l : Levels) (pl : List (Option (List ℕ))) (k : ℕ)
+    (c : Component) : Type 0 where
+  pub decided : is_whole l ≡ true → HasPlane w array l pl k c
+  pub undecided : is_whole l ≡ false → slice_index_or pl k None ≡ None
+
+-- the marks and the planes are those of the levels
+pub record Marked (w : Found) (frame : Frame) (array : Coefficients) (levels : ℕ → Levels) (fi : List (List Bool))
+    (pl : List (Option (List ℕ))) : Type 0 where
+  pub fi_count : length fi ≡ 4
+  pub pl_count : length pl ≡ 4
+  pub marks : (k : ℕ) (c : Component) → At k frame.components c
+      → slice_index_or fi k none_finished ≡ marks_of (levels k)
+  pub planes : (k : ℕ) (c : Component) → At k frame.components c → PlaneSo w array (levels k) pl k c
+
+-- ---- numbers and lists
+
+pub eqb_cases : (a b : ℕ) → (a ≡ b) ⊎ (a ≢ b)
+eqb_cases a b = either (leb_tells a b) (leb_tells b a)
+  where
+    either : ((leb a b ≡ true) × (a ≤ b)) ⊎ ((leb a b ≡ false) × (b < a))
+        → ((leb b a ≡ true) × (b ≤ a)) ⊎ ((leb b a ≡ false) × (a < b)) → (a ≡ b) ⊎ (a ≢ b)
+    either (inl x) (inl y) = inl (omega arith)
+    either (inl x) (inr y) = inr (omega arith)
+    either (inr x) y = inr (omega arith)
+
+pub at-one : {A : Type 0} (j : ℕ) (xs : List A) (x y : A) → At j xs x → At j xs y → x ≡ y
+at-one j [] x y h k = absurd h
+at-one zero (z ∷ xs) x y h k = sym h ∙ k
+at-one (suc j) (z ∷ xs) x y h k = at-one j xs x y h k
+
+pub first-of_band : {A : Type 0} (Q : A → Type 0) (d : A) (b n : ℕ) (xs : List A)
+    → AllByRecursion Q (take (suc n) (drop b xs)) → b < length xs → Q (get_or xs b d)
+first-of_band Q d b n [] h lt = absurd (omega arith)
+first-of_band Q d zero n (x ∷ xs) h lt = h.0
+first-of_band Q d (suc b) n (x ∷ xs) h lt = first-of_band Q d b n xs h (omega arith)
+
+-- ---- levels
+
+pub one-same : (p : Pass) (place : ℕ) (levels : ℕ → Levels)
+    → levels_of_one p place levels place ≡ sent_after p (levels place)
+one-same p place levels = rw (eq-eqb place place refl, levels_of_one) refl
+
+pub one-other : (p : Pass) (place k : ℕ) (levels : ℕ → Levels) → k ≢ place → levels_of_one p place levels k ≡ levels k
+one-other p place k levels n = rw (not-equal k place n, levels_of_one) refl
+
+get-map : (f : Option ℕ → Bool) (xs : List (Option ℕ)) (i : ℕ) → i < length xs
+    → get_or (map f xs) i true ≡ f (get_or xs i None)
+get-map f [] i h = absurd (omega arith)
+get-map f (x ∷ xs) zero h = refl
+get-map f (x ∷ xs) (suc i) h = get-map f xs i (omega arith)
+
+-- a legal scan finds something that isn't finished
+pub legal-open : (p : Pass) (l : Levels) → IsLegal p l → IsBand p → length l.acs ≡ 63 → is_whole l ≡ false
+legal-open p l legal band h = go p.ss refl
+  where
+    first_open : (b : ℕ) → p.ss ≡ suc b → (f : Bool) → p.is_first ≡ f → is_level_0 (get_or l.acs b None) ≡ false
+    first_open b e true f =
+        let n : band_size p ≡ suc (p.se - p.ss) = let r = band.rising in omega arith in
+        let s : before_band p ≡ b = omega arith in
+        let all : AllByRecursion (λ x. x ≡ None) (take (suc (p.se - p.ss)) (drop b l.acs))
+        = subst (λ (k : ℕ). AllByRecursion (λ x. x ≡ None) (take k (drop b l.acs))) n
+        (subst (λ (k : ℕ). AllByRecursion (λ x. x ≡ None) (take (band_size p) (drop k l.acs))) s (legal.acs_unsent f))
+        in
+        ap is_level_0 (first-of_band (λ x. x ≡ None) None b (p.se - p.ss) l.acs all
+        (let r = band.rising in let t = band.within in omega arith))
+    first_open b e false f =
+        let n : band_size p ≡ suc (p.se - p.ss) = let r = band.rising in omega arith in
+        let s : before_band p ≡ b = omega arith in
+        let all : AllByRecursion (λ x. x ≡ Some (suc p.al)) (take (suc (p.se - p.ss)) (drop b l.acs))
+        = subst (λ (k : ℕ). AllByRecursion (λ x. x ≡ Some (suc p.al)) (take k (drop b l.acs))) n
+        (subst (λ (k : ℕ). AllByRecursion (λ x. x ≡ Some (suc p.al)) (take (band_size p) (drop k l.acs))) s
+        (legal.acs_sent f)) in
+        ap is_level_0 (first-of_band (λ x. x ≡ Some (suc p.al)) None b (p.se - p.ss) l.acs all
+        (let r = band.rising in let t = band.within in omega arith))
+
+    go : (n : ℕ) → p.ss ≡ n → is_whole l ≡ false
+    go zero e = list_all_at (λ (mark : Bool). mark) (marks_of l) 0 true (omega arith)
+        (dc-open p l legal e p.is_first refl)
+    go (suc b) e =
+        let within : b < length l.acs = let r = band.rising in let t = band.within in omega arith in
+        let count = length-map l.acs is_level_0 in
+        list_all_at (λ (mark : Bool). mark) (marks_of l) (suc b) true (omega arith)
+        (get-map is_level_0 l.acs b within ∙ first_open b e p.is_first refl)
+
+-- ---- one component of a scan
+
+-- a component of the scan, and its blocks after it
+pub record CodingDone (w : Found) (frame : Frame) (p : Pass) (array : Coefficients) (levels : ℕ → Levels) (k : Coding)
+    (blocks : List Block) : Type 0 where
+  pub at : At k.place frame.components k.component
+  pub table : slice_index_or w.quantization k.component.factors.quantization None ≡ Some k.quantization
+  pub legal : IsLegal p (levels k.place)
+  pub sized : length (levels k.place).acs ≡ 63
+  pub holds : HoldsOwn (grid_of k.component) (array k.place) (sent_after p (levels k.place)) blocks
+
+plane-yes : (k : Coding) (blocks : List Block) (marks : List Bool) (pl : List (Option (List ℕ)))
+    → list_all (λ mark. mark) marks ≡ true
+    → with_plane k blocks marks pl
+    ≡ set pl k.place (decided (slice_index_or pl k.place None) (plane_by k.component k.quantization blocks))
+unfolding with_plane
+plane-yes k blocks marks pl e = rw (e, with_plane) refl
+
+plane-no : (k : Coding) (blocks : List Block) (marks : List Bool) (pl : List (Option (List ℕ)))
+    → list_all (λ mark. mark) marks ≡ false
+    → with_plane k blocks marks pl ≡ pl
+unfolding with_plane
+plane-no k blocks marks pl e = rw (e, with_plane) refl
+
+plane-count : (k : Coding) (blocks : List Block) (marks : List Bool) (pl : List (Option (List ℕ)))
+    → length (with_plane k blocks marks pl) ≡ length pl
+plane-count k blocks marks pl = go (list_all (λ mark. mark) marks) refl
+  where
+    go : (b : Bool) → list_all (λ mark. mark) marks ≡ b → length (with_plane k blocks marks pl) ≡ length pl
+    go true e = ap length (plane-yes k blocks marks pl e)
+        ∙ length-set pl k.place
+        (decided (slice_index_or pl k.place None) (plane_by k.component k.quantization blocks))
+    go false e = ap length (plane-no k blocks marks pl e)
+
+plane-other : (k : Coding) (blocks : List Block) (marks : List Bool) (pl : List (Option (List ℕ))) (j : ℕ) → j ≢ k.place
+    → slice_index_or (with_plane k blocks marks pl) j None ≡ slice_index_or pl j None
+plane-other k blocks marks pl j n = go (list_all (λ mark. mark) marks) refl
+  where
+    go : (b : Bool) → list_all (λ mark. mark) marks ≡ b
+        → slice_index_or (with_plane k blocks marks pl) j None ≡ slice_index_or pl j None
+    go true e =
+        ap (λ (l : List (Option (List ℕ))). slice_index_or l j None) (plane-yes k blocks marks pl e)
+        ∙ get_or-set_other pl k.place j
+        (decided (slice_index_or pl k.place None) (plane_by k.component k.quantization blocks)) None n
+    go false e = ap (λ (l : List (Option (List ℕ))). slice_index_or l j None) (plane-no k blocks marks pl e)
+
+module _ (w : Found) (frame : Frame) (p : Pass) (array : Coefficients) (levels : ℕ → Levels) (k : Coding)
+    (blocks : List Block) (fi : List (List Bool)) (pl : List (Option (List ℕ)))
+    (few : length frame.components ≤ 4) (band : IsBand p) (done : CodingDone w frame p array levels k blocks)
+    (before : Marked w frame array levels fi pl) where
+  abbrev marks : List Bool
+  marks = finished_by p (slice_index_or fi k.place none_finished)
+
+  abbrev next : Levels
+  next = sent_after p (levels k.place)
+
+  marks-are : marks ≡ marks_of next
+  marks-are = ap (finished_by p) (before.marks k.place k.component done.at)
+      ∙ marks-after p (levels k.place) done.legal band done.sized
+
+  was-open : is_whole (levels k.place) ≡ false
+  was-open = legal-open p (levels k.place) done.legal band done.sized
+
+  was-none : slice_index_or pl k.place None ≡ None
+  was-none = (before.planes k.place k.component done.at).undecided was-open
+
+  place-in : k.place < 4
+  place-in = let h = at-within k.place frame.components k.component done.at in omega arith
+
+  plane-own : PlaneSo w array next (with_plane k blocks marks pl) k.place k.component
+  plane-own = record {
+    decided = λ e. record {
+      table = k.quantization;
+      is_table = done.table;
+      blocks = blocks;
+      holds = done.holds;
+      plane = ap (λ (l : List (Option (List ℕ))). slice_index_or l k.place None)
+          (plane-yes k blocks marks pl (ap (list_all (λ mark. mark)) marks-are ∙ e))
+          ∙ get_or-set_same pl k.place
+          (decided (slice_index_or pl k.place None) (plane_by k.component k.quantization blocks)) None
+          (let h = place-in in let c = before.pl_count in omega arith)
+          ∙ ap (λ (o : Option (List ℕ)). decided o (plane_by k.component k.quantization blocks)) was-none;
+    };
+    undecided = λ e. ap (λ (l : List (Option (List ℕ))). slice_index_or l k.place None)
+        (plane-no k blocks marks pl (ap (list_all (λ mark. mark)) marks-are ∙ e)) ∙ was-none;
+  }
+
+  plane-moved : (j : ℕ) (c : Component) → At j frame.components c → (j ≡ k.place) ⊎ (j ≢ k.place)
+      → PlaneSo w array (levels_of_one p k.place levels j) (with_plane k blocks marks pl) j c
+  plane-moved j c h (inl e) =
+      let own : c ≡ k.component =
+      at-one k.place frame.components c k.component (subst (λ (i : ℕ). At i frame.components c) e h) done.at in
+      subst (λ (i : ℕ). PlaneSo w array (levels_of_one p k.place levels i) (with_plane k blocks marks pl) i c) (sym e)
+      (subst (λ (d : Component). PlaneSo w array (levels_of_one p k.place levels k.place)
+      (with_plane k blocks marks pl) k.place d) (sym own)
+      (subst (λ (l : Levels). PlaneSo w array l (with_plane k blocks marks pl) k.place k.component)
+      (sym (one-same p k.place levels)) plane-own))
+  plane-moved j c h (inr n) =
+      let old = before.planes j c h in
+      let same = plane-other k blocks marks pl j n in
+      subst (λ (l : Levels). PlaneSo w array l (with_plane k blocks marks pl) j c)
+      (sym (one-other p k.place j levels n))
+      (record {
+        decided = λ e. let o = old.decided e in
+            record {
+              table = o.table;
+              is_table = o.is_table;
+              blocks = o.blocks;
+              holds = o.holds;
+              plane = same
+                  ∙ o.plane;
+            };
+        undecided = λ e. same ∙ old.undecided e;
+      })
+
+  marks-moved : (j : ℕ) (c : Component) → At j frame.components c → (j ≡ k.place) ⊎ (j ≢ k.place)
+      → slice_index_or (set fi k.place marks) j none_finished ≡ marks_of (levels_of_one p k.place levels j)
+  marks-moved j c h (inl e) =
+      ap (λ (i : ℕ). slice_index_or (set fi k.place marks) i none_finished) e
+      ∙ get_or-set_same fi k.place marks none_finished (let h = place-in in let c = before.fi_count in omega arith)
+      ∙ marks-are ∙ ap marks_of (sym (one-same p k.place levels))
+      ∙ ap (λ (i : ℕ). marks_of (levels_of_one p k.place levels i)) (sym e)
+  marks-moved j c h (inr n) =
+      get_or-set_other fi k.place j marks none_finished n ∙ before.marks j c h
+      ∙ ap marks_of (sym (one-other p k.place j levels n))
+
+  pub marked-one : Marked w frame array (levels_of_one p k.place levels) (set fi k.place marks)
+      (with_plane k blocks marks pl)
+  marked-one = record {
+    fi_count = length-set fi k.place marks ∙ before.fi_count;
+    pl_count = plane-count k blocks marks pl ∙ before.pl_count;
+    marks = λ j c h. marks-moved j c h (eqb_cases j k.place);
+    planes = λ j c h. plane-moved j c h (eqb_cases j k.place);
+  }
+
+-- ---- all components of a scan
+
+abbrev pub AllDone : Found → Frame → Pass → Coefficients → (ℕ → Levels) → List Coding → Arrays → Type 0
+AllDone w frame p array levels [] [] = Unit {0}
+AllDone w frame p array levels [] (b ∷ arrays) = ⊥
+AllDone w frame p array levels (k ∷ codings) [] = ⊥
+AllDone w frame p array levels (k ∷ codings) (b ∷ arrays) = CodingDone w frame p array levels k b
+    × AllDone w frame p array levels codings arrays
+
+abbrev pub places_of : List Coding → List ℕ
+places_of codings = map (λ c. c.place) codings
+
+-- the others are as they were
+pub done-others : (w : Found) (frame : Frame) (p : Pass) (array : Coefficients) (levels : ℕ → Levels) (place : ℕ)
+    (codings : List Coding) (arrays : Arrays)
+    → IsAbsent place (places_of codings) → AllDone w frame p array levels codings arrays
+    → AllDone w frame p array (levels_of_one p place levels) codings arrays
+done-others w frame p array levels place [] [] apart h = tt
+done-others w frame p array levels place [] (b ∷ arrays) apart h = absurd h
+done-others w frame p array levels place (k ∷ codings) [] apart h = absurd h
+done-others w frame p array levels place (k ∷ codings) (b ∷ arrays) apart h =
+    let same : levels k.place ≡ levels_of_one p place levels k.place =
+    sym (one-other p place k.place levels (λ e. apart.0 (sym e))) in
+    let d = h.0 in (
+      record {
+        at = d.at;
+        table = d.table;
+        legal = subst (IsLegal p) same d.legal;
+        sized = subst (λ (l : Levels). length l.acs ≡ 63) same d.sized;
+        holds = subst (λ (l : Levels). HoldsOwn (grid_of k.component) (array k.place) (sent_after p l) b) same
+            d.holds;
+      },
+      done-others w frame p array levels place codings arrays apart.1 h.1,
+    )
+
+-- What scans have brought, after the components of one.
+pub record Brought (w : Found) (frame : Frame) (p : Pass) (array : Coefficients) (levels : ℕ → Levels)
+    (codings : List Coding) (arrays : Arrays) (s : Bool) (h : Arrays)
+    (fi : List (List Bool)) (pl : List (Option (List ℕ))) : Type 0 where
+  pub finished : List (List Bool)
+  pub planes : List (Option (List ℕ))
+  pub is : with_arrays p codings arrays (reading w s h fi pl) ≡ reading w s h finished planes
+  pub marked : Marked w frame array (levels_after p (places_of codings) levels) finished planes
+
+with-one : (p : Pass) (k : Coding) (codings : List Coding) (b : List Block) (arrays : Arrays) (f : Found)
+    → with_arrays p (k ∷ codings) (b ∷ arrays) f ≡ with_arrays p codings arrays (with_blocks p k b f)
+unfolding with_arrays
+with-one p k codings b arrays f = refl
+
+with-none : (p : Pass) (f : Found) → with_arrays p [] [] f ≡ f
+unfolding with_arrays
+with-none p f = refl
+
+blocks-are : (p : Pass) (k : Coding) (b : List Block) (w : Found) (s : Bool) (h : Arrays) (fi : List (List Bool))
+    (pl : List (Option (List ℕ)))
+    → with_blocks p k b (reading w s h fi pl)
+    ≡ reading w s h (set fi k.place (finished_by p (slice_index_or fi k.place none_finished)))
+    (with_plane k b (finished_by p (slice_index_or fi k.place none_finished)) pl)
+unfolding with_blocks
+blocks-are p k b w s h fi pl = refl
+
+pub brings : (w : Found) (frame : Frame) (p : Pass) (array : Coefficients) (levels : ℕ → Levels)
+    (codings : List Coding) (arrays : Arrays) (s : Bool) (h : Arrays)
+    (fi : List (List Bool)) (pl : List (Option (List ℕ))) → length frame.components ≤ 4 → IsBand p
+    → AreApart (places_of codings)
+    → AllDone w frame p array levels codings arrays → Marked w frame array levels fi pl
+    → Brought w frame p array levels codings arrays s h fi pl
+unfolding levels_after
+brings w frame p array levels [] [] s h fi pl few band apart done before =
+    record { finished = fi; planes = pl; is = with-none p (reading w s h fi pl); marked = before }
+brings w frame p array levels [] (b ∷ arrays) s h fi pl few band apart done before = absurd done
+brings w frame p array levels (k ∷ codings) [] s h fi pl few band apart done before = absurd done
+brings w frame p array levels (k ∷ codings) (b ∷ arrays) s h fi pl few band apart done before =
+    let marks = finished_by p (slice_index_or fi k.place none_finished) in
+    let more = brings w frame p array (levels_of_one p k.place levels) codings arrays s h (set fi k.place marks)
+    (with_plane k b marks pl) few band apart.1
+    (done-others w frame p array levels k.place codings arrays apart.0 done.1)
+    (marked-one w frame p array levels k b fi pl few band done.0 before) in
+    record {
+      finished = more.finished;
+      planes = more.planes;
+      is = with-one p k codings b arrays (reading w s h fi pl)
+          ∙ ap (with_arrays p codings arrays) (blocks-are p k b w s h fi pl) ∙ more.is;
+      marked = more.marked;
+    }
+
+-- ---- held between scans
+
+pub record AllHeld (frame : Frame) (array : Coefficients) (levels : ℕ → Levels) (arrays : Arrays) : Type 0 where
+  pub count : length arrays ≡ length frame.components
+  pub each : (k : ℕ) (c : Component) → At k frame.components c
+      → HoldsOwn (grid_of c) (array k) (levels k) (get_or arrays k [])
+
+held-one : (w : Found) (frame : Frame) (p : Pass) (array : Coefficients) (levels : ℕ → Levels) (k : Coding)
+    (blocks : List Block) (held : Arrays)
+    → CodingDone w frame p array levels k blocks → AllHeld frame array levels held
+    → AllHeld frame array (levels_of_one p k.place levels) (set held k.place blocks)
+held-one w frame p array levels k blocks held done before = record {
+  count = length-set held k.place blocks ∙ before.count;
+  each = λ j c h. go j c h (eqb_cases j k.place);
+}
+  where
+    go : (j : ℕ) (c : Component) → At j frame.components c → (j ≡ k.place) ⊎ (j ≢ k.place)
+        → HoldsOwn (grid_of c) (array j) (levels_of_one p k.place levels j) (get_or (set held k.place blocks) j [])
+    go j c h (inl e) =
+        let own : c ≡ k.component =
+        at-one k.place frame.components c k.component (subst (λ (i : ℕ). At i frame.components c) e h) done.at in
+        let within : k.place < length held = let t = at-within k.place frame.components k.component done.at in let n =
+        before.count in omega arith in
+        subst (λ (i : ℕ). HoldsOwn (grid_of c) (array i) (levels_of_one p k.place levels i)
+        (get_or (set held k.place blocks) i [])) (sym e)
+        (subst (λ (d : Component). HoldsOwn (grid_of d) (array k.place) (levels_of_one p k.place levels k.place)
+        (get_or (set held k.place blocks) k.place [])) (sym own)
+        (subst (λ (l : Levels). HoldsOwn (grid_of k.component) (array k.place) l
+        (get_or (set held k.place blocks) k.place [])) (sym (one-same p k.place levels))
+        (subst (HoldsOwn (grid_of k.component) (array k.place) (sent_after p (levels k.place)))
+        (sym (get_or-set_same held k.place blocks [] within)) done.holds)))
+    go j c h (inr n) =
+        subst (λ (l : Levels). HoldsOwn (grid_of c) (array j) l (get_or (set held k.place blocks) j []))
+        (sym (one-other p k.place j levels n))
+        (subst (HoldsOwn (grid_of c) (array j) (levels j)) (sym (get_or-set_other held k.place j blocks [] n))
+        (before.each j c h))
+
+put-one : (k : Coding) (codings : List Coding) (b : List Block) (arrays held : Arrays)
+    → put_arrays (k ∷ codings) (b ∷ arrays) held ≡ put_arrays codings arrays (set held k.place b)
+unfolding put_arrays
+put-one k codings b arrays held = refl
+
+put-none : (held : Arrays) → put_arrays [] [] held ≡ held
+unfolding put_arrays
+put-none held = refl
+
+pub held-after : (w : Found) (frame : Frame) (p : Pass) (array : Coefficients) (levels : ℕ → Levels)
+    (codings : List Coding) (arrays held : Arrays) → AreApart (places_of codings)
+    → AllDone w frame p array levels codings arrays → AllHeld frame array levels held
+    → AllHeld frame array (levels_after p (places_of codings) levels) (put_arrays codings arrays held)
+unfolding levels_after
+held-after w frame p array levels [] [] held apart done before =
+    subst (AllHeld frame array levels) (sym (put-none held)) before
+held-after w frame p array levels [] (b ∷ arrays) held apart done before = absurd done
+held-after w frame p array levels (k ∷ codings) [] held apart done before = absurd done
+held-after w frame p array levels (k ∷ codings) (b ∷ arrays) held apart done before =
+    subst (AllHeld frame array (levels_after p (places_of codings) (levels_of_one p k.place levels)))
+    (sym (put-one k codings b arrays held))
+    (held-after w frame p array (levels_of_one p k.place levels) codings arrays (set held k.place b) apart.1
+    (done-others w frame p array levels k.place codings arrays apart.0 done.1)
+    (held-one w frame p array levels k b held done.0 before))

@@ -1,0 +1,109 @@
+-- The Huffman tables in force exist, where segments of a lossless stream have set them.
+use Rattle.std.proofs.Common.{◌≡◌, ℕ, zero, suc, Bool, true, false, cond, List, [], ◌∷◌, set, get_or, fold, Option}
+use Rattle.std.proofs.Common.{Some, None, subst}
+use Rattle.std.specs.List.{AllByRecursion}
+use Rattle.std.specs.Prelude.{option_map, slice_index_or}
+use Rattle.jpeg_bits.specs.Codes.{Table, IsTable, is_ac}
+use Rattle.jpeg_segments.specs.Frame.{Frame}
+use Rattle.jpeg_segments.specs.HuffmanTables.{Tables, PlacedTable, no_tables, with_table, greatest_place}
+use Rattle.jpeg_streams.specs.Stream.{Found, updated, with_huffman}
+use Rattle.jpeg_segments.specs.WrittenSegments.{Segment, Quantization, Huffman, Interval, Application, Comment}
+use Rattle.jpeg_segments.specs.WrittenSegments.{Header, IsHuffmanTable, huffman_tables}
+use Rattle.jpeg_streams.specs.SaidSegments.{found_after}
+use Rattle.jpeg_streams.specs.WrittenLossless.{HaveTables, Stands}
+use Rattle.jpeg_segments.specs.ScanHeaders.{Choice}
+use Rattle.jpeg_lossless.specs.Written.{AreTables}
+
+abbrev pub IsTableOrNone : Option Table → Type 0
+IsTableOrNone None = Unit {0}
+IsTableOrNone (Some t) = IsTable t
+
+pub record HasTables (h : Tables) : Type 0 where
+  pub dc : AllByRecursion IsTableOrNone h.dc
+  pub ac : AllByRecursion IsTableOrNone h.ac
+
+set-all : {A : Type 0} (P : A → Type 0) (xs : List A) (i : ℕ) (x : A) → AllByRecursion P xs → P x
+    → AllByRecursion P (set xs i x)
+set-all P [] i x all h = all
+set-all P (y ∷ xs) zero x all h = (h, all.1)
+set-all P (y ∷ xs) (suc i) x all h = (all.0, set-all P xs i x all.1 h)
+
+get-all : {A : Type 0} (P : A → Type 0) (xs : List A) (i : ℕ) (d : A) → AllByRecursion P xs → P d → P (get_or xs i d)
+get-all P [] i d all h = h
+get-all P (y ∷ xs) zero d all h = all.0
+get-all P (y ∷ xs) (suc i) d all h = get-all P xs i d all.1 h
+
+updated-all : (old new : List (Option Table)) → AllByRecursion IsTableOrNone old → AllByRecursion IsTableOrNone new
+    → AllByRecursion IsTableOrNone (updated old new)
+unfolding updated
+updated-all [] new p q = tt
+updated-all (o ∷ old) [] p q = p
+updated-all (o ∷ old) (None ∷ new) p q = (p.0, updated-all old new p.1 q.1)
+updated-all (o ∷ old) (Some t ∷ new) p q = (q.0, updated-all old new p.1 q.1)
+
+table-all : (most : ℕ) (tables : Tables) (t : PlacedTable) → HasTables tables → IsHuffmanTable most t
+    → HasTables (with_table tables t)
+table-all most tables t h is = go (is_ac t.table.class)
+  where
+    go : (b : Bool) → HasTables (cond b (record tables { ac = set tables.ac t.place (Some t.table) })
+        (record tables { dc = set tables.dc t.place (Some t.table) }))
+    go true = record {
+      dc = h.dc;
+      ac = set-all IsTableOrNone tables.ac t.place (Some t.table) h.ac (record {
+        counted = is.counted;
+        exists = is.exists;
+      });
+    }
+    go false = record {
+      dc = set-all IsTableOrNone tables.dc t.place (Some t.table) h.dc (record {
+        counted = is.counted;
+        exists = is.exists;
+      });
+      ac = h.ac;
+    }
+
+tables-all : (most : ℕ) (tables : Tables) (ts : List PlacedTable) → HasTables tables
+    → AllByRecursion (IsHuffmanTable most) ts → HasTables (fold with_table tables ts)
+tables-all most tables [] h all = h
+tables-all most tables (t ∷ ts) h all = tables-all most (with_table tables t) ts (table-all most tables t h all.0) all.1
+
+pub no-tables : HasTables no_tables
+no-tables = record { dc = (tt, (tt, (tt, (tt, tt)))); ac = (tt, (tt, (tt, (tt, tt)))) }
+
+huffman-all : (most : ℕ) (old : Tables) (ts : List PlacedTable) → HasTables old
+    → AllByRecursion (IsHuffmanTable most) ts → HasTables (with_huffman old (huffman_tables ts))
+huffman-all most old ts h all =
+    let new = tables-all most no_tables ts no-tables all in
+    record {
+      dc = updated-all old.dc (huffman_tables ts).dc h.dc new.dc;
+      ac = updated-all old.ac (huffman_tables ts).ac h.ac new.ac;
+    }
+
+pub segment-tables : (said found : Found) (s : Segment) → Stands said s → HasTables found.huffman
+    → HasTables (found_after found s).huffman
+segment-tables said found (Quantization ts) may h = h
+segment-tables said found (Huffman ts) may h =
+    huffman-all (greatest_place (option_map (λ (f : Frame). f.is_baseline) said.frame)) found.huffman ts h may.0
+segment-tables said found (Interval n) may h = h
+segment-tables said found (Application number payload) may h = h
+segment-tables said found (Comment payload) may h = h
+segment-tables said found (Header number header) may h = h
+
+some-table : (o : Option Table) (t : Table) → o ≡ Some t → IsTableOrNone o → IsTable t
+some-table None t e h = absurd (let n : ⊥ = cc in n)
+some-table (Some u) t e h = subst IsTable (let s : u ≡ t = cc in s) h
+
+pub table-there : (tables : List (Option Table)) (place : ℕ) (t : Table) → AllByRecursion IsTableOrNone tables
+    → slice_index_or tables place None ≡ Some t → IsTable t
+table-there tables place t all e = some-table (get_or tables place None) t e (get-all IsTableOrNone tables place None
+    all tt)
+
+-- those that a scan names
+pub tables-there : (said : Found) (choices : List Choice) (tables : List Table) → HasTables said.huffman
+    → HaveTables said choices tables → AreTables tables
+unfolding HaveTables
+tables-there said [] [] all h = tt
+tables-there said [] (t ∷ tables) all h = absurd h
+tables-there said (c ∷ choices) [] all h = absurd h
+tables-there said (c ∷ choices) (t ∷ tables) all h =
+    (table-there said.huffman.dc c.dc t all.dc h.0, tables-there said choices tables all h.1)

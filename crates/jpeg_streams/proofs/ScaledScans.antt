@@ -1,0 +1,428 @@
+-- A stream that was written for a frame is one for the frame at any scale.
+use Rattle.std.proofs.Common.{◌≡◌, ◌⊎◌, inl, inr, ℕ, zero, suc, ◌+◌, ◌*◌, ◌/◌, ◌%◌, ◌<◌, ◌≤◌, ◌==◌, nat_lt, Bool}
+use Rattle.std.proofs.Common.{true, false, cond, List, [], ◌∷◌, ◌++◌, map, length, get_or, slice_index_or, sum_by}
+use Rattle.std.proofs.Common.{sum, drop, Option, Some, None, Ok, Err, refl, sym, ap, ap₂, ◌∙◌, subst, arith, leb}
+use Rattle.std.proofs.Common.{mul_assoc, if◌then◌else◌}
+use Rattle.std.proofs.lemmas.Bool.Decides.{leb_tells}
+use Rattle.std.proofs.Math.Nat.{mul_comm, lt_of_mul-lt-mul_right, mul-lt-mul_of_pos_right}
+use Rattle.std.specs.List.{AllByRecursion, range_with_len, flat_map, position}
+use Rattle.std.proofs.lemmas.List.Sums.{sum-map}
+use Rattle.jpeg_bits.specs.Reading.{Outcome, Malformed, ◌>>=◌, next_byte}
+use Rattle.jpeg_segments.specs.Frame.{Frame, Component, Factors, ceiling}
+use Rattle.jpeg_segments.specs.ScanHeader.{Scan, Selector, place_of, blocks_by, tables_at, tables_by, selector_at}
+use Rattle.jpeg_segments.specs.ScanHeader.{selectors_from, is_mcu, scan_of, band_at, count_at, sos_at}
+use Rattle.jpeg_segments.proofs.ScanLemmas.{position-map}
+use Rattle.jpeg_streams.specs.declared.grids.Grid.{Grid}
+use Rattle.jpeg_bits.specs.Passes.{Pass, Via}
+use Rattle.jpeg_streams.specs.Order.{Spot, grid_of, own_spots, part_spots, mcu_spots, all_spots, spots_of, mcu_size}
+use Rattle.jpeg_bits.specs.Codes.{Table}
+use Rattle.jpeg_bits.specs.declared.marker.Marker.{Marker}
+use Rattle.jpeg_segments.specs.HuffmanTables.{Tables}
+use Rattle.jpeg_bits.specs.Passes.{Block}
+use Rattle.jpeg_bits.specs.Intervals.{first_group, other_groups}
+use Rattle.jpeg_streams.specs.Levels.{Levels, IsLegal, numbers_at}
+use Rattle.jpeg_streams.specs.WrittenData.{WritesIntervals}
+use Rattle.jpeg_streams.specs.Needed.{first_of}
+use Rattle.jpeg_streams.specs.Stream.{Found, Coding, tables_of, pass_of, is_progressive, vias_from}
+use Rattle.jpeg_streams.specs.WrittenScans.{Coefficients, IsOwn, no_grid, grid_at, components_of, written_turns}
+use Rattle.jpeg_streams.specs.WrittenScans.{IsCoding, AreCodings, WritesScan, levels_after, IsComplete, HasTable}
+use Rattle.jpeg_streams.proofs.AcceptedStreams.{IsAccepted, WritesSegment, WritesScans}
+use Rattle.jpeg_streams.specs.WrittenScans.AreCodings.{no_more, and_more}
+use Rattle.jpeg_streams.proofs.AcceptedStreams.WritesSegment.{quantization, huffman, restart, application, comment}
+use Rattle.jpeg_streams.proofs.AcceptedStreams.WritesScans.{segment, scan, closed}
+use Rattle.jpeg_streams.proofs.FrameShapes.{below-ceiling}
+use Rattle.jpeg_streams.proofs.AcceptedTurns.{frame-kept}
+
+-- ---- the same number
+
+same-number : (a b : ℕ) → ((x : ℕ) → x < a → x < b) → ((x : ℕ) → x < b → x < a) → a ≡ b
+same-number a b f g = go (leb_tells a b) (leb_tells b a)
+  where
+    go : ((leb a b ≡ true) × (a ≤ b)) ⊎ ((leb a b ≡ false) × (b < a))
+        → ((leb b a ≡ true) × (b ≤ a)) ⊎ ((leb b a ≡ false) × (a < b)) → a ≡ b
+    go (inl x) (inl y) = omega arith
+    go (inl x) (inr y) = absurd (let h = g a y.1 in omega arith)
+    go (inr x) y = absurd (let h = f b x.1 in omega arith)
+
+-- a component has as many own blocks at each scale
+pub own-same : (n m s : ℕ) → 0 < m → 0 < s → ceiling (ceiling (n * s) (m * 8)) s ≡ ceiling (ceiling n m) 8
+own-same n m s hm hs =
+    same-number (ceiling (ceiling (n * s) (m * 8)) s) (ceiling (ceiling n m) 8)
+    (λ x h.
+    let a = (below-ceiling x (ceiling (n * s) (m * 8)) s hs).0 h in
+    let b : x * s * (m * 8) < n * s = (below-ceiling (x * s) (n * s) (m * 8) (omega arith)).0 a in
+    let c : (x * 8 * m) * s < n * s = let e = same x in omega arith in
+    let d : x * 8 * m < n = lt_of_mul-lt-mul_right s c in
+    (below-ceiling x (ceiling n m) 8 (omega arith)).1 ((below-ceiling (x * 8) n m hm).1 d))
+    (λ x h.
+    let a = (below-ceiling x (ceiling n m) 8 (omega arith)).0 h in
+    let d : x * 8 * m < n = (below-ceiling (x * 8) n m hm).0 a in
+    let c : (x * 8 * m) * s < n * s = mul-lt-mul_of_pos_right d hs in
+    let b : x * s * (m * 8) < n * s = let e = same x in omega arith in
+    (below-ceiling x (ceiling (n * s) (m * 8)) s hs).1 ((below-ceiling (x * s) (n * s) (m * 8) (omega arith)).1 b))
+  where
+    same : (x : ℕ) → x * s * (m * 8) ≡ (x * 8 * m) * s
+    same x = mul_assoc x s (m * 8) ∙ ap (λ (y : ℕ). x * y) (mul_comm s (m * 8) ∙ ap (λ (y : ℕ). y * s) (mul_comm m 8))
+        ∙ sym (mul_assoc x (8 * m) s) ∙ ap (λ (y : ℕ). y * s) (sym (mul_assoc x 8 m))
+
+-- ---- components with the same blocks
+
+-- they differ in the samples alone
+pub record Alike (c d : Component) : Type 0 where
+  pub factors : d.factors ≡ c.factors
+  pub wide : d.blocks_wide ≡ c.blocks_wide
+  pub high : d.blocks_high ≡ c.blocks_high
+  pub own_wide : (grid_of d).own_wide ≡ (grid_of c).own_wide
+  pub own_high : (grid_of d).own_high ≡ (grid_of c).own_high
+
+pub grid-same : (c d : Component) → Alike c d → grid_of d ≡ grid_of c
+grid-same c d h = rw (h.own_wide, h.own_high, h.wide, h.high) refl
+
+part-same : (row column slot : ℕ) (c d : Component) → Alike c d
+    → part_spots row column slot d ≡ part_spots row column slot c
+unfolding part_spots
+part-same row column slot c d h = rw (h.factors, h.wide) refl
+
+pub data Alikes : List Component → List Component → Type 0 where
+  none : Alikes [] []
+  one_more : (c d : Component) (cs ds : List Component) → Alike c d → Alikes cs ds → Alikes (c ∷ cs) (d ∷ ds)
+
+mcu-same : (row column slot : ℕ) (cs ds : List Component) → Alikes cs ds
+    → mcu_spots row column slot ds ≡ mcu_spots row column slot cs
+unfolding mcu_spots
+mcu-same row column slot cs ds none = refl
+mcu-same row column slot cs ds (one_more c d cs' ds' h more) =
+    ap₂ (λ (x y : List Spot). x ++ y) (part-same row column slot c d h) (mcu-same row column (slot + 1) cs' ds' more)
+
+flat-same : {B : Type 0} (f g : ℕ → List B) → ((k : ℕ) → f k ≡ g k) → (xs : List ℕ) → flat_map f xs ≡ flat_map g xs
+flat-same f g h [] = refl
+flat-same {B} f g h (x ∷ xs) = ap₂ (λ (l m : List B). l ++ m) (h x) (flat-same f g h xs)
+
+all-same_spots : (wide high : ℕ) (cs ds : List Component) → Alikes cs ds
+    → all_spots wide high ds ≡ all_spots wide high cs
+unfolding all_spots
+all-same_spots wide high cs ds h =
+    flat-same (λ row. flat_map (λ column. mcu_spots row column 0 ds) (range_with_len 0 wide))
+    (λ row. flat_map (λ column. mcu_spots row column 0 cs) (range_with_len 0 wide))
+    (λ row. flat-same (λ column. mcu_spots row column 0 ds) (λ column. mcu_spots row column 0 cs)
+    (λ column. mcu-same row column 0 cs ds h) (range_with_len 0 wide)) (range_with_len 0 high)
+
+-- a frame whose components have the same blocks, and which is read alike
+pub record SameFrame (f g : Frame) : Type 0 where
+  pub components : Alikes f.components g.components
+  pub is_baseline : g.is_baseline ≡ f.is_baseline
+  pub process : g.process ≡ f.process
+  pub precision : g.precision ≡ f.precision
+  pub mcus_wide : g.mcus_wide ≡ f.mcus_wide
+  pub mcus_high : g.mcus_high ≡ f.mcus_high
+
+pub spots-same : (f g : Frame) (cs ds : List Component) → SameFrame f g → Alikes cs ds → spots_of g ds ≡ spots_of f cs
+unfolding spots_of
+spots-same f g cs ds same none = refl
+spots-same f g cs ds same (one_more c d cs' ds' h none) = ap own_spots (grid-same c d h)
+spots-same f g cs ds same (one_more c d cs' ds' h (one_more c' d' cs'' ds'' h' more)) =
+    ap₂ (λ (a b : ℕ). all_spots a b (d ∷ d' ∷ ds'')) same.mcus_wide same.mcus_high
+    ∙ all-same_spots f.mcus_wide f.mcus_high (c ∷ c' ∷ cs'') (d ∷ d' ∷ ds'')
+    (one_more c d (c' ∷ cs'') (d' ∷ ds'') h (one_more c' d' cs'' ds'' h' more))
+
+-- the factors are the same, so whatever is told by them
+factors-same : {B : Type 0} (t : Factors → B) (cs ds : List Component) → Alikes cs ds
+    → map (λ c. t c.factors) ds ≡ map (λ c. t c.factors) cs
+factors-same t cs ds none = refl
+factors-same {B} t cs ds (one_more c d cs' ds' h more) =
+    ap₂ (λ (x : B) (l : List B). x ∷ l) (ap t h.factors) (factors-same t cs' ds' more)
+
+sum-same : (t : Factors → ℕ) (cs ds : List Component) → Alikes cs ds
+    → sum_by (λ c. t c.factors) ds ≡ sum_by (λ c. t c.factors) cs
+sum-same t cs ds h = sym (sum-map (λ (c : Component). t c.factors) ds) ∙ ap sum (factors-same t cs ds h)
+    ∙ sum-map (λ (c : Component). t c.factors) cs
+
+pub mcu-size_same : (cs ds : List Component) → Alikes cs ds → mcu_size ds ≡ mcu_size cs
+unfolding mcu_size
+mcu-size_same cs ds none = refl
+mcu-size_same cs ds (one_more c d cs' ds' h none) = refl
+mcu-size_same cs ds (one_more c d cs' ds' h (one_more c' d' cs'' ds'' h' more)) =
+    sum-same (λ t. t.horizontal * t.vertical) (c ∷ c' ∷ cs'') (d ∷ d' ∷ ds'')
+    (one_more c d (c' ∷ cs'') (d' ∷ ds'') h (one_more c' d' cs'' ds'' h' more))
+
+pub length-same : (cs ds : List Component) → Alikes cs ds → length ds ≡ length cs
+length-same cs ds none = refl
+length-same cs ds (one_more c d cs' ds' h more) = ap suc (length-same cs' ds' more)
+
+-- ---- scan headers
+
+place-same : (cs ds : List Component) (identifier : ℕ) → Alikes cs ds → place_of ds identifier ≡ place_of cs identifier
+place-same cs ds identifier h =
+    let test : Factors → Bool = λ f. f.identifier == identifier in
+    sym (position-map (λ (c : Component). c.factors) test ds) ∙ ap (position test) (factors-same (λ f. f) cs ds h)
+    ∙ position-map (λ (c : Component). c.factors) test cs
+
+blocks-same : (cs ds : List Component) (place : ℕ) → Alikes cs ds → blocks_by ds place ≡ blocks_by cs place
+blocks-same cs ds place none = refl
+blocks-same cs ds zero (one_more c d cs' ds' h more) = rw h.factors refl
+blocks-same cs ds (suc place) (one_more c d cs' ds' h more) = blocks-same cs' ds' place more
+
+tables-same : (f g : Frame) → SameFrame f g → (place : ℕ) (bytes : List ℕ)
+    → tables_at g place bytes ≡ tables_at f place bytes
+unfolding tables_at
+tables-same f g same place bytes =
+    rw (same.is_baseline, blocks-same f.components g.components place same.components) refl
+
+selector-same : (f g : Frame) → SameFrame f g → (least : ℕ) (bytes : List ℕ)
+    → selector_at g least bytes ≡ selector_at f least bytes
+unfolding selector_at
+selector-same f g same least bytes = go (next_byte bytes)
+  where
+    by : (place : Option ℕ) (rest : List ℕ) → tables_by g least place rest ≡ tables_by f least place rest
+    by None rest = refl
+    by (Some place) rest =
+        ap (λ (o : Outcome Selector). cond (nat_lt place least) (Err Malformed) o) (tables-same f g same place rest)
+
+    go : (o : Outcome ℕ) → (o >>= (λ i. tables_by g least (place_of g.components i.0) i.1))
+        ≡ (o >>= (λ i. tables_by f least (place_of f.components i.0) i.1))
+    go (Err e) = refl
+    go (Ok i) = ap (λ (p : Option ℕ). tables_by g least p i.1)
+        (place-same f.components g.components i.0 same.components) ∙ by (place_of f.components i.0) i.1
+
+selectors-same : (f g : Frame) → SameFrame f g → (n : ℕ) (front : List Selector) (least : ℕ) (bytes : List ℕ)
+    → selectors_from g n front least bytes ≡ selectors_from f n front least bytes
+unfolding selectors_from
+selectors-same f g same zero front least bytes = refl
+selectors-same f g same (suc n) front least bytes =
+    ap (λ (o : Outcome Selector). o >>= (λ s. selectors_from g n (front ++ s.0 ∷ []) (s.0.component + 1) s.1))
+    (selector-same f g same least bytes)
+    ∙ go (selector_at f least bytes) (λ s. selectors-same f g same n (front ++ s.0 ∷ []) (s.0.component + 1) s.1)
+  where
+    go : (o : Outcome Selector)
+        → ((s : Selector × List ℕ)
+        → selectors_from g n (front ++ s.0 ∷ []) (s.0.component + 1) s.1
+        ≡ selectors_from f n (front ++ s.0 ∷ []) (s.0.component + 1) s.1)
+        → (o >>= (λ s. selectors_from g n (front ++ s.0 ∷ []) (s.0.component + 1) s.1))
+        ≡ (o >>= (λ s. selectors_from f n (front ++ s.0 ∷ []) (s.0.component + 1) s.1))
+    go (Err e) h = refl
+    go (Ok s) h = h s
+
+scan-same : (f g : Frame) → SameFrame f g → (sel : List Selector) (first last levels : ℕ)
+    → scan_of g sel first last levels ≡ scan_of f sel first last levels
+unfolding scan_of
+scan-same f g same sel first last levels = rw same.process refl
+
+band-same : (f g : Frame) → SameFrame f g → (sel : List Selector) (bytes : List ℕ)
+    → band_at g sel bytes ≡ band_at f sel bytes
+unfolding band_at scan_of
+band-same f g same sel bytes = rw (same.process, same.precision) refl
+
+pub sos-same : (f g : Frame) → SameFrame f g → (bytes : List ℕ) → sos_at g bytes ≡ sos_at f bytes
+unfolding sos_at
+sos-same f g same bytes = go (count_at bytes)
+  where
+    then_ : (o : Outcome (List Selector))
+        → (o >>= (λ s. if is_mcu s.0 then band_at g s.0 s.1 else Err Malformed))
+        ≡ (o >>= (λ s. if is_mcu s.0 then band_at f s.0 s.1 else Err Malformed))
+    then_ (Err e) = refl
+    then_ (Ok s) = ap (λ (o : Outcome Scan). cond (is_mcu s.0) o (Err Malformed)) (band-same f g same s.0 s.1)
+
+    go : (o : Outcome ℕ)
+        → (o >>= (λ n. selectors_from g n.0 [] 0 n.1 >>=
+        (λ s. if is_mcu s.0 then band_at g s.0 s.1 else Err Malformed)))
+        ≡ (o >>= (λ n. selectors_from f n.0 [] 0 n.1 >>=
+        (λ s. if is_mcu s.0 then band_at f s.0 s.1 else Err Malformed)))
+    go (Err e) = refl
+    go (Ok n) =
+        ap (λ (o : Outcome (List Selector)). o >>= (λ s. if is_mcu s.0 then band_at g s.0 s.1 else Err Malformed))
+        (selectors-same f g same n.0 [] 0 n.1)
+        ∙ then_ (selectors_from f n.0 [] 0 n.1)
+
+-- ---- codings
+
+pub record CodingAlike (k l : Coding) : Type 0 where
+  pub place : l.place ≡ k.place
+  pub component : Alike k.component l.component
+  pub dc : l.dc ≡ k.dc
+  pub ac : l.ac ≡ k.ac
+
+pub data CodingsAlike : List Coding → List Coding → Type 0 where
+  none : CodingsAlike [] []
+  one_more : (k l : Coding) (ks ls : List Coding) → CodingAlike k l → CodingsAlike ks ls
+      → CodingsAlike (k ∷ ks) (l ∷ ls)
+
+abbrev pub at_frame : Found → Frame → Found
+at_frame w g = record w { frame = Some g }
+
+first-alike : (n : ℕ) (cs ds : List Component) (c : Component) → Alikes cs ds → first_of (drop n cs) ≡ Some c
+    → (d : Component) × (first_of (drop n ds) ≡ Some d) × Alike c d
+first-alike zero cs ds c none e = absurd (no e)
+  where
+    no : ◌≡◌ {A = Option Component} None (Some c) → ⊥
+    no e = cc
+first-alike zero cs ds c (one_more x y cs' ds' h more) e = (y, refl, subst (λ (z : Component). Alike z y) (some e) h)
+  where
+    some : ◌≡◌ {A = Option Component} (Some x) (Some c) → x ≡ c
+    some e = cc
+first-alike (suc n) cs ds c none e = absurd (no e)
+  where
+    no : ◌≡◌ {A = Option Component} None (Some c) → ⊥
+    no e = cc
+first-alike (suc n) cs ds c (one_more x y cs' ds' h more) e = first-alike n cs' ds' c more e
+
+coding-alike : (w : Found) (f g : Frame) → SameFrame f g → (p : Pass) (tables : Tables) (place d a : ℕ) (k : Coding)
+    → IsCoding w f p tables place d a k
+    → (l : Coding) × IsCoding (at_frame w g) g p tables place d a l × CodingAlike k l
+coding-alike w f g same p tables place d a k h =
+    let other = first-alike place f.components g.components k.component same.components h.component in
+    let l : Coding = record {
+      place = k.place;
+      component = other.0;
+      quantization = k.quantization;
+      dc = k.dc;
+      ac =
+          k.ac;
+    } in (
+      l,
+      record {
+        stands = h.stands;
+        component = other.1;
+        quantization =
+            ap (λ (x : Factors). slice_index_or w.quantization x.quantization None) other.2.factors
+            ∙ h.quantization;
+        dc = h.dc;
+        ac = h.ac;
+      },
+      record { place = refl; component = other.2; dc = refl; ac = refl },
+    )
+
+codings-alike : (w : Found) (f g : Frame) → SameFrame f g
+    → (p : Pass) (tables : Tables) (places ds ks : List ℕ) (codings : List Coding)
+    → AreCodings w f p tables places ds ks codings
+    → (others : List Coding) × AreCodings (at_frame w g) g p tables places ds ks others × CodingsAlike codings others
+codings-alike w f g same p tables places ds ks codings no_more = ([], no_more, none)
+codings-alike w f g same p tables places ds ks codings (and_more place d a places' ds' ks' k more h r) =
+    let l = coding-alike w f g same p tables place d a k h in
+    let others = codings-alike w f g same p tables places' ds' ks' more r in (
+      l.0 ∷ others.0,
+      and_more place d a places' ds' ks' l.0 others.0 l.1 others.1,
+      one_more k l.0 more others.0 l.2 others.2,
+    )
+
+tables-kept : (w : Found) (g : Frame) (s : Scan) → tables_of (at_frame w g) s ≡ tables_of w s
+unfolding tables_of
+tables-kept w g s = refl
+
+components-alike : (ks ls : List Coding) → CodingsAlike ks ls → Alikes (components_of ks) (components_of ls)
+components-alike ks ls none = none
+components-alike ks ls (one_more k l ks' ls' h more) =
+    one_more k.component l.component (components_of ks') (components_of ls') h.component
+    (components-alike ks' ls' more)
+
+places-alike : (ks ls : List Coding) → CodingsAlike ks ls
+    → map (λ (c : Coding). c.place) ls ≡ map (λ (c : Coding). c.place) ks
+places-alike ks ls none = refl
+places-alike ks ls (one_more k l ks' ls' h more) =
+    ap₂ (λ (x : ℕ) (xs : List ℕ). x ∷ xs) h.place (places-alike ks' ls' more)
+
+vias-alike : (base : ℕ) (ks ls : List Coding) → CodingsAlike ks ls → vias_from base ls ≡ vias_from base ks
+unfolding vias_from
+vias-alike base ks ls none = refl
+vias-alike base ks ls (one_more k l ks' ls' h more) =
+    ap₂ (λ (v : Via) (vs : List Via). v ∷ vs)
+    (ap₂ (λ (d a : Table). record { component = base; dc = d; ac = a }) h.dc h.ac)
+    (vias-alike (base + 1) ks' ls' more)
+
+grids-alike : (cs ds : List Component) → Alikes cs ds → map grid_of ds ≡ map grid_of cs
+grids-alike cs ds none = refl
+grids-alike cs ds (one_more c d cs' ds' h more) =
+    ap₂ (λ (x : Grid) (xs : List Grid). x ∷ xs) (grid-same c d h) (grids-alike cs' ds' more)
+
+-- ---- scans
+
+scan-alike : (f g : Frame) (n : ℕ) (p : Pass) (ks ls : List Coding) (array : Coefficients) (bytes : List ℕ)
+    → SameFrame f g → CodingsAlike ks ls → WritesScan f n p ks array bytes → WritesScan g n p ls array bytes
+scan-alike f g n p ks ls array bytes same h w =
+    let cs = components-alike ks ls h in
+    let grids = grids-alike (components_of ks) (components_of ls) cs in
+    let places = places-alike ks ls h in
+    let u = λ (s : Spot). numbers_at p.al (w.sent s) in
+    let turns : written_turns (vias_from 0 ls) (spots_of g (components_of ls)) u
+    ≡ written_turns (vias_from 0 ks) (spots_of f (components_of ks)) u
+    = ap₂ (λ (v : List Via) (s : List Spot). written_turns v s u) (vias-alike 0 ks ls h)
+    (spots-same f g (components_of ks) (components_of ls) same cs) in
+    let size : n * mcu_size (components_of ls) ≡ n * mcu_size (components_of ks) =
+    ap (λ (x : ℕ). n * x) (mcu-size_same (components_of ks) (components_of ls) cs) in
+    record {
+      sent = w.sent;
+      in_range = w.in_range;
+      is_own = λ s own.
+          let grid : grid_at (components_of ls) s.slot ≡ grid_at (components_of ks) s.slot =
+          ap (λ (l : List Grid). get_or l s.slot no_grid) grids in
+          w.is_own s (subst (λ (x : Grid). IsOwn x s.index) grid own)
+          ∙ sym (ap₂ (λ (k : ℕ) (x : Grid). array k (s.index / x.wide) (s.index % x.wide))
+          (ap (λ (l : List ℕ). get_or l s.slot 0) places) grid);
+      coded =
+          subst (λ (k : ℕ). WritesIntervals p 0
+          (first_group k (written_turns (vias_from 0 ls) (spots_of g (components_of ls)) u))
+          (other_groups k (written_turns (vias_from 0 ls) (spots_of g (components_of ls)) u)) bytes) (sym size)
+          (subst (λ (t : List (Via × Block)). WritesIntervals p 0 (first_group (n * mcu_size (components_of ks)) t)
+          (other_groups (n * mcu_size (components_of ks)) t) bytes) (sym turns) w.coded);
+    }
+
+legal-alike : (p : Pass) (levels : ℕ → Levels) (ks ls : List Coding) → CodingsAlike ks ls
+    → AllByRecursion (λ c. IsLegal p (levels c.place)) ks → AllByRecursion (λ c. IsLegal p (levels c.place)) ls
+legal-alike p levels ks ls none h = tt
+legal-alike p levels ks ls (one_more k l ks' ls' a more) h =
+    (subst (λ (n : ℕ). IsLegal p (levels n)) (sym a.place) h.0, legal-alike p levels ks' ls' more h.1)
+
+segment-alike : (w next : Found) (m : Marker) (bytes : List ℕ) (f g : Frame) → SameFrame f g → w.frame ≡ Some f
+    → WritesSegment w m bytes next → WritesSegment (at_frame w g) m bytes (at_frame next g)
+segment-alike w next m bytes f g same e (quantization w' bytes' t a) = quantization (at_frame w g) bytes t a
+segment-alike w next m bytes f g same e (huffman w' bytes' t a) =
+    huffman (at_frame w g) bytes t
+    (subst (λ (o : Option Bool). IsAccepted (Rattle.jpeg_segments.specs.HuffmanTables.dht_at o) bytes t)
+    (ap (Rattle.std.specs.Prelude.option_map (λ (x : Frame). x.is_baseline)) e
+    ∙ ap (λ (b : Bool). Some b) (sym same.is_baseline)) a)
+segment-alike w next m bytes f g same e (restart w' bytes' n a) = restart (at_frame w g) bytes n a
+segment-alike w next m bytes f g same e (application w' number bytes' t a) = application (at_frame w g) number bytes t a
+segment-alike w next m bytes f g same e (comment w' bytes' a) = comment (at_frame w g) bytes a
+
+tables-there : (w : Found) (g : Frame) (cs ds : List Component) → Alikes cs ds → AllByRecursion (HasTable w) cs
+    → AllByRecursion (HasTable (at_frame w g)) ds
+tables-there w g cs ds none h = tt
+tables-there w g cs ds (one_more c d cs' ds' a more) h = (
+  record {
+    table = h.0.table;
+    is =
+        ap (λ (x : Factors). slice_index_or w.quantization x.quantization None) a.factors ∙ h.0.is;
+  },
+  tables-there w g cs' ds' more h.1,
+)
+
+-- A stream that was written for a frame is written for one with the same blocks.
+pub scans-alike : (array : Coefficients) (f g : Frame) (tail : List ℕ) (w final : Found) (levels last : ℕ → Levels)
+    (sc : Bool) (m : Marker) (bytes : List ℕ) → SameFrame f g → w.frame ≡ Some f
+    → WritesScans array f tail w levels sc m bytes final last
+    → WritesScans array g tail (at_frame w g) levels sc m bytes (at_frame final g) last
+scans-alike array f g tail w final levels last sc m bytes same e
+    (segment w' next final' levels' last' sc' m' after fill code payload more s q i r) =
+    segment (at_frame w g) (at_frame next g) (at_frame final g) levels last sc m after fill code payload more
+    (segment-alike w next m payload f g same e s) q i
+    (scans-alike array f g tail next final levels last sc after more same (frame-kept w next m payload s ∙ e) r)
+scans-alike array f g tail w final levels last sc m bytes same e
+    (scan w' final' levels' last' sc' after fill code header payload more s codings a l x i r) =
+    let o = codings-alike w f g same (pass_of s)
+    (tables_of w s) s.components s.dc_places s.ac_places codings l.are_in_force in
+    let places = places-alike codings o.0 o.2 in
+    scan (at_frame w g) (at_frame final g) levels last sc after fill code header payload more s o.0
+    (record { accepted = λ rest. sos-same f g same (header ++ rest) ∙ a.accepted rest })
+    (record {
+      are_in_force = subst (λ (t : Tables). AreCodings (at_frame w g) g
+          (pass_of s) t s.components s.dc_places s.ac_places o.0) (sym (tables-kept w g s)) o.1;
+      legal = legal-alike (pass_of s) levels codings o.0 o.2 l.legal;
+    })
+    (scan-alike f g w.restart (pass_of s) codings o.0 array payload same o.2 x) i
+    (subst (λ (p : List ℕ). WritesScans array g tail (at_frame w g)
+    (levels_after (pass_of s) p levels) true after more (at_frame final g) last) (sym places)
+    (scans-alike array f g tail w final
+    (levels_after (pass_of s) (map (λ (c : Coding). c.place) codings) levels) last true after more same e r))
+scans-alike array f g tail w final levels last sc m bytes same e (closed w' levels' t c) =
+    closed (at_frame w g) levels (tables-there w g f.components g.components same.components t)
+    (λ n. subst (λ (k : ℕ). AllByRecursion (λ j. IsComplete (levels j)) (range_with_len 0 k))
+    (sym (length-same f.components g.components same.components)) (c (ap is_progressive (sym same.process) ∙ n)))

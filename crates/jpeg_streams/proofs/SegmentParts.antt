@@ -1,0 +1,25 @@
+-- Segments that are read.
+use Rattle.std.proofs.Common.{◌≡◌, ℕ, List, Ok, false, Option, Some, None, refl}
+use Rattle.std.specs.Prelude.{is_some, option_map}
+use Rattle.jpeg_segments.specs.declared.parser.FrameInfo.{FrameInfo}
+use Rattle.jpeg_segments.specs.Frame.{Frame, sof_at}
+use Rattle.jpeg_segments.specs.FrameView.{frame_in}
+use Rattle.jpeg_segments.specs.Application.{Application, app_at}
+use Rattle.jpeg_streams.specs.Stream.{Found, Metadata, onward, accepted, with_application, frame_segment}
+use Rattle.jpeg_streams.specs.Stream.{application_segment}
+
+pub no-frame : (o : Option FrameInfo) → is_some o ≡ false → is_some (option_map frame_in o) ≡ false
+no-frame None e = refl
+no-frame (Some f) e = absurd (let n : ⊥ = cc in n)
+
+pub frame-read : (number : ℕ) (found : Found) (bytes rest : List ℕ) (frame : Frame) → is_some found.frame ≡ false
+    → sof_at number bytes ≡ Ok (frame, rest) → accepted frame ≡ Ok frame
+    → frame_segment number found bytes ≡ Ok (onward (record found { frame = Some frame }), rest)
+unfolding frame_segment
+frame-read number found bytes rest frame none e a = rw (none, e, a) refl
+
+pub application-read : (number : ℕ) (found : Found) (bytes rest : List ℕ) (said : Option Application) (m : Metadata)
+    → app_at number bytes ≡ Ok (said, rest) → m ≡ with_application found.metadata said
+    → application_segment number found bytes ≡ Ok (onward (record found { metadata = m }), rest)
+unfolding application_segment
+application-read number found bytes rest said m e a = rw (e, a) refl

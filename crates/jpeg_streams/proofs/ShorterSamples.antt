@@ -1,0 +1,92 @@
+-- What a lossless scan leaves.
+use Rattle.std.proofs.Common.{◌-◌, ◌<◌, ℕ, zero, suc, List, [], ◌∷◌, Bool, true, false, Option, Err, length}
+use Rattle.std.specs.Prelude.{◌==◌, nat_le, nat_lt}
+use Rattle.jpeg_bits.specs.Reading.{Outcome, Malformed}
+use Rattle.jpeg_bits.specs.Codes.{Table, symbol_from}
+use Rattle.jpeg_bits.specs.Entropy.{upcoming, fresh, marker_from}
+use Rattle.jpeg_bits.specs.Readers.{refused, signed_from}
+use Rattle.jpeg_bits.specs.declared.marker.Marker.{Marker}
+use Rattle.jpeg_lossless.specs.Differences.{difference, difference_of, differences, mcu_tables, rows_from, tables_of}
+use Rattle.jpeg_lossless.specs.Scans.{Way, interval, intervals, is_of_rows, is_restart, lines_above}
+use Rattle.jpeg_lossless.specs.Scans.{rows_of_interval, scan_at}
+use Rattle.jpeg_streams.proofs.Shorter.{LeavesBelow, below-ok, below-err, below-bind}
+use Rattle.jpeg_streams.proofs.ShorterTexts.{StaysBelow, bind-stays, gives-stays, refused-stays, elim-stays}
+use Rattle.jpeg_streams.proofs.ShorterTexts.{signed-stays, symbol-stays, texts-below, upcoming-below}
+use Rattle.jpeg_streams.proofs.ShorterTexts.{marker_from-below}
+
+-- ---- differences
+
+difference-stays : (limit : ℕ) (table : Table) → StaysBelow limit (difference table)
+unfolding difference
+difference-stays limit table =
+    bind-stays limit (symbol_from table) _ (symbol-stays limit table) (λ s.
+    elim-stays limit (nat_le s 16) (difference_of s) refused
+    (elim-stays limit (s == 0) _ _ (gives-stays limit 0)
+    (elim-stays limit (nat_lt s 16) _ _
+    (bind-stays limit (signed_from s) _ (signed-stays limit s) (λ v. gives-stays limit _)) (gives-stays limit 32768)))
+    (refused-stays ℕ limit))
+
+differences-stay : (limit : ℕ) (tables : List Table) → StaysBelow limit (differences tables)
+unfolding differences
+differences-stay limit [] = gives-stays limit []
+differences-stay limit (table ∷ tables) =
+    bind-stays limit (difference table) _ (difference-stays limit table) (λ d.
+    bind-stays limit (differences tables) _ (differences-stay limit tables) (λ more. gives-stays limit _))
+
+rows-stay : (limit : ℕ) (tables : List Table) (n : ℕ) → StaysBelow limit (rows_from tables n)
+unfolding rows_from
+rows-stay limit tables zero = gives-stays limit []
+rows-stay limit tables (suc n) =
+    bind-stays limit (differences tables) _ (differences-stay limit tables) (λ row.
+    bind-stays limit (rows_from tables n) _ (rows-stay limit tables n) (λ more. gives-stays limit _))
+
+-- ---- intervals
+
+abbrev Lines : Type 0
+Lines = List (List (List ℕ)) × Option Marker
+
+interval-below : (limit : ℕ) (w : Way) (n : ℕ) (bytes : List ℕ) → length bytes < limit
+    → LeavesBelow limit (interval w n bytes)
+unfolding interval
+interval-below limit w n bytes h =
+    let tables = tables_of w.wide (mcu_tables w.parts) in
+    texts-below limit (rows_from tables n (upcoming fresh bytes)) _
+    ((rows-stay limit tables n).stays (upcoming fresh bytes) (upcoming-below limit bytes h)) (λ r a.
+    below-bind limit limit (marker_from r.1) _ (marker_from-below limit r.1 a) (λ m q. below-ok limit _ m.1 q))
+
+restart-below : (limit : ℕ) (front : List (List (List ℕ))) (others : Outcome Lines) (b : Bool)
+    → LeavesBelow limit others
+    → LeavesBelow limit (elim b as (λ _. Outcome Lines) [ true ↦ lines_above front others | false ↦ Err Malformed ])
+restart-below limit front others true h = below-bind limit limit others _ h (λ s u. below-ok limit _ s.1 u)
+restart-below limit front others false h = below-err Lines limit Malformed
+
+either-below : (limit : ℕ) (x y : Outcome Lines) (b : Bool) → LeavesBelow limit x → LeavesBelow limit y
+    → LeavesBelow limit (elim b as (λ _. Outcome Lines) [ true ↦ x | false ↦ y ])
+either-below limit x y true h g = h
+either-below limit x y false h g = g
+
+intervals-below : (limit turns : ℕ) (w : Way) (per k left : ℕ) (bytes : List ℕ) → length bytes < limit
+    → LeavesBelow limit (intervals turns w per k left bytes)
+unfolding intervals
+intervals-below limit zero w per k left bytes h = below-err Lines limit Malformed
+intervals-below limit (suc turns) w per k left bytes h =
+    either-below limit (interval w left bytes) _ (nat_le left per) (interval-below limit w left bytes h)
+    (below-bind limit limit (interval w per bytes) _ (interval-below limit w per bytes h) (λ r q.
+    restart-below limit r.0.0 (intervals turns w per (suc k) (left - per) r.1) (is_restart k r.0.1)
+    (intervals-below limit turns w per (suc k) (left - per) r.1 q)))
+
+-- ---- scans
+
+planes-below : (limit : ℕ) (x : Outcome (List (List ℕ) × Option Marker)) (b : Bool) → LeavesBelow limit x
+    → LeavesBelow limit (elim b as (λ _. Outcome (List (List ℕ) × Option Marker)) [ true ↦ x | false ↦ Err Malformed ])
+planes-below limit x true h = h
+planes-below limit x false h = below-err (List (List ℕ) × Option Marker) limit Malformed
+
+pub samples-below : (limit : ℕ) (w : Way) (high restart point : ℕ) (bytes : List ℕ) → length bytes < limit
+    → LeavesBelow limit (scan_at w high restart point bytes)
+unfolding scan_at
+samples-below limit w high restart point bytes h =
+    planes-below limit _ (is_of_rows w.wide high restart)
+    (below-bind limit limit (intervals (suc high) w (rows_of_interval w.wide high restart) 0 high bytes) _
+    (intervals-below limit (suc high) w (rows_of_interval w.wide high restart) 0 high bytes h)
+    (λ r q. below-ok limit _ r.1 q))

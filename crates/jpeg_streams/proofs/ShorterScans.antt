@@ -1,0 +1,199 @@
+-- What a scan leaves.
+use Rattle.std.proofs.Common.{◌+◌, ◌-◌, ◌/◌, ◌%◌, ◌^◌, ◌<◌, ℕ, zero, suc, List, [], ◌∷◌, take, drop, set, get_or, Bool}
+use Rattle.std.proofs.Common.{true, false, Option, Err, ℤ, pos, length}
+use Rattle.std.specs.Prelude.{◌==◌, nat_le, nat_lt}
+use Rattle.jpeg_bits.specs.Reading.{Outcome, Malformed}
+use Rattle.jpeg_bits.specs.Entropy.{upcoming, fresh, marker_from, bits_from}
+use Rattle.jpeg_bits.specs.Readers.{Reads, ◌>>=◌, gives, refused, signed_from}
+use Rattle.jpeg_bits.specs.Codes.{Table, symbol_from, code_from}
+use Rattle.jpeg_bits.specs.declared.marker.Marker.{Marker}
+use Rattle.jpeg_bits.specs.declared.tokens.Token.{Token}
+use Rattle.jpeg_bits.specs.declared.tokens.Token.TheVariants.{Value, Sixteen, Rest, Overlong}
+use Rattle.jpeg_bits.specs.Bands.{Band, category_number, difference, first_dc, token_at, token_from, after_token}
+use Rattle.jpeg_bits.specs.Bands.{first_ac}
+use Rattle.jpeg_bits.specs.Passes.{Pass, Via, Block, dc_part, band_part, band_of, block_from, blocks_of}
+use Rattle.jpeg_bits.specs.Intervals.{interval, intervals, is_restart, blocks_before, predictors_at_start, first_group}
+use Rattle.jpeg_bits.specs.Intervals.{other_groups}
+use Rattle.jpeg_bits.specs.Refinement.{is_zero, bit_of, moved, fits_i16, corrected_by, corrected, through_zero}
+use Rattle.jpeg_bits.specs.Refinement.{refined_piece, refined_ac}
+use Rattle.jpeg_streams.specs.Order.{Spot}
+use Rattle.jpeg_streams.specs.Scans.{Arrays, turns_of, arrays_at}
+use Rattle.jpeg_streams.proofs.Shorter.{LeavesBelow, below-ok, below-err, below-bind}
+use Rattle.jpeg_streams.proofs.ShorterTexts.{StaysBelow, bind-stays, gives-stays, refused-stays, elim-stays, bits-stays}
+use Rattle.jpeg_streams.proofs.ShorterTexts.{signed-stays, code-stays, symbol-stays, texts-below, upcoming-below}
+use Rattle.jpeg_streams.proofs.ShorterTexts.{marker_from-below}
+
+-- ---- blocks
+
+category-stays : (limit s : ℕ) → StaysBelow limit (category_number s)
+category-stays limit s = elim-stays limit (s == 0) (gives (pos 0)) (signed_from s) (gives-stays limit _)
+    (signed-stays limit s)
+
+difference-stays : (limit : ℕ) (table : Table) → StaysBelow limit (difference table)
+unfolding difference
+difference-stays limit table =
+    bind-stays limit (symbol_from table) _ (symbol-stays limit table) (λ s.
+    elim-stays limit (nat_le s 11) (category_number s) refused (category-stays limit s) (refused-stays ℤ limit))
+
+first_dc-stays : (limit : ℕ) (table : Table) (al : ℕ) (predictor : ℤ) → StaysBelow limit (first_dc table al predictor)
+unfolding first_dc
+first_dc-stays limit table al predictor =
+    bind-stays limit (difference table) _ (difference-stays limit table) (λ d. gives-stays limit _)
+
+token_at-stays : (limit room size r s : ℕ) → StaysBelow limit (token_at room size r s)
+unfolding token_at
+token_at-stays limit room size r s =
+    elim-stays limit (nat_lt 0 s) _ _
+    (elim-stays limit (nat_lt r room) _ _
+    (bind-stays limit (signed_from s) (λ v. gives (Value r v)) (signed-stays limit s) (λ v. gives-stays limit _))
+    (elim-stays limit (nat_le (size + s) 8) _ _
+    (bind-stays limit (signed_from s) (λ v. gives Overlong) (signed-stays limit s) (λ v. gives-stays limit _))
+    (gives-stays limit Overlong)))
+    (elim-stays limit (r == 15) _ _ (gives-stays limit Sixteen)
+    (bind-stays limit (bits_from r) (λ e. gives (Rest (2 ^ r - 1 + e))) (bits-stays limit r)
+    (λ e. gives-stays limit _)))
+
+token_from-stays : (limit : ℕ) (table : Table) (room : ℕ) → StaysBelow limit (token_from table room)
+unfolding token_from
+token_from-stays limit table room =
+    bind-stays limit (code_from table) _ (code-stays limit table) (λ c. token_at-stays limit room c.0 (c.1 / 16)
+    (c.1 % 16))
+
+after-stays : (limit al : ℕ) (others : List ℤ → Reads Band) (rest : List ℤ)
+    → ((rest : List ℤ) → StaysBelow limit (others rest)) → (token : Token)
+    → StaysBelow limit (after_token al others rest token)
+after-stays limit al others rest h (Value r v) =
+    bind-stays limit (others (drop (r + 1) rest)) _ (h (drop (r + 1) rest)) (λ more. gives-stays limit _)
+after-stays limit al others rest h Sixteen =
+    bind-stays limit (others (drop 16 rest)) _ (h (drop 16 rest)) (λ more. gives-stays limit _)
+after-stays limit al others rest h (Rest run) = gives-stays limit _
+after-stays limit al others rest h Overlong = gives-stays limit _
+
+first_ac-stays : (limit : ℕ) (table : Table) (al n : ℕ) (rest : List ℤ) → StaysBelow limit (first_ac table al n rest)
+unfolding first_ac
+first_ac-stays limit table al n [] = gives-stays limit _
+first_ac-stays limit table al zero (x ∷ rest) = refused-stays Band limit
+first_ac-stays limit table al (suc n) (x ∷ rest) =
+    bind-stays limit (token_from table (length (x ∷ rest))) _ (token_from-stays limit table (length (x ∷ rest)))
+    (after-stays limit al (first_ac table al n) (x ∷ rest) (first_ac-stays limit table al n))
+
+dc-stays : (limit : ℕ) (p : Pass) (dc : Table) (z predictor : ℤ) → StaysBelow limit (dc_part p dc z predictor)
+unfolding dc_part
+dc-stays limit p dc z predictor =
+    elim-stays limit (p.ss == 0) _ _
+    (elim-stays limit p.is_first _ _ (first_dc-stays limit dc p.al predictor) (bind-stays limit (bits_from 1) _
+    (bits-stays limit 1) (λ b. gives-stays limit _)))
+    (gives-stays limit _)
+
+-- a refinement
+
+moved-stays : (limit al : ℕ) (z : ℤ) (b : ℕ) → StaysBelow limit (corrected_by al z b)
+moved-stays limit al z zero = gives-stays limit z
+moved-stays limit al z (suc b) =
+    elim-stays limit (bit_of al z == 0) _ _ (elim-stays limit (fits_i16 (moved (2 ^ al) z)) _ _ (gives-stays limit _)
+    (refused-stays ℤ limit)) (gives-stays limit z)
+
+corrected-stays : (limit al : ℕ) (places : List ℤ) → StaysBelow limit (corrected al places)
+unfolding corrected
+corrected-stays limit al [] = gives-stays limit _
+corrected-stays limit al (z ∷ places) =
+    bind-stays limit (elim (is_zero z) as (λ _. Reads ℤ) [
+      | true ↦ gives z
+      | false ↦ bits_from 1
+          >>= (λ b. corrected_by al z b)
+    ]) _
+    (elim-stays limit (is_zero z) _ _ (gives-stays limit z) (bind-stays limit (bits_from 1) _ (bits-stays limit 1)
+    (λ b. moved-stays limit al z b))) (λ first.
+    bind-stays limit (corrected al places) _ (corrected-stays limit al places) (λ others. gives-stays limit _))
+
+piece-stays : (limit al : ℕ) (others : List ℤ → Reads Band) (rest : List ℤ)
+    → ((rest : List ℤ) → StaysBelow limit (others rest)) → (r s : ℕ)
+    → StaysBelow limit (refined_piece al others rest r s)
+unfolding refined_piece
+piece-stays limit al others rest h r zero =
+    elim-stays limit (r == 15) _ _
+    (bind-stays limit (corrected al (take (through_zero 15 rest) rest)) _ (corrected-stays limit al _) (λ front.
+    bind-stays limit (others (drop (through_zero 15 rest) rest)) _ (h _) (λ more. gives-stays limit _)))
+    (bind-stays limit (bits_from r) _ (bits-stays limit r) (λ e. bind-stays limit (corrected al rest) _
+    (corrected-stays limit al rest) (λ all. gives-stays limit _)))
+piece-stays limit al others rest h r (suc zero) =
+    bind-stays limit (bits_from 1) _ (bits-stays limit 1) (λ sign.
+    bind-stays limit (corrected al (take (through_zero r rest) rest)) _ (corrected-stays limit al _) (λ front.
+    bind-stays limit (others (drop (through_zero r rest) rest)) _ (h _) (λ more. gives-stays limit _)))
+piece-stays limit al others rest h r (suc (suc s)) = refused-stays Band limit
+
+refined_ac-stays : (limit : ℕ) (table : Table) (al n : ℕ) (rest : List ℤ)
+    → StaysBelow limit (refined_ac table al n rest)
+unfolding refined_ac
+refined_ac-stays limit table al n [] = gives-stays limit _
+refined_ac-stays limit table al zero (x ∷ rest) = refused-stays Band limit
+refined_ac-stays limit table al (suc n) (x ∷ rest) =
+    bind-stays limit (symbol_from table) _ (symbol-stays limit table) (λ c.
+    piece-stays limit al (refined_ac table al n) (x ∷ rest) (refined_ac-stays limit table al n) (c / 16) (c % 16))
+
+band-stays : (limit : ℕ) (p : Pass) (ac : Table) (band : List ℤ) (run : ℕ) → StaysBelow limit (band_part p ac band run)
+unfolding band_part
+band-stays limit p ac [] run = gives-stays limit _
+band-stays limit p ac (x ∷ band) zero =
+    elim-stays limit p.is_first _ _ (first_ac-stays limit ac p.al (length (x ∷ band)) (x ∷ band))
+    (refined_ac-stays limit ac p.al (length (x ∷ band)) (x ∷ band))
+band-stays limit p ac (x ∷ band) (suc run) =
+    elim-stays limit p.is_first _ _ (gives-stays limit _) (bind-stays limit (corrected p.al (x ∷ band)) _
+    (corrected-stays limit p.al (x ∷ band)) (λ all. gives-stays limit _))
+
+block-stays : (limit : ℕ) (p : Pass) (dc ac : Table) (predictor : ℤ) (run : ℕ) (old : Block)
+    → StaysBelow limit (block_from p dc ac predictor run old)
+unfolding block_from
+block-stays limit p dc ac predictor run old =
+    bind-stays limit (dc_part p dc old.dc predictor) _ (dc-stays limit p dc old.dc predictor) (λ d.
+    bind-stays limit (band_part p ac (band_of p old.acs) run) _ (band-stays limit p ac (band_of p old.acs) run)
+    (λ b. gives-stays limit _))
+
+blocks-stay : (limit : ℕ) (p : Pass) (predictors : List ℤ) (run : ℕ) (turns : List (Via × Block))
+    → StaysBelow limit (blocks_of p predictors run turns)
+unfolding blocks_of
+blocks-stay limit p predictors run [] = gives-stays limit _
+blocks-stay limit p predictors run (t ∷ turns) =
+    bind-stays limit (block_from p t.0.dc t.0.ac (get_or predictors t.0.component (pos 0)) run t.1) _
+    (block-stays limit p t.0.dc t.0.ac (get_or predictors t.0.component (pos 0)) run t.1) (λ r.
+    bind-stays limit (blocks_of p (set predictors t.0.component r.1) r.2 turns) _
+    (blocks-stay limit p (set predictors t.0.component r.1) r.2 turns) (λ more. gives-stays limit _))
+
+-- ---- intervals
+
+interval-below : (limit : ℕ) (p : Pass) (turns : List (Via × Block)) (bytes : List ℕ) → length bytes < limit
+    → LeavesBelow limit (interval p turns bytes)
+unfolding interval
+interval-below limit p turns bytes h =
+    texts-below limit (blocks_of p predictors_at_start 0 turns (upcoming fresh bytes)) _
+    ((blocks-stay limit p predictors_at_start 0 turns).stays (upcoming fresh bytes) (upcoming-below limit bytes h))
+    (λ r a.
+    below-bind limit limit (marker_from r.1) _ (marker_from-below limit r.1 a) (λ m q. below-ok limit _ m.1 q))
+
+restart-below : (limit : ℕ) (blocks : List Block) (others : Outcome (List Block × Option Marker)) (b : Bool)
+    → LeavesBelow limit others
+    → LeavesBelow limit (elim b as (λ _. Outcome (List Block × Option Marker)) [
+      | true ↦ blocks_before blocks others
+      | false ↦ Err Malformed
+    ])
+restart-below limit blocks others true h = below-bind limit limit others _ h (λ s u. below-ok limit _ s.1 u)
+restart-below limit blocks others false h = below-err (List Block × Option Marker) limit Malformed
+
+intervals-below : (limit : ℕ) (p : Pass) (k : ℕ) (turns : List (Via × Block)) (more : List (List (Via × Block)))
+    (bytes : List ℕ) → length bytes < limit → LeavesBelow limit (intervals p k turns more bytes)
+unfolding intervals
+intervals-below limit p k turns [] bytes h = interval-below limit p turns bytes h
+intervals-below limit p k turns (next ∷ more) bytes h =
+    below-bind limit limit (interval p turns bytes) _ (interval-below limit p turns bytes h) (λ r q.
+    restart-below limit r.0.0 (intervals p (suc k) next more r.1) (is_restart k r.0.1) (intervals-below limit p (suc k)
+    next more r.1 q))
+
+-- ---- scans
+
+pub arrays-below : (limit : ℕ) (p : Pass) (n : ℕ) (vias : List Via) (spots : List Spot) (arrays : Arrays)
+    (bytes : List ℕ) → length bytes < limit → LeavesBelow limit (arrays_at p n vias spots arrays bytes)
+unfolding arrays_at
+arrays-below limit p n vias spots arrays bytes h =
+    let turns : List (Via × Block) = turns_of vias spots arrays in
+    below-bind limit limit (intervals p 0 (first_group n turns) (other_groups n turns) bytes) _
+    (intervals-below limit p 0 (first_group n turns) (other_groups n turns) bytes h) (λ r q. below-ok limit _ r.1 q)

@@ -1,0 +1,434 @@
+-- A written stream, read at a scale.
+use Rattle.std.proofs.Common.{◌≡◌, ◌≢◌, ℕ, zero, suc, ◌*◌, ◌<◌, ◌≤◌, Bool, true, false, cond, List, [], ◌∷◌, ◌++◌}
+use Rattle.std.proofs.Common.{map, length, replicate, is_some, option_map, Option, Some, None, Result, Ok, refl, sym}
+use Rattle.std.proofs.Common.{ap, ap₂, ◌∙◌, subst, arith, length-append}
+use Rattle.jpeg_bits.specs.Reading.{Outcome, Fault, ◌>>=◌}
+use Rattle.jpeg_bits.specs.declared.marker.Marker.{Marker}
+use Rattle.jpeg_segments.specs.declared.parser.CodingProcess.{CodingProcess}
+use Rattle.jpeg_segments.specs.declared.parser.CodingProcess.TheVariants.{DctSequential, DctProgressive, Lossless}
+use Rattle.jpeg_segments.specs.Frame.{Frame, Component, Factors, ceiling}
+use Rattle.jpeg_streams.specs.declared.before.Before.{Before}
+use Rattle.jpeg_streams.specs.declared.before.Before.TheVariants.{Elsewhere}
+use Rattle.jpeg_streams.specs.declared.settings.Settings.{Settings}
+use Rattle.jpeg_segments.specs.Scales.{frame_at, scale_for, reaches, sized}
+use Rattle.jpeg_streams.specs.Stream.{Found, Turn, onward, accepted, nothing_found, turn_at, segments_within}
+use Rattle.jpeg_streams.specs.Stream.{segments_at, start_at, header_at, rest_at, sized_to, sized_meaning}
+use Rattle.jpeg_streams.specs.Levels.{Levels, Is8Bit, nothing_sent}
+use Rattle.jpeg_streams.specs.WrittenData.{marker}
+use Rattle.jpeg_streams.proofs.AcceptedStreams.{IsMarker}
+use Rattle.jpeg_streams.specs.WrittenScans.{Coefficients}
+use Rattle.jpeg_streams.proofs.AcceptedStreams.{WritesScans, WritesHead, WritesStream}
+use Rattle.jpeg_streams.specs.ArrayPictures.{meaning_of_array, picture_of_array}
+use Rattle.jpeg_streams.specs.Stream.{told_of}
+use Rattle.jpeg_streams.proofs.AcceptedStreams.WritesScans.{segment, scan, closed}
+use Rattle.jpeg_streams.proofs.AcceptedStreams.WritesHead.{before as earlier, frame as framing}
+use Rattle.jpeg_streams.proofs.AcceptedStreams.WritesStream.{stream}
+use Rattle.jpeg_streams.proofs.OwnSpots.{At, Fits}
+use Rattle.jpeg_streams.proofs.ReadStates.{reading}
+use Rattle.jpeg_streams.proofs.AcceptedTurns.{StandsAt, stands-next, then-ok, segment-read, frame-kept}
+use Rattle.jpeg_streams.proofs.BroughtLevels.{Shaped, framed-start}
+use Rattle.jpeg_streams.proofs.FrameShapes.{Plain, sof-plain, made-at, plain-size, all-shaped}
+use Rattle.jpeg_streams.proofs.ScaledSizes.{scaled_component, most_h, most_v, frame-components}
+use Rattle.jpeg_streams.proofs.ScaledScans.{own-same, Alike, Alikes, none, one_more, SameFrame, length-same, at_frame}
+use Rattle.jpeg_streams.proofs.ScaledScans.{scans-alike}
+use Rattle.jpeg_streams.proofs.ReadStreams.{nothing_finished, no_planes, frame-turn, frame-by, reads-scans}
+use Rattle.jpeg_streams.proofs.ReadStreams.{nothing-is, no-frame, starts-so, within-so}
+use Rattle.jpeg_streams.proofs.WrittenPictures.{pictures-same, rest-by}
+use Rattle.jpeg_streams.proofs.FrameShapes.{greatest-some, accepted-sources, ceiling-covers, ceiling-least}
+use Rattle.jpeg_streams.proofs.ScaledSources.{sources-there}
+use Rattle.jpeg_streams.proofs.ScaledSizes.{is-sized, factors-scaled, some-ceiling}
+use Rattle.jpeg_pixels.specs.Pictures.{Source, sources_by, sources_of}
+use Rattle.jpeg_streams.specs.ArrayPictures.{Takes}
+use Rattle.jpeg_streams.proofs.WrittenPictures.{pictures-taken}
+use Rattle.jpeg_streams.proofs.TablesInForce.{GoodTables, good-next, good-start}
+
+-- ---- frames at a scale
+
+scaled-alike : (s width height h v : ℕ) (xs : List Factors) → 0 < s → 0 < h → 0 < v
+    → Alikes (map (scaled_component 8 width height h v) xs) (map (scaled_component s width height h v) xs)
+scaled-alike s width height h v [] a b c = none
+scaled-alike s width height h v (x ∷ xs) a b c =
+    one_more (scaled_component 8 width height h v x) (scaled_component s width height h v x)
+    (map (scaled_component 8 width height h v) xs) (map (scaled_component s width height h v) xs)
+    (record {
+      factors = refl;
+      wide = refl;
+      high = refl;
+      own_wide = own-same (width * x.horizontal) h s b a ∙ sym (own-same (width * x.horizontal) h 8 b (omega arith));
+      own_high = own-same (height * x.vertical) v s c a ∙ sym (own-same (height * x.vertical) v 8 c (omega arith));
+    })
+    (scaled-alike s width height h v xs a b c)
+
+components-alike : (f : Frame) (s : ℕ) → Plain f → 0 < s → Alikes f.components (frame_at s f).components
+components-alike f s o h =
+    let one : f.components ≡ map (scaled_component 8 o.width o.height (most_h o.factors) (most_v o.factors)) o.factors
+    = ap (λ (g : Frame). g.components) (sym (plain-size f o) ∙ ap (frame_at 8) o.is)
+    ∙ frame-components 8 o.number o.precision o.width o.height o.factors in
+    let two : (frame_at s f).components
+    ≡ map (scaled_component s o.width o.height (most_h o.factors) (most_v o.factors)) o.factors
+    = ap (λ (g : Frame). (frame_at s g).components) o.is
+    ∙ frame-components s o.number o.precision o.width o.height o.factors in
+    subst (λ (l : List Component). Alikes l (frame_at s f).components) (sym one)
+    (subst (Alikes (map (scaled_component 8 o.width o.height (most_h o.factors) (most_v o.factors)) o.factors))
+    (sym two)
+    (scaled-alike s o.width o.height (most_h o.factors) (most_v o.factors) o.factors h
+    (greatest-some (λ x. x.horizontal) o.factors) (greatest-some (λ x. x.vertical) o.factors)))
+
+pub same-frame : (f : Frame) (s : ℕ) → Plain f → 0 < s → SameFrame f (frame_at s f)
+unfolding frame_at
+same-frame f s o h = record {
+  components = components-alike f s o h;
+  is_baseline = refl;
+  process = refl;
+  precision =
+      refl;
+  mcus_wide = refl;
+  mcus_high = refl;
+}
+
+at-alike : (k : ℕ) (cs ds : List Component) (d : Component) → Alikes cs ds → At k ds d
+    → (c : Component) × At k cs c × Alike c d
+at-alike k cs ds d none t = absurd t
+at-alike zero cs ds d (one_more x y cs' ds' h more) t = (x, refl, subst (Alike x) t h)
+at-alike (suc k) cs ds d (one_more x y cs' ds' h more) t = at-alike k cs' ds' d more t
+
+fits-alike : (f g : Frame) (c d : Component) → SameFrame f g → Alike c d → Fits f c → Fits g d
+fits-alike f g c d same a fit = record {
+  horizontal = subst (λ (x : Factors). 0 < x.horizontal) (sym a.factors) fit.horizontal;
+  vertical = subst (λ (x : Factors). 0 < x.vertical) (sym a.factors) fit.vertical;
+  wide = a.wide ∙ fit.wide ∙ ap₂ (λ (m : ℕ) (x : Factors). m * x.horizontal) (sym same.mcus_wide) (sym a.factors);
+  high = a.high ∙ fit.high ∙ ap₂ (λ (m : ℕ) (x : Factors). m * x.vertical) (sym same.mcus_high) (sym a.factors);
+  own_wide = let u = fit.own_wide in let e = a.own_wide in let k = a.wide in omega arith;
+  own_high = let u = fit.own_high in let e = a.own_high in let k = a.high in omega arith;
+}
+
+pub shaped-at : (f : Frame) (s : ℕ) → Plain f → 0 < s → Shaped f → Shaped (frame_at s f)
+shaped-at f s o h shape =
+    let same = same-frame f s o h in
+    record {
+      made = made-at f s o h;
+      few = let e = length-same f.components (frame_at s f).components same.components in let n = shape.few in
+          omega arith;
+      fits = λ k d t. let c = at-alike k f.components (frame_at s f).components d same.components t in
+          fits-alike f (frame_at s f) c.0 d same c.2 (shape.fits k c.0 c.1);
+      lossy = λ e. shape.lossy (sym same.process ∙ e);
+    }
+
+pick-some : (a b c : Bool) → 0 < cond a 1 (cond b 2 (cond c 4 8))
+pick-some true b c = omega arith
+pick-some false true c = omega arith
+pick-some false false true = omega arith
+pick-some false false false = omega arith
+
+scale-some : (a b c d : ℕ) → 0 < scale_for a b c d
+unfolding scale_for
+scale-some a b c d = pick-some (reaches 1 a b c d) (reaches 2 a b c d) (reaches 4 a b c d)
+
+pick-most : (a b c : Bool) → cond a 1 (cond b 2 (cond c 4 8)) ≤ 8
+pick-most true b c = omega arith
+pick-most false true c = omega arith
+pick-most false false true = omega arith
+pick-most false false false = omega arith
+
+scale-most : (a b c d : ℕ) → scale_for a b c d ≤ 8
+unfolding scale_for
+scale-most a b c d = pick-most (reaches 1 a b c d) (reaches 2 a b c d) (reaches 4 a b c d)
+
+-- the scale that is asked for
+pub sized-is : (width height : ℕ) (f : Frame) → f.process ≢ Lossless
+    → (s : ℕ) × (0 < s) × (sized width height f ≡ frame_at s f) × (s ≤ 8)
+sized-is width height f n = go f.process refl
+  where
+    go : (p : CodingProcess) → f.process ≡ p → (s : ℕ) × (0 < s) × (sized width height f ≡ frame_at s f) × (s ≤ 8)
+    go DctSequential e = (
+      scale_for f.width f.height width height,
+      scale-some f.width f.height width height,
+      (rw e refl),
+      scale-most f.width f.height width height,
+    )
+    go DctProgressive e = (
+      scale_for f.width f.height width height,
+      scale-some f.width f.height width height,
+      (rw e refl),
+      scale-most f.width f.height width height,
+    )
+    go Lossless e = absurd (n e)
+
+-- ---- the header
+
+kept-in : (array : Coefficients) (f : Frame) (tail : List ℕ) (w final : Found) (levels last : ℕ → Levels) (sc : Bool)
+    (m : Marker) (bytes : List ℕ) → WritesScans array f tail w levels sc m bytes final last → final.frame ≡ w.frame
+kept-in array f tail w final levels last sc m bytes
+    (segment w' next final' levels' last' sc' m' after fill code payload more s q i r) =
+    kept-in array f tail next final levels last sc after more r ∙ frame-kept w next m payload s
+kept-in array f tail w final levels last sc m bytes
+    (scan w' final' levels' last' sc' after fill code header payload more s codings a l x i r) =
+    kept-in array f tail w final _ last true after more r
+kept-in array f tail w final levels last sc m bytes (closed w' levels' t c) = refl
+
+-- what is found after the frame, and what stands there
+pub record ReadHeader (array : Coefficients) (tail : List ℕ) (final : Found) (last : ℕ → Levels)
+    (found : Outcome Found) : Type 0 where
+  pub w : Found
+  pub frame : Frame
+  pub plain : Plain frame
+  pub is_accepted : accepted frame ≡ Ok frame
+  pub good : GoodTables w.huffman
+  pub shape : Shaped frame
+  pub after : Marker
+  pub fill : ℕ
+  pub code : ℕ
+  pub more : List ℕ
+  pub is_marker : IsMarker code after
+  pub is : found ≡ Ok (reading (at_frame w frame) false [] nothing_finished no_planes, marker fill code more)
+  pub written : WritesScans array frame tail (at_frame w frame) (λ k. nothing_sent) false after more final last
+
+header-by : (array : Coefficients) (tail : List ℕ) (final : Found) (last : ℕ → Levels) (one other : Outcome Found)
+    → one ≡ other → ReadHeader array tail final last other → ReadHeader array tail final last one
+header-by array tail final last one other e r =
+    record {
+      w = r.w;
+      frame = r.frame;
+      plain = r.plain;
+      is_accepted = r.is_accepted;
+      good = r.good;
+      shape =
+          r.shape;
+      after = r.after;
+      fill = r.fill;
+      code = r.code;
+      more = r.more;
+      is_marker = r.is_marker;
+      is = e
+          ∙ r.is;
+      written = r.written;
+    }
+
+head-on : (turns : ℕ) (before : Before) (f : Found) (met : Option Marker) (all rest : List ℕ) (t : Turn)
+    → f.frame ≡ None → turn_at before f met all ≡ Ok (t, rest) → t.ended ≡ false
+    → segments_within (suc turns) true before f met all ≡ segments_within turns true t.before t.found t.met rest
+unfolding segments_within
+head-on turns before f met all rest t n e g = let s : is_some f.frame ≡ false = ap is_some n in
+    rw (s, segments_within) (rw e (rw g refl))
+
+head-end : (turns : ℕ) (before : Before) (f : Found) (met : Option Marker) (all : List ℕ) → is_some f.frame ≡ true
+    → segments_within (suc turns) true before f met all ≡ Ok (f, all)
+unfolding segments_within
+head-end turns before f met all e = rw (e, segments_within) refl
+
+pub reads-header : (array : Coefficients) (tail : List ℕ) (w final : Found) (last : ℕ → Levels) (m : Marker)
+    (bytes : List ℕ) (turns : ℕ) (bf : Before) (met : Option Marker) (all : List ℕ)
+    → GoodTables w.huffman → w.frame ≡ None → WritesHead array tail w m bytes final last → StandsAt met all m bytes
+    → length bytes < turns
+    → ReadHeader array tail final last
+    (segments_within turns true bf (reading w false [] nothing_finished no_planes) met all)
+reads-header array tail w final last m bytes zero bf met all good n r at room = absurd (omega arith)
+reads-header array tail w final last m bytes (suc turns) bf met all good n
+    (earlier w' next final' last' m' after fill code payload more s i r) at room =
+    let sizes = length-append payload (marker fill code more) in
+    let fills = length-append (replicate fill 0xFF) (code ∷ more) in
+    let now = reading w false [] nothing_finished no_planes in
+    header-by array tail final last _ _
+    (head-on turns bf now met all (marker fill code more) (onward (reading next false [] nothing_finished no_planes)) n
+    (at.turn bf now ∙ segment-read w next m payload (marker fill code more) bf false [] nothing_finished no_planes s)
+    refl)
+    (reads-header array tail next final last after more turns Elsewhere None (marker fill code more)
+    (good-next w next m payload s good) (frame-kept w next m payload s ∙ n) r (stands-next fill code after more i)
+    (omega arith))
+reads-header array tail w final last m bytes (suc turns) bf met all good n
+    (framing w' final' last' after number fill code payload more f small a ok i r) at room =
+    let sizes = length-append payload (marker fill code more) in
+    let fills = length-append (replicate fill 0xFF) (code ∷ more) in
+    let now = reading w false [] nothing_finished no_planes in
+    let next : Found = at_frame w f in
+    let last_turn = ended turns (omega arith) next (marker fill code more) in
+    record {
+      w = w;
+      good = good;
+      is_accepted = ok;
+      frame = f;
+      plain = sof-plain number (payload ++ []) (f, []) (a.accepted []);
+      shape = all-shaped number payload f small a ok;
+      after = after;
+      fill = fill;
+      code = code;
+      more = more;
+      is_marker = i;
+      is = head-on turns bf now met all (marker fill code more)
+          (onward (reading next false [] nothing_finished no_planes)) n
+          (at.turn bf now ∙ frame-turn number bf now (payload ++ marker fill code more) _
+          (frame-by number now f (payload ++ marker fill code more) (marker fill code more) n
+          (a.accepted (marker fill code more)) ok)) refl
+          ∙ last_turn refl;
+      written = r;
+    }
+  where
+    ended : (turns : ℕ) → 0 < turns → (next : Found) (all : List ℕ) → is_some next.frame ≡ true
+        → segments_within turns true Elsewhere (reading next false [] nothing_finished no_planes) None all
+        ≡ Ok (reading next false [] nothing_finished no_planes, all)
+    ended zero h next all e = absurd (omega arith)
+    ended (suc turns) h next all e =
+        head-end turns Elsewhere (reading next false [] nothing_finished no_planes) None all e
+
+-- ---- the meaning
+
+header-so : (bytes rest : List ℕ) → start_at bytes ≡ Ok (tt, rest)
+    → header_at bytes ≡ segments_at true Elsewhere nothing_found None rest
+unfolding header_at
+header-so bytes rest e = then-ok (start_at bytes) _ (tt, rest) _ e refl
+
+header-within : (found : Found) (bytes : List ℕ)
+    → segments_at true Elsewhere found None bytes
+    ≡ segments_within (suc (length bytes)) true Elsewhere found None bytes
+unfolding segments_at
+header-within found bytes = refl
+
+sized-by : (width height : ℕ) (settings : Settings) (bytes rest : List ℕ) (found : Found)
+    → header_at bytes ≡ Ok (found, rest)
+    → sized_meaning width height settings bytes ≡ rest_at settings (sized_to width height found) rest
+unfolding sized_meaning
+sized-by width height settings bytes rest found e = then-ok (header_at bytes) _ (found, rest) _ e refl
+
+-- The meaning at a scale is the picture of the array at that scale.
+pub stream-means_sized : (width height : ℕ) (settings : Settings) (array : Coefficients) (tail bytes : List ℕ)
+    (final : Found) (last : ℕ → Levels)
+    → ((place row column : ℕ) → Is8Bit (array place row column)) → WritesStream array tail bytes final last
+    → sized_meaning width height settings bytes
+    ≡ meaning_of_array settings (sized_to width height final) array last tail
+stream-means_sized width height settings array tail bytes final last range
+    (stream after fill code more final' last' i r) =
+    let all = marker fill code more in
+    let fills = length-append (replicate fill 0xFF) (code ∷ more) in
+    let head = header-by array tail final last _ _
+    (header-so bytes all (starts-so all) ∙ header-within nothing_found all
+    ∙ ap (λ (x : Found). segments_within (suc (length all)) true Elsewhere x None all) nothing-is)
+    (reads-header array tail nothing_found final last after more
+    (suc (length all)) Elsewhere None all good-start no-frame r (stands-next fill code after more i) (omega arith))
+    in
+    let f = head.frame in
+    let g = sized width height f in
+    let size = sized-is width height f head.shape.lossy in
+    let same : SameFrame f g = subst (SameFrame f) (sym size.2) (same-frame f size.0 head.plain size.1) in
+    let shape : Shaped g = subst Shaped (sym size.2) (shaped-at f size.0 head.plain size.1 head.shape) in
+    let w = at_frame head.w f in
+    let left = marker head.fill head.code head.more in
+    let lefts = length-append (replicate head.fill 0xFF) (head.code ∷ head.more) in
+    let end = reads-scans array g tail (at_frame w g) (at_frame final g)
+    (λ k. nothing_sent) last false head.after head.more [] nothing_finished no_planes
+    (suc (length left)) Elsewhere None left
+    range shape head.good refl (λ e k. refl)
+    (framed-start (at_frame w g) g array [] nothing_finished no_planes range refl refl)
+    (scans-alike array f g tail w final (λ k. nothing_sent) last false head.after head.more same refl head.written)
+    (stands-next head.fill head.code head.after head.more head.is_marker) (omega arith) in
+    let found = reading (at_frame final g) true end.held end.finished end.planes in
+    let frame : final.frame ≡ Some f =
+    kept-in array f tail w final (λ k. nothing_sent) last false head.after head.more head.written in
+    let told : sized_to width height final ≡ at_frame final g =
+    ap (λ (o : Option Frame). record final { frame = option_map (sized width height) o }) frame in
+    sized-by width height settings bytes left (reading w false [] nothing_finished no_planes) head.is
+    ∙ rest-by settings (reading (at_frame w g) false [] nothing_finished no_planes) found left tail
+    (within-so (reading (at_frame w g) false [] nothing_finished no_planes) left ∙ end.is)
+    ∙ ap (λ (o : Result (List ℕ) Fault). o >>= (λ (picture : List ℕ). Ok ((told_of (at_frame final g), picture), tail)))
+    (pictures-same settings g array
+    (at_frame final g) last end.held end.finished end.planes shape refl end.framed end.tables end.complete)
+    ∙ ap (λ (x : Found). meaning_of_array settings x array last tail) (sym told)
+
+-- ---- there is a picture
+
+one-wide : (n s : ℕ) → 0 < s → s ≤ 8 → ceiling (n * 8) 8 ≡ 1 → 0 < n → ceiling (n * s) 8 ≡ 1
+one-wide n s a b e some =
+    let cover = ceiling-covers (n * 8) 8 (omega arith) in
+    let one : n ≡ 1 = omega arith in
+    let size : n * s ≡ 1 * s = ap (λ (x : ℕ). x * s) one in
+    let most : ceiling (n * s) 8 ≤ 1 = ceiling-least (n * s) 8 1 (omega arith) (omega arith) in
+    let least : 0 < ceiling (n * s) 8 = some-ceiling (n * s) 8 (omega arith) (omega arith) in
+    omega arith
+
+-- the frame at a scale has a way to upsample each component
+frame-sources : (f : Frame) (s : ℕ) (sources : List Source) → Plain f → 0 < s → s ≤ 8
+    → sources_of f.components f.output_width f.output_height ≡ Ok sources
+    → (others : List Source)
+    × (sources_of (frame_at s f).components (frame_at s f).output_width (frame_at s f).output_height ≡ Ok others)
+frame-sources f s sources o a b e =
+    let m = made-at f s o a in
+    let z = is-sized (frame_at s f) m in
+    let m8 = made-at f 8 o (omega arith) in
+    let z8 = is-sized (frame_at 8 f) m8 in
+    let full = plain-size f o in
+    let at8 : sources_of (map (scaled_component 8 o.width o.height (most_h o.factors) (most_v o.factors)) o.factors)
+    (ceiling (o.width * 8) 8) (ceiling (o.height * 8) 8) ≡ Ok sources
+    = sym (ap₂ (λ (x y : ℕ). sources_of
+    (map (scaled_component 8 o.width o.height (most_h o.factors) (most_v o.factors)) o.factors) x y) z8.width
+    z8.height)
+    ∙ sym (ap (λ (l : List Component). sources_of l (frame_at 8 f).output_width (frame_at 8 f).output_height)
+    z8.components)
+    ∙ ap (λ (g : Frame). sources_of g.components g.output_width g.output_height) full ∙ e in
+    let by8 = subst (λ (l : List Factors). sources_by (most_h l) (most_v l) (ceiling (o.width * 8) 8)
+    (ceiling (o.height * 8) 8)
+    (map (scaled_component 8 o.width o.height (most_h o.factors) (most_v o.factors)) o.factors) ≡ Ok sources)
+    (factors-scaled 8 o.width o.height (most_h o.factors) (most_v o.factors) o.factors) at8 in
+    let others = sources-there s o.width o.height (most_h o.factors) (most_v o.factors) (ceiling (o.width * 8) 8)
+    (ceiling (o.height * 8) 8) (ceiling (o.width * s) 8) (ceiling (o.height * s) 8) o.factors sources
+    (λ k. one-wide o.width s a b k o.some_width) (λ k. one-wide o.height s a b k o.some_height) by8 in
+    let back = subst (λ (l : List Factors). sources_by (most_h l) (most_v l) (ceiling (o.width * s) 8)
+    (ceiling (o.height * s) 8)
+    (map (scaled_component s o.width o.height (most_h o.factors) (most_v o.factors)) o.factors) ≡ Ok others.0)
+    (sym (factors-scaled s o.width o.height (most_h o.factors) (most_v o.factors) o.factors)) others.1 in (
+      others.0,
+      ap (λ (l : List Component). sources_of l (frame_at s f).output_width (frame_at s f).output_height) z.components
+          ∙ ap₂ (λ (x y : ℕ). sources_of
+          (map (scaled_component s o.width o.height (most_h o.factors) (most_v o.factors)) o.factors) x y) z.width
+          z.height
+          ∙ back,
+    )
+
+-- A written stream whose picture is taken means one at each scale.
+pub sized-taken : (width height : ℕ) (settings : Settings) (array : Coefficients) (tail bytes : List ℕ)
+    (final : Found) (last : ℕ → Levels)
+    → ((place row column : ℕ) → Is8Bit (array place row column)) → WritesStream array tail bytes final last
+    → Takes settings (sized_to width height final)
+    → (picture : List ℕ) × (picture_of_array settings (sized_to width height final) array last ≡ Ok picture)
+    × (sized_meaning width height settings bytes ≡ Ok ((told_of (sized_to width height final), picture), tail))
+sized-taken width height settings array tail bytes final last range
+    (stream after fill code more final' last' i r) takes =
+    let all = marker fill code more in
+    let fills = length-append (replicate fill 0xFF) (code ∷ more) in
+    let head = header-by array tail final last _ _
+    (header-so bytes all (starts-so all) ∙ header-within nothing_found all
+    ∙ ap (λ (x : Found). segments_within (suc (length all)) true Elsewhere x None all) nothing-is)
+    (reads-header array tail nothing_found final last after more
+    (suc (length all)) Elsewhere None all good-start no-frame r (stands-next fill code after more i) (omega arith))
+    in
+    let f = head.frame in
+    let g = sized width height f in
+    let size = sized-is width height f head.shape.lossy in
+    let same : SameFrame f g = subst (SameFrame f) (sym size.2) (same-frame f size.0 head.plain size.1) in
+    let shape : Shaped g = subst Shaped (sym size.2) (shaped-at f size.0 head.plain size.1 head.shape) in
+    let w = at_frame head.w f in
+    let left = marker head.fill head.code head.more in
+    let lefts = length-append (replicate head.fill 0xFF) (head.code ∷ head.more) in
+    let end = reads-scans array g tail (at_frame w g) (at_frame final g)
+    (λ k. nothing_sent) last false head.after head.more [] nothing_finished no_planes
+    (suc (length left)) Elsewhere None left
+    range shape head.good refl (λ e k. refl)
+    (framed-start (at_frame w g) g array [] nothing_finished no_planes range refl refl)
+    (scans-alike array f g tail w final (λ k. nothing_sent) last false head.after head.more same refl head.written)
+    (stands-next head.fill head.code head.after head.more head.is_marker) (omega arith) in
+    let frame : final.frame ≡ Some f =
+    kept-in array f tail w final (λ k. nothing_sent) last false head.after head.more head.written in
+    let told : sized_to width height final ≡ at_frame final g =
+    ap (λ (o : Option Frame). record final { frame = option_map (sized width height) o }) frame in
+    let first = accepted-sources f f head.is_accepted in
+    let there = frame-sources f size.0 first.0 head.plain size.1 size.3 first.1 in
+    let sources : sources_of g.components g.output_width g.output_height ≡ Ok there.0 =
+    ap (λ (x : Frame). sources_of x.components x.output_width x.output_height) size.2 ∙ there.1 in
+    let p = pictures-taken settings array
+    (at_frame final g) last g there.0 range shape refl end.held end.finished end.planes end.framed end.tables
+    end.complete sources (subst (Takes settings) told takes) in
+    let q = ap (λ (x : Found). picture_of_array settings x array last) told ∙ p.1 in (
+      p.0,
+      q,
+      stream-means_sized width height settings array tail bytes final last range
+          (stream after fill code more final last i r)
+          ∙ then-ok (picture_of_array settings (sized_to width height final) array last) _ p.0 _ q refl,
+    )

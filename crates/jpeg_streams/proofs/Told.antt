@@ -1,0 +1,50 @@
+-- What a stream has said.
+use Rattle.std.proofs.Common.{◌≡◌, ℕ, List, Bool, true, Result, Ok, Err, refl}
+use Rattle.jpeg_bits.specs.Stream.{Stream}
+use Rattle.jpeg_bits.specs.declared.error.Error.{Error}
+use Rattle.jpeg_bits.specs.declared.error.Error.TheVariants as errors
+use Rattle.jpeg_streams.specs.States.{IfRefused, OnTold}
+use Rattle.jpeg_bits.specs.Reading.{Fault, Outcome}
+use Rattle.jpeg_streams.specs.Stream.{Told, told_of, nothing_found, start_at, told_rest, told_by_stream, told_within}
+use Rattle.jpeg_streams.specs.Stream.{told_in_turns, told_by_turns}
+
+pub told-no_start : (header : Bool) (bytes : List ℕ) (fault : Fault) → start_at bytes ≡ Err fault
+    → told_by_stream header bytes ≡ told_of nothing_found
+unfolding told_by_stream
+told-no_start header bytes fault h = rw (h, told_by_stream) refl
+
+pub told-start : (header : Bool) (bytes rest : List ℕ) → start_at bytes ≡ Ok (tt, rest)
+    → told_by_stream header bytes ≡ told_rest header nothing_found rest
+unfolding told_by_stream
+told-start header bytes rest h = rw (h, told_by_stream) refl
+
+refused-through : (e : Error) (P Q : Type 0) → (P → Q) → IfRefused e P → IfRefused e Q
+refused-through (errors.Format text) P Q f h = f h
+refused-through (errors.Unsupported feature) P Q f h = f h
+refused-through (errors.Io x) P Q f h = f h
+refused-through (errors.Internal text) P Q f h = f h
+refused-through errors.OutOfMemory P Q f h = tt
+
+-- what a part of a call left
+pub told-through : {X : Type 0} (old mid new : Stream) (r : Result X Error) (P Q : Type 0)
+    → (old.known ≡ true → (mid.known ≡ true) × (P → Q)) → OnTold mid new r P → OnTold old new r Q
+told-through old mid new (Ok x) P Q f h = λ k. let a = f k in a.1 (h a.0)
+told-through old mid new (Err e) P Q f h = λ k known. let a = f k in refused-through e P Q a.1 (h a.0 known)
+
+-- ---- this many turns
+
+pub turns-none : (header : Bool) (bytes : List ℕ) → told_by_turns 0 header bytes ≡ told_of nothing_found
+unfolding told_by_turns told_within nothing_found
+turns-none header bytes = go (start_at bytes)
+  where
+    go : (start : Outcome (Unit {0})) → elim start as (λ _. Told) [
+      | Err fault ↦ told_of nothing_found
+      | Ok start ↦ told_in_turns 0 header nothing_found start.1
+    ] ≡ told_of nothing_found
+    go (Err fault) = refl
+    go (Ok start) = refl
+
+pub turns-start : (n : ℕ) (header : Bool) (bytes rest : List ℕ) → start_at bytes ≡ Ok (tt, rest)
+    → told_by_turns n header bytes ≡ told_in_turns n header nothing_found rest
+unfolding told_by_turns
+turns-start n header bytes rest h = rw (h, told_by_turns) refl

@@ -1,0 +1,71 @@
+-- Tables by their places.
+use Rattle.std.proofs.Common.{◌≡◌, ◌<◌, ℕ, zero, suc, List, [], ◌∷◌, Option, Some, None, Bool, true, false, refl, sym}
+use Rattle.std.proofs.Common.{ap, ◌∙◌, length, get_or, arith}
+use Rattle.std.proofs.Math.ListN.{set}
+use Rattle.std.specs.Prelude.{◌&&◌}
+use Rattle.std.proofs.lemmas.List.{get_or_default}
+use Rattle.jpeg_bits.specs.Codes.{Table, is_ac}
+use Rattle.jpeg_segments.specs.HuffmanTables.{all_ac, is_ac_or_none}
+use Rattle.jpeg_streams.specs.Stream.{updated}
+
+pub both : (a b : Bool) → (a && b) ≡ true → (a ≡ true) × (b ≡ true)
+both true b e = (refl, e)
+both false b e = absurd (let n : ⊥ = cc in n)
+
+-- a table that is moved to its place
+pub updated-set : {A : Type 0} (xs ys : List (Option A)) (i : ℕ) (t : A) → i < length xs → i < length ys
+    → get_or ys i None ≡ Some t → updated (set xs i (Some t)) (set ys i None) ≡ updated xs ys
+unfolding updated
+updated-set [] ys i t p q e = absurd (omega arith)
+updated-set (x ∷ xs) [] i t p q e = absurd (omega arith)
+updated-set (x ∷ xs) (y ∷ ys) zero t p q e = rw e refl
+updated-set (x ∷ xs) (None ∷ ys) (suc i) t p q e = ap (λ r. x ∷ r) (updated-set xs ys i t (omega arith) (omega arith) e)
+updated-set (x ∷ xs) (Some s ∷ ys) (suc i) t p q e =
+    ap (λ r. Some s ∷ r) (updated-set xs ys i t (omega arith) (omega arith) e)
+
+-- where no table is left, nothing changes
+pub updated-none : {A : Type 0} (xs ys : List (Option A)) → ((k : ℕ) → k < length xs → get_or ys k None ≡ None)
+    → updated xs ys ≡ xs
+unfolding updated
+updated-none [] ys h = refl
+updated-none (x ∷ xs) [] h = refl
+updated-none (x ∷ xs) (None ∷ ys) h = ap (λ r. x ∷ r) (updated-none xs ys (λ k lt. h (suc k) (omega arith)))
+updated-none (x ∷ xs) (Some s ∷ ys) h = let e : Some s ≡ None = h 0 (omega arith) in absurd (let n : ⊥ = cc in n)
+
+-- no table to move
+pub updated-keep : {A : Type 0} (xs ys : List (Option A)) (i : ℕ) → get_or ys i None ≡ None
+    → updated xs (set ys i None) ≡ updated xs ys
+unfolding updated
+updated-keep [] ys i e = refl
+updated-keep (x ∷ xs) [] i e = refl
+updated-keep (x ∷ xs) (y ∷ ys) zero e = rw e refl
+updated-keep (x ∷ xs) (None ∷ ys) (suc i) e = ap (λ r. x ∷ r) (updated-keep xs ys i e)
+updated-keep (x ∷ xs) (Some s ∷ ys) (suc i) e = ap (λ r. Some s ∷ r) (updated-keep xs ys i e)
+
+-- each table stays of class AC
+pub all_ac-updated : (xs ys : List (Option Table)) → all_ac xs ≡ true → all_ac ys ≡ true → all_ac (updated xs ys) ≡ true
+unfolding updated
+all_ac-updated [] ys p q = refl
+all_ac-updated (x ∷ xs) [] p q = p
+all_ac-updated (x ∷ xs) (None ∷ ys) p q =
+    rw (both (is_ac_or_none x) (all_ac xs) p).0 (all_ac-updated xs ys (both (is_ac_or_none x) (all_ac xs) p).1 q)
+all_ac-updated (x ∷ xs) (Some s ∷ ys) p q =
+    rw (both (is_ac s.class) (all_ac ys) q).0 (all_ac-updated xs ys (both (is_ac_or_none x) (all_ac xs) p).1
+    (both (is_ac s.class) (all_ac ys) q).1)
+
+-- a place is moved
+pub moved-some : {A : Type 0} (xs ys xs' ys' : List (Option A)) (i : ℕ) (found d v : Option A) (t : A) → i < length xs
+    → length xs ≡ length ys → found ≡ get_or ys i d → v ≡ None → found ≡ Some t
+    → xs' ≡ set xs i (Some t) → ys' ≡ set ys i v → updated xs' ys' ≡ updated xs ys
+moved-some xs ys xs' ys' i found d v t p l f n s a b =
+    rw (a, b, n) (updated-set xs ys i t p (omega arith) (get_or_default ys i None d (omega arith) ∙ sym f ∙ s))
+
+pub moved-none : {A : Type 0} (xs ys xs' ys' : List (Option A)) (i : ℕ) (found d v : Option A) → i < length xs
+    → length xs ≡ length ys → found ≡ get_or ys i d → v ≡ None → found ≡ None
+    → xs' ≡ xs → ys' ≡ set ys i v → updated xs' ys' ≡ updated xs ys
+moved-none xs ys xs' ys' i found d v p l f n s a b =
+    rw (a, b, n) (updated-keep xs ys i (get_or_default ys i None d (omega arith) ∙ sym f ∙ s))
+
+pub all_ac-moved : (old moved read new : List (Option Table)) → all_ac old ≡ true → all_ac read ≡ true → moved ≡ read
+    → new ≡ updated old moved → all_ac new ≡ true
+all_ac-moved old moved read new p q m n = rw (n, m) (all_ac-updated old read p q)

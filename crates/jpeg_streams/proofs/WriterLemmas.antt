@@ -1,0 +1,39 @@
+-- What a writer took of a text in several writes.
+use Rattle.std.proofs.Common.{◌≡◌, ℕ, List, ◌++◌, Option, sym, ap, ◌∙◌, take, drop, append_assoc, take-append-drop}
+use Rattle.std.specs.Io.KnownBytes.{Appends, Keeps}
+use Rattle.jpeg_streams.specs.Output.{TakesBeginning}
+use Rattle.std.proofs.KnownBytes.{Appends-trans, Appends-kept}
+
+abbrev pub Took : List ℕ → List ℕ → Option (List ℕ) → Option (List ℕ) → Type 0
+Took text rest old new = (taken : List ℕ) × (text ≡ taken ++ rest) × Appends old new taken
+
+-- a write took n bytes more
+pub Took-more : (text rest : List ℕ) (old mid new : Option (List ℕ)) (n : ℕ) → Took text rest old mid
+    → Appends mid new (take n rest) → Took text (drop n rest) old new
+Took-more text rest old mid new n so_far more = (
+  so_far.0 ++ take n rest,
+  so_far.1 ∙ ap (λ xs. so_far.0 ++ xs) (sym (take-append-drop n rest))
+      ∙ sym (append_assoc so_far.0 (take n rest) (drop n rest)),
+  Appends-trans old mid new so_far.0 (take n rest) so_far.2 more,
+)
+
+-- a write took nothing
+pub Took-kept : (text rest : List ℕ) (old mid new : Option (List ℕ)) → Took text rest old mid → Keeps mid new
+    → Took text rest old new
+Took-kept text rest old mid new so_far kept = (so_far.0, so_far.1, Appends-kept old mid new so_far.0 so_far.2 kept)
+
+-- a beginning of the first text is one of both
+pub TakesBeginning-front : (old new : Option (List ℕ)) (first second : List ℕ) → TakesBeginning old new first
+    → TakesBeginning old new (first ++ second)
+TakesBeginning-front old new first second h =
+    (h.0, h.1 ++ second, ap (λ xs. xs ++ second) h.2 ∙ append_assoc h.0 h.1 second, h.3)
+
+-- after the first text a beginning of the second is one of both
+pub TakesBeginning-after : (old mid new : Option (List ℕ)) (first second : List ℕ) → Appends old mid first
+    → TakesBeginning mid new second → TakesBeginning old new (first ++ second)
+TakesBeginning-after old mid new first second p h = (
+  first ++ h.0,
+  h.1,
+  ap (λ xs. first ++ xs) h.2 ∙ sym (append_assoc first h.0 h.1),
+  Appends-trans old mid new first h.0 p h.3,
+)

@@ -1,0 +1,71 @@
+-- A scan that was written is read at each of its spots.
+use Rattle.std.proofs.Common.{◌≡◌, ℕ, List, [], ◌∷◌, ◌++◌, map, Option, Some, Ok, refl, sym, ap, ◌∙◌, subst}
+use Rattle.std.specs.List.{AllByRecursion}
+use Rattle.jpeg_bits.specs.Reading.{Outcome, ◌>>=◌}
+use Rattle.jpeg_bits.specs.declared.marker.Marker.{Marker}
+use Rattle.jpeg_bits.specs.Passes.{Pass, Via, Block}
+use Rattle.jpeg_bits.specs.Intervals.{intervals, first_group, other_groups}
+use Rattle.jpeg_streams.specs.Order.{Spot}
+use Rattle.jpeg_streams.specs.Scans.{Arrays, block_at, put_blocks, via_at, turns_of, arrays_at}
+use Rattle.jpeg_streams.specs.WrittenData.{marker, WritesIntervals}
+use Rattle.jpeg_streams.specs.WrittenScans.{written_turns}
+use Rattle.jpeg_streams.proofs.SentBlocks.{after_pass, reads_of, numbers_of}
+use Rattle.jpeg_streams.proofs.AcceptedStreams.{IsMarker}
+use Rattle.jpeg_streams.proofs.WrittenBlocks.{IsReady}
+use Rattle.jpeg_streams.proofs.WrittenIntervals.{reads-groups}
+
+pub map-map_any : {A B C : Type 0} (f : A → B) (g : B → C) (xs : List A) → map g (map f xs) ≡ map (λ x. g (f x)) xs
+map-map_any f g [] = refl
+map-map_any f g (x ∷ xs) = ap (λ l. g (f x) ∷ l) (map-map_any f g xs)
+
+-- a block's way, what is held of it, and its numbers at the level of the pass
+abbrev pub turn_with : List Via → Arrays → (Spot → Block) → Spot → Via × Block × Block
+turn_with vias arrays u s = (via_at vias s.slot, block_at arrays s, u s)
+
+-- the block at a spot is ready for the pass
+pub record IsReadyAt (p : Pass) (vias : List Via) (arrays : Arrays) (u : Spot → Block) (s : Spot) : Type 0 where
+  pub at : IsReady p (turn_with vias arrays u s)
+
+ready-turns : (p : Pass) (vias : List Via) (arrays : Arrays) (u : Spot → Block) (spots : List Spot)
+    → AllByRecursion (IsReadyAt p vias arrays u) spots
+    → AllByRecursion (IsReady p) (map (turn_with vias arrays u) spots)
+ready-turns p vias arrays u [] h = tt
+ready-turns p vias arrays u (s ∷ spots) h = (h.0.at, ready-turns p vias arrays u spots h.1)
+
+abbrev pub put_back : List Spot → Arrays → (List Block × Option Marker) × List ℕ → Outcome (Arrays × Option Marker)
+put_back spots arrays r = Ok ((put_blocks spots r.0.0 arrays, r.0.1), r.1)
+
+arrays-by : (p : Pass) (n : ℕ) (vias : List Via) (spots : List Spot) (arrays : Arrays) (bytes : List ℕ)
+    → arrays_at p n vias spots arrays bytes
+    ≡ (intervals p 0 (first_group n (turns_of vias spots arrays))
+    (other_groups n (turns_of vias spots arrays)) bytes >>= put_back spots arrays)
+unfolding arrays_at
+arrays-by p n vias spots arrays bytes = refl
+
+turns-are : (vias : List Via) (spots : List Spot) (arrays : Arrays) (u : Spot → Block)
+    → reads_of (map (turn_with vias arrays u) spots) ≡ turns_of vias spots arrays
+unfolding turns_of
+turns-are vias spots arrays u = map-map_any (turn_with vias arrays u) (λ (t : Via × Block × Block). (t.0, t.1)) spots
+
+-- A scan that was written is read as the blocks after the pass, put back at their spots.
+pub reads-arrays : (p : Pass) (n : ℕ) (vias : List Via) (spots : List Spot) (arrays : Arrays) (u : Spot → Block)
+    (bytes : List ℕ) (fill code : ℕ) (m : Marker) (rest : List ℕ)
+    → AllByRecursion (IsReadyAt p vias arrays u) spots → IsMarker code m
+    → WritesIntervals p 0 (first_group n (written_turns vias spots u))
+    (other_groups n (written_turns vias spots u)) bytes
+    → arrays_at p n vias spots arrays (bytes ++ marker fill code rest)
+    ≡ Ok ((put_blocks spots (map (λ s. after_pass p (block_at arrays s) (u s)) spots) arrays, Some m), rest)
+reads-arrays p n vias spots arrays u bytes fill code m rest ready h w =
+    let all = bytes ++ marker fill code rest in
+    let turns = map (turn_with vias arrays u) spots in
+    let news : numbers_of turns ≡ written_turns vias spots u =
+    map-map_any (turn_with vias arrays u) (λ (t : Via × Block × Block). (t.0, t.2)) spots in
+    let written = subst (λ (x : List (Via × Block)). WritesIntervals p 0 (first_group n x) (other_groups n x) bytes)
+    (sym news) w in
+    arrays-by p n vias spots arrays all
+    ∙ ap (λ (x : List (Via × Block)). intervals p 0 (first_group n x)
+    (other_groups n x) all >>= put_back spots arrays) (sym (turns-are vias spots arrays u))
+    ∙ ap (λ (o : Outcome (List Block × Option Marker)). o >>= put_back spots arrays)
+    (reads-groups p n turns bytes fill code m rest (ready-turns p vias arrays u spots ready) h written)
+    ∙ ap (λ (l : List Block). Ok ((put_blocks spots l arrays, Some m), rest))
+    (map-map_any (turn_with vias arrays u) (λ (t : Via × Block × Block). after_pass p t.1 t.2) spots)

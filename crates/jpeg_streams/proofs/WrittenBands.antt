@@ -1,0 +1,284 @@
+-- A band that was written is read again.
+use Rattle.std.proofs.Common.{◌≡◌, ◌≢◌, ◌⊎◌, inl, inr, ℕ, zero, suc, ◌+◌, ◌-◌, ◌*◌, ◌/◌, ◌%◌, ◌^◌, ◌<◌, ◌≤◌, Bool}
+use Rattle.std.proofs.Common.{true, false, List, [], ◌∷◌, ◌++◌, map, length, take, drop, ℤ, pos, negsuc, ◌-ℤ◌}
+use Rattle.std.proofs.Common.{unsigned_abs, refl, sym, ap, ◌∙◌, subst, append_assoc, append-nil, arith, eqb, leb, ltb}
+use Rattle.std.proofs.Common.{pow-suc, w16, pow_pos}
+use Rattle.std.proofs.lemmas.List.{take-replicate, drop-replicate, length-replicate}
+use Rattle.std.proofs.Common.{neg_ℤ, le_refl, length-append, ap₂}
+use Rattle.std.proofs.Math.Nat.{zero-mul, mul-le-mul_left}
+use lib.Signed.{mag}
+use Rattle.std.proofs.lemmas.Int.{ints, int_wrap_fits}
+use Rattle.std.proofs.lemmas.Bool.{lt-ltb, le-ltb}
+use Rattle.std.proofs.lemmas.Bool.Decides.{leb_tells, nat_tests}
+use Rattle.std.specs.List.{AllByRecursion}
+use Rattle.std.proofs.Common.{slice_index}
+use Rattle.jpeg_bits.specs.Entropy.{bits_from, extended}
+use Rattle.jpeg_bits.specs.Codes.{Table, code_from}
+use Rattle.jpeg_bits.specs.Written.{low_bits, code_size, code_bits}
+use Rattle.jpeg_bits.specs.Readers.{Reads, signed_from, ReadsJust}
+use Rattle.jpeg_bits.specs.Bands.{wrapped, Band, before_more, token_at, token_from, after_token, first_ac}
+use Rattle.jpeg_bits.specs.declared.tokens.Token.{Token}
+use Rattle.jpeg_bits.specs.declared.tokens.Token.TheVariants.{Value, Sixteen, Rest}
+use Rattle.jpeg_streams.specs.WrittenData.{IsCoded, IsCategory, number_for, bits_for, no_numbers, WritesBand}
+use Rattle.jpeg_streams.specs.WrittenData.WritesBand.{full, value, sixteen, ended}
+use Rattle.jpeg_bits.proofs.WrittenBits.{takes-gives, takes-bind, takes-number, takes-map, takes-as}
+use Rattle.jpeg_bits.proofs.Tables.{IsGood}
+use Rattle.jpeg_streams.proofs.SentBlocks.{scaled, InRange}
+
+-- ---- numbers
+
+-- a number that isn't 0 has at least the half of its category's bound
+pub category-half : (d : ℤ) (t : ℕ) → IsCategory d (suc t) → 2 ^ t ≤ unsigned_abs d
+category-half d t h = below (leb_tells (2 ^ t) (unsigned_abs d))
+  where
+    below : ((leb (2 ^ t) (unsigned_abs d) ≡ true) × (2 ^ t ≤ unsigned_abs d))
+        ⊎ ((leb (2 ^ t) (unsigned_abs d) ≡ false) × (unsigned_abs d < 2 ^ t)) → 2 ^ t ≤ unsigned_abs d
+    below (inl p) = p.1
+    below (inr p) = absurd (let no : suc t ≤ t = h.is_least t p.1 in omega arith)
+
+pub extend-high : (v t : ℕ) → 2 ^ t ≤ v → extended v (suc t) ≡ pos v
+unfolding extended
+extend-high v t h =
+    let e : suc t - 1 ≡ t = omega arith in
+    let f : ltb v (2 ^ t) ≡ false = le-ltb v (2 ^ t) h in
+    rw (e, f) refl
+
+pub extend-low : (v t : ℕ) → v < 2 ^ t → extended v (suc t) ≡ pos v -ℤ pos (2 ^ suc t - 1)
+unfolding extended
+extend-low v t h =
+    let e : suc t - 1 ≡ t = omega arith in
+    rw (e, lt-ltb v (2 ^ t) h) refl
+
+pub extend-number_for : (d : ℤ) (t : ℕ) → IsCategory d (suc t) → extended (number_for d (suc t)) (suc t) ≡ d
+unfolding number_for
+extend-number_for (pos zero) t h = absurd (let half = category-half (pos 0) t h in omega (arith, pow_pos t))
+extend-number_for (pos (suc n)) t h = extend-high (suc n) t (category-half (pos (suc n)) t h)
+extend-number_for (negsuc n) t h =
+    let half : 2 ^ t ≤ suc n = category-half (negsuc n) t h in
+    let top : suc n < 2 ^ suc t = h.holds in
+    let double = pow-suc 2 t in
+    extend-low (2 ^ suc t - 1 - suc n) t (omega arith) ∙ omega (arith, ints)
+
+pub number_for-lt : (d : ℤ) (s : ℕ) → IsCategory d s → number_for d s < 2 ^ s
+unfolding number_for
+number_for-lt (pos zero) s h = let low : 0 < 2 ^ s = h.holds in omega arith
+number_for-lt (pos (suc n)) s h = h.holds
+number_for-lt (negsuc n) s h = let top : suc n < 2 ^ s = h.holds in omega arith
+
+-- a value is read of the bits that stand for it
+pub takes-signed : (u : ℤ) (t : ℕ) → IsCategory u (suc t) → ReadsJust (signed_from (suc t)) (bits_for u (suc t)) u
+unfolding signed_from
+takes-signed u t cat = record {
+  read = λ rest places e.
+      rw (
+        (takes-number (suc t) (number_for u (suc t)) (number_for-lt u (suc t) cat)).read rest places e,
+        extend-number_for u t cat,
+      ) refl;
+}
+
+-- ---- tokens
+
+-- a token is read of its code and the bits after it
+pub token-read : (table : Table) (room r s : ℕ) (code bits : List Bool) (x : Token) → IsGood table
+    → IsCoded table (16 * r + s) code → s ≤ 15
+    → ((size : ℕ) → ReadsJust (token_at room size r s) bits x) → ReadsJust (token_from table room) (code ++ bits) x
+unfolding token_from
+token-read table room r s code bits x good coded small piece =
+    let symbol = slice_index table.symbols coded.place in
+    let high : symbol / 16 ≡ r = omega (arith, coded.is_for) in
+    let low : symbol % 16 ≡ s = omega (arith, coded.is_for) in
+    let token = λ (c : ℕ × ℕ). token_at room c.0 (c.1 / 16) (c.1 % 16) in
+    let size = code_size table coded.place in
+    let body : ReadsJust (token (size, symbol)) bits x = rw (high, low) (piece size) in
+    takes-as _ (code_bits table coded.place ++ bits) (code ++ bits) x x
+    (ap (λ (b : List Bool). b ++ bits) coded.has_bits) refl
+    (takes-bind (code_from table) token (code_bits table coded.place) bits (size, symbol) x
+    (good.reads coded.place coded.listed) body)
+
+pub takes-token : (table : Table) (al m j r s : ℕ) (code own bits : List Bool) (x : Token) (y : Band) → IsGood table
+    → IsCoded table (16 * r + s) code → s ≤ 15
+    → ((room size : ℕ) → room ≡ suc j → ReadsJust (token_at room size r s) own x)
+    → ReadsJust (after_token al (first_ac table al m) (no_numbers (suc j)) x) bits y
+    → ReadsJust (first_ac table al (suc m) (no_numbers (suc j))) ((code ++ own) ++ bits) y
+unfolding first_ac
+takes-token table al m j r s code own bits x y good coded small token after =
+    takes-bind (token_from table (length (no_numbers (suc j))))
+    (after_token al (first_ac table al m) (no_numbers (suc j))) (code ++ own) bits x y
+    (token-read table (length (no_numbers (suc j))) r s code own x good coded small
+    (λ size. token (length (no_numbers (suc j))) size (length-replicate (suc j) (pos 0))))
+    after
+
+pub token-value : (room size r t : ℕ) (u : ℤ) → r < room → IsCategory u (suc t)
+    → ReadsJust (token_at room size r (suc t)) (bits_for u (suc t)) (Value r u)
+unfolding token_at
+token-value room size r t u h cat =
+    rw (lt-ltb 0 (suc t) (omega arith), lt-ltb r room h, token_at)
+    (takes-map (signed_from (suc t)) (λ (v : ℤ). Value r v) (bits_for u (suc t)) u (takes-signed u t cat))
+
+pub token-sixteen : (room size : ℕ) → ReadsJust (token_at room size 15 0) [] Sixteen
+unfolding token_at
+token-sixteen room size = takes-gives Sixteen
+
+pub token-rest : (room size r e : ℕ) → r ≤ 14 → e < 2 ^ r
+    → ReadsJust (token_at room size r 0) (low_bits r e) (Rest (2 ^ r - 1 + e))
+unfolding token_at
+token-rest room size r e h f =
+    let no : eqb r 15 ≡ false = grind (arith, nat_tests) in
+    rw (no, token_at) (takes-map (bits_from r) (λ (k : ℕ). Rest (2 ^ r - 1 + k)) (low_bits r e) e (takes-number r e f))
+
+pub after-value : (al : ℕ) (others : List ℤ → Reads Band) (places : List ℤ) (r : ℕ) (u : ℤ) (bits : List Bool)
+    (more : Band)
+    → wrapped (scaled al u) ≡ scaled al u → ReadsJust (others (drop (r + 1) places)) bits more
+    → ReadsJust (after_token al others places (Value r u)) bits (before_more (take r places ++ scaled al u ∷ []) more)
+after-value al others places r u bits more fits w =
+    rw fits (takes-map (others (drop (r + 1) places)) (before_more (take r places ++ scaled al u ∷ [])) bits more w)
+
+pub after-sixteen : (al : ℕ) (others : List ℤ → Reads Band) (places : List ℤ) (bits : List Bool) (more : Band)
+    → ReadsJust (others (drop 16 places)) bits more
+    → ReadsJust (after_token al others places Sixteen) bits (before_more (take 16 places) more)
+after-sixteen al others places bits more w =
+    takes-map (others (drop 16 places)) (before_more (take 16 places)) bits more w
+
+-- ---- bands
+
+pub range-below : (al : ℕ) (u : ℤ) → InRange al u → unsigned_abs u < 2 ^ 15
+range-below al u h = let one : 1 ≤ 2 ^ al = pow_pos al in let p = mul-le-mul_left (unsigned_abs u) one in let w =
+    h.within in omega (arith, p, w)
+
+pub category-small : (al : ℕ) (u : ℤ) (s : ℕ) → InRange al u → IsCategory u s → s ≤ 15
+category-small al u s h cat = cat.is_least 15 (range-below al u h)
+
+pub abs-scaled : (al : ℕ) (u : ℤ) → unsigned_abs (scaled al u) ≡ unsigned_abs u * 2 ^ al
+abs-scaled al (pos n) = refl
+abs-scaled al (negsuc n) = abs-neg (suc n * 2 ^ al)
+  where
+    abs-neg : (k : ℕ) → unsigned_abs (neg_ℤ (pos k)) ≡ k
+    abs-neg zero = refl
+    abs-neg (suc k) = refl
+
+pub mag-le : (z : ℤ) → mag z ≤ unsigned_abs z
+mag-le (pos n) = le_refl n
+mag-le (negsuc n) = omega arith
+
+pub scaled-fits : (al : ℕ) (u : ℤ) → InRange al u → wrapped (scaled al u) ≡ scaled al u
+scaled-fits al u h = int_wrap_fits w16 (scaled al u)
+    (record {
+      sfits = let a = abs-scaled al u in let b = mag-le (scaled al u) in let w = h.within in
+          omega (arith, a, b, w);
+    })
+
+pub scaled-zero : (al : ℕ) → scaled al (pos 0) ≡ pos 0
+scaled-zero al = ap pos (omega (arith, zero-mul (2 ^ al)))
+
+pub map-no_numbers : (al r : ℕ) (more : List ℤ)
+    → map (scaled al) (no_numbers r ++ more) ≡ no_numbers r ++ map (scaled al) more
+map-no_numbers al zero more = refl
+map-no_numbers al (suc r) more = ap₂ (λ (x : ℤ) (xs : List ℤ). x ∷ xs) (scaled-zero al) (map-no_numbers al r more)
+
+pub length-no_numbers : (r : ℕ) (more : List ℤ) → length (no_numbers r ++ more) ≡ r + length more
+length-no_numbers r more = length-append (no_numbers r) more
+    ∙ ap (λ (k : ℕ). k + length more) (length-replicate r (pos 0))
+
+pub abs-zero : (u : ℤ) → unsigned_abs u < 2 ^ 0 → u ≡ pos 0
+abs-zero (pos zero) h = refl
+abs-zero (pos (suc n)) h = absurd (omega arith)
+abs-zero (negsuc n) h = absurd (omega arith)
+
+pub band-value : (table : Table) (al r s n : ℕ) (u : ℤ) (code : List Bool) (more : List ℤ) (bits : List Bool) (run : ℕ)
+    → IsGood table → InRange al u → u ≢ pos 0 → IsCategory u s → IsCoded table (16 * r + s) code
+    → suc (r + length more) ≤ n
+    → ((m : ℕ) → length more ≤ m
+    → ReadsJust (first_ac table al m (no_numbers (length more))) bits (map (scaled al) more, run))
+    → ReadsJust (first_ac table al n (no_numbers (length (no_numbers r ++ u ∷ more)))) (code ++ bits_for u s ++ bits)
+    (map (scaled al) (no_numbers r ++ u ∷ more), run)
+band-value table al r s zero u code more bits run good range nz cat coded room others = absurd (omega arith)
+band-value table al r zero (suc m) u code more bits run good range nz cat coded room others =
+    absurd (nz (abs-zero u cat.holds))
+band-value table al r (suc t) (suc m) u code more bits run good range nz cat coded room others =
+    let k = length more in
+    let places = no_numbers (suc (r + k)) in
+    let long : length places ≡ suc (r + k) = length-replicate (suc (r + k)) (pos 0) in
+    let front : take r places ≡ no_numbers r = take-replicate r (suc (r + k)) (pos 0) (omega arith) in
+    let back : drop (r + 1) places ≡ no_numbers k = drop-replicate (r + 1) (suc (r + k)) (pos 0)
+    ∙ ap no_numbers (omega arith) in
+    let w = subst (λ (l : List ℤ). ReadsJust (first_ac table al m l) bits (map (scaled al) more, run)) (sym back)
+    (others m (omega arith)) in
+    let given : length (no_numbers r ++ u ∷ more) ≡ suc (r + k) = length-no_numbers r (u ∷ more) ∙ omega arith in
+    let numbers : (take r places ++ scaled al u ∷ []) ++ map (scaled al) more
+    ≡ map (scaled al) (no_numbers r ++ u ∷ more)
+    = ap (λ (l : List ℤ). (l ++ scaled al u ∷ []) ++ map (scaled al) more) front
+    ∙ append_assoc (no_numbers r) (scaled al u ∷ []) (map (scaled al) more) ∙ sym (map-no_numbers al r (u ∷ more)) in
+    let token = takes-token table al m (r + k) r (suc t) code (bits_for u (suc t)) bits (Value r u) _ good coded
+    (category-small al u (suc t) range cat)
+    (λ room size e. token-value room size r t u (omega arith) cat)
+    (after-value al (first_ac table al m) places r u bits (map (scaled al) more, run) (scaled-fits al u range) w) in
+    subst (λ (l : ℕ). ReadsJust (first_ac table al (suc m) (no_numbers l)) (code ++ bits_for u (suc t) ++ bits)
+    (map (scaled al) (no_numbers r ++ u ∷ more), run))
+    (sym given) (takes-as _ _ _ _ _ refl (ap (λ (l : List ℤ). (l, run)) numbers) token)
+
+pub band-sixteen : (table : Table) (al n : ℕ) (code : List Bool) (more : List ℤ) (bits : List Bool) (run : ℕ)
+    → IsGood table → IsCoded table (16 * 15 + 0) code → 16 + length more ≤ n
+    → ((m : ℕ) → length more ≤ m
+    → ReadsJust (first_ac table al m (no_numbers (length more))) bits (map (scaled al) more, run))
+    → ReadsJust (first_ac table al n (no_numbers (length (no_numbers 16 ++ more)))) (code ++ bits)
+    (map (scaled al) (no_numbers 16 ++ more), run)
+band-sixteen table al zero code more bits run good coded room others = absurd (omega arith)
+band-sixteen table al (suc m) code more bits run good coded room others =
+    let k = length more in
+    let places = no_numbers (suc (15 + k)) in
+    let front : take 16 places ≡ no_numbers 16 = take-replicate 16 (suc (15 + k)) (pos 0) (omega arith) in
+    let back : drop 16 places ≡ no_numbers k = drop-replicate 16 (suc (15 + k)) (pos 0) ∙ ap no_numbers (omega arith) in
+    let w = subst (λ (l : List ℤ). ReadsJust (first_ac table al m l) bits (map (scaled al) more, run)) (sym back)
+    (others m (omega arith)) in
+    let given : length (no_numbers 16 ++ more) ≡ suc (15 + k) = length-no_numbers 16 more ∙ omega arith in
+    let numbers : take 16 places ++ map (scaled al) more ≡ map (scaled al) (no_numbers 16 ++ more)
+    = ap (λ (l : List ℤ). l ++ map (scaled al) more) front ∙ sym (map-no_numbers al 16 more) in
+    let token = takes-token table al m (15 + k) 15 0 code [] bits Sixteen _ good coded (omega arith)
+    (λ room size e. token-sixteen room size)
+    (after-sixteen al (first_ac table al m) places bits (map (scaled al) more, run) w) in
+    subst (λ (l : ℕ). ReadsJust (first_ac table al (suc m) (no_numbers l)) (code ++ bits)
+    (map (scaled al) (no_numbers 16 ++ more), run))
+    (sym given) (takes-as _ _ _ _ _ (ap (λ (b : List Bool). b ++ bits) (append-nil code))
+    (ap (λ (l : List ℤ). (l, run)) numbers) token)
+
+pub band-rest : (table : Table) (al k n r e : ℕ) (code : List Bool) → IsGood table → r ≤ 14 → e < 2 ^ r
+    → IsCoded table (16 * r + 0) code → suc k ≤ n
+    → ReadsJust (first_ac table al n (no_numbers (length (no_numbers (suc k))))) (code ++ low_bits r e)
+    (map (scaled al) (no_numbers (suc k)), 2 ^ r - 1 + e)
+band-rest table al k zero r e code good h f coded room = absurd (omega arith)
+band-rest table al k (suc m) r e code good h f coded room =
+    let numbers : no_numbers (suc k) ≡ map (scaled al) (no_numbers (suc k))
+    = sym (append-nil (no_numbers (suc k))) ∙ sym (map-no_numbers al (suc k) [])
+    ∙ ap (map (scaled al)) (append-nil (no_numbers (suc k))) in
+    let token = takes-token table al m k r 0 code (low_bits r e) [] (Rest (2 ^ r - 1 + e)) _ good coded (omega arith)
+    (λ room size q. token-rest room size r e h f)
+    (takes-gives (no_numbers (suc k), 2 ^ r - 1 + e)) in
+    subst (λ (l : ℕ). ReadsJust (first_ac table al (suc m) (no_numbers l)) (code ++ low_bits r e)
+    (map (scaled al) (no_numbers (suc k)), 2 ^ r - 1 + e))
+    (sym (length-replicate (suc k) (pos 0)))
+    (takes-as _ _ _ _ _ (append-nil (code ++ low_bits r e)) (ap (λ (l : List ℤ). (l, 2 ^ r - 1 + e)) numbers) token)
+
+pub all-after : (P : ℤ → Type 0) (r : ℕ) (more : List ℤ) → AllByRecursion P (no_numbers r ++ more)
+    → AllByRecursion P more
+all-after P zero more h = h
+all-after P (suc r) more h = all-after P r more h.1
+
+-- A band that was written is read as its numbers times 2 ^ al, and as the run after it.
+pub takes-band : (table : Table) (al : ℕ) (band : List ℤ) (bits : List Bool) (run : ℕ) → IsGood table
+    → AllByRecursion (InRange al) band
+    → WritesBand table band bits run → (n : ℕ) → length band ≤ n
+    → ReadsJust (first_ac table al n (no_numbers (length band))) bits (map (scaled al) band, run)
+unfolding first_ac
+takes-band table al band bits run good range full n room = takes-gives ([], 0)
+takes-band table al band bits run good range (value r s u code more bits' run' h nz cat coded w) n room =
+    let rest = all-after (InRange al) r (u ∷ more) range in
+    let size = length-no_numbers r (u ∷ more) in
+    band-value table al r s n u code more bits' run' good rest.0 nz cat coded (omega arith)
+    (takes-band table al more bits' run' good rest.1 w)
+takes-band table al band bits run good range (sixteen code more bits' run' coded w) n room =
+    let size = length-no_numbers 16 more in
+    band-sixteen table al n code more bits' run' good coded (omega arith)
+    (takes-band table al more bits' run' good (all-after (InRange al) 16 more range) w)
+takes-band table al band bits run good range (ended k r e code h f coded) n room =
+    let size = length-replicate (suc k) (pos 0) in
+    band-rest table al k n r e code good h f coded (omega arith)

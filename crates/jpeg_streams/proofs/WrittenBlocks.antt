@@ -1,0 +1,255 @@
+-- The blocks of an interval that were written are read again.
+use Rattle.std.proofs.Common.{◌≡◌, ◌≢◌, ℕ, zero, suc, ◌+◌, ◌-◌, ◌*◌, ◌/◌, ◌%◌, ◌^◌, ◌<◌, ◌≤◌, Bool, true, false, List}
+use Rattle.std.proofs.Common.{[], ◌∷◌, ◌++◌, map, length, get_or, set, ℤ, pos, negsuc, neg_ℤ, ◌+ℤ◌, ◌-ℤ◌, ◌*ℤ◌}
+use Rattle.std.proofs.Common.{unsigned_abs, nat_le, refl, sym, ap, ◌∙◌, subst, append_assoc, append-nil, arith, eqb}
+use Rattle.std.proofs.Common.{pow_pos, le_refl, w16}
+use Rattle.std.proofs.lemmas.Int.{ints, int_wrap_fits}
+use Rattle.std.proofs.lemmas.Bool.{eq-eqb, le-leb}
+use Rattle.std.specs.List.{AllByRecursion}
+use Rattle.std.proofs.lemmas.Bool.Decides.{nat_tests}
+use Rattle.std.proofs.Common.{slice_index}
+use Rattle.jpeg_bits.specs.Entropy.{bits_from}
+use Rattle.jpeg_bits.specs.Codes.{Table, symbol_from}
+use Rattle.jpeg_bits.specs.Readers.{Reads, refused, ReadsJust}
+use lib.Signed.{mag}
+use Rattle.std.proofs.lemmas.List.{length-replicate}
+use Rattle.std.proofs.Common.{mul_assoc}
+use Rattle.std.proofs.Math.Nat.{add-mul, mul-le-mul}
+use Rattle.jpeg_bits.specs.Bands.{wrapped, first_dc, difference, category_number}
+use Rattle.jpeg_bits.specs.Refinement.{bit_of, corrected}
+use Rattle.jpeg_bits.specs.Passes.{Pass, Via, Block, band_of, with_band, or_bit, dc_part, band_part, block_from}
+use Rattle.jpeg_bits.specs.Passes.{blocks_of}
+use Rattle.jpeg_bits.specs.Written.{bit, low_bits, code_bits}
+use Rattle.jpeg_streams.specs.WrittenData.{IsCategory, WritesDifference, bits_for, no_numbers, corrections, low_bit}
+use Rattle.jpeg_streams.specs.WrittenData.{WritesDc, WritesAc, WritesBlocks}
+use Rattle.jpeg_streams.specs.WrittenData.WritesDc.{other_band, whole, one_bit}
+use Rattle.jpeg_streams.specs.WrittenData.WritesAc.{no_band, first, first_run, again, again_run}
+use Rattle.jpeg_streams.specs.WrittenData.WritesBlocks.{done, block}
+use Rattle.jpeg_bits.proofs.WrittenBits.{takes-gives, takes-bind, takes-bit, takes-map, takes-as}
+use Rattle.jpeg_bits.proofs.Tables.{IsGood, takes-symbol}
+use Rattle.jpeg_streams.proofs.SentBlocks.{scaled, held, InRange, InDcRange, dc_held, Suits, after_pass, reads_of}
+use Rattle.jpeg_streams.proofs.SentBlocks.{numbers_of}
+use Rattle.jpeg_streams.proofs.WrittenBands.{takes-signed, takes-band, map-no_numbers, abs-zero}
+use Rattle.jpeg_streams.proofs.WrittenRefinements.{even-bit, even-bit_neg, times-two_power, spread, takes-corrected}
+use Rattle.jpeg_streams.proofs.WrittenRefinements.{takes-refinement}
+
+-- ---- DC
+
+difference-small : (d : ℤ) (s : ℕ) → IsCategory d s → unsigned_abs d < 2 ^ 11 → s ≤ 11
+difference-small d s cat h = cat.is_least 11 h
+
+takes-category : (d : ℤ) (s : ℕ) → IsCategory d s → ReadsJust (category_number s) (bits_for d s) d
+unfolding low_bits
+takes-category d zero cat =
+    takes-as (category_number zero) [] (bits_for d 0) (pos 0) d refl (sym (abs-zero d cat.holds))
+    (takes-gives (pos 0))
+takes-category d (suc t) cat =
+    let no : eqb (suc t) 0 ≡ false = grind (arith, nat_tests) in
+    rw (no, category_number) (takes-signed d t cat)
+
+takes-listed : (k s : ℕ) (bits : List Bool) (d : ℤ) → k ≡ s → s ≤ 11 → ReadsJust (category_number s) bits d
+    → ReadsJust (elim (nat_le k 11) as (λ _. Reads ℤ) [ true ↦ category_number k | false ↦ refused ]) bits d
+takes-listed k s bits d e h w =
+    subst (λ (x : ℕ). ReadsJust
+    (elim (nat_le x 11) as (λ _. Reads ℤ) [ true ↦ category_number x | false ↦ refused ]) bits d) (sym e)
+    (rw (le-leb s 11 h) w)
+
+pub takes-difference : (table : Table) (d : ℤ) (bits : List Bool) → IsGood table → unsigned_abs d < 2 ^ 11
+    → WritesDifference table d bits → ReadsJust (difference table) bits d
+unfolding difference
+takes-difference table d bits good small w =
+    let i = w.coded.place in
+    let symbol = slice_index table.symbols i in
+    let body = takes-listed symbol w.s (bits_for d w.s) d w.coded.is_for (difference-small d w.s w.category small)
+    (takes-category d w.s w.category) in
+    takes-as _ (code_bits table i ++ bits_for d w.s) bits d d
+    (ap (λ (b : List Bool). b ++ bits_for d w.s) w.coded.has_bits ∙ w.has_bits) refl
+    (takes-bind (symbol_from table)
+    (λ x. elim (nat_le x 11) as (λ _. Reads ℤ) [ true ↦ category_number x | false ↦ refused ]) (code_bits table i)
+    (bits_for d w.s) symbol d (takes-symbol table i good w.coded.listed) body)
+
+dc-wrapped : (u : ℤ) → InDcRange u → wrapped u ≡ u
+dc-wrapped u h = int_wrap_fits w16 u (record { sfits = small u h })
+  where
+    small : (u : ℤ) → InDcRange u → mag u < 2 ^ 15
+    small (pos n) h = let b = h.high in omega (arith, ints)
+    small (negsuc n) h = let b = h.low in omega (arith, ints)
+
+difference-range : (u v : ℤ) → InDcRange u → InDcRange v → unsigned_abs (u -ℤ v) < 2 ^ 11
+difference-range u v h k = let a = h.low in let b = h.high in let c = k.low in let d = k.high in omega (arith, ints)
+
+pub takes-first_dc : (table : Table) (al : ℕ) (u predictor : ℤ) (bits : List Bool) → IsGood table → InDcRange u
+    → InDcRange predictor → wrapped (scaled al u) ≡ scaled al u
+    → WritesDifference table (u -ℤ predictor) bits → ReadsJust (first_dc table al predictor) bits (scaled al u, u)
+unfolding first_dc
+takes-first_dc table al u predictor bits good range before fits w =
+    let sum : predictor +ℤ (u -ℤ predictor) ≡ u = omega (arith, ints) in
+    let dc : wrapped (predictor +ℤ (u -ℤ predictor)) ≡ u = ap wrapped sum ∙ dc-wrapped u range in
+    takes-as _ bits bits _ _ refl (ap (λ (x : ℤ). (wrapped (x *ℤ pos (2 ^ al)), x)) dc ∙ ap (λ (x : ℤ). (x, u)) fits)
+    (takes-map (difference table)
+    (λ (d : ℤ). (wrapped (wrapped (predictor +ℤ d) *ℤ pos (2 ^ al)), wrapped (predictor +ℤ d))) bits (u -ℤ predictor)
+    (takes-difference table (u -ℤ predictor) bits good (difference-range u predictor range before) w))
+
+neg-sum : (x y z : ℕ) → x ≡ y + z → neg_ℤ (pos x) +ℤ pos y ≡ neg_ℤ (pos z)
+neg-sum x y z e = omega (arith, ints)
+
+or-even : (al b : ℕ) (z w : ℤ) → bit_of al z ≡ 0 → z +ℤ pos (b * 2 ^ al) ≡ w → or_bit al z b ≡ w
+or-even al b z w bit e = rw (eq-eqb (bit_of al z) 0 bit, or_bit) e
+
+some-more : (x : ℕ) → 0 < x → (k : ℕ) × (x ≡ suc k)
+some-more zero h = absurd (omega arith)
+some-more (suc k) h = (k, refl)
+
+pub dc-refined : (al : ℕ) (u : ℤ) → or_bit al (dc_held al u) (low_bit u) ≡ scaled al u
+dc-refined al (pos n) =
+    let whole : 2 * (n / 2) + n % 2 ≡ n = omega arith in
+    or-even al (n % 2) (pos (n / 2 * 2 ^ suc al)) _ (even-bit al (n / 2))
+    (ap pos (omega (
+      arith,
+      times-two_power (n / 2) al,
+      spread (n / 2) (n % 2) (2 ^ al),
+      ap (λ (x : ℕ). x * 2 ^ al) whole,
+    )))
+dc-refined al (negsuc n) =
+    let m = suc (n / 2) in
+    let b = 1 - n % 2 in
+    let one : 1 ≤ m = omega arith in
+    let two : 1 ≤ 2 ^ suc al = pow_pos (suc al) in
+    let more : 1 * 1 ≤ m * 2 ^ suc al = mul-le-mul one two in
+    let some : 0 < m * 2 ^ suc al = omega arith in
+    let k = some-more (m * 2 ^ suc al) some in
+    let bit : bit_of al (neg_ℤ (pos (m * 2 ^ suc al))) ≡ 0 = ap (λ (x : ℕ). bit_of al (neg_ℤ (pos x))) k.1
+    ∙ even-bit_neg al m k.0 (omega arith) k.1 in
+    let whole : 2 * m ≡ suc n + b = omega arith in
+    let parts : m * 2 ^ suc al ≡ b * 2 ^ al + suc n * 2 ^ al =
+    omega (
+      arith,
+      times-two_power m al,
+      mul_assoc 2 m (2 ^ al),
+      ap (λ (x : ℕ). x * 2 ^ al) whole,
+      add-mul (suc n) b (2 ^ al),
+    ) in
+    or-even al b (neg_ℤ (pos (m * 2 ^ suc al))) _ bit (neg-sum (m * 2 ^ suc al) (b * 2 ^ al) (suc n * 2 ^ al) parts)
+
+-- ---- blocks
+
+pub eqb_no : (a b : ℕ) → a ≢ b → eqb a b ≡ false
+eqb_no a b h = grind (arith, nat_tests)
+
+low-small : (u : ℤ) → low_bit u < 2
+low-small (pos n) = omega arith
+low-small (negsuc n) = omega arith
+
+pub takes-dc_part : (p : Pass) (table : Table) (old u : Block) (predictor next : ℤ) (bits : List Bool) → IsGood table
+    → Suits p old u → InDcRange predictor
+    → WritesDc p table u.dc predictor bits next
+    → ReadsJust (dc_part p table old.dc predictor) bits ((after_pass p old u).dc, next)
+unfolding dc_part
+takes-dc_part p table old u predictor next bits good suits before (other_band v predictor' n) =
+    rw (eqb_no p.ss 0 n, dc_part, after_pass) (takes-gives (old.dc, predictor))
+takes-dc_part p table old u predictor next bits good suits before (whole v predictor' bits' e f w) =
+    rw (eq-eqb p.ss 0 e, f, dc_part, after_pass)
+    (takes-first_dc table p.al u.dc predictor bits good suits.dc_range before suits.dc_fits w)
+takes-dc_part p table old u predictor next bits good suits before (one_bit v predictor' e f) =
+    rw (eq-eqb p.ss 0 e, f, dc_part, after_pass)
+    (takes-map (bits_from 1) (λ (b : ℕ). (or_bit p.al old.dc b, predictor)) (bit (low_bit u.dc) ∷ []) (low_bit u.dc)
+    (takes-bit (low_bit u.dc) (low-small u.dc)))
+
+pub next-range : (p : Pass) (table : Table) (u predictor next : ℤ) (bits : List Bool) → InDcRange u
+    → InDcRange predictor → WritesDc p table u predictor bits next → InDcRange next
+next-range p table u predictor next bits h k (other_band v w n) = k
+next-range p table u predictor next bits h k (whole v w bits' e f d) = h
+next-range p table u predictor next bits h k (one_bit v w e f) = k
+
+pub takes-band_part : (p : Pass) (table : Table) (band us : List ℤ) (run after : ℕ) (bits : List Bool) → IsGood table
+    → (p.is_first ≡ true → band ≡ no_numbers (length us)) → (p.is_first ≡ false → band ≡ map (held p.al) us)
+    → AllByRecursion (InRange p.al) us
+    → WritesAc p table us run bits after → ReadsJust (band_part p table band run) bits (map (scaled p.al) us, after)
+unfolding band_part
+takes-band_part p table band us run after bits good unsent sent range (no_band run') =
+    subst (λ (l : List ℤ). ReadsJust (band_part p table l run) [] ([], run)) (sym (none p.is_first refl))
+    (takes-gives ([], run))
+  where
+    none : (b : Bool) → p.is_first ≡ b → band ≡ []
+    none true e = unsent e
+    none false e = sent e
+takes-band_part p table band us run after bits good unsent sent range (first u more bits' run' f w) =
+    subst (λ (l : List ℤ). ReadsJust (band_part p table l 0) bits' (map (scaled p.al) (u ∷ more), run'))
+    (sym (unsent f))
+    (rw (f, band_part) (takes-band table p.al (u ∷ more) bits' run' good range w
+    (length (no_numbers (suc (length more))))
+    (let size = length-replicate (suc (length more)) (pos 0) in omega arith)))
+takes-band_part p table band us run after bits good unsent sent range (first_run n run' f) =
+    let same : band ≡ no_numbers (suc n) = unsent f ∙ ap no_numbers (length-replicate (suc n) (pos 0)) in
+    let numbers : no_numbers (suc n) ≡ map (scaled p.al) (no_numbers (suc n))
+    = sym (append-nil (no_numbers (suc n))) ∙ sym (map-no_numbers p.al (suc n) [])
+    ∙ ap (map (scaled p.al)) (append-nil (no_numbers (suc n))) in
+    subst (λ (l : List ℤ). ReadsJust (band_part p table l (suc run')) []
+    (map (scaled p.al) (no_numbers (suc n)), run')) (sym same)
+    (rw (f, band_part) (takes-as _ _ _ _ _ refl (ap (λ (l : List ℤ). (l, run')) numbers)
+    (takes-gives (no_numbers (suc n), run'))))
+takes-band_part p table band us run after bits good unsent sent range (again u more bits' run' f w) =
+    subst (λ (l : List ℤ). ReadsJust (band_part p table l 0) bits' (map (scaled p.al) (u ∷ more), run')) (sym (sent f))
+    (rw (f, band_part) (takes-refinement table p.al (u ∷ more) bits' run' good range w
+    (length (map (held p.al) (u ∷ more))) (le_refl _)))
+takes-band_part p table band us run after bits good unsent sent range (again_run u more run' f none) =
+    subst (λ (l : List ℤ). ReadsJust (band_part p table l (suc run')) (corrections (u ∷ more))
+    (map (scaled p.al) (u ∷ more), run')) (sym (sent f))
+    (rw (f, band_part) (takes-map (corrected p.al (map (held p.al) (u ∷ more))) (λ (l : List ℤ). (l, run'))
+    (corrections (u ∷ more)) _ (takes-corrected p.al (u ∷ more) none range)))
+
+pub record Predicts (predictors : List ℤ) : Type 0 where
+  pub each : (k : ℕ) → InDcRange (get_or predictors k (pos 0))
+
+predicts-set : (predictors : List ℤ) (k : ℕ) (v : ℤ) → Predicts predictors → InDcRange v → Predicts (set predictors k v)
+predicts-set predictors k v h r = record { each = λ j. go predictors k j h.each }
+  where
+    go : (l : List ℤ) (k j : ℕ) → ((i : ℕ) → InDcRange (get_or l i (pos 0))) → InDcRange (get_or (set l k v) j (pos 0))
+    go [] k j h = h 0
+    go (x ∷ xs) zero zero h = r
+    go (x ∷ xs) zero (suc j) h = h (suc j)
+    go (x ∷ xs) (suc k) zero h = h 0
+    go (x ∷ xs) (suc k) (suc j) h = go xs k j (λ i. h (suc i))
+
+-- each block suits the pass, and the codes of its tables are read
+pub record IsReady (p : Pass) (t : Via × Block × Block) : Type 0 where
+  pub dc_good : IsGood t.0.dc
+  pub ac_good : IsGood t.0.ac
+  pub suits : Suits p t.1 t.2
+
+-- A block that was written is read as the block after the pass.
+pub takes-block : (p : Pass) (via : Via) (old u : Block) (predictor next : ℤ) (run after : ℕ) (dc ac : List Bool)
+    → IsReady p (via, old, u) → InDcRange predictor
+    → WritesDc p via.dc u.dc predictor dc next → WritesAc p via.ac (band_of p u.acs) run ac after
+    → ReadsJust (block_from p via.dc via.ac predictor run old) (dc ++ ac) (after_pass p old u, next, after)
+unfolding block_from
+takes-block p via old u predictor next run after dc ac good before wd wa =
+    takes-bind (dc_part p via.dc old.dc predictor) _ dc ac ((after_pass p old u).dc, next) _
+    (takes-dc_part p via.dc old u predictor next dc good.dc_good good.suits before wd)
+    (takes-map (band_part p via.ac (band_of p old.acs) run)
+    (λ (b : List ℤ × ℕ). (record { dc = (after_pass p old u).dc; acs = with_band p old.acs b.0 }, next, b.1)) ac
+    (map (scaled p.al) (band_of p u.acs), after)
+    (takes-band_part p via.ac (band_of p old.acs)
+    (band_of p u.acs) run after ac good.ac_good good.suits.unsent good.suits.sent good.suits.range wa))
+
+-- The blocks of an interval that were written are read as the blocks after the pass.
+pub takes-blocks : (p : Pass) (turns : List (Via × Block × Block)) (predictors : List ℤ) (run : ℕ) (bits : List Bool)
+    → Predicts predictors
+    → AllByRecursion (IsReady p) turns → WritesBlocks p predictors run (numbers_of turns) bits
+    → ReadsJust (blocks_of p predictors run (reads_of turns)) bits (map (λ t. after_pass p t.1 t.2) turns)
+unfolding blocks_of
+takes-blocks p [] predictors run bits predict ready (done preds) = takes-gives []
+takes-blocks p (t ∷ turns) predictors run bits predict ready
+    (block preds run' run_after via u turns' dc ac more next wd wa w) =
+    let good = ready.0 in
+    let before = predict.each t.0.component in
+    let after = next-range p t.0.dc t.2.dc
+    (get_or predictors t.0.component (pos 0)) next dc good.suits.dc_range before wd in
+    takes-as _ ((dc ++ ac) ++ more) (dc ++ (ac ++ more)) _ _ (append_assoc dc ac more) refl
+    (takes-bind (block_from p t.0.dc t.0.ac (get_or predictors t.0.component (pos 0)) run t.1) _ (dc ++ ac) more
+    (after_pass p t.1 t.2, next, run_after) _
+    (takes-block p t.0 t.1 t.2 (get_or predictors t.0.component (pos 0)) next run run_after dc ac good before wd wa)
+    (takes-map (blocks_of p (set predictors t.0.component next) run_after (reads_of turns))
+    (λ (l : List Block). after_pass p t.1 t.2 ∷ l) more _
+    (takes-blocks p turns (set predictors t.0.component next) run_after more
+    (predicts-set predictors t.0.component next predict after) ready.1 w)))

@@ -1,0 +1,332 @@
+-- A written scan of a frame takes the blocks of its components to the next level.
+use Rattle.std.proofs.Common.{◌≡◌, inl, inr, ℕ, zero, suc, ◌+◌, ◌*◌, ◌/◌, ◌%◌, ◌<◌, ◌≤◌, List, [], ◌∷◌, ◌++◌, map}
+use Rattle.std.proofs.Common.{length, take, drop, replicate, get_or, set, ℤ, pos, Some, None, Ok, refl, sym, ap, ap₂}
+use Rattle.std.proofs.Common.{◌∙◌, subst, arith, true≢false, length-set}
+use Rattle.std.proofs.Math.Nat.{div-lt_iff_lt-mul}
+use Rattle.std.specs.List.{AllByRecursion}
+use lib.ListN.{length-map}
+use Rattle.jpeg_bits.specs.Codes.{code_lengths, lengths_from}
+use Rattle.jpeg_bits.specs.declared.codes.HuffmanTableClass.{HuffmanTableClass}
+use Rattle.jpeg_bits.specs.declared.marker.Marker.{Marker}
+use Rattle.jpeg_bits.proofs.Tables.{IsGood}
+use Rattle.jpeg_segments.specs.Frame.{Frame, Component}
+use Rattle.jpeg_streams.specs.declared.grids.Grid.{Grid}
+use Rattle.jpeg_bits.specs.Passes.{Pass, Via, Block, whole_pass, zero_block, band_of, before_band, band_size}
+use Rattle.jpeg_streams.specs.Order.{Spot, grid_of, own_spots, spots_of, mcu_size}
+use Rattle.jpeg_streams.specs.Scans.{Arrays, block_at, put_block, put_blocks, via_at, no_table, arrays_at}
+use Rattle.jpeg_streams.specs.Stream.{Coding, vias_from}
+use Rattle.jpeg_streams.specs.Levels.{Levels, Is8Bit, numbers_at, cut, nothing_sent, IsLegal, sent_after}
+use Rattle.jpeg_streams.specs.WrittenData.{marker, no_numbers}
+use Rattle.jpeg_streams.specs.WrittenScans.{Coefficients, IsOwn, grid_at, no_grid, components_of, WritesScan}
+use Rattle.jpeg_streams.proofs.SentBlocks.{held, InRange, Suits, after_pass}
+use Rattle.jpeg_streams.proofs.AcceptedStreams.{IsMarker}
+use Rattle.jpeg_streams.proofs.CutLevels.{suits-cut, cut-after, all-same, cut-unsent, floor-range, floor-fits}
+use Rattle.jpeg_streams.proofs.WrittenArrays.{IsReadyAt, reads-arrays, map-map_any}
+use Rattle.jpeg_streams.proofs.Put.{reaches}
+use Rattle.jpeg_streams.specs.InTurn.{IsIn, IsInside}
+use Rattle.jpeg_streams.proofs.OwnSpots.{At, at-within, at-get, IsOwnSpot, own-only, Fits, covered}
+
+-- ---- blocks of a component
+
+-- the own blocks of an array are held, cut at these levels
+pub record HoldsOwn (g : Grid) (array : ℕ → ℕ → Block) (l : Levels) (blocks : List Block) : Type 0 where
+  pub sized : length blocks ≡ g.high * g.wide
+  pub each : (i : ℕ) → IsOwn g i → get_or blocks i zero_block ≡ cut l (array (i / g.wide) (i % g.wide))
+
+pub own-within : (g : Grid) (i : ℕ) → IsOwn g i → g.own_wide ≤ g.wide → g.own_high ≤ g.high → i < g.high * g.wide
+own-within g i own w h =
+    let some : 0 < g.wide = let c = own.column in omega arith in
+    let row : i / g.wide < g.high = let r = own.row in omega arith in
+    (div-lt_iff_lt-mul some).0 row
+
+-- ---- what suits a pass
+
+pub cut-nothing : (c : Block) → length c.acs ≡ 63 → cut nothing_sent c ≡ zero_block
+unfolding zero_block
+cut-nothing c h =
+    ap (λ (l : List ℤ). record { dc = pos 0; acs = l })
+    (cut-unsent c.acs (replicate 63 None) h (all-same None 63) ∙ ap no_numbers h)
+
+pub whole-legal : IsLegal whole_pass nothing_sent
+whole-legal = record {
+  low = omega arith;
+  dc_unsent = λ e f. refl;
+  dc_sent = λ e f. absurd (true≢false f);
+  dc_before = λ n. absurd (n refl);
+  acs_unsent = λ f. all-same None 63;
+  acs_sent = λ f. absurd (true≢false f);
+}
+
+pub suits-zero : (c : Block) → Is8Bit c → Suits whole_pass zero_block (numbers_at 0 c)
+suits-zero c range =
+    subst (λ (b : Block). Suits whole_pass b (numbers_at 0 c)) (cut-nothing c range.count)
+    (suits-cut whole_pass nothing_sent c range range.count whole-legal)
+
+pub no-band : {A : Type 0} (p : Pass) (xs : List A) → p.ss ≡ 0 → p.se ≡ 0 → band_of p xs ≡ []
+no-band p xs e f =
+    let none : band_size p ≡ 0 = omega arith in
+    ap (λ (n : ℕ). take n (drop (before_band p) xs)) none
+
+pub suits-dc : (p : Pass) (old c : Block) → p.ss ≡ 0 → p.se ≡ 0 → p.al ≤ 7 → Is8Bit c → Suits p old (numbers_at p.al c)
+suits-dc p old c e f low range =
+    let u = numbers_at p.al c in
+    let none = no-band p u.acs e f in
+    record {
+      unsent = λ g. no-band p old.acs e f ∙ ap (λ (l : List ℤ). no_numbers (length l)) (sym none);
+      sent = λ g. no-band p old.acs e f ∙ ap (map (held p.al)) (sym none);
+      range = subst (AllByRecursion (InRange p.al)) (sym none) tt;
+      dc_range = floor-range p.al c.dc range.dc_low range.dc_high;
+      dc_fits = floor-fits p.al c.dc low range.dc_low range.dc_high;
+    }
+
+-- ---- tables
+
+pub no-codes : (class : HuffmanTableClass) → length (code_lengths (no_table class).counts) ≡ 0
+unfolding lengths_from
+no-codes class = refl
+
+pub none-good : (class : HuffmanTableClass) → IsGood (no_table class)
+none-good class = record { reads = λ i h. absurd (let n = no-codes class in omega arith) }
+
+pub record HasGood (k : Coding) : Type 0 where
+  pub dc : IsGood k.dc
+  pub ac : IsGood k.ac
+
+pub record IsGoodVia (v : Via) : Type 0 where
+  pub dc : IsGood v.dc
+  pub ac : IsGood v.ac
+
+vias-good : (base slot : ℕ) (codings : List Coding) (d : Via) → IsGoodVia d → AllByRecursion HasGood codings
+    → IsGoodVia (get_or (vias_from base codings) slot d)
+unfolding vias_from
+vias-good base slot [] d h all = h
+vias-good base zero (k ∷ more) d h all = record { dc = all.0.dc; ac = all.0.ac }
+vias-good base (suc slot) (k ∷ more) d h all = vias-good (base + 1) slot more d h all.1
+
+pub via-good : (codings : List Coding) (slot : ℕ) → AllByRecursion HasGood codings
+    → IsGoodVia (via_at (vias_from 0 codings) slot)
+via-good codings slot all = vias-good 0 slot codings _ (record { dc = none-good _; ac = none-good _ }) all
+
+-- ---- a scan
+
+-- a component of the scan: its blocks are held, and the scan is legal for it
+pub record SlotReady (frame : Frame) (p : Pass) (array : Coefficients) (levels : ℕ → Levels) (before : Arrays)
+    (k : Coding) : Type 0 where
+  pub fits : Fits frame k.component
+  pub holds : HoldsOwn (grid_of k.component) (array k.place) (levels k.place) (get_or before k.place [])
+  pub legal : IsLegal p (levels k.place)
+  pub sized : length (levels k.place).acs ≡ 63
+
+-- why the blocks at all spots of a scan suit it: none was read yet; or it has DC alone; or it has
+-- one component, and so no padding
+pub data SpotsSuit (p : Pass) (before : Arrays) (codings : List Coding) : Type 0 where
+  none_read : p ≡ whole_pass → ((place index : ℕ) → get_or (get_or before place []) index zero_block ≡ zero_block)
+      → SpotsSuit p before codings
+  dc_alone : p.ss ≡ 0 → p.se ≡ 0 → p.al ≤ 7 → SpotsSuit p before codings
+  one_component : (k : Coding) → codings ≡ k ∷ [] → SpotsSuit p before codings
+
+abbrev pub arrays_of : Arrays → List Coding → Arrays
+arrays_of before codings = map (λ (c : Coding). get_or before c.place []) codings
+
+pub array-at : (before : Arrays) (codings : List Coding) (k : Coding) (j : ℕ) → At j codings k
+    → get_or (arrays_of before codings) j [] ≡ get_or before k.place []
+array-at before codings k j h = at-get (λ (c : Coding). get_or before c.place []) [] j codings k h
+
+pub grid-at : (codings : List Coding) (k : Coding) (j : ℕ) → At j codings k
+    → grid_at (components_of codings) j ≡ grid_of k.component
+grid-at codings k j h =
+    ap (λ (l : List Grid). get_or l j no_grid) (map-map_any (λ (c : Coding). c.component) grid_of codings)
+    ∙ at-get (λ (c : Coding). grid_of c.component) no_grid j codings k h
+
+pub all-in : {A : Type 0} (Q : A → Type 0) (xs : List A) → ((x : A) → IsIn x xs → Q x) → AllByRecursion Q xs
+all-in Q [] h = tt
+all-in Q (x ∷ xs) h = (h x (inl refl), all-in Q xs (λ y t. h y (inr t)))
+
+pub in-all : {A : Type 0} (Q : A → Type 0) (xs : List A) (x : A) → AllByRecursion Q xs → IsIn x xs → Q x
+in-all Q [] x h t = absurd t
+in-all Q (y ∷ xs) x h (inl e) = subst Q e h.0
+in-all Q (y ∷ xs) x h (inr t) = in-all Q xs x h.1 t
+
+pub at-all : {A : Type 0} (Q : A → Type 0) (j : ℕ) (xs : List A) (x : A) → AllByRecursion Q xs → At j xs x → Q x
+at-all Q j [] x h t = absurd t
+at-all Q zero (y ∷ xs) x h t = subst Q t h.0
+at-all Q (suc j) (y ∷ xs) x h t = at-all Q j xs x h.1 t
+
+one-order : (frame : Frame) (c : Component) → spots_of frame (c ∷ []) ≡ own_spots (grid_of c)
+unfolding spots_of
+one-order frame c = refl
+
+pub at-map : {A B : Type 0} (f : A → B) (j : ℕ) (xs : List A) (x : A) → At j xs x → At j (map f xs) (f x)
+at-map f j [] x h = absurd h
+at-map f zero (y ∷ xs) x h = ap f h
+at-map f (suc j) (y ∷ xs) x h = at-map f j xs x h
+
+pub put-count : (f : Spot → Block) (spots : List Spot) (arrays : Arrays)
+    → length (put_blocks spots (map f spots) arrays) ≡ length arrays
+unfolding put_blocks
+put-count f [] arrays = refl
+put-count f (s ∷ spots) arrays = put-count f spots (put_block s (f s) arrays)
+    ∙ length-set arrays s.slot (set (get_or arrays s.slot []) s.index (f s))
+
+-- the blocks of a component stay as many
+pub put-one : (s : Spot) (b : Block) (j : ℕ) (arrays : Arrays)
+    → length (get_or (put_block s b arrays) j []) ≡ length (get_or arrays j [])
+put-one s b j arrays = go s.slot j arrays
+  where
+    go : (i j : ℕ) (l : Arrays)
+        → length (get_or (set l i (set (get_or l i []) s.index b)) j []) ≡ length (get_or l j [])
+    go i j [] = refl
+    go zero zero (x ∷ l) = length-set x s.index b
+    go zero (suc j) (x ∷ l) = refl
+    go (suc i) zero (x ∷ l) = refl
+    go (suc i) (suc j) (x ∷ l) = go i j l
+
+pub put-size : (f : Spot → Block) (j : ℕ) (spots : List Spot) (arrays : Arrays)
+    → length (get_or (put_blocks spots (map f spots) arrays) j []) ≡ length (get_or arrays j [])
+unfolding put_blocks
+put-size f j [] arrays = refl
+put-size f j (s ∷ spots) arrays = put-size f j spots (put_block s (f s) arrays) ∙ put-one s (f s) j arrays
+
+module _ (frame : Frame) (restart : ℕ) (p : Pass) (codings : List Coding) (array : Coefficients) (levels : ℕ → Levels)
+    (before : Arrays) (bytes : List ℕ)
+    (range : (place row column : ℕ) → Is8Bit (array place row column))
+    (ready : AllByRecursion (SlotReady frame p array levels before) codings)
+    (w : WritesScan frame restart p codings array bytes) where
+  abbrev spots : List Spot
+  spots = spots_of frame (components_of codings)
+
+  abbrev u : Spot → Block
+  u s = numbers_at p.al (w.sent s)
+
+  abbrev scanned : Arrays
+  scanned = arrays_of before codings
+
+  -- the block held at an own spot, and the numbers sent for it
+  held-own : (k : Coding) (s : Spot) → At s.slot codings k → IsOwn (grid_of k.component) s.index
+      → block_at scanned s ≡ cut (levels k.place)
+      (array k.place (s.index / k.component.blocks_wide) (s.index % k.component.blocks_wide))
+  held-own k s h own =
+      ap (λ (l : List Block). get_or l s.index zero_block) (array-at before codings k s.slot h)
+      ∙ (at-all (SlotReady frame p array levels before) s.slot codings k ready h).holds.each s.index own
+
+  sent-own : (k : Coding) (s : Spot) → At s.slot codings k → IsOwn (grid_of k.component) s.index
+      → w.sent s ≡ array k.place (s.index / k.component.blocks_wide) (s.index % k.component.blocks_wide)
+  sent-own k s h own =
+      let g = grid-at codings k s.slot h in
+      w.is_own s (subst (λ (x : Grid). IsOwn x s.index) (sym g) own)
+      ∙ ap₂ (λ (x : ℕ) (y : Grid). array x (s.index / y.wide) (s.index % y.wide))
+      (at-get (λ (c : Coding). c.place) 0 s.slot codings k h) g
+
+  suits-own : (k : Coding) (s : Spot) → At s.slot codings k → IsOwn (grid_of k.component) s.index
+      → Suits p (block_at scanned s) (u s)
+  suits-own k s h own =
+      let r = at-all (SlotReady frame p array levels before) s.slot codings k ready h in
+      let c = array k.place (s.index / k.component.blocks_wide) (s.index % k.component.blocks_wide) in
+      let here : Is8Bit c = range k.place (s.index / k.component.blocks_wide) (s.index % k.component.blocks_wide) in
+      subst (λ (b : Block). Suits p b (u s)) (sym (held-own k s h own))
+      (subst (λ (b : Block). Suits p (cut (levels k.place) c) (numbers_at p.al b)) (sym (sent-own k s h own))
+      (suits-cut p (levels k.place) c here (here.count ∙ sym r.sized) r.legal))
+
+  zeros-at : (l : List Coding) (slot index : ℕ)
+      → ((place i : ℕ) → get_or (get_or before place []) i zero_block ≡ zero_block)
+      → get_or (get_or (arrays_of before l) slot []) index zero_block ≡ zero_block
+  zeros-at [] slot index z = refl
+  zeros-at (k ∷ more) zero index z = z k.place index
+  zeros-at (k ∷ more) (suc slot) index z = zeros-at more slot index z
+
+  suits-at : SpotsSuit p before codings → (s : Spot) → IsIn s spots → Suits p (block_at scanned s) (u s)
+  suits-at (none_read e z) s t =
+      subst (λ (q : Pass). Suits q (block_at scanned s) (numbers_at q.al (w.sent s))) (sym e)
+      (subst (λ (b : Block). Suits whole_pass b (numbers_at 0 (w.sent s))) (sym (zeros-at codings s.slot s.index z))
+      (suits-zero (w.sent s) (w.in_range s)))
+  suits-at (dc_alone e f low) s t = suits-dc p (block_at scanned s) (w.sent s) e f low (w.in_range s)
+  suits-at (one_component k e) s t =
+      let first : At 0 codings k = subst (λ (l : List Coding). At 0 l k) (sym e) refl in
+      let fits = (at-all (SlotReady frame p array levels before) 0 codings k ready first).fits in
+      let own : IsOwnSpot (grid_of k.component) s =
+      in-all (IsOwnSpot (grid_of k.component)) (own_spots (grid_of k.component)) s
+      (own-only (grid_of k.component) fits.own_wide)
+      (subst (IsIn s) (one-order frame k.component)
+      (subst (λ (l : List Coding). IsIn s (spots_of frame (components_of l))) e t)) in
+      suits-own k s (subst (λ (n : ℕ). At n codings k) (sym own.slot) first) own.own
+
+  abbrev f : Spot → Block
+  f s = after_pass p (block_at scanned s) (u s)
+
+  abbrev after : Arrays
+  after = put_blocks spots (map f spots) scanned
+
+  inside : (k : Coding) (s : Spot) → At s.slot codings k → IsOwn (grid_of k.component) s.index → IsInside scanned s
+  inside k s h own =
+      let r = at-all (SlotReady frame p array levels before) s.slot codings k ready h in
+      let within = at-within s.slot codings k h in
+      let count = length-map codings (λ (c : Coding). get_or before c.place []) in
+      let size = ap (λ (l : List Block). length l) (array-at before codings k s.slot h) in
+      let room = own-within (grid_of k.component) s.index own r.fits.own_wide r.fits.own_high in
+      record { slot = omega arith; index = let e = r.holds.sized in omega arith }
+
+  after-own : (k : Coding) (s : Spot) → At s.slot codings k → IsOwn (grid_of k.component) s.index
+      → block_at after s ≡ cut (sent_after p (levels k.place))
+      (array k.place (s.index / k.component.blocks_wide) (s.index % k.component.blocks_wide))
+  after-own k s h own =
+      let r = at-all (SlotReady frame p array levels before) s.slot codings k ready h in
+      let c = array k.place (s.index / k.component.blocks_wide) (s.index % k.component.blocks_wide) in
+      let here : Is8Bit c = range k.place (s.index / k.component.blocks_wide) (s.index % k.component.blocks_wide) in
+      reaches f s spots scanned (inside k s h own)
+      (covered frame (components_of codings) k.component s
+      (at-map (λ (x : Coding). x.component) s.slot codings k h) r.fits own)
+      ∙ ap₂ (λ (b d : Block). after_pass p b (numbers_at p.al d)) (held-own k s h own) (sent-own k s h own)
+      ∙ cut-after p (levels k.place) c (here.count ∙ sym r.sized) r.legal
+
+  after-held : (k : Coding) (j : ℕ) → At j codings k
+      → HoldsOwn (grid_of k.component) (array k.place) (sent_after p (levels k.place)) (get_or after j [])
+  after-held k j h =
+      let r = at-all (SlotReady frame p array levels before) j codings k ready h in
+      record {
+        sized = put-size f j spots scanned ∙ ap (λ (l : List Block). length l) (array-at before codings k j h)
+            ∙ r.holds.sized;
+        each = λ i own. after-own k (record { slot = j; index = i }) h own;
+      }
+
+  -- The scan is read as the blocks after it.
+  pub reads-scan : (fill code : ℕ) (m : Marker) (rest : List ℕ) → SpotsSuit p before codings
+      → AllByRecursion HasGood codings → IsMarker code m
+      → arrays_at p (restart * mcu_size (components_of codings)) (vias_from 0 codings) spots scanned
+      (bytes ++ marker fill code rest) ≡ Ok ((after, Some m), rest)
+  reads-scan fill code m rest suit good h =
+      reads-arrays p (restart * mcu_size (components_of codings))
+      (vias_from 0 codings) spots scanned u bytes fill code m rest
+      (all-in (IsReadyAt p (vias_from 0 codings) scanned u) spots (λ s t.
+      let v = via-good codings s.slot good in
+      record { at = record { dc_good = v.dc; ac_good = v.ac; suits = suits-at suit s t } }))
+      h w.coded
+
+-- What a written scan is read as.
+pub record ReadsScan (frame : Frame) (restart : ℕ) (p : Pass) (codings : List Coding) (array : Coefficients)
+    (levels : ℕ → Levels) (before : Arrays) (bytes : List ℕ) : Type 0 where
+  pub arrays : Arrays
+  pub count : length arrays ≡ length codings
+  pub holds : (k : Coding) (j : ℕ) → At j codings k
+      → HoldsOwn (grid_of k.component) (array k.place) (sent_after p (levels k.place)) (get_or arrays j [])
+  pub read : (fill code : ℕ) (m : Marker) (rest : List ℕ) → IsMarker code m
+      → arrays_at p (restart * mcu_size (components_of codings)) (vias_from 0 codings)
+      (spots_of frame (components_of codings)) (arrays_of before codings) (bytes ++ marker fill code rest)
+      ≡ Ok ((arrays, Some m), rest)
+
+-- A written scan of a frame takes the blocks of its components to the levels after it.
+pub scan-is_read : (frame : Frame) (restart : ℕ) (p : Pass) (codings : List Coding) (array : Coefficients)
+    (levels : ℕ → Levels) (before : Arrays) (bytes : List ℕ)
+    → ((place row column : ℕ) → Is8Bit (array place row column))
+    → AllByRecursion (SlotReady frame p array levels before) codings → SpotsSuit p before codings
+    → AllByRecursion HasGood codings → WritesScan frame restart p codings array bytes
+    → ReadsScan frame restart p codings array levels before bytes
+scan-is_read frame restart p codings array levels before bytes range ready suit good w =
+    record {
+      arrays = after frame restart p codings array levels before bytes range ready w;
+      count = put-count (f frame restart p codings array levels before bytes range ready w)
+          (spots_of frame (components_of codings)) (arrays_of before codings)
+          ∙ length-map codings (λ (c : Coding). get_or before c.place []);
+      holds = λ k j h. after-held frame restart p codings array levels before bytes range ready w k j h;
+      read = λ fill code m rest h. reads-scan frame restart p codings array levels before bytes range ready w fill
+          code m rest suit good h;
+    }

@@ -1,0 +1,353 @@
+-- The bytes of a scan that was written are read again.
+use Rattle.std.proofs.Common.{◌≡◌, ◌≢◌, ℕ, zero, suc, ◌+◌, ◌%◌, ◌<◌, ◌≤◌, Bool, true, false, List, [], ◌∷◌, ◌++◌, map}
+use Rattle.std.proofs.Common.{take, drop, ap₂, replicate, length, length-drop, length-append, take-append-drop, pos}
+use Rattle.std.proofs.Common.{get_or, Option, Some, None, Result, Ok, Err, refl, sym, ap, ◌∙◌, subst, append_assoc}
+use Rattle.std.proofs.Common.{append-nil, arith, eqb}
+use Rattle.std.proofs.lemmas.Bool.{eq-eqb, eqb-true}
+use Rattle.std.proofs.lemmas.Bool.Decides.{nat_tests}
+use Rattle.std.proofs.lemmas.List.{length-replicate}
+use Rattle.std.specs.List.{AllByRecursion}
+use lib.ListN.{length-map}
+use Rattle.jpeg_bits.specs.Reading.{Outcome, Fault, Malformed, ◌>>=◌}
+use Rattle.jpeg_bits.specs.Entropy.{Text, Ending, Found, bits_of, text_at, add_byte, no_bits, ending_by, filled_end}
+use Rattle.jpeg_bits.specs.Entropy.{upcoming, fresh, marker_from, marker_by}
+use Rattle.jpeg_bits.specs.Marker.{marker_of}
+use Rattle.jpeg_bits.specs.declared.marker.Marker.{Marker}
+use Rattle.jpeg_bits.specs.declared.marker.Marker.TheVariants as markers
+use Rattle.jpeg_bits.specs.declared.ahead.DataEnd.TheVariants as ends
+use Rattle.jpeg_bits.specs.Readers.{text, ReadsJust}
+use Rattle.jpeg_bits.specs.Passes.{Pass, Via, Block, blocks_of}
+use Rattle.jpeg_bits.specs.Intervals.{interval, intervals, after_restart, blocks_before, groups, first_group}
+use Rattle.jpeg_bits.specs.Intervals.{other_groups, predictors_at_start}
+use Rattle.jpeg_streams.specs.WrittenData.{stuffed, marker, bits_of_bytes, WritesInterval, WritesIntervals}
+use Rattle.jpeg_streams.specs.WrittenData.WritesIntervals.{last, another}
+use Rattle.jpeg_streams.proofs.SentBlocks.{InDcRange, after_pass, reads_of, numbers_of}
+use Rattle.jpeg_streams.proofs.AcceptedStreams.{IsMarker}
+use Rattle.jpeg_streams.proofs.WrittenBlocks.{Predicts, IsReady, takes-blocks}
+
+pub not-equal : (x y : ℕ) → x ≢ y → eqb x y ≡ false
+not-equal x y n = grind (arith, nat_tests)
+
+-- ---- texts
+
+none-some : (m : Marker) → ◌≡◌ {A = Option Marker} None (Some m) → ⊥
+none-some m e = cc
+
+pub no-fill : (code : ℕ) (m : Marker) → IsMarker code m → eqb code 255 ≡ false
+unfolding marker_of
+no-fill code m h = not-equal code 255 (λ e. none-some m (sym (ap marker_of e) ∙ h.is))
+
+pub no-zero : (code : ℕ) (m : Marker) → IsMarker code m → eqb code 0 ≡ false
+unfolding marker_of
+no-zero code m h = not-equal code 0 (λ e. none-some m (sym (ap marker_of e) ∙ h.is))
+
+pub filled : (fill code : ℕ) (m : Marker) (rest : List ℕ) → IsMarker code m
+    → filled_end (replicate fill 0xFF ++ code ∷ rest) ≡ (ends.Marker m, rest)
+unfolding filled_end
+filled zero code m rest h = rw (no-fill code m h, h.is) refl
+filled (suc fill) code m rest h = filled fill code m rest h
+
+pub marker-text : (fill code : ℕ) (m : Marker) (rest : List ℕ) → IsMarker code m
+    → text_at (marker fill code rest) ≡ no_bits (Found m rest)
+unfolding text_at
+marker-text zero code m rest h = rw (no-zero code m h) (ap (λ x. no_bits (ending_by x)) (filled zero code m rest h))
+marker-text (suc fill) code m rest h = ap (λ x. no_bits (ending_by x)) (filled (suc fill) code m rest h)
+
+-- A text with these bits and this end; each bit has its place.
+pub record IsText (t : Text) (bits : List Bool) (e : Ending) : Type 0 where
+  pub bits_are : t.bits ≡ bits
+  pub ends_so : t.ending ≡ e
+  pub places_are : length t.places ≡ length bits
+
+text-byte : (b : ℕ) (rest : List ℕ) (t : Text) (bits : List Bool) (e : Ending) → IsText t bits e
+    → IsText (add_byte b rest t) (bits_of b ++ bits) e
+text-byte b rest t bits e h = record {
+  bits_are = ap (λ (l : List Bool). bits_of b ++ l) h.bits_are;
+  ends_so = h.ends_so;
+  places_are = omega (
+    arith,
+    length-append (replicate 8 rest) t.places,
+    length-replicate 8 rest,
+    h.places_are,
+    length-append (bits_of b) bits,
+  );
+}
+
+-- a byte other than FF in front
+plain-text : (b : ℕ) (rest : List ℕ) → eqb b 255 ≡ false → 0 < length rest
+    → text_at (b ∷ rest) ≡ add_byte b rest (text_at rest)
+unfolding text_at
+plain-text b [] e some = absurd (omega arith)
+plain-text b (c ∷ rest) e some = rw e refl
+
+stuffed-byte : (rest : List ℕ) → text_at (255 ∷ 0 ∷ rest) ≡ add_byte 255 rest (text_at rest)
+unfolding text_at
+stuffed-byte rest = refl
+
+pub stuffed-text : (bytes : List ℕ) (fill code : ℕ) (m : Marker) (rest : List ℕ) → IsMarker code m
+    → IsText (text_at (stuffed bytes ++ marker fill code rest)) (bits_of_bytes bytes) (Found m rest)
+unfolding stuffed bits_of_bytes
+stuffed-text [] fill code m rest h =
+    rw (marker-text fill code m rest h) (record { bits_are = refl; ends_so = refl; places_are = refl })
+stuffed-text (b ∷ bytes) fill code m rest h = go (eqb b 0xFF) refl (stuffed-text bytes fill code m rest h)
+  where
+    go : (t : Bool) → eqb b 0xFF ≡ t
+        → IsText (text_at (stuffed bytes ++ marker fill code rest)) (bits_of_bytes bytes) (Found m rest)
+        → IsText (text_at (stuffed (b ∷ bytes) ++ marker fill code rest)) (bits_of b ++ bits_of_bytes bytes)
+        (Found m rest)
+    go true e ih =
+        let more = stuffed bytes ++ marker fill code rest in
+        rw (e, stuffed) (rw (stuffed-byte more)
+        (subst (λ (x : ℕ). IsText (add_byte 255 more (text_at more)) (bits_of x ++ bits_of_bytes bytes)
+        (Found m rest)) (sym (eqb-true b 0xFF e))
+        (text-byte 255 more (text_at more) (bits_of_bytes bytes) (Found m rest) ih)))
+    go false e ih =
+        let more = stuffed bytes ++ marker fill code rest in
+        let some : 0 < length more = omega (arith, length-append (stuffed bytes) (marker fill code rest)) in
+        rw (e, stuffed) (rw (plain-text b more e some)
+        (text-byte b more (text_at more) (bits_of_bytes bytes) (Found m rest) ih))
+
+-- ---- intervals
+
+pub start-predicts : Predicts predictors_at_start
+start-predicts = record { each = each }
+  where
+    zero_range : InDcRange (pos 0)
+    zero_range = record { low = record { le = tt }; high = record { le = tt } }
+
+    each : (k : ℕ) → InDcRange (get_or predictors_at_start k (pos 0))
+    each zero = zero_range
+    each (suc zero) = zero_range
+    each (suc (suc zero)) = zero_range
+    each (suc (suc (suc zero))) = zero_range
+    each (suc (suc (suc (suc k)))) = zero_range
+
+-- the text of an interval's bytes, where nothing is held
+abbrev pub whole_text : List ℕ → Text
+whole_text bytes = text (text_at bytes).bits (drop 56 (text_at bytes).places) (text_at bytes).ending
+
+upcoming-fresh : (bytes : List ℕ) → upcoming fresh bytes ≡ whole_text bytes
+unfolding upcoming
+upcoming-fresh bytes = refl
+
+end-met : (places : List (List ℕ)) (m : Marker) (rest : List ℕ) → length places ≡ 0
+    → marker_by places (Found m rest) ≡ Ok (Some m, rest)
+end-met [] m rest h = refl
+end-met (x ∷ places) m rest h = absurd (omega arith)
+
+-- what is read of a text, and the marker after it
+abbrev pub and_marker : Result (List Block × Text) Fault → Outcome (List Block × Option Marker)
+and_marker o = o >>= λ r. (marker_from r.1 >>= λ m. Ok ((r.0, m.0), m.1))
+
+interval-text : (p : Pass) (turns : List (Via × Block)) (bytes : List ℕ)
+    → interval p turns bytes ≡ and_marker (blocks_of p predictors_at_start 0 turns (whole_text bytes))
+unfolding interval
+interval-text p turns bytes = ap (λ t. and_marker (blocks_of p predictors_at_start 0 turns t)) (upcoming-fresh bytes)
+
+in-text : (p : Pass) (turns : List (Via × Block)) (bytes rest : List ℕ) (m : Marker) (bits filling : List Bool)
+    (blocks : List Block)
+    → ReadsJust (blocks_of p predictors_at_start 0 turns) bits blocks
+    → IsText (text_at bytes) (bits ++ filling) (Found m rest) → length filling ≤ 56
+    → interval p turns bytes ≡ Ok ((blocks, Some m), rest)
+in-text p turns bytes rest m bits filling blocks read is h =
+    let places = drop 56 (text_at bytes).places in
+    let read_all = read.read filling places (Found m rest) in
+    let left : length (drop (length bits) places) ≡ 0
+    = omega (
+      arith,
+      length-drop (length bits) places,
+      length-drop 56 (text_at bytes).places,
+      is.places_are,
+      length-append bits filling,
+      ap length is.bits_are,
+    ) in
+    interval-text p turns bytes
+    ∙ ap (λ (b : List Bool). and_marker
+    (blocks_of p predictors_at_start 0 turns (text b places (text_at bytes).ending))) is.bits_are
+    ∙ ap (λ (e : Ending). and_marker (blocks_of p predictors_at_start 0 turns (text (bits ++ filling) places e)))
+    is.ends_so
+    ∙ ap and_marker read_all
+    ∙ ap (λ (o : Outcome (Option Marker)). o >>= λ m. Ok ((blocks, m.0), m.1))
+    (end-met (drop (length bits) places) m rest left)
+
+-- An interval that was written is read as the blocks after the pass, up to the marker.
+pub reads-interval : (p : Pass) (turns : List (Via × Block × Block)) (bytes : List ℕ) (fill code : ℕ) (m : Marker)
+    (rest : List ℕ)
+    → AllByRecursion (IsReady p) turns → IsMarker code m → WritesInterval p (numbers_of turns) bytes
+    → interval p (reads_of turns) (bytes ++ marker fill code rest)
+    ≡ Ok ((map (λ t. after_pass p t.1 t.2) turns, Some m), rest)
+reads-interval p turns bytes fill code m rest ready h w =
+    let all = bytes ++ marker fill code rest in
+    let is : IsText (text_at all) (w.bits ++ w.filling) (Found m rest)
+    = subst (λ (b : List ℕ). IsText (text_at (b ++ marker fill code rest)) (w.bits ++ w.filling) (Found m rest))
+    w.has_bytes
+    (subst (λ (b : List Bool). IsText (text_at (stuffed w.data_bytes ++ marker fill code rest)) b (Found m rest))
+    w.whole (stuffed-text w.data_bytes fill code m rest h)) in
+    in-text p (reads_of turns) all rest m w.bits w.filling _
+    (takes-blocks p turns predictors_at_start 0 w.bits start-predicts ready w.coded) is
+    (let s = w.is_short in omega arith)
+
+rst : (n : ℕ) → n < 8 → marker_of (0xD0 + n) ≡ Some (markers.RST n)
+unfolding marker_of
+rst zero h = refl
+rst (suc zero) h = refl
+rst (suc (suc zero)) h = refl
+rst (suc (suc (suc zero))) h = refl
+rst (suc (suc (suc (suc zero)))) h = refl
+rst (suc (suc (suc (suc (suc zero))))) h = refl
+rst (suc (suc (suc (suc (suc (suc zero)))))) h = refl
+rst (suc (suc (suc (suc (suc (suc (suc zero))))))) h = refl
+rst (suc (suc (suc (suc (suc (suc (suc (suc n)))))))) h = absurd (omega arith)
+
+pub rst-marker : (k : ℕ) → IsMarker (0xD0 + k % 8) (markers.RST (k % 8))
+rst-marker k = record { is = rst (k % 8) (omega arith) }
+
+abbrev pub all_after : Pass → List (Via × Block × Block) → List (List (Via × Block × Block)) → List Block
+all_after p turns [] = map (λ t. after_pass p t.1 t.2) turns
+all_after p turns (next ∷ more) = map (λ t. after_pass p t.1 t.2) turns ++ all_after p next more
+
+when-restart : {A : Type 0} (k : ℕ) (x : Result A Fault)
+    → elim (eqb k k) as (λ _. Result A Fault) [ true ↦ x | false ↦ Err Malformed ] ≡ x
+when-restart k x = rw (eq-eqb k k refl) refl
+
+pub next-interval : (p : Pass) (k : ℕ) (turns next : List (Via × Block)) (more : List (List (Via × Block)))
+    (bytes rest after : List ℕ) (first others : List Block) (m : Option Marker)
+    → interval p turns bytes ≡ Ok ((first, Some (markers.RST (k % 8))), rest)
+    → intervals p (suc k) next more rest ≡ Ok ((others, m), after)
+    → intervals p k turns (next ∷ more) bytes ≡ Ok ((first ++ others, m), after)
+unfolding intervals
+next-interval p k turns next more bytes rest after first others m e f =
+    ap (λ o. o >>= after_restart k (intervals p (suc k) next more)) e
+    ∙ when-restart (k % 8) (blocks_before first (intervals p (suc k) next more rest))
+    ∙ ap (blocks_before first) f
+
+pub marker-append : (fill code : ℕ) (rest more : List ℕ)
+    → marker fill code rest ++ more ≡ marker fill code (rest ++ more)
+marker-append fill code rest more =
+    ap (λ (l : List ℕ). 0xFF ∷ l) (append_assoc (replicate fill 0xFF) (code ∷ rest) more)
+
+-- Intervals that were written are read as the blocks after the pass, up to the marker after the last.
+pub reads-intervals : (p : Pass) (k : ℕ) (turns : List (Via × Block × Block))
+    (more : List (List (Via × Block × Block))) (bytes : List ℕ) (fill code : ℕ) (m : Marker) (rest : List ℕ)
+    → AllByRecursion (IsReady p) turns → AllByRecursion (AllByRecursion (IsReady p)) more → IsMarker code m
+    → WritesIntervals p k (numbers_of turns) (map numbers_of more) bytes
+    → intervals p k (reads_of turns) (map reads_of more) (bytes ++ marker fill code rest)
+    ≡ Ok ((all_after p turns more, Some m), rest)
+unfolding intervals
+reads-intervals p k turns [] bytes fill code m rest ready all h (last k' turns' bytes' w) =
+    reads-interval p turns bytes fill code m rest ready h w
+reads-intervals p k turns (next ∷ more) bytes fill code m rest ready all h
+    (another k' fill' turns' next' more' first others w ws) =
+    let after = others ++ marker fill code rest in
+    ap (intervals p k (reads_of turns) (map reads_of (next ∷ more)))
+    (append_assoc first (marker fill' (0xD0 + k % 8) others) (marker fill code rest)
+    ∙ ap (λ (l : List ℕ). first ++ l) (marker-append fill' (0xD0 + k % 8) others (marker fill code rest)))
+    ∙ next-interval p k (reads_of turns) (reads_of next) (map reads_of more) _ after rest _ _ (Some m)
+    (reads-interval p turns first fill' (0xD0 + k % 8) (markers.RST (k % 8)) after ready (rst-marker k) w)
+    (reads-intervals p (suc k) next more others fill code m rest all.0 all.1 h ws)
+
+-- ---- groups
+
+pub map-take_any : {A B : Type 0} (f : A → B) (n : ℕ) (xs : List A) → map f (take n xs) ≡ take n (map f xs)
+map-take_any f zero xs = refl
+map-take_any f (suc n) [] = refl
+map-take_any f (suc n) (x ∷ xs) = ap (λ l. f x ∷ l) (map-take_any f n xs)
+
+pub map-drop_any : {A B : Type 0} (f : A → B) (n : ℕ) (xs : List A) → map f (drop n xs) ≡ drop n (map f xs)
+map-drop_any f zero xs = refl
+map-drop_any f (suc n) [] = refl
+map-drop_any f (suc n) (x ∷ xs) = map-drop_any f n xs
+
+pub groups-map : {A B : Type 0} (f : A → B) (turns n : ℕ) (xs : List A)
+    → map (map f) (groups turns n xs) ≡ groups turns n (map f xs)
+unfolding groups
+groups-map f turns n [] = refl
+groups-map f zero n (x ∷ xs) = refl
+groups-map f (suc turns) n (x ∷ xs) =
+    ap₂ (λ l m. l ∷ m) (map-take_any f n (x ∷ xs))
+    (groups-map f turns n (drop n (x ∷ xs)) ∙ ap (groups turns n) (map-drop_any f n (x ∷ xs)))
+
+pub first-map : {A B : Type 0} (f : A → B) (n : ℕ) (xs : List A) → map f (first_group n xs) ≡ first_group n (map f xs)
+first-map f zero xs = refl
+first-map f (suc n) xs = map-take_any f (suc n) xs
+
+pub others-map : {A B : Type 0} (f : A → B) (n : ℕ) (xs : List A)
+    → map (map f) (other_groups n xs) ≡ other_groups n (map f xs)
+others-map f zero xs = refl
+others-map {A} {B} f (suc n) xs =
+    groups-map f (length xs) (suc n) (drop (suc n) xs) ∙ ap (groups (length xs) (suc n)) (map-drop_any f (suc n) xs)
+    ∙ ap (λ (k : ℕ). groups k (suc n) (drop (suc n) (map f xs))) (sym (length-map xs f))
+
+pub map-joined : {A B : Type 0} (f : A → B) (xs ys : List A) → map f (xs ++ ys) ≡ map f xs ++ map f ys
+map-joined f [] ys = refl
+map-joined f (x ∷ xs) ys = ap (λ l. f x ∷ l) (map-joined f xs ys)
+
+groups-after : (p : Pass) (turns n : ℕ) (xs ys : List (Via × Block × Block)) → length ys ≤ turns
+    → all_after p xs (groups turns (suc n) ys) ≡ map (λ t. after_pass p t.1 t.2) (xs ++ ys)
+unfolding groups
+groups-after p turns n xs [] h = ap (map (λ t. after_pass p t.1 t.2)) (sym (append-nil xs))
+groups-after p zero n xs (y ∷ ys) h = absurd (omega arith)
+groups-after p (suc turns) n xs (y ∷ ys) h =
+    ap (λ (l : List Block). map (λ t. after_pass p t.1 t.2) xs ++ l)
+    (groups-after p turns n (take (suc n) (y ∷ ys)) (drop (suc n) (y ∷ ys))
+    (let d = length-drop (suc n) (y ∷ ys) in omega arith)
+    ∙ ap (map (λ t. after_pass p t.1 t.2)) (take-append-drop (suc n) (y ∷ ys)))
+    ∙ sym (map-joined (λ t. after_pass p t.1 t.2) xs (y ∷ ys))
+
+pub all-groups : (p : Pass) (n : ℕ) (xs : List (Via × Block × Block))
+    → all_after p (first_group n xs) (other_groups n xs) ≡ map (λ t. after_pass p t.1 t.2) xs
+all-groups p zero xs = refl
+all-groups p (suc n) xs =
+    groups-after p (length xs) n (take (suc n) xs) (drop (suc n) xs) (let d = length-drop (suc n) xs in omega arith)
+    ∙ ap (map (λ t. after_pass p t.1 t.2)) (take-append-drop (suc n) xs)
+
+ready-take : {A : Type 0} (Q : A → Type 0) (n : ℕ) (xs : List A) → AllByRecursion Q xs → AllByRecursion Q (take n xs)
+ready-take Q zero xs h = tt
+ready-take Q (suc n) [] h = tt
+ready-take Q (suc n) (x ∷ xs) h = (h.0, ready-take Q n xs h.1)
+
+ready-drop : {A : Type 0} (Q : A → Type 0) (n : ℕ) (xs : List A) → AllByRecursion Q xs → AllByRecursion Q (drop n xs)
+ready-drop Q zero xs h = h
+ready-drop Q (suc n) [] h = tt
+ready-drop Q (suc n) (x ∷ xs) h = ready-drop Q n xs h.1
+
+ready-groups : {A : Type 0} (Q : A → Type 0) (turns n : ℕ) (xs : List A) → AllByRecursion Q xs
+    → AllByRecursion (AllByRecursion Q) (groups turns n xs)
+unfolding groups
+ready-groups Q turns n [] h = tt
+ready-groups Q zero n (x ∷ xs) h = tt
+ready-groups Q (suc turns) n (x ∷ xs) h =
+    (ready-take Q n (x ∷ xs) h, ready-groups Q turns n (drop n (x ∷ xs)) (ready-drop Q n (x ∷ xs) h))
+
+pub ready-first : {A : Type 0} (Q : A → Type 0) (n : ℕ) (xs : List A) → AllByRecursion Q xs
+    → AllByRecursion Q (first_group n xs)
+ready-first Q zero xs h = h
+ready-first Q (suc n) xs h = ready-take Q (suc n) xs h
+
+pub ready-others : {A : Type 0} (Q : A → Type 0) (n : ℕ) (xs : List A) → AllByRecursion Q xs
+    → AllByRecursion (AllByRecursion Q) (other_groups n xs)
+ready-others Q zero xs h = tt
+ready-others Q (suc n) xs h = ready-groups Q (length xs) (suc n) (drop (suc n) xs) (ready-drop Q (suc n) xs h)
+
+-- A scan that was written is read as the blocks after the pass.
+pub reads-groups : (p : Pass) (n : ℕ) (turns : List (Via × Block × Block)) (bytes : List ℕ) (fill code : ℕ)
+    (m : Marker) (rest : List ℕ)
+    → AllByRecursion (IsReady p) turns → IsMarker code m
+    → WritesIntervals p 0 (first_group n (numbers_of turns)) (other_groups n (numbers_of turns)) bytes
+    → intervals p 0 (first_group n (reads_of turns)) (other_groups n (reads_of turns)) (bytes ++ marker fill code rest)
+    ≡ Ok ((map (λ t. after_pass p t.1 t.2) turns, Some m), rest)
+reads-groups p n turns bytes fill code m rest ready h w =
+    let all = bytes ++ marker fill code rest in
+    let number : Via × Block × Block → Via × Block = λ t. (t.0, t.2) in
+    let read : Via × Block × Block → Via × Block = λ t. (t.0, t.1) in
+    let written = subst (λ (x : List (Via × Block)). WritesIntervals p 0 x
+    (map numbers_of (other_groups n turns)) bytes) (sym (first-map number n turns))
+    (subst (λ (x : List (List (Via × Block))). WritesIntervals p 0 (first_group n (numbers_of turns)) x bytes)
+    (sym (others-map number n turns)) w) in
+    ap (λ (x : List (Via × Block)). intervals p 0 x (other_groups n (reads_of turns)) all)
+    (sym (first-map read n turns))
+    ∙ ap (λ (x : List (List (Via × Block))). intervals p 0 (reads_of (first_group n turns)) x all)
+    (sym (others-map read n turns))
+    ∙ reads-intervals p 0 (first_group n turns) (other_groups n turns) bytes fill code m rest
+    (ready-first (IsReady p) n turns ready) (ready-others (IsReady p) n turns ready) h written
+    ∙ ap (λ (l : List Block). Ok ((l, Some m), rest)) (all-groups p n turns)

@@ -1,0 +1,68 @@
+-- The markers that are written.
+use Rattle.std.proofs.Common.{◌≡◌, ℕ, zero, suc, ◌≤◌, ◌<◌, ◌+◌, ◌-◌, false, List, ◌∷◌, ◌++◌, replicate, Option, Some}
+use Rattle.std.proofs.Common.{refl, ap, append_assoc, arith, eqb}
+use Rattle.std.proofs.lemmas.Bool.{lt-ltb, le-ltb, ne_eqb}
+use Rattle.jpeg_bits.specs.Marker.{marker_of}
+use Rattle.jpeg_bits.specs.declared.marker.Marker.{Marker}
+use Rattle.jpeg_bits.specs.declared.marker.Marker.TheVariants.{SOF, DHT, DQT, DRI, APP, COM}
+use Rattle.jpeg_segments.specs.Frame.{Frame}
+use Rattle.jpeg_segments.specs.WrittenSegments.{Segment, Quantization, Huffman, Interval, Application, Comment}
+use Rattle.jpeg_segments.specs.WrittenSegments.{Header, code_of, MayStand}
+use Rattle.jpeg_streams.specs.WrittenData.{marker}
+
+pub marker-append : (fill code : ℕ) (rest more : List ℕ)
+    → marker fill code rest ++ more ≡ marker fill code (rest ++ more)
+marker-append fill code rest more = ap (λ (l : List ℕ). 255 ∷ l) (append_assoc (replicate fill 255) (code ∷ rest) more)
+
+abbrev pub marker_for : Segment → Marker
+marker_for (Quantization ts) = DQT
+marker_for (Huffman ts) = DHT
+marker_for (Interval n) = DRI
+marker_for (Application number payload) = APP number
+marker_for (Comment payload) = COM
+marker_for (Header number h) = SOF number
+
+application-marker : (n : ℕ) → n ≤ 15 → marker_of (224 + n) ≡ Some (APP n)
+unfolding marker_of
+application-marker n h =
+    let is : 224 + n - 224 ≡ n = omega arith in
+    let no : (k : ℕ) → k < 224 → eqb (224 + n) k ≡ false = λ k lt. ne_eqb (224 + n) k (λ e. omega arith) in
+    rw (
+      no 0 (omega arith),
+      ne_eqb (224 + n) 255 (λ e. omega arith),
+      no 1 (omega arith),
+      le-ltb (224 + n) 192 (omega arith),
+      no 196 (omega arith),
+      no 200 (omega arith),
+      no 204 (omega arith),
+      le-ltb (224 + n) 208 (omega arith),
+      le-ltb (224 + n) 216 (omega arith),
+      no 216 (omega arith),
+      no 217 (omega arith),
+      no 218 (omega arith),
+      no 219 (omega arith),
+      no 220 (omega arith),
+      no 221 (omega arith),
+      no 222 (omega arith),
+      no 223 (omega arith),
+      lt-ltb (224 + n) 240 (omega arith),
+      is,
+    ) refl
+
+frame-marker : (n : ℕ) → n ≤ 3 → marker_of (192 + n) ≡ Some (SOF n)
+unfolding marker_of
+frame-marker zero h = refl
+frame-marker (suc zero) h = refl
+frame-marker (suc (suc zero)) h = refl
+frame-marker (suc (suc (suc zero))) h = refl
+frame-marker (suc (suc (suc (suc n)))) h = absurd (omega arith)
+
+pub segment-marker : (frame : Option Frame) (s : Segment) → MayStand frame s
+    → marker_of (code_of s) ≡ Some (marker_for s)
+unfolding marker_of
+segment-marker frame (Quantization ts) may = refl
+segment-marker frame (Huffman ts) may = refl
+segment-marker frame (Interval n) may = refl
+segment-marker frame (Application number payload) may = application-marker number may.numbered
+segment-marker frame (Comment payload) may = refl
+segment-marker frame (Header number h) may = frame-marker number may.1.numbered

@@ -1,0 +1,283 @@
+-- Fronts of streams, and streams that mean one picture.
+use Rattle.std.proofs.Common.{◌≡◌, ◌⊎◌, inl, inr, ℕ, zero, suc, ◌+◌, ◌*◌, ◌/◌, ◌%◌, ◌<◌, Bool, true, false, cond}
+use Rattle.std.proofs.Common.{List, [], ◌∷◌, ◌++◌, map, drop, length}
+use Rattle.std.proofs.Common.{nat_lt, Option, Some, None, Result, Ok, Err, refl, sym, ap, ap₂, ◌∙◌, subst, arith}
+use Rattle.std.proofs.Common.{true≢false}
+use Rattle.std.specs.List.{AllByRecursion}
+use Rattle.std.specs.Prelude.{slice_index_or}
+use Rattle.jpeg_bits.specs.Passes.{Pass}
+use Rattle.jpeg_bits.specs.Reading.{Fault, Malformed, ◌>>=◌}
+use Rattle.jpeg_segments.specs.Frame.{Component, Frame}
+use Rattle.jpeg_segments.specs.HuffmanTables.{Tables}
+use Rattle.jpeg_segments.specs.ScanHeaders.{scan_payload, scan_written}
+use Rattle.jpeg_segments.specs.WrittenSegments.{code_of, payload_of, sized}
+use Rattle.jpeg_streams.specs.ArrayPictures.{picture_of_array}
+use Rattle.jpeg_streams.specs.declared.grids.Grid.{Grid}
+use Rattle.jpeg_streams.specs.declared.settings.Settings.{Settings}
+use Rattle.jpeg_streams.specs.Levels.{Is8Bit, Levels, nothing_sent}
+use Rattle.jpeg_streams.specs.Order.{grid_of, Spot}
+use Rattle.jpeg_streams.specs.SaidSegments.{found_after}
+use Rattle.jpeg_streams.specs.Needed.{first_of, needed}
+use Rattle.jpeg_streams.specs.Stream.{Coding, Found, is_progressive, Metadata, nothing_found}
+use Rattle.jpeg_streams.specs.Stream.{pass_of, picture_by, Told, told_of}
+use Rattle.jpeg_streams.specs.WholeImages.{AllComplete, picture_whole, plane_whole, planes_whole}
+use Rattle.jpeg_streams.specs.WrittenImages.{closed, scan as then_scan, segment as then_segment, Writes, WritesImage}
+use Rattle.jpeg_streams.specs.WrittenParts.{AgreeOnOwn, HaveSamePicture, nothing, picture_meant_by, scan, segment}
+use Rattle.jpeg_streams.specs.WrittenParts.{WritesFront}
+use Rattle.jpeg_streams.specs.WrittenScans.{AreCodings, block_for, Coefficients, components_of, grid_at, HasTable}
+use Rattle.jpeg_streams.specs.WrittenScans.{IsOwn, levels_after, no_grid, place_at}
+use Rattle.jpeg_streams.specs.WrittenScans.AreCodings.{and_more, no_more}
+use Rattle.jpeg_streams.proofs.AcceptedImages.{frame-or, frame-stays, image-accepted, none-stands, same-frame}
+use Rattle.jpeg_streams.proofs.AcceptedImages.{scan-tail, segment-tail}
+use Rattle.jpeg_streams.proofs.AcceptedTurns.{then-ok}
+use Rattle.jpeg_streams.proofs.WholeImages.{same-after, whole-is}
+use Rattle.jpeg_streams.proofs.WrittenPictures.{stream-means}
+
+-- ---- fronts
+
+pub front-append : (array : Coefficients) (said next final : Found) (levels reached last : ℕ → Levels)
+    (scanned after : Bool) (front more : List ℕ)
+    → WritesFront array said levels scanned front next reached after → Writes array next reached after more final last
+    → Writes array said levels scanned (front ++ more) final last
+front-append array said next final levels reached last scanned after front more (nothing said' levels' scanned') w = w
+front-append array said next final levels reached last scanned after front more
+    (segment said' next' levels' reached' scanned' after' fill s others stands dct follows f) w =
+    subst (λ (l : List ℕ). Writes array said levels scanned l final last)
+    (sym (segment-tail fill (code_of s) (sized (payload_of s)) others more))
+    (then_segment said final levels last scanned fill s (others ++ more) stands dct follows
+    (front-append array (found_after said s) next final levels reached last scanned after others more f w))
+front-append array said next final levels reached last scanned after front more
+    (scan said' next' levels' reached' scanned' after' frame fill h codings data_bytes others framed is legal written
+    f) w =
+    subst (λ (l : List ℕ). Writes array said levels scanned l final last)
+    (sym (scan-tail fill 218 (sized (scan_payload h)) data_bytes others more))
+    (then_scan said final levels last scanned frame fill h codings data_bytes (others ++ more) framed is legal written
+    (front-append array said next final
+    (levels_after (pass_of (scan_written frame h)) (map (λ c. c.place) codings) levels) reached last true after others
+    more f w))
+
+pub front-closed : (array : Coefficients) (front : List ℕ) (said : Found) (levels : ℕ → Levels) (frame : Frame)
+    → WritesFront array nothing_found (λ k. nothing_sent) false front said levels true → said.frame ≡ Some frame
+    → is_progressive frame.process ≡ true
+    → AllByRecursion (HasTable said) frame.components
+    → WritesImage array (255 ∷ 216 ∷ (front ++ (255 ∷ 217 ∷ []))) said levels
+front-closed array front said levels frame f framed progressive tables = record {
+  after = front ++ (255 ∷ 217 ∷ []);
+  starts = refl;
+  written = front-append array nothing_found said said (λ k. nothing_sent) levels levels false true front
+      (255 ∷ 217 ∷ []) f
+      (closed said levels frame 0 framed tables (λ e. absurd (true≢false (sym progressive ∙ e))));
+}
+
+-- ---- the picture alone
+
+abbrev all_of : Told → List ℕ → List ℕ → Result ((Told × List ℕ) × List ℕ) Fault
+all_of told rest p = Ok ((told, p), rest)
+
+picture-alone : (o : Result (List ℕ) Fault) (told : Told) (rest : List ℕ)
+    → ((o >>= all_of told rest) >>= (λ m. Ok m.0.1)) ≡ o
+picture-alone (Ok p) told rest = refl
+picture-alone (Err e) told rest = refl
+
+-- ---- what is said of one picture
+
+same-planes : (a b : Found) (array : Coefficients) (place : ℕ) (cs : List Component)
+    → AllByRecursion (λ c. slice_index_or a.quantization c.factors.quantization None
+    ≡ slice_index_or b.quantization c.factors.quantization None) cs
+    → planes_whole a array place cs ≡ planes_whole b array place cs
+unfolding planes_whole
+same-planes a b array place [] h = refl
+same-planes a b array place (c ∷ cs) h =
+    ap (λ (o : Option (List ℕ)). needed o >>=
+    (λ (table : List ℕ). planes_whole a array (place + 1) cs >>=
+    (λ (others : List (List ℕ)). Ok (plane_whole c table (array place) ∷ others)))) h.0
+    ∙ same-after (needed (slice_index_or b.quantization c.factors.quantization None)) _ _ (λ table.
+    ap (λ (o : Result (List (List ℕ)) Fault). o >>=
+    (λ (others : List (List ℕ)). Ok (plane_whole c table (array place) ∷ others)))
+    (same-planes a b array (place + 1) cs h.1))
+
+same-colours : (settings : Settings) (m n : Metadata) (f g : Frame) (cs : List Component) (planes : List (List ℕ))
+    → f.output_width ≡ g.output_width → f.output_height ≡ g.output_height → m.jfif ≡ n.jfif → m.adobe ≡ n.adobe
+    → picture_by settings m f cs planes ≡ picture_by settings n g cs planes
+unfolding picture_by
+same-colours settings m n f g [] planes w h j a = rw (w, h, j, a) refl
+same-colours settings m n f g (c ∷ []) planes w h j a = rw (w, h) refl
+same-colours settings m n f g (c ∷ d ∷ more) planes w h j a = rw (w, h, j, a) refl
+
+-- the picture of an array in a frame
+picture_in_frame : Settings → Coefficients → Found → Frame → Result (List ℕ) Fault
+picture_in_frame settings array said f =
+    cond (nat_lt settings.limit (length f.components * (f.output_width * f.output_height))) (Err Malformed)
+    (planes_whole said array 0 f.components >>=
+    (λ (planes : List (List ℕ)). picture_by settings said.metadata f f.components planes))
+
+framed-picture : (settings : Settings) (array : Coefficients) (said : Found) (f : Frame) → said.frame ≡ Some f
+    → picture_whole settings said array ≡ picture_in_frame settings array said f
+unfolding picture_whole picture_in_frame
+framed-picture settings array said f e = then-ok (needed said.frame) _ f _ (ap needed e) refl
+
+same-framed : (settings : Settings) (array : Coefficients) (a b : Found) (h : HaveSamePicture a b)
+    → picture_in_frame settings array a h.frame_a ≡ picture_in_frame settings array b h.frame_b
+unfolding picture_in_frame
+same-framed settings array a b h =
+    let f = h.frame_a in
+    let g = h.frame_b in
+    let size : length f.components * (f.output_width * f.output_height)
+    ≡ length g.components * (g.output_width * g.output_height) =
+    ap (λ (cs : List Component). length cs * (f.output_width * f.output_height)) h.components
+    ∙ ap₂ (λ (x y : ℕ). length g.components * (x * y)) h.width h.height in
+    let first = same-after (planes_whole a array 0 f.components)
+    (λ (planes : List (List ℕ)). picture_by settings a.metadata f f.components planes)
+    (λ (planes : List (List ℕ)). picture_by settings b.metadata g f.components planes)
+    (λ planes. same-colours settings a.metadata b.metadata f g f.components planes h.width h.height h.jfif h.adobe) in
+    let second = ap (λ (o : Result (List (List ℕ)) Fault). o >>=
+    (λ (planes : List (List ℕ)). picture_by settings b.metadata g f.components planes))
+    (same-planes a b array 0 f.components h.tables) in
+    let third = ap (λ (cs : List Component). planes_whole b array 0 cs >>=
+    (λ (planes : List (List ℕ)). picture_by settings b.metadata g cs planes)) h.components in
+    ap (λ (n : ℕ). cond (nat_lt settings.limit n) (Err Malformed)
+    (planes_whole a array 0 f.components >>=
+    (λ (planes : List (List ℕ)). picture_by settings a.metadata f f.components planes))) size
+    ∙ ap (λ (x : Result (List ℕ) Fault). cond
+    (nat_lt settings.limit (length g.components * (g.output_width * g.output_height))) (Err Malformed) x)
+    (first ∙ second ∙ third)
+
+pub same-picture : (settings : Settings) (array : Coefficients) (a b : Found) → HaveSamePicture a b
+    → picture_whole settings a array ≡ picture_whole settings b array
+same-picture settings array a b h =
+    framed-picture settings array a h.frame_a h.is_a ∙ same-framed settings array a b h
+    ∙ sym (framed-picture settings array b h.frame_b h.is_b)
+
+whole-picture : (settings : Settings) (array : Coefficients) (bytes rest : List ℕ) (final : Found) (last : ℕ → Levels)
+    (frame : Frame)
+    → ((place row column : ℕ) → Is8Bit (array place row column)) → WritesImage array bytes final last
+    → final.frame ≡ Some frame → AllComplete frame last
+    → picture_meant_by settings (bytes ++ rest) ≡ picture_whole settings final array
+whole-picture settings array bytes rest final last frame range w e done =
+    ap (λ o. o >>= (λ m. Ok m.0.1))
+    (stream-means settings array rest (bytes ++ rest) final last range (image-accepted array rest bytes final last w)
+    ∙ whole-is settings array bytes rest final last frame range w e done)
+    ∙ picture-alone (picture_whole settings final array) (told_of final) rest
+
+pub one-picture : (settings : Settings) (array : Coefficients) (first second rest others : List ℕ) (a b : Found)
+    (last_a last_b : ℕ → Levels)
+    → ((place row column : ℕ) → Is8Bit (array place row column)) → WritesImage array first a last_a
+    → WritesImage array second b last_b
+    → (same : HaveSamePicture a b) → AllComplete same.frame_a last_a → AllComplete same.frame_b last_b
+    → picture_meant_by settings (first ++ rest) ≡ picture_meant_by settings (second ++ others)
+one-picture settings array first second rest others a b last_a last_b range w x same done_a done_b =
+    whole-picture settings array first rest a last_a same.frame_a range w same.is_a done_a
+    ∙ same-picture settings array a b same
+    ∙ sym (whole-picture settings array second others b last_b same.frame_b range x same.is_b done_b)
+
+-- ---- padding
+
+-- A slot of a scan is beyond its components, or has the component of a place in the frame.
+slot-coded : (w : Found) (frame : Frame) (p : Pass) (tables : Tables) (places ds ks : List ℕ) (codings : List Coding)
+    → AreCodings w frame p tables places ds ks codings
+    → (slot : ℕ) → (grid_at (components_of codings) slot ≡ no_grid)
+    ⊎ ((c : Component) × (grid_at (components_of codings) slot ≡ grid_of c)
+    × (first_of (drop (place_at codings slot) frame.components) ≡ Some c))
+slot-coded w frame p tables places ds ks codings no_more slot = inl refl
+slot-coded w frame p tables places ds ks codings (and_more place d a places' ds' ks' k codings' is more) zero =
+    inr (
+      k.component,
+      refl,
+      subst (λ (n : ℕ). first_of (drop n frame.components) ≡ Some k.component) (sym is.stands) is.component,
+    )
+slot-coded w frame p tables places ds ks codings (and_more place d a places' ds' ks' k codings' is more) (suc slot) =
+    slot-coded w frame p tables places' ds' ks' codings' more slot
+
+none-own : (g : Grid) (index : ℕ) → g ≡ no_grid → IsOwn g index → ⊥
+none-own g index e own = let h : index / g.wide < 0 =
+    subst (λ (n : ℕ). index / g.wide < n) (ap (λ (x : Grid). x.own_high) e) own.row in omega arith
+
+own-agree : (frame : Frame) (a b : Coefficients) (place index : ℕ) (c : Component) (g : Grid) → AgreeOnOwn frame a b
+    → first_of (drop place frame.components) ≡ Some c
+    → g ≡ grid_of c → IsOwn g index
+    → a place (index / g.wide) (index % g.wide) ≡ b place (index / g.wide) (index % g.wide)
+own-agree frame a b place index c g agree is e own =
+    (subst (λ (x : Grid). IsOwn x index
+    → a place (index / x.wide) (index % x.wide) ≡ b place (index / x.wide) (index % x.wide)) (sym e)
+    (λ (o : IsOwn (grid_of c) index). agree place (index / (grid_of c).wide)
+    (index % (grid_of c).wide) c is o.row o.column)) own
+
+blocks-agree : (w : Found) (frame : Frame) (p : Pass) (tables : Tables) (places ds ks : List ℕ)
+    (codings : List Coding) (a b : Coefficients) → AreCodings w frame p tables places ds ks codings
+    → AgreeOnOwn frame a b → (s : Spot) → IsOwn (grid_at (components_of codings) s.slot) s.index
+    → block_for codings a s ≡ block_for codings b s
+blocks-agree w frame p tables places ds ks codings a b are agree s own =
+    go (slot-coded w frame p tables places ds ks codings are s.slot)
+  where
+    go : (grid_at (components_of codings) s.slot ≡ no_grid)
+        ⊎ ((c : Component) × (grid_at (components_of codings) s.slot ≡ grid_of c)
+        × (first_of (drop (place_at codings s.slot) frame.components) ≡ Some c))
+        → block_for codings a s ≡ block_for codings b s
+    go (inl e) = absurd (none-own (grid_at (components_of codings) s.slot) s.index e own)
+    go (inr h) = own-agree frame a b (place_at codings s.slot) s.index h.0
+        (grid_at (components_of codings) s.slot) agree h.2 h.1 own
+
+-- a frame that is said stays to the end
+frame-kept : (array : Coefficients) (said final : Found) (levels last : ℕ → Levels) (scanned : Bool) (bytes : List ℕ)
+    (f : Frame)
+    → Writes array said levels scanned bytes final last → said.frame ≡ Some f → final.frame ≡ Some f
+frame-kept array said final levels last scanned bytes f (closed said' levels' g fill framed tables complete) e = e
+frame-kept array said final levels last scanned bytes f
+    (then_segment said' final' levels' last' scanned' fill s more may dct follows w) e =
+    frame-or s (λ number h is. none-stands said f number h s e is may) (λ other.
+    frame-kept array (found_after said s) final levels last scanned more f w (frame-stays said s other ∙ e))
+frame-kept array said final levels last scanned bytes f
+    (then_scan said' final' levels' last' scanned' g fill h codings data_bytes more framed is legal written w) e =
+    frame-kept array said final _ last true more f w e
+
+also-writes : (a b : Coefficients) (said final : Found) (levels last : ℕ → Levels) (scanned : Bool) (bytes : List ℕ)
+    (frame : Frame)
+    → Writes a said levels scanned bytes final last → final.frame ≡ Some frame → AgreeOnOwn frame a b
+    → Writes b said levels scanned bytes final last
+also-writes a b said final levels last scanned bytes frame
+    (closed said' levels' g fill framed tables complete) e agree = closed said levels g fill framed tables complete
+also-writes a b said final levels last scanned bytes frame
+    (then_segment said' final' levels' last' scanned' fill s more may dct follows w) e agree =
+    then_segment said final levels last scanned fill s more may dct follows
+    (also-writes a b (found_after said s) final levels last scanned more frame w e agree)
+also-writes a b said final levels last scanned bytes frame
+    (then_scan said' final' levels' last' scanned' f fill h codings data_bytes more framed is legal written w) e
+    agree =
+    let p = pass_of (scan_written f h) in
+    let levels_1 = levels_after p (map (λ c. c.place) codings) levels in
+    let same : f ≡ frame =
+    same-frame f frame final.frame (frame-kept a said final levels_1 last true more f w framed) e in
+    let alike : AgreeOnOwn f a b = subst (λ (x : Frame). AgreeOnOwn x a b) (sym same) agree in
+    then_scan said final levels last scanned f fill h codings data_bytes more framed is legal
+    (record {
+      sent = written.sent;
+      in_range = written.in_range;
+      is_own = λ s own. written.is_own s own ∙ blocks-agree said f p _ _ _ _ codings a b legal.are_in_force alike s own;
+      coded = written.coded;
+    })
+    (also-writes a b said final levels_1 last true more frame w e agree)
+
+pub also-written : (a b : Coefficients) (bytes : List ℕ) (final : Found) (last : ℕ → Levels) (frame : Frame)
+    → WritesImage a bytes final last → final.frame ≡ Some frame → AgreeOnOwn frame a b → WritesImage b bytes final last
+also-written a b bytes final last frame w e agree = record {
+  after = w.after;
+  starts = w.starts;
+  written = also-writes a b nothing_found final (λ k. nothing_sent) last false w.after frame w.written e agree;
+}
+
+array-picture : (settings : Settings) (array : Coefficients) (bytes : List ℕ) (final : Found) (last : ℕ → Levels)
+    → ((place row column : ℕ) → Is8Bit (array place row column)) → WritesImage array bytes final last
+    → picture_meant_by settings (bytes ++ []) ≡ picture_of_array settings final array last
+array-picture settings array bytes final last range w =
+    ap (λ o. o >>= (λ m. Ok m.0.1))
+    (stream-means settings array [] (bytes ++ []) final last range (image-accepted array [] bytes final last w))
+    ∙ picture-alone (picture_of_array settings final array last) (told_of final) []
+
+pub unseen-padding : (settings : Settings) (a b : Coefficients) (bytes : List ℕ) (final : Found) (last : ℕ → Levels)
+    (frame : Frame)
+    → ((place row column : ℕ) → Is8Bit (a place row column)) → ((place row column : ℕ) → Is8Bit (b place row column))
+    → WritesImage a bytes final last → final.frame ≡ Some frame → AgreeOnOwn frame a b
+    → picture_of_array settings final a last ≡ picture_of_array settings final b last
+unseen-padding settings a b bytes final last frame range_a range_b w e agree =
+    sym (array-picture settings a bytes final last range_a w)
+    ∙ array-picture settings b bytes final last range_b (also-written a b bytes final last frame w e agree)

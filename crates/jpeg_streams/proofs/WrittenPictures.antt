@@ -1,0 +1,424 @@
+-- The picture of a written stream is that of its array, cut at the levels that were sent.
+use Rattle.std.proofs.Common.{◌≡◌, ℕ, suc, ◌+◌, ◌*◌, ◌/◌, ◌%◌, ◌<◌, ◌≤◌, ◌&&◌, nat_lt, Bool, true, false, cond, List}
+use Rattle.std.proofs.Common.{[], ◌∷◌, map, length, get_or, slice_index, slice_index_or, ℤ, Option, Some, None}
+use Rattle.std.proofs.Common.{◌≢◌, Result, Ok, Err, refl, sym, ap, ap₂, ◌∙◌, subst, arith, min, true≢false}
+use Rattle.std.proofs.Common.{if◌then◌else◌}
+use Rattle.std.proofs.Math.Nat.{div-lt_iff_lt-mul, mul_comm, div-mul-le_self}
+use Rattle.std.proofs.lemmas.Nat.{div-mul-add, mod-mul-add}
+use Rattle.std.proofs.lemmas.Bool.{eq-eqb, le-ltb}
+use Rattle.std.proofs.lemmas.List.FromFn.{get_or-map-range_with_len, length-map-range_with_len}
+use Rattle.std.specs.List.{AllByRecursion, range_with_len, list_all}
+use Rattle.jpeg_bits.specs.Reading.{Fault, Malformed, ◌>>=◌}
+use Rattle.jpeg_bits.specs.declared.color_transform.ColorTransform.{ColorTransform}
+use Rattle.jpeg_bits.specs.declared.color_transform.ColorTransform.TheVariants as transforms
+use Rattle.jpeg_pixels.specs.Colour.{conversion_of}
+use Rattle.jpeg_pixels.specs.declared.upsampler.ColorConvert.{ColorConvert}
+use Rattle.jpeg_pixels.specs.declared.upsampler.ColorConvert.TheVariants as converts
+use Rattle.jpeg_segments.specs.Frame.{Frame, Component, ceiling}
+use Rattle.jpeg_pixels.specs.Zigzag.{coefficients_in_block_order, values_in_block_order}
+use Rattle.jpeg_pixels.specs.Pictures.{Source, sources_of, image_of}
+use Rattle.jpeg_streams.proofs.ScaledSizes.{reaches-made, scale-made, one-made}
+use Rattle.jpeg_streams.specs.declared.settings.Settings.{Settings}
+use Rattle.jpeg_streams.specs.ColourChoice.{identifiers_of, transform_of}
+use Rattle.jpeg_bits.specs.Passes.{Block, zero_block, listed}
+use Rattle.jpeg_streams.specs.Order.{grid_of}
+use Rattle.jpeg_streams.specs.Scans.{Arrays}
+use Rattle.jpeg_pixels.specs.Scaled.{sample_at}
+use Rattle.jpeg_pixels.specs.Planes.{plane_sample, plane_of, cropped}
+use Rattle.jpeg_streams.specs.Needed.{needed}
+use Rattle.jpeg_streams.specs.Stream.{Found, Metadata, is_progressive, plane_by, plane_at_end, planes_from}
+use Rattle.jpeg_segments.specs.declared.parser.CodingProcess.{CodingProcess}
+use Rattle.jpeg_segments.specs.declared.parser.CodingProcess.TheVariants.{DctSequential, DctProgressive, Lossless}
+use Rattle.jpeg_streams.specs.Stream.{blocks_picture, picture_in, picture_by, picture_by_process, picture_of, rest_at}
+use Rattle.jpeg_streams.specs.Stream.{meaning, nothing_found, start_at}
+use Rattle.jpeg_streams.specs.Stream.{segments_at}
+use Rattle.jpeg_streams.specs.declared.before.Before.TheVariants.{Elsewhere}
+use Rattle.jpeg_streams.specs.Levels.{Levels, Is8Bit, cut}
+use Rattle.jpeg_streams.proofs.FinishedPlaces.{is_level_0}
+use Rattle.jpeg_streams.specs.WrittenScans.{Coefficients, HasTable, IsComplete}
+use Rattle.jpeg_streams.specs.ArrayPictures.{HasTransform, IsTransformOf, Takes, plane_of_array, planes_of_array}
+use Rattle.jpeg_streams.specs.ArrayPictures.{picture_of_array}
+use Rattle.jpeg_streams.specs.Stream.{told_of}
+use Rattle.jpeg_streams.proofs.AcceptedStreams.{WritesStream}
+use Rattle.jpeg_streams.proofs.OwnSpots.{At, at-within, Fits, in-below}
+use Rattle.jpeg_streams.proofs.WrittenFrameScans.{HoldsOwn, in-all, at-all}
+use Rattle.jpeg_streams.proofs.ReadStates.{reading, is_whole}
+use Rattle.jpeg_streams.proofs.BroughtLevels.{Made, Shaped, Framed, held-arrays}
+use Rattle.jpeg_streams.proofs.AcceptedTurns.{then-ok}
+use Rattle.jpeg_streams.proofs.FrameShapes.{below-ceiling, all-shaped, accepted-sources}
+use Rattle.jpeg_streams.proofs.ReadStreams.{stream-read}
+use Rattle.jpeg_streams.proofs.InsidePictures.{SamePlane, AllAlike, image-same, cropped-same}
+
+-- ---- one plane
+
+pub plane-length : (s : ℕ) (table : List ℕ) (wide high : ℕ) (b : ℕ → ℕ → List ℤ)
+    → length (plane_of s table wide high b) ≡ s * wide * (s * high)
+unfolding plane_of
+plane-length s table wide high b =
+    length-map-range_with_len (λ i. plane_sample s table b (i % (s * wide)) (i / (s * wide))) 0
+    (s * wide * (s * high))
+
+plane-at : (s : ℕ) (table : List ℕ) (wide high : ℕ) (b : ℕ → ℕ → List ℤ) (x y : ℕ) → x < s * wide → y < s * high
+    → slice_index (plane_of s table wide high b) (y * (s * wide) + x) ≡ plane_sample s table b x y
+unfolding plane_of
+plane-at s table wide high b x y h k =
+    let i = y * (s * wide) + x in
+    let row : i / (s * wide) ≡ y = div-mul-add y (s * wide) x h in
+    let column : i % (s * wide) ≡ x = mod-mul-add y (s * wide) x h in
+    let some : 0 < s * wide = omega arith in
+    let e = mul_comm (s * wide) (s * high) in
+    let within : i < s * high * (s * wide) = (div-lt_iff_lt-mul some).0 (omega arith) in
+    let zero-more : 0 + i ≡ i = omega arith in
+    get_or-map-range_with_len (λ i. plane_sample s table b (i % (s * wide)) (i / (s * wide))) 0
+    (s * wide * (s * high)) i i 0 (omega arith) zero-more
+    ∙ ap₂ (λ (m n : ℕ). plane_sample s table b m n) column row
+
+-- a sample inside a component is of one of its own blocks
+pub inside-own : (x s w : ℕ) → 0 < s → x < w → x / s < ceiling w s
+inside-own x s w some h = let d = div-mul-le_self x s in (below-ceiling (x / s) w s some).1 (omega arith)
+
+pub plane-same : (frame : Frame) (c : Component) (table : List ℕ) (l : Levels) (array : ℕ → ℕ → Block)
+    (blocks : List Block) → 0 < c.scale → Fits frame c → HoldsOwn (grid_of c) array l blocks
+    → SamePlane (c.blocks_wide * c.scale) c.width c.height (plane_by c table blocks) (plane_of_array c table l array)
+unfolding plane_by plane_of_array
+plane-same frame c table l array blocks some fits holds =
+    let s = c.scale in
+    let wide = c.blocks_wide in
+    let q = values_in_block_order table in
+    let one : ℕ → ℕ → List ℤ =
+    λ row column. coefficients_in_block_order (listed (get_or blocks (row * wide + column) zero_block)) in
+    let two : ℕ → ℕ → List ℤ = λ row column. coefficients_in_block_order (listed (cut l (array row column))) in
+    record {
+      count = plane-length s q wide c.blocks_high one ∙ sym (plane-length s q wide c.blocks_high two);
+      each = λ x y h k.
+          let column : x / s < (grid_of c).own_wide = inside-own x s c.width some h in
+          let row : y / s < (grid_of c).own_high = inside-own y s c.height some k in
+          let column-in : x / s < wide = let f = fits.own_wide in omega arith in
+          let row-in : y / s < c.blocks_high = let f = fits.own_high in omega arith in
+          let e1 = mul_comm wide s in
+          let e2 = mul_comm c.blocks_high s in
+          let x-in : x < wide * s = (div-lt_iff_lt-mul some).0 column-in in
+          let y-in : y < c.blocks_high * s = (div-lt_iff_lt-mul some).0 row-in in
+          let i = y / s * wide + x / s in
+          let at-row : i / wide ≡ y / s = div-mul-add (y / s) wide (x / s) column-in in
+          let at-column : i % wide ≡ x / s = mod-mul-add (y / s) wide (x / s) column-in in
+          let block : get_or blocks i zero_block ≡ cut l (array (y / s) (x / s))
+          = holds.each i (record { row = omega arith; column = omega arith })
+          ∙ ap₂ (λ (m n : ℕ). cut l (array m n)) at-row at-column in
+          let place : y * (wide * s) + x ≡ y * (s * wide) + x = ap (λ (n : ℕ). y * n + x) e1 in
+          ap (slice_index (plane_of s q wide c.blocks_high one)) place
+          ∙ plane-at s q wide c.blocks_high one x y (omega arith) (omega arith)
+          ∙ ap (λ (b : Block). sample_at s (coefficients_in_block_order (listed b)) q (x % s) (y % s)) block
+          ∙ sym (plane-at s q wide c.blocks_high two x y (omega arith) (omega arith))
+          ∙ ap (slice_index (plane_of s q wide c.blocks_high two)) (sym place);
+    }
+
+-- ---- planes at the end
+
+all-whole : (ls : List (Option ℕ)) → AllByRecursion (λ x. x ≡ Some 0) ls
+    → list_all (λ mark. mark) (map is_level_0 ls) ≡ true
+all-whole [] h = refl
+all-whole (l ∷ ls) h = ap₂ (λ (a b : Bool). a && b) (ap is_level_0 h.0) (all-whole ls h.1)
+
+complete-whole : (l : Levels) → IsComplete l → is_whole l ≡ true
+complete-whole l h = ap₂ (λ (a b : Bool). a && b) (ap is_level_0 h.dc) (all-whole l.acs h.acs)
+
+-- the plane of a component at the end of the image
+pub record PlaneAtEnd (found : Found) (f : Frame) (array : Coefficients) (l : Levels) (k : ℕ)
+    (c : Component) : Type 0 where
+  pub table : List ℕ
+  pub is_table : slice_index_or found.quantization c.factors.quantization None ≡ Some table
+  pub blocks : List Block
+  pub holds : HoldsOwn (grid_of c) (array k) l blocks
+  pub is : plane_at_end found f k c ≡ Ok (plane_by c table blocks)
+
+end-decided : (found : Found) (f : Frame) (k : ℕ) (c : Component) (plane : List ℕ)
+    → slice_index_or found.planes k None ≡ Some plane → plane_at_end found f k c ≡ Ok plane
+unfolding plane_at_end
+end-decided found f k c plane e = rw (e, plane_at_end) refl
+
+end-held : (found : Found) (f : Frame) (k : ℕ) (c : Component) (table : List ℕ)
+    → slice_index_or found.planes k None ≡ None → is_progressive f.process ≡ true → found.scanned ≡ true
+    → slice_index_or found.quantization c.factors.quantization None ≡ Some table
+    → plane_at_end found f k c ≡ Ok (plane_by c table (get_or found.held k []))
+unfolding plane_at_end
+end-held found f k c table n p s t =
+    rw (n, plane_at_end) (rw (p, s, plane_at_end)
+    (then-ok (needed (slice_index_or found.quantization c.factors.quantization None)) _ table _ (ap needed t) refl))
+
+module _ (f : Frame) (array : Coefficients) (final : Found) (last : ℕ → Levels) (h : Arrays) (fi : List (List Bool))
+    (pl : List (Option (List ℕ)))
+    (shape : Shaped f) (framed : Framed final f array last true h fi pl)
+    (tables : AllByRecursion (HasTable final) f.components)
+    (complete : is_progressive f.process ≡ false
+    → AllByRecursion (λ k. IsComplete (last k)) (range_with_len 0 (length f.components))) where
+  abbrev found : Found
+  found = reading final true h fi pl
+
+  plane-end : (k : ℕ) (c : Component) → At k f.components c → PlaneAtEnd found f array (last k) k c
+  plane-end k c t = go (is_whole (last k)) refl (is_progressive f.process) refl
+    where
+      go : (b : Bool) → is_whole (last k) ≡ b → (p : Bool) → is_progressive f.process ≡ p
+          → PlaneAtEnd found f array (last k) k c
+      go true e p g =
+          let o = (framed.marked.planes k c t).decided e in
+          record {
+            table = o.table;
+            is_table = o.is_table;
+            blocks = o.blocks;
+            holds = o.holds;
+            is =
+                end-decided found f k c (plane_by c o.table o.blocks) o.plane;
+          }
+      go false e true g =
+          let n = (framed.marked.planes k c t).undecided e in
+          let q = at-all (HasTable final) k f.components c tables t in
+          record {
+            table = q.table;
+            is_table = q.is;
+            blocks = get_or h k [];
+            holds = subst (λ (a : Arrays). HoldsOwn (grid_of c) (array k) (last k) (get_or a k []))
+                (held-arrays final h fi pl f g) ((framed.held g).each k c t);
+            is = end-held found f k c q.table n g refl q.is;
+          }
+      go false e false g =
+          let all = in-all (λ (j : ℕ). IsComplete (last j)) (range_with_len 0 (length f.components)) k (complete g)
+          (in-below k (length f.components) (at-within k f.components c t)) in
+          absurd (true≢false (sym (complete-whole (last k) all) ∙ e))
+
+  -- the planes at the end and those of the array
+  record BothPlanes (place : ℕ) (components : List Component) : Type 0 where
+    ours : List (List ℕ)
+    theirs : List (List ℕ)
+    ours_are : planes_from found f place components ≡ Ok ours
+    theirs_are : planes_of_array final array last place components ≡ Ok theirs
+    alike : AllAlike components ours theirs
+
+  planes-end : (scaled : (k : ℕ) (c : Component) → At k f.components c → 0 < c.scale) (place : ℕ)
+      (components : List Component)
+      → ((j : ℕ) (c : Component) → At j components c → At (place + j) f.components c) → BothPlanes place components
+  unfolding planes_from planes_of_array
+  planes-end scaled place [] within = record { ours = []; theirs = []; ours_are = refl; theirs_are = refl; alike = tt }
+  planes-end scaled place (c ∷ more) within =
+      let start : place + 0 ≡ place = omega arith in
+      let t : At place f.components c = subst (λ (n : ℕ). At n f.components c) start (within 0 c refl) in
+      let e = plane-end place c t in
+      let others = planes-end scaled (place + 1) more
+      (λ j d u. let next : place + suc j ≡ (place + 1) + j = omega arith in
+      subst (λ (n : ℕ). At n f.components d) next (within (suc j) d u)) in
+      record {
+        ours = plane_by c e.table e.blocks ∷ others.ours;
+        theirs = plane_of_array c e.table (last place) (array place) ∷ others.theirs;
+        ours_are = then-ok (plane_at_end found f place c) _ (plane_by c e.table e.blocks) _ e.is
+            (then-ok (planes_from found f (place + 1) more) _ others.ours _ others.ours_are refl);
+        theirs_are = then-ok (needed (slice_index_or final.quantization c.factors.quantization None)) _ e.table _
+            (ap needed e.is_table)
+            (then-ok (planes_of_array final array last (place + 1) more) _ others.theirs _ others.theirs_are refl);
+        alike = (
+          plane-same f c e.table (last place) (array place) e.blocks (scaled place c t)
+              (shape.fits place c t) e.holds,
+          others.alike,
+        );
+      }
+
+-- ---- the picture
+
+picture-one : (f : Frame) (c : Component) (p q : List ℕ) → f.output_width ≤ c.width → f.output_height ≤ c.height
+    → SamePlane (c.blocks_wide * c.scale) c.width c.height p q
+    → picture_in f c p ≡ picture_in f c q
+picture-one f c p q w h same =
+    let stride = c.scale * c.blocks_wide in
+    let moved : SamePlane stride c.width c.height p q =
+    subst (λ (n : ℕ). SamePlane n c.width c.height p q) (mul_comm c.blocks_wide c.scale) same in
+    cropped-same stride c.width c.height (min f.output_width stride) (min f.output_height (length p / stride)) p q
+    (omega arith) (omega arith) moved
+    ∙ ap (λ (n : ℕ). cropped stride (min f.output_width stride) (min f.output_height (n / stride)) q) same.count
+
+pub picture-by-same : (settings : Settings) (m : Metadata) (f : Frame) (components : List Component)
+    (ps qs : List (List ℕ)) → f.components ≡ components → Made f
+    → AllAlike components ps qs → picture_by settings m f components ps ≡ picture_by settings m f components qs
+unfolding picture_by
+picture-by-same settings m f [] ps qs e made alike =
+    image-same [] ps qs f.output_width f.output_height
+    (transform_of settings.color_transform (identifiers_of []) m.jfif m.adobe)
+    (λ sources s. reaches-made f sources made
+    (subst (λ (l : List Component). sources_of l f.output_width f.output_height ≡ Ok sources) (sym e) s)) alike
+picture-by-same settings m f (c ∷ []) [] qs e made alike = absurd alike
+picture-by-same settings m f (c ∷ []) (p ∷ ps) [] e made alike = absurd alike
+picture-by-same settings m f (c ∷ []) (p ∷ ps) (q ∷ qs) e made alike =
+    let size = one-made f c made e in
+    ap (λ (x : List ℕ). Ok x) (picture-one f c p q size.0 size.1 alike.0)
+picture-by-same settings m f (c ∷ d ∷ more) ps qs e made alike =
+    image-same (c ∷ d ∷ more) ps qs f.output_width f.output_height
+    (transform_of settings.color_transform (identifiers_of (c ∷ d ∷ more)) m.jfif m.adobe)
+    (λ sources s. reaches-made f sources made
+    (subst (λ (l : List Component). sources_of l f.output_width f.output_height ≡ Ok sources) (sym e) s)) alike
+
+-- ---- the meaning
+
+blocks-picture : (p : CodingProcess) → p ≢ Lossless → (settings : Settings) (found : Found) (f : Frame)
+    → picture_by_process p settings found f ≡ blocks_picture settings found f
+blocks-picture DctSequential h settings found f = refl
+blocks-picture DctProgressive h settings found f = refl
+blocks-picture Lossless h settings found f = absurd (h refl)
+
+found-picture : (settings : Settings) (found : Found) (f : Frame) (planes : List (List ℕ)) → f.process ≢ Lossless
+    → found.frame ≡ Some f → planes_from found f 0 f.components ≡ Ok planes
+    → picture_of settings found
+    ≡ (if nat_lt settings.limit
+    (length f.components * (f.output_width * f.output_height)) then Err Malformed else picture_by settings
+    found.metadata f f.components planes)
+unfolding picture_of blocks_picture
+found-picture settings found f planes n e p =
+    then-ok (needed found.frame) _ f _ (ap needed e)
+    (ap (λ (o : Result (List ℕ) Fault). cond
+    (nat_lt settings.limit (length f.components * (f.output_width * f.output_height))) (Err Malformed) o)
+    (blocks-picture f.process n settings found f ∙ then-ok (planes_from found f 0 f.components) _ planes _ p refl))
+
+array-picture : (settings : Settings) (w : Found) (array : Coefficients) (levels : ℕ → Levels) (f : Frame)
+    (planes : List (List ℕ)) → w.frame ≡ Some f → planes_of_array w array levels 0 f.components ≡ Ok planes
+    → picture_of_array settings w array levels
+    ≡ (if nat_lt settings.limit
+    (length f.components * (f.output_width * f.output_height)) then Err Malformed else picture_by settings w.metadata
+    f f.components planes)
+unfolding picture_of_array
+array-picture settings w array levels f planes e p =
+    then-ok (needed w.frame) _ f _ (ap needed e)
+    (ap (λ (o : Result (List ℕ) Fault). cond
+    (nat_lt settings.limit (length f.components * (f.output_width * f.output_height))) (Err Malformed) o)
+    (then-ok (planes_of_array w array levels 0 f.components) _ planes _ p refl))
+
+pub pictures-same : (settings : Settings) (f : Frame) (array : Coefficients) (final : Found) (last : ℕ → Levels)
+    (h : Arrays) (fi : List (List Bool)) (pl : List (Option (List ℕ)))
+    → Shaped f → final.frame ≡ Some f → Framed final f array last true h fi pl
+    → AllByRecursion (HasTable final) f.components
+    → (is_progressive f.process ≡ false
+    → AllByRecursion (λ k. IsComplete (last k)) (range_with_len 0 (length f.components)))
+    → picture_of settings (reading final true h fi pl) ≡ picture_of_array settings final array last
+pictures-same settings f array final last h fi pl shape e framed tables complete =
+    let b = planes-end f array final last h fi pl shape framed tables complete (scale-made f shape.made) 0 f.components
+    (λ j c t. let start : 0 + j ≡ j = omega arith in subst (λ (n : ℕ). At n f.components c) (sym start) t) in
+    found-picture settings (reading final true h fi pl) f b.ours shape.lossy e b.ours_are
+    ∙ ap (λ (o : Result (List ℕ) Fault). cond
+    (nat_lt settings.limit (length f.components * (f.output_width * f.output_height))) (Err Malformed) o)
+    (picture-by-same settings final.metadata f f.components b.ours b.theirs refl shape.made b.alike)
+    ∙ sym (array-picture settings final array last f b.theirs e b.theirs_are)
+
+pub rest-by : (settings : Settings) (found all : Found) (bytes rest : List ℕ)
+    → segments_at false Elsewhere found None bytes ≡ Ok (all, rest)
+    → rest_at settings found bytes ≡ (picture_of settings all >>= (λ picture. Ok ((told_of all, picture), rest)))
+unfolding rest_at
+rest-by settings found all bytes rest e = then-ok (segments_at false Elsewhere found None bytes) _ (all, rest) _ e refl
+
+meaning-by : (settings : Settings) (bytes rest : List ℕ) → start_at bytes ≡ Ok (tt, rest)
+    → meaning settings bytes ≡ rest_at settings nothing_found rest
+unfolding meaning
+meaning-by settings bytes rest e = then-ok (start_at bytes) _ (tt, rest) _ e refl
+
+-- The meaning of a written stream is the picture of its array, cut at the levels that were sent.
+pub stream-means : (settings : Settings) (array : Coefficients) (tail bytes : List ℕ) (final : Found)
+    (last : ℕ → Levels)
+    → ((place row column : ℕ) → Is8Bit (array place row column)) → WritesStream array tail bytes final last
+    → meaning settings bytes
+    ≡ (picture_of_array settings final array last >>= (λ picture. Ok ((told_of final, picture), tail)))
+stream-means settings array tail bytes final last range w =
+    let r = stream-read array tail bytes final last range all-shaped w in
+    let end = r.whole.end in
+    let all = reading final true end.held end.finished end.planes in
+    meaning-by settings bytes r.rest r.starts
+    ∙ rest-by settings nothing_found all r.rest tail end.is
+    ∙ ap (λ (o : Result (List ℕ) Fault). o >>= (λ (picture : List ℕ). Ok ((told_of final, picture), tail)))
+    (pictures-same settings r.whole.frame array final last end.held end.finished end.planes r.whole.shape end.frame_is
+    end.framed end.tables end.complete)
+
+-- ---- there is a picture
+
+some-of : {A B : Type 0} (o : Result A Fault) (f : A → Result B Fault) (x : A) → o ≡ Ok x → (y : B) × (f x ≡ Ok y)
+    → (y : B) × ((o >>= f) ≡ Ok y)
+some-of o f x e y = (y.0, then-ok o f x (Ok y.0) e y.1)
+
+conversion-there : (count : ℕ) (t : ColorTransform) → IsTransformOf count t
+    → (convert : ColorConvert) × (conversion_of count t ≡ Ok convert)
+unfolding conversion_of
+conversion-there count transforms.None h = (converts.None, refl)
+conversion-there count transforms.RGB h = (converts.Rgb, rw (eq-eqb count 3 h) refl)
+conversion-there count transforms.YCbCr h = (converts.YCbCr, rw (eq-eqb count 3 h) refl)
+conversion-there count transforms.CMYK h = (converts.Cmyk, rw (eq-eqb count 4 h) refl)
+conversion-there count transforms.YCCK h = (converts.Ycck, rw (eq-eqb count 4 h) refl)
+conversion-there count transforms.Grayscale h = absurd h
+conversion-there count transforms.Unknown h = absurd h
+conversion-there count transforms.JcsBgYcc h = absurd h
+conversion-there count transforms.JcsBgRgb h = absurd h
+
+picture-there : (settings : Settings) (w : Found) (f : Frame) (components : List Component)
+    (ours planes : List (List ℕ)) (sources : List Source) → HasTransform settings w components
+    → sources_of components f.output_width f.output_height ≡ Ok sources → AllAlike components ours planes
+    → (picture : List ℕ) × (picture_by settings w.metadata f components planes ≡ Ok picture)
+unfolding picture_by image_of
+picture-there settings w f [] ours planes sources t e h = absurd t
+picture-there settings w f (c ∷ []) [] planes sources t e h = absurd h
+picture-there settings w f (c ∷ []) (o ∷ ours) [] sources t e h = absurd h
+picture-there settings w f (c ∷ []) (o ∷ ours) (p ∷ planes) sources t e h = (picture_in f c p, refl)
+picture-there settings w f (c ∷ d ∷ more) ours planes sources t e h =
+    let convert = conversion-there (length (c ∷ d ∷ more)) _ t in
+    some-of _ _ convert.0 convert.1 (some-of (sources_of (c ∷ d ∷ more) f.output_width f.output_height) _ sources e (
+      _,
+      refl,
+    ))
+
+within-limit : (a b : ℕ) (x : Result (List ℕ) Fault) → b ≤ a → cond (nat_lt a b) (Err Malformed) x ≡ x
+within-limit a b x h = rw (le-ltb a b h) refl
+
+-- The picture of an array that is taken.
+pub pictures-taken : (settings : Settings) (array : Coefficients) (final : Found) (last : ℕ → Levels) (f : Frame)
+    (sources : List Source) → ((place row column : ℕ) → Is8Bit (array place row column))
+    → Shaped f → final.frame ≡ Some f → (h : Arrays) (fi : List (List Bool)) (pl : List (Option (List ℕ)))
+    → Framed final f array last true h fi pl → AllByRecursion (HasTable final) f.components
+    → (is_progressive f.process ≡ false
+    → AllByRecursion (λ k. IsComplete (last k)) (range_with_len 0 (length f.components)))
+    → sources_of f.components f.output_width f.output_height ≡ Ok sources → Takes settings final
+    → (picture : List ℕ) × (picture_of_array settings final array last ≡ Ok picture)
+pictures-taken settings array final last f sources range shape e h fi pl framed tables complete is takes =
+    let same : takes.frame ≡ f = some-same takes.frame f (sym takes.is_said ∙ e) in
+    let b = planes-end f array final last h fi pl shape framed tables complete (scale-made f shape.made) 0 f.components
+    (λ j c t. let start : 0 + j ≡ j = omega arith in subst (λ (n : ℕ). At n f.components c) (sym start) t) in
+    let limit = subst (λ (g : Frame). length g.components * (g.output_width * g.output_height) ≤ settings.limit) same
+    takes.limit in
+    let picture = picture-there settings final f f.components b.ours b.theirs sources
+    (subst (λ (g : Frame). HasTransform settings final g.components) same takes.transform) is b.alike in (
+      picture.0,
+      array-picture settings final array last f b.theirs e b.theirs_are
+          ∙ within-limit settings.limit (length f.components * (f.output_width * f.output_height))
+          (picture_by settings final.metadata f f.components b.theirs) limit
+          ∙ picture.1,
+    )
+  where
+    some-same : (a b : Frame) → ◌≡◌ {A = Option Frame} (Some a) (Some b) → a ≡ b
+    some-same a b e = cc
+
+-- A written stream whose picture is taken means that picture.
+pub stream-taken : (settings : Settings) (array : Coefficients) (tail bytes : List ℕ) (final : Found)
+    (last : ℕ → Levels)
+    → ((place row column : ℕ) → Is8Bit (array place row column)) → WritesStream array tail bytes final last
+    → Takes settings final
+    → (picture : List ℕ) × (picture_of_array settings final array last ≡ Ok picture)
+stream-taken settings array tail bytes final last range w takes =
+    let r = stream-read array tail bytes final last range all-shaped w in
+    let f = r.whole.frame in
+    let end = r.whole.end in
+    let sources = accepted-sources f f r.whole.is_accepted in
+    pictures-taken settings array final last f sources.0 range r.whole.shape end.frame_is end.held end.finished
+    end.planes end.framed end.tables end.complete sources.1 takes
+
+pub taken-means : (settings : Settings) (array : Coefficients) (tail bytes : List ℕ) (final : Found) (last : ℕ → Levels)
+    → ((place row column : ℕ) → Is8Bit (array place row column)) → WritesStream array tail bytes final last
+    → Takes settings final
+    → (picture : List ℕ) × (picture_of_array settings final array last ≡ Ok picture)
+    × (meaning settings bytes ≡ Ok ((told_of final, picture), tail))
+taken-means settings array tail bytes final last range w takes =
+    let p = stream-taken settings array tail bytes final last range w takes in (
+      p.0,
+      p.1,
+      stream-means settings array tail bytes final last range w
+          ∙ then-ok (picture_of_array settings final array last) _ p.0 _ p.1 refl,
+    )

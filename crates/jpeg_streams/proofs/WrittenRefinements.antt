@@ -1,0 +1,475 @@
+-- A refinement that was written is read again.
+use Rattle.std.proofs.Common.{◌≡◌, ◌≢◌, ◌⊎◌, inl, inr, ℕ, zero, suc, ◌+◌, ◌-◌, ◌*◌, ◌/◌, ◌%◌, ◌^◌, ◌<◌, ◌≤◌, Bool}
+use Rattle.std.proofs.Common.{true, false, List, [], ◌∷◌, ◌++◌, map, length, take, drop, ℤ, pos, negsuc, neg_ℤ, ◌*ℤ◌}
+use Rattle.std.proofs.Common.{unsigned_abs, refl, sym, ap, ◌∙◌, subst, append_assoc, arith, eqb, pow-suc, pow_pos}
+use Rattle.std.proofs.Common.{add-zero}
+use lib.Arith.{digits_div}
+use Rattle.std.proofs.Common.{mul_assoc}
+use Rattle.std.proofs.Math.Nat.{add-mul, zero-mul, one-mul, mul-le-mul}
+use Rattle.std.proofs.lemmas.Bool.{lt-ltb, eq-eqb, le-leb, leb-true}
+use Rattle.std.proofs.lemmas.Bool.Decides.{nat_tests}
+use Rattle.std.specs.List.{AllByRecursion}
+use Rattle.std.proofs.Common.{Ok, slice_index}
+use Rattle.jpeg_bits.specs.Entropy.{bits_from}
+use Rattle.jpeg_bits.specs.Codes.{Table, symbol_from}
+use Rattle.jpeg_bits.specs.Readers.{Reads, ◌>>=◌, gives, text, ReadsJust}
+use Rattle.jpeg_bits.specs.Bands.{Band, before_more}
+use Rattle.jpeg_bits.specs.Refinement.{is_zero, bit_of, moved, fits_i16, corrected_by, corrected, through_zero}
+use Rattle.jpeg_bits.specs.Refinement.{new_number, with_last, refined_piece, refined_ac}
+use Rattle.jpeg_bits.specs.Written.{bit, low_bits, code_bits}
+use Rattle.jpeg_streams.specs.WrittenData.{IsCoded, is_old, count_unknown, NoneNew, corrections, sign_bit}
+use Rattle.jpeg_streams.specs.WrittenData.{WritesRefinement}
+use Rattle.jpeg_streams.specs.WrittenData.WritesRefinement.{refined, found, passed, none_left}
+use Rattle.jpeg_bits.proofs.WrittenBits.{takes-gives, takes-bind, takes-number, takes-bit, takes-map, takes-as}
+use Rattle.jpeg_bits.proofs.Tables.{IsGood, takes-symbol}
+use Rattle.jpeg_streams.proofs.WrittenBands.{scaled-zero}
+use Rattle.jpeg_streams.proofs.SentBlocks.{scaled, held, InRange}
+
+-- ---- what is held
+
+pub times-two_power : (m al : ℕ) → m * 2 ^ suc al ≡ 2 * (m * 2 ^ al)
+times-two_power m al = ap (λ (x : ℕ). m * x) (pow-suc 2 al) ∙ omega (arith, mul_assoc m (2 ^ al) 2)
+
+pub spread : (m b p : ℕ) → (2 * m + b) * p ≡ 2 * (m * p) + b * p
+spread m b p = omega (arith, add-mul (2 * m) b p, mul_assoc 2 m p)
+
+pub neg-times : (a b : ℕ) → neg_ℤ (pos a) *ℤ pos b ≡ neg_ℤ (pos (a * b))
+neg-times zero b = ap (λ (x : ℕ). pos x) (zero-mul b) ∙ ap (λ (x : ℕ). neg_ℤ (pos x)) (sym (zero-mul b))
+neg-times (suc a) b = refl
+
+pub held-zero : (al : ℕ) → held al (pos 0) ≡ pos 0
+held-zero al = ap pos (zero-mul (2 ^ suc al))
+
+pub held-new : (al : ℕ) (u : ℤ) → unsigned_abs u ≡ 1 → held al u ≡ pos 0
+held-new al (pos n) h = rw h (ap pos (zero-mul (2 ^ suc al)))
+held-new al (negsuc n) h = rw h (ap pos (zero-mul (2 ^ suc al)))
+
+pub not-zero : (k : ℕ) → 0 < k → (is_zero (pos k) ≡ false) × (is_zero (neg_ℤ (pos k)) ≡ false)
+not-zero zero h = absurd (omega arith)
+not-zero (suc k) h = (refl, refl)
+
+pub held-positive : (al n : ℕ) → 2 ≤ n → 0 < (n / 2) * 2 ^ suc al
+held-positive al n h = let one : 1 ≤ 2 ^ al = pow_pos al in let half : 1 ≤ n / 2 = omega arith in
+    let some : 1 * 1 ≤ n / 2 * 2 ^ al = mul-le-mul half one in omega (arith, times-two_power (n / 2) al)
+
+pub old-at : (u : ℤ) → is_old u ≡ true → 2 ≤ unsigned_abs u
+old-at u h = leb-true 2 (unsigned_abs u) h
+
+pub held-old : (al : ℕ) (u : ℤ) → is_old u ≡ true → is_zero (held al u) ≡ false
+held-old al (pos n) h = (not-zero (n / 2 * 2 ^ suc al) (held-positive al n (old-at (pos n) h))).0
+held-old al (negsuc n) h = ap is_zero (neg-times (suc n / 2) (2 ^ suc al))
+    ∙ (not-zero (suc n / 2 * 2 ^ suc al) (held-positive al (suc n) (old-at (negsuc n) h))).1
+
+-- a place that isn't new is nothing or old
+pub nothing_or_old : (u : ℤ) → unsigned_abs u ≢ 1 → (u ≡ pos 0) ⊎ (is_old u ≡ true)
+nothing_or_old (pos zero) h = inl refl
+nothing_or_old (pos (suc zero)) h = absurd (h refl)
+nothing_or_old (pos (suc (suc n))) h = inr (le-leb 2 (suc (suc n)) (omega arith))
+nothing_or_old (negsuc zero) h = absurd (h refl)
+nothing_or_old (negsuc (suc n)) h = inr (le-leb 2 (suc (suc n)) (omega arith))
+
+-- ---- correction bits
+
+pub corrected-stays : (al : ℕ) (z w : ℤ) → z ≡ w → ReadsJust (corrected_by al z 0) [] w
+corrected-stays al z w e = record { read = λ rest places n. ap (λ (x : ℤ). Ok (x, text rest places n)) e }
+
+pub corrected-moves : (al : ℕ) (z w : ℤ) → bit_of al z ≡ 0 → moved (2 ^ al) z ≡ w → fits_i16 w ≡ true
+    → ReadsJust (corrected_by al z 1) [] w
+corrected-moves al z w even e fits = record {
+  read = λ rest places n.
+      rw (eq-eqb (bit_of al z) 0 even, ap fits_i16 e ∙ fits, corrected_by)
+      (ap (λ (x : ℤ). Ok (x, text rest places n)) e);
+}
+
+pub even : (m : ℕ) → (2 * m) % 2 ≡ 0
+even m = omega arith
+
+pub odd : (m : ℕ) → 0 < m → (2 * m - 1) % 2 ≡ 1
+odd m h = omega arith
+
+pub corrects-pos : (al m b : ℕ) → b < 2 → (2 * m + b) * 2 ^ al < 2 ^ 15
+    → ReadsJust (corrected_by al (pos (m * 2 ^ suc al)) b) [] (pos ((2 * m + b) * 2 ^ al))
+corrects-pos al m zero h fits =
+    corrected-stays al _ _ (ap pos (times-two_power m al ∙ omega (arith, spread m 0 (2 ^ al), zero-mul (2 ^ al))))
+corrects-pos al m (suc zero) h fits =
+    let p = 2 ^ al in
+    let double = times-two_power m al in
+    let all = spread m 1 p in
+    let high : m * 2 ^ suc al / 2 ^ al ≡ 2 * m =
+    ap (λ (x : ℕ). x / p) (double ∙ sym (mul_assoc 2 m p) ∙ sym (add-zero (2 * m * p)))
+    ∙ digits_div (2 * m) (pow_pos al) in
+    let sum : m * 2 ^ suc al + p ≡ (2 * m + 1) * p = omega (arith, one-mul p) in
+    corrected-moves al (pos (m * 2 ^ suc al)) (pos ((2 * m + 1) * p)) (ap (λ (x : ℕ). x % 2) high ∙ even m)
+    (ap pos sum) (lt-ltb _ _ fits)
+corrects-pos al m (suc (suc b)) h fits = absurd (omega arith)
+
+pub under : (m p k : ℕ) → 0 < m → 0 < p → suc k ≡ 2 * (m * p) → k ≡ (2 * m - 1) * p + (p - 1)
+under zero p k f g e = absurd (omega arith)
+under (suc m) p k f g e = let n : 2 * suc m - 1 ≡ 2 * m + 1 = omega arith in
+    rw n (omega (arith, spread m 1 p, one-mul p, add-mul m 1 p))
+
+-- bit al of a multiple of 2 ^ (al + 1)
+pub even-bit : (al m : ℕ) → bit_of al (pos (m * 2 ^ suc al)) ≡ 0
+even-bit al m =
+    let high : m * 2 ^ suc al / 2 ^ al ≡ 2 * m =
+    ap (λ (x : ℕ). x / 2 ^ al)
+    (times-two_power m al ∙ sym (mul_assoc 2 m (2 ^ al)) ∙ sym (add-zero (2 * m * 2 ^ al)))
+    ∙ digits_div (2 * m) (pow_pos al) in
+    ap (λ (x : ℕ). x % 2) high ∙ even m
+
+pub even-bit_neg : (al m k : ℕ) → 0 < m → m * 2 ^ suc al ≡ suc k → bit_of al (negsuc k) ≡ 0
+even-bit_neg al m k some e =
+    let one : 0 < 2 ^ al = pow_pos al in
+    let parts : k ≡ (2 * m - 1) * 2 ^ al + (2 ^ al - 1) = under m (2 ^ al) k some one (sym e ∙ times-two_power m al) in
+    let high : k / 2 ^ al ≡ 2 * m - 1 = ap (λ (x : ℕ). x / 2 ^ al) parts ∙ digits_div (2 * m - 1) (omega arith) in
+    ap (λ (x : ℕ). 1 - x % 2) high ∙ ap (λ (x : ℕ). 1 - x) (odd m some)
+
+pub corrects-neg : (al m b k : ℕ) → m * 2 ^ suc al ≡ suc k → b < 2 → (2 * m + b) * 2 ^ al < 2 ^ 15
+    → ReadsJust (corrected_by al (negsuc k) b) [] (neg_ℤ (pos ((2 * m + b) * 2 ^ al)))
+corrects-neg al m zero k e h fits =
+    corrected-stays al _ _
+    (ap (λ (x : ℕ). neg_ℤ (pos x))
+    (let total : suc k ≡ (2 * m + 0) * 2 ^ al =
+    omega (arith, times-two_power m al, spread m 0 (2 ^ al), zero-mul (2 ^ al)) in total))
+corrects-neg al m (suc zero) k e h fits =
+    let p = 2 ^ al in
+    let one : 0 < p = pow_pos al in
+    let some : 0 < m = positive m e in
+    let double = times-two_power m al in
+    let bit = even-bit_neg al m k some e in
+    let total : suc (k + p) ≡ (2 * m + 1) * p = omega (arith, spread m 1 p, one-mul p) in
+    corrected-moves al (negsuc k) (neg_ℤ (pos ((2 * m + 1) * p))) bit (ap (λ (x : ℕ). neg_ℤ (pos x)) total)
+    (ap (λ (x : ℕ). fits_i16 (neg_ℤ (pos x))) (sym total) ∙ lt-ltb (k + p) (2 ^ 15) (omega arith))
+  where
+    positive : (m : ℕ) → m * 2 ^ suc al ≡ suc k → 0 < m
+    positive zero f = absurd (omega (arith, zero-mul (2 ^ suc al)))
+    positive (suc m) f = omega arith
+corrects-neg al m (suc (suc b)) k e h fits = absurd (omega arith)
+
+-- the correction bit of an old number gives the number
+pub corrects : (al : ℕ) (u : ℤ) → is_old u ≡ true → InRange al u
+    → ReadsJust (corrected_by al (held al u) (unsigned_abs u % 2)) [] (scaled al u)
+corrects al (pos n) o range =
+    let whole : 2 * (n / 2) + n % 2 ≡ n = omega arith in
+    let fits : (2 * (n / 2) + n % 2) * 2 ^ al < 2 ^ 15 =
+    subst (λ (x : ℕ). x * 2 ^ al < 2 ^ 15) (sym whole) range.within in
+    takes-as _ [] [] (pos ((2 * (n / 2) + n % 2) * 2 ^ al)) (pos (n * 2 ^ al)) refl
+    (ap (λ (x : ℕ). pos (x * 2 ^ al)) whole)
+    (corrects-pos al (n / 2) (n % 2) (omega arith) fits)
+corrects al (negsuc i) o range = go (suc i / 2 * 2 ^ suc al) refl (held-positive al (suc i) (old-at (negsuc i) o))
+  where
+    go : (x : ℕ) → suc i / 2 * 2 ^ suc al ≡ x → 0 < x
+        → ReadsJust (corrected_by al (held al (negsuc i)) (suc i % 2)) [] (neg_ℤ (pos (suc i * 2 ^ al)))
+    go zero e h = absurd (omega arith)
+    go (suc k) e h =
+        let whole : 2 * (suc i / 2) + suc i % 2 ≡ suc i = omega arith in
+        let fits : (2 * (suc i / 2) + suc i % 2) * 2 ^ al < 2 ^ 15 =
+        subst (λ (x : ℕ). x * 2 ^ al < 2 ^ 15) (sym whole) range.within in
+        let is : negsuc k ≡ held al (negsuc i) =
+        sym (neg-times (suc i / 2) (2 ^ suc al) ∙ ap (λ (x : ℕ). neg_ℤ (pos x)) e) in
+        subst (λ (z : ℤ). ReadsJust (corrected_by al z (suc i % 2)) [] (neg_ℤ (pos (suc i * 2 ^ al)))) is
+        (takes-as _ [] [] (neg_ℤ (pos ((2 * (suc i / 2) + suc i % 2) * 2 ^ al))) (neg_ℤ (pos (suc i * 2 ^ al))) refl
+        (ap (λ (x : ℕ). neg_ℤ (pos (x * 2 ^ al))) whole)
+        (corrects-neg al (suc i / 2) (suc i % 2) k e (omega arith) fits))
+
+pub corrected-zero : (al : ℕ) (z : ℤ) (zs ws : List ℤ) (bits : List Bool) → z ≡ pos 0
+    → ReadsJust (corrected al zs) bits ws → ReadsJust (corrected al (z ∷ zs)) bits (pos 0 ∷ ws)
+unfolding corrected
+corrected-zero al z zs ws bits e h =
+    subst (λ (x : ℤ). ReadsJust (corrected al (x ∷ zs)) bits (pos 0 ∷ ws)) (sym e)
+    (record {
+      read = λ rest places n.
+          (takes-map (corrected al zs) (λ (others : List ℤ). pos 0 ∷ others) bits ws h).read rest places n;
+    })
+
+pub corrected-next : (al : ℕ) (z w : ℤ) (zs ws : List ℤ) (b : ℕ) (bits : List Bool) → b < 2 → is_zero z ≡ false
+    → ReadsJust (corrected_by al z b) [] w
+    → ReadsJust (corrected al zs) bits ws → ReadsJust (corrected al (z ∷ zs)) (bit b ∷ bits) (w ∷ ws)
+unfolding corrected
+corrected-next al z w zs ws b bits small e h k =
+    rw (e, corrected)
+    (takes-bind (bits_from 1 >>= (λ x. corrected_by al z x))
+    (λ first. corrected al zs >>= (λ others. gives (first ∷ others))) (bit b ∷ []) bits w (w ∷ ws)
+    (takes-bind (bits_from 1) (λ x. corrected_by al z x) (bit b ∷ []) [] b w (takes-bit b small) h)
+    (takes-map (corrected al zs) (λ (others : List ℤ). w ∷ others) bits ws k))
+
+pub corrections-zero : (us : List ℤ) → corrections (pos 0 ∷ us) ≡ corrections us
+unfolding corrections
+corrections-zero us = refl
+
+pub corrections-old : (u : ℤ) (us : List ℤ) → is_old u ≡ true
+    → corrections (u ∷ us) ≡ bit (unsigned_abs u % 2) ∷ corrections us
+unfolding corrections
+corrections-old u us o = rw (o, corrections) refl
+
+pub takes-corrected : (al : ℕ) (us : List ℤ) → NoneNew us → AllByRecursion (InRange al) us
+    → ReadsJust (corrected al (map (held al) us)) (corrections us) (map (scaled al) us)
+unfolding corrected NoneNew corrections
+takes-corrected al [] none range = takes-gives []
+takes-corrected al (u ∷ us) none range = go (nothing_or_old u none.0) (takes-corrected al us none.1 range.1)
+  where
+    go : (u ≡ pos 0) ⊎ (is_old u ≡ true)
+        → ReadsJust (corrected al (map (held al) us)) (corrections us) (map (scaled al) us)
+        → ReadsJust (corrected al (map (held al) (u ∷ us))) (corrections (u ∷ us)) (map (scaled al) (u ∷ us))
+    go (inl e) ih =
+        takes-as _ (corrections us) (corrections (u ∷ us)) (pos 0 ∷ map (scaled al) us)
+        (scaled al u ∷ map (scaled al) us)
+        (sym (ap (λ (x : ℤ). corrections (x ∷ us)) e ∙ corrections-zero us))
+        (ap (λ (x : ℤ). x ∷ map (scaled al) us) (sym (ap (scaled al) e ∙ scaled-zero al)))
+        (corrected-zero al (held al u) (map (held al) us) (map (scaled al) us) (corrections us)
+        (ap (held al) e ∙ held-zero al) ih)
+    go (inr o) ih =
+        takes-as _ (bit (unsigned_abs u % 2) ∷ corrections us) (corrections (u ∷ us)) _ _
+        (sym (corrections-old u us o)) refl
+        (corrected-next al (held al u) (scaled al u) (map (held al) us) (map (scaled al) us) (unsigned_abs u % 2)
+        (corrections us) (omega arith)
+        (held-old al u o) (corrects al u o range.0) ih)
+
+-- ---- pieces
+
+pub through-zero : (c : ℕ) (z : ℤ) (zs : List ℤ) → z ≡ pos 0 → through_zero (suc c) (z ∷ zs) ≡ suc (through_zero c zs)
+unfolding through_zero
+through-zero c z zs e = ap (λ (x : ℤ). through_zero (suc c) (x ∷ zs)) e
+
+pub through-other : (c : ℕ) (z : ℤ) (zs : List ℤ) → is_zero z ≡ false
+    → through_zero c (z ∷ zs) ≡ suc (through_zero c zs)
+unfolding through_zero
+through-other zero z zs e = rw (e, through_zero) refl
+through-other (suc c) z zs e = rw (e, through_zero) refl
+
+pub count-zero : (us : List ℤ) → count_unknown (pos 0 ∷ us) ≡ suc (count_unknown us)
+unfolding count_unknown
+count-zero us = refl
+
+pub count-old : (u : ℤ) (us : List ℤ) → is_old u ≡ true → count_unknown (u ∷ us) ≡ count_unknown us
+unfolding count_unknown
+count-old u us o = rw (o, count_unknown) refl
+
+pub through-first : (z : ℤ) (zs : List ℤ) → z ≡ pos 0 → through_zero (count_unknown []) (z ∷ zs) ≡ 1
+unfolding through_zero count_unknown
+through-first z zs e = ap (λ (x : ℤ). through_zero 0 (x ∷ zs)) e
+
+-- the piece of a token ends with the place after those that are neither old nor new
+pub through : (al : ℕ) (front : List ℤ) (u : ℤ) (more : List ℤ) → held al u ≡ pos 0
+    → NoneNew front → through_zero (count_unknown front) (map (held al) (front ++ u ∷ more)) ≡ suc (length front)
+unfolding NoneNew
+through al [] u more z none = through-first (held al u) (map (held al) more) z
+through al (v ∷ front) u more z none = go (nothing_or_old v none.0) (through al front u more z none.1)
+  where
+    go : (v ≡ pos 0) ⊎ (is_old v ≡ true)
+        → through_zero (count_unknown front) (map (held al) (front ++ u ∷ more)) ≡ suc (length front)
+        → through_zero (count_unknown (v ∷ front)) (held al v ∷ map (held al) (front ++ u ∷ more))
+        ≡ suc (suc (length front))
+    go (inl e) ih =
+        ap (λ (x : ℤ). through_zero (count_unknown (x ∷ front)) (held al v ∷ map (held al) (front ++ u ∷ more))) e
+        ∙ ap (λ (c : ℕ). through_zero c (held al v ∷ map (held al) (front ++ u ∷ more))) (count-zero front)
+        ∙ through-zero (count_unknown front) (held al v) _ (ap (held al) e ∙ held-zero al) ∙ ap suc ih
+    go (inr o) ih =
+        ap (λ (c : ℕ). through_zero c (held al v ∷ map (held al) (front ++ u ∷ more))) (count-old v front o)
+        ∙ through-other (count_unknown front) (held al v) _ (held-old al v o) ∙ ap suc ih
+
+pub front-of : (al : ℕ) (front : List ℤ) (u : ℤ) (more : List ℤ) → held al u ≡ pos 0
+    → take (suc (length front)) (map (held al) (front ++ u ∷ more)) ≡ map (held al) (front ++ pos 0 ∷ [])
+front-of al [] u more z = ap (λ (x : ℤ). x ∷ []) (z ∙ sym (held-zero al))
+front-of al (v ∷ front) u more z = ap (λ (l : List ℤ). held al v ∷ l) (front-of al front u more z)
+
+pub back-of : (al : ℕ) (front : List ℤ) (u : ℤ) (more : List ℤ)
+    → drop (suc (length front)) (map (held al) (front ++ u ∷ more)) ≡ map (held al) more
+back-of al [] u more = refl
+back-of al (v ∷ front) u more = back-of al front u more
+
+pub corrections-end : (front : List ℤ) → corrections (front ++ pos 0 ∷ []) ≡ corrections front
+unfolding corrections
+corrections-end [] = refl
+corrections-end (v ∷ front) =
+    ap (λ (l : List Bool). elim (is_old v) as (λ _. List Bool) [ true ↦ bit (unsigned_abs v % 2) ∷ l | false ↦ l ])
+    (corrections-end front)
+
+pub none-end : (front : List ℤ) → NoneNew front → NoneNew (front ++ pos 0 ∷ [])
+unfolding NoneNew
+none-end [] h = ((λ e. absurd (omega arith)), tt)
+none-end (v ∷ front) h = (h.0, none-end front h.1)
+
+pub range-zero : (al : ℕ) → InRange al (pos 0)
+range-zero al = record { within = omega (arith, zero-mul (2 ^ al)) }
+
+pub range-end : (al : ℕ) (front more : List ℤ) → AllByRecursion (InRange al) (front ++ more)
+    → AllByRecursion (InRange al) (front ++ pos 0 ∷ [])
+range-end al [] more h = (range-zero al, tt)
+range-end al (v ∷ front) more h = (h.0, range-end al front more h.1)
+
+pub with_last-end : (x y : ℤ) (xs : List ℤ) → with_last x (xs ++ y ∷ []) ≡ xs ++ x ∷ []
+unfolding with_last
+with_last-end x y [] = refl
+with_last-end x y (z ∷ []) = refl
+with_last-end x y (z ∷ w ∷ xs) = ap (λ (l : List ℤ). z ∷ l) (with_last-end x y (w ∷ xs))
+
+-- the places of a piece, with their corrections
+pub takes-front : (al : ℕ) (front : List ℤ) (u : ℤ) (more : List ℤ) → held al u ≡ pos 0 → NoneNew front
+    → AllByRecursion (InRange al) (front ++ u ∷ more)
+    → ReadsJust (corrected al (take (suc (length front)) (map (held al) (front ++ u ∷ more)))) (corrections front)
+    (map (scaled al) (front ++ pos 0 ∷ []))
+takes-front al front u more z none range =
+    subst (λ (l : List ℤ). ReadsJust (corrected al l) (corrections front) (map (scaled al) (front ++ pos 0 ∷ [])))
+    (sym (front-of al front u more z))
+    (takes-as _ _ _ _ _ (corrections-end front) refl
+    (takes-corrected al (front ++ pos 0 ∷ []) (none-end front none) (range-end al front (u ∷ more) range)))
+
+pub map-scaled : (al : ℕ) (front more : List ℤ)
+    → map (scaled al) (front ++ more) ≡ map (scaled al) front ++ map (scaled al) more
+map-scaled al [] more = refl
+map-scaled al (v ∷ front) more = ap (λ (l : List ℤ). scaled al v ∷ l) (map-scaled al front more)
+
+pub new-scaled : (al : ℕ) (u : ℤ) → unsigned_abs u ≡ 1 → new_number al (sign_bit u) ≡ scaled al u
+new-scaled al (pos n) h = ap pos (sym (one-mul (2 ^ al)) ∙ ap (λ (x : ℕ). x * 2 ^ al) (sym h))
+new-scaled al (negsuc n) h = ap (λ (x : ℕ). neg_ℤ (pos x)) (sym (one-mul (2 ^ al)) ∙ ap (λ (x : ℕ). x * 2 ^ al) (sym h))
+
+sign-small : (u : ℤ) → sign_bit u < 2
+sign-small (pos n) = omega arith
+sign-small (negsuc n) = omega arith
+
+pub piece-found : (al r : ℕ) (others : List ℤ → Reads Band) (front : List ℤ) (u : ℤ) (more : List ℤ)
+    (bits : List Bool) (run : ℕ)
+    → NoneNew front → count_unknown front ≡ r → unsigned_abs u ≡ 1 → AllByRecursion (InRange al) (front ++ u ∷ more)
+    → ReadsJust (others (map (held al) more)) bits (map (scaled al) more, run)
+    → ReadsJust (refined_piece al others (map (held al) (front ++ u ∷ more)) r 1)
+    (bit (sign_bit u) ∷ (corrections front ++ bits)) (map (scaled al) (front ++ u ∷ more), run)
+unfolding refined_piece
+piece-found al r others front u more bits run none count new range w =
+    let z = held-new al u new in
+    let rest = map (held al) (front ++ u ∷ more) in
+    let n : through_zero r rest ≡ suc (length front) = ap (λ (c : ℕ). through_zero c rest) (sym count)
+    ∙ through al front u more z none in
+    let result : with_last (new_number al (sign_bit u)) (map (scaled al) (front ++ pos 0 ∷ [])) ++ map
+    (scaled al) more ≡ map (scaled al) (front ++ u ∷ more)
+    = ap (λ (l : List ℤ). with_last (new_number al (sign_bit u)) l ++ map (scaled al) more)
+    (map-scaled al front (pos 0 ∷ []))
+    ∙ ap (λ (l : List ℤ). l ++ map (scaled al) more)
+    (with_last-end (new_number al (sign_bit u)) (scaled al (pos 0)) (map (scaled al) front))
+    ∙ append_assoc (map (scaled al) front) (new_number al (sign_bit u) ∷ []) (map (scaled al) more)
+    ∙ ap (λ (x : ℤ). map (scaled al) front ++ x ∷ map (scaled al) more) (new-scaled al u new)
+    ∙ sym (map-scaled al front (u ∷ more)) in
+    let back = subst (λ (l : List ℤ). ReadsJust (others l) bits (map (scaled al) more, run))
+    (sym (back-of al front u more)) w in
+    let step = λ (k : ℕ). bits_from 1 >>= (λ sign. corrected al (take k rest) >>= (λ f.
+    others (drop k rest) >>= (λ m. gives (before_more (with_last (new_number al sign) f) m)))) in
+    subst (λ (k : ℕ). ReadsJust (step k) (bit (sign_bit u) ∷ (corrections front ++ bits))
+    (map (scaled al) (front ++ u ∷ more), run)) (sym n)
+    (takes-as _ _ _ _ _ refl (ap (λ (l : List ℤ). (l, run)) result)
+    (takes-bind (bits_from 1) _ (bit (sign_bit u) ∷ []) (corrections front ++ bits) (sign_bit u) _
+    (takes-bit (sign_bit u) (sign-small u))
+    (takes-bind (corrected al (take (suc (length front)) rest)) _ (corrections front) bits
+    (map (scaled al) (front ++ pos 0 ∷ [])) _
+    (takes-front al front u more z none range)
+    (takes-map (others (drop (suc (length front)) rest))
+    (before_more (with_last (new_number al (sign_bit u)) (map (scaled al) (front ++ pos 0 ∷ [])))) bits
+    (map (scaled al) more, run) back))))
+
+pub piece-passed : (al : ℕ) (others : List ℤ → Reads Band) (front more : List ℤ) (bits : List Bool) (run : ℕ)
+    → NoneNew front → count_unknown front ≡ 15 → AllByRecursion (InRange al) (front ++ pos 0 ∷ more)
+    → ReadsJust (others (map (held al) more)) bits (map (scaled al) more, run)
+    → ReadsJust (refined_piece al others (map (held al) (front ++ pos 0 ∷ more)) 15 0) (corrections front ++ bits)
+    (map (scaled al) (front ++ pos 0 ∷ more), run)
+unfolding refined_piece
+piece-passed al others front more bits run none count range w =
+    let z = held-zero al in
+    let rest = map (held al) (front ++ pos 0 ∷ more) in
+    let n : through_zero 15 rest ≡ suc (length front) = ap (λ (c : ℕ). through_zero c rest) (sym count)
+    ∙ through al front (pos 0) more z none in
+    let result : map (scaled al) (front ++ pos 0 ∷ []) ++ map (scaled al) more ≡ map (scaled al) (front ++ pos 0 ∷ more)
+    = sym (map-scaled al (front ++ pos 0 ∷ []) more) ∙ ap (map (scaled al)) (append_assoc front (pos 0 ∷ []) more) in
+    let back = subst (λ (l : List ℤ). ReadsJust (others l) bits (map (scaled al) more, run))
+    (sym (back-of al front (pos 0) more)) w in
+    let step = λ (k : ℕ). corrected al (take k rest) >>=
+    (λ f. others (drop k rest) >>= (λ m. gives (before_more f m))) in
+    subst (λ (k : ℕ). ReadsJust (step k) (corrections front ++ bits) (map (scaled al) (front ++ pos 0 ∷ more), run))
+    (sym n)
+    (takes-as _ _ _ _ _ refl (ap (λ (l : List ℤ). (l, run)) result)
+    (takes-bind (corrected al (take (suc (length front)) rest)) _ (corrections front) bits
+    (map (scaled al) (front ++ pos 0 ∷ [])) _
+    (takes-front al front (pos 0) more z none range)
+    (takes-map (others (drop (suc (length front)) rest)) (before_more (map (scaled al) (front ++ pos 0 ∷ []))) bits
+    (map (scaled al) more, run) back)))
+
+pub not-fifteen : (r : ℕ) → r ≤ 14 → eqb r 15 ≡ false
+not-fifteen r h = grind (arith, nat_tests)
+
+pub piece-none_left : (al r e : ℕ) (others : List ℤ → Reads Band) (us : List ℤ) → r ≤ 14 → e < 2 ^ r → NoneNew us
+    → AllByRecursion (InRange al) us
+    → ReadsJust (refined_piece al others (map (held al) us) r 0) (low_bits r e ++ corrections us)
+    (map (scaled al) us, 2 ^ r - 1 + e)
+unfolding refined_piece
+piece-none_left al r e others us h f none range =
+    let no : eqb r 15 ≡ false = not-fifteen r h in
+    rw (no, refined_piece)
+    (takes-bind (bits_from r) (λ k. corrected al (map (held al) us) >>= (λ all. gives (all, 2 ^ r - 1 + k)))
+    (low_bits r e) (corrections us) e _ (takes-number r e f)
+    (takes-map (corrected al (map (held al) us)) (λ (all : List ℤ). (all, 2 ^ r - 1 + e)) (corrections us)
+    (map (scaled al) us) (takes-corrected al us none range)))
+
+-- ---- bands
+
+pub refined-token : (table : Table) (al m r s : ℕ) (z : ℤ) (zs : List ℤ) (code bits : List Bool) (x : Band)
+    → IsGood table → IsCoded table (16 * r + s) code → s ≤ 15
+    → ReadsJust (refined_piece al (refined_ac table al m) (z ∷ zs) r s) bits x
+    → ReadsJust (refined_ac table al (suc m) (z ∷ zs)) (code ++ bits) x
+unfolding refined_ac
+refined-token table al m r s z zs code bits x good coded small piece =
+    let symbol = slice_index table.symbols coded.place in
+    let high : symbol / 16 ≡ r = omega (arith, coded.is_for) in
+    let low : symbol % 16 ≡ s = omega (arith, coded.is_for) in
+    let token = λ (c : ℕ). refined_piece al (refined_ac table al m) (z ∷ zs) (c / 16) (c % 16) in
+    let body : ReadsJust (token symbol) bits x = rw (high, low) piece in
+    takes-as _ (code_bits table coded.place ++ bits) (code ++ bits) x x
+    (ap (λ (b : List Bool). b ++ bits) coded.has_bits) refl
+    (takes-bind (symbol_from table) token (code_bits table coded.place) bits symbol x
+    (takes-symbol table coded.place good coded.listed) body)
+
+-- the same over a list that isn't empty, with room for its length
+pub refined-step : (table : Table) (al n r s : ℕ) (places : List ℤ) (code bits : List Bool) (x : Band) → IsGood table
+    → IsCoded table (16 * r + s) code → s ≤ 15
+    → 0 < length places → length places ≤ n
+    → ((m : ℕ) → suc m ≡ n → ReadsJust (refined_piece al (refined_ac table al m) places r s) bits x)
+    → ReadsJust (refined_ac table al n places) (code ++ bits) x
+refined-step table al n r s [] code bits x good coded small some room piece = absurd (omega arith)
+refined-step table al zero r s (z ∷ zs) code bits x good coded small some room piece = absurd (omega arith)
+refined-step table al (suc m) r s (z ∷ zs) code bits x good coded small some room piece =
+    refined-token table al m r s z zs code bits x good coded small (piece m refl)
+
+pub range-after : (P : ℤ → Type 0) (front more : List ℤ) → AllByRecursion P (front ++ more) → AllByRecursion P more
+range-after P [] more h = h
+range-after P (v ∷ front) more h = range-after P front more h.1
+
+-- how many places a band has whose front ends with one more
+pub places-of : (al : ℕ) (front : List ℤ) (u : ℤ) (more : List ℤ)
+    → length (map (held al) (front ++ u ∷ more)) ≡ suc (length front + length (map (held al) more))
+places-of al [] u more = omega arith
+places-of al (v ∷ front) u more = let e = places-of al front u more in omega arith
+
+-- A refinement that was written is read as its numbers times 2 ^ al, from what is held before it,
+-- and as the run after it.
+pub takes-refinement : (table : Table) (al : ℕ) (band : List ℤ) (bits : List Bool) (run : ℕ) → IsGood table
+    → AllByRecursion (InRange al) band
+    → WritesRefinement table band bits run → (n : ℕ) → length (map (held al) band) ≤ n
+    → ReadsJust (refined_ac table al n (map (held al) band)) bits (map (scaled al) band, run)
+unfolding refined_ac
+takes-refinement table al band bits run good range refined n room = takes-gives ([], 0)
+takes-refinement table al band bits run good range
+    (found r front u code more bits' run' h none count new coded w) n room =
+    let size = places-of al front u more in
+    refined-step table al n r 1 (map (held al) (front ++ u ∷ more)) code _ _ good coded (omega arith) (omega arith) room
+    (λ m e. piece-found al r (refined_ac table al m) front u more bits' run' none count new range
+    (takes-refinement table al more bits' run' good
+    (range-after (InRange al) (front ++ u ∷ []) more
+    (subst (AllByRecursion (InRange al)) (sym (append_assoc front (u ∷ []) more)) range)) w m (omega arith)))
+takes-refinement table al band bits run good range (passed front code more bits' run' none count coded w) n room =
+    let size = places-of al front (pos 0) more in
+    refined-step table al n 15 0 (map (held al) (front ++ pos 0 ∷ more)) code _ _ good coded (omega arith)
+    (omega arith) room
+    (λ m e. piece-passed al (refined_ac table al m) front more bits' run' none count range
+    (takes-refinement table al more bits' run' good
+    (range-after (InRange al) (front ++ pos 0 ∷ []) more
+    (subst (AllByRecursion (InRange al)) (sym (append_assoc front (pos 0 ∷ []) more)) range)) w m (omega arith)))
+takes-refinement table al band bits run good range (none_left r e u others code h f none coded) n room =
+    refined-step table al n r 0 (map (held al) (u ∷ others)) code _ _ good coded (omega arith) (omega arith) room
+    (λ m q. piece-none_left al r e (refined_ac table al m) (u ∷ others) h f none range)

@@ -1,0 +1,67 @@
+-- What a call of `decode` gives where its source has a stream that is written for coefficients.
+use Rattle.std.specs.Prelude.{◌≡◌, ℕ, ◌++◌, List, true, false, Result, Ok, MatchResult}
+use Rattle.jpeg_bits.specs.Reading.{Fault, IsGivenUp}
+use Rattle.jpeg_bits.specs.Stream.{Stream}
+use Rattle.jpeg_bits.specs.declared.error.Error.{Error}
+use Rattle.jpeg_bits.specs.declared.error.Error.TheVariants.{OutOfMemory}
+use Rattle.jpeg_streams.specs.ArrayPictures.{picture_of_array, Takes}
+use Rattle.jpeg_streams.specs.Levels.{Is8Bit, Levels}
+use Rattle.jpeg_streams.specs.States.{Decoding, Stage, Fresh, HeaderRead, Finished, Failed}
+use Rattle.jpeg_streams.specs.Stream.{Found, header_at, sized_to, told_of}
+use Rattle.jpeg_streams.specs.WrittenImages.{WritesImage}
+use Rattle.jpeg_streams.specs.WrittenScans.{Coefficients}
+
+-- ---- what is left to read
+
+-- The size of the picture: full, or by the least scale at which it is this wide or this high.
+pub data Size : Type 0 where
+  FullSize : Size
+  AtLeast : ℕ → ℕ → Size
+
+-- what was found, where the picture is to have a size
+abbrev pub at_size : Size → Found → Found
+at_size FullSize found = found
+at_size (AtLeast width height) found = sized_to width height found
+
+-- A decoder has a stream left: all of it, and then the picture is of full size; or what follows its
+-- header, which was found, and then its frame may be at a scale.
+abbrev pub HasLeft : Size → List ℕ → Stage → Found → List ℕ → Type 0
+HasLeft FullSize bytes Fresh found left = left ≡ bytes
+HasLeft (AtLeast width height) bytes Fresh found left = ⊥
+HasLeft size bytes HeaderRead found left =
+    (header : Found) × (header_at bytes ≡ Ok (header, left)) × (found ≡ at_size size header)
+HasLeft size bytes Finished found left = ⊥
+HasLeft size bytes Failed found left = ⊥
+
+-- ---- what is given
+
+-- The picture is given, `final` is what is told, and the bytes after the image are left.
+pub record Gives (picture : Result (List ℕ) Fault) (rest : List ℕ) (final : Found)
+    (given : List ℕ) (new : Decoding) : Type 0 where
+  pub pixels : picture ≡ Ok given
+  pub told : told_of new.found ≡ told_of final
+  pub left : new.source.bytes ≡ rest
+  pub known : new.source.known ≡ true
+
+-- Where the source still tells its bytes, memory is out; else its reader has failed, or was
+-- interrupted without end.
+pub record FailsOutside (e : Error) (source : Stream) : Type 0 where
+  pub memory : source.known ≡ true → e ≡ OutOfMemory
+  pub reader : source.known ≡ false → IsGivenUp e source.failed
+
+-- A call on a decoder whose source has a stream that is written for the coefficients of 8-bit
+-- samples, and whose settings take its picture, gives that picture, cut at the bits that were sent,
+-- and leaves what follows the image; or it fails for lack of memory or by its reader.
+abbrev pub DecodesImages :
+    {X : Type 0} → (X → List ℕ) → Decoding → Result X Error → Decoding → Type 0
+DecodesImages bytes_of old result new =
+    (size : Size) (array : Coefficients) (image rest : List ℕ) (final : Found)
+    (last : ℕ → Levels) →
+    ((place row column : ℕ) → Is8Bit (array place row column)) →
+    WritesImage array image final last → Takes old.settings (at_size size final) →
+    HasLeft size (image ++ rest) old.stage old.found old.source.bytes →
+    old.source.known ≡ true →
+    MatchResult result
+    (λ x. Gives (picture_of_array old.settings (at_size size final) array last) rest
+    (at_size size final) (bytes_of x) new)
+    (λ e. FailsOutside e new.source)

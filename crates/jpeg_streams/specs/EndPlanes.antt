@@ -1,0 +1,31 @@
+-- The plane of a component at the end of an image, by what there is of it.
+use Rattle.std.specs.Prelude.{◌≡◌, ◌*◌, ◌&&◌, ℕ, List, [], length, get_or, Bool, true, false}
+use Rattle.std.specs.Prelude.{Option, Some, None, Result, Ok, Err}
+use Rattle.jpeg_bits.specs.Reading.{Fault, Malformed, ◌>>=◌}
+use Rattle.jpeg_bits.specs.Passes.{Block}
+use Rattle.jpeg_segments.specs.Frame.{Frame, Component}
+use Rattle.jpeg_streams.specs.Scans.{Arrays}
+use Rattle.jpeg_streams.specs.Needed.{needed}
+use Rattle.jpeg_streams.specs.Stream.{Found, is_progressive, plane_by}
+
+-- the blocks at a place, where blocks are held
+abbrev pub blocks_if : Bool → Arrays → ℕ → Option (List Block)
+blocks_if true held place = Some (get_or held place [])
+blocks_if false held place = None
+
+-- whether a frame has blocks that are held
+abbrev pub is_held : Found → Frame → Bool
+is_held found frame = is_progressive frame.process && found.scanned
+
+-- The plane that is decided, or else that of the blocks that are held, by the quantization table.
+abbrev pub plane_or : Component → Option (List ℕ) → Option (List ℕ) → Option (List Block)
+    → Result (List ℕ) Fault
+plane_or c table (Some plane) blocks = Ok plane
+plane_or c table None (Some blocks) =
+    needed table >>= (λ quantization. Ok (plane_by c quantization blocks))
+plane_or c table None None = Err Malformed
+
+-- all blocks of a component, where there are some
+abbrev pub AreBlocksOf : Component → Option (List Block) → Type 0
+AreBlocksOf c (Some blocks) = length blocks ≡ c.blocks_high * c.blocks_wide
+AreBlocksOf c None = Unit {0}

@@ -1,0 +1,135 @@
+-- Scans of a lossless frame, and its picture (T.81, A.2 and Annex H).
+use Rattle.std.specs.Prelude.{ℕ, ◌+◌, List, [], ◌∷◌, map, drop, slice_index_or}
+use Rattle.std.specs.Prelude.{Option, Some, None, Result, Ok, slice_set}
+use Rattle.jpeg_bits.specs.Reading.{Fault, ◌>>=◌}
+use Rattle.jpeg_bits.specs.Codes.{Table}
+use Rattle.jpeg_bits.specs.declared.scan.Predictor.{Predictor}
+use Rattle.jpeg_segments.specs.Frame.{Frame, Component, ceiling, greatest}
+use Rattle.jpeg_pixels.specs.Pictures.{factors_of}
+use Rattle.jpeg_lossless.specs.Prediction.{start_of}
+use Rattle.jpeg_lossless.specs.Differences.{Part}
+use Rattle.jpeg_lossless.specs.Scans.{Way}
+use Rattle.jpeg_lossless.specs.Pictures.{Layer, picture_bytes}
+use Rattle.jpeg_streams.specs.Needed.{first_of, needed}
+
+-- ---- sampling factors
+
+-- a component that has a sample of each pixel
+abbrev pub one_by_one : Frame → Component → Component
+one_by_one frame c = record c {
+  factors = record c.factors { horizontal = 1; vertical = 1 };
+  width = frame.width;
+  height = frame.height;
+}
+
+-- The sampling factors of a lossless frame are ignored for now.
+abbrev pub without_factors : Frame → Frame
+without_factors frame = record frame { components = map (one_by_one frame) frame.components }
+
+-- ---- MCUs
+
+-- A component of a scan: its place in the frame, the component, and its table.
+pub record LosslessCoding : Type 0 where
+  pub place : ℕ
+  pub component : Component
+  pub table : Table
+
+abbrev pub most_across : Frame → ℕ
+most_across frame = greatest (λ f. f.horizontal) (factors_of frame.components)
+
+abbrev pub most_down : Frame → ℕ
+most_down frame = greatest (λ f. f.vertical) (factors_of frame.components)
+
+-- The MCUs of a scan, across and down: of a component alone, its samples.
+unfoldable pub mcus_across : Frame → List LosslessCoding → ℕ
+mcus_across frame (k ∷ []) = k.component.width
+mcus_across frame codings = ceiling frame.width (most_across frame)
+
+unfoldable pub mcus_down : Frame → List LosslessCoding → ℕ
+mcus_down frame (k ∷ []) = k.component.height
+mcus_down frame codings = ceiling frame.height (most_down frame)
+
+-- what an MCU has of a component: its factors, or one sample where it is alone
+abbrev pub part_of : ℕ → ℕ → LosslessCoding → Part
+part_of across down k = record {
+  table = k.table;
+  across = across;
+  down = down;
+  width = k.component.width;
+  height = k.component.height;
+}
+
+unfoldable pub parts_of : List LosslessCoding → List Part
+parts_of (k ∷ []) = part_of 1 1 k ∷ []
+parts_of codings =
+    map (λ k. part_of k.component.factors.horizontal k.component.factors.vertical k) codings
+
+abbrev pub way_of : Frame → Predictor → ℕ → List LosslessCoding → Way
+way_of frame predictor point codings = record {
+  wide = mcus_across frame codings;
+  selection = predictor;
+  start = start_of frame.precision point;
+  parts = parts_of codings;
+}
+
+-- ---- tables
+
+-- the component at a place, with the table in force for its differences
+unfoldable pub lossless_coding :
+    List (Option Table) → Frame → ℕ → ℕ → Result LosslessCoding Fault
+lossless_coding tables frame place dc_place = do
+  component ← needed (first_of (drop place frame.components))
+  table ← needed (slice_index_or tables dc_place None)
+  Ok (record { place = place; component = component; table = table })
+
+-- those at some places, with the places of their tables
+unfoldable pub lossless_codings :
+    List (Option Table) → Frame → List ℕ → List ℕ → Result (List LosslessCoding) Fault
+lossless_codings tables frame (place ∷ places) (d ∷ dc_places) =
+    lossless_coding tables frame place d >>= (λ c.
+    lossless_codings tables frame places dc_places >>= (λ others. Ok (c ∷ others)))
+lossless_codings tables frame _ _ = Ok []
+
+-- the tables at some places
+unfoldable pub tables_in : List (Option Table) → List ℕ → Result (List Table) Fault
+tables_in tables [] = Ok []
+tables_in tables (d ∷ dc_places) =
+    needed (slice_index_or tables d None) >>= (λ table.
+    tables_in tables dc_places >>= (λ others. Ok (table ∷ others)))
+
+-- ---- samples
+
+-- The samples of a scan decide those of the components at its places.
+unfoldable pub with_samples :
+    List ℕ → List (List ℕ) → List (Option (List ℕ)) → List (Option (List ℕ))
+with_samples (place ∷ places) (plane ∷ planes) samples =
+    with_samples places planes (slice_set samples place (Some plane))
+with_samples _ _ samples = samples
+
+-- the samples at the places of some components, from a place on, each of which has to be there
+unfoldable pub samples_from :
+    List (Option (List ℕ)) → ℕ → List Component → Result (List (List ℕ)) Fault
+samples_from samples place [] = Ok []
+samples_from samples place (c ∷ more) =
+    needed (slice_index_or samples place None) >>= (λ plane.
+    samples_from samples (place + 1) more >>= (λ others. Ok (plane ∷ others)))
+
+-- ---- pictures
+
+abbrev pub layer_of : Component → List ℕ → Layer
+layer_of c plane = record {
+  samples = plane;
+  width = c.width;
+  horizontal = c.factors.horizontal;
+  vertical = c.factors.vertical;
+}
+
+unfoldable pub layers_of : List Component → List (List ℕ) → List Layer
+layers_of (c ∷ components) (plane ∷ planes) = layer_of c plane ∷ layers_of components planes
+layers_of _ _ = []
+
+-- the picture of a lossless frame
+unfoldable pub lossless_picture : Frame → List (List ℕ) → List ℕ
+lossless_picture frame planes =
+    picture_bytes frame.precision (most_across frame) (most_down frame) frame.width frame.height
+    (layers_of frame.components planes)

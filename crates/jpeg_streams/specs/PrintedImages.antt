@@ -1,0 +1,35 @@
+-- What a run prints where its reader gives a stream that is written for coefficients.
+use Rattle.std.specs.Prelude.{◌≡◌, ℕ, ◌++◌, List, Option, option_map, Result, Ok, MatchResult}
+use Rattle.std.specs.Io.KnownBytes.{Appends}
+use Rattle.jpeg_bits.specs.declared.error.Error.{Error}
+use Rattle.jpeg_streams.specs.ArrayPictures.{picture_of_array, Takes}
+use Rattle.jpeg_streams.specs.Levels.{Is8Bit, Levels}
+use Rattle.jpeg_streams.specs.Output.{default_settings, line_of, IsOutsideOrMemory}
+use Rattle.jpeg_streams.specs.Output.{TakesBeginning, Tells}
+use Rattle.jpeg_streams.specs.Pixels.{info_of}
+use Rattle.jpeg_streams.specs.Stream.{Found}
+use Rattle.jpeg_streams.specs.WrittenImages.{WritesImage}
+use Rattle.jpeg_streams.specs.WrittenScans.{Coefficients}
+
+-- A text is written whole; or the reader, the writer or memory fails, and what was written is a
+-- beginning of it.
+abbrev pub Prints : {X : Type 0} →
+    List ℕ → Option (List ℕ) → Result X Error → Option (List ℕ) → Type 0
+Prints text old result new =
+    MatchResult result
+    (λ _. Appends old new text)
+    (λ e. IsOutsideOrMemory e × TakesBeginning old new text)
+
+-- A run whose reader gives a stream that is written for the coefficients of 8-bit samples, and
+-- anything after it, where the default settings take the picture, prints the picture's size and
+-- format and then the picture, cut at the bits that were sent.
+abbrev pub PrintsImages : {X : Type 0} →
+    Option (List ℕ) → Option (List ℕ) → Result X Error → Option (List ℕ) → Type 0
+PrintsImages remaining old result new =
+    (array : Coefficients) (image rest : List ℕ) (final : Found) (last : ℕ → Levels) →
+    ((place row column : ℕ) → Is8Bit (array place row column)) →
+    WritesImage array image final last → Takes default_settings final →
+    Tells remaining (image ++ rest) →
+    (picture : List ℕ)
+    × (picture_of_array default_settings final array last ≡ Ok picture)
+    × Prints (line_of (option_map info_of final.frame) ++ picture) old result new

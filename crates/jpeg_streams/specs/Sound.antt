@@ -1,0 +1,55 @@
+-- What holds of a decoder's state between segments, whatever its reader gives: what its next scan
+-- and its picture rely on.
+use Rattle.std.specs.Prelude.{◌≡◌, ◌*◌, ℕ, true, false, List, [], ◌∷◌, length, replicate, Option}
+use Rattle.std.specs.Prelude.{Some, None, Ok}
+use Rattle.std.specs.List.{AllByRecursion}
+use Rattle.jpeg_segments.specs.Frame.{Frame, Component, IsFrame}
+use Rattle.jpeg_segments.specs.Scales.{frame_at, is_scale}
+use Rattle.jpeg_streams.specs.InTurn.{AreArrays}
+use Rattle.jpeg_streams.specs.Stream.{Found, accepted, arrays_before}
+
+-- A frame that is decoded: one that a header gives and that is accepted, at a scale.
+pub record IsDecodedFrame (frame : Frame) : Type 0 where
+  pub full : Frame
+  pub scale : ℕ
+  pub is_read : IsFrame full
+  pub is_accepted : accepted full ≡ Ok full
+  pub is_scale : is_scale scale ≡ true
+  pub made : frame ≡ frame_at scale full
+
+-- a plane of all blocks of a component, where there is one
+abbrev pub IsPlaneOf : Component → Option (List ℕ) → Type 0
+IsPlaneOf c None = Unit {0}
+IsPlaneOf c (Some plane) = length plane ≡ (c.blocks_high * c.scale) * (c.blocks_wide * c.scale)
+
+-- those of some components
+unfoldable pub ArePlanes : List Component → List (Option (List ℕ)) → Type 0
+ArePlanes [] planes = Unit {0}
+ArePlanes (c ∷ more) [] = ⊥
+ArePlanes (c ∷ more) (plane ∷ planes) = IsPlaneOf c plane × ArePlanes more planes
+
+-- No scan was read yet, and no plane is decided.
+abbrev pub IsUnread : Found → Type 0
+IsUnread found =
+    (found.scanned ≡ false) × (found.planes ≡ replicate 4 None) × (found.samples ≡ replicate 4 None)
+
+-- the samples of a component, as many as a plane has
+abbrev pub IsSampled : ℕ → Option (List ℕ) → Type 0
+IsSampled size None = Unit {0}
+IsSampled size (Some samples) = length samples ≡ size
+
+-- Where a frame was read it is one that is decoded, and the blocks that are held and the planes
+-- that are decided are of its components. Samples of a component are those of each pixel. Before
+-- the frame no scan was read.
+pub record IsSound (found : Found) : Type 0 where
+  pub frames : (frame : Frame) → found.frame ≡ Some frame → IsDecodedFrame frame
+  pub held : (frame : Frame) → found.frame ≡ Some frame
+      → AreArrays frame.components (arrays_before found frame)
+  pub planes : (frame : Frame) → found.frame ≡ Some frame → ArePlanes frame.components found.planes
+  pub samples : (frame : Frame) → found.frame ≡ Some frame
+      → AllByRecursion (IsSampled (frame.width * frame.height)) found.samples
+  pub unread : found.frame ≡ None → IsUnread found
+
+-- The frame, where one was read, is one that is decoded.
+abbrev pub HasDecodedFrame : Found → Type 0
+HasDecodedFrame found = (frame : Frame) → found.frame ≡ Some frame → IsDecodedFrame frame

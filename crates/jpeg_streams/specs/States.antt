@@ -1,0 +1,112 @@
+-- The states of a decoder, and what each call does in each.
+use Rattle.std.specs.Prelude.{◌≡◌, ℕ, List, Result, Ok, Err, Bool, true, IsOk, IsErrAnd}
+use Rattle.jpeg_bits.specs.Reading.{Outcome}
+use Rattle.jpeg_bits.specs.Stream.{Stream}
+use Rattle.jpeg_bits.specs.declared.error.Error.{Error}
+use Rattle.jpeg_bits.specs.declared.error.Error.TheVariants as errors
+use Rattle.jpeg_streams.specs.declared.settings.Settings.{Settings}
+use Rattle.jpeg_streams.specs.Stream.{Found, Told, told_of, meaning, rest_at, told_by_stream}
+use Rattle.jpeg_streams.specs.Stream.{told_by_turns, told_in_turns, told_rest}
+
+pub data Stage : Type 0 where
+  Fresh : Stage
+  HeaderRead : Stage
+  Finished : Stage
+  Failed : Stage
+
+-- a decoder: its source, its stage, what was found, and what was set
+pub record Decoding : Type 0 where
+  pub source : Stream
+  pub stage : Stage
+  pub found : Found
+  pub settings : Settings
+
+-- an error of a state
+abbrev pub IsInternal : Error → Type 0
+IsInternal (errors.Internal text) = Unit {0}
+IsInternal (errors.Format text) = ⊥
+IsInternal (errors.Unsupported feature) = ⊥
+IsInternal (errors.Io error) = ⊥
+IsInternal errors.OutOfMemory = ⊥
+
+-- an error that is none of a state
+abbrev pub IsOfBytes : Error → Type 0
+IsOfBytes (errors.Internal text) = ⊥
+IsOfBytes (errors.Format text) = Unit {0}
+IsOfBytes (errors.Unsupported feature) = Unit {0}
+IsOfBytes (errors.Io error) = Unit {0}
+IsOfBytes errors.OutOfMemory = Unit {0}
+
+-- ---- the state table
+
+-- the column for reading the header
+abbrev pub MovesToHeader : {X : Type 0} → Stage → Stage → Result X Error → Type 0
+MovesToHeader Fresh new (Ok x) = new ≡ HeaderRead
+MovesToHeader Fresh new (Err e) = (new ≡ Failed) × IsOfBytes e
+MovesToHeader HeaderRead new result = (new ≡ HeaderRead) × IsOk result
+MovesToHeader Finished new result = (new ≡ Finished) × IsOk result
+MovesToHeader Failed new result = (new ≡ Failed) × IsErrAnd result IsInternal
+
+-- the column for decoding
+abbrev pub MovesToEnd : {X : Type 0} → Stage → Stage → Result X Error → Type 0
+MovesToEnd Fresh new (Ok x) = new ≡ Finished
+MovesToEnd Fresh new (Err e) = (new ≡ Failed) × IsOfBytes e
+MovesToEnd HeaderRead new (Ok x) = new ≡ Finished
+MovesToEnd HeaderRead new (Err e) = (new ≡ Failed) × IsOfBytes e
+MovesToEnd Finished new result = (new ≡ Finished) × IsErrAnd result IsInternal
+MovesToEnd Failed new result = (new ≡ Failed) × IsErrAnd result IsInternal
+
+-- a state in which a stream is read
+abbrev pub IsReading : Stage → Type 0
+IsReading Fresh = Unit {0}
+IsReading HeaderRead = Unit {0}
+IsReading Finished = ⊥
+IsReading Failed = ⊥
+
+-- a state in which a header was read
+abbrev pub HasHeader : Stage → Type 0
+HasHeader Fresh = ⊥
+HasHeader HeaderRead = Unit {0}
+HasHeader Finished = Unit {0}
+HasHeader Failed = ⊥
+
+-- the meaning of what lies ahead of a decoder: a whole stream, or the rest of one after its header
+abbrev pub ahead : Stage → Settings → Found → List ℕ → Outcome (Told × List ℕ)
+ahead Fresh settings found bytes = meaning settings bytes
+ahead HeaderRead settings found bytes = rest_at settings found bytes
+ahead Finished settings found bytes = rest_at settings found bytes
+ahead Failed settings found bytes = rest_at settings found bytes
+
+-- what has been said by the end, or the refusal, of what lies ahead
+abbrev pub told_ahead : Bool → Stage → Found → List ℕ → Told
+told_ahead header Fresh found bytes = told_by_stream header bytes
+told_ahead header HeaderRead found bytes = told_rest header found bytes
+told_ahead header Finished found bytes = told_of found
+told_ahead header Failed found bytes = told_of found
+
+-- what this many turns of what lies ahead have said
+abbrev pub turns_ahead : ℕ → Bool → Stage → Found → List ℕ → Told
+turns_ahead turns header Fresh found bytes = told_by_turns turns header bytes
+turns_ahead turns header HeaderRead found bytes = told_in_turns turns header found bytes
+turns_ahead turns header Finished found bytes = told_of found
+turns_ahead turns header Failed found bytes = told_of found
+
+-- ---- calls that read
+
+-- a fact, unless memory ran out
+abbrev pub IfRefused : Error → Type 0 → Type 0
+IfRefused errors.OutOfMemory P = Unit {0}
+IfRefused (errors.Internal text) P = P
+IfRefused (errors.Format text) P = P
+IfRefused (errors.Unsupported feature) P = P
+IfRefused (errors.Io error) P = P
+
+-- Where a source told its bytes to the end of a call, and memory was found, the call left a fact.
+abbrev pub OnTold : {X : Type 0} → Stream → Stream → Result X Error → Type 0 → Type 0
+OnTold old new (Ok x) P = old.known ≡ true → P
+OnTold old new (Err e) P = old.known ≡ true → new.known ≡ true → IfRefused e P
+
+-- Where such a call is refused.
+abbrev pub OnToldRefusal : {X : Type 0} → Stream → Stream → Result X Error → Type 0 → Type 0
+OnToldRefusal old new (Ok x) P = Unit {0}
+OnToldRefusal old new (Err e) P = old.known ≡ true → new.known ≡ true → IfRefused e P

@@ -1,0 +1,71 @@
+-- A lossless stream that is worked by hand: three components of two lines of two samples, in two
+-- scans with a restart after each line.
+use Rattle.std.specs.Prelude.{ℕ, suc, zero, List, [], ◌∷◌, ◌++◌}
+use Rattle.jpeg_segments.specs.Frame.{Factors}
+use Rattle.jpeg_segments.specs.ScanHeaders.{Choice, scan_payload, ScanHeader}
+use Rattle.jpeg_segments.specs.WrittenSegments.{FrameHeader, Header, Huffman, Interval, payload_of}
+use Rattle.jpeg_segments.specs.WrittenSegments.{Segment, sized}
+use Rattle.jpeg_lossless.specs.Worked.{small_table}
+use Rattle.jpeg_lossless.specs.Written.{marker}
+use Rattle.jpeg_streams.specs.Stream.{Found}
+use Rattle.jpeg_streams.specs.WrittenLossless.{Samples, WritesSamples}
+
+-- the samples of each component
+unfoldable pub three_samples : Samples
+three_samples zero = (129 ∷ 129 ∷ []) ∷ (128 ∷ 128 ∷ []) ∷ []
+three_samples (suc zero) = (128 ∷ 128 ∷ []) ∷ (129 ∷ 128 ∷ []) ∷ []
+three_samples (suc (suc k)) = (128 ∷ 129 ∷ []) ∷ (128 ∷ 128 ∷ []) ∷ []
+
+-- a component with factors of 1
+abbrev pub plain_factors : ℕ → Factors
+plain_factors identifier =
+    record { identifier = identifier; horizontal = 1; vertical = 1; quantization = 0 }
+
+abbrev pub three_header : FrameHeader
+three_header = record {
+  precision = 8;
+  width = 2;
+  height = 2;
+  components = plain_factors 1 ∷ plain_factors 2 ∷ plain_factors 3 ∷ [];
+}
+
+abbrev pub choice : ℕ → ℕ → Choice
+choice identifier component =
+    record { identifier = identifier; component = component; dc = 0; ac = 0 }
+
+-- a scan of some components by a selection
+abbrev pub scan_of : List Choice → ℕ → ScanHeader
+scan_of choices selection =
+    record { choices = choices; first = selection; last = 0; high = 0; low = 0 }
+
+abbrev pub third_scan : ScanHeader
+third_scan = scan_of (choice 3 2 ∷ []) 7
+
+abbrev pub other_scan : ScanHeader
+other_scan = scan_of (choice 1 0 ∷ choice 2 1 ∷ []) 1
+
+abbrev pub table_segment : Segment
+table_segment = Huffman (record { place = 0; table = small_table } ∷ [])
+
+-- the third component: 0 101, a restart, 0 0, each filled up with ones
+abbrev pub third_data : List ℕ
+third_data = (0x5F ∷ []) ++ marker 0 0xD0 (0x3F ∷ [])
+
+-- the others, sample by sample: 101 0 0 0, filled up with ones, a restart, 0 101 0 100
+abbrev pub other_data : List ℕ
+other_data = (0xA3 ∷ []) ++ marker 0 0xD0 (0x54 ∷ [])
+
+-- SOF3, DHT, DRI after a fill byte, the two scans, and EOI
+abbrev pub three_bytes : List ℕ
+three_bytes =
+    255 ∷ 216 ∷
+    marker 0 195 (sized (payload_of (Header 3 three_header)) ++
+    marker 0 196 (sized (payload_of table_segment) ++
+    marker 1 221 (sized (payload_of (Interval 2)) ++
+    marker 0 218 (sized (scan_payload third_scan) ++ (third_data ++
+    marker 0 218 (sized (scan_payload other_scan) ++ (other_data ++ marker 0 217 [])))))))
+
+-- It is a stream for these samples.
+pub record AreWritten (samples : Samples) (bytes : List ℕ) : Type 0 where
+  pub final : Found
+  pub written : WritesSamples samples bytes final

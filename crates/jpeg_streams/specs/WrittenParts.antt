@@ -1,0 +1,73 @@
+-- Streams that are written as far as some segment or scan, and streams that mean one picture.
+use Rattle.std.specs.Prelude.{◌≡◌, ℕ, ◌<◌, Bool, true, List, [], ◌++◌, drop, map}
+use Rattle.std.specs.Prelude.{Some, None, slice_index_or, Result, Ok}
+use Rattle.std.specs.List.{AllByRecursion}
+use Rattle.jpeg_bits.specs.Reading.{Fault, ◌>>=◌}
+use Rattle.jpeg_segments.specs.Frame.{Component, Frame}
+use Rattle.jpeg_segments.specs.ScanHeaders.{IsScan, ScanHeader, scan_payload, scan_written}
+use Rattle.jpeg_segments.specs.WrittenSegments.{code_of, payload_of, Segment, sized}
+use Rattle.jpeg_streams.specs.Levels.{Levels}
+use Rattle.jpeg_streams.specs.Order.{grid_of}
+use Rattle.jpeg_streams.specs.SaidSegments.{found_after, Stands}
+use Rattle.jpeg_streams.specs.Needed.{first_of}
+use Rattle.jpeg_streams.specs.Stream.{Coding, Found, meaning, pass_of}
+use Rattle.jpeg_streams.specs.WrittenData.{marker}
+use Rattle.jpeg_streams.specs.WrittenImages.{IsDct, MayFollow}
+use Rattle.jpeg_streams.specs.WrittenScans.{Coefficients, IsLegalScan, levels_after, WritesScan}
+use Rattle.jpeg_streams.specs.declared.settings.Settings.{Settings}
+
+-- ---- fronts of a stream
+
+-- Some segments and scans that follow one another: what was said before them, the levels that were
+-- sent and whether a scan was; their bytes; and the same after them.
+pub data WritesFront (array : Coefficients) :
+    Found → (ℕ → Levels) → Bool → List ℕ → Found → (ℕ → Levels) → Bool → Type 0 where
+  nothing : (said : Found) (levels : ℕ → Levels) (scanned : Bool)
+      → WritesFront array said levels scanned [] said levels scanned
+  segment : (said next : Found) (levels reached : ℕ → Levels) (scanned after : Bool) (fill : ℕ)
+      (s : Segment) (more : List ℕ)
+      → Stands said s → IsDct s → (scanned ≡ true → MayFollow s)
+      → WritesFront array (found_after said s) levels scanned more next reached after
+      → WritesFront array said levels scanned
+      (marker fill (code_of s) (sized (payload_of s) ++ more)) next reached after
+  scan : (said next : Found) (levels reached : ℕ → Levels) (scanned after : Bool) (frame : Frame)
+      (fill : ℕ) (h : ScanHeader) (codings : List Coding) (data_bytes more : List ℕ)
+      → said.frame ≡ Some frame → IsScan frame h
+      → IsLegalScan said frame levels (scan_written frame h) codings
+      → WritesScan frame said.restart (pass_of (scan_written frame h)) codings array data_bytes
+      → WritesFront array said
+      (levels_after (pass_of (scan_written frame h)) (map (λ c. c.place) codings) levels) true
+      more next reached after
+      → WritesFront array said levels scanned
+      (marker fill 218 (sized (scan_payload h) ++ (data_bytes ++ more))) next reached after
+
+-- ---- pictures that are the same
+
+-- the picture that a stream means, or why it means none
+abbrev pub picture_meant_by : Settings → List ℕ → Result (List ℕ) Fault
+picture_meant_by settings bytes = meaning settings bytes >>= (λ m. Ok m.0.1)
+
+-- What is said gives the same picture: the same size, the same components with the same
+-- quantization tables, and the same choice of colours. The processes and all else may differ.
+pub record HaveSamePicture (a b : Found) : Type 0 where
+  pub frame_a : Frame
+  pub frame_b : Frame
+  pub is_a : a.frame ≡ Some frame_a
+  pub is_b : b.frame ≡ Some frame_b
+  pub width : frame_a.output_width ≡ frame_b.output_width
+  pub height : frame_a.output_height ≡ frame_b.output_height
+  pub components : frame_a.components ≡ frame_b.components
+  pub tables : AllByRecursion
+      (λ c. slice_index_or a.quantization c.factors.quantization None
+      ≡ slice_index_or b.quantization c.factors.quantization None)
+      frame_a.components
+  pub jfif : a.metadata.jfif ≡ b.metadata.jfif
+  pub adobe : a.metadata.adobe ≡ b.metadata.adobe
+
+-- Two arrays agree on the blocks that the components have by their own sizes. The others are
+-- padding, up to whole MCUs.
+abbrev pub AgreeOnOwn : Frame → Coefficients → Coefficients → Type 0
+AgreeOnOwn frame a b =
+    (place row column : ℕ) (c : Component) → first_of (drop place frame.components) ≡ Some c →
+    row < (grid_of c).own_high → column < (grid_of c).own_wide →
+    a place row column ≡ b place row column

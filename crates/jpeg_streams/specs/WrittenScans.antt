@@ -1,0 +1,132 @@
+-- The scans that a writer sends of the coefficients of an image, and when a scan may be sent
+-- (T.81, A.2, E.1.4 and G.1).
+use Rattle.std.specs.Prelude.{◌≡◌, ℕ, ◌*◌, ◌/◌, ◌%◌, ◌==◌, ◌<◌, Bool, true, false, List, [], ◌∷◌}
+use Rattle.std.specs.Prelude.{map, drop, get_or, slice_index_or, Option, Some, None, nat_lt}
+use Rattle.std.specs.List.{AllByRecursion}
+use Rattle.jpeg_bits.specs.Codes.{Table}
+use Rattle.jpeg_bits.specs.Intervals.{first_group, other_groups}
+use Rattle.jpeg_bits.specs.Passes.{Pass, Via, Block}
+use Rattle.jpeg_bits.specs.declared.codes.HuffmanTableClass.{HuffmanTableClass}
+use Rattle.jpeg_bits.specs.declared.codes.HuffmanTableClass.TheVariants as classes
+use Rattle.jpeg_segments.specs.Frame.{Frame, Component}
+use Rattle.jpeg_segments.specs.HuffmanTables.{Tables}
+use Rattle.jpeg_segments.specs.ScanHeader.{Scan}
+use Rattle.jpeg_streams.specs.declared.grids.Grid.{Grid}
+use Rattle.jpeg_streams.specs.Levels.{Is8Bit, IsLegal, Levels, sent_after, numbers_at}
+use Rattle.jpeg_streams.specs.Order.{Spot, grid_of, mcu_size, spots_of}
+use Rattle.jpeg_streams.specs.Scans.{no_table, via_at}
+use Rattle.jpeg_streams.specs.Needed.{first_of}
+use Rattle.jpeg_streams.specs.Stream.{Coding, Found, pass_of, tables_of, vias_from}
+use Rattle.jpeg_streams.specs.WrittenData.{WritesIntervals}
+
+-- ---- the coefficients of an image
+
+-- The quantized coefficients of an image: the block of a component, by the component's place in the
+-- frame, in a row and a column of blocks.
+abbrev pub Coefficients : Type 0
+Coefficients = ℕ → ℕ → ℕ → Block
+
+-- ---- the blocks of a scan
+
+abbrev pub components_of : List Coding → List Component
+components_of codings = map (λ c. c.component) codings
+
+-- the place in the frame of the component in a slot of the scan
+abbrev pub place_at : List Coding → ℕ → ℕ
+place_at codings slot = get_or (map (λ c. c.place) codings) slot 0
+
+abbrev pub no_grid : Grid
+no_grid = record { own_wide = 0; own_high = 0; wide = 0; high = 0 }
+
+-- the blocks across and down of the component in a slot
+abbrev pub grid_at : List Component → ℕ → Grid
+grid_at components slot = get_or (map grid_of components) slot no_grid
+
+-- A block that its component has by its own size. The others are padding up to whole MCUs (A.2.4).
+pub record IsOwn (g : Grid) (index : ℕ) : Type 0 where
+  pub row : index / g.wide < g.own_high
+  pub column : index % g.wide < g.own_wide
+
+-- the block of an array at a spot of a scan
+abbrev pub block_for : List Coding → Coefficients → Spot → Block
+block_for codings array s =
+    let g = grid_at (components_of codings) s.slot in
+    array (place_at codings s.slot) (s.index / g.wide) (s.index % g.wide)
+
+-- the blocks of a scan in order, each with its component's way of coding
+abbrev pub written_turns : List Via → List Spot → (Spot → Block) → List (Via × Block)
+written_turns vias spots u = map (λ s. (via_at vias s.slot, u s)) spots
+
+-- The data of a scan with restart intervals of `restart` MCUs, or in one interval where that is 0.
+-- The blocks that are sent are those of the array, and any others of the same range in the places
+-- of padding.
+pub record WritesScan (frame : Frame) (restart : ℕ) (p : Pass) (codings : List Coding)
+    (array : Coefficients) (bytes : List ℕ) : Type 0 where
+  pub sent : Spot → Block
+  pub in_range : (s : Spot) → Is8Bit (sent s)
+  pub is_own : (s : Spot)
+      → IsOwn (grid_at (components_of codings) s.slot) s.index → sent s ≡ block_for codings array s
+  pub coded :
+      let n = restart * mcu_size (components_of codings) in
+      let spots = spots_of frame (components_of codings) in
+      let turns = written_turns (vias_from 0 codings) spots (λ s. numbers_at p.al (sent s)) in
+      WritesIntervals p 0 (first_group n turns) (other_groups n turns) bytes
+
+-- ---- tables in force
+
+-- The table at a destination, where the scan needs one.
+abbrev pub InForce : Bool → HuffmanTableClass → List (Option Table) → ℕ → Table → Type 0
+InForce true class tables place table = slice_index_or tables place None ≡ Some table
+InForce false class tables place table = table ≡ no_table class
+
+-- A component of a scan, by its place in the frame and the destinations of its Huffman tables: its
+-- quantization table is defined, its DC table where the scan codes DC, and its AC table where it
+-- codes AC.
+pub record IsCoding (w : Found) (frame : Frame) (p : Pass) (tables : Tables) (place d a : ℕ)
+    (k : Coding) : Type 0 where
+  pub stands : k.place ≡ place
+  pub component : first_of (drop place frame.components) ≡ Some k.component
+  pub quantization :
+      slice_index_or w.quantization k.component.factors.quantization None ≡ Some k.quantization
+  pub dc : InForce (p.ss == 0) classes.DC tables.dc d k.dc
+  pub ac : InForce (nat_lt 0 p.se) classes.AC tables.ac a k.ac
+
+pub data AreCodings (w : Found) (frame : Frame) (p : Pass) (tables : Tables) :
+    List ℕ → List ℕ → List ℕ → List Coding → Type 0 where
+  no_more : AreCodings w frame p tables [] [] [] []
+  and_more : (place d a : ℕ) (places dc_places ac_places : List ℕ) (k : Coding)
+      (codings : List Coding)
+      → IsCoding w frame p tables place d a k
+      → AreCodings w frame p tables places dc_places ac_places codings
+      → AreCodings w frame p tables (place ∷ places) (d ∷ dc_places) (a ∷ ac_places) (k ∷ codings)
+
+-- a component has its quantization table
+pub record HasTable (w : Found) (c : Component) : Type 0 where
+  pub table : List ℕ
+  pub is : slice_index_or w.quantization c.factors.quantization None ≡ Some table
+
+-- ---- scripts (G.1.1.1)
+
+-- the levels of each component after a scan of one
+abbrev pub levels_of_one : Pass → ℕ → (ℕ → Levels) → ℕ → Levels
+levels_of_one p place levels k =
+    elim (k == place) as (λ _. Levels) [ true ↦ sent_after p (levels k) | false ↦ levels k ]
+
+-- after a scan of some
+unfoldable pub levels_after : Pass → List ℕ → (ℕ → Levels) → ℕ → Levels
+levels_after p [] levels = levels
+levels_after p (place ∷ places) levels = levels_after p places (levels_of_one p place levels)
+
+-- A scan may be sent where these levels were: its tables are defined, and each of its components
+-- allows it.
+pub record IsLegalScan (w : Found) (frame : Frame) (levels : ℕ → Levels) (scan : Scan)
+    (codings : List Coding) : Type 0 where
+  pub are_in_force :
+      AreCodings w frame (pass_of scan) (tables_of w scan) scan.components scan.dc_places
+      scan.ac_places codings
+  pub legal : AllByRecursion (λ c. IsLegal (pass_of scan) (levels c.place)) codings
+
+-- Every bit of each coefficient was sent.
+pub record IsComplete (l : Levels) : Type 0 where
+  pub dc : l.dc ≡ Some 0
+  pub acs : AllByRecursion (λ x. x ≡ Some 0) l.acs

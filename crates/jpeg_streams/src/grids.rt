@@ -1,0 +1,40 @@
+//! The blocks of a component (T.81, A.2.2 and A.2.3).
+ghost use Rattle.std.specs.Prelude.{◌≡◌, ◌≤◌};
+ghost use Rattle.jpeg_segments.specs.Frame.{ceiling};
+ghost use Rattle.jpeg_segments.specs.FrameView.{component_in};
+ghost use Rattle.jpeg_streams.specs.Order.{grid_of};
+
+use jpeg_segments::parser::Component;
+
+/// The blocks of a component, across and down: its own, by its size in samples, and those that its
+/// part of all MCUs has.
+#[derive(Clone, Copy, Debug, PartialEq)]
+pub struct Grid {
+    pub own_wide: u16,
+    pub own_high: u16,
+    pub wide: u16,
+    pub high: u16,
+}
+
+/// The blocks that a side of some samples takes, where a block gives `scale` samples a side.
+fn blocks_of(samples: u16, scale: usize) -> u16
+    requires some { 1 ≤ scale }
+    requires most { scale ≤ 8 }
+    ensures { result ≡ ceiling samples scale }
+{
+    ((usize::from(samples) + (scale - 1)) / scale) as u16
+}
+
+/// The blocks of a component, at the scale that it has.
+pub fn grid_of(component: &Component) -> Grid
+    requires some { 1 ≤ component.now.dct_scale }
+    requires most { component.now.dct_scale ≤ 8 }
+    ensures { result ≡ grid_of (component_in component.now) }
+{
+    Grid {
+        own_wide: blocks_of(component.size.width, component.dct_scale),
+        own_high: blocks_of(component.size.height, component.dct_scale),
+        wide: component.block_size.width,
+        high: component.block_size.height,
+    }
+}
