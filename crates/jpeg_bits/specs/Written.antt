@@ -1,6 +1,25 @@
--- The bits that stand for a number, and for a symbol (T.81, C.2 and F.1.2).
-use Rattle.std.specs.Prelude.{ℕ, zero, suc, ◌/◌, ◌%◌, ◌^◌, ◌==◌, Bool, List, [], ◌∷◌, slice_index}
+-- The bits that a writer emits for a number and for a symbol (T.81, C.2 and F.1.2), and the bytes
+-- that it makes of bits (B.1.1.5).
+use Rattle.std.specs.Prelude.{
+  ◌≡◌,
+  ℕ,
+  zero,
+  suc,
+  ◌-◌,
+  ◌/◌,
+  ◌%◌,
+  ◌^◌,
+  ◌<◌,
+  ◌≤◌,
+  ◌==◌,
+  Bool,
+  true,
+  false,
+}
+use Rattle.std.specs.Prelude.{List, [], ◌∷◌, ◌++◌, replicate, length, slice_index}
+use Rattle.std.specs.Prelude.{ℤ, pos, negsuc, unsigned_abs}
 use Rattle.jpeg_bits.specs.Codes.{Table, code_lengths, code_value}
+use Rattle.jpeg_bits.specs.Entropy.{bits_of}
 
 -- the bit of 0 or 1
 abbrev pub bit : ℕ → Bool
@@ -18,3 +37,37 @@ code_size table i = slice_index (code_lengths table.counts) i
 -- the bits of code i
 abbrev pub code_bits : Table → ℕ → List Bool
 code_bits table i = low_bits (code_size table i) (code_value (code_lengths table.counts) i)
+
+-- These are the bits of a code for the symbol, by a Huffman table (Annex C).
+pub record IsCoded (table : Table) (symbol : ℕ) (bits : List Bool) : Type 0 where
+  pub place : ℕ
+  pub listed : place < length (code_lengths table.counts)
+  pub is_for : slice_index table.symbols place ≡ symbol
+  pub has_bits : code_bits table place ≡ bits
+
+-- The category SSSS of a value: the least s with |d| < 2 ^ s (F.1.2.1.2).
+pub record IsCategory (d : ℤ) (s : ℕ) : Type 0 where
+  pub holds : unsigned_abs d < 2 ^ s
+  pub is_least : (t : ℕ) → unsigned_abs d < 2 ^ t → s ≤ t
+
+-- The number whose s bits follow the category: d itself, or 2 ^ s - 1 + d where d is not positive.
+unfoldable pub number_for : ℤ → ℕ → ℕ
+number_for (pos zero) s = 2 ^ s - 1
+number_for (pos (suc n)) s = suc n
+number_for (negsuc n) s = 2 ^ s - 1 - suc n
+
+-- ---- bytes (B.1.1.5)
+
+-- 00 follows each FF.
+unfoldable pub stuffed : List ℕ → List ℕ
+stuffed [] = []
+stuffed (b ∷ bytes) =
+    elim (b == 0xFF) [ true ↦ 0xFF ∷ 0 ∷ stuffed bytes | false ↦ b ∷ stuffed bytes ]
+
+-- A marker after any number of fill bytes FF, by its second byte, and then more (B.1.1.2).
+abbrev pub marker : ℕ → ℕ → List ℕ → List ℕ
+marker fill code rest = 0xFF ∷ (replicate fill 0xFF ++ code ∷ rest)
+
+unfoldable pub bits_of_bytes : List ℕ → List Bool
+bits_of_bytes [] = []
+bits_of_bytes (b ∷ bytes) = bits_of b ++ bits_of_bytes bytes

@@ -18,10 +18,11 @@ use Rattle.jpeg_streams.specs.Order.{Spot}
 use Rattle.jpeg_streams.specs.Scans.{Arrays, zero_arrays}
 use Rattle.jpeg_streams.specs.Rasters.{in_raster, ordered}
 use Rattle.jpeg_streams.specs.InTurn.{Counted, Fits, mcus_from, counted_at_start}
-use Rattle.jpeg_streams.specs.McuRows.{row_mcus, own_row_mcus, zero_rows, rows_of, joined, with_arrays, rows_from}
+use Rattle.jpeg_streams.specs.McuRows.{row_mcus, own_row_mcus, zero_rows, rows_of, joined, on_arrays, rows_from}
 use Rattle.jpeg_streams.specs.McuRows.{scan_by_rows}
 use Rattle.jpeg_streams.specs.Stream.{Coding, plane_by}
-use Rattle.jpeg_decoder.specs.Strips.{components_of, planes_by, planes_at, samples_of, with_strips, strips_from}
+use Rattle.jpeg_decoder.specs.Strips.{planes_by, planes_at, samples_of, with_strips, strips_from}
+use Rattle.jpeg_streams.specs.Stream.{components_of}
 use Rattle.jpeg_decoder.specs.Strips.{planes_by_rows}
 use Rattle.jpeg_streams.proofs.Apart.{zeros-sized}
 use Rattle.jpeg_streams.proofs.Mcus.{frame-scans, on-on}
@@ -111,7 +112,7 @@ strips-grow r (c ∷ codings) (a ∷ front) (b ∷ arrays) h k =
 strips-in-turn : (p : Pass) (vias : List Via) (n : ℕ) (codings : List Coding) (rows : List (List (List Spot)))
     (r : ℕ) (front : Arrays) (old : Counted) (t : Text)
     → AreRows r (components_of codings) front
-    → strips_from p vias n codings rows (grown r codings front) (with_arrays [] old) t
+    → strips_from p vias n codings rows (grown r codings front) (on_arrays [] old) t
     ≡ read_on (λ s. gives (grown (r + length rows) codings s.reached.arrays)) (rows_from p vias n
     (components_of codings) rows front old t)
 unfolding strips_from rows_from
@@ -119,15 +120,15 @@ strips-in-turn p vias n codings [] r front old t h = ap (λ (k : ℕ). gives (gr
     ≡ r + 0 = omega arith in z)
 strips-in-turn p vias n codings (mcus ∷ rows) r front old t h =
     let cs = components_of codings in
-    let start = with_arrays (zero_rows 1 cs) old in
+    let start = on_arrays (zero_rows 1 cs) old in
     let o = mcus_from p vias n mcus start t in
     let end : Counted → Reads (List (List ℕ)) = λ s. gives (grown (r + suc (length rows)) codings s.reached.arrays) in
     counted-where (AreRows 1 cs)
     (λ s. λ u. strips_from p vias n codings rows (with_strips codings s.reached.arrays (grown r codings front))
-    (with_arrays [] s) u)
+    (on_arrays [] s) u)
     (λ s. λ u. read_on end (rows_from p vias n cs rows (joined front s.reached.arrays) s u))
     (λ s u k.
-    ap (λ (l : List (List ℕ)). strips_from p vias n codings rows l (with_arrays [] s) u)
+    ap (λ (l : List (List ℕ)). strips_from p vias n codings rows l (on_arrays [] s) u)
     (strips-grow r codings front s.reached.arrays h k)
     ∙ strips-in-turn p vias n codings rows (r + 1) (joined front s.reached.arrays) s u
     (joined-rows r cs front s.reached.arrays h k)

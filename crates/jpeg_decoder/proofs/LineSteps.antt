@@ -8,33 +8,36 @@ use Rattle.jpeg_bits.specs.Readers.{Reads, gives, read_on}
 use Rattle.jpeg_bits.specs.Passes.{Pass, Via}
 use Rattle.jpeg_streams.specs.InTurn.{Reached, turn_from, turns_from, at_start, restart_from, Counted, begun_from}
 use Rattle.jpeg_streams.proofs.Mcus.{turns-append}
-use Rattle.jpeg_streams.specs.Layout.{line_of, part_of}
+use Rattle.jpeg_streams.specs.Layout.{spots_in_line, spots_in_part}
 use Rattle.jpeg_decoder.specs.Scanning.{AreWithin}
 use Rattle.jpeg_decoder.proofs.HeldBlocks.{spot}
 
 -- ---- the blocks of a line
 
 line-more : (p : Pass) (vias : List Via) (slot index left : ℕ) (old : Reached) (t : Text) → 0 < left
-    → turns_from p vias (line_of slot index left) old t
-    ≡ read_on (turns_from p vias (line_of slot (index + 1) (left - 1))) (turn_from p vias (spot slot index) old t)
-unfolding turns_from line_of
+    → turns_from p vias (spots_in_line slot index left) old t
+    ≡ read_on (turns_from p vias (spots_in_line slot (index + 1) (left - 1))) (turn_from p vias (spot slot index) old t)
+unfolding turns_from spots_in_line
 line-more p vias slot index zero old t h = absurd (omega arith)
 line-more p vias slot index (suc left) old t h = let e : suc left - 1 ≡ left = omega arith in rw e refl
 
 pub line_step : (p : Pass) (vias : List Via) (slot index left : ℕ) (old new : Reached) (t u : Text) → 0 < left
     → turn_from p vias (spot slot index) old t ≡ Ok (new, u)
-    → turns_from p vias (line_of slot index left) old t ≡ turns_from p vias (line_of slot (index + 1) (left - 1)) new u
+    → turns_from p vias (spots_in_line slot index left) old t ≡ turns_from p vias (spots_in_line slot (index + 1)
+    (left - 1)) new u
 line_step p vias slot index left old new t u h e =
-    line-more p vias slot index left old t h ∙ ap (read_on (turns_from p vias (line_of slot (index + 1) (left - 1)))) e
+    line-more p vias slot index left old t h
+    ∙ ap (read_on (turns_from p vias (spots_in_line slot (index + 1) (left - 1)))) e
 
 pub line_refused : (p : Pass) (vias : List Via) (slot index left : ℕ) (old : Reached) (t : Text) (f : Fault) → 0 < left
-    → turn_from p vias (spot slot index) old t ≡ Err f → turns_from p vias (line_of slot index left) old t ≡ Err f
+    → turn_from p vias (spot slot index) old t ≡ Err f → turns_from p vias (spots_in_line slot index left) old t ≡ Err f
 line_refused p vias slot index left old t f h e =
-    line-more p vias slot index left old t h ∙ ap (read_on (turns_from p vias (line_of slot (index + 1) (left - 1)))) e
+    line-more p vias slot index left old t h
+    ∙ ap (read_on (turns_from p vias (spots_in_line slot (index + 1) (left - 1)))) e
 
 pub line_none : (p : Pass) (vias : List Via) (slot index left : ℕ) (old : Reached) (t : Text) → left ≡ 0
-    → turns_from p vias (line_of slot index left) old t ≡ Ok (old, t)
-unfolding turns_from line_of
+    → turns_from p vias (spots_in_line slot index left) old t ≡ Ok (old, t)
+unfolding turns_from spots_in_line
 line_none p vias slot index left old t e = rw e refl
 
 pub ruleset line_rules = (line_step, line_refused, line_none)
@@ -42,33 +45,34 @@ pub ruleset line_rules = (line_step, line_refused, line_none)
 -- ---- the lines of a part
 
 part-more : (p : Pass) (vias : List Via) (slot wide count index left : ℕ) (old : Reached) (t : Text) → 0 < left
-    → turns_from p vias (part_of slot wide count index left) old t
-    ≡ read_on (turns_from p vias (part_of slot wide count (index + wide) (left - 1)))
-    (turns_from p vias (line_of slot index count) old t)
-unfolding part_of
+    → turns_from p vias (spots_in_part slot wide count index left) old t
+    ≡ read_on (turns_from p vias (spots_in_part slot wide count (index + wide) (left - 1)))
+    (turns_from p vias (spots_in_line slot index count) old t)
+unfolding spots_in_part
 part-more p vias slot wide count index zero old t h = absurd (omega arith)
 part-more p vias slot wide count index (suc left) old t h =
     let e : suc left - 1 ≡ left = omega arith in
-    rw e (turns-append p vias (line_of slot index count) (part_of slot wide count (index + wide) left) old t)
+    rw e (turns-append p vias (spots_in_line slot index count) (spots_in_part slot wide count (index + wide) left) old
+    t)
 
 pub part_step : (p : Pass) (vias : List Via) (slot wide count index left : ℕ) (old new : Reached) (t u : Text)
     → 0 < left
-    → turns_from p vias (line_of slot index count) old t ≡ Ok (new, u)
-    → turns_from p vias (part_of slot wide count index left) old t ≡ turns_from p vias
-    (part_of slot wide count (index + wide) (left - 1)) new u
+    → turns_from p vias (spots_in_line slot index count) old t ≡ Ok (new, u)
+    → turns_from p vias (spots_in_part slot wide count index left) old t ≡ turns_from p vias
+    (spots_in_part slot wide count (index + wide) (left - 1)) new u
 part_step p vias slot wide count index left old new t u h e = part-more p vias slot wide count index left old t h
-    ∙ ap (read_on (turns_from p vias (part_of slot wide count (index + wide) (left - 1)))) e
+    ∙ ap (read_on (turns_from p vias (spots_in_part slot wide count (index + wide) (left - 1)))) e
 
 pub part_refused : (p : Pass) (vias : List Via) (slot wide count index left : ℕ) (old : Reached) (t : Text) (f : Fault)
     → 0 < left
-    → turns_from p vias (line_of slot index count) old t ≡ Err f
-    → turns_from p vias (part_of slot wide count index left) old t ≡ Err f
+    → turns_from p vias (spots_in_line slot index count) old t ≡ Err f
+    → turns_from p vias (spots_in_part slot wide count index left) old t ≡ Err f
 part_refused p vias slot wide count index left old t f h e = part-more p vias slot wide count index left old t h
-    ∙ ap (read_on (turns_from p vias (part_of slot wide count (index + wide) (left - 1)))) e
+    ∙ ap (read_on (turns_from p vias (spots_in_part slot wide count (index + wide) (left - 1)))) e
 
 pub part_none : (p : Pass) (vias : List Via) (slot wide count index left : ℕ) (old : Reached) (t : Text) → left ≡ 0
-    → turns_from p vias (part_of slot wide count index left) old t ≡ Ok (old, t)
-unfolding turns_from part_of
+    → turns_from p vias (spots_in_part slot wide count index left) old t ≡ Ok (old, t)
+unfolding turns_from spots_in_part
 part_none p vias slot wide count index left old t e = rw e refl
 
 pub ruleset part_rules = (part_step, part_refused, part_none)

@@ -12,7 +12,8 @@ use Rattle.jpeg_lossless.specs.Places.{at_place}
 use Rattle.jpeg_lossless.specs.Written.{AreLines}
 use Rattle.jpeg_streams.specs.declared.settings.Settings.{Settings}
 use Rattle.jpeg_streams.specs.Stream.{Found, meaning, nothing_found, sized_meaning, told_of}
-use Rattle.jpeg_streams.specs.WrittenLossless.{IsIn, IsWithin, Samples, Writes, WritesSamples, closed, line_of}
+use Rattle.jpeg_streams.specs.WrittenLossless.{IsWithin, Samples, Writes, WritesSamples, closed, samples_line}
+use Rattle.jpeg_streams.specs.InTurn.{IsIn}
 use Rattle.jpeg_streams.specs.WrittenLossless.{picture_of_samples, pixel_of, said_after_scan, scan, segment}
 use Rattle.jpeg_streams.specs.SaidSegments.{found_after}
 use Rattle.jpeg_streams.proofs.PlainFrames.{picture-plain}
@@ -102,7 +103,8 @@ samples-shown frame samples all =
     picture-plain frame (planes_for samples ks) (length-map-range_with_len (λ (k : ℕ). concat (samples k)) 0
     (length frame.components))
     ∙ ap (λ (l : List (List ℕ)). concat l)
-    (mapped-same (line_bytes frame.precision 1 1 frame.width layers) (line_of frame samples) 0 frame.height frame.height
+    (mapped-same (line_bytes frame.precision 1 1 frame.width layers) (samples_line frame samples) 0 frame.height
+    frame.height
     (omega arith)
     (λ y k. ap (λ (l : List (List ℕ)). concat l)
     (mapped-same (pixel_bytes frame.precision 1 1 layers y) (pixel_of frame.precision (length frame.components) samples

@@ -21,7 +21,7 @@ use Rattle.jpeg_segments.specs.ScanHeader.{Scan}
 use Rattle.jpeg_segments.specs.declared.parser.CodingProcess.TheVariants.{Lossless}
 use Rattle.jpeg_lossless.specs.Codings.{part_by, way_by}
 use Rattle.jpeg_lossless.specs.declared.scan.Coding.{Coding}
-use Rattle.jpeg_lossless.specs.Pictures.{AreWhole, layer_by, picture_bytes}
+use Rattle.jpeg_lossless.specs.Pictures.{AreOfSize, layer_by, picture_bytes}
 use Rattle.jpeg_lossless.specs.Prediction.{start_of}
 use Rattle.jpeg_lossless.specs.Scans.{Way, scan_at}
 use Rattle.jpeg_streams.specs.InTurn.{AreArrays}
@@ -282,9 +282,9 @@ set-sized n [] place plane e h = tt
 set-sized n (x ∷ samples) zero plane e h = (e, h.1)
 set-sized n (x ∷ samples) (suc place) plane e h = (h.0, set-sized n samples place plane e h.1)
 
-with-sized : (n : ℕ) (places : List ℕ) (planes : List (List ℕ)) (samples : List (Option (List ℕ))) → AreWhole n planes
+with-sized : (n : ℕ) (places : List ℕ) (planes : List (List ℕ)) (samples : List (Option (List ℕ))) → AreOfSize n planes
     → AllByRecursion (IsSampled n) samples → AllByRecursion (IsSampled n) (with_samples places planes samples)
-unfolding with_samples AreWhole
+unfolding with_samples AreOfSize
 with-sized n [] planes samples w h = h
 with-sized n (p ∷ places) [] samples w h = h
 with-sized n (p ∷ places) (plane ∷ planes) samples w h =
@@ -293,7 +293,7 @@ with-sized n (p ∷ places) (plane ∷ planes) samples w h =
 -- A lossless scan leaves a sound state.
 pub samples-sound : (found next : Found) (frame : Frame) (places : List ℕ) (planes : List (List ℕ))
     → IsSound found → found.frame ≡ Some frame → frame.process ≡ Lossless
-    → AreWhole (frame.width * frame.height) planes
+    → AreOfSize (frame.width * frame.height) planes
     → next ≡ record found { scanned = true; samples = with_samples places planes found.samples } → IsSound next
 unfolding arrays_before
 samples-sound found next frame places planes sound e lossless whole is = subst IsSound (sym is) (record {
@@ -308,7 +308,7 @@ samples-sound found next frame places planes sound e lossless whole is = subst I
   planes = sound.planes;
   samples = λ f k.
       with-sized (f.width * f.height) places planes found.samples
-      (subst (λ (x : Frame). AreWhole (x.width * x.height) planes) (same f k) whole) (sound.samples f k);
+      (subst (λ (x : Frame). AreOfSize (x.width * x.height) planes) (same f k) whole) (sound.samples f k);
   unread = λ k. absurd (none-some (sym k ∙ e));
 })
   where
@@ -451,13 +451,13 @@ needed-of (Some y) x e = ap (λ (z : _). Some z) (ok-same y x e)
 -- Samples are those of each pixel.
 pub samples-whole : (n : ℕ) (samples : List (Option (List ℕ))) (place : ℕ) (cs : List Component)
     (planes : List (List ℕ))
-    → AllByRecursion (IsSampled n) samples → samples_from samples place cs ≡ Ok planes → AreWhole n planes
-unfolding samples_from AreWhole
-samples-whole n samples place [] planes h e = subst (AreWhole n) (ok-same [] planes e) tt
+    → AllByRecursion (IsSampled n) samples → samples_from samples place cs ≡ Ok planes → AreOfSize n planes
+unfolding samples_from AreOfSize
+samples-whole n samples place [] planes h e = subst (AreOfSize n) (ok-same [] planes e) tt
 samples-whole n samples place (c ∷ cs) planes h e =
     let one = bind-ok (needed (slice_index_or samples place None)) _ planes e in
     let more = bind-ok (samples_from samples (place + 1) cs) _ planes one.2 in
-    subst (AreWhole n) (ok-same (one.0 ∷ more.0) planes more.2) (
+    subst (AreOfSize n) (ok-same (one.0 ∷ more.0) planes more.2) (
       sampled-at n samples place one.0 h (needed-of (slice_index_or samples place None) one.0 one.1),
       samples-whole n samples (place + 1) cs more.0 h more.1,
     )

@@ -11,13 +11,13 @@ use Rattle.jpeg_streams.specs.Order.{Spot, part_spot, part_spots, mcu_spots}
 use Rattle.jpeg_streams.specs.InTurn.{Reached, turns_from, Counted, begun_from, mcu_from}
 use Rattle.jpeg_streams.proofs.Mcus.{turns-append}
 use Rattle.jpeg_decoder.specs.declared.codings.Coded.{Coded}
-use Rattle.jpeg_streams.specs.Layout.{line_of, part_of}
+use Rattle.jpeg_streams.specs.Layout.{spots_in_line, spots_in_part}
 use Rattle.jpeg_decoder.specs.Scanning.{components_in, wide_in, across_in, down_in, part_in, first_in}
 use Rattle.jpeg_decoder.proofs.HeldBlocks.{spot}
 
 line-same : (f : ℕ → Spot) (slot k n index : ℕ) → ((h : ℕ) → f (k + h) ≡ spot slot (index + h))
-    → map f (range_with_len k n) ≡ line_of slot index n
-unfolding line_of
+    → map f (range_with_len k n) ≡ spots_in_line slot index n
+unfolding spots_in_line
 line-same f slot k zero index same = refl
 line-same f slot k (suc n) index same =
     let a : k ≡ k + 0 = omega arith in
@@ -29,18 +29,18 @@ line-same f slot k (suc n) index same =
     ap f c ∙ same (suc h) ∙ ap (spot slot) d))
 
 part-same : (g : ℕ → List Spot) (slot wide count k n index : ℕ)
-    → ((v : ℕ) → g (k + v) ≡ line_of slot (index + v * wide) count)
-    → flat_map g (range_with_len k n) ≡ part_of slot wide count index n
-unfolding part_of
+    → ((v : ℕ) → g (k + v) ≡ spots_in_line slot (index + v * wide) count)
+    → flat_map g (range_with_len k n) ≡ spots_in_part slot wide count index n
+unfolding spots_in_part
 part-same g slot wide count k zero index same = refl
 part-same g slot wide count k (suc n) index same =
     let a : k ≡ k + 0 = omega arith in
     let b : index + 0 * wide ≡ index = omega arith in
-    ap₂ (λ (x xs : List Spot). x ++ xs) (ap g a ∙ same 0 ∙ ap (λ (i : ℕ). line_of slot i count) b)
+    ap₂ (λ (x xs : List Spot). x ++ xs) (ap g a ∙ same 0 ∙ ap (λ (i : ℕ). spots_in_line slot i count) b)
     (part-same g slot wide count (k + 1) n (index + wide) (λ v.
     let c : k + 1 + v ≡ k + suc v = omega arith in
     let d : index + suc v * wide ≡ index + wide + v * wide = omega (arith, suc-mul v wide) in
-    ap g c ∙ same (suc v) ∙ ap (λ (i : ℕ). line_of slot i count) d))
+    ap g c ∙ same (suc v) ∙ ap (λ (i : ℕ). spots_in_line slot i count) d))
 
 part-is : (row column slot : ℕ) (c : Coded) → part_spots row column slot (component_in c.component.now)
     ≡ part_in slot (first_in row column c) c

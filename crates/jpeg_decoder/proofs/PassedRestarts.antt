@@ -7,7 +7,7 @@ use Rattle.jpeg_bits.specs.declared.marker.Marker.{Marker}
 use Rattle.jpeg_bits.specs.declared.marker.Marker.TheVariants.{SOF, JPG, DHT, DAC, RST, SOI, EOI, SOS, DQT, DNL, DRI}
 use Rattle.jpeg_bits.specs.declared.marker.Marker.TheVariants.{DHP, EXP, APP, JPGn, COM, TEM, RES}
 use Rattle.jpeg_streams.specs.Stream.{after_restarts}
-use Rattle.jpeg_decoder.specs.Steps.{is_restart, after_all}
+use Rattle.jpeg_decoder.specs.Steps.{is_restart_marker, after_all}
 use Rattle.jpeg_streams.proofs.Shorter.{LeavesBelow, below-at, marker-below}
 
 pub bind-same : {A B : Type 0} (r : Result A Fault) (f g : A → Result B Fault) → ((x : A) → r ≡ Ok x → f x ≡ g x)
@@ -19,7 +19,7 @@ bind-same (Err fault) f g h = refl
 abbrev pub others : ℕ → List ℕ → Outcome (Option Marker)
 others turns bytes = next_marker bytes >>= (λ (m : Marker × List ℕ). after_restarts turns (Some m.0) m.1)
 
-restarts-none : (turns : ℕ) (met : Option Marker) (bytes : List ℕ) → is_restart met ≡ false
+restarts-none : (turns : ℕ) (met : Option Marker) (bytes : List ℕ) → is_restart_marker met ≡ false
     → after_restarts (suc turns) met bytes ≡ Ok (met, bytes)
 unfolding after_restarts
 restarts-none turns None bytes e = refl
@@ -42,7 +42,7 @@ restarts-none turns (Some COM) bytes e = refl
 restarts-none turns (Some TEM) bytes e = refl
 restarts-none turns (Some RES) bytes e = refl
 
-restarts-more : (turns : ℕ) (met : Option Marker) (bytes : List ℕ) → is_restart met ≡ true
+restarts-more : (turns : ℕ) (met : Option Marker) (bytes : List ℕ) → is_restart_marker met ≡ true
     → after_restarts (suc turns) met bytes ≡ others turns bytes
 unfolding after_restarts
 restarts-more turns (Some (RST n)) bytes e = refl
@@ -75,7 +75,7 @@ restarts-enough : (m n : ℕ) (met : Option Marker) (bytes : List ℕ) → lengt
 restarts-enough zero n met bytes p q = absurd (omega arith)
 restarts-enough (suc m) zero met bytes p q = absurd (omega arith)
 restarts-enough (suc m) (suc n) met bytes p q =
-    either (is_restart met)
+    either (is_restart_marker met)
     (λ e. restarts-more m met bytes e ∙ bind-same (next_marker bytes) _ _ (λ r is.
     let less : length r.1 < length bytes = below-at (length bytes) (next_marker bytes) r (marker-below bytes) is in
     restarts-enough m n (Some r.0) r.1 (omega arith) (omega arith)) ∙ sym (restarts-more n met bytes e))
@@ -86,16 +86,17 @@ marker-takes bytes r is = below-at (length bytes) (next_marker bytes) r (marker-
 
 -- ---- all of them
 
-pub after-done : (met : Option Marker) (bytes : List ℕ) → is_restart met ≡ false → after_all met bytes ≡ Ok (met, bytes)
+pub after-done : (met : Option Marker) (bytes : List ℕ) → is_restart_marker met ≡ false
+    → after_all met bytes ≡ Ok (met, bytes)
 unfolding after_all
 after-done met bytes e = restarts-none (length bytes) met bytes e
 
-pub after-refused : (met : Option Marker) (bytes : List ℕ) (fault : Fault) → is_restart met ≡ true
+pub after-refused : (met : Option Marker) (bytes : List ℕ) (fault : Fault) → is_restart_marker met ≡ true
     → next_marker bytes ≡ Err fault → after_all met bytes ≡ Err fault
 unfolding after_all
 after-refused met bytes fault e q = restarts-more (length bytes) met bytes e ∙ rw q refl
 
-pub after-next : (met : Option Marker) (bytes rest : List ℕ) (m : Marker) → is_restart met ≡ true
+pub after-next : (met : Option Marker) (bytes rest : List ℕ) (m : Marker) → is_restart_marker met ≡ true
     → next_marker bytes ≡ Ok (m, rest) → after_all met bytes ≡ after_all (Some m) rest
 unfolding after_all
 after-next met bytes rest m e q =
@@ -106,7 +107,7 @@ after-next met bytes rest m e q =
 
 -- Fewer bytes are left than the limit, and no restart marker is met.
 unfoldable pub Passes : ℕ → Outcome (Option Marker) → Type 0
-Passes limit (Ok x) = (length x.1 < limit) × (is_restart x.0 ≡ false)
+Passes limit (Ok x) = (length x.1 < limit) × (is_restart_marker x.0 ≡ false)
 Passes limit (Err fault) = Unit {0}
 
 bind-passes : (limit first : ℕ) (r : Outcome Marker) (f : Marker × List ℕ → Outcome (Option Marker))
@@ -115,7 +116,7 @@ unfolding Passes LeavesBelow
 bind-passes limit first (Ok x) f p q = q x p
 bind-passes limit first (Err fault) f p q = tt
 
-ok-passes : (limit : ℕ) (met : Option Marker) (bytes : List ℕ) → length bytes < limit → is_restart met ≡ false
+ok-passes : (limit : ℕ) (met : Option Marker) (bytes : List ℕ) → length bytes < limit → is_restart_marker met ≡ false
     → Passes limit (Ok (met, bytes))
 unfolding Passes
 ok-passes limit met bytes h e = (h, e)
@@ -132,7 +133,7 @@ restarts-pass : (limit turns : ℕ) (met : Option Marker) (bytes : List ℕ) →
 unfolding after_restarts
 restarts-pass limit zero met bytes h = none-passes limit _
 restarts-pass limit (suc turns) met bytes h =
-    either (is_restart met)
+    either (is_restart_marker met)
     (λ e. as-passes limit _ _ (restarts-more turns met bytes e)
     (bind-passes limit (length bytes) (next_marker bytes) _ (marker-below bytes) (λ m p. restarts-pass limit turns
     (Some m.0) m.1 (omega arith))))

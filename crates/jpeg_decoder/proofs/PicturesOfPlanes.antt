@@ -23,7 +23,7 @@ use Rattle.jpeg_pixels.specs.Pictures.{Source, AllCover, AreWhole, HasSources, i
 use Rattle.jpeg_streams.specs.ColourChoice.{identifiers_of, transform_of}
 use Rattle.jpeg_streams.specs.Sound.{IsDecodedFrame}
 use Rattle.jpeg_decoder.specs.Steps.{IsRefusal, cropped_to}
-use Rattle.jpeg_streams.specs.Stream.{Metadata, is_count, picture_by}
+use Rattle.jpeg_streams.specs.Stream.{Metadata, is_decoded_count, picture_by}
 use Rattle.jpeg_streams.specs.declared.settings.Settings.{Settings}
 use Rattle.jpeg_decoder.proofs.EndedPlanes.{decoded-scales, element, mapped-or, mapped-within}
 use Rattle.jpeg_streams.proofs.Soundness.{decoded-count, decoded-sized, decoded-sources}
@@ -35,7 +35,7 @@ pub decoded-several : (f : Frame) → IsDecodedFrame f → length f.components �
     → (3 ≤ length f.components) × (length f.components ≤ 4)
 decoded-several f p other = go (length f.components) other (decoded-count f p)
   where
-    go : (n : ℕ) → n ≢ 1 → is_count n ≡ true → (3 ≤ n) × (n ≤ 4)
+    go : (n : ℕ) → n ≢ 1 → is_decoded_count n ≡ true → (3 ≤ n) × (n ≤ 4)
     go n other h = at n other (n == 1) refl (n == 3) refl (n == 4) refl h
       where
         at : (n : ℕ) → n ≢ 1 → (a : Bool) → (n == 1) ≡ a → (b : Bool) → (n == 3) ≡ b → (c : Bool) → (n == 4) ≡ c

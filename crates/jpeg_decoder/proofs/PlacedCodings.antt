@@ -17,7 +17,7 @@ use Rattle.jpeg_decoder.specs.declared.codings.Coded.{Coded}
 use Rattle.jpeg_streams.specs.InTurn.{AreApart, IsIn}
 use Rattle.jpeg_decoder.specs.Scanning.{HasCodedScale, components_in}
 use Rattle.jpeg_streams.specs.Needed.{first_of, needed}
-use Rattle.jpeg_streams.specs.Stream.{Found, Coding, needed_if, coding_of, codings_from}
+use Rattle.jpeg_streams.specs.Stream.{Found, Coding, needed_if, component_coding, codings_from}
 use Rattle.jpeg_decoder.specs.Steps.{coding_in, codings_in_force}
 use Rattle.jpeg_decoder.proofs.TakenBlocks.{places_of}
 
@@ -59,8 +59,8 @@ same-record : (x c : Coding) → coding_read x ≡ coding_read c → x ≡ c
 same-record x c e = cc
 
 placed : (found : Found) (frame : Frame) (p : Pass) (tables : Tables) (index d a : ℕ) (c : Coding)
-    → coding_of found frame p tables index d a ≡ Ok c → IsPlaced frame index c
-unfolding coding_of
+    → component_coding found frame p tables index d a ≡ Ok c → IsPlaced frame index c
+unfolding component_coding
 placed found frame p tables index d a c e =
     let one = bind-ok (needed (first_of (drop index frame.components))) (with_component found p tables d a index) c
     e in
@@ -104,7 +104,8 @@ all-placed found frame p tables [] ds acs (c ∷ codings) d a e = absurd (let n 
 all-placed found frame p tables (i ∷ cs) [] acs codings d a e = absurd (omega arith)
 all-placed found frame p tables (i ∷ cs) (x ∷ ds) [] codings d a e = absurd (omega arith)
 all-placed found frame p tables (i ∷ cs) (x ∷ ds) (y ∷ acs) codings d a e =
-    let one = bind-ok (coding_of found frame p tables i x y) (then_others found frame p tables cs ds acs) codings e in
+    let one = bind-ok (component_coding found frame p tables i x y) (then_others found frame p tables cs ds acs) codings
+    e in
     let two = bind-ok (codings_from found frame p tables cs ds acs) (in_front one.0) codings one.2 in
     subst (ArePlaced frame (i ∷ cs)) (same-list (one.0 ∷ two.0) codings two.2) (
       placed found frame p tables i x y one.0 one.1,

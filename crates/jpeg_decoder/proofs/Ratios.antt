@@ -6,7 +6,7 @@ use Rattle.jpeg_bits.specs.declared.error.Error.TheVariants.{Format, Unsupported
 use Rattle.jpeg_segments.specs.Frame.{Component, greatest}
 use Rattle.jpeg_pixels.specs.declared.upsampler.UpsampleRule.{UpsampleRule}
 use Rattle.jpeg_pixels.specs.Upsampling.{rule_of}
-use Rattle.jpeg_pixels.specs.Pictures.{Source, source_by, sources_by, sources_of, factors_of}
+use Rattle.jpeg_pixels.specs.Pictures.{Source, source_by, sources_by, sources_of, all_factors}
 use Rattle.jpeg_decoder.specs.Steps.{IsRefusal}
 
 one : (c : Component) (rule : Option UpsampleRule) (others : Result (List Source) Fault) → (others ≡ Err End → ⊥)
@@ -34,5 +34,5 @@ pub ratios-refused : (e : Error) (components : List Component) (width height : �
     → Names e (sources_of components width height) → IsRefusal e
 ratios-refused e components width height n =
     refused e (sources_of components width height)
-    (never-end (greatest (λ f. f.horizontal) (factors_of components))
-    (greatest (λ f. f.vertical) (factors_of components)) width height components) n
+    (never-end (greatest (λ f. f.horizontal) (all_factors components))
+    (greatest (λ f. f.vertical) (all_factors components)) width height components) n

@@ -22,7 +22,7 @@ use Rattle.jpeg_decoder.specs.Scanning.{HasAc, HasCodedScale, arrays_in, compone
 use Rattle.jpeg_decoder.specs.Seen.{planes_in}
 use Rattle.jpeg_streams.specs.Sound.{IsDecodedFrame}
 use Rattle.jpeg_streams.specs.Needed.{first_of}
-use Rattle.jpeg_streams.specs.Stream.{Coding, Found, codings_from, coding_of, pass_of, tables_of}
+use Rattle.jpeg_streams.specs.Stream.{Coding, Found, codings_from, component_coding, pass_of, tables_of}
 use Rattle.jpeg_decoder.specs.Steps.{AreRising, HasPlace, IsCodingOf, IsDct, IsReadable, coding_in, codings_in_force}
 use Rattle.jpeg_decoder.specs.Steps.{with_decoded}
 use Rattle.jpeg_streams.proofs.AcceptedTurns.{CodingFacts, codings-facts_from, codings-same_from, tables-same}
@@ -33,7 +33,7 @@ use Rattle.jpeg_streams.proofs.WrittenFrameScans.{at-all}
 -- What scans have given changes no table in force.
 pub codings-kept : (found : Found) (d : Decoded) (frame : Frame) (header : headers.Scan)
     → codings_in_force (with_decoded found d) frame header ≡ codings_in_force found frame header
-unfolding codings_from coding_of tables_of
+unfolding codings_from component_coding tables_of
 codings-kept found d frame header =
     ap (λ (t : Tables). codings_from (with_decoded found d) frame (pass_of header) t header.components
     header.dc_places header.ac_places)

@@ -8,7 +8,7 @@ use Rattle.jpeg_segments.specs.Frame.{Frame}
 use Rattle.jpeg_segments.specs.HuffmanTables.{Tables}
 use Rattle.jpeg_segments.specs.ScanHeader.{Scan}
 use Rattle.jpeg_decoder.specs.declared.codings.Coded.{Coded}
-use Rattle.jpeg_streams.specs.Stream.{Found, Coding, pass_of, tables_of, coding_of, codings_from}
+use Rattle.jpeg_streams.specs.Stream.{Found, Coding, pass_of, tables_of, component_coding, codings_from}
 use Rattle.jpeg_decoder.specs.Steps.{coding_in, coding_in_slot, codings_in_force}
 
 -- codings after those in front
@@ -34,7 +34,7 @@ codings_left found frame scan slot =
 one-more : (found : Found) (frame : Frame) (p : Pass) (tables : Tables) (cs ds acs : List ℕ) (slot : ℕ)
     → slot < length cs → length ds ≡ length cs → length acs ≡ length cs
     → codings_from found frame p tables (drop slot cs) (drop slot ds) (drop slot acs)
-    ≡ (coding_of found frame p tables (get_or cs slot 0) (get_or ds slot 0) (get_or acs slot 0) >>= (λ c.
+    ≡ (component_coding found frame p tables (get_or cs slot 0) (get_or ds slot 0) (get_or acs slot 0) >>= (λ c.
     codings_from found frame p tables (drop (slot + 1) cs) (drop (slot + 1) ds) (drop (slot + 1) acs) >>=
     (λ others. Ok (c ∷ others))))
 unfolding codings_from

@@ -21,7 +21,8 @@ use Rattle.jpeg_streams.specs.Scans.{Arrays, zero_arrays, arrays_at}
 use Rattle.jpeg_decoder.specs.Scanning.{vias_in, arrays_in, blocks_in, sizes_of, components_in}
 use Rattle.jpeg_decoder.specs.Seen.{planes_in}
 use Rattle.jpeg_streams.specs.Sound.{IsPlaneOf, ArePlanes}
-use Rattle.jpeg_decoder.specs.Steps.{blocks_at, coding_in, components_of, decided_planes, marks_after, scan_data}
+use Rattle.jpeg_decoder.specs.Steps.{blocks_at, coding_in, decided_planes, marks_after, scan_data}
+use Rattle.jpeg_streams.specs.Stream.{components_of}
 use Rattle.jpeg_decoder.specs.Steps.{with_decoded, with_its_plane, with_planes, IsCodingOf, AreRising}
 use Rattle.jpeg_streams.specs.Stream.{Found, Coding, arrays_before, decided, held_after, is_progressive, plane_by}
 use Rattle.jpeg_streams.specs.Stream.{put_arrays, vias_from, with_arrays, with_blocks}

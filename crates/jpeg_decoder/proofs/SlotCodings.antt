@@ -24,7 +24,7 @@ use Rattle.jpeg_decoder.specs.declared.codings.Spare.{Spare}
 use Rattle.jpeg_decoder.specs.declared.state.State.{State}
 use Rattle.jpeg_streams.specs.Scans.{no_table}
 use Rattle.jpeg_streams.specs.Needed.{first_of, needed}
-use Rattle.jpeg_streams.specs.Stream.{Found, needed_if, pass_of, tables_of, coding_of}
+use Rattle.jpeg_streams.specs.Stream.{Found, needed_if, pass_of, tables_of, component_coding}
 use Rattle.jpeg_decoder.specs.Seen.{found_in}
 use Rattle.jpeg_decoder.specs.Steps.{IsRefusal, IsSpareOf, coding_in_slot, default_ac, in_force, or_spare, table_if}
 use Rattle.jpeg_streams.proofs.Updates.{both}
@@ -199,12 +199,12 @@ pub record HasComponent (found : Found) (frame : Frame) (scan : Scan) (spare : S
 at-quantization : {found : Found} {frame : Frame} {scan : Scan} {spare : Spare} {slot place : ℕ} {c : Component}
     (p : Pass) (tables : Tables) (d a : ℕ)
     → HasComponent found frame scan spare slot place c
-    → coding_of found frame p tables (get_or scan.components slot 0) d a
+    → component_coding found frame p tables (get_or scan.components slot 0) d a
     ≡ (needed (get_or found.quantization c.factors.quantization None) >>= (λ q.
     needed_if (p.ss == 0) classes.DC (get_or tables.dc d None) >>= (λ dc.
     needed_if (nat_lt 0 p.se) classes.AC (get_or tables.ac a None) >>= (λ ac.
     Ok (record { place = get_or scan.components slot 0; component = c; quantization = q; dc = dc; ac = ac })))))
-unfolding coding_of
+unfolding component_coding
 at-quantization p tables d a h = let e = h.component in rw (← h.place, e) refl
 
 -- A quantization table that is unset.

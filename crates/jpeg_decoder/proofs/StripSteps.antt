@@ -17,12 +17,13 @@ use Rattle.jpeg_decoder.specs.declared.codings.Coded.{Coded}
 use Rattle.jpeg_streams.specs.Order.{Spot, grid_of}
 use Rattle.jpeg_streams.specs.Scans.{Arrays}
 use Rattle.jpeg_streams.specs.InTurn.{Counted, Fits, mcus_from}
-use Rattle.jpeg_streams.specs.McuRows.{zero_rows, rows_of, row_mcus, own_row_mcus, with_arrays}
+use Rattle.jpeg_streams.specs.McuRows.{zero_rows, rows_of, row_mcus, own_row_mcus, on_arrays}
 use Rattle.jpeg_decoder.specs.Scanning.{components_in, arrays_in, blocks_in, sizes_of, wide_in, across_in, down_in}
 use Rattle.jpeg_decoder.specs.Scanning.{HoldsMcu, row_in, own_rows}
 use Rattle.jpeg_decoder.specs.Steps.{coding_in}
 use Rattle.jpeg_streams.specs.Stream.{Coding}
-use Rattle.jpeg_decoder.specs.Strips.{components_of, row_at, row_sizes, samples_in, samples_of, zeros_of, with_strips}
+use Rattle.jpeg_decoder.specs.Strips.{row_at, row_sizes, samples_in, samples_of, zeros_of, with_strips}
+use Rattle.jpeg_streams.specs.Stream.{components_of}
 use Rattle.jpeg_decoder.specs.Strips.{strips_from}
 use Rattle.jpeg_decoder.proofs.FrameScans.{place-within, fits-at, row-within}
 use Rattle.jpeg_decoder.proofs.HeldBlocks.{Held, get-map, sizes-long}
@@ -36,27 +37,27 @@ one-less k high h =
 
 after : Pass → List Via → ℕ → List Coding → List (List (List Spot)) → List (List ℕ) → Counted → Reads (List (List ℕ))
 after p vias n codings rows planes r = strips_from p vias n codings rows
-    (with_strips codings r.reached.arrays planes) (with_arrays [] r)
+    (with_strips codings r.reached.arrays planes) (on_arrays [] r)
 
 strips-more : (p : Pass) (vias : List Via) (n : ℕ) (codings : List Coding) (f : ℕ
     → List (List Spot)) (k high : ℕ) (planes : List (List ℕ)) (zeros : Arrays) (old : Counted) (t : Text)
     → k < high → zeros ≡ zero_rows 1 (components_of codings)
     → strips_from p vias n codings (map f (range_with_len k (high - k))) planes old t
     ≡ read_on (after p vias n codings (map f (range_with_len (k + 1) (high - (k + 1)))) planes) (mcus_from p vias n
-    (f k) (with_arrays zeros old) t)
+    (f k) (on_arrays zeros old) t)
 unfolding strips_from after
 strips-more p vias n codings f k high planes zeros old t h e =
     ap (λ (l : List ℕ). strips_from p vias n codings (map f l) planes old t) (one-less k high h)
     ∙ ap (λ (z : Arrays). read_on (after p vias n codings (map f (range_with_len (k + 1) (high - (k + 1)))) planes)
-    (mcus_from p vias n (f k) (with_arrays z old) t)) (sym e)
+    (mcus_from p vias n (f k) (on_arrays z old) t)) (sym e)
 
 pub strips_step : (p : Pass) (vias : List Via) (n : ℕ) (codings : List Coding) (f : ℕ
     → List (List Spot)) (k high : ℕ) (planes : List (List ℕ)) (zeros : Arrays) (old new : Counted) (t u : Text)
-    → k < high → zeros ≡ zero_rows 1 (components_of codings) → mcus_from p vias n (f k) (with_arrays zeros old) t
+    → k < high → zeros ≡ zero_rows 1 (components_of codings) → mcus_from p vias n (f k) (on_arrays zeros old) t
     ≡ Ok (new, u)
     → strips_from p vias n codings (map f (range_with_len k (high - k))) planes old t
     ≡ strips_from p vias n codings (map f (range_with_len (k + 1) (high - (k + 1))))
-    (with_strips codings new.reached.arrays planes) (with_arrays [] new) u
+    (with_strips codings new.reached.arrays planes) (on_arrays [] new) u
 unfolding after
 strips_step p vias n codings f k high planes zeros old new t u h e r =
     strips-more p vias n codings f k high planes zeros old t h e
@@ -65,7 +66,7 @@ strips_step p vias n codings f k high planes zeros old new t u h e r =
 pub strips_refused : (p : Pass) (vias : List Via) (n : ℕ) (codings : List Coding) (f : ℕ
     → List (List Spot)) (k high : ℕ) (planes : List (List ℕ)) (zeros : Arrays) (old : Counted) (t : Text)
     (fault : Fault)
-    → k < high → zeros ≡ zero_rows 1 (components_of codings) → mcus_from p vias n (f k) (with_arrays zeros old) t
+    → k < high → zeros ≡ zero_rows 1 (components_of codings) → mcus_from p vias n (f k) (on_arrays zeros old) t
     ≡ Err fault
     → strips_from p vias n codings (map f (range_with_len k (high - k))) planes old t ≡ Err fault
 strips_refused p vias n codings f k high planes zeros old t fault h e r =

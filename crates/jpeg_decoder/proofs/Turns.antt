@@ -24,7 +24,7 @@ use Rattle.jpeg_streams.specs.Stream.{scan_arrays, scan_by, scan_samples, after_
 use Rattle.jpeg_streams.specs.Stream.{quantization_segment, huffman_segment, restart_segment, application_segment}
 use Rattle.jpeg_streams.specs.Stream.{skipped_segment, scan_segment, end_segment, stray_restart, line_count, segment_at}
 use Rattle.jpeg_streams.specs.Stream.{turn_at, segments_within, segments_at, told_within, told_at}
-use Rattle.jpeg_decoder.specs.Steps.{is_restart}
+use Rattle.jpeg_decoder.specs.Steps.{is_restart_marker}
 use Rattle.jpeg_streams.proofs.Shorter.{LeavesBelow, length-below, skip-below, marker-below}
 use Rattle.jpeg_streams.proofs.ShorterSegments.{sof-below, dqt-below, dht-below, sos-below, app-below, dri-below}
 use Rattle.jpeg_streams.proofs.ShorterScans.{arrays-below}
@@ -35,11 +35,11 @@ use Rattle.jpeg_decoder.proofs.PassedRestarts.{Passes, after-passes, bind-same}
 
 -- Where the image goes on, fewer bytes are left than the limit, and no restart marker is met.
 unfoldable pub GoesBelow : ℕ → Outcome Turn → Type 0
-GoesBelow limit (Ok x) = x.0.ended ≡ false → (length x.1 < limit) × (is_restart x.0.met ≡ false)
+GoesBelow limit (Ok x) = x.0.ended ≡ false → (length x.1 < limit) × (is_restart_marker x.0.met ≡ false)
 GoesBelow limit (Err fault) = Unit {0}
 
 goes-at : (limit : ℕ) (r : Outcome Turn) (x : Turn × List ℕ) → GoesBelow limit r → r ≡ Ok x → x.0.ended ≡ false
-    → (length x.1 < limit) × (is_restart x.0.met ≡ false)
+    → (length x.1 < limit) × (is_restart_marker x.0.met ≡ false)
 unfolding GoesBelow
 goes-at limit r x h e = rw e at h
 
@@ -69,13 +69,13 @@ goes-needs limit (Ok x) f q = q x
 goes-needs limit (Err fault) f q = goes-err limit fault
 
 goes-passes : (limit : ℕ) (r : Outcome (Option Marker)) (f : Option Marker × List ℕ → Outcome Turn) → Passes limit r
-    → ((x : Option Marker × List ℕ) → length x.1 < limit → is_restart x.0 ≡ false → GoesBelow limit (f x))
+    → ((x : Option Marker × List ℕ) → length x.1 < limit → is_restart_marker x.0 ≡ false → GoesBelow limit (f x))
     → GoesBelow limit (r >>= f)
 unfolding Passes
 goes-passes limit (Ok x) f p q = q x p.0 p.1
 goes-passes limit (Err fault) f p q = goes-err limit fault
 
-goes-ok : (limit : ℕ) (t : Turn) (rest : List ℕ) → length rest < limit → is_restart t.met ≡ false
+goes-ok : (limit : ℕ) (t : Turn) (rest : List ℕ) → length rest < limit → is_restart_marker t.met ≡ false
     → GoesBelow limit (Ok (t, rest))
 unfolding GoesBelow
 goes-ok limit t rest h e = λ _. (h, e)
@@ -185,7 +185,7 @@ lines-goes limit LaterScan = goes-err limit _
 lines-goes limit Elsewhere = goes-err limit _
 
 segment-goes : (limit : ℕ) (m : Marker) (before : Before) (found : Found) (bytes : List ℕ) → length bytes ≤ limit
-    → (is_restart (Some m) ≡ true → length bytes < limit) → GoesBelow limit (segment_at m before found bytes)
+    → (is_restart_marker (Some m) ≡ true → length bytes < limit) → GoesBelow limit (segment_at m before found bytes)
 unfolding segment_at
 segment-goes limit (SOF number) before found bytes h r = frame-goes limit number found bytes h
 segment-goes limit DQT before found bytes h r = quantization-goes limit found bytes h
@@ -206,7 +206,7 @@ segment-goes limit (JPGn n) before found bytes h r = goes-err limit _
 segment-goes limit TEM before found bytes h r = goes-err limit _
 segment-goes limit RES before found bytes h r = goes-err limit _
 
-turn-goes : (before : Before) (found : Found) (met : Option Marker) (bytes : List ℕ) → is_restart met ≡ false
+turn-goes : (before : Before) (found : Found) (met : Option Marker) (bytes : List ℕ) → is_restart_marker met ≡ false
     → GoesBelow (length bytes) (turn_at before found met bytes)
 unfolding turn_at
 turn-goes before found (Some m) bytes none =
@@ -218,8 +218,8 @@ turn-goes before found None bytes none =
 -- A turn after which the image goes on takes at least one byte, where no restart marker is met; and none is met after
 -- it.
 pub turn-takes : (before : Before) (found : Found) (met : Option Marker) (bytes : List ℕ) (r : Turn × List ℕ)
-    → is_restart met ≡ false → turn_at before found met bytes ≡ Ok r → r.0.ended ≡ false
-    → (length r.1 < length bytes) × (is_restart r.0.met ≡ false)
+    → is_restart_marker met ≡ false → turn_at before found met bytes ≡ Ok r → r.0.ended ≡ false
+    → (length r.1 < length bytes) × (is_restart_marker r.0.met ≡ false)
 turn-takes before found met bytes r none e =
     goes-at (length bytes) (turn_at before found met bytes) r (turn-goes before found met bytes none) e
 
@@ -240,7 +240,7 @@ turn-same (Err fault) found f g h = refl
 
 -- more turns than bytes change nothing
 turns-enough : (m n : ℕ) (header : Bool) (before : Before) (found : Found) (met : Option Marker) (bytes : List ℕ)
-    → is_restart met ≡ false → length bytes < m → length bytes < n
+    → is_restart_marker met ≡ false → length bytes < m → length bytes < n
     → segments_within m header before found met bytes ≡ segments_within n header before found met bytes
 unfolding segments_within
 turns-enough zero n header before found met bytes none p q = absurd (omega arith)
@@ -254,7 +254,7 @@ turns-enough (suc m) (suc n) header before found met bytes none p q =
     turns-enough m n header t.0.before t.0.found t.0.met t.1 took.1 (omega arith) (omega arith))))
 
 told-enough : (m n : ℕ) (header : Bool) (before : Before) (found : Found) (met : Option Marker) (bytes : List ℕ)
-    → is_restart met ≡ false → length bytes < m → length bytes < n
+    → is_restart_marker met ≡ false → length bytes < m → length bytes < n
     → told_within m header before found met bytes ≡ told_within n header before found met bytes
 unfolding told_within
 told-enough zero n header before found met bytes none p q = absurd (omega arith)
@@ -269,7 +269,7 @@ told-enough (suc m) (suc n) header before found met bytes none p q =
 
 -- the segments are one turn and then the segments after it
 pub segments-turn : (header : Bool) (before : Before) (found : Found) (met : Option Marker) (bytes : List ℕ)
-    → is_restart met ≡ false
+    → is_restart_marker met ≡ false
     → segments_at header before found met bytes ≡ (if header && is_some found.frame then Ok (found, bytes) else
     (turn_at before found met bytes >>= λ (t : Turn × List ℕ). if t.0.ended then Ok (t.0.found, t.1)
     else segments_at header t.0.before t.0.found t.0.met t.1))
@@ -283,7 +283,7 @@ segments-turn header before found met bytes none =
     (omega arith))))
 
 pub told-turn : (header : Bool) (before : Before) (found : Found) (met : Option Marker) (bytes : List ℕ)
-    → is_restart met ≡ false
+    → is_restart_marker met ≡ false
     → told_at header before found met bytes ≡ (if header && is_some found.frame then found else
     elim (turn_at before found met bytes) as (λ _. Found) [
       | Err fault ↦ found
@@ -334,14 +334,14 @@ unfolding told_at told_within
 told-end header before found met bytes rest t p e q = rw (p, q, e) refl
 
 pub segments-next : (header : Bool) (before : Before) (found : Found) (met : Option Marker) (bytes rest : List ℕ)
-    (t : Turn) → is_restart met ≡ false → (header && is_some found.frame) ≡ false → t.ended ≡ false
+    (t : Turn) → is_restart_marker met ≡ false → (header && is_some found.frame) ≡ false → t.ended ≡ false
     → turn_at before found met bytes ≡ Ok (t, rest) → segments_at header before found met bytes ≡ segments_at header
     t.before t.found t.met rest
 segments-next header before found met bytes rest t none p e q =
     segments-turn header before found met bytes none ∙ rw (p, q, e) refl
 
 pub told-next : (header : Bool) (before : Before) (found : Found) (met : Option Marker) (bytes rest : List ℕ) (t : Turn)
-    → is_restart met ≡ false → (header && is_some found.frame) ≡ false → t.ended ≡ false
+    → is_restart_marker met ≡ false → (header && is_some found.frame) ≡ false → t.ended ≡ false
     → turn_at before found met bytes ≡ Ok (t, rest) → told_at header before found met bytes ≡ told_at header t.before
     t.found t.met rest
 told-next header before found met bytes rest t none p e q =

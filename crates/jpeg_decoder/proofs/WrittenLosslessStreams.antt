@@ -26,7 +26,7 @@ use Rattle.jpeg_segments.proofs.HeaderSegments.{sof-read}
 use Rattle.jpeg_segments.proofs.HeaderRules.{header-rules}
 use Rattle.jpeg_segments.specs.ScanHeader.{scan_of}
 use Rattle.std.proofs.lemmas.List.Elements.{recursion_from_All}
-use Rattle.jpeg_lossless.specs.Written.{marker}
+use Rattle.jpeg_bits.specs.Written.{marker}
 use Rattle.jpeg_streams.specs.declared.before.Before.{Before}
 use Rattle.jpeg_streams.specs.declared.before.Before.TheVariants.{Elsewhere}
 use Rattle.jpeg_streams.specs.declared.settings.Settings.{Settings}
@@ -39,7 +39,8 @@ use Rattle.jpeg_streams.specs.Stream.{skipped_segment, end_segment, start_at, af
 use Rattle.jpeg_streams.specs.Stream.{scan_segment, segment_at, turn_at, segments_within, segments_at, header_at}
 use Rattle.jpeg_streams.specs.Stream.{picture_by_process, picture_of, rest_at, meaning, samples_picture}
 use Rattle.jpeg_streams.specs.Stream.{sized_meaning, sized_to, told_of}
-use Rattle.jpeg_streams.specs.WrittenLossless.{IsIn, Samples, Stands, Writes, WritesSamples, WritesScan, closed}
+use Rattle.jpeg_streams.specs.WrittenLossless.{Samples, StandsInLossless, Writes, WritesSamples, WritesScan, closed}
+use Rattle.jpeg_streams.specs.InTurn.{IsIn}
 use Rattle.jpeg_streams.specs.WrittenLossless.{said_after_scan, scan, segment}
 use Rattle.jpeg_streams.proofs.AcceptedTurns.{then-ok, stands-next}
 use Rattle.jpeg_streams.proofs.LosslessFrames.{IsShaped, header-shaped, lossless-accepted}
@@ -130,7 +131,7 @@ all-in P (k ∷ ks) sent h e = (one-held P k sent h e.0, all-in P ks sent h e.1)
 -- ---- segments
 
 frame-turn : (said : Found) (decided : List (Option (List ℕ))) (number : ℕ) (h : FrameHeader) (rest : List ℕ)
-    → Stands said (Header number h)
+    → StandsInLossless said (Header number h)
     → frame_segment number (and_samples said decided)
     (sized (payload_of (Header number h)) ++ rest)
     ≡ Ok (onward (and_samples (found_after said (Header number h)) decided), rest)
@@ -145,7 +146,7 @@ frame-turn said decided number h rest may =
     (lossless-accepted number h may.0.1 may.1))
 
 segment-read : (before : Before) (said : Found) (decided : List (Option (List ℕ))) (s : Segment) (rest : List ℕ)
-    → Stands said s
+    → StandsInLossless said s
     → segment_at (marker_for s) before (and_samples said decided)
     (sized (payload_of s) ++ rest) ≡ Ok (onward (and_samples (found_after said s) decided), rest)
 unfolding segment_at quantization_segment huffman_segment restart_segment application_segment skipped_segment
@@ -270,7 +271,7 @@ nothing-said = record { tables = no-tables; shaped = λ frame e. absurd (let n :
 pub some-same : (a b : Frame) → ◌≡◌ {A = Option Frame} (Some a) (Some b) → a ≡ b
 some-same a b e = cc
 
-segment-shaped : (said : Found) (s : Segment) → Stands said s → IsSaid said → (frame : Frame)
+segment-shaped : (said : Found) (s : Segment) → StandsInLossless said s → IsSaid said → (frame : Frame)
     → (found_after said s).frame ≡ Some frame → IsShaped frame
 segment-shaped said (Quantization ts) may h frame e = h.shaped frame e
 segment-shaped said (Huffman ts) may h frame e = h.shaped frame e
@@ -281,7 +282,7 @@ segment-shaped said (Header number header) may h frame e =
     subst IsShaped (some-same (frame_written number header) frame e) (header-shaped number header may.0.1
     (lossless-accepted number header may.0.1 may.1))
 
-segment-said : (said : Found) (s : Segment) → Stands said s → IsSaid said → IsSaid (found_after said s)
+segment-said : (said : Found) (s : Segment) → StandsInLossless said s → IsSaid said → IsSaid (found_after said s)
 segment-said said s may h =
     record {
       tables = segment-tables said said s may h.tables;
@@ -382,7 +383,7 @@ closed-read samples rest turns said sent frame fill framed lossless sends before
     }
 
 segment-next : (samples : Samples) (rest : List ℕ) (turns : ℕ) (said final : Found) (sent : List ℕ) (fill : ℕ)
-    (s : Segment) (more : List ℕ) → Stands said s
+    (s : Segment) (more : List ℕ) → StandsInLossless said s
     → Reads samples rest turns (found_after said s) final sent more
     → Reads samples rest (suc turns) said final sent (marker fill (code_of s) (sized (payload_of s) ++ more))
 segment-next samples rest turns said final sent fill s more may again before decided met all is four held stands =
@@ -534,7 +535,7 @@ samples-meant settings samples bytes rest final frame w framed within =
 some-none : {P : Type 0} (f : Frame) (o : Option Frame) → o ≡ Some f → o ≡ None → P
 some-none f o e g = absurd (let n : ⊥ = cc in n)
 
-frame-stays : (said : Found) (s : Segment) (frame : Frame) → Stands said s → said.frame ≡ Some frame
+frame-stays : (said : Found) (s : Segment) (frame : Frame) → StandsInLossless said s → said.frame ≡ Some frame
     → (found_after said s).frame ≡ Some frame
 frame-stays said (Quantization ts) frame may e = e
 frame-stays said (Huffman ts) frame may e = e

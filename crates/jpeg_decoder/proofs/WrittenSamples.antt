@@ -22,12 +22,13 @@ use Rattle.jpeg_segments.proofs.Fields.{nibbles-low}
 use Rattle.jpeg_segments.proofs.HeaderRules.{header-rules}
 use Rattle.jpeg_segments.proofs.HeaderSegments.{sos-read}
 use Rattle.jpeg_lossless.specs.Codings.{part_by}
-use Rattle.jpeg_lossless.specs.Differences.{Part, lines_in, mcu_tables, strands, tables_of}
+use Rattle.jpeg_lossless.specs.Differences.{Part, lines_in, mcu_tables, strands, row_tables}
 use Rattle.jpeg_lossless.specs.Prediction.{start_of}
 use Rattle.jpeg_lossless.specs.Scans.{Way, all_above, is_of_rows, is_one_interval, mcu_size, planes_of}
 use Rattle.jpeg_lossless.specs.Scans.{rows_of_interval, scan_at, shifted}
 use Rattle.jpeg_lossless.specs.Written.{AreGrids, AreLines, AreSamples, AreTables, HaveDifferences, IsMarker}
-use Rattle.jpeg_lossless.specs.Written.{WritesIntervals, differences_of, marker}
+use Rattle.jpeg_lossless.specs.Written.{WritesIntervals, differences_of}
+use Rattle.jpeg_bits.specs.Written.{marker}
 use Rattle.jpeg_lossless.specs.Written.WritesIntervals.{last, another}
 use Rattle.jpeg_lossless.proofs.ReadBack.{reads-scan}
 use Rattle.jpeg_streams.specs.LosslessScans.{LosslessCoding, lossless_codings, tables_in, with_samples}
@@ -256,10 +257,10 @@ unfolding mcu_tables
 parts-tables wide high [] h = tt
 parts-tables wide high (t ∷ tables) h = (h.0, parts-tables wide high tables h.1)
 
-all-tables : (n : ℕ) (tables : List Table) → AreTables tables → AreTables (tables_of n tables)
-unfolding tables_of
+all-tables : (n : ℕ) (tables : List Table) → AreTables tables → AreTables (row_tables n tables)
+unfolding row_tables
 all-tables zero tables h = tt
-all-tables (suc n) tables h = tables-append tables (tables_of n tables) h (all-tables n tables h)
+all-tables (suc n) tables h = tables-append tables (row_tables n tables) h (all-tables n tables h)
 
 have-count : (said : Found) (choices : List Choice) (tables : List Table) → HaveTables said choices tables
     → length tables ≡ length choices

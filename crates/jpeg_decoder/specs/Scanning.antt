@@ -14,7 +14,7 @@ use Rattle.jpeg_decoder.specs.declared.codings.Coded.{Coded}
 use Rattle.jpeg_decoder.specs.declared.scans.Interval.{Interval}
 use Rattle.jpeg_decoder.specs.declared.scans.Scan.{Scan}
 use Rattle.jpeg_streams.specs.Order.{Spot, mcu_spots}
-use Rattle.jpeg_streams.specs.Layout.{part_of}
+use Rattle.jpeg_streams.specs.Layout.{spots_in_part}
 use Rattle.jpeg_bits.specs.BlockView.{to_block, pass_in}
 
 -- the ways of a scan's slots, from one on
@@ -77,7 +77,7 @@ abbrev pub down_in : Coded → ℕ
 down_in c = c.component.now.vertical_sampling_factor
 
 abbrev pub part_in : ℕ → ℕ → Coded → List Spot
-part_in slot start c = part_of slot (wide_in c) (across_in c) start (down_in c)
+part_in slot start c = spots_in_part slot (wide_in c) (across_in c) start (down_in c)
 
 -- each of the lines that are left lies within this many blocks
 abbrev pub AreWithin : ℕ → ℕ → ℕ → ℕ → ℕ → Type 0

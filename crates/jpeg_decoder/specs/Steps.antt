@@ -33,7 +33,15 @@ use Rattle.jpeg_decoder.specs.declared.codings.Spare.{Spare}
 use Rattle.jpeg_streams.specs.Scans.{no_table}
 use Rattle.jpeg_bits.specs.declared.codes.HuffmanTableClass.TheVariants as classes
 use Rattle.jpeg_streams.specs.Needed.{first_of, needed}
-use Rattle.jpeg_streams.specs.Stream.{Found, Turn, Coding, pass_of, tables_of, coding_of}
+use Rattle.jpeg_streams.specs.Stream.{
+  components_of,
+  Found,
+  Turn,
+  Coding,
+  pass_of,
+  tables_of,
+  component_coding,
+}
 use Rattle.jpeg_streams.specs.Stream.{codings_from, after_restarts, finished_by, none_finished}
 use Rattle.jpeg_streams.specs.Stream.{decided, vias_from, arrays_before, with_arrays, held_after}
 use Rattle.jpeg_streams.specs.Stream.{after_samples, scan_samples}
@@ -55,9 +63,9 @@ turn_of s step =
 -- ---- after a scan
 
 -- whether a restart marker is met
-abbrev pub is_restart : Option Marker → Bool
-is_restart (Some (RST n)) = true
-is_restart _ = false
+abbrev pub is_restart_marker : Option Marker → Bool
+is_restart_marker (Some (RST n)) = true
+is_restart_marker _ = false
 
 -- the marker after a scan, where all restart markers are passed over
 unfoldable pub after_all : Option Marker → List ℕ → Outcome (Option Marker)
@@ -102,7 +110,8 @@ coding_in c =
 -- the component in a slot of a scan
 abbrev pub coding_in_slot : Found → Frame → headers.Scan → ℕ → Result Coding Fault
 coding_in_slot found frame scan slot =
-    coding_of found frame (pass_of scan) (tables_of found scan) (get_or scan.components slot 0)
+    component_coding found frame (pass_of scan) (tables_of found scan)
+    (get_or scan.components slot 0)
     (get_or scan.dc_places slot 0) (get_or scan.ac_places slot 0)
 
 -- all of them
@@ -157,9 +166,6 @@ unfoldable pub with_planes : Pass → List Coding → List (List ℕ) → Found 
 with_planes p (c ∷ codings) (plane ∷ planes) found =
     with_planes p codings planes (with_its_plane p c.place plane found)
 with_planes p _ _ found = found
-
-abbrev pub components_of : List Coding → List Component
-components_of codings = map (λ c. c.component) codings
 
 -- the blocks of a scan's components, of those of a frame
 abbrev pub blocks_at : List Coding → Arrays → Arrays

@@ -17,13 +17,10 @@ use Rattle.jpeg_streams.specs.Order.{Spot, spots_of, mcu_size}
 use Rattle.jpeg_streams.specs.Scans.{Arrays, zero_arrays, arrays_at}
 use Rattle.jpeg_streams.specs.Rasters.{in_raster}
 use Rattle.jpeg_streams.specs.InTurn.{Counted, mcus_from, counted_at_start}
-use Rattle.jpeg_streams.specs.McuRows.{zero_rows, rows_of, own_row_mcus, row_mcus, with_arrays}
-use Rattle.jpeg_streams.specs.Stream.{Coding, plane_by}
+use Rattle.jpeg_streams.specs.McuRows.{zero_rows, rows_of, own_row_mcus, row_mcus, on_arrays}
+use Rattle.jpeg_streams.specs.Stream.{components_of, Coding, plane_by}
 use Rattle.jpeg_decoder.specs.declared.codings.Coded.{Coded}
 use Rattle.jpeg_decoder.specs.Scanning.{down_in, wide_in}
-
-abbrev pub components_of : List Coding → List Component
-components_of codings = map (λ c. c.component) codings
 
 -- the planes of a scan's components by their blocks
 unfoldable pub planes_by : List Coding → Arrays → List (List ℕ)
@@ -60,9 +57,9 @@ unfoldable pub strips_from : Pass → List Via → ℕ → List Coding → List 
     → List (List ℕ) → Counted → Reads (List (List ℕ))
 strips_from p vias n codings [] planes old = gives planes
 strips_from p vias n codings (mcus ∷ rows) planes old =
-    mcus_from p vias n mcus (with_arrays (zero_rows 1 (components_of codings)) old) >>= (λ r.
+    mcus_from p vias n mcus (on_arrays (zero_rows 1 (components_of codings)) old) >>= (λ r.
     strips_from p vias n codings rows (with_strips codings r.reached.arrays planes)
-    (with_arrays [] r))
+    (on_arrays [] r))
 
 -- a scan from zeros, row by row of MCUs
 unfoldable pub planes_by_rows : Pass → List Via → ℕ → Frame → List Coding → List ℕ

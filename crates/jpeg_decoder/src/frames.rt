@@ -2,7 +2,7 @@
 ghost use Rattle.jpeg_pixels.specs.Pictures.{sources_of};
 ghost use Rattle.std.specs.Prelude.{◌≡◌, Ok, MatchResult, ◌≤◌, length, map, IsOk};
 ghost use Rattle.jpeg_bits.specs.Reading.{Names};
-ghost use Rattle.jpeg_streams.specs.Stream.{is_precision, is_arithmetic, accepted};
+ghost use Rattle.jpeg_streams.specs.Stream.{is_decoded_precision, is_arithmetic, accepted};
 ghost use Rattle.jpeg_segments.specs.Frame.{AllHaveSampling};
 ghost use Rattle.jpeg_segments.specs.FrameView.{component_in, frame_in};
 ghost use Rattle.jpeg_decoder.specs.Steps.{IsRefusal};
@@ -24,7 +24,7 @@ fn is_arithmetic(coding: EntropyCoding) -> bool
 
 /// Whether frames of a process are decoded at a precision: 8 bits, or in a lossless frame 2 to 16.
 fn is_precision(process: CodingProcess, precision: u8) -> bool
-    ensures { result ≡ is_precision process precision }
+    ensures { result ≡ is_decoded_precision process precision }
 {
     match process {
         CodingProcess::DctSequential | CodingProcess::DctProgressive => precision == 8,

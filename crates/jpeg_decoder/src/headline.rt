@@ -6,7 +6,7 @@ ghost use Rattle.std.specs.List.{AllByRecursion};
 ghost use Rattle.jpeg_bits.specs.Passes.{Block};
 ghost use Rattle.jpeg_segments.specs.Frame.{Frame};
 ghost use Rattle.jpeg_segments.specs.WrittenSegments.{FrameHeader, IsFrame};
-ghost use Rattle.jpeg_streams.specs.Output.{default_settings, line_of, output_of};
+ghost use Rattle.jpeg_streams.specs.Output.{default_settings, header_line_of, output_of};
 ghost use Rattle.jpeg_streams.specs.SaidSegments.{HasPicture};
 ghost use Rattle.jpeg_streams.specs.Pixels.{info_of};
 ghost use Rattle.jpeg_streams.specs.ArrayPictures.{meaning_of_array, picture_of_array, Takes};
@@ -101,7 +101,7 @@ pub fn images_are_printed()
         (picture : List ℕ)
         × (picture_of_array default_settings final array last ≡ Ok picture)
         × (output_of (image ++ rest)
-        ≡ Some (line_of (option_map info_of final.frame) ++ picture)) }
+        ≡ Some (header_line_of (option_map info_of final.frame) ++ picture)) }
 {}
 
 /// A block of which every bit was sent is itself.

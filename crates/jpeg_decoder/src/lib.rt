@@ -11,7 +11,8 @@
 //!     let exif = decoder.exif_data();     // also xmp_data and icc_profile
 //!
 //! `read_info` reads the header alone, which bounds the memory that a picture would need before any
-//! of it is taken (`set_max_decoding_buffer_size` refuses larger ones). `scale` asks for the picture
+//! of it is taken (`set_max_decoding_buffer_size` refuses larger ones). `scale` asks for the
+//! picture
 //! at 1/8, 1/4, 1/2 or all of its size. [`run::run`] is a whole program: from a reader to a line of
 //! text and the pixels on a writer.
 //!

@@ -4,7 +4,7 @@ ghost use Rattle.jpeg_bits.specs.Reading.{Answers};
 ghost use Rattle.jpeg_bits.specs.Entropy.{Takes};
 ghost use Rattle.jpeg_bits.specs.Intervals as intervals;
 ghost use Rattle.jpeg_streams.specs.InTurn.{restart_from};
-ghost use Rattle.jpeg_decoder.specs.Steps.{is_restart, after_all};
+ghost use Rattle.jpeg_decoder.specs.Steps.{is_restart_marker, after_all};
 
 use jpeg_bits::error::{Result, format_error};
 use jpeg_bits::huffman::HuffmanDecoder;
@@ -44,7 +44,7 @@ pub fn read_restart<R: Read + Drop>(
 
 /// Whether a restart marker was met.
 fn is_restart(met: Option<Marker>) -> bool
-    ensures { result ≡ is_restart met }
+    ensures { result ≡ is_restart_marker met }
 {
     matches!(met, Some(Marker::RST(_)))
 }

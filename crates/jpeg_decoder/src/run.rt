@@ -4,7 +4,8 @@ ghost use Rattle.std.specs.Prelude.{IsSomeAnd, OnOk, OnErr, IfErr, IfOk, IsErr, 
 ghost use Rattle.jpeg_streams.specs.States.{IsOfBytes};
 ghost use Rattle.std.specs.Io.KnownBytes.{Appends, Keeps};
 ghost use Rattle.jpeg_bits.specs.declared.error.Error.TheVariants.{OutOfMemory};
-ghost use Rattle.jpeg_streams.specs.Output.{output_of, line_of, name_of, Tells, TakesBeginning};
+ghost use Rattle.jpeg_streams.specs.Output.{output_of, header_line_of, name_of, Tells};
+ghost use Rattle.jpeg_streams.specs.Output.{TakesBeginning};
 ghost use Rattle.jpeg_streams.specs.Output.{IsOutside, IsOutsideOrMemory, NamesOrOutside};
 ghost use Rattle.jpeg_streams.specs.PrintedImages.{PrintsImages};
 
@@ -59,7 +60,7 @@ fn format_name(format: PixelFormat) -> &'static str
 
 /// The header line: width, height and format, with spaces between, and a line feed.
 fn info_line(alloc: Global, info: ImageInfo) -> std::result::Result<String, AllocError>
-    ensures { IfOk result (λ line. string_bytes line ≡ line_of (Some info)) }
+    ensures { IfOk result (λ line. string_bytes line ≡ header_line_of (Some info)) }
 {
     let width = info.width;
     let height = info.height;
@@ -69,7 +70,7 @@ fn info_line(alloc: Global, info: ImageInfo) -> std::result::Result<String, Allo
 
 /// The header line, where there is a frame.
 fn header_line(alloc: Global, info: Option<ImageInfo>) -> std::result::Result<String, AllocError>
-    ensures { IfOk result (λ line. string_bytes line ≡ line_of info) }
+    ensures { IfOk result (λ line. string_bytes line ≡ header_line_of info) }
 {
     match info {
         Some(info) => info_line(alloc, info),

@@ -11,7 +11,7 @@ ghost use Rattle.jpeg_streams.specs.InTurn.{mcus_from, scan_from, Fits, AreArray
 ghost use Rattle.jpeg_streams.specs.Order.{mcu_spots, spots_of, mcu_size, grid_of};
 ghost use Rattle.jpeg_segments.specs.FrameView.{frame_in};
 ghost use Rattle.jpeg_streams.specs.Scans.{Arrays, arrays_at};
-ghost use Rattle.jpeg_streams.specs.Layout.{line_of, part_of};
+ghost use Rattle.jpeg_streams.specs.Layout.{spots_in_line, spots_in_part};
 ghost use Rattle.jpeg_bits.specs.Intervals.{predictors_at_start};
 ghost use Rattle.jpeg_bits.specs.BlockView.{IsPass};
 ghost use Rattle.jpeg_decoder.specs.Scanning.{HasAc, HasCodedScale, IsHeld, AreWithin, HoldsMcu};
@@ -148,7 +148,8 @@ fn read_line<R: Read + Drop>(
     ensures left { interval.new.left ≡ interval.old.left }
     ensures number { interval.new.number ≡ interval.old.number }
     ensures turns { Takes (λ _. reached interval.new (arrays_in arrays.new.items))
-        (turns_from (scan_pass scan.now) (scan_vias scan.now) (line_of start.slot start.index count)
+        (turns_from (scan_pass scan.now) (scan_vias scan.now) (spots_in_line start.slot start.index
+        count)
         (reached interval.old (arrays_in arrays.old.items)))
         interval.old.decoder source.old (outcome_of result interval.new.refusal)
         interval.new.decoder source.new }

@@ -1,7 +1,7 @@
 //! The differences of a lossless scan (T.81, H.1.2.2), read from its entropy-coded bits.
 ghost use Rattle.std.specs.Prelude.{◌≡◌, ◌+◌, ◌*◌, ◌≤◌, ◌<◌, map, length, OnOk};
 ghost use Rattle.jpeg_bits.specs.Entropy.{Takes};
-ghost use Rattle.jpeg_lossless.specs.Differences.{difference, differences, tables_of, onto};
+ghost use Rattle.jpeg_lossless.specs.Differences.{difference, differences, row_tables, onto};
 
 use jpeg_bits::error::{Result, format_error};
 use jpeg_bits::huffman::{HuffmanDecoder, HuffmanTable};
@@ -69,7 +69,7 @@ pub(crate) fn read_row<R: Read + Drop>(
 ) -> Result<()>
     ensures long { OnOk result (length row.new.items ≡ count * length tables.now) }
     ensures reads { Takes (λ _. row.new.items)
-        (differences (tables_of count (map (λ t. t.now) tables.now)))
+        (differences (row_tables count (map (λ t. t.now) tables.now)))
         decoder.old source.old result decoder.new source.new }
 {
     row.clear();

@@ -3,12 +3,13 @@ ghost use Rattle.std.specs.Prelude.{◌≡◌, ◌≤◌, ◌<◌, ◌*◌, IfSo
 ghost use Rattle.std.specs.Prelude.{length, map, replicate, []};
 ghost use Rattle.jpeg_bits.specs.Reading.{Answers};
 ghost use Rattle.jpeg_bits.specs.Entropy.{Takes};
-ghost use Rattle.jpeg_lossless.specs.Rows.{via_of, planes_from};
+ghost use Rattle.jpeg_lossless.specs.Rows.{via_of, planes_after_rows};
 ghost use Rattle.jpeg_lossless.specs.PlanesRead.{planes_interval, planes_intervals, planes_scan};
-ghost use Rattle.jpeg_lossless.specs.Scans.{is_restart, is_of_rows, rows_of_interval};
+ghost use Rattle.jpeg_lossless.specs.Scans.{is_of_rows, rows_of_interval};
+ghost use Rattle.jpeg_bits.specs.Intervals.{is_restart};
 ghost use Rattle.jpeg_lossless.specs.Scans.{shifted, scan_at};
 ghost use Rattle.jpeg_lossless.specs.Codings.{way_by};
-ghost use Rattle.jpeg_lossless.specs.Pictures.{AreWhole};
+ghost use Rattle.jpeg_lossless.specs.Pictures.{AreOfSize};
 
 use crate::differences::read_row;
 use crate::lines::Prediction;
@@ -78,9 +79,9 @@ impl LosslessScan {
     ghost use Rattle.std.specs.Prelude.{◌≡◌, ℕ, OnOk, ◌≤◌, ◌<◌, ◌+◌, ◌*◌, length, map, true};
     ghost use Rattle.jpeg_bits.specs.Reading.{Answers};
     ghost use Rattle.jpeg_bits.specs.Entropy.{Takes};
-    ghost use Rattle.jpeg_lossless.specs.Rows.{via_of, planes_from};
+    ghost use Rattle.jpeg_lossless.specs.Rows.{via_of, planes_after_rows};
     ghost use Rattle.jpeg_lossless.specs.PlanesRead.{planes_interval, planes_intervals};
-    ghost use Rattle.jpeg_lossless.specs.Pictures.{AreWhole};
+    ghost use Rattle.jpeg_lossless.specs.Pictures.{AreOfSize};
 
     /// Reads `count` rows of MCUs, and appends their samples to the planes.
     fn read_rows<R: Read + Drop>(
@@ -95,11 +96,11 @@ impl LosslessScan {
         requires point { coding.point_transform < coding.precision }
         requires precision { coding.precision ≤ 16 }
         ensures count { length self.new.planes.items ≡ length self.old.planes.items }
-        ensures long { (k : ℕ) → AreWhole k (map (λ v. v.items) self.old.planes.items)
-            → OnOk result (AreWhole (k + count * coding.wide)
+        ensures long { (k : ℕ) → AreOfSize k (map (λ v. v.items) self.old.planes.items)
+            → OnOk result (AreOfSize (k + count * coding.wide)
             (map (λ v. v.items) self.new.planes.items)) }
         ensures reads { Takes (λ _. map (λ v. v.items) self.new.planes.items)
-            (planes_from (via_of coding (map (λ t. t.now) tables.now)) true count
+            (planes_after_rows (via_of coding (map (λ t. t.now) tables.now)) true count
             (map (λ v. v.items) self.old.planes.items))
             decoder.old source.old result decoder.new source.new }
     {
@@ -139,8 +140,8 @@ impl LosslessScan {
         requires point { coding.point_transform < coding.precision }
         requires precision { coding.precision ≤ 16 }
         ensures count { length self.new.planes.items ≡ length self.old.planes.items }
-        ensures long { (k : ℕ) → AreWhole k (map (λ v. v.items) self.old.planes.items)
-            → OnOk result (AreWhole (k + count * coding.wide)
+        ensures long { (k : ℕ) → AreOfSize k (map (λ v. v.items) self.old.planes.items)
+            → OnOk result (AreOfSize (k + count * coding.wide)
             (map (λ v. v.items) self.new.planes.items)) }
         ensures answers { Answers (λ m. (map (λ v. v.items) self.new.planes.items, m))
             (planes_interval (via_of coding (map (λ t. t.now) tables.now)) count
@@ -166,8 +167,8 @@ impl LosslessScan {
         requires point { coding.point_transform < coding.precision }
         requires precision { coding.precision ≤ 16 }
         ensures count { length self.new.planes.items ≡ length self.old.planes.items }
-        ensures long { (k : ℕ) → AreWhole k (map (λ v. v.items) self.old.planes.items)
-            → OnOk result (AreWhole (k + coding.high * coding.wide)
+        ensures long { (k : ℕ) → AreOfSize k (map (λ v. v.items) self.old.planes.items)
+            → OnOk result (AreOfSize (k + coding.high * coding.wide)
             (map (λ v. v.items) self.new.planes.items)) }
         ensures answers { Answers (λ m. (map (λ v. v.items) self.new.planes.items, m))
             (planes_intervals (coding.high + 1) (via_of coding (map (λ t. t.now) tables.now))
@@ -240,7 +241,7 @@ fn read_planes<R: Read + Drop>(
     requires precision { coding.precision ≤ 16 }
     ensures count { IfOk result (λ r. length r.0.items ≡ length tables.now) }
     ensures long { IfOk result
-        (λ r. AreWhole (coding.high * coding.wide) (map (λ v. v.items) r.0.items)) }
+        (λ r. AreOfSize (coding.high * coding.wide) (map (λ v. v.items) r.0.items)) }
     ensures reads { Answers (λ r. (map (λ v. v.items) r.0.items, r.1))
         (planes_scan (via_of coding (map (λ t. t.now) tables.now))
         coding.high coding.restart_interval coding.point_transform)
@@ -282,7 +283,7 @@ pub fn read_scan<R: Read + Drop>(
     requires precision { coding.precision ≤ 16 }
     ensures count { IfOk result (λ r. length r.0.items ≡ length tables.now) }
     ensures long { IfOk result
-        (λ r. AreWhole (coding.wide * coding.high) (map (λ v. v.items) r.0.items)) }
+        (λ r. AreOfSize (coding.wide * coding.high) (map (λ v. v.items) r.0.items)) }
     ensures reads { Answers (λ r. (map (λ v. v.items) r.0.items, r.1))
         (scan_at (way_by coding (map (λ t. t.now) tables.now))
         coding.high coding.restart_interval coding.point_transform)

@@ -6,7 +6,8 @@ use Rattle.std.proofs.Math.Logic.{⊎_elim}
 use Rattle.std.proofs.lemmas.Bool.{cases_lt, eqb-true}
 use Rattle.std.proofs.lemmas.Int.{ints, int_wrap_fits}
 use Rattle.std.specs.Int.{w32, int_shr, int_wrap}
-use Rattle.jpeg_pixels.specs.Samples.{all_below, is_zero_at, is_flat_column, dequantized, transformed, column_value}
+use Rattle.jpeg_pixels.specs.Samples.{is_zero_at, is_flat_column, dequantized, transformed, column_value}
+use Rattle.jpeg_bits.specs.Codes.{all_below}
 use Rattle.jpeg_pixels.specs.Samples.{sample, clamped}
 use Rattle.jpeg_pixels.proofs.Columns.{flat_value}
 use Rattle.jpeg_pixels.proofs.Sums.{transformed_one}

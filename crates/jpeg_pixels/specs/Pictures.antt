@@ -19,8 +19,8 @@ pub record Source : Type 0 where
   pub height : ℕ
   pub stride : ℕ
 
-abbrev pub factors_of : List Component → List Factors
-factors_of components = map (λ c. c.factors) components
+abbrev pub all_factors : List Component → List Factors
+all_factors components = map (λ c. c.factors) components
 
 -- how a component is upsampled in a picture of this width and height, in a frame of these greatest
 -- factors
@@ -46,8 +46,8 @@ sources_by most_h most_v width height (c ∷ more) =
 
 abbrev pub sources_of : List Component → ℕ → ℕ → Result (List Source) Fault
 sources_of components width height =
-    sources_by (greatest (λ f. f.horizontal) (factors_of components))
-    (greatest (λ f. f.vertical) (factors_of components)) width height components
+    sources_by (greatest (λ f. f.horizontal) (all_factors components))
+    (greatest (λ f. f.vertical) (all_factors components)) width height components
 
 -- a line of a component as wide as the picture
 abbrev pub line_of : Source → List ℕ → ℕ → ℕ → List ℕ

@@ -5,16 +5,12 @@ use Rattle.std.specs.Prelude.{◌≡◌, ℕ, zero, suc, ◌<◌, ◌+◌, ◌*�
 use Rattle.std.specs.Prelude.{if◌then◌else◌, List, [], ◌∷◌, ℤ, pos, negsuc, neg_ℤ, ◌+ℤ◌, ◌*ℤ◌}
 use Rattle.std.specs.Prelude.{slice_index, slice_index_or, min, unsigned_abs}
 use Rattle.std.specs.Int.{w32, int_wrap, int_shr}
+use Rattle.jpeg_bits.specs.Codes.{all_below}
 
 -- f 0 + f 1 + .. + f (n - 1)
 abbrev pub sum_below : (ℕ → ℤ) → ℕ → ℤ
 sum_below f zero = pos 0
 sum_below f (suc n) = sum_below f n +ℤ f n
-
--- p holds of each number below n
-abbrev pub all_below : (ℕ → Bool) → ℕ → Bool
-all_below p zero = true
-all_below p (suc n) = all_below p n && p n
 
 -- the number of a byte that is nearest
 abbrev pub clamped : ℤ → ℕ

@@ -5,7 +5,7 @@ ghost use Rattle.jpeg_bits.specs.Reading.{Names};
 ghost use Rattle.jpeg_segments.specs.Frame.{greatest};
 ghost use Rattle.jpeg_segments.specs.FrameView.{component_in};
 ghost use Rattle.jpeg_pixels.specs.Upsampling.{rule_of};
-ghost use Rattle.jpeg_pixels.specs.Pictures.{factors_of, source_of, sources_of};
+ghost use Rattle.jpeg_pixels.specs.Pictures.{all_factors, source_of, sources_of};
 ghost use Rattle.jpeg_pixels.specs.PicturesView.{source_in};
 ghost use Rattle.jpeg_segments.specs.Frame.{HasSampling, AllHaveSampling};
 
@@ -78,7 +78,8 @@ fn component_source(
 
 // The greatest horizontal factor of the components.
 fn greatest_horizontal(components: &[Component]) -> u8
-    ensures { result ≡ greatest (λ f. f.horizontal) (factors_of (map component_in components.now)) }
+    ensures { result ≡ greatest (λ f. f.horizontal)
+        (all_factors (map component_in components.now)) }
 {
     let mut most = 1;
     for component in components {
@@ -89,7 +90,7 @@ fn greatest_horizontal(components: &[Component]) -> u8
 
 // The greatest vertical factor of the components.
 fn greatest_vertical(components: &[Component]) -> u8
-    ensures { result ≡ greatest (λ f. f.vertical) (factors_of (map component_in components.now)) }
+    ensures { result ≡ greatest (λ f. f.vertical) (all_factors (map component_in components.now)) }
 {
     let mut most = 1;
     for component in components {

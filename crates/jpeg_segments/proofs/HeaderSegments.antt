@@ -5,7 +5,16 @@ use Rattle.std.proofs.Common.{arith, eqb, ltb}
 use Rattle.std.proofs.lemmas.Bool.{le-ltb, le-leb, eq-eqb, ne_eqb}
 use Rattle.std.specs.Prelude.{flat_map, if◌then◌else◌}
 use Rattle.jpeg_bits.specs.Reading.{Outcome, Malformed, ◌>>=◌, next_byte, next_u16}
-use Rattle.jpeg_segments.specs.Frame.{Factors, IsInRange, Frame, Head, frame_of, is_factor, is_place, is_lossless}
+use Rattle.jpeg_segments.specs.Frame.{
+  Factors,
+  IsInRange,
+  Frame,
+  Head,
+  frame_of,
+  is_factor,
+  is_place,
+  is_lossless_number,
+}
 use Rattle.jpeg_segments.specs.Frame.{is_precision, is_count, parameters_at, factors_at, components_from, size_at}
 use Rattle.jpeg_segments.specs.Frame.{head_at, sof_at}
 use Rattle.jpeg_segments.specs.HuffmanTables.{greatest_place}
@@ -40,16 +49,16 @@ parameters-read lossless c rest is placed =
     ∙ kept (is_place lossless c.quantization) (Ok (c, rest)) (Err Malformed) placed)
 
 components-read : (number : ℕ) (front cs : List Factors) (rest : List ℕ) → AreComponents number front cs
-    → components_from (is_lossless number) (length cs) front (flat_map factors_bytes cs ++ rest)
+    → components_from (is_lossless_number number) (length cs) front (flat_map factors_bytes cs ++ rest)
     ≡ Ok (front ++ cs, rest)
 unfolding components_from AreComponents factors_at
 components-read number front [] rest all = ap (λ (l : List Factors). Ok (l, rest)) (sym (append-nil front))
 components-read number front (c ∷ cs) rest all =
     let more = flat_map factors_bytes cs ++ rest in
     rw all.0.is_new (
-    read-on (parameters_at (is_lossless number) c.identifier
+    read-on (parameters_at (is_lossless_number number) c.identifier
     (nibbles c.horizontal c.vertical ∷ c.quantization ∷ more)) _ c more _
-    (parameters-read (is_lossless number) c more all.0.ranged all.0.placed)
+    (parameters-read (is_lossless_number number) c more all.0.ranged all.0.placed)
     (components-read number (front ++ c ∷ []) cs rest all.1
     ∙ ap (λ (l : List Factors). Ok (l, rest)) (append_assoc front (c ∷ []) cs)))
 
@@ -147,7 +156,7 @@ unfolding sof_at
 sof-read number h rest is =
     let after = flat_map factors_bytes h.components ++ rest in
     read-on (head_at number (sized (frame_payload h) ++ rest)) _ (head_of h) after _ (head-read number h rest is)
-    (read-on (components_from (is_lossless number) (length h.components) [] after) _ h.components rest _
+    (read-on (components_from (is_lossless_number number) (length h.components) [] after) _ h.components rest _
     (components-read number [] h.components rest is.components) refl)
 
 -- ---- scan headers

@@ -10,7 +10,16 @@ use Rattle.jpeg_segments.specs.ScanHeader.{selectors_from, is_mcu, is_band, scan
 use Rattle.jpeg_segments.specs.ScanHeaders.{Choice, ScanHeader, choice_bytes, scan_payload, selector_of, IsChoice}
 use Rattle.jpeg_segments.specs.ScanHeaders.{AreChoices, IsScan, scan_written}
 use Rattle.std.proofs.Common.{leb}
-use Rattle.jpeg_segments.specs.Frame.{Factors, IsInRange, Frame, Head, frame_of, is_factor, is_place, is_lossless}
+use Rattle.jpeg_segments.specs.Frame.{
+  Factors,
+  IsInRange,
+  Frame,
+  Head,
+  frame_of,
+  is_factor,
+  is_place,
+  is_lossless_number,
+}
 use Rattle.jpeg_segments.specs.Frame.{is_taken, is_precision, is_count, parameters_at, factors_at, components_from}
 use Rattle.jpeg_segments.specs.Frame.{size_at, head_at, sof_at}
 use Rattle.std.proofs.lemmas.List.{take-append-le, take_all, get_or_append_left}
@@ -800,13 +809,13 @@ record ComponentSo (number : ℕ) (front : List Factors) (bytes rest : List ℕ)
   begins : Begins (factors_bytes c) bytes rest
 
 component-only : (number : ℕ) (front : List Factors) (bytes rest : List ℕ) (c : Factors) → AreBytes bytes
-    → factors_at (is_lossless number) front bytes ≡ Ok (c, rest) → ComponentSo number front bytes rest c
+    → factors_at (is_lossless_number number) front bytes ≡ Ok (c, rest) → ComponentSo number front bytes rest c
 unfolding factors_at
 component-only number front bytes rest c all e =
     let i = bind-ok (next_byte bytes) _ (c, rest) e in
     let one = kept-unless (is_taken front i.0.0) _ Malformed (c, rest) i.2 in
     let first = byte-only bytes i.0.1 i.0.0 all i.1 in
-    let p = parameters-only (is_lossless number) i.0.0 i.0.1 rest c first.1.others one.1 in
+    let p = parameters-only (is_lossless_number number) i.0.0 i.0.1 rest c first.1.others one.1 in
     record {
       is_component = record { is_new = ap (is_taken front) p.named ∙ one.0; ranged = p.ranged; placed = p.placed };
       begins = record {
@@ -823,7 +832,8 @@ record ComponentsSo (number n : ℕ) (front : List Factors) (bytes rest : List �
   begins : Begins (flat_map factors_bytes cs) bytes rest
 
 components-only : (number n : ℕ) (front : List Factors) (bytes rest : List ℕ) (new : List Factors) → AreBytes bytes
-    → components_from (is_lossless number) n front bytes ≡ Ok (new, rest) → ComponentsSo number n front bytes rest new
+    → components_from (is_lossless_number number) n front bytes ≡ Ok (new, rest)
+    → ComponentsSo number n front bytes rest new
 unfolding components_from AreComponents
 components-only number zero front bytes rest new all e =
     let same = ok-same (front, bytes) (new, rest) e in
@@ -836,7 +846,7 @@ components-only number zero front bytes rest new all e =
       begins = record { is = r; others = subst AreBytes r all };
     }
 components-only number (suc n) front bytes rest new all e =
-    let one = bind-ok (factors_at (is_lossless number) front bytes) _ (new, rest) e in
+    let one = bind-ok (factors_at (is_lossless_number number) front bytes) _ (new, rest) e in
     let c = component-only number front bytes one.0.1 one.0.0 all one.1 in
     let more = components-only number n (front ++ one.0.0 ∷ []) one.0.1 rest new c.begins.others one.2 in
     record {
@@ -965,7 +975,7 @@ sof-only number bytes rest frame all e =
     let one = bind-ok (head_at number bytes) _ (frame, rest) e in
     let head = one.0.0 in
     let h = head-only number bytes one.0.1 head all one.1 in
-    let two = bind-ok (components_from (is_lossless number) head.count [] one.0.1) _ (frame, rest) one.2 in
+    let two = bind-ok (components_from (is_lossless_number number) head.count [] one.0.1) _ (frame, rest) one.2 in
     let c = components-only number head.count [] one.0.1 two.0.1 two.0.0 h.begins.others two.1 in
     let same = ok-same (frame_of number head.precision head.width head.height two.0.0, two.0.1) (frame, rest) two.2 in
     let r : two.0.1 ≡ rest = ap (λ q. q.1) same in

@@ -72,11 +72,11 @@ abbrev pub process_of : ℕ → CodingProcess
 process_of number = if nat_lt (number % 4) 2 then DctSequential
     else (if number % 4 == 2 then DctProgressive else Lossless)
 
-abbrev pub is_lossless : ℕ → Bool
-is_lossless number = number % 4 == 3
+abbrev pub is_lossless_number : ℕ → Bool
+is_lossless_number number = number % 4 == 3
 
-abbrev pub is_progressive : ℕ → Bool
-is_progressive number = number % 4 == 2
+abbrev pub is_progressive_number : ℕ → Bool
+is_progressive_number number = number % 4 == 2
 
 -- SOF5 to SOF7 and SOF13 to SOF15
 abbrev pub is_differential_number : ℕ → Bool
@@ -168,12 +168,12 @@ size_at bytes = do
 -- 8 bits, or 12 where the frame is not baseline; in a lossless frame at most 16
 abbrev pub is_precision : ℕ → ℕ → Bool
 is_precision number precision =
-    if is_lossless number then nat_le precision 16 else precision == 8
+    if is_lossless_number number then nat_le precision 16 else precision == 8
     || (precision == 12 && not (number == 0))
 
 -- at least one component, and in a progressive frame at most 4
 abbrev pub is_count : ℕ → ℕ → Bool
-is_count number count = not (count == 0) && (not (is_progressive number) || nat_le count 4)
+is_count number count = not (count == 0) && (not (is_progressive_number number) || nat_le count 4)
 
 unfoldable pub head_at : ℕ → List ℕ → Outcome Head
 head_at number bytes = do
@@ -201,7 +201,7 @@ head_at number bytes = do
 unfoldable pub sof_at : ℕ → List ℕ → Outcome Frame
 sof_at number bytes = do
   head ← head_at number bytes
-  components ← components_from (is_lossless number) head.0.count [] head.1
+  components ← components_from (is_lossless_number number) head.0.count [] head.1
   Ok (frame_of number head.0.precision head.0.width head.0.height components.0, components.1)
 
 -- ---- what each frame that is read has

@@ -6,7 +6,8 @@ ghost use Rattle.std.specs.List.{list_any};
 ghost use Rattle.jpeg_bits.specs.Reading.{Answers, NamesFormat};
 ghost use Rattle.jpeg_bits.specs.declared.marker.Marker.TheVariants.{SOF};
 ghost use Rattle.jpeg_segments.specs.Frame.{AllHaveSampling, IsFrame, IsInRange, components_from};
-ghost use Rattle.jpeg_segments.specs.Frame.{factors_at, frame_of, head_at, is_count, is_lossless};
+ghost use Rattle.jpeg_segments.specs.Frame.{factors_at, frame_of, head_at, is_count};
+ghost use Rattle.jpeg_segments.specs.Frame.{is_lossless_number};
 ghost use Rattle.jpeg_segments.specs.Frame.{is_place, is_precision, is_taken, parameters_at};
 ghost use Rattle.jpeg_segments.specs.Frame.{process_of, coding_of, is_differential_number, size_at};
 ghost use Rattle.jpeg_segments.specs.Frame.{sof_at};
@@ -58,7 +59,7 @@ fn read_size<R: Read + Drop>(alloc: Global, source: &mut Source<R>) -> Result<Di
 }
 
 fn is_lossless(number: u8) -> bool
-    ensures { result ≡ is_lossless number }
+    ensures { result ≡ is_lossless_number number }
 {
     number % 4 == 3
 }

@@ -6,7 +6,7 @@ use Rattle.jpeg_bits.specs.Marker.{marker_of}
 use Rattle.jpeg_bits.specs.declared.marker.Marker.{Marker}
 use Rattle.jpeg_bits.specs.declared.marker.Marker.TheVariants.{SOF, EOI, SOS, DQT}
 use Rattle.jpeg_segments.specs.Frame.{Frame}
-use Rattle.jpeg_streams.specs.WrittenData.{marker}
+use Rattle.jpeg_bits.specs.Written.{marker}
 use Rattle.jpeg_segments.specs.WrittenSegments.{sized, Segment, Quantization, Huffman, Interval, Application, Comment}
 use Rattle.jpeg_segments.specs.WrittenSegments.{Header, FrameHeader, code_of, payload_of, frame_written}
 use Rattle.jpeg_segments.specs.WrittenSegments.{quantization_tables, huffman_tables, said_by}
@@ -25,7 +25,7 @@ use Rattle.jpeg_streams.specs.WrittenScans.{Coefficients, levels_after}
 use Rattle.jpeg_streams.proofs.AcceptedStreams.{WritesScans, WritesHead, WritesStream, comment_at}
 use Rattle.jpeg_streams.proofs.AcceptedStreams.WritesStream.{stream}
 use Rattle.jpeg_streams.specs.SaidSegments.{Stands, found_after}
-use Rattle.jpeg_streams.specs.WrittenImages.{Writes, closed, segment, scan, WritesImage, MayFollow, IsDct}
+use Rattle.jpeg_streams.specs.WrittenImages.{Writes, closed, segment, scan, WritesImage, MayFollow, IsDctSegment}
 
 -- The bytes begin with a marker, and what stands after it is so.
 pub record Begins (Rest : Marker → List ℕ → Type 0) (bytes : List ℕ) : Type 0 where
@@ -195,12 +195,12 @@ frame-begins array tail said final last number h more may dct b =
     (header-accepted number h dct may.1) b.makes b.rest)
 
 frame-head : (array : Coefficients) (tail : List ℕ) (said final : Found) (last : ℕ → Levels) (s : Segment)
-    (number : ℕ) (h : FrameHeader) (more : List ℕ) → s ≡ Header number h → Stands said s → IsDct s
+    (number : ℕ) (h : FrameHeader) (more : List ℕ) → s ≡ Header number h → Stands said s → IsDctSegment s
     → Begins (Scans array (frame_written number h) tail (found_after said s) (λ k. nothing_sent) false final last) more
     → WritesHead array tail said (marker_for s) (sized (payload_of s) ++ more) final last
 frame-head array tail said final last s number h more e may dct b =
     subst (λ (x : Segment). WritesHead array tail said (marker_for x) (sized (payload_of x) ++ more) final last) (sym e)
-    (frame-begins array tail said final last number h more (subst (Stands said) e may) (subst IsDct e dct)
+    (frame-begins array tail said final last number h more (subst (Stands said) e may) (subst IsDctSegment e dct)
     (subst (λ (x : Segment). Begins
     (Scans array (frame_written number h) tail (found_after said x) (λ k. nothing_sent) false final last) more) e b))
 

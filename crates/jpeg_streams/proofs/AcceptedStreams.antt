@@ -14,7 +14,7 @@ use Rattle.jpeg_segments.specs.ScanHeader.{Scan, sos_at}
 use Rattle.jpeg_streams.specs.Levels.{Levels, nothing_sent}
 use Rattle.jpeg_streams.specs.Stream.{Found, Coding, pass_of, updated, with_huffman, with_application, accepted}
 use Rattle.jpeg_streams.specs.Stream.{is_progressive, nothing_found}
-use Rattle.jpeg_streams.specs.WrittenData.{marker}
+use Rattle.jpeg_bits.specs.Written.{marker}
 use Rattle.jpeg_streams.specs.WrittenScans.{Coefficients, WritesScan, levels_after, IsLegalScan, IsComplete, HasTable}
 
 -- the byte makes this marker after FF

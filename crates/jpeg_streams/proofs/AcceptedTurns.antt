@@ -14,7 +14,7 @@ use Rattle.jpeg_streams.specs.declared.before.Before.{Before}
 use Rattle.jpeg_bits.specs.Passes.{Pass}
 use Rattle.jpeg_streams.specs.Scans.{Arrays}
 use Rattle.jpeg_streams.specs.Needed.{first_of, needed}
-use Rattle.jpeg_streams.specs.Stream.{Coding, Found, Turn, onward, needed_if, tables_of, coding_of}
+use Rattle.jpeg_streams.specs.Stream.{Coding, Found, Turn, onward, needed_if, tables_of, component_coding}
 use Rattle.jpeg_streams.specs.Stream.{codings_from, codings_of, pass_of, scan_arrays, after_scan, after_restarts}
 use Rattle.jpeg_streams.specs.Stream.{scan_before, scan_segment, segment_at, turn_at, segments_within}
 use Rattle.jpeg_streams.specs.Stream.{quantization_segment, huffman_segment, restart_segment, application_segment}
@@ -29,7 +29,7 @@ use Rattle.jpeg_streams.specs.WrittenScans.AreCodings.{no_more, and_more}
 use Rattle.jpeg_streams.proofs.AcceptedStreams.WritesSegment.{quantization, huffman, restart, application, comment}
 use Rattle.jpeg_streams.proofs.AcceptedStreams.WritesScans.{segment, scan, closed}
 use Rattle.jpeg_streams.specs.Levels.{Levels}
-use Rattle.jpeg_streams.specs.WrittenData.{marker}
+use Rattle.jpeg_bits.specs.Written.{marker}
 use Rattle.jpeg_streams.proofs.AcceptedStreams.{IsMarker}
 use Rattle.jpeg_streams.proofs.OwnSpots.{At}
 use Rattle.jpeg_streams.proofs.ReadStates.{reading}
@@ -170,8 +170,8 @@ pub record CodingFacts (w : Found) (frame : Frame) (k : Coding) : Type 0 where
   pub table : slice_index_or w.quantization k.component.factors.quantization None ≡ Some k.quantization
 
 coding-facts : (w : Found) (frame : Frame) (p : Pass) (tables : Tables) (place d a : ℕ) (k : Coding)
-    → coding_of w frame p tables place d a ≡ Ok k → CodingFacts w frame k × (k.place ≡ place)
-unfolding coding_of
+    → component_coding w frame p tables place d a ≡ Ok k → CodingFacts w frame k × (k.place ≡ place)
+unfolding component_coding
 coding-facts w frame p tables place d a k e =
     let component = bind-ok (needed (first_of (drop place frame.components))) _ k e in
     let table = bind-ok (needed (slice_index_or w.quantization component.0.factors.quantization None)) _ k component.2
@@ -200,7 +200,7 @@ codings-facts_from w frame p tables [] ds ks codings h g e =
 codings-facts_from w frame p tables (x ∷ places) [] ks codings h g e = absurd (omega arith)
 codings-facts_from w frame p tables (x ∷ places) (d ∷ ds) [] codings h g e = absurd (omega arith)
 codings-facts_from w frame p tables (x ∷ places) (d ∷ ds) (a ∷ ks) codings h g e =
-    let one = bind-ok (coding_of w frame p tables x d a) _ codings e in
+    let one = bind-ok (component_coding w frame p tables x d a) _ codings e in
     let more = bind-ok (codings_from w frame p tables places ds ks) _ codings one.2 in
     let rest = codings-facts_from w frame p tables places ds ks more.0 (omega arith) (omega arith) more.1 in
     let first = coding-facts w frame p tables x d a one.0 one.1 in
@@ -230,8 +230,8 @@ in-force true class tables place table e = ap needed e
 in-force false class tables place table e = ap (λ (t : Table). Ok t) (sym e)
 
 coding-read : (w : Found) (frame : Frame) (p : Pass) (tables : Tables) (place d a : ℕ) (k : Coding)
-    → IsCoding w frame p tables place d a k → coding_of w frame p tables place d a ≡ Ok k
-unfolding coding_of
+    → IsCoding w frame p tables place d a k → component_coding w frame p tables place d a ≡ Ok k
+unfolding component_coding
 coding-read w frame p tables place d a k h =
     then-ok (needed (first_of (drop place frame.components))) _ k.component _ (ap needed h.component)
     (then-ok (needed (slice_index_or w.quantization k.component.factors.quantization None)) _ k.quantization _
@@ -255,7 +255,7 @@ codings-read_from : (w : Found) (frame : Frame) (p : Pass) (tables : Tables) (pl
 unfolding codings_from
 codings-read_from w frame p tables places ds ks codings no_more = refl
 codings-read_from w frame p tables places ds ks codings (and_more place d a places' ds' ks' k more h r) =
-    then-ok (coding_of w frame p tables place d a) _ k _ (coding-read w frame p tables place d a k h)
+    then-ok (component_coding w frame p tables place d a) _ k _ (coding-read w frame p tables place d a k h)
     (then-ok (codings_from w frame p tables places' ds' ks') _ more _
     (codings-read_from w frame p tables places' ds' ks' more r) refl)
 
@@ -269,8 +269,8 @@ codings-read w frame s codings h =
 -- what scans have brought doesn't change them
 coding-same : (w : Found) (sc : Bool) (h : Arrays) (fi : List (List Bool)) (pl : List (Option (List ℕ)))
     (frame : Frame) (p : Pass) (tables : Tables) (place d a : ℕ)
-    → coding_of (reading w sc h fi pl) frame p tables place d a ≡ coding_of w frame p tables place d a
-unfolding coding_of
+    → component_coding (reading w sc h fi pl) frame p tables place d a ≡ component_coding w frame p tables place d a
+unfolding component_coding
 coding-same w sc h fi pl frame p tables place d a = refl
 
 then-other : (c : Coding) (o r : Result (List Coding) Fault) → o ≡ r
@@ -289,7 +289,7 @@ codings-same_from w sc h fi pl frame p tables (x ∷ places) (d ∷ ds) (a ∷ k
     ap (λ (o : Result Coding Fault). o >>=
     (λ c. codings_from (reading w sc h fi pl) frame p tables places ds ks >>= (λ others. Ok (c ∷ others))))
     (coding-same w sc h fi pl frame p tables x d a)
-    ∙ go (coding_of w frame p tables x d a) more
+    ∙ go (component_coding w frame p tables x d a) more
   where
     go : (o : Result Coding Fault)
         → codings_from (reading w sc h fi pl) frame p tables places ds ks ≡ codings_from w frame p tables places ds ks

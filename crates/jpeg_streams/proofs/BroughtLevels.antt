@@ -22,7 +22,7 @@ use Rattle.jpeg_streams.specs.Stream.{held_after, put_arrays, scan_arrays, after
 use Rattle.jpeg_streams.specs.Levels.{Levels, Is8Bit, IsLegal, sent_after, nothing_sent}
 use Rattle.jpeg_streams.specs.WrittenScans.{Coefficients, levels_of_one, levels_after, IsLegalScan, WritesScan}
 use Rattle.jpeg_streams.proofs.PlacesApart.{AreApart}
-use Rattle.jpeg_streams.specs.WrittenData.{marker}
+use Rattle.jpeg_bits.specs.Written.{marker}
 use Rattle.jpeg_streams.proofs.AcceptedStreams.{IsMarker}
 use Rattle.jpeg_streams.proofs.FinishedMarks.{IsBand, marks-start}
 use Rattle.jpeg_streams.proofs.OwnSpots.{At, at-get, Fits}

@@ -18,7 +18,11 @@ use Rattle.jpeg_bits.specs.Written.{code_bits, low_bits}
 use Rattle.jpeg_bits.specs.declared.codes.HuffmanTableClass.{HuffmanTableClass}
 use Rattle.jpeg_bits.specs.declared.codes.HuffmanTableClass.TheVariants as classes
 use Rattle.jpeg_streams.specs.Levels.{Is8Bit}
-use Rattle.jpeg_streams.specs.WrittenData.{bits_of_bytes, IsCategory, IsCoded, no_numbers, stuffed}
+use Rattle.jpeg_streams.specs.WrittenData.{no_numbers}
+use Rattle.jpeg_bits.specs.Written.{bits_of_bytes}
+use Rattle.jpeg_bits.specs.Written.{stuffed}
+use Rattle.jpeg_bits.specs.Written.{IsCategory}
+use Rattle.jpeg_bits.specs.Written.{IsCoded}
 use Rattle.jpeg_streams.specs.WrittenData.{WritesAc, WritesBand, WritesBlocks}
 use Rattle.jpeg_streams.specs.WrittenData.{WritesDc, WritesDifference, WritesInterval}
 use Rattle.jpeg_streams.specs.WrittenData.WritesAc.{first, no_band}

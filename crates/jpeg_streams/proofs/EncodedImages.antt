@@ -13,7 +13,7 @@ use Rattle.std.specs.Prelude.{slice_index_or}
 use Rattle.jpeg_bits.specs.Passes.{Block, Pass, Via, whole_pass}
 use Rattle.jpeg_bits.specs.declared.codes.HuffmanTableClass.{HuffmanTableClass}
 use Rattle.jpeg_bits.specs.declared.codes.HuffmanTableClass.TheVariants as classes
-use Rattle.jpeg_segments.specs.Frame.{Component, component_of, Factors, Frame, frame_of, greatest, is_lossless}
+use Rattle.jpeg_segments.specs.Frame.{Component, component_of, Factors, Frame, frame_of, greatest, is_lossless_number}
 use Rattle.jpeg_segments.specs.Frame.{is_place, is_taken}
 use Rattle.jpeg_bits.specs.Codes.{Table}
 use Rattle.jpeg_segments.specs.HuffmanTables.{PlacedTable, Tables}
@@ -32,10 +32,11 @@ use Rattle.jpeg_streams.specs.Scans.{no_table, via_at}
 use Rattle.jpeg_streams.specs.Needed.{first_of}
 use Rattle.jpeg_streams.specs.Stream.{Coding, Found, nothing_found, pass_of, tables_of, updated, vias_from}
 use Rattle.jpeg_streams.specs.WorkedImages.{IsWhollyWritten}
-use Rattle.jpeg_streams.specs.WrittenData.{marker}
+use Rattle.jpeg_bits.specs.Written.{marker}
 use Rattle.jpeg_streams.specs.WrittenData.WritesIntervals.{last as last_interval}
 use Rattle.jpeg_streams.specs.WrittenImages.{closed, scan, segment, Writes}
-use Rattle.jpeg_streams.specs.WrittenScans.{InForce, AreCodings, block_for, Coefficients, components_of, grid_at}
+use Rattle.jpeg_streams.specs.WrittenScans.{InForce, AreCodings, block_for, Coefficients, grid_at}
+use Rattle.jpeg_streams.specs.Stream.{components_of}
 use Rattle.jpeg_streams.specs.WrittenScans.{HasTable}
 use Rattle.jpeg_streams.specs.WrittenScans.{IsComplete, IsLegalScan}
 use Rattle.jpeg_streams.specs.WrittenScans.{levels_after, place_at, WritesScan, written_turns}
@@ -316,7 +317,7 @@ table-at number h (suc (suc zero)) le = refl
 table-at number h (suc (suc (suc zero))) le = refl
 table-at number h (suc (suc (suc (suc place)))) le = absurd (omega arith)
 
-place-low : (number place : ℕ) → number ≤ 2 → is_place (is_lossless number) place ≡ true → place ≤ 3
+place-low : (number place : ℕ) → number ≤ 2 → is_place (is_lossless_number number) place ≡ true → place ≤ 3
 place-low zero place le e = leb-true place 3 e
 place-low (suc zero) place le e = leb-true place 3 e
 place-low (suc (suc zero)) place le e = leb-true place 3 e

@@ -3,7 +3,7 @@ use Rattle.std.proofs.Common.{◌≡◌, ◌≤◌, ◌<◌, ℕ, ◌+◌, ◌*�
 use Rattle.std.proofs.Math.Nat.{mul-add, mul_assoc, mul_comm, lt_of_mul-lt-mul_left, mul-le-mul_right}
 use Rattle.std.specs.List.{AllByRecursion}
 use Rattle.jpeg_segments.specs.Frame.{Frame, Component, Factors, IsInRange, ceiling, component_of, frame_of, greatest}
-use Rattle.jpeg_pixels.specs.Pictures.{factors_of}
+use Rattle.jpeg_pixels.specs.Pictures.{all_factors}
 use Rattle.jpeg_pixels.proofs.FrameCovers.{ceiling-low, ceiling-high}
 use Rattle.jpeg_segments.specs.Scales.{component_at, frame_at}
 use Rattle.jpeg_streams.specs.InTurn.{Fits}
@@ -57,7 +57,8 @@ ceiling-eights n d some =
     let b : q ≤ r = ceiling-le n d r some (omega (arith, low-eights, er)) in
     omega (arith, a, b)
 
-pub factors-back : (width height h v : ℕ) (xs : List Factors) → factors_of (map (component_of width height h v) xs) ≡ xs
+pub factors-back : (width height h v : ℕ) (xs : List Factors) → all_factors (map (component_of width height h v) xs)
+    ≡ xs
 unfolding component_of
 factors-back width height h v [] = refl
 factors-back width height h v (x ∷ xs) = ap (λ l. x ∷ l) (factors-back width height h v xs)

@@ -8,16 +8,16 @@ use Rattle.std.proofs.Math.Nat.{le-div_iff_mul-le, mul-le-mul_right, mul_comm, a
 use Rattle.std.specs.List.{AllByRecursion}
 use Rattle.jpeg_bits.specs.Reading.{Fault, Malformed, Lacks, ◌>>=◌, next_byte, next_u16, length_at}
 use Rattle.jpeg_segments.specs.declared.parser.CodingProcess.TheVariants.{Lossless}
-use Rattle.jpeg_segments.specs.Frame.{Frame, Component, Factors, IsInRange, is_factor, is_lossless, is_taken}
+use Rattle.jpeg_segments.specs.Frame.{Frame, Component, Factors, IsInRange, is_factor, is_lossless_number, is_taken}
 use Rattle.jpeg_segments.specs.Frame.{is_place, parameters_at, factors_at, components_from, Head, size_at, head_at}
 use Rattle.jpeg_segments.specs.Frame.{is_precision as precise, is_count as counted, sof_at, frame_of, component_of}
 use Rattle.jpeg_segments.specs.Frame.{ceiling, greatest}
 use Rattle.jpeg_bits.specs.declared.error.UnsupportedFeature.TheVariants as features
 use Rattle.jpeg_bits.specs.declared.error.UnsupportedFeature.TheVariants.{DNL}
 use Rattle.std.specs.Prelude.{nat_lt, if◌then◌else◌}
-use Rattle.jpeg_pixels.specs.Pictures.{Source, sources_of, factors_of}
+use Rattle.jpeg_pixels.specs.Pictures.{Source, sources_of, all_factors}
 use Rattle.jpeg_segments.specs.Scales.{component_at, frame_at}
-use Rattle.jpeg_streams.specs.Stream.{accepted, is_count, is_arithmetic, is_precision}
+use Rattle.jpeg_streams.specs.Stream.{accepted, is_decoded_count, is_arithmetic, is_decoded_precision}
 use Rattle.jpeg_streams.proofs.AcceptedStreams.{IsAccepted}
 use Rattle.jpeg_streams.proofs.OwnSpots.{At, Fits}
 use Rattle.jpeg_streams.proofs.WrittenFrameScans.{at-all}
@@ -182,7 +182,8 @@ ceiling-eights n d some =
     let b : q ≤ r = ceiling-least n d r some (omega arith) in
     omega arith
 
-pub factors-back : (width height h v : ℕ) (xs : List Factors) → factors_of (map (component_of width height h v) xs) ≡ xs
+pub factors-back : (width height h v : ℕ) (xs : List Factors) → all_factors (map (component_of width height h v) xs)
+    ≡ xs
 unfolding component_of
 factors-back width height h v [] = refl
 factors-back width height h v (x ∷ xs) = ap (λ (l : List Factors). x ∷ l) (factors-back width height h v xs)
@@ -222,7 +223,7 @@ full-size number precision width height xs =
     let own : Component → List Factors
     → Component = λ c l. component_at 8 width height (greatest (λ f. f.horizontal) l)
     (greatest (λ f. f.vertical) l) c in
-    let parts : map (λ c. own c (factors_of (map (component_of width height h v) xs)))
+    let parts : map (λ c. own c (all_factors (map (component_of width height h v) xs)))
     (map (component_of width height h v) xs) ≡ map (component_of width height h v) xs
     = ap (λ (l : List Factors). map (λ c. own c l) (map (component_of width height h v) xs)) back
     ∙ same-components width height h v xs (greatest-some (λ c. c.horizontal) xs)
@@ -246,7 +247,7 @@ pub sof-plain : (number : ℕ) (bytes : List ℕ) (f : Frame × List ℕ) → so
 unfolding sof_at
 sof-plain number bytes f h =
     let head = bind-ok (head_at number bytes) _ f h in
-    let cs = bind-ok (components_from (is_lossless number) head.0.0.count [] head.0.1) _ f head.2 in
+    let cs = bind-ok (components_from (is_lossless_number number) head.0.0.count [] head.0.1) _ f head.2 in
     let some = head-some number bytes head.0 head.1 in
     record {
       number = number;
@@ -254,7 +255,7 @@ sof-plain number bytes f h =
       width = head.0.0.width;
       height = head.0.0.height;
       factors = cs.0.0;
-      in_range = components-range (is_lossless number) head.0.0.count [] head.0.1 cs.0 tt cs.1;
+      in_range = components-range (is_lossless_number number) head.0.0.count [] head.0.1 cs.0 tt cs.1;
       some_width = some.0;
       some_height = some.1;
       is = sym (ap (λ (d : Frame × List ℕ). d.0) (ok-same _ f cs.2));
@@ -283,7 +284,7 @@ pub sof-lossy : (number : ℕ) (bytes : List ℕ) (f : Frame × List ℕ) → nu
 unfolding sof_at
 sof-lossy number bytes f small h =
     let head = bind-ok (head_at number bytes) _ f h in
-    let cs = bind-ok (components_from (is_lossless number) head.0.0.count [] head.0.1) _ f head.2 in
+    let cs = bind-ok (components_from (is_lossless_number number) head.0.0.count [] head.0.1) _ f head.2 in
     subst (λ (g : Frame). g.process ≢ Lossless) (ap (λ (d : Frame × List ℕ). d.0) (ok-same _ f cs.2))
     (frame-lossy number head.0.0.precision head.0.0.width head.0.0.height cs.0.0 small)
 
@@ -324,7 +325,7 @@ frame-fits number precision width height cs all k c h =
     subst (Fits (frame_of number precision width height cs)) x.2
     (component-fits number precision width height cs x.0 (at-all IsInRange k cs x.0 all x.1))
 
-count-few : (n : ℕ) → is_count n ≡ true → n ≤ 4
+count-few : (n : ℕ) → is_decoded_count n ≡ true → n ≤ 4
 count-few n h = go (eqb n 1) refl (eqb n 3) refl h
   where
     go : (a : Bool) → eqb n 1 ≡ a → (b : Bool) → eqb n 3 ≡ b → (a || (b || eqb n 4)) ≡ true → n ≤ 4
@@ -337,9 +338,9 @@ unfolding accepted
 accepted-few f g h =
     let a = unless-ok f.is_differential _ _ g h in
     let b = unless-ok (is_arithmetic f.coding) _ (Lacks features.ArithmeticEntropyCoding) g a.1 in
-    let c = unless-ok (not (is_precision f.process f.precision)) _
+    let c = unless-ok (not (is_decoded_precision f.process f.precision)) _
     (Lacks (features.SamplePrecision f.precision)) g b.1 in
-    let d = if-ok (is_count (length f.components))
+    let d = if-ok (is_decoded_count (length f.components))
     (sources_of f.components f.output_width f.output_height >>= (λ sources. Ok f))
     (Lacks (features.ComponentCount (min 255 (length f.components)))) g c.1 in
     count-few (length f.components) d.0
@@ -349,11 +350,11 @@ sof-fits : (number : ℕ) (bytes : List ℕ) (f : Frame × List ℕ) → sof_at 
 unfolding sof_at
 sof-fits number bytes f h =
     let head = bind-ok (head_at number bytes) _ f h in
-    let cs = bind-ok (components_from (is_lossless number) head.0.0.count [] head.0.1) _ f head.2 in
+    let cs = bind-ok (components_from (is_lossless_number number) head.0.0.count [] head.0.1) _ f head.2 in
     subst (λ (g : Frame). (k : ℕ) (c : Component) → At k g.components c → Fits g c)
     (ap (λ (d : Frame × List ℕ). d.0) (ok-same _ f cs.2))
     (frame-fits number head.0.0.precision head.0.0.width head.0.0.height cs.0.0
-    (components-range (is_lossless number) head.0.0.count [] head.0.1 cs.0 tt cs.1))
+    (components-range (is_lossless_number number) head.0.0.count [] head.0.1 cs.0 tt cs.1))
 
 -- Frames that are read and accepted have this shape.
 pub all-shaped : (number : ℕ) (bytes : List ℕ) (f : Frame) → number ≤ 2 → IsAccepted (sof_at number) bytes f
@@ -373,9 +374,9 @@ unfolding accepted
 accepted-sources f g h =
     let a = unless-ok f.is_differential _ _ g h in
     let b = unless-ok (is_arithmetic f.coding) _ (Lacks features.ArithmeticEntropyCoding) g a.1 in
-    let c = unless-ok (not (is_precision f.process f.precision)) _
+    let c = unless-ok (not (is_decoded_precision f.process f.precision)) _
     (Lacks (features.SamplePrecision f.precision)) g b.1 in
-    let d = if-ok (is_count (length f.components))
+    let d = if-ok (is_decoded_count (length f.components))
     (sources_of f.components f.output_width f.output_height >>= (λ sources. Ok f))
     (Lacks (features.ComponentCount (min 255 (length f.components)))) g c.1 in
     let e = bind-ok (sources_of f.components f.output_width f.output_height) _ g d.1 in

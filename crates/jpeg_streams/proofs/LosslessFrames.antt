@@ -8,7 +8,7 @@ use Rattle.jpeg_segments.specs.Frame.{Factors, Frame, IsInRange, frame_of, great
 use Rattle.jpeg_segments.specs.WrittenSegments.{AreComponents, FrameHeader, IsFrame, frame_written}
 use Rattle.jpeg_segments.specs.declared.parser.CodingProcess.TheVariants.{Lossless}
 use Rattle.jpeg_streams.specs.SaidSegments.{IsUpsampled}
-use Rattle.jpeg_streams.specs.Stream.{accepted, is_arithmetic, is_precision}
+use Rattle.jpeg_streams.specs.Stream.{accepted, is_arithmetic, is_decoded_precision}
 use Rattle.jpeg_streams.specs.WrittenLossless.{HasSamples, IsOne}
 use Rattle.jpeg_streams.proofs.FrameShapes.{accepted-few}
 use Rattle.jpeg_streams.proofs.PicturedFrames.{accepted-by, header-count, header-sources}
@@ -70,7 +70,7 @@ both-true false b e f = absurd (let n : ⊥ = cc in n)
 
 header-process : (h : FrameHeader) → HasSamples 3 h
     → ((frame_written 3 h).is_differential ≡ false) × (is_arithmetic (frame_written 3 h).coding ≡ false)
-    × (is_precision (frame_written 3 h).process (frame_written 3 h).precision ≡ true)
+    × (is_decoded_precision (frame_written 3 h).process (frame_written 3 h).precision ≡ true)
 unfolding frame_of
 header-process h p = (
   refl,

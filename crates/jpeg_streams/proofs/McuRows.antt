@@ -13,7 +13,7 @@ use Rattle.jpeg_streams.specs.Order.{Spot, grid_of, own_spots, part_spots, mcu_s
 use Rattle.jpeg_streams.specs.Scans.{Arrays, zero_arrays, block_at, put_block, via_at}
 use Rattle.jpeg_streams.specs.InTurn.{Reached, turn_from, turns_from, at_start, restart_from, Counted, begun_from}
 use Rattle.jpeg_streams.specs.InTurn.{mcu_from, mcus_from, IsIn, IsInside}
-use Rattle.jpeg_streams.specs.McuRows.{row_mcus, zero_rows, row_size, own_row_mcus, rows_of, joined, with_arrays}
+use Rattle.jpeg_streams.specs.McuRows.{row_mcus, zero_rows, row_size, own_row_mcus, rows_of, joined, on_arrays}
 use Rattle.jpeg_streams.specs.McuRows.{rows_from, scan_by_rows}
 use Rattle.jpeg_streams.proofs.InTurn.{in-front, in-back}
 use Rattle.jpeg_streams.proofs.Put.{put-inside}
@@ -642,17 +642,17 @@ pub record IsRow (cs : List Component) (mcus : List (List Spot)) : Type 0 where
 pub rows-in-turn : (p : Pass) (vias : List Via) (n : ℕ) (cs : List Component) (rows : List (List (List Spot))) (row : ℕ)
     (front : Arrays) (old : Counted) (t : Text)
     → AllByRecursion (IsRow cs) rows → AreRows row cs front
-    → mcus_from p vias n (placed_rows cs row rows) (with_arrays (joined front (zero_rows (length rows) cs)) old) t
+    → mcus_from p vias n (placed_rows cs row rows) (on_arrays (joined front (zero_rows (length rows) cs)) old) t
     ≡ rows_from p vias n cs rows front old t
 unfolding mcus_from rows_from placed_rows
 rows-in-turn p vias n cs [] row front old t fits h =
-    ap (λ (l : Arrays). gives (with_arrays l old) t) (no-rows row cs front h)
+    ap (λ (l : Arrays). gives (on_arrays l old) t) (no-rows row cs front h)
 rows-in-turn p vias n cs (mcus ∷ rows) row front old t fits h =
     let one = zero_rows 1 cs in
     let rest = zero_rows (length rows) cs in
     let sized : AreRows 1 cs one = zero-rows 1 cs in
     let others = placed_rows cs (row + 1) rows in
-    let start : Counted = with_arrays one old in
+    let start : Counted = on_arrays one old in
     let wrap : Counted → Reads Counted = λ r. gives (wrapped_count front rest r) in
     let next = mcus_from p vias n others in
     let o = mcus_from p vias n mcus start t in
@@ -663,7 +663,7 @@ rows-in-turn p vias n cs (mcus ∷ rows) row front old t fits h =
       };
       inside = λ s k. fits.0.inside one s sized k;
     } in
-    ap (λ (l : Arrays). mcus_from p vias n (placed_row cs row mcus ++ others) (with_arrays l old) t)
+    ap (λ (l : Arrays). mcus_from p vias n (placed_row cs row mcus ++ others) (on_arrays l old) t)
     (first-row (length rows) row cs front h)
     ∙ mcus-append p vias n (placed_row cs row mcus) others (wrapped_count front rest start) t
     ∙ ap (λ (m : List (List Spot)). read_on next (mcus_from p vias n m (wrapped_count front rest start) t))
@@ -673,7 +673,7 @@ rows-in-turn p vias n cs (mcus ∷ rows) row front old t fits h =
     ∙ counted-where (AreRows 1 cs) (λ r. λ u. next (wrapped_count front rest r) u) (λ r. λ u. rows_from p vias n cs rows
     (joined front r.reached.arrays) r u)
     (λ r u k.
-    ap (λ (l : Arrays). next (with_arrays l r) u) (around-joined front r.reached.arrays rest)
+    ap (λ (l : Arrays). next (on_arrays l r) u) (around-joined front r.reached.arrays rest)
     ∙ rows-in-turn p vias n cs rows (row + 1) (joined front r.reached.arrays) r u fits.1
     (joined-rows row cs front r.reached.arrays h k))
     o (mcus-any (AreRows 1 cs) (rows-kept 1 cs) p vias n mcus start t sized)

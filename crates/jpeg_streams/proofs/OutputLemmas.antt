@@ -6,7 +6,7 @@ use Rattle.jpeg_bits.specs.declared.error.Error.TheVariants.{Format, Unsupported
 use Rattle.jpeg_bits.specs.Reading.{Fault, Malformed, Lacks, Names, IsGivenUp}
 use Rattle.jpeg_streams.specs.Pixels.{info_of}
 use Rattle.jpeg_streams.specs.Stream.{Told, meaning}
-use Rattle.jpeg_streams.specs.Output.{output_of, line_of, default_settings, IsOutsideOrMemory, NamesOrOutside}
+use Rattle.jpeg_streams.specs.Output.{output_of, header_line_of, default_settings, IsOutsideOrMemory, NamesOrOutside}
 
 pub output-none : (bytes : List ℕ) (fault : Fault) → meaning default_settings bytes ≡ Err fault → output_of bytes ≡ None
 unfolding output_of
@@ -14,7 +14,7 @@ output-none bytes fault e = rw (output_of, e) refl
 
 pub output-some : (bytes rest : List ℕ) (found : Told) (pixels : List ℕ)
     → meaning default_settings bytes ≡ Ok ((found, pixels), rest)
-    → output_of bytes ≡ Some (line_of (option_map info_of found.frame) ++ pixels)
+    → output_of bytes ≡ Some (header_line_of (option_map info_of found.frame) ++ pixels)
 unfolding output_of
 output-some bytes rest found pixels e = rw (output_of, e) refl
 

@@ -13,7 +13,7 @@ use Rattle.jpeg_pixels.specs.Upsampling.{divides, rule_of}
 use Rattle.jpeg_segments.specs.Frame.{Component, component_of, Factors, Frame, frame_of, greatest}
 use Rattle.jpeg_segments.specs.WrittenSegments.{FrameHeader, frame_written}
 use Rattle.jpeg_streams.specs.SaidSegments.{HasPicture, IsNear, IsUpsampled}
-use Rattle.jpeg_streams.specs.Stream.{accepted, is_arithmetic, is_count, is_precision}
+use Rattle.jpeg_streams.specs.Stream.{accepted, is_arithmetic, is_decoded_count, is_decoded_precision}
 use Rattle.jpeg_streams.proofs.AcceptedTurns.{then-ok}
 use Rattle.jpeg_streams.proofs.FrameShapes.{factors-back}
 use Rattle.jpeg_streams.proofs.ScaledSources.{pick-some}
@@ -100,13 +100,13 @@ all-made P width height h v (x ∷ xs) u = (u.0, all-made P width height h v xs 
 -- ---- frames
 
 pub accepted-by : (f : Frame) (sources : List Source) → f.is_differential ≡ false → is_arithmetic f.coding ≡ false
-    → is_precision f.process f.precision ≡ true → is_count (length f.components) ≡ true
+    → is_decoded_precision f.process f.precision ≡ true → is_decoded_count (length f.components) ≡ true
     → sources_of f.components f.output_width f.output_height ≡ Ok sources → accepted f ≡ Ok f
 unfolding accepted
 accepted-by f sources a b c d e =
     rw (a, b, c, d) (then-ok (sources_of f.components f.output_width f.output_height) _ sources _ e refl)
 
-pub count-test : (n : ℕ) → (n ≡ 1) ⊎ ((n ≡ 3) ⊎ (n ≡ 4)) → is_count n ≡ true
+pub count-test : (n : ℕ) → (n ≡ 1) ⊎ ((n ≡ 3) ⊎ (n ≡ 4)) → is_decoded_count n ≡ true
 count-test n (inl e) = or-left (n == 1) _ (eq-eqb n 1 e)
 count-test n (inr (inl e)) = or-right (n == 1) _ (or-left (n == 3) _ (eq-eqb n 3 e))
 count-test n (inr (inr e)) = or-right (n == 1) _ (or-right (n == 3) _ (eq-eqb n 4 e))
@@ -130,15 +130,15 @@ header-sources number h p =
 
 pub header-count : (number : ℕ) (h : FrameHeader)
     → (length h.components ≡ 1) ⊎ ((length h.components ≡ 3) ⊎ (length h.components ≡ 4))
-    → is_count (length (frame_written number h).components) ≡ true
+    → is_decoded_count (length (frame_written number h).components) ≡ true
 unfolding frame_of
 header-count number h p =
-    ap is_count (length-map h.components _) ∙ count-test (length h.components) p
+    ap is_decoded_count (length-map h.components _) ∙ count-test (length h.components) p
 
 -- SOF0 to SOF2 are neither differential nor arithmetic, and are decoded at 8 bits.
 header-process : (number : ℕ) (h : FrameHeader) → number ≤ 2 → HasPicture h
     → ((frame_written number h).is_differential ≡ false) × (is_arithmetic (frame_written number h).coding ≡ false)
-    × (is_precision (frame_written number h).process (frame_written number h).precision ≡ true)
+    × (is_decoded_precision (frame_written number h).process (frame_written number h).precision ≡ true)
 unfolding frame_of
 header-process zero h le p = (refl, refl, eq-eqb h.precision 8 p.precise)
 header-process (suc zero) h le p = (refl, refl, eq-eqb h.precision 8 p.precise)

@@ -6,7 +6,7 @@ use Rattle.std.specs.List.{AllByRecursion}
 use Rattle.jpeg_bits.specs.Codes.{Table}
 use Rattle.jpeg_bits.specs.declared.scan.Predictor.{Predictor}
 use Rattle.jpeg_segments.specs.Frame.{Frame, Component, ceiling, greatest}
-use Rattle.jpeg_pixels.specs.Pictures.{factors_of}
+use Rattle.jpeg_pixels.specs.Pictures.{all_factors}
 use Rattle.jpeg_lossless.specs.Prediction.{start_of}
 use Rattle.jpeg_lossless.specs.Differences.{Part}
 use Rattle.jpeg_lossless.specs.Codings.{part_by}
@@ -25,12 +25,12 @@ all-at P zero (y ∷ xs) x all e = subst P (let s : y ≡ x = cc in s) all.0
 all-at P (suc n) (y ∷ xs) x all e = all-at P n xs x all.1 e
 
 pub ones-across : (frame : Frame) (cs : List Component)
-    → greatest (λ f. f.horizontal) (factors_of (map (one_by_one frame) cs)) ≡ 1
+    → greatest (λ f. f.horizontal) (all_factors (map (one_by_one frame) cs)) ≡ 1
 ones-across frame [] = refl
 ones-across frame (c ∷ cs) = ap (max 1) (ones-across frame cs)
 
 pub ones-down : (frame : Frame) (cs : List Component)
-    → greatest (λ f. f.vertical) (factors_of (map (one_by_one frame) cs)) ≡ 1
+    → greatest (λ f. f.vertical) (all_factors (map (one_by_one frame) cs)) ≡ 1
 ones-down frame [] = refl
 ones-down frame (c ∷ cs) = ap (max 1) (ones-down frame cs)
 

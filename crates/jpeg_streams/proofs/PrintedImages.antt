@@ -6,7 +6,14 @@ use Rattle.jpeg_bits.specs.Reading.{Outcome}
 use Rattle.jpeg_bits.specs.declared.error.Error.{Error}
 use Rattle.jpeg_streams.specs.ArrayPictures.{picture_of_array, Takes}
 use Rattle.jpeg_streams.specs.Levels.{Is8Bit, Levels}
-use Rattle.jpeg_streams.specs.Output.{default_settings, line_of, output_of, IsOutsideOrMemory, TakesBeginning, Tells}
+use Rattle.jpeg_streams.specs.Output.{
+  default_settings,
+  header_line_of,
+  output_of,
+  IsOutsideOrMemory,
+  TakesBeginning,
+  Tells,
+}
 use Rattle.jpeg_streams.specs.PrintedImages.{Prints, PrintsImages}
 use Rattle.jpeg_streams.specs.Pixels.{info_of}
 use Rattle.jpeg_streams.specs.Stream.{Found, Told}
@@ -20,7 +27,7 @@ pub image-output : (array : Coefficients) (image rest : List ℕ) (final : Found
     → ((place row column : ℕ) → Is8Bit (array place row column)) → WritesImage array image final last
     → Takes default_settings final
     → (picture : List ℕ) × (picture_of_array default_settings final array last ≡ Ok picture)
-    × (output_of (image ++ rest) ≡ Some (line_of (option_map info_of final.frame) ++ picture))
+    × (output_of (image ++ rest) ≡ Some (header_line_of (option_map info_of final.frame) ++ picture))
 unfolding output_of
 image-output array image rest final last range w takes =
     let p = taken-means default_settings array rest (image ++ rest) final last range (image-accepted array rest image
@@ -28,7 +35,7 @@ image-output array image rest final last range w takes =
       p.0,
       p.1,
       ap (λ (o : Outcome (Told × List ℕ)). elim o as (λ _. Option (List ℕ)) [
-        | Ok stream ↦ Some (line_of (option_map info_of stream.0.0.frame) ++ stream.0.1)
+        | Ok stream ↦ Some (header_line_of (option_map info_of stream.0.0.frame) ++ stream.0.1)
         | Err fault ↦ None
       ]) p.2,
     )
@@ -61,6 +68,6 @@ prints-images remaining old new result ok beginning refused array image rest fin
     let bytes = image ++ rest in (
       p.0,
       p.1,
-      prints bytes (line_of (option_map info_of final.frame) ++ p.0) old new result p.2 (ok bytes tells)
+      prints bytes (header_line_of (option_map info_of final.frame) ++ p.0) old new result p.2 (ok bytes tells)
           (beginning bytes tells) (refused bytes tells),
     )

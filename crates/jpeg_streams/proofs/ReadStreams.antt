@@ -14,7 +14,7 @@ use Rattle.jpeg_streams.specs.Stream.{Found, Turn, onward, accepted, none_finish
 use Rattle.jpeg_streams.specs.Stream.{arrays_before, pass_of, scan_before, scan_segment, segment_at, frame_segment}
 use Rattle.jpeg_streams.specs.Stream.{end_segment, segments_within, segments_at, start_at}
 use Rattle.jpeg_streams.specs.Levels.{Levels, Is8Bit, nothing_sent}
-use Rattle.jpeg_streams.specs.WrittenData.{marker}
+use Rattle.jpeg_bits.specs.Written.{marker}
 use Rattle.jpeg_streams.specs.WrittenScans.{Coefficients, levels_after, IsComplete, HasTable}
 use Rattle.jpeg_streams.proofs.AcceptedStreams.{IsAccepted, WritesSegment, WritesScans, WritesHead, WritesStream}
 use Rattle.jpeg_streams.proofs.AcceptedStreams.WritesSegment.{quantization, huffman, restart, application, comment}

@@ -10,7 +10,7 @@ use Rattle.jpeg_streams.specs.Stream.{Found, updated, with_huffman}
 use Rattle.jpeg_segments.specs.WrittenSegments.{Segment, Quantization, Huffman, Interval, Application, Comment}
 use Rattle.jpeg_segments.specs.WrittenSegments.{Header, IsHuffmanTable, huffman_tables}
 use Rattle.jpeg_streams.specs.SaidSegments.{found_after}
-use Rattle.jpeg_streams.specs.WrittenLossless.{HaveTables, Stands}
+use Rattle.jpeg_streams.specs.WrittenLossless.{HaveTables, StandsInLossless}
 use Rattle.jpeg_segments.specs.ScanHeaders.{Choice}
 use Rattle.jpeg_lossless.specs.Written.{AreTables}
 
@@ -79,7 +79,7 @@ huffman-all most old ts h all =
       ac = updated-all old.ac (huffman_tables ts).ac h.ac new.ac;
     }
 
-pub segment-tables : (said found : Found) (s : Segment) → Stands said s → HasTables found.huffman
+pub segment-tables : (said found : Found) (s : Segment) → StandsInLossless said s → HasTables found.huffman
     → HasTables (found_after found s).huffman
 segment-tables said found (Quantization ts) may h = h
 segment-tables said found (Huffman ts) may h =

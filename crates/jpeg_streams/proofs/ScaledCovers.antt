@@ -12,7 +12,7 @@ use Rattle.jpeg_pixels.specs.declared.upsampler.UpsampleRule.{UpsampleRule}
 use Rattle.jpeg_pixels.specs.declared.upsampler.UpsampleRule.TheVariants.{H1V1, H2V1, H1V2, H2V2, Generic}
 use Rattle.jpeg_pixels.specs.Upsampling.{across, divides, down, rule_of}
 use Rattle.jpeg_pixels.specs.Pictures.{AllCover, AreWhole, Covers, Source, source_by, sources_by, sources_of}
-use Rattle.jpeg_pixels.specs.Pictures.{factors_of}
+use Rattle.jpeg_pixels.specs.Pictures.{all_factors}
 use Rattle.jpeg_pixels.proofs.FrameCovers.{ceiling-low, ceiling-high}
 use Rattle.jpeg_segments.specs.Scales.{component_at, frame_at}
 use Rattle.jpeg_pixels.specs.Pictures.{HasSources}
@@ -476,8 +476,8 @@ pub record ScaledSources (scale : ℕ) (components : List Component) (width heig
   pub cover : (planes : List (List ℕ)) → AreWhole components planes
       → AllCover sources planes (outputs_at scale width) (outputs_at scale height)
 
-same-factors : (s width height h v : ℕ) (cs : List Component) → factors_of (map (component_at s width height h v) cs)
-    ≡ factors_of cs
+same-factors : (s width height h v : ℕ) (cs : List Component) → all_factors (map (component_at s width height h v) cs)
+    ≡ all_factors cs
 unfolding component_at
 same-factors s width height h v [] = refl
 same-factors s width height h v (c ∷ cs) = ap (λ l. c.factors ∷ l) (same-factors s width height h v cs)
@@ -498,7 +498,7 @@ scaled-frames-are-covered scale number precision width height factors sources ra
     (omega arith)
     (subst (λ (l : List Factors). sources_by (greatest (λ f. f.horizontal) l) (greatest (λ f. f.vertical) l) width
     height full ≡ Ok sources) back is) in
-    let same : factors_of (map (component_at scale width height h v) full) ≡ factors =
+    let same : all_factors (map (component_at scale width height h v) full) ≡ factors =
     same-factors scale width height h v full ∙ back in
     subst (λ (l : List Factors). ScaledSources scale
     (map (component_at scale width height (greatest (λ f. f.horizontal) l) (greatest (λ f. f.vertical) l)) full)

@@ -24,7 +24,8 @@ use Rattle.jpeg_streams.specs.Levels.{Levels, IsLegal, numbers_at}
 use Rattle.jpeg_streams.specs.WrittenData.{WritesIntervals}
 use Rattle.jpeg_streams.specs.Needed.{first_of}
 use Rattle.jpeg_streams.specs.Stream.{Found, Coding, tables_of, pass_of, is_progressive, vias_from}
-use Rattle.jpeg_streams.specs.WrittenScans.{Coefficients, IsOwn, no_grid, grid_at, components_of, written_turns}
+use Rattle.jpeg_streams.specs.WrittenScans.{Coefficients, IsOwn, no_grid, grid_at, written_turns}
+use Rattle.jpeg_streams.specs.Stream.{components_of}
 use Rattle.jpeg_streams.specs.WrittenScans.{IsCoding, AreCodings, WritesScan, levels_after, IsComplete, HasTable}
 use Rattle.jpeg_streams.proofs.AcceptedStreams.{IsAccepted, WritesSegment, WritesScans}
 use Rattle.jpeg_streams.specs.WrittenScans.AreCodings.{no_more, and_more}

@@ -10,7 +10,7 @@ use Rattle.jpeg_segments.specs.Frame.{Frame, Component, Factors, IsInRange, fram
 use Rattle.jpeg_pixels.specs.declared.upsampler.UpsampleRule.{UpsampleRule}
 use Rattle.jpeg_pixels.specs.declared.upsampler.UpsampleRule.TheVariants.{H1V1, H2V1, H1V2, H2V2, Generic}
 use Rattle.jpeg_pixels.specs.Upsampling.{across, down, rule_of, divides}
-use Rattle.jpeg_pixels.specs.Pictures.{Source, source_by, source_of, sources_by, sources_of, factors_of}
+use Rattle.jpeg_pixels.specs.Pictures.{Source, source_by, source_of, sources_by, sources_of, all_factors}
 use Rattle.jpeg_segments.specs.Scales.{component_at, frame_at}
 use Rattle.jpeg_streams.proofs.OwnSpots.{At}
 use Rattle.jpeg_streams.proofs.AcceptedTurns.{err-ok, ok-same, bind-ok}
@@ -223,7 +223,7 @@ reaches-all s width height mh mv (x ∷ xs) sources ss w h a b range e =
     )
 
 pub factors-scaled : (s width height h v : ℕ) (xs : List Factors)
-    → factors_of (map (scaled_component s width height h v) xs) ≡ xs
+    → all_factors (map (scaled_component s width height h v) xs) ≡ xs
 factors-scaled s width height h v [] = refl
 factors-scaled s width height h v (x ∷ xs) = ap (λ (l : List Factors). x ∷ l) (factors-scaled s width height h v xs)
 

@@ -19,7 +19,7 @@ use Rattle.jpeg_streams.specs.InTurn.{Fits, AreArrays, scan_from, mcus_of}
 use Rattle.jpeg_streams.specs.McuRows.{scan_by_rows}
 use Rattle.jpeg_streams.specs.Needed.{first_of, needed}
 use Rattle.jpeg_streams.specs.Stream.{Found, Coding, needed_if, is_progressive, pass_of}
-use Rattle.jpeg_streams.specs.Stream.{tables_of, coding_of, codings_from, codings_of, vias_from, arrays_before}
+use Rattle.jpeg_streams.specs.Stream.{tables_of, component_coding, codings_from, codings_of, vias_from, arrays_before}
 use Rattle.jpeg_streams.specs.Stream.{scan_arrays, put_arrays}
 use Rattle.jpeg_streams.proofs.Apart.{At, at-all, sized, zeros-sized}
 use Rattle.jpeg_streams.proofs.Mcus.{frame-scans}
@@ -47,8 +47,8 @@ OneOf frame (Ok c) = IsOf frame c
 OneOf frame (Err e) = Unit {0}
 
 coding-of : (found : Found) (frame : Frame) (p : Pass) (tables : Tables) (place d a : ℕ)
-    → OneOf frame (coding_of found frame p tables place d a)
-unfolding coding_of
+    → OneOf frame (component_coding found frame p tables place d a)
+unfolding component_coding
 coding-of found frame p tables place d a = first (first_of (drop place frame.components)) refl
   where
     rest : (c : Component) → At place frame.components c → (q : Result (List ℕ) Fault) (dc ac : Result Table Fault)
@@ -80,7 +80,7 @@ codings-from found frame p tables [] dcs acs = tt
 codings-from found frame p tables (place ∷ places) [] acs = tt
 codings-from found frame p tables (place ∷ places) (d ∷ dcs) [] = tt
 codings-from found frame p tables (place ∷ places) (d ∷ dcs) (a ∷ acs) =
-    both (coding_of found frame p tables place d a) (coding-of found frame p tables place d a)
+    both (component_coding found frame p tables place d a) (coding-of found frame p tables place d a)
     (codings_from found frame p tables places dcs acs) (codings-from found frame p tables places dcs acs)
   where
     both : (o : Result Coding Fault) → OneOf frame o → (rest : Result (List Coding) Fault) → AllOf frame rest

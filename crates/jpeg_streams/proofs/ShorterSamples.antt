@@ -6,8 +6,9 @@ use Rattle.jpeg_bits.specs.Codes.{Table, symbol_from}
 use Rattle.jpeg_bits.specs.Entropy.{upcoming, fresh, marker_from}
 use Rattle.jpeg_bits.specs.Readers.{refused, signed_from}
 use Rattle.jpeg_bits.specs.declared.marker.Marker.{Marker}
-use Rattle.jpeg_lossless.specs.Differences.{difference, difference_of, differences, mcu_tables, rows_from, tables_of}
-use Rattle.jpeg_lossless.specs.Scans.{Way, interval, intervals, is_of_rows, is_restart, lines_above}
+use Rattle.jpeg_lossless.specs.Differences.{difference, difference_of, differences, mcu_tables, rows_from, row_tables}
+use Rattle.jpeg_lossless.specs.Scans.{Way, interval, intervals, is_of_rows, lines_above}
+use Rattle.jpeg_bits.specs.Intervals.{is_restart}
 use Rattle.jpeg_lossless.specs.Scans.{rows_of_interval, scan_at}
 use Rattle.jpeg_streams.proofs.Shorter.{LeavesBelow, below-ok, below-err, below-bind}
 use Rattle.jpeg_streams.proofs.ShorterTexts.{StaysBelow, bind-stays, gives-stays, refused-stays, elim-stays}
@@ -49,7 +50,7 @@ interval-below : (limit : ℕ) (w : Way) (n : ℕ) (bytes : List ℕ) → length
     → LeavesBelow limit (interval w n bytes)
 unfolding interval
 interval-below limit w n bytes h =
-    let tables = tables_of w.wide (mcu_tables w.parts) in
+    let tables = row_tables w.wide (mcu_tables w.parts) in
     texts-below limit (rows_from tables n (upcoming fresh bytes)) _
     ((rows-stay limit tables n).stays (upcoming fresh bytes) (upcoming-below limit bytes h)) (λ r a.
     below-bind limit limit (marker_from r.1) _ (marker_from-below limit r.1 a) (λ m q. below-ok limit _ m.1 q))

@@ -5,7 +5,15 @@ use Rattle.std.specs.Prelude.{◌==◌, slice_index}
 use Rattle.jpeg_bits.specs.Reading.{next_byte, next_u16, length_at, skip_at, times}
 use Rattle.jpeg_bits.specs.declared.codes.HuffmanTableClass.{HuffmanTableClass}
 use Rattle.jpeg_segments.specs.Frame.{Frame, Factors, is_precision, is_count, is_factor, is_place, is_taken}
-use Rattle.jpeg_segments.specs.Frame.{is_lossless, size_at, head_at, parameters_at, factors_at, components_from, sof_at}
+use Rattle.jpeg_segments.specs.Frame.{
+  is_lossless_number,
+  size_at,
+  head_at,
+  parameters_at,
+  factors_at,
+  components_from,
+  sof_at,
+}
 use Rattle.jpeg_segments.specs.ScanHeader.{Selector, place_of, is_mcu, count_at, tables_at, tables_by, selector_at}
 use Rattle.jpeg_segments.specs.ScanHeader.{selectors_from, band_at, sos_at}
 use Rattle.jpeg_segments.specs.Application.{Application, begins_with, adobe_name, transform_by, passed_over, adobe_by}
@@ -67,8 +75,8 @@ pub sof-below : (limit number : ℕ) (bytes : List ℕ) → length bytes ≤ lim
 unfolding sof_at
 sof-below limit number bytes h =
     below-bind limit limit (head_at number bytes) _ (head-below limit number bytes h) (λ head p.
-    below-bind limit limit (components_from (is_lossless number) head.0.count [] head.1) _
-    (components-below limit (is_lossless number) head.0.count [] head.1 p) (λ components q.
+    below-bind limit limit (components_from (is_lossless_number number) head.0.count [] head.1) _
+    (components-below limit (is_lossless_number number) head.0.count [] head.1 p) (λ components q.
     below-ok limit _ components.1 q))
 
 -- ---- quantization tables

@@ -14,7 +14,7 @@ use Rattle.jpeg_segments.specs.Scales.{frame_at, scale_for, reaches, sized}
 use Rattle.jpeg_streams.specs.Stream.{Found, Turn, onward, accepted, nothing_found, turn_at, segments_within}
 use Rattle.jpeg_streams.specs.Stream.{segments_at, start_at, header_at, rest_at, sized_to, sized_meaning}
 use Rattle.jpeg_streams.specs.Levels.{Levels, Is8Bit, nothing_sent}
-use Rattle.jpeg_streams.specs.WrittenData.{marker}
+use Rattle.jpeg_bits.specs.Written.{marker}
 use Rattle.jpeg_streams.proofs.AcceptedStreams.{IsMarker}
 use Rattle.jpeg_streams.specs.WrittenScans.{Coefficients}
 use Rattle.jpeg_streams.proofs.AcceptedStreams.{WritesScans, WritesHead, WritesStream}

@@ -18,7 +18,15 @@ use Rattle.jpeg_segments.proofs.ScaleLemmas.{full_frames, scaled_again, scale_fo
 use Rattle.jpeg_pixels.specs.Pictures.{Source, HasSources, sources_of}
 use Rattle.jpeg_streams.specs.InTurn.{Fits, AreArrays}
 use Rattle.jpeg_streams.specs.Scans.{zero_arrays}
-use Rattle.jpeg_streams.specs.Stream.{Found, nothing_found, sized_to, accepted, is_arithmetic, is_precision, is_count}
+use Rattle.jpeg_streams.specs.Stream.{
+  Found,
+  nothing_found,
+  sized_to,
+  accepted,
+  is_arithmetic,
+  is_decoded_precision,
+  is_decoded_count,
+}
 use Rattle.jpeg_streams.specs.Stream.{is_progressive, arrays_before}
 use Rattle.jpeg_streams.specs.Sound.{HasDecodedFrame, IsSampled, IsUnread, IsDecodedFrame, ArePlanes, IsSound}
 use Rattle.jpeg_streams.proofs.Apart.{zeros-sized}
@@ -43,15 +51,16 @@ has-sources (Ok sources) f g h = (sources, refl)
 has-sources (Err e) f g h = absurd (cc)
 
 accepted-facts : (f g : Frame) → accepted f ≡ Ok g
-    → (is_count (length f.components) ≡ true)
+    → (is_decoded_count (length f.components) ≡ true)
     × ((sources : List Source) × (sources_of f.components f.output_width f.output_height ≡ Ok sources))
 unfolding accepted
 accepted-facts f g h =
     let a = unless-ok f.is_differential _ _ g h in
     let b = unless-ok (is_arithmetic f.coding) _ (Lacks features.ArithmeticEntropyCoding) g a.1 in
-    let c = unless-ok (not (is_precision f.process f.precision)) _ (Lacks (features.SamplePrecision f.precision)) g
+    let c = unless-ok (not (is_decoded_precision f.process f.precision)) _
+    (Lacks (features.SamplePrecision f.precision)) g
     b.1 in
-    let d = if-ok (is_count (length f.components)) (sources_of f.components f.output_width f.output_height
+    let d = if-ok (is_decoded_count (length f.components)) (sources_of f.components f.output_width f.output_height
     >>= (λ sources. Ok f)) (Lacks (features.ComponentCount (min 255 (length f.components)))) g c.1 in
     (d.0, has-sources (sources_of f.components f.output_width f.output_height) f g d.1)
 
@@ -65,21 +74,22 @@ not-false true h = refl
 not-false false h = absurd (cc)
 
 -- a precision that the process can be decoded at
-accepted-precision : (f g : Frame) → accepted f ≡ Ok g → is_precision f.process f.precision ≡ true
+accepted-precision : (f g : Frame) → accepted f ≡ Ok g → is_decoded_precision f.process f.precision ≡ true
 unfolding accepted
 accepted-precision f g h =
     let a = unless-ok f.is_differential _ _ g h in
     let b = unless-ok (is_arithmetic f.coding) _ (Lacks features.ArithmeticEntropyCoding) g a.1 in
-    not-false (is_precision f.process f.precision)
-    (unless-ok (not (is_precision f.process f.precision)) _ (Lacks (features.SamplePrecision f.precision)) g b.1).0
+    not-false (is_decoded_precision f.process f.precision)
+    (unless-ok (not (is_decoded_precision f.process f.precision)) _ (Lacks (features.SamplePrecision f.precision)) g
+    b.1).0
 
 -- Samples of lossless frames have at most 16 bits.
 pub decoded-precision : (f : Frame) → IsDecodedFrame f → f.process ≡ Lossless → f.precision ≤ 16
 unfolding frame_at
 decoded-precision f p e =
     let process : p.full.process ≡ Lossless = ap (λ (x : Frame). x.process) (sym p.made) ∙ e in
-    let is : is_precision Lossless p.full.precision ≡ true =
-    ap (λ (x : CodingProcess). is_precision x p.full.precision) (sym process)
+    let is : is_decoded_precision Lossless p.full.precision ≡ true =
+    ap (λ (x : CodingProcess). is_decoded_precision x p.full.precision) (sym process)
     ∙ accepted-precision p.full p.full p.is_accepted in
     let most : p.full.precision ≤ 16 = leb-true p.full.precision 16 (both-hold (nat_le 2 p.full.precision)
     (nat_le p.full.precision 16) is).1 in
@@ -112,12 +122,12 @@ count-kept : (s : ℕ) (f : Frame) → length (frame_at s f).components ≡ leng
 unfolding frame_at
 count-kept s f = length-map f.components _
 
-pub decoded-count : (f : Frame) → IsDecodedFrame f → is_count (length f.components) ≡ true
+pub decoded-count : (f : Frame) → IsDecodedFrame f → is_decoded_count (length f.components) ≡ true
 decoded-count f p =
-    ap (λ (g : Frame). is_count (length g.components)) p.made ∙ (ap is_count (count-kept p.scale p.full)
+    ap (λ (g : Frame). is_decoded_count (length g.components)) p.made ∙ (ap is_decoded_count (count-kept p.scale p.full)
     ∙ (accepted-facts p.full p.full p.is_accepted).0)
 
-pub count-few : (n : ℕ) → is_count n ≡ true → (0 < n) × (n ≤ 4)
+pub count-few : (n : ℕ) → is_decoded_count n ≡ true → (0 < n) × (n ≤ 4)
 count-few n h = go (n == 1) refl (n == 3) refl (n == 4) refl h
   where
     go : (a : Bool) → (n == 1) ≡ a → (b : Bool) → (n == 3) ≡ b → (c : Bool) → (n == 4) ≡ c → (a || (b || c)) ≡ true

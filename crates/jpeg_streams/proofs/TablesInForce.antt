@@ -20,7 +20,7 @@ use Rattle.jpeg_segments.specs.HuffmanTables.{placed_codes_at, with_table, great
 use Rattle.jpeg_bits.specs.Passes.{Pass}
 use Rattle.jpeg_streams.specs.Scans.{no_table}
 use Rattle.jpeg_streams.specs.Needed.{first_of, needed}
-use Rattle.jpeg_streams.specs.Stream.{Found, Coding, needed_if, updated, tables_of, coding_of}
+use Rattle.jpeg_streams.specs.Stream.{Found, Coding, needed_if, updated, tables_of, component_coding}
 use Rattle.jpeg_streams.specs.Stream.{codings_from, codings_of, pass_of, nothing_found}
 use Rattle.jpeg_streams.proofs.AcceptedStreams.{WritesSegment}
 use Rattle.jpeg_streams.proofs.AcceptedStreams.WritesSegment.{quantization, huffman, restart, application, comment}
@@ -202,8 +202,8 @@ needed-good true class l i t h e = good-at l i t h (needed-some (slice_index_or 
 needed-good false class l i t h e = subst IsTable (ok-same (no_table class) t e) (none-good class)
 
 coding-good : (w : Found) (f : Frame) (p : Pass) (tables : Tables) (place d a : ℕ) (k : Coding) → GoodTables tables
-    → coding_of w f p tables place d a ≡ Ok k → IsTable k.dc × IsTable k.ac
-unfolding coding_of
+    → component_coding w f p tables place d a ≡ Ok k → IsTable k.dc × IsTable k.ac
+unfolding component_coding
 coding-good w f p tables place d a k good e =
     let component = bind-ok (needed (first_of (drop place f.components))) _ k e in
     let table = bind-ok (needed (slice_index_or w.quantization component.0.factors.quantization None)) _ k component.2
@@ -226,7 +226,7 @@ codings-good_from w f p tables (x ∷ places) [] ks codings good e =
 codings-good_from w f p tables (x ∷ places) (d ∷ ds) [] codings good e =
     subst (AllByRecursion (λ c. IsTable c.dc × IsTable c.ac)) (ok-same [] codings e) tt
 codings-good_from w f p tables (x ∷ places) (d ∷ ds) (a ∷ ks) codings good e =
-    let one = bind-ok (coding_of w f p tables x d a) _ codings e in
+    let one = bind-ok (component_coding w f p tables x d a) _ codings e in
     let more = bind-ok (codings_from w f p tables places ds ks) _ codings one.2 in
     subst (AllByRecursion (λ c. IsTable c.dc × IsTable c.ac)) (ok-same (one.0 ∷ more.0) codings more.2)
     (coding-good w f p tables x d a one.0 good one.1, codings-good_from w f p tables places ds ks more.0 good more.1)

@@ -23,9 +23,13 @@ use Rattle.jpeg_streams.specs.Order.{Spot, all_spots, mcu_size, mcu_spots, part_
 use Rattle.jpeg_streams.specs.SaidSegments.{HasPicture, found_after}
 use Rattle.jpeg_streams.specs.Stream.{Found, Coding, nothing_found, pass_of, tables_of, updated, vias_from}
 use Rattle.jpeg_streams.specs.WorkedImages.{IsWhollyWritten, flat_block, colour_array, colour_bytes}
-use Rattle.jpeg_streams.specs.WrittenData.{IsCategory, IsCoded, WritesAc, WritesBlocks, WritesInterval, bits_for}
-use Rattle.jpeg_streams.specs.WrittenData.{bits_of_bytes}
-use Rattle.jpeg_streams.specs.WrittenData.{marker, number_for, stuffed}
+use Rattle.jpeg_streams.specs.WrittenData.{WritesAc, WritesBlocks, WritesInterval, bits_for}
+use Rattle.jpeg_bits.specs.Written.{IsCategory}
+use Rattle.jpeg_bits.specs.Written.{IsCoded}
+use Rattle.jpeg_bits.specs.Written.{bits_of_bytes}
+use Rattle.jpeg_bits.specs.Written.{marker}
+use Rattle.jpeg_bits.specs.Written.{stuffed}
+use Rattle.jpeg_bits.specs.Written.{number_for}
 use Rattle.jpeg_streams.specs.WrittenData.WritesAc.{first}
 use Rattle.jpeg_streams.specs.WrittenData.WritesBand.{ended}
 use Rattle.jpeg_streams.specs.WrittenData.WritesBlocks.{done, block}
@@ -33,7 +37,8 @@ use Rattle.jpeg_streams.specs.WrittenData.WritesDc.{whole}
 use Rattle.jpeg_streams.specs.WrittenData.WritesIntervals.{another, last}
 use Rattle.jpeg_streams.specs.WrittenImages.{closed, scan, segment}
 use Rattle.jpeg_streams.specs.WrittenScans.{HasTable, IsComplete, IsLegalScan, IsOwn, WritesScan}
-use Rattle.jpeg_streams.specs.WrittenScans.{block_for, components_of, grid_at, levels_after, place_at}
+use Rattle.jpeg_streams.specs.WrittenScans.{block_for, grid_at, levels_after, place_at}
+use Rattle.jpeg_streams.specs.Stream.{components_of}
 use Rattle.jpeg_streams.specs.WrittenScans.AreCodings.{no_more, and_more}
 use Rattle.jpeg_streams.proofs.CutLevels.{all-same}
 use Rattle.jpeg_streams.proofs.WorkedGrey.{range-zero, sixteens, sixteens-written, zeros-small}

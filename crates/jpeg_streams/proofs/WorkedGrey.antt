@@ -22,8 +22,13 @@ use Rattle.jpeg_streams.specs.Scans.{no_table}
 use Rattle.jpeg_streams.specs.Stream.{Found, Coding, nothing_found, is_progressive, pass_of, tables_of}
 use Rattle.jpeg_streams.specs.Stream.{updated, vias_from}
 use Rattle.jpeg_streams.specs.WorkedImages.{IsWhollyWritten, flat_block, grey_array, grey_bytes}
-use Rattle.jpeg_streams.specs.WrittenData.{IsCategory, IsCoded, NoneNew, bits_of_bytes, corrections, count_unknown}
-use Rattle.jpeg_streams.specs.WrittenData.{marker, number_for, stuffed}
+use Rattle.jpeg_streams.specs.WrittenData.{NoneNew, corrections, count_unknown}
+use Rattle.jpeg_bits.specs.Written.{bits_of_bytes}
+use Rattle.jpeg_bits.specs.Written.{IsCategory}
+use Rattle.jpeg_bits.specs.Written.{IsCoded}
+use Rattle.jpeg_bits.specs.Written.{marker}
+use Rattle.jpeg_bits.specs.Written.{stuffed}
+use Rattle.jpeg_bits.specs.Written.{number_for}
 use Rattle.jpeg_streams.specs.WrittenData.WritesAc.{no_band, first, first_run, again, again_run}
 use Rattle.jpeg_streams.specs.WrittenData.WritesBand.{value, ended}
 use Rattle.jpeg_streams.specs.WrittenData.WritesBlocks.{done, block}
@@ -31,7 +36,8 @@ use Rattle.jpeg_streams.specs.WrittenData.WritesDc.{other_band, whole, one_bit}
 use Rattle.jpeg_streams.specs.WrittenData.WritesIntervals.{last}
 use Rattle.jpeg_streams.specs.WrittenData.WritesRefinement.{found, none_left}
 use Rattle.jpeg_streams.specs.WrittenImages.{closed, scan, segment}
-use Rattle.jpeg_streams.specs.WrittenScans.{block_for, components_of, grid_at, HasTable, IsComplete, IsLegalScan}
+use Rattle.jpeg_streams.specs.WrittenScans.{block_for, grid_at, HasTable, IsComplete, IsLegalScan}
+use Rattle.jpeg_streams.specs.Stream.{components_of}
 use Rattle.jpeg_streams.specs.WrittenScans.{WritesScan, levels_after}
 use Rattle.jpeg_streams.specs.WrittenScans.AreCodings.{no_more, and_more}
 use Rattle.jpeg_streams.proofs.CutLevels.{all-same}

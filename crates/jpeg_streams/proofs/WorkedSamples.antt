@@ -8,11 +8,14 @@ use Rattle.jpeg_segments.specs.Frame.{Frame, frame_of, component_of}
 use Rattle.jpeg_segments.specs.ScanHeaders.{AreChoices, IsScan}
 use Rattle.jpeg_segments.specs.WrittenSegments.{AreComponents, Header, Interval, IsFrame, IsHuffmanTable, frame_written}
 use Rattle.jpeg_lossless.specs.Prediction.{residue}
-use Rattle.jpeg_lossless.specs.Differences.{mcu_tables, tables_of, strand, strands, lines_in}
+use Rattle.jpeg_lossless.specs.Differences.{mcu_tables, row_tables, strand, strands, lines_in}
 use Rattle.jpeg_lossless.specs.Scans.{all_above}
-use Rattle.jpeg_lossless.specs.Written.{WritesDifference, none, one, no_row, row, number_for, first_differences}
-use Rattle.jpeg_lossless.specs.Written.{rest_differences, differences_below, differences_of, HaveDifferences, stuffed}
-use Rattle.jpeg_lossless.specs.Written.{bits_of_bytes, marker}
+use Rattle.jpeg_lossless.specs.Written.{WritesDifference, none, one, no_row, row, first_differences}
+use Rattle.jpeg_bits.specs.Written.{number_for}
+use Rattle.jpeg_lossless.specs.Written.{rest_differences, differences_below, differences_of, HaveDifferences}
+use Rattle.jpeg_bits.specs.Written.{stuffed}
+use Rattle.jpeg_bits.specs.Written.{bits_of_bytes}
+use Rattle.jpeg_bits.specs.Written.{marker}
 use Rattle.jpeg_lossless.specs.Written.WritesIntervals.{another, last}
 use Rattle.jpeg_lossless.specs.Worked.{small_table}
 use Rattle.jpeg_streams.specs.SaidSegments.{found_after}
@@ -191,7 +194,7 @@ less = record {
 }
 
 third-written : WritesScan said_3 frame third_scan three_samples third_data
-unfolding frame_of component_of nothing_found updated three_samples HaveTables mcu_tables tables_of strand strands
+unfolding frame_of component_of nothing_found updated three_samples HaveTables mcu_tables row_tables strand strands
     lines_in first_differences rest_differences differences_below differences_of HaveDifferences residue stuffed
     bits_of_bytes all_above
 third-written = record {
@@ -230,7 +233,7 @@ third-written = record {
 }
 
 other-written : WritesScan said_4 frame other_scan three_samples other_data
-unfolding frame_of component_of nothing_found updated three_samples HaveTables mcu_tables tables_of strand strands
+unfolding frame_of component_of nothing_found updated three_samples HaveTables mcu_tables row_tables strand strands
     lines_in first_differences rest_differences differences_below differences_of HaveDifferences residue stuffed
     bits_of_bytes all_above
 other-written = record {

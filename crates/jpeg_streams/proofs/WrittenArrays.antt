@@ -7,7 +7,8 @@ use Rattle.jpeg_bits.specs.Passes.{Pass, Via, Block}
 use Rattle.jpeg_bits.specs.Intervals.{intervals, first_group, other_groups}
 use Rattle.jpeg_streams.specs.Order.{Spot}
 use Rattle.jpeg_streams.specs.Scans.{Arrays, block_at, put_blocks, via_at, turns_of, arrays_at}
-use Rattle.jpeg_streams.specs.WrittenData.{marker, WritesIntervals}
+use Rattle.jpeg_streams.specs.WrittenData.{WritesIntervals}
+use Rattle.jpeg_bits.specs.Written.{marker}
 use Rattle.jpeg_streams.specs.WrittenScans.{written_turns}
 use Rattle.jpeg_streams.proofs.SentBlocks.{after_pass, reads_of, numbers_of}
 use Rattle.jpeg_streams.proofs.AcceptedStreams.{IsMarker}

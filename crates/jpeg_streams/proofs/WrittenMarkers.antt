@@ -8,7 +8,7 @@ use Rattle.jpeg_bits.specs.declared.marker.Marker.TheVariants.{SOF, DHT, DQT, DR
 use Rattle.jpeg_segments.specs.Frame.{Frame}
 use Rattle.jpeg_segments.specs.WrittenSegments.{Segment, Quantization, Huffman, Interval, Application, Comment}
 use Rattle.jpeg_segments.specs.WrittenSegments.{Header, code_of, MayStand}
-use Rattle.jpeg_streams.specs.WrittenData.{marker}
+use Rattle.jpeg_bits.specs.Written.{marker}
 
 pub marker-append : (fill code : ℕ) (rest more : List ℕ)
     → marker fill code rest ++ more ≡ marker fill code (rest ++ more)

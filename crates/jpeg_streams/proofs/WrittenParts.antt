@@ -24,7 +24,8 @@ use Rattle.jpeg_streams.specs.WholeImages.{AllComplete, picture_whole, plane_who
 use Rattle.jpeg_streams.specs.WrittenImages.{closed, scan as then_scan, segment as then_segment, Writes, WritesImage}
 use Rattle.jpeg_streams.specs.WrittenParts.{AgreeOnOwn, HaveSamePicture, nothing, picture_meant_by, scan, segment}
 use Rattle.jpeg_streams.specs.WrittenParts.{WritesFront}
-use Rattle.jpeg_streams.specs.WrittenScans.{AreCodings, block_for, Coefficients, components_of, grid_at, HasTable}
+use Rattle.jpeg_streams.specs.WrittenScans.{AreCodings, block_for, Coefficients, grid_at, HasTable}
+use Rattle.jpeg_streams.specs.Stream.{components_of}
 use Rattle.jpeg_streams.specs.WrittenScans.{IsOwn, levels_after, no_grid, place_at}
 use Rattle.jpeg_streams.specs.WrittenScans.AreCodings.{and_more, no_more}
 use Rattle.jpeg_streams.proofs.AcceptedImages.{frame-or, frame-stays, image-accepted, none-stands, same-frame}

@@ -5,7 +5,7 @@ use Rattle.jpeg_bits.specs.Reading.{Fault, ◌>>=◌}
 use Rattle.jpeg_bits.specs.Codes.{Table}
 use Rattle.jpeg_bits.specs.declared.scan.Predictor.{Predictor}
 use Rattle.jpeg_segments.specs.Frame.{Frame, Component, ceiling, greatest}
-use Rattle.jpeg_pixels.specs.Pictures.{factors_of}
+use Rattle.jpeg_pixels.specs.Pictures.{all_factors}
 use Rattle.jpeg_lossless.specs.Prediction.{start_of}
 use Rattle.jpeg_lossless.specs.Differences.{Part}
 use Rattle.jpeg_lossless.specs.Scans.{Way}
@@ -35,10 +35,10 @@ pub record LosslessCoding : Type 0 where
   pub table : Table
 
 abbrev pub most_across : Frame → ℕ
-most_across frame = greatest (λ f. f.horizontal) (factors_of frame.components)
+most_across frame = greatest (λ f. f.horizontal) (all_factors frame.components)
 
 abbrev pub most_down : Frame → ℕ
-most_down frame = greatest (λ f. f.vertical) (factors_of frame.components)
+most_down frame = greatest (λ f. f.vertical) (all_factors frame.components)
 
 -- The MCUs of a scan, across and down: of a component alone, its samples.
 unfoldable pub mcus_across : Frame → List LosslessCoding → ℕ

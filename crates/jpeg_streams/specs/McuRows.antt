@@ -44,8 +44,8 @@ unfoldable pub joined : Arrays → Arrays → Arrays
 joined (a ∷ front) (b ∷ more) = (a ++ b) ∷ joined front more
 joined _ _ = []
 
-abbrev pub with_arrays : Arrays → Counted → Counted
-with_arrays arrays c =
+abbrev pub on_arrays : Arrays → Counted → Counted
+on_arrays arrays c =
     record {
       reached = record { arrays = arrays; predictors = c.reached.predictors; run = c.reached.run };
       left = c.left;
@@ -55,9 +55,9 @@ with_arrays arrays c =
 -- rows of MCUs after the blocks in front, each read into blocks of its own
 unfoldable pub rows_from : Pass → List Via → ℕ → List Component → List (List (List Spot)) → Arrays
     → Counted → Reads Counted
-rows_from p vias n components [] front old = gives (with_arrays front old)
+rows_from p vias n components [] front old = gives (on_arrays front old)
 rows_from p vias n components (mcus ∷ rows) front old =
-    mcus_from p vias n mcus (with_arrays (zero_rows 1 components) old) >>= (λ r.
+    mcus_from p vias n mcus (on_arrays (zero_rows 1 components) old) >>= (λ r.
     rows_from p vias n components rows (joined front r.reached.arrays) r)
 
 -- a scan from zeros, row by row

@@ -25,16 +25,16 @@ name_of RGB24 = codes "RGB24"
 name_of CMYK32 = codes "CMYK32"
 
 -- width, height and format, and a line feed
-abbrev pub line_of : Option ImageInfo → List ℕ
-line_of None = []
-line_of (Some info) = decimal info.width ++ 32 ∷ decimal info.height ++ 32 ∷ name_of
+abbrev pub header_line_of : Option ImageInfo → List ℕ
+header_line_of None = []
+header_line_of (Some info) = decimal info.width ++ 32 ∷ decimal info.height ++ 32 ∷ name_of
     info.pixel_format ++ 10 ∷ []
 
 -- what is written for a stream that has a meaning
 unfoldable pub output_of : List ℕ → Option (List ℕ)
 output_of bytes =
     elim (meaning default_settings bytes) [
-      | Ok stream ↦ Some (line_of (option_map info_of stream.0.0.frame) ++ stream.0.1)
+      | Ok stream ↦ Some (header_line_of (option_map info_of stream.0.0.frame) ++ stream.0.1)
       | Err fault ↦ None
     ]
 

@@ -4,7 +4,7 @@ use Rattle.std.specs.Io.KnownBytes.{Appends}
 use Rattle.jpeg_bits.specs.declared.error.Error.{Error}
 use Rattle.jpeg_streams.specs.ArrayPictures.{picture_of_array, Takes}
 use Rattle.jpeg_streams.specs.Levels.{Is8Bit, Levels}
-use Rattle.jpeg_streams.specs.Output.{default_settings, line_of, IsOutsideOrMemory}
+use Rattle.jpeg_streams.specs.Output.{default_settings, header_line_of, IsOutsideOrMemory}
 use Rattle.jpeg_streams.specs.Output.{TakesBeginning, Tells}
 use Rattle.jpeg_streams.specs.Pixels.{info_of}
 use Rattle.jpeg_streams.specs.Stream.{Found}
@@ -32,4 +32,4 @@ PrintsImages remaining old result new =
     Tells remaining (image ++ rest) →
     (picture : List ℕ)
     × (picture_of_array default_settings final array last ≡ Ok picture)
-    × Prints (line_of (option_map info_of final.frame) ++ picture) old result new
+    × Prints (header_line_of (option_map info_of final.frame) ++ picture) old result new

@@ -129,17 +129,17 @@ abbrev pub with_huffman : Tables → Tables → Tables
 with_huffman old new = record { dc = updated old.dc new.dc; ac = updated old.ac new.ac }
 
 -- a precision that the process can be decoded at: 8 bits, or in a lossless frame 2 to 16
-abbrev pub is_precision : CodingProcess → ℕ → Bool
-is_precision DctSequential precision = precision == 8
-is_precision DctProgressive precision = precision == 8
-is_precision Lossless precision = nat_le 2 precision && nat_le precision 16
+abbrev pub is_decoded_precision : CodingProcess → ℕ → Bool
+is_decoded_precision DctSequential precision = precision == 8
+is_decoded_precision DctProgressive precision = precision == 8
+is_decoded_precision Lossless precision = nat_le 2 precision && nat_le precision 16
 
 abbrev pub is_arithmetic : EntropyCoding → Bool
 is_arithmetic Huffman = false
 is_arithmetic Arithmetic = true
 
-abbrev pub is_count : ℕ → Bool
-is_count count = count == 1 || (count == 3 || count == 4)
+abbrev pub is_decoded_count : ℕ → Bool
+is_decoded_count count = count == 1 || (count == 3 || count == 4)
 
 -- The frame that is decoded: of one, three or four components, each with a way to upsample it. A
 -- number of components is told as a byte.
@@ -147,9 +147,9 @@ unfoldable pub accepted : Frame → Result Frame Fault
 accepted frame =
     if frame.is_differential then Err (Lacks features.Hierarchical) else (
     if is_arithmetic frame.coding then Err (Lacks features.ArithmeticEntropyCoding) else (
-    if not (is_precision frame.process frame.precision)
+    if not (is_decoded_precision frame.process frame.precision)
     then Err (Lacks (features.SamplePrecision frame.precision)) else (
-    if is_count (length frame.components)
+    if is_decoded_count (length frame.components)
     then sources_of frame.components frame.output_width frame.output_height
     >>= (λ sources. Ok frame)
     else Err (Lacks (features.ComponentCount (min 255 (length frame.components)))))))
@@ -235,6 +235,9 @@ pub record Coding : Type 0 where
   pub dc : Table
   pub ac : Table
 
+abbrev pub components_of : List Coding → List Component
+components_of codings = map (λ c. c.component) codings
+
 -- a table that has to be there where the scan needs it
 abbrev pub needed_if : Bool → HuffmanTableClass → Option Table → Result Table Fault
 needed_if true class table = needed table
@@ -242,8 +245,8 @@ needed_if false class table = Ok (no_table class)
 
 -- The quantization table is needed, a table for DC where the pass has DC, also in a refinement, and
 -- one for AC where it has AC.
-unfoldable pub coding_of : Found → Frame → Pass → Tables → ℕ → ℕ → ℕ → Result Coding Fault
-coding_of found frame p tables place dc_place ac_place = do
+unfoldable pub component_coding : Found → Frame → Pass → Tables → ℕ → ℕ → ℕ → Result Coding Fault
+component_coding found frame p tables place dc_place ac_place = do
   component ← needed (first_of (drop place frame.components))
   quantization ← needed (slice_index_or found.quantization component.factors.quantization None)
   dc ← needed_if (p.ss == 0) classes.DC (slice_index_or tables.dc dc_place None)
@@ -260,7 +263,7 @@ coding_of found frame p tables place dc_place ac_place = do
 unfoldable pub codings_from : Found → Frame → Pass → Tables → List ℕ → List ℕ → List ℕ
     → Result (List Coding) Fault
 codings_from found frame p tables (place ∷ places) (d ∷ dc_places) (a ∷ ac_places) =
-    coding_of found frame p tables place d a
+    component_coding found frame p tables place d a
     >>= (λ c. codings_from found frame p tables places dc_places ac_places
     >>= (λ others. Ok (c ∷ others)))
 codings_from found frame p tables _ _ _ = Ok []

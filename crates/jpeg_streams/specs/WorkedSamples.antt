@@ -6,7 +6,7 @@ use Rattle.jpeg_segments.specs.ScanHeaders.{Choice, scan_payload, ScanHeader}
 use Rattle.jpeg_segments.specs.WrittenSegments.{FrameHeader, Header, Huffman, Interval, payload_of}
 use Rattle.jpeg_segments.specs.WrittenSegments.{Segment, sized}
 use Rattle.jpeg_lossless.specs.Worked.{small_table}
-use Rattle.jpeg_lossless.specs.Written.{marker}
+use Rattle.jpeg_bits.specs.Written.{marker}
 use Rattle.jpeg_streams.specs.Stream.{Found}
 use Rattle.jpeg_streams.specs.WrittenLossless.{Samples, WritesSamples}
 

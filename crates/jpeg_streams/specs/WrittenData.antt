@@ -7,27 +7,19 @@ use Rattle.jpeg_bits.specs.Codes.{Table, code_lengths}
 use Rattle.jpeg_bits.specs.Entropy.{bits_of}
 use Rattle.jpeg_bits.specs.Intervals.{predictors_at_start}
 use Rattle.jpeg_bits.specs.Passes.{Pass, Via, Block, band_of}
-use Rattle.jpeg_bits.specs.Written.{bit, low_bits, code_bits}
+use Rattle.jpeg_bits.specs.Written.{
+  bits_of_bytes,
+  marker,
+  stuffed,
+  number_for,
+  IsCategory,
+  IsCoded,
+  bit,
+  low_bits,
+  code_bits,
+}
 
 -- ---- codes and values
-
--- These are the bits of a code for the symbol, by a Huffman table (Annex C).
-pub record IsCoded (table : Table) (symbol : ℕ) (bits : List Bool) : Type 0 where
-  pub place : ℕ
-  pub listed : place < length (code_lengths table.counts)
-  pub is_for : slice_index table.symbols place ≡ symbol
-  pub has_bits : code_bits table place ≡ bits
-
--- The category SSSS of a value: the least s with |d| < 2 ^ s (F.1.2.1.2).
-pub record IsCategory (d : ℤ) (s : ℕ) : Type 0 where
-  pub holds : unsigned_abs d < 2 ^ s
-  pub is_least : (t : ℕ) → unsigned_abs d < 2 ^ t → s ≤ t
-
--- The number whose s bits follow the category: d itself, or 2 ^ s - 1 + d where d is not positive.
-unfoldable pub number_for : ℤ → ℕ → ℕ
-number_for (pos zero) s = 2 ^ s - 1
-number_for (pos (suc n)) s = suc n
-number_for (negsuc n) s = 2 ^ s - 1 - suc n
 
 abbrev pub bits_for : ℤ → ℕ → List Bool
 bits_for d s = low_bits s (number_for d s)
@@ -158,20 +150,6 @@ pub data WritesBlocks (p : Pass) : List ℤ → ℕ → List (Via × Block) → 
       → WritesBlocks p predictors run ((via, u) ∷ turns) (dc ++ (ac ++ bits))
 
 -- ---- bytes (B.1.1.5)
-
--- 00 follows each FF.
-unfoldable pub stuffed : List ℕ → List ℕ
-stuffed [] = []
-stuffed (b ∷ bytes) =
-    elim (b == 0xFF) [ true ↦ 0xFF ∷ 0 ∷ stuffed bytes | false ↦ b ∷ stuffed bytes ]
-
--- A marker after any number of fill bytes FF, by its second byte, and then more (B.1.1.2).
-abbrev pub marker : ℕ → ℕ → List ℕ → List ℕ
-marker fill code rest = 0xFF ∷ (replicate fill 0xFF ++ code ∷ rest)
-
-unfoldable pub bits_of_bytes : List ℕ → List Bool
-bits_of_bytes [] = []
-bits_of_bytes (b ∷ bytes) = bits_of b ++ bits_of_bytes bytes
 
 -- The bytes of a restart interval: its bits, from predictions of 0 and no run, and at most 7 more
 -- of any value, up to a whole byte.

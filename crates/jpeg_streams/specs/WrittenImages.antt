@@ -10,7 +10,7 @@ use Rattle.jpeg_segments.specs.WrittenSegments.{sized}
 use Rattle.jpeg_streams.specs.Levels.{Levels, nothing_sent}
 use Rattle.jpeg_streams.specs.SaidSegments.{Stands, found_after}
 use Rattle.jpeg_streams.specs.Stream.{Coding, Found, is_progressive, nothing_found, pass_of}
-use Rattle.jpeg_streams.specs.WrittenData.{marker}
+use Rattle.jpeg_bits.specs.Written.{marker}
 use Rattle.jpeg_streams.specs.WrittenScans.{Coefficients, HasTable, IsComplete, IsLegalScan}
 use Rattle.jpeg_streams.specs.WrittenScans.{levels_after, WritesScan}
 
@@ -21,9 +21,9 @@ MayFollow (Header number h) = ⊥
 MayFollow _ = Unit {0}
 
 -- A frame header is SOF0, SOF1 or SOF2: the processes by DCT and Huffman codes.
-abbrev pub IsDct : Segment → Type 0
-IsDct (Header number h) = number ≤ 2
-IsDct _ = Unit {0}
+abbrev pub IsDctSegment : Segment → Type 0
+IsDctSegment (Header number h) = number ≤ 2
+IsDctSegment _ = Unit {0}
 
 -- The rest of a stream, from a marker to the end of the image. What was said before it, the levels
 -- at which each component was sent, and whether a scan was; its bytes; and what is said and sent at
@@ -37,7 +37,7 @@ pub data Writes (array : Coefficients) :
       → Writes array said levels true (marker fill 217 []) said levels
   segment : (said final : Found) (levels last : ℕ → Levels) (scanned : Bool) (fill : ℕ)
       (s : Segment) (more : List ℕ)
-      → Stands said s → IsDct s → (scanned ≡ true → MayFollow s)
+      → Stands said s → IsDctSegment s → (scanned ≡ true → MayFollow s)
       → Writes array (found_after said s) levels scanned more final last
       → Writes array said levels scanned
       (marker fill (code_of s) (sized (payload_of s) ++ more)) final last

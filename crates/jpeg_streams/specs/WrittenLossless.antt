@@ -15,7 +15,9 @@ use Rattle.jpeg_lossless.specs.Pictures.{sample_bytes}
 use Rattle.jpeg_lossless.specs.Places.{at_place}
 use Rattle.jpeg_lossless.specs.Prediction.{start_of}
 use Rattle.jpeg_lossless.specs.Scans.{rows_of_interval, Way}
-use Rattle.jpeg_lossless.specs.Written.{marker, WritesIntervals}
+use Rattle.jpeg_lossless.specs.Written.{WritesIntervals}
+use Rattle.jpeg_bits.specs.Written.{marker}
+use Rattle.jpeg_streams.specs.InTurn.{IsIn}
 use Rattle.jpeg_streams.specs.SaidSegments.{found_after}
 use Rattle.jpeg_streams.specs.Stream.{Found, nothing_found}
 
@@ -45,8 +47,8 @@ IsLossless (Header number h) = HasSamples number h
 IsLossless _ = Unit {0}
 
 -- The segment keeps its rules where so much is known.
-abbrev pub Stands : Found → Segment → Type 0
-Stands said s = MayStand said.frame s × IsLossless s
+abbrev pub StandsInLossless : Found → Segment → Type 0
+StandsInLossless said s = MayStand said.frame s × IsLossless s
 
 -- ---- a scan
 
@@ -87,11 +89,6 @@ pub record WritesScan (said : Found) (frame : Frame) (h : ScanHeader) (samples :
 
 -- ---- a stream
 
--- k is one of these
-abbrev pub IsIn : ℕ → List ℕ → Type 0
-IsIn k [] = ⊥
-IsIn k (x ∷ xs) = (x ≡ k) ⊎ IsIn k xs
-
 -- what is known after a scan
 abbrev pub said_after_scan : Found → Found
 said_after_scan said = record said { scanned = true }
@@ -105,7 +102,7 @@ pub data Writes (samples : Samples) : Found → List ℕ → List ℕ → Found 
       → AllByRecursion (λ k. IsIn k sent) (range_with_len 0 (length frame.components))
       → Writes samples said sent (marker fill 217 []) said
   segment : (said final : Found) (sent : List ℕ) (fill : ℕ) (s : Segment) (more : List ℕ)
-      → Stands said s → Writes samples (found_after said s) sent more final
+      → StandsInLossless said s → Writes samples (found_after said s) sent more final
       → Writes samples said sent (marker fill (code_of s) (sized (payload_of s) ++ more)) final
   scan : (said final : Found) (sent : List ℕ) (frame : Frame) (fill : ℕ) (h : ScanHeader)
       (data_bytes more : List ℕ)
@@ -129,15 +126,15 @@ abbrev pub pixel_of : ℕ → ℕ → Samples → ℕ → ℕ → List ℕ
 pixel_of precision count samples y x =
     concat (map (λ k. sample_bytes precision (at_place (samples k) x y)) (range_with_len 0 count))
 
-abbrev pub line_of : Frame → Samples → ℕ → List ℕ
-line_of frame samples y =
+abbrev pub samples_line : Frame → Samples → ℕ → List ℕ
+samples_line frame samples y =
     concat (map (pixel_of frame.precision (length frame.components) samples y)
     (range_with_len 0 frame.width))
 
 -- The picture of samples: its pixels, line by line.
 unfoldable pub picture_of_samples : Frame → Samples → List ℕ
 picture_of_samples frame samples =
-    concat (map (line_of frame samples) (range_with_len 0 frame.height))
+    concat (map (samples_line frame samples) (range_with_len 0 frame.height))
 
 -- The picture of a frame is within a limit on its samples.
 pub record IsWithin (limit : ℕ) (final : Found) (frame : Frame) : Type 0 where

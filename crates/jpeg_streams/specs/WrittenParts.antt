@@ -11,8 +11,8 @@ use Rattle.jpeg_streams.specs.Order.{grid_of}
 use Rattle.jpeg_streams.specs.SaidSegments.{found_after, Stands}
 use Rattle.jpeg_streams.specs.Needed.{first_of}
 use Rattle.jpeg_streams.specs.Stream.{Coding, Found, meaning, pass_of}
-use Rattle.jpeg_streams.specs.WrittenData.{marker}
-use Rattle.jpeg_streams.specs.WrittenImages.{IsDct, MayFollow}
+use Rattle.jpeg_bits.specs.Written.{marker}
+use Rattle.jpeg_streams.specs.WrittenImages.{IsDctSegment, MayFollow}
 use Rattle.jpeg_streams.specs.WrittenScans.{Coefficients, IsLegalScan, levels_after, WritesScan}
 use Rattle.jpeg_streams.specs.declared.settings.Settings.{Settings}
 
@@ -26,7 +26,7 @@ pub data WritesFront (array : Coefficients) :
       → WritesFront array said levels scanned [] said levels scanned
   segment : (said next : Found) (levels reached : ℕ → Levels) (scanned after : Bool) (fill : ℕ)
       (s : Segment) (more : List ℕ)
-      → Stands said s → IsDct s → (scanned ≡ true → MayFollow s)
+      → Stands said s → IsDctSegment s → (scanned ≡ true → MayFollow s)
       → WritesFront array (found_after said s) levels scanned more next reached after
       → WritesFront array said levels scanned
       (marker fill (code_of s) (sized (payload_of s) ++ more)) next reached after

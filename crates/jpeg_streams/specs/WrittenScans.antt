@@ -16,7 +16,7 @@ use Rattle.jpeg_streams.specs.Levels.{Is8Bit, IsLegal, Levels, sent_after, numbe
 use Rattle.jpeg_streams.specs.Order.{Spot, grid_of, mcu_size, spots_of}
 use Rattle.jpeg_streams.specs.Scans.{no_table, via_at}
 use Rattle.jpeg_streams.specs.Needed.{first_of}
-use Rattle.jpeg_streams.specs.Stream.{Coding, Found, pass_of, tables_of, vias_from}
+use Rattle.jpeg_streams.specs.Stream.{components_of, Coding, Found, pass_of, tables_of, vias_from}
 use Rattle.jpeg_streams.specs.WrittenData.{WritesIntervals}
 
 -- ---- the coefficients of an image
@@ -27,9 +27,6 @@ abbrev pub Coefficients : Type 0
 Coefficients = ℕ → ℕ → ℕ → Block
 
 -- ---- the blocks of a scan
-
-abbrev pub components_of : List Coding → List Component
-components_of codings = map (λ c. c.component) codings
 
 -- the place in the frame of the component in a slot of the scan
 abbrev pub place_at : List Coding → ℕ → ℕ

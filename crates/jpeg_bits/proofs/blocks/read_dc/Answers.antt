@@ -26,7 +26,8 @@ returns-then-pass-clause-part g c =
             at.0,
             dc_first (pass_in c.args.pass) c.args.table.now c.args.value c.args.predictor.now c.in-Some.difference
                 c.wrapped_sum.result c.shifted.result (upcoming c.args.held.now c.args.source.now.bytes)
-                (upcoming c.read_difference.new.held c.read_difference.new.source.bytes) (omega arith) c.if-pass.true sum
+                (upcoming c.read_difference.new.held c.read_difference.new.source.bytes) (omega arith) c.if-pass.true
+                sum
                 value at.1,
           ),
     )

@@ -99,7 +99,8 @@ returns-then-not-read_band-clause-block g c =
         at.0,
         dc_step p c.args.dc_table.now c.args.ac_table.now c.args.predictor.now
             (cast_signed w16 (cast_unsigned w16 first)) c.read_dc.new.predictor y c.args.run.now block
-            (upcoming c.args.held.now c.args.source.now.bytes) (upcoming c.read_dc.new.held c.read_dc.new.source.bytes) z
+            (upcoming c.args.held.now c.args.source.now.bytes) (upcoming c.read_dc.new.held c.read_dc.new.source.bytes)
+            z
             at.1,
       ),
     ) b)

@@ -3,7 +3,7 @@ use Rattle.std.proofs.lemmas.List.{length-map}
 use Rattle.std.specs.declared.alloc.Global.{Global}
 use Rattle.std.specs.declared.vec.Vec.{Vec}
 use Rattle.jpeg_lossless.specs.Codings.{way_by}
-use Rattle.jpeg_lossless.specs.Pictures.{AreWhole}
+use Rattle.jpeg_lossless.specs.Pictures.{AreOfSize}
 use Rattle.jpeg_lossless.specs.Scans.{scan_at}
 use Rattle.jpeg_lossless.specs.declared.scan.Coding.{Coding}
 use Rattle.std.proofs.lemmas.Result.{err_from_is_err_and}
@@ -129,6 +129,6 @@ returns-clause-sound g c =
     ap (λ (x : Coding). x.wide * x.high) c.coding_of-coding.ensures in
     on-ok c.pass_restarts.result (samples-sound found next frame c.deref-2.result.now planes c.requires.sound
     c.requires.frame c.requires.process
-    (subst (λ (n : ℕ). AreWhole n planes) size c.in_ok-planes.ensures.long)
+    (subst (λ (n : ℕ). AreOfSize n planes) size c.in_ok-planes.ensures.long)
     (put-made (found_in c.args.state.now) c.args.decoded.now c.put_samples.new.self _ c.put_samples.ensures.held
     c.put_samples.ensures.finished c.put_samples.ensures.planes c.put_samples.ensures.samples))

@@ -3,7 +3,7 @@ use Rattle.std.proofs.lemmas.Result.{err_from_is_err_and}
 use Rattle.jpeg_bits.specs.Marker.{next_marker}
 use Rattle.jpeg_bits.specs.declared.marker.Marker.{Marker}
 use Rattle.jpeg_bits.proofs.Loops.{Continues-ok, Continues-err}
-use Rattle.jpeg_decoder.specs.Steps.{is_restart, after_all}
+use Rattle.jpeg_decoder.specs.Steps.{is_restart_marker, after_all}
 use Rattle.jpeg_streams.proofs.Refusals.{never-met, short-first}
 use Rattle.jpeg_decoder.proofs.PassedRestarts.{after-done, after-refused, after-next, marker-takes}
 use Rattle.jpeg_decoder.proofs.restarts.pass_restarts.Goals as goal
@@ -12,7 +12,7 @@ use Rattle.jpeg_decoder.proofs.restarts.pass_restarts.Goals.{then-loop-test+else
 
 pub returns-then-not-is_restart : goal.returns-then-not-is_restart
 returns-then-not-is_restart g c =
-    let e : is_restart c.loop.met ≡ false = search rules in (
+    let e : is_restart_marker c.loop.met ≡ false = search rules in (
       c.loop.invariant.reads.0,
       λ k. let here = c.loop.invariant.reads.1 k in (here.0, here.1 ∙ after-done c.loop.met c.loop.source.bytes e),
     )
@@ -20,7 +20,7 @@ returns-then-not-is_restart g c =
 pub returns-in_err-read_marker : goal.returns-in_err-read_marker
 returns-in_err-read_marker g c =
     let p = err_from_is_err_and c.from_residual.result c.from_residual.ensures.1 in
-    let e : is_restart c.loop.met ≡ true = search rules in
+    let e : is_restart_marker c.loop.met ≡ true = search rules in
     rw (p.1, p.2) (Continues-err {X = Option Marker} {Z = Marker} (λ m. m) (λ m. m) (after_all c.args.met)
     (after_all c.loop.met) next_marker c.args.source.now c.loop.source c.read_marker.new.source _
     (λ f h. after-refused c.loop.met c.loop.source.bytes f e h) c.loop.invariant.reads
@@ -28,7 +28,7 @@ returns-in_err-read_marker g c =
 
 pub loop-preserved : goal.loop-preserved
 loop-preserved g c =
-    let e : is_restart c.loop.met ≡ true = search rules in
+    let e : is_restart_marker c.loop.met ≡ true = search rules in
     let m = c.in_ok-read_marker.field-0 in
     record {
       reads = Continues-ok {X = Marker} (λ m. m) (after_all c.args.met) (after_all c.loop.met) (after_all (Some m))

@@ -1,5 +1,5 @@
 use Rattle.std.proofs.Common.{◌≡◌, ◌∙◌, ap, sym, ◌++◌, Some, string_bytes, option_map}
-use Rattle.jpeg_streams.specs.Output.{line_of}
+use Rattle.jpeg_streams.specs.Output.{header_line_of}
 use Rattle.jpeg_streams.specs.Stream.{told_of}
 use Rattle.jpeg_streams.specs.Pixels.{info_of}
 use Rattle.std.proofs.lemmas.Result.{err_from_is_err_and}
@@ -34,7 +34,7 @@ returns-clause-ok g c bytes tells =
     let same = known_bytes_are_told (g.R.Read.remaining c.args.reader) bytes tells in
     let here = reads tt in
     let all = rw same at (here.1 known).1 in
-    let text : string_bytes c.in_ok-line.line ≡ line_of (option_map info_of c.decode.new.self.found.frame) =
-    c.in_ok-line.ensures ∙ ap line_of c.info.ensures in
+    let text : string_bytes c.in_ok-line.line ≡ header_line_of (option_map info_of c.decode.new.self.found.frame) =
+    c.in_ok-line.ensures ∙ ap header_line_of c.info.ensures in
     output-some bytes c.decode.new.self.source.bytes (told_of c.decode.new.self.found) c.in_ok-pixels.pixels.items all
     ∙ ap (λ xs. Some (xs ++ c.in_ok-pixels.pixels.items)) (sym text)

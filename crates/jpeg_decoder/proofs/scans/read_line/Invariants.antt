@@ -1,7 +1,7 @@
 use Rattle.std.proofs.Common.{◌≡◌, ◌+◌}
 use Rattle.jpeg_bits.proofs.BandLoop.{Leaves}
 use Rattle.jpeg_streams.specs.InTurn.{turns_from}
-use Rattle.jpeg_streams.specs.Layout.{line_of}
+use Rattle.jpeg_streams.specs.Layout.{spots_in_line}
 use Rattle.jpeg_bits.specs.BlockView.{pass_in}
 use Rattle.jpeg_decoder.specs.Scanning.{vias_in, arrays_in, reached, sizes_of}
 use Rattle.jpeg_decoder.proofs.scans.read_line.Given as goal
@@ -14,9 +14,10 @@ invariant-loop-left g l = record {
   left : l.interval.left ≡ l.fn.interval.left;
   number : l.interval.number ≡ l.fn.interval.number;
   turns : Leaves (turns_from (pass_in l.fn.scan.pass) (vias_in 0 l.fn.scan.components.items)
-      (line_of l.fn.start.slot l.fn.start.index l.fn.count) (reached l.fn.interval (arrays_in l.fn.arrays.items)))
+      (spots_in_line l.fn.start.slot l.fn.start.index l.fn.count) (reached l.fn.interval (arrays_in l.fn.arrays.items)))
       l.fn.interval.decoder l.fn.source
-      (turns_from (pass_in l.fn.scan.pass) (vias_in 0 l.fn.scan.components.items) (line_of l.spot.slot l.spot.index
+      (turns_from (pass_in l.fn.scan.pass) (vias_in 0 l.fn.scan.components.items)
+      (spots_in_line l.spot.slot l.spot.index
       l.left) (reached l.interval (arrays_in l.arrays.items)))
       l.interval.decoder l.source;
 }

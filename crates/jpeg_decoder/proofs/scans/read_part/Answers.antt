@@ -2,7 +2,7 @@ use Rattle.std.proofs.Common.{◌∙◌, get_or, arith}
 use Rattle.jpeg_bits.specs.Entropy.{upcoming}
 use Rattle.jpeg_bits.proofs.WholeBlocks.{refused_after}
 use Rattle.jpeg_streams.specs.InTurn.{turns_from}
-use Rattle.jpeg_streams.specs.Layout.{line_of, part_of}
+use Rattle.jpeg_streams.specs.Layout.{spots_in_line, spots_in_part}
 use Rattle.jpeg_bits.specs.BlockView.{pass_in}
 use Rattle.jpeg_decoder.specs.Scanning.{vias_in, arrays_in, reached, sizes_of, wide_in, across_in, part_in}
 use Rattle.jpeg_decoder.proofs.LineSteps.{part_step, part_refused, within-more}
@@ -21,8 +21,8 @@ returns-then-not-read_line-clause-turns g c =
     (arrays_in c.read_line.new.arrays.items))
     (turns_from p vias (part_in c.args.start.slot c.args.start.index c.args.coded.now)
     (reached c.args.interval.now (arrays_in c.args.arrays.now.items)))
-    (turns_from p vias (part_of slot wide across l.spot.index l.left) now)
-    (turns_from p vias (line_of slot l.spot.index across) now)
+    (turns_from p vias (spots_in_part slot wide across l.spot.index l.left) now)
+    (turns_from p vias (spots_in_line slot l.spot.index across) now)
     c.args.interval.now.decoder l.interval.decoder c.read_line.new.interval.decoder c.args.source.now l.source
     c.read_line.new.source _
     (λ t f h. part_refused p vias slot wide across l.spot.index l.left now t f c.loop-left-test.true h)

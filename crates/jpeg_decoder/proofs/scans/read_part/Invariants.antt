@@ -1,7 +1,7 @@
 use Rattle.std.proofs.Common.{◌≡◌, ◌+◌, ◌*◌, ◌≤◌, ◌^◌, get_or}
 use Rattle.jpeg_bits.proofs.BandLoop.{Leaves}
 use Rattle.jpeg_streams.specs.InTurn.{turns_from}
-use Rattle.jpeg_streams.specs.Layout.{part_of}
+use Rattle.jpeg_streams.specs.Layout.{spots_in_part}
 use Rattle.jpeg_bits.specs.BlockView.{pass_in}
 use Rattle.jpeg_decoder.specs.Scanning.{vias_in, arrays_in, reached, sizes_of, AreWithin, wide_in, across_in, part_in}
 use Rattle.jpeg_decoder.proofs.scans.read_part.Given as goal
@@ -19,7 +19,7 @@ invariant-loop-left g l = record {
       (part_in l.fn.start.slot l.fn.start.index l.fn.coded) (reached l.fn.interval (arrays_in l.fn.arrays.items)))
       l.fn.interval.decoder l.fn.source
       (turns_from (pass_in l.fn.scan.pass) (vias_in 0 l.fn.scan.components.items)
-      (part_of l.spot.slot (wide_in l.fn.coded) (across_in l.fn.coded) l.spot.index l.left)
+      (spots_in_part l.spot.slot (wide_in l.fn.coded) (across_in l.fn.coded) l.spot.index l.left)
       (reached l.interval (arrays_in l.arrays.items)))
       l.interval.decoder l.source;
 }

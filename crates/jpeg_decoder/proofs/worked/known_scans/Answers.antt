@@ -31,7 +31,7 @@ use Rattle.jpeg_pixels.specs.Planes.{plane_of, cropped}
 use Rattle.jpeg_segments.specs.Scales.{scale_for, component_at, frame_at}
 use Rattle.jpeg_streams.specs.Stream.{nothing_found, updated, accepted, frame_segment, quantization_segment}
 use Rattle.jpeg_streams.specs.Stream.{huffman_segment, restart_segment, application_segment, skipped_segment, pass_of}
-use Rattle.jpeg_streams.specs.Stream.{tables_of, coding_of, codings_from, codings_of, vias_from, arrays_before}
+use Rattle.jpeg_streams.specs.Stream.{tables_of, component_coding, codings_from, codings_of, vias_from, arrays_before}
 use Rattle.jpeg_streams.specs.Stream.{scan_arrays, plane_by, finished_by, with_plane, with_blocks, with_arrays}
 use Rattle.jpeg_streams.specs.Stream.{put_arrays, after_scan, after_restarts, blocks_scan, scan_segment, end_segment}
 use Rattle.jpeg_streams.specs.Stream.{segment_at}
@@ -53,7 +53,7 @@ unfolding int_wrap next_u16 length_at times skip_at marker_of next_marker filled
     intervals groups own_spots part_spots mcu_spots all_spots spots_of mcu_size put_blocks zero_arrays turns_of
     arrays_at even_part odd_part column_of_4 sample_of_4 sample_of_2 sample_of_1 sample_at plane_of cropped
     scale_for component_at frame_at nothing_found updated accepted frame_segment quantization_segment
-    huffman_segment restart_segment application_segment skipped_segment pass_of tables_of coding_of codings_from
+    huffman_segment restart_segment application_segment skipped_segment pass_of tables_of component_coding codings_from
     codings_of vias_from arrays_before scan_arrays plane_by finished_by with_plane with_blocks with_arrays
     put_arrays after_scan after_restarts blocks_scan scan_segment end_segment segment_at turn_at segments_within
     segments_at

@@ -3,7 +3,7 @@ use Rattle.std.proofs.Math.ListN.{drop_of_length-le}
 use Rattle.jpeg_segments.specs.declared.parser.Component.{Component}
 use Rattle.jpeg_segments.specs.Frame.{greatest}
 use Rattle.jpeg_segments.specs.FrameView.{component_in}
-use Rattle.jpeg_pixels.specs.Pictures.{factors_of}
+use Rattle.jpeg_pixels.specs.Pictures.{all_factors}
 use Rattle.jpeg_pixels.proofs.SourceLists.{greatest-start}
 use Rattle.jpeg_pixels.proofs.sources.greatest_horizontal.Goals as goal
 
@@ -11,7 +11,7 @@ pub loop-component-init : goal.loop-component-init
 loop-component-init c =
     record {
       some = omega arith;
-      same = greatest-start (λ f. f.horizontal) (factors_of (map component_in c.args.components.now));
+      same = greatest-start (λ f. f.horizontal) (all_factors (map component_in c.args.components.now));
     }
 
 pub returns : goal.returns
@@ -21,5 +21,5 @@ returns c =
     let nothing : drop c.loop-component.component-index components ≡ [] =
     drop_of_length-le components c.loop-component-test.false in
     let own : most ≡ max most 1 = omega arith in
-    own ∙ ap (λ (l : List Component). max most (greatest (λ f. f.horizontal) (factors_of (map component_in l))))
+    own ∙ ap (λ (l : List Component). max most (greatest (λ f. f.horizontal) (all_factors (map component_in l))))
     (sym nothing) ∙ c.loop-component.invariant.same

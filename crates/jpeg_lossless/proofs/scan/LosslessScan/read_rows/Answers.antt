@@ -2,11 +2,11 @@ use Rattle.std.proofs.Common.{◌≡◌, refl, ◌+◌, ◌*◌, ◌-◌, subst,
 use Rattle.std.proofs.Common.{Vec, Global, take, drop, ◌++◌, true, false, arith}
 use Rattle.std.proofs.lemmas.List.{length-map}
 use Rattle.std.proofs.lemmas.Result.{err_from_is_err_and}
-use Rattle.jpeg_lossless.specs.Differences.{differences, tables_of}
-use Rattle.jpeg_lossless.specs.Rows.{via_of, planes_from, with_row}
+use Rattle.jpeg_lossless.specs.Differences.{differences, row_tables}
+use Rattle.jpeg_lossless.specs.Rows.{via_of, planes_after_rows, with_row}
 use Rattle.jpeg_lossless.proofs.Leaves.{Leaves-step, Leaves-refused, Leaves-done}
 use Rattle.jpeg_lossless.proofs.PlaneLoops.{planes_more, planes_refused, planes_none}
-use Rattle.jpeg_lossless.specs.Pictures.{AreWhole}
+use Rattle.jpeg_lossless.specs.Pictures.{AreOfSize}
 use Rattle.jpeg_lossless.proofs.Sizes.{whole-as, one-row, none-yet, written-back}
 use Rattle.jpeg_lossless.proofs.scan.LosslessScan.read_rows.Goals as goal
 
@@ -16,15 +16,15 @@ returns-in_err-read_row-clause-reads g c =
     let tables = map (λ t. t.now) c.args.tables.now in
     let v = via_of c.args.coding tables in
     let planes = map (λ v. v.items) c.loop-left.self.planes.items in
-    rw (e.1, e.2) (Leaves-refused (planes_from v true c.args.count
+    rw (e.1, e.2) (Leaves-refused (planes_after_rows v true c.args.count
     (map (λ v. v.items) c.args.self.now.planes.items))
-    (planes_from v c.loop-left.is_first c.loop-left.left planes)
-    (differences (tables_of c.from-wide.result tables))
+    (planes_after_rows v c.loop-left.is_first c.loop-left.left planes)
+    (differences (row_tables c.from-wide.result tables))
     c.args.decoder.now c.loop-left.decoder c.read_row.new.decoder c.args.source.now c.loop-left.source
     c.read_row.new.source
     (λ (u : Unit {0}). c.read_row.new.row.items) (λ (u : Unit {0}). planes) _
     (λ t f h. planes_refused v c.loop-left.is_first c.loop-left.left planes t f c.loop-left-test.true
-    (ap (λ (n : ℕ). differences (tables_of n tables) t) (sym c.from-wide.ensures) ∙ h))
+    (ap (λ (n : ℕ). differences (row_tables n tables) t) (sym c.from-wide.ensures) ∙ h))
     c.loop-left.invariant.reads c.in_err-read_row.ensures.reads)
 
 pub loop-left-preserved : goal.loop-left-preserved
@@ -66,18 +66,18 @@ loop-left-preserved g c =
           (ap (λ (n : ℕ). k + (c.args.count - c.loop-left.left) * coding.wide + n) c.from-wide.ensures
           ∙ one-row k c.args.count c.loop-left.left coding.wide c.loop-left-test.true
           c.loop-left.invariant.left) (subst
-          (AreWhole (k + (c.args.count - c.loop-left.left) * coding.wide + c.from-wide.result)) (sym same)
+          (AreOfSize (k + (c.args.count - c.loop-left.left) * coding.wide + c.from-wide.result)) (sym same)
           (c.in_ok-add_row.ensures.long (k + (c.args.count - c.loop-left.left) * coding.wide)
-          (subst (λ (l : List (Vec ℕ Global)). AreWhole (k + (c.args.count - c.loop-left.left) * coding.wide)
+          (subst (λ (l : List (Vec ℕ Global)). AreOfSize (k + (c.args.count - c.loop-left.left) * coding.wide)
           (grid l)) (sym back) (c.loop-left.invariant.long k w))));
-      reads = Leaves-step (planes_from v true c.args.count (map (λ v. v.items) c.args.self.now.planes.items))
-          (planes_from v first c.loop-left.left planes) (planes_from v false (c.loop-left.left - 1) next)
-          (differences (tables_of c.from-wide.result tables))
+      reads = Leaves-step (planes_after_rows v true c.args.count (map (λ v. v.items) c.args.self.now.planes.items))
+          (planes_after_rows v first c.loop-left.left planes) (planes_after_rows v false (c.loop-left.left - 1) next)
+          (differences (row_tables c.from-wide.result tables))
           c.args.decoder.now c.loop-left.decoder c.read_row.new.decoder c.args.source.now c.loop-left.source
           c.read_row.new.source
           (λ (u : Unit {0}). row) tt
           (λ t u h. planes_more v first c.loop-left.left planes next row t u c.loop-left-test.true grown
-          (ap (λ (n : ℕ). differences (tables_of n tables) t) (sym c.from-wide.ensures) ∙ h))
+          (ap (λ (n : ℕ). differences (row_tables n tables) t) (sym c.from-wide.ensures) ∙ h))
           c.loop-left.invariant.reads c.in_ok-read_row.ensures.reads;
     }
 
@@ -86,8 +86,8 @@ returns-clause-reads g c =
     let tables = map (λ t. t.now) c.args.tables.now in
     let v = via_of c.args.coding tables in
     let planes = map (λ v. v.items) c.loop-left.self.planes.items in
-    Leaves-done (planes_from v true c.args.count (map (λ v. v.items) c.args.self.now.planes.items))
-    (planes_from v c.loop-left.is_first c.loop-left.left planes) c.args.decoder.now c.loop-left.decoder
+    Leaves-done (planes_after_rows v true c.args.count (map (λ v. v.items) c.args.self.now.planes.items))
+    (planes_after_rows v c.loop-left.is_first c.loop-left.left planes) c.args.decoder.now c.loop-left.decoder
     c.args.source.now c.loop-left.source
     (λ (u : Unit {0}). planes) tt (λ t. planes_none v c.loop-left.is_first c.loop-left.left planes t
     (omega arith)) c.loop-left.invariant.reads
@@ -104,5 +104,5 @@ loop-left-init g c = record {
 pub returns-clause-long : goal.returns-clause-long
 returns-clause-long g c = λ k w.
     let e : c.args.count - c.loop-left.left ≡ c.args.count = omega arith in
-    subst (λ (n : ℕ). AreWhole (k + n * c.args.coding.wide) (map (λ v. v.items) c.loop-left.self.planes.items))
+    subst (λ (n : ℕ). AreOfSize (k + n * c.args.coding.wide) (map (λ v. v.items) c.loop-left.self.planes.items))
     e (c.loop-left.invariant.long k w)
