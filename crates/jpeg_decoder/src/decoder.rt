@@ -54,7 +54,7 @@ fn format_of(count: usize, precision: u8) -> PixelFormat
     }
 }
 
-/// What a frame tells.
+/// What a caller is given of a frame.
 fn info_of(frame: &FrameInfo) -> ImageInfo
     ensures { result ≡ info_of (frame_in frame.now) }
 {
@@ -187,7 +187,7 @@ impl<R: Read + Drop> Decoder<R> {
     }
 
     /// The colour transform of a picture of several components, in place of the one that its
-    /// segments tell. One that does not fit is refused by `decode`.
+    /// segments say. One that does not fit is refused by `decode`.
     pub fn set_color_transform(&mut self, transform: ColorTransform)
         ensures { self.new ≡ record self.old {
           settings = record self.old.settings
@@ -238,12 +238,12 @@ impl<R: Read + Drop> Decoder<R> {
         profile(self.alloc, self.state.metadata.icc.as_slice())
     }
 
-    /// Reads through the frame's segment, so that `info` tells of the picture. Once it is read,
-    /// nothing more is read.
+    /// Reads through the frame's segment, so that `info` describes the picture. Once it is
+    /// read, nothing more is read.
     ///
     /// Errors: `Format` where a rule is broken, `Unsupported` by the name of a feature, `Io` where
     /// the bytes end or a read fails, and `OutOfMemory`; `Internal` where the decoder has failed,
-    /// and nowhere else. A refusal leaves a failed decoder, which tells what was read.
+    /// and nowhere else. A refusal leaves a failed decoder, which returns what was read.
     pub fn read_info(&mut self) -> Result<()>
         ensures stage { MovesToHeader self.old.stage self.new.stage result }
         ensures reads { self.old.stage ≡ Fresh → Answers (λ _. self.new.found) header_at
@@ -308,7 +308,7 @@ impl<R: Read + Drop> Decoder<R> {
     /// Errors: `Format` where a rule is broken or the picture is above the limit, `Unsupported` by
     /// the name of a feature, `Io` where the bytes end or a read fails, and `OutOfMemory`;
     /// `Internal` where the decoder has failed or has decoded its image, and nowhere else. A
-    /// refusal leaves a failed decoder, which tells what was read, but a finished one stays
+    /// refusal leaves a failed decoder, which returns what was read, but a finished one stays
     /// finished. No samples are kept after either.
     pub fn decode(&mut self) -> Result<Vec<u8>>
         // The state table: an Ok finishes the decoder, a refusal fails it.
@@ -325,7 +325,7 @@ impl<R: Read + Drop> Decoder<R> {
         // Where they are written for the samples of a lossless image, it is these samples.
         ensures samples { DecodesSamples (λ v. v.items) self.old result self.new }
 
-        // What is told after it is what the segments up to the end or the fault have said.
+        // What a caller is given after it is what the segments up to the end or the fault have said.
         ensures told { IsReading self.old.stage → OnTold self.old.source self.new.source result
             (told_of self.new.found ≡ told_ahead false self.old.stage self.old.found
             self.old.source.bytes) }

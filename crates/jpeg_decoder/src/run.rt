@@ -1,4 +1,4 @@
-//! The program's engine: a stream from a reader, its picture to a writer, and what a refusal tells.
+//! The program's engine: a stream from a reader, its picture to a writer, and a line on standard error for a refusal.
 ghost use Rattle.std.specs.Prelude.{◌≡◌, ◌++◌, ℕ, List, Some, None, option_map, Err, IsSome};
 ghost use Rattle.std.specs.Prelude.{IsSomeAnd, OnOk, OnErr, IfErr, IfOk, IsErr, string_bytes};
 ghost use Rattle.jpeg_streams.specs.States.{IsOfBytes};
@@ -148,8 +148,8 @@ pub fn run<R: Read + Drop, W: Write>(alloc: Global, reader: R, writer: &mut W) -
     write_both(alloc, writer, line.as_bytes(), pixels.as_slice())
 }
 
-/// Tells a refusal in one line, and answers the program's status: 0 for `Ok`, of which nothing is
-/// told, and 1 for a refusal. Where the line can't be written, the status still tells.
+/// Reports a refusal in one line, and returns the program's status: 0 for `Ok`, of which nothing is
+/// written, and 1 for a refusal, also where the line can't be written.
 pub fn report<W: Write>(alloc: Global, outcome: &Result<()>, writer: &mut W) -> u8
     ensures ok { OnOk outcome.now ((result ≡ 0) × Keeps (W.contents writer.old)
         (W.contents writer.new)) }

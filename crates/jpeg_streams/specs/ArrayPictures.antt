@@ -44,7 +44,7 @@ picture_of_array settings w array levels = do
         planes ← planes_of_array w array levels 0 f.components
         picture_by settings w.metadata f f.components planes)
 
--- The meaning of a stream that says this and sends these levels: what is told, the picture, and the
+-- The meaning of a stream that says this and sends these levels: what a caller is given, the picture, and the
 -- bytes after the image.
 abbrev pub meaning_of_array :
     Settings → Found → Coefficients → (ℕ → Levels) → List ℕ → Outcome (Told × List ℕ)
@@ -67,7 +67,7 @@ IsTransformOf count transforms.JcsBgYcc = ⊥
 IsTransformOf count transforms.JcsBgRgb = ⊥
 
 -- A picture of several components can have the transform that is set, or else that its segments and
--- the components' identifiers tell.
+-- the components' identifiers say.
 abbrev pub HasTransform : Settings → Found → List Component → Type 0
 HasTransform settings w [] = ⊥
 HasTransform settings w (c ∷ []) = Unit {0}

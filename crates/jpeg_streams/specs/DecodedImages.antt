@@ -35,7 +35,7 @@ HasLeft size bytes Failed found left = ⊥
 
 -- ---- what is given
 
--- The picture is given, `final` is what is told, and the bytes after the image are left.
+-- The picture is given, `final` is what a caller is given, and the bytes after the image are left.
 pub record Gives (picture : Result (List ℕ) Fault) (rest : List ℕ) (final : Found)
     (given : List ℕ) (new : Decoding) : Type 0 where
   pub pixels : picture ≡ Ok given
@@ -43,7 +43,7 @@ pub record Gives (picture : Result (List ℕ) Fault) (rest : List ℕ) (final : 
   pub left : new.source.bytes ≡ rest
   pub known : new.source.known ≡ true
 
--- Where the source still tells its bytes, memory is out; else its reader has failed, or was
+-- Where the bytes of the source are still known, memory is out; else its reader has failed, or was
 -- interrupted without end.
 pub record FailsOutside (e : Error) (source : Stream) : Type 0 where
   pub memory : source.known ≡ true → e ≡ OutOfMemory

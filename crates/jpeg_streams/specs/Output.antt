@@ -63,7 +63,7 @@ IsOutsideOrMemory (Internal text) = ⊥
 abbrev pub NamesOrOutside : List ℕ → Error → Type 0
 NamesOrOutside bytes e = Names e (meaning default_settings bytes) ⊎ IsOutsideOrMemory e
 
--- a reader tells these bytes, fewer than 2^64
+-- the contract of a reader names these bytes, fewer than 2^64
 pub record Tells (remaining : Option (List ℕ)) (bytes : List ℕ) : Type 0 where
   pub told : remaining ≡ Some bytes
   pub few : length bytes < 2 ^ 64

@@ -42,7 +42,8 @@ picture_whole settings said array = do
         planes ← planes_whole said array 0 f.components
         picture_by settings said.metadata f f.components planes)
 
--- The meaning of a stream that says this: what is told, the picture, and the bytes after the image.
+-- The meaning of a stream that says this: what a caller is given, the picture, and the
+-- bytes after the image.
 abbrev pub whole_meaning : Settings → Found → Coefficients → List ℕ → Outcome (Told × List ℕ)
 whole_meaning settings said array tail =
     picture_whole settings said array >>= (λ picture. Ok ((told_of said, picture), tail))

@@ -1,7 +1,7 @@
 //! The picture of a JPEG stream in memory: an example of a caller with a contract of its own.
 //!
 //! `jpeg_decoder/proofs/Callers` has what such a caller needs: a new decoder knows the bytes that
-//! its reader tells.
+//! its reader gives.
 #![tactic(auto)]
 
 ghost use Rattle.std.specs.Prelude.{◌≡◌, ◌++◌, ◌<◌, ◌^◌, ℕ, List, length, IfOk, Ok};
