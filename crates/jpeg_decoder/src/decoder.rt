@@ -325,7 +325,7 @@ impl<R: Read + Drop> Decoder<R> {
         // Where they are written for the samples of a lossless image, it is these samples.
         ensures samples { DecodesSamples (λ v. v.items) self.old result self.new }
 
-        // What a caller is given after it is what the segments up to the end or the fault have said.
+        // A caller is then given what the segments up to the end or the fault have said.
         ensures told { IsReading self.old.stage → OnTold self.old.source self.new.source result
             (told_of self.new.found ≡ told_ahead false self.old.stage self.old.found
             self.old.source.bytes) }

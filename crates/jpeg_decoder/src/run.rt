@@ -1,4 +1,4 @@
-//! The program's engine: a stream from a reader, its picture to a writer, and a line on standard error for a refusal.
+//! The program's engine: a stream from a reader, its picture to a writer, and a line for a refusal.
 ghost use Rattle.std.specs.Prelude.{◌≡◌, ◌++◌, ℕ, List, Some, None, option_map, Err, IsSome};
 ghost use Rattle.std.specs.Prelude.{IsSomeAnd, OnOk, OnErr, IfErr, IfOk, IsErr, string_bytes};
 ghost use Rattle.jpeg_streams.specs.States.{IsOfBytes};

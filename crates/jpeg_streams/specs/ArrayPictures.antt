@@ -44,8 +44,8 @@ picture_of_array settings w array levels = do
         planes ← planes_of_array w array levels 0 f.components
         picture_by settings w.metadata f f.components planes)
 
--- The meaning of a stream that says this and sends these levels: what a caller is given, the picture, and the
--- bytes after the image.
+-- The meaning of a stream that says this and sends these levels: what a caller is given, the
+-- picture, and the bytes after the image.
 abbrev pub meaning_of_array :
     Settings → Found → Coefficients → (ℕ → Levels) → List ℕ → Outcome (Told × List ℕ)
 meaning_of_array settings w array levels tail =

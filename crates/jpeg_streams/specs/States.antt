@@ -101,7 +101,8 @@ IfRefused (errors.Format text) P = P
 IfRefused (errors.Unsupported feature) P = P
 IfRefused (errors.Io error) P = P
 
--- Where the bytes of a source were known to the end of a call, and memory was found, the call left a fact.
+-- Where the bytes of a source were known to the end of a call, and memory was found, the call left
+-- a fact.
 abbrev pub OnTold : {X : Type 0} → Stream → Stream → Result X Error → Type 0 → Type 0
 OnTold old new (Ok x) P = old.known ≡ true → P
 OnTold old new (Err e) P = old.known ≡ true → new.known ≡ true → IfRefused e P

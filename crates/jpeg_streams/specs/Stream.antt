@@ -142,7 +142,7 @@ abbrev pub is_decoded_count : ℕ → Bool
 is_decoded_count count = count == 1 || (count == 3 || count == 4)
 
 -- The frame that is decoded: of one, three or four components, each with a way to upsample it. A
--- number of components is told as a byte.
+-- number of components is reported as a byte.
 unfoldable pub accepted : Frame → Result Frame Fault
 accepted frame =
     if frame.is_differential then Err (Lacks features.Hierarchical) else (
@@ -445,7 +445,7 @@ stray_restart Elsewhere found bytes = Err Malformed
 stray_restart FirstScan found bytes = Ok (onward found, bytes)
 stray_restart LaterScan found bytes = Ok (onward found, bytes)
 
--- A DNL segment after the first scan would tell the height.
+-- A DNL segment after the first scan would give the height.
 abbrev pub line_count : Before → Outcome Turn
 line_count FirstScan = Err (Lacks features.DNL)
 line_count LaterScan = Err Malformed
@@ -585,7 +585,7 @@ picture_of settings found = do
       then Err Malformed else
       picture_by_process frame.process settings found frame
 
--- What a decoder tells: the frame, and the metadata.
+-- What a caller is given of a decoder: the frame, and the metadata.
 pub record Told : Type 0 where
   pub frame : Option Frame
   pub metadata : Metadata
@@ -593,14 +593,14 @@ pub record Told : Type 0 where
 abbrev pub told_of : Found → Told
 told_of found = record { frame = found.frame; metadata = found.metadata }
 
--- The rest of a stream after its start or its header: what it tells, and its picture.
+-- The rest of a stream after its start or its header: what a caller is given, and its picture.
 unfoldable pub rest_at : Settings → Found → List ℕ → Outcome (Told × List ℕ)
 rest_at settings found bytes = do
   all ← segments_at false Elsewhere found None bytes
   picture ← picture_of settings all.0
   Ok ((told_of all.0, picture), all.1)
 
--- The meaning of a stream: what it tells, and its picture.
+-- The meaning of a stream: what a caller is given, and its picture.
 unfoldable pub meaning : Settings → List ℕ → Outcome (Told × List ℕ)
 meaning settings bytes = do
   start ← start_at bytes
@@ -622,11 +622,11 @@ sized_meaning width height settings bytes = do
   header ← header_at bytes
   rest_at settings (sized_to width height header.0) header.1
 
--- what a header, or the rest of a stream, tells by its end or its refusal
+-- what a header, or the rest of a stream, has said by its end or its refusal
 abbrev pub told_rest : Bool → Found → List ℕ → Told
 told_rest header found bytes = told_of (told_at header Elsewhere found None bytes)
 
--- what a stream tells by the end of its header, or its own, or by the refusal
+-- what a stream has said by the end of its header, or its own, or by the refusal
 unfoldable pub told_by_stream : Bool → List ℕ → Told
 told_by_stream header bytes =
     elim (start_at bytes) [
@@ -649,6 +649,6 @@ told_by_turns turns header bytes =
       | Ok start ↦ told_in_turns turns header nothing_found start.1
     ]
 
--- what is found is what some first turns have said, where `said` tells what this many have
+-- what is found is what some first turns have said, where `said` is what this many have
 unfoldable pub IsOfTurns : {A : Type 0} → (ℕ → A) → A → Type 0
 IsOfTurns said found = (turns : ℕ) × (found ≡ said turns)
