@@ -118,8 +118,8 @@ pub(crate) fn power_of_two(exponent: u8) -> u16
     1 << exponent
 }
 
-/// A value of `count` bits as a signed number.
-#[tactic(auto, unfolding(crate::specs::Entropy::extended))]
+/// A value of `count` bits as a signed number. There is no branch by the sign, which no processor
+/// foresees in most data.
 pub(crate) fn extend(value: u16, count: u8) -> i16
     requires some { 1 ≤ count }
     requires most { count ≤ 15 }
@@ -127,9 +127,7 @@ pub(crate) fn extend(value: u16, count: u8) -> i16
     ensures { result ≡ extended value count }
 {
     let half = power_of_two(count - 1);
-    if value < half {
-        value as i16 - (2 * half - 1) as i16
-    } else {
-        value as i16
-    }
+    // 1 for a value below the half, whose highest bit is 0, and 0 for another.
+    let below = 1 - (value >> (count - 1));
+    value as i16 - (below * (2 * half - 1)) as i16
 }

@@ -95,7 +95,7 @@ pub fn format_error(alloc: Global, text: &str) -> Error
 /// make room for.
 #[cold]
 #[inline(never)]
-pub(crate) fn hold_format_error(alloc: Global, text: &str, refusal: &mut Option<Error>)
+pub fn hold_format_error(alloc: Global, text: &str, refusal: &mut Option<Error>)
     ensures names { NamesFormat (held_refusal refusal.new) }
     ensures held { is_some refusal.new ≡ true }
 {

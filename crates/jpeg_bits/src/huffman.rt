@@ -38,7 +38,7 @@ impl HuffmanDecoder {
     ghost use Rattle.jpeg_bits.specs.declared.codes.HuffmanTableClass.TheVariants.{AC};
     ghost use Rattle.jpeg_bits.specs.Passes.{block_from};
     ghost use Rattle.jpeg_bits.specs.BlockView.{to_block, pass_in, IsPass};
-    ghost use Rattle.jpeg_bits.specs.Refusals.{outcome_of};
+    ghost use Rattle.jpeg_bits.specs.Refusals.{outcome_of, answer_of, IsHeld};
     ghost use Rattle.jpeg_bits.specs.Codes.{symbol_from, fast_from};
     ghost use Rattle.jpeg_bits.specs.Reading.{Answers};
     ghost use Rattle.jpeg_bits.specs.Readers.{signed_from};
@@ -51,6 +51,19 @@ impl HuffmanDecoder {
         HuffmanDecoder {
             alloc,
             held: Held::new(alloc),
+            refusal: None,
+        }
+    }
+
+    /// A copy with no refusal in it, so that a hot loop works on a local of its own, which stays in
+    /// registers.
+    #[inline(always)]
+    pub fn copied(&self) -> HuffmanDecoder
+        ensures { result ≡ self.now }
+    {
+        HuffmanDecoder {
+            alloc: self.alloc,
+            held: self.held.copied(),
             refusal: None,
         }
     }
@@ -146,6 +159,39 @@ impl HuffmanDecoder {
         }
         let end = self.held.take_end();
         marker_of_end(self.alloc, end)
+    }
+
+    /// As `receive_extend`. A refusal is put into its place, and answered by none.
+    #[inline(always)]
+    pub fn take_signed<R: Read + Drop>(
+        &mut self,
+        source: &mut Source<R>,
+        count: u8,
+        refusal: &mut Option<Error>,
+    ) -> Option<i16>
+        requires some { 1 ≤ count }
+        requires most { count ≤ 15 }
+        ensures number { Takes (λ v. v) (signed_from count) self.old source.old
+            (answer_of result refusal.new) self.new source.new }
+        ensures held { IsHeld result refusal.new }
+    {
+        self.held.take_signed(source, count, refusal)
+    }
+
+    /// As `decode`. A refusal is put into its place, and answered by none: a call in which no
+    /// `Error` stands has none to make room for.
+    #[inline(always)]
+    pub fn take_symbol<R: Read + Drop>(
+        &mut self,
+        source: &mut Source<R>,
+        table: &HuffmanTable,
+        refusal: &mut Option<Error>,
+    ) -> Option<u8>
+        ensures symbol { Takes (λ n. n) (symbol_from table.now) self.old source.old
+            (answer_of result refusal.new) self.new source.new }
+        ensures held { IsHeld result refusal.new }
+    {
+        self.held.take_symbol(source, table, refusal)
     }
 
     /// A block, in zigzag order, read on what is held of it. A refusal is put into its place, and

@@ -1,60 +1,78 @@
 //! The differences of a lossless scan (T.81, H.1.2.2), read from its entropy-coded bits.
-ghost use Rattle.std.specs.Prelude.{◌≡◌, ◌+◌, ◌*◌, ◌≤◌, ◌<◌, map, length, OnOk};
+ghost use Rattle.std.specs.Prelude.{◌≡◌, ◌+◌, ◌*◌, map, length, OnOk, is_some, true, false};
 ghost use Rattle.jpeg_bits.specs.Entropy.{Takes};
+ghost use Rattle.jpeg_bits.specs.Refusals.{answer_of, outcome_of, IsHeld};
 ghost use Rattle.jpeg_lossless.specs.Differences.{difference, differences, row_tables, onto};
 
-use jpeg_bits::error::{Result, format_error};
+use jpeg_bits::error::{Error, Result, hold_format_error, take_refusal};
 use jpeg_bits::huffman::{HuffmanDecoder, HuffmanTable};
 use jpeg_bits::source::Source;
 use std::alloc::Global;
 use std::io::Read;
 
 /// The next difference, modulo 2^16: a code of its category, and as many bits. A difference of
-/// category 16 is 32768 and has no bits; a category above 16 is refused.
+/// category 16 is 32768 and has no bits; a category above 16 is refused. A refusal is held in its
+/// place, and answered by none.
 #[inline(always)]
 #[tactic(auto, unfolding(crate::specs::Differences::difference))]
-fn read_difference<R: Read + Drop>(
+fn take_difference<R: Read + Drop>(
     alloc: Global,
     decoder: &mut HuffmanDecoder,
     source: &mut Source<R>,
     table: &HuffmanTable,
-) -> Result<u16>
-    ensures { Takes (λ d. d) (difference table.now)
-        decoder.old source.old result decoder.new source.new }
+    refusal: &mut Option<Error>,
+) -> Option<u16>
+    ensures difference { Takes (λ d. d) (difference table.now)
+        decoder.old source.old (answer_of result refusal.new) decoder.new source.new }
+    ensures held { IsHeld result refusal.new }
 {
-    let category = decoder.decode(source, table)?;
+    let Some(category) = decoder.take_symbol(source, table, refusal) else {
+        return None;
+    };
     if category > 16 {
-        return Err(format_error(alloc, "invalid difference magnitude category"));
+        hold_format_error(alloc, "invalid difference magnitude category", refusal);
+        return None;
     }
     if category == 0 {
-        return Ok(0);
+        return Some(0);
     }
     if category == 16 {
-        return Ok(0x8000);
+        return Some(0x8000);
     }
-    let value = decoder.receive_extend(source, category)?;
-    Ok(value.cast_unsigned())
+    match decoder.take_signed(source, category, refusal) {
+        Some(value) => Some(value.cast_unsigned()),
+        None => None,
+    }
 }
 
-/// Appends the differences of an MCU to those of a row.
+/// Appends the differences of an MCU to those of a row. A refusal is held in its place, and
+/// answered by false.
 #[inline(always)]
-fn read_mcu<R: Read + Drop>(
+fn take_mcu<R: Read + Drop>(
     alloc: Global,
     decoder: &mut HuffmanDecoder,
     source: &mut Source<R>,
     tables: &[&HuffmanTable],
     row: &mut Vec<u16>,
-) -> Result<()>
-    ensures long { OnOk result (length row.new.items ≡ length row.old.items + length tables.now) }
+    refusal: &mut Option<Error>,
+) -> bool
+    ensures long { OnOk (outcome_of result refusal.new)
+        (length row.new.items ≡ length row.old.items + length tables.now) }
     ensures reads { Takes (λ _. row.new.items)
         (onto row.old.items (differences (map (λ t. t.now) tables.now)))
-        decoder.old source.old result decoder.new source.new }
+        decoder.old source.old (outcome_of result refusal.new) decoder.new source.new }
+    ensures held { result ≡ false → is_some refusal.new ≡ true }
 {
     for i in 0..tables.len() {
-        let difference = read_difference(alloc, decoder, source, tables[i])?;
-        row.push(difference)?;
+        let Some(difference) = take_difference(alloc, decoder, source, tables[i], refusal) else {
+            return false;
+        };
+        if let Err(e) = row.push(difference) {
+            *refusal = Some(Error::from(e));
+            return false;
+        }
     }
-    Ok(())
+    true
 }
 
 /// Reads the differences of a row of `count` MCUs into `row`, in place of what it holds. An MCU has
@@ -73,10 +91,17 @@ pub(crate) fn read_row<R: Read + Drop>(
         decoder.old source.old result decoder.new source.new }
 {
     row.clear();
+    // The bits held stay in registers while the row is read, as a local's do.
+    let mut held = decoder.copied();
+    let mut refusal = None;
     let mut left = count;
     while left > 0 {
-        read_mcu(alloc, decoder, source, tables, row)?;
+        if !take_mcu(alloc, &mut held, source, tables, row, &mut refusal) {
+            *decoder = held;
+            return Err(take_refusal(&mut refusal));
+        }
         left -= 1;
     }
+    *decoder = held;
     Ok(())
 }
