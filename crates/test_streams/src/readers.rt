@@ -9,8 +9,8 @@ use std::io::{ErrorKind, Read, Write};
 use std::test::Fail;
 
 /// How many bytes at most a read gives, where a stream is read in pieces. A reader may give any
-/// count, and no answer is to depend on it.
-pub const STEPS: [usize; 4] = [1, 2, 3, 1000];
+/// count, and no answer is to depend on it; 8 bytes fill the reservoir of 64 bits.
+pub const STEPS: [usize; 6] = [1, 2, 3, 5, 8, 1000];
 
 /// Kinds of failures that are no interruption.
 pub const FAILURES: [ErrorKind; 6] = [
