@@ -1,15 +1,15 @@
 //! Reads that fail: the reader's own error is returned, nothing more is read, and what was given
 //! before is reported.
 
-use crate::bytes::bytes;
-use crate::rows::is_failed;
-use crate::streams::{Counted, Counts, FAILURES, Reader, Trouble, is_own_error};
 use jpeg_decoder::run::run;
 use jpeg_decoder::{CodingProcess, Decoder, Error, ImageInfo, PixelFormat};
 use std::alloc::Global;
 use std::io::ErrorKind;
 use std::process::Abort;
 use std::test::Fail;
+use test_streams::readers::{Counted, Counts, FAILURES, Reader, Trouble, is_own_error};
+use test_streams::states::is_failed;
+use test_streams::streams::bytes;
 
 /// A stream of 72 by 8 pixels, by its segments, each with a name.
 const SEGMENTS: [(&str, &str); 20] = [

@@ -1,17 +1,16 @@
 //! Writes that fail: the writer's own error is returned, nothing more is written, and what was
 //! taken is a beginning.
 
-use crate::bytes::bytes;
-use crate::rows::ROW;
-use crate::streams::{FAILURES, Trouble, Writer, is_own_error};
 use jpeg_decoder::Error;
 use jpeg_decoder::run::run;
 use std::alloc::Global;
 use std::io::ErrorKind;
 use std::process::Abort;
 use std::test::Fail;
+use test_streams::readers::{FAILURES, Trouble, Writer, is_own_error};
+use test_streams::streams::{ONE_BLOCK, bytes};
 
-/// What `run` writes of the row's stream.
+/// What `run` writes of the stream of one block.
 const OUTPUT: &str = "38 20 38 20 4C38 0A 81*64";
 
 /// How many writes of at most 5 bytes the line and the picture take.
@@ -25,7 +24,7 @@ fn run_into(
     call: usize,
     trouble: Trouble,
 ) -> Result<Result<(), Error>, Fail> {
-    let stream = bytes(alloc, &ROW)?;
+    let stream = bytes(alloc, &ONE_BLOCK)?;
     let output = bytes(alloc, &[OUTPUT])?;
     let mut written = Vec::new(alloc);
     let mut writer = Writer::new(&mut written, 5, call, trouble);
@@ -68,7 +67,7 @@ fn a_write_of_nothing_is_write_zero(rt: HostRuntime) -> Result<(), Fail> {
 
 #[test]
 fn the_output_takes_fifteen_writes(rt: HostRuntime) -> Result<(), Fail> {
-    let stream = bytes(rt.alloc(), &ROW)?;
+    let stream = bytes(rt.alloc(), &ONE_BLOCK)?;
     let output = bytes(rt.alloc(), &[OUTPUT])?;
     let mut written = Vec::new(rt.alloc());
     let mut writer = Writer::new(&mut written, 5, usize::MAX, Trouble::Fails);

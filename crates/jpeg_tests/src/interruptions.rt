@@ -1,15 +1,14 @@
 //! Interruptions: however many there are, they change no answer.
 
-use crate::bytes::bytes;
-use crate::rows::ROW;
-use crate::streams::{Interrupted, Reader, Trouble, Writer};
 use jpeg_decoder::Decoder;
 use jpeg_decoder::run::run;
 use std::test::Fail;
+use test_streams::readers::{Interrupted, Reader, Trouble, Writer};
+use test_streams::streams::{ONE_BLOCK, bytes};
 
 #[test]
 fn many_interruptions_of_each_read_change_nothing(rt: HostRuntime) -> Result<(), Fail> {
-    let stream = bytes(rt.alloc(), &ROW)?;
+    let stream = bytes(rt.alloc(), &ONE_BLOCK)?;
     let reader = Reader::new(&stream, 1, usize::MAX, Trouble::Fails);
     let mut decoder = Decoder::new(rt.alloc(), Interrupted::new(reader))?;
     decoder.read_info()?;
@@ -20,7 +19,7 @@ fn many_interruptions_of_each_read_change_nothing(rt: HostRuntime) -> Result<(),
 
 #[test]
 fn many_interruptions_of_each_write_change_nothing(rt: HostRuntime) -> Result<(), Fail> {
-    let stream = bytes(rt.alloc(), &ROW)?;
+    let stream = bytes(rt.alloc(), &ONE_BLOCK)?;
     let output = bytes(rt.alloc(), &["38 20 38 20 4C38 0A 81*64"])?;
     let mut written = Vec::new(rt.alloc());
     let writer = Writer::new(&mut written, 5, usize::MAX, Trouble::Fails);

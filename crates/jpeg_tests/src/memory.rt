@@ -2,11 +2,12 @@
 //! each returns `OutOfMemory` and nothing else, and what was read before is reported. Nothing here
 //! allocates but the calls themselves and a writer, which then returns an error of its own.
 
-use crate::streams::{Counted, Counts, Reader, Trouble, Writer};
 use jpeg_decoder::run::run;
 use jpeg_decoder::{CodingProcess, Decoder, Error, ImageInfo, PixelFormat};
 use std::alloc::Global;
 use std::io::ErrorKind;
+use test_streams::readers::{Counted, Counts, Reader, Trouble, Writer};
+use test_streams::states::{is_failed, is_finished};
 
 /// A stream of 8 by 8 pixels with Exif data, an ICC profile in two parts, and XMP data.
 const STREAM: [u8; 224] = [
@@ -80,17 +81,11 @@ fn fares(decoder: &mut Decoder<Counted<'_>>, counts: &Counts) -> bool {
         Ok(picture) => {
             picture.as_slice() == [129; 64].as_slice()
                 && reports_all(decoder)
-                && matches!(
-                    &decoder.decode(),
-                    Err(Error::Internal("image was already decoded"))
-                )
+                && is_finished(&decoder.decode())
         }
         Err(Error::OutOfMemory) => {
             reports(decoder, counts.given.get())
-                && matches!(
-                    &decoder.decode(),
-                    Err(Error::Internal("decoder has failed"))
-                )
+                && is_failed(&decoder.decode())
                 && reports(decoder, counts.given.get())
         }
         Err(_) => false,

@@ -1,6 +1,5 @@
 //! Calls of the parts: parsers, tables and bits.
 
-use crate::bytes::bytes;
 use jpeg_decoder::Error;
 use jpeg_decoder::error::Source;
 use jpeg_decoder::huffman::{HuffmanDecoder, HuffmanTable, HuffmanTableClass};
@@ -8,6 +7,7 @@ use jpeg_decoder::idct::dequantize_and_idct_block_8x8;
 use jpeg_decoder::marker::Marker;
 use jpeg_decoder::parser::{parse_dht, parse_dqt, parse_sof, parse_sos};
 use std::test::Fail;
+use test_streams::streams::bytes;
 
 /// Table K.3 of T.81.
 const K_3_COUNTS: [u8; 16] = [0, 1, 5, 1, 1, 1, 1, 1, 1, 0, 0, 0, 0, 0, 0, 0];

@@ -1,7 +1,5 @@
 //! The program's engine, over memory.
 
-use crate::bytes::bytes;
-use crate::streams::{Trouble, Writer};
 use jpeg_decoder::run::{report, run};
 use jpeg_decoder::{ColorTransform, Error, UnsupportedFeature};
 use std::alloc::Global;
@@ -9,6 +7,8 @@ use std::io;
 use std::io::ErrorKind;
 use std::process::Abort;
 use std::test::Fail;
+use test_streams::readers::{Trouble, Writer};
+use test_streams::streams::bytes;
 
 const STREAM: &str =
     "FFD8 FFDB 0043 00 01*64 FFC0 000B 08 0008 0008 01 01 11 00 FFC4 0014 00 01 00*15 04

@@ -1,6 +1,6 @@
 //! First scans of progressive frames.
 
-use crate::rows::{Gives, assert_named};
+use crate::gives::{Gives, assert_named};
 use std::test::Fail;
 
 const FIRST_SCANS: [(&str, &str, Gives); 9] = [

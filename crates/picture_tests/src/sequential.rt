@@ -1,6 +1,6 @@
 //! Sequential scans: which one decides, default tables, and what a stream leaves out.
 
-use crate::rows::{Gives, assert_named};
+use crate::gives::{Gives, assert_named};
 use std::test::Fail;
 
 const SCANS: [(&str, &str, Gives); 6] = [

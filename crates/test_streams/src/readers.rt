@@ -1,12 +1,16 @@
-//! Readers and writers that fail or are interrupted at a numbered call.
+//! Readers and writers that move a few bytes a call, and fail or are interrupted at a numbered one.
 ghost use Rattle.std.specs.Prelude.{◌≡◌, ℕ, List};
 
-use jpeg_decoder::Error;
+use jpeg_bits::error::Error;
 use std::alloc::Global;
 use std::cell::Cell;
 use std::io;
 use std::io::{ErrorKind, Read, Write};
 use std::test::Fail;
+
+/// How many bytes at most a read gives, where a stream is read in pieces. A reader may give any
+/// count, and no answer is to depend on it; 8 bytes fill the reservoir of 64 bits.
+pub const STEPS: [usize; 6] = [1, 2, 3, 5, 8, 1000];
 
 /// Kinds of failures that are no interruption.
 pub const FAILURES: [ErrorKind; 6] = [
@@ -25,6 +29,7 @@ pub enum Trouble {
     Fails,
     /// Fails by an error of this kind.
     FailsBy(ErrorKind),
+    /// Fails by an error of the kind `Interrupted`.
     IsInterrupted,
     /// A writer takes no byte; a reader fails.
     TakesNothing,
@@ -63,14 +68,15 @@ pub fn is_own_error<T>(
 /// A reader of some bytes, a few at a time, of which one call goes wrong.
 #[derive(Drop)]
 pub struct Reader<'a> {
-    pub rest: &'a [u8],
-    pub piece: usize,
-    pub call: usize,
-    pub wrong_call: usize,
-    pub trouble: Trouble,
+    rest: &'a [u8],
+    piece: usize,
+    call: usize,
+    wrong_call: usize,
+    trouble: Trouble,
 }
 
 impl<'a> Reader<'a> {
+    /// A reader of these bytes, at most `piece` a call, whose call of this number goes wrong.
     pub fn new(rest: &'a [u8], piece: usize, wrong_call: usize, trouble: Trouble) -> Reader<'a> {
         Reader {
             rest,
@@ -100,11 +106,14 @@ impl Read for Reader<'_> {
 /// How often a reader was called, and how many bytes it gave.
 #[derive(Drop)]
 pub struct Counts {
+    /// The calls.
     pub calls: Cell<usize>,
+    /// The bytes.
     pub given: Cell<usize>,
 }
 
 impl Counts {
+    /// No call and no byte.
     pub fn new() -> Counts {
         Counts {
             calls: Cell::new(0),
@@ -122,6 +131,7 @@ pub struct Counted<'a> {
 }
 
 impl<'a> Counted<'a> {
+    /// This reader, whose calls and bytes are added to these counts.
     pub fn new(reader: Reader<'a>, counts: &'a Counts) -> Counted<'a> {
         Counted { reader, counts }
     }
@@ -137,9 +147,13 @@ impl Read for Counted<'_> {
     }
 }
 
+/// The text of the error of a read past the last byte.
+const AFTER_THE_END: &str = "after the end";
+
 /// A reader of some bytes that fails where it is asked for more than are left.
 #[derive(Drop)]
 pub struct Ended<'a> {
+    /// The bytes that are left.
     pub rest: &'a [u8],
 }
 
@@ -147,7 +161,7 @@ impl Read for Ended<'_> {
     fn read(&mut self, buf: &mut [u8]) -> io::Result<usize> {
         let count = buf.len();
         if count > self.rest.len() {
-            return Err(io::Error::new(ErrorKind::Other, "after the end"));
+            return Err(io::Error::new(ErrorKind::Other, AFTER_THE_END));
         }
         let (front, rest) = self.rest.split_at(count);
         buf.copy_from_slice(front);
@@ -156,17 +170,31 @@ impl Read for Ended<'_> {
     }
 }
 
+/// Whether an answer is the error of a reader that was asked for more than it has.
+pub fn is_read_after_the_end<T>(alloc: Global, answer: &Result<T, Error>) -> Result<bool, Fail> {
+    match answer {
+        Err(Error::Io(error)) => {
+            let text = format!(in alloc; "{error}")?;
+            Ok(text.as_str() == AFTER_THE_END)
+        }
+        _ => Ok(false),
+    }
+}
+
 /// A writer that takes a few bytes at a time, of which one call goes wrong.
 #[derive(Drop)]
 pub struct Writer<'a> {
-    pub taken: &'a mut Vec<u8>,
-    pub piece: usize,
+    taken: &'a mut Vec<u8>,
+    piece: usize,
+    /// How often it was called.
     pub call: usize,
-    pub wrong_call: usize,
-    pub trouble: Trouble,
+    wrong_call: usize,
+    trouble: Trouble,
 }
 
 impl<'a> Writer<'a> {
+    /// A writer that appends to `taken`, at most `piece` bytes a call, whose call of this number
+    /// goes wrong.
     pub fn new(
         taken: &'a mut Vec<u8>,
         piece: usize,
@@ -217,6 +245,7 @@ pub struct Interrupted<T: Drop> {
 }
 
 impl<T: Drop> Interrupted<T> {
+    /// This reader or writer, whose first call is interrupted first.
     pub fn new(inner: T) -> Interrupted<T> {
         Interrupted {
             inner,

@@ -1,13 +1,12 @@
 //! Large pictures, long segments, and the greatest number of components.
 
-use crate::bytes::bytes;
-use crate::rows::ROW;
 use jpeg_decoder::Decoder;
 use jpeg_decoder::decoder::MAX_COMPONENTS;
 use jpeg_decoder::run::run;
 use std::alloc::Global;
 use std::process::Abort;
 use std::test::Fail;
+use test_streams::streams::{ONE_BLOCK, bytes};
 
 /// A stream of 1040 by 1016 pixels of 129. Its scan codes a first block of DC 8; all others are
 /// zeros after the end of the scan: no difference.
@@ -62,18 +61,18 @@ fn a_large_picture_is_written(rt: HostRuntime) -> Result<(), Fail> {
     Ok(())
 }
 
-/// The stream of a row with one more segment after its start.
-fn row_with(alloc: Global, segment: &str) -> Result<Vec<u8>, Fail> {
+/// The stream of one block with one more segment after its start.
+fn one_block_with(alloc: Global, segment: &str) -> Result<Vec<u8>, Fail> {
     let mut stream = bytes(alloc, &["FFD8", segment])?;
-    let row = bytes(alloc, &ROW)?;
-    let (_, rest) = row.split_at_checked(2).ok_or("no start")?;
+    let one_block = bytes(alloc, &ONE_BLOCK)?;
+    let (_, rest) = one_block.split_at_checked(2).ok_or("no start")?;
     stream.extend_from_slice(rest)?;
     Ok(stream)
 }
 
 /// Asserts that a stream with a segment of this name has its picture, and the segment's data.
 fn assert_long(rt: &impl Abort, alloc: Global, name: &str, segment: &str) -> Result<(), Fail> {
-    let stream = row_with(alloc, segment)?;
+    let stream = one_block_with(alloc, segment)?;
     let mut decoder = Decoder::new(alloc, stream.as_slice())?;
     assert!(rt;
         decoder.decode()?.as_slice() == [129; 64].as_slice(),

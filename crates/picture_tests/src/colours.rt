@@ -1,15 +1,14 @@
 //! Pictures of several components.
 
-use crate::bytes::bytes;
-use crate::metadata::keeps_limit;
-use crate::rows::{Gives, assert_named, assert_pieces, decodes_as_wanted};
-use crate::streams::{Reader, Trouble};
+use crate::gives::{Gives, assert_named, assert_pieces, decodes_as_wanted};
 use jpeg_decoder::{ColorTransform, Decoder};
 use std::alloc::Global;
 use std::test::Fail;
+use test_streams::readers::{Reader, Trouble};
+use test_streams::streams::bytes;
 
 /// One scan of three components of 8 by 8 samples: 129, 127 and 130.
-const RGB: &str = "FFD8 Q(01) FFC0 0011 08 0008 0008 03 52 11 00 47 11 00 42 11 00 D(04) A(00)
+pub const RGB: &str = "FFD8 Q(01) FFC0 0011 08 0008 0008 03 52 11 00 47 11 00 42 11 00 D(04) A(00)
     FFDA 000C 03 52 00 47 00 42 00 00 3F 00 40E7BF FFD9";
 
 const COLOURS: [(&str, &str, Gives); 8] = [
@@ -157,13 +156,5 @@ fn a_colour_transform_that_is_set_decides(rt: HostRuntime) -> Result<(), Fail> {
     for (transform, gives) in TRANSFORMS.iter() {
         assert!(rt; gives_by(rt.alloc(), *transform, *gives)?, "{transform:?}");
     }
-    Ok(())
-}
-
-#[test]
-fn the_limit_counts_bytes(rt: HostRuntime) -> Result<(), Fail> {
-    let stream = bytes(rt.alloc(), &[RGB])?;
-    assert!(rt; keeps_limit(rt.alloc(), &stream, 191, false)?);
-    assert!(rt; keeps_limit(rt.alloc(), &stream, 192, true)?);
     Ok(())
 }

@@ -1,9 +1,9 @@
 //! Lossless streams and their pictures.
 
-use crate::bytes::bytes;
-use crate::rows::{Gives, assert_named};
+use crate::gives::{Gives, assert_named};
 use jpeg_decoder::{Decoder, ImageInfo, PixelFormat};
 use std::test::Fail;
+use test_streams::streams::bytes;
 
 /// Each selection, of a picture of two by two samples.
 const SELECTIONS: [(&str, &str, Gives); 8] = [
@@ -255,17 +255,5 @@ fn a_lossless_picture_keeps_its_size(rt: HostRuntime) -> Result<(), Fail> {
         decoder.decode()?.as_slice(),
         [0x81, 0x80, 0x82, 0x82].as_slice()
     );
-    Ok(())
-}
-
-/// The limit counts samples, of which each of 16 bits takes two bytes.
-#[test]
-fn a_limit_counts_samples(rt: HostRuntime) -> Result<(), Fail> {
-    let stream = bytes(rt.alloc(), &[PRECISIONS[0].1])?;
-    for (limit, is_within) in [(0, false), (1, true)] {
-        let mut decoder = Decoder::new(rt.alloc(), stream.as_slice())?;
-        decoder.set_max_decoding_buffer_size(limit);
-        assert!(rt; decoder.decode().is_ok() == is_within);
-    }
     Ok(())
 }

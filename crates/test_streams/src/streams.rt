@@ -1,7 +1,32 @@
-//! Bytes written out as text.
+//! Streams as texts, whose bytes are written out in hex.
 
 use std::alloc::Global;
 use std::test::Fail;
+
+/// A quantization table of ones.
+pub const ONES: &str = "FFDB 0043 00 01*64";
+
+/// A frame of 8 by 8 samples of one component.
+pub const FRAME: &str = "FFC0 000B 08 0008 0008 01 01 11 00";
+
+/// A DC table of one code of one bit, which stands for category 4.
+pub const DC_4: &str = "FFC4 0014 00 01 00*15 04";
+
+/// An AC table of one code of one bit, which stands for the end of the band.
+pub const AC_0: &str = "FFC4 0014 10 01 00*15 00";
+
+/// The header of a sequential scan of the frame's component.
+pub const SCAN: &str = "FFDA 0008 01 01 00 00 3F 00";
+
+/// The end of an image.
+pub const END: &str = "FFD9";
+
+/// What follows the frame in a stream of 64 samples of 129.
+pub const REST: &str =
+    "FFC4 0014 00 01 00*15 04 FFC4 0014 10 01 00*15 00 FFDA 0008 01 01 00 00 3F 00 43 FFD9";
+
+/// A stream of one block, whose 64 samples are 129.
+pub const ONE_BLOCK: [&str; 8] = ["FFD8", ONES, FRAME, DC_4, AC_0, SCAN, "43", END];
 
 /// The bytes of words. A word is hex digits, which stand as often as a star and a number after them
 /// say, or a segment by its letter and its own bytes in brackets:

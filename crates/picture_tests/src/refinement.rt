@@ -1,6 +1,6 @@
 //! Refinement scans of progressive frames, at full size.
 
-use crate::rows::{Gives, assert_named};
+use crate::gives::{Gives, assert_named};
 use std::test::Fail;
 
 const REFINEMENTS: [(&str, &str, Gives); 5] = [

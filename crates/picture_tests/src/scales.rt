@@ -1,11 +1,11 @@
 //! Pictures at a scale, and the sizes that are chosen.
 
-use crate::bytes::bytes;
-use crate::streams::{Reader, Trouble};
 use jpeg_decoder::{Decoder, ImageInfo};
 use std::alloc::Global;
 use std::process::Abort;
 use std::test::Fail;
+use test_streams::readers::{Reader, STEPS, Trouble};
+use test_streams::streams::bytes;
 
 /// A size, in columns and lines.
 type Size = (u16, u16);
@@ -178,7 +178,7 @@ fn assert_scaled(rt: &impl Abort, alloc: Global, table: &[Scaled]) -> Result<(),
     for scaled in table.iter() {
         let stream = bytes(alloc, &[scaled.1])?;
         let picture = bytes(alloc, &[scaled.4])?;
-        for step in [1, 2, 3, 1000] {
+        for step in STEPS {
             let reader = Reader::new(&stream, step, usize::MAX, Trouble::Fails);
             let mut decoder = Decoder::new(alloc, reader)?;
             assert_sized(rt, &mut decoder, scaled, &picture)?;

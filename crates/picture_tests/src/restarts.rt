@@ -1,6 +1,6 @@
 //! Restart intervals.
 
-use crate::rows::{Gives, assert_named};
+use crate::gives::{Gives, assert_named};
 use std::test::Fail;
 
 /// A frame of 16 by 8 samples, of two blocks, each of which is an interval.

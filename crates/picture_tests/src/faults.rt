@@ -1,6 +1,6 @@
 //! Entropy data that no encoder writes, and that is decoded all the same.
 
-use crate::rows::{Gives, assert_named};
+use crate::gives::{Gives, assert_named};
 use std::test::Fail;
 
 const ODD_DATA: [(&str, &str, Gives); 5] = [
