@@ -7,7 +7,7 @@ use Rattle.std.proofs.lemmas.List.{get_or_append_left, get_or-append_right}
 use Rattle.std.proofs.Math.Nat.{add-mul, one-mul}
 use Rattle.std.proofs.lemmas.List.FromFn.{length-map-range_with_len}
 use Rattle.jpeg_segments.specs.Frame.{Frame}
-use Rattle.jpeg_lossless.specs.Pictures.{layer_by, line_bytes, pixel_bytes, picture_bytes, sample_at, sample_bytes}
+use Rattle.jpeg_lossless.specs.Pictures.{layer_by, line_bytes, pixel_bytes, picture_bytes, sample_bytes}
 use Rattle.jpeg_lossless.specs.Places.{at_place}
 use Rattle.jpeg_lossless.specs.Written.{AreLines}
 use Rattle.jpeg_streams.specs.declared.settings.Settings.{Settings}

@@ -1,5 +1,5 @@
 -- Lossless streams that are written give their samples, and keep their size.
-use Rattle.std.proofs.Common.{◌≡◌, ℕ, zero, suc, ◌+◌, ◌*◌, ◌<◌, ◌≤◌, true, false, List, [], ◌∷◌, ◌++◌, map, length}
+use Rattle.std.proofs.Common.{◌≡◌, ℕ, zero, suc, ◌+◌, ◌*◌, ◌<◌, ◌≤◌, true, false, List, [], ◌∷◌, ◌++◌, length}
 use Rattle.std.proofs.Common.{replicate, set, get_or, Option, Some, None, Result, Ok, Err, refl, sym, ap, ◌∙◌}
 use Rattle.std.proofs.Common.{subst, arith, append_assoc, length-append, length-set, ltb, inl, inr}
 use Rattle.std.proofs.lemmas.Bool.{le-ltb}
@@ -16,7 +16,7 @@ use Rattle.jpeg_segments.specs.Quantization.{dqt_at}
 use Rattle.jpeg_segments.specs.HuffmanTables.{dht_at}
 use Rattle.jpeg_segments.specs.Application.{app_at, dri_at}
 use Rattle.jpeg_segments.specs.Scales.{sized_by}
-use Rattle.jpeg_segments.specs.ScanHeaders.{Choice, ScanHeader, scan_payload, IsScan}
+use Rattle.jpeg_segments.specs.ScanHeaders.{ScanHeader, scan_payload, IsScan}
 use Rattle.jpeg_segments.specs.WrittenSegments.{sized, Segment, Quantization, Huffman, Interval, Application}
 use Rattle.jpeg_segments.specs.WrittenSegments.{Comment, Header, FrameHeader, code_of, payload_of, frame_written}
 use Rattle.jpeg_segments.proofs.Fields.{read-on, not-refused, kept, sized-read, skip-read}
@@ -33,7 +33,7 @@ use Rattle.jpeg_streams.specs.declared.settings.Settings.{Settings}
 use Rattle.jpeg_streams.specs.LosslessScans.{lossless_picture, samples_from, with_samples, without_factors}
 use Rattle.jpeg_streams.specs.Needed.{needed}
 use Rattle.jpeg_streams.specs.SaidSegments.{found_after}
-use Rattle.jpeg_streams.specs.Stream.{Found, Turn, onward, nothing_found, accepted, frame_segment}
+use Rattle.jpeg_streams.specs.Stream.{Found, Turn, onward, nothing_found, frame_segment}
 use Rattle.jpeg_streams.specs.Stream.{quantization_segment, huffman_segment, restart_segment, application_segment}
 use Rattle.jpeg_streams.specs.Stream.{skipped_segment, end_segment, start_at, after_restarts, scan_before}
 use Rattle.jpeg_streams.specs.Stream.{scan_segment, segment_at, turn_at, segments_within, segments_at, header_at}

@@ -1,6 +1,6 @@
 -- A lossless scan that is written is read as its samples.
 use Rattle.std.proofs.Common.{◌≡◌, ℕ, zero, suc, ◌+◌, ◌-◌, ◌*◌, ◌/◌, ◌%◌, ◌<◌, ◌≤◌, Bool, true, false, ◌||◌, eqb}
-use Rattle.std.proofs.Common.{leb, List, [], ◌∷◌, ◌++◌, map, length, take, replicate, Option, Some, None, Result}
+use Rattle.std.proofs.Common.{leb, List, [], ◌∷◌, ◌++◌, map, length, take, Option, Some, None}
 use Rattle.std.proofs.Common.{Ok, refl, sym, ap, ap₂, ◌∙◌, subst, arith, length-append}
 use Rattle.std.specs.Prelude.{slice_index_or}
 use Rattle.std.specs.List.{AllByRecursion, concat}
@@ -9,11 +9,11 @@ use Rattle.std.proofs.lemmas.Nat.{div-mul-add, mod-mul-add}
 use Rattle.std.proofs.Math.Nat.{add-mul, one-mul}
 use Rattle.jpeg_bits.specs.Codes.{Table}
 use Rattle.jpeg_bits.specs.Marker.{marker_of}
-use Rattle.jpeg_bits.specs.Reading.{Fault, Outcome, ◌>>=◌}
+use Rattle.jpeg_bits.specs.Reading.{Outcome}
 use Rattle.jpeg_bits.specs.declared.marker.Marker.{Marker}
 use Rattle.jpeg_bits.specs.declared.scan.Predictor.{Predictor}
 use Rattle.jpeg_segments.specs.Frame.{Frame}
-use Rattle.jpeg_segments.specs.ScanHeader.{Scan, predictor_by, predictor_of, scan_of, sos_at}
+use Rattle.jpeg_segments.specs.ScanHeader.{predictor_by, predictor_of, scan_of, sos_at}
 use Rattle.jpeg_segments.specs.ScanHeaders.{Choice, IsScan, ScanHeader, scan_payload, scan_written, selector_of}
 use Rattle.jpeg_segments.specs.WrittenSegments.{sized}
 use Rattle.jpeg_segments.specs.declared.parser.CodingProcess.{CodingProcess}
@@ -26,12 +26,12 @@ use Rattle.jpeg_lossless.specs.Differences.{Part, lines_in, mcu_tables, strands,
 use Rattle.jpeg_lossless.specs.Prediction.{start_of}
 use Rattle.jpeg_lossless.specs.Scans.{Way, all_above, is_of_rows, is_one_interval, mcu_size, planes_of}
 use Rattle.jpeg_lossless.specs.Scans.{rows_of_interval, scan_at, shifted}
-use Rattle.jpeg_lossless.specs.Written.{AreGrids, AreLines, AreSamples, AreTables, HaveDifferences, IsMarker}
+use Rattle.jpeg_lossless.specs.Written.{AreGrids, AreLines, AreSamples, AreTables, HaveDifferences}
 use Rattle.jpeg_lossless.specs.Written.{WritesIntervals, differences_of}
 use Rattle.jpeg_bits.specs.Written.{marker}
 use Rattle.jpeg_lossless.specs.Written.WritesIntervals.{last, another}
 use Rattle.jpeg_lossless.proofs.ReadBack.{reads-scan}
-use Rattle.jpeg_streams.specs.LosslessScans.{LosslessCoding, lossless_codings, tables_in, with_samples}
+use Rattle.jpeg_streams.specs.LosslessScans.{lossless_codings, tables_in, with_samples}
 use Rattle.jpeg_streams.specs.LosslessScans.{without_factors}
 use Rattle.jpeg_streams.specs.Needed.{needed}
 use Rattle.jpeg_streams.specs.Stream.{Found, Turn, after_restarts, lossless_scan, scan_before, scan_by}
@@ -40,7 +40,7 @@ use Rattle.jpeg_streams.specs.WrittenLossless.{HaveTables, IsInterval, Samples, 
 use Rattle.jpeg_streams.specs.WrittenLossless.{said_after_scan, whole_lines, whole_scan, written_way}
 use Rattle.jpeg_streams.proofs.AcceptedTurns.{then-ok}
 use Rattle.jpeg_streams.proofs.LosslessFrames.{IsShaped}
-use Rattle.jpeg_decoder.proofs.LosslessReads.{AreCodings, codings-by-tables, plain-places, plain-read}
+use Rattle.jpeg_decoder.proofs.LosslessReads.{codings-by-tables, plain-places, plain-read}
 use Rattle.jpeg_streams.proofs.SaidTables.{HasTables, tables-there}
 
 -- what was said, with the samples that scans have given

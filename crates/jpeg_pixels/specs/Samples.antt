@@ -1,7 +1,7 @@
 -- The samples of a block (T.81, A.3.3), as functions of coordinates: the inverse transform in whole
 -- numbers, columns first. The terms of a sum are added up as whole numbers, and the sum is wrapped
 -- to an `i32` where the transform shifts it.
-use Rattle.std.specs.Prelude.{◌≡◌, ℕ, zero, suc, ◌<◌, ◌+◌, ◌*◌, ◌==◌, Bool, true, ◌&&◌}
+use Rattle.std.specs.Prelude.{◌≡◌, ℕ, zero, suc, ◌<◌, ◌+◌, ◌*◌, ◌==◌, Bool}
 use Rattle.std.specs.Prelude.{if◌then◌else◌, List, [], ◌∷◌, ℤ, pos, negsuc, neg_ℤ, ◌+ℤ◌, ◌*ℤ◌}
 use Rattle.std.specs.Prelude.{slice_index, slice_index_or, min, unsigned_abs}
 use Rattle.std.specs.Int.{w32, int_wrap, int_shr}

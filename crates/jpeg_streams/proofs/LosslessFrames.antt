@@ -1,12 +1,11 @@
 -- A lossless frame header that is written is accepted.
 use Rattle.std.proofs.Common.{◌≡◌, ◌⊎◌, inl, inr, ℕ, zero, suc, ◌≤◌, ◌<◌, ◌&&◌, Bool, true, false, List, [], ◌∷◌}
-use Rattle.std.proofs.Common.{length, max, refl, sym, ap, ap₂, ◌∙◌, subst, arith, Ok}
+use Rattle.std.proofs.Common.{length, max, refl, sym, ap, ap₂, ◌∙◌, arith, Ok}
 use Rattle.std.specs.Prelude.{nat_le}
 use Rattle.std.specs.List.{AllByRecursion}
 use Rattle.std.proofs.lemmas.Bool.{le-leb}
-use Rattle.jpeg_segments.specs.Frame.{Factors, Frame, IsInRange, frame_of, greatest}
+use Rattle.jpeg_segments.specs.Frame.{Factors, Frame, frame_of, greatest}
 use Rattle.jpeg_segments.specs.WrittenSegments.{AreComponents, FrameHeader, IsFrame, frame_written}
-use Rattle.jpeg_segments.specs.declared.parser.CodingProcess.TheVariants.{Lossless}
 use Rattle.jpeg_streams.specs.SaidSegments.{IsUpsampled}
 use Rattle.jpeg_streams.specs.Stream.{accepted, is_arithmetic, is_decoded_precision}
 use Rattle.jpeg_streams.specs.WrittenLossless.{HasSamples, IsOne}

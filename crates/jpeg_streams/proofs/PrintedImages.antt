@@ -1,5 +1,5 @@
 -- A run that prints the meaning of a stream prints images.
-use Rattle.std.proofs.Common.{◌≡◌, ℕ, ◌++◌, List, Option, Some, None, Result, Ok, Err, refl, IsSome, ap, rules, subst}
+use Rattle.std.proofs.Common.{◌≡◌, ℕ, ◌++◌, List, Option, Some, None, Result, Ok, Err, refl, IsSome, ap, subst}
 use Rattle.std.specs.Prelude.{IfErr, IsSomeAnd, OnOk, option_map}
 use Rattle.std.specs.Io.KnownBytes.{Appends}
 use Rattle.jpeg_bits.specs.Reading.{Outcome}

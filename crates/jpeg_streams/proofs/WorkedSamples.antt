@@ -1,5 +1,5 @@
 -- The lossless stream that is worked by hand is written.
-use Rattle.std.proofs.Common.{◌≡◌, ℕ, zero, suc, ◌≤◌, ◌<◌, ◌^◌, true, false, List, [], ◌∷◌, ◌++◌, replicate, pos}
+use Rattle.std.proofs.Common.{ℕ, zero, suc, ◌≤◌, ◌<◌, ◌^◌, true, false, [], ◌∷◌, replicate, pos}
 use Rattle.std.proofs.Common.{negsuc, refl, arith, inl, inr}
 use Rattle.jpeg_bits.specs.Codes.{HasCodes, lengths_from, code_lengths, code_value, codes_exist}
 use Rattle.jpeg_bits.specs.Written.{low_bits}
@@ -15,14 +15,13 @@ use Rattle.jpeg_bits.specs.Written.{number_for}
 use Rattle.jpeg_lossless.specs.Written.{rest_differences, differences_below, differences_of, HaveDifferences}
 use Rattle.jpeg_bits.specs.Written.{stuffed}
 use Rattle.jpeg_bits.specs.Written.{bits_of_bytes}
-use Rattle.jpeg_bits.specs.Written.{marker}
 use Rattle.jpeg_lossless.specs.Written.WritesIntervals.{another, last}
 use Rattle.jpeg_lossless.specs.Worked.{small_table}
 use Rattle.jpeg_streams.specs.SaidSegments.{found_after}
 use Rattle.jpeg_streams.specs.Stream.{Found, nothing_found, updated}
-use Rattle.jpeg_streams.specs.WorkedSamples.{AreWritten, other_data, other_scan, plain_factors, table_segment}
+use Rattle.jpeg_streams.specs.WorkedSamples.{AreWritten, other_data, other_scan, table_segment}
 use Rattle.jpeg_streams.specs.WorkedSamples.{third_data, third_scan, three_bytes, three_header, three_samples}
-use Rattle.jpeg_streams.specs.WrittenLossless.{HasSamples, HaveTables, WritesSamples, WritesScan, closed}
+use Rattle.jpeg_streams.specs.WrittenLossless.{HasSamples, HaveTables, WritesScan, closed}
 use Rattle.jpeg_streams.specs.WrittenLossless.{said_after_scan, scan, segment, whole_lines}
 
 abbrev frame : Frame

@@ -1,23 +1,12 @@
 -- The entropy-coded data that a writer emits for coefficients (T.81, F.1.2 and G.1.2). Where the
 -- coding leaves a choice, as how far a run of blocks goes, each choice is one that may be written.
-use Rattle.std.specs.Prelude.{◌≡◌, ◌≢◌, ℕ, zero, suc, ◌+◌, ◌-◌, ◌*◌, ◌%◌, ◌^◌, ◌<◌, ◌≤◌, ◌==◌}
+use Rattle.std.specs.Prelude.{◌≡◌, ◌≢◌, ℕ, suc, ◌+◌, ◌-◌, ◌*◌, ◌%◌, ◌^◌, ◌<◌, ◌≤◌}
 use Rattle.std.specs.Prelude.{Bool, true, false, List, [], ◌∷◌, ◌++◌, replicate, get_or, set}
-use Rattle.std.specs.Prelude.{length, slice_index, ℤ, pos, negsuc, ◌-ℤ◌, unsigned_abs, nat_le}
-use Rattle.jpeg_bits.specs.Codes.{Table, code_lengths}
-use Rattle.jpeg_bits.specs.Entropy.{bits_of}
+use Rattle.std.specs.Prelude.{length, ℤ, pos, negsuc, ◌-ℤ◌, unsigned_abs, nat_le}
+use Rattle.jpeg_bits.specs.Codes.{Table}
 use Rattle.jpeg_bits.specs.Intervals.{predictors_at_start}
 use Rattle.jpeg_bits.specs.Passes.{Pass, Via, Block, band_of}
-use Rattle.jpeg_bits.specs.Written.{
-  bits_of_bytes,
-  marker,
-  stuffed,
-  number_for,
-  IsCategory,
-  IsCoded,
-  bit,
-  low_bits,
-  code_bits,
-}
+use Rattle.jpeg_bits.specs.Written.{bits_of_bytes, marker, stuffed, number_for, IsCategory, IsCoded, bit, low_bits}
 
 -- ---- codes and values
 

@@ -1,4 +1,4 @@
-use Rattle.std.proofs.Common.{◌≡◌, ◌∙◌, ◌<◌, sym, ap, ap₂, arith, rules, length, drop, map, length-set}
+use Rattle.std.proofs.Common.{◌≡◌, ◌∙◌, sym, ap, arith, rules, length, drop, map}
 use Rattle.jpeg_decoder.specs.Scanning.{arrays_in}
 use Rattle.jpeg_decoder.specs.Steps.{coding_in}
 use Rattle.jpeg_streams.specs.Stream.{put_arrays}

@@ -1,5 +1,5 @@
-use Rattle.std.proofs.Common.{◌≡◌, ◌≢◌, ◌<◌, List, Option, ◌∙◌, ◌∷◌, ◌++◌, [], rules, arith, refl, sym, ap, get_or}
-use Rattle.std.proofs.Common.{length, map, subst}
+use Rattle.std.proofs.Common.{◌≡◌, ◌≢◌, Option, ◌∙◌, ◌∷◌, ◌++◌, [], arith, refl, ap}
+use Rattle.std.proofs.Common.{length, map}
 use Rattle.std.specs.Option.{option_to_list}
 use Rattle.std.proofs.lemmas.List.{length-map}
 use Rattle.jpeg_segments.specs.FrameView.{component_in, frame_in}

@@ -1,5 +1,5 @@
-use Rattle.std.proofs.Common.{◌≡◌, ◌<◌, ◌∷◌, ◌++◌, [], drop, get_or, length, map, rules, arith, refl, sym, ap, Some}
-use Rattle.std.proofs.Common.{None, Ok, ◌∙◌, ◌+◌}
+use Rattle.std.proofs.Common.{◌≡◌, ◌∷◌, ◌++◌, [], get_or, map, rules, arith, refl, sym, ap}
+use Rattle.std.proofs.Common.{None, ◌∙◌}
 use Rattle.std.specs.Prelude.{option_map}
 use Rattle.std.proofs.lemmas.List.{length-map, map-append}
 use Rattle.std.proofs.lemmas.Result.{err_from_is_err_and}

@@ -1,6 +1,6 @@
 use Rattle.std.proofs.Common.{◌≡◌, drop, length, map}
 use Rattle.jpeg_bits.specs.Reading.{◌>>=◌}
-use Rattle.jpeg_segments.specs.FrameView.{component_in, frame_in}
+use Rattle.jpeg_segments.specs.FrameView.{frame_in}
 use Rattle.jpeg_decoder.specs.Scanning.{arrays_in}
 use Rattle.jpeg_decoder.specs.Seen.{found_in, planes_in}
 use Rattle.jpeg_decoder.specs.Steps.{with_decoded}

@@ -1,4 +1,4 @@
-use Rattle.std.proofs.Common.{◌≡◌, ℕ, pos, [], slice_index_or, length, replicate}
+use Rattle.std.proofs.Common.{◌≡◌, pos, [], slice_index_or, length, replicate}
 use Rattle.std.specs.Int.{int_shr}
 use Rattle.jpeg_pixels.specs.Samples.{clamped}
 use Rattle.jpeg_pixels.specs.Blocks.{WritesBlock}

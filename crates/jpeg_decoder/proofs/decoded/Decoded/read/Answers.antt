@@ -1,5 +1,5 @@
-use Rattle.std.proofs.Common.{◌≡◌, sym, refl, true}
-use Rattle.jpeg_segments.specs.FrameView.{component_in, frame_in}
+use Rattle.std.proofs.Common.{sym, refl, true}
+use Rattle.jpeg_segments.specs.FrameView.{frame_in}
 use Rattle.jpeg_decoder.specs.Seen.{found_in}
 use Rattle.jpeg_decoder.specs.Steps.{with_decoded}
 use Rattle.jpeg_decoder.proofs.ScanData.{held-afterwards, none-held}
