@@ -16,7 +16,7 @@ use Rattle.jpeg_pixels.specs.Zigzag.{coefficients_in_block_order}
 use Rattle.jpeg_streams.specs.Rasters.{ordered}
 use Rattle.jpeg_decoder.specs.Scanning.{blocks_in}
 use Rattle.jpeg_streams.specs.Scans.{zero_of, zero_arrays}
-use Rattle.jpeg_streams.specs.Stream.{finished_by, plane_by}
+use Rattle.jpeg_streams.specs.ScanSegments.{finished_by, plane_by}
 
 -- ---- zeros
 

@@ -20,9 +20,8 @@ use Rattle.jpeg_streams.specs.Rasters.{in_raster, ordered}
 use Rattle.jpeg_streams.specs.InTurn.{Counted, Fits, mcus_from, counted_at_start}
 use Rattle.jpeg_streams.specs.McuRows.{row_mcus, own_row_mcus, zero_rows, rows_of, joined, on_arrays, rows_from}
 use Rattle.jpeg_streams.specs.McuRows.{scan_by_rows}
-use Rattle.jpeg_streams.specs.Stream.{Coding, plane_by}
+use Rattle.jpeg_streams.specs.ScanSegments.{plane_by, Coding, components_of}
 use Rattle.jpeg_decoder.specs.Strips.{planes_by, planes_at, samples_of, with_strips, strips_from}
-use Rattle.jpeg_streams.specs.Stream.{components_of}
 use Rattle.jpeg_decoder.specs.Strips.{planes_by_rows}
 use Rattle.jpeg_streams.proofs.Apart.{zeros-sized}
 use Rattle.jpeg_streams.proofs.Mcus.{frame-scans, on-on}

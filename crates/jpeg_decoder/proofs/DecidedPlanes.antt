@@ -5,7 +5,8 @@ use Rattle.std.proofs.lemmas.List.{set-get_or}
 use Rattle.std.specs.Prelude.{◌&&◌, not, is_some, slice_set, slice_index_or}
 use Rattle.std.specs.List.{list_all}
 use Rattle.jpeg_bits.specs.Passes.{Pass}
-use Rattle.jpeg_streams.specs.Stream.{Found, decided}
+use Rattle.jpeg_streams.specs.ScanSegments.{decided}
+use Rattle.jpeg_streams.specs.Found.{Found}
 use Rattle.jpeg_decoder.specs.Steps.{decided_planes, is_wanted, marks_after, with_its_plane}
 
 planes_kept : (marks : List Bool) (place : ℕ) (plane : List ℕ) (planes : List (Option (List ℕ)))

@@ -11,8 +11,8 @@ use Rattle.jpeg_streams.specs.DecodedImages.{AtLeast, DecodesImages, FailsOutsid
 use Rattle.jpeg_streams.specs.DecodedImages.{at_size}
 use Rattle.jpeg_streams.specs.Levels.{Is8Bit, Levels}
 use Rattle.jpeg_streams.specs.States.{Decoding, Failed, Finished, Fresh, HeaderRead, IsReading, Stage, ahead}
-use Rattle.jpeg_streams.specs.Stream.{Found, Told, header_at, meaning, nothing_found, rest_at, segments_at}
-use Rattle.jpeg_streams.specs.Stream.{sized_meaning, start_at, told_of}
+use Rattle.jpeg_streams.specs.Stream.{Told, header_at, meaning, rest_at, segments_at, sized_meaning, start_at, told_of}
+use Rattle.jpeg_streams.specs.Found.{nothing_found, Found}
 use Rattle.jpeg_streams.specs.WrittenImages.{WritesImage}
 use Rattle.jpeg_streams.specs.WrittenScans.{Coefficients}
 use Rattle.jpeg_streams.specs.declared.settings.Settings.{Settings}

@@ -6,7 +6,8 @@ use Rattle.jpeg_segments.specs.Frame.{Frame}
 use Rattle.jpeg_streams.specs.DecodedImages.{AtLeast, FullSize, Size}
 use Rattle.jpeg_streams.specs.DecodedSamples.{DecodesSamples}
 use Rattle.jpeg_streams.specs.States.{Decoding, IsReading, ahead}
-use Rattle.jpeg_streams.specs.Stream.{Found, told_of}
+use Rattle.jpeg_streams.specs.Stream.{told_of}
+use Rattle.jpeg_streams.specs.Found.{Found}
 use Rattle.jpeg_streams.specs.WrittenLossless.{IsWithin, Samples, WritesSamples, picture_of_samples}
 use Rattle.jpeg_streams.specs.declared.settings.Settings.{Settings}
 use Rattle.jpeg_decoder.proofs.DecodedImages.{gives, left-means, left-reading, means_at}

@@ -26,7 +26,9 @@ use Rattle.jpeg_streams.specs.Scans.{Arrays, zero_arrays}
 use Rattle.jpeg_streams.specs.Sound.{ArePlanes, IsDecodedFrame, IsPlaneOf, IsSound}
 use Rattle.jpeg_streams.proofs.Soundness.{count-few, decoded-count}
 use Rattle.jpeg_streams.specs.Needed.{needed}
-use Rattle.jpeg_streams.specs.Stream.{Found, arrays_before, plane_at_end, plane_by, planes_from}
+use Rattle.jpeg_streams.specs.FoundPictures.{planes_from, plane_at_end}
+use Rattle.jpeg_streams.specs.ScanSegments.{plane_by, arrays_before}
+use Rattle.jpeg_streams.specs.Found.{Found}
 
 -- ---- what is left after some places
 

@@ -14,9 +14,11 @@ use Rattle.jpeg_segments.specs.HuffmanTables.{dht_at}
 use Rattle.jpeg_segments.specs.Application.{app_at, dri_at}
 use Rattle.jpeg_streams.specs.declared.before.Before.TheVariants.{Elsewhere}
 use Rattle.jpeg_streams.specs.Needed.{needed}
-use Rattle.jpeg_streams.specs.Stream.{Found, Turn, onward, accepted, frame_segment, quantization_segment}
-use Rattle.jpeg_streams.specs.Stream.{huffman_segment, restart_segment, application_segment, skipped_segment}
-use Rattle.jpeg_streams.specs.Stream.{scan_segment, end_segment, segment_at, turn_at, segments_within, segments_at}
+use Rattle.jpeg_streams.specs.Segments.{quantization_segment, frame_segment, accepted, onward, Turn, skipped_segment}
+use Rattle.jpeg_streams.specs.Segments.{application_segment, restart_segment, huffman_segment}
+use Rattle.jpeg_streams.specs.Found.{Found}
+use Rattle.jpeg_streams.specs.Stream.{end_segment, segment_at, turn_at, segments_within, segments_at}
+use Rattle.jpeg_streams.specs.ScanSegments.{scan_segment}
 use Rattle.jpeg_decoder.proofs.Turns.{turn-takes, segments-refused, segments-next}
 
 -- ---- turns in front of a frame

@@ -11,7 +11,8 @@ use Rattle.jpeg_lossless.specs.Pictures.{layer_by, line_bytes, pixel_bytes, pict
 use Rattle.jpeg_lossless.specs.Places.{at_place}
 use Rattle.jpeg_lossless.specs.Written.{AreLines}
 use Rattle.jpeg_streams.specs.declared.settings.Settings.{Settings}
-use Rattle.jpeg_streams.specs.Stream.{Found, meaning, nothing_found, sized_meaning, told_of}
+use Rattle.jpeg_streams.specs.Stream.{meaning, sized_meaning, told_of}
+use Rattle.jpeg_streams.specs.Found.{nothing_found, Found}
 use Rattle.jpeg_streams.specs.WrittenLossless.{IsWithin, Samples, Writes, WritesSamples, closed, samples_line}
 use Rattle.jpeg_streams.specs.InTurn.{IsIn}
 use Rattle.jpeg_streams.specs.WrittenLossless.{picture_of_samples, pixel_of, said_after_scan, scan, segment}

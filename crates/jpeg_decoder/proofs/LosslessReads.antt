@@ -34,7 +34,9 @@ use Rattle.jpeg_streams.specs.Scans.{Arrays, zero_arrays}
 use Rattle.jpeg_decoder.specs.declared.decoded.Decoded.{Decoded}
 use Rattle.jpeg_streams.specs.Sound.{IsDecodedFrame, IsSampled, IsSound}
 use Rattle.jpeg_decoder.specs.Steps.{IsRefusal, after_all, samples_read, with_decoded}
-use Rattle.jpeg_streams.specs.Stream.{Found, arrays_before, after_samples, samples_picture, scan_samples}
+use Rattle.jpeg_streams.specs.FoundPictures.{samples_picture}
+use Rattle.jpeg_streams.specs.ScanSegments.{after_samples, scan_samples, arrays_before}
+use Rattle.jpeg_streams.specs.Found.{Found}
 use Rattle.jpeg_streams.proofs.AcceptedTurns.{bind-ok, ok-same, then-ok}
 use Rattle.jpeg_streams.proofs.PlainFrames.{codings-plain, down-plain, picture-plain, way-plain}
 use Rattle.jpeg_decoder.specs.Seen.{planes_in}

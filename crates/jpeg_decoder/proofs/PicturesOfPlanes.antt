@@ -23,7 +23,9 @@ use Rattle.jpeg_pixels.specs.Pictures.{Source, AllCover, AreWhole, image_of, pic
 use Rattle.jpeg_streams.specs.ColourChoice.{identifiers_of, transform_of}
 use Rattle.jpeg_streams.specs.Sound.{IsDecodedFrame}
 use Rattle.jpeg_decoder.specs.Steps.{IsRefusal, cropped_to}
-use Rattle.jpeg_streams.specs.Stream.{Metadata, is_decoded_count, picture_by}
+use Rattle.jpeg_streams.specs.FoundPictures.{picture_by}
+use Rattle.jpeg_streams.specs.Segments.{is_decoded_count}
+use Rattle.jpeg_streams.specs.Found.{Metadata}
 use Rattle.jpeg_streams.specs.declared.settings.Settings.{Settings}
 use Rattle.jpeg_decoder.proofs.EndedPlanes.{decoded-scales, element, mapped-or, mapped-within}
 use Rattle.jpeg_streams.proofs.Soundness.{decoded-count, decoded-sized, decoded-sources}

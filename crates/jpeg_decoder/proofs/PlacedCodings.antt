@@ -17,7 +17,8 @@ use Rattle.jpeg_decoder.specs.declared.codings.Coded.{Coded}
 use Rattle.jpeg_streams.specs.InTurn.{AreApart, IsIn}
 use Rattle.jpeg_decoder.specs.Scanning.{HasCodedScale, components_in}
 use Rattle.jpeg_streams.specs.Needed.{first_of, needed}
-use Rattle.jpeg_streams.specs.Stream.{Found, Coding, needed_if, component_coding, codings_from}
+use Rattle.jpeg_streams.specs.ScanSegments.{codings_from, component_coding, needed_if, Coding}
+use Rattle.jpeg_streams.specs.Found.{Found}
 use Rattle.jpeg_decoder.specs.Steps.{coding_in, codings_in_force}
 use Rattle.jpeg_decoder.proofs.TakenBlocks.{places_of}
 

@@ -22,7 +22,8 @@ use Rattle.jpeg_decoder.specs.Scanning.{HasAc, HasCodedScale, arrays_in, compone
 use Rattle.jpeg_decoder.specs.Seen.{planes_in}
 use Rattle.jpeg_streams.specs.Sound.{IsDecodedFrame}
 use Rattle.jpeg_streams.specs.Needed.{first_of}
-use Rattle.jpeg_streams.specs.Stream.{Coding, Found, codings_from, component_coding, pass_of, tables_of}
+use Rattle.jpeg_streams.specs.ScanSegments.{codings_from, component_coding, Coding, tables_of, pass_of}
+use Rattle.jpeg_streams.specs.Found.{Found}
 use Rattle.jpeg_decoder.specs.Steps.{AreRising, HasPlace, IsCodingOf, IsDct, IsReadable, coding_in, codings_in_force}
 use Rattle.jpeg_decoder.specs.Steps.{with_decoded}
 use Rattle.jpeg_streams.proofs.AcceptedTurns.{CodingFacts, codings-facts_from, codings-same_from, tables-same}

@@ -11,7 +11,7 @@ use Rattle.jpeg_pixels.specs.Zigzag.{coefficients_in_block_order, values_in_bloc
 use Rattle.jpeg_pixels.proofs.PlaneRows.{plane-none}
 use Rattle.jpeg_segments.specs.Frame.{Component}
 use Rattle.jpeg_streams.specs.Rasters.{ordered, in_raster}
-use Rattle.jpeg_streams.specs.Stream.{plane_by}
+use Rattle.jpeg_streams.specs.ScanSegments.{plane_by}
 use Rattle.jpeg_decoder.proofs.BlocksBefore.{ordered-is}
 use Rattle.jpeg_streams.proofs.PlaneStrips.{plane-strips}
 

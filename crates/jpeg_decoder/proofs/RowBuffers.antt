@@ -7,7 +7,7 @@ use Rattle.std.specs.declared.vec.Vec.{Vec}
 use Rattle.jpeg_bits.specs.BlockView.{to_block}
 use Rattle.jpeg_bits.specs.Passes.{Block, zero_block}
 use Rattle.jpeg_streams.specs.Scans.{Arrays}
-use Rattle.jpeg_streams.specs.Stream.{Coding}
+use Rattle.jpeg_streams.specs.ScanSegments.{Coding}
 use Rattle.jpeg_decoder.specs.Steps.{coding_in}
 use Rattle.jpeg_decoder.specs.Scanning.{arrays_in, blocks_in, sizes_of, down_in, wide_in}
 use Rattle.jpeg_decoder.specs.Strips.{planes_in, row_sizes, zeros_of, samples_of, with_strips}

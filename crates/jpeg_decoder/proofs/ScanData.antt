@@ -22,10 +22,10 @@ use Rattle.jpeg_decoder.specs.Scanning.{vias_in, arrays_in, blocks_in, sizes_of,
 use Rattle.jpeg_decoder.specs.Seen.{planes_in}
 use Rattle.jpeg_streams.specs.Sound.{IsPlaneOf, ArePlanes}
 use Rattle.jpeg_decoder.specs.Steps.{blocks_at, coding_in, decided_planes, marks_after, scan_data}
-use Rattle.jpeg_streams.specs.Stream.{components_of}
+use Rattle.jpeg_streams.specs.ScanSegments.{components_of, held_after, decided, plane_by, arrays_before, Coding}
+use Rattle.jpeg_streams.specs.ScanSegments.{is_progressive, put_arrays, with_arrays, with_blocks, vias_from}
 use Rattle.jpeg_decoder.specs.Steps.{with_decoded, with_its_plane, with_planes, IsCodingOf, AreRising}
-use Rattle.jpeg_streams.specs.Stream.{Found, Coding, arrays_before, decided, held_after, is_progressive, plane_by}
-use Rattle.jpeg_streams.specs.Stream.{put_arrays, vias_from, with_arrays, with_blocks}
+use Rattle.jpeg_streams.specs.Found.{Found}
 use Rattle.jpeg_decoder.specs.Strips.{planes_by, planes_at}
 use Rattle.jpeg_streams.proofs.Apart.{At, zeros-sized}
 use Rattle.jpeg_decoder.proofs.BlocksBefore.{plane_by-length}

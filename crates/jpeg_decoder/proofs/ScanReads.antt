@@ -15,9 +15,11 @@ use Rattle.jpeg_segments.specs.ScanHeader.{Scan, sos_at}
 use Rattle.jpeg_streams.specs.declared.before.Before.{Before}
 use Rattle.jpeg_streams.specs.Scans.{Arrays}
 use Rattle.jpeg_streams.specs.Needed.{needed}
-use Rattle.jpeg_streams.specs.Stream.{Coding, Found, Turn, after_restarts, after_scan, blocks_scan, codings_of}
-use Rattle.jpeg_streams.specs.Stream.{lossless_scan, pass_of, scan_arrays, scan_before, scan_by, scan_samples}
-use Rattle.jpeg_streams.specs.Stream.{scan_segment}
+use Rattle.jpeg_streams.specs.ScanSegments.{blocks_scan, after_restarts, after_scan, codings_of, Coding, scan_by}
+use Rattle.jpeg_streams.specs.ScanSegments.{lossless_scan, scan_samples, scan_before, scan_arrays, pass_of}
+use Rattle.jpeg_streams.specs.ScanSegments.{scan_segment}
+use Rattle.jpeg_streams.specs.Segments.{Turn}
+use Rattle.jpeg_streams.specs.Found.{Found}
 use Rattle.jpeg_streams.specs.LosslessScans.{lossless_codings, without_factors}
 use Rattle.jpeg_decoder.specs.Steps.{IsDct, IsRefusal, after_all, blocks_read, codings_in_force, read_by, samples_read}
 use Rattle.jpeg_decoder.specs.Steps.{scan_data, scan_read}

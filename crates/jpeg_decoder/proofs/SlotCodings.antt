@@ -24,7 +24,8 @@ use Rattle.jpeg_decoder.specs.declared.codings.Spare.{Spare}
 use Rattle.jpeg_decoder.specs.declared.state.State.{State}
 use Rattle.jpeg_streams.specs.Scans.{no_table}
 use Rattle.jpeg_streams.specs.Needed.{first_of, needed}
-use Rattle.jpeg_streams.specs.Stream.{Found, needed_if, pass_of, tables_of, component_coding}
+use Rattle.jpeg_streams.specs.ScanSegments.{component_coding, needed_if, tables_of, pass_of}
+use Rattle.jpeg_streams.specs.Found.{Found}
 use Rattle.jpeg_decoder.specs.Seen.{found_in}
 use Rattle.jpeg_decoder.specs.Steps.{IsRefusal, IsSpareOf, coding_in_slot, default_ac, in_force, or_spare, table_if}
 use Rattle.jpeg_streams.proofs.Updates.{both}

@@ -12,7 +12,7 @@ use Rattle.jpeg_pixels.specs.Zigzag.{coefficients_in_block_order, zigzag_places,
 use Rattle.jpeg_pixels.proofs.PlaneRows.{plane-more, plane-same, plane-none}
 use Rattle.jpeg_streams.specs.Scans.{Arrays}
 use Rattle.jpeg_streams.specs.Rasters.{ordered, in_raster}
-use Rattle.jpeg_streams.specs.Stream.{Coding}
+use Rattle.jpeg_streams.specs.ScanSegments.{Coding}
 use Rattle.jpeg_decoder.specs.Strips.{samples_of, with_strips, block_in}
 use Rattle.jpeg_decoder.proofs.HeldBlocks.{get-map}
 

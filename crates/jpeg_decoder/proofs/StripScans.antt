@@ -16,9 +16,8 @@ use Rattle.jpeg_streams.specs.InTurn.{Counted, Fits, counted_at_start}
 use Rattle.jpeg_streams.specs.McuRows.{rows_of}
 use Rattle.jpeg_decoder.specs.Scanning.{components_in}
 use Rattle.jpeg_decoder.specs.Steps.{coding_in}
-use Rattle.jpeg_streams.specs.Stream.{Coding}
+use Rattle.jpeg_streams.specs.ScanSegments.{Coding, components_of}
 use Rattle.jpeg_decoder.specs.Strips.{strips_from, planes_at, planes_by_rows}
-use Rattle.jpeg_streams.specs.Stream.{components_of}
 use Rattle.jpeg_decoder.proofs.ByStrips.{planes-by-rows}
 use Rattle.jpeg_decoder.proofs.StripSteps.{components-are}
 

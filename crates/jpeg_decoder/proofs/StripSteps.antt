@@ -21,9 +21,8 @@ use Rattle.jpeg_streams.specs.McuRows.{zero_rows, rows_of, row_mcus, own_row_mcu
 use Rattle.jpeg_decoder.specs.Scanning.{components_in, arrays_in, blocks_in, sizes_of, wide_in, across_in, down_in}
 use Rattle.jpeg_decoder.specs.Scanning.{HoldsMcu, row_in, own_rows}
 use Rattle.jpeg_decoder.specs.Steps.{coding_in}
-use Rattle.jpeg_streams.specs.Stream.{Coding}
+use Rattle.jpeg_streams.specs.ScanSegments.{Coding, components_of}
 use Rattle.jpeg_decoder.specs.Strips.{row_at, row_sizes, samples_in, samples_of, zeros_of, with_strips}
-use Rattle.jpeg_streams.specs.Stream.{components_of}
 use Rattle.jpeg_decoder.specs.Strips.{strips_from}
 use Rattle.jpeg_decoder.proofs.FrameScans.{place-within, fits-at, row-within}
 use Rattle.jpeg_decoder.proofs.HeldBlocks.{Held, get-map, sizes-long}

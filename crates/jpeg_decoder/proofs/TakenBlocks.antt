@@ -12,7 +12,7 @@ use Rattle.jpeg_streams.specs.InTurn.{AreApart, IsIn}
 use Rattle.jpeg_streams.specs.Scans.{Arrays}
 use Rattle.jpeg_decoder.specs.Scanning.{arrays_in, blocks_in}
 use Rattle.jpeg_decoder.specs.Steps.{blocks_at, coding_in, without_blocks}
-use Rattle.jpeg_streams.specs.Stream.{Coding, put_arrays}
+use Rattle.jpeg_streams.specs.ScanSegments.{put_arrays, Coding}
 
 abbrev pub places_of : List Coding → List ℕ
 places_of codings = map (λ c. c.place) codings

@@ -19,11 +19,14 @@ use Rattle.jpeg_segments.specs.Application.{app_at, dri_at}
 use Rattle.jpeg_streams.specs.declared.before.Before.{Before}
 use Rattle.jpeg_streams.specs.declared.before.Before.TheVariants.{FirstScan, LaterScan, Elsewhere}
 use Rattle.jpeg_streams.specs.Needed.{needed}
-use Rattle.jpeg_streams.specs.Stream.{Found, Turn, onward, accepted, blocks_scan, codings_of, lossless_scan}
-use Rattle.jpeg_streams.specs.Stream.{scan_arrays, scan_by, scan_samples, after_restarts, frame_segment}
-use Rattle.jpeg_streams.specs.Stream.{quantization_segment, huffman_segment, restart_segment, application_segment}
-use Rattle.jpeg_streams.specs.Stream.{skipped_segment, scan_segment, end_segment, stray_restart, line_count, segment_at}
-use Rattle.jpeg_streams.specs.Stream.{turn_at, segments_within, segments_at, told_within, told_at}
+use Rattle.jpeg_streams.specs.ScanSegments.{lossless_scan, blocks_scan, codings_of, scan_by, scan_samples}
+use Rattle.jpeg_streams.specs.ScanSegments.{after_restarts, scan_arrays, scan_segment}
+use Rattle.jpeg_streams.specs.Segments.{accepted, onward, Turn, frame_segment, application_segment, restart_segment}
+use Rattle.jpeg_streams.specs.Segments.{huffman_segment, quantization_segment, skipped_segment}
+use Rattle.jpeg_streams.specs.Found.{Found}
+use Rattle.jpeg_streams.specs.Stream.{end_segment, stray_restart, line_count, segment_at, turn_at, segments_within}
+use Rattle.jpeg_streams.specs.Stream.{segments_at}
+use Rattle.jpeg_streams.specs.Reported.{told_at, told_within}
 use Rattle.jpeg_decoder.specs.Steps.{is_restart_marker}
 use Rattle.jpeg_streams.proofs.Shorter.{LeavesBelow, length-below, skip-below, marker-below}
 use Rattle.jpeg_streams.proofs.ShorterSegments.{sof-below, dqt-below, dht-below, sos-below, app-below, dri-below}

@@ -33,12 +33,13 @@ use Rattle.jpeg_streams.specs.declared.settings.Settings.{Settings}
 use Rattle.jpeg_streams.specs.LosslessScans.{lossless_picture, samples_from, with_samples, without_factors}
 use Rattle.jpeg_streams.specs.Needed.{needed}
 use Rattle.jpeg_streams.specs.SaidSegments.{found_after}
-use Rattle.jpeg_streams.specs.Stream.{Found, Turn, onward, nothing_found, frame_segment}
-use Rattle.jpeg_streams.specs.Stream.{quantization_segment, huffman_segment, restart_segment, application_segment}
-use Rattle.jpeg_streams.specs.Stream.{skipped_segment, end_segment, start_at, after_restarts, scan_before}
-use Rattle.jpeg_streams.specs.Stream.{scan_segment, segment_at, turn_at, segments_within, segments_at, header_at}
-use Rattle.jpeg_streams.specs.Stream.{picture_by_process, picture_of, rest_at, meaning, samples_picture}
-use Rattle.jpeg_streams.specs.Stream.{sized_meaning, sized_to, told_of}
+use Rattle.jpeg_streams.specs.Segments.{frame_segment, onward, Turn, application_segment, restart_segment}
+use Rattle.jpeg_streams.specs.Segments.{huffman_segment, quantization_segment, skipped_segment}
+use Rattle.jpeg_streams.specs.Found.{nothing_found, Found}
+use Rattle.jpeg_streams.specs.Stream.{end_segment, start_at, segment_at, turn_at, segments_within, segments_at}
+use Rattle.jpeg_streams.specs.Stream.{header_at, rest_at, meaning, sized_meaning, sized_to, told_of}
+use Rattle.jpeg_streams.specs.ScanSegments.{scan_before, after_restarts, scan_segment}
+use Rattle.jpeg_streams.specs.FoundPictures.{picture_of, picture_by_process, samples_picture}
 use Rattle.jpeg_streams.specs.WrittenLossless.{Samples, StandsInLossless, Writes, WritesSamples, WritesScan, closed}
 use Rattle.jpeg_streams.specs.InTurn.{IsIn}
 use Rattle.jpeg_streams.specs.WrittenLossless.{said_after_scan, scan, segment}

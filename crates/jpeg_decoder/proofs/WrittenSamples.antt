@@ -34,8 +34,10 @@ use Rattle.jpeg_lossless.proofs.ReadBack.{reads-scan}
 use Rattle.jpeg_streams.specs.LosslessScans.{lossless_codings, tables_in, with_samples}
 use Rattle.jpeg_streams.specs.LosslessScans.{without_factors}
 use Rattle.jpeg_streams.specs.Needed.{needed}
-use Rattle.jpeg_streams.specs.Stream.{Found, Turn, after_restarts, lossless_scan, scan_before, scan_by}
-use Rattle.jpeg_streams.specs.Stream.{scan_samples, scan_segment}
+use Rattle.jpeg_streams.specs.ScanSegments.{scan_by, lossless_scan, scan_before, after_restarts, scan_segment}
+use Rattle.jpeg_streams.specs.ScanSegments.{scan_samples}
+use Rattle.jpeg_streams.specs.Segments.{Turn}
+use Rattle.jpeg_streams.specs.Found.{Found}
 use Rattle.jpeg_streams.specs.WrittenLossless.{HaveTables, IsInterval, Samples, WritesScan, no_interval}
 use Rattle.jpeg_streams.specs.WrittenLossless.{said_after_scan, whole_lines, whole_scan, written_way}
 use Rattle.jpeg_streams.proofs.AcceptedTurns.{then-ok}

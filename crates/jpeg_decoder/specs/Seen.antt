@@ -6,7 +6,7 @@ use Rattle.jpeg_decoder.specs.declared.decoder.Progress.{Progress}
 use Rattle.jpeg_decoder.specs.declared.decoder.Progress.TheVariants as progress
 use Rattle.jpeg_decoder.specs.declared.metadata.Metadata as declared
 use Rattle.jpeg_decoder.specs.Scanning.{arrays_in}
-use Rattle.jpeg_streams.specs.Stream.{Found, Metadata}
+use Rattle.jpeg_streams.specs.Found.{Found, Metadata}
 use Rattle.jpeg_streams.specs.States.{Stage, Fresh, HeaderRead, Finished, Failed}
 use Rattle.std.specs.declared.alloc.Global.{Global}
 use Rattle.std.specs.declared.vec.Vec.{Vec}

@@ -33,18 +33,12 @@ use Rattle.jpeg_decoder.specs.declared.codings.Spare.{Spare}
 use Rattle.jpeg_streams.specs.Scans.{no_table}
 use Rattle.jpeg_bits.specs.declared.codes.HuffmanTableClass.TheVariants as classes
 use Rattle.jpeg_streams.specs.Needed.{first_of, needed}
-use Rattle.jpeg_streams.specs.Stream.{
-  components_of,
-  Found,
-  Turn,
-  Coding,
-  pass_of,
-  tables_of,
-  component_coding,
-}
-use Rattle.jpeg_streams.specs.Stream.{codings_from, after_restarts, finished_by, none_finished}
-use Rattle.jpeg_streams.specs.Stream.{decided, vias_from, arrays_before, with_arrays, held_after}
-use Rattle.jpeg_streams.specs.Stream.{after_samples, scan_samples}
+use Rattle.jpeg_streams.specs.ScanSegments.{component_coding, components_of, Coding, tables_of}
+use Rattle.jpeg_streams.specs.ScanSegments.{pass_of, after_restarts, finished_by, codings_from}
+use Rattle.jpeg_streams.specs.ScanSegments.{held_after, with_arrays, decided, arrays_before}
+use Rattle.jpeg_streams.specs.ScanSegments.{vias_from, after_samples, scan_samples}
+use Rattle.jpeg_streams.specs.Segments.{Turn}
+use Rattle.jpeg_streams.specs.Found.{Found, none_finished}
 use Rattle.jpeg_streams.specs.LosslessScans.{lossless_codings, without_factors}
 use Rattle.jpeg_segments.specs.declared.parser.CodingProcess.{CodingProcess}
 use Rattle.jpeg_segments.specs.declared.parser.CodingProcess.TheVariants.{DctSequential}

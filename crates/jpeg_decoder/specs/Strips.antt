@@ -18,7 +18,7 @@ use Rattle.jpeg_streams.specs.Scans.{Arrays, zero_arrays, arrays_at}
 use Rattle.jpeg_streams.specs.Rasters.{in_raster}
 use Rattle.jpeg_streams.specs.InTurn.{Counted, mcus_from, counted_at_start}
 use Rattle.jpeg_streams.specs.McuRows.{zero_rows, rows_of, own_row_mcus, row_mcus, on_arrays}
-use Rattle.jpeg_streams.specs.Stream.{components_of, Coding, plane_by}
+use Rattle.jpeg_streams.specs.ScanSegments.{plane_by, components_of, Coding}
 use Rattle.jpeg_decoder.specs.declared.codings.Coded.{Coded}
 use Rattle.jpeg_decoder.specs.Scanning.{down_in, wide_in}
 

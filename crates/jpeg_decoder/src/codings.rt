@@ -13,7 +13,7 @@ ghost use Rattle.jpeg_decoder.specs.Seen.{found_in};
 ghost use Rattle.jpeg_decoder.specs.Steps.{IsRefusal, IsSpareOf, codings_in_force, coding_in};
 ghost use Rattle.jpeg_decoder.specs.Steps.{coding_in_slot, default_dc, default_ac, in_force};
 ghost use Rattle.jpeg_decoder.specs.Steps.{table_if};
-ghost use Rattle.jpeg_streams.specs.Stream.{is_progressive, pass_of};
+ghost use Rattle.jpeg_streams.specs.ScanSegments.{pass_of, is_progressive};
 
 use crate::places::{needed, table_at};
 use crate::state::State;

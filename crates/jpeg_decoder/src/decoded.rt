@@ -13,7 +13,8 @@ ghost use Rattle.jpeg_decoder.specs.Scanning.{arrays_in, blocks_in, components_i
 ghost use Rattle.jpeg_decoder.specs.Scanning.{HasCodedScale};
 ghost use Rattle.jpeg_streams.specs.Scans.{zero_arrays, zero_of};
 ghost use Rattle.jpeg_decoder.specs.Seen.{planes_in};
-ghost use Rattle.jpeg_streams.specs.Stream.{finished_by, none_finished, plane_by, put_arrays};
+ghost use Rattle.jpeg_streams.specs.ScanSegments.{put_arrays, finished_by, plane_by};
+ghost use Rattle.jpeg_streams.specs.Found.{none_finished};
 ghost use Rattle.jpeg_decoder.specs.Steps.{blocks_at, coding_in, without_blocks};
 ghost use Rattle.jpeg_pixels.specs.Zigzag.{coefficients_in_block_order};
 
@@ -189,8 +190,9 @@ impl Decoded {
     ghost use Rattle.jpeg_decoder.specs.Steps.{coding_in, HasPlace, IsReadable, is_wanted};
     ghost use Rattle.jpeg_decoder.specs.Steps.{marks_after, scan_data, with_decoded};
     ghost use Rattle.jpeg_decoder.specs.Steps.{with_its_plane, with_planes};
-    ghost use Rattle.jpeg_streams.specs.Stream.{Found, arrays_before, is_progressive};
-    ghost use Rattle.jpeg_streams.specs.Stream.{none_finished, plane_by, with_arrays};
+    ghost use Rattle.jpeg_streams.specs.ScanSegments.{arrays_before, is_progressive, with_arrays};
+    ghost use Rattle.jpeg_streams.specs.ScanSegments.{plane_by};
+    ghost use Rattle.jpeg_streams.specs.Found.{Found, none_finished};
 
     /// Nothing was read.
     pub fn new(alloc: Global) -> Decoded
@@ -337,7 +339,7 @@ impl Decoded {
     }
 
     /// Holds the blocks of a progressive frame's components: before its first scan, zeros.
-    #[tactic(auto, unfolding(jpeg_streams::specs::Stream::arrays_before))]
+    #[tactic(auto, unfolding(jpeg_streams::specs::ScanSegments::arrays_before))]
     fn hold(
         &mut self,
         alloc: Global,

@@ -4,8 +4,9 @@ ghost use Rattle.std.specs.Prelude.{IfNone, IfSome, None, option_map, is_some, E
 ghost use Rattle.jpeg_bits.specs.Reading.{Answers};
 ghost use Rattle.jpeg_bits.specs.Stream.{stream_of};
 ghost use Rattle.jpeg_bits.specs.declared.error.Error.TheVariants.{OutOfMemory};
-ghost use Rattle.jpeg_streams.specs.Stream.{nothing_found, header_at, sized_header_at, sized_to};
-ghost use Rattle.jpeg_streams.specs.Stream.{told_of, IsOfTurns};
+ghost use Rattle.jpeg_streams.specs.Stream.{header_at, sized_header_at, sized_to, told_of};
+ghost use Rattle.jpeg_streams.specs.Found.{nothing_found};
+ghost use Rattle.jpeg_streams.specs.Reported.{IsOfTurns};
 ghost use Rattle.jpeg_streams.specs.States.{Decoding, MovesToHeader, MovesToEnd, IsReading, ahead};
 ghost use Rattle.jpeg_streams.specs.States.{told_ahead, turns_ahead, OnTold, OnToldRefusal, Fresh};
 ghost use Rattle.jpeg_streams.specs.States.{HeaderRead};
@@ -133,7 +134,7 @@ impl<R: Read + Drop> Model for Decoder<R> {
     ghost use Rattle.std.specs.Prelude.{◌≡◌, is_some, true};
     ghost use Rattle.jpeg_streams.specs.Sound.{HasDecodedFrame, IsSound, IsUnread};
     ghost use Rattle.jpeg_streams.specs.States.{Decoding, Fresh, HasHeader, HeaderRead};
-    ghost use Rattle.jpeg_streams.specs.Stream.{nothing_found};
+    ghost use Rattle.jpeg_streams.specs.Found.{nothing_found};
     ghost use Rattle.jpeg_decoder.specs.Seen.{found_in, stage_of};
 
     ghost Value = { Decoding };

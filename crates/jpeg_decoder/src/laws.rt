@@ -17,9 +17,10 @@ ghost use Rattle.jpeg_streams.specs.InTurn.{AreApart, AreArrays, Fits, intervals
 ghost use Rattle.jpeg_streams.specs.InTurn.{scan_from};
 ghost use Rattle.jpeg_streams.specs.McuRows.{scan_by_rows};
 ghost use Rattle.jpeg_streams.specs.Rasters.{ordered, in_raster};
-ghost use Rattle.jpeg_streams.specs.Stream.{Found, Coding, header_at, rest_at, meaning};
-ghost use Rattle.jpeg_streams.specs.Stream.{is_progressive, pass_of, codings_of, vias_from};
-ghost use Rattle.jpeg_streams.specs.Stream.{arrays_before, scan_arrays, sized_to};
+ghost use Rattle.jpeg_streams.specs.Stream.{header_at, rest_at, meaning, sized_to};
+ghost use Rattle.jpeg_streams.specs.ScanSegments.{Coding, vias_from, codings_of, pass_of};
+ghost use Rattle.jpeg_streams.specs.ScanSegments.{is_progressive, scan_arrays, arrays_before};
+ghost use Rattle.jpeg_streams.specs.Found.{Found};
 ghost use Rattle.jpeg_streams.specs.declared.settings.Settings.{Settings};
 
 /// A header and then the rest of its stream are the whole stream, and a refused header is a refused

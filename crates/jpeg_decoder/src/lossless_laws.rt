@@ -3,7 +3,8 @@
 ghost use Rattle.std.specs.Prelude.{◌≡◌, ℕ, ◌++◌, List, Ok};
 ghost use Rattle.jpeg_segments.specs.Frame.{Frame};
 ghost use Rattle.jpeg_streams.specs.declared.settings.Settings.{Settings};
-ghost use Rattle.jpeg_streams.specs.Stream.{Found, meaning, sized_meaning, told_of};
+ghost use Rattle.jpeg_streams.specs.Stream.{meaning, sized_meaning, told_of};
+ghost use Rattle.jpeg_streams.specs.Found.{Found};
 ghost use Rattle.jpeg_streams.specs.WorkedSamples.{AreWritten, three_bytes, three_samples};
 ghost use Rattle.jpeg_streams.specs.WrittenLossless.{IsWithin, Samples, WritesSamples};
 ghost use Rattle.jpeg_streams.specs.WrittenLossless.{picture_of_samples};

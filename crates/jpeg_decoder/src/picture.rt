@@ -14,10 +14,12 @@ ghost use Rattle.jpeg_streams.specs.Sound.{IsDecodedFrame, IsPlaneOf, IsSound, H
 ghost use Rattle.jpeg_streams.specs.Sound.{IsUnread};
 ghost use Rattle.jpeg_streams.specs.States.{OnTold};
 ghost use Rattle.jpeg_decoder.specs.Steps.{IsRefusal, cropped_to, with_decoded};
-ghost use Rattle.jpeg_streams.specs.Stream.{IsOfTurns, blocks_picture, header_at, meaning};
-ghost use Rattle.jpeg_streams.specs.Stream.{nothing_found, picture_by, picture_of, planes_from};
-ghost use Rattle.jpeg_streams.specs.Stream.{rest_at, samples_picture, start_at, told_by_stream};
-ghost use Rattle.jpeg_streams.specs.Stream.{told_by_turns, told_in_turns, told_of, told_rest};
+ghost use Rattle.jpeg_streams.specs.Stream.{header_at, meaning, rest_at, start_at, told_of};
+ghost use Rattle.jpeg_streams.specs.Reported.{IsOfTurns, told_by_stream, told_by_turns};
+ghost use Rattle.jpeg_streams.specs.Reported.{told_in_turns, told_rest};
+ghost use Rattle.jpeg_streams.specs.FoundPictures.{blocks_picture, picture_of, picture_by};
+ghost use Rattle.jpeg_streams.specs.FoundPictures.{planes_from, samples_picture};
+ghost use Rattle.jpeg_streams.specs.Found.{nothing_found};
 
 use crate::codings::is_progressive;
 use crate::color_choice::choose_color_transform;
@@ -196,7 +198,7 @@ fn picture_by(
 }
 
 /// The picture of a frame of blocks.
-#[tactic(auto, unfolding(jpeg_streams::specs::Stream::blocks_picture))]
+#[tactic(auto, unfolding(jpeg_streams::specs::FoundPictures::blocks_picture))]
 fn blocks_picture(
     alloc: Global,
     state: &State,
@@ -232,7 +234,7 @@ fn samples_at_end(alloc: Global, frame: &FrameInfo, decoded: &mut Decoded) -> Re
 }
 
 /// The picture of a lossless frame.
-#[tactic(auto, unfolding(jpeg_streams::specs::Stream::samples_picture))]
+#[tactic(auto, unfolding(jpeg_streams::specs::FoundPictures::samples_picture))]
 fn samples_picture(
     alloc: Global,
     state: &State,
@@ -250,7 +252,7 @@ fn samples_picture(
 }
 
 /// The picture of what was found, which is taken: within the limit, of planes that are there.
-#[tactic(auto, unfolding(jpeg_streams::specs::Stream::picture_of))]
+#[tactic(auto, unfolding(jpeg_streams::specs::FoundPictures::picture_of))]
 fn picture(
     alloc: Global,
     state: &State,
@@ -278,7 +280,7 @@ fn picture(
 }
 
 /// Reads the header of a stream: all through the frame's segment.
-#[tactic(auto, unfolding(jpeg_streams::specs::Stream::header_at, jpeg_streams::specs::Stream::told_by_stream))]
+#[tactic(auto, unfolding(jpeg_streams::specs::Stream::header_at, jpeg_streams::specs::Reported::told_by_stream))]
 pub fn read_header<R: Read + Drop>(
     alloc: Global,
     source: &mut Source<R>,
@@ -351,7 +353,7 @@ pub fn read_rest<R: Read + Drop>(
 }
 
 /// Reads a whole stream and gives its picture. No blocks or planes are kept.
-#[tactic(auto, unfolding(jpeg_streams::specs::Stream::meaning, jpeg_streams::specs::Stream::told_by_stream))]
+#[tactic(auto, unfolding(jpeg_streams::specs::Stream::meaning, jpeg_streams::specs::Reported::told_by_stream))]
 pub fn read_stream<R: Read + Drop>(
     alloc: Global,
     source: &mut Source<R>,

@@ -12,7 +12,7 @@ ghost use Rattle.jpeg_decoder.specs.Scanning.{counted, down_in};
 ghost use Rattle.jpeg_decoder.specs.Scanning.{scan_pass, scan_vias, scan_components};
 ghost use Rattle.jpeg_decoder.specs.Steps.{coding_in};
 ghost use Rattle.jpeg_decoder.specs.Strips.{planes_in, row_sizes, samples_in};
-ghost use Rattle.jpeg_streams.specs.Stream.{components_of};
+ghost use Rattle.jpeg_streams.specs.ScanSegments.{components_of};
 ghost use Rattle.jpeg_decoder.specs.Strips.{row_at, planes_at, planes_by_rows, strips_from};
 
 use crate::scans::{Interval, Scan, first_interval, read_own_rows, read_row};

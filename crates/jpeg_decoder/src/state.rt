@@ -58,12 +58,14 @@ impl State {
     ghost use Rattle.std.specs.Prelude.{◌≡◌, ◌&&◌, true, is_some, None, OnErr, OnOk, IfOk, false};
     ghost use Rattle.jpeg_bits.specs.Reading.{Answers, IsShort};
     ghost use Rattle.jpeg_segments.specs.FrameView.{component_in, frame_in, scan_in};
-    ghost use Rattle.jpeg_streams.specs.Stream.{nothing_found, frame_segment, quantization_segment};
-    ghost use Rattle.jpeg_streams.specs.Stream.{huffman_segment, restart_segment};
-    ghost use Rattle.jpeg_streams.specs.Stream.{application_segment, skipped_segment, scan_before};
-    ghost use Rattle.jpeg_streams.specs.Stream.{scan_segment, end_segment, stray_restart};
-    ghost use Rattle.jpeg_streams.specs.Stream.{segment_at, turn_at, segments_at, told_of};
-    ghost use Rattle.jpeg_streams.specs.Stream.{told_rest, told_in_turns, IsOfTurns};
+    ghost use Rattle.jpeg_streams.specs.Segments.{quantization_segment, frame_segment};
+    ghost use Rattle.jpeg_streams.specs.Segments.{restart_segment, huffman_segment};
+    ghost use Rattle.jpeg_streams.specs.Segments.{skipped_segment, application_segment};
+    ghost use Rattle.jpeg_streams.specs.Found.{nothing_found};
+    ghost use Rattle.jpeg_streams.specs.ScanSegments.{scan_before, scan_segment};
+    ghost use Rattle.jpeg_streams.specs.Stream.{end_segment, stray_restart, segment_at, turn_at};
+    ghost use Rattle.jpeg_streams.specs.Stream.{segments_at, told_of};
+    ghost use Rattle.jpeg_streams.specs.Reported.{IsOfTurns, told_in_turns, told_rest};
     ghost use Rattle.jpeg_streams.specs.States.{OnTold};
     ghost use Rattle.jpeg_decoder.specs.Seen.{found_in};
     ghost use Rattle.jpeg_decoder.specs.Steps.{turn_of};
@@ -71,7 +73,7 @@ impl State {
     ghost use Rattle.jpeg_streams.specs.declared.before.Before.TheVariants.{Elsewhere};
 
     /// The state at the start of a stream.
-    #[tactic(auto, unfolding(jpeg_streams::specs::Stream::nothing_found))]
+    #[tactic(auto, unfolding(jpeg_streams::specs::Found::nothing_found))]
     pub fn new(alloc: Global) -> State
         ensures { found_in result ≡ nothing_found }
     {
@@ -88,7 +90,7 @@ impl State {
     }
 
     /// A frame header (T.81, B.2.2).
-    #[tactic(auto, unfolding(jpeg_streams::specs::Stream::frame_segment))]
+    #[tactic(auto, unfolding(jpeg_streams::specs::Segments::frame_segment))]
     fn read_frame<R: Read + Drop>(
         &mut self,
         alloc: Global,
@@ -114,7 +116,7 @@ impl State {
     }
 
     /// Quantization tables (T.81, B.2.4.1).
-    #[tactic(auto, unfolding(jpeg_streams::specs::Stream::quantization_segment), using(jpeg_streams::proofs::Soundness::sound_kept))]
+    #[tactic(auto, unfolding(jpeg_streams::specs::Segments::quantization_segment), using(jpeg_streams::proofs::Soundness::sound_kept))]
     fn read_quantization<R: Read + Drop>(
         &mut self,
         alloc: Global,
@@ -135,7 +137,7 @@ impl State {
     }
 
     /// Huffman tables (T.81, B.2.4.2).
-    #[tactic(auto, unfolding(jpeg_streams::specs::Stream::huffman_segment), using(jpeg_streams::proofs::Soundness::sound_kept))]
+    #[tactic(auto, unfolding(jpeg_streams::specs::Segments::huffman_segment), using(jpeg_streams::proofs::Soundness::sound_kept))]
     fn read_huffman<R: Read + Drop>(
         &mut self,
         alloc: Global,
@@ -158,7 +160,7 @@ impl State {
     }
 
     /// A restart interval (T.81, B.2.4.4).
-    #[tactic(auto, unfolding(jpeg_streams::specs::Stream::restart_segment), using(jpeg_streams::proofs::Soundness::sound_kept))]
+    #[tactic(auto, unfolding(jpeg_streams::specs::Segments::restart_segment), using(jpeg_streams::proofs::Soundness::sound_kept))]
     fn read_restart<R: Read + Drop>(
         &mut self,
         alloc: Global,
@@ -178,7 +180,7 @@ impl State {
     }
 
     /// Data of an application (T.81, B.2.4.6).
-    #[tactic(auto, unfolding(jpeg_streams::specs::Stream::application_segment), using(jpeg_streams::proofs::Soundness::sound_kept))]
+    #[tactic(auto, unfolding(jpeg_streams::specs::Segments::application_segment), using(jpeg_streams::proofs::Soundness::sound_kept))]
     fn read_application<R: Read + Drop>(
         &mut self,
         alloc: Global,
@@ -200,7 +202,7 @@ impl State {
     }
 
     /// A segment that is passed over.
-    #[tactic(auto, unfolding(jpeg_streams::specs::Stream::skipped_segment))]
+    #[tactic(auto, unfolding(jpeg_streams::specs::Segments::skipped_segment))]
     fn skip_segment<R: Read + Drop>(&self, alloc: Global, source: &mut Source<R>) -> Result<Step>
         ensures reads { Answers (turn_of self.now) (skipped_segment (found_in self.now)) source.old
             result source.new }

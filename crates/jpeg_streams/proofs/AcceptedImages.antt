@@ -19,7 +19,8 @@ use Rattle.jpeg_streams.proofs.PicturedFrames.{header-accepted}
 use Rattle.jpeg_streams.proofs.WrittenMarkers.{marker-append, marker_for, segment-marker}
 use Rattle.jpeg_streams.specs.Levels.{Levels, nothing_sent}
 use Rattle.jpeg_streams.proofs.AcceptedStreams.{IsMarker}
-use Rattle.jpeg_streams.specs.Stream.{Found, nothing_found, pass_of}
+use Rattle.jpeg_streams.specs.ScanSegments.{pass_of}
+use Rattle.jpeg_streams.specs.Found.{nothing_found, Found}
 use Rattle.jpeg_streams.proofs.AcceptedStreams as streams
 use Rattle.jpeg_streams.specs.WrittenScans.{Coefficients, levels_after}
 use Rattle.jpeg_streams.proofs.AcceptedStreams.{WritesScans, WritesHead, WritesStream, comment_at}

@@ -12,8 +12,9 @@ use Rattle.jpeg_segments.specs.HuffmanTables.{Tables, dht_at}
 use Rattle.jpeg_segments.specs.Quantization.{dqt_at}
 use Rattle.jpeg_segments.specs.ScanHeader.{Scan, sos_at}
 use Rattle.jpeg_streams.specs.Levels.{Levels, nothing_sent}
-use Rattle.jpeg_streams.specs.Stream.{Found, Coding, pass_of, updated, with_huffman, with_application, accepted}
-use Rattle.jpeg_streams.specs.Stream.{is_progressive, nothing_found}
+use Rattle.jpeg_streams.specs.ScanSegments.{Coding, pass_of, is_progressive}
+use Rattle.jpeg_streams.specs.Segments.{with_application, accepted, with_huffman, updated}
+use Rattle.jpeg_streams.specs.Found.{Found, nothing_found}
 use Rattle.jpeg_bits.specs.Written.{marker}
 use Rattle.jpeg_streams.specs.WrittenScans.{Coefficients, WritesScan, levels_after, IsLegalScan, IsComplete, HasTable}
 

@@ -14,11 +14,13 @@ use Rattle.jpeg_streams.specs.declared.before.Before.{Before}
 use Rattle.jpeg_bits.specs.Passes.{Pass}
 use Rattle.jpeg_streams.specs.Scans.{Arrays}
 use Rattle.jpeg_streams.specs.Needed.{first_of, needed}
-use Rattle.jpeg_streams.specs.Stream.{Coding, Found, Turn, onward, needed_if, tables_of, component_coding}
-use Rattle.jpeg_streams.specs.Stream.{codings_from, codings_of, pass_of, scan_arrays, after_scan, after_restarts}
-use Rattle.jpeg_streams.specs.Stream.{scan_before, scan_segment, segment_at, turn_at, segments_within}
-use Rattle.jpeg_streams.specs.Stream.{quantization_segment, huffman_segment, restart_segment, application_segment}
-use Rattle.jpeg_streams.specs.Stream.{skipped_segment, blocks_scan, scan_by}
+use Rattle.jpeg_streams.specs.ScanSegments.{component_coding, needed_if, Coding, tables_of, after_restarts, after_scan}
+use Rattle.jpeg_streams.specs.ScanSegments.{scan_arrays, codings_of, codings_from, pass_of, scan_segment, scan_before}
+use Rattle.jpeg_streams.specs.ScanSegments.{scan_by, blocks_scan}
+use Rattle.jpeg_streams.specs.Segments.{onward, Turn, application_segment, restart_segment, huffman_segment}
+use Rattle.jpeg_streams.specs.Segments.{quantization_segment, skipped_segment}
+use Rattle.jpeg_streams.specs.Found.{Found}
+use Rattle.jpeg_streams.specs.Stream.{segment_at, turn_at, segments_within}
 use Rattle.jpeg_bits.specs.declared.codes.HuffmanTableClass.{HuffmanTableClass}
 use Rattle.jpeg_bits.specs.declared.codes.HuffmanTableClass.TheVariants as classes
 use Rattle.jpeg_segments.specs.declared.parser.CodingProcess.{CodingProcess}

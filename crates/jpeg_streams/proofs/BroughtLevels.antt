@@ -17,8 +17,9 @@ use Rattle.jpeg_bits.specs.Passes.{Pass, Block, whole_pass, zero_block, band_of,
 use Rattle.jpeg_streams.specs.Order.{grid_of}
 use Rattle.jpeg_segments.specs.Scales.{frame_at}
 use Rattle.jpeg_streams.specs.Scans.{Arrays, zero_arrays}
-use Rattle.jpeg_streams.specs.Stream.{Coding, Found, none_finished, pass_of, is_progressive, arrays_before}
-use Rattle.jpeg_streams.specs.Stream.{held_after, put_arrays, scan_arrays, after_scan, with_arrays}
+use Rattle.jpeg_streams.specs.ScanSegments.{arrays_before, Coding, pass_of, is_progressive, after_scan, held_after}
+use Rattle.jpeg_streams.specs.ScanSegments.{put_arrays, with_arrays, scan_arrays}
+use Rattle.jpeg_streams.specs.Found.{none_finished, Found}
 use Rattle.jpeg_streams.specs.Levels.{Levels, Is8Bit, IsLegal, sent_after, nothing_sent}
 use Rattle.jpeg_streams.specs.WrittenScans.{Coefficients, levels_of_one, levels_after, IsLegalScan, WritesScan}
 use Rattle.jpeg_streams.proofs.PlacesApart.{AreApart}

@@ -14,15 +14,11 @@ use Rattle.jpeg_bits.proofs.Tables.{tested-exist}
 use Rattle.jpeg_bits.specs.Codes.{code_lengths, code_value, codes_exist, HasCodes, lengths_from, Table}
 use Rattle.jpeg_bits.specs.Entropy.{bits_of}
 use Rattle.jpeg_bits.specs.Passes.{band_of, Block, Pass, Via, whole_pass}
-use Rattle.jpeg_bits.specs.Written.{code_bits, low_bits}
+use Rattle.jpeg_bits.specs.Written.{code_bits, low_bits, bits_of_bytes, stuffed, IsCategory, IsCoded}
 use Rattle.jpeg_bits.specs.declared.codes.HuffmanTableClass.{HuffmanTableClass}
 use Rattle.jpeg_bits.specs.declared.codes.HuffmanTableClass.TheVariants as classes
 use Rattle.jpeg_streams.specs.Levels.{Is8Bit}
 use Rattle.jpeg_streams.specs.WrittenData.{no_numbers}
-use Rattle.jpeg_bits.specs.Written.{bits_of_bytes}
-use Rattle.jpeg_bits.specs.Written.{stuffed}
-use Rattle.jpeg_bits.specs.Written.{IsCategory}
-use Rattle.jpeg_bits.specs.Written.{IsCoded}
 use Rattle.jpeg_streams.specs.WrittenData.{WritesAc, WritesBand, WritesBlocks}
 use Rattle.jpeg_streams.specs.WrittenData.{WritesDc, WritesDifference, WritesInterval}
 use Rattle.jpeg_streams.specs.WrittenData.WritesAc.{first, no_band}

@@ -30,13 +30,14 @@ use Rattle.jpeg_streams.specs.Order.{grid_of, mcu_size, own_spots, Spot, spots_o
 use Rattle.jpeg_streams.specs.SaidSegments.{found_after, HasPicture}
 use Rattle.jpeg_streams.specs.Scans.{no_table, via_at}
 use Rattle.jpeg_streams.specs.Needed.{first_of}
-use Rattle.jpeg_streams.specs.Stream.{Coding, Found, nothing_found, pass_of, tables_of, updated, vias_from}
+use Rattle.jpeg_streams.specs.ScanSegments.{vias_from, Coding, tables_of, pass_of, components_of}
+use Rattle.jpeg_streams.specs.Segments.{updated}
+use Rattle.jpeg_streams.specs.Found.{nothing_found, Found}
 use Rattle.jpeg_streams.specs.WorkedImages.{IsWhollyWritten}
 use Rattle.jpeg_bits.specs.Written.{marker}
 use Rattle.jpeg_streams.specs.WrittenData.WritesIntervals.{last as last_interval}
 use Rattle.jpeg_streams.specs.WrittenImages.{closed, scan, segment, Writes}
 use Rattle.jpeg_streams.specs.WrittenScans.{InForce, AreCodings, block_for, Coefficients, grid_at}
-use Rattle.jpeg_streams.specs.Stream.{components_of}
 use Rattle.jpeg_streams.specs.WrittenScans.{HasTable}
 use Rattle.jpeg_streams.specs.WrittenScans.{IsComplete, IsLegalScan}
 use Rattle.jpeg_streams.specs.WrittenScans.{levels_after, place_at, WritesScan, written_turns}

@@ -7,7 +7,8 @@ use lib.ListN.{length-map}
 use Rattle.jpeg_bits.specs.Passes.{Pass, band_of, with_band, before_band, band_size}
 use Rattle.jpeg_streams.specs.Levels.{Levels, IsLegal, sent_after, nothing_sent}
 use Rattle.jpeg_streams.proofs.FinishedPlaces.{Finished, finish, is_level_0, at_level_0}
-use Rattle.jpeg_streams.specs.Stream.{finished_by, none_finished}
+use Rattle.jpeg_streams.specs.ScanSegments.{finished_by}
+use Rattle.jpeg_streams.specs.Found.{none_finished}
 use Rattle.jpeg_streams.proofs.WrittenIntervals.{not-equal}
 use Rattle.jpeg_streams.proofs.FinishedPlaces.{finish-yes, finish-no, finish-legal}
 

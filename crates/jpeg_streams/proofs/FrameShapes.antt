@@ -17,7 +17,7 @@ use Rattle.jpeg_bits.specs.declared.error.UnsupportedFeature.TheVariants.{DNL}
 use Rattle.std.specs.Prelude.{nat_lt, if◌then◌else◌}
 use Rattle.jpeg_pixels.specs.Pictures.{Source, sources_of, all_factors}
 use Rattle.jpeg_segments.specs.Scales.{component_at, frame_at}
-use Rattle.jpeg_streams.specs.Stream.{accepted, is_decoded_count, is_arithmetic, is_decoded_precision}
+use Rattle.jpeg_streams.specs.Segments.{accepted, is_decoded_count, is_arithmetic, is_decoded_precision}
 use Rattle.jpeg_streams.proofs.AcceptedStreams.{IsAccepted}
 use Rattle.jpeg_streams.proofs.OwnSpots.{At, Fits}
 use Rattle.jpeg_streams.proofs.WrittenFrameScans.{at-all}

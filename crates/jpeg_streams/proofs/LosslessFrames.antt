@@ -7,7 +7,7 @@ use Rattle.std.proofs.lemmas.Bool.{le-leb}
 use Rattle.jpeg_segments.specs.Frame.{Factors, Frame, frame_of, greatest}
 use Rattle.jpeg_segments.specs.WrittenSegments.{AreComponents, FrameHeader, IsFrame, frame_written}
 use Rattle.jpeg_streams.specs.SaidSegments.{IsUpsampled}
-use Rattle.jpeg_streams.specs.Stream.{accepted, is_arithmetic, is_decoded_precision}
+use Rattle.jpeg_streams.specs.Segments.{accepted, is_arithmetic, is_decoded_precision}
 use Rattle.jpeg_streams.specs.WrittenLossless.{HasSamples, IsOne}
 use Rattle.jpeg_streams.proofs.FrameShapes.{accepted-few}
 use Rattle.jpeg_streams.proofs.PicturedFrames.{accepted-by, header-count, header-sources}

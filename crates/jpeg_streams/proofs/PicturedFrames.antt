@@ -13,7 +13,7 @@ use Rattle.jpeg_pixels.specs.Upsampling.{divides, rule_of}
 use Rattle.jpeg_segments.specs.Frame.{Component, component_of, Factors, Frame, frame_of, greatest}
 use Rattle.jpeg_segments.specs.WrittenSegments.{FrameHeader, frame_written}
 use Rattle.jpeg_streams.specs.SaidSegments.{HasPicture, IsNear, IsUpsampled}
-use Rattle.jpeg_streams.specs.Stream.{accepted, is_arithmetic, is_decoded_count, is_decoded_precision}
+use Rattle.jpeg_streams.specs.Segments.{accepted, is_decoded_count, is_arithmetic, is_decoded_precision}
 use Rattle.jpeg_streams.proofs.AcceptedTurns.{then-ok}
 use Rattle.jpeg_streams.proofs.FrameShapes.{factors-back}
 use Rattle.jpeg_streams.proofs.ScaledSources.{pick-some}

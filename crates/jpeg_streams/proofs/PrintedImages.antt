@@ -16,7 +16,8 @@ use Rattle.jpeg_streams.specs.Output.{
 }
 use Rattle.jpeg_streams.specs.PrintedImages.{Prints, PrintsImages}
 use Rattle.jpeg_streams.specs.Pixels.{info_of}
-use Rattle.jpeg_streams.specs.Stream.{Found, Told}
+use Rattle.jpeg_streams.specs.Stream.{Told}
+use Rattle.jpeg_streams.specs.Found.{Found}
 use Rattle.jpeg_streams.specs.WrittenImages.{WritesImage}
 use Rattle.jpeg_streams.specs.WrittenScans.{Coefficients}
 use Rattle.jpeg_streams.proofs.AcceptedImages.{image-accepted}

@@ -11,8 +11,9 @@ use Rattle.jpeg_segments.specs.Frame.{Frame, Component}
 use Rattle.jpeg_bits.specs.Passes.{Pass, Block, before_band, band_size}
 use Rattle.jpeg_streams.specs.Order.{grid_of}
 use Rattle.jpeg_streams.specs.Scans.{Arrays}
-use Rattle.jpeg_streams.specs.Stream.{Coding, Found, none_finished, finished_by, decided, plane_by, with_plane}
-use Rattle.jpeg_streams.specs.Stream.{with_blocks, with_arrays, put_arrays}
+use Rattle.jpeg_streams.specs.ScanSegments.{with_plane, decided, finished_by, plane_by, Coding, put_arrays, with_arrays}
+use Rattle.jpeg_streams.specs.ScanSegments.{with_blocks}
+use Rattle.jpeg_streams.specs.Found.{none_finished, Found}
 use Rattle.jpeg_streams.specs.Levels.{Levels, IsLegal, sent_after}
 use Rattle.jpeg_streams.proofs.FinishedPlaces.{is_level_0}
 use Rattle.jpeg_streams.specs.WrittenScans.{Coefficients, levels_of_one, levels_after}

@@ -10,9 +10,10 @@ use Rattle.jpeg_segments.specs.Frame.{Frame, Component, sof_at}
 use Rattle.jpeg_streams.specs.declared.before.Before.{Before}
 use Rattle.jpeg_streams.specs.declared.before.Before.TheVariants.{Elsewhere}
 use Rattle.jpeg_streams.specs.Scans.{Arrays}
-use Rattle.jpeg_streams.specs.Stream.{Found, Turn, onward, accepted, none_finished, nothing_found, is_progressive}
-use Rattle.jpeg_streams.specs.Stream.{arrays_before, pass_of, scan_before, scan_segment, segment_at, frame_segment}
-use Rattle.jpeg_streams.specs.Stream.{end_segment, segments_within, segments_at, start_at}
+use Rattle.jpeg_streams.specs.ScanSegments.{is_progressive, scan_segment, scan_before, arrays_before, pass_of}
+use Rattle.jpeg_streams.specs.Segments.{accepted, onward, Turn, frame_segment}
+use Rattle.jpeg_streams.specs.Found.{nothing_found, none_finished, Found}
+use Rattle.jpeg_streams.specs.Stream.{segment_at, end_segment, segments_within, segments_at, start_at}
 use Rattle.jpeg_streams.specs.Levels.{Levels, Is8Bit, nothing_sent}
 use Rattle.jpeg_bits.specs.Written.{marker}
 use Rattle.jpeg_streams.specs.WrittenScans.{Coefficients, levels_after, IsComplete, HasTable}

@@ -6,7 +6,8 @@ use Rattle.std.specs.Prelude.{option_map, slice_index_or}
 use Rattle.jpeg_bits.specs.Codes.{Table, IsTable, is_ac}
 use Rattle.jpeg_segments.specs.Frame.{Frame}
 use Rattle.jpeg_segments.specs.HuffmanTables.{Tables, PlacedTable, no_tables, with_table, greatest_place}
-use Rattle.jpeg_streams.specs.Stream.{Found, updated, with_huffman}
+use Rattle.jpeg_streams.specs.Segments.{with_huffman, updated}
+use Rattle.jpeg_streams.specs.Found.{Found}
 use Rattle.jpeg_segments.specs.WrittenSegments.{Segment, Quantization, Huffman, Interval, Application, Comment}
 use Rattle.jpeg_segments.specs.WrittenSegments.{Header, IsHuffmanTable, huffman_tables}
 use Rattle.jpeg_streams.specs.SaidSegments.{found_after}

@@ -23,9 +23,9 @@ use Rattle.jpeg_bits.specs.Intervals.{first_group, other_groups}
 use Rattle.jpeg_streams.specs.Levels.{Levels, IsLegal, numbers_at}
 use Rattle.jpeg_streams.specs.WrittenData.{WritesIntervals}
 use Rattle.jpeg_streams.specs.Needed.{first_of}
-use Rattle.jpeg_streams.specs.Stream.{Found, Coding, tables_of, pass_of, is_progressive, vias_from}
+use Rattle.jpeg_streams.specs.ScanSegments.{vias_from, Coding, tables_of, pass_of, is_progressive, components_of}
+use Rattle.jpeg_streams.specs.Found.{Found}
 use Rattle.jpeg_streams.specs.WrittenScans.{Coefficients, IsOwn, no_grid, grid_at, written_turns}
-use Rattle.jpeg_streams.specs.Stream.{components_of}
 use Rattle.jpeg_streams.specs.WrittenScans.{IsCoding, AreCodings, WritesScan, levels_after, IsComplete, HasTable}
 use Rattle.jpeg_streams.proofs.AcceptedStreams.{IsAccepted, WritesSegment, WritesScans}
 use Rattle.jpeg_streams.specs.WrittenScans.AreCodings.{no_more, and_more}

@@ -18,9 +18,10 @@ use Rattle.jpeg_streams.specs.Scans.{Arrays, zero_arrays, put_block, put_blocks,
 use Rattle.jpeg_streams.specs.InTurn.{Fits, AreArrays, scan_from, mcus_of}
 use Rattle.jpeg_streams.specs.McuRows.{scan_by_rows}
 use Rattle.jpeg_streams.specs.Needed.{first_of, needed}
-use Rattle.jpeg_streams.specs.Stream.{Found, Coding, needed_if, is_progressive, pass_of}
-use Rattle.jpeg_streams.specs.Stream.{tables_of, component_coding, codings_from, codings_of, vias_from, arrays_before}
-use Rattle.jpeg_streams.specs.Stream.{scan_arrays, put_arrays}
+use Rattle.jpeg_streams.specs.ScanSegments.{needed_if, Coding, pass_of, is_progressive, arrays_before, vias_from}
+use Rattle.jpeg_streams.specs.ScanSegments.{codings_of, codings_from, component_coding, tables_of, put_arrays}
+use Rattle.jpeg_streams.specs.ScanSegments.{scan_arrays}
+use Rattle.jpeg_streams.specs.Found.{Found}
 use Rattle.jpeg_streams.proofs.Apart.{At, at-all, sized, zeros-sized}
 use Rattle.jpeg_streams.proofs.Mcus.{frame-scans}
 use Rattle.jpeg_streams.proofs.McuRows.{scans-by-rows}

@@ -13,7 +13,7 @@ use Rattle.jpeg_segments.specs.HuffmanTables.{greatest_place}
 use Rattle.jpeg_segments.specs.ScanHeader.{Scan, Selector, place_of, tables_at, tables_by, selector_at}
 use Rattle.jpeg_segments.specs.ScanHeader.{selectors_from, is_mcu, is_band, after_of, scan_of, band_at, count_at}
 use Rattle.jpeg_segments.specs.ScanHeader.{sos_at}
-use Rattle.jpeg_streams.specs.Stream.{pass_of, is_progressive}
+use Rattle.jpeg_streams.specs.ScanSegments.{pass_of, is_progressive}
 use Rattle.jpeg_streams.proofs.PlacesApart.{IsAbsent, AreApart}
 use Rattle.jpeg_streams.proofs.AcceptedTurns.{err-ok, ok-same, bind-ok}
 use Rattle.jpeg_streams.proofs.FrameShapes.{if-ok, unless-ok}

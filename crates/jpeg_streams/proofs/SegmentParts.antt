@@ -5,8 +5,8 @@ use Rattle.jpeg_segments.specs.declared.parser.FrameInfo.{FrameInfo}
 use Rattle.jpeg_segments.specs.Frame.{Frame, sof_at}
 use Rattle.jpeg_segments.specs.FrameView.{frame_in}
 use Rattle.jpeg_segments.specs.Application.{Application, app_at}
-use Rattle.jpeg_streams.specs.Stream.{Found, Metadata, onward, accepted, with_application, frame_segment}
-use Rattle.jpeg_streams.specs.Stream.{application_segment}
+use Rattle.jpeg_streams.specs.Segments.{with_application, frame_segment, accepted, onward, application_segment}
+use Rattle.jpeg_streams.specs.Found.{Found, Metadata}
 
 pub no-frame : (o : Option FrameInfo) → is_some o ≡ false → is_some (option_map frame_in o) ≡ false
 no-frame None e = refl

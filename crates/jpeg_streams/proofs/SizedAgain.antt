@@ -6,7 +6,8 @@ use Rattle.jpeg_segments.specs.declared.parser.CodingProcess.TheVariants.{DctPro
 use Rattle.jpeg_segments.specs.Frame.{Frame}
 use Rattle.jpeg_segments.specs.Scales.{frame_at, scale_for, sized, sized_by}
 use Rattle.jpeg_segments.proofs.ScaleLemmas.{scaled_again}
-use Rattle.jpeg_streams.specs.Stream.{Found, sized_to}
+use Rattle.jpeg_streams.specs.Stream.{sized_to}
+use Rattle.jpeg_streams.specs.Found.{Found}
 
 process-kept : (p : CodingProcess) (width height : ℕ) (f : Frame) → (sized_by p width height f).process ≡ f.process
 unfolding frame_at

@@ -2,7 +2,8 @@
 use Rattle.std.proofs.Common.{◌≡◌, ◌∙◌, ℕ, List, Ok, Err, ap, sym, refl}
 use Rattle.jpeg_bits.specs.Reading.{Outcome, Fault, Answers, ◌>>=◌}
 use Rattle.jpeg_bits.specs.Stream.{Stream}
-use Rattle.jpeg_streams.specs.Stream.{Found, header_at, sized_header_at, sized_to}
+use Rattle.jpeg_streams.specs.Stream.{header_at, sized_header_at, sized_to}
+use Rattle.jpeg_streams.specs.Found.{Found}
 
 abbrev sized_after : ℕ → ℕ → Found × List ℕ → Outcome Found
 sized_after width height header = Ok (sized_to width height header.0, header.1)

@@ -11,15 +11,16 @@ use Rattle.jpeg_streams.specs.declared.before.Before.{Before}
 use Rattle.jpeg_streams.specs.declared.before.Before.TheVariants.{Elsewhere}
 use Rattle.jpeg_streams.specs.declared.settings.Settings.{Settings}
 use Rattle.jpeg_segments.specs.Scales.{frame_at, scale_for, reaches, sized}
-use Rattle.jpeg_streams.specs.Stream.{Found, Turn, onward, accepted, nothing_found, turn_at, segments_within}
-use Rattle.jpeg_streams.specs.Stream.{segments_at, start_at, header_at, rest_at, sized_to, sized_meaning}
+use Rattle.jpeg_streams.specs.Stream.{turn_at, segments_within, segments_at, start_at, header_at, rest_at, sized_to}
+use Rattle.jpeg_streams.specs.Stream.{sized_meaning, told_of}
+use Rattle.jpeg_streams.specs.Segments.{accepted, onward, Turn}
+use Rattle.jpeg_streams.specs.Found.{nothing_found, Found}
 use Rattle.jpeg_streams.specs.Levels.{Levels, Is8Bit, nothing_sent}
 use Rattle.jpeg_bits.specs.Written.{marker}
 use Rattle.jpeg_streams.proofs.AcceptedStreams.{IsMarker}
 use Rattle.jpeg_streams.specs.WrittenScans.{Coefficients}
 use Rattle.jpeg_streams.proofs.AcceptedStreams.{WritesScans, WritesHead, WritesStream}
 use Rattle.jpeg_streams.specs.ArrayPictures.{meaning_of_array, picture_of_array}
-use Rattle.jpeg_streams.specs.Stream.{told_of}
 use Rattle.jpeg_streams.proofs.AcceptedStreams.WritesScans.{segment, scan, closed}
 use Rattle.jpeg_streams.proofs.AcceptedStreams.WritesHead.{before as earlier, frame as framing}
 use Rattle.jpeg_streams.proofs.AcceptedStreams.WritesStream.{stream}

@@ -18,16 +18,10 @@ use Rattle.jpeg_segments.proofs.ScaleLemmas.{full_frames, scaled_again, scale_fo
 use Rattle.jpeg_pixels.specs.Pictures.{Source, HasSources, sources_of}
 use Rattle.jpeg_streams.specs.InTurn.{Fits, AreArrays}
 use Rattle.jpeg_streams.specs.Scans.{zero_arrays}
-use Rattle.jpeg_streams.specs.Stream.{
-  Found,
-  nothing_found,
-  sized_to,
-  accepted,
-  is_arithmetic,
-  is_decoded_precision,
-  is_decoded_count,
-}
-use Rattle.jpeg_streams.specs.Stream.{is_progressive, arrays_before}
+use Rattle.jpeg_streams.specs.Stream.{sized_to}
+use Rattle.jpeg_streams.specs.Segments.{accepted, is_decoded_count, is_arithmetic, is_decoded_precision}
+use Rattle.jpeg_streams.specs.Found.{nothing_found, Found}
+use Rattle.jpeg_streams.specs.ScanSegments.{arrays_before, is_progressive}
 use Rattle.jpeg_streams.specs.Sound.{HasDecodedFrame, IsSampled, IsUnread, IsDecodedFrame, ArePlanes, IsSound}
 use Rattle.jpeg_streams.proofs.Apart.{zeros-sized}
 use Rattle.jpeg_streams.proofs.FrameFits.{scaled-frames-fit}

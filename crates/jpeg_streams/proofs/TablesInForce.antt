@@ -20,8 +20,10 @@ use Rattle.jpeg_segments.specs.HuffmanTables.{placed_codes_at, with_table, great
 use Rattle.jpeg_bits.specs.Passes.{Pass}
 use Rattle.jpeg_streams.specs.Scans.{no_table}
 use Rattle.jpeg_streams.specs.Needed.{first_of, needed}
-use Rattle.jpeg_streams.specs.Stream.{Found, Coding, needed_if, updated, tables_of, component_coding}
-use Rattle.jpeg_streams.specs.Stream.{codings_from, codings_of, pass_of, nothing_found}
+use Rattle.jpeg_streams.specs.ScanSegments.{component_coding, needed_if, Coding, tables_of, codings_of, codings_from}
+use Rattle.jpeg_streams.specs.ScanSegments.{pass_of}
+use Rattle.jpeg_streams.specs.Segments.{updated}
+use Rattle.jpeg_streams.specs.Found.{Found, nothing_found}
 use Rattle.jpeg_streams.proofs.AcceptedStreams.{WritesSegment}
 use Rattle.jpeg_streams.proofs.AcceptedStreams.WritesSegment.{quantization, huffman, restart, application, comment}
 use Rattle.jpeg_streams.proofs.WrittenFrameScans.{no-codes}

@@ -5,8 +5,9 @@ use Rattle.jpeg_bits.specs.declared.error.Error.{Error}
 use Rattle.jpeg_bits.specs.declared.error.Error.TheVariants as errors
 use Rattle.jpeg_streams.specs.States.{IfRefused, OnTold}
 use Rattle.jpeg_bits.specs.Reading.{Fault, Outcome}
-use Rattle.jpeg_streams.specs.Stream.{Told, told_of, nothing_found, start_at, told_rest, told_by_stream, told_within}
-use Rattle.jpeg_streams.specs.Stream.{told_in_turns, told_by_turns}
+use Rattle.jpeg_streams.specs.Stream.{Told, told_of, start_at}
+use Rattle.jpeg_streams.specs.Reported.{told_by_stream, told_rest, told_within, told_by_turns, told_in_turns}
+use Rattle.jpeg_streams.specs.Found.{nothing_found}
 
 pub told-no_start : (header : Bool) (bytes : List ℕ) (fault : Fault) → start_at bytes ≡ Err fault
     → told_by_stream header bytes ≡ told_of nothing_found

@@ -6,7 +6,7 @@ use Rattle.std.specs.Prelude.{◌&&◌}
 use Rattle.std.proofs.lemmas.List.{get_or_default}
 use Rattle.jpeg_bits.specs.Codes.{Table, is_ac}
 use Rattle.jpeg_segments.specs.HuffmanTables.{all_ac, is_ac_or_none}
-use Rattle.jpeg_streams.specs.Stream.{updated}
+use Rattle.jpeg_streams.specs.Segments.{updated}
 
 pub both : (a b : Bool) → (a && b) ≡ true → (a ≡ true) × (b ≡ true)
 both true b e = (refl, e)

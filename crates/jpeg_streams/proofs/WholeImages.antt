@@ -18,10 +18,12 @@ use Rattle.jpeg_segments.specs.declared.parser.CodingProcess.{CodingProcess}
 use Rattle.jpeg_segments.specs.declared.parser.CodingProcess.TheVariants.{DctSequential, DctProgressive, Lossless}
 use Rattle.jpeg_segments.specs.Scales.{frame_at, sized_by, sized}
 use Rattle.jpeg_streams.specs.Needed.{needed}
-use Rattle.jpeg_streams.specs.Stream.{Found, picture_by, is_progressive, sized_to}
+use Rattle.jpeg_streams.specs.Stream.{sized_to, told_of}
+use Rattle.jpeg_streams.specs.FoundPictures.{picture_by}
+use Rattle.jpeg_streams.specs.ScanSegments.{is_progressive}
+use Rattle.jpeg_streams.specs.Found.{Found}
 use Rattle.jpeg_streams.specs.WrittenScans.{Coefficients, IsComplete}
 use Rattle.jpeg_streams.specs.ArrayPictures.{plane_of_array, planes_of_array, picture_of_array, meaning_of_array}
-use Rattle.jpeg_streams.specs.Stream.{told_of}
 use Rattle.jpeg_streams.proofs.BroughtLevels.{after-length}
 use Rattle.jpeg_streams.specs.WrittenImages.{Writes, closed, segment, scan, WritesImage}
 use Rattle.jpeg_streams.specs.WholeImages.{plane_whole, planes_whole, picture_whole, whole_meaning, AllComplete}

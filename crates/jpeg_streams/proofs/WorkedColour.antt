@@ -9,7 +9,7 @@ use Rattle.jpeg_bits.proofs.Tables.{tested-exist}
 use Rattle.jpeg_bits.specs.Codes.{Table, HasCodes, lengths_from, code_lengths, code_value, codes_exist}
 use Rattle.jpeg_bits.specs.Intervals.{groups}
 use Rattle.jpeg_bits.specs.Passes.{Block, Via}
-use Rattle.jpeg_bits.specs.Written.{low_bits}
+use Rattle.jpeg_bits.specs.Written.{low_bits, IsCategory, IsCoded, bits_of_bytes, marker, stuffed, number_for}
 use Rattle.jpeg_bits.specs.declared.codes.HuffmanTableClass.TheVariants as classes
 use Rattle.jpeg_segments.specs.Frame.{Factors, Frame, frame_of, component_of}
 use Rattle.jpeg_segments.specs.ScanHeader.{scan_of}
@@ -21,15 +21,11 @@ use Rattle.jpeg_segments.specs.ScanHeaders.{Choice, ScanHeader, AreChoices, IsSc
 use Rattle.jpeg_streams.specs.Levels.{Levels, Is8Bit, IsLegal, nothing_sent}
 use Rattle.jpeg_streams.specs.Order.{Spot, all_spots, mcu_size, mcu_spots, part_spots, spots_of}
 use Rattle.jpeg_streams.specs.SaidSegments.{HasPicture, found_after}
-use Rattle.jpeg_streams.specs.Stream.{Found, Coding, nothing_found, pass_of, tables_of, updated, vias_from}
+use Rattle.jpeg_streams.specs.ScanSegments.{vias_from, Coding, tables_of, pass_of, components_of}
+use Rattle.jpeg_streams.specs.Segments.{updated}
+use Rattle.jpeg_streams.specs.Found.{nothing_found, Found}
 use Rattle.jpeg_streams.specs.WorkedImages.{IsWhollyWritten, flat_block, colour_array, colour_bytes}
 use Rattle.jpeg_streams.specs.WrittenData.{WritesAc, WritesBlocks, WritesInterval, bits_for}
-use Rattle.jpeg_bits.specs.Written.{IsCategory}
-use Rattle.jpeg_bits.specs.Written.{IsCoded}
-use Rattle.jpeg_bits.specs.Written.{bits_of_bytes}
-use Rattle.jpeg_bits.specs.Written.{marker}
-use Rattle.jpeg_bits.specs.Written.{stuffed}
-use Rattle.jpeg_bits.specs.Written.{number_for}
 use Rattle.jpeg_streams.specs.WrittenData.WritesAc.{first}
 use Rattle.jpeg_streams.specs.WrittenData.WritesBand.{ended}
 use Rattle.jpeg_streams.specs.WrittenData.WritesBlocks.{done, block}
@@ -38,7 +34,6 @@ use Rattle.jpeg_streams.specs.WrittenData.WritesIntervals.{another, last}
 use Rattle.jpeg_streams.specs.WrittenImages.{closed, scan, segment}
 use Rattle.jpeg_streams.specs.WrittenScans.{HasTable, IsComplete, IsLegalScan, IsOwn, WritesScan}
 use Rattle.jpeg_streams.specs.WrittenScans.{block_for, grid_at, levels_after, place_at}
-use Rattle.jpeg_streams.specs.Stream.{components_of}
 use Rattle.jpeg_streams.specs.WrittenScans.AreCodings.{no_more, and_more}
 use Rattle.jpeg_streams.proofs.CutLevels.{all-same}
 use Rattle.jpeg_streams.proofs.WorkedGrey.{range-zero, sixteens, sixteens-written, zeros-small}

@@ -6,7 +6,7 @@ use Rattle.std.proofs.Common.{inl}
 use Rattle.std.specs.List.{AllByRecursion}
 use Rattle.jpeg_bits.proofs.Tables.{tested-exist}
 use Rattle.jpeg_bits.specs.Codes.{Table, HasCodes, lengths_from, code_lengths, code_value, codes_exist}
-use Rattle.jpeg_bits.specs.Written.{low_bits}
+use Rattle.jpeg_bits.specs.Written.{low_bits, bits_of_bytes, IsCategory, IsCoded, marker, stuffed, number_for}
 use Rattle.jpeg_bits.specs.declared.codes.HuffmanTableClass.TheVariants as classes
 use Rattle.jpeg_segments.specs.Frame.{Factors, Frame, frame_of, component_of}
 use Rattle.jpeg_segments.specs.ScanHeader.{scan_of}
@@ -19,16 +19,11 @@ use Rattle.jpeg_streams.specs.Levels.{Levels, Is8Bit, nothing_sent}
 use Rattle.jpeg_streams.specs.Order.{Spot, own_spots, spots_of, mcu_size}
 use Rattle.jpeg_streams.specs.SaidSegments.{HasPicture, found_after}
 use Rattle.jpeg_streams.specs.Scans.{no_table}
-use Rattle.jpeg_streams.specs.Stream.{Found, Coding, nothing_found, is_progressive, pass_of, tables_of}
-use Rattle.jpeg_streams.specs.Stream.{updated, vias_from}
+use Rattle.jpeg_streams.specs.ScanSegments.{Coding, tables_of, pass_of, is_progressive, vias_from, components_of}
+use Rattle.jpeg_streams.specs.Found.{nothing_found, Found}
+use Rattle.jpeg_streams.specs.Segments.{updated}
 use Rattle.jpeg_streams.specs.WorkedImages.{IsWhollyWritten, flat_block, grey_array, grey_bytes}
 use Rattle.jpeg_streams.specs.WrittenData.{NoneNew, corrections, count_unknown}
-use Rattle.jpeg_bits.specs.Written.{bits_of_bytes}
-use Rattle.jpeg_bits.specs.Written.{IsCategory}
-use Rattle.jpeg_bits.specs.Written.{IsCoded}
-use Rattle.jpeg_bits.specs.Written.{marker}
-use Rattle.jpeg_bits.specs.Written.{stuffed}
-use Rattle.jpeg_bits.specs.Written.{number_for}
 use Rattle.jpeg_streams.specs.WrittenData.WritesAc.{no_band, first, first_run, again, again_run}
 use Rattle.jpeg_streams.specs.WrittenData.WritesBand.{value, ended}
 use Rattle.jpeg_streams.specs.WrittenData.WritesBlocks.{done, block}
@@ -37,7 +32,6 @@ use Rattle.jpeg_streams.specs.WrittenData.WritesIntervals.{last}
 use Rattle.jpeg_streams.specs.WrittenData.WritesRefinement.{found, none_left}
 use Rattle.jpeg_streams.specs.WrittenImages.{closed, scan, segment}
 use Rattle.jpeg_streams.specs.WrittenScans.{block_for, grid_at, HasTable, IsComplete, IsLegalScan}
-use Rattle.jpeg_streams.specs.Stream.{components_of}
 use Rattle.jpeg_streams.specs.WrittenScans.{WritesScan, levels_after}
 use Rattle.jpeg_streams.specs.WrittenScans.AreCodings.{no_more, and_more}
 use Rattle.jpeg_streams.proofs.CutLevels.{all-same}

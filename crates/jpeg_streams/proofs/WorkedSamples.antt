@@ -2,7 +2,7 @@
 use Rattle.std.proofs.Common.{ℕ, zero, suc, ◌≤◌, ◌<◌, ◌^◌, true, false, [], ◌∷◌, replicate, pos}
 use Rattle.std.proofs.Common.{negsuc, refl, arith, inl, inr}
 use Rattle.jpeg_bits.specs.Codes.{HasCodes, lengths_from, code_lengths, code_value, codes_exist}
-use Rattle.jpeg_bits.specs.Written.{low_bits}
+use Rattle.jpeg_bits.specs.Written.{low_bits, number_for, stuffed, bits_of_bytes}
 use Rattle.jpeg_bits.proofs.Tables.{tested-exist}
 use Rattle.jpeg_segments.specs.Frame.{Frame, frame_of, component_of}
 use Rattle.jpeg_segments.specs.ScanHeaders.{AreChoices, IsScan}
@@ -11,14 +11,12 @@ use Rattle.jpeg_lossless.specs.Prediction.{residue}
 use Rattle.jpeg_lossless.specs.Differences.{mcu_tables, row_tables, strand, strands, lines_in}
 use Rattle.jpeg_lossless.specs.Scans.{all_above}
 use Rattle.jpeg_lossless.specs.Written.{WritesDifference, none, one, no_row, row, first_differences}
-use Rattle.jpeg_bits.specs.Written.{number_for}
 use Rattle.jpeg_lossless.specs.Written.{rest_differences, differences_below, differences_of, HaveDifferences}
-use Rattle.jpeg_bits.specs.Written.{stuffed}
-use Rattle.jpeg_bits.specs.Written.{bits_of_bytes}
 use Rattle.jpeg_lossless.specs.Written.WritesIntervals.{another, last}
 use Rattle.jpeg_lossless.specs.Worked.{small_table}
 use Rattle.jpeg_streams.specs.SaidSegments.{found_after}
-use Rattle.jpeg_streams.specs.Stream.{Found, nothing_found, updated}
+use Rattle.jpeg_streams.specs.Segments.{updated}
+use Rattle.jpeg_streams.specs.Found.{nothing_found, Found}
 use Rattle.jpeg_streams.specs.WorkedSamples.{AreWritten, other_data, other_scan, table_segment}
 use Rattle.jpeg_streams.specs.WorkedSamples.{third_data, third_scan, three_bytes, three_header, three_samples}
 use Rattle.jpeg_streams.specs.WrittenLossless.{HasSamples, HaveTables, WritesScan, closed}

@@ -14,15 +14,12 @@ use Rattle.std.specs.List.{AllByRecursion}
 use Rattle.std.proofs.Common.{slice_index}
 use Rattle.jpeg_bits.specs.Entropy.{bits_from, extended}
 use Rattle.jpeg_bits.specs.Codes.{Table, code_from}
-use Rattle.jpeg_bits.specs.Written.{low_bits, code_size, code_bits}
+use Rattle.jpeg_bits.specs.Written.{low_bits, code_size, code_bits, number_for, IsCategory, IsCoded}
 use Rattle.jpeg_bits.specs.Readers.{Reads, signed_from, ReadsJust}
 use Rattle.jpeg_bits.specs.Bands.{wrapped, Band, before_more, token_at, token_from, after_token, first_ac}
 use Rattle.jpeg_bits.specs.declared.tokens.Token.{Token}
 use Rattle.jpeg_bits.specs.declared.tokens.Token.TheVariants.{Value, Sixteen, Rest}
 use Rattle.jpeg_streams.specs.WrittenData.{bits_for, no_numbers, WritesBand}
-use Rattle.jpeg_bits.specs.Written.{number_for}
-use Rattle.jpeg_bits.specs.Written.{IsCategory}
-use Rattle.jpeg_bits.specs.Written.{IsCoded}
 use Rattle.jpeg_streams.specs.WrittenData.WritesBand.{full, value, sixteen, ended}
 use Rattle.jpeg_bits.proofs.WrittenBits.{takes-gives, takes-bind, takes-number, takes-map, takes-as}
 use Rattle.jpeg_bits.proofs.Tables.{IsGood}

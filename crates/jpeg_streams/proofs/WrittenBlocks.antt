@@ -19,9 +19,8 @@ use Rattle.jpeg_bits.specs.Bands.{wrapped, first_dc, difference, category_number
 use Rattle.jpeg_bits.specs.Refinement.{bit_of, corrected}
 use Rattle.jpeg_bits.specs.Passes.{Pass, Via, Block, band_of, with_band, or_bit, dc_part, band_part, block_from}
 use Rattle.jpeg_bits.specs.Passes.{blocks_of}
-use Rattle.jpeg_bits.specs.Written.{bit, low_bits, code_bits}
+use Rattle.jpeg_bits.specs.Written.{bit, low_bits, code_bits, IsCategory}
 use Rattle.jpeg_streams.specs.WrittenData.{WritesDifference, bits_for, no_numbers, corrections, low_bit}
-use Rattle.jpeg_bits.specs.Written.{IsCategory}
 use Rattle.jpeg_streams.specs.WrittenData.{WritesDc, WritesAc, WritesBlocks}
 use Rattle.jpeg_streams.specs.WrittenData.WritesDc.{other_band, whole, one_bit}
 use Rattle.jpeg_streams.specs.WrittenData.WritesAc.{no_band, first, first_run, again, again_run}

@@ -14,12 +14,11 @@ use Rattle.jpeg_streams.specs.declared.grids.Grid.{Grid}
 use Rattle.jpeg_bits.specs.Passes.{Pass, Via, Block, whole_pass, zero_block, band_of, before_band, band_size}
 use Rattle.jpeg_streams.specs.Order.{Spot, grid_of, own_spots, spots_of, mcu_size}
 use Rattle.jpeg_streams.specs.Scans.{Arrays, block_at, put_block, put_blocks, via_at, no_table, arrays_at}
-use Rattle.jpeg_streams.specs.Stream.{Coding, vias_from}
+use Rattle.jpeg_streams.specs.ScanSegments.{vias_from, Coding, components_of}
 use Rattle.jpeg_streams.specs.Levels.{Levels, Is8Bit, numbers_at, cut, nothing_sent, IsLegal, sent_after}
 use Rattle.jpeg_streams.specs.WrittenData.{no_numbers}
 use Rattle.jpeg_bits.specs.Written.{marker}
 use Rattle.jpeg_streams.specs.WrittenScans.{Coefficients, IsOwn, grid_at, no_grid, WritesScan}
-use Rattle.jpeg_streams.specs.Stream.{components_of}
 use Rattle.jpeg_streams.proofs.SentBlocks.{held, InRange, Suits, after_pass}
 use Rattle.jpeg_streams.proofs.AcceptedStreams.{IsMarker}
 use Rattle.jpeg_streams.proofs.CutLevels.{suits-cut, cut-after, all-same, cut-unsent, floor-range, floor-fits}

@@ -20,9 +20,7 @@ use Rattle.jpeg_bits.specs.Passes.{Pass, Via, Block, blocks_of}
 use Rattle.jpeg_bits.specs.Intervals.{interval, intervals, after_restart, blocks_before, groups, first_group}
 use Rattle.jpeg_bits.specs.Intervals.{other_groups, predictors_at_start}
 use Rattle.jpeg_streams.specs.WrittenData.{WritesInterval, WritesIntervals}
-use Rattle.jpeg_bits.specs.Written.{bits_of_bytes}
-use Rattle.jpeg_bits.specs.Written.{marker}
-use Rattle.jpeg_bits.specs.Written.{stuffed}
+use Rattle.jpeg_bits.specs.Written.{bits_of_bytes, marker, stuffed}
 use Rattle.jpeg_streams.specs.WrittenData.WritesIntervals.{last, another}
 use Rattle.jpeg_streams.proofs.SentBlocks.{InDcRange, after_pass, reads_of, numbers_of}
 use Rattle.jpeg_streams.proofs.AcceptedStreams.{IsMarker}

@@ -18,14 +18,15 @@ use Rattle.jpeg_streams.specs.Levels.{Is8Bit, Levels, nothing_sent}
 use Rattle.jpeg_streams.specs.Order.{grid_of, Spot}
 use Rattle.jpeg_streams.specs.SaidSegments.{found_after}
 use Rattle.jpeg_streams.specs.Needed.{first_of, needed}
-use Rattle.jpeg_streams.specs.Stream.{Coding, Found, is_progressive, Metadata, nothing_found}
-use Rattle.jpeg_streams.specs.Stream.{pass_of, picture_by, Told, told_of}
+use Rattle.jpeg_streams.specs.ScanSegments.{Coding, is_progressive, pass_of, components_of}
+use Rattle.jpeg_streams.specs.Found.{nothing_found, Found, Metadata}
+use Rattle.jpeg_streams.specs.Stream.{Told, told_of}
+use Rattle.jpeg_streams.specs.FoundPictures.{picture_by}
 use Rattle.jpeg_streams.specs.WholeImages.{AllComplete, picture_whole, plane_whole, planes_whole}
 use Rattle.jpeg_streams.specs.WrittenImages.{closed, scan as then_scan, segment as then_segment, Writes, WritesImage}
 use Rattle.jpeg_streams.specs.WrittenParts.{AgreeOnOwn, HaveSamePicture, nothing, picture_meant_by, scan, segment}
 use Rattle.jpeg_streams.specs.WrittenParts.{WritesFront}
 use Rattle.jpeg_streams.specs.WrittenScans.{AreCodings, block_for, Coefficients, grid_at, HasTable}
-use Rattle.jpeg_streams.specs.Stream.{components_of}
 use Rattle.jpeg_streams.specs.WrittenScans.{IsOwn, levels_after, no_grid, place_at}
 use Rattle.jpeg_streams.specs.WrittenScans.AreCodings.{and_more, no_more}
 use Rattle.jpeg_streams.proofs.AcceptedImages.{frame-or, frame-stays, image-accepted, none-stands, same-frame}

@@ -26,19 +26,19 @@ use Rattle.jpeg_streams.specs.Scans.{Arrays}
 use Rattle.jpeg_pixels.specs.Scaled.{sample_at}
 use Rattle.jpeg_pixels.specs.Planes.{plane_sample, plane_of, cropped}
 use Rattle.jpeg_streams.specs.Needed.{needed}
-use Rattle.jpeg_streams.specs.Stream.{Found, Metadata, is_progressive, plane_by, plane_at_end, planes_from}
+use Rattle.jpeg_streams.specs.FoundPictures.{planes_from, plane_at_end, picture_of, picture_by_process, blocks_picture}
+use Rattle.jpeg_streams.specs.FoundPictures.{picture_by, picture_in}
+use Rattle.jpeg_streams.specs.ScanSegments.{plane_by, is_progressive}
+use Rattle.jpeg_streams.specs.Found.{Found, Metadata, nothing_found}
 use Rattle.jpeg_segments.specs.declared.parser.CodingProcess.{CodingProcess}
 use Rattle.jpeg_segments.specs.declared.parser.CodingProcess.TheVariants.{DctSequential, DctProgressive, Lossless}
-use Rattle.jpeg_streams.specs.Stream.{blocks_picture, picture_in, picture_by, picture_by_process, picture_of, rest_at}
-use Rattle.jpeg_streams.specs.Stream.{meaning, nothing_found, start_at}
-use Rattle.jpeg_streams.specs.Stream.{segments_at}
+use Rattle.jpeg_streams.specs.Stream.{rest_at, meaning, start_at, segments_at, told_of}
 use Rattle.jpeg_streams.specs.declared.before.Before.TheVariants.{Elsewhere}
 use Rattle.jpeg_streams.specs.Levels.{Levels, Is8Bit, cut}
 use Rattle.jpeg_streams.proofs.FinishedPlaces.{is_level_0}
 use Rattle.jpeg_streams.specs.WrittenScans.{Coefficients, HasTable, IsComplete}
 use Rattle.jpeg_streams.specs.ArrayPictures.{HasTransform, IsTransformOf, Takes, plane_of_array, planes_of_array}
 use Rattle.jpeg_streams.specs.ArrayPictures.{picture_of_array}
-use Rattle.jpeg_streams.specs.Stream.{told_of}
 use Rattle.jpeg_streams.proofs.AcceptedStreams.{WritesStream}
 use Rattle.jpeg_streams.proofs.OwnSpots.{At, at-within, Fits, in-below}
 use Rattle.jpeg_streams.proofs.WrittenFrameScans.{HoldsOwn, in-all, at-all}

@@ -16,9 +16,8 @@ use Rattle.jpeg_bits.specs.Readers.{Reads, ◌>>=◌, gives, text, ReadsJust}
 use Rattle.jpeg_bits.specs.Bands.{Band, before_more}
 use Rattle.jpeg_bits.specs.Refinement.{is_zero, bit_of, moved, fits_i16, corrected_by, corrected, through_zero}
 use Rattle.jpeg_bits.specs.Refinement.{new_number, with_last, refined_piece, refined_ac}
-use Rattle.jpeg_bits.specs.Written.{bit, low_bits, code_bits}
+use Rattle.jpeg_bits.specs.Written.{bit, low_bits, code_bits, IsCoded}
 use Rattle.jpeg_streams.specs.WrittenData.{is_old, count_unknown, NoneNew, corrections, sign_bit}
-use Rattle.jpeg_bits.specs.Written.{IsCoded}
 use Rattle.jpeg_streams.specs.WrittenData.{WritesRefinement}
 use Rattle.jpeg_streams.specs.WrittenData.WritesRefinement.{refined, found, passed, none_left}
 use Rattle.jpeg_bits.proofs.WrittenBits.{takes-gives, takes-bind, takes-number, takes-bit, takes-map, takes-as}

@@ -12,7 +12,9 @@ use Rattle.jpeg_streams.specs.ColourChoice.{identifiers_of, transform_of}
 use Rattle.jpeg_streams.specs.declared.settings.Settings.{Settings}
 use Rattle.jpeg_streams.specs.Levels.{Levels, cut}
 use Rattle.jpeg_streams.specs.Needed.{needed}
-use Rattle.jpeg_streams.specs.Stream.{Found, Told, picture_by, told_of}
+use Rattle.jpeg_streams.specs.Stream.{Told, told_of}
+use Rattle.jpeg_streams.specs.FoundPictures.{picture_by}
+use Rattle.jpeg_streams.specs.Found.{Found}
 use Rattle.jpeg_streams.specs.WrittenScans.{Coefficients}
 
 -- ---- the picture

@@ -4,7 +4,7 @@ use Rattle.jpeg_bits.specs.declared.error.Error.{Error}
 use Rattle.jpeg_segments.specs.Frame.{Frame}
 use Rattle.jpeg_streams.specs.DecodedImages.{FailsOutside, Gives, HasLeft, Size}
 use Rattle.jpeg_streams.specs.States.{Decoding}
-use Rattle.jpeg_streams.specs.Stream.{Found}
+use Rattle.jpeg_streams.specs.Found.{Found}
 use Rattle.jpeg_streams.specs.WrittenLossless.{IsWithin, picture_of_samples, Samples, WritesSamples}
 
 -- A call on a decoder whose source has a lossless stream that is written for samples, and whose

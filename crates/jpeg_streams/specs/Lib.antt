@@ -6,7 +6,12 @@ pub mod McuRows
 pub mod Layout
 pub mod Needed
 pub mod LosslessScans
+pub mod Found
+pub mod Segments
+pub mod ScanSegments
+pub mod FoundPictures
 pub mod Stream
+pub mod Reported
 pub mod Sound
 pub mod Profile
 pub mod States

@@ -7,7 +7,7 @@ use Rattle.jpeg_streams.specs.Levels.{Is8Bit, Levels}
 use Rattle.jpeg_streams.specs.Output.{default_settings, header_line_of, IsOutsideOrMemory}
 use Rattle.jpeg_streams.specs.Output.{TakesBeginning, Tells}
 use Rattle.jpeg_streams.specs.Pixels.{info_of}
-use Rattle.jpeg_streams.specs.Stream.{Found}
+use Rattle.jpeg_streams.specs.Found.{Found}
 use Rattle.jpeg_streams.specs.WrittenImages.{WritesImage}
 use Rattle.jpeg_streams.specs.WrittenScans.{Coefficients}
 

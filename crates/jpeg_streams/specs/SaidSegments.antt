@@ -5,7 +5,8 @@ use Rattle.jpeg_segments.specs.Frame.{Factors, greatest}
 use Rattle.jpeg_segments.specs.WrittenSegments.{Application, Comment, FrameHeader, frame_written}
 use Rattle.jpeg_segments.specs.WrittenSegments.{Header, Huffman, huffman_tables, Interval, MayStand}
 use Rattle.jpeg_segments.specs.WrittenSegments.{Quantization, quantization_tables, said_by, Segment}
-use Rattle.jpeg_streams.specs.Stream.{Found, updated, with_application, with_huffman}
+use Rattle.jpeg_streams.specs.Segments.{with_application, with_huffman, updated}
+use Rattle.jpeg_streams.specs.Found.{Found}
 
 -- ---- frames that have a picture
 

@@ -6,7 +6,9 @@ use Rattle.std.specs.List.{AllByRecursion}
 use Rattle.jpeg_segments.specs.Frame.{Frame, Component, IsFrame}
 use Rattle.jpeg_segments.specs.Scales.{frame_at, is_scale}
 use Rattle.jpeg_streams.specs.InTurn.{AreArrays}
-use Rattle.jpeg_streams.specs.Stream.{Found, accepted, arrays_before}
+use Rattle.jpeg_streams.specs.ScanSegments.{arrays_before}
+use Rattle.jpeg_streams.specs.Segments.{accepted}
+use Rattle.jpeg_streams.specs.Found.{Found}
 
 -- A frame that is decoded: one that a header gives and that is accepted, at a scale.
 pub record IsDecodedFrame (frame : Frame) : Type 0 where

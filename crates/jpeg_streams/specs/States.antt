@@ -5,8 +5,9 @@ use Rattle.jpeg_bits.specs.Stream.{Stream}
 use Rattle.jpeg_bits.specs.declared.error.Error.{Error}
 use Rattle.jpeg_bits.specs.declared.error.Error.TheVariants as errors
 use Rattle.jpeg_streams.specs.declared.settings.Settings.{Settings}
-use Rattle.jpeg_streams.specs.Stream.{Found, Told, told_of, meaning, rest_at, told_by_stream}
-use Rattle.jpeg_streams.specs.Stream.{told_by_turns, told_in_turns, told_rest}
+use Rattle.jpeg_streams.specs.Stream.{Told, told_of, meaning, rest_at}
+use Rattle.jpeg_streams.specs.Reported.{told_by_stream, told_by_turns, told_in_turns, told_rest}
+use Rattle.jpeg_streams.specs.Found.{Found}
 
 pub data Stage : Type 0 where
   Fresh : Stage

@@ -10,7 +10,9 @@ use Rattle.jpeg_pixels.specs.Zigzag.{coefficients_in_block_order, values_in_bloc
 use Rattle.jpeg_streams.specs.declared.settings.Settings.{Settings}
 use Rattle.jpeg_streams.specs.Levels.{Levels}
 use Rattle.jpeg_streams.specs.Needed.{needed}
-use Rattle.jpeg_streams.specs.Stream.{Found, Told, picture_by, told_of}
+use Rattle.jpeg_streams.specs.Stream.{Told, told_of}
+use Rattle.jpeg_streams.specs.FoundPictures.{picture_by}
+use Rattle.jpeg_streams.specs.Found.{Found}
 use Rattle.jpeg_streams.specs.WrittenScans.{Coefficients, IsComplete}
 
 -- Every bit of each coefficient of a frame was sent.

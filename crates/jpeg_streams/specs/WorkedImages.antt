@@ -5,7 +5,7 @@ use Rattle.std.specs.List.{concat}
 use Rattle.jpeg_bits.specs.Passes.{Block}
 use Rattle.jpeg_segments.specs.Frame.{Frame}
 use Rattle.jpeg_streams.specs.Levels.{Levels}
-use Rattle.jpeg_streams.specs.Stream.{Found}
+use Rattle.jpeg_streams.specs.Found.{Found}
 use Rattle.jpeg_streams.specs.WholeImages.{AllComplete}
 use Rattle.jpeg_streams.specs.Worked.{colour_frame, eight_times, grey_frame, image_with, one_code}
 use Rattle.jpeg_streams.specs.Worked.{quantization_of, restart_interval, scan_of, scan_of_three}

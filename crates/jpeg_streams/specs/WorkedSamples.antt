@@ -7,7 +7,7 @@ use Rattle.jpeg_segments.specs.WrittenSegments.{FrameHeader, Header, Huffman, In
 use Rattle.jpeg_segments.specs.WrittenSegments.{Segment, sized}
 use Rattle.jpeg_lossless.specs.Worked.{small_table}
 use Rattle.jpeg_bits.specs.Written.{marker}
-use Rattle.jpeg_streams.specs.Stream.{Found}
+use Rattle.jpeg_streams.specs.Found.{Found}
 use Rattle.jpeg_streams.specs.WrittenLossless.{Samples, WritesSamples}
 
 -- the samples of each component

@@ -9,7 +9,8 @@ use Rattle.jpeg_segments.specs.WrittenSegments.{code_of, Header, payload_of, Qua
 use Rattle.jpeg_segments.specs.WrittenSegments.{sized}
 use Rattle.jpeg_streams.specs.Levels.{Levels, nothing_sent}
 use Rattle.jpeg_streams.specs.SaidSegments.{Stands, found_after}
-use Rattle.jpeg_streams.specs.Stream.{Coding, Found, is_progressive, nothing_found, pass_of}
+use Rattle.jpeg_streams.specs.ScanSegments.{Coding, pass_of, is_progressive}
+use Rattle.jpeg_streams.specs.Found.{nothing_found, Found}
 use Rattle.jpeg_bits.specs.Written.{marker}
 use Rattle.jpeg_streams.specs.WrittenScans.{Coefficients, HasTable, IsComplete, IsLegalScan}
 use Rattle.jpeg_streams.specs.WrittenScans.{levels_after, WritesScan}

@@ -19,7 +19,7 @@ use Rattle.jpeg_lossless.specs.Written.{WritesIntervals}
 use Rattle.jpeg_bits.specs.Written.{marker}
 use Rattle.jpeg_streams.specs.InTurn.{IsIn}
 use Rattle.jpeg_streams.specs.SaidSegments.{found_after}
-use Rattle.jpeg_streams.specs.Stream.{Found, nothing_found}
+use Rattle.jpeg_streams.specs.Found.{nothing_found, Found}
 
 -- By its place in the frame, a component's lines of samples.
 abbrev pub Samples : Type 0

@@ -10,7 +10,9 @@ use Rattle.jpeg_streams.specs.Levels.{Levels}
 use Rattle.jpeg_streams.specs.Order.{grid_of}
 use Rattle.jpeg_streams.specs.SaidSegments.{found_after, Stands}
 use Rattle.jpeg_streams.specs.Needed.{first_of}
-use Rattle.jpeg_streams.specs.Stream.{Coding, Found, meaning, pass_of}
+use Rattle.jpeg_streams.specs.Stream.{meaning}
+use Rattle.jpeg_streams.specs.ScanSegments.{Coding, pass_of}
+use Rattle.jpeg_streams.specs.Found.{Found}
 use Rattle.jpeg_bits.specs.Written.{marker}
 use Rattle.jpeg_streams.specs.WrittenImages.{IsDctSegment, MayFollow}
 use Rattle.jpeg_streams.specs.WrittenScans.{Coefficients, IsLegalScan, levels_after, WritesScan}

@@ -16,7 +16,8 @@ use Rattle.jpeg_streams.specs.Levels.{Is8Bit, IsLegal, Levels, sent_after, numbe
 use Rattle.jpeg_streams.specs.Order.{Spot, grid_of, mcu_size, spots_of}
 use Rattle.jpeg_streams.specs.Scans.{no_table, via_at}
 use Rattle.jpeg_streams.specs.Needed.{first_of}
-use Rattle.jpeg_streams.specs.Stream.{components_of, Coding, Found, pass_of, tables_of, vias_from}
+use Rattle.jpeg_streams.specs.ScanSegments.{vias_from, components_of, Coding, tables_of, pass_of}
+use Rattle.jpeg_streams.specs.Found.{Found}
 use Rattle.jpeg_streams.specs.WrittenData.{WritesIntervals}
 
 -- ---- the coefficients of an image

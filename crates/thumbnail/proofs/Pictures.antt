@@ -3,7 +3,8 @@ use Rattle.std.proofs.Common.{◌≡◌, ◌∙◌, ℕ, List, Result, Ok, Err, 
 use Rattle.jpeg_bits.specs.Reading.{Fault, Outcome}
 use Rattle.jpeg_streams.specs.Output.{default_settings}
 use Rattle.jpeg_streams.specs.Pixels.{info_of}
-use Rattle.jpeg_streams.specs.Stream.{Found, Told, header_at, rest_at, sized_header_at, sized_meaning, sized_to}
+use Rattle.jpeg_streams.specs.Stream.{Told, header_at, rest_at, sized_header_at, sized_meaning, sized_to}
+use Rattle.jpeg_streams.specs.Found.{Found}
 use Rattle.jpeg_streams.proofs.AcceptedTurns.{then-ok}
 use Rattle.jpeg_decoder.proofs.Headers.{bind-ok}
 use Rattle.thumbnail.specs.Thumbnails.{picture_at}

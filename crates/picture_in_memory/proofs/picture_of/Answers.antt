@@ -6,7 +6,8 @@ use Rattle.jpeg_bits.specs.declared.error.Error.{Error}
 use Rattle.jpeg_streams.specs.DecodedImages.{FailsOutside, FullSize, Gives}
 use Rattle.jpeg_streams.specs.Output.{Tells, default_settings}
 use Rattle.jpeg_streams.specs.States.{Decoding}
-use Rattle.jpeg_streams.specs.Stream.{Found, Told, meaning, told_of}
+use Rattle.jpeg_streams.specs.Stream.{Told, meaning, told_of}
+use Rattle.jpeg_streams.specs.Found.{Found}
 use Rattle.jpeg_decoder.proofs.Callers.{bytes_are_known, known_bytes_are_told}
 use Rattle.picture_in_memory.proofs.picture_of.Goals as goal
 

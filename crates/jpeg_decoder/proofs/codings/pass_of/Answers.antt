@@ -1,5 +1,5 @@
 use Rattle.std.proofs.Common.{refl}
-use Rattle.jpeg_streams.specs.Stream.{pass_of}
+use Rattle.jpeg_streams.specs.ScanSegments.{pass_of}
 use Rattle.jpeg_decoder.proofs.codings.pass_of.Goals as goal
 
 pub returns : goal.returns

@@ -1,7 +1,7 @@
 use Rattle.std.proofs.Common.{◌≡◌, ◌∙◌, sym, ap, arith, rules, length, drop, map}
 use Rattle.jpeg_decoder.specs.Scanning.{arrays_in}
 use Rattle.jpeg_decoder.specs.Steps.{coding_in}
-use Rattle.jpeg_streams.specs.Stream.{put_arrays}
+use Rattle.jpeg_streams.specs.ScanSegments.{put_arrays}
 use Rattle.jpeg_decoder.proofs.PutLoops.{put-step, none-left, put-none}
 use Rattle.jpeg_decoder.proofs.decoded.put_blocks.Goals as goal
 

@@ -1,6 +1,6 @@
 use Rattle.std.proofs.Common.{[], ◌∷◌, ◌++◌, false, true, refl}
 use Rattle.jpeg_streams.specs.Levels.{nothing_sent}
-use Rattle.jpeg_streams.specs.Stream.{nothing_found}
+use Rattle.jpeg_streams.specs.Found.{nothing_found}
 use Rattle.jpeg_streams.proofs.AcceptedImages.{image-accepted}
 use Rattle.jpeg_streams.proofs.WrittenParts.{front-append, front-closed}
 use Rattle.jpeg_streams.proofs.WrittenPictures.{stream-means}

@@ -1,5 +1,6 @@
 use Rattle.std.proofs.Common.{refl, arith, length, suc}
-use Rattle.jpeg_streams.specs.Stream.{nothing_found, start_at, segments_at, header_at, rest_at, meaning}
+use Rattle.jpeg_streams.specs.Stream.{start_at, segments_at, header_at, rest_at, meaning}
+use Rattle.jpeg_streams.specs.Found.{nothing_found}
 use Rattle.jpeg_decoder.proofs.Headers.{bind-ok, bind-err, header-rest, header-refused}
 use Rattle.jpeg_decoder.proofs.laws.header_begins_stream.Goals as goal
 

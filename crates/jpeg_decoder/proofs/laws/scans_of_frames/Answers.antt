@@ -1,6 +1,6 @@
 use Rattle.std.proofs.Common.{List, subst, Result}
 use Rattle.jpeg_bits.specs.Reading.{Fault}
-use Rattle.jpeg_streams.specs.Stream.{Coding}
+use Rattle.jpeg_streams.specs.ScanSegments.{Coding}
 use Rattle.jpeg_streams.proofs.ScanArrays.{AllOf, codings-are-of, sequential-scan, progressive-scan}
 use Rattle.jpeg_decoder.proofs.laws.scans_of_frames.Goals as goal
 

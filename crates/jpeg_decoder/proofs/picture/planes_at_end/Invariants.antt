@@ -4,7 +4,7 @@ use Rattle.jpeg_segments.specs.FrameView.{frame_in}
 use Rattle.jpeg_decoder.specs.Scanning.{arrays_in}
 use Rattle.jpeg_decoder.specs.Seen.{found_in, planes_in}
 use Rattle.jpeg_decoder.specs.Steps.{with_decoded}
-use Rattle.jpeg_streams.specs.Stream.{planes_from}
+use Rattle.jpeg_streams.specs.FoundPictures.{planes_from}
 use Rattle.jpeg_decoder.proofs.EndedPlanes.{AreWholeWith, others-after}
 use Rattle.jpeg_decoder.proofs.picture.planes_at_end.Given as goal
 

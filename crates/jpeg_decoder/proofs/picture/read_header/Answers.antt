@@ -2,7 +2,9 @@ use Rattle.jpeg_decoder.specs.Seen.{found_in}
 use Rattle.jpeg_streams.proofs.Soundness.{sound-nothing, nothing-framed}
 use Rattle.std.proofs.Common.{◌∙◌, sym, ap, true, refl}
 use Rattle.std.proofs.lemmas.Result.{err_from_is_err_and}
-use Rattle.jpeg_streams.specs.Stream.{IsOfTurns, Found, told_of, start_at, told_rest, told_in_turns}
+use Rattle.jpeg_streams.specs.Stream.{told_of, start_at}
+use Rattle.jpeg_streams.specs.Reported.{IsOfTurns, told_in_turns, told_rest}
+use Rattle.jpeg_streams.specs.Found.{Found}
 use Rattle.jpeg_streams.proofs.Refusals.{told-err}
 use Rattle.jpeg_streams.proofs.Told.{told-no_start, told-start, told-through, turns-start, turns-none}
 use Rattle.jpeg_decoder.proofs.picture.read_header.Goals as goal

@@ -2,7 +2,9 @@ use Rattle.jpeg_decoder.specs.Seen.{found_in}
 use Rattle.jpeg_streams.proofs.Soundness.{sound-nothing}
 use Rattle.std.proofs.Common.{◌∙◌, sym, ap, false}
 use Rattle.std.proofs.lemmas.Result.{err_from_is_err_and}
-use Rattle.jpeg_streams.specs.Stream.{IsOfTurns, Found, told_of, start_at, told_in_turns}
+use Rattle.jpeg_streams.specs.Stream.{told_of, start_at}
+use Rattle.jpeg_streams.specs.Reported.{IsOfTurns, told_in_turns}
+use Rattle.jpeg_streams.specs.Found.{Found}
 use Rattle.jpeg_streams.proofs.Refusals.{told-err}
 use Rattle.jpeg_streams.proofs.Told.{told-no_start, turns-none, turns-start}
 use Rattle.jpeg_decoder.proofs.picture.read_stream.Goals as goal

@@ -7,7 +7,7 @@ use Rattle.jpeg_bits.specs.BlockView.{pass_in}
 use Rattle.jpeg_segments.specs.FrameView.{frame_in}
 use Rattle.jpeg_decoder.specs.declared.codings.Coded.{Coded}
 use Rattle.jpeg_decoder.specs.declared.scans.Interval.{Interval}
-use Rattle.jpeg_streams.specs.Stream.{Coding}
+use Rattle.jpeg_streams.specs.ScanSegments.{Coding}
 use Rattle.jpeg_decoder.specs.Scanning.{counted, vias_in}
 use Rattle.jpeg_decoder.specs.Steps.{coding_in}
 use Rattle.jpeg_decoder.specs.Strips.{planes_in}

@@ -13,7 +13,7 @@ use Rattle.jpeg_streams.specs.McuRows.{rows_of, zero_rows}
 use Rattle.jpeg_decoder.specs.Scanning.{arrays_in, components_in, counted, down_in, sizes_of, vias_in}
 use Rattle.jpeg_decoder.specs.Steps.{coding_in}
 use Rattle.jpeg_decoder.specs.Strips.{planes_in, row_at, row_sizes, samples_in, strips_from, with_strips}
-use Rattle.jpeg_streams.specs.Stream.{components_of}
+use Rattle.jpeg_streams.specs.ScanSegments.{components_of}
 use Rattle.jpeg_decoder.specs.Strips.{zeros_of}
 use Rattle.jpeg_decoder.proofs.StripSteps.{strips_step, strips_refused, strips_none, rows-of-scan, zeros-are, lengths}
 use Rattle.jpeg_decoder.proofs.StripSteps.{lengths-none, lengths-next, row-count}

@@ -7,7 +7,7 @@ use Rattle.jpeg_streams.specs.McuRows.{rows_of}
 use Rattle.jpeg_decoder.specs.Scanning.{components_in, counted, down_in, sizes_of, vias_in}
 use Rattle.jpeg_decoder.specs.Steps.{coding_in}
 use Rattle.jpeg_decoder.specs.Strips.{planes_in, row_at, row_sizes, samples_in, strips_from}
-use Rattle.jpeg_streams.specs.Stream.{components_of}
+use Rattle.jpeg_streams.specs.ScanSegments.{components_of}
 use Rattle.jpeg_decoder.proofs.sequential.read_strips.Given as goal
 
 abbrev pub invariant-loop-row : goal.invariant-loop-row

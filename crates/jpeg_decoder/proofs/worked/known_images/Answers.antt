@@ -29,15 +29,16 @@ use Rattle.jpeg_streams.specs.Scans.{put_blocks, zero_arrays, turns_of, arrays_a
 use Rattle.jpeg_pixels.specs.Scaled.{even_part, odd_part, column_of_4, sample_of_4, sample_of_2, sample_of_1, sample_at}
 use Rattle.jpeg_pixels.specs.Planes.{plane_of, cropped}
 use Rattle.jpeg_segments.specs.Scales.{scale_for, component_at, frame_at}
-use Rattle.jpeg_streams.specs.Stream.{nothing_found, updated, accepted, frame_segment, quantization_segment}
-use Rattle.jpeg_streams.specs.Stream.{huffman_segment, restart_segment, application_segment, skipped_segment, pass_of}
-use Rattle.jpeg_streams.specs.Stream.{tables_of, component_coding, codings_from, codings_of, vias_from, arrays_before}
-use Rattle.jpeg_streams.specs.Stream.{scan_arrays, plane_by, finished_by, with_plane, with_blocks, with_arrays}
-use Rattle.jpeg_streams.specs.Stream.{put_arrays, after_scan, after_restarts, blocks_scan, scan_segment, end_segment}
-use Rattle.jpeg_streams.specs.Stream.{segment_at}
-use Rattle.jpeg_streams.specs.Stream.{turn_at, segments_within, segments_at, start_at, header_at, plane_at_end}
-use Rattle.jpeg_streams.specs.Stream.{blocks_picture, planes_from, picture_by, picture_of, rest_at, meaning}
-use Rattle.jpeg_streams.specs.Stream.{sized_meaning}
+use Rattle.jpeg_streams.specs.Segments.{quantization_segment, frame_segment, accepted, updated, skipped_segment}
+use Rattle.jpeg_streams.specs.Segments.{application_segment, restart_segment, huffman_segment}
+use Rattle.jpeg_streams.specs.Found.{nothing_found}
+use Rattle.jpeg_streams.specs.ScanSegments.{pass_of, arrays_before, vias_from, codings_of, codings_from}
+use Rattle.jpeg_streams.specs.ScanSegments.{component_coding, tables_of, with_arrays, with_blocks, with_plane}
+use Rattle.jpeg_streams.specs.ScanSegments.{finished_by, plane_by, scan_arrays, scan_segment, blocks_scan}
+use Rattle.jpeg_streams.specs.ScanSegments.{after_restarts, after_scan, put_arrays}
+use Rattle.jpeg_streams.specs.Stream.{end_segment, segment_at, turn_at, segments_within, segments_at, start_at}
+use Rattle.jpeg_streams.specs.Stream.{header_at, rest_at, meaning, sized_meaning}
+use Rattle.jpeg_streams.specs.FoundPictures.{plane_at_end, picture_of, blocks_picture, picture_by, planes_from}
 use Rattle.jpeg_decoder.proofs.worked.known_images.Goals as goal
 
 pub returns : goal.returns

@@ -4,7 +4,7 @@ use Rattle.jpeg_bits.specs.BlockView.{to_block}
 use Rattle.jpeg_bits.specs.BlockView.{pass_in}
 use Rattle.jpeg_decoder.specs.Scanning.{arrays_in, blocks_in}
 use Rattle.jpeg_decoder.specs.Steps.{coding_in, with_decoded, with_its_plane}
-use Rattle.jpeg_streams.specs.Stream.{plane_by, with_arrays}
+use Rattle.jpeg_streams.specs.ScanSegments.{with_arrays, plane_by}
 use Rattle.jpeg_decoder.proofs.PutLoops.{arrays-step, none-left, arrays-none, sized-at, long-at, Held}
 use Rattle.jpeg_decoder.proofs.decoded.Decoded.add_arrays.Goals as goal
 

@@ -1,7 +1,7 @@
 use Rattle.std.proofs.Common.{◌≡◌, ◌≤◌, ◌-◌, drop, length, map}
 use Rattle.jpeg_bits.specs.BlockView.{pass_in}
 use Rattle.jpeg_decoder.specs.Steps.{coding_in, with_decoded, with_planes}
-use Rattle.jpeg_streams.specs.Stream.{Found}
+use Rattle.jpeg_streams.specs.Found.{Found}
 use Rattle.jpeg_decoder.proofs.decoded.Decoded.add_planes.Given as goal
 
 abbrev pub invariant-loop-slot : goal.invariant-loop-slot

@@ -19,7 +19,8 @@ use Rattle.jpeg_streams.specs.Sound.{ArePlanes}
 use Rattle.jpeg_decoder.specs.Scanning.{arrays_in, blocks_in, components_in, sizes_of, vias_in}
 use Rattle.jpeg_decoder.specs.Steps.{blocks_at, coding_in, scan_data, with_decoded, without_blocks, AreRising}
 use Rattle.jpeg_decoder.specs.Steps.{IsCodingOf}
-use Rattle.jpeg_streams.specs.Stream.{Found, arrays_before, put_arrays}
+use Rattle.jpeg_streams.specs.ScanSegments.{put_arrays, arrays_before}
+use Rattle.jpeg_streams.specs.Found.{Found}
 use Rattle.jpeg_decoder.proofs.PlacedCodings.{coded-components, coded-places}
 use Rattle.jpeg_decoder.proofs.PutLoops.{Held}
 use Rattle.jpeg_streams.proofs.ScanArrays.{arrays-sized, held-sized}

@@ -11,7 +11,8 @@ use Rattle.jpeg_decoder.specs.Seen.{found_in}
 use Rattle.jpeg_streams.specs.Sound.{ArePlanes}
 use Rattle.jpeg_decoder.specs.Scanning.{vias_in}
 use Rattle.jpeg_decoder.specs.Steps.{coding_in, scan_data, with_decoded}
-use Rattle.jpeg_streams.specs.Stream.{Found, vias_from}
+use Rattle.jpeg_streams.specs.ScanSegments.{vias_from}
+use Rattle.jpeg_streams.specs.Found.{Found}
 use Rattle.jpeg_decoder.specs.Strips.{planes_at}
 use Rattle.jpeg_decoder.specs.Strips as strips
 use Rattle.jpeg_decoder.proofs.PlacedCodings.{coded-components}

@@ -3,7 +3,9 @@ use Rattle.std.proofs.lemmas.Result.{err_from_is_err_and}
 use Rattle.jpeg_bits.proofs.Loops.{Continues-err}
 use Rattle.jpeg_streams.specs.declared.before.Before.TheVariants.{Elsewhere}
 use Rattle.jpeg_decoder.specs.declared.state.Step.{Step}
-use Rattle.jpeg_streams.specs.Stream.{Found, told_of, IsOfTurns, turn_at, segments_at, told_within}
+use Rattle.jpeg_streams.specs.Stream.{told_of, turn_at, segments_at}
+use Rattle.jpeg_streams.specs.Reported.{IsOfTurns, told_within}
+use Rattle.jpeg_streams.specs.Found.{Found}
 use Rattle.jpeg_decoder.specs.Seen.{found_in}
 use Rattle.jpeg_segments.specs.Frame.{Frame}
 use Rattle.jpeg_decoder.specs.declared.state.State.{State}

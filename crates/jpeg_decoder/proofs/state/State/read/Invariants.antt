@@ -2,7 +2,8 @@ use Rattle.std.proofs.Common.{◌≡◌, ℕ, ◌+◌, ◌<◌, true, false, Non
 use Rattle.jpeg_bits.specs.Reading.{IsShort}
 use Rattle.jpeg_bits.proofs.Loops.{Continues, Took}
 use Rattle.jpeg_streams.specs.declared.before.Before.TheVariants.{Elsewhere}
-use Rattle.jpeg_streams.specs.Stream.{segments_at, told_at, told_within}
+use Rattle.jpeg_streams.specs.Stream.{segments_at}
+use Rattle.jpeg_streams.specs.Reported.{told_at, told_within}
 use Rattle.jpeg_decoder.specs.Seen.{found_in}
 use Rattle.jpeg_decoder.specs.Steps.{is_restart_marker}
 use Rattle.jpeg_streams.specs.Sound.{IsSound, IsUnread}

@@ -3,7 +3,7 @@ use Rattle.std.proofs.lemmas.Result.{err_from_is_err_and}
 use Rattle.jpeg_bits.specs.declared.marker.Marker.{Marker}
 use Rattle.jpeg_bits.proofs.Loops.{Continues-err}
 use Rattle.jpeg_decoder.specs.declared.state.Step.{Step}
-use Rattle.jpeg_streams.specs.Stream.{scan_segment}
+use Rattle.jpeg_streams.specs.ScanSegments.{scan_segment}
 use Rattle.jpeg_decoder.specs.Seen.{found_in}
 use Rattle.jpeg_decoder.specs.Steps.{scan_read, turn_of, with_decoded}
 use Rattle.jpeg_decoder.proofs.ScanReads.{scan-turned, turn-refused}

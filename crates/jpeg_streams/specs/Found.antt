@@ -1,0 +1,68 @@
+-- What the segments and scans of a stream have said so far (T.81, B.2).
+use Rattle.std.specs.Prelude.{ℕ}
+use Rattle.std.specs.Prelude.{List, []}
+use Rattle.std.specs.Prelude.{replicate, Bool, false}
+use Rattle.std.specs.Prelude.{Option, None}
+use Rattle.jpeg_segments.specs.declared.parser.AdobeColorTransform.{AdobeColorTransform}
+use Rattle.jpeg_segments.specs.Frame.{Frame}
+use Rattle.jpeg_segments.specs.HuffmanTables.{Tables, no_tables}
+use Rattle.jpeg_segments.specs.Application.{Chunk}
+use Rattle.jpeg_streams.specs.Scans.{Arrays}
+
+-- What the segments of applications have said: whether JFIF or an MJPEG frame was named, and the
+-- last Adobe transform, Exif, XMP and Photoshop data; parts of ICC profiles add up.
+pub record Metadata : Type 0 where
+  pub jfif : Bool
+  pub avi1 : Bool
+  pub adobe : Option AdobeColorTransform
+  pub exif : Option (List ℕ)
+  pub xmp : Option (List ℕ)
+  pub psir : Option (List ℕ)
+  pub icc : List Chunk
+
+abbrev pub no_metadata : Metadata
+no_metadata =
+    record {
+      jfif = false;
+      avi1 = false;
+      adobe = None;
+      exif = None;
+      xmp = None;
+      psir = None;
+      icc = [];
+    }
+
+-- What the segments and scans so far have said: the frame; the tables in force, by their places;
+-- the restart interval; whether a scan was read; the metadata; and by the components' places in the
+-- frame the blocks that are held between the scans of a progressive frame, which of the 64 places
+-- of a block are finished, and the planes that are decided. Quantization tables stand in zigzag
+-- order. By the components' places in a lossless frame, their samples.
+pub record Found : Type 0 where
+  pub frame : Option Frame
+  pub quantization : List (Option (List ℕ))
+  pub huffman : Tables
+  pub restart : ℕ
+  pub scanned : Bool
+  pub metadata : Metadata
+  pub held : Arrays
+  pub finished : List (List Bool)
+  pub planes : List (Option (List ℕ))
+  pub samples : List (Option (List ℕ))
+
+-- no place of a block is finished
+abbrev pub none_finished : List Bool
+none_finished = replicate 64 false
+
+unfoldable pub nothing_found : Found
+nothing_found = record {
+  frame = None;
+  quantization = replicate 4 None;
+  huffman = no_tables;
+  restart = 0;
+  scanned = false;
+  metadata = no_metadata;
+  held = [];
+  finished = replicate 4 none_finished;
+  planes = replicate 4 None;
+  samples = replicate 4 None;
+}

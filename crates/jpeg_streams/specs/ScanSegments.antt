@@ -1,0 +1,262 @@
+-- What a scan adds to what was found: its tables, its data, and the planes that it decides (T.81,
+-- B.2.3).
+use Rattle.std.specs.Prelude.{ℕ, zero, suc, ◌+◌, ◌-◌, ◌*◌, ◌==◌, ◌&&◌}
+use Rattle.std.specs.Prelude.{nat_lt, List, [], ◌∷◌, ◌++◌, map, length, take, drop, set}
+use Rattle.std.specs.Prelude.{get_or, replicate, slice_index_or, slice_set, Bool, true, false}
+use Rattle.std.specs.Prelude.{Option, Some, None, Result, Ok, Err}
+use Rattle.std.specs.Prelude.{if◌then◌else◌}
+use Rattle.std.specs.List.{list_all}
+use Rattle.jpeg_bits.specs.Reading.{Outcome, Fault, End, ◌>>=◌}
+use Rattle.jpeg_bits.specs.Marker.{next_marker}
+use Rattle.jpeg_bits.specs.Codes.{Table}
+use Rattle.jpeg_bits.specs.DefaultTables.{luminance_dc, chrominance_dc, luminance_ac}
+use Rattle.jpeg_bits.specs.DefaultTables.{chrominance_ac, with_defaults}
+use Rattle.jpeg_bits.specs.declared.codes.HuffmanTableClass.{HuffmanTableClass}
+use Rattle.jpeg_bits.specs.declared.codes.HuffmanTableClass.TheVariants as classes
+use Rattle.jpeg_bits.specs.declared.marker.Marker.{Marker}
+use Rattle.jpeg_bits.specs.declared.marker.Marker.TheVariants.{RST}
+use Rattle.jpeg_segments.specs.declared.parser.CodingProcess.{CodingProcess}
+use Rattle.jpeg_segments.specs.declared.parser.CodingProcess.TheVariants.{DctSequential}
+use Rattle.jpeg_segments.specs.declared.parser.CodingProcess.TheVariants.{DctProgressive, Lossless}
+use Rattle.jpeg_segments.specs.Frame.{Frame, Component}
+use Rattle.jpeg_segments.specs.ScanHeader.{Scan, sos_at}
+use Rattle.jpeg_segments.specs.HuffmanTables.{Tables}
+use Rattle.jpeg_pixels.specs.Zigzag.{values_in_block_order}
+use Rattle.jpeg_pixels.specs.Planes.{plane_of}
+use Rattle.jpeg_bits.specs.Passes.{Pass, Via, Block}
+use Rattle.jpeg_streams.specs.Rasters.{in_raster}
+use Rattle.jpeg_streams.specs.Order.{spots_of, mcu_size}
+use Rattle.jpeg_streams.specs.Scans.{Arrays, zero_arrays, no_table, arrays_at}
+use Rattle.jpeg_lossless.specs.Scans.{scan_at}
+use Rattle.jpeg_streams.specs.LosslessScans.{LosslessCoding, lossless_codings}
+use Rattle.jpeg_streams.specs.LosslessScans.{mcus_down, way_of, with_samples}
+use Rattle.jpeg_streams.specs.LosslessScans.{without_factors}
+use Rattle.jpeg_streams.specs.Needed.{first_of, needed}
+use Rattle.jpeg_streams.specs.declared.before.Before.{Before}
+use Rattle.jpeg_streams.specs.declared.before.Before.TheVariants.{FirstScan, LaterScan}
+use Rattle.jpeg_streams.specs.Found.{Found, none_finished}
+use Rattle.jpeg_streams.specs.Segments.{Turn}
+
+-- ---- scans
+
+abbrev pub is_progressive : CodingProcess → Bool
+is_progressive DctSequential = false
+is_progressive DctProgressive = true
+is_progressive Lossless = false
+
+-- what a scan codes
+unfoldable pub pass_of : Scan → Pass
+pass_of scan =
+    record {
+      is_first = scan.high == 0;
+      ss = scan.first;
+      se = scan.after - 1;
+      al = scan.low;
+    }
+
+-- The Huffman tables in force for a scan. In a frame of an MJPEG stream the default ones stand in
+-- the unset places that the scan names.
+unfoldable pub tables_of : Found → Scan → Tables
+tables_of found scan =
+    if found.metadata.avi1 then record {
+      dc = with_defaults luminance_dc chrominance_dc scan.dc_places found.huffman.dc;
+      ac = with_defaults luminance_ac chrominance_ac scan.ac_places found.huffman.ac;
+    } else found.huffman
+
+-- A component of a scan: its place in the frame, the component, its quantization table, and its
+-- Huffman tables.
+pub record Coding : Type 0 where
+  pub place : ℕ
+  pub component : Component
+  pub quantization : List ℕ
+  pub dc : Table
+  pub ac : Table
+
+abbrev pub components_of : List Coding → List Component
+components_of codings = map (λ c. c.component) codings
+
+-- a table that has to be there where the scan needs it
+abbrev pub needed_if : Bool → HuffmanTableClass → Option Table → Result Table Fault
+needed_if true class table = needed table
+needed_if false class table = Ok (no_table class)
+
+-- The quantization table is needed, a table for DC where the pass has DC, also in a refinement, and
+-- one for AC where it has AC.
+unfoldable pub component_coding : Found → Frame → Pass → Tables → ℕ → ℕ → ℕ → Result Coding Fault
+component_coding found frame p tables place dc_place ac_place = do
+  component ← needed (first_of (drop place frame.components))
+  quantization ← needed (slice_index_or found.quantization component.factors.quantization None)
+  dc ← needed_if (p.ss == 0) classes.DC (slice_index_or tables.dc dc_place None)
+  ac ← needed_if (nat_lt 0 p.se) classes.AC (slice_index_or tables.ac ac_place None)
+  Ok (record {
+    place = place;
+    component = component;
+    quantization = quantization;
+    dc = dc;
+    ac = ac;
+  })
+
+-- those at some places, with the places of their tables
+unfoldable pub codings_from : Found → Frame → Pass → Tables → List ℕ → List ℕ → List ℕ
+    → Result (List Coding) Fault
+codings_from found frame p tables (place ∷ places) (d ∷ dc_places) (a ∷ ac_places) =
+    component_coding found frame p tables place d a
+    >>= (λ c. codings_from found frame p tables places dc_places ac_places
+    >>= (λ others. Ok (c ∷ others)))
+codings_from found frame p tables _ _ _ = Ok []
+
+unfoldable pub codings_of : Found → Frame → Scan → Result (List Coding) Fault
+codings_of found frame scan =
+    codings_from found frame (pass_of scan) (tables_of found scan) scan.components scan.dc_places
+    scan.ac_places
+
+-- how the blocks of each component of a scan are coded, from a slot on
+unfoldable pub vias_from : ℕ → List Coding → List Via
+vias_from slot [] = []
+vias_from slot (c ∷ more) = record { component = slot; dc = c.dc; ac = c.ac } ∷ vias_from (slot + 1)
+    more
+
+-- The blocks of a frame's components before a scan: in a progressive frame those held, and in a
+-- sequential one zeros.
+unfoldable pub arrays_before : Found → Frame → Arrays
+arrays_before found frame = if is_progressive frame.process && found.scanned then found.held
+    else zero_arrays frame.components
+
+-- The blocks of the scan's components after it, and the marker after it, if it is met.
+unfoldable pub scan_arrays : Found → Frame → Scan → List Coding → List ℕ
+    → Outcome (Arrays × Option Marker)
+scan_arrays found frame scan codings bytes =
+    let components = map (λ c. c.component) codings in
+    arrays_at (pass_of scan) (found.restart * mcu_size components) (vias_from 0 codings)
+    (spots_of frame components)
+    (map (λ c. get_or (arrays_before found frame) c.place []) codings) bytes
+
+-- ---- after a scan
+
+-- The samples of a component by its quantization table in zigzag order and its blocks, those of all
+-- MCUs in raster order.
+unfoldable pub plane_by : Component → List ℕ → List Block → List ℕ
+plane_by c quantization blocks =
+    plane_of c.scale (values_in_block_order quantization) c.blocks_wide c.blocks_high
+    (in_raster c.blocks_wide blocks)
+
+-- A pass at level 0 finishes its places.
+unfoldable pub finished_by : Pass → List Bool → List Bool
+finished_by p marks = if p.al == 0
+    then take p.ss marks ++ (replicate (suc p.se - p.ss) true ++ drop (suc p.se) marks) else marks
+
+-- The first plane stays.
+abbrev pub decided : Option (List ℕ) → List ℕ → Option (List ℕ)
+decided None plane = Some plane
+decided (Some first) plane = Some first
+
+-- A component of the scan whose places are all finished now: its plane is decided, by the
+-- quantization table in force.
+unfoldable pub with_plane : Coding → List Block → List Bool → List (Option (List ℕ))
+    → List (Option (List ℕ))
+with_plane c blocks marks planes =
+    elim (list_all (λ mark. mark) marks) [
+      | true ↦ slice_set planes c.place (decided (slice_index_or planes c.place None)
+          (plane_by c.component c.quantization blocks))
+      | false ↦ planes
+    ]
+
+unfoldable pub with_blocks : Pass → Coding → List Block → Found → Found
+with_blocks p c blocks found =
+    let marks = finished_by p (slice_index_or found.finished c.place none_finished) in
+    record found {
+      finished = slice_set found.finished c.place marks;
+      planes = with_plane c blocks marks found.planes;
+    }
+
+-- with each component of the scan
+unfoldable pub with_arrays : Pass → List Coding → Arrays → Found → Found
+with_arrays p (c ∷ codings) (blocks ∷ arrays) found =
+    with_arrays p codings arrays (with_blocks p c blocks found)
+with_arrays p _ _ found = found
+
+-- the blocks of a scan's components in place of those of the frame
+unfoldable pub put_arrays : List Coding → Arrays → Arrays → Arrays
+put_arrays (c ∷ codings) (blocks ∷ arrays) held =
+    put_arrays codings arrays (set held c.place blocks)
+put_arrays _ _ held = held
+
+abbrev pub held_after : Found → Frame → List Coding → Arrays → Arrays
+held_after found frame codings arrays = if is_progressive frame.process
+    then put_arrays codings arrays (arrays_before found frame) else []
+
+unfoldable pub after_scan : Found → Frame → Scan → List Coding → Arrays → Found
+after_scan found frame scan codings arrays =
+    with_arrays (pass_of scan) codings arrays (record found {
+      scanned = true;
+      held = held_after found frame codings arrays;
+    })
+
+-- The marker after a scan, where restart markers at its end are passed over, fewer than this many.
+unfoldable pub after_restarts : ℕ → Option Marker → List ℕ → Outcome (Option Marker)
+after_restarts zero met bytes = Err End
+after_restarts (suc turns) (Some (RST n)) bytes =
+    next_marker bytes >>= (λ m. after_restarts turns (Some m.0) m.1)
+after_restarts (suc turns) met bytes = Ok (met, bytes)
+
+abbrev pub scan_before : Found → Before
+scan_before found = if found.scanned then LaterScan else FirstScan
+
+-- A scan of blocks.
+unfoldable pub blocks_scan : Found → Frame → Scan → List ℕ → Outcome Turn
+blocks_scan found frame scan bytes = do
+  codings ← codings_of found frame scan
+  read ← scan_arrays found frame scan codings bytes
+  met ← after_restarts (suc (length read.1)) read.0.1 read.1
+  Ok (
+    record {
+      found = after_scan found frame scan codings read.0.0;
+      before = scan_before found;
+      met = met.0;
+      ended = false;
+    },
+    met.1,
+  )
+
+-- The samples of a lossless scan, and the marker after it, if it is met.
+abbrev pub scan_samples : Found → Frame → Scan → List LosslessCoding → List ℕ
+    → Outcome (List (List ℕ) × Option Marker)
+scan_samples found frame scan codings bytes =
+    scan_at (way_of frame scan.predictor scan.point_transform codings) (mcus_down frame codings)
+    found.restart scan.point_transform bytes
+
+-- The last scan of a component decides its samples.
+abbrev pub after_samples : Found → List LosslessCoding → List (List ℕ) → Found
+after_samples found codings planes =
+    record found {
+      scanned = true;
+      samples = with_samples (map (λ k. k.place) codings) planes
+          found.samples;
+    }
+
+-- A lossless scan. It has no quantization tables, and no default tables.
+unfoldable pub lossless_scan : Found → Frame → Scan → List ℕ → Outcome Turn
+lossless_scan found frame scan bytes = do
+  codings ← lossless_codings found.huffman.dc frame scan.components scan.dc_places
+  read ← scan_samples found frame scan codings bytes
+  met ← after_restarts (suc (length read.1)) read.0.1 read.1
+  Ok (
+    record {
+      found = after_samples found codings read.0.0;
+      before = scan_before found;
+      met = met.0;
+      ended = false;
+    },
+    met.1,
+  )
+
+abbrev pub scan_by : CodingProcess → Found → Frame → Scan → List ℕ → Outcome Turn
+scan_by DctSequential found frame scan bytes = blocks_scan found frame scan bytes
+scan_by DctProgressive found frame scan bytes = blocks_scan found frame scan bytes
+scan_by Lossless found frame scan bytes = lossless_scan found (without_factors frame) scan bytes
+
+unfoldable pub scan_segment : Found → List ℕ → Outcome Turn
+scan_segment found bytes = do
+  frame ← needed found.frame
+  scan ← sos_at frame bytes
+  scan_by frame.process found frame scan.0 scan.1
