@@ -1,20 +1,24 @@
+-- the meaning
 pub mod Stream
 pub mod Reading
 pub mod Marker
-pub mod NextMarker
 pub mod Entropy
 pub mod Readers
-pub mod Reservoir
 pub mod Codes
 pub mod DefaultTables
-pub mod Refusals
-pub mod Ends
-pub mod Written
-pub mod ShortCodes
 pub mod Bands
-pub mod Lookups
 pub mod Refinement
-pub mod Pieces
 pub mod Passes
-pub mod BlockView
 pub mod Intervals
+-- what a writer emits
+pub mod Written
+-- what the laws say
+pub mod NextMarker
+pub mod Ends
+-- the code's own words: no public clause of the decoder rests on these
+pub mod Refusals
+pub mod Reservoir
+pub mod ShortCodes
+pub mod Lookups
+pub mod Pieces
+pub mod BlockView

@@ -1,4 +1,6 @@
-pub mod Strips
-pub mod Scanning
+-- what a caller sees of a decoder
 pub mod Seen
+-- the code's own words: no public clause rests on these
+pub mod Scanning
+pub mod Strips
 pub mod Steps

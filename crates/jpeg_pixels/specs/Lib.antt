@@ -1,14 +1,16 @@
+-- the meaning
 pub mod Samples
 pub mod Scaled
-pub mod SmallBlocks
-pub mod Lanes
-pub mod LaneRows
-pub mod Blocks
 pub mod Zigzag
 pub mod Planes
 pub mod Upsampling
 pub mod Colour
 pub mod Pictures
+-- the code's own words: no public clause of the decoder rests on these
+pub mod Blocks
+pub mod SmallBlocks
+pub mod Lanes
+pub mod LaneRows
 pub mod PicturesView
 pub mod Workers
 pub mod GrowingView

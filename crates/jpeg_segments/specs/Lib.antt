@@ -1,9 +1,12 @@
+-- the meaning
 pub mod Quantization
 pub mod HuffmanTables
 pub mod Frame
-pub mod Application
-pub mod FrameView
 pub mod ScanHeader
+pub mod Application
 pub mod Scales
+-- what a writer emits
 pub mod WrittenSegments
 pub mod ScanHeaders
+-- the types of the code as these definitions see them
+pub mod FrameView

@@ -1,25 +1,21 @@
+-- the meaning
 pub mod Order
 pub mod Scans
 pub mod Rasters
-pub mod InTurn
-pub mod McuRows
-pub mod Layout
 pub mod Needed
 pub mod LosslessScans
+pub mod ColourChoice
 pub mod Found
 pub mod Segments
 pub mod ScanSegments
 pub mod FoundPictures
 pub mod Stream
 pub mod Reported
-pub mod Sound
-pub mod Profile
 pub mod States
-pub mod Output
-pub mod PrintedImages
-pub mod Worked
 pub mod Pixels
-pub mod ColourChoice
+pub mod Profile
+pub mod Output
+-- what a writer emits, and its picture
 pub mod Levels
 pub mod WrittenData
 pub mod WrittenScans
@@ -27,10 +23,18 @@ pub mod SaidSegments
 pub mod WrittenImages
 pub mod ArrayPictures
 pub mod WholeImages
-pub mod WorkedImages
 pub mod DecodedImages
+pub mod PrintedImages
 pub mod WrittenLossless
-pub mod WrittenParts
-pub mod EndPlanes
 pub mod DecodedSamples
+-- streams worked by hand
+pub mod Worked
+pub mod WorkedImages
 pub mod WorkedSamples
+-- the code's own words: no public clause rests on these
+pub mod InTurn
+pub mod McuRows
+pub mod Layout
+pub mod Sound
+pub mod EndPlanes
+pub mod WrittenParts
