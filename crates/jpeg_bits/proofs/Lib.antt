@@ -26,3 +26,4 @@ pub mod PieceWalks
 pub mod RefinedPieces
 pub mod RefinedBands
 pub mod BlockParts
+pub mod Corrections

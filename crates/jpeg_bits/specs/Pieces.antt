@@ -1,5 +1,5 @@
 -- A refinement of a band, token by token, as it is read (T.81, G.1.2.3).
-use Rattle.std.specs.Prelude.{ℕ, zero, suc, ◌+◌, ◌-◌, ◌/◌, ◌%◌, ◌^◌, ◌==◌, if◌then◌else◌, List, []}
+use Rattle.std.specs.Prelude.{ℕ, zero, suc, ◌+◌, ◌-◌, ◌/◌, ◌%◌, ◌^◌, ◌*◌, ◌==◌, if◌then◌else◌, List, []}
 use Rattle.std.specs.Prelude.{◌∷◌, ◌++◌, length, take, drop, ℤ, Result, Ok, Err}
 use Rattle.jpeg_bits.specs.Reading.{Fault, Malformed, ◌>>=◌}
 use Rattle.jpeg_bits.specs.Entropy.{Text, bits_from}
@@ -25,6 +25,10 @@ run_from r t = do
 
 abbrev pub moved_within : ℕ → ℤ → Result ℤ Fault
 moved_within by z = if fits_i16 (moved by z) then Ok (moved by z) else Err Malformed
+
+-- How far a correction bit moves a number that isn't 0.
+abbrev pub distance_of : ℕ → ℤ → ℕ → ℕ
+distance_of al z b = b * (1 - bit_of al z) * 2 ^ al
 
 -- A place of a piece: where it isn't zero it has a correction bit.
 unfoldable pub place_from : ℕ → ℤ → Text → Result (ℤ × Text) Fault

@@ -7,6 +7,7 @@ ghost use Rattle.jpeg_bits.specs.Entropy.{Takes};
 ghost use Rattle.jpeg_bits.specs.Refinement.{bit_of, new_number};
 ghost use Rattle.jpeg_bits.specs.Pieces.{moved_within, run_from, place_from, piece_from};
 ghost use Rattle.jpeg_bits.specs.Pieces.{refinement_from, refined_band_from, corrected};
+ghost use Rattle.jpeg_bits.specs.Pieces.{distance_of};
 
 use crate::ahead::Held;
 use crate::error::{Error, hold_format_error};
@@ -68,20 +69,30 @@ fn read_run<R: Read + Drop>(
     }
 }
 
+/// How far a correction bit moves a number that isn't 0: by the unit of the point transform, where
+/// the bit is set and the number's own isn't.
+#[inline(always)]
+fn distance(value: i16, al: u8, bit: u16) -> u16
+    requires level { al ≤ 13 }
+    requires bit { bit < 2 }
+    ensures distance { result ≡ distance_of al value bit }
+    ensures most { result ≤ 8192 }
+{
+    let lacking = 1 - (value.cast_unsigned() >> al) % 2;
+    bit * lacking * power_of_two(al)
+}
+
 /// A number that isn't 0, moved away from zero. A refusal is held in its place, and answered by
-/// none.
-#[inline]
-fn move_away(alloc: Global, value: i16, al: u8, refusal: &mut Option<Error>) -> Option<i16>
-    requires { al ≤ 13 }
-    ensures moved { Gives (moved_within (2 ^ al) value) (answer_of result refusal.new) }
+/// none. Nothing branches by the distance or the sign, which no processor foresees.
+#[inline(always)]
+fn move_away(alloc: Global, value: i16, by: u16, refusal: &mut Option<Error>) -> Option<i16>
+    requires { by ≤ 8192 }
+    ensures moved { Gives (moved_within by value) (answer_of result refusal.new) }
     ensures held { IsHeld result refusal.new }
 {
-    let moved = if value >= 0 {
-        value.checked_add(unit(al))
-    } else {
-        value.checked_sub(unit(al))
-    };
-    match moved {
+    let step = by as i16;
+    let signed_step = if value >= 0 { step } else { -step };
+    match value.checked_add(signed_step) {
         Some(moved) => Some(moved),
         None => {
             hold_format_error(alloc, "a coefficient overflows", refusal);
@@ -111,10 +122,7 @@ fn correct<R: Read + Drop>(
     let Some(bit) = held.take_number(source, 1, refusal) else {
         return None;
     };
-    if bit == 0 || !lacks_bit(value, al) {
-        return Some(value);
-    }
-    move_away(held.alloc(), value, al, refusal)
+    move_away(held.alloc(), value, distance(value, al, bit), refusal)
 }
 
 /// Corrects a piece, which ends with the zero after this many zeros, or is the whole rest of the

@@ -1,0 +1,21 @@
+use Rattle.std.proofs.Common.{◌≡◌, ℕ, w16, ap, ◌∙◌, sym}
+use Rattle.std.proofs.lemmas.Int.{to_z-of_z}
+use Rattle.std.specs.Int.{cast_signed, cast_unsigned}
+use Rattle.jpeg_bits.specs.Entropy.{bits_from}
+use Rattle.jpeg_bits.specs.Pieces.{place_from, moved_within, distance_of}
+use Rattle.jpeg_bits.proofs.Corrections.{place-moved, Takes-given, nonzero, given}
+use Rattle.jpeg_bits.proofs.refinement.correct.Goals as goal
+
+pub returns-clause-place : goal.returns-clause-place
+returns-clause-place g c =
+    let value = c.args.value in
+    let same : cast_signed w16 (cast_unsigned w16 value) ≡ value = to_z-of_z w16 value c.ranges.value in
+    let by : c.distance.result ≡ distance_of c.args.al value c.in-Some.bit
+    = rw same at c.distance.ensures.distance in
+    Takes-given (place_from c.args.al value) (bits_from 1) c.args.held.now c.take_number.new.self
+    c.args.source.now c.take_number.new.source c.in-Some.bit (moved_within c.distance.result value)
+    c.move_away.result c.move_away.new.refusal
+    (λ t u e. place-moved c.args.al value c.in-Some.bit t u
+    (nonzero value (λ h. c.if-value-eq0.false (ap (cast_unsigned w16) h))) c.ranges.value c.in-Some.ensures.small e
+    ∙ ap (λ (n : ℕ). given u (moved_within n value)) (sym by))
+    c.in-Some.ensures.bits (rw same at c.move_away.ensures.moved)
