@@ -24,7 +24,8 @@ small-distance (suc (suc b)) l p h k m = absurd (omega arith)
 -- a number that isn't moved
 stays : (z : ℤ) (n : ℕ) → FitsSigned w16 z → n ≡ 0 → moved_within n z ≡ Ok z
 stays (pos k) n f e = let s = f.sfits in let m : k + n ≡ k = omega arith in rw (m, lt-ltb k (2 ^ 15) (omega arith)) refl
-stays (negsuc k) n f e = let s = f.sfits in let m : k + n ≡ k = omega arith in rw (m, lt-ltb k (2 ^ 15) (omega arith)) refl
+stays (negsuc k) n f e =
+    let s = f.sfits in let m : k + n ≡ k = omega arith in rw (m, lt-ltb k (2 ^ 15) (omega arith)) refl
 
 -- a value, and the text after it
 abbrev pub given : {Y : Type 0} → Text → Result Y Fault → Result (Y × Text) Fault

@@ -1,6 +1,7 @@
 -- A byte that is taken from the front of a buffer.
 use Rattle.std.proofs.Common.{◌≡◌, ℕ, ◌<◌, Bool, true, false, List, [], ◌∷◌, ◌++◌, length, take, slice_set}
-use Rattle.std.proofs.Common.{slice_index_or, Option, Some, None, if◌then◌else◌, refl, arith}
+use Rattle.std.proofs.Common.{slice_index_or, Option, Some, None, if◌then◌else◌, refl, arith, ap, sym, drop, ◌-◌, ◌≤◌}
+use Rattle.std.proofs.lemmas.List.{take_all}
 use Rattle.std.specs.Io.KnownBytes.{Consumes, prepend_known}
 use Rattle.std.specs.Io.BufRead.{DropsConsumable}
 
@@ -20,3 +21,13 @@ takes-front z [] buf inner new some one h = absurd (omega (arith, some))
 takes-front z (x ∷ held) [] inner new some one h = absurd (omega (arith, one))
 takes-front z (x ∷ held) (b ∷ []) inner new some one h = consumes-front z x held inner new h
 takes-front z (x ∷ held) (b ∷ c ∷ rest) inner new some one h = absurd (omega (arith, one))
+
+-- the first of some bytes, and the others
+pub takes-first : (bytes buf : List ℕ) → 0 < length bytes → length buf ≡ 1
+    → bytes ≡ take 1 (slice_set buf 0 (slice_index_or bytes 0 0)) ++ take (length bytes - 1) (drop 1 bytes)
+takes-first [] buf some one = absurd (omega (arith, some))
+takes-first (x ∷ bytes) [] some one = absurd (omega (arith, one))
+takes-first (x ∷ bytes) (b ∷ []) some one =
+    let n : length bytes ≤ length (x ∷ bytes) - 1 = omega arith in
+    ap (λ (l : List ℕ). x ∷ l) (sym (take_all (length (x ∷ bytes) - 1) bytes n))
+takes-first (x ∷ bytes) (b ∷ c ∷ rest) some one = absurd (omega (arith, one))

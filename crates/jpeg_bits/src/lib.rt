@@ -17,6 +17,7 @@ pub mod marker;
 pub mod reads;
 mod refinement;
 pub mod scan;
+pub mod slice_reader;
 pub mod source;
 #[cfg(test)]
 mod tests;

@@ -2,7 +2,7 @@
 //! progressive streams of 8 bits, and lossless ones of 2 to 16 bits, with Huffman coding.
 //!
 //! [`Decoder`] takes the bytes from any reader. A [`ByteReader`] over a buffered reader is the
-//! fastest for files and pipes, and a slice of bytes is a reader too:
+//! fastest for files and pipes, and a [`SliceReader`] for bytes in memory:
 //!
 //!     let reader = ByteReader::new(BufReader::new(alloc, file)?);
 //!     let mut decoder = Decoder::new(alloc, reader)?;
@@ -12,9 +12,8 @@
 //!
 //! `read_info` reads the header alone, which bounds the memory that a picture would need before any
 //! of it is taken (`set_max_decoding_buffer_size` refuses larger ones). `scale` asks for the
-//! picture
-//! at 1/8, 1/4, 1/2 or all of its size. [`run::run`] is a whole program: from a reader to a line of
-//! text and the pixels on a writer.
+//! picture at 1/8, 1/4, 1/2 or all of its size. [`run::run`] is a whole program: from a reader to a
+//! line of text and the pixels on a writer.
 //!
 //! Every call returns, whatever the reader gives, with a value or an [`Error`] that names what was
 //! wrong; after a refusal the frame and the metadata that were read before it are still there. What
@@ -51,6 +50,7 @@ pub mod worked;
 
 pub use decoder::{Decoder, ImageInfo, PixelFormat};
 pub use jpeg_bits::byte_reader::ByteReader;
+pub use jpeg_bits::slice_reader::SliceReader;
 pub use jpeg_bits::color_transform::ColorTransform;
 pub use jpeg_bits::error::{Error, UnsupportedFeature};
 pub use jpeg_bits::{error, huffman, marker};

@@ -16,7 +16,7 @@ ghost use Rattle.jpeg_streams.specs.WrittenScans.{Coefficients};
 #[cfg(test)]
 mod tests;
 
-use jpeg_decoder::Decoder;
+use jpeg_decoder::{Decoder, SliceReader};
 use jpeg_decoder::error::Result;
 use std::alloc::Global;
 
@@ -35,6 +35,6 @@ pub fn picture_of(alloc: Global, bytes: &[u8]) -> Result<Vec<u8>>
         IfOk result (λ pixels.
         picture_of_array default_settings final array last ≡ Ok pixels.items) }
 {
-    let mut decoder = Decoder::new(alloc, bytes)?;
+    let mut decoder = Decoder::new(alloc, SliceReader::new(bytes))?;
     decoder.decode()
 }

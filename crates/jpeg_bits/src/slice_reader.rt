@@ -1,0 +1,39 @@
+//! A reader over bytes in memory, which are taken one by one.
+
+use std::io::{Read, Result};
+
+/// Bytes in memory, for a decoder. Entropy-coded data are read byte by byte: a read of one byte
+/// takes it off the slice without a call, which a slice's own `read` makes for each.
+#[derive(Drop)]
+pub struct SliceReader<'a> {
+    bytes: &'a [u8],
+}
+
+impl<'a> SliceReader<'a> {
+    ghost use Rattle.std.specs.Prelude.{◌≡◌};
+
+    /// A reader of all of the bytes.
+    pub fn new(bytes: &'a [u8]) -> SliceReader<'a>
+        ensures { result.bytes.now ≡ bytes.now }
+    {
+        SliceReader { bytes }
+    }
+}
+
+impl<'a> Read for SliceReader<'a> {
+    ghost use Rattle.std.specs.Prelude.{Some};
+
+    ghost remaining = { λ r. Some r.bytes.now };
+
+    #[inline(always)]
+    fn read(&mut self, buf: &mut [u8]) -> Result<usize> {
+        if buf.len() == 1 {
+            if self.bytes.len() > 0 {
+                buf[0] = self.bytes[0];
+                self.bytes = &self.bytes[1..];
+                return Ok(1);
+            }
+        }
+        self.bytes.read(buf)
+    }
+}
