@@ -26,3 +26,8 @@ pub mod PieceWalks
 pub mod RefinedPieces
 pub mod RefinedBands
 pub mod BlockParts
+pub mod ZigzagPlaces
+pub mod ZigzagParts
+pub mod BlockLoop
+pub mod BlockWalks
+pub mod BlockRefinement

@@ -21,3 +21,4 @@ pub mod source;
 #[cfg(test)]
 mod tests;
 mod tokens;
+mod zigzag;
