@@ -88,7 +88,16 @@ some_places ss se block order end some =
     let h = pos-of-ne se some in
     omega (arith, part-length (ss - 1 + 1) (se + 1) block (omega arith))
 
-pub ruleset band_rules = (no_places, some_places, band_none, band_run, band_first, band_refined, band_corrected, band_refused)
+pub ruleset band_rules = (
+  no_places,
+  some_places,
+  band_none,
+  band_run,
+  band_first,
+  band_refined,
+  band_corrected,
+  band_refused,
+)
 
 -- ---- DC
 
@@ -152,7 +161,8 @@ with_dc p d acs b = gives (record { dc = d.0; acs = with_band p acs b.0 }, d.1, 
 
 -- what stands after DC
 unfoldable pub after_dc : Pass → Table → ℕ → List ℤ → ℤ × ℤ → Reads (Block × ℤ × ℕ)
-after_dc p ac run block d t = read_on (with_dc p d (to_block block).acs) (band_part p ac (band_of p (to_block block).acs) run t)
+after_dc p ac run block d t =
+    read_on (with_dc p d (to_block block).acs) (band_part p ac (band_of p (to_block block).acs) run t)
 
 block-whole : (p : Pass) (dc ac : Table) (predictor : ℤ) (run : ℕ) (block : List ℤ) (t : Text)
     → block_from p dc ac predictor run (to_block block) t ≡ read_on (after_dc p ac run block)
@@ -184,7 +194,8 @@ pub band_step : (p : Pass) (ac : Table) (value next : ℤ) (run more : ℕ) (blo
     → after_dc p ac run block (value, next) t ≡ Ok ((to_block blk, next, more), u)
 unfolding after_dc
 band_step p ac value next run more block part band blk t u e b h =
-    ap (read_on (with_dc p (value, next) (to_block block).acs)) (ap (λ (xs : List ℤ). band_part p ac xs run t) (sym e) ∙ h)
+    ap (read_on (with_dc p (value, next) (to_block block).acs)) (ap (λ (xs : List ℤ). band_part p ac xs run t) (sym e)
+    ∙ h)
     ∙ ap (λ (x : Block). Ok ((x, next, more), u)) (sym b)
 
 pub band_fails : (p : Pass) (ac : Table) (value next : ℤ) (run : ℕ) (block part : List ℤ) (t : Text) (f : Fault)
@@ -192,7 +203,8 @@ pub band_fails : (p : Pass) (ac : Table) (value next : ℤ) (run : ℕ) (block p
     → band_part p ac part run t ≡ Err f → after_dc p ac run block (value, next) t ≡ Err f
 unfolding after_dc
 band_fails p ac value next run block part t f e h =
-    ap (read_on (with_dc p (value, next) (to_block block).acs)) (ap (λ (xs : List ℤ). band_part p ac xs run t) (sym e) ∙ h)
+    ap (read_on (with_dc p (value, next) (to_block block).acs)) (ap (λ (xs : List ℤ). band_part p ac xs run t) (sym e)
+    ∙ h)
 
 -- the band of a block whose DC is written
 pub block_part : (p : Pass) (block : List ℤ) (y : ℤ) → length block ≡ 64

@@ -1,6 +1,6 @@
 -- Bands of a refinement, by the zigzag places of a block in block order.
-use Rattle.std.proofs.Common.{◌≡◌, ℕ, ◌+◌, ◌-◌, ◌<◌, ◌≤◌, List, ◌++◌, length, get_or, set, take, drop, ℤ, Result, Ok, Err}
-use Rattle.std.proofs.Common.{Option, Some, None, is_some, Bool}
+use Rattle.std.proofs.Common.{◌≡◌, ℕ, ◌+◌, ◌-◌, ◌<◌, ◌≤◌, List, ◌++◌, length, get_or, set, take, drop, ℤ}
+use Rattle.std.proofs.Common.{Result, Ok, Err, Option, Some, None, is_some, Bool}
 use Rattle.std.proofs.Common.{sym, ap, ◌∙◌, arith}
 use Rattle.jpeg_bits.specs.Stream.{Stream}
 use Rattle.jpeg_bits.specs.Reading.{Fault, ◌>>=◌}
@@ -19,8 +19,9 @@ use Rattle.jpeg_bits.specs.BlockView.{IsPass}
 use Rattle.jpeg_bits.specs.ZigzagParts.{band_start, band_end, band_in, rest_in, IsKeptAround}
 use Rattle.jpeg_bits.proofs.BandLoop.{Leaves}
 use Rattle.jpeg_bits.proofs.BandSteps.{Leaves-ok, Leaves-err, Leaves-whole}
-use Rattle.jpeg_bits.proofs.RefinedBands.{refined_left, refined_step, refined_more, refined_token, refined_none, refined_all}
-use Rattle.jpeg_bits.proofs.RefinedBands.{zeros_of, step_refused, zeros_step, new_step, end_step, whole_piece}
+use Rattle.jpeg_bits.proofs.RefinedBands.{refined_left, refined_step, refined_more, refined_token, refined_none}
+use Rattle.jpeg_bits.proofs.RefinedBands.{refined_all, zeros_of, step_refused, zeros_step, new_step}
+use Rattle.jpeg_bits.proofs.RefinedBands.{end_step, whole_piece}
 use Rattle.jpeg_bits.proofs.ZigzagParts.{band-length, part-length, part-rest, part-put, part-set}
 
 -- what the band from zigzag place k on gives, after what stands before it
@@ -65,7 +66,8 @@ module _ (table : Table) (p : Pass) (block : List ℤ) (k : ℕ) (t u : Text) (i
   pub no-token-at : (f : Fault) → refinement_from table p.al t ≡ Err f → refined_at table p block k t ≡ Err f
   no-token-at f h =
       refined_more table p.al (band_in p block) (k - band_start p) t inside
-      ∙ ap (λ (o : Result (Refinement × Text) Fault). o >>= λ (x : Refinement × Text). step_at table p block k x.0 x.1) h
+      ∙ ap (λ (o : Result (Refinement × Text) Fault). o
+      >>= λ (x : Refinement × Text). step_at table p block k x.0 x.1) h
 
   pub refused-at : (all : ℕ) (x : Refinement) (f : Fault) → band_end p - k ≤ all
       → piece_from p.al (zeros_of all x) (rest_in p k block) t ≡ Err f → step_at table p block k x t ≡ Err f
@@ -117,52 +119,54 @@ module _ (table : Table) (p : Pass) (whole : Reads Band) (a b d : Ahead) (old cu
   before = omega arith
 
   pub token-refused : {X : Type 0} (view : X → Band) (x : Error) → Leaves whole a old (refined_at table p block k) b cur
-      → Takes (λ (t : Refinement). t) (refinement_from table p.al) b cur (Err x) d mid → Takes view whole a old (Err x) d mid
+      → Takes (λ (t : Refinement). t) (refinement_from table p.al) b cur (Err x) d mid
+      → Takes view whole a old (Err x) d mid
   token-refused view x h q =
-      Leaves-err view (λ (t : Refinement). t) whole (refined_at table p block k) (refinement_from table p.al) a b d old cur
-      mid x (λ t f h. no-token-at table p block k t t is from before f h) h q
+      Leaves-err view (λ (t : Refinement). t) whole (refined_at table p block k) (refinement_from table p.al) a b d old
+      cur mid x (λ t f h. no-token-at table p block k t t is from before f h) h q
 
   -- a token is read, and then the piece that it asks for
   module _ (f : Ahead) (new : Stream) (x : Refinement) (h : Leaves whole a old (refined_at table p block k) b cur)
-      (q : Takes (λ (t : Refinement). t) (refinement_from table p.al) b cur (Ok x) d mid) (next : ℕ) (blk : List ℤ) where
-    after-token : Leaves whole a old (step_at table p block k x) d mid
-    after-token =
-        Leaves-ok (λ (t : Refinement). t) whole (refined_at table p block k) (step_at table p block k x)
-        (refinement_from table p.al) a b d old cur mid x (λ t u h. token-at table p block k t u is from before x h) h q
+      (q : Takes (λ (t : Refinement). t) (refinement_from table p.al) b cur (Ok x) d mid) (next : ℕ) (blk : List ℤ)
+    where
+      after-token : Leaves whole a old (step_at table p block k x) d mid
+      after-token =
+          Leaves-ok (λ (t : Refinement). t) whole (refined_at table p block k) (step_at table p block k x)
+          (refinement_from table p.al) a b d old cur mid x (λ t u h. token-at table p block k t u is from before x h) h q
 
-    pub piece-refused : {X : Type 0} (view : X → Band) (all : ℕ) (y : Error) → end - k ≤ all
-        → Takes (to_piece p k blk) (piece_at p block k (zeros_of all x)) d mid (Err y) f new
-        → Takes view whole a old (Err y) f new
-    piece-refused view all y few r =
-        Leaves-err view (to_piece p k blk) whole (step_at table p block k x) (piece_at p block k (zeros_of all x)) a d f
-        old mid new y (λ t g h. refused-at table p block k t t is from before all x g (omega arith) h) after-token r
+      pub piece-refused : {X : Type 0} (view : X → Band) (all : ℕ) (y : Error) → end - k ≤ all
+          → Takes (to_piece p k blk) (piece_at p block k (zeros_of all x)) d mid (Err y) f new
+          → Takes view whole a old (Err y) f new
+      piece-refused view all y few r =
+          Leaves-err view (to_piece p k blk) whole (step_at table p block k x) (piece_at p block k (zeros_of all x)) a d f
+          old mid new y (λ t g h. refused-at table p block k t t is from before all x g (omega arith) h) after-token r
 
-    pub zeros-read : IsKeptAround k (band_end p) block blk → k ≤ next → x ≡ Zeros
-        → Takes (to_piece p k blk) (piece_at p block k 15) d mid (Ok next) f new
-        → Leaves whole a old (refined_at table p blk next) f new
-    zeros-read others after z r =
-        Leaves-ok (to_piece p k blk) whole (step_at table p block k x) (refined_at table p blk next)
-        (piece_at p block k 15) a d f old mid new next (λ t u h. ap (λ (x : Refinement). step_at table p block k x t) z
-        ∙ zeros-at table p block k t u is from before next blk others after h) after-token r
+      pub zeros-read : IsKeptAround k (band_end p) block blk → k ≤ next → x ≡ Zeros
+          → Takes (to_piece p k blk) (piece_at p block k 15) d mid (Ok next) f new
+          → Leaves whole a old (refined_at table p blk next) f new
+      zeros-read others after z r =
+          Leaves-ok (to_piece p k blk) whole (step_at table p block k x) (refined_at table p blk next)
+          (piece_at p block k 15) a d f old mid new next (λ t u h. ap (λ (x : Refinement). step_at table p block k x t) z
+          ∙ zeros-at table p block k t u is from before next blk others after h) after-token r
 
-    pub new-read : (r : ℕ) (v : ℤ) → IsKeptAround k (band_end p) block blk → length blk ≡ 64 → k < next
-        → next ≤ band_end p → x ≡ New r v
-        → Takes (to_piece p k blk) (piece_at p block k r) d mid (Ok next) f new
-        → Leaves whole a old (refined_at table p (set blk (get_or zigzag (next - 1) 0) v) next) f new
-    new-read r v others n after within z m =
-        Leaves-ok (to_piece p k blk) whole (step_at table p block k x)
-        (refined_at table p (set blk (get_or zigzag (next - 1) 0) v) next) (piece_at p block k r) a d f old mid new next
-        (λ t u h. ap (λ (x : Refinement). step_at table p block k x t) z
-        ∙ new-at table p block k t u is from before next blk r v others n after within h) after-token m
+      pub new-read : (r : ℕ) (v : ℤ) → IsKeptAround k (band_end p) block blk → length blk ≡ 64 → k < next
+          → next ≤ band_end p → x ≡ New r v
+          → Takes (to_piece p k blk) (piece_at p block k r) d mid (Ok next) f new
+          → Leaves whole a old (refined_at table p (set blk (get_or zigzag (next - 1) 0) v) next) f new
+      new-read r v others n after within z m =
+          Leaves-ok (to_piece p k blk) whole (step_at table p block k x)
+          (refined_at table p (set blk (get_or zigzag (next - 1) 0) v) next) (piece_at p block k r) a d f old mid new next
+          (λ t u h. ap (λ (x : Refinement). step_at table p block k x t) z
+          ∙ new-at table p block k t u is from before next blk r v others n after within h) after-token m
 
-    pub end-read : {X : Type 0} (view : X → Band) (y : X) (run all : ℕ) → view y ≡ (band_in p blk, run)
-        → IsKeptAround k (band_end p) block blk → end - k ≤ all → x ≡ End run
-        → Takes (to_piece p k blk) (piece_at p block k all) d mid (Ok next) f new → Takes view whole a old (Ok y) f new
-    end-read view y run all w others few z m =
-        Leaves-ok (to_piece p k blk) whole (step_at table p block k x) (λ (t : Text). Ok (view y, t))
-        (piece_at p block k all) a d f old mid new next (λ t u h. ap (λ (x : Refinement). step_at table p block k x t) z
-        ∙ end-at table p block k t u is from before next blk run all others (omega arith) h
-        ∙ ap (λ (band : Band). Ok (band, u)) (sym w)) after-token m
+      pub end-read : {X : Type 0} (view : X → Band) (y : X) (run all : ℕ) → view y ≡ (band_in p blk, run)
+          → IsKeptAround k (band_end p) block blk → end - k ≤ all → x ≡ End run
+          → Takes (to_piece p k blk) (piece_at p block k all) d mid (Ok next) f new → Takes view whole a old (Ok y) f new
+      end-read view y run all w others few z m =
+          Leaves-ok (to_piece p k blk) whole (step_at table p block k x) (λ (t : Text). Ok (view y, t))
+          (piece_at p block k all) a d f old mid new next (λ t u h. ap (λ (x : Refinement). step_at table p block k x t) z
+          ∙ end-at table p block k t u is from before next blk run all others (omega arith) h
+          ∙ ap (λ (band : Band). Ok (band, u)) (sym w)) after-token m
 
 -- a piece that is the whole band
 whole-in : (p : Pass) (block : List ℤ) (start zeros : ℕ) (t : Text) → IsPass p → start ≡ band_start p

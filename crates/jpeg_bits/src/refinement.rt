@@ -8,7 +8,8 @@ ghost use Rattle.jpeg_bits.specs.Refinement.{bit_of, new_number};
 ghost use Rattle.jpeg_bits.specs.Pieces.{moved_within, run_from, place_from, piece_from};
 ghost use Rattle.jpeg_bits.specs.Pieces.{refinement_from, refined_band_from, corrected};
 ghost use Rattle.jpeg_bits.specs.BlockView.{pass_in, IsPass};
-ghost use Rattle.jpeg_bits.specs.ZigzagParts.{band_end, band_in, rest_in, IsKeptAround, KeepsOthers};
+ghost use Rattle.jpeg_bits.specs.ZigzagParts.{band_end, band_in, rest_in, IsKeptAround};
+ghost use Rattle.jpeg_bits.specs.ZigzagParts.{KeepsOthers};
 
 use crate::ahead::Held;
 use crate::blocks::Pass;

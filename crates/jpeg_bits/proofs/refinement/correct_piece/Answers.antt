@@ -1,4 +1,5 @@
-use Rattle.std.proofs.Common.{◌≡◌, ◌≤◌, ◌<◌, ◌-◌, ℤ, ℕ, pos, get_or, length-set, ◌∙◌, ap, sym, w16, SFits, arith, rules, refl}
+use Rattle.std.proofs.Common.{◌≡◌, ◌≤◌, ◌<◌, ◌-◌, ℤ, ℕ, pos, get_or, length-set, ◌∙◌, ap, sym, w16, SFits}
+use Rattle.std.proofs.Common.{arith, rules, refl}
 use Rattle.std.proofs.lemmas.Int.{to_z-of_z}
 use Rattle.std.specs.Int.{cast_signed, cast_unsigned}
 use Rattle.jpeg_bits.specs.Entropy.{upcoming}
@@ -37,8 +38,8 @@ returns-in_default-clause-piece g c =
     (walk_at p.al l.left c.args.from (band_end p) l.block l.index)
     (place_from p.al (cast_signed w16 (cast_unsigned w16 x))) c.args.held.now l.held c.correct.new.held
     c.args.source.now l.source c.correct.new.source _
-    (λ t f e. at-refused p.al l.left c.args.from (band_end p) l.index c.place_of-place.result l.block (omega arith) after
-    before c.place_of-place.ensures.value (cast_signed w16 (cast_unsigned w16 x)) t f
+    (λ t f e. at-refused p.al l.left c.args.from (band_end p) l.index c.place_of-place.result l.block (omega arith)
+    after before c.place_of-place.ensures.value (cast_signed w16 (cast_unsigned w16 x)) t f
     (λ h. c.if-value-ne0.true (ap (cast_unsigned w16) h)) s e)
     l.invariant.walk c.in_default.ensures.place)
 
@@ -98,8 +99,8 @@ loop-index-preserved g c =
               l.invariant.walk.0,
               λ k. let at = l.invariant.walk.1 k in (
                 at.0,
-                at.1 ∙ at-skip p.al l.left c.args.from (band_end p) l.index c.place_of-place.result l.block (omega arith)
-                    after before is _ zero (pos-of-ne l.left w.if-left-eq0.false),
+                at.1 ∙ at-skip p.al l.left c.args.from (band_end p) l.index c.place_of-place.result l.block
+                    (omega arith) after before is _ zero (pos-of-ne l.left w.if-left-eq0.false),
               ),
             );
             others = l.invariant.others;
@@ -116,7 +117,7 @@ returns-clause-piece g c =
       l.invariant.walk.0,
       λ k. let at = l.invariant.walk.1 k in (
         at.0,
-        at.1 ∙ at-end p.al l.left c.args.from (band_end p) l.index l.block (upcoming l.held l.source.bytes) (omega arith)
-            (omega arith),
+        at.1 ∙ at-end p.al l.left c.args.from (band_end p) l.index l.block (upcoming l.held l.source.bytes)
+            (omega arith) (omega arith),
       ),
     )

@@ -11,8 +11,8 @@ invariant-loop-index g l = record {
   len : length l.block ≡ 64;
   from : band_start (pass_in l.fn.pass) ≤ l.index;
   within : l.index ≤ band_end (pass_in l.fn.pass);
-  rest : Leaves (refined_band_from l.fn.table l.fn.pass.al (band_in (pass_in l.fn.pass) l.fn.block)) l.fn.held l.fn.source
-      (refined_left l.fn.table l.fn.pass.al (band_in (pass_in l.fn.pass) l.block)
+  rest : Leaves (refined_band_from l.fn.table l.fn.pass.al (band_in (pass_in l.fn.pass) l.fn.block)) l.fn.held
+      l.fn.source (refined_left l.fn.table l.fn.pass.al (band_in (pass_in l.fn.pass) l.block)
       (l.index - band_start (pass_in l.fn.pass))) l.held l.source;
   others : KeepsOthers (pass_in l.fn.pass) l.fn.block l.block;
 }

@@ -10,8 +10,8 @@ invariant-loop-at g l = record {
   len : length l.block ≡ 64;
   from : band_start (pass_in l.fn.pass) ≤ l.at;
   within : l.at ≤ band_end (pass_in l.fn.pass);
-  text : IsAt l.fn.table l.fn.pass.al (first_ac l.fn.table l.fn.pass.al (length (band_in (pass_in l.fn.pass) l.fn.block))
-      (band_in (pass_in l.fn.pass) l.fn.block)) l.fn.held l.fn.source (band_in (pass_in l.fn.pass) l.block)
+  text : IsAt l.fn.table l.fn.pass.al (first_ac l.fn.table l.fn.pass.al (length (band_in (pass_in l.fn.pass)
+      l.fn.block)) (band_in (pass_in l.fn.pass) l.fn.block)) l.fn.held l.fn.source (band_in (pass_in l.fn.pass) l.block)
       (l.at - band_start (pass_in l.fn.pass)) l.held l.source;
   others : KeepsOthers (pass_in l.fn.pass) l.fn.block l.block;
 }
