@@ -1,18 +1,25 @@
 -- The parts of a block, of any pass.
-use Rattle.std.proofs.Common.{◌≡◌, ℕ, zero, suc, ◌-◌, ◌+◌, ◌<◌, ◌^◌, true, false, List, [], ◌∷◌, ◌++◌, length, take}
-use Rattle.std.proofs.Common.{drop, set, slice_index_or, ℤ, pos, ◌+ℤ◌, ◌*ℤ◌, Result, Ok, Err, refl, sym, ap, ◌∙◌, arith}
+use Rattle.std.proofs.Common.{◌≡◌, ℕ, zero, suc, ◌-◌, ◌+◌, ◌<◌, ◌≤◌, ◌^◌, true, false, List, [], ◌∷◌, length}
+use Rattle.std.proofs.Common.{set, slice_index_or, ℤ, pos, ◌+ℤ◌, ◌*ℤ◌, Result, Ok, Err, refl, sym, ap, ◌∙◌, arith}
+use Rattle.std.proofs.Common.{Bool, Option}
 use Rattle.std.proofs.lemmas.Bool.{ne_eqb}
-use Rattle.std.proofs.lemmas.List.{drop-drop}
 use Rattle.jpeg_bits.specs.Reading.{Fault}
-use Rattle.jpeg_bits.specs.Entropy.{Text, bits_from}
+use Rattle.jpeg_bits.specs.Stream.{Stream}
+use Rattle.jpeg_bits.specs.Entropy.{Text, Ahead, Takes, bits_from}
+use Rattle.jpeg_bits.specs.declared.error.Error.{Error}
+use Rattle.jpeg_bits.specs.Refusals.{outcome_of, held_refusal}
 use Rattle.jpeg_bits.specs.Codes.{Table}
 use Rattle.jpeg_bits.specs.Readers.{Reads, gives, read_on}
 use Rattle.jpeg_bits.specs.Bands.{Band, wrapped, difference, first_dc, first_ac}
-use Rattle.jpeg_bits.specs.Passes.{Pass, Block, or_bit, band_of, with_band, before_band, band_size, dc_part, band_part}
+use Rattle.jpeg_bits.specs.Passes.{Pass, Block, or_bit, band_of, with_band, dc_part, band_part}
 use Rattle.jpeg_bits.specs.Passes.{block_from}
 use Rattle.jpeg_bits.specs.Pieces.{corrected, refined_band_from}
-use Rattle.jpeg_bits.specs.BlockView.{to_block}
+use Rattle.jpeg_bits.specs.BlockView.{to_block, IsPass}
+use Rattle.jpeg_bits.specs.ZigzagParts.{zigzag_part, band_in, KeepsOthers}
+use Rattle.jpeg_bits.proofs.BandLoop.{Leaves}
+use Rattle.jpeg_bits.proofs.BandSteps.{pos-of-ne, Leaves-ok, Leaves-err}
 use Rattle.jpeg_bits.proofs.RefinedPieces.{corrected-same, refined-same}
+use Rattle.jpeg_bits.proofs.ZigzagParts.{part-length, band-is, dc-put, band-put}
 
 -- ---- the band
 
@@ -70,7 +77,27 @@ pub band_refused : (p : Pass) (table : Table) (band : List ℤ) (run : ℕ) (t :
 band_refused p table band run t fault f some h e =
     corrected-part p table band run t f some h ∙ ap (with_run (run - 1)) e
 
-pub ruleset band_rules = (band_none, band_run, band_first, band_refined, band_corrected, band_refused)
+-- a pass has no band where it is of DC alone
+pub no_places : (ss se : ℕ) (block : List ℤ) → ss ≤ se → se ≤ 63 → se ≡ 0
+    → length (zigzag_part (ss - 1 + 1) (se + 1) block) ≡ 0
+no_places ss se block order end none = omega (arith, part-length (ss - 1 + 1) (se + 1) block (omega arith))
+
+pub some_places : (ss se : ℕ) (block : List ℤ) → ss ≤ se → se ≤ 63 → (se ≡ 0 → ⊥)
+    → 0 < length (zigzag_part (ss - 1 + 1) (se + 1) block)
+some_places ss se block order end some =
+    let h = pos-of-ne se some in
+    omega (arith, part-length (ss - 1 + 1) (se + 1) block (omega arith))
+
+pub ruleset band_rules = (
+  no_places,
+  some_places,
+  band_none,
+  band_run,
+  band_first,
+  band_refined,
+  band_corrected,
+  band_refused,
+)
 
 -- ---- DC
 
@@ -134,7 +161,8 @@ with_dc p d acs b = gives (record { dc = d.0; acs = with_band p acs b.0 }, d.1, 
 
 -- what stands after DC
 unfoldable pub after_dc : Pass → Table → ℕ → List ℤ → ℤ × ℤ → Reads (Block × ℤ × ℕ)
-after_dc p ac run block d t = read_on (with_dc p d (drop 1 block)) (band_part p ac (band_of p (drop 1 block)) run t)
+after_dc p ac run block d t =
+    read_on (with_dc p d (to_block block).acs) (band_part p ac (band_of p (to_block block).acs) run t)
 
 block-whole : (p : Pass) (dc ac : Table) (predictor : ℤ) (run : ℕ) (block : List ℤ) (t : Text)
     → block_from p dc ac predictor run (to_block block) t ≡ read_on (after_dc p ac run block)
@@ -160,54 +188,52 @@ dc_refused p dc ac predictor z run block t f s e =
     ∙ ap (read_on (after_dc p ac run block)) e
 
 pub band_step : (p : Pass) (ac : Table) (value next : ℤ) (run more : ℕ) (block part band blk : List ℤ) (t u : Text)
-    → part ≡ band_of p (drop 1 block)
-    → to_block blk ≡ record { dc = value; acs = with_band p (drop 1 block) band }
+    → part ≡ band_of p (to_block block).acs
+    → to_block blk ≡ record { dc = value; acs = with_band p (to_block block).acs band }
     → band_part p ac part run t ≡ Ok ((band, more), u)
     → after_dc p ac run block (value, next) t ≡ Ok ((to_block blk, next, more), u)
 unfolding after_dc
 band_step p ac value next run more block part band blk t u e b h =
-    ap (read_on (with_dc p (value, next) (drop 1 block))) (ap (λ (xs : List ℤ). band_part p ac xs run t) (sym e) ∙ h)
+    ap (read_on (with_dc p (value, next) (to_block block).acs)) (ap (λ (xs : List ℤ). band_part p ac xs run t) (sym e)
+    ∙ h)
     ∙ ap (λ (x : Block). Ok ((x, next, more), u)) (sym b)
 
 pub band_fails : (p : Pass) (ac : Table) (value next : ℤ) (run : ℕ) (block part : List ℤ) (t : Text) (f : Fault)
-    → part ≡ band_of p (drop 1 block)
+    → part ≡ band_of p (to_block block).acs
     → band_part p ac part run t ≡ Err f → after_dc p ac run block (value, next) t ≡ Err f
 unfolding after_dc
 band_fails p ac value next run block part t f e h =
-    ap (read_on (with_dc p (value, next) (drop 1 block))) (ap (λ (xs : List ℤ). band_part p ac xs run t) (sym e) ∙ h)
+    ap (read_on (with_dc p (value, next) (to_block block).acs)) (ap (λ (xs : List ℤ). band_part p ac xs run t) (sym e)
+    ∙ h)
 
-part-after : (block : List ℤ) (y : ℤ) (k n : ℕ) → 0 < length block → take n (drop (suc k) (set block 0 y))
-    ≡ take n (drop k (drop 1 block))
-part-after [] y k n h = absurd (omega arith)
-part-after (b ∷ bs) y k n h = refl
+-- the band of a block whose DC is written
+pub block_part : (p : Pass) (block : List ℤ) (y : ℤ) → length block ≡ 64
+    → band_in p (set block 0 y) ≡ band_of p (to_block block).acs
+block_part p block y n = band-is p (set block 0 y) ∙ ap (λ (b : Block). band_of p b.acs) (dc-put block y n)
 
--- the part of a block that is the band of a pass
-pub block_part : (p : Pass) (block : List ℤ) (y : ℤ) (s n : ℕ) → 0 < length block → s ≡ suc (before_band p)
-    → n ≡ band_size p
-    → take n (drop s (set block 0 y)) ≡ band_of p (drop 1 block)
-block_part p block y s n h e f =
-    ap (λ (k : ℕ). take n (drop k (set block 0 y))) e ∙ part-after block y (before_band p) n h
-    ∙ ap (λ (k : ℕ). take k (drop (before_band p) (drop 1 block))) f
+pub block_put : (p : Pass) (block new : List ℤ) (y : ℤ) → length block ≡ 64 → IsPass p
+    → KeepsOthers p (set block 0 y) new
+    → to_block new ≡ record { dc = y; acs = with_band p (to_block block).acs (band_in p new) }
+block_put p block new y n is others =
+    band-put p (set block 0 y) new is others
+    ∙ ap (λ (b : Block). record { dc = b.dc; acs = with_band p b.acs (band_in p new) }) (dc-put block y n)
 
-put-after : (block band : List ℤ) (y : ℤ) (k n : ℕ) → 0 < length block
-    → to_block (take (suc k) (set block 0 y) ++ (band ++ drop n (drop (suc k) (set block 0 y)))) ≡ record {
-      dc = y;
-      acs = take k (drop 1 block) ++ (band ++ drop n (drop k (drop 1 block)));
-    }
-put-after [] band y k n h = absurd (omega arith)
-put-after (b ∷ bs) band y k n h = refl
-
-drop-both : (n k : ℕ) (xs : List ℤ) → drop n (drop k xs) ≡ drop (k + n) xs
-drop-both n k xs = drop-drop n k xs
-
-pub block_put : (p : Pass) (block band : List ℤ) (y : ℤ) (s n : ℕ) → 0 < length block → s ≡ suc (before_band p)
-    → n ≡ band_size p
-    → to_block (take s (set block 0 y) ++ (band ++ drop n (drop s (set block 0 y)))) ≡ record {
-      dc = y;
-      acs = with_band p (drop 1 block) band;
-    }
-block_put p block band y s n h e f =
-    ap (λ (k : ℕ). to_block (take k (set block 0 y) ++ (band ++ drop n (drop k (set block 0 y))))) e
-    ∙ put-after block band y (before_band p) n h
-    ∙ ap (λ (l : List ℤ). record { dc = y; acs = take (before_band p) (drop 1 block) ++ (band ++ l) })
-    (drop-both n (before_band p) (drop 1 block) ∙ ap (λ (k : ℕ). drop (before_band p + k) (drop 1 block)) f)
+-- the band is read, after DC
+pub block_read : (p : Pass) (ac : Table) (value next : ℤ) (run more : ℕ) (block blk : List ℤ)
+    (whole : Reads (Block × ℤ × ℕ)) (a b d : Ahead) (old cur new : Stream) (refusal : Option Error) (done : Bool)
+    → length block ≡ 64 → IsPass p → KeepsOthers p (set block 0 value) blk
+    → Leaves whole a old (after_dc p ac run block (value, next)) b cur
+    → Takes (λ (u : Unit {0}). (band_in p blk, more)) (band_part p ac (band_in p (set block 0 value)) run) b cur
+    (outcome_of done refusal) d new
+    → Takes (λ (u : Unit {0}). (to_block blk, next, more)) whole a old (outcome_of done refusal) d new
+block_read p ac value next run more block blk whole a b d old cur new refusal true n is others h q =
+    let band = band_in p (set block 0 value) in
+    Leaves-ok (λ (u : Unit {0}). (band_in p blk, more)) whole (after_dc p ac run block (value, next))
+    (λ (t : Text). Ok ((to_block blk, next, more), t)) (band_part p ac band run) a b d old cur new tt
+    (λ t u e. band_step p ac value next run more block band (band_in p blk) blk t u (block_part p block value n)
+    (block_put p block blk value n is others) e) h q
+block_read p ac value next run more block blk whole a b d old cur new refusal false n is others h q =
+    let band = band_in p (set block 0 value) in
+    Leaves-err (λ (u : Unit {0}). (to_block blk, next, more)) (λ (u : Unit {0}). (band_in p blk, more)) whole
+    (after_dc p ac run block (value, next)) (band_part p ac band run) a b d old cur new (held_refusal refusal)
+    (λ t f e. band_fails p ac value next run block band t f (block_part p block value n) e) h q

@@ -27,3 +27,8 @@ pub mod RefinedPieces
 pub mod RefinedBands
 pub mod BlockParts
 pub mod Corrections
+pub mod ZigzagPlaces
+pub mod ZigzagParts
+pub mod BlockLoop
+pub mod BlockWalks
+pub mod BlockRefinement

@@ -3,7 +3,7 @@ use Rattle.std.proofs.Common.{is_ok, ◌≡◌, ℕ, zero, suc, ◌+◌, ◌-◌
 use Rattle.std.proofs.Common.{set, ℤ, Result, Ok, Err, refl, sym, ap, ◌∙◌, arith, append_assoc, length-drop}
 use Rattle.std.proofs.Common.{length-take, length-append, le_refl}
 use Rattle.std.proofs.lemmas.List.{drop_all, take_all, append-nil, take-append-le, drop-append-le, length-take-le}
-use Rattle.std.proofs.lemmas.List.{set-append_left, take_rest}
+use Rattle.std.proofs.lemmas.List.{set-append_left}
 use Rattle.std.proofs.lemmas.Bool.{false≢true}
 use Rattle.jpeg_bits.specs.Reading.{Fault, ◌>>=◌}
 use Rattle.jpeg_bits.specs.Entropy.{Text}
@@ -316,31 +316,6 @@ module _ (table : Table) (al i n : ℕ) (band nb rest ys : List ℤ) (t u : Text
           ap (λ (o : Result (List ℤ × Text) Fault). before (take i band) (o >>= λ x. ended run x))
           (ap (λ (xs : List ℤ). corrected al xs t) (sym old) ∙ ap (λ (xs : List ℤ). corrected al xs t) (sym whole) ∙ c)
           ∙ ap (λ (xs : List ℤ). Ok ((xs, run), u)) (sym b)
-
--- the places from i on, and the band with others in their place, as a borrowed part of it is read and put back
-abbrev pub part : ℕ → List ℤ → List ℤ
-part i band = take (length band - i) (drop i band)
-
-abbrev pub patched : ℕ → List ℤ → List ℤ → List ℤ
-patched i band ys = take i band ++ (ys ++ drop (length band - i) (drop i band))
-
-pub part_rest : (i : ℕ) (band : List ℤ) → part i band ≡ drop i band
-part_rest i band = take_rest band i
-
-pub patched_rest : (i : ℕ) (band ys : List ℤ) → patched i band ys ≡ take i band ++ ys
-patched_rest i band ys =
-    let d = length-drop i band in
-    ap (λ (zs : List ℤ). take i band ++ (ys ++ zs)) (drop_all (length band - i) (drop i band) (omega arith))
-    ∙ ap (λ (zs : List ℤ). take i band ++ zs) (append-nil ys)
-
-pub part-length : (i : ℕ) (band : List ℤ) → length (part i band) ≡ length band - i
-part-length i band = ap length (part_rest i band) ∙ length-drop i band
-
-pub patched-length : (i : ℕ) (band ys : List ℤ) → i ≤ length band → length ys ≡ length (part i band)
-    → length (patched i band ys) ≡ length band
-patched-length i band ys le e =
-    let a = length-append (take i band) ys in let b = length_short i band le in let p = part-length i band in
-    ap length (patched_rest i band ys) ∙ omega arith
 
 pub refined_token : (table : Table) (al : ℕ) (band : List ℤ) (i : ℕ) (k : Refinement) (t u : Text) → i < length band
     → refinement_from table al t ≡ Ok (k, u) → refined_left table al band i t ≡ refined_step table al band i k u

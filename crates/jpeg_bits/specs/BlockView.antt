@@ -1,14 +1,15 @@
 -- What a caller sees of the state of a scan.
 use Rattle.std.specs.Prelude.{◌≤◌, List, ℤ, pos, drop, slice_index_or}
 use Rattle.jpeg_bits.specs.Passes.{Pass, Block}
+use Rattle.jpeg_bits.specs.Zigzag.{coefficients_in_zigzag}
 use Rattle.jpeg_bits.specs.declared.blocks.Pass as declared
 
 abbrev pub pass_in : declared.Pass → Pass
 pass_in p = record { is_first = p.is_first; ss = p.ss; se = p.se; al = p.al }
 
--- a block of its coefficients in zigzag order
+-- a block of its coefficients, which stand in block order
 abbrev pub to_block : List ℤ → Block
-to_block l = record { dc = slice_index_or l 0 (pos 0); acs = drop 1 l }
+to_block l = record { dc = slice_index_or l 0 (pos 0); acs = drop 1 (coefficients_in_zigzag l) }
 
 -- The places of a pass are places of a block, and its level is one that a scan may have.
 pub record IsPass (p : Pass) : Type 0 where

@@ -9,6 +9,7 @@ pub mod DefaultTables
 pub mod Bands
 pub mod Refinement
 pub mod Passes
+pub mod Zigzag
 pub mod Intervals
 -- what a writer emits
 pub mod Written
@@ -22,3 +23,4 @@ pub mod ShortCodes
 pub mod Lookups
 pub mod Pieces
 pub mod BlockView
+pub mod ZigzagParts

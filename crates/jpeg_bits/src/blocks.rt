@@ -1,10 +1,11 @@
 //! A block of a scan, of any pass.
-ghost use Rattle.std.specs.Prelude.{◌≡◌, ◌≤◌, length, is_some, true, false};
+ghost use Rattle.std.specs.Prelude.{◌≡◌, ◌≤◌, is_some, true, false};
 ghost use Rattle.jpeg_bits.specs.Refusals.{answer_of, outcome_of, IsHeld};
 ghost use Rattle.jpeg_bits.specs.Entropy.{Takes};
 ghost use Rattle.jpeg_bits.specs.declared.codes.HuffmanTableClass.TheVariants.{AC};
 ghost use Rattle.jpeg_bits.specs.Passes.{dc_part, band_part, block_from, or_bit};
 ghost use Rattle.jpeg_bits.specs.BlockView.{to_block, pass_in, IsPass};
+ghost use Rattle.jpeg_bits.specs.ZigzagParts.{band_in, KeepsOthers};
 
 use crate::ahead::Held;
 use crate::error::{Error, Result, take_refusal};
@@ -23,6 +24,28 @@ pub struct Pass {
     pub ss: u8,
     pub se: u8,
     pub al: u8,
+}
+
+impl Pass {
+    ghost use Rattle.std.specs.Prelude.{◌≡◌};
+    ghost use Rattle.jpeg_bits.specs.BlockView.{pass_in};
+    ghost use Rattle.jpeg_bits.specs.ZigzagParts.{band_start, band_end};
+
+    /// The zigzag place at which the band begins (T.81, G.1.1.1.1). DC is no part of it.
+    #[inline(always)]
+    pub(crate) fn band_start(self) -> usize
+        ensures { result ≡ band_start (pass_in self) }
+    {
+        usize::from(self.ss.max(1))
+    }
+
+    /// The zigzag place after the last one of the band.
+    #[inline(always)]
+    pub(crate) fn band_end(self) -> usize
+        ensures { result ≡ band_end (pass_in self) }
+    {
+        usize::from(self.se) + 1
+    }
 }
 
 /// A DC coefficient with the bit set, where it isn't.
@@ -86,18 +109,19 @@ fn read_band<R: Read + Drop>(
     table: &HuffmanTable,
     pass: Pass,
     run: &mut u16,
-    band: &mut [i16],
+    block: &mut [i16; 64],
     refusal: &mut Option<Error>,
 ) -> bool
     requires class { table.now.class ≡ AC }
     requires pass { IsPass (pass_in pass) }
-    ensures len { length band.new ≡ length band.old }
-    ensures band { Takes (λ _. (band.new, run.new)) (band_part (pass_in pass) table.now band.old
-        run.old)
+    ensures band { Takes (λ _. (band_in (pass_in pass) block.new, run.new))
+        (band_part (pass_in pass) table.now (band_in (pass_in pass) block.old) run.old)
         held.old source.old (outcome_of result refusal.new) held.new source.new }
+    ensures others { KeepsOthers (pass_in pass) block.old block.new }
     ensures held { result ≡ false → is_some refusal.new ≡ true }
 {
-    if band.is_empty() {
+    // A pass of DC alone has no band.
+    if pass.se == 0 {
         return true;
     }
     if *run > 0 {
@@ -105,16 +129,16 @@ fn read_band<R: Read + Drop>(
             *run -= 1;
             return true;
         }
-        if !correct_band(held, source, pass.al, band, refusal) {
+        if !correct_band(held, source, pass, block, refusal) {
             return false;
         }
         *run -= 1;
         return true;
     }
     let next = if pass.is_first {
-        read_first_band(held, source, table, pass.al, band, refusal)
+        read_first_band(held, source, table, pass, block, refusal)
     } else {
-        read_refined_band(held, source, table, pass.al, band, refusal)
+        read_refined_band(held, source, table, pass, block, refusal)
     };
     match next {
         Some(blocks) => {
@@ -125,7 +149,7 @@ fn read_band<R: Read + Drop>(
     }
 }
 
-/// A block, in zigzag order, read on what is held of it. A refusal is held in its place, and
+/// A block, in block order, read on what is held of it. A refusal is held in its place, and
 /// answered by false.
 pub(crate) fn read_held_block<R: Read + Drop>(
     held: &mut Held,
@@ -150,16 +174,10 @@ pub(crate) fn read_held_block<R: Read + Drop>(
         return false;
     };
     block[0] = dc;
-    let start = usize::from(pass.ss.max(1));
-    let end = usize::from(pass.se) + 1;
-    let band = &mut block[start..end];
-    if !read_band(held, source, ac_table, pass, run, band, refusal) {
-        return false;
-    }
-    true
+    read_band(held, source, ac_table, pass, run, block, refusal)
 }
 
-/// A block, in zigzag order, read on what is held of it. A refusal is put into its place, and
+/// A block, in block order, read on what is held of it. A refusal is put into its place, and
 /// answered by false.
 pub fn take_block<R: Read + Drop>(
     decoder: &mut HuffmanDecoder,
@@ -185,7 +203,7 @@ pub fn take_block<R: Read + Drop>(
     )
 }
 
-/// A block, in zigzag order, read on what is held of it.
+/// A block, in block order, read on what is held of it.
 pub fn read_block<R: Read + Drop>(
     alloc: Global,
     decoder: &mut HuffmanDecoder,

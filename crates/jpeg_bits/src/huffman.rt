@@ -194,7 +194,7 @@ impl HuffmanDecoder {
         self.held.take_symbol(source, table, refusal)
     }
 
-    /// A block, in zigzag order, read on what is held of it. A refusal is put into its place, and
+    /// A block, in block order, read on what is held of it. A refusal is put into its place, and
     /// answered by false.
     pub(crate) fn take_block<R: Read + Drop>(
         &mut self,

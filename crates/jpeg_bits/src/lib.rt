@@ -22,3 +22,4 @@ pub mod source;
 #[cfg(test)]
 mod tests;
 mod tokens;
+mod zigzag;

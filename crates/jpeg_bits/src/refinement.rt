@@ -1,5 +1,5 @@
 //! Refinement of the coefficients of a block.
-ghost use Rattle.std.specs.Prelude.{◌≡◌, ◌≤◌, ◌==◌, ◌^◌, ◌+◌, ◌<◌, pos, length, IfSome, is_some};
+ghost use Rattle.std.specs.Prelude.{◌≡◌, ◌≤◌, ◌==◌, ◌^◌, ◌<◌, ◌-◌, pos, IfSome, is_some};
 ghost use Rattle.std.specs.Prelude.{true, false};
 ghost use Rattle.jpeg_bits.specs.Refusals.{answer_of, outcome_of, IsHeld};
 ghost use Rattle.jpeg_bits.specs.Reading.{Gives};
@@ -8,12 +8,17 @@ ghost use Rattle.jpeg_bits.specs.Refinement.{bit_of, new_number};
 ghost use Rattle.jpeg_bits.specs.Pieces.{moved_within, run_from, place_from, piece_from};
 ghost use Rattle.jpeg_bits.specs.Pieces.{refinement_from, refined_band_from, corrected};
 ghost use Rattle.jpeg_bits.specs.Pieces.{distance_of};
+ghost use Rattle.jpeg_bits.specs.BlockView.{pass_in, IsPass};
+ghost use Rattle.jpeg_bits.specs.ZigzagParts.{band_end, band_in, rest_in, IsKeptAround};
+ghost use Rattle.jpeg_bits.specs.ZigzagParts.{KeepsOthers};
 
 use crate::ahead::Held;
+use crate::blocks::Pass;
 use crate::error::{Error, hold_format_error};
 use crate::huffman::HuffmanTable;
 use crate::source::Source;
 use crate::tokens::power_of_two;
+use crate::zigzag::place_of;
 use std::alloc::Global;
 use std::io::Read;
 
@@ -125,40 +130,45 @@ fn correct<R: Read + Drop>(
     move_away(held.alloc(), value, distance(value, al, bit), refusal)
 }
 
-/// Corrects a piece, which ends with the zero after this many zeros, or is the whole rest of the
-/// band. Gives how many places it has.
+/// Corrects a piece of the band from a zigzag place on, which ends with the zero after this many
+/// zeros, or is the whole rest of the band. Gives the place after it.
 #[inline(always)]
-#[tactic(auto, using(crate::proofs::PieceWalks::walk_all, crate::proofs::PieceWalks::walk_none, crate::proofs::PieceWalks::walk_stop, crate::proofs::PieceWalks::walk_skip, crate::proofs::PieceWalks::walk_value))]
 fn correct_piece<R: Read + Drop>(
     held: &mut Held,
     source: &mut Source<R>,
-    al: u8,
+    pass: Pass,
+    from: usize,
     zeros: usize,
-    rest: &mut [i16],
+    block: &mut [i16; 64],
     refusal: &mut Option<Error>,
 ) -> Option<usize>
-    requires { al ≤ 13 }
-    ensures len { length rest.new ≡ length rest.old }
-    ensures within { IfSome result (λ n. (n ≤ length rest.old) × (0 < length rest.old → 0 < n)) }
-    ensures piece { Takes (λ n. (n, rest.new)) (piece_from al zeros rest.old) held.old source.old
+    requires pass { IsPass (pass_in pass) }
+    requires from { from ≤ band_end (pass_in pass) }
+    ensures within { IfSome result (λ next. (from ≤ next) × (next ≤ band_end (pass_in pass))
+        × (from < band_end (pass_in pass) → from < next)) }
+    ensures piece { Takes (λ next. (next - from, rest_in (pass_in pass) from block.new))
+        (piece_from pass.al zeros (rest_in (pass_in pass) from block.old)) held.old source.old
         (answer_of result refusal.new) held.new source.new }
+    ensures others { IsKeptAround from (band_end (pass_in pass)) block.old block.new }
     ensures held { IsHeld result refusal.new }
 {
+    let end = pass.band_end();
     let mut left = zeros;
-    for index in 0..rest.len() {
-        let value = rest[index];
+    for index in from..end {
+        let place = place_of(index);
+        let value = block[place];
         if value != 0 {
-            let Some(corrected) = correct(held, source, al, value, refusal) else {
+            let Some(corrected) = correct(held, source, pass.al, value, refusal) else {
                 return None;
             };
-            rest[index] = corrected;
+            block[place] = corrected;
         } else if left == 0 {
             return Some(index + 1);
         } else {
             left -= 1;
         }
     }
-    Some(rest.len())
+    Some(end)
 }
 
 /// The new number of a sign bit.
@@ -209,49 +219,48 @@ fn read_refinement<R: Read + Drop>(
     }
 }
 
-/// A band of a refinement, in zigzag order, and how many blocks after this one have no tokens.
+/// The band of a block in a refinement, and how many blocks after this one have no tokens.
 #[inline(always)]
-#[tactic(auto, using(crate::proofs::RefinedBands::refined_more, crate::proofs::RefinedBands::refined_none, crate::proofs::RefinedBands::refined_all))]
 fn read_refined_places<R: Read + Drop>(
     held: &mut Held,
     source: &mut Source<R>,
     table: &HuffmanTable,
-    al: u8,
-    band: &mut [i16],
+    pass: Pass,
+    block: &mut [i16; 64],
     refusal: &mut Option<Error>,
 ) -> Option<u16>
-    requires { al ≤ 13 }
-    ensures len { length band.new ≡ length band.old }
-    ensures reads { Takes (λ run. (band.new, run)) (refined_band_from table.now al band.old)
+    requires { IsPass (pass_in pass) }
+    ensures reads { Takes (λ run. (band_in (pass_in pass) block.new, run))
+        (refined_band_from table.now pass.al (band_in (pass_in pass) block.old))
         held.old source.old (answer_of result refusal.new) held.new source.new }
+    ensures others { KeepsOthers (pass_in pass) block.old block.new }
     ensures held { IsHeld result refusal.new }
 {
-    let mut index = 0;
-    while index < band.len() {
-        let Some(token) = read_refinement(held, source, table, al, refusal) else {
+    let end = pass.band_end();
+    let mut index = pass.band_start();
+    while index < end {
+        let Some(token) = read_refinement(held, source, table, pass.al, refusal) else {
             return None;
         };
         match token {
             Refinement::Zeros => {
-                let part = &mut band[index..];
-                let Some(count) = correct_piece(held, source, al, 15, part, refusal) else {
+                let Some(next) = correct_piece(held, source, pass, index, 15, block, refusal) else {
                     return None;
                 };
-                index += count;
+                index = next;
             }
             Refinement::New(run, value) => {
                 let zeros = usize::from(run);
-                let part = &mut band[index..];
-                let Some(count) = correct_piece(held, source, al, zeros, part, refusal) else {
+                let Some(next) = correct_piece(held, source, pass, index, zeros, block, refusal)
+                else {
                     return None;
                 };
-                index += count;
-                band[index - 1] = value;
+                block[place_of(next - 1)] = value;
+                index = next;
             }
             Refinement::End(blocks) => {
-                let zeros = band.len();
-                let part = &mut band[index..];
-                return match correct_piece(held, source, al, zeros, part, refusal) {
+                let zeros = end - index;
+                return match correct_piece(held, source, pass, index, zeros, block, refusal) {
                     Some(_) => Some(blocks),
                     None => None,
                 };
@@ -267,41 +276,43 @@ pub(crate) fn read_refined_band<R: Read + Drop>(
     held: &mut Held,
     source: &mut Source<R>,
     table: &HuffmanTable,
-    al: u8,
-    band: &mut [i16],
+    pass: Pass,
+    block: &mut [i16; 64],
     refusal: &mut Option<Error>,
 ) -> Option<u16>
-    requires { al ≤ 13 }
-    ensures len { length band.new ≡ length band.old }
-    ensures reads { Takes (λ run. (band.new, run)) (refined_band_from table.now al band.old)
+    requires { IsPass (pass_in pass) }
+    ensures reads { Takes (λ run. (band_in (pass_in pass) block.new, run))
+        (refined_band_from table.now pass.al (band_in (pass_in pass) block.old))
         held.old source.old (answer_of result refusal.new) held.new source.new }
+    ensures others { KeepsOthers (pass_in pass) block.old block.new }
     ensures held { IsHeld result refusal.new }
 {
     let mut local = held.copied();
-    let run = read_refined_places(&mut local, source, table, al, band, refusal);
+    let run = read_refined_places(&mut local, source, table, pass, block, refusal);
     *held = local;
     run
 }
 
-/// The whole band, one correction bit for each place that isn't zero. A refusal is held in its
-/// place, and answered by false.
-#[tactic(auto, using(crate::proofs::RefinedBands::whole_piece))]
+/// The whole band of a block, one correction bit for each place that isn't zero. A refusal is held
+/// in its place, and answered by false.
 pub(crate) fn correct_band<R: Read + Drop>(
     held: &mut Held,
     source: &mut Source<R>,
-    al: u8,
-    band: &mut [i16],
+    pass: Pass,
+    block: &mut [i16; 64],
     refusal: &mut Option<Error>,
 ) -> bool
-    requires { al ≤ 13 }
-    ensures len { length band.new ≡ length band.old }
-    ensures band { Takes (λ _. band.new) (corrected al band.old)
+    requires { IsPass (pass_in pass) }
+    ensures band { Takes (λ _. band_in (pass_in pass) block.new)
+        (corrected pass.al (band_in (pass_in pass) block.old))
         held.old source.old (outcome_of result refusal.new) held.new source.new }
+    ensures others { KeepsOthers (pass_in pass) block.old block.new }
     ensures held { result ≡ false → is_some refusal.new ≡ true }
 {
-    let zeros = band.len();
+    let start = pass.band_start();
+    let zeros = pass.band_end() - start;
     let mut local = held.copied();
-    let count = correct_piece(&mut local, source, al, zeros, band, refusal);
+    let next = correct_piece(&mut local, source, pass, start, zeros, block, refusal);
     *held = local;
-    count.is_some()
+    next.is_some()
 }

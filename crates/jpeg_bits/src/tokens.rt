@@ -6,11 +6,15 @@ ghost use Rattle.jpeg_bits.specs.Entropy.{Takes};
 ghost use Rattle.jpeg_bits.specs.declared.codes.HuffmanTableClass.TheVariants.{AC};
 ghost use Rattle.jpeg_bits.specs.Bands.{wrapped, difference, token_from, first_ac, IsWithinRoom};
 ghost use Rattle.jpeg_bits.specs.Lookups.{slow_token, looked_up};
+ghost use Rattle.jpeg_bits.specs.BlockView.{pass_in, IsPass};
+ghost use Rattle.jpeg_bits.specs.ZigzagParts.{band_in, KeepsOthers};
 
 use crate::ahead::Held;
+use crate::blocks::Pass;
 use crate::error::{Error, hold_format_error};
 use crate::huffman::HuffmanTable;
 use crate::source::Source;
+use crate::zigzag::place_of;
 use std::io::Read;
 
 /// What a token of a first pass stands for.
@@ -178,41 +182,39 @@ pub(crate) fn shifted(value: i16, point: u8) -> i16
     value.wrapping_mul(power_i16(point))
 }
 
-/// The places of a band in a first pass, and the blocks of the run that follows. A refusal is held
+/// The band of a block in a first pass, and the blocks of the run that follows. A refusal is held
 /// in its place, and answered by none.
 #[inline(always)]
 fn read_places<R: Read + Drop>(
     held: &mut Held,
     source: &mut Source<R>,
     table: &HuffmanTable,
-    point: u8,
-    band: &mut [i16],
+    pass: Pass,
+    block: &mut [i16; 64],
     refusal: &mut Option<Error>,
 ) -> Option<u16>
     requires class { table.now.class ≡ AC }
-    requires point { point ≤ 13 }
-    ensures len { length band.new ≡ length band.old }
-    ensures band { Takes (λ run. (band.new, run)) (first_ac table.now point (length band.old)
-        band.old)
+    requires pass { IsPass (pass_in pass) }
+    ensures band { Takes (λ run. (band_in (pass_in pass) block.new, run))
+        (first_ac table.now pass.al (length (band_in (pass_in pass) block.old))
+        (band_in (pass_in pass) block.old))
         held.old source.old (answer_of result refusal.new) held.new source.new }
+    ensures others { KeepsOthers (pass_in pass) block.old block.new }
     ensures held { IsHeld result refusal.new }
 {
-    let mut at = 0;
-    while at < band.len() {
-        let Some(token) = read_token(held, source, table, band.len() - at, refusal) else {
+    let end = pass.band_end();
+    let mut at = pass.band_start();
+    while at < end {
+        let Some(token) = read_token(held, source, table, end - at, refusal) else {
             return None;
         };
         match token {
             Token::Value(run, value) => {
                 at += usize::from(run);
-                band[at] = shifted(value, point);
+                block[place_of(at)] = shifted(value, pass.al);
                 at += 1;
             }
-            Token::Sixteen => at = if band.len() - at > 16 {
-                at + 16
-            } else {
-                band.len()
-            },
+            Token::Sixteen => at = if end - at > 16 { at + 16 } else { end },
             Token::Rest(run) => return Some(run),
             Token::Overlong => return Some(0),
         }
@@ -226,20 +228,21 @@ pub(crate) fn read_first_band<R: Read + Drop>(
     held: &mut Held,
     source: &mut Source<R>,
     table: &HuffmanTable,
-    point: u8,
-    band: &mut [i16],
+    pass: Pass,
+    block: &mut [i16; 64],
     refusal: &mut Option<Error>,
 ) -> Option<u16>
     requires class { table.now.class ≡ AC }
-    requires point { point ≤ 13 }
-    ensures len { length band.new ≡ length band.old }
-    ensures band { Takes (λ run. (band.new, run)) (first_ac table.now point (length band.old)
-        band.old)
+    requires pass { IsPass (pass_in pass) }
+    ensures band { Takes (λ run. (band_in (pass_in pass) block.new, run))
+        (first_ac table.now pass.al (length (band_in (pass_in pass) block.old))
+        (band_in (pass_in pass) block.old))
         held.old source.old (answer_of result refusal.new) held.new source.new }
+    ensures others { KeepsOthers (pass_in pass) block.old block.new }
     ensures held { IsHeld result refusal.new }
 {
     let mut local = held.copied();
-    let run = read_places(&mut local, source, table, point, band, refusal);
+    let run = read_places(&mut local, source, table, pass, block, refusal);
     *held = local;
     run
 }

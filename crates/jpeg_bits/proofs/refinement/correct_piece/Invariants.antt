@@ -1,12 +1,16 @@
-use Rattle.std.proofs.Common.{◌≡◌, length}
-use Rattle.jpeg_bits.proofs.BandLoop.{Leaves}
+use Rattle.std.proofs.Common.{◌≡◌, ◌-◌, length}
 use Rattle.jpeg_bits.specs.Pieces.{piece_from}
+use Rattle.jpeg_bits.specs.BlockView.{pass_in}
+use Rattle.jpeg_bits.specs.ZigzagParts.{band_end, rest_in, IsKeptAround}
+use Rattle.jpeg_bits.proofs.BandLoop.{Leaves}
 use Rattle.jpeg_bits.proofs.PieceWalks.{walk_left}
 use Rattle.jpeg_bits.proofs.refinement.correct_piece.Given as goal
 
 abbrev pub invariant-loop-index : goal.invariant-loop-index
 invariant-loop-index g l = record {
-  len : length l.rest ≡ length l.fn.rest;
-  walk : Leaves (piece_from l.fn.al l.fn.zeros l.fn.rest) l.fn.held l.fn.source (walk_left l.al l.left l.rest l.index)
+  len : length l.block ≡ 64;
+  walk : Leaves (piece_from l.fn.pass.al l.fn.zeros (rest_in (pass_in l.fn.pass) l.fn.from l.fn.block)) l.fn.held
+      l.fn.source (walk_left l.fn.pass.al l.left (rest_in (pass_in l.fn.pass) l.fn.from l.block) (l.index - l.fn.from))
       l.held l.source;
+  others : IsKeptAround l.fn.from (band_end (pass_in l.fn.pass)) l.fn.block l.block;
 }

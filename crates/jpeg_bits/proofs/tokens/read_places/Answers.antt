@@ -1,68 +1,107 @@
-use Rattle.std.proofs.Common.{◌<◌, ◌-◌, FitsSigned, rules, ◌+◌, ◌∙◌, refl, arith, length, length-set, ℕ, w16}
+use Rattle.std.proofs.Common.{◌+◌, ◌-◌, ◌<◌, ◌∙◌, length, length-set, FitsSigned, w16, rules, arith}
 use Rattle.std.proofs.lemmas.Int.{to_z-of_z}
 use Rattle.jpeg_bits.specs.Bands.{first_ac}
-use Rattle.jpeg_bits.proofs.BandLoop.{IsAt-value, IsAt-sixteen, IsAt-all, IsAt-rest, IsAt-overlong, IsAt-refused}
-use Rattle.jpeg_bits.proofs.BandLoop.{IsAt-none}
+use Rattle.jpeg_bits.specs.BlockView.{pass_in}
+use Rattle.jpeg_bits.specs.ZigzagParts.{band_start, band_end, band_in}
+use Rattle.jpeg_bits.proofs.BlockLoop.{place-value, place-sixteen, place-all, place-rest, place-overlong, place-refused}
+use Rattle.jpeg_bits.proofs.BlockLoop.{place-none}
+use Rattle.jpeg_bits.proofs.ZigzagParts.{kept-set}
 use Rattle.jpeg_bits.proofs.tokens.read_places.Goals as goal
 
 pub returns-in_default-clause-band : goal.returns-in_default-clause-band
 returns-in_default-clause-band g c =
-    (IsAt-refused c.args.table.now c.args.point (first_ac c.args.table.now c.args.point (length c.args.band.now)
-    c.args.band.now) c.args.held.now c.loop-at.held c.read_token.new.held c.args.source.now c.loop-at.source
-    c.read_token.new.source c.loop-at.band c.loop-at.at c.loop-at-test.true (λ (run : ℕ). (c.loop-at.band, run)) _
-    c.loop-at.invariant.text c.in_default.ensures.token)
-
-pub returns-in-Rest-clause-band : goal.returns-in-Rest-clause-band
-returns-in-Rest-clause-band g c =
-    IsAt-rest c.args.table.now c.args.point (first_ac c.args.table.now c.args.point (length c.args.band.now)
-    c.args.band.now) c.args.held.now c.loop-at.held c.read_token.new.held c.args.source.now c.loop-at.source
-    c.read_token.new.source c.loop-at.band c.loop-at.at c.loop-at-test.true (λ (run : ℕ). (c.loop-at.band, run))
-    c.in-Rest.run' c.in-Rest.run' refl c.loop-at.invariant.text (rw c.in-Rest.is at c.in-Some.ensures.token)
-
-pub returns-in-Overlong-clause-band : goal.returns-in-Overlong-clause-band
-returns-in-Overlong-clause-band g c =
-    IsAt-overlong c.args.table.now c.args.point (first_ac c.args.table.now c.args.point (length c.args.band.now)
-    c.args.band.now) c.args.held.now c.loop-at.held c.read_token.new.held c.args.source.now c.loop-at.source
-    c.read_token.new.source c.loop-at.band c.loop-at.at c.loop-at-test.true (λ (run : ℕ). (c.loop-at.band, run)) 0
-    refl c.loop-at.invariant.text (rw c.in-Overlong.is at c.in-Some.ensures.token)
-
-pub loop-at-preserved-then-band-at-gt16 : goal.loop-at-preserved-then-band-at-gt16
-loop-at-preserved-then-band-at-gt16 g c = record {
-  len = c.loop-at.invariant.len;
-  within = omega arith;
-  text = IsAt-sixteen c.args.table.now c.args.point (first_ac c.args.table.now c.args.point (length c.args.band.now)
-      c.args.band.now) c.args.held.now c.loop-at.held c.read_token.new.held c.args.source.now c.loop-at.source
-      c.read_token.new.source c.loop-at.band c.loop-at.at c.loop-at-test.true c.loop-at.invariant.text
-      (rw c.in-Sixteen.is at c.in-Some.ensures.token);
-}
-
-pub returns-clause-band : goal.returns-clause-band
-returns-clause-band g c =
-    IsAt-none (λ (run : ℕ). (c.loop-at.band, run)) c.args.table.now c.args.point (first_ac c.args.table.now c.args.point
-    (length c.args.band.now) c.args.band.now) c.args.held.now c.loop-at.held c.args.source.now c.loop-at.source
-    c.loop-at.band c.loop-at.at 0 c.loop-at-test.false refl c.loop-at.invariant.text
-
-pub loop-at-preserved : goal.loop-at-preserved
-loop-at-preserved g c = record {
-  len = c.loop-at.invariant.len;
-  within = omega arith;
-  text = IsAt-all c.args.table.now c.args.point (first_ac c.args.table.now c.args.point (length c.args.band.now)
-      c.args.band.now) c.args.held.now c.loop-at.held c.read_token.new.held c.args.source.now c.loop-at.source
-      c.read_token.new.source c.loop-at.band c.loop-at.at c.loop-at-test.true (omega (arith, c.if-band-at-gt16.false))
-      c.loop-at.invariant.text (rw c.in-Sixteen.is at c.in-Some.ensures.token);
-}
+    let p = pass_in c.args.pass in
+    let band = band_in p c.args.block.now in
+    place-refused c.args.table.now p (first_ac c.args.table.now p.al (length band) band) c.args.held.now c.loop-at.held
+    c.read_token.new.held c.args.source.now c.loop-at.source c.read_token.new.source c.loop-at.block c.loop-at.at
+    c.band_end-end.result c.requires.pass c.band_end-end.ensures c.loop-at.invariant.from c.loop-at-test.true _
+    c.loop-at.invariant.text c.in_default.ensures.token
 
 pub loop-at-preserved-in-Value : goal.loop-at-preserved-in-Value
 loop-at-preserved-in-Value g c =
+    let p = pass_in c.args.pass in
+    let band = band_in p c.args.block.now in
     let back = to_z-of_z w16 c.shifted.result (record { sfits = c.shifted.type_inv }) in
-    let room : c.in-Value.run' < length c.loop-at.band - c.loop-at.at = rw c.in-Value.is at c.in-Some.ensures.room in
+    let room : c.in-Value.run' < c.band_end-end.result - c.loop-at.at = rw c.in-Value.is at c.in-Some.ensures.room in
     let fits : FitsSigned w16 c.in-Value.value = search rules in
     let is = rw (to_z-of_z w16 c.in-Value.value fits) at c.shifted.ensures in
-    rw (c.from-at.ensures, back) record {
+    let end = c.band_end-end.ensures in
+    let last = c.requires.pass.end in
+    let from = c.loop-at.invariant.from in
+    let place = rw c.from-at.ensures at c.place_of.ensures.value in
+    rw (c.from-at.ensures, back, place) record {
       len = length-set _ _ _ ∙ c.loop-at.invariant.len;
-      within = omega (arith, length-set c.loop-at.band (c.loop-at.at + c.in-Value.run') c.shifted.result);
-      text = IsAt-value c.args.table.now c.args.point (first_ac c.args.table.now c.args.point (length c.args.band.now)
-          c.args.band.now) c.args.held.now c.loop-at.held c.read_token.new.held c.args.source.now c.loop-at.source
-          c.read_token.new.source c.loop-at.band c.loop-at.at c.loop-at-test.true c.in-Value.run' c.in-Value.value
-          c.shifted.result room is c.loop-at.invariant.text (rw c.in-Value.is at c.in-Some.ensures.token);
+      from = omega arith;
+      within = omega arith;
+      text = place-value c.args.table.now p (first_ac c.args.table.now p.al (length band) band) c.args.held.now
+          c.loop-at.held c.read_token.new.held c.args.source.now c.loop-at.source c.read_token.new.source
+          c.loop-at.block c.loop-at.at c.band_end-end.result c.requires.pass end from c.loop-at-test.true
+          c.in-Value.run' c.in-Value.value c.shifted.result c.loop-at.invariant.len room is c.loop-at.invariant.text
+          (rw c.in-Value.is at c.in-Some.ensures.token);
+      others = kept-set (band_start p) (band_end p) (c.loop-at.at + c.in-Value.run') c.args.block.now c.loop-at.block
+          c.shifted.result c.loop-at.invariant.len (omega arith) (omega arith) (omega arith)
+          c.loop-at.invariant.others;
     }
+
+pub loop-at-preserved-then-end-at-gt16 : goal.loop-at-preserved-then-end-at-gt16
+loop-at-preserved-then-end-at-gt16 g c =
+    let p = pass_in c.args.pass in
+    let band = band_in p c.args.block.now in
+    let end = c.band_end-end.ensures in
+    let from = c.loop-at.invariant.from in
+    record {
+      len = c.loop-at.invariant.len;
+      from = omega arith;
+      within = omega arith;
+      text = place-sixteen c.args.table.now p (first_ac c.args.table.now p.al (length band) band) c.args.held.now
+          c.loop-at.held c.read_token.new.held c.args.source.now c.loop-at.source c.read_token.new.source
+          c.loop-at.block c.loop-at.at c.band_end-end.result c.requires.pass end from c.loop-at-test.true
+          c.loop-at.invariant.text (rw c.in-Sixteen.is at c.in-Some.ensures.token);
+      others = c.loop-at.invariant.others;
+    }
+
+pub loop-at-preserved : goal.loop-at-preserved
+loop-at-preserved g c =
+    let p = pass_in c.args.pass in
+    let band = band_in p c.args.block.now in
+    let end = c.band_end-end.ensures in
+    let from = c.loop-at.invariant.from in
+    record {
+      len = c.loop-at.invariant.len;
+      from = omega arith;
+      within = omega arith;
+      text = place-all c.args.table.now p (first_ac c.args.table.now p.al (length band) band) c.args.held.now
+          c.loop-at.held c.read_token.new.held c.args.source.now c.loop-at.source c.read_token.new.source
+          c.loop-at.block c.loop-at.at c.band_end-end.result c.requires.pass end from c.loop-at-test.true
+          (omega (arith, c.if-end-at-gt16.false)) c.loop-at.invariant.text
+          (rw c.in-Sixteen.is at c.in-Some.ensures.token);
+      others = c.loop-at.invariant.others;
+    }
+
+pub returns-in-Rest-clause-band : goal.returns-in-Rest-clause-band
+returns-in-Rest-clause-band g c =
+    let p = pass_in c.args.pass in
+    let band = band_in p c.args.block.now in
+    place-rest c.args.table.now p (first_ac c.args.table.now p.al (length band) band) c.args.held.now c.loop-at.held
+    c.read_token.new.held c.args.source.now c.loop-at.source c.read_token.new.source c.loop-at.block c.loop-at.at
+    c.band_end-end.result c.requires.pass c.band_end-end.ensures c.loop-at.invariant.from c.loop-at-test.true
+    c.in-Rest.run' c.loop-at.invariant.text (rw c.in-Rest.is at c.in-Some.ensures.token)
+
+pub returns-in-Overlong-clause-band : goal.returns-in-Overlong-clause-band
+returns-in-Overlong-clause-band g c =
+    let p = pass_in c.args.pass in
+    let band = band_in p c.args.block.now in
+    place-overlong c.args.table.now p (first_ac c.args.table.now p.al (length band) band) c.args.held.now
+    c.loop-at.held c.read_token.new.held c.args.source.now c.loop-at.source c.read_token.new.source c.loop-at.block
+    c.loop-at.at c.band_end-end.result c.requires.pass c.band_end-end.ensures c.loop-at.invariant.from
+    c.loop-at-test.true c.loop-at.invariant.text (rw c.in-Overlong.is at c.in-Some.ensures.token)
+
+pub returns-clause-band : goal.returns-clause-band
+returns-clause-band g c =
+    let p = pass_in c.args.pass in
+    let band = band_in p c.args.block.now in
+    let end = c.band_end-end.ensures in
+    let stop = c.loop-at-test.false in
+    place-none c.args.table.now p (first_ac c.args.table.now p.al (length band) band) c.args.held.now c.loop-at.held
+    c.args.source.now c.loop-at.source c.loop-at.block c.loop-at.at c.requires.pass (omega arith)
+    c.loop-at.invariant.text

@@ -1,0 +1,138 @@
+-- The places of the zigzag order.
+use Rattle.std.proofs.Common.{◌≡◌, ℕ, ◌<◌, List, ◌∷◌, length, get_or, map, set, drop}
+use Rattle.std.proofs.Common.{replicate, ℤ, pos, refl, sym, ap, ◌∙◌, arith, true, length-set}
+use Rattle.std.proofs.lemmas.List.{ext_get_or, get_or-map, length-map, get_or-set_same, get_or-set_other}
+use Rattle.std.proofs.lemmas.List.Folds.{list_all_at}
+use Rattle.std.proofs.lemmas.List.FromFn.{get_or-range_with_len}
+use Rattle.std.proofs.lemmas.Bool.{cases_eq, cases_lt, ltb-true, false_from_ne_true, false≢true}
+use Rattle.std.proofs.Math.Logic.{⊎_elim}
+use Rattle.std.proofs.Math.Dec.{ltb}
+use Rattle.std.specs.List.{list_all, range_with_len}
+use Rattle.jpeg_bits.specs.Zigzag.{zigzag, zigzag_places, coefficients_in_zigzag, coefficients_in_block_order}
+
+length_zigzag : length zigzag ≡ 64
+length_zigzag = refl
+
+length_places : length zigzag_places ≡ 64
+unfolding zigzag_places
+length_places = refl
+
+each_below : (xs : List ℕ) (n : ℕ) → list_all (λ x. ltb x n) xs ≡ true → (i : ℕ) → i < length xs → get_or xs i 0 < n
+each_below xs n all i h = ⊎_elim (λ lt. lt)
+    (λ le. absurd (false≢true (sym (list_all_at (λ x. ltb x n) xs i 0 h (false_from_ne_true (ltb (get_or xs i 0) n)
+    (λ e. omega (arith, ltb-true (get_or xs i 0) n e)))) ∙ all))) (cases_lt (get_or xs i 0) n)
+
+-- each place in zigzag order is a place of the block
+pub zigzag_lt : (k : ℕ) → k < 64 → get_or zigzag k 0 < 64
+zigzag_lt k h = each_below zigzag 64 refl k h
+
+-- and each place of the block one in zigzag order
+pub places_lt : (k : ℕ) → k < 64 → get_or zigzag_places k 0 < 64
+unfolding zigzag_places
+places_lt k h = each_below zigzag_places 64 refl k h
+
+zigzag_then_places : map (λ place. get_or zigzag_places place 0) zigzag ≡ range_with_len 0 64
+unfolding zigzag_places
+zigzag_then_places = refl
+
+places_then_zigzag : map (λ place. get_or zigzag place 0) zigzag_places ≡ range_with_len 0 64
+unfolding zigzag_places
+places_then_zigzag = refl
+
+-- the two tables are inverse to one another
+pub places-zigzag : (k : ℕ) → k < 64 → get_or zigzag_places (get_or zigzag k 0) 0 ≡ k
+places-zigzag k h =
+    sym (get_or-map (λ place. get_or zigzag_places place 0) zigzag k 0 0 (omega (arith, length_zigzag)))
+    ∙ ap (λ (xs : List ℕ). get_or xs k 0) zigzag_then_places ∙ get_or-range_with_len 0 64 k 0 h ∙ omega arith
+
+pub zigzag-places : (k : ℕ) → k < 64 → get_or zigzag (get_or zigzag_places k 0) 0 ≡ k
+zigzag-places k h =
+    sym (get_or-map (λ place. get_or zigzag place 0) zigzag_places k 0 0 (omega (arith, length_places)))
+    ∙ ap (λ (xs : List ℕ). get_or xs k 0) places_then_zigzag ∙ get_or-range_with_len 0 64 k 0 h ∙ omega arith
+
+pub length-in_zigzag : (l : List ℤ) → length (coefficients_in_zigzag l) ≡ 64
+unfolding coefficients_in_zigzag
+length-in_zigzag l = length-map zigzag (λ place. get_or l place (pos 0)) ∙ length_zigzag
+
+pub length-in_block_order : (l : List ℤ) → length (coefficients_in_block_order l) ≡ 64
+unfolding coefficients_in_block_order
+length-in_block_order l = length-map zigzag_places (λ place. get_or l place (pos 0)) ∙ length_places
+
+-- a coefficient is read at its place in the block
+pub get_or-in_zigzag : (l : List ℤ) (k : ℕ) (d : ℤ) → k < 64
+    → get_or (coefficients_in_zigzag l) k d ≡ get_or l (get_or zigzag k 0) (pos 0)
+unfolding coefficients_in_zigzag
+get_or-in_zigzag l k d h = get_or-map (λ place. get_or l place (pos 0)) zigzag k 0 d (omega (arith, length_zigzag))
+
+pub get_or-in_block_order : (l : List ℤ) (k : ℕ) (d : ℤ) → k < 64
+    → get_or (coefficients_in_block_order l) k d ≡ get_or l (get_or zigzag_places k 0) (pos 0)
+unfolding coefficients_in_block_order
+get_or-in_block_order l k d h =
+    get_or-map (λ place. get_or l place (pos 0)) zigzag_places k 0 d (omega (arith, length_places))
+
+-- and written there
+pub in_zigzag-set : (l : List ℤ) (k : ℕ) (v : ℤ) → length l ≡ 64 → k < 64
+    → coefficients_in_zigzag (set l (get_or zigzag k 0) v) ≡ set (coefficients_in_zigzag l) k v
+in_zigzag-set l k v n h =
+    let p = get_or zigzag k 0 in
+    let lt : p < 64 = zigzag_lt k h in
+    ext_get_or (pos 0) (coefficients_in_zigzag (set l p v)) (set (coefficients_in_zigzag l) k v)
+    (length-in_zigzag (set l p v) ∙ sym (length-set (coefficients_in_zigzag l) k v ∙ length-in_zigzag l))
+    (λ i within.
+    let i_lt : i < 64 = omega (arith, length-in_zigzag (set l p v)) in
+    get_or-in_zigzag (set l p v) i (pos 0) i_lt
+    ∙ ⊎_elim (λ e. at_same i e) (λ ne. at_other i i_lt ne) (cases_eq i k))
+  where
+    at_same : (i : ℕ) → i ≡ k → get_or (set l (get_or zigzag k 0) v) (get_or zigzag i 0) (pos 0)
+        ≡ get_or (set (coefficients_in_zigzag l) k v) i (pos 0)
+    at_same i e =
+        let within : k < length (coefficients_in_zigzag l) = omega (arith, length-in_zigzag l) in
+        let inside : get_or zigzag k 0 < length l = omega (arith, zigzag_lt k h) in
+        rw e (get_or-set_same l (get_or zigzag k 0) v (pos 0) inside
+        ∙ sym (get_or-set_same (coefficients_in_zigzag l) k v (pos 0) within))
+
+    at_other : (i : ℕ) → i < 64 → (i ≡ k → ⊥) → get_or (set l (get_or zigzag k 0) v) (get_or zigzag i 0) (pos 0)
+        ≡ get_or (set (coefficients_in_zigzag l) k v) i (pos 0)
+    at_other i lt ne =
+        get_or-set_other l (get_or zigzag k 0) (get_or zigzag i 0) v (pos 0) (λ e. ne (sym (places-zigzag i lt)
+        ∙ ap (λ (place : ℕ). get_or zigzag_places place 0) e ∙ places-zigzag k h))
+        ∙ sym (get_or-in_zigzag l i (pos 0) lt)
+        ∙ sym (get_or-set_other (coefficients_in_zigzag l) k i v (pos 0) ne)
+
+-- a block of zeros has zeros in either order
+pub zeros-in_zigzag : coefficients_in_zigzag (replicate 64 (pos 0)) ≡ replicate 64 (pos 0)
+unfolding coefficients_in_zigzag
+zeros-in_zigzag = refl
+
+-- the two orders of a block's coefficients
+pub block_order-of-zigzag : (l : List ℤ) → length l ≡ 64
+    → coefficients_in_block_order (coefficients_in_zigzag l) ≡ l
+block_order-of-zigzag l n =
+    ext_get_or (pos 0) (coefficients_in_block_order (coefficients_in_zigzag l)) l
+    (length-in_block_order (coefficients_in_zigzag l) ∙ sym n)
+    (λ i within.
+    let lt : i < 64 = omega (arith, length-in_block_order (coefficients_in_zigzag l)) in
+    get_or-in_block_order (coefficients_in_zigzag l) i (pos 0) lt
+    ∙ get_or-in_zigzag l (get_or zigzag_places i 0) (pos 0) (places_lt i lt)
+    ∙ ap (λ (place : ℕ). get_or l place (pos 0)) (zigzag-places i lt))
+
+pub zigzag-of-block_order : (l : List ℤ) → length l ≡ 64
+    → coefficients_in_zigzag (coefficients_in_block_order l) ≡ l
+zigzag-of-block_order l n =
+    ext_get_or (pos 0) (coefficients_in_zigzag (coefficients_in_block_order l)) l
+    (length-in_zigzag (coefficients_in_block_order l) ∙ sym n)
+    (λ i within.
+    let lt : i < 64 = omega (arith, length-in_zigzag (coefficients_in_block_order l)) in
+    get_or-in_zigzag (coefficients_in_block_order l) i (pos 0) lt
+    ∙ get_or-in_block_order l (get_or zigzag i 0) (pos 0) (zigzag_lt i lt)
+    ∙ ap (λ (place : ℕ). get_or l place (pos 0)) (places-zigzag i lt))
+
+-- DC is first in both orders
+pub with_dc-in_zigzag : (l : List ℤ) → get_or l 0 (pos 0) ∷ drop 1 (coefficients_in_zigzag l)
+    ≡ coefficients_in_zigzag l
+unfolding coefficients_in_zigzag
+with_dc-in_zigzag l = refl
+
+pub ordered-block : (l : List ℤ) → length l ≡ 64
+    → coefficients_in_block_order (get_or l 0 (pos 0) ∷ drop 1 (coefficients_in_zigzag l)) ≡ l
+ordered-block l n = ap coefficients_in_block_order (with_dc-in_zigzag l) ∙ block_order-of-zigzag l n
