@@ -65,7 +65,8 @@ fn with_bit(value: i16, al: u8, bit: u16) -> i16
     value
 }
 
-/// The DC coefficient of a block. A refusal is held in its place, and answered by none.
+/// The DC coefficient of a block, in a pass that begins with it. A refusal is held in its place,
+/// and answered by none.
 #[inline]
 #[tactic(auto, using(crate::proofs::BlockParts::dc_rules))]
 fn read_dc<R: Read + Drop>(
@@ -77,15 +78,13 @@ fn read_dc<R: Read + Drop>(
     predictor: &mut i16,
     refusal: &mut Option<Error>,
 ) -> Option<i16>
-    requires { IsPass (pass_in pass) }
+    requires pass { IsPass (pass_in pass) }
+    requires dc { pass.ss ≡ 0 }
     ensures part { Takes (λ z. (z, predictor.new)) (dc_part (pass_in pass) table.now value
         predictor.old)
         held.old source.old (answer_of result refusal.new) held.new source.new }
     ensures held { IsHeld result refusal.new }
 {
-    if pass.ss > 0 {
-        return Some(value);
-    }
     if pass.is_first {
         let Some(difference) = read_difference(held, source, table, refusal) else {
             return None;
@@ -170,6 +169,10 @@ pub(crate) fn read_held_block<R: Read + Drop>(
         held.old source.old (outcome_of result refusal.new) held.new source.new }
     ensures held { result ≡ false → is_some refusal.new ≡ true }
 {
+    // A pass without DC often leaves a block as it is, which is then not even loaded.
+    if pass.ss > 0 {
+        return read_band(held, source, ac_table, pass, run, block, refusal);
+    }
     let Some(dc) = read_dc(held, source, dc_table, pass, block[0], predictor, refusal) else {
         return false;
     };

@@ -1,11 +1,12 @@
-use Rattle.std.proofs.Common.{◌≡◌, ℤ, pos, length, slice_index_or, w16, FitsSigned, rules}
+use Rattle.std.proofs.Common.{◌≡◌, ℤ, pos, length, set, slice_index_or, w16, FitsSigned, rules, refl}
+use Rattle.std.proofs.lemmas.List.{set-get_or}
 use Rattle.std.proofs.lemmas.Int.{to_z-of_z}
 use Rattle.std.specs.Int.{cast_signed, cast_unsigned}
 use Rattle.jpeg_bits.specs.Entropy.{upcoming}
 use Rattle.jpeg_bits.specs.Passes.{dc_part, block_from}
 use Rattle.jpeg_bits.specs.BlockView.{to_block, pass_in}
 use Rattle.jpeg_bits.proofs.BandSteps.{Leaves-whole, Leaves-err}
-use Rattle.jpeg_bits.proofs.BlockParts.{dc_step, dc_refused, block_read}
+use Rattle.jpeg_bits.proofs.BlockParts.{dc_step, dc_refused, dc_kept, block_read}
 use Rattle.jpeg_bits.proofs.blocks.read_held_block.Goals as goal
 
 pub returns-in_default-clause-block : goal.returns-in_default-clause-block
@@ -38,11 +39,11 @@ returns-clause-block g c =
     let s : cast_signed w16 (cast_unsigned w16 y) ≡ y = to_z-of_z w16 y (search rules) in
     let n : length block ≡ 64 = search rules in
     let q = c.in-Some.ensures.part in
-    block_read p c.args.ac_table.now y c.read_dc.new.predictor c.args.run.now c.read_band.new.run block
-    c.read_band.new.block (block_from p c.args.dc_table.now c.args.ac_table.now c.args.predictor.now c.args.run.now
-    (to_block block)) c.args.held.now c.read_dc.new.held c.read_band.new.held c.args.source.now c.read_dc.new.source
-    c.read_band.new.source c.read_band.new.refusal c.read_band.result n c.requires.pass
-    (rw s at c.read_band.ensures.others) (
+    block_read p c.args.ac_table.now y c.read_dc.new.predictor c.args.run.now c.read_band-2.new.run block
+    c.read_band-2.new.block (block_from p c.args.dc_table.now c.args.ac_table.now c.args.predictor.now c.args.run.now
+    (to_block block)) c.args.held.now c.read_dc.new.held c.read_band-2.new.held c.args.source.now c.read_dc.new.source
+    c.read_band-2.new.source c.read_band-2.new.refusal c.read_band-2.result n c.requires.pass
+    (rw s at c.read_band-2.ensures.others) (
       q.0,
       λ k. let at = q.1 k in (
         at.0,
@@ -51,4 +52,27 @@ returns-clause-block g c =
             (upcoming c.args.held.now c.args.source.now.bytes) (upcoming c.read_dc.new.held c.read_dc.new.source.bytes)
             z at.1,
       ),
-    ) (rw s at c.read_band.ensures.band)
+    ) (rw s at c.read_band-2.ensures.band)
+
+pub returns-then-pass-gt0-clause-block : goal.returns-then-pass-gt0-clause-block
+returns-then-pass-gt0-clause-block g c =
+    let block = c.args.block.now in
+    let p = pass_in c.args.pass in
+    let first = slice_index_or block 0 (pos 0) in
+    let n : length block ≡ 64 = search rules in
+    let same : set block 0 first ≡ block = set-get_or block 0 (pos 0) in
+    block_read p c.args.ac_table.now first c.args.predictor.now c.args.run.now c.read_band.new.run block
+    c.read_band.new.block (block_from p c.args.dc_table.now c.args.ac_table.now c.args.predictor.now c.args.run.now
+    (to_block block)) c.args.held.now c.args.held.now c.read_band.new.held c.args.source.now c.args.source.now
+    c.read_band.new.source c.read_band.new.refusal c.read_band.result n c.requires.pass
+    (rw same c.read_band.ensures.others) (
+      refl,
+      λ k. (
+        k,
+        dc_step p c.args.dc_table.now c.args.ac_table.now c.args.predictor.now first c.args.predictor.now
+            first c.args.run.now block (upcoming c.args.held.now c.args.source.now.bytes)
+            (upcoming c.args.held.now c.args.source.now.bytes) refl
+            (dc_kept p c.args.dc_table.now first c.args.predictor.now _ c.if-pass-gt0.true),
+      ),
+    )
+    (rw same c.read_band.ensures.band)
