@@ -11,7 +11,7 @@ use Rattle.jpeg_pixels.specs.Samples.{HasFirstOnly}
 use Rattle.jpeg_pixels.proofs.Columns.{flat_value}
 use Rattle.jpeg_pixels.proofs.Sums.{transformed_one}
 
-all_below_true : (p : ℕ → Bool) (n : ℕ) → ((k : ℕ) → k < n → p k ≡ true) → all_below p n ≡ true
+pub all_below_true : (p : ℕ → Bool) (n : ℕ) → ((k : ℕ) → k < n → p k ≡ true) → all_below p n ≡ true
 all_below_true p zero h = refl
 all_below_true p (suc n) h = λ i. all_below_true p n (λ k l. h k (omega arith)) i && h n (omega arith) i
 

@@ -10,7 +10,8 @@ use Rattle.jpeg_pixels.specs.LaneRows.{lane_at, column_of, HasNumbers, IsTurned}
 use Rattle.jpeg_pixels.specs.Samples.{dequantized, transformed, column_value, is_flat_column}
 use Rattle.jpeg_pixels.proofs.Sums.{transformed_same}
 use Rattle.jpeg_pixels.proofs.Columns.{flat_value, other_value}
-use Rattle.jpeg_pixels.proofs.LaneSums.{lane-lanes, lanes_same, lanes_read, lane_wrapped}
+use Rattle.jpeg_pixels.proofs.LaneSums.{lane-lanes, lanes_same, lanes_read, lanes_read_fitting, lanes_given}
+use Rattle.jpeg_pixels.proofs.LaneSums.{lane_wrapped}
 use Rattle.jpeg_pixels.proofs.LaneChoice.{settled_is}
 
 pub eight_cases : (P : ℕ → Type 0) → P 0 → P 1 → P 2 → P 3 → P 4 → P 5 → P 6 → P 7 → (k : ℕ) → k < 8 → P k
@@ -81,40 +82,40 @@ turned_numbers rows turned f e t = record {
   r7 = t.r7 ∙ column_is rows f e 7 (lit< tt);
 }
 
--- what the kernel leaves of rows whose numbers are known
-pub kernel_row : (rows : Rows) (f : ℕ → ℕ → ℤ) (bias : ℤ) (v : List ℤ) (place : ℕ) → HasNumbers rows f
-    → v ≡ lanes (λ j. int_wrap w32 (transformed (λ k. lane_at rows k j) place +ℤ bias))
-    → v ≡ lanes (λ j. int_wrap w32 (transformed (λ k. f k j) place +ℤ bias))
-kernel_row rows f bias v place e is = is ∙ lanes_same _ (λ j. int_wrap w32 (transformed (λ k. f k j) place +ℤ bias))
-    (λ j h. ap (λ z. int_wrap w32 (z +ℤ bias)) (transformed_same (λ k. lane_at rows k j) (λ k. f k j) place
-    (λ k hk. lane_at_is rows f e k j hk h)))
+-- the sums of rows that stand turned, where their numbers are known
+pub sums_numbers : (turned rows : Rows) (f : ℕ → ℕ → ℤ) → HasNumbers turned (λ k j. f j k)
+    → HasNumbers rows (λ y x. int_wrap w32 (transformed (λ k. lane_at turned k y) x +ℤ pos 16842752))
+    → HasNumbers rows (λ y x. int_wrap w32 (transformed (f y) x +ℤ pos 16842752))
+sums_numbers turned rows f numbers sums = record {
+  r0 = sums.r0 ∙ row 0 (lit< tt);
+  r1 = sums.r1 ∙ row 1 (lit< tt);
+  r2 = sums.r2 ∙ row 2 (lit< tt);
+  r3 = sums.r3 ∙ row 3 (lit< tt);
+  r4 = sums.r4 ∙ row 4 (lit< tt);
+  r5 = sums.r5 ∙ row 5 (lit< tt);
+  r6 = sums.r6 ∙ row 6 (lit< tt);
+  r7 = sums.r7 ∙ row 7 (lit< tt);
+}
+  where
+    row : (y : ℕ) → y < 8 → lanes (λ x. int_wrap w32 (transformed (λ k. lane_at turned k y) x +ℤ pos 16842752))
+        ≡ lanes (λ x. int_wrap w32 (transformed (f y) x +ℤ pos 16842752))
+    row y h = lanes_same _ _ (λ x _. ap (λ z. int_wrap w32 (z +ℤ pos 16842752))
+        (transformed_same (λ k. lane_at turned k y) (f y) x
+        (λ k hk. lane_at_is turned (λ k j. f j k) numbers k y hk h)))
 
 own_lanes : (v : List ℤ) → length v ≡ 8 → v ≡ lanes (λ j. lane v j)
 unfolding lanes
 own_lanes v e = fill_by_all (λ j. lane v j) v 8 (pos 0) e (λ k h. refl)
 
-pub own_numbers : (rows : Rows) → length rows.r0 ≡ 8 → length rows.r1 ≡ 8 → length rows.r2 ≡ 8 → length rows.r3 ≡ 8
-    → length rows.r4 ≡ 8 → length rows.r5 ≡ 8 → length rows.r6 ≡ 8 → length rows.r7 ≡ 8 → HasNumbers rows (lane_at rows)
-own_numbers rows a b c d e f g h =
-    record {
-      r0 = own_lanes rows.r0 a;
-      r1 = own_lanes rows.r1 b;
-      r2 = own_lanes rows.r2 c;
-      r3 = own_lanes rows.r3 d;
-      r4 = own_lanes rows.r4 e;
-      r5 = own_lanes rows.r5 f;
-      r6 = own_lanes rows.r6 g;
-      r7 = own_lanes rows.r7 h;
-    }
+-- a vector that went to its bits and back
+pub kept_lanes : (v : List ℤ) → length v ≡ 8 → ((j : ℕ) → FitsSigned w32 (lane v j)) → map (to_z w32) (map (of_z w32) v)
+    ≡ v
+kept_lanes v e fits = lanes_read_fitting (lanes_given v e fits) (λ j. refl) fits ∙ sym (own_lanes v e)
 
 -- a row of sums, as it is read from its bits
-pub sums_row : (columns : Rows) (f : ℕ → ℕ → ℤ) (v : List ℤ) (y : ℕ) → HasNumbers columns f → y < 8
-    → v ≡ lanes (λ x. int_wrap w32 (transformed (λ k. lane_at columns y k) x +ℤ pos 16842752))
-    → (x : ℕ) → x < 8 → get_or (map (to_z w32) (map (of_z w32) v)) x (pos 0) ≡ int_wrap w32 (transformed (f y) x
-    +ℤ pos 16842752)
-sums_row columns f v y e hy is x hx =
-    lane-lanes (map (to_z w32) (map (of_z w32) v)) (λ j. int_wrap w32 (transformed (λ k. lane_at columns y k) j
-    +ℤ pos 16842752))
-    (lanes_read (lane_wrapped v (λ j. transformed (λ k. lane_at columns y k) j +ℤ pos 16842752) is) (λ j. refl)) x hx
-    ∙ ap (λ z. int_wrap w32 (z +ℤ pos 16842752)) (transformed_same (λ k. lane_at columns y k) (f y) x
-    (λ k hk. lane_at_is columns f e y k hy hk))
+pub sums_row : (f : ℕ → ℕ → ℤ) (v : List ℤ) (y : ℕ)
+    → v ≡ lanes (λ x. int_wrap w32 (transformed (f y) x +ℤ pos 16842752)) → (x : ℕ) → x < 8
+    → get_or (map (to_z w32) (map (of_z w32) v)) x (pos 0) ≡ int_wrap w32 (transformed (f y) x +ℤ pos 16842752)
+sums_row f v y is x hx =
+    lane-lanes (map (to_z w32) (map (of_z w32) v)) (λ j. int_wrap w32 (transformed (f y) j +ℤ pos 16842752))
+    (lanes_read (lane_wrapped v (λ j. transformed (f y) j +ℤ pos 16842752) is) (λ j. refl)) x hx

@@ -5,6 +5,7 @@ pub mod LaneRows
 pub mod LaneSums
 pub mod MatrixRows
 pub mod Columns
+pub mod Corners
 pub mod Residues
 pub mod Sums
 pub mod FewSamples

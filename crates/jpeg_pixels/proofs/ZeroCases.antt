@@ -21,7 +21,7 @@ zero_row coefficients quantization x y h none =
     ap (λ z. clamped (int_shr (int_wrap w32 (z +ℤ pos 16842752)) 17))
     (transformed_one (column_value coefficients quantization y) x h none)
 
-both_true : (a b : Bool) → (a && b) ≡ true → (a ≡ true) × (b ≡ true)
+pub both_true : (a b : Bool) → (a && b) ≡ true → (a ≡ true) × (b ≡ true)
 both_true true true e = (refl, refl)
 both_true true false e = (refl, e)
 both_true false b e = (e, cc)
@@ -32,7 +32,7 @@ below_true p (suc n) k e h =
     let parts = both_true (all_below p n) (p n) e in
     ⊎_elim (below_true p n k parts.0) (λ le. let is : n ≡ k = omega arith in ap p (sym is) ∙ parts.1) (cases_lt k n)
 
-none_of : (z : ℤ) → (unsigned_abs z == 0) ≡ true → z ≡ pos 0
+pub none_of : (z : ℤ) → (unsigned_abs z == 0) ≡ true → z ≡ pos 0
 none_of z e = let n : unsigned_abs z ≡ 0 = eqb-true (unsigned_abs z) 0 e in omega (arith, ints, n)
 
 -- below the first row of a flat column each product is 0

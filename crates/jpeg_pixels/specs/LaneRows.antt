@@ -23,6 +23,13 @@ pub record HasNumbers (rows : Rows) (f : ℕ → ℕ → ℤ) : Type 0 where
   pub r6 : rows.r6 ≡ lanes (f 6)
   pub r7 : rows.r7 ≡ lanes (f 7)
 
+-- the last four rows are 0
+pub record HasZeros (rows : Rows) : Type 0 where
+  pub r4 : rows.r4 ≡ lanes (λ _. pos 0)
+  pub r5 : rows.r5 ≡ lanes (λ _. pos 0)
+  pub r6 : rows.r6 ≡ lanes (λ _. pos 0)
+  pub r7 : rows.r7 ≡ lanes (λ _. pos 0)
+
 -- rows and columns exchanged
 pub record IsTurned (rows turned : Rows) : Type 0 where
   pub r0 : turned.r0 ≡ column_of rows 0

@@ -2,14 +2,14 @@
 //! pixels.
 ghost use Rattle.std.specs.Prelude.{◌≡◌, ℕ, ◌+◌, ◌*◌, ◌<◌, ◌≤◌, pos, neg_ℤ, ◌+ℤ◌, ◌-ℤ◌, ◌*ℤ◌};
 ghost use Rattle.std.specs.Prelude.{length, slice_index_or, [], ◌∷◌, map, ⊤, slice_index};
-ghost use Rattle.std.specs.Prelude.{if◌then◌else◌, ◌%◌, ◌/◌, ◌==◌};
+ghost use Rattle.std.specs.Prelude.{if◌then◌else◌, ◌%◌, ◌/◌, ◌==◌, true};
 ghost use Rattle.std.specs.Int.{w32, int_wrap, int_shr};
 ghost use Rattle.std.specs.List.{range_with_len};
 ghost use Rattle.jpeg_pixels.specs.Samples.{transformed, clamped, is_flat_column, dequantized};
-ghost use Rattle.jpeg_pixels.specs.Samples.{column_value, sample};
+ghost use Rattle.jpeg_pixels.specs.Samples.{column_value, sample, IsInCorner};
 ghost use Rattle.jpeg_pixels.specs.Lanes.{lanes, lane, lane_is_zero};
 ghost use Rattle.jpeg_pixels.specs.Blocks.{WritesBlock};
-ghost use Rattle.jpeg_pixels.specs.LaneRows.{lane_at, HasNumbers, IsTurned};
+ghost use Rattle.jpeg_pixels.specs.LaneRows.{lane_at, HasNumbers, HasZeros, IsTurned};
 
 pub use crate::color_rows::color_convert_line_ycbcr;
 use crate::idct::{COLUMN_BIAS, ROW_BIAS, sample_of};
@@ -143,6 +143,42 @@ fn products(coefficients: [i16; 64], quantization_table: &[u16; 64], at: usize) 
     c * q
 }
 
+// Whether each coefficient outside of the top left 4x4 corner is 0.
+fn is_in_corner(coefficients: [i16; 64]) -> bool
+    ensures { result ≡ true → IsInCorner coefficients }
+{
+    let upper = i16x8::from_slice(&coefficients[..])
+        | i16x8::from_slice(&coefficients[8..])
+        | i16x8::from_slice(&coefficients[16..])
+        | i16x8::from_slice(&coefficients[24..]);
+    let lower = i16x8::from_slice(&coefficients[32..])
+        | i16x8::from_slice(&coefficients[40..])
+        | i16x8::from_slice(&coefficients[48..])
+        | i16x8::from_slice(&coefficients[56..]);
+    let right = upper.swizzle([4, 5, 6, 7, 4, 5, 6, 7]);
+    (lower | right).simd_eq(i16x8::splat(0)).all()
+}
+
+// The same rows, of which the last four are 0. Behind this the compiler knows them as zeros, and
+// drops their products as well as all that would make those rows.
+#[inline(always)]
+fn with_zeros(rows: Rows) -> Rows
+    requires { HasZeros rows }
+    ensures { result ≡ rows }
+{
+    let zeros = i32x8::splat(0);
+    Rows {
+        r0: rows.r0,
+        r1: rows.r1,
+        r2: rows.r2,
+        r3: rows.r3,
+        r4: zeros,
+        r5: zeros,
+        r6: zeros,
+        r7: zeros,
+    }
+}
+
 // Is 0 in the lanes of the columns that have nothing below the first row.
 fn below_first_row(coefficients: [i16; 64]) -> i32x8
     ensures { (j : ℕ) → j < 8 → lane_is_zero result j ≡ is_flat_column coefficients j }
@@ -180,15 +216,14 @@ fn dequantized_rows(coefficients: [i16; 64], quantization_table: &[u16; 64]) -> 
     }
 }
 
-fn transform_columns(coefficients: [i16; 64], quantization_table: &[u16; 64]) -> Rows
+// The columns of a block whose dequantized coefficients are given.
+fn transform_columns(coefficients: [i16; 64], quantization_table: &[u16; 64], inputs: Rows) -> Rows
+    requires { HasNumbers inputs (dequantized coefficients quantization_table.now) }
     ensures { HasNumbers result (column_value coefficients quantization_table.now) }
 {
     let below = below_first_row(coefficients);
     let flat = flat_row(coefficients, quantization_table);
-    let sums = kernel(
-        dequantized_rows(coefficients, quantization_table),
-        COLUMN_BIAS,
-    );
+    let sums = kernel(inputs, COLUMN_BIAS);
     let is_flat = below.simd_eq(i32x8::splat(0));
     Rows {
         r0: is_flat.select(flat, sums.r0 >> 10),
@@ -202,12 +237,44 @@ fn transform_columns(coefficients: [i16; 64], quantization_table: &[u16; 64]) ->
     }
 }
 
-// The sums of the samples, by rows, before the last shift.
-fn transform_rows(columns: Rows) -> Rows
+// The sums of the samples, before the last shift, of columns whose values stand in rows.
+fn transform_rows(turned: Rows) -> Rows
     ensures { HasNumbers result
-        (λ y x. int_wrap w32 (transformed (λ k. lane_at columns y k) x +ℤ pos 16842752)) }
+        (λ y x. int_wrap w32 (transformed (λ k. lane_at turned k y) x +ℤ pos 16842752)) }
 {
-    transpose(kernel(transpose(columns), ROW_BIAS))
+    transpose(kernel(turned, ROW_BIAS))
+}
+
+// The sums of the samples, by rows, before the last shift.
+fn transform_whole(coefficients: [i16; 64], quantization_table: &[u16; 64]) -> Rows
+    ensures { HasNumbers result (λ y x. int_wrap w32
+        (transformed (column_value coefficients quantization_table.now y) x +ℤ pos 16842752)) }
+{
+    let inputs = dequantized_rows(coefficients, quantization_table);
+    let columns = transform_columns(coefficients, quantization_table, inputs);
+    transform_rows(transpose(columns))
+}
+
+// The same sums of a block that has only its corner: half of what either pass takes is 0.
+fn transform_corner(coefficients: [i16; 64], quantization_table: &[u16; 64]) -> Rows
+    requires { IsInCorner coefficients }
+    ensures { HasNumbers result (λ y x. int_wrap w32
+        (transformed (column_value coefficients quantization_table.now y) x +ℤ pos 16842752)) }
+{
+    let inputs = with_zeros(dequantized_rows(coefficients, quantization_table));
+    let columns = transform_columns(coefficients, quantization_table, inputs);
+    transform_rows(with_zeros(transpose(columns)))
+}
+
+fn transform(coefficients: [i16; 64], quantization_table: &[u16; 64]) -> Rows
+    ensures { HasNumbers result (λ y x. int_wrap w32
+        (transformed (column_value coefficients quantization_table.now y) x +ℤ pos 16842752)) }
+{
+    if is_in_corner(coefficients) {
+        transform_corner(coefficients, quantization_table)
+    } else {
+        transform_whole(coefficients, quantization_table)
+    }
 }
 
 // The sums of the samples, before the last shift.
@@ -216,7 +283,7 @@ fn sums_of(coefficients: [i16; 64], quantization_table: &[u16; 64]) -> [[i32; 8]
         ≡ int_wrap w32 (transformed (column_value coefficients quantization_table.now y) x +ℤ pos
         16842752) }
 {
-    let rows = transform_rows(transform_columns(coefficients, quantization_table));
+    let rows = transform(coefficients, quantization_table);
     [
         rows.r0.to_array(),
         rows.r1.to_array(),

@@ -171,6 +171,45 @@ fn lanes_give_the_same_samples(rt: HostRuntime) {
     }
 }
 
+// The same block with zeros outside of its top left 4x4 corner.
+fn corner_of(coefficients: [i16; 64]) -> [i16; 64] {
+    let mut corner = coefficients;
+    for place in 0..64 {
+        if place / 8 >= 4 || place % 8 >= 4 {
+            corner[place] = 0;
+        }
+    }
+    corner
+}
+
+fn lanes_agree(coefficients: &[i16; 64], quantization_table: &[u16; 64]) -> bool {
+    samples_by_lanes(coefficients, quantization_table)
+        == samples_of(coefficients, quantization_table)
+}
+
+#[test]
+fn lanes_of_corners(rt: HostRuntime) {
+    for (coefficients, quantization_table) in [
+        (COEFFICIENTS, QUANTIZATION_TABLE),
+        ([32767; 64], [65535; 64]),
+        ([-32768; 64], [65535; 64]),
+        ([-1; 64], [1; 64]),
+    ] {
+        let corner = corner_of(coefficients);
+        assert!(rt; lanes_agree(&corner, &quantization_table));
+        for place in 0..64 {
+            for coefficient in [1, -32768] {
+                let mut block = corner;
+                block[place] = coefficient;
+                assert!(rt;
+                    lanes_agree(&block, &quantization_table),
+                    "{coefficient} at {place}"
+                );
+            }
+        }
+    }
+}
+
 #[test]
 fn bytes_between_lines_of_lanes_stay(rt: HostRuntime) {
     let mut bytes = [7; 148];

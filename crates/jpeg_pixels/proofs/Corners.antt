@@ -1,0 +1,153 @@
+-- Blocks whose coefficients outside of the top left 4x4 corner are 0.
+use Rattle.std.proofs.Common.{◌≡◌, ℕ, ◌+◌, ◌*◌, ◌<◌, ◌≤◌, suc, List, length, get_or, ℤ, pos, ◌*ℤ◌, refl, sym}
+use Rattle.std.proofs.Common.{ap, ◌∙◌, map, FitsSigned, of_z, arith, Bool, true, false, ◌==◌, unsigned_abs, eqb}
+use Rattle.std.proofs.Common.{cond, replicate, ◌%◌, ◌/◌, ◌^◌, ◌-◌, ◌++◌, ◌∷◌, [], nat_eq, lit≤}
+use Rattle.std.proofs.lemmas.Int.{ints, int_wrap_fits}
+use Rattle.std.proofs.lemmas.Simd.{bitmask_splat, bit_mask_l, map-map, get_or-chunk, length-chunk}
+use Rattle.std.proofs.lemmas.Bool.{eqb-true}
+use Rattle.std.proofs.lemmas.List.FromFn.{fill_by_all, length-map-range_with_len, get_or-map-range_with_len}
+use Rattle.std.specs.List.{range_with_len}
+use Rattle.std.specs.Int.{w16, w32, int_wrap}
+use Rattle.std.specs.Int.Bits.{bit_or}
+use lib.Lanes.{zip2, mask_l, top, pick_l, chunk}
+use Rattle.jpeg_pixels.specs.declared.arch.Rows.{Rows}
+use Rattle.jpeg_pixels.specs.LaneRows.{HasNumbers, HasZeros}
+use Rattle.jpeg_pixels.specs.Samples.{is_zero_at, is_flat_column, dequantized, column_value, IsInCorner}
+use Rattle.jpeg_pixels.proofs.Columns.{flat_value}
+use Rattle.jpeg_pixels.proofs.FlatBlocks.{all_below_true}
+use Rattle.jpeg_pixels.proofs.LaneSums.{lanes_same}
+use Rattle.jpeg_pixels.proofs.ZeroCases.{none_of, both_true}
+use Rattle.jpeg_pixels.proofs.LaneRows.{eight_cases}
+use Rattle.jpeg_pixels.proofs.LaneChoice.{IsBits, or_zero, half_zero}
+
+-- rows whose last four have only zeros
+pub zero_rows : (rows : Rows) (f : ℕ → ℕ → ℤ) → HasNumbers rows f
+    → ((k j : ℕ) → 4 ≤ k → k < 8 → j < 8 → f k j ≡ pos 0) → HasZeros rows
+zero_rows rows f e none = record {
+  r4 = e.r4 ∙ lanes_same (f 4) (λ _. pos 0) (λ j h. none 4 j (omega arith) (omega arith) h);
+  r5 = e.r5 ∙ lanes_same (f 5) (λ _. pos 0) (λ j h. none 5 j (omega arith) (omega arith) h);
+  r6 = e.r6 ∙ lanes_same (f 6) (λ _. pos 0) (λ j h. none 6 j (omega arith) (omega arith) h);
+  r7 = e.r7 ∙ lanes_same (f 7) (λ _. pos 0) (λ j h. none 7 j (omega arith) (omega arith) h);
+}
+
+nothing_times : (z : ℤ) (n : ℕ) → z ≡ pos 0 → z *ℤ pos n ≡ pos 0
+nothing_times z n e = ap (λ y. y *ℤ pos n) e ∙ omega (arith, ints)
+
+-- below the corner each product is 0
+pub no_product_below : (coefficients : List ℤ) (quantization : List ℕ) → IsInCorner coefficients → (row column : ℕ)
+    → 4 ≤ row → row < 8 → column < 8 → dequantized coefficients quantization row column ≡ pos 0
+unfolding dequantized
+no_product_below coefficients quantization corner row column below h h' =
+    nothing_times _ (get_or quantization (row * 8 + column) 0) (corner.below row column below h h')
+
+-- and to its right each column is flat, and 0
+pub no_value_right : (coefficients : List ℤ) (quantization : List ℕ) → IsInCorner coefficients → (row column : ℕ)
+    → 4 ≤ column → column < 8 → column_value coefficients quantization row column ≡ pos 0
+unfolding dequantized is_flat_column
+no_value_right coefficients quantization corner row column right h =
+    flat_value coefficients quantization row column
+    (all_below_true (is_zero_at coefficients column) 7 (λ k l. ap (λ z. unsigned_abs z == 0)
+    (corner.right (suc k) column (omega arith) right h)))
+    ∙ ap (λ z. int_wrap w32 (pos 4 *ℤ z))
+    (nothing_times _ (get_or quantization (0 * 8 + column) 0) (corner.right 0 column (omega arith) right h))
+    ∙ int_wrap_fits w32 (pos 0) (omega (arith, ints))
+
+-- ---- the test of a block
+
+abbrev row_bits : List ℤ → ℕ → ℕ → ℕ
+row_bits coefficients at j = of_z w16 (get_or coefficients (at + j) (pos 0))
+
+abbrev pub upper_bits : List ℤ → ℕ → ℕ
+upper_bits coefficients j = bit_or (bit_or (bit_or (row_bits coefficients 0 j) (row_bits coefficients 8 j))
+    (row_bits coefficients 16 j)) (row_bits coefficients 24 j)
+
+abbrev pub lower_bits : List ℤ → ℕ → ℕ
+lower_bits coefficients j = bit_or (bit_or (bit_or (row_bits coefficients 32 j) (row_bits coefficients 40 j))
+    (row_bits coefficients 48 j)) (row_bits coefficients 56 j)
+
+pub first_bits : (coefficients : List ℤ) → length coefficients ≡ 64
+    → IsBits (map (of_z w16) (chunk 0 8 coefficients)) (row_bits coefficients 0)
+first_bits coefficients long =
+    let row = λ (j : ℕ). get_or coefficients (0 + j) (pos 0) in
+    let room : 0 + 8 ≤ length coefficients = omega arith in
+    record {
+      is = ap (map (of_z w16)) (fill_by_all row (chunk 0 8 coefficients) 8 (pos 0)
+          (length-chunk 0 8 coefficients room) (λ k h. get_or-chunk 0 8 coefficients k (pos 0) h))
+          ∙ map-map (of_z w16) row (range_with_len 0 8);
+    }
+
+-- each of eight lanes is 0 where the mask of the zero lanes is full
+pub all_zero : (v : List ℕ) (f : ℕ → ℕ) → IsBits v f
+    → nat_eq (mask_l (map (top 15) (zip2 (λ a b. cond (eqb a b) 65535 0) v (replicate 8 0))) % 18446744073709551616) 255
+    ≡ true → (j : ℕ) → j < 8 → eqb (f j) 0 ≡ true
+all_zero v f bits full j h =
+    let places = range_with_len 0 8 in
+    let long : length v ≡ 8 = ap (λ (l : List ℕ). length l) bits.is ∙ length-map-range_with_len f 0 8 in
+    let zeros = λ (l : List ℕ). map (λ x. eqb x 0) l in
+    let mask : mask_l (zeros v) ≡ 255 = sym (bitmask_splat w16 eqb v 8 0 long (lit≤ tt)) ∙ eqb-true _ 255 full in
+    let bit : (i : ℕ) → 255 / 2 ^ i % 2 ≡ cond (get_or (zeros v) i false) 1 0 =
+    λ i. ap (λ (n : ℕ). n / 2 ^ i % 2) (sym mask) ∙ bit_mask_l (zeros v) i in
+    let here : get_or (zeros v) j false ≡ eqb (f j) 0 =
+    ap (λ (l : List ℕ). get_or (zeros l) j false) bits.is
+    ∙ ap (λ (l : List Bool). get_or l j false) (map-map (λ x. eqb x 0) f places)
+    ∙ get_or-map-range_with_len (λ i. eqb (f i) 0) 0 8 j j false h (omega arith) in
+    sym here ∙ set_bit (get_or (zeros v) j false) (sym (bit j)
+    ∙ eight_cases (λ (i : ℕ). 255 / 2 ^ i % 2 ≡ 1) refl refl refl refl refl refl refl refl j h)
+  where
+    set_bit : (b : Bool) → ◌≡◌ {A = ℕ} (cond b 1 0) 1 → b ≡ true
+    set_bit true e = refl
+    set_bit false e = absurd (omega (arith, e))
+
+-- the last four lanes, twice
+pub last_lanes : {v : List ℕ} {f : ℕ → ℕ} → IsBits v f
+    → IsBits (pick_l 0 (v ++ v) (4 ∷ 5 ∷ 6 ∷ 7 ∷ 4 ∷ 5 ∷ 6 ∷ 7 ∷ [])) (λ j. f (4 + j % 4))
+last_lanes bits = record { is = ap (λ (l : List ℕ). pick_l 0 (l ++ l) (4 ∷ 5 ∷ 6 ∷ 7 ∷ 4 ∷ 5 ∷ 6 ∷ 7 ∷ [])) bits.is }
+
+parts : (a b : ℕ) → eqb (bit_or a b) 0 ≡ true → (eqb a 0 ≡ true) × (eqb b 0 ≡ true)
+parts a b e = both_true (eqb a 0) (eqb b 0) (sym (or_zero a b) ∙ e)
+
+-- where four rows have only zeros in a lane
+record AreZero (a b c d : ℕ) : Type 0 where
+  pub first : eqb a 0 ≡ true
+  pub second : eqb b 0 ≡ true
+  pub third : eqb c 0 ≡ true
+  pub fourth : eqb d 0 ≡ true
+
+four : (a b c d : ℕ) → eqb (bit_or (bit_or (bit_or a b) c) d) 0 ≡ true → AreZero a b c d
+four a b c d e =
+    let abc = parts (bit_or (bit_or a b) c) d e in
+    let ab = parts (bit_or a b) c abc.0 in
+    let two = parts a b ab.0 in
+    record { first = two.0; second = two.1; third = ab.1; fourth = abc.1 }
+
+pub corner_is : (coefficients : List ℤ) → ((j : ℕ) → FitsSigned w16 (get_or coefficients j (pos 0)))
+    → ((j : ℕ) → j < 8 → eqb (bit_or (lower_bits coefficients j) (upper_bits coefficients (4 + j % 4))) 0 ≡ true)
+    → IsInCorner coefficients
+corner_is coefficients fits tested = record {
+  below = λ row column h h' l. eight_cases (λ (i : ℕ). 4 ≤ i → get_or coefficients (i * 8 + column) (pos 0) ≡ pos 0)
+      (λ low. absurd (omega (arith, low))) (λ low. absurd (omega (arith, low))) (λ low. absurd (omega (arith, low)))
+      (λ low. absurd (omega (arith, low)))
+      (λ _. none (32 + column) (lower column l).first) (λ _. none (40 + column) (lower column l).second)
+      (λ _. none (48 + column) (lower column l).third) (λ _. none (56 + column) (lower column l).fourth) row h' h;
+  right = λ row column h h' l. eight_cases (λ (i : ℕ). get_or coefficients (i * 8 + column) (pos 0) ≡ pos 0)
+      (none (0 + column) (upper column h' l).first) (none (8 + column) (upper column h' l).second)
+      (none (16 + column) (upper column h' l).third) (none (24 + column) (upper column h' l).fourth)
+      (none (32 + column) (lower column l).first) (none (40 + column) (lower column l).second)
+      (none (48 + column) (lower column l).third) (none (56 + column) (lower column l).fourth) row h;
+}
+  where
+    none : (place : ℕ) → eqb (of_z w16 (get_or coefficients place (pos 0))) 0 ≡ true
+        → get_or coefficients place (pos 0) ≡ pos 0
+    none place e = none_of _ (sym (half_zero _ (fits place)) ∙ e)
+
+    lower : (j : ℕ) → j < 8 → AreZero (row_bits coefficients 32 j) (row_bits coefficients 40 j)
+        (row_bits coefficients 48 j) (row_bits coefficients 56 j)
+    lower j h = four _ _ _ _ (parts (lower_bits coefficients j) (upper_bits coefficients (4 + j % 4)) (tested j h)).0
+
+    upper : (j : ℕ) → 4 ≤ j → j < 8 → AreZero (row_bits coefficients 0 j) (row_bits coefficients 8 j)
+        (row_bits coefficients 16 j) (row_bits coefficients 24 j)
+    upper j low h =
+        let e : 4 + (j - 4) % 4 ≡ j = omega arith in
+        four _ _ _ _ (ap (λ (n : ℕ). eqb (upper_bits coefficients n) 0) (sym e)
+        ∙ (parts (lower_bits coefficients (j - 4)) (upper_bits coefficients (4 + (j - 4) % 4))
+        (tested (j - 4) (omega arith))).1)
