@@ -1,10 +1,12 @@
-"""Times whole decodings of a picture of 2000x1500, coded in several ways, beside other programs.
+"""Times whole decodings of a picture of 2000x1500, coded in several ways, beside other programs: of the program, and from memory.
 
-decode.py JPEGRAW THUMBNAIL FOLDER [PEER..]: the programs of this repository, a folder for the files, and programs that read a JPEG file
-named by their argument, `PEER FILE`, and for a scaled picture `PEER --scale WIDTHxHEIGHT FILE`. djpeg is one more, with SIMD and without.
+decode.py JPEGRAW THUMBNAIL BENCH_MEMORY FOLDER [PEER..]: the programs of this repository, a folder for the files, and programs that read
+a JPEG file named by their argument, `PEER FILE`, and for a scaled picture `PEER --scale WIDTHxHEIGHT FILE`; with `--repeat N` before
+these they decode N times from memory, and print `best TIME ms`. djpeg is one more, with SIMD and without, and from memory tjbench.
 """
 
 import os
+import re
 import subprocess
 import sys
 
@@ -12,6 +14,8 @@ from lossless import lossless
 from photo import HEIGHT, WIDTH, photo
 
 ROUNDS = 9
+MEMORY_ROUNDS = 3
+DECODINGS = 9
 QUALITY = ["cjpeg", "-quality", "85"]
 CODINGS = {
     "grey": ["-grayscale"],
@@ -54,6 +58,38 @@ class Program:
         return 1024 * int(done.stderr)
 
 
+class Memory:
+    """A program that decodes from memory: its words for a file, whole or at 1/8, and where it prints its milliseconds."""
+
+    def __init__(self, name, whole, small, pattern, to_ms, environment=None):
+        self.name, self.whole, self.small, self.to_ms = name, whole, small, to_ms
+        self.pattern = re.compile(pattern)
+        self.environment = os.environ | (environment or {})
+
+    def run(self, kind, path):
+        """The milliseconds of the fastest of its decodings, or None where it refuses the file."""
+        words = [path if word == "FILE" else word for word in (self.small if kind in THUMBNAIL_OF else self.whole)]
+        with open(path, "rb") as stdin:
+            done = subprocess.run(words, stdin=stdin, env=self.environment, capture_output=True, text=True)
+        found = self.pattern.search(done.stdout + done.stderr) if done.returncode == 0 else None
+        return self.to_ms(float(found[1])) if found else None
+
+
+def memory_programs(bench_memory, peers):
+    """The programs that decode from memory, ours first."""
+    size = "%dx%d" % SMALL
+    times = str(DECODINGS)
+    ours = [bench_memory, times]
+    yield Memory("ours", ours, [*ours, *map(str, SMALL)], r"(\d+)\n\Z", lambda micros: micros / 1000)
+    for peer in peers:
+        words = [peer, "--repeat", times]
+        yield Memory(os.path.basename(peer), [*words, "FILE"], [*words, "--scale", size, "FILE"], r"best ([\d.]+) ms", lambda ms: ms)
+    tjbench = ["tjbench", "FILE", "-nowrite", "-rgb", "-accuratedct", "-benchtime", "0.3", "-warmup", "0.1"]
+    for name, environment in {"libjpeg-turbo": {}, "the same without SIMD": {"JSIMD_FORCENONE": "1"}}.items():
+        small = [*tjbench, "-scale", "1/8"]
+        yield Memory(name, tjbench, small, r"Frame rate: +([\d.]+) fps", lambda fps: 1000 / fps, environment)
+
+
 def programs(jpegraw, thumbnail, peers):
     """All the programs, ours first."""
     size = "%dx%d" % SMALL
@@ -80,34 +116,57 @@ def files(folder):
         yield kind, path, len(text)
 
 
-def best_times(kind, path, all_programs):
+def best_times(kind, path, all_programs, count):
     """The least time of each program over all rounds, in turn."""
-    rounds = [[program.run(kind, path) for program in all_programs] for _ in range(ROUNDS)]
+    rounds = [[program.run(kind, path) for program in all_programs] for _ in range(count)]
     return [None if None in times else min(times) for times in zip(*rounds)]
 
 
-def row(kind, size, times, peak):
-    """A line of the table: our time, the ratio to each other program's, and our peak of memory."""
-    ratios = ["refused" if time is None else f"{times[0] / time:.2f}" for time in times[1:]]
-    cells = [kind, f"{size / 1e6:.2f}", f"{1000 * times[0]:.1f}", *ratios, f"{peak / 1e6:.1f}"]
+def ratios(times):
+    """Our time to each other program's."""
+    return ["refused" if time is None else f"{times[0] / time:.2f}" for time in times[1:]]
+
+
+def line(cells):
     return "| " + " | ".join(cells) + " |"
+
+
+def head(titles):
+    print(line(titles) + "\n|" + "---|" * len(titles))
 
 
 def load():
     return ", ".join(f"{value:.1f}" for value in os.getloadavg())
 
 
-def main(jpegraw, thumbnail, folder, *peers):
-    all_programs = list(programs(jpegraw, thumbnail, peers))
-    print(f"{WIDTH}x{HEIGHT}, the best of {ROUNDS}, load {load()} of {os.cpu_count()} processors")
+def time_programs(all_programs, all_files):
     titles = ["", "file (MB)", "ours (ms)", *(f"to {program.name}" for program in all_programs[1:]), "our peak (MB)"]
-    print("| " + " | ".join(titles) + " |\n|" + "---|" * len(titles))
-    for kind, path, size in files(folder):
+    head(titles)
+    for kind, path, size in all_files:
         if all_programs[0].run(kind, path) is None:
             print(f"({kind}: refused by ours, not measured)")
             continue
-        times = best_times(kind, path, all_programs)
-        print(row(kind, size, times, all_programs[0].peak(kind, path)), flush=True)
+        times = best_times(kind, path, all_programs, ROUNDS)
+        peak = all_programs[0].peak(kind, path) / 1e6
+        print(line([kind, f"{size / 1e6:.2f}", f"{1000 * times[0]:.1f}", *ratios(times), f"{peak:.1f}"]), flush=True)
+
+
+def time_memory(all_programs, all_files):
+    head(["from memory", "ours (ms)", *(f"to {program.name}" for program in all_programs[1:])])
+    for kind, path, _ in all_files:
+        times = best_times(kind, path, all_programs, MEMORY_ROUNDS)
+        if times[0] is not None:
+            print(line([kind, f"{times[0]:.1f}", *ratios(times)]), flush=True)
+
+
+def main(jpegraw, thumbnail, bench_memory, folder, *peers):
+    # A program that uses several threads has one processor too, so that its time is comparable.
+    os.sched_setaffinity(0, {max(os.sched_getaffinity(0))})
+    print(f"{WIDTH}x{HEIGHT}, the best of {ROUNDS}, load {load()} of {os.cpu_count()} processors")
+    all_files = list(files(folder))
+    time_programs(list(programs(jpegraw, thumbnail, peers)), all_files)
+    print(f"load {load()}\n")
+    time_memory(list(memory_programs(bench_memory, peers)), all_files)
     print(f"load {load()}")
 
 

@@ -1,7 +1,7 @@
 -- What a scan begins with, what it finishes, and the length of a plane.
-use Rattle.std.proofs.Common.{◌≡◌, ◌≢◌, ◌≤◌, ℕ, zero, suc, ◌+◌, ◌-◌, ◌*◌, ℤ, pos, Bool, true, List, [], ◌∷◌, ◌++◌, refl}
+use Rattle.std.proofs.Common.{◌≡◌, ◌≢◌, ◌≤◌, ℕ, zero, suc, ◌+◌, ◌-◌, ◌*◌, ℤ, pos, Bool, true, List, ◌∷◌, ◌++◌, refl}
 use Rattle.std.proofs.Common.{ap, ◌∙◌, length, map, take, drop, replicate, arith, ne_eqb, Result, Ok, Err}
-use Rattle.std.specs.Prelude.{slice_index_or, IfOk}
+use Rattle.std.specs.Prelude.{IfOk}
 use Rattle.std.specs.Array.{AllZipBelow}
 use Rattle.std.specs.List.{each_same}
 use Rattle.std.specs.declared.alloc.Global.{Global}
@@ -9,11 +9,10 @@ use Rattle.std.specs.declared.vec.Vec.{Vec}
 use Rattle.std.proofs.lemmas.List.{drop-drop, take_all}
 use Rattle.std.proofs.lemmas.List.FromFn.{length-map-range_with_len}
 use Rattle.jpeg_bits.specs.BlockView.{to_block}
-use Rattle.jpeg_bits.specs.Passes.{Block, Pass, zero_block, listed}
+use Rattle.jpeg_bits.specs.Passes.{Block, Pass, zero_block}
+use Rattle.jpeg_bits.specs.Zigzag.{coefficients_in_zigzag}
 use Rattle.jpeg_segments.specs.Frame.{Component}
 use Rattle.jpeg_pixels.specs.Planes.{plane_of}
-use Rattle.jpeg_pixels.specs.Zigzag.{coefficients_in_block_order}
-use Rattle.jpeg_streams.specs.Rasters.{ordered}
 use Rattle.jpeg_decoder.specs.Scanning.{blocks_in}
 use Rattle.jpeg_streams.specs.Scans.{zero_of, zero_arrays}
 use Rattle.jpeg_streams.specs.ScanSegments.{finished_by, plane_by}
@@ -21,7 +20,7 @@ use Rattle.jpeg_streams.specs.ScanSegments.{finished_by, plane_by}
 -- ---- zeros
 
 pub zero-blocks : (n : ℕ) → map to_block (replicate n (replicate 64 (pos 0))) ≡ replicate n zero_block
-unfolding zero_block
+unfolding zero_block coefficients_in_zigzag
 zero-blocks zero = refl
 zero-blocks (suc n) = ap (λ (l : List Block). zero_block ∷ l) (zero-blocks n)
 
@@ -49,18 +48,6 @@ marked-by p marks new from n level f c order e =
 pub unmarked-by : (p : Pass) (marks : List Bool) → p.al ≢ 0 → marks ≡ finished_by p marks
 unfolding finished_by
 unmarked-by p marks level = rw (ne_eqb p.al 0 level) refl
-
--- ---- block order
-
-listed-at : (l : List ℤ) (i : ℕ) → slice_index_or (listed (to_block l)) i (pos 0) ≡ slice_index_or l i (pos 0)
-listed-at [] zero = refl
-listed-at [] (suc i) = refl
-listed-at (x ∷ l) zero = refl
-listed-at (x ∷ l) (suc i) = refl
-
-pub ordered-is : (l : List ℤ) → ordered (to_block l) ≡ coefficients_in_block_order l
-unfolding coefficients_in_block_order
-ordered-is l = simp (listed-at l)
 
 -- ---- the length of a plane
 

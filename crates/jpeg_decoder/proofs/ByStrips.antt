@@ -12,7 +12,7 @@ use Rattle.jpeg_bits.specs.declared.marker.Marker.{Marker}
 use Rattle.jpeg_bits.specs.Passes.{Pass, Via, Block}
 use Rattle.jpeg_segments.specs.Frame.{Frame, Component}
 use Rattle.jpeg_pixels.specs.Planes.{plane_of, strip_of}
-use Rattle.jpeg_pixels.specs.Zigzag.{values_in_block_order}
+use Rattle.jpeg_bits.specs.Zigzag.{values_in_block_order}
 use Rattle.jpeg_pixels.proofs.PlaneRows.{plane-none}
 use Rattle.jpeg_streams.specs.Order.{Spot}
 use Rattle.jpeg_streams.specs.Scans.{Arrays, zero_arrays}

@@ -19,7 +19,6 @@ pub mod SlotCodings
 pub mod ScanCodings
 pub mod TakenBlocks
 pub mod BlocksBefore
-pub mod RenderedPlanes
 pub mod PlacedCodings
 pub mod DecodedImages
 pub mod PutLoops

@@ -1,7 +1,7 @@
 -- The blocks of a row of MCUs, as they are cleared and as their samples are appended.
-use Rattle.std.proofs.Common.{◌≡◌, ℕ, zero, suc, ◌+◌, ◌*◌, ◌<◌, ◌≤◌, List, [], ◌∷◌, ◌++◌, map, drop, length, get_or}
+use Rattle.std.proofs.Common.{◌≡◌, ℕ, zero, suc, ◌+◌, ◌*◌, ◌<◌, ◌≤◌, List, [], ◌∷◌, ◌++◌, map, length, get_or}
 use Rattle.std.proofs.Common.{set, replicate, ℤ, pos, refl, sym, ap, ◌∙◌, arith}
-use Rattle.std.proofs.lemmas.List.{length-map, map-set, get_or-drop, drop-set-lt, length-replicate}
+use Rattle.std.proofs.lemmas.List.{length-map, map-set, length-replicate}
 use Rattle.std.specs.declared.alloc.Global.{Global}
 use Rattle.std.specs.declared.vec.Vec.{Vec}
 use Rattle.jpeg_bits.specs.BlockView.{to_block}
@@ -12,6 +12,7 @@ use Rattle.jpeg_decoder.specs.Steps.{coding_in}
 use Rattle.jpeg_decoder.specs.Scanning.{arrays_in, blocks_in, sizes_of, down_in, wide_in}
 use Rattle.jpeg_decoder.specs.Strips.{planes_in, row_sizes, zeros_of, samples_of, with_strips}
 use Rattle.jpeg_decoder.specs.declared.codings.Coded.{Coded}
+use Rattle.jpeg_decoder.proofs.BlocksBefore.{zero-blocks}
 use Rattle.jpeg_decoder.proofs.HeldBlocks.{Held, get-map, sizes-long, size-at}
 use Rattle.jpeg_streams.proofs.InPlace.{patched, patched-next, patched-at, patched-all, patched-length}
 use Rattle.jpeg_decoder.proofs.StripRows.{strips-at, strips-length}
@@ -25,24 +26,7 @@ sizes-put [] slot v w l e = refl
 sizes-put (u ∷ vs) zero v w l e = ap (λ (n : ℕ). n ∷ sizes_of vs) (l ∙ ap (λ (x : Held). length x.items) e)
 sizes-put (u ∷ vs) (suc slot) v w l e = ap (λ (m : List ℕ). length u.items ∷ m) (sizes-put vs slot v w l e)
 
-pub rest-put : (vs old : List Held) (slot : ℕ) (w : Held) → drop slot vs ≡ drop slot old
-    → drop (slot + 1) (set vs slot w) ≡ drop (slot + 1) old
-rest-put vs old slot w e =
-    drop-set-lt (slot + 1) vs slot w (omega arith) ∙ sym (one-more vs slot) ∙ ap (λ (l : List Held). drop 1 l) e
-    ∙ one-more old slot
-  where
-    one-more : (l : List Held) (n : ℕ) → drop 1 (drop n l) ≡ drop (n + 1) l
-    one-more l zero = refl
-    one-more [] (suc n) = let z : suc (n + 1) ≡ suc n + 1 = omega arith in ap (λ (k : ℕ). drop {A = Held} k []) z
-    one-more (x ∷ l) (suc n) = one-more l n ∙ (let z : suc (n + 1)
-        ≡ suc n + 1 = omega arith in ap (λ (k : ℕ). drop k (x ∷ l)) z)
-
 -- ---- rows that are cleared
-
-zeros : (n : ℕ) → map to_block (replicate n (replicate 64 (pos 0))) ≡ replicate n zero_block
-unfolding zero_block
-zeros zero = refl
-zeros (suc n) = ap (λ (l : List Block). zero_block ∷ l) (zeros n)
 
 pub cleared-next : (old items : List Held) (i : ℕ) (v w : Held) → i < length items → sizes_of items ≡ sizes_of old
     → arrays_in items ≡ patched i (zeros_of (sizes_of old)) (arrays_in old) → v ≡ get_or items i v → w.items
@@ -63,20 +47,10 @@ cleared-next old items i v w h sizes arrays is new =
           ∙ ap (λ (l : Arrays). set l i (blocks_in w)) arrays
           ∙ patched-next (zeros_of (sizes_of old)) (arrays_in old) i (blocks_in w) [] same (omega
           (arith, length-map old blocks_in))
-          (ap (λ (l : List (List ℤ)). map to_block l) new ∙ zeros (length v.items)
+          (ap (λ (l : List (List ℤ)). map to_block l) new ∙ zero-blocks (length v.items)
           ∙ sym (get-map (λ (n : ℕ). replicate n zero_block) (sizes_of old) i 0 [] (omega (arith, sizes-long old))
           ∙ ap (λ (n : ℕ). replicate n zero_block) size)),
     )
-
-pub all-cleared : (old items : List Held) (i : ℕ) → length items ≤ i → sizes_of items ≡ sizes_of old
-    → arrays_in items ≡ patched i (zeros_of (sizes_of old)) (arrays_in old) → arrays_in items ≡ zeros_of (sizes_of old)
-all-cleared old items i h sizes arrays =
-    let long : length items ≡ length old = sym (sizes-long items) ∙ ap (λ (l : List ℕ). length l) sizes
-    ∙ sizes-long old in
-    let same : length (zeros_of (sizes_of old))
-    ≡ length (arrays_in old) = length-map (sizes_of old) (λ n. replicate n zero_block) ∙ sizes-long old
-    ∙ sym (length-map old blocks_in) in
-    arrays ∙ patched-all (zeros_of (sizes_of old)) (arrays_in old) i same (omega (arith, length-map old blocks_in))
 
 -- ---- samples that are appended
 
@@ -108,31 +82,21 @@ module _ (cs : List Coded) (old : List Held) (start : List Plane) (sizes : sizes
       ∙ patched-length all (planes_in start) slot all-long
       ∙ length-map start (λ (v : Plane). v.items) ∙ long
 
-  row-at : (rows : List Held) (slot : ℕ) (v : Held) → slot < length cs → drop slot rows ≡ drop slot old → v
-      ≡ get_or rows slot v → v ≡ get_or old slot v
-  row-at rows slot v h e is =
-      let z : slot + 0 ≡ slot = omega arith in
-      is ∙ sym (get_or-drop slot rows 0 v ∙ ap (λ (k : ℕ). get_or rows k v) z)
-      ∙ ap (λ (l : List Held). get_or l 0 v) e
-      ∙ get_or-drop slot old 0 v ∙ ap (λ (k : ℕ). get_or old k v) z
-
   -- the next component's blocks are those of a row of MCUs
-  pub row-size : (rows : List Held) (slot : ℕ) (c : Coded) (v : Held) → slot < length cs → drop slot rows
-      ≡ drop slot old → c ≡ get_or cs slot c → v ≡ get_or rows slot v
+  pub row-size : (slot : ℕ) (c : Coded) (v : Held) → slot < length cs → c ≡ get_or cs slot c → v ≡ get_or old slot v
       → length v.items ≡ down_in c * wide_in c
-  row-size rows slot c v h e is held =
-      sym (size-at old slot v (omega (arith, sizes-long old, old-long)) (row-at rows slot v h e held))
+  row-size slot c v h is held =
+      sym (size-at old slot v (omega (arith, sizes-long old, old-long)) held)
       ∙ ap (λ (l : List ℕ). get_or l slot 0) sizes
       ∙ get-map (λ (x : Coded). down_in x * wide_in x) cs slot c 0 h
       ∙ sym (ap (λ (x : Coded). down_in x * wide_in x) is)
 
-  pub planes-next : (rows : List Held) (planes : List Plane) (slot : ℕ) (c : Coded) (v : Held) (p q : Plane)
-      → slot < length cs → c ≡ get_or cs slot c
-      → drop slot rows ≡ drop slot old → v ≡ get_or rows slot v
+  pub planes-next : (planes : List Plane) (slot : ℕ) (c : Coded) (v : Held) (p q : Plane)
+      → slot < length cs → c ≡ get_or cs slot c → v ≡ get_or old slot v
       → planes_in planes ≡ patched slot all (planes_in start) → p ≡ get_or planes slot p → q.items
       ≡ p.items ++ samples_of (down_in c) (coding_in c) (map to_block v.items)
       → planes_in (set planes slot q) ≡ patched (slot + 1) all (planes_in start)
-  planes-next rows planes slot c v p q h is e held inv at new =
+  planes-next planes slot c v p q h is held inv at new =
       let view : Plane → List ℕ = λ x. x.items in
       let pl = planes-long planes slot inv in
       let before : p.items ≡ get_or (planes_in start) slot [] =
@@ -140,7 +104,7 @@ module _ (cs : List Coded) (old : List Held) (start : List Plane) (sizes : sizes
       ∙ ap (λ (l : List (List ℕ)). get_or l slot []) inv
       ∙ patched-at all (planes_in start) slot [] all-long in
       let blocks : get_or (arrays_in old) slot [] ≡ map to_block v.items =
-      get-map blocks_in old slot v [] (omega (arith, old-long)) ∙ sym (ap blocks_in (row-at rows slot v h e held)) in
+      get-map blocks_in old slot v [] (omega (arith, old-long)) ∙ sym (ap blocks_in held) in
       let coded : coding_in c ≡ get_or codings slot (coding_in c) = ap coding_in is
       ∙ sym (get-map coding_in cs slot c (coding_in c) h) in
       map-set view planes slot q

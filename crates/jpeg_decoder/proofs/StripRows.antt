@@ -1,22 +1,27 @@
--- The samples of a component's blocks in a row of MCUs.
+-- The samples of a component's blocks, row by row of blocks.
 use Rattle.std.proofs.Common.{◌≡◌, ℕ, zero, suc, ◌+◌, ◌*◌, ◌<◌, ◌≤◌, List, [], ◌∷◌, ◌++◌, map, take, drop, length}
-use Rattle.std.proofs.Common.{get_or, ℤ, refl, sym, ap, ◌∙◌, arith, append-nil, suc-mul, length-take, length-drop}
+use Rattle.std.proofs.Common.{get_or, slice_index_or, ℤ, refl, sym, ap, ap₂, ◌∙◌, arith, append-nil, suc-mul}
+use Rattle.std.proofs.Common.{length-take, length-drop}
 use Rattle.std.proofs.Math.Nat.{mul-le-mul_right}
 use Rattle.std.proofs.lemmas.List.{ext_get_or, get_or-take, get_or-drop, get_or_default}
 use Rattle.std.proofs.lemmas.List.FromFn.{length-map-range_with_len, get_or-map-range_with_len}
 use Rattle.std.specs.List.{range_with_len}
 use Rattle.jpeg_bits.specs.BlockView.{to_block}
 use Rattle.jpeg_bits.specs.Passes.{zero_block}
+use Rattle.jpeg_bits.proofs.ZigzagPlaces.{ordered-block}
 use Rattle.jpeg_pixels.specs.Planes.{plane_of, strip_of, zero_coefficients}
-use Rattle.jpeg_pixels.specs.Zigzag.{coefficients_in_block_order, zigzag_places, values_in_block_order}
 use Rattle.jpeg_pixels.proofs.PlaneRows.{plane-more, plane-same, plane-none}
 use Rattle.jpeg_streams.specs.Scans.{Arrays}
 use Rattle.jpeg_streams.specs.Rasters.{ordered, in_raster}
 use Rattle.jpeg_streams.specs.ScanSegments.{Coding}
-use Rattle.jpeg_decoder.specs.Strips.{samples_of, with_strips, block_in}
+use Rattle.jpeg_decoder.specs.Strips.{samples_of, with_strips}
 use Rattle.jpeg_decoder.proofs.HeldBlocks.{get-map}
 
 -- ---- a row of blocks
+
+-- the block in a row and a column of blocks in raster order, this many wide
+abbrev pub block_in : ℕ → List (List ℤ) → ℕ → ℕ → List ℤ
+block_in wide blocks row column = slice_index_or blocks (row * wide + column) zero_coefficients
 
 pub rows-fit : (v down wide size : ℕ) → v < down → size ≡ down * wide → v * wide + wide ≤ size
 rows-fit v down wide size h e =
@@ -46,28 +51,30 @@ strip-next s table wide v blocks h =
     (row-of wide v blocks h))
     ∙ sym (plane-more s table wide v (block_in wide blocks))
 
--- ---- blocks in block order
+-- ---- all rows
 
-in-order : (l : List ℤ) → coefficients_in_block_order l ≡ ordered (to_block l)
-unfolding coefficients_in_block_order zigzag_places
-in-order [] = refl
-in-order (x ∷ l) = refl
-
-pub ordered-samples : (high : ℕ) (c : Coding) (blocks : List (List ℤ)) → length blocks ≡ high * c.component.blocks_wide
-    → plane_of c.component.scale (values_in_block_order c.quantization) c.component.blocks_wide high
-    (block_in c.component.blocks_wide (map coefficients_in_block_order blocks))
-    ≡ samples_of high c (map to_block blocks)
-unfolding samples_of
-ordered-samples high c blocks e =
-    let wide = c.component.blocks_wide in
-    plane-same c.component.scale (values_in_block_order c.quantization) wide high (block_in wide
-    (map coefficients_in_block_order blocks)) (in_raster wide (map to_block blocks))
-    (λ r k h i.
+-- The arrays stand in block order already, as `ordered` puts the coefficients of a block.
+in-raster : (wide high : ℕ) (blocks : List (List ℤ)) (r k : ℕ) → length blocks ≡ high * wide
+    → ((i : ℕ) → i < length blocks → length (get_or blocks i []) ≡ 64) → r < high → k < wide
+    → block_in wide blocks r k ≡ in_raster wide (map to_block blocks) r k
+in-raster wide high blocks r k e sized h i =
     let f = rows-fit r high wide (length blocks) h e in
     let inside : r * wide + k < length blocks = omega arith in
-    get-map coefficients_in_block_order blocks (r * wide + k) [] zero_coefficients inside
-    ∙ in-order (get_or blocks (r * wide + k) [])
-    ∙ sym (ap ordered (get-map to_block blocks (r * wide + k) [] zero_block inside)))
+    let block = get_or blocks (r * wide + k) [] in
+    sym (ap ordered (get-map to_block blocks (r * wide + k) [] zero_block inside)
+    ∙ ordered-block block (sized (r * wide + k) inside)
+    ∙ get_or_default blocks (r * wide + k) [] zero_coefficients inside)
+
+pub raster-rows : (s : ℕ) (table : List ℕ) (wide width high counter : ℕ) (blocks : List (List ℤ)) (old new : List ℕ)
+    → wide ≡ width → counter ≡ high → length blocks ≡ high * width
+    → ((i : ℕ) → i < length blocks → length (get_or blocks i []) ≡ 64)
+    → new ≡ old ++ plane_of s table wide counter (block_in wide blocks)
+    → new ≡ old ++ plane_of s table width high (in_raster width (map to_block blocks))
+raster-rows s table wide width high counter blocks old new w h e sized done =
+    done
+    ∙ ap₂ (λ (a b : ℕ). old ++ plane_of s table a b (block_in a blocks)) w h
+    ∙ ap (λ (l : List ℕ). old ++ l) (plane-same s table width high (block_in width blocks)
+    (in_raster width (map to_block blocks)) (λ r k m n. in-raster width high blocks r k e sized m n))
 
 -- ---- the planes
 

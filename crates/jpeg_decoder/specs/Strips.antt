@@ -1,6 +1,6 @@
 -- The planes of a sequential scan, as they grow row by row of MCUs, so that no blocks are held of
 -- more than one row.
-use Rattle.std.specs.Prelude.{ℕ, ◌+◌, ◌*◌, ℤ, List, [], ◌∷◌, ◌++◌, map, replicate, slice_index_or}
+use Rattle.std.specs.Prelude.{ℕ, ◌*◌, List, [], ◌∷◌, ◌++◌, map, replicate}
 use Rattle.std.specs.Prelude.{Option, Ok}
 use Rattle.std.specs.declared.alloc.Global.{Global}
 use Rattle.std.specs.declared.vec.Vec.{Vec}
@@ -11,8 +11,8 @@ use Rattle.jpeg_bits.specs.declared.marker.Marker.{Marker}
 use Rattle.jpeg_bits.specs.Readers.{Reads, ◌>>=◌, gives}
 use Rattle.jpeg_bits.specs.Passes.{Pass, Via, Block, zero_block}
 use Rattle.jpeg_segments.specs.Frame.{Frame, Component}
-use Rattle.jpeg_pixels.specs.Planes.{plane_of, zero_coefficients}
-use Rattle.jpeg_pixels.specs.Zigzag.{values_in_block_order}
+use Rattle.jpeg_pixels.specs.Planes.{plane_of}
+use Rattle.jpeg_bits.specs.Zigzag.{values_in_block_order}
 use Rattle.jpeg_streams.specs.Order.{Spot, spots_of, mcu_size}
 use Rattle.jpeg_streams.specs.Scans.{Arrays, zero_arrays, arrays_at}
 use Rattle.jpeg_streams.specs.Rasters.{in_raster}
@@ -91,7 +91,3 @@ zeros_of sizes = map (λ n. replicate n zero_block) sizes
 -- the number of samples of a component's blocks that are `high` blocks high
 abbrev pub samples_in : ℕ → Coded → ℕ
 samples_in high c = c.component.now.dct_scale * wide_in c * (c.component.now.dct_scale * high)
-
--- the block in a row and a column of blocks in raster order, `wide` blocks wide
-abbrev pub block_in : ℕ → List (List ℤ) → ℕ → ℕ → List ℤ
-block_in wide blocks row column = slice_index_or blocks (row * wide + column) zero_coefficients

@@ -16,18 +16,16 @@ ghost use Rattle.jpeg_decoder.specs.Seen.{planes_in};
 ghost use Rattle.jpeg_streams.specs.ScanSegments.{put_arrays, finished_by, plane_by};
 ghost use Rattle.jpeg_streams.specs.Found.{none_finished};
 ghost use Rattle.jpeg_decoder.specs.Steps.{blocks_at, coding_in, without_blocks};
-ghost use Rattle.jpeg_pixels.specs.Zigzag.{coefficients_in_block_order};
 
 use crate::codings::{Coded, is_progressive};
 use crate::scans::{Scan, read_blocks};
 use crate::sequential::read_planes;
 use crate::state::State;
+use crate::strips::{append_rows, plane_size};
 use jpeg_bits::blocks::Pass;
 use jpeg_bits::error::Result;
 use jpeg_bits::marker::Marker;
 use jpeg_bits::source::Source;
-use jpeg_pixels::plane::append_row;
-use jpeg_pixels::zigzag::{coefficients_in_order, values_in_order};
 use jpeg_segments::parser::{Component, FrameInfo};
 use std::alloc::{AllocError, Global};
 use std::io::Read;
@@ -36,7 +34,7 @@ use std::io::Read;
 #[derive(Drop)]
 pub struct Decoded {
     /// The blocks that are held between the scans of a progressive frame, in raster order, their
-    /// coefficients in zigzag order. Empty before its first scan.
+    /// coefficients in block order. Empty before its first scan.
     pub held: Vec<Vec<[i16; 64]>>,
     /// Which coefficients of a block are finished, in zigzag order.
     pub finished: [[bool; 64]; 4],
@@ -90,19 +88,9 @@ fn zero_frame(
     Ok(arrays)
 }
 
-/// Puts a row of blocks into block order.
-fn order_row(row: &[[i16; 64]], ordered: &mut Vec<[i16; 64]>) -> std::result::Result<(), AllocError>
-    ensures { OnOk result (ordered.new.items ≡ map coefficients_in_block_order row.now) }
-{
-    ordered.clear();
-    for block in row {
-        ordered.push(coefficients_in_order(block))?;
-    }
-    Ok(())
-}
-
 /// The plane of a component's blocks, which stand in raster order, at the component's scale, by its
 /// quantization table in zigzag order.
+#[tactic(auto, unfolding(jpeg_streams::specs::ScanSegments::plane_by))]
 pub fn render(
     alloc: Global,
     component: &Component,
@@ -115,18 +103,10 @@ pub fn render(
     ensures { IfOk result (λ v. v.items
         ≡ plane_by (component_in component.now) quantization.now (map to_block blocks.now)) }
 {
-    let table = values_in_order(quantization);
-    let wide = usize::from(component.block_size.width);
-    let high = usize::from(component.block_size.height);
-    let scale = component.dct_scale;
-    let mut plane = Vec::with_capacity(alloc, wide * scale * (high * scale))?;
-    let mut ordered = Vec::with_capacity(alloc, wide)?;
-    let mut start = 0;
-    for row in 0..high {
-        order_row(&blocks[start..start + wide], &mut ordered)?;
-        append_row(&mut plane, scale, &ordered, &table)?;
-        start += wide;
-    }
+    let size = component.block_size;
+    let samples = plane_size(size.width, size.height, component.dct_scale);
+    let mut plane = Vec::with_capacity(alloc, samples)?;
+    append_rows(&mut plane, component, quantization, blocks, size.height)?;
     Ok(plane)
 }
 

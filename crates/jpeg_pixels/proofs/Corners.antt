@@ -11,8 +11,8 @@ use Rattle.std.specs.Int.{w16, w32, int_wrap}
 use Rattle.std.specs.Int.Bits.{bit_or}
 use lib.Lanes.{zip2, mask_l, top, pick_l, chunk}
 use Rattle.jpeg_pixels.specs.declared.arch.Rows.{Rows}
-use Rattle.jpeg_pixels.specs.LaneRows.{HasNumbers, HasZeros}
-use Rattle.jpeg_pixels.specs.Samples.{is_zero_at, is_flat_column, dequantized, column_value, IsInCorner}
+use Rattle.jpeg_pixels.specs.LaneRows.{HasNumbers, HasZeros, IsInCorner}
+use Rattle.jpeg_pixels.specs.Samples.{is_zero_at, is_flat_column, dequantized, column_value}
 use Rattle.jpeg_pixels.proofs.Columns.{flat_value}
 use Rattle.jpeg_pixels.proofs.FlatBlocks.{all_below_true}
 use Rattle.jpeg_pixels.proofs.LaneSums.{lanes_same}

@@ -6,7 +6,7 @@ use Rattle.std.proofs.lemmas.Bool.{cases_lt, ltb-true, false_from_ne_true, false
 use Rattle.std.proofs.Math.Logic.{⊎_elim}
 use Rattle.std.proofs.Math.Dec.{ltb}
 use Rattle.std.specs.List.{list_all}
-use Rattle.jpeg_pixels.specs.Zigzag.{zigzag_places}
+use Rattle.jpeg_bits.specs.Zigzag.{zigzag_places}
 
 length_places : length zigzag_places ≡ 64
 unfolding zigzag_places

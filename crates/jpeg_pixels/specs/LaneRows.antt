@@ -1,5 +1,5 @@
 -- Eight rows of eight lanes, and the numbers that stand in them.
-use Rattle.std.specs.Prelude.{◌≡◌, ℕ, List, [], ◌∷◌, ℤ, pos, slice_index_or}
+use Rattle.std.specs.Prelude.{◌≡◌, ℕ, ◌<◌, ◌≤◌, ◌+◌, ◌*◌, List, [], ◌∷◌, ℤ, pos, slice_index_or}
 use Rattle.jpeg_pixels.specs.declared.arch.Rows.{Rows}
 use Rattle.jpeg_pixels.specs.Lanes.{lane, lanes}
 
@@ -40,3 +40,10 @@ pub record IsTurned (rows turned : Rows) : Type 0 where
   pub r5 : turned.r5 ≡ column_of rows 5
   pub r6 : turned.r6 ≡ column_of rows 6
   pub r7 : turned.r7 ≡ column_of rows 7
+
+-- a block whose coefficients outside of the top left corner of four rows and four columns are 0
+pub record IsInCorner (coefficients : List ℤ) : Type 0 where
+  pub right : (row column : ℕ) → row < 8 → 4 ≤ column → column < 8
+      → slice_index_or coefficients (row * 8 + column) (pos 0) ≡ pos 0
+  pub below : (row column : ℕ) → 4 ≤ row → row < 8 → column < 8
+      → slice_index_or coefficients (row * 8 + column) (pos 0) ≡ pos 0

@@ -1,7 +1,6 @@
 -- the meaning
 pub mod Samples
 pub mod Scaled
-pub mod Zigzag
 pub mod Planes
 pub mod Upsampling
 pub mod Colour

@@ -1,7 +1,7 @@
 -- The samples of a block (T.81, A.3.3), as functions of coordinates: the inverse transform in whole
 -- numbers, columns first. The terms of a sum are added up as whole numbers, and the sum is wrapped
 -- to an `i32` where the transform shifts it.
-use Rattle.std.specs.Prelude.{◌≡◌, ℕ, zero, suc, ◌<◌, ◌≤◌, ◌+◌, ◌*◌, ◌==◌, Bool}
+use Rattle.std.specs.Prelude.{◌≡◌, ℕ, zero, suc, ◌<◌, ◌+◌, ◌*◌, ◌==◌, Bool}
 use Rattle.std.specs.Prelude.{if◌then◌else◌, List, [], ◌∷◌, ℤ, pos, negsuc, neg_ℤ, ◌+ℤ◌, ◌*ℤ◌}
 use Rattle.std.specs.Prelude.{slice_index, slice_index_or, min, unsigned_abs}
 use Rattle.std.specs.Int.{w32, int_wrap, int_shr}
@@ -75,10 +75,3 @@ sample coefficients quantization x y =
 -- a block of one coefficient, the first
 pub record HasFirstOnly (coefficients : List ℤ) : Type 0 where
   pub others : (k : ℕ) → 0 < k → k < 64 → slice_index_or coefficients k (pos 0) ≡ pos 0
-
--- a block whose coefficients outside of the top left corner of four rows and four columns are 0
-pub record IsInCorner (coefficients : List ℤ) : Type 0 where
-  pub right : (row column : ℕ) → row < 8 → 4 ≤ column → column < 8
-      → slice_index_or coefficients (row * 8 + column) (pos 0) ≡ pos 0
-  pub below : (row column : ℕ) → 4 ≤ row → row < 8 → column < 8
-      → slice_index_or coefficients (row * 8 + column) (pos 0) ≡ pos 0

@@ -6,10 +6,10 @@ ghost use Rattle.std.specs.Prelude.{if◌then◌else◌, ◌%◌, ◌/◌, ◌==
 ghost use Rattle.std.specs.Int.{w32, int_wrap, int_shr};
 ghost use Rattle.std.specs.List.{range_with_len};
 ghost use Rattle.jpeg_pixels.specs.Samples.{transformed, clamped, is_flat_column, dequantized};
-ghost use Rattle.jpeg_pixels.specs.Samples.{column_value, sample, IsInCorner};
+ghost use Rattle.jpeg_pixels.specs.Samples.{column_value, sample};
 ghost use Rattle.jpeg_pixels.specs.Lanes.{lanes, lane, lane_is_zero};
 ghost use Rattle.jpeg_pixels.specs.Blocks.{WritesBlock};
-ghost use Rattle.jpeg_pixels.specs.LaneRows.{lane_at, HasNumbers, HasZeros, IsTurned};
+ghost use Rattle.jpeg_pixels.specs.LaneRows.{lane_at, HasNumbers, HasZeros, IsInCorner, IsTurned};
 
 pub use crate::color_rows::color_convert_line_ycbcr;
 use crate::idct::{COLUMN_BIAS, ROW_BIAS, sample_of};
@@ -159,7 +159,7 @@ fn is_in_corner(coefficients: [i16; 64]) -> bool
     (lower | right).simd_eq(i16x8::splat(0)).all()
 }
 
-// The same rows, of which the last four are 0. Behind this the compiler knows them as zeros, and
+// The same rows, of which the last four are 0. After this the compiler knows them as zeros, and
 // drops their products as well as all that would make those rows.
 #[inline(always)]
 fn with_zeros(rows: Rows) -> Rows

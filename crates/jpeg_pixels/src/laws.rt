@@ -13,7 +13,7 @@ ghost use Rattle.jpeg_pixels.specs.Planes.{plane_of, strip_of};
 ghost use Rattle.jpeg_pixels.specs.Colour.{colour_of, line_bytes};
 ghost use Rattle.jpeg_pixels.specs.declared.upsampler.ColorConvert.TheVariants.{None, Rgb, YCbCr};
 ghost use Rattle.jpeg_pixels.specs.declared.upsampler.ColorConvert.TheVariants.{Cmyk, Ycck};
-ghost use Rattle.jpeg_pixels.specs.Zigzag.{zigzag, zigzag_places};
+ghost use Rattle.jpeg_bits.specs.Zigzag.{zigzag, zigzag_places};
 ghost use Rattle.jpeg_pixels.specs.Upsampling.{across, down, line_sum, upsampled};
 ghost use Rattle.jpeg_pixels.specs.declared.upsampler.UpsampleRule.{UpsampleRule};
 ghost use Rattle.jpeg_pixels.specs.declared.upsampler.UpsampleRule.TheVariants.{H1V1, H2V1, H1V2};

@@ -1,7 +1,6 @@
 //! The zigzag order of a block.
 ghost use Rattle.std.specs.Prelude.{◌≡◌, ◌<◌, slice_index};
-ghost use Rattle.jpeg_pixels.specs.Zigzag.{zigzag_places, coefficients_in_block_order};
-ghost use Rattle.jpeg_pixels.specs.Zigzag.{values_in_block_order};
+ghost use Rattle.jpeg_bits.specs.Zigzag.{zigzag_places, values_in_block_order};
 
 // The place in zigzag order of each place in the block.
 const PLACES: [usize; 64] = [
@@ -15,30 +14,13 @@ const PLACES: [usize; 64] = [
     35, 36, 48, 49, 57, 58, 62, 63,
 ];
 
-#[tactic(auto, unfolding(crate::specs::Zigzag::zigzag_places))]
+#[tactic(auto, unfolding(jpeg_bits::specs::Zigzag::zigzag_places))]
 fn zigzag_place(place: usize) -> usize
     requires { place < 64 }
     ensures value { result ≡ slice_index zigzag_places place }
     ensures within { result < 64 }
 {
     PLACES[place]
-}
-
-/// The 64 coefficients of a block, given in zigzag order, in block order: that of row `v` and
-/// column `u` stands at `8 * v + u` (T.81, A.3.6).
-#[tactic(auto, using(crate::proofs::Sums::set_next))]
-pub fn coefficients_in_order(coefficients: &[i16; 64]) -> [i16; 64]
-    ensures { result ≡ coefficients_in_block_order coefficients.now }
-{
-    let mut ordered = [0i16; 64];
-    // Two loops of eight, which compilers unroll.
-    for row in 0..8 {
-        for column in 0..8 {
-            let place = 8 * row + column;
-            ordered[place] = coefficients[zigzag_place(place)];
-        }
-    }
-    ordered
 }
 
 /// The 64 values of a quantization table, given in zigzag order, in block order: that of row `v`

@@ -7,7 +7,7 @@ use Rattle.std.specs.Prelude.{slice_index_or, nat_lt}
 use Rattle.std.specs.List.{AllByRecursion, range_with_len}
 use Rattle.jpeg_bits.specs.Reading.{Fault, Malformed, ◌>>=◌}
 use Rattle.jpeg_segments.specs.Frame.{Frame, Component}
-use Rattle.jpeg_pixels.specs.Zigzag.{coefficients_in_block_order, values_in_block_order}
+use Rattle.jpeg_bits.specs.Zigzag.{coefficients_in_block_order, values_in_block_order}
 use Rattle.jpeg_streams.specs.declared.settings.Settings.{Settings}
 use Rattle.jpeg_bits.specs.Passes.{Block, listed}
 use Rattle.jpeg_pixels.specs.Planes.{plane_of, plane_sample}

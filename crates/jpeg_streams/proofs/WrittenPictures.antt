@@ -15,7 +15,7 @@ use Rattle.jpeg_pixels.specs.Colour.{conversion_of}
 use Rattle.jpeg_pixels.specs.declared.upsampler.ColorConvert.{ColorConvert}
 use Rattle.jpeg_pixels.specs.declared.upsampler.ColorConvert.TheVariants as converts
 use Rattle.jpeg_segments.specs.Frame.{Frame, Component, ceiling}
-use Rattle.jpeg_pixels.specs.Zigzag.{coefficients_in_block_order, values_in_block_order}
+use Rattle.jpeg_bits.specs.Zigzag.{coefficients_in_block_order, values_in_block_order}
 use Rattle.jpeg_pixels.specs.Pictures.{Source, sources_of, image_of}
 use Rattle.jpeg_streams.proofs.ScaledSizes.{reaches-made, scale-made, one-made}
 use Rattle.jpeg_streams.specs.declared.settings.Settings.{Settings}

@@ -1,6 +1,6 @@
 -- Blocks in raster order, as the rows of a plane.
 use Rattle.std.specs.Prelude.{ℕ, ◌+◌, ◌*◌, ℤ, List, get_or}
-use Rattle.jpeg_pixels.specs.Zigzag.{coefficients_in_block_order}
+use Rattle.jpeg_bits.specs.Zigzag.{coefficients_in_block_order}
 use Rattle.jpeg_bits.specs.Passes.{Block, zero_block, listed}
 
 -- a block, its coefficients in block order

@@ -21,7 +21,7 @@ use Rattle.jpeg_segments.specs.declared.parser.CodingProcess.TheVariants.{DctPro
 use Rattle.jpeg_segments.specs.Frame.{Frame, Component}
 use Rattle.jpeg_segments.specs.ScanHeader.{Scan, sos_at}
 use Rattle.jpeg_segments.specs.HuffmanTables.{Tables}
-use Rattle.jpeg_pixels.specs.Zigzag.{values_in_block_order}
+use Rattle.jpeg_bits.specs.Zigzag.{values_in_block_order}
 use Rattle.jpeg_pixels.specs.Planes.{plane_of}
 use Rattle.jpeg_bits.specs.Passes.{Pass, Via, Block}
 use Rattle.jpeg_streams.specs.Rasters.{in_raster}

@@ -6,7 +6,7 @@ use Rattle.jpeg_bits.specs.Passes.{Block, listed}
 use Rattle.jpeg_bits.specs.Reading.{Outcome, Fault, Malformed, ◌>>=◌}
 use Rattle.jpeg_segments.specs.Frame.{Frame, Component}
 use Rattle.jpeg_pixels.specs.Planes.{plane_of}
-use Rattle.jpeg_pixels.specs.Zigzag.{coefficients_in_block_order, values_in_block_order}
+use Rattle.jpeg_bits.specs.Zigzag.{coefficients_in_block_order, values_in_block_order}
 use Rattle.jpeg_streams.specs.declared.settings.Settings.{Settings}
 use Rattle.jpeg_streams.specs.Levels.{Levels}
 use Rattle.jpeg_streams.specs.Needed.{needed}

@@ -1,4 +1,4 @@
-use Rattle.std.proofs.Common.{◌≡◌, ◌∙◌, ◌-◌, ◌+◌, ◌*◌, [], ap, map, sym, refl, ℕ, List, arith}
+use Rattle.std.proofs.Common.{◌≡◌, ◌∙◌, ◌-◌, ◌+◌, ◌*◌, [], ap, ap₂, map, sym, refl, ℕ, List, arith}
 use Rattle.std.specs.List.{range_with_len}
 use Rattle.std.proofs.lemmas.Result.{err_from_is_err_and}
 use Rattle.jpeg_bits.specs.BlockView.{pass_in}
@@ -15,6 +15,7 @@ use Rattle.jpeg_decoder.specs.Steps.{coding_in}
 use Rattle.jpeg_decoder.specs.Strips.{planes_in, row_at, row_sizes, samples_in, strips_from, with_strips}
 use Rattle.jpeg_streams.specs.ScanSegments.{components_of}
 use Rattle.jpeg_decoder.specs.Strips.{zeros_of}
+use Rattle.jpeg_decoder.proofs.HeldBlocks.{Held}
 use Rattle.jpeg_decoder.proofs.StripSteps.{strips_step, strips_refused, strips_none, rows-of-scan, zeros-are, lengths}
 use Rattle.jpeg_decoder.proofs.StripSteps.{lengths-none, lengths-next, row-count}
 use Rattle.jpeg_decoder.proofs.sequential.read_strips.Goals as goal
@@ -88,9 +89,10 @@ loop-row-preserved g c =
     let sizes : sizes_of read ≡ row_sizes cs = q.sizes ∙ c.clear_rows.ensures.sizes ∙ l.invariant.sizes in
     let a = c.in_ok-append_strips.ensures in
     let made : planes_in c.append_strips.new.planes.items ≡ with_strips codings (arrays_in read) planes
-    = a.planes ∙ ap (λ (x : List Coded). with_strips (map coding_in x) (arrays_in read) planes) c.deref.ensures.value in
+    = a ∙ ap₂ (λ (x : List Coded) (y : List Held). with_strips (map coding_in x) (arrays_in y) planes)
+    c.deref.ensures.value c.deref-in-loop-row.ensures.value in
     record {
-      sizes = a.sizes ∙ sizes;
+      sizes = sizes;
       lengths = ap lengths made ∙ lengths-next cs (arrays_in read) planes l.row
           (row-count cs read sizes) l.invariant.lengths;
       strips = (

@@ -15,7 +15,7 @@ use Rattle.jpeg_segments.specs.Frame.{component_of, frame_of, parameters_at, fac
 use Rattle.jpeg_segments.specs.Frame.{head_at, sof_at}
 use Rattle.jpeg_segments.specs.ScanHeader.{tables_at, selector_at, selectors_from, scan_of, band_at, count_at, sos_at}
 use Rattle.jpeg_pixels.specs.Samples.{basis, transformed, dequantized, is_flat_column, column_value, sample}
-use Rattle.jpeg_pixels.specs.Zigzag.{zigzag_places, coefficients_in_block_order, values_in_block_order}
+use Rattle.jpeg_bits.specs.Zigzag.{zigzag_places, coefficients_in_block_order, values_in_block_order}
 use Rattle.jpeg_pixels.specs.Upsampling.{rule_of, upsampled}
 use Rattle.jpeg_pixels.specs.Colour.{red_of, green_of, blue_of, colour_of, line_bytes, conversion_of}
 use Rattle.jpeg_pixels.specs.Pictures.{sources_by, lines_of, picture_line, picture_bytes, image_of}

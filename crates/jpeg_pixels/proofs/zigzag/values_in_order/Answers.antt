@@ -1,5 +1,5 @@
 use Rattle.std.proofs.Common.{slice_index, arith}
-use Rattle.jpeg_pixels.specs.Zigzag.{values_in_block_order}
+use Rattle.jpeg_bits.specs.Zigzag.{values_in_block_order}
 use Rattle.jpeg_pixels.proofs.ZigzagPlaces.{filled_by_places}
 use Rattle.jpeg_pixels.proofs.zigzag.values_in_order.Goals as goal
 

@@ -1,5 +1,5 @@
 use Rattle.std.proofs.Common.{◌≡◌, ℕ, ◌<◌, slice_index, length}
-use Rattle.jpeg_pixels.specs.Zigzag.{zigzag_places}
+use Rattle.jpeg_bits.specs.Zigzag.{zigzag_places}
 use Rattle.jpeg_pixels.proofs.zigzag.values_in_order.Given as goal
 
 abbrev pub invariant-loop-place : goal.invariant-loop-place

@@ -1,5 +1,5 @@
 use Rattle.jpeg_pixels.proofs.ZigzagPlaces.{place_lt}
-use Rattle.jpeg_pixels.specs.Zigzag.{zigzag_places}
+use Rattle.jpeg_bits.specs.Zigzag.{zigzag_places}
 use Rattle.jpeg_pixels.proofs.zigzag.zigzag_place.Goals as goal
 
 pub returns-clause-within : goal.returns-clause-within
