@@ -130,6 +130,17 @@ symbol_found table bits p h e =
     short_named table.symbols (code_in (code_lengths table.counts) (low_bits 16 bits)) p
     (sym (ap (named table.symbols) (short_of_16 table.counts bits h)) ∙ e)
 
+-- where none stands there, no code of at most 8 bits begins the bits
+pub none_short : (counts symbols : List ℕ) (bits : ℕ) → length counts ≡ 16
+    → short_code counts symbols (low_bits 8 (bits / 256)) ≡ None
+    → (c : ℕ × ℕ) → c.1 ≤ 8 → code_in (code_lengths counts) (low_bits 16 bits) ≡ Some c → ⊥
+none_short counts symbols bits h none c le found =
+    let t : leb c.1 8 ≡ true = grind (arith, nat_tests) in
+    let e : named symbols (short_only (Some c)) ≡ None =
+    ap (λ (o : Option (ℕ × ℕ)). named symbols (short_only o)) (sym found)
+    ∙ sym (ap (named symbols) (short_of_16 counts bits h)) ∙ none in
+    false≢true (sym (ap is_some (rw t at e)))
+
 -- ---- values by their first 8 bits
 
 -- the next 8 bits of a text of which 8 are held
