@@ -24,7 +24,7 @@ has-none : (bits : List Bool) (e : Ending) → has_bits 0 bits e ≡ Ok tt
 has-none bits (Found m rest) = refl
 has-none bits (Broken f) = ap (λ b. cond b (Ok tt) (Err f)) (le-leb 0 (length bits) (omega arith))
 
-no-bits : (t : Text) → bits_from 0 t ≡ Ok (0, t)
+pub no-bits : (t : Text) → bits_from 0 t ≡ Ok (0, t)
 unfolding bits_from
 no-bits t = rw (has-none t.bits t.ending, take-none (t.bits ++ replicate 0 false), advance-none t) refl
 

@@ -13,6 +13,7 @@ pub mod Reservoirs
 pub mod ShortLemmas
 pub mod RowLemmas
 pub mod ShortSymbols
+pub mod WideTokens
 pub mod Tables
 pub mod EndLemmas
 pub mod MarkerLemmas

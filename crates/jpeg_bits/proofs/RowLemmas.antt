@@ -1,6 +1,7 @@
 -- The codes of each length by their greatest.
 use Rattle.std.proofs.Common.{◌≡◌, ℕ, zero, suc, ◌+◌, ◌-◌, ◌*◌, ◌/◌, ◌^◌, ◌<◌, ◌≤◌, List, length, take, get_or, sum}
-use Rattle.std.proofs.Common.{refl, sym, ap, ◌∙◌, subst, arith, add-one, Some, None}
+use Rattle.std.proofs.Common.{refl, sym, ap, ◌∙◌, subst, arith, add-one, Some, None, inl, inr}
+use Rattle.std.proofs.lemmas.Bool.{cases_lt}
 use Rattle.std.proofs.Math.Nat.{div-div-eq-div-mul}
 use Rattle.std.proofs.lemmas.List.Sums.{fold_more, sum_by_more}
 use Rattle.jpeg_bits.specs.Codes.{code_lengths, code_in, first_from, begins}
@@ -104,6 +105,30 @@ module _ (counts : List ℕ) (rows : List Row) (bits i : ℕ) (counted : length 
       let e = ap (λ (r : Row). r.end) (holds i lt) in
       let s : 16 - (i + 1) ≡ 15 - i = omega arith in
       subst (λ (k : ℕ). value_after counts (i + 1) ≤ bits / 2 ^ k) (sym s) (omega (arith, e, h))
+
+-- Where a code of at most n bits would be found, and none is, n rows are passed.
+pub rows_passed : (counts : List ℕ) (rows : List Row) (bits n : ℕ) → length counts ≡ 16 → HoldsRows counts rows
+    → bits < 2 ^ 16 → n ≤ 16
+    → ((c : ℕ × ℕ) → c.1 ≤ n → code_in (code_lengths counts) (low_bits 16 bits) ≡ Some c → ⊥)
+    → (i : ℕ) → i ≤ n → (value_after counts i ≤ bits / 2 ^ (16 - i)) × NoneYet counts bits i
+rows_passed counts rows bits n counted holds fits most none zero h =
+    let lens = code_lengths counts in
+    let all : length lens - 0 ≡ length lens = omega arith in
+    (omega arith, ap (first_from (begins lens (low_bits 16 bits)) 0) (sym all))
+rows_passed counts rows bits n counted holds fits most none (suc i) h =
+    let before = rows_passed counts rows bits n counted holds fits most none i (omega arith) in
+    let lt : i < 16 = omega arith in
+    let end = (get_or rows i no_row).end in
+    subst (λ (k : ℕ). (value_after counts k ≤ bits / 2 ^ (16 - k)) × NoneYet counts bits k) (add-one i)
+    (elim (cases_lt (bits / 2 ^ (15 - i)) end) as (λ _. (value_after counts (i + 1) ≤ bits / 2 ^ (16 - (i + 1)))
+    × NoneYet counts bits (i + 1)) [
+      | inl short ↦ absurd (none _ (omega arith) (row_found counts rows bits i counted holds lt fits before.0 short
+          before.1))
+      | inr long ↦ (
+        above_more counts rows bits i counted holds lt fits before.0 long,
+        row_missed counts rows bits i counted holds lt fits before.0 long before.1,
+      )
+    ])
 
 pub none_found : (counts : List ℕ) (bits i : ℕ) → length counts ≡ 16 → 16 ≤ i → i ≤ 16 → NoneYet counts bits i
     → code_in (code_lengths counts) (low_bits 16 bits) ≡ None

@@ -1,4 +1,4 @@
--- Codes and values of at most 8 bits.
+-- Short codes and values.
 use Rattle.std.proofs.Common.{◌≡◌, ◌≢◌, length-set, set, below_more, get_or-set_other, get_or-set_same, ℕ, ℤ, zero, suc}
 use Rattle.std.proofs.Common.{◌+◌, ◌-◌, ◌*◌, ◌/◌, ◌%◌, ◌^◌, ◌<◌, ◌≤◌, Bool, true, false, cond, eqb, leb, ltb, ◌&&◌}
 use Rattle.std.proofs.Common.{List, [], ◌∷◌, ◌++◌, length, take, drop, get_or, replicate, Option, Some, None, Result}
@@ -7,7 +7,7 @@ use Rattle.std.proofs.Common.{length-drop, IfSome, is_ok, is_some}
 use Rattle.std.specs.Option.{option_map}
 use Rattle.std.proofs.Math.Seq.{drop-nil}
 use Rattle.std.proofs.lemmas.List.{take-take, take-append-le, take_all, take-replicate, drop-replicate, drop-take}
-use Rattle.std.proofs.lemmas.List.{drop-drop, length-replicate}
+use Rattle.std.proofs.lemmas.List.{drop-drop, length-replicate, get_or-replicate}
 use Rattle.std.proofs.lemmas.Bool.{cases_lt, false≢true}
 use Rattle.std.proofs.lemmas.Bool.Decides.{nat_tests}
 use Rattle.jpeg_bits.specs.Reading.{Fault, ◌>>=◌}
@@ -15,9 +15,13 @@ use Rattle.jpeg_bits.specs.Entropy.{Text, number_of, extended, upcoming_by, has_
 use Rattle.jpeg_bits.specs.Readers.{read_on, gives, signed_from}
 use Rattle.jpeg_bits.specs.Written.{low_bits}
 use Rattle.jpeg_bits.specs.Codes.{Table, code_in, code_lengths, code_value, begins, first_from, next_16, is_ac}
+use Rattle.jpeg_bits.specs.Codes.{lengths_from}
 use Rattle.jpeg_bits.specs.Codes.{short_token, after_code, short_code_by, short_code_from, short_value, fast_from}
-use Rattle.jpeg_bits.specs.ShortCodes.{named, symbol_in, short_only, short_code, short_value_by, short_value_of, next_8}
+use Rattle.jpeg_bits.specs.ShortCodes.{named, symbol_in, short_only, short_code, short_value_by, short_value_of, next_bits}
+use Rattle.jpeg_bits.specs.ShortCodes.{packed}
 use Rattle.jpeg_bits.specs.ShortCodes.{HoldsCodes}
+use Rattle.jpeg_bits.specs.declared.codes.HuffmanTableClass.{HuffmanTableClass}
+use Rattle.jpeg_bits.specs.declared.codes.HuffmanTableClass.TheVariants as classes
 use Rattle.jpeg_bits.specs.declared.ahead.DataEnd.{DataEnd}
 use Rattle.jpeg_bits.specs.declared.ahead.DataEnd.TheVariants as ends
 use Rattle.std.proofs.Math.Nat.{mod-lt}
@@ -28,56 +32,89 @@ use Rattle.jpeg_bits.proofs.Reservoirs.{front_small}
 use Rattle.jpeg_bits.proofs.Tables.{IsRising, ordered, all-rising}
 use Rattle.jpeg_bits.proofs.Held.{has_bits-held, advance-held, bits_from-held, filled-less}
 
--- ---- which code of at most 8 bits begins the bits is seen from the first 8
+-- ---- which code of at most n bits begins the bits is seen from the first n
 
-same_begins : (lens : List ℕ) (x y : List Bool) (i : ℕ) → get_or lens i 0 ≤ 8 → take 8 x ≡ take 8 y
+same_begins : (n : ℕ) (lens : List ℕ) (x y : List Bool) (i : ℕ) → get_or lens i 0 ≤ n → take n x ≡ take n y
     → begins lens x i ≡ begins lens y i
 unfolding begins
-same_begins lens x y i h e =
+same_begins n lens x y i h e =
     let l = get_or lens i 0 in
-    ap (λ (b : List Bool). eqb (number_of b) (code_value lens i)) (sym (take-take l 8 x h) ∙ ap (take l) e
-    ∙ take-take l 8 y h)
+    ap (λ (b : List Bool). eqb (number_of b) (code_value lens i)) (sym (take-take l n x h) ∙ ap (take l) e
+    ∙ take-take l n y h)
 
-abbrev short_from : List ℕ → Option ℕ → Option (ℕ × ℕ)
-short_from lens o = short_only (option_map (λ i. (i, get_or lens i 0)) o)
+abbrev short_from : ℕ → List ℕ → Option ℕ → Option (ℕ × ℕ)
+short_from n lens o = short_only n (option_map (λ i. (i, get_or lens i 0)) o)
 
-long_only : (lens : List ℕ) (test : ℕ → Bool) (i n : ℕ) → ((k : ℕ) → i ≤ k → k < i + n → 8 < get_or lens k 0)
-    → short_from lens (first_from test i n) ≡ None
+long_only : (n : ℕ) (lens : List ℕ) (test : ℕ → Bool) (i k : ℕ)
+    → ((j : ℕ) → i ≤ j → j < i + k → n < get_or lens j 0) → short_from n lens (first_from test i k) ≡ None
 unfolding first_from
-long_only lens test i zero h = refl
-long_only lens test i (suc n) h = go (test i) (long_only lens test (i + 1) n (λ k a b. h k (omega arith) (omega arith)))
+long_only n lens test i zero h = refl
+long_only n lens test i (suc k) h =
+    go (test i) (long_only n lens test (i + 1) k (λ j a b. h j (omega arith) (omega arith)))
   where
-    go : (b : Bool) → short_from lens (first_from test (i + 1) n) ≡ None
-        → short_from lens (cond b (Some i) (first_from test (i + 1) n)) ≡ None
-    go true r = let m = h i (omega arith) (omega arith) in let t : leb (get_or lens i 0) 8 ≡ false =
+    go : (b : Bool) → short_from n lens (first_from test (i + 1) k) ≡ None
+        → short_from n lens (cond b (Some i) (first_from test (i + 1) k)) ≡ None
+    go true r = let m = h i (omega arith) (omega arith) in let t : leb (get_or lens i 0) n ≡ false =
         grind (arith, nat_tests) in rw t refl
     go false r = r
 
-module _ (lens : List ℕ) (rising : IsRising 1 16 lens) (x y : List Bool) (same : take 8 x ≡ take 8 y) where
-  agree_from : (i n : ℕ) → i + n ≤ length lens → short_from lens (first_from (begins lens x) i n) ≡ short_from lens
-      (first_from (begins lens y) i n)
+module _ (n : ℕ) (lens : List ℕ) (rising : IsRising 1 16 lens) (x y : List Bool) (same : take n x ≡ take n y) where
+  agree_from : (i k : ℕ) → i + k ≤ length lens → short_from n lens (first_from (begins lens x) i k)
+      ≡ short_from n lens (first_from (begins lens y) i k)
   unfolding first_from
   agree_from i zero h = refl
-  agree_from i (suc n) h =
-      elim (cases_lt 8 (get_or lens i 0)) [
-        | inl lt ↦ long_only lens (begins lens x) i (suc n) (λ k a b.
-            let o = ordered 1 16 lens i k rising a (omega arith) in omega (arith, o, lt))
-            ∙ sym (long_only lens (begins lens y) i (suc n) (λ k a b.
-            let o = ordered 1 16 lens i k rising a (omega arith) in omega (arith, o, lt)))
-        | inr le ↦ ap (λ (b : Bool). short_from lens (cond b (Some i) (first_from (begins lens x) (i + 1) n)))
-            (same_begins lens x y i le same) ∙ go (begins lens y i) (agree_from (i + 1) n (omega arith))
+  agree_from i (suc k) h =
+      elim (cases_lt n (get_or lens i 0)) [
+        | inl lt ↦ long_only n lens (begins lens x) i (suc k) (λ j a b.
+            let o = ordered 1 16 lens i j rising a (omega arith) in omega (arith, o, lt))
+            ∙ sym (long_only n lens (begins lens y) i (suc k) (λ j a b.
+            let o = ordered 1 16 lens i j rising a (omega arith) in omega (arith, o, lt)))
+        | inr le ↦ ap (λ (b : Bool). short_from n lens (cond b (Some i) (first_from (begins lens x) (i + 1) k)))
+            (same_begins n lens x y i le same) ∙ go (begins lens y i) (agree_from (i + 1) k (omega arith))
       ]
     where
-      go : (b : Bool) → short_from lens (first_from (begins lens x) (i + 1) n) ≡ short_from lens
-          (first_from (begins lens y) (i + 1) n)
-          → short_from lens (cond b (Some i) (first_from (begins lens x) (i + 1) n)) ≡ short_from lens
-          (cond b (Some i) (first_from (begins lens y) (i + 1) n))
+      go : (b : Bool) → short_from n lens (first_from (begins lens x) (i + 1) k) ≡ short_from n lens
+          (first_from (begins lens y) (i + 1) k)
+          → short_from n lens (cond b (Some i) (first_from (begins lens x) (i + 1) k)) ≡ short_from n lens
+          (cond b (Some i) (first_from (begins lens y) (i + 1) k))
       go true r = refl
       go false r = r
 
-  pub short_agree : short_only (code_in lens x) ≡ short_only (code_in lens y)
+  pub short_agree : short_only n (code_in lens x) ≡ short_only n (code_in lens y)
   unfolding code_in
   short_agree = agree_from 0 (length lens) (omega arith)
+
+-- a code that is too long makes no short value
+pub short_enough : (n : ℕ) (class : HuffmanTableClass) (bits : List Bool) (symbols : List ℕ) (o : Option (ℕ × ℕ))
+    → short_value_by n class bits (named symbols (short_only n o)) ≡ short_value_by n class bits (named symbols o)
+short_enough n class bits symbols None = refl
+short_enough n class bits symbols (Some c) = go (leb c.1 n) refl
+  where
+    size : ℕ
+    size = get_or symbols c.0 0 % 16
+
+    none : (a b d : Bool) (x : ℤ × ℕ × ℕ) → d ≡ false → cond {A = Option (ℤ × ℕ × ℕ)} (a && (b && d)) (Some x) None
+        ≡ None
+    none true true d x h = rw h refl
+    none true false d x h = refl
+    none false b d x h = refl
+
+    go : (b : Bool) → leb c.1 n ≡ b → short_value_by n class bits (named symbols (short_only n (Some c)))
+        ≡ short_value_by n class bits (named symbols (Some c))
+    go true e = rw e refl
+    go false e =
+        let l : leb (c.1 + size) n ≡ false = grind (arith, nat_tests) in
+        rw e (sym (none (is_ac class) (ltb 0 size) (leb (c.1 + size) n) _ l))
+
+-- what n bits begin with is seen from the first n of more
+pub value_seen : (n : ℕ) (table : Table) (x y bits : List Bool) → length table.counts ≡ 16 → take n x ≡ take n y
+    → short_value_by n table.class bits (symbol_in table x) ≡ short_value_by n table.class bits (symbol_in table y)
+value_seen n table x y bits counted same =
+    let lens = code_lengths table.counts in
+    sym (short_enough n table.class bits table.symbols (code_in lens x))
+    ∙ ap (λ (o : Option (ℕ × ℕ)). short_value_by n table.class bits (named table.symbols o))
+    (short_agree n lens (all-rising table.counts counted) x y same)
+    ∙ short_enough n table.class bits table.symbols (code_in lens y)
 
 -- ---- tables
 
@@ -101,19 +138,19 @@ byte_padded b =
     ap (low_bits 16) e ∙ low_bits-append 8 8 b 0 (omega arith)
     ∙ ap (λ (l : List Bool). low_bits 8 b ++ l) (low_bits-zeros 8)
 
-eight_front : (eight : List Bool) → length eight ≡ 8 → take 8 (eight ++ replicate 8 false) ≡ eight
-eight_front eight h = take-append-le 8 eight (replicate 8 false) (omega arith) ∙ take_all 8 eight (omega arith)
+front_of : (n k : ℕ) (bits : List Bool) → length bits ≡ n → take n (bits ++ replicate k false) ≡ bits
+front_of n k bits h = take-append-le n bits (replicate k false) (omega arith) ∙ take_all n bits (omega arith)
 
 -- the first 8 of 16 bits say the short code
 pub short_of_16 : (counts : List ℕ) (bits : ℕ) → length counts ≡ 16
-    → short_only (code_in (code_lengths counts) (low_bits 8 (bits / 256) ++ replicate 8 false))
-    ≡ short_only (code_in (code_lengths counts) (low_bits 16 bits))
+    → short_only 8 (code_in (code_lengths counts) (low_bits 8 (bits / 256) ++ replicate 8 false))
+    ≡ short_only 8 (code_in (code_lengths counts) (low_bits 16 bits))
 short_of_16 counts bits h =
     let eight = low_bits 8 (bits / 256) in
-    short_agree (code_lengths counts) (all-rising counts h) (eight ++ replicate 8 false) (low_bits 16 bits)
-    (eight_front eight (length-low_bits 8 (bits / 256)) ∙ sym (low_bits-take 8 8 bits))
+    short_agree 8 (code_lengths counts) (all-rising counts h) (eight ++ replicate 8 false) (low_bits 16 bits)
+    (front_of 8 8 eight (length-low_bits 8 (bits / 256)) ∙ sym (low_bits-take 8 8 bits))
 
-short_named : (symbols : List ℕ) (o : Option (ℕ × ℕ)) (p : ℕ × ℕ) → named symbols (short_only o) ≡ Some p
+short_named : (symbols : List ℕ) (o : Option (ℕ × ℕ)) (p : ℕ × ℕ) → named symbols (short_only 8 o) ≡ Some p
     → named symbols o ≡ Some p
 short_named symbols None p h = h
 short_named symbols (Some c) p h = go (leb c.1 8) refl
@@ -130,54 +167,48 @@ symbol_found table bits p h e =
     short_named table.symbols (code_in (code_lengths table.counts) (low_bits 16 bits)) p
     (sym (ap (named table.symbols) (short_of_16 table.counts bits h)) ∙ e)
 
--- ---- values by their first 8 bits
+-- where none stands there, no code of at most 8 bits begins the bits
+pub none_short : (counts symbols : List ℕ) (bits : ℕ) → length counts ≡ 16
+    → short_code counts symbols (low_bits 8 (bits / 256)) ≡ None
+    → (c : ℕ × ℕ) → c.1 ≤ 8 → code_in (code_lengths counts) (low_bits 16 bits) ≡ Some c → ⊥
+none_short counts symbols bits h none c le found =
+    let t : leb c.1 8 ≡ true = grind (arith, nat_tests) in
+    let e : named symbols (short_only 8 (Some c)) ≡ None =
+    ap (λ (o : Option (ℕ × ℕ)). named symbols (short_only 8 o)) (sym found)
+    ∙ sym (ap (named symbols) (short_of_16 counts bits h)) ∙ none in
+    false≢true (sym (ap is_some (rw t at e)))
 
--- the next 8 bits of a text of which 8 are held
-next_8-held : (bits : List Bool) (met : Option DataEnd) (bytes : List ℕ) → IsFilled 8 bits met
-    → take 8 (next_16 (upcoming_by bits met bytes).bits) ≡ next_8 bits
-next_8-held bits None bytes h =
+-- ---- values by their first n bits
+
+-- the next n bits of a text of which n are held
+next-held : (n : ℕ) (bits : List Bool) (met : Option DataEnd) (bytes : List ℕ) → n ≤ 16 → IsFilled n bits met
+    → take n (next_16 (upcoming_by bits met bytes).bits) ≡ next_bits n bits
+next-held n bits None bytes le h =
     let t = (text_at bytes).bits in
     let z = replicate 16 false in
-    take-take 8 16 ((bits ++ t) ++ z) (omega arith)
-    ∙ take-append-le 8 (bits ++ t) z (omega (arith, length-append bits t)) ∙ take-append-le 8 bits t h
-    ∙ sym (take-append-le 8 bits (replicate 8 false) h)
-next_8-held bits (Some end) bytes h =
-    take-take 8 16 (bits ++ replicate 16 false) (omega arith) ∙ same_zeros bits 8 16 8 (omega arith) (omega arith)
+    take-take n 16 ((bits ++ t) ++ z) le
+    ∙ take-append-le n (bits ++ t) z (omega (arith, length-append bits t)) ∙ take-append-le n bits t h
+    ∙ sym (take-append-le n bits (replicate n false) h)
+next-held n bits (Some end) bytes le h =
+    take-take n 16 (bits ++ replicate 16 false) le ∙ same_zeros bits n 16 n (omega arith) (omega arith)
 
-length-next_8 : (bits : List Bool) → length (next_8 bits) ≡ 8
-length-next_8 bits = omega (
+length-next_bits : (n : ℕ) (bits : List Bool) → length (next_bits n bits) ≡ n
+length-next_bits n bits = omega (
   arith,
-  length-take 8 (bits ++ replicate 8 false),
-  length-append bits (replicate 8 false),
-  length-replicate 8 false,
+  length-take n (bits ++ replicate n false),
+  length-append bits (replicate n false),
+  length-replicate n false,
 )
 
-long-token : (table : Table) (c : ℕ × ℕ) → leb c.1 8 ≡ false → short_token table c ≡ None
-long-token table c e =
-    let size = get_or table.symbols c.0 0 % 16 in
-    let l : leb (c.1 + size) 8 ≡ false = grind (arith, nat_tests) in
-    go (is_ac table.class) (ltb 0 size) (leb (c.1 + size) 8) l
-  where
-    go : (a b d : Bool) → d ≡ false → cond {A = Option (ℕ × ℕ)} (a && (b && d)) (Some (
-      get_or table.symbols c.0 0 / 16,
-      get_or table.symbols c.0 0 % 16,
-    )) None ≡ None
-    go true true d h = rw h refl
-    go true false d h = refl
-    go false b d h = refl
-
--- a long code makes no short token
-short_code-only : (table : Table) (t : Text) (o : Option (ℕ × ℕ))
-    → short_code_by table t o ≡ short_code_by table t (short_only o)
-short_code-only table t None = refl
-short_code-only table t (Some c) = go (leb c.1 8) refl
-  where
-    go : (b : Bool) → leb c.1 8 ≡ b → short_code_by table t (Some c) ≡ short_code_by table t (short_only (Some c))
-    go true e = rw e refl
-    go false e = let n : short_token table c ≡ None = long-token table c e in rw e (ap (after_code c.1 t) n)
+-- the first 11 of the next 16 bits
+pub eleven-front : (number : ℕ) (bits : List Bool) → low_bits 16 number ≡ next_16 bits
+    → low_bits 11 (number / 32) ≡ next_bits 11 bits
+eleven-front number bits e =
+    sym (low_bits-take 11 5 number) ∙ ap (take 11) e ∙ take-take 11 16 (bits ++ replicate 16 false) (omega arith)
+    ∙ same_zeros bits 11 16 11 (omega arith) (omega arith)
 
 -- whether the rest of some bits can be taken
-rest-held : (l n : ℕ) (bits : List Bool) (met : Option DataEnd) → l + n ≤ length bits
+pub rest-held : (l n : ℕ) (bits : List Bool) (met : Option DataEnd) → l + n ≤ length bits
     → has_held n (drop l bits) met ≡ Ok tt
 rest-held l n bits None h = refl
 rest-held l n bits (Some (ends.Marker m)) h = refl
@@ -210,39 +241,42 @@ zeros-after [] l n k h =
 zeros-after (x ∷ xs) zero n k h = same_zeros (x ∷ xs) n k n (omega arith) (omega arith)
 zeros-after (x ∷ xs) (suc l) n k h = zeros-after xs l n k (omega arith)
 
--- the bits of a value after its code, of the first 8
-value-bits : (bits : List Bool) (l n : ℕ) → l + n ≤ 8
-    → take n (drop l (next_8 bits)) ≡ take n (drop l bits ++ replicate n false)
-value-bits bits l n h =
-    let z = bits ++ replicate 8 false in
-    let e : 8 ≡ l + (8 - l) = omega arith in
-    ap (λ (k : ℕ). take n (drop l (take k z))) e
-    ∙ ap (take n) (drop-take l (8 - l) z)
-    ∙ take-take n (8 - l) (drop l z) (omega arith)
-    ∙ zeros-after bits l n 8 h
+-- the bits of a value after its code, of the first n
+value-bits : (n : ℕ) (bits : List Bool) (l s : ℕ) → l + s ≤ n
+    → take s (drop l (next_bits n bits)) ≡ take s (drop l bits ++ replicate s false)
+value-bits n bits l s h =
+    let z = bits ++ replicate n false in
+    let e : n ≡ l + (n - l) = omega arith in
+    ap (λ (k : ℕ). take s (drop l (take k z))) e
+    ∙ ap (take s) (drop-take l (n - l) z)
+    ∙ take-take s (n - l) (drop l z) (omega arith)
+    ∙ zeros-after bits l s n h
 
-abbrev is_short : Table → ℕ × ℕ → Bool
-is_short table c = is_ac table.class && (ltb 0 (get_or table.symbols c.0 0 % 16)
-    && leb (c.1 + get_or table.symbols c.0 0 % 16) 8)
+abbrev pub size_of : Table → ℕ × ℕ → ℕ
+size_of table c = get_or table.symbols c.0 0 % 16
 
-token_none : (table : Table) (c : ℕ × ℕ) (eight : List Bool)
-    → short_value_by table.class eight (Some (get_or table.symbols c.0 0, c.1)) ≡ None → short_token table c ≡ None
-token_none table c eight n = go (is_short table c) refl
+abbrev is_short : ℕ → Table → ℕ × ℕ → Bool
+is_short n table c = is_ac table.class && (ltb 0 (size_of table c) && leb (c.1 + size_of table c) n)
+
+token_none : (table : Table) (c : ℕ × ℕ) (bits : List Bool)
+    → short_value_by 8 table.class bits (Some (get_or table.symbols c.0 0, c.1)) ≡ None → short_token table c ≡ None
+token_none table c bits h = go (is_short 8 table c) refl
   where
-    go : (b : Bool) → is_short table c ≡ b → short_token table c ≡ None
+    go : (b : Bool) → is_short 8 table c ≡ b → short_token table c ≡ None
     go false w = rw w refl
-    go true w = absurd (false≢true (sym (ap is_some (rw w at n))))
+    go true w = absurd (false≢true (sym (ap is_some (rw w at h))))
 
--- the token of a short value
-record IsToken (table : Table) (c : ℕ × ℕ) (eight : List Bool) (v : ℤ) (r n : ℕ) : Type 0 where
-  size : ℕ
-  token : short_token table c ≡ Some (r, size)
-  few : c.1 + size ≤ 8
-  value : v ≡ extended (number_of (take size (drop c.1 eight))) size
-  all : n ≡ c.1 + size
+-- the code of a short value
+pub record IsShort (most : ℕ) (table : Table) (c : ℕ × ℕ) (bits : List Bool) (v : ℤ) (r n : ℕ) : Type 0 where
+  pub short : is_short most table c ≡ true
+  pub some : ltb 0 (size_of table c) ≡ true
+  pub few : c.1 + size_of table c ≤ most
+  pub value : v ≡ extended (number_of (take (size_of table c) (drop c.1 bits))) (size_of table c)
+  pub run : r ≡ get_or table.symbols c.0 0 / 16
+  pub all : n ≡ c.1 + size_of table c
 
-all_short : (a b d : Bool) → (a && (b && d)) ≡ true → d ≡ true
-all_short true true d h = h
+all_short : (a b d : Bool) → (a && (b && d)) ≡ true → (b ≡ true) × (d ≡ true)
+all_short true true d h = (refl, h)
 all_short true false d h = absurd (false≢true h)
 all_short false b d h = absurd (false≢true h)
 
@@ -250,184 +284,221 @@ triple : {A : Type 0} (d : A) → Option A → A
 triple d (Some x) = x
 triple d None = d
 
-token_some : (table : Table) (c : ℕ × ℕ) (eight : List Bool) (v : ℤ) (r n : ℕ)
-    → short_value_by table.class eight (Some (get_or table.symbols c.0 0, c.1)) ≡ Some (v, r, n)
-    → IsToken table c eight v r n
+pub short_some : (most : ℕ) (table : Table) (c : ℕ × ℕ) (bits : List Bool) (v : ℤ) (r n : ℕ)
+    → short_value_by most table.class bits (Some (get_or table.symbols c.0 0, c.1)) ≡ Some (v, r, n)
+    → IsShort most table c bits v r n
 unfolding triple
-token_some table c eight v r n h = go (is_short table c) refl
+short_some most table c bits v r n h = go (is_short most table c) refl
   where
-    go : (b : Bool) → is_short table c ≡ b → IsToken table c eight v r n
+    go : (b : Bool) → is_short most table c ≡ b → IsShort most table c bits v r n
     go false w = absurd (false≢true (ap is_some (rw w at h)))
     go true w =
-        let s = get_or table.symbols c.0 0 % 16 in
-        let d = all_short (is_ac table.class) (ltb 0 s) (leb (c.1 + s) 8) w in
-        let few : c.1 + s ≤ 8 = grind (arith, nat_tests) in
-        let x : (extended (number_of (take s (drop c.1 eight))) s, get_or table.symbols c.0 0 / 16, c.1 + s) ≡ (
+        let s = size_of table c in
+        let d = all_short (is_ac table.class) (ltb 0 s) (leb (c.1 + s) most) w in
+        let le = d.1 in
+        let few : c.1 + s ≤ most = grind (arith, nat_tests) in
+        let x : (extended (number_of (take s (drop c.1 bits))) s, get_or table.symbols c.0 0 / 16, c.1 + s) ≡ (
           v,
           r,
           n,
         ) = ap (triple (v, r, n)) (rw w at h) in
         record {
-          size = s;
-          token = rw w (ap (λ (k : ℤ × ℕ × ℕ). Some (k.1, s)) x);
+          short = w;
+          some = d.0;
           few = few;
           value = sym (ap (λ (k : ℤ × ℕ × ℕ). k.0) x);
+          run = sym (ap (λ (k : ℤ × ℕ × ℕ). k.1) x);
           all = sym (ap (λ (k : ℤ × ℕ × ℕ). k.2) x);
         }
 
-filled-rest : (l n : ℕ) (bits : List Bool) (met : Option DataEnd) → l + n ≤ 8 → IsFilled 8 bits met
+filled-rest : (m l n : ℕ) (bits : List Bool) (met : Option DataEnd) → l + n ≤ m → IsFilled m bits met
     → IsFilled n (drop l bits) met
-filled-rest l n bits None h f = omega (arith, length-drop l bits)
-filled-rest l n bits (Some e) h f = omega (arith, length-drop l bits)
+filled-rest m l n bits None h f = omega (arith, length-drop l bits)
+filled-rest m l n bits (Some e) h f = omega (arith, length-drop l bits)
 
-module _ (table : Table) (bits : List Bool) (met : Option DataEnd) (bytes : List ℕ) (filled : IsFilled 8 bits met)
-    (counted : length table.counts ≡ 16) where
-  eight-text : short_code_from table (upcoming_by bits met bytes) ≡ short_code_by table (upcoming_by bits met bytes)
-      (short_only (code_in (code_lengths table.counts) (next_8 bits ++ replicate 8 false)))
-  unfolding short_code_from
-  eight-text =
-      let t = upcoming_by bits met bytes in
-      let lens = code_lengths table.counts in
-      short_code-only table t (code_in lens (next_16 t.bits))
-      ∙ ap (short_code_by table t) (short_agree lens (all-rising table.counts counted) (next_16 t.bits)
-      (next_8 bits ++ replicate 8 false)
-      (next_8-held bits met bytes filled ∙ sym (eight_front (next_8 bits) (length-next_8 bits))))
+module _ (most : ℕ) (table : Table) (bits : List Bool) (met : Option DataEnd) (bytes : List ℕ) (few : most ≤ 16)
+    (filled : IsFilled most bits met) where
+  -- what the bits held begin with is seen from the text
+  pub value-text : length table.counts ≡ 16 → short_value_of most table (next_bits most bits)
+      ≡ short_value_by most table.class (next_bits most bits)
+      (symbol_in table (next_16 (upcoming_by bits met bytes).bits))
+  value-text counted =
+      value_seen most table (next_bits most bits ++ replicate (16 - most) false)
+      (next_16 (upcoming_by bits met bytes).bits) (next_bits most bits) counted
+      (front_of most (16 - most) (next_bits most bits) (length-next_bits most bits)
+      ∙ sym (next-held most bits met bytes few filled))
 
-  -- the value after a code
-  value-read : (l r s : ℕ) → l + s ≤ 8 → has_held (l + s) bits met ≡ Ok tt
-      → short_value (Some (r, s)) (upcoming_by (drop l bits) met bytes)
-      ≡ Ok (
-        Some (extended (number_of (take s (drop l (next_8 bits)))) s, r),
-        upcoming_by (drop (l + s) bits) met bytes,
-      )
+  -- the value after a code of l bits
+  pub value-read : (l s : ℕ) → l + s ≤ most → has_held (l + s) bits met ≡ Ok tt
+      → signed_from s (upcoming_by (drop l bits) met bytes)
+      ≡ Ok (extended (number_of (take s (drop l (next_bits most bits)))) s, upcoming_by (drop (l + s) bits) met bytes)
   unfolding signed_from
-  value-read l r s le held =
+  value-read l s le held =
       let rest = drop l bits in
-      let f = filled-rest l s bits met le filled in
+      let f = filled-rest most l s bits met le filled in
       let d : drop s rest ≡ drop (l + s) bits = drop-drop s l bits in
-      ap (λ (o : Result (ℕ × Text) Fault). read_on (λ (v : ℤ). gives (Some (v, r)))
-      (read_on (λ (v : ℕ). gives (extended v s)) o)) (bits_from-held s rest met bytes f
+      ap (λ (o : Result (ℕ × Text) Fault). read_on (λ (v : ℕ). gives (extended v s)) o)
+      (bits_from-held s rest met bytes f
       ∙ ap (λ (o : Result (Unit {0}) Fault). o
       >>= λ (u : Unit {0}). Ok (
         number_of (take s (rest ++ replicate s false)),
         upcoming_by (drop s rest) met bytes,
       )) (both-held l s bits met held))
-      ∙ ap (λ (b : List Bool). Ok (Some (extended (number_of b) s, r), upcoming_by (drop s rest) met bytes))
-      (sym (value-bits bits l s le))
+      ∙ ap (λ (b : List Bool). Ok (extended (number_of b) s, upcoming_by (drop s rest) met bytes))
+      (sym (value-bits most bits l s le))
       ∙ ap (λ (b : List Bool). Ok (
-        Some (extended (number_of (take s (drop l (next_8 bits)))) s, r),
+        extended (number_of (take s (drop l (next_bits most bits)))) s,
         upcoming_by b met bytes,
       )) d
 
-  token-text : (c : ℕ × ℕ) (v : ℤ) (r n : ℕ) → IsToken table c (next_8 bits) v r n
+module _ (table : Table) (bits : List Bool) (met : Option DataEnd) (bytes : List ℕ) (filled : IsFilled 8 bits met)
+    (counted : length table.counts ≡ 16) where
+  token-text : (c : ℕ × ℕ) (v : ℤ) (r n : ℕ) → IsShort 8 table c (next_bits 8 bits) v r n
       → read_on short_value (after_code c.1 (upcoming_by bits met bytes) (short_token table c)) ≡ (has_held n bits met
       >>= λ (u : Unit {0}). Ok (Some (v, r), upcoming_by (drop n bits) met bytes))
   token-text c v r n k =
       let t = upcoming_by bits met bytes in
-      let m = c.1 + k.size in
+      let s = size_of table c in
+      let m = c.1 + s in
       let w = k.few in
       let f = filled-less m 8 bits met w filled in
       let g = filled-less c.1 8 bits met (omega arith) filled in
-      ap (λ (o : Option (ℕ × ℕ)). read_on short_value (after_code c.1 t o)) k.token
+      let token : short_token table c ≡ Some (r, s) = rw k.short (ap (λ (i : ℕ). Some (i, s)) (sym k.run)) in
+      ap (λ (o : Option (ℕ × ℕ)). read_on short_value (after_code c.1 t o)) token
       ∙ ap (λ (o : Result (Unit {0}) Fault). read_on short_value (o >>= λ (u : Unit {0}). Ok (
-        Some (r, k.size),
+        Some (r, s),
         advance c.1 t,
       ))) (has_bits-held m bits met bytes f)
-      ∙ ap (λ (u : Text). read_on short_value (has_held m bits met >>= λ (_ : Unit {0}). Ok (Some (r, k.size), u)))
+      ∙ ap (λ (u : Text). read_on short_value (has_held m bits met >>= λ (_ : Unit {0}). Ok (Some (r, s), u)))
       (advance-held c.1 bits met bytes g)
       ∙ go (has_held m bits met) refl
       ∙ ap (λ (i : ℕ). has_held i bits met >>= λ (u : Unit {0}). Ok (Some (v, r), upcoming_by (drop i bits) met bytes))
       (sym k.all)
     where
-      go : (o : Result (Unit {0}) Fault) → has_held (c.1 + k.size) bits met ≡ o
-          → read_on short_value (o >>= λ (u : Unit {0}). Ok (Some (r, k.size), upcoming_by (drop c.1 bits) met bytes))
-          ≡ (o >>= λ (u : Unit {0}). Ok (Some (v, r), upcoming_by (drop (c.1 + k.size) bits) met bytes))
-      go (Ok u) h = value-read c.1 r k.size k.few h
-          ∙ ap (λ (x : ℤ). Ok (Some (x, r), upcoming_by (drop (c.1 + k.size) bits) met bytes)) (sym k.value)
+      go : (o : Result (Unit {0}) Fault) → has_held (c.1 + size_of table c) bits met ≡ o
+          → read_on short_value (o >>= λ (u : Unit {0}). Ok (
+            Some (r, size_of table c),
+            upcoming_by (drop c.1 bits) met bytes,
+          ))
+          ≡ (o >>= λ (u : Unit {0}). Ok (Some (v, r), upcoming_by (drop (c.1 + size_of table c) bits) met bytes))
+      go (Ok u) h =
+          ap (read_on (λ (x : ℤ). gives (Some (x, r)))) (value-read 8 table bits met bytes (omega arith) filled c.1
+          (size_of table c) k.few h)
+          ∙ ap (λ (x : ℤ). Ok (Some (x, r), upcoming_by (drop (c.1 + size_of table c) bits) met bytes)) (sym k.value)
       go (Err f) h = refl
 
   -- no short token
-  pub fast-none : short_value_of table (next_8 bits) ≡ None → fast_from table (upcoming_by bits met bytes) ≡ Ok (
+  pub fast-none : short_value_of 8 table (next_bits 8 bits) ≡ None → fast_from table (upcoming_by bits met bytes) ≡ Ok (
     None,
     upcoming_by bits met bytes,
   )
-  unfolding fast_from
-  fast-none e = ap (read_on short_value) eight-text
-      ∙ go (short_only (code_in (code_lengths table.counts) (next_8 bits ++ replicate 8 false))) e
+  unfolding fast_from short_code_from
+  fast-none e = go (code_in (code_lengths table.counts) (next_16 (upcoming_by bits met bytes).bits))
+      (sym (value-text 8 table bits met bytes (omega arith) filled counted) ∙ e)
     where
-      go : (o : Option (ℕ × ℕ)) → short_value_by table.class (next_8 bits) (named table.symbols o) ≡ None
+      go : (o : Option (ℕ × ℕ)) → short_value_by 8 table.class (next_bits 8 bits) (named table.symbols o) ≡ None
           → read_on short_value (short_code_by table (upcoming_by bits met bytes) o) ≡ Ok (
             None,
             upcoming_by bits met bytes,
           )
       go None n = refl
       go (Some c) n = ap (λ (r : Option (ℕ × ℕ)). read_on short_value (after_code c.1 (upcoming_by bits met bytes) r))
-          (token_none table c (next_8 bits) n)
+          (token_none table c (next_bits 8 bits) n)
 
   -- a short token, and how many bits it takes
-  pub fast-some : (v : ℤ) (r n : ℕ) → short_value_of table (next_8 bits) ≡ Some (v, r, n)
+  pub fast-some : (v : ℤ) (r n : ℕ) → short_value_of 8 table (next_bits 8 bits) ≡ Some (v, r, n)
       → fast_from table (upcoming_by bits met bytes) ≡ (has_held n bits met >>= λ (u : Unit {0}). Ok (
         Some (v, r),
         upcoming_by (drop n bits) met bytes,
       ))
-  unfolding fast_from
-  fast-some v r n e = ap (read_on short_value) eight-text
-      ∙ go (short_only (code_in (code_lengths table.counts) (next_8 bits ++ replicate 8 false))) e
+  unfolding fast_from short_code_from
+  fast-some v r n e = go (code_in (code_lengths table.counts) (next_16 (upcoming_by bits met bytes).bits))
+      (sym (value-text 8 table bits met bytes (omega arith) filled counted) ∙ e)
     where
-      go : (o : Option (ℕ × ℕ)) → short_value_by table.class (next_8 bits) (named table.symbols o) ≡ Some (v, r, n)
+      go : (o : Option (ℕ × ℕ)) → short_value_by 8 table.class (next_bits 8 bits) (named table.symbols o)
+          ≡ Some (v, r, n)
           → read_on short_value (short_code_by table (upcoming_by bits met bytes) o) ≡ (has_held n bits met
           >>= λ (u : Unit {0}). Ok (Some (v, r), upcoming_by (drop n bits) met bytes))
       go None w = absurd (false≢true (ap is_some w))
-      go (Some c) w = token-text c v r n (token_some table c (next_8 bits) v r n w)
+      go (Some c) w = token-text c v r n (short_some 8 table c (next_bits 8 bits) v r n w)
 
 -- ---- building tables
 
 pub short_code-is : (counts symbols : List ℕ) (b v : ℕ) (o : Option (ℕ × ℕ)) → v ≡ b * 256
     → code_in (code_lengths counts) (low_bits 16 v) ≡ o → short_code counts symbols (low_bits 8 b)
-    ≡ named symbols (short_only o)
+    ≡ named symbols (short_only 8 o)
 short_code-is counts symbols b v o h e =
-    ap (λ (l : List Bool). named symbols (short_only (code_in (code_lengths counts) l))) (sym (byte_padded b))
-    ∙ ap (λ (n : ℕ). named symbols (short_only (code_in (code_lengths counts) (low_bits 16 n)))) (sym h)
-    ∙ ap (λ (o : Option (ℕ × ℕ)). named symbols (short_only o)) e
+    ap (λ (l : List Bool). named symbols (short_only 8 (code_in (code_lengths counts) l))) (sym (byte_padded b))
+    ∙ ap (λ (n : ℕ). named symbols (short_only 8 (code_in (code_lengths counts) (low_bits 16 n)))) (sym h)
+    ∙ ap (λ (o : Option (ℕ × ℕ)). named symbols (short_only 8 o)) e
 
 pub named-short : (symbols : List ℕ) (c : ℕ × ℕ) → c.1 ≤ 8
-    → named symbols (short_only (Some c)) ≡ Some (get_or symbols c.0 0, c.1)
+    → named symbols (short_only 8 (Some c)) ≡ Some (get_or symbols c.0 0, c.1)
 named-short symbols c h = let t : leb c.1 8 ≡ true = grind (arith, nat_tests) in rw t refl
 
-pub named-long : (symbols : List ℕ) (c : ℕ × ℕ) → 8 < c.1 → named symbols (short_only (Some c)) ≡ None
+pub named-long : (symbols : List ℕ) (c : ℕ × ℕ) → 8 < c.1 → named symbols (short_only 8 (Some c)) ≡ None
 named-long symbols c h = let t : leb c.1 8 ≡ false = grind (arith, nat_tests) in rw t refl
 
-pub short_small : (symbols : List ℕ) (o : Option (ℕ × ℕ)) → IfSome (named symbols (short_only o)) (λ c. c.1 ≤ 8)
+-- the number of a value after a code of l bits, of n
+pub value_below : (n bits l s : ℕ) → l + s ≤ n → bits % 2 ^ (n - l) / 2 ^ (n - l - s) < 2 ^ s
+value_below n bits l s h =
+    let m = n - l in
+    let e : m ≡ s + (m - s) = omega arith in
+    let p : 2 ^ m ≡ 2 ^ (s + (m - s)) = ap (λ (k : ℕ). 2 ^ k) e in
+    let w = mod-lt bits (pow_pos m) in
+    front_small (bits % 2 ^ m) s (m - s) (omega (arith, p, w))
+
+pub value_number : (n bits l s : ℕ) → l + s ≤ n → bits % 2 ^ (n - l) / 2 ^ (n - l - s)
+    ≡ number_of (take s (drop l (low_bits n bits)))
+value_number n bits l s h =
+    let m = n - l in
+    let e : n ≡ l + m = omega arith in
+    let f : m ≡ s + (m - s) = omega arith in
+    sym (ap (λ (k : ℕ). number_of (take s (drop l (low_bits k bits)))) e
+    ∙ ap (λ (b : List Bool). number_of (take s b)) (low_bits-drop l m bits)
+    ∙ ap (λ (k : ℕ). number_of (take s (low_bits k (bits % 2 ^ m)))) f
+    ∙ ap number_of (low_bits-take s (m - s) (bits % 2 ^ m))
+    ∙ number_of-low_bits s (bits % 2 ^ m / 2 ^ (m - s)) (value_below n bits l s h))
+
+short_small : (symbols : List ℕ) (o : Option (ℕ × ℕ)) → IfSome (named symbols (short_only 8 o)) (λ c. c.1 ≤ 16)
 short_small symbols None = tt
 short_small symbols (Some c) = go (leb c.1 8) refl
   where
-    go : (b : Bool) → leb c.1 8 ≡ b → IfSome (named symbols (short_only (Some c))) (λ c. c.1 ≤ 8)
-    go true e = let w : c.1 ≤ 8 = grind (arith, nat_tests) in rw e w
+    go : (b : Bool) → leb c.1 8 ≡ b → IfSome (named symbols (short_only 8 (Some c))) (λ c. c.1 ≤ 16)
+    go true e = let w : c.1 ≤ 16 = grind (arith, nat_tests) in rw e w
     go false e = rw e tt
 
--- the number of a value after a code of l bits
-pub value_below : (byte l s : ℕ) → l + s ≤ 8 → byte % 2 ^ (8 - l) / 2 ^ (8 - l - s) < 2 ^ s
-value_below byte l s h =
-    let m = 8 - l in
-    let e : m ≡ s + (m - s) = omega arith in
-    let p : 2 ^ m ≡ 2 ^ (s + (m - s)) = ap (λ (k : ℕ). 2 ^ k) e in
-    let w = mod-lt byte (pow_pos m) in
-    front_small (byte % 2 ^ m) s (m - s) (omega (arith, p, w))
-
-pub value_number : (byte l s : ℕ) → l + s ≤ 8 → byte % 2 ^ (8 - l) / 2 ^ (8 - l - s)
-    ≡ number_of (take s (drop l (low_bits 8 byte)))
-value_number byte l s h =
-    let m = 8 - l in
-    let e : 8 ≡ l + m = omega arith in
-    let f : m ≡ s + (m - s) = omega arith in
-    sym (ap (λ (k : ℕ). number_of (take s (drop l (low_bits k byte)))) e
-    ∙ ap (λ (b : List Bool). number_of (take s b)) (low_bits-drop l m byte)
-    ∙ ap (λ (k : ℕ). number_of (take s (low_bits k (byte % 2 ^ m)))) f
-    ∙ ap number_of (low_bits-take s (m - s) (byte % 2 ^ m))
-    ∙ number_of-low_bits s (byte % 2 ^ m / 2 ^ (m - s)) (value_below byte l s h))
-
--- each place of a table of codes is short
+-- each code of a table of short codes has at most 16 bits
 pub codes_small : (counts symbols : List ℕ) (codes : List (Option (ℕ × ℕ))) → HoldsCodes counts symbols codes → (b : ℕ)
-    → b < 256 → IfSome (get_or codes b None) (λ c. c.1 ≤ 8)
-codes_small counts symbols codes h b lt = subst (λ (o : Option (ℕ × ℕ)). IfSome o (λ c. c.1 ≤ 8)) (sym (h b lt))
+    → b < 256 → IfSome (get_or codes b None) (λ c. c.1 ≤ 16)
+codes_small counts symbols codes h b lt = subst (λ (o : Option (ℕ × ℕ)). IfSome o (λ c. c.1 ≤ 16)) (sym (h b lt))
     (short_small symbols (code_in (code_lengths counts) (low_bits 8 b ++ replicate 8 false)))
+
+-- 11 bits with zeros after them
+pub eleven_padded : (b : ℕ) → low_bits 16 (b * 32) ≡ low_bits 11 b ++ replicate 5 false
+eleven_padded b =
+    let e : b * 32 ≡ b * 2 ^ 5 + 0 = omega arith in
+    ap (low_bits 16) e ∙ low_bits-append 11 5 b 0 (omega arith)
+    ∙ ap (λ (l : List Bool). low_bits 11 b ++ l) (low_bits-zeros 5)
+
+-- a table of no codes
+pub none_packed : (class : HuffmanTableClass) (symbols : List ℕ) (values : List (ℤ × ℕ × ℕ)) (n : ℕ)
+    → values ≡ replicate n (packed None) → (b : ℕ) → b < n → get_or values b (packed None)
+    ≡ packed (short_value_of 11 (record { class = class; counts = replicate 16 0; symbols = symbols }) (low_bits 11 b))
+unfolding code_in lengths_from first_from
+none_packed class symbols values n e b lt =
+    ap (λ (xs : List (ℤ × ℕ × ℕ)). get_or xs b (packed None)) e
+    ∙ get_or-replicate n b (packed None) (packed None) lt
+
+-- in a table of class DC
+pub none_dc : (symbols counts : List ℕ) (n b : ℕ) → b < n
+    → get_or (replicate n (packed None)) b (packed None)
+    ≡ packed (short_value_of 11 (record { class = classes.DC; counts = counts; symbols = symbols }) (low_bits 11 b))
+none_dc symbols counts n b lt =
+    get_or-replicate n b (packed None) (packed None) lt
+    ∙ go (symbol_in (record { class = classes.DC; counts = counts; symbols = symbols })
+    (low_bits 11 b ++ replicate 5 false))
+  where
+    go : (o : Option (ℕ × ℕ)) → packed None ≡ packed (short_value_by 11 classes.DC (low_bits 11 b) o)
+    go None = refl
+    go (Some c) = refl

@@ -1,5 +1,5 @@
--- A token as it is looked up: a short one, whose code and value have at most 8 bits, at once, and
--- any other by its symbol.
+-- A token by its first 8 bits: a short one, whose code and value have at most 8 bits, at once, and
+-- any other by its symbol. Only the law `tokens_are_looked_up` needs it.
 use Rattle.std.specs.Prelude.{ℕ, ◌+◌, ◌-◌, ◌/◌, ◌%◌, ◌^◌, ◌==◌, nat_lt, true, false, ℤ, Option}
 use Rattle.std.specs.Prelude.{Some, None}
 use Rattle.jpeg_bits.specs.Entropy.{bits_from}

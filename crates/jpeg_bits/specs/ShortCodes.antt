@@ -1,5 +1,5 @@
--- Codes and values that 8 bits begin with (F.2.2.3, with the look-up that it allows).
-use Rattle.std.specs.Prelude.{◌≡◌, ℕ, ℤ, ◌+◌, ◌*◌, ◌/◌, ◌%◌, ◌<◌, List, ◌++◌, take, drop, replicate}
+-- Codes and values that some bits begin with (F.2.2.3, with the look-up that it allows).
+use Rattle.std.specs.Prelude.{◌≡◌, ℕ, ℤ, pos, ◌-◌, ◌+◌, ◌*◌, ◌/◌, ◌%◌, ◌<◌, List, ◌++◌, take, drop, replicate}
 use Rattle.std.specs.Prelude.{Bool, false, Option, Some, None, if◌then◌else◌, slice_index}
 use Rattle.std.specs.Prelude.{slice_index_or, sum, fold, ◌&&◌, nat_lt, nat_le}
 use Rattle.std.specs.Option.{option_map}
@@ -17,37 +17,37 @@ named symbols o = option_map (λ c. (slice_index symbols c.0, c.1)) o
 abbrev pub symbol_in : Table → List Bool → Option (ℕ × ℕ)
 symbol_in table bits = named table.symbols (code_in (code_lengths table.counts) bits)
 
--- a code of at most 8 bits
-abbrev pub short_only : Option (ℕ × ℕ) → Option (ℕ × ℕ)
-short_only None = None
-short_only (Some c) = if nat_le c.1 8 then Some c else None
+-- a code of at most n bits
+abbrev pub short_only : ℕ → Option (ℕ × ℕ) → Option (ℕ × ℕ)
+short_only n None = None
+short_only n (Some c) = if nat_le c.1 n then Some c else None
 
 -- the symbol and the length of the code of at most 8 bits that begins 8 bits
 abbrev pub short_code : List ℕ → List ℕ → List Bool → Option (ℕ × ℕ)
 short_code counts symbols eight =
-    named symbols (short_only (code_in (code_lengths counts) (eight ++ replicate 8 false)))
+    named symbols (short_only 8 (code_in (code_lengths counts) (eight ++ replicate 8 false)))
 
--- The value and the run of a symbol whose code of this many bits begins 8 bits, and the bits of
--- both, where they are at most 8, in a table of class AC.
-abbrev pub short_value_by : HuffmanTableClass → List Bool → Option (ℕ × ℕ) → Option (ℤ × ℕ × ℕ)
-short_value_by class eight None = None
-short_value_by class eight (Some c) =
-    if is_ac class && (nat_lt 0 (c.0 % 16) && nat_le (c.1 + c.0 % 16) 8)
+-- The value and the run of a symbol whose code of this many bits begins the bits, and the bits of
+-- both, where they are at most n, in a table of class AC.
+abbrev pub short_value_by : ℕ → HuffmanTableClass → List Bool → Option (ℕ × ℕ) → Option (ℤ × ℕ × ℕ)
+short_value_by n class bits None = None
+short_value_by n class bits (Some c) =
+    if is_ac class && (nat_lt 0 (c.0 % 16) && nat_le (c.1 + c.0 % 16) n)
     then Some (
-      extended (number_of (take (c.0 % 16) (drop c.1 eight))) (c.0 % 16),
+      extended (number_of (take (c.0 % 16) (drop c.1 bits))) (c.0 % 16),
       c.0 / 16,
       c.1 + c.0 % 16,
     )
     else None
 
--- what 8 bits begin with
-abbrev pub short_value_of : Table → List Bool → Option (ℤ × ℕ × ℕ)
-short_value_of table eight = short_value_by table.class eight (short_code table.counts table.symbols
-    eight)
+-- what n bits begin with, of at most 16
+abbrev pub short_value_of : ℕ → Table → List Bool → Option (ℤ × ℕ × ℕ)
+short_value_of n table bits = short_value_by n table.class bits
+    (symbol_in table (bits ++ replicate (16 - n) false))
 
--- the next 8 bits, with zeros after them
-abbrev pub next_8 : List Bool → List Bool
-next_8 bits = take 8 (bits ++ replicate 8 false)
+-- the next n bits, with zeros after them
+abbrev pub next_bits : ℕ → List Bool → List Bool
+next_bits n bits = take n (bits ++ replicate n false)
 
 -- at the place of each 8 bits stands the code that begins them
 abbrev pub HoldsCodes : List ℕ → List ℕ → List (Option (ℕ × ℕ)) → Type 0
@@ -57,7 +57,17 @@ HoldsCodes counts symbols codes =
 -- at the place of each 8 bits stands the value that they begin with
 abbrev pub HoldsValues : Table → List (Option (ℤ × ℕ × ℕ)) → Type 0
 HoldsValues table values = (b : ℕ) → b < 256
-    → slice_index_or values b None ≡ short_value_of table (low_bits 8 b)
+    → slice_index_or values b None ≡ short_value_of 8 table (low_bits 8 b)
+
+-- a value, and no bits where there is none
+abbrev pub packed : Option (ℤ × ℕ × ℕ) → ℤ × ℕ × ℕ
+packed None = (pos 0, 0, 0)
+packed (Some value) = value
+
+-- at the place of each 11 bits stands the value that they begin with
+abbrev pub HoldsWideValues : Table → List (ℤ × ℕ × ℕ) → Type 0
+HoldsWideValues table values = (b : ℕ) → b < 2048
+    → slice_index_or values b (packed None) ≡ packed (short_value_of 11 table (low_bits 11 b))
 
 -- the value after the codes of at most i bits, as a number of i bits
 abbrev pub value_after : List ℕ → ℕ → ℕ

@@ -133,8 +133,9 @@ impl Model for Held {
 impl Held {
     ghost use Rattle.std.specs.Prelude.{◌≡◌, ◌≤◌, ◌<◌, ◌^◌, ◌++◌, ℕ, [], None, IfSome, true, false};
     ghost use Rattle.std.specs.Prelude.{is_ok, is_some, length, take, drop, replicate};
-    ghost use Rattle.jpeg_bits.specs.Codes.{next_16, symbol_from, fast_from};
-    ghost use Rattle.jpeg_bits.specs.ShortCodes.{symbol_in, short_value_of, next_8};
+    ghost use Rattle.jpeg_bits.specs.Stream.{Stream};
+    ghost use Rattle.jpeg_bits.specs.Codes.{next_16, code_from, symbol_from, fast_from};
+    ghost use Rattle.jpeg_bits.specs.ShortCodes.{symbol_in, short_value_of, next_bits};
     ghost use Rattle.jpeg_bits.specs.Reading.{Names, Gives};
     ghost use Rattle.jpeg_bits.specs.Readers.{signed_from};
     ghost use Rattle.jpeg_bits.specs.Refusals.{outcome_of, answer_of, IsHeld};
@@ -289,6 +290,41 @@ impl Held {
         }
     }
 
+    /// How many bits are held.
+    #[inline(always)]
+    pub(crate) fn len(&self) -> usize
+        ensures { result ≡ length self.now.bits }
+    {
+        self.bits.len()
+    }
+
+    /// The length and the symbol of the code that begins the bits (T.81, F.2.2.3), where 16 bits are
+    /// held, or the end is met. A refusal is held in its place, and answered by none.
+    #[inline(always)]
+    pub(crate) fn take_held_code(
+        &mut self,
+        table: &HuffmanTable,
+        refusal: &mut Option<Error>,
+    ) -> Option<(u8, u8)>
+        requires { IsFilled 16 self.old.bits self.old.met }
+        ensures code { (source : Stream) → Takes (λ c. c) (code_from table.now) self.old source
+            (answer_of result refusal.new) self.new source }
+        ensures held { IsHeld result refusal.new }
+        ensures within { IfSome result (λ c. c.0 ≤ 16) }
+    {
+        let Some((symbol, length)) = self.symbol(table) else {
+            hold_no_code(self.alloc, refusal);
+            return None;
+        };
+        let count = usize::from(length);
+        if !self.has(count) {
+            hold_fault(self.alloc, self.end, refusal);
+            return None;
+        }
+        self.skip(count);
+        Some((length, symbol))
+    }
+
     /// The symbol whose code begins the bits (T.81, F.2.2.3). A refusal is held in its place, and
     /// answered by none.
     #[inline(always)]
@@ -305,17 +341,10 @@ impl Held {
         if !self.hold(source, 16, refusal) {
             return None;
         }
-        let Some((symbol, length)) = self.symbol(table) else {
-            hold_no_code(self.alloc, refusal);
-            return None;
-        };
-        let length = usize::from(length);
-        if !self.has(length) {
-            hold_fault(self.alloc, self.end, refusal);
-            return None;
+        match self.take_held_code(table, refusal) {
+            Some((_, symbol)) => Some(symbol),
+            None => None,
         }
-        self.skip(length);
-        Some(symbol)
     }
 
     /// The value and the run of zeros before it, where a code of a table of class AC and the value
@@ -385,11 +414,21 @@ impl Held {
     /// are at most 8.
     #[inline(always)]
     pub(crate) fn short_value(&self, table: &HuffmanTable) -> Option<(i16, u8, u16)>
-        ensures value { result ≡ short_value_of table.now (next_8 self.now.bits) }
+        ensures value { result ≡ short_value_of 8 table.now (next_bits 8 self.now.bits) }
         ensures within { IfSome result (λ t. t.2 ≤ 8) }
         ensures counted { length table.now.counts ≡ 16 }
     {
         table.short_value_of(self.bits.front_8())
+    }
+
+    /// As `short_value`, where they are at most 11.
+    #[inline(always)]
+    pub(crate) fn wide_value(&self, table: &HuffmanTable) -> Option<(i16, u8, u8)>
+        ensures value { result ≡ short_value_of 11 table.now (next_bits 11 self.now.bits) }
+        ensures within { IfSome result (λ t. t.2 ≤ 11) }
+        ensures counted { length table.now.counts ≡ 16 }
+    {
+        table.wide_value_of(self.bits.front_16())
     }
 
     pub(crate) fn clear(&mut self)

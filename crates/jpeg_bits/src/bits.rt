@@ -26,7 +26,7 @@ impl Bits {
     ghost use Rattle.std.specs.Prelude.{◌≡◌, ◌≤◌, ◌<◌, ◌^◌, ◌++◌, [], take, drop, length};
     ghost use Rattle.std.specs.Prelude.{replicate, false};
     ghost use Rattle.jpeg_bits.specs.Codes.{next_16};
-    ghost use Rattle.jpeg_bits.specs.ShortCodes.{next_8};
+    ghost use Rattle.jpeg_bits.specs.ShortCodes.{next_bits};
     ghost use Rattle.jpeg_bits.specs.Written.{low_bits};
     ghost use Rattle.jpeg_bits.specs.Entropy.{bits_of, number_of};
 
@@ -94,7 +94,7 @@ impl Bits {
     /// The first 8 bits, with zeros after them, as a number.
     #[inline(always)]
     pub(crate) fn front_8(&self) -> u8
-        ensures { low_bits 8 result ≡ next_8 self.now }
+        ensures { low_bits 8 result ≡ next_bits 8 self.now }
     {
         (self.word >> 56) as u8
     }

@@ -1,3 +1,6 @@
+ghost use Rattle.std.specs.Prelude.{◌≤◌};
+
+use crate::blocks::{Pass, read_block};
 use crate::color_transform::ColorTransform;
 use crate::error::{Error, UnsupportedFeature, end_of_bytes, format_error};
 use crate::huffman::{HuffmanDecoder, HuffmanTable, HuffmanTableClass};
@@ -162,6 +165,151 @@ fn short_tokens(rt: HostRuntime) -> Result<(), Fail> {
     assert!(rt; decoder.decode_fast_ac(&mut source, &table)? == None);
     assert_eq!(rt; decoder.decode(&mut source, &table)?, 0x07);
     assert_eq!(rt; decoder.receive_extend(&mut source, 7)?, -124);
+    Ok(())
+}
+
+/// One code of each length: ones and a zero.
+const ONE_EACH: [u8; 16] = [1; 16];
+
+/// The runs and the sizes of those codes.
+const RUNS_AND_SIZES: [u8; 16] = [
+    0x00, 0x17, 0x25, 0x26, 0x06, 0x16, 0x01, 0x32, 0x02, 0x11, 0x21, 0xf0, 0x30, 0x0a, 0x41, 0x51,
+];
+
+/// A block whose places 1 to `se` are read in a first pass.
+fn read_first(
+    alloc: Global,
+    decoder: &mut HuffmanDecoder,
+    source: &mut Source<Pieces<'_>>,
+    se: u8,
+) -> Result<[i16; 64], Error>
+    requires some { 1 ≤ se }
+    requires most { se ≤ 63 }
+{
+    let table = HuffmanTable::new(alloc, &ONE_EACH, &RUNS_AND_SIZES, HuffmanTableClass::AC)?;
+    let pass = Pass {
+        is_first: true,
+        ss: 1,
+        se,
+        al: 0,
+    };
+    let mut block = [0; 64];
+    let (mut predictor, mut run) = (0, 0);
+    read_block(
+        alloc,
+        decoder,
+        source,
+        &table,
+        &table,
+        pass,
+        &mut predictor,
+        &mut run,
+        &mut block,
+    )?;
+    Ok(block)
+}
+
+/// The block with these coefficients after DC in zigzag order, and zeros.
+fn block_of(first: [i16; 6]) -> [i16; 64] {
+    let mut block = [0; 64];
+    for (place, coefficient) in [1usize, 8, 16, 9, 2, 3].into_iter().zip(first) {
+        if let Some(slot) = block.get_mut(place) {
+            *slot = coefficient;
+        }
+    }
+    block
+}
+
+#[test]
+fn values_of_any_length(rt: HostRuntime) -> Result<(), Fail> {
+    // A code and its value of 8 to 24 bits together, the code of the rest of the band, and 1010.
+    let cases: [(&[u8], [i16; 6]); 16] = [
+        (&[0b1101_0110, 0b0101_0000], [0, 0, 22, 0, 0, 0]),
+        (&[0b1100_0000, 0b0101_0000], [0, 0, -31, 0, 0, 0]),
+        (&[0b1111_1100, 0b0101_0000], [-1, 0, 0, 0, 0, 0]),
+        (&[0b1010_0000, 0b0010_1000], [0, 64, 0, 0, 0, 0]),
+        (&[0b1000_0000, 0b0010_1000], [0, -127, 0, 0, 0, 0]),
+        (&[0b1110_1010, 0b0001_0100], [0, 0, 40, 0, 0, 0]),
+        (&[0b1111_1110, 0b1001_0100], [0, 0, 0, 2, 0, 0]),
+        (&[0b1111_0011, 0b1100_1010], [-33, 0, 0, 0, 0, 0]),
+        (&[0xff, 0, 0b0000_1010], [-3, 0, 0, 0, 0, 0]),
+        (&[0xff, 0, 0b0110_1010], [3, 0, 0, 0, 0, 0]),
+        (&[0xff, 0, 0b1010_1010], [0, 1, 0, 0, 0, 0]),
+        (&[0b1111_1011, 0b1111_0101, 0], [0, 63, 0, 0, 0, 0]),
+        (&[0xff, 0, 0b1101_0101, 0], [0, 0, 1, 0, 0, 0]),
+        (
+            &[0xff, 0, 0b1111_1000, 0b0001_0111, 0b0101_0000],
+            [-1000, 0, 0, 0, 0, 0],
+        ),
+        (&[0xff, 0, 0b1111_1101, 0b0101_0000], [0, 0, 0, 0, 1, 0]),
+        (&[0xff, 0, 0b1111_1110, 0b0010_1000], [0, 0, 0, 0, 0, -1]),
+    ];
+    for (bytes, places) in cases {
+        let mut source = Source::new(reader_of(bytes, 2));
+        let mut decoder = HuffmanDecoder::new(rt.alloc());
+        let block = read_first(rt.alloc(), &mut decoder, &mut source, 63)?;
+        assert!(rt; block == block_of(places));
+        assert_eq!(rt; decoder.get_bits(&mut source, 4)?, 0b1010);
+    }
+    Ok(())
+}
+
+#[test]
+fn values_beyond_the_band(rt: HostRuntime) -> Result<(), Fail> {
+    // Of 8 bits with its code a value is taken, of 9 to 11 it isn't; it begins with 0110.
+    let cases: [(&[u8], u8, u16); 4] = [
+        (&[0b1100_1101, 0b1010_0000], 2, 0b1010),
+        (&[0b1001_1011, 0b1000_0000], 1, 0b0110),
+        (&[0b1110_0110, 0b0010_1000], 2, 0b0110),
+        (&[0xff, 0, 0b1001_1000], 1, 0b0110),
+    ];
+    for (bytes, se, next) in cases {
+        let mut source = Source::new(reader_of(bytes, 2));
+        let mut decoder = HuffmanDecoder::new(rt.alloc());
+        let block = read_first(rt.alloc(), &mut decoder, &mut source, se.clamp(1, 63))?;
+        assert!(rt; block == [0; 64]);
+        assert_eq!(rt; decoder.get_bits(&mut source, 4)?, next);
+    }
+    Ok(())
+}
+
+#[test]
+fn data_that_end_within_a_value(rt: HostRuntime) -> Result<(), Fail> {
+    // A code of 2 bits and 6 of 7 of its value, and 8 of 9 bits of a code.
+    let cases: [&[u8]; 2] = [&[0b1010_0000], &[0xff, 0]];
+    for bytes in cases {
+        let mut source = Source::new(reader_of(bytes, 2));
+        let mut decoder = HuffmanDecoder::new(rt.alloc());
+        assert!(rt;
+            matches!(
+                read_first(rt.alloc(), &mut decoder, &mut source, 63),
+                Err(Error::Io(_))
+            )
+        );
+    }
+    // A value to the last bit and to the end of the band.
+    let mut source = Source::new(reader_of(&[0b1101_0110], 1));
+    let mut decoder = HuffmanDecoder::new(rt.alloc());
+    let block = read_first(rt.alloc(), &mut decoder, &mut source, 3)?;
+    assert_eq!(rt; block[16], 22);
+    assert!(rt; matches!(decoder.get_bits(&mut source, 1), Err(Error::Io(_))));
+    Ok(())
+}
+
+#[test]
+fn a_marker_within_a_value(rt: HostRuntime) -> Result<(), Fail> {
+    // The same data with zeros after them.
+    let cases: [(&[u8], [i16; 6]); 2] = [
+        (&[0b1010_0000, 0xff, 0xd9], [0, 64, 0, 0, 0, 0]),
+        (&[0xff, 0, 0xff, 0xd9], [-3, 0, 0, 0, 0, 0]),
+    ];
+    for (bytes, places) in cases {
+        let mut source = Source::new(reader_of(bytes, 2));
+        let mut decoder = HuffmanDecoder::new(rt.alloc());
+        let block = read_first(rt.alloc(), &mut decoder, &mut source, 63)?;
+        assert!(rt; block == block_of(places));
+        assert!(rt; decoder.take_marker(&mut source)? == Some(Marker::EOI));
+    }
     Ok(())
 }
 

@@ -1,11 +1,11 @@
 //! The coefficients of a block in entropy-coded bits: DC differences, and the tokens of a band
 //! (T.81, F.2.2 and G.1.2).
-ghost use Rattle.std.specs.Prelude.{◌≡◌, ◌≤◌, ◌^◌, ◌+ℤ◌, ◌*ℤ◌, pos, length, IfSome};
+ghost use Rattle.std.specs.Prelude.{◌≡◌, ◌≤◌, ◌/◌, ◌%◌, ◌^◌, ◌+ℤ◌, ◌*ℤ◌, pos, length, IfSome};
 ghost use Rattle.jpeg_bits.specs.Refusals.{answer_of, IsHeld};
 ghost use Rattle.jpeg_bits.specs.Entropy.{Takes};
 ghost use Rattle.jpeg_bits.specs.declared.codes.HuffmanTableClass.TheVariants.{AC};
-ghost use Rattle.jpeg_bits.specs.Bands.{wrapped, difference, token_from, first_ac, IsWithinRoom};
-ghost use Rattle.jpeg_bits.specs.Lookups.{slow_token, looked_up};
+ghost use Rattle.jpeg_bits.specs.Bands.{wrapped, difference, token_at, token_from, first_ac};
+ghost use Rattle.jpeg_bits.specs.Bands.{IsWithinRoom};
 ghost use Rattle.jpeg_bits.specs.BlockView.{pass_in, IsPass};
 ghost use Rattle.jpeg_bits.specs.ZigzagParts.{band_in, KeepsOthers};
 
@@ -76,78 +76,54 @@ pub(crate) fn power_of_two(exponent: u8) -> u16
     1 << exponent
 }
 
-/// The token of a symbol that is not short. A refusal is held in its place, and answered by none.
+/// The token of a code, by its length and its symbol. A refusal is held in its place, and answered
+/// by none.
 #[inline(always)]
-#[tactic(auto, unfolding(crate::specs::Lookups::slow_token))]
-fn read_slow_token<R: Read + Drop>(
+#[tactic(auto, unfolding(crate::specs::Bands::token_at))]
+fn read_token_of<R: Read + Drop>(
     held: &mut Held,
     source: &mut Source<R>,
     room: usize,
-    run: u8,
-    size: u8,
+    code: (u8, u8),
     refusal: &mut Option<Error>,
 ) -> Option<Token>
-    requires run { run ≤ 15 }
-    requires size { size ≤ 15 }
-    ensures token { Takes (λ t. t) (slow_token room run size)
+    requires { code.0 ≤ 16 }
+    ensures token { Takes (λ t. t) (token_at room code.0 (code.1 / 16) (code.1 % 16))
         held.old source.old (answer_of result refusal.new) held.new source.new }
     ensures held { IsHeld result refusal.new }
     ensures room { IfSome result (IsWithinRoom room) }
 {
+    let (length, symbol) = code;
+    let run = symbol / 16;
+    let size = symbol % 16;
     if size > 0 {
-        if usize::from(run) < room {
-            return match held.take_signed(source, size, refusal) {
-                Some(value) => Some(Token::Value(run, value)),
-                None => None,
-            };
+        let fits = usize::from(run) < room;
+        if !fits && length + size > 8 {
+            return Some(Token::Overlong);
         }
-        return Some(Token::Overlong);
+        return match held.take_signed(source, size, refusal) {
+            Some(value) => Some(if fits {
+                Token::Value(run, value)
+            } else {
+                Token::Overlong
+            }),
+            None => None,
+        };
     }
     if run == 15 {
         return Some(Token::Sixteen);
     }
-    if run > 0 {
-        return match held.take_number(source, run, refusal) {
-            Some(extra) => Some(Token::Rest(power_of_two(run) - 1 + extra)),
-            None => None,
-        };
+    if run == 0 {
+        return Some(Token::Rest(0));
     }
-    Some(Token::Rest(0))
+    match held.take_number(source, run, refusal) {
+        Some(extra) => Some(Token::Rest(power_of_two(run) - 1 + extra)),
+        None => None,
+    }
 }
 
-/// The next token of a first pass, looked up. A refusal is held in its place, and answered by none.
-#[inline(always)]
-#[tactic(auto, unfolding(crate::specs::Lookups::looked_up))]
-fn look_up_token<R: Read + Drop>(
-    held: &mut Held,
-    source: &mut Source<R>,
-    table: &HuffmanTable,
-    room: usize,
-    refusal: &mut Option<Error>,
-) -> Option<Token>
-    ensures token { Takes (λ t. t) (looked_up table.now room)
-        held.old source.old (answer_of result refusal.new) held.new source.new }
-    ensures held { IsHeld result refusal.new }
-    ensures room { IfSome result (IsWithinRoom room) }
-{
-    let Some(short) = held.take_short_value(source, table, refusal) else {
-        return None;
-    };
-    if let Some((value, run)) = short {
-        return Some(if usize::from(run) < room {
-            Token::Value(run, value)
-        } else {
-            Token::Overlong
-        });
-    }
-    let Some(symbol) = held.take_symbol(source, table, refusal) else {
-        return None;
-    };
-    read_slow_token(held, source, room, symbol / 16, symbol % 16, refusal)
-}
-
-/// The next token of a first pass, where `room` places are left of the band. A refusal is held in
-/// its place, and answered by none.
+/// The next token of a first pass, where `room` places are left of the band. A value that is within
+/// them is looked up by the next 11 bits. A refusal is held in its place, and answered by none.
 #[inline(always)]
 fn read_token<R: Read + Drop>(
     held: &mut Held,
@@ -162,7 +138,20 @@ fn read_token<R: Read + Drop>(
     ensures held { IsHeld result refusal.new }
     ensures room { IfSome result (IsWithinRoom room) }
 {
-    look_up_token(held, source, table, room, refusal)
+    if !held.hold(source, 16, refusal) {
+        return None;
+    }
+    if let Some((value, run, bits)) = held.wide_value(table) {
+        let count = usize::from(bits);
+        if usize::from(run) < room && count <= held.len() {
+            held.skip(count);
+            return Some(Token::Value(run, value));
+        }
+    }
+    let Some(code) = held.take_held_code(table, refusal) else {
+        return None;
+    };
+    read_token_of(held, source, room, code, refusal)
 }
 
 #[inline]

@@ -5,4 +5,4 @@ use Rattle.jpeg_bits.proofs.codes.short_values.Given as goal
 
 abbrev pub invariant-loop-byte : goal.invariant-loop-byte
 invariant-loop-byte l = (length l.tokens ≡ 256) × ((b : ℕ) → b < l.byte
-    → slice_index_or l.tokens b None ≡ short_value_by l.class (low_bits 8 b) (slice_index_or l.codes b None))
+    → slice_index_or l.tokens b None ≡ short_value_by 8 l.class (low_bits 8 b) (slice_index_or l.codes b None))

@@ -1,15 +1,41 @@
-use Rattle.std.proofs.Common.{ap}
-use Rattle.jpeg_bits.specs.Codes.{is_ac}
+use Rattle.std.proofs.Common.{◌<◌, ◌≤◌, refl, sym, length, rules, FitsSigned, arith}
+use Rattle.std.specs.Int.{w16}
+use Rattle.std.proofs.lemmas.Int.{to_z-of_z}
 use Rattle.jpeg_bits.specs.Bands.{token_from}
-use Rattle.jpeg_bits.specs.Refusals.{answer_of}
-use Rattle.jpeg_bits.specs.Lookups.{looked_up}
-use Rattle.jpeg_bits.proofs.Fast.{tokens-same}
-use Rattle.jpeg_bits.proofs.Calls.{Takes-same}
+use Rattle.jpeg_bits.specs.Refusals.{held_refusal, answer_of}
+use Rattle.jpeg_bits.specs.declared.tokens.Token.TheVariants.{Value}
+use Rattle.jpeg_bits.proofs.Symbols.{Takes-after}
+use Rattle.jpeg_bits.proofs.WideTokens.{wide-taken, Token-of-code, Token-no-code}
 use Rattle.jpeg_bits.proofs.tokens.read_token.Goals as goal
+
+pub returns-then-count-len-clause-token : goal.returns-then-count-len-clause-token
+returns-then-count-len-clause-token g c =
+    let t = c.in-Some in
+    let d = rw c.from-count.ensures at c.skip.ensures.bits in
+    let within : t.run' < c.args.room = omega (arith, c.from.ensures, c.if-from-room.true) in
+    let enough : t.bits ≤ length c.hold.new.self.bits = omega (
+      arith,
+      c.from-count.ensures,
+      c.len.ensures,
+      c.if-count-len.true,
+    ) in
+    let fits : FitsSigned w16 t.value = search rules in
+    rw (to_z-of_z w16 t.value fits) (Takes-after (token_from c.args.table.now c.args.room) tt c.args.held.now
+    c.hold.new.self c.skip.new.self c.args.source.now c.hold.new.source (Value t.run' t.value)
+    (wide-taken c.args.table.now c.args.room c.hold.new.self c.skip.new.self c.hold.new.source.bytes t.value t.run'
+    t.bits t.ensures.counted (c.if-not-hold.ensures.full refl) (sym t.ensures.value) within enough d
+    c.skip.ensures.met) c.if-not-hold.ensures.holds)
+
+pub returns-in_default-take_held_code-clause-token : goal.returns-in_default-take_held_code-clause-token
+returns-in_default-take_held_code-clause-token g c =
+    Token-no-code c.args.table.now c.args.room tt c.args.held.now c.hold.new.self c.take_held_code.new.self
+    c.args.source.now c.hold.new.source (held_refusal c.take_held_code.new.refusal) c.if-not-hold.ensures.holds
+    (c.in_default-take_held_code.ensures.code c.hold.new.source)
 
 pub returns-clause-token : goal.returns-clause-token
 returns-clause-token g c =
-    Takes-same (token_from c.args.table.now c.args.room) (looked_up c.args.table.now c.args.room) c.args.held.now
-    c.look_up_token.new.held c.args.source.now c.look_up_token.new.source (answer_of c.look_up_token.result
-    c.look_up_token.new.refusal)
-    (tokens-same c.args.table.now c.args.room (ap is_ac c.requires)) c.look_up_token.ensures.token
+    Token-of-code c.args.table.now c.args.room tt c.args.held.now c.hold.new.self c.take_held_code.new.self
+    c.read_token_of.new.held c.args.source.now c.hold.new.source c.read_token_of.new.source
+    c.in-Some-take_held_code.code (answer_of c.read_token_of.result c.read_token_of.new.refusal)
+    c.if-not-hold.ensures.holds (c.in-Some-take_held_code.ensures.code c.hold.new.source)
+    c.read_token_of.ensures.token

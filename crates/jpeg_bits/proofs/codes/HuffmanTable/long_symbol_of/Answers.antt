@@ -2,9 +2,21 @@ use Rattle.std.proofs.Common.{◌≡◌, ◌∙◌, ◌+◌, ◌-◌, ◌/◌, �
 use Rattle.std.proofs.lemmas.List.{get_or_default}
 use Rattle.jpeg_bits.specs.Codes.{Table}
 use Rattle.jpeg_bits.specs.Written.{low_bits}
-use Rattle.jpeg_bits.specs.ShortCodes.{named, symbol_in, no_row}
-use Rattle.jpeg_bits.proofs.RowLemmas.{first_le, index_within, row_found, row_missed, above_more, none_found}
+use Rattle.jpeg_bits.specs.ShortCodes.{named, symbol_in, short_code, no_row}
+use Rattle.jpeg_bits.proofs.RowLemmas.{first_le, index_within, row_found, row_missed, above_more, rows_passed}
+use Rattle.jpeg_bits.proofs.RowLemmas.{none_found}
+use Rattle.jpeg_bits.proofs.ShortLemmas.{none_short}
 use Rattle.jpeg_bits.proofs.codes.HuffmanTable.long_symbol_of.Goals as goal
+
+pub loop-i-init : goal.loop-i-init
+loop-i-init c =
+    let s = c.self.inside in
+    let i = c.self.invariant in
+    let none = none_short s.counts s.values.items c.args.bits i.0 (ap (λ (t : Table). short_code t.counts t.symbols
+    (low_bits 8 (c.args.bits / 256))) c.self.view_is ∙ c.requires) in
+    let passed = rows_passed s.counts s.rows c.args.bits 8 i.0 i.2 c.ranges.bits.fits (omega arith) none 8
+    (omega arith) in
+    record { above = passed.0; none = passed.1 }
 
 pub overflow_sub-index : goal.overflow_sub-index
 overflow_sub-index c =
@@ -70,5 +82,5 @@ pub returns-clause-symbol : goal.returns-clause-symbol
 returns-clause-symbol c =
     let s = c.self.inside in
     let none = none_found s.counts c.args.bits c.loop-i.i c.self.invariant.0 (omega (arith, c.loop-i-test.false))
-    c.loop-i.auto.i-end c.loop-i.invariant.none in
+    (c.loop-i.auto.i-end (omega arith)) c.loop-i.invariant.none in
     sym (ap (named s.values.items) none) ∙ ap (λ (t : Table). symbol_in t (low_bits 16 c.args.bits)) c.self.view_is

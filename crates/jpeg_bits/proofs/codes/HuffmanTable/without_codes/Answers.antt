@@ -1,7 +1,8 @@
-use Rattle.std.proofs.Common.{◌≡◌, ◌<◌, ◌∙◌, refl, sym, ap, length, replicate, ℕ, List}
-use Rattle.jpeg_bits.specs.Codes.{code_lengths, lengths_from}
+use Rattle.std.proofs.Common.{◌≡◌, ◌<◌, ◌∙◌, refl, sym, ap, length, replicate, false, ℕ, List, ◌++◌}
+use Rattle.jpeg_bits.specs.Codes.{code_in, code_lengths, lengths_from}
 use Rattle.jpeg_bits.specs.Written.{low_bits}
 use Rattle.jpeg_bits.specs.ShortCodes.{short_code, short_value_by}
+use Rattle.jpeg_bits.proofs.ShortLemmas.{short_enough, none_packed}
 use Rattle.jpeg_bits.proofs.codes.HuffmanTable.without_codes.Goals as goal
 
 no-lengths : length (code_lengths (replicate 16 0)) ≡ 0
@@ -21,5 +22,8 @@ invariant_of-result c =
       no-lengths ∙ ap length same,
       c.rows_of.ensures,
       codes,
-      λ b lt. c.short_values.ensures b lt ∙ ap (short_value_by c.args.class (low_bits 8 b)) (codes b lt),
+      λ b lt. c.short_values.ensures b lt ∙ ap (short_value_by 8 c.args.class (low_bits 8 b)) (codes b lt)
+          ∙ short_enough 8 c.args.class (low_bits 8 b) c.new.result.items
+          (code_in (code_lengths counts) (low_bits 8 b ++ replicate 8 false)),
+      none_packed c.args.class c.new.result.items c.no_wide_values.result 2048 c.no_wide_values.ensures,
     )

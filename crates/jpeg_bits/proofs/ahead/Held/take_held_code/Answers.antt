@@ -1,0 +1,24 @@
+use Rattle.std.proofs.Common.{ap, ◌∙◌, sym}
+use Rattle.jpeg_bits.specs.Entropy.{Ahead}
+use Rattle.jpeg_bits.specs.Refusals.{held_refusal}
+use Rattle.jpeg_bits.proofs.ShortSymbols.{Code-held, Code-none, Code-refused}
+use Rattle.jpeg_bits.proofs.ahead.Held.take_held_code.Goals as goal
+
+pub returns-in_default-clause-code : goal.returns-in_default-clause-code
+returns-in_default-clause-code c = λ source.
+    Code-none c.args.table.now c.args.self.now source (held_refusal c.hold_no_code.new.refusal) c.requires
+    (sym c.in_default.ensures.symbol) c.hold_no_code.ensures.names
+
+pub returns-then-not-has-clause-code : goal.returns-then-not-has-clause-code
+returns-then-not-has-clause-code c =
+    let n = rw c.from-count.ensures at (rw (ap (λ (a : Ahead). a.met) c.self.view_is) at
+    (c.hold_fault.ensures.names c.from-count.result c.args.self.now.bits) (sym c.has.ensures ∙ c.if-not-has.true)) in
+    λ source. Code-refused c.args.table.now c.args.self.now source c.in-Some.symbol c.in-Some.length
+    (held_refusal c.hold_fault.new.refusal) c.requires c.in-Some.ensures.within (sym c.in-Some.ensures.symbol) n
+
+pub returns-clause-code : goal.returns-clause-code
+returns-clause-code c =
+    let n = rw c.from-count.ensures at c.if-not-has.ensures in
+    let d = rw c.from-count.ensures at c.skip.ensures.bits in
+    λ source. Code-held c.args.table.now c.args.self.now c.skip.new.self source c.in-Some.symbol c.in-Some.length
+    c.requires c.in-Some.ensures.within (sym c.in-Some.ensures.symbol) (sym n) d c.skip.ensures.met
