@@ -168,6 +168,63 @@ fn short_tokens(rt: HostRuntime) -> Result<(), Fail> {
     Ok(())
 }
 
+/// Reads the AC coefficients of a block by the codes 0 and 10 from a byte.
+fn read_coefficients(
+    alloc: Global,
+    symbols: &[u8; 2],
+    byte: u8,
+    is_first: bool,
+    block: &mut [i16; 64],
+) -> crate::error::Result<()> {
+    let mut counts = [0u8; 16];
+    counts[0] = 1;
+    counts[1] = 1;
+    let table = HuffmanTable::new(alloc, &counts, symbols, HuffmanTableClass::AC)?;
+    let bytes = [byte, 0xff, 0xd9];
+    let mut source = Source::new(reader_of(&bytes, 1));
+    let mut decoder = HuffmanDecoder::new(alloc);
+    let pass = Pass {
+        is_first,
+        ss: 1,
+        se: 63,
+        al: 0,
+    };
+    let mut predictor = 0i16;
+    let mut run = 0u16;
+    read_block(
+        alloc,
+        &mut decoder,
+        &mut source,
+        &table,
+        &table,
+        pass,
+        &mut predictor,
+        &mut run,
+        block,
+    )
+}
+
+#[test]
+fn coefficients_in_block_order(rt: HostRuntime) -> Result<(), Fail> {
+    // The zigzag places 2, 3 and 4 are the places 8, 16 and 9 of the block.
+    let mut expected = [0i16; 64];
+    let mut block = [0i16; 64];
+    // Run 1 and the value 2, run 1 and the value -2, and the end.
+    read_coefficients(rt.alloc(), &[0x12, 0x00], 0b0100_0110, true, &mut block)?;
+    expected[8] = 2;
+    expected[9] = -2;
+    assert!(rt; block == expected);
+    // The end, and two correction bits: the value 2 becomes 3, and -2 stays.
+    read_coefficients(rt.alloc(), &[0x00, 0x11], 0b0101_1111, false, &mut block)?;
+    expected[8] = 3;
+    assert!(rt; block == expected);
+    // Run 1 and the new value 1, past the value 3, which stays. Then the end, and -2 stays.
+    read_coefficients(rt.alloc(), &[0x00, 0x11], 0b1010_0011, false, &mut block)?;
+    expected[16] = 1;
+    assert!(rt; block == expected);
+    Ok(())
+}
+
 /// One code of each length: ones and a zero.
 const ONE_EACH: [u8; 16] = [1; 16];
 
