@@ -17,8 +17,8 @@ use Rattle.jpeg_bits.specs.Written.{low_bits}
 use Rattle.jpeg_bits.specs.Codes.{Table, code_in, code_lengths, code_value, begins, first_from, next_16, is_ac}
 use Rattle.jpeg_bits.specs.Codes.{lengths_from}
 use Rattle.jpeg_bits.specs.Codes.{short_token, after_code, short_code_by, short_code_from, short_value, fast_from}
-use Rattle.jpeg_bits.specs.ShortCodes.{named, symbol_in, short_only, short_code, short_value_by, short_value_of, next_bits}
-use Rattle.jpeg_bits.specs.ShortCodes.{packed}
+use Rattle.jpeg_bits.specs.ShortCodes.{named, symbol_in, short_only, short_code, short_value_by, short_value_of}
+use Rattle.jpeg_bits.specs.ShortCodes.{next_bits, packed}
 use Rattle.jpeg_bits.specs.ShortCodes.{HoldsCodes}
 use Rattle.jpeg_bits.specs.declared.codes.HuffmanTableClass.{HuffmanTableClass}
 use Rattle.jpeg_bits.specs.declared.codes.HuffmanTableClass.TheVariants as classes
@@ -34,6 +34,10 @@ use Rattle.jpeg_bits.proofs.Held.{has_bits-held, advance-held, bits_from-held, f
 
 -- ---- which code of at most n bits begins the bits is seen from the first n
 
+abbrev pub at_most : ℕ → Option (ℕ × ℕ) → Option (ℕ × ℕ)
+at_most n None = None
+at_most n (Some c) = cond (leb c.1 n) (Some c) None
+
 same_begins : (n : ℕ) (lens : List ℕ) (x y : List Bool) (i : ℕ) → get_or lens i 0 ≤ n → take n x ≡ take n y
     → begins lens x i ≡ begins lens y i
 unfolding begins
@@ -43,7 +47,7 @@ same_begins n lens x y i h e =
     ∙ take-take l n y h)
 
 abbrev short_from : ℕ → List ℕ → Option ℕ → Option (ℕ × ℕ)
-short_from n lens o = short_only n (option_map (λ i. (i, get_or lens i 0)) o)
+short_from n lens o = at_most n (option_map (λ i. (i, get_or lens i 0)) o)
 
 long_only : (n : ℕ) (lens : List ℕ) (test : ℕ → Bool) (i k : ℕ)
     → ((j : ℕ) → i ≤ j → j < i + k → n < get_or lens j 0) → short_from n lens (first_from test i k) ≡ None
@@ -80,13 +84,13 @@ module _ (n : ℕ) (lens : List ℕ) (rising : IsRising 1 16 lens) (x y : List B
       go true r = refl
       go false r = r
 
-  pub short_agree : short_only n (code_in lens x) ≡ short_only n (code_in lens y)
+  pub short_agree : at_most n (code_in lens x) ≡ at_most n (code_in lens y)
   unfolding code_in
   short_agree = agree_from 0 (length lens) (omega arith)
 
 -- a code that is too long makes no short value
 pub short_enough : (n : ℕ) (class : HuffmanTableClass) (bits : List Bool) (symbols : List ℕ) (o : Option (ℕ × ℕ))
-    → short_value_by n class bits (named symbols (short_only n o)) ≡ short_value_by n class bits (named symbols o)
+    → short_value_by n class bits (named symbols (at_most n o)) ≡ short_value_by n class bits (named symbols o)
 short_enough n class bits symbols None = refl
 short_enough n class bits symbols (Some c) = go (leb c.1 n) refl
   where
@@ -99,7 +103,7 @@ short_enough n class bits symbols (Some c) = go (leb c.1 n) refl
     none true false d x h = refl
     none false b d x h = refl
 
-    go : (b : Bool) → leb c.1 n ≡ b → short_value_by n class bits (named symbols (short_only n (Some c)))
+    go : (b : Bool) → leb c.1 n ≡ b → short_value_by n class bits (named symbols (at_most n (Some c)))
         ≡ short_value_by n class bits (named symbols (Some c))
     go true e = rw e refl
     go false e =
@@ -143,14 +147,14 @@ front_of n k bits h = take-append-le n bits (replicate k false) (omega arith) �
 
 -- the first 8 of 16 bits say the short code
 pub short_of_16 : (counts : List ℕ) (bits : ℕ) → length counts ≡ 16
-    → short_only 8 (code_in (code_lengths counts) (low_bits 8 (bits / 256) ++ replicate 8 false))
-    ≡ short_only 8 (code_in (code_lengths counts) (low_bits 16 bits))
+    → short_only (code_in (code_lengths counts) (low_bits 8 (bits / 256) ++ replicate 8 false))
+    ≡ short_only (code_in (code_lengths counts) (low_bits 16 bits))
 short_of_16 counts bits h =
     let eight = low_bits 8 (bits / 256) in
     short_agree 8 (code_lengths counts) (all-rising counts h) (eight ++ replicate 8 false) (low_bits 16 bits)
     (front_of 8 8 eight (length-low_bits 8 (bits / 256)) ∙ sym (low_bits-take 8 8 bits))
 
-short_named : (symbols : List ℕ) (o : Option (ℕ × ℕ)) (p : ℕ × ℕ) → named symbols (short_only 8 o) ≡ Some p
+short_named : (symbols : List ℕ) (o : Option (ℕ × ℕ)) (p : ℕ × ℕ) → named symbols (short_only o) ≡ Some p
     → named symbols o ≡ Some p
 short_named symbols None p h = h
 short_named symbols (Some c) p h = go (leb c.1 8) refl
@@ -173,8 +177,8 @@ pub none_short : (counts symbols : List ℕ) (bits : ℕ) → length counts ≡ 
     → (c : ℕ × ℕ) → c.1 ≤ 8 → code_in (code_lengths counts) (low_bits 16 bits) ≡ Some c → ⊥
 none_short counts symbols bits h none c le found =
     let t : leb c.1 8 ≡ true = grind (arith, nat_tests) in
-    let e : named symbols (short_only 8 (Some c)) ≡ None =
-    ap (λ (o : Option (ℕ × ℕ)). named symbols (short_only 8 o)) (sym found)
+    let e : named symbols (short_only (Some c)) ≡ None =
+    ap (λ (o : Option (ℕ × ℕ)). named symbols (short_only o)) (sym found)
     ∙ sym (ap (named symbols) (short_of_16 counts bits h)) ∙ none in
     false≢true (sym (ap is_some (rw t at e)))
 
@@ -426,17 +430,17 @@ module _ (table : Table) (bits : List Bool) (met : Option DataEnd) (bytes : List
 
 pub short_code-is : (counts symbols : List ℕ) (b v : ℕ) (o : Option (ℕ × ℕ)) → v ≡ b * 256
     → code_in (code_lengths counts) (low_bits 16 v) ≡ o → short_code counts symbols (low_bits 8 b)
-    ≡ named symbols (short_only 8 o)
+    ≡ named symbols (short_only o)
 short_code-is counts symbols b v o h e =
-    ap (λ (l : List Bool). named symbols (short_only 8 (code_in (code_lengths counts) l))) (sym (byte_padded b))
-    ∙ ap (λ (n : ℕ). named symbols (short_only 8 (code_in (code_lengths counts) (low_bits 16 n)))) (sym h)
-    ∙ ap (λ (o : Option (ℕ × ℕ)). named symbols (short_only 8 o)) e
+    ap (λ (l : List Bool). named symbols (short_only (code_in (code_lengths counts) l))) (sym (byte_padded b))
+    ∙ ap (λ (n : ℕ). named symbols (short_only (code_in (code_lengths counts) (low_bits 16 n)))) (sym h)
+    ∙ ap (λ (o : Option (ℕ × ℕ)). named symbols (short_only o)) e
 
 pub named-short : (symbols : List ℕ) (c : ℕ × ℕ) → c.1 ≤ 8
-    → named symbols (short_only 8 (Some c)) ≡ Some (get_or symbols c.0 0, c.1)
+    → named symbols (short_only (Some c)) ≡ Some (get_or symbols c.0 0, c.1)
 named-short symbols c h = let t : leb c.1 8 ≡ true = grind (arith, nat_tests) in rw t refl
 
-pub named-long : (symbols : List ℕ) (c : ℕ × ℕ) → 8 < c.1 → named symbols (short_only 8 (Some c)) ≡ None
+pub named-long : (symbols : List ℕ) (c : ℕ × ℕ) → 8 < c.1 → named symbols (short_only (Some c)) ≡ None
 named-long symbols c h = let t : leb c.1 8 ≡ false = grind (arith, nat_tests) in rw t refl
 
 -- the number of a value after a code of l bits, of n
@@ -460,11 +464,11 @@ value_number n bits l s h =
     ∙ ap number_of (low_bits-take s (m - s) (bits % 2 ^ m))
     ∙ number_of-low_bits s (bits % 2 ^ m / 2 ^ (m - s)) (value_below n bits l s h))
 
-short_small : (symbols : List ℕ) (o : Option (ℕ × ℕ)) → IfSome (named symbols (short_only 8 o)) (λ c. c.1 ≤ 16)
+short_small : (symbols : List ℕ) (o : Option (ℕ × ℕ)) → IfSome (named symbols (short_only o)) (λ c. c.1 ≤ 16)
 short_small symbols None = tt
 short_small symbols (Some c) = go (leb c.1 8) refl
   where
-    go : (b : Bool) → leb c.1 8 ≡ b → IfSome (named symbols (short_only 8 (Some c))) (λ c. c.1 ≤ 16)
+    go : (b : Bool) → leb c.1 8 ≡ b → IfSome (named symbols (short_only (Some c))) (λ c. c.1 ≤ 16)
     go true e = let w : c.1 ≤ 16 = grind (arith, nat_tests) in rw e w
     go false e = rw e tt
 

@@ -154,6 +154,7 @@ fast-refused table b bytes v r n counted h e f x =
     fast-some table b.bits b.met bytes h counted v r n e ∙ bind_err _ _ f x
 
 pub fast-not : (table : Table) (b : Ahead) (bytes : List ℕ) → length table.counts ≡ 16 → IsFilled 8 b.bits b.met
-    → short_value_of 8 table (next_bits 8 b.bits) ≡ None → fast_from table (upcoming b bytes) ≡ Ok (None, upcoming b bytes)
+    → short_value_of 8 table (next_bits 8 b.bits) ≡ None
+    → fast_from table (upcoming b bytes) ≡ Ok (None, upcoming b bytes)
 unfolding upcoming
 fast-not table b bytes counted h e = fast-none table b.bits b.met bytes h counted e

@@ -1,6 +1,6 @@
 -- Codes and values that some bits begin with (F.2.2.3, with the look-up that it allows).
-use Rattle.std.specs.Prelude.{◌≡◌, ℕ, ℤ, pos, ◌-◌, ◌+◌, ◌*◌, ◌/◌, ◌%◌, ◌<◌, List, ◌++◌, take, drop, replicate}
-use Rattle.std.specs.Prelude.{Bool, false, Option, Some, None, if◌then◌else◌, slice_index}
+use Rattle.std.specs.Prelude.{◌≡◌, ℕ, ℤ, pos, ◌+◌, ◌-◌, ◌*◌, ◌/◌, ◌%◌, ◌<◌, List, ◌++◌, take, drop}
+use Rattle.std.specs.Prelude.{replicate, Bool, false, Option, Some, None, if◌then◌else◌, slice_index}
 use Rattle.std.specs.Prelude.{slice_index_or, sum, fold, ◌&&◌, nat_lt, nat_le}
 use Rattle.std.specs.Option.{option_map}
 use Rattle.jpeg_bits.specs.Entropy.{number_of, extended}
@@ -17,15 +17,15 @@ named symbols o = option_map (λ c. (slice_index symbols c.0, c.1)) o
 abbrev pub symbol_in : Table → List Bool → Option (ℕ × ℕ)
 symbol_in table bits = named table.symbols (code_in (code_lengths table.counts) bits)
 
--- a code of at most n bits
-abbrev pub short_only : ℕ → Option (ℕ × ℕ) → Option (ℕ × ℕ)
-short_only n None = None
-short_only n (Some c) = if nat_le c.1 n then Some c else None
+-- a code of at most 8 bits
+abbrev pub short_only : Option (ℕ × ℕ) → Option (ℕ × ℕ)
+short_only None = None
+short_only (Some c) = if nat_le c.1 8 then Some c else None
 
 -- the symbol and the length of the code of at most 8 bits that begins 8 bits
 abbrev pub short_code : List ℕ → List ℕ → List Bool → Option (ℕ × ℕ)
 short_code counts symbols eight =
-    named symbols (short_only 8 (code_in (code_lengths counts) (eight ++ replicate 8 false)))
+    named symbols (short_only (code_in (code_lengths counts) (eight ++ replicate 8 false)))
 
 -- The value and the run of a symbol whose code of this many bits begins the bits, and the bits of
 -- both, where they are at most n, in a table of class AC.

@@ -298,8 +298,8 @@ impl Held {
         self.bits.len()
     }
 
-    /// The length and the symbol of the code that begins the bits (T.81, F.2.2.3), where 16 bits are
-    /// held, or the end is met. A refusal is held in its place, and answered by none.
+    /// The length and the symbol of the code that begins the bits (T.81, F.2.2.3), where 16 bits
+    /// are held, or the end is met. A refusal is held in its place, and answered by none.
     #[inline(always)]
     pub(crate) fn take_held_code(
         &mut self,

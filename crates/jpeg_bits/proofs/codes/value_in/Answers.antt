@@ -13,4 +13,5 @@ pub returns : goal.returns
 returns c =
     let fits : FitsSigned w16 c.extend.result = search rules in
     to_z-of_z w16 c.extend.result fits ∙ (rw c.power_of_two.ensures.value at c.extend.ensures)
-    ∙ ap (λ (v : ℕ). extended v c.args.size) (value_number c.args.count c.args.bits c.args.length c.args.size c.requires.most)
+    ∙ ap (λ (v : ℕ). extended v c.args.size)
+    (value_number c.args.count c.args.bits c.args.length c.args.size c.requires.most)
