@@ -7,7 +7,7 @@ use Rattle.std.proofs.Common.{length-drop, IfSome, is_ok, is_some}
 use Rattle.std.specs.Option.{option_map}
 use Rattle.std.proofs.Math.Seq.{drop-nil}
 use Rattle.std.proofs.lemmas.List.{take-take, take-append-le, take_all, take-replicate, drop-replicate, drop-take}
-use Rattle.std.proofs.lemmas.List.{drop-drop, length-replicate, get_or-replicate}
+use Rattle.std.proofs.lemmas.List.{drop-drop, length-replicate}
 use Rattle.std.proofs.lemmas.Bool.{cases_lt, false≢true}
 use Rattle.std.proofs.lemmas.Bool.Decides.{nat_tests}
 use Rattle.jpeg_bits.specs.Reading.{Fault, ◌>>=◌}
@@ -486,23 +486,25 @@ eleven_padded b =
     ∙ ap (λ (l : List Bool). low_bits 11 b ++ l) (low_bits-zeros 5)
 
 -- a table of no codes
-pub none_packed : (class : HuffmanTableClass) (symbols : List ℕ) (values : List (ℤ × ℕ × ℕ)) (n : ℕ)
-    → values ≡ replicate n (packed None) → (b : ℕ) → b < n → get_or values b (packed None)
+pub none_packed : (class : HuffmanTableClass) (symbols : List ℕ) (b : ℕ)
+    → packed None
     ≡ packed (short_value_of 11 (record { class = class; counts = replicate 16 0; symbols = symbols }) (low_bits 11 b))
 unfolding code_in lengths_from first_from
-none_packed class symbols values n e b lt =
-    ap (λ (xs : List (ℤ × ℕ × ℕ)). get_or xs b (packed None)) e
-    ∙ get_or-replicate n b (packed None) (packed None) lt
+none_packed class symbols b = refl
 
 -- in a table of class DC
-pub none_dc : (symbols counts : List ℕ) (n b : ℕ) → b < n
-    → get_or (replicate n (packed None)) b (packed None)
+pub none_dc : (symbols counts : List ℕ) (b : ℕ)
+    → packed None
     ≡ packed (short_value_of 11 (record { class = classes.DC; counts = counts; symbols = symbols }) (low_bits 11 b))
-none_dc symbols counts n b lt =
-    get_or-replicate n b (packed None) (packed None) lt
-    ∙ go (symbol_in (record { class = classes.DC; counts = counts; symbols = symbols })
+none_dc symbols counts b =
+    go (symbol_in (record { class = classes.DC; counts = counts; symbols = symbols })
     (low_bits 11 b ++ replicate 5 false))
   where
     go : (o : Option (ℕ × ℕ)) → packed None ≡ packed (short_value_by 11 classes.DC (low_bits 11 b) o)
     go None = refl
     go (Some c) = refl
+
+-- bits that fit a byte
+pub within_byte : (o : Option (ℤ × ℕ × ℕ)) → IfSome o (λ t. t.2 ≤ 11) → IfSome o (λ t. t.2 ≤ 255)
+within_byte None h = tt
+within_byte (Some t) h = omega arith

@@ -5,14 +5,14 @@ use Rattle.jpeg_bits.specs.Written.{low_bits}
 use Rattle.jpeg_bits.specs.ShortCodes.{named, packed, short_value_by, short_value_of}
 use Rattle.jpeg_bits.specs.declared.codes.HuffmanTableClass.{HuffmanTableClass}
 use Rattle.jpeg_bits.specs.declared.codes.HuffmanTableClass.TheVariants.{DC}
-use Rattle.jpeg_bits.proofs.ShortLemmas.{set_next, length_set, none_dc, eleven_padded}
+use Rattle.jpeg_bits.proofs.ShortLemmas.{set_next, length_set, none_dc, eleven_padded, within_byte}
 use Rattle.jpeg_bits.proofs.codes.wide_values.Goals as goal
 
 pub returns-then-eq : goal.returns-then-eq
 returns-then-eq c = λ b lt.
     let dc : c.args.class ≡ DC = search rules in
-    ap (λ (xs : List (ℤ × ℕ × ℕ)). slice_index_or xs b (packed None)) c.no_wide_values-tokens.ensures
-    ∙ none_dc c.args.values.now c.args.counts.now 2048 b lt
+    ap (λ (xs : List (ℤ × ℕ × ℕ)). slice_index_or xs b (packed None)) c.new.ensures.items
+    ∙ none_dc c.args.values.now c.args.counts.now b
     ∙ ap (λ (class : HuffmanTableClass). packed (short_value_of 11
     (record { class = class; counts = c.args.counts.now; symbols = c.args.values.now }) (low_bits 11 b))) (sym dc)
 
@@ -26,9 +26,12 @@ loop-place-preserved c =
     let entry = c.packed.ensures ∙ ap packed (c.short_value.ensures.value
     ∙ ap (short_value_by 11 c.args.class (low_bits 11 b)) (c.code_of-code.ensures.code
     ∙ ap (λ (l : List Bool). named c.args.values.now (code_in lens l)) padded)) in (
-      length_set c.loop-place.tokens b c.packed.result 2048 c.loop-place.invariant.0,
-      set_next c.loop-place.tokens b c.packed.result (packed None)
+      length_set c.loop-place.tokens.items b c.packed.result 2048 c.loop-place.invariant.0,
+      set_next c.loop-place.tokens.items b c.packed.result (packed None)
           (λ (k : ℕ). packed (short_value_of 11
           (record { class = c.args.class; counts = c.args.counts.now; symbols = c.args.values.now }) (low_bits 11 k)))
           (omega (arith, c.loop-place.invariant.0, c.loop-place-test.true)) c.loop-place.invariant.1 entry,
     )
+
+pub packed-requires : goal.packed-requires
+packed-requires c = within_byte c.short_value.result c.short_value.ensures.within

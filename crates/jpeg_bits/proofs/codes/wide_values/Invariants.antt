@@ -4,6 +4,6 @@ use Rattle.jpeg_bits.specs.ShortCodes.{packed, short_value_of}
 use Rattle.jpeg_bits.proofs.codes.wide_values.Given as goal
 
 abbrev pub invariant-loop-place : goal.invariant-loop-place
-invariant-loop-place l = (length l.tokens ≡ 2048) × ((b : ℕ) → b < l.place
-    → slice_index_or l.tokens b (packed None)
+invariant-loop-place l = (length l.tokens.items ≡ 2048) × ((b : ℕ) → b < l.place
+    → slice_index_or l.tokens.items b (packed None)
     ≡ packed (short_value_of 11 (record { class = l.class; counts = l.counts; symbols = l.values }) (low_bits 11 b)))

@@ -1,7 +1,8 @@
-use Rattle.std.proofs.Common.{◌≡◌, ◌<◌, ◌∙◌, refl, sym, ap, length, replicate, false, ℕ, List, ◌++◌}
+use Rattle.std.proofs.Common.{◌≡◌, ◌<◌, ◌∙◌, refl, sym, ap, length, replicate, false, ℕ, ℤ, List, ◌++◌}
+use Rattle.std.proofs.Common.{slice_index_or, None}
 use Rattle.jpeg_bits.specs.Codes.{code_in, code_lengths, lengths_from}
 use Rattle.jpeg_bits.specs.Written.{low_bits}
-use Rattle.jpeg_bits.specs.ShortCodes.{short_code, short_value_by}
+use Rattle.jpeg_bits.specs.ShortCodes.{short_code, short_value_by, packed}
 use Rattle.jpeg_bits.proofs.ShortLemmas.{short_enough, none_packed}
 use Rattle.jpeg_bits.proofs.codes.HuffmanTable.without_codes.Goals as goal
 
@@ -25,5 +26,6 @@ invariant_of-result c =
       λ b lt. c.short_values.ensures b lt ∙ ap (short_value_by 8 c.args.class (low_bits 8 b)) (codes b lt)
           ∙ short_enough 8 c.args.class (low_bits 8 b) c.new.result.items
           (code_in (code_lengths counts) (low_bits 8 b ++ replicate 8 false)),
-      none_packed c.args.class c.new.result.items c.no_wide_values.result 2048 c.no_wide_values.ensures,
+      λ b lt. ap (λ (xs : List (ℤ × ℕ × ℕ)). slice_index_or xs b (packed None)) c.new-2.ensures.items
+          ∙ none_packed c.args.class c.new.result.items b,
     )
