@@ -1,7 +1,7 @@
--- Blocks whose coefficients outside of the top left 4x4 corner are 0.
+-- Blocks whose coefficients outside the top left 4x4 corner are 0.
 use Rattle.std.proofs.Common.{◌≡◌, ℕ, ◌+◌, ◌*◌, ◌<◌, ◌≤◌, suc, List, length, get_or, ℤ, pos, ◌*ℤ◌, refl, sym}
 use Rattle.std.proofs.Common.{ap, ◌∙◌, map, FitsSigned, of_z, arith, Bool, true, false, ◌==◌, unsigned_abs, eqb}
-use Rattle.std.proofs.Common.{cond, replicate, ◌%◌, ◌/◌, ◌^◌, ◌-◌, ◌++◌, ◌∷◌, [], nat_eq, lit≤}
+use Rattle.std.proofs.Common.{cond, replicate, ◌%◌, ◌/◌, ◌^◌, ◌-◌, ◌++◌, ◌∷◌, [], nat_eq, lit≤, lit<}
 use Rattle.std.proofs.lemmas.Int.{ints, int_wrap_fits}
 use Rattle.std.proofs.lemmas.Simd.{bitmask_splat, bit_mask_l, map-map, get_or-chunk, length-chunk}
 use Rattle.std.proofs.lemmas.Bool.{eqb-true}
@@ -18,7 +18,7 @@ use Rattle.jpeg_pixels.proofs.FlatBlocks.{all_below_true}
 use Rattle.jpeg_pixels.proofs.LaneSums.{lanes_same}
 use Rattle.jpeg_pixels.proofs.ZeroCases.{none_of, both_true}
 use Rattle.jpeg_pixels.proofs.LaneRows.{eight_cases}
-use Rattle.jpeg_pixels.proofs.LaneChoice.{IsBits, or_zero, half_zero}
+use Rattle.jpeg_pixels.proofs.LaneChoice.{IsBits, or_both, or_zero, half_zero}
 
 -- rows whose last four have only zeros
 pub zero_rows : (rows : Rows) (f : ℕ → ℕ → ℤ) → HasNumbers rows f
@@ -98,6 +98,17 @@ all_zero v f bits full j h =
     set_bit true e = refl
     set_bit false e = absurd (omega (arith, e))
 
+-- and that mask is full where each of the lanes is 0
+pub zero_all : (v : List ℕ) (f : ℕ → ℕ) → IsBits v f → ((j : ℕ) → j < 8 → eqb (f j) 0 ≡ true)
+    → nat_eq (mask_l (map (top 15) (zip2 (λ a b. cond (eqb a b) 65535 0) v (replicate 8 0))) % 18446744073709551616) 255
+    ≡ true
+zero_all v f bits zero =
+    let long : length v ≡ 8 = ap (λ (l : List ℕ). length l) bits.is ∙ length-map-range_with_len f 0 8 in
+    ap (λ (n : ℕ). nat_eq n 255) (bitmask_splat w16 eqb v 8 0 long (lit≤ tt)
+    ∙ ap (λ (l : List ℕ). mask_l (map (λ x. eqb x 0) l)) bits.is
+    ∙ (λ i. mask_l (zero 0 (lit< tt) i ∷ zero 1 (lit< tt) i ∷ zero 2 (lit< tt) i ∷ zero 3 (lit< tt) i
+    ∷ zero 4 (lit< tt) i ∷ zero 5 (lit< tt) i ∷ zero 6 (lit< tt) i ∷ zero 7 (lit< tt) i ∷ [])))
+
 -- the last four lanes, twice
 pub last_lanes : {v : List ℕ} {f : ℕ → ℕ} → IsBits v f
     → IsBits (pick_l 0 (v ++ v) (4 ∷ 5 ∷ 6 ∷ 7 ∷ 4 ∷ 5 ∷ 6 ∷ 7 ∷ [])) (λ j. f (4 + j % 4))
@@ -151,3 +162,25 @@ corner_is coefficients fits tested = record {
         four _ _ _ _ (ap (λ (n : ℕ). eqb (upper_bits coefficients n) 0) (sym e)
         ∙ (parts (lower_bits coefficients (j - 4)) (upper_bits coefficients (4 + (j - 4) % 4))
         (tested (j - 4) (omega arith))).1)
+
+pub corner_zero : (coefficients : List ℤ) → IsInCorner coefficients → (j : ℕ) → j < 8
+    → eqb (bit_or (lower_bits coefficients j) (upper_bits coefficients (4 + j % 4))) 0 ≡ true
+corner_zero coefficients corner j h =
+    let k : ℕ = 4 + j % 4 in
+    let right : (row : ℕ) → row < 8 → eqb (of_z w16 (get_or coefficients (row * 8 + k) (pos 0))) 0 ≡ true =
+    λ row r. none _ (corner.right row k r (omega arith) (omega arith)) in
+    let below : (row : ℕ) → 4 ≤ row → row < 8 → eqb (of_z w16 (get_or coefficients (row * 8 + j) (pos 0))) 0 ≡ true =
+    λ row low r. none _ (corner.below row j low r h) in
+    or_both (lower_bits coefficients j) (upper_bits coefficients k)
+    (four_zero (row_bits coefficients 32 j) (row_bits coefficients 40 j) (row_bits coefficients 48 j)
+    (row_bits coefficients 56 j) (below 4 (lit≤ tt) (lit< tt)) (below 5 (lit≤ tt) (lit< tt))
+    (below 6 (lit≤ tt) (lit< tt)) (below 7 (lit≤ tt) (lit< tt)))
+    (four_zero (row_bits coefficients 0 k) (row_bits coefficients 8 k) (row_bits coefficients 16 k)
+    (row_bits coefficients 24 k) (right 0 (lit< tt)) (right 1 (lit< tt)) (right 2 (lit< tt)) (right 3 (lit< tt)))
+  where
+    none : (z : ℤ) → z ≡ pos 0 → eqb (of_z w16 z) 0 ≡ true
+    none z e = ap (λ z. eqb (of_z w16 z) 0) e
+
+    four_zero : (a b c d : ℕ) → eqb a 0 ≡ true → eqb b 0 ≡ true → eqb c 0 ≡ true → eqb d 0 ≡ true
+        → eqb (bit_or (bit_or (bit_or a b) c) d) 0 ≡ true
+    four_zero a b c d ea eb ec ed = or_both (bit_or (bit_or a b) c) d (or_both (bit_or a b) c (or_both a b ea eb) ec) ed

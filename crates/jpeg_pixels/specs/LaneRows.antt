@@ -41,7 +41,7 @@ pub record IsTurned (rows turned : Rows) : Type 0 where
   pub r6 : turned.r6 ≡ column_of rows 6
   pub r7 : turned.r7 ≡ column_of rows 7
 
--- a block whose coefficients outside of the top left corner of four rows and four columns are 0
+-- outside the top left corner of four rows and four columns, each coefficient is 0
 pub record IsInCorner (coefficients : List ℤ) : Type 0 where
   pub right : (row column : ℕ) → row < 8 → 4 ≤ column → column < 8
       → slice_index_or coefficients (row * 8 + column) (pos 0) ≡ pos 0

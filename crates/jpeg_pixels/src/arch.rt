@@ -2,7 +2,7 @@
 //! pixels.
 ghost use Rattle.std.specs.Prelude.{◌≡◌, ℕ, ◌+◌, ◌*◌, ◌<◌, ◌≤◌, pos, neg_ℤ, ◌+ℤ◌, ◌-ℤ◌, ◌*ℤ◌};
 ghost use Rattle.std.specs.Prelude.{length, slice_index_or, [], ◌∷◌, map, ⊤, slice_index};
-ghost use Rattle.std.specs.Prelude.{if◌then◌else◌, ◌%◌, ◌/◌, ◌==◌, true};
+ghost use Rattle.std.specs.Prelude.{if◌then◌else◌, ◌%◌, ◌/◌, ◌==◌, IsTrue, ◌↔◌};
 ghost use Rattle.std.specs.Int.{w32, int_wrap, int_shr};
 ghost use Rattle.std.specs.List.{range_with_len};
 ghost use Rattle.jpeg_pixels.specs.Samples.{transformed, clamped, is_flat_column, dequantized};
@@ -143,9 +143,9 @@ fn products(coefficients: [i16; 64], quantization_table: &[u16; 64], at: usize) 
     c * q
 }
 
-// Whether each coefficient outside of the top left 4x4 corner is 0.
+// Whether every coefficient outside the top left 4x4 corner is 0.
 fn is_in_corner(coefficients: [i16; 64]) -> bool
-    ensures { result ≡ true → IsInCorner coefficients }
+    ensures { IsTrue result ↔ IsInCorner coefficients }
 {
     let upper = i16x8::from_slice(&coefficients[..])
         | i16x8::from_slice(&coefficients[8..])
@@ -159,8 +159,8 @@ fn is_in_corner(coefficients: [i16; 64]) -> bool
     (lower | right).simd_eq(i16x8::splat(0)).all()
 }
 
-// The same rows, of which the last four are 0. After this the compiler knows them as zeros, and
-// drops their products as well as all that would make those rows.
+// Returns the rows, whose last four are 0, unchanged. The zeros written here are constants, so the
+// compiler drops the products with them, and the code that computes the rows they replace.
 #[inline(always)]
 fn with_zeros(rows: Rows) -> Rows
     requires { HasZeros rows }
@@ -255,7 +255,8 @@ fn transform_whole(coefficients: [i16; 64], quantization_table: &[u16; 64]) -> R
     transform_rows(transpose(columns))
 }
 
-// The same sums of a block that has only its corner: half of what either pass takes is 0.
+// The same sums, for a block that is 0 outside its top left corner: half of the rows that each pass
+// takes are 0.
 fn transform_corner(coefficients: [i16; 64], quantization_table: &[u16; 64]) -> Rows
     requires { IsInCorner coefficients }
     ensures { HasNumbers result (λ y x. int_wrap w32
@@ -266,6 +267,7 @@ fn transform_corner(coefficients: [i16; 64], quantization_table: &[u16; 64]) -> 
     transform_rows(with_zeros(transpose(columns)))
 }
 
+// The same sums, by the shorter way where the block allows it.
 fn transform(coefficients: [i16; 64], quantization_table: &[u16; 64]) -> Rows
     ensures { HasNumbers result (λ y x. int_wrap w32
         (transformed (column_value coefficients quantization_table.now y) x +ℤ pos 16842752)) }

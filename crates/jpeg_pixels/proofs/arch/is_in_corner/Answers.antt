@@ -1,7 +1,7 @@
 use Rattle.std.proofs.Common.{◌≡◌, length, rules, lit≤}
 use Rattle.jpeg_pixels.proofs.LaneSums.{halves_fit}
 use Rattle.jpeg_pixels.proofs.LaneChoice.{bits_or, bits_of_halves}
-use Rattle.jpeg_pixels.proofs.Corners.{all_zero, first_bits, last_lanes, corner_is}
+use Rattle.jpeg_pixels.proofs.Corners.{all_zero, zero_all, first_bits, last_lanes, corner_is, corner_zero}
 use Rattle.jpeg_pixels.proofs.arch.is_in_corner.Goals as goal
 
 pub returns : goal.returns
@@ -13,5 +13,7 @@ returns c =
     (row 16 long (lit≤ tt))) (row 24 long (lit≤ tt)) in
     let lower = bits_or (bits_or (bits_or (row 32 long (lit≤ tt)) (row 40 long (lit≤ tt))) (row 48 long (lit≤ tt)))
     (row 56 long (lit≤ tt)) in
-    λ full. corner_is coefficients (halves_fit coefficients _ c.well_formed.0.1.1)
-    (all_zero _ _ (bits_or lower (last_lanes upper)) full)
+    let both = bits_or lower (last_lanes upper) in (
+      λ full. corner_is coefficients (halves_fit coefficients _ c.well_formed.0.1.1) (all_zero _ _ both full),
+      λ corner. zero_all _ _ both (corner_zero coefficients corner),
+    )
