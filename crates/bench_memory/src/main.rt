@@ -1,8 +1,8 @@
 //! How long decodings from memory take: `bench_memory ROUNDS [WIDTH HEIGHT] < photo.jpg`.
 //!
 //! The file is read at once, and decoded from its bytes as often as ROUNDS says, where WIDTH and
-//! HEIGHT are given at the scale for them (`Decoder::scale`). The least time goes to standard error,
-//! in microseconds, and to standard output a number that tells pictures apart.
+//! HEIGHT are given at the scale for them (`Decoder::scale`). The least time of a decoding goes to
+//! standard error, in microseconds, and to standard output a number that tells pictures apart.
 #![tactic(auto)]
 
 use anyhow::Context;

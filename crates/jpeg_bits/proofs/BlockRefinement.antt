@@ -132,13 +132,15 @@ module _ (table : Table) (p : Pass) (whole : Reads Band) (a b d : Ahead) (old cu
       after-token : Leaves whole a old (step_at table p block k x) d mid
       after-token =
           Leaves-ok (λ (t : Refinement). t) whole (refined_at table p block k) (step_at table p block k x)
-          (refinement_from table p.al) a b d old cur mid x (λ t u h. token-at table p block k t u is from before x h) h q
+          (refinement_from table p.al) a b d old cur mid x (λ t u h. token-at table p block k t u is from
+          before x h) h q
 
       pub piece-refused : {X : Type 0} (view : X → Band) (all : ℕ) (y : Error) → end - k ≤ all
           → Takes (to_piece p k blk) (piece_at p block k (zeros_of all x)) d mid (Err y) f new
           → Takes view whole a old (Err y) f new
       piece-refused view all y few r =
-          Leaves-err view (to_piece p k blk) whole (step_at table p block k x) (piece_at p block k (zeros_of all x)) a d f
+          Leaves-err view (to_piece p k blk) whole (step_at table p block k x) (piece_at p block k
+          (zeros_of all x)) a d f
           old mid new y (λ t g h. refused-at table p block k t t is from before all x g (omega arith) h) after-token r
 
       pub zeros-read : IsKeptAround k (band_end p) block blk → k ≤ next → x ≡ Zeros
@@ -146,7 +148,8 @@ module _ (table : Table) (p : Pass) (whole : Reads Band) (a b d : Ahead) (old cu
           → Leaves whole a old (refined_at table p blk next) f new
       zeros-read others after z r =
           Leaves-ok (to_piece p k blk) whole (step_at table p block k x) (refined_at table p blk next)
-          (piece_at p block k 15) a d f old mid new next (λ t u h. ap (λ (x : Refinement). step_at table p block k x t) z
+          (piece_at p block k 15) a d f old mid new next (λ t u h. ap (λ
+          (x : Refinement). step_at table p block k x t) z
           ∙ zeros-at table p block k t u is from before next blk others after h) after-token r
 
       pub new-read : (r : ℕ) (v : ℤ) → IsKeptAround k (band_end p) block blk → length blk ≡ 64 → k < next
@@ -155,16 +158,19 @@ module _ (table : Table) (p : Pass) (whole : Reads Band) (a b d : Ahead) (old cu
           → Leaves whole a old (refined_at table p (set blk (get_or zigzag (next - 1) 0) v) next) f new
       new-read r v others n after within z m =
           Leaves-ok (to_piece p k blk) whole (step_at table p block k x)
-          (refined_at table p (set blk (get_or zigzag (next - 1) 0) v) next) (piece_at p block k r) a d f old mid new next
+          (refined_at table p (set blk (get_or zigzag (next - 1) 0) v) next)
+          (piece_at p block k r) a d f old mid new next
           (λ t u h. ap (λ (x : Refinement). step_at table p block k x t) z
           ∙ new-at table p block k t u is from before next blk r v others n after within h) after-token m
 
       pub end-read : {X : Type 0} (view : X → Band) (y : X) (run all : ℕ) → view y ≡ (band_in p blk, run)
           → IsKeptAround k (band_end p) block blk → end - k ≤ all → x ≡ End run
-          → Takes (to_piece p k blk) (piece_at p block k all) d mid (Ok next) f new → Takes view whole a old (Ok y) f new
+          → Takes (to_piece p k blk) (piece_at p block k all) d mid (Ok next) f new → Takes view whole a old
+          (Ok y) f new
       end-read view y run all w others few z m =
           Leaves-ok (to_piece p k blk) whole (step_at table p block k x) (λ (t : Text). Ok (view y, t))
-          (piece_at p block k all) a d f old mid new next (λ t u h. ap (λ (x : Refinement). step_at table p block k x t) z
+          (piece_at p block k all) a d f old mid new next (λ t u h. ap (λ
+          (x : Refinement). step_at table p block k x t) z
           ∙ end-at table p block k t u is from before next blk run all others (omega arith) h
           ∙ ap (λ (band : Band). Ok (band, u)) (sym w)) after-token m
 
