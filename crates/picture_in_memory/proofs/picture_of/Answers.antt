@@ -1,4 +1,4 @@
-use Rattle.std.proofs.Common.{◌≡◌, List, ℕ, Result, Ok, Err, Some, refl, true, false, sym, ◌∙◌}
+use Rattle.std.proofs.Common.{◌≡◌, List, ℕ, Result, Ok, Err, Some, refl, true, false, ◌∙◌}
 use Rattle.std.specs.Prelude.{IfOk, MatchResult}
 use Rattle.jpeg_bits.specs.Reading.{Answers, Fault, Outcome}
 use Rattle.jpeg_bits.specs.Stream.{Stream, stream_of}
@@ -29,7 +29,7 @@ pub returns-clause-means : goal.returns-clause-means
 returns-clause-means c few =
     let bytes = c.args.bytes.now in
     let tells : Tells (Some bytes) bytes = record { told = refl; few = few } in
-    let reads = rw c.in_ok-decoder.ensures.ok at c.decode.ensures.reads in
+    let reads = rw (c.in_ok-decoder.ensures.ok, c.new.ensures) at c.decode.ensures.reads in
     let known = bytes_are_known (Some bytes) bytes tells in
     let same = known_bytes_are_told (Some bytes) bytes tells in
     let whole : IfOk c.decode.result (λ x. (t : Told) × (rest : List ℕ)
@@ -43,7 +43,7 @@ pub returns-clause-images : goal.returns-clause-images
 returns-clause-images c array image rest final last range w takes is few =
     let bytes = c.args.bytes.now in
     let tells : Tells (Some bytes) bytes = record { told = refl; few = few } in
-    let images = rw c.in_ok-decoder.ensures.ok at c.decode.ensures.images in
+    let images = rw (c.in_ok-decoder.ensures.ok, c.new.ensures) at c.decode.ensures.images in
     let known = bytes_are_known (Some bytes) bytes tells in
     let same = known_bytes_are_told (Some bytes) bytes tells in
     given (λ v. v.items) _ rest final _ c.decode.result
