@@ -50,9 +50,9 @@ pub mod worked;
 
 pub use decoder::{Decoder, ImageInfo, PixelFormat};
 pub use jpeg_bits::byte_reader::ByteReader;
-pub use jpeg_bits::slice_reader::SliceReader;
 pub use jpeg_bits::color_transform::ColorTransform;
 pub use jpeg_bits::error::{Error, UnsupportedFeature};
+pub use jpeg_bits::slice_reader::SliceReader;
 pub use jpeg_bits::{error, huffman, marker};
 pub use jpeg_lossless::lossless;
 pub use jpeg_pixels::{arch, idct, upsampler, worker};

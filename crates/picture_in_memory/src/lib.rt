@@ -16,8 +16,8 @@ ghost use Rattle.jpeg_streams.specs.WrittenScans.{Coefficients};
 #[cfg(test)]
 mod tests;
 
-use jpeg_decoder::{Decoder, SliceReader};
 use jpeg_decoder::error::Result;
+use jpeg_decoder::{Decoder, SliceReader};
 use std::alloc::Global;
 
 /// The samples of a stream's picture, line by line.
