@@ -5,6 +5,7 @@ mod differences;
 pub mod laws;
 mod lines;
 pub mod lossless;
+mod parts;
 mod picture;
 mod planes;
 pub mod scan;

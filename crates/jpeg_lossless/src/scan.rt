@@ -1,20 +1,24 @@
 //! Lossless scans (T.81, H.1.2), and their restart intervals (E.2.4).
 ghost use Rattle.std.specs.Prelude.{◌≡◌, ◌≤◌, ◌<◌, ◌*◌, IfSome, IfNone, IfOk, true, false};
-ghost use Rattle.std.specs.Prelude.{length, map, replicate, []};
+ghost use Rattle.std.specs.Prelude.{length, map, replicate, take, []};
 ghost use Rattle.jpeg_bits.specs.Reading.{Answers};
 ghost use Rattle.jpeg_bits.specs.Entropy.{Takes};
-ghost use Rattle.jpeg_lossless.specs.Rows.{via_of, planes_after_rows};
+ghost use Rattle.std.specs.List.{AllByRecursion};
+ghost use Rattle.jpeg_lossless.specs.Rows.{planes_after_rows};
 ghost use Rattle.jpeg_lossless.specs.PlanesRead.{planes_interval, planes_intervals, planes_scan};
+ghost use Rattle.jpeg_lossless.specs.PlanesRead.{AreGrown, IsWithin, cut_planes};
 ghost use Rattle.jpeg_lossless.specs.Scans.{is_of_rows, rows_of_interval};
 ghost use Rattle.jpeg_bits.specs.Intervals.{is_restart};
 ghost use Rattle.jpeg_lossless.specs.Scans.{shifted, scan_at};
-ghost use Rattle.jpeg_lossless.specs.Codings.{way_by};
-ghost use Rattle.jpeg_lossless.specs.Pictures.{AreOfSize};
+ghost use Rattle.jpeg_lossless.specs.Codings.{AreWhole, IsCovered, part_in, way_by};
+ghost use Rattle.jpeg_lossless.specs.Differences.{mcu_tables};
 
 use crate::differences::read_row;
 use crate::lines::Prediction;
 use crate::lossless::start_of;
-use crate::planes::{add_row, shift};
+pub use crate::parts::Part;
+use crate::parts::mcu_tables;
+use crate::planes::{Row, add_row, shift};
 use jpeg_bits::error::{Result, format_error};
 use jpeg_bits::huffman::{HuffmanDecoder, HuffmanTable};
 use jpeg_bits::marker::Marker;
@@ -23,8 +27,7 @@ use jpeg_bits::source::Source;
 use std::alloc::{AllocError, Global};
 use std::io::Read;
 
-/// How a lossless scan is coded. An MCU has one sample of each component of the scan, so the MCUs
-/// are the pixels.
+/// How a lossless scan is coded.
 #[derive(Clone, Copy, Debug, PartialEq)]
 pub struct Coding {
     /// How many MCUs a row has.
@@ -79,9 +82,12 @@ impl LosslessScan {
     ghost use Rattle.std.specs.Prelude.{◌≡◌, ℕ, OnOk, ◌≤◌, ◌<◌, ◌+◌, ◌*◌, length, map, true};
     ghost use Rattle.jpeg_bits.specs.Reading.{Answers};
     ghost use Rattle.jpeg_bits.specs.Entropy.{Takes};
-    ghost use Rattle.jpeg_lossless.specs.Rows.{via_of, planes_after_rows};
+    ghost use Rattle.std.specs.List.{AllByRecursion};
+    ghost use Rattle.jpeg_lossless.specs.Codings.{part_in, way_by};
+    ghost use Rattle.jpeg_lossless.specs.Differences.{mcu_tables};
+    ghost use Rattle.jpeg_lossless.specs.Rows.{planes_after_rows};
     ghost use Rattle.jpeg_lossless.specs.PlanesRead.{planes_interval, planes_intervals};
-    ghost use Rattle.jpeg_lossless.specs.Pictures.{AreOfSize};
+    ghost use Rattle.jpeg_lossless.specs.PlanesRead.{AreGrown, IsWithin};
 
     /// Reads `count` rows of MCUs, and appends their samples to the planes.
     fn read_rows<R: Read + Drop>(
@@ -89,18 +95,22 @@ impl LosslessScan {
         decoder: &mut HuffmanDecoder,
         source: &mut Source<R>,
         coding: Coding,
+        parts: &[Part<'_>],
         tables: &[&HuffmanTable],
         count: u16,
     ) -> Result<()>
-        requires planes { length self.old.planes.items ≡ length tables.now }
+        requires planes { length self.old.planes.items ≡ length parts.now }
+        requires tables { map (λ t. t.now) tables.now ≡ mcu_tables (map part_in parts.now) }
+        requires within { AllByRecursion (IsWithin coding.wide) (map part_in parts.now) }
         requires point { coding.point_transform < coding.precision }
         requires precision { coding.precision ≤ 16 }
         ensures count { length self.new.planes.items ≡ length self.old.planes.items }
-        ensures long { (k : ℕ) → AreOfSize k (map (λ v. v.items) self.old.planes.items)
-            → OnOk result (AreOfSize (k + count * coding.wide)
+        ensures long { (k : ℕ)
+            → AreGrown k (map part_in parts.now) (map (λ v. v.items) self.old.planes.items)
+            → OnOk result (AreGrown (k + count) (map part_in parts.now)
             (map (λ v. v.items) self.new.planes.items)) }
         ensures reads { Takes (λ _. map (λ v. v.items) self.new.planes.items)
-            (planes_after_rows (via_of coding (map (λ t. t.now) tables.now)) true count
+            (planes_after_rows (way_by coding (map part_in parts.now)) true count
             (map (λ v. v.items) self.old.planes.items))
             decoder.old source.old result decoder.new source.new }
     {
@@ -113,11 +123,16 @@ impl LosslessScan {
         let mut left = count;
         while left > 0 {
             read_row(self.alloc, decoder, source, tables, wide, &mut self.row)?;
+            let row = Row {
+                differences: &self.row,
+                count: wide,
+                size: tables.len(),
+            };
             add_row(
                 prediction,
                 is_first,
-                &self.row,
-                wide,
+                &row,
+                parts,
                 &mut self.line,
                 self.planes.as_mut_slice(),
             )?;
@@ -133,23 +148,27 @@ impl LosslessScan {
         &mut self,
         source: &mut Source<R>,
         coding: Coding,
+        parts: &[Part<'_>],
         tables: &[&HuffmanTable],
         count: u16,
     ) -> Result<Option<Marker>>
-        requires planes { length self.old.planes.items ≡ length tables.now }
+        requires planes { length self.old.planes.items ≡ length parts.now }
+        requires tables { map (λ t. t.now) tables.now ≡ mcu_tables (map part_in parts.now) }
+        requires within { AllByRecursion (IsWithin coding.wide) (map part_in parts.now) }
         requires point { coding.point_transform < coding.precision }
         requires precision { coding.precision ≤ 16 }
         ensures count { length self.new.planes.items ≡ length self.old.planes.items }
-        ensures long { (k : ℕ) → AreOfSize k (map (λ v. v.items) self.old.planes.items)
-            → OnOk result (AreOfSize (k + count * coding.wide)
+        ensures long { (k : ℕ)
+            → AreGrown k (map part_in parts.now) (map (λ v. v.items) self.old.planes.items)
+            → OnOk result (AreGrown (k + count) (map part_in parts.now)
             (map (λ v. v.items) self.new.planes.items)) }
         ensures answers { Answers (λ m. (map (λ v. v.items) self.new.planes.items, m))
-            (planes_interval (via_of coding (map (λ t. t.now) tables.now)) count
+            (planes_interval (way_by coding (map part_in parts.now)) count
             (map (λ v. v.items) self.old.planes.items))
             source.old result source.new }
     {
         let mut decoder = HuffmanDecoder::new(self.alloc);
-        self.read_rows(&mut decoder, source, coding, tables, count)?;
+        self.read_rows(&mut decoder, source, coding, parts, tables, count)?;
         decoder.take_marker(source)
     }
 
@@ -159,33 +178,37 @@ impl LosslessScan {
         &mut self,
         source: &mut Source<R>,
         coding: Coding,
+        parts: &[Part<'_>],
         tables: &[&HuffmanTable],
         rows: u16,
     ) -> Result<Option<Marker>>
         requires rows { 0 < rows }
-        requires planes { length self.old.planes.items ≡ length tables.now }
+        requires planes { length self.old.planes.items ≡ length parts.now }
+        requires tables { map (λ t. t.now) tables.now ≡ mcu_tables (map part_in parts.now) }
+        requires within { AllByRecursion (IsWithin coding.wide) (map part_in parts.now) }
         requires point { coding.point_transform < coding.precision }
         requires precision { coding.precision ≤ 16 }
         ensures count { length self.new.planes.items ≡ length self.old.planes.items }
-        ensures long { (k : ℕ) → AreOfSize k (map (λ v. v.items) self.old.planes.items)
-            → OnOk result (AreOfSize (k + coding.high * coding.wide)
+        ensures long { (k : ℕ)
+            → AreGrown k (map part_in parts.now) (map (λ v. v.items) self.old.planes.items)
+            → OnOk result (AreGrown (k + coding.high) (map part_in parts.now)
             (map (λ v. v.items) self.new.planes.items)) }
         ensures answers { Answers (λ m. (map (λ v. v.items) self.new.planes.items, m))
-            (planes_intervals (coding.high + 1) (via_of coding (map (λ t. t.now) tables.now))
+            (planes_intervals (coding.high + 1) (way_by coding (map part_in parts.now))
             rows 0 coding.high (map (λ v. v.items) self.old.planes.items))
             source.old result source.new }
     {
         let mut number = 0u16;
         let mut left = coding.high;
         while left > rows {
-            let marker = self.read_interval(source, coding, tables, rows)?;
+            let marker = self.read_interval(source, coding, parts, tables, rows)?;
             if !is_restart(marker, number) {
                 return Err(format_error(self.alloc, "a restart marker is missing"));
             }
             number += 1;
             left -= rows;
         }
-        self.read_interval(source, coding, tables, left)
+        self.read_interval(source, coding, parts, tables, left)
     }
 }
 
@@ -199,31 +222,46 @@ fn is_restart(marker: Option<Marker>, number: u16) -> bool
     }
 }
 
-/// `count` empty planes, each with room for `size` samples.
+/// Empty planes, each with room for the samples of a part in `high` rows of MCUs.
 fn empty_planes(
     alloc: Global,
-    count: usize,
-    size: usize,
+    high: u16,
+    parts: &[Part<'_>],
 ) -> std::result::Result<Vec<Vec<u16>>, AllocError>
-    ensures count { IfOk result (λ v. length v.items ≡ count) }
-    ensures planes { IfOk result (λ v. map (λ p. p.items) v.items ≡ replicate count []) }
+    ensures count { IfOk result (λ v. length v.items ≡ length parts.now) }
+    ensures planes { IfOk result
+        (λ v. map (λ p. p.items) v.items ≡ replicate (length parts.now) []) }
 {
-    let mut planes = Vec::with_capacity(alloc, count)?;
-    for _ in 0..count {
-        planes.push(Vec::with_capacity(alloc, size)?)?;
+    let mut planes = Vec::with_capacity(alloc, parts.len())?;
+    for i in 0..parts.len() {
+        let part = &parts[i];
+        let lines = usize::from(high) * usize::from(part.down);
+        planes.push(Vec::with_capacity(alloc, usize::from(part.width) * lines)?)?;
     }
     Ok(planes)
 }
 
-/// Shifts each sample of the planes left by the point transform.
-fn shift_all(planes: &mut [Vec<u16>], point_transform: u8)
+/// Cuts the padding lines off a plane, and shifts its samples left by the point transform.
+fn finish(plane: &mut Vec<u16>, size: usize, point_transform: u8)
     requires { point_transform < 16 }
+    ensures { plane.new.items ≡ map (shifted point_transform) (take size plane.old.items) }
+{
+    plane.truncate(size);
+    shift(plane.as_mut_slice(), point_transform);
+}
+
+/// Finishes the plane of each part.
+fn finish_all(planes: &mut [Vec<u16>], parts: &[Part<'_>], point_transform: u8)
+    requires point { point_transform < 16 }
+    requires count { length planes.old ≡ length parts.now }
     ensures count { length planes.new ≡ length planes.old }
     ensures planes { map (λ v. v.items) planes.new
-        ≡ map (map (shifted point_transform)) (map (λ v. v.items) planes.old) }
+        ≡ cut_planes point_transform (map part_in parts.now) (map (λ v. v.items) planes.old) }
 {
     for i in 0..planes.len() {
-        shift(planes[i].as_mut_slice(), point_transform);
+        let part = &parts[i];
+        let size = usize::from(part.width) * usize::from(part.height);
+        finish(&mut planes[i], size, point_transform);
     }
 }
 
@@ -233,39 +271,40 @@ fn read_planes<R: Read + Drop>(
     alloc: Global,
     source: &mut Source<R>,
     coding: Coding,
-    tables: &[&HuffmanTable],
+    parts: &[Part<'_>],
 ) -> Result<(Vec<Vec<u16>>, Option<Marker>)>
     requires wide { 0 < coding.wide }
     requires high { 0 < coding.high }
     requires point { coding.point_transform < coding.precision }
     requires precision { coding.precision ≤ 16 }
-    ensures count { IfOk result (λ r. length r.0.items ≡ length tables.now) }
-    ensures long { IfOk result
-        (λ r. AreOfSize (coding.high * coding.wide) (map (λ v. v.items) r.0.items)) }
+    requires covered { AllByRecursion (IsCovered coding.wide coding.high) (map part_in parts.now) }
+    ensures count { IfOk result (λ r. length r.0.items ≡ length parts.now) }
+    ensures whole { IfOk result
+        (λ r. AreWhole (map part_in parts.now) (map (λ v. v.items) r.0.items)) }
     ensures reads { Answers (λ r. (map (λ v. v.items) r.0.items, r.1))
-        (planes_scan (via_of coding (map (λ t. t.now) tables.now))
+        (planes_scan (way_by coding (map part_in parts.now))
         coding.high coding.restart_interval coding.point_transform)
         source.old result source.new }
 {
     let Some(rows) = rows_of_interval(coding) else {
         return Err(format_error(alloc, "a restart interval ends inside a row of MCUs"));
     };
-    let size = usize::from(coding.wide) * usize::from(coding.high);
-    let planes = empty_planes(alloc, tables.len(), size)?;
+    let tables = mcu_tables(alloc, parts)?;
+    let planes = empty_planes(alloc, coding.high, parts)?;
     let mut scan = LosslessScan {
         alloc,
         row: Vec::new(alloc),
         line: Vec::new(alloc),
         planes,
     };
-    let marker = scan.read_intervals(source, coding, tables, rows)?;
-    shift_all(scan.planes.as_mut_slice(), coding.point_transform);
+    let marker = scan.read_intervals(source, coding, parts, &tables, rows)?;
+    finish_all(scan.planes.as_mut_slice(), parts, coding.point_transform);
     Ok((scan.planes, marker))
 }
 
-/// Reads the entropy-coded data of a lossless scan, which has a table for each component. Returns a
-/// plane for each table, and the marker after the data, if it was met. A plane has `wide * high`
-/// samples, line by line, which are shifted by the point transform.
+/// Reads the entropy-coded data of a lossless scan, of which the parts are its components. Returns
+/// a plane for each part, and the marker after the data, if it was met. A plane has the component's
+/// own samples, line by line, which are shifted by the point transform.
 ///
 /// It is `Format` where a restart interval ends inside a row, bits are no code of their table, a
 /// category is above 16, FF 00 stands where a marker is expected, or an interval does not end with
@@ -275,19 +314,20 @@ pub fn read_scan<R: Read + Drop>(
     alloc: Global,
     source: &mut Source<R>,
     coding: Coding,
-    tables: &[&HuffmanTable],
+    parts: &[Part<'_>],
 ) -> Result<(Vec<Vec<u16>>, Option<Marker>)>
     requires wide { 0 < coding.wide }
     requires high { 0 < coding.high }
     requires point { coding.point_transform < coding.precision }
     requires precision { coding.precision ≤ 16 }
-    ensures count { IfOk result (λ r. length r.0.items ≡ length tables.now) }
-    ensures long { IfOk result
-        (λ r. AreOfSize (coding.wide * coding.high) (map (λ v. v.items) r.0.items)) }
+    requires covered { AllByRecursion (IsCovered coding.wide coding.high) (map part_in parts.now) }
+    ensures count { IfOk result (λ r. length r.0.items ≡ length parts.now) }
+    ensures whole { IfOk result
+        (λ r. AreWhole (map part_in parts.now) (map (λ v. v.items) r.0.items)) }
     ensures reads { Answers (λ r. (map (λ v. v.items) r.0.items, r.1))
-        (scan_at (way_by coding (map (λ t. t.now) tables.now))
+        (scan_at (way_by coding (map part_in parts.now))
         coding.high coding.restart_interval coding.point_transform)
         source.old result source.new }
 {
-    read_planes(alloc, source, coding, tables)
+    read_planes(alloc, source, coding, parts)
 }

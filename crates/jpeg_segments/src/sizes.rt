@@ -135,7 +135,7 @@ pub(crate) fn components_of(
 }
 
 /// The greatest sampling factors of the components of a frame, across and down.
-fn greatest_of(components: &[Component]) -> (u8, u8)
+pub fn greatest_of(components: &[Component]) -> (u8, u8)
     requires { AllHaveSampling (map component_in components.now) }
     ensures horizontal { result.0 ≡ greatest (λ f. f.horizontal) (map factors_in components.now) }
     ensures vertical { result.1 ≡ greatest (λ f. f.vertical) (map factors_in components.now) }

@@ -1,6 +1,7 @@
-use Rattle.std.proofs.Common.{◌≡◌, ◌≤◌, ◌+◌, ◌-◌, ◌*◌, ℕ, map, length, true}
-use Rattle.jpeg_lossless.specs.Pictures.{AreOfSize}
-use Rattle.jpeg_lossless.specs.Rows.{via_of, planes_after_rows}
+use Rattle.std.proofs.Common.{◌≡◌, ◌≤◌, ◌+◌, ◌-◌, ℕ, map, length, true}
+use Rattle.jpeg_lossless.specs.Codings.{part_in, way_by}
+use Rattle.jpeg_lossless.specs.Rows.{planes_after_rows}
+use Rattle.jpeg_lossless.specs.PlanesRead.{AreGrown}
 use Rattle.jpeg_lossless.proofs.Leaves.{Leaves}
 use Rattle.jpeg_lossless.proofs.scan.LosslessScan.read_rows.Given as goal
 
@@ -8,11 +9,11 @@ abbrev pub invariant-loop-left : goal.invariant-loop-left
 invariant-loop-left g l = record {
   count : length l.self.planes.items ≡ length l.fn.self.planes.items;
   left : l.left ≤ l.count;
-  long : (k : ℕ) → AreOfSize k (map (λ v. v.items) l.fn.self.planes.items)
-      → AreOfSize (k + (l.count - l.left) * l.fn.coding.wide) (map (λ v. v.items) l.self.planes.items);
-  reads : Leaves (planes_after_rows (via_of l.fn.coding (map (λ t. t.now) l.tables)) true l.count
+  long : (k : ℕ) → AreGrown k (map part_in l.parts) (map (λ v. v.items) l.fn.self.planes.items)
+      → AreGrown (k + (l.count - l.left)) (map part_in l.parts) (map (λ v. v.items) l.self.planes.items);
+  reads : Leaves (planes_after_rows (way_by l.fn.coding (map part_in l.parts)) true l.count
       (map (λ v. v.items) l.fn.self.planes.items)) l.fn.decoder l.fn.source
-      (planes_after_rows (via_of l.fn.coding (map (λ t. t.now) l.tables)) l.is_first l.left
+      (planes_after_rows (way_by l.fn.coding (map part_in l.parts)) l.is_first l.left
       (map (λ v. v.items) l.self.planes.items)) l.decoder l.source;
 }
 
