@@ -64,7 +64,7 @@ pub mod EncodedBlocks
 pub mod EncodedImages
 pub mod PrintedImages
 pub mod ShorterSamples
-pub mod PlainFrames
 pub mod SaidTables
+pub mod LosslessSizes
 pub mod LosslessFrames
 pub mod WorkedSamples

@@ -11,9 +11,7 @@ use Rattle.jpeg_streams.specs.Found.{Found}
 use Rattle.jpeg_segments.specs.WrittenSegments.{Segment, Quantization, Huffman, Interval, Application, Comment}
 use Rattle.jpeg_segments.specs.WrittenSegments.{Header, IsHuffmanTable, huffman_tables}
 use Rattle.jpeg_streams.specs.SaidSegments.{found_after}
-use Rattle.jpeg_streams.specs.WrittenLossless.{HaveTables, StandsInLossless}
-use Rattle.jpeg_segments.specs.ScanHeaders.{Choice}
-use Rattle.jpeg_lossless.specs.Written.{AreTables}
+use Rattle.jpeg_streams.specs.WrittenLossless.{StandsInLossless}
 
 abbrev pub IsTableOrNone : Option Table → Type 0
 IsTableOrNone None = Unit {0}
@@ -98,13 +96,3 @@ pub table-there : (tables : List (Option Table)) (place : ℕ) (t : Table) → A
     → slice_index_or tables place None ≡ Some t → IsTable t
 table-there tables place t all e = some-table (get_or tables place None) t e (get-all IsTableOrNone tables place None
     all tt)
-
--- those that a scan names
-pub tables-there : (said : Found) (choices : List Choice) (tables : List Table) → HasTables said.huffman
-    → HaveTables said choices tables → AreTables tables
-unfolding HaveTables
-tables-there said [] [] all h = tt
-tables-there said [] (t ∷ tables) all h = absurd h
-tables-there said (c ∷ choices) [] all h = absurd h
-tables-there said (c ∷ choices) (t ∷ tables) all h =
-    (table-there said.huffman.dc c.dc t all.dc h.0, tables-there said choices tables all h.1)

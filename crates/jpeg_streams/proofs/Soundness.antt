@@ -1,5 +1,5 @@
 -- The state between segments: frames that are decoded, at a scale, and what is kept from turn to turn.
-use Rattle.std.proofs.Common.{◌≡◌, ◌≤◌, ◌<◌, ℕ, ◌*◌, List, [], ◌∷◌, length, replicate, refl, ap, sym, ◌∙◌, subst, arith}
+use Rattle.std.proofs.Common.{◌≡◌, ◌≤◌, ◌<◌, ℕ, List, [], ◌∷◌, length, replicate, refl, ap, sym, ◌∙◌, subst, arith}
 use Rattle.std.proofs.Common.{Bool, true, false, Option, Some, None, Result, Ok, Err}
 use Rattle.std.specs.Prelude.{◌==◌, ◌||◌, ◌&&◌, not, min, nat_le, is_some}
 use Rattle.std.specs.List.{AllByRecursion}
@@ -22,7 +22,7 @@ use Rattle.jpeg_streams.specs.Stream.{sized_to}
 use Rattle.jpeg_streams.specs.Segments.{accepted, is_decoded_count, is_arithmetic, is_decoded_precision}
 use Rattle.jpeg_streams.specs.Found.{nothing_found, Found}
 use Rattle.jpeg_streams.specs.ScanSegments.{arrays_before, is_progressive}
-use Rattle.jpeg_streams.specs.Sound.{HasDecodedFrame, IsSampled, IsUnread, IsDecodedFrame, ArePlanes, IsSound}
+use Rattle.jpeg_streams.specs.Sound.{AreSampled, HasDecodedFrame, IsUnread, IsDecodedFrame, ArePlanes, IsSound}
 use Rattle.jpeg_streams.proofs.Apart.{zeros-sized}
 use Rattle.jpeg_streams.proofs.FrameFits.{scaled-frames-fit}
 use Rattle.jpeg_streams.proofs.ScaledCovers.{frames-have-sources}
@@ -170,16 +170,20 @@ decoded-read f q a =
       is_read = q;
       is_accepted = a;
       is_scale = refl;
+      is_full = λ e. refl;
       made = sym (full_frames f q);
     }
 
-pub decoded-scaled : (s : ℕ) (f : Frame) → is_scale s ≡ true → IsDecodedFrame f → IsDecodedFrame (frame_at s f)
-decoded-scaled s f e p = record {
+pub decoded-scaled : (s : ℕ) (f : Frame) → is_scale s ≡ true → (f.process ≡ Lossless → s ≡ 8) → IsDecodedFrame f
+    → IsDecodedFrame (frame_at s f)
+unfolding frame_at
+decoded-scaled s f e full p = record {
   full = p.full;
   scale = s;
   is_read = p.is_read;
   is_accepted = p.is_accepted;
   is_scale = e;
+  is_full = λ l. full (ap (λ (x : Frame). x.process) p.made ∙ l);
   made = ap (frame_at s) p.made ∙ scaled_again s p.scale p.full;
 }
 
@@ -197,7 +201,7 @@ sound_kept old new p a b c d s = record {
   frames = λ f e. p.frames f (sym a ∙ e);
   held = λ f e. subst (AreArrays f.components) (sym (before-same old new f b c)) (p.held f (sym a ∙ e));
   planes = λ f e. subst (ArePlanes f.components) (sym d) (p.planes f (sym a ∙ e));
-  samples = λ f e. subst (AllByRecursion (IsSampled (f.width * f.height))) (sym s) (p.samples f (sym a ∙ e));
+  samples = λ f e. subst (AreSampled f.components) (sym s) (p.samples f (sym a ∙ e));
   unread = λ e. let q = p.unread (sym a ∙ e) in (b ∙ q.0, d ∙ q.1, s ∙ q.2);
 }
 
@@ -209,6 +213,15 @@ no-planes (a ∷ b ∷ []) h = (tt, (tt, tt))
 no-planes (a ∷ b ∷ c ∷ []) h = (tt, (tt, (tt, tt)))
 no-planes (a ∷ b ∷ c ∷ d ∷ []) h = (tt, (tt, (tt, (tt, tt))))
 no-planes (a ∷ b ∷ c ∷ d ∷ e ∷ more) h = absurd (omega arith)
+
+no-samples : (cs : List Component) → length cs ≤ 4 → AreSampled cs (replicate 4 None)
+unfolding AreSampled
+no-samples [] h = tt
+no-samples (a ∷ []) h = (tt, tt)
+no-samples (a ∷ b ∷ []) h = (tt, (tt, tt))
+no-samples (a ∷ b ∷ c ∷ []) h = (tt, (tt, (tt, tt)))
+no-samples (a ∷ b ∷ c ∷ d ∷ []) h = (tt, (tt, (tt, (tt, tt))))
+no-samples (a ∷ b ∷ c ∷ d ∷ e ∷ more) h = absurd (omega arith)
 
 zeros-before : (found : Found) (x : Frame) → found.scanned ≡ false → AreArrays x.components (arrays_before found x)
 unfolding arrays_before
@@ -230,7 +243,9 @@ sound-frame found f p e n s = record {
   planes = λ g h. subst (λ (x : Frame). ArePlanes x.components found.planes) (some-same f g h)
       (subst (ArePlanes f.components) (sym n)
       (no-planes f.components (count-few (length f.components) (decoded-count f p)).1));
-  samples = λ g h. subst (AllByRecursion (IsSampled (g.width * g.height))) (sym s) (tt, (tt, (tt, (tt, tt))));
+  samples = λ g h. subst (λ (x : Frame). AreSampled x.components found.samples) (some-same f g h)
+      (subst (AreSampled f.components) (sym s)
+      (no-samples f.components (count-few (length f.components) (decoded-count f p)).1));
   unread = λ h. absurd (none-some h);
 }
   where
@@ -274,15 +289,16 @@ nothing-framed found e = ap (λ (f : Found). f.frame) e ∙ no-frame-yet
 -- ---- frames at a scale
 
 decoded-asked : (width height : ℕ) (f : Frame) → IsDecodedFrame f → IsDecodedFrame (sized width height f)
-decoded-asked width height f p = go f.process
+decoded-asked width height f p = go f.process refl
   where
-    at : IsDecodedFrame (frame_at (scale_for f.width f.height width height) f)
-    at = decoded-scaled (scale_for f.width f.height width height) f (scale_for_is_scale f.width f.height width height) p
+    at : (f.process ≡ Lossless → ⊥) → IsDecodedFrame (frame_at (scale_for f.width f.height width height) f)
+    at dct = decoded-scaled (scale_for f.width f.height width height) f
+        (scale_for_is_scale f.width f.height width height) (λ e. absurd (dct e)) p
 
-    go : (process : CodingProcess) → IsDecodedFrame (sized_by process width height f)
-    go DctSequential = at
-    go DctProgressive = at
-    go Lossless = p
+    go : (process : CodingProcess) → f.process ≡ process → IsDecodedFrame (sized_by process width height f)
+    go DctSequential e = at (λ l. cc)
+    go DctProgressive e = at (λ l. cc)
+    go Lossless e = p
 
 pub sized_of : (f : Frame) → IsDecodedFrame f → IsSizedFrame f
 sized_of f p = decoded-sized f p

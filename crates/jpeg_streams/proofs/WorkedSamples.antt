@@ -17,10 +17,11 @@ use Rattle.jpeg_lossless.specs.Worked.{small_table}
 use Rattle.jpeg_streams.specs.SaidSegments.{found_after}
 use Rattle.jpeg_streams.specs.Segments.{updated}
 use Rattle.jpeg_streams.specs.Found.{nothing_found, Found}
-use Rattle.jpeg_streams.specs.WorkedSamples.{AreWritten, other_data, other_scan, table_segment}
+use Rattle.jpeg_streams.specs.WorkedSamples.{AreWritten, other_data, other_scan, plain_factors, table_segment}
 use Rattle.jpeg_streams.specs.WorkedSamples.{third_data, third_scan, three_bytes, three_header, three_samples}
-use Rattle.jpeg_streams.specs.WrittenLossless.{HasSamples, HaveTables, WritesScan, closed}
-use Rattle.jpeg_streams.specs.WrittenLossless.{said_after_scan, scan, segment, whole_lines}
+use Rattle.jpeg_streams.specs.WrittenLossless.{AreCodings, HasSamples, HoldSamples, WritesScan, closed}
+use Rattle.jpeg_streams.specs.WrittenLossless.{said_after_scan, scan, segment, whole_rows}
+use Rattle.jpeg_streams.specs.LosslessScans.{LosslessCoding, mcus_across, mcus_down, parts_of}
 
 abbrev frame : Frame
 frame = frame_written 3 three_header
@@ -106,12 +107,9 @@ has-samples = record {
   least = omega arith;
   most = omega arith;
   counted = inr (inl refl);
-  whole = inr (
-    record { horizontal = refl; vertical = refl },
-    (
-      record { horizontal = refl; vertical = refl },
-      (record { horizontal = refl; vertical = refl }, tt),
-    ),
+  upsampled = (
+    inl (inl refl, inl refl),
+    (inl (inl refl, inl refl), (inl (inl refl, inl refl), tt)),
   );
 }
 
@@ -190,15 +188,26 @@ less = record {
   has_bits = refl;
 }
 
+-- a component, which has this identifier
+abbrev coding : ℕ → ℕ → LosslessCoding
+coding identifier place = record {
+  place = place;
+  component = component_of 2 2 1 1 (plain_factors identifier);
+  table = small_table;
+}
+
 third-written : WritesScan said_3 frame third_scan three_samples third_data
-unfolding frame_of component_of nothing_found updated three_samples HaveTables mcu_tables row_tables strand strands
+unfolding frame_of component_of nothing_found updated three_samples AreCodings HoldSamples mcus_across mcus_down
+    parts_of mcu_tables row_tables strand strands
     lines_in first_differences rest_differences differences_below differences_of HaveDifferences residue stuffed
     bits_of_bytes all_above
 third-written = record {
-  tables = small_table ∷ [];
-  in_force = (refl, tt);
+  codings = coding 3 2 ∷ [];
+  coded = (record { stands = refl; component = refl; table = refl }, tt);
   point = refl;
-  interval = whole_lines 0;
+  interval = whole_rows 0;
+  lines = _;
+  held = (refl, tt);
   written = another 0 0 2 (((128 ∷ 129 ∷ []) ∷ []) ∷ []) (((128 ∷ 128 ∷ []) ∷ []) ∷ []) (0x5F ∷ []) (0x3F ∷ [])
       (omega arith)
       (record {
@@ -230,14 +239,20 @@ third-written = record {
 }
 
 other-written : WritesScan said_4 frame other_scan three_samples other_data
-unfolding frame_of component_of nothing_found updated three_samples HaveTables mcu_tables row_tables strand strands
+unfolding frame_of component_of nothing_found updated three_samples AreCodings HoldSamples mcus_across mcus_down
+    parts_of mcu_tables row_tables strand strands
     lines_in first_differences rest_differences differences_below differences_of HaveDifferences residue stuffed
     bits_of_bytes all_above
 other-written = record {
-  tables = small_table ∷ small_table ∷ [];
-  in_force = (refl, (refl, tt));
+  codings = coding 1 0 ∷ coding 2 1 ∷ [];
+  coded = (
+    record { stands = refl; component = refl; table = refl },
+    (record { stands = refl; component = refl; table = refl }, tt),
+  );
   point = refl;
-  interval = whole_lines 0;
+  interval = whole_rows 0;
+  lines = _;
+  held = (refl, (refl, tt));
   written = another 0 0 2 (((129 ∷ 129 ∷ []) ∷ []) ∷ ((128 ∷ 128 ∷ []) ∷ []) ∷ []) (((128 ∷ 128 ∷ []) ∷ [])
       ∷ ((129 ∷ 128 ∷ []) ∷ []) ∷ []) (0xA3 ∷ []) (0x54 ∷ []) (omega arith)
       (record {

@@ -12,9 +12,8 @@ use Rattle.jpeg_segments.specs.Frame.{Frame, Component}
 use Rattle.jpeg_pixels.specs.Pictures.{image_of}
 use Rattle.jpeg_streams.specs.ColourChoice.{identifiers_of, transform_of}
 use Rattle.jpeg_pixels.specs.Planes.{cropped}
-use Rattle.jpeg_streams.specs.LosslessScans.{lossless_picture}
+use Rattle.jpeg_lossless.specs.Pictures.{lossless_picture}
 use Rattle.jpeg_streams.specs.LosslessScans.{samples_from}
-use Rattle.jpeg_streams.specs.LosslessScans.{without_factors}
 use Rattle.jpeg_streams.specs.Needed.{first_of, needed}
 use Rattle.jpeg_streams.specs.declared.settings.Settings.{Settings}
 use Rattle.jpeg_streams.specs.Found.{Metadata, Found}
@@ -72,7 +71,7 @@ samples_picture found frame = do
 abbrev pub picture_by_process : CodingProcess → Settings → Found → Frame → Result (List ℕ) Fault
 picture_by_process DctSequential settings found frame = blocks_picture settings found frame
 picture_by_process DctProgressive settings found frame = blocks_picture settings found frame
-picture_by_process Lossless settings found frame = samples_picture found (without_factors frame)
+picture_by_process Lossless settings found frame = samples_picture found frame
 
 -- The picture of what was found: within the limit, of planes that are there.
 unfoldable pub picture_of : Settings → Found → Result (List ℕ) Fault

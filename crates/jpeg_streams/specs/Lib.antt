@@ -26,6 +26,7 @@ pub mod WholeImages
 pub mod DecodedImages
 pub mod PrintedImages
 pub mod WrittenLossless
+pub mod PlainSamples
 pub mod DecodedSamples
 -- streams worked by hand
 pub mod Worked

@@ -1,30 +1,15 @@
--- Scans of a lossless frame, and its picture (T.81, A.2 and Annex H).
+-- Scans of a lossless frame (T.81, A.2 and Annex H).
 use Rattle.std.specs.Prelude.{ℕ, ◌+◌, List, [], ◌∷◌, map, drop, slice_index_or}
 use Rattle.std.specs.Prelude.{Option, Some, None, Result, Ok, slice_set}
 use Rattle.jpeg_bits.specs.Reading.{Fault, ◌>>=◌}
 use Rattle.jpeg_bits.specs.Codes.{Table}
 use Rattle.jpeg_bits.specs.declared.scan.Predictor.{Predictor}
-use Rattle.jpeg_segments.specs.Frame.{Frame, Component, ceiling, greatest}
-use Rattle.jpeg_pixels.specs.Pictures.{all_factors}
+use Rattle.jpeg_segments.specs.Frame.{Frame, Component, ceiling}
 use Rattle.jpeg_lossless.specs.Prediction.{start_of}
 use Rattle.jpeg_lossless.specs.Differences.{Part}
 use Rattle.jpeg_lossless.specs.Scans.{Way}
-use Rattle.jpeg_lossless.specs.Pictures.{Layer, picture_bytes}
+use Rattle.jpeg_lossless.specs.Pictures.{most_across, most_down}
 use Rattle.jpeg_streams.specs.Needed.{first_of, needed}
-
--- ---- sampling factors
-
--- a component that has a sample of each pixel
-abbrev pub one_by_one : Frame → Component → Component
-one_by_one frame c = record c {
-  factors = record c.factors { horizontal = 1; vertical = 1 };
-  width = frame.width;
-  height = frame.height;
-}
-
--- The sampling factors of a lossless frame are ignored for now.
-abbrev pub without_factors : Frame → Frame
-without_factors frame = record frame { components = map (one_by_one frame) frame.components }
 
 -- ---- MCUs
 
@@ -33,12 +18,6 @@ pub record LosslessCoding : Type 0 where
   pub place : ℕ
   pub component : Component
   pub table : Table
-
-abbrev pub most_across : Frame → ℕ
-most_across frame = greatest (λ f. f.horizontal) (all_factors frame.components)
-
-abbrev pub most_down : Frame → ℕ
-most_down frame = greatest (λ f. f.vertical) (all_factors frame.components)
 
 -- The MCUs of a scan, across and down: of a component alone, its samples.
 unfoldable pub mcus_across : Frame → List LosslessCoding → ℕ
@@ -113,23 +92,3 @@ samples_from samples place [] = Ok []
 samples_from samples place (c ∷ more) =
     needed (slice_index_or samples place None) >>= (λ plane.
     samples_from samples (place + 1) more >>= (λ others. Ok (plane ∷ others)))
-
--- ---- pictures
-
-abbrev pub layer_of : Component → List ℕ → Layer
-layer_of c plane = record {
-  samples = plane;
-  width = c.width;
-  horizontal = c.factors.horizontal;
-  vertical = c.factors.vertical;
-}
-
-unfoldable pub layers_of : List Component → List (List ℕ) → List Layer
-layers_of (c ∷ components) (plane ∷ planes) = layer_of c plane ∷ layers_of components planes
-layers_of _ _ = []
-
--- the picture of a lossless frame
-unfoldable pub lossless_picture : Frame → List (List ℕ) → List ℕ
-lossless_picture frame planes =
-    picture_bytes frame.precision (most_across frame) (most_down frame) frame.width frame.height
-    (layers_of frame.components planes)

@@ -30,7 +30,6 @@ use Rattle.jpeg_streams.specs.Scans.{Arrays, zero_arrays, no_table, arrays_at}
 use Rattle.jpeg_lossless.specs.Scans.{scan_at}
 use Rattle.jpeg_streams.specs.LosslessScans.{LosslessCoding, lossless_codings}
 use Rattle.jpeg_streams.specs.LosslessScans.{mcus_down, way_of, with_samples}
-use Rattle.jpeg_streams.specs.LosslessScans.{without_factors}
 use Rattle.jpeg_streams.specs.Needed.{first_of, needed}
 use Rattle.jpeg_streams.specs.declared.before.Before.{Before}
 use Rattle.jpeg_streams.specs.declared.before.Before.TheVariants.{FirstScan, LaterScan}
@@ -253,7 +252,7 @@ lossless_scan found frame scan bytes = do
 abbrev pub scan_by : CodingProcess → Found → Frame → Scan → List ℕ → Outcome Turn
 scan_by DctSequential found frame scan bytes = blocks_scan found frame scan bytes
 scan_by DctProgressive found frame scan bytes = blocks_scan found frame scan bytes
-scan_by Lossless found frame scan bytes = lossless_scan found (without_factors frame) scan bytes
+scan_by Lossless found frame scan bytes = lossless_scan found frame scan bytes
 
 unfoldable pub scan_segment : Found → List ℕ → Outcome Turn
 scan_segment found bytes = do

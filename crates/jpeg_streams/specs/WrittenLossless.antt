@@ -1,24 +1,25 @@
 -- Lossless streams as a writer emits them for samples (T.81, B.2.1 and Annex H). Nothing here
 -- speaks of reading.
-use Rattle.std.specs.Prelude.{◌≡◌, ◌⊎◌, true, ℕ, suc, ◌*◌, ◌≤◌, List, [], ◌∷◌, ◌++◌, length, map}
-use Rattle.std.specs.Prelude.{None, slice_index_or, Some}
+use Rattle.std.specs.Prelude.{◌≡◌, ◌⊎◌, true, ℕ, suc, ◌+◌, ◌*◌, ◌/◌, ◌≤◌, List, [], ◌∷◌, ◌++◌}
+use Rattle.std.specs.Prelude.{drop, length, map, take, None, slice_index_or, Some}
 use Rattle.std.specs.List.{AllByRecursion, concat, range_with_len}
-use Rattle.jpeg_bits.specs.Codes.{Table}
 use Rattle.jpeg_segments.specs.declared.parser.CodingProcess.TheVariants.{Lossless}
-use Rattle.jpeg_segments.specs.Frame.{Factors, Frame}
+use Rattle.jpeg_segments.specs.Frame.{Component, Frame}
 use Rattle.jpeg_segments.specs.ScanHeader.{predictor_by}
 use Rattle.jpeg_segments.specs.ScanHeaders.{Choice, IsScan, ScanHeader, scan_payload}
 use Rattle.jpeg_segments.specs.WrittenSegments.{code_of, FrameHeader, Header, MayStand, payload_of}
 use Rattle.jpeg_segments.specs.WrittenSegments.{Segment, sized}
-use Rattle.jpeg_lossless.specs.Codings.{part_by}
-use Rattle.jpeg_lossless.specs.Pictures.{sample_bytes}
+use Rattle.jpeg_lossless.specs.Differences.{Part}
+use Rattle.jpeg_lossless.specs.Pictures.{most_across, most_down, sample_bytes}
 use Rattle.jpeg_lossless.specs.Places.{at_place}
-use Rattle.jpeg_lossless.specs.Prediction.{start_of}
-use Rattle.jpeg_lossless.specs.Scans.{rows_of_interval, Way}
+use Rattle.jpeg_lossless.specs.Scans.{rows_of_interval}
 use Rattle.jpeg_lossless.specs.Written.{WritesIntervals}
 use Rattle.jpeg_bits.specs.Written.{marker}
 use Rattle.jpeg_streams.specs.InTurn.{IsIn}
-use Rattle.jpeg_streams.specs.SaidSegments.{found_after}
+use Rattle.jpeg_streams.specs.LosslessScans.{LosslessCoding, mcus_across, mcus_down, parts_of}
+use Rattle.jpeg_streams.specs.LosslessScans.{way_of}
+use Rattle.jpeg_streams.specs.Needed.{first_of}
+use Rattle.jpeg_streams.specs.SaidSegments.{found_after, IsUpsampled}
 use Rattle.jpeg_streams.specs.Found.{nothing_found, Found}
 
 -- By its place in the frame, a component's lines of samples.
@@ -27,20 +28,14 @@ Samples = ℕ → List (List ℕ)
 
 -- ---- segments
 
--- sampling factors of 1
-pub record IsOne (c : Factors) : Type 0 where
-  pub horizontal : c.horizontal ≡ 1
-  pub vertical : c.vertical ≡ 1
-
--- A frame header SOF3 of 2 to 16 bits, with one, three or four components. Each has a sample of
--- each pixel: there is one component, or all sampling factors are 1.
+-- A frame header SOF3 of 2 to 16 bits, with one, three or four components that can be upsampled.
 pub record HasSamples (number : ℕ) (h : FrameHeader) : Type 0 where
   pub lossless : number ≡ 3
   pub least : 2 ≤ h.precision
   pub most : h.precision ≤ 16
   pub counted :
       (length h.components ≡ 1) ⊎ ((length h.components ≡ 3) ⊎ (length h.components ≡ 4))
-  pub whole : (length h.components ≡ 1) ⊎ AllByRecursion IsOne h.components
+  pub upsampled : AllByRecursion (IsUpsampled h) h.components
 
 abbrev pub IsLossless : Segment → Type 0
 IsLossless (Header number h) = HasSamples number h
@@ -52,40 +47,50 @@ StandsInLossless said s = MayStand said.frame s × IsLossless s
 
 -- ---- a scan
 
--- The tables in force at the destinations that the components of a scan name.
-unfoldable pub HaveTables : Found → List Choice → List Table → Type 0
-HaveTables said [] [] = Unit {0}
-HaveTables said (c ∷ choices) (t ∷ tables) =
-    (slice_index_or said.huffman.dc c.dc None ≡ Some t) × HaveTables said choices tables
-HaveTables said _ _ = ⊥
+-- A component that a scan names, and the table in force at the destination that it names.
+pub record IsCoding (said : Found) (frame : Frame) (c : Choice) (k : LosslessCoding) : Type 0 where
+  pub stands : k.place ≡ c.component
+  pub component : first_of (drop c.component frame.components) ≡ Some k.component
+  pub table : slice_index_or said.huffman.dc c.dc None ≡ Some k.table
 
--- A restart interval is none, some whole lines, or at least the whole scan.
+unfoldable pub AreCodings : Found → Frame → List Choice → List LosslessCoding → Type 0
+AreCodings said frame [] [] = Unit {0}
+AreCodings said frame (c ∷ choices) (k ∷ codings) =
+    IsCoding said frame c k × AreCodings said frame choices codings
+AreCodings said frame _ _ = ⊥
+
+-- A restart interval is none, some whole rows of MCUs, or at least the whole scan.
 pub data IsInterval (wide high : ℕ) : ℕ → Type 0 where
   no_interval : IsInterval wide high 0
-  whole_lines : (n : ℕ) → IsInterval wide high (suc n * wide)
+  whole_rows : (n : ℕ) → IsInterval wide high (suc n * wide)
   whole_scan : (n : ℕ) → wide * high ≤ n → IsInterval wide high n
 
--- How a scan is coded by a selection and these tables, without a point transform: an MCU has a
--- sample of each component.
-abbrev pub written_way : Frame → ℕ → List Table → Way
-written_way frame selection tables = record {
-  wide = frame.width;
-  selection = predictor_by selection;
-  start = start_of frame.precision 0;
-  parts = map (part_by frame.width frame.height) tables;
-}
+-- the lines of a component in the MCUs of a scan, without padding
+abbrev pub own_lines : Part → List (List ℕ) → List (List ℕ)
+own_lines p lines = map (take p.width) (take p.height lines)
+
+-- The lines of each component in the MCUs of a scan are its samples, with any padding to the right
+-- and below.
+unfoldable pub HoldSamples
+    : Samples → List LosslessCoding → List Part → List (List (List ℕ)) → Type 0
+HoldSamples samples [] [] [] = Unit {0}
+HoldSamples samples (k ∷ codings) (p ∷ parts) (lines ∷ more) =
+    (own_lines p lines ≡ samples k.place) × HoldSamples samples codings parts more
+HoldSamples samples _ _ _ = ⊥
 
 -- The data of a scan: the samples of its components, by the tables in force, without a point
 -- transform.
 pub record WritesScan (said : Found) (frame : Frame) (h : ScanHeader) (samples : Samples)
     (bytes : List ℕ) : Type 0 where
-  pub tables : List Table
-  pub in_force : HaveTables said h.choices tables
+  pub codings : List LosslessCoding
+  pub coded : AreCodings said frame h.choices codings
   pub point : h.low ≡ 0
-  pub interval : IsInterval frame.width frame.height said.restart
-  pub written : WritesIntervals (written_way frame h.first tables)
-      (rows_of_interval frame.width frame.height said.restart) 0 frame.height
-      (map (λ c. samples c.component) h.choices) bytes
+  pub interval : IsInterval (mcus_across frame codings) (mcus_down frame codings) said.restart
+  pub lines : List (List (List ℕ))
+  pub held : HoldSamples samples codings (parts_of codings) lines
+  pub written : WritesIntervals (way_of frame (predictor_by h.first) 0 codings)
+      (rows_of_interval (mcus_across frame codings) (mcus_down frame codings) said.restart) 0
+      (mcus_down frame codings) lines bytes
 
 -- ---- a stream
 
@@ -121,14 +126,18 @@ pub record WritesSamples (samples : Samples) (bytes : List ℕ) (final : Found) 
 
 -- ---- its picture
 
--- The bytes of a pixel: of each component the sample in its column and line.
-abbrev pub pixel_of : ℕ → ℕ → Samples → ℕ → ℕ → List ℕ
-pixel_of precision count samples y x =
-    concat (map (λ k. sample_bytes precision (at_place (samples k) x y)) (range_with_len 0 count))
+-- The bytes of pixel (x, y): of each component, from a place on, the sample that its factors name.
+unfoldable pub pixel_from : Frame → Samples → ℕ → ℕ → ℕ → List Component → List ℕ
+pixel_from frame samples y x place [] = []
+pixel_from frame samples y x place (c ∷ more) =
+    sample_bytes frame.precision
+    (at_place (samples place) (x * c.factors.horizontal / most_across frame)
+    (y * c.factors.vertical / most_down frame))
+    ++ pixel_from frame samples y x (place + 1) more
 
 abbrev pub samples_line : Frame → Samples → ℕ → List ℕ
 samples_line frame samples y =
-    concat (map (pixel_of frame.precision (length frame.components) samples y)
+    concat (map (λ x. pixel_from frame samples y x 0 frame.components)
     (range_with_len 0 frame.width))
 
 -- The picture of samples: its pixels, line by line.

@@ -1,0 +1,29 @@
+-- The picture of samples where all components have the same sampling factors.
+use Rattle.std.specs.Prelude.{◌≡◌, ℕ, List, length, map}
+use Rattle.std.specs.List.{AllByRecursion, concat, range_with_len}
+use Rattle.jpeg_segments.specs.Frame.{Frame}
+use Rattle.jpeg_lossless.specs.Pictures.{most_across, most_down, sample_bytes}
+use Rattle.jpeg_lossless.specs.Places.{at_place}
+use Rattle.jpeg_streams.specs.WrittenLossless.{Samples}
+
+-- The factors of each component are the greatest, as where there is one component, or all are 1.
+abbrev pub HasEqualFactors : Frame → Type 0
+HasEqualFactors frame =
+    AllByRecursion
+    (λ c. (c.factors.horizontal ≡ most_across frame) × (c.factors.vertical ≡ most_down frame))
+    frame.components
+
+-- The bytes of a pixel: of each component the sample in its column and line.
+abbrev pub plain_pixel : ℕ → ℕ → Samples → ℕ → ℕ → List ℕ
+plain_pixel precision count samples y x =
+    concat (map (λ k. sample_bytes precision (at_place (samples k) x y)) (range_with_len 0 count))
+
+abbrev pub plain_line : Frame → Samples → ℕ → List ℕ
+plain_line frame samples y =
+    concat (map (plain_pixel frame.precision (length frame.components) samples y)
+    (range_with_len 0 frame.width))
+
+-- The samples, pixel by pixel, line by line.
+unfoldable pub plain_picture : Frame → Samples → List ℕ
+plain_picture frame samples =
+    concat (map (plain_line frame samples) (range_with_len 0 frame.height))
