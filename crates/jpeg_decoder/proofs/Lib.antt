@@ -29,4 +29,5 @@ mod LosslessReads
 mod WrittenSamples
 mod WrittenLosslessStreams
 mod LosslessPixels
+mod PlainPixels
 mod DecodedSamples

@@ -1,26 +1,28 @@
 -- The picture of samples that are written is their pixels.
-use Rattle.std.proofs.Common.{◌≡◌, ℕ, zero, suc, ◌+◌, ◌-◌, ◌*◌, ◌/◌, ◌<◌, ◌≤◌, List, [], ◌∷◌, ◌++◌, map, length}
+use Rattle.std.proofs.Common.{◌≡◌, ℕ, zero, suc, ◌+◌, ◌-◌, ◌*◌, ◌/◌, ◌<◌, ◌≤◌, List, [], ◌∷◌, ◌++◌, drop, map, length}
 use Rattle.std.proofs.Common.{get_or, Ok, Some, refl, sym, ap, ap₂, ◌∙◌, subst, arith}
 use Rattle.std.specs.Prelude.{slice_index}
 use Rattle.std.specs.List.{AllByRecursion, concat, range_with_len}
 use Rattle.std.proofs.lemmas.List.{get_or_append_left, get_or-append_right}
 use Rattle.std.proofs.Math.Nat.{add-mul, one-mul}
-use Rattle.std.proofs.lemmas.List.FromFn.{length-map-range_with_len}
-use Rattle.jpeg_segments.specs.Frame.{Frame}
-use Rattle.jpeg_lossless.specs.Pictures.{layer_by, line_bytes, pixel_bytes, picture_bytes, sample_bytes}
-use Rattle.jpeg_lossless.specs.Places.{at_place}
-use Rattle.jpeg_lossless.specs.Written.{AreLines}
+use Rattle.jpeg_segments.specs.Frame.{Component, Frame}
+use Rattle.jpeg_lossless.specs.Pictures.{layers_of, line_bytes, lossless_picture, most_across, most_down, pixel_bytes}
+use Rattle.jpeg_lossless.specs.Pictures.{picture_bytes, sample_bytes}
+use Rattle.jpeg_lossless.specs.Places.{AreEven, at_place}
+use Rattle.jpeg_lossless.proofs.ImageLoops.{inside}
 use Rattle.jpeg_streams.specs.declared.settings.Settings.{Settings}
+use Rattle.jpeg_streams.specs.Needed.{first_of}
 use Rattle.jpeg_streams.specs.Stream.{meaning, sized_meaning, told_of}
 use Rattle.jpeg_streams.specs.Found.{nothing_found, Found}
 use Rattle.jpeg_streams.specs.WrittenLossless.{IsWithin, Samples, Writes, WritesSamples, closed, samples_line}
 use Rattle.jpeg_streams.specs.InTurn.{IsIn}
-use Rattle.jpeg_streams.specs.WrittenLossless.{picture_of_samples, pixel_of, said_after_scan, scan, segment}
+use Rattle.jpeg_streams.specs.WrittenLossless.{picture_of_samples, pixel_from, said_after_scan, scan, segment}
 use Rattle.jpeg_streams.specs.SaidSegments.{found_after}
-use Rattle.jpeg_streams.proofs.PlainFrames.{picture-plain}
-use Rattle.jpeg_decoder.proofs.WrittenLosslessStreams.{all-in, drawn, final-framed, samples-meant, samples-sized}
-use Rattle.jpeg_decoder.proofs.WrittenLosslessStreams.{some-same}
-use Rattle.jpeg_decoder.proofs.WrittenSamples.{HasSize, places_of, planes_for, scan-sized}
+use Rattle.jpeg_streams.proofs.LosslessFrames.{IsShaped}
+use Rattle.jpeg_streams.proofs.LosslessSizes.{IsMade, made-reaches, some-across, some-down}
+use Rattle.jpeg_decoder.proofs.WrittenLosslessStreams.{IsSaid, all-in, drawn, final-framed, nothing-said, samples-meant}
+use Rattle.jpeg_decoder.proofs.WrittenLosslessStreams.{samples-sized, segment-said, some-same}
+use Rattle.jpeg_decoder.proofs.WrittenSamples.{HasSize, SizedAt, places_of, planes_for, scan-sized}
 
 -- ---- sizes
 
@@ -29,64 +31,104 @@ all-append : {A : Type 0} (P : A → Type 0) (xs ys : List A) → AllByRecursion
 all-append P [] ys h g = g
 all-append P (x ∷ xs) ys h g = (h.0, all-append P xs ys h.1 g)
 
--- the samples of the component at a place are those of each pixel
-abbrev SizedAt : Frame → Samples → ℕ → Type 0
-SizedAt frame samples k = HasSize frame.width frame.height (samples k)
-
 sent-sized : (samples : Samples) (frame : Frame) (said : Found) (sent bytes : List ℕ) (final : Found)
-    → Writes samples said sent bytes final → final.frame ≡ Some frame → AllByRecursion (SizedAt frame samples) sent
-    → AllByRecursion (SizedAt frame samples) (range_with_len 0 (length frame.components))
-sent-sized samples frame said sent bytes final (closed said' sent' f fill framed lossless all) e h =
-    all-in (SizedAt frame samples) (range_with_len 0 (length frame.components)) sent h
+    → Writes samples said sent bytes final → IsSaid said → final.frame ≡ Some frame
+    → AllByRecursion (SizedAt samples frame.components) sent
+    → AllByRecursion (SizedAt samples frame.components) (range_with_len 0 (length frame.components))
+sent-sized samples frame said sent bytes final (closed said' sent' f fill framed lossless all) is e h =
+    all-in (SizedAt samples frame.components) (range_with_len 0 (length frame.components)) sent h
     (subst (λ (g : Frame). AllByRecursion (λ k. IsIn k sent) (range_with_len 0 (length g.components)))
     (some-same f frame (sym framed ∙ e)) all)
-sent-sized samples frame said sent bytes final (segment said' final' sent' fill s more may w) e h =
-    sent-sized samples frame (found_after said s) sent more final w e h
-sent-sized samples frame said sent bytes final (scan said' final' sent' f fill h' data_bytes more framed lossless is
-    data_of w) e h =
+sent-sized samples frame said sent bytes final (segment said' final' sent' fill s more may w) is e h =
+    sent-sized samples frame (found_after said s) sent more final w (segment-said said s may is) e h
+sent-sized samples frame said sent bytes final (scan said' final' sent' f fill h' data_bytes more framed lossless header
+    data_of w) is e h =
     let same = some-same f frame (sym (final-framed samples f (said_after_scan said) _ more final w framed) ∙ e) in
-    sent-sized samples frame (said_after_scan said) _ more final w e
-    (all-append (SizedAt frame samples) (places_of h'.choices) sent
-    (subst (λ (g : Frame). AllByRecursion (SizedAt g samples) (places_of h'.choices)) same
-    (scan-sized said f h' samples data_bytes data_of)) h)
+    sent-sized samples frame (said_after_scan said) _ more final w (record { tables = is.tables; shaped = is.shaped }) e
+    (all-append (SizedAt samples frame.components) (places_of h'.choices) sent
+    (subst (λ (g : Frame). AllByRecursion (SizedAt samples g.components) (places_of h'.choices)) same
+    (scan-sized said f h' samples data_bytes (is.shaped f framed) data_of)) h)
+
+-- the frame at the end is one that was said
+final-shaped : (samples : Samples) (frame : Frame) (said : Found) (sent bytes : List ℕ) (final : Found)
+    → Writes samples said sent bytes final → IsSaid said → final.frame ≡ Some frame → IsShaped frame
+final-shaped samples frame said sent bytes final (closed said' sent' f fill framed lossless all) is e = is.shaped frame e
+final-shaped samples frame said sent bytes final (segment said' final' sent' fill s more may w) is e =
+    final-shaped samples frame (found_after said s) sent more final w (segment-said said s may is) e
+final-shaped samples frame said sent bytes final (scan said' final' sent' f fill h' data_bytes more framed lossless
+    header data_of w) is e =
+    final-shaped samples frame (said_after_scan said) _ more final w
+    (record { tables = is.tables; shaped = is.shaped }) e
+
+-- each component, from a place on, has samples of its size
+AreAll : Frame → Samples → ℕ → List Component → Type 0
+AreAll frame samples place [] = Unit {0}
+AreAll frame samples place (c ∷ more) =
+    (HasSize (samples place) c × IsMade frame c) × AreAll frame samples (place + 1) more
+
+drop-next : {A : Type 0} (n : ℕ) (xs : List A) (x : A) (more : List A) → drop n xs ≡ x ∷ more → drop (suc n) xs ≡ more
+drop-next zero [] x more e = absurd (let n : ⊥ = cc in n)
+drop-next (suc n) [] x more e = absurd (let n : ⊥ = cc in n)
+drop-next zero (y ∷ xs) x more e = cc
+drop-next (suc n) (y ∷ xs) x more e = drop-next n xs x more e
+
+from-places : (frame : Frame) (samples : Samples) (all : List Component) (place : ℕ) (cs : List Component)
+    → drop place all ≡ cs → AllByRecursion (IsMade frame) cs
+    → AllByRecursion (SizedAt samples all) (range_with_len place (length cs)) → AreAll frame samples place cs
+unfolding AreAll
+from-places frame samples all place [] e made h = tt
+from-places frame samples all place (c ∷ cs) e made h =
+    let next : place + 1 ≡ suc place = omega arith in (
+      (h.0 c (ap first_of e), made.0),
+      from-places frame samples all (place + 1) cs
+          (ap (λ (n : ℕ). drop n all) next ∙ drop-next place all c cs e) made.1 h.1,
+    )
 
 -- ---- lines in one list
 
 abbrev get_or_zero : List ℕ → ℕ → ℕ
 get_or_zero l i = get_or l i 0
 
-at-flat : (w x : ℕ) (lines : List (List ℕ)) (y : ℕ) → AreLines w lines → y < length lines → x < w
+at-flat : (w x : ℕ) (lines : List (List ℕ)) (y : ℕ) → AreEven w lines → y < length lines → x < w
     → slice_index (concat lines) (y * w + x) ≡ at_place lines x y
+unfolding AreEven
 at-flat w x [] y even h k = absurd (omega arith)
 at-flat w x (l ∷ lines) zero even h k =
-    let long = even.0.0 in
+    let long = even.0 in
     let i : zero * w + x ≡ x = omega arith in
     ap (get_or_zero (l ++ concat lines)) i ∙ get_or_append_left l (concat lines) 0 x (omega arith)
 at-flat w x (l ∷ lines) (suc y) even h k =
-    let long = even.0.0 in
+    let long = even.0 in
     let one = one-mul w in
     let sum = add-mul y 1 w in
     let next : suc y * w ≡ (y + 1) * w = ap (λ (n : ℕ). n * w) (omega arith) in
     let i : suc y * w + x - w ≡ y * w + x = omega arith in
-    get_or-append_right l (concat lines) w (suc y * w + x) 0 even.0.0 (omega arith) ∙ ap (get_or_zero (concat lines)) i
+    get_or-append_right l (concat lines) w (suc y * w + x) 0 even.0 (omega arith) ∙ ap (get_or_zero (concat lines)) i
     ∙ at-flat w x lines y even.1 (omega arith) k
 
 -- ---- pixels
 
-pixel-same : (precision wide high : ℕ) (samples : Samples) (ks : List ℕ) (x y : ℕ) → x < wide → y < high
-    → AllByRecursion (λ k. HasSize wide high (samples k)) ks
-    → pixel_bytes precision 1 1 (map (layer_by wide) (planes_for samples ks)) y x
-    ≡ concat (map (λ k. sample_bytes precision (at_place (samples k) x y)) ks)
-pixel-same precision wide high samples [] x y h g all = refl
-pixel-same precision wide high samples (k ∷ ks) x y h g all =
-    let count = all.0.count in
-    let row : y * 1 / 1 ≡ y = omega arith in
-    let column : x * 1 / 1 ≡ x = omega arith in
+pixel-same : (frame : Frame) (samples : Samples) (x y : ℕ) → x < frame.width → y < frame.height
+    → (place : ℕ) (cs : List Component) → AreAll frame samples place cs
+    → pixel_bytes frame.precision (most_across frame) (most_down frame)
+    (layers_of cs (planes_for samples (range_with_len place (length cs)))) y x
+    ≡ pixel_from frame samples y x place cs
+unfolding AreAll pixel_from layers_of
+pixel-same frame samples x y hx hy place [] all = refl
+pixel-same frame samples x y hx hy place (c ∷ cs) all =
+    let size = all.0.0 in
+    let made = all.0.1 in
+    let reach = made-reaches frame c made in
+    let column = inside x frame.width c.factors.horizontal (most_across frame) c.width hx made.horizontal
+    (some-across frame) reach.across in
+    let row = inside y frame.height c.factors.vertical (most_down frame) c.height hy made.vertical
+    (some-down frame) reach.down in
+    let count = size.count in
     ap₂ (λ (a b : List ℕ). a ++ b)
-    (ap (sample_bytes precision)
-    (ap₂ (λ (a b : ℕ). slice_index (concat (samples k)) (a * wide + b)) row column
-    ∙ at-flat wide x (samples k) y all.0.lines_are (omega (arith, g, count)) h))
-    (pixel-same precision wide high samples ks x y h g all.1)
+    (ap (sample_bytes frame.precision)
+    (at-flat c.width (x * c.factors.horizontal / most_across frame) (samples place)
+    (y * c.factors.vertical / most_down frame) size.even (omega (arith, row, count)) column))
+    (pixel-same frame samples x y hx hy (place + 1) cs all.1)
 
 mapped-same : {A : Type 0} (f g : ℕ → A) (from n most : ℕ) → from + n ≤ most → ((x : ℕ) → x < most → f x ≡ g x)
     → map f (range_with_len from n) ≡ map g (range_with_len from n)
@@ -94,29 +136,29 @@ mapped-same f g from zero most le same = refl
 mapped-same f g from (suc n) most le same =
     ap₂ (λ a l. a ∷ l) (same from (omega arith)) (mapped-same f g (from + 1) n most (omega arith) same)
 
-samples-shown : (frame : Frame) (samples : Samples)
-    → AllByRecursion (SizedAt frame samples) (range_with_len 0 (length frame.components))
+samples-shown : (frame : Frame) (samples : Samples) → AreAll frame samples 0 frame.components
     → drawn frame samples ≡ picture_of_samples frame samples
-unfolding picture_of_samples picture_bytes
+unfolding picture_of_samples lossless_picture picture_bytes
 samples-shown frame samples all =
-    let ks = range_with_len 0 (length frame.components) in
-    let layers = map (layer_by frame.width) (planes_for samples ks) in
-    picture-plain frame (planes_for samples ks) (length-map-range_with_len (λ (k : ℕ). concat (samples k)) 0
-    (length frame.components))
-    ∙ ap (λ (l : List (List ℕ)). concat l)
-    (mapped-same (line_bytes frame.precision 1 1 frame.width layers) (samples_line frame samples) 0 frame.height
+    let a = most_across frame in
+    let d = most_down frame in
+    let layers = layers_of frame.components (planes_for samples (range_with_len 0 (length frame.components))) in
+    ap (λ (l : List (List ℕ)). concat l)
+    (mapped-same (line_bytes frame.precision a d frame.width layers) (samples_line frame samples) 0 frame.height
     frame.height
     (omega arith)
     (λ y k. ap (λ (l : List (List ℕ)). concat l)
-    (mapped-same (pixel_bytes frame.precision 1 1 layers y) (pixel_of frame.precision (length frame.components) samples
-    y) 0 frame.width frame.width (omega arith)
-    (λ x h. pixel-same frame.precision frame.width frame.height samples ks x y h k all))))
+    (mapped-same (pixel_bytes frame.precision a d layers y) (λ x. pixel_from frame samples y x 0 frame.components)
+    0 frame.width frame.width (omega arith)
+    (λ x h. pixel-same frame samples x y h k 0 frame.components all))))
 
 shown : (samples : Samples) (bytes : List ℕ) (final : Found) (frame : Frame) → WritesSamples samples bytes final
     → final.frame ≡ Some frame
     → drawn frame samples ≡ picture_of_samples frame samples
 shown samples bytes final frame w e =
-    samples-shown frame samples (sent-sized samples frame nothing_found [] w.after final w.written e tt)
+    let sized = sent-sized samples frame nothing_found [] w.after final w.written nothing-said e tt in
+    let is = final-shaped samples frame nothing_found [] w.after final w.written nothing-said e in
+    samples-shown frame samples (from-places frame samples frame.components 0 frame.components refl is.made sized)
 
 -- ---- the whole
 

@@ -1,5 +1,5 @@
 -- A lossless scan as it is read: its tables, its samples and where they are put.
-use Rattle.std.proofs.Common.{◌≡◌, ℕ, ℤ, zero, suc, ◌+◌, ◌*◌, ◌<◌, ◌≤◌, Bool, true, List, [], ◌∷◌, ◌++◌, All}
+use Rattle.std.proofs.Common.{◌≡◌, ℕ, ℤ, zero, suc, ◌+◌, ◌*◌, ◌<◌, ◌≤◌, ◌==◌, Bool, true, false, List, [], ◌∷◌, ◌++◌, All}
 use Rattle.std.proofs.Common.{length, map, drop, get_or, set, Option, Some, None, Result, Ok, Err, refl, sym, ap}
 use Rattle.std.proofs.Common.{ap₂, ◌∙◌, subst, arith}
 use Rattle.std.specs.Prelude.{IfErr, IfOk, MatchResult, OnOk, option_map, slice_index_or, slice_set}
@@ -14,35 +14,38 @@ use Rattle.jpeg_bits.specs.Reading.{Answers, Fault, Malformed, Names, Outcome, �
 use Rattle.jpeg_bits.specs.Stream.{Stream}
 use Rattle.jpeg_bits.specs.declared.error.Error.{Error}
 use Rattle.jpeg_bits.specs.declared.marker.Marker.{Marker}
-use Rattle.jpeg_bits.specs.declared.scan.Predictor.{Predictor}
 use Rattle.jpeg_bits.proofs.Loops.{Continues, Continues-err, Names-through, bind_at, bind_err}
-use Rattle.jpeg_segments.specs.Frame.{Frame, Component}
+use Rattle.jpeg_segments.specs.Frame.{Component, Factors, Frame, ceiling}
+use Rattle.jpeg_segments.specs.FrameView.{component_in, factors_in}
+use Rattle.jpeg_segments.specs.declared.parser.Component as declared
 use Rattle.jpeg_segments.specs.ScanHeader.{Scan}
 use Rattle.jpeg_segments.specs.declared.parser.CodingProcess.TheVariants.{Lossless}
-use Rattle.jpeg_lossless.specs.Codings.{part_by, way_by}
+use Rattle.jpeg_lossless.specs.Codings.{AreWhole, IsCovered, way_by}
+use Rattle.jpeg_lossless.specs.Differences.{Part}
 use Rattle.jpeg_lossless.specs.declared.scan.Coding.{Coding}
-use Rattle.jpeg_lossless.specs.Pictures.{AreOfSize, layer_by, picture_bytes}
+use Rattle.jpeg_lossless.specs.Pictures.{ArePlanesOf, lossless_picture, most_across, most_down}
 use Rattle.jpeg_lossless.specs.Prediction.{start_of}
-use Rattle.jpeg_lossless.specs.Scans.{Way, scan_at}
+use Rattle.jpeg_lossless.specs.Scans.{scan_at}
 use Rattle.jpeg_streams.specs.InTurn.{AreArrays}
-use Rattle.jpeg_streams.specs.LosslessScans.{LosslessCoding, lossless_coding, lossless_codings, mcus_down}
-use Rattle.jpeg_streams.specs.LosslessScans.{one_by_one, samples_from, tables_in, way_of, with_samples}
-use Rattle.jpeg_streams.specs.LosslessScans.{without_factors}
+use Rattle.jpeg_streams.specs.LosslessScans.{LosslessCoding, lossless_coding, lossless_codings, mcus_across}
+use Rattle.jpeg_streams.specs.LosslessScans.{mcus_down, part_of, parts_of, samples_from, tables_in, with_samples}
+use Rattle.jpeg_decoder.specs.LosslessParts.{mcus_high, mcus_wide, no_component, part_by, parts_at}
 use Rattle.jpeg_streams.specs.Needed.{first_of, needed}
 use Rattle.jpeg_decoder.specs.Scanning.{arrays_in}
 use Rattle.jpeg_streams.specs.Scans.{Arrays, zero_arrays}
 use Rattle.jpeg_decoder.specs.declared.decoded.Decoded.{Decoded}
-use Rattle.jpeg_streams.specs.Sound.{IsDecodedFrame, IsSampled, IsSound}
+use Rattle.jpeg_streams.specs.Sound.{AreSampled, IsDecodedFrame, IsSound}
 use Rattle.jpeg_decoder.specs.Steps.{IsRefusal, after_all, samples_read, with_decoded}
 use Rattle.jpeg_streams.specs.FoundPictures.{samples_picture}
 use Rattle.jpeg_streams.specs.ScanSegments.{after_samples, scan_samples, arrays_before}
 use Rattle.jpeg_streams.specs.Found.{Found}
 use Rattle.jpeg_streams.proofs.AcceptedTurns.{bind-ok, ok-same, then-ok}
-use Rattle.jpeg_streams.proofs.PlainFrames.{codings-plain, down-plain, picture-plain, way-plain}
+use Rattle.jpeg_streams.proofs.LosslessSizes.{IsMade, across-some, all-at, all-covered, decoded-made, down-some}
 use Rattle.jpeg_decoder.specs.Seen.{planes_in}
 use Rattle.jpeg_decoder.proofs.PutLoops.{drop-set, seen-at}
 use Rattle.jpeg_decoder.proofs.ScanReads.{HasRead, last-step}
-use Rattle.jpeg_streams.proofs.Soundness.{count-few, decoded-count}
+use Rattle.jpeg_streams.proofs.Soundness.{count-few, decoded-count, decoded-some}
+use Rattle.std.proofs.lemmas.Bool.Decides.{nat_tests}
 use Rattle.jpeg_bits.specs.declared.error.Error.TheVariants.{OutOfMemory}
 
 -- ---- tables, slot after slot
@@ -114,12 +117,19 @@ tables-all ts ds slot front whole h w =
 -- ---- the components of a scan, by its tables
 
 -- Components by their places and their tables.
+unfoldable pub AreOf : List Component → List LosslessCoding → List ℕ → List Table → Type 0
+AreOf cs [] [] [] = Unit {0}
+AreOf cs (k ∷ codings) (p ∷ places) (t ∷ ts) =
+    ((first_of (drop p cs) ≡ Some k.component) × (k.table ≡ t)) × AreOf cs codings places ts
+AreOf cs _ _ _ = ⊥
+
 pub record AreCodings (tables : List (Option Table)) (frame : Frame) (places ds : List ℕ) (ts : List Table) : Type
     0 where
   pub codings : List LosslessCoding
   pub are : lossless_codings tables frame places ds ≡ Ok codings
   pub places_are : map (λ k. k.place) codings ≡ places
   pub tables_are : map (λ k. k.table) codings ≡ ts
+  pub of : AreOf frame.components codings places ts
 
 first-at : (n : ℕ) (cs : List Component) → n < length cs → (c : Component) × (first_of (drop n cs) ≡ Some c)
 first-at n [] h = absurd (omega arith)
@@ -129,9 +139,16 @@ first-at (suc n) (c ∷ cs) h = first-at n cs (omega arith)
 pub codings-by-tables : (tables : List (Option Table)) (frame : Frame) (places ds : List ℕ) (ts : List Table)
     → AllByRecursion (λ place. place < length frame.components) places → length ds ≡ length places
     → tables_in tables ds ≡ Ok ts → AreCodings tables frame places ds ts
-unfolding lossless_codings lossless_coding tables_in
+unfolding lossless_codings lossless_coding tables_in AreOf
 codings-by-tables tables frame [] [] ts within long e =
-    record { codings = []; are = refl; places_are = refl; tables_are = ok-same [] ts e }
+    let none : [] ≡ ts = ok-same [] ts e in
+    record {
+      codings = [];
+      are = refl;
+      places_are = refl;
+      tables_are = none;
+      of = subst (AreOf frame.components [] []) none tt;
+    }
 codings-by-tables tables frame [] (d ∷ ds) ts within long e = absurd (omega arith)
 codings-by-tables tables frame (p ∷ places) [] ts within long e = absurd (omega arith)
 codings-by-tables tables frame (p ∷ places) (d ∷ ds) ts within long e =
@@ -149,6 +166,8 @@ codings-by-tables tables frame (p ∷ places) (d ∷ ds) ts within long e =
           (then-ok (lossless_codings tables frame places ds) _ rest.codings _ rest.are refl);
       places_are = ap (λ (l : List ℕ). p ∷ l) rest.places_are;
       tables_are = ap (λ (l : List Table). one.0 ∷ l) rest.tables_are ∙ ok-same (one.0 ∷ more.0) ts more.2;
+      of = subst (AreOf frame.components (k ∷ rest.codings) (p ∷ places)) (ok-same (one.0 ∷ more.0) ts more.2)
+          ((c.1, refl), rest.of);
     }
 
 pub codings-lacking : (tables : List (Option Table)) (frame : Frame) (places ds : List ℕ) (f : Fault)
@@ -175,35 +194,189 @@ codings-lacking tables frame (p ∷ places) (d ∷ ds) f within long e =
     go (Some x) h (Some table) (Ok others) r e k = absurd (let n : ⊥ = cc in n)
     go (Some x) h (Some table) (Err g) r e k = rw (k e) refl
 
--- ---- where factors are ignored
+-- ---- the MCUs of a scan
 
-pub plain-places : (frame : Frame) (places : List ℕ) → All (λ place. place < length frame.components) places
-    → AllByRecursion (λ place. place < length (without_factors frame).components) places
-plain-places frame places h =
-    subst (λ (n : ℕ). AllByRecursion (λ place. place < n) places) (sym (length-map frame.components (one_by_one frame)))
-    (recursion_from_All (λ place. place < length frame.components) places h)
+got : {A : Type 0} (n : ℕ) (xs : List A) (x d : A) → first_of (drop n xs) ≡ Some x → x ≡ get_or xs n d
+got zero [] x d e = absurd (let n : ⊥ = cc in n)
+got (suc n) [] x d e = absurd (let n : ⊥ = cc in n)
+got zero (y ∷ xs) x d e = cc
+got (suc n) (y ∷ xs) x d e = got n xs x d e
 
--- Samples are read of MCUs that are pixels.
-pub plain-read : (tables : List (Option Table)) (frame : Frame) (places ds : List ℕ) (ts : List Table)
-    (a : AreCodings tables (without_factors frame) places ds ts) (predictor : Predictor) (point restart : ℕ)
-    → scan_at (way_of (without_factors frame) predictor point a.codings)
-    (mcus_down (without_factors frame) a.codings) restart point
-    ≡ scan_at (record {
-      wide = frame.width;
-      selection = predictor;
-      start = start_of frame.precision point;
-      parts = map (part_by frame.width frame.height) ts;
-    }) frame.height restart point
-plain-read tables frame places ds ts a predictor point restart =
-    ap₂ (λ (w : Way) (high : ℕ). scan_at w high restart point)
-    (way-plain tables frame places ds a.codings predictor point a.are
-    ∙ ap (λ (l : List Table). record {
-      wide = frame.width;
-      selection = predictor;
-      start = start_of frame.precision point;
-      parts = map (part_by frame.width frame.height) l;
-    }) a.tables_are)
-    (down-plain frame a.codings (codings-plain tables frame places ds a.codings a.are))
+abbrev part : Bool → Component → Table → Part
+part is_alone c t = part_by is_alone c t
+
+several : (cs : List Component) (codings : List LosslessCoding) (places : List ℕ) (ts : List Table)
+    → AreOf cs codings places ts
+    → map (λ k. part_of k.component.factors.horizontal k.component.factors.vertical k) codings
+    ≡ parts_at false cs places ts
+unfolding AreOf parts_at
+several cs [] [] [] h = refl
+several cs [] [] (t ∷ ts) h = absurd h
+several cs [] (p ∷ places) ts h = absurd h
+several cs (k ∷ codings) [] ts h = absurd h
+several cs (k ∷ codings) (p ∷ places) [] h = absurd h
+several cs (k ∷ codings) (p ∷ places) (t ∷ ts) h =
+    ap₂ (λ (x : Part) (l : List Part). x ∷ l)
+    (ap₂ (part false) (got p cs k.component no_component h.0.0) h.0.1) (several cs codings places ts h.1)
+
+two : (n : ℕ) → (suc (suc n) == 1) ≡ false
+two n = grind (arith, nat_tests)
+
+pub parts-are : (cs : List Component) (codings : List LosslessCoding) (places : List ℕ) (ts : List Table)
+    → AreOf cs codings places ts → parts_of codings ≡ parts_at (length places == 1) cs places ts
+unfolding AreOf parts_of parts_at
+parts-are cs [] [] [] h = refl
+parts-are cs [] [] (t ∷ ts) h = absurd h
+parts-are cs [] (p ∷ places) ts h = absurd h
+parts-are cs (k ∷ codings) [] ts h = absurd h
+parts-are cs (k ∷ codings) (p ∷ places) [] h = absurd h
+parts-are cs (k ∷ []) (p ∷ []) (t ∷ []) h =
+    ap (λ (x : Part). x ∷ []) (ap₂ (part true) (got p cs k.component no_component h.0.0) h.0.1)
+parts-are cs (k ∷ []) (p ∷ []) (t ∷ u ∷ ts) h = absurd h.1
+parts-are cs (k ∷ []) (p ∷ q ∷ places) (t ∷ ts) h = absurd h.1
+parts-are cs (k ∷ j ∷ codings) (p ∷ []) (t ∷ ts) h = absurd h.1
+parts-are cs (k ∷ j ∷ codings) (p ∷ q ∷ places) (t ∷ ts) h =
+    several cs (k ∷ j ∷ codings) (p ∷ q ∷ places) (t ∷ ts) h
+    ∙ ap (λ (b : Bool). parts_at b cs (p ∷ q ∷ places) (t ∷ ts)) (sym (two (length places)))
+
+pub across-are : (frame : Frame) (codings : List LosslessCoding) (places : List ℕ) (ts : List Table)
+    → AreOf frame.components codings places ts → mcus_across frame codings ≡ mcus_wide frame places
+unfolding AreOf mcus_across mcus_wide
+across-are frame [] [] [] h = refl
+across-are frame [] [] (t ∷ ts) h = absurd h
+across-are frame [] (p ∷ places) ts h = absurd h
+across-are frame (k ∷ codings) [] ts h = absurd h
+across-are frame (k ∷ codings) (p ∷ places) [] h = absurd h
+across-are frame (k ∷ []) (p ∷ []) (t ∷ ts) h =
+    ap (λ (c : Component). c.width) (got p frame.components k.component no_component h.0.0)
+across-are frame (k ∷ []) (p ∷ q ∷ places) (t ∷ ts) h = absurd h.1
+across-are frame (k ∷ j ∷ codings) (p ∷ []) (t ∷ ts) h = absurd h.1
+across-are frame (k ∷ j ∷ codings) (p ∷ q ∷ places) (t ∷ ts) h = refl
+
+pub down-are : (frame : Frame) (codings : List LosslessCoding) (places : List ℕ) (ts : List Table)
+    → AreOf frame.components codings places ts → mcus_down frame codings ≡ mcus_high frame places
+unfolding AreOf mcus_down mcus_high
+down-are frame [] [] [] h = refl
+down-are frame [] [] (t ∷ ts) h = absurd h
+down-are frame [] (p ∷ places) ts h = absurd h
+down-are frame (k ∷ codings) [] ts h = absurd h
+down-are frame (k ∷ codings) (p ∷ places) [] h = absurd h
+down-are frame (k ∷ []) (p ∷ []) (t ∷ ts) h =
+    ap (λ (c : Component). c.height) (got p frame.components k.component no_component h.0.0)
+down-are frame (k ∷ []) (p ∷ q ∷ places) (t ∷ ts) h = absurd h.1
+down-are frame (k ∷ j ∷ codings) (p ∷ []) (t ∷ ts) h = absurd h.1
+down-are frame (k ∷ j ∷ codings) (p ∷ q ∷ places) (t ∷ ts) h = refl
+
+codings-made : (frame : Frame) (cs : List Component) (codings : List LosslessCoding) (places : List ℕ) (ts : List Table)
+    → AllByRecursion (IsMade frame) cs → AreOf cs codings places ts
+    → AllByRecursion (λ k. IsMade frame k.component) codings
+unfolding AreOf
+codings-made frame cs [] places ts made h = tt
+codings-made frame cs (k ∷ codings) [] ts made h = absurd h
+codings-made frame cs (k ∷ codings) (p ∷ places) [] made h = absurd h
+codings-made frame cs (k ∷ codings) (p ∷ places) (t ∷ ts) made h =
+    (all-at (IsMade frame) p cs k.component made h.0.0, codings-made frame cs codings places ts made h.1)
+
+-- ---- MCUs by places
+
+pub factors-seen : (cs : List declared.Component) → map factors_in cs ≡ map (λ c. c.factors) (map component_in cs)
+factors-seen [] = refl
+factors-seen (c ∷ cs) = ap (λ (l : List Factors). factors_in c ∷ l) (factors-seen cs)
+
+pub component-at : (cs : List declared.Component) (place : ℕ) (r : declared.Component) → place < length cs
+    → r ≡ get_or cs place r → component_in r ≡ get_or (map component_in cs) place no_component
+component-at [] place r h e = absurd (omega arith)
+component-at (c ∷ cs) zero r h e = ap component_in e
+component-at (c ∷ cs) (suc place) r h e = component-at cs place r (omega arith) e
+
+pub alone-wide : (frame : Frame) (places : List ℕ) → length places ≡ 1
+    → mcus_wide frame places ≡ (get_or frame.components (get_or places 0 0) no_component).width
+unfolding mcus_wide
+alone-wide frame [] e = absurd (omega arith)
+alone-wide frame (p ∷ []) e = refl
+alone-wide frame (p ∷ q ∷ places) e = absurd (omega arith)
+
+pub alone-high : (frame : Frame) (places : List ℕ) → length places ≡ 1
+    → mcus_high frame places ≡ (get_or frame.components (get_or places 0 0) no_component).height
+unfolding mcus_high
+alone-high frame [] e = absurd (omega arith)
+alone-high frame (p ∷ []) e = refl
+alone-high frame (p ∷ q ∷ places) e = absurd (omega arith)
+
+pub several-wide : (frame : Frame) (places : List ℕ) → (length places == 1) ≡ false
+    → mcus_wide frame places ≡ ceiling frame.width (most_across frame)
+unfolding mcus_wide
+several-wide frame [] e = refl
+several-wide frame (p ∷ []) e = absurd (cc)
+several-wide frame (p ∷ q ∷ places) e = refl
+
+pub several-high : (frame : Frame) (places : List ℕ) → (length places == 1) ≡ false
+    → mcus_high frame places ≡ ceiling frame.height (most_down frame)
+unfolding mcus_high
+several-high frame [] e = refl
+several-high frame (p ∷ []) e = absurd (cc)
+several-high frame (p ∷ q ∷ places) e = refl
+
+-- a part more
+pub parts_step : (is_alone : Bool) (cs : List Component) (places : List ℕ) (ts : List Table) (slot p : ℕ) (t : Table)
+    (c : Component) (front new : List Part) → slot < length places → slot < length ts
+    → p ≡ get_or places slot p → get_or ts slot t ≡ t → c ≡ get_or cs p no_component
+    → new ≡ front ++ part_by is_alone c t ∷ []
+    → front ++ parts_at is_alone cs (drop slot places) (drop slot ts)
+    ≡ new ++ parts_at is_alone cs (drop (slot + 1) places) (drop (slot + 1) ts)
+unfolding parts_at
+parts_step is_alone cs places ts slot p t c front new h k e f g n =
+    let rest : List Part = parts_at is_alone cs (drop (slot + 1) places) (drop (slot + 1) ts) in
+    ap (λ (l : List Part). front ++ l)
+    (ap₂ (parts_at is_alone cs) (dropped places slot p h e)
+    (drop_more ts slot t k ∙ ap (λ (x : Table). x ∷ drop (slot + 1) ts) f)
+    ∙ ap (λ (x : Component). part_by is_alone x t ∷ rest) (sym g))
+    ∙ sym (append_assoc front (part_by is_alone c t ∷ []) rest)
+    ∙ ap (λ (l : List Part). l ++ rest) (sym n)
+
+no-parts : (is_alone : Bool) (cs : List Component) (ts : List Table) → parts_at is_alone cs [] ts ≡ []
+unfolding parts_at
+no-parts is_alone cs [] = refl
+no-parts is_alone cs (t ∷ ts) = refl
+
+pub parts_none : (is_alone : Bool) (cs : List Component) (places : List ℕ) (ts : List Table) (slot : ℕ)
+    (front : List Part) → length places ≤ slot
+    → front ++ parts_at is_alone cs (drop slot places) (drop slot ts) ≡ front
+parts_none is_alone cs places ts slot front h =
+    ap (λ (l : List ℕ). front ++ parts_at is_alone cs l (drop slot ts)) (drop_all slot places h)
+    ∙ ap (λ (l : List Part). front ++ l) (no-parts is_alone cs (drop slot ts)) ∙ append-nil front
+
+pub parts-count : (is_alone : Bool) (cs : List Component) (places : List ℕ) (ts : List Table)
+    → length ts ≡ length places → length (parts_at is_alone cs places ts) ≡ length places
+unfolding parts_at
+parts-count is_alone cs [] ts h = ap (λ (l : List Part). length l) (no-parts is_alone cs ts)
+parts-count is_alone cs (p ∷ places) [] h = absurd (omega arith)
+parts-count is_alone cs (p ∷ places) (t ∷ ts) h = ap suc (parts-count is_alone cs places ts (omega arith))
+
+-- what a call needs of MCUs
+pub record HasMcus (wide high : ℕ) (parts : List Part) : Type 0 where
+  pub some_wide : 0 < wide
+  pub some_high : 0 < high
+  pub covered : AllByRecursion (IsCovered wide high) parts
+
+pub has-mcus : (tables : List (Option Table)) (frame : Frame) (places ds : List ℕ) (ts : List Table)
+    → AreCodings tables frame places ds ts → IsDecodedFrame frame → frame.process ≡ Lossless
+    → HasMcus (mcus_wide frame places) (mcus_high frame places)
+    (parts_at (length places == 1) frame.components places ts)
+has-mcus tables frame places ds ts a decoded lossless =
+    let made = codings-made frame frame.components a.codings places ts (decoded-made frame decoded lossless) a.of in
+    let some = decoded-some frame decoded in
+    let across = across-are frame a.codings places ts a.of in
+    let down = down-are frame a.codings places ts a.of in
+    let parts = parts-are frame.components a.codings places ts a.of in
+    record {
+      some_wide = subst (λ (n : ℕ). 0 < n) across (across-some frame a.codings some.0 made);
+      some_high = subst (λ (n : ℕ). 0 < n) down (down-some frame a.codings some.1 made);
+      covered = subst (AllByRecursion (IsCovered (mcus_wide frame places) (mcus_high frame places))) parts
+          (subst (λ (n : ℕ). AllByRecursion (IsCovered (mcus_wide frame places) n) (parts_of a.codings)) down
+          (subst (λ (n : ℕ). AllByRecursion (IsCovered n (mcus_down frame a.codings)) (parts_of a.codings)) across
+          (all-covered frame a.codings made)));
+    }
 
 -- ---- steps of a scan
 
@@ -278,24 +451,38 @@ before-lossless : (found : Found) (f : Frame) → f.process ≡ Lossless
 unfolding arrays_before
 before-lossless found f e = rw e refl
 
-set-sized : (n : ℕ) (samples : List (Option (List ℕ))) (place : ℕ) (plane : List ℕ) → length plane ≡ n
-    → AllByRecursion (IsSampled n) samples → AllByRecursion (IsSampled n) (set samples place (Some plane))
-set-sized n [] place plane e h = tt
-set-sized n (x ∷ samples) zero plane e h = (e, h.1)
-set-sized n (x ∷ samples) (suc place) plane e h = (h.0, set-sized n samples place plane e h.1)
+set-sampled : (cs : List Component) (samples : List (Option (List ℕ))) (place : ℕ) (plane : List ℕ)
+    → length plane ≡ (get_or cs place no_component).width * (get_or cs place no_component).height
+    → AreSampled cs samples → AreSampled cs (set samples place (Some plane))
+unfolding AreSampled
+set-sampled [] samples place plane e h = tt
+set-sampled (c ∷ cs) [] place plane e h = absurd h
+set-sampled (c ∷ cs) (x ∷ samples) zero plane e h = (e, h.1)
+set-sampled (c ∷ cs) (x ∷ samples) (suc place) plane e h = (h.0, set-sampled cs samples place plane e h.1)
 
-with-sized : (n : ℕ) (places : List ℕ) (planes : List (List ℕ)) (samples : List (Option (List ℕ))) → AreOfSize n planes
-    → AllByRecursion (IsSampled n) samples → AllByRecursion (IsSampled n) (with_samples places planes samples)
-unfolding with_samples AreOfSize
-with-sized n [] planes samples w h = h
-with-sized n (p ∷ places) [] samples w h = h
-with-sized n (p ∷ places) (plane ∷ planes) samples w h =
-    with-sized n places planes (slice_set samples p (Some plane)) w.1 (set-sized n samples p plane w.0 h)
+with-sampled : (is_alone : Bool) (cs : List Component) (places : List ℕ) (ts : List Table) (planes : List (List ℕ))
+    (samples : List (Option (List ℕ))) → AreWhole (parts_at is_alone cs places ts) planes
+    → AreSampled cs samples → AreSampled cs (with_samples places planes samples)
+unfolding with_samples AreWhole parts_at
+with-sampled is_alone cs [] ts planes samples w h = h
+with-sampled is_alone cs (p ∷ places) ts [] samples w h = h
+with-sampled is_alone cs (p ∷ places) [] (plane ∷ planes) samples w h = absurd w
+with-sampled is_alone cs (p ∷ places) (t ∷ ts) (plane ∷ planes) samples w h =
+    with-sampled is_alone cs places ts planes (slice_set samples p (Some plane)) w.1
+    (set-sampled cs samples p plane w.0 h)
+
+-- The samples of a scan are those of its components.
+pub scan-sampled : (is_alone : Bool) (found : Found) (frame : Frame) (places : List ℕ) (ts : List Table)
+    (planes : List (List ℕ)) → IsSound found → found.frame ≡ Some frame
+    → AreWhole (parts_at is_alone frame.components places ts) planes
+    → AreSampled frame.components (with_samples places planes found.samples)
+scan-sampled is_alone found frame places ts planes sound e w =
+    with-sampled is_alone frame.components places ts planes found.samples w (sound.samples frame e)
 
 -- A lossless scan leaves a sound state.
 pub samples-sound : (found next : Found) (frame : Frame) (places : List ℕ) (planes : List (List ℕ))
     → IsSound found → found.frame ≡ Some frame → frame.process ≡ Lossless
-    → AreOfSize (frame.width * frame.height) planes
+    → AreSampled frame.components (with_samples places planes found.samples)
     → next ≡ record found { scanned = true; samples = with_samples places planes found.samples } → IsSound next
 unfolding arrays_before
 samples-sound found next frame places planes sound e lossless whole is = subst IsSound (sym is) (record {
@@ -308,9 +495,8 @@ samples-sound found next frame places planes sound e lossless whole is = subst I
         samples = with_samples places planes found.samples;
       }) f p)) (sound.held f k);
   planes = sound.planes;
-  samples = λ f k.
-      with-sized (f.width * f.height) places planes found.samples
-      (subst (λ (x : Frame). AreOfSize (x.width * x.height) planes) (same f k) whole) (sound.samples f k);
+  samples = λ f k. subst (λ (x : Frame). AreSampled x.components (with_samples places planes found.samples)) (same f k)
+      whole;
   unread = λ k. absurd (none-some (sym k ∙ e));
 })
   where
@@ -438,40 +624,39 @@ unfolding samples_from
 samples-all samples cs place front whole h w =
     w ∙ (rw (drop_all place cs h, samples_from) (ap (λ (l : List (List ℕ)). Ok l) (append-nil front)))
 
-sampled-at : (n : ℕ) (samples : List (Option (List ℕ))) (place : ℕ) (plane : List ℕ)
-    → AllByRecursion (IsSampled n) samples
-    → slice_index_or samples place None ≡ Some plane → length plane ≡ n
-sampled-at n [] place plane h e = absurd (let n : ⊥ = cc in n)
-sampled-at n (None ∷ samples) zero plane h e = absurd (let n : ⊥ = cc in n)
-sampled-at n (Some p ∷ samples) zero plane h e = let s : p ≡ plane = cc in ap (λ (l : List ℕ). length l) (sym s) ∙ h.0
-sampled-at n (x ∷ samples) (suc place) plane h e = sampled-at n samples place plane h.1 e
+drop-there : (samples : List (Option (List ℕ))) (place : ℕ) (plane : List ℕ)
+    → slice_index_or samples place None ≡ Some plane → drop place samples ≡ Some plane ∷ drop (place + 1) samples
+drop-there [] place plane e = absurd (let n : ⊥ = cc in n)
+drop-there (x ∷ samples) zero plane e =
+    let k : 0 + 1 ≡ 1 = omega arith in
+    ap (λ (o : Option (List ℕ)). o ∷ samples) e ∙ ap (λ (n : ℕ). Some plane ∷ drop n (x ∷ samples)) (sym k)
+drop-there (x ∷ samples) (suc place) plane e =
+    let k : suc (place + 1) ≡ suc place + 1 = omega arith in
+    drop-there samples place plane e ∙ ap (λ (n : ℕ). Some plane ∷ drop n (x ∷ samples)) k
 
 needed-of : {A : Type 0} (o : Option A) (x : A) → needed o ≡ Ok x → o ≡ Some x
 needed-of None x e = absurd (let n : ⊥ = cc in n)
 needed-of (Some y) x e = ap (λ (z : _). Some z) (ok-same y x e)
 
--- Samples are those of each pixel.
-pub samples-whole : (n : ℕ) (samples : List (Option (List ℕ))) (place : ℕ) (cs : List Component)
-    (planes : List (List ℕ))
-    → AllByRecursion (IsSampled n) samples → samples_from samples place cs ≡ Ok planes → AreOfSize n planes
-unfolding samples_from AreOfSize
-samples-whole n samples place [] planes h e = subst (AreOfSize n) (ok-same [] planes e) tt
-samples-whole n samples place (c ∷ cs) planes h e =
+-- The planes are those of the components.
+samples-from : (samples : List (Option (List ℕ))) (place : ℕ) (cs : List Component) (planes : List (List ℕ))
+    → AreSampled cs (drop place samples) → samples_from samples place cs ≡ Ok planes → ArePlanesOf cs planes
+unfolding samples_from AreSampled ArePlanesOf
+samples-from samples place [] planes h e = subst (ArePlanesOf []) (ok-same [] planes e) tt
+samples-from samples place (c ∷ cs) planes h e =
     let one = bind-ok (needed (slice_index_or samples place None)) _ planes e in
     let more = bind-ok (samples_from samples (place + 1) cs) _ planes one.2 in
-    subst (AreOfSize n) (ok-same (one.0 ∷ more.0) planes more.2) (
-      sampled-at n samples place one.0 h (needed-of (slice_index_or samples place None) one.0 one.1),
-      samples-whole n samples (place + 1) cs more.0 h more.1,
+    let there = needed-of (slice_index_or samples place None) one.0 one.1 in
+    let is : AreSampled (c ∷ cs) (Some one.0 ∷ drop (place + 1) samples) =
+    subst (AreSampled (c ∷ cs)) (drop-there samples place one.0 there) h in
+    subst (ArePlanesOf (c ∷ cs)) (ok-same (one.0 ∷ more.0) planes more.2) (
+      is.0,
+      samples-from samples (place + 1) cs more.0 is.1 more.1,
     )
 
--- components with their factors ignored are as many
-pub plain-from : (samples : List (Option (List ℕ))) (place : ℕ) (frame : Frame) (cs : List Component)
-    → samples_from samples place (map (one_by_one frame) cs) ≡ samples_from samples place cs
-unfolding samples_from
-plain-from samples place frame [] = refl
-plain-from samples place frame (c ∷ cs) =
-    ap (λ (r : Result (List (List ℕ)) Fault). needed (slice_index_or samples place None) >>= (λ (plane : List ℕ).
-    r >>= (λ (others : List (List ℕ)). Ok (plane ∷ others)))) (plain-from samples (place + 1) frame cs)
+pub samples-whole : (samples : List (Option (List ℕ))) (cs : List Component) (planes : List (List ℕ))
+    → AreSampled cs samples → samples_from samples 0 cs ≡ Ok planes → ArePlanesOf cs planes
+samples-whole samples cs planes h e = samples-from samples 0 cs planes h e
 
 -- ---- what a call knows
 
@@ -480,22 +665,29 @@ on-ok (Ok x) p = p
 on-ok (Err e) p = tt
 
 -- The samples of a scan by how it is coded.
-pub plain-by : (found : Found) (frame : Frame) (scan : Scan) (ts : List Table)
-    (a : AreCodings found.huffman.dc (without_factors frame) scan.components scan.dc_places ts) (k : Coding)
+pub coded-by : (found : Found) (frame : Frame) (scan : Scan) (ts : List Table)
+    (a : AreCodings found.huffman.dc frame scan.components scan.dc_places ts) (k : Coding) (parts : List Part)
     → k ≡ record {
-      wide = frame.width;
-      high = frame.height;
+      wide = mcus_wide frame scan.components;
+      high = mcus_high frame scan.components;
       precision = frame.precision;
       predictor = scan.predictor;
       point_transform = scan.point_transform;
       restart_interval = found.restart;
     }
-    → scan_samples found (without_factors frame) scan a.codings
-    ≡ scan_at (way_by k ts) k.high k.restart_interval k.point_transform
-plain-by found frame scan ts a k e =
-    plain-read found.huffman.dc frame scan.components scan.dc_places ts a scan.predictor scan.point_transform
-    found.restart
-    ∙ ap (λ (x : Coding). scan_at (way_by x ts) x.high x.restart_interval x.point_transform) (sym e)
+    → parts ≡ parts_at (length scan.components == 1) frame.components scan.components ts
+    → scan_samples found frame scan a.codings
+    ≡ scan_at (way_by k parts) k.high k.restart_interval k.point_transform
+coded-by found frame scan ts a k parts e is =
+    let start = start_of frame.precision scan.point_transform in
+    let by : ℕ → ℕ → List Part → List ℕ → Outcome (List (List ℕ) × Option Marker) = λ wide high l.
+    scan_at (record { wide = wide; selection = scan.predictor; start = start; parts = l }) high found.restart
+    scan.point_transform in
+    ap₂ (λ (w h : ℕ). by w h (parts_of a.codings)) (across-are frame a.codings scan.components ts a.of)
+    (down-are frame a.codings scan.components ts a.of)
+    ∙ ap (by (mcus_wide frame scan.components) (mcus_high frame scan.components))
+    (parts-are frame.components a.codings scan.components ts a.of ∙ sym is)
+    ∙ ap (λ (x : Coding). scan_at (way_by x parts) x.high x.restart_interval x.point_transform) (sym e)
 
 -- What is found after samples are put.
 pub put-made : (base : Found) (old new : Decoded) (samples : List (Option (List ℕ))) → new.held ≡ old.held
@@ -541,20 +733,16 @@ four-places frame places decoded h =
 
 pub picture-lacks : (found : Found) (frame : Frame) (e : Error)
     → Names e (samples_from found.samples 0 frame.components)
-    → Names e (samples_picture found (without_factors frame))
+    → Names e (samples_picture found frame)
 unfolding samples_picture
 picture-lacks found frame e n =
-    Names-through e (samples_from found.samples 0 frame.components) _
-    (λ f h. bind_err _ _ f (plain-from found.samples 0 frame frame.components ∙ h)) n
+    Names-through e (samples_from found.samples 0 frame.components) _ (λ f h. bind_err _ _ f h) n
 
 pub picture-made : (found : Found) (frame : Frame) (planes : List (List ℕ))
-    → samples_from found.samples 0 frame.components ≡ Ok planes → length planes ≡ length frame.components
-    → samples_picture found (without_factors frame)
-    ≡ Ok (picture_bytes frame.precision 1 1 frame.width frame.height (map (layer_by frame.width) planes))
+    → samples_from found.samples 0 frame.components ≡ Ok planes
+    → samples_picture found frame ≡ Ok (lossless_picture frame planes)
 unfolding samples_picture
-picture-made found frame planes h e =
-    then-ok _ _ planes _ (plain-from found.samples 0 frame frame.components ∙ h)
-    (ap (λ (l : List ℕ). Ok l) (picture-plain frame planes e))
+picture-made found frame planes h = then-ok _ _ planes _ h refl
 
 memory-names : (e : Error) (o : Result (List ℕ) Fault) → e ≡ OutOfMemory → IsRefusal e × Names e o
 memory-names e o h = subst (λ (x : Error). IsRefusal x × Names x o) (sym h) (tt, tt)

@@ -20,7 +20,7 @@ use Rattle.jpeg_streams.specs.ScanSegments.{lossless_scan, scan_samples, scan_be
 use Rattle.jpeg_streams.specs.ScanSegments.{scan_segment}
 use Rattle.jpeg_streams.specs.Segments.{Turn}
 use Rattle.jpeg_streams.specs.Found.{Found}
-use Rattle.jpeg_streams.specs.LosslessScans.{lossless_codings, without_factors}
+use Rattle.jpeg_streams.specs.LosslessScans.{lossless_codings}
 use Rattle.jpeg_decoder.specs.Steps.{IsDct, IsRefusal, after_all, blocks_read, codings_in_force, read_by, samples_read}
 use Rattle.jpeg_decoder.specs.Steps.{scan_data, scan_read}
 
@@ -214,7 +214,7 @@ process-parts : (p : CodingProcess) (found : Found) (frame : Frame) (scan : Scan
     → scan_by p found frame scan bytes ≡ (read_by p found frame scan bytes >>= scan_turn found)
 process-parts DctSequential found frame scan bytes = blocks-parts found frame scan bytes
 process-parts DctProgressive found frame scan bytes = blocks-parts found frame scan bytes
-process-parts Lossless found frame scan bytes = samples-parts found (without_factors frame) scan bytes
+process-parts Lossless found frame scan bytes = samples-parts found frame scan bytes
 
 -- A segment of a scan is a scan that is read.
 scan-parts : (found : Found) (bytes : List ℕ) → scan_segment found bytes ≡ (scan_read found bytes >>= scan_turn found)

@@ -12,7 +12,7 @@ use Rattle.jpeg_segments.specs.Frame.{Frame, sof_at}
 use Rattle.jpeg_segments.specs.ScanHeader.{Scan, sos_at}
 use Rattle.jpeg_segments.specs.declared.parser.CodingProcess.{CodingProcess}
 use Rattle.jpeg_segments.specs.declared.parser.CodingProcess.TheVariants.{DctSequential, DctProgressive, Lossless}
-use Rattle.jpeg_streams.specs.LosslessScans.{lossless_codings, without_factors}
+use Rattle.jpeg_streams.specs.LosslessScans.{lossless_codings}
 use Rattle.jpeg_segments.specs.Quantization.{dqt_at}
 use Rattle.jpeg_segments.specs.HuffmanTables.{dht_at}
 use Rattle.jpeg_segments.specs.Application.{app_at, dri_at}
@@ -150,7 +150,7 @@ process-goes : (limit : ℕ) (p : CodingProcess) (found : Found) (frame : Frame)
     → GoesBelow limit (scan_by p found frame scan bytes)
 process-goes limit DctSequential found frame scan bytes h = blocks-go limit found frame scan bytes h
 process-goes limit DctProgressive found frame scan bytes h = blocks-go limit found frame scan bytes h
-process-goes limit Lossless found frame scan bytes h = samples-go limit found (without_factors frame) scan bytes h
+process-goes limit Lossless found frame scan bytes h = samples-go limit found frame scan bytes h
 
 scan-goes : (limit : ℕ) (found : Found) (bytes : List ℕ) → length bytes ≤ limit
     → GoesBelow limit (scan_segment found bytes)

@@ -30,7 +30,8 @@ use Rattle.jpeg_bits.specs.Written.{marker}
 use Rattle.jpeg_streams.specs.declared.before.Before.{Before}
 use Rattle.jpeg_streams.specs.declared.before.Before.TheVariants.{Elsewhere}
 use Rattle.jpeg_streams.specs.declared.settings.Settings.{Settings}
-use Rattle.jpeg_streams.specs.LosslessScans.{lossless_picture, samples_from, with_samples, without_factors}
+use Rattle.jpeg_streams.specs.LosslessScans.{samples_from, with_samples}
+use Rattle.jpeg_lossless.specs.Pictures.{lossless_picture}
 use Rattle.jpeg_streams.specs.Needed.{needed}
 use Rattle.jpeg_streams.specs.SaidSegments.{found_after}
 use Rattle.jpeg_streams.specs.Segments.{frame_segment, onward, Turn, application_segment, restart_segment}
@@ -45,7 +46,6 @@ use Rattle.jpeg_streams.specs.InTurn.{IsIn}
 use Rattle.jpeg_streams.specs.WrittenLossless.{said_after_scan, scan, segment}
 use Rattle.jpeg_streams.proofs.AcceptedTurns.{then-ok, stands-next}
 use Rattle.jpeg_streams.proofs.LosslessFrames.{IsShaped, header-shaped, lossless-accepted}
-use Rattle.jpeg_decoder.proofs.LosslessReads.{plain-from}
 use Rattle.jpeg_streams.proofs.SaidTables.{HasTables, no-tables, segment-tables}
 use Rattle.jpeg_streams.proofs.WrittenMarkers.{marker-append, marker_for, segment-marker}
 use Rattle.jpeg_decoder.proofs.WrittenSamples.{IsEnd, and_samples, components-of, places_of, planes_for, scan-read}
@@ -261,11 +261,11 @@ starts samples said sent bytes final (scan said' final' sent' frame fill h data_
 -- ---- what is kept
 
 -- what was said by written segments: tables that exist, and a frame of some size
-record IsSaid (said : Found) : Type 0 where
-  tables : HasTables said.huffman
-  shaped : (frame : Frame) → said.frame ≡ Some frame → IsShaped frame
+pub record IsSaid (said : Found) : Type 0 where
+  pub tables : HasTables said.huffman
+  pub shaped : (frame : Frame) → said.frame ≡ Some frame → IsShaped frame
 
-nothing-said : IsSaid nothing_found
+pub nothing-said : IsSaid nothing_found
 unfolding nothing_found
 nothing-said = record { tables = no-tables; shaped = λ frame e. absurd (let n : ⊥ = cc in n) }
 
@@ -283,7 +283,7 @@ segment-shaped said (Header number header) may h frame e =
     subst IsShaped (some-same (frame_written number header) frame e) (header-shaped number header may.0.1
     (lossless-accepted number header may.0.1 may.1))
 
-segment-said : (said : Found) (s : Segment) → StandsInLossless said s → IsSaid said → IsSaid (found_after said s)
+pub segment-said : (said : Found) (s : Segment) → StandsInLossless said s → IsSaid said → IsSaid (found_after said s)
 segment-said said s may h =
     record {
       tables = segment-tables said said s may h.tables;
@@ -467,7 +467,7 @@ stream-read samples rest (suc turns) said sent bytes final (scan said' final' se
 
 -- the picture of a frame of these samples
 abbrev pub drawn : Frame → Samples → List ℕ
-drawn frame samples = lossless_picture (without_factors frame)
+drawn frame samples = lossless_picture frame
     (planes_for samples (range_with_len 0 (length frame.components)))
 
 planes-there : (decided : List (Option (List ℕ))) (samples : Samples) (place : ℕ) (cs : List Component)
@@ -482,12 +482,12 @@ planes-there decided samples place (c ∷ cs) h =
 
 samples-drawn : (found : Found) (samples : Samples) (frame : Frame)
     → AreHeld samples found.samples (range_with_len 0 (length frame.components))
-    → samples_picture found (without_factors frame) ≡ Ok (drawn frame samples)
+    → samples_picture found frame ≡ Ok (drawn frame samples)
 unfolding samples_picture
 samples-drawn found samples frame held =
-    then-ok (samples_from found.samples 0 (without_factors frame).components) _
+    then-ok (samples_from found.samples 0 frame.components) _
     (planes_for samples (range_with_len 0 (length frame.components))) _
-    (plain-from found.samples 0 frame frame.components ∙ planes-there found.samples samples 0 frame.components held)
+    (planes-there found.samples samples 0 frame.components held)
     refl
 
 picture-there : (settings : Settings) (found : Found) (samples : Samples) (frame : Frame)

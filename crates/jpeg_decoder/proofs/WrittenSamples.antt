@@ -1,29 +1,29 @@
 -- A lossless scan that is written is read as its samples.
 use Rattle.std.proofs.Common.{◌≡◌, ℕ, zero, suc, ◌+◌, ◌-◌, ◌*◌, ◌/◌, ◌%◌, ◌<◌, ◌≤◌, Bool, true, false, ◌||◌, eqb}
-use Rattle.std.proofs.Common.{leb, List, [], ◌∷◌, ◌++◌, map, length, take, Option, Some, None}
+use Rattle.std.proofs.Common.{leb, List, [], ◌∷◌, ◌++◌, drop, map, length, replicate, take, Option, Some, None}
 use Rattle.std.proofs.Common.{Ok, refl, sym, ap, ap₂, ◌∙◌, subst, arith, length-append}
 use Rattle.std.specs.Prelude.{slice_index_or}
 use Rattle.std.specs.List.{AllByRecursion, concat}
 use Rattle.std.proofs.lemmas.Bool.{le-leb, eq-eqb}
+use Rattle.std.proofs.lemmas.List.{length-map}
 use Rattle.std.proofs.lemmas.Nat.{div-mul-add, mod-mul-add}
 use Rattle.std.proofs.Math.Nat.{add-mul, one-mul}
-use Rattle.jpeg_bits.specs.Codes.{Table}
+use Rattle.jpeg_bits.specs.Codes.{IsTable, Table}
 use Rattle.jpeg_bits.specs.Marker.{marker_of}
 use Rattle.jpeg_bits.specs.Reading.{Outcome}
 use Rattle.jpeg_bits.specs.declared.marker.Marker.{Marker}
 use Rattle.jpeg_bits.specs.declared.scan.Predictor.{Predictor}
-use Rattle.jpeg_segments.specs.Frame.{Frame}
+use Rattle.jpeg_segments.specs.Frame.{Component, Frame, ceiling}
 use Rattle.jpeg_segments.specs.ScanHeader.{predictor_by, predictor_of, scan_of, sos_at}
 use Rattle.jpeg_segments.specs.ScanHeaders.{Choice, IsScan, ScanHeader, scan_payload, scan_written, selector_of}
 use Rattle.jpeg_segments.specs.WrittenSegments.{sized}
 use Rattle.jpeg_segments.specs.declared.parser.CodingProcess.{CodingProcess}
 use Rattle.jpeg_segments.specs.declared.parser.CodingProcess.TheVariants.{Lossless}
 use Rattle.jpeg_segments.proofs.Fields.{nibbles-low}
-use Rattle.jpeg_segments.proofs.HeaderRules.{header-rules}
 use Rattle.jpeg_segments.proofs.HeaderSegments.{sos-read}
-use Rattle.jpeg_lossless.specs.Codings.{part_by}
 use Rattle.jpeg_lossless.specs.Differences.{Part, lines_in, mcu_tables, strands, row_tables}
-use Rattle.jpeg_lossless.specs.Prediction.{start_of}
+use Rattle.jpeg_lossless.specs.Pictures.{most_across, most_down}
+use Rattle.jpeg_lossless.specs.Places.{AreEven}
 use Rattle.jpeg_lossless.specs.Scans.{Way, all_above, is_of_rows, is_one_interval, mcu_size, planes_of}
 use Rattle.jpeg_lossless.specs.Scans.{rows_of_interval, scan_at, shifted}
 use Rattle.jpeg_lossless.specs.Written.{AreGrids, AreLines, AreSamples, AreTables, HaveDifferences}
@@ -31,19 +31,19 @@ use Rattle.jpeg_lossless.specs.Written.{WritesIntervals, differences_of}
 use Rattle.jpeg_bits.specs.Written.{marker}
 use Rattle.jpeg_lossless.specs.Written.WritesIntervals.{last, another}
 use Rattle.jpeg_lossless.proofs.ReadBack.{reads-scan}
-use Rattle.jpeg_streams.specs.LosslessScans.{lossless_codings, tables_in, with_samples}
-use Rattle.jpeg_streams.specs.LosslessScans.{without_factors}
-use Rattle.jpeg_streams.specs.Needed.{needed}
+use Rattle.jpeg_streams.specs.LosslessScans.{LosslessCoding, lossless_coding, lossless_codings, mcus_across, mcus_down}
+use Rattle.jpeg_streams.specs.LosslessScans.{part_of, parts_of, way_of, with_samples}
+use Rattle.jpeg_streams.specs.Needed.{first_of, needed}
 use Rattle.jpeg_streams.specs.ScanSegments.{scan_by, lossless_scan, scan_before, after_restarts, scan_segment}
 use Rattle.jpeg_streams.specs.ScanSegments.{scan_samples}
 use Rattle.jpeg_streams.specs.Segments.{Turn}
 use Rattle.jpeg_streams.specs.Found.{Found}
-use Rattle.jpeg_streams.specs.WrittenLossless.{HaveTables, IsInterval, Samples, WritesScan, no_interval}
-use Rattle.jpeg_streams.specs.WrittenLossless.{said_after_scan, whole_lines, whole_scan, written_way}
+use Rattle.jpeg_streams.specs.WrittenLossless.{AreCodings, HoldSamples, IsCoding, IsInterval, own_lines, Samples}
+use Rattle.jpeg_streams.specs.WrittenLossless.{WritesScan, no_interval, said_after_scan, whole_rows, whole_scan}
 use Rattle.jpeg_streams.proofs.AcceptedTurns.{then-ok}
 use Rattle.jpeg_streams.proofs.LosslessFrames.{IsShaped}
-use Rattle.jpeg_decoder.proofs.LosslessReads.{codings-by-tables, plain-places, plain-read}
-use Rattle.jpeg_streams.proofs.SaidTables.{HasTables, tables-there}
+use Rattle.jpeg_streams.proofs.LosslessSizes.{IsMade, across-some, all-at, down-some, made-covered}
+use Rattle.jpeg_streams.proofs.SaidTables.{HasTables, table-there}
 
 -- what was said, with the samples that scans have given
 abbrev pub and_samples : Found → List (Option (List ℕ)) → Found
@@ -74,7 +74,7 @@ or-second false b e = e
 
 of-rows : (wide high restart : ℕ) → 0 < wide → 0 < high → IsInterval wide high restart → IsOfRows wide high restart
 of-rows wide high restart w h no_interval = by-one wide high 0 h refl
-of-rows wide high restart w h (whole_lines n) = by-rows wide high n w h (is_one_interval wide high (suc n * wide)) refl
+of-rows wide high restart w h (whole_rows n) = by-rows wide high n w h (is_one_interval wide high (suc n * wide)) refl
 of-rows wide high restart w h (whole_scan n le) =
     by-one wide high restart h (or-second (eqb restart 0) (leb (wide * high) restart) (le-leb (wide * high) restart le))
 
@@ -170,42 +170,89 @@ intervals-grids w per k left lines bytes (last k' left' lines' bytes' le s) = s.
 intervals-grids w per k left lines bytes (another k' fill' left' front others first after lt s more) =
     grids-above w w.parts front others s.sized (intervals-grids w per (suc k) (left - per) others after more)
 
--- ---- the planes of a scan are its samples
+-- ---- own lines
 
--- the samples of a component are those of each pixel
-pub record HasSize (wide high : ℕ) (lines : List (List ℕ)) : Type 0 where
-  pub lines_are : AreLines wide lines
-  pub count : length lines ≡ high
+take-whole : {A : Type 0} (n : ℕ) (xs : List A) → n ≤ length xs → length (take n xs) ≡ n
+take-whole zero xs h = refl
+take-whole (suc n) [] h = absurd (omega arith)
+take-whole (suc n) (x ∷ xs) h = ap suc (take-whole n xs (omega arith))
+
+own-even : (wide n high : ℕ) (lines : List (List ℕ)) → AreLines n lines → wide ≤ n
+    → AreEven wide (map (take wide) (take high lines))
+unfolding AreEven
+own-even wide n zero lines h le = tt
+own-even wide n (suc high) [] h le = tt
+own-even wide n (suc high) (l ∷ lines) h le =
+    let e = h.0.0 in
+    (take-whole wide l (omega (arith, e, le)), own-even wide n high lines h.1 le)
+
+-- the samples of a component have its size
+pub record HasSize (lines : List (List ℕ)) (c : Component) : Type 0 where
+  pub count : length lines ≡ c.height
+  pub even : AreEven c.width lines
+
+-- the MCUs of a scan cover a component
+record Covers (wide high : ℕ) (c : Component) (p : Part) : Type 0 where
+  width : p.width ≡ c.width
+  height : p.height ≡ c.height
+  across : c.width ≤ wide * p.across
+  down : c.height ≤ high * p.down
+
+part-sized : (w : Way) (high : ℕ) (c : Component) (p : Part) (lines : List (List ℕ)) → Covers w.wide high c p
+    → AreLines (w.wide * p.across) lines → length lines ≡ high * p.down → HasSize (own_lines p lines) c
+part-sized w high c p lines h grid count =
+    let width = h.width in
+    let height = h.height in
+    let across = h.across in
+    let down = h.down in
+    record {
+      count = length-map (take p.height lines) (take p.width)
+          ∙ take-whole p.height lines (omega (arith, height, down, count)) ∙ h.height;
+      even = subst (λ (n : ℕ). AreEven n (own_lines p lines)) h.width
+          (own-even p.width (w.wide * p.across) p.height lines grid (omega (arith, width, across)));
+    }
+
+abbrev AllCover : ℕ → ℕ → List LosslessCoding → List Part → Type 0
+AllCover wide high [] [] = Unit {0}
+AllCover wide high [] (p ∷ parts) = ⊥
+AllCover wide high (k ∷ codings) [] = ⊥
+AllCover wide high (k ∷ codings) (p ∷ parts) = Covers wide high k.component p × AllCover wide high codings parts
+
+all-sized : (w : Way) (high : ℕ) (samples : Samples) (codings : List LosslessCoding) (parts : List Part)
+    (lines : List (List (List ℕ))) → AllCover w.wide high codings parts → AreGrids w parts lines
+    → AreCounted high parts lines → HoldSamples samples codings parts lines
+    → AllByRecursion (λ k. HasSize (samples k.place) k.component) codings
+unfolding HoldSamples
+all-sized w high samples [] parts lines cover grid count held = tt
+all-sized w high samples (k ∷ codings) [] lines cover grid count held = absurd cover
+all-sized w high samples (k ∷ codings) (p ∷ parts) [] cover grid count held = absurd count
+all-sized w high samples (k ∷ codings) (p ∷ parts) (l ∷ lines) cover grid count held = (
+  subst (λ (x : List (List ℕ)). HasSize x k.component) held.0
+      (part-sized w high k.component p l cover.0 grid.0 count.0),
+  all-sized w high samples codings parts lines cover.1 grid.1 count.1 held.1,
+)
+
+all-among : (frame : Frame) (codings : List LosslessCoding) → AllByRecursion (λ k. IsMade frame k.component) codings
+    → AllCover (ceiling frame.width (most_across frame)) (ceiling frame.height (most_down frame)) codings
+    (map (λ k. part_of k.component.factors.horizontal k.component.factors.vertical k) codings)
+all-among frame [] h = tt
+all-among frame (k ∷ codings) h =
+    let c = made-covered frame k.component h.0 in
+    (record { width = refl; height = refl; across = c.0; down = c.1 }, all-among frame codings h.1)
+
+all-cover : (frame : Frame) (codings : List LosslessCoding) → AllByRecursion (λ k. IsMade frame k.component) codings
+    → AllCover (mcus_across frame codings) (mcus_down frame codings) codings (parts_of codings)
+unfolding mcus_across mcus_down parts_of
+all-cover frame [] h = tt
+all-cover frame (k ∷ []) h =
+    (record { width = refl; height = refl; across = omega arith; down = omega arith }, tt)
+all-cover frame (k ∷ j ∷ codings) h = all-among frame (k ∷ j ∷ codings) h
+
+-- ---- the planes of a scan are its samples
 
 -- the components at these places
 abbrev pub places_of : List Choice → List ℕ
 places_of choices = map (λ c. c.component) choices
-
-lines-sized : (frame : Frame) (w : Way) (samples : Samples) (choices : List Choice) (tables : List Table)
-    → w.wide ≡ frame.width
-    → AreGrids w (map (part_by frame.width frame.height) tables) (map (λ c. samples c.component) choices)
-    → AreCounted frame.height (map (part_by frame.width frame.height) tables) (map (λ c. samples c.component) choices)
-    → AllByRecursion (λ k. HasSize frame.width frame.height (samples k)) (places_of choices)
-lines-sized frame w samples [] tables e g n = tt
-lines-sized frame w samples (c ∷ choices) [] e g n = absurd g
-lines-sized frame w samples (c ∷ choices) (t ∷ tables) e g n =
-    let one : w.wide * 1 ≡ frame.width = omega (arith, e) in
-    let count = n.0 in (
-      record { lines_are = subst (λ (k : ℕ). AreLines k (samples c.component)) one g.0; count = omega (arith, count) },
-      lines-sized frame w samples choices tables e g.1 n.1,
-    )
-
-take-all : {A : Type 0} (n : ℕ) (xs : List A) → length xs ≤ n → take n xs ≡ xs
-take-all zero [] h = refl
-take-all zero (x ∷ xs) h = absurd (omega arith)
-take-all (suc n) [] h = refl
-take-all (suc n) (x ∷ xs) h = ap (λ (l : List _). x ∷ l) (take-all n xs (omega arith))
-
-take-lines : (n : ℕ) (lines : List (List ℕ)) → AreLines n lines → map (take n) lines ≡ lines
-take-lines n [] h = refl
-take-lines n (l ∷ lines) h =
-    let e = h.0.0 in
-    ap₂ (λ (a : List ℕ) (b : List (List ℕ)). a ∷ b) (take-all n l (omega (arith, e))) (take-lines n lines h.1)
 
 shifted-none : (x : ℕ) → x < 65536 → shifted 0 x ≡ x
 shifted-none x h = omega arith
@@ -214,38 +261,113 @@ all-unshifted : (xs : List ℕ) → AreSamples xs → map (shifted 0) xs ≡ xs
 all-unshifted [] h = refl
 all-unshifted (x ∷ xs) h = ap₂ (λ (a : ℕ) (l : List ℕ). a ∷ l) (shifted-none x h.0) (all-unshifted xs h.1)
 
+take-samples : (n : ℕ) (xs : List ℕ) → AreSamples xs → AreSamples (take n xs)
+take-samples zero xs h = tt
+take-samples (suc n) [] h = tt
+take-samples (suc n) (x ∷ xs) h = (h.0, take-samples n xs h.1)
+
 samples-append : (xs ys : List ℕ) → AreSamples xs → AreSamples ys → AreSamples (xs ++ ys)
 samples-append [] ys h g = g
 samples-append (x ∷ xs) ys h g = (h.0, samples-append xs ys h.1 g)
 
-all-samples : (n : ℕ) (lines : List (List ℕ)) → AreLines n lines → AreSamples (concat lines)
-all-samples n [] h = tt
-all-samples n (l ∷ lines) h = samples-append l (concat lines) h.0.1 (all-samples n lines h.1)
-
-plane-is : (wide high : ℕ) (lines : List (List ℕ)) → HasSize wide high lines
-    → map (shifted 0) (concat (map (take wide) (take high lines))) ≡ concat lines
-plane-is wide high lines h =
-    let count = h.count in
-    ap (λ (l : List (List ℕ)). map (shifted 0) (concat l))
-    (ap (map (take wide)) (take-all high lines (omega (arith, count))) ∙ take-lines wide lines h.lines_are)
-    ∙ all-unshifted (concat lines) (all-samples wide lines h.lines_are)
+own-samples : (n wide high : ℕ) (lines : List (List ℕ)) → AreLines n lines
+    → AreSamples (concat (map (take wide) (take high lines)))
+own-samples n wide zero lines h = tt
+own-samples n wide (suc high) [] h = tt
+own-samples n wide (suc high) (l ∷ lines) h =
+    samples-append (take wide l) (concat (map (take wide) (take high lines))) (take-samples wide l h.0.1)
+    (own-samples n wide high lines h.1)
 
 -- the samples of the components at some places
 abbrev pub planes_for : Samples → List ℕ → List (List ℕ)
 planes_for samples places = map (λ k. concat (samples k)) places
 
-planes-are : (frame : Frame) (samples : Samples) (choices : List Choice) (tables : List Table)
-    → length tables ≡ length choices
-    → AllByRecursion (λ k. HasSize frame.width frame.height (samples k)) (places_of choices)
-    → planes_of 0 (map (part_by frame.width frame.height) tables)
-    (map (λ c. samples c.component) choices) ≡ planes_for samples (places_of choices)
-unfolding planes_of
-planes-are frame samples [] [] e h = refl
-planes-are frame samples [] (t ∷ tables) e h = absurd (omega arith)
-planes-are frame samples (c ∷ choices) [] e h = absurd (omega arith)
-planes-are frame samples (c ∷ choices) (t ∷ tables) e h =
-    ap₂ (λ (a : List ℕ) (b : List (List ℕ)). a ∷ b) (plane-is frame.width frame.height (samples c.component) h.0)
-    (planes-are frame samples choices tables (omega arith) h.1)
+planes-are : (samples : Samples) (w : Way) (codings : List LosslessCoding) (parts : List Part)
+    (lines : List (List (List ℕ))) → AreGrids w parts lines → HoldSamples samples codings parts lines
+    → planes_of 0 parts lines ≡ map (λ k. concat (samples k.place)) codings
+unfolding planes_of HoldSamples
+planes-are samples w [] [] [] g h = refl
+planes-are samples w [] [] (l ∷ lines) g h = absurd h
+planes-are samples w [] (p ∷ parts) lines g h = absurd h
+planes-are samples w (k ∷ codings) [] lines g h = absurd h
+planes-are samples w (k ∷ codings) (p ∷ parts) [] g h = absurd h
+planes-are samples w (k ∷ codings) (p ∷ parts) (l ∷ lines) g h =
+    ap₂ (λ (a : List ℕ) (b : List (List ℕ)). a ∷ b)
+    (all-unshifted (concat (own_lines p l)) (own-samples (w.wide * p.across) p.width p.height l g.0)
+    ∙ ap (λ (x : List (List ℕ)). concat x) h.0)
+    (planes-are samples w codings parts lines g.1 h.1)
+
+-- ---- what a scan names
+
+coding-read : (said : Found) (frame : Frame) (c : Choice) (k : LosslessCoding) → IsCoding said frame c k
+    → lossless_coding said.huffman.dc frame c.component c.dc ≡ Ok k
+unfolding lossless_coding
+coding-read said frame c k h =
+    then-ok (needed (first_of (drop c.component frame.components))) _ k.component _ (ap needed h.component)
+    (then-ok (needed (slice_index_or said.huffman.dc c.dc None)) _ k.table _ (ap needed h.table)
+    (ap (λ (n : ℕ). Ok (record { place = n; component = k.component; table = k.table })) (sym h.stands)))
+
+codings-read : (said : Found) (frame from : Frame) (choices : List Choice) (codings : List LosslessCoding)
+    → AreCodings said frame choices codings
+    → lossless_codings said.huffman.dc frame (map (λ s. s.component) (map (selector_of from) choices))
+    (map (λ s. s.dc) (map (selector_of from) choices)) ≡ Ok codings
+unfolding lossless_codings AreCodings
+codings-read said frame from [] [] h = refl
+codings-read said frame from [] (k ∷ codings) h = absurd h
+codings-read said frame from (c ∷ choices) [] h = absurd h
+codings-read said frame from (c ∷ choices) (k ∷ codings) h =
+    then-ok (lossless_coding said.huffman.dc frame c.component c.dc) _ k _ (coding-read said frame c k h.0)
+    (then-ok (lossless_codings said.huffman.dc frame (map (λ s. s.component) (map (selector_of from) choices))
+    (map (λ s. s.dc) (map (selector_of from) choices))) _ codings _ (codings-read said frame from choices codings h.1)
+    refl)
+
+places-are : (said : Found) (frame : Frame) (choices : List Choice) (codings : List LosslessCoding)
+    → AreCodings said frame choices codings → map (λ k. k.place) codings ≡ places_of choices
+unfolding AreCodings
+places-are said frame [] [] h = refl
+places-are said frame [] (k ∷ codings) h = absurd h
+places-are said frame (c ∷ choices) [] h = absurd h
+places-are said frame (c ∷ choices) (k ∷ codings) h =
+    ap₂ (λ (n : ℕ) (l : List ℕ). n ∷ l) h.0.stands (places-are said frame choices codings h.1)
+
+planes-placed : (samples : Samples) (codings : List LosslessCoding)
+    → map (λ k. concat (samples k.place)) codings ≡ planes_for samples (map (λ k. k.place) codings)
+planes-placed samples [] = refl
+planes-placed samples (k ∷ codings) =
+    ap (λ (l : List (List ℕ)). concat (samples k.place) ∷ l) (planes-placed samples codings)
+
+codings-made : (said : Found) (frame : Frame) (choices : List Choice) (codings : List LosslessCoding)
+    → AllByRecursion (IsMade frame) frame.components → AreCodings said frame choices codings
+    → AllByRecursion (λ k. IsMade frame k.component) codings
+unfolding AreCodings
+codings-made said frame [] [] made h = tt
+codings-made said frame [] (k ∷ codings) made h = absurd h
+codings-made said frame (c ∷ choices) [] made h = absurd h
+codings-made said frame (c ∷ choices) (k ∷ codings) made h = (
+  all-at (IsMade frame) c.component frame.components k.component made h.0.component,
+  codings-made said frame choices codings made h.1,
+)
+
+-- the samples of the component at a place have its size
+abbrev pub SizedAt : Samples → List Component → ℕ → Type 0
+SizedAt samples all k = (c : Component) → first_of (drop k all) ≡ Some c → HasSize (samples k) c
+
+same-component : (a b : Component) → ◌≡◌ {A = Option Component} (Some a) (Some b) → a ≡ b
+same-component a b e = cc
+
+choices-sized : (samples : Samples) (said : Found) (frame : Frame) (choices : List Choice)
+    (codings : List LosslessCoding) → AreCodings said frame choices codings
+    → AllByRecursion (λ k. HasSize (samples k.place) k.component) codings
+    → AllByRecursion (SizedAt samples frame.components) (places_of choices)
+unfolding AreCodings
+choices-sized samples said frame [] codings h all = tt
+choices-sized samples said frame (c ∷ choices) [] h all = absurd h
+choices-sized samples said frame (c ∷ choices) (k ∷ codings) h all = (
+  (λ d e. subst (λ (x : Component). HasSize (samples c.component) x)
+      (same-component k.component d (sym h.0.component ∙ e))
+      (subst (λ (n : ℕ). HasSize (samples n) k.component) h.0.stands all.0)),
+  choices-sized samples said frame choices codings h.1 all.1,
+)
 
 -- ---- tables
 
@@ -253,66 +375,80 @@ tables-append : (a b : List Table) → AreTables a → AreTables b → AreTables
 tables-append [] b h g = g
 tables-append (t ∷ a) b h g = (h.0, tables-append a b h.1 g)
 
-parts-tables : (wide high : ℕ) (tables : List Table) → AreTables tables
-    → AreTables (mcu_tables (map (part_by wide high) tables))
+tables-again : (n : ℕ) (t : Table) → IsTable t → AreTables (replicate n t)
+tables-again zero t h = tt
+tables-again (suc n) t h = (h, tables-again n t h)
+
+parts-tables : (parts : List Part) → AllByRecursion (λ p. IsTable p.table) parts → AreTables (mcu_tables parts)
 unfolding mcu_tables
-parts-tables wide high [] h = tt
-parts-tables wide high (t ∷ tables) h = (h.0, parts-tables wide high tables h.1)
+parts-tables [] h = tt
+parts-tables (p ∷ parts) h = tables-append (replicate (p.down * p.across) p.table) (mcu_tables parts)
+    (tables-again (p.down * p.across) p.table h.0) (parts-tables parts h.1)
 
 all-tables : (n : ℕ) (tables : List Table) → AreTables tables → AreTables (row_tables n tables)
 unfolding row_tables
 all-tables zero tables h = tt
 all-tables (suc n) tables h = tables-append tables (row_tables n tables) h (all-tables n tables h)
 
-have-count : (said : Found) (choices : List Choice) (tables : List Table) → HaveTables said choices tables
-    → length tables ≡ length choices
-unfolding HaveTables
-have-count said [] [] h = refl
-have-count said [] (t ∷ tables) h = absurd h
-have-count said (c ∷ choices) [] h = absurd h
-have-count said (c ∷ choices) (t ∷ tables) h = ap suc (have-count said choices tables h.1)
+codings-tables : (said : Found) (frame : Frame) (choices : List Choice) (codings : List LosslessCoding)
+    → HasTables said.huffman → AreCodings said frame choices codings → AllByRecursion (λ k. IsTable k.table) codings
+unfolding AreCodings
+codings-tables said frame [] [] all h = tt
+codings-tables said frame [] (k ∷ codings) all h = absurd h
+codings-tables said frame (c ∷ choices) [] all h = absurd h
+codings-tables said frame (c ∷ choices) (k ∷ codings) all h =
+    (table-there said.huffman.dc c.dc k.table all.dc h.0.table, codings-tables said frame choices codings all h.1)
 
-have-read : (said : Found) (from : Frame) (choices : List Choice) (tables : List Table)
-    → HaveTables said choices tables
-    → tables_in said.huffman.dc (map (λ s. s.dc) (map (selector_of from) choices)) ≡ Ok tables
-unfolding HaveTables tables_in
-have-read said from [] [] h = refl
-have-read said from [] (t ∷ tables) h = absurd h
-have-read said from (c ∷ choices) [] h = absurd h
-have-read said from (c ∷ choices) (t ∷ tables) h =
-    then-ok (needed (slice_index_or said.huffman.dc c.dc None)) _ t _ (ap needed h.0)
-    (then-ok (tables_in said.huffman.dc (map (λ s. s.dc) (map (selector_of from) choices))) _ tables _
-    (have-read said from choices tables h.1) refl)
+mapped-tables : (codings : List LosslessCoding) → AllByRecursion (λ k. IsTable k.table) codings
+    → AllByRecursion (λ p. IsTable p.table)
+    (map (λ k. part_of k.component.factors.horizontal k.component.factors.vertical k) codings)
+mapped-tables [] h = tt
+mapped-tables (k ∷ codings) h = (h.0, mapped-tables codings h.1)
+
+tables-of-parts : (codings : List LosslessCoding) → AllByRecursion (λ k. IsTable k.table) codings
+    → AllByRecursion (λ p. IsTable p.table) (parts_of codings)
+unfolding parts_of
+tables-of-parts [] h = tt
+tables-of-parts (k ∷ []) h = (h.0, tt)
+tables-of-parts (k ∷ j ∷ codings) h = mapped-tables (k ∷ j ∷ codings) h
 
 -- ---- the data
 
 pub scan-sized : (said : Found) (frame : Frame) (h : ScanHeader) (samples : Samples) (bytes : List ℕ)
-    → WritesScan said frame h samples bytes
-    → AllByRecursion (λ k. HasSize frame.width frame.height (samples k)) (places_of h.choices)
-scan-sized said frame h samples bytes w =
-    let way = written_way frame h.first w.tables in
-    let per = rows_of_interval frame.width frame.height said.restart in
-    let lines = map (λ (c : Choice). samples c.component) h.choices in
-    lines-sized frame way samples h.choices w.tables refl (intervals-grids way per 0 frame.height lines bytes w.written)
-    (intervals-counted way per 0 frame.height lines bytes w.written)
+    → IsShaped frame → WritesScan said frame h samples bytes
+    → AllByRecursion (SizedAt samples frame.components) (places_of h.choices)
+scan-sized said frame h samples bytes is w =
+    let way = way_of frame (predictor_by h.first) 0 w.codings in
+    let high = mcus_down frame w.codings in
+    let per = rows_of_interval (mcus_across frame w.codings) high said.restart in
+    choices-sized samples said frame h.choices w.codings w.coded
+    (all-sized way high samples w.codings way.parts w.lines
+    (all-cover frame w.codings (codings-made said frame h.choices w.codings is.made w.coded))
+    (intervals-grids way per 0 high w.lines bytes w.written) (intervals-counted way per 0 high w.lines bytes w.written)
+    w.held)
 
 -- the scan of data and a marker after it
 data-read : (said : Found) (frame : Frame) (h : ScanHeader) (samples : Samples) (bytes rest : List ℕ)
     (fill code : ℕ) (m : Marker)
     (w : WritesScan said frame h samples bytes) → IsShaped frame → HasTables said.huffman → marker_of code ≡ Some m
-    → scan_at (written_way frame h.first w.tables) frame.height said.restart 0 (bytes ++ marker fill code rest)
-    ≡ Ok ((planes_for samples (places_of h.choices), Some m), rest)
+    → scan_at (way_of frame (predictor_by h.first) 0 w.codings) (mcus_down frame w.codings) said.restart 0
+    (bytes ++ marker fill code rest)
+    ≡ Ok ((planes_for samples (map (λ k. k.place) w.codings), Some m), rest)
 data-read said frame h samples bytes rest fill code m w is all makes =
-    let way = written_way frame h.first w.tables in
-    let lines = map (λ (c : Choice). samples c.component) h.choices in
-    let r = of-rows frame.width frame.height said.restart is.wide is.high w.interval in
-    reads-scan way frame.height said.restart 0 lines bytes fill code m rest r.is r.some
-    (all-tables frame.width (mcu_tables way.parts) (parts-tables frame.width frame.height w.tables
-    (tables-there said h.choices w.tables all w.in_force)))
+    let way = way_of frame (predictor_by h.first) 0 w.codings in
+    let wide = mcus_across frame w.codings in
+    let high = mcus_down frame w.codings in
+    let made = codings-made said frame h.choices w.codings is.made w.coded in
+    let r = of-rows wide high said.restart (across-some frame w.codings is.wide made)
+    (down-some frame w.codings is.high made) w.interval in
+    reads-scan way high said.restart 0 w.lines bytes fill code m rest r.is r.some
+    (all-tables wide (mcu_tables way.parts) (parts-tables way.parts
+    (tables-of-parts w.codings (codings-tables said frame h.choices w.codings all w.coded))))
     (record { is = makes }) w.written
     ∙ ap (λ (l : List (List ℕ)). Ok ((l, Some m), rest))
-    (planes-are frame samples h.choices w.tables (have-count said h.choices w.tables w.in_force)
-    (scan-sized said frame h samples bytes w))
+    (planes-are samples way w.codings way.parts w.lines
+    (intervals-grids way (rows_of_interval wide high said.restart) 0 high w.lines bytes w.written) w.held
+    ∙ planes-placed samples w.codings)
 
 -- ---- a scan
 
@@ -343,51 +479,37 @@ turn_after said places samples decided m = record {
   ended = false;
 }
 
-abbrev by : Frame → List Table → ℕ → Predictor → ℕ → List ℕ → Outcome (List (List ℕ) × Option Marker)
-by frame tables restart predictor point bytes =
-    scan_at (record {
-      wide = frame.width;
-      selection = predictor;
-      start = start_of frame.precision point;
-      parts = map (part_by frame.width frame.height) tables;
-    }) frame.height restart point bytes
+abbrev by : Found → Frame → List LosslessCoding → List ℕ → Predictor → ℕ → Outcome (List (List ℕ) × Option Marker)
+by said frame codings bytes predictor point =
+    scan_at (way_of frame predictor point codings) (mcus_down frame codings) said.restart point bytes
 
 lossless-read : (said : Found) (decided : List (Option (List ℕ))) (frame : Frame) (h : ScanHeader)
     (samples : Samples) (bytes rest : List ℕ)
     (fill code : ℕ) (m : Marker) (w : WritesScan said frame h samples bytes) → IsScan frame h → frame.process ≡ Lossless
     → IsShaped frame → HasTables said.huffman → marker_of code ≡ Some m → IsEnd m
-    → lossless_scan (and_samples said decided) (without_factors frame) (scan_written frame h)
-    (bytes ++ marker fill code rest)
+    → lossless_scan (and_samples said decided) frame (scan_written frame h) (bytes ++ marker fill code rest)
     ≡ Ok (turn_after said (places_of h.choices) samples decided m, rest)
 unfolding lossless_scan scan_of
 lossless-read said decided frame h samples bytes rest fill code m w scan lossless is tables makes end =
     let all = bytes ++ marker fill code rest in
     let s = scan_written frame h in
-    let rules = header-rules frame h scan in
-    let a = codings-by-tables said.huffman.dc (without_factors frame) s.components s.dc_places w.tables
-    (plain-places frame s.components rules.components) rules.dc_length (have-read said frame h.choices w.tables
-    w.in_force) in
-    let planes = planes_for samples (places_of h.choices) in
-    then-ok (lossless_codings said.huffman.dc (without_factors frame) s.components s.dc_places) _ a.codings _ a.are
-    (then-ok (scan_samples (and_samples said decided) (without_factors frame) s a.codings all) _ (
-      (planes, Some m),
-      rest,
-    ) _
-    (ap (λ (f : List ℕ → Outcome (List (List ℕ) × Option Marker)). f all)
-    (plain-read said.huffman.dc frame s.components s.dc_places w.tables a s.predictor s.point_transform said.restart)
-    ∙ ap₂ (λ (p : Predictor) (n : ℕ). by frame w.tables said.restart p n all) (predictor-of frame h lossless)
-    (point-of frame h scan w.point)
+    let places = map (λ (k : LosslessCoding). k.place) w.codings in
+    then-ok (lossless_codings said.huffman.dc frame s.components s.dc_places) _ w.codings _
+    (codings-read said frame frame h.choices w.codings w.coded)
+    (then-ok (scan_samples (and_samples said decided) frame s w.codings all) _ ((planes_for samples places, Some m), rest)
+    _
+    (ap₂ (by said frame w.codings all) (predictor-of frame h lossless) (point-of frame h scan w.point)
     ∙ data-read said frame h samples bytes rest fill code m w is tables makes)
     (then-ok (after_restarts (suc (length rest)) (Some m) rest) _ (Some m, rest) _ (end (length rest) rest)
-    (ap (λ (places : List ℕ). Ok (
+    (ap (λ (l : List ℕ). Ok (
       record {
-        found = and_samples (said_after_scan said) (with_samples places planes decided);
+        found = and_samples (said_after_scan said) (with_samples l (planes_for samples l) decided);
         before = scan_before said;
         met = Some m;
         ended = false;
       },
       rest,
-    )) (a.places_are ∙ components-of frame h.choices))))
+    )) (places-are said frame h.choices w.codings w.coded))))
 
 pub scan-read : (said : Found) (decided : List (Option (List ℕ))) (frame : Frame) (h : ScanHeader)
     (samples : Samples) (bytes rest : List ℕ)

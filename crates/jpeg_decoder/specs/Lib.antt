@@ -4,3 +4,4 @@ pub mod Seen
 pub mod Scanning
 pub mod Strips
 pub mod Steps
+pub mod LosslessParts

@@ -39,7 +39,7 @@ use Rattle.jpeg_streams.specs.ScanSegments.{held_after, with_arrays, decided, ar
 use Rattle.jpeg_streams.specs.ScanSegments.{vias_from, after_samples, scan_samples}
 use Rattle.jpeg_streams.specs.Segments.{Turn}
 use Rattle.jpeg_streams.specs.Found.{Found, none_finished}
-use Rattle.jpeg_streams.specs.LosslessScans.{lossless_codings, without_factors}
+use Rattle.jpeg_streams.specs.LosslessScans.{lossless_codings}
 use Rattle.jpeg_segments.specs.declared.parser.CodingProcess.{CodingProcess}
 use Rattle.jpeg_segments.specs.declared.parser.CodingProcess.TheVariants.{DctSequential}
 use Rattle.jpeg_segments.specs.declared.parser.CodingProcess.TheVariants.{DctProgressive, Lossless}
@@ -250,7 +250,7 @@ abbrev pub read_by : CodingProcess → Found → Frame → headers.Scan → List
     → Outcome (Found × Option Marker)
 read_by DctSequential found frame scan bytes = blocks_read found frame scan bytes
 read_by DctProgressive found frame scan bytes = blocks_read found frame scan bytes
-read_by Lossless found frame scan bytes = samples_read found (without_factors frame) scan bytes
+read_by Lossless found frame scan bytes = samples_read found frame scan bytes
 
 -- a scan by what was found before it
 unfoldable pub scan_read : Found → List ℕ → Outcome (Found × Option Marker)

@@ -1,13 +1,17 @@
 //! Scans of lossless frames (T.81, B.2.3 and Annex H).
-ghost use Rattle.std.specs.Prelude.{◌≡◌, MatchResult, OnOk, Ok, Some, map, true};
+ghost use Rattle.std.specs.Prelude.{◌≡◌, ◌<◌, ◌==◌, All, IfOk, MatchResult, OnOk, Ok, Some, length};
+ghost use Rattle.std.specs.Prelude.{map, true};
 ghost use Rattle.jpeg_bits.specs.Reading.{Answers, Names};
-ghost use Rattle.jpeg_segments.specs.FrameView.{frame_in, scan_in};
+ghost use Rattle.jpeg_segments.specs.Frame.{AllHaveSampling};
+ghost use Rattle.jpeg_segments.specs.FrameView.{component_in, frame_in, scan_in};
 ghost use Rattle.jpeg_segments.specs.ScanHeader.{IsScanOf};
 ghost use Rattle.jpeg_segments.specs.declared.parser.CodingProcess.TheVariants.{Lossless};
-ghost use Rattle.jpeg_streams.specs.LosslessScans.{tables_in, without_factors};
+ghost use Rattle.jpeg_streams.specs.LosslessScans.{tables_in};
 ghost use Rattle.jpeg_decoder.specs.Seen.{found_in};
 ghost use Rattle.jpeg_streams.specs.Sound.{IsSound};
 ghost use Rattle.jpeg_decoder.specs.Steps.{IsRefusal, samples_read, with_decoded};
+ghost use Rattle.jpeg_decoder.specs.LosslessParts.{mcus_high, mcus_wide, part_by, parts_at};
+ghost use Rattle.jpeg_lossless.specs.Codings.{part_in};
 
 use crate::decoded::Decoded;
 use crate::places::{needed, table_at};
@@ -18,9 +22,10 @@ use jpeg_bits::huffman::HuffmanTable;
 use jpeg_bits::marker::Marker;
 use jpeg_bits::scan::ScanInfo;
 use jpeg_bits::source::Source;
-use jpeg_lossless::scan::{Coding, read_scan};
-use jpeg_segments::parser::{CodingProcess, FrameInfo};
-use std::alloc::Global;
+use jpeg_lossless::scan::{Coding, Part, read_scan};
+use jpeg_segments::parser::{CodingProcess, Component, FrameInfo};
+use jpeg_segments::sizes::{ceiling, greatest_of};
+use std::alloc::{AllocError, Global};
 use std::io::Read;
 
 /// The tables in force for the differences of a scan's components. There are no default ones.
@@ -41,20 +46,85 @@ fn tables_of<'a>(
     Ok(tables)
 }
 
+/// What a scan has of a component: one sample an MCU where it is alone in the scan, and else as many
+/// as its factors say (T.81, A.2).
+fn part_of<'a>(component: &Component, is_alone: bool, table: &'a HuffmanTable) -> Part<'a>
+    ensures { part_in result ≡ part_by is_alone (component_in component.now) table.now }
+{
+    Part {
+        table,
+        across: if is_alone {
+            1
+        } else {
+            component.horizontal_sampling_factor
+        },
+        down: if is_alone {
+            1
+        } else {
+            component.vertical_sampling_factor
+        },
+        width: component.size.width,
+        height: component.size.height,
+    }
+}
+
+/// What a scan has of each of its components, which have these tables.
+fn parts_of<'a>(
+    alloc: Global,
+    frame: &FrameInfo,
+    places: &[usize],
+    tables: &[&'a HuffmanTable],
+) -> std::result::Result<Vec<Part<'a>>, AllocError>
+    requires within { All (λ place. place < length (frame_in frame.now).components) places.now }
+    requires count { length tables.now ≡ length places.now }
+    ensures { IfOk result (λ v. map part_in v.items ≡ parts_at (length places.now == 1)
+        (frame_in frame.now).components places.now (map (λ t. t.now) tables.now)) }
+{
+    let is_alone = places.len() == 1;
+    let mut parts = Vec::with_capacity(alloc, places.len())?;
+    for slot in 0..places.len() {
+        let component = &frame.components[places[slot]];
+        parts.push(part_of(component, is_alone, tables[slot]))?;
+    }
+    Ok(parts)
+}
+
+/// How many MCUs a row of a scan has, and how many rows there are: of a component alone, its
+/// samples.
+fn mcus_of(frame: &FrameInfo, places: &[usize]) -> (u16, u16)
+    requires some { 0 < length places.now }
+    requires within { All (λ place. place < length (frame_in frame.now).components) places.now }
+    requires sampling { AllHaveSampling (frame_in frame.now).components }
+    ensures wide { result.0 ≡ mcus_wide (frame_in frame.now) places.now }
+    ensures high { result.1 ≡ mcus_high (frame_in frame.now) places.now }
+{
+    if places.len() == 1 {
+        let size = frame.components[places[0]].size;
+        return (size.width, size.height);
+    }
+    let (horizontal, vertical) = greatest_of(&frame.components);
+    let wide = ceiling(u32::from(frame.image_size.width), u32::from(horizontal));
+    let high = ceiling(u32::from(frame.image_size.height), u32::from(vertical));
+    (wide as u16, high as u16)
+}
+
 /// How a scan of a frame is coded.
 fn coding_of(frame: &FrameInfo, header: &ScanInfo, restart_interval: u16) -> Coding
+    requires legal { IsScanOf (frame_in frame.now) (scan_in header.now) }
+    requires sampling { AllHaveSampling (frame_in frame.now).components }
     ensures { result ≡ record {
-      wide = frame.now.image_size.width;
-      high = frame.now.image_size.height;
+      wide = mcus_wide (frame_in frame.now) (scan_in header.now).components;
+      high = mcus_high (frame_in frame.now) (scan_in header.now).components;
       precision = frame.now.precision;
       predictor = header.now.predictor_selection;
       point_transform = header.now.point_transform;
       restart_interval = restart_interval;
     } }
 {
+    let (wide, high) = mcus_of(frame, &header.component_indices);
     Coding {
-        wide: frame.image_size.width,
-        high: frame.image_size.height,
+        wide,
+        high,
         precision: frame.precision,
         predictor: header.predictor_selection,
         point_transform: header.point_transform,
@@ -79,14 +149,15 @@ pub fn read_lossless_scan<R: Read + Drop>(
     requires legal { IsScanOf (frame_in frame.now) (scan_in header.now) }
     ensures reads { let found = found_in state.now in
         Answers (λ m. (record (with_decoded found decoded.new) { scanned = true }, m))
-        (samples_read (with_decoded found decoded.old) (without_factors (frame_in frame.now))
+        (samples_read (with_decoded found decoded.old) (frame_in frame.now)
         (scan_in header.now)) source.old result source.new }
     ensures sound { let found = found_in state.now in
         OnOk result (IsSound (record (with_decoded found decoded.new) { scanned = true })) }
 {
     let tables = tables_of(alloc, state, header)?;
+    let parts = parts_of(alloc, frame, &header.component_indices, &tables)?;
     let coding = coding_of(frame, header, state.restart_interval);
-    let (mut planes, met) = read_scan(alloc, source, coding, &tables)?;
+    let (mut planes, met) = read_scan(alloc, source, coding, &parts)?;
     decoded.put_samples(alloc, &header.component_indices, &mut planes);
     pass_restarts(alloc, source, met)
 }

@@ -7,7 +7,8 @@ ghost use Rattle.jpeg_segments.specs.FrameView.{component_in, frame_in};
 ghost use Rattle.jpeg_pixels.specs.Pictures.{AreWhole};
 ghost use Rattle.jpeg_pixels.specs.Scaled.{IsScale};
 ghost use Rattle.jpeg_streams.specs.EndPlanes.{AreBlocksOf, blocks_if, is_held, plane_or};
-ghost use Rattle.jpeg_streams.specs.LosslessScans.{samples_from, without_factors};
+ghost use Rattle.jpeg_segments.specs.declared.parser.CodingProcess.TheVariants.{Lossless};
+ghost use Rattle.jpeg_streams.specs.LosslessScans.{samples_from};
 ghost use Rattle.jpeg_decoder.specs.Scanning.{arrays_in, blocks_in};
 ghost use Rattle.jpeg_decoder.specs.Seen.{found_in, metadata_in, planes_in};
 ghost use Rattle.jpeg_streams.specs.Sound.{IsDecodedFrame, IsPlaneOf, IsSound, HasDecodedFrame};
@@ -243,8 +244,9 @@ fn samples_picture(
 ) -> Result<Vec<u8>>
     requires sound { IsSound (with_decoded (found_in state.now) decoded.old) }
     requires frame { (found_in state.now).frame ≡ Some (frame_in frame.now) }
+    requires process { (frame_in frame.now).process ≡ Lossless }
     ensures { let expected = samples_picture (with_decoded (found_in state.now) decoded.old)
-        (without_factors (frame_in frame.now)) in
+        (frame_in frame.now) in
         MatchResult result (λ v. expected ≡ Ok v.items) (λ e. IsRefusal e × Names e expected) }
 {
     let planes = samples_at_end(alloc, frame, decoded)?;

@@ -1,10 +1,11 @@
-use Rattle.std.proofs.Common.{◌*◌, ◌∙◌, length, map, arith}
-use Rattle.std.proofs.lemmas.List.{length-map}
+use Rattle.std.proofs.Common.{length, map, arith}
 use Rattle.std.proofs.lemmas.Result.{err_from_is_err_and}
 use Rattle.jpeg_segments.specs.FrameView.{frame_in}
 use Rattle.jpeg_decoder.specs.Seen.{found_in, planes_in}
 use Rattle.jpeg_decoder.specs.Steps.{with_decoded}
 use Rattle.jpeg_decoder.proofs.LosslessReads.{picture-given, picture-lacks, picture-made, samples-whole}
+use Rattle.jpeg_decoder.proofs.PicturesOfPlanes.{decoded-factors}
+use Rattle.jpeg_streams.proofs.LosslessSizes.{all-reach, decoded-made}
 use Rattle.jpeg_streams.proofs.Soundness.{count-few, decoded-count}
 use Rattle.jpeg_decoder.proofs.picture.samples_picture.Goals as goal
 
@@ -36,9 +37,20 @@ compute_image_lossless-requires-clause-most c =
 pub compute_image_lossless-requires-clause-whole : goal.compute_image_lossless-requires-clause-whole
 compute_image_lossless-requires-clause-whole c =
     let frame = frame_in c.args.frame.now in
-    samples-whole (frame.width * frame.height) (planes_in c.args.decoded.now.samples) 0 frame.components
+    samples-whole (planes_in c.args.decoded.now.samples) frame.components
     (map (λ v. v.items) c.in_ok-planes.planes.items) (c.requires.sound.samples frame c.requires.frame)
     c.in_ok-planes.ensures.planes
+
+pub compute_image_lossless-requires-clause-sampling : goal.compute_image_lossless-requires-clause-sampling
+compute_image_lossless-requires-clause-sampling c =
+    let frame = frame_in c.args.frame.now in
+    decoded-factors frame (c.requires.sound.frames frame c.requires.frame)
+
+pub compute_image_lossless-requires-clause-reaches : goal.compute_image_lossless-requires-clause-reaches
+compute_image_lossless-requires-clause-reaches c =
+    let frame = frame_in c.args.frame.now in
+    all-reach frame frame.components
+    (decoded-made frame (c.requires.sound.frames frame c.requires.frame) c.requires.process)
 
 pub returns : goal.returns
 returns c =
@@ -46,6 +58,5 @@ returns c =
     let found = with_decoded (found_in c.args.state.now) c.args.decoded.now in
     let planes = map (λ v. v.items) c.in_ok-planes.planes.items in
     picture-given (λ v. v.items) c.compute_image_lossless.result _ _
-    (picture-made found frame planes c.in_ok-planes.ensures.planes
-    (length-map c.in_ok-planes.planes.items (λ v. v.items) ∙ c.in_ok-planes.ensures.count))
+    (picture-made found frame planes c.in_ok-planes.ensures.planes)
     c.compute_image_lossless.ensures.pixels c.compute_image_lossless.ensures.err

@@ -1,0 +1,35 @@
+-- Where all components have the same factors, the picture of samples shows them one by one.
+use Rattle.std.proofs.Common.{◌≡◌, ℕ, ◌+◌, ◌*◌, ◌/◌, ◌<◌, List, [], ◌∷◌, ◌++◌, map, length, refl, ap, ap₂, ◌∙◌, arith}
+use Rattle.std.specs.List.{AllByRecursion, concat, range_with_len}
+use Rattle.std.proofs.lemmas.Nat.{div-mul-add}
+use Rattle.jpeg_segments.specs.Frame.{Component, Frame}
+use Rattle.jpeg_lossless.specs.Pictures.{most_across, most_down, sample_bytes}
+use Rattle.jpeg_lossless.specs.Places.{at_place}
+use Rattle.jpeg_streams.specs.PlainSamples.{HasEqualFactors, plain_picture}
+use Rattle.jpeg_streams.specs.WrittenLossless.{Samples, picture_of_samples, pixel_from}
+use Rattle.jpeg_streams.proofs.LosslessSizes.{some-across, some-down}
+
+through : (x factor most : ℕ) → 0 < most → factor ≡ most → x * factor / most ≡ x
+through x factor most h e =
+    let z : x * most ≡ x * most + 0 = omega arith in
+    ap (λ (n : ℕ). x * n / most) e ∙ ap (λ (n : ℕ). n / most) z ∙ div-mul-add x most 0 h
+
+pixel-plain : (frame : Frame) (samples : Samples) (y x place : ℕ) (cs : List Component)
+    → AllByRecursion (λ c. (c.factors.horizontal ≡ most_across frame) × (c.factors.vertical ≡ most_down frame)) cs
+    → pixel_from frame samples y x place cs
+    ≡ concat (map (λ k. sample_bytes frame.precision (at_place (samples k) x y)) (range_with_len place (length cs)))
+unfolding pixel_from
+pixel-plain frame samples y x place [] h = refl
+pixel-plain frame samples y x place (c ∷ cs) h =
+    ap₂ (λ (a b : List ℕ). a ++ b)
+    (ap₂ (λ (i j : ℕ). sample_bytes frame.precision (at_place (samples place) i j))
+    (through x c.factors.horizontal (most_across frame) (some-across frame) h.0.0)
+    (through y c.factors.vertical (most_down frame) (some-down frame) h.0.1))
+    (pixel-plain frame samples y x (place + 1) cs h.1)
+
+pub picture-plain : (frame : Frame) (samples : Samples) → HasEqualFactors frame
+    → picture_of_samples frame samples ≡ plain_picture frame samples
+unfolding picture_of_samples plain_picture
+picture-plain frame samples h =
+    (λ i. concat (map (λ y. concat (map (λ x. pixel-plain frame samples y x 0 frame.components h i)
+    (range_with_len 0 frame.width))) (range_with_len 0 frame.height)))

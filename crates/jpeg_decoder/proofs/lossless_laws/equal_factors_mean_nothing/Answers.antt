@@ -1,0 +1,5 @@
+use Rattle.jpeg_decoder.proofs.PlainPixels.{picture-plain}
+use Rattle.jpeg_decoder.proofs.lossless_laws.equal_factors_mean_nothing.Goals as goal
+
+pub returns : goal.returns
+returns c = picture-plain

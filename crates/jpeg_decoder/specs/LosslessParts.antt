@@ -1,0 +1,45 @@
+-- What a lossless scan has of its components, by their places in the frame.
+use Rattle.std.specs.Prelude.{ℕ, Bool, true, false, List, [], ◌∷◌, get_or}
+use Rattle.jpeg_bits.specs.Codes.{Table}
+use Rattle.jpeg_segments.specs.Frame.{Component, Frame, ceiling}
+use Rattle.jpeg_lossless.specs.Differences.{Part}
+use Rattle.jpeg_lossless.specs.Pictures.{most_across, most_down}
+
+-- no component
+abbrev pub no_component : Component
+no_component = record {
+  factors = record { identifier = 0; horizontal = 0; vertical = 0; quantization = 0 };
+  scale = 0;
+  width = 0;
+  height = 0;
+  blocks_wide = 0;
+  blocks_high = 0;
+}
+
+abbrev pub factor_by : Bool → ℕ → ℕ
+factor_by true factor = 1
+factor_by false factor = factor
+
+abbrev pub part_by : Bool → Component → Table → Part
+part_by is_alone c table = record {
+  table = table;
+  across = factor_by is_alone c.factors.horizontal;
+  down = factor_by is_alone c.factors.vertical;
+  width = c.width;
+  height = c.height;
+}
+
+unfoldable pub parts_at : Bool → List Component → List ℕ → List Table → List Part
+parts_at is_alone components (place ∷ places) (table ∷ tables) =
+    part_by is_alone (get_or components place no_component) table
+    ∷ parts_at is_alone components places tables
+parts_at is_alone components _ _ = []
+
+-- the MCUs of a scan of the components at these places, across and down
+unfoldable pub mcus_wide : Frame → List ℕ → ℕ
+mcus_wide frame (place ∷ []) = (get_or frame.components place no_component).width
+mcus_wide frame places = ceiling frame.width (most_across frame)
+
+unfoldable pub mcus_high : Frame → List ℕ → ℕ
+mcus_high frame (place ∷ []) = (get_or frame.components place no_component).height
+mcus_high frame places = ceiling frame.height (most_down frame)
