@@ -224,6 +224,60 @@ const SCANS: [(&str, &str, Gives); 12] = [
     ),
 ];
 
+/// Unequal sampling factors. The first component has two samples an MCU, side by side or one above
+/// the other.
+const FACTORS: [(&str, &str, Gives); 8] = [
+    (
+        "two samples side by side in one scan",
+        "FFD8 FFC3 0011 08 0001 0002 03 01 21 00 02 11 00 03 11 00 FFC4 0015 00 01 01 00*14 00 01
+         FFDA 000C 03 01 00 02 00 03 00 010000 B17F FFD9",
+        Gives::Colours("2 1 RGB24", "818081 808081", 1),
+    ),
+    (
+        "two samples side by side in a scan of their own",
+        "FFD8 FFC3 0011 08 0001 0002 03 01 21 00 02 11 00 03 11 00 FFC4 0015 00 01 01 00*14 00 01
+         FFDA 0008 01 01 00 010000 B3 FFDA 0008 01 02 00 010000 7F
+         FFDA 0008 01 03 00 010000 BF FFD9",
+        Gives::Colours("2 1 RGB24", "818081 808081", 1),
+    ),
+    (
+        "a sample of padding",
+        "FFD8 FFC3 0011 08 0001 0003 03 01 21 00 02 11 00 03 11 00 FFC4 0015 00 01 01 00*14 00 01
+         FFDA 000C 03 01 00 02 00 03 00 010000 A25A FFD9",
+        Gives::Colours("3 1 RGB24", "818080 818080 808180", 1),
+    ),
+    (
+        "another sample of padding",
+        "FFD8 FFC3 0011 08 0001 0003 03 01 21 00 02 11 00 03 11 00 FFC4 0015 00 01 01 00*14 00 01
+         FFDA 000C 03 01 00 02 00 03 00 010000 A22B FFD9",
+        Gives::Colours("3 1 RGB24", "818080 818080 808180", 1),
+    ),
+    (
+        "an interval that ends inside a row of MCUs",
+        "FFD8 FFC3 0011 08 0001 0003 03 01 21 00 02 11 00 03 11 00 FFC4 0015 00 01 01 00*14 00 01
+         FFDD 0004 0001 FFDA 000C 03 01 00 02 00 03 00 010000 A25A FFD9",
+        Gives::Format,
+    ),
+    (
+        "an interval of a row of MCUs",
+        "FFD8 FFC3 0011 08 0001 0003 03 01 21 00 02 11 00 03 11 00 FFC4 0015 00 01 01 00*14 00 01
+         FFDD 0004 0002 FFDA 000C 03 01 00 02 00 03 00 010000 A25A FFD9",
+        Gives::Colours("3 1 RGB24", "818080 818080 808180", 1),
+    ),
+    (
+        "two samples one above the other, with a restart",
+        "FFD8 FFC3 0011 08 0004 0001 03 01 12 00 02 11 00 03 11 00 FFC4 0015 00 01 01 00*14 00 01
+         FFDD 0004 0001 FFDA 000C 03 01 00 02 00 03 00 010000 A3 FFD0 5A FFD9",
+        Gives::Colours("1 4 RGB24", "818080 818080 808180 818180", 1),
+    ),
+    (
+        "the only component has any factors",
+        "FFD8 FFC3 000B 08 0002 0002 01 01 22 00 FFC4 0015 00 01 01 00*14 00 01 S(010000) B2BF
+         FFD9",
+        Gives::Colours("2 2 L8", "8180 8282", 1),
+    ),
+];
+
 #[test]
 fn lossless_selections_give_their_picture(rt: HostRuntime) -> Result<(), Fail> {
     assert_named(&rt, rt.alloc(), &SELECTIONS)
@@ -242,6 +296,11 @@ fn lossless_intervals_give_their_picture(rt: HostRuntime) -> Result<(), Fail> {
 #[test]
 fn lossless_scans_give_their_picture(rt: HostRuntime) -> Result<(), Fail> {
     assert_named(&rt, rt.alloc(), &SCANS)
+}
+
+#[test]
+fn lossless_factors_give_their_picture(rt: HostRuntime) -> Result<(), Fail> {
+    assert_named(&rt, rt.alloc(), &FACTORS)
 }
 
 #[test]
