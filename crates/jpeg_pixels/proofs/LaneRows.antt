@@ -103,7 +103,7 @@ sums_numbers turned rows f numbers sums = record {
         (transformed_same (λ k. lane_at turned k y) (f y) x
         (λ k hk. lane_at_is turned (λ k j. f j k) numbers k y hk h)))
 
-own_lanes : (v : List ℤ) → length v ≡ 8 → v ≡ lanes (λ j. lane v j)
+pub own_lanes : (v : List ℤ) → length v ≡ 8 → v ≡ lanes (λ j. lane v j)
 unfolding lanes
 own_lanes v e = fill_by_all (λ j. lane v j) v 8 (pos 0) e (λ k h. refl)
 

@@ -13,3 +13,4 @@ pub mod LaneRows
 pub mod PicturesView
 pub mod Workers
 pub mod GrowingView
+pub mod ShortRows

@@ -10,6 +10,7 @@ ghost use Rattle.jpeg_pixels.specs.Samples.{column_value, sample};
 ghost use Rattle.jpeg_pixels.specs.Lanes.{lanes, lane, lane_is_zero};
 ghost use Rattle.jpeg_pixels.specs.Blocks.{WritesBlock};
 ghost use Rattle.jpeg_pixels.specs.LaneRows.{lane_at, HasNumbers, HasZeros, IsInCorner, IsTurned};
+ghost use Rattle.jpeg_pixels.specs.ShortRows.{short_lane_at};
 
 pub use crate::color_rows::color_convert_line_ycbcr;
 use crate::idct::{COLUMN_BIAS, ROW_BIAS, sample_of};
@@ -130,6 +131,63 @@ fn transpose(rows: Rows) -> Rows
         r5,
         r6,
         r7,
+    }
+}
+
+// Eight rows of eight short lanes.
+#[derive(Clone, Copy)]
+struct Shorts {
+    r0: i16x8,
+    r1: i16x8,
+    r2: i16x8,
+    r3: i16x8,
+    r4: i16x8,
+    r5: i16x8,
+    r6: i16x8,
+    r7: i16x8,
+}
+
+// Two products added, in each lane: the processor's product of pairs.
+#[inline(always)]
+fn pair(a: i16x8, b: i16x8, first: i32, second: i32) -> i32x8
+    ensures { result ≡ lanes (λ j. int_wrap w32 (lane a j *ℤ first +ℤ lane b j *ℤ second)) }
+{
+    a.cast::<i32>() * i32x8::splat(first) + b.cast::<i32>() * i32x8::splat(second)
+}
+
+// The transform of each lane's eight numbers, modulo 2^32, by products of pairs. Each pair is used
+// twice, so that the compiler doesn't add its products in another order.
+#[inline(always)]
+fn short_kernel(s: Shorts, x_scale: i32) -> Rows
+    ensures { HasNumbers result
+        (λ place j. int_wrap w32 (transformed (λ k. short_lane_at s k j) place +ℤ x_scale)) }
+{
+    let x_scale = i32x8::splat(x_scale);
+    let e0 = pair(s.r0, s.r4, 4096, 4096) + x_scale;
+    let e1 = pair(s.r0, s.r4, 4096, -4096) + x_scale;
+    let o0 = pair(s.r2, s.r6, 5352, 2217);
+    let o1 = pair(s.r2, s.r6, 2217, -5350);
+    let x0 = e0 + o0;
+    let x1 = e1 + o1;
+    let x2 = e1 - o1;
+    let x3 = e0 - o0;
+    let a0 = pair(s.r1, s.r3, 1131, -3218);
+    let b0 = pair(s.r5, s.r7, 4816, -5680);
+    let a1 = pair(s.r1, s.r3, 3219, -5681);
+    let b1 = pair(s.r5, s.r7, 1132, 4816);
+    let a2 = pair(s.r1, s.r3, 4816, -1129);
+    let b2 = pair(s.r5, s.r7, -5681, -3218);
+    let a3 = pair(s.r1, s.r3, 5683, 4816);
+    let b3 = pair(s.r5, s.r7, 3219, 1131);
+    Rows {
+        r0: (x0 + a3) + b3,
+        r1: (x1 + a2) + b2,
+        r2: (x2 + a1) + b1,
+        r3: (x3 + a0) + b0,
+        r4: (x3 - a0) - b0,
+        r5: (x2 - a1) - b1,
+        r6: (x1 - a2) - b2,
+        r7: (x0 - a3) - b3,
     }
 }
 
