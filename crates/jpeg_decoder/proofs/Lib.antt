@@ -31,3 +31,5 @@ mod WrittenLosslessStreams
 mod LosslessPixels
 mod PlainPixels
 mod DecodedSamples
+pub mod ImageSizes
+pub mod PictureSizes

@@ -5,3 +5,5 @@ pub mod Scanning
 pub mod Strips
 pub mod Steps
 pub mod LosslessParts
+-- how many bytes a picture has
+pub mod Bytes

@@ -13,6 +13,7 @@ ghost use Rattle.jpeg_streams.specs.States.{HeaderRead};
 ghost use Rattle.jpeg_streams.specs.DecodedImages.{DecodesImages};
 ghost use Rattle.jpeg_streams.specs.DecodedSamples.{DecodesSamples};
 ghost use Rattle.jpeg_decoder.specs.Seen.{found_in};
+ghost use Rattle.jpeg_decoder.specs.Bytes.{IsWhole};
 ghost use Rattle.jpeg_streams.specs.Pixels.{format_of, info_of};
 ghost use Rattle.jpeg_streams.specs.Sound.{HasDecodedFrame, IsSound, IsUnread};
 ghost use Rattle.jpeg_decoder.specs.declared.decoder.Progress.TheVariants.{Failed};
@@ -347,6 +348,9 @@ impl<R: Read + Drop> Decoder<R> {
 
         // After an Ok there is a frame, so that `info` answers.
         ensures framed { IfOk result (λ _. is_some self.new.found.frame ≡ true) }
+
+        // The picture of a frame of blocks has a byte of each component for each pixel.
+        ensures size { IfOk result (λ v. IsWhole self.new.found.frame v.items) }
     {
         let result = match self.progress {
             Progress::Fresh => read_stream(

@@ -21,6 +21,7 @@ ghost use Rattle.jpeg_streams.specs.Reported.{told_in_turns, told_rest};
 ghost use Rattle.jpeg_streams.specs.FoundPictures.{blocks_picture, picture_of, picture_by};
 ghost use Rattle.jpeg_streams.specs.FoundPictures.{planes_from, samples_picture};
 ghost use Rattle.jpeg_streams.specs.Found.{nothing_found};
+ghost use Rattle.jpeg_decoder.specs.Bytes.{HasBytesBy, IsWhole};
 
 use crate::codings::is_progressive;
 use crate::color_choice::choose_color_transform;
@@ -209,9 +210,11 @@ fn blocks_picture(
 ) -> Result<Vec<u8>>
     requires sound { IsSound (with_decoded (found_in state.now) decoded.old) }
     requires frame { (found_in state.now).frame ≡ Some (frame_in frame.now) }
-    ensures { let expected = blocks_picture settings (with_decoded (found_in state.now) decoded.old)
+    ensures meant { let expected = blocks_picture settings (with_decoded (found_in state.now) decoded.old)
         (frame_in frame.now) in
         MatchResult result (λ v. expected ≡ Ok v.items) (λ e. IsRefusal e × Names e expected) }
+    ensures size { IfOk result (λ v. HasBytesBy (frame_in frame.now).process (frame_in frame.now)
+        v.items) }
 {
     let planes = planes_at_end(alloc, state, frame, decoded)?;
     picture_by(alloc, state, frame, planes, settings)
@@ -262,8 +265,9 @@ fn picture(
     settings: Settings,
 ) -> Result<Vec<u8>>
     requires sound { IsSound (with_decoded (found_in state.now) decoded.old) }
-    ensures { let expected = picture_of settings (with_decoded (found_in state.now) decoded.old) in
+    ensures meant { let expected = picture_of settings (with_decoded (found_in state.now) decoded.old) in
         MatchResult result (λ v. expected ≡ Ok v.items) (λ e. IsRefusal e × Names e expected) }
+    ensures size { IfOk result (λ v. IsWhole (found_in state.now).frame v.items) }
 {
     let frame = needed(alloc, state.frame.as_ref(), "an image without a frame")?;
     if !is_within(
@@ -322,6 +326,7 @@ fn read_picture<R: Read + Drop>(
     ensures stays { is_some (found_in state.old).frame ≡ true → (found_in state.new).frame
         ≡ (found_in state.old).frame }
     ensures frames { OnOk result (HasDecodedFrame (found_in state.new)) }
+    ensures size { IfOk result (λ v. IsWhole (found_in state.new).frame v.items) }
 {
     state.read(alloc, source, false)?;
     let mut decoded = std::mem::replace(&mut state.decoded, Decoded::new(alloc));
@@ -348,6 +353,7 @@ pub fn read_rest<R: Read + Drop>(
     ensures stays { is_some (found_in state.old).frame ≡ true → (found_in state.new).frame
         ≡ (found_in state.old).frame }
     ensures frames { OnOk result (HasDecodedFrame (found_in state.new)) }
+    ensures size { IfOk result (λ v. IsWhole (found_in state.new).frame v.items) }
 {
     let result = read_picture(alloc, source, state, settings);
     state.decoded = Decoded::new(alloc);
@@ -371,6 +377,7 @@ pub fn read_stream<R: Read + Drop>(
         (λ n. told_by_turns n false source.old.bytes) (told_of (found_in state.new)) }
     ensures framed { IfOk result (λ _. is_some (found_in state.new).frame ≡ true) }
     ensures frames { OnOk result (HasDecodedFrame (found_in state.new)) }
+    ensures size { IfOk result (λ v. IsWhole (found_in state.new).frame v.items) }
 {
     read_start(alloc, source)?;
     read_rest(alloc, source, state, settings)

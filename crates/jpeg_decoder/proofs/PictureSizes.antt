@@ -1,0 +1,193 @@
+-- The number of bytes of a picture of a frame that is decoded.
+use Rattle.std.proofs.Common.{◌≡◌, ℕ, zero, suc, ◌+◌, ◌*◌, ◌/◌, ◌<◌, ◌≤◌, List, [], ◌∷◌, length, sym, ap, ap₂, ◌∙◌}
+use Rattle.std.proofs.Common.{refl, arith, subst, Result, Ok, Err, Option, Some, None, Bool, true, false}
+use Rattle.std.specs.Prelude.{MatchResult, IfOk}
+use Rattle.jpeg_bits.specs.declared.error.Error.{Error}
+use Rattle.jpeg_decoder.specs.Bytes.{HasBytes, HasBytesBy}
+use Rattle.std.specs.Prelude.{not}
+use Rattle.std.proofs.Math.Bool.{cond}
+use Rattle.jpeg_bits.specs.Reading.{Lacks}
+use Rattle.jpeg_bits.specs.declared.error.UnsupportedFeature.TheVariants as features
+use Rattle.jpeg_segments.specs.declared.parser.CodingProcess.{CodingProcess}
+use Rattle.jpeg_segments.specs.declared.parser.CodingProcess.TheVariants.{DctSequential, DctProgressive, Lossless}
+use Rattle.jpeg_streams.specs.Pixels.{bytes_a_pixel, format_of}
+use Rattle.jpeg_streams.specs.Segments.{accepted, is_decoded_count, is_arithmetic, is_decoded_precision}
+use Rattle.std.specs.Prelude.{◌==◌, ◌||◌, min}
+use Rattle.std.specs.List.{AllByRecursion}
+use Rattle.std.proofs.lemmas.Bool.{eqb-true}
+use Rattle.std.proofs.lemmas.List.Elements.{recursion_from_All}
+use Rattle.std.proofs.Common.{mul_assoc}
+use Rattle.std.proofs.Math.Nat.{mul_comm, mul-div_cancel}
+use Rattle.jpeg_bits.specs.Reading.{Fault, ◌>>=◌}
+use Rattle.jpeg_segments.specs.Frame.{Frame, Component, IsInRange, ceiling}
+use Rattle.jpeg_segments.specs.Scales.{is_scale, frame_at}
+use Rattle.jpeg_pixels.specs.Pictures.{AreWhole, image_of}
+use Rattle.jpeg_pixels.specs.Planes.{cropped}
+use Rattle.jpeg_pixels.proofs.FrameCovers.{ceiling-low}
+use Rattle.jpeg_streams.specs.ColourChoice.{identifiers_of, transform_of}
+use Rattle.jpeg_streams.specs.Found.{Metadata}
+use Rattle.jpeg_streams.specs.FoundPictures.{picture_by, picture_in}
+use Rattle.jpeg_streams.specs.InTurn.{Fits}
+use Rattle.jpeg_streams.specs.Sound.{IsDecodedFrame}
+use Rattle.jpeg_streams.specs.declared.settings.Settings.{Settings}
+use Rattle.jpeg_streams.proofs.BroughtLevels.{Made}
+use Rattle.jpeg_streams.proofs.OwnSpots.{At}
+use Rattle.jpeg_streams.proofs.ScaledSizes.{one-made, scale-made}
+use Rattle.jpeg_streams.proofs.Soundness.{decoded-count, decoded-fits}
+use Rattle.jpeg_decoder.proofs.ImageSizes.{cropped-length, image-length}
+
+some-scale : (s : ℕ) → is_scale s ≡ true → 0 < s
+some-scale zero h = absurd (cc)
+some-scale (suc s) h = omega arith
+
+made-of : (f : Frame) → IsDecodedFrame f → Made f
+made-of f p =
+    let q = p.is_read in
+    record {
+      number = q.number;
+      precision = q.precision;
+      width = q.width;
+      height = q.height;
+      factors = q.factors;
+      in_range = recursion_from_All IsInRange q.factors q.in_range;
+      some_width = q.some_width;
+      some_height = q.some_height;
+      scale = p.scale;
+      some_scale = some-scale p.scale p.is_scale;
+      is = p.made ∙ ap (frame_at p.scale) q.made;
+    }
+
+-- an area within a plane of whole lines
+area : (w h stride lines n : ℕ) → w ≤ stride → h ≤ lines → n ≡ lines * stride
+    → min w stride * min h (n / stride) ≡ h * (1 * w)
+area w h zero lines n wide high e =
+    let none : min w 0 ≡ 0 = omega arith in
+    let no_width : w ≡ 0 = omega arith in
+    let left : 0 * min h (n / 0) ≡ 0 = omega arith in
+    let right : 0 ≡ h * (1 * 0) = omega arith in
+    ap (λ k. k * min h (n / 0)) none ∙ left ∙ right ∙ ap (λ k. h * (1 * k)) (sym no_width)
+area w h (suc s) lines n wide high e =
+    let count : n / suc s ≡ lines = ap (λ k. k / suc s) e ∙ mul-div_cancel lines {n = suc s} (omega arith) in
+    let all_wide : min w (suc s) ≡ w = omega arith in
+    let all_high : min h (n / suc s) ≡ h = ap (λ k. min h k) count ∙ omega arith in
+    let one : 1 * w ≡ w = omega arith in
+    ap₂ (λ (a b : ℕ). a * b) all_wide all_high ∙ mul_comm w h ∙ ap (λ k. h * k) (sym one)
+
+one-length : (f : Frame) (c : Component) (plane : List ℕ) → IsDecodedFrame f → f.components ≡ c ∷ []
+    → length plane ≡ (c.blocks_high * c.scale) * (c.blocks_wide * c.scale)
+    → length (picture_in f c plane) ≡ f.output_height * (1 * f.output_width)
+one-length f c plane p e long =
+    let stride = c.scale * c.blocks_wide in
+    let made = made-of f p in
+    let size = one-made f c made e in
+    let fits : Fits f c = (subst (λ (l : List Component). AllByRecursion (Fits f) l) e (decoded-fits f p)).0 in
+    let some : 0 < c.scale = scale-made f made 0 c (subst (λ (l : List Component). At 0 l c) (sym e) refl) in
+    let wide : c.width ≤ c.scale * ceiling c.width c.scale = ceiling-low c.width c.scale some in
+    let high : c.height ≤ c.scale * ceiling c.height c.scale = ceiling-low c.height c.scale some in
+    let wide' : f.output_width ≤ stride = omega (arith, wide, size.0, grow c.scale _ _ fits.own_wide) in
+    let high' : f.output_height ≤ c.blocks_high * c.scale =
+    omega (arith, high, size.1, grow c.scale _ _ fits.own_high, mul_comm c.blocks_high c.scale) in
+    let long' : length plane ≡ (c.blocks_high * c.scale) * stride =
+    long ∙ ap (λ k. (c.blocks_high * c.scale) * k) (mul_comm c.blocks_wide c.scale) in
+    cropped-length stride (min f.output_width stride) (min f.output_height (length plane / stride)) plane
+    ∙ area f.output_width f.output_height stride (c.blocks_high * c.scale) (length plane) wide' high' long'
+  where
+    grow : (k a b : ℕ) → a ≤ b → k * a ≤ k * b
+    grow zero a b h = omega arith
+    grow (suc k) a b h = let more = grow k a b h in omega (arith, more)
+
+pub picture-length : (settings : Settings) (m : Metadata) (f : Frame) (planes : List (List ℕ)) (picture : List ℕ)
+    → IsDecodedFrame f → AreWhole f.components planes → length planes ≡ length f.components
+    → picture_by settings m f f.components planes ≡ Ok picture
+    → length picture ≡ f.output_height * (length f.components * f.output_width)
+unfolding picture_by AreWhole
+picture-length settings m f planes picture p whole count is = go f.components refl planes whole count is
+  where
+    several : (cs : List Component) (ps : List (List ℕ)) → length ps ≡ length cs
+        → image_of cs ps f.output_width f.output_height
+        (transform_of settings.color_transform (identifiers_of cs) m.jfif m.adobe) ≡ Ok picture
+        → length picture ≡ f.output_height * (length cs * f.output_width)
+    several cs ps n e = image-length cs ps f.output_width f.output_height _ picture n e
+
+    go : (cs : List Component) → f.components ≡ cs → (ps : List (List ℕ)) → AreWhole cs ps → length ps ≡ length cs
+        → picture_by settings m f cs ps ≡ Ok picture
+        → length picture ≡ f.output_height * (length cs * f.output_width)
+    go [] e ps w n h = several [] ps n h
+    go (c ∷ []) e [] w n h = absurd (omega arith)
+    go (c ∷ []) e (q ∷ ps) w n h =
+        let same : picture_in f c q ≡ picture = cc in
+        ap (λ (l : List ℕ). length l) (sym same) ∙ one-length f c q p e w.0
+    go (c ∷ d ∷ more) e ps w n h = several (c ∷ d ∷ more) ps n h
+
+-- ---- by its format
+
+unless-ok : {A : Type 0} (b : Bool) (x : Result A Fault) (e : Fault) (y : A) → cond b (Err e) x ≡ Ok y → (b ≡ false)
+    × (x ≡ Ok y)
+unless-ok true x e y h = absurd (cc)
+unless-ok false x e y h = (refl, h)
+
+not-false : (b : Bool) → not b ≡ false → b ≡ true
+not-false true h = refl
+not-false false h = absurd (cc)
+
+accepted-precision : (f g : Frame) → accepted f ≡ Ok g → is_decoded_precision f.process f.precision ≡ true
+unfolding accepted
+accepted-precision f g h =
+    let a = unless-ok f.is_differential _ _ g h in
+    let b = unless-ok (is_arithmetic f.coding) _ (Lacks features.ArithmeticEntropyCoding) g a.1 in
+    not-false (is_decoded_precision f.process f.precision)
+    (unless-ok (not (is_decoded_precision f.process f.precision)) _ (Lacks (features.SamplePrecision f.precision)) g
+    b.1).0
+
+precision-of : (f : Frame) → IsDecodedFrame f → is_decoded_precision f.process f.precision ≡ true
+unfolding frame_at
+precision-of f p =
+    ap₂ (λ (x : CodingProcess) (n : ℕ). is_decoded_precision x n) (ap (λ (x : Frame). x.process) p.made)
+    (ap (λ (x : Frame). x.precision) p.made)
+    ∙ accepted-precision p.full p.full p.is_accepted
+
+-- of 8 bits, so many bytes as components
+format-bytes : (n : ℕ) → is_decoded_count n ≡ true → bytes_a_pixel (format_of n 8) ≡ n
+format-bytes n h = go (n == 1) refl (n == 3) refl (n == 4) refl h
+  where
+    go : (a : Bool) → (n == 1) ≡ a → (b : Bool) → (n == 3) ≡ b → (c : Bool) → (n == 4) ≡ c → (a || (b || c)) ≡ true
+        → bytes_a_pixel (format_of n 8) ≡ n
+    go true e b f c g h = subst (λ k. bytes_a_pixel (format_of k 8) ≡ k) (sym (eqb-true n 1 e)) refl
+    go false e true f c g h = subst (λ k. bytes_a_pixel (format_of k 8) ≡ k) (sym (eqb-true n 3 f)) refl
+    go false e false f true g h = subst (λ k. bytes_a_pixel (format_of k 8) ≡ k) (sym (eqb-true n 4 g)) refl
+    go false e false f false g h = absurd (cc)
+
+turned : (w h n k : ℕ) → k ≡ n → h * (n * w) ≡ w * h * k
+turned w h n k e = ap (λ m. h * m) (mul_comm n w) ∙ sym (mul_assoc h w n) ∙ ap (λ m. m * n) (mul_comm h w)
+    ∙ ap (λ m. w * h * m) (sym e)
+
+by-info : (f : Frame) (pixels : List ℕ) → IsDecodedFrame f → f.precision ≡ 8
+    → length pixels ≡ f.output_height * (length f.components * f.output_width) → HasBytes f pixels
+unfolding HasBytes
+by-info f pixels p eight long =
+    long ∙ turned f.output_width f.output_height (length f.components)
+    (bytes_a_pixel (format_of (length f.components) f.precision))
+    (ap (λ n. bytes_a_pixel (format_of (length f.components) n)) eight
+    ∙ format-bytes (length f.components) (decoded-count f p))
+
+whole-by : (f : Frame) (pixels : List ℕ) → IsDecodedFrame f
+    → length pixels ≡ f.output_height * (length f.components * f.output_width) → HasBytesBy f.process f pixels
+whole-by f pixels p long = go f.process refl
+  where
+    go : (x : CodingProcess) → f.process ≡ x → HasBytesBy x f pixels
+    go DctSequential e = by-info f pixels p
+        (eqb-true f.precision 8 (ap (λ (x : CodingProcess). is_decoded_precision x f.precision) (sym e)
+        ∙ precision-of f p)) long
+    go DctProgressive e = by-info f pixels p
+        (eqb-true f.precision 8 (ap (λ (x : CodingProcess). is_decoded_precision x f.precision) (sym e)
+        ∙ precision-of f p)) long
+    go Lossless e = tt
+
+pub if-size : {X : Type 0} (items : X → List ℕ) (E : Error → Type 0) (settings : Settings) (m : Metadata) (f : Frame)
+    (planes : List (List ℕ)) (result : Result X Error) → IsDecodedFrame f → AreWhole f.components planes
+    → length planes ≡ length f.components
+    → MatchResult result (λ x. picture_by settings m f f.components planes ≡ Ok (items x)) E
+    → IfOk result (λ x. HasBytesBy f.process f (items x))
+if-size items E settings m f planes (Ok x) p w n h =
+    whole-by f (items x) p (picture-length settings m f planes (items x) p w n h)
+if-size items E settings m f planes (Err e) p w n h = tt
