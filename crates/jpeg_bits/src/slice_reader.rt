@@ -21,12 +21,19 @@ impl<'a> SliceReader<'a> {
 }
 
 impl<'a> Read for SliceReader<'a> {
-    ghost use Rattle.std.specs.Prelude.{Some};
+    ghost use Rattle.std.specs.Prelude.{◌≡◌, Some, Ok, min, length};
+    ghost use Rattle.std.specs.Io.{ReadsAtMost};
+    ghost use Rattle.std.specs.Io.KnownBytes.{ReadConsumes};
 
     ghost remaining = { λ r. Some r.bytes.now };
 
     #[inline(always)]
-    fn read(&mut self, buf: &mut [u8]) -> Result<usize> {
+    fn read(&mut self, buf: &mut [u8]) -> Result<usize>
+        ensures bound { ReadsAtMost result buf.new }
+        ensures bytes { ReadConsumes (Some self.old.bytes.now) (Some self.new.bytes.now) result
+            buf.new }
+        ensures count { result ≡ Ok (min (length self.old.bytes.now) (length buf.old)) }
+    {
         if buf.len() == 1 {
             if self.bytes.len() > 0 {
                 buf[0] = self.bytes[0];
