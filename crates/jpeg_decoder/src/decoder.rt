@@ -1,6 +1,6 @@
 //! The decoder and its states.
 ghost use Rattle.std.specs.Prelude.{◌≡◌, if◌then◌else◌, IfOk, IfErr, MatchResult, OnErr, OnOk};
-ghost use Rattle.std.specs.Prelude.{IfNone, IfSome, None, option_map, is_some, Err, true, false};
+ghost use Rattle.std.specs.Prelude.{[], replicate, IfNone, IfSome, None, option_map, is_some, Err, true, false};
 ghost use Rattle.jpeg_bits.specs.Reading.{Answers};
 ghost use Rattle.jpeg_bits.specs.Stream.{stream_of};
 ghost use Rattle.jpeg_bits.specs.declared.error.Error.TheVariants.{OutOfMemory};
@@ -336,6 +336,11 @@ impl<R: Read + Drop> Decoder<R> {
         ensures turns { IsReading self.old.stage → self.old.source.known ≡ true
             → IsOfTurns (λ n. turns_ahead n false self.old.stage self.old.found
             self.old.source.bytes) (told_of self.new.found) }
+
+        // No blocks, planes or samples are kept.
+        ensures emptied { IsReading self.old.stage → (self.new.found.held ≡ [])
+            × (self.new.found.planes ≡ replicate 4 None)
+            × (self.new.found.samples ≡ replicate 4 None) }
 
         // The settings stay.
         ensures settings { self.new.settings ≡ self.old.settings }

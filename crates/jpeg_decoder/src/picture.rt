@@ -1,7 +1,7 @@
 //! A stream from its start to its picture (T.81, B.2).
 ghost use Rattle.std.specs.Prelude.{◌≡◌, ◌*◌, ◌+◌, ◌<◌, ◌≤◌, ◌&&◌, IfOk, List, MatchResult, None};
 ghost use Rattle.std.specs.Prelude.{OnOk, Ok, Some, drop, false, is_some, length, map, nat_lt, not};
-ghost use Rattle.std.specs.Prelude.{option_map, replicate, slice_index_or, true};
+ghost use Rattle.std.specs.Prelude.{option_map, replicate, slice_index_or, true, []};
 ghost use Rattle.jpeg_bits.specs.Reading.{Answers, Names};
 ghost use Rattle.jpeg_segments.specs.FrameView.{component_in, frame_in};
 ghost use Rattle.jpeg_pixels.specs.Pictures.{AreWhole};
@@ -354,6 +354,9 @@ pub fn read_rest<R: Read + Drop>(
         ≡ (found_in state.old).frame }
     ensures frames { OnOk result (HasDecodedFrame (found_in state.new)) }
     ensures size { IfOk result (λ v. IsWhole (found_in state.new).frame v.items) }
+    ensures emptied { ((found_in state.new).held ≡ [])
+        × ((found_in state.new).planes ≡ replicate 4 None)
+        × ((found_in state.new).samples ≡ replicate 4 None) }
 {
     let result = read_picture(alloc, source, state, settings);
     state.decoded = Decoded::new(alloc);
@@ -361,7 +364,7 @@ pub fn read_rest<R: Read + Drop>(
 }
 
 /// Reads a whole stream and gives its picture. No blocks or planes are kept.
-#[tactic(auto, unfolding(jpeg_streams::specs::Stream::meaning, jpeg_streams::specs::Reported::told_by_stream))]
+#[tactic(auto, unfolding(jpeg_streams::specs::Stream::meaning, jpeg_streams::specs::Reported::told_by_stream, jpeg_streams::specs::Found::nothing_found))]
 pub fn read_stream<R: Read + Drop>(
     alloc: Global,
     source: &mut Source<R>,
@@ -378,6 +381,9 @@ pub fn read_stream<R: Read + Drop>(
     ensures framed { IfOk result (λ _. is_some (found_in state.new).frame ≡ true) }
     ensures frames { OnOk result (HasDecodedFrame (found_in state.new)) }
     ensures size { IfOk result (λ v. IsWhole (found_in state.new).frame v.items) }
+    ensures emptied { ((found_in state.new).held ≡ [])
+        × ((found_in state.new).planes ≡ replicate 4 None)
+        × ((found_in state.new).samples ≡ replicate 4 None) }
 {
     read_start(alloc, source)?;
     read_rest(alloc, source, state, settings)
