@@ -46,6 +46,7 @@ mod scans;
 mod sequential;
 mod state;
 mod strips;
+pub mod more_worked;
 pub mod worked;
 
 pub use decoder::{Decoder, ImageInfo, PixelFormat};

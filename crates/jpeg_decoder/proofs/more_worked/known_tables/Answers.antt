@@ -1,0 +1,7 @@
+use Rattle.std.proofs.Common.{refl}
+use Rattle.jpeg_streams.specs.Segments.{updated}
+use Rattle.jpeg_decoder.proofs.more_worked.known_tables.Goals as goal
+
+pub returns : goal.returns
+unfolding updated
+returns c = refl
