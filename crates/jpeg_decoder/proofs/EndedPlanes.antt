@@ -151,9 +151,6 @@ planes-all found frame place left front whole n e =
 abbrev pub AreWholeWith : List Component → ℕ → List (List ℕ) → Type 0
 AreWholeWith cs place front = (others : List (List ℕ)) → AreWhole (drop place cs) others → AreWhole cs (front ++ others)
 
-pub whole-none : (cs : List Component) → AreWholeWith cs 0 []
-whole-none cs others h = h
-
 pub whole-more : (cs : List Component) (place : ℕ) (c : Component) (front : List (List ℕ)) (plane : List ℕ)
     → AreWholeWith cs place front → drop place cs ≡ c ∷ drop (place + 1) cs
     → length plane ≡ (c.blocks_high * c.scale) * (c.blocks_wide * c.scale)

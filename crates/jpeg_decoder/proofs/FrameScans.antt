@@ -15,8 +15,7 @@ use Rattle.jpeg_streams.specs.Order.{Spot, grid_of, own_spots, spots_of, mcu_siz
 use Rattle.jpeg_streams.specs.InTurn.{Fits, AreArrays, mcus_of, scan_from}
 use Rattle.jpeg_decoder.specs.declared.codings.Coded.{Coded}
 use Rattle.jpeg_decoder.specs.Scanning.{vias_in, components_in, arrays_in, sizes_of, wide_in, across_in, down_in}
-use Rattle.jpeg_decoder.specs.Scanning.{HoldsMcu, row_in, rows_in, own_rows}
-use Rattle.jpeg_streams.specs.McuRows.{row_mcus}
+use Rattle.jpeg_decoder.specs.Scanning.{HoldsMcu, rows_in, own_rows}
 use Rattle.jpeg_decoder.proofs.HeldBlocks.{Held, sizes-long}
 
 -- ---- the MCUs
@@ -167,7 +166,3 @@ pub some-size : (cs : List Coded) (vs : List Held) → length cs ≡ 1 → AreAr
 some-size cs vs l arrays = let e = long-enough cs vs arrays in omega (arith, sizes-long vs)
 
 -- ---- a row of MCUs on blocks of its own
-
-pub row-buffers : (wide : ℕ) (cs : List Coded) → row_mcus wide (components_in cs) ≡ row_in (components_in cs) wide 0
-unfolding row_mcus
-row-buffers wide cs = refl

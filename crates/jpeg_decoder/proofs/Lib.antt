@@ -33,3 +33,4 @@ mod PlainPixels
 mod DecodedSamples
 pub mod ImageSizes
 pub mod PictureSizes
+pub mod OnLiterals

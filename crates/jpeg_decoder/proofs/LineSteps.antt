@@ -1,5 +1,5 @@
 -- Steps of the loops over the blocks of an MCU.
-use Rattle.std.proofs.Common.{◌≡◌, ℕ, zero, suc, ◌+◌, ◌-◌, ◌*◌, ◌%◌, ◌<◌, ◌≤◌, ◌==◌, ◌&&◌, nat_lt, Bool, true, false}
+use Rattle.std.proofs.Common.{◌≡◌, ℕ, zero, suc, ◌+◌, ◌-◌, ◌*◌, ◌%◌, ◌<◌, ◌==◌, ◌&&◌, nat_lt, Bool, true, false}
 use Rattle.std.proofs.Common.{List, Ok, Err, refl, ap, ◌∙◌, arith, suc-mul}
 use Rattle.std.proofs.lemmas.Bool.{lt-ltb, ne_eqb}
 use Rattle.jpeg_bits.specs.Reading.{Fault}
@@ -76,10 +76,6 @@ unfolding turns_from spots_in_part
 part_none p vias slot wide count index left old t e = rw e refl
 
 pub ruleset part_rules = (part_step, part_refused, part_none)
-
-pub within-first : (size wide count index left : ℕ) → 0 < left → AreWithin size wide count index left
-    → index + count ≤ size
-within-first size wide count index left h w = let e : 0 * wide ≡ 0 = omega arith in omega (arith, w 0 h, e)
 
 pub within-more : (size wide count index left : ℕ) → 0 < left → AreWithin size wide count index left
     → AreWithin size wide count (index + wide) (left - 1)

@@ -53,10 +53,6 @@ use Rattle.jpeg_bits.specs.declared.error.Error.TheVariants.{OutOfMemory}
 abbrev pub tables-after : List Table → List Table → Result (List Table) Fault
 tables-after front others = Ok (front ++ others)
 
-pub tables-none : (o : Result (List Table) Fault) → o ≡ (o >>= tables-after [])
-tables-none (Ok tables) = refl
-tables-none (Err fault) = refl
-
 tables-more : (ts : List (Option Table)) (d : ℕ) (more : List ℕ) (front : List Table) (table : Table)
     → slice_index_or ts d None ≡ Some table
     → (tables_in ts (d ∷ more) >>= tables-after front) ≡ (tables_in ts more >>= tables-after (front ++ table ∷ []))
@@ -552,10 +548,6 @@ put-all places i planes samples whole h w =
 
 abbrev pub others-after : List (List ℕ) → List (List ℕ) → Result (List (List ℕ)) Fault
 others-after front others = Ok (front ++ others)
-
-pub samples-none : (o : Result (List (List ℕ)) Fault) → o ≡ (o >>= others-after [])
-samples-none (Ok planes) = refl
-samples-none (Err fault) = refl
 
 samples-more : (samples : List (Option (List ℕ))) (place : ℕ) (c : Component) (more : List Component)
     (front : List (List ℕ)) (plane : List ℕ) → slice_index_or samples place None ≡ Some plane

@@ -17,10 +17,6 @@ abbrev pub front : List Coding → Result (List Coding) Fault → Result (List C
 front xs (Ok ys) = Ok (xs ++ ys)
 front xs (Err e) = Err e
 
-front-none : (r : Result (List Coding) Fault) → r ≡ front [] r
-front-none (Ok ys) = refl
-front-none (Err e) = refl
-
 front-one : (xs : List Coding) (c : Coding) (r : Result (List Coding) Fault)
     → front xs (r >>= (λ others. Ok (c ∷ others))) ≡ front (xs ++ c ∷ []) r
 front-one xs c (Ok ys) = ap (λ (l : List Coding). Ok l) (sym (append_assoc xs (c ∷ []) ys))
@@ -46,11 +42,6 @@ one-more found frame p tables (c ∷ cs) (x ∷ ds) (y ∷ acs) zero h d a = ref
 one-more found frame p tables (c ∷ cs) (x ∷ ds) (y ∷ acs) (suc slot) h d a =
     let e : suc slot + 1 ≡ suc (slot + 1) = omega arith in
     rw e (one-more found frame p tables cs ds acs slot (omega arith) (omega arith) (omega arith))
-
--- before the first slot
-pub codings-none : (found : Found) (frame : Frame) (scan : Scan)
-    → codings_in_force found frame scan ≡ front [] (codings_left found frame scan 0)
-codings-none found frame scan = front-none (codings_left found frame scan 0)
 
 -- a slot more
 pub codings-more : (found : Found) (frame : Frame) (scan : Scan) (slot : ℕ) (xs : List Coded) (c : Coded)

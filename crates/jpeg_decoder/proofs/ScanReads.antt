@@ -96,12 +96,6 @@ abbrev pub HasRead : {Y : Type 0} → (List ℕ → Outcome Y) → Stream → Y 
 HasRead read old y new =
     (new.failed ≡ old.failed) × (old.known ≡ true → (new.known ≡ true) × (read old.bytes ≡ Ok (y, new.bytes)))
 
-pub header-begun : (found : Found) (frame : Frame) (scan : Scan) (old new : Stream) → found.frame ≡ Some frame
-    → HasRead (sos_at frame) old scan new
-    → Continues (scan_read found) old (read_by frame.process found frame scan) new
-header-begun found frame scan old new stands read =
-    (read.0, λ k. let at = read.1 k in (at.0, header-read found frame scan old.bytes new.bytes stands at.1))
-
 -- A scan of blocks begins with its tables.
 pub blocks-begun : (found : Found) (frame : Frame) (scan : Scan) (old : Stream)
     → Continues (blocks_read found frame scan) old (after_header found frame scan) old
@@ -123,19 +117,6 @@ pub blocks-by : (p : CodingProcess) → IsDct p → (found : Found) (frame : Fra
 blocks-by DctSequential h found frame scan = refl
 blocks-by DctProgressive h found frame scan = refl
 blocks-by Lossless h found frame scan = absurd h
-
-pub scan-through : (found : Found) (frame : Frame) (scan : Scan) (read : List ℕ → Outcome (Found × Option Marker))
-    (next : Found)
-    (old mid new : Stream) (r : Result (Option Marker) Error) → found.frame ≡ Some frame
-    → HasRead (sos_at frame) old scan mid → read_by frame.process found frame scan ≡ read
-    → Answers (λ (m : Option Marker). (next, m)) read mid r new
-    → Answers (λ (m : Option Marker). (next, m)) (scan_read found) old r new
-scan-through found frame scan read next old mid new r stands has is answers =
-    last-step (λ (m : Option Marker). (next, m)) (λ (m : Option Marker). (next, m)) (scan_read found)
-    (read_by frame.process found frame scan) read old mid new r
-    (λ m h. ap (λ (f : List ℕ → Outcome (Found × Option Marker)). f mid.bytes) is ∙ h)
-    (λ f h. ap (λ (g : List ℕ → Outcome (Found × Option Marker)). g mid.bytes) is ∙ h)
-    (header-begun found frame scan old mid stands has) answers
 
 -- The restart markers after the data are passed over, and the scan is read.
 pub scan-ends : (whole rest : List ℕ → Outcome (Found × Option Marker)) (next : Found) (met : Option Marker)

@@ -18,7 +18,7 @@ use Rattle.jpeg_segments.proofs.HeaderSegments.{sof-read, sos-read}
 use Rattle.jpeg_streams.proofs.PicturedFrames.{header-accepted}
 use Rattle.jpeg_streams.proofs.WrittenMarkers.{marker-append, marker_for, segment-marker}
 use Rattle.jpeg_streams.specs.Levels.{Levels, nothing_sent}
-use Rattle.jpeg_streams.proofs.AcceptedStreams.{IsMarker}
+use Rattle.jpeg_lossless.specs.Written.{IsMarker}
 use Rattle.jpeg_streams.specs.ScanSegments.{pass_of}
 use Rattle.jpeg_streams.specs.Found.{nothing_found, Found}
 use Rattle.jpeg_streams.proofs.AcceptedStreams as streams

@@ -2,7 +2,6 @@
 use Rattle.std.specs.Prelude.{◌≡◌, ℕ, ◌≤◌, Bool, true, false, List, ◌∷◌, ◌++◌, map, length, option_map, Option, Some}
 use Rattle.std.specs.Prelude.{Ok}
 use Rattle.std.specs.List.{AllByRecursion, range_with_len}
-use Rattle.jpeg_bits.specs.Marker.{marker_of}
 use Rattle.jpeg_bits.specs.Reading.{Outcome, ◌>>=◌, length_at, skip_at}
 use Rattle.jpeg_bits.specs.declared.marker.Marker.{Marker}
 use Rattle.jpeg_bits.specs.declared.marker.Marker.TheVariants.{SOF, DHT, EOI, SOS, DQT, DRI, APP, COM}
@@ -17,10 +16,7 @@ use Rattle.jpeg_streams.specs.Segments.{with_application, accepted, with_huffman
 use Rattle.jpeg_streams.specs.Found.{Found, nothing_found}
 use Rattle.jpeg_bits.specs.Written.{marker}
 use Rattle.jpeg_streams.specs.WrittenScans.{Coefficients, WritesScan, levels_after, IsLegalScan, IsComplete, HasTable}
-
--- the byte makes this marker after FF
-pub record IsMarker (code : ℕ) (m : Marker) : Type 0 where
-  pub is : marker_of code ≡ Some m
+use Rattle.jpeg_lossless.specs.Written.{IsMarker}
 
 -- ---- segments
 

@@ -32,7 +32,7 @@ use Rattle.jpeg_streams.proofs.AcceptedStreams.WritesSegment.{quantization, huff
 use Rattle.jpeg_streams.proofs.AcceptedStreams.WritesScans.{segment, scan, closed}
 use Rattle.jpeg_streams.specs.Levels.{Levels}
 use Rattle.jpeg_bits.specs.Written.{marker}
-use Rattle.jpeg_streams.proofs.AcceptedStreams.{IsMarker}
+use Rattle.jpeg_lossless.specs.Written.{IsMarker}
 use Rattle.jpeg_streams.proofs.OwnSpots.{At}
 use Rattle.jpeg_streams.proofs.ReadStates.{reading}
 

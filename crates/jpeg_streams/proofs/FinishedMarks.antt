@@ -9,7 +9,7 @@ use Rattle.jpeg_streams.specs.Levels.{Levels, IsLegal, sent_after, nothing_sent}
 use Rattle.jpeg_streams.proofs.FinishedPlaces.{Finished, finish, is_level_0, at_level_0}
 use Rattle.jpeg_streams.specs.ScanSegments.{finished_by}
 use Rattle.jpeg_streams.specs.Found.{none_finished}
-use Rattle.jpeg_streams.proofs.WrittenIntervals.{not-equal}
+use Rattle.jpeg_lossless.proofs.ReadBack.{not-equal}
 use Rattle.jpeg_streams.proofs.FinishedPlaces.{finish-yes, finish-no, finish-legal}
 
 -- the marks of a block at these levels

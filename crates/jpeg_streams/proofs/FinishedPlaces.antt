@@ -3,7 +3,8 @@ use Rattle.std.proofs.Common.{◌≡◌, ℕ, zero, suc, ◌+◌, Bool, true, fa
 use Rattle.std.proofs.Common.{replicate, length, Option, Some, None, refl, sym, ap, ap₂, ◌∙◌, arith, eqb}
 use Rattle.std.proofs.Common.{take-append-drop, drop-drop, ◌==◌}
 use Rattle.std.proofs.lemmas.Bool.{eqb-true, eq-eqb}
-use Rattle.jpeg_streams.proofs.WrittenIntervals.{not-equal, map-take_any, map-drop_any, map-joined}
+use Rattle.jpeg_lossless.proofs.ReadBack.{not-equal}
+use Rattle.jpeg_streams.proofs.WrittenIntervals.{map-take_any, map-drop_any, map-joined}
 use lib.ListN.{length-map}
 use Rattle.std.specs.List.{AllByRecursion}
 use Rattle.jpeg_bits.specs.Passes.{Pass, band_of, with_band, before_band, band_size}

@@ -1,20 +1,12 @@
 -- The blocks of a frame's components at each scale.
-use Rattle.std.proofs.Common.{◌≡◌, ◌≤◌, ◌<◌, ℕ, ◌+◌, ◌*◌, List, [], ◌∷◌, map, refl, ap, ap₂, sym, ◌∙◌, subst, arith}
-use Rattle.std.proofs.Math.Nat.{mul-add, mul_assoc, mul_comm, lt_of_mul-lt-mul_left, mul-le-mul_right}
+use Rattle.std.proofs.Common.{◌≡◌, ◌≤◌, ◌<◌, ℕ, ◌*◌, List, [], ◌∷◌, map, refl, ap, ap₂, sym, ◌∙◌, subst, arith}
+use Rattle.std.proofs.Math.Nat.{mul_assoc, mul_comm, mul-le-mul_right}
 use Rattle.std.specs.List.{AllByRecursion}
-use Rattle.jpeg_segments.specs.Frame.{Frame, Component, Factors, IsInRange, ceiling, component_of, frame_of, greatest}
+use Rattle.jpeg_segments.specs.Frame.{Frame, Factors, IsInRange, ceiling, component_of, frame_of, greatest}
 use Rattle.jpeg_pixels.specs.Pictures.{all_factors}
-use Rattle.jpeg_pixels.proofs.FrameCovers.{ceiling-low, ceiling-high}
+use Rattle.jpeg_segments.proofs.Ceilings.{ceiling-low, ceiling-le}
 use Rattle.jpeg_segments.specs.Scales.{component_at, frame_at}
 use Rattle.jpeg_streams.specs.InTurn.{Fits}
-
-pub ceiling-le : (n d q : ℕ) → 0 < d → n ≤ d * q → ceiling n d ≤ q
-ceiling-le n d q some h =
-    let c = ceiling n d in
-    let high : d * c < n + d = ceiling-high n d some in
-    let e : d * (q + 1) ≡ d * q + d * 1 = mul-add d q 1 in
-    let less : c < q + 1 = lt_of_mul-lt-mul_left d (omega (arith, high, h, e)) in
-    omega (arith, less)
 
 -- the own blocks of a component are among those of all MCUs
 pub own-within : (width h m s : ℕ) → 0 < h → h ≤ m → 0 < s
@@ -41,21 +33,6 @@ own-within-full width h m some most =
     let one : ceiling (width * h) m ≤ 8 * (b * h) =
     ceiling-le (width * h) m (8 * (b * h)) (omega arith) (omega (arith, wide, e)) in
     ceiling-le (ceiling (width * h) m) 8 (b * h) (omega arith) one
-
--- eight times as much of eight times as much
-pub ceiling-eights : (n d : ℕ) → 0 < d → ceiling (n * 8) (d * 8) ≡ ceiling n d
-ceiling-eights n d some =
-    let q = ceiling n d in
-    let r = ceiling (n * 8) (d * 8) in
-    let low : n ≤ d * q = ceiling-low n d some in
-    let low-eights : n * 8 ≤ (d * 8) * r = ceiling-low (n * 8) (d * 8) (omega arith) in
-    let e : (k : ℕ) → (d * 8) * k ≡ (d * k) * 8 = λ k. mul_assoc d 8 k
-    ∙ (ap (λ n. d * n) (mul_comm 8 k) ∙ sym (mul_assoc d k 8)) in
-    let eq = e q in
-    let er = e r in
-    let a : r ≤ q = ceiling-le (n * 8) (d * 8) q (omega arith) (omega (arith, low, eq)) in
-    let b : q ≤ r = ceiling-le n d r some (omega (arith, low-eights, er)) in
-    omega (arith, a, b)
 
 pub factors-back : (width height h v : ℕ) (xs : List Factors) → all_factors (map (component_of width height h v) xs)
     ≡ xs
@@ -133,45 +110,3 @@ scaled-frames-fit scale number precision width height xs some range =
     (map (component_at scale width height (greatest (λ c. c.horizontal) l) (greatest (λ c. c.vertical) l))
     (map (component_of width height h v) xs)))
     (sym back) (all-fit-scaled frame scale width height h v xs some refl refl range (omega arith) (omega arith))
-
--- ---- full size
-
-same-components : (width height h v : ℕ) (xs : List Factors) → 0 < h → 0 < v
-    → map (component_at 8 width height h v) (map (component_of width height h v) xs)
-    ≡ map (component_of width height h v) xs
-unfolding component_of component_at
-same-components width height h v [] hs vs = refl
-same-components width height h v (x ∷ xs) hs vs =
-    ap₂ (λ (c : Component) (l : List Component). c ∷ l)
-    (ap₂ (λ (a b : ℕ). record {
-      factors = x;
-      scale = 8;
-      width = a;
-      height = b;
-      blocks_wide = ceiling width (8 * h) * x.horizontal;
-      blocks_high = ceiling height (8 * v) * x.vertical;
-    })
-    (ceiling-eights (width * x.horizontal) h hs) (ceiling-eights (height * x.vertical) v vs))
-    (same-components width height h v xs hs vs)
-
-some-greatest : (f : Factors → ℕ) (xs : List Factors) → 0 < greatest f xs
-some-greatest f [] = omega arith
-some-greatest f (x ∷ xs) = let s = some-greatest f xs in omega arith
-
--- A frame that is read is its own at full size.
-pub full-size : (number precision width height : ℕ) (xs : List Factors)
-    → frame_at 8 (frame_of number precision width height xs) ≡ frame_of number precision width height xs
-unfolding frame_of frame_at
-full-size number precision width height xs =
-    let h = greatest (λ c. c.horizontal) xs in
-    let v = greatest (λ c. c.vertical) xs in
-    let old = frame_of number precision width height xs in
-    let of : ℕ → ℕ → List Component
-    → Frame = λ w g l. record old { output_width = w; output_height = g; components = l } in
-    let back = factors-back width height h v xs in
-    ap (λ (l : List Factors). of (ceiling (width * 8) 8) (ceiling (height * 8) 8)
-    (map (component_at 8 width height (greatest (λ c. c.horizontal) l) (greatest (λ c. c.vertical) l))
-    (map (component_of width height h v) xs))) back
-    ∙ ap (λ (l : List Component). of (ceiling (width * 8) 8) (ceiling (height * 8) 8) l)
-    (same-components width height h v xs (some-greatest (λ c. c.horizontal) xs) (some-greatest (λ c. c.vertical) xs))
-    ∙ ap₂ (λ (a b : ℕ). of a b (map (component_of width height h v) xs)) (omega arith) (omega arith)

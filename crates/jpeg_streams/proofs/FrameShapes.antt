@@ -1,7 +1,7 @@
 -- Frames that are read have the blocks that the order of a scan goes over.
 use Rattle.std.proofs.Common.{◌≡◌, ◌≢◌, ◌⊎◌, inl, inr, ℕ, zero, suc, ◌+◌, ◌-◌, ◌*◌, ◌/◌, ◌%◌, ◌<◌, ◌≤◌, ◌&&◌, ◌||◌}
 use Rattle.std.proofs.Common.{not, nat_le, ◌==◌, Bool, true, false, cond, List, [], ◌∷◌, ◌++◌, map, length, Result}
-use Rattle.std.proofs.Common.{Ok, Err, refl, sym, ap, ap₂, ◌∙◌, subst, arith, eqb, leb, true≢false, mul_assoc, min}
+use Rattle.std.proofs.Common.{Ok, Err, refl, sym, ap, ◌∙◌, subst, arith, eqb, leb, true≢false, mul_assoc, min}
 use Rattle.std.proofs.lemmas.Bool.{eqb-true, leb-true}
 use Rattle.std.proofs.lemmas.Bool.Decides.{leb_tells}
 use Rattle.std.proofs.Math.Nat.{le-div_iff_mul-le, mul-le-mul_right, mul_comm, add-mul, one-mul}
@@ -16,7 +16,8 @@ use Rattle.jpeg_bits.specs.declared.error.UnsupportedFeature.TheVariants as feat
 use Rattle.jpeg_bits.specs.declared.error.UnsupportedFeature.TheVariants.{DNL}
 use Rattle.std.specs.Prelude.{nat_lt, if◌then◌else◌}
 use Rattle.jpeg_pixels.specs.Pictures.{Source, sources_of, all_factors}
-use Rattle.jpeg_segments.specs.Scales.{component_at, frame_at}
+use Rattle.jpeg_segments.specs.Scales.{frame_at}
+use Rattle.jpeg_segments.proofs.ScaleLemmas.{full_size}
 use Rattle.jpeg_streams.specs.Segments.{accepted, is_decoded_count, is_arithmetic, is_decoded_precision}
 use Rattle.jpeg_streams.proofs.AcceptedStreams.{IsAccepted}
 use Rattle.jpeg_streams.proofs.OwnSpots.{At, Fits}
@@ -170,66 +171,11 @@ greatest-some field (c ∷ cs) = let h = greatest-some field cs in omega arith
 
 -- ---- full size
 
-pub ceiling-eights : (n d : ℕ) → 0 < d → ceiling (n * 8) (d * 8) ≡ ceiling n d
-ceiling-eights n d some =
-    let q = ceiling n d in
-    let r = ceiling (n * 8) (d * 8) in
-    let low : n ≤ q * d = ceiling-covers n d some in
-    let high : n * 8 ≤ r * (d * 8) = ceiling-covers (n * 8) (d * 8) (omega arith) in
-    let eq = mul_assoc q d 8 in
-    let er = mul_assoc r d 8 in
-    let a : r ≤ q = ceiling-least (n * 8) (d * 8) q (omega arith) (omega arith) in
-    let b : q ≤ r = ceiling-least n d r some (omega arith) in
-    omega arith
-
 pub factors-back : (width height h v : ℕ) (xs : List Factors) → all_factors (map (component_of width height h v) xs)
     ≡ xs
 unfolding component_of
 factors-back width height h v [] = refl
 factors-back width height h v (x ∷ xs) = ap (λ (l : List Factors). x ∷ l) (factors-back width height h v xs)
-
-same-components : (width height h v : ℕ) (xs : List Factors) → 0 < h → 0 < v
-    → map (component_at 8 width height h v) (map (component_of width height h v) xs)
-    ≡ map (component_of width height h v) xs
-unfolding component_of component_at
-same-components width height h v [] hs vs = refl
-same-components width height h v (x ∷ xs) hs vs =
-    ap₂ (λ (c : Component) (l : List Component). c ∷ l)
-    (ap₂ (λ (a b : ℕ). record {
-      factors = x;
-      scale = 8;
-      width = a;
-      height = b;
-      blocks_wide = ceiling width (8 * h) * x.horizontal;
-      blocks_high = ceiling height (8 * v) * x.vertical;
-    })
-    (ceiling-eights (width * x.horizontal) h hs) (ceiling-eights (height * x.vertical) v vs))
-    (same-components width height h v xs hs vs)
-
-ceiling-one : (n : ℕ) → ceiling (n * 8) 8 ≡ n
-ceiling-one n =
-    let a : ceiling (n * 8) 8 ≤ n = ceiling-least (n * 8) 8 n (omega arith) (omega arith) in
-    let b : n * 8 ≤ ceiling (n * 8) 8 * 8 = ceiling-covers (n * 8) 8 (omega arith) in
-    omega arith
-
--- A frame that is read is its own at full size.
-pub full-size : (number precision width height : ℕ) (xs : List Factors)
-    → frame_at 8 (frame_of number precision width height xs) ≡ frame_of number precision width height xs
-unfolding frame_of frame_at
-full-size number precision width height xs =
-    let h = greatest (λ c. c.horizontal) xs in
-    let v = greatest (λ c. c.vertical) xs in
-    let back = factors-back width height h v xs in
-    let own : Component → List Factors
-    → Component = λ c l. component_at 8 width height (greatest (λ f. f.horizontal) l)
-    (greatest (λ f. f.vertical) l) c in
-    let parts : map (λ c. own c (all_factors (map (component_of width height h v) xs)))
-    (map (component_of width height h v) xs) ≡ map (component_of width height h v) xs
-    = ap (λ (l : List Factors). map (λ c. own c l) (map (component_of width height h v) xs)) back
-    ∙ same-components width height h v xs (greatest-some (λ c. c.horizontal) xs)
-    (greatest-some (λ c. c.vertical) xs) in
-    rw (ceiling-one width, ceiling-one height)
-    (ap (λ (l : List Component). record (frame_of number precision width height xs) { components = l }) parts)
 
 -- a frame that is read
 pub record Plain (f : Frame) : Type 0 where
@@ -277,7 +223,7 @@ made-at f s o h = record {
 }
 
 pub plain-size : (f : Frame) → Plain f → frame_at 8 f ≡ f
-plain-size f o = ap (frame_at 8) o.is ∙ full-size o.number o.precision o.width o.height o.factors ∙ sym o.is
+plain-size f o = ap (frame_at 8) o.is ∙ full_size o.number o.precision o.width o.height o.factors ∙ sym o.is
 
 pub sof-lossy : (number : ℕ) (bytes : List ℕ) (f : Frame × List ℕ) → number ≤ 2 → sof_at number bytes ≡ Ok f
     → f.0.process ≢ Lossless

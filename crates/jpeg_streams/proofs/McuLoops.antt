@@ -7,9 +7,9 @@ use Rattle.jpeg_bits.specs.Entropy.{Text}
 use Rattle.jpeg_bits.specs.Readers.{read_on}
 use Rattle.jpeg_segments.specs.Frame.{Component}
 use Rattle.jpeg_bits.specs.Passes.{Pass, Via}
-use Rattle.jpeg_streams.specs.Order.{Spot, part_spots, mcu_spots}
+use Rattle.jpeg_streams.specs.Order.{Spot}
 use Rattle.jpeg_streams.specs.InTurn.{Reached, turn_from, turns_from, Counted, mcu_from, mcus_from}
-use Rattle.jpeg_streams.proofs.Mcus.{turns-append, mcus-append}
+use Rattle.jpeg_streams.proofs.Mcus.{mcus-append}
 
 one-less : (k left : ℕ) → 0 < left → range_with_len k left ≡ k ∷ range_with_len (k + 1) (left - 1)
 one-less k zero h = absurd (omega arith)
@@ -44,30 +44,6 @@ line_none p vias f k left old t e = ap (λ (l : List ℕ). turns_from p vias (ma
 
 -- ---- the lines of a component's part of an MCU, from line k on
 
-pub lines_step : (p : Pass) (vias : List Via) (f : ℕ → List Spot) (k left : ℕ) (old new : Reached) (t u : Text)
-    → 0 < left
-    → turns_from p vias (f k) old t ≡ Ok (new, u)
-    → turns_from p vias (flat_map f (range_with_len k left)) old t
-    ≡ turns_from p vias (flat_map f (range_with_len (k + 1) (left - 1))) new u
-lines_step p vias f k left old new t u h e =
-    ap (λ (l : List ℕ). turns_from p vias (flat_map f l) old t) (one-less k left h)
-    ∙ turns-append p vias (f k) (flat_map f (range_with_len (k + 1) (left - 1))) old t
-    ∙ ap (read_on (turns_from p vias (flat_map f (range_with_len (k + 1) (left - 1))))) e
-
-pub lines_refused : (p : Pass) (vias : List Via) (f : ℕ → List Spot) (k left : ℕ) (old : Reached) (t : Text)
-    (fault : Fault) → 0 < left
-    → turns_from p vias (f k) old t ≡ Err fault
-    → turns_from p vias (flat_map f (range_with_len k left)) old t ≡ Err fault
-lines_refused p vias f k left old t fault h e =
-    ap (λ (l : List ℕ). turns_from p vias (flat_map f l) old t) (one-less k left h)
-    ∙ turns-append p vias (f k) (flat_map f (range_with_len (k + 1) (left - 1))) old t
-    ∙ ap (read_on (turns_from p vias (flat_map f (range_with_len (k + 1) (left - 1))))) e
-
-pub lines_none : (p : Pass) (vias : List Via) (f : ℕ → List Spot) (k left : ℕ) (old : Reached) (t : Text) → left ≡ 0
-    → turns_from p vias (flat_map f (range_with_len k left)) old t ≡ Ok (old, t)
-unfolding turns_from
-lines_none p vias f k left old t e = ap (λ (l : List ℕ). turns_from p vias (flat_map f l) old t) (none-left k left e)
-
 -- ---- the components of an MCU, from a slot on
 
 next-slot : (slot : ℕ) (cs : List Component) (d : Component) → slot < length cs
@@ -82,36 +58,6 @@ past-slots zero [] h = refl
 past-slots (suc slot) [] h = refl
 past-slots zero (c ∷ cs) h = absurd (omega arith)
 past-slots (suc slot) (c ∷ cs) h = past-slots slot cs (omega arith)
-
-pub parts_step : (p : Pass) (vias : List Via) (row column slot : ℕ) (cs : List Component) (d : Component)
-    (old new : Reached) (t u : Text) → slot < length cs
-    → turns_from p vias (part_spots row column slot (get_or cs slot d)) old t ≡ Ok (new, u)
-    → turns_from p vias (mcu_spots row column slot (drop slot cs)) old t
-    ≡ turns_from p vias (mcu_spots row column (slot + 1) (drop (slot + 1) cs)) new u
-unfolding mcu_spots
-parts_step p vias row column slot cs d old new t u h e =
-    ap (λ (l : List Component). turns_from p vias (mcu_spots row column slot l) old t) (next-slot slot cs d h)
-    ∙ turns-append p vias (part_spots row column slot (get_or cs slot d))
-    (mcu_spots row column (slot + 1) (drop (slot + 1) cs)) old t
-    ∙ ap (read_on (turns_from p vias (mcu_spots row column (slot + 1) (drop (slot + 1) cs)))) e
-
-pub parts_refused : (p : Pass) (vias : List Via) (row column slot : ℕ) (cs : List Component) (d : Component)
-    (old : Reached) (t : Text) (fault : Fault) → slot < length cs
-    → turns_from p vias (part_spots row column slot (get_or cs slot d)) old t ≡ Err fault
-    → turns_from p vias (mcu_spots row column slot (drop slot cs)) old t ≡ Err fault
-unfolding mcu_spots
-parts_refused p vias row column slot cs d old t fault h e =
-    ap (λ (l : List Component). turns_from p vias (mcu_spots row column slot l) old t) (next-slot slot cs d h)
-    ∙ turns-append p vias (part_spots row column slot (get_or cs slot d))
-    (mcu_spots row column (slot + 1) (drop (slot + 1) cs)) old t
-    ∙ ap (read_on (turns_from p vias (mcu_spots row column (slot + 1) (drop (slot + 1) cs)))) e
-
-pub parts_none : (p : Pass) (vias : List Via) (row column slot : ℕ) (cs : List Component) (old : Reached) (t : Text)
-    → length cs ≤ slot
-    → turns_from p vias (mcu_spots row column slot (drop slot cs)) old t ≡ Ok (old, t)
-unfolding mcu_spots turns_from
-parts_none p vias row column slot cs old t h =
-    ap (λ (l : List Component). turns_from p vias (mcu_spots row column slot l) old t) (past-slots slot cs h)
 
 -- ---- the MCUs of a row, from column k on
 

@@ -148,136 +148,14 @@ abbrev pub Keeps : (Arrays → Type 0) → Result (Reached × Text) Fault → Ty
 Keeps P (Ok r) = P r.0.arrays
 Keeps P (Err e) = Unit {0}
 
-turn-shifted : (p : Pass) (vias : List Via) (front rest : Arrays) (s : Spot) (old : Reached) (t : Text)
-    → Aligned front old.arrays rest → IsInside old.arrays s
-    → turn_from p vias (shifted front s) (wrapped front rest old) t ≡ read_on (λ r. gives (wrapped front rest r))
-    (turn_from p vias s old t)
-unfolding turn_from
-turn-shifted p vias front rest s old t a h =
-    ap (λ (b : Block). read_on (λ (r : Block × ℤ × ℕ). gives (record {
-      arrays = put_block (shifted front s) r.0 (around front old.arrays rest);
-      predictors = set old.predictors (via_at vias s.slot).component r.1;
-      run = r.2;
-    }))
-    (block_from p (via_at vias s.slot).dc (via_at vias s.slot).ac (get_or old.predictors (via_at vias s.slot).component
-    (pos 0)) old.run b t))
-    (get-shifted front old.arrays rest s a h)
-    ∙ go (block_from p (via_at vias s.slot).dc (via_at vias s.slot).ac
-    (get_or old.predictors (via_at vias s.slot).component (pos 0)) old.run (block_at old.arrays s) t)
-  where
-    go : (o : Result ((Block × ℤ × ℕ) × Text) Fault)
-        → read_on (λ (r : Block × ℤ × ℕ). gives (record {
-          arrays = put_block (shifted front s) r.0 (around front old.arrays rest);
-          predictors = set old.predictors (via_at vias s.slot).component r.1;
-          run = r.2;
-        })) o
-        ≡ read_on (λ r. gives (wrapped front rest r)) (read_on (λ (r : Block × ℤ × ℕ). gives (record {
-          arrays = put_block s r.0 old.arrays;
-          predictors = set old.predictors (via_at vias s.slot).component r.1;
-          run = r.2;
-        })) o)
-    go (Ok r) = ap (λ (l : Arrays). Ok (
-      record {
-        arrays = l;
-        predictors = set old.predictors (via_at vias s.slot).component r.0.1;
-        run = r.0.2;
-      },
-      r.1,
-    ))
-        (put-shifted front old.arrays rest s r.0.0 a h)
-    go (Err e) = refl
-
-turn-keeps : (p : Pass) (vias : List Via) (front rest : Arrays) (spots : List Spot) (s : Spot) (old : Reached)
-    (t : Text) → Holds front rest spots old.arrays
-    → Keeps (Holds front rest spots) (turn_from p vias s old t)
-unfolding turn_from
-turn-keeps p vias front rest spots s old t h =
-    go (block_from p (via_at vias s.slot).dc (via_at vias s.slot).ac
-    (get_or old.predictors (via_at vias s.slot).component (pos 0)) old.run (block_at old.arrays s) t)
-  where
-    go : (o : Result ((Block × ℤ × ℕ) × Text) Fault)
-        → Keeps (Holds front rest spots) (read_on (λ (r : Block × ℤ × ℕ). gives (record {
-          arrays = put_block s r.0 old.arrays;
-          predictors = set old.predictors (via_at vias s.slot).component r.1;
-          run = r.2;
-        })) o)
-    go (Ok r) = put-holds front rest spots old.arrays s r.0.0 h
-    go (Err e) = tt
-
--- on where what holds is kept
-same-where : {A : Type 0} (P : Arrays → Type 0) (f g : Reached → Reads A) → ((r : Reached) (t : Text) → P r.arrays
-    → f r t ≡ g r t)
-    → (o : Result (Reached × Text) Fault) → Keeps P o → read_on f o ≡ read_on g o
-same-where P f g h (Ok r) k = h r.0 r.1 k
-same-where P f g h (Err e) k = refl
-
-turns-shifted : (p : Pass) (vias : List Via) (front rest : Arrays) (spots : List Spot) (old : Reached) (t : Text)
-    → Holds front rest spots old.arrays
-    → turns_from p vias (map (shifted front) spots) (wrapped front rest old) t
-    ≡ read_on (λ r. gives (wrapped front rest r)) (turns_from p vias spots old t)
-unfolding turns_from
-turns-shifted p vias front rest [] old t h = refl
-turns-shifted p vias front rest (s ∷ spots) old t h =
-    let next = turns_from p vias (map (shifted front) spots) in
-    let wrap : Reached → Reads Reached = λ r. gives (wrapped front rest r) in
-    ap (read_on next) (turn-shifted p vias front rest s old t h.aligned (h.inside s (inl refl)))
-    ∙ on-on wrap next (turn_from p vias s old t)
-    ∙ same-where (Holds front rest (s ∷ spots)) (λ r. λ u. next (wrapped front rest r) u)
-    (λ r. λ u. read_on wrap (turns_from p vias spots r u))
-    (λ r u k. turns-shifted p vias front rest spots r u (fewer-hold front rest (s ∷ spots) spots r.arrays
-    (λ q q_in. inr q_in) k))
-    (turn_from p vias s old t) (turn-keeps p vias front rest (s ∷ spots) s old t h)
-    ∙ sym (on-on (turns_from p vias spots) wrap (turn_from p vias s old t))
-
 keeps-on : (P : Arrays → Type 0) (f : Reached → Reads Reached) → ((r : Reached) (t : Text) → P r.arrays
     → Keeps P (f r t)) → (o : Result (Reached × Text) Fault) → Keeps P o → Keeps P (read_on f o)
 keeps-on P f h (Ok r) k = h r.0 r.1 k
 keeps-on P f h (Err e) k = tt
 
-turns-keep : (p : Pass) (vias : List Via) (front rest : Arrays) (all spots : List Spot) (old : Reached) (t : Text)
-    → Holds front rest all old.arrays
-    → Keeps (Holds front rest all) (turns_from p vias spots old t)
-unfolding turns_from
-turns-keep p vias front rest all [] old t h = h
-turns-keep p vias front rest all (s ∷ spots) old t h =
-    keeps-on (Holds front rest all) (turns_from p vias spots) (λ r u k. turns-keep p vias front rest all spots r u k)
-    (turn_from p vias s old t) (turn-keeps p vias front rest all s old t h)
-
--- ---- MCUs
-
 abbrev pub KeepsCounted : (Arrays → Type 0) → Result (Counted × Text) Fault → Type 0
 KeepsCounted P (Ok r) = P r.0.reached.arrays
 KeepsCounted P (Err e) = Unit {0}
-
-begun-shifted : (n : ℕ) (front rest : Arrays) (old : Counted) (t : Text)
-    → begun_from n (wrapped_count front rest old) t ≡ read_on (λ r. gives (wrapped_count front rest r))
-    (begun_from n old t)
-unfolding begun_from
-begun-shifted n front rest old t = test (nat_lt 0 n && old.left == 0)
-  where
-    start : Arrays → Counted
-    start arrays = record { reached = at_start arrays; left = n; number = (old.number + 1) % 8 }
-
-    one : (o : Result (Unit {0} × Text) Fault)
-        → read_on (λ (u : Unit {0}). gives (start (around front old.reached.arrays rest))) o
-        ≡ read_on (λ r. gives (wrapped_count front rest r))
-        (read_on (λ (u : Unit {0}). gives (start old.reached.arrays)) o)
-    one (Ok r) = refl
-    one (Err e) = refl
-
-    test : (b : Bool) → ◌≡◌ {A = Result (Counted × Text) Fault}
-        ((elim b as (λ _. Reads Counted) [
-          | true ↦ (λ (v : Text). read_on (λ (u : Unit {0}). gives (start (around front old.reached.arrays rest)))
-              (restart_from old.number v))
-          | false ↦ gives (wrapped_count front rest old)
-        ]) t)
-        (read_on (λ r. gives (wrapped_count front rest r)) ((elim b as (λ _. Reads Counted) [
-          | true ↦ (λ (v : Text). read_on (λ (u : Unit {0}). gives (start old.reached.arrays))
-              (restart_from old.number v))
-          | false ↦ gives old
-        ]) t))
-    test true = one (restart_from old.number t)
-    test false = refl
 
 begun-keeps : (P : Arrays → Type 0) (n : ℕ) (old : Counted) (t : Text) → P old.reached.arrays
     → KeepsCounted P (begun_from n old t)
@@ -298,93 +176,14 @@ begun-keeps P n old t h = test (nat_lt 0 n && old.left == 0)
     test true = one (restart_from old.number t)
     test false = h
 
-pub counted-where : {A : Type 0} (P : Arrays → Type 0) (f g : Counted → Reads A)
-    → ((r : Counted) (t : Text) → P r.reached.arrays → f r t ≡ g r t)
-    → (o : Result (Counted × Text) Fault) → KeepsCounted P o → read_on f o ≡ read_on g o
-counted-where P f g h (Ok r) k = h r.0 r.1 k
-counted-where P f g h (Err e) k = refl
-
 abbrev pub after_turns : Counted → Reached → Counted
 after_turns now r = record { reached = r; left = now.left - 1; number = now.number }
-
-counts : (front rest : Arrays) (now : Counted) (o : Result (Reached × Text) Fault)
-    → read_on (λ r. gives (after_turns now r)) (read_on (λ r. gives (wrapped front rest r)) o)
-    ≡ read_on (λ r. gives (wrapped_count front rest r)) (read_on (λ r. gives (after_turns now r)) o)
-counts front rest now (Ok r) = refl
-counts front rest now (Err e) = refl
-
-mcu-shifted : (p : Pass) (vias : List Via) (n : ℕ) (front rest : Arrays) (mcu : List Spot) (old : Counted) (t : Text)
-    → Holds front rest mcu old.reached.arrays
-    → mcu_from p vias n (map (shifted front) mcu) (wrapped_count front rest old) t
-    ≡ read_on (λ r. gives (wrapped_count front rest r)) (mcu_from p vias n mcu old t)
-unfolding mcu_from
-mcu-shifted p vias n front rest mcu old t h =
-    let far : Counted → Reads Counted = λ now. λ u. read_on (λ r. gives (after_turns now r))
-    (turns_from p vias (map (shifted front) mcu) now.reached u) in
-    let near : Counted → Reads Counted = λ now. λ u. read_on (λ r. gives (after_turns now r))
-    (turns_from p vias mcu now.reached u) in
-    let wrap : Counted → Reads Counted = λ r. gives (wrapped_count front rest r) in
-    ap (read_on far) (begun-shifted n front rest old t)
-    ∙ on-on wrap far (begun_from n old t)
-    ∙ counted-where (Holds front rest mcu) (λ now. λ u. far (wrapped_count front rest now) u)
-    (λ now. λ u. read_on wrap (near now u))
-    (λ now u k. ap (read_on (λ r. gives (after_turns now r))) (turns-shifted p vias front rest mcu now.reached u k)
-    ∙ counts front rest now (turns_from p vias mcu now.reached u))
-    (begun_from n old t) (begun-keeps (Holds front rest mcu) n old t h)
-    ∙ sym (on-on near wrap (begun_from n old t))
 
 counted-on : (P : Arrays → Type 0) (f : Counted → Reads Counted) → ((r : Counted) (t : Text) → P r.reached.arrays
     → KeepsCounted P (f r t))
     → (o : Result (Counted × Text) Fault) → KeepsCounted P o → KeepsCounted P (read_on f o)
 counted-on P f h (Ok r) k = h r.0 r.1 k
 counted-on P f h (Err e) k = tt
-
-mcu-keeps : (p : Pass) (vias : List Via) (n : ℕ) (front rest : Arrays) (all mcu : List Spot) (old : Counted) (t : Text)
-    → Holds front rest all old.reached.arrays
-    → KeepsCounted (Holds front rest all) (mcu_from p vias n mcu old t)
-unfolding mcu_from
-mcu-keeps p vias n front rest all mcu old t h =
-    counted-on (Holds front rest all) (λ now. λ u. read_on (λ r. gives (after_turns now r))
-    (turns_from p vias mcu now.reached u))
-    (λ now u k. one now (turns_from p vias mcu now.reached u) (turns-keep p vias front rest all mcu now.reached u k))
-    (begun_from n old t) (begun-keeps (Holds front rest all) n old t h)
-  where
-    one : (now : Counted) (o : Result (Reached × Text) Fault) → Keeps (Holds front rest all) o
-        → KeepsCounted (Holds front rest all) (read_on (λ r. gives (after_turns now r)) o)
-    one now (Ok r) k = k
-    one now (Err e) k = tt
-
-pub mcus-keep : (p : Pass) (vias : List Via) (n : ℕ) (front rest : Arrays) (all : List Spot) (mcus : List (List Spot))
-    (old : Counted) (t : Text) → Holds front rest all old.reached.arrays
-    → KeepsCounted (Holds front rest all) (mcus_from p vias n mcus old t)
-unfolding mcus_from
-mcus-keep p vias n front rest all [] old t h = h
-mcus-keep p vias n front rest all (m ∷ mcus) old t h =
-    counted-on (Holds front rest all) (mcus_from p vias n mcus) (λ r u k. mcus-keep p vias n front rest all mcus r u k)
-    (mcu_from p vias n m old t) (mcu-keeps p vias n front rest all m old t h)
-
--- MCUs that are read into blocks that stand inside others are read into those.
-pub mcus-shifted : (p : Pass) (vias : List Via) (n : ℕ) (front rest : Arrays) (mcus : List (List Spot)) (old : Counted)
-    (t : Text)
-    → Holds front rest (flat_map (λ (m : List Spot). m) mcus) old.reached.arrays
-    → mcus_from p vias n (map (map (shifted front)) mcus) (wrapped_count front rest old) t
-    ≡ read_on (λ r. gives (wrapped_count front rest r)) (mcus_from p vias n mcus old t)
-unfolding mcus_from
-mcus-shifted p vias n front rest [] old t h = refl
-mcus-shifted p vias n front rest (m ∷ mcus) old t h =
-    let all = flat_map (λ (m : List Spot). m) (m ∷ mcus) in
-    let more = flat_map (λ (m : List Spot). m) mcus in
-    let next = mcus_from p vias n (map (map (shifted front)) mcus) in
-    let wrap : Counted → Reads Counted = λ r. gives (wrapped_count front rest r) in
-    ap (read_on next) (mcu-shifted p vias n front rest m old t (fewer-hold front rest all m old.reached.arrays
-    (λ s k. in-front s m more k) h))
-    ∙ on-on wrap next (mcu_from p vias n m old t)
-    ∙ counted-where (Holds front rest all) (λ r. λ u. next (wrapped_count front rest r) u)
-    (λ r. λ u. read_on wrap (mcus_from p vias n mcus r u))
-    (λ r u k. mcus-shifted p vias n front rest mcus r u (fewer-hold front rest all more r.reached.arrays
-    (λ s q. in-back s m more q) k))
-    (mcu_from p vias n m old t) (mcu-keeps p vias n front rest all m old t h)
-    ∙ sym (on-on (mcus_from p vias n mcus) wrap (mcu_from p vias n m old t))
 
 -- ---- what reading keeps of the arrays
 
@@ -438,6 +237,162 @@ mcus-any P kept p vias n [] old t h = h
 mcus-any P kept p vias n (m ∷ mcus) old t h =
     counted-on P (mcus_from p vias n mcus) (λ r u k. mcus-any P kept p vias n mcus r u k) (mcu_from p vias n m old t)
     (mcu-any P kept p vias n m old t h)
+
+holds-kept : (front rest : Arrays) (spots : List Spot) → IsKept (Holds front rest spots)
+holds-kept front rest spots arrays s b h = put-holds front rest spots arrays s b h
+
+-- ---- blocks inside others
+
+turn-shifted : (p : Pass) (vias : List Via) (front rest : Arrays) (s : Spot) (old : Reached) (t : Text)
+    → Aligned front old.arrays rest → IsInside old.arrays s
+    → turn_from p vias (shifted front s) (wrapped front rest old) t ≡ read_on (λ r. gives (wrapped front rest r))
+    (turn_from p vias s old t)
+unfolding turn_from
+turn-shifted p vias front rest s old t a h =
+    ap (λ (b : Block). read_on (λ (r : Block × ℤ × ℕ). gives (record {
+      arrays = put_block (shifted front s) r.0 (around front old.arrays rest);
+      predictors = set old.predictors (via_at vias s.slot).component r.1;
+      run = r.2;
+    }))
+    (block_from p (via_at vias s.slot).dc (via_at vias s.slot).ac (get_or old.predictors (via_at vias s.slot).component
+    (pos 0)) old.run b t))
+    (get-shifted front old.arrays rest s a h)
+    ∙ go (block_from p (via_at vias s.slot).dc (via_at vias s.slot).ac
+    (get_or old.predictors (via_at vias s.slot).component (pos 0)) old.run (block_at old.arrays s) t)
+  where
+    go : (o : Result ((Block × ℤ × ℕ) × Text) Fault)
+        → read_on (λ (r : Block × ℤ × ℕ). gives (record {
+          arrays = put_block (shifted front s) r.0 (around front old.arrays rest);
+          predictors = set old.predictors (via_at vias s.slot).component r.1;
+          run = r.2;
+        })) o
+        ≡ read_on (λ r. gives (wrapped front rest r)) (read_on (λ (r : Block × ℤ × ℕ). gives (record {
+          arrays = put_block s r.0 old.arrays;
+          predictors = set old.predictors (via_at vias s.slot).component r.1;
+          run = r.2;
+        })) o)
+    go (Ok r) = ap (λ (l : Arrays). Ok (
+      record {
+        arrays = l;
+        predictors = set old.predictors (via_at vias s.slot).component r.0.1;
+        run = r.0.2;
+      },
+      r.1,
+    ))
+        (put-shifted front old.arrays rest s r.0.0 a h)
+    go (Err e) = refl
+
+-- on where what holds is kept
+same-where : {A : Type 0} (P : Arrays → Type 0) (f g : Reached → Reads A) → ((r : Reached) (t : Text) → P r.arrays
+    → f r t ≡ g r t)
+    → (o : Result (Reached × Text) Fault) → Keeps P o → read_on f o ≡ read_on g o
+same-where P f g h (Ok r) k = h r.0 r.1 k
+same-where P f g h (Err e) k = refl
+
+turns-shifted : (p : Pass) (vias : List Via) (front rest : Arrays) (spots : List Spot) (old : Reached) (t : Text)
+    → Holds front rest spots old.arrays
+    → turns_from p vias (map (shifted front) spots) (wrapped front rest old) t
+    ≡ read_on (λ r. gives (wrapped front rest r)) (turns_from p vias spots old t)
+unfolding turns_from
+turns-shifted p vias front rest [] old t h = refl
+turns-shifted p vias front rest (s ∷ spots) old t h =
+    let next = turns_from p vias (map (shifted front) spots) in
+    let wrap : Reached → Reads Reached = λ r. gives (wrapped front rest r) in
+    ap (read_on next) (turn-shifted p vias front rest s old t h.aligned (h.inside s (inl refl)))
+    ∙ on-on wrap next (turn_from p vias s old t)
+    ∙ same-where (Holds front rest (s ∷ spots)) (λ r. λ u. next (wrapped front rest r) u)
+    (λ r. λ u. read_on wrap (turns_from p vias spots r u))
+    (λ r u k. turns-shifted p vias front rest spots r u (fewer-hold front rest (s ∷ spots) spots r.arrays
+    (λ q q_in. inr q_in) k))
+    (turn_from p vias s old t) (turn-any (Holds front rest (s ∷ spots)) (holds-kept front rest (s ∷ spots)) p vias s old t h)
+    ∙ sym (on-on (turns_from p vias spots) wrap (turn_from p vias s old t))
+
+-- ---- MCUs
+
+begun-shifted : (n : ℕ) (front rest : Arrays) (old : Counted) (t : Text)
+    → begun_from n (wrapped_count front rest old) t ≡ read_on (λ r. gives (wrapped_count front rest r))
+    (begun_from n old t)
+unfolding begun_from
+begun-shifted n front rest old t = test (nat_lt 0 n && old.left == 0)
+  where
+    start : Arrays → Counted
+    start arrays = record { reached = at_start arrays; left = n; number = (old.number + 1) % 8 }
+
+    one : (o : Result (Unit {0} × Text) Fault)
+        → read_on (λ (u : Unit {0}). gives (start (around front old.reached.arrays rest))) o
+        ≡ read_on (λ r. gives (wrapped_count front rest r))
+        (read_on (λ (u : Unit {0}). gives (start old.reached.arrays)) o)
+    one (Ok r) = refl
+    one (Err e) = refl
+
+    test : (b : Bool) → ◌≡◌ {A = Result (Counted × Text) Fault}
+        ((elim b as (λ _. Reads Counted) [
+          | true ↦ (λ (v : Text). read_on (λ (u : Unit {0}). gives (start (around front old.reached.arrays rest)))
+              (restart_from old.number v))
+          | false ↦ gives (wrapped_count front rest old)
+        ]) t)
+        (read_on (λ r. gives (wrapped_count front rest r)) ((elim b as (λ _. Reads Counted) [
+          | true ↦ (λ (v : Text). read_on (λ (u : Unit {0}). gives (start old.reached.arrays))
+              (restart_from old.number v))
+          | false ↦ gives old
+        ]) t))
+    test true = one (restart_from old.number t)
+    test false = refl
+
+pub counted-where : {A : Type 0} (P : Arrays → Type 0) (f g : Counted → Reads A)
+    → ((r : Counted) (t : Text) → P r.reached.arrays → f r t ≡ g r t)
+    → (o : Result (Counted × Text) Fault) → KeepsCounted P o → read_on f o ≡ read_on g o
+counted-where P f g h (Ok r) k = h r.0 r.1 k
+counted-where P f g h (Err e) k = refl
+
+counts : (front rest : Arrays) (now : Counted) (o : Result (Reached × Text) Fault)
+    → read_on (λ r. gives (after_turns now r)) (read_on (λ r. gives (wrapped front rest r)) o)
+    ≡ read_on (λ r. gives (wrapped_count front rest r)) (read_on (λ r. gives (after_turns now r)) o)
+counts front rest now (Ok r) = refl
+counts front rest now (Err e) = refl
+
+mcu-shifted : (p : Pass) (vias : List Via) (n : ℕ) (front rest : Arrays) (mcu : List Spot) (old : Counted) (t : Text)
+    → Holds front rest mcu old.reached.arrays
+    → mcu_from p vias n (map (shifted front) mcu) (wrapped_count front rest old) t
+    ≡ read_on (λ r. gives (wrapped_count front rest r)) (mcu_from p vias n mcu old t)
+unfolding mcu_from
+mcu-shifted p vias n front rest mcu old t h =
+    let far : Counted → Reads Counted = λ now. λ u. read_on (λ r. gives (after_turns now r))
+    (turns_from p vias (map (shifted front) mcu) now.reached u) in
+    let near : Counted → Reads Counted = λ now. λ u. read_on (λ r. gives (after_turns now r))
+    (turns_from p vias mcu now.reached u) in
+    let wrap : Counted → Reads Counted = λ r. gives (wrapped_count front rest r) in
+    ap (read_on far) (begun-shifted n front rest old t)
+    ∙ on-on wrap far (begun_from n old t)
+    ∙ counted-where (Holds front rest mcu) (λ now. λ u. far (wrapped_count front rest now) u)
+    (λ now. λ u. read_on wrap (near now u))
+    (λ now u k. ap (read_on (λ r. gives (after_turns now r))) (turns-shifted p vias front rest mcu now.reached u k)
+    ∙ counts front rest now (turns_from p vias mcu now.reached u))
+    (begun_from n old t) (begun-keeps (Holds front rest mcu) n old t h)
+    ∙ sym (on-on near wrap (begun_from n old t))
+
+-- MCUs that are read into blocks that stand inside others are read into those.
+pub mcus-shifted : (p : Pass) (vias : List Via) (n : ℕ) (front rest : Arrays) (mcus : List (List Spot)) (old : Counted)
+    (t : Text)
+    → Holds front rest (flat_map (λ (m : List Spot). m) mcus) old.reached.arrays
+    → mcus_from p vias n (map (map (shifted front)) mcus) (wrapped_count front rest old) t
+    ≡ read_on (λ r. gives (wrapped_count front rest r)) (mcus_from p vias n mcus old t)
+unfolding mcus_from
+mcus-shifted p vias n front rest [] old t h = refl
+mcus-shifted p vias n front rest (m ∷ mcus) old t h =
+    let all = flat_map (λ (m : List Spot). m) (m ∷ mcus) in
+    let more = flat_map (λ (m : List Spot). m) mcus in
+    let next = mcus_from p vias n (map (map (shifted front)) mcus) in
+    let wrap : Counted → Reads Counted = λ r. gives (wrapped_count front rest r) in
+    ap (read_on next) (mcu-shifted p vias n front rest m old t (fewer-hold front rest all m old.reached.arrays
+    (λ s k. in-front s m more k) h))
+    ∙ on-on wrap next (mcu_from p vias n m old t)
+    ∙ counted-where (Holds front rest all) (λ r. λ u. next (wrapped_count front rest r) u)
+    (λ r. λ u. read_on wrap (mcus_from p vias n mcus r u))
+    (λ r u k. mcus-shifted p vias n front rest mcus r u (fewer-hold front rest all more r.reached.arrays
+    (λ s q. in-back s m more q) k))
+    (mcu_from p vias n m old t) (mcu-any (Holds front rest all) (holds-kept front rest all) p vias n m old t h)
+    ∙ sym (on-on (mcus_from p vias n mcus) wrap (mcu_from p vias n m old t))
 
 -- ---- rows
 

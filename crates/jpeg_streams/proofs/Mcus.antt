@@ -38,10 +38,6 @@ pub on-on : {A B C : Type 0} (f : A → Reads B) (g : B → Reads C) (o : Result
 on-on f g (Ok r) = refl
 on-on f g (Err e) = refl
 
-pub on-gives : {A : Type 0} (o : Result (A × Text) Fault) → read_on gives o ≡ o
-on-gives (Ok r) = refl
-on-gives (Err e) = refl
-
 -- ---- blocks in a row
 
 pub turns-append : (p : Pass) (vias : List Via) (xs ys : List Spot) (old : Reached) (t : Text)
@@ -215,11 +211,6 @@ drop-mcus size zero mcus h = ap (λ (k : ℕ). drop k (flat mcus)) (none size)
 drop-mcus size (suc n) [] h = drop-none (suc n * size)
 drop-mcus size (suc n) (m ∷ mcus) h =
     drop-joined (suc n * size) m (flat mcus) (n * size) (one-more n size (length m) h.0) ∙ drop-mcus size n mcus h.1
-
-pub take-of : (size n : ℕ) (mcus : List (List Spot)) → AreOf size mcus → AreOf size (take n mcus)
-take-of size zero mcus h = tt
-take-of size (suc n) [] h = tt
-take-of size (suc n) (m ∷ mcus) h = (h.0, take-of size n mcus h.1)
 
 pub drop-of : (size n : ℕ) (mcus : List (List Spot)) → AreOf size mcus → AreOf size (drop n mcus)
 drop-of size zero mcus h = h

@@ -70,11 +70,6 @@ At j [] x = ⊥
 At zero (y ∷ ys) x = y ≡ x
 At (suc j) (y ∷ ys) x = At j ys x
 
-pub at-some : {A : Type 0} (j : ℕ) (xs : List A) → j < length xs → (x : A) × At j xs x
-at-some j [] h = absurd (omega arith)
-at-some zero (x ∷ xs) h = (x, refl)
-at-some (suc j) (x ∷ xs) h = at-some j xs (omega arith)
-
 pub at-within : {A : Type 0} (j : ℕ) (xs : List A) (x : A) → At j xs x → j < length xs
 at-within j [] x h = absurd h
 at-within zero (y ∷ xs) x h = omega arith
@@ -84,11 +79,6 @@ pub at-get : {A B : Type 0} (f : A → B) (d : B) (j : ℕ) (xs : List A) (x : A
 at-get f d j [] x h = absurd h
 at-get f d zero (y ∷ xs) x h = ap f h
 at-get f d (suc j) (y ∷ xs) x h = at-get f d j xs x h
-
-pub get-beyond : {A : Type 0} (d : A) (j : ℕ) (xs : List A) → length xs ≤ j → get_or xs j d ≡ d
-get-beyond d j [] h = refl
-get-beyond d zero (x ∷ xs) h = absurd (omega arith)
-get-beyond d (suc j) (x ∷ xs) h = get-beyond d j xs (omega arith)
 
 -- ---- one component
 

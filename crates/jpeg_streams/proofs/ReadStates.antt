@@ -18,7 +18,7 @@ use Rattle.jpeg_streams.specs.Levels.{Levels, IsLegal, sent_after}
 use Rattle.jpeg_streams.proofs.FinishedPlaces.{is_level_0}
 use Rattle.jpeg_streams.specs.WrittenScans.{Coefficients, levels_of_one, levels_after}
 use Rattle.jpeg_streams.proofs.PlacesApart.{IsAbsent, AreApart}
-use Rattle.jpeg_streams.proofs.WrittenIntervals.{not-equal}
+use Rattle.jpeg_lossless.proofs.ReadBack.{not-equal}
 use Rattle.jpeg_streams.proofs.FinishedMarks.{marks_of, IsBand, marks-after}
 use Rattle.jpeg_streams.proofs.FinishedPlaces.{dc-open}
 use Rattle.jpeg_streams.proofs.OwnSpots.{At, at-within}

@@ -13,10 +13,10 @@ use Rattle.jpeg_pixels.specs.declared.upsampler.UpsampleRule.TheVariants.{H1V1, 
 use Rattle.jpeg_pixels.specs.Upsampling.{across, divides, down, rule_of}
 use Rattle.jpeg_pixels.specs.Pictures.{AllCover, AreWhole, Covers, Source, source_by, sources_by, sources_of}
 use Rattle.jpeg_pixels.specs.Pictures.{all_factors}
-use Rattle.jpeg_pixels.proofs.FrameCovers.{ceiling-low, ceiling-high}
 use Rattle.jpeg_segments.specs.Scales.{component_at, frame_at}
 use Rattle.jpeg_pixels.specs.Pictures.{HasSources}
-use Rattle.jpeg_streams.proofs.FrameFits.{ceiling-le, factors-back}
+use Rattle.jpeg_streams.proofs.FrameFits.{factors-back}
+use Rattle.jpeg_segments.proofs.Ceilings.{ceiling-low, ceiling-high, ceiling-le}
 use Rattle.jpeg_streams.proofs.Mcus.{some-product}
 
 -- ---- numbers
@@ -226,138 +226,29 @@ record HasRule (o : Option UpsampleRule) : Type 0 where
   rule : UpsampleRule
   is : o ≡ Some rule
 
+-- A choice that had a rule has one where its test holds more often, and so with the rest.
+choice-stays : (test test' : Bool) (rule : UpsampleRule) (rest rest' : Option UpsampleRule) → (test ≡ true → test' ≡ true)
+    → (HasRule rest → HasRule rest') → HasRule (if test then Some rule else rest)
+    → HasRule (if test' then Some rule else rest')
+choice-stays test true rule rest rest' more others has = record { rule = rule; is = refl }
+choice-stays true false rule rest rest' more others has = absurd (let x = more refl in cc)
+choice-stays false false rule rest rest' more others has = others has
+
+both-stay : (x y x' y' : Bool) → (x ≡ true → x' ≡ true) → (y ≡ true → y' ≡ true) → (x && y) ≡ true → (x' && y') ≡ true
+both-stay true true x' y' a b e = rw (a refl, b refl) refl
+both-stay true false x' y' a b e = absurd (cc)
+both-stay false y x' y' a b e = absurd (cc)
+
 -- Where more counts as the greatest factor, there still is a rule.
 rule-stays : (h1 v1 h1' v1' h2 v2 whole : Bool) (generic rule : UpsampleRule) → (h1 ≡ true → h1' ≡ true)
     → (v1 ≡ true → v1' ≡ true)
     → rule_by h1 v1 h2 v2 whole generic ≡ Some rule → HasRule (rule_by h1' v1' h2 v2 whole generic)
-rule-stays true true true true true true true generic rule a b e = record { rule = H1V1; is = refl }
-rule-stays true true true true true true false generic rule a b e = record { rule = H1V1; is = refl }
-rule-stays true true true true true false true generic rule a b e = record { rule = H1V1; is = refl }
-rule-stays true true true true true false false generic rule a b e = record { rule = H1V1; is = refl }
-rule-stays true true true true false true true generic rule a b e = record { rule = H1V1; is = refl }
-rule-stays true true true true false true false generic rule a b e = record { rule = H1V1; is = refl }
-rule-stays true true true true false false true generic rule a b e = record { rule = H1V1; is = refl }
-rule-stays true true true true false false false generic rule a b e = record { rule = H1V1; is = refl }
-rule-stays true true true false true true true generic rule a b e = record { rule = H1V2; is = refl }
-rule-stays true true true false true true false generic rule a b e = record { rule = H1V2; is = refl }
-rule-stays true true true false true false true generic rule a b e = record { rule = generic; is = refl }
-rule-stays true true true false true false false generic rule a b e = absurd (let x = b refl in cc)
-rule-stays true true true false false true true generic rule a b e = record { rule = H1V2; is = refl }
-rule-stays true true true false false true false generic rule a b e = record { rule = H1V2; is = refl }
-rule-stays true true true false false false true generic rule a b e = record { rule = generic; is = refl }
-rule-stays true true true false false false false generic rule a b e = absurd (let x = b refl in cc)
-rule-stays true true false true true true true generic rule a b e = record { rule = H2V1; is = refl }
-rule-stays true true false true true true false generic rule a b e = record { rule = H2V1; is = refl }
-rule-stays true true false true true false true generic rule a b e = record { rule = H2V1; is = refl }
-rule-stays true true false true true false false generic rule a b e = record { rule = H2V1; is = refl }
-rule-stays true true false true false true true generic rule a b e = record { rule = generic; is = refl }
-rule-stays true true false true false true false generic rule a b e = absurd (let x = a refl in cc)
-rule-stays true true false true false false true generic rule a b e = record { rule = generic; is = refl }
-rule-stays true true false true false false false generic rule a b e = absurd (let x = a refl in cc)
-rule-stays true true false false true true true generic rule a b e = record { rule = H2V2; is = refl }
-rule-stays true true false false true true false generic rule a b e = record { rule = H2V2; is = refl }
-rule-stays true true false false true false true generic rule a b e = record { rule = generic; is = refl }
-rule-stays true true false false true false false generic rule a b e = absurd (let x = a refl in cc)
-rule-stays true true false false false true true generic rule a b e = record { rule = generic; is = refl }
-rule-stays true true false false false true false generic rule a b e = absurd (let x = a refl in cc)
-rule-stays true true false false false false true generic rule a b e = record { rule = generic; is = refl }
-rule-stays true true false false false false false generic rule a b e = absurd (let x = a refl in cc)
-rule-stays true false true true true true true generic rule a b e = record { rule = H1V1; is = refl }
-rule-stays true false true true true true false generic rule a b e = record { rule = H1V1; is = refl }
-rule-stays true false true true true false true generic rule a b e = record { rule = H1V1; is = refl }
-rule-stays true false true true true false false generic rule a b e = record { rule = H1V1; is = refl }
-rule-stays true false true true false true true generic rule a b e = record { rule = H1V1; is = refl }
-rule-stays true false true true false true false generic rule a b e = record { rule = H1V1; is = refl }
-rule-stays true false true true false false true generic rule a b e = record { rule = H1V1; is = refl }
-rule-stays true false true true false false false generic rule a b e = record { rule = H1V1; is = refl }
-rule-stays true false true false true true true generic rule a b e = record { rule = H1V2; is = refl }
-rule-stays true false true false true true false generic rule a b e = record { rule = H1V2; is = refl }
-rule-stays true false true false true false true generic rule a b e = record { rule = generic; is = refl }
-rule-stays true false true false true false false generic rule a b e = absurd (cc)
-rule-stays true false true false false true true generic rule a b e = record { rule = H1V2; is = refl }
-rule-stays true false true false false true false generic rule a b e = record { rule = H1V2; is = refl }
-rule-stays true false true false false false true generic rule a b e = record { rule = generic; is = refl }
-rule-stays true false true false false false false generic rule a b e = absurd (cc)
-rule-stays true false false true true true true generic rule a b e = record { rule = H2V1; is = refl }
-rule-stays true false false true true true false generic rule a b e = record { rule = H2V1; is = refl }
-rule-stays true false false true true false true generic rule a b e = record { rule = H2V1; is = refl }
-rule-stays true false false true true false false generic rule a b e = record { rule = H2V1; is = refl }
-rule-stays true false false true false true true generic rule a b e = record { rule = generic; is = refl }
-rule-stays true false false true false true false generic rule a b e = absurd (let x = a refl in cc)
-rule-stays true false false true false false true generic rule a b e = record { rule = generic; is = refl }
-rule-stays true false false true false false false generic rule a b e = absurd (let x = a refl in cc)
-rule-stays true false false false true true true generic rule a b e = record { rule = H2V2; is = refl }
-rule-stays true false false false true true false generic rule a b e = record { rule = H2V2; is = refl }
-rule-stays true false false false true false true generic rule a b e = record { rule = generic; is = refl }
-rule-stays true false false false true false false generic rule a b e = absurd (let x = a refl in cc)
-rule-stays true false false false false true true generic rule a b e = record { rule = generic; is = refl }
-rule-stays true false false false false true false generic rule a b e = absurd (let x = a refl in cc)
-rule-stays true false false false false false true generic rule a b e = record { rule = generic; is = refl }
-rule-stays true false false false false false false generic rule a b e = absurd (let x = a refl in cc)
-rule-stays false true true true true true true generic rule a b e = record { rule = H1V1; is = refl }
-rule-stays false true true true true true false generic rule a b e = record { rule = H1V1; is = refl }
-rule-stays false true true true true false true generic rule a b e = record { rule = H1V1; is = refl }
-rule-stays false true true true true false false generic rule a b e = record { rule = H1V1; is = refl }
-rule-stays false true true true false true true generic rule a b e = record { rule = H1V1; is = refl }
-rule-stays false true true true false true false generic rule a b e = record { rule = H1V1; is = refl }
-rule-stays false true true true false false true generic rule a b e = record { rule = H1V1; is = refl }
-rule-stays false true true true false false false generic rule a b e = record { rule = H1V1; is = refl }
-rule-stays false true true false true true true generic rule a b e = record { rule = H1V2; is = refl }
-rule-stays false true true false true true false generic rule a b e = record { rule = H1V2; is = refl }
-rule-stays false true true false true false true generic rule a b e = record { rule = generic; is = refl }
-rule-stays false true true false true false false generic rule a b e = absurd (let x = b refl in cc)
-rule-stays false true true false false true true generic rule a b e = record { rule = H1V2; is = refl }
-rule-stays false true true false false true false generic rule a b e = record { rule = H1V2; is = refl }
-rule-stays false true true false false false true generic rule a b e = record { rule = generic; is = refl }
-rule-stays false true true false false false false generic rule a b e = absurd (let x = b refl in cc)
-rule-stays false true false true true true true generic rule a b e = record { rule = H2V1; is = refl }
-rule-stays false true false true true true false generic rule a b e = record { rule = H2V1; is = refl }
-rule-stays false true false true true false true generic rule a b e = record { rule = H2V1; is = refl }
-rule-stays false true false true true false false generic rule a b e = record { rule = H2V1; is = refl }
-rule-stays false true false true false true true generic rule a b e = record { rule = generic; is = refl }
-rule-stays false true false true false true false generic rule a b e = absurd (cc)
-rule-stays false true false true false false true generic rule a b e = record { rule = generic; is = refl }
-rule-stays false true false true false false false generic rule a b e = absurd (cc)
-rule-stays false true false false true true true generic rule a b e = record { rule = H2V2; is = refl }
-rule-stays false true false false true true false generic rule a b e = record { rule = H2V2; is = refl }
-rule-stays false true false false true false true generic rule a b e = record { rule = generic; is = refl }
-rule-stays false true false false true false false generic rule a b e = absurd (let x = b refl in cc)
-rule-stays false true false false false true true generic rule a b e = record { rule = generic; is = refl }
-rule-stays false true false false false true false generic rule a b e = absurd (let x = b refl in cc)
-rule-stays false true false false false false true generic rule a b e = record { rule = generic; is = refl }
-rule-stays false true false false false false false generic rule a b e = absurd (let x = b refl in cc)
-rule-stays false false true true true true true generic rule a b e = record { rule = H1V1; is = refl }
-rule-stays false false true true true true false generic rule a b e = record { rule = H1V1; is = refl }
-rule-stays false false true true true false true generic rule a b e = record { rule = H1V1; is = refl }
-rule-stays false false true true true false false generic rule a b e = record { rule = H1V1; is = refl }
-rule-stays false false true true false true true generic rule a b e = record { rule = H1V1; is = refl }
-rule-stays false false true true false true false generic rule a b e = record { rule = H1V1; is = refl }
-rule-stays false false true true false false true generic rule a b e = record { rule = H1V1; is = refl }
-rule-stays false false true true false false false generic rule a b e = record { rule = H1V1; is = refl }
-rule-stays false false true false true true true generic rule a b e = record { rule = H1V2; is = refl }
-rule-stays false false true false true true false generic rule a b e = record { rule = H1V2; is = refl }
-rule-stays false false true false true false true generic rule a b e = record { rule = generic; is = refl }
-rule-stays false false true false true false false generic rule a b e = absurd (cc)
-rule-stays false false true false false true true generic rule a b e = record { rule = H1V2; is = refl }
-rule-stays false false true false false true false generic rule a b e = record { rule = H1V2; is = refl }
-rule-stays false false true false false false true generic rule a b e = record { rule = generic; is = refl }
-rule-stays false false true false false false false generic rule a b e = absurd (cc)
-rule-stays false false false true true true true generic rule a b e = record { rule = H2V1; is = refl }
-rule-stays false false false true true true false generic rule a b e = record { rule = H2V1; is = refl }
-rule-stays false false false true true false true generic rule a b e = record { rule = H2V1; is = refl }
-rule-stays false false false true true false false generic rule a b e = record { rule = H2V1; is = refl }
-rule-stays false false false true false true true generic rule a b e = record { rule = generic; is = refl }
-rule-stays false false false true false true false generic rule a b e = absurd (cc)
-rule-stays false false false true false false true generic rule a b e = record { rule = generic; is = refl }
-rule-stays false false false true false false false generic rule a b e = absurd (cc)
-rule-stays false false false false true true true generic rule a b e = record { rule = H2V2; is = refl }
-rule-stays false false false false true true false generic rule a b e = record { rule = H2V2; is = refl }
-rule-stays false false false false true false true generic rule a b e = record { rule = generic; is = refl }
-rule-stays false false false false true false false generic rule a b e = absurd (cc)
-rule-stays false false false false false true true generic rule a b e = record { rule = generic; is = refl }
-rule-stays false false false false false true false generic rule a b e = absurd (cc)
-rule-stays false false false false false false true generic rule a b e = record { rule = generic; is = refl }
-rule-stays false false false false false false false generic rule a b e = absurd (cc)
+rule-stays h1 v1 h1' v1' h2 v2 whole generic rule a b e =
+    choice-stays (h1 && v1) (h1' && v1') H1V1 _ _ (both-stay h1 v1 h1' v1' a b)
+    (choice-stays (h2 && v1) (h2 && v1') H2V1 _ _ (both-stay h2 v1 h2 v1' (λ x. x) b)
+    (choice-stays (h1 && v2) (h1' && v2) H1V2 _ _ (both-stay h1 v2 h1' v2 a (λ x. x))
+    (choice-stays (h2 && v2) (h2 && v2) H2V2 _ _ (λ x. x) (λ has. has))))
+    (record { rule = rule; is = e })
 
 or-left : (a b c : Bool) → (b ≡ true → c ≡ true) → (a || b) ≡ true → (a || c) ≡ true
 or-left true b c h e = refl

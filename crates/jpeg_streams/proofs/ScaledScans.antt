@@ -203,11 +203,6 @@ selectors-same f g same (suc n) front least bytes =
     go (Err e) h = refl
     go (Ok s) h = h s
 
-scan-same : (f g : Frame) → SameFrame f g → (sel : List Selector) (first last levels : ℕ)
-    → scan_of g sel first last levels ≡ scan_of f sel first last levels
-unfolding scan_of
-scan-same f g same sel first last levels = rw same.process refl
-
 band-same : (f g : Frame) → SameFrame f g → (sel : List Selector) (bytes : List ℕ)
     → band_at g sel bytes ≡ band_at f sel bytes
 unfolding band_at scan_of

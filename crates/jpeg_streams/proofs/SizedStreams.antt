@@ -17,7 +17,7 @@ use Rattle.jpeg_streams.specs.Segments.{accepted, onward, Turn}
 use Rattle.jpeg_streams.specs.Found.{nothing_found, Found}
 use Rattle.jpeg_streams.specs.Levels.{Levels, Is8Bit, nothing_sent}
 use Rattle.jpeg_bits.specs.Written.{marker}
-use Rattle.jpeg_streams.proofs.AcceptedStreams.{IsMarker}
+use Rattle.jpeg_lossless.specs.Written.{IsMarker}
 use Rattle.jpeg_streams.specs.WrittenScans.{Coefficients}
 use Rattle.jpeg_streams.proofs.AcceptedStreams.{WritesScans, WritesHead, WritesStream}
 use Rattle.jpeg_streams.specs.ArrayPictures.{meaning_of_array, picture_of_array}

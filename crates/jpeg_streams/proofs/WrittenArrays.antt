@@ -11,7 +11,7 @@ use Rattle.jpeg_streams.specs.WrittenData.{WritesIntervals}
 use Rattle.jpeg_bits.specs.Written.{marker}
 use Rattle.jpeg_streams.specs.WrittenScans.{written_turns}
 use Rattle.jpeg_streams.proofs.SentBlocks.{after_pass, reads_of, numbers_of}
-use Rattle.jpeg_streams.proofs.AcceptedStreams.{IsMarker}
+use Rattle.jpeg_lossless.specs.Written.{IsMarker}
 use Rattle.jpeg_streams.proofs.WrittenBlocks.{IsReady}
 use Rattle.jpeg_streams.proofs.WrittenIntervals.{reads-groups}
 

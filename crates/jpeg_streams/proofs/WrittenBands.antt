@@ -1,20 +1,20 @@
 -- A band that was written is read again.
-use Rattle.std.proofs.Common.{◌≡◌, ◌≢◌, ◌⊎◌, inl, inr, ℕ, zero, suc, ◌+◌, ◌-◌, ◌*◌, ◌/◌, ◌%◌, ◌^◌, ◌<◌, ◌≤◌, Bool}
-use Rattle.std.proofs.Common.{true, false, List, [], ◌∷◌, ◌++◌, map, length, take, drop, ℤ, pos, negsuc, ◌-ℤ◌}
-use Rattle.std.proofs.Common.{unsigned_abs, refl, sym, ap, ◌∙◌, subst, append_assoc, append-nil, arith, eqb, leb, ltb}
-use Rattle.std.proofs.Common.{pow-suc, w16, pow_pos}
+use Rattle.std.proofs.Common.{◌≡◌, ◌≢◌, ℕ, zero, suc, ◌+◌, ◌-◌, ◌*◌, ◌/◌, ◌%◌, ◌^◌, ◌<◌, ◌≤◌, Bool}
+use Rattle.std.proofs.Common.{false, List, [], ◌∷◌, ◌++◌, map, length, take, drop, ℤ, pos, negsuc}
+use Rattle.std.proofs.Common.{unsigned_abs, refl, sym, ap, ◌∙◌, subst, append_assoc, append-nil, arith, eqb}
+use Rattle.std.proofs.Common.{w16, pow_pos}
 use Rattle.std.proofs.lemmas.List.{take-replicate, drop-replicate, length-replicate}
 use Rattle.std.proofs.Common.{neg_ℤ, le_refl, length-append, ap₂}
 use Rattle.std.proofs.Math.Nat.{zero-mul, mul-le-mul_left}
 use lib.Signed.{mag}
-use Rattle.std.proofs.lemmas.Int.{ints, int_wrap_fits}
-use Rattle.std.proofs.lemmas.Bool.{lt-ltb, le-ltb}
-use Rattle.std.proofs.lemmas.Bool.Decides.{leb_tells, nat_tests}
+use Rattle.std.proofs.lemmas.Int.{int_wrap_fits}
+use Rattle.std.proofs.lemmas.Bool.{lt-ltb}
+use Rattle.std.proofs.lemmas.Bool.Decides.{nat_tests}
 use Rattle.std.specs.List.{AllByRecursion}
 use Rattle.std.proofs.Common.{slice_index}
-use Rattle.jpeg_bits.specs.Entropy.{bits_from, extended}
+use Rattle.jpeg_bits.specs.Entropy.{bits_from}
 use Rattle.jpeg_bits.specs.Codes.{Table, code_from}
-use Rattle.jpeg_bits.specs.Written.{low_bits, code_size, code_bits, number_for, IsCategory, IsCoded}
+use Rattle.jpeg_bits.specs.Written.{low_bits, code_size, code_bits, IsCategory, IsCoded}
 use Rattle.jpeg_bits.specs.Readers.{Reads, signed_from, ReadsJust}
 use Rattle.jpeg_bits.specs.Bands.{wrapped, Band, before_more, token_at, token_from, after_token, first_ac}
 use Rattle.jpeg_bits.specs.declared.tokens.Token.{Token}
@@ -24,57 +24,7 @@ use Rattle.jpeg_streams.specs.WrittenData.WritesBand.{full, value, sixteen, ende
 use Rattle.jpeg_bits.proofs.WrittenBits.{takes-gives, takes-bind, takes-number, takes-map, takes-as}
 use Rattle.jpeg_bits.proofs.Tables.{IsGood}
 use Rattle.jpeg_streams.proofs.SentBlocks.{scaled, InRange}
-
--- ---- numbers
-
--- a number that isn't 0 has at least the half of its category's bound
-pub category-half : (d : ℤ) (t : ℕ) → IsCategory d (suc t) → 2 ^ t ≤ unsigned_abs d
-category-half d t h = below (leb_tells (2 ^ t) (unsigned_abs d))
-  where
-    below : ((leb (2 ^ t) (unsigned_abs d) ≡ true) × (2 ^ t ≤ unsigned_abs d))
-        ⊎ ((leb (2 ^ t) (unsigned_abs d) ≡ false) × (unsigned_abs d < 2 ^ t)) → 2 ^ t ≤ unsigned_abs d
-    below (inl p) = p.1
-    below (inr p) = absurd (let no : suc t ≤ t = h.is_least t p.1 in omega arith)
-
-pub extend-high : (v t : ℕ) → 2 ^ t ≤ v → extended v (suc t) ≡ pos v
-unfolding extended
-extend-high v t h =
-    let e : suc t - 1 ≡ t = omega arith in
-    let f : ltb v (2 ^ t) ≡ false = le-ltb v (2 ^ t) h in
-    rw (e, f) refl
-
-pub extend-low : (v t : ℕ) → v < 2 ^ t → extended v (suc t) ≡ pos v -ℤ pos (2 ^ suc t - 1)
-unfolding extended
-extend-low v t h =
-    let e : suc t - 1 ≡ t = omega arith in
-    rw (e, lt-ltb v (2 ^ t) h) refl
-
-pub extend-number_for : (d : ℤ) (t : ℕ) → IsCategory d (suc t) → extended (number_for d (suc t)) (suc t) ≡ d
-unfolding number_for
-extend-number_for (pos zero) t h = absurd (let half = category-half (pos 0) t h in omega (arith, pow_pos t))
-extend-number_for (pos (suc n)) t h = extend-high (suc n) t (category-half (pos (suc n)) t h)
-extend-number_for (negsuc n) t h =
-    let half : 2 ^ t ≤ suc n = category-half (negsuc n) t h in
-    let top : suc n < 2 ^ suc t = h.holds in
-    let double = pow-suc 2 t in
-    extend-low (2 ^ suc t - 1 - suc n) t (omega arith) ∙ omega (arith, ints)
-
-pub number_for-lt : (d : ℤ) (s : ℕ) → IsCategory d s → number_for d s < 2 ^ s
-unfolding number_for
-number_for-lt (pos zero) s h = let low : 0 < 2 ^ s = h.holds in omega arith
-number_for-lt (pos (suc n)) s h = h.holds
-number_for-lt (negsuc n) s h = let top : suc n < 2 ^ s = h.holds in omega arith
-
--- a value is read of the bits that stand for it
-pub takes-signed : (u : ℤ) (t : ℕ) → IsCategory u (suc t) → ReadsJust (signed_from (suc t)) (bits_for u (suc t)) u
-unfolding signed_from
-takes-signed u t cat = record {
-  read = λ rest places e.
-      rw (
-        (takes-number (suc t) (number_for u (suc t)) (number_for-lt u (suc t) cat)).read rest places e,
-        extend-number_for u t cat,
-      ) refl;
-}
+use Rattle.jpeg_lossless.proofs.ReadBack.{takes-signed}
 
 -- ---- tokens
 

@@ -29,7 +29,8 @@ use Rattle.jpeg_bits.proofs.WrittenBits.{takes-gives, takes-bind, takes-bit, tak
 use Rattle.jpeg_bits.proofs.Tables.{IsGood, takes-symbol}
 use Rattle.jpeg_streams.proofs.SentBlocks.{scaled, held, InRange, InDcRange, dc_held, Suits, after_pass, reads_of}
 use Rattle.jpeg_streams.proofs.SentBlocks.{numbers_of}
-use Rattle.jpeg_streams.proofs.WrittenBands.{takes-signed, takes-band, map-no_numbers, abs-zero}
+use Rattle.jpeg_lossless.proofs.ReadBack.{takes-signed}
+use Rattle.jpeg_streams.proofs.WrittenBands.{takes-band, map-no_numbers, abs-zero}
 use Rattle.jpeg_streams.proofs.WrittenRefinements.{even-bit, even-bit_neg, times-two_power, spread, takes-corrected}
 use Rattle.jpeg_streams.proofs.WrittenRefinements.{takes-refinement}
 

@@ -1,112 +1,27 @@
 -- The bytes of a scan that was written are read again.
-use Rattle.std.proofs.Common.{◌≡◌, ◌≢◌, ℕ, zero, suc, ◌+◌, ◌%◌, ◌<◌, ◌≤◌, Bool, true, false, List, [], ◌∷◌, ◌++◌, map}
-use Rattle.std.proofs.Common.{take, drop, ap₂, replicate, length, length-drop, length-append, take-append-drop, pos}
-use Rattle.std.proofs.Common.{get_or, Option, Some, None, Result, Ok, Err, refl, sym, ap, ◌∙◌, subst, append_assoc}
+use Rattle.std.proofs.Common.{◌≡◌, ℕ, zero, suc, ◌+◌, ◌%◌, ◌≤◌, Bool, true, false, List, [], ◌∷◌, ◌++◌, map}
+use Rattle.std.proofs.Common.{take, drop, ap₂, length, length-drop, length-append, take-append-drop, pos}
+use Rattle.std.proofs.Common.{get_or, Option, Some, Result, Ok, Err, refl, sym, ap, ◌∙◌, subst, append_assoc}
 use Rattle.std.proofs.Common.{append-nil, arith, eqb}
-use Rattle.std.proofs.lemmas.Bool.{eq-eqb, eqb-true}
-use Rattle.std.proofs.lemmas.Bool.Decides.{nat_tests}
-use Rattle.std.proofs.lemmas.List.{length-replicate}
+use Rattle.std.proofs.lemmas.Bool.{eq-eqb}
 use Rattle.std.specs.List.{AllByRecursion}
 use lib.ListN.{length-map}
 use Rattle.jpeg_bits.specs.Reading.{Outcome, Fault, Malformed, ◌>>=◌}
-use Rattle.jpeg_bits.specs.Entropy.{Text, Ending, Found, bits_of, text_at, add_byte, no_bits, ending_by, filled_end}
+use Rattle.jpeg_bits.specs.Entropy.{Text, Ending, Found, text_at}
 use Rattle.jpeg_bits.specs.Entropy.{upcoming, fresh, marker_from, marker_by}
-use Rattle.jpeg_bits.specs.Marker.{marker_of}
 use Rattle.jpeg_bits.specs.declared.marker.Marker.{Marker}
 use Rattle.jpeg_bits.specs.declared.marker.Marker.TheVariants as markers
-use Rattle.jpeg_bits.specs.declared.ahead.DataEnd.TheVariants as ends
 use Rattle.jpeg_bits.specs.Readers.{text, ReadsJust}
 use Rattle.jpeg_bits.specs.Passes.{Pass, Via, Block, blocks_of}
 use Rattle.jpeg_bits.specs.Intervals.{interval, intervals, after_restart, blocks_before, groups, first_group}
 use Rattle.jpeg_bits.specs.Intervals.{other_groups, predictors_at_start}
 use Rattle.jpeg_streams.specs.WrittenData.{WritesInterval, WritesIntervals}
-use Rattle.jpeg_bits.specs.Written.{bits_of_bytes, marker, stuffed}
+use Rattle.jpeg_bits.specs.Written.{marker, stuffed}
 use Rattle.jpeg_streams.specs.WrittenData.WritesIntervals.{last, another}
 use Rattle.jpeg_streams.proofs.SentBlocks.{InDcRange, after_pass, reads_of, numbers_of}
-use Rattle.jpeg_streams.proofs.AcceptedStreams.{IsMarker}
+use Rattle.jpeg_lossless.specs.Written.{IsMarker}
+use Rattle.jpeg_lossless.proofs.ReadBack.{IsText, marker-append, rst-marker, stuffed-text}
 use Rattle.jpeg_streams.proofs.WrittenBlocks.{Predicts, IsReady, takes-blocks}
-
-pub not-equal : (x y : ℕ) → x ≢ y → eqb x y ≡ false
-not-equal x y n = grind (arith, nat_tests)
-
--- ---- texts
-
-none-some : (m : Marker) → ◌≡◌ {A = Option Marker} None (Some m) → ⊥
-none-some m e = cc
-
-pub no-fill : (code : ℕ) (m : Marker) → IsMarker code m → eqb code 255 ≡ false
-unfolding marker_of
-no-fill code m h = not-equal code 255 (λ e. none-some m (sym (ap marker_of e) ∙ h.is))
-
-pub no-zero : (code : ℕ) (m : Marker) → IsMarker code m → eqb code 0 ≡ false
-unfolding marker_of
-no-zero code m h = not-equal code 0 (λ e. none-some m (sym (ap marker_of e) ∙ h.is))
-
-pub filled : (fill code : ℕ) (m : Marker) (rest : List ℕ) → IsMarker code m
-    → filled_end (replicate fill 0xFF ++ code ∷ rest) ≡ (ends.Marker m, rest)
-unfolding filled_end
-filled zero code m rest h = rw (no-fill code m h, h.is) refl
-filled (suc fill) code m rest h = filled fill code m rest h
-
-pub marker-text : (fill code : ℕ) (m : Marker) (rest : List ℕ) → IsMarker code m
-    → text_at (marker fill code rest) ≡ no_bits (Found m rest)
-unfolding text_at
-marker-text zero code m rest h = rw (no-zero code m h) (ap (λ x. no_bits (ending_by x)) (filled zero code m rest h))
-marker-text (suc fill) code m rest h = ap (λ x. no_bits (ending_by x)) (filled (suc fill) code m rest h)
-
--- A text with these bits and this end; each bit has its place.
-pub record IsText (t : Text) (bits : List Bool) (e : Ending) : Type 0 where
-  pub bits_are : t.bits ≡ bits
-  pub ends_so : t.ending ≡ e
-  pub places_are : length t.places ≡ length bits
-
-text-byte : (b : ℕ) (rest : List ℕ) (t : Text) (bits : List Bool) (e : Ending) → IsText t bits e
-    → IsText (add_byte b rest t) (bits_of b ++ bits) e
-text-byte b rest t bits e h = record {
-  bits_are = ap (λ (l : List Bool). bits_of b ++ l) h.bits_are;
-  ends_so = h.ends_so;
-  places_are = omega (
-    arith,
-    length-append (replicate 8 rest) t.places,
-    length-replicate 8 rest,
-    h.places_are,
-    length-append (bits_of b) bits,
-  );
-}
-
--- a byte other than FF in front
-plain-text : (b : ℕ) (rest : List ℕ) → eqb b 255 ≡ false → 0 < length rest
-    → text_at (b ∷ rest) ≡ add_byte b rest (text_at rest)
-unfolding text_at
-plain-text b [] e some = absurd (omega arith)
-plain-text b (c ∷ rest) e some = rw e refl
-
-stuffed-byte : (rest : List ℕ) → text_at (255 ∷ 0 ∷ rest) ≡ add_byte 255 rest (text_at rest)
-unfolding text_at
-stuffed-byte rest = refl
-
-pub stuffed-text : (bytes : List ℕ) (fill code : ℕ) (m : Marker) (rest : List ℕ) → IsMarker code m
-    → IsText (text_at (stuffed bytes ++ marker fill code rest)) (bits_of_bytes bytes) (Found m rest)
-unfolding stuffed bits_of_bytes
-stuffed-text [] fill code m rest h =
-    rw (marker-text fill code m rest h) (record { bits_are = refl; ends_so = refl; places_are = refl })
-stuffed-text (b ∷ bytes) fill code m rest h = go (eqb b 0xFF) refl (stuffed-text bytes fill code m rest h)
-  where
-    go : (t : Bool) → eqb b 0xFF ≡ t
-        → IsText (text_at (stuffed bytes ++ marker fill code rest)) (bits_of_bytes bytes) (Found m rest)
-        → IsText (text_at (stuffed (b ∷ bytes) ++ marker fill code rest)) (bits_of b ++ bits_of_bytes bytes)
-        (Found m rest)
-    go true e ih =
-        let more = stuffed bytes ++ marker fill code rest in
-        rw (e, stuffed) (rw (stuffed-byte more)
-        (subst (λ (x : ℕ). IsText (add_byte 255 more (text_at more)) (bits_of x ++ bits_of_bytes bytes)
-        (Found m rest)) (sym (eqb-true b 0xFF e))
-        (text-byte 255 more (text_at more) (bits_of_bytes bytes) (Found m rest) ih)))
-    go false e ih =
-        let more = stuffed bytes ++ marker fill code rest in
-        let some : 0 < length more = omega (arith, length-append (stuffed bytes) (marker fill code rest)) in
-        rw (e, stuffed) (rw (plain-text b more e some)
-        (text-byte b more (text_at more) (bits_of_bytes bytes) (Found m rest) ih))
 
 -- ---- intervals
 
@@ -188,21 +103,6 @@ reads-interval p turns bytes fill code m rest ready h w =
     (takes-blocks p turns predictors_at_start 0 w.bits start-predicts ready w.coded) is
     (let s = w.is_short in omega arith)
 
-rst : (n : ℕ) → n < 8 → marker_of (0xD0 + n) ≡ Some (markers.RST n)
-unfolding marker_of
-rst zero h = refl
-rst (suc zero) h = refl
-rst (suc (suc zero)) h = refl
-rst (suc (suc (suc zero))) h = refl
-rst (suc (suc (suc (suc zero)))) h = refl
-rst (suc (suc (suc (suc (suc zero))))) h = refl
-rst (suc (suc (suc (suc (suc (suc zero)))))) h = refl
-rst (suc (suc (suc (suc (suc (suc (suc zero))))))) h = refl
-rst (suc (suc (suc (suc (suc (suc (suc (suc n)))))))) h = absurd (omega arith)
-
-pub rst-marker : (k : ℕ) → IsMarker (0xD0 + k % 8) (markers.RST (k % 8))
-rst-marker k = record { is = rst (k % 8) (omega arith) }
-
 abbrev pub all_after : Pass → List (Via × Block × Block) → List (List (Via × Block × Block)) → List Block
 all_after p turns [] = map (λ t. after_pass p t.1 t.2) turns
 all_after p turns (next ∷ more) = map (λ t. after_pass p t.1 t.2) turns ++ all_after p next more
@@ -221,11 +121,6 @@ next-interval p k turns next more bytes rest after first others m e f =
     ap (λ o. o >>= after_restart k (intervals p (suc k) next more)) e
     ∙ when-restart (k % 8) (blocks_before first (intervals p (suc k) next more rest))
     ∙ ap (blocks_before first) f
-
-pub marker-append : (fill code : ℕ) (rest more : List ℕ)
-    → marker fill code rest ++ more ≡ marker fill code (rest ++ more)
-marker-append fill code rest more =
-    ap (λ (l : List ℕ). 0xFF ∷ l) (append_assoc (replicate fill 0xFF) (code ∷ rest) more)
 
 -- Intervals that were written are read as the blocks after the pass, up to the marker after the last.
 pub reads-intervals : (p : Pass) (k : ℕ) (turns : List (Via × Block × Block))
