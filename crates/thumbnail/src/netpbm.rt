@@ -1,8 +1,9 @@
 //! Pictures as files of the netpbm formats PGM, PPM and PAM.
 ghost use Rattle.std.specs.Prelude.{◌≡◌, ◌++◌, IfOk, OnOk, string_bytes};
 ghost use Rattle.std.specs.Io.KnownBytes.{Appends};
-ghost use Rattle.thumbnail.specs.Netpbm.{file_of, header_of, higher_first, pam_header};
-ghost use Rattle.thumbnail.specs.Netpbm.{plain_header, samples_in};
+ghost use Rattle.thumbnail.specs.Netpbm.{channels, file_of, greatest, header_in, higher_first};
+ghost use Rattle.thumbnail.specs.Netpbm.{is_wide, pam_header, plain_header, samples_in};
+ghost use Rattle.std.specs.Prelude.{◌*◌, length};
 
 use jpeg_decoder::error::Result;
 use jpeg_decoder::{ImageInfo, PixelFormat};
@@ -25,24 +26,61 @@ fn plain_header(
 }
 
 /// The header of a PAM file of cyan, magenta, yellow and black.
-fn pam_header(alloc: Global, info: ImageInfo) -> std::result::Result<String, AllocError>
-    ensures { IfOk result (λ text. string_bytes text ≡ pam_header info) }
+fn pam_header(
+    alloc: Global,
+    info: ImageInfo,
+    greatest: &str,
+) -> std::result::Result<String, AllocError>
+    ensures { IfOk result (λ text. string_bytes text ≡ pam_header info greatest.now) }
 {
     let width = info.width;
     let height = info.height;
-    let samples = "DEPTH 4\nMAXVAL 255\nTUPLTYPE CMYK\nENDHDR";
-    format!(in alloc; "P7\nWIDTH {width}\nHEIGHT {height}\n{samples}\n")
+    let kind = "TUPLTYPE CMYK\nENDHDR";
+    format!(in alloc; "P7\nWIDTH {width}\nHEIGHT {height}\nDEPTH 4\nMAXVAL {greatest}\n{kind}\n")
+}
+
+/// How many samples a pixel has.
+fn channels(format: PixelFormat) -> usize
+    ensures { result ≡ channels format }
+{
+    match format {
+        PixelFormat::L8 | PixelFormat::L16 => 1,
+        PixelFormat::RGB24 => 3,
+        PixelFormat::CMYK32 => 4,
+    }
+}
+
+/// The number of pixels of a picture.
+fn area(info: ImageInfo) -> usize
+    ensures { result ≡ info.width * info.height }
+{
+    usize::from(info.width) * usize::from(info.height)
+}
+
+/// Whether the samples of a picture, which has `count` bytes, take two bytes each: those of
+/// lossless pictures above 8 bits, whatever their format.
+fn is_wide(info: ImageInfo, count: usize) -> bool
+    ensures { result ≡ is_wide info count }
+{
+    area(info) < count / channels(info.pixel_format)
+}
+
+/// The greatest value of a sample in one or in two bytes.
+fn greatest(wide: bool) -> &'static str
+    ensures { result.now ≡ greatest wide }
+{
+    if wide { "65535" } else { "255" }
 }
 
 /// What stands before the samples in a file of this picture.
-fn header(alloc: Global, info: ImageInfo) -> std::result::Result<String, AllocError>
-    ensures { IfOk result (λ text. string_bytes text ≡ header_of info) }
+fn header(alloc: Global, info: ImageInfo, wide: bool) -> std::result::Result<String, AllocError>
+    ensures { IfOk result (λ text. string_bytes text ≡ header_in info.pixel_format wide info) }
 {
+    let greatest = greatest(wide);
     match info.pixel_format {
-        PixelFormat::L8 => plain_header(alloc, "P5", info, "255"),
-        PixelFormat::L16 => plain_header(alloc, "P5", info, "65535"),
-        PixelFormat::RGB24 => plain_header(alloc, "P6", info, "255"),
-        PixelFormat::CMYK32 => pam_header(alloc, info),
+        PixelFormat::L8 | PixelFormat::L16 => plain_header(alloc, "P5", info, greatest),
+        PixelFormat::RGB24 => plain_header(alloc, "P6", info, greatest),
+        PixelFormat::CMYK32 => pam_header(alloc, info, greatest),
     }
 }
 
@@ -56,10 +94,10 @@ fn put_higher_first(samples: &mut [u8])
 }
 
 /// The pixels in the order of bytes that a file has.
-fn in_file_order(format: PixelFormat, mut pixels: Vec<u8>) -> Vec<u8>
-    ensures { result.items ≡ samples_in format pixels.items }
+fn in_file_order(wide: bool, mut pixels: Vec<u8>) -> Vec<u8>
+    ensures { result.items ≡ samples_in wide pixels.items }
 {
-    if format == PixelFormat::L16 {
+    if wide {
         put_higher_first(pixels.as_mut_slice());
     }
     pixels
@@ -84,8 +122,9 @@ pub fn write_picture<W: Write>(
     ensures { OnOk result (Appends (W.contents writer.old) (W.contents writer.new)
         (file_of info pixels.items)) }
 {
-    let header = header(alloc, info)?;
-    let samples = in_file_order(info.pixel_format, pixels);
+    let wide = is_wide(info, pixels.len());
+    let header = header(alloc, info, wide)?;
+    let samples = in_file_order(wide, pixels);
     write_both(writer, header.as_bytes(), samples.as_slice())?;
     Ok(())
 }
