@@ -90,7 +90,7 @@ ac-by false found scan e = rw e refl
 -- The tables in force are those that were read, or else the spare ones.
 pub forced-dc : (found : Found) (scan : Scan) (spare : Spare) (place : ℕ) → IsSpareOf found scan spare
     → length found.huffman.dc ≡ 4
-    → get_or (tables_of found scan).dc place None ≡ in_force found.huffman.dc spare.dc place
+    → get_or (tables_of found scan).dc place None ≡ in_force found.huffman.dc spare.dc.items place
 forced-dc found scan spare place s e =
     ap (λ (l : List (Option Table)). get_or l place None) (dc-by found.metadata.avi1 found scan refl)
     ∙ forced-by found.metadata.avi1 luminance_dc chrominance_dc scan.dc_places found.huffman.dc place e
@@ -98,7 +98,7 @@ forced-dc found scan spare place s e =
 
 pub forced-ac : (found : Found) (scan : Scan) (spare : Spare) (place : ℕ) → IsSpareOf found scan spare
     → length found.huffman.ac ≡ 4
-    → get_or (tables_of found scan).ac place None ≡ in_force found.huffman.ac spare.ac place
+    → get_or (tables_of found scan).ac place None ≡ in_force found.huffman.ac spare.ac.items place
 forced-ac found scan spare place s e =
     ap (λ (l : List (Option Table)). get_or l place None) (ac-by found.metadata.avi1 found scan refl)
     ∙ forced-by found.metadata.avi1 luminance_ac chrominance_ac scan.ac_places found.huffman.ac place e
@@ -142,7 +142,7 @@ if-ac false o t h e = let same : no_table classes.AC ≡ t = cc in ap (λ (x : T
 
 pub class-in-force : (found : Found) (scan : Scan) (spare : Spare) (needs : Bool) (place : ℕ) (t : Table)
     → IsSpareOf found scan spare → all_ac found.huffman.ac ≡ true
-    → table_if needs spare.no_ac (in_force found.huffman.ac spare.ac place) ≡ Ok t → t.class ≡ classes.AC
+    → table_if needs spare.no_ac (in_force found.huffman.ac spare.ac.items place) ≡ Ok t → t.class ≡ classes.AC
 class-in-force found scan spare needs place t s a e =
     let none : table_if needs (no_table classes.AC) (in_force found.huffman.ac
     (default_ac found.metadata.avi1 scan.ac_places) place) ≡ Ok t = rw (s.ac, s.no_ac) at e in
@@ -163,10 +163,10 @@ some-after n = grind (arith, nat_tests)
 
 -- the table that is needed of the component in a slot
 abbrev dc_of : Found → Scan → Spare → ℕ → Result Table Fault
-dc_of found scan spare place = table_if (scan.first == 0) spare.no_dc (in_force found.huffman.dc spare.dc place)
+dc_of found scan spare place = table_if (scan.first == 0) spare.no_dc (in_force found.huffman.dc spare.dc.items place)
 
 abbrev ac_of : Found → Scan → Spare → ℕ → Result Table Fault
-ac_of found scan spare place = table_if (nat_lt 1 scan.after) spare.no_ac (in_force found.huffman.ac spare.ac place)
+ac_of found scan spare place = table_if (nat_lt 1 scan.after) spare.no_ac (in_force found.huffman.ac spare.ac.items place)
 
 dc-needed : (found : Found) (scan : Scan) (spare : Spare) (place : ℕ) → IsSpareOf found scan spare
     → length found.huffman.dc ≡ 4
@@ -175,8 +175,8 @@ dc-needed : (found : Found) (scan : Scan) (spare : Spare) (place : ℕ) → IsSp
 unfolding pass_of
 dc-needed found scan spare place s e =
     ap (needed_if (scan.first == 0) classes.DC) (forced-dc found scan spare place s e)
-    ∙ needed-either (scan.first == 0) classes.DC (in_force found.huffman.dc spare.dc place)
-    ∙ ap (λ (t : Table). table_if (scan.first == 0) t (in_force found.huffman.dc spare.dc place)) (sym s.no_dc)
+    ∙ needed-either (scan.first == 0) classes.DC (in_force found.huffman.dc spare.dc.items place)
+    ∙ ap (λ (t : Table). table_if (scan.first == 0) t (in_force found.huffman.dc spare.dc.items place)) (sym s.no_dc)
 
 ac-needed : (found : Found) (scan : Scan) (spare : Spare) (place : ℕ) → IsSpareOf found scan spare
     → length found.huffman.ac ≡ 4
@@ -185,10 +185,10 @@ ac-needed : (found : Found) (scan : Scan) (spare : Spare) (place : ℕ) → IsSp
 unfolding pass_of
 ac-needed found scan spare place s e =
     ap (needed_if (nat_lt 0 (scan.after - 1)) classes.AC) (forced-ac found scan spare place s e)
-    ∙ needed-either (nat_lt 0 (scan.after - 1)) classes.AC (in_force found.huffman.ac spare.ac place)
-    ∙ ap (λ (b : Bool). table_if b (no_table classes.AC) (in_force found.huffman.ac spare.ac place))
+    ∙ needed-either (nat_lt 0 (scan.after - 1)) classes.AC (in_force found.huffman.ac spare.ac.items place)
+    ∙ ap (λ (b : Bool). table_if b (no_table classes.AC) (in_force found.huffman.ac spare.ac.items place))
     (some-after scan.after)
-    ∙ ap (λ (t : Table). table_if (nat_lt 1 scan.after) t (in_force found.huffman.ac spare.ac place)) (sym s.no_ac)
+    ∙ ap (λ (t : Table). table_if (nat_lt 1 scan.after) t (in_force found.huffman.ac spare.ac.items place)) (sym s.no_ac)
 
 -- what is there of the component in a slot, by the places of the header
 pub record HasComponent (found : Found) (frame : Frame) (scan : Scan) (spare : Spare) (slot index : ℕ)
@@ -282,7 +282,7 @@ is-there state frame header spare slot place c s h p l e = record {
 pub is-dc : (state : State) (header : ScanInfo) (spare : Spare) (slot place : ℕ) (o : Option Table)
     (r : Result Table Fault)
     → slot < length header.dc_table_indices.items → place ≡ get_or header.dc_table_indices.items slot place
-    → o ≡ in_force state.dc_tables spare.dc place
+    → o ≡ in_force state.dc_tables spare.dc.items place
     → table_if (header.spectral_selection.start == 0) spare.no_dc o ≡ r
     → dc_of (found_in state) (scan_in header) spare (get_or header.dc_table_indices.items slot 0) ≡ r
 is-dc state header spare slot place o r h p e t =
@@ -292,7 +292,7 @@ is-dc state header spare slot place o r h p e t =
 pub is-ac : (state : State) (header : ScanInfo) (spare : Spare) (slot place : ℕ) (o : Option Table)
     (r : Result Table Fault)
     → slot < length header.ac_table_indices.items → place ≡ get_or header.ac_table_indices.items slot place
-    → o ≡ in_force state.ac_tables spare.ac place
+    → o ≡ in_force state.ac_tables spare.ac.items place
     → table_if (nat_lt 1 header.spectral_selection.end) spare.no_ac o ≡ r
     → ac_of (found_in state) (scan_in header) spare (get_or header.ac_table_indices.items slot 0) ≡ r
 is-ac state header spare slot place o r h p e t =

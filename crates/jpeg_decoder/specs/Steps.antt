@@ -116,8 +116,8 @@ codings_in_force found frame scan =
 
 -- The spare tables of a scan: the default ones by what was said, and those without codes.
 pub record IsSpareOf (found : Found) (scan : headers.Scan) (spare : Spare) : Type 0 where
-  pub dc : spare.dc ≡ default_dc found.metadata.avi1 scan.dc_places
-  pub ac : spare.ac ≡ default_ac found.metadata.avi1 scan.ac_places
+  pub dc : spare.dc.items ≡ default_dc found.metadata.avi1 scan.dc_places
+  pub ac : spare.ac.items ≡ default_ac found.metadata.avi1 scan.ac_places
   pub no_dc : spare.no_dc ≡ no_table classes.DC
   pub no_ac : spare.no_ac ≡ no_table classes.AC
 

@@ -41,8 +41,8 @@ pub struct Coded<'a> {
 /// frames by their places, and tables without codes where the scan needs none.
 #[derive(Drop)]
 pub struct Spare {
-    dc: [Option<HuffmanTable>; 4],
-    ac: [Option<HuffmanTable>; 4],
+    dc: Vec<Option<HuffmanTable>>,
+    ac: Vec<Option<HuffmanTable>>,
     no_dc: HuffmanTable,
     no_ac: HuffmanTable,
 }
@@ -72,15 +72,15 @@ pub fn pass_of(header: &ScanInfo) -> Pass
 
 /// The spare tables of a scan; the default ones where a frame of an MJPEG stream was named.
 pub fn spare_tables(alloc: Global, header: &ScanInfo, is_mjpeg: bool) -> Result<Spare>
-    ensures dc { IfOk result (λ s. s.dc ≡ default_dc is_mjpeg (scan_in header.now).dc_places) }
-    ensures ac { IfOk result (λ s. s.ac ≡ default_ac is_mjpeg (scan_in header.now).ac_places) }
+    ensures dc { IfOk result (λ s. s.dc.items ≡ default_dc is_mjpeg (scan_in header.now).dc_places) }
+    ensures ac { IfOk result (λ s. s.ac.items ≡ default_ac is_mjpeg (scan_in header.now).ac_places) }
     ensures no_dc { IfOk result (λ s. s.no_dc ≡ no_table DC) }
     ensures no_ac { IfOk result (λ s. s.no_ac ≡ no_table AC) }
     ensures err { IfErr result (λ e. e ≡ OutOfMemory) }
 {
     let mut spare = Spare {
-        dc: [None, None, None, None],
-        ac: [None, None, None, None],
+        dc: vec![in alloc; None, None, None, None]?,
+        ac: vec![in alloc; None, None, None, None]?,
         no_dc: HuffmanTable::without_codes(alloc, HuffmanTableClass::DC),
         no_ac: HuffmanTable::without_codes(alloc, HuffmanTableClass::AC),
     };
