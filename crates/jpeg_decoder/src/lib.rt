@@ -36,6 +36,7 @@ pub mod laws;
 pub mod lossless_laws;
 mod lossless_scans;
 mod metadata;
+pub mod more_worked;
 mod picture;
 mod places;
 mod profile;
@@ -46,7 +47,6 @@ mod scans;
 mod sequential;
 mod state;
 mod strips;
-pub mod more_worked;
 pub mod worked;
 
 pub use decoder::{Decoder, ImageInfo, PixelFormat};
