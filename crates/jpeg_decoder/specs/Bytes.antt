@@ -1,11 +1,25 @@
--- How many bytes the picture of a frame of blocks has: as many as its size and its format say.
-use Rattle.std.specs.Prelude.{◌≡◌, ℕ, ◌*◌, List, length, Option, Some, None}
-use Rattle.jpeg_segments.specs.Frame.{Frame}
+-- How many bytes a picture has, and how many are taken while it is decoded.
+use Rattle.std.specs.Prelude.{◌≡◌, ℕ, ◌*◌, ◌+◌, ◌==◌, if◌then◌else◌, max, nat_le}
+use Rattle.std.specs.Prelude.{List, [], ◌∷◌, length, Option, Some, None}
+use Rattle.jpeg_segments.specs.Frame.{Component, Frame}
 use Rattle.jpeg_segments.specs.declared.parser.CodingProcess.{CodingProcess}
 use Rattle.jpeg_segments.specs.declared.parser.CodingProcess.TheVariants.{DctSequential}
 use Rattle.jpeg_segments.specs.declared.parser.CodingProcess.TheVariants.{DctProgressive, Lossless}
 use Rattle.jpeg_streams.specs.Pixels.{bytes_a_pixel, info_of}
+use Rattle.jpeg_decoder.specs.declared.memory.DecodingBytes.{DecodingBytes}
 
+-- ---- the picture
+
+-- the bytes of a sample: one up to 8 bits, and two above
+abbrev pub bytes_a_sample : ℕ → ℕ
+bytes_a_sample precision = if nat_le precision 8 then 1 else 2
+
+-- the bytes of a picture: for each pixel those of a sample of each component
+unfoldable pub picture_bytes : Frame → ℕ
+picture_bytes f =
+    f.output_width * f.output_height * (length f.components * bytes_a_sample f.precision)
+
+-- those of the picture of a frame of blocks, by what `info` says of it
 unfoldable pub HasBytes : Frame → List ℕ → Type 0
 HasBytes f pixels =
     length pixels ≡ (info_of f).width * (info_of f).height * bytes_a_pixel (info_of f).pixel_format
@@ -15,6 +29,47 @@ HasBytesBy DctSequential f pixels = HasBytes f pixels
 HasBytesBy DctProgressive f pixels = HasBytes f pixels
 HasBytesBy Lossless f pixels = Unit {0}
 
+-- A picture has the bytes that its frame says, and one of blocks those that its format says.
 abbrev pub IsWhole : Option Frame → List ℕ → Type 0
 IsWhole None pixels = Unit {0}
-IsWhole (Some f) pixels = HasBytesBy f.process f pixels
+IsWhole (Some f) pixels = (length pixels ≡ picture_bytes f) × HasBytesBy f.process f pixels
+
+-- ---- what is taken while it is decoded
+
+-- the coefficients of a component, two bytes each: of one row of MCUs in a sequential frame, and of
+-- all its blocks in a progressive one
+abbrev pub coefficient_bytes : CodingProcess → Component → ℕ
+coefficient_bytes DctSequential c = 128 * (c.blocks_wide * c.factors.vertical)
+coefficient_bytes DctProgressive c = 128 * (c.blocks_wide * c.blocks_high)
+coefficient_bytes Lossless c = 0
+
+-- the plane of a component: the samples of all its blocks, or those of a lossless one, two bytes
+-- each
+abbrev pub plane_bytes : CodingProcess → Component → ℕ
+plane_bytes DctSequential c = c.blocks_wide * c.scale * (c.blocks_high * c.scale)
+plane_bytes DctProgressive c = c.blocks_wide * c.scale * (c.blocks_high * c.scale)
+plane_bytes Lossless c = 2 * (c.width * c.height)
+
+-- those of all components
+unfoldable pub sum_of : (Component → ℕ) → List Component → ℕ
+sum_of bytes [] = 0
+sum_of bytes (c ∷ more) = bytes c + sum_of bytes more
+
+-- The picture beside its planes: the one plane of a frame of blocks becomes the picture itself.
+abbrev pub beside_planes : CodingProcess → Frame → ℕ
+beside_planes DctSequential f = if length f.components == 1 then 0 else picture_bytes f
+beside_planes DctProgressive f = if length f.components == 1 then 0 else picture_bytes f
+beside_planes Lossless f = picture_bytes f
+
+-- The blocks that are read, the planes and the picture, and the most of them at a time: blocks and
+-- planes while scans are read, and planes and picture at the end.
+abbrev pub decoding_bytes : Frame → DecodingBytes
+decoding_bytes f =
+    let coefficients = sum_of (coefficient_bytes f.process) f.components in
+    let planes = sum_of (plane_bytes f.process) f.components in
+    record {
+      coefficients = coefficients;
+      planes = planes;
+      picture = picture_bytes f;
+      peak = max (coefficients + planes) (planes + beside_planes f.process f);
+    }

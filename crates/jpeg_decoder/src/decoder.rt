@@ -188,6 +188,15 @@ impl<R: Read + Drop> Decoder<R> {
         self.state.frame.as_ref().map(|frame| info_of(frame))
     }
 
+    /// Returns how many bits a sample has, once a frame was accepted, in every state: 8 for baseline,
+    /// extended and progressive frames, and 2 to 16 for lossless ones (T.81, B.2.2). A sample is at
+    /// most `2^precision - 1`; it takes one byte of a picture up to 8 bits, and two bytes above.
+    pub fn precision(&self) -> Option<u8>
+        ensures { result ≡ option_map (λ f. f.precision) self.now.found.frame }
+    {
+        self.state.frame.as_ref().map(|frame| frame.precision)
+    }
+
     /// The colour transform of a picture of several components, in place of the one that its
     /// segments say. One that does not fit is refused by `decode`.
     pub fn set_color_transform(&mut self, transform: ColorTransform)

@@ -35,6 +35,7 @@ pub mod headline;
 pub mod laws;
 pub mod lossless_laws;
 mod lossless_scans;
+pub mod memory;
 mod metadata;
 pub mod more_worked;
 mod picture;
