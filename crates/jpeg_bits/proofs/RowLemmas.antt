@@ -1,12 +1,13 @@
 -- The codes of each length by their greatest.
 use Rattle.std.proofs.Common.{◌≡◌, ℕ, zero, suc, ◌+◌, ◌-◌, ◌*◌, ◌/◌, ◌^◌, ◌<◌, ◌≤◌, List, length, take, get_or, sum}
-use Rattle.std.proofs.Common.{refl, sym, ap, ◌∙◌, subst, arith, add-one, Some, None, inl, inr}
+use Rattle.std.proofs.Common.{refl, sym, ap, ◌∙◌, subst, arith, add-one, pow_pos, Some, None, inl, inr}
 use Rattle.std.proofs.lemmas.Bool.{cases_lt}
-use Rattle.std.proofs.Math.Nat.{div-div-eq-div-mul}
+use Rattle.std.proofs.Math.Nat.{div-div-eq-div-mul, div-mul-le_self}
+use Rattle.std.proofs.lemmas.Nat.{le-div}
 use Rattle.std.proofs.lemmas.List.Sums.{fold_more, sum_by_more}
 use Rattle.jpeg_bits.specs.Codes.{code_lengths, code_in, first_from, begins}
 use Rattle.jpeg_bits.specs.Written.{low_bits}
-use Rattle.jpeg_bits.specs.ShortCodes.{value_after, HoldsRows, no_row}
+use Rattle.jpeg_bits.specs.ShortCodes.{ArePassed, value_after, HoldsRows, no_row}
 use Rattle.jpeg_bits.specs.declared.codes.Row.{Row}
 use Rattle.jpeg_bits.proofs.CodeLemmas.{Tried, Tried-none, Tried-more, code_found, code_missed, code_none, place_within}
 use Rattle.jpeg_bits.proofs.Reservoirs.{prefix_number}
@@ -138,3 +139,30 @@ none_found counts bits i counted h g none = code_none (code_lengths counts) coun
 pub same_row : (a b c d e f : ℕ) → a ≡ d → b ≡ e → c ≡ f → ◌≡◌ {A = Row} (record { end = a; first = b; place = c })
     (record { end = d; first = e; place = f })
 same_row a b c d e f p q r = rw (p, q, r) refl
+
+-- ---- rows that are passed
+
+-- the bits are after the codes of the rows that are passed, and none of these codes begins them
+pub passed-none : (counts : List ℕ) (rows : List Row) (bits : ℕ) → length counts ≡ 16 → HoldsRows counts rows
+    → bits < 2 ^ 16 → (i : ℕ) → i ≤ 16 → ArePassed rows i bits
+    → (value_after counts i ≤ bits / 2 ^ (16 - i)) × NoneYet counts bits i
+passed-none counts rows bits counted holds fits zero h passed =
+    let lens = code_lengths counts in
+    let all : length lens - 0 ≡ length lens = omega arith in
+    (omega arith, ap (first_from (begins lens (low_bits 16 bits)) 0) (sym all))
+passed-none counts rows bits counted holds fits (suc i) h passed =
+    let before = passed-none counts rows bits counted holds fits i (omega arith) (λ j lt. passed j (omega arith)) in
+    let lt : i < 16 = omega arith in
+    let long = passed i (omega arith) in
+    subst (λ (k : ℕ). (value_after counts k ≤ bits / 2 ^ (16 - k)) × NoneYet counts bits k) (add-one i) (
+      above_more counts rows bits i counted holds lt fits before.0 long,
+      row_missed counts rows bits i counted holds lt fits before.0 long before.1,
+    )
+
+-- they stay passed for greater bits
+pub still-passed : (rows : List Row) (n bits more : ℕ) → bits ≤ more → ArePassed rows n bits → ArePassed rows n more
+still-passed rows n bits more le passed i lt =
+    let d = 2 ^ (15 - i) in
+    let below : bits / d * d ≤ more = omega (arith, div-mul-le_self bits d, le) in
+    let m = le-div (bits / d) more d (pow_pos (15 - i)) below in
+    omega (arith, passed i lt, m)

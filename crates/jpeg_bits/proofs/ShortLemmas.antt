@@ -163,6 +163,15 @@ short_named symbols (Some c) p h = go (leb c.1 8) refl
     go true e = rw e at h
     go false e = absurd (false≢true (ap is_some (rw e at h)))
 
+-- whether a code is short is seen with its symbol too
+pub short-of-named : (symbols : List ℕ) (o : Option (ℕ × ℕ)) → short_only (named symbols o) ≡ named symbols (short_only o)
+short-of-named symbols None = refl
+short-of-named symbols (Some c) = go (leb c.1 8) refl
+  where
+    go : (b : Bool) → leb c.1 8 ≡ b → short_only (named symbols (Some c)) ≡ named symbols (short_only (Some c))
+    go true e = rw e refl
+    go false e = rw e refl
+
 -- a short code that stands at the place of the first 8 bits is that of the bits
 pub symbol_found : (table : Table) (bits : ℕ) (p : ℕ × ℕ) → length table.counts ≡ 16
     → short_code table.counts table.symbols (low_bits 8 (bits / 256)) ≡ Some p

@@ -1,5 +1,5 @@
 -- Codes and values that some bits begin with (F.2.2.3, with the look-up that it allows).
-use Rattle.std.specs.Prelude.{◌≡◌, ℕ, ℤ, pos, ◌+◌, ◌-◌, ◌*◌, ◌/◌, ◌%◌, ◌<◌, List, ◌++◌, take, drop}
+use Rattle.std.specs.Prelude.{◌≡◌, ℕ, ℤ, pos, ◌+◌, ◌-◌, ◌*◌, ◌/◌, ◌%◌, ◌^◌, ◌<◌, ◌≤◌, List, ◌++◌, take, drop}
 use Rattle.std.specs.Prelude.{replicate, Bool, false, Option, Some, None, if◌then◌else◌}
 use Rattle.std.specs.Prelude.{slice_index}
 use Rattle.std.specs.Prelude.{slice_index_or, sum, fold, ◌&&◌, nat_lt, nat_le}
@@ -90,3 +90,7 @@ row_at counts i =
 -- each row stands at its place
 abbrev pub HoldsRows : List ℕ → List Row → Type 0
 HoldsRows counts rows = (i : ℕ) → i < 16 → slice_index_or rows i no_row ≡ row_at counts i
+
+-- no code of these rows begins 16 bits: they are at or after the ends of all
+abbrev pub ArePassed : List Row → ℕ → ℕ → Type 0
+ArePassed rows n bits = (i : ℕ) → i < n → (slice_index_or rows i no_row).end ≤ bits / 2 ^ (15 - i)

@@ -1,8 +1,13 @@
-use Rattle.std.proofs.Common.{◌≡◌, ℕ, ◌<◌, slice_index_or, length, None}
+use Rattle.std.proofs.Common.{◌≡◌, ℕ, ◌<◌, ◌≤◌, ◌*◌, slice_index_or, length, None}
 use Rattle.jpeg_bits.specs.Written.{low_bits}
-use Rattle.jpeg_bits.specs.ShortCodes.{short_code}
+use Rattle.jpeg_bits.specs.ShortCodes.{ArePassed, short_code}
 use Rattle.jpeg_bits.proofs.codes.short_codes.Given as goal
 
 abbrev pub invariant-loop-byte : goal.invariant-loop-byte
-invariant-loop-byte l = (length l.codes ≡ 256) × ((b : ℕ) → b < l.byte
-    → slice_index_or l.codes b None ≡ short_code l.counts l.values (low_bits 8 b))
+invariant-loop-byte l = record {
+  whole : length l.short.items ≡ 256;
+  filled : (b : ℕ) → b < l.byte
+      → slice_index_or l.short.items b None ≡ short_code l.codes.counts.now l.codes.values.now (low_bits 8 b);
+  within : l.row ≤ 16;
+  passed : ArePassed l.codes.rows.now l.row (l.byte * 256);
+}

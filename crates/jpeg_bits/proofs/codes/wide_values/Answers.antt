@@ -1,37 +1,51 @@
-use Rattle.std.proofs.Common.{◌≡◌, ◌∙◌, ◌*◌, ◌%◌, ◌++◌, ℕ, ℤ, List, Bool, sym, ap, arith, rules}
+use Rattle.std.proofs.Common.{◌≡◌, ◌∙◌, ◌+◌, ◌*◌, ◌%◌, ◌++◌, ℕ, ℤ, List, Bool, sym, ap, subst, arith, rules}
 use Rattle.std.proofs.Common.{replicate, false, slice_index_or, None}
 use Rattle.jpeg_bits.specs.Codes.{code_in, code_lengths}
 use Rattle.jpeg_bits.specs.Written.{low_bits}
-use Rattle.jpeg_bits.specs.ShortCodes.{named, packed, short_value_by, short_value_of}
+use Rattle.jpeg_bits.specs.ShortCodes.{ArePassed, named, packed, short_value_by, short_value_of}
 use Rattle.jpeg_bits.specs.declared.codes.HuffmanTableClass.{HuffmanTableClass}
 use Rattle.jpeg_bits.specs.declared.codes.HuffmanTableClass.TheVariants.{DC}
+use Rattle.jpeg_bits.proofs.RowLemmas.{still-passed}
 use Rattle.jpeg_bits.proofs.ShortLemmas.{set_next, length_set, none_dc, eleven_padded, within_byte}
 use Rattle.jpeg_bits.proofs.codes.wide_values.Goals as goal
 
 pub returns-then-eq : goal.returns-then-eq
 returns-then-eq c = λ b lt.
     let dc : c.args.class ≡ DC = search rules in
+    let t = c.args.codes.now in
     ap (λ (xs : List (ℤ × ℕ × ℕ)). slice_index_or xs b (packed None)) c.new.ensures.items
-    ∙ none_dc c.args.values.now c.args.counts.now b
+    ∙ none_dc t.values.now t.counts.now b
     ∙ ap (λ (class : HuffmanTableClass). packed (short_value_of 11
-    (record { class = class; counts = c.args.counts.now; symbols = c.args.values.now }) (low_bits 11 b))) (sym dc)
+    (record { class = class; counts = t.counts.now; symbols = t.values.now }) (low_bits 11 b))) (sym dc)
+
+pub code_of-code-requires-clause-passed : goal.code_of-code-requires-clause-passed
+code_of-code-requires-clause-passed c =
+    let b = c.loop-place.place in
+    let whole : b * 32 % 65536 ≡ b * 32 = omega (arith, c.loop-place-test.true) in
+    subst (λ (n : ℕ). ArePassed c.args.codes.now.rows.now c.loop-place.row n) (sym whole) c.loop-place.invariant.passed
 
 pub loop-place-preserved : goal.loop-place-preserved
 loop-place-preserved c =
     let b = c.loop-place.place in
-    let lens = code_lengths c.args.counts.now in
+    let t = c.args.codes.now in
+    let i = c.loop-place.invariant in
+    let lens = code_lengths t.counts.now in
     let whole : b * 32 % 65536 ≡ b * 32 = omega (arith, c.loop-place-test.true) in
     let padded : low_bits 16 (b * 32 % 65536) ≡ low_bits 11 b ++ replicate 5 false = ap (low_bits 16) whole
     ∙ eleven_padded b in
     let entry = c.packed.ensures ∙ ap packed (c.short_value.ensures.value
     ∙ ap (short_value_by 11 c.args.class (low_bits 11 b)) (c.code_of-code.ensures.code
-    ∙ ap (λ (l : List Bool). named c.args.values.now (code_in lens l)) padded)) in (
-      length_set c.loop-place.tokens.items b c.packed.result 2048 c.loop-place.invariant.0,
-      set_next c.loop-place.tokens.items b c.packed.result (packed None)
+    ∙ ap (λ (l : List Bool). named t.values.now (code_in lens l)) padded)) in
+    record {
+      whole = length_set c.loop-place.tokens.items b c.packed.result 2048 i.whole;
+      filled = set_next c.loop-place.tokens.items b c.packed.result (packed None)
           (λ (k : ℕ). packed (short_value_of 11
-          (record { class = c.args.class; counts = c.args.counts.now; symbols = c.args.values.now }) (low_bits 11 k)))
-          (omega (arith, c.loop-place.invariant.0, c.loop-place-test.true)) c.loop-place.invariant.1 entry,
-    )
+          (record { class = c.args.class; counts = t.counts.now; symbols = t.values.now }) (low_bits 11 k)))
+          (omega (arith, i.whole, c.loop-place-test.true)) i.filled entry;
+      within = c.code_of-code.ensures.within;
+      passed = still-passed t.rows.now c.code_of-code.new.row (b * 32) ((b + 1) * 32) (omega arith)
+          (subst (λ (n : ℕ). ArePassed t.rows.now c.code_of-code.new.row n) whole c.code_of-code.ensures.passed);
+    }
 
 pub packed-requires : goal.packed-requires
 packed-requires c = within_byte c.short_value.result c.short_value.ensures.within

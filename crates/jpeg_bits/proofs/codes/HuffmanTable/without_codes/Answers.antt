@@ -1,9 +1,9 @@
-use Rattle.std.proofs.Common.{◌≡◌, ◌<◌, ◌∙◌, refl, sym, ap, length, replicate, false, ℕ, ℤ, List, ◌++◌, zero, suc}
-use Rattle.std.proofs.Common.{slice_index_or, get_or, None, Option}
+use Rattle.std.proofs.Common.{◌≡◌, ◌∙◌, refl, sym, ap, length, replicate, ℕ, ℤ, List}
+use Rattle.std.proofs.Common.{slice_index_or, None, Option}
 use Rattle.jpeg_bits.specs.Codes.{code_in, code_lengths, lengths_from, first_from}
 use Rattle.jpeg_bits.specs.Written.{low_bits}
 use Rattle.jpeg_bits.specs.declared.codes.HuffmanTableClass.{HuffmanTableClass}
-use Rattle.jpeg_bits.specs.ShortCodes.{short_code, short_value_of, short_value_by, packed}
+use Rattle.jpeg_bits.specs.ShortCodes.{short_code, short_value_of, packed}
 use Rattle.jpeg_bits.proofs.ShortLemmas.{none_packed}
 use Rattle.jpeg_bits.proofs.codes.HuffmanTable.without_codes.Goals as goal
 
@@ -14,11 +14,6 @@ no-lengths = refl
 -- no table of nothing has anything
 abbrev none_of : (A : Type 0) → Option A
 none_of A = None
-
-none-at : {A : Type 0} → (n place : ℕ) → get_or (replicate n (none_of A)) place (none_of A) ≡ none_of A
-none-at zero place = refl
-none-at (suc n) zero = refl
-none-at (suc n) (suc place) = none-at n place
 
 no-code : (symbols : List ℕ) (b : ℕ) → none_of (ℕ × ℕ) ≡ short_code (replicate 16 0) symbols (low_bits 8 b)
 unfolding code_in lengths_from first_from
@@ -34,8 +29,10 @@ invariant_of-result c = (
   refl,
   no-lengths ∙ ap length (sym c.new.ensures.items),
   c.rows_of.ensures,
-  λ b lt. none-at 256 b ∙ no-code c.new.result.items b,
-  λ b lt. none-at 256 b ∙ no-value c.args.class c.new.result.items b,
-  λ b lt. ap (λ (xs : List (ℤ × ℕ × ℕ)). slice_index_or xs b (packed None)) c.new-2.ensures.items
+  λ b lt. ap (λ (xs : List (Option (ℕ × ℕ))). slice_index_or xs b (none_of (ℕ × ℕ))) c.new-2.ensures.items
+      ∙ no-code c.new.result.items b,
+  λ b lt. ap (λ (xs : List (Option (ℤ × ℕ × ℕ))). slice_index_or xs b (none_of (ℤ × ℕ × ℕ))) c.new-3.ensures.items
+      ∙ no-value c.args.class c.new.result.items b,
+  λ b lt. ap (λ (xs : List (ℤ × ℕ × ℕ)). slice_index_or xs b (packed None)) c.new-4.ensures.items
       ∙ none_packed c.args.class c.new.result.items b,
 )
