@@ -289,8 +289,7 @@ fn read_planes<R: Read + Drop>(
     let Some(rows) = rows_of_interval(coding) else {
         return Err(format_error_of(format!(in alloc;
             "restart interval {}, expected a multiple of the {} MCUs of a row",
-            coding.restart_interval,
-            coding.wide
+            coding.restart_interval, coding.wide
         )));
     };
     let tables = mcu_tables(alloc, parts)?;

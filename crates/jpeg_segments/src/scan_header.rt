@@ -312,9 +312,13 @@ fn progressive_band_text(
             "number of components Ns={count} in a progressive scan with Ss={first}, expected 1"
         )
     } else if high > 13 {
-        format!(in alloc; "successive approximation Ah={high} in a progressive scan, expected 0 to 13")
+        format!(in alloc;
+            "successive approximation Ah={high} in a progressive scan, expected 0 to 13"
+        )
     } else if low > 13 {
-        format!(in alloc; "successive approximation Al={low} in a progressive scan, expected 0 to 13")
+        format!(in alloc;
+            "successive approximation Al={low} in a progressive scan, expected 0 to 13"
+        )
     } else {
         format!(in alloc;
             "successive approximation Ah={high}, Al={low} in a progressive scan, expected Ah=0 or {}",
