@@ -98,7 +98,7 @@ fn read_after_ff<R: Read + Drop>(alloc: Global, source: &mut Source<R>) -> Resul
             None => return Ok(Piece::Data(DataEnd::Ended)),
         }
     }
-    Err(format_error(alloc, "fill bytes without end"))
+    Err(format_error(alloc, "found 2^64 fill bytes, expected a marker"))
 }
 
 /// The next byte, or none where the bytes end.
@@ -481,7 +481,11 @@ fn hold_no_code(alloc: Global, refusal: &mut Option<Error>)
     ensures names { NamesFormat (held_refusal refusal.new) }
     ensures held { is_some refusal.new ≡ true }
 {
-    hold_format_error(alloc, "failed to decode huffman code", refusal);
+    hold_format_error(
+        alloc,
+        "found bits that begin no code of the Huffman table",
+        refusal,
+    );
 }
 
 /// The refusal of FF 00 after fill bytes.
@@ -490,7 +494,7 @@ fn hold_no_code(alloc: Global, refusal: &mut Option<Error>)
 fn malformed_end(alloc: Global) -> Error
     ensures { NamesFormat result }
 {
-    format_error(alloc, "FF 00 stands where a marker is expected")
+    format_error(alloc, "found FF00 after fill bytes, expected a marker")
 }
 
 /// The marker of an end that was met, or its refusal.

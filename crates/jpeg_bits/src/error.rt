@@ -78,14 +78,24 @@ impl<T: Drop> From<AllocFailed<T>> for Error {
     }
 }
 
-/// A refusal of a broken rule, whose text says which: a `Format`, or `OutOfMemory` where there is
-/// none for the text.
+/// Returns the refusal of a broken rule by a text that says what was found and what was expected: a
+/// `Format`, or `OutOfMemory` where there is no memory for the text.
 #[cold]
 #[inline(never)]
 pub fn format_error(alloc: Global, text: &str) -> Error
     ensures { NamesFormat result }
 {
-    match String::from_str(alloc, text) {
+    format_error_of(String::from_str(alloc, text))
+}
+
+/// Returns the refusal of a broken rule by a text that was made for it: a `Format`, or
+/// `OutOfMemory` where there was no memory for the text.
+#[cold]
+#[inline(never)]
+pub fn format_error_of(text: std::result::Result<String, AllocError>) -> Error
+    ensures { NamesFormat result }
+{
+    match text {
         Ok(text) => Error::Format(text),
         Err(_) => Error::OutOfMemory,
     }
@@ -102,13 +112,25 @@ pub fn hold_format_error(alloc: Global, text: &str, refusal: &mut Option<Error>)
     *refusal = Some(format_error(alloc, text));
 }
 
+/// Holds the refusal of a difference whose magnitude category is above the greatest.
+#[cold]
+#[inline(never)]
+pub fn hold_category_error(alloc: Global, category: u8, greatest: u8, refusal: &mut Option<Error>)
+    ensures names { NamesFormat (held_refusal refusal.new) }
+    ensures held { is_some refusal.new ≡ true }
+{
+    *refusal = Some(format_error_of(format!(in alloc;
+        "difference magnitude category {category}, expected 0 to {greatest}"
+    )));
+}
+
 /// The refusal where the bytes end: an `Io` of the kind `UnexpectedEof`.
 #[cold]
 #[inline(never)]
 pub fn end_of_bytes() -> Error
     ensures { NamesEnd result }
 {
-    Error::Io(io::Error::new(ErrorKind::UnexpectedEof, "failed to fill whole buffer"))
+    Error::Io(io::Error::new(ErrorKind::UnexpectedEof, "the file ends too soon"))
 }
 
 /// The refusal that a call has put into its place, taken out.

@@ -4,7 +4,7 @@ ghost use Rattle.jpeg_bits.specs.Reading.{Answers, IsShort, Malformed, next_byte
 ghost use Rattle.jpeg_bits.specs.Reading.{length_at, skip_at};
 ghost use Rattle.jpeg_bits.specs.declared.error.Error.TheVariants.{OutOfMemory};
 
-use crate::error::{Result, end_of_bytes, format_error};
+use crate::error::{Result, end_of_bytes, format_error_of};
 use crate::source::Source;
 use std::alloc::Global;
 use std::io::Read;
@@ -46,7 +46,9 @@ pub fn read_length<R: Read + Drop>(alloc: Global, source: &mut Source<R>) -> Res
 {
     let length = read_u16_be(alloc, source)?;
     if length < 2 {
-        return Err(format_error(alloc, "a segment is shorter than its length field"));
+        return Err(format_error_of(format!(in alloc;
+            "segment length {length}, expected at least 2"
+        )));
     }
     Ok(length - 2)
 }

@@ -1,8 +1,8 @@
 //! Refinement of the coefficients of a block.
 ghost use Rattle.std.specs.Prelude.{◌≡◌, ◌≤◌, ◌==◌, ◌^◌, ◌<◌, ◌-◌, pos, IfSome, is_some};
 ghost use Rattle.std.specs.Prelude.{true, false};
-ghost use Rattle.jpeg_bits.specs.Refusals.{answer_of, outcome_of, IsHeld};
-ghost use Rattle.jpeg_bits.specs.Reading.{Gives};
+ghost use Rattle.jpeg_bits.specs.Refusals.{answer_of, outcome_of, held_refusal, IsHeld};
+ghost use Rattle.jpeg_bits.specs.Reading.{Gives, NamesFormat};
 ghost use Rattle.jpeg_bits.specs.Entropy.{Takes};
 ghost use Rattle.jpeg_bits.specs.Refinement.{bit_of, new_number};
 ghost use Rattle.jpeg_bits.specs.Pieces.{moved_within, run_from, place_from, piece_from};
@@ -14,7 +14,7 @@ ghost use Rattle.jpeg_bits.specs.ZigzagParts.{KeepsOthers};
 
 use crate::ahead::Held;
 use crate::blocks::Pass;
-use crate::error::{Error, hold_format_error};
+use crate::error::{Error, format_error_of, hold_format_error};
 use crate::huffman::HuffmanTable;
 use crate::source::Source;
 use crate::tokens::power_of_two;
@@ -100,7 +100,11 @@ fn move_away(alloc: Global, value: i16, by: u16, refusal: &mut Option<Error>) ->
     match value.checked_add(signed_step) {
         Some(moved) => Some(moved),
         None => {
-            hold_format_error(alloc, "a coefficient overflows", refusal);
+            hold_format_error(
+                alloc,
+                "found a refined coefficient of more than 16 bits",
+                refusal,
+            );
             None
         }
     }
@@ -213,10 +217,23 @@ fn read_refinement<R: Read + Drop>(
             None => None,
         },
         _ => {
-            hold_format_error(held.alloc(), "unexpected huffman code", refusal);
+            hold_size_error(held.alloc(), symbol, refusal);
             None
         }
     }
+}
+
+/// Holds the refusal of a symbol of a refinement whose low half is above 1 (T.81, G.1.2.3).
+#[cold]
+#[inline(never)]
+fn hold_size_error(alloc: Global, symbol: u8, refusal: &mut Option<Error>)
+    ensures names { NamesFormat (held_refusal refusal.new) }
+    ensures held { is_some refusal.new ≡ true }
+{
+    *refusal = Some(format_error_of(format!(in alloc;
+        "coefficient magnitude category {} in a refinement scan, expected 0 or 1",
+        symbol % 16
+    )));
 }
 
 /// The band of a block in a refinement, and how many blocks after this one have no tokens.

@@ -538,7 +538,7 @@ fn texts_of_errors(rt: HostRuntime) -> Result<(), Fail> {
             Error::Unsupported(UnsupportedFeature::ColorTransform(ColorTransform::YCbCr)),
             "unsupported JPEG feature: ColorTransform(YCbCr)",
         ),
-        (end_of_bytes(), "failed to fill whole buffer"),
+        (end_of_bytes(), "the file ends too soon"),
         (
             Error::from(io::Error::new(ErrorKind::Other, "a call of the test")),
             "a call of the test",

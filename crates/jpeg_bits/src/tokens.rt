@@ -11,7 +11,7 @@ ghost use Rattle.jpeg_bits.specs.ZigzagParts.{band_in, KeepsOthers};
 
 use crate::ahead::Held;
 use crate::blocks::Pass;
-use crate::error::{Error, hold_format_error};
+use crate::error::{Error, hold_category_error};
 use crate::huffman::HuffmanTable;
 use crate::source::Source;
 use crate::zigzag::place_of;
@@ -47,8 +47,7 @@ pub(crate) fn read_difference<R: Read + Drop>(
         return None;
     };
     if category > 11 {
-        let text = "invalid DC difference magnitude category";
-        hold_format_error(held.alloc(), text, refusal);
+        hold_category_error(held.alloc(), category, 11, refusal);
         return None;
     }
     if category == 0 {

@@ -15,7 +15,7 @@ ghost use Rattle.jpeg_decoder.specs.Steps.{coding_in_slot, default_dc, default_a
 ghost use Rattle.jpeg_decoder.specs.Steps.{table_if};
 ghost use Rattle.jpeg_streams.specs.ScanSegments.{pass_of, is_progressive};
 
-use crate::places::{needed, table_at};
+use crate::places::{Missing, needed, table_at};
 use crate::state::State;
 use jpeg_bits::blocks::Pass;
 use jpeg_bits::codes::HuffmanTableClass;
@@ -110,14 +110,14 @@ fn needed_table<'a>(
     is_needed: bool,
     table: Option<&'a HuffmanTable>,
     none: &'a HuffmanTable,
-    text: &str,
+    missing: Missing,
 ) -> Result<&'a HuffmanTable>
     ensures { MatchResult result
         (λ t. table_if is_needed none.now (option_copied table.entry) ≡ Ok t.now)
         (λ e. IsRefusal e × Names e (table_if is_needed none.now (option_copied table.entry))) }
 {
     if is_needed {
-        needed(alloc, table, text)
+        needed(alloc, table, missing)
     } else {
         Ok(none)
     }
@@ -145,25 +145,22 @@ fn coding_of<'a>(
 {
     let place = header.component_indices[slot];
     let component = frame.components.get(place);
-    let component = needed(
-        alloc,
-        component,
-        "a scan of a component that the frame lacks",
-    )?;
-    let quantization = table_at(&state.quantization, component.quantization_table_index);
-    let quantization = needed(alloc, quantization, "a scan without a quantization table")?;
+    let component = needed(alloc, component, Missing::Component(place))?;
+    let identifier = component.identifier;
+    let destination = component.quantization_table_index;
+    let missing = Missing::Table("quantization", destination, identifier);
+    let quantization = table_at(&state.quantization, destination);
+    let quantization = needed(alloc, quantization, missing)?;
     let has_dc = header.spectral_selection.start == 0;
-    let dc = table_in_force(&state.dc_tables, &spare.dc, header.dc_table_indices[slot]);
-    let dc = needed_table(alloc, has_dc, dc, &spare.no_dc, "a scan without a DC table")?;
+    let dc_destination = header.dc_table_indices[slot];
+    let missing = Missing::Table("DC", dc_destination, identifier);
+    let dc = table_in_force(&state.dc_tables, &spare.dc, dc_destination);
+    let dc = needed_table(alloc, has_dc, dc, &spare.no_dc, missing)?;
     let has_ac = header.spectral_selection.end > 1;
-    let ac = table_in_force(&state.ac_tables, &spare.ac, header.ac_table_indices[slot]);
-    let ac = needed_table(
-        alloc,
-        has_ac,
-        ac,
-        &spare.no_ac,
-        "a scan without an AC table",
-    )?;
+    let ac_destination = header.ac_table_indices[slot];
+    let missing = Missing::Table("AC", ac_destination, identifier);
+    let ac = table_in_force(&state.ac_tables, &spare.ac, ac_destination);
+    let ac = needed_table(alloc, has_ac, ac, &spare.no_ac, missing)?;
     Ok(Coded {
         place,
         component,

@@ -14,7 +14,7 @@ ghost use Rattle.jpeg_decoder.specs.LosslessParts.{mcus_high, mcus_wide, part_by
 ghost use Rattle.jpeg_lossless.specs.Codings.{part_in};
 
 use crate::decoded::Decoded;
-use crate::places::{needed, table_at};
+use crate::places::{Missing, needed, table_at};
 use crate::restarts::pass_restarts;
 use crate::state::State;
 use jpeg_bits::error::Result;
@@ -28,10 +28,18 @@ use jpeg_segments::sizes::{ceiling, greatest_of};
 use std::alloc::{AllocError, Global};
 use std::io::Read;
 
+/// The identifier of the component in a slot of a scan, or 0 where there is none.
+fn identifier_of(frame: &FrameInfo, header: &ScanInfo, slot: usize) -> u8 {
+    let index = header.component_indices.get(slot).copied();
+    let component = index.and_then(|index| frame.components.get(index));
+    component.map_or(0, |component| component.identifier)
+}
+
 /// The tables in force for the differences of a scan's components. There are no default ones.
 fn tables_of<'a>(
     alloc: Global,
     state: &'a State,
+    frame: &FrameInfo,
     header: &ScanInfo,
 ) -> Result<Vec<&'a HuffmanTable>>
     ensures { let expected = tables_in state.now.dc_tables (scan_in header.now).dc_places in
@@ -40,8 +48,11 @@ fn tables_of<'a>(
 {
     let mut tables = Vec::with_capacity(alloc, header.dc_table_indices.len())?;
     for slot in 0..header.dc_table_indices.len() {
-        let table = table_at(&state.dc_tables, header.dc_table_indices[slot]);
-        tables.push(needed(alloc, table, "a lossless scan without a table")?)?;
+        let destination = header.dc_table_indices[slot];
+        let identifier = identifier_of(frame, header, slot);
+        let missing = Missing::Table("DC", destination, identifier);
+        let table = table_at(&state.dc_tables, destination);
+        tables.push(needed(alloc, table, missing)?)?;
     }
     Ok(tables)
 }
@@ -154,7 +165,7 @@ pub fn read_lossless_scan<R: Read + Drop>(
     ensures sound { let found = found_in state.now in
         OnOk result (IsSound (record (with_decoded found decoded.new) { scanned = true })) }
 {
-    let tables = tables_of(alloc, state, header)?;
+    let tables = tables_of(alloc, state, frame, header)?;
     let parts = parts_of(alloc, frame, &header.component_indices, &tables)?;
     let coding = coding_of(frame, header, state.restart_interval);
     let (mut planes, met) = read_scan(alloc, source, coding, &parts)?;

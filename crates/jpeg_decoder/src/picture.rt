@@ -2,7 +2,7 @@
 ghost use Rattle.std.specs.Prelude.{◌≡◌, ◌*◌, ◌+◌, ◌<◌, ◌≤◌, ◌&&◌, IfOk, List, MatchResult, None};
 ghost use Rattle.std.specs.Prelude.{OnOk, Ok, Some, drop, false, is_some, length, map, nat_lt, not};
 ghost use Rattle.std.specs.Prelude.{option_map, replicate, slice_index_or, true, []};
-ghost use Rattle.jpeg_bits.specs.Reading.{Answers, Names};
+ghost use Rattle.jpeg_bits.specs.Reading.{Answers, Names, NamesFormat};
 ghost use Rattle.jpeg_segments.specs.FrameView.{component_in, frame_in};
 ghost use Rattle.jpeg_pixels.specs.Pictures.{AreWhole};
 ghost use Rattle.jpeg_pixels.specs.Scaled.{IsScale};
@@ -26,9 +26,10 @@ ghost use Rattle.jpeg_decoder.specs.Bytes.{HasBytesBy, IsWhole};
 use crate::codings::is_progressive;
 use crate::color_choice::choose_color_transform;
 use crate::decoded::{Decoded, render};
-use crate::places::{needed, table_at};
+use crate::places::{Missing, needed, table_at};
 use crate::state::State;
-use jpeg_bits::error::{Result, format_error};
+use jpeg_bits::error::{Error, Result, format_error_of};
+use jpeg_bits::marker::Marker;
 use jpeg_bits::reads::read_u8;
 use jpeg_bits::source::Source;
 use jpeg_lossless::lossless::compute_image_lossless;
@@ -46,11 +47,15 @@ fn read_start<R: Read + Drop>(alloc: Global, source: &mut Source<R>) -> Result<(
 {
     let first = read_u8(alloc, source)?;
     if first != 0xff {
-        return Err(format_error(alloc, "no start of an image"));
+        return Err(format_error_of(format!(in alloc;
+            "found {first:02X} at the start, expected SOI (FFD8)"
+        )));
     }
     let second = read_u8(alloc, source)?;
     if second != 0xd8 {
-        return Err(format_error(alloc, "no start of an image"));
+        return Err(format_error_of(format!(in alloc;
+            "found FF{second:02X} at the start, expected SOI (FFD8)"
+        )));
     }
     Ok(())
 }
@@ -120,9 +125,12 @@ fn plane_at_end(
     if let Some(plane) = plane {
         return Ok(plane);
     }
-    let blocks = needed(alloc, held, "an image without samples")?;
-    let table = table_at(&state.quantization, component.quantization_table_index);
-    let table = needed(alloc, table, "an image without a quantization table")?;
+    let identifier = component.identifier;
+    let blocks = needed(alloc, held, Missing::Scan(identifier))?;
+    let destination = component.quantization_table_index;
+    let missing = Missing::Table("quantization", destination, identifier);
+    let table = table_at(&state.quantization, destination);
+    let table = needed(alloc, table, missing)?;
     Ok(render(alloc, component, table, &blocks)?)
 }
 
@@ -185,8 +193,9 @@ fn picture_by(
     let components = frame.components.as_slice();
     if components.len() == 1 {
         let mut planes = planes;
-        let mut plane = needed(alloc, planes.pop(), "an image without samples")?;
-        crop_to(&mut plane, &components[0], frame.output_size);
+        let component = &components[0];
+        let mut plane = needed(alloc, planes.pop(), Missing::Scan(component.identifier))?;
+        crop_to(&mut plane, component, frame.output_size);
         return Ok(plane);
     }
     let metadata = &state.metadata;
@@ -232,7 +241,8 @@ fn samples_at_end(alloc: Global, frame: &FrameInfo, decoded: &mut Decoded) -> Re
     let mut planes = Vec::with_capacity(alloc, frame.components.len())?;
     for place in 0..frame.components.len() {
         let plane = decoded.samples[place].take();
-        planes.push(needed(alloc, plane, "an image without samples")?)?;
+        let missing = Missing::Scan(frame.components[place].identifier);
+        planes.push(needed(alloc, plane, missing)?)?;
     }
     Ok(planes)
 }
@@ -256,6 +266,19 @@ fn samples_picture(
     compute_image_lossless(alloc, frame, planes)
 }
 
+/// Returns the refusal of a picture that is above the limit.
+#[cold]
+#[inline(never)]
+fn limit_error(alloc: Global, frame: &FrameInfo, limit: usize) -> Error
+    ensures { NamesFormat result }
+{
+    let count = frame
+        .components
+        .len()
+        .saturating_mul(area_of(frame.output_size));
+    format_error_of(format!(in alloc; "{count} samples in the picture, expected at most {limit}"))
+}
+
 /// The picture of what was found, which is taken: within the limit, of planes that are there.
 #[tactic(auto, unfolding(jpeg_streams::specs::FoundPictures::picture_of))]
 fn picture(
@@ -269,13 +292,13 @@ fn picture(
         MatchResult result (λ v. expected ≡ Ok v.items) (λ e. IsRefusal e × Names e expected) }
     ensures size { IfOk result (λ v. IsWhole (found_in state.now).frame v.items) }
 {
-    let frame = needed(alloc, state.frame.as_ref(), "an image without a frame")?;
+    let frame = needed(alloc, state.frame.as_ref(), Missing::Frame(Marker::EOI))?;
     if !is_within(
         settings.limit,
         frame.components.len(),
         area_of(frame.output_size),
     ) {
-        return Err(format_error(alloc, "the picture is larger than the limit"));
+        return Err(limit_error(alloc, frame, settings.limit));
     }
     match frame.coding_process {
         CodingProcess::DctSequential | CodingProcess::DctProgressive => {

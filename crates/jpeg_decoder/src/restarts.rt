@@ -8,7 +8,7 @@ ghost use Rattle.jpeg_decoder.specs.Steps.{is_restart_marker, after_all};
 
 use jpeg_bits::error::{Result, format_error};
 use jpeg_bits::huffman::HuffmanDecoder;
-use jpeg_bits::marker::{Marker, read_marker};
+use jpeg_bits::marker::{Marker, read_marker, restart_error};
 use jpeg_bits::source::Source;
 use std::alloc::Global;
 use std::io::Read;
@@ -37,7 +37,7 @@ pub fn read_restart<R: Read + Drop>(
     let marker = decoder.take_marker(source)?;
     decoder.reset();
     if !is_numbered(marker, number) {
-        return Err(format_error(alloc, "missing restart marker"));
+        return Err(restart_error(alloc, marker, number));
     }
     Ok(())
 }
@@ -64,5 +64,5 @@ pub fn pass_restarts<R: Read + Drop>(
         }
         met = Some(read_marker(alloc, source)?);
     }
-    Err(format_error(alloc, "restart markers without end"))
+    Err(format_error(alloc, "found 2^64 restart markers, expected another marker"))
 }

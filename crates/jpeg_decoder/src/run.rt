@@ -150,7 +150,7 @@ pub fn run<R: Read + Drop, W: Write>(alloc: Global, reader: R, writer: &mut W) -
 
 /// Reports a refusal in one line, and returns the program's status: 0 for `Ok`, of which nothing is
 /// written, and 1 for a refusal, also where the line can't be written.
-pub fn report<W: Write>(alloc: Global, outcome: &Result<()>, writer: &mut W) -> u8
+pub fn report<W: Write>(_alloc: Global, outcome: &Result<()>, writer: &mut W) -> u8
     ensures ok { OnOk outcome.now ((result ≡ 0) × Keeps (W.contents writer.old)
         (W.contents writer.new)) }
     ensures err { OnErr outcome.now (result ≡ 1) }
@@ -158,9 +158,8 @@ pub fn report<W: Write>(alloc: Global, outcome: &Result<()>, writer: &mut W) -> 
     match outcome {
         Ok(()) => 0,
         Err(error) => {
-            if let Ok(line) = format!(in alloc; "jpegraw: {error}\n") {
-                let _ = write_fully(alloc, writer, line.as_bytes());
-            }
+            // By parts: "out of memory" is to be said without any.
+            let _ = write!(writer, "jpegraw: {error}\n");
             1
         }
     }

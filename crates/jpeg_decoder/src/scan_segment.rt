@@ -12,7 +12,7 @@ ghost use Rattle.jpeg_streams.specs.Stream.{line_count};
 use crate::codings::{codings_of, pass_of, spare_tables};
 use crate::decoded::Decoded;
 use crate::lossless_scans::read_lossless_scan;
-use crate::places::needed;
+use crate::places::{Missing, needed};
 use crate::restarts::pass_restarts;
 use crate::scans::Scan;
 use crate::state::State;
@@ -32,7 +32,7 @@ pub fn refused_line_count(alloc: Global, before: Before) -> Error
     match before {
         Before::FirstScan => Error::Unsupported(UnsupportedFeature::DNL),
         Before::LaterScan | Before::Elsewhere => {
-            format_error(alloc, "a number of lines that is not after the first scan")
+            format_error(alloc, "found DNL, expected it only after the first scan")
         }
     }
 }
@@ -86,7 +86,7 @@ pub fn read_scan<R: Read + Drop>(
     ensures sound { OnOk result (IsSound (record (with_decoded (found_in state.now) decoded.new)
         { scanned = true })) }
 {
-    let frame = needed(alloc, state.frame.as_ref(), "a scan without a frame")?;
+    let frame = needed(alloc, state.frame.as_ref(), Missing::Frame(Marker::SOS))?;
     let header = parse_sos(alloc, source, frame)?;
     match frame.coding_process {
         CodingProcess::DctSequential | CodingProcess::DctProgressive => {

@@ -9,7 +9,7 @@ use crate::frames::check_frame;
 use crate::metadata::Metadata;
 use crate::places::update;
 use crate::scan_segment::{read_scan, refused_line_count};
-use jpeg_bits::error::{Error, Result, UnsupportedFeature, format_error};
+use jpeg_bits::error::{Error, Result, UnsupportedFeature, format_error, format_error_of};
 use jpeg_bits::huffman::HuffmanTable;
 use jpeg_bits::marker::{Marker, read_marker};
 use jpeg_bits::reads::{read_length, skip};
@@ -221,7 +221,7 @@ impl State {
         ensures framed { IfOk result (λ _. is_some (found_in self.now).frame ≡ true) }
     {
         if self.frame.is_none() {
-            return Err(format_error(alloc, "an end of image without a frame"));
+            return Err(format_error(alloc, "found EOI, expected a frame header"));
         }
         Ok(Step {
             before: Before::Elsewhere,
@@ -272,6 +272,7 @@ impl State {
         &self,
         alloc: Global,
         source: &mut Source<R>,
+        number: u8,
         before: Before,
     ) -> Result<Step>
         ensures reads { Answers (turn_of self.now) (stray_restart before (found_in self.now))
@@ -280,7 +281,9 @@ impl State {
     {
         match before {
             Before::FirstScan | Before::LaterScan => Ok(ONWARD),
-            Before::Elsewhere => Err(format_error(alloc, "a restart marker outside a scan")),
+            Before::Elsewhere => Err(format_error_of(format!(in alloc;
+                "found RST{number} outside a scan, expected the marker of a segment"
+            ))),
         }
     }
 
@@ -314,11 +317,13 @@ impl State {
             Marker::DRI => self.read_restart(alloc, source),
             Marker::APP(number) => self.read_application(alloc, source, number),
             Marker::COM => self.skip_segment(alloc, source),
-            Marker::RST(_) => self.stray_restart(alloc, source, before),
+            Marker::RST(number) => self.stray_restart(alloc, source, number, before),
             Marker::DNL => Err(refused_line_count(alloc, before)),
             Marker::DAC => Err(Error::Unsupported(UnsupportedFeature::ArithmeticEntropyCoding)),
             Marker::DHP | Marker::EXP => Err(Error::Unsupported(UnsupportedFeature::Hierarchical)),
-            _ => Err(format_error(alloc, "a marker that has no place here")),
+            _ => Err(format_error_of(format!(in alloc;
+                "found {marker}, expected the marker of a segment"
+            ))),
         }
     }
 
@@ -391,7 +396,7 @@ impl State {
             before = step.before;
             met = step.met;
         }
-        Err(format_error(alloc, "segments without end"))
+        Err(format_error(alloc, "found 2^64 markers, expected EOI"))
     }
 }
 

@@ -4,7 +4,7 @@ ghost use Rattle.jpeg_bits.specs.Entropy.{Takes};
 ghost use Rattle.jpeg_bits.specs.Refusals.{answer_of, outcome_of, IsHeld};
 ghost use Rattle.jpeg_lossless.specs.Differences.{difference, differences, row_tables, onto};
 
-use jpeg_bits::error::{Error, Result, hold_format_error, take_refusal};
+use jpeg_bits::error::{Error, Result, hold_category_error, take_refusal};
 use jpeg_bits::huffman::{HuffmanDecoder, HuffmanTable};
 use jpeg_bits::source::Source;
 use std::alloc::Global;
@@ -30,7 +30,7 @@ fn take_difference<R: Read + Drop>(
         return None;
     };
     if category > 16 {
-        hold_format_error(alloc, "invalid difference magnitude category", refusal);
+        hold_category_error(alloc, category, 16, refusal);
         return None;
     }
     if category == 0 {

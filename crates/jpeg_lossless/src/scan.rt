@@ -19,9 +19,9 @@ use crate::lossless::start_of;
 pub use crate::parts::Part;
 use crate::parts::mcu_tables;
 use crate::planes::{Row, add_row, shift};
-use jpeg_bits::error::{Result, format_error};
+use jpeg_bits::error::{Result, format_error_of};
 use jpeg_bits::huffman::{HuffmanDecoder, HuffmanTable};
-use jpeg_bits::marker::Marker;
+use jpeg_bits::marker::{Marker, restart_error};
 use jpeg_bits::scan::Predictor;
 use jpeg_bits::source::Source;
 use std::alloc::{AllocError, Global};
@@ -203,7 +203,7 @@ impl LosslessScan {
         while left > rows {
             let marker = self.read_interval(source, coding, parts, tables, rows)?;
             if !is_restart(marker, number) {
-                return Err(format_error(self.alloc, "a restart marker is missing"));
+                return Err(restart_error(self.alloc, marker, (number % 8) as u8));
             }
             number += 1;
             left -= rows;
@@ -287,7 +287,10 @@ fn read_planes<R: Read + Drop>(
         source.old result source.new }
 {
     let Some(rows) = rows_of_interval(coding) else {
-        return Err(format_error(alloc, "a restart interval ends inside a row of MCUs"));
+        return Err(format_error_of(format!(in alloc;
+            "restart interval {}, expected a multiple of the {} MCUs of a row",
+            coding.restart_interval, coding.wide
+        )));
     };
     let tables = mcu_tables(alloc, parts)?;
     let planes = empty_planes(alloc, coding.high, parts)?;

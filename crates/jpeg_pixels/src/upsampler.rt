@@ -10,7 +10,7 @@ use crate::upsample_rows::{
     far_line, line_at, repeat_samples, upsample_row_h1v2, upsample_row_h2v1, upsample_row_h2v2,
 };
 use jpeg_bits::color_transform::ColorTransform;
-use jpeg_bits::error::{Error, Result, UnsupportedFeature};
+use jpeg_bits::error::{Error, Result, UnsupportedFeature, format_error_of};
 use jpeg_segments::parser::Component;
 use std::alloc::Global;
 use std::marker::Model;
@@ -144,19 +144,20 @@ impl ColorConvert {
     }
 }
 
-// The refusal of a transform that doesn't fit this many components.
+/// Returns the refusal of a transform that doesn't fit this many components.
 #[cold]
 #[inline(never)]
 fn misfit(alloc: Global, component_count: usize, color_transform: ColorTransform) -> Error
     ensures { NamesFormat result }
 {
-    let text = format!(in alloc;
-        "the color transform {color_transform:?} is not one of {component_count} components"
-    );
-    match text {
-        Ok(text) => Error::Format(text),
-        Err(_) => Error::OutOfMemory,
-    }
+    let expected = match component_count {
+        3 => "None, RGB or YCbCr",
+        4 => "None, CMYK or YCCK",
+        _ => "None",
+    };
+    format_error_of(format!(in alloc;
+        "color transform {color_transform:?} with {component_count} components, expected {expected}"
+    ))
 }
 
 /// The samples of a component: how they are upsampled, their size, and the samples that a line of

@@ -13,7 +13,7 @@ ghost use Rattle.jpeg_segments.specs.FrameView.{application_in};
 
 use crate::parser::{AdobeColorTransform, AppData, IccChunk};
 use crate::payload::read_bytes;
-use jpeg_bits::error::{Result, format_error};
+use jpeg_bits::error::{Result, format_error_of};
 use jpeg_bits::marker::Marker;
 use jpeg_bits::reads::{read_length, read_u16_be, skip};
 use jpeg_bits::source::Source;
@@ -161,7 +161,10 @@ fn read_adobe<R: Read + Drop>(
     }
     match transform_by(head[11]) {
         Some(transform) => pass_over_after(alloc, source, left - 12, transform),
-        None => Err(format_error(alloc, "the transform of an Adobe segment is above 2")),
+        None => Err(format_error_of(format!(in alloc;
+            "transform {} in an Adobe segment, expected 0 to 2",
+            head[11]
+        ))),
     }
 }
 
@@ -250,7 +253,7 @@ pub fn parse_app<R: Read + Drop>(
 {
     match marker {
         Marker::APP(number) => read_application(alloc, reader, number),
-        _ => Err(format_error(alloc, "the marker is not that of an application")),
+        _ => Err(format_error_of(format!(in alloc; "found {marker}, expected APPn"))),
     }
 }
 
@@ -278,7 +281,10 @@ pub fn parse_dri<R: Read + Drop>(alloc: Global, reader: &mut Source<R>) -> Resul
 {
     let left = read_length(alloc, reader)?;
     if left != 2 {
-        return Err(format_error(alloc, "the length of a restart interval's segment is not 4"));
+        return Err(format_error_of(format!(in alloc;
+            "restart interval segment length {}, expected 4",
+            u32::from(left) + 2
+        )));
     }
     read_u16_be(alloc, reader)
 }

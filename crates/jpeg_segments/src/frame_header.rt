@@ -16,7 +16,7 @@ ghost use Rattle.jpeg_segments.specs.FrameView.{component_in, frame_in, factors_
 
 use crate::parser::{CodingProcess, Dimensions, EntropyCoding, FrameInfo};
 use crate::sizes::{components_of, greatest_factors, mcus};
-use jpeg_bits::error::{Error, Result, UnsupportedFeature, format_error};
+use jpeg_bits::error::{Error, Result, UnsupportedFeature, format_error, format_error_of};
 use jpeg_bits::marker::Marker;
 use jpeg_bits::reads::{read_length, read_u8, read_u16_be};
 use jpeg_bits::source::Source;
@@ -53,7 +53,7 @@ fn read_size<R: Read + Drop>(alloc: Global, source: &mut Source<R>) -> Result<Di
         return Err(Error::Unsupported(UnsupportedFeature::DNL));
     }
     if width == 0 {
-        return Err(format_error(alloc, "the width of the frame is 0"));
+        return Err(format_error(alloc, "number of samples per line 0, expected 1 to 65535"));
     }
     Ok(Dimensions { width, height })
 }
@@ -101,6 +101,37 @@ fn is_count(number: u8, count: u8) -> bool
     count != 0 && (number % 4 != 2 || count <= 4)
 }
 
+/// Returns the refusal of a precision that frames of the marker `SOF(number)` don't have.
+#[cold]
+#[inline(never)]
+fn precision_error(alloc: Global, number: u8, precision: u8) -> Error
+    ensures { NamesFormat result }
+{
+    let expected = if is_lossless(number) {
+        "2 to 16"
+    } else if number == 0 {
+        "8"
+    } else {
+        "8 or 12"
+    };
+    format_error_of(format!(in alloc;
+        "sample precision {precision} in SOF{number}, expected {expected}"
+    ))
+}
+
+/// Returns the refusal of a number of components that frames of the marker `SOF(number)` don't
+/// have.
+#[cold]
+#[inline(never)]
+fn count_error(alloc: Global, number: u8, count: u8) -> Error
+    ensures { NamesFormat result }
+{
+    let most = if number % 4 == 2 { 4 } else { 255 };
+    format_error_of(format!(in alloc;
+        "number of components Nf={count} in SOF{number}, expected 1 to {most}"
+    ))
+}
+
 #[tactic(auto, unfolding(crate::specs::Frame::head_at))]
 fn read_head<R: Read + Drop>(alloc: Global, source: &mut Source<R>, number: u8) -> Result<Head>
     ensures answers { Answers (λ h.
@@ -116,25 +147,26 @@ fn read_head<R: Read + Drop>(alloc: Global, source: &mut Source<R>, number: u8) 
 {
     let left = read_length(alloc, source)?;
     if left < 7 {
-        return Err(format_error(alloc, "a frame header is too short"));
+        return Err(format_error_of(format!(in alloc;
+            "frame header length {}, expected at least 11",
+            left + 2
+        )));
     }
     let precision = read_u8(alloc, source)?;
     if !is_precision(number, precision) {
-        return Err(format_error(alloc, "the precision of the frame is not allowed"));
+        return Err(precision_error(alloc, number, precision));
     }
     let size = read_size(alloc, source)?;
     let count = read_u8(alloc, source)?;
     if !is_count(number, count) {
-        return Err(format_error(
-            alloc,
-            "the frame has no component, or a progressive one more than 4",
-        ));
+        return Err(count_error(alloc, number, count));
     }
     if left != 6 + 3 * u16::from(count) {
-        return Err(format_error(
-            alloc,
-            "the length of a frame header does not fit its components",
-        ));
+        return Err(format_error_of(format!(in alloc;
+            "frame header length {}, expected {} for Nf={count}",
+            u32::from(left) + 2,
+            8 + 3 * u16::from(count)
+        )));
     }
     Ok(Head {
         precision,
@@ -166,14 +198,22 @@ fn read_parameters<R: Read + Drop>(
     let horizontal = factors / 16;
     let vertical = factors % 16;
     if horizontal == 0 || horizontal > 4 {
-        return Err(format_error(alloc, "a horizontal sampling factor is not 1 to 4"));
+        return Err(format_error_of(format!(in alloc;
+            "horizontal sampling factor {horizontal} of component {identifier}, expected 1 to 4"
+        )));
     }
     if vertical == 0 || vertical > 4 {
-        return Err(format_error(alloc, "a vertical sampling factor is not 1 to 4"));
+        return Err(format_error_of(format!(in alloc;
+            "vertical sampling factor {vertical} of component {identifier}, expected 1 to 4"
+        )));
     }
     let quantization = read_u8(alloc, source)?;
     if !is_place(lossless, quantization) {
-        return Err(format_error(alloc, "the place of a quantization table is too great"));
+        let expected = if lossless { "0" } else { "0 to 3" };
+        return Err(format_error_of(format!(in alloc;
+            "quantization table destination {quantization} of component {identifier}, \
+             expected {expected}"
+        )));
     }
     Ok(Factors {
         identifier,
@@ -213,7 +253,9 @@ fn read_factors<R: Read + Drop>(
 {
     let identifier = read_u8(alloc, source)?;
     if is_taken(front, identifier) {
-        return Err(format_error(alloc, "two components of a frame have one identifier"));
+        return Err(format_error_of(format!(in alloc;
+            "component identifier {identifier} twice in the frame header, expected once"
+        )));
     }
     read_parameters(alloc, source, lossless, identifier)
 }
@@ -311,6 +353,6 @@ pub fn parse_sof<R: Read + Drop>(
 {
     match marker {
         Marker::SOF(number) => read_frame(alloc, reader, number),
-        _ => Err(format_error(alloc, "the marker is not that of a frame header")),
+        _ => Err(format_error_of(format!(in alloc; "found {marker}, expected SOFn"))),
     }
 }

@@ -1,12 +1,12 @@
 //! Huffman tables.
 ghost use Rattle.std.specs.Prelude.{◌≡◌, ◌≤◌, ◌<◌, ◌+◌, true, None, replicate, length, sum, IfOk};
 ghost use Rattle.jpeg_bits.specs.Codes.{is_ac};
-ghost use Rattle.jpeg_bits.specs.Reading.{Answers, times, next_byte};
+ghost use Rattle.jpeg_bits.specs.Reading.{Answers, NamesFormat, times, next_byte};
 ghost use Rattle.jpeg_segments.specs.HuffmanTables.{symbols_at, codes_at, placed_codes_at};
 ghost use Rattle.jpeg_segments.specs.HuffmanTables.{greatest_place, with_table, dht_at, all_ac};
 
 use crate::payload::read_bytes;
-use jpeg_bits::error::{Result, format_error};
+use jpeg_bits::error::{Error, Result, format_error_of};
 use jpeg_bits::huffman::{HuffmanTable, HuffmanTableClass};
 use jpeg_bits::reads::{read_length, read_u8};
 use jpeg_bits::source::Source;
@@ -57,14 +57,26 @@ fn read_table<R: Read + Drop>(
     HuffmanTable::new(alloc, counts, &symbols, class)
 }
 
-/// The next table of this class, where `left` bytes are left of the segment: how many bytes it
-/// takes with the byte of its class, and the table.
+/// Returns the refusal of a number of codes that a table doesn't have.
+#[cold]
+#[inline(never)]
+fn count_error(alloc: Global, class: HuffmanTableClass, destination: u8, count: u16) -> Error
+    ensures { NamesFormat result }
+{
+    format_error_of(format!(in alloc;
+        "{count} codes of {class:?} table {destination}, expected 1 to 256"
+    ))
+}
+
+/// The next table of this class for this destination, where `left` bytes are left of the segment:
+/// how many bytes it takes with the byte of its class, and the table.
 #[tactic(auto, unfolding(crate::specs::HuffmanTables::codes_at))]
 fn read_codes<R: Read + Drop>(
     alloc: Global,
     source: &mut Source<R>,
     left: u16,
     class: HuffmanTableClass,
+    destination: u8,
 ) -> Result<(u16, HuffmanTable)>
     ensures answers { Answers (λ t. t.1) (codes_at left class) source.old result source.new }
     ensures class { IfOk result (λ t. t.1.class ≡ class) }
@@ -73,14 +85,16 @@ fn read_codes<R: Read + Drop>(
     let counts = read_counts(alloc, source)?;
     let count = total(&counts);
     if count == 0 {
-        return Err(format_error(alloc, "a Huffman table has no codes"));
+        return Err(count_error(alloc, class, destination, count));
     }
     if count > 256 {
-        return Err(format_error(alloc, "a Huffman table has more than 256 codes"));
+        return Err(count_error(alloc, class, destination, count));
     }
     let size = 17 + count;
     if left < size {
-        return Err(format_error(alloc, "a Huffman table is longer than its segment"));
+        return Err(format_error_of(format!(in alloc;
+            "{left} bytes left in DHT for {class:?} table {destination}, expected {size}"
+        )));
     }
     let table = read_table(alloc, source, class, &counts, count)?;
     Ok((size, table))
@@ -114,13 +128,20 @@ fn read_placed_table<R: Read + Drop>(
     let class = match byte / 16 {
         0 => HuffmanTableClass::DC,
         1 => HuffmanTableClass::AC,
-        _ => return Err(format_error(alloc, "the class of a Huffman table is above 1")),
+        class => {
+            return Err(format_error_of(format!(in alloc;
+                "Huffman table class {class}, expected 0 or 1"
+            )));
+        }
     };
     let place = byte % 16;
     if place > greatest {
-        return Err(format_error(alloc, "the place of a Huffman table is too great"));
+        let expected = expected_destinations(greatest);
+        return Err(format_error_of(format!(in alloc;
+            "{class:?} table destination {place}, expected {expected}"
+        )));
     }
-    let (size, table) = read_codes(alloc, source, left, class)?;
+    let (size, table) = read_codes(alloc, source, left, class, place)?;
     Ok(PlacedTable {
         class,
         place: usize::from(place),
@@ -172,6 +193,15 @@ pub(crate) fn greatest_place(is_baseline: Option<bool>) -> u8
     }
 }
 
+/// The destinations up to the greatest, as a refusal names them.
+pub(crate) fn expected_destinations(greatest: u8) -> &'static str {
+    if greatest == 1 {
+        "0 or 1 in a baseline frame"
+    } else {
+        "0 to 3"
+    }
+}
+
 /// Reads the tables of a segment (T.81, B.2.4.2): two lists of four places, for DC and for AC.
 /// `is_baseline` is of the frame, where one was read: in a baseline frame a place is 0 or 1, else 0
 /// to 3.
@@ -199,7 +229,9 @@ pub fn parse_dht<R: Read + Drop>(
         place_table(&mut tables, placed);
     }
     if left > 0 {
-        return Err(format_error(alloc, "bytes are left after the last Huffman table"));
+        return Err(format_error_of(format!(in alloc;
+            "{left} bytes left in DHT after the last Huffman table, expected 0"
+        )));
     }
     Ok(tables)
 }

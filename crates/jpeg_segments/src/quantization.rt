@@ -1,10 +1,10 @@
 //! Quantization tables.
 ghost use Rattle.std.specs.Prelude.{◌≡◌, ◌≤◌, ◌<◌, IfOk, true, Err};
-ghost use Rattle.jpeg_bits.specs.Reading.{Answers, Malformed, times};
+ghost use Rattle.jpeg_bits.specs.Reading.{Answers, Malformed, NamesFormat, times};
 ghost use Rattle.jpeg_bits.specs.declared.error.Error.TheVariants.{OutOfMemory};
 ghost use Rattle.jpeg_segments.specs.Quantization.{value_at, table_at, placed_table_at, dqt_at};
 
-use jpeg_bits::error::{Result, format_error};
+use jpeg_bits::error::{Error, Result, format_error_of};
 use jpeg_bits::reads::{read_length, read_u8, read_u16_be};
 use jpeg_bits::source::Source;
 use std::alloc::Global;
@@ -39,11 +39,24 @@ fn read_values<R: Read + Drop>(
     Ok(values)
 }
 
+/// Returns the refusal of a table for this destination that has a 0.
+#[cold]
+#[inline(never)]
+fn zero_error(alloc: Global, destination: usize, values: &[u16; 64]) -> Error
+    ensures { NamesFormat result }
+{
+    let index = values.iter().position(|value| *value == 0).unwrap_or(0);
+    format_error_of(format!(in alloc;
+        "element {index} of quantization table {destination} is 0, expected at least 1"
+    ))
+}
+
 #[tactic(auto, unfolding(crate::specs::Quantization::table_at))]
 fn read_table<R: Read + Drop>(
     alloc: Global,
     source: &mut Source<R>,
     is_wide: bool,
+    destination: usize,
 ) -> Result<[u16; 64]>
     ensures answers { Answers (λ v. v) (table_at is_wide) source.old result source.new }
     ensures room { source.old.known ≡ true → result ≡ Err OutOfMemory
@@ -51,7 +64,7 @@ fn read_table<R: Read + Drop>(
 {
     let values = read_values(alloc, source, is_wide)?;
     if values.contains(&0) {
-        return Err(format_error(alloc, "quantization value of 0"));
+        return Err(zero_error(alloc, destination, &values));
     }
     Ok(values)
 }
@@ -72,16 +85,22 @@ fn read_placed_table<R: Read + Drop>(
     let precision = byte / 16;
     let index = usize::from(byte % 16);
     if precision > 1 {
-        return Err(format_error(alloc, "invalid precision in DQT"));
+        return Err(format_error_of(format!(in alloc;
+            "quantization table element precision {precision}, expected 0 or 1"
+        )));
     }
     if index > 3 {
-        return Err(format_error(alloc, "invalid index in DQT"));
+        return Err(format_error_of(format!(in alloc;
+            "quantization table destination {index}, expected 0 to 3"
+        )));
     }
     let size = 65 + 64 * u16::from(precision);
     if left < size {
-        return Err(format_error(alloc, "not enough data in DQT"));
+        return Err(format_error_of(format!(in alloc;
+            "{left} bytes left in DQT for quantization table {index}, expected {size}"
+        )));
     }
-    let table = read_table(alloc, source, precision == 1)?;
+    let table = read_table(alloc, source, precision == 1, index)?;
     Ok((size, index, table))
 }
 

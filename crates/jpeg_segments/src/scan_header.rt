@@ -1,7 +1,7 @@
 //! Scan headers.
 ghost use Rattle.std.specs.Prelude.{◌≡◌, ◌≤◌, ◌<◌, ◌==◌, ◌*◌, [], map, position, length, sum_by};
 ghost use Rattle.std.specs.Prelude.{IsTrue, IfOk, IfSome, All, true};
-ghost use Rattle.jpeg_bits.specs.Reading.{Answers};
+ghost use Rattle.jpeg_bits.specs.Reading.{Answers, NamesFormat};
 ghost use Rattle.jpeg_segments.specs.HuffmanTables.{greatest_place};
 ghost use Rattle.jpeg_segments.specs.ScanHeader.{IsCoded, IsRising, IsScanOf, IsSelectorOf};
 ghost use Rattle.jpeg_segments.specs.ScanHeader.{band_at, after_of, blocks_by, count_at, is_band};
@@ -11,9 +11,10 @@ ghost use Rattle.jpeg_segments.specs.ScanHeader.{predictor_of, scan_of, selector
 ghost use Rattle.jpeg_segments.specs.ScanHeader.{selectors_from, sos_at, tables_at, tables_by};
 ghost use Rattle.jpeg_segments.specs.FrameView.{component_in, frame_in, scan_in, selector_of};
 
-use crate::huffman_tables::greatest_place;
+use crate::huffman_tables::{expected_destinations, greatest_place};
 use crate::parser::{CodingProcess, Component, FrameInfo, Predictor, ScanInfo};
-use jpeg_bits::error::{Result, format_error};
+use jpeg_bits::error::{Error, Result, format_error, format_error_of};
+use jpeg_bits::huffman::HuffmanTableClass;
 use jpeg_bits::reads::{read_length, read_u8};
 use jpeg_bits::source::Source;
 use std::alloc::{AllocError, Global};
@@ -38,17 +39,20 @@ fn read_count<R: Read + Drop>(alloc: Global, source: &mut Source<R>) -> Result<u
 {
     let left = read_length(alloc, source)?;
     if left == 0 {
-        return Err(format_error(alloc, "a scan header is too short"));
+        return Err(format_error(alloc, "scan header length 2, expected at least 8"));
     }
     let count = read_u8(alloc, source)?;
     if count == 0 || count > 4 {
-        return Err(format_error(alloc, "a scan has no component or more than 4"));
+        return Err(format_error_of(format!(in alloc;
+            "number of components Ns={count} in a scan, expected 1 to 4"
+        )));
     }
     if left != 4 + 2 * u16::from(count) {
-        return Err(format_error(
-            alloc,
-            "the length of a scan header does not fit its components",
-        ));
+        return Err(format_error_of(format!(in alloc;
+            "scan header length {}, expected {} for Ns={count}",
+            u32::from(left) + 2,
+            6 + 2 * u16::from(count)
+        )));
     }
     Ok(count)
 }
@@ -84,6 +88,24 @@ fn blocks_by(components: &[Component], place: usize) -> u16
     block_count(&components[place])
 }
 
+/// Returns the refusal of a table destination that a scan names for a component.
+#[cold]
+#[inline(never)]
+fn destination_error(
+    alloc: Global,
+    class: HuffmanTableClass,
+    destination: u8,
+    identifier: u8,
+    greatest: u8,
+) -> Error
+    ensures { NamesFormat result }
+{
+    let expected = expected_destinations(greatest);
+    format_error_of(format!(in alloc;
+        "{class:?} table destination {destination} of component {identifier}, expected {expected}"
+    ))
+}
+
 /// The tables of the component at a place of the frame.
 #[tactic(auto, unfolding(crate::specs::ScanHeader::tables_at))]
 fn read_tables<R: Read + Drop>(
@@ -103,10 +125,12 @@ fn read_tables<R: Read + Drop>(
     let dc = places / 16;
     let ac = places % 16;
     if dc > greatest {
-        return Err(format_error(alloc, "the place of a DC table is too great"));
+        let identifier = frame.components[place].identifier;
+        return Err(destination_error(alloc, HuffmanTableClass::DC, dc, identifier, greatest));
     }
     if ac > greatest {
-        return Err(format_error(alloc, "the place of an AC table is too great"));
+        let identifier = frame.components[place].identifier;
+        return Err(destination_error(alloc, HuffmanTableClass::AC, ac, identifier, greatest));
     }
     Ok(Selector {
         component: place,
@@ -133,10 +157,12 @@ fn read_selector<R: Read + Drop>(
     let identifier = read_u8(alloc, source)?;
     match place_of(&frame.components, identifier) {
         Some(place) if place >= least => read_tables(alloc, source, frame, place),
-        _ => Err(format_error(
-            alloc,
-            "a scan names a component that the frame does not have, or out of order",
-        )),
+        Some(_) => Err(format_error_of(format!(in alloc;
+            "component identifier {identifier} is out of the frame's order"
+        ))),
+        None => Err(format_error_of(format!(in alloc;
+            "component identifier {identifier} is not in the frame"
+        ))),
     }
 }
 
@@ -227,6 +253,94 @@ fn is_band(process: CodingProcess, count: usize, band: Band) -> bool
         }
         CodingProcess::DctProgressive => is_progressive_band(count, first, last, high, low),
         CodingProcess::Lossless => first <= 7 && (last == 0 && high == 0),
+    }
+}
+
+/// Returns the refusal of a band that is not one of a scan of `count` components: the first
+/// parameter that its process does not allow.
+#[cold]
+#[inline(never)]
+fn band_error(alloc: Global, process: CodingProcess, count: usize, band: Band) -> Error
+    ensures { NamesFormat result }
+{
+    format_error_of(match process {
+        CodingProcess::DctSequential => sequential_band_text(alloc, band),
+        CodingProcess::DctProgressive => progressive_band_text(alloc, count, band),
+        CodingProcess::Lossless => lossless_band_text(alloc, band),
+    })
+}
+
+/// Why a band is not one of a sequential scan (T.81, B.2.3).
+fn sequential_band_text(alloc: Global, band: Band) -> std::result::Result<String, AllocError> {
+    let Band {
+        first,
+        last,
+        high,
+        low,
+    } = band;
+    if first != 0 || (last != 0 && last != 63) {
+        format!(in alloc;
+            "spectral selection Ss={first}, Se={last} in a sequential scan, expected Ss=0, Se=63"
+        )
+    } else if high != 0 {
+        format!(in alloc; "successive approximation Ah={high} in a sequential scan, expected 0")
+    } else {
+        format!(in alloc; "successive approximation Al={low} in a sequential scan, expected 0")
+    }
+}
+
+/// Why a band is not one of a progressive scan of `count` components (T.81, G.1.1.1).
+fn progressive_band_text(
+    alloc: Global,
+    count: usize,
+    band: Band,
+) -> std::result::Result<String, AllocError> {
+    let Band {
+        first,
+        last,
+        high,
+        low,
+    } = band;
+    if first > last || last > 63 {
+        format!(in alloc;
+            "spectral selection Ss={first}, Se={last} in a progressive scan, expected Ss<=Se<=63"
+        )
+    } else if first == 0 && last != 0 {
+        format!(in alloc; "spectral selection Ss=0, Se={last} in a progressive scan, expected Se=0")
+    } else if first != 0 && count != 1 {
+        format!(in alloc;
+            "number of components Ns={count} in a progressive scan with Ss={first}, expected 1"
+        )
+    } else if high > 13 {
+        format!(in alloc;
+            "successive approximation Ah={high} in a progressive scan, expected 0 to 13"
+        )
+    } else if low > 13 {
+        format!(in alloc;
+            "successive approximation Al={low} in a progressive scan, expected 0 to 13"
+        )
+    } else {
+        format!(in alloc;
+            "successive approximation Ah={high}, Al={low} in a progressive scan, expected Ah=0 or {}",
+            u16::from(low) + 1
+        )
+    }
+}
+
+/// Why a band is not one of a lossless scan (T.81, H.1.2).
+fn lossless_band_text(alloc: Global, band: Band) -> std::result::Result<String, AllocError> {
+    let Band {
+        first,
+        last,
+        high,
+        ..
+    } = band;
+    if first > 7 {
+        format!(in alloc; "predictor selection {first}, expected 0 to 7")
+    } else if last != 0 {
+        format!(in alloc; "spectral selection Se={last} in a lossless scan, expected 0")
+    } else {
+        format!(in alloc; "successive approximation Ah={high} in a lossless scan, expected 0")
     }
 }
 
@@ -350,10 +464,13 @@ fn read_band<R: Read + Drop>(
         low: levels % 16,
     };
     if band.low >= frame.precision {
-        return Err(format_error(alloc, "a level of a scan is not below the precision"));
+        return Err(format_error_of(format!(in alloc;
+            "point transform Al={}, expected less than the sample precision {}",
+            band.low, frame.precision
+        )));
     }
     if !is_band(frame.coding_process, selectors.len(), band) {
-        return Err(format_error(alloc, "a scan codes what its process does not allow"));
+        return Err(band_error(alloc, frame.coding_process, selectors.len(), band));
     }
     Ok(scan_of(alloc, frame.coding_process, selectors, band)?)
 }
@@ -378,10 +495,10 @@ pub fn parse_sos<R: Read + Drop>(
     let count = read_count(alloc, reader)?;
     let selectors = read_selectors(alloc, reader, frame, count)?;
     if !is_mcu(&selectors) {
-        return Err(format_error(
-            alloc,
-            "an MCU of several components has more than 10 blocks",
-        ));
+        let blocks = total(&selectors);
+        return Err(format_error_of(format!(in alloc;
+            "{blocks} blocks in an MCU, expected at most 10"
+        )));
     }
     read_band(alloc, reader, frame, &selectors)
 }

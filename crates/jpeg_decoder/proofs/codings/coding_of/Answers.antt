@@ -44,7 +44,7 @@ returns-in_err-dc-clause-coding c =
     dc_four in
     let through = λ (f : Fault) (e : table_if (header.spectral_selection.start == 0) spare.no_dc
     (option_copied c.table_in_force-dc.result) ≡ Err f).
-    fails f (is-dc state header spare c.args.slot c.index.result.now _ (Err f) dc_within c.index.ensures
+    fails f (is-dc state header spare c.args.slot c.index-dc_destination.result.now _ (Err f) dc_within c.index-dc_destination.ensures
     (rw c.deref-2.ensures.value at c.table_in_force-dc.ensures) e) in
     let p = err_from_is_err_and c.from_residual-in_err-dc.result c.from_residual-in_err-dc.ensures.1 in
     rw (p.1, p.2) (c.in_err-dc.ensures.0, Names-through c.in_err-dc.field-0.0 _ _ through c.in_err-dc.ensures.1)
@@ -64,13 +64,13 @@ returns-in_err-ac-clause-coding c =
     let dc_within : c.args.slot < length header.dc_table_indices.items = omega arith in
     let ac_four : length state.ac_tables ≡ 4 = omega arith in
     let ac_within : c.args.slot < length header.ac_table_indices.items = omega arith in
-    let dc = is-dc state header spare c.args.slot c.index.result.now (option_copied c.table_in_force-dc.result)
-    (Ok c.in_ok-dc.dc.now) dc_within c.index.ensures (rw c.deref-2.ensures.value at c.table_in_force-dc.ensures) c.in_ok-dc.ensures in
+    let dc = is-dc state header spare c.args.slot c.index-dc_destination.result.now (option_copied c.table_in_force-dc.result)
+    (Ok c.in_ok-dc.dc.now) dc_within c.index-dc_destination.ensures (rw c.deref-2.ensures.value at c.table_in_force-dc.ensures) c.in_ok-dc.ensures in
     let fails = fails-ac (found_in state) (frame_in c.args.frame.now) (scan_in header) spare c.args.slot _ _ is _ set
     dc_four ac_four _ dc in
     let through = λ (f : Fault) (e : table_if (nat_lt 1 header.spectral_selection.end) spare.no_ac
     (option_copied c.table_in_force-ac.result) ≡ Err f).
-    fails f (is-ac state header spare c.args.slot c.index-2.result.now _ (Err f) ac_within c.index-2.ensures
+    fails f (is-ac state header spare c.args.slot c.index-ac_destination.result.now _ (Err f) ac_within c.index-ac_destination.ensures
     (rw c.deref-3.ensures.value at c.table_in_force-ac.ensures) e) in
     let p = err_from_is_err_and c.from_residual-in_err-ac.result c.from_residual-in_err-ac.ensures.1 in
     rw (p.1, p.2) (c.in_err-ac.ensures.0, Names-through c.in_err-ac.field-0.0 _ _ through c.in_err-ac.ensures.1)
@@ -90,15 +90,15 @@ returns-clause-coding c =
     let dc_within : c.args.slot < length header.dc_table_indices.items = omega arith in
     let ac_four : length state.ac_tables ≡ 4 = omega arith in
     let ac_within : c.args.slot < length header.ac_table_indices.items = omega arith in
-    let dc = is-dc state header spare c.args.slot c.index.result.now (option_copied c.table_in_force-dc.result)
-    (Ok c.in_ok-dc.dc.now) dc_within c.index.ensures (rw c.deref-2.ensures.value at c.table_in_force-dc.ensures) c.in_ok-dc.ensures in
-    let ac = is-ac state header spare c.args.slot c.index-2.result.now (option_copied c.table_in_force-ac.result)
-    (Ok c.in_ok-ac.ac.now) ac_within c.index-2.ensures (rw c.deref-3.ensures.value at c.table_in_force-ac.ensures) c.in_ok-ac.ensures in
+    let dc = is-dc state header spare c.args.slot c.index-dc_destination.result.now (option_copied c.table_in_force-dc.result)
+    (Ok c.in_ok-dc.dc.now) dc_within c.index-dc_destination.ensures (rw c.deref-2.ensures.value at c.table_in_force-dc.ensures) c.in_ok-dc.ensures in
+    let ac = is-ac state header spare c.args.slot c.index-ac_destination.result.now (option_copied c.table_in_force-ac.result)
+    (Ok c.in_ok-ac.ac.now) ac_within c.index-ac_destination.ensures (rw c.deref-3.ensures.value at c.table_in_force-ac.ensures) c.in_ok-ac.ensures in
     gives-coding (found_in state) (frame_in c.args.frame.now) (scan_in header) spare c.args.slot _ _ is _ set dc_four
     ac_four _ _ dc ac
 
 pub returns-clause-class : goal.returns-clause-class
 returns-clause-class c =
     let forced = rw c.deref-3.ensures.value at (rw c.table_in_force-ac.ensures at c.in_ok-ac.ensures) in
-    class-in-force (found_in c.args.state.now) (scan_in c.args.header.now) c.args.spare.now _ c.index-2.result.now _
+    class-in-force (found_in c.args.state.now) (scan_in c.args.header.now) c.args.spare.now _ c.index-ac_destination.result.now _
     c.requires.spare c.args.state.now.ac_classes forced

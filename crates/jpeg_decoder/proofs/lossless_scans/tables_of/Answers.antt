@@ -10,11 +10,11 @@ pub returns-in_err-needed : goal.returns-in_err-needed
 returns-in_err-needed c =
     let ts = c.args.state.now.dc_tables in
     let ds = c.args.header.now.dc_table_indices.items in
-    let at : c.index.result.now ≡ get_or ds c.loop-slot.slot c.index.result.now = search rules in
-    let unset : slice_index_or ts c.index.result.now None ≡ None = search rules in
+    let at : c.index-destination.result.now ≡ get_or ds c.loop-slot.slot c.index-destination.result.now = search rules in
+    let unset : slice_index_or ts c.index-destination.result.now None ≡ None = search rules in
     let p = err_from_is_err_and c.from_residual-in_err-needed.result c.from_residual-in_err-needed.ensures.1 in
     rw (p.1, p.2) (format-refuses c.in_err-needed.field-0.0 _ c.in_err-needed.ensures.1
-    (tables-lacking ts ds c.loop-slot.slot c.index.result.now (map (λ t. t.now) c.loop-slot.tables.items) _
+    (tables-lacking ts ds c.loop-slot.slot c.index-destination.result.now (map (λ t. t.now) c.loop-slot.tables.items) _
     (search rules) at
     unset c.loop-slot.invariant))
 
@@ -24,10 +24,10 @@ loop-slot-preserved c =
     let ds = c.args.header.now.dc_table_indices.items in
     let old = c.loop-slot.tables.items in
     let table = c.in_ok-needed.field-0 in
-    let at : c.index.result.now ≡ get_or ds c.loop-slot.slot c.index.result.now = search rules in
-    let set : slice_index_or ts c.index.result.now None ≡ Some table.now = search rules in
+    let at : c.index-destination.result.now ≡ get_or ds c.loop-slot.slot c.index-destination.result.now = search rules in
+    let set : slice_index_or ts c.index-destination.result.now None ≡ Some table.now = search rules in
     let pushed : c.push.new.self.items ≡ old ++ table ∷ [] = search rules in
-    tables-there ts ds c.loop-slot.slot c.index.result.now (map (λ t. t.now) old) _ table.now _ (search rules) at set
+    tables-there ts ds c.loop-slot.slot c.index-destination.result.now (map (λ t. t.now) old) _ table.now _ (search rules) at set
     (ap (map (λ t. t.now)) pushed ∙ map-append (λ t. t.now) old (table ∷ [])) c.loop-slot.invariant
 
 pub returns : goal.returns

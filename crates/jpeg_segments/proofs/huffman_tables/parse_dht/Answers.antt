@@ -64,7 +64,7 @@ returns-then-left-gt0-clause-tables g c =
     let tables = view_of c.loop-left.tables in
     let z : eqb left 0 ≡ false = grind (arith, nat_tests) in
     Continues-refused view_of (dht_at c.args.is_baseline) (λ (bs : List ℕ). tables_from i.0 greatest left tables bs)
-    c.args.reader.now c.loop-left.reader c.format_error.result c.format_error.ensures
+    c.args.reader.now c.loop-left.reader c.format_error_of.result c.format_error_of.ensures
     (tables_from-rest i.0 greatest left tables c.loop-left.reader.bytes c.loop-left-test.false ∙ rw z refl) i.2
 
 pub returns-clause-tables : goal.returns-clause-tables
