@@ -7,5 +7,3 @@ pub mod Steps
 pub mod LosslessParts
 -- how many bytes a picture has
 pub mod Bytes
--- streams and values worked by hand
-pub mod MoreWorked
