@@ -1,5 +1,5 @@
-//! Streams and values that were worked by hand against the definitions: each is computed as it is
-//! checked.
+//! Streams and values that were worked by hand, and what the definitions make of them: each is
+//! computed as it is checked.
 ghost use Rattle.std.specs.Prelude.{◌≡◌, ℕ, ◌+◌, ◌/◌, ◌%◌, [], ◌∷◌, ◌++◌, map, replicate};
 ghost use Rattle.std.specs.Prelude.{true, false, None, Some, Ok, Err, pos, negsuc};
 ghost use Rattle.std.specs.List.{concat};
@@ -21,8 +21,8 @@ ghost use Rattle.jpeg_streams.specs.ColourChoice.{transform_of};
 ghost use Rattle.jpeg_streams.specs.Found.{no_metadata};
 ghost use Rattle.jpeg_streams.specs.Levels.{floor_at, toward_zero};
 ghost use Rattle.jpeg_streams.specs.Segments.{updated, with_application};
-ghost use Rattle.jpeg_streams.specs.Worked.{picture_meant, picture_with, picture_sized, eight_times};
-ghost use Rattle.jpeg_streams.specs.Worked.{scan_of, stream_parts, stream_with};
+ghost use Rattle.jpeg_streams.specs.Worked.{picture_meant, picture_with, picture_sized};
+ghost use Rattle.jpeg_streams.specs.Worked.{eight_times, scan_of, stream_parts, stream_with};
 ghost use Rattle.jpeg_streams.specs.Worked.{stream_without_height, stream_of_one_coefficient};
 ghost use Rattle.jpeg_streams.specs.Worked.{scanned_twice, with_restart, three_at_once};
 ghost use Rattle.jpeg_streams.specs.Worked.{three_in_turn, two_to_one, refined, run_of_blocks};
@@ -201,8 +201,8 @@ pub fn known_transforms()
 
 /// Tables that are read take the places of those that were there.
 pub fn known_tables()
-    ensures { updated {A = ℕ} (Some 1 ∷ None ∷ Some 3 ∷ None ∷ []) (Some 4 ∷ Some 5 ∷ None ∷ None ∷ [])
-        ≡ Some 4 ∷ Some 5 ∷ Some 3 ∷ None ∷ [] }
+    ensures { updated {A = ℕ} (Some 1 ∷ None ∷ Some 3 ∷ None ∷ [])
+        (Some 4 ∷ Some 5 ∷ None ∷ None ∷ []) ≡ Some 4 ∷ Some 5 ∷ Some 3 ∷ None ∷ [] }
 {}
 
 /// The rules by which components are upsampled.
@@ -223,7 +223,8 @@ pub fn known_choices()
     ensures adobe { transform_of None (0 ∷ 1 ∷ 2 ∷ []) false (Some adobe.Unknown) ≡ transforms.RGB }
     ensures identified { transform_of None (1 ∷ 2 ∷ 3 ∷ []) false (Some adobe.Unknown)
         ≡ transforms.YCbCr }
-    ensures letters { transform_of None (82 ∷ 71 ∷ 66 ∷ []) true (Some adobe.YCbCr) ≡ transforms.RGB }
+    ensures letters { transform_of None (82 ∷ 71 ∷ 66 ∷ []) true (Some adobe.YCbCr)
+        ≡ transforms.RGB }
     ensures set { transform_of (Some transforms.None) (1 ∷ 2 ∷ 3 ∷ []) true None ≡ transforms.None }
     ensures four { transform_of None (1 ∷ 2 ∷ 3 ∷ 4 ∷ []) true None ≡ transforms.CMYK }
     ensures four_unknown { transform_of None (1 ∷ 2 ∷ 3 ∷ 4 ∷ []) false (Some adobe.Unknown)
