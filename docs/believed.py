@@ -110,11 +110,10 @@ class Specs:
         return keys & self.text.keys()
 
     def types(self, keys):
-        """The types of the code that definitions name."""
-        for key in keys:
-            for other, _ in self.words(self.text[key], self.scope[key[0]]):
-                if other and other[1].startswith("declared.") and other[0] in CRATES:
-                    yield other[0], other[1].split(".")[-1]
+        """The types of the code that definitions name, by crate."""
+        words = {word for key in keys for word in self.words(self.text[key], self.scope[key[0]])}
+        modules = {file for file, _ in words if file and file[0] in CRATES and "." in file[1]}
+        return [name.split(".")[-1] for crate in CRATES for of, name in sorted(modules) if of == crate]
 
     def reached(self, seeds):
         seen, left = set(), list(seeds)
@@ -192,15 +191,15 @@ def table(specs):
     on = computed_on(specs)
     yield f"The clauses of `Decoder`, `run` and `report` reach {specs.total(calls)}:"
     yield from ["", *rows(specs, calls, on), ""]
-    types = sorted(set(specs.types(calls)), key=lambda t: (CRATES.index(t[0]), t[1]))
-    names = "They name these types of the code: " + ", ".join(f"`{name}`" for _, name in types)
-    yield from [*textwrap.wrap(names + ".", 100), ""]
-    yield f"The laws in `headline` and `lossless_laws` reach {specs.total(laws)} beside those:"
+    types = ", ".join(f"`{name}`" for name in specs.types(calls))
+    yield from [*textwrap.wrap(f"They name these types of the code: {types}.", 100), ""]
+    yield f"The laws in `headline` and `lossless_laws` reach {specs.total(laws)} more:"
     yield from ["", *rows(specs, laws, {}), "", "Neither reaches the other files:", ""]
     files = {file for file, _ in calls | laws}
     for crate in CRATES:
         others = [f"`{file[1]}`" for file in specs.says if file[0] == crate and file not in files]
-        yield from [f"- {crate}: {', '.join(others)}"] if others else []
+        item = f"- {crate}: " + ", ".join(others)
+        yield from textwrap.wrap(item, 100, subsequent_indent="  ") if others else []
 
 
 def shared(specs):
@@ -236,7 +235,7 @@ def main(choice):
         sys.exit(__doc__)
     for page, part in [("docs/DESIGN.md", table(specs)), ("docs/HEADLINE.md", shared(specs))]:
         old = (ROOT / page).read_text("utf8")
-        new = "\n".join([old.split(BEGIN)[0] + BEGIN, *part, END + old.split(END)[1]])
+        new = "\n".join([old.split(BEGIN)[0] + BEGIN, *part, "", END + old.split(END)[1]])
         if choice == "--write":
             (ROOT / page).write_text(new, "utf8")
         elif old != new:
