@@ -20,14 +20,14 @@ from pathlib import Path
 ROOT = Path(__file__).resolve().parent.parent
 CRATES = "jpeg_bits jpeg_segments jpeg_pixels jpeg_lossless jpeg_streams jpeg_decoder".split()
 
-# The laws whose streams and numbers were worked by hand, and what those that read or write a whole
-# stream compute beside the definitions that they name.
+# Where laws on streams and numbers that were worked by hand stand (`known_..` and `worked_..`), and
+# what those that read or write a whole stream compute beside the definitions that they name.
 LAWS = {
-    "jpeg_pixels/src/laws": ("known", "laws::"),
-    "jpeg_lossless/src/laws": ("known", "laws::"),
-    "jpeg_decoder/src/worked": ("known", ""),
-    "jpeg_decoder/src/headline": ("worked", "headline::"),
-    "jpeg_decoder/src/lossless_laws": ("worked", "lossless_laws::"),
+    "jpeg_pixels/src/laws": "laws::",
+    "jpeg_lossless/src/laws": "laws::",
+    "jpeg_decoder/src/worked": "",
+    "jpeg_decoder/src/headline": "headline::",
+    "jpeg_decoder/src/lossless_laws": "lossless_laws::",
 }
 STREAMS = {
     "known_streams": """jpeg_bits Reading Marker Entropy Readers Codes Bands Passes Intervals,
@@ -161,9 +161,9 @@ def believed(specs):
 def computed_on(specs):
     """By file the laws that compute it: they name a function of it, or go through it."""
     laws = {}
-    for path, (prefix, module) in LAWS.items():
+    for path, module in LAWS.items():
         text = (ROOT / "crates" / (path + ".rt")).read_text("utf8")
-        for law in re.findall(rf"pub fn ({prefix}\w+)", text):
+        for law in re.findall(r"pub fn ((?:known|worked)_\w+)", text):
             for key in specs.seeds(path, law):
                 if not specs.text[key].startswith("pub") and "Worked" not in key[0][1]:
                     laws.setdefault(key[0], set()).add(module + law)
