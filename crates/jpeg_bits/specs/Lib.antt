@@ -16,11 +16,12 @@ pub mod Written
 -- what the laws say
 pub mod NextMarker
 pub mod Ends
--- the code's own words: no public clause of the decoder rests on these
+-- what a caller sees of a block
+pub mod BlockView
+-- the code's own words: the clauses of `Decoder`, `run` and `report` reach none of these
 pub mod Refusals
 pub mod Reservoir
 pub mod ShortCodes
 pub mod Lookups
 pub mod Pieces
-pub mod BlockView
 pub mod ZigzagParts

@@ -1,11 +1,9 @@
--- what a caller sees of a decoder
+-- what a caller sees of a decoder, and how many bytes a picture has
 pub mod Seen
--- the code's own words: no public clause rests on these
+pub mod Bytes
+-- what a caller sees of the blocks that are held, and the code's own words
 pub mod Scanning
+-- the code's own words: the clauses of `Decoder`, `run` and `report` reach none of these
 pub mod Strips
 pub mod Steps
 pub mod LosslessParts
--- how many bytes a picture has
-pub mod Bytes
--- streams and values worked by hand
-pub mod MoreWorked

@@ -37,7 +37,6 @@ pub mod lossless_laws;
 mod lossless_scans;
 pub mod memory;
 mod metadata;
-pub mod more_worked;
 mod picture;
 mod places;
 mod profile;

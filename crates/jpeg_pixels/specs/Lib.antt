@@ -5,7 +5,7 @@ pub mod Planes
 pub mod Upsampling
 pub mod Colour
 pub mod Pictures
--- the code's own words: no public clause of the decoder rests on these
+-- the code's own words: the clauses of `Decoder`, `run` and `report` reach none of these
 pub mod Blocks
 pub mod SmallBlocks
 pub mod Lanes

@@ -8,8 +8,8 @@ use Rattle.jpeg_bits.specs.Passes.{Pass, Block, band_of, with_band}
 
 -- ---- coefficients
 
--- The coefficients of a block of 8-bit samples: 63 beside DC, in zigzag order, and none of
--- magnitude 1024 or more (F.1.2.1.1 and F.1.2.2.1).
+-- The coefficients of a block of 8-bit samples: DC from -1024 to 1023, and 63 others in zigzag
+-- order, none of them of magnitude 1024 or more (F.1.2.1.1 and F.1.2.2.1).
 pub record Is8Bit (c : Block) : Type 0 where
   pub count : length c.acs ≡ 63
   pub dc_low : negsuc 1023 ≤ℤ c.dc

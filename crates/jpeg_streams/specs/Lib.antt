@@ -28,14 +28,17 @@ pub mod PrintedImages
 pub mod WrittenLossless
 pub mod PlainSamples
 pub mod DecodedSamples
+-- what laws on written streams say beside that
+pub mod WrittenParts
+-- what a decoder's state is sure to be
+pub mod Sound
 -- streams worked by hand
 pub mod Worked
 pub mod WorkedImages
 pub mod WorkedSamples
--- the code's own words: no public clause rests on these
+-- the code's own words: `Decoder` reaches `IsIn` and `AreArrays` of these
 pub mod InTurn
+-- the code's own words: the clauses of `Decoder`, `run` and `report` reach none of these
 pub mod McuRows
 pub mod Layout
-pub mod Sound
 pub mod EndPlanes
-pub mod WrittenParts

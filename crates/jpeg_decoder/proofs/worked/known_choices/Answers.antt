@@ -1,7 +1,7 @@
 use Rattle.std.proofs.Common.{refl}
 use Rattle.jpeg_streams.specs.ColourChoice.{by_identifiers, transform_of}
 use Rattle.jpeg_pixels.specs.Colour.{conversion_of}
-use Rattle.jpeg_decoder.proofs.more_worked.known_choices.Goals as goal
+use Rattle.jpeg_decoder.proofs.worked.known_choices.Goals as goal
 
 pub returns : goal.returns
 unfolding by_identifiers transform_of conversion_of

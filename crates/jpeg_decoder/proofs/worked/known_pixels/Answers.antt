@@ -1,6 +1,6 @@
 use Rattle.std.proofs.Common.{refl}
 use Rattle.jpeg_pixels.specs.Colour.{red_of, green_of, blue_of, colour_of}
-use Rattle.jpeg_decoder.proofs.more_worked.known_pixels.Goals as goal
+use Rattle.jpeg_decoder.proofs.worked.known_pixels.Goals as goal
 
 pub returns : goal.returns
 unfolding red_of green_of blue_of colour_of

@@ -1,6 +1,6 @@
 use Rattle.std.proofs.Common.{refl}
 use Rattle.jpeg_streams.specs.Segments.{updated}
-use Rattle.jpeg_decoder.proofs.more_worked.known_tables.Goals as goal
+use Rattle.jpeg_decoder.proofs.worked.known_tables.Goals as goal
 
 pub returns : goal.returns
 unfolding updated

@@ -1,6 +1,6 @@
 use Rattle.std.proofs.Common.{refl}
 use Rattle.jpeg_pixels.specs.Upsampling.{rule_of}
-use Rattle.jpeg_decoder.proofs.more_worked.known_rules.Goals as goal
+use Rattle.jpeg_decoder.proofs.worked.known_rules.Goals as goal
 
 pub returns : goal.returns
 unfolding rule_of

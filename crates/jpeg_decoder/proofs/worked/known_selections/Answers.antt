@@ -1,6 +1,6 @@
 use Rattle.std.proofs.Common.{refl}
 use Rattle.jpeg_lossless.specs.Prediction.{residue, first_line, line_rest, line_below}
-use Rattle.jpeg_decoder.proofs.more_worked.known_selections.Goals as goal
+use Rattle.jpeg_decoder.proofs.worked.known_selections.Goals as goal
 
 pub returns : goal.returns
 unfolding residue first_line line_rest line_below

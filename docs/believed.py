@@ -1,0 +1,248 @@
+#!/usr/bin/env python3
+"""Lists the definitions of crates/*/specs that the public clauses rest on: what has to be believed.
+
+    docs/believed.py            counts and names by file
+    docs/believed.py --table    the generated part of docs/DESIGN.md
+    docs/believed.py --shared   that of docs/HEADLINE.md: what writer, reader and picture share
+    docs/believed.py --check    fails with a diff where a page differs from what this computes
+    docs/believed.py --write    writes both parts into the pages
+
+It goes by names: a definition reaches each name of its text that its file defines or imports, a
+constructor its type, and `do` the `>>=` of its file. A variable that is spelled like a definition
+in scope counts as that. Lines are counted without comments, imports and blank ones.
+"""
+import difflib
+import re
+import sys
+import textwrap
+from pathlib import Path
+
+ROOT = Path(__file__).resolve().parent.parent
+CRATES = "jpeg_bits jpeg_segments jpeg_pixels jpeg_lossless jpeg_streams jpeg_decoder".split()
+
+# Where laws on streams and numbers that were worked by hand stand (`known_..` and `worked_..`), and
+# what those that read or write a whole stream compute beside the definitions that they name.
+LAWS = {
+    "jpeg_pixels/src/laws": "laws::",
+    "jpeg_lossless/src/laws": "laws::",
+    "jpeg_decoder/src/worked": "",
+    "jpeg_decoder/src/headline": "headline::",
+    "jpeg_decoder/src/lossless_laws": "lossless_laws::",
+}
+STREAMS = {
+    "known_streams": """jpeg_bits Reading Marker Entropy Readers Codes Bands Passes Intervals,
+        jpeg_segments Quantization HuffmanTables Frame ScanHeader, jpeg_pixels Samples Planes,
+        jpeg_streams Order Scans Rasters Needed Found Segments ScanSegments FoundPictures Stream""",
+    "known_scans": """jpeg_bits Refinement, jpeg_segments Scales, jpeg_pixels Scaled Upsampling
+        Pictures, jpeg_streams Order Scans ColourChoice""",
+    "known_images": "jpeg_bits Refinement, jpeg_pixels Upsampling Pictures",
+    "known_orders": "jpeg_streams Order Scans",
+    "known_crops": "jpeg_pixels Planes",
+    "known_applications": "jpeg_bits DefaultTables, jpeg_segments Application",
+    "laws::known_interleaved_scans": "jpeg_lossless Prediction Differences Scans",
+    "headline::worked_images_are_written": """jpeg_bits Written, jpeg_segments WrittenSegments
+        ScanHeaders, jpeg_streams Levels WrittenData WrittenScans SaidSegments WrittenImages""",
+    "lossless_laws::worked_samples_are_written": """jpeg_lossless Written, jpeg_streams
+        LosslessScans WrittenLossless""",
+}
+# What the parts that write, read and picture begin with.
+WRITER = ["jpeg_streams.WrittenImages.WritesImage", "jpeg_streams.WrittenLossless.WritesSamples"]
+READER = ["jpeg_streams.Stream.meaning", "jpeg_streams.Stream.sized_meaning"]
+PICTURE = ["jpeg_streams.ArrayPictures.picture_of_array",
+           "jpeg_streams.WrittenLossless.picture_of_samples"]
+BEGIN, END = "<!-- docs/believed.py: begin -->", "<!-- docs/believed.py: end -->"
+
+
+def without_comments(text):
+    return re.sub(r'"[^"\n]*"', '""', re.sub(r"(--|//).*", "", text))
+
+
+def imports(text, keyword):
+    """For each name that a file imports of specs/, the file it is of and its name there."""
+    scope = {}
+    path = r" Rattle\.(\w+)\.specs\.(\w+|declared\.\w+\.\w+)(?:\.TheVariants)?"
+    form = r"(?m)^\s*" + keyword + path + r"(?:\.\{([^}]*)\}| as (\w+))"
+    for crate, module, names, alias in re.findall(form, without_comments(text)):
+        for entry in filter(None, map(str.strip, names.split(","))):
+            name, _, other = entry.partition(" as ")
+            scope[other or name] = ((crate, module), name)
+        scope.update({alias: ((crate, module), "")} if alias else {})
+    return scope
+
+
+class Specs:
+    """The definitions, by file and name, in reading order: that of the crates and of Lib.antt."""
+
+    def __init__(self):
+        self.text, self.lines, self.type_of, self.scope, self.says = {}, {}, {}, {}, {}
+        for crate in CRATES:
+            folder = ROOT / "crates" / crate / "specs"
+            for module in re.findall(r"pub mod (\w+)", (folder / "Lib.antt").read_text("utf8")):
+                self.add((crate, module), (folder / (module + ".antt")).read_text("utf8"))
+        for scope in self.scope.values():
+            for file, name in scope.values():
+                known = (file, name) in self.text or (file, name) in self.type_of
+                assert known or not name or file not in self.says, (file, name)
+
+    def add(self, file, text):
+        comment = " ".join(re.findall(r"^-- (.*)", text.split("\nuse ")[0], re.M))
+        self.says[file] = re.split(r"\.(?: |$)", comment)[0]
+        self.scope[file] = imports(text, "use")
+        items = list(re.finditer(r"(?m)^(?:abbrev |unfoldable )?pub (?:record |(data) )?(\S+)", text))
+        for item, end in zip(items, [i.start() for i in items[1:]] + [len(text)]):
+            body = re.split(r"(?m)^(?:use|infixl) ", without_comments(text[item.start():end]))[0]
+            key = (file, item.group(2))
+            self.text[key] = body
+            self.lines[key] = sum(1 for line in body.splitlines() if line.strip())
+            for constructor in re.findall(r"(?m)^  (\w+) :", body) if item.group(1) else []:
+                self.type_of[file, constructor] = key
+
+    def words(self, text, scope, file=None):
+        """What the words of a text may stand for, by the imports and the definitions of its file."""
+        words = set(re.findall(r"(?<![\w.])[A-Za-z_]\w*(?:\.[\w◌>=]+)*", text))
+        words |= {"◌>>=◌"} if "do" in words or ">>=" in text else set()
+        for first, _, rest in (word.partition(".") for word in words):
+            other, name = scope.get(first, (None, ""))
+            yield from [(file, first), (other, name or rest)]
+
+    def named(self, text, scope, file=None):
+        keys = {self.type_of.get(key, key) for key in self.words(text, scope, file)}
+        return keys & self.text.keys()
+
+    def types(self, keys):
+        """The types of the code that definitions name, by crate."""
+        words = {word for key in keys for word in self.words(self.text[key], self.scope[key[0]])}
+        modules = {file for file, _ in words if file and file[0] in CRATES and "." in file[1]}
+        return [name.split(".")[-1] for crate in CRATES for of, name in sorted(modules) if of == crate]
+
+    def reached(self, seeds):
+        seen, left = set(), list(seeds)
+        while left:
+            key = left.pop()
+            if key not in seen:
+                seen.add(key)
+                left += self.named(self.text[key], self.scope[key[0]], key[0])
+        return seen
+
+    def seeds(self, path, functions):
+        """What the contracts of the public functions of a Rust file, and its models, name."""
+        text = (ROOT / "crates" / (path + ".rt")).read_text("utf8")
+        parts = re.findall(r"(?m)^ *pub fn (?:" + functions + r")\b[\s\S]*?\n *\{", text)
+        parts += re.findall(r"(?m)^impl[^\n]* Model for [\s\S]*?^\}", text)
+        clauses = re.sub(r"(?m)//.*|^ *ghost use .*", "", "\n".join(parts))
+        return self.named(clauses, imports(text, "ghost use"))
+
+    def under(self, names):
+        parts = [name.split(".") for name in names]
+        return self.reached({((crate, module), name) for crate, module, name in parts})
+
+    def by_file(self, keys):
+        """Of each file with some of them its names and the number of their lines."""
+        files = {}
+        for key in self.text:
+            if key in keys:
+                names, lines = files.get(key[0], ([], 0))
+                files[key[0]] = (names + [key[1]], lines + self.lines[key])
+        return files
+
+    def total(self, keys):
+        lines = sum(self.lines[key] for key in keys)
+        return f"{len(keys)} definitions of {lines:,} lines in {len(self.by_file(keys))} files"
+
+
+def believed(specs):
+    """What the clauses of `Decoder`, `run` and `report` reach, and what those of the laws add."""
+    of = {name: specs.seeds("jpeg_decoder/src/" + name, r"\w+")
+          for name in ["decoder", "run", "headline", "lossless_laws"]}
+    calls = specs.reached(of["decoder"] | of["run"])
+    return calls, specs.reached(of["headline"] | of["lossless_laws"]) - calls
+
+
+def computed_on(specs):
+    """By file the laws that compute it: they name a function of it, or go through it."""
+    laws = {}
+    for path, module in LAWS.items():
+        text = (ROOT / "crates" / (path + ".rt")).read_text("utf8")
+        for law in re.findall(r"pub fn ((?:known|worked)_\w+)", text):
+            for key in specs.seeds(path, law):
+                if not specs.text[key].startswith("pub") and "Worked" not in key[0][1]:
+                    laws.setdefault(key[0], set()).add(module + law)
+    for law, files in STREAMS.items():
+        for crate, *modules in (part.split() for part in files.split(",")):
+            for module in modules:
+                assert (crate, module) in specs.says, module
+                laws.setdefault((crate, module), set()).add(law)
+    return laws
+
+
+def rows(specs, keys, on):
+    """A table of some definitions by file, and of the laws that compute them."""
+    yield "| Of `specs/` | What it says | Definitions | Lines | Computed by |"
+    yield "|---|---|---|---|---|"
+    for file, (names, lines) in specs.by_file(keys).items():
+        count = f"{len(names)} of {sum(of == file for of, _ in specs.text)}"
+        laws = ", ".join(f"`{law}`" for law in sorted(on.get(file, [])))
+        yield f"| {file[0]} `{file[1]}` | {specs.says[file]} | {count} | {lines} | {laws} |"
+
+
+def table(specs):
+    """The generated part of docs/DESIGN.md."""
+    calls, laws = believed(specs)
+    on = computed_on(specs)
+    yield f"The clauses of `Decoder`, `run` and `report` reach {specs.total(calls)}:"
+    yield from ["", *rows(specs, calls, on), ""]
+    types = ", ".join(f"`{name}`" for name in specs.types(calls))
+    yield from [*textwrap.wrap(f"They name these types of the code: {types}.", 100), ""]
+    yield f"The laws in `headline` and `lossless_laws` reach {specs.total(laws)} more:"
+    yield from ["", *rows(specs, laws, {}), "", "Neither reaches the other files:", ""]
+    files = {file for file, _ in calls | laws}
+    for crate in CRATES:
+        others = [f"`{file[1]}`" for file in specs.says if file[0] == crate and file not in files]
+        item = f"- {crate}: " + ", ".join(others)
+        yield from textwrap.wrap(item, 100, subsequent_indent="  ") if others else []
+
+
+def shared(specs):
+    """The generated part of docs/HEADLINE.md."""
+    reader = specs.under(READER)
+    for what, names in [("What is written", WRITER), ("The picture", PICTURE)]:
+        under = specs.under(names)
+        both = under & reader
+        yield f"{what} (" + ", ".join(f"`{name.split('.')[2]}`" for name in names) + ") rests on"
+        yield f"{specs.total(under)}."
+        yield from [f"Of these {specs.total(both)} are under `meaning` too:", ""]
+        yield from ["| Of `specs/` | What it says | Shared | Lines |", "|---|---|---|---|"]
+        for file, (names, lines) in specs.by_file(both).items():
+            listed = ", ".join(f"`{name}`" for name in names)
+            yield f"| {file[0]} `{file[1]}` | {specs.says[file]} | {listed} | {lines} |"
+        yield from [""] if what != "The picture" else []
+
+
+def listing(specs):
+    for what, keys in zip(["Decoder, run, report", "headline, lossless_laws"], believed(specs)):
+        yield f"{what}: {specs.total(keys)}"
+        for (crate, module), (names, lines) in specs.by_file(keys).items():
+            yield f"  {crate} {module} {lines}: {' '.join(names)}"
+
+
+def main(choice):
+    specs = Specs()
+    parts = {"--table": table, "--shared": shared, "": listing}
+    if choice in parts:
+        print("\n".join(parts[choice](specs)))
+        return
+    if choice not in ("--check", "--write"):
+        sys.exit(__doc__)
+    for page, part in [("docs/DESIGN.md", table(specs)), ("docs/HEADLINE.md", shared(specs))]:
+        old = (ROOT / page).read_text("utf8")
+        new = "\n".join([old.split(BEGIN)[0] + BEGIN, *part, "", END + old.split(END)[1]])
+        if choice == "--write":
+            (ROOT / page).write_text(new, "utf8")
+        elif old != new:
+            both = old.splitlines(), new.splitlines()
+            print("\n".join(difflib.unified_diff(*both, page, "computed", lineterm="", n=0)))
+            sys.exit(f"{page} is not what docs/believed.py --write makes of it")
+
+
+if __name__ == "__main__":
+    main("".join(sys.argv[1:]))

@@ -1,0 +1,54 @@
+#!/usr/bin/env python3
+"""Checks that what the pages name in backticks is there: fails at a word that no source has.
+
+Sources are the words of all code, without comments and texts, and the paths of all files. Blocks of
+code in a page and bytes in hex are passed over; what is no name of this repository stands in OTHERS.
+"""
+import re
+import subprocess
+import sys
+from pathlib import Path
+
+ROOT = Path(__file__).resolve().parent.parent
+# Names of other programs, of T.81 and of Rust, and words that a page explains itself.
+OTHERS = """axioms Box ceil clone compute_image_parallel dyn FORMAT Hmax ljpeg LOSSLESS malloc
+    non_exhaustive perf plant Pt random_tests_tests rattle_alloc rattle_dealloc rattle_errno
+    rattle_realloc realloc ROW TEST tmp try ulimit Upsample Vmax __xpg_strerror_r""".split()
+COMMENTS = {".rt": r'//.*|"(?:\\.|[^"\\\n])*"', ".antt": r"--.*", ".py": r"(?m)^\s*#.*", ".edit": "(?!)"}
+
+
+def words_of_sources(files):
+    words = set(OTHERS)
+    for file in files:
+        words |= set(re.findall(r"\w+", str(file)))
+        if file.suffix in COMMENTS or file.suffix == "":
+            text = (ROOT / file).read_text("utf8", "ignore")
+            words |= set(re.findall(r"\w+", re.sub(COMMENTS.get(file.suffix, r"(?m)^\s*#.*"), "", text)))
+    return words
+
+
+def named(page):
+    """Each word of letters that a page has in backticks, with its line; `Name*` begins a name."""
+    text = re.sub(r"(?m)^    .*|^```[\s\S]*?^```", lambda m: "\n" * m.group().count("\n"), page)
+    for span in re.finditer(r"`([^`]+)`", text):
+        line = text.count("\n", 0, span.start()) + 1
+        for word in re.findall(r"[A-Za-z_]\w*\*?", span.group(1)):
+            if not re.fullmatch(r"[0-9A-Fx]+\d*", word):
+                yield line, word
+
+
+def main():
+    listed = subprocess.run(["git", "ls-files"], cwd=ROOT, check=True, capture_output=True, text=True)
+    files = [Path(line) for line in listed.stdout.splitlines() if (ROOT / line).is_file()]
+    words = words_of_sources(files)
+    missing = []
+    for page in (file for file in files if file.suffix == ".md"):
+        for line, word in named((ROOT / page).read_text("utf8")):
+            begun = word.endswith("*") and any(other.startswith(word[:-1]) for other in words)
+            if word not in words and not begun:
+                missing.append(f"{page}:{line}: no source has `{word}`")
+    if missing:
+        sys.exit("\n".join(missing))
+
+
+main()
