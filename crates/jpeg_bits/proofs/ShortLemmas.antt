@@ -245,6 +245,24 @@ both-held l n bits (Some ends.Ended) h = go (leb (l + n) (length bits)) refl
     go true e = let w : l + n ≤ length bits = grind (arith, nat_tests) in rest-held l n bits (Some ends.Ended) w
     go false e = absurd (false≢true (ap is_ok (rw e at h)))
 
+-- fewer bits can be taken too
+pub fewer-held : (few n : ℕ) (bits : List Bool) (met : Option DataEnd) → few ≤ n → has_held n bits met ≡ Ok tt
+    → has_held few bits met ≡ Ok tt
+fewer-held few n bits None le h = refl
+fewer-held few n bits (Some (ends.Marker m)) le h = refl
+fewer-held few n bits (Some ends.Malformed) le h = go (leb n (length bits)) refl
+  where
+    go : (b : Bool) → leb n (length bits) ≡ b → has_held few bits (Some ends.Malformed) ≡ Ok tt
+    go true e = let w : n ≤ length bits = grind (arith, nat_tests) in
+        rest-held 0 few bits (Some ends.Malformed) (omega arith)
+    go false e = absurd (false≢true (ap is_ok (rw e at h)))
+fewer-held few n bits (Some ends.Ended) le h = go (leb n (length bits)) refl
+  where
+    go : (b : Bool) → leb n (length bits) ≡ b → has_held few bits (Some ends.Ended) ≡ Ok tt
+    go true e = let w : n ≤ length bits = grind (arith, nat_tests) in
+        rest-held 0 few bits (Some ends.Ended) (omega arith)
+    go false e = absurd (false≢true (ap is_ok (rw e at h)))
+
 zeros-after : (bits : List Bool) (l n k : ℕ) → l + n ≤ k → take n (drop l (bits ++ replicate k false))
     ≡ take n (drop l bits ++ replicate n false)
 zeros-after [] l n k h =

@@ -1,9 +1,9 @@
 -- The next token: a value within the room that the next 11 bits begin with, or by its code.
-use Rattle.std.proofs.Common.{◌≡◌, ℕ, ℤ, ◌+◌, ◌-◌, ◌/◌, ◌%◌, ◌^◌, ◌<◌, ◌≤◌, Bool, true, List, length, drop, get_or}
-use Rattle.std.proofs.Common.{Option, Some, None, Result, Ok, Err, refl, sym, ap, ◌∙◌, arith, is_some, ltb}
+use Rattle.std.proofs.Common.{◌≡◌, ℕ, ℤ, ◌+◌, ◌-◌, ◌/◌, ◌%◌, ◌^◌, ◌<◌, Bool, true, List, length, drop, get_or}
+use Rattle.std.proofs.Common.{Option, Some, None, Result, Ok, Err, refl, sym, ap, ◌∙◌, arith, is_ok, is_some, ltb}
 use Rattle.std.proofs.lemmas.Bool.{lt-ltb, false≢true}
 use Rattle.jpeg_bits.specs.Reading.{Fault}
-use Rattle.jpeg_bits.specs.Entropy.{Text, Ahead, upcoming_by, upcoming, IsFilled, advance}
+use Rattle.jpeg_bits.specs.Entropy.{Text, Ahead, upcoming_by, upcoming, IsFilled, advance, has_held}
 use Rattle.jpeg_bits.specs.Entropy.{Takes, same_text}
 use Rattle.jpeg_bits.specs.Stream.{Stream}
 use Rattle.jpeg_bits.specs.declared.error.Error.{Error}
@@ -17,7 +17,7 @@ use Rattle.jpeg_bits.specs.declared.tokens.Token.TheVariants.{Value, Rest}
 use Rattle.jpeg_bits.proofs.Held.{has_bits-held, advance-held, filled-less}
 use Rattle.jpeg_bits.proofs.Calls.{Takes-ahead, Takes-next, Takes-first-refused}
 use Rattle.jpeg_bits.proofs.Fast.{no-bits}
-use Rattle.jpeg_bits.proofs.ShortLemmas.{IsShort, short_some, size_of, rest-held, value-text, value-read}
+use Rattle.jpeg_bits.proofs.ShortLemmas.{IsShort, short_some, size_of, fewer-held, value-text, value-read}
 
 -- a value within the room
 pub value-within : (room size r s : ℕ) (t : Text) → ltb 0 s ≡ true → ltb r room ≡ true
@@ -39,7 +39,7 @@ module _ (table : Table) (room : ℕ) (bits : List Bool) (met : Option DataEnd) 
   by_code o = read_on (λ (c : ℕ × ℕ). token_at room c.0 (c.1 / 16) (c.1 % 16)) o
 
   at-short : (c : ℕ × ℕ) (v : ℤ) (r n : ℕ) → IsShort 11 table c (next_bits 11 bits) v r n → r < room
-      → n ≤ length bits
+      → has_held n bits met ≡ Ok tt
       → by_code (code_by table (upcoming_by bits met bytes) (Some c))
       ≡ Ok (Value r v, upcoming_by (drop n bits) met bytes)
   at-short c v r n k within enough =
@@ -50,20 +50,21 @@ module _ (table : Table) (room : ℕ) (bits : List Bool) (met : Option DataEnd) 
       let few = k.few in
       let all = k.all in
       let run = k.run in
+      let both : has_held (c.1 + s) bits met ≡ Ok tt = ap (λ (i : ℕ). has_held i bits met) (sym all) ∙ enough in
       let f = filled-less c.1 16 bits met (omega arith) filled in
       let g = filled-less 11 16 bits met (omega arith) filled in
       ap (λ (o : Result (Unit {0}) Fault). by_code (if_held (c.1, symbol) (advance c.1 t) o))
-      (has_bits-held c.1 bits met bytes f ∙ rest-held 0 c.1 bits met (omega arith))
+      (has_bits-held c.1 bits met bytes f ∙ fewer-held c.1 (c.1 + s) bits met (omega arith) both)
       ∙ ap (λ (u : Text). by_code (Ok ((c.1, symbol), u))) (advance-held c.1 bits met bytes f)
       ∙ value-within room c.1 (symbol / 16) s rest k.some (lt-ltb (symbol / 16) room (omega arith))
       ∙ ap (read_on (λ (x : ℤ). gives (Value (symbol / 16) x)))
-      (value-read 11 table bits met bytes (omega arith) g c.1 s few (rest-held 0 (c.1 + s) bits met (omega arith)))
+      (value-read 11 table bits met bytes (omega arith) g c.1 s few both)
       ∙ ap (λ (x : ℤ). Ok (Value (symbol / 16) x, upcoming_by (drop (c.1 + s) bits) met bytes)) (sym k.value)
       ∙ ap (λ (i : ℕ). Ok (Value i v, upcoming_by (drop (c.1 + s) bits) met bytes)) (sym run)
       ∙ ap (λ (i : ℕ). Ok (Value r v, upcoming_by (drop i bits) met bytes)) (sym all)
 
   wide-token : (v : ℤ) (r n : ℕ) → length table.counts ≡ 16
-      → short_value_of 11 table (next_bits 11 bits) ≡ Some (v, r, n) → r < room → n ≤ length bits
+      → short_value_of 11 table (next_bits 11 bits) ≡ Some (v, r, n) → r < room → has_held n bits met ≡ Ok tt
       → token_from table room (upcoming_by bits met bytes) ≡ Ok (Value r v, upcoming_by (drop n bits) met bytes)
   unfolding token_from code_from
   wide-token v r n counted e within enough =
@@ -80,7 +81,7 @@ module _ (table : Table) (room : ℕ) (bits : List Bool) (met : Option DataEnd) 
 
 pub wide-taken : (table : Table) (room : ℕ) (b d : Ahead) (bytes : List ℕ) (v : ℤ) (r n : ℕ)
     → length table.counts ≡ 16 → IsFilled 16 b.bits b.met
-    → short_value_of 11 table (next_bits 11 b.bits) ≡ Some (v, r, n) → r < room → n ≤ length b.bits
+    → short_value_of 11 table (next_bits 11 b.bits) ≡ Some (v, r, n) → r < room → has_held n b.bits b.met ≡ Ok tt
     → d.bits ≡ drop n b.bits → d.met ≡ b.met
     → token_from table room (upcoming b bytes) ≡ Ok (Value r v, upcoming d bytes)
 unfolding upcoming
@@ -88,6 +89,11 @@ wide-taken table room b d bytes v r n counted filled e within enough eb em =
     wide-token table room b.bits b.met bytes filled v r n counted e within enough
     ∙ sym (ap (λ bs. Ok (Value r v, upcoming_by bs d.met bytes)) eb
     ∙ ap (λ m. Ok (Value r v, upcoming_by (drop n b.bits) m bytes)) em)
+
+-- what can be taken, by its test
+pub held-tested : (o : Result (Unit {0}) Fault) → is_ok o ≡ true → o ≡ Ok tt
+held-tested (Ok u) h = refl
+held-tested (Err e) h = absurd (false≢true h)
 
 -- ---- a token of a code that was read on bits that are held
 

@@ -185,7 +185,8 @@ impl Held {
         ensures full { result ≡ true → IsFilled count self.new.bits self.new.met }
         ensures held { result ≡ false → is_some refusal.new ≡ true }
     {
-        if count <= self.bits.len() {
+        // After the end nothing is left to read: what is taken then are zeros, or it is refused.
+        if count <= self.bits.len() || self.end.is_some() {
             return true;
         }
         // A local's address goes to the call, so that `self` can stay in registers.

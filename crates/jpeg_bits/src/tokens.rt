@@ -142,7 +142,7 @@ fn read_token<R: Read + Drop>(
     }
     if let Some((value, run, bits)) = held.wide_value(table) {
         let count = usize::from(bits);
-        if usize::from(run) < room && count <= held.len() {
+        if usize::from(run) < room && held.has(count) {
             held.skip(count);
             return Some(Token::Value(run, value));
         }
