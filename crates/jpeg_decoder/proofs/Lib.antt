@@ -33,4 +33,5 @@ mod PlainPixels
 mod DecodedSamples
 pub mod ImageSizes
 pub mod PictureSizes
+pub mod LosslessPictureSizes
 pub mod OnLiterals

@@ -3,7 +3,7 @@ use Rattle.std.proofs.Common.{◌≡◌, ℕ, zero, suc, ◌+◌, ◌*◌, ◌/�
 use Rattle.std.proofs.Common.{refl, arith, subst, Result, Ok, Err, Option, Some, None, Bool, true, false}
 use Rattle.std.specs.Prelude.{MatchResult, IfOk}
 use Rattle.jpeg_bits.specs.declared.error.Error.{Error}
-use Rattle.jpeg_decoder.specs.Bytes.{HasBytes, HasBytesBy}
+use Rattle.jpeg_decoder.specs.Bytes.{HasBytes, HasBytesBy, IsWhole, bytes_a_sample, picture_bytes}
 use Rattle.std.specs.Prelude.{not}
 use Rattle.std.proofs.Math.Bool.{cond}
 use Rattle.jpeg_bits.specs.Reading.{Lacks}
@@ -146,7 +146,7 @@ precision-of f p =
     (ap (λ (x : Frame). x.precision) p.made)
     ∙ accepted-precision p.full p.full p.is_accepted
 
--- of 8 bits, so many bytes as components
+-- as many bytes as components, of 8 bits
 format-bytes : (n : ℕ) → is_decoded_count n ≡ true → bytes_a_pixel (format_of n 8) ≡ n
 format-bytes n h = go (n == 1) refl (n == 3) refl (n == 4) refl h
   where
@@ -170,24 +170,35 @@ by-info f pixels p eight long =
     (ap (λ n. bytes_a_pixel (format_of (length f.components) n)) eight
     ∙ format-bytes (length f.components) (decoded-count f p))
 
-whole-by : (f : Frame) (pixels : List ℕ) → IsDecodedFrame f
-    → length pixels ≡ f.output_height * (length f.components * f.output_width) → HasBytesBy f.process f pixels
-whole-by f pixels p long = go f.process refl
+-- a byte a sample
+by-frame : (f : Frame) (pixels : List ℕ) → f.precision ≡ 8
+    → length pixels ≡ f.output_height * (length f.components * f.output_width) → length pixels ≡ picture_bytes f
+unfolding picture_bytes
+by-frame f pixels eight long =
+    let one : length f.components * bytes_a_sample f.precision ≡ length f.components =
+    ap (λ n. length f.components * bytes_a_sample n) eight ∙ omega arith in
+    long ∙ turned f.output_width f.output_height (length f.components) _ one
+
+whole-by : (f : Frame) (pixels : List ℕ) → IsDecodedFrame f → (f.process ≡ Lossless → ⊥)
+    → length pixels ≡ f.output_height * (length f.components * f.output_width) → IsWhole (Some f) pixels
+whole-by f pixels p dct long = go f.process refl
   where
-    go : (x : CodingProcess) → f.process ≡ x → HasBytesBy x f pixels
-    go DctSequential e = by-info f pixels p
-        (eqb-true f.precision 8 (ap (λ (x : CodingProcess). is_decoded_precision x f.precision) (sym e)
-        ∙ precision-of f p)) long
-    go DctProgressive e = by-info f pixels p
-        (eqb-true f.precision 8 (ap (λ (x : CodingProcess). is_decoded_precision x f.precision) (sym e)
-        ∙ precision-of f p)) long
-    go Lossless e = tt
+    eight : (x : CodingProcess) → f.process ≡ x → is_decoded_precision x f.precision ≡ true
+    eight x e = ap (λ (x : CodingProcess). is_decoded_precision x f.precision) (sym e) ∙ precision-of f p
+
+    of : f.precision ≡ 8 → (length pixels ≡ picture_bytes f) × HasBytes f pixels
+    of e = (by-frame f pixels e long, by-info f pixels p e long)
+
+    go : (x : CodingProcess) → f.process ≡ x → (length pixels ≡ picture_bytes f) × HasBytesBy x f pixels
+    go DctSequential e = of (eqb-true f.precision 8 (eight DctSequential e))
+    go DctProgressive e = of (eqb-true f.precision 8 (eight DctProgressive e))
+    go Lossless e = absurd (dct e)
 
 pub if-size : {X : Type 0} (items : X → List ℕ) (E : Error → Type 0) (settings : Settings) (m : Metadata) (f : Frame)
     (planes : List (List ℕ)) (result : Result X Error) → IsDecodedFrame f → AreWhole f.components planes
     → length planes ≡ length f.components
     → MatchResult result (λ x. picture_by settings m f f.components planes ≡ Ok (items x)) E
-    → IfOk result (λ x. HasBytesBy f.process f (items x))
-if-size items E settings m f planes (Ok x) p w n h =
-    whole-by f (items x) p (picture-length settings m f planes (items x) p w n h)
-if-size items E settings m f planes (Err e) p w n h = tt
+    → (f.process ≡ Lossless → ⊥) → IfOk result (λ x. IsWhole (Some f) (items x))
+if-size items E settings m f planes (Ok x) p w n h dct =
+    whole-by f (items x) p dct (picture-length settings m f planes (items x) p w n h)
+if-size items E settings m f planes (Err e) p w n h dct = tt

@@ -363,7 +363,8 @@ impl<R: Read + Drop> Decoder<R> {
         // After an Ok there is a frame, so that `info` answers.
         ensures framed { IfOk result (λ _. is_some self.new.found.frame ≡ true) }
 
-        // The picture of a frame of blocks has a byte of each component for each pixel.
+        // The picture has one sample of each component for each pixel, of one byte or two by the
+        // frame's precision; of blocks, so many bytes as `pixel_bytes` says.
         ensures size { IfOk result (λ v. IsWhole self.new.found.frame v.items) }
     {
         let result = match self.progress {
