@@ -35,3 +35,4 @@ pub mod ImageSizes
 pub mod PictureSizes
 pub mod LosslessPictureSizes
 pub mod OnLiterals
+pub mod MemorySums

@@ -9,11 +9,11 @@ ghost use Rattle.jpeg_streams.specs.Found.{nothing_found};
 ghost use Rattle.jpeg_streams.specs.Reported.{IsOfTurns};
 ghost use Rattle.jpeg_streams.specs.States.{Decoding, MovesToHeader, MovesToEnd, IsReading, ahead};
 ghost use Rattle.jpeg_streams.specs.States.{told_ahead, turns_ahead, OnTold, OnToldRefusal, Fresh};
-ghost use Rattle.jpeg_streams.specs.States.{HeaderRead};
+ghost use Rattle.jpeg_streams.specs.States.{HasHeader, HeaderRead};
 ghost use Rattle.jpeg_streams.specs.DecodedImages.{DecodesImages};
 ghost use Rattle.jpeg_streams.specs.DecodedSamples.{DecodesSamples};
 ghost use Rattle.jpeg_decoder.specs.Seen.{found_in};
-ghost use Rattle.jpeg_decoder.specs.Bytes.{IsWhole};
+ghost use Rattle.jpeg_decoder.specs.Bytes.{IsWhole, decoding_bytes};
 ghost use Rattle.jpeg_streams.specs.Pixels.{format_of, info_of};
 ghost use Rattle.jpeg_streams.specs.Sound.{HasDecodedFrame, IsSound, IsUnread};
 ghost use Rattle.jpeg_decoder.specs.declared.decoder.Progress.TheVariants.{Failed};
@@ -23,6 +23,7 @@ ghost use Rattle.jpeg_streams.specs.Output.{default_settings};
 ghost use Rattle.jpeg_streams.specs.Profile.{profile_of};
 ghost use Rattle.std.specs.Option.{option_copied};
 
+use crate::memory::{DecodingBytes, decoding_bytes};
 use crate::picture::{read_header, read_rest, read_stream};
 use crate::profile::profile;
 use crate::state::State;
@@ -195,6 +196,21 @@ impl<R: Read + Drop> Decoder<R> {
         ensures { result ≡ option_map (λ f. f.precision) self.now.found.frame }
     {
         self.state.frame.as_ref().map(|frame| frame.precision)
+    }
+
+    /// Returns how many bytes decoding takes
+    pub fn decoding_bytes(&self) -> Option<DecodingBytes>
+        ensures header { HasHeader self.now.stage
+            → result ≡ option_map decoding_bytes self.now.found.frame }
+        ensures none { (HasHeader self.now.stage → ⊥) → result ≡ None }
+    {
+        match self.progress {
+            Progress::HeaderRead | Progress::Finished => {
+                let frame = self.state.frame.as_ref()?;
+                Some(decoding_bytes(frame))
+            }
+            Progress::Fresh | Progress::Failed => None,
+        }
     }
 
     /// The colour transform of a picture of several components, in place of the one that its
