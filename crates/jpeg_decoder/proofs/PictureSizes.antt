@@ -1,9 +1,9 @@
 -- The number of bytes of a picture of a frame that is decoded.
 use Rattle.std.proofs.Common.{◌≡◌, ℕ, zero, suc, ◌+◌, ◌*◌, ◌/◌, ◌<◌, ◌≤◌, List, [], ◌∷◌, length, sym, ap, ap₂, ◌∙◌}
 use Rattle.std.proofs.Common.{refl, arith, subst, Result, Ok, Err, Option, Some, None, Bool, true, false}
-use Rattle.std.specs.Prelude.{MatchResult, IfOk}
+use Rattle.std.specs.Prelude.{MatchResult, IfOk, OnOk, if◌then◌else◌, nat_le}
 use Rattle.jpeg_bits.specs.declared.error.Error.{Error}
-use Rattle.jpeg_decoder.specs.Bytes.{HasBytes, HasBytesBy, IsWhole, bytes_a_sample, picture_bytes}
+use Rattle.jpeg_decoder.specs.Bytes.{HasBytes, HasBytesBy, IsCounted, IsWhole, bytes_a_sample, picture_bytes, samples_a_pixel}
 use Rattle.std.specs.Prelude.{not}
 use Rattle.std.proofs.Math.Bool.{cond}
 use Rattle.jpeg_bits.specs.Reading.{Lacks}
@@ -11,6 +11,7 @@ use Rattle.jpeg_bits.specs.declared.error.UnsupportedFeature.TheVariants as feat
 use Rattle.jpeg_segments.specs.declared.parser.CodingProcess.{CodingProcess}
 use Rattle.jpeg_segments.specs.declared.parser.CodingProcess.TheVariants.{DctSequential, DctProgressive, Lossless}
 use Rattle.jpeg_streams.specs.Pixels.{bytes_a_pixel, format_of}
+use Rattle.jpeg_streams.specs.declared.images.PixelFormat.TheVariants.{L8, L16}
 use Rattle.jpeg_streams.specs.Segments.{accepted, is_decoded_count, is_arithmetic, is_decoded_precision}
 use Rattle.std.specs.Prelude.{◌==◌, ◌||◌, min}
 use Rattle.std.specs.List.{AllByRecursion}
@@ -25,10 +26,10 @@ use Rattle.jpeg_pixels.specs.Pictures.{AreWhole, image_of}
 use Rattle.jpeg_pixels.specs.Planes.{cropped}
 use Rattle.jpeg_pixels.proofs.FrameCovers.{ceiling-low}
 use Rattle.jpeg_streams.specs.ColourChoice.{identifiers_of, transform_of}
-use Rattle.jpeg_streams.specs.Found.{Metadata}
+use Rattle.jpeg_streams.specs.Found.{Found, Metadata}
 use Rattle.jpeg_streams.specs.FoundPictures.{picture_by, picture_in}
 use Rattle.jpeg_streams.specs.InTurn.{Fits}
-use Rattle.jpeg_streams.specs.Sound.{IsDecodedFrame}
+use Rattle.jpeg_streams.specs.Sound.{HasDecodedFrame, IsDecodedFrame}
 use Rattle.jpeg_streams.specs.declared.settings.Settings.{Settings}
 use Rattle.jpeg_streams.proofs.BroughtLevels.{Made}
 use Rattle.jpeg_streams.proofs.OwnSpots.{At}
@@ -202,3 +203,32 @@ pub if-size : {X : Type 0} (items : X → List ℕ) (E : Error → Type 0) (sett
 if-size items E settings m f planes (Ok x) p w n h dct =
     whole-by f (items x) p dct (picture-length settings m f planes (items x) p w n h)
 if-size items E settings m f planes (Err e) p w n h dct = tt
+
+-- ---- the samples of a pixel
+
+by-format : (n precision : ℕ) → is_decoded_count n ≡ true → n ≡ samples_a_pixel (format_of n precision)
+by-format n precision h = go (n == 1) refl (n == 3) refl (n == 4) refl h
+  where
+    one : (b : Bool) → 1 ≡ samples_a_pixel (if b then L8 else L16)
+    one true = refl
+    one false = refl
+
+    go : (a : Bool) → (n == 1) ≡ a → (b : Bool) → (n == 3) ≡ b → (c : Bool) → (n == 4) ≡ c → (a || (b || c)) ≡ true
+        → n ≡ samples_a_pixel (format_of n precision)
+    go true e b f c g h = subst (λ k. k ≡ samples_a_pixel (format_of k precision)) (sym (eqb-true n 1 e))
+        (one (nat_le precision 8))
+    go false e true f c g h = subst (λ k. k ≡ samples_a_pixel (format_of k precision)) (sym (eqb-true n 3 f)) refl
+    go false e false f true g h = subst (λ k. k ≡ samples_a_pixel (format_of k precision)) (sym (eqb-true n 4 g)) refl
+    go false e false f false g h = absurd (cc)
+
+pub counted : (found : Found) → HasDecodedFrame found → IsCounted found.frame
+counted found p = go found.frame p
+  where
+    go : (o : Option Frame) → ((f : Frame) → o ≡ Some f → IsDecodedFrame f) → IsCounted o
+    go None p = tt
+    go (Some f) p = by-format (length f.components) f.precision (decoded-count f (p f refl))
+
+pub if-counted : {X : Type 0} (found : Found) (result : Result X Error) → OnOk result (HasDecodedFrame found)
+    → IfOk result (λ x. IsCounted found.frame)
+if-counted found (Ok x) p = counted found p
+if-counted found (Err e) p = tt

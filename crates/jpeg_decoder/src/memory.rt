@@ -9,12 +9,13 @@ use jpeg_segments::parser::{CodingProcess, Component, FrameInfo};
 
 /// How many bytes decoding a picture takes, by its frame's header at the scale that was chosen.
 ///
-/// Not counted are metadata and tables, what the reader buffers, and what the allocator adds. A
-/// scan of a component whose plane is decided already has a plane of its own while it is read.
+/// Counted are the three that grow with the picture. Not counted are metadata and tables, what the
+/// reader buffers, the few lines that are converted at a time, and what the allocator adds. A scan
+/// of a component whose plane is decided already has a plane of its own while it is read.
 #[derive(Clone, Copy, Debug, PartialEq)]
 pub struct DecodingBytes {
-    /// The coefficients that are buffered: of a row of MCUs for a sequential frame, of all blocks
-    /// for a progressive one, none for a lossless one.
+    /// The coefficients that are buffered, two bytes each: those of a row of MCUs for a sequential
+    /// frame, of all blocks for a progressive one, and none for a lossless one.
     pub coefficients: u64,
     /// The planes of all components: a byte a sample of all blocks at the scale, or two bytes a
     /// sample for a lossless frame.
