@@ -1,6 +1,6 @@
 -- Sums over the components of a frame.
-use Rattle.std.proofs.Common.{◌≡◌, ℕ, zero, suc, ◌+◌, ◌<◌, ◌≤◌, List, [], ◌∷◌, length, drop, drop-cons, get_or}
-use Rattle.std.proofs.Common.{slice_index_or, ap, ◌∙◌, sym, subst, arith}
+use Rattle.std.proofs.Common.{◌≡◌, ℕ, suc, ◌+◌, ◌<◌, ◌≤◌, List, ◌∷◌, length, drop, drop-cons}
+use Rattle.std.proofs.Common.{slice_index_or, ap, ◌∙◌, subst, arith}
 use Rattle.std.proofs.lemmas.List.{drop_all}
 use Rattle.jpeg_segments.specs.Frame.{AllHaveSampling, Component}
 use Rattle.jpeg_pixels.proofs.SourceLists.{factors-at}

@@ -52,7 +52,10 @@ fn samples_above_8_bits_have_two_bytes(rt: HostRuntime) -> Result<(), Fail> {
     let picture = described_picture_of(rt.alloc(), &DEEP)?;
     assert_eq!(rt; picture.info.pixel_format, PixelFormat::RGB24);
     assert_eq!(rt; picture.precision, 16);
-    assert_eq!(rt; picture.pixels.as_slice(), [0x00, 0x80, 0x01, 0x80, 0xff, 0x7f].as_slice());
+    assert_eq!(rt;
+        picture.pixels.as_slice(),
+        [0x00, 0x80, 0x01, 0x80, 0xff, 0x7f].as_slice()
+    );
     Ok(())
 }
 

@@ -1,4 +1,4 @@
-use Rattle.std.proofs.Common.{◌≡◌, ◌<◌, ◌≤◌, map, length, slice_index_or, sym, arith}
+use Rattle.std.proofs.Common.{◌<◌, map, length, arith}
 use Rattle.std.proofs.lemmas.List.{length-map}
 use Rattle.jpeg_segments.specs.FrameView.{component_in}
 use Rattle.jpeg_lossless.proofs.RowLoops.{mapped-at}
