@@ -1,13 +1,12 @@
 -- The number of bytes of a lossless picture.
-use Rattle.std.proofs.Common.{◌≡◌, ℕ, suc, ◌+◌, ◌*◌, List, [], ◌∷◌, length, map, sym, ap, ap₂, ◌∙◌, refl, arith, subst}
+use Rattle.std.proofs.Common.{◌≡◌, ℕ, suc, ◌+◌, ◌*◌, List, [], ◌∷◌, length, sym, ap, ap₂, ◌∙◌, refl, arith, subst}
 use Rattle.std.proofs.Common.{Bool, true, false, Result, Ok, Err, Some, length-append, mul_assoc}
 use Rattle.std.specs.Prelude.{IfOk, nat_le, ◌/◌, ◌%◌, if◌then◌else◌}
-use Rattle.std.specs.List.{range_with_len, concat}
-use Rattle.std.proofs.Math.Nat.{add-mul, mul_comm}
+use Rattle.std.proofs.Math.Nat.{mul_comm}
 use Rattle.jpeg_bits.specs.declared.error.Error.{Error}
 use Rattle.jpeg_segments.specs.declared.parser.CodingProcess.{CodingProcess}
 use Rattle.jpeg_segments.specs.declared.parser.CodingProcess.TheVariants.{Lossless}
-use Rattle.jpeg_segments.specs.Frame.{Component, Factors, Frame, ceiling, frame_of}
+use Rattle.jpeg_segments.specs.Frame.{Component, Frame, ceiling}
 use Rattle.jpeg_segments.specs.Scales.{frame_at}
 use Rattle.jpeg_lossless.specs.Pictures as pictures
 use Rattle.jpeg_lossless.specs.Pictures.{ArePlanesOf, Layer, layers_of, lossless_picture, most_across, most_down}

@@ -1,5 +1,5 @@
 -- The number of bytes of a picture of a frame that is decoded.
-use Rattle.std.proofs.Common.{◌≡◌, ℕ, zero, suc, ◌+◌, ◌*◌, ◌/◌, ◌<◌, ◌≤◌, List, [], ◌∷◌, length, sym, ap, ap₂, ◌∙◌}
+use Rattle.std.proofs.Common.{◌≡◌, ℕ, zero, suc, ◌*◌, ◌/◌, ◌<◌, ◌≤◌, List, [], ◌∷◌, length, sym, ap, ap₂, ◌∙◌}
 use Rattle.std.proofs.Common.{refl, arith, subst, Result, Ok, Err, Option, Some, None, Bool, true, false}
 use Rattle.std.specs.Prelude.{MatchResult, IfOk, OnOk, if◌then◌else◌, nat_le}
 use Rattle.jpeg_bits.specs.declared.error.Error.{Error}
@@ -19,11 +19,10 @@ use Rattle.std.proofs.lemmas.Bool.{eqb-true}
 use Rattle.std.proofs.lemmas.List.Elements.{recursion_from_All}
 use Rattle.std.proofs.Common.{mul_assoc}
 use Rattle.std.proofs.Math.Nat.{mul_comm, mul-div_cancel}
-use Rattle.jpeg_bits.specs.Reading.{Fault, ◌>>=◌}
+use Rattle.jpeg_bits.specs.Reading.{Fault}
 use Rattle.jpeg_segments.specs.Frame.{Frame, Component, IsInRange, ceiling}
 use Rattle.jpeg_segments.specs.Scales.{is_scale, frame_at}
 use Rattle.jpeg_pixels.specs.Pictures.{AreWhole, image_of}
-use Rattle.jpeg_pixels.specs.Planes.{cropped}
 use Rattle.jpeg_pixels.proofs.FrameCovers.{ceiling-low}
 use Rattle.jpeg_streams.specs.ColourChoice.{identifiers_of, transform_of}
 use Rattle.jpeg_streams.specs.Found.{Found, Metadata}
