@@ -20,9 +20,13 @@ use std::io::Read;
 /// or as a refinement.
 #[derive(Clone, Copy, Debug, PartialEq)]
 pub struct Pass {
+    /// Whether the places are coded for the first time.
     pub is_first: bool,
+    /// The first place of the band (T.81, B.2.3): Ss.
     pub ss: u8,
+    /// The last place of the band: Se.
     pub se: u8,
+    /// The point transform: Al.
     pub al: u8,
 }
 

@@ -33,4 +33,6 @@ mod PlainPixels
 mod DecodedSamples
 pub mod ImageSizes
 pub mod PictureSizes
+pub mod LosslessPictureSizes
 pub mod OnLiterals
+pub mod MemorySums

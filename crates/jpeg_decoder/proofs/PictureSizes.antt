@@ -1,9 +1,9 @@
 -- The number of bytes of a picture of a frame that is decoded.
-use Rattle.std.proofs.Common.{◌≡◌, ℕ, zero, suc, ◌+◌, ◌*◌, ◌/◌, ◌<◌, ◌≤◌, List, [], ◌∷◌, length, sym, ap, ap₂, ◌∙◌}
+use Rattle.std.proofs.Common.{◌≡◌, ℕ, zero, suc, ◌*◌, ◌/◌, ◌<◌, ◌≤◌, List, [], ◌∷◌, length, sym, ap, ap₂, ◌∙◌}
 use Rattle.std.proofs.Common.{refl, arith, subst, Result, Ok, Err, Option, Some, None, Bool, true, false}
-use Rattle.std.specs.Prelude.{MatchResult, IfOk}
+use Rattle.std.specs.Prelude.{MatchResult, IfOk, OnOk, if◌then◌else◌, nat_le}
 use Rattle.jpeg_bits.specs.declared.error.Error.{Error}
-use Rattle.jpeg_decoder.specs.Bytes.{HasBytes, HasBytesBy}
+use Rattle.jpeg_decoder.specs.Bytes.{HasBytes, HasBytesBy, IsCounted, IsWhole, bytes_a_sample, picture_bytes, samples_a_pixel}
 use Rattle.std.specs.Prelude.{not}
 use Rattle.std.proofs.Math.Bool.{cond}
 use Rattle.jpeg_bits.specs.Reading.{Lacks}
@@ -11,6 +11,7 @@ use Rattle.jpeg_bits.specs.declared.error.UnsupportedFeature.TheVariants as feat
 use Rattle.jpeg_segments.specs.declared.parser.CodingProcess.{CodingProcess}
 use Rattle.jpeg_segments.specs.declared.parser.CodingProcess.TheVariants.{DctSequential, DctProgressive, Lossless}
 use Rattle.jpeg_streams.specs.Pixels.{bytes_a_pixel, format_of}
+use Rattle.jpeg_streams.specs.declared.images.PixelFormat.TheVariants.{L8, L16}
 use Rattle.jpeg_streams.specs.Segments.{accepted, is_decoded_count, is_arithmetic, is_decoded_precision}
 use Rattle.std.specs.Prelude.{◌==◌, ◌||◌, min}
 use Rattle.std.specs.List.{AllByRecursion}
@@ -18,17 +19,16 @@ use Rattle.std.proofs.lemmas.Bool.{eqb-true}
 use Rattle.std.proofs.lemmas.List.Elements.{recursion_from_All}
 use Rattle.std.proofs.Common.{mul_assoc}
 use Rattle.std.proofs.Math.Nat.{mul_comm, mul-div_cancel}
-use Rattle.jpeg_bits.specs.Reading.{Fault, ◌>>=◌}
+use Rattle.jpeg_bits.specs.Reading.{Fault}
 use Rattle.jpeg_segments.specs.Frame.{Frame, Component, IsInRange, ceiling}
 use Rattle.jpeg_segments.specs.Scales.{is_scale, frame_at}
 use Rattle.jpeg_pixels.specs.Pictures.{AreWhole, image_of}
-use Rattle.jpeg_pixels.specs.Planes.{cropped}
 use Rattle.jpeg_pixels.proofs.FrameCovers.{ceiling-low}
 use Rattle.jpeg_streams.specs.ColourChoice.{identifiers_of, transform_of}
-use Rattle.jpeg_streams.specs.Found.{Metadata}
+use Rattle.jpeg_streams.specs.Found.{Found, Metadata}
 use Rattle.jpeg_streams.specs.FoundPictures.{picture_by, picture_in}
 use Rattle.jpeg_streams.specs.InTurn.{Fits}
-use Rattle.jpeg_streams.specs.Sound.{IsDecodedFrame}
+use Rattle.jpeg_streams.specs.Sound.{HasDecodedFrame, IsDecodedFrame}
 use Rattle.jpeg_streams.specs.declared.settings.Settings.{Settings}
 use Rattle.jpeg_streams.proofs.BroughtLevels.{Made}
 use Rattle.jpeg_streams.proofs.OwnSpots.{At}
@@ -146,7 +146,7 @@ precision-of f p =
     (ap (λ (x : Frame). x.precision) p.made)
     ∙ accepted-precision p.full p.full p.is_accepted
 
--- of 8 bits, so many bytes as components
+-- as many bytes as components, of 8 bits
 format-bytes : (n : ℕ) → is_decoded_count n ≡ true → bytes_a_pixel (format_of n 8) ≡ n
 format-bytes n h = go (n == 1) refl (n == 3) refl (n == 4) refl h
   where
@@ -170,24 +170,64 @@ by-info f pixels p eight long =
     (ap (λ n. bytes_a_pixel (format_of (length f.components) n)) eight
     ∙ format-bytes (length f.components) (decoded-count f p))
 
-whole-by : (f : Frame) (pixels : List ℕ) → IsDecodedFrame f
-    → length pixels ≡ f.output_height * (length f.components * f.output_width) → HasBytesBy f.process f pixels
-whole-by f pixels p long = go f.process refl
+-- a byte a sample
+by-frame : (f : Frame) (pixels : List ℕ) → f.precision ≡ 8
+    → length pixels ≡ f.output_height * (length f.components * f.output_width) → length pixels ≡ picture_bytes f
+unfolding picture_bytes
+by-frame f pixels eight long =
+    let one : length f.components * bytes_a_sample f.precision ≡ length f.components =
+    ap (λ n. length f.components * bytes_a_sample n) eight ∙ omega arith in
+    long ∙ turned f.output_width f.output_height (length f.components) _ one
+
+whole-by : (f : Frame) (pixels : List ℕ) → IsDecodedFrame f → (f.process ≡ Lossless → ⊥)
+    → length pixels ≡ f.output_height * (length f.components * f.output_width) → IsWhole (Some f) pixels
+whole-by f pixels p dct long = go f.process refl
   where
-    go : (x : CodingProcess) → f.process ≡ x → HasBytesBy x f pixels
-    go DctSequential e = by-info f pixels p
-        (eqb-true f.precision 8 (ap (λ (x : CodingProcess). is_decoded_precision x f.precision) (sym e)
-        ∙ precision-of f p)) long
-    go DctProgressive e = by-info f pixels p
-        (eqb-true f.precision 8 (ap (λ (x : CodingProcess). is_decoded_precision x f.precision) (sym e)
-        ∙ precision-of f p)) long
-    go Lossless e = tt
+    eight : (x : CodingProcess) → f.process ≡ x → is_decoded_precision x f.precision ≡ true
+    eight x e = ap (λ (x : CodingProcess). is_decoded_precision x f.precision) (sym e) ∙ precision-of f p
+
+    of : f.precision ≡ 8 → (length pixels ≡ picture_bytes f) × HasBytes f pixels
+    of e = (by-frame f pixels e long, by-info f pixels p e long)
+
+    go : (x : CodingProcess) → f.process ≡ x → (length pixels ≡ picture_bytes f) × HasBytesBy x f pixels
+    go DctSequential e = of (eqb-true f.precision 8 (eight DctSequential e))
+    go DctProgressive e = of (eqb-true f.precision 8 (eight DctProgressive e))
+    go Lossless e = absurd (dct e)
 
 pub if-size : {X : Type 0} (items : X → List ℕ) (E : Error → Type 0) (settings : Settings) (m : Metadata) (f : Frame)
     (planes : List (List ℕ)) (result : Result X Error) → IsDecodedFrame f → AreWhole f.components planes
     → length planes ≡ length f.components
     → MatchResult result (λ x. picture_by settings m f f.components planes ≡ Ok (items x)) E
-    → IfOk result (λ x. HasBytesBy f.process f (items x))
-if-size items E settings m f planes (Ok x) p w n h =
-    whole-by f (items x) p (picture-length settings m f planes (items x) p w n h)
-if-size items E settings m f planes (Err e) p w n h = tt
+    → (f.process ≡ Lossless → ⊥) → IfOk result (λ x. IsWhole (Some f) (items x))
+if-size items E settings m f planes (Ok x) p w n h dct =
+    whole-by f (items x) p dct (picture-length settings m f planes (items x) p w n h)
+if-size items E settings m f planes (Err e) p w n h dct = tt
+
+-- ---- the samples of a pixel
+
+by-format : (n precision : ℕ) → is_decoded_count n ≡ true → n ≡ samples_a_pixel (format_of n precision)
+by-format n precision h = go (n == 1) refl (n == 3) refl (n == 4) refl h
+  where
+    one : (b : Bool) → 1 ≡ samples_a_pixel (if b then L8 else L16)
+    one true = refl
+    one false = refl
+
+    go : (a : Bool) → (n == 1) ≡ a → (b : Bool) → (n == 3) ≡ b → (c : Bool) → (n == 4) ≡ c → (a || (b || c)) ≡ true
+        → n ≡ samples_a_pixel (format_of n precision)
+    go true e b f c g h = subst (λ k. k ≡ samples_a_pixel (format_of k precision)) (sym (eqb-true n 1 e))
+        (one (nat_le precision 8))
+    go false e true f c g h = subst (λ k. k ≡ samples_a_pixel (format_of k precision)) (sym (eqb-true n 3 f)) refl
+    go false e false f true g h = subst (λ k. k ≡ samples_a_pixel (format_of k precision)) (sym (eqb-true n 4 g)) refl
+    go false e false f false g h = absurd (cc)
+
+pub counted : (found : Found) → HasDecodedFrame found → IsCounted found.frame
+counted found p = go found.frame p
+  where
+    go : (o : Option Frame) → ((f : Frame) → o ≡ Some f → IsDecodedFrame f) → IsCounted o
+    go None p = tt
+    go (Some f) p = by-format (length f.components) f.precision (decoded-count f (p f refl))
+
+pub if-counted : {X : Type 0} (found : Found) (result : Result X Error) → OnOk result (HasDecodedFrame found)
+    → IfOk result (λ x. IsCounted found.frame)
+if-counted found (Ok x) p = counted found p
+if-counted found (Err e) p = tt

@@ -6,6 +6,8 @@ use Rattle.jpeg_segments.specs.declared.parser.CodingProcess.{CodingProcess}
 use Rattle.jpeg_segments.specs.declared.parser.CodingProcess.TheVariants.{DctSequential}
 use Rattle.jpeg_segments.specs.declared.parser.CodingProcess.TheVariants.{DctProgressive, Lossless}
 use Rattle.jpeg_streams.specs.Pixels.{bytes_a_pixel, info_of}
+use Rattle.jpeg_streams.specs.declared.images.PixelFormat.{PixelFormat}
+use Rattle.jpeg_streams.specs.declared.images.PixelFormat.TheVariants.{L8, L16, RGB24, CMYK32}
 use Rattle.jpeg_decoder.specs.declared.memory.DecodingBytes.{DecodingBytes}
 
 -- ---- the picture
@@ -33,6 +35,18 @@ HasBytesBy Lossless f pixels = Unit {0}
 abbrev pub IsWhole : Option Frame → List ℕ → Type 0
 IsWhole None pixels = Unit {0}
 IsWhole (Some f) pixels = (length pixels ≡ picture_bytes f) × HasBytesBy f.process f pixels
+
+-- the samples of a pixel, by its format
+abbrev pub samples_a_pixel : PixelFormat → ℕ
+samples_a_pixel L8 = 1
+samples_a_pixel L16 = 1
+samples_a_pixel RGB24 = 3
+samples_a_pixel CMYK32 = 4
+
+-- A pixel of a frame has as many samples as its format says.
+abbrev pub IsCounted : Option Frame → Type 0
+IsCounted None = Unit {0}
+IsCounted (Some f) = length f.components ≡ samples_a_pixel (info_of f).pixel_format
 
 -- ---- what is taken while it is decoded
 

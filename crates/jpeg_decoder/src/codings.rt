@@ -30,10 +30,13 @@ use std::alloc::Global;
 pub struct Coded<'a> {
     /// The component's place in the frame.
     pub place: usize,
+    /// The component itself.
     pub component: &'a Component,
-    /// In zigzag order.
+    /// The quantization table in zigzag order.
     pub quantization: &'a [u16; 64],
+    /// The table of its DC coefficients.
     pub dc: &'a HuffmanTable,
+    /// The table of its AC coefficients.
     pub ac: &'a HuffmanTable,
 }
 

@@ -9,11 +9,11 @@ ghost use Rattle.jpeg_streams.specs.Found.{nothing_found};
 ghost use Rattle.jpeg_streams.specs.Reported.{IsOfTurns};
 ghost use Rattle.jpeg_streams.specs.States.{Decoding, MovesToHeader, MovesToEnd, IsReading, ahead};
 ghost use Rattle.jpeg_streams.specs.States.{told_ahead, turns_ahead, OnTold, OnToldRefusal, Fresh};
-ghost use Rattle.jpeg_streams.specs.States.{HeaderRead};
+ghost use Rattle.jpeg_streams.specs.States.{HasHeader, HeaderRead};
 ghost use Rattle.jpeg_streams.specs.DecodedImages.{DecodesImages};
 ghost use Rattle.jpeg_streams.specs.DecodedSamples.{DecodesSamples};
 ghost use Rattle.jpeg_decoder.specs.Seen.{found_in};
-ghost use Rattle.jpeg_decoder.specs.Bytes.{IsWhole};
+ghost use Rattle.jpeg_decoder.specs.Bytes.{IsCounted, IsWhole, decoding_bytes};
 ghost use Rattle.jpeg_streams.specs.Pixels.{format_of, info_of};
 ghost use Rattle.jpeg_streams.specs.Sound.{HasDecodedFrame, IsSound, IsUnread};
 ghost use Rattle.jpeg_decoder.specs.declared.decoder.Progress.TheVariants.{Failed};
@@ -23,6 +23,7 @@ ghost use Rattle.jpeg_streams.specs.Output.{default_settings};
 ghost use Rattle.jpeg_streams.specs.Profile.{profile_of};
 ghost use Rattle.std.specs.Option.{option_copied};
 
+use crate::memory::{DecodingBytes, decoding_bytes};
 use crate::picture::{read_header, read_rest, read_stream};
 use crate::profile::profile;
 use crate::state::State;
@@ -180,8 +181,7 @@ impl<R: Read + Drop> Decoder<R> {
         })
     }
 
-    /// The size and the format of the picture, once a frame was accepted. Tells what was read in
-    /// every state.
+    /// Returns the size and the format of the picture, once a frame was accepted, in every state.
     pub fn info(&self) -> Option<ImageInfo>
         ensures { result ≡ option_map info_of self.now.found.frame }
     {
@@ -189,16 +189,46 @@ impl<R: Read + Drop> Decoder<R> {
     }
 
     /// Returns how many bits a sample has, once a frame was accepted, in every state: 8 for baseline,
-    /// extended and progressive frames, and 2 to 16 for lossless ones (T.81, B.2.2). A sample is at
-    /// most `2^precision - 1`; it takes one byte of a picture up to 8 bits, and two bytes above.
+    /// extended and progressive frames, and 2 to 16 for lossless ones (T.81, B.2.2).
+    ///
+    /// A sample is at most `2^precision - 1`. It takes one byte of a picture up to 8 bits, and two
+    /// bytes above, the lower byte first, so that a picture has `width * height * components`
+    /// samples of that many bytes each. `PixelFormat::pixel_bytes` knows nothing of it for three or
+    /// four components.
     pub fn precision(&self) -> Option<u8>
         ensures { result ≡ option_map (λ f. f.precision) self.now.found.frame }
     {
         self.state.frame.as_ref().map(|frame| frame.precision)
     }
 
-    /// The colour transform of a picture of several components, in place of the one that its
-    /// segments say. One that does not fit is refused by `decode`.
+    /// Returns how many bytes decoding takes, once the header was read: between `read_info` or
+    /// `scale` and `decode`, and after a picture. `None` before the header was read, and on a
+    /// decoder that has failed.
+    ///
+    /// It is what the picture takes at the scale that was chosen, so a service asks for it after
+    /// `read_info`, and refuses a picture before any of its memory is taken. [`DecodingBytes`] says
+    /// what is counted and what isn't.
+    pub fn decoding_bytes(&self) -> Option<DecodingBytes>
+        ensures header { HasHeader self.now.stage
+            → result ≡ option_map decoding_bytes self.now.found.frame }
+        ensures none { (HasHeader self.now.stage → ⊥) → result ≡ None }
+    {
+        match self.progress {
+            Progress::HeaderRead | Progress::Finished => {
+                let frame = self.state.frame.as_ref()?;
+                Some(decoding_bytes(frame))
+            }
+            Progress::Fresh | Progress::Failed => None,
+        }
+    }
+
+    /// Sets the colour transform of a picture of several components, in place of the one that its
+    /// segments say. A picture of one component and a lossless one are given as they are.
+    ///
+    /// `RGB` and `YCbCr` fit three components, `CMYK` and `YCCK` four, and `None` both: each line of
+    /// the picture then has its samples component after component, `width` samples of each. Where a
+    /// transform doesn't fit, and for `Grayscale` and `Unknown`, `decode` is `Format`, and for
+    /// `JcsBgYcc` and `JcsBgRgb` it is `Unsupported`.
     pub fn set_color_transform(&mut self, transform: ColorTransform)
         ensures { self.new ≡ record self.old {
           settings = record self.old.settings
@@ -208,7 +238,13 @@ impl<R: Read + Drop> Decoder<R> {
         self.settings.color_transform = Some(transform);
     }
 
-    /// The bytes of a picture that are decoded at most. A picture of more is refused by `decode`.
+    /// Sets how many samples a picture may have: `components * width * height`, by the size that
+    /// `info` returns. A picture of more is refused by `decode` as `Format`.
+    ///
+    /// It counts samples, and not bytes: a lossless picture above 8 bits has two bytes for each. As
+    /// in the original crate it is compared after the end of the image, where the blocks and planes
+    /// are already in memory, so it bounds the picture alone. What bounds memory before anything is
+    /// taken is `read_info`, and then `info` or `decoding_bytes`.
     pub fn set_max_decoding_buffer_size(&mut self, max: usize)
         ensures { self.new ≡ record self.old {
           settings = record self.old.settings
@@ -312,9 +348,13 @@ impl<R: Read + Drop> Decoder<R> {
         }
     }
 
-    /// Reads through the end of the image and no byte after it, and gives the picture: its samples
-    /// line by line. Where the stream is one that a writer emits for the coefficients of an image,
-    /// that is their picture; and where it is a lossless one for samples, it is these samples.
+    /// Reads through the end of the image and no byte after it, and returns the picture: its samples
+    /// line by line from the top, and in each line pixel by pixel, one of each component. A sample
+    /// takes one byte, or two in a lossless picture above 8 bits, the lower byte first;
+    /// [`PixelFormat`] has the details, and `precision` the bits.
+    ///
+    /// Where the stream is one that a writer emits for the coefficients of an image, that is their
+    /// picture; and where it is a lossless one for samples, it is these samples.
     ///
     /// Errors: `Format` where a rule is broken or the picture is above the limit, `Unsupported` by
     /// the name of a feature, `Io` where the bytes end or a read fails, and `OutOfMemory`;
@@ -363,8 +403,12 @@ impl<R: Read + Drop> Decoder<R> {
         // After an Ok there is a frame, so that `info` answers.
         ensures framed { IfOk result (λ _. is_some self.new.found.frame ≡ true) }
 
-        // The picture of a frame of blocks has a byte of each component for each pixel.
+        // The picture has one sample of each component for each pixel, of one byte or two by the
+        // frame's precision; of blocks, so many bytes as `pixel_bytes` says.
         ensures size { IfOk result (λ v. IsWhole self.new.found.frame v.items) }
+
+        // There are as many samples as the format of `info` says.
+        ensures counted { IfOk result (λ _. IsCounted self.new.found.frame) }
     {
         let result = match self.progress {
             Progress::Fresh => read_stream(

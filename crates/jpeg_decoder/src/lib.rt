@@ -8,12 +8,19 @@
 //!     let mut decoder = Decoder::new(alloc, reader)?;
 //!     let pixels = decoder.decode()?;     // a Vec<u8>, line by line from the top
 //!     let info = decoder.info();          // width, height, pixel format and coding process
+//!     let precision = decoder.precision();// bits a sample: one byte up to 8, and two above
 //!     let exif = decoder.exif_data();     // also xmp_data and icc_profile
 //!
-//! `read_info` reads the header alone, which bounds the memory that a picture would need before any
-//! of it is taken (`set_max_decoding_buffer_size` refuses larger ones). `scale` asks for the
-//! picture at 1/8, 1/4, 1/2 or all of its size. [`run::run`] is a whole program: from a reader to a
-//! line of text and the pixels on a writer.
+//! The bytes of a picture are its samples, line by line from the top and pixel by pixel, one of each
+//! component. [`PixelFormat`] says what they are, and `precision` how many bytes each takes: a
+//! lossless picture of three or four components above 8 bits has two, the lower byte first, beside
+//! `RGB24` or `CMYK32`.
+//!
+//! `read_info` reads the header alone. `info` then gives the size of the picture, and
+//! `decoding_bytes` all that decoding it takes, so that a service can refuse it before any of that
+//! is taken; `set_max_decoding_buffer_size` counts samples, and refuses at the end of the image.
+//! `scale` asks for the picture at 1/8, 1/4, 1/2 or all of its size. [`run::run`] is a whole
+//! program: from a reader to a line of text and the pixels on a writer.
 //!
 //! Every call returns, whatever the reader gives, with a value or an [`Error`] that names what was
 //! wrong; after a refusal the frame and the metadata that were read before it are still there. What
@@ -59,3 +66,4 @@ pub use jpeg_lossless::lossless;
 pub use jpeg_pixels::{arch, idct, upsampler, worker};
 pub use jpeg_segments::parser;
 pub use jpeg_segments::parser::CodingProcess;
+pub use memory::DecodingBytes;

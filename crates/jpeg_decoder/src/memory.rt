@@ -1,13 +1,21 @@
 //! The memory that decoding takes, by a frame's header.
+ghost use Rattle.std.specs.Prelude.{◌≡◌, ◌<◌, ◌≤◌, ◌*◌, ◌^◌, length};
+ghost use Rattle.jpeg_segments.specs.Frame.{AllHaveSampling};
+ghost use Rattle.jpeg_segments.specs.FrameView.{component_in, frame_in};
+ghost use Rattle.jpeg_decoder.specs.Bytes.{beside_planes, bytes_a_sample, coefficient_bytes};
+ghost use Rattle.jpeg_decoder.specs.Bytes.{decoding_bytes, picture_bytes, plane_bytes, sum_of};
+
+use jpeg_segments::parser::{CodingProcess, Component, FrameInfo};
 
 /// How many bytes decoding a picture takes, by its frame's header at the scale that was chosen.
 ///
-/// Not counted are metadata and tables, what the reader buffers, and what the allocator adds. A
-/// scan of a component whose plane is decided already has a plane of its own while it is read.
+/// Counted are the three that grow with the picture. Not counted are metadata and tables, what the
+/// reader buffers, the few lines that are converted at a time, and what the allocator adds. A scan
+/// of a component whose plane is decided already has a plane of its own while it is read.
 #[derive(Clone, Copy, Debug, PartialEq)]
 pub struct DecodingBytes {
-    /// The coefficients that are buffered: of a row of MCUs for a sequential frame, of all blocks
-    /// for a progressive one, none for a lossless one.
+    /// The coefficients that are buffered, two bytes each: those of a row of MCUs for a sequential
+    /// frame, of all blocks for a progressive one, and none for a lossless one.
     pub coefficients: u64,
     /// The planes of all components: a byte a sample of all blocks at the scale, or two bytes a
     /// sample for a lossless frame.
@@ -18,4 +26,131 @@ pub struct DecodingBytes {
     /// and picture at the end. The plane of a frame of one component, unless it is a lossless one,
     /// becomes the picture itself.
     pub peak: u64,
+}
+
+/// Returns the product of a width and a height.
+fn area(width: u16, height: u16) -> u64
+    ensures product { result ≡ width * height }
+    ensures most { result < 2 ^ 32 }
+{
+    u64::from(width) * u64::from(height)
+}
+
+/// Returns how many samples there are along so many blocks, each of `scale` samples a side.
+fn along(blocks: u16, scale: usize) -> u64
+    requires { scale ≤ 8 }
+    ensures product { result ≡ blocks * scale }
+    ensures most { result < 2 ^ 19 }
+{
+    u64::from(blocks) * scale as u64
+}
+
+/// Returns how many bytes the coefficients take that are buffered of a component.
+fn coefficient_bytes(component: &Component, process: CodingProcess) -> u64
+    ensures bytes { result ≡ coefficient_bytes process (component_in component.now) }
+    ensures most { result < 2 ^ 39 }
+{
+    let blocks = component.block_size;
+    match process {
+        CodingProcess::DctSequential => {
+            128 * area(blocks.width, u16::from(component.vertical_sampling_factor))
+        }
+        CodingProcess::DctProgressive => 128 * area(blocks.width, blocks.height),
+        CodingProcess::Lossless => 0,
+    }
+}
+
+/// Returns how many bytes the plane of a component takes.
+fn plane_bytes(component: &Component, process: CodingProcess) -> u64
+    requires { component.now.dct_scale ≤ 8 }
+    ensures bytes { result ≡ plane_bytes process (component_in component.now) }
+    ensures most { result < 2 ^ 38 }
+{
+    match process {
+        CodingProcess::DctSequential | CodingProcess::DctProgressive => {
+            let blocks = component.block_size;
+            let scale = component.dct_scale;
+            along(blocks.width, scale) * along(blocks.height, scale)
+        }
+        CodingProcess::Lossless => 2 * area(component.size.width, component.size.height),
+    }
+}
+
+/// Returns how many bytes the coefficients and the planes of all components take.
+fn component_bytes(frame: &FrameInfo) -> (u64, u64)
+    requires few { length (frame_in frame.now).components ≤ 4 }
+    requires sampling { AllHaveSampling (frame_in frame.now).components }
+    ensures coefficients { result.0 ≡ sum_of (coefficient_bytes (frame_in frame.now).process)
+        (frame_in frame.now).components }
+    ensures planes { result.1 ≡ sum_of (plane_bytes (frame_in frame.now).process)
+        (frame_in frame.now).components }
+    ensures most { (result.0 ≤ 2 ^ 41) × (result.1 ≤ 2 ^ 40) }
+{
+    let mut coefficients = 0;
+    let mut planes = 0;
+    for i in 0..frame.components.len() {
+        let component = &frame.components[i];
+        coefficients += coefficient_bytes(component, frame.coding_process);
+        planes += plane_bytes(component, frame.coding_process);
+    }
+    (coefficients, planes)
+}
+
+/// Returns how many bytes a pixel takes, of so many components.
+fn pixel_bytes(count: usize, precision: u8) -> u64
+    requires { count ≤ 4 }
+    ensures product { result ≡ count * bytes_a_sample precision }
+    ensures most { result ≤ 8 }
+{
+    if precision <= 8 {
+        count as u64
+    } else {
+        2 * count as u64
+    }
+}
+
+/// Returns how many bytes the picture takes.
+fn picture_bytes(frame: &FrameInfo) -> u64
+    requires { length (frame_in frame.now).components ≤ 4 }
+    ensures bytes { result ≡ picture_bytes (frame_in frame.now) }
+    ensures most { result < 2 ^ 35 }
+{
+    let size = frame.output_size;
+    area(size.width, size.height) * pixel_bytes(frame.components.len(), frame.precision)
+}
+
+/// Returns how many bytes a picture takes beside the planes that it is made of.
+fn beside_planes(frame: &FrameInfo, picture: u64) -> u64
+    requires { picture ≡ picture_bytes (frame_in frame.now) }
+    ensures bytes { result ≡ beside_planes (frame_in frame.now).process (frame_in frame.now) }
+    ensures most { result ≤ picture }
+{
+    match frame.coding_process {
+        CodingProcess::DctSequential | CodingProcess::DctProgressive => {
+            if frame.components.len() == 1 {
+                0
+            } else {
+                picture
+            }
+        }
+        CodingProcess::Lossless => picture,
+    }
+}
+
+/// Returns how many bytes decoding takes, by the frame's header.
+pub(crate) fn decoding_bytes(frame: &FrameInfo) -> DecodingBytes
+    requires few { length (frame_in frame.now).components ≤ 4 }
+    requires sampling { AllHaveSampling (frame_in frame.now).components }
+    ensures { result ≡ decoding_bytes (frame_in frame.now) }
+{
+    let (coefficients, planes) = component_bytes(frame);
+    let picture = picture_bytes(frame);
+    let scans = coefficients + planes;
+    let end = planes + beside_planes(frame, picture);
+    DecodingBytes {
+        coefficients,
+        planes,
+        picture,
+        peak: scans.max(end),
+    }
 }

@@ -8,12 +8,19 @@ use std::alloc::Global;
 /// last Adobe transform, Exif, XMP and Photoshop data; parts of ICC profiles add up.
 #[derive(Drop)]
 pub struct Metadata {
+    /// Whether the stream is a JFIF file.
     pub jfif: bool,
+    /// Whether the stream is a frame of an MJPEG stream.
     pub avi1: bool,
+    /// The transform that the last Adobe segment named.
     pub adobe: Option<AdobeColorTransform>,
+    /// The last Exif data.
     pub exif: Option<Vec<u8>>,
+    /// The last XMP data.
     pub xmp: Option<Vec<u8>>,
+    /// The last image resources of Photoshop.
     pub psir: Option<Vec<u8>>,
+    /// The parts of ICC profiles, in the order of the stream.
     pub icc: Vec<IccChunk>,
 }
 

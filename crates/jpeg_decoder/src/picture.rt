@@ -21,7 +21,7 @@ ghost use Rattle.jpeg_streams.specs.Reported.{told_in_turns, told_rest};
 ghost use Rattle.jpeg_streams.specs.FoundPictures.{blocks_picture, picture_of, picture_by};
 ghost use Rattle.jpeg_streams.specs.FoundPictures.{planes_from, samples_picture};
 ghost use Rattle.jpeg_streams.specs.Found.{nothing_found};
-ghost use Rattle.jpeg_decoder.specs.Bytes.{HasBytesBy, IsWhole};
+ghost use Rattle.jpeg_decoder.specs.Bytes.{IsWhole};
 
 use crate::codings::is_progressive;
 use crate::color_choice::choose_color_transform;
@@ -222,8 +222,8 @@ fn blocks_picture(
     ensures meant { let expected = blocks_picture settings (with_decoded (found_in state.now) decoded.old)
         (frame_in frame.now) in
         MatchResult result (λ v. expected ≡ Ok v.items) (λ e. IsRefusal e × Names e expected) }
-    ensures size { IfOk result (λ v. HasBytesBy (frame_in frame.now).process (frame_in frame.now)
-        v.items) }
+    ensures size { ((frame_in frame.now).process ≡ Lossless → ⊥)
+        → IfOk result (λ v. IsWhole (Some (frame_in frame.now)) v.items) }
 {
     let planes = planes_at_end(alloc, state, frame, decoded)?;
     picture_by(alloc, state, frame, planes, settings)
@@ -258,9 +258,10 @@ fn samples_picture(
     requires sound { IsSound (with_decoded (found_in state.now) decoded.old) }
     requires frame { (found_in state.now).frame ≡ Some (frame_in frame.now) }
     requires process { (frame_in frame.now).process ≡ Lossless }
-    ensures { let expected = samples_picture (with_decoded (found_in state.now) decoded.old)
+    ensures meant { let expected = samples_picture (with_decoded (found_in state.now) decoded.old)
         (frame_in frame.now) in
         MatchResult result (λ v. expected ≡ Ok v.items) (λ e. IsRefusal e × Names e expected) }
+    ensures size { IfOk result (λ v. IsWhole (Some (frame_in frame.now)) v.items) }
 {
     let planes = samples_at_end(alloc, frame, decoded)?;
     compute_image_lossless(alloc, frame, planes)

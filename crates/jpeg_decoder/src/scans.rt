@@ -36,8 +36,11 @@ use std::io::Read;
 /// components.
 #[derive(Drop)]
 pub struct Scan<'a> {
+    /// What it codes.
     pub pass: Pass,
+    /// The number of MCUs of a restart interval; 0 is no intervals.
     pub restart_interval: u16,
+    /// Its components, in the scan header's order.
     pub components: Vec<Coded<'a>>,
 }
 
@@ -47,6 +50,7 @@ pub struct Scan<'a> {
 #[derive(Drop)]
 pub struct Interval {
     alloc: Global,
+    /// The entropy decoder.
     pub decoder: HuffmanDecoder,
     predictors: [i16; 4],
     run: u16,

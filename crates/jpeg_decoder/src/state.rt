@@ -23,15 +23,21 @@ use std::io::Read;
 /// and the planes that are decided, by the components' places in the frame.
 #[derive(Drop)]
 pub struct State {
+    /// The frame, once its header was accepted.
     pub frame: Option<FrameInfo>,
+    /// The quantization tables in force, in zigzag order.
     pub quantization: [Option<[u16; 64]>; 4],
+    /// The tables of DC coefficients in force.
     pub dc_tables: [Option<HuffmanTable>; 4],
+    /// The tables of AC coefficients in force.
     pub ac_tables: [Option<HuffmanTable>; 4],
     /// The restart interval in MCUs; 0 is none.
     pub restart_interval: u16,
     /// Whether a scan was read.
     pub scanned: bool,
+    /// What the segments of applications have said.
     pub metadata: Metadata,
+    /// What the scans have decoded.
     pub decoded: Decoded,
 
     // Each AC table is of class AC.
@@ -42,8 +48,11 @@ pub struct State {
 /// already, and whether the image has ended.
 #[derive(Clone, Copy, Debug, PartialEq)]
 pub struct Step {
+    /// What stands before the next marker.
     pub before: Before,
+    /// The next marker, if it was met already.
     pub met: Option<Marker>,
+    /// Whether the image has ended.
     pub ended: bool,
 }
 

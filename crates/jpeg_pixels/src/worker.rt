@@ -18,6 +18,7 @@ use std::marker::Model;
 pub struct RowData {
     /// The place: 0 to 3.
     pub index: usize,
+    /// The component, whose sizes the plane has.
     pub component: Component,
     /// The quantization table in block order: the value of row `v` and column `u` at `8 * v + u`.
     pub quantization_table: [u16; 64],

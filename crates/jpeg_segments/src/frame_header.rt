@@ -35,9 +35,13 @@ struct Head {
 /// What a frame header says of a component (T.81, B.2.2).
 #[derive(Clone, Copy)]
 pub(crate) struct Factors {
+    /// The identifier: Ci.
     pub identifier: u8,
+    /// The horizontal sampling factor: Hi.
     pub horizontal: u8,
+    /// The vertical sampling factor: Vi.
     pub vertical: u8,
+    /// The destination of the quantization table: Tqi.
     pub quantization: usize,
 }
 

@@ -10,9 +10,13 @@ use jpeg_segments::parser::Component;
 /// part of all MCUs has.
 #[derive(Clone, Copy, Debug, PartialEq)]
 pub struct Grid {
+    /// How many of its own blocks a line has.
     pub own_wide: u16,
+    /// How many lines of its own blocks there are.
     pub own_high: u16,
+    /// How many blocks a line has in all MCUs.
     pub wide: u16,
+    /// How many lines of blocks there are in all MCUs.
     pub high: u16,
 }
 

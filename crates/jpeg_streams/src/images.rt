@@ -3,15 +3,29 @@
 use jpeg_segments::parser::CodingProcess;
 
 /// How the bytes of a picture stand for its pixels.
+///
+/// A picture is stored line by line from the top, and each line pixel by pixel from the left, with
+/// nothing between them; a pixel has one sample of each component, in the order of the frame
+/// header. A sample takes one byte where the frame's precision is at most 8 bits, and two bytes
+/// above, the lower byte first. Only lossless pictures have other precisions than 8.
+///
+/// The format says how many samples a pixel has. It says how many bytes they take only for one
+/// component: a lossless picture of three or four components above 8 bits has two bytes a sample
+/// and the format `RGB24` or `CMYK32`. `Decoder::precision` says it for every picture.
+///
+/// Under `ColorTransform::None` each line of a picture of several components, unless it is a
+/// lossless one, has its samples component after component, `width` samples of each.
 #[derive(Clone, Copy, Debug, PartialEq)]
 pub enum PixelFormat {
-    /// One sample of 8 bits.
+    /// One sample of at most 8 bits, in one byte.
     L8,
-    /// One sample of 16 bits, the lower byte first.
+    /// One sample of 9 to 16 bits, in two bytes, the lower byte first.
     L16,
-    /// Red, green and blue, 8 bits each.
+    /// Three samples: red, green and blue. Those of a lossless picture are as they were coded, and
+    /// have two bytes each above 8 bits.
     RGB24,
-    /// Cyan, magenta, yellow and black, 8 bits each.
+    /// Four samples: cyan, magenta, yellow and black. Those of a lossless picture are as they were
+    /// coded, and have two bytes each above 8 bits.
     CMYK32,
 }
 
@@ -19,7 +33,10 @@ impl PixelFormat {
     ghost use Rattle.std.specs.Prelude.{◌≡◌};
     ghost use Rattle.jpeg_streams.specs.Pixels.{bytes_a_pixel};
 
-    /// How many bytes a pixel takes.
+    /// Returns how many bytes a pixel takes: 1, 2, 3 or 4.
+    ///
+    /// It doesn't hold of lossless pictures of three or four components above 8 bits, whose pixels
+    /// take 6 or 8 bytes: `Decoder::precision` says which these are.
     pub fn pixel_bytes(&self) -> usize
         ensures { result ≡ bytes_a_pixel self.now }
     {
@@ -32,7 +49,7 @@ impl PixelFormat {
     }
 }
 
-/// What a frame header says of the picture.
+/// What a frame header says of the picture. `Decoder::precision` has the bits of a sample.
 #[derive(Clone, Copy, Debug, PartialEq)]
 pub struct ImageInfo {
     /// The width of the picture in pixels, at the scale that was chosen.

@@ -4,6 +4,7 @@ use Rattle.jpeg_segments.specs.FrameView.{frame_in}
 use Rattle.jpeg_decoder.specs.Seen.{found_in, planes_in}
 use Rattle.jpeg_decoder.specs.Steps.{with_decoded}
 use Rattle.jpeg_decoder.proofs.LosslessReads.{picture-given, picture-lacks, picture-made, samples-whole}
+use Rattle.jpeg_decoder.proofs.LosslessPictureSizes.{if-samples_size}
 use Rattle.jpeg_decoder.proofs.PicturesOfPlanes.{decoded-factors}
 use Rattle.jpeg_streams.proofs.LosslessSizes.{all-reach, decoded-made}
 use Rattle.jpeg_streams.proofs.Soundness.{count-few, decoded-count}
@@ -17,8 +18,8 @@ samples_at_end-requires c =
           (decoded-count frame (c.requires.sound.frames frame c.requires.frame))).1;
     }
 
-pub returns-in_err-planes : goal.returns-in_err-planes
-returns-in_err-planes c =
+pub returns-in_err-planes-clause-meant : goal.returns-in_err-planes-clause-meant
+returns-in_err-planes-clause-meant c =
     let p = err_from_is_err_and c.from_residual.result c.from_residual.ensures.1 in
     let found = with_decoded (found_in c.args.state.now) c.args.decoded.now in
     rw (p.1, p.2) (
@@ -52,11 +53,21 @@ compute_image_lossless-requires-clause-reaches c =
     all-reach frame frame.components
     (decoded-made frame (c.requires.sound.frames frame c.requires.frame) c.requires.process)
 
-pub returns : goal.returns
-returns c =
+pub returns-clause-meant : goal.returns-clause-meant
+returns-clause-meant c =
     let frame = frame_in c.args.frame.now in
     let found = with_decoded (found_in c.args.state.now) c.args.decoded.now in
     let planes = map (λ v. v.items) c.in_ok-planes.planes.items in
     picture-given (λ v. v.items) c.compute_image_lossless.result _ _
     (picture-made found frame planes c.in_ok-planes.ensures.planes)
     c.compute_image_lossless.ensures.pixels c.compute_image_lossless.ensures.err
+
+pub returns-clause-size : goal.returns-clause-size
+returns-clause-size c =
+    let frame = frame_in c.args.frame.now in
+    let planes = map (λ v. v.items) c.in_ok-planes.planes.items in
+    if-samples_size (λ v. v.items) frame planes c.compute_image_lossless.result
+    (c.requires.sound.frames frame c.requires.frame) c.requires.process
+    (samples-whole (planes_in c.args.decoded.now.samples) frame.components planes
+    (c.requires.sound.samples frame c.requires.frame) c.in_ok-planes.ensures.planes)
+    c.compute_image_lossless.ensures.pixels

@@ -2,6 +2,7 @@ use Rattle.std.proofs.Common.{rules}
 use Rattle.jpeg_decoder.specs.Seen.{found_in, stage_of}
 use Rattle.jpeg_decoder.proofs.DecodedImages.{decodes-images}
 use Rattle.jpeg_decoder.proofs.DecodedSamples.{decodes-samples}
+use Rattle.jpeg_decoder.proofs.PictureSizes.{if-counted}
 use Rattle.jpeg_decoder.proofs.decoder.Decoder.decode.Goals as goal
 
 pub returns-clause-images : goal.returns-clause-images
@@ -23,3 +24,7 @@ returns-clause-samples g c =
       found = found_in inside.state;
       settings = inside.settings;
     }) c.match-self.result (λ reads. search rules)
+
+pub returns-clause-counted : goal.returns-clause-counted
+returns-clause-counted g c =
+    if-counted (found_in c.match-self.self-inside.state) c.match-self.result (search rules)
