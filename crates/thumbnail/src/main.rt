@@ -90,7 +90,7 @@ fn write_thumbnail<R: Read + Drop, W: Write>(
     write_picture(alloc, picture, writer)
 }
 
-/// Reports a refusal in one line on standard error, and returns the program's status.
+/// Reports in one line on standard error why the program ended, and returns its status.
 fn report(rt: &impl Eprint, error: &Error) -> ExitCode {
     let _ = eprintln!(rt; "thumbnail: {error}");
     ExitCode::from(1)
