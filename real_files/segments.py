@@ -2,6 +2,7 @@
 
 SOI, EOI = b"\xff\xd8", b"\xff\xd9"
 APP0, APP14, DHT, SOS = 0xE0, 0xEE, 0xC4, 0xDA
+SOF0, SOF2 = 0xC0, 0xC2
 
 
 def end_of_scan(stream, place):
@@ -67,3 +68,20 @@ def without_component(stream, name):
         return code == SOS and text[4] == 1 and text[5] == name
 
     return joined([part for part in segments_of(stream) if not is_of_it(part)])
+
+
+def of_components(streams):
+    """The file whose components are those of files of one component each, of equal sizes and quantization tables. Their scans
+    follow one another, and no segment speaks of colours."""
+    parts = []
+    for code, text in segments_of(streams[0]):
+        if code in (SOF0, SOF2):
+            components = b"".join(b"%c\x11\0" % name for name in range(1, len(streams) + 1))
+            parts.append(segment(code, text[4:9] + b"%c" % len(streams) + components))
+        elif code not in (APP0, DHT, SOS):
+            parts.append((code, text))
+    for name, stream in enumerate(streams, 1):
+        for code, text in segments_of(stream):
+            if code in (DHT, SOS):
+                parts.append((code, text[:5] + b"%c" % name + text[6:] if code == SOS else text))
+    return joined(parts)

@@ -6,8 +6,9 @@
 //! its parts. The stream is read to its end, since such data may stand anywhere in it; where it is
 //! refused, what stands before the fault is written all the same.
 //!
-//! A header that is refused, or a stream without such data, is one line on standard error, and the
-//! status is then 1. Other arguments are answered by a line on their use, and the status 2.
+//! A header that is refused, a stream without such data, or out of memory, is one line on standard
+//! error, and the status is then 1. Other arguments are refused by a line on their use, and the
+//! status 2.
 #![tactic(auto)]
 
 use jpeg_decoder::error::{Error, Result};
@@ -16,7 +17,7 @@ use jpeg_decoder::{ByteReader, Decoder, ImageInfo};
 use std::alloc::{AllocError, Global};
 use std::env;
 use std::env::Args;
-use std::io::{BufReader, Read, Write};
+use std::io::{BufReader, ErrorKind, Read, Write};
 use std::process::ExitCode;
 
 /// What the arguments ask for.
@@ -121,9 +122,22 @@ fn write_answer<R: Read + Drop, W: Write>(
     }
 }
 
+/// Reports in one line on standard error why the program ended, and returns its status.
+fn report(rt: &impl Eprint, error: &Error) -> ExitCode {
+    let _ = eprintln!(rt; "jpeginfo: {error}");
+    ExitCode::from(1)
+}
+
 fn main(rt: HostRuntime) -> ExitCode {
-    let arguments = env::args(&rt);
-    let Some(request) = arguments.ok().and_then(|arguments| request_of(arguments)) else {
+    let request = match env::args(&rt) {
+        Ok(arguments) => request_of(arguments),
+        Err(error) if error.kind() == ErrorKind::OutOfMemory => {
+            return report(&rt, &Error::OutOfMemory);
+        }
+        // An argument that isn't UTF-8.
+        Err(_) => None,
+    };
+    let Some(request) = request else {
         let _ = eprintln!(rt; "usage: jpeginfo [exif | xmp | icc] < photo.jpg");
         return ExitCode::from(2);
     };
@@ -143,9 +157,6 @@ fn main(rt: HostRuntime) -> ExitCode {
             let _ = eprintln!(rt; "jpeginfo: the stream has no such data");
             ExitCode::from(1)
         }
-        Err(error) => {
-            let _ = eprintln!(rt; "jpeginfo: {error}");
-            ExitCode::from(1)
-        }
+        Err(error) => report(&rt, &error),
     }
 }

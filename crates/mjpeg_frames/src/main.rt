@@ -4,20 +4,22 @@
 //! `jpegraw`.
 //!
 //! `decode` reads no byte after the end of an image, so one reader is lent to a decoder for each
-//! frame.
+//! frame. The first byte of a frame is read before, since the stream ends where there is none.
 //!
-//! The stream ends where its bytes end after a frame. A frame that is refused ends the program: its
-//! number and what was wrong are one line on standard error, and the status is then 1. The frames
-//! before it are written. Other arguments are answered by a line on their use, and the status 2.
+//! A frame that is refused ends the program: its number and what was wrong are one line on standard
+//! error, and the status is then 1. The frames before it are written. Where these can't be written,
+//! or the program can't start for want of memory, the line names no frame. Other arguments are
+//! refused by a line on their use, and the status 2.
 #![tactic(auto)]
 
-use jpeg_decoder::Decoder;
 use jpeg_decoder::error::{Error, Result};
-use jpeg_decoder::run::run;
+use jpeg_decoder::{ByteReader, Decoder, ImageInfo};
 use std::alloc::Global;
 use std::env;
 use std::env::Args;
-use std::io::{BufRead, BufReader, Read, Write};
+use std::fmt;
+use std::io;
+use std::io::{BufReader, ErrorKind, Read, Write};
 use std::process::ExitCode;
 
 /// What is written of each frame.
@@ -27,7 +29,7 @@ enum Request {
     Pixels,
 }
 
-/// What the arguments ask for, unless they are none that the program takes.
+/// Returns what the arguments ask for, unless they are none that the program takes.
 fn request_of(mut arguments: Args) -> Option<Request> {
     let _program = arguments.next();
     let Some(word) = arguments.next() else {
@@ -40,88 +42,122 @@ fn request_of(mut arguments: Args) -> Option<Request> {
     }
 }
 
-/// A frame that was refused, by its number, and why.
+/// Why the program ended early.
 #[derive(Drop)]
-struct Refusal {
-    frame: u64,
-    error: Error,
+enum Refusal {
+    /// The frame of this number can't be decoded.
+    Frame(u64, Error),
+    /// What was decoded can't be written, or the program can't start.
+    Outside(Error),
 }
 
-/// Decodes the next frame, and writes its line.
-fn write_line<R: Read + Drop, W: Write>(
-    alloc: Global,
-    reader: R,
-    number: u64,
-    writer: &mut W,
-) -> Result<()> {
-    let mut decoder = Decoder::new(alloc, reader)?;
-    let _pixels = decoder.decode()?;
-    if let Some(info) = decoder.info() {
-        let width = info.width;
-        let height = info.height;
-        let format = info.pixel_format;
-        let line = format!(in alloc; "{number} {width} {height} {format:?}\n")?;
-        writer.write_all(line.as_bytes())?;
+impl fmt::Display for Refusal {
+    fn fmt<W: fmt::Write>(&self, f: &mut fmt::Formatter<W>) -> fmt::Result {
+        match self {
+            Refusal::Frame(number, error) => write!(f, "frame {number}: {error}"),
+            Refusal::Outside(error) => write!(f, "{error}"),
+        }
     }
-    Ok(())
 }
 
-/// Decodes the next frame, where the bytes go on, and writes what is asked for of it. Says whether
-/// there was one.
-fn write_frame<B: BufRead + Drop, W: Write>(
+/// A frame that was decoded.
+#[derive(Drop)]
+struct Frame {
+    info: ImageInfo,
+    pixels: Vec<u8>,
+}
+
+/// Decodes the frame that the reader gives.
+fn decode_frame<R: Read + Drop>(alloc: Global, reader: R) -> Result<Frame> {
+    let mut decoder = Decoder::new(alloc, reader)?;
+    let pixels = decoder.decode()?;
+    let info = decoder.info().unwrap();
+    Ok(Frame { info, pixels })
+}
+
+/// Decodes the next frame, where the bytes go on.
+fn next_frame<R: Read + Drop>(alloc: Global, reader: &mut R) -> Result<Option<Frame>> {
+    let mut first = [0u8];
+    if reader.read(&mut first)? == 0 {
+        return Ok(None);
+    }
+    let frame = decode_frame(alloc, io::repeat(first[0]).take(1).chain(reader))?;
+    Ok(Some(frame))
+}
+
+/// Writes what is asked for of a frame.
+fn write_frame<W: Write>(
     alloc: Global,
-    reader: &mut B,
     number: u64,
+    frame: &Frame,
     request: Request,
     writer: &mut W,
-) -> Result<bool> {
-    if reader.fill_buf()?.is_empty() {
-        return Ok(false);
-    }
+) -> io::Result<()> {
+    let width = frame.info.width;
+    let height = frame.info.height;
+    let format = frame.info.pixel_format;
     match request {
-        Request::Lines => write_line(alloc, reader, number, writer)?,
-        Request::Pixels => run(alloc, reader, writer)?,
+        Request::Lines => {
+            let line = format!(in alloc; "{number} {width} {height} {format:?}\n")?;
+            writer.write_all(line.as_bytes())
+        }
+        Request::Pixels => {
+            let line = format!(in alloc; "{width} {height} {format:?}\n")?;
+            writer.write_all(line.as_bytes())?;
+            writer.write_all(frame.pixels.as_slice())
+        }
     }
-    Ok(true)
 }
 
 /// Writes what is asked for of each frame to the end of the bytes.
-fn write_frames<B: BufRead + Drop, W: Write>(
+fn write_frames<R: Read + Drop, W: Write>(
     alloc: Global,
-    reader: &mut B,
+    reader: &mut R,
     request: Request,
     writer: &mut W,
 ) -> std::result::Result<(), Refusal> {
-    for frame in 1..u64::MAX {
-        match write_frame(alloc, &mut *reader, frame, request, writer) {
-            Ok(true) => {}
-            Ok(false) => break,
-            Err(error) => return Err(Refusal { frame, error }),
+    for number in 1..u64::MAX {
+        match next_frame(alloc, &mut *reader) {
+            Ok(Some(frame)) => {
+                if let Err(error) = write_frame(alloc, number, &frame, request, writer) {
+                    return Err(Refusal::Outside(Error::Io(error)));
+                }
+            }
+            Ok(None) => break,
+            Err(error) => return Err(Refusal::Frame(number, error)),
         }
     }
     Ok(())
 }
 
+/// Reports in one line on standard error why the program ended, and returns its status.
+fn report(rt: &impl Eprint, refusal: &Refusal) -> ExitCode {
+    let _ = eprintln!(rt; "mjpeg_frames: {refusal}");
+    ExitCode::from(1)
+}
+
 fn main(rt: HostRuntime) -> ExitCode {
-    let arguments = env::args(&rt);
-    let Some(request) = arguments.ok().and_then(|arguments| request_of(arguments)) else {
+    let request = match env::args(&rt) {
+        Ok(arguments) => request_of(arguments),
+        Err(error) if error.kind() == ErrorKind::OutOfMemory => {
+            return report(&rt, &Refusal::Outside(Error::OutOfMemory));
+        }
+        // An argument that isn't UTF-8.
+        Err(_) => None,
+    };
+    let Some(request) = request else {
         let _ = eprintln!(rt; "usage: mjpeg_frames [pixels] < stream.mjpeg");
         return ExitCode::from(2);
     };
     let outcome = match BufReader::new(rt.alloc(), rt.stdin()) {
-        Ok(mut reader) => write_frames(rt.alloc(), &mut reader, request, &mut rt.stdout()),
-        Err(error) => Err(Refusal {
-            frame: 1,
-            error: Error::Io(error),
-        }),
+        Ok(reader) => {
+            let mut reader = ByteReader::new(reader);
+            write_frames(rt.alloc(), &mut reader, request, &mut rt.stdout())
+        }
+        Err(error) => Err(Refusal::Outside(Error::Io(error))),
     };
     match outcome {
         Ok(()) => ExitCode::SUCCESS,
-        Err(refusal) => {
-            let frame = refusal.frame;
-            let error = refusal.error;
-            let _ = eprintln!(rt; "mjpeg_frames: frame {frame}: {error}");
-            ExitCode::from(1)
-        }
+        Err(refusal) => report(&rt, &refusal),
     }
 }

@@ -1,5 +1,5 @@
 -- A header that was sized, and then the rest of its stream, are the picture of the stream.
-use Rattle.std.proofs.Common.{◌≡◌, ◌∙◌, ℕ, List, Result, Ok, Err, Some, refl, ap, option_map}
+use Rattle.std.proofs.Common.{◌≡◌, ◌∙◌, ℕ, List, Result, Ok, Err, Option, Some, None, refl, ap, option_map}
 use Rattle.jpeg_bits.specs.Reading.{Fault, Outcome}
 use Rattle.jpeg_streams.specs.Output.{default_settings}
 use Rattle.jpeg_streams.specs.Pixels.{info_of}
@@ -7,7 +7,8 @@ use Rattle.jpeg_streams.specs.Stream.{Told, header_at, rest_at, sized_header_at,
 use Rattle.jpeg_streams.specs.Found.{Found}
 use Rattle.jpeg_streams.proofs.AcceptedTurns.{then-ok}
 use Rattle.jpeg_decoder.proofs.Headers.{bind-ok}
-use Rattle.thumbnail.specs.Thumbnails.{picture_at}
+use Rattle.jpeg_streams.specs.declared.images.ImageInfo.{ImageInfo}
+use Rattle.thumbnail.specs.Thumbnails.{decoded, picture_at}
 
 value_or : {Y : Type 0} → Y → Result Y Fault → Y
 value_or d (Ok y) = y
@@ -31,10 +32,21 @@ sized-rest width height bytes rest found e =
     let same = same-value (sized_to width height header.0, header.1) (found, rest) e1 in
     then-ok (header_at bytes) _ header _ is (ap (λ (p : Found × List ℕ). rest_at default_settings p.0 p.1) same))
 
+-- what is said of a frame and its precision are those of a picture
+of_frame : {F : Type 0} (frame : Option F) (said : F → ImageInfo) (bits : F → ℕ) (pixels : List ℕ) (info : ImageInfo)
+    (precision : ℕ)
+    → option_map said frame ≡ Some info → option_map bits frame ≡ Some precision
+    → option_map (λ f. decoded (said f) (bits f) pixels) frame ≡ Some (decoded info precision pixels)
+of_frame (Some f) said bits pixels info precision hi hp = cc
+of_frame None said bits pixels info precision hi hp = absurd (cc)
+
 pub picture-some : (width height : ℕ) (bytes rest left : List ℕ) (found : Found) (told : Told) (pixels : List ℕ)
+    (info : ImageInfo) (precision : ℕ)
     → sized_header_at width height bytes ≡ Ok (found, rest)
     → rest_at default_settings found rest ≡ Ok ((told, pixels), left)
-    → picture_at width height bytes ≡ Some (option_map info_of told.frame, pixels)
+    → option_map info_of told.frame ≡ Some info → option_map (λ f. f.precision) told.frame ≡ Some precision
+    → picture_at width height bytes ≡ Some (decoded info precision pixels)
 unfolding picture_at
-picture-some width height bytes rest left found told pixels header picture =
-    rw (picture_at, sized-rest width height bytes rest found header ∙ picture) refl
+picture-some width height bytes rest left found told pixels info precision header picture hi hp =
+    rw (picture_at, sized-rest width height bytes rest found header ∙ picture)
+    (of_frame told.frame info_of (λ f. f.precision) pixels info precision hi hp)

@@ -1,24 +1,28 @@
 -- The file that the program writes for a stream.
-use Rattle.std.specs.Prelude.{ℕ, List, [], Ok, Err, Option, Some, None, option_map}
+use Rattle.std.specs.Prelude.{ℕ, List, Ok, Err, Option, None, option_map}
 use Rattle.jpeg_streams.specs.Output.{default_settings}
 use Rattle.jpeg_streams.specs.Pixels.{info_of}
 use Rattle.jpeg_streams.specs.Stream.{sized_meaning}
 use Rattle.jpeg_streams.specs.declared.images.ImageInfo.{ImageInfo}
 use Rattle.thumbnail.specs.Netpbm.{file_of}
 
--- what the picture of a stream is at the scale whose picture is as wide or as high as is asked for,
--- and its pixels
-unfoldable pub picture_at : ℕ → ℕ → List ℕ → Option (Option ImageInfo × List ℕ)
+-- a picture: what is said of it, how many bits a sample has, and its pixels
+pub record Decoded : Type 0 where
+  pub info : ImageInfo
+  pub precision : ℕ
+  pub pixels : List ℕ
+
+abbrev pub decoded : ImageInfo → ℕ → List ℕ → Decoded
+decoded info precision pixels = record { info = info; precision = precision; pixels = pixels }
+
+-- the picture of a stream at the scale whose picture is as wide or as high as is asked for
+unfoldable pub picture_at : ℕ → ℕ → List ℕ → Option Decoded
 picture_at width height bytes = elim (sized_meaning width height default_settings bytes) [
-  | Ok stream ↦ Some (option_map info_of stream.0.0.frame, stream.0.1)
+  | Ok stream ↦ option_map (λ f. decoded (info_of f) f.precision stream.0.1) stream.0.0.frame
   | Err fault ↦ None
 ]
 
--- the file of a picture, where there is one
-abbrev pub file_in : Option ImageInfo → List ℕ → List ℕ
-file_in (Some info) pixels = file_of info pixels
-file_in None pixels = []
-
 -- the file of a stream's picture
 abbrev pub file_at : ℕ → ℕ → List ℕ → Option (List ℕ)
-file_at width height bytes = option_map (λ p. file_in p.0 p.1) (picture_at width height bytes)
+file_at width height bytes =
+    option_map (λ p. file_of p.info p.precision p.pixels) (picture_at width height bytes)

@@ -1,7 +1,6 @@
-use Rattle.std.proofs.Common.{◌∙◌, ap, sym, refl, Some, Option}
+use Rattle.std.proofs.Common.{◌∙◌, refl, sym}
 use Rattle.jpeg_decoder.proofs.Callers.{bytes_are_known, known_bytes_are_told}
 use Rattle.jpeg_streams.specs.Stream.{told_of}
-use Rattle.jpeg_streams.specs.declared.images.ImageInfo.{ImageInfo}
 use Rattle.thumbnail.proofs.Pictures.{picture-some}
 use Rattle.thumbnail.proofs.read_picture.Goals as goal
 
@@ -16,5 +15,6 @@ returns g c bytes tells =
     let picture = (rw (stage, settings) at c.in_ok-pixels.ensures.reads) tt in
     let second = picture.1 first.0 in
     picture-some c.args.size.width c.args.size.height bytes c.scale.new.self.source.bytes c.decode.new.self.source.bytes
-    c.scale.new.self.found (told_of c.decode.new.self.found) c.in_ok-pixels.pixels.items (rw same at first.1) second.1
-    ∙ ap (λ (i : Option ImageInfo). Some (i, c.in_ok-pixels.pixels.items)) (sym c.info.ensures)
+    c.scale.new.self.found (told_of c.decode.new.self.found) c.in_ok-pixels.pixels.items c.unwrap-info.result
+    c.unwrap-precision.result (rw same at first.1) second.1 (sym c.info.ensures ∙ c.unwrap-info.ensures)
+    (sym c.precision.ensures ∙ c.unwrap-precision.ensures)

@@ -1,5 +1,0 @@
-use Rattle.std.proofs.Common.{rules, append_assoc}
-use Rattle.thumbnail.proofs.netpbm.plain_header.Goals as goal
-
-pub returns : goal.returns
-returns c = let made = c.format.ensures.ok in search (rules, append_assoc)
