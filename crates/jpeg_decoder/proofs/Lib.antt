@@ -34,3 +34,4 @@ mod DecodedSamples
 pub mod ImageSizes
 pub mod PictureSizes
 pub mod OnLiterals
+mod LosslessOnLiterals

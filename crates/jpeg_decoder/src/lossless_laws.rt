@@ -6,7 +6,10 @@ ghost use Rattle.jpeg_streams.specs.declared.settings.Settings.{Settings};
 ghost use Rattle.jpeg_streams.specs.Stream.{meaning, sized_meaning, told_of};
 ghost use Rattle.jpeg_streams.specs.Found.{Found};
 ghost use Rattle.jpeg_streams.specs.PlainSamples.{HasEqualFactors, plain_picture};
-ghost use Rattle.jpeg_streams.specs.WorkedSamples.{AreWritten, three_bytes, three_samples};
+ghost use Rattle.jpeg_streams.specs.Worked.{picture_meant};
+ghost use Rattle.jpeg_streams.specs.WorkedSamples.{AreWritten, padded_bytes, padded_picture};
+ghost use Rattle.jpeg_streams.specs.WorkedSamples.{padded_samples, three_bytes, three_picture};
+ghost use Rattle.jpeg_streams.specs.WorkedSamples.{three_samples};
 ghost use Rattle.jpeg_streams.specs.WrittenLossless.{IsWithin, Samples, WritesSamples};
 ghost use Rattle.jpeg_streams.specs.WrittenLossless.{picture_of_samples};
 
@@ -37,8 +40,16 @@ pub fn equal_factors_mean_nothing()
         picture_of_samples frame samples ≡ plain_picture frame samples }
 {}
 
-/// The relation holds of a stream that is worked by hand: three components in two scans, one of
-/// them interleaved, with restarts and a fill byte.
+/// The relation holds of two streams that are worked by hand, each of three components in two scans
+/// with restarts, one of them interleaved: one with factors of 1 and a fill byte, and one where the
+/// first component has factors of 2, and a column and a line of padding.
 pub fn worked_samples_are_written()
-    ensures { AreWritten three_samples three_bytes }
+    ensures plain { AreWritten three_samples three_bytes }
+    ensures padded { AreWritten padded_samples padded_bytes }
+{}
+
+/// What the two mean, computed from their bytes as it is checked.
+pub fn known_samples()
+    ensures plain { picture_meant three_bytes ≡ Ok three_picture }
+    ensures padded { picture_meant padded_bytes ≡ Ok padded_picture }
 {}
