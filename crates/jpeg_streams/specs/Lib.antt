@@ -27,6 +27,7 @@ pub mod DecodedImages
 pub mod PrintedImages
 pub mod WrittenLossless
 pub mod PlainSamples
+pub mod FrameSamples
 pub mod DecodedSamples
 -- streams worked by hand
 pub mod Worked
