@@ -30,6 +30,7 @@ mod WrittenSamples
 mod WrittenLosslessStreams
 mod LosslessPixels
 mod PlainPixels
+mod SamplesMeant
 mod DecodedSamples
 pub mod ImageSizes
 pub mod PictureSizes
