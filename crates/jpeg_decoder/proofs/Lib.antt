@@ -30,9 +30,11 @@ mod WrittenSamples
 mod WrittenLosslessStreams
 mod LosslessPixels
 mod PlainPixels
+mod SamplesMeant
 mod DecodedSamples
 pub mod ImageSizes
 pub mod PictureSizes
 pub mod LosslessPictureSizes
 pub mod OnLiterals
 pub mod MemorySums
+mod LosslessOnLiterals

@@ -20,6 +20,7 @@ use Rattle.jpeg_streams.specs.WrittenLossless.{picture_of_samples, pixel_from, s
 use Rattle.jpeg_streams.specs.SaidSegments.{found_after}
 use Rattle.jpeg_streams.proofs.LosslessFrames.{IsShaped}
 use Rattle.jpeg_streams.proofs.LosslessSizes.{IsMade, made-reaches, some-across, some-down}
+use Rattle.jpeg_streams.proofs.PaddingUnseen.{drop-next, mapped-same}
 use Rattle.jpeg_decoder.proofs.WrittenLosslessStreams.{IsSaid, all-in, drawn, final-framed, nothing-said, samples-meant}
 use Rattle.jpeg_decoder.proofs.WrittenLosslessStreams.{samples-sized, segment-said, some-same}
 use Rattle.jpeg_decoder.proofs.WrittenSamples.{HasSize, SizedAt, places_of, planes_for, scan-sized}
@@ -50,7 +51,7 @@ sent-sized samples frame said sent bytes final (scan said' final' sent' f fill h
     (scan-sized said f h' samples data_bytes (is.shaped f framed) data_of)) h)
 
 -- the frame at the end is one that was said
-final-shaped : (samples : Samples) (frame : Frame) (said : Found) (sent bytes : List ℕ) (final : Found)
+pub final-shaped : (samples : Samples) (frame : Frame) (said : Found) (sent bytes : List ℕ) (final : Found)
     → Writes samples said sent bytes final → IsSaid said → final.frame ≡ Some frame → IsShaped frame
 final-shaped samples frame said sent bytes final (closed said' sent' f fill framed lossless all) is e = is.shaped frame e
 final-shaped samples frame said sent bytes final (segment said' final' sent' fill s more may w) is e =
@@ -65,12 +66,6 @@ AreAll : Frame → Samples → ℕ → List Component → Type 0
 AreAll frame samples place [] = Unit {0}
 AreAll frame samples place (c ∷ more) =
     (HasSize (samples place) c × IsMade frame c) × AreAll frame samples (place + 1) more
-
-drop-next : {A : Type 0} (n : ℕ) (xs : List A) (x : A) (more : List A) → drop n xs ≡ x ∷ more → drop (suc n) xs ≡ more
-drop-next zero [] x more e = absurd (let n : ⊥ = cc in n)
-drop-next (suc n) [] x more e = absurd (let n : ⊥ = cc in n)
-drop-next zero (y ∷ xs) x more e = cc
-drop-next (suc n) (y ∷ xs) x more e = drop-next n xs x more e
 
 from-places : (frame : Frame) (samples : Samples) (all : List Component) (place : ℕ) (cs : List Component)
     → drop place all ≡ cs → AllByRecursion (IsMade frame) cs
@@ -129,12 +124,6 @@ pixel-same frame samples x y hx hy place (c ∷ cs) all =
     (at-flat c.width (x * c.factors.horizontal / most_across frame) (samples place)
     (y * c.factors.vertical / most_down frame) size.even (omega (arith, row, count)) column))
     (pixel-same frame samples x y hx hy (place + 1) cs all.1)
-
-mapped-same : {A : Type 0} (f g : ℕ → A) (from n most : ℕ) → from + n ≤ most → ((x : ℕ) → x < most → f x ≡ g x)
-    → map f (range_with_len from n) ≡ map g (range_with_len from n)
-mapped-same f g from zero most le same = refl
-mapped-same f g from (suc n) most le same =
-    ap₂ (λ a l. a ∷ l) (same from (omega arith)) (mapped-same f g (from + 1) n most (omega arith) same)
 
 samples-shown : (frame : Frame) (samples : Samples) → AreAll frame samples 0 frame.components
     → drawn frame samples ≡ picture_of_samples frame samples

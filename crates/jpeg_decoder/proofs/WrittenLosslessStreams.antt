@@ -2,10 +2,10 @@
 use Rattle.std.proofs.Common.{◌≡◌, ℕ, zero, suc, ◌+◌, ◌*◌, ◌<◌, ◌≤◌, true, false, List, [], ◌∷◌, ◌++◌, length}
 use Rattle.std.proofs.Common.{replicate, set, get_or, Option, Some, None, Result, Ok, Err, refl, sym, ap, ◌∙◌}
 use Rattle.std.proofs.Common.{subst, arith, append_assoc, length-append, length-set, ltb, inl, inr}
-use Rattle.std.proofs.lemmas.Bool.{le-ltb}
+use Rattle.std.proofs.lemmas.Bool.{le-ltb, lt-ltb}
 use Rattle.std.specs.Prelude.{is_some, option_map, slice_index_or, slice_set}
 use Rattle.std.specs.List.{AllByRecursion, concat, range_with_len}
-use Rattle.jpeg_bits.specs.Reading.{Fault, Malformed, ◌>>=◌, skip_at}
+use Rattle.jpeg_bits.specs.Reading.{Fault, Malformed, Outcome, ◌>>=◌, skip_at}
 use Rattle.jpeg_bits.specs.Marker.{marker_of}
 use Rattle.jpeg_bits.specs.declared.marker.Marker.{Marker}
 use Rattle.jpeg_bits.specs.declared.marker.Marker.TheVariants.{EOI, SOS}
@@ -38,7 +38,7 @@ use Rattle.jpeg_streams.specs.Segments.{frame_segment, onward, Turn, application
 use Rattle.jpeg_streams.specs.Segments.{huffman_segment, quantization_segment, skipped_segment}
 use Rattle.jpeg_streams.specs.Found.{nothing_found, Found}
 use Rattle.jpeg_streams.specs.Stream.{end_segment, start_at, segment_at, turn_at, segments_within, segments_at}
-use Rattle.jpeg_streams.specs.Stream.{header_at, rest_at, meaning, sized_meaning, sized_to, told_of}
+use Rattle.jpeg_streams.specs.Stream.{header_at, rest_at, meaning, sized_meaning, sized_to, Told, told_of}
 use Rattle.jpeg_streams.specs.ScanSegments.{scan_before, after_restarts, scan_segment}
 use Rattle.jpeg_streams.specs.FoundPictures.{picture_of, picture_by_process, samples_picture}
 use Rattle.jpeg_streams.specs.WrittenLossless.{Samples, StandsInLossless, Writes, WritesSamples, WritesScan, closed}
@@ -503,6 +503,33 @@ picture-there settings found samples frame framed lossless within held =
     ∙ ap (λ (p : CodingProcess). picture_by_process p settings found frame) lossless
     ∙ samples-drawn found samples frame held)
 
+-- what a caller is given of a picture
+abbrev given : Found → List ℕ → List ℕ → Outcome (Told × List ℕ)
+given found picture rest = Ok ((told_of found, picture), rest)
+
+picture-refused : (settings : Settings) (found : Found) (frame : Frame) → found.frame ≡ Some frame
+    → settings.limit < length frame.components * (frame.output_width * frame.output_height)
+    → picture_of settings found ≡ Err Malformed
+unfolding picture_of
+picture-refused settings found frame framed over =
+    then-ok (needed found.frame) _ frame _ (ap needed framed)
+    (kept (ltb settings.limit (length frame.components * (frame.output_width * frame.output_height))) _ _
+    (lt-ltb settings.limit (length frame.components * (frame.output_width * frame.output_height)) over))
+
+rest-refused : (samples : Samples) (settings : Settings) (bytes rest : List ℕ) (said final : Found) (frame : Frame)
+    → Writes samples said [] bytes final → IsSaid said → final.frame ≡ Some frame
+    → settings.limit < length frame.components * (frame.output_width * frame.output_height)
+    → rest_at settings (and_samples said (replicate 4 None)) (bytes ++ rest) ≡ Err Malformed
+unfolding rest_at segments_at
+rest-refused samples settings bytes rest said final frame w is framed over =
+    let long = length-append bytes rest in
+    let e = stream-read samples rest (suc (length (bytes ++ rest))) said [] bytes final w (omega (arith, long))
+    Elsewhere (replicate 4 None) None (bytes ++ rest) is refl tt (stands-here (bytes ++ rest)) in
+    then-ok (segments_within (suc (length (bytes ++ rest))) false Elsewhere (and_samples said (replicate 4 None)) None
+    (bytes ++ rest)) _ (and_samples final e.last, rest) _ e.is
+    (ap (λ (o : Result (List ℕ) Fault). o >>= λ (p : List ℕ). given (and_samples final e.last) p rest)
+    (picture-refused settings (and_samples final e.last) frame framed over))
+
 rest-read : (samples : Samples) (settings : Settings) (bytes rest : List ℕ) (said final : Found) (frame : Frame)
     → Writes samples said [] bytes final → IsSaid said
     → final.frame ≡ Some frame → length frame.components * (frame.output_width * frame.output_height) ≤ settings.limit
@@ -530,6 +557,16 @@ unfolding meaning start_at nothing_found
 samples-meant settings samples bytes rest final frame w framed within =
     ap (λ (l : List ℕ). meaning settings (l ++ rest)) w.starts
     ∙ rest-read samples settings w.after rest nothing_found final frame w.written nothing-said framed within
+
+-- One that is beyond the limit is refused.
+pub samples-refused : (settings : Settings) (samples : Samples) (bytes rest : List ℕ) (final : Found) (frame : Frame)
+    → WritesSamples samples bytes final → final.frame ≡ Some frame
+    → settings.limit < length frame.components * (frame.output_width * frame.output_height)
+    → meaning settings (bytes ++ rest) ≡ Err Malformed
+unfolding meaning start_at nothing_found
+samples-refused settings samples bytes rest final frame w framed over =
+    ap (λ (l : List ℕ). meaning settings (l ++ rest)) w.starts
+    ∙ rest-refused samples settings w.after rest nothing_found final frame w.written nothing-said framed over
 
 -- ---- the frame
 

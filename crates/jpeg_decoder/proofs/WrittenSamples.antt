@@ -41,6 +41,7 @@ use Rattle.jpeg_streams.specs.Found.{Found}
 use Rattle.jpeg_streams.specs.WrittenLossless.{AreCodings, HoldSamples, IsCoding, IsInterval, own_lines, Samples}
 use Rattle.jpeg_streams.specs.WrittenLossless.{WritesScan, no_interval, said_after_scan, whole_rows, whole_scan}
 use Rattle.jpeg_streams.proofs.AcceptedTurns.{then-ok}
+use Rattle.jpeg_streams.proofs.EncodedSamples.{rows-count}
 use Rattle.jpeg_streams.proofs.LosslessFrames.{IsShaped}
 use Rattle.jpeg_streams.proofs.LosslessSizes.{IsMade, across-some, all-at, down-some, made-covered}
 use Rattle.jpeg_streams.proofs.SaidTables.{HasTables, table-there}
@@ -101,12 +102,6 @@ lines-count p n size from (row ∷ rows) =
     ∙ ap₂ (λ (a b : ℕ). a + b) (strands-count p.down n size from p.across row) (lines-count p n size from rows)
     ∙ sym (product-next (length rows) p.down)
 
-differences-count : (selection : Predictor) (start : ℕ) (above : List ℕ) (lines : List (List ℕ))
-    → length (differences_of selection start above lines) ≡ length lines
-unfolding differences_of
-differences-count selection start above [] = refl
-differences-count selection start above (l ∷ lines) = ap suc (differences-count selection start l lines)
-
 -- each component has the lines of this many rows of MCUs
 abbrev pub AreCounted : ℕ → List Part → List (List (List ℕ)) → Type 0
 AreCounted n [] [] = Unit {0}
@@ -120,7 +115,7 @@ placed-counted w n from [] [] rows e h = tt
 placed-counted w n from [] (l ∷ lines) rows e h = absurd h
 placed-counted w n from (p ∷ parts) [] rows e h = absurd h
 placed-counted w n from (p ∷ parts) (l ∷ lines) rows e h = (
-  sym (differences-count w.selection w.start [] l) ∙ ap (λ (x : List (List ℕ)). length x) (sym h.0)
+  sym (rows-count w.selection w.start [] l) ∙ ap (λ (x : List (List ℕ)). length x) (sym h.0)
       ∙ lines-count p w.wide (mcu_size w) from rows ∙ ap (λ (x : ℕ). x * p.down) e,
   placed-counted w n (from + p.down * p.across) parts lines rows e h.1,
 )

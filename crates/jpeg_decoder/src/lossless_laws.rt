@@ -1,14 +1,31 @@
 //! Theorems on lossless streams, each on a function without a body. docs/HEADLINE.md says them in
 //! plain words.
-ghost use Rattle.std.specs.Prelude.{◌≡◌, ℕ, ◌++◌, List, Ok};
-ghost use Rattle.jpeg_segments.specs.Frame.{Frame};
+ghost use Rattle.std.specs.Prelude.{◌≡◌, ℕ, ◌*◌, ◌/◌, ◌<◌, List, [], ◌∷◌, ◌++◌, drop, Some, Ok};
+ghost use Rattle.std.specs.List.{AllByRecursion};
+ghost use Rattle.jpeg_bits.specs.declared.scan.Predictor.{Predictor};
+ghost use Rattle.jpeg_segments.specs.Frame.{Component, Frame};
+ghost use Rattle.jpeg_segments.specs.WrittenSegments.{FrameHeader, IsFrame, frame_written};
+ghost use Rattle.jpeg_lossless.specs.Differences.{Part};
+ghost use Rattle.jpeg_lossless.specs.Pictures.{most_across, most_down};
+ghost use Rattle.jpeg_lossless.specs.Prediction.{predicted_lines};
+ghost use Rattle.jpeg_lossless.specs.Scans.{Way, lines_by_component, planes_of};
 ghost use Rattle.jpeg_streams.specs.declared.settings.Settings.{Settings};
+ghost use Rattle.jpeg_streams.specs.InTurn.{IsIn};
+ghost use Rattle.jpeg_streams.specs.LosslessScans.{LosslessCoding, mcus_down, way_of};
+ghost use Rattle.jpeg_streams.specs.Needed.{first_of};
+ghost use Rattle.jpeg_streams.specs.Segments.{accepted};
 ghost use Rattle.jpeg_streams.specs.Stream.{meaning, sized_meaning, told_of};
 ghost use Rattle.jpeg_streams.specs.Found.{Found};
-ghost use Rattle.jpeg_streams.specs.PlainSamples.{HasEqualFactors, plain_picture};
-ghost use Rattle.jpeg_streams.specs.WorkedSamples.{AreWritten, three_bytes, three_samples};
-ghost use Rattle.jpeg_streams.specs.WrittenLossless.{IsWithin, Samples, WritesSamples};
-ghost use Rattle.jpeg_streams.specs.WrittenLossless.{picture_of_samples};
+ghost use Rattle.jpeg_streams.specs.FrameSamples.{AgreeInside, AreSamplesOf, AreWrittenIn};
+ghost use Rattle.jpeg_streams.specs.FrameSamples.{DifferInPadding, ShowAlike};
+ghost use Rattle.jpeg_streams.specs.PlainSamples.{HasEqualFactors, plain_picture, plain_way};
+ghost use Rattle.jpeg_streams.specs.Worked.{picture_meant};
+ghost use Rattle.jpeg_streams.specs.WorkedSamples.{AreWritten, padded_bytes, padded_picture};
+ghost use Rattle.jpeg_streams.specs.WorkedSamples.{padded_samples, three_bytes, three_picture};
+ghost use Rattle.jpeg_streams.specs.WorkedSamples.{three_samples};
+ghost use Rattle.jpeg_streams.specs.WrittenLossless.{HasSamples, IsWithin, own_lines, Samples};
+ghost use Rattle.jpeg_streams.specs.WrittenLossless.{WritesSamples, picture_of_samples};
+ghost use Rattle.jpeg_streams.specs.WrittenParts.{picture_meant_by};
 
 /// A lossless stream that is written for samples means the picture of those samples, with any
 /// segments and fill bytes, sampling factors, scans of any components in any order, selections,
@@ -30,15 +47,92 @@ pub fn lossless_streams_keep_their_size()
         ≡ Ok ((told_of final, picture_of_samples frame samples), rest) }
 {}
 
-/// Where all components have the same factors, as where all are 1 or there is one component, the
-/// picture of samples has those samples, pixel by pixel.
-pub fn equal_factors_mean_nothing()
-    ensures { (frame : Frame) (samples : Samples) → HasEqualFactors frame →
-        picture_of_samples frame samples ≡ plain_picture frame samples }
+/// Lossless streams that are written for the same samples mean the same picture, whatever their
+/// padding, scripts, selections, Huffman tables, restart intervals and other segments, where their
+/// headers give the same precision, size and sampling factors.
+pub fn lossless_pictures_are_of_samples()
+    ensures { (settings : Settings) (samples : Samples) (first second rest others : List ℕ)
+        (a b : Found) →
+        WritesSamples samples first a → WritesSamples samples second b → ShowAlike a b →
+        picture_meant_by settings (first ++ rest) ≡ picture_meant_by settings (second ++ others) }
 {}
 
-/// The relation holds of a stream that is worked by hand: three components in two scans, one of
-/// them interleaved, with restarts and a fill byte.
+/// No sample outside a component's size reaches one inside, nor a picture.
+pub fn lossless_padding_is_not_seen()
+    // Samples inside are predicted from differences inside alone.
+    ensures predicted { (p : Part) (selection : Predictor) (start : ℕ)
+        (differences : List (List ℕ)) →
+        own_lines p (predicted_lines selection start differences)
+        ≡ predicted_lines selection start (own_lines p differences) }
+
+    // So an interval whose differences are others in padding alone has the same planes.
+    ensures scanned { (w : Way) (point : ℕ) (a b : List (List ℕ)) →
+        DifferInPadding w 0 w.parts a b →
+        planes_of point w.parts (lines_by_component w 0 w.parts a)
+        ≡ planes_of point w.parts (lines_by_component w 0 w.parts b) }
+
+    // A pixel takes a sample inside.
+    ensures taken { (h : FrameHeader) (place x y : ℕ) (c : Component) →
+        IsFrame 3 h → first_of (drop place (frame_written 3 h).components) ≡ Some c →
+        x < h.width → y < h.height →
+        (x * c.factors.horizontal / most_across (frame_written 3 h) < c.width)
+        × (y * c.factors.vertical / most_down (frame_written 3 h) < c.height) }
+
+    // So samples that agree inside have the same picture.
+    ensures pictured { (h : FrameHeader) (a b : Samples) →
+        IsFrame 3 h → AgreeInside (frame_written 3 h) a b →
+        picture_of_samples (frame_written 3 h) a ≡ picture_of_samples (frame_written 3 h) b }
+{}
+
+/// Where all components have the same factors, the picture has their samples pixel by pixel, and a
+/// component alone in a scan has a sample of each pixel. Where all factors are 1, an MCU of several
+/// components is a pixel.
+pub fn equal_factors_mean_nothing()
+    ensures pictured { (frame : Frame) (samples : Samples) → HasEqualFactors frame →
+        picture_of_samples frame samples ≡ plain_picture frame samples }
+    ensures alone { (h : FrameHeader) (selection : Predictor) (point : ℕ) (k : LosslessCoding) →
+        IsFrame 3 h → HasEqualFactors (frame_written 3 h) →
+        IsIn k.component (frame_written 3 h).components →
+        (way_of (frame_written 3 h) selection point (k ∷ [])
+        ≡ plain_way (frame_written 3 h) selection point (k ∷ []))
+        × (mcus_down (frame_written 3 h) (k ∷ []) ≡ (frame_written 3 h).height) }
+    ensures together { (h : FrameHeader) (selection : Predictor) (point : ℕ)
+        (codings : List LosslessCoding) →
+        IsFrame 3 h → HasEqualFactors (frame_written 3 h) →
+        most_across (frame_written 3 h) ≡ 1 → most_down (frame_written 3 h) ≡ 1 →
+        AllByRecursion (λ k. IsIn k.component (frame_written 3 h).components) codings →
+        (way_of (frame_written 3 h) selection point codings
+        ≡ plain_way (frame_written 3 h) selection point codings)
+        × (mcus_down (frame_written 3 h) codings ≡ (frame_written 3 h).height) }
+{}
+
+/// A lossless frame is accepted where samples may be written in it, and nowhere else.
+pub fn lossless_frames_are_accepted()
+    ensures written { (h : FrameHeader) → IsFrame 3 h → HasSamples 3 h →
+        accepted (frame_written 3 h) ≡ Ok (frame_written 3 h) }
+    ensures read { (h : FrameHeader) →
+        accepted (frame_written 3 h) ≡ Ok (frame_written 3 h) → HasSamples 3 h }
+{}
+
+/// There is a stream for every picture of samples: in each lossless frame that is accepted, of 2 to
+/// 16 bits and of any factors, samples of the components' sizes and of that precision have one.
+pub fn every_picture_of_samples_has_a_stream()
+    ensures { (h : FrameHeader) (samples : Samples) →
+        IsFrame 3 h → accepted (frame_written 3 h) ≡ Ok (frame_written 3 h) →
+        AreSamplesOf (frame_written 3 h) samples →
+        (bytes : List ℕ) × AreWrittenIn h samples bytes }
+{}
+
+/// The relation holds of two streams that are worked by hand, each of three components in two scans
+/// with restarts, one of them interleaved: one with factors of 1 and a fill byte, and one where the
+/// first component has factors of 2, and a column and a line of padding.
 pub fn worked_samples_are_written()
-    ensures { AreWritten three_samples three_bytes }
+    ensures plain { AreWritten three_samples three_bytes }
+    ensures padded { AreWritten padded_samples padded_bytes }
+{}
+
+/// What the two mean, computed from their bytes as it is checked.
+pub fn known_samples()
+    ensures plain { picture_meant three_bytes ≡ Ok three_picture }
+    ensures padded { picture_meant padded_bytes ≡ Ok padded_picture }
 {}

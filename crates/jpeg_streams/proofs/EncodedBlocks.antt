@@ -55,7 +55,7 @@ flat-coded class symbol h = record {
 -- ---- categories
 
 -- a value below 2 ^ b has a category of at most b
-category-at_most : (d : ℤ) (b : ℕ) → unsigned_abs d < 2 ^ b → (s : ℕ) × (s ≤ b) × IsCategory d s
+pub category-at_most : (d : ℤ) (b : ℕ) → unsigned_abs d < 2 ^ b → (s : ℕ) × (s ≤ b) × IsCategory d s
 category-at_most d zero h = (0, omega arith, record { holds = h; is_least = λ t k. omega arith })
 category-at_most d (suc b) h = go (category-at_most d b) (cases_lt (unsigned_abs d) (2 ^ b))
   where
@@ -329,7 +329,7 @@ unfolding bits_of_bytes
 last-byte bits filling byte h e =
     record { bytes = byte ∷ []; filling = filling; is_short = h; whole = append-nil (bits_of byte) ∙ e }
 
-packed : (bits : List Bool) → IsPacked bits
+pub packed : (bits : List Bool) → IsPacked bits
 unfolding bits_of_bytes
 packed [] = record { bytes = []; filling = []; is_short = omega arith; whole = refl }
 packed (a ∷ []) = let b = byte-for a false false false false false false false in

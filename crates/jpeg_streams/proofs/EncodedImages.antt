@@ -72,7 +72,7 @@ said_2 number h = found_after said_1 (Header number h)
 abbrev said : ℕ → FrameHeader → Found
 said number h = found_after (said_2 number h) (Huffman flat_tables)
 
-abbrev component_in : FrameHeader → Factors → Component
+abbrev pub component_in : FrameHeader → Factors → Component
 component_in h c = component_of h.width h.height (greatest (λ f. f.horizontal) h.components)
     (greatest (λ f. f.vertical) h.components) c
 
@@ -236,7 +236,7 @@ before-it h (x ∷ front) more c e =
     let here = or-false (x.identifier == c.identifier) (is_taken front c.identifier) e in
     rw (here.0) (ap (λ (n : ℕ). 1 + n) (before-it h front more c here.1) ∙ omega arith)
 
-place-is : (h : FrameHeader) (front more : List Factors) (c : Factors) → is_taken front c.identifier ≡ false
+pub place-is : (h : FrameHeader) (front more : List Factors) (c : Factors) → is_taken front c.identifier ≡ false
     → place_of (map (component_in h) (front ++ c ∷ more)) c.identifier ≡ Some (length front)
 place-is h front more c e =
     let cs = map (component_in h) (front ++ c ∷ more) in
@@ -246,7 +246,7 @@ place-is h front more c e =
     let less : nat_lt (prefix_len (is_not c.identifier) cs) (length cs) ≡ true = lt-ltb _ _ (omega arith) in
     ap (λ (b : Bool). cond b (Some (prefix_len (is_not c.identifier) cs)) None) less ∙ ap (λ (n : ℕ). Some n) at
 
-first-is : (h : FrameHeader) (front more : List Factors) (c : Factors)
+pub first-is : (h : FrameHeader) (front more : List Factors) (c : Factors)
     → first_of (drop (length front) (map (component_in h) (front ++ c ∷ more))) ≡ Some (component_in h c)
 first-is h [] more c = refl
 first-is h (x ∷ front) more c = first-is h front more c
@@ -440,7 +440,7 @@ have-tables number h front (c ∷ cs) le a = (
   have-tables number h (front ++ c ∷ []) cs le a.1,
 )
 
-in-range : (P : ℕ → Type 0) (a n : ℕ) → ((j : ℕ) → a ≤ j → j < a + n → P j) → AllByRecursion P (range_with_len a n)
+pub in-range : (P : ℕ → Type 0) (a n : ℕ) → ((j : ℕ) → a ≤ j → j < a + n → P j) → AllByRecursion P (range_with_len a n)
 in-range P a zero all = tt
 in-range P a (suc n) all =
     (all a (omega arith) (omega arith), in-range P (a + 1) n (λ j le lt. all j (omega arith) (omega arith)))

@@ -68,3 +68,8 @@ pub mod SaidTables
 pub mod LosslessSizes
 pub mod LosslessFrames
 pub mod WorkedSamples
+pub mod AcceptedSamples
+pub mod EncodedSamples
+pub mod PaddingUnseen
+pub mod SamplesAlike
+pub mod PlainScans

@@ -47,14 +47,16 @@ lossless-accepted number h is p = go number p.lossless is p
     go (suc (suc (suc zero))) e = accepted-three h
     go (suc (suc (suc (suc n)))) e = absurd (omega arith)
 
--- A frame with lines and columns, whose components have their sizes.
+-- A frame with lines and columns, whose components have their sizes, and whose picture is as large.
 pub record IsShaped (frame : Frame) : Type 0 where
+  pub across : frame.output_width ≡ frame.width
+  pub down : frame.output_height ≡ frame.height
   pub wide : 0 < frame.width
   pub high : 0 < frame.height
   pub few : length frame.components ≤ 4
   pub made : AllByRecursion (IsMade frame) frame.components
 
-all-ranged : (number : ℕ) (front cs : List Factors) → AreComponents number front cs → AllByRecursion IsInRange cs
+pub all-ranged : (number : ℕ) (front cs : List Factors) → AreComponents number front cs → AllByRecursion IsInRange cs
 unfolding AreComponents
 all-ranged number front [] h = tt
 all-ranged number front (c ∷ cs) h = (h.0.ranged, all-ranged number (front ++ c ∷ []) cs h.1)
@@ -63,6 +65,8 @@ pub header-shaped : (number : ℕ) (h : FrameHeader) → IsFrame number h
     → accepted (frame_written number h) ≡ Ok (frame_written number h) → IsShaped (frame_written number h)
 unfolding frame_of
 header-shaped number h is ok = record {
+  across = refl;
+  down = refl;
   wide = is.wide;
   high = is.high;
   few = accepted-few (frame_written number h) (frame_written number h) ok;

@@ -50,7 +50,7 @@ any-test h1 h2 v1 v2 e (inr a) =
     or-right (h1 && v1) _ (or-right (h2 && v1) _ (or-right (h1 && v2) _ (or-right (h2 && v2) _ a)))
 
 -- the greatest factors, and the size of the picture
-abbrev Upsampled : ℕ → ℕ → ℕ → ℕ → Factors → Type 0
+abbrev pub Upsampled : ℕ → ℕ → ℕ → ℕ → Factors → Type 0
 Upsampled most_h most_v width height c =
     (IsNear c.horizontal most_h width × IsNear c.vertical most_v height)
     ⊎ ((most_h % c.horizontal ≡ 0) × (most_v % c.vertical ≡ 0))

@@ -31,7 +31,7 @@ pick a b c d e last =
     if a then Some H1V1 else
     (if b then Some H2V1 else (if c then Some H1V2 else (if d then Some H2V2 else (if e then Some last else None))))
 
-pick-test : (a b c d e : Bool) (l r : UpsampleRule) → pick a b c d e l ≡ Some r → (a || (b || (c || (d || e)))) ≡ true
+pub pick-test : (a b c d e : Bool) (l r : UpsampleRule) → pick a b c d e l ≡ Some r → (a || (b || (c || (d || e)))) ≡ true
 pick-test true b c d e l r h = refl
 pick-test false true c d e l r h = refl
 pick-test false false true d e l r h = refl

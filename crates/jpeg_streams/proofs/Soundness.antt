@@ -44,7 +44,7 @@ has-sources : (o : Result (List Source) Fault) (f g : Frame) → (o >>= (λ sour
 has-sources (Ok sources) f g h = (sources, refl)
 has-sources (Err e) f g h = absurd (cc)
 
-accepted-facts : (f g : Frame) → accepted f ≡ Ok g
+pub accepted-facts : (f g : Frame) → accepted f ≡ Ok g
     → (is_decoded_count (length f.components) ≡ true)
     × ((sources : List Source) × (sources_of f.components f.output_width f.output_height ≡ Ok sources))
 unfolding accepted
@@ -58,7 +58,7 @@ accepted-facts f g h =
     >>= (λ sources. Ok f)) (Lacks (features.ComponentCount (min 255 (length f.components)))) g c.1 in
     (d.0, has-sources (sources_of f.components f.output_width f.output_height) f g d.1)
 
-both-hold : (a b : Bool) → (a && b) ≡ true → (a ≡ true) × (b ≡ true)
+pub both-hold : (a b : Bool) → (a && b) ≡ true → (a ≡ true) × (b ≡ true)
 both-hold true true h = (refl, refl)
 both-hold true false h = absurd (cc)
 both-hold false b h = absurd (cc)
@@ -68,7 +68,7 @@ not-false true h = refl
 not-false false h = absurd (cc)
 
 -- a precision that the process can be decoded at
-accepted-precision : (f g : Frame) → accepted f ≡ Ok g → is_decoded_precision f.process f.precision ≡ true
+pub accepted-precision : (f g : Frame) → accepted f ≡ Ok g → is_decoded_precision f.process f.precision ≡ true
 unfolding accepted
 accepted-precision f g h =
     let a = unless-ok f.is_differential _ _ g h in

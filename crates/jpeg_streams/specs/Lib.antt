@@ -27,6 +27,7 @@ pub mod DecodedImages
 pub mod PrintedImages
 pub mod WrittenLossless
 pub mod PlainSamples
+pub mod FrameSamples
 pub mod DecodedSamples
 -- what laws on written streams say beside that
 pub mod WrittenParts

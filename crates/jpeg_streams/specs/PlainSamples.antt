@@ -1,9 +1,13 @@
--- The picture of samples where all components have the same sampling factors.
+-- Scans of samples, and their picture, where all components have the same sampling factors.
 use Rattle.std.specs.Prelude.{◌≡◌, ℕ, List, length, map}
 use Rattle.std.specs.List.{AllByRecursion, concat, range_with_len}
 use Rattle.jpeg_segments.specs.Frame.{Frame}
 use Rattle.jpeg_lossless.specs.Pictures.{most_across, most_down, sample_bytes}
 use Rattle.jpeg_lossless.specs.Places.{at_place}
+use Rattle.jpeg_lossless.specs.Prediction.{start_of}
+use Rattle.jpeg_lossless.specs.Scans.{Way}
+use Rattle.jpeg_bits.specs.declared.scan.Predictor.{Predictor}
+use Rattle.jpeg_streams.specs.LosslessScans.{LosslessCoding}
 use Rattle.jpeg_streams.specs.WrittenLossless.{Samples}
 
 -- The factors of each component are the greatest, as where there is one component, or all are 1.
@@ -27,3 +31,18 @@ plain_line frame samples y =
 unfoldable pub plain_picture : Frame → Samples → List ℕ
 plain_picture frame samples =
     concat (map (plain_line frame samples) (range_with_len 0 frame.height))
+
+-- A scan whose MCUs are the pixels, with one sample of each component.
+abbrev pub plain_way : Frame → Predictor → ℕ → List LosslessCoding → Way
+plain_way frame selection point codings = record {
+  wide = frame.width;
+  selection = selection;
+  start = start_of frame.precision point;
+  parts = map (λ k. record {
+    table = k.table;
+    across = 1;
+    down = 1;
+    width = frame.width;
+    height = frame.height;
+  }) codings;
+}

@@ -1,0 +1,21 @@
+-- What an answer unfolds, besides the definitions of all streams, to compute those of lossless ones on a literal.
+use Rattle.std.specs.Prelude.{⊤}
+use Rattle.jpeg_lossless.specs.Differences as differences
+use Rattle.jpeg_lossless.specs.Pictures as pictures
+use Rattle.jpeg_lossless.specs.Prediction as prediction
+use Rattle.jpeg_lossless.specs.Scans as scans
+use Rattle.jpeg_segments.specs.ScanHeaders.{scan_payload}
+use Rattle.jpeg_segments.specs.WrittenSegments.{frame_payload, huffman_bytes}
+use Rattle.jpeg_streams.specs.FoundPictures.{samples_picture}
+use Rattle.jpeg_streams.specs.LosslessScans.{lossless_coding, lossless_codings, mcus_across, mcus_down, parts_of}
+use Rattle.jpeg_streams.specs.LosslessScans.{samples_from, with_samples}
+use Rattle.jpeg_streams.specs.ScanSegments.{lossless_scan}
+
+unfoldable pub lossless_on_literals : ⊤
+unfolding differences.difference differences.differences differences.lines_in differences.mcu_tables
+    differences.row_tables differences.rows_from differences.strand differences.strands frame_payload huffman_bytes lossless_coding
+    lossless_codings lossless_scan mcus_across mcus_down parts_of pictures.layers_of pictures.lossless_picture
+    pictures.picture_bytes prediction.first_line prediction.line_below prediction.line_rest prediction.lines_below
+    prediction.residue samples_from samples_picture scans.all_above scans.interval scans.intervals
+    scan_payload scans.lines_by_component scans.planes_of scans.scan_at with_samples
+lossless_on_literals = tt

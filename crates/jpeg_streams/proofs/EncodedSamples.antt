@@ -1,0 +1,445 @@
+-- Every picture of samples has a stream: a scan for each component.
+use Rattle.std.proofs.Common.{◌≡◌, ◌≢◌, ◌⊎◌, inl, inr, ℕ, zero, suc, ◌+◌, ◌-◌, ◌*◌, ◌^◌, ◌<◌, ◌≤◌}
+use Rattle.std.proofs.Common.{Bool, true, false, List, [], ◌∷◌, ◌++◌, map, length, drop, take, replicate, ℤ, pos, negsuc}
+use Rattle.std.proofs.Common.{◌≤ℤ◌, unsigned_abs, Some, None}
+use Rattle.std.proofs.Common.{refl, sym, ap, ap₂, ◌∙◌, subst, append_assoc, length-append, arith}
+use Rattle.std.proofs.Math.Pow.{pow_mono}
+use Rattle.std.proofs.lemmas.Bool.{cases_lt, lt-ltb}
+use Rattle.std.proofs.lemmas.Int.{ints}
+use Rattle.std.proofs.lemmas.List.{append-nil, take_all}
+use Rattle.std.proofs.lemmas.List.FromFn.{get_or-range_with_len}
+use lib.ListN.{length-map}
+use Rattle.std.specs.List.{AllByRecursion, range_with_len}
+use Rattle.std.specs.Prelude.{slice_index_or}
+use Rattle.jpeg_bits.proofs.Tables.{tested-exist}
+use Rattle.jpeg_bits.specs.Codes.{code_lengths, code_value, codes_exist, HasCodes, lengths_from, Table}
+use Rattle.jpeg_bits.specs.Written.{code_bits, IsCoded, marker, stuffed}
+use Rattle.jpeg_bits.specs.declared.codes.HuffmanTableClass.TheVariants as classes
+use Rattle.jpeg_bits.specs.declared.scan.Predictor.{Predictor}
+use Rattle.jpeg_bits.specs.declared.scan.Predictor.TheVariants.{Ra}
+use Rattle.jpeg_segments.specs.declared.parser.CodingProcess.TheVariants.{Lossless}
+use Rattle.jpeg_segments.specs.Frame.{Component, component_of, Factors, Frame, frame_of, is_taken}
+use Rattle.jpeg_segments.specs.HuffmanTables.{PlacedTable}
+use Rattle.jpeg_segments.specs.ScanHeader.{place_of}
+use Rattle.jpeg_segments.specs.ScanHeaders.{AreChoices, IsScan, scan_payload, ScanHeader}
+use Rattle.jpeg_segments.specs.WrittenSegments.{AreComponents, frame_written, FrameHeader, Header, Huffman, IsFrame}
+use Rattle.jpeg_segments.specs.WrittenSegments.{IsHuffmanTable, payload_of, sized}
+use Rattle.jpeg_lossless.specs.Prediction.{residue, start_of}
+use Rattle.jpeg_lossless.specs.Differences.{Part, lines_in, mcu_tables, row_tables, strand, strands}
+use Rattle.jpeg_lossless.specs.Scans.{rows_of_interval, Way}
+use Rattle.jpeg_lossless.specs.Written.{AreLines, AreSamples, differences_below, differences_of, first_differences}
+use Rattle.jpeg_lossless.specs.Written.{difference_by, HaveDifferences, rest_differences, WritesDifference}
+use Rattle.jpeg_lossless.specs.Written.{WritesInterval, WritesIntervals, WritesRow, WritesRows}
+use Rattle.jpeg_lossless.specs.Written.WritesIntervals.{last}
+use Rattle.jpeg_lossless.specs.Written.WritesRow.{none, one}
+use Rattle.jpeg_lossless.specs.Written.WritesRows.{no_row, row}
+use Rattle.jpeg_lossless.proofs.Residues.{residue_nat, residue_neg, residue_small}
+use Rattle.jpeg_streams.specs.Found.{Found, nothing_found}
+use Rattle.jpeg_streams.specs.FrameSamples.{AreLinesOf, AreSamplesOf, AreWrittenIn, IsLineOf}
+use Rattle.jpeg_streams.specs.InTurn.{IsIn}
+use Rattle.jpeg_streams.specs.LosslessScans.{LosslessCoding, mcus_across, mcus_down, parts_of, way_of}
+use Rattle.jpeg_streams.specs.Needed.{first_of}
+use Rattle.jpeg_streams.specs.SaidSegments.{found_after}
+use Rattle.jpeg_streams.specs.Segments.{updated}
+use Rattle.jpeg_streams.specs.WrittenLossless.{AreCodings, HasSamples, HoldSamples, IsInterval, no_interval, own_lines}
+use Rattle.jpeg_streams.specs.WrittenLossless.{said_after_scan, Samples, Writes, WritesScan}
+use Rattle.jpeg_streams.specs.WrittenLossless.Writes.{closed, scan, segment}
+use Rattle.jpeg_streams.proofs.EncodedBlocks.{category-at_most, packed}
+use Rattle.jpeg_streams.proofs.EncodedImages.{component_in, first-is, in-range, place-is}
+
+-- ---- the table
+
+-- the categories 0 to 16, each with a code of 5 bits
+abbrev even_counts : List ℕ
+even_counts = replicate 4 0 ++ 17 ∷ replicate 11 0
+
+abbrev even_table : Table
+even_table = record { class = classes.DC; counts = even_counts; symbols = range_with_len 0 17 }
+
+lengths-are : length (code_lengths even_counts) ≡ 17
+unfolding lengths_from
+lengths-are = refl
+
+even-exist : HasCodes (code_lengths even_counts)
+unfolding codes_exist lengths_from code_value
+even-exist = tested-exist (code_lengths even_counts) refl
+
+even-coded : (s : ℕ) → s < 17 → IsCoded even_table s (code_bits even_table s)
+even-coded s h = record {
+  place = s;
+  listed = subst (λ (n : ℕ). s < n) (sym lengths-are) h;
+  is_for = let e : 0 + s ≡ s = omega arith in get_or-range_with_len 0 17 s 0 h ∙ e;
+  has_bits = refl;
+}
+
+even-written : (most : ℕ) → IsHuffmanTable most (record { place = 0; table = even_table })
+even-written most = record {
+  placed = omega arith;
+  counted = refl;
+  has_symbols = refl;
+  some = omega arith;
+  at_most = omega arith;
+  exists = even-exist;
+}
+
+-- ---- differences
+
+number-written : (d : ℤ) (r : ℕ) → residue d ≡ r → negsuc 32766 ≤ℤ d → d ≤ℤ pos 32768 → unsigned_abs d < 2 ^ 16
+    → (bits : List Bool) × WritesDifference even_table r bits
+number-written d r e low high h =
+    let c = category-at_most d 16 h in (
+      _,
+      record {
+        d = d;
+        s = c.0;
+        code = _;
+        is = e;
+        low = low;
+        high = high;
+        category = c.2;
+        coded = even-coded c.0 (omega arith);
+        has_bits = refl;
+      },
+    )
+
+difference-written : (r : ℕ) → r < 65536 → (bits : List Bool) × WritesDifference even_table r bits
+difference-written r h = go (cases_lt r 32769)
+  where
+    go : (r < 32769) ⊎ (32769 ≤ r) → (bits : List Bool) × WritesDifference even_table r bits
+    go (inl less) =
+        number-written (pos r) r (sym (residue_small r h)) (omega (arith, ints)) (omega (arith, ints))
+        (omega (arith, ints))
+    go (inr more) =
+        let e = residue_neg (65535 - r) in
+        number-written (negsuc (65535 - r)) r (omega (arith, e)) (omega (arith, ints)) (omega (arith, ints))
+        (omega (arith, ints))
+
+-- numbers modulo 2 ^ 16
+abbrev AreResidues : List ℕ → Type 0
+AreResidues rs = AllByRecursion (λ r. r < 65536) rs
+
+row-written : (rs : List ℕ) → AreResidues rs
+    → (bits : List Bool) × WritesRow (row_tables (length rs) (even_table ∷ [])) rs bits
+unfolding row_tables
+row-written [] h = ([], none)
+row-written (r ∷ rs) h =
+    let d = difference-written r h.0 in
+    let more = row-written rs h.1 in
+    (_, one even_table (row_tables (length rs) (even_table ∷ [])) r rs d.0 more.0 d.1 more.1)
+
+-- lines of n differences
+abbrev AreRows : ℕ → List (List ℕ) → Type 0
+AreRows n rows = AllByRecursion (λ rs. (length rs ≡ n) × AreResidues rs) rows
+
+rows-written : (n : ℕ) (rows : List (List ℕ)) → AreRows n rows
+    → (bits : List Bool) × WritesRows (row_tables n (even_table ∷ [])) rows bits
+rows-written n [] h = ([], no_row)
+rows-written n (rs ∷ rows) h =
+    let first = row-written rs h.0.1 in
+    let more = rows-written n rows h.1 in (
+      _,
+      row rs rows first.0 more.0 (subst (λ (k : ℕ). WritesRow (row_tables k (even_table ∷ [])) rs first.0) h.0.0 first.1)
+          more.1,
+    )
+
+-- ---- the differences of lines
+
+residue-low : (z : ℤ) → residue z < 65536
+residue-low (pos n) = let e = residue_nat n in omega (arith, e)
+residue-low (negsuc n) = let e = residue_neg n in omega (arith, e)
+
+first-count : (a : ℕ) (xs : List ℕ) → length (first_differences a xs) ≡ length xs
+unfolding first_differences
+first-count a [] = refl
+first-count a (x ∷ xs) = ap suc (first-count x xs)
+
+first-low : (a : ℕ) (xs : List ℕ) → AreResidues (first_differences a xs)
+unfolding first_differences
+first-low a [] = tt
+first-low a (x ∷ xs) = (residue-low _, first-low x xs)
+
+rest-count : (selection : Predictor) (a c : ℕ) (above xs : List ℕ) → length above ≡ length xs
+    → length (rest_differences selection a c above xs) ≡ length xs
+unfolding rest_differences
+rest-count selection a c [] [] h = refl
+rest-count selection a c [] (x ∷ xs) h = absurd (omega arith)
+rest-count selection a c (b ∷ above) [] h = refl
+rest-count selection a c (b ∷ above) (x ∷ xs) h = ap suc (rest-count selection x b above xs (omega arith))
+
+rest-low : (selection : Predictor) (a c : ℕ) (above xs : List ℕ) → AreResidues (rest_differences selection a c above xs)
+unfolding rest_differences
+rest-low selection a c [] xs = tt
+rest-low selection a c (b ∷ above) [] = tt
+rest-low selection a c (b ∷ above) (x ∷ xs) = (residue-low _, rest-low selection x b above xs)
+
+top-row : (selection : Predictor) (start : ℕ) (xs : List ℕ)
+    → (length (differences_below selection start [] xs) ≡ length xs) × AreResidues (differences_below selection start [] xs)
+unfolding differences_below
+top-row selection start xs = (first-count start xs, first-low start xs)
+
+below-row : (selection : Predictor) (start : ℕ) (above xs : List ℕ) → length above ≡ length xs
+    → (length (differences_below selection start above xs) ≡ length xs)
+    × AreResidues (differences_below selection start above xs)
+unfolding differences_below
+below-row selection start [] xs h = top-row selection start xs
+below-row selection start (b ∷ above) [] h = (refl, tt)
+below-row selection start (b ∷ above) (x ∷ xs) h =
+    (ap suc (rest-count selection x b above xs (omega arith)), (residue-low _, rest-low selection x b above xs))
+
+-- lines of n samples
+abbrev AreWide : ℕ → List (List ℕ) → Type 0
+AreWide n lines = AllByRecursion (λ l. length l ≡ n) lines
+
+below-rows : (selection : Predictor) (start n : ℕ) (above : List ℕ) (lines : List (List ℕ)) → length above ≡ n
+    → AreWide n lines → AreRows n (differences_of selection start above lines)
+unfolding differences_of
+below-rows selection start n above [] e h = tt
+below-rows selection start n above (line ∷ lines) e h =
+    let first = below-row selection start above line (e ∙ sym h.0) in
+    ((first.0 ∙ h.0, first.1), below-rows selection start n line lines h.0 h.1)
+
+all-rows : (selection : Predictor) (start n : ℕ) (lines : List (List ℕ)) → AreWide n lines
+    → AreRows n (differences_of selection start [] lines)
+unfolding differences_of
+all-rows selection start n [] h = tt
+all-rows selection start n (line ∷ lines) h =
+    let first = top-row selection start line in
+    ((first.0 ∙ h.0, first.1), below-rows selection start n line lines h.0 h.1)
+
+pub rows-count : (selection : Predictor) (start : ℕ) (above : List ℕ) (lines : List (List ℕ))
+    → length (differences_of selection start above lines) ≡ length lines
+unfolding differences_of
+rows-count selection start above [] = refl
+rows-count selection start above (line ∷ lines) = ap suc (rows-count selection start line lines)
+
+-- ---- a component alone: each MCU is a sample
+
+strand-whole : (n : ℕ) (rs : List ℕ) → length rs ≡ n → strand n 1 0 1 rs ≡ rs
+unfolding strand
+strand-whole zero [] e = refl
+strand-whole zero (r ∷ rs) e = absurd (omega arith)
+strand-whole (suc n) [] e = absurd (omega arith)
+strand-whole (suc n) (r ∷ rs) e = ap (λ (l : List ℕ). r ∷ l) (strand-whole n rs (omega arith))
+
+-- a component alone, of this size
+abbrev lone_part : ℕ → ℕ → Part
+lone_part width height = record { table = even_table; across = 1; down = 1; width = width; height = height }
+
+lines-whole : (width height : ℕ) (rows : List (List ℕ)) → AreRows width rows
+    → lines_in (lone_part width height) width 1 0 rows ≡ rows
+unfolding lines_in strands
+lines-whole width height [] h = refl
+lines-whole width height (rs ∷ rows) h =
+    ap₂ (λ (l : List ℕ) (ls : List (List ℕ)). l ∷ ls) (strand-whole width rs h.0.0) (lines-whole width height rows h.1)
+
+own-whole : (width height : ℕ) (lines : List (List ℕ)) → length lines ≡ height → AreWide width lines
+    → own_lines (lone_part width height) lines ≡ lines
+own-whole width height lines e h =
+    ap (λ (l : List (List ℕ)). map (take width) l) (take_all height lines (omega arith)) ∙ go lines h
+  where
+    go : (ls : List (List ℕ)) → AreWide width ls → map (take width) ls ≡ ls
+    go [] k = refl
+    go (l ∷ ls) k =
+        ap₂ (λ (a : List ℕ) (b : List (List ℕ)). a ∷ b) (take_all width l (let f = k.0 in omega arith)) (go ls k.1)
+
+samples-low : (bound : ℕ) (xs : List ℕ) → bound ≤ 65536 → AllByRecursion (λ x. x < bound) xs → AreSamples xs
+samples-low bound [] le h = tt
+samples-low bound (x ∷ xs) le h = let low = h.0 in (omega arith, samples-low bound xs le h.1)
+
+lines-low : (bound n m : ℕ) (lines : List (List ℕ)) → bound ≤ 65536 → n ≡ m → AllByRecursion (IsLineOf n bound) lines
+    → AreLines m lines
+lines-low bound n m [] le e h = tt
+lines-low bound n m (l ∷ lines) le e h =
+    ((h.0.0 ∙ e, samples-low bound l le h.0.1), lines-low bound n m lines le e h.1)
+
+are-wide : (bound n : ℕ) (lines : List (List ℕ)) → AllByRecursion (IsLineOf n bound) lines → AreWide n lines
+are-wide bound n [] h = tt
+are-wide bound n (l ∷ lines) h = (h.0.0, are-wide bound n lines h.1)
+
+-- how a component alone is coded
+abbrev lone_way : ℕ → ℕ → ℕ → Way
+lone_way start width height =
+    record { wide = width; selection = Ra; start = start; parts = lone_part width height ∷ [] }
+
+interval-written : (start bound width height : ℕ) (lines : List (List ℕ)) → bound ≤ 65536 → length lines ≡ height
+    → AllByRecursion (IsLineOf width bound) lines
+    → (bytes : List ℕ) × WritesInterval (lone_way start width height) height (lines ∷ []) bytes
+unfolding mcu_tables HaveDifferences
+interval-written start bound width height lines le e h =
+    let rows = differences_of Ra start [] lines in
+    let are = all-rows Ra start width lines (are-wide bound width lines h) in
+    let w = rows-written width rows are in
+    let b = packed w.0 in (
+      stuffed b.bytes,
+      record {
+        rows = rows;
+        bits = w.0;
+        filling = b.filling;
+        data_bytes = b.bytes;
+        count = rows-count Ra start [] lines ∙ e;
+        sized = (lines-low bound width (width * 1) lines le (omega arith) h, tt);
+        placed = (lines-whole width height rows are, tt);
+        coded = w.1;
+        is_short = b.is_short;
+        whole = b.whole;
+        has_bytes = refl;
+      },
+    )
+
+-- ---- a scan of a component
+
+abbrev coding : FrameHeader → ℕ → Factors → LosslessCoding
+coding h place c = record { place = place; component = component_in h c; table = even_table }
+
+abbrev header_of : ℕ → Factors → ScanHeader
+header_of place c = record {
+  choices = (record { identifier = c.identifier; component = place; dc = 0; ac = 0 }) ∷ [];
+  first = 1;
+  last = 0;
+  high = 0;
+  low = 0;
+}
+
+-- what is said before a scan
+record IsReady (h : FrameHeader) (now : Found) : Type 0 where
+  framed : now.frame ≡ Some (frame_written 3 h)
+  tabled : slice_index_or now.huffman.dc 0 None ≡ Some even_table
+  restart : now.restart ≡ 0
+
+header-written : (h : FrameHeader) (front more : List Factors) (c : Factors) → HasSamples 3 h
+    → h.components ≡ front ++ c ∷ more → is_taken front c.identifier ≡ false
+    → IsScan (frame_written 3 h) (header_of (length front) c)
+unfolding AreChoices frame_of
+header-written h front more c p e new = record {
+  some = omega arith;
+  most = omega arith;
+  choices = (
+    record {
+      identified = ap (λ (cs : List Factors). place_of (map (component_in h) cs) c.identifier) e
+          ∙ place-is h front more c new;
+      ordered = omega arith;
+      dc_placed = omega arith;
+      ac_placed = omega arith;
+    },
+    tt,
+  );
+  fits = refl;
+  narrow = omega arith;
+  precise = lt-ltb 0 h.precision (let q = p.least in omega arith);
+  band = refl;
+}
+
+component-at : (h : FrameHeader) (front more : List Factors) (c : Factors) → h.components ≡ front ++ c ∷ more
+    → first_of (drop (length front) (frame_written 3 h).components) ≡ Some (component_in h c)
+unfolding frame_of
+component-at h front more c e =
+    ap (λ (cs : List Factors). first_of (drop (length front) (map (component_in h) cs))) e ∙ first-is h front more c
+
+data-written : (h : FrameHeader) (now : Found) (front more : List Factors) (c : Factors) (samples : Samples)
+    → IsReady h now → h.components ≡ front ++ c ∷ more → h.precision ≤ 16
+    → AreLinesOf (2 ^ h.precision) (component_in h c) (samples (length front))
+    → (bytes : List ℕ) × WritesScan now (frame_written 3 h) (header_of (length front) c) samples bytes
+unfolding frame_of mcus_across mcus_down parts_of AreCodings HoldSamples
+data-written h now front more c samples ready e most are =
+    let frame = frame_written 3 h in
+    let k = coding h (length front) c in
+    let wide = k.component.width in
+    let high = k.component.height in
+    let lines = samples (length front) in
+    let bound : 2 ^ h.precision ≤ 2 ^ 16 = pow_mono {i = h.precision} {j = 16} most in
+    let low : 2 ^ h.precision ≤ 65536 = omega (arith, bound) in
+    let w = interval-written (start_of h.precision 0) (2 ^ h.precision) wide high lines low are.counted are.lined in
+    let all : rows_of_interval wide high now.restart ≡ high = ap (rows_of_interval wide high) ready.restart in (
+      w.0,
+      record {
+        codings = k ∷ [];
+        coded = (record { stands = refl; component = component-at h front more c e; table = ready.tabled }, tt);
+        point = refl;
+        interval = subst (IsInterval wide high) (sym ready.restart) no_interval;
+        lines = lines ∷ [];
+        held = (own-whole wide high lines are.counted (are-wide (2 ^ h.precision) wide lines are.lined), tt);
+        written = last 0 high (lines ∷ []) w.0 (subst (λ (n : ℕ). high ≤ n) (sym all) (omega arith)) w.1;
+      },
+    )
+
+-- ---- the stream
+
+abbrev Sends : FrameHeader → Samples → Found → List ℕ → Type 0
+Sends h samples now sent =
+    (bytes : List ℕ) × (final : Found) × Writes samples now sent bytes final
+    × (final.frame ≡ Some (frame_written 3 h))
+
+in-next : (n : ℕ) (sent : List ℕ) → ((j : ℕ) → j < n → IsIn j sent) → (j : ℕ) → j < n + 1 → IsIn j (n ∷ sent)
+in-next n sent all j h = go (cases_lt j n)
+  where
+    go : (j < n) ⊎ (n ≤ j) → IsIn j (n ∷ sent)
+    go (inl less) = inr (all j less)
+    go (inr more) = inl (omega arith)
+
+scans-written : (h : FrameHeader) (samples : Samples) (more front : List Factors) (now : Found) (sent : List ℕ)
+    → HasSamples 3 h → AreSamplesOf (frame_written 3 h) samples → IsReady h now
+    → h.components ≡ front ++ more → AreComponents 3 front more → ((j : ℕ) → j < length front → IsIn j sent)
+    → Sends h samples now sent
+unfolding AreComponents frame_of
+scans-written h samples [] front now sent p all ready e are sends =
+    let size : length (frame_written 3 h).components ≡ length h.components = length-map h.components _ in
+    let count : length h.components ≡ length front = ap length (e ∙ append-nil front) in (
+      marker 0 217 [],
+      now,
+      closed now sent (frame_written 3 h) 0 ready.framed refl
+          (in-range (λ k. IsIn k sent) 0 (length (frame_written 3 h).components)
+          (λ j low lt. sends j (omega arith))),
+      ready.framed,
+    )
+scans-written h samples (c ∷ more) front now sent p all ready e are sends =
+    let place = length front in
+    let d = data-written h now front more c samples ready e p.most
+    (all place (component_in h c) (component-at h front more c e)) in
+    let size : place + 1 ≡ length (front ++ c ∷ []) = sym (length-append front (c ∷ [])) in
+    let rest = scans-written h samples more (front ++ c ∷ []) (said_after_scan now) (place ∷ sent) p all
+    (record { framed = ready.framed; tabled = ready.tabled; restart = ready.restart })
+    (e ∙ sym (append_assoc front (c ∷ []) more)) are.1
+    (subst (λ (n : ℕ). (j : ℕ) → j < n → IsIn j (place ∷ sent)) size (in-next place sent sends)) in (
+      marker 0 218 (sized (scan_payload (header_of place c)) ++ (d.0 ++ rest.0)),
+      rest.1,
+      scan now rest.1 sent (frame_written 3 h) 0 (header_of place c) d.0 rest.0 ready.framed refl
+          (header-written h front more c p e are.0.is_new) d.1 rest.2,
+      rest.3,
+    )
+
+abbrev even_tables : List PlacedTable
+even_tables = record { place = 0; table = even_table } ∷ []
+
+abbrev said_1 : FrameHeader → Found
+said_1 h = found_after nothing_found (Header 3 h)
+
+abbrev said : FrameHeader → Found
+said h = found_after (said_1 h) (Huffman even_tables)
+
+said-ready : (h : FrameHeader) → IsReady h (said h)
+unfolding nothing_found updated
+said-ready h = record { framed = refl; tabled = refl; restart = refl }
+
+abbrev front_bytes : FrameHeader → List ℕ → List ℕ
+front_bytes h more =
+    marker 0 195 (sized (payload_of (Header 3 h)) ++ marker 0 196 (sized (payload_of (Huffman even_tables)) ++ more))
+
+pub samples-written : (h : FrameHeader) (samples : Samples) → IsFrame 3 h → HasSamples 3 h
+    → AreSamplesOf (frame_written 3 h) samples → (bytes : List ℕ) × AreWrittenIn h samples bytes
+unfolding nothing_found
+samples-written h samples is p all =
+    let r = scans-written h samples h.components [] (said h) [] p all (said-ready h) refl is.components
+    (λ j lt. absurd (omega arith)) in (
+      255 ∷ 216 ∷ front_bytes h r.0,
+      record {
+        final = r.1;
+        written = record {
+          after = front_bytes h r.0;
+          starts = refl;
+          written =
+              segment nothing_found r.1 [] 0 (Header 3 h) _ ((refl, is), p) (
+              segment (said_1 h) r.1 [] 0 (Huffman even_tables) _ ((even-written _, tt), tt) r.2);
+        };
+        framed = r.3;
+      },
+    )

@@ -1,0 +1,123 @@
+-- Where all components have the same factors, they have the size of the frame.
+use Rattle.std.proofs.Common.{◌≡◌, inl, inr, ℕ, ◌+◌, ◌-◌, ◌*◌, ◌/◌, ◌<◌, List, [], ◌∷◌, map, refl, sym, ap, ap₂, ◌∙◌, subst}
+use Rattle.std.proofs.Common.{arith}
+use Rattle.std.specs.List.{AllByRecursion}
+use Rattle.std.proofs.lemmas.Nat.{div-mul-add}
+use Rattle.jpeg_bits.specs.Codes.{Table}
+use Rattle.jpeg_bits.specs.declared.scan.Predictor.{Predictor}
+use Rattle.jpeg_segments.specs.Frame.{ceiling, Component, Frame}
+use Rattle.jpeg_segments.specs.WrittenSegments.{FrameHeader, IsFrame, frame_written}
+use Rattle.jpeg_lossless.specs.Differences.{Part}
+use Rattle.jpeg_lossless.specs.Pictures.{most_across, most_down}
+use Rattle.jpeg_lossless.specs.Prediction.{start_of}
+use Rattle.jpeg_lossless.specs.Scans.{Way}
+use Rattle.jpeg_streams.specs.InTurn.{IsIn}
+use Rattle.jpeg_streams.specs.LosslessScans.{LosslessCoding, mcus_across, mcus_down, part_of, parts_of, way_of}
+use Rattle.jpeg_streams.specs.PlainSamples.{HasEqualFactors, plain_way}
+use Rattle.jpeg_streams.proofs.LosslessSizes.{IsMade, some-across, some-down}
+use Rattle.jpeg_streams.proofs.PaddingUnseen.{header-made}
+
+ceiling-whole : (n factor most : ℕ) → 0 < most → factor ≡ most → ceiling (n * factor) most ≡ n
+ceiling-whole n factor most h e =
+    ap (λ (k : ℕ). ceiling (n * k) most) e ∙ div-mul-add n most (most - 1) (omega arith)
+
+ceiling-one : (n most : ℕ) → most ≡ 1 → ceiling n most ≡ n
+ceiling-one n most e = ap (ceiling n) e ∙ omega arith
+
+-- a component with a sample of each pixel
+record IsFull (frame : Frame) (c : Component) : Type 0 where
+  width : c.width ≡ frame.width
+  height : c.height ≡ frame.height
+  across : c.factors.horizontal ≡ most_across frame
+  down : c.factors.vertical ≡ most_down frame
+
+all-full : (frame : Frame) (cs : List Component) → AllByRecursion (IsMade frame) cs
+    → AllByRecursion (λ c. (c.factors.horizontal ≡ most_across frame) × (c.factors.vertical ≡ most_down frame)) cs
+    → AllByRecursion (IsFull frame) cs
+all-full frame [] made same = tt
+all-full frame (c ∷ cs) made same = (
+  record {
+    width = made.0.width
+        ∙ ceiling-whole frame.width c.factors.horizontal (most_across frame) (some-across frame) same.0.0;
+    height = made.0.height
+        ∙ ceiling-whole frame.height c.factors.vertical (most_down frame) (some-down frame) same.0.1;
+    across = same.0.0;
+    down = same.0.1;
+  },
+  all-full frame cs made.1 same.1,
+)
+
+full-in : (frame : Frame) (c : Component) (cs : List Component) → AllByRecursion (IsFull frame) cs → IsIn c cs
+    → IsFull frame c
+full-in frame c [] all is = absurd is
+full-in frame c (d ∷ cs) all (inl e) = subst (IsFull frame) e all.0
+full-in frame c (d ∷ cs) all (inr is) = full-in frame c cs all.1 is
+
+header-full : (h : FrameHeader) (c : Component) → IsFrame 3 h → HasEqualFactors (frame_written 3 h)
+    → IsIn c (frame_written 3 h).components → IsFull (frame_written 3 h) c
+header-full h c is same in_frame =
+    let frame = frame_written 3 h in
+    full-in frame c frame.components (all-full frame frame.components (header-made h is) same) in_frame
+
+abbrev part_at : Table → ℕ → ℕ → ℕ → ℕ → Part
+part_at table across down width height =
+    record { table = table; across = across; down = down; width = width; height = height }
+
+abbrev way_by : Frame → Predictor → ℕ → ℕ → List Part → Way
+way_by frame selection point wide parts =
+    record { wide = wide; selection = selection; start = start_of frame.precision point; parts = parts }
+
+-- a component alone in a scan
+pub way-alone : (h : FrameHeader) (selection : Predictor) (point : ℕ) (k : LosslessCoding) → IsFrame 3 h
+    → HasEqualFactors (frame_written 3 h) → IsIn k.component (frame_written 3 h).components
+    → (way_of (frame_written 3 h) selection point (k ∷ []) ≡ plain_way (frame_written 3 h) selection point (k ∷ []))
+    × (mcus_down (frame_written 3 h) (k ∷ []) ≡ (frame_written 3 h).height)
+unfolding mcus_across mcus_down parts_of
+way-alone h selection point k is same in_frame =
+    let frame = frame_written 3 h in
+    let full = header-full h k.component is same in_frame in (
+      ap₂ (λ (w v : ℕ). way_by frame selection point w (part_at k.table 1 1 w v ∷ [])) full.width full.height,
+      full.height,
+    )
+
+-- components of a scan where the greatest factors are 1
+parts-plain : (frame : Frame) (codings : List LosslessCoding) → most_across frame ≡ 1 → most_down frame ≡ 1
+    → AllByRecursion (λ k. IsFull frame k.component) codings
+    → map (λ k. part_of k.component.factors.horizontal k.component.factors.vertical k) codings
+    ≡ map (λ k. part_at k.table 1 1 frame.width frame.height) codings
+parts-plain frame [] a d all = refl
+parts-plain frame (k ∷ codings) a d all =
+    let full = all.0 in
+    let across = full.across ∙ a in
+    let down = full.down ∙ d in
+    let width = full.width in
+    let height = full.height in
+    let more = parts-plain frame codings a d all.1 in
+    (λ i. part_at k.table (across i) (down i) (width i) (height i) ∷ more i)
+
+codings-full : (h : FrameHeader) (codings : List LosslessCoding) → IsFrame 3 h → HasEqualFactors (frame_written 3 h)
+    → AllByRecursion (λ k. IsIn k.component (frame_written 3 h).components) codings
+    → AllByRecursion (λ k. IsFull (frame_written 3 h) k.component) codings
+codings-full h [] is same all = tt
+codings-full h (k ∷ codings) is same all =
+    (header-full h k.component is same all.0, codings-full h codings is same all.1)
+
+pub way-together : (h : FrameHeader) (selection : Predictor) (point : ℕ) (codings : List LosslessCoding) → IsFrame 3 h
+    → HasEqualFactors (frame_written 3 h) → most_across (frame_written 3 h) ≡ 1 → most_down (frame_written 3 h) ≡ 1
+    → AllByRecursion (λ k. IsIn k.component (frame_written 3 h).components) codings
+    → (way_of (frame_written 3 h) selection point codings ≡ plain_way (frame_written 3 h) selection point codings)
+    × (mcus_down (frame_written 3 h) codings ≡ (frame_written 3 h).height)
+unfolding mcus_across mcus_down parts_of
+way-together h selection point [] is same a d all =
+    let frame = frame_written 3 h in (
+      ap (λ (w : ℕ). way_by frame selection point w []) (ceiling-one frame.width (most_across frame) a),
+      ceiling-one frame.height (most_down frame) d,
+    )
+way-together h selection point (k ∷ []) is same a d all = way-alone h selection point k is same all.0
+way-together h selection point (k ∷ j ∷ codings) is same a d all =
+    let frame = frame_written 3 h in (
+      ap₂ (λ (w : ℕ) (parts : List Part). way_by frame selection point w parts)
+          (ceiling-one frame.width (most_across frame) a)
+          (parts-plain frame (k ∷ j ∷ codings) a d (codings-full h (k ∷ j ∷ codings) is same all)),
+      ceiling-one frame.height (most_down frame) d,
+    )

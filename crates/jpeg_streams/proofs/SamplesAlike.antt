@@ -1,0 +1,64 @@
+-- The picture of samples goes by the precision, the size and the sampling factors of a frame.
+use Rattle.std.proofs.Common.{◌≡◌, ℕ, ◌+◌, ◌*◌, ◌/◌, max, List, [], ◌∷◌, ◌++◌, map, refl, ap, ap₂}
+use Rattle.std.specs.List.{concat, range_with_len}
+use Rattle.jpeg_segments.specs.Frame.{Component, Frame, greatest}
+use Rattle.jpeg_lossless.specs.Pictures.{most_across, most_down, sample_bytes}
+use Rattle.jpeg_lossless.specs.Places.{at_place}
+use Rattle.jpeg_streams.specs.FrameSamples.{sampling_of}
+use Rattle.jpeg_streams.specs.WrittenLossless.{picture_of_samples, pixel_from, Samples}
+
+first-same : {A : Type 0} (x y : A) (xs ys : List A) → ◌≡◌ {A = List A} (x ∷ xs) (y ∷ ys) → x ≡ y
+first-same x y xs ys e = cc
+
+others-same : {A : Type 0} (x y : A) (xs ys : List A) → ◌≡◌ {A = List A} (x ∷ xs) (y ∷ ys) → xs ≡ ys
+others-same x y xs ys e = cc
+
+-- two components with the same factors
+horizontal-same : (x y : Component) → sampling_of x ≡ sampling_of y → x.factors.horizontal ≡ y.factors.horizontal
+horizontal-same x y e = ap (λ (p : ℕ × ℕ). p.0) e
+
+vertical-same : (x y : Component) → sampling_of x ≡ sampling_of y → x.factors.vertical ≡ y.factors.vertical
+vertical-same x y e = ap (λ (p : ℕ × ℕ). p.1) e
+
+across-alike : (xs ys : List Component) → map sampling_of xs ≡ map sampling_of ys
+    → greatest (λ f. f.horizontal) (map (λ c. c.factors) xs) ≡ greatest (λ f. f.horizontal) (map (λ c. c.factors) ys)
+across-alike [] [] e = refl
+across-alike [] (y ∷ ys) e = absurd (let n : ⊥ = cc in n)
+across-alike (x ∷ xs) [] e = absurd (let n : ⊥ = cc in n)
+across-alike (x ∷ xs) (y ∷ ys) e =
+    ap₂ (λ (a b : ℕ). max a b) (horizontal-same x y (first-same (sampling_of x) (sampling_of y) _ _ e))
+    (across-alike xs ys (others-same (sampling_of x) (sampling_of y) _ _ e))
+
+down-alike : (xs ys : List Component) → map sampling_of xs ≡ map sampling_of ys
+    → greatest (λ f. f.vertical) (map (λ c. c.factors) xs) ≡ greatest (λ f. f.vertical) (map (λ c. c.factors) ys)
+down-alike [] [] e = refl
+down-alike [] (y ∷ ys) e = absurd (let n : ⊥ = cc in n)
+down-alike (x ∷ xs) [] e = absurd (let n : ⊥ = cc in n)
+down-alike (x ∷ xs) (y ∷ ys) e =
+    ap₂ (λ (a b : ℕ). max a b) (vertical-same x y (first-same (sampling_of x) (sampling_of y) _ _ e))
+    (down-alike xs ys (others-same (sampling_of x) (sampling_of y) _ _ e))
+
+pixel-alike : (f g : Frame) (samples : Samples) (x y : ℕ) → f.precision ≡ g.precision
+    → most_across f ≡ most_across g → most_down f ≡ most_down g → (place : ℕ) (cs ds : List Component)
+    → map sampling_of cs ≡ map sampling_of ds → pixel_from f samples y x place cs ≡ pixel_from g samples y x place ds
+unfolding pixel_from
+pixel-alike f g samples x y p a d place [] [] e = refl
+pixel-alike f g samples x y p a d place [] (c ∷ cs) e = absurd (let n : ⊥ = cc in n)
+pixel-alike f g samples x y p a d place (c ∷ cs) [] e = absurd (let n : ⊥ = cc in n)
+pixel-alike f g samples x y p a d place (c ∷ cs) (b ∷ bs) e =
+    let same = first-same (sampling_of c) (sampling_of b) _ _ e in
+    let h = horizontal-same c b same in
+    let v = vertical-same c b same in
+    let more = pixel-alike f g samples x y p a d (place + 1) cs bs
+    (others-same (sampling_of c) (sampling_of b) _ _ e) in
+    (λ i. sample_bytes (p i) (at_place (samples place) (x * h i / a i) (y * v i / d i)) ++ more i)
+
+pub pictures-alike : (f g : Frame) (samples : Samples) → f.precision ≡ g.precision → f.width ≡ g.width
+    → f.height ≡ g.height → map sampling_of f.components ≡ map sampling_of g.components
+    → picture_of_samples f samples ≡ picture_of_samples g samples
+unfolding picture_of_samples
+pictures-alike f g samples p w h e =
+    let a = across-alike f.components g.components e in
+    let d = down-alike f.components g.components e in
+    (λ i. concat (map (λ y. concat (map (λ x. pixel-alike f g samples x y p a d 0 f.components g.components e i)
+    (range_with_len 0 (w i)))) (range_with_len 0 (h i))))

@@ -1,0 +1,68 @@
+-- The samples of the components of a frame: their sizes, and what is outside these.
+use Rattle.std.specs.Prelude.{◌≡◌, ℕ, ◌+◌, ◌*◌, ◌^◌, ◌<◌, List, [], ◌∷◌, length, drop, map, Some}
+use Rattle.std.specs.List.{AllByRecursion}
+use Rattle.jpeg_segments.specs.Frame.{Component, Frame}
+use Rattle.jpeg_segments.specs.WrittenSegments.{FrameHeader, frame_written}
+use Rattle.jpeg_lossless.specs.Differences.{Part, lines_in}
+use Rattle.jpeg_lossless.specs.Places.{at_place}
+use Rattle.jpeg_lossless.specs.Scans.{Way, mcu_size}
+use Rattle.jpeg_streams.specs.Found.{Found}
+use Rattle.jpeg_streams.specs.Needed.{first_of}
+use Rattle.jpeg_streams.specs.WrittenLossless.{own_lines, Samples, WritesSamples}
+
+-- ---- samples of each size
+
+-- A line of n samples below a bound.
+abbrev pub IsLineOf : ℕ → ℕ → List ℕ → Type 0
+IsLineOf n bound line = (length line ≡ n) × AllByRecursion (λ x. x < bound) line
+
+-- Lines of samples have the size of a component.
+pub record AreLinesOf (bound : ℕ) (c : Component) (lines : List (List ℕ)) : Type 0 where
+  pub counted : length lines ≡ c.height
+  pub lined : AllByRecursion (IsLineOf c.width bound) lines
+
+-- Each component of a frame has samples of its size, and of the frame's precision.
+abbrev pub AreSamplesOf : Frame → Samples → Type 0
+AreSamplesOf frame samples =
+    (place : ℕ) (c : Component) → first_of (drop place frame.components) ≡ Some c →
+    AreLinesOf (2 ^ frame.precision) c (samples place)
+
+-- The bytes are a stream for these samples, in a frame with this header.
+pub record AreWrittenIn (h : FrameHeader) (samples : Samples) (bytes : List ℕ) : Type 0 where
+  pub final : Found
+  pub written : WritesSamples samples bytes final
+  pub framed : final.frame ≡ Some (frame_written 3 h)
+
+-- ---- what is outside
+
+-- Samples agree where the components of a frame have them.
+abbrev pub AgreeInside : Frame → Samples → Samples → Type 0
+AgreeInside frame a b =
+    (place x y : ℕ) (c : Component) → first_of (drop place frame.components) ≡ Some c →
+    x < c.width → y < c.height → at_place (a place) x y ≡ at_place (b place) x y
+
+-- The rows of differences of an interval agree but for padding. The samples of the first component
+-- begin at `from` in an MCU.
+unfoldable pub DifferInPadding : Way → ℕ → List Part → List (List ℕ) → List (List ℕ) → Type 0
+DifferInPadding w from [] a b = Unit {0}
+DifferInPadding w from (p ∷ parts) a b =
+    (own_lines p (lines_in p w.wide (mcu_size w) from a)
+    ≡ own_lines p (lines_in p w.wide (mcu_size w) from b))
+    × DifferInPadding w (from + p.down * p.across) parts a b
+
+-- ---- pictures that are the same
+
+-- the sampling factors of a component, across and down
+abbrev pub sampling_of : Component → ℕ × ℕ
+sampling_of c = (c.factors.horizontal, c.factors.vertical)
+
+-- What is said shows samples alike: in a frame of the same precision, size and sampling factors.
+pub record ShowAlike (a b : Found) : Type 0 where
+  pub frame_a : Frame
+  pub frame_b : Frame
+  pub is_a : a.frame ≡ Some frame_a
+  pub is_b : b.frame ≡ Some frame_b
+  pub precision : frame_a.precision ≡ frame_b.precision
+  pub width : frame_a.width ≡ frame_b.width
+  pub height : frame_a.height ≡ frame_b.height
+  pub factors : map sampling_of frame_a.components ≡ map sampling_of frame_b.components
