@@ -101,14 +101,24 @@ def programs(jpegraw, thumbnail, peers):
         yield Program(name, [*djpeg, "FILE"], [*djpeg, "-scale", "1/8", "FILE"], environment)
 
 
+def thinned(plane, most):
+    """Each sample of a plane in a column and on a line that these factors divide."""
+    lines = (plane[start : start + WIDTH : most[0]] for start in range(0, len(plane), most[1] * WIDTH))
+    return b"".join(lines)
+
+
 def files(folder):
     """The path of the file of each kind."""
     picture = photo()
     samples = picture.split(b"\n", 3)[3]
     texts = {kind: subprocess.run([*QUALITY, *words], input=picture, capture_output=True, check=True).stdout for kind, words in CODINGS.items()}
     texts |= {kind: texts[whole] for kind, whole in THUMBNAIL_OF.items()}
-    texts["lossless, grey"] = lossless(WIDTH, HEIGHT, 1, samples[1::3])
-    texts["lossless, colour"] = lossless(WIDTH, HEIGHT, 3, samples)
+    red, green, blue = (samples[colour::3] for colour in range(3))
+    texts["lossless, grey"] = lossless(WIDTH, HEIGHT, [((1, 1), green)])
+    texts["lossless, colour"] = lossless(WIDTH, HEIGHT, [((1, 1), plane) for plane in (red, green, blue)])
+    for most in (2, 1), (2, 2):
+        others = [((1, 1), thinned(plane, most)) for plane in (green, blue)]
+        texts["lossless, %dx%d, 1x1, 1x1" % most] = lossless(WIDTH, HEIGHT, [(most, red), *others])
     for number, (kind, text) in enumerate(texts.items()):
         path = f"{folder}/{number}.jpg"
         with open(path, "wb") as file:

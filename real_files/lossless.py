@@ -1,8 +1,14 @@
-"""Lossless files of dcmtk's `dcmcjpeg`: `jpegraw` gives back the samples that they were made of.
+"""Lossless files of dcmtk's `dcmcjpeg` and of ffmpeg's `ljpeg`: `jpegraw` gives back their samples.
 
-Grey pictures of 8, 12 and 16 bits and one of red, green and blue, each by the selections 1 to 7 of a
-predictor. A picture goes to dcmcjpeg in a DICOM file, and the JPEG stream is taken out of the one
-that it writes.
+By dcmcjpeg, grey pictures of 8, 12 and 16 bits and one of red, green and blue, each by the
+selections 1 to 7 of a predictor. A picture goes to it in a DICOM file, and the JPEG stream is taken
+out of the one that it writes.
+
+By ffmpeg, pictures of several sizes in luma and chroma with the luma factors 2x2, 2x1 and 1x1, and
+in colours with and without alpha, each by the selections 1 to 3, the only ones that it has. What
+`jpegraw` gives is compared with the samples that ffmpeg itself decodes. Those of colours have 9
+bits, and ffmpeg takes their differences modulo 2^9, where T.81, H.1.2.1 has 2^16: they are compared
+modulo 2^9.
 """
 
 import random
@@ -16,6 +22,12 @@ WIDTH, HEIGHT = 97, 61
 EXPLICIT_LITTLE_ENDIAN = b"1.2.840.10008.1.2.1"
 SECONDARY_CAPTURE = b"1.2.840.10008.5.1.4.1.1.7"
 INSTANCE = b"1.2.826.0.1.3680043.2.1143.1"
+
+SIZES = ((1, 1), (2, 2), (1, 4), (3, 1), (6, 5), (17, 33), (64, 48), (WIDTH, HEIGHT))
+# How many columns and lines of pixels a sample of chroma stands for.
+CHROMA = {"yuvj420p": (2, 2), "yuvj422p": (2, 1), "yuvj444p": (1, 1)}
+# How many bytes a pixel has.
+COLOURS = {"bgr24": 3, "bgr0": 4, "bgra": 4}
 
 
 def element(group, number, kind, value):
@@ -63,31 +75,124 @@ def picture(components, bits, seed):
     return bytes(out)
 
 
-def main():
-    jpegraw = sys.argv[1] if len(sys.argv) > 1 else Path(__file__).resolve().parent.parent / "jpegraw"
-    if shutil.which("dcmcjpeg") is None:
-        sys.exit("lossless.py: dcmcjpeg is missing; Debian's package dcmtk has it")
-    equal, failed = 0, []
+def decoded(jpegraw, stream):
+    """What the program writes after its line of text, or none where it refuses the stream."""
+    run = subprocess.run([jpegraw], input=stream, capture_output=True, check=False)
+    return run.stdout.partition(b"\n")[2] if run.returncode == 0 else None
+
+
+def of_dcmtk():
+    """The files of dcmcjpeg: the name of each, its stream and its samples."""
     with tempfile.TemporaryDirectory() as folder:
         plain, packed = Path(folder) / "plain.dcm", Path(folder) / "packed.dcm"
         for components, bits in ((1, 8), (1, 12), (1, 16), (3, 8)):
             samples = picture(components, bits, bits + components)
             plain.write_bytes(dicom(components, bits, samples))
             for selection in range(1, 8):
-                name = f"{components} of {bits} bits, selection {selection}"
                 command = ["dcmcjpeg", "+el", "+sv", str(selection), plain, packed]
                 subprocess.run(command, capture_output=True, check=True)
                 content = packed.read_bytes()
                 start, end = content.index(b"\xff\xd8\xff"), content.rindex(b"\xff\xd9") + 2
-                run = subprocess.run([jpegraw], input=content[start:end], capture_output=True)
-                head, _, pixels = run.stdout.partition(b"\n")
-                if run.returncode == 0 and pixels == samples:
-                    equal += 1
-                else:
-                    failed.append(f"{name}: {head.decode()} {run.stderr.decode().strip()}")
-    print(f"{equal} lossless files gave their samples, {len(failed)} did not")
+                yield f"{components} of {bits} bits, selection {selection}", content[start:end], samples
+
+
+def ffmpeg(words, content):
+    """What ffmpeg makes of a file, by the words of its command before and after the file."""
+    before, after = words
+    command = ["ffmpeg", "-v", "error", *before, "-i", "-", *after, "-"]
+    return subprocess.run(command, input=content, capture_output=True, check=True).stdout
+
+
+def repeated(planes, width, height, covers):
+    """The samples by pixel, luma and both chroma, each sample of chroma for the pixels it covers."""
+    across, down = covers
+    chroma_width = -(-width // across)
+    for y in range(height):
+        for x in range(width):
+            at = y // down * chroma_width + x // across
+            yield from (planes[0][y * width + x], planes[1][at], planes[2][at])
+
+
+def luma_and_chroma(raw, width, height, covers):
+    """The bytes of a picture by the planes that ffmpeg gives."""
+    luma, chroma = width * height, -(-width // covers[0]) * -(-height // covers[1])
+    planes = raw[:luma], raw[luma:luma + chroma], raw[luma + chroma:]
+    return bytes(repeated(planes, width, height, covers))
+
+
+def transformed(raw, size, has_alpha):
+    """The samples of 9 bits, in two bytes each, as which ljpeg codes colours: a mean, and how far
+    blue and red are from green."""
+    for at in range(0, len(raw), size):
+        blue, green, red = raw[at:at + 3]
+        yield from ((blue + 2 * green + red) >> 2, blue - green + 256, red - green + 256)
+        if has_alpha:
+            yield raw[at + 3]
+
+
+def nine_bits(samples):
+    """Samples in two bytes each, the lower first, modulo 2^9."""
+    return bytes(byte & 1 if at % 2 else byte for at, byte in enumerate(samples))
+
+
+def of_ljpeg(format, width, height, given):
+    """The files of a picture by each selection: the name of each, its stream, and ffmpeg's bytes."""
+    kind = ["-f", "rawvideo", "-pix_fmt", format]
+    for selection in range(1, 4):
+        coded = ["-c:v", "ljpeg", "-pix_fmt", format, "-pred", str(selection), "-f", "mjpeg"]
+        stream = ffmpeg(([*kind, "-s", f"{width}x{height}"], coded), given)
+        raw = ffmpeg((["-f", "jpeg_pipe"], kind), stream)
+        yield f"{format} of {width}x{height}, selection {selection}", stream, raw
+
+
+def of_luma_and_chroma():
+    """The files of ljpeg in luma and chroma: the name of each, its stream and its samples."""
+    chance = random.Random(1)
+    for width, height in SIZES:
+        for format, covers in CHROMA.items():
+            chroma = -(-width // covers[0]) * -(-height // covers[1])
+            given = chance.randbytes(width * height + 2 * chroma)
+            for name, stream, raw in of_ljpeg(format, width, height, given):
+                yield name, stream, luma_and_chroma(raw, width, height, covers)
+
+
+def of_colours():
+    """The files of ljpeg in colours: the name of each, its stream and its samples."""
+    chance = random.Random(1)
+    for width, height in SIZES:
+        for format, size in COLOURS.items():
+            given = chance.randbytes(width * height * size)
+            for name, stream, raw in of_ljpeg(format, width, height, given):
+                numbers = transformed(raw, size, format == "bgra")
+                yield name, stream, b"".join(short(number) for number in numbers)
+
+
+def compare(jpegraw, title, files, seen=bytes):
+    """Prints how many files give their samples, as they are `seen`, and which don't. Returns whether
+    all do."""
+    equal, failed = 0, []
+    for name, stream, samples in files:
+        pixels = decoded(jpegraw, stream)
+        if pixels is not None and seen(pixels) == samples:
+            equal += 1
+        else:
+            failed.append(name)
+    print(f"{title}: {equal} lossless files gave their samples, {len(failed)} did not")
     print(*failed, sep="\n", end="\n" if failed else "")
-    sys.exit(1 if failed else 0)
+    return not failed
+
+
+def main():
+    jpegraw = sys.argv[1] if len(sys.argv) > 1 else Path(__file__).resolve().parent.parent / "jpegraw"
+    for program, package in (("dcmcjpeg", "dcmtk"), ("ffmpeg", "ffmpeg")):
+        if shutil.which(program) is None:
+            sys.exit(f"lossless.py: {program} is missing; Debian's package {package} has it")
+    all_equal = [
+        compare(jpegraw, "dcmtk", of_dcmtk()),
+        compare(jpegraw, "ffmpeg, luma and chroma", of_luma_and_chroma()),
+        compare(jpegraw, "ffmpeg, colours", of_colours(), nine_bits),
+    ]
+    sys.exit(0 if all(all_equal) else 1)
 
 
 main()

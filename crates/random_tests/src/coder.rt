@@ -236,21 +236,27 @@ impl Coder {
         Ok(())
     }
 
-    /// Puts the bits of a number in its category (T.81, F.1.2.1.1).
+    /// Puts the bits of a number in its category.
     fn put_value(&mut self, magnitude: u16, is_negative: bool) -> Result<(), AllocError> {
-        let count = category(magnitude);
-        let ones = 1u16.wrapping_shl(u32::from(count)).wrapping_sub(1);
-        let bits = if is_negative {
-            magnitude ^ ones
-        } else {
-            magnitude
-        };
+        let (bits, count) = value_bits(magnitude, is_negative);
         self.put_bits(bits, count)
     }
 }
 
+/// The bits of a number in its category, and how many they are (T.81, F.1.2.1.1).
+pub fn value_bits(magnitude: u16, is_negative: bool) -> (u16, u8) {
+    let count = category(magnitude);
+    let ones = 1u16.wrapping_shl(u32::from(count)).wrapping_sub(1);
+    let bits = if is_negative {
+        magnitude ^ ones
+    } else {
+        magnitude
+    };
+    (bits, count)
+}
+
 /// The number of bits of a magnitude.
-fn category(magnitude: u16) -> u8 {
+pub fn category(magnitude: u16) -> u8 {
     if magnitude == 0 {
         return 0;
     }

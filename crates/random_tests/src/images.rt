@@ -197,7 +197,7 @@ fn blocks_of(size: usize, factor: usize, greatest: usize) -> usize {
 }
 
 /// A factor that divides the greatest one, or is it.
-fn random_factor(random: &mut Random, greatest: usize, is_greatest: bool) -> usize {
+pub fn random_factor(random: &mut Random, greatest: usize, is_greatest: bool) -> usize {
     let factor = random.between(1, greatest);
     if is_greatest || factor == 0 || greatest % factor != 0 {
         greatest
@@ -207,7 +207,7 @@ fn random_factor(random: &mut Random, greatest: usize, is_greatest: bool) -> usi
 }
 
 /// The identifier of a component: counted from 0 or 1, or a letter.
-fn component_id(ids: usize, number: usize) -> u8 {
+pub fn component_id(ids: usize, number: usize) -> u8 {
     match ids {
         2 => b"RGBK".get(number).copied().unwrap_or(0),
         _ => low_byte(ids.wrapping_add(number)),

@@ -12,6 +12,14 @@ mod codes;
 #[cfg(test)]
 mod images;
 #[cfg(test)]
+mod lossless_coder;
+#[cfg(test)]
+mod lossless_images;
+#[cfg(test)]
+mod lossless_samples;
+#[cfg(test)]
+mod lossless_writer;
+#[cfg(test)]
 mod pieces;
 #[cfg(test)]
 mod random;
@@ -19,5 +27,7 @@ mod random;
 mod scripts;
 #[cfg(test)]
 mod spots;
+#[cfg(test)]
+mod stream;
 #[cfg(test)]
 mod writer;

@@ -118,25 +118,51 @@ impl Levels {
         }
     }
 
-    /// Some components whose DC is sent at this level: one alone, or an MCU of at most 10 blocks.
+    /// Some components whose DC is sent at this level.
     fn group(&self, random: &mut Random, image: &Image, level: u8, is_plain: bool) -> [bool; 4] {
-        let count = image.components.len();
-        let first = if is_plain { 0 } else { random.below(count) };
-        let mut group = [false; 4];
-        let mut blocks = 0usize;
-        for step in 0..count {
-            let number = first.saturating_add(step) % count.max(1);
-            let more = blocks_in_mcu(image, number).saturating_add(blocks);
-            let is_wanted = blocks == 0 || (more <= 10 && (is_plain || random.is_one_in(2)));
-            if is_wanted && self.level(number, 0) == level {
-                if let Some(place) = group.get_mut(number) {
-                    *place = true;
-                }
-                blocks = more;
+        let mut sizes = [0; 4];
+        for (number, (size, component)) in sizes
+            .iter_mut()
+            .zip(image.components.iter())
+            .enumerate()
+        {
+            if self.level(number, 0) == level {
+                *size = component.blocks_in_mcu();
             }
         }
-        group
+        let first = if is_plain {
+            0
+        } else {
+            random.below(image.components.len())
+        };
+        random_group(random, sizes, first, if is_plain { 1 } else { 2 })
     }
+}
+
+/// Some of the components that have a size, which is what they add to an MCU: one alone, or several
+/// that add at most 10 (T.81, B.2.3). They are sought from a component on, and all but the first
+/// are taken once in `rarity` times; for one alone it is `usize::MAX`.
+pub fn random_group(
+    random: &mut Random,
+    sizes: [usize; 4],
+    first: usize,
+    rarity: usize,
+) -> [bool; 4] {
+    let mut group = [false; 4];
+    let mut total = 0usize;
+    for step in 0..4usize {
+        let number = first.wrapping_add(step) % 4;
+        let size = sizes.get(number).copied().unwrap_or(0);
+        let more = size.saturating_add(total);
+        let is_wanted = total == 0 || (more <= 10 && random.is_one_in(rarity));
+        if size != 0 && is_wanted {
+            if let Some(place) = group.get_mut(number) {
+                *place = true;
+            }
+            total = more;
+        }
+    }
+    group
 }
 
 /// A group of one component.
@@ -146,14 +172,6 @@ fn only(component: usize) -> [bool; 4] {
         *place = true;
     }
     group
-}
-
-/// The blocks of a component in an MCU.
-fn blocks_in_mcu(image: &Image, component: usize) -> usize {
-    match image.components.get(component) {
-        Some(component) => component.blocks_in_mcu(),
-        None => 0,
-    }
 }
 
 /// The level of a first scan.

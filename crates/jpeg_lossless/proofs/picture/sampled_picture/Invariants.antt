@@ -1,15 +1,12 @@
-use Rattle.std.proofs.Common.{◌≡◌, ◌++◌, map}
+use Rattle.std.proofs.Common.{◌≡◌, map, length}
 use Rattle.jpeg_segments.specs.FrameView.{frame_in}
-use Rattle.jpeg_lossless.specs.Pictures.{layers_of, line_bytes, picture_bytes}
+use Rattle.jpeg_lossless.specs.Pictures.{layers_of, picture_bytes}
 use Rattle.jpeg_lossless.proofs.picture.sampled_picture.Given as goal
 
 abbrev pub invariant-loop-y : goal.invariant-loop-y
-invariant-loop-y l = l.image.items ≡ picture_bytes l.frame.precision l.horizontal l.vertical l.frame.image_size.width l.y
-    (layers_of (frame_in l.frame).components (map (λ v. v.items) l.planes))
-
-abbrev pub invariant-loop-x : goal.invariant-loop-x
-invariant-loop-x l = l.image.items
-    ≡ picture_bytes l.frame.precision l.horizontal l.vertical l.frame.image_size.width l.y
-    (layers_of (frame_in l.frame).components (map (λ v. v.items) l.planes))
-    ++ line_bytes l.frame.precision l.horizontal l.vertical l.x
-    (layers_of (frame_in l.frame).components (map (λ v. v.items) l.planes)) l.y
+invariant-loop-y l = record {
+  count : length l.lines.items ≡ length l.planes;
+  image : l.image.items
+      ≡ picture_bytes l.frame.precision l.horizontal l.vertical l.frame.image_size.width l.y
+      (layers_of (frame_in l.frame).components (map (λ v. v.items) l.planes));
+}

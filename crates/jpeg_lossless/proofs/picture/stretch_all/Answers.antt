@@ -1,0 +1,153 @@
+use Rattle.std.proofs.Common.{◌≡◌, ◌≤◌, ◌<◌, ◌+◌, ◌++◌, ◌∷◌, ◌∙◌, ap, sym, arith, drop, length, length-set, map, take, rules, List, ℕ}
+use Rattle.std.proofs.Common.{append-nil, slice_index_or, Vec, Global}
+use Rattle.std.proofs.lemmas.List.{length-map, map-set, take_all}
+use Rattle.std.specs.List.{AllByRecursion}
+use Rattle.jpeg_segments.specs.Frame.{AllHaveSampling, Frame}
+use Rattle.jpeg_segments.specs.FrameView.{component_in, frame_in}
+use Rattle.jpeg_segments.specs.declared.parser.Component.{Component}
+use Rattle.jpeg_lossless.specs.Pictures.{ArePlanesOf, Layer, Reaches, factors_of, layer_of, layers_of, lines_across}
+use Rattle.jpeg_lossless.proofs.ImageLoops.{IsPixelOf, greatest-some, layers_none, layers_step, pixels-at, planes-count}
+use Rattle.jpeg_lossless.proofs.RowLoops.{mapped-at, mapped-within}
+use Rattle.jpeg_lossless.proofs.StretchedLines.{factor_most, line_inside, line_reaches, lines_more, lines_none}
+use Rattle.jpeg_lossless.proofs.StretchedLines.{lines_step, own_samples}
+use Rattle.jpeg_lossless.proofs.picture.stretch_all.Goals as goal
+
+-- as many components as planes
+within-components : (cs : List Component) (planes : List (Vec ℕ Global)) (i : ℕ)
+    → ArePlanesOf (map component_in cs) (map (λ v. v.items) planes) → i < length planes → i < length cs
+within-components cs planes i w h =
+    let count = planes-count (map component_in cs) (map (λ v. v.items) planes) w in
+    omega (arith, h, count, length-map cs component_in, length-map planes (λ v. v.items))
+
+component-at : (frame : Frame) (cs : List Component) (planes : List (Vec ℕ Global)) (i : ℕ) (r : Component)
+    (p : Vec ℕ Global) → ArePlanesOf (map component_in cs) (map (λ v. v.items) planes)
+    → AllByRecursion (Reaches frame) (map component_in cs) → AllHaveSampling (map component_in cs)
+    → i < length planes → r ≡ slice_index_or cs i r → p ≡ slice_index_or planes i p
+    → IsPixelOf frame (component_in r) p.items
+component-at frame cs planes i r p w reaches sampling h e f =
+    pixels-at frame (map component_in cs) (map (λ v. v.items) planes) i (component_in r) p.items w reaches sampling
+    (mapped-within component_in cs i (within-components cs planes i w h))
+    (mapped-at component_in cs i r e) (mapped-at (λ v. v.items) planes i p f)
+
+pub index-component-requires : goal.index-component-requires
+index-component-requires c =
+    let cs = c.args.frame.now.components in
+    let h = within-components cs.items c.args.planes.now c.loop-i.i c.requires.whole c.loop-i-test.true in
+    omega (arith, h, cs.ok.0)
+
+pub line_of-own-requires-clause-some : goal.line_of-own-requires-clause-some
+line_of-own-requires-clause-some c =
+    let some = greatest-some (λ f. f.vertical) (factors_of (frame_in c.args.frame.now)) in
+    omega (arith, some, c.requires.vertical)
+
+pub line_of-own-requires-clause-long : goal.line_of-own-requires-clause-long
+line_of-own-requires-clause-long c =
+    let frame = frame_in c.args.frame.now in
+    let cs = c.args.frame.now.components.items in
+    let r = c.index-component.result.now in
+    let p = c.index-planes-i.result in
+    let at : r ≡ slice_index_or cs c.loop-i.i r = search rules in
+    let is = component-at frame cs c.args.planes.now c.loop-i.i r p c.requires.whole c.requires.reaches
+    c.requires.sampling c.loop-i-test.true at c.index-planes-i.is in
+    line_inside frame (component_in r) p.items c.deref.result.now c.args.y c.args.vertical c.requires.vertical
+    c.deref.ensures.value is c.requires.y
+
+pub stretch-requires-clause-some : goal.stretch-requires-clause-some
+stretch-requires-clause-some c =
+    let frame = frame_in c.args.frame.now in
+    let cs = c.args.frame.now.components.items in
+    let r = c.index-component.result.now in
+    let at : r ≡ slice_index_or cs c.loop-i.i r = search rules in
+    let is = component-at frame cs c.args.planes.now c.loop-i.i r c.index-planes-i.result c.requires.whole
+    c.requires.reaches c.requires.sampling c.loop-i-test.true at c.index-planes-i.is in
+    is.sampling.horizontal_some
+
+pub stretch-requires-clause-most : goal.stretch-requires-clause-most
+stretch-requires-clause-most c =
+    let cs = c.args.frame.now.components.items in
+    let r = c.index-component.result.now in
+    let at : r ≡ slice_index_or cs c.loop-i.i r = search rules in
+    let inside = within-components cs c.args.planes.now c.loop-i.i c.requires.whole c.loop-i-test.true in
+    omega (
+      arith,
+      c.requires.horizontal,
+      factor_most (map component_in cs) c.loop-i.i (component_in r)
+          (mapped-within component_in cs c.loop-i.i inside) (mapped-at component_in cs c.loop-i.i r at),
+    )
+
+pub stretch-requires-clause-reaches : goal.stretch-requires-clause-reaches
+stretch-requires-clause-reaches c =
+    let frame = frame_in c.args.frame.now in
+    let cs = c.args.frame.now.components.items in
+    let r = c.index-component.result.now in
+    let p = c.index-planes-i.result in
+    let at : r ≡ slice_index_or cs c.loop-i.i r = search rules in
+    let is = component-at frame cs c.args.planes.now c.loop-i.i r p c.requires.whole c.requires.reaches
+    c.requires.sampling c.loop-i-test.true at c.index-planes-i.is in
+    line_reaches frame (component_in r) p.items c.deref.result.now c.line_of-own.result.now c.args.y c.args.horizontal
+    c.args.vertical c.from-width.result c.requires.horizontal c.requires.vertical c.from-width.ensures
+    c.deref.ensures.value c.line_of-own.ensures is c.requires.y
+
+pub loop-i-preserved : goal.loop-i-preserved
+loop-i-preserved c =
+    let a = c.args in
+    let frame = frame_in a.frame.now in
+    let cs = a.frame.now.components.items in
+    let planes = a.planes.now in
+    let grids = map (λ v. v.items) planes in
+    let i = c.loop-i.i in
+    let r = c.index-component.result.now in
+    let p = c.index-planes-i.result in
+    let old = map (λ v. v.items) c.loop-i.lines in
+    let new = c.stretch.new.line.items in
+    let at : r ≡ slice_index_or cs i r = search rules in
+    let is = component-at frame cs planes i r p c.requires.whole c.requires.reaches c.requires.sampling
+    c.loop-i-test.true at c.index-planes-i.is in
+    let inside = mapped-within component_in cs i (within-components cs planes i c.requires.whole c.loop-i-test.true) in
+    let within : i < length grids = mapped-within (λ v. v.items) planes i c.loop-i-test.true in
+    let room : i < length old = omega (
+      arith,
+      c.loop-i.invariant.count,
+      c.loop-i-test.true,
+      length-map c.loop-i.lines (λ v. v.items),
+    ) in
+    let across : List Layer → List (List ℕ) = λ l. lines_across a.horizontal a.vertical frame.width l a.y in
+    let rest = layers_of (drop (i + 1) (map component_in cs)) (drop (i + 1) grids) in
+    let step = layers_step i (map component_in cs) grids (component_in r) p.items inside within
+    (mapped-at component_in cs i r at) (mapped-at (λ v. v.items) planes i p c.index-planes-i.is) in
+    let made = own_samples frame (component_in r) p.items c.deref.result.now c.line_of-own.result.now new a.y
+    a.horizontal a.vertical c.from-width.result c.requires.horizontal c.requires.vertical c.from-width.ensures
+    c.deref.ensures.value c.line_of-own.ensures c.in_ok-stretch.ensures is in
+    let next : across (layer_of (component_in r) p.items ∷ rest) ≡ new ∷ across rest =
+    lines_more a.horizontal a.vertical frame.width a.y (layer_of (component_in r) p.items) rest
+    ∙ ap (λ (l : List ℕ). l ∷ across rest) (sym made) in
+    record {
+      count = length-set c.loop-i.lines i c.stretch.new.line ∙ c.loop-i.invariant.count;
+      lines =
+          ap (λ (l : List (List ℕ)). take (i + 1) l ++ across rest)
+          (map-set (λ v. v.items) c.loop-i.lines i c.stretch.new.line)
+          ∙ sym (lines_step i old (across rest) new room)
+          ∙ sym (ap (λ (l : List (List ℕ)). take i old ++ l) (ap across step ∙ next))
+          ∙ c.loop-i.invariant.lines;
+    }
+
+pub returns-clause-lines : goal.returns-clause-lines
+returns-clause-lines c =
+    let a = c.args in
+    let frame = frame_in a.frame.now in
+    let grids = map (λ v. v.items) a.planes.now in
+    let lines = map (λ v. v.items) c.loop-i.lines in
+    let i = c.loop-i.i in
+    let count = length-map a.planes.now (λ v. v.items) in
+    let long : length lines ≤ i = omega (
+      arith,
+      c.loop-i-test.false,
+      c.loop-i.invariant.count,
+      length-map c.loop-i.lines (λ v. v.items),
+    ) in
+    let none = layers_none i frame.components grids (omega (arith, count, c.loop-i-test.false)) in
+    let across : List Layer → List (List ℕ) = λ l. lines_across a.horizontal a.vertical frame.width l a.y in
+    sym (ap (λ (l : List (List ℕ)). take i lines ++ l)
+    (ap across none ∙ lines_none a.horizontal a.vertical frame.width a.y)
+    ∙ append-nil (take i lines) ∙ take_all i lines long)
+    ∙ c.loop-i.invariant.lines
