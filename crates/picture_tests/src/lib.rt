@@ -29,3 +29,5 @@ mod scales;
 mod segments;
 #[cfg(test)]
 mod sequential;
+#[cfg(test)]
+mod sizes;
