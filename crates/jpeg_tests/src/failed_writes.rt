@@ -13,21 +13,22 @@ use test_streams::streams::{ONE_BLOCK, bytes};
 /// What `run` writes of the stream of one block.
 const OUTPUT: &str = "38 20 38 20 4C38 0A 81*64";
 
-/// How many writes of at most 5 bytes the line and the picture take.
-const WRITES: usize = 15;
+/// How many bytes a write takes at most, and how many writes the line and the picture then take.
+const WRITES: [(usize, usize); 3] = [(1, 71), (5, 15), (1000, 2)];
 
 /// What `run` returns where the write of this number goes wrong. Asserts that it is the last, and
 /// that a beginning of the output was taken.
 fn run_into(
     rt: &impl Abort,
     alloc: Global,
+    piece: usize,
     call: usize,
     trouble: Trouble,
 ) -> Result<Result<(), Error>, Fail> {
     let stream = bytes(alloc, &ONE_BLOCK)?;
     let output = bytes(alloc, &[OUTPUT])?;
     let mut written = Vec::new(alloc);
-    let mut writer = Writer::new(&mut written, 5, call, trouble);
+    let mut writer = Writer::new(&mut written, piece, call, trouble);
     let answer = run(alloc, stream.as_slice(), &mut writer);
     let calls = writer.call;
     assert!(rt;
@@ -46,9 +47,11 @@ fn run_into(
 fn a_program_returns_the_error_of_each_write(rt: HostRuntime) -> Result<(), Fail> {
     let alloc = rt.alloc();
     for kind in FAILURES {
-        for call in 0..WRITES {
-            let answer = run_into(&rt, alloc, call, Trouble::FailsBy(kind))?;
-            assert!(rt; is_own_error(alloc, &answer, kind)?, "call {call}, {kind}");
+        for (piece, writes) in WRITES {
+            for call in 0..writes {
+                let answer = run_into(&rt, alloc, piece, call, Trouble::FailsBy(kind))?;
+                assert!(rt; is_own_error(alloc, &answer, kind)?, "call {call}, {kind}");
+            }
         }
     }
     Ok(())
@@ -56,23 +59,27 @@ fn a_program_returns_the_error_of_each_write(rt: HostRuntime) -> Result<(), Fail
 
 #[test]
 fn a_write_of_nothing_is_write_zero(rt: HostRuntime) -> Result<(), Fail> {
-    for call in 0..WRITES {
-        match run_into(&rt, rt.alloc(), call, Trouble::TakesNothing)? {
-            Err(Error::Io(error)) => assert!(rt; error.kind() == ErrorKind::WriteZero),
-            _ => assert!(rt; false, "call {call}"),
+    for (piece, writes) in WRITES {
+        for call in 0..writes {
+            match run_into(&rt, rt.alloc(), piece, call, Trouble::TakesNothing)? {
+                Err(Error::Io(error)) => assert!(rt; error.kind() == ErrorKind::WriteZero),
+                _ => assert!(rt; false, "call {call}"),
+            }
         }
     }
     Ok(())
 }
 
 #[test]
-fn the_output_takes_fifteen_writes(rt: HostRuntime) -> Result<(), Fail> {
+fn the_output_takes_its_writes(rt: HostRuntime) -> Result<(), Fail> {
     let stream = bytes(rt.alloc(), &ONE_BLOCK)?;
     let output = bytes(rt.alloc(), &[OUTPUT])?;
-    let mut written = Vec::new(rt.alloc());
-    let mut writer = Writer::new(&mut written, 5, usize::MAX, Trouble::Fails);
-    run(rt.alloc(), stream.as_slice(), &mut writer)?;
-    assert_eq!(rt; writer.call, WRITES);
-    assert_eq!(rt; written.as_slice(), output.as_slice());
+    for (piece, writes) in WRITES {
+        let mut written = Vec::new(rt.alloc());
+        let mut writer = Writer::new(&mut written, piece, usize::MAX, Trouble::Fails);
+        run(rt.alloc(), stream.as_slice(), &mut writer)?;
+        assert_eq!(rt; writer.call, writes);
+        assert_eq!(rt; written.as_slice(), output.as_slice());
+    }
     Ok(())
 }

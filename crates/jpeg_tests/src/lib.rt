@@ -3,6 +3,10 @@
 #![tactic(auto)]
 
 #[cfg(test)]
+mod decoders;
+#[cfg(test)]
+mod each_reader;
+#[cfg(test)]
 mod failed_reads;
 #[cfg(test)]
 mod failed_writes;
@@ -12,6 +16,8 @@ mod interruptions;
 mod memory;
 #[cfg(test)]
 mod metadata;
+#[cfg(test)]
+mod named_reads;
 #[cfg(test)]
 mod parts;
 #[cfg(test)]

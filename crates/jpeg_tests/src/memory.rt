@@ -1,11 +1,17 @@
 //! Calls that run out of memory. Where `rt try --test --fail-alloc N` refuses the Nth allocation,
-//! each returns `OutOfMemory` and nothing else, and what was read before is reported. Nothing here
-//! allocates but the calls themselves and a writer, which then returns an error of its own.
+//! each returns `OutOfMemory` and nothing else, and what was read before is reported; `./memory` at
+//! the top of the repository goes through the allocations. Nothing here allocates but the calls
+//! themselves and a writer, which then returns an error of its own.
 
+use crate::decoders::{First, assert_failed, decode_after};
 use jpeg_decoder::run::run;
 use jpeg_decoder::{CodingProcess, Decoder, Error, ImageInfo, PixelFormat};
 use std::alloc::Global;
 use std::io::ErrorKind;
+use std::process::Abort;
+use std::test::Fail;
+use test_streams::named;
+use test_streams::named::{Named, ROOM, bytes_in};
 use test_streams::readers::{Counted, Counts, Reader, Trouble, Writer};
 use test_streams::states::{is_failed, is_finished};
 
@@ -49,15 +55,23 @@ fn fits<T: PartialEq + Drop>(reported: Option<T>, data: T, end: usize, given: us
     }
 }
 
-/// Whether the profile that is reported fits the bytes given, or there is no memory to put it
-/// together.
+/// Whether the profile that is reported fits the bytes given. A call that runs out of memory to put
+/// it together changes nothing, and the next one reports it.
 fn profile_fits(decoder: &Decoder<Counted<'_>>, given: usize) -> bool {
     match decoder.icc_profile() {
+        Err(Error::OutOfMemory) => is_profile(&decoder.icc_profile(), given),
+        answer => is_profile(&answer, given),
+    }
+}
+
+/// Whether an answer is the profile, where it is among the bytes given.
+fn is_profile(answer: &Result<Option<Vec<u8>>, Error>, given: usize) -> bool {
+    match answer {
         Ok(profile) => {
             let bytes = profile.as_ref().map(|profile| profile.as_slice());
             fits(bytes, [11, 22].as_slice(), PROFILE_END, given)
         }
-        Err(e) => matches!(e, Error::OutOfMemory),
+        Err(_) => false,
     }
 }
 
@@ -153,4 +167,120 @@ fn a_program_that_wants_memory_writes_nothing(rt: HostRuntime) {
         Err(Error::Io(e)) => assert!(rt; e.kind() == ErrorKind::OutOfMemory),
         Err(_) => assert!(rt; false),
     }
+}
+
+/// Asserts that a stream gives its picture, or runs out of memory and leaves a failed decoder.
+fn assert_wants_memory(
+    rt: &impl Abort,
+    alloc: Global,
+    named: &Named,
+    first: First,
+) -> Result<(), Fail> {
+    let mut room = [0; ROOM];
+    let stream = bytes_in(&mut room, named.stream)?;
+    let mut picture_room = [0; ROOM];
+    let picture = bytes_in(&mut picture_room, named.picture)?;
+    let is_fit = match Decoder::new(alloc, stream) {
+        Ok(mut decoder) => match decode_after(&mut decoder, first) {
+            Ok(pixels) => pixels.as_slice() == picture,
+            Err(error) => {
+                assert_failed(rt, &mut decoder, named.name);
+                matches!(error, Error::OutOfMemory) && decoder.icc_profile().is_ok()
+            }
+        },
+        Err(error) => matches!(error, Error::OutOfMemory),
+    };
+    assert!(rt; is_fit, "{}", named.name);
+    Ok(())
+}
+
+#[test]
+fn the_smallest_grey_stream(rt: HostRuntime) -> Result<(), Fail> {
+    assert_wants_memory(&rt, rt.alloc(), &named::SMALLEST_GREY, First::Nothing)
+}
+
+#[test]
+fn the_smallest_grey_stream_after_its_header(rt: HostRuntime) -> Result<(), Fail> {
+    assert_wants_memory(&rt, rt.alloc(), &named::SMALLEST_GREY, First::ReadInfo)
+}
+
+#[test]
+fn the_smallest_grey_stream_at_a_scale(rt: HostRuntime) -> Result<(), Fail> {
+    assert_wants_memory(&rt, rt.alloc(), &named::SMALLEST_GREY, First::Scale)
+}
+
+#[test]
+fn a_progressive_stream(rt: HostRuntime) -> Result<(), Fail> {
+    assert_wants_memory(&rt, rt.alloc(), &named::PROGRESSIVE, First::Nothing)
+}
+
+#[test]
+fn a_progressive_stream_without_refinement(rt: HostRuntime) -> Result<(), Fail> {
+    assert_wants_memory(&rt, rt.alloc(), &named::WITHOUT_REFINEMENT, First::Nothing)
+}
+
+#[test]
+fn a_progressive_stream_with_refinement(rt: HostRuntime) -> Result<(), Fail> {
+    assert_wants_memory(&rt, rt.alloc(), &named::WITH_REFINEMENT, First::Nothing)
+}
+
+#[test]
+fn zeros_after_the_data(rt: HostRuntime) -> Result<(), Fail> {
+    assert_wants_memory(&rt, rt.alloc(), &named::ZEROS_AFTER_DATA, First::Nothing)
+}
+
+#[test]
+fn a_lossless_stream(rt: HostRuntime) -> Result<(), Fail> {
+    assert_wants_memory(&rt, rt.alloc(), &named::LOSSLESS, First::Nothing)
+}
+
+#[test]
+fn three_components(rt: HostRuntime) -> Result<(), Fail> {
+    assert_wants_memory(&rt, rt.alloc(), &named::COLOURS, First::Nothing)
+}
+
+#[test]
+fn a_first_component_twice_as_wide(rt: HostRuntime) -> Result<(), Fail> {
+    assert_wants_memory(&rt, rt.alloc(), &named::WIDE_FIRST, First::Nothing)
+}
+
+#[test]
+fn default_tables(rt: HostRuntime) -> Result<(), Fail> {
+    assert_wants_memory(&rt, rt.alloc(), &named::DEFAULT_TABLES, First::Nothing)
+}
+
+#[test]
+fn a_profile_in_254_parts(rt: HostRuntime) -> Result<(), Fail> {
+    assert_wants_memory(&rt, rt.alloc(), &named::PROFILE, First::Nothing)
+}
+
+/// Whether an answer is the profile of 254 bytes, from 1 to 254.
+fn is_long_profile(answer: &Result<Option<Vec<u8>>, Error>) -> bool {
+    match answer {
+        Ok(Some(profile)) => {
+            let mut values = profile.iter().copied();
+            (1..=254).all(|value| values.next() == Some(value)) && profile.len() == 254
+        }
+        _ => false,
+    }
+}
+
+#[test]
+fn a_refused_profile_is_there_at_the_next_call(rt: HostRuntime) -> Result<(), Fail> {
+    let mut room = [0; ROOM];
+    let stream = bytes_in(&mut room, named::PROFILE.stream)?;
+    let is_fit = match Decoder::new(rt.alloc(), stream) {
+        Ok(mut decoder) => match decoder.read_info() {
+            Ok(()) => match decoder.icc_profile() {
+                Err(Error::OutOfMemory) => {
+                    is_long_profile(&decoder.icc_profile()) && decoder.decode().is_ok()
+                }
+                answer => is_long_profile(&answer),
+            },
+            Err(error) => matches!(error, Error::OutOfMemory),
+        },
+        Err(error) => matches!(error, Error::OutOfMemory),
+    };
+    assert!(rt; is_fit);
+    Ok(())
 }

@@ -5,7 +5,7 @@ use std::alloc::Global;
 use std::process::Abort;
 use std::test::Fail;
 use test_streams::states::is_failed;
-use test_streams::streams::{FRAME, ONES, REST, bytes};
+use test_streams::streams::{FRAME, ONES, REST, bytes, write_profile};
 
 const EXIF: &str = "FFE1 000B 457869660000 010203";
 
@@ -85,10 +85,7 @@ fn with_profile(
     more: &str,
 ) -> Result<Vec<u8>, Fail> {
     let mut stream = bytes(alloc, &["FFD8"])?;
-    for number in (last..=first).rev() {
-        stream.extend_from_slice(&bytes(alloc, &["FFE2 0011 4943435F50524F46494C4500"])?)?;
-        stream.extend_from_slice(&[number, count, number])?;
-    }
+    write_profile(&mut stream, first, last, count)?;
     stream.extend_from_slice(&bytes(alloc, &[more, ONES, FRAME, REST])?)?;
     Ok(stream)
 }

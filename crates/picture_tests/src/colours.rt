@@ -4,19 +4,10 @@ use crate::gives::{Gives, assert_named, assert_pieces, decodes_as_wanted};
 use jpeg_decoder::{ColorTransform, Decoder};
 use std::alloc::Global;
 use std::test::Fail;
+use test_streams::named;
 use test_streams::readers::{Reader, Trouble};
-use test_streams::streams::bytes;
 
-/// One scan of three components of 8 by 8 samples: 129, 127 and 130.
-pub const RGB: &str = "FFD8 Q(01) FFC0 0011 08 0008 0008 03 52 11 00 47 11 00 42 11 00 D(04) A(00)
-    FFDA 000C 03 52 00 47 00 42 00 00 3F 00 40E7BF FFD9";
-
-const COLOURS: [(&str, &str, Gives); 8] = [
-    (
-        "identifiers of RGB",
-        RGB,
-        Gives::Colours("8 8 RGB24", "817F82*8", 8),
-    ),
+const COLOURS: [(&str, &str, Gives); 7] = [
     (
         "identifiers of YCbCr",
         "FFD8 Q(01) FFC0 0011 08 0008 0008 03 01 11 00 02 11 00 03 11 00 D(04) A(00)
@@ -144,7 +135,7 @@ const TRANSFORMS: [(ColorTransform, Gives); 9] = [
 
 /// Whether the three components give what is wanted by a colour transform that is set.
 fn gives_by(alloc: Global, transform: ColorTransform, gives: Gives) -> Result<bool, Fail> {
-    let stream = bytes(alloc, &[RGB])?;
+    let stream = named::COLOURS.bytes(alloc)?;
     let reader = Reader::new(&stream, 1000, usize::MAX, Trouble::Fails);
     let mut decoder = Decoder::new(alloc, reader)?;
     decoder.set_color_transform(transform);

@@ -25,6 +25,46 @@ const LARGE: [&str; 8] = [
 /// Its samples: more than 2^20.
 const SAMPLES: usize = 1_056_640;
 
+/// Streams of as many pixels in other frames, each with its name, how many bytes a pixel has, and
+/// the byte. Their data too are those of the first block or sample, and then zeros.
+const LARGE_FRAMES: [(&str, &str, usize, u8); 5] = [
+    (
+        "three components",
+        "FFD8 Q(01) FFC0 0011 08 03F8 0410 03 52 11 00 47 11 00 42 11 00
+         FFC4 0015 00 01 01 00*14 00 04 A(00) FFDA 000C 03 52 00 47 00 42 00 00 3F 00 A14280 FFD9",
+        3,
+        129,
+    ),
+    (
+        "four components",
+        "FFD8 Q(01) FFC0 0014 08 03F8 0410 04 01 11 00 02 11 00 03 11 00 04 11 00
+         FFC4 0015 00 01 01 00*14 00 04 A(00)
+         FFDA 000E 04 01 00 02 00 03 00 04 00 00 3F 00 A1428500 FFD9",
+        4,
+        126,
+    ),
+    (
+        "a progressive frame",
+        "FFD8 Q(01) FFC2 000B 08 03F8 0410 01 01 11 00 FFC4 0015 00 01 01 00*14 00 04
+         S(000000) A0 FFD9",
+        1,
+        129,
+    ),
+    (
+        "a progressive frame of three components",
+        "FFD8 Q(01) FFC2 0011 08 03F8 0410 03 52 11 00 47 11 00 42 11 00
+         FFC4 0015 00 01 01 00*14 00 04 FFDA 000C 03 52 00 47 00 42 00 00 00 00 A28A00 FFD9",
+        3,
+        129,
+    ),
+    (
+        "a lossless frame",
+        "FFD8 FFC3 000B 08 03F8 0410 01 01 11 00 FFC4 0015 00 01 01 00*14 00 01 S(010000) A0 FFD9",
+        1,
+        129,
+    ),
+];
+
 /// Segments of the greatest length, each with its name.
 const LONG_SEGMENTS: [(&str, &str); 7] = [
     ("comment", "FFFE FFFF 58*65533"),
@@ -58,6 +98,33 @@ fn a_large_picture_is_written(rt: HostRuntime) -> Result<(), Fail> {
     let samples = written.as_slice().strip_prefix(line).ok_or("another line")?;
     assert_eq!(rt; samples.len(), SAMPLES);
     assert!(rt; samples.iter().all(|sample| *sample == 129));
+    Ok(())
+}
+
+/// Asserts that each byte of a stream's picture is the one that is wanted.
+fn assert_large(
+    rt: &impl Abort,
+    alloc: Global,
+    frame: (&str, &str, usize, u8),
+) -> Result<(), Fail> {
+    let (name, text, pixel_bytes, byte) = frame;
+    let stream = bytes(alloc, &[text])?;
+    let mut decoder = Decoder::new(alloc, stream.as_slice())?;
+    let picture = decoder.decode()?;
+    let length = picture.len();
+    assert!(rt;
+        length.checked_div(pixel_bytes) == Some(SAMPLES),
+        "{name}: {length} bytes"
+    );
+    assert!(rt; picture.iter().all(|sample| *sample == byte), "{name}");
+    Ok(())
+}
+
+#[test]
+fn large_pictures_of_other_frames_are_decoded(rt: HostRuntime) -> Result<(), Fail> {
+    for frame in LARGE_FRAMES {
+        assert_large(&rt, rt.alloc(), frame)?;
+    }
     Ok(())
 }
 

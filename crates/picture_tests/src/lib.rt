@@ -30,4 +30,6 @@ mod segments;
 #[cfg(test)]
 mod sequential;
 #[cfg(test)]
+mod sizes;
+#[cfg(test)]
 mod texts;

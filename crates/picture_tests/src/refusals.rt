@@ -11,7 +11,7 @@ use test_streams::streams::{AC_0, DC_4, END, FRAME, ONES, REST, SCAN, bytes};
 /// A DC table of one code of category 12, which no difference has at 8 bits (T.81, Table F.1).
 const DC_12: &str = "FFC4 0014 00 01 00*15 0C";
 
-const REFUSED: [(&str, [&str; 8], Gives); 6] = [
+const REFUSED: [(&str, [&str; 8], Gives); 7] = [
     (
         "a start of 00 D8",
         ["00D8", ONES, FRAME, DC_4, AC_0, SCAN, "43", END],
@@ -35,6 +35,11 @@ const REFUSED: [(&str, [&str; 8], Gives); 6] = [
     (
         "a difference of category 12",
         ["FFD8", ONES, FRAME, DC_12, AC_0, SCAN, "43", END],
+        Gives::Format,
+    ),
+    (
+        "a difference of category 12 of the zeros after no data",
+        ["FFD8", ONES, FRAME, DC_12, AC_0, SCAN, "", END],
         Gives::Format,
     ),
     (

@@ -3,6 +3,8 @@
 
 use crate::gives::{Gives, assert_gives, assert_named, assert_pieces};
 use std::test::Fail;
+use test_streams::named;
+use test_streams::named::Named;
 use test_streams::streams::{AC_0, DC_4, FRAME, ONE_BLOCK, ONES, SCAN, bytes};
 
 /// Entropy-coded data of one block or two, and where a fault after it is met.
@@ -264,12 +266,34 @@ fn the_first_stream_has_141_bytes(rt: HostRuntime) -> Result<(), Fail> {
 }
 
 #[test]
+fn named_streams_give_their_pictures(rt: HostRuntime) -> Result<(), Fail> {
+    for named in named::STREAMS {
+        let stream = named.bytes(rt.alloc())?;
+        let gives = Gives::Colours(named.header, named.picture, 1);
+        assert_gives(&rt, rt.alloc(), named.name, &stream, gives)?;
+    }
+    Ok(())
+}
+
+/// Streams that are cut after each byte.
+const CUT: [Named; 7] = [
+    named::SMALLEST_GREY,
+    named::PROGRESSIVE,
+    named::WITHOUT_REFINEMENT,
+    named::WITH_REFINEMENT,
+    named::ZEROS_AFTER_DATA,
+    named::LOSSLESS,
+    named::COLOURS,
+];
+
+#[test]
 fn a_cut_stream_is_refused(rt: HostRuntime) -> Result<(), Fail> {
-    let stream = bytes(rt.alloc(), &ONE_BLOCK)?;
-    for length in 0..141 {
-        assert!(rt; length < stream.len());
-        let name = format!(in rt.alloc(); "length {length}")?;
-        assert_gives(&rt, rt.alloc(), name.as_str(), &stream[..length], Gives::Io)?;
+    for named in CUT {
+        let stream = named.bytes(rt.alloc())?;
+        for length in 0..stream.len() {
+            let name = format!(in rt.alloc(); "{}, {length} bytes", named.name)?;
+            assert_gives(&rt, rt.alloc(), name.as_str(), &stream[..length], Gives::Io)?;
+        }
     }
     Ok(())
 }
