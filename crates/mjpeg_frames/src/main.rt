@@ -15,12 +15,10 @@
 use jpeg_decoder::error::{Error, Result};
 use jpeg_decoder::{ByteReader, Decoder, ImageInfo};
 use std::alloc::Global;
-use std::env;
 use std::env::Args;
-use std::fmt;
-use std::io;
 use std::io::{BufReader, ErrorKind, Read, Write};
 use std::process::ExitCode;
+use std::{env, fmt, io};
 
 /// What is written of each frame.
 #[derive(Clone, Copy)]

@@ -1,5 +1,5 @@
 -- A header that was sized, and then the rest of its stream, are the picture of the stream.
-use Rattle.std.proofs.Common.{◌≡◌, ◌∙◌, ℕ, List, Result, Ok, Err, Option, Some, None, refl, ap, option_map}
+use Rattle.std.proofs.Common.{◌≡◌, ◌∙◌, ℕ, List, Result, Ok, Err, Option, Some, None, ap, option_map}
 use Rattle.jpeg_bits.specs.Reading.{Fault, Outcome}
 use Rattle.jpeg_streams.specs.Output.{default_settings}
 use Rattle.jpeg_streams.specs.Pixels.{info_of}
