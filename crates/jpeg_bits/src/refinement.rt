@@ -216,23 +216,22 @@ fn read_refinement<R: Read + Drop>(
             Some(sign) => Some(Refinement::New(run, signed_unit(sign, al))),
             None => None,
         },
-        _ => {
-            hold_size_error(held.alloc(), symbol, refusal);
+        category => {
+            hold_refined_category_error(held.alloc(), category, refusal);
             None
         }
     }
 }
 
-/// Holds the refusal of a symbol of a refinement whose low half is above 1 (T.81, G.1.2.3).
+/// Holds the refusal of a magnitude category that no token of a refinement has (T.81, G.1.2.3).
 #[cold]
 #[inline(never)]
-fn hold_size_error(alloc: Global, symbol: u8, refusal: &mut Option<Error>)
+fn hold_refined_category_error(alloc: Global, category: u8, refusal: &mut Option<Error>)
     ensures names { NamesFormat (held_refusal refusal.new) }
     ensures held { is_some refusal.new ≡ true }
 {
     *refusal = Some(format_error_of(format!(in alloc;
-        "coefficient magnitude category {} in a refinement scan, expected 0 or 1",
-        symbol % 16
+        "coefficient magnitude category {category} in a refinement scan, expected 0 or 1"
     )));
 }
 

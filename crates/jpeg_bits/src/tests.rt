@@ -517,6 +517,36 @@ fn codes_of_markers(rt: HostRuntime) {
     assert!(rt; !Marker::EOI.has_length());
 }
 
+/// Table B.1 of T.81.
+#[test]
+fn symbols_of_markers(rt: HostRuntime) -> Result<(), Fail> {
+    for (code, symbol) in [
+        (0x01, "TEM"),
+        (0x02, "RES"),
+        (0xc0, "SOF0"),
+        (0xc4, "DHT"),
+        (0xc8, "JPG"),
+        (0xcc, "DAC"),
+        (0xcf, "SOF15"),
+        (0xd7, "RST7"),
+        (0xd8, "SOI"),
+        (0xd9, "EOI"),
+        (0xda, "SOS"),
+        (0xdb, "DQT"),
+        (0xdc, "DNL"),
+        (0xdd, "DRI"),
+        (0xde, "DHP"),
+        (0xdf, "EXP"),
+        (0xee, "APP14"),
+        (0xfd, "JPG13"),
+        (0xfe, "COM"),
+    ] {
+        let marker = Marker::from_u8(code).ok_or("no marker")?;
+        assert_eq!(rt; format!(in rt.alloc(); "{marker}")?.as_str(), symbol);
+    }
+    Ok(())
+}
+
 fn says(alloc: Global, error: &Error, text: &str) -> Result<bool, AllocError> {
     Ok(format!(in alloc; "{error}")?.as_str() == text)
 }

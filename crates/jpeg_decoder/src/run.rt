@@ -158,7 +158,7 @@ pub fn report<W: Write>(_alloc: Global, outcome: &Result<()>, writer: &mut W) ->
     match outcome {
         Ok(()) => 0,
         Err(error) => {
-            // By parts: "out of memory" is to be said without any.
+            // By parts, which allocates nothing: the text may be "out of memory".
             let _ = write!(writer, "jpegraw: {error}\n");
             1
         }

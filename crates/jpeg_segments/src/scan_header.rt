@@ -321,7 +321,8 @@ fn progressive_band_text(
         )
     } else {
         format!(in alloc;
-            "successive approximation Ah={high}, Al={low} in a progressive scan, expected Ah=0 or {}",
+            "successive approximation Ah={high}, Al={low} in a progressive scan, \
+             expected Ah=0 or {}",
             u16::from(low) + 1
         )
     }
