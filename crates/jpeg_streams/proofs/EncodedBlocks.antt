@@ -285,7 +285,8 @@ at-most-one : (a : Bool) → cond a 1 0 ≤ 1
 at-most-one true = omega arith
 at-most-one false = omega arith
 
-byte-for : (a b c d e f g h : Bool) → (byte : ℕ) × (bits_of byte ≡ a ∷ b ∷ c ∷ d ∷ e ∷ f ∷ g ∷ h ∷ [])
+byte-for : (a b c d e f g h : Bool)
+    → (byte : ℕ) × (bits_of byte ≡ a ∷ b ∷ c ∷ d ∷ e ∷ f ∷ g ∷ h ∷ []) × (byte < 256)
 byte-for a b c d e f g h =
     let va = cond a 1 0 in
     let vb = cond b 1 0 in
@@ -315,6 +316,7 @@ byte-for a b c d e f g h =
         digit g (n / 2 % 2) (omega arith),
         digit h (n % 2) (omega arith),
       ) refl,
+      omega arith,
     )
 
 -- bits are filled up to whole bytes
@@ -323,32 +325,39 @@ pub record IsPacked (bits : List Bool) : Type 0 where
   pub filling : List Bool
   pub is_short : length filling ≤ 7
   pub whole : bits_of_bytes bytes ≡ bits ++ filling
+  pub are_bytes : AllByRecursion (λ b. b < 256) bytes
 
-last-byte : (bits filling : List Bool) (byte : ℕ) → length filling ≤ 7 → bits_of byte ≡ bits ++ filling → IsPacked bits
+last-byte : (bits filling : List Bool) (byte : ℕ) → length filling ≤ 7 → bits_of byte ≡ bits ++ filling → byte < 256
+    → IsPacked bits
 unfolding bits_of_bytes
-last-byte bits filling byte h e =
-    record { bytes = byte ∷ []; filling = filling; is_short = h; whole = append-nil (bits_of byte) ∙ e }
+last-byte bits filling byte h e low = record {
+  bytes = byte ∷ [];
+  filling = filling;
+  is_short = h;
+  whole = append-nil (bits_of byte) ∙ e;
+  are_bytes = (low, tt);
+}
 
 pub packed : (bits : List Bool) → IsPacked bits
 unfolding bits_of_bytes
-packed [] = record { bytes = []; filling = []; is_short = omega arith; whole = refl }
+packed [] = record { bytes = []; filling = []; is_short = omega arith; whole = refl; are_bytes = tt }
 packed (a ∷ []) = let b = byte-for a false false false false false false false in
-    last-byte (a ∷ []) (replicate 7 false) b.0 (omega arith) b.1
+    last-byte (a ∷ []) (replicate 7 false) b.0 (omega arith) b.1 b.2
 packed (a ∷ b ∷ []) = let x = byte-for a b false false false false false false in
-    last-byte (a ∷ b ∷ []) (replicate 6 false) x.0 (omega arith) x.1
+    last-byte (a ∷ b ∷ []) (replicate 6 false) x.0 (omega arith) x.1 x.2
 packed (a ∷ b ∷ c ∷ []) = let x = byte-for a b c false false false false false in
-    last-byte (a ∷ b ∷ c ∷ []) (replicate 5 false) x.0 (omega arith) x.1
+    last-byte (a ∷ b ∷ c ∷ []) (replicate 5 false) x.0 (omega arith) x.1 x.2
 packed (a ∷ b ∷ c ∷ d ∷ []) = let x = byte-for a b c d false false false false in
-    last-byte (a ∷ b ∷ c ∷ d ∷ []) (replicate 4 false) x.0 (omega arith) x.1
+    last-byte (a ∷ b ∷ c ∷ d ∷ []) (replicate 4 false) x.0 (omega arith) x.1 x.2
 packed (a ∷ b ∷ c ∷ d ∷ e ∷ []) =
     let x = byte-for a b c d e false false false in
-    last-byte (a ∷ b ∷ c ∷ d ∷ e ∷ []) (replicate 3 false) x.0 (omega arith) x.1
+    last-byte (a ∷ b ∷ c ∷ d ∷ e ∷ []) (replicate 3 false) x.0 (omega arith) x.1 x.2
 packed (a ∷ b ∷ c ∷ d ∷ e ∷ f ∷ []) =
     let x = byte-for a b c d e f false false in
-    last-byte (a ∷ b ∷ c ∷ d ∷ e ∷ f ∷ []) (replicate 2 false) x.0 (omega arith) x.1
+    last-byte (a ∷ b ∷ c ∷ d ∷ e ∷ f ∷ []) (replicate 2 false) x.0 (omega arith) x.1 x.2
 packed (a ∷ b ∷ c ∷ d ∷ e ∷ f ∷ g ∷ []) =
     let x = byte-for a b c d e f g false in
-    last-byte (a ∷ b ∷ c ∷ d ∷ e ∷ f ∷ g ∷ []) (replicate 1 false) x.0 (omega arith) x.1
+    last-byte (a ∷ b ∷ c ∷ d ∷ e ∷ f ∷ g ∷ []) (replicate 1 false) x.0 (omega arith) x.1 x.2
 packed (a ∷ b ∷ c ∷ d ∷ e ∷ f ∷ g ∷ h ∷ more) =
     let x = byte-for a b c d e f g h in
     let r = packed more in
@@ -357,6 +366,7 @@ packed (a ∷ b ∷ c ∷ d ∷ e ∷ f ∷ g ∷ h ∷ more) =
       filling = r.filling;
       is_short = r.is_short;
       whole = ap₂ (λ (p q : List Bool). p ++ q) x.1 r.whole;
+      are_bytes = (x.2, r.are_bytes);
     }
 
 pub interval-written : (p : Pass) (Good : Via × Block → Type 0) → Each p Good → (turns : List (Via × Block))

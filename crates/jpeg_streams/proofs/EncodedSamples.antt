@@ -4,13 +4,13 @@ use Rattle.std.proofs.Common.{Bool, true, false, List, [], ◌∷◌, ◌++◌, 
 use Rattle.std.proofs.Common.{◌≤ℤ◌, unsigned_abs, Some, None}
 use Rattle.std.proofs.Common.{refl, sym, ap, ap₂, ◌∙◌, subst, append_assoc, length-append, arith}
 use Rattle.std.proofs.Math.Pow.{pow_mono}
-use Rattle.std.proofs.lemmas.Bool.{cases_lt, lt-ltb}
+use Rattle.std.proofs.lemmas.Bool.{cases_lt, eqb-true, ltb-true, lt-ltb}
 use Rattle.std.proofs.lemmas.Int.{ints}
 use Rattle.std.proofs.lemmas.List.{append-nil, take_all}
 use Rattle.std.proofs.lemmas.List.FromFn.{get_or-range_with_len}
 use lib.ListN.{length-map}
-use Rattle.std.specs.List.{AllByRecursion, range_with_len}
-use Rattle.std.specs.Prelude.{slice_index_or}
+use Rattle.std.specs.List.{AllByRecursion, list_all, range_with_len}
+use Rattle.std.specs.Prelude.{flat_map, nat_lt, slice_index_or, ◌/◌, ◌%◌, ◌==◌}
 use Rattle.jpeg_bits.proofs.Tables.{tested-exist}
 use Rattle.jpeg_bits.specs.Codes.{code_lengths, code_value, codes_exist, HasCodes, lengths_from, Table}
 use Rattle.jpeg_bits.specs.Written.{code_bits, IsCoded, marker, stuffed}
@@ -23,7 +23,8 @@ use Rattle.jpeg_segments.specs.HuffmanTables.{PlacedTable}
 use Rattle.jpeg_segments.specs.ScanHeader.{place_of}
 use Rattle.jpeg_segments.specs.ScanHeaders.{AreChoices, IsScan, scan_payload, ScanHeader}
 use Rattle.jpeg_segments.specs.WrittenSegments.{AreComponents, frame_written, FrameHeader, Header, Huffman, IsFrame}
-use Rattle.jpeg_segments.specs.WrittenSegments.{IsHuffmanTable, payload_of, sized}
+use Rattle.jpeg_segments.specs.WrittenSegments.{factors_bytes, frame_payload, huffman_bytes, IsHuffmanTable}
+use Rattle.jpeg_segments.specs.WrittenSegments.{payload_of, sized, u16_bytes}
 use Rattle.jpeg_lossless.specs.Prediction.{residue, start_of}
 use Rattle.jpeg_lossless.specs.Differences.{Part, lines_in, mcu_tables, row_tables, strand, strands}
 use Rattle.jpeg_lossless.specs.Scans.{rows_of_interval, Way}
@@ -35,7 +36,7 @@ use Rattle.jpeg_lossless.specs.Written.WritesRow.{none, one}
 use Rattle.jpeg_lossless.specs.Written.WritesRows.{no_row, row}
 use Rattle.jpeg_lossless.proofs.Residues.{residue_nat, residue_neg, residue_small}
 use Rattle.jpeg_streams.specs.Found.{Found, nothing_found}
-use Rattle.jpeg_streams.specs.FrameSamples.{AreLinesOf, AreSamplesOf, AreWrittenIn, IsLineOf}
+use Rattle.jpeg_streams.specs.FrameSamples.{AreBytes, AreLinesOf, AreSamplesOf, AreWrittenIn, FitsFields, IsLineOf}
 use Rattle.jpeg_streams.specs.InTurn.{IsIn}
 use Rattle.jpeg_streams.specs.LosslessScans.{LosslessCoding, mcus_across, mcus_down, parts_of, way_of}
 use Rattle.jpeg_streams.specs.Needed.{first_of}
@@ -46,6 +47,7 @@ use Rattle.jpeg_streams.specs.WrittenLossless.{said_after_scan, Samples, Writes,
 use Rattle.jpeg_streams.specs.WrittenLossless.Writes.{closed, scan, segment}
 use Rattle.jpeg_streams.proofs.EncodedBlocks.{category-at_most, packed}
 use Rattle.jpeg_streams.proofs.EncodedImages.{component_in, first-is, in-range, place-is}
+use Rattle.jpeg_streams.proofs.Soundness.{both-hold}
 
 -- ---- the table
 
@@ -256,6 +258,81 @@ are-wide : (bound n : ℕ) (lines : List (List ℕ)) → AllByRecursion (IsLineO
 are-wide bound n [] h = tt
 are-wide bound n (l ∷ lines) h = (h.0.0, are-wide bound n lines h.1)
 
+-- ---- bytes
+
+bytes-append : (xs ys : List ℕ) → AreBytes xs → AreBytes ys → AreBytes (xs ++ ys)
+bytes-append [] ys h k = k
+bytes-append (x ∷ xs) ys h k = (h.0, bytes-append xs ys h.1 k)
+
+byte-stuffed : (b : ℕ) (more : List ℕ) (t : Bool) → b < 256 → AreBytes more
+    → AreBytes (elim t as (λ _. List ℕ) [ true ↦ 0xFF ∷ 0 ∷ more | false ↦ b ∷ more ])
+byte-stuffed b more true h k = (omega arith, (omega arith, k))
+byte-stuffed b more false h k = (h, k)
+
+stuffed-bytes : (bytes : List ℕ) → AreBytes bytes → AreBytes (stuffed bytes)
+unfolding stuffed
+stuffed-bytes [] h = tt
+stuffed-bytes (b ∷ bytes) h = byte-stuffed b (stuffed bytes) (b == 0xFF) h.0 (stuffed-bytes bytes h.1)
+
+u16-bytes : (n : ℕ) → n < 65536 → AreBytes (u16_bytes n)
+u16-bytes n h = (omega arith, (omega arith, tt))
+
+-- a segment of bytes
+sized-bytes : (payload : List ℕ) → length payload + 2 < 65536 → AreBytes payload → AreBytes (sized payload)
+sized-bytes payload h k = bytes-append (u16_bytes (length payload + 2)) payload (u16-bytes (length payload + 2) h) k
+
+marked-bytes : (code : ℕ) (bytes : List ℕ) → code < 256 → AreBytes bytes → AreBytes (marker 0 code bytes)
+marked-bytes code bytes h k = (omega arith, (h, k))
+
+factors-length : (cs : List Factors) → length (flat_map factors_bytes cs) ≡ 3 * length cs
+factors-length [] = refl
+factors-length (c ∷ cs) =
+    let more = factors-length cs in
+    omega (arith, length-append (factors_bytes c) (flat_map factors_bytes cs))
+
+components-bytes : (front cs : List Factors) → AreComponents 3 front cs → AllByRecursion (λ c. c.identifier < 256) cs
+    → AreBytes (flat_map factors_bytes cs)
+unfolding AreComponents
+components-bytes front [] are low = tt
+components-bytes front (c ∷ cs) are low =
+    let r = are.0.ranged in
+    let h = r.horizontal_most in
+    let v = r.vertical_most in
+    let place : c.quantization ≡ 0 = eqb-true c.quantization 0 are.0.placed in
+    bytes-append (factors_bytes c) (flat_map factors_bytes cs)
+    (low.0, (omega (arith, h, v), (omega (arith, place), tt)))
+    (components-bytes (front ++ c ∷ []) cs are.1 low.1)
+
+header-bytes : (h : FrameHeader) → IsFrame 3 h → HasSamples 3 h → FitsFields h
+    → AreBytes (sized (payload_of (Header 3 h)))
+unfolding frame_payload
+header-bytes h is p fits =
+    let few : length h.components ≤ 4 = go p.counted in
+    let comps = flat_map factors_bytes h.components in
+    let size = factors-length h.components in
+    let most = p.most in
+    sized-bytes (payload_of (Header 3 h)) (omega (arith, few, size)) (
+      omega (arith, most),
+      bytes-append (u16_bytes h.height) (u16_bytes h.width ++ (length h.components ∷ comps))
+          (u16-bytes h.height fits.height)
+          (bytes-append (u16_bytes h.width) (length h.components ∷ comps) (u16-bytes h.width fits.width)
+          (omega (arith, few), components-bytes [] h.components is.components fits.identified)),
+    )
+  where
+    go : (length h.components ≡ 1) ⊎ ((length h.components ≡ 3) ⊎ (length h.components ≡ 4))
+        → length h.components ≤ 4
+    go (inl e) = omega (arith, e)
+    go (inr (inl e)) = omega (arith, e)
+    go (inr (inr e)) = omega (arith, e)
+
+tested-bytes : (bytes : List ℕ) → list_all (λ b. nat_lt b 256) bytes ≡ true → AreBytes bytes
+tested-bytes [] h = tt
+tested-bytes (b ∷ bytes) h =
+    let both = both-hold (nat_lt b 256) (list_all (λ b. nat_lt b 256) bytes) h in
+    (ltb-true b 256 both.0, tested-bytes bytes both.1)
+
+-- ---- the interval
+
 -- how a component alone is coded
 abbrev lone_way : ℕ → ℕ → ℕ → Way
 lone_way start width height =
@@ -263,7 +340,7 @@ lone_way start width height =
 
 interval-written : (start bound width height : ℕ) (lines : List (List ℕ)) → bound ≤ 65536 → length lines ≡ height
     → AllByRecursion (IsLineOf width bound) lines
-    → (bytes : List ℕ) × WritesInterval (lone_way start width height) height (lines ∷ []) bytes
+    → (bytes : List ℕ) × WritesInterval (lone_way start width height) height (lines ∷ []) bytes × AreBytes bytes
 unfolding mcu_tables HaveDifferences
 interval-written start bound width height lines le e h =
     let rows = differences_of Ra start [] lines in
@@ -284,6 +361,7 @@ interval-written start bound width height lines le e h =
         whole = b.whole;
         has_bytes = refl;
       },
+      stuffed-bytes b.bytes b.are_bytes,
     )
 
 -- ---- a scan of a component
@@ -338,7 +416,7 @@ component-at h front more c e =
 data-written : (h : FrameHeader) (now : Found) (front more : List Factors) (c : Factors) (samples : Samples)
     → IsReady h now → h.components ≡ front ++ c ∷ more → h.precision ≤ 16
     → AreLinesOf (2 ^ h.precision) (component_in h c) (samples (length front))
-    → (bytes : List ℕ) × WritesScan now (frame_written 3 h) (header_of (length front) c) samples bytes
+    → (bytes : List ℕ) × WritesScan now (frame_written 3 h) (header_of (length front) c) samples bytes × AreBytes bytes
 unfolding frame_of mcus_across mcus_down parts_of AreCodings HoldSamples
 data-written h now front more c samples ready e most are =
     let frame = frame_written 3 h in
@@ -360,14 +438,30 @@ data-written h now front more c samples ready e most are =
         held = (own-whole wide high lines are.counted (are-wide (2 ^ h.precision) wide lines are.lined), tt);
         written = last 0 high (lines ∷ []) w.0 (subst (λ (n : ℕ). high ≤ n) (sym all) (omega arith)) w.1;
       },
+      w.2,
     )
+
+scan-bytes : (place : ℕ) (c : Factors) → c.identifier < 256 → AreBytes (sized (scan_payload (header_of place c)))
+unfolding scan_payload
+scan-bytes place c h =
+    sized-bytes (scan_payload (header_of place c)) (omega arith)
+    (omega arith, (h, (omega arith, (omega arith, (omega arith, (omega arith, tt))))))
 
 -- ---- the stream
 
 abbrev Sends : FrameHeader → Samples → Found → List ℕ → Type 0
 Sends h samples now sent =
     (bytes : List ℕ) × (final : Found) × Writes samples now sent bytes final
-    × (final.frame ≡ Some (frame_written 3 h))
+    × (final.frame ≡ Some (frame_written 3 h)) × (FitsFields h → AreBytes bytes)
+
+one-identified : (cs front more : List Factors) (c : Factors) → cs ≡ front ++ c ∷ more
+    → AllByRecursion (λ c. c.identifier < 256) cs → c.identifier < 256
+one-identified cs front more c e all =
+    go front (subst (AllByRecursion (λ (x : Factors). x.identifier < 256)) e all)
+  where
+    go : (xs : List Factors) → AllByRecursion (λ c. c.identifier < 256) (xs ++ c ∷ more) → c.identifier < 256
+    go [] h = h.0
+    go (x ∷ xs) h = go xs h.1
 
 in-next : (n : ℕ) (sent : List ℕ) → ((j : ℕ) → j < n → IsIn j sent) → (j : ℕ) → j < n + 1 → IsIn j (n ∷ sent)
 in-next n sent all j h = go (cases_lt j n)
@@ -390,6 +484,7 @@ scans-written h samples [] front now sent p all ready e are sends =
           (in-range (λ k. IsIn k sent) 0 (length (frame_written 3 h).components)
           (λ j low lt. sends j (omega arith))),
       ready.framed,
+      λ fits. (omega arith, (omega arith, tt)),
     )
 scans-written h samples (c ∷ more) front now sent p all ready e are sends =
     let place = length front in
@@ -405,6 +500,10 @@ scans-written h samples (c ∷ more) front now sent p all ready e are sends =
       scan now rest.1 sent (frame_written 3 h) 0 (header_of place c) d.0 rest.0 ready.framed refl
           (header-written h front more c p e are.0.is_new) d.1 rest.2,
       rest.3,
+      λ fits. marked-bytes 218 (sized (scan_payload (header_of place c)) ++ (d.0 ++ rest.0)) (omega arith)
+          (bytes-append (sized (scan_payload (header_of place c))) (d.0 ++ rest.0)
+          (scan-bytes place c (one-identified h.components front more c e fits.identified))
+          (bytes-append d.0 rest.0 d.2 (rest.4 fits))),
     )
 
 abbrev even_tables : List PlacedTable
@@ -424,6 +523,10 @@ abbrev front_bytes : FrameHeader → List ℕ → List ℕ
 front_bytes h more =
     marker 0 195 (sized (payload_of (Header 3 h)) ++ marker 0 196 (sized (payload_of (Huffman even_tables)) ++ more))
 
+tables-bytes : AreBytes (sized (payload_of (Huffman even_tables)))
+unfolding huffman_bytes
+tables-bytes = tested-bytes (sized (payload_of (Huffman even_tables))) refl
+
 pub samples-written : (h : FrameHeader) (samples : Samples) → IsFrame 3 h → HasSamples 3 h
     → AreSamplesOf (frame_written 3 h) samples → (bytes : List ℕ) × AreWrittenIn h samples bytes
 unfolding nothing_found
@@ -441,5 +544,11 @@ samples-written h samples is p all =
               segment (said_1 h) r.1 [] 0 (Huffman even_tables) _ ((even-written _, tt), tt) r.2);
         };
         framed = r.3;
+        are_bytes = λ fits. (omega arith, (omega arith, marked-bytes 195 (sized (payload_of (Header 3 h))
+            ++ marker 0 196 (sized (payload_of (Huffman even_tables)) ++ r.0)) (omega arith)
+            (bytes-append (sized (payload_of (Header 3 h))) (marker 0 196 (sized (payload_of (Huffman even_tables)) ++ r.0))
+            (header-bytes h is p fits)
+            (marked-bytes 196 (sized (payload_of (Huffman even_tables)) ++ r.0) (omega arith)
+            (bytes-append (sized (payload_of (Huffman even_tables))) r.0 tables-bytes (r.4 fits))))));
       },
     )

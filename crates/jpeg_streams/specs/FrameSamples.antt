@@ -27,11 +27,21 @@ AreSamplesOf frame samples =
     (place : ℕ) (c : Component) → first_of (drop place frame.components) ≡ Some c →
     AreLinesOf (2 ^ frame.precision) c (samples place)
 
--- The bytes are a stream for these samples, in a frame with this header.
+-- The parameters of a header fit their fields.
+pub record FitsFields (h : FrameHeader) : Type 0 where
+  pub width : h.width < 65536
+  pub height : h.height < 65536
+  pub identified : AllByRecursion (λ c. c.identifier < 256) h.components
+
+abbrev pub AreBytes : List ℕ → Type 0
+AreBytes numbers = AllByRecursion (λ b. b < 256) numbers
+
+-- They are a stream for these samples, in a frame with this header, and bytes where it fits.
 pub record AreWrittenIn (h : FrameHeader) (samples : Samples) (bytes : List ℕ) : Type 0 where
   pub final : Found
   pub written : WritesSamples samples bytes final
   pub framed : final.frame ≡ Some (frame_written 3 h)
+  pub are_bytes : FitsFields h → AreBytes bytes
 
 -- ---- what is outside
 
