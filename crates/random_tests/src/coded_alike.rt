@@ -44,7 +44,7 @@ struct Answer {
 }
 
 /// Decodes the picture of a reader's stream, and what is said of it.
-fn picture_of<R: Read + Drop>(
+pub fn picture_of<R: Read + Drop>(
     alloc: Global,
     reader: R,
     size: Option<(u16, u16)>,

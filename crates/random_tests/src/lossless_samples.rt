@@ -1,10 +1,11 @@
 //! Random lossless images, each coded at random: every stream gives the samples of its image.
 
+use crate::coded_alike::picture_of;
 use crate::lossless_images::LosslessImage;
 use crate::lossless_writer::write;
 use crate::pieces::Pieces;
 use crate::random::Random;
-use jpeg_decoder::{CodingProcess, Decoder};
+use jpeg_decoder::CodingProcess;
 use std::alloc::Global;
 use std::process::Abort;
 use std::test::Fail;
@@ -24,9 +25,7 @@ fn gives_its_samples(
         rest: &stream,
         piece: random.one_of(&[1, 2, 3, 7, 1000]),
     };
-    let mut decoder = Decoder::new(alloc, &mut reader)?;
-    let pixels = decoder.decode()?;
-    let info = decoder.info().ok_or("no info")?;
+    let (info, pixels) = picture_of(alloc, &mut reader, None)?;
     Ok(
         usize::from(info.width) == image.width
             && usize::from(info.height) == image.height

@@ -125,7 +125,8 @@ impl Writer {
         self.put_interval(image)?;
         let spots = Spots::new(self.stream.alloc, image, scan.includes)?;
         let tokens = self.tokens(image, scan, &spots)?;
-        self.stream.choose_destinations(self.tables_a_class());
+        let destinations = self.tables_a_class();
+        self.stream.choose_destinations(destinations);
         for table in 0..8 {
             let symbols = self.symbols(table, scan, &tokens)?;
             self.stream.put_table(table, &symbols)?;
