@@ -7,7 +7,7 @@ use std::io::{BufReader, ErrorKind, Read};
 use std::process::Abort;
 use std::test::Fail;
 use test_streams::readers::{Reader, Trouble};
-use test_streams::streams::bytes;
+use test_streams::streams::{bytes, sample_of};
 
 /// A table of two codes of one bit, a progressive frame of a row of 256 blocks, and a scan of DC.
 /// Both codes stand for category 7, so that each byte of the data is the difference of a block, and
@@ -41,8 +41,8 @@ fn append_values(
 /// with a highest bit of 1.
 fn data(alloc: Global) -> Result<Vec<u8>, Fail> {
     let mut data = Vec::new(alloc);
-    for value in 0..64 {
-        data.extend_from_slice(&[value, 127 - value, 128 + value, 255 - value])?;
+    for value in 0..64u8 {
+        data.extend_from_slice(&[value, value ^ 127, value ^ 128, value ^ 255])?;
         if value == 0 {
             data.push(0)?;
         }
@@ -50,12 +50,11 @@ fn data(alloc: Global) -> Result<Vec<u8>, Fail> {
     Ok(data)
 }
 
-/// The picture: a block of DC `value - 127` is its eighth and 128, rounded to the nearest; and one
-/// of DC 0 is 128.
+/// The picture: blocks of DC `value - 127` and of DC 0 in turn.
 fn picture(alloc: Global) -> Result<Vec<u8>, Fail> {
     let mut line = Vec::new(alloc);
-    for value in 0..64 {
-        let sample = u8::try_from((value + 4 - 127 + 8 * 128) / 8)?;
+    for value in 0..64u8 {
+        let sample = u8::try_from(sample_of(i16::from(value).wrapping_sub(127)))?;
         for sample in [sample, 128, sample, 128] {
             line.extend_from_slice(&[sample; 8])?;
         }

@@ -5,7 +5,7 @@ use jpeg_decoder::run::run;
 use std::alloc::Global;
 use std::process::Abort;
 use std::test::Fail;
-use test_streams::streams::bytes;
+use test_streams::streams::{bytes, sample_of};
 
 /// A column or a line of the greatest length: a name, the stream, and what `run` writes before the
 /// pixels. The first block's DC is 8; each difference after it is zero bits alone, which stand for
@@ -22,11 +22,6 @@ const LONGEST: [(&str, &str, &str); 2] = [
         "1 65535 L8\n",
     ),
 ];
-
-/// The sample of a block of DC alone: its eighth and 128, rounded to the nearest.
-fn sample_of(dc: i16) -> i32 {
-    (i32::from(dc).wrapping_add(4 + 8 * 128) >> 3).clamp(0, 255)
-}
 
 /// Whether the samples are those of blocks whose DC goes from 8 down by 15, modulo 2^16.
 fn goes_down(samples: &[u8]) -> bool {

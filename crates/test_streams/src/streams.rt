@@ -118,3 +118,9 @@ pub fn write_profile<W: Write>(writer: &mut W, first: u8, last: u8, count: u8) -
     }
     Ok(())
 }
+
+/// Returns the sample of a block of DC alone, whose quantization is 1: its eighth and 128, rounded
+/// to the nearest and cut to 8 bits.
+pub fn sample_of(dc: i16) -> i32 {
+    (i32::from(dc).wrapping_add(4 + 8 * 128) >> 3).clamp(0, 255)
+}
