@@ -62,7 +62,7 @@ impl LosslessImage {
         let mut image = LosslessImage {
             width: random.between(1, widest),
             height: random.between(1, highest),
-            precision: low_byte(random.between(2, 16)),
+            precision: random_precision(random),
             horizontal: random.one_of(&[1, 1, 2, 2, 3, 4]),
             vertical: random.one_of(&[1, 1, 2, 2, 3, 4]),
             planes: Vec::new(alloc),
@@ -150,6 +150,12 @@ impl LosslessImage {
     }
 }
 
+/// A random precision from 2 to 16: the usual ones more often.
+fn random_precision(random: &mut Random) -> u8 {
+    let any = random.between(2, 16);
+    low_byte(random.one_of(&[8, 12, 16, any, any]))
+}
+
 /// A random sample of so many bits.
 pub fn random_sample(random: &mut Random, precision: u8) -> u16 {
     let most = usize::from(greatest_sample(precision));
@@ -172,8 +178,8 @@ fn is_whole_or_half(factor: usize, greatest: usize) -> bool {
     factor == greatest || factor.saturating_mul(2) == greatest
 }
 
-/// Random samples in one of four ways: any, near the one before, the least or the greatest, and one
-/// for all.
+/// Random samples in one of four ways: any, near the one before, the least, the greatest or next to
+/// the middle, and one for all.
 fn random_samples(
     alloc: Global,
     random: &mut Random,
@@ -191,8 +197,11 @@ fn random_samples(
                 let step = u16::try_from(random.below(9)).unwrap_or(0);
                 sample.saturating_add(step).saturating_sub(4).min(most)
             }
-            2 if random.is_one_in(2) => 0,
-            2 => most,
+            2 => {
+                let most = usize::from(most);
+                let chosen = random.one_of(&[0, most / 2, most.div_ceil(2), most]);
+                u16::try_from(chosen).unwrap_or(0)
+            }
             _ => sample,
         };
         samples.push(sample)?;

@@ -11,7 +11,7 @@ use std::process::Abort;
 use std::test::Fail;
 
 /// The images of each number of components. For more than the gate takes, raise this, and run the
-/// tests program that `rt test` has built: `out/random_tests_tests lossless_samples`.
+/// tests program that `rt test` has built, `out/random_tests_tests TEST`, with a test's full name.
 const IMAGES: u64 = 14;
 
 /// Whether a random stream of an image gives its samples.
