@@ -1,5 +1,5 @@
 -- A lossless frame that is accepted has samples that a writer may emit.
-use Rattle.std.proofs.Common.{◌≡◌, ◌⊎◌, inl, inr, ℕ, zero, suc, ◌*◌, ◌/◌, ◌%◌, ◌==◌, ◌&&◌, ◌||◌, Bool, true, false, eqb}
+use Rattle.std.proofs.Common.{◌≡◌, ◌⊎◌, inl, inr, ℕ, ◌*◌, ◌/◌, ◌%◌, ◌==◌, ◌&&◌, ◌||◌, Bool, true, false}
 use Rattle.std.proofs.Common.{List, [], ◌∷◌, map, length, Option, Some, None, Ok, refl, sym, ap, ap₂, ◌∙◌}
 use Rattle.std.specs.Prelude.{nat_le}
 use Rattle.std.proofs.Common.{true≢false}
@@ -13,7 +13,7 @@ use Rattle.jpeg_pixels.specs.Pictures.{Source, source_by, source_of, sources_by}
 use Rattle.jpeg_pixels.specs.Upsampling.{divides, rule_of}
 use Rattle.jpeg_segments.specs.Frame.{Component, component_of, Factors, frame_of, greatest}
 use Rattle.jpeg_segments.specs.WrittenSegments.{FrameHeader, frame_written}
-use Rattle.jpeg_streams.specs.SaidSegments.{IsNear, IsUpsampled}
+use Rattle.jpeg_streams.specs.SaidSegments.{IsNear}
 use Rattle.jpeg_streams.specs.Segments.{accepted, is_decoded_count}
 use Rattle.jpeg_streams.specs.WrittenLossless.{HasSamples}
 use Rattle.jpeg_streams.proofs.AcceptedTurns.{bind-ok, err-ok}

@@ -1,5 +1,5 @@
 -- Every picture of samples has a stream: a scan for each component.
-use Rattle.std.proofs.Common.{◌≡◌, ◌≢◌, ◌⊎◌, inl, inr, ℕ, zero, suc, ◌+◌, ◌-◌, ◌*◌, ◌^◌, ◌<◌, ◌≤◌}
+use Rattle.std.proofs.Common.{◌≡◌, ◌⊎◌, inl, inr, ℕ, zero, suc, ◌+◌, ◌-◌, ◌*◌, ◌^◌, ◌<◌, ◌≤◌}
 use Rattle.std.proofs.Common.{Bool, true, false, List, [], ◌∷◌, ◌++◌, map, length, drop, take, replicate, ℤ, pos, negsuc}
 use Rattle.std.proofs.Common.{◌≤ℤ◌, unsigned_abs, Some, None}
 use Rattle.std.proofs.Common.{refl, sym, ap, ap₂, ◌∙◌, subst, append_assoc, length-append, arith}
@@ -10,15 +10,14 @@ use Rattle.std.proofs.lemmas.List.{append-nil, take_all}
 use Rattle.std.proofs.lemmas.List.FromFn.{get_or-range_with_len}
 use lib.ListN.{length-map}
 use Rattle.std.specs.List.{AllByRecursion, list_all, range_with_len}
-use Rattle.std.specs.Prelude.{flat_map, nat_lt, slice_index_or, ◌/◌, ◌%◌, ◌==◌}
+use Rattle.std.specs.Prelude.{flat_map, nat_lt, slice_index_or, ◌==◌}
 use Rattle.jpeg_bits.proofs.Tables.{tested-exist}
 use Rattle.jpeg_bits.specs.Codes.{code_lengths, code_value, codes_exist, HasCodes, lengths_from, Table}
 use Rattle.jpeg_bits.specs.Written.{code_bits, IsCoded, marker, stuffed}
 use Rattle.jpeg_bits.specs.declared.codes.HuffmanTableClass.TheVariants as classes
 use Rattle.jpeg_bits.specs.declared.scan.Predictor.{Predictor}
 use Rattle.jpeg_bits.specs.declared.scan.Predictor.TheVariants.{Ra}
-use Rattle.jpeg_segments.specs.declared.parser.CodingProcess.TheVariants.{Lossless}
-use Rattle.jpeg_segments.specs.Frame.{Component, component_of, Factors, Frame, frame_of, is_taken}
+use Rattle.jpeg_segments.specs.Frame.{Factors, frame_of, is_taken}
 use Rattle.jpeg_segments.specs.HuffmanTables.{PlacedTable}
 use Rattle.jpeg_segments.specs.ScanHeader.{place_of}
 use Rattle.jpeg_segments.specs.ScanHeaders.{AreChoices, IsScan, scan_payload, ScanHeader}
@@ -29,8 +28,8 @@ use Rattle.jpeg_lossless.specs.Prediction.{residue, start_of}
 use Rattle.jpeg_lossless.specs.Differences.{Part, lines_in, mcu_tables, row_tables, strand, strands}
 use Rattle.jpeg_lossless.specs.Scans.{rows_of_interval, Way}
 use Rattle.jpeg_lossless.specs.Written.{AreLines, AreSamples, differences_below, differences_of, first_differences}
-use Rattle.jpeg_lossless.specs.Written.{difference_by, HaveDifferences, rest_differences, WritesDifference}
-use Rattle.jpeg_lossless.specs.Written.{WritesInterval, WritesIntervals, WritesRow, WritesRows}
+use Rattle.jpeg_lossless.specs.Written.{HaveDifferences, rest_differences, WritesDifference}
+use Rattle.jpeg_lossless.specs.Written.{WritesInterval, WritesRow, WritesRows}
 use Rattle.jpeg_lossless.specs.Written.WritesIntervals.{last}
 use Rattle.jpeg_lossless.specs.Written.WritesRow.{none, one}
 use Rattle.jpeg_lossless.specs.Written.WritesRows.{no_row, row}
@@ -38,7 +37,7 @@ use Rattle.jpeg_lossless.proofs.Residues.{residue_nat, residue_neg, residue_smal
 use Rattle.jpeg_streams.specs.Found.{Found, nothing_found}
 use Rattle.jpeg_streams.specs.FrameSamples.{AreBytes, AreLinesOf, AreSamplesOf, AreWrittenIn, FitsFields, IsLineOf}
 use Rattle.jpeg_streams.specs.InTurn.{IsIn}
-use Rattle.jpeg_streams.specs.LosslessScans.{LosslessCoding, mcus_across, mcus_down, parts_of, way_of}
+use Rattle.jpeg_streams.specs.LosslessScans.{LosslessCoding, mcus_across, mcus_down, parts_of}
 use Rattle.jpeg_streams.specs.Needed.{first_of}
 use Rattle.jpeg_streams.specs.SaidSegments.{found_after}
 use Rattle.jpeg_streams.specs.Segments.{updated}
@@ -544,11 +543,17 @@ samples-written h samples is p all =
               segment (said_1 h) r.1 [] 0 (Huffman even_tables) _ ((even-written _, tt), tt) r.2);
         };
         framed = r.3;
-        are_bytes = λ fits. (omega arith, (omega arith, marked-bytes 195 (sized (payload_of (Header 3 h))
-            ++ marker 0 196 (sized (payload_of (Huffman even_tables)) ++ r.0)) (omega arith)
-            (bytes-append (sized (payload_of (Header 3 h))) (marker 0 196 (sized (payload_of (Huffman even_tables)) ++ r.0))
-            (header-bytes h is p fits)
-            (marked-bytes 196 (sized (payload_of (Huffman even_tables)) ++ r.0) (omega arith)
-            (bytes-append (sized (payload_of (Huffman even_tables))) r.0 tables-bytes (r.4 fits))))));
+        are_bytes = λ fits. (
+          omega arith,
+          (
+            omega arith,
+            marked-bytes 195 (sized (payload_of (Header 3 h))
+                ++ marker 0 196 (sized (payload_of (Huffman even_tables)) ++ r.0)) (omega arith)
+                (bytes-append (sized (payload_of (Header 3 h))) (marker 0 196 (sized (payload_of (Huffman even_tables)) ++ r.0))
+                (header-bytes h is p fits)
+                (marked-bytes 196 (sized (payload_of (Huffman even_tables)) ++ r.0) (omega arith)
+                (bytes-append (sized (payload_of (Huffman even_tables))) r.0 tables-bytes (r.4 fits)))),
+          ),
+        );
       },
     )

@@ -454,16 +454,18 @@ padded-written = record {
         data_bytes = 0xA8 ∷ 0x49 ∷ 0x6D ∷ [];
         count = refl;
         sized = (
-          ((refl, (omega arith, (omega arith, (omega arith, (omega arith, tt))))),
-              ((refl, (omega arith, (omega arith, (omega arith, (omega arith, tt))))), tt)),
+          (
+            (refl, (omega arith, (omega arith, (omega arith, (omega arith, tt))))),
+            ((refl, (omega arith, (omega arith, (omega arith, (omega arith, tt))))), tt),
+          ),
           (((refl, (omega arith, (omega arith, tt))), tt), tt),
         );
         placed = (refl, (refl, tt));
         coded = row _ [] _ [] (
-          one small_table _ 1 _ _ _ more (one small_table _ 0 _ _ _ same (one small_table _ 65535 _ _ _ less
-          (one small_table _ 0 _ _ _ same (one small_table _ 0 _ _ _ same (one small_table _ 65535 _ _ _ less
-          (one small_table _ 65535 _ _ _ less (one small_table _ 1 _ _ _ more (one small_table _ 1 _ _ _ more
-          (one small_table [] 1 [] _ [] more none))))))))))
+            one small_table _ 1 _ _ _ more (one small_table _ 0 _ _ _ same (one small_table _ 65535 _ _ _ less
+            (one small_table _ 0 _ _ _ same (one small_table _ 0 _ _ _ same (one small_table _ 65535 _ _ _ less
+            (one small_table _ 65535 _ _ _ less (one small_table _ 1 _ _ _ more (one small_table _ 1 _ _ _ more
+            (one small_table [] 1 [] _ [] more none))))))))))
             no_row;
         is_short = omega arith;
         whole = refl;
@@ -477,16 +479,18 @@ padded-written = record {
         data_bytes = 0x49 ∷ 0x60 ∷ 0x8F ∷ [];
         count = refl;
         sized = (
-          ((refl, (omega arith, (omega arith, (omega arith, (omega arith, tt))))),
-              ((refl, (omega arith, (omega arith, (omega arith, (omega arith, tt))))), tt)),
+          (
+            (refl, (omega arith, (omega arith, (omega arith, (omega arith, tt))))),
+            ((refl, (omega arith, (omega arith, (omega arith, (omega arith, tt))))), tt),
+          ),
           (((refl, (omega arith, (omega arith, tt))), tt), tt),
         );
         placed = (refl, (refl, tt));
         coded = row _ [] _ [] (
-          one small_table _ 0 _ _ _ same (one small_table _ 65535 _ _ _ less (one small_table _ 65535 _ _ _ less
-          (one small_table _ 1 _ _ _ more (one small_table _ 65535 _ _ _ less (one small_table _ 0 _ _ _ same
-          (one small_table _ 0 _ _ _ same (one small_table _ 0 _ _ _ same (one small_table _ 65535 _ _ _ less
-          (one small_table [] 0 [] _ [] same none))))))))))
+            one small_table _ 0 _ _ _ same (one small_table _ 65535 _ _ _ less (one small_table _ 65535 _ _ _ less
+            (one small_table _ 1 _ _ _ more (one small_table _ 65535 _ _ _ less (one small_table _ 0 _ _ _ same
+            (one small_table _ 0 _ _ _ same (one small_table _ 0 _ _ _ same (one small_table _ 65535 _ _ _ less
+            (one small_table [] 0 [] _ [] same none))))))))))
             no_row;
         is_short = omega arith;
         whole = refl;
