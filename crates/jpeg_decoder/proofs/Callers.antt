@@ -31,4 +31,5 @@ picture_size (Some f) info precision pixels whole counted i p =
     let same : info_of f ≡ info = cc in
     let bits : f.precision ≡ precision = cc in
     whole.0 ∙ ap (λ n. f.output_width * f.output_height * (n * bytes_a_sample f.precision)) counted
-    ∙ ap₂ (λ (x : ImageInfo) (n : ℕ). x.width * x.height * (samples_a_pixel x.pixel_format * bytes_a_sample n)) same bits
+    ∙ ap₂ (λ (x : ImageInfo) (n : ℕ). x.width * x.height * (samples_a_pixel x.pixel_format * bytes_a_sample n))
+    same bits

@@ -3,7 +3,8 @@ use Rattle.std.proofs.Common.{◌≡◌, ℕ, zero, suc, ◌*◌, ◌/◌, ◌<�
 use Rattle.std.proofs.Common.{refl, arith, subst, Result, Ok, Err, Option, Some, None, Bool, true, false}
 use Rattle.std.specs.Prelude.{MatchResult, IfOk, OnOk, if◌then◌else◌, nat_le}
 use Rattle.jpeg_bits.specs.declared.error.Error.{Error}
-use Rattle.jpeg_decoder.specs.Bytes.{HasBytes, HasBytesBy, IsCounted, IsWhole, bytes_a_sample, picture_bytes, samples_a_pixel}
+use Rattle.jpeg_decoder.specs.Bytes.{HasBytes, HasBytesBy, IsCounted, IsWhole}
+use Rattle.jpeg_decoder.specs.Bytes.{bytes_a_sample, picture_bytes, samples_a_pixel}
 use Rattle.std.specs.Prelude.{not}
 use Rattle.std.proofs.Math.Bool.{cond}
 use Rattle.jpeg_bits.specs.Reading.{Lacks}

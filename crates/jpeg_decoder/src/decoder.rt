@@ -188,8 +188,8 @@ impl<R: Read + Drop> Decoder<R> {
         self.state.frame.as_ref().map(|frame| info_of(frame))
     }
 
-    /// Returns how many bits a sample has, once a frame was accepted, in every state: 8 for baseline,
-    /// extended and progressive frames, and 2 to 16 for lossless ones (T.81, B.2.2).
+    /// Returns how many bits a sample has, once a frame was accepted, in every state: 8 for
+    /// baseline, extended and progressive frames, and 2 to 16 for lossless ones (T.81, B.2.2).
     ///
     /// A sample is at most `2^precision - 1`. It takes one byte of a picture up to 8 bits, and two
     /// bytes above, the lower byte first, so that a picture has `width * height * components`
@@ -205,9 +205,9 @@ impl<R: Read + Drop> Decoder<R> {
     /// `scale` and `decode`, and after a picture. `None` before the header was read, and on a
     /// decoder that has failed.
     ///
-    /// It is what the picture takes at the scale that was chosen, so a service asks for it after
-    /// `read_info`, and refuses a picture before any of its memory is taken. [`DecodingBytes`] says
-    /// what is counted and what isn't.
+    /// The numbers follow `scale`. A service that asks for them after `read_info` can refuse a
+    /// picture before any of this memory is taken. [`DecodingBytes`] says what is counted and what
+    /// isn't.
     pub fn decoding_bytes(&self) -> Option<DecodingBytes>
         ensures header { HasHeader self.now.stage
             → result ≡ option_map decoding_bytes self.now.found.frame }
@@ -225,10 +225,10 @@ impl<R: Read + Drop> Decoder<R> {
     /// Sets the colour transform of a picture of several components, in place of the one that its
     /// segments say. A picture of one component and a lossless one are given as they are.
     ///
-    /// `RGB` and `YCbCr` fit three components, `CMYK` and `YCCK` four, and `None` both: each line of
-    /// the picture then has its samples component after component, `width` samples of each. Where a
-    /// transform doesn't fit, and for `Grayscale` and `Unknown`, `decode` is `Format`, and for
-    /// `JcsBgYcc` and `JcsBgRgb` it is `Unsupported`.
+    /// `RGB` and `YCbCr` fit three components, `CMYK` and `YCCK` four, and `None` both: each line
+    /// of the picture then has its samples component after component, `width` samples of each.
+    /// Where a transform doesn't fit, and for `Grayscale` and `Unknown`, `decode` is `Format`, and
+    /// for `JcsBgYcc` and `JcsBgRgb` it is `Unsupported`.
     pub fn set_color_transform(&mut self, transform: ColorTransform)
         ensures { self.new ≡ record self.old {
           settings = record self.old.settings
@@ -348,9 +348,9 @@ impl<R: Read + Drop> Decoder<R> {
         }
     }
 
-    /// Reads through the end of the image and no byte after it, and returns the picture: its samples
-    /// line by line from the top, and in each line pixel by pixel, one of each component. A sample
-    /// takes one byte, or two in a lossless picture above 8 bits, the lower byte first;
+    /// Reads through the end of the image and no byte after it, and returns the picture: its
+    /// samples line by line from the top, and in each line pixel by pixel, one of each component. A
+    /// sample takes one byte, or two in a lossless picture above 8 bits, the lower byte first;
     /// [`PixelFormat`] has the details, and `precision` the bits.
     ///
     /// Where the stream is one that a writer emits for the coefficients of an image, that is their

@@ -8,11 +8,11 @@
 //!     let mut decoder = Decoder::new(alloc, reader)?;
 //!     let pixels = decoder.decode()?;     // a Vec<u8>, line by line from the top
 //!     let info = decoder.info();          // width, height, pixel format and coding process
-//!     let precision = decoder.precision();// bits a sample: one byte up to 8, and two above
+//!     let bits = decoder.precision();     // bits a sample: one byte up to 8, and two above
 //!     let exif = decoder.exif_data();     // also xmp_data and icc_profile
 //!
-//! The bytes of a picture are its samples, line by line from the top and pixel by pixel, one of each
-//! component. [`PixelFormat`] says what they are, and `precision` how many bytes each takes: a
+//! The bytes of a picture are its samples, line by line from the top and pixel by pixel, one of
+//! each component. [`PixelFormat`] says what they are, and `precision` how many bytes each takes: a
 //! lossless picture of three or four components above 8 bits has two, the lower byte first, beside
 //! `RGB24` or `CMYK32`.
 //!

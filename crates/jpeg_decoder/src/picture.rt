@@ -258,8 +258,8 @@ fn samples_picture(
     requires sound { IsSound (with_decoded (found_in state.now) decoded.old) }
     requires frame { (found_in state.now).frame ≡ Some (frame_in frame.now) }
     requires process { (frame_in frame.now).process ≡ Lossless }
-    ensures meant { let expected = samples_picture (with_decoded (found_in state.now) decoded.old)
-        (frame_in frame.now) in
+    ensures meant { let expected =
+        samples_picture (with_decoded (found_in state.now) decoded.old) (frame_in frame.now) in
         MatchResult result (λ v. expected ≡ Ok v.items) (λ e. IsRefusal e × Names e expected) }
     ensures size { IfOk result (λ v. IsWhole (Some (frame_in frame.now)) v.items) }
 {

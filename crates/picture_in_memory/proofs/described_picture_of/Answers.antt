@@ -1,9 +1,6 @@
-use Rattle.std.proofs.Common.{◌≡◌, ◌∙◌, List, ℕ, Ok, Some, refl, sym, false, true}
-use Rattle.std.specs.Prelude.{option_map}
-use Rattle.jpeg_bits.specs.Reading.{Outcome, Answers}
-use Rattle.jpeg_bits.specs.Stream.{Stream, stream_of}
-use Rattle.jpeg_streams.specs.Output.{Tells, default_settings}
-use Rattle.jpeg_streams.specs.Stream.{Told, meaning, told_of}
+use Rattle.std.proofs.Common.{◌∙◌, Some, refl, sym}
+use Rattle.jpeg_streams.specs.Output.{Tells}
+use Rattle.jpeg_streams.specs.Stream.{told_of}
 use Rattle.jpeg_decoder.proofs.Callers.{bytes_are_known, known_bytes_are_told, picture_size}
 use Rattle.picture_in_memory.proofs.described_picture_of.Goals as goal
 
