@@ -80,7 +80,6 @@ impl LosslessImage {
     ) -> Result<(), AllocError> {
         let ids = random.one_of(&[0, 1, 1, 2]);
         let greatest = (random.below(count), random.below(count));
-        let way = random.below(4);
         for number in 0..count {
             let (horizontal, vertical) = self.random_factors(
                 random,
@@ -96,7 +95,7 @@ impl LosslessImage {
                 vertical,
                 across,
                 down,
-                samples: random_samples(alloc, random, total, self.precision, way)?,
+                samples: random_samples(alloc, random, total, self.precision)?,
             })?;
         }
         Ok(())
@@ -185,8 +184,8 @@ fn random_samples(
     random: &mut Random,
     count: usize,
     precision: u8,
-    way: usize,
 ) -> Result<Vec<u16>, AllocError> {
+    let way = random.below(4);
     let most = greatest_sample(precision);
     let mut sample = random_sample(random, precision);
     let mut samples = Vec::with_capacity(alloc, count)?;

@@ -37,7 +37,9 @@ fn gives_its_samples(
 
 /// Asserts that random images of this many components give their samples by random streams.
 fn assert_lossless(rt: &impl Abort, alloc: Global, components: usize) -> Result<(), Fail> {
-    for seed in 0..IMAGES {
+    for number in 0..IMAGES {
+        // No two tests have the same images.
+        let seed = number.wrapping_mul(5).wrapping_add(components as u64);
         let mut random = Random::new(seed);
         let image = LosslessImage::random(alloc, &mut random, components)?;
         let gives = gives_its_samples(alloc, &image, &mut random)?;
