@@ -1,4 +1,5 @@
-use Rattle.std.proofs.Common.{◌≡◌, ◌+◌, ◌++◌, ◌∙◌, ap, ap₂, drop, sym, subst, arith, length, map, take, List, ℕ, Vec, Global}
+use Rattle.std.proofs.Common.{◌≡◌, ◌+◌, ◌++◌, ◌∙◌, ap, ap₂, drop, sym, subst, arith, length, map, take}
+use Rattle.std.proofs.Common.{List, ℕ, Vec, Global}
 use Rattle.jpeg_segments.specs.Frame.{Frame}
 use Rattle.jpeg_segments.specs.FrameView.{frame_in}
 use Rattle.jpeg_lossless.specs.Pictures.{AreLong, layers_of, line_bytes, line_from, lines_across, lossless_picture}
