@@ -99,7 +99,8 @@ impl Stream {
     ) -> Result<(), Fail> {
         let mut decoder = Decoder::new(alloc, reader)?;
         let is_whole = length == self.bytes.len();
-        let is_wanted = match decoder.decode() {
+        let answer = decoder.decode();
+        let is_wanted = match &answer {
             Ok(pixels) => is_whole && pixels.as_slice() == self.picture.as_slice(),
             Err(Error::Io(error)) => !is_whole && error.kind() == ErrorKind::UnexpectedEof,
             Err(_) => false,

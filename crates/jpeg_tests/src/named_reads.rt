@@ -5,7 +5,7 @@ use crate::decoders::{FIRSTS, First, assert_failed, decode_after};
 use jpeg_decoder::Decoder;
 use jpeg_decoder::run::run;
 use std::alloc::Global;
-use std::io::ErrorKind;
+use std::io::{ErrorKind, Read};
 use std::process::Abort;
 use std::test::Fail;
 use test_streams::named::{Named, PROFILE, STREAMS};
@@ -69,30 +69,18 @@ impl Stream {
         Ok(())
     }
 
-    /// Asserts what `run` does where the read of this number fails.
-    fn assert_run_fails(
-        &self,
-        rt: &impl Abort,
-        alloc: Global,
-        call: usize,
-        kind: ErrorKind,
-    ) -> Result<(), Fail> {
-        let name = self.name;
-        let counts = Counts::new();
-        let mut written = Vec::new(alloc);
-        let answer = run(alloc, self.reader(call, kind, &counts), &mut written);
-        let is_own = is_own_error(alloc, &answer, kind)?;
-        assert!(rt; is_own, "{name}: call {call}, {kind}, by run");
-        assert!(rt; written.is_empty(), "{name}: call {call}, {kind}, by run");
-        self.assert_is_last(rt, &counts, call);
-        Ok(())
-    }
-
     /// Asserts that the call of this number was the last.
     fn assert_is_last(&self, rt: &impl Abort, counts: &Counts, call: usize) {
         let last = counts.calls.get().checked_sub(1);
         assert!(rt; last == Some(call), "{}: call {call}", self.name);
     }
+}
+
+/// Whether `run` returns the error of a reader that fails, and writes nothing.
+fn runs_to_error<R: Read + Drop>(alloc: Global, reader: R, kind: ErrorKind) -> Result<bool, Fail> {
+    let mut written = Vec::new(alloc);
+    let answer = run(alloc, reader, &mut written);
+    Ok(is_own_error(alloc, &answer, kind)? && written.is_empty())
 }
 
 #[test]
@@ -115,7 +103,11 @@ fn a_program_returns_the_error_of_each_read_of_each_stream(rt: HostRuntime) -> R
     for named in STREAMS.iter() {
         let stream = Stream::new(alloc, named)?;
         for call in (0..stream.bytes.len()).filter(|call| !stream.is_amid_parts(*call)) {
-            stream.assert_run_fails(&rt, alloc, call, ErrorKind::Other)?;
+            let counts = Counts::new();
+            let reader = stream.reader(call, ErrorKind::Other, &counts);
+            let is_own = runs_to_error(alloc, reader, ErrorKind::Other)?;
+            assert!(rt; is_own, "{}: call {call}", stream.name);
+            stream.assert_is_last(&rt, &counts, call);
         }
     }
     Ok(())
