@@ -14,8 +14,8 @@ const ONE_SAMPLE: &str = "FFD8 FFC3 000B 10 0001 0001 01 01 11 00 D(00) S(010000
 fn length_under(alloc: Global, stream: &[u8], limit: usize) -> Result<Option<usize>, Fail> {
     let mut decoder = Decoder::new(alloc, stream)?;
     decoder.set_max_decoding_buffer_size(limit);
-    match decoder.decode() {
-        Ok(picture) => Ok(Some(picture.len())),
+    match decoder.decode().map(|picture| picture.len()) {
+        Ok(length) => Ok(Some(length)),
         Err(Error::Format(_)) => Ok(None),
         Err(error) => Err(Fail::from(error)),
     }
