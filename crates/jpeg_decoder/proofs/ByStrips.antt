@@ -14,18 +14,18 @@ use Rattle.jpeg_segments.specs.Frame.{Frame, Component}
 use Rattle.jpeg_pixels.specs.Planes.{plane_of, strip_of}
 use Rattle.jpeg_bits.specs.Zigzag.{values_in_block_order}
 use Rattle.jpeg_pixels.proofs.PlaneRows.{plane-none}
-use Rattle.jpeg_streams.specs.Order.{Spot}
+use Rattle.jpeg_streams.specs.Order.{Spot, mcu_size}
 use Rattle.jpeg_streams.specs.Scans.{Arrays, zero_arrays}
 use Rattle.jpeg_streams.specs.Rasters.{in_raster, ordered}
-use Rattle.jpeg_streams.specs.InTurn.{Counted, Fits, mcus_from, counted_at_start}
-use Rattle.jpeg_streams.specs.McuRows.{row_mcus, own_row_mcus, zero_rows, rows_of, joined, on_arrays, rows_from}
+use Rattle.jpeg_streams.specs.InTurn.{Counted, Fits, blocks_from, counted_at_start}
+use Rattle.jpeg_streams.specs.McuRows.{row_at, zero_rows, rows_of, joined, on_arrays, rows_from}
 use Rattle.jpeg_streams.specs.McuRows.{scan_by_rows}
 use Rattle.jpeg_streams.specs.ScanSegments.{plane_by, Coding, components_of}
 use Rattle.jpeg_decoder.specs.Strips.{planes_by, planes_at, samples_of, with_strips, strips_from}
 use Rattle.jpeg_decoder.specs.Strips.{planes_by_rows}
 use Rattle.jpeg_streams.proofs.Apart.{zeros-sized}
-use Rattle.jpeg_streams.proofs.Mcus.{frame-scans, on-on}
-use Rattle.jpeg_streams.proofs.McuRows.{AreRows, mcus-any, rows-kept, counted-where, joined-rows, no-blocks, zero-rows}
+use Rattle.jpeg_streams.proofs.CountedScans.{frame-scans, on-on}
+use Rattle.jpeg_streams.proofs.McuRows.{AreRows, blocks-any, rows-kept, counted-where, joined-rows, no-blocks, zero-rows}
 use Rattle.jpeg_streams.proofs.McuRows.{scans-by-rows}
 use Rattle.jpeg_streams.proofs.PlaneStrips.{plane-strips}
 
@@ -108,7 +108,7 @@ strips-grow r (c ∷ codings) (a ∷ front) (b ∷ arrays) h k =
     ap₂ (λ (x : List ℕ) (l : List (List ℕ)). x ∷ l) (one-more r c a b h.0 k.0)
     (strips-grow r codings front arrays h.1 k.1)
 
-strips-in-turn : (p : Pass) (vias : List Via) (n : ℕ) (codings : List Coding) (rows : List (List (List Spot)))
+strips-in-turn : (p : Pass) (vias : List Via) (n : ℕ) (codings : List Coding) (rows : List (List Spot))
     (r : ℕ) (front : Arrays) (old : Counted) (t : Text)
     → AreRows r (components_of codings) front
     → strips_from p vias n codings rows (grown r codings front) (on_arrays [] old) t
@@ -117,10 +117,10 @@ strips-in-turn : (p : Pass) (vias : List Via) (n : ℕ) (codings : List Coding) 
 unfolding strips_from rows_from
 strips-in-turn p vias n codings [] r front old t h = ap (λ (k : ℕ). gives (grown k codings front) t) (let z : r
     ≡ r + 0 = omega arith in z)
-strips-in-turn p vias n codings (mcus ∷ rows) r front old t h =
+strips-in-turn p vias n codings (spots ∷ rows) r front old t h =
     let cs = components_of codings in
     let start = on_arrays (zero_rows 1 cs) old in
-    let o = mcus_from p vias n mcus start t in
+    let o = blocks_from p vias n spots start t in
     let end : Counted → Reads (List (List ℕ)) = λ s. gives (grown (r + suc (length rows)) codings s.reached.arrays) in
     counted-where (AreRows 1 cs)
     (λ s. λ u. strips_from p vias n codings rows (with_strips codings s.reached.arrays (grown r codings front))
@@ -134,7 +134,7 @@ strips-in-turn p vias n codings (mcus ∷ rows) r front old t h =
     ∙ ap (λ (m : ℕ). read_on (λ (s : Counted). gives (grown m codings s.reached.arrays)) (rows_from p vias n cs rows
     (joined front s.reached.arrays) s u))
     (let z : r + 1 + length rows ≡ r + suc (length rows) = omega arith in z))
-    o (mcus-any (AreRows 1 cs) (rows-kept 1 cs) p vias n mcus start t (zero-rows 1 cs))
+    o (blocks-any (AreRows 1 cs) (rows-kept 1 cs) p vias n spots start t (zero-rows 1 cs))
     ∙ sym (on-on (λ s. λ u. rows_from p vias n cs rows (joined front s.reached.arrays) s u) end o)
 
 -- ---- a scan
@@ -188,13 +188,6 @@ all-grown frame (c ∷ codings) (blocks ∷ arrays) fits =
     (values_in_block_order c.quantization) c.component.blocks_wide n (in_raster c.component.blocks_wide blocks) ∷ l)
     (sym fits.0.high) (all-grown frame codings arrays fits.1)
 
-pub count-rows : (frame : Frame) (c : Component) (more : List Component) → length (rows_of frame (c ∷ more))
-    ≡ frame.mcus_high
-unfolding rows_of
-count-rows frame c [] = length-map-range_with_len (own_row_mcus c) 0 frame.mcus_high
-count-rows frame c (d ∷ more) = length-map-range_with_len (λ (row : ℕ). row_mcus frame.mcus_wide
-    (c ∷ d ∷ more)) 0 frame.mcus_high
-
 -- A sequential scan is its rows of MCUs, each of which gives a strip of each plane.
 pub planes-by-rows : (frame : Frame) (c : Coding) (codings : List Coding) (p : Pass) (n : ℕ) (vias : List Via)
     (bytes : List ℕ) → AllByRecursion (Fits frame) (components_of (c ∷ codings))
@@ -207,14 +200,15 @@ planes-by-rows frame c codings p n vias bytes fits =
     let high = frame.mcus_high in
     let t = upcoming fresh bytes in
     let none : Arrays = map (λ (x : Component). []) cs in
-    let start = counted_at_start n [] in
-    let o = rows_from p vias n cs rows none start t in
-    let count : 0 + length rows ≡ high = let e = count-rows frame c.component (components_of codings) in omega arith in
+    let blocks = n * mcu_size cs in
+    let start = counted_at_start blocks [] in
+    let o = rows_from p vias blocks cs rows none start t in
+    let count : 0 + length rows ≡ high = let e = length-map-range_with_len (row_at frame cs) 0 high in omega arith in
     ap (made (planes_by all))
-    (frame-scans frame c.component (components_of codings) p vias n (zero_arrays cs) bytes fits (zeros-sized cs)
+    (frame-scans frame cs p vias blocks (zero_arrays cs) bytes fits (zeros-sized cs)
     ∙ scans-by-rows frame c.component (components_of codings) p vias n bytes fits)
-    ∙ sym (ap (λ (l : List (List ℕ)). ended (strips_from p vias n all rows l start t)) (none-grown all)
-    ∙ ap ended (strips-in-turn p vias n all rows 0 none start t (no-blocks cs))
+    ∙ sym (ap (λ (l : List (List ℕ)). ended (strips_from p vias blocks all rows l start t)) (none-grown all)
+    ∙ ap ended (strips-in-turn p vias blocks all rows 0 none start t (no-blocks cs))
     ∙ ap (λ (k : ℕ). ended (read_on (λ (s : Counted). gives (grown k all s.reached.arrays)) o)) count
     ∙ ends (grown high all) o
     ∙ same (finished o))

@@ -2,9 +2,9 @@
 use Rattle.std.proofs.Common.{◌≡◌, inl, inr, ◌≤◌, ◌<◌, ◌+◌, ◌==◌, ◌||◌, All, ℕ, zero, suc, Bool, true, false, List, []}
 use Rattle.std.proofs.Common.{◌∷◌, length, map, drop, Some, Ok, refl, sym, ap, ◌∙◌, subst, arith}
 use Rattle.std.specs.List.{AllByRecursion}
-use Rattle.std.proofs.lemmas.Bool.{eqb-true}
 use Rattle.std.proofs.lemmas.List.Elements.{All-from_recursion, recursion_from_All}
-use Rattle.jpeg_bits.specs.BlockView.{pass_in, IsPass}
+use Rattle.jpeg_bits.specs.BlockView.{IsPass}
+use Rattle.jpeg_bits.specs.Passes.{Pass}
 use Rattle.jpeg_segments.specs.declared.parser.CodingProcess.{CodingProcess}
 use Rattle.jpeg_segments.specs.declared.parser.CodingProcess.TheVariants.{DctSequential, DctProgressive, Lossless}
 use Rattle.jpeg_segments.specs.Frame.{Frame, Component}
@@ -13,18 +13,17 @@ use Rattle.jpeg_segments.specs.HuffmanTables.{Tables}
 use Rattle.jpeg_segments.specs.Scales.{component_at, frame_at, is_scale}
 use Rattle.jpeg_segments.specs.ScanHeader as headers
 use Rattle.jpeg_segments.specs.ScanHeader.{IsCoded, IsRising, IsScanOf}
-use Rattle.jpeg_pixels.specs.Scaled.{IsScale}
-use Rattle.jpeg_decoder.specs.declared.codings.Coded.{Coded}
+use Rattle.jpeg_decoder.specs.declared.scan.Coded.{Coded}
 use Rattle.jpeg_decoder.specs.declared.decoded.Decoded.{Decoded}
-use Rattle.jpeg_decoder.specs.declared.scans.Scan.{Scan}
+use Rattle.jpeg_decoder.specs.declared.scan.Scan.{Scan}
 use Rattle.jpeg_streams.specs.InTurn.{Fits}
-use Rattle.jpeg_decoder.specs.Scanning.{HasAc, HasCodedScale, arrays_in, components_in}
+use Rattle.jpeg_decoder.specs.Scanning.{arrays_in, components_in}
 use Rattle.jpeg_decoder.specs.Seen.{planes_in}
 use Rattle.jpeg_streams.specs.Sound.{IsDecodedFrame}
 use Rattle.jpeg_streams.specs.Needed.{first_of}
 use Rattle.jpeg_streams.specs.ScanSegments.{codings_from, component_coding, Coding, tables_of, pass_of}
 use Rattle.jpeg_streams.specs.Found.{Found}
-use Rattle.jpeg_decoder.specs.Steps.{AreRising, HasPlace, IsCodingOf, IsDct, IsReadable, coding_in, codings_in_force}
+use Rattle.jpeg_decoder.specs.Steps.{AreRising, HasPlace, HasScale, IsCodingOf, IsDct, IsReadable, coding_in, codings_in_force}
 use Rattle.jpeg_decoder.specs.Steps.{with_decoded}
 use Rattle.jpeg_streams.proofs.AcceptedTurns.{CodingFacts, codings-facts_from, codings-same_from, tables-same}
 use Rattle.jpeg_streams.proofs.OwnSpots.{At}
@@ -65,33 +64,24 @@ is-pass DctProgressive s e c = record {
 }
 is-pass Lossless s e c = absurd e
 
+-- a scan codes what a pass may
+pub legal-pass : (process : CodingProcess) (s : headers.Scan) (p : Pass) → IsDct process
+    → IsCoded process s.first s.after s.high s.low → p ≡ pass_of s → IsPass p
+legal-pass process s p is_dct coded e = subst IsPass (sym e) (is-pass process s is_dct coded)
+
 -- ---- the scales of a frame's components
 
-scale-so : (s : ℕ) → is_scale s ≡ true → IsScale s
-scale-so s h = go (s == 1) refl (s == 2) refl (s == 4) refl (s == 8) refl h
-  where
-    go : (a : Bool) → (s == 1) ≡ a → (b : Bool) → (s == 2) ≡ b → (c : Bool) → (s == 4) ≡ c → (d : Bool) → (s == 8) ≡ d
-        → (a || (b || (c || d))) ≡ true → IsScale s
-    go true e b f c g d i h = inl (eqb-true s 1 e)
-    go false e true f c g d i h = inr (inl (eqb-true s 2 f))
-    go false e false f true g d i h = inr (inr (inl (eqb-true s 4 g)))
-    go false e false f false g true i h = inr (inr (inr (eqb-true s 8 i)))
-    go false e false f false g false i h = absurd (cc)
-
-abbrev HasScale : Component → Type 0
-HasScale c = IsScale c.scale
-
-scales-at : (s width height h v : ℕ) (cs : List Component) → IsScale s
+scales-at : (s width height h v : ℕ) (cs : List Component) → is_scale s ≡ true
     → AllByRecursion HasScale (map (component_at s width height h v) cs)
 unfolding component_at
 scales-at s width height h v [] is = tt
 scales-at s width height h v (c ∷ cs) is = (is, scales-at s width height h v cs is)
 
-decoded-scales : (f : Frame) → IsDecodedFrame f → AllByRecursion HasScale f.components
+pub decoded-scales : (f : Frame) → IsDecodedFrame f → AllByRecursion HasScale f.components
 unfolding frame_at
 decoded-scales f p =
     subst (λ (g : Frame). AllByRecursion HasScale g.components) (sym p.made)
-    (scales-at p.scale p.full.width p.full.height _ _ p.full.components (scale-so p.scale p.is_scale))
+    (scales-at p.scale p.full.width p.full.height _ _ p.full.components p.is_scale)
 
 -- ---- the components of a scan
 
@@ -139,25 +129,19 @@ rising-at (c ∷ d ∷ more) least h =
 
 -- A scan with the tables in force for its header is ready to be read.
 pub ready : (found : Found) (frame : Frame) (header : headers.Scan) (scan : Scan) → IsDecodedFrame frame
-    → IsDct frame.process → IsScanOf frame header → pass_in scan.pass ≡ pass_of header
-    → scan.restart_interval ≡ found.restart → All HasAc scan.components.items
+    → IsScanOf frame header → scan.restart_interval ≡ found.restart
     → codings_in_force found frame header ≡ Ok (map coding_in scan.components.items)
     → length scan.components.items ≡ length header.components
     → IsReadable frame found scan
-ready found frame header scan decoded is_dct legal pass restart classes codings count =
+ready found frame header scan decoded legal restart codings count =
     let cs = scan.components.items in
     let facts =
     codings-facts_from found frame (pass_of header) (tables_of found header) header.components header.dc_places
     header.ac_places (map coding_in cs) legal.dc_length legal.ac_length codings in
     let few = (count-few (length frame.components) (decoded-count frame decoded)).1 in
     record {
-      pass = subst IsPass (sym pass) (is-pass frame.process header is_dct legal.coded);
       restart = restart;
       some = subst (λ (n : ℕ). 1 ≤ n) (sym count) legal.some;
-      few = subst (λ (n : ℕ). n ≤ 4) (sym count) legal.most;
-      classes = classes;
-      scales = All-from_recursion HasCodedScale cs (each-at HasScale found frame cs (decoded-scales frame decoded)
-          facts.1);
       places =
           All-from_recursion HasPlace cs (places-at (length frame.components) cs few
           (subst (AllByRecursion (λ place. place < length frame.components)) (sym facts.2)

@@ -1,5 +1,5 @@
 -- A sequential scan after its rows of MCUs: what was read, and the refusals.
-use Rattle.std.proofs.Common.{◌≡◌, ℕ, ◌≤◌, List, [], ◌∷◌, map, length, Option, Result, Ok, Err, sym, ap, ◌∙◌, subst}
+use Rattle.std.proofs.Common.{◌≡◌, ℕ, ◌*◌, ◌≤◌, List, [], ◌∷◌, map, length, Option, Result, Ok, Err, sym, ap, ◌∙◌, subst}
 use Rattle.std.proofs.Common.{arith}
 use Rattle.std.specs.List.{AllByRecursion}
 use Rattle.jpeg_bits.specs.Stream.{Stream}
@@ -11,14 +11,18 @@ use Rattle.jpeg_bits.specs.declared.marker.Marker.{Marker}
 use Rattle.jpeg_bits.specs.Passes.{Pass, Via}
 use Rattle.jpeg_bits.proofs.Loops.{Names-through, MayFail-from}
 use Rattle.jpeg_segments.specs.Frame.{Frame, Component}
-use Rattle.jpeg_decoder.specs.declared.codings.Coded.{Coded}
+use Rattle.jpeg_decoder.specs.declared.scan.Coded.{Coded}
 use Rattle.jpeg_streams.specs.InTurn.{Counted, Fits, counted_at_start}
 use Rattle.jpeg_streams.specs.McuRows.{rows_of}
+use Rattle.jpeg_streams.specs.Order.{Spot, mcu_size}
 use Rattle.jpeg_decoder.specs.Scanning.{components_in}
 use Rattle.jpeg_decoder.specs.Steps.{coding_in}
 use Rattle.jpeg_streams.specs.ScanSegments.{Coding, components_of}
 use Rattle.jpeg_decoder.specs.Strips.{strips_from, planes_at, planes_by_rows}
 use Rattle.jpeg_decoder.proofs.ByStrips.{planes-by-rows}
+use Rattle.jpeg_decoder.specs.declared.scan_order.ScanOrder.{ScanOrder}
+use Rattle.jpeg_decoder.specs.Walk.{IsOrderOf, walks_of_rows}
+use Rattle.jpeg_decoder.proofs.ScanOrders.{rows-walked}
 use Rattle.jpeg_decoder.proofs.StripSteps.{components-are}
 
 abbrev Planes : Type 0
@@ -30,25 +34,32 @@ marked planes o = reading.◌>>=◌ o (λ (m : Option Marker × List ℕ). Ok ((
 ended : Result (Planes × Text) Fault → Outcome (Planes × Option Marker)
 ended o = reading.◌>>=◌ o (λ (r : Planes × Text). marked r.0 (marker_from r.1))
 
-module _ (p : Pass) (vias : List Via) (n : ℕ) (frame : Frame) (codings : List Coding) (start : Planes) (i : Counted)
-    (a : Ahead) (old : Stream)
-    (nothing : start ≡ map (λ (c : Coding). []) codings) (first : i ≡ counted_at_start n []) (none : a ≡ fresh) where
+module _ (p : Pass) (vias : List Via) (n blocks : ℕ) (frame : Frame) (codings : List Coding) (rows : List (List Spot))
+    (start : Planes) (i : Counted) (a : Ahead) (old : Stream)
+    (same : (bytes : List ℕ) → planes_at p n vias frame codings bytes ≡ planes_by_rows p vias n frame codings bytes)
+    (count : blocks ≡ n * mcu_size (components_of codings)) (walked : rows ≡ rows_of frame (components_of codings))
+    (nothing : start ≡ map (λ (c : Coding). []) codings) (first : i ≡ counted_at_start blocks [])
+    (none : a ≡ fresh) where
   abbrev whole : Text → Result (Planes × Text) Fault
-  whole = strips_from p vias n codings (rows_of frame (components_of codings)) start i
+  whole = strips_from p vias blocks codings rows start i
 
-  whole-is : (bytes : List ℕ) → planes_by_rows p vias n frame codings bytes ≡ ended (whole (upcoming a bytes))
+  whole-is : (bytes : List ℕ) → planes_at p n vias frame codings bytes ≡ ended (whole (upcoming a bytes))
   unfolding planes_by_rows ended
   whole-is bytes =
-      ap (λ (x : Planes). ended (strips_from p vias n codings (rows_of frame (components_of codings)) x
-      (counted_at_start n []) (upcoming fresh bytes))) (sym nothing)
-      ∙ ap (λ (x : Counted). ended (strips_from p vias n codings (rows_of frame (components_of codings)) start x
-      (upcoming fresh bytes))) (sym first)
+      same bytes
+      ∙ ap (λ (k : ℕ). ended (strips_from p vias k codings (rows_of frame (components_of codings))
+      (map (λ (c : Coding). []) codings) (counted_at_start k []) (upcoming fresh bytes))) (sym count)
+      ∙ ap (λ (l : List (List Spot)). ended (strips_from p vias blocks codings l
+      (map (λ (c : Coding). []) codings) (counted_at_start blocks []) (upcoming fresh bytes))) (sym walked)
+      ∙ ap (λ (x : Planes). ended (strips_from p vias blocks codings rows x (counted_at_start blocks [])
+      (upcoming fresh bytes))) (sym nothing)
+      ∙ ap (λ (x : Counted). ended (strips_from p vias blocks codings rows start x (upcoming fresh bytes))) (sym first)
       ∙ ap (λ (x : Ahead). ended (whole (upcoming x bytes))) (sym none)
 
   -- a refusal in the rows
   pub rows-refused : {X Y : Type 0} (v : X → Planes) (view : Y → Planes
       × Option Marker) (b : Ahead) (new : Stream) (e : Error)
-      → Takes v whole a old (Err e) b new → Answers view (planes_by_rows p vias n frame codings) old (Err e) new
+      → Takes v whole a old (Err e) b new → Answers view (planes_at p n vias frame codings) old (Err e) new
   unfolding ended
   rows-refused v view b new e q = (
     q.0,
@@ -62,7 +73,7 @@ module _ (p : Pass) (vias : List Via) (n : ℕ) (frame : Frame) (codings : List 
       × Option Marker) (b : Ahead) (cur new : Stream) (u : X) (e : Error)
       → Takes v whole a old (Ok u) b cur → Answers (λ (m : Option Marker). m) (λ bytes. marker_from
       (upcoming b bytes)) cur (Err e) new
-      → Answers view (planes_by_rows p vias n frame codings) old (Err e) new
+      → Answers view (planes_at p n vias frame codings) old (Err e) new
   unfolding ended
   marker-refused v view b cur new u e q m = (
     MayFail-from e _ _ _ q.0 m.0,
@@ -76,7 +87,7 @@ module _ (p : Pass) (vias : List Via) (n : ℕ) (frame : Frame) (codings : List 
       × Option Marker) (b : Ahead) (cur new : Stream) (u : X) (met : Option Marker) (y : Y)
       → Takes v whole a old (Ok u) b cur → Answers (λ (m : Option Marker). m) (λ bytes. marker_from
       (upcoming b bytes)) cur (Ok met) new → view y ≡ (v u, met)
-      → Answers view (planes_by_rows p vias n frame codings) old (Ok y) new
+      → Answers view (planes_at p n vias frame codings) old (Ok y) new
   unfolding ended
   scan-read v view b cur new u met y q m e = (
     m.0 ∙ q.0,
@@ -96,3 +107,15 @@ scan-by-rows frame [] p n vias bytes h fits = absurd (omega arith)
 scan-by-rows frame (c ∷ cs) p n vias bytes h fits =
     planes-by-rows frame (coding_in c) (map coding_in cs) p n vias bytes (subst (λ
     (l : List Component). AllByRecursion (Fits frame) l) (sym (components-are (c ∷ cs))) fits)
+
+-- ---- its order
+
+pub order-interval : (frame : Frame) (cs : List Coded) (n : ℕ) (o : ScanOrder) → IsOrderOf frame (components_in cs) n o
+    → o.interval ≡ n * mcu_size (components_of (map coding_in cs))
+order-interval frame cs n o is = is.interval
+    ∙ ap (λ (l : List Component). n * mcu_size l) (sym (components-are cs))
+
+pub order-rows : (frame : Frame) (cs : List Coded) (n : ℕ) (o : ScanOrder) → IsOrderOf frame (components_in cs) n o
+    → walks_of_rows o ≡ rows_of frame (components_of (map coding_in cs))
+order-rows frame cs n o is = rows-walked frame (components_in cs) n o is
+    ∙ ap (rows_of frame) (sym (components-are cs))

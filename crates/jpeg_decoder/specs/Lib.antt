@@ -4,6 +4,7 @@ pub mod Bytes
 -- what a caller sees of the blocks that are held, and the code's own words
 pub mod Scanning
 -- the code's own words: the clauses of `Decoder`, `run` and `report` reach none of these
+pub mod Walk
 pub mod Strips
 pub mod Steps
 pub mod LosslessParts

@@ -14,8 +14,9 @@ use Rattle.jpeg_bits.specs.declared.marker.Marker.{Marker}
 use Rattle.jpeg_bits.specs.declared.marker.Marker.TheVariants.{RST}
 use Rattle.jpeg_segments.specs.Frame.{Frame, Component}
 use Rattle.jpeg_pixels.specs.Planes.{cropped}
+use Rattle.jpeg_segments.specs.Scales.{is_scale}
 use Rattle.jpeg_streams.specs.Scans.{Arrays, arrays_at}
-use Rattle.jpeg_decoder.specs.Scanning.{arrays_in, components_in, HasAc, HasCodedScale}
+use Rattle.jpeg_decoder.specs.Scanning.{arrays_in, components_in}
 use Rattle.jpeg_streams.specs.Order.{spots_of, mcu_size}
 use Rattle.jpeg_decoder.specs.declared.decoded.Decoded.{Decoded}
 use Rattle.jpeg_bits.specs.Passes.{Pass}
@@ -23,12 +24,11 @@ use Rattle.std.specs.List.{list_all, AllByRecursion}
 use Rattle.jpeg_segments.specs.FrameView.{component_in}
 use Rattle.jpeg_segments.specs.ScanHeader as headers
 use Rattle.jpeg_segments.specs.ScanHeader.{sos_at}
-use Rattle.jpeg_decoder.specs.declared.scans.Scan.{Scan}
+use Rattle.jpeg_decoder.specs.declared.scan.Scan.{Scan}
 use Rattle.jpeg_streams.specs.InTurn.{Fits}
-use Rattle.jpeg_bits.specs.BlockView.{pass_in, IsPass}
 use Rattle.jpeg_decoder.specs.declared.state.State.{State}
 use Rattle.jpeg_decoder.specs.declared.state.Step.{Step}
-use Rattle.jpeg_decoder.specs.declared.codings.Coded.{Coded}
+use Rattle.jpeg_decoder.specs.declared.scan.Coded.{Coded}
 use Rattle.jpeg_decoder.specs.declared.codings.Spare.{Spare}
 use Rattle.jpeg_streams.specs.Scans.{no_table}
 use Rattle.jpeg_bits.specs.declared.codes.HuffmanTableClass.TheVariants as classes
@@ -100,6 +100,10 @@ coding_in c =
       dc = c.dc.now;
       ac = c.ac.now;
     }
+
+-- a component is decoded at a scale
+abbrev pub HasScale : Component → Type 0
+HasScale c = is_scale c.scale ≡ true
 
 -- the component in a slot of a scan
 abbrev pub coding_in_slot : Found → Frame → headers.Scan → ℕ → Result Coding Fault
@@ -199,12 +203,8 @@ IsCodingOf frame c = first_of (drop c.place frame.components) ≡ Some c.compone
 
 -- What a scan of a frame needs to be read, by what was found before.
 pub record IsReadable (frame : Frame) (found : Found) (scan : Scan) : Type 0 where
-  pub pass : IsPass (pass_in scan.pass)
   pub restart : scan.restart_interval ≡ found.restart
   pub some : 1 ≤ length scan.components.items
-  pub few : length scan.components.items ≤ 4
-  pub classes : All HasAc scan.components.items
-  pub scales : All HasCodedScale scan.components.items
   pub places : All HasPlace scan.components.items
   pub fits : AllByRecursion (Fits frame) (components_in scan.components.items)
   pub of_frame : AllByRecursion (IsCodingOf frame) (map coding_in scan.components.items)

@@ -16,10 +16,10 @@ use Rattle.jpeg_bits.specs.Zigzag.{values_in_block_order}
 use Rattle.jpeg_streams.specs.Order.{Spot, spots_of, mcu_size}
 use Rattle.jpeg_streams.specs.Scans.{Arrays, zero_arrays, arrays_at}
 use Rattle.jpeg_streams.specs.Rasters.{in_raster}
-use Rattle.jpeg_streams.specs.InTurn.{Counted, mcus_from, counted_at_start}
-use Rattle.jpeg_streams.specs.McuRows.{zero_rows, rows_of, own_row_mcus, row_mcus, on_arrays}
+use Rattle.jpeg_streams.specs.InTurn.{Counted, blocks_from, counted_at_start}
+use Rattle.jpeg_streams.specs.McuRows.{zero_rows, rows_of, on_arrays}
 use Rattle.jpeg_streams.specs.ScanSegments.{plane_by, components_of, Coding}
-use Rattle.jpeg_decoder.specs.declared.codings.Coded.{Coded}
+use Rattle.jpeg_decoder.specs.declared.scan.Coded.{Coded}
 use Rattle.jpeg_decoder.specs.Scanning.{down_in, wide_in}
 
 -- the planes of a scan's components by their blocks
@@ -53,27 +53,22 @@ with_strips (c ∷ codings) (blocks ∷ arrays) (plane ∷ planes) =
 with_strips _ _ _ = []
 
 -- the planes after some more rows of MCUs, each of which is read into blocks of its own
-unfoldable pub strips_from : Pass → List Via → ℕ → List Coding → List (List (List Spot))
+unfoldable pub strips_from : Pass → List Via → ℕ → List Coding → List (List Spot)
     → List (List ℕ) → Counted → Reads (List (List ℕ))
 strips_from p vias n codings [] planes old = gives planes
-strips_from p vias n codings (mcus ∷ rows) planes old =
-    mcus_from p vias n mcus (on_arrays (zero_rows 1 (components_of codings)) old) >>= (λ r.
+strips_from p vias n codings (spots ∷ rows) planes old =
+    blocks_from p vias n spots (on_arrays (zero_rows 1 (components_of codings)) old) >>= (λ r.
     strips_from p vias n codings rows (with_strips codings r.reached.arrays planes)
     (on_arrays [] r))
 
--- a scan from zeros, row by row of MCUs
+-- a scan from zeros, row by row of MCUs, in intervals of n MCUs
 unfoldable pub planes_by_rows : Pass → List Via → ℕ → Frame → List Coding → List ℕ
     → Outcome (List (List ℕ) × Option Marker)
 planes_by_rows p vias n frame codings bytes =
-    reading.◌>>=◌ (strips_from p vias n codings (rows_of frame (components_of codings)) (map
-    (λ c. []) codings) (counted_at_start n []) (upcoming fresh bytes)) (λ r.
+    let blocks = n * mcu_size (components_of codings) in
+    reading.◌>>=◌ (strips_from p vias blocks codings (rows_of frame (components_of codings)) (map
+    (λ c. []) codings) (counted_at_start blocks []) (upcoming fresh bytes)) (λ r.
     reading.◌>>=◌ (marker_from r.1) (λ m. Ok ((r.0, m.0), m.1)))
-
--- the MCUs of each row, by the row's number
-unfoldable pub row_at : Frame → List Component → ℕ → List (List Spot)
-row_at frame [] = λ row. []
-row_at frame (c ∷ []) = own_row_mcus c
-row_at frame (c ∷ d ∷ more) = λ row. row_mcus frame.mcus_wide (c ∷ d ∷ more)
 
 -- ---- what a caller sees
 

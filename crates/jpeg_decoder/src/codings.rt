@@ -1,5 +1,6 @@
 //! The components of a scan, and the tables that they are coded by (T.81, B.2.3).
-ghost use Rattle.std.specs.Prelude.{◌≡◌, ◌<◌, ◌≤◌, Ok, IfOk, IfErr, MatchResult, All, length, map};
+ghost use Rattle.std.specs.Prelude.{◌≡◌, ◌<◌, ◌≤◌, Ok, IfOk, IfErr, MatchResult, length, map};
+ghost use Rattle.std.specs.List.{AllByRecursion};
 ghost use Rattle.std.specs.Option.{option_copied};
 ghost use Rattle.jpeg_bits.specs.Reading.{Names};
 ghost use Rattle.jpeg_bits.specs.BlockView.{pass_in};
@@ -8,37 +9,22 @@ ghost use Rattle.jpeg_bits.specs.declared.codes.HuffmanTableClass.TheVariants.{D
 ghost use Rattle.jpeg_segments.specs.FrameView.{frame_in, scan_in};
 ghost use Rattle.jpeg_segments.specs.ScanHeader.{IsScanOf};
 ghost use Rattle.jpeg_streams.specs.Scans.{no_table};
-ghost use Rattle.jpeg_decoder.specs.Scanning.{HasAc};
 ghost use Rattle.jpeg_decoder.specs.Seen.{found_in};
 ghost use Rattle.jpeg_decoder.specs.Steps.{IsRefusal, IsSpareOf, codings_in_force, coding_in};
 ghost use Rattle.jpeg_decoder.specs.Steps.{coding_in_slot, default_dc, default_ac, in_force};
-ghost use Rattle.jpeg_decoder.specs.Steps.{table_if};
+ghost use Rattle.jpeg_decoder.specs.Steps.{HasScale, table_if};
 ghost use Rattle.jpeg_streams.specs.ScanSegments.{pass_of, is_progressive};
 
 use crate::places::{Missing, needed, table_at};
+use crate::scan::Coded;
 use crate::state::State;
 use jpeg_bits::blocks::Pass;
 use jpeg_bits::codes::HuffmanTableClass;
 use jpeg_bits::error::Result;
 use jpeg_bits::huffman::{HuffmanTable, fill_default_mjpeg_tables};
 use jpeg_bits::scan::ScanInfo;
-use jpeg_segments::parser::{CodingProcess, Component, FrameInfo};
+use jpeg_segments::parser::{CodingProcess, FrameInfo};
 use std::alloc::Global;
-
-/// A component of a scan: its place in the frame, and the tables that its blocks are coded by.
-#[derive(Drop)]
-pub struct Coded<'a> {
-    /// The component's place in the frame.
-    pub place: usize,
-    /// The component itself.
-    pub component: &'a Component,
-    /// The quantization table in zigzag order.
-    pub quantization: &'a [u16; 64],
-    /// The table of its DC coefficients.
-    pub dc: &'a HuffmanTable,
-    /// The table of its AC coefficients.
-    pub ac: &'a HuffmanTable,
-}
 
 /// The tables that stand in where a scan names a place that is unset: the default ones of MJPEG
 /// frames by their places, and tables without codes where the scan needs none.
@@ -137,6 +123,7 @@ fn coding_of<'a>(
 ) -> Result<Coded<'a>>
     requires slot { slot < length (scan_in header.now).components }
     requires legal { IsScanOf (frame_in frame.now) (scan_in header.now) }
+    requires scales { AllByRecursion HasScale (frame_in frame.now).components }
     requires spare { IsSpareOf (found_in state.now) (scan_in header.now) spare.now }
     ensures coding { let found = found_in state.now in
         let frame = frame_in frame.now in
@@ -144,7 +131,6 @@ fn coding_of<'a>(
         MatchResult result
         (λ c. coding_in_slot found frame scan slot ≡ Ok (coding_in c))
         (λ e. IsRefusal e × Names e (coding_in_slot found frame scan slot)) }
-    ensures class { IfOk result HasAc }
 {
     let place = header.component_indices[slot];
     let component = frame.components.get(place);
@@ -183,6 +169,7 @@ pub fn codings_of<'a>(
     header: &ScanInfo,
 ) -> Result<Vec<Coded<'a>>>
     requires legal { IsScanOf (frame_in frame.now) (scan_in header.now) }
+    requires scales { AllByRecursion HasScale (frame_in frame.now).components }
     requires spare { IsSpareOf (found_in state.now) (scan_in header.now) spare.now }
     ensures codings { let found = found_in state.now in
         let frame = frame_in frame.now in
@@ -190,7 +177,6 @@ pub fn codings_of<'a>(
         MatchResult result
         (λ v. codings_in_force found frame scan ≡ Ok (map coding_in v.items))
         (λ e. IsRefusal e × Names e (codings_in_force found frame scan)) }
-    ensures classes { IfOk result (λ v. All HasAc v.items) }
     ensures count { IfOk result (λ v. length v.items ≡ length (scan_in header.now).components) }
 {
     let mut codings = Vec::with_capacity(alloc, header.component_indices.len())?;

@@ -9,16 +9,16 @@ ghost use Rattle.jpeg_segments.specs.FrameView.{component_in, frame_in};
 ghost use Rattle.jpeg_bits.specs.Reading.{Answers};
 ghost use Rattle.std.specs.List.{AllByRecursion};
 ghost use Rattle.jpeg_streams.specs.InTurn.{AreApart, Fits};
-ghost use Rattle.jpeg_decoder.specs.Scanning.{arrays_in, blocks_in, components_in, sizes_of, HasAc};
-ghost use Rattle.jpeg_decoder.specs.Scanning.{HasCodedScale};
+ghost use Rattle.jpeg_decoder.specs.Scanning.{arrays_in, blocks_in, components_in, sizes_of};
 ghost use Rattle.jpeg_streams.specs.Scans.{zero_arrays, zero_of};
 ghost use Rattle.jpeg_decoder.specs.Seen.{planes_in};
 ghost use Rattle.jpeg_streams.specs.ScanSegments.{put_arrays, finished_by, plane_by};
 ghost use Rattle.jpeg_streams.specs.Found.{none_finished};
 ghost use Rattle.jpeg_decoder.specs.Steps.{blocks_at, coding_in, without_blocks};
 
-use crate::codings::{Coded, is_progressive};
-use crate::scans::{Scan, read_blocks};
+use crate::codings::is_progressive;
+use crate::scan::{Coded, Scan};
+use crate::scans::read_blocks;
 use crate::sequential::read_planes;
 use crate::state::State;
 use crate::strips::{append_rows, plane_size};
@@ -164,8 +164,7 @@ impl Decoded {
     ghost use Rattle.jpeg_streams.specs.InTurn.{AreArrays};
     ghost use Rattle.jpeg_streams.specs.LosslessScans.{with_samples};
     ghost use Rattle.jpeg_streams.specs.Sound.{ArePlanes};
-    ghost use Rattle.jpeg_decoder.specs.Scanning.{arrays_in, components_in, sizes_of, HasAc};
-    ghost use Rattle.jpeg_decoder.specs.Scanning.{HasCodedScale};
+    ghost use Rattle.jpeg_decoder.specs.Scanning.{arrays_in, components_in, sizes_of};
     ghost use Rattle.jpeg_decoder.specs.Seen.{found_in, planes_in};
     ghost use Rattle.jpeg_decoder.specs.Steps.{coding_in, HasPlace, IsReadable, is_wanted};
     ghost use Rattle.jpeg_decoder.specs.Steps.{marks_after, scan_data, with_decoded};
@@ -254,7 +253,6 @@ impl Decoded {
     ) -> std::result::Result<(), AllocError>
         requires pass { IsPass (pass_in pass) }
         requires place { coded.now.place < 4 }
-        requires scale { IsScale coded.now.component.now.dct_scale }
         requires blocks { length blocks.now ≡ (component_in coded.now.component.now).blocks_high *
             (component_in coded.now.component.now).blocks_wide }
         ensures held { OnOk result (self.new.held ≡ self.old.held) }
@@ -274,7 +272,6 @@ impl Decoded {
 
     /// Adds the planes of a scan's components.
     fn add_planes(&mut self, scan: &Scan<'_>, planes: &mut Vec<Vec<u8>>, alloc: Global)
-        requires pass { IsPass (pass_in scan.now.pass) }
         requires places { All HasPlace scan.now.components.items }
         requires count { length planes.old.items ≡ length scan.now.components.items }
         ensures held { self.new.held ≡ self.old.held }
@@ -298,9 +295,7 @@ impl Decoded {
         scan: &Scan<'_>,
         arrays: &Vec<Vec<[i16; 64]>>,
     ) -> std::result::Result<(), AllocError>
-        requires pass { IsPass (pass_in scan.now.pass) }
         requires places { All HasPlace scan.now.components.items }
-        requires scales { All HasCodedScale scan.now.components.items }
         requires blocks { AreArrays (components_in scan.now.components.items)
             (arrays_in arrays.now.items) }
         ensures held { OnOk result (self.new.held ≡ self.old.held) }

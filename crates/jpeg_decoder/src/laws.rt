@@ -11,9 +11,10 @@ ghost use Rattle.jpeg_segments.specs.ScanHeader.{Scan};
 ghost use Rattle.jpeg_segments.specs.Scales.{frame_at};
 ghost use Rattle.jpeg_pixels.specs.Pictures.{Source, sources_of, HasSources};
 ghost use Rattle.jpeg_pixels.specs.Planes.{plane_of, strip_of};
-ghost use Rattle.jpeg_streams.specs.Order.{spots_of, mcu_size};
+ghost use Rattle.jpeg_streams.specs.Order.{all_spots, own_spots, spots_of, mcu_size};
+ghost use Rattle.jpeg_streams.specs.declared.grids.Grid.{Grid};
 ghost use Rattle.jpeg_streams.specs.Scans.{Arrays, arrays_at, zero_arrays};
-ghost use Rattle.jpeg_streams.specs.InTurn.{AreApart, AreArrays, Fits, intervals_from, mcus_of};
+ghost use Rattle.jpeg_streams.specs.InTurn.{AreApart, AreArrays, Fits, intervals_from};
 ghost use Rattle.jpeg_streams.specs.InTurn.{scan_from};
 ghost use Rattle.jpeg_streams.specs.McuRows.{scan_by_rows};
 ghost use Rattle.jpeg_streams.specs.Rasters.{ordered, in_raster};
@@ -22,6 +23,7 @@ ghost use Rattle.jpeg_streams.specs.ScanSegments.{Coding, vias_from, codings_of,
 ghost use Rattle.jpeg_streams.specs.ScanSegments.{is_progressive, scan_arrays, arrays_before};
 ghost use Rattle.jpeg_streams.specs.Found.{Found};
 ghost use Rattle.jpeg_streams.specs.declared.settings.Settings.{Settings};
+ghost use Rattle.jpeg_decoder.specs.Walk.{members_from, own_member, raster, spots_at};
 
 /// A header and then the rest of its stream are the whole stream, and a refused header is a refused
 /// stream.
@@ -52,14 +54,24 @@ pub fn scans_go_in_turn()
         (other_groups n (spots_of frame components)) arrays bytes }
 {}
 
-/// A scan decodes its MCUs one after the other; where no MCU is left in a restart interval, a
-/// restart comes before the next.
-pub fn scans_go_by_mcus()
-    ensures { (frame : Frame) (c : Component) (more : List Component) (p : Pass)
-        (vias : List Via) (n : ℕ) (arrays : Arrays) (bytes : List ℕ) →
-        AllByRecursion (Fits frame) (c ∷ more) → AreArrays (c ∷ more) arrays →
-        arrays_at p (n * mcu_size (c ∷ more)) vias (spots_of frame (c ∷ more)) arrays bytes
-        ≡ scan_from p vias n (mcus_of frame (c ∷ more)) arrays bytes }
+/// The code walks over the MCUs of a scan, and of each over its members: for several components
+/// these are all blocks of the scan in order, and for a component alone its own blocks.
+#[tactic(auto, using(crate::proofs::OrderedWalks::order_rules))]
+pub fn walks_are_in_order()
+    ensures several { (wide high : ℕ) (components : List Component) →
+        spots_at (members_from 0 components) (raster wide high) ≡ all_spots wide high components }
+    ensures alone { (grid : Grid) →
+        spots_at (own_member grid ∷ []) (raster grid.own_wide grid.own_high) ≡ own_spots grid }
+{}
+
+/// A scan decodes its blocks one after the other; where no block is left of a restart interval of
+/// n, a restart comes before the next.
+pub fn scans_go_by_blocks()
+    ensures { (frame : Frame) (components : List Component) (p : Pass) (vias : List Via) (n : ℕ)
+        (arrays : Arrays) (bytes : List ℕ) →
+        AllByRecursion (Fits frame) components → AreArrays components arrays →
+        arrays_at p n vias (spots_of frame components) arrays bytes
+        ≡ scan_from p vias n (spots_of frame components) arrays bytes }
 {}
 
 /// A scan that starts from zeros decodes its rows of MCUs one after the other, each into blocks of
@@ -101,7 +113,7 @@ pub fn frames_are_covered_at_each_scale()
 {}
 
 /// A scan of a sequential frame decodes its rows of MCUs from zeros, and one of a progressive frame
-/// decodes its MCUs on top of the blocks that are held.
+/// decodes its blocks on top of those that are held.
 pub fn scans_of_frames()
     ensures sequential { (found : Found) (frame : Frame) (scan : Scan) (c : Coding)
         (codings : List Coding) (bytes : List ℕ) →
@@ -116,8 +128,9 @@ pub fn scans_of_frames()
         AllByRecursion (Fits frame) frame.components →
         codings_of found frame scan ≡ Ok (c ∷ codings) →
         scan_arrays found frame scan (c ∷ codings) bytes
-        ≡ scan_from (pass_of scan) (vias_from 0 (c ∷ codings)) found.restart
-        (mcus_of frame (map (λ c. c.component) (c ∷ codings)))
+        ≡ scan_from (pass_of scan) (vias_from 0 (c ∷ codings))
+        (found.restart * mcu_size (map (λ c. c.component) (c ∷ codings)))
+        (spots_of frame (map (λ c. c.component) (c ∷ codings)))
         (map (λ c. get_or (arrays_before found frame) c.place []) (c ∷ codings)) bytes }
 {}
 

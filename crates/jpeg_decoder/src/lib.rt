@@ -47,11 +47,17 @@ mod metadata;
 mod picture;
 mod places;
 mod profile;
+mod raster;
 mod restarts;
 pub mod run;
+mod scan;
+mod scan_order;
 mod scan_segment;
 mod scans;
 mod sequential;
+mod spots;
+#[cfg(test)]
+mod spots_tests;
 mod state;
 mod strips;
 pub mod worked;

@@ -14,7 +14,7 @@ use crate::decoded::Decoded;
 use crate::lossless_scans::read_lossless_scan;
 use crate::places::{Missing, needed};
 use crate::restarts::pass_restarts;
-use crate::scans::Scan;
+use crate::scan::Scan;
 use crate::state::State;
 use jpeg_bits::error::{Error, Result, UnsupportedFeature, format_error};
 use jpeg_bits::marker::Marker;

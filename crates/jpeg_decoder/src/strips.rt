@@ -1,16 +1,16 @@
 //! Planes, as they grow by rows of blocks: in a sequential scan row by row of MCUs (T.81, A.2).
-ghost use Rattle.std.specs.Prelude.{[], map, length, pos, replicate, All, IfOk, OnOk};
+ghost use Rattle.std.specs.Prelude.{[], map, length, pos, replicate, IfOk, OnOk};
 ghost use Rattle.std.specs.Prelude.{◌≡◌, ◌≤◌, ◌*◌, ◌++◌};
 ghost use Rattle.jpeg_bits.specs.BlockView.{to_block};
 ghost use Rattle.jpeg_bits.specs.Zigzag.{values_in_block_order};
 ghost use Rattle.jpeg_pixels.specs.Planes.{plane_of};
 ghost use Rattle.jpeg_pixels.specs.Scaled.{IsScale};
 ghost use Rattle.jpeg_streams.specs.Rasters.{in_raster};
-ghost use Rattle.jpeg_decoder.specs.Scanning.{HasCodedScale, arrays_in, sizes_of};
+ghost use Rattle.jpeg_decoder.specs.Scanning.{arrays_in, sizes_of};
 ghost use Rattle.jpeg_decoder.specs.Steps.{coding_in};
 ghost use Rattle.jpeg_decoder.specs.Strips.{planes_in, row_sizes, zeros_of, with_strips};
 
-use crate::codings::Coded;
+use crate::scan::Coded;
 use jpeg_pixels::plane::append_row;
 use jpeg_pixels::zigzag::values_in_order;
 use jpeg_segments::parser::Component;
@@ -58,7 +58,6 @@ pub fn plane_size(wide: u16, high: u16, scale: usize) -> usize
 
 /// A plane without samples for each component of a scan, with room for all of them.
 pub fn empty_planes(alloc: Global, codings: &[Coded<'_>]) -> Result<Vec<Vec<u8>>, AllocError>
-    requires scales { All HasCodedScale codings.now }
     ensures { IfOk result (λ v. planes_in v.items ≡ map (λ c. []) (map coding_in codings.now)) }
 {
     let mut planes = Vec::with_capacity(alloc, codings.len())?;
@@ -103,7 +102,6 @@ pub fn append_strips(
     codings: &[Coded<'_>],
     rows: &[Vec<[i16; 64]>],
 ) -> Result<(), AllocError>
-    requires scales { All HasCodedScale codings.now }
     requires planes { length planes.now.items ≡ length codings.now }
     requires sizes { sizes_of rows.now ≡ row_sizes codings.now }
     ensures { OnOk result (planes_in planes.new.items

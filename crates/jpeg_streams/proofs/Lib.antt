@@ -15,14 +15,11 @@ pub mod InTurn
 pub mod WholeScans
 pub mod Apart
 pub mod FrameFits
-pub mod Mcus
+pub mod CountedScans
 pub mod McuRows
-pub mod McuLoops
 pub mod ScaledCovers
 pub mod ScanArrays
 pub mod PlaneStrips
-pub mod OwnMcus
-pub mod McuSteps
 pub mod Products
 pub mod InPlace
 pub mod WrittenMarkers

@@ -1,4 +1,4 @@
--- A scan of several components is its rows of MCUs, each read into blocks of its own.
+-- A scan from zeros is its rows of MCUs, each read into blocks of its own.
 use Rattle.std.proofs.Common.{◌≡◌, ◌⊎◌, inl, inr, ℕ, zero, suc, ◌+◌, ◌-◌, ◌*◌, ◌/◌, ◌%◌, ◌≤◌, ◌<◌, Bool, true, false}
 use Rattle.std.proofs.Common.{List, [], ◌∷◌, ◌++◌, map, length, set, get_or, replicate, ℤ, pos, Result, Ok, Err, refl}
 use Rattle.std.proofs.Common.{sym, ap, ap₂, ◌∙◌, subst, append_assoc, append-nil, arith, length-set}
@@ -9,19 +9,18 @@ use Rattle.jpeg_bits.specs.Entropy.{Text, upcoming, fresh}
 use Rattle.jpeg_bits.specs.Readers.{Reads, read_on, gives}
 use Rattle.jpeg_segments.specs.Frame.{Frame, Component}
 use Rattle.jpeg_bits.specs.Passes.{Pass, Via, Block, zero_block, block_from}
-use Rattle.jpeg_streams.specs.Order.{Spot, grid_of, own_spots, part_spots, mcu_spots}
+use Rattle.jpeg_streams.specs.Order.{Spot, grid_of, own_spots, part_spots, mcu_spots, all_spots, spots_of, mcu_size}
 use Rattle.jpeg_streams.specs.Scans.{Arrays, zero_arrays, block_at, put_block, via_at}
-use Rattle.jpeg_streams.specs.InTurn.{Reached, turn_from, turns_from, at_start, restart_from, Counted, begun_from}
-use Rattle.jpeg_streams.specs.InTurn.{mcu_from, mcus_from, IsIn, IsInside}
-use Rattle.jpeg_streams.specs.McuRows.{row_mcus, zero_rows, row_size, own_row_mcus, rows_of, joined, on_arrays}
+use Rattle.jpeg_streams.specs.InTurn.{Reached, turn_from, at_start, restart_from, Counted, begun_from}
+use Rattle.jpeg_streams.specs.InTurn.{next_from, blocks_from, IsIn, IsInside}
+use Rattle.jpeg_streams.specs.McuRows.{zero_rows, row_size, own_row, row_at, rows_of, joined, on_arrays}
 use Rattle.jpeg_streams.specs.McuRows.{rows_from, scan_by_rows}
-use Rattle.jpeg_streams.proofs.InTurn.{in-front, in-back}
 use Rattle.jpeg_streams.proofs.Put.{put-inside}
 use Rattle.std.proofs.Math.Nat.{add-mul, mul_assoc, div-lt_iff_lt-mul}
 use Rattle.std.proofs.lemmas.Nat.{div-mul-add}
-use Rattle.jpeg_streams.specs.InTurn.{Fits, counted_at_start, scan_from, mcus_of}
+use Rattle.jpeg_streams.specs.InTurn.{Fits, counted_at_start, scan_from}
 use Rattle.jpeg_streams.proofs.Apart.{At, at-all, in-flat-back, in-line-back, mcu-tells, placed}
-use Rattle.jpeg_streams.proofs.Mcus.{finished, on-on, mcus-append, flat, flat-append, flat-map, some-product}
+use Rattle.jpeg_streams.proofs.CountedScans.{finished, on-on, blocks-append, some-product}
 
 -- ---- a list inside another
 
@@ -148,11 +147,6 @@ abbrev pub Keeps : (Arrays → Type 0) → Result (Reached × Text) Fault → Ty
 Keeps P (Ok r) = P r.0.arrays
 Keeps P (Err e) = Unit {0}
 
-keeps-on : (P : Arrays → Type 0) (f : Reached → Reads Reached) → ((r : Reached) (t : Text) → P r.arrays
-    → Keeps P (f r t)) → (o : Result (Reached × Text) Fault) → Keeps P o → Keeps P (read_on f o)
-keeps-on P f h (Ok r) k = h r.0 r.1 k
-keeps-on P f h (Err e) k = tt
-
 abbrev pub KeepsCounted : (Arrays → Type 0) → Result (Counted × Text) Fault → Type 0
 KeepsCounted P (Ok r) = P r.0.reached.arrays
 KeepsCounted P (Err e) = Unit {0}
@@ -176,8 +170,8 @@ begun-keeps P n old t h = test (nat_lt 0 n && old.left == 0)
     test true = one (restart_from old.number t)
     test false = h
 
-abbrev pub after_turns : Counted → Reached → Counted
-after_turns now r = record { reached = r; left = now.left - 1; number = now.number }
+abbrev pub after_turn : Counted → Reached → Counted
+after_turn now r = record { reached = r; left = now.left - 1; number = now.number }
 
 counted-on : (P : Arrays → Type 0) (f : Counted → Reads Counted) → ((r : Counted) (t : Text) → P r.reached.arrays
     → KeepsCounted P (f r t))
@@ -207,36 +201,28 @@ turn-any P kept p vias s old t h =
     go (Ok r) = kept old.arrays s r.0.0 h
     go (Err e) = tt
 
-turns-any : (P : Arrays → Type 0) → IsKept P → (p : Pass) (vias : List Via) (spots : List Spot) (old : Reached)
-    (t : Text) → P old.arrays → Keeps P (turns_from p vias spots old t)
-unfolding turns_from
-turns-any P kept p vias [] old t h = h
-turns-any P kept p vias (s ∷ spots) old t h =
-    keeps-on P (turns_from p vias spots) (λ r u k. turns-any P kept p vias spots r u k) (turn_from p vias s old t)
-    (turn-any P kept p vias s old t h)
-
-mcu-any : (P : Arrays → Type 0) → IsKept P → (p : Pass) (vias : List Via) (n : ℕ) (mcu : List Spot) (old : Counted)
+next-any : (P : Arrays → Type 0) → IsKept P → (p : Pass) (vias : List Via) (n : ℕ) (s : Spot) (old : Counted)
     (t : Text) → P old.reached.arrays
-    → KeepsCounted P (mcu_from p vias n mcu old t)
-unfolding mcu_from
-mcu-any P kept p vias n mcu old t h =
-    counted-on P (λ now. λ u. read_on (λ r. gives (after_turns now r)) (turns_from p vias mcu now.reached u))
-    (λ now u k. one now (turns_from p vias mcu now.reached u) (turns-any P kept p vias mcu now.reached u k))
+    → KeepsCounted P (next_from p vias n s old t)
+unfolding next_from
+next-any P kept p vias n s old t h =
+    counted-on P (λ now. λ u. read_on (λ r. gives (after_turn now r)) (turn_from p vias s now.reached u))
+    (λ now u k. one now (turn_from p vias s now.reached u) (turn-any P kept p vias s now.reached u k))
     (begun_from n old t) (begun-keeps P n old t h)
   where
     one : (now : Counted) (o : Result (Reached × Text) Fault) → Keeps P o
-        → KeepsCounted P (read_on (λ r. gives (after_turns now r)) o)
+        → KeepsCounted P (read_on (λ r. gives (after_turn now r)) o)
     one now (Ok r) k = k
     one now (Err e) k = tt
 
-pub mcus-any : (P : Arrays → Type 0) → IsKept P → (p : Pass) (vias : List Via) (n : ℕ) (mcus : List (List Spot))
+pub blocks-any : (P : Arrays → Type 0) → IsKept P → (p : Pass) (vias : List Via) (n : ℕ) (spots : List Spot)
     (old : Counted) (t : Text) → P old.reached.arrays
-    → KeepsCounted P (mcus_from p vias n mcus old t)
-unfolding mcus_from
-mcus-any P kept p vias n [] old t h = h
-mcus-any P kept p vias n (m ∷ mcus) old t h =
-    counted-on P (mcus_from p vias n mcus) (λ r u k. mcus-any P kept p vias n mcus r u k) (mcu_from p vias n m old t)
-    (mcu-any P kept p vias n m old t h)
+    → KeepsCounted P (blocks_from p vias n spots old t)
+unfolding blocks_from
+blocks-any P kept p vias n [] old t h = h
+blocks-any P kept p vias n (s ∷ spots) old t h =
+    counted-on P (blocks_from p vias n spots) (λ r u k. blocks-any P kept p vias n spots r u k)
+    (next_from p vias n s old t) (next-any P kept p vias n s old t h)
 
 holds-kept : (front rest : Arrays) (spots : List Spot) → IsKept (Holds front rest spots)
 holds-kept front rest spots arrays s b h = put-holds front rest spots arrays s b h
@@ -282,33 +268,6 @@ turn-shifted p vias front rest s old t a h =
         (put-shifted front old.arrays rest s r.0.0 a h)
     go (Err e) = refl
 
--- on where what holds is kept
-same-where : {A : Type 0} (P : Arrays → Type 0) (f g : Reached → Reads A) → ((r : Reached) (t : Text) → P r.arrays
-    → f r t ≡ g r t)
-    → (o : Result (Reached × Text) Fault) → Keeps P o → read_on f o ≡ read_on g o
-same-where P f g h (Ok r) k = h r.0 r.1 k
-same-where P f g h (Err e) k = refl
-
-turns-shifted : (p : Pass) (vias : List Via) (front rest : Arrays) (spots : List Spot) (old : Reached) (t : Text)
-    → Holds front rest spots old.arrays
-    → turns_from p vias (map (shifted front) spots) (wrapped front rest old) t
-    ≡ read_on (λ r. gives (wrapped front rest r)) (turns_from p vias spots old t)
-unfolding turns_from
-turns-shifted p vias front rest [] old t h = refl
-turns-shifted p vias front rest (s ∷ spots) old t h =
-    let next = turns_from p vias (map (shifted front) spots) in
-    let wrap : Reached → Reads Reached = λ r. gives (wrapped front rest r) in
-    ap (read_on next) (turn-shifted p vias front rest s old t h.aligned (h.inside s (inl refl)))
-    ∙ on-on wrap next (turn_from p vias s old t)
-    ∙ same-where (Holds front rest (s ∷ spots)) (λ r. λ u. next (wrapped front rest r) u)
-    (λ r. λ u. read_on wrap (turns_from p vias spots r u))
-    (λ r u k. turns-shifted p vias front rest spots r u (fewer-hold front rest (s ∷ spots) spots r.arrays
-    (λ q q_in. inr q_in) k))
-    (turn_from p vias s old t) (turn-any (Holds front rest (s ∷ spots)) (holds-kept front rest (s ∷ spots)) p vias s old t h)
-    ∙ sym (on-on (turns_from p vias spots) wrap (turn_from p vias s old t))
-
--- ---- MCUs
-
 begun-shifted : (n : ℕ) (front rest : Arrays) (old : Counted) (t : Text)
     → begun_from n (wrapped_count front rest old) t ≡ read_on (λ r. gives (wrapped_count front rest r))
     (begun_from n old t)
@@ -346,53 +305,52 @@ counted-where P f g h (Ok r) k = h r.0 r.1 k
 counted-where P f g h (Err e) k = refl
 
 counts : (front rest : Arrays) (now : Counted) (o : Result (Reached × Text) Fault)
-    → read_on (λ r. gives (after_turns now r)) (read_on (λ r. gives (wrapped front rest r)) o)
-    ≡ read_on (λ r. gives (wrapped_count front rest r)) (read_on (λ r. gives (after_turns now r)) o)
+    → read_on (λ r. gives (after_turn now r)) (read_on (λ r. gives (wrapped front rest r)) o)
+    ≡ read_on (λ r. gives (wrapped_count front rest r)) (read_on (λ r. gives (after_turn now r)) o)
 counts front rest now (Ok r) = refl
 counts front rest now (Err e) = refl
 
-mcu-shifted : (p : Pass) (vias : List Via) (n : ℕ) (front rest : Arrays) (mcu : List Spot) (old : Counted) (t : Text)
-    → Holds front rest mcu old.reached.arrays
-    → mcu_from p vias n (map (shifted front) mcu) (wrapped_count front rest old) t
-    ≡ read_on (λ r. gives (wrapped_count front rest r)) (mcu_from p vias n mcu old t)
-unfolding mcu_from
-mcu-shifted p vias n front rest mcu old t h =
-    let far : Counted → Reads Counted = λ now. λ u. read_on (λ r. gives (after_turns now r))
-    (turns_from p vias (map (shifted front) mcu) now.reached u) in
-    let near : Counted → Reads Counted = λ now. λ u. read_on (λ r. gives (after_turns now r))
-    (turns_from p vias mcu now.reached u) in
+next-shifted : (p : Pass) (vias : List Via) (n : ℕ) (front rest : Arrays) (s : Spot) (spots : List Spot)
+    (old : Counted) (t : Text) → Holds front rest (s ∷ spots) old.reached.arrays
+    → next_from p vias n (shifted front s) (wrapped_count front rest old) t
+    ≡ read_on (λ r. gives (wrapped_count front rest r)) (next_from p vias n s old t)
+unfolding next_from
+next-shifted p vias n front rest s spots old t h =
+    let far : Counted → Reads Counted = λ now. λ u. read_on (λ r. gives (after_turn now r))
+    (turn_from p vias (shifted front s) now.reached u) in
+    let near : Counted → Reads Counted = λ now. λ u. read_on (λ r. gives (after_turn now r))
+    (turn_from p vias s now.reached u) in
     let wrap : Counted → Reads Counted = λ r. gives (wrapped_count front rest r) in
+    let all = Holds front rest (s ∷ spots) in
     ap (read_on far) (begun-shifted n front rest old t)
     ∙ on-on wrap far (begun_from n old t)
-    ∙ counted-where (Holds front rest mcu) (λ now. λ u. far (wrapped_count front rest now) u)
+    ∙ counted-where all (λ now. λ u. far (wrapped_count front rest now) u)
     (λ now. λ u. read_on wrap (near now u))
-    (λ now u k. ap (read_on (λ r. gives (after_turns now r))) (turns-shifted p vias front rest mcu now.reached u k)
-    ∙ counts front rest now (turns_from p vias mcu now.reached u))
-    (begun_from n old t) (begun-keeps (Holds front rest mcu) n old t h)
+    (λ now u k. ap (read_on (λ r. gives (after_turn now r)))
+    (turn-shifted p vias front rest s now.reached u k.aligned (k.inside s (inl refl)))
+    ∙ counts front rest now (turn_from p vias s now.reached u))
+    (begun_from n old t) (begun-keeps all n old t h)
     ∙ sym (on-on near wrap (begun_from n old t))
 
--- MCUs that are read into blocks that stand inside others are read into those.
-pub mcus-shifted : (p : Pass) (vias : List Via) (n : ℕ) (front rest : Arrays) (mcus : List (List Spot)) (old : Counted)
-    (t : Text)
-    → Holds front rest (flat_map (λ (m : List Spot). m) mcus) old.reached.arrays
-    → mcus_from p vias n (map (map (shifted front)) mcus) (wrapped_count front rest old) t
-    ≡ read_on (λ r. gives (wrapped_count front rest r)) (mcus_from p vias n mcus old t)
-unfolding mcus_from
-mcus-shifted p vias n front rest [] old t h = refl
-mcus-shifted p vias n front rest (m ∷ mcus) old t h =
-    let all = flat_map (λ (m : List Spot). m) (m ∷ mcus) in
-    let more = flat_map (λ (m : List Spot). m) mcus in
-    let next = mcus_from p vias n (map (map (shifted front)) mcus) in
+-- Blocks that are read where they stand inside others are read into those.
+pub blocks-shifted : (p : Pass) (vias : List Via) (n : ℕ) (front rest : Arrays) (spots : List Spot) (old : Counted)
+    (t : Text) → Holds front rest spots old.reached.arrays
+    → blocks_from p vias n (map (shifted front) spots) (wrapped_count front rest old) t
+    ≡ read_on (λ r. gives (wrapped_count front rest r)) (blocks_from p vias n spots old t)
+unfolding blocks_from
+blocks-shifted p vias n front rest [] old t h = refl
+blocks-shifted p vias n front rest (s ∷ spots) old t h =
+    let next = blocks_from p vias n (map (shifted front) spots) in
     let wrap : Counted → Reads Counted = λ r. gives (wrapped_count front rest r) in
-    ap (read_on next) (mcu-shifted p vias n front rest m old t (fewer-hold front rest all m old.reached.arrays
-    (λ s k. in-front s m more k) h))
-    ∙ on-on wrap next (mcu_from p vias n m old t)
-    ∙ counted-where (Holds front rest all) (λ r. λ u. next (wrapped_count front rest r) u)
-    (λ r. λ u. read_on wrap (mcus_from p vias n mcus r u))
-    (λ r u k. mcus-shifted p vias n front rest mcus r u (fewer-hold front rest all more r.reached.arrays
-    (λ s q. in-back s m more q) k))
-    (mcu_from p vias n m old t) (mcu-any (Holds front rest all) (holds-kept front rest all) p vias n m old t h)
-    ∙ sym (on-on (mcus_from p vias n mcus) wrap (mcu_from p vias n m old t))
+    let all = Holds front rest (s ∷ spots) in
+    ap (read_on next) (next-shifted p vias n front rest s spots old t h)
+    ∙ on-on wrap next (next_from p vias n s old t)
+    ∙ counted-where all (λ r. λ u. next (wrapped_count front rest r) u)
+    (λ r. λ u. read_on wrap (blocks_from p vias n spots r u))
+    (λ r u k. blocks-shifted p vias n front rest spots r u (fewer-hold front rest (s ∷ spots) spots r.reached.arrays
+    (λ q q_in. inr q_in) k))
+    (next_from p vias n s old t) (next-any all (holds-kept front rest (s ∷ spots)) p vias n s old t h)
+    ∙ sym (on-on (blocks_from p vias n spots) wrap (next_from p vias n s old t))
 
 -- ---- rows
 
@@ -417,7 +375,7 @@ pub rows-kept : (rows : ℕ) (cs : List Component) → IsKept (AreRows rows cs)
 rows-kept rows cs arrays s b h = rows-set rows cs arrays s.slot (set (get_or arrays s.slot []) s.index b)
     (length-set (get_or arrays s.slot []) s.index b) h
 
-rows-count : (rows : ℕ) (cs : List Component) (arrays : Arrays) → AreRows rows cs arrays → length arrays ≡ length cs
+pub rows-count : (rows : ℕ) (cs : List Component) (arrays : Arrays) → AreRows rows cs arrays → length arrays ≡ length cs
 unfolding AreRows
 rows-count rows [] [] h = refl
 rows-count rows [] (a ∷ arrays) h = absurd h
@@ -568,62 +526,58 @@ front-size row (c ∷ cs) [] slot h = absurd h
 front-size row (c ∷ cs) (a ∷ front) zero h = h.0
 front-size row (c ∷ cs) (a ∷ front) (suc slot) h = front-size row cs front slot h.1
 
--- a row's MCUs at their places
-abbrev pub placed_row : List Component → ℕ → List (List Spot) → List (List Spot)
-placed_row cs row mcus = map (map (shifted_by (λ slot. row * size_at cs slot))) mcus
+-- a row's blocks by their indices among all
+abbrev pub placed_row : List Component → ℕ → List Spot → List Spot
+placed_row cs row spots = map (shifted_by (λ slot. row * size_at cs slot)) spots
 
-pub placed_rows : List Component → ℕ → List (List (List Spot)) → List (List Spot)
+pub placed_rows : List Component → ℕ → List (List Spot) → List Spot
 placed_rows cs row [] = []
-placed_rows cs row (mcus ∷ rows) = placed_row cs row mcus ++ placed_rows cs (row + 1) rows
+placed_rows cs row (spots ∷ rows) = placed_row cs row spots ++ placed_rows cs (row + 1) rows
 
 map-same : (f g : Spot → Spot) → ((s : Spot) → f s ≡ g s) → (m : List Spot) → map f m ≡ map g m
 map-same f g e [] = refl
 map-same f g e (s ∷ m) = ap₂ (λ (x : Spot) (l : List Spot). x ∷ l) (e s) (map-same f g e m)
 
-maps-same : (f g : Spot → Spot) → ((s : Spot) → f s ≡ g s) → (ms : List (List Spot)) → map (map f) ms ≡ map (map g) ms
-maps-same f g e [] = refl
-maps-same f g e (m ∷ ms) = ap₂ (λ (x : List Spot) (l : List (List Spot)). x ∷ l) (map-same f g e m) (maps-same f g e ms)
-
-row-shifted : (row : ℕ) (cs : List Component) (front : Arrays) (mcus : List (List Spot)) → AreRows row cs front
-    → placed_row cs row mcus ≡ map (map (shifted front)) mcus
-row-shifted row cs front mcus h =
-    maps-same (shifted_by (λ slot. row * size_at cs slot)) (shifted front)
-    (λ s. ap (λ (i : ℕ). record { slot = s.slot; index = i + s.index }) (sym (front-size row cs front s.slot h))) mcus
+row-shifted : (row : ℕ) (cs : List Component) (front : Arrays) (spots : List Spot) → AreRows row cs front
+    → placed_row cs row spots ≡ map (shifted front) spots
+row-shifted row cs front spots h =
+    map-same (shifted_by (λ slot. row * size_at cs slot)) (shifted front)
+    (λ s. ap (λ (i : ℕ). record { slot = s.slot; index = i + s.index }) (sym (front-size row cs front s.slot h))) spots
 
 -- the spots of a row are inside its blocks
-pub record IsRow (cs : List Component) (mcus : List (List Spot)) : Type 0 where
-  pub inside : (arrays : Arrays) (s : Spot) → AreRows 1 cs arrays → IsIn s (flat mcus) → IsInside arrays s
+pub record IsRow (cs : List Component) (spots : List Spot) : Type 0 where
+  pub inside : (arrays : Arrays) (s : Spot) → AreRows 1 cs arrays → IsIn s spots → IsInside arrays s
 
-pub rows-in-turn : (p : Pass) (vias : List Via) (n : ℕ) (cs : List Component) (rows : List (List (List Spot))) (row : ℕ)
+pub rows-in-turn : (p : Pass) (vias : List Via) (n : ℕ) (cs : List Component) (rows : List (List Spot)) (row : ℕ)
     (front : Arrays) (old : Counted) (t : Text)
     → AllByRecursion (IsRow cs) rows → AreRows row cs front
-    → mcus_from p vias n (placed_rows cs row rows) (on_arrays (joined front (zero_rows (length rows) cs)) old) t
+    → blocks_from p vias n (placed_rows cs row rows) (on_arrays (joined front (zero_rows (length rows) cs)) old) t
     ≡ rows_from p vias n cs rows front old t
-unfolding mcus_from rows_from placed_rows
+unfolding blocks_from rows_from placed_rows
 rows-in-turn p vias n cs [] row front old t fits h =
     ap (λ (l : Arrays). gives (on_arrays l old) t) (no-rows row cs front h)
-rows-in-turn p vias n cs (mcus ∷ rows) row front old t fits h =
+rows-in-turn p vias n cs (spots ∷ rows) row front old t fits h =
     let one = zero_rows 1 cs in
     let rest = zero_rows (length rows) cs in
     let sized : AreRows 1 cs one = zero-rows 1 cs in
     let others = placed_rows cs (row + 1) rows in
     let start : Counted = on_arrays one old in
     let wrap : Counted → Reads Counted = λ r. gives (wrapped_count front rest r) in
-    let next = mcus_from p vias n others in
-    let o = mcus_from p vias n mcus start t in
-    let holds : Holds front rest (flat mcus) one = record {
+    let next = blocks_from p vias n others in
+    let o = blocks_from p vias n spots start t in
+    let holds : Holds front rest spots one = record {
       aligned = record {
         before = rows-count row cs front h ∙ sym (rows-count 1 cs one sized);
         after = rows-count (length rows) cs rest (zero-rows (length rows) cs) ∙ sym (rows-count 1 cs one sized);
       };
       inside = λ s k. fits.0.inside one s sized k;
     } in
-    ap (λ (l : Arrays). mcus_from p vias n (placed_row cs row mcus ++ others) (on_arrays l old) t)
+    ap (λ (l : Arrays). blocks_from p vias n (placed_row cs row spots ++ others) (on_arrays l old) t)
     (first-row (length rows) row cs front h)
-    ∙ mcus-append p vias n (placed_row cs row mcus) others (wrapped_count front rest start) t
-    ∙ ap (λ (m : List (List Spot)). read_on next (mcus_from p vias n m (wrapped_count front rest start) t))
-    (row-shifted row cs front mcus h)
-    ∙ ap (read_on next) (mcus-shifted p vias n front rest mcus start t holds)
+    ∙ blocks-append p vias n (placed_row cs row spots) others (wrapped_count front rest start) t
+    ∙ ap (λ (m : List Spot). read_on next (blocks_from p vias n m (wrapped_count front rest start) t))
+    (row-shifted row cs front spots h)
+    ∙ ap (read_on next) (blocks-shifted p vias n front rest spots start t holds)
     ∙ on-on wrap next o
     ∙ counted-where (AreRows 1 cs) (λ r. λ u. next (wrapped_count front rest r) u) (λ r. λ u. rows_from p vias n cs rows
     (joined front r.reached.arrays) r u)
@@ -631,7 +585,7 @@ rows-in-turn p vias n cs (mcus ∷ rows) row front old t fits h =
     ap (λ (l : Arrays). next (on_arrays l r) u) (around-joined front r.reached.arrays rest)
     ∙ rows-in-turn p vias n cs rows (row + 1) (joined front r.reached.arrays) r u fits.1
     (joined-rows row cs front r.reached.arrays h k))
-    o (mcus-any (AreRows 1 cs) (rows-kept 1 cs) p vias n mcus start t sized)
+    o (blocks-any (AreRows 1 cs) (rows-kept 1 cs) p vias n spots start t sized)
 
 pub no-blocks : (cs : List Component) → AreRows 0 cs (map (λ c. []) cs)
 unfolding AreRows
@@ -650,41 +604,46 @@ all-zeros frame (c ∷ cs) fits =
 -- ---- rows of several components
 
 several-shift : (row : ℕ) (cs : List Component) (columns : List ℕ)
-    → placed_row cs row (map (λ column. mcu_spots 0 column 0 cs) columns) ≡ map (λ column. mcu_spots row column 0 cs)
-    columns
+    → placed_row cs row (flat_map (λ column. mcu_spots 0 column 0 cs) columns)
+    ≡ flat_map (λ column. mcu_spots row column 0 cs) columns
 several-shift row cs [] = refl
 several-shift row cs (k ∷ columns) =
-    ap₂ (λ (m : List Spot) (l : List (List Spot)). m ∷ l)
+    map-append (shifted_by (λ slot. row * size_at cs slot)) (mcu_spots 0 k 0 cs)
+    (flat_map (λ column. mcu_spots 0 column 0 cs) columns)
+    ∙ ap₂ (λ (m l : List Spot). m ++ l)
     (mcu-shift row k 0 cs (λ j. row * size_at cs j) (λ j c a. ap (λ (i : ℕ). row * size_at cs i) (let z : 0 + j
     ≡ j = omega arith in z) ∙ ap (λ (i : ℕ). row * i) (size-at cs j c a)))
     (several-shift row cs columns)
 
 several-rows : (wide : ℕ) (cs : List Component) (row rows : ℕ)
-    → placed_rows cs row (map (λ r. row_mcus wide cs) (range_with_len row rows))
-    ≡ flat_map (λ r. map (λ column. mcu_spots r column 0 cs) (range_with_len 0 wide)) (range_with_len row rows)
-unfolding placed_rows row_mcus
+    → placed_rows cs row (map (λ r. all_spots wide 1 cs) (range_with_len row rows))
+    ≡ flat_map (λ r. flat_map (λ column. mcu_spots r column 0 cs) (range_with_len 0 wide)) (range_with_len row rows)
+unfolding placed_rows all_spots
 several-rows wide cs row zero = refl
 several-rows wide cs row (suc rows) =
-    ap₂ (λ (l m : List (List Spot)). l ++ m) (several-shift row cs (range_with_len 0 wide))
+    ap₂ (λ (l m : List Spot). l ++ m)
+    (ap (placed_row cs row) (append-nil (flat_map (λ column. mcu_spots 0 column 0 cs) (range_with_len 0 wide)))
+    ∙ several-shift row cs (range_with_len 0 wide))
     (several-rows wide cs (row + 1) rows)
 
 -- the spots of a row are inside its blocks
 several-inside : (frame : Frame) (cs : List Component) (arrays : Arrays) (s : Spot) → AllByRecursion (Fits frame) cs
     → AreRows 1 cs arrays
-    → IsIn s (flat (row_mcus frame.mcus_wide cs)) → IsInside arrays s
-unfolding row_mcus
+    → IsIn s (all_spots frame.mcus_wide 1 cs) → IsInside arrays s
+unfolding all_spots
 several-inside frame cs arrays s fits sized h =
-    let g = in-flat-back (λ column. mcu_spots 0 column 0 cs) s 0 frame.mcus_wide
-    (subst (λ (l : List Spot). IsIn s l) (flat-map (λ column. mcu_spots 0 column 0 cs)
-    (range_with_len 0 frame.mcus_wide)) h) in
+    let r = in-flat-back (λ row. flat_map (λ column. mcu_spots row column 0 cs) (range_with_len 0 frame.mcus_wide)) s
+    0 1 h in
+    let rh = r.between.high in
+    let g = in-flat-back (λ column. mcu_spots r.at column 0 cs) s 0 frame.mcus_wide r.gives in
     let gh = g.between.high in
-    let of = mcu-tells frame cs 0 0 g.at s fits (omega arith) g.gives in
+    let of = mcu-tells frame cs 0 r.at g.at s fits (omega arith) g.gives in
     let c = of.component in
-    let here = placed frame cs 0 g.at s of in
+    let here = placed frame cs r.at g.at s of in
     let z = rows-at 1 cs arrays s.slot c sized here in
     let f = at-all (Fits frame) s.slot cs c fits here in
     let up : s.index / c.blocks_wide < 1 * c.factors.vertical =
-    (div-lt_iff_lt-mul f.vertical).0 (let r = of.tells.row_of in omega arith) in
+    (div-lt_iff_lt-mul f.vertical).0 (let e = of.tells.row_of in omega arith) in
     let wp : 0 < c.blocks_wide = let q = some-product frame.mcus_wide c.factors.horizontal (omega arith) f.horizontal in
     let w = f.wide in omega arith in
     let i : s.index < 1 * c.factors.vertical * c.blocks_wide = (div-lt_iff_lt-mul wp).0 up in
@@ -692,38 +651,32 @@ several-inside frame cs arrays s fits sized h =
     mul_assoc 1 c.factors.vertical c.blocks_wide in
     record { slot = z.1; index = let l = z.0 in omega arith }
 
-all-rows : (cs : List Component) (f : ℕ → List (List Spot)) (a n : ℕ) → ((row : ℕ) → IsRow cs (f row))
+all-rows : (cs : List Component) (f : ℕ → List Spot) (a n : ℕ) → ((row : ℕ) → IsRow cs (f row))
     → AllByRecursion (IsRow cs) (map f (range_with_len a n))
 all-rows cs f a zero h = tt
 all-rows cs f a (suc n) h = (h a, all-rows cs f (a + 1) n h)
 
-length-rows_of : (f : ℕ → List (List Spot)) (a n : ℕ) → length (map f (range_with_len a n)) ≡ n
+length-rows_of : (f : ℕ → List Spot) (a n : ℕ) → length (map f (range_with_len a n)) ≡ n
 length-rows_of f a zero = refl
 length-rows_of f a (suc n) = ap suc (length-rows_of f (a + 1) n)
 
 -- ---- rows of one
 
 own-line : (c : Component) (row v : ℕ) (columns : List ℕ)
-    → placed_row (c ∷ []) row (map (λ column. record { slot = 0; index = v * c.blocks_wide + column } ∷ []) columns)
-    ≡ map (λ column. record { slot = 0; index = (row * c.factors.vertical + v) * c.blocks_wide + column } ∷ []) columns
+    → placed_row (c ∷ []) row (map (λ column. record { slot = 0; index = v * c.blocks_wide + column }) columns)
+    ≡ map (λ column. record { slot = 0; index = (row * c.factors.vertical + v) * c.blocks_wide + column }) columns
 own-line c row v [] = refl
 own-line c row v (k ∷ columns) =
     let vt = c.factors.vertical in
     let w = c.blocks_wide in
-    ap₂ (λ (i : ℕ) (l : List (List Spot)). (record { slot = 0; index = i } ∷ []) ∷ l)
+    ap₂ (λ (i : ℕ) (l : List Spot). record { slot = 0; index = i } ∷ l)
     (let p : (row * vt + v) * w ≡ row * vt * w + v * w = add-mul (row * vt) v w in
     let q : row * vt * w ≡ row * (vt * w) = mul_assoc row vt w in omega arith)
     (own-line c row v columns)
 
-placed-append : (cs : List Component) (row : ℕ) (xs ys : List (List Spot))
-    → placed_row cs row (xs ++ ys) ≡ placed_row cs row xs ++ placed_row cs row ys
-placed-append cs row [] ys = refl
-placed-append cs row (x ∷ xs) ys = ap (λ l. map (shifted_by (λ slot. row * size_at cs slot)) x ∷ l)
-    (placed-append cs row xs ys)
-
--- the own blocks of a line, each an MCU
-abbrev pub line_at : Component → ℕ → List (List Spot)
-line_at c line = map (λ column. record { slot = 0; index = line * c.blocks_wide + column } ∷ [])
+-- the own blocks of a line
+abbrev pub line_at : Component → ℕ → List Spot
+line_at c line = map (λ column. record { slot = 0; index = line * c.blocks_wide + column })
     (range_with_len 0 (grid_of c).own_wide)
 
 own-lines : (c : Component) (row a n : ℕ)
@@ -731,8 +684,9 @@ own-lines : (c : Component) (row a n : ℕ)
     (range_with_len (row * c.factors.vertical + a) n)
 own-lines c row a zero = refl
 own-lines c row a (suc n) =
-    placed-append (c ∷ []) row (line_at c a) (flat_map (line_at c) (range_with_len (a + 1) n))
-    ∙ ap₂ (λ (l m : List (List Spot)). l ++ m) (own-line c row a (range_with_len 0 (grid_of c).own_wide))
+    map-append (shifted_by (λ slot. row * size_at (c ∷ []) slot)) (line_at c a)
+    (flat_map (line_at c) (range_with_len (a + 1) n))
+    ∙ ap₂ (λ (l m : List Spot). l ++ m) (own-line c row a (range_with_len 0 (grid_of c).own_wide))
     (own-lines c row (a + 1) n ∙ ap (λ (i : ℕ). flat_map (line_at c) (range_with_len i n))
     (let z : row * c.factors.vertical + (a + 1) ≡ row * c.factors.vertical + a + 1 = omega arith in z))
 
@@ -743,15 +697,15 @@ range-split a (suc m) n (suc k) e =
     ap (λ l. a ∷ l) (range-split (a + 1) m n k (omega arith)
     ∙ ap (λ (i : ℕ). range_with_len (a + 1) m ++ range_with_len i n) (let z : a + 1 + m ≡ a + suc m = omega arith in z))
 
-flat-both : (f : ℕ → List (List Spot)) (xs ys : List ℕ) → flat_map f (xs ++ ys) ≡ flat_map f xs ++ flat_map f ys
+flat-both : (f : ℕ → List Spot) (xs ys : List ℕ) → flat_map f (xs ++ ys) ≡ flat_map f xs ++ flat_map f ys
 flat-both f [] ys = refl
 flat-both f (x ∷ xs) ys = ap (λ l. f x ++ l) (flat-both f xs ys)
     ∙ sym (append_assoc (f x) (flat_map f xs) (flat_map f ys))
 
 own-rows : (c : Component) (row rows : ℕ) → (grid_of c).own_high ≤ (row + rows) * c.factors.vertical
-    → placed_rows (c ∷ []) row (map (own_row_mcus c) (range_with_len row rows))
+    → placed_rows (c ∷ []) row (map (own_row c) (range_with_len row rows))
     ≡ flat_map (line_at c) (range_with_len (row * c.factors.vertical) ((grid_of c).own_high - row * c.factors.vertical))
-unfolding placed_rows own_row_mcus
+unfolding placed_rows own_spots
 own-rows c row zero h =
     ap (λ (n : ℕ). flat_map (line_at c) (range_with_len (row * c.factors.vertical) n))
     (let e : (row + 0) * c.factors.vertical ≡ row * c.factors.vertical = ap (λ (k : ℕ). k * c.factors.vertical)
@@ -766,7 +720,7 @@ own-rows c row (suc rows) h =
     ap (λ (i : ℕ). i * vt) (let z : row + 1 + rows ≡ row + suc rows = omega arith in z) in
     let rest = high - (row + 1) * vt in
     let split : high - row * vt ≡ k + rest = omega arith in
-    ap₂ (λ (l m : List (List Spot)). l ++ m)
+    ap₂ (λ (l m : List Spot). l ++ m)
     (own-lines c row 0 k ∙ ap (λ (i : ℕ). flat_map (line_at c) (range_with_len i k)) (let z : row * vt + 0
     ≡ row * vt = omega arith in z))
     (own-rows c (row + 1) rows (omega arith))
@@ -789,41 +743,17 @@ own-rows c row (suc rows) h =
     start-same n a b (inl e) = ap (range_with_len a) e ∙ sym (ap (range_with_len b) e)
     start-same n a b (inr e) = ap (λ (i : ℕ). range_with_len i n) e
 
-single-lines : (c : Component) (lines : List ℕ)
-    → map (λ (s : Spot). s ∷ []) (flat_map (λ row. map (λ column. record {
-      slot = 0;
-      index = row * c.blocks_wide + column;
-    }) (range_with_len 0 (grid_of c).own_wide)) lines)
-    ≡ flat_map (line_at c) lines
-single-lines c [] = refl
-single-lines c (r ∷ lines) = first (range_with_len 0 (grid_of c).own_wide)
-    ∙ ap (λ l. line_at c r ++ l) (single-lines c lines)
-  where
-    others : List Spot
-    others = flat_map (λ row. map (λ column. record { slot = 0; index = row * c.blocks_wide + column })
-        (range_with_len 0 (grid_of c).own_wide)) lines
-
-    first : (columns : List ℕ)
-        → map (λ (s : Spot). s ∷ []) (map (λ column. record { slot = 0; index = r * c.blocks_wide + column }) columns
-        ++ others)
-        ≡ map (λ column. record { slot = 0; index = r * c.blocks_wide + column } ∷ []) columns
-        ++ map (λ (s : Spot). s ∷ []) others
-    first [] = refl
-    first (k ∷ columns) = ap (λ l. (record { slot = 0; index = r * c.blocks_wide + k } ∷ []) ∷ l) (first columns)
-
 -- an own spot of a row of MCUs stands in the row's blocks
 own-inside : (frame : Frame) (c : Component) (row : ℕ) (arrays : Arrays) (s : Spot) → Fits frame c
     → AreRows 1 (c ∷ []) arrays
-    → IsIn s (flat (own_row_mcus c row)) → IsInside arrays s
-unfolding own_row_mcus
+    → IsIn s (own_row c row) → IsInside arrays s
+unfolding own_spots
 own-inside frame c row arrays s fits sized h =
     let vt = c.factors.vertical in
     let w = c.blocks_wide in
     let lines = min vt ((grid_of c).own_high - row * vt) in
-    let g = in-flat-back (λ v. flat (line_at c v)) s 0 lines (subst (λ (l : List Spot). IsIn s l)
-    (flat-lines (range_with_len 0 lines)) h) in
-    let e = in-line-back (λ column. record { slot = 0; index = g.at * w + column }) s 0 (grid_of c).own_wide
-    (subst (λ (l : List Spot). IsIn s l) (flat-line g.at (range_with_len 0 (grid_of c).own_wide)) g.gives) in
+    let g = in-flat-back (line_at c) s 0 lines h in
+    let e = in-line-back (λ column. record { slot = 0; index = g.at * w + column }) s 0 (grid_of c).own_wide g.gives in
     let gh = g.between.high in
     let eh = e.between.high in
     let ow = fits.own_wide in
@@ -835,79 +765,55 @@ own-inside frame c row arrays s fits sized h =
     let a : 1 * vt * w ≡ 1 * (vt * w) = mul_assoc 1 vt w in
     let z = rows-at 1 (c ∷ []) arrays 0 c sized refl in
     subst (IsInside arrays) e.equal (record { slot = z.1; index = let l = z.0 in omega arith })
-  where
-    flat-line : (v : ℕ) (columns : List ℕ)
-        → flat (map (λ column. record { slot = 0; index = v * c.blocks_wide + column } ∷ []) columns)
-        ≡ map (λ column. record { slot = 0; index = v * c.blocks_wide + column }) columns
-    flat-line v [] = refl
-    flat-line v (k ∷ columns) = ap (λ l. record { slot = 0; index = v * c.blocks_wide + k } ∷ l) (flat-line v columns)
 
-    flat-lines : (lines : List ℕ) → flat (flat_map (line_at c) lines) ≡ flat_map (λ v. flat (line_at c v)) lines
-    flat-lines [] = refl
-    flat-lines (v ∷ lines) = flat-append (line_at c v) (flat_map (line_at c) lines)
-        ∙ ap (λ l. flat (line_at c v) ++ l) (flat-lines lines)
-
--- A scan that begins with zeros is its rows of MCUs, each read into blocks of its own.
-rows-of-scan : (frame : Frame) (cs : List Component) (p : Pass) (vias : List Via) (n : ℕ) (bytes : List ℕ)
-    → AllByRecursion (Fits frame) cs
-    → AllByRecursion (IsRow cs) (rows_of frame cs) → length (rows_of frame cs) ≡ frame.mcus_high
-    → mcus_of frame cs ≡ placed_rows cs 0 (rows_of frame cs)
-    → scan_from p vias n (mcus_of frame cs) (zero_arrays cs) bytes ≡ scan_by_rows p vias n frame cs bytes
-unfolding scan_from scan_by_rows
-rows-of-scan frame cs p vias n bytes fits inside long placed =
-    let t = upcoming fresh bytes in
-    ap₂ (λ (m : List (List Spot)) (l : Arrays). finished (mcus_from p vias n m (counted_at_start n l) t)) placed
-    (all-zeros frame cs fits ∙ ap (λ (k : ℕ). joined (map (λ c. []) cs) (zero_rows k cs)) (sym long))
-    ∙ ap finished (rows-in-turn p vias n cs (rows_of frame cs) 0 (map (λ c. []) cs) (counted_at_start n []) t inside
-    (no-blocks cs))
-
-one-inside : (frame : Frame) (c : Component) → Fits frame c → AllByRecursion (IsRow (c ∷ [])) (rows_of frame (c ∷ []))
-unfolding rows_of
-one-inside frame c fits = all-rows (c ∷ []) (own_row_mcus c) 0 frame.mcus_high
-    (λ row. record { inside = λ arrays s sized h. own-inside frame c row arrays s fits sized h })
-
-one-long : (frame : Frame) (c : Component) → length (rows_of frame (c ∷ [])) ≡ frame.mcus_high
-unfolding rows_of
-one-long frame c = length-rows_of (own_row_mcus c) 0 frame.mcus_high
+-- the spots of each row are inside its blocks
+pub row-inside : (frame : Frame) (cs : List Component) (row : ℕ) → AllByRecursion (Fits frame) cs
+    → IsRow cs (row_at frame cs row)
+unfolding row_at
+row-inside frame [] row fits = record { inside = λ arrays s sized h. absurd h }
+row-inside frame (c ∷ []) row fits = record {
+  inside = λ arrays s sized h. own-inside frame c row arrays s fits.0 sized h;
+}
+row-inside frame (c ∷ d ∷ more) row fits = record {
+  inside = λ arrays s sized h. several-inside frame (c ∷ d ∷ more) arrays s fits sized h;
+}
 
 one-placed : (frame : Frame) (c : Component) → Fits frame c
-    → mcus_of frame (c ∷ []) ≡ placed_rows (c ∷ []) 0 (rows_of frame (c ∷ []))
-unfolding rows_of mcus_of own_spots
+    → spots_of frame (c ∷ []) ≡ placed_rows (c ∷ []) 0 (rows_of frame (c ∷ []))
+unfolding row_at spots_of own_spots
 one-placed frame c fits =
     let vt = c.factors.vertical in
     let high = (grid_of c).own_high in
-    single-lines c (range_with_len 0 high)
-    ∙ ap₂ (λ (a n : ℕ). flat_map (line_at c) (range_with_len a n)) (let z : 0 ≡ 0 * vt = omega arith in
+    ap₂ (λ (a n : ℕ). flat_map (line_at c) (range_with_len a n)) (let z : 0 ≡ 0 * vt = omega arith in
     z) (let z : 0 * vt ≡ 0 = omega arith in let y : high ≡ high - 0 * vt = omega arith in y)
     ∙ sym (own-rows c 0 frame.mcus_high
     (let z : (0 + frame.mcus_high) * vt ≡ frame.mcus_high * vt = ap (λ (k : ℕ). k * vt) (let y : 0 + frame.mcus_high
     ≡ frame.mcus_high = omega arith in y) in
     let a = fits.own_high in let b = fits.high in omega arith))
 
-some-inside : (frame : Frame) (c d : Component) (more : List Component) → AllByRecursion (Fits frame) (c ∷ d ∷ more)
-    → AllByRecursion (IsRow (c ∷ d ∷ more)) (rows_of frame (c ∷ d ∷ more))
-unfolding rows_of
-some-inside frame c d more fits =
-    all-rows (c ∷ d ∷ more) (λ row. row_mcus frame.mcus_wide (c ∷ d ∷ more)) 0 frame.mcus_high
-    (λ row. record { inside = λ arrays s sized h. several-inside frame (c ∷ d ∷ more) arrays s fits sized h })
-
-some-long : (frame : Frame) (c d : Component) (more : List Component) → length (rows_of frame (c ∷ d ∷ more))
-    ≡ frame.mcus_high
-unfolding rows_of
-some-long frame c d more = length-rows_of (λ row. row_mcus frame.mcus_wide (c ∷ d ∷ more)) 0 frame.mcus_high
-
 some-placed : (frame : Frame) (c d : Component) (more : List Component)
-    → mcus_of frame (c ∷ d ∷ more) ≡ placed_rows (c ∷ d ∷ more) 0 (rows_of frame (c ∷ d ∷ more))
-unfolding rows_of mcus_of
+    → spots_of frame (c ∷ d ∷ more) ≡ placed_rows (c ∷ d ∷ more) 0 (rows_of frame (c ∷ d ∷ more))
+unfolding row_at spots_of all_spots
 some-placed frame c d more = sym (several-rows frame.mcus_wide (c ∷ d ∷ more) 0 frame.mcus_high)
 
+placed-all : (frame : Frame) (c : Component) (more : List Component) → AllByRecursion (Fits frame) (c ∷ more)
+    → spots_of frame (c ∷ more) ≡ placed_rows (c ∷ more) 0 (rows_of frame (c ∷ more))
+placed-all frame c [] fits = one-placed frame c fits.0
+placed-all frame c (d ∷ more) fits = some-placed frame c d more
+
+-- A scan that begins with zeros is its rows of MCUs, each read into blocks of its own.
 pub scans-by-rows : (frame : Frame) (c : Component) (more : List Component) (p : Pass) (vias : List Via) (n : ℕ)
     (bytes : List ℕ) → AllByRecursion (Fits frame) (c ∷ more)
-    → scan_from p vias n (mcus_of frame (c ∷ more)) (zero_arrays (c ∷ more)) bytes ≡ scan_by_rows p vias n frame
-    (c ∷ more) bytes
-scans-by-rows frame c [] p vias n bytes fits =
-    rows-of-scan frame (c ∷ []) p vias n bytes fits (one-inside frame c fits.0) (one-long frame c)
-    (one-placed frame c fits.0)
-scans-by-rows frame c (d ∷ more) p vias n bytes fits =
-    rows-of-scan frame (c ∷ d ∷ more) p vias n bytes fits (some-inside frame c d more fits) (some-long frame c d more)
-    (some-placed frame c d more)
+    → scan_from p vias (n * mcu_size (c ∷ more)) (spots_of frame (c ∷ more)) (zero_arrays (c ∷ more)) bytes
+    ≡ scan_by_rows p vias n frame (c ∷ more) bytes
+unfolding scan_from scan_by_rows
+scans-by-rows frame c more p vias n bytes fits =
+    let cs = c ∷ more in
+    let t = upcoming fresh bytes in
+    let blocks = n * mcu_size cs in
+    ap₂ (λ (m : List Spot) (l : Arrays). finished (blocks_from p vias blocks m (counted_at_start blocks l) t))
+    (placed-all frame c more fits)
+    (all-zeros frame cs fits ∙ ap (λ (k : ℕ). joined (map (λ c. []) cs) (zero_rows k cs))
+    (sym (length-rows_of (row_at frame cs) 0 frame.mcus_high)))
+    ∙ ap finished (rows-in-turn p vias blocks cs (rows_of frame cs) 0 (map (λ c. []) cs) (counted_at_start blocks [])
+    t (all-rows cs (row_at frame cs) 0 frame.mcus_high (λ row. row-inside frame cs row fits)) (no-blocks cs))

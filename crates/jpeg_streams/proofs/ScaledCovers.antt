@@ -17,7 +17,7 @@ use Rattle.jpeg_segments.specs.Scales.{component_at, frame_at}
 use Rattle.jpeg_pixels.specs.Pictures.{HasSources}
 use Rattle.jpeg_streams.proofs.FrameFits.{factors-back}
 use Rattle.jpeg_segments.proofs.Ceilings.{ceiling-low, ceiling-high, ceiling-le}
-use Rattle.jpeg_streams.proofs.Mcus.{some-product}
+use Rattle.jpeg_streams.proofs.CountedScans.{some-product}
 
 -- ---- numbers
 

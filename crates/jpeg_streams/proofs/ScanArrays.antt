@@ -15,7 +15,7 @@ use Rattle.jpeg_bits.specs.Passes.{Pass, Block, zero_block}
 use Rattle.jpeg_bits.specs.Intervals.{intervals, first_group, other_groups}
 use Rattle.jpeg_streams.specs.Order.{Spot, spots_of, mcu_size}
 use Rattle.jpeg_streams.specs.Scans.{Arrays, zero_arrays, put_block, put_blocks, turns_of, arrays_at}
-use Rattle.jpeg_streams.specs.InTurn.{Fits, AreArrays, scan_from, mcus_of}
+use Rattle.jpeg_streams.specs.InTurn.{Fits, AreArrays, scan_from}
 use Rattle.jpeg_streams.specs.McuRows.{scan_by_rows}
 use Rattle.jpeg_streams.specs.Needed.{first_of, needed}
 use Rattle.jpeg_streams.specs.ScanSegments.{needed_if, Coding, pass_of, is_progressive, arrays_before, vias_from}
@@ -23,7 +23,7 @@ use Rattle.jpeg_streams.specs.ScanSegments.{codings_of, codings_from, component_
 use Rattle.jpeg_streams.specs.ScanSegments.{scan_arrays}
 use Rattle.jpeg_streams.specs.Found.{Found}
 use Rattle.jpeg_streams.proofs.Apart.{At, at-all, sized, zeros-sized}
-use Rattle.jpeg_streams.proofs.Mcus.{frame-scans}
+use Rattle.jpeg_streams.proofs.CountedScans.{frame-scans}
 use Rattle.jpeg_streams.proofs.McuRows.{scans-by-rows}
 
 -- ---- codings
@@ -185,21 +185,23 @@ sequential-scan found frame scan c codings bytes process fits of =
     ap (λ (l : Arrays). arrays_at (pass_of scan) (found.restart * mcu_size cs) (vias_from 0 all)
     (spots_of frame cs) l bytes)
     (ap (arrays_of all) start ∙ zeros-of frame all of)
-    ∙ frame-scans frame c.component (components_of codings) (pass_of scan) (vias_from 0 all) found.restart
-    (zero_arrays cs) bytes fit (zeros-sized cs)
+    ∙ frame-scans frame cs (pass_of scan) (vias_from 0 all) (found.restart * mcu_size cs) (zero_arrays cs) bytes fit
+    (zeros-sized cs)
     ∙ scans-by-rows frame c.component (components_of codings) (pass_of scan) (vias_from 0 all) found.restart bytes fit
 
--- A scan of a progressive frame is its MCUs, each block read on what is held of it.
+-- A scan of a progressive frame is its blocks one after the other, each read on what is held of it.
 pub progressive-scan : (found : Found) (frame : Frame) (scan : Scan) (c : Coding) (codings : List Coding)
     (bytes : List ℕ)
     → AreArrays frame.components (arrays_before found frame) → AllByRecursion (Fits frame) frame.components
     → AllByRecursion (IsOf frame) (c ∷ codings)
     → scan_arrays found frame scan (c ∷ codings) bytes
-    ≡ scan_from (pass_of scan) (vias_from 0 (c ∷ codings)) found.restart (mcus_of frame (components_of (c ∷ codings)))
+    ≡ scan_from (pass_of scan) (vias_from 0 (c ∷ codings)) (found.restart * mcu_size (components_of (c ∷ codings)))
+    (spots_of frame (components_of (c ∷ codings)))
     (arrays_of (c ∷ codings) (arrays_before found frame)) bytes
 unfolding scan_arrays
 progressive-scan found frame scan c codings bytes held fits of =
-    frame-scans frame c.component (components_of codings) (pass_of scan) (vias_from 0 (c ∷ codings)) found.restart
+    frame-scans frame (components_of (c ∷ codings)) (pass_of scan) (vias_from 0 (c ∷ codings))
+    (found.restart * mcu_size (components_of (c ∷ codings)))
     (arrays_of (c ∷ codings) (arrays_before found frame)) bytes
     (fits-of frame (c ∷ codings) fits of) (arrays-sized frame (c ∷ codings) (arrays_before found frame) held of)
 

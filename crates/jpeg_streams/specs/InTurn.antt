@@ -1,8 +1,7 @@
 -- The blocks of a scan one after the other, as they are read on what is held of them and put back.
 use Rattle.std.specs.Prelude.{◌≡◌, ◌⊎◌, ◌<◌, ◌≤◌, ◌+◌, ◌*◌, ◌-◌, ◌%◌, ◌==◌, ◌&&◌, nat_lt, ℕ, suc}
-use Rattle.std.specs.Prelude.{true, false, List, [], ◌∷◌, length, map, set, get_or, ℤ, pos, Option}
+use Rattle.std.specs.Prelude.{true, false, List, [], ◌∷◌, length, set, get_or, ℤ, pos, Option}
 use Rattle.std.specs.Prelude.{Ok, Err}
-use Rattle.std.specs.List.{range_with_len, flat_map}
 use Rattle.jpeg_bits.specs.Reading as reading
 use Rattle.jpeg_bits.specs.Reading.{Outcome, Malformed}
 use Rattle.jpeg_bits.specs.Entropy.{upcoming, fresh, marker_from}
@@ -11,7 +10,7 @@ use Rattle.jpeg_bits.specs.declared.marker.Marker.{Marker}
 use Rattle.jpeg_bits.specs.Passes.{Pass, Via, block_from}
 use Rattle.jpeg_bits.specs.Intervals.{predictors_at_start, is_restart}
 use Rattle.jpeg_segments.specs.Frame.{Frame, Component}
-use Rattle.jpeg_streams.specs.Order.{Spot, grid_of, own_spots, mcu_spots}
+use Rattle.jpeg_streams.specs.Order.{Spot, grid_of}
 use Rattle.jpeg_streams.specs.Scans.{Arrays, block_at, put_block, via_at}
 
 -- What is held inside an interval: the blocks, the predictors and the blocks of a run that follow.
@@ -64,7 +63,7 @@ intervals_from p vias k spots (next ∷ more) arrays bytes =
     reading.◌>>=◌ (interval_from p vias spots arrays bytes)
     (next_interval k (intervals_from p vias (suc k) next more))
 
--- ---- MCU by MCU
+-- ---- block by block
 
 -- after an interval RST k has to be met, and the next begins
 unfoldable pub restart_from : ℕ → Reads (Unit {0})
@@ -73,14 +72,14 @@ restart_from k t = reading.◌>>=◌ (marker_from t) (λ m. elim (is_restart k m
   | false ↦ Err Malformed
 ])
 
--- What is held between MCUs: what is reached in an interval, how many MCUs are left of it, and the
--- number of the restart marker after it, which counts modulo 8.
+-- What is held between blocks: what is reached in an interval, how many blocks are left of it, and
+-- the number of the restart marker after it, which counts modulo 8.
 pub record Counted : Type 0 where
   pub reached : Reached
   pub left : ℕ
   pub number : ℕ
 
--- where no MCU is left of an interval of n, the next interval; where n is 0 there is one interval
+-- where no block is left of an interval of n, the next interval; where n is 0 there is one interval
 unfoldable pub begun_from : ℕ → Counted → Reads Counted
 begun_from n old =
     elim (nat_lt 0 n && old.left == 0) [
@@ -92,35 +91,27 @@ begun_from n old =
       | false ↦ gives old
     ]
 
--- the next MCU
-unfoldable pub mcu_from : Pass → List Via → ℕ → List Spot → Counted → Reads Counted
-mcu_from p vias n mcu old =
+-- the next block, and before it the next interval, where it is due
+unfoldable pub next_from : Pass → List Via → ℕ → Spot → Counted → Reads Counted
+next_from p vias n s old =
     begun_from n old >>= (λ now.
-    turns_from p vias mcu now.reached >>= (λ r.
+    turn_from p vias s now.reached >>= (λ r.
     gives (record { reached = r; left = now.left - 1; number = now.number })))
 
--- this many MCUs more
-unfoldable pub mcus_from : Pass → List Via → ℕ → List (List Spot) → Counted → Reads Counted
-mcus_from p vias n [] old = gives old
-mcus_from p vias n (mcu ∷ mcus) old = mcu_from p vias n mcu old >>= mcus_from p vias n mcus
+-- the blocks at these spots
+unfoldable pub blocks_from : Pass → List Via → ℕ → List Spot → Counted → Reads Counted
+blocks_from p vias n [] old = gives old
+blocks_from p vias n (s ∷ spots) old = next_from p vias n s old >>= blocks_from p vias n spots
 
 abbrev pub counted_at_start : ℕ → Arrays → Counted
 counted_at_start n arrays = record { reached = at_start arrays; left = n; number = 0 }
 
--- a scan of these MCUs: the blocks after it, and the marker after it, if it is met
-unfoldable pub scan_from : Pass → List Via → ℕ → List (List Spot) → Arrays → List ℕ
+-- a scan of the blocks at these spots: the blocks after it, and the marker after it, if it is met
+unfoldable pub scan_from : Pass → List Via → ℕ → List Spot → Arrays → List ℕ
     → Outcome (Arrays × Option Marker)
-scan_from p vias n mcus arrays bytes =
-    reading.◌>>=◌ (mcus_from p vias n mcus (counted_at_start n arrays) (upcoming fresh bytes)) (λ r.
+scan_from p vias n spots arrays bytes =
+    reading.◌>>=◌ (blocks_from p vias n spots (counted_at_start n arrays) (upcoming fresh bytes)) (λ r.
     reading.◌>>=◌ (marker_from r.1) (λ m. Ok ((r.0.reached.arrays, m.0), m.1)))
-
--- the MCUs of a scan of some components, in order
-unfoldable pub mcus_of : Frame → List Component → List (List Spot)
-mcus_of frame [] = []
-mcus_of frame (c ∷ []) = map (λ s. s ∷ []) (own_spots (grid_of c))
-mcus_of frame (c ∷ d ∷ more) =
-    flat_map (λ row. map (λ column. mcu_spots row column 0 (c ∷ d ∷ more))
-    (range_with_len 0 frame.mcus_wide)) (range_with_len 0 frame.mcus_high)
 
 -- ---- spots that are apart
 

@@ -41,5 +41,4 @@ pub mod WorkedSamples
 pub mod InTurn
 -- the code's own words: the clauses of `Decoder`, `run` and `report` reach none of these
 pub mod McuRows
-pub mod Layout
 pub mod EndPlanes

@@ -1,7 +1,7 @@
 -- The blocks of a sequential scan, row by row of MCUs, as they are read into the blocks of a row.
-use Rattle.std.specs.Prelude.{ℕ, ◌+◌, ◌-◌, ◌*◌, min, List, [], ◌∷◌, ◌++◌, map, replicate, Option}
+use Rattle.std.specs.Prelude.{ℕ, ◌-◌, ◌*◌, min, List, [], ◌∷◌, ◌++◌, map, replicate, Option}
 use Rattle.std.specs.Prelude.{Ok}
-use Rattle.std.specs.List.{range_with_len, flat_map}
+use Rattle.std.specs.List.{range_with_len}
 use Rattle.jpeg_bits.specs.Reading as reading
 use Rattle.jpeg_bits.specs.Reading.{Outcome}
 use Rattle.jpeg_bits.specs.Entropy.{upcoming, fresh, marker_from}
@@ -9,31 +9,29 @@ use Rattle.jpeg_bits.specs.declared.marker.Marker.{Marker}
 use Rattle.jpeg_bits.specs.Readers.{Reads, ◌>>=◌, gives}
 use Rattle.jpeg_segments.specs.Frame.{Frame, Component}
 use Rattle.jpeg_bits.specs.Passes.{Pass, Via, zero_block}
-use Rattle.jpeg_streams.specs.Order.{Spot, grid_of, mcu_spots}
+use Rattle.jpeg_streams.specs.Order.{Spot, grid_of, own_spots, all_spots, mcu_size}
 use Rattle.jpeg_streams.specs.Scans.{Arrays}
-use Rattle.jpeg_streams.specs.InTurn.{Counted, mcus_from, counted_at_start}
+use Rattle.jpeg_streams.specs.InTurn.{Counted, blocks_from, counted_at_start}
 
 -- the blocks that a component has in a row of MCUs
 abbrev pub row_size : Component → ℕ
 row_size c = c.factors.vertical * c.blocks_wide
 
--- the MCUs of a row, by the places of their blocks in that row
-unfoldable pub row_mcus : ℕ → List Component → List (List Spot)
-row_mcus wide components = map (λ column. mcu_spots 0 column 0 components) (range_with_len 0 wide)
+-- the blocks in a row of MCUs of a scan, by their indices in that row: of a component that is alone
+-- its own ones
+abbrev pub own_row : Component → ℕ → List Spot
+own_row c row = own_spots (record (grid_of c) {
+  own_high = min c.factors.vertical ((grid_of c).own_high - row * c.factors.vertical);
+})
 
--- the own blocks in a row of MCUs, each an MCU, of a component that is alone in a scan
-unfoldable pub own_row_mcus : Component → ℕ → List (List Spot)
-own_row_mcus c row =
-    flat_map (λ v. map (λ column. record { slot = 0; index = v * c.blocks_wide + column } ∷ [])
-    (range_with_len 0 (grid_of c).own_wide))
-    (range_with_len 0 (min c.factors.vertical ((grid_of c).own_high - row * c.factors.vertical)))
+unfoldable pub row_at : Frame → List Component → ℕ → List Spot
+row_at frame [] row = []
+row_at frame (c ∷ []) row = own_row c row
+row_at frame (c ∷ d ∷ more) row = all_spots frame.mcus_wide 1 (c ∷ d ∷ more)
 
 -- the rows of MCUs of a scan
-unfoldable pub rows_of : Frame → List Component → List (List (List Spot))
-rows_of frame [] = []
-rows_of frame (c ∷ []) = map (own_row_mcus c) (range_with_len 0 frame.mcus_high)
-rows_of frame (c ∷ d ∷ more) = map (λ row. row_mcus frame.mcus_wide (c ∷ d ∷ more))
-    (range_with_len 0 frame.mcus_high)
+abbrev pub rows_of : Frame → List Component → List (List Spot)
+rows_of frame components = map (row_at frame components) (range_with_len 0 frame.mcus_high)
 
 -- the blocks of this many rows of MCUs, in which nothing was read yet
 unfoldable pub zero_rows : ℕ → List Component → Arrays
@@ -53,17 +51,18 @@ on_arrays arrays c =
     }
 
 -- rows of MCUs after the blocks in front, each read into blocks of its own
-unfoldable pub rows_from : Pass → List Via → ℕ → List Component → List (List (List Spot)) → Arrays
+unfoldable pub rows_from : Pass → List Via → ℕ → List Component → List (List Spot) → Arrays
     → Counted → Reads Counted
 rows_from p vias n components [] front old = gives (on_arrays front old)
-rows_from p vias n components (mcus ∷ rows) front old =
-    mcus_from p vias n mcus (on_arrays (zero_rows 1 components) old) >>= (λ r.
+rows_from p vias n components (spots ∷ rows) front old =
+    blocks_from p vias n spots (on_arrays (zero_rows 1 components) old) >>= (λ r.
     rows_from p vias n components rows (joined front r.reached.arrays) r)
 
--- a scan from zeros, row by row
+-- a scan from zeros, row by row, in intervals of n MCUs
 unfoldable pub scan_by_rows : Pass → List Via → ℕ → Frame → List Component → List ℕ
     → Outcome (Arrays × Option Marker)
 scan_by_rows p vias n frame components bytes =
-    reading.◌>>=◌ (rows_from p vias n components (rows_of frame components)
-    (map (λ c. []) components) (counted_at_start n []) (upcoming fresh bytes)) (λ r.
+    let blocks = n * mcu_size components in
+    reading.◌>>=◌ (rows_from p vias blocks components (rows_of frame components)
+    (map (λ c. []) components) (counted_at_start blocks []) (upcoming fresh bytes)) (λ r.
     reading.◌>>=◌ (marker_from r.1) (λ m. Ok ((r.0.reached.arrays, m.0), m.1)))

@@ -9,10 +9,11 @@ use Rattle.jpeg_decoder.specs.Seen.{found_in}
 use Rattle.jpeg_decoder.specs.Steps.{table_if}
 use Rattle.jpeg_decoder.proofs.SlotCodings.{class-in-force, fails-quantization, fails-dc, fails-ac, gives-coding}
 use Rattle.jpeg_decoder.proofs.SlotCodings.{is-there, is-dc, is-ac, format-refuses}
+use Rattle.jpeg_decoder.proofs.CodedScales.{scale-at}
 use Rattle.jpeg_decoder.proofs.codings.coding_of.Goals as goal
 
-pub returns-in_err-quantization-clause-coding : goal.returns-in_err-quantization-clause-coding
-returns-in_err-quantization-clause-coding c =
+pub returns-in_err-quantization : goal.returns-in_err-quantization
+returns-in_err-quantization c =
     let state = c.args.state.now in
     let header = c.args.header.now in
     let spare = c.args.spare.now in
@@ -25,10 +26,10 @@ returns-in_err-quantization-clause-coding c =
     unset in
     let p = err_from_is_err_and c.from_residual-in_err-quantization.result
     c.from_residual-in_err-quantization.ensures.1 in
-    rw (p.1, p.2) (format-refuses c.in_err-quantization.field-0.0 _ c.in_err-quantization.ensures.1 e)
+    rw (p.1, p.2) (record { coding = format-refuses c.in_err-quantization.field-0.0 _ c.in_err-quantization.ensures.1 e; })
 
-pub returns-in_err-dc-clause-coding : goal.returns-in_err-dc-clause-coding
-returns-in_err-dc-clause-coding c =
+pub returns-in_err-dc : goal.returns-in_err-dc
+returns-in_err-dc c =
     let state = c.args.state.now in
     let header = c.args.header.now in
     let spare = c.args.spare.now in
@@ -47,10 +48,12 @@ returns-in_err-dc-clause-coding c =
     fails f (is-dc state header spare c.args.slot c.index-dc_destination.result.now _ (Err f) dc_within c.index-dc_destination.ensures
     (rw c.deref-2.ensures.value at c.table_in_force-dc.ensures) e) in
     let p = err_from_is_err_and c.from_residual-in_err-dc.result c.from_residual-in_err-dc.ensures.1 in
-    rw (p.1, p.2) (c.in_err-dc.ensures.0, Names-through c.in_err-dc.field-0.0 _ _ through c.in_err-dc.ensures.1)
+    rw (p.1, p.2) (record {
+      coding = (c.in_err-dc.ensures.0, Names-through c.in_err-dc.field-0.0 _ _ through c.in_err-dc.ensures.1);
+    })
 
-pub returns-in_err-ac-clause-coding : goal.returns-in_err-ac-clause-coding
-returns-in_err-ac-clause-coding c =
+pub returns-in_err-ac : goal.returns-in_err-ac
+returns-in_err-ac c =
     let state = c.args.state.now in
     let header = c.args.header.now in
     let spare = c.args.spare.now in
@@ -73,10 +76,12 @@ returns-in_err-ac-clause-coding c =
     fails f (is-ac state header spare c.args.slot c.index-ac_destination.result.now _ (Err f) ac_within c.index-ac_destination.ensures
     (rw c.deref-3.ensures.value at c.table_in_force-ac.ensures) e) in
     let p = err_from_is_err_and c.from_residual-in_err-ac.result c.from_residual-in_err-ac.ensures.1 in
-    rw (p.1, p.2) (c.in_err-ac.ensures.0, Names-through c.in_err-ac.field-0.0 _ _ through c.in_err-ac.ensures.1)
+    rw (p.1, p.2) (record {
+      coding = (c.in_err-ac.ensures.0, Names-through c.in_err-ac.field-0.0 _ _ through c.in_err-ac.ensures.1);
+    })
 
-pub returns-clause-coding : goal.returns-clause-coding
-returns-clause-coding c =
+pub returns : goal.returns
+returns c =
     let state = c.args.state.now in
     let header = c.args.header.now in
     let spare = c.args.spare.now in
@@ -94,11 +99,19 @@ returns-clause-coding c =
     (Ok c.in_ok-dc.dc.now) dc_within c.index-dc_destination.ensures (rw c.deref-2.ensures.value at c.table_in_force-dc.ensures) c.in_ok-dc.ensures in
     let ac = is-ac state header spare c.args.slot c.index-ac_destination.result.now (option_copied c.table_in_force-ac.result)
     (Ok c.in_ok-ac.ac.now) ac_within c.index-ac_destination.ensures (rw c.deref-3.ensures.value at c.table_in_force-ac.ensures) c.in_ok-ac.ensures in
-    gives-coding (found_in state) (frame_in c.args.frame.now) (scan_in header) spare c.args.slot _ _ is _ set dc_four
-    ac_four _ _ dc ac
+    record {
+      coding = gives-coding (found_in state) (frame_in c.args.frame.now) (scan_in header) spare c.args.slot _ _ is _ set
+          dc_four ac_four _ _ dc ac;
+    }
 
-pub returns-clause-class : goal.returns-clause-class
-returns-clause-class c =
+pub invariant_of-result : goal.invariant_of-result
+invariant_of-result c =
     let forced = rw c.deref-3.ensures.value at (rw c.table_in_force-ac.ensures at c.in_ok-ac.ensures) in
-    class-in-force (found_in c.args.state.now) (scan_in c.args.header.now) c.args.spare.now _ c.index-ac_destination.result.now _
-    c.requires.spare c.args.state.now.ac_classes forced
+    let component = c.in_ok-component.component.now in
+    let at : component ≡ get_or c.args.frame.now.components.items c.index-place.result.now component = search rules in
+    record {
+      class = class-in-force (found_in c.args.state.now) (scan_in c.args.header.now) c.args.spare.now _
+          c.index-ac_destination.result.now _ c.requires.spare c.args.state.now.ac_classes forced;
+      scale = scale-at c.args.frame.now.components.items c.index-place.result.now component (search rules) at
+          c.requires.scales;
+    }

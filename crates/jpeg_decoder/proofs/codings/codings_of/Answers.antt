@@ -1,10 +1,8 @@
 use Rattle.std.proofs.Common.{◌≡◌, ◌++◌, ◌∷◌, [], Err, arith, rules}
 use Rattle.std.proofs.lemmas.Result.{err_from_is_err_and}
-use Rattle.std.proofs.lemmas.List.Elements.{All-push}
 use Rattle.jpeg_bits.specs.Reading.{Fault}
 use Rattle.jpeg_bits.proofs.Loops.{Names-through}
 use Rattle.jpeg_segments.specs.FrameView.{frame_in, scan_in}
-use Rattle.jpeg_decoder.specs.Scanning.{HasAc}
 use Rattle.jpeg_decoder.specs.Seen.{found_in}
 use Rattle.jpeg_decoder.specs.Steps.{coding_in_slot}
 use Rattle.jpeg_decoder.proofs.ScanCodings.{codings-more, codings-fail, codings-all}
@@ -21,7 +19,6 @@ loop-slot-preserved c =
       whole = rw more (codings-more found (frame_in c.args.frame.now) scan c.loop-slot.slot old coded (omega arith)
           c.requires.legal.dc_length c.requires.legal.ac_length
           c.loop-slot.invariant.whole c.in_ok-coding_of.ensures.coding);
-      classes = rw more (All-push HasAc old coded c.loop-slot.invariant.classes c.in_ok-coding_of.ensures.class);
       count = search rules;
     }
 

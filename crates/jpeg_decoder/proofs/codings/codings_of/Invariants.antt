@@ -1,7 +1,6 @@
-use Rattle.std.proofs.Common.{◌≡◌, length, map, All}
+use Rattle.std.proofs.Common.{◌≡◌, length, map}
 use Rattle.jpeg_segments.specs.FrameView.{frame_in, scan_in}
 use Rattle.jpeg_decoder.specs.Seen.{found_in}
-use Rattle.jpeg_decoder.specs.Scanning.{HasAc}
 use Rattle.jpeg_decoder.specs.Steps.{coding_in, codings_in_force}
 use Rattle.jpeg_decoder.proofs.ScanCodings.{front, codings_left}
 use Rattle.jpeg_decoder.proofs.codings.codings_of.Given as goal
@@ -11,6 +10,5 @@ invariant-loop-slot l = record {
   whole : codings_in_force (found_in l.state) (frame_in l.frame) (scan_in l.header)
       ≡ front (map coding_in l.codings.items) (codings_left (found_in l.state) (frame_in l.frame) (scan_in l.header)
       l.slot);
-  classes : All HasAc l.codings.items;
   count : length l.codings.items ≡ l.slot;
 }

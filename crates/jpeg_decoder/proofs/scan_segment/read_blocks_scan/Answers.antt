@@ -1,4 +1,4 @@
-use Rattle.std.proofs.Common.{refl, ◌∙◌, Option, true, map}
+use Rattle.std.proofs.Common.{refl, ◌∙◌, Option, true, map, arith}
 use Rattle.std.proofs.lemmas.Result.{err_from_is_err_and}
 use Rattle.jpeg_bits.specs.BlockView.{pass_in}
 use Rattle.jpeg_bits.specs.declared.marker.Marker.{Marker}
@@ -6,7 +6,7 @@ use Rattle.jpeg_bits.proofs.Loops.{Continues-err, bind_err}
 use Rattle.jpeg_segments.specs.FrameView.{frame_in, scan_in}
 use Rattle.jpeg_decoder.specs.Seen.{found_in}
 use Rattle.jpeg_decoder.specs.Steps.{coding_in, blocks_read, scan_data, with_decoded}
-use Rattle.jpeg_decoder.proofs.ReadableScans.{codings-kept, ready}
+use Rattle.jpeg_decoder.proofs.ReadableScans.{codings-kept, decoded-scales, legal-pass, ready}
 use Rattle.jpeg_decoder.proofs.ScanReads.{after_codings, after_data, after_header, blocks-begun, codings-refused}
 use Rattle.jpeg_decoder.proofs.ScanReads.{data-begun, refused, scan-ends}
 use Rattle.jpeg_decoder.proofs.scan_segment.read_blocks_scan.Goals as goal
@@ -24,13 +24,25 @@ returns-in_err-codings_of-clause-reads g c =
     c.in_err-codings_of.ensures.codings.1 (λ f h. codings-refused found frame header c.args.source.now.bytes f
     (codings-kept (found_in c.args.state.now) c.args.decoded.now frame header ∙ h)))
 
+pub codings_of-requires-clause-scales : goal.codings_of-requires-clause-scales
+codings_of-requires-clause-scales g c =
+    let frame = frame_in c.args.frame.now in
+    decoded-scales frame (c.requires.sound.frames frame c.requires.frame)
+
+pub invariant_of-scan : goal.invariant_of-scan
+invariant_of-scan g c =
+    record {
+      legal = legal-pass (frame_in c.args.frame.now).process (scan_in c.args.header.now) _ c.requires.process
+          c.requires.legal.coded c.pass_of.ensures;
+      few = omega (arith, c.in_ok-codings_of.ensures.count, c.requires.legal.most);
+    }
+
 pub read-requires-clause-ready : goal.read-requires-clause-ready
 read-requires-clause-ready g c =
     let frame = frame_in c.args.frame.now in
     ready (found_in c.args.state.now) frame (scan_in c.args.header.now) _ (c.requires.sound.frames frame
     c.requires.frame)
-    c.requires.process c.requires.legal c.pass_of.ensures refl c.in_ok-codings_of.ensures.classes
-    c.in_ok-codings_of.ensures.codings c.in_ok-codings_of.ensures.count
+    c.requires.legal refl c.in_ok-codings_of.ensures.codings c.in_ok-codings_of.ensures.count
 
 pub returns-in_err-met-clause-reads : goal.returns-in_err-met-clause-reads
 returns-in_err-met-clause-reads g c =

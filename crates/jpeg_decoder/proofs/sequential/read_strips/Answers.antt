@@ -1,91 +1,107 @@
-use Rattle.std.proofs.Common.{◌≡◌, ◌∙◌, ◌-◌, ◌+◌, ◌*◌, [], ap, ap₂, map, sym, refl, ℕ, List, arith}
-use Rattle.std.specs.List.{range_with_len}
+use Rattle.std.proofs.Common.{◌≡◌, ◌∙◌, ◌-◌, ◌+◌, ◌*◌, [], ap, ap₂, map, sym, refl, subst, ℕ, List, arith, length}
+use Rattle.std.specs.List.{AllByRecursion, range_with_len}
 use Rattle.std.proofs.lemmas.Result.{err_from_is_err_and}
 use Rattle.jpeg_bits.specs.BlockView.{pass_in}
 use Rattle.jpeg_bits.specs.Entropy.{upcoming}
 use Rattle.jpeg_bits.proofs.BandSteps.{Leaves-end}
 use Rattle.jpeg_bits.proofs.WholeBlocks.{refused_after}
-use Rattle.jpeg_segments.specs.FrameView.{frame_in}
-use Rattle.jpeg_decoder.specs.declared.codings.Coded.{Coded}
+use Rattle.jpeg_decoder.specs.declared.scan.Coded.{Coded}
 use Rattle.jpeg_streams.specs.Order.{Spot}
-use Rattle.jpeg_streams.specs.InTurn.{mcus_from}
-use Rattle.jpeg_streams.specs.McuRows.{rows_of, zero_rows}
-use Rattle.jpeg_decoder.specs.Scanning.{arrays_in, components_in, counted, down_in, sizes_of, vias_in}
+use Rattle.jpeg_streams.specs.InTurn.{blocks_from}
+use Rattle.jpeg_streams.specs.McuRows.{zero_rows}
+use Rattle.jpeg_decoder.specs.Scanning.{IsSpotOf, arrays_in, counted, down_in, sizes_of, vias_in}
 use Rattle.jpeg_decoder.specs.Steps.{coding_in}
-use Rattle.jpeg_decoder.specs.Strips.{planes_in, row_at, row_sizes, samples_in, strips_from, with_strips}
+use Rattle.jpeg_decoder.specs.Strips.{planes_in, row_sizes, samples_in, strips_from, with_strips, zeros_of}
+use Rattle.jpeg_decoder.specs.Walk.{walk_of_row, walks_of_rows}
 use Rattle.jpeg_streams.specs.ScanSegments.{components_of}
-use Rattle.jpeg_decoder.specs.Strips.{zeros_of}
 use Rattle.jpeg_decoder.proofs.HeldBlocks.{Held}
-use Rattle.jpeg_decoder.proofs.StripSteps.{strips_step, strips_refused, strips_none, rows-of-scan, zeros-are, lengths}
-use Rattle.jpeg_decoder.proofs.StripSteps.{lengths-none, lengths-next, row-count}
+use Rattle.jpeg_decoder.proofs.StripSteps.{strips_step, strips_refused, strips_none, whole-rows, first-row, later-rows}
+use Rattle.jpeg_decoder.proofs.StripSteps.{zeros-are, lengths, lengths-none, lengths-next, row-count}
 use Rattle.jpeg_decoder.proofs.sequential.read_strips.Goals as goal
 
 pub loop-row-init : goal.loop-row-init
 loop-row-init g c =
     let cs = c.args.scan.now.components.items in
     let i = c.args.interval.now in
+    let o = c.args.order.now in
     let planes = planes_in c.args.planes.now.items in
     let p = pass_in c.args.scan.now.pass in
-    let n = c.args.scan.now.restart_interval in
     record {
       sizes = c.requires.sizes;
+      spots = subst (AllByRecursion (AllByRecursion (IsSpotOf (length cs) (sizes_of c.args.rows.now.items))))
+          (whole-rows (walk_of_row o) o.rows) c.requires.spots;
       lengths = lengths-none cs planes c.requires.planes;
       strips = (
         refl,
         λ k. (
           k,
-          ap (λ (rows : List (List (List Spot))). strips_from p (vias_in 0 cs) n (map coding_in cs) rows planes
+          ap (λ (rows : List (List Spot)). strips_from p (vias_in 0 cs) o.interval (map coding_in cs) rows planes
               (counted i []) (upcoming i.decoder c.args.source.now.bytes))
-              (rows-of-scan (frame_in c.args.frame.now) cs c.requires.some),
+              (whole-rows (walk_of_row o) o.rows),
         ),
       );
     }
 
-pub returns-in_err-read_mcus-clause-strips : goal.returns-in_err-read_mcus-clause-strips
-returns-in_err-read_mcus-clause-strips g c =
+pub read_spots-requires : goal.read_spots-requires
+read_spots-requires g c =
+    let cs = c.args.scan.now.components.items in
+    let o = c.args.order.now in
+    let l = c.loop-row in
+    let same : sizes_of c.args.rows.now.items ≡ sizes_of c.clear_rows.new.rows.items
+    = c.requires.sizes ∙ sym l.invariant.sizes ∙ sym c.clear_rows.ensures.sizes in
+    record {
+      spots = subst (λ (x : List Spot). AllByRecursion (IsSpotOf (length cs) (sizes_of c.clear_rows.new.rows.items)) x)
+          (sym c.row-spots.ensures)
+          (subst (λ (x : List ℕ). AllByRecursion (IsSpotOf (length cs) x) (walk_of_row o l.row)) same
+          (first-row (AllByRecursion (IsSpotOf (length cs) (sizes_of c.args.rows.now.items))) (walk_of_row o) l.row
+          o.rows c.loop-row-test.true l.invariant.spots));
+    }
+
+pub returns-in_err-read_spots-clause-strips : goal.returns-in_err-read_spots-clause-strips
+returns-in_err-read_spots-clause-strips g c =
     let e = err_from_is_err_and c.from_residual.result c.from_residual.ensures.1 in
     let cs = c.args.scan.now.components.items in
-    let frame = frame_in c.args.frame.now in
+    let o = c.args.order.now in
     let i = c.args.interval.now in
     let p = pass_in c.args.scan.now.pass in
-    let n = c.args.scan.now.restart_interval in
+    let n = o.interval in
     let codings = map coding_in cs in
-    let f : ℕ → List (List Spot) = row_at frame (components_in cs) in
+    let f = walk_of_row o in
     let l = c.loop-row in
-    let high = c.args.frame.now.mcu_size.height in
+    let high = o.rows in
     let planes = planes_in l.planes.items in
     let zeros = arrays_in c.clear_rows.new.rows.items in
     let none : zeros ≡ zero_rows 1 (components_of codings) = c.clear_rows.ensures.zeros
     ∙ ap zeros_of l.invariant.sizes ∙ zeros-are cs in
-    rw (e.1, e.2) (refused_after (λ (u : Unit {0}). planes) (λ (u : Unit {0}). counted c.read_mcus.new.interval
-    (arrays_in c.read_mcus.new.rows.items))
-    (strips_from p (vias_in 0 cs) n codings (rows_of frame (components_of codings))
+    rw (e.1, e.2) (refused_after (λ (u : Unit {0}). planes) (λ (u : Unit {0}). counted c.read_spots.new.interval
+    (arrays_in c.read_spots.new.arrays.items))
+    (strips_from p (vias_in 0 cs) n codings (walks_of_rows o)
     (planes_in c.args.planes.now.items) (counted i []))
     (strips_from p (vias_in 0 cs) n codings (map f (range_with_len l.row (high - l.row))) planes
     (counted l.interval []))
-    (mcus_from p (vias_in 0 cs) n (f l.row) (counted l.interval zeros))
-    i.decoder l.interval.decoder c.read_mcus.new.interval.decoder c.args.source.now l.source c.read_mcus.new.source _
-    (λ t fault h. strips_refused p (vias_in 0 cs) n codings f l.row high planes zeros
-    (counted l.interval []) t fault c.loop-row-test.true none h)
-    l.invariant.strips c.in_err-read_mcus.ensures.mcus)
+    (blocks_from p (vias_in 0 cs) n c.row-spots.result (counted l.interval zeros))
+    i.decoder l.interval.decoder c.read_spots.new.interval.decoder c.args.source.now l.source c.read_spots.new.source _
+    (λ t fault h. strips_refused p (vias_in 0 cs) n codings f c.row-spots.result l.row high planes zeros
+    (counted l.interval []) t fault c.loop-row-test.true none c.row-spots.ensures h)
+    l.invariant.strips c.in_err-read_spots.ensures.blocks)
 
 pub loop-row-preserved : goal.loop-row-preserved
 loop-row-preserved g c =
     let cs = c.args.scan.now.components.items in
-    let frame = frame_in c.args.frame.now in
+    let o = c.args.order.now in
     let i = c.args.interval.now in
     let p = pass_in c.args.scan.now.pass in
-    let n = c.args.scan.now.restart_interval in
+    let n = o.interval in
     let codings = map coding_in cs in
-    let f : ℕ → List (List Spot) = row_at frame (components_in cs) in
+    let f = walk_of_row o in
     let l = c.loop-row in
-    let high = c.args.frame.now.mcu_size.height in
+    let high = o.rows in
     let planes = planes_in l.planes.items in
     let zeros = arrays_in c.clear_rows.new.rows.items in
     let none : zeros ≡ zero_rows 1 (components_of codings) = c.clear_rows.ensures.zeros
     ∙ ap zeros_of l.invariant.sizes ∙ zeros-are cs in
-    let q = c.in_ok-read_mcus.ensures in
-    let read = c.read_mcus.new.rows.items in
+    let q = c.in_ok-read_spots.ensures in
+    let read = c.read_spots.new.arrays.items in
     let sizes : sizes_of read ≡ row_sizes cs = q.sizes ∙ c.clear_rows.ensures.sizes ∙ l.invariant.sizes in
     let a = c.in_ok-append_strips.ensures in
     let made : planes_in c.append_strips.new.planes.items ≡ with_strips codings (arrays_in read) planes
@@ -93,23 +109,25 @@ loop-row-preserved g c =
     c.deref.ensures.value c.deref-in-loop-row.ensures.value in
     record {
       sizes = sizes;
+      spots = later-rows (AllByRecursion (IsSpotOf (length cs) (sizes_of c.args.rows.now.items))) f l.row high
+          c.loop-row-test.true l.invariant.spots;
       lengths = ap lengths made ∙ lengths-next cs (arrays_in read) planes l.row
           (row-count cs read sizes) l.invariant.lengths;
       strips = (
-        q.mcus.0 ∙ l.invariant.strips.0,
+        q.blocks.0 ∙ l.invariant.strips.0,
         λ k.
             let at = l.invariant.strips.1 k in
-            let by = q.mcus.1 at.0 in (
+            let by = q.blocks.1 at.0 in (
               by.0,
               at.1
-                  ∙ strips_step p (vias_in 0 cs) n codings f l.row high planes zeros (counted l.interval [])
-                  (counted c.read_mcus.new.interval (arrays_in read))
+                  ∙ strips_step p (vias_in 0 cs) n codings f c.row-spots.result l.row high planes zeros (counted l.interval [])
+                  (counted c.read_spots.new.interval (arrays_in read))
                   (upcoming l.interval.decoder l.source.bytes)
-                  (upcoming c.read_mcus.new.interval.decoder c.read_mcus.new.source.bytes) c.loop-row-test.true
-                  none by.1
+                  (upcoming c.read_spots.new.interval.decoder c.read_spots.new.source.bytes) c.loop-row-test.true
+                  none c.row-spots.ensures by.1
                   ∙ ap (λ (x : List (List ℕ)). strips_from p (vias_in 0 cs) n codings (map f (range_with_len
-                  (l.row + 1) (high - (l.row + 1)))) x (counted c.read_mcus.new.interval [])
-                  (upcoming c.read_mcus.new.interval.decoder c.read_mcus.new.source.bytes)) (sym made),
+                  (l.row + 1) (high - (l.row + 1)))) x (counted c.read_spots.new.interval [])
+                  (upcoming c.read_spots.new.interval.decoder c.read_spots.new.source.bytes)) (sym made),
             ),
       );
     }
@@ -118,23 +136,23 @@ pub returns-clause-sizes : goal.returns-clause-sizes
 returns-clause-sizes g c =
     let cs = c.args.scan.now.components.items in
     let l = c.loop-row in
-    let end : l.row ≡ c.args.frame.now.mcu_size.height = omega (arith, c.loop-row-test.false, l.auto.row-end) in
+    let end : l.row ≡ c.args.order.now.rows = omega (arith, c.loop-row-test.false, l.auto.row-end) in
     l.invariant.lengths ∙ ap (λ (k : ℕ). map (λ (x : Coded). samples_in (k * down_in x) x) cs) end
 
 pub returns-clause-strips : goal.returns-clause-strips
 returns-clause-strips g c =
     let cs = c.args.scan.now.components.items in
-    let frame = frame_in c.args.frame.now in
+    let o = c.args.order.now in
     let i = c.args.interval.now in
     let p = pass_in c.args.scan.now.pass in
-    let n = c.args.scan.now.restart_interval in
+    let n = o.interval in
     let codings = map coding_in cs in
-    let f : ℕ → List (List Spot) = row_at frame (components_in cs) in
+    let f = walk_of_row o in
     let l = c.loop-row in
-    let high = c.args.frame.now.mcu_size.height in
+    let high = o.rows in
     let planes = planes_in l.planes.items in
     Leaves-end (λ (u : Unit {0}). planes)
-    (strips_from p (vias_in 0 cs) n codings (rows_of frame (components_of codings))
+    (strips_from p (vias_in 0 cs) n codings (walks_of_rows o)
     (planes_in c.args.planes.now.items) (counted i []))
     (strips_from p (vias_in 0 cs) n codings (map f (range_with_len l.row (high - l.row))) planes
     (counted l.interval []))

@@ -1,5 +1,5 @@
 use Rattle.std.proofs.Common.{◌≡◌, ◌∙◌, sym, ap, arith, rules, length, drop, map, get_or, ◌<◌, ◌*◌}
-use Rattle.jpeg_decoder.specs.declared.codings.Coded.{Coded}
+use Rattle.jpeg_decoder.specs.declared.scan.Coded.{Coded}
 use Rattle.jpeg_bits.specs.BlockView.{to_block}
 use Rattle.jpeg_bits.specs.BlockView.{pass_in}
 use Rattle.jpeg_decoder.specs.Scanning.{arrays_in, blocks_in}

@@ -1,5 +1,5 @@
 use Rattle.std.proofs.Common.{◌≡◌, ◌∙◌, sym, ap, rules, length, drop, map, get_or}
-use Rattle.jpeg_decoder.specs.declared.codings.Coded.{Coded}
+use Rattle.jpeg_decoder.specs.declared.scan.Coded.{Coded}
 use Rattle.jpeg_bits.specs.BlockView.{pass_in}
 use Rattle.jpeg_decoder.specs.Steps.{coding_in, with_decoded, with_its_plane, with_planes}
 use Rattle.jpeg_decoder.proofs.PutLoops.{planes-step, none-left, planes-none}

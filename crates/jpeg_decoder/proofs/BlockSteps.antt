@@ -1,0 +1,126 @@
+-- Steps of the loop over the blocks of a scan.
+use Rattle.std.proofs.Common.{◌≡◌, ℕ, ◌+◌, ◌-◌, ◌%◌, ◌<◌, ◌==◌, ◌&&◌, nat_lt, Bool, true, false}
+use Rattle.std.proofs.Common.{List, [], ◌∷◌, Ok, Err, refl, ap, ◌∙◌, arith}
+use Rattle.std.proofs.lemmas.Bool.{lt-ltb, ne_eqb}
+use Rattle.jpeg_bits.specs.Reading.{Fault}
+use Rattle.jpeg_bits.specs.Entropy.{Text}
+use Rattle.jpeg_bits.specs.Readers.{Reads, gives, read_on}
+use Rattle.jpeg_bits.specs.Passes.{Pass, Via}
+use Rattle.jpeg_streams.specs.Order.{Spot}
+use Rattle.jpeg_streams.specs.InTurn.{Reached, turn_from, at_start, restart_from, Counted, begun_from, next_from}
+use Rattle.jpeg_streams.specs.InTurn.{blocks_from}
+
+-- ---- between blocks
+
+pub begun_none : (n : ℕ) (old : Counted) (t : Text) → n ≡ 0 → begun_from n old t ≡ Ok (old, t)
+unfolding begun_from
+begun_none n old t e = rw e refl
+
+abbrev begun_by : ℕ → Counted → Bool → Reads Counted
+begun_by n old b t = (elim b as (λ _. Reads Counted) [
+  | true ↦ λ u. read_on (λ (x : Unit {0}). gives (record {
+    reached = at_start old.reached.arrays;
+    left = n;
+    number = (old.number + 1) % 8;
+  })) (restart_from old.number u)
+  | false ↦ gives old
+]) t
+
+begun-is : (n : ℕ) (old : Counted) (t : Text) → begun_from n old t ≡ begun_by n old (nat_lt 0 n && old.left == 0) t
+unfolding begun_from
+begun-is n old t = refl
+
+and-false : (a : Bool) → (a && false) ≡ false
+and-false true = refl
+and-false false = refl
+
+pub begun_within : (n : ℕ) (old : Counted) (t : Text) → 0 < old.left → begun_from n old t ≡ Ok (old, t)
+begun_within n old t h =
+    begun-is n old t ∙ ap (λ (b : Bool). begun_by n old (nat_lt 0 n && b) t)
+    (ne_eqb old.left 0 (λ e. omega (arith, h, e)))
+    ∙ ap (λ (b : Bool). begun_by n old b t) (and-false (nat_lt 0 n))
+
+begun-restart : (n : ℕ) (old : Counted) (t : Text) → 0 < n → old.left ≡ 0 → begun_from n old t ≡ begun_by n old true t
+begun-restart n old t h e =
+    begun-is n old t ∙ ap (λ (b : Bool). begun_by n old (b && old.left == 0) t) (lt-ltb 0 n h)
+    ∙ ap (λ (k : ℕ). begun_by n old (k == 0) t) e
+
+pub begun_next : (n : ℕ) (old : Counted) (t u : Text) → 0 < n → old.left ≡ 0 → restart_from old.number t ≡ Ok (tt, u)
+    → begun_from n old t ≡ Ok (
+      record {
+        reached = at_start old.reached.arrays;
+        left = n;
+        number = (old.number + 1) % 8;
+      },
+      u,
+    )
+begun_next n old t u h e r =
+    begun-restart n old t h e ∙ ap (read_on (λ (x : Unit {0}). gives (record {
+      reached = at_start old.reached.arrays;
+      left = n;
+      number = (old.number + 1) % 8;
+    }))) r
+
+pub begun_refused : (n : ℕ) (old : Counted) (t : Text) (f : Fault) → 0 < n → old.left ≡ 0
+    → restart_from old.number t ≡ Err f → begun_from n old t ≡ Err f
+begun_refused n old t f h e r =
+    begun-restart n old t h e ∙ ap (read_on (λ (x : Unit {0}). gives (record {
+      reached = at_start old.reached.arrays;
+      left = n;
+      number = (old.number + 1) % 8;
+    }))) r
+
+pub ruleset begun_rules = (begun_none, begun_within, begun_next, begun_refused)
+
+-- ---- a block
+
+abbrev turn_then : Counted → Reached → Reads Counted
+turn_then now r = gives (record { reached = r; left = now.left - 1; number = now.number })
+
+-- what is left of the next block where its interval has begun
+unfoldable pub begun_turn : Pass → List Via → Spot → Counted → Reads Counted
+begun_turn p vias s now t = read_on (turn_then now) (turn_from p vias s now.reached t)
+
+next-is : (p : Pass) (vias : List Via) (n : ℕ) (s : Spot) (old : Counted) (t : Text)
+    → next_from p vias n s old t ≡ read_on (begun_turn p vias s) (begun_from n old t)
+unfolding next_from begun_turn
+next-is p vias n s old t = refl
+
+pub next_begun : (p : Pass) (vias : List Via) (n : ℕ) (s : Spot) (old now : Counted) (t u : Text)
+    → begun_from n old t ≡ Ok (now, u) → next_from p vias n s old t ≡ begun_turn p vias s now u
+next_begun p vias n s old now t u e = next-is p vias n s old t ∙ ap (read_on (begun_turn p vias s)) e
+
+pub next_unbegun : (p : Pass) (vias : List Via) (n : ℕ) (s : Spot) (old : Counted) (t : Text) (f : Fault)
+    → begun_from n old t ≡ Err f → next_from p vias n s old t ≡ Err f
+next_unbegun p vias n s old t f e = next-is p vias n s old t ∙ ap (read_on (begun_turn p vias s)) e
+
+pub next_read : (p : Pass) (vias : List Via) (s : Spot) (now : Counted) (r : Reached) (t u : Text)
+    → turn_from p vias s now.reached t ≡ Ok (r, u)
+    → begun_turn p vias s now t ≡ Ok (record { reached = r; left = now.left - 1; number = now.number }, u)
+unfolding begun_turn
+next_read p vias s now r t u e = ap (read_on (turn_then now)) e
+
+pub next_refused : (p : Pass) (vias : List Via) (s : Spot) (now : Counted) (t : Text) (f : Fault)
+    → turn_from p vias s now.reached t ≡ Err f → begun_turn p vias s now t ≡ Err f
+unfolding begun_turn
+next_refused p vias s now t f e = ap (read_on (turn_then now)) e
+
+-- ---- the blocks that are left
+
+pub blocks_step : (p : Pass) (vias : List Via) (n : ℕ) (s : Spot) (spots : List Spot) (old new : Counted) (t u : Text)
+    → next_from p vias n s old t ≡ Ok (new, u)
+    → blocks_from p vias n (s ∷ spots) old t ≡ blocks_from p vias n spots new u
+unfolding blocks_from
+blocks_step p vias n s spots old new t u e = ap (read_on (blocks_from p vias n spots)) e
+
+pub blocks_refused : (p : Pass) (vias : List Via) (n : ℕ) (s : Spot) (spots : List Spot) (old : Counted) (t : Text)
+    (f : Fault) → next_from p vias n s old t ≡ Err f → blocks_from p vias n (s ∷ spots) old t ≡ Err f
+unfolding blocks_from
+blocks_refused p vias n s spots old t f e = ap (read_on (blocks_from p vias n spots)) e
+
+pub blocks_none : (p : Pass) (vias : List Via) (n : ℕ) (old : Counted) (t : Text)
+    → blocks_from p vias n [] old t ≡ Ok (old, t)
+unfolding blocks_from
+blocks_none p vias n old t = refl
+
+pub ruleset blocks_rules = (blocks_step, blocks_refused, blocks_none)

@@ -1,0 +1,173 @@
+-- The blocks of a scan in order are those that are walked.
+use Rattle.std.proofs.Common.{◌≡◌, ℕ, zero, suc, ◌+◌, ◌-◌, ◌*◌, ◌<◌, ◌≤◌, List, [], ◌∷◌, ◌++◌, map, drop, length, refl, sym, ap}
+use Rattle.std.proofs.Common.{ap₂, ◌∙◌, arith, add-mul, mul_assoc, append-nil, append_assoc}
+use Rattle.std.specs.List.{range_with_len, flat_map}
+use Rattle.jpeg_segments.specs.Frame.{Component}
+use Rattle.jpeg_streams.specs.declared.grids.Grid.{Grid}
+use Rattle.jpeg_streams.specs.Order.{Spot, part_spot, part_spots, mcu_spots, all_spots, own_spots}
+use Rattle.std.proofs.Common.{get_or}
+use Rattle.jpeg_segments.specs.FrameView.{component_in}
+use Rattle.jpeg_decoder.specs.declared.scan.Coded.{Coded}
+use Rattle.jpeg_decoder.specs.declared.spots.Member.{Member}
+use Rattle.jpeg_decoder.specs.Scanning.{components_in}
+use Rattle.jpeg_decoder.specs.Walk.{spot_at, mcu_at, spots_at, raster, rows_from, positions_of, member_of, line_members, part_members}
+use Rattle.jpeg_decoder.specs.Walk.{members_from, own_member}
+
+spot-is : (row column slot : ℕ) (c : Component) (v h : ℕ)
+    → spot_at (row, column) (member_of slot c v h) ≡ part_spot row column slot c v h
+spot-is row column slot c v h =
+    let V = c.factors.vertical in
+    let W = c.blocks_wide in
+    let H = c.factors.horizontal in
+    let a : (row * V + v) * W ≡ row * V * W + v * W = add-mul (row * V) v W in
+    let b : row * V * W ≡ row * (V * W) = mul_assoc row V W in
+    let e : row * (V * W) + column * H + (v * W + h) ≡ (row * V + v) * W + (column * H + h) = omega arith in
+    ap (λ (i : ℕ). record { slot = slot; index = i }) e
+
+line-is : (row column slot : ℕ) (c : Component) (v : ℕ) (hs : List ℕ)
+    → mcu_at (map (member_of slot c v) hs) (row, column) ≡ map (part_spot row column slot c v) hs
+line-is row column slot c v [] = refl
+line-is row column slot c v (h ∷ hs) = ap₂ (λ (x : Spot) (xs : List Spot). x ∷ xs) (spot-is row column slot c v h)
+    (line-is row column slot c v hs)
+
+pub mcu-append : (xs ys : List Member) (p : ℕ × ℕ) → mcu_at (xs ++ ys) p ≡ mcu_at xs p ++ mcu_at ys p
+mcu-append [] ys p = refl
+mcu-append (x ∷ xs) ys p = ap (λ (l : List Spot). spot_at p x ∷ l) (mcu-append xs ys p)
+
+part-is : (row column slot : ℕ) (c : Component) (vs : List ℕ)
+    → mcu_at (flat_map (line_members slot c) vs) (row, column)
+    ≡ flat_map (λ v. map (part_spot row column slot c v) (range_with_len 0 c.factors.horizontal)) vs
+part-is row column slot c [] = refl
+part-is row column slot c (v ∷ vs) =
+    mcu-append (line_members slot c v) (flat_map (line_members slot c) vs) (row, column)
+    ∙ ap₂ (λ (x y : List Spot). x ++ y) (line-is row column slot c v (range_with_len 0 c.factors.horizontal))
+    (part-is row column slot c vs)
+
+pub mcu-is : (row column slot : ℕ) (cs : List Component)
+    → mcu_at (members_from slot cs) (row, column) ≡ mcu_spots row column slot cs
+unfolding members_from mcu_spots part_spots
+mcu-is row column slot [] = refl
+mcu-is row column slot (c ∷ cs) =
+    mcu-append (part_members slot c) (members_from (slot + 1) cs) (row, column)
+    ∙ ap₂ (λ (x y : List Spot). x ++ y) (part-is row column slot c (range_with_len 0 c.factors.vertical))
+    (mcu-is row column (slot + 1) cs)
+
+spots-append : (ms : List Member) (xs ys : List (ℕ × ℕ)) → spots_at ms (xs ++ ys) ≡ spots_at ms xs ++ spots_at ms ys
+spots-append ms [] ys = refl
+spots-append ms (x ∷ xs) ys = ap (λ (l : List Spot). mcu_at ms x ++ l) (spots-append ms xs ys)
+    ∙ sym (append_assoc (mcu_at ms x) (spots_at ms xs) (spots_at ms ys))
+
+-- ---- several components
+
+columns-are : (cs : List Component) (row : ℕ) (ks : List ℕ)
+    → spots_at (members_from 0 cs) (map (λ c. (row, c)) ks) ≡ flat_map (λ k. mcu_spots row k 0 cs) ks
+columns-are cs row [] = refl
+columns-are cs row (k ∷ ks) = ap₂ (λ (x y : List Spot). x ++ y) (mcu-is row k 0 cs) (columns-are cs row ks)
+
+rows-are : (cs : List Component) (wide : ℕ) (rs : List ℕ)
+    → spots_at (members_from 0 cs) (flat_map (λ r. positions_of r 0 wide) rs)
+    ≡ flat_map (λ row. flat_map (λ k. mcu_spots row k 0 cs) (range_with_len 0 wide)) rs
+rows-are cs wide [] = refl
+rows-are cs wide (r ∷ rs) =
+    spots-append (members_from 0 cs) (positions_of r 0 wide) (flat_map (λ r. positions_of r 0 wide) rs)
+    ∙ ap₂ (λ (x y : List Spot). x ++ y) (columns-are cs r (range_with_len 0 wide)) (rows-are cs wide rs)
+
+pub all_walked : (wide high : ℕ) (cs : List Component)
+    → spots_at (members_from 0 cs) (raster wide high) ≡ all_spots wide high cs
+unfolding all_spots
+all_walked wide high cs = rows-are cs wide (range_with_len 0 high)
+
+-- ---- a component that is alone
+
+own-spot : (g : Grid) (row k : ℕ) → spot_at (row, k) (own_member g) ≡ record { slot = 0; index = row * g.wide + k }
+own-spot g row k =
+    let e : row * g.wide + k * 1 + 0 ≡ row * g.wide + k = omega arith in
+    ap (λ (i : ℕ). record { slot = 0; index = i }) e
+
+own-columns : (g : Grid) (row : ℕ) (ks : List ℕ)
+    → spots_at (own_member g ∷ []) (map (λ c. (row, c)) ks)
+    ≡ map (λ k. record { slot = 0; index = row * g.wide + k }) ks
+own-columns g row [] = refl
+own-columns g row (k ∷ ks) = ap₂ (λ (x : Spot) (y : List Spot). x ∷ y) (own-spot g row k) (own-columns g row ks)
+
+own-rows : (g : Grid) (rs : List ℕ)
+    → spots_at (own_member g ∷ []) (flat_map (λ r. positions_of r 0 g.own_wide) rs)
+    ≡ flat_map (λ row. map (λ k. record { slot = 0; index = row * g.wide + k }) (range_with_len 0 g.own_wide)) rs
+own-rows g [] = refl
+own-rows g (r ∷ rs) =
+    spots-append (own_member g ∷ []) (positions_of r 0 g.own_wide) (flat_map (λ r. positions_of r 0 g.own_wide) rs)
+    ∙ ap₂ (λ (x y : List Spot). x ++ y) (own-columns g r (range_with_len 0 g.own_wide)) (own-rows g rs)
+
+pub own_walked : (g : Grid) → spots_at (own_member g ∷ []) (raster g.own_wide g.own_high) ≡ own_spots g
+unfolding own_spots
+own_walked g = own-rows g (range_with_len 0 g.own_high)
+
+-- ---- the members, one after the other
+
+pub more_members : (f : ℕ → Member) (xs : List Member) (h n : ℕ) → h < n
+    → (xs ++ f h ∷ []) ++ map f (range_with_len (h + 1) (n - (h + 1))) ≡ xs ++ map f (range_with_len h (n - h))
+more_members f xs h n l =
+    append_assoc xs (f h ∷ []) (map f (range_with_len (h + 1) (n - (h + 1))))
+    ∙ ap (λ (ys : List Member). xs ++ ys) (go (n - h) (omega arith))
+  where
+    go : (k : ℕ) → n - h ≡ k → f h ∷ map f (range_with_len (h + 1) (n - (h + 1))) ≡ map f (range_with_len h (n - h))
+    go zero e = absurd (omega arith)
+    go (suc k) e = ap (λ (j : ℕ). f h ∷ map f (range_with_len (h + 1) j)) (let z : n - (h + 1) ≡ k = omega arith in z)
+        ∙ sym (ap (λ (j : ℕ). map f (range_with_len h j)) e)
+
+pub more_lines : (g : ℕ → List Member) (xs : List Member) (v n : ℕ) → v < n
+    → (xs ++ g v) ++ flat_map g (range_with_len (v + 1) (n - (v + 1))) ≡ xs ++ flat_map g (range_with_len v (n - v))
+more_lines g xs v n l =
+    append_assoc xs (g v) (flat_map g (range_with_len (v + 1) (n - (v + 1))))
+    ∙ ap (λ (ys : List Member). xs ++ ys) (go (n - v) (omega arith))
+  where
+    go : (k : ℕ) → n - v ≡ k → g v ++ flat_map g (range_with_len (v + 1) (n - (v + 1))) ≡ flat_map g (range_with_len v (n - v))
+    go zero e = absurd (omega arith)
+    go (suc k) e = ap (λ (j : ℕ). g v ++ flat_map g (range_with_len (v + 1) j)) (let z : n - (v + 1) ≡ k = omega arith in z)
+        ∙ sym (ap (λ (j : ℕ). flat_map g (range_with_len v j)) e)
+
+pub no_members : (f : ℕ → Member) (xs : List Member) (h n : ℕ) → n ≤ h → xs ++ map f (range_with_len h (n - h)) ≡ xs
+no_members f xs h n l =
+    let z : n - h ≡ 0 = omega arith in
+    ap (λ (j : ℕ). xs ++ map f (range_with_len h j)) z ∙ append-nil xs
+
+pub no_lines : (g : ℕ → List Member) (xs : List Member) (v n : ℕ) → n ≤ v → xs ++ flat_map g (range_with_len v (n - v)) ≡ xs
+no_lines g xs v n l =
+    let z : n - v ≡ 0 = omega arith in
+    ap (λ (j : ℕ). xs ++ flat_map g (range_with_len v j)) z ∙ append-nil xs
+
+pub ruleset order_rules = (all_walked, own_walked)
+
+pub ruleset line_rules = (more_members, no_members)
+
+pub ruleset part_rules = (more_lines, no_lines)
+
+slot-drop : (slot : ℕ) (cs : List Coded) (c : Coded) → slot < length cs → c ≡ get_or cs slot c
+    → drop slot cs ≡ c ∷ drop (slot + 1) cs
+slot-drop slot [] c h e = absurd (omega arith)
+slot-drop zero (x ∷ cs) c h e = ap (λ (y : Coded). y ∷ cs) (sym e)
+slot-drop (suc slot) (x ∷ cs) c h e = slot-drop slot cs c (omega arith) e
+    ∙ ap (λ (n : ℕ). c ∷ drop n (x ∷ cs)) (let z : suc (slot + 1) ≡ suc slot + 1 = omega arith in z)
+
+slot-past : (slot : ℕ) (cs : List Coded) → length cs ≤ slot → drop slot cs ≡ []
+slot-past zero [] h = refl
+slot-past (suc slot) [] h = refl
+slot-past zero (c ∷ cs) h = absurd (omega arith)
+slot-past (suc slot) (c ∷ cs) h = slot-past slot cs (omega arith)
+
+abbrev pub slots_left : ℕ → List Coded → List Member
+slots_left slot cs = members_from slot (components_in (drop slot cs))
+
+pub slot_next : (xs : List Member) (slot : ℕ) (cs : List Coded) (c : Coded) → slot < length cs → c ≡ get_or cs slot c
+    → (xs ++ part_members slot (component_in c.component.now)) ++ slots_left (slot + 1) cs ≡ xs ++ slots_left slot cs
+unfolding members_from
+slot_next xs slot cs c h e =
+    append_assoc xs (part_members slot (component_in c.component.now)) (slots_left (slot + 1) cs)
+    ∙ ap (λ (l : List Coded). xs ++ members_from slot (components_in l)) (sym (slot-drop slot cs c h e))
+
+pub slot_none : (xs : List Member) (slot : ℕ) (cs : List Coded) → length cs ≤ slot → xs ++ slots_left slot cs ≡ xs
+unfolding members_from
+slot_none xs slot cs h =
+    ap (λ (l : List Coded). xs ++ members_from slot (components_in l)) (slot-past slot cs h) ∙ append-nil xs
+
+pub ruleset slot_rules = (slot_next, slot_none)

@@ -1,0 +1,141 @@
+-- The order of a scan is that of its blocks.
+use Rattle.std.proofs.Common.{◌≡◌, ℕ, zero, suc, ◌+◌, ◌-◌, ◌*◌, ◌<◌, ◌≤◌, List, [], ◌∷◌, ◌++◌, map, length, get_or, refl}
+use Rattle.std.proofs.Common.{sym, subst, ap, ap₂, ◌∙◌, arith, add-mul, mul-add}
+use Rattle.std.proofs.Math.Nat.{mul_comm}
+use Rattle.std.proofs.lemmas.List.{length-map}
+use Rattle.std.proofs.lemmas.List.FromFn.{length-map-range_with_len}
+use Rattle.std.proofs.lemmas.List.Sums.{sum_by-cons}
+use Rattle.std.specs.Prelude.{min, sum_by}
+use Rattle.std.specs.List.{AllByRecursion, range_with_len, flat_map}
+use Rattle.jpeg_segments.specs.Frame.{Frame, Component}
+use Rattle.jpeg_streams.specs.declared.grids.Grid.{Grid}
+use Rattle.jpeg_streams.specs.Order.{Spot, grid_of, mcu_size, all_spots, own_spots, spots_of}
+use Rattle.jpeg_streams.specs.InTurn.{Fits}
+use Rattle.jpeg_streams.specs.McuRows.{row_at, rows_of}
+use Rattle.jpeg_streams.proofs.CountedScans.{some-product}
+use Rattle.jpeg_segments.specs.FrameView.{component_in}
+use Rattle.jpeg_decoder.specs.declared.scan.Coded.{Coded}
+use Rattle.jpeg_decoder.specs.declared.scan_order.ScanOrder.{ScanOrder}
+use Rattle.jpeg_decoder.specs.Scanning.{components_in}
+use Rattle.jpeg_decoder.specs.declared.spots.Member.{Member}
+use Rattle.jpeg_decoder.specs.Walk.{IsOrderOf, walk_of, walk_of_row, walks_of_rows, spots_at, raster, members_from}
+use Rattle.jpeg_decoder.specs.Walk.{line_members, part_members, member_of, own_member}
+use Rattle.jpeg_decoder.proofs.OrderedWalks.{all_walked, own_walked}
+
+-- ---- the number of members
+
+length-both : (xs ys : List Member) → length (xs ++ ys) ≡ length xs + length ys
+length-both [] ys = omega arith
+length-both (x ∷ xs) ys = let r = length-both xs ys in omega arith
+
+length-lines : (slot : ℕ) (c : Component) (a n : ℕ)
+    → length (flat_map (line_members slot c) (range_with_len a n)) ≡ n * c.factors.horizontal
+length-lines slot c a zero = omega arith
+length-lines slot c a (suc n) =
+    length-both (line_members slot c a) (flat_map (line_members slot c) (range_with_len (a + 1) n))
+    ∙ (let l = length-map-range_with_len (member_of slot c a) 0 c.factors.horizontal in
+    let r = length-lines slot c (a + 1) n in
+    let p : (n + 1) * c.factors.horizontal ≡ n * c.factors.horizontal + 1 * c.factors.horizontal =
+    add-mul n 1 c.factors.horizontal in
+    omega arith)
+
+abbrev size_of : List Component → ℕ
+size_of cs = sum_by (λ (c : Component). c.factors.horizontal * c.factors.vertical) cs
+
+length-members : (slot : ℕ) (cs : List Component) → length (members_from slot cs) ≡ size_of cs
+unfolding members_from
+length-members slot [] = refl
+length-members slot (c ∷ cs) =
+    length-both (part_members slot c) (members_from (slot + 1) cs)
+    ∙ ap₂ (λ (a b : ℕ). a + b) (length-lines slot c 0 c.factors.vertical
+    ∙ mul_comm c.factors.vertical c.factors.horizontal) (length-members (slot + 1) cs)
+    ∙ sym (sum_by-cons (λ (c : Component). c.factors.horizontal * c.factors.vertical) c cs)
+
+some-size : (frame : Frame) (c : Component) (cs : List Component) → Fits frame c → 0 < size_of (c ∷ cs)
+some-size frame c cs fits =
+    let e = sum_by-cons (λ (c : Component). c.factors.horizontal * c.factors.vertical) c cs in
+    let p = some-product c.factors.horizontal c.factors.vertical fits.horizontal fits.vertical in omega arith
+
+-- ---- several components
+
+pub several-order : (frame : Frame) (cs : List Component) (n : ℕ) (o : ScanOrder) → 1 < length cs
+    → AllByRecursion (Fits frame) cs → o.members.items ≡ members_from 0 cs → o.wide ≡ frame.mcus_wide
+    → o.high ≡ frame.mcus_high → o.lines ≡ 1 → o.rows ≡ frame.mcus_high → o.interval ≡ n * length o.members.items
+    → IsOrderOf frame cs n o
+unfolding mcu_size spots_of row_at
+several-order frame [] n o h fits members wide high lines rows interval = absurd (omega arith)
+several-order frame (c ∷ []) n o h fits members wide high lines rows interval = absurd (omega arith)
+several-order frame (c ∷ d ∷ more) n o h fits members wide high lines rows interval =
+    let cs = c ∷ d ∷ more in
+    let size : length o.members.items ≡ size_of cs
+    = ap (λ (l : List Member). length l) members ∙ length-members 0 cs in
+    let walked : (k : ℕ) → spots_at o.members.items (raster o.wide k) ≡ all_spots frame.mcus_wide k cs
+    = λ k. ap₂ (λ (l : List Member) (w : ℕ). spots_at l (raster w k)) members wide
+    ∙ all_walked frame.mcus_wide k cs in
+    record {
+      some = let s = some-size frame c (d ∷ more) fits.0 in omega arith;
+      interval = interval ∙ ap (λ (k : ℕ). n * k) size;
+      rows = rows;
+      all = walked o.high ∙ ap (λ (k : ℕ). all_spots frame.mcus_wide k cs) high;
+      each = λ row lt.
+          let one : min 1 (o.high - row * 1) ≡ 1 = omega arith in
+          ap (λ (k : ℕ). spots_at o.members.items (raster o.wide (min k (o.high - row * k)))) lines
+              ∙ ap (λ (k : ℕ). spots_at o.members.items (raster o.wide k)) one ∙ walked 1;
+    }
+
+pub several-of : (frame : Frame) (cs : List Coded) (n : ℕ) (o : ScanOrder) → 1 < length cs
+    → AllByRecursion (Fits frame) (components_in cs) → o.members.items ≡ members_from 0 (components_in cs)
+    → o.wide ≡ frame.mcus_wide → o.high ≡ frame.mcus_high → o.lines ≡ 1 → o.rows ≡ frame.mcus_high
+    → o.interval ≡ n * length o.members.items → IsOrderOf frame (components_in cs) n o
+several-of frame cs n o several fits members wide high lines rows interval =
+    let l = length-map cs (λ (c : Coded). component_in c.component.now) in
+    several-order frame (components_in cs) n o (omega arith) fits members wide high lines rows interval
+
+-- ---- a component that is alone
+
+pub alone-order : (frame : Frame) (c : Component) (n : ℕ) (o : ScanOrder)
+    → o.members.items ≡ own_member (grid_of c) ∷ [] → o.wide ≡ (grid_of c).own_wide
+    → o.high ≡ (grid_of c).own_high → o.lines ≡ c.factors.vertical → o.rows ≡ frame.mcus_high → o.interval ≡ n
+    → IsOrderOf frame (c ∷ []) n o
+unfolding mcu_size spots_of row_at
+alone-order frame c n o members wide high lines rows interval =
+    let g = grid_of c in
+    let walked : (k : ℕ) → spots_at o.members.items (raster o.wide k) ≡ own_spots (record g { own_high = k })
+    = λ k. ap₂ (λ (l : List Member) (w : ℕ). spots_at l (raster w k)) members wide
+    ∙ own_walked (record g { own_high = k }) in
+    record {
+      some = let e = ap (λ (l : List Member). length l) members in omega arith;
+      interval = interval ∙ (let z : n ≡ n * 1 = omega arith in z);
+      rows = rows;
+      all = walked o.high ∙ ap (λ (k : ℕ). own_spots (record g { own_high = k })) high;
+      each = λ row lt.
+          walked (min o.lines (o.high - row * o.lines))
+              ∙ ap₂ (λ (k m : ℕ). own_spots (record g { own_high = min k (m - row * k) })) lines high;
+    }
+
+pub alone-of : (frame : Frame) (cs : List Coded) (c : Coded) (n : ℕ) (o : ScanOrder) → length cs ≡ 1
+    → c ≡ get_or cs 0 c → o.members.items ≡ own_member (grid_of (component_in c.component.now)) ∷ []
+    → o.wide ≡ (grid_of (component_in c.component.now)).own_wide
+    → o.high ≡ (grid_of (component_in c.component.now)).own_high
+    → o.lines ≡ (component_in c.component.now).factors.vertical → o.rows ≡ frame.mcus_high → o.interval ≡ n
+    → IsOrderOf frame (components_in cs) n o
+alone-of frame [] c n o one is members wide high lines rows interval = absurd (omega arith)
+alone-of frame (x ∷ y ∷ cs) c n o one is members wide high lines rows interval = absurd (omega arith)
+alone-of frame (x ∷ []) c n o one is members wide high lines rows interval =
+    subst (λ (y : Coded). IsOrderOf frame (component_in y.component.now ∷ []) n o) is
+    (alone-order frame (component_in c.component.now) n o members wide high lines rows interval)
+
+-- ---- the rows
+
+range-same : (f g : ℕ → List Spot) (a n : ℕ) → ((k : ℕ) → k < a + n → f k ≡ g k)
+    → map f (range_with_len a n) ≡ map g (range_with_len a n)
+range-same f g a zero h = refl
+range-same f g a (suc n) h =
+    ap₂ (λ (x : List Spot) (l : List (List Spot)). x ∷ l) (h a (omega arith))
+    (range-same f g (a + 1) n (λ k lt. h k (omega arith)))
+
+pub rows-walked : (frame : Frame) (cs : List Component) (n : ℕ) (o : ScanOrder) → IsOrderOf frame cs n o
+    → walks_of_rows o ≡ rows_of frame cs
+rows-walked frame cs n o is =
+    ap (λ (k : ℕ). map (walk_of_row o) (range_with_len 0 k)) is.rows
+    ∙ range-same (walk_of_row o) (row_at frame cs) 0 frame.mcus_high (λ k lt. is.each k (omega arith))
