@@ -10,7 +10,7 @@ use Rattle.jpeg_segments.specs.FrameView.{component_in}
 use Rattle.jpeg_decoder.specs.declared.scan.Coded.{Coded}
 use Rattle.jpeg_decoder.specs.declared.spots.Member.{Member}
 use Rattle.jpeg_decoder.specs.Scanning.{components_in}
-use Rattle.jpeg_decoder.specs.Walk.{spot_at, mcu_at, spots_at, raster, rows_from, positions_of, member_of, line_members, part_members}
+use Rattle.jpeg_decoder.specs.Walk.{spot_at, mcu_at, spots_at, raster, positions_of, member_of, line_members, part_members}
 use Rattle.jpeg_decoder.specs.Walk.{members_from, own_member}
 
 spot-is : (row column slot : ℕ) (c : Component) (v h : ℕ)

@@ -1,6 +1,6 @@
 -- The order of a scan is that of its blocks.
-use Rattle.std.proofs.Common.{◌≡◌, ℕ, zero, suc, ◌+◌, ◌-◌, ◌*◌, ◌<◌, ◌≤◌, List, [], ◌∷◌, ◌++◌, map, length, get_or, refl}
-use Rattle.std.proofs.Common.{sym, subst, ap, ap₂, ◌∙◌, arith, add-mul, mul-add}
+use Rattle.std.proofs.Common.{◌≡◌, ℕ, zero, suc, ◌+◌, ◌-◌, ◌*◌, ◌<◌, List, [], ◌∷◌, ◌++◌, map, length, get_or, refl}
+use Rattle.std.proofs.Common.{sym, subst, ap, ap₂, ◌∙◌, arith, add-mul}
 use Rattle.std.proofs.Math.Nat.{mul_comm}
 use Rattle.std.proofs.lemmas.List.{length-map}
 use Rattle.std.proofs.lemmas.List.FromFn.{length-map-range_with_len}
@@ -8,7 +8,6 @@ use Rattle.std.proofs.lemmas.List.Sums.{sum_by-cons}
 use Rattle.std.specs.Prelude.{min, sum_by}
 use Rattle.std.specs.List.{AllByRecursion, range_with_len, flat_map}
 use Rattle.jpeg_segments.specs.Frame.{Frame, Component}
-use Rattle.jpeg_streams.specs.declared.grids.Grid.{Grid}
 use Rattle.jpeg_streams.specs.Order.{Spot, grid_of, mcu_size, all_spots, own_spots, spots_of}
 use Rattle.jpeg_streams.specs.InTurn.{Fits}
 use Rattle.jpeg_streams.specs.McuRows.{row_at, rows_of}
@@ -18,7 +17,7 @@ use Rattle.jpeg_decoder.specs.declared.scan.Coded.{Coded}
 use Rattle.jpeg_decoder.specs.declared.scan_order.ScanOrder.{ScanOrder}
 use Rattle.jpeg_decoder.specs.Scanning.{components_in}
 use Rattle.jpeg_decoder.specs.declared.spots.Member.{Member}
-use Rattle.jpeg_decoder.specs.Walk.{IsOrderOf, walk_of, walk_of_row, walks_of_rows, spots_at, raster, members_from}
+use Rattle.jpeg_decoder.specs.Walk.{IsOrderOf, walk_of_row, walks_of_rows, spots_at, raster, members_from}
 use Rattle.jpeg_decoder.specs.Walk.{line_members, part_members, member_of, own_member}
 use Rattle.jpeg_decoder.proofs.OrderedWalks.{all_walked, own_walked}
 
@@ -80,7 +79,7 @@ several-order frame (c ∷ d ∷ more) n o h fits members wide high lines rows i
       each = λ row lt.
           let one : min 1 (o.high - row * 1) ≡ 1 = omega arith in
           ap (λ (k : ℕ). spots_at o.members.items (raster o.wide (min k (o.high - row * k)))) lines
-              ∙ ap (λ (k : ℕ). spots_at o.members.items (raster o.wide k)) one ∙ walked 1;
+          ∙ ap (λ (k : ℕ). spots_at o.members.items (raster o.wide k)) one ∙ walked 1;
     }
 
 pub several-of : (frame : Frame) (cs : List Coded) (n : ℕ) (o : ScanOrder) → 1 < length cs
@@ -110,7 +109,7 @@ alone-order frame c n o members wide high lines rows interval =
       all = walked o.high ∙ ap (λ (k : ℕ). own_spots (record g { own_high = k })) high;
       each = λ row lt.
           walked (min o.lines (o.high - row * o.lines))
-              ∙ ap₂ (λ (k m : ℕ). own_spots (record g { own_high = min k (m - row * k) })) lines high;
+          ∙ ap₂ (λ (k m : ℕ). own_spots (record g { own_high = min k (m - row * k) })) lines high;
     }
 
 pub alone-of : (frame : Frame) (cs : List Coded) (c : Coded) (n : ℕ) (o : ScanOrder) → length cs ≡ 1

@@ -21,7 +21,7 @@ use Rattle.jpeg_decoder.specs.Steps.{coding_in}
 use Rattle.jpeg_streams.specs.ScanSegments.{Coding, components_of}
 use Rattle.jpeg_decoder.specs.Strips.{row_sizes, samples_in, samples_of, zeros_of, with_strips}
 use Rattle.jpeg_decoder.specs.Strips.{strips_from}
-use Rattle.jpeg_decoder.proofs.HeldBlocks.{Held, get-map, sizes-long}
+use Rattle.jpeg_decoder.proofs.HeldBlocks.{Held, sizes-long}
 
 -- ---- the rows
 

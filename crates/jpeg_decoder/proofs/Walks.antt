@@ -1,11 +1,9 @@
 -- Steps of a walk.
 use Rattle.std.proofs.Common.{◌≡◌, ℕ, zero, suc, ◌+◌, ◌-◌, ◌<◌, List, [], ◌∷◌, ◌++◌, map, drop, length, refl, sym, ap}
-use Rattle.std.proofs.Common.{ap₂, ◌∙◌, arith, append_assoc}
-use Rattle.std.specs.List.{range_with_len, flat_map}
+use Rattle.std.proofs.Common.{ap₂, ◌∙◌, arith}
 use Rattle.std.proofs.Common.{get_or}
-use Rattle.jpeg_streams.specs.Order.{Spot}
 use Rattle.jpeg_decoder.specs.declared.spots.Member.{Member}
-use Rattle.jpeg_decoder.specs.Walk.{positions_of, rows_from, raster_left, spot_at, mcu_at, spots_at, spots_left}
+use Rattle.jpeg_decoder.specs.Walk.{positions_of, rows_from, raster_left, spot_at, spots_at, spots_left}
 
 -- ---- a raster
 

@@ -58,13 +58,10 @@ pub record IsSpotOf (slots : ℕ) (sizes : List ℕ) (s : Spot) : Type 0 where
   pub slot : s.slot < slots
   pub held : IsHeld sizes s.slot s.index
 
--- ---- the blocks of a component, in lines and in MCUs
+-- ---- how many blocks a component has in a line, and how many lines in an MCU
 
 abbrev pub wide_in : Coded → ℕ
 wide_in c = c.component.now.block_size.width
-
-abbrev pub across_in : Coded → ℕ
-across_in c = c.component.now.horizontal_sampling_factor
 
 abbrev pub down_in : Coded → ℕ
 down_in c = c.component.now.vertical_sampling_factor

@@ -10,7 +10,7 @@ use Rattle.jpeg_bits.specs.Entropy.{upcoming, fresh, marker_from}
 use Rattle.jpeg_bits.specs.declared.marker.Marker.{Marker}
 use Rattle.jpeg_bits.specs.Readers.{Reads, ◌>>=◌, gives}
 use Rattle.jpeg_bits.specs.Passes.{Pass, Via, Block, zero_block}
-use Rattle.jpeg_segments.specs.Frame.{Frame, Component}
+use Rattle.jpeg_segments.specs.Frame.{Frame}
 use Rattle.jpeg_pixels.specs.Planes.{plane_of}
 use Rattle.jpeg_bits.specs.Zigzag.{values_in_block_order}
 use Rattle.jpeg_streams.specs.Order.{Spot, spots_of, mcu_size}

@@ -1,10 +1,10 @@
 -- The order of the blocks of a scan (T.81, A.2), as it is walked: MCU by MCU, and of each MCU member
 -- by member.
-use Rattle.std.specs.Prelude.{◌≡◌, ◌<◌, ◌≤◌, ℕ, ◌+◌, ◌-◌, ◌*◌, min, List, [], ◌∷◌, ◌++◌, map, drop}
+use Rattle.std.specs.Prelude.{◌≡◌, ◌<◌, ℕ, ◌+◌, ◌-◌, ◌*◌, min, List, [], ◌∷◌, ◌++◌, map, drop}
 use Rattle.std.specs.Prelude.{length, Option, Some, None}
 use Rattle.std.specs.List.{range_with_len, flat_map}
 use Rattle.jpeg_segments.specs.Frame.{Frame, Component}
-use Rattle.jpeg_streams.specs.Order.{Spot, grid_of, mcu_size, spots_of}
+use Rattle.jpeg_streams.specs.Order.{Spot, mcu_size, spots_of}
 use Rattle.jpeg_streams.specs.McuRows.{row_at}
 use Rattle.jpeg_streams.specs.declared.grids.Grid.{Grid}
 use Rattle.jpeg_decoder.specs.declared.scan_order.ScanOrder.{ScanOrder}
@@ -100,9 +100,9 @@ walks_of_rows o = map (walk_of_row o) (range_with_len 0 o.rows)
 
 -- It is the order of the blocks of these components of a frame, in restart intervals of n MCUs.
 pub record IsOrderOf (frame : Frame) (components : List Component) (n : ℕ) (o : ScanOrder) : Type 0
-    where
-  pub some : 0 < length o.members.items
-  pub interval : o.interval ≡ n * mcu_size components
-  pub rows : o.rows ≡ frame.mcus_high
-  pub all : walk_of o ≡ spots_of frame components
-  pub each : (row : ℕ) → row < frame.mcus_high → walk_of_row o row ≡ row_at frame components row
+  where
+    pub some : 0 < length o.members.items
+    pub interval : o.interval ≡ n * mcu_size components
+    pub rows : o.rows ≡ frame.mcus_high
+    pub all : walk_of o ≡ spots_of frame components
+    pub each : (row : ℕ) → row < frame.mcus_high → walk_of_row o row ≡ row_at frame components row

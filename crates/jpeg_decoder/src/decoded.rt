@@ -1,15 +1,13 @@
 //! What the scans of a frame have given so far: blocks, and planes (T.81, A.2 and G.1).
-ghost use Rattle.std.specs.Prelude.{◌≡◌, ◌<◌, ◌≤◌, ◌*◌, [], All, pos, IfOk, IfErr, MatchResult};
+ghost use Rattle.std.specs.Prelude.{◌≡◌, ◌<◌, ◌*◌, [], All, IfOk};
 ghost use Rattle.std.specs.Prelude.{None, OnOk, length, map, replicate, slice_index_or, slice_set};
 ghost use Rattle.std.specs.List.{list_all};
 ghost use Rattle.jpeg_bits.specs.BlockView.{pass_in, to_block, IsPass};
 ghost use Rattle.jpeg_pixels.specs.Scaled.{IsScale};
-ghost use Rattle.jpeg_pixels.specs.Pictures.{AreWhole};
 ghost use Rattle.jpeg_segments.specs.FrameView.{component_in, frame_in};
 ghost use Rattle.jpeg_bits.specs.Reading.{Answers};
-ghost use Rattle.std.specs.List.{AllByRecursion};
-ghost use Rattle.jpeg_streams.specs.InTurn.{AreApart, Fits};
-ghost use Rattle.jpeg_decoder.specs.Scanning.{arrays_in, blocks_in, components_in, sizes_of};
+ghost use Rattle.jpeg_streams.specs.InTurn.{AreApart};
+ghost use Rattle.jpeg_decoder.specs.Scanning.{arrays_in, blocks_in, components_in};
 ghost use Rattle.jpeg_streams.specs.Scans.{zero_arrays, zero_of};
 ghost use Rattle.jpeg_decoder.specs.Seen.{planes_in};
 ghost use Rattle.jpeg_streams.specs.ScanSegments.{put_arrays, finished_by, plane_by};
@@ -154,7 +152,7 @@ fn put_blocks(
 }
 
 impl Decoded {
-    ghost use Rattle.std.specs.Prelude.{◌≡◌, ◌<◌, ◌≤◌, [], All, IfOk, OnOk, None, Some, List, ℕ};
+    ghost use Rattle.std.specs.Prelude.{◌≡◌, ◌<◌, [], All, IfOk, OnOk, None, Some};
     ghost use Rattle.std.specs.Prelude.{◌*◌, true, false, length, map, replicate, slice_index_or};
     ghost use Rattle.std.specs.Prelude.{slice_set};
     ghost use Rattle.jpeg_bits.specs.Reading.{Answers};
@@ -164,7 +162,7 @@ impl Decoded {
     ghost use Rattle.jpeg_streams.specs.InTurn.{AreArrays};
     ghost use Rattle.jpeg_streams.specs.LosslessScans.{with_samples};
     ghost use Rattle.jpeg_streams.specs.Sound.{ArePlanes};
-    ghost use Rattle.jpeg_decoder.specs.Scanning.{arrays_in, components_in, sizes_of};
+    ghost use Rattle.jpeg_decoder.specs.Scanning.{arrays_in, components_in};
     ghost use Rattle.jpeg_decoder.specs.Seen.{found_in, planes_in};
     ghost use Rattle.jpeg_decoder.specs.Steps.{coding_in, HasPlace, IsReadable, is_wanted};
     ghost use Rattle.jpeg_decoder.specs.Steps.{marks_after, scan_data, with_decoded};

@@ -101,12 +101,8 @@ impl ScanOrder {
     ghost use Rattle.jpeg_decoder.specs.Scanning.{scan_components};
     ghost use Rattle.jpeg_decoder.specs.Walk.{IsOrderOf, walk_of, walk_of_row};
 
-    /// The order of the blocks of several components.
-    fn several(
-        alloc: Global,
-        scan: &Scan<'_>,
-        frame: &FrameInfo,
-    ) -> Result<ScanOrder, AllocError>
+    /// Makes the order of the blocks of several components.
+    fn several(alloc: Global, scan: &Scan<'_>, frame: &FrameInfo) -> Result<ScanOrder, AllocError>
         requires several { 1 < length scan.now.components.items }
         requires fits { AllByRecursion (Fits (frame_in frame.now)) (scan_components scan.now) }
         ensures { IfOk result
@@ -124,12 +120,8 @@ impl ScanOrder {
         })
     }
 
-    /// The order of the blocks of a component that is alone.
-    fn alone(
-        alloc: Global,
-        scan: &Scan<'_>,
-        frame: &FrameInfo,
-    ) -> Result<ScanOrder, AllocError>
+    /// Makes the order of the blocks of a component that is alone.
+    fn alone(alloc: Global, scan: &Scan<'_>, frame: &FrameInfo) -> Result<ScanOrder, AllocError>
         requires one { length scan.now.components.items ≡ 1 }
         requires fits { AllByRecursion (Fits (frame_in frame.now)) (scan_components scan.now) }
         ensures { IfOk result
@@ -154,12 +146,8 @@ impl ScanOrder {
         })
     }
 
-    /// The order of the blocks of a scan of a frame.
-    pub fn new(
-        alloc: Global,
-        scan: &Scan<'_>,
-        frame: &FrameInfo,
-    ) -> Result<ScanOrder, AllocError>
+    /// Makes the order of the blocks of a scan of a frame. The error is no memory.
+    pub fn new(alloc: Global, scan: &Scan<'_>, frame: &FrameInfo) -> Result<ScanOrder, AllocError>
         requires some { 1 ≤ length scan.now.components.items }
         requires fits { AllByRecursion (Fits (frame_in frame.now)) (scan_components scan.now) }
         ensures { IfOk result
@@ -171,7 +159,7 @@ impl ScanOrder {
         ScanOrder::alone(alloc, scan, frame)
     }
 
-    /// The blocks of the scan.
+    /// Begins a walk over the blocks of the scan.
     pub fn spots(&self) -> Spots<'_>
         requires { 0 < length self.now.members.items }
         ensures { result ≡ walk_of self.now }
@@ -179,7 +167,8 @@ impl ScanOrder {
         Spots::new(&self.members, self.wide, self.high)
     }
 
-    /// The blocks of the scan in a row of the frame's MCUs, by their indices in that row.
+    /// Begins a walk over the blocks of the scan in a row of the frame's MCUs, by their indices in
+    /// that row.
     pub fn row(&self, row: u16) -> Spots<'_>
         requires { 0 < length self.now.members.items }
         ensures { result ≡ walk_of_row self.now row }

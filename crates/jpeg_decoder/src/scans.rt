@@ -30,7 +30,7 @@ use std::io::Read;
 
 /// The state between two blocks of a scan: of the entropy decoder and the predictors inside a
 /// restart interval, the blocks that are left of it, the number of the restart marker after it, and
-/// the place of a refusal.
+/// a refusal.
 #[derive(Drop)]
 pub struct Interval {
     alloc: Global,
@@ -43,7 +43,8 @@ pub struct Interval {
     refusal: Option<Error>,
 }
 
-/// The start of a scan, where a restart interval has `left` blocks (0 is none).
+/// Makes the state at the start of a scan, where a restart interval has `left` blocks; 0 is no
+/// intervals.
 pub fn first_interval(alloc: Global, left: u64) -> Interval
     ensures { result ≡ record {
       alloc = alloc;

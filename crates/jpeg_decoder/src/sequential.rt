@@ -5,7 +5,7 @@ ghost use Rattle.jpeg_bits.specs.Entropy.{Takes};
 ghost use Rattle.jpeg_bits.specs.Reading.{Answers};
 ghost use Rattle.jpeg_segments.specs.FrameView.{frame_in};
 ghost use Rattle.jpeg_streams.specs.InTurn.{Fits};
-ghost use Rattle.jpeg_decoder.specs.Scanning.{IsSpotOf, arrays_in, sizes_of, counted, down_in};
+ghost use Rattle.jpeg_decoder.specs.Scanning.{IsSpotOf, sizes_of, counted, down_in};
 ghost use Rattle.jpeg_decoder.specs.Scanning.{scan_pass, scan_vias, scan_components};
 ghost use Rattle.jpeg_decoder.specs.Steps.{coding_in};
 ghost use Rattle.jpeg_decoder.specs.Strips.{planes_in, row_sizes, samples_in};

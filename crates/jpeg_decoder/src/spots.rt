@@ -1,6 +1,5 @@
 //! The blocks of a scan, one after the other (T.81, A.2).
 ghost use Rattle.std.specs.Prelude.{◌≡◌, ◌+◌, ◌*◌, ◌≤◌, ◌<◌};
-ghost use Rattle.jpeg_decoder.specs.Walk.{spot_at};
 
 use crate::raster::Raster;
 use std::marker::Model;

@@ -18,7 +18,18 @@ fn several_components_interleave(rt: HostRuntime) {
     };
     let members = [luma(0), luma(1), luma(4), luma(5), chroma];
     let mut spots = Spots::new(&members, 2, 1);
-    let wanted = [(0, 0), (0, 1), (0, 4), (0, 5), (1, 0), (0, 2), (0, 3), (0, 6), (0, 7), (1, 1)];
+    let wanted = [
+        (0, 0),
+        (0, 1),
+        (0, 4),
+        (0, 5),
+        (1, 0),
+        (0, 2),
+        (0, 3),
+        (0, 6),
+        (0, 7),
+        (1, 1),
+    ];
     for (slot, index) in wanted {
         assert_eq!(&rt; spots.next(), Some(Spot { slot, index }));
     }

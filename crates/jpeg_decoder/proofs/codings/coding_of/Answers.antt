@@ -26,7 +26,7 @@ returns-in_err-quantization c =
     unset in
     let p = err_from_is_err_and c.from_residual-in_err-quantization.result
     c.from_residual-in_err-quantization.ensures.1 in
-    rw (p.1, p.2) (record { coding = format-refuses c.in_err-quantization.field-0.0 _ c.in_err-quantization.ensures.1 e; })
+    rw (p.1, p.2) (record { coding = format-refuses c.in_err-quantization.field-0.0 _ c.in_err-quantization.ensures.1 e })
 
 pub returns-in_err-dc : goal.returns-in_err-dc
 returns-in_err-dc c =

@@ -1,4 +1,4 @@
-use Rattle.std.proofs.Common.{◌≡◌, ◌∙◌, ◌++◌, List, ap, arith, ◌+◌, ◌-◌}
+use Rattle.std.proofs.Common.{◌∙◌, ◌++◌, List, ap, arith, ◌+◌, ◌-◌}
 use Rattle.std.specs.List.{range_with_len, flat_map}
 use Rattle.jpeg_segments.specs.FrameView.{component_in}
 use Rattle.jpeg_decoder.specs.declared.spots.Member.{Member}
