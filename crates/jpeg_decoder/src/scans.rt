@@ -22,7 +22,7 @@ ghost use Rattle.jpeg_decoder.specs.Scanning.{mcu_in, row_in, rows_in, own_mcu, 
 
 use crate::codings::Coded;
 use crate::restarts::read_restart;
-use jpeg_bits::blocks::{Pass, take_block};
+use jpeg_bits::blocks::{BlockCoding, Carried, Pass, take_block};
 use jpeg_bits::error::{Error, Result, take_refusal};
 use jpeg_bits::huffman::HuffmanDecoder;
 use jpeg_bits::marker::Marker;
@@ -44,16 +44,15 @@ pub struct Scan<'a> {
     pub components: Vec<Coded<'a>>,
 }
 
-/// The state between two blocks of a scan: of the entropy decoder and the predictors inside a
-/// restart interval, the MCUs that are left of it, the number of the restart marker after it, and
-/// the place of a refusal.
+/// The state between two blocks of a scan: of the entropy decoder and what a block leaves for those
+/// after it in its restart interval, the MCUs that are left of it, the number of the restart marker
+/// after it, and the place of a refusal.
 #[derive(Drop)]
 pub struct Interval {
     alloc: Global,
     /// The entropy decoder.
     pub decoder: HuffmanDecoder,
-    predictors: [i16; 4],
-    run: u16,
+    carried: Carried,
     left: u16,
     number: u8,
     refusal: Option<Error>,
@@ -72,8 +71,7 @@ pub fn first_interval(alloc: Global, left: u16) -> Interval
     ensures { result ≡ record {
       alloc = alloc;
       decoder = fresh;
-      predictors = predictors_at_start;
-      run = 0;
+      carried = record { predictors = predictors_at_start; run = 0 };
       left = left;
       number = 0;
       refusal = None;
@@ -82,8 +80,7 @@ pub fn first_interval(alloc: Global, left: u16) -> Interval
     Interval {
         alloc,
         decoder: HuffmanDecoder::new(alloc),
-        predictors: [0; 4],
-        run: 0,
+        carried: Carried::at_start(),
         left,
         number: 0,
         refusal: None,
@@ -115,14 +112,17 @@ fn read_turn<R: Read + Drop>(
     ensures held { result ≡ false → is_some interval.new.refusal ≡ true }
 {
     let coded = &scan.components[spot.slot];
+    let coding = BlockCoding {
+        pass: scan.pass,
+        slot: spot.slot,
+        dc_table: coded.dc,
+        ac_table: coded.ac,
+    };
     if !take_block(
         &mut interval.decoder,
         source,
-        coded.dc,
-        coded.ac,
-        scan.pass,
-        &mut interval.predictors[spot.slot],
-        &mut interval.run,
+        &coding,
+        &mut interval.carried,
         &mut arrays[spot.slot][spot.index],
         &mut interval.refusal,
     ) {
@@ -234,8 +234,7 @@ fn begin<R: Read + Drop>(interval: &mut Interval, source: &mut Source<R>, n: u16
         interval.refusal = Some(e);
         return false;
     }
-    interval.predictors = [0; 4];
-    interval.run = 0;
+    interval.carried = Carried::at_start();
     interval.left = n;
     interval.number = interval.number.wrapping_add(1) % 8;
     true
