@@ -1,10 +1,10 @@
 //! A block of a scan, of any pass.
-ghost use Rattle.std.specs.Prelude.{◌≡◌, ◌≤◌, is_some, true, false};
+ghost use Rattle.std.specs.Prelude.{◌≡◌, ◌≤◌, ◌<◌, set, is_some, true, false};
 ghost use Rattle.jpeg_bits.specs.Refusals.{answer_of, outcome_of, IsHeld};
 ghost use Rattle.jpeg_bits.specs.Entropy.{Takes};
 ghost use Rattle.jpeg_bits.specs.declared.codes.HuffmanTableClass.TheVariants.{AC};
 ghost use Rattle.jpeg_bits.specs.Passes.{dc_part, band_part, block_from, or_bit};
-ghost use Rattle.jpeg_bits.specs.BlockView.{to_block, pass_in, IsPass};
+ghost use Rattle.jpeg_bits.specs.BlockView.{to_block, pass_in, predictor_at, IsPass};
 ghost use Rattle.jpeg_bits.specs.ZigzagParts.{band_in, KeepsOthers};
 
 use crate::ahead::Held;
@@ -13,7 +13,6 @@ use crate::huffman::{HuffmanDecoder, HuffmanTable};
 use crate::refinement::{correct_band, lacks_bit, read_refined_band, unit};
 use crate::source::Source;
 use crate::tokens::{read_difference, read_first_band, shifted, wrapped_sum};
-use std::alloc::Global;
 use std::io::Read;
 
 /// What a scan codes: the places from `ss` to `se` at the point transform `al`, for the first time
@@ -52,6 +51,46 @@ impl Pass {
     }
 }
 
+/// How the blocks of a component are coded in a scan (T.81, B.2.3).
+#[derive(Clone, Copy)]
+pub struct BlockCoding<'a> {
+    /// What the scan codes.
+    pub pass: Pass,
+    /// The component's index in the scan, by which it has its predictor.
+    pub slot: usize,
+    /// The table of the DC coefficients.
+    pub dc_table: &'a HuffmanTable,
+    /// The table of the AC coefficients.
+    pub ac_table: &'a HuffmanTable,
+    pub ghost legal: { IsPass (pass_in pass) },
+    pub ghost within: { slot < 4 },
+    pub ghost class: { ac_table.now.class ≡ AC },
+}
+
+/// What a block leaves for those after it in its restart interval (T.81, F.2.1.3.1 and G.1.2.2).
+#[derive(Clone, Copy, Debug, PartialEq)]
+pub struct Carried {
+    /// The predictor of the DC coefficient of each component, by its index in the scan.
+    pub predictors: [i16; 4],
+    /// The number of blocks whose band ends with the end-of-band run that was last met.
+    pub run: u16,
+}
+
+impl Carried {
+    ghost use Rattle.std.specs.Prelude.{◌≡◌};
+    ghost use Rattle.jpeg_bits.specs.Intervals.{predictors_at_start};
+
+    /// What the first block of an interval starts with.
+    pub fn at_start() -> Carried
+        ensures { result ≡ record { predictors = predictors_at_start; run = 0 } }
+    {
+        Carried {
+            predictors: [0; 4],
+            run: 0,
+        }
+    }
+}
+
 /// A DC coefficient with the bit set, where it isn't.
 #[inline]
 #[tactic(auto, using(crate::proofs::SetBits::or_none, crate::proofs::SetBits::or_kept))]
@@ -76,21 +115,20 @@ fn with_bit(value: i16, al: u8, bit: u16) -> i16
 fn read_dc<R: Read + Drop>(
     held: &mut Held,
     source: &mut Source<R>,
-    table: &HuffmanTable,
-    pass: Pass,
+    coding: &BlockCoding<'_>,
     value: i16,
     predictor: &mut i16,
     refusal: &mut Option<Error>,
 ) -> Option<i16>
-    requires pass { IsPass (pass_in pass) }
-    requires dc { pass.ss ≡ 0 }
-    ensures part { Takes (λ z. (z, predictor.new)) (dc_part (pass_in pass) table.now value
-        predictor.old)
+    requires dc { coding.now.pass.ss ≡ 0 }
+    ensures part { Takes (λ z. (z, predictor.new))
+        (dc_part (pass_in coding.now.pass) coding.now.dc_table.now value predictor.old)
         held.old source.old (answer_of result refusal.new) held.new source.new }
     ensures held { IsHeld result refusal.new }
 {
+    let pass = coding.pass;
     if pass.is_first {
-        let Some(difference) = read_difference(held, source, table, refusal) else {
+        let Some(difference) = read_difference(held, source, coding.dc_table, refusal) else {
             return None;
         };
         *predictor = wrapped_sum(*predictor, difference);
@@ -109,20 +147,19 @@ fn read_dc<R: Read + Drop>(
 fn read_band<R: Read + Drop>(
     held: &mut Held,
     source: &mut Source<R>,
-    table: &HuffmanTable,
-    pass: Pass,
+    coding: &BlockCoding<'_>,
     run: &mut u16,
     block: &mut [i16; 64],
     refusal: &mut Option<Error>,
 ) -> bool
-    requires class { table.now.class ≡ AC }
-    requires pass { IsPass (pass_in pass) }
-    ensures band { Takes (λ _. (band_in (pass_in pass) block.new, run.new))
-        (band_part (pass_in pass) table.now (band_in (pass_in pass) block.old) run.old)
+    ensures band { Takes (λ _. (band_in (pass_in coding.now.pass) block.new, run.new))
+        (band_part (pass_in coding.now.pass) coding.now.ac_table.now
+        (band_in (pass_in coding.now.pass) block.old) run.old)
         held.old source.old (outcome_of result refusal.new) held.new source.new }
-    ensures others { KeepsOthers (pass_in pass) block.old block.new }
+    ensures others { KeepsOthers (pass_in coding.now.pass) block.old block.new }
     ensures held { result ≡ false → is_some refusal.new ≡ true }
 {
+    let pass = coding.pass;
     // A pass of DC alone has no band.
     if pass.se == 0 {
         return true;
@@ -138,6 +175,7 @@ fn read_band<R: Read + Drop>(
         *run -= 1;
         return true;
     }
+    let table = coding.ac_table;
     let next = if pass.is_first {
         read_first_band(held, source, table, pass, block, refusal)
     } else {
@@ -152,94 +190,62 @@ fn read_band<R: Read + Drop>(
     }
 }
 
-/// A block, in block order, read on what is held of it. A refusal is held in its place, and
-/// answered by false.
-pub(crate) fn read_held_block<R: Read + Drop>(
-    held: &mut Held,
-    source: &mut Source<R>,
-    dc_table: &HuffmanTable,
-    ac_table: &HuffmanTable,
-    pass: Pass,
-    predictor: &mut i16,
-    run: &mut u16,
-    block: &mut [i16; 64],
-    refusal: &mut Option<Error>,
-) -> bool
-    requires class { ac_table.now.class ≡ AC }
-    requires pass { IsPass (pass_in pass) }
-    ensures block { Takes (λ _. (to_block block.new, predictor.new, run.new))
-        (block_from (pass_in pass) dc_table.now ac_table.now predictor.old run.old
-        (to_block block.old))
-        held.old source.old (outcome_of result refusal.new) held.new source.new }
-    ensures held { result ≡ false → is_some refusal.new ≡ true }
-{
-    // A pass without DC often leaves a block as it is, which is then not even loaded.
-    if pass.ss > 0 {
-        return read_band(held, source, ac_table, pass, run, block, refusal);
-    }
-    let Some(dc) = read_dc(held, source, dc_table, pass, block[0], predictor, refusal) else {
-        return false;
-    };
-    block[0] = dc;
-    read_band(held, source, ac_table, pass, run, block, refusal)
-}
-
-/// A block, in block order, read on what is held of it. A refusal is put into its place, and
+/// Reads a block, in block order, on what is held of it. A refusal is put into its place, and
 /// answered by false.
 pub fn take_block<R: Read + Drop>(
     decoder: &mut HuffmanDecoder,
     source: &mut Source<R>,
-    dc_table: &HuffmanTable,
-    ac_table: &HuffmanTable,
-    pass: Pass,
-    predictor: &mut i16,
-    run: &mut u16,
+    coding: &BlockCoding<'_>,
+    carried: &mut Carried,
     block: &mut [i16; 64],
     refusal: &mut Option<Error>,
 ) -> bool
-    requires class { ac_table.now.class ≡ AC }
-    requires pass { IsPass (pass_in pass) }
-    ensures block { Takes (λ _. (to_block block.new, predictor.new, run.new))
-        (block_from (pass_in pass) dc_table.now ac_table.now predictor.old run.old
-        (to_block block.old))
+    ensures block { Takes (λ _. (
+      to_block block.new,
+      predictor_at coding.now.slot carried.new,
+      carried.new.run,
+    ))
+        (block_from (pass_in coding.now.pass) coding.now.dc_table.now coding.now.ac_table.now
+        (predictor_at coding.now.slot carried.old) carried.old.run (to_block block.old))
         decoder.old source.old (outcome_of result refusal.new) decoder.new source.new }
+    ensures others { carried.new.predictors ≡ set carried.old.predictors coding.now.slot
+        (predictor_at coding.now.slot carried.new) }
     ensures held { result ≡ false → is_some refusal.new ≡ true }
 {
-    decoder.take_block(
-        source, dc_table, ac_table, pass, predictor, run, block, refusal,
-    )
+    let held = &mut decoder.held;
+    // A pass without DC often leaves a block as it is, which is then not even loaded.
+    if coding.pass.ss > 0 {
+        return read_band(held, source, coding, &mut carried.run, block, refusal);
+    }
+    let predictor = &mut carried.predictors[coding.slot];
+    let Some(dc) = read_dc(held, source, coding, block[0], predictor, refusal) else {
+        return false;
+    };
+    block[0] = dc;
+    read_band(held, source, coding, &mut carried.run, block, refusal)
 }
 
-/// A block, in block order, read on what is held of it.
+/// Reads a block, in block order, on what is held of it.
 pub fn read_block<R: Read + Drop>(
-    alloc: Global,
     decoder: &mut HuffmanDecoder,
     source: &mut Source<R>,
-    dc_table: &HuffmanTable,
-    ac_table: &HuffmanTable,
-    pass: Pass,
-    predictor: &mut i16,
-    run: &mut u16,
+    coding: &BlockCoding<'_>,
+    carried: &mut Carried,
     block: &mut [i16; 64],
 ) -> Result<()>
-    requires class { ac_table.now.class ≡ AC }
-    requires pass { IsPass (pass_in pass) }
-    ensures { Takes (λ _. (to_block block.new, predictor.new, run.new))
-        (block_from (pass_in pass) dc_table.now ac_table.now predictor.old run.old
-        (to_block block.old))
+    ensures block { Takes (λ _. (
+      to_block block.new,
+      predictor_at coding.now.slot carried.new,
+      carried.new.run,
+    ))
+        (block_from (pass_in coding.now.pass) coding.now.dc_table.now coding.now.ac_table.now
+        (predictor_at coding.now.slot carried.old) carried.old.run (to_block block.old))
         decoder.old source.old result decoder.new source.new }
+    ensures others { carried.new.predictors ≡ set carried.old.predictors coding.now.slot
+        (predictor_at coding.now.slot carried.new) }
 {
     let mut refusal = None;
-    if decoder.take_block(
-        source,
-        dc_table,
-        ac_table,
-        pass,
-        predictor,
-        run,
-        block,
-        &mut refusal,
-    ) {
+    if take_block(decoder, source, coding, carried, block, &mut refusal) {
         return Ok(());
     }
     Err(take_refusal(&mut refusal))

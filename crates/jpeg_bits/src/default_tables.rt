@@ -60,24 +60,33 @@ fn names(places: &[usize], place: usize) -> bool
     places.contains(&place)
 }
 
+/// The codes of a table, as T.81 lists them.
+#[derive(Clone, Copy)]
+struct Listed<'a> {
+    counts: &'a [u8; 16],
+    symbols: &'a [u8],
+    ghost codes: { AreCodes counts.now symbols.now },
+}
+
 /// Puts the table of these codes at a place that is named and unset.
 fn fill(
     alloc: Global,
     table: &mut Option<HuffmanTable>,
     named: bool,
-    counts: &[u8; 16],
-    symbols: &[u8],
     class: HuffmanTableClass,
+    listed: &Listed<'_>,
 ) -> Result<()>
-    requires { AreCodes counts.now symbols.now }
     ensures { MatchResult result
         (λ _. table.new
-        ≡ filled (record { class = class; counts = counts.now; symbols = symbols.now })
-        named table.old)
+        ≡ filled (record {
+          class = class;
+          counts = listed.now.counts.now;
+          symbols = listed.now.symbols.now;
+        }) named table.old)
         (λ e. (e ≡ OutOfMemory) × (table.new ≡ table.old)) }
 {
     if named && table.is_none() {
-        *table = Some(HuffmanTable::new(alloc, counts, symbols, class)?);
+        *table = Some(HuffmanTable::new(alloc, listed.counts, listed.symbols, class)?);
     }
     Ok(())
 }
@@ -89,37 +98,27 @@ fn fill_both(
     tables: &mut [Option<HuffmanTable>],
     places: &[usize],
     class: HuffmanTableClass,
-    luminance_counts: &[u8; 16],
-    luminance_symbols: &[u8],
-    chrominance_counts: &[u8; 16],
-    chrominance_symbols: &[u8],
+    luminance: &Listed<'_>,
+    chrominance: &Listed<'_>,
 ) -> Result<()>
     requires places { 2 ≤ length tables.old }
-    requires luminance { AreCodes luminance_counts.now luminance_symbols.now }
-    requires chrominance { AreCodes chrominance_counts.now chrominance_symbols.now }
     ensures { let whole = with_defaults
-        (record { class = class; counts = luminance_counts.now; symbols = luminance_symbols.now })
-        (record { class = class; counts = chrominance_counts.now; symbols = chrominance_symbols.now })
+        (record {
+          class = class;
+          counts = luminance.now.counts.now;
+          symbols = luminance.now.symbols.now;
+        })
+        (record {
+          class = class;
+          counts = chrominance.now.counts.now;
+          symbols = chrominance.now.symbols.now;
+        })
         places.now tables.old in
         MatchResult result (λ _. tables.new ≡ whole) (λ e. (e ≡ OutOfMemory)
         × AreBetween tables.old whole tables.new) }
 {
-    fill(
-        alloc,
-        &mut tables[0],
-        names(places, 0),
-        luminance_counts,
-        luminance_symbols,
-        class,
-    )?;
-    fill(
-        alloc,
-        &mut tables[1],
-        names(places, 1),
-        chrominance_counts,
-        chrominance_symbols,
-        class,
-    )
+    fill(alloc, &mut tables[0], names(places, 0), class, luminance)?;
+    fill(alloc, &mut tables[1], names(places, 1), class, chrominance)
 }
 
 /// Puts the default tables of T.81 (Tables K.3 to K.6), which the frames of an MJPEG stream may
@@ -149,19 +148,27 @@ pub fn fill_default_mjpeg_tables(
         dc_huffman_tables,
         &scan.dc_table_indices,
         HuffmanTableClass::DC,
-        &LUMINANCE_DC_COUNTS,
-        &CATEGORIES,
-        &CHROMINANCE_DC_COUNTS,
-        &CATEGORIES,
+        &Listed {
+            counts: &LUMINANCE_DC_COUNTS,
+            symbols: &CATEGORIES,
+        },
+        &Listed {
+            counts: &CHROMINANCE_DC_COUNTS,
+            symbols: &CATEGORIES,
+        },
     )?;
     fill_both(
         alloc,
         ac_huffman_tables,
         &scan.ac_table_indices,
         HuffmanTableClass::AC,
-        &LUMINANCE_AC_COUNTS,
-        &LUMINANCE_AC_SYMBOLS,
-        &CHROMINANCE_AC_COUNTS,
-        &CHROMINANCE_AC_SYMBOLS,
+        &Listed {
+            counts: &LUMINANCE_AC_COUNTS,
+            symbols: &LUMINANCE_AC_SYMBOLS,
+        },
+        &Listed {
+            counts: &CHROMINANCE_AC_COUNTS,
+            symbols: &CHROMINANCE_AC_SYMBOLS,
+        },
     )
 }

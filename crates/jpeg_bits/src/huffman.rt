@@ -3,7 +3,6 @@ ghost use Rattle.std.specs.Prelude.{◌≡◌, ◌≤◌, ◌<◌, ◌^◌};
 
 use crate::ahead::{Held, marker_of_end};
 use crate::bits::extend;
-use crate::blocks::{Pass, read_held_block};
 pub use crate::codes::{HuffmanTable, HuffmanTableClass};
 pub use crate::default_tables::fill_default_mjpeg_tables;
 use crate::error::{Error, Result, take_refusal};
@@ -20,7 +19,7 @@ use std::marker::Model;
 #[derive(Debug, Drop)]
 pub struct HuffmanDecoder {
     alloc: Global,
-    held: Held,
+    pub(crate) held: Held,
     refusal: Option<Error>,
 }
 
@@ -33,12 +32,8 @@ impl Model for HuffmanDecoder {
 }
 
 impl HuffmanDecoder {
-    ghost use Rattle.std.specs.Prelude.{◌≡◌, ◌≤◌, ◌<◌, ◌^◌, [], None, OnOk, IfOk, is_some, true};
-    ghost use Rattle.std.specs.Prelude.{false};
-    ghost use Rattle.jpeg_bits.specs.declared.codes.HuffmanTableClass.TheVariants.{AC};
-    ghost use Rattle.jpeg_bits.specs.Passes.{block_from};
-    ghost use Rattle.jpeg_bits.specs.BlockView.{to_block, pass_in, IsPass};
-    ghost use Rattle.jpeg_bits.specs.Refusals.{outcome_of, answer_of, IsHeld};
+    ghost use Rattle.std.specs.Prelude.{◌≡◌, ◌≤◌, ◌<◌, ◌^◌, [], None, OnOk, IfOk};
+    ghost use Rattle.jpeg_bits.specs.Refusals.{answer_of, IsHeld};
     ghost use Rattle.jpeg_bits.specs.Codes.{symbol_from, fast_from};
     ghost use Rattle.jpeg_bits.specs.Reading.{Answers};
     ghost use Rattle.jpeg_bits.specs.Readers.{signed_from};
@@ -192,32 +187,5 @@ impl HuffmanDecoder {
         ensures held { IsHeld result refusal.new }
     {
         self.held.take_symbol(source, table, refusal)
-    }
-
-    /// A block, in block order, read on what is held of it. A refusal is put into its place, and
-    /// answered by false.
-    pub(crate) fn take_block<R: Read + Drop>(
-        &mut self,
-        source: &mut Source<R>,
-        dc_table: &HuffmanTable,
-        ac_table: &HuffmanTable,
-        pass: Pass,
-        predictor: &mut i16,
-        run: &mut u16,
-        block: &mut [i16; 64],
-        refusal: &mut Option<Error>,
-    ) -> bool
-        requires class { ac_table.now.class ≡ AC }
-        requires pass { IsPass (pass_in pass) }
-        ensures block { Takes (λ _. (to_block block.new, predictor.new, run.new))
-            (block_from (pass_in pass) dc_table.now ac_table.now predictor.old run.old
-            (to_block block.old))
-            self.old source.old (outcome_of result refusal.new) self.new source.new }
-        ensures held { result ≡ false → is_some refusal.new ≡ true }
-    {
-        let held = &mut self.held;
-        read_held_block(
-            held, source, dc_table, ac_table, pass, predictor, run, block, refusal,
-        )
     }
 }

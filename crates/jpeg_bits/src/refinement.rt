@@ -134,28 +134,39 @@ fn correct<R: Read + Drop>(
     move_away(held.alloc(), value, distance(value, al, bit), refusal)
 }
 
-/// Corrects a piece of the band from a zigzag place on, which ends with the zero after this many
-/// zeros, or is the whole rest of the band. Gives the place after it.
+/// A piece of the band of a block, from a zigzag place on: it ends with the zero after this many
+/// zeros, or is the whole rest of the band.
+#[derive(Clone, Copy)]
+struct BandPiece {
+    pass: Pass,
+    from: usize,
+    zeros: usize,
+}
+
+/// Corrects a piece of the band. Gives the place after it.
 #[inline(always)]
 fn correct_piece<R: Read + Drop>(
     held: &mut Held,
     source: &mut Source<R>,
-    pass: Pass,
-    from: usize,
-    zeros: usize,
+    piece: BandPiece,
     block: &mut [i16; 64],
     refusal: &mut Option<Error>,
 ) -> Option<usize>
-    requires pass { IsPass (pass_in pass) }
-    requires from { from ≤ band_end (pass_in pass) }
-    ensures within { IfSome result (λ next. (from ≤ next) × (next ≤ band_end (pass_in pass))
-        × (from < band_end (pass_in pass) → from < next)) }
-    ensures piece { Takes (λ next. (next - from, rest_in (pass_in pass) from block.new))
-        (piece_from pass.al zeros (rest_in (pass_in pass) from block.old)) held.old source.old
-        (answer_of result refusal.new) held.new source.new }
-    ensures others { IsKeptAround from (band_end (pass_in pass)) block.old block.new }
+    requires pass { IsPass (pass_in piece.pass) }
+    requires from { piece.from ≤ band_end (pass_in piece.pass) }
+    ensures within { IfSome result (λ next. (piece.from ≤ next)
+        × (next ≤ band_end (pass_in piece.pass))
+        × (piece.from < band_end (pass_in piece.pass) → piece.from < next)) }
+    ensures piece { Takes (λ next. (
+      next - piece.from,
+      rest_in (pass_in piece.pass) piece.from block.new,
+    ))
+        (piece_from piece.pass.al piece.zeros (rest_in (pass_in piece.pass) piece.from block.old))
+        held.old source.old (answer_of result refusal.new) held.new source.new }
+    ensures others { IsKeptAround piece.from (band_end (pass_in piece.pass)) block.old block.new }
     ensures held { IsHeld result refusal.new }
 {
+    let BandPiece { pass, from, zeros } = piece;
     let end = pass.band_end();
     let mut left = zeros;
     for index in from..end {
@@ -260,23 +271,36 @@ fn read_refined_places<R: Read + Drop>(
         };
         match token {
             Refinement::Zeros => {
-                let Some(next) = correct_piece(held, source, pass, index, 15, block, refusal) else {
+                let piece = BandPiece {
+                    pass,
+                    from: index,
+                    zeros: 15,
+                };
+                let Some(next) = correct_piece(held, source, piece, block, refusal) else {
                     return None;
                 };
                 index = next;
             }
             Refinement::New(run, value) => {
                 let zeros = usize::from(run);
-                let Some(next) = correct_piece(held, source, pass, index, zeros, block, refusal)
-                else {
+                let piece = BandPiece {
+                    pass,
+                    from: index,
+                    zeros,
+                };
+                let Some(next) = correct_piece(held, source, piece, block, refusal) else {
                     return None;
                 };
                 block[place_of(next - 1)] = value;
                 index = next;
             }
             Refinement::End(blocks) => {
-                let zeros = end - index;
-                return match correct_piece(held, source, pass, index, zeros, block, refusal) {
+                let piece = BandPiece {
+                    pass,
+                    from: index,
+                    zeros: end - index,
+                };
+                return match correct_piece(held, source, piece, block, refusal) {
                     Some(_) => Some(blocks),
                     None => None,
                 };
@@ -326,9 +350,13 @@ pub(crate) fn correct_band<R: Read + Drop>(
     ensures held { result ≡ false → is_some refusal.new ≡ true }
 {
     let start = pass.band_start();
-    let zeros = pass.band_end() - start;
+    let piece = BandPiece {
+        pass,
+        from: start,
+        zeros: pass.band_end() - start,
+    };
     let mut local = held.copied();
-    let next = correct_piece(&mut local, source, pass, start, zeros, block, refusal);
+    let next = correct_piece(&mut local, source, piece, block, refusal);
     *held = local;
     next.is_some()
 }

@@ -1,6 +1,6 @@
 ghost use Rattle.std.specs.Prelude.{◌≤◌};
 
-use crate::blocks::{Pass, read_block};
+use crate::blocks::{BlockCoding, Carried, Pass, read_block};
 use crate::color_transform::ColorTransform;
 use crate::error::{Error, UnsupportedFeature, end_of_bytes, format_error};
 use crate::huffman::{HuffmanDecoder, HuffmanTable, HuffmanTableClass};
@@ -183,25 +183,19 @@ fn read_coefficients(
     let bytes = [byte, 0xff, 0xd9];
     let mut source = Source::new(reader_of(&bytes, 1));
     let mut decoder = HuffmanDecoder::new(alloc);
-    let pass = Pass {
-        is_first,
-        ss: 1,
-        se: 63,
-        al: 0,
+    let coding = BlockCoding {
+        pass: Pass {
+            is_first,
+            ss: 1,
+            se: 63,
+            al: 0,
+        },
+        slot: 0,
+        dc_table: &table,
+        ac_table: &table,
     };
-    let mut predictor = 0i16;
-    let mut run = 0u16;
-    read_block(
-        alloc,
-        &mut decoder,
-        &mut source,
-        &table,
-        &table,
-        pass,
-        &mut predictor,
-        &mut run,
-        block,
-    )
+    let mut carried = Carried::at_start();
+    read_block(&mut decoder, &mut source, &coding, &mut carried, block)
 }
 
 #[test]
@@ -244,25 +238,20 @@ fn read_first(
     requires most { se ≤ 63 }
 {
     let table = HuffmanTable::new(alloc, &ONE_EACH, &RUNS_AND_SIZES, HuffmanTableClass::AC)?;
-    let pass = Pass {
-        is_first: true,
-        ss: 1,
-        se,
-        al: 0,
+    let coding = BlockCoding {
+        pass: Pass {
+            is_first: true,
+            ss: 1,
+            se,
+            al: 0,
+        },
+        slot: 0,
+        dc_table: &table,
+        ac_table: &table,
     };
+    let mut carried = Carried::at_start();
     let mut block = [0; 64];
-    let (mut predictor, mut run) = (0, 0);
-    read_block(
-        alloc,
-        decoder,
-        source,
-        &table,
-        &table,
-        pass,
-        &mut predictor,
-        &mut run,
-        &mut block,
-    )?;
+    read_block(decoder, source, &coding, &mut carried, &mut block)?;
     Ok(block)
 }
 

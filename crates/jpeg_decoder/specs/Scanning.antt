@@ -43,7 +43,8 @@ abbrev pub sizes_of : List (Vec (List ℤ) Global) → List ℕ
 sizes_of vs = map (λ v. length v.items) vs
 
 abbrev pub reached : Interval → Arrays → Reached
-reached i arrays = record { arrays = arrays; predictors = i.predictors; run = i.run }
+reached i arrays =
+    record { arrays = arrays; predictors = i.carried.predictors; run = i.carried.run }
 
 abbrev pub counted : Interval → Arrays → Counted
 counted i arrays = record { reached = reached i arrays; left = i.left; number = i.number }

@@ -19,7 +19,7 @@ use crate::restarts::read_restart;
 use crate::scan::Scan;
 use crate::scan_order::ScanOrder;
 use crate::spots::{Spot, Spots};
-use jpeg_bits::blocks::take_block;
+use jpeg_bits::blocks::{BlockCoding, Carried, take_block};
 use jpeg_bits::error::{Error, Result, take_refusal};
 use jpeg_bits::huffman::HuffmanDecoder;
 use jpeg_bits::marker::Marker;
@@ -28,16 +28,15 @@ use jpeg_segments::parser::FrameInfo;
 use std::alloc::Global;
 use std::io::Read;
 
-/// The state between two blocks of a scan: of the entropy decoder and the predictors inside a
-/// restart interval, the blocks that are left of it, the number of the restart marker after it, and
-/// a refusal.
+/// The state between two blocks of a scan: of the entropy decoder and what a block leaves for those
+/// after it in its restart interval, the blocks that are left of it, the number of the restart
+/// marker after it, and a refusal.
 #[derive(Drop)]
 pub struct Interval {
     alloc: Global,
     /// The entropy decoder.
     pub decoder: HuffmanDecoder,
-    predictors: [i16; 4],
-    run: u16,
+    carried: Carried,
     left: u64,
     number: u8,
     refusal: Option<Error>,
@@ -49,8 +48,7 @@ pub fn first_interval(alloc: Global, left: u64) -> Interval
     ensures { result ≡ record {
       alloc = alloc;
       decoder = fresh;
-      predictors = predictors_at_start;
-      run = 0;
+      carried = record { predictors = predictors_at_start; run = 0 };
       left = left;
       number = 0;
       refusal = None;
@@ -59,8 +57,7 @@ pub fn first_interval(alloc: Global, left: u64) -> Interval
     Interval {
         alloc,
         decoder: HuffmanDecoder::new(alloc),
-        predictors: [0; 4],
-        run: 0,
+        carried: Carried::at_start(),
         left,
         number: 0,
         refusal: None,
@@ -89,14 +86,17 @@ fn read_turn<R: Read + Drop>(
     ensures held { result ≡ false → is_some interval.new.refusal ≡ true }
 {
     let coded = &scan.components[spot.slot];
+    let coding = BlockCoding {
+        pass: scan.pass,
+        slot: spot.slot,
+        dc_table: coded.dc,
+        ac_table: coded.ac,
+    };
     if !take_block(
         &mut interval.decoder,
         source,
-        coded.dc,
-        coded.ac,
-        scan.pass,
-        &mut interval.predictors[spot.slot],
-        &mut interval.run,
+        &coding,
+        &mut interval.carried,
         &mut arrays[spot.slot][spot.index],
         &mut interval.refusal,
     ) {
@@ -125,8 +125,7 @@ fn begin<R: Read + Drop>(interval: &mut Interval, source: &mut Source<R>, n: u64
         interval.refusal = Some(e);
         return false;
     }
-    interval.predictors = [0; 4];
-    interval.run = 0;
+    interval.carried = Carried::at_start();
     interval.left = n;
     interval.number = interval.number.wrapping_add(1) % 8;
     true

@@ -13,13 +13,13 @@ pub returns : goal.returns
 returns c =
     let l : Table = record {
       class = c.args.class;
-      counts = c.args.luminance_counts.now;
-      symbols = c.args.luminance_symbols.now;
+      counts = c.args.luminance.now.counts.now;
+      symbols = c.args.luminance.now.symbols.now;
     } in
     let r : Table = record {
       class = c.args.class;
-      counts = c.args.chrominance_counts.now;
-      symbols = c.args.chrominance_symbols.now;
+      counts = c.args.chrominance.now.counts.now;
+      symbols = c.args.chrominance.now.symbols.now;
     } in
     MatchResult-weaker c.fill-2.result c.fill-2.ensures
     (λ x e. both-filled l r c.args.places.now c.args.tables.now c.names.result c.names-2.result _ _ c.fill.new.table

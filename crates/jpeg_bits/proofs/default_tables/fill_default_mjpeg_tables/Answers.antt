@@ -7,11 +7,11 @@ use Rattle.jpeg_bits.proofs.DefaultTables.{chrominance-ac-codes, chrominance-dc-
 use Rattle.jpeg_bits.proofs.DefaultTables.{luminance-dc-codes, untouched}
 use Rattle.jpeg_bits.proofs.default_tables.fill_default_mjpeg_tables.Goals as goal
 
-pub fill_both-requires-clause-luminance : goal.fill_both-requires-clause-luminance
-fill_both-requires-clause-luminance c = luminance-dc-codes
+pub invariant_of-fill_both : goal.invariant_of-fill_both
+invariant_of-fill_both c = record { codes = luminance-dc-codes }
 
-pub fill_both-requires-clause-chrominance : goal.fill_both-requires-clause-chrominance
-fill_both-requires-clause-chrominance c = chrominance-dc-codes
+pub invariant_of-fill_both-2 : goal.invariant_of-fill_both-2
+invariant_of-fill_both-2 c = record { codes = chrominance-dc-codes }
 
 pub returns-in_err-fill_both-clause-ac : goal.returns-in_err-fill_both-clause-ac
 returns-in_err-fill_both-clause-ac c =
@@ -21,11 +21,11 @@ returns-in_err-fill_both-clause-ac c =
       untouched luminance_ac chrominance_ac c.args.scan.now.ac_table_indices.items c.args.ac_huffman_tables.now,
     )
 
-pub fill_both-requires-2-clause-luminance : goal.fill_both-requires-2-clause-luminance
-fill_both-requires-2-clause-luminance c = luminance-ac-codes
+pub invariant_of-fill_both-3 : goal.invariant_of-fill_both-3
+invariant_of-fill_both-3 c = record { codes = luminance-ac-codes }
 
-pub fill_both-requires-2-clause-chrominance : goal.fill_both-requires-2-clause-chrominance
-fill_both-requires-2-clause-chrominance c = chrominance-ac-codes
+pub invariant_of-fill_both-4 : goal.invariant_of-fill_both-4
+invariant_of-fill_both-4 c = record { codes = chrominance-ac-codes }
 
 pub returns-clause-dc : goal.returns-clause-dc
 returns-clause-dc c =

@@ -9,8 +9,8 @@ use Rattle.jpeg_bits.proofs.refinement.correct_piece.Given as goal
 abbrev pub invariant-loop-index : goal.invariant-loop-index
 invariant-loop-index g l = record {
   len : length l.block ≡ 64;
-  walk : Leaves (piece_from l.fn.pass.al l.fn.zeros (rest_in (pass_in l.fn.pass) l.fn.from l.fn.block)) l.fn.held
-      l.fn.source (walk_left l.fn.pass.al l.left (rest_in (pass_in l.fn.pass) l.fn.from l.block) (l.index - l.fn.from))
+  walk : Leaves (piece_from l.fn.piece.pass.al l.fn.piece.zeros (rest_in (pass_in l.fn.piece.pass) l.fn.piece.from l.fn.block)) l.fn.held
+      l.fn.source (walk_left l.fn.piece.pass.al l.left (rest_in (pass_in l.fn.piece.pass) l.fn.piece.from l.block) (l.index - l.fn.piece.from))
       l.held l.source;
-  others : IsKeptAround l.fn.from (band_end (pass_in l.fn.pass)) l.fn.block l.block;
+  others : IsKeptAround l.fn.piece.from (band_end (pass_in l.fn.piece.pass)) l.fn.block l.block;
 }

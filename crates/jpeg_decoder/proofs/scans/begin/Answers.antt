@@ -29,7 +29,7 @@ returns-clause-begun g c arrays =
       q.0,
       λ k. let at = q.1 k in (
         at.0,
-        rw next (begun_next c.args.n (counted i arrays)
+        rw (next, c.at_start-interval.ensures) (begun_next c.args.n (counted i arrays)
             (upcoming i.decoder c.args.source.now.bytes) (upcoming c.read_restart.new.decoder
             c.read_restart.new.source.bytes) some none at.1),
       ),
