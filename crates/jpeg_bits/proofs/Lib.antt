@@ -6,7 +6,7 @@ pub mod Held
 pub mod CodeLemmas
 pub mod DefaultTables
 pub mod Symbols
-pub mod Skips
+pub mod Filled
 pub mod Calls
 pub mod WrittenBits
 pub mod Reservoirs

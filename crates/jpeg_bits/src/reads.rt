@@ -1,7 +1,7 @@
 //! Reads of a source: bytes, numbers and skips.
-ghost use Rattle.std.specs.Prelude.{◌≡◌, true, Err};
+ghost use Rattle.std.specs.Prelude.{◌≡◌, ◌<◌, true, Err, IfOk, length};
 ghost use Rattle.jpeg_bits.specs.Reading.{Answers, IsShort, Malformed, next_byte, next_u16};
-ghost use Rattle.jpeg_bits.specs.Reading.{length_at, skip_at};
+ghost use Rattle.jpeg_bits.specs.Reading.{length_at, skip_at, times};
 ghost use Rattle.jpeg_bits.specs.declared.error.Error.TheVariants.{OutOfMemory};
 
 use crate::error::{Result, end_of_bytes, format_error_of};
@@ -53,17 +53,72 @@ pub fn read_length<R: Read + Drop>(alloc: Global, source: &mut Source<R>) -> Res
     Ok(length - 2)
 }
 
+/// Fills the buffer with the next bytes, in as many reads as the reader takes for it. Errors are
+/// those of `read_u8`; what the buffer holds is then unspecified.
+pub fn read_exact<R: Read + Drop>(
+    alloc: Global,
+    source: &mut Source<R>,
+    buffer: &mut [u8],
+) -> Result<()>
+    ensures len { length buffer.new ≡ length buffer.old }
+    ensures answers { Answers (λ _. buffer.new) (times (length buffer.old) next_byte) source.old
+        result source.new }
+    ensures room { source.old.known ≡ true → result ≡ Err OutOfMemory
+        → times (length buffer.old) next_byte source.old.bytes ≡ Err Malformed }
+{
+    let mut filled = 0;
+    while filled < buffer.len() {
+        let count = source.read(alloc, &mut buffer[filled..])?;
+        if count == 0 {
+            return Err(end_of_bytes());
+        }
+        filled += count;
+    }
+    Ok(())
+}
+
+/// The next `count` bytes. It is `OutOfMemory` where there is no room for them; the other errors
+/// are those of `read_u8`.
+pub fn read_bytes<R: Read + Drop>(
+    alloc: Global,
+    source: &mut Source<R>,
+    count: u16,
+) -> Result<Vec<u8>>
+    ensures answers { Answers (λ v. v.items) (times count next_byte) source.old result source.new }
+    ensures length { IfOk result (λ v. length v.items ≡ count) }
+{
+    let mut bytes = vec![in alloc; 0; usize::from(count)]?;
+    read_exact(alloc, source, &mut bytes)?;
+    Ok(bytes)
+}
+
+/// Passes over `count` bytes, as many at once as the buffer has room for. Errors are those of
+/// `read_u8`.
+fn skip_by<R: Read + Drop>(
+    alloc: Global,
+    source: &mut Source<R>,
+    count: u16,
+    buffer: &mut [u8],
+) -> Result<()>
+    requires { 0 < length buffer.old }
+    ensures answers { Answers (λ u. u) (skip_at count) source.old result source.new }
+    ensures room { source.old.known ≡ true → result ≡ Err OutOfMemory
+        → skip_at count source.old.bytes ≡ Err Malformed }
+{
+    let mut left = usize::from(count);
+    while left > 0 {
+        let step = left.min(buffer.len());
+        read_exact(alloc, source, &mut buffer[..step])?;
+        left -= step;
+    }
+    Ok(())
+}
+
 /// Passes over `count` bytes. Errors are those of `read_u8`.
-#[tactic(auto, using(crate::proofs::Skips::skip_more, crate::proofs::Skips::skip_none))]
 pub fn skip<R: Read + Drop>(alloc: Global, source: &mut Source<R>, count: u16) -> Result<()>
     ensures answers { Answers (λ u. u) (skip_at count) source.old result source.new }
     ensures room { source.old.known ≡ true → result ≡ Err OutOfMemory
         → skip_at count source.old.bytes ≡ Err Malformed }
 {
-    let mut left = count;
-    while left > 0 {
-        read_u8(alloc, source)?;
-        left -= 1;
-    }
-    Ok(())
+    skip_by(alloc, source, count, &mut [0; 256])
 }

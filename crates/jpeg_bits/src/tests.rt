@@ -5,7 +5,7 @@ use crate::color_transform::ColorTransform;
 use crate::error::{Error, UnsupportedFeature, end_of_bytes, format_error};
 use crate::huffman::{HuffmanDecoder, HuffmanTable, HuffmanTableClass};
 use crate::marker::{Marker, read_marker};
-use crate::reads::{read_length, read_u8, read_u16_be, skip};
+use crate::reads::{read_bytes, read_length, read_u8, read_u16_be, skip};
 use crate::source::Source;
 use std::alloc::{AllocError, Global};
 use std::io;
@@ -91,6 +91,56 @@ fn the_end_is_no_failure(rt: HostRuntime) {
     let mut source = Source::new(reader_of(&[1], 1));
     assert!(rt; matches!(read_u16_be(rt.alloc(), &mut source), Err(Error::Io(_))));
     assert!(rt; !source.has_failed());
+}
+
+#[test]
+fn bytes_in_pieces(rt: HostRuntime) -> Result<(), Fail> {
+    for step in 1..5 {
+        let mut source = Source::new(reader_of(&[1, 2, 3, 4, 5], step));
+        let bytes = read_bytes(rt.alloc(), &mut source, 3)?;
+        assert_eq!(rt; bytes.as_slice(), [1, 2, 3].as_slice());
+        assert!(rt; read_bytes(rt.alloc(), &mut source, 0)?.is_empty());
+        assert!(rt; matches!(read_bytes(rt.alloc(), &mut source, 3), Err(Error::Io(_))));
+        assert!(rt; !source.has_failed());
+    }
+    Ok(())
+}
+
+#[test]
+fn bytes_where_a_read_fails(rt: HostRuntime) {
+    for number in 0..2 {
+        let mut reader = reader_of(&[1, 2, 3], 2);
+        reader.refused = Some((number, ErrorKind::Other));
+        let mut source = Source::new(reader);
+        assert!(rt; matches!(read_bytes(rt.alloc(), &mut source, 3), Err(Error::Io(_))));
+        assert!(rt; source.has_failed());
+    }
+}
+
+#[test]
+fn bytes_where_a_read_is_interrupted(rt: HostRuntime) -> Result<(), Fail> {
+    for number in 0..2 {
+        let mut reader = reader_of(&[1, 2, 3], 2);
+        reader.refused = Some((number, ErrorKind::Interrupted));
+        let mut source = Source::new(reader);
+        let bytes = read_bytes(rt.alloc(), &mut source, 3)?;
+        assert_eq!(rt; bytes.as_slice(), [1, 2, 3].as_slice());
+        assert!(rt; !source.has_failed());
+    }
+    Ok(())
+}
+
+#[test]
+fn many_bytes_are_passed_over(rt: HostRuntime) -> Result<(), Fail> {
+    let mut bytes = vec![in rt.alloc(); 7; 600]?;
+    bytes.extend_from_slice(&[9, 8])?;
+    for step in [1, 255, 1000] {
+        let mut source = Source::new(reader_of(&bytes, step));
+        skip(rt.alloc(), &mut source, 600)?;
+        assert_eq!(rt; read_u8(rt.alloc(), &mut source)?, 9);
+        assert!(rt; matches!(skip(rt.alloc(), &mut source, 2), Err(Error::Io(_))));
+    }
+    Ok(())
 }
 
 #[test]

@@ -28,7 +28,7 @@ after : (b : ℕ) (said : Option Application) (o : Outcome (List ℕ))
 after b said (Ok x) = refl
 after b said (Err e) = refl
 
-read-skipped : (n : ℕ) (said : Option Application) (bytes : List ℕ) → (times n next_byte bytes >>= saying said)
+pub read-skipped : (n : ℕ) (said : Option Application) (bytes : List ℕ) → (times n next_byte bytes >>= saying said)
     ≡ passed_over n said bytes
 unfolding times skip_at
 read-skipped zero said bytes = refl

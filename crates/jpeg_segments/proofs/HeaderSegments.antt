@@ -1,278 +1,574 @@
--- Frame headers and scan headers that were written are read again.
-use Rattle.std.proofs.Common.{◌≡◌, ℕ, zero, suc, ◌≤◌, ◌<◌, ◌+◌, ◌*◌, ◌/◌, ◌%◌, Bool, true, false, List, [], ◌∷◌, ◌++◌}
-use Rattle.std.proofs.Common.{map, length, length-append, append-nil, Some, Ok, Err, refl, sym, ap, ◌∙◌, append_assoc}
-use Rattle.std.proofs.Common.{arith, eqb, ltb}
-use Rattle.std.proofs.lemmas.Bool.{le-ltb, le-leb, eq-eqb, ne_eqb}
-use Rattle.std.specs.Prelude.{flat_map, if◌then◌else◌}
-use Rattle.jpeg_bits.specs.Reading.{Outcome, Malformed, ◌>>=◌, next_byte, next_u16}
-use Rattle.jpeg_segments.specs.Frame.{
-  Factors,
-  IsInRange,
-  Frame,
-  Head,
-  frame_of,
-  is_factor,
-  is_place,
-  is_lossless_number,
-}
-use Rattle.jpeg_segments.specs.Frame.{is_precision, is_count, parameters_at, factors_at, components_from, size_at}
-use Rattle.jpeg_segments.specs.Frame.{head_at, sof_at}
+-- Frame headers and scan headers: exactly what is written is read.
+use Rattle.std.proofs.Common.{◌≡◌, ℕ, zero, suc, ◌≤◌, ◌<◌, ◌+◌, ◌*◌, ◌/◌, ◌%◌, Bool, true, false, cond}
+use Rattle.std.proofs.Common.{List, [], ◌∷◌, ◌++◌, map, length, length-append, append-nil, append_assoc}
+use Rattle.std.proofs.Common.{Option, Some, None, Ok, Err, refl, sym, ap, ap₂, ◌∙◌, arith, eqb, ltb, leb}
+use Rattle.std.proofs.lemmas.Bool.{le-ltb, le-leb, eq-eqb, ne_eqb, eqb-true, eqb-false, ltb-false, leb-true}
+use Rattle.std.proofs.lemmas.Bool.{not-true, and_parts}
+use Rattle.std.specs.Prelude.{flat_map, not}
+use Rattle.jpeg_bits.specs.Reading.{Malformed, Lacks, ◌>>=◌}
+use Rattle.jpeg_bits.specs.declared.error.UnsupportedFeature.TheVariants.{DNL}
+use Rattle.jpeg_segments.specs.Frame.{Factors, Frame, Head, frame_of, is_factor, is_place}
+use Rattle.jpeg_segments.specs.Frame.{is_lossless_number, is_taken, is_precision, is_count, parameters_at}
+use Rattle.jpeg_segments.specs.Frame.{factors_at, components_from, size_at, head_at, sof_at}
 use Rattle.jpeg_segments.specs.HuffmanTables.{greatest_place}
-use Rattle.jpeg_segments.specs.ScanHeader.{Selector, tables_at, selector_at, selectors_from, is_mcu, is_band, band_at}
+use Rattle.jpeg_segments.specs.ScanHeader.{Selector, place_of, blocks_by, tables_at, tables_by}
+use Rattle.jpeg_segments.specs.ScanHeader.{selector_at, selectors_from, is_mcu, is_band, scan_of, band_at}
 use Rattle.jpeg_segments.specs.ScanHeader.{count_at, sos_at}
-use Rattle.jpeg_segments.specs.WrittenSegments.{u16_bytes, sized, nibbles, FrameHeader, factors_bytes, frame_payload}
-use Rattle.jpeg_segments.specs.WrittenSegments.{AreComponents, IsFrame}
-use Rattle.jpeg_segments.specs.ScanHeaders.{Choice, ScanHeader, choice_bytes, scan_payload, selector_of, IsChoice}
-use Rattle.jpeg_segments.specs.ScanHeaders.{AreChoices, IsScan, scan_written}
-use Rattle.jpeg_segments.proofs.Fields.{read-on, not-refused, kept, u16-read, sized-read, nibbles-high, nibbles-low}
+use Rattle.jpeg_segments.specs.WrittenSegments.{u16_bytes, sized, nibbles, FrameHeader, factors_bytes}
+use Rattle.jpeg_segments.specs.WrittenSegments.{frame_payload, IsComponent, AreComponents, IsFrame, frame_written}
+use Rattle.jpeg_segments.specs.ScanHeaders.{Choice, ScanHeader, choice_bytes, scan_payload, selector_of}
+use Rattle.jpeg_segments.specs.ScanHeaders.{IsChoice, AreChoices, IsScan, scan_written}
+use Rattle.jpeg_segments.proofs.Fields.{nibbles-high, nibbles-low}
+use Rattle.jpeg_segments.proofs.Codecs.{Codec, As, bind, ends, check-if, check-unless, done, remap, refused}
+use Rattle.jpeg_segments.proofs.Codecs.{byte, u16, length-field}
 
 -- ---- frame headers
 
 factor-kept : (n : ℕ) → 1 ≤ n → n ≤ 4 → is_factor n ≡ true
 factor-kept n h k = rw (ne_eqb n 0 (λ e. omega arith), le-leb n 4 k) refl
 
-parameters-read : (lossless : Bool) (c : Factors) (rest : List ℕ) → IsInRange c
-    → is_place lossless c.quantization ≡ true
-    → parameters_at lossless c.identifier (nibbles c.horizontal c.vertical ∷ c.quantization ∷ rest) ≡ Ok (c, rest)
-unfolding parameters_at
-parameters-read lossless c rest is placed =
-    let h1 = is.horizontal_some in
-    let h4 = is.horizontal_most in
-    let v1 = is.vertical_some in
-    let v4 = is.vertical_most in
-    let high : nibbles c.horizontal c.vertical / 16 ≡ c.horizontal =
-    nibbles-high c.horizontal c.vertical (omega arith) in
-    let low : nibbles c.horizontal c.vertical % 16 ≡ c.vertical = nibbles-low c.horizontal c.vertical (omega arith) in
-    rw (high, low) (
-    kept (is_factor c.horizontal) _ (Err Malformed) (factor-kept c.horizontal h1 h4)
-    ∙ kept (is_factor c.vertical) _ (Err Malformed) (factor-kept c.vertical v1 v4)
-    ∙ kept (is_place lossless c.quantization) (Ok (c, rest)) (Err Malformed) placed)
+factor-only : (n : ℕ) → is_factor n ≡ true → (1 ≤ n) × (n ≤ 4)
+factor-only n e =
+    let p = and_parts (not (eqb n 0)) (leb n 4) e in
+    let some = eqb-false n 0 (not-true (eqb n 0) p.0) in
+    (grind (arith, some), leb-true n 4 p.1)
 
-components-read : (number : ℕ) (front cs : List Factors) (rest : List ℕ) → AreComponents number front cs
-    → components_from (is_lossless_number number) (length cs) front (flat_map factors_bytes cs ++ rest)
-    ≡ Ok (front ++ cs, rest)
-unfolding components_from AreComponents factors_at
-components-read number front [] rest all = ap (λ (l : List Factors). Ok (l, rest)) (sym (append-nil front))
-components-read number front (c ∷ cs) rest all =
-    let more = flat_map factors_bytes cs ++ rest in
-    rw all.0.is_new (
-    read-on (parameters_at (is_lossless_number number) c.identifier
-    (nibbles c.horizontal c.vertical ∷ c.quantization ∷ more)) _ c more _
-    (parameters-read (is_lossless_number number) c more all.0.ranged all.0.placed)
-    (components-read number (front ++ c ∷ []) cs rest all.1
-    ∙ ap (λ (l : List Factors). Ok (l, rest)) (append_assoc front (c ∷ []) cs)))
+abbrev factors : ℕ → ℕ → ℕ → ℕ → Factors
+factors identifier horizontal vertical quantization = record {
+  identifier = identifier;
+  horizontal = horizontal;
+  vertical = vertical;
+  quantization = quantization;
+}
 
-size-read : (width height : ℕ) (rest : List ℕ) → 0 < width → 0 < height
-    → size_at (u16_bytes height ++ (u16_bytes width ++ rest)) ≡ Ok ((width, height), rest)
+component : (number : ℕ) (front : List Factors)
+    → Codec (factors_at (is_lossless_number number) front) (λ (c : Factors). c) factors_bytes
+    (IsComponent number front)
+unfolding factors_at parameters_at
+component number front = remap (bind _ byte (λ (i : ℕ). check-unless (is_taken front i) Malformed
+    (bind _ byte (λ (n : ℕ). check-if (is_factor (n / 16)) Malformed
+    (check-if (is_factor (n % 16)) Malformed
+    (ends _ byte (λ (p : ℕ). check-if (is_place (is_lossless_number number) p) Malformed
+    (done (factors i (n / 16) (n % 16) p)))))))))
+    (λ x is.
+    let n : ℕ = x.1.0 in
+    let h = factor-only (n / 16) is.1.1.1.0 in
+    let v = factor-only (n % 16) is.1.1.1.1.0 in
+    let code : n ≡ nibbles (n / 16) (n % 16) = omega arith in
+    record {
+      value = factors x.0 (n / 16) (n % 16) x.1.1;
+      valid = record {
+        is_new = is.1.0;
+        ranged = record {
+          horizontal_some = h.0;
+          horizontal_most = h.1;
+          vertical_some = v.0;
+          vertical_most = v.1;
+        };
+        placed = is.1.1.1.1.1.1.0;
+      };
+      made = refl;
+      printed = ap (λ (k : ℕ). x.0 ∷ k ∷ x.1.1 ∷ []) code;
+    })
+    (λ c is.
+    let r = is.ranged in
+    let h4 = r.horizontal_most in
+    let v4 = r.vertical_most in
+    let n : ℕ = nibbles c.horizontal c.vertical in
+    let high : n / 16 ≡ c.horizontal = nibbles-high c.horizontal c.vertical (omega arith) in
+    let low : n % 16 ≡ c.vertical = nibbles-low c.horizontal c.vertical (omega arith) in
+    record {
+      value = (c.identifier, (n, c.quantization));
+      valid = (
+        tt,
+        (
+          is.is_new,
+          (
+            tt,
+            (
+              ap is_factor high ∙ factor-kept c.horizontal r.horizontal_some h4,
+              (ap is_factor low ∙ factor-kept c.vertical r.vertical_some v4, (tt, (is.placed, tt))),
+            ),
+          ),
+        ),
+      );
+      made = ap₂ (λ (h v : ℕ). factors c.identifier h v c.quantization) (sym high) (sym low);
+      printed = refl;
+    })
+
+-- n components after those in `front`
+abbrev Follow : ℕ → ℕ → List Factors → List Factors → Type 0
+Follow number n front cs = (length cs ≡ n) × AreComponents number front cs
+
+components : (number n : ℕ) (front : List Factors)
+    → Codec (components_from (is_lossless_number number) n front) (λ (cs : List Factors). front ++ cs)
+    (flat_map factors_bytes) (Follow number n front)
+unfolding components_from AreComponents
+components number zero front = remap (done front)
+    (λ x is. record { value = []; valid = (refl, tt); made = sym (append-nil front); printed = refl })
+    (λ cs is. none cs is.0)
+  where
+    none : (cs : List Factors) → length cs ≡ 0 → As (λ (cs : List Factors). front ++ cs)
+        (flat_map factors_bytes) (λ (u : Unit {0}). front) (λ (u : Unit {0}). [])
+        (λ (u : Unit {0}). Unit {0}) cs
+    none [] e = record { value = tt; valid = tt; made = append-nil front; printed = refl }
+    none (c ∷ cs) e = absurd (omega (arith, e))
+components number (suc n) front = remap (bind _ (component number front) (λ (c : Factors).
+    components number n (front ++ c ∷ [])))
+    (λ x is. record {
+      value = x.0 ∷ x.1;
+      valid = (ap suc is.1.0, (is.0, is.1.1));
+      made = append_assoc front (x.0 ∷ []) x.1;
+      printed = refl;
+    })
+    some
+  where
+    some : (cs : List Factors) → Follow number (suc n) front cs → As (λ (cs : List Factors). front ++ cs)
+        (flat_map factors_bytes) (λ (x : Factors × List Factors). (front ++ x.0 ∷ []) ++ x.1)
+        (λ (x : Factors × List Factors). factors_bytes x.0 ++ flat_map factors_bytes x.1)
+        (λ (x : Factors × List Factors).
+        IsComponent number front x.0 × Follow number n (front ++ x.0 ∷ []) x.1) cs
+    some [] is = absurd (omega (arith, is.0))
+    some (c ∷ cs) is = record {
+      value = (c, cs);
+      valid = (is.1.0, (omega (arith, is.0), is.1.1));
+      made = sym (append_assoc front (c ∷ []) cs);
+      printed = refl;
+    }
+
+some-number : (n : ℕ) → eqb n 0 ≡ false → 0 < n
+some-number n e = let m = eqb-false n 0 e in grind (arith, m)
+
+-- the width and the height
+size : Codec size_at (λ (s : ℕ × ℕ). s) (λ (s : ℕ × ℕ). u16_bytes s.1 ++ u16_bytes s.0)
+    (λ (s : ℕ × ℕ). (0 < s.0) × (0 < s.1))
 unfolding size_at
-size-read width height rest w h =
-    read-on (next_u16 (u16_bytes height ++ (u16_bytes width ++ rest))) _ height (u16_bytes width ++ rest) _
-    (u16-read height (u16_bytes width ++ rest))
-    (read-on (next_u16 (u16_bytes width ++ rest)) _ width rest _ (u16-read width rest)
-    (not-refused (eqb height 0) _ _ (ne_eqb height 0 (λ e. omega arith))
-    ∙ not-refused (eqb width 0) _ _ (ne_eqb width 0 (λ e. omega arith))))
+size = remap (bind _ u16 (λ (height : ℕ). ends _ u16 (λ (width : ℕ).
+    check-unless (eqb height 0) (Lacks DNL) (check-unless (eqb width 0) Malformed
+    (done (width, height))))))
+    (λ x is. record {
+      value = (x.1, x.0);
+      valid = (some-number x.1 is.1.1.1.0, some-number x.0 is.1.1.0);
+      made = refl;
+      printed = refl;
+    })
+    (λ s is. record {
+      value = (s.1, s.0);
+      valid = (
+        tt,
+        (
+          tt,
+          (
+            ne_eqb s.1 0 (λ e. omega (arith, is.1, e)),
+            (ne_eqb s.0 0 (λ e. omega (arith, is.0, e)), tt),
+          ),
+        ),
+      );
+      made = refl;
+      printed = refl;
+    })
 
 factors-length : (cs : List Factors) → length (flat_map factors_bytes cs) ≡ 3 * length cs
 factors-length [] = omega arith
-factors-length (c ∷ cs) = let i =
-    factors-length cs in omega (arith, length-append (factors_bytes c) (flat_map factors_bytes cs))
-
-payload-length : (h : FrameHeader) → length (frame_payload h) ≡ 6 + 3 * length h.components
-unfolding frame_payload
-payload-length h = omega (arith, factors-length h.components)
+factors-length (c ∷ cs) =
+    omega (arith, factors-length cs, length-append (factors_bytes c) (flat_map factors_bytes cs))
 
 count-some : (number n : ℕ) → is_count number n ≡ true → 1 ≤ n
 count-some number zero h = absurd (let n : ⊥ = cc in n)
 count-some number (suc n) h = omega arith
 
-abbrev head_of : FrameHeader → Head
-head_of h = record {
-  length = length (frame_payload h);
-  precision = h.precision;
-  width = h.width;
-  height = h.height;
-  count = length h.components;
-}
+abbrev head_of : ℕ → ℕ → ℕ → ℕ → ℕ → Head
+head_of left precision width height count =
+    record { length = left; precision = precision; width = width; height = height; count = count }
 
--- what stands after the length
-abbrev fields_at : ℕ → ℕ → List ℕ → Outcome Head
-fields_at number left bytes = do
-  precision ← next_byte bytes
-  if is_precision number precision.0 then (do
-    size ← size_at precision.1
-    count ← next_byte size.1
-    if is_count number count.0 then (
-        if eqb left (6 + 3 * count.0)
-        then Ok (
-          record {
-            length = left;
-            precision = precision.0;
-            width = size.0.0;
-            height = size.0.1;
-            count = count.0;
-          },
-          count.1,
-        )
-        else Err Malformed) else Err Malformed) else Err Malformed
+-- what stands between the length and the components
+abbrev fields : ℕ → ℕ × ℕ → ℕ → List ℕ
+fields precision s count = precision ∷ (u16_bytes s.1 ++ (u16_bytes s.0 ++ (count ∷ [])))
 
-fields-read : (number left : ℕ) (h : FrameHeader) (rest : List ℕ) → IsFrame number h
-    → left ≡ 6 + 3 * length h.components
-    → fields_at number left (frame_payload h ++ rest)
-    ≡ Ok (
-      record {
-        length = left;
+-- the length, the precision, the size and the number of components
+head : (number : ℕ)
+    → Codec (head_at number) (λ (h : Head). h)
+    (λ (h : Head). u16_bytes (h.length + 2) ++ fields h.precision (h.width, h.height) h.count)
+    (λ (h : Head). (is_precision number h.precision ≡ true) × (((0 < h.width) × (0 < h.height))
+    × ((is_count number h.count ≡ true) × (h.length ≡ 6 + 3 * h.count))))
+unfolding head_at
+head number = remap (bind _ length-field (λ (left : ℕ). check-unless (ltb left 7) Malformed
+    (bind _ byte (λ (precision : ℕ). check-if (is_precision number precision) Malformed
+    (bind _ size (λ (s : ℕ × ℕ). ends _ byte (λ (count : ℕ).
+    check-if (is_count number count) Malformed (check-if (eqb left (6 + 3 * count)) Malformed
+    (done (head_of left precision s.0 s.1 count))))))))))
+    (λ x is.
+    let left : ℕ = x.0 in
+    let count : ℕ = x.1.1.1 in
+    let r = is.1.1.1.1 in
+    record {
+      value = head_of left x.1.0 x.1.1.0.0 x.1.1.0.1 count;
+      valid = (is.1.1.1.0, (r.0, (r.1.1.0, eqb-true left (6 + 3 * count) r.1.1.1.0)));
+      made = refl;
+      printed = refl;
+    })
+    (λ h is.
+    let some : 1 ≤ h.count = count-some number h.count is.1.1.0 in
+    record {
+      value = (h.length, (h.precision, ((h.width, h.height), h.count)));
+      valid = (
+        tt,
+        (
+          le-ltb h.length 7 (omega (arith, some, is.1.1.1)),
+          (
+            tt,
+            (
+              is.0,
+              (is.1.0, (tt, (is.1.1.0, (eq-eqb h.length (6 + 3 * h.count) is.1.1.1, tt)))),
+            ),
+          ),
+        ),
+      );
+      made = refl;
+      printed = refl;
+    })
+
+payload-length : (precision n : ℕ) (s : ℕ × ℕ) (cs : List Factors) → length cs ≡ n
+    → length (fields precision s n ++ flat_map factors_bytes cs) ≡ 6 + 3 * n
+payload-length precision n s cs e = omega (arith, e, factors-length cs)
+
+pub sof : (number : ℕ) → number ≤ 3
+    → Codec (sof_at number) (frame_written number) (λ (h : FrameHeader). sized (frame_payload h))
+    (IsFrame number)
+unfolding sof_at frame_payload
+sof number few = remap (bind (λ (h : Head) (bytes : List ℕ).
+    components_from (is_lossless_number number) h.count [] bytes >>= λ (c : List Factors × List ℕ).
+    Ok (frame_of number h.precision h.width h.height c.0, c.1)) (head number) (λ (h : Head).
+    ends _ (components number h.count []) (λ (cs : List Factors).
+    done (frame_of number h.precision h.width h.height cs))))
+    (λ x is.
+    let h : Head = x.0 in
+    let cs : List Factors = x.1 in
+    let n : length cs ≡ h.count = is.1.0.0 in
+    let long = payload-length h.precision h.count (h.width, h.height) cs n in
+    record {
+      value = record {
         precision = h.precision;
         width = h.width;
         height = h.height;
-        count = length h.components;
-      },
-      flat_map factors_bytes h.components ++ rest,
-    )
-unfolding frame_payload
-fields-read number left h rest is e =
-    let after = flat_map factors_bytes h.components ++ rest in
-    kept (is_precision number h.precision) _ (Err Malformed) is.precise
-    ∙ read-on (size_at (u16_bytes h.height ++ (u16_bytes h.width ++ (length h.components ∷ after)))) _
-    (h.width, h.height) (length h.components ∷ after) _
-    (size-read h.width h.height (length h.components ∷ after) is.wide is.high)
-    (kept (is_count number (length h.components)) _ (Err Malformed) is.counted
-    ∙ kept (eqb left (6 + 3 * length h.components)) _ (Err Malformed) (eq-eqb left (6 + 3 * length h.components) e))
-
-head-read : (number : ℕ) (h : FrameHeader) (rest : List ℕ) → IsFrame number h
-    → head_at number (sized (frame_payload h) ++ rest) ≡ Ok (head_of h, flat_map factors_bytes h.components ++ rest)
-unfolding head_at
-head-read number h rest is =
-    let n : length (frame_payload h) ≡ 6 + 3 * length h.components = payload-length h in
-    let some : 1 ≤ length h.components = count-some number (length h.components) is.counted in
-    sized-read (frame_payload h) rest _
-    ∙ not-refused (ltb (length (frame_payload h)) 7) (Err Malformed) _
-    (le-ltb (length (frame_payload h)) 7 (omega arith))
-    ∙ fields-read number (length (frame_payload h)) h rest is n
+        components = cs;
+      };
+      valid = record {
+        numbered = few;
+        precise = is.0.0;
+        wide = is.0.1.0.0;
+        high = is.0.1.0.1;
+        counted = ap (is_count number) n ∙ is.0.1.1.0;
+        components = is.1.0.1;
+      };
+      made = refl;
+      printed = ap₂ (λ (m c : ℕ). u16_bytes (m + 2)
+          ++ (fields h.precision (h.width, h.height) c ++ flat_map factors_bytes cs))
+          (is.0.1.1.1 ∙ sym long) refl
+          ∙ ap (λ (c : ℕ). sized (fields h.precision (h.width, h.height) c
+          ++ flat_map factors_bytes cs)) (sym n);
+    })
+    (λ h is.
+    let n : ℕ = length h.components in
+    record {
+      value = (head_of (6 + 3 * n) h.precision h.width h.height n, h.components);
+      valid = (
+        (is.precise, ((is.wide, is.high), (is.counted, refl))),
+        ((refl, is.components), tt),
+      );
+      made = refl;
+      printed = ap (λ (m : ℕ). u16_bytes (m + 2)
+          ++ (fields h.precision (h.width, h.height) n ++ flat_map factors_bytes h.components))
+          (payload-length h.precision n (h.width, h.height) h.components refl);
+    })
 
 pub sof-read : (number : ℕ) (h : FrameHeader) (rest : List ℕ) → IsFrame number h
     → sof_at number (sized (frame_payload h) ++ rest)
     ≡ Ok (frame_of number h.precision h.width h.height h.components, rest)
-unfolding sof_at
-sof-read number h rest is =
-    let after = flat_map factors_bytes h.components ++ rest in
-    read-on (head_at number (sized (frame_payload h) ++ rest)) _ (head_of h) after _ (head-read number h rest is)
-    (read-on (components_from (is_lossless_number number) (length h.components) [] after) _ h.components rest _
-    (components-read number [] h.components rest is.components) refl)
+sof-read number h rest is = (sof number is.numbered).reads h rest is
 
 -- ---- scan headers
 
-tables-read : (frame : Frame) (c : Choice) (rest : List ℕ) → c.dc ≤ greatest_place (Some frame.is_baseline)
-    → c.ac ≤ greatest_place (Some frame.is_baseline)
-    → tables_at frame c.component (nibbles c.dc c.ac ∷ rest) ≡ Ok (selector_of frame c, rest)
+abbrev selector : Frame → ℕ → ℕ → ℕ → Selector
+selector frame place dc ac =
+    record { component = place; dc = dc; ac = ac; blocks = blocks_by frame.components place }
+
+-- the rules of a component, whose identifier names the place `o`
+abbrev IsNamed : Frame → ℕ → ℕ → Option ℕ → Choice → Type 0
+IsNamed frame least identifier o c =
+    (c.identifier ≡ identifier) × ((o ≡ Some c.component) × ((least ≤ c.component)
+    × ((c.dc ≤ greatest_place (Some frame.is_baseline))
+    × (c.ac ≤ greatest_place (Some frame.is_baseline)))))
+
+greatest-small : (b : Bool) → greatest_place (Some b) ≤ 3
+greatest-small true = omega arith
+greatest-small false = omega arith
+
+none-some : (n : ℕ) → ◌≡◌ {A = Option ℕ} None (Some n) → ⊥
+none-some n e = cc
+
+some-same : (a b : ℕ) → ◌≡◌ {A = Option ℕ} (Some a) (Some b) → a ≡ b
+some-same a b e = cc
+
+destinations : (frame : Frame) (least identifier : ℕ) (o : Option ℕ)
+    → Codec (tables_by frame least o) (selector_of frame) (λ (c : Choice). nibbles c.dc c.ac ∷ [])
+    (IsNamed frame least identifier o)
 unfolding tables_at
-tables-read frame c rest d a =
-    let small : greatest_place (Some frame.is_baseline) ≤ 3 = most frame.is_baseline in
-    let high : nibbles c.dc c.ac / 16 ≡ c.dc = nibbles-high c.dc c.ac (omega arith) in
-    let low : nibbles c.dc c.ac % 16 ≡ c.ac = nibbles-low c.dc c.ac (omega arith) in
-    rw (high, low) (
-    not-refused (ltb (greatest_place (Some frame.is_baseline)) c.dc) (Err Malformed) _
-    (le-ltb (greatest_place (Some frame.is_baseline)) c.dc d)
-    ∙ not-refused (ltb (greatest_place (Some frame.is_baseline)) c.ac) (Err Malformed)
-    (Ok (selector_of frame c, rest)) (le-ltb (greatest_place (Some frame.is_baseline)) c.ac a))
-  where
-    most : (b : Bool) → greatest_place (Some b) ≤ 3
-    most true = omega arith
-    most false = omega arith
+destinations frame least identifier None = refused Malformed (λ c is. none-some c.component is.1.0)
+destinations frame least identifier (Some place) =
+    remap (check-unless (ltb place least) Malformed (ends _ byte (λ (n : ℕ).
+    check-unless (ltb (greatest_place (Some frame.is_baseline)) (n / 16)) Malformed
+    (check-unless (ltb (greatest_place (Some frame.is_baseline)) (n % 16)) Malformed
+    (done (selector frame place (n / 16) (n % 16)))))))
+    (λ n is.
+    let code : n ≡ nibbles (n / 16) (n % 16) = omega arith in
+    let most : ℕ = greatest_place (Some frame.is_baseline) in
+    record {
+      value = record { identifier = identifier; component = place; dc = n / 16; ac = n % 16 };
+      valid = (
+        refl,
+        (
+          refl,
+          (
+            ltb-false place least is.0,
+            (ltb-false most (n / 16) is.1.1.0, ltb-false most (n % 16) is.1.1.1.0),
+          ),
+        ),
+      );
+      made = refl;
+      printed = ap (λ (k : ℕ). k ∷ []) code;
+    })
+    (λ c is.
+    let most : ℕ = greatest_place (Some frame.is_baseline) in
+    let small : most ≤ 3 = greatest-small frame.is_baseline in
+    let at : place ≡ c.component = some-same place c.component is.1.0 in
+    let n : ℕ = nibbles c.dc c.ac in
+    let d : c.dc ≤ most = is.1.1.1.0 in
+    let a : c.ac ≤ most = is.1.1.1.1 in
+    let high : n / 16 ≡ c.dc = nibbles-high c.dc c.ac (omega arith) in
+    let low : n % 16 ≡ c.ac = nibbles-low c.dc c.ac (omega arith) in
+    record {
+      value = n;
+      valid = (
+        ap (λ (p : ℕ). ltb p least) at ∙ le-ltb c.component least is.1.1.0,
+        (
+          tt,
+          (ap (ltb most) high ∙ le-ltb most c.dc d, (ap (ltb most) low ∙ le-ltb most c.ac a, tt)),
+        ),
+      );
+      made = ap₂ (λ (d a : ℕ). selector frame c.component d a) (sym high) (sym low)
+          ∙ ap (λ (p : ℕ). selector frame p (n / 16) (n % 16)) (sym at);
+      printed = refl;
+    })
 
-selector-read : (frame : Frame) (least : ℕ) (c : Choice) (rest : List ℕ) → IsChoice frame least c
-    → selector_at frame least (choice_bytes c ++ rest) ≡ Ok (selector_of frame c, rest)
+choice : (frame : Frame) (least : ℕ)
+    → Codec (selector_at frame least) (selector_of frame) choice_bytes (IsChoice frame least)
 unfolding selector_at
-selector-read frame least c rest is =
-    rw is.identified (not-refused (ltb c.component least) (Err Malformed) _ (le-ltb c.component least is.ordered)
-    ∙ tables-read frame c rest is.dc_placed is.ac_placed)
+choice frame least = remap (bind _ byte (λ (i : ℕ).
+    destinations frame least i (place_of frame.components i)))
+    (λ x is.
+    let c : Choice = x.1 in
+    record {
+      value = c;
+      valid = record {
+        identified = ap (place_of frame.components) is.1.0 ∙ is.1.1.0;
+        ordered = is.1.1.1.0;
+        dc_placed = is.1.1.1.1.0;
+        ac_placed = is.1.1.1.1.1;
+      };
+      made = refl;
+      printed = ap (λ (i : ℕ). i ∷ nibbles c.dc c.ac ∷ []) (sym is.1.0);
+    })
+    (λ c is. record {
+      value = (c.identifier, c);
+      valid = (tt, (refl, (is.identified, (is.ordered, (is.dc_placed, is.ac_placed)))));
+      made = refl;
+      printed = refl;
+    })
 
-selectors-read : (frame : Frame) (front : List Selector) (least : ℕ) (cs : List Choice) (rest : List ℕ)
-    → AreChoices frame least cs
-    → selectors_from frame (length cs) front least (flat_map choice_bytes cs ++ rest)
-    ≡ Ok (front ++ map (selector_of frame) cs, rest)
+-- n components, the first of which stands at least at this place
+abbrev Choose : Frame → ℕ → ℕ → List Choice → Type 0
+Choose frame n least cs = (length cs ≡ n) × AreChoices frame least cs
+
+choices : (frame : Frame) (n : ℕ) (front : List Selector) (least : ℕ)
+    → Codec (selectors_from frame n front least)
+    (λ (cs : List Choice). front ++ map (selector_of frame) cs) (flat_map choice_bytes)
+    (Choose frame n least)
 unfolding selectors_from AreChoices
-selectors-read frame front least [] rest all = ap (λ (l : List Selector). Ok (l, rest)) (sym (append-nil front))
-selectors-read frame front least (c ∷ cs) rest all =
-    let more = flat_map choice_bytes cs ++ rest in
-    read-on (selector_at frame least (choice_bytes c ++ more)) _ (selector_of frame c) more _
-    (selector-read frame least c more all.0)
-    (selectors-read frame (front ++ selector_of frame c ∷ []) (c.component + 1) cs rest all.1
-    ∙ ap (λ (l : List Selector). Ok (l, rest))
-    (append_assoc front (selector_of frame c ∷ []) (map (selector_of frame) cs)))
+choices frame zero front least = remap (done front)
+    (λ x is. record { value = []; valid = (refl, tt); made = sym (append-nil front); printed = refl })
+    (λ cs is. none cs is.0)
+  where
+    none : (cs : List Choice) → length cs ≡ 0
+        → As (λ (cs : List Choice). front ++ map (selector_of frame) cs) (flat_map choice_bytes)
+        (λ (u : Unit {0}). front) (λ (u : Unit {0}). []) (λ (u : Unit {0}). Unit {0}) cs
+    none [] e = record { value = tt; valid = tt; made = append-nil front; printed = refl }
+    none (c ∷ cs) e = absurd (omega (arith, e))
+choices frame (suc n) front least = remap (bind (λ (s : Selector).
+    selectors_from frame n (front ++ s ∷ []) (s.component + 1)) (choice frame least) (λ (c : Choice).
+    choices frame n (front ++ selector_of frame c ∷ []) (c.component + 1)))
+    (λ x is. record {
+      value = x.0 ∷ x.1;
+      valid = (ap suc is.1.0, (is.0, is.1.1));
+      made = append_assoc front (selector_of frame x.0 ∷ []) (map (selector_of frame) x.1);
+      printed = refl;
+    })
+    some
+  where
+    some : (cs : List Choice) → Choose frame (suc n) least cs
+        → As (λ (cs : List Choice). front ++ map (selector_of frame) cs) (flat_map choice_bytes)
+        (λ (x : Choice × List Choice).
+        (front ++ selector_of frame x.0 ∷ []) ++ map (selector_of frame) x.1)
+        (λ (x : Choice × List Choice). choice_bytes x.0 ++ flat_map choice_bytes x.1)
+        (λ (x : Choice × List Choice).
+        IsChoice frame least x.0 × Choose frame n (x.0.component + 1) x.1) cs
+    some [] is = absurd (omega (arith, is.0))
+    some (c ∷ cs) is = record {
+      value = (c, cs);
+      valid = (is.1.0, (omega (arith, is.0), is.1.1));
+      made = sym (append_assoc front (selector_of frame c ∷ []) (map (selector_of frame) cs));
+      printed = refl;
+    }
+
+-- the length and the number of components
+count : Codec count_at (λ (n : ℕ). n) (λ (n : ℕ). u16_bytes (4 + 2 * n + 2) ++ (n ∷ []))
+    (λ (n : ℕ). (1 ≤ n) × (n ≤ 4))
+unfolding count_at
+count = remap (bind _ length-field (λ (left : ℕ). check-unless (eqb left 0) Malformed
+    (ends _ byte (λ (n : ℕ). check-unless (eqb n 0) Malformed (check-unless (ltb 4 n) Malformed
+    (check-if (eqb left (4 + 2 * n)) Malformed (done n)))))))
+    (λ x is.
+    let r = is.1.1.1 in
+    record {
+      value = x.1;
+      valid = (some-number x.1 r.0, ltb-false 4 x.1 r.1.0);
+      made = refl;
+      printed = ap (λ (l : ℕ). u16_bytes (l + 2) ++ (x.1 ∷ [])) (eqb-true x.0 (4 + 2 * x.1) r.1.1.0);
+    })
+    (λ n is. record {
+      value = (4 + 2 * n, n);
+      valid = (
+        tt,
+        (
+          ne_eqb (4 + 2 * n) 0 (λ e. omega (arith, e)),
+          (
+            tt,
+            (
+              ne_eqb n 0 (λ e. omega (arith, e, is.0)),
+              (le-ltb 4 n is.1, (eq-eqb (4 + 2 * n) (4 + 2 * n) refl, tt)),
+            ),
+          ),
+        ),
+      );
+      made = refl;
+      printed = refl;
+    })
 
 choices-length : (cs : List Choice) → length (flat_map choice_bytes cs) ≡ 2 * length cs
 choices-length [] = omega arith
-choices-length (c ∷ cs) = let i =
-    choices-length cs in omega (arith, length-append (choice_bytes c) (flat_map choice_bytes cs))
+choices-length (c ∷ cs) =
+    omega (arith, choices-length cs, length-append (choice_bytes c) (flat_map choice_bytes cs))
 
-abbrev levels_bytes : ScanHeader → List ℕ
-levels_bytes h = h.first ∷ h.last ∷ nibbles h.high h.low ∷ []
-
-scan-length : (h : ScanHeader) → length (scan_payload h) ≡ 4 + 2 * length h.choices
-unfolding scan_payload
-scan-length h = omega
-    (arith, choices-length h.choices, length-append (flat_map choice_bytes h.choices) (levels_bytes h))
-
-abbrev count_after : ℕ → List ℕ → Outcome ℕ
-count_after left bytes = do
-  count ← next_byte bytes
-  if eqb count.0 0 then Err Malformed else (if ltb 4 count.0 then Err Malformed else (
-      if eqb left (4 + 2 * count.0) then Ok (count.0, count.1) else Err Malformed))
-
-components-count : (left : ℕ) (h : ScanHeader) (rest : List ℕ) → 1 ≤ length h.choices → length h.choices ≤ 4
-    → left ≡ 4 + 2 * length h.choices
-    → count_after left (scan_payload h ++ rest)
-    ≡ Ok (length h.choices, (flat_map choice_bytes h.choices ++ levels_bytes h) ++ rest)
-unfolding scan_payload
-components-count left h rest some most e =
-    not-refused (eqb (length h.choices) 0) (Err Malformed) _ (ne_eqb (length h.choices) 0 (λ e. omega arith))
-    ∙ not-refused (ltb 4 (length h.choices)) (Err Malformed) _ (le-ltb 4 (length h.choices) most)
-    ∙ kept (eqb left (4 + 2 * length h.choices)) _ (Err Malformed) (eq-eqb left (4 + 2 * length h.choices) e)
-
-count-read : (h : ScanHeader) (rest : List ℕ) → 1 ≤ length h.choices → length h.choices ≤ 4
-    → count_at (sized (scan_payload h) ++ rest)
-    ≡ Ok (length h.choices, (flat_map choice_bytes h.choices ++ levels_bytes h) ++ rest)
-unfolding count_at
-count-read h rest some most =
-    let n : length (scan_payload h) ≡ 4 + 2 * length h.choices = scan-length h in
-    sized-read (scan_payload h) rest _
-    ∙ not-refused (eqb (length (scan_payload h)) 0) (Err Malformed) _
-    (ne_eqb (length (scan_payload h)) 0 (λ e. omega arith))
-    ∙ components-count (length (scan_payload h)) h rest some most n
-
-length-selectors : (frame : Frame) (cs : List Choice) → length (map (selector_of frame) cs) ≡ length cs
+length-selectors : (frame : Frame) (cs : List Choice)
+    → length (map (selector_of frame) cs) ≡ length cs
 length-selectors frame [] = refl
 length-selectors frame (c ∷ cs) = ap suc (length-selectors frame cs)
 
-band-read : (frame : Frame) (h : ScanHeader) (rest : List ℕ) → IsScan frame h
-    → band_at frame (map (selector_of frame) h.choices) (h.first ∷ h.last ∷ nibbles h.high h.low ∷ rest)
-    ≡ Ok (scan_written frame h, rest)
-unfolding band_at
-band-read frame h rest is =
-    let levels = nibbles h.high h.low in
-    let high : levels / 16 ≡ h.high = nibbles-high h.high h.low is.narrow in
-    let low : levels % 16 ≡ h.low = nibbles-low h.high h.low is.narrow in
-    let precise : ltb (levels % 16) frame.precision ≡ true = ap (λ (x : ℕ). ltb x frame.precision) low ∙ is.precise in
-    let band : is_band frame.process (length (map (selector_of frame) h.choices)) h.first h.last (levels / 16)
-    (levels % 16) ≡ true
-    = ap (λ (x : ℕ). is_band frame.process x h.first h.last (levels / 16) (levels % 16))
-    (length-selectors frame h.choices)
-    ∙ ap (λ (x : ℕ). is_band frame.process (length h.choices) h.first h.last x (levels % 16)) high
-    ∙ ap (λ (x : ℕ). is_band frame.process (length h.choices) h.first h.last h.high x) low ∙ is.band in
-    kept (ltb (levels % 16) frame.precision) _ (Err Malformed) precise
-    ∙ kept (is_band frame.process (length (map (selector_of frame) h.choices)) h.first h.last (levels / 16)
-    (levels % 16)) _ (Err Malformed) band
+-- the coefficients and the levels
+abbrev levels_bytes : ScanHeader → List ℕ
+levels_bytes h = h.first ∷ h.last ∷ nibbles h.high h.low ∷ []
+
+scan-length : (h : ScanHeader)
+    → length (length h.choices ∷ (flat_map choice_bytes h.choices ++ levels_bytes h))
+    ≡ 4 + 2 * length h.choices
+scan-length h =
+    omega (arith, choices-length h.choices, length-append (flat_map choice_bytes h.choices) (levels_bytes h))
+
+pub sos : (frame : Frame)
+    → Codec (sos_at frame) (scan_written frame) (λ (h : ScanHeader). sized (scan_payload h))
+    (IsScan frame)
+unfolding sos_at band_at scan_payload
+sos frame = remap (bind _ count (λ (n : ℕ). bind (λ (ss : List Selector) (bytes : List ℕ).
+    cond (is_mcu ss) (band_at frame ss bytes) (Err Malformed)) (choices frame n [] 0)
+    (λ (cs : List Choice). check-if (is_mcu (map (selector_of frame) cs)) Malformed
+    (bind _ byte (λ (first : ℕ). bind _ byte (λ (last : ℕ). ends _ byte (λ (levels : ℕ).
+    check-if (ltb (levels % 16) frame.precision) Malformed
+    (check-if (is_band frame.process (length (map (selector_of frame) cs)) first last (levels / 16)
+    (levels % 16)) Malformed
+    (done (scan_of frame (map (selector_of frame) cs) first last levels))))))))))
+    (λ x is.
+    let cs : List Choice = x.1.0 in
+    let first : ℕ = x.1.1.0 in
+    let last : ℕ = x.1.1.1.0 in
+    let l : ℕ = x.1.1.1.1 in
+    let code : l ≡ nibbles (l / 16) (l % 16) = omega arith in
+    let h : ScanHeader = record {
+      choices = cs;
+      first = first;
+      last = last;
+      high = l / 16;
+      low = l % 16;
+    } in
+    let n : length cs ≡ x.0 = is.1.0.0 in
+    let r = is.1.1.1.1.1.1 in
+    record {
+      value = h;
+      valid = record {
+        some = omega (arith, n, is.0.0);
+        most = omega (arith, n, is.0.1);
+        choices = is.1.0.1;
+        fits = is.1.1.0;
+        narrow = omega arith;
+        precise = r.0;
+        band = ap (λ (k : ℕ). is_band frame.process k first last (l / 16) (l % 16))
+            (sym (length-selectors frame cs)) ∙ r.1.0;
+      };
+      made = ap (scan_of frame (map (selector_of frame) cs) first last) code;
+      printed = ap₂ (λ (k m : ℕ). (u16_bytes (4 + 2 * k + 2) ++ (k ∷ []))
+          ++ (flat_map choice_bytes cs ++ (first ∷ last ∷ m ∷ []))) (sym n) code
+          ∙ ap (λ (k : ℕ). u16_bytes (k + 2)
+          ++ (length cs ∷ (flat_map choice_bytes cs ++ levels_bytes h))) (sym (scan-length h));
+    })
+    (λ h is.
+    let cs : List Choice = h.choices in
+    let l : ℕ = nibbles h.high h.low in
+    let high : l / 16 ≡ h.high = nibbles-high h.high h.low is.narrow in
+    let low : l % 16 ≡ h.low = nibbles-low h.high h.low is.narrow in
+    record {
+      value = (length cs, (cs, (h.first, (h.last, l))));
+      valid = (
+        (is.some, is.most),
+        (
+          (refl, is.choices),
+          (
+            is.fits,
+            (
+              tt,
+              (
+                tt,
+                (
+                  tt,
+                  (
+                    ap (λ (k : ℕ). ltb k frame.precision) low ∙ is.precise,
+                    (
+                      ap₂ (λ (a b : ℕ). is_band frame.process
+                          (length (map (selector_of frame) cs)) h.first h.last a b) high low
+                          ∙ ap (λ (k : ℕ). is_band frame.process k h.first h.last h.high h.low)
+                          (length-selectors frame cs) ∙ is.band,
+                      tt,
+                    ),
+                  ),
+                ),
+              ),
+            ),
+          ),
+        ),
+      );
+      made = refl;
+      printed = ap (λ (k : ℕ). u16_bytes (k + 2)
+          ++ (length cs ∷ (flat_map choice_bytes cs ++ levels_bytes h))) (scan-length h);
+    })
 
 pub sos-read : (frame : Frame) (h : ScanHeader) (rest : List ℕ) → IsScan frame h
     → sos_at frame (sized (scan_payload h) ++ rest) ≡ Ok (scan_written frame h, rest)
-unfolding sos_at
-sos-read frame h rest is =
-    let levels = levels_bytes h ++ rest in
-    read-on (count_at (sized (scan_payload h) ++ rest)) _ (length h.choices)
-    ((flat_map choice_bytes h.choices ++ levels_bytes h) ++ rest) _ (count-read h rest is.some is.most)
-    (ap (λ (b : List ℕ). selectors_from frame (length h.choices) [] 0 b >>= λ (selectors : List Selector × List ℕ).
-    if is_mcu selectors.0 then band_at frame selectors.0 selectors.1 else Err Malformed)
-    (append_assoc (flat_map choice_bytes h.choices) (levels_bytes h) rest)
-    ∙ read-on (selectors_from frame (length h.choices) [] 0 (flat_map choice_bytes h.choices ++ levels)) _
-    (map (selector_of frame) h.choices) levels _ (selectors-read frame [] 0 h.choices levels is.choices)
-    (kept (is_mcu (map (selector_of frame) h.choices)) _ (Err Malformed) is.fits ∙ band-read frame h rest is))
+sos-read frame = (sos frame).reads

@@ -7,8 +7,8 @@ pub mod FrameLemmas
 pub mod ScanLemmas
 pub mod Rows
 pub mod Fields
+pub mod Codecs
 pub mod TableSegments
 pub mod OtherSegments
 pub mod HeaderSegments
 pub mod HeaderRules
-pub mod OnlyWritten

@@ -1,102 +1,221 @@
--- Restart intervals, application data and comments that were written are read again.
-use Rattle.std.proofs.Common.{◌≡◌, ℕ, ◌≤◌, ◌-◌, Bool, true, false, cond, List, ◌++◌, length, take, drop, get_or}
-use Rattle.std.proofs.Common.{length-take, length-drop, take-append-drop, Option, Some, None, Ok, refl, sym, ap, ◌∙◌}
-use Rattle.std.proofs.Common.{subst, append_assoc, arith, eqb, ltb}
-use Rattle.std.proofs.lemmas.Bool.{lt-ltb, le-ltb, eq-eqb, ne_eqb, ltb-true, ltb-false}
-use Rattle.std.proofs.lemmas.List.{get_or-take}
-use Rattle.std.specs.Prelude.{is_some, option_map, if◌then◌else◌}
-use Rattle.jpeg_bits.specs.Reading.{next_byte, times, skip_at}
+-- Restart intervals and application data: exactly what is written is read.
+use Rattle.std.proofs.Common.{◌≡◌, ℕ, ◌≤◌, ◌<◌, ◌+◌, ◌-◌, Bool, true, false, cond, List, ◌++◌, length, take}
+use Rattle.std.proofs.Common.{drop, get_or, length-take, length-drop, length-append, take-append-drop}
+use Rattle.std.proofs.Common.{Option, Some, None, Ok, refl, sym, ap, ap₂, ◌∙◌, arith, eqb, ltb}
+use Rattle.std.proofs.lemmas.Bool.{lt-ltb, le-ltb, eqb-true, eqb-false, ltb-true, ltb-false, false≢true}
+use Rattle.std.proofs.lemmas.List.{take-append-le, take_all, get_or_append_left}
+use Rattle.std.specs.Prelude.{is_some, option_map}
+use Rattle.jpeg_bits.specs.Reading.{Malformed}
 use Rattle.jpeg_segments.specs.declared.parser.AdobeColorTransform.{AdobeColorTransform}
-use Rattle.jpeg_segments.specs.Application.{Application, Adobe, application_by, begins_with, adobe_name, transform_by}
-use Rattle.jpeg_segments.specs.Application.{passed_over, adobe_by, adobe_at, application_14, payload_at, app_at, dri_at}
+use Rattle.jpeg_segments.specs.Application.{Application, Adobe, application_by, begins_with}
+use Rattle.jpeg_segments.specs.Application.{adobe_name, transform_by, passed_over, adobe_by, adobe_at}
+use Rattle.jpeg_segments.specs.Application.{application_14, payload_at, app_at, dri_at}
 use Rattle.jpeg_segments.specs.WrittenSegments.{u16_bytes, sized, is_adobe, said_by, IsApplication}
-use Rattle.jpeg_segments.proofs.Fields.{read-on, u16-read, sized-read, bytes-read, skip-read}
+use Rattle.jpeg_segments.proofs.ApplicationLemmas.{read-skipped}
+use Rattle.jpeg_segments.proofs.Codecs.{Codec, bind, ends, check-if, choose, done, remap, same, refused}
+use Rattle.jpeg_segments.proofs.Codecs.{u16, many, segment, length-field}
+
+pub dri : Codec dri_at (λ (n : ℕ). n) (λ (n : ℕ). sized (u16_bytes n)) (λ (n : ℕ). Unit {0})
+unfolding dri_at
+dri = remap (bind _ length-field (λ (left : ℕ). check-if (eqb left 2) Malformed u16))
+    (λ x is. record {
+      value = x.1;
+      valid = tt;
+      made = refl;
+      printed = ap (λ (k : ℕ). u16_bytes (k + 2) ++ u16_bytes x.1) (eqb-true x.0 2 is.1.0);
+    })
+    (λ n is. record { value = (2, n); valid = (tt, (refl, tt)); made = refl; printed = refl })
 
 pub dri-read : (n : ℕ) (rest : List ℕ) → dri_at (sized (u16_bytes n) ++ rest) ≡ Ok (n, rest)
-unfolding dri_at
-dri-read n rest = sized-read (u16_bytes n) rest _ ∙ u16-read n rest
+dri-read n rest = dri.reads n rest tt
 
-passed-read : (xs rest : List ℕ) (said : Option Application) (left : ℕ) → left ≡ length xs
-    → passed_over left said (xs ++ rest) ≡ Ok (said, rest)
-passed-read xs rest said left e =
-    ap (λ (n : ℕ). passed_over n said (xs ++ rest)) e
-    ∙ read-on (skip_at (length xs) (xs ++ rest)) _ tt rest _ (skip-read xs rest) refl
+-- ---- application data
 
-by-read : (xs rest : List ℕ) (transform : Option AdobeColorTransform) (left : ℕ) → left ≡ length xs
-    → is_some transform ≡ true → adobe_by left transform (xs ++ rest) ≡ Ok (option_map Adobe transform, rest)
-by-read xs rest None left e h = absurd (let n : ⊥ = cc in n)
-by-read xs rest (Some t) left e h = passed-read xs rest (Some (Adobe t)) left e
+-- bytes that are passed over
+passed : (left : ℕ) (said : Option Application)
+    → Codec (passed_over left said) (λ (xs : List ℕ). said) (λ (xs : List ℕ). xs)
+    (λ (xs : List ℕ). length xs ≡ left)
+passed left said = remap (same (passed_over left said) (λ bytes. sym (read-skipped left said bytes))
+    (ends _ (many left) (λ (xs : List ℕ). done said)))
+    (λ xs is. record { value = xs; valid = is.0; made = refl; printed = refl })
+    (λ xs is. record { value = xs; valid = (is, tt); made = refl; printed = refl })
 
--- the first twelve bytes
-twelve : (payload rest : List ℕ) → 12 ≤ length payload
-    → times 12 next_byte (payload ++ rest) ≡ Ok (take 12 payload, drop 12 payload ++ rest)
-twelve payload rest h =
-    let n : length (take 12 payload) ≡ 12 = omega (arith, length-take 12 payload) in
-    let parts : payload ++ rest ≡ take 12 payload ++ (drop 12 payload ++ rest) =
-    ap (λ (l : List ℕ). l ++ rest) (sym (take-append-drop 12 payload))
-    ∙ append_assoc (take 12 payload) (drop 12 payload) rest in
-    ap (times 12 next_byte) parts
-    ∙ subst (λ (k : ℕ). times k next_byte (take 12 payload ++ (drop 12 payload ++ rest))
-    ≡ Ok (take 12 payload, drop 12 payload ++ rest)) n (bytes-read (take 12 payload) (drop 12 payload ++ rest))
+-- bytes after a transform
+transformed : (left : ℕ) (transform : Option AdobeColorTransform)
+    → Codec (adobe_by left transform) (λ (xs : List ℕ). option_map Adobe transform)
+    (λ (xs : List ℕ). xs) (λ (xs : List ℕ). (is_some transform ≡ true) × (length xs ≡ left))
+transformed left None = refused Malformed (λ xs is. false≢true is.0)
+transformed left (Some t) = remap (passed left (Some (Adobe t)))
+    (λ xs is. record { value = xs; valid = (refl, is); made = refl; printed = refl })
+    (λ xs is. record { value = xs; valid = is.1; made = refl; printed = refl })
 
--- what a payload of APP14 says
+-- what begins a payload of APP14 says
+abbrev head_says : Bool → List ℕ → Option Application
+head_says b head = cond b (option_map Adobe (transform_by (get_or head 11 0))) None
+
+abbrev names : Bool → List ℕ → Type 0
+names b head = b ≡ true → is_some (transform_by (get_or head 11 0)) ≡ true
+
+-- what a payload of APP14 says, and the rule that it keeps
 abbrev said_14 : List ℕ → Option Application
-said_14 payload = if is_adobe payload then option_map Adobe (transform_by (get_or payload 11 0)) else None
+said_14 payload = head_says (is_adobe payload) payload
 
-long-read : (payload rest : List ℕ) → 12 ≤ length payload
-    → (begins_with (take 12 payload) adobe_name ≡ true → is_some (transform_by (get_or payload 11 0)) ≡ true)
-    → adobe_at (length payload) (payload ++ rest)
-    ≡ Ok (
-      cond (begins_with (take 12 payload) adobe_name)
-          (option_map Adobe (transform_by (get_or payload 11 0))) None,
-      rest,
-    )
+-- the first twelve bytes, and the others
+halves : (left : ℕ)
+    → Codec (adobe_at left)
+    (λ (x : List ℕ × List ℕ). head_says (begins_with x.0 adobe_name) x.0)
+    (λ (x : List ℕ × List ℕ). x.0 ++ x.1)
+    (λ (x : List ℕ × List ℕ). (length x.0 ≡ 12)
+    × (names (begins_with x.0 adobe_name) x.0 × (length x.1 ≡ left - 12)))
 unfolding adobe_at
-long-read payload rest h named =
-    let left : length payload - 12 ≡ length (drop 12 payload) = sym (length-drop 12 payload) in
-    let at : get_or (take 12 payload) 11 0 ≡ get_or payload 11 0 = get_or-take 12 payload 11 0 (omega arith) in
-    read-on (times 12 next_byte (payload ++ rest)) _ (take 12 payload) (drop 12 payload ++ rest) _
-    (twelve payload rest h)
-    (ap (λ (x : ℕ). cond (begins_with (take 12 payload) adobe_name)
-    (adobe_by (length payload - 12) (transform_by x) (drop 12 payload ++ rest))
-    (passed_over (length payload - 12) None (drop 12 payload ++ rest))) at
-    ∙ go (begins_with (take 12 payload) adobe_name) named left)
-  where
-    go : (b : Bool) → (b ≡ true → is_some (transform_by (get_or payload 11 0)) ≡ true)
-        → length payload - 12 ≡ length (drop 12 payload)
-        → cond b (adobe_by (length payload - 12) (transform_by (get_or payload 11 0)) (drop 12 payload ++ rest))
-        (passed_over (length payload - 12) None (drop 12 payload ++ rest))
-        ≡ Ok (cond b (option_map Adobe (transform_by (get_or payload 11 0))) None, rest)
-    go true n left = by-read (drop 12 payload) rest (transform_by (get_or payload 11 0)) (length payload - 12) left
-        (n refl)
-    go false n left = passed-read (drop 12 payload) rest None (length payload - 12) left
+halves left = bind _ (many 12) (λ (head : List ℕ). choose (begins_with head adobe_name)
+    (λ t. remap (transformed (left - 12) (transform_by (get_or head 11 0)))
+    (λ xs is. record {
+      value = xs;
+      valid = ((λ q. is.0), is.1);
+      made = sym (ap (λ (b : Bool). head_says b head) t);
+      printed = refl;
+    })
+    (λ xs is. record {
+      value = xs;
+      valid = (is.0 t, is.1);
+      made = ap (λ (b : Bool). head_says b head) t;
+      printed = refl;
+    }))
+    (λ f. remap (passed (left - 12) None)
+    (λ xs is. record {
+      value = xs;
+      valid = ((λ q. absurd (false≢true (sym f ∙ q))), is);
+      made = sym (ap (λ (b : Bool). head_says b head) f);
+      printed = refl;
+    })
+    (λ xs is. record {
+      value = xs;
+      valid = is.1;
+      made = ap (λ (b : Bool). head_says b head) f;
+      printed = refl;
+    })))
 
-adobe-read : (payload rest : List ℕ) → (is_adobe payload ≡ true → is_some (transform_by (get_or payload 11 0)) ≡ true)
-    → application_14 (length payload) (payload ++ rest) ≡ Ok (said_14 payload, rest)
+-- what begins a payload of at least twelve bytes is its first twelve
+record Begun (head tail : List ℕ) : Type 0 where
+  test : is_adobe (head ++ tail) ≡ begins_with head adobe_name
+  twelfth : get_or (head ++ tail) 11 0 ≡ get_or head 11 0
+
+begun : (head tail : List ℕ) → length head ≡ 12 → Begun head tail
+begun head tail h = record {
+  test = ap (λ (b : Bool). cond b false (begins_with (take 12 (head ++ tail)) adobe_name))
+      (le-ltb (length (head ++ tail)) 12 (omega (arith, h, length-append head tail)))
+      ∙ ap (λ (l : List ℕ). begins_with l adobe_name)
+      (take-append-le 12 head tail (omega (arith, h)) ∙ take_all 12 head (omega (arith, h)));
+  twelfth = get_or_append_left head tail 0 11 (omega (arith, h));
+}
+
+-- a payload of this many bytes, of which Adobe's names a transform
+abbrev Is14 : ℕ → List ℕ → Type 0
+Is14 left payload = names (is_adobe payload) payload × (length payload ≡ left)
+
+long : (left : ℕ) → 12 ≤ left
+    → Codec (adobe_at left) said_14 (λ (payload : List ℕ). payload) (Is14 left)
+long left enough = remap (halves left)
+    (λ x is.
+    let b = begun x.0 x.1 is.0 in
+    record {
+      value = x.0 ++ x.1;
+      valid = (
+        (λ q. ap (λ (n : ℕ). is_some (transform_by n)) b.twelfth ∙ is.1.0 (sym b.test ∙ q)),
+        omega (arith, enough, is.0, is.1.1, length-append x.0 x.1),
+      );
+      made = ap₂ (λ (t : Bool) (n : ℕ). cond t (option_map Adobe (transform_by n)) None)
+          (sym b.test) (sym b.twelfth);
+      printed = refl;
+    })
+    (λ payload is.
+    let parts : take 12 payload ++ drop 12 payload ≡ payload = take-append-drop 12 payload in
+    let head : length (take 12 payload) ≡ 12 = omega (arith, enough, is.1, length-take 12 payload) in
+    let b = begun (take 12 payload) (drop 12 payload) head in
+    let test : is_adobe payload ≡ begins_with (take 12 payload) adobe_name =
+    sym (ap (λ (l : List ℕ). is_adobe l) parts) ∙ b.test in
+    let twelfth : get_or payload 11 0 ≡ get_or (take 12 payload) 11 0 =
+    sym (ap (λ (l : List ℕ). get_or l 11 0) parts) ∙ b.twelfth in
+    record {
+      value = (take 12 payload, drop 12 payload);
+      valid = (
+        head,
+        (
+          (λ q. sym (ap (λ (n : ℕ). is_some (transform_by n)) twelfth) ∙ is.0 (test ∙ q)),
+          omega (arith, is.1, length-drop 12 payload),
+        ),
+      );
+      made = ap₂ (λ (t : Bool) (n : ℕ). cond t (option_map Adobe (transform_by n)) None) test twelfth;
+      printed = sym parts;
+    })
+
+-- fewer than twelve bytes are not Adobe's
+short : (payload : List ℕ) → length payload < 12 → is_adobe payload ≡ false
+short payload few =
+    ap (λ (b : Bool). cond b false (begins_with (take 12 payload) adobe_name))
+    (lt-ltb (length payload) 12 few)
+
+fourteen : (left : ℕ)
+    → Codec (application_14 left) said_14 (λ (payload : List ℕ). payload) (Is14 left)
 unfolding application_14
-adobe-read payload rest named = go (ltb (length payload) 12) refl named
-  where
-    go : (b : Bool) → ltb (length payload) 12 ≡ b
-        → (cond b false (begins_with (take 12 payload) adobe_name) ≡ true
-        → is_some (transform_by (get_or payload 11 0)) ≡ true)
-        → cond b (passed_over (length payload) None (payload ++ rest)) (adobe_at (length payload) (payload ++ rest))
-        ≡ Ok (
-          cond (cond b false (begins_with (take 12 payload) adobe_name))
-              (option_map Adobe (transform_by (get_or payload 11 0))) None,
-          rest,
-        )
-    go true e n = passed-read payload rest None (length payload) refl
-    go false e n = long-read payload rest (ltb-false (length payload) 12 e) n
+fourteen left = choose (ltb left 12)
+    (λ t.
+    let few : left < 12 = ltb-true left 12 t in
+    remap (passed left None)
+    (λ xs is.
+    let none : is_adobe xs ≡ false = short xs (omega (arith, few, is)) in
+    record {
+      value = xs;
+      valid = ((λ q. absurd (false≢true (sym none ∙ q))), is);
+      made = sym (ap (λ (b : Bool). head_says b xs) none);
+      printed = refl;
+    })
+    (λ xs is. record {
+      value = xs;
+      valid = is.1;
+      made = ap (λ (b : Bool). head_says b xs) (short xs (omega (arith, few, is.1)));
+      printed = refl;
+    }))
+    (λ f. long left (ltb-false left 12 f))
+
+-- the rule of an APPn segment
+abbrev pub Names : ℕ → List ℕ → Type 0
+Names number payload = number ≡ 14 → names (is_adobe payload) payload
+
+abbrev says : Bool → ℕ → List ℕ → Option Application
+says b number payload = cond b (said_14 payload) (application_by number payload)
+
+pub app : (number : ℕ) → Codec (app_at number) (said_by number) sized (Names number)
+unfolding app_at payload_at said_by
+app number = segment _ (λ (left : ℕ). choose (eqb number 14)
+    (λ t. remap (fourteen left)
+    (λ xs is. record {
+      value = xs;
+      valid = ((λ q. is.0), is.1);
+      made = sym (ap (λ (b : Bool). says b number xs) t);
+      printed = refl;
+    })
+    (λ xs is. record {
+      value = xs;
+      valid = (is.0 (eqb-true number 14 t), is.1);
+      made = ap (λ (b : Bool). says b number xs) t;
+      printed = refl;
+    }))
+    (λ f. remap (ends _ (many left) (λ (xs : List ℕ). done (application_by number xs)))
+    (λ xs is. record {
+      value = xs;
+      valid = ((λ q. absurd (eqb-false number 14 f q)), is.0);
+      made = sym (ap (λ (b : Bool). says b number xs) f);
+      printed = refl;
+    })
+    (λ xs is. record {
+      value = xs;
+      valid = (is.1, tt);
+      made = ap (λ (b : Bool). says b number xs) f;
+      printed = refl;
+    })))
 
 pub app-read : (number : ℕ) (payload rest : List ℕ) → IsApplication number payload
     → app_at number (sized payload ++ rest) ≡ Ok (said_by number payload, rest)
-unfolding app_at payload_at said_by
-app-read number payload rest is = sized-read payload rest _ ∙ go (eqb number 14) refl
-  where
-    go : (b : Bool) → eqb number 14 ≡ b
-        → cond b (application_14 (length payload) (payload ++ rest))
-        (payload_at number (length payload) (payload ++ rest))
-        ≡ Ok (cond b (said_14 payload) (application_by number payload), rest)
-    go true e = adobe-read payload rest (λ a. is.named (Rattle.std.proofs.lemmas.Bool.eqb-true number 14 e) a)
-    go false e = read-on (times (length payload) next_byte (payload ++ rest)) _ payload rest _
-        (bytes-read payload rest) refl
+app-read number payload rest is = (app number).reads payload rest is.named

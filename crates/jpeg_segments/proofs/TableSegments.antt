@@ -1,40 +1,45 @@
--- Segments of tables that were written are read again.
-use Rattle.std.proofs.Common.{◌≡◌, ℕ, zero, suc, ◌≤◌, ◌<◌, ◌+◌, ◌-◌, ◌*◌, ◌/◌, ◌%◌, Bool, true, false, List, [], ◌∷◌}
-use Rattle.std.proofs.Common.{◌++◌, length, set, length-append, Option, Some, None, Ok, Err, refl, ap, ◌∙◌, subst}
-use Rattle.std.proofs.Common.{append_assoc, arith, eqb, fold}
-use Rattle.std.proofs.lemmas.Bool.{le-ltb, ne_eqb}
+-- Segments of tables: exactly what is written is read.
+use Rattle.std.proofs.Common.{◌≡◌, ℕ, zero, suc, ◌≤◌, ◌<◌, ◌+◌, ◌-◌, ◌*◌, ◌/◌, ◌%◌, Bool, true}
+use Rattle.std.proofs.Common.{false, cond, List, [], ◌∷◌, ◌++◌, length, set, length-append, Option}
+use Rattle.std.proofs.Common.{Some, None, Ok, Err, refl, sym, ap, ap₂, ◌∙◌, arith, eqb, ltb, fold}
+use Rattle.std.proofs.lemmas.Bool.{le-ltb, ltb-false, ltb-true, ne_eqb, eq-eqb, eqb-true}
+use Rattle.std.proofs.lemmas.Bool.{eqb-false, or_parts}
 use Rattle.std.specs.Prelude.{flat_map, sum}
 use Rattle.std.specs.List.{AllByRecursion, list_any}
-use Rattle.jpeg_bits.specs.Reading.{Malformed, ◌>>=◌, next_byte, times}
-use Rattle.jpeg_bits.specs.Codes.{code_lengths, codes_exist}
+use Rattle.jpeg_bits.specs.Reading.{Malformed}
+use Rattle.jpeg_bits.specs.Codes.{Table, code_lengths, codes_exist}
 use Rattle.jpeg_bits.specs.declared.codes.HuffmanTableClass.{HuffmanTableClass}
 use Rattle.jpeg_bits.specs.declared.codes.HuffmanTableClass.TheVariants as classes
-use Rattle.jpeg_bits.proofs.Tables.{exist-tested}
+use Rattle.jpeg_bits.proofs.Tables.{exist-tested, tested-exist}
 use Rattle.jpeg_segments.specs.Quantization as quantization
 use Rattle.jpeg_segments.specs.Quantization.{value_at, table_at, table_size, placed_table_at, dqt_at}
-use Rattle.jpeg_segments.specs.HuffmanTables.{Tables, PlacedTable, size_of, class_of, no_tables, with_table}
-use Rattle.jpeg_segments.specs.HuffmanTables.{greatest_place, symbols_at, codes_at, placed_codes_at, tables_from}
-use Rattle.jpeg_segments.specs.HuffmanTables.{dht_at}
-use Rattle.jpeg_segments.proofs.QuantizationLemmas as quantizing
-use Rattle.jpeg_segments.proofs.HuffmanLemmas.{tables_from-more, tables_from-rest}
-use Rattle.jpeg_segments.specs.WrittenSegments.{sized, nibbles, QuantizationTable, IsQuantizationTable, value_bytes}
-use Rattle.jpeg_segments.specs.WrittenSegments.{quantization_bytes, quantization_tables, IsHuffmanTable, class_number}
+use Rattle.jpeg_segments.specs.HuffmanTables.{Tables, PlacedTable, size_of, class_of, no_tables}
+use Rattle.jpeg_segments.specs.HuffmanTables.{with_table, greatest_place, symbols_at, codes_at}
+use Rattle.jpeg_segments.specs.HuffmanTables.{placed_codes_at, tables_from, dht_at}
+use Rattle.jpeg_segments.specs.WrittenSegments.{u16_bytes, sized, nibbles, QuantizationTable}
+use Rattle.jpeg_segments.specs.WrittenSegments.{IsQuantizationTable, value_bytes, quantization_bytes}
+use Rattle.jpeg_segments.specs.WrittenSegments.{quantization_tables, IsHuffmanTable, class_number}
 use Rattle.jpeg_segments.specs.WrittenSegments.{huffman_bytes, huffman_tables}
-use Rattle.jpeg_segments.proofs.Fields.{ReadsBytes, read-on, not-refused, kept, u16-read, sized-read, nibbles-high}
-use Rattle.jpeg_segments.proofs.Fields.{nibbles-low, times-read, bytes-read}
+use Rattle.jpeg_segments.proofs.Fields.{nibbles-high, nibbles-low}
+use Rattle.jpeg_segments.proofs.Codecs.{Codec, As, bind, ends, check-if, check-unless, choose, done}
+use Rattle.jpeg_segments.proofs.Codecs.{remap, byte, u16, several, many, units, segment, outcome}
 
 -- ---- quantization tables
 
-value-read : (p : ℕ) → p ≤ 1 → (v : ℕ) → ReadsBytes (value_at (eqb p 1)) (value_bytes p v) v
-unfolding value_at
-value-read zero h v = record { read = λ rest. refl }
-value-read (suc zero) h v = record { read = u16-read v }
-value-read (suc (suc n)) h v = absurd (omega arith)
+abbrev wide_bytes : Bool → ℕ → List ℕ
+wide_bytes is_wide v = cond is_wide (u16_bytes v) (v ∷ [])
 
-values-read : (p : ℕ) → p ≤ 1 → (vs : List ℕ)
-    → AllByRecursion (λ v. ReadsBytes (value_at (eqb p 1)) (value_bytes p v) v) vs
-values-read p h [] = tt
-values-read p h (v ∷ vs) = (value-read p h v, values-read p h vs)
+value : (is_wide : Bool)
+    → Codec (value_at is_wide) (λ (v : ℕ). v) (wide_bytes is_wide) (λ (v : ℕ). Unit {0})
+unfolding value_at
+value true = u16
+value false = byte
+
+wide-is : (p : ℕ) → p ≤ 1 → (vs : List ℕ)
+    → flat_map (wide_bytes (eqb p 1)) vs ≡ flat_map (value_bytes p) vs
+wide-is zero h vs = refl
+wide-is (suc zero) h vs = refl
+wide-is (suc (suc n)) h vs = absurd (omega arith)
 
 none-zero : (vs : List ℕ) → AllByRecursion (λ v. 0 < v) vs → list_any (λ v. eqb v 0) vs ≡ false
 none-zero [] all = refl
@@ -42,85 +47,173 @@ none-zero (v ∷ vs) all =
     let h : 0 < v = all.0 in
     rw (ne_eqb v 0 (λ e. omega arith)) (none-zero vs all.1)
 
-values-length : (p : ℕ) → p ≤ 1 → (vs : List ℕ) → length (flat_map (value_bytes p) vs) ≡ (p + 1) * length vs
+some-values : (vs : List ℕ) → list_any (λ v. eqb v 0) vs ≡ false → AllByRecursion (λ v. 0 < v) vs
+some-values [] e = tt
+some-values (v ∷ vs) e =
+    let parts = or_parts (eqb v 0) (list_any (λ v. eqb v 0) vs) e in
+    (let n = eqb-false v 0 parts.0 in grind (arith, n), some-values vs parts.1)
+
+placed : (left : ℕ)
+    → Codec (placed_table_at left)
+    (λ (t : QuantizationTable). (table_size t.precision, t.place, t.values)) quantization_bytes
+    (λ (t : QuantizationTable). IsQuantizationTable t × (table_size t.precision ≤ left))
+unfolding placed_table_at table_at quantization_bytes
+placed left = remap (bind _ byte (λ (b : ℕ).
+    check-unless (ltb 1 (b / 16)) Malformed (check-unless (ltb 3 (b % 16)) Malformed
+    (check-unless (ltb left (table_size (b / 16))) Malformed
+    (ends _ (ends _ (several (value (eqb (b / 16) 1)) 64) (λ (vs : List ℕ).
+    check-unless (list_any (λ v. eqb v 0) vs) Malformed (done vs)))
+    (λ (vs : List ℕ). done (table_size (b / 16), b % 16, vs)))))))
+    (λ x is.
+    let b : ℕ = x.0 in
+    let precise : b / 16 ≤ 1 = ltb-false 1 (b / 16) is.1.0 in
+    let code : b ≡ nibbles (b / 16) (b % 16) = omega arith in
+    record {
+      value = record { precision = b / 16; place = b % 16; values = x.1 };
+      valid = (
+        record {
+          precise = precise;
+          placed = ltb-false 3 (b % 16) is.1.1.0;
+          counted = is.1.1.1.1.0.0.0;
+          some = some-values x.1 is.1.1.1.1.0.1.0;
+        },
+        ltb-false left (table_size (b / 16)) is.1.1.1.0,
+      );
+      made = refl;
+      printed = ap₂ (λ (n : ℕ) (l : List ℕ). n ∷ l) code (wide-is (b / 16) precise x.1);
+    })
+    (λ t is.
+    let p = is.0.precise in
+    let q = is.0.placed in
+    let n : ℕ = nibbles t.precision t.place in
+    let high : n / 16 ≡ t.precision = nibbles-high t.precision t.place (omega arith) in
+    let low : n % 16 ≡ t.place = nibbles-low t.precision t.place (omega arith) in
+    record {
+      value = (n, t.values);
+      valid = (
+        tt,
+        (
+          ap (ltb 1) high ∙ le-ltb 1 t.precision p,
+          (
+            ap (ltb 3) low ∙ le-ltb 3 t.place q,
+            (
+              ap (λ (k : ℕ). ltb left (table_size k)) high ∙ le-ltb left (table_size t.precision) is.1,
+              (((is.0.counted, units t.values), (none-zero t.values is.0.some, tt)), tt),
+            ),
+          ),
+        ),
+      );
+      made = ap₂ (λ (a b : ℕ). (table_size a, b, t.values)) (sym high) (sym low);
+      printed = ap (λ (l : List ℕ). n ∷ l) (sym (wide-is t.precision p t.values)
+          ∙ ap (λ (k : ℕ). flat_map (wide_bytes (eqb k 1)) t.values) (sym high));
+    })
+
+values-length : (p : ℕ) → p ≤ 1 → (vs : List ℕ)
+    → length (flat_map (value_bytes p) vs) ≡ (p + 1) * length vs
 values-length p h [] = omega arith
-values-length zero h (v ∷ vs) = let i =
-    values-length zero h vs in omega (arith, length-append (value_bytes 0 v) (flat_map (value_bytes 0) vs))
-values-length (suc zero) h (v ∷ vs) = let i =
-    values-length (suc zero) h vs in omega (arith, length-append (value_bytes 1 v) (flat_map (value_bytes 1) vs))
+values-length zero h (v ∷ vs) =
+    omega (arith, values-length zero h vs, length-append (value_bytes 0 v) (flat_map (value_bytes 0) vs))
+values-length (suc zero) h (v ∷ vs) =
+    omega (arith, values-length (suc zero) h vs, length-append (value_bytes 1 v) (flat_map (value_bytes 1) vs))
 values-length (suc (suc n)) h (v ∷ vs) = absurd (omega arith)
 
-pub table-length : (t : QuantizationTable) → IsQuantizationTable t
+table-length : (t : QuantizationTable) → IsQuantizationTable t
     → length (quantization_bytes t) ≡ table_size t.precision
 unfolding quantization_bytes
 table-length t is =
     let n : length (flat_map (value_bytes t.precision) t.values) ≡ (t.precision + 1) * 64 =
-    values-length t.precision is.precise t.values ∙ ap (λ (x : ℕ). (t.precision + 1) * x) is.counted in
+    values-length t.precision is.precise t.values
+    ∙ ap (λ (x : ℕ). (t.precision + 1) * x) is.counted in
     omega arith
 
-table-read : (p : ℕ) (vs rest : List ℕ) → p ≤ 1 → length vs ≡ 64 → AllByRecursion (λ v. 0 < v) vs
-    → table_at (eqb p 1) (flat_map (value_bytes p) vs ++ rest) ≡ Ok (vs, rest)
-unfolding table_at
-table-read p vs rest h counted some =
-    read-on (times 64 (value_at (eqb p 1)) (flat_map (value_bytes p) vs ++ rest)) _ vs rest _
-    (subst (λ (n : ℕ). times n (value_at (eqb p 1)) (flat_map (value_bytes p) vs ++ rest) ≡ Ok (vs, rest)) counted
-    (times-read (value_at (eqb p 1)) (value_bytes p) vs rest (values-read p h vs)))
-    (not-refused (list_any (λ v. eqb v 0) vs) (Err Malformed) _ (none-zero vs some))
-
-placed-read : (t : QuantizationTable) (left : ℕ) (rest : List ℕ) → IsQuantizationTable t → table_size t.precision ≤ left
-    → placed_table_at left (quantization_bytes t ++ rest) ≡ Ok ((table_size t.precision, t.place, t.values), rest)
-unfolding placed_table_at quantization_bytes
-placed-read t left rest is room =
-    let h = is.precise in
-    let q = is.placed in
-    let high : nibbles t.precision t.place / 16 ≡ t.precision = nibbles-high t.precision t.place (omega arith) in
-    let low : nibbles t.precision t.place % 16 ≡ t.place = nibbles-low t.precision t.place (omega arith) in
-    rw (
-      high,
-      low,
-      le-ltb 1 t.precision is.precise,
-      le-ltb 3 t.place is.placed,
-      le-ltb left (table_size t.precision)
-          room,
-      table-read t.precision t.values rest is.precise is.counted is.some,
-    ) refl
-
-abbrev pub with_values : quantization.Tables → QuantizationTable → quantization.Tables
+abbrev with_values : quantization.Tables → QuantizationTable → quantization.Tables
 with_values tables t = set tables t.place (Some t.values)
 
-tables-read : (ts : List QuantizationTable) (most : ℕ) (tables : quantization.Tables) (rest : List ℕ)
-    → AllByRecursion IsQuantizationTable ts → length (flat_map quantization_bytes ts) ≤ most
-    → quantization.tables_from most (length (flat_map quantization_bytes ts)) tables (flat_map quantization_bytes ts
-    ++ rest) ≡ Ok (fold with_values tables ts, rest)
-tables-read [] most tables rest all room = quantizing.tables_from-none most tables rest
-tables-read (t ∷ ts) most tables rest all room =
-    let more = flat_map quantization_bytes ts in
-    let size : length (quantization_bytes t) ≡ table_size t.precision = table-length t all.0 in
-    let sum : length (quantization_bytes t ++ more) ≡ table_size t.precision + length more =
-    length-append (quantization_bytes t) more ∙ ap (λ (n : ℕ). n + length more) size in
-    let left : length (quantization_bytes t ++ more) - table_size t.precision ≡ length more = omega arith in
-    quantizing.tables_from-more most (length (quantization_bytes t ++ more)) tables ((quantization_bytes t ++ more)
-    ++ rest) (omega arith) room
-    ∙ ap (λ (b : List ℕ). placed_table_at (length (quantization_bytes t ++ more)) b >>= λ (x : (ℕ × ℕ × List ℕ)
-    × List ℕ). quantization.tables_from (most - 1) (length (quantization_bytes t ++ more) - x.0.0)
-    (set tables x.0.1 (Some x.0.2)) x.1)
-    (append_assoc (quantization_bytes t) more rest)
-    ∙ read-on (placed_table_at (length (quantization_bytes t ++ more)) (quantization_bytes t ++ (more ++ rest))) _
-    (table_size t.precision, t.place, t.values) (more ++ rest) _
-    (placed-read t _ (more ++ rest) all.0 (omega arith))
-    (ap (λ (n : ℕ). quantization.tables_from (most - 1) n (with_values tables t) (more ++ rest)) left
-    ∙ tables-read ts (most - 1) (with_values tables t) rest all.1 (omega arith))
+-- these tables take `left` bytes
+abbrev FillTables : ℕ → List QuantizationTable → Type 0
+FillTables left ts =
+    AllByRecursion IsQuantizationTable ts × (length (flat_map quantization_bytes ts) ≡ left)
+
+no-tables : (left : ℕ) (old : quantization.Tables) → left ≡ 0
+    → Codec (outcome old) (fold with_values old) (flat_map quantization_bytes) (FillTables left)
+no-tables left old z = remap (done old)
+    (λ x is. record { value = []; valid = (tt, sym z); made = refl; printed = refl })
+    (λ ts is. none ts is)
+  where
+    none : (ts : List QuantizationTable) → FillTables left ts
+        → As (fold with_values old) (flat_map quantization_bytes) (λ (u : Unit {0}). old)
+        (λ (u : Unit {0}). []) (λ (u : Unit {0}). Unit {0}) ts
+    none [] is = record { value = tt; valid = tt; made = refl; printed = refl }
+    none (t ∷ ts) is = absurd (omega (
+      arith,
+      z,
+      is.1,
+      table-length t is.0.0,
+      length-append (quantization_bytes t) (flat_map quantization_bytes ts),
+    ))
+
+tables : (most left : ℕ) (old : quantization.Tables) → left ≤ most
+    → Codec (quantization.tables_from most left old) (fold with_values old)
+    (flat_map quantization_bytes) (FillTables left)
+unfolding quantization.tables_from
+tables zero left old le = remap (check-if (eqb left 0) Malformed (no-tables left old (omega (arith, le))))
+    (λ ts is. record { value = ts; valid = is.1; made = refl; printed = refl })
+    (λ ts is. record {
+      value = ts;
+      valid = (eq-eqb left 0 (omega (arith, le)), is);
+      made = refl;
+      printed = refl;
+    })
+tables (suc most) left old le = choose (eqb left 0) (λ z. no-tables left old (eqb-true left 0 z))
+    (λ z. remap (bind (λ (t : ℕ × ℕ × List ℕ). quantization.tables_from most (left - t.0) (set old t.1 (Some t.2)))
+    (placed left) (λ (t : QuantizationTable).
+    tables most (left - table_size t.precision) (with_values old t) (omega (arith, le))))
+    (λ x is. record {
+      value = x.0 ∷ x.1;
+      valid = (
+        (is.0.0, is.1.0),
+        length-append (quantization_bytes x.0) (flat_map quantization_bytes x.1)
+            ∙ omega (arith, table-length x.0 is.0.0, is.0.1, is.1.1),
+      );
+      made = refl;
+      printed = refl;
+    })
+    (λ ts is. some (eqb-false left 0 z) ts is))
+  where
+    some : (left ≡ 0 → ⊥) → (ts : List QuantizationTable) → FillTables left ts
+        → As (fold with_values old) (flat_map quantization_bytes)
+        (λ (x : QuantizationTable × List QuantizationTable). fold with_values (with_values old x.0) x.1)
+        (λ (x : QuantizationTable × List QuantizationTable).
+        quantization_bytes x.0 ++ flat_map quantization_bytes x.1)
+        (λ (x : QuantizationTable × List QuantizationTable).
+        (IsQuantizationTable x.0 × (table_size x.0.precision ≤ left))
+        × FillTables (left - table_size x.0.precision) x.1) ts
+    some n [] is = absurd (n (sym is.1))
+    some n (t ∷ ts) is =
+        let size = length-append (quantization_bytes t) (flat_map quantization_bytes ts) in
+        record {
+          value = (t, ts);
+          valid = (
+            (is.0.0, omega (arith, table-length t is.0.0, size, is.1)),
+            (is.0.1, omega (arith, table-length t is.0.0, size, is.1)),
+          );
+          made = refl;
+          printed = refl;
+        }
+
+pub dqt : Codec dqt_at quantization_tables
+    (λ (ts : List QuantizationTable). sized (flat_map quantization_bytes ts))
+    (AllByRecursion IsQuantizationTable)
+unfolding dqt_at
+dqt = segment _ (λ (left : ℕ). tables left left _ (omega arith))
 
 pub dqt-read : (ts : List QuantizationTable) (rest : List ℕ) → AllByRecursion IsQuantizationTable ts
     → dqt_at (sized (flat_map quantization_bytes ts) ++ rest) ≡ Ok (quantization_tables ts, rest)
-unfolding dqt_at
-dqt-read ts rest all =
-    sized-read (flat_map quantization_bytes ts) rest _
-    ∙ tables-read ts (length (flat_map quantization_bytes ts)) _ rest all (omega arith)
+dqt-read = dqt.reads
 
 -- ---- Huffman tables
 
-pub class-read : (c : HuffmanTableClass) → class_of (class_number c) ≡ c
+class-read : (c : HuffmanTableClass) → class_of (class_number c) ≡ c
 class-read classes.DC = refl
 class-read classes.AC = refl
 
@@ -128,82 +221,185 @@ class-small : (c : HuffmanTableClass) → class_number c ≤ 1
 class-small classes.DC = omega arith
 class-small classes.AC = omega arith
 
-pub codes-length : (most : ℕ) (t : PlacedTable) → IsHuffmanTable most t → length (huffman_bytes t) ≡ size_of t
+class-number : (n : ℕ) → n ≤ 1 → class_number (class_of n) ≡ n
+class-number zero h = refl
+class-number (suc zero) h = refl
+class-number (suc (suc n)) h = absurd (omega arith)
+
+abbrev table : HuffmanTableClass → List ℕ → List ℕ → Table
+table class counts symbols = record { class = class; counts = counts; symbols = symbols }
+
+abbrev placed_table : ℕ → HuffmanTableClass → List ℕ → List ℕ → PlacedTable
+placed_table place class counts symbols =
+    record { place = place; table = table class counts symbols }
+
+placed_codes : (most left : ℕ) → most ≤ 3
+    → Codec (placed_codes_at most left) (λ (t : PlacedTable). t) huffman_bytes
+    (λ (t : PlacedTable). IsHuffmanTable most t × (size_of t ≤ left))
+unfolding placed_codes_at codes_at symbols_at huffman_bytes
+placed_codes most left few = remap (bind _ byte (λ (b : ℕ).
+    check-unless (ltb 1 (b / 16)) Malformed (check-unless (ltb most (b % 16)) Malformed
+    (ends _ (bind _ (many 16) (λ (counts : List ℕ).
+    check-unless (eqb (sum counts) 0) Malformed (check-unless (ltb 256 (sum counts)) Malformed
+    (check-unless (ltb left (17 + sum counts)) Malformed
+    (ends _ (many (sum counts)) (λ (symbols : List ℕ).
+    check-if (codes_exist (code_lengths counts)) Malformed
+    (done (table (class_of (b / 16)) counts symbols))))))))
+    (λ (x : List ℕ × List ℕ).
+    done (placed_table (b % 16) (class_of (b / 16)) x.0 x.1))))))
+    (λ x is.
+    let b : ℕ = x.0 in
+    let counts : List ℕ = x.1.0 in
+    let class : class_number (class_of (b / 16)) ≡ b / 16 =
+    class-number (b / 16) (ltb-false 1 (b / 16) is.1.0) in
+    let code : b ≡ nibbles (class_number (class_of (b / 16))) (b % 16) = omega arith in
+    let rules = is.1.1.1.0 in
+    let none = eqb-false (sum counts) 0 rules.1.0 in
+    record {
+      value = placed_table (b % 16) (class_of (b / 16)) counts x.1.1;
+      valid = (
+        record {
+          placed = ltb-false most (b % 16) is.1.1.0;
+          counted = rules.0;
+          has_symbols = rules.1.1.1.1.0;
+          some = grind (arith, none);
+          at_most = ltb-false 256 (sum counts) rules.1.1.0;
+          exists = tested-exist (code_lengths counts) rules.1.1.1.1.1.0;
+        },
+        ltb-false left (17 + sum counts) rules.1.1.1.0,
+      );
+      made = refl;
+      printed = ap (λ (k : ℕ). k ∷ (counts ++ x.1.1)) code;
+    })
+    (λ t is.
+    let class : ℕ = class_number t.table.class in
+    let counts : List ℕ = t.table.counts in
+    let n : ℕ = nibbles class t.place in
+    let q = is.0.placed in
+    let some = is.0.some in
+    let high : n / 16 ≡ class = nibbles-high class t.place (omega arith) in
+    let low : n % 16 ≡ t.place = nibbles-low class t.place (omega arith) in
+    record {
+      value = (n, (counts, t.table.symbols));
+      valid = (
+        tt,
+        (
+          ap (ltb 1) high ∙ le-ltb 1 class (class-small t.table.class),
+          (
+            ap (ltb most) low ∙ le-ltb most t.place q,
+            (
+              (
+                is.0.counted,
+                (
+                  ne_eqb (sum counts) 0 (λ e. omega arith),
+                  (
+                    le-ltb 256 (sum counts) is.0.at_most,
+                    (
+                      le-ltb left (17 + sum counts) is.1,
+                      (is.0.has_symbols, (exist-tested (code_lengths counts) is.0.exists, tt)),
+                    ),
+                  ),
+                ),
+              ),
+              tt,
+            ),
+          ),
+        ),
+      );
+      made = ap₂ (λ (c : HuffmanTableClass) (p : ℕ). placed_table p c counts t.table.symbols) (sym (ap class_of high ∙ class-read t.table.class)) (sym low);
+      printed = refl;
+    })
+
+codes-length : (most : ℕ) (t : PlacedTable) → IsHuffmanTable most t → length (huffman_bytes t) ≡ size_of t
 unfolding huffman_bytes
 codes-length most t is =
     let c = is.counted in
     let s = is.has_symbols in
     omega (arith, length-append t.table.counts t.table.symbols)
 
-codes-read : (most : ℕ) (t : PlacedTable) (left : ℕ) (rest : List ℕ) → IsHuffmanTable most t → size_of t ≤ left
-    → codes_at left t.table.class ((t.table.counts ++ t.table.symbols) ++ rest) ≡ Ok (t.table, rest)
-unfolding codes_at symbols_at
-codes-read most t left rest is room =
-    let counts = t.table.counts in
-    let symbols = t.table.symbols in
-    let some = is.some in
-    let zero_not : eqb (sum counts) 0 ≡ false = ne_eqb (sum counts) 0 (λ e. omega arith) in
-    ap (codes_at left t.table.class) (append_assoc counts symbols rest)
-    ∙ read-on (times 16 next_byte (counts ++ (symbols ++ rest))) _ counts (symbols ++ rest) _
-    (subst (λ (n : ℕ). times n next_byte (counts ++ (symbols ++ rest)) ≡ Ok (counts, symbols ++ rest)) is.counted
-    (bytes-read counts (symbols ++ rest)))
-    (rw (zero_not, le-ltb 256 (sum counts) is.at_most, le-ltb left (17 + sum counts) room)
-    (read-on (times (sum counts) next_byte (symbols ++ rest)) _ symbols rest _
-    (subst (λ (n : ℕ). times n next_byte (symbols ++ rest) ≡ Ok (symbols, rest)) is.has_symbols
-    (bytes-read symbols rest))
-    (kept (codes_exist (code_lengths counts)) _ _ (exist-tested (code_lengths counts) is.exists))))
+-- these tables take `left` bytes
+abbrev FillCodes : ℕ → ℕ → List PlacedTable → Type 0
+FillCodes most left ts =
+    AllByRecursion (IsHuffmanTable most) ts × (length (flat_map huffman_bytes ts) ≡ left)
 
-placed_codes-read : (most : ℕ) (t : PlacedTable) (left : ℕ) (rest : List ℕ) → most ≤ 3 → IsHuffmanTable most t
-    → size_of t ≤ left
-    → placed_codes_at most left (huffman_bytes t ++ rest) ≡ Ok (t, rest)
-unfolding placed_codes_at huffman_bytes
-placed_codes-read most t left rest small is room =
-    let q = is.placed in
-    let n = class_number t.table.class in
-    let high : nibbles n t.place / 16 ≡ n = nibbles-high n t.place (omega arith) in
-    let low : nibbles n t.place % 16 ≡ t.place = nibbles-low n t.place (omega arith) in
-    rw (
-      high,
-      low,
-      le-ltb 1 n (class-small t.table.class),
-      le-ltb most t.place is.placed,
-      class-read t.table.class,
-      codes-read most t left rest is room,
-    ) refl
+no-codes : (most left : ℕ) (old : Tables) → left ≤ 17
+    → Codec (λ (bytes : List ℕ). cond (eqb left 0) (outcome old bytes) (Err Malformed)) (fold with_table old)
+    (flat_map huffman_bytes) (FillCodes most left)
+no-codes most left old few = remap (check-if (eqb left 0) Malformed (done old))
+    (λ x is. record {
+      value = [];
+      valid = (tt, sym (eqb-true left 0 is.0));
+      made = refl;
+      printed = refl;
+    })
+    (λ ts is. none ts is)
+  where
+    none : (ts : List PlacedTable) → FillCodes most left ts
+        → As (fold with_table old) (flat_map huffman_bytes) (λ (u : Unit {0}). old)
+        (λ (u : Unit {0}). []) (λ (u : Unit {0}). (eqb left 0 ≡ true) × Unit {0}) ts
+    none [] is =
+        record { value = tt; valid = (eq-eqb left 0 (sym is.1), tt); made = refl; printed = refl }
+    none (t ∷ ts) is = let some = is.0.0.some in absurd (omega (
+      arith,
+      is.1,
+      codes-length most t is.0.0,
+      length-append (huffman_bytes t) (flat_map huffman_bytes ts),
+    ))
 
-huffmans-read : (ts : List PlacedTable) (most greatest : ℕ) (tables : Tables) (rest : List ℕ) → greatest ≤ 3
-    → AllByRecursion (IsHuffmanTable greatest) ts → length (flat_map huffman_bytes ts) ≤ most
-    → tables_from most greatest (length (flat_map huffman_bytes ts)) tables (flat_map huffman_bytes ts ++ rest)
-    ≡ Ok (fold with_table tables ts, rest)
-huffmans-read [] most greatest tables rest small all room = tables_from-rest most greatest 0 tables rest (omega arith)
-huffmans-read (t ∷ ts) most greatest tables rest small all room =
-    let more = flat_map huffman_bytes ts in
-    let some = all.0.some in
-    let size : length (huffman_bytes t) ≡ size_of t = codes-length greatest t all.0 in
-    let sum : length (huffman_bytes t ++ more) ≡ size_of t + length more =
-    length-append (huffman_bytes t) more ∙ ap (λ (n : ℕ). n + length more) size in
-    let left : length (huffman_bytes t ++ more) - size_of t ≡ length more = omega arith in
-    tables_from-more most greatest (length (huffman_bytes t ++ more)) tables ((huffman_bytes t ++ more) ++ rest)
-    (omega arith) room
-    ∙ ap (λ (b : List ℕ). placed_codes_at greatest (length (huffman_bytes t ++ more)) b >>= λ (x : PlacedTable
-    × List ℕ). tables_from (most - 1) greatest (length (huffman_bytes t ++ more) - size_of x.0)
-    (with_table tables x.0) x.1)
-    (append_assoc (huffman_bytes t) more rest)
-    ∙ read-on (placed_codes_at greatest (length (huffman_bytes t ++ more)) (huffman_bytes t ++ (more ++ rest))) _ t
-    (more ++ rest) _ (placed_codes-read greatest t _ (more ++ rest) small all.0 (omega arith))
-    (ap (λ (n : ℕ). tables_from (most - 1) greatest n (with_table tables t) (more ++ rest)) left
-    ∙ huffmans-read ts (most - 1) greatest (with_table tables t) rest small all.1 (omega arith))
+all-codes : (turns most left : ℕ) (old : Tables) → most ≤ 3 → left ≤ turns
+    → Codec (tables_from turns most left old) (fold with_table old) (flat_map huffman_bytes)
+    (FillCodes most left)
+unfolding tables_from
+all-codes zero most left old few le = no-codes most left old (omega (arith, le))
+all-codes (suc turns) most left old few le = choose (ltb 17 left)
+    (λ z. remap (bind (λ (t : PlacedTable). tables_from turns most (left - size_of t) (with_table old t))
+    (placed_codes most left few) (λ (t : PlacedTable).
+    all-codes turns most (left - size_of t) (with_table old t) few (omega (arith, le))))
+    (λ x is. record {
+      value = x.0 ∷ x.1;
+      valid = (
+        (is.0.0, is.1.0),
+        length-append (huffman_bytes x.0) (flat_map huffman_bytes x.1)
+            ∙ omega (arith, codes-length most x.0 is.0.0, is.0.1, is.1.1),
+      );
+      made = refl;
+      printed = refl;
+    })
+    (λ ts is. some (ltb-true 17 left z) ts is))
+    (λ z. no-codes most left old (ltb-false 17 left z))
+  where
+    some : 17 < left → (ts : List PlacedTable) → FillCodes most left ts
+        → As (fold with_table old) (flat_map huffman_bytes)
+        (λ (x : PlacedTable × List PlacedTable). fold with_table (with_table old x.0) x.1)
+        (λ (x : PlacedTable × List PlacedTable). huffman_bytes x.0 ++ flat_map huffman_bytes x.1)
+        (λ (x : PlacedTable × List PlacedTable).
+        (IsHuffmanTable most x.0 × (size_of x.0 ≤ left)) × FillCodes most (left - size_of x.0) x.1) ts
+    some n [] is = absurd (omega (arith, n, is.1))
+    some n (t ∷ ts) is =
+        let size = length-append (huffman_bytes t) (flat_map huffman_bytes ts) in
+        record {
+          value = (t, ts);
+          valid = (
+            (is.0.0, omega (arith, codes-length most t is.0.0, size, is.1)),
+            (is.0.1, omega (arith, codes-length most t is.0.0, size, is.1)),
+          );
+          made = refl;
+          printed = refl;
+        }
 
 greatest-small : (b : Option Bool) → greatest_place b ≤ 3
 greatest-small None = omega arith
 greatest-small (Some true) = omega arith
 greatest-small (Some false) = omega arith
 
+pub dht : (b : Option Bool)
+    → Codec (dht_at b) huffman_tables (λ (ts : List PlacedTable). sized (flat_map huffman_bytes ts))
+    (AllByRecursion (IsHuffmanTable (greatest_place b)))
+unfolding dht_at
+dht b = segment _ (λ (left : ℕ).
+    all-codes left (greatest_place b) left no_tables (greatest-small b) (omega arith))
+
 pub dht-read : (b : Option Bool) (ts : List PlacedTable) (rest : List ℕ)
     → AllByRecursion (IsHuffmanTable (greatest_place b)) ts
     → dht_at b (sized (flat_map huffman_bytes ts) ++ rest) ≡ Ok (huffman_tables ts, rest)
-unfolding dht_at
-dht-read b ts rest all =
-    sized-read (flat_map huffman_bytes ts) rest _
-    ∙ huffmans-read ts (length (flat_map huffman_bytes ts)) (greatest_place b) no_tables rest (greatest-small b)
-    all (omega arith)
+dht-read b = (dht b).reads

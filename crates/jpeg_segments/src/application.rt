@@ -12,10 +12,9 @@ ghost use Rattle.jpeg_segments.specs.Application.{transform_by, passed_over, ado
 ghost use Rattle.jpeg_segments.specs.FrameView.{application_in};
 
 use crate::parser::{AdobeColorTransform, AppData, IccChunk};
-use crate::payload::read_bytes;
 use jpeg_bits::error::{Result, format_error_of};
 use jpeg_bits::marker::Marker;
-use jpeg_bits::reads::{read_length, read_u16_be, skip};
+use jpeg_bits::reads::{read_bytes, read_length, read_u16_be, skip};
 use jpeg_bits::source::Source;
 use std::alloc::{AllocError, Global};
 use std::io::Read;
@@ -32,7 +31,7 @@ fn bytes_after(
     requires { count ≤ length payload.now }
     ensures { IfOk result (λ v. v.items ≡ drop count payload.now) }
 {
-    payload[count..].to_vec(alloc)
+    Vec::from_slice(alloc, &payload[count..])
 }
 
 /// APP0: a JFIF file, or a frame of an MJPEG stream.

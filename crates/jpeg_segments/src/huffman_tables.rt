@@ -5,10 +5,9 @@ ghost use Rattle.jpeg_bits.specs.Reading.{Answers, NamesFormat, times, next_byte
 ghost use Rattle.jpeg_segments.specs.HuffmanTables.{symbols_at, codes_at, placed_codes_at};
 ghost use Rattle.jpeg_segments.specs.HuffmanTables.{greatest_place, with_table, dht_at, all_ac};
 
-use crate::payload::read_bytes;
 use jpeg_bits::error::{Error, Result, format_error_of};
 use jpeg_bits::huffman::{HuffmanTable, HuffmanTableClass};
-use jpeg_bits::reads::{read_length, read_u8};
+use jpeg_bits::reads::{read_bytes, read_exact, read_length, read_u8};
 use jpeg_bits::source::Source;
 use std::alloc::{AllocError, Global};
 use std::io::Read;
@@ -20,10 +19,8 @@ pub type PlacedTables = (Vec<Option<HuffmanTable>>, Vec<Option<HuffmanTable>>);
 fn read_counts<R: Read + Drop>(alloc: Global, source: &mut Source<R>) -> Result<[u8; 16]>
     ensures { Answers (λ v. v) (times 16 next_byte) source.old result source.new }
 {
-    let mut counts = [0u8; 16];
-    for i in 0..16 {
-        counts[i] = read_u8(alloc, source)?;
-    }
+    let mut counts = [0; 16];
+    read_exact(alloc, source, &mut counts)?;
     Ok(counts)
 }
 

@@ -6,7 +6,6 @@ mod frame_header;
 mod huffman_tables;
 pub mod laws;
 pub mod parser;
-mod payload;
 mod quantization;
 mod scan_header;
 pub mod sizes;

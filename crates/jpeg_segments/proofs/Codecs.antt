@@ -1,0 +1,310 @@
+-- What is written, and what reads it: the two directions at once.
+use Rattle.std.proofs.Common.{◌≡◌, ℕ, zero, suc, ◌<◌, ◌≤◌, ◌+◌, ◌-◌, ◌*◌, ◌/◌, ◌%◌, Bool, true}
+use Rattle.std.proofs.Common.{false, cond, List, [], ◌∷◌, ◌++◌, length, Result, Ok, Err, refl, sym}
+use Rattle.std.proofs.Common.{ap, ap₂, ◌∙◌, subst, append_assoc, append-nil, arith, ltb}
+use Rattle.std.proofs.lemmas.Bool.{ltb-false, le-ltb}
+use Rattle.std.specs.Prelude.{flat_map}
+use Rattle.std.specs.List.{AllByRecursion}
+use Rattle.jpeg_bits.specs.Reading.{Outcome, Fault, Malformed, ◌>>=◌, next_byte, next_u16}
+use Rattle.jpeg_bits.specs.Reading.{length_at, times}
+use Rattle.jpeg_segments.specs.WrittenSegments.{u16_bytes, sized}
+use Rattle.jpeg_segments.proofs.Fields.{read-on, not-refused, kept, u16-read}
+
+-- ---- steps of a reader that accepts
+
+err-ok : {C : Type 0} (x : Fault) (r : C) → ◌≡◌ {A = Result C Fault} (Err x) (Ok r) → ⊥
+err-ok x r e = cc
+
+ok-same : {C : Type 0} (x r : C) → ◌≡◌ {A = Result C Fault} (Ok x) (Ok r) → x ≡ r
+ok-same x r e = cc
+
+-- what a step gave, and the rest
+bind-ok : {A B : Type 0} (o : Result A Fault) (f : A → Result B Fault) (y : B) → (o >>= f) ≡ Ok y
+    → (x : A) × (o ≡ Ok x) × (f x ≡ Ok y)
+bind-ok (Ok x) f y e = (x, refl, e)
+bind-ok (Err x) f y e = absurd (err-ok x y e)
+
+kept-if : {C : Type 0} (b : Bool) (x : Result C Fault) (f : Fault) (r : C)
+    → cond b x (Err f) ≡ Ok r → (b ≡ true) × (x ≡ Ok r)
+kept-if true x f r e = (refl, e)
+kept-if false x f r e = absurd (err-ok f r e)
+
+kept-unless : {C : Type 0} (b : Bool) (x : Result C Fault) (f : Fault) (r : C)
+    → cond b (Err f) x ≡ Ok r → (b ≡ false) × (x ≡ Ok r)
+kept-unless false x f r e = (refl, e)
+kept-unless true x f r e = absurd (err-ok f r e)
+
+-- ---- codecs
+
+abbrev pub AreBytes : List ℕ → Type 0
+AreBytes bytes = AllByRecursion (λ b. b < 256) bytes
+
+-- y was read of bytes that were written for a value with the meaning y
+pub record Written {A C : Type 0} (view : A → C) (print : A → List ℕ) (Valid : A → Type 0)
+    (bytes rest : List ℕ) (y : C) : Type 0 where
+  pub value : A
+  pub valid : Valid value
+  pub made : y ≡ view value
+  pub is : bytes ≡ print value ++ rest
+
+-- `parse` accepts exactly what `print` writes for a valid value, and gives its meaning.
+pub record Codec {A C : Type 0} (parse : List ℕ → Outcome C) (view : A → C) (print : A → List ℕ)
+    (Valid : A → Type 0) : Type 0 where
+  pub reads : (x : A) (rest : List ℕ) → Valid x → parse (print x ++ rest) ≡ Ok (view x, rest)
+  pub only :
+      (bytes rest : List ℕ) (y : C) → AreBytes bytes → parse bytes ≡ Ok (y, rest)
+      → Written view print Valid bytes rest y
+
+bytes-after : (front rest : List ℕ) → AreBytes (front ++ rest) → AreBytes rest
+bytes-after [] rest all = all
+bytes-after (b ∷ front) rest all = bytes-after front rest all.1
+
+-- one after the other
+pub bind : {A B C D : Type 0} {p : List ℕ → Outcome C} {view : A → C} {print : A → List ℕ}
+    {Valid : A → Type 0} {view' : A → B → D} {print' : A → B → List ℕ} {Valid' : A → B → Type 0}
+    (q : C → List ℕ → Outcome D) → Codec p view print Valid
+    → ((a : A) → Codec (q (view a)) (view' a) (print' a) (Valid' a))
+    → Codec (λ (bytes : List ℕ). p bytes >>= λ (x : C × List ℕ). q x.0 x.1)
+    (λ (x : A × B). view' x.0 x.1) (λ (x : A × B). print x.0 ++ print' x.0 x.1)
+    (λ (x : A × B). Valid x.0 × Valid' x.0 x.1)
+bind {C = C} {p = p} {view = view} {print = print} {print' = print'} q c d = record {
+  reads = λ x rest is.
+      ap (λ (l : List ℕ). p l >>= λ (x : C × List ℕ). q x.0 x.1)
+      (append_assoc (print x.0) (print' x.0 x.1) rest)
+      ∙ read-on (p (print x.0 ++ (print' x.0 x.1 ++ rest))) (λ (x : C × List ℕ). q x.0 x.1)
+      (view x.0) (print' x.0 x.1 ++ rest) _ (c.reads x.0 (print' x.0 x.1 ++ rest) is.0)
+      ((d x.0).reads x.1 rest is.1);
+  only = λ bytes rest y all e.
+      let one = bind-ok (p bytes) (λ (x : C × List ℕ). q x.0 x.1) (y, rest) e in
+      let a = c.only bytes one.0.1 one.0.0 all one.1 in
+      let others = bytes-after (print a.value) one.0.1 (subst AreBytes a.is all) in
+      let b = (d a.value).only one.0.1 rest y others
+      (ap (λ (v : C). q v one.0.1) (sym a.made) ∙ one.2) in
+      record {
+        value = (a.value, b.value);
+        valid = (a.valid, b.valid);
+        made = b.made;
+        is = a.is ∙ ap (λ (l : List ℕ). print a.value ++ l) b.is
+            ∙ sym (append_assoc (print a.value) (print' a.value b.value) rest);
+      };
+}
+
+-- where a rule is kept
+pub check-if : {A C : Type 0} {p : List ℕ → Outcome C} {view : A → C} {print : A → List ℕ}
+    {Valid : A → Type 0} (b : Bool) (f : Fault) → Codec p view print Valid
+    → Codec (λ (bytes : List ℕ). cond b (p bytes) (Err f)) view print (λ (x : A). (b ≡ true) × Valid x)
+check-if {p = p} b f c = record {
+  reads = λ x rest is. kept b _ (Err f) is.0 ∙ c.reads x rest is.1;
+  only = λ bytes rest y all e.
+      let k = kept-if b (p bytes) f (y, rest) e in
+      let o = c.only bytes rest y all k.1 in
+      record { value = o.value; valid = (k.0, o.valid); made = o.made; is = o.is };
+}
+
+pub check-unless : {A C : Type 0} {p : List ℕ → Outcome C} {view : A → C} {print : A → List ℕ}
+    {Valid : A → Type 0} (b : Bool) (f : Fault) → Codec p view print Valid
+    → Codec (λ (bytes : List ℕ). cond b (Err f) (p bytes)) view print (λ (x : A). (b ≡ false) × Valid x)
+check-unless {p = p} b f c = record {
+  reads = λ x rest is. not-refused b (Err f) _ is.0 ∙ c.reads x rest is.1;
+  only = λ bytes rest y all e.
+      let k = kept-unless b (p bytes) f (y, rest) e in
+      let o = c.only bytes rest y all k.1 in
+      record { value = o.value; valid = (k.0, o.valid); made = o.made; is = o.is };
+}
+
+-- one of two, by a test
+pub choose : {A C : Type 0} {p q : List ℕ → Outcome C} {view : A → C} {print : A → List ℕ}
+    {Valid : A → Type 0} (b : Bool) → (b ≡ true → Codec p view print Valid)
+    → (b ≡ false → Codec q view print Valid)
+    → Codec (λ (bytes : List ℕ). cond b (p bytes) (q bytes)) view print Valid
+choose true c d = c refl
+choose false c d = d refl
+
+abbrev pub outcome : {C : Type 0} → C → List ℕ → Outcome C
+outcome y bytes = Ok (y, bytes)
+
+-- no bytes
+pub done : {C : Type 0} (y : C)
+    → Codec (outcome y) (λ (u : Unit {0}). y) (λ (u : Unit {0}). []) (λ (u : Unit {0}). Unit {0})
+done y = record {
+  reads = λ x rest is. refl;
+  only = λ bytes rest z all e.
+      let same = ok-same (y, bytes) (z, rest) e in
+      record { value = tt; valid = tt; made = sym (ap (λ q. q.0) same); is = ap (λ q. q.1) same };
+}
+
+-- a value that says and prints the same
+pub record As {A A' C : Type 0} (view : A → C) (print : A → List ℕ) (view' : A' → C)
+    (print' : A' → List ℕ) (Valid' : A' → Type 0) (x : A) : Type 0 where
+  pub value : A'
+  pub valid : Valid' value
+  pub made : view x ≡ view' value
+  pub printed : print x ≡ print' value
+
+-- the same for other parameters
+pub remap : {A A' C : Type 0} {p : List ℕ → Outcome C} {view : A → C} {print : A → List ℕ}
+    {Valid : A → Type 0} {view' : A' → C} {print' : A' → List ℕ} {Valid' : A' → Type 0}
+    → Codec p view print Valid → ((x : A) → Valid x → As view print view' print' Valid' x)
+    → ((x : A') → Valid' x → As view' print' view print Valid x) → Codec p view' print' Valid'
+remap {p = p} c to from = record {
+  reads = λ x rest is.
+      let a = from x is in
+      ap (λ (l : List ℕ). p (l ++ rest)) a.printed ∙ c.reads a.value rest a.valid
+      ∙ ap (λ v. Ok (v, rest)) (sym a.made);
+  only = λ bytes rest y all e.
+      let o = c.only bytes rest y all e in
+      let a = to o.value o.valid in
+      record {
+        value = a.value;
+        valid = a.valid;
+        made = o.made ∙ a.made;
+        is = o.is ∙ ap (λ (l : List ℕ). l ++ rest) a.printed;
+      };
+}
+
+-- a reader that gives the same
+pub same : {A C : Type 0} {p : List ℕ → Outcome C} {view : A → C} {print : A → List ℕ}
+    {Valid : A → Type 0} (q : List ℕ → Outcome C) → ((bytes : List ℕ) → q bytes ≡ p bytes)
+    → Codec p view print Valid → Codec q view print Valid
+same {print = print} q e c = record {
+  reads = λ x rest is. e (print x ++ rest) ∙ c.reads x rest is;
+  only = λ bytes rest y all g. c.only bytes rest y all (sym (e bytes) ∙ g);
+}
+
+abbrev pub refusal : {C : Type 0} → Fault → List ℕ → Outcome C
+refusal f bytes = Err f
+
+-- nothing
+pub refused : {A C : Type 0} {view : A → C} {print : A → List ℕ} {Valid : A → Type 0} (f : Fault)
+    → ((x : A) → Valid x → ⊥) → Codec (refusal f) view print Valid
+refused f none = record {
+  reads = λ x rest is. absurd (none x is);
+  only = λ bytes rest y all e. absurd (err-ok f (y, rest) e);
+}
+
+-- what follows takes no bytes
+pub ends : {A C D : Type 0} {p : List ℕ → Outcome C} {view : A → C} {print : A → List ℕ}
+    {Valid : A → Type 0} {f : A → D} {W : A → Type 0} (q : C → List ℕ → Outcome D)
+    → Codec p view print Valid
+    → ((a : A) → Codec (q (view a)) (λ (u : Unit {0}). f a) (λ (u : Unit {0}). []) (λ (u : Unit {0}). W a))
+    → Codec (λ (bytes : List ℕ). p bytes >>= λ (x : C × List ℕ). q x.0 x.1) f print
+    (λ (a : A). Valid a × W a)
+ends {print = print} q c d = remap (bind q c d)
+    (λ x is. record { value = x.0; valid = is; made = refl; printed = append-nil (print x.0) })
+    (λ x is. record { value = (x, tt); valid = is; made = refl; printed = sym (append-nil (print x)) })
+
+-- ---- fields
+
+pub byte : Codec next_byte (λ (b : ℕ). b) (λ (b : ℕ). b ∷ []) (λ (b : ℕ). Unit {0})
+byte = record {
+  reads = λ x rest is. refl;
+  only = λ bytes rest y all e. go bytes rest y e;
+}
+  where
+    go : (bytes rest : List ℕ) (y : ℕ) → next_byte bytes ≡ Ok (y, rest)
+        → Written (λ (b : ℕ). b) (λ (b : ℕ). b ∷ []) (λ (b : ℕ). Unit {0}) bytes rest y
+    go [] rest y e = absurd (err-ok _ _ e)
+    go (x ∷ xs) rest y e =
+        let p = ok-same (x, xs) (y, rest) e in
+        record {
+          value = y;
+          valid = tt;
+          made = refl;
+          is = ap₂ (λ (n : ℕ) (l : List ℕ). n ∷ l) (ap (λ q. q.0) p) (ap (λ q. q.1) p);
+        }
+
+pub u16 : Codec next_u16 (λ (n : ℕ). n) u16_bytes (λ (n : ℕ). Unit {0})
+unfolding next_u16
+u16 = record { reads = λ x rest is. u16-read x rest; only = go }
+  where
+    go : (bytes rest : List ℕ) (y : ℕ) → AreBytes bytes → next_u16 bytes ≡ Ok (y, rest)
+        → Written (λ (n : ℕ). n) u16_bytes (λ (n : ℕ). Unit {0}) bytes rest y
+    go [] rest y all e = absurd (err-ok _ _ e)
+    go (h ∷ []) rest y all e = absurd (err-ok _ _ e)
+    go (h ∷ l ∷ bytes) rest y all e =
+        let same = ok-same (256 * h + l, bytes) (y, rest) e in
+        let value : 256 * h + l ≡ y = ap (λ q. q.0) same in
+        let small : l < 256 = all.1.0 in
+        let high : h ≡ y / 256 = omega arith in
+        let low : l ≡ y % 256 = omega arith in
+        record {
+          value = y;
+          valid = tt;
+          made = refl;
+          is = ap₂ (λ (a b : ℕ). a ∷ b ∷ bytes) high low
+              ∙ ap (λ (r : List ℕ). y / 256 ∷ y % 256 ∷ r) (ap (λ q. q.1) same);
+        }
+
+pub length-field : Codec length_at (λ (n : ℕ). n) (λ (n : ℕ). u16_bytes (n + 2)) (λ (n : ℕ). Unit {0})
+unfolding length_at
+length-field = remap (ends _ u16 (λ (n : ℕ). check-unless (ltb n 2) Malformed (done (n - 2))))
+    (λ n is.
+    let some : 2 ≤ n = ltb-false n 2 is.1.0 in
+    let e : n ≡ n - 2 + 2 = omega arith in
+    record { value = n - 2; valid = tt; made = refl; printed = ap u16_bytes e })
+    (λ n is.
+    let e : n ≡ n + 2 - 2 = omega arith in
+    record { value = n + 2; valid = (tt, (le-ltb (n + 2) 2 (omega arith), tt)); made = e; printed = refl })
+
+-- a payload after its length
+pub segment : {A D : Type 0} {view : A → D} {print : A → List ℕ} {Valid : A → Type 0}
+    (q : ℕ → List ℕ → Outcome D)
+    → ((left : ℕ) → Codec (q left) view print (λ (x : A). Valid x × (length (print x) ≡ left)))
+    → Codec (λ (bytes : List ℕ). length_at bytes >>= λ (x : ℕ × List ℕ). q x.0 x.1) view
+    (λ (x : A). sized (print x)) Valid
+segment {print = print} q c = remap (bind q length-field c)
+    (λ x is. record {
+      value = x.1;
+      valid = is.1.0;
+      made = refl;
+      printed = ap (λ (n : ℕ). u16_bytes (n + 2) ++ print x.1) (sym is.1.1);
+    })
+    (λ x is. record { value = (length (print x), x); valid = (tt, (is, refl)); made = refl; printed = refl })
+
+-- n values
+pub several : {A : Type 0} {p : List ℕ → Outcome A} {print : A → List ℕ} {Valid : A → Type 0}
+    → Codec p (λ (x : A). x) print Valid → (n : ℕ)
+    → Codec (times n p) (λ (xs : List A). xs) (flat_map print)
+    (λ (xs : List A). (length xs ≡ n) × AllByRecursion Valid xs)
+unfolding times
+several {A} {print = print} c zero = remap (done [])
+    (λ x is. record { value = []; valid = (refl, tt); made = refl; printed = refl })
+    (λ xs is. none xs is.0)
+  where
+    none : (xs : List A) → length xs ≡ 0 → As (λ (xs : List A). xs) (flat_map print) (λ (u : Unit {0}). []) (λ (u : Unit {0}). []) (λ (u : Unit {0}). Unit {0}) xs
+    none [] e = record { value = tt; valid = tt; made = refl; printed = refl }
+    none (x ∷ xs) e = absurd (omega (arith, e))
+several {A} {print = print} {Valid = Valid} c (suc n) =
+    remap (bind _ c (λ x. ends _ (several c n) (λ xs. done (x ∷ xs))))
+    (λ x is. record {
+      value = x.0 ∷ x.1;
+      valid = (ap suc is.1.0.0, (is.0, is.1.0.1));
+      made = refl;
+      printed = refl;
+    })
+    some
+  where
+    some : (xs : List A) → (length xs ≡ suc n) × AllByRecursion Valid xs → As (λ (xs : List A). xs) (flat_map print) (λ (x : A × List A). x.0 ∷ x.1) (λ (x : A × List A). print x.0 ++ flat_map print x.1) (λ (x : A × List A). Valid x.0 × (((length x.1 ≡ n) × AllByRecursion Valid x.1) × Unit {0})) xs
+    some [] e = absurd (omega (arith, e.0))
+    some (x ∷ xs) is = record {
+      value = (x, xs);
+      valid = (is.1.0, ((omega (arith, is.0), is.1.1), tt));
+      made = refl;
+      printed = refl;
+    }
+
+pub units : {A : Type 0} (xs : List A) → AllByRecursion (λ (x : A). Unit {0}) xs
+units [] = tt
+units (x ∷ xs) = (tt, units xs)
+
+-- n bytes
+pub many : (n : ℕ)
+    → Codec (times n next_byte) (λ (xs : List ℕ). xs) (λ (xs : List ℕ). xs)
+    (λ (xs : List ℕ). length xs ≡ n)
+many n = remap (several byte n)
+    (λ xs is. record { value = xs; valid = is.0; made = refl; printed = each xs })
+    (λ xs is. record { value = xs; valid = (is, units xs); made = refl; printed = sym (each xs) })
+  where
+    each : (xs : List ℕ) → flat_map (λ (b : ℕ). b ∷ []) xs ≡ xs
+    each [] = refl
+    each (x ∷ xs) = ap (λ (l : List ℕ). x ∷ l) (each xs)
