@@ -98,3 +98,8 @@ HoldsRows counts rows = (i : ℕ) → i < 16 → slice_index_or rows i no_row �
 -- no code of these rows begins 16 bits: they are at or after the ends of all
 abbrev pub ArePassed : List Row → ℕ → ℕ → Type 0
 ArePassed rows n bits = (i : ℕ) → i < n → (slice_index_or rows i no_row).end ≤ bits / 2 ^ (15 - i)
+
+-- The same code begins these numbers of 8 bits, from the first to before the last.
+abbrev pub IsRun : ℕ → ℕ → Option (ℕ × ℕ) → Type 0
+IsRun first end None = end ≡ first + 1
+IsRun first end (Some c) = (b : ℕ) → first ≤ b → b < end → b / 2 ^ (8 - c.1) ≡ first / 2 ^ (8 - c.1)
