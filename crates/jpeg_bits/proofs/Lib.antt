@@ -11,6 +11,7 @@ pub mod Calls
 pub mod WrittenBits
 pub mod Reservoirs
 pub mod ShortLemmas
+pub mod ShortRuns
 pub mod RowLemmas
 pub mod ShortSymbols
 pub mod WideTokens

@@ -17,6 +17,7 @@ use Rattle.jpeg_bits.specs.Written.{low_bits}
 use Rattle.jpeg_bits.specs.Codes.{Table, code_in, code_lengths, code_value, begins, first_from, next_16, is_ac}
 use Rattle.jpeg_bits.specs.Codes.{lengths_from}
 use Rattle.jpeg_bits.specs.Codes.{short_token, after_code, short_code_by, short_code_from, short_value, fast_from}
+use Rattle.jpeg_bits.specs.ShortCodes.{IsOf}
 use Rattle.jpeg_bits.specs.ShortCodes.{named, symbol_in, short_only, short_code, short_value_by, short_value_of}
 use Rattle.jpeg_bits.specs.ShortCodes.{next_bits, packed}
 use Rattle.jpeg_bits.specs.ShortCodes.{HoldsCodes}
@@ -512,24 +513,10 @@ eleven_padded b =
     ap (low_bits 16) e ∙ low_bits-append 11 5 b 0 (omega arith)
     ∙ ap (λ (l : List Bool). low_bits 11 b ++ l) (low_bits-zeros 5)
 
--- a table of no codes
-pub none_packed : (class : HuffmanTableClass) (symbols : List ℕ) (b : ℕ)
-    → packed None
-    ≡ packed (short_value_of 11 (record { class = class; counts = replicate 16 0; symbols = symbols }) (low_bits 11 b))
-unfolding code_in lengths_from first_from
-none_packed class symbols b = refl
-
--- in a table of class DC
-pub none_dc : (symbols counts : List ℕ) (b : ℕ)
-    → packed None
-    ≡ packed (short_value_of 11 (record { class = classes.DC; counts = counts; symbols = symbols }) (low_bits 11 b))
-none_dc symbols counts b =
-    go (symbol_in (record { class = classes.DC; counts = counts; symbols = symbols })
-    (low_bits 11 b ++ replicate 5 false))
-  where
-    go : (o : Option (ℕ × ℕ)) → packed None ≡ packed (short_value_by 11 classes.DC (low_bits 11 b) o)
-    go None = refl
-    go (Some c) = refl
+-- an entry of a filled table
+pub entry-of : (value : Option (ℤ × ℕ × ℕ)) (entry : ℤ × ℕ × ℕ) → entry ≡ packed value → IsOf value entry
+entry-of None entry e = λ some. let n : entry.2 ≡ 0 = ap (λ (t : ℤ × ℕ × ℕ). t.2) e in absurd (omega (arith, n, some))
+entry-of (Some t) entry e = λ some. ap Some (sym e)
 
 -- bits that fit a byte
 pub within_byte : (o : Option (ℤ × ℕ × ℕ)) → IfSome o (λ t. t.2 ≤ 11) → IfSome o (λ t. t.2 ≤ 255)

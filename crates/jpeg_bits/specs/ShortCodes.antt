@@ -1,5 +1,5 @@
 -- Codes and values that some bits begin with (F.2.2.3, with the look-up that it allows).
-use Rattle.std.specs.Prelude.{◌≡◌, ℕ, ℤ, pos, ◌+◌, ◌-◌, ◌*◌, ◌/◌, ◌%◌, ◌^◌, ◌<◌, ◌≤◌, List, ◌++◌, take, drop}
+use Rattle.std.specs.Prelude.{◌≡◌, ℕ, ℤ, pos, ◌+◌, ◌-◌, ◌*◌, ◌/◌, ◌%◌, ◌^◌, ◌<◌, ◌≤◌, List, ◌++◌, take, drop, length}
 use Rattle.std.specs.Prelude.{replicate, Bool, false, Option, Some, None, if◌then◌else◌}
 use Rattle.std.specs.Prelude.{slice_index}
 use Rattle.std.specs.Prelude.{slice_index_or, sum, fold, ◌&&◌, nat_lt, nat_le}
@@ -55,9 +55,9 @@ abbrev pub HoldsCodes : List ℕ → List ℕ → List (Option (ℕ × ℕ)) →
 HoldsCodes counts symbols codes =
     (b : ℕ) → b < 256 → slice_index_or codes b None ≡ short_code counts symbols (low_bits 8 b)
 
--- at the place of each 8 bits stands the value that they begin with
+-- the values that 8 bits begin with, at the index of each, where the table is filled
 abbrev pub HoldsValues : Table → List (Option (ℤ × ℕ × ℕ)) → Type 0
-HoldsValues table values = (b : ℕ) → b < 256
+HoldsValues table values = (b : ℕ) → b < length values
     → slice_index_or values b None ≡ short_value_of 8 table (low_bits 8 b)
 
 -- a value, and no bits where there is none
@@ -65,10 +65,14 @@ abbrev pub packed : Option (ℤ × ℕ × ℕ) → ℤ × ℕ × ℕ
 packed None = (pos 0, 0, 0)
 packed (Some value) = value
 
--- at the place of each 11 bits stands the value that they begin with
+-- An entry that has bits is this value.
+abbrev pub IsOf : Option (ℤ × ℕ × ℕ) → ℤ × ℕ × ℕ → Type 0
+IsOf value entry = 0 < entry.2 → value ≡ Some entry
+
+-- the values that 11 bits begin with, at the index of each, where the table is filled
 abbrev pub HoldsWideValues : Table → List (ℤ × ℕ × ℕ) → Type 0
-HoldsWideValues table values = (b : ℕ) → b < 2048
-    → slice_index_or values b (packed None) ≡ packed (short_value_of 11 table (low_bits 11 b))
+HoldsWideValues table values = (b : ℕ) → b < length values
+    → IsOf (short_value_of 11 table (low_bits 11 b)) (slice_index_or values b (packed None))
 
 -- the value after the codes of at most i bits, as a number of i bits
 abbrev pub value_after : List ℕ → ℕ → ℕ
@@ -94,3 +98,8 @@ HoldsRows counts rows = (i : ℕ) → i < 16 → slice_index_or rows i no_row �
 -- no code of these rows begins 16 bits: they are at or after the ends of all
 abbrev pub ArePassed : List Row → ℕ → ℕ → Type 0
 ArePassed rows n bits = (i : ℕ) → i < n → (slice_index_or rows i no_row).end ≤ bits / 2 ^ (15 - i)
+
+-- The same code begins these numbers of 8 bits, from the first to before the last.
+abbrev pub IsRun : ℕ → ℕ → Option (ℕ × ℕ) → Type 0
+IsRun first end None = end ≡ first + 1
+IsRun first end (Some c) = (b : ℕ) → first ≤ b → b < end → b / 2 ^ (8 - c.1) ≡ first / 2 ^ (8 - c.1)

@@ -132,7 +132,7 @@ impl Model for Held {
 
 impl Held {
     ghost use Rattle.std.specs.Prelude.{◌≡◌, ◌≤◌, ◌<◌, ◌^◌, ◌++◌, ℕ, [], None, IfSome, true, false};
-    ghost use Rattle.std.specs.Prelude.{is_ok, is_some, length, take, drop, replicate};
+    ghost use Rattle.std.specs.Prelude.{Some, is_ok, is_some, length, take, drop, replicate};
     ghost use Rattle.jpeg_bits.specs.Stream.{Stream};
     ghost use Rattle.jpeg_bits.specs.Codes.{next_16, code_from, symbol_from, fast_from};
     ghost use Rattle.jpeg_bits.specs.ShortCodes.{symbol_in, short_value_of, next_bits};
@@ -422,10 +422,11 @@ impl Held {
         table.short_value_of(self.bits.front_8())
     }
 
-    /// As `short_value`, where they are at most 11.
+    /// As `short_value`, where they are at most 11, and the table for them is filled.
     #[inline(always)]
     pub(crate) fn wide_value(&self, table: &HuffmanTable) -> Option<(i16, u8, u8)>
-        ensures value { result ≡ short_value_of 11 table.now (next_bits 11 self.now.bits) }
+        ensures value { IfSome result (λ t. short_value_of 11 table.now
+            (next_bits 11 self.now.bits) ≡ Some t) }
         ensures within { IfSome result (λ t. t.2 ≤ 11) }
         ensures counted { length table.now.counts ≡ 16 }
     {

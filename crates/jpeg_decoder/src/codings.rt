@@ -24,7 +24,7 @@ use jpeg_bits::error::Result;
 use jpeg_bits::huffman::{HuffmanTable, fill_default_mjpeg_tables};
 use jpeg_bits::scan::ScanInfo;
 use jpeg_segments::parser::{CodingProcess, FrameInfo};
-use std::alloc::Global;
+use std::alloc::{AllocError, Global};
 
 /// The tables that stand in where a scan names a place that is unset: the default ones of MJPEG
 /// frames by their places, and tables without codes where the scan needs none.
@@ -59,8 +59,38 @@ pub fn pass_of(header: &ScanInfo) -> Pass
     }
 }
 
+/// The number of pixels from which on it pays to fill the look-up tables of AC values: they have
+/// 2,304 entries, and a small picture has fewer tokens.
+const WIDE_PIXELS: u32 = 1 << 14;
+
+/// Whether a frame has so many pixels that it pays to fill the look-up tables of AC values.
+pub fn is_large(frame: &FrameInfo) -> bool {
+    let size = &frame.image_size;
+    u32::from(size.width) * u32::from(size.height) >= WIDE_PIXELS
+}
+
+/// Fills the look-up tables of AC values.
+pub fn widen_all(
+    alloc: Global,
+    tables: &mut [Option<HuffmanTable>],
+) -> std::result::Result<(), AllocError>
+    ensures { tables.new ≡ tables.old }
+{
+    for destination in 0..tables.len() {
+        if let Some(table) = &mut tables[destination] {
+            table.widen(alloc)?;
+        }
+    }
+    Ok(())
+}
+
 /// The spare tables of a scan; the default ones where a frame of an MJPEG stream was named.
-pub fn spare_tables(alloc: Global, header: &ScanInfo, is_mjpeg: bool) -> Result<Spare>
+pub fn spare_tables(
+    alloc: Global,
+    header: &ScanInfo,
+    frame: &FrameInfo,
+    is_mjpeg: bool,
+) -> Result<Spare>
     ensures dc { IfOk result (λ s. s.dc.items ≡ default_dc is_mjpeg (scan_in header.now).dc_places) }
     ensures ac { IfOk result (λ s. s.ac.items ≡ default_ac is_mjpeg (scan_in header.now).ac_places) }
     ensures no_dc { IfOk result (λ s. s.no_dc ≡ no_table DC) }
@@ -75,6 +105,9 @@ pub fn spare_tables(alloc: Global, header: &ScanInfo, is_mjpeg: bool) -> Result<
     };
     if is_mjpeg {
         fill_default_mjpeg_tables(alloc, header, &mut spare.dc, &mut spare.ac)?;
+        if is_large(frame) {
+            widen_all(alloc, &mut spare.ac)?;
+        }
     }
     Ok(spare)
 }

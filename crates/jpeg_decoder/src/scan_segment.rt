@@ -60,7 +60,7 @@ fn read_blocks_scan<R: Read + Drop>(
     ensures sound { OnOk result (IsSound (record (with_decoded (found_in state.now) decoded.new)
         { scanned = true })) }
 {
-    let spare = spare_tables(alloc, header, state.metadata.avi1)?;
+    let spare = spare_tables(alloc, header, frame, state.metadata.avi1)?;
     let scan = Scan {
         pass: pass_of(header),
         restart_interval: state.restart_interval,

@@ -4,6 +4,7 @@ ghost use Rattle.jpeg_bits.specs.Reading.{Answers, IsShort};
 ghost use Rattle.jpeg_segments.specs.HuffmanTables.{all_ac};
 ghost use Rattle.jpeg_streams.specs.Stream.{marker_or};
 
+use crate::codings::{is_large, widen_all};
 use crate::decoded::Decoded;
 use crate::frames::check_frame;
 use crate::metadata::Metadata;
@@ -16,7 +17,7 @@ use jpeg_bits::reads::{read_length, skip};
 use jpeg_bits::source::Source;
 use jpeg_segments::parser::{FrameInfo, parse_app, parse_dht, parse_dqt, parse_dri, parse_sof};
 use jpeg_streams::before::Before;
-use std::alloc::Global;
+use std::alloc::{AllocError, Global};
 use std::io::Read;
 
 /// What the segments of a stream have said so far: the frame, the tables in force by their places,
@@ -250,6 +251,19 @@ impl State {
         }
     }
 
+    /// Fills the look-up tables of AC values where the frame has so many samples that it pays.
+    fn widen_tables(&mut self, alloc: Global) -> std::result::Result<(), AllocError>
+        ensures { found_in self.new ≡ found_in self.old }
+    {
+        let Some(frame) = &self.frame else {
+            return Ok(());
+        };
+        if !is_large(frame) {
+            return Ok(());
+        }
+        widen_all(alloc, &mut self.ac_tables)
+    }
+
     /// A scan (T.81, B.2.3).
     fn read_scan<R: Read + Drop>(&mut self, alloc: Global, source: &mut Source<R>) -> Result<Step>
         requires sound { IsSound (found_in self.old) }
@@ -263,6 +277,7 @@ impl State {
         ensures unread { (found_in self.old).frame ≡ None
             → OnOk result (IsUnread (found_in self.new)) }
     {
+        self.widen_tables(alloc)?;
         let mut decoded = std::mem::replace(&mut self.decoded, Decoded::new(alloc));
         let result = read_scan(alloc, source, self, &mut decoded);
         self.decoded = decoded;

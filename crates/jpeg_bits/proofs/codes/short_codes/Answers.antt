@@ -1,29 +1,48 @@
-use Rattle.std.proofs.Common.{◌≡◌, ◌∙◌, ◌+◌, ◌*◌, ◌%◌, ◌++◌, ℕ, List, Bool, ap, subst, arith, replicate, false, None}
+use Rattle.std.proofs.Common.{◌≡◌, ◌≤◌, ◌∙◌, ◌*◌, ◌%◌, ◌++◌, ℕ, List, Bool, ap, subst, arith, replicate, false, None}
 use Rattle.jpeg_bits.specs.Codes.{code_in, code_lengths}
 use Rattle.jpeg_bits.specs.Written.{low_bits}
 use Rattle.jpeg_bits.specs.ShortCodes.{ArePassed, named, short_code, short_only}
 use Rattle.jpeg_bits.proofs.RowLemmas.{still-passed}
 use Rattle.jpeg_bits.proofs.ShortLemmas.{byte_padded, length_set, set_next, short-of-named}
+use Rattle.jpeg_bits.proofs.ShortRuns.{run-entry}
 use Rattle.jpeg_bits.proofs.codes.short_codes.Goals as goal
+
+pub loop-at-preserved : goal.loop-at-preserved
+loop-at-preserved c =
+    let byte = c.loop-byte.byte in
+    let b = c.loop-at.at in
+    let t = c.args.codes.now in
+    let lens = code_lengths t.counts.now in
+    let i = c.loop-at.invariant in
+    let whole : byte * 256 % 65536 ≡ byte * 256 = omega (arith, c.loop-byte-test.true) in
+    let padded : low_bits 16 (byte * 256 % 65536) ≡ low_bits 8 byte ++ replicate 8 false = ap (low_bits 16) whole
+    ∙ byte_padded byte in
+    let entry = c.short_only-code.ensures.code ∙ ap short_only (c.code_of.ensures.code
+    ∙ ap (λ (l : List Bool). named t.values.now (code_in lens l)) padded)
+    ∙ short-of-named t.values.now (code_in lens (low_bits 8 byte ++ replicate 8 false)) in
+    let same = run-entry t.counts.now t.values.now byte c.end_of_run-end.result b c.short_only-code.result
+    c.requires.counted (omega (arith, c.loop-at.auto.at)) (omega (arith, c.loop-at-test.true))
+    c.short_only-code.ensures.few c.end_of_run-end.ensures.run entry in
+    record {
+      whole = length_set c.loop-at.short.items b c.short_only-code.result 256 i.whole;
+      filled = set_next c.loop-at.short.items b c.short_only-code.result None
+          (λ (k : ℕ). short_code t.counts.now t.values.now (low_bits 8 k))
+          (omega (arith, i.whole, c.loop-at-test.true, c.end_of_run-end.ensures.most)) i.filled same;
+    }
 
 pub loop-byte-preserved : goal.loop-byte-preserved
 loop-byte-preserved c =
-    let b = c.loop-byte.byte in
-    let t = c.args.codes.now in
-    let lens = code_lengths t.counts.now in
-    let i = c.loop-byte.invariant in
-    let whole : b * 256 % 65536 ≡ b * 256 = omega (arith, c.loop-byte-test.true) in
-    let padded : low_bits 16 (b * 256 % 65536) ≡ low_bits 8 b ++ replicate 8 false = ap (low_bits 16) whole
-    ∙ byte_padded b in
-    let entry = c.short_only.ensures ∙ ap short_only (c.code_of.ensures.code
-    ∙ ap (λ (l : List Bool). named t.values.now (code_in lens l)) padded)
-    ∙ short-of-named t.values.now (code_in lens (low_bits 8 b ++ replicate 8 false)) in
+    let byte = c.loop-byte.byte in
+    let end = c.end_of_run-end.result in
+    let rows = c.args.codes.now.rows.now in
+    let i = c.loop-at.invariant in
+    let whole : byte * 256 % 65536 ≡ byte * 256 = omega (arith, c.loop-byte-test.true) in
+    let later : byte * 256 ≤ end * 256 = omega (arith, c.end_of_run-end.ensures.more) in
     record {
-      whole = length_set c.loop-byte.short.items b c.short_only.result 256 i.whole;
-      filled = set_next c.loop-byte.short.items b c.short_only.result None
-          (λ (k : ℕ). short_code t.counts.now t.values.now (low_bits 8 k))
-          (omega (arith, i.whole, c.loop-byte-test.true)) i.filled entry;
+      whole = i.whole;
+      filled = λ b lt. i.filled b (omega (arith, lt, c.loop-at-test.false));
       within = c.code_of.ensures.within;
-      passed = still-passed t.rows.now c.code_of.new.row (b * 256) ((b + 1) * 256) (omega arith)
-          (subst (λ (n : ℕ). ArePassed t.rows.now c.code_of.new.row n) whole c.code_of.ensures.passed);
+      passed = still-passed rows c.code_of.new.row (byte * 256) (end * 256) later
+          (subst (λ (n : ℕ). ArePassed rows c.code_of.new.row n) whole c.code_of.ensures.passed);
+      few = c.end_of_run-end.ensures.most;
     }

@@ -3,20 +3,10 @@ use Rattle.std.proofs.Common.{replicate, false, slice_index_or, None}
 use Rattle.jpeg_bits.specs.Codes.{code_in, code_lengths}
 use Rattle.jpeg_bits.specs.Written.{low_bits}
 use Rattle.jpeg_bits.specs.ShortCodes.{ArePassed, named, packed, short_value_by, short_value_of}
-use Rattle.jpeg_bits.specs.declared.codes.HuffmanTableClass.{HuffmanTableClass}
-use Rattle.jpeg_bits.specs.declared.codes.HuffmanTableClass.TheVariants.{DC}
+use Rattle.jpeg_bits.specs.declared.codes.HuffmanTableClass.TheVariants.{AC}
 use Rattle.jpeg_bits.proofs.RowLemmas.{still-passed}
-use Rattle.jpeg_bits.proofs.ShortLemmas.{set_next, length_set, none_dc, eleven_padded, within_byte}
+use Rattle.jpeg_bits.proofs.ShortLemmas.{set_next, length_set, eleven_padded, within_byte, entry-of}
 use Rattle.jpeg_bits.proofs.codes.wide_values.Goals as goal
-
-pub returns-then-eq : goal.returns-then-eq
-returns-then-eq c = λ b lt.
-    let dc : c.args.class ≡ DC = search rules in
-    let t = c.args.codes.now in
-    ap (λ (xs : List (ℤ × ℕ × ℕ)). slice_index_or xs b (packed None)) c.new.ensures.items
-    ∙ none_dc t.values.now t.counts.now b
-    ∙ ap (λ (class : HuffmanTableClass). packed (short_value_of 11
-    (record { class = class; counts = t.counts.now; symbols = t.values.now }) (low_bits 11 b))) (sym dc)
 
 pub code_of-code-requires-clause-passed : goal.code_of-code-requires-clause-passed
 code_of-code-requires-clause-passed c =
@@ -34,13 +24,13 @@ loop-place-preserved c =
     let padded : low_bits 16 (b * 32 % 65536) ≡ low_bits 11 b ++ replicate 5 false = ap (low_bits 16) whole
     ∙ eleven_padded b in
     let entry = c.packed.ensures ∙ ap packed (c.short_value.ensures.value
-    ∙ ap (short_value_by 11 c.args.class (low_bits 11 b)) (c.code_of-code.ensures.code
+    ∙ ap (short_value_by 11 AC (low_bits 11 b)) (c.code_of-code.ensures.code
     ∙ ap (λ (l : List Bool). named t.values.now (code_in lens l)) padded)) in
     record {
       whole = length_set c.loop-place.tokens.items b c.packed.result 2048 i.whole;
       filled = set_next c.loop-place.tokens.items b c.packed.result (packed None)
           (λ (k : ℕ). packed (short_value_of 11
-          (record { class = c.args.class; counts = t.counts.now; symbols = t.values.now }) (low_bits 11 k)))
+          (record { class = AC; counts = t.counts.now; symbols = t.values.now }) (low_bits 11 k)))
           (omega (arith, i.whole, c.loop-place-test.true)) i.filled entry;
       within = c.code_of-code.ensures.within;
       passed = still-passed t.rows.now c.code_of-code.new.row (b * 32) ((b + 1) * 32) (omega arith)
@@ -49,3 +39,11 @@ loop-place-preserved c =
 
 pub packed-requires : goal.packed-requires
 packed-requires c = within_byte c.short_value.result c.short_value.ensures.within
+
+pub returns : goal.returns
+returns c = λ b lt. entry-of _ _ (c.loop-place.invariant.filled b (omega (
+  arith,
+  lt,
+  c.loop-place.invariant.whole,
+  c.loop-place-test.false,
+)))

@@ -1,13 +1,14 @@
 use Rattle.std.proofs.Common.{◌≡◌, ℕ, ◌<◌, ◌≤◌, ◌*◌, slice_index_or, length, None}
 use Rattle.jpeg_bits.specs.Written.{low_bits}
 use Rattle.jpeg_bits.specs.ShortCodes.{ArePassed, packed, short_value_of}
+use Rattle.jpeg_bits.specs.declared.codes.HuffmanTableClass.TheVariants.{AC}
 use Rattle.jpeg_bits.proofs.codes.wide_values.Given as goal
 
 abbrev pub invariant-loop-place : goal.invariant-loop-place
 invariant-loop-place l = record {
   whole : length l.tokens.items ≡ 2048;
   filled : (b : ℕ) → b < l.place → slice_index_or l.tokens.items b (packed None) ≡ packed (short_value_of 11
-      (record { class = l.class; counts = l.codes.counts.now; symbols = l.codes.values.now }) (low_bits 11 b));
+      (record { class = AC; counts = l.codes.counts.now; symbols = l.codes.values.now }) (low_bits 11 b));
   within : l.row ≤ 16;
   passed : ArePassed l.codes.rows.now l.row (l.place * 32);
 }

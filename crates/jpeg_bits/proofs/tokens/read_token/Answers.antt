@@ -21,7 +21,7 @@ returns-then-has-clause-token g c =
     rw (to_z-of_z w16 t.value fits) (Takes-after (token_from c.args.table.now c.args.room) tt c.args.held.now
     c.hold.new.self c.skip.new.self c.args.source.now c.hold.new.source (Value t.run' t.value)
     (wide-taken c.args.table.now c.args.room c.hold.new.self c.skip.new.self c.hold.new.source.bytes t.value t.run'
-    t.bits t.ensures.counted (c.if-not-hold.ensures.full refl) (sym t.ensures.value) within enough d
+    t.bits t.ensures.counted (c.if-not-hold.ensures.full refl) t.ensures.value within enough d
     c.skip.ensures.met) c.if-not-hold.ensures.holds)
 
 pub returns-in_default-take_held_code-clause-token : goal.returns-in_default-take_held_code-clause-token

@@ -1,10 +1,8 @@
-use Rattle.std.proofs.Common.{◌≡◌, ◌∙◌, refl, sym, ap, length, replicate, ℕ, ℤ, List}
+use Rattle.std.proofs.Common.{◌≡◌, ◌∙◌, refl, sym, ap, arith, length, replicate, ℕ, List}
 use Rattle.std.proofs.Common.{slice_index_or, None, Option}
 use Rattle.jpeg_bits.specs.Codes.{code_in, code_lengths, lengths_from, first_from}
 use Rattle.jpeg_bits.specs.Written.{low_bits}
-use Rattle.jpeg_bits.specs.declared.codes.HuffmanTableClass.{HuffmanTableClass}
-use Rattle.jpeg_bits.specs.ShortCodes.{short_code, short_value_of, packed}
-use Rattle.jpeg_bits.proofs.ShortLemmas.{none_packed}
+use Rattle.jpeg_bits.specs.ShortCodes.{short_code}
 use Rattle.jpeg_bits.proofs.codes.HuffmanTable.without_codes.Goals as goal
 
 no-lengths : length (code_lengths (replicate 16 0)) ≡ 0
@@ -19,11 +17,6 @@ no-code : (symbols : List ℕ) (b : ℕ) → none_of (ℕ × ℕ) ≡ short_code
 unfolding code_in lengths_from first_from
 no-code symbols b = refl
 
-no-value : (class : HuffmanTableClass) (symbols : List ℕ) (b : ℕ) → none_of (ℤ × ℕ × ℕ)
-    ≡ short_value_of 8 (record { class = class; counts = replicate 16 0; symbols = symbols }) (low_bits 8 b)
-unfolding code_in lengths_from first_from
-no-value class symbols b = refl
-
 pub invariant_of-result : goal.invariant_of-result
 invariant_of-result c = (
   refl,
@@ -31,8 +24,7 @@ invariant_of-result c = (
   c.rows_of.ensures,
   λ b lt. ap (λ (xs : List (Option (ℕ × ℕ))). slice_index_or xs b (none_of (ℕ × ℕ))) c.new-2.ensures.items
       ∙ no-code c.new.result.items b,
-  λ b lt. ap (λ (xs : List (Option (ℤ × ℕ × ℕ))). slice_index_or xs b (none_of (ℤ × ℕ × ℕ))) c.new-3.ensures.items
-      ∙ no-value c.args.class c.new.result.items b,
-  λ b lt. ap (λ (xs : List (ℤ × ℕ × ℕ)). slice_index_or xs b (packed None)) c.new-4.ensures.items
-      ∙ none_packed c.args.class c.new.result.items b,
+  λ b lt. absurd (omega (arith, lt, ap length c.new-3.ensures.items)),
+  λ b lt. absurd (omega (arith, lt, ap length c.new-4.ensures.items)),
+  omega (arith, ap length c.new.ensures.items),
 )

@@ -1,0 +1,82 @@
+-- Bytes that the same short code begins.
+use Rattle.std.proofs.Common.{◌≡◌, ℕ, ◌+◌, ◌-◌, ◌*◌, ◌/◌, ◌%◌, ◌^◌, ◌<◌, ◌≤◌, ◌++◌, Bool, true, false, cond, leb, List, take}
+use Rattle.std.proofs.Common.{length, get_or, replicate, IfSome, Option, Some, None, refl, sym, ap, ◌∙◌, subst, arith, is_some}
+use Rattle.std.proofs.lemmas.Bool.{false≢true}
+use Rattle.std.proofs.lemmas.Bool.Decides.{nat_tests}
+use Rattle.std.proofs.lemmas.List.{take-append-le}
+use Rattle.std.proofs.Math.Nat.{div-mul-le_self, div-eq_of_lt-le, mul-le-mul_right}
+use Rattle.std.proofs.lemmas.Nat.{pow-add}
+use Rattle.jpeg_bits.specs.Written.{low_bits}
+use Rattle.jpeg_bits.specs.Codes.{code_in, code_lengths}
+use Rattle.jpeg_bits.specs.ShortCodes.{named, short_only, short_code, IsRun}
+use Rattle.jpeg_bits.proofs.Reservoirs.{low_bits-take, front_small}
+use Rattle.jpeg_bits.proofs.ShortLemmas.{at_most, short_agree}
+use Rattle.jpeg_bits.proofs.Tables.{all-rising}
+use Rattle.jpeg_bits.proofs.WrittenBits.{length-low_bits}
+
+-- a code of l bits begins all bits that have its first l bits
+same-code : (symbols : List ℕ) (l v : ℕ) (x y : Option (ℕ × ℕ)) → at_most l x ≡ at_most l y
+    → named symbols (short_only x) ≡ Some (v, l) → named symbols (short_only y) ≡ Some (v, l)
+same-code symbols l v None y e h = absurd (false≢true (ap is_some h))
+same-code symbols l v (Some c) y e h = go (leb c.1 8) refl
+  where
+    other : (y : Option (ℕ × ℕ)) → Some c ≡ at_most l y → y ≡ Some c
+    other None f = absurd (false≢true (sym (ap is_some f)))
+    other (Some d) f = at (leb d.1 l) refl
+      where
+        at : (b : Bool) → leb d.1 l ≡ b → Some d ≡ Some c
+        at true t = sym (rw t at f)
+        at false t = absurd (false≢true (sym (ap is_some (rw t at f))))
+
+    go : (b : Bool) → leb c.1 8 ≡ b → named symbols (short_only y) ≡ Some (v, l)
+    go false t = absurd (false≢true (ap is_some (rw t at h)))
+    go true t =
+        let same : c.1 ≡ l = ap (λ (o : Option (ℕ × ℕ)). elim o [ None ↦ 0 | Some p ↦ p.1 ]) (rw t at h) in
+        let few : leb c.1 l ≡ true = grind (arith, nat_tests) in
+        let is : y ≡ Some c = other y (rw few at e) in
+        rw is h
+
+-- the same code begins the bytes of a run
+pub same-run : (counts symbols : List ℕ) (first b v l : ℕ) → length counts ≡ 16 → l ≤ 8
+    → b / 2 ^ (8 - l) ≡ first / 2 ^ (8 - l) → short_code counts symbols (low_bits 8 first) ≡ Some (v, l)
+    → short_code counts symbols (low_bits 8 b) ≡ Some (v, l)
+same-run counts symbols first b v l counted few e h =
+    let z = replicate 8 false in
+    let whole : l + (8 - l) ≡ 8 = omega arith in
+    let front = λ (n : ℕ). take-append-le l (low_bits 8 n) z (omega (arith, length-low_bits 8 n, few))
+    ∙ ap (λ (k : ℕ). take l (low_bits k n)) (sym whole) ∙ low_bits-take l (8 - l) n in
+    same-code symbols l v (code_in (code_lengths counts) (low_bits 8 first ++ z))
+    (code_in (code_lengths counts) (low_bits 8 b ++ z))
+    (short_agree l (code_lengths counts) (all-rising counts counted) (low_bits 8 first ++ z) (low_bits 8 b ++ z)
+    (front first ∙ ap (low_bits l) (sym e) ∙ sym (front b))) h
+
+-- a run of bytes
+pub run-entry : (counts symbols : List ℕ) (first end b : ℕ) (code : Option (ℕ × ℕ)) → length counts ≡ 16
+    → first ≤ b → b < end → IfSome code (λ c. c.1 ≤ 8) → IsRun first end code
+    → code ≡ short_code counts symbols (low_bits 8 first) → code ≡ short_code counts symbols (low_bits 8 b)
+run-entry counts symbols first end b None counted from to few run is =
+    let e : b ≡ first = omega (arith, run) in
+    is ∙ ap (λ (n : ℕ). short_code counts symbols (low_bits 8 n)) (sym e)
+run-entry counts symbols first end b (Some c) counted from to few run is =
+    sym (same-run counts symbols first b c.0 c.1 counted few (run b from to) (sym is))
+
+-- ---- where a run ends
+
+module _ (byte l : ℕ) (small : byte < 256) (few : l ≤ 8) where
+  pub run-most : (byte / 2 ^ (8 - l) + 1) * 2 ^ (8 - l) % 18446744073709551616 ≤ 256
+  run-most =
+      let side = 2 ^ (8 - l) in
+      let whole : l + (8 - l) ≡ 8 = omega arith in
+      let p = sym (pow-add 2 l (8 - l)) ∙ ap (λ (k : ℕ). 2 ^ k) whole in
+      let f = front_small byte l (8 - l) (subst (λ (k : ℕ). byte < 2 ^ k) (sym whole) small) in
+      let next : byte / side + 1 ≤ 2 ^ l = omega (arith, f) in
+      let m = mul-le-mul_right side next in
+      omega (arith, m, p)
+
+  pub run-same : (code : Option (ℕ × ℕ)) (v : ℕ) → code ≡ Some (v, l)
+      → IsRun byte ((byte / 2 ^ (8 - l) + 1) * 2 ^ (8 - l) % 18446744073709551616) code
+  run-same code v is = rw is (λ b from to.
+      let side = 2 ^ (8 - l) in
+      let low : byte / side * side ≤ b = omega (arith, div-mul-le_self byte side, from) in
+      let high : b < (byte / side + 1) * side = omega (arith, to) in
+      div-eq_of_lt-le side low high)
