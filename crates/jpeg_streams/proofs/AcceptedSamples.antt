@@ -17,7 +17,7 @@ use Rattle.jpeg_streams.specs.SaidSegments.{IsNear}
 use Rattle.jpeg_streams.specs.Segments.{accepted, is_decoded_count}
 use Rattle.jpeg_streams.specs.WrittenLossless.{HasSamples}
 use Rattle.jpeg_streams.proofs.AcceptedTurns.{bind-ok, err-ok}
-use Rattle.jpeg_streams.proofs.FrameShapes.{factors-back}
+use Rattle.jpeg_streams.proofs.FrameFits.{factors-back}
 use Rattle.jpeg_streams.proofs.PicturedFrames.{Upsampled}
 use Rattle.jpeg_streams.proofs.ScaledSources.{pick-test}
 use Rattle.jpeg_streams.proofs.Soundness.{accepted-facts, accepted-precision, both-hold}

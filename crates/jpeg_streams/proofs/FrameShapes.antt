@@ -1,25 +1,27 @@
 -- Frames that are read have the blocks that the order of a scan goes over.
 use Rattle.std.proofs.Common.{◌≡◌, ◌≢◌, ◌⊎◌, inl, inr, ℕ, zero, suc, ◌+◌, ◌-◌, ◌*◌, ◌/◌, ◌%◌, ◌<◌, ◌≤◌, ◌&&◌, ◌||◌}
 use Rattle.std.proofs.Common.{not, nat_le, ◌==◌, Bool, true, false, cond, List, [], ◌∷◌, ◌++◌, map, length, Result}
-use Rattle.std.proofs.Common.{Ok, Err, refl, sym, ap, ◌∙◌, subst, arith, eqb, leb, true≢false, mul_assoc, min}
+use Rattle.std.proofs.Common.{Ok, Err, refl, sym, ap, ◌∙◌, subst, arith, eqb, leb, true≢false, min}
 use Rattle.std.proofs.lemmas.Bool.{eqb-true, leb-true}
 use Rattle.std.proofs.lemmas.Bool.Decides.{leb_tells}
-use Rattle.std.proofs.Math.Nat.{le-div_iff_mul-le, mul-le-mul_right, mul_comm, add-mul, one-mul}
+use Rattle.std.proofs.Math.Nat.{le-div_iff_mul-le, add-mul, one-mul}
 use Rattle.std.specs.List.{AllByRecursion}
 use Rattle.jpeg_bits.specs.Reading.{Fault, Malformed, Lacks, ◌>>=◌, next_byte, next_u16, length_at}
 use Rattle.jpeg_segments.specs.declared.parser.CodingProcess.TheVariants.{Lossless}
 use Rattle.jpeg_segments.specs.Frame.{Frame, Component, Factors, IsInRange, is_factor, is_lossless_number, is_taken}
 use Rattle.jpeg_segments.specs.Frame.{is_place, parameters_at, factors_at, components_from, Head, size_at, head_at}
-use Rattle.jpeg_segments.specs.Frame.{is_precision as precise, is_count as counted, sof_at, frame_of, component_of}
+use Rattle.jpeg_segments.specs.Frame.{is_precision as precise, is_count as counted, sof_at, frame_of}
 use Rattle.jpeg_segments.specs.Frame.{ceiling, greatest}
 use Rattle.jpeg_bits.specs.declared.error.UnsupportedFeature.TheVariants as features
 use Rattle.jpeg_bits.specs.declared.error.UnsupportedFeature.TheVariants.{DNL}
 use Rattle.std.specs.Prelude.{nat_lt, if◌then◌else◌}
-use Rattle.jpeg_pixels.specs.Pictures.{Source, sources_of, all_factors}
+use Rattle.jpeg_pixels.specs.Pictures.{Source, sources_of}
 use Rattle.jpeg_segments.specs.Scales.{frame_at}
 use Rattle.jpeg_segments.proofs.ScaleLemmas.{full_size}
 use Rattle.jpeg_streams.specs.Segments.{accepted, is_decoded_count, is_arithmetic, is_decoded_precision}
 use Rattle.jpeg_streams.proofs.AcceptedStreams.{IsAccepted}
+use Rattle.jpeg_streams.specs.InTurn as fitted
+use Rattle.jpeg_streams.proofs.FrameFits.{frames-fit}
 use Rattle.jpeg_streams.proofs.OwnSpots.{At, Fits}
 use Rattle.jpeg_streams.proofs.WrittenFrameScans.{at-all}
 use Rattle.jpeg_streams.proofs.AcceptedTurns.{err-ok, ok-same, bind-ok}
@@ -52,22 +54,6 @@ ceiling-covers a b h = go (leb_tells a (ceiling a b * b))
     go (inl x) = x.1
     go (inr x) = absurd (let k = (below-ceiling (ceiling a b) a b h).1 x.1 in omega arith)
 
--- the own blocks of a component are within its part of all MCUs
-pub own-least : (size factor most : ℕ) → 0 < most
-    → ceiling (ceiling (size * factor) most) 8 ≤ ceiling size (8 * most) * factor
-own-least size factor most h =
-    let m = ceiling size (8 * most) in
-    let cover = ceiling-covers size (8 * most) (omega arith) in
-    let more : size * factor ≤ (m * (8 * most)) * factor = mul-le-mul_right factor cover in
-    let same : (m * (8 * most)) * factor ≡ ((m * factor) * 8) * most
-    = ap (λ (x : ℕ). x * factor) (sym (mul_assoc m 8 most)) ∙ mul_assoc (m * 8) most factor
-    ∙ ap (λ (x : ℕ). (m * 8) * x) (mul_comm most factor)
-    ∙ sym (mul_assoc (m * 8) factor most)
-    ∙ ap (λ (x : ℕ). x * most)
-    (mul_assoc m 8 factor ∙ ap (λ (x : ℕ). m * x) (mul_comm 8 factor) ∙ sym (mul_assoc m factor 8)) in
-    ceiling-least (ceiling (size * factor) most) 8 (m * factor) (omega arith)
-    (ceiling-least (size * factor) most ((m * factor) * 8) h (omega arith))
-
 -- ---- what is read
 
 pub if-ok : {A : Type 0} (b : Bool) (x : Result A Fault) (e : Fault) (y : A) → cond b x (Err e) ≡ Ok y
@@ -80,7 +66,7 @@ pub unless-ok : {A : Type 0} (b : Bool) (x : Result A Fault) (e : Fault) (y : A)
 unless-ok true x e y h = absurd (err-ok e y h)
 unless-ok false x e y h = (refl, h)
 
-factor-range : (n : ℕ) → is_factor n ≡ true → (1 ≤ n) × (n ≤ 4)
+pub factor-range : (n : ℕ) → is_factor n ≡ true → (1 ≤ n) × (n ≤ 4)
 factor-range zero h = absurd (true≢false (sym h))
 factor-range (suc n) h = (omega arith, leb-true (suc n) 4 (go (eqb (suc n) 0) h))
   where
@@ -171,12 +157,6 @@ greatest-some field (c ∷ cs) = let h = greatest-some field cs in omega arith
 
 -- ---- full size
 
-pub factors-back : (width height h v : ℕ) (xs : List Factors) → all_factors (map (component_of width height h v) xs)
-    ≡ xs
-unfolding component_of
-factors-back width height h v [] = refl
-factors-back width height h v (x ∷ xs) = ap (λ (l : List Factors). x ∷ l) (factors-back width height h v xs)
-
 -- a frame that is read
 pub record Plain (f : Frame) : Type 0 where
   pub number : ℕ
@@ -242,34 +222,20 @@ at-mapped g k [] y h = absurd h
 at-mapped g zero (x ∷ xs) y h = (x, refl, h)
 at-mapped g (suc k) (x ∷ xs) y h = at-mapped g k xs y h
 
-component-fits : (number precision width height : ℕ) (cs : List Factors) (c : Factors) → IsInRange c
-    → Fits (frame_of number precision width height cs)
-    (component_of width height (greatest (λ x. x.horizontal) cs) (greatest (λ x. x.vertical) cs) c)
-unfolding frame_of component_of
-component-fits number precision width height cs c r = record {
-  horizontal = r.horizontal_some;
-  vertical = r.vertical_some;
-  wide = refl;
-  high = refl;
-  own_wide = own-least width c.horizontal (greatest (λ x. x.horizontal) cs) (greatest-some (λ x. x.horizontal) cs);
-  own_high = own-least height c.vertical (greatest (λ x. x.vertical) cs) (greatest-some (λ x. x.vertical) cs);
-}
-
-components-are : (number precision width height : ℕ) (cs : List Factors)
-    → (frame_of number precision width height cs).components
-    ≡ map (component_of width height (greatest (λ x. x.horizontal) cs) (greatest (λ x. x.vertical) cs)) cs
-unfolding frame_of
-components-are number precision width height cs = refl
-
 frame-fits : (number precision width height : ℕ) (cs : List Factors) → AllByRecursion IsInRange cs
     → (k : ℕ) (c : Component)
     → At k (frame_of number precision width height cs).components c → Fits (frame_of number precision width height cs) c
-frame-fits number precision width height cs all k c h =
-    let x = at-mapped (component_of width height (greatest (λ y. y.horizontal) cs) (greatest (λ y. y.vertical) cs)) k
-    cs c
-    (subst (λ (l : List Component). At k l c) (components-are number precision width height cs) h) in
-    subst (Fits (frame_of number precision width height cs)) x.2
-    (component-fits number precision width height cs x.0 (at-all IsInRange k cs x.0 all x.1))
+frame-fits number precision width height cs all k c t =
+    let f = frame_of number precision width height cs in
+    let fit = at-all (fitted.Fits f) k f.components c (frames-fit number precision width height cs all) t in
+    record {
+      horizontal = fit.horizontal;
+      vertical = fit.vertical;
+      wide = fit.wide;
+      high = fit.high;
+      own_wide = fit.own_wide;
+      own_high = fit.own_high;
+    }
 
 count-few : (n : ℕ) → is_decoded_count n ≡ true → n ≤ 4
 count-few n h = go (eqb n 1) refl (eqb n 3) refl h

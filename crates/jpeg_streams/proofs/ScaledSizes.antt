@@ -14,7 +14,8 @@ use Rattle.jpeg_pixels.specs.Pictures.{Source, source_by, source_of, sources_by,
 use Rattle.jpeg_segments.specs.Scales.{component_at, frame_at}
 use Rattle.jpeg_streams.proofs.OwnSpots.{At}
 use Rattle.jpeg_streams.proofs.AcceptedTurns.{err-ok, ok-same, bind-ok}
-use Rattle.jpeg_streams.proofs.FrameShapes.{ceiling-least, ceiling-covers, below-ceiling, factors-back, greatest-some}
+use Rattle.jpeg_streams.proofs.FrameShapes.{ceiling-least, ceiling-covers, below-ceiling, greatest-some}
+use Rattle.jpeg_streams.proofs.FrameFits.{factors-back}
 use Rattle.jpeg_streams.proofs.FrameShapes.{at-mapped}
 use Rattle.jpeg_streams.proofs.BroughtLevels.{Made}
 use Rattle.jpeg_streams.proofs.InsidePictures.{Reaches, AllReach}

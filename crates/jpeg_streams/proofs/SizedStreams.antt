@@ -6,7 +6,7 @@ use Rattle.jpeg_bits.specs.Reading.{Outcome, Fault, ◌>>=◌}
 use Rattle.jpeg_bits.specs.declared.marker.Marker.{Marker}
 use Rattle.jpeg_segments.specs.declared.parser.CodingProcess.{CodingProcess}
 use Rattle.jpeg_segments.specs.declared.parser.CodingProcess.TheVariants.{DctSequential, DctProgressive, Lossless}
-use Rattle.jpeg_segments.specs.Frame.{Frame, Component, Factors, ceiling}
+use Rattle.jpeg_segments.specs.Frame.{Frame, Component, Factors}
 use Rattle.jpeg_streams.specs.declared.before.Before.{Before}
 use Rattle.jpeg_streams.specs.declared.before.Before.TheVariants.{Elsewhere}
 use Rattle.jpeg_streams.specs.declared.settings.Settings.{Settings}
@@ -35,10 +35,9 @@ use Rattle.jpeg_streams.proofs.ScaledScans.{scans-alike}
 use Rattle.jpeg_streams.proofs.ReadStreams.{nothing_finished, no_planes, frame-turn, frame-by, reads-scans}
 use Rattle.jpeg_streams.proofs.ReadStreams.{nothing-is, no-frame, starts-so, within-so}
 use Rattle.jpeg_streams.proofs.WrittenPictures.{pictures-same, rest-by}
-use Rattle.jpeg_streams.proofs.FrameShapes.{greatest-some, accepted-sources, ceiling-covers, ceiling-least}
-use Rattle.jpeg_streams.proofs.ScaledSources.{sources-there}
-use Rattle.jpeg_streams.proofs.ScaledSizes.{is-sized, factors-scaled, some-ceiling}
-use Rattle.jpeg_pixels.specs.Pictures.{Source, sources_by, sources_of}
+use Rattle.jpeg_streams.proofs.FrameShapes.{greatest-some, accepted-sources}
+use Rattle.jpeg_streams.proofs.ScaledSources.{frame-sources}
+use Rattle.jpeg_pixels.specs.Pictures.{sources_of}
 use Rattle.jpeg_streams.specs.ArrayPictures.{Takes}
 use Rattle.jpeg_streams.proofs.WrittenPictures.{pictures-taken}
 use Rattle.jpeg_streams.proofs.TablesInForce.{GoodTables, good-next, good-start}
@@ -335,53 +334,6 @@ stream-means_sized width height settings array tail bytes final last range
     ∙ ap (λ (x : Found). meaning_of_array settings x array last tail) (sym told)
 
 -- ---- there is a picture
-
-one-wide : (n s : ℕ) → 0 < s → s ≤ 8 → ceiling (n * 8) 8 ≡ 1 → 0 < n → ceiling (n * s) 8 ≡ 1
-one-wide n s a b e some =
-    let cover = ceiling-covers (n * 8) 8 (omega arith) in
-    let one : n ≡ 1 = omega arith in
-    let size : n * s ≡ 1 * s = ap (λ (x : ℕ). x * s) one in
-    let most : ceiling (n * s) 8 ≤ 1 = ceiling-least (n * s) 8 1 (omega arith) (omega arith) in
-    let least : 0 < ceiling (n * s) 8 = some-ceiling (n * s) 8 (omega arith) (omega arith) in
-    omega arith
-
--- the frame at a scale has a way to upsample each component
-frame-sources : (f : Frame) (s : ℕ) (sources : List Source) → Plain f → 0 < s → s ≤ 8
-    → sources_of f.components f.output_width f.output_height ≡ Ok sources
-    → (others : List Source)
-    × (sources_of (frame_at s f).components (frame_at s f).output_width (frame_at s f).output_height ≡ Ok others)
-frame-sources f s sources o a b e =
-    let m = made-at f s o a in
-    let z = is-sized (frame_at s f) m in
-    let m8 = made-at f 8 o (omega arith) in
-    let z8 = is-sized (frame_at 8 f) m8 in
-    let full = plain-size f o in
-    let at8 : sources_of (map (scaled_component 8 o.width o.height (most_h o.factors) (most_v o.factors)) o.factors)
-    (ceiling (o.width * 8) 8) (ceiling (o.height * 8) 8) ≡ Ok sources
-    = sym (ap₂ (λ (x y : ℕ). sources_of
-    (map (scaled_component 8 o.width o.height (most_h o.factors) (most_v o.factors)) o.factors) x y) z8.width
-    z8.height)
-    ∙ sym (ap (λ (l : List Component). sources_of l (frame_at 8 f).output_width (frame_at 8 f).output_height)
-    z8.components)
-    ∙ ap (λ (g : Frame). sources_of g.components g.output_width g.output_height) full ∙ e in
-    let by8 = subst (λ (l : List Factors). sources_by (most_h l) (most_v l) (ceiling (o.width * 8) 8)
-    (ceiling (o.height * 8) 8)
-    (map (scaled_component 8 o.width o.height (most_h o.factors) (most_v o.factors)) o.factors) ≡ Ok sources)
-    (factors-scaled 8 o.width o.height (most_h o.factors) (most_v o.factors) o.factors) at8 in
-    let others = sources-there s o.width o.height (most_h o.factors) (most_v o.factors) (ceiling (o.width * 8) 8)
-    (ceiling (o.height * 8) 8) (ceiling (o.width * s) 8) (ceiling (o.height * s) 8) o.factors sources
-    (λ k. one-wide o.width s a b k o.some_width) (λ k. one-wide o.height s a b k o.some_height) by8 in
-    let back = subst (λ (l : List Factors). sources_by (most_h l) (most_v l) (ceiling (o.width * s) 8)
-    (ceiling (o.height * s) 8)
-    (map (scaled_component s o.width o.height (most_h o.factors) (most_v o.factors)) o.factors) ≡ Ok others.0)
-    (sym (factors-scaled s o.width o.height (most_h o.factors) (most_v o.factors) o.factors)) others.1 in (
-      others.0,
-      ap (λ (l : List Component). sources_of l (frame_at s f).output_width (frame_at s f).output_height) z.components
-          ∙ ap₂ (λ (x y : ℕ). sources_of
-          (map (scaled_component s o.width o.height (most_h o.factors) (most_v o.factors)) o.factors) x y) z.width
-          z.height
-          ∙ back,
-    )
 
 -- A written stream whose picture is taken means one at each scale.
 pub sized-taken : (width height : ℕ) (settings : Settings) (array : Coefficients) (tail bytes : List ℕ)
