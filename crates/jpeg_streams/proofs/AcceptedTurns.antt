@@ -33,6 +33,7 @@ use Rattle.jpeg_streams.proofs.AcceptedStreams.WritesScans.{segment, scan, close
 use Rattle.jpeg_streams.specs.Levels.{Levels}
 use Rattle.jpeg_bits.specs.Written.{marker}
 use Rattle.jpeg_lossless.specs.Written.{IsMarker}
+pub use Rattle.jpeg_segments.proofs.OnlyWritten.{ok-same, bind-ok}
 use Rattle.jpeg_streams.proofs.OwnSpots.{At}
 use Rattle.jpeg_streams.proofs.ReadStates.{reading}
 
@@ -76,15 +77,6 @@ stands-next fill code m bytes h =
 
 pub err-ok : {C : Type 0} (x : Fault) (r : C) → ◌≡◌ {A = Result C Fault} (Err x) (Ok r) → ⊥
 err-ok x r e = cc
-
-pub ok-same : {C : Type 0} (x r : C) → ◌≡◌ {A = Result C Fault} (Ok x) (Ok r) → x ≡ r
-ok-same x r e = cc
-
--- what a step gave, and the rest
-pub bind-ok : {A B : Type 0} (o : Result A Fault) (f : A → Result B Fault) (y : B) → (o >>= f) ≡ Ok y
-    → (x : A) × (o ≡ Ok x) × (f x ≡ Ok y)
-bind-ok (Ok x) f y e = (x, refl, e)
-bind-ok (Err x) f y e = absurd (err-ok x y e)
 
 pub then-ok : {A B : Type 0} (o : Result A Fault) (f : A → Result B Fault) (x : A) (y : Result B Fault) → o ≡ Ok x
     → f x ≡ y → (o >>= f) ≡ y

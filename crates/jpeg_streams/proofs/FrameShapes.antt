@@ -1,12 +1,12 @@
 -- Frames that are read have the blocks that the order of a scan goes over.
 use Rattle.std.proofs.Common.{◌≡◌, ◌≢◌, ◌⊎◌, inl, inr, ℕ, zero, suc, ◌+◌, ◌-◌, ◌*◌, ◌/◌, ◌%◌, ◌<◌, ◌≤◌, ◌&&◌, ◌||◌}
-use Rattle.std.proofs.Common.{not, nat_le, ◌==◌, Bool, true, false, cond, List, [], ◌∷◌, ◌++◌, map, length, Result}
+use Rattle.std.proofs.Common.{not, nat_le, ◌==◌, Bool, true, false, List, [], ◌∷◌, ◌++◌, map, length}
 use Rattle.std.proofs.Common.{Ok, Err, refl, sym, ap, ◌∙◌, subst, arith, eqb, leb, true≢false, min}
 use Rattle.std.proofs.lemmas.Bool.{eqb-true, leb-true}
 use Rattle.std.proofs.lemmas.Bool.Decides.{leb_tells}
 use Rattle.std.proofs.Math.Nat.{le-div_iff_mul-le, add-mul, one-mul}
 use Rattle.std.specs.List.{AllByRecursion}
-use Rattle.jpeg_bits.specs.Reading.{Fault, Malformed, Lacks, ◌>>=◌, next_byte, next_u16, length_at}
+use Rattle.jpeg_bits.specs.Reading.{Malformed, Lacks, ◌>>=◌, next_byte, next_u16, length_at}
 use Rattle.jpeg_segments.specs.declared.parser.CodingProcess.TheVariants.{Lossless}
 use Rattle.jpeg_segments.specs.Frame.{Frame, Component, Factors, IsInRange, is_factor, is_lossless_number, is_taken}
 use Rattle.jpeg_segments.specs.Frame.{is_place, parameters_at, factors_at, components_from, Head, size_at, head_at}
@@ -24,7 +24,7 @@ use Rattle.jpeg_streams.specs.InTurn as fitted
 use Rattle.jpeg_streams.proofs.FrameFits.{frames-fit}
 use Rattle.jpeg_streams.proofs.OwnSpots.{At, Fits}
 use Rattle.jpeg_streams.proofs.WrittenFrameScans.{at-all}
-use Rattle.jpeg_streams.proofs.AcceptedTurns.{err-ok, ok-same, bind-ok}
+use Rattle.jpeg_segments.proofs.OnlyWritten.{ok-same, bind-ok, kept-if as if-ok, kept-unless as unless-ok}
 use Rattle.jpeg_streams.proofs.BroughtLevels.{Made, Shaped}
 
 -- ---- rounding up
@@ -55,16 +55,6 @@ ceiling-covers a b h = go (leb_tells a (ceiling a b * b))
     go (inr x) = absurd (let k = (below-ceiling (ceiling a b) a b h).1 x.1 in omega arith)
 
 -- ---- what is read
-
-pub if-ok : {A : Type 0} (b : Bool) (x : Result A Fault) (e : Fault) (y : A) → cond b x (Err e) ≡ Ok y
-    → (b ≡ true) × (x ≡ Ok y)
-if-ok true x e y h = (refl, h)
-if-ok false x e y h = absurd (err-ok e y h)
-
-pub unless-ok : {A : Type 0} (b : Bool) (x : Result A Fault) (e : Fault) (y : A) → cond b (Err e) x ≡ Ok y
-    → (b ≡ false) × (x ≡ Ok y)
-unless-ok true x e y h = absurd (err-ok e y h)
-unless-ok false x e y h = (refl, h)
 
 pub factor-range : (n : ℕ) → is_factor n ≡ true → (1 ≤ n) × (n ≤ 4)
 factor-range zero h = absurd (true≢false (sym h))
@@ -237,25 +227,33 @@ frame-fits number precision width height cs all k c t =
       own_high = fit.own_high;
     }
 
-count-few : (n : ℕ) → is_decoded_count n ≡ true → n ≤ 4
-count-few n h = go (eqb n 1) refl (eqb n 3) refl h
+pub count-few : (n : ℕ) → is_decoded_count n ≡ true → (0 < n) × (n ≤ 4)
+count-few n h = go (n == 1) refl (n == 3) refl (n == 4) refl h
   where
-    go : (a : Bool) → eqb n 1 ≡ a → (b : Bool) → eqb n 3 ≡ b → (a || (b || eqb n 4)) ≡ true → n ≤ 4
-    go true e b f g = let k = eqb-true n 1 e in omega arith
-    go false e true f g = let k = eqb-true n 3 f in omega arith
-    go false e false f g = let k = eqb-true n 4 g in omega arith
+    go : (a : Bool) → (n == 1) ≡ a → (b : Bool) → (n == 3) ≡ b → (c : Bool) → (n == 4) ≡ c → (a || (b || c)) ≡ true
+        → (0 < n) × (n ≤ 4)
+    go true e b f c g h = let k : n ≡ 1 = eqb-true n 1 e in (omega arith, omega arith)
+    go false e true f c g h = let k : n ≡ 3 = eqb-true n 3 f in (omega arith, omega arith)
+    go false e false f true g h = let k : n ≡ 4 = eqb-true n 4 g in (omega arith, omega arith)
+    go false e false f false g h = absurd (cc)
 
-pub accepted-few : (f g : Frame) → accepted f ≡ Ok g → length f.components ≤ 4
+pub accepted-facts : (f g : Frame) → accepted f ≡ Ok g
+    → (is_decoded_count (length f.components) ≡ true)
+    × ((sources : List Source) × (sources_of f.components f.output_width f.output_height ≡ Ok sources))
 unfolding accepted
-accepted-few f g h =
+accepted-facts f g h =
     let a = unless-ok f.is_differential _ _ g h in
     let b = unless-ok (is_arithmetic f.coding) _ (Lacks features.ArithmeticEntropyCoding) g a.1 in
     let c = unless-ok (not (is_decoded_precision f.process f.precision)) _
-    (Lacks (features.SamplePrecision f.precision)) g b.1 in
-    let d = if-ok (is_decoded_count (length f.components))
-    (sources_of f.components f.output_width f.output_height >>= (λ sources. Ok f))
-    (Lacks (features.ComponentCount (min 255 (length f.components)))) g c.1 in
-    count-few (length f.components) d.0
+    (Lacks (features.SamplePrecision f.precision)) g
+    b.1 in
+    let d = if-ok (is_decoded_count (length f.components)) (sources_of f.components f.output_width f.output_height
+    >>= (λ sources. Ok f)) (Lacks (features.ComponentCount (min 255 (length f.components)))) g c.1 in
+    let e = bind-ok (sources_of f.components f.output_width f.output_height) _ g d.1 in
+    (d.0, (e.0, e.1))
+
+pub accepted-few : (f g : Frame) → accepted f ≡ Ok g → length f.components ≤ 4
+accepted-few f g h = (count-few (length f.components) (accepted-facts f g h).0).1
 
 sof-fits : (number : ℕ) (bytes : List ℕ) (f : Frame × List ℕ) → sof_at number bytes ≡ Ok f → (k : ℕ) (c : Component)
     → At k f.0.components c → Fits f.0 c
@@ -282,14 +280,4 @@ all-shaped number bytes f small a ok =
 
 pub accepted-sources : (f g : Frame) → accepted f ≡ Ok g
     → (sources : List Source) × (sources_of f.components f.output_width f.output_height ≡ Ok sources)
-unfolding accepted
-accepted-sources f g h =
-    let a = unless-ok f.is_differential _ _ g h in
-    let b = unless-ok (is_arithmetic f.coding) _ (Lacks features.ArithmeticEntropyCoding) g a.1 in
-    let c = unless-ok (not (is_decoded_precision f.process f.precision)) _
-    (Lacks (features.SamplePrecision f.precision)) g b.1 in
-    let d = if-ok (is_decoded_count (length f.components))
-    (sources_of f.components f.output_width f.output_height >>= (λ sources. Ok f))
-    (Lacks (features.ComponentCount (min 255 (length f.components)))) g c.1 in
-    let e = bind-ok (sources_of f.components f.output_width f.output_height) _ g d.1 in
-    (e.0, e.1)
+accepted-sources f g h = (accepted-facts f g h).1

@@ -1,15 +1,14 @@
 -- The planes of a frame's components cover its picture, at each scale.
-use Rattle.std.proofs.Common.{◌≡◌, ◌≤◌, ◌<◌, ℕ, zero, suc, ◌+◌, ◌-◌, ◌*◌, List, [], ◌∷◌, length, map, Option, Some, None}
-use Rattle.std.proofs.Common.{Ok, refl, ap, sym, ◌∙◌, subst, arith}
-use Rattle.std.proofs.Math.Nat.{add-mul, mul_assoc, mul_comm, mul-le-mul_right}
+use Rattle.std.proofs.Common.{◌≡◌, ◌≤◌, ◌<◌, ℕ, ◌*◌, List, [], ◌∷◌, length, map, Option, Some, None}
+use Rattle.std.proofs.Common.{Ok, refl, sym, subst}
 use Rattle.std.specs.List.{AllByRecursion}
 use Rattle.jpeg_bits.specs.Reading.{Lacks}
-use Rattle.jpeg_segments.specs.Frame.{Component, Factors, IsInRange, ceiling, frame_of}
+use Rattle.jpeg_segments.specs.Frame.{Component, Factors, IsInRange, frame_of}
 use Rattle.jpeg_segments.specs.Scales.{frame_at}
-use Rattle.jpeg_segments.proofs.Ceilings.{ceiling-low, ceiling-le}
 use Rattle.jpeg_pixels.specs.declared.upsampler.UpsampleRule.{UpsampleRule}
 use Rattle.jpeg_pixels.specs.Pictures.{AllCover, AreWhole, Covers, HasSources, Source, source_by, source_of}
 use Rattle.jpeg_pixels.specs.Pictures.{sources_by, sources_of}
+use Rattle.jpeg_pixels.proofs.RuleRatios.{in-blocks, room-of}
 use Rattle.jpeg_streams.proofs.AcceptedTurns.{err-ok, ok-same, bind-ok}
 use Rattle.jpeg_streams.proofs.FrameShapes.{Plain, made-at, greatest-some}
 use Rattle.jpeg_streams.proofs.InsidePictures.{AllReach, Reaches}
@@ -23,17 +22,6 @@ record InBlocks (c : Component) : Type 0 where
   wide : c.width ≤ c.blocks_wide * c.scale
   high : c.height ≤ c.blocks_high * c.scale
 
-in-blocks : (s size factor most : ℕ) → 0 < most
-    → ceiling (size * factor * s) (most * 8) ≤ (ceiling size (8 * most) * factor) * s
-in-blocks s size factor most some =
-    let b = ceiling size (8 * most) in
-    let low : size ≤ (8 * most) * b = ceiling-low size (8 * most) (omega arith) in
-    let wide : size * factor * s ≤ ((8 * most) * b) * factor * s = mul-le-mul_right s (mul-le-mul_right factor low) in
-    let e : ((8 * most) * b) * factor * s ≡ (most * 8) * ((b * factor) * s)
-    = ap (λ n. n * s) (mul_assoc (8 * most) b factor) ∙ (mul_assoc (8 * most) (b * factor) s
-    ∙ ap (λ n. n * ((b * factor) * s)) (mul_comm 8 most)) in
-    ceiling-le (size * factor * s) (most * 8) ((b * factor) * s) (omega arith) (omega (arith, wide, e))
-
 all-inside : (s width height h v : ℕ) (xs : List Factors) → 0 < h → 0 < v
     → AllByRecursion InBlocks (map (scaled_component s width height h v) xs)
 all-inside s width height h v [] a b = tt
@@ -41,15 +29,6 @@ all-inside s width height h v (x ∷ xs) a b = (
   record { wide = in-blocks s width x.horizontal h a; high = in-blocks s height x.vertical v b },
   all-inside s width height h v xs a b,
 )
-
-room-of : (columns lines stride most : ℕ) → 0 < lines → columns ≤ stride → lines ≤ most
-    → (lines - 1) * stride + columns ≤ most * stride
-room-of columns zero stride most some inside within = absurd (omega arith)
-room-of columns (suc k) stride most some inside within =
-    let less : (k + 1) * stride ≤ most * stride = mul-le-mul_right stride (omega arith) in
-    let e : (k + 1) * stride ≡ k * stride + 1 * stride = add-mul k 1 stride in
-    let z : suc k - 1 ≡ k = omega arith in
-    rw z (omega (arith, less, e, inside))
 
 covers : (c : Component) (rule : Option UpsampleRule) (source : Source) (plane : List ℕ) (width height : ℕ)
     → InBlocks c → length plane ≡ (c.blocks_high * c.scale) * (c.blocks_wide * c.scale)

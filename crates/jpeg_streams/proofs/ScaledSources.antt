@@ -11,7 +11,8 @@ use Rattle.jpeg_pixels.specs.Upsampling.{rule_of, divides}
 use Rattle.jpeg_pixels.specs.Pictures.{Source, source_by, source_of, sources_by, sources_of}
 use Rattle.jpeg_streams.proofs.AcceptedTurns.{err-ok, bind-ok, then-ok}
 use Rattle.jpeg_streams.proofs.FrameShapes.{Plain, made-at, plain-size, ceiling-covers, ceiling-least}
-use Rattle.jpeg_streams.proofs.ScaledSizes.{scaled_component, most_h, most_v, is-sized, factors-scaled, some-ceiling}
+use Rattle.jpeg_streams.proofs.ScaledSizes.{scaled_component, most_h, most_v, is-sized, factors-scaled}
+use Rattle.jpeg_pixels.proofs.RuleRatios.{some-ceiling}
 
 -- ---- choices
 

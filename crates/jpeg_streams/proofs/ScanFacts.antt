@@ -16,7 +16,7 @@ use Rattle.jpeg_segments.specs.ScanHeader.{sos_at}
 use Rattle.jpeg_streams.specs.ScanSegments.{pass_of, is_progressive}
 use Rattle.jpeg_streams.proofs.PlacesApart.{IsAbsent, AreApart}
 use Rattle.jpeg_streams.proofs.AcceptedTurns.{err-ok, ok-same, bind-ok}
-use Rattle.jpeg_streams.proofs.FrameShapes.{if-ok, unless-ok}
+use Rattle.jpeg_segments.proofs.OnlyWritten.{kept-if as if-ok, kept-unless as unless-ok}
 use Rattle.jpeg_streams.proofs.BroughtLevels.{ScanFacts, PassSo, sequential, progressive, progressive-pass}
 
 -- ---- the components, each after those before it

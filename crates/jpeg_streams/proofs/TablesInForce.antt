@@ -28,7 +28,7 @@ use Rattle.jpeg_streams.proofs.AcceptedStreams.{WritesSegment}
 use Rattle.jpeg_streams.proofs.AcceptedStreams.WritesSegment.{quantization, huffman, restart, application, comment}
 use Rattle.jpeg_streams.proofs.WrittenFrameScans.{no-codes}
 use Rattle.jpeg_streams.proofs.AcceptedTurns.{ok-same, bind-ok, needed-some, codings-by}
-use Rattle.jpeg_streams.proofs.FrameShapes.{if-ok, unless-ok}
+use Rattle.jpeg_segments.proofs.OnlyWritten.{kept-if as if-ok, kept-unless as unless-ok}
 
 abbrev pub IsGoodOr : Option Table → Type 0
 IsGoodOr None = Unit {0}
