@@ -102,7 +102,7 @@ pub segment-read : (w next : Found) (m : Marker) (bytes rest : List ℕ) (before
     → segment_at m before (reading w s h fi pl) (bytes ++ rest) ≡ Ok (onward (reading next s h fi pl), rest)
 unfolding segment_at quantization_segment huffman_segment restart_segment application_segment skipped_segment comment_at
 segment-read w next m bytes rest before s h fi pl (quantization w' bytes' t a) = rw (a.accepted rest) refl
-segment-read w next m bytes rest before s h fi pl (huffman w' bytes' t a) = rw (a.accepted rest) refl
+segment-read w next m bytes rest before s h fi pl (huffman w' bytes' t k a) = rw (a.accepted rest) refl
 segment-read w next m bytes rest before s h fi pl (restart w' bytes' n a) = rw (a.accepted rest) refl
 segment-read w next m bytes rest before s h fi pl (application w' number bytes' t a) = rw (a.accepted rest) refl
 segment-read w next m bytes rest before s h fi pl (comment w' bytes' a) =
@@ -112,7 +112,7 @@ segment-read w next m bytes rest before s h fi pl (comment w' bytes' a) =
 
 pub frame-kept : (w next : Found) (m : Marker) (bytes : List ℕ) → WritesSegment w m bytes next → next.frame ≡ w.frame
 frame-kept w next m bytes (quantization w' bytes' t a) = refl
-frame-kept w next m bytes (huffman w' bytes' t a) = refl
+frame-kept w next m bytes (huffman w' bytes' t k a) = refl
 frame-kept w next m bytes (restart w' bytes' n a) = refl
 frame-kept w next m bytes (application w' number bytes' t a) = refl
 frame-kept w next m bytes (comment w' bytes' a) = refl
@@ -123,7 +123,7 @@ segment-plain : (w next : Found) (m : Marker) (bytes all : List ℕ) (turns : �
     → after_restarts (suc turns) (Some m) all ≡ Ok (Some m, all)
 unfolding after_restarts
 segment-plain w next m bytes all turns (quantization w' bytes' t a) = refl
-segment-plain w next m bytes all turns (huffman w' bytes' t a) = refl
+segment-plain w next m bytes all turns (huffman w' bytes' t k a) = refl
 segment-plain w next m bytes all turns (restart w' bytes' n a) = refl
 segment-plain w next m bytes all turns (application w' number bytes' t a) = refl
 segment-plain w next m bytes all turns (comment w' bytes' a) = refl

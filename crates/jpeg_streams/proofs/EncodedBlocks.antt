@@ -39,10 +39,6 @@ lengths-are : length (code_lengths flat_counts) ≡ 255
 unfolding lengths_from
 lengths-are = refl
 
-pub flat-exist : HasCodes (code_lengths flat_counts)
-unfolding codes_exist lengths_from code_value
-flat-exist = tested-exist (code_lengths flat_counts) refl
-
 flat-coded : (class : HuffmanTableClass) (symbol : ℕ) → symbol < 255
     → IsCoded (flat_table class) symbol (code_bits (flat_table class) symbol)
 flat-coded class symbol h = record {

@@ -370,8 +370,8 @@ legal-alike p levels ks ls (one_more k l ks' ls' a more) h =
 segment-alike : (w next : Found) (m : Marker) (bytes : List ℕ) (f g : Frame) → SameFrame f g → w.frame ≡ Some f
     → WritesSegment w m bytes next → WritesSegment (at_frame w g) m bytes (at_frame next g)
 segment-alike w next m bytes f g same e (quantization w' bytes' t a) = quantization (at_frame w g) bytes t a
-segment-alike w next m bytes f g same e (huffman w' bytes' t a) =
-    huffman (at_frame w g) bytes t
+segment-alike w next m bytes f g same e (huffman w' bytes' t k a) =
+    huffman (at_frame w g) bytes t k
     (subst (λ (o : Option Bool). IsAccepted (Rattle.jpeg_segments.specs.HuffmanTables.dht_at o) bytes t)
     (ap (Rattle.std.specs.Prelude.option_map (λ (x : Frame). x.is_baseline)) e
     ∙ ap (λ (b : Bool). Some b) (sym same.is_baseline)) a)

@@ -28,7 +28,7 @@ use Rattle.jpeg_streams.proofs.OwnSpots.{At, Fits}
 use Rattle.jpeg_streams.proofs.ReadStates.{reading}
 use Rattle.jpeg_streams.proofs.AcceptedTurns.{StandsAt, stands-next, then-ok, segment-read, frame-kept}
 use Rattle.jpeg_streams.proofs.BroughtLevels.{Shaped, framed-start}
-use Rattle.jpeg_streams.proofs.FrameShapes.{Plain, sof-plain, made-at, plain-size, all-shaped}
+use Rattle.jpeg_streams.proofs.FrameShapes.{Plain, made-at, plain-size, all-shaped}
 use Rattle.jpeg_streams.proofs.ScaledSizes.{scaled_component, most_h, most_v, frame-components}
 use Rattle.jpeg_streams.proofs.ScaledScans.{own-same, Alike, Alikes, none, one_more, SameFrame, length-same, at_frame}
 use Rattle.jpeg_streams.proofs.ScaledScans.{scans-alike}
@@ -40,7 +40,8 @@ use Rattle.jpeg_streams.proofs.ScaledSources.{frame-sources}
 use Rattle.jpeg_pixels.specs.Pictures.{sources_of}
 use Rattle.jpeg_streams.specs.ArrayPictures.{Takes}
 use Rattle.jpeg_streams.proofs.WrittenPictures.{pictures-taken}
-use Rattle.jpeg_streams.proofs.TablesInForce.{GoodTables, good-next, good-start}
+use Rattle.jpeg_streams.proofs.TablesInForce.{tables-next, tables-start}
+use Rattle.jpeg_streams.proofs.SaidTables.{HasTables}
 
 -- ---- frames at a scale
 
@@ -173,7 +174,7 @@ pub record ReadHeader (array : Coefficients) (tail : List ℕ) (final : Found) (
   pub frame : Frame
   pub plain : Plain frame
   pub is_accepted : accepted frame ≡ Ok frame
-  pub good : GoodTables w.huffman
+  pub good : HasTables w.huffman
   pub shape : Shaped frame
   pub after : Marker
   pub fill : ℕ
@@ -218,7 +219,7 @@ head-end turns before f met all e = rw (e, segments_within) refl
 
 pub reads-header : (array : Coefficients) (tail : List ℕ) (w final : Found) (last : ℕ → Levels) (m : Marker)
     (bytes : List ℕ) (turns : ℕ) (bf : Before) (met : Option Marker) (all : List ℕ)
-    → GoodTables w.huffman → w.frame ≡ None → WritesHead array tail w m bytes final last → StandsAt met all m bytes
+    → HasTables w.huffman → w.frame ≡ None → WritesHead array tail w m bytes final last → StandsAt met all m bytes
     → length bytes < turns
     → ReadHeader array tail final last
     (segments_within turns true bf (reading w false [] nothing_finished no_planes) met all)
@@ -233,10 +234,10 @@ reads-header array tail w final last m bytes (suc turns) bf met all good n
     (at.turn bf now ∙ segment-read w next m payload (marker fill code more) bf false [] nothing_finished no_planes s)
     refl)
     (reads-header array tail next final last after more turns Elsewhere None (marker fill code more)
-    (good-next w next m payload s good) (frame-kept w next m payload s ∙ n) r (stands-next fill code after more i)
+    (tables-next w next m payload s good) (frame-kept w next m payload s ∙ n) r (stands-next fill code after more i)
     (omega arith))
 reads-header array tail w final last m bytes (suc turns) bf met all good n
-    (framing w' final' last' after number fill code payload more f small a ok i r) at room =
+    (framing w' final' last' after number fill code payload more f small o lossy a ok i r) at room =
     let sizes = length-append payload (marker fill code more) in
     let fills = length-append (replicate fill 0xFF) (code ∷ more) in
     let now = reading w false [] nothing_finished no_planes in
@@ -247,8 +248,8 @@ reads-header array tail w final last m bytes (suc turns) bf met all good n
       good = good;
       is_accepted = ok;
       frame = f;
-      plain = sof-plain number (payload ++ []) (f, []) (a.accepted []);
-      shape = all-shaped number payload f small a ok;
+      plain = o;
+      shape = all-shaped f o lossy ok;
       after = after;
       fill = fill;
       code = code;
@@ -303,7 +304,7 @@ stream-means_sized width height settings array tail bytes final last range
     (header-so bytes all (starts-so all) ∙ header-within nothing_found all
     ∙ ap (λ (x : Found). segments_within (suc (length all)) true Elsewhere x None all) nothing-is)
     (reads-header array tail nothing_found final last after more
-    (suc (length all)) Elsewhere None all good-start no-frame r (stands-next fill code after more i) (omega arith))
+    (suc (length all)) Elsewhere None all tables-start no-frame r (stands-next fill code after more i) (omega arith))
     in
     let f = head.frame in
     let g = sized width height f in
@@ -350,7 +351,7 @@ sized-taken width height settings array tail bytes final last range
     (header-so bytes all (starts-so all) ∙ header-within nothing_found all
     ∙ ap (λ (x : Found). segments_within (suc (length all)) true Elsewhere x None all) nothing-is)
     (reads-header array tail nothing_found final last after more
-    (suc (length all)) Elsewhere None all good-start no-frame r (stands-next fill code after more i) (omega arith))
+    (suc (length all)) Elsewhere None all tables-start no-frame r (stands-next fill code after more i) (omega arith))
     in
     let f = head.frame in
     let g = sized width height f in
