@@ -24,6 +24,7 @@ use Rattle.jpeg_streams.specs.Found.{nothing_found, Found}
 use Rattle.jpeg_streams.proofs.AcceptedStreams as streams
 use Rattle.jpeg_streams.proofs.SaidTables.{written-tables}
 use Rattle.jpeg_streams.proofs.FrameShapes.{frame-lossy}
+use Rattle.jpeg_streams.proofs.ScanFacts.{header-facts}
 use Rattle.jpeg_streams.proofs.LosslessFrames.{all-ranged}
 use Rattle.jpeg_segments.specs.HuffmanTables.{greatest_place}
 use Rattle.jpeg_streams.specs.WrittenScans.{Coefficients, levels_after}
@@ -179,7 +180,7 @@ scans-begin array tail frame said final levels last scanned bytes
           (sized (scan_payload h) ++ (data_bytes ++ l)) final last) (sym b.is)
           (streams.WritesScans.scan said final levels last scanned b.m b.fill b.code
           (sized (scan_payload h)) data_bytes b.after (scan_written f h) codings
-          (record { accepted = λ rest. sos-read f h rest is }) legal written b.makes b.rest));
+          (record { accepted = λ rest. sos-read f h rest is }) (header-facts f h is) legal written b.makes b.rest));
     }
 
 -- ---- before the frame

@@ -1,8 +1,9 @@
 -- Written streams once more, by bytes that the rules of segments accept: what proofs about reading go by.
-use Rattle.std.specs.Prelude.{◌≡◌, ◌≢◌, ℕ, ◌<◌, ◌≤◌, Bool, true, false, List, ◌∷◌, ◌++◌, map, length, option_map, Option, Some}
+use Rattle.std.specs.Prelude.{◌≡◌, ◌≢◌, ◌⊎◌, ℕ, ◌-◌, ◌<◌, ◌≤◌, Bool, true, false, List, ◌∷◌, ◌++◌, map, length, option_map, Option, Some}
 use Rattle.std.specs.Prelude.{Ok}
 use Rattle.std.specs.List.{AllByRecursion, range_with_len}
 use Rattle.jpeg_bits.specs.Reading.{Outcome, ◌>>=◌, length_at, skip_at}
+use Rattle.jpeg_bits.specs.Passes.{whole_pass}
 use Rattle.jpeg_bits.specs.declared.marker.Marker.{Marker}
 use Rattle.jpeg_bits.specs.declared.marker.Marker.TheVariants.{SOF, DHT, EOI, SOS, DQT, DRI, APP, COM}
 use Rattle.jpeg_segments.specs.Application.{Application, app_at, dri_at}
@@ -18,6 +19,7 @@ use Rattle.jpeg_streams.specs.Found.{Found, nothing_found}
 use Rattle.jpeg_bits.specs.Written.{marker}
 use Rattle.jpeg_streams.specs.WrittenScans.{Coefficients, WritesScan, levels_after, IsLegalScan, IsComplete, HasTable}
 use Rattle.jpeg_lossless.specs.Written.{IsMarker}
+use Rattle.jpeg_streams.proofs.PlacesApart.{AreApart}
 use Rattle.jpeg_streams.proofs.SaidTables.{HasTables}
 
 -- ---- segments
@@ -56,6 +58,20 @@ pub record Plain (f : Frame) : Type 0 where
 
 -- ---- streams
 
+-- what the process says of a scan
+pub data PassSo (f : Frame) (s : Scan) : Type 0 where
+  sequential : is_progressive f.process ≡ false → pass_of s ≡ whole_pass → PassSo f s
+  progressive : is_progressive f.process ≡ true → (s.first ≡ 0 → s.after - 1 ≡ 0)
+      → (s.first ≡ 0) ⊎ (length s.components ≡ 1) → s.first < s.after → s.after ≤ 64 → PassSo f s
+
+-- what a scan header says
+pub record ScanFacts (f : Frame) (s : Scan) : Type 0 where
+  pub some : 1 ≤ length s.components
+  pub dc_length : length s.dc_places ≡ length s.components
+  pub ac_length : length s.ac_places ≡ length s.components
+  pub apart : AreApart s.components
+  pub so : PassSo f s
+
 -- From a marker after the frame on, where w was said and the levels were sent, and whether a scan
 -- was. At the end of the image `final` is said
 -- and the last levels are sent. Quantization tables stand before the first scan. A sequential
@@ -70,7 +86,7 @@ pub data WritesScans (array : Coefficients) (f : Frame) (tail : List ℕ) : Foun
       → WritesScans array f tail w levels scanned m (bytes ++ marker fill code more) final last
   scan : (w final : Found) (levels last : ℕ → Levels) (scanned : Bool) (after : Marker) (fill code : ℕ)
       (header bytes more : List ℕ) (s : Scan) (codings : List Coding)
-      → IsAccepted (sos_at f) header s → IsLegalScan w f levels s codings
+      → IsAccepted (sos_at f) header s → (f.process ≢ Lossless → ScanFacts f s) → IsLegalScan w f levels s codings
       → WritesScan f w.restart (pass_of s) codings array bytes → IsMarker code after
       → WritesScans array f tail w
       (levels_after (pass_of s) (map (λ c. c.place) codings) levels) true after more final last

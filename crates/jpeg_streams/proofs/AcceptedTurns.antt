@@ -137,7 +137,7 @@ scans-plain array f tail w final levels last scanned m bytes all turns
     (segment w' next final' levels' last' scanned' m' after fill code payload more s q i r) =
     segment-plain w next m payload all turns s
 scans-plain array f tail w final levels last scanned m bytes all turns
-    (scan w' final' levels' last' scanned' after fill code header payload more s codings a l x i r) = refl
+    (scan w' final' levels' last' scanned' after fill code header payload more s codings a rules l x i r) = refl
 scans-plain array f tail w final levels last scanned m bytes all turns (closed w' levels' t c) = refl
 
 -- ---- the tables of a scan

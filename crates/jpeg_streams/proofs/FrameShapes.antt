@@ -1,20 +1,18 @@
 -- Frames that are read have the blocks that the order of a scan goes over.
-use Rattle.std.proofs.Common.{◌≡◌, ◌≢◌, ◌⊎◌, inl, inr, ℕ, zero, suc, ◌+◌, ◌-◌, ◌*◌, ◌/◌, ◌%◌, ◌<◌, ◌≤◌, ◌&&◌, ◌||◌}
-use Rattle.std.proofs.Common.{not, nat_le, ◌==◌, Bool, true, false, List, [], ◌∷◌, ◌++◌, map, length}
-use Rattle.std.proofs.Common.{Ok, Err, refl, sym, ap, ◌∙◌, subst, arith, eqb, leb, true≢false, min}
-use Rattle.std.proofs.lemmas.Bool.{eqb-true, leb-true}
+use Rattle.std.proofs.Common.{◌≡◌, ◌≢◌, ◌⊎◌, inl, inr, ℕ, zero, suc, ◌+◌, ◌-◌, ◌*◌, ◌<◌, ◌≤◌, ◌||◌}
+use Rattle.std.proofs.Common.{not, ◌==◌, Bool, true, false, List, [], ◌∷◌, map, length}
+use Rattle.std.proofs.Common.{Ok, refl, sym, ap, ◌∙◌, subst, arith, leb, min}
+use Rattle.std.proofs.lemmas.Bool.{eqb-true}
 use Rattle.std.proofs.lemmas.Bool.Decides.{leb_tells}
 use Rattle.std.proofs.Math.Nat.{le-div_iff_mul-le, add-mul, one-mul}
 use Rattle.std.specs.List.{AllByRecursion}
-use Rattle.jpeg_bits.specs.Reading.{Malformed, Lacks, ◌>>=◌, next_byte, next_u16, length_at}
+use Rattle.jpeg_bits.specs.Reading.{Lacks, ◌>>=◌}
 use Rattle.jpeg_segments.specs.declared.parser.CodingProcess.TheVariants.{Lossless}
-use Rattle.jpeg_segments.specs.Frame.{Frame, Component, Factors, IsInRange, is_factor, is_lossless_number, is_taken}
-use Rattle.jpeg_segments.specs.Frame.{is_place, parameters_at, factors_at, components_from, Head, size_at, head_at}
-use Rattle.jpeg_segments.specs.Frame.{is_precision as precise, is_count as counted, sof_at, frame_of}
+use Rattle.jpeg_segments.specs.Frame.{Frame, Component, Factors, IsInRange}
+use Rattle.jpeg_segments.specs.Frame.{frame_of}
 use Rattle.jpeg_segments.specs.Frame.{ceiling, greatest}
 use Rattle.jpeg_bits.specs.declared.error.UnsupportedFeature.TheVariants as features
 use Rattle.jpeg_bits.specs.declared.error.UnsupportedFeature.TheVariants.{DNL}
-use Rattle.std.specs.Prelude.{nat_lt, if◌then◌else◌}
 use Rattle.jpeg_pixels.specs.Pictures.{Source, sources_of}
 use Rattle.jpeg_segments.specs.Scales.{frame_at}
 use Rattle.jpeg_segments.proofs.ScaleLemmas.{full_size}
@@ -24,7 +22,7 @@ use Rattle.jpeg_streams.specs.InTurn as fitted
 use Rattle.jpeg_streams.proofs.FrameFits.{frames-fit}
 use Rattle.jpeg_streams.proofs.OwnSpots.{At, Fits}
 use Rattle.jpeg_streams.proofs.WrittenFrameScans.{at-all}
-use Rattle.jpeg_segments.proofs.OnlyWritten.{ok-same, bind-ok, kept-if as if-ok, kept-unless as unless-ok}
+use Rattle.jpeg_segments.proofs.OnlyWritten.{bind-ok, kept-if as if-ok, kept-unless as unless-ok}
 use Rattle.jpeg_streams.proofs.BroughtLevels.{Made, Shaped}
 
 -- ---- rounding up

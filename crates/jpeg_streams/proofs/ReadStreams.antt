@@ -1,5 +1,5 @@
 -- A written stream is read up to its end.
-use Rattle.std.proofs.Common.{◌≡◌, ◌≢◌, ℕ, zero, suc, ◌<◌, ◌≤◌, Bool, true, false, cond, List, [], ◌∷◌, ◌++◌, length}
+use Rattle.std.proofs.Common.{◌≡◌, ◌≢◌, ℕ, zero, suc, ◌<◌, Bool, true, false, cond, List, [], ◌∷◌, ◌++◌, length}
 use Rattle.std.proofs.Common.{replicate, slice_index_or, is_some, Option, Some, None, Ok, refl, sym, ap, ◌∙◌, subst}
 use Rattle.std.proofs.Common.{arith, true≢false, length-append}
 use Rattle.std.specs.List.{AllByRecursion, range_with_len}
@@ -27,7 +27,6 @@ use Rattle.jpeg_streams.proofs.ReadStates.{reading, is_whole, PlaneSo, AllHeld, 
 use Rattle.jpeg_streams.proofs.AcceptedTurns.{StandsAt, stands-met, stands-next, turn-on, turn-end, then-ok}
 use Rattle.jpeg_streams.proofs.AcceptedTurns.{segment-read, frame-kept, scans-plain, codings-same, codings-read}
 use Rattle.jpeg_streams.proofs.AcceptedTurns.{scan-by}
-use Rattle.jpeg_streams.proofs.ScanFacts.{sos-facts}
 use Rattle.jpeg_streams.proofs.TablesInForce.{tables-next, tables-start, codings-good}
 use Rattle.jpeg_streams.proofs.SaidTables.{HasTables}
 use Rattle.jpeg_streams.proofs.BroughtLevels.{Shaped, Framed, framed-start, scan-brings}
@@ -170,9 +169,8 @@ reads-scans array f tail w final levels last sc m bytes h fi pl (suc turns) bf m
     (framed-next w next m payload f array levels sc h fi pl q none s fr) r (stands-next fill code after more i)
     (omega arith))
 reads-scans array f tail w final levels last sc m bytes h fi pl (suc turns) bf met all range shape good e none fr
-    (scan w' final' levels' last' sc' after fill code header payload more s codings a l x i r) at room =
-    let rules = sos-facts f (header ++ []) (s, []) shape.lossy (a.accepted []) in
-    let b = scan-brings w f array levels sc h fi pl s codings payload range shape fr rules
+    (scan w' final' levels' last' sc' after fill code header payload more s codings a rules l x i r) at room =
+    let b = scan-brings w f array levels sc h fi pl s codings payload range shape fr (rules shape.lossy)
     (codings-good w f s codings good l.are_in_force) l x in
     let sizes = length-append header (payload ++ marker fill code more) in
     let others = length-append payload (marker fill code more) in

@@ -163,7 +163,7 @@ kept-in array f tail w final levels last sc m bytes
     (segment w' next final' levels' last' sc' m' after fill code payload more s q i r) =
     kept-in array f tail next final levels last sc after more r ∙ frame-kept w next m payload s
 kept-in array f tail w final levels last sc m bytes
-    (scan w' final' levels' last' sc' after fill code header payload more s codings a l x i r) =
+    (scan w' final' levels' last' sc' after fill code header payload more s codings a rules l x i r) =
     kept-in array f tail w final _ last true after more r
 kept-in array f tail w final levels last sc m bytes (closed w' levels' t c) = refl
 
