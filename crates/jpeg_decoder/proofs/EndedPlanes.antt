@@ -102,10 +102,6 @@ at-end found frame place c = go (slice_index_or found.planes place None) (is_hel
 abbrev pub others-after : List (List ℕ) → List (List ℕ) → Result (List (List ℕ)) Fault
 others-after front others = Ok (front ++ others)
 
-pub planes-none : (o : Result (List (List ℕ)) Fault) → o ≡ (o >>= others-after [])
-planes-none (Ok planes) = refl
-planes-none (Err fault) = refl
-
 pub planes-more : (found : Found) (frame : Frame) (place : ℕ) (c : Component) (more : List Component)
     (front : List (List ℕ)) (plane : List ℕ) (whole : Result (List (List ℕ)) Fault)
     → whole ≡ (planes_from found frame place (c ∷ more) >>= others-after front)

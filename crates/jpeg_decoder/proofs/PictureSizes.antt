@@ -24,7 +24,7 @@ use Rattle.jpeg_bits.specs.Reading.{Fault}
 use Rattle.jpeg_segments.specs.Frame.{Frame, Component, IsInRange, ceiling}
 use Rattle.jpeg_segments.specs.Scales.{is_scale, frame_at}
 use Rattle.jpeg_pixels.specs.Pictures.{AreWhole, image_of}
-use Rattle.jpeg_pixels.proofs.FrameCovers.{ceiling-low}
+use Rattle.jpeg_segments.proofs.Ceilings.{ceiling-low}
 use Rattle.jpeg_streams.specs.ColourChoice.{identifiers_of, transform_of}
 use Rattle.jpeg_streams.specs.Found.{Found, Metadata}
 use Rattle.jpeg_streams.specs.FoundPictures.{picture_by, picture_in}
@@ -34,12 +34,8 @@ use Rattle.jpeg_streams.specs.declared.settings.Settings.{Settings}
 use Rattle.jpeg_streams.proofs.BroughtLevels.{Made}
 use Rattle.jpeg_streams.proofs.OwnSpots.{At}
 use Rattle.jpeg_streams.proofs.ScaledSizes.{one-made, scale-made}
-use Rattle.jpeg_streams.proofs.Soundness.{decoded-count, decoded-fits}
+use Rattle.jpeg_streams.proofs.Soundness.{accepted-precision, decoded-count, decoded-fits, scale-bounds}
 use Rattle.jpeg_decoder.proofs.ImageSizes.{cropped-length, image-length}
-
-some-scale : (s : ℕ) → is_scale s ≡ true → 0 < s
-some-scale zero h = absurd (cc)
-some-scale (suc s) h = omega arith
 
 made-of : (f : Frame) → IsDecodedFrame f → Made f
 made-of f p =
@@ -54,7 +50,7 @@ made-of f p =
       some_width = q.some_width;
       some_height = q.some_height;
       scale = p.scale;
-      some_scale = some-scale p.scale p.is_scale;
+      some_scale = (scale-bounds p.scale p.is_scale).0;
       is = p.made ∙ ap (frame_at p.scale) q.made;
     }
 
@@ -121,24 +117,6 @@ picture-length settings m f planes picture p whole count is = go f.components re
     go (c ∷ d ∷ more) e ps w n h = several (c ∷ d ∷ more) ps n h
 
 -- ---- by its format
-
-unless-ok : {A : Type 0} (b : Bool) (x : Result A Fault) (e : Fault) (y : A) → cond b (Err e) x ≡ Ok y → (b ≡ false)
-    × (x ≡ Ok y)
-unless-ok true x e y h = absurd (cc)
-unless-ok false x e y h = (refl, h)
-
-not-false : (b : Bool) → not b ≡ false → b ≡ true
-not-false true h = refl
-not-false false h = absurd (cc)
-
-accepted-precision : (f g : Frame) → accepted f ≡ Ok g → is_decoded_precision f.process f.precision ≡ true
-unfolding accepted
-accepted-precision f g h =
-    let a = unless-ok f.is_differential _ _ g h in
-    let b = unless-ok (is_arithmetic f.coding) _ (Lacks features.ArithmeticEntropyCoding) g a.1 in
-    not-false (is_decoded_precision f.process f.precision)
-    (unless-ok (not (is_decoded_precision f.process f.precision)) _ (Lacks (features.SamplePrecision f.precision)) g
-    b.1).0
 
 precision-of : (f : Frame) → IsDecodedFrame f → is_decoded_precision f.process f.precision ≡ true
 unfolding frame_at

@@ -43,12 +43,6 @@ codings-kept found d frame header =
 
 -- ---- the pass of a scan
 
-pub some-after : (process : CodingProcess) (first after high low : ℕ) → IsCoded process first after high low
-    → 1 ≤ after
-some-after DctSequential first after high low c = omega (arith, c.1)
-some-after DctProgressive first after high low c = omega (arith, c.0)
-some-after Lossless first after high low c = omega (arith, c.1)
-
 is-pass : (process : CodingProcess) (s : headers.Scan) → IsDct process
     → IsCoded process s.first s.after s.high s.low → IsPass (pass_of s)
 unfolding pass_of

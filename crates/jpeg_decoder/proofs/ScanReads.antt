@@ -73,12 +73,6 @@ after_header found frame scan bytes =
     codings_in_force found frame scan >>= (λ (codings : List Coding). after_codings found frame (pass_of scan) codings
     bytes)
 
-header-read : (found : Found) (frame : Frame) (scan : Scan) (bytes rest : List ℕ) → found.frame ≡ Some frame
-    → sos_at frame bytes ≡ Ok (scan, rest)
-    → scan_read found bytes ≡ read_by frame.process found frame scan rest
-unfolding scan_read
-header-read found frame scan bytes rest a b = rw (a, b, scan_read) refl
-
 pub codings-refused : (found : Found) (frame : Frame) (scan : Scan) (bytes : List ℕ) (f : Fault)
     → codings_in_force found frame scan ≡ Err f → after_header found frame scan bytes ≡ Err f
 codings-refused found frame scan bytes f e =
@@ -110,13 +104,6 @@ pub data-begun : (whole : List ℕ → Outcome (Found × Option Marker)) (found 
     → Continues whole old (after_codings found frame p codings) new
 data-begun whole found frame scan p codings old new e is begun =
     (begun.0, λ k. let at = begun.1 k in (at.0, at.1 ∙ codings-read found frame scan p codings new.bytes e is))
-
--- A scan of a process is the whole scan after its header.
-pub blocks-by : (p : CodingProcess) → IsDct p → (found : Found) (frame : Frame) (scan : Scan)
-    → read_by p found frame scan ≡ blocks_read found frame scan
-blocks-by DctSequential h found frame scan = refl
-blocks-by DctProgressive h found frame scan = refl
-blocks-by Lossless h found frame scan = absurd h
 
 -- The restart markers after the data are passed over, and the scan is read.
 pub scan-ends : (whole rest : List ℕ → Outcome (Found × Option Marker)) (next : Found) (met : Option Marker)

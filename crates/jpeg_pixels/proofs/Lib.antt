@@ -12,6 +12,7 @@ pub mod FewSamples
 pub mod FlatBlocks
 pub mod FlatScaled
 pub mod Fours
+pub mod RuleRatios
 pub mod FrameCovers
 pub mod FramesOfFactors
 pub mod ComponentLines

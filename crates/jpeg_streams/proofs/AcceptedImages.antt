@@ -8,7 +8,7 @@ use Rattle.jpeg_bits.specs.declared.marker.Marker.TheVariants.{SOF, EOI, SOS, DQ
 use Rattle.jpeg_segments.specs.Frame.{Frame}
 use Rattle.jpeg_bits.specs.Written.{marker}
 use Rattle.jpeg_segments.specs.WrittenSegments.{sized, Segment, Quantization, Huffman, Interval, Application, Comment}
-use Rattle.jpeg_segments.specs.WrittenSegments.{Header, FrameHeader, code_of, payload_of, frame_written}
+use Rattle.jpeg_segments.specs.WrittenSegments.{Header, FrameHeader, IsFrame, code_of, payload_of, frame_written}
 use Rattle.jpeg_segments.specs.WrittenSegments.{quantization_tables, huffman_tables, said_by}
 use Rattle.jpeg_segments.specs.ScanHeaders.{scan_payload, scan_written}
 use Rattle.jpeg_segments.proofs.Fields.{sized-read, skip-read}
@@ -22,8 +22,13 @@ use Rattle.jpeg_lossless.specs.Written.{IsMarker}
 use Rattle.jpeg_streams.specs.ScanSegments.{pass_of}
 use Rattle.jpeg_streams.specs.Found.{nothing_found, Found}
 use Rattle.jpeg_streams.proofs.AcceptedStreams as streams
+use Rattle.jpeg_streams.proofs.SaidTables.{written-tables}
+use Rattle.jpeg_streams.proofs.FrameShapes.{frame-lossy}
+use Rattle.jpeg_streams.proofs.ScanFacts.{header-facts}
+use Rattle.jpeg_streams.proofs.LosslessFrames.{all-ranged}
+use Rattle.jpeg_segments.specs.HuffmanTables.{greatest_place}
 use Rattle.jpeg_streams.specs.WrittenScans.{Coefficients, levels_after}
-use Rattle.jpeg_streams.proofs.AcceptedStreams.{WritesScans, WritesHead, WritesStream, comment_at}
+use Rattle.jpeg_streams.proofs.AcceptedStreams.{Plain, WritesScans, WritesHead, WritesStream, comment_at}
 use Rattle.jpeg_streams.proofs.AcceptedStreams.WritesStream.{stream}
 use Rattle.jpeg_streams.specs.SaidSegments.{Stands, found_after}
 use Rattle.jpeg_streams.specs.WrittenImages.{Writes, closed, segment, scan, WritesImage, MayFollow, IsDctSegment}
@@ -54,6 +59,7 @@ accepted said (Quantization ts) may other =
     (record { accepted = λ rest. dqt-read ts rest may.0 })
 accepted said (Huffman ts) may other =
     streams.WritesSegment.huffman said (sized (payload_of (Huffman ts))) (huffman_tables ts)
+    (written-tables (greatest_place (option_map (λ (f : Frame). f.is_baseline) said.frame)) ts may.0)
     (record { accepted = λ rest. dht-read (option_map (λ (f : Frame). f.is_baseline) said.frame) ts rest may.0 })
 accepted said (Interval n) may other =
     streams.WritesSegment.restart said (sized (payload_of (Interval n))) n (record { accepted = dri-read n })
@@ -174,13 +180,26 @@ scans-begin array tail frame said final levels last scanned bytes
           (sized (scan_payload h) ++ (data_bytes ++ l)) final last) (sym b.is)
           (streams.WritesScans.scan said final levels last scanned b.m b.fill b.code
           (sized (scan_payload h)) data_bytes b.after (scan_written f h) codings
-          (record { accepted = λ rest. sos-read f h rest is }) legal written b.makes b.rest));
+          (record { accepted = λ rest. sos-read f h rest is }) (header-facts f h is) legal written b.makes b.rest));
     }
 
 -- ---- before the frame
 
 abbrev Head : Coefficients → List ℕ → Found → Found → (ℕ → Levels) → Marker → List ℕ → Type 0
 Head array tail said final last m bytes = WritesHead array tail said m bytes final last
+
+written-plain : (number : ℕ) (h : FrameHeader) → IsFrame number h → Plain (frame_written number h)
+written-plain number h is = record {
+  number = number;
+  precision = h.precision;
+  width = h.width;
+  height = h.height;
+  factors = h.components;
+  in_range = all-ranged number [] h.components is.components;
+  some_width = is.wide;
+  some_height = is.high;
+  is = refl;
+}
 
 frame-begins : (array : Coefficients) (tail : List ℕ) (said final : Found) (last : ℕ → Levels) (number : ℕ)
     (h : FrameHeader) (more : List ℕ) → Stands said (Header number h) → number ≤ 2
@@ -192,7 +211,8 @@ frame-begins array tail said final last number h more may dct b =
     (sized (payload_of (Header number h)) ++ l) final last) (sym b.is)
     (streams.WritesHead.frame said final last b.m number b.fill b.code (sized (payload_of (Header number h))) b.after
     (frame_written number h)
-    dct (record { accepted = λ rest. sof-read number h rest may.0.1 })
+    dct (written-plain number h may.0.1)
+    (frame-lossy number h.precision h.width h.height h.components dct) (record { accepted = λ rest. sof-read number h rest may.0.1 })
     (header-accepted number h dct may.1) b.makes b.rest)
 
 frame-head : (array : Coefficients) (tail : List ℕ) (said final : Found) (last : ℕ → Levels) (s : Segment)

@@ -13,11 +13,11 @@ use Rattle.jpeg_pixels.specs.Pictures.{Source, source_by, source_of, sources_by}
 use Rattle.jpeg_pixels.specs.Upsampling.{divides, rule_of}
 use Rattle.jpeg_segments.specs.Frame.{Component, component_of, Factors, frame_of, greatest}
 use Rattle.jpeg_segments.specs.WrittenSegments.{FrameHeader, frame_written}
-use Rattle.jpeg_streams.specs.SaidSegments.{IsNear}
+use Rattle.jpeg_streams.specs.SaidSegments.{HasPicture, IsNear, IsUpsampled}
 use Rattle.jpeg_streams.specs.Segments.{accepted, is_decoded_count}
 use Rattle.jpeg_streams.specs.WrittenLossless.{HasSamples}
 use Rattle.jpeg_streams.proofs.AcceptedTurns.{bind-ok, err-ok}
-use Rattle.jpeg_streams.proofs.FrameShapes.{factors-back}
+use Rattle.jpeg_streams.proofs.FrameFits.{factors-back}
 use Rattle.jpeg_streams.proofs.PicturedFrames.{Upsampled}
 use Rattle.jpeg_streams.proofs.ScaledSources.{pick-test}
 use Rattle.jpeg_streams.proofs.Soundness.{accepted-facts, accepted-precision, both-hold}
@@ -112,24 +112,43 @@ count-back n e = go (either (n == 1) _ e)
         next (inl g) = inl (eqb-true n 3 g)
         next (inr g) = inr (eqb-true n 4 g)
 
-pub accepted-samples : (h : FrameHeader) → accepted (frame_written 3 h) ≡ Ok (frame_written 3 h) → HasSamples 3 h
+abbrev HasCount : ℕ → Type 0
+HasCount n = (n ≡ 1) ⊎ ((n ≡ 3) ⊎ (n ≡ 4))
+
+accepted-parts : (number : ℕ) (h : FrameHeader) → accepted (frame_written number h) ≡ Ok (frame_written number h)
+    → HasCount (length h.components) × AllByRecursion (IsUpsampled h) h.components
 unfolding frame_of
-accepted-samples h ok =
-    let frame = frame_written 3 h in
+accepted-parts number h ok =
+    let frame = frame_written number h in
     let facts = accepted-facts frame frame ok in
     let most_h = greatest (λ f. f.horizontal) h.components in
     let most_v = greatest (λ f. f.vertical) h.components in
     let cs = map (component_of h.width h.height most_h most_v) h.components in
     let back = factors-back h.width h.height most_h most_v h.components in
-    let size : length frame.components ≡ length h.components = length-map h.components _ in
+    let size : length frame.components ≡ length h.components = length-map h.components _ in (
+      count-back (length h.components) (sym (ap is_decoded_count size) ∙ facts.0),
+      all-back (Upsampled most_h most_v h.width h.height) h.width h.height most_h most_v h.components
+          (sources-back most_h most_v h.width h.height cs facts.1.0
+          (sym (ap₂ (λ (a b : ℕ). sources_by a b h.width h.height cs) (ap (greatest (λ f. f.horizontal)) back)
+          (ap (greatest (λ f. f.vertical)) back)) ∙ facts.1.1)),
+    )
+
+pub accepted-samples : (h : FrameHeader) → accepted (frame_written 3 h) ≡ Ok (frame_written 3 h) → HasSamples 3 h
+unfolding frame_of
+accepted-samples h ok =
+    let frame = frame_written 3 h in
+    let parts = accepted-parts 3 h ok in
     let precise = both-hold (nat_le 2 h.precision) (nat_le h.precision 16) (accepted-precision frame frame ok) in
     record {
       lossless = refl;
       least = leb-true 2 h.precision precise.0;
       most = leb-true h.precision 16 precise.1;
-      counted = count-back (length h.components) (sym (ap is_decoded_count size) ∙ facts.0);
-      upsampled = all-back (Upsampled most_h most_v h.width h.height) h.width h.height most_h most_v h.components
-          (sources-back most_h most_v h.width h.height cs facts.1.0
-          (sym (ap₂ (λ (a b : ℕ). sources_by a b h.width h.height cs) (ap (greatest (λ f. f.horizontal)) back)
-          (ap (greatest (λ f. f.vertical)) back)) ∙ facts.1.1));
+      counted = parts.0;
+      upsampled = parts.1;
     }
+
+-- and a frame of 8 bits has a picture
+pub accepted-picture : (number : ℕ) (h : FrameHeader) → h.precision ≡ 8
+    → accepted (frame_written number h) ≡ Ok (frame_written number h) → HasPicture h
+accepted-picture number h e ok =
+    let parts = accepted-parts number h ok in record { precise = e; counted = parts.0; upsampled = parts.1 }

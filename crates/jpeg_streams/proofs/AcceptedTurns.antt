@@ -33,6 +33,7 @@ use Rattle.jpeg_streams.proofs.AcceptedStreams.WritesScans.{segment, scan, close
 use Rattle.jpeg_streams.specs.Levels.{Levels}
 use Rattle.jpeg_bits.specs.Written.{marker}
 use Rattle.jpeg_lossless.specs.Written.{IsMarker}
+pub use Rattle.jpeg_segments.proofs.OnlyWritten.{ok-same, bind-ok}
 use Rattle.jpeg_streams.proofs.OwnSpots.{At}
 use Rattle.jpeg_streams.proofs.ReadStates.{reading}
 
@@ -77,15 +78,6 @@ stands-next fill code m bytes h =
 pub err-ok : {C : Type 0} (x : Fault) (r : C) → ◌≡◌ {A = Result C Fault} (Err x) (Ok r) → ⊥
 err-ok x r e = cc
 
-pub ok-same : {C : Type 0} (x r : C) → ◌≡◌ {A = Result C Fault} (Ok x) (Ok r) → x ≡ r
-ok-same x r e = cc
-
--- what a step gave, and the rest
-pub bind-ok : {A B : Type 0} (o : Result A Fault) (f : A → Result B Fault) (y : B) → (o >>= f) ≡ Ok y
-    → (x : A) × (o ≡ Ok x) × (f x ≡ Ok y)
-bind-ok (Ok x) f y e = (x, refl, e)
-bind-ok (Err x) f y e = absurd (err-ok x y e)
-
 pub then-ok : {A B : Type 0} (o : Result A Fault) (f : A → Result B Fault) (x : A) (y : Result B Fault) → o ≡ Ok x
     → f x ≡ y → (o >>= f) ≡ y
 then-ok o f x y e g = ap (λ r. r >>= f) e ∙ g
@@ -110,7 +102,7 @@ pub segment-read : (w next : Found) (m : Marker) (bytes rest : List ℕ) (before
     → segment_at m before (reading w s h fi pl) (bytes ++ rest) ≡ Ok (onward (reading next s h fi pl), rest)
 unfolding segment_at quantization_segment huffman_segment restart_segment application_segment skipped_segment comment_at
 segment-read w next m bytes rest before s h fi pl (quantization w' bytes' t a) = rw (a.accepted rest) refl
-segment-read w next m bytes rest before s h fi pl (huffman w' bytes' t a) = rw (a.accepted rest) refl
+segment-read w next m bytes rest before s h fi pl (huffman w' bytes' t k a) = rw (a.accepted rest) refl
 segment-read w next m bytes rest before s h fi pl (restart w' bytes' n a) = rw (a.accepted rest) refl
 segment-read w next m bytes rest before s h fi pl (application w' number bytes' t a) = rw (a.accepted rest) refl
 segment-read w next m bytes rest before s h fi pl (comment w' bytes' a) =
@@ -120,7 +112,7 @@ segment-read w next m bytes rest before s h fi pl (comment w' bytes' a) =
 
 pub frame-kept : (w next : Found) (m : Marker) (bytes : List ℕ) → WritesSegment w m bytes next → next.frame ≡ w.frame
 frame-kept w next m bytes (quantization w' bytes' t a) = refl
-frame-kept w next m bytes (huffman w' bytes' t a) = refl
+frame-kept w next m bytes (huffman w' bytes' t k a) = refl
 frame-kept w next m bytes (restart w' bytes' n a) = refl
 frame-kept w next m bytes (application w' number bytes' t a) = refl
 frame-kept w next m bytes (comment w' bytes' a) = refl
@@ -131,7 +123,7 @@ segment-plain : (w next : Found) (m : Marker) (bytes all : List ℕ) (turns : �
     → after_restarts (suc turns) (Some m) all ≡ Ok (Some m, all)
 unfolding after_restarts
 segment-plain w next m bytes all turns (quantization w' bytes' t a) = refl
-segment-plain w next m bytes all turns (huffman w' bytes' t a) = refl
+segment-plain w next m bytes all turns (huffman w' bytes' t k a) = refl
 segment-plain w next m bytes all turns (restart w' bytes' n a) = refl
 segment-plain w next m bytes all turns (application w' number bytes' t a) = refl
 segment-plain w next m bytes all turns (comment w' bytes' a) = refl
@@ -145,7 +137,7 @@ scans-plain array f tail w final levels last scanned m bytes all turns
     (segment w' next final' levels' last' scanned' m' after fill code payload more s q i r) =
     segment-plain w next m payload all turns s
 scans-plain array f tail w final levels last scanned m bytes all turns
-    (scan w' final' levels' last' scanned' after fill code header payload more s codings a l x i r) = refl
+    (scan w' final' levels' last' scanned' after fill code header payload more s codings a rules l x i r) = refl
 scans-plain array f tail w final levels last scanned m bytes all turns (closed w' levels' t c) = refl
 
 -- ---- the tables of a scan
@@ -171,44 +163,67 @@ pub record CodingFacts (w : Found) (frame : Frame) (k : Coding) : Type 0 where
   pub at : At k.place frame.components k.component
   pub table : slice_index_or w.quantization k.component.factors.quantization None ≡ Some k.quantization
 
-coding-facts : (w : Found) (frame : Frame) (p : Pass) (tables : Tables) (place d a : ℕ) (k : Coding)
-    → component_coding w frame p tables place d a ≡ Ok k → CodingFacts w frame k × (k.place ≡ place)
+in-force-back : (b : Bool) (class : HuffmanTableClass) (tables : List (Option Table)) (place : ℕ) (table : Table)
+    → needed_if b class (slice_index_or tables place None) ≡ Ok table → InForce b class tables place table
+in-force-back true class tables place table e = needed-some (slice_index_or tables place None) table e
+in-force-back false class tables place table e = sym (ok-same _ table e)
+
+coding-back : (w : Found) (frame : Frame) (p : Pass) (tables : Tables) (place d a : ℕ) (k : Coding)
+    → component_coding w frame p tables place d a ≡ Ok k → IsCoding w frame p tables place d a k
 unfolding component_coding
-coding-facts w frame p tables place d a k e =
+coding-back w frame p tables place d a k e =
     let component = bind-ok (needed (first_of (drop place frame.components))) _ k e in
     let table = bind-ok (needed (slice_index_or w.quantization component.0.factors.quantization None)) _ k component.2
     in
-    let dc = bind-ok (needed_if (p.ss == 0) _ (slice_index_or tables.dc d None)) _ k table.2 in
-    let ac = bind-ok (needed_if (nat_lt 0 p.se) _ (slice_index_or tables.ac a None)) _ k dc.2 in
-    subst (λ (x : Coding). CodingFacts w frame x × (x.place ≡ place)) (ok-same _ k ac.2) (
-      record {
-        at = first-drop place frame.components component.0
-            (needed-some (first_of (drop place frame.components)) component.0 component.1);
-        table = needed-some (slice_index_or w.quantization component.0.factors.quantization None) table.0 table.1;
-      },
-      refl,
+    let dc = bind-ok (needed_if (p.ss == 0) classes.DC (slice_index_or tables.dc d None)) _ k table.2 in
+    let ac = bind-ok (needed_if (nat_lt 0 p.se) classes.AC (slice_index_or tables.ac a None)) _ k dc.2 in
+    subst (IsCoding w frame p tables place d a) (ok-same _ k ac.2) (record {
+      stands = refl;
+      component = needed-some (first_of (drop place frame.components)) component.0 component.1;
+      quantization = needed-some (slice_index_or w.quantization component.0.factors.quantization None) table.0 table.1;
+      dc = in-force-back (p.ss == 0) classes.DC tables.dc d dc.0 dc.1;
+      ac = in-force-back (nat_lt 0 p.se) classes.AC tables.ac a ac.0 ac.1;
+    })
+
+pub codings-back : (w : Found) (frame : Frame) (p : Pass) (tables : Tables) (places ds ks : List ℕ)
+    (codings : List Coding) → length ds ≡ length places → length ks ≡ length places
+    → codings_from w frame p tables places ds ks ≡ Ok codings → AreCodings w frame p tables places ds ks codings
+unfolding codings_from
+codings-back w frame p tables [] [] [] codings h g e =
+    subst (AreCodings w frame p tables [] [] []) (ok-same [] codings e) no_more
+codings-back w frame p tables [] (d ∷ ds) ks codings h g e = absurd (omega arith)
+codings-back w frame p tables [] [] (a ∷ ks) codings h g e = absurd (omega arith)
+codings-back w frame p tables (x ∷ places) [] ks codings h g e = absurd (omega arith)
+codings-back w frame p tables (x ∷ places) (d ∷ ds) [] codings h g e = absurd (omega arith)
+codings-back w frame p tables (x ∷ places) (d ∷ ds) (a ∷ ks) codings h g e =
+    let one = bind-ok (component_coding w frame p tables x d a) _ codings e in
+    let more = bind-ok (codings_from w frame p tables places ds ks) _ codings one.2 in
+    subst (AreCodings w frame p tables (x ∷ places) (d ∷ ds) (a ∷ ks)) (ok-same (one.0 ∷ more.0) codings more.2)
+    (and_more x d a places ds ks one.0 more.0 (coding-back w frame p tables x d a one.0 one.1)
+    (codings-back w frame p tables places ds ks more.0 (omega arith) (omega arith) more.1))
+
+-- the facts of codings
+abbrev AllFacts : Found → Frame → List ℕ → List Coding → Type 0
+AllFacts w frame places codings =
+    (length codings ≡ length places) × AllByRecursion (CodingFacts w frame) codings
+    × (map (λ c. c.place) codings ≡ places)
+
+codings-so : (w : Found) (frame : Frame) (p : Pass) (tables : Tables) (places ds ks : List ℕ) (codings : List Coding)
+    → AreCodings w frame p tables places ds ks codings → AllFacts w frame places codings
+codings-so w frame p tables places ds ks codings no_more = (refl, tt, refl)
+codings-so w frame p tables places ds ks codings (and_more place d a places' ds' ks' k more h r) =
+    let rest = codings-so w frame p tables places' ds' ks' more r in
+    let at = ap (λ (n : ℕ). first_of (drop n frame.components)) h.stands ∙ h.component in (
+      ap suc rest.0,
+      (record { at = first-drop k.place frame.components k.component at; table = h.quantization }, rest.1),
+      ap₂ (λ (m : ℕ) (l : List ℕ). m ∷ l) h.stands rest.2,
     )
 
 pub codings-facts_from : (w : Found) (frame : Frame) (p : Pass) (tables : Tables) (places ds ks : List ℕ)
     (codings : List Coding) → length ds ≡ length places → length ks ≡ length places
-    → codings_from w frame p tables places ds ks ≡ Ok codings
-    → (length codings ≡ length places) × AllByRecursion (CodingFacts w frame) codings
-    × (map (λ c. c.place) codings ≡ places)
-unfolding codings_from
-codings-facts_from w frame p tables [] ds ks codings h g e =
-    let same = ok-same [] codings e in
-    subst (λ (l : List Coding). (length l ≡ 0) × AllByRecursion (CodingFacts w frame) l
-    × (map (λ c. c.place) l ≡ [])) same (refl, tt, refl)
-codings-facts_from w frame p tables (x ∷ places) [] ks codings h g e = absurd (omega arith)
-codings-facts_from w frame p tables (x ∷ places) (d ∷ ds) [] codings h g e = absurd (omega arith)
-codings-facts_from w frame p tables (x ∷ places) (d ∷ ds) (a ∷ ks) codings h g e =
-    let one = bind-ok (component_coding w frame p tables x d a) _ codings e in
-    let more = bind-ok (codings_from w frame p tables places ds ks) _ codings one.2 in
-    let rest = codings-facts_from w frame p tables places ds ks more.0 (omega arith) (omega arith) more.1 in
-    let first = coding-facts w frame p tables x d a one.0 one.1 in
-    subst (λ (l : List Coding). (length l ≡ suc (length places)) × AllByRecursion (CodingFacts w frame) l
-    × (map (λ c. c.place) l ≡ x ∷ places)) (ok-same (one.0 ∷ more.0) codings more.2)
-    (ap suc rest.0, (first.0, rest.1), ap₂ (λ (m : ℕ) (l : List ℕ). m ∷ l) first.1 rest.2)
+    → codings_from w frame p tables places ds ks ≡ Ok codings → AllFacts w frame places codings
+codings-facts_from w frame p tables places ds ks codings h g e =
+    codings-so w frame p tables places ds ks codings (codings-back w frame p tables places ds ks codings h g e)
 
 pub codings-by : (w : Found) (frame : Frame) (s : Scan)
     → codings_of w frame s ≡ codings_from w frame (pass_of s) (tables_of w s) s.components s.dc_places s.ac_places

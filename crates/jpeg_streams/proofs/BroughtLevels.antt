@@ -3,7 +3,7 @@ use Rattle.std.proofs.Common.{◌≡◌, ◌≢◌, ◌⊎◌, inl, inr, ℕ, ze
 use Rattle.std.proofs.Common.{not, nat_le, ◌==◌, Bool, true, false, cond, List, [], ◌∷◌, ◌++◌, length, take, drop}
 use Rattle.std.proofs.Common.{replicate, get_or, Option, Some, None, Ok, refl, sym, ap, ◌∙◌, subst, arith, eqb}
 use Rattle.std.proofs.Common.{true≢false, length-append, length-take, length-drop}
-use Rattle.std.proofs.lemmas.Bool.{eqb-true, eq-eqb}
+use Rattle.std.proofs.lemmas.Bool.{and_parts, eqb-true, eq-eqb, not-true}
 use Rattle.std.proofs.lemmas.List.{length-replicate}
 use lib.ListN.{length-map}
 use Rattle.std.specs.List.{AllByRecursion}
@@ -31,6 +31,7 @@ use Rattle.jpeg_streams.proofs.WrittenFrameScans.{HoldsOwn, HasGood, SlotReady, 
 use Rattle.jpeg_streams.proofs.WrittenFrameScans.{one_component, ReadsScan, scan-is_read, cut-nothing, at-all}
 use Rattle.jpeg_streams.proofs.ReadStates.{reading, Marked, AllDone, places_of, Brought, brings, AllHeld, held-after}
 use Rattle.jpeg_streams.proofs.AcceptedTurns.{CodingFacts, codings-facts, codings-read}
+use Rattle.jpeg_streams.proofs.AcceptedStreams.{PassSo, ScanFacts, progressive, sequential}
 
 -- ---- the frame
 
@@ -192,34 +193,21 @@ after-fresh p (q ∷ places) levels e h k n =
 
 -- ---- passes
 
-both : (a b : Bool) → (a && b) ≡ true → (a ≡ true) × (b ≡ true)
-both true b e = (refl, e)
-both false b e = absurd (true≢false (sym e))
-
 either-true : (a b : Bool) → (a || b) ≡ true → (a ≡ true) ⊎ (b ≡ true)
 either-true true b e = inl refl
 either-true false b e = inr e
-
-not-true : (a : Bool) → not a ≡ true → a ≡ false
-not-true true e = absurd (true≢false (sym e))
-not-true false e = refl
 
 pub pass-by : (s : Scan) → pass_of s ≡ record { is_first = eqb s.high 0; ss = s.first; se = s.after - 1; al = s.low }
 unfolding pass_of
 pass-by s = refl
 
--- a pass that starts with DC has DC alone, and one that doesn't is of one component
-pub record IsProgressivePass (s : Scan) : Type 0 where
-  pub dc : s.first ≡ 0 → s.after - 1 ≡ 0
-  pub ac : (s.first ≡ 0) ⊎ (length s.components ≡ 1)
-
 pub progressive-pass : (count first last high low : ℕ) → is_progressive_band count first last high low ≡ true
     → (first ≡ 0 → last ≡ 0) × ((first ≡ 0) ⊎ (count ≡ 1))
 progressive-pass count first last high low e =
-    let a = both (nat_le first last) _ e in
-    let b = both (nat_le last 63) _ a.1 in
-    let c = both (not (first == 0) || last == 0) _ b.1 in
-    let d = both (first == 0 || count == 1) _ c.1 in
+    let a = and_parts (nat_le first last) _ e in
+    let b = and_parts (nat_le last 63) _ a.1 in
+    let c = and_parts (not (first == 0) || last == 0) _ b.1 in
+    let d = and_parts (first == 0 || count == 1) _ c.1 in
     ((λ z. go z (either-true (not (first == 0)) (last == 0) c.0)), one (either-true (first == 0) (count == 1) d.0))
   where
     go : first ≡ 0 → (not (first == 0) ≡ true) ⊎ ((last == 0) ≡ true) → last ≡ 0
@@ -229,20 +217,6 @@ progressive-pass count first last high low e =
     one : ((first == 0) ≡ true) ⊎ ((count == 1) ≡ true) → (first ≡ 0) ⊎ (count ≡ 1)
     one (inl y) = inl (eqb-true first 0 y)
     one (inr y) = inr (eqb-true count 1 y)
-
--- what the process says of a scan
-pub data PassSo (f : Frame) (s : Scan) : Type 0 where
-  sequential : is_progressive f.process ≡ false → pass_of s ≡ whole_pass → PassSo f s
-  progressive : is_progressive f.process ≡ true → (s.first ≡ 0 → s.after - 1 ≡ 0)
-      → (s.first ≡ 0) ⊎ (length s.components ≡ 1) → s.first < s.after → s.after ≤ 64 → PassSo f s
-
--- what a scan header says
-pub record ScanFacts (f : Frame) (s : Scan) : Type 0 where
-  pub some : 1 ≤ length s.components
-  pub dc_length : length s.dc_places ≡ length s.components
-  pub ac_length : length s.ac_places ≡ length s.components
-  pub apart : AreApart s.components
-  pub so : PassSo f s
 
 pub band-so : (f : Frame) (s : Scan) → PassSo f s → IsBand (pass_of s)
 unfolding pass_of

@@ -10,8 +10,7 @@ use Rattle.std.proofs.lemmas.Int.{ints}
 use Rattle.std.proofs.lemmas.List.{append-nil, replicate-append-replicate, take_all}
 use Rattle.std.proofs.lemmas.List.FromFn.{get_or-range_with_len}
 use Rattle.std.specs.List.{AllByRecursion, range_with_len}
-use Rattle.jpeg_bits.proofs.Tables.{tested-exist}
-use Rattle.jpeg_bits.specs.Codes.{code_lengths, code_value, codes_exist, HasCodes, lengths_from, Table}
+use Rattle.jpeg_bits.specs.Codes.{code_lengths, lengths_from, Table}
 use Rattle.jpeg_bits.specs.Entropy.{bits_of}
 use Rattle.jpeg_bits.specs.Passes.{band_of, Block, Pass, Via, whole_pass}
 use Rattle.jpeg_bits.specs.Written.{code_bits, low_bits, bits_of_bytes, stuffed, IsCategory, IsCoded}
@@ -38,10 +37,6 @@ flat_table class = record { class = class; counts = flat_counts; symbols = range
 lengths-are : length (code_lengths flat_counts) ≡ 255
 unfolding lengths_from
 lengths-are = refl
-
-pub flat-exist : HasCodes (code_lengths flat_counts)
-unfolding codes_exist lengths_from code_value
-flat-exist = tested-exist (code_lengths flat_counts) refl
 
 flat-coded : (class : HuffmanTableClass) (symbol : ℕ) → symbol < 255
     → IsCoded (flat_table class) symbol (code_bits (flat_table class) symbol)

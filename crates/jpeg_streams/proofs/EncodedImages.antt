@@ -2,7 +2,7 @@
 use Rattle.std.proofs.Common.{◌≡◌, ◌≢◌, ◌⊎◌, inl, inr, ℕ, zero, suc, ◌+◌, ◌/◌, ◌%◌, ◌<◌, ◌≤◌, ◌==◌, ◌||◌}
 use Rattle.std.proofs.Common.{nat_lt, not, Bool, true, false, cond}
 use Rattle.std.proofs.Common.{List, [], ◌∷◌, ◌++◌, map, length, drop, replicate, flat_map, ℤ}
-use Rattle.std.proofs.Common.{Option, Some, None}
+use Rattle.std.proofs.Common.{Some, None}
 use Rattle.std.proofs.Common.{refl, sym, ap, ap₂, ◌∙◌, subst, append_assoc, length-append, arith, true≢false}
 use Rattle.std.proofs.Common.{leb-true}
 use Rattle.std.proofs.lemmas.Bool.{cases_lt, eq-eqb, ne_eqb, lt-ltb}
@@ -11,18 +11,16 @@ use lib.ListN.{length-map}
 use Rattle.std.specs.List.{AllByRecursion, prefix_len, range_with_len}
 use Rattle.std.specs.Prelude.{slice_index_or}
 use Rattle.jpeg_bits.specs.Passes.{Block, Pass, Via, whole_pass}
-use Rattle.jpeg_bits.specs.declared.codes.HuffmanTableClass.{HuffmanTableClass}
 use Rattle.jpeg_bits.specs.declared.codes.HuffmanTableClass.TheVariants as classes
 use Rattle.jpeg_segments.specs.Frame.{Component, component_of, Factors, Frame, frame_of, greatest, is_lossless_number}
 use Rattle.jpeg_segments.specs.Frame.{is_place, is_taken}
-use Rattle.jpeg_bits.specs.Codes.{Table}
+use Rattle.jpeg_bits.specs.Codes.{Table, codes_exist, code_value, lengths_from}
 use Rattle.jpeg_segments.specs.HuffmanTables.{PlacedTable, Tables}
 use Rattle.jpeg_segments.specs.ScanHeader.{is_band, place_of, Scan, scan_of}
 use Rattle.jpeg_segments.specs.ScanHeaders.{AreChoices, IsScan, scan_payload, scan_written, ScanHeader}
 use Rattle.jpeg_segments.specs.WrittenSegments.{IsComponent, AreComponents, frame_written, FrameHeader, Header}
 use Rattle.jpeg_segments.specs.WrittenSegments.{Huffman, IsFrame}
-use Rattle.jpeg_segments.specs.WrittenSegments.{IsHuffmanTable}
-use Rattle.jpeg_segments.specs.WrittenSegments.{IsQuantizationTable, payload_of, Quantization, QuantizationTable}
+use Rattle.jpeg_segments.specs.WrittenSegments.{payload_of, Quantization, QuantizationTable}
 use Rattle.jpeg_segments.specs.WrittenSegments.{sized}
 use Rattle.jpeg_streams.specs.declared.grids.Grid.{Grid}
 use Rattle.jpeg_streams.specs.Levels.{Is8Bit, IsLegal, Levels, sent_after, nothing_sent, numbers_at}
@@ -43,18 +41,16 @@ use Rattle.jpeg_streams.specs.WrittenScans.{IsComplete, IsLegalScan}
 use Rattle.jpeg_streams.specs.WrittenScans.{levels_after, place_at, WritesScan, written_turns}
 use Rattle.jpeg_streams.specs.WrittenScans.AreCodings.{and_more, no_more}
 use Rattle.jpeg_streams.proofs.CutLevels.{all-same}
-use Rattle.jpeg_streams.proofs.EncodedBlocks.{ac_pass, dc_pass, Each, each-ac, each-dc, each-whole, flat-exist}
+use Rattle.jpeg_streams.proofs.TestedParts.{legal-by, one-quantizes, table-by, table_of_one}
+use Rattle.jpeg_streams.proofs.EncodedBlocks.{ac_pass, dc_pass, Each, each-ac, each-dc, each-whole}
 use Rattle.jpeg_streams.proofs.EncodedBlocks.{flat_table, HasFlatAc}
 use Rattle.jpeg_streams.proofs.EncodedBlocks.{HasFlatDc, interval-written, IsFlat}
 use Rattle.jpeg_streams.proofs.WholeImages.{floor-whole, toward-whole}
 
 -- ---- what is written
 
-abbrev ones : ℕ → QuantizationTable
-ones place = record { precision = 0; place = place; values = replicate 64 1 }
-
 abbrev all_ones : List QuantizationTable
-all_ones = ones 0 ∷ ones 1 ∷ ones 2 ∷ ones 3 ∷ []
+all_ones = table_of_one 0 1 ∷ table_of_one 1 1 ∷ table_of_one 2 1 ∷ table_of_one 3 1 ∷ []
 
 abbrev flat_tables : List PlacedTable
 flat_tables = record { place = 0; table = flat_table classes.DC } ∷ record {
@@ -140,14 +136,18 @@ coding kind h place c =
           ac_for kind;
     }
 
-abbrev header_of : Kind → ℕ → Factors → ScanHeader
-header_of kind place c = record {
+-- a scan of one component, first sent at level 0
+abbrev pub lone_header : ℕ → ℕ → ℕ → Factors → ScanHeader
+lone_header from to place c = record {
   choices = (record { identifier = c.identifier; component = place; dc = 0; ac = 0 }) ∷ [];
-  first = from_for kind;
-  last = to_for kind;
+  first = from;
+  last = to;
   high = 0;
   low = 0;
 }
+
+abbrev header_of : Kind → ℕ → Factors → ScanHeader
+header_of kind place c = lone_header (from_for kind) (to_for kind) place c
 
 -- ---- the blocks of a scan
 
@@ -221,10 +221,6 @@ or-false : (a b : Bool) → (a || b) ≡ false → (a ≡ false) × (b ≡ false
 or-false true b e = absurd (true≢false e)
 or-false false b e = (refl, e)
 
-not-true : (b : Bool) → b ≡ false → not b ≡ true
-not-true true e = absurd (true≢false e)
-not-true false e = refl
-
 abbrev is_not : ℕ → Component → Bool
 is_not identifier c = not (c.factors.identifier == identifier)
 
@@ -236,7 +232,7 @@ before-it h (x ∷ front) more c e =
     let here = or-false (x.identifier == c.identifier) (is_taken front c.identifier) e in
     rw (here.0) (ap (λ (n : ℕ). 1 + n) (before-it h front more c here.1) ∙ omega arith)
 
-pub place-is : (h : FrameHeader) (front more : List Factors) (c : Factors) → is_taken front c.identifier ≡ false
+place-is : (h : FrameHeader) (front more : List Factors) (c : Factors) → is_taken front c.identifier ≡ false
     → place_of (map (component_in h) (front ++ c ∷ more)) c.identifier ≡ Some (length front)
 place-is h front more c e =
     let cs = map (component_in h) (front ++ c ∷ more) in
@@ -283,12 +279,12 @@ band-is OfAc (suc zero) h fits = absurd (omega arith)
 band-is OfAc (suc (suc zero)) h fits = refl
 band-is OfAc (suc (suc (suc number))) h fits = absurd (omega arith)
 
-header-written : (kind : Kind) (number : ℕ) (h : FrameHeader) (front more : List Factors) (c : Factors)
-    → Fits kind number → HasPicture h
+pub lone-written : (from to number : ℕ) (h : FrameHeader) (front more : List Factors) (c : Factors)
+    → is_band (frame_written number h).process 1 from to 0 0 ≡ true → 0 < h.precision
     → h.components ≡ front ++ c ∷ more → is_taken front c.identifier ≡ false
-    → IsScan (frame_written number h) (header_of kind (length front) c)
+    → IsScan (frame_written number h) (lone_header from to (length front) c)
 unfolding AreChoices frame_of
-header-written kind number h front more c fits p e new = record {
+lone-written from to number h front more c band some e new = record {
   some = omega arith;
   most = omega arith;
   choices = (
@@ -303,8 +299,8 @@ header-written kind number h front more c fits p e new = record {
   );
   fits = refl;
   narrow = omega arith;
-  precise = lt-ltb 0 h.precision (let q = p.precise in omega arith);
-  band = band-is kind number h fits;
+  precise = lt-ltb 0 h.precision some;
+  band = band;
 }
 
 -- ---- tables in force
@@ -361,35 +357,10 @@ codings-are kind number h front more c e le =
       ac = ac-force kind kind number h (length front) c;
     }) no_more
 
-some-none : (a : ℕ) → ◌≡◌ {A = Option ℕ} (Some a) None → ⊥
-some-none a e = cc
-
 kind-legal : (kind : Kind) → IsLegal (pass_for kind) (before kind)
-kind-legal Whole = record {
-  low = omega arith;
-  dc_unsent = λ e f. refl;
-  dc_sent = λ e f. absurd (true≢false f);
-  dc_before = λ n. absurd (n refl);
-  acs_unsent = λ f. all-same None 63;
-  acs_sent = λ f. absurd (true≢false f);
-}
-kind-legal OfDc = record {
-  low = omega arith;
-  dc_unsent = λ e f. refl;
-  dc_sent = λ e f. absurd (true≢false f);
-  dc_before = λ n. absurd (n refl);
-  acs_unsent = λ f. tt;
-  acs_sent = λ f. tt;
-}
-kind-legal OfAc = record {
-  low = omega arith;
-  dc_unsent = λ e f. absurd (omega arith);
-  dc_sent = λ e f. absurd (omega arith);
-  dc_before =
-      λ n e. some-none 0 e;
-  acs_unsent = λ f. all-same None 63;
-  acs_sent = λ f. absurd (true≢false f);
-}
+kind-legal Whole = legal-by whole_pass nothing_sent refl
+kind-legal OfDc = legal-by dc_pass nothing_sent refl
+kind-legal OfAc = legal-by ac_pass (before OfAc) refl
 
 scan-legal : (kind : Kind) (number : ℕ) (h : FrameHeader) (front more : List Factors) (c : Factors)
     (levels : ℕ → Levels) → Fits kind number
@@ -510,7 +481,8 @@ one-scan kind number h array front more c levels last scanned bytes fits le p ra
     (place-low number c.quantization le is.placed) was in (
       marker 0 218 (sized (scan_payload head) ++ (d.0 ++ bytes)),
       scan (said number h) (said number h) levels last scanned f 0 head ks d.0 bytes refl
-          (header-written kind number h front more c fits p e is.is_new) legal coded w,
+          (lone-written (from_for kind) (to_for kind) number h front more c (band-is kind number h fits)
+              (let q = p.precise in omega arith) e is.is_new) legal coded w,
     )
 
 -- The scans of a component: what was sent after them, and they stand before what is written then.
@@ -599,26 +571,6 @@ each-steps number h array le p range = go (cases_lt number 2)
 
 -- ---- the segments
 
-some-ones : (n : ℕ) → AllByRecursion (λ v. 0 < v) (replicate n 1)
-some-ones zero = tt
-some-ones (suc n) = (omega arith, some-ones n)
-
-ones-written : (place : ℕ) → place ≤ 3 → IsQuantizationTable (ones place)
-ones-written place le = record { precise = omega arith; placed = le; counted = refl; some = some-ones 64 }
-
-flat-written : (most : ℕ) (class : HuffmanTableClass)
-    → IsHuffmanTable most (record { place = 0; table = flat_table class })
-flat-written most class =
-    record {
-      placed = omega arith;
-      counted = refl;
-      has_symbols = refl;
-      some = omega arith;
-      at_most =
-          omega arith;
-      exists = flat-exist;
-    }
-
 some-components : (h : FrameHeader) → HasPicture h → h.components ≡ [] → false ≡ true
 some-components h p e = absurd (go p.counted)
   where
@@ -638,7 +590,7 @@ front_bytes number h more =
 
 pub image-written : (number : ℕ) (h : FrameHeader) (array : Coefficients) → number ≤ 2 → IsFrame number h → HasPicture h
     → ((place row column : ℕ) → Is8Bit (array place row column)) → (bytes : List ℕ) × IsWhollyWritten array bytes
-unfolding nothing_found frame_of
+unfolding nothing_found frame_of codes_exist lengths_from code_value
 image-written number h array le is p range =
     let r = scans-written number h array h.components []
     (λ k. nothing_sent) false le (each-steps number h array le p range) is.components refl is.components
@@ -655,8 +607,11 @@ image-written number h array le is p range =
           written =
               segment nothing_found (said number h) (λ k. nothing_sent) r.1 false 0 (Quantization all_ones) _ (
                 (
-                  ones-written 0 (omega arith),
-                  (ones-written 1 (omega arith), (ones-written 2 (omega arith), (ones-written 3 (omega arith), tt))),
+                  one-quantizes 0 1 (omega arith) (omega arith),
+                  (
+                    one-quantizes 1 1 (omega arith) (omega arith),
+                    (one-quantizes 2 1 (omega arith) (omega arith), (one-quantizes 3 1 (omega arith) (omega arith), tt)),
+                  ),
                 ),
                 tt,
               )
@@ -666,7 +621,7 @@ image-written number h array le is p range =
               (omega arith)
               (λ x. absurd (true≢false (sym x))) (
               segment (said_2 number h) (said number h) (λ k. nothing_sent) r.1 false 0 (Huffman flat_tables) _
-              ((flat-written _ classes.DC, (flat-written _ classes.AC, tt)), tt) tt (λ x. tt) r.2));
+              ((table-by _ _ (omega arith) refl, (table-by _ _ (omega arith) refl, tt)), tt) tt (λ x. tt) r.2));
         };
         framed = refl;
         complete = in-range (λ k. IsComplete (r.1 k)) 0 (length (frame_written number h).components)

@@ -4,25 +4,23 @@ use Rattle.std.proofs.Common.{Bool, true, false, List, [], ◌∷◌, ◌++◌, 
 use Rattle.std.proofs.Common.{◌≤ℤ◌, unsigned_abs, Some, None}
 use Rattle.std.proofs.Common.{refl, sym, ap, ap₂, ◌∙◌, subst, append_assoc, length-append, arith}
 use Rattle.std.proofs.Math.Pow.{pow_mono}
-use Rattle.std.proofs.lemmas.Bool.{cases_lt, eqb-true, ltb-true, lt-ltb}
+use Rattle.std.proofs.lemmas.Bool.{cases_lt, eqb-true, ltb-true}
 use Rattle.std.proofs.lemmas.Int.{ints}
 use Rattle.std.proofs.lemmas.List.{append-nil, take_all}
 use Rattle.std.proofs.lemmas.List.FromFn.{get_or-range_with_len}
 use lib.ListN.{length-map}
 use Rattle.std.specs.List.{AllByRecursion, list_all, range_with_len}
 use Rattle.std.specs.Prelude.{flat_map, nat_lt, slice_index_or, ◌==◌}
-use Rattle.jpeg_bits.proofs.Tables.{tested-exist}
-use Rattle.jpeg_bits.specs.Codes.{code_lengths, code_value, codes_exist, HasCodes, lengths_from, Table}
+use Rattle.jpeg_bits.specs.Codes.{code_lengths, code_value, codes_exist, lengths_from, Table}
 use Rattle.jpeg_bits.specs.Written.{code_bits, IsCoded, marker, stuffed}
 use Rattle.jpeg_bits.specs.declared.codes.HuffmanTableClass.TheVariants as classes
 use Rattle.jpeg_bits.specs.declared.scan.Predictor.{Predictor}
 use Rattle.jpeg_bits.specs.declared.scan.Predictor.TheVariants.{Ra}
-use Rattle.jpeg_segments.specs.Frame.{Factors, frame_of, is_taken}
+use Rattle.jpeg_segments.specs.Frame.{Factors, frame_of}
 use Rattle.jpeg_segments.specs.HuffmanTables.{PlacedTable}
-use Rattle.jpeg_segments.specs.ScanHeader.{place_of}
-use Rattle.jpeg_segments.specs.ScanHeaders.{AreChoices, IsScan, scan_payload, ScanHeader}
+use Rattle.jpeg_segments.specs.ScanHeaders.{scan_payload, ScanHeader}
 use Rattle.jpeg_segments.specs.WrittenSegments.{AreComponents, frame_written, FrameHeader, Header, Huffman, IsFrame}
-use Rattle.jpeg_segments.specs.WrittenSegments.{factors_bytes, frame_payload, huffman_bytes, IsHuffmanTable}
+use Rattle.jpeg_segments.specs.WrittenSegments.{factors_bytes, frame_payload, huffman_bytes}
 use Rattle.jpeg_segments.specs.WrittenSegments.{payload_of, sized, u16_bytes}
 use Rattle.jpeg_lossless.specs.Prediction.{residue, start_of}
 use Rattle.jpeg_lossless.specs.Differences.{Part, lines_in, mcu_tables, row_tables, strand, strands}
@@ -45,7 +43,8 @@ use Rattle.jpeg_streams.specs.WrittenLossless.{AreCodings, HasSamples, HoldSampl
 use Rattle.jpeg_streams.specs.WrittenLossless.{said_after_scan, Samples, Writes, WritesScan}
 use Rattle.jpeg_streams.specs.WrittenLossless.Writes.{closed, scan, segment}
 use Rattle.jpeg_streams.proofs.EncodedBlocks.{category-at_most, packed}
-use Rattle.jpeg_streams.proofs.EncodedImages.{component_in, first-is, in-range, place-is}
+use Rattle.jpeg_streams.proofs.EncodedImages.{component_in, first-is, in-range, lone_header, lone-written}
+use Rattle.jpeg_streams.proofs.TestedParts.{table-by}
 use Rattle.jpeg_streams.proofs.Soundness.{both-hold}
 
 -- ---- the table
@@ -61,26 +60,12 @@ lengths-are : length (code_lengths even_counts) ≡ 17
 unfolding lengths_from
 lengths-are = refl
 
-even-exist : HasCodes (code_lengths even_counts)
-unfolding codes_exist lengths_from code_value
-even-exist = tested-exist (code_lengths even_counts) refl
-
 even-coded : (s : ℕ) → s < 17 → IsCoded even_table s (code_bits even_table s)
 even-coded s h = record {
   place = s;
   listed = subst (λ (n : ℕ). s < n) (sym lengths-are) h;
   is_for = let e : 0 + s ≡ s = omega arith in get_or-range_with_len 0 17 s 0 h ∙ e;
   has_bits = refl;
-}
-
-even-written : (most : ℕ) → IsHuffmanTable most (record { place = 0; table = even_table })
-even-written most = record {
-  placed = omega arith;
-  counted = refl;
-  has_symbols = refl;
-  some = omega arith;
-  at_most = omega arith;
-  exists = even-exist;
 }
 
 -- ---- differences
@@ -369,42 +354,13 @@ abbrev coding : FrameHeader → ℕ → Factors → LosslessCoding
 coding h place c = record { place = place; component = component_in h c; table = even_table }
 
 abbrev header_of : ℕ → Factors → ScanHeader
-header_of place c = record {
-  choices = (record { identifier = c.identifier; component = place; dc = 0; ac = 0 }) ∷ [];
-  first = 1;
-  last = 0;
-  high = 0;
-  low = 0;
-}
+header_of place c = lone_header 1 0 place c
 
 -- what is said before a scan
 record IsReady (h : FrameHeader) (now : Found) : Type 0 where
   framed : now.frame ≡ Some (frame_written 3 h)
   tabled : slice_index_or now.huffman.dc 0 None ≡ Some even_table
   restart : now.restart ≡ 0
-
-header-written : (h : FrameHeader) (front more : List Factors) (c : Factors) → HasSamples 3 h
-    → h.components ≡ front ++ c ∷ more → is_taken front c.identifier ≡ false
-    → IsScan (frame_written 3 h) (header_of (length front) c)
-unfolding AreChoices frame_of
-header-written h front more c p e new = record {
-  some = omega arith;
-  most = omega arith;
-  choices = (
-    record {
-      identified = ap (λ (cs : List Factors). place_of (map (component_in h) cs) c.identifier) e
-          ∙ place-is h front more c new;
-      ordered = omega arith;
-      dc_placed = omega arith;
-      ac_placed = omega arith;
-    },
-    tt,
-  );
-  fits = refl;
-  narrow = omega arith;
-  precise = lt-ltb 0 h.precision (let q = p.least in omega arith);
-  band = refl;
-}
 
 component-at : (h : FrameHeader) (front more : List Factors) (c : Factors) → h.components ≡ front ++ c ∷ more
     → first_of (drop (length front) (frame_written 3 h).components) ≡ Some (component_in h c)
@@ -497,7 +453,7 @@ scans-written h samples (c ∷ more) front now sent p all ready e are sends =
       marker 0 218 (sized (scan_payload (header_of place c)) ++ (d.0 ++ rest.0)),
       rest.1,
       scan now rest.1 sent (frame_written 3 h) 0 (header_of place c) d.0 rest.0 ready.framed refl
-          (header-written h front more c p e are.0.is_new) d.1 rest.2,
+          (lone-written 1 0 3 h front more c refl (let q = p.least in omega arith) e are.0.is_new) d.1 rest.2,
       rest.3,
       λ fits. marked-bytes 218 (sized (scan_payload (header_of place c)) ++ (d.0 ++ rest.0)) (omega arith)
           (bytes-append (sized (scan_payload (header_of place c))) (d.0 ++ rest.0)
@@ -528,7 +484,7 @@ tables-bytes = tested-bytes (sized (payload_of (Huffman even_tables))) refl
 
 pub samples-written : (h : FrameHeader) (samples : Samples) → IsFrame 3 h → HasSamples 3 h
     → AreSamplesOf (frame_written 3 h) samples → (bytes : List ℕ) × AreWrittenIn h samples bytes
-unfolding nothing_found
+unfolding nothing_found frame_of codes_exist lengths_from code_value
 samples-written h samples is p all =
     let r = scans-written h samples h.components [] (said h) [] p all (said-ready h) refl is.components
     (λ j lt. absurd (omega arith)) in (
@@ -540,7 +496,7 @@ samples-written h samples is p all =
           starts = refl;
           written =
               segment nothing_found r.1 [] 0 (Header 3 h) _ ((refl, is), p) (
-              segment (said_1 h) r.1 [] 0 (Huffman even_tables) _ ((even-written _, tt), tt) r.2);
+              segment (said_1 h) r.1 [] 0 (Huffman even_tables) _ ((table-by _ _ (omega arith) refl, tt), tt) r.2);
         };
         framed = r.3;
         are_bytes = λ fits. (

@@ -5,6 +5,7 @@ use Rattle.std.specs.List.{AllByRecursion}
 use Rattle.jpeg_segments.specs.Frame.{Frame, Factors, IsInRange, ceiling, component_of, frame_of, greatest}
 use Rattle.jpeg_pixels.specs.Pictures.{all_factors}
 use Rattle.jpeg_segments.proofs.Ceilings.{ceiling-low, ceiling-le}
+use Rattle.jpeg_segments.proofs.ScaleLemmas.{full_size}
 use Rattle.jpeg_segments.specs.Scales.{component_at, frame_at}
 use Rattle.jpeg_streams.specs.InTurn.{Fits}
 
@@ -22,18 +23,6 @@ own-within width h m s some most scaled =
     ceiling-le (width * h * s) (m * 8) (s * (b * h)) (omega arith) (omega (arith, wide, e)) in
     ceiling-le (ceiling (width * h * s) (m * 8)) s (b * h) scaled one
 
--- the same at full size, by the size as it is read
-pub own-within-full : (width h m : ℕ) → 0 < h → h ≤ m → ceiling (ceiling (width * h) m) 8 ≤ ceiling width (8 * m) * h
-own-within-full width h m some most =
-    let b = ceiling width (8 * m) in
-    let low : width ≤ (8 * m) * b = ceiling-low width (8 * m) (omega arith) in
-    let wide : width * h ≤ ((8 * m) * b) * h = mul-le-mul_right h low in
-    let e : ((8 * m) * b) * h ≡ m * (8 * (b * h))
-    = mul_assoc (8 * m) b h ∙ (ap (λ n. n * (b * h)) (mul_comm 8 m) ∙ mul_assoc m 8 (b * h)) in
-    let one : ceiling (width * h) m ≤ 8 * (b * h) =
-    ceiling-le (width * h) m (8 * (b * h)) (omega arith) (omega (arith, wide, e)) in
-    ceiling-le (ceiling (width * h) m) 8 (b * h) (omega arith) one
-
 pub factors-back : (width height h v : ℕ) (xs : List Factors) → all_factors (map (component_of width height h v) xs)
     ≡ xs
 unfolding component_of
@@ -42,34 +31,13 @@ factors-back width height h v (x ∷ xs) = ap (λ l. x ∷ l) (factors-back widt
 
 -- ---- components fit their frame
 
-all-fit : (frame : Frame) (width height h v : ℕ) (xs : List Factors) → frame.mcus_wide ≡ ceiling width (8 * h)
-    → frame.mcus_high ≡ ceiling height (8 * v)
-    → AllByRecursion IsInRange xs → greatest (λ c. c.horizontal) xs ≤ h → greatest (λ c. c.vertical) xs ≤ v
-    → AllByRecursion (Fits frame) (map (component_of width height h v) xs)
-unfolding component_of
-all-fit frame width height h v [] wide high range across down = tt
-all-fit frame width height h v (x ∷ xs) wide high range across down =
-    let r = range.0 in
-    let hs = r.horizontal_some in
-    let vs = r.vertical_some in (
-      record {
-        horizontal = hs;
-        vertical = vs;
-        wide = ap (λ n. n * x.horizontal) (sym wide);
-        high = ap (λ n. n * x.vertical) (sym high);
-        own_wide = own-within-full width x.horizontal h hs (omega arith);
-        own_high = own-within-full height x.vertical v vs (omega arith);
-      },
-      all-fit frame width height h v xs wide high range.1 (omega arith) (omega arith),
-    )
-
-all-fit-scaled : (frame : Frame) (scale width height h v : ℕ) (xs : List Factors) → 0 < scale
+all-fit : (frame : Frame) (scale width height h v : ℕ) (xs : List Factors) → 0 < scale
     → frame.mcus_wide ≡ ceiling width (8 * h) → frame.mcus_high ≡ ceiling height (8 * v)
     → AllByRecursion IsInRange xs → greatest (λ c. c.horizontal) xs ≤ h → greatest (λ c. c.vertical) xs ≤ v
     → AllByRecursion (Fits frame) (map (component_at scale width height h v) (map (component_of width height h v) xs))
 unfolding component_of component_at
-all-fit-scaled frame scale width height h v [] some wide high range across down = tt
-all-fit-scaled frame scale width height h v (x ∷ xs) some wide high range across down =
+all-fit frame scale width height h v [] some wide high range across down = tt
+all-fit frame scale width height h v (x ∷ xs) some wide high range across down =
     let r = range.0 in
     let hs = r.horizontal_some in
     let vs = r.vertical_some in (
@@ -81,20 +49,10 @@ all-fit-scaled frame scale width height h v (x ∷ xs) some wide high range acro
         own_wide = own-within width x.horizontal h scale hs (omega arith) some;
         own_high = own-within height x.vertical v scale vs (omega arith) some;
       },
-      all-fit-scaled frame scale width height h v xs some wide high range.1 (omega arith) (omega arith),
+      all-fit frame scale width height h v xs some wide high range.1 (omega arith) (omega arith),
     )
 
--- The components of a frame that is read fit it.
-pub frames-fit : (number precision width height : ℕ) (xs : List Factors) → AllByRecursion IsInRange xs
-    → AllByRecursion (Fits (frame_of number precision width height xs))
-    (frame_of number precision width height xs).components
-unfolding frame_of
-frames-fit number precision width height xs range =
-    let frame = frame_of number precision width height xs in
-    all-fit frame width height (greatest (λ c. c.horizontal) xs) (greatest (λ c. c.vertical) xs) xs refl refl range
-    (omega arith) (omega arith)
-
--- and those of a frame at a scale
+-- The components of a frame at a scale fit it.
 pub scaled-frames-fit : (scale number precision width height : ℕ) (xs : List Factors) → 0 < scale
     → AllByRecursion IsInRange xs
     → AllByRecursion (Fits (frame_at scale (frame_of number precision width height xs)))
@@ -109,4 +67,12 @@ scaled-frames-fit scale number precision width height xs some range =
     AllByRecursion (Fits frame)
     (map (component_at scale width height (greatest (λ c. c.horizontal) l) (greatest (λ c. c.vertical) l))
     (map (component_of width height h v) xs)))
-    (sym back) (all-fit-scaled frame scale width height h v xs some refl refl range (omega arith) (omega arith))
+    (sym back) (all-fit frame scale width height h v xs some refl refl range (omega arith) (omega arith))
+
+-- and those of a frame that is read, which is at full size
+pub frames-fit : (number precision width height : ℕ) (xs : List Factors) → AllByRecursion IsInRange xs
+    → AllByRecursion (Fits (frame_of number precision width height xs))
+    (frame_of number precision width height xs).components
+frames-fit number precision width height xs range =
+    subst (λ (g : Frame). AllByRecursion (Fits g) g.components) (full_size number precision width height xs)
+    (scaled-frames-fit 8 number precision width height xs (omega arith) range)

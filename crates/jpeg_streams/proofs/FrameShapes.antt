@@ -1,28 +1,28 @@
 -- Frames that are read have the blocks that the order of a scan goes over.
-use Rattle.std.proofs.Common.{◌≡◌, ◌≢◌, ◌⊎◌, inl, inr, ℕ, zero, suc, ◌+◌, ◌-◌, ◌*◌, ◌/◌, ◌%◌, ◌<◌, ◌≤◌, ◌&&◌, ◌||◌}
-use Rattle.std.proofs.Common.{not, nat_le, ◌==◌, Bool, true, false, cond, List, [], ◌∷◌, ◌++◌, map, length, Result}
-use Rattle.std.proofs.Common.{Ok, Err, refl, sym, ap, ◌∙◌, subst, arith, eqb, leb, true≢false, mul_assoc, min}
-use Rattle.std.proofs.lemmas.Bool.{eqb-true, leb-true}
+use Rattle.std.proofs.Common.{◌≡◌, ◌≢◌, ◌⊎◌, inl, inr, ℕ, zero, suc, ◌+◌, ◌-◌, ◌*◌, ◌<◌, ◌≤◌, ◌||◌}
+use Rattle.std.proofs.Common.{not, ◌==◌, Bool, true, false, List, [], ◌∷◌, map, length}
+use Rattle.std.proofs.Common.{Ok, refl, sym, ap, ◌∙◌, subst, arith, leb, min}
+use Rattle.std.proofs.lemmas.Bool.{eqb-true}
 use Rattle.std.proofs.lemmas.Bool.Decides.{leb_tells}
-use Rattle.std.proofs.Math.Nat.{le-div_iff_mul-le, mul-le-mul_right, mul_comm, add-mul, one-mul}
+use Rattle.std.proofs.Math.Nat.{le-div_iff_mul-le, add-mul, one-mul}
 use Rattle.std.specs.List.{AllByRecursion}
-use Rattle.jpeg_bits.specs.Reading.{Fault, Malformed, Lacks, ◌>>=◌, next_byte, next_u16, length_at}
+use Rattle.jpeg_bits.specs.Reading.{Lacks, ◌>>=◌}
 use Rattle.jpeg_segments.specs.declared.parser.CodingProcess.TheVariants.{Lossless}
-use Rattle.jpeg_segments.specs.Frame.{Frame, Component, Factors, IsInRange, is_factor, is_lossless_number, is_taken}
-use Rattle.jpeg_segments.specs.Frame.{is_place, parameters_at, factors_at, components_from, Head, size_at, head_at}
-use Rattle.jpeg_segments.specs.Frame.{is_precision as precise, is_count as counted, sof_at, frame_of, component_of}
+use Rattle.jpeg_segments.specs.Frame.{Frame, Component, Factors, IsInRange}
+use Rattle.jpeg_segments.specs.Frame.{frame_of}
 use Rattle.jpeg_segments.specs.Frame.{ceiling, greatest}
 use Rattle.jpeg_bits.specs.declared.error.UnsupportedFeature.TheVariants as features
 use Rattle.jpeg_bits.specs.declared.error.UnsupportedFeature.TheVariants.{DNL}
-use Rattle.std.specs.Prelude.{nat_lt, if◌then◌else◌}
-use Rattle.jpeg_pixels.specs.Pictures.{Source, sources_of, all_factors}
+use Rattle.jpeg_pixels.specs.Pictures.{Source, sources_of}
 use Rattle.jpeg_segments.specs.Scales.{frame_at}
 use Rattle.jpeg_segments.proofs.ScaleLemmas.{full_size}
 use Rattle.jpeg_streams.specs.Segments.{accepted, is_decoded_count, is_arithmetic, is_decoded_precision}
-use Rattle.jpeg_streams.proofs.AcceptedStreams.{IsAccepted}
+pub use Rattle.jpeg_streams.proofs.AcceptedStreams.{Plain}
+use Rattle.jpeg_streams.specs.InTurn as fitted
+use Rattle.jpeg_streams.proofs.FrameFits.{frames-fit}
 use Rattle.jpeg_streams.proofs.OwnSpots.{At, Fits}
 use Rattle.jpeg_streams.proofs.WrittenFrameScans.{at-all}
-use Rattle.jpeg_streams.proofs.AcceptedTurns.{err-ok, ok-same, bind-ok}
+use Rattle.jpeg_segments.proofs.OnlyWritten.{bind-ok, kept-if as if-ok, kept-unless as unless-ok}
 use Rattle.jpeg_streams.proofs.BroughtLevels.{Made, Shaped}
 
 -- ---- rounding up
@@ -52,81 +52,9 @@ ceiling-covers a b h = go (leb_tells a (ceiling a b * b))
     go (inl x) = x.1
     go (inr x) = absurd (let k = (below-ceiling (ceiling a b) a b h).1 x.1 in omega arith)
 
--- the own blocks of a component are within its part of all MCUs
-pub own-least : (size factor most : ℕ) → 0 < most
-    → ceiling (ceiling (size * factor) most) 8 ≤ ceiling size (8 * most) * factor
-own-least size factor most h =
-    let m = ceiling size (8 * most) in
-    let cover = ceiling-covers size (8 * most) (omega arith) in
-    let more : size * factor ≤ (m * (8 * most)) * factor = mul-le-mul_right factor cover in
-    let same : (m * (8 * most)) * factor ≡ ((m * factor) * 8) * most
-    = ap (λ (x : ℕ). x * factor) (sym (mul_assoc m 8 most)) ∙ mul_assoc (m * 8) most factor
-    ∙ ap (λ (x : ℕ). (m * 8) * x) (mul_comm most factor)
-    ∙ sym (mul_assoc (m * 8) factor most)
-    ∙ ap (λ (x : ℕ). x * most)
-    (mul_assoc m 8 factor ∙ ap (λ (x : ℕ). m * x) (mul_comm 8 factor) ∙ sym (mul_assoc m factor 8)) in
-    ceiling-least (ceiling (size * factor) most) 8 (m * factor) (omega arith)
-    (ceiling-least (size * factor) most ((m * factor) * 8) h (omega arith))
+-- ---- frames that are read
 
--- ---- what is read
-
-pub if-ok : {A : Type 0} (b : Bool) (x : Result A Fault) (e : Fault) (y : A) → cond b x (Err e) ≡ Ok y
-    → (b ≡ true) × (x ≡ Ok y)
-if-ok true x e y h = (refl, h)
-if-ok false x e y h = absurd (err-ok e y h)
-
-pub unless-ok : {A : Type 0} (b : Bool) (x : Result A Fault) (e : Fault) (y : A) → cond b (Err e) x ≡ Ok y
-    → (b ≡ false) × (x ≡ Ok y)
-unless-ok true x e y h = absurd (err-ok e y h)
-unless-ok false x e y h = (refl, h)
-
-factor-range : (n : ℕ) → is_factor n ≡ true → (1 ≤ n) × (n ≤ 4)
-factor-range zero h = absurd (true≢false (sym h))
-factor-range (suc n) h = (omega arith, leb-true (suc n) 4 (go (eqb (suc n) 0) h))
-  where
-    go : (b : Bool) → (not b && nat_le (suc n) 4) ≡ true → nat_le (suc n) 4 ≡ true
-    go true e = absurd (true≢false (sym e))
-    go false e = e
-
-parameters-range : (lossless : Bool) (identifier : ℕ) (bytes : List ℕ) (c : Factors × List ℕ)
-    → parameters_at lossless identifier bytes ≡ Ok c → IsInRange c.0
-unfolding parameters_at
-parameters-range lossless identifier bytes c h =
-    let b = bind-ok (next_byte bytes) _ c h in
-    let x = if-ok (is_factor (b.0.0 / 16)) _ Malformed c b.2 in
-    let y = if-ok (is_factor (b.0.0 % 16)) _ Malformed c x.1 in
-    let p = bind-ok (next_byte b.0.1) _ c y.1 in
-    let z = if-ok (is_place lossless p.0.0) _ Malformed c p.2 in
-    let hr = factor-range (b.0.0 / 16) x.0 in
-    let vr = factor-range (b.0.0 % 16) y.0 in
-    subst (λ (d : Factors × List ℕ). IsInRange d.0) (ok-same _ c z.1)
-    (record { horizontal_some = hr.0; horizontal_most = hr.1; vertical_some = vr.0; vertical_most = vr.1 })
-
-factors-range : (lossless : Bool) (front : List Factors) (bytes : List ℕ) (c : Factors × List ℕ)
-    → factors_at lossless front bytes ≡ Ok c → IsInRange c.0
-unfolding factors_at
-factors-range lossless front bytes c h =
-    let b = bind-ok (next_byte bytes) _ c h in
-    let x = unless-ok (is_taken front b.0.0) _ Malformed c b.2 in
-    parameters-range lossless b.0.0 b.0.1 c x.1
-
-all-end : {A : Type 0} (Q : A → Type 0) (xs : List A) (x : A) → AllByRecursion Q xs → Q x
-    → AllByRecursion Q (xs ++ x ∷ [])
-all-end Q [] x h k = (k, tt)
-all-end Q (y ∷ xs) x h k = (h.0, all-end Q xs x h.1 k)
-
-components-range : (lossless : Bool) (n : ℕ) (front : List Factors) (bytes : List ℕ) (c : List Factors × List ℕ)
-    → AllByRecursion IsInRange front
-    → components_from lossless n front bytes ≡ Ok c → AllByRecursion IsInRange c.0
-unfolding components_from
-components-range lossless zero front bytes c all h =
-    subst (λ (d : List Factors × List ℕ). AllByRecursion IsInRange d.0) (ok-same (front, bytes) c h) all
-components-range lossless (suc n) front bytes c all h =
-    let one = bind-ok (factors_at lossless front bytes) _ c h in
-    components-range lossless n (front ++ one.0.0 ∷ []) one.0.1 c
-    (all-end IsInRange front one.0.0 all (factors-range lossless front bytes one.0 one.1)) one.2
-
-frame-lossy : (number precision width height : ℕ) (cs : List Factors) → number ≤ 2
+pub frame-lossy : (number precision width height : ℕ) (cs : List Factors) → number ≤ 2
     → (frame_of number precision width height cs).process ≢ Lossless
 unfolding frame_of
 frame-lossy zero precision width height cs h e = cc
@@ -134,78 +62,11 @@ frame-lossy (suc zero) precision width height cs h e = cc
 frame-lossy (suc (suc zero)) precision width height cs h e = cc
 frame-lossy (suc (suc (suc n))) precision width height cs h e = absurd (omega arith)
 
-size-some : (bytes : List ℕ) (size : (ℕ × ℕ) × List ℕ) → size_at bytes ≡ Ok size → (0 < size.0.0) × (0 < size.0.1)
-unfolding size_at
-size-some bytes size h =
-    let height = bind-ok (next_u16 bytes) _ size h in
-    let width = bind-ok (next_u16 height.0.1) _ size height.2 in
-    let a = unless-ok (height.0.0 == 0)
-    (if width.0.0 == 0 then Err Malformed else Ok ((width.0.0, height.0.0), width.0.1))
-    (Lacks DNL) size width.2 in
-    let b = unless-ok (width.0.0 == 0) _ Malformed size a.1 in
-    subst (λ (x : (ℕ × ℕ) × List ℕ). (0 < x.0.0) × (0 < x.0.1)) (ok-same _ size b.1)
-    (some width.0.0 b.0, some height.0.0 a.0)
-  where
-    some : (n : ℕ) → (n == 0) ≡ false → 0 < n
-    some zero e = absurd (true≢false e)
-    some (suc n) e = omega arith
-
-head-some : (number : ℕ) (bytes : List ℕ) (head : Head × List ℕ) → head_at number bytes ≡ Ok head
-    → (0 < head.0.width) × (0 < head.0.height)
-unfolding head_at
-head-some number bytes head h =
-    let left = bind-ok (length_at bytes) _ head h in
-    let a = unless-ok (nat_lt left.0.0 7) _ Malformed head left.2 in
-    let precision = bind-ok (next_byte left.0.1) _ head a.1 in
-    let b = if-ok (precise number precision.0.0) _ Malformed head precision.2 in
-    let size = bind-ok (size_at precision.0.1) _ head b.1 in
-    let count = bind-ok (next_byte size.0.1) _ head size.2 in
-    let c = if-ok (counted number count.0.0) _ Malformed head count.2 in
-    let d = if-ok (left.0.0 == 6 + 3 * count.0.0) _ Malformed head c.1 in
-    subst (λ (x : Head × List ℕ). (0 < x.0.width) × (0 < x.0.height)) (ok-same _ head d.1)
-    (size-some precision.0.1 size.0 size.1)
-
 pub greatest-some : (field : Factors → ℕ) (cs : List Factors) → 0 < greatest field cs
 greatest-some field [] = omega arith
 greatest-some field (c ∷ cs) = let h = greatest-some field cs in omega arith
 
 -- ---- full size
-
-pub factors-back : (width height h v : ℕ) (xs : List Factors) → all_factors (map (component_of width height h v) xs)
-    ≡ xs
-unfolding component_of
-factors-back width height h v [] = refl
-factors-back width height h v (x ∷ xs) = ap (λ (l : List Factors). x ∷ l) (factors-back width height h v xs)
-
--- a frame that is read
-pub record Plain (f : Frame) : Type 0 where
-  pub number : ℕ
-  pub precision : ℕ
-  pub width : ℕ
-  pub height : ℕ
-  pub factors : List Factors
-  pub in_range : AllByRecursion IsInRange factors
-  pub some_width : 0 < width
-  pub some_height : 0 < height
-  pub is : f ≡ frame_of number precision width height factors
-
-pub sof-plain : (number : ℕ) (bytes : List ℕ) (f : Frame × List ℕ) → sof_at number bytes ≡ Ok f → Plain f.0
-unfolding sof_at
-sof-plain number bytes f h =
-    let head = bind-ok (head_at number bytes) _ f h in
-    let cs = bind-ok (components_from (is_lossless_number number) head.0.0.count [] head.0.1) _ f head.2 in
-    let some = head-some number bytes head.0 head.1 in
-    record {
-      number = number;
-      precision = head.0.0.precision;
-      width = head.0.0.width;
-      height = head.0.0.height;
-      factors = cs.0.0;
-      in_range = components-range (is_lossless_number number) head.0.0.count [] head.0.1 cs.0 tt cs.1;
-      some_width = some.0;
-      some_height = some.1;
-      is = sym (ap (λ (d : Frame × List ℕ). d.0) (ok-same _ f cs.2));
-    }
 
 abbrev pub made-at : (f : Frame) (s : ℕ) → Plain f → 0 < s → Made (frame_at s f)
 made-at f s o h = record {
@@ -225,15 +86,6 @@ made-at f s o h = record {
 pub plain-size : (f : Frame) → Plain f → frame_at 8 f ≡ f
 plain-size f o = ap (frame_at 8) o.is ∙ full_size o.number o.precision o.width o.height o.factors ∙ sym o.is
 
-pub sof-lossy : (number : ℕ) (bytes : List ℕ) (f : Frame × List ℕ) → number ≤ 2 → sof_at number bytes ≡ Ok f
-    → f.0.process ≢ Lossless
-unfolding sof_at
-sof-lossy number bytes f small h =
-    let head = bind-ok (head_at number bytes) _ f h in
-    let cs = bind-ok (components_from (is_lossless_number number) head.0.0.count [] head.0.1) _ f head.2 in
-    subst (λ (g : Frame). g.process ≢ Lossless) (ap (λ (d : Frame × List ℕ). d.0) (ok-same _ f cs.2))
-    (frame-lossy number head.0.0.precision head.0.0.width head.0.0.height cs.0.0 small)
-
 -- ---- shapes
 
 pub at-mapped : {A B : Type 0} (g : A → B) (k : ℕ) (xs : List A) (y : B) → At k (map g xs) y
@@ -242,88 +94,59 @@ at-mapped g k [] y h = absurd h
 at-mapped g zero (x ∷ xs) y h = (x, refl, h)
 at-mapped g (suc k) (x ∷ xs) y h = at-mapped g k xs y h
 
-component-fits : (number precision width height : ℕ) (cs : List Factors) (c : Factors) → IsInRange c
-    → Fits (frame_of number precision width height cs)
-    (component_of width height (greatest (λ x. x.horizontal) cs) (greatest (λ x. x.vertical) cs) c)
-unfolding frame_of component_of
-component-fits number precision width height cs c r = record {
-  horizontal = r.horizontal_some;
-  vertical = r.vertical_some;
-  wide = refl;
-  high = refl;
-  own_wide = own-least width c.horizontal (greatest (λ x. x.horizontal) cs) (greatest-some (λ x. x.horizontal) cs);
-  own_high = own-least height c.vertical (greatest (λ x. x.vertical) cs) (greatest-some (λ x. x.vertical) cs);
-}
-
-components-are : (number precision width height : ℕ) (cs : List Factors)
-    → (frame_of number precision width height cs).components
-    ≡ map (component_of width height (greatest (λ x. x.horizontal) cs) (greatest (λ x. x.vertical) cs)) cs
-unfolding frame_of
-components-are number precision width height cs = refl
-
 frame-fits : (number precision width height : ℕ) (cs : List Factors) → AllByRecursion IsInRange cs
     → (k : ℕ) (c : Component)
     → At k (frame_of number precision width height cs).components c → Fits (frame_of number precision width height cs) c
-frame-fits number precision width height cs all k c h =
-    let x = at-mapped (component_of width height (greatest (λ y. y.horizontal) cs) (greatest (λ y. y.vertical) cs)) k
-    cs c
-    (subst (λ (l : List Component). At k l c) (components-are number precision width height cs) h) in
-    subst (Fits (frame_of number precision width height cs)) x.2
-    (component-fits number precision width height cs x.0 (at-all IsInRange k cs x.0 all x.1))
+frame-fits number precision width height cs all k c t =
+    let f = frame_of number precision width height cs in
+    let fit = at-all (fitted.Fits f) k f.components c (frames-fit number precision width height cs all) t in
+    record {
+      horizontal = fit.horizontal;
+      vertical = fit.vertical;
+      wide = fit.wide;
+      high = fit.high;
+      own_wide = fit.own_wide;
+      own_high = fit.own_high;
+    }
 
-count-few : (n : ℕ) → is_decoded_count n ≡ true → n ≤ 4
-count-few n h = go (eqb n 1) refl (eqb n 3) refl h
+pub count-few : (n : ℕ) → is_decoded_count n ≡ true → (0 < n) × (n ≤ 4)
+count-few n h = go (n == 1) refl (n == 3) refl (n == 4) refl h
   where
-    go : (a : Bool) → eqb n 1 ≡ a → (b : Bool) → eqb n 3 ≡ b → (a || (b || eqb n 4)) ≡ true → n ≤ 4
-    go true e b f g = let k = eqb-true n 1 e in omega arith
-    go false e true f g = let k = eqb-true n 3 f in omega arith
-    go false e false f g = let k = eqb-true n 4 g in omega arith
+    go : (a : Bool) → (n == 1) ≡ a → (b : Bool) → (n == 3) ≡ b → (c : Bool) → (n == 4) ≡ c → (a || (b || c)) ≡ true
+        → (0 < n) × (n ≤ 4)
+    go true e b f c g h = let k : n ≡ 1 = eqb-true n 1 e in (omega arith, omega arith)
+    go false e true f c g h = let k : n ≡ 3 = eqb-true n 3 f in (omega arith, omega arith)
+    go false e false f true g h = let k : n ≡ 4 = eqb-true n 4 g in (omega arith, omega arith)
+    go false e false f false g h = absurd (cc)
 
-pub accepted-few : (f g : Frame) → accepted f ≡ Ok g → length f.components ≤ 4
+pub accepted-facts : (f g : Frame) → accepted f ≡ Ok g
+    → (is_decoded_count (length f.components) ≡ true)
+    × ((sources : List Source) × (sources_of f.components f.output_width f.output_height ≡ Ok sources))
 unfolding accepted
-accepted-few f g h =
+accepted-facts f g h =
     let a = unless-ok f.is_differential _ _ g h in
     let b = unless-ok (is_arithmetic f.coding) _ (Lacks features.ArithmeticEntropyCoding) g a.1 in
     let c = unless-ok (not (is_decoded_precision f.process f.precision)) _
-    (Lacks (features.SamplePrecision f.precision)) g b.1 in
-    let d = if-ok (is_decoded_count (length f.components))
-    (sources_of f.components f.output_width f.output_height >>= (λ sources. Ok f))
-    (Lacks (features.ComponentCount (min 255 (length f.components)))) g c.1 in
-    count-few (length f.components) d.0
+    (Lacks (features.SamplePrecision f.precision)) g
+    b.1 in
+    let d = if-ok (is_decoded_count (length f.components)) (sources_of f.components f.output_width f.output_height
+    >>= (λ sources. Ok f)) (Lacks (features.ComponentCount (min 255 (length f.components)))) g c.1 in
+    let e = bind-ok (sources_of f.components f.output_width f.output_height) _ g d.1 in
+    (d.0, (e.0, e.1))
 
-sof-fits : (number : ℕ) (bytes : List ℕ) (f : Frame × List ℕ) → sof_at number bytes ≡ Ok f → (k : ℕ) (c : Component)
-    → At k f.0.components c → Fits f.0 c
-unfolding sof_at
-sof-fits number bytes f h =
-    let head = bind-ok (head_at number bytes) _ f h in
-    let cs = bind-ok (components_from (is_lossless_number number) head.0.0.count [] head.0.1) _ f head.2 in
-    subst (λ (g : Frame). (k : ℕ) (c : Component) → At k g.components c → Fits g c)
-    (ap (λ (d : Frame × List ℕ). d.0) (ok-same _ f cs.2))
-    (frame-fits number head.0.0.precision head.0.0.width head.0.0.height cs.0.0
-    (components-range (is_lossless_number number) head.0.0.count [] head.0.1 cs.0 tt cs.1))
+pub accepted-few : (f g : Frame) → accepted f ≡ Ok g → length f.components ≤ 4
+accepted-few f g h = (count-few (length f.components) (accepted-facts f g h).0).1
 
 -- Frames that are read and accepted have this shape.
-pub all-shaped : (number : ℕ) (bytes : List ℕ) (f : Frame) → number ≤ 2 → IsAccepted (sof_at number) bytes f
-    → accepted f ≡ Ok f → Shaped f
-all-shaped number bytes f small a ok =
-    let o = sof-plain number (bytes ++ []) (f, []) (a.accepted []) in
-    record {
-      made = subst Made (plain-size f o) (made-at f 8 o (omega arith));
-      few = accepted-few f f ok;
-      fits = sof-fits number (bytes ++ []) (f, []) (a.accepted []);
-      lossy = sof-lossy number (bytes ++ []) (f, []) small (a.accepted []);
-    }
+pub all-shaped : (f : Frame) → Plain f → f.process ≢ Lossless → accepted f ≡ Ok f → Shaped f
+all-shaped f o lossy ok = record {
+  made = subst Made (plain-size f o) (made-at f 8 o (omega arith));
+  few = accepted-few f f ok;
+  fits = subst (λ (g : Frame). (k : ℕ) (c : Component) → At k g.components c → Fits g c) (sym o.is)
+      (frame-fits o.number o.precision o.width o.height o.factors o.in_range);
+  lossy = lossy;
+}
 
 pub accepted-sources : (f g : Frame) → accepted f ≡ Ok g
     → (sources : List Source) × (sources_of f.components f.output_width f.output_height ≡ Ok sources)
-unfolding accepted
-accepted-sources f g h =
-    let a = unless-ok f.is_differential _ _ g h in
-    let b = unless-ok (is_arithmetic f.coding) _ (Lacks features.ArithmeticEntropyCoding) g a.1 in
-    let c = unless-ok (not (is_decoded_precision f.process f.precision)) _
-    (Lacks (features.SamplePrecision f.precision)) g b.1 in
-    let d = if-ok (is_decoded_count (length f.components))
-    (sources_of f.components f.output_width f.output_height >>= (λ sources. Ok f))
-    (Lacks (features.ComponentCount (min 255 (length f.components)))) g c.1 in
-    let e = bind-ok (sources_of f.components f.output_width f.output_height) _ g d.1 in
-    (e.0, e.1)
+accepted-sources f g h = (accepted-facts f g h).1

@@ -50,6 +50,7 @@ pub mod ScaledSources
 pub mod SizedStreams
 pub mod AcceptedImages
 pub mod WholeImages
+pub mod TestedParts
 pub mod WorkedGrey
 pub mod WorkedColour
 pub mod Soundness

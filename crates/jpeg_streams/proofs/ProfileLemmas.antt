@@ -27,10 +27,6 @@ abbrev pub Joins : ℕ → List Chunk → ℕ → List ℕ → Type 0
 Joins count all index bytes = parts_from count 1 all ≡ option_map (λ (rest : List ℕ). bytes ++ rest)
     (parts_from (count - index) (index + 1) all)
 
-same : (o : Option (List ℕ)) → o ≡ option_map (λ (rest : List ℕ). [] ++ rest) o
-same None = refl
-same (Some xs) = refl
-
 one-more : (number n : ℕ) (all : List Chunk)
     → parts_from (suc n) number all ≡ option_and_then (λ (bytes : List ℕ). option_map (λ (rest : List ℕ). bytes ++ rest)
     (parts_from n (number + 1) all)) (part number all)

@@ -1,11 +1,12 @@
 -- A written stream is read up to its end.
-use Rattle.std.proofs.Common.{◌≡◌, ℕ, zero, suc, ◌<◌, ◌≤◌, Bool, true, false, cond, List, [], ◌∷◌, ◌++◌, length}
+use Rattle.std.proofs.Common.{◌≡◌, ◌≢◌, ℕ, zero, suc, ◌<◌, Bool, true, false, cond, List, [], ◌∷◌, ◌++◌, length}
 use Rattle.std.proofs.Common.{replicate, slice_index_or, is_some, Option, Some, None, Ok, refl, sym, ap, ◌∙◌, subst}
 use Rattle.std.proofs.Common.{arith, true≢false, length-append}
 use Rattle.std.specs.List.{AllByRecursion, range_with_len}
 use Rattle.jpeg_bits.specs.Reading.{Outcome}
 use Rattle.jpeg_bits.specs.declared.marker.Marker.{Marker}
 use Rattle.jpeg_bits.specs.declared.marker.Marker.TheVariants.{SOF, EOI, SOS, DQT}
+use Rattle.jpeg_segments.specs.declared.parser.CodingProcess.TheVariants.{Lossless}
 use Rattle.jpeg_segments.specs.Frame.{Frame, Component, sof_at}
 use Rattle.jpeg_streams.specs.declared.before.Before.{Before}
 use Rattle.jpeg_streams.specs.declared.before.Before.TheVariants.{Elsewhere}
@@ -17,7 +18,7 @@ use Rattle.jpeg_streams.specs.Stream.{segment_at, end_segment, segments_within, 
 use Rattle.jpeg_streams.specs.Levels.{Levels, Is8Bit, nothing_sent}
 use Rattle.jpeg_bits.specs.Written.{marker}
 use Rattle.jpeg_streams.specs.WrittenScans.{Coefficients, levels_after, IsComplete, HasTable}
-use Rattle.jpeg_streams.proofs.AcceptedStreams.{IsAccepted, WritesSegment, WritesScans, WritesHead, WritesStream}
+use Rattle.jpeg_streams.proofs.AcceptedStreams.{Plain, WritesSegment, WritesScans, WritesHead, WritesStream}
 use Rattle.jpeg_streams.proofs.AcceptedStreams.WritesSegment.{quantization, huffman, restart, application, comment}
 use Rattle.jpeg_streams.proofs.AcceptedStreams.WritesScans.{segment, scan, closed}
 use Rattle.jpeg_streams.proofs.AcceptedStreams.WritesHead.{before as earlier, frame as framing}
@@ -26,8 +27,8 @@ use Rattle.jpeg_streams.proofs.ReadStates.{reading, is_whole, PlaneSo, AllHeld, 
 use Rattle.jpeg_streams.proofs.AcceptedTurns.{StandsAt, stands-met, stands-next, turn-on, turn-end, then-ok}
 use Rattle.jpeg_streams.proofs.AcceptedTurns.{segment-read, frame-kept, scans-plain, codings-same, codings-read}
 use Rattle.jpeg_streams.proofs.AcceptedTurns.{scan-by}
-use Rattle.jpeg_streams.proofs.ScanFacts.{sos-facts}
-use Rattle.jpeg_streams.proofs.TablesInForce.{GoodTables, good-next, good-start, codings-good}
+use Rattle.jpeg_streams.proofs.TablesInForce.{tables-next, tables-start, codings-good}
+use Rattle.jpeg_streams.proofs.SaidTables.{HasTables}
 use Rattle.jpeg_streams.proofs.BroughtLevels.{Shaped, Framed, framed-start, scan-brings}
 
 -- ---- a segment between scans
@@ -92,7 +93,7 @@ framed-next w next m bytes f array levels sc h fi pl q none (quantization w' byt
     go true e = absurd (q e refl)
     go false e = framed-by w next f array levels sc h fi pl
         (λ k c p. plane-unscanned w next array (levels k) pl k c (none e k) p) fr
-framed-next w next m bytes f array levels sc h fi pl q none (huffman w' bytes' t a) fr =
+framed-next w next m bytes f array levels sc h fi pl q none (huffman w' bytes' t k' a) fr =
     framed-by w next f array levels sc h fi pl (λ k c p. plane-same w next array (levels k) pl k c refl p) fr
 framed-next w next m bytes f array levels sc h fi pl q none (restart w' bytes' n a) fr =
     framed-by w next f array levels sc h fi pl (λ k c p. plane-same w next array (levels k) pl k c refl p) fr
@@ -149,7 +150,7 @@ scan-turn bf found bytes o e = e
 pub reads-scans : (array : Coefficients) (f : Frame) (tail : List ℕ) (w final : Found) (levels last : ℕ → Levels)
     (sc : Bool) (m : Marker) (bytes : List ℕ) (h : Arrays) (fi : List (List Bool)) (pl : List (Option (List ℕ)))
     (turns : ℕ) (bf : Before) (met : Option Marker) (all : List ℕ)
-    → ((place row column : ℕ) → Is8Bit (array place row column)) → Shaped f → GoodTables w.huffman → w.frame ≡ Some f
+    → ((place row column : ℕ) → Is8Bit (array place row column)) → Shaped f → HasTables w.huffman → w.frame ≡ Some f
     → (sc ≡ false → (k : ℕ) → levels k ≡ nothing_sent)
     → Framed w f array levels sc h fi pl → WritesScans array f tail w levels sc m bytes final last
     → StandsAt met all m bytes → length bytes < turns
@@ -164,14 +165,13 @@ reads-scans array f tail w final levels last sc m bytes h fi pl (suc turns) bf m
     (turn-on turns bf (reading w sc h fi pl) met all (marker fill code more) (onward (reading next sc h fi pl))
     (at.turn bf (reading w sc h fi pl) ∙ segment-read w next m payload (marker fill code more) bf sc h fi pl s) refl)
     (reads-scans array f tail next final levels last sc after more h fi pl turns Elsewhere None
-    (marker fill code more) range shape (good-next w next m payload s good) (frame-kept w next m payload s ∙ e) none
+    (marker fill code more) range shape (tables-next w next m payload s good) (frame-kept w next m payload s ∙ e) none
     (framed-next w next m payload f array levels sc h fi pl q none s fr) r (stands-next fill code after more i)
     (omega arith))
 reads-scans array f tail w final levels last sc m bytes h fi pl (suc turns) bf met all range shape good e none fr
-    (scan w' final' levels' last' sc' after fill code header payload more s codings a l x i r) at room =
-    let rules = sos-facts f (header ++ []) (s, []) shape.lossy (a.accepted []) in
-    let b = scan-brings w f array levels sc h fi pl s codings payload range shape fr rules
-    (codings-good w f s codings good (codings-read w f s codings l.are_in_force)) l x in
+    (scan w' final' levels' last' sc' after fill code header payload more s codings a rules l x i r) at room =
+    let b = scan-brings w f array levels sc h fi pl s codings payload range shape fr (rules shape.lossy)
+    (codings-good w f s codings good l.are_in_force) l x in
     let sizes = length-append header (payload ++ marker fill code more) in
     let others = length-append payload (marker fill code more) in
     let fills = length-append (replicate fill 0xFF) (code ∷ more) in
@@ -208,8 +208,7 @@ reads-scans array f tail w final levels last sc m bytes h fi pl (suc turns) bf m
 
 -- every accepted frame header gives a frame of this shape
 abbrev pub AllShaped : Type 0
-AllShaped = (number : ℕ) (bytes : List ℕ) (f : Frame) → number ≤ 2 → IsAccepted (sof_at number) bytes f
-    → accepted f ≡ Ok f → Shaped f
+AllShaped = (f : Frame) → Plain f → f.process ≢ Lossless → accepted f ≡ Ok f → Shaped f
 
 abbrev pub nothing_finished : List (List Bool)
 nothing_finished = replicate 4 none_finished
@@ -255,7 +254,7 @@ whole-by array tail final last one other e r =
 
 pub reads-head : (array : Coefficients) (tail : List ℕ) (w final : Found) (last : ℕ → Levels) (m : Marker)
     (bytes : List ℕ) (turns : ℕ) (bf : Before) (met : Option Marker) (all : List ℕ)
-    → ((place row column : ℕ) → Is8Bit (array place row column)) → AllShaped → GoodTables w.huffman → w.frame ≡ None
+    → ((place row column : ℕ) → Is8Bit (array place row column)) → AllShaped → HasTables w.huffman → w.frame ≡ None
     → WritesHead array tail w m bytes final last → StandsAt met all m bytes → length bytes < turns
     → ReadWhole array tail final last
     (segments_within turns false bf (reading w false [] nothing_finished no_planes) met all)
@@ -270,15 +269,15 @@ reads-head array tail w final last m bytes (suc turns) bf met all range shapes g
     (at.turn bf now ∙ segment-read w next m payload (marker fill code more) bf false [] nothing_finished no_planes s)
     refl)
     (reads-head array tail next final last after more turns Elsewhere None (marker fill code more) range shapes
-    (good-next w next m payload s good) (frame-kept w next m payload s ∙ n) r (stands-next fill code after more i)
+    (tables-next w next m payload s good) (frame-kept w next m payload s ∙ n) r (stands-next fill code after more i)
     (omega arith))
 reads-head array tail w final last m bytes (suc turns) bf met all range shapes good n
-    (framing w' final' last' after number fill code payload more f small a ok i r) at room =
+    (framing w' final' last' after number fill code payload more f small o lossy a ok i r) at room =
     let sizes = length-append payload (marker fill code more) in
     let fills = length-append (replicate fill 0xFF) (code ∷ more) in
     let now = reading w false [] nothing_finished no_planes in
     let next : Found = record w { frame = Some f } in
-    let shape = shapes number payload f small a ok in
+    let shape = shapes f o lossy ok in
     record {
       frame = f;
       shape = shape;
@@ -335,6 +334,6 @@ stream-read array tail bytes final last range shapes (stream after fill code mor
           (within-so nothing_found all
           ∙ ap (λ (x : Found). segments_within (suc (length all)) false Elsewhere x None all) nothing-is)
           (reads-head array tail nothing_found final last after more
-          (suc (length all)) Elsewhere None all range shapes good-start no-frame r
+          (suc (length all)) Elsewhere None all range shapes tables-start no-frame r
           (stands-next fill code after more i) (omega arith));
     }

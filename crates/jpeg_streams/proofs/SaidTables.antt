@@ -1,4 +1,4 @@
--- The Huffman tables in force exist, where segments of a lossless stream have set them.
+-- The Huffman tables in force exist, where segments have set them.
 use Rattle.std.proofs.Common.{◌≡◌, ℕ, zero, suc, Bool, true, false, cond, List, [], ◌∷◌, set, get_or, fold, Option}
 use Rattle.std.proofs.Common.{Some, None, subst}
 use Rattle.std.specs.List.{AllByRecursion}
@@ -69,20 +69,21 @@ tables-all most tables (t ∷ ts) h all = tables-all most (with_table tables t) 
 pub no-tables : HasTables no_tables
 no-tables = record { dc = (tt, (tt, (tt, (tt, tt)))); ac = (tt, (tt, (tt, (tt, tt)))) }
 
-huffman-all : (most : ℕ) (old : Tables) (ts : List PlacedTable) → HasTables old
-    → AllByRecursion (IsHuffmanTable most) ts → HasTables (with_huffman old (huffman_tables ts))
-huffman-all most old ts h all =
-    let new = tables-all most no_tables ts no-tables all in
-    record {
-      dc = updated-all old.dc (huffman_tables ts).dc h.dc new.dc;
-      ac = updated-all old.ac (huffman_tables ts).ac h.ac new.ac;
-    }
+-- the tables that a segment defines
+pub written-tables : (most : ℕ) (ts : List PlacedTable) → AllByRecursion (IsHuffmanTable most) ts
+    → HasTables (huffman_tables ts)
+written-tables most ts all = tables-all most no_tables ts no-tables all
+
+pub updated-tables : (old new : Tables) → HasTables old → HasTables new → HasTables (with_huffman old new)
+updated-tables old new h k =
+    record { dc = updated-all old.dc new.dc h.dc k.dc; ac = updated-all old.ac new.ac h.ac k.ac }
 
 pub segment-tables : (said found : Found) (s : Segment) → StandsInLossless said s → HasTables found.huffman
     → HasTables (found_after found s).huffman
 segment-tables said found (Quantization ts) may h = h
 segment-tables said found (Huffman ts) may h =
-    huffman-all (greatest_place (option_map (λ (f : Frame). f.is_baseline) said.frame)) found.huffman ts h may.0
+    updated-tables found.huffman (huffman_tables ts) h
+    (written-tables (greatest_place (option_map (λ (f : Frame). f.is_baseline) said.frame)) ts may.0)
 segment-tables said found (Interval n) may h = h
 segment-tables said found (Application number payload) may h = h
 segment-tables said found (Comment payload) may h = h

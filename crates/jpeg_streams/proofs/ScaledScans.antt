@@ -27,7 +27,7 @@ use Rattle.jpeg_streams.specs.ScanSegments.{vias_from, Coding, tables_of, pass_o
 use Rattle.jpeg_streams.specs.Found.{Found}
 use Rattle.jpeg_streams.specs.WrittenScans.{Coefficients, IsOwn, no_grid, grid_at, written_turns}
 use Rattle.jpeg_streams.specs.WrittenScans.{IsCoding, AreCodings, WritesScan, levels_after, IsComplete, HasTable}
-use Rattle.jpeg_streams.proofs.AcceptedStreams.{IsAccepted, WritesSegment, WritesScans}
+use Rattle.jpeg_streams.proofs.AcceptedStreams.{IsAccepted, PassSo, ScanFacts, WritesSegment, WritesScans, progressive, sequential}
 use Rattle.jpeg_streams.specs.WrittenScans.AreCodings.{no_more, and_more}
 use Rattle.jpeg_streams.proofs.AcceptedStreams.WritesSegment.{quantization, huffman, restart, application, comment}
 use Rattle.jpeg_streams.proofs.AcceptedStreams.WritesScans.{segment, scan, closed}
@@ -370,8 +370,8 @@ legal-alike p levels ks ls (one_more k l ks' ls' a more) h =
 segment-alike : (w next : Found) (m : Marker) (bytes : List ℕ) (f g : Frame) → SameFrame f g → w.frame ≡ Some f
     → WritesSegment w m bytes next → WritesSegment (at_frame w g) m bytes (at_frame next g)
 segment-alike w next m bytes f g same e (quantization w' bytes' t a) = quantization (at_frame w g) bytes t a
-segment-alike w next m bytes f g same e (huffman w' bytes' t a) =
-    huffman (at_frame w g) bytes t
+segment-alike w next m bytes f g same e (huffman w' bytes' t k a) =
+    huffman (at_frame w g) bytes t k
     (subst (λ (o : Option Bool). IsAccepted (Rattle.jpeg_segments.specs.HuffmanTables.dht_at o) bytes t)
     (ap (Rattle.std.specs.Prelude.option_map (λ (x : Frame). x.is_baseline)) e
     ∙ ap (λ (b : Bool). Some b) (sym same.is_baseline)) a)
@@ -391,6 +391,19 @@ tables-there w g cs ds (one_more c d cs' ds' a more) h = (
   tables-there w g cs' ds' more h.1,
 )
 
+so-alike : (f g : Frame) (s : Scan) → SameFrame f g → PassSo f s → PassSo g s
+so-alike f g s same (sequential e p) = sequential (ap is_progressive same.process ∙ e) p
+so-alike f g s same (progressive e d a lt le) = progressive (ap is_progressive same.process ∙ e) d a lt le
+
+facts-alike : (f g : Frame) (s : Scan) → SameFrame f g → ScanFacts f s → ScanFacts g s
+facts-alike f g s same h = record {
+  some = h.some;
+  dc_length = h.dc_length;
+  ac_length = h.ac_length;
+  apart = h.apart;
+  so = so-alike f g s same h.so;
+}
+
 -- A stream that was written for a frame is written for one with the same blocks.
 pub scans-alike : (array : Coefficients) (f g : Frame) (tail : List ℕ) (w final : Found) (levels last : ℕ → Levels)
     (sc : Bool) (m : Marker) (bytes : List ℕ) → SameFrame f g → w.frame ≡ Some f
@@ -402,12 +415,13 @@ scans-alike array f g tail w final levels last sc m bytes same e
     (segment-alike w next m payload f g same e s) q i
     (scans-alike array f g tail next final levels last sc after more same (frame-kept w next m payload s ∙ e) r)
 scans-alike array f g tail w final levels last sc m bytes same e
-    (scan w' final' levels' last' sc' after fill code header payload more s codings a l x i r) =
+    (scan w' final' levels' last' sc' after fill code header payload more s codings a rules l x i r) =
     let o = codings-alike w f g same (pass_of s)
     (tables_of w s) s.components s.dc_places s.ac_places codings l.are_in_force in
     let places = places-alike codings o.0 o.2 in
     scan (at_frame w g) (at_frame final g) levels last sc after fill code header payload more s o.0
     (record { accepted = λ rest. sos-same f g same (header ++ rest) ∙ a.accepted rest })
+    (λ n. facts-alike f g s same (rules (λ e. n (same.process ∙ e))))
     (record {
       are_in_force = subst (λ (t : Tables). AreCodings (at_frame w g) g
           (pass_of s) t s.components s.dc_places s.ac_places o.0) (sym (tables-kept w g s)) o.1;

@@ -1,20 +1,20 @@
 -- The sizes of a frame's components at each scale.
-use Rattle.std.proofs.Common.{◌≡◌, ◌⊎◌, inl, inr, ℕ, zero, suc, ◌+◌, ◌*◌, ◌/◌, ◌%◌, ◌<◌, ◌≤◌, ◌==◌, ◌&&◌, ◌||◌, Bool}
-use Rattle.std.proofs.Common.{true, false, List, [], ◌∷◌, map, length, Option, Some, None, Ok, refl, sym, ap, ap₂}
-use Rattle.std.proofs.Common.{◌∙◌, subst, arith, mul_assoc, if◌then◌else◌, true≢false}
-use Rattle.std.proofs.Math.Nat.{mul_comm, div-add-mod, le_of_mul-le-mul_left, mul-le-mul}
-use Rattle.std.proofs.lemmas.Bool.{eqb-true}
+use Rattle.std.proofs.Common.{◌≡◌, inl, ℕ, ◌*◌, ◌<◌, ◌≤◌}
+use Rattle.std.proofs.Common.{List, [], ◌∷◌, map, length, Option, Some, None, Ok, refl, sym, ap, ap₂}
+use Rattle.std.proofs.Common.{◌∙◌, subst, arith}
+use Rattle.std.proofs.Math.Nat.{mul-le-mul}
 use Rattle.std.specs.List.{AllByRecursion}
 use Rattle.jpeg_bits.specs.Reading.{Lacks}
 use Rattle.jpeg_segments.specs.Frame.{Frame, Component, Factors, IsInRange, frame_of, component_of, ceiling, greatest}
 use Rattle.jpeg_pixels.specs.declared.upsampler.UpsampleRule.{UpsampleRule}
-use Rattle.jpeg_pixels.specs.declared.upsampler.UpsampleRule.TheVariants.{H1V1, H2V1, H1V2, H2V2, Generic}
-use Rattle.jpeg_pixels.specs.Upsampling.{across, down, rule_of, divides}
+use Rattle.jpeg_pixels.specs.Upsampling.{across, down, rule_of}
 use Rattle.jpeg_pixels.specs.Pictures.{Source, source_by, source_of, sources_by, sources_of, all_factors}
 use Rattle.jpeg_segments.specs.Scales.{component_at, frame_at}
+use Rattle.jpeg_pixels.proofs.RuleRatios.{reach-end, rule-ratios, some-ceiling}
 use Rattle.jpeg_streams.proofs.OwnSpots.{At}
 use Rattle.jpeg_streams.proofs.AcceptedTurns.{err-ok, ok-same, bind-ok}
-use Rattle.jpeg_streams.proofs.FrameShapes.{ceiling-least, ceiling-covers, below-ceiling, factors-back, greatest-some}
+use Rattle.jpeg_streams.proofs.FrameShapes.{greatest-some}
+use Rattle.jpeg_streams.proofs.FrameFits.{factors-back}
 use Rattle.jpeg_streams.proofs.FrameShapes.{at-mapped}
 use Rattle.jpeg_streams.proofs.BroughtLevels.{Made}
 use Rattle.jpeg_streams.proofs.InsidePictures.{Reaches, AllReach}
@@ -63,117 +63,6 @@ pub frame-height : (s number precision width height : ℕ) (xs : List Factors)
     → (frame_at s (frame_of number precision width height xs)).output_height ≡ ceiling (height * s) 8
 unfolding frame_at frame_of
 frame-height s number precision width height xs = refl
-
--- ---- ratios
-
--- k outputs a sample: the greatest factor is k times this one, or there is one output
-pub record Ratio (factor most outputs k : ℕ) : Type 0 where
-  pub some : 0 < k
-  pub is : (most ≡ factor * k) ⊎ ((outputs ≡ 1) × (k ≡ 1))
-
-pub some-ceiling : (a b : ℕ) → 0 < a → 0 < b → 0 < ceiling a b
-some-ceiling a b h k = (below-ceiling 0 a b k).1 (omega arith)
-
--- the samples reach the last output
-pub reach-end : (size factor most s k : ℕ) → 0 < size → 0 < factor → 0 < most → 0 < s
-    → Ratio factor most (ceiling (size * s) 8) k
-    → ceiling (size * s) 8 ≤ k * ceiling (size * factor * s) (most * 8)
-reach-end size factor most s k hs hf hm ss r = go r.is
-  where
-    c : ℕ
-    c = ceiling (size * factor * s) (most * 8)
-
-    product : 0 < size * factor * s
-    product =
-        let a : 1 * 1 ≤ size * factor = mul-le-mul hs hf in
-        let one : 1 ≤ size * factor = omega arith in
-        let b : 1 * 1 ≤ size * factor * s = mul-le-mul one ss in
-        omega arith
-
-    go : (most ≡ factor * k) ⊎ ((ceiling (size * s) 8 ≡ 1) × (k ≡ 1))
-        → ceiling (size * s) 8 ≤ k * ceiling (size * factor * s) (most * 8)
-    go (inr e) =
-        let p = some-ceiling (size * factor * s) (most * 8) product (omega arith) in
-        let k1 = e.1 in
-        let q : k * ceiling (size * factor * s) (most * 8) ≡ 1 * ceiling (size * factor * s) (most * 8) =
-        ap (λ (x : ℕ). x * ceiling (size * factor * s) (most * 8)) k1 in
-        let e0 = e.0 in omega arith
-    go (inl e) =
-        let cover : size * factor * s ≤ c * (most * 8) = ceiling-covers (size * factor * s) (most * 8) (omega arith) in
-        let left : size * factor * s ≡ factor * (size * s) = ap (λ (x : ℕ). x * s) (mul_comm size factor)
-        ∙ mul_assoc factor size s in
-        let right : c * (most * 8) ≡ factor * ((k * c) * 8)
-        = ap (λ (x : ℕ). c * (x * 8)) e ∙ ap (λ (x : ℕ). c * x) (mul_assoc factor k 8)
-        ∙ sym (mul_assoc c factor (k * 8)) ∙ ap (λ (x : ℕ). x * (k * 8)) (mul_comm c factor)
-        ∙ mul_assoc factor c (k * 8)
-        ∙ ap (λ (x : ℕ). factor * x) (sym (mul_assoc c k 8) ∙ ap (λ (x : ℕ). x * 8) (mul_comm c k)) in
-        let more : factor * (size * s) ≤ factor * ((k * c) * 8) = omega arith in
-        ceiling-least (size * s) 8 (k * c) (omega arith) (le_of_mul-le-mul_left more hf)
-
--- ---- rules
-
-either : {A : Type 0} (a b : Bool) → (a ≡ true → A) → (b ≡ true → A) → (a || b) ≡ true → A
-either true b left right e = left refl
-either false b left right e = right e
-
-both : (a b : Bool) → (a && b) ≡ true → (a ≡ true) × (b ≡ true)
-both true b e = (refl, e)
-both false b e = absurd (true≢false (sym e))
-
-one-rule : (a b : UpsampleRule) → ◌≡◌ {A = Option UpsampleRule} (Some a) (Some b) → a ≡ b
-one-rule a b e = cc
-
-chosen : (P : UpsampleRule → Type 0) (test : Bool) (rule other : UpsampleRule) (rest : Option UpsampleRule)
-    → (test ≡ true → P other) → (rest ≡ Some rule → P rule) → (if test then Some other else rest) ≡ Some rule → P rule
-chosen P true rule other rest first others e = subst P (one-rule other rule e) (first refl)
-chosen P false rule other rest first others e = others e
-
-ratio-1 : (h m n : ℕ) → (h == m || n == 1) ≡ true → Ratio h m n 1
-ratio-1 h m n = either (h == m) (n == 1)
-    (λ e. let p : h ≡ m = eqb-true h m e in record { some = omega arith; is = inl (omega arith) })
-    (λ e. record { some = omega arith; is = inr (eqb-true n 1 e, refl) })
-
-ratio-2 : (h m n : ℕ) → (2 * h == m) ≡ true → Ratio h m n 2
-ratio-2 h m n e = let p : 2 * h ≡ m = eqb-true (2 * h) m e in record { some = omega arith; is = inl (omega arith) }
-
-ratio-any : (h m n : ℕ) → 0 < m → divides h m ≡ true → Ratio h m n (m / h)
-ratio-any h m n some e =
-    let none : m % h ≡ 0 = eqb-true (m % h) 0 e in
-    let d : h * (m / h) + m % h ≡ m = div-add-mod m h in
-    record { some = go (m / h) (omega arith); is = inl (omega arith) }
-  where
-    go : (k : ℕ) → m ≡ h * k → 0 < k
-    go zero p = absurd (omega arith)
-    go (suc k) p = omega arith
-
-pub record Ratios (h v mh mv width height : ℕ) (rule : UpsampleRule) : Type 0 where
-  pub columns : Ratio h mh width (across rule)
-  pub lines : Ratio v mv height (down rule)
-
-no-rule : (rule : UpsampleRule) → ◌≡◌ {A = Option UpsampleRule} None (Some rule) → ⊥
-no-rule rule e = cc
-
-pub rule-ratios : (h v mh mv width height : ℕ) (rule : UpsampleRule) → 0 < mh → 0 < mv
-    → rule_of h v mh mv width height ≡ Some rule → Ratios h v mh mv width height rule
-unfolding rule_of
-rule-ratios h v mh mv width height rule sh sv =
-    let h1 = h == mh || width == 1 in
-    let v1 = v == mv || height == 1 in
-    let h2 = 2 * h == mh in
-    let v2 = 2 * v == mv in
-    let P = Ratios h v mh mv width height in
-    chosen P (h1 && v1) rule H1V1 _
-    (λ e. let p = both h1 v1 e in record { columns = ratio-1 h mh width p.0; lines = ratio-1 v mv height p.1 })
-    (chosen P (h2 && v1) rule H2V1 _
-    (λ e. let p = both h2 v1 e in record { columns = ratio-2 h mh width p.0; lines = ratio-1 v mv height p.1 })
-    (chosen P (h1 && v2) rule H1V2 _
-    (λ e. let p = both h1 v2 e in record { columns = ratio-1 h mh width p.0; lines = ratio-2 v mv height p.1 })
-    (chosen P (h2 && v2) rule H2V2 _
-    (λ e. let p = both h2 v2 e in record { columns = ratio-2 h mh width p.0; lines = ratio-2 v mv height p.1 })
-    (chosen P (divides h mh && divides v mv) rule (Generic (mh / h) (mv / v)) None
-    (λ e. let p = both (divides h mh) (divides v mv) e in
-    record { columns = ratio-any h mh width sh p.0; lines = ratio-any v mv height sv p.1 })
-    (λ e. absurd (no-rule rule e))))))
 
 -- ---- all components
 

@@ -1,15 +1,18 @@
 -- A frame with a way to upsample each component has one at each scale.
 use Rattle.std.proofs.Common.{◌≡◌, ℕ, ◌*◌, ◌/◌, ◌==◌, ◌&&◌, ◌||◌, Bool, true, false, List, [], ◌∷◌, map, Option, Some}
-use Rattle.std.proofs.Common.{None, Ok, refl, sym, ap, if◌then◌else◌, true≢false}
+use Rattle.std.proofs.Common.{None, Ok, refl, sym, ap, ap₂, ◌∙◌, subst, arith, ◌<◌, ◌≤◌, if◌then◌else◌, true≢false}
 use Rattle.std.proofs.lemmas.Bool.{eqb-true, eq-eqb}
 use Rattle.jpeg_bits.specs.Reading.{Lacks}
-use Rattle.jpeg_segments.specs.Frame.{Component, Factors}
+use Rattle.jpeg_segments.specs.Frame.{Component, Factors, Frame, ceiling}
+use Rattle.jpeg_segments.specs.Scales.{frame_at}
 use Rattle.jpeg_pixels.specs.declared.upsampler.UpsampleRule.{UpsampleRule}
 use Rattle.jpeg_pixels.specs.declared.upsampler.UpsampleRule.TheVariants.{H1V1, H2V1, H1V2, H2V2, Generic}
 use Rattle.jpeg_pixels.specs.Upsampling.{rule_of, divides}
-use Rattle.jpeg_pixels.specs.Pictures.{Source, source_by, source_of, sources_by}
+use Rattle.jpeg_pixels.specs.Pictures.{Source, source_by, source_of, sources_by, sources_of}
 use Rattle.jpeg_streams.proofs.AcceptedTurns.{err-ok, bind-ok, then-ok}
-use Rattle.jpeg_streams.proofs.ScaledSizes.{scaled_component}
+use Rattle.jpeg_streams.proofs.FrameShapes.{Plain, made-at, plain-size, ceiling-covers, ceiling-least}
+use Rattle.jpeg_streams.proofs.ScaledSizes.{scaled_component, most_h, most_v, is-sized, factors-scaled}
+use Rattle.jpeg_pixels.proofs.RuleRatios.{some-ceiling}
 
 -- ---- choices
 
@@ -82,7 +85,7 @@ source-there : (c d : Component) (o p : Option UpsampleRule) (s : Source)
 source-there c d None p s f e = absurd (err-ok (Lacks _) s e)
 source-there c d (Some rule) p s f e = let r = f rule refl in (_, ap (source_by d) r.1)
 
-pub sources-there : (s width height mh mv a b a' b' : ℕ) (xs : List Factors) (sources : List Source)
+sources-there : (s width height mh mv a b a' b' : ℕ) (xs : List Factors) (sources : List Source)
     → (a ≡ 1 → a' ≡ 1) → (b ≡ 1 → b' ≡ 1)
     → sources_by mh mv a b (map (scaled_component 8 width height mh mv) xs) ≡ Ok sources
     → (others : List Source) × (sources_by mh mv a' b' (map (scaled_component s width height mh mv) xs) ≡ Ok others)
@@ -101,4 +104,53 @@ sources-there s width height mh mv a b a' b' (x ∷ xs) sources f g e =
       then-ok (source_of mh mv a' b' d) _ t.0 _ t.1
           (then-ok (sources_by mh mv a' b' (map (scaled_component s width height mh mv) xs)) _ others.0 _ others.1
           refl),
+    )
+
+-- ---- frames
+
+one-wide : (n s : ℕ) → 0 < s → s ≤ 8 → ceiling (n * 8) 8 ≡ 1 → 0 < n → ceiling (n * s) 8 ≡ 1
+one-wide n s a b e some =
+    let cover = ceiling-covers (n * 8) 8 (omega arith) in
+    let one : n ≡ 1 = omega arith in
+    let size : n * s ≡ 1 * s = ap (λ (x : ℕ). x * s) one in
+    let most : ceiling (n * s) 8 ≤ 1 = ceiling-least (n * s) 8 1 (omega arith) (omega arith) in
+    let least : 0 < ceiling (n * s) 8 = some-ceiling (n * s) 8 (omega arith) (omega arith) in
+    omega arith
+
+-- the frame at a scale has a way to upsample each component
+pub frame-sources : (f : Frame) (s : ℕ) (sources : List Source) → Plain f → 0 < s → s ≤ 8
+    → sources_of f.components f.output_width f.output_height ≡ Ok sources
+    → (others : List Source)
+    × (sources_of (frame_at s f).components (frame_at s f).output_width (frame_at s f).output_height ≡ Ok others)
+frame-sources f s sources o a b e =
+    let m = made-at f s o a in
+    let z = is-sized (frame_at s f) m in
+    let m8 = made-at f 8 o (omega arith) in
+    let z8 = is-sized (frame_at 8 f) m8 in
+    let full = plain-size f o in
+    let at8 : sources_of (map (scaled_component 8 o.width o.height (most_h o.factors) (most_v o.factors)) o.factors)
+    (ceiling (o.width * 8) 8) (ceiling (o.height * 8) 8) ≡ Ok sources
+    = sym (ap₂ (λ (x y : ℕ). sources_of
+    (map (scaled_component 8 o.width o.height (most_h o.factors) (most_v o.factors)) o.factors) x y) z8.width
+    z8.height)
+    ∙ sym (ap (λ (l : List Component). sources_of l (frame_at 8 f).output_width (frame_at 8 f).output_height)
+    z8.components)
+    ∙ ap (λ (g : Frame). sources_of g.components g.output_width g.output_height) full ∙ e in
+    let by8 = subst (λ (l : List Factors). sources_by (most_h l) (most_v l) (ceiling (o.width * 8) 8)
+    (ceiling (o.height * 8) 8)
+    (map (scaled_component 8 o.width o.height (most_h o.factors) (most_v o.factors)) o.factors) ≡ Ok sources)
+    (factors-scaled 8 o.width o.height (most_h o.factors) (most_v o.factors) o.factors) at8 in
+    let others = sources-there s o.width o.height (most_h o.factors) (most_v o.factors) (ceiling (o.width * 8) 8)
+    (ceiling (o.height * 8) 8) (ceiling (o.width * s) 8) (ceiling (o.height * s) 8) o.factors sources
+    (λ k. one-wide o.width s a b k o.some_width) (λ k. one-wide o.height s a b k o.some_height) by8 in
+    let back = subst (λ (l : List Factors). sources_by (most_h l) (most_v l) (ceiling (o.width * s) 8)
+    (ceiling (o.height * s) 8)
+    (map (scaled_component s o.width o.height (most_h o.factors) (most_v o.factors)) o.factors) ≡ Ok others.0)
+    (sym (factors-scaled s o.width o.height (most_h o.factors) (most_v o.factors) o.factors)) others.1 in (
+      others.0,
+      ap (λ (l : List Component). sources_of l (frame_at s f).output_width (frame_at s f).output_height) z.components
+          ∙ ap₂ (λ (x y : ℕ). sources_of
+          (map (scaled_component s o.width o.height (most_h o.factors) (most_v o.factors)) o.factors) x y) z.width
+          z.height
+          ∙ back,
     )

@@ -4,17 +4,15 @@ use Rattle.std.proofs.Common.{get_or, replicate, Option, Some, None, Result, Ok,
 use Rattle.std.proofs.Common.{length-set}
 use Rattle.std.specs.Prelude.{◌&&◌, ◌==◌, nat_lt, slice_index_or, if◌then◌else◌}
 use Rattle.std.specs.List.{AllByRecursion}
-use Rattle.jpeg_bits.specs.Reading.{Outcome, Fault, ◌>>=◌}
-use Rattle.jpeg_bits.specs.declared.marker.Marker.{Marker}
+use Rattle.jpeg_bits.specs.Reading.{Fault, ◌>>=◌}
 use Rattle.jpeg_bits.specs.Codes.{Table}
 use Rattle.jpeg_bits.specs.declared.codes.HuffmanTableClass.TheVariants as classes
 use Rattle.jpeg_segments.specs.Frame.{Frame, Component}
 use Rattle.jpeg_segments.specs.HuffmanTables.{Tables}
 use Rattle.jpeg_segments.specs.ScanHeader.{Scan}
 use Rattle.jpeg_bits.specs.Passes.{Pass, Block, zero_block}
-use Rattle.jpeg_bits.specs.Intervals.{intervals, first_group, other_groups}
 use Rattle.jpeg_streams.specs.Order.{Spot, spots_of, mcu_size}
-use Rattle.jpeg_streams.specs.Scans.{Arrays, zero_arrays, put_block, put_blocks, turns_of, arrays_at}
+use Rattle.jpeg_streams.specs.Scans.{Arrays, zero_arrays, put_block, put_blocks, arrays_at}
 use Rattle.jpeg_streams.specs.InTurn.{Fits, AreArrays, scan_from}
 use Rattle.jpeg_streams.specs.McuRows.{scan_by_rows}
 use Rattle.jpeg_streams.specs.Needed.{first_of, needed}
@@ -204,35 +202,3 @@ progressive-scan found frame scan c codings bytes held fits of =
     (found.restart * mcu_size (components_of (c ∷ codings)))
     (arrays_of (c ∷ codings) (arrays_before found frame)) bytes
     (fits-of frame (c ∷ codings) fits of) (arrays-sized frame (c ∷ codings) (arrays_before found frame) held of)
-
-abbrev pub AreSizedAfter : List Coding → Outcome (Arrays × Option Marker) → Type 0
-AreSizedAfter codings (Ok r) = AreArrays (components_of codings) r.0.0
-AreSizedAfter codings (Err e) = Unit {0}
-
--- the blocks after a scan are of the same sizes
-pub scan-sized : (found : Found) (frame : Frame) (scan : Scan) (codings : List Coding) (bytes : List ℕ)
-    → AreArrays frame.components (arrays_before found frame) → AllByRecursion (IsOf frame) codings
-    → AreSizedAfter codings (scan_arrays found frame scan codings bytes)
-unfolding scan_arrays arrays_at
-scan-sized found frame scan codings bytes held of =
-    let cs = components_of codings in
-    let arrays = arrays_of codings (arrays_before found frame) in
-    let spots = spots_of frame cs in
-    let n = found.restart * mcu_size cs in
-    let turns = turns_of (vias_from 0 codings) spots arrays in
-    go (intervals (pass_of scan) 0 (first_group n turns) (other_groups n turns) bytes)
-  where
-    go : (o : Outcome (List Block × Option Marker))
-        → AreSizedAfter codings (o >>= (λ (r : (List Block × Option Marker) × List ℕ).
-        Ok (
-          (
-            put_blocks (spots_of frame (components_of codings)) r.0.0
-                (arrays_of codings (arrays_before found frame)),
-            r.0.1,
-          ),
-          r.1,
-        )))
-    go (Ok r) = put-sized (components_of codings) (spots_of frame (components_of codings)) r.0.0
-        (arrays_of codings (arrays_before found frame))
-        (arrays-sized frame codings (arrays_before found frame) held of)
-    go (Err e) = tt

@@ -6,7 +6,7 @@ use Rattle.jpeg_bits.specs.Reading.{Outcome, Fault, ◌>>=◌}
 use Rattle.jpeg_bits.specs.declared.marker.Marker.{Marker}
 use Rattle.jpeg_segments.specs.declared.parser.CodingProcess.{CodingProcess}
 use Rattle.jpeg_segments.specs.declared.parser.CodingProcess.TheVariants.{DctSequential, DctProgressive, Lossless}
-use Rattle.jpeg_segments.specs.Frame.{Frame, Component, Factors, ceiling}
+use Rattle.jpeg_segments.specs.Frame.{Frame, Component, Factors}
 use Rattle.jpeg_streams.specs.declared.before.Before.{Before}
 use Rattle.jpeg_streams.specs.declared.before.Before.TheVariants.{Elsewhere}
 use Rattle.jpeg_streams.specs.declared.settings.Settings.{Settings}
@@ -28,20 +28,20 @@ use Rattle.jpeg_streams.proofs.OwnSpots.{At, Fits}
 use Rattle.jpeg_streams.proofs.ReadStates.{reading}
 use Rattle.jpeg_streams.proofs.AcceptedTurns.{StandsAt, stands-next, then-ok, segment-read, frame-kept}
 use Rattle.jpeg_streams.proofs.BroughtLevels.{Shaped, framed-start}
-use Rattle.jpeg_streams.proofs.FrameShapes.{Plain, sof-plain, made-at, plain-size, all-shaped}
+use Rattle.jpeg_streams.proofs.FrameShapes.{Plain, made-at, plain-size, all-shaped}
 use Rattle.jpeg_streams.proofs.ScaledSizes.{scaled_component, most_h, most_v, frame-components}
 use Rattle.jpeg_streams.proofs.ScaledScans.{own-same, Alike, Alikes, none, one_more, SameFrame, length-same, at_frame}
 use Rattle.jpeg_streams.proofs.ScaledScans.{scans-alike}
 use Rattle.jpeg_streams.proofs.ReadStreams.{nothing_finished, no_planes, frame-turn, frame-by, reads-scans}
 use Rattle.jpeg_streams.proofs.ReadStreams.{nothing-is, no-frame, starts-so, within-so}
 use Rattle.jpeg_streams.proofs.WrittenPictures.{pictures-same, rest-by}
-use Rattle.jpeg_streams.proofs.FrameShapes.{greatest-some, accepted-sources, ceiling-covers, ceiling-least}
-use Rattle.jpeg_streams.proofs.ScaledSources.{sources-there}
-use Rattle.jpeg_streams.proofs.ScaledSizes.{is-sized, factors-scaled, some-ceiling}
-use Rattle.jpeg_pixels.specs.Pictures.{Source, sources_by, sources_of}
+use Rattle.jpeg_streams.proofs.FrameShapes.{greatest-some, accepted-sources}
+use Rattle.jpeg_streams.proofs.ScaledSources.{frame-sources}
+use Rattle.jpeg_pixels.specs.Pictures.{sources_of}
 use Rattle.jpeg_streams.specs.ArrayPictures.{Takes}
 use Rattle.jpeg_streams.proofs.WrittenPictures.{pictures-taken}
-use Rattle.jpeg_streams.proofs.TablesInForce.{GoodTables, good-next, good-start}
+use Rattle.jpeg_streams.proofs.TablesInForce.{tables-next, tables-start}
+use Rattle.jpeg_streams.proofs.SaidTables.{HasTables}
 
 -- ---- frames at a scale
 
@@ -163,7 +163,7 @@ kept-in array f tail w final levels last sc m bytes
     (segment w' next final' levels' last' sc' m' after fill code payload more s q i r) =
     kept-in array f tail next final levels last sc after more r ∙ frame-kept w next m payload s
 kept-in array f tail w final levels last sc m bytes
-    (scan w' final' levels' last' sc' after fill code header payload more s codings a l x i r) =
+    (scan w' final' levels' last' sc' after fill code header payload more s codings a rules l x i r) =
     kept-in array f tail w final _ last true after more r
 kept-in array f tail w final levels last sc m bytes (closed w' levels' t c) = refl
 
@@ -174,7 +174,7 @@ pub record ReadHeader (array : Coefficients) (tail : List ℕ) (final : Found) (
   pub frame : Frame
   pub plain : Plain frame
   pub is_accepted : accepted frame ≡ Ok frame
-  pub good : GoodTables w.huffman
+  pub good : HasTables w.huffman
   pub shape : Shaped frame
   pub after : Marker
   pub fill : ℕ
@@ -219,7 +219,7 @@ head-end turns before f met all e = rw (e, segments_within) refl
 
 pub reads-header : (array : Coefficients) (tail : List ℕ) (w final : Found) (last : ℕ → Levels) (m : Marker)
     (bytes : List ℕ) (turns : ℕ) (bf : Before) (met : Option Marker) (all : List ℕ)
-    → GoodTables w.huffman → w.frame ≡ None → WritesHead array tail w m bytes final last → StandsAt met all m bytes
+    → HasTables w.huffman → w.frame ≡ None → WritesHead array tail w m bytes final last → StandsAt met all m bytes
     → length bytes < turns
     → ReadHeader array tail final last
     (segments_within turns true bf (reading w false [] nothing_finished no_planes) met all)
@@ -234,10 +234,10 @@ reads-header array tail w final last m bytes (suc turns) bf met all good n
     (at.turn bf now ∙ segment-read w next m payload (marker fill code more) bf false [] nothing_finished no_planes s)
     refl)
     (reads-header array tail next final last after more turns Elsewhere None (marker fill code more)
-    (good-next w next m payload s good) (frame-kept w next m payload s ∙ n) r (stands-next fill code after more i)
+    (tables-next w next m payload s good) (frame-kept w next m payload s ∙ n) r (stands-next fill code after more i)
     (omega arith))
 reads-header array tail w final last m bytes (suc turns) bf met all good n
-    (framing w' final' last' after number fill code payload more f small a ok i r) at room =
+    (framing w' final' last' after number fill code payload more f small o lossy a ok i r) at room =
     let sizes = length-append payload (marker fill code more) in
     let fills = length-append (replicate fill 0xFF) (code ∷ more) in
     let now = reading w false [] nothing_finished no_planes in
@@ -248,8 +248,8 @@ reads-header array tail w final last m bytes (suc turns) bf met all good n
       good = good;
       is_accepted = ok;
       frame = f;
-      plain = sof-plain number (payload ++ []) (f, []) (a.accepted []);
-      shape = all-shaped number payload f small a ok;
+      plain = o;
+      shape = all-shaped f o lossy ok;
       after = after;
       fill = fill;
       code = code;
@@ -304,7 +304,7 @@ stream-means_sized width height settings array tail bytes final last range
     (header-so bytes all (starts-so all) ∙ header-within nothing_found all
     ∙ ap (λ (x : Found). segments_within (suc (length all)) true Elsewhere x None all) nothing-is)
     (reads-header array tail nothing_found final last after more
-    (suc (length all)) Elsewhere None all good-start no-frame r (stands-next fill code after more i) (omega arith))
+    (suc (length all)) Elsewhere None all tables-start no-frame r (stands-next fill code after more i) (omega arith))
     in
     let f = head.frame in
     let g = sized width height f in
@@ -336,53 +336,6 @@ stream-means_sized width height settings array tail bytes final last range
 
 -- ---- there is a picture
 
-one-wide : (n s : ℕ) → 0 < s → s ≤ 8 → ceiling (n * 8) 8 ≡ 1 → 0 < n → ceiling (n * s) 8 ≡ 1
-one-wide n s a b e some =
-    let cover = ceiling-covers (n * 8) 8 (omega arith) in
-    let one : n ≡ 1 = omega arith in
-    let size : n * s ≡ 1 * s = ap (λ (x : ℕ). x * s) one in
-    let most : ceiling (n * s) 8 ≤ 1 = ceiling-least (n * s) 8 1 (omega arith) (omega arith) in
-    let least : 0 < ceiling (n * s) 8 = some-ceiling (n * s) 8 (omega arith) (omega arith) in
-    omega arith
-
--- the frame at a scale has a way to upsample each component
-frame-sources : (f : Frame) (s : ℕ) (sources : List Source) → Plain f → 0 < s → s ≤ 8
-    → sources_of f.components f.output_width f.output_height ≡ Ok sources
-    → (others : List Source)
-    × (sources_of (frame_at s f).components (frame_at s f).output_width (frame_at s f).output_height ≡ Ok others)
-frame-sources f s sources o a b e =
-    let m = made-at f s o a in
-    let z = is-sized (frame_at s f) m in
-    let m8 = made-at f 8 o (omega arith) in
-    let z8 = is-sized (frame_at 8 f) m8 in
-    let full = plain-size f o in
-    let at8 : sources_of (map (scaled_component 8 o.width o.height (most_h o.factors) (most_v o.factors)) o.factors)
-    (ceiling (o.width * 8) 8) (ceiling (o.height * 8) 8) ≡ Ok sources
-    = sym (ap₂ (λ (x y : ℕ). sources_of
-    (map (scaled_component 8 o.width o.height (most_h o.factors) (most_v o.factors)) o.factors) x y) z8.width
-    z8.height)
-    ∙ sym (ap (λ (l : List Component). sources_of l (frame_at 8 f).output_width (frame_at 8 f).output_height)
-    z8.components)
-    ∙ ap (λ (g : Frame). sources_of g.components g.output_width g.output_height) full ∙ e in
-    let by8 = subst (λ (l : List Factors). sources_by (most_h l) (most_v l) (ceiling (o.width * 8) 8)
-    (ceiling (o.height * 8) 8)
-    (map (scaled_component 8 o.width o.height (most_h o.factors) (most_v o.factors)) o.factors) ≡ Ok sources)
-    (factors-scaled 8 o.width o.height (most_h o.factors) (most_v o.factors) o.factors) at8 in
-    let others = sources-there s o.width o.height (most_h o.factors) (most_v o.factors) (ceiling (o.width * 8) 8)
-    (ceiling (o.height * 8) 8) (ceiling (o.width * s) 8) (ceiling (o.height * s) 8) o.factors sources
-    (λ k. one-wide o.width s a b k o.some_width) (λ k. one-wide o.height s a b k o.some_height) by8 in
-    let back = subst (λ (l : List Factors). sources_by (most_h l) (most_v l) (ceiling (o.width * s) 8)
-    (ceiling (o.height * s) 8)
-    (map (scaled_component s o.width o.height (most_h o.factors) (most_v o.factors)) o.factors) ≡ Ok others.0)
-    (sym (factors-scaled s o.width o.height (most_h o.factors) (most_v o.factors) o.factors)) others.1 in (
-      others.0,
-      ap (λ (l : List Component). sources_of l (frame_at s f).output_width (frame_at s f).output_height) z.components
-          ∙ ap₂ (λ (x y : ℕ). sources_of
-          (map (scaled_component s o.width o.height (most_h o.factors) (most_v o.factors)) o.factors) x y) z.width
-          z.height
-          ∙ back,
-    )
-
 -- A written stream whose picture is taken means one at each scale.
 pub sized-taken : (width height : ℕ) (settings : Settings) (array : Coefficients) (tail bytes : List ℕ)
     (final : Found) (last : ℕ → Levels)
@@ -398,7 +351,7 @@ sized-taken width height settings array tail bytes final last range
     (header-so bytes all (starts-so all) ∙ header-within nothing_found all
     ∙ ap (λ (x : Found). segments_within (suc (length all)) true Elsewhere x None all) nothing-is)
     (reads-header array tail nothing_found final last after more
-    (suc (length all)) Elsewhere None all good-start no-frame r (stands-next fill code after more i) (omega arith))
+    (suc (length all)) Elsewhere None all tables-start no-frame r (stands-next fill code after more i) (omega arith))
     in
     let f = head.frame in
     let g = sized width height f in

@@ -1,13 +1,13 @@
 -- The state between segments: frames that are decoded, at a scale, and what is kept from turn to turn.
 use Rattle.std.proofs.Common.{◌≡◌, ◌≤◌, ◌<◌, ℕ, List, [], ◌∷◌, length, replicate, refl, ap, sym, ◌∙◌, subst, arith}
-use Rattle.std.proofs.Common.{Bool, true, false, Option, Some, None, Result, Ok, Err}
-use Rattle.std.specs.Prelude.{◌==◌, ◌||◌, ◌&&◌, not, min, nat_le, is_some}
+use Rattle.std.proofs.Common.{Bool, true, false, Option, Some, None, Ok}
+use Rattle.std.specs.Prelude.{◌==◌, ◌||◌, ◌&&◌, not, nat_le, is_some}
 use Rattle.std.specs.List.{AllByRecursion}
 use Rattle.std.proofs.Math.Bool.{cond}
 use Rattle.std.proofs.lemmas.Bool.{eqb-true, leb-true}
 use Rattle.std.proofs.lemmas.List.{length-map}
 use Rattle.std.proofs.lemmas.List.Elements.{recursion_from_All}
-use Rattle.jpeg_bits.specs.Reading.{Fault, Lacks, ◌>>=◌}
+use Rattle.jpeg_bits.specs.Reading.{Lacks}
 use Rattle.jpeg_bits.specs.declared.error.UnsupportedFeature.TheVariants as features
 use Rattle.jpeg_segments.specs.Frame.{Frame, Component, Factors, IsFrame, IsInRange, frame_of}
 use Rattle.jpeg_segments.specs.Scales.{IsSizedFrame, frame_at, is_scale, scale_for, sized, sized_by}
@@ -26,37 +26,10 @@ use Rattle.jpeg_streams.specs.Sound.{AreSampled, HasDecodedFrame, IsUnread, IsDe
 use Rattle.jpeg_streams.proofs.Apart.{zeros-sized}
 use Rattle.jpeg_streams.proofs.FrameFits.{scaled-frames-fit}
 use Rattle.jpeg_streams.proofs.ScaledCovers.{frames-have-sources}
+pub use Rattle.jpeg_streams.proofs.FrameShapes.{accepted-facts, count-few}
+use Rattle.jpeg_segments.proofs.OnlyWritten.{kept-unless as unless-ok}
 
 -- ---- frames
-
-if-ok : {A : Type 0} (b : Bool) (x : Result A Fault) (e : Fault) (y : A) → cond b x (Err e) ≡ Ok y → (b ≡ true)
-    × (x ≡ Ok y)
-if-ok true x e y h = (refl, h)
-if-ok false x e y h = absurd (cc)
-
-unless-ok : {A : Type 0} (b : Bool) (x : Result A Fault) (e : Fault) (y : A) → cond b (Err e) x ≡ Ok y → (b ≡ false)
-    × (x ≡ Ok y)
-unless-ok true x e y h = absurd (cc)
-unless-ok false x e y h = (refl, h)
-
-has-sources : (o : Result (List Source) Fault) (f g : Frame) → (o >>= (λ sources. Ok f)) ≡ Ok g
-    → (sources : List Source) × (o ≡ Ok sources)
-has-sources (Ok sources) f g h = (sources, refl)
-has-sources (Err e) f g h = absurd (cc)
-
-pub accepted-facts : (f g : Frame) → accepted f ≡ Ok g
-    → (is_decoded_count (length f.components) ≡ true)
-    × ((sources : List Source) × (sources_of f.components f.output_width f.output_height ≡ Ok sources))
-unfolding accepted
-accepted-facts f g h =
-    let a = unless-ok f.is_differential _ _ g h in
-    let b = unless-ok (is_arithmetic f.coding) _ (Lacks features.ArithmeticEntropyCoding) g a.1 in
-    let c = unless-ok (not (is_decoded_precision f.process f.precision)) _
-    (Lacks (features.SamplePrecision f.precision)) g
-    b.1 in
-    let d = if-ok (is_decoded_count (length f.components)) (sources_of f.components f.output_width f.output_height
-    >>= (λ sources. Ok f)) (Lacks (features.ComponentCount (min 255 (length f.components)))) g c.1 in
-    (d.0, has-sources (sources_of f.components f.output_width f.output_height) f g d.1)
 
 pub both-hold : (a b : Bool) → (a && b) ≡ true → (a ≡ true) × (b ≡ true)
 both-hold true true h = (refl, refl)
@@ -98,7 +71,7 @@ decoded-some f p =
     subst (λ (x : Frame). (0 < x.width) × (0 < x.height)) (sym q.made) (q.some_width, q.some_height) in
     subst (λ (x : Frame). (0 < x.width) × (0 < x.height)) (sym p.made) full
 
-scale-bounds : (s : ℕ) → is_scale s ≡ true → (0 < s) × (s ≤ 8)
+pub scale-bounds : (s : ℕ) → is_scale s ≡ true → (0 < s) × (s ≤ 8)
 scale-bounds s h = go (s == 1) refl (s == 2) refl (s == 4) refl (s == 8) refl h
   where
     go : (a : Bool) → (s == 1) ≡ a → (b : Bool) → (s == 2) ≡ b → (c : Bool) → (s == 4) ≡ c → (d : Bool) → (s == 8) ≡ d
@@ -120,16 +93,6 @@ pub decoded-count : (f : Frame) → IsDecodedFrame f → is_decoded_count (lengt
 decoded-count f p =
     ap (λ (g : Frame). is_decoded_count (length g.components)) p.made ∙ (ap is_decoded_count (count-kept p.scale p.full)
     ∙ (accepted-facts p.full p.full p.is_accepted).0)
-
-pub count-few : (n : ℕ) → is_decoded_count n ≡ true → (0 < n) × (n ≤ 4)
-count-few n h = go (n == 1) refl (n == 3) refl (n == 4) refl h
-  where
-    go : (a : Bool) → (n == 1) ≡ a → (b : Bool) → (n == 3) ≡ b → (c : Bool) → (n == 4) ≡ c → (a || (b || c)) ≡ true
-        → (0 < n) × (n ≤ 4)
-    go true e b f c g h = let k : n ≡ 1 = eqb-true n 1 e in (omega arith, omega arith)
-    go false e true f c g h = let k : n ≡ 3 = eqb-true n 3 f in (omega arith, omega arith)
-    go false e false f true g h = let k : n ≡ 4 = eqb-true n 4 g in (omega arith, omega arith)
-    go false e false f false g h = absurd (cc)
 
 pub decoded-fits : (f : Frame) → IsDecodedFrame f → AllByRecursion (Fits f) f.components
 decoded-fits f p =

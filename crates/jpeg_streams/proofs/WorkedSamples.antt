@@ -1,21 +1,26 @@
 -- The lossless streams that are worked by hand are written.
-use Rattle.std.proofs.Common.{ℕ, zero, suc, ◌≤◌, ◌<◌, ◌^◌, true, false, List, [], ◌∷◌, replicate, pos}
-use Rattle.std.proofs.Common.{negsuc, refl, arith, inl, inr}
-use Rattle.jpeg_bits.specs.Codes.{HasCodes, lengths_from, code_lengths, code_value, codes_exist}
+use Rattle.std.proofs.Common.{◌≡◌, ℕ, zero, suc, ◌==◌, Bool, true, false, List, [], ◌∷◌, ◌++◌, length, drop}
+use Rattle.std.proofs.Common.{replicate, flat_map, pos, negsuc, refl, sym, subst, arith, inl, inr}
+use Rattle.std.proofs.lemmas.Bool.{and_parts, eqb-true, leb-true}
+use Rattle.std.specs.List.{list_all}
+use Rattle.std.specs.Prelude.{nat_le}
+use Rattle.jpeg_bits.specs.Codes.{lengths_from, code_value, codes_exist, Table}
 use Rattle.jpeg_bits.specs.Written.{low_bits, number_for, stuffed, bits_of_bytes}
-use Rattle.jpeg_bits.proofs.Tables.{tested-exist}
 use Rattle.jpeg_segments.specs.Frame.{Factors, Frame, frame_of, component_of}
-use Rattle.jpeg_segments.specs.ScanHeaders.{AreChoices, IsScan}
-use Rattle.jpeg_segments.specs.WrittenSegments.{AreComponents, Header, Interval, IsFrame, IsHuffmanTable, frame_written}
+use Rattle.jpeg_segments.specs.ScanHeaders.{IsScan}
+use Rattle.jpeg_segments.specs.WrittenSegments.{FrameHeader, Header, Interval, frame_written}
 use Rattle.jpeg_lossless.specs.Prediction.{residue}
 use Rattle.jpeg_lossless.specs.Differences.{mcu_tables, row_tables, strand, strands, lines_in}
-use Rattle.jpeg_lossless.specs.Scans.{all_above}
-use Rattle.jpeg_lossless.specs.Written.{WritesDifference, none, one, no_row, row, first_differences}
-use Rattle.jpeg_lossless.specs.Written.{rest_differences, differences_below, differences_of, HaveDifferences}
+use Rattle.jpeg_lossless.specs.Scans.{all_above, Way}
+use Rattle.jpeg_lossless.specs.Written.{AreGrids, WritesDifference, WritesInterval, WritesRow, WritesRows, none, one}
+use Rattle.jpeg_lossless.specs.Written.{no_row, row, first_differences, rest_differences, differences_below}
+use Rattle.jpeg_lossless.specs.Written.{differences_of, HaveDifferences}
 use Rattle.jpeg_lossless.specs.Written.WritesIntervals.{another, last}
 use Rattle.jpeg_lossless.specs.Worked.{small_table}
+use Rattle.jpeg_pixels.specs.Pictures.{sources_by}
+use Rattle.jpeg_pixels.specs.Upsampling.{rule_of}
 use Rattle.jpeg_streams.specs.SaidSegments.{found_after}
-use Rattle.jpeg_streams.specs.Segments.{updated}
+use Rattle.jpeg_streams.specs.Segments.{accepted, updated}
 use Rattle.jpeg_streams.specs.Found.{nothing_found, Found}
 use Rattle.jpeg_streams.specs.WorkedSamples.{AreWritten, lone_data, lone_scan, other_data, other_scan, padded_bytes}
 use Rattle.jpeg_streams.specs.WorkedSamples.{padded_data, padded_header, padded_samples, padded_scan, plain_factors}
@@ -24,157 +29,51 @@ use Rattle.jpeg_streams.specs.WorkedSamples.{third_data, third_scan, three_bytes
 use Rattle.jpeg_streams.specs.WrittenLossless.{AreCodings, HasSamples, HoldSamples, WritesScan, closed}
 use Rattle.jpeg_streams.specs.WrittenLossless.{said_after_scan, scan, segment, whole_rows}
 use Rattle.jpeg_streams.specs.LosslessScans.{LosslessCoding, mcus_across, mcus_down, parts_of}
+use Rattle.jpeg_streams.proofs.AcceptedSamples.{accepted-samples}
+use Rattle.jpeg_streams.proofs.TestedParts.{category-by, frame-by, scan-by, table-by}
 
-abbrev frame : Frame
-frame = frame_written 3 three_header
+-- ---- what is said
 
-abbrev said_1 : Found
-said_1 = found_after nothing_found (Header 3 three_header)
+abbrev framed : FrameHeader → Found
+framed h = found_after nothing_found (Header 3 h)
 
-abbrev said_2 : Found
-said_2 = found_after said_1 table_segment
+abbrev tabled : FrameHeader → Found
+tabled h = found_after (framed h) table_segment
 
-abbrev said_3 : Found
-said_3 = found_after said_2 (Interval 2)
+abbrev said : FrameHeader → Found
+said h = found_after (tabled h) (Interval 2)
 
-abbrev said_4 : Found
-said_4 = said_after_scan said_3
+abbrev scanned : FrameHeader → Found
+scanned h = said_after_scan (said h)
 
--- ---- segments
+abbrev frame_by : FrameHeader → Frame
+frame_by h = frame_written 3 h
 
-exist : HasCodes (code_lengths (1 ∷ 1 ∷ replicate 14 0))
-unfolding codes_exist lengths_from code_value
-exist = tested-exist (code_lengths (1 ∷ 1 ∷ replicate 14 0)) refl
+have-samples : HasSamples 3 three_header × HasSamples 3 padded_header
+unfolding accepted frame_of component_of sources_by rule_of
+have-samples = (accepted-samples three_header refl, accepted-samples padded_header refl)
 
-table-written : (most : ℕ) → IsHuffmanTable most (record { place = 0; table = small_table })
-table-written most = record {
-  placed = omega arith;
-  counted = refl;
-  has_symbols = refl;
-  some = omega arith;
-  at_most = omega arith;
-  exists = exist;
-}
+are-scans : IsScan (frame_by three_header) third_scan × IsScan (frame_by three_header) other_scan
+    × IsScan (frame_by padded_header) padded_scan × IsScan (frame_by padded_header) lone_scan
+unfolding frame_of component_of
+are-scans = (
+  scan-by (frame_by three_header) third_scan refl,
+  scan-by (frame_by three_header) other_scan refl,
+  scan-by (frame_by padded_header) padded_scan refl,
+  scan-by (frame_by padded_header) lone_scan refl,
+)
 
-header-written : IsFrame 3 three_header
-unfolding AreComponents
-header-written = record {
-  numbered = omega arith;
-  precise = refl;
-  wide = omega arith;
-  high = omega arith;
-  counted = refl;
-  components = (
-    record {
-      is_new = refl;
-      ranged = record {
-        horizontal_some = omega arith;
-        horizontal_most = omega arith;
-        vertical_some = omega arith;
-        vertical_most = omega arith;
-      };
-      placed = refl;
-    },
-    (
-      record {
-        is_new = refl;
-        ranged = record {
-          horizontal_some = omega arith;
-          horizontal_most = omega arith;
-          vertical_some = omega arith;
-          vertical_most = omega arith;
-        };
-        placed = refl;
-      },
-      (
-        record {
-          is_new = refl;
-          ranged = record {
-            horizontal_some = omega arith;
-            horizontal_most = omega arith;
-            vertical_some = omega arith;
-            vertical_most = omega arith;
-          };
-          placed = refl;
-        },
-        tt,
-      ),
-    ),
-  );
-}
+-- ---- differences of 0, 1 and -1
 
-has-samples : HasSamples 3 three_header
-has-samples = record {
-  lossless = refl;
-  least = omega arith;
-  most = omega arith;
-  counted = inr (inl refl);
-  upsampled = (
-    inl (inl refl, inl refl),
-    (inl (inl refl, inl refl), (inl (inl refl, inl refl), tt)),
-  );
-}
+abbrev is_small : ℕ → Bool
+is_small zero = true
+is_small (suc zero) = true
+is_small (suc (suc n)) = suc (suc n) == 65535
 
-third-header : IsScan frame third_scan
-unfolding AreChoices frame_of component_of
-third-header = record {
-  some = omega arith;
-  most = omega arith;
-  choices = (record { identified = refl; ordered = omega arith; dc_placed = omega arith; ac_placed = omega arith }, tt);
-  fits = refl;
-  narrow = omega arith;
-  precise = refl;
-  band = refl;
-}
-
-other-header : IsScan frame other_scan
-unfolding AreChoices frame_of component_of
-other-header = record {
-  some = omega arith;
-  most = omega arith;
-  choices = (
-    record { identified = refl; ordered = omega arith; dc_placed = omega arith; ac_placed = omega arith },
-    (record { identified = refl; ordered = omega arith; dc_placed = omega arith; ac_placed = omega arith }, tt),
-  );
-  fits = refl;
-  narrow = omega arith;
-  precise = refl;
-  band = refl;
-}
-
--- ---- the data
-
-one-least : (t : ℕ) → 1 < 2 ^ t → 1 ≤ t
-one-least zero h = absurd (omega arith)
-one-least (suc t) h = omega arith
-
-same : WritesDifference small_table 0 (false ∷ [])
-unfolding low_bits number_for lengths_from code_value residue
-same = record {
-  d = pos 0;
-  s = 0;
-  code = false ∷ [];
-  is = refl;
-  low = record { le = tt };
-  high = record { le = tt };
-  category = record { holds = omega arith; is_least = λ t h. omega arith };
-  coded = record { place = 0; listed = omega arith; is_for = refl; has_bits = refl };
-  has_bits = refl;
-}
-
-more : WritesDifference small_table 1 (true ∷ false ∷ true ∷ [])
-unfolding low_bits number_for lengths_from code_value residue
-more = record {
-  d = pos 1;
-  s = 1;
-  code = true ∷ false ∷ [];
-  is = refl;
-  low = record { le = tt };
-  high = record { le = tt };
-  category = record { holds = omega arith; is_least = one-least };
-  coded = record { place = 1; listed = omega arith; is_for = refl; has_bits = refl };
-  has_bits = refl;
-}
+abbrev small_bits : ℕ → List Bool
+small_bits zero = false ∷ []
+small_bits (suc zero) = true ∷ false ∷ true ∷ []
+small_bits (suc (suc n)) = true ∷ false ∷ false ∷ []
 
 less : WritesDifference small_table 65535 (true ∷ false ∷ false ∷ [])
 unfolding low_bits number_for lengths_from code_value residue
@@ -185,10 +84,72 @@ less = record {
   is = refl;
   low = record { le = tt };
   high = record { le = tt };
-  category = record { holds = omega arith; is_least = one-least };
+  category = category-by (negsuc 0) 1 refl;
   coded = record { place = 1; listed = omega arith; is_for = refl; has_bits = refl };
   has_bits = refl;
 }
+
+small-written : (r : ℕ) → is_small r ≡ true → WritesDifference small_table r (small_bits r)
+unfolding low_bits number_for lengths_from code_value residue
+small-written zero e = record {
+  d = pos 0;
+  s = 0;
+  code = false ∷ [];
+  is = refl;
+  low = record { le = tt };
+  high = record { le = tt };
+  category = category-by (pos 0) 0 refl;
+  coded = record { place = 0; listed = omega arith; is_for = refl; has_bits = refl };
+  has_bits = refl;
+}
+small-written (suc zero) e = record {
+  d = pos 1;
+  s = 1;
+  code = true ∷ false ∷ [];
+  is = refl;
+  low = record { le = tt };
+  high = record { le = tt };
+  category = category-by (pos 1) 1 refl;
+  coded = record { place = 1; listed = omega arith; is_for = refl; has_bits = refl };
+  has_bits = refl;
+}
+small-written (suc (suc n)) e = subst (λ (r : ℕ). WritesDifference small_table r (true ∷ false ∷ false ∷ []))
+    (sym (eqb-true (suc (suc n)) 65535 e)) less
+
+row-written : (rs : List ℕ) → list_all is_small rs ≡ true
+    → WritesRow (replicate (length rs) small_table) rs (flat_map small_bits rs)
+row-written [] e = none
+row-written (r ∷ rs) e =
+    let both = and_parts (is_small r) (list_all is_small rs) e in
+    one small_table (replicate (length rs) small_table) r rs (small_bits r) (flat_map small_bits rs)
+    (small-written r both.0) (row-written rs both.1)
+
+abbrev row_bits : List ℕ → List Bool
+row_bits rs = flat_map small_bits rs ++ []
+
+-- an interval of one row of MCUs
+row-interval : (w : Way) (lines : List (List (List ℕ))) (rs data_bytes : List ℕ)
+    → row_tables w.wide (mcu_tables w.parts) ≡ replicate (length rs) small_table → list_all is_small rs ≡ true
+    → bits_of_bytes data_bytes ≡ row_bits rs ++ drop (length (row_bits rs)) (bits_of_bytes data_bytes)
+    → nat_le (length (drop (length (row_bits rs)) (bits_of_bytes data_bytes))) 7 ≡ true
+    → HaveDifferences w 0 w.parts lines (rs ∷ []) → AreGrids w w.parts lines
+    → WritesInterval w 1 lines (stuffed data_bytes)
+row-interval w lines rs data_bytes tables small whole short placed sized = record {
+  rows = rs ∷ [];
+  bits = row_bits rs;
+  filling = drop (length (row_bits rs)) (bits_of_bytes data_bytes);
+  data_bytes = data_bytes;
+  count = refl;
+  sized = sized;
+  placed = placed;
+  coded = subst (λ (ts : List Table). WritesRows ts (rs ∷ []) (row_bits rs)) (sym tables)
+      (row rs [] (flat_map small_bits rs) [] (row-written rs small) no_row);
+  is_short = leb-true (length (drop (length (row_bits rs)) (bits_of_bytes data_bytes))) 7 short;
+  whole = whole;
+  has_bytes = refl;
+}
+
+-- ---- factors of 1
 
 -- a component, which has this identifier
 abbrev coding : ℕ → ℕ → LosslessCoding
@@ -198,7 +159,7 @@ coding identifier place = record {
   table = small_table;
 }
 
-third-written : WritesScan said_3 frame third_scan three_samples third_data
+third-written : WritesScan (said three_header) (frame_by three_header) third_scan three_samples third_data
 unfolding frame_of component_of nothing_found updated three_samples AreCodings HoldSamples mcus_across mcus_down
     parts_of mcu_tables row_tables strand strands
     lines_in first_differences rest_differences differences_below differences_of HaveDifferences residue stuffed
@@ -212,35 +173,14 @@ third-written = record {
   held = (refl, tt);
   written = another 0 0 2 (((128 ∷ 129 ∷ []) ∷ []) ∷ []) (((128 ∷ 128 ∷ []) ∷ []) ∷ []) (0x5F ∷ []) (0x3F ∷ [])
       (omega arith)
-      (record {
-        rows = (0 ∷ 1 ∷ []) ∷ [];
-        bits = false ∷ true ∷ false ∷ true ∷ [];
-        filling = true ∷ true ∷ true ∷ true ∷ [];
-        data_bytes = 0x5F ∷ [];
-        count = refl;
-        sized = (((refl, (omega arith, (omega arith, tt))), tt), tt);
-        placed = (refl, tt);
-        coded = row _ [] _ [] (one small_table _ 0 _ _ _ same (one small_table [] 1 [] _ [] more none)) no_row;
-        is_short = omega arith;
-        whole = refl;
-        has_bytes = refl;
-      })
-      (last 1 1 (((128 ∷ 128 ∷ []) ∷ []) ∷ []) (0x3F ∷ []) (omega arith) (record {
-        rows = (0 ∷ 0 ∷ []) ∷ [];
-        bits = false ∷ false ∷ [];
-        filling = true ∷ true ∷ true ∷ true ∷ true ∷ true ∷ [];
-        data_bytes = 0x3F ∷ [];
-        count = refl;
-        sized = (((refl, (omega arith, (omega arith, tt))), tt), tt);
-        placed = (refl, tt);
-        coded = row _ [] _ [] (one small_table _ 0 _ _ _ same (one small_table [] 0 [] _ [] same none)) no_row;
-        is_short = omega arith;
-        whole = refl;
-        has_bytes = refl;
-      }));
+      (row-interval _ _ (0 ∷ 1 ∷ []) (0x5F ∷ []) refl refl refl refl (refl, tt)
+      (((refl, (omega arith, (omega arith, tt))), tt), tt))
+      (last 1 1 _ _ (omega arith)
+      (row-interval _ _ (0 ∷ 0 ∷ []) (0x3F ∷ []) refl refl refl refl (refl, tt)
+      (((refl, (omega arith, (omega arith, tt))), tt), tt)));
 }
 
-other-written : WritesScan said_4 frame other_scan three_samples other_data
+other-written : WritesScan (scanned three_header) (frame_by three_header) other_scan three_samples other_data
 unfolding frame_of component_of nothing_found updated three_samples AreCodings HoldSamples mcus_across mcus_down
     parts_of mcu_tables row_tables strand strands
     lines_in first_differences rest_differences differences_below differences_of HaveDifferences residue stuffed
@@ -257,56 +197,27 @@ other-written = record {
   held = (refl, (refl, tt));
   written = another 0 0 2 (((129 ∷ 129 ∷ []) ∷ []) ∷ ((128 ∷ 128 ∷ []) ∷ []) ∷ []) (((128 ∷ 128 ∷ []) ∷ [])
       ∷ ((129 ∷ 128 ∷ []) ∷ []) ∷ []) (0xA3 ∷ []) (0x54 ∷ []) (omega arith)
-      (record {
-        rows = (1 ∷ 0 ∷ 0 ∷ 0 ∷ []) ∷ [];
-        bits = true ∷ false ∷ true ∷ false ∷ false ∷ false ∷ [];
-        filling = true ∷ true ∷ [];
-        data_bytes = 0xA3 ∷ [];
-        count = refl;
-        sized = (((refl, (omega arith, (omega arith, tt))), tt), (((refl, (omega arith, (omega arith, tt))), tt), tt));
-        placed = (refl, (refl, tt));
-        coded = row _ [] _ [] (one small_table _ 1 _ _ _ more (one small_table _ 0 _ _ _ same
-            (one small_table _ 0 _ _ _ same (one small_table [] 0 [] _ [] same none)))) no_row;
-        is_short = omega arith;
-        whole = refl;
-        has_bytes = refl;
-      })
-      (last 1 1 (((128 ∷ 128 ∷ []) ∷ []) ∷ ((129 ∷ 128 ∷ []) ∷ []) ∷ []) (0x54 ∷ []) (omega arith) (record {
-        rows = (0 ∷ 1 ∷ 0 ∷ 65535 ∷ []) ∷ [];
-        bits = false ∷ true ∷ false ∷ true ∷ false ∷ true ∷ false ∷ false ∷ [];
-        filling = [];
-        data_bytes = 0x54 ∷ [];
-        count = refl;
-        sized = (((refl, (omega arith, (omega arith, tt))), tt), (((refl, (omega arith, (omega arith, tt))), tt), tt));
-        placed = (refl, (refl, tt));
-        coded = row _ [] _ [] (one small_table _ 0 _ _ _ same (one small_table _ 1 _ _ _ more
-            (one small_table _ 0 _ _ _ same (one small_table [] 65535 [] _ [] less none)))) no_row;
-        is_short = omega arith;
-        whole = refl;
-        has_bytes = refl;
-      }));
+      (row-interval _ _ (1 ∷ 0 ∷ 0 ∷ 0 ∷ []) (0xA3 ∷ []) refl refl refl refl (refl, (refl, tt))
+      (((refl, (omega arith, (omega arith, tt))), tt), (((refl, (omega arith, (omega arith, tt))), tt), tt)))
+      (last 1 1 _ _ (omega arith)
+      (row-interval _ _ (0 ∷ 1 ∷ 0 ∷ 65535 ∷ []) (0x54 ∷ []) refl refl refl refl (refl, (refl, tt))
+      (((refl, (omega arith, (omega arith, tt))), tt), (((refl, (omega arith, (omega arith, tt))), tt), tt))));
 }
 
--- ---- the stream
-
 pub three-written : AreWritten three_samples three_bytes
-unfolding nothing_found frame_of
+unfolding nothing_found frame_of codes_exist lengths_from code_value
 three-written = record {
-  final = said_after_scan said_4;
+  final = scanned three_header;
   written = record {
     after = _;
     starts = refl;
     written =
-        segment nothing_found (said_after_scan said_4) [] 0 (Header 3 three_header) _ (
-          (refl, header-written),
-          has-samples,
-        ) (
-        segment said_1 (said_after_scan said_4) [] 0 table_segment _ ((table-written _, tt), tt) (
-        segment said_2 (said_after_scan said_4) [] 1 (Interval 2) _ (tt, tt) (
-        scan said_3 (said_after_scan said_4) [] frame 0 third_scan third_data _ refl refl third-header third-written (
-        scan said_4 (said_after_scan said_4) (2 ∷ []) frame 0 other_scan other_data _ refl refl other-header
-        other-written (
-        closed (said_after_scan said_4) (0 ∷ 1 ∷ 2 ∷ []) frame 0 refl refl (
+        segment nothing_found _ [] 0 (Header 3 three_header) _ ((refl, frame-by 3 three_header refl), have-samples.0) (
+        segment (framed three_header) _ [] 0 table_segment _ ((table-by _ _ (omega arith) refl, tt), tt) (
+        segment (tabled three_header) _ [] 1 (Interval 2) _ (tt, tt) (
+        scan (said three_header) _ [] _ 0 third_scan third_data _ refl refl are-scans.0 third-written (
+        scan (scanned three_header) _ (2 ∷ []) _ 0 other_scan other_data _ refl refl are-scans.1 other-written (
+        closed (scanned three_header) (0 ∷ 1 ∷ 2 ∷ []) (frame_by three_header) 0 refl refl (
           inl refl,
           (inr (inl refl), (inr (inr (inl refl)), tt)),
         ))))));
@@ -314,107 +225,6 @@ three-written = record {
 }
 
 -- ---- with padding
-
-abbrev padded_frame : Frame
-padded_frame = frame_written 3 padded_header
-
-abbrev padded_1 : Found
-padded_1 = found_after nothing_found (Header 3 padded_header)
-
-abbrev padded_2 : Found
-padded_2 = found_after padded_1 table_segment
-
-abbrev padded_3 : Found
-padded_3 = found_after padded_2 (Interval 2)
-
-abbrev padded_4 : Found
-padded_4 = said_after_scan padded_3
-
-padded-header : IsFrame 3 padded_header
-unfolding AreComponents
-padded-header = record {
-  numbered = omega arith;
-  precise = refl;
-  wide = omega arith;
-  high = omega arith;
-  counted = refl;
-  components = (
-    record {
-      is_new = refl;
-      ranged = record {
-        horizontal_some = omega arith;
-        horizontal_most = omega arith;
-        vertical_some = omega arith;
-        vertical_most = omega arith;
-      };
-      placed = refl;
-    },
-    (
-      record {
-        is_new = refl;
-        ranged = record {
-          horizontal_some = omega arith;
-          horizontal_most = omega arith;
-          vertical_some = omega arith;
-          vertical_most = omega arith;
-        };
-        placed = refl;
-      },
-      (
-        record {
-          is_new = refl;
-          ranged = record {
-            horizontal_some = omega arith;
-            horizontal_most = omega arith;
-            vertical_some = omega arith;
-            vertical_most = omega arith;
-          };
-          placed = refl;
-        },
-        tt,
-      ),
-    ),
-  );
-}
-
-padded-accepted : HasSamples 3 padded_header
-padded-accepted = record {
-  lossless = refl;
-  least = omega arith;
-  most = omega arith;
-  counted = inr (inl refl);
-  upsampled = (
-    inl (inl refl, inl refl),
-    (inl (inr (inl refl), inr (inl refl)), (inl (inr (inl refl), inr (inl refl)), tt)),
-  );
-}
-
-padded-first : IsScan padded_frame padded_scan
-unfolding AreChoices frame_of component_of
-padded-first = record {
-  some = omega arith;
-  most = omega arith;
-  choices = (
-    record { identified = refl; ordered = omega arith; dc_placed = omega arith; ac_placed = omega arith },
-    (record { identified = refl; ordered = omega arith; dc_placed = omega arith; ac_placed = omega arith }, tt),
-  );
-  fits = refl;
-  narrow = omega arith;
-  precise = refl;
-  band = refl;
-}
-
-padded-second : IsScan padded_frame lone_scan
-unfolding AreChoices frame_of component_of
-padded-second = record {
-  some = omega arith;
-  most = omega arith;
-  choices = (record { identified = refl; ordered = omega arith; dc_placed = omega arith; ac_placed = omega arith }, tt);
-  fits = refl;
-  narrow = omega arith;
-  precise = refl;
-  band = refl;
-}
 
 -- a component of that frame, by its factors
 abbrev coding_by : Factors → ℕ → LosslessCoding
@@ -429,7 +239,7 @@ abbrev lower : List (List (List ℕ))
 lower =
     ((128 ∷ 127 ∷ 127 ∷ 127 ∷ []) ∷ (127 ∷ 128 ∷ 127 ∷ 126 ∷ []) ∷ []) ∷ ((127 ∷ 127 ∷ []) ∷ []) ∷ []
 
-padded-written : WritesScan padded_3 padded_frame padded_scan padded_samples padded_data
+padded-written : WritesScan (said padded_header) (frame_by padded_header) padded_scan padded_samples padded_data
 unfolding frame_of component_of nothing_found updated padded_samples AreCodings HoldSamples mcus_across mcus_down
     parts_of mcu_tables row_tables strand strands
     lines_in first_differences rest_differences differences_below differences_of HaveDifferences residue stuffed
@@ -445,60 +255,26 @@ padded-written = record {
   lines = _;
   held = (refl, (refl, tt));
   written = another 0 0 2 upper lower (0xA8 ∷ 0x49 ∷ 0x6D ∷ []) (0x49 ∷ 0x60 ∷ 0x8F ∷ []) (omega arith)
-      (record {
-        rows = (1 ∷ 0 ∷ 65535 ∷ 0 ∷ 0 ∷ 65535 ∷ 65535 ∷ 1 ∷ 1 ∷ 1 ∷ []) ∷ [];
-        bits = true ∷ false ∷ true ∷ false ∷ true ∷ false ∷ false ∷ false ∷ false
-            ∷ true ∷ false ∷ false ∷ true ∷ false ∷ false ∷ true ∷ false ∷ true ∷ true ∷ false ∷ true
-            ∷ true ∷ false ∷ true ∷ [];
-        filling = [];
-        data_bytes = 0xA8 ∷ 0x49 ∷ 0x6D ∷ [];
-        count = refl;
-        sized = (
-          (
-            (refl, (omega arith, (omega arith, (omega arith, (omega arith, tt))))),
-            ((refl, (omega arith, (omega arith, (omega arith, (omega arith, tt))))), tt),
-          ),
-          (((refl, (omega arith, (omega arith, tt))), tt), tt),
-        );
-        placed = (refl, (refl, tt));
-        coded = row _ [] _ [] (
-            one small_table _ 1 _ _ _ more (one small_table _ 0 _ _ _ same (one small_table _ 65535 _ _ _ less
-            (one small_table _ 0 _ _ _ same (one small_table _ 0 _ _ _ same (one small_table _ 65535 _ _ _ less
-            (one small_table _ 65535 _ _ _ less (one small_table _ 1 _ _ _ more (one small_table _ 1 _ _ _ more
-            (one small_table [] 1 [] _ [] more none))))))))))
-            no_row;
-        is_short = omega arith;
-        whole = refl;
-        has_bytes = refl;
-      })
-      (last 1 1 lower (0x49 ∷ 0x60 ∷ 0x8F ∷ []) (omega arith) (record {
-        rows = (0 ∷ 65535 ∷ 65535 ∷ 1 ∷ 65535 ∷ 0 ∷ 0 ∷ 0 ∷ 65535 ∷ 0 ∷ []) ∷ [];
-        bits = false ∷ true ∷ false ∷ false ∷ true ∷ false ∷ false ∷ true ∷ false ∷ true ∷ true ∷ false ∷ false
-            ∷ false ∷ false ∷ false ∷ true ∷ false ∷ false ∷ false ∷ [];
-        filling = true ∷ true ∷ true ∷ true ∷ [];
-        data_bytes = 0x49 ∷ 0x60 ∷ 0x8F ∷ [];
-        count = refl;
-        sized = (
-          (
-            (refl, (omega arith, (omega arith, (omega arith, (omega arith, tt))))),
-            ((refl, (omega arith, (omega arith, (omega arith, (omega arith, tt))))), tt),
-          ),
-          (((refl, (omega arith, (omega arith, tt))), tt), tt),
-        );
-        placed = (refl, (refl, tt));
-        coded = row _ [] _ [] (
-            one small_table _ 0 _ _ _ same (one small_table _ 65535 _ _ _ less (one small_table _ 65535 _ _ _ less
-            (one small_table _ 1 _ _ _ more (one small_table _ 65535 _ _ _ less (one small_table _ 0 _ _ _ same
-            (one small_table _ 0 _ _ _ same (one small_table _ 0 _ _ _ same (one small_table _ 65535 _ _ _ less
-            (one small_table [] 0 [] _ [] same none))))))))))
-            no_row;
-        is_short = omega arith;
-        whole = refl;
-        has_bytes = refl;
-      }));
+      (row-interval _ _ (1 ∷ 0 ∷ 65535 ∷ 0 ∷ 0 ∷ 65535 ∷ 65535 ∷ 1 ∷ 1 ∷ 1 ∷ []) (0xA8 ∷ 0x49 ∷ 0x6D ∷ [])
+      refl refl refl refl (refl, (refl, tt)) (
+        (
+          (refl, (omega arith, (omega arith, (omega arith, (omega arith, tt))))),
+          ((refl, (omega arith, (omega arith, (omega arith, (omega arith, tt))))), tt),
+        ),
+        (((refl, (omega arith, (omega arith, tt))), tt), tt),
+      ))
+      (last 1 1 _ _ (omega arith)
+      (row-interval _ _ (0 ∷ 65535 ∷ 65535 ∷ 1 ∷ 65535 ∷ 0 ∷ 0 ∷ 0 ∷ 65535 ∷ 0 ∷ []) (0x49 ∷ 0x60 ∷ 0x8F ∷ [])
+      refl refl refl refl (refl, (refl, tt)) (
+        (
+          (refl, (omega arith, (omega arith, (omega arith, (omega arith, tt))))),
+          ((refl, (omega arith, (omega arith, (omega arith, (omega arith, tt))))), tt),
+        ),
+        (((refl, (omega arith, (omega arith, tt))), tt), tt),
+      )));
 }
 
-lone-written : WritesScan padded_4 padded_frame lone_scan padded_samples lone_data
+lone-written : WritesScan (scanned padded_header) (frame_by padded_header) lone_scan padded_samples lone_data
 unfolding frame_of component_of nothing_found updated padded_samples AreCodings HoldSamples mcus_across mcus_down
     parts_of mcu_tables row_tables strand strands
     lines_in first_differences rest_differences differences_below differences_of HaveDifferences residue stuffed
@@ -512,53 +288,28 @@ lone-written = record {
   held = (refl, tt);
   written = another 0 0 2 (((127 ∷ 127 ∷ []) ∷ []) ∷ []) (((129 ∷ 128 ∷ []) ∷ []) ∷ []) (0x8F ∷ []) (0xB3 ∷ [])
       (omega arith)
-      (record {
-        rows = (65535 ∷ 0 ∷ []) ∷ [];
-        bits = true ∷ false ∷ false ∷ false ∷ [];
-        filling = true ∷ true ∷ true ∷ true ∷ [];
-        data_bytes = 0x8F ∷ [];
-        count = refl;
-        sized = (((refl, (omega arith, (omega arith, tt))), tt), tt);
-        placed = (refl, tt);
-        coded = row _ [] _ [] (one small_table _ 65535 _ _ _ less (one small_table [] 0 [] _ [] same none)) no_row;
-        is_short = omega arith;
-        whole = refl;
-        has_bytes = refl;
-      })
-      (last 1 1 (((129 ∷ 128 ∷ []) ∷ []) ∷ []) (0xB3 ∷ []) (omega arith) (record {
-        rows = (1 ∷ 65535 ∷ []) ∷ [];
-        bits = true ∷ false ∷ true ∷ true ∷ false ∷ false ∷ [];
-        filling = true ∷ true ∷ [];
-        data_bytes = 0xB3 ∷ [];
-        count = refl;
-        sized = (((refl, (omega arith, (omega arith, tt))), tt), tt);
-        placed = (refl, tt);
-        coded = row _ [] _ [] (one small_table _ 1 _ _ _ more (one small_table [] 65535 [] _ [] less none)) no_row;
-        is_short = omega arith;
-        whole = refl;
-        has_bytes = refl;
-      }));
+      (row-interval _ _ (65535 ∷ 0 ∷ []) (0x8F ∷ []) refl refl refl refl (refl, tt)
+      (((refl, (omega arith, (omega arith, tt))), tt), tt))
+      (last 1 1 _ _ (omega arith)
+      (row-interval _ _ (1 ∷ 65535 ∷ []) (0xB3 ∷ []) refl refl refl refl (refl, tt)
+      (((refl, (omega arith, (omega arith, tt))), tt), tt)));
 }
 
 pub padding-written : AreWritten padded_samples padded_bytes
-unfolding nothing_found frame_of
+unfolding nothing_found frame_of codes_exist lengths_from code_value
 padding-written = record {
-  final = said_after_scan padded_4;
+  final = scanned padded_header;
   written = record {
     after = _;
     starts = refl;
     written =
-        segment nothing_found (said_after_scan padded_4) [] 0 (Header 3 padded_header) _ (
-          (refl, padded-header),
-          padded-accepted,
-        ) (
-        segment padded_1 (said_after_scan padded_4) [] 0 table_segment _ ((table-written _, tt), tt) (
-        segment padded_2 (said_after_scan padded_4) [] 0 (Interval 2) _ (tt, tt) (
-        scan padded_3 (said_after_scan padded_4) [] padded_frame 0 padded_scan padded_data _ refl refl padded-first
-        padded-written (
-        scan padded_4 (said_after_scan padded_4) (0 ∷ 1 ∷ []) padded_frame 0 lone_scan lone_data _ refl refl
-        padded-second lone-written (
-        closed (said_after_scan padded_4) (2 ∷ 0 ∷ 1 ∷ []) padded_frame 0 refl refl (
+        segment nothing_found _ [] 0 (Header 3 padded_header) _ ((refl, frame-by 3 padded_header refl), have-samples.1)
+        (
+        segment (framed padded_header) _ [] 0 table_segment _ ((table-by _ _ (omega arith) refl, tt), tt) (
+        segment (tabled padded_header) _ [] 0 (Interval 2) _ (tt, tt) (
+        scan (said padded_header) _ [] _ 0 padded_scan padded_data _ refl refl are-scans.2 padded-written (
+        scan (scanned padded_header) _ (0 ∷ 1 ∷ []) _ 0 lone_scan lone_data _ refl refl are-scans.3 lone-written (
+        closed (scanned padded_header) (2 ∷ 0 ∷ 1 ∷ []) (frame_by padded_header) 0 refl refl (
           inr (inl refl),
           (inr (inr (inl refl)), (inl refl, tt)),
         ))))));

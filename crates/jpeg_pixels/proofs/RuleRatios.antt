@@ -1,0 +1,154 @@
+-- How many outputs a sample stands for by the rule of its component, and that samples reach the last output.
+use Rattle.std.proofs.Common.{◌≡◌, ◌≤◌, ◌<◌, ℕ, zero, suc, ◌+◌, ◌-◌, ◌*◌, ◌/◌, ◌%◌, Bool, true, false, Option, Some, None}
+use Rattle.std.proofs.Common.{◌⊎◌, inl, inr, refl, ap, sym, ◌∙◌, subst, arith}
+use Rattle.std.specs.Prelude.{◌==◌, ◌&&◌, ◌||◌, if◌then◌else◌}
+use Rattle.std.proofs.Math.Nat.{add-mul, div-add-mod, mul_assoc, mul_comm, le_of_mul-le-mul_left, mul-le-mul}
+use Rattle.std.proofs.Math.Nat.{mul-le-mul_right}
+use Rattle.std.proofs.lemmas.Bool.{and_parts, eqb-true}
+use Rattle.jpeg_segments.specs.Frame.{ceiling}
+use Rattle.jpeg_segments.proofs.Ceilings.{ceiling-eights, ceiling-low, ceiling-le}
+use Rattle.jpeg_pixels.specs.declared.upsampler.UpsampleRule.{UpsampleRule}
+use Rattle.jpeg_pixels.specs.declared.upsampler.UpsampleRule.TheVariants.{H1V1, H2V1, H1V2, H2V2, Generic}
+use Rattle.jpeg_pixels.specs.Upsampling.{across, divides, down, rule_of}
+
+-- ---- samples at a scale
+
+pub some-ceiling : (a b : ℕ) → 0 < a → 0 < b → 0 < ceiling a b
+some-ceiling a b some h = go (ceiling a b) (ceiling-low a b h)
+  where
+    go : (c : ℕ) → a ≤ b * c → 0 < c
+    go zero le = absurd (let z : b * 0 ≡ 0 = omega arith in omega arith)
+    go (suc c) le = omega arith
+
+-- the samples of a line stand in its blocks
+pub in-blocks : (s size factor most : ℕ) → 0 < most
+    → ceiling (size * factor * s) (most * 8) ≤ (ceiling size (8 * most) * factor) * s
+in-blocks s size factor most some =
+    let b = ceiling size (8 * most) in
+    let low : size ≤ (8 * most) * b = ceiling-low size (8 * most) (omega arith) in
+    let wide : size * factor * s ≤ ((8 * most) * b) * factor * s = mul-le-mul_right s (mul-le-mul_right factor low) in
+    let e : ((8 * most) * b) * factor * s ≡ (most * 8) * ((b * factor) * s)
+    = ap (λ n. n * s) (mul_assoc (8 * most) b factor) ∙ (mul_assoc (8 * most) (b * factor) s
+    ∙ ap (λ n. n * ((b * factor) * s)) (mul_comm 8 most)) in
+    ceiling-le (size * factor * s) (most * 8) ((b * factor) * s) (omega arith) (omega (arith, wide, e))
+
+pub room-of : (columns lines stride most : ℕ) → 0 < lines → columns ≤ stride → lines ≤ most
+    → (lines - 1) * stride + columns ≤ most * stride
+room-of columns zero stride most some inside within = absurd (omega arith)
+room-of columns (suc k) stride most some inside within =
+    let less : (k + 1) * stride ≤ most * stride = mul-le-mul_right stride (omega arith) in
+    let e : (k + 1) * stride ≡ k * stride + 1 * stride = add-mul k 1 stride in
+    let z : suc k - 1 ≡ k = omega arith in
+    rw z (omega (arith, less, e, inside))
+
+-- ---- ratios
+
+-- k outputs a sample: the greatest factor is k times this one, or there is one output
+pub record Ratio (factor most outputs k : ℕ) : Type 0 where
+  pub some : 0 < k
+  pub is : (most ≡ factor * k) ⊎ ((outputs ≡ 1) × (k ≡ 1))
+
+-- the samples reach the last output
+pub reach-end : (size factor most s k : ℕ) → 0 < size → 0 < factor → 0 < most → 0 < s
+    → Ratio factor most (ceiling (size * s) 8) k
+    → ceiling (size * s) 8 ≤ k * ceiling (size * factor * s) (most * 8)
+reach-end size factor most s k hs hf hm ss r = go r.is
+  where
+    c : ℕ
+    c = ceiling (size * factor * s) (most * 8)
+
+    product : 0 < size * factor * s
+    product =
+        let a : 1 * 1 ≤ size * factor = mul-le-mul hs hf in
+        let one : 1 ≤ size * factor = omega arith in
+        let b : 1 * 1 ≤ size * factor * s = mul-le-mul one ss in
+        omega arith
+
+    go : (most ≡ factor * k) ⊎ ((ceiling (size * s) 8 ≡ 1) × (k ≡ 1))
+        → ceiling (size * s) 8 ≤ k * ceiling (size * factor * s) (most * 8)
+    go (inr e) =
+        let p = some-ceiling (size * factor * s) (most * 8) product (omega arith) in
+        let k1 = e.1 in
+        let q : k * ceiling (size * factor * s) (most * 8) ≡ 1 * ceiling (size * factor * s) (most * 8) =
+        ap (λ (x : ℕ). x * ceiling (size * factor * s) (most * 8)) k1 in
+        let e0 = e.0 in omega arith
+    go (inl e) =
+        let low : size * factor * s ≤ (most * 8) * c = ceiling-low (size * factor * s) (most * 8) (omega arith) in
+        let p : (most * 8) * c ≡ factor * (8 * (k * c))
+        = ap (λ n. n * 8 * c) e ∙ (ap (λ n. n * c) (mul_assoc factor k 8 ∙ ap (λ n. factor * n) (mul_comm k 8))
+        ∙ (mul_assoc factor (8 * k) c ∙ ap (λ n. factor * n) (mul_assoc 8 k c))) in
+        let q : size * factor * s ≡ factor * (size * s) = ap (λ n. n * s) (mul_comm size factor)
+        ∙ mul_assoc factor size s in
+        ceiling-le (size * s) 8 (k * c) (omega arith) (le_of_mul-le-mul_left (omega (arith, low, p, q)) hf)
+
+-- and at full size, which is scale 8
+pub reach-full : (size factor most k : ℕ) → 0 < size → 0 < factor → 0 < most → Ratio factor most size k
+    → size ≤ k * ceiling (size * factor) most
+reach-full size factor most k hs hf hm r =
+    let one : ceiling (size * 8) 8 ≡ size = omega arith in
+    let reach = reach-end size factor most 8 k hs hf hm (omega arith)
+    (subst (λ (n : ℕ). Ratio factor most n k) (sym one) r) in
+    subst (λ (n : ℕ). n ≤ k * ceiling (size * factor) most) one
+    (subst (λ (n : ℕ). ceiling (size * 8) 8 ≤ k * n) (ceiling-eights (size * factor) most hm) reach)
+
+-- ---- rules
+
+either : {A : Type 0} (a b : Bool) → (a ≡ true → A) → (b ≡ true → A) → (a || b) ≡ true → A
+either true b left right e = left refl
+either false b left right e = right e
+
+one-rule : (a b : UpsampleRule) → ◌≡◌ {A = Option UpsampleRule} (Some a) (Some b) → a ≡ b
+one-rule a b e = cc
+
+-- what holds of each rule that is chosen holds of the one that is
+chosen : (P : UpsampleRule → Type 0) (test : Bool) (rule other : UpsampleRule) (rest : Option UpsampleRule)
+    → (test ≡ true → P other) → (rest ≡ Some rule → P rule) → (if test then Some other else rest) ≡ Some rule → P rule
+chosen P true rule other rest first others e = subst P (one-rule other rule e) (first refl)
+chosen P false rule other rest first others e = others e
+
+ratio-1 : (h m n : ℕ) → (h == m || n == 1) ≡ true → Ratio h m n 1
+ratio-1 h m n = either (h == m) (n == 1)
+    (λ e. let p : h ≡ m = eqb-true h m e in record { some = omega arith; is = inl (omega arith) })
+    (λ e. record { some = omega arith; is = inr (eqb-true n 1 e, refl) })
+
+ratio-2 : (h m n : ℕ) → (2 * h == m) ≡ true → Ratio h m n 2
+ratio-2 h m n e = let p : 2 * h ≡ m = eqb-true (2 * h) m e in record { some = omega arith; is = inl (omega arith) }
+
+ratio-any : (h m n : ℕ) → 0 < m → divides h m ≡ true → Ratio h m n (m / h)
+ratio-any h m n some e =
+    let none : m % h ≡ 0 = eqb-true (m % h) 0 e in
+    let d : h * (m / h) + m % h ≡ m = div-add-mod m h in
+    record { some = go (m / h) (omega arith); is = inl (omega arith) }
+  where
+    go : (k : ℕ) → m ≡ h * k → 0 < k
+    go zero p = absurd (omega arith)
+    go (suc k) p = omega arith
+
+pub record Ratios (h v mh mv width height : ℕ) (rule : UpsampleRule) : Type 0 where
+  pub columns : Ratio h mh width (across rule)
+  pub lines : Ratio v mv height (down rule)
+
+no-rule : (rule : UpsampleRule) → ◌≡◌ {A = Option UpsampleRule} None (Some rule) → ⊥
+no-rule rule e = cc
+
+pub rule-ratios : (h v mh mv width height : ℕ) (rule : UpsampleRule) → 0 < mh → 0 < mv
+    → rule_of h v mh mv width height ≡ Some rule → Ratios h v mh mv width height rule
+unfolding rule_of
+rule-ratios h v mh mv width height rule sh sv =
+    let h1 = h == mh || width == 1 in
+    let v1 = v == mv || height == 1 in
+    let h2 = 2 * h == mh in
+    let v2 = 2 * v == mv in
+    let P = Ratios h v mh mv width height in
+    chosen P (h1 && v1) rule H1V1 _
+    (λ e. let p = and_parts h1 v1 e in record { columns = ratio-1 h mh width p.0; lines = ratio-1 v mv height p.1 })
+    (chosen P (h2 && v1) rule H2V1 _
+    (λ e. let p = and_parts h2 v1 e in record { columns = ratio-2 h mh width p.0; lines = ratio-1 v mv height p.1 })
+    (chosen P (h1 && v2) rule H1V2 _
+    (λ e. let p = and_parts h1 v2 e in record { columns = ratio-1 h mh width p.0; lines = ratio-2 v mv height p.1 })
+    (chosen P (h2 && v2) rule H2V2 _
+    (λ e. let p = and_parts h2 v2 e in record { columns = ratio-2 h mh width p.0; lines = ratio-2 v mv height p.1 })
+    (chosen P (divides h mh && divides v mv) rule (Generic (mh / h) (mv / v)) None
+    (λ e. let p = and_parts (divides h mh) (divides v mv) e in
+    record { columns = ratio-any h mh width sh p.0; lines = ratio-any v mv height sv p.1 })
+    (λ e. absurd (no-rule rule e))))))
