@@ -12,24 +12,24 @@ use Rattle.jpeg_segments.proofs.Fields.{read-on, not-refused, kept, u16-read}
 
 -- ---- steps of a reader that accepts
 
-err-ok : {C : Type 0} (x : Fault) (r : C) → ◌≡◌ {A = Result C Fault} (Err x) (Ok r) → ⊥
+pub err-ok : {C : Type 0} (x : Fault) (r : C) → ◌≡◌ {A = Result C Fault} (Err x) (Ok r) → ⊥
 err-ok x r e = cc
 
-ok-same : {C : Type 0} (x r : C) → ◌≡◌ {A = Result C Fault} (Ok x) (Ok r) → x ≡ r
+pub ok-same : {C : Type 0} (x r : C) → ◌≡◌ {A = Result C Fault} (Ok x) (Ok r) → x ≡ r
 ok-same x r e = cc
 
 -- what a step gave, and the rest
-bind-ok : {A B : Type 0} (o : Result A Fault) (f : A → Result B Fault) (y : B) → (o >>= f) ≡ Ok y
+pub bind-ok : {A B : Type 0} (o : Result A Fault) (f : A → Result B Fault) (y : B) → (o >>= f) ≡ Ok y
     → (x : A) × (o ≡ Ok x) × (f x ≡ Ok y)
 bind-ok (Ok x) f y e = (x, refl, e)
 bind-ok (Err x) f y e = absurd (err-ok x y e)
 
-kept-if : {C : Type 0} (b : Bool) (x : Result C Fault) (f : Fault) (r : C)
+pub kept-if : {C : Type 0} (b : Bool) (x : Result C Fault) (f : Fault) (r : C)
     → cond b x (Err f) ≡ Ok r → (b ≡ true) × (x ≡ Ok r)
 kept-if true x f r e = (refl, e)
 kept-if false x f r e = absurd (err-ok f r e)
 
-kept-unless : {C : Type 0} (b : Bool) (x : Result C Fault) (f : Fault) (r : C)
+pub kept-unless : {C : Type 0} (b : Bool) (x : Result C Fault) (f : Fault) (r : C)
     → cond b (Err f) x ≡ Ok r → (b ≡ false) × (x ≡ Ok r)
 kept-unless false x f r e = (refl, e)
 kept-unless true x f r e = absurd (err-ok f r e)

@@ -33,7 +33,7 @@ use Rattle.jpeg_streams.proofs.AcceptedStreams.WritesScans.{segment, scan, close
 use Rattle.jpeg_streams.specs.Levels.{Levels}
 use Rattle.jpeg_bits.specs.Written.{marker}
 use Rattle.jpeg_lossless.specs.Written.{IsMarker}
-pub use Rattle.jpeg_segments.proofs.OnlyWritten.{ok-same, bind-ok}
+pub use Rattle.jpeg_segments.proofs.Codecs.{err-ok, ok-same, bind-ok}
 use Rattle.jpeg_streams.proofs.OwnSpots.{At}
 use Rattle.jpeg_streams.proofs.ReadStates.{reading}
 
@@ -74,9 +74,6 @@ stands-next fill code m bytes h =
     }
 
 -- ---- steps
-
-pub err-ok : {C : Type 0} (x : Fault) (r : C) → ◌≡◌ {A = Result C Fault} (Err x) (Ok r) → ⊥
-err-ok x r e = cc
 
 pub then-ok : {A B : Type 0} (o : Result A Fault) (f : A → Result B Fault) (x : A) (y : Result B Fault) → o ≡ Ok x
     → f x ≡ y → (o >>= f) ≡ y

@@ -22,7 +22,7 @@ use Rattle.jpeg_streams.specs.InTurn as fitted
 use Rattle.jpeg_streams.proofs.FrameFits.{frames-fit}
 use Rattle.jpeg_streams.proofs.OwnSpots.{At, Fits}
 use Rattle.jpeg_streams.proofs.WrittenFrameScans.{at-all}
-use Rattle.jpeg_segments.proofs.OnlyWritten.{bind-ok, kept-if as if-ok, kept-unless as unless-ok}
+use Rattle.jpeg_segments.proofs.Codecs.{bind-ok, kept-if as if-ok, kept-unless as unless-ok}
 use Rattle.jpeg_streams.proofs.BroughtLevels.{Made, Shaped}
 
 -- ---- rounding up

@@ -27,7 +27,7 @@ use Rattle.jpeg_streams.proofs.Apart.{zeros-sized}
 use Rattle.jpeg_streams.proofs.FrameFits.{scaled-frames-fit}
 use Rattle.jpeg_streams.proofs.ScaledCovers.{frames-have-sources}
 pub use Rattle.jpeg_streams.proofs.FrameShapes.{accepted-facts, count-few}
-use Rattle.jpeg_segments.proofs.OnlyWritten.{kept-unless as unless-ok}
+use Rattle.jpeg_segments.proofs.Codecs.{kept-unless as unless-ok}
 
 -- ---- frames
 
