@@ -92,7 +92,8 @@ bind {C = C} {p = p} {view = view} {print = print} {print' = print'} q c d = rec
 -- where a rule is kept
 pub check-if : {A C : Type 0} {p : List ℕ → Outcome C} {view : A → C} {print : A → List ℕ}
     {Valid : A → Type 0} (b : Bool) (f : Fault) → Codec p view print Valid
-    → Codec (λ (bytes : List ℕ). cond b (p bytes) (Err f)) view print (λ (x : A). (b ≡ true) × Valid x)
+    → Codec (λ (bytes : List ℕ). cond b (p bytes) (Err f)) view print
+    (λ (x : A). (b ≡ true) × Valid x)
 check-if {p = p} b f c = record {
   reads = λ x rest is. kept b _ (Err f) is.0 ∙ c.reads x rest is.1;
   only = λ bytes rest y all e.
@@ -103,7 +104,8 @@ check-if {p = p} b f c = record {
 
 pub check-unless : {A C : Type 0} {p : List ℕ → Outcome C} {view : A → C} {print : A → List ℕ}
     {Valid : A → Type 0} (b : Bool) (f : Fault) → Codec p view print Valid
-    → Codec (λ (bytes : List ℕ). cond b (Err f) (p bytes)) view print (λ (x : A). (b ≡ false) × Valid x)
+    → Codec (λ (bytes : List ℕ). cond b (Err f) (p bytes)) view print
+    (λ (x : A). (b ≡ false) × Valid x)
 check-unless {p = p} b f c = record {
   reads = λ x rest is. not-refused b (Err f) _ is.0 ∙ c.reads x rest is.1;
   only = λ bytes rest y all e.
@@ -140,6 +142,12 @@ pub record As {A A' C : Type 0} (view : A → C) (print : A → List ℕ) (view'
   pub valid : Valid' value
   pub made : view x ≡ view' value
   pub printed : print x ≡ print' value
+
+pub namely : {A A' C : Type 0} {view : A → C} {print : A → List ℕ} {view' : A' → C}
+    {print' : A' → List ℕ} {Valid' : A' → Type 0} {x : A} (value : A') → Valid' value
+    → view x ≡ view' value → print x ≡ print' value → As view print view' print' Valid' x
+namely value valid made printed =
+    record { value = value; valid = valid; made = made; printed = printed }
 
 -- the same for other parameters
 pub remap : {A A' C : Type 0} {p : List ℕ → Outcome C} {view : A → C} {print : A → List ℕ}
@@ -186,12 +194,13 @@ refused f none = record {
 pub ends : {A C D : Type 0} {p : List ℕ → Outcome C} {view : A → C} {print : A → List ℕ}
     {Valid : A → Type 0} {f : A → D} {W : A → Type 0} (q : C → List ℕ → Outcome D)
     → Codec p view print Valid
-    → ((a : A) → Codec (q (view a)) (λ (u : Unit {0}). f a) (λ (u : Unit {0}). []) (λ (u : Unit {0}). W a))
+    → ((a : A) → Codec (q (view a)) (λ (u : Unit {0}). f a) (λ (u : Unit {0}). [])
+    (λ (u : Unit {0}). W a))
     → Codec (λ (bytes : List ℕ). p bytes >>= λ (x : C × List ℕ). q x.0 x.1) f print
     (λ (a : A). Valid a × W a)
 ends {print = print} q c d = remap (bind q c d)
-    (λ x is. record { value = x.0; valid = is; made = refl; printed = append-nil (print x.0) })
-    (λ x is. record { value = (x, tt); valid = is; made = refl; printed = sym (append-nil (print x)) })
+    (λ x is. namely x.0 is refl (append-nil (print x.0)))
+    (λ x is. namely (x, tt) is refl (sym (append-nil (print x))))
 
 -- ---- fields
 
@@ -235,16 +244,17 @@ u16 = record { reads = λ x rest is. u16-read x rest; only = go }
               ∙ ap (λ (r : List ℕ). y / 256 ∷ y % 256 ∷ r) (ap (λ q. q.1) same);
         }
 
-pub length-field : Codec length_at (λ (n : ℕ). n) (λ (n : ℕ). u16_bytes (n + 2)) (λ (n : ℕ). Unit {0})
+pub length-field : Codec length_at (λ (n : ℕ). n) (λ (n : ℕ). u16_bytes (n + 2))
+    (λ (n : ℕ). Unit {0})
 unfolding length_at
 length-field = remap (ends _ u16 (λ (n : ℕ). check-unless (ltb n 2) Malformed (done (n - 2))))
     (λ n is.
     let some : 2 ≤ n = ltb-false n 2 is.1.0 in
     let e : n ≡ n - 2 + 2 = omega arith in
-    record { value = n - 2; valid = tt; made = refl; printed = ap u16_bytes e })
+    namely (n - 2) tt refl (ap u16_bytes e))
     (λ n is.
     let e : n ≡ n + 2 - 2 = omega arith in
-    record { value = n + 2; valid = (tt, (le-ltb (n + 2) 2 (omega arith), tt)); made = e; printed = refl })
+    namely (n + 2) (tt, (le-ltb (n + 2) 2 (omega arith), tt)) e refl)
 
 -- a payload after its length
 pub segment : {A D : Type 0} {view : A → D} {print : A → List ℕ} {Valid : A → Type 0}
@@ -253,13 +263,38 @@ pub segment : {A D : Type 0} {view : A → D} {print : A → List ℕ} {Valid : 
     → Codec (λ (bytes : List ℕ). length_at bytes >>= λ (x : ℕ × List ℕ). q x.0 x.1) view
     (λ (x : A). sized (print x)) Valid
 segment {print = print} q c = remap (bind q length-field c)
-    (λ x is. record {
-      value = x.1;
-      valid = is.1.0;
-      made = refl;
-      printed = ap (λ (n : ℕ). u16_bytes (n + 2) ++ print x.1) (sym is.1.1);
-    })
-    (λ x is. record { value = (length (print x), x); valid = (tt, (is, refl)); made = refl; printed = refl })
+    (λ x is. namely x.1 is.1.0 refl (ap (λ (n : ℕ). u16_bytes (n + 2) ++ print x.1) (sym is.1.1)))
+    (λ x is. namely (length (print x), x) (tt, (is, refl)) refl refl)
+
+-- ---- lists
+
+-- none
+pub nil : {T C : Type 0} (print : T → List ℕ) (y : C) (view : List T → C) (Valid : List T → Type 0)
+    → y ≡ view [] → Valid [] → ((x : T) (xs : List T) → Valid (x ∷ xs) → ⊥)
+    → Codec (outcome y) view (flat_map print) Valid
+nil {T} print y view Valid e none more = remap (done y) (λ x is. namely [] none e refl) go
+  where
+    go : (xs : List T) → Valid xs
+        → As view (flat_map print) (λ (u : Unit {0}). y) (λ (u : Unit {0}). [])
+        (λ (u : Unit {0}). Unit {0}) xs
+    go [] is = namely tt tt (sym e) refl
+    go (x ∷ xs) is = absurd (more x xs is)
+
+-- one, and others
+pub cons : {T C : Type 0} {p : List ℕ → Outcome C} {said : T × List T → C}
+    {Both : T × List T → Type 0} (print : T → List ℕ) (view : List T → C) (Valid : List T → Type 0)
+    → Codec p said (λ (x : T × List T). print x.0 ++ flat_map print x.1) Both
+    → ((x : T) (xs : List T) → said (x, xs) ≡ view (x ∷ xs))
+    → ((x : T) (xs : List T) → Both (x, xs) → Valid (x ∷ xs)) → (Valid [] → ⊥)
+    → ((x : T) (xs : List T) → Valid (x ∷ xs) → Both (x, xs)) → Codec p view (flat_map print) Valid
+cons {T} {said = said} {Both = Both} print view Valid c equal to none from =
+    remap c (λ x is. namely (x.0 ∷ x.1) (to x.0 x.1 is) (equal x.0 x.1) refl) go
+  where
+    go : (xs : List T) → Valid xs
+        → As view (flat_map print) said (λ (x : T × List T). print x.0 ++ flat_map print x.1) Both
+        xs
+    go [] is = absurd (none is)
+    go (x ∷ xs) is = namely (x, xs) (from x xs is) (sym (equal x xs)) refl
 
 -- n values
 pub several : {A : Type 0} {p : List ℕ → Outcome A} {print : A → List ℕ} {Valid : A → Type 0}
@@ -267,31 +302,11 @@ pub several : {A : Type 0} {p : List ℕ → Outcome A} {print : A → List ℕ}
     → Codec (times n p) (λ (xs : List A). xs) (flat_map print)
     (λ (xs : List A). (length xs ≡ n) × AllByRecursion Valid xs)
 unfolding times
-several {A} {print = print} c zero = remap (done [])
-    (λ x is. record { value = []; valid = (refl, tt); made = refl; printed = refl })
-    (λ xs is. none xs is.0)
-  where
-    none : (xs : List A) → length xs ≡ 0 → As (λ (xs : List A). xs) (flat_map print) (λ (u : Unit {0}). []) (λ (u : Unit {0}). []) (λ (u : Unit {0}). Unit {0}) xs
-    none [] e = record { value = tt; valid = tt; made = refl; printed = refl }
-    none (x ∷ xs) e = absurd (omega (arith, e))
-several {A} {print = print} {Valid = Valid} c (suc n) =
-    remap (bind _ c (λ x. ends _ (several c n) (λ xs. done (x ∷ xs))))
-    (λ x is. record {
-      value = x.0 ∷ x.1;
-      valid = (ap suc is.1.0.0, (is.0, is.1.0.1));
-      made = refl;
-      printed = refl;
-    })
-    some
-  where
-    some : (xs : List A) → (length xs ≡ suc n) × AllByRecursion Valid xs → As (λ (xs : List A). xs) (flat_map print) (λ (x : A × List A). x.0 ∷ x.1) (λ (x : A × List A). print x.0 ++ flat_map print x.1) (λ (x : A × List A). Valid x.0 × (((length x.1 ≡ n) × AllByRecursion Valid x.1) × Unit {0})) xs
-    some [] e = absurd (omega (arith, e.0))
-    some (x ∷ xs) is = record {
-      value = (x, xs);
-      valid = (is.1.0, ((omega (arith, is.0), is.1.1), tt));
-      made = refl;
-      printed = refl;
-    }
+several c zero = nil _ [] _ _ refl (refl, tt) (λ x xs is. omega (arith, is.0))
+several c (suc n) = cons _ _ _ (bind _ c (λ x. ends _ (several c n) (λ xs. done (x ∷ xs))))
+    (λ x xs. refl)
+    (λ x xs is. (ap suc is.1.0.0, (is.0, is.1.0.1))) (λ is. omega (arith, is.0))
+    (λ x xs is. (is.1.0, ((omega (arith, is.0), is.1.1), tt)))
 
 pub units : {A : Type 0} (xs : List A) → AllByRecursion (λ (x : A). Unit {0}) xs
 units [] = tt
@@ -301,9 +316,8 @@ units (x ∷ xs) = (tt, units xs)
 pub many : (n : ℕ)
     → Codec (times n next_byte) (λ (xs : List ℕ). xs) (λ (xs : List ℕ). xs)
     (λ (xs : List ℕ). length xs ≡ n)
-many n = remap (several byte n)
-    (λ xs is. record { value = xs; valid = is.0; made = refl; printed = each xs })
-    (λ xs is. record { value = xs; valid = (is, units xs); made = refl; printed = sym (each xs) })
+many n = remap (several byte n) (λ xs is. namely xs is.0 refl (each xs))
+    (λ xs is. namely xs (is, units xs) refl (sym (each xs)))
   where
     each : (xs : List ℕ) → flat_map (λ (b : ℕ). b ∷ []) xs ≡ xs
     each [] = refl

@@ -1,15 +1,9 @@
 -- Fields that were written are read again.
-use Rattle.std.proofs.Common.{◌≡◌, ℕ, suc, ◌<◌, ◌+◌, ◌-◌, ◌*◌, ◌/◌, ◌%◌, Bool, true, false, cond, List, [], ◌∷◌, ◌++◌}
-use Rattle.std.proofs.Common.{length, Ok, Err, refl, ap, ◌∙◌, append_assoc, arith, ltb}
+use Rattle.std.proofs.Common.{◌≡◌, ℕ, ◌<◌, ◌+◌, ◌-◌, ◌*◌, ◌/◌, ◌%◌, Bool, true, false, cond, List, [], ◌∷◌, ◌++◌}
+use Rattle.std.proofs.Common.{length, Ok, Err, refl, ap, ◌∙◌, arith, ltb}
 use Rattle.std.proofs.lemmas.Bool.{le-ltb}
-use Rattle.std.specs.Prelude.{flat_map}
-use Rattle.std.specs.List.{AllByRecursion}
-use Rattle.jpeg_bits.specs.Reading.{Outcome, Malformed, ◌>>=◌, next_byte, next_u16, length_at, times, skip_at}
+use Rattle.jpeg_bits.specs.Reading.{Outcome, Malformed, ◌>>=◌, next_u16, length_at, skip_at}
 use Rattle.jpeg_segments.specs.WrittenSegments.{u16_bytes, sized, nibbles}
-
--- Of bytes that begin with these, these are read, and give x.
-pub record ReadsBytes {A : Type 0} (reader : List ℕ → Outcome A) (bytes : List ℕ) (x : A) : Type 0 where
-  pub read : (rest : List ℕ) → reader (bytes ++ rest) ≡ Ok (x, rest)
 
 -- ---- steps
 
@@ -53,24 +47,6 @@ nibbles-high high low h = omega arith
 
 pub nibbles-low : (high low : ℕ) → low < 16 → nibbles high low % 16 ≡ low
 nibbles-low high low h = omega arith
-
--- ---- several values
-
-pub times-read : {A : Type 0} (read : List ℕ → Outcome A) (bytes_of : A → List ℕ) (xs : List A) (rest : List ℕ)
-    → AllByRecursion (λ x. ReadsBytes read (bytes_of x) x) xs
-    → times (length xs) read (flat_map bytes_of xs ++ rest) ≡ Ok (xs, rest)
-unfolding times
-times-read read bytes_of [] rest all = refl
-times-read {A} read bytes_of (x ∷ xs) rest all =
-    let more = flat_map bytes_of xs ++ rest in
-    ap (times (suc (length xs)) read) (append_assoc (bytes_of x) (flat_map bytes_of xs) rest)
-    ∙ read-on (read (bytes_of x ++ more)) _ x more _ (all.0.read more)
-    (read-on (times (length xs) read more) _ xs rest _ (times-read read bytes_of xs rest all.1) refl)
-
-pub bytes-read : (xs : List ℕ) (rest : List ℕ) → times (length xs) next_byte (xs ++ rest) ≡ Ok (xs, rest)
-unfolding times
-bytes-read [] rest = refl
-bytes-read (x ∷ xs) rest = read-on (times (length xs) next_byte (xs ++ rest)) _ xs rest _ (bytes-read xs rest) refl
 
 pub skip-read : (xs : List ℕ) (rest : List ℕ) → skip_at (length xs) (xs ++ rest) ≡ Ok (tt, rest)
 unfolding skip_at

@@ -7,7 +7,7 @@ use Rattle.std.proofs.lemmas.Bool.{not-true, and_parts}
 use Rattle.std.specs.Prelude.{flat_map, not}
 use Rattle.jpeg_bits.specs.Reading.{Malformed, Lacks, ◌>>=◌}
 use Rattle.jpeg_bits.specs.declared.error.UnsupportedFeature.TheVariants.{DNL}
-use Rattle.jpeg_segments.specs.Frame.{Factors, Frame, Head, frame_of, is_factor, is_place}
+use Rattle.jpeg_segments.specs.Frame.{Factors, IsInRange, Frame, Head, frame_of, is_factor, is_place}
 use Rattle.jpeg_segments.specs.Frame.{is_lossless_number, is_taken, is_precision, is_count, parameters_at}
 use Rattle.jpeg_segments.specs.Frame.{factors_at, components_from, size_at, head_at, sof_at}
 use Rattle.jpeg_segments.specs.HuffmanTables.{greatest_place}
@@ -19,8 +19,8 @@ use Rattle.jpeg_segments.specs.WrittenSegments.{frame_payload, IsComponent, AreC
 use Rattle.jpeg_segments.specs.ScanHeaders.{Choice, ScanHeader, choice_bytes, scan_payload, selector_of}
 use Rattle.jpeg_segments.specs.ScanHeaders.{IsChoice, AreChoices, IsScan, scan_written}
 use Rattle.jpeg_segments.proofs.Fields.{nibbles-high, nibbles-low}
-use Rattle.jpeg_segments.proofs.Codecs.{Codec, As, bind, ends, check-if, check-unless, done, remap, refused}
-use Rattle.jpeg_segments.proofs.Codecs.{byte, u16, length-field}
+use Rattle.jpeg_segments.proofs.Codecs.{Codec, bind, ends, check-if, check-unless, done, remap, refused}
+use Rattle.jpeg_segments.proofs.Codecs.{namely, nil, cons, byte, u16, length-field}
 
 -- ---- frame headers
 
@@ -55,21 +55,15 @@ component number front = remap (bind _ byte (λ (i : ℕ). check-unless (is_take
     let h = factor-only (n / 16) is.1.1.1.0 in
     let v = factor-only (n % 16) is.1.1.1.1.0 in
     let code : n ≡ nibbles (n / 16) (n % 16) = omega arith in
-    record {
-      value = factors x.0 (n / 16) (n % 16) x.1.1;
-      valid = record {
-        is_new = is.1.0;
-        ranged = record {
-          horizontal_some = h.0;
-          horizontal_most = h.1;
-          vertical_some = v.0;
-          vertical_most = v.1;
-        };
-        placed = is.1.1.1.1.1.1.0;
-      };
-      made = refl;
-      printed = ap (λ (k : ℕ). x.0 ∷ k ∷ x.1.1 ∷ []) code;
-    })
+    let ranged : IsInRange (factors x.0 (n / 16) (n % 16) x.1.1) = record {
+      horizontal_some = h.0;
+      horizontal_most = h.1;
+      vertical_some = v.0;
+      vertical_most = v.1;
+    } in
+    namely (factors x.0 (n / 16) (n % 16) x.1.1)
+    (record { is_new = is.1.0; ranged = ranged; placed = is.1.1.1.1.1.1.0 }) refl
+    (ap (λ (k : ℕ). x.0 ∷ k ∷ x.1.1 ∷ []) code))
     (λ c is.
     let r = is.ranged in
     let h4 = r.horizontal_most in
@@ -77,24 +71,10 @@ component number front = remap (bind _ byte (λ (i : ℕ). check-unless (is_take
     let n : ℕ = nibbles c.horizontal c.vertical in
     let high : n / 16 ≡ c.horizontal = nibbles-high c.horizontal c.vertical (omega arith) in
     let low : n % 16 ≡ c.vertical = nibbles-low c.horizontal c.vertical (omega arith) in
-    record {
-      value = (c.identifier, (n, c.quantization));
-      valid = (
-        tt,
-        (
-          is.is_new,
-          (
-            tt,
-            (
-              ap is_factor high ∙ factor-kept c.horizontal r.horizontal_some h4,
-              (ap is_factor low ∙ factor-kept c.vertical r.vertical_some v4, (tt, (is.placed, tt))),
-            ),
-          ),
-        ),
-      );
-      made = ap₂ (λ (h v : ℕ). factors c.identifier h v c.quantization) (sym high) (sym low);
-      printed = refl;
-    })
+    let f = ap is_factor high ∙ factor-kept c.horizontal r.horizontal_some h4 in
+    let g = ap is_factor low ∙ factor-kept c.vertical r.vertical_some v4 in
+    namely (c.identifier, (n, c.quantization)) (tt, (is.is_new, (tt, (f, (g, (tt, (is.placed, tt)))))))
+    (ap₂ (λ (h v : ℕ). factors c.identifier h v c.quantization) (sym high) (sym low)) refl)
 
 -- n components after those in `front`
 abbrev Follow : ℕ → ℕ → List Factors → List Factors → Type 0
@@ -104,37 +84,12 @@ components : (number n : ℕ) (front : List Factors)
     → Codec (components_from (is_lossless_number number) n front) (λ (cs : List Factors). front ++ cs)
     (flat_map factors_bytes) (Follow number n front)
 unfolding components_from AreComponents
-components number zero front = remap (done front)
-    (λ x is. record { value = []; valid = (refl, tt); made = sym (append-nil front); printed = refl })
-    (λ cs is. none cs is.0)
-  where
-    none : (cs : List Factors) → length cs ≡ 0 → As (λ (cs : List Factors). front ++ cs)
-        (flat_map factors_bytes) (λ (u : Unit {0}). front) (λ (u : Unit {0}). [])
-        (λ (u : Unit {0}). Unit {0}) cs
-    none [] e = record { value = tt; valid = tt; made = append-nil front; printed = refl }
-    none (c ∷ cs) e = absurd (omega (arith, e))
-components number (suc n) front = remap (bind _ (component number front) (λ (c : Factors).
-    components number n (front ++ c ∷ [])))
-    (λ x is. record {
-      value = x.0 ∷ x.1;
-      valid = (ap suc is.1.0, (is.0, is.1.1));
-      made = append_assoc front (x.0 ∷ []) x.1;
-      printed = refl;
-    })
-    some
-  where
-    some : (cs : List Factors) → Follow number (suc n) front cs → As (λ (cs : List Factors). front ++ cs)
-        (flat_map factors_bytes) (λ (x : Factors × List Factors). (front ++ x.0 ∷ []) ++ x.1)
-        (λ (x : Factors × List Factors). factors_bytes x.0 ++ flat_map factors_bytes x.1)
-        (λ (x : Factors × List Factors).
-        IsComponent number front x.0 × Follow number n (front ++ x.0 ∷ []) x.1) cs
-    some [] is = absurd (omega (arith, is.0))
-    some (c ∷ cs) is = record {
-      value = (c, cs);
-      valid = (is.1.0, (omega (arith, is.0), is.1.1));
-      made = sym (append_assoc front (c ∷ []) cs);
-      printed = refl;
-    }
+components number zero front =
+    nil factors_bytes front _ _ (sym (append-nil front)) (refl, tt) (λ c cs is. omega (arith, is.0))
+components number (suc n) front = cons factors_bytes _ _
+    (bind _ (component number front) (λ (c : Factors). components number n (front ++ c ∷ [])))
+    (λ c cs. append_assoc front (c ∷ []) cs) (λ c cs is. (ap suc is.1.0, (is.0, is.1.1)))
+    (λ is. omega (arith, is.0)) (λ c cs is. (is.1.0, (omega (arith, is.0), is.1.1)))
 
 some-number : (n : ℕ) → eqb n 0 ≡ false → 0 < n
 some-number n e = let m = eqb-false n 0 e in grind (arith, m)
@@ -146,27 +101,11 @@ unfolding size_at
 size = remap (bind _ u16 (λ (height : ℕ). ends _ u16 (λ (width : ℕ).
     check-unless (eqb height 0) (Lacks DNL) (check-unless (eqb width 0) Malformed
     (done (width, height))))))
-    (λ x is. record {
-      value = (x.1, x.0);
-      valid = (some-number x.1 is.1.1.1.0, some-number x.0 is.1.1.0);
-      made = refl;
-      printed = refl;
-    })
-    (λ s is. record {
-      value = (s.1, s.0);
-      valid = (
-        tt,
-        (
-          tt,
-          (
-            ne_eqb s.1 0 (λ e. omega (arith, is.1, e)),
-            (ne_eqb s.0 0 (λ e. omega (arith, is.0, e)), tt),
-          ),
-        ),
-      );
-      made = refl;
-      printed = refl;
-    })
+    (λ x is. namely (x.1, x.0) (some-number x.1 is.1.1.1.0, some-number x.0 is.1.1.0) refl refl)
+    (λ s is.
+    let high = ne_eqb s.1 0 (λ e. omega (arith, is.1, e)) in
+    let wide = ne_eqb s.0 0 (λ e. omega (arith, is.0, e)) in
+    namely (s.1, s.0) (tt, (tt, (high, (wide, tt)))) refl refl)
 
 factors-length : (cs : List Factors) → length (flat_map factors_bytes cs) ≡ 3 * length cs
 factors-length [] = omega arith
@@ -201,32 +140,15 @@ head number = remap (bind _ length-field (λ (left : ℕ). check-unless (ltb lef
     let left : ℕ = x.0 in
     let count : ℕ = x.1.1.1 in
     let r = is.1.1.1.1 in
-    record {
-      value = head_of left x.1.0 x.1.1.0.0 x.1.1.0.1 count;
-      valid = (is.1.1.1.0, (r.0, (r.1.1.0, eqb-true left (6 + 3 * count) r.1.1.1.0)));
-      made = refl;
-      printed = refl;
-    })
+    let length_is = eqb-true left (6 + 3 * count) r.1.1.1.0 in
+    namely (head_of left x.1.0 x.1.1.0.0 x.1.1.0.1 count) (is.1.1.1.0, (r.0, (r.1.1.0, length_is)))
+    refl refl)
     (λ h is.
     let some : 1 ≤ h.count = count-some number h.count is.1.1.0 in
-    record {
-      value = (h.length, (h.precision, ((h.width, h.height), h.count)));
-      valid = (
-        tt,
-        (
-          le-ltb h.length 7 (omega (arith, some, is.1.1.1)),
-          (
-            tt,
-            (
-              is.0,
-              (is.1.0, (tt, (is.1.1.0, (eq-eqb h.length (6 + 3 * h.count) is.1.1.1, tt)))),
-            ),
-          ),
-        ),
-      );
-      made = refl;
-      printed = refl;
-    })
+    let enough = le-ltb h.length 7 (omega (arith, some, is.1.1.1)) in
+    let same = eq-eqb h.length (6 + 3 * h.count) is.1.1.1 in
+    namely (h.length, (h.precision, ((h.width, h.height), h.count)))
+    (tt, (enough, (tt, (is.0, (is.1.0, (tt, (is.1.1.0, (same, tt)))))))) refl refl)
 
 payload-length : (precision n : ℕ) (s : ℕ × ℕ) (cs : List Factors) → length cs ≡ n
     → length (fields precision s n ++ flat_map factors_bytes cs) ≡ 6 + 3 * n
@@ -246,41 +168,28 @@ sof number few = remap (bind (λ (h : Head) (bytes : List ℕ).
     let cs : List Factors = x.1 in
     let n : length cs ≡ h.count = is.1.0.0 in
     let long = payload-length h.precision h.count (h.width, h.height) cs n in
-    record {
-      value = record {
-        precision = h.precision;
-        width = h.width;
-        height = h.height;
-        components = cs;
-      };
-      valid = record {
-        numbered = few;
-        precise = is.0.0;
-        wide = is.0.1.0.0;
-        high = is.0.1.0.1;
-        counted = ap (is_count number) n ∙ is.0.1.1.0;
-        components = is.1.0.1;
-      };
-      made = refl;
-      printed = ap₂ (λ (m c : ℕ). u16_bytes (m + 2)
-          ++ (fields h.precision (h.width, h.height) c ++ flat_map factors_bytes cs))
-          (is.0.1.1.1 ∙ sym long) refl
-          ∙ ap (λ (c : ℕ). sized (fields h.precision (h.width, h.height) c
-          ++ flat_map factors_bytes cs)) (sym n);
-    })
+    namely
+    (record { precision = h.precision; width = h.width; height = h.height; components = cs })
+    (record {
+      numbered = few;
+      precise = is.0.0;
+      wide = is.0.1.0.0;
+      high = is.0.1.0.1;
+      counted = ap (is_count number) n ∙ is.0.1.1.0;
+      components = is.1.0.1;
+    }) refl
+    (ap (λ (m : ℕ). u16_bytes (m + 2)
+    ++ (fields h.precision (h.width, h.height) h.count ++ flat_map factors_bytes cs))
+    (is.0.1.1.1 ∙ sym long)
+    ∙ ap (λ (c : ℕ). sized (fields h.precision (h.width, h.height) c ++ flat_map factors_bytes cs))
+    (sym n)))
     (λ h is.
     let n : ℕ = length h.components in
-    record {
-      value = (head_of (6 + 3 * n) h.precision h.width h.height n, h.components);
-      valid = (
-        (is.precise, ((is.wide, is.high), (is.counted, refl))),
-        ((refl, is.components), tt),
-      );
-      made = refl;
-      printed = ap (λ (m : ℕ). u16_bytes (m + 2)
-          ++ (fields h.precision (h.width, h.height) n ++ flat_map factors_bytes h.components))
-          (payload-length h.precision n (h.width, h.height) h.components refl);
-    })
+    namely (head_of (6 + 3 * n) h.precision h.width h.height n, h.components)
+    ((is.precise, ((is.wide, is.high), (is.counted, refl))), ((refl, is.components), tt)) refl
+    (ap (λ (m : ℕ). u16_bytes (m + 2)
+    ++ (fields h.precision (h.width, h.height) n ++ flat_map factors_bytes h.components))
+    (payload-length h.precision n (h.width, h.height) h.components refl)))
 
 pub sof-read : (number : ℕ) (h : FrameHeader) (rest : List ℕ) → IsFrame number h
     → sof_at number (sized (frame_payload h) ++ rest)
@@ -323,21 +232,17 @@ destinations frame least identifier (Some place) =
     (λ n is.
     let code : n ≡ nibbles (n / 16) (n % 16) = omega arith in
     let most : ℕ = greatest_place (Some frame.is_baseline) in
-    record {
-      value = record { identifier = identifier; component = place; dc = n / 16; ac = n % 16 };
-      valid = (
+    namely (record { identifier = identifier; component = place; dc = n / 16; ac = n % 16 }) (
+      refl,
+      (
         refl,
         (
-          refl,
-          (
-            ltb-false place least is.0,
-            (ltb-false most (n / 16) is.1.1.0, ltb-false most (n % 16) is.1.1.1.0),
-          ),
+          ltb-false place least is.0,
+          (ltb-false most (n / 16) is.1.1.0, ltb-false most (n % 16) is.1.1.1.0),
         ),
-      );
-      made = refl;
-      printed = ap (λ (k : ℕ). k ∷ []) code;
-    })
+      ),
+    ) refl
+    (ap (λ (k : ℕ). k ∷ []) code))
     (λ c is.
     let most : ℕ = greatest_place (Some frame.is_baseline) in
     let small : most ≤ 3 = greatest-small frame.is_baseline in
@@ -347,19 +252,12 @@ destinations frame least identifier (Some place) =
     let a : c.ac ≤ most = is.1.1.1.1 in
     let high : n / 16 ≡ c.dc = nibbles-high c.dc c.ac (omega arith) in
     let low : n % 16 ≡ c.ac = nibbles-low c.dc c.ac (omega arith) in
-    record {
-      value = n;
-      valid = (
-        ap (λ (p : ℕ). ltb p least) at ∙ le-ltb c.component least is.1.1.0,
-        (
-          tt,
-          (ap (ltb most) high ∙ le-ltb most c.dc d, (ap (ltb most) low ∙ le-ltb most c.ac a, tt)),
-        ),
-      );
-      made = ap₂ (λ (d a : ℕ). selector frame c.component d a) (sym high) (sym low)
-          ∙ ap (λ (p : ℕ). selector frame p (n / 16) (n % 16)) (sym at);
-      printed = refl;
-    })
+    let after = ap (λ (p : ℕ). ltb p least) at ∙ le-ltb c.component least is.1.1.0 in
+    let dc = ap (ltb most) high ∙ le-ltb most c.dc d in
+    let ac = ap (ltb most) low ∙ le-ltb most c.ac a in
+    namely n (after, (tt, (dc, (ac, tt))))
+    (ap₂ (λ (d a : ℕ). selector frame c.component d a) (sym high) (sym low)
+    ∙ ap (λ (p : ℕ). selector frame p (n / 16) (n % 16)) (sym at)) refl)
 
 choice : (frame : Frame) (least : ℕ)
     → Codec (selector_at frame least) (selector_of frame) choice_bytes (IsChoice frame least)
@@ -368,23 +266,15 @@ choice frame least = remap (bind _ byte (λ (i : ℕ).
     destinations frame least i (place_of frame.components i)))
     (λ x is.
     let c : Choice = x.1 in
-    record {
-      value = c;
-      valid = record {
-        identified = ap (place_of frame.components) is.1.0 ∙ is.1.1.0;
-        ordered = is.1.1.1.0;
-        dc_placed = is.1.1.1.1.0;
-        ac_placed = is.1.1.1.1.1;
-      };
-      made = refl;
-      printed = ap (λ (i : ℕ). i ∷ nibbles c.dc c.ac ∷ []) (sym is.1.0);
-    })
-    (λ c is. record {
-      value = (c.identifier, c);
-      valid = (tt, (refl, (is.identified, (is.ordered, (is.dc_placed, is.ac_placed)))));
-      made = refl;
-      printed = refl;
-    })
+    namely c
+    (record {
+      identified = ap (place_of frame.components) is.1.0 ∙ is.1.1.0;
+      ordered = is.1.1.1.0;
+      dc_placed = is.1.1.1.1.0;
+      ac_placed = is.1.1.1.1.1;
+    }) refl (ap (λ (i : ℕ). i ∷ nibbles c.dc c.ac ∷ []) (sym is.1.0)))
+    (λ c is. namely (c.identifier, c)
+    (tt, (refl, (is.identified, (is.ordered, (is.dc_placed, is.ac_placed))))) refl refl)
 
 -- n components, the first of which stands at least at this place
 abbrev Choose : Frame → ℕ → ℕ → List Choice → Type 0
@@ -395,40 +285,14 @@ choices : (frame : Frame) (n : ℕ) (front : List Selector) (least : ℕ)
     (λ (cs : List Choice). front ++ map (selector_of frame) cs) (flat_map choice_bytes)
     (Choose frame n least)
 unfolding selectors_from AreChoices
-choices frame zero front least = remap (done front)
-    (λ x is. record { value = []; valid = (refl, tt); made = sym (append-nil front); printed = refl })
-    (λ cs is. none cs is.0)
-  where
-    none : (cs : List Choice) → length cs ≡ 0
-        → As (λ (cs : List Choice). front ++ map (selector_of frame) cs) (flat_map choice_bytes)
-        (λ (u : Unit {0}). front) (λ (u : Unit {0}). []) (λ (u : Unit {0}). Unit {0}) cs
-    none [] e = record { value = tt; valid = tt; made = append-nil front; printed = refl }
-    none (c ∷ cs) e = absurd (omega (arith, e))
-choices frame (suc n) front least = remap (bind (λ (s : Selector).
+choices frame zero front least =
+    nil choice_bytes front _ _ (sym (append-nil front)) (refl, tt) (λ c cs is. omega (arith, is.0))
+choices frame (suc n) front least = cons choice_bytes _ _ (bind (λ (s : Selector).
     selectors_from frame n (front ++ s ∷ []) (s.component + 1)) (choice frame least) (λ (c : Choice).
     choices frame n (front ++ selector_of frame c ∷ []) (c.component + 1)))
-    (λ x is. record {
-      value = x.0 ∷ x.1;
-      valid = (ap suc is.1.0, (is.0, is.1.1));
-      made = append_assoc front (selector_of frame x.0 ∷ []) (map (selector_of frame) x.1);
-      printed = refl;
-    })
-    some
-  where
-    some : (cs : List Choice) → Choose frame (suc n) least cs
-        → As (λ (cs : List Choice). front ++ map (selector_of frame) cs) (flat_map choice_bytes)
-        (λ (x : Choice × List Choice).
-        (front ++ selector_of frame x.0 ∷ []) ++ map (selector_of frame) x.1)
-        (λ (x : Choice × List Choice). choice_bytes x.0 ++ flat_map choice_bytes x.1)
-        (λ (x : Choice × List Choice).
-        IsChoice frame least x.0 × Choose frame n (x.0.component + 1) x.1) cs
-    some [] is = absurd (omega (arith, is.0))
-    some (c ∷ cs) is = record {
-      value = (c, cs);
-      valid = (is.1.0, (omega (arith, is.0), is.1.1));
-      made = sym (append_assoc front (selector_of frame c ∷ []) (map (selector_of frame) cs));
-      printed = refl;
-    }
+    (λ c cs. append_assoc front (selector_of frame c ∷ []) (map (selector_of frame) cs))
+    (λ c cs is. (ap suc is.1.0, (is.0, is.1.1))) (λ is. omega (arith, is.0))
+    (λ c cs is. (is.1.0, (omega (arith, is.0), is.1.1)))
 
 -- the length and the number of components
 count : Codec count_at (λ (n : ℕ). n) (λ (n : ℕ). u16_bytes (4 + 2 * n + 2) ++ (n ∷ []))
@@ -439,30 +303,13 @@ count = remap (bind _ length-field (λ (left : ℕ). check-unless (eqb left 0) M
     (check-if (eqb left (4 + 2 * n)) Malformed (done n)))))))
     (λ x is.
     let r = is.1.1.1 in
-    record {
-      value = x.1;
-      valid = (some-number x.1 r.0, ltb-false 4 x.1 r.1.0);
-      made = refl;
-      printed = ap (λ (l : ℕ). u16_bytes (l + 2) ++ (x.1 ∷ [])) (eqb-true x.0 (4 + 2 * x.1) r.1.1.0);
-    })
-    (λ n is. record {
-      value = (4 + 2 * n, n);
-      valid = (
-        tt,
-        (
-          ne_eqb (4 + 2 * n) 0 (λ e. omega (arith, e)),
-          (
-            tt,
-            (
-              ne_eqb n 0 (λ e. omega (arith, e, is.0)),
-              (le-ltb 4 n is.1, (eq-eqb (4 + 2 * n) (4 + 2 * n) refl, tt)),
-            ),
-          ),
-        ),
-      );
-      made = refl;
-      printed = refl;
-    })
+    namely x.1 (some-number x.1 r.0, ltb-false 4 x.1 r.1.0) refl
+    (ap (λ (l : ℕ). u16_bytes (l + 2) ++ (x.1 ∷ [])) (eqb-true x.0 (4 + 2 * x.1) r.1.1.0)))
+    (λ n is.
+    let long = ne_eqb (4 + 2 * n) 0 (λ e. omega (arith, e)) in
+    let some = ne_eqb n 0 (λ e. omega (arith, e, is.0)) in
+    let same = eq-eqb (4 + 2 * n) (4 + 2 * n) refl in
+    namely (4 + 2 * n, n) (tt, (long, (tt, (some, (le-ltb 4 n is.1, (same, tt)))))) refl refl)
 
 choices-length : (cs : List Choice) → length (flat_map choice_bytes cs) ≡ 2 * length cs
 choices-length [] = omega arith
@@ -502,72 +349,40 @@ sos frame = remap (bind _ count (λ (n : ℕ). bind (λ (ss : List Selector) (by
     let last : ℕ = x.1.1.1.0 in
     let l : ℕ = x.1.1.1.1 in
     let code : l ≡ nibbles (l / 16) (l % 16) = omega arith in
-    let h : ScanHeader = record {
-      choices = cs;
-      first = first;
-      last = last;
-      high = l / 16;
-      low = l % 16;
-    } in
+    let h : ScanHeader =
+    record { choices = cs; first = first; last = last; high = l / 16; low = l % 16 } in
     let n : length cs ≡ x.0 = is.1.0.0 in
     let r = is.1.1.1.1.1.1 in
-    record {
-      value = h;
-      valid = record {
-        some = omega (arith, n, is.0.0);
-        most = omega (arith, n, is.0.1);
-        choices = is.1.0.1;
-        fits = is.1.1.0;
-        narrow = omega arith;
-        precise = r.0;
-        band = ap (λ (k : ℕ). is_band frame.process k first last (l / 16) (l % 16))
-            (sym (length-selectors frame cs)) ∙ r.1.0;
-      };
-      made = ap (scan_of frame (map (selector_of frame) cs) first last) code;
-      printed = ap₂ (λ (k m : ℕ). (u16_bytes (4 + 2 * k + 2) ++ (k ∷ []))
-          ++ (flat_map choice_bytes cs ++ (first ∷ last ∷ m ∷ []))) (sym n) code
-          ∙ ap (λ (k : ℕ). u16_bytes (k + 2)
-          ++ (length cs ∷ (flat_map choice_bytes cs ++ levels_bytes h))) (sym (scan-length h));
+    namely h
+    (record {
+      some = omega (arith, n, is.0.0);
+      most = omega (arith, n, is.0.1);
+      choices = is.1.0.1;
+      fits = is.1.1.0;
+      narrow = omega arith;
+      precise = r.0;
+      band = ap (λ (k : ℕ). is_band frame.process k first last (l / 16) (l % 16))
+          (sym (length-selectors frame cs)) ∙ r.1.0;
     })
+    (ap (scan_of frame (map (selector_of frame) cs) first last) code)
+    (ap₂ (λ (k m : ℕ). (u16_bytes (4 + 2 * k + 2) ++ (k ∷ []))
+    ++ (flat_map choice_bytes cs ++ (first ∷ last ∷ m ∷ []))) (sym n) code
+    ∙ ap (λ (k : ℕ). u16_bytes (k + 2) ++ (length cs ∷ (flat_map choice_bytes cs ++ levels_bytes h)))
+    (sym (scan-length h))))
     (λ h is.
     let cs : List Choice = h.choices in
     let l : ℕ = nibbles h.high h.low in
     let high : l / 16 ≡ h.high = nibbles-high h.high h.low is.narrow in
     let low : l % 16 ≡ h.low = nibbles-low h.high h.low is.narrow in
-    record {
-      value = (length cs, (cs, (h.first, (h.last, l))));
-      valid = (
-        (is.some, is.most),
-        (
-          (refl, is.choices),
-          (
-            is.fits,
-            (
-              tt,
-              (
-                tt,
-                (
-                  tt,
-                  (
-                    ap (λ (k : ℕ). ltb k frame.precision) low ∙ is.precise,
-                    (
-                      ap₂ (λ (a b : ℕ). is_band frame.process
-                          (length (map (selector_of frame) cs)) h.first h.last a b) high low
-                          ∙ ap (λ (k : ℕ). is_band frame.process k h.first h.last h.high h.low)
-                          (length-selectors frame cs) ∙ is.band,
-                      tt,
-                    ),
-                  ),
-                ),
-              ),
-            ),
-          ),
-        ),
-      );
-      made = refl;
-      printed = ap (λ (k : ℕ). u16_bytes (k + 2)
-          ++ (length cs ∷ (flat_map choice_bytes cs ++ levels_bytes h))) (scan-length h);
-    })
+    let precise = ap (λ (k : ℕ). ltb k frame.precision) low ∙ is.precise in
+    let selectors : ℕ = length (map (selector_of frame) cs) in
+    let band = ap₂ (λ (a b : ℕ). is_band frame.process selectors h.first h.last a b) high low
+    ∙ ap (λ (k : ℕ). is_band frame.process k h.first h.last h.high h.low) (length-selectors frame cs)
+    ∙ is.band in
+    namely (length cs, (cs, (h.first, (h.last, l))))
+    ((is.some, is.most), ((refl, is.choices), (is.fits, (tt, (tt, (tt, (precise, (band, tt)))))))) refl
+    (ap (λ (k : ℕ). u16_bytes (k + 2) ++ (length cs ∷ (flat_map choice_bytes cs ++ levels_bytes h)))
+    (scan-length h)))
 
 pub sos-read : (frame : Frame) (h : ScanHeader) (rest : List ℕ) → IsScan frame h
     → sos_at frame (sized (scan_payload h) ++ rest) ≡ Ok (scan_written frame h, rest)

@@ -5,7 +5,6 @@ pub mod HuffmanLemmas
 pub mod ApplicationLemmas
 pub mod FrameLemmas
 pub mod ScanLemmas
-pub mod Rows
 pub mod Fields
 pub mod Codecs
 pub mod TableSegments

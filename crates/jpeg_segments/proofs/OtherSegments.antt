@@ -12,19 +12,15 @@ use Rattle.jpeg_segments.specs.Application.{adobe_name, transform_by, passed_ove
 use Rattle.jpeg_segments.specs.Application.{application_14, payload_at, app_at, dri_at}
 use Rattle.jpeg_segments.specs.WrittenSegments.{u16_bytes, sized, is_adobe, said_by, IsApplication}
 use Rattle.jpeg_segments.proofs.ApplicationLemmas.{read-skipped}
-use Rattle.jpeg_segments.proofs.Codecs.{Codec, bind, ends, check-if, choose, done, remap, same, refused}
-use Rattle.jpeg_segments.proofs.Codecs.{u16, many, segment, length-field}
+use Rattle.jpeg_segments.proofs.Codecs.{Codec, bind, ends, check-if, choose, done, remap, namely, same}
+use Rattle.jpeg_segments.proofs.Codecs.{refused, u16, many, segment, length-field}
 
 pub dri : Codec dri_at (λ (n : ℕ). n) (λ (n : ℕ). sized (u16_bytes n)) (λ (n : ℕ). Unit {0})
 unfolding dri_at
 dri = remap (bind _ length-field (λ (left : ℕ). check-if (eqb left 2) Malformed u16))
-    (λ x is. record {
-      value = x.1;
-      valid = tt;
-      made = refl;
-      printed = ap (λ (k : ℕ). u16_bytes (k + 2) ++ u16_bytes x.1) (eqb-true x.0 2 is.1.0);
-    })
-    (λ n is. record { value = (2, n); valid = (tt, (refl, tt)); made = refl; printed = refl })
+    (λ x is. namely x.1 tt refl
+    (ap (λ (k : ℕ). u16_bytes (k + 2) ++ u16_bytes x.1) (eqb-true x.0 2 is.1.0)))
+    (λ n is. namely (2, n) (tt, (refl, tt)) refl refl)
 
 pub dri-read : (n : ℕ) (rest : List ℕ) → dri_at (sized (u16_bytes n) ++ rest) ≡ Ok (n, rest)
 dri-read n rest = dri.reads n rest tt
@@ -37,8 +33,8 @@ passed : (left : ℕ) (said : Option Application)
     (λ (xs : List ℕ). length xs ≡ left)
 passed left said = remap (same (passed_over left said) (λ bytes. sym (read-skipped left said bytes))
     (ends _ (many left) (λ (xs : List ℕ). done said)))
-    (λ xs is. record { value = xs; valid = is.0; made = refl; printed = refl })
-    (λ xs is. record { value = xs; valid = (is, tt); made = refl; printed = refl })
+    (λ xs is. namely xs is.0 refl refl)
+    (λ xs is. namely xs (is, tt) refl refl)
 
 -- bytes after a transform
 transformed : (left : ℕ) (transform : Option AdobeColorTransform)
@@ -46,8 +42,8 @@ transformed : (left : ℕ) (transform : Option AdobeColorTransform)
     (λ (xs : List ℕ). xs) (λ (xs : List ℕ). (is_some transform ≡ true) × (length xs ≡ left))
 transformed left None = refused Malformed (λ xs is. false≢true is.0)
 transformed left (Some t) = remap (passed left (Some (Adobe t)))
-    (λ xs is. record { value = xs; valid = (refl, is); made = refl; printed = refl })
-    (λ xs is. record { value = xs; valid = is.1; made = refl; printed = refl })
+    (λ xs is. namely xs (refl, is) refl refl)
+    (λ xs is. namely xs is.1 refl refl)
 
 -- what begins a payload of APP14 says
 abbrev head_says : Bool → List ℕ → Option Application
@@ -70,31 +66,12 @@ halves : (left : ℕ)
 unfolding adobe_at
 halves left = bind _ (many 12) (λ (head : List ℕ). choose (begins_with head adobe_name)
     (λ t. remap (transformed (left - 12) (transform_by (get_or head 11 0)))
-    (λ xs is. record {
-      value = xs;
-      valid = ((λ q. is.0), is.1);
-      made = sym (ap (λ (b : Bool). head_says b head) t);
-      printed = refl;
-    })
-    (λ xs is. record {
-      value = xs;
-      valid = (is.0 t, is.1);
-      made = ap (λ (b : Bool). head_says b head) t;
-      printed = refl;
-    }))
+    (λ xs is. namely xs ((λ q. is.0), is.1) (sym (ap (λ (b : Bool). head_says b head) t)) refl)
+    (λ xs is. namely xs (is.0 t, is.1) (ap (λ (b : Bool). head_says b head) t) refl))
     (λ f. remap (passed (left - 12) None)
-    (λ xs is. record {
-      value = xs;
-      valid = ((λ q. absurd (false≢true (sym f ∙ q))), is);
-      made = sym (ap (λ (b : Bool). head_says b head) f);
-      printed = refl;
-    })
-    (λ xs is. record {
-      value = xs;
-      valid = is.1;
-      made = ap (λ (b : Bool). head_says b head) f;
-      printed = refl;
-    })))
+    (λ xs is. namely xs ((λ q. absurd (false≢true (sym f ∙ q))), is)
+    (sym (ap (λ (b : Bool). head_says b head) f)) refl)
+    (λ xs is. namely xs is.1 (ap (λ (b : Bool). head_says b head) f) refl)))
 
 -- what begins a payload of at least twelve bytes is its first twelve
 record Begun (head tail : List ℕ) : Type 0 where
@@ -119,36 +96,29 @@ long : (left : ℕ) → 12 ≤ left
 long left enough = remap (halves left)
     (λ x is.
     let b = begun x.0 x.1 is.0 in
-    record {
-      value = x.0 ++ x.1;
-      valid = (
-        (λ q. ap (λ (n : ℕ). is_some (transform_by n)) b.twelfth ∙ is.1.0 (sym b.test ∙ q)),
-        omega (arith, enough, is.0, is.1.1, length-append x.0 x.1),
-      );
-      made = ap₂ (λ (t : Bool) (n : ℕ). cond t (option_map Adobe (transform_by n)) None)
-          (sym b.test) (sym b.twelfth);
-      printed = refl;
-    })
+    let named : names (is_adobe (x.0 ++ x.1)) (x.0 ++ x.1) =
+    λ q. ap (λ (n : ℕ). is_some (transform_by n)) b.twelfth ∙ is.1.0 (sym b.test ∙ q) in
+    namely (x.0 ++ x.1) (named, omega (arith, enough, is.0, is.1.1, length-append x.0 x.1))
+    (ap₂ (λ (t : Bool) (n : ℕ). cond t (option_map Adobe (transform_by n)) None) (sym b.test)
+    (sym b.twelfth)) refl)
     (λ payload is.
     let parts : take 12 payload ++ drop 12 payload ≡ payload = take-append-drop 12 payload in
-    let head : length (take 12 payload) ≡ 12 = omega (arith, enough, is.1, length-take 12 payload) in
+    let head : length (take 12 payload) ≡ 12 =
+    omega (arith, enough, is.1, length-take 12 payload) in
     let b = begun (take 12 payload) (drop 12 payload) head in
     let test : is_adobe payload ≡ begins_with (take 12 payload) adobe_name =
     sym (ap (λ (l : List ℕ). is_adobe l) parts) ∙ b.test in
     let twelfth : get_or payload 11 0 ≡ get_or (take 12 payload) 11 0 =
     sym (ap (λ (l : List ℕ). get_or l 11 0) parts) ∙ b.twelfth in
-    record {
-      value = (take 12 payload, drop 12 payload);
-      valid = (
-        head,
-        (
-          (λ q. sym (ap (λ (n : ℕ). is_some (transform_by n)) twelfth) ∙ is.0 (test ∙ q)),
-          omega (arith, is.1, length-drop 12 payload),
-        ),
-      );
-      made = ap₂ (λ (t : Bool) (n : ℕ). cond t (option_map Adobe (transform_by n)) None) test twelfth;
-      printed = sym parts;
-    })
+    namely (take 12 payload, drop 12 payload) (
+      head,
+      (
+        (λ q. sym (ap (λ (n : ℕ). is_some (transform_by n)) twelfth) ∙ is.0 (test ∙ q)),
+        omega (arith, is.1, length-drop 12 payload),
+      ),
+    )
+    (ap₂ (λ (t : Bool) (n : ℕ). cond t (option_map Adobe (transform_by n)) None) test twelfth)
+    (sym parts))
 
 -- fewer than twelve bytes are not Adobe's
 short : (payload : List ℕ) → length payload < 12 → is_adobe payload ≡ false
@@ -165,18 +135,10 @@ fourteen left = choose (ltb left 12)
     remap (passed left None)
     (λ xs is.
     let none : is_adobe xs ≡ false = short xs (omega (arith, few, is)) in
-    record {
-      value = xs;
-      valid = ((λ q. absurd (false≢true (sym none ∙ q))), is);
-      made = sym (ap (λ (b : Bool). head_says b xs) none);
-      printed = refl;
-    })
-    (λ xs is. record {
-      value = xs;
-      valid = is.1;
-      made = ap (λ (b : Bool). head_says b xs) (short xs (omega (arith, few, is.1)));
-      printed = refl;
-    }))
+    namely xs ((λ q. absurd (false≢true (sym none ∙ q))), is)
+    (sym (ap (λ (b : Bool). head_says b xs) none)) refl)
+    (λ xs is. namely xs is.1
+    (ap (λ (b : Bool). head_says b xs) (short xs (omega (arith, few, is.1)))) refl))
     (λ f. long left (ltb-false left 12 f))
 
 -- the rule of an APPn segment
@@ -190,31 +152,13 @@ pub app : (number : ℕ) → Codec (app_at number) (said_by number) sized (Names
 unfolding app_at payload_at said_by
 app number = segment _ (λ (left : ℕ). choose (eqb number 14)
     (λ t. remap (fourteen left)
-    (λ xs is. record {
-      value = xs;
-      valid = ((λ q. is.0), is.1);
-      made = sym (ap (λ (b : Bool). says b number xs) t);
-      printed = refl;
-    })
-    (λ xs is. record {
-      value = xs;
-      valid = (is.0 (eqb-true number 14 t), is.1);
-      made = ap (λ (b : Bool). says b number xs) t;
-      printed = refl;
-    }))
+    (λ xs is. namely xs ((λ q. is.0), is.1) (sym (ap (λ (b : Bool). says b number xs) t)) refl)
+    (λ xs is. namely xs (is.0 (eqb-true number 14 t), is.1)
+    (ap (λ (b : Bool). says b number xs) t) refl))
     (λ f. remap (ends _ (many left) (λ (xs : List ℕ). done (application_by number xs)))
-    (λ xs is. record {
-      value = xs;
-      valid = ((λ q. absurd (eqb-false number 14 f q)), is.0);
-      made = sym (ap (λ (b : Bool). says b number xs) f);
-      printed = refl;
-    })
-    (λ xs is. record {
-      value = xs;
-      valid = (is.1, tt);
-      made = ap (λ (b : Bool). says b number xs) f;
-      printed = refl;
-    })))
+    (λ xs is. namely xs ((λ q. absurd (eqb-false number 14 f q)), is.0)
+    (sym (ap (λ (b : Bool). says b number xs) f)) refl)
+    (λ xs is. namely xs (is.1, tt) (ap (λ (b : Bool). says b number xs) f) refl)))
 
 pub app-read : (number : ℕ) (payload rest : List ℕ) → IsApplication number payload
     → app_at number (sized payload ++ rest) ≡ Ok (said_by number payload, rest)

@@ -6,13 +6,10 @@ use Rattle.std.proofs.lemmas.Bool.{eqb-true}
 use Rattle.std.proofs.lemmas.List.{length-map, map-set, get_or-map}
 use Rattle.std.proofs.lemmas.List.Elements.{All-cons, All-get_or, All-nil}
 use Rattle.jpeg_segments.specs.declared.parser.Component.{Component as Seen}
-use Rattle.jpeg_segments.specs.declared.parser.CodingProcess.{CodingProcess}
-use Rattle.jpeg_segments.specs.declared.parser.CodingProcess.TheVariants.{DctSequential, DctProgressive, Lossless}
 use Rattle.jpeg_segments.specs.Frame.{AllHaveSampling, Component, Factors, Frame, HasSampling, IsFrame, IsInRange}
 use Rattle.jpeg_segments.specs.Frame.{ceiling, component_of, frame_of, greatest}
 use Rattle.jpeg_segments.specs.FrameView.{component_in, factors_in}
-use Rattle.jpeg_segments.specs.Scales.{IsSizedFrame, component_at, frame_at, is_scale, reaches, scale_for, sized}
-use Rattle.jpeg_segments.specs.Scales.{sized_by}
+use Rattle.jpeg_segments.specs.Scales.{IsSizedFrame, component_at, frame_at, is_scale, reaches, scale_for}
 use Rattle.jpeg_segments.proofs.Ceilings.{ceiling-eights}
 use Rattle.jpeg_segments.proofs.FrameLemmas.{all-in-range, greatest-some}
 
@@ -322,15 +319,3 @@ scale_for_is_scale full_width full_height width height =
     go false true c = refl
     go false false true = refl
     go false false false = refl
-
-pub asked_frames_are_sized : (width height : ℕ) (f : Frame) → IsSizedFrame f → IsSizedFrame (sized width height f)
-asked_frames_are_sized width height f p = go f.process
-  where
-    at : IsSizedFrame (frame_at (scale_for f.width f.height width height) f)
-    at = scaled_frames_are_sized (scale_for f.width f.height width height) f
-        (scale_for_is_scale f.width f.height width height) p
-
-    go : (process : CodingProcess) → IsSizedFrame (sized_by process width height f)
-    go DctSequential = at
-    go DctProgressive = at
-    go Lossless = p

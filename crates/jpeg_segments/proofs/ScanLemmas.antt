@@ -2,7 +2,7 @@
 use Rattle.std.proofs.Common.{All, sym, true, false, ◌∙◌, ◌≡◌, ◌≤◌, ℕ, zero, suc, ◌+◌, ◌-◌, ◌*◌, ◌<◌, Bool, not, cond}
 use Rattle.std.proofs.Common.{List, [], ◌∷◌, ◌++◌, map, length, refl, ap, ap₂, subst, Ok, arith, get_or, nat_le, sum_by}
 use Rattle.std.proofs.Common.{append-nil, append_assoc}
-use Rattle.std.specs.List.{AllByRecursion, position, position_or_len}
+use Rattle.std.specs.List.{position, position_or_len}
 use Rattle.std.proofs.lemmas.List.{length-map}
 use Rattle.std.proofs.lemmas.List.Elements.{All-head, All-map, All-tail, All-weaker}
 use Rattle.std.proofs.lemmas.List.Sums.{sum_by-cons}
@@ -87,42 +87,11 @@ few count blocks e h = go (nat_le count 1) (nat_le blocks 10) (leb-true count 1)
     go false true f g e = g refl
     go false false f g e = absurd (cc)
 
--- ---- what a caller makes of the facts of a scan
-
--- the blocks of the component at a place
-pub blocks-of : (cs : List Component) (i : ℕ) (d : Component) → i < length cs
-    → blocks_by cs i ≡ (get_or cs i d).factors.horizontal * (get_or cs i d).factors.vertical
-blocks-of [] i d h = absurd (omega arith)
-blocks-of (c ∷ cs) zero d h = refl
-blocks-of (c ∷ cs) (suc i) d h = blocks-of cs i d (omega arith)
-
--- the components of a scan, and the blocks that they have in an MCU
-pub mcu-blocks : (cs : List Component) (places : List ℕ) (d : Component) → All (λ place. place < length cs) places
-    → sum_by (λ (c : Component). c.factors.horizontal * c.factors.vertical) (map (λ place. get_or cs place d) places)
-    ≡ sum_by (blocks_by cs) places
-mcu-blocks cs [] d within = refl
-mcu-blocks cs (place ∷ places) d within =
-    let one = All-head (λ place. place < length cs) place places within in
-    let more = All-tail (λ place. place < length cs) place places within in
-    sum_by-cons (λ (c : Component). c.factors.horizontal * c.factors.vertical) (get_or cs place d)
-    (map (λ place. get_or cs place d) places)
-    ∙ (ap₂ (λ a b. a + b) (sym (blocks-of cs place d one)) (mcu-blocks cs places d more)
-    ∙ sym (sum_by-cons (blocks_by cs) place places))
-
-pub few-in-mcus : (frame : frames.Frame) (s : Scan) (d : Component) → IsScanOf frame s → 2 ≤ length s.components
-    → sum_by (λ (c : Component). c.factors.horizontal * c.factors.vertical)
-    (map (λ place. get_or frame.components place d) s.components) ≤ 10
-few-in-mcus frame s d is several =
-    rw (mcu-blocks frame.components s.components d is.components) (is.few_blocks several)
-
 -- ---- places that rise
 
 -- Places that rise after those in front, from the least on, make the whole rise.
 abbrev pub RisesTo : List ℕ → ℕ → Type 0
 RisesTo front least = (more : List ℕ) → IsRising least more → IsRising 0 (front ++ more)
-
-pub rises-none : RisesTo [] 0
-rises-none more h = h
 
 pub rises-more : (front : List ℕ) (least place : ℕ) → RisesTo front least → least ≤ place
     → RisesTo (front ++ place ∷ []) (place + 1)
@@ -133,28 +102,6 @@ rises-more front least place rises h more after =
 pub rises-all : (front : List ℕ) (least : ℕ) → RisesTo front least → IsRising 0 front
 unfolding IsRising
 rises-all front least rises = subst (IsRising 0) (append-nil front) (rises [] tt)
-
--- each is at least the least
-pub rising-least : (least : ℕ) (places : List ℕ) → IsRising least places
-    → AllByRecursion (λ place. least ≤ place) places
-unfolding IsRising
-rising-least least [] h = tt
-rising-least least (place ∷ more) h =
-    (h.0, weaker least (place + 1) more (omega (arith, h.0)) (rising-least (place + 1) more h.1))
-  where
-    weaker : (a b : ℕ) (xs : List ℕ) → a ≤ b → AllByRecursion (λ x. b ≤ x) xs → AllByRecursion (λ x. a ≤ x) xs
-    weaker a b [] le all = tt
-    weaker a b (x ∷ xs) le all = let l = all.0 in (omega (arith, le, l), weaker a b xs le all.1)
-
--- each place after the first is greater
-pub rising-above : (least place : ℕ) (more : List ℕ) → IsRising least (place ∷ more)
-    → AllByRecursion (λ q. place < q) more
-unfolding IsRising
-rising-above least place more h = go more (rising-least (place + 1) more h.1)
-  where
-    go : (xs : List ℕ) → AllByRecursion (λ q. place + 1 ≤ q) xs → AllByRecursion (λ q. place < q) xs
-    go [] all = tt
-    go (x ∷ xs) all = let l = all.0 in (omega (arith, l), go xs all.1)
 
 pub is-scan : (frame : frames.Frame) (xs : List Selector) (s : Scan) → 1 ≤ length xs → length xs ≤ 4
     → All (IsSelectorOf frame) xs

@@ -21,8 +21,9 @@ use Rattle.jpeg_segments.specs.WrittenSegments.{IsQuantizationTable, value_bytes
 use Rattle.jpeg_segments.specs.WrittenSegments.{quantization_tables, IsHuffmanTable, class_number}
 use Rattle.jpeg_segments.specs.WrittenSegments.{huffman_bytes, huffman_tables}
 use Rattle.jpeg_segments.proofs.Fields.{nibbles-high, nibbles-low}
-use Rattle.jpeg_segments.proofs.Codecs.{Codec, As, bind, ends, check-if, check-unless, choose, done}
-use Rattle.jpeg_segments.proofs.Codecs.{remap, byte, u16, several, many, units, segment, outcome}
+use Rattle.jpeg_segments.proofs.Codecs.{Codec, bind, ends, check-if, check-unless, choose, done, refused}
+use Rattle.jpeg_segments.proofs.Codecs.{remap, namely, nil, cons, byte, u16, several, many}
+use Rattle.jpeg_segments.proofs.Codecs.{units, segment, outcome}
 
 -- ---- quantization tables
 
@@ -68,53 +69,41 @@ placed left = remap (bind _ byte (λ (b : ℕ).
     let b : ℕ = x.0 in
     let precise : b / 16 ≤ 1 = ltb-false 1 (b / 16) is.1.0 in
     let code : b ≡ nibbles (b / 16) (b % 16) = omega arith in
+    let is_table : IsQuantizationTable (record { precision = b / 16; place = b % 16; values = x.1 }) =
     record {
-      value = record { precision = b / 16; place = b % 16; values = x.1 };
-      valid = (
-        record {
-          precise = precise;
-          placed = ltb-false 3 (b % 16) is.1.1.0;
-          counted = is.1.1.1.1.0.0.0;
-          some = some-values x.1 is.1.1.1.1.0.1.0;
-        },
-        ltb-false left (table_size (b / 16)) is.1.1.1.0,
-      );
-      made = refl;
-      printed = ap₂ (λ (n : ℕ) (l : List ℕ). n ∷ l) code (wide-is (b / 16) precise x.1);
-    })
+      precise = precise;
+      placed = ltb-false 3 (b % 16) is.1.1.0;
+      counted = is.1.1.1.1.0.0.0;
+      some = some-values x.1 is.1.1.1.1.0.1.0;
+    } in
+    namely (record { precision = b / 16; place = b % 16; values = x.1 })
+    (is_table, ltb-false left (table_size (b / 16)) is.1.1.1.0) refl
+    (ap₂ (λ (n : ℕ) (l : List ℕ). n ∷ l) code (wide-is (b / 16) precise x.1)))
     (λ t is.
     let p = is.0.precise in
     let q = is.0.placed in
     let n : ℕ = nibbles t.precision t.place in
     let high : n / 16 ≡ t.precision = nibbles-high t.precision t.place (omega arith) in
     let low : n % 16 ≡ t.place = nibbles-low t.precision t.place (omega arith) in
-    record {
-      value = (n, t.values);
-      valid = (
-        tt,
-        (
-          ap (ltb 1) high ∙ le-ltb 1 t.precision p,
-          (
-            ap (ltb 3) low ∙ le-ltb 3 t.place q,
-            (
-              ap (λ (k : ℕ). ltb left (table_size k)) high ∙ le-ltb left (table_size t.precision) is.1,
-              (((is.0.counted, units t.values), (none-zero t.values is.0.some, tt)), tt),
-            ),
-          ),
-        ),
-      );
-      made = ap₂ (λ (a b : ℕ). (table_size a, b, t.values)) (sym high) (sym low);
-      printed = ap (λ (l : List ℕ). n ∷ l) (sym (wide-is t.precision p t.values)
-          ∙ ap (λ (k : ℕ). flat_map (wide_bytes (eqb k 1)) t.values) (sym high));
-    })
+    let a = ap (ltb 1) high ∙ le-ltb 1 t.precision p in
+    let b = ap (ltb 3) low ∙ le-ltb 3 t.place q in
+    let room = le-ltb left (table_size t.precision) is.1 in
+    let c = ap (λ (k : ℕ). ltb left (table_size k)) high ∙ room in
+    let some = none-zero t.values is.0.some in
+    namely (n, t.values) (tt, (a, (b, (c, (((is.0.counted, units t.values), (some, tt)), tt)))))
+    (ap₂ (λ (a b : ℕ). (table_size a, b, t.values)) (sym high) (sym low))
+    (ap (λ (l : List ℕ). n ∷ l) (sym (wide-is t.precision p t.values)
+    ∙ ap (λ (k : ℕ). flat_map (wide_bytes (eqb k 1)) t.values) (sym high))))
 
 values-length : (p : ℕ) → p ≤ 1 → (vs : List ℕ)
     → length (flat_map (value_bytes p) vs) ≡ (p + 1) * length vs
 values-length p h [] = omega arith
 values-length zero h (v ∷ vs) =
-    omega (arith, values-length zero h vs, length-append (value_bytes 0 v) (flat_map (value_bytes 0) vs))
+    let size = length-append (value_bytes 0 v) (flat_map (value_bytes 0) vs) in
+    omega (arith, values-length zero h vs, size)
 values-length (suc zero) h (v ∷ vs) =
-    omega (arith, values-length (suc zero) h vs, length-append (value_bytes 1 v) (flat_map (value_bytes 1) vs))
+    let size = length-append (value_bytes 1 v) (flat_map (value_bytes 1) vs) in
+    omega (arith, values-length (suc zero) h vs, size)
 values-length (suc (suc n)) h (v ∷ vs) = absurd (omega arith)
 
 table-length : (t : QuantizationTable) → IsQuantizationTable t
@@ -129,6 +118,11 @@ table-length t is =
 abbrev with_values : quantization.Tables → QuantizationTable → quantization.Tables
 with_values tables t = set tables t.place (Some t.values)
 
+joined : (t : QuantizationTable) (ts : List QuantizationTable)
+    → length (flat_map quantization_bytes (t ∷ ts))
+    ≡ length (quantization_bytes t) + length (flat_map quantization_bytes ts)
+joined t ts = length-append (quantization_bytes t) (flat_map quantization_bytes ts)
+
 -- these tables take `left` bytes
 abbrev FillTables : ℕ → List QuantizationTable → Type 0
 FillTables left ts =
@@ -136,70 +130,33 @@ FillTables left ts =
 
 no-tables : (left : ℕ) (old : quantization.Tables) → left ≡ 0
     → Codec (outcome old) (fold with_values old) (flat_map quantization_bytes) (FillTables left)
-no-tables left old z = remap (done old)
-    (λ x is. record { value = []; valid = (tt, sym z); made = refl; printed = refl })
-    (λ ts is. none ts is)
-  where
-    none : (ts : List QuantizationTable) → FillTables left ts
-        → As (fold with_values old) (flat_map quantization_bytes) (λ (u : Unit {0}). old)
-        (λ (u : Unit {0}). []) (λ (u : Unit {0}). Unit {0}) ts
-    none [] is = record { value = tt; valid = tt; made = refl; printed = refl }
-    none (t ∷ ts) is = absurd (omega (
-      arith,
-      z,
-      is.1,
-      table-length t is.0.0,
-      length-append (quantization_bytes t) (flat_map quantization_bytes ts),
-    ))
+no-tables left old z = nil _ old _ _ refl (tt, sym z)
+    (λ t ts is. omega (arith, z, is.1, table-length t is.0.0, joined t ts))
 
 tables : (most left : ℕ) (old : quantization.Tables) → left ≤ most
     → Codec (quantization.tables_from most left old) (fold with_values old)
     (flat_map quantization_bytes) (FillTables left)
 unfolding quantization.tables_from
-tables zero left old le = remap (check-if (eqb left 0) Malformed (no-tables left old (omega (arith, le))))
-    (λ ts is. record { value = ts; valid = is.1; made = refl; printed = refl })
-    (λ ts is. record {
-      value = ts;
-      valid = (eq-eqb left 0 (omega (arith, le)), is);
-      made = refl;
-      printed = refl;
-    })
+tables zero left old le =
+    remap (check-if (eqb left 0) Malformed (no-tables left old (omega (arith, le))))
+    (λ ts is. namely ts is.1 refl refl)
+    (λ ts is. namely ts (eq-eqb left 0 (omega (arith, le)), is) refl refl)
 tables (suc most) left old le = choose (eqb left 0) (λ z. no-tables left old (eqb-true left 0 z))
-    (λ z. remap (bind (λ (t : ℕ × ℕ × List ℕ). quantization.tables_from most (left - t.0) (set old t.1 (Some t.2)))
+    (λ z. cons _ _ _ (bind (λ (t : ℕ × ℕ × List ℕ).
+    quantization.tables_from most (left - t.0) (set old t.1 (Some t.2)))
     (placed left) (λ (t : QuantizationTable).
     tables most (left - table_size t.precision) (with_values old t) (omega (arith, le))))
-    (λ x is. record {
-      value = x.0 ∷ x.1;
-      valid = (
-        (is.0.0, is.1.0),
-        length-append (quantization_bytes x.0) (flat_map quantization_bytes x.1)
-            ∙ omega (arith, table-length x.0 is.0.0, is.0.1, is.1.1),
-      );
-      made = refl;
-      printed = refl;
-    })
-    (λ ts is. some (eqb-false left 0 z) ts is))
-  where
-    some : (left ≡ 0 → ⊥) → (ts : List QuantizationTable) → FillTables left ts
-        → As (fold with_values old) (flat_map quantization_bytes)
-        (λ (x : QuantizationTable × List QuantizationTable). fold with_values (with_values old x.0) x.1)
-        (λ (x : QuantizationTable × List QuantizationTable).
-        quantization_bytes x.0 ++ flat_map quantization_bytes x.1)
-        (λ (x : QuantizationTable × List QuantizationTable).
-        (IsQuantizationTable x.0 × (table_size x.0.precision ≤ left))
-        × FillTables (left - table_size x.0.precision) x.1) ts
-    some n [] is = absurd (n (sym is.1))
-    some n (t ∷ ts) is =
-        let size = length-append (quantization_bytes t) (flat_map quantization_bytes ts) in
-        record {
-          value = (t, ts);
-          valid = (
-            (is.0.0, omega (arith, table-length t is.0.0, size, is.1)),
-            (is.0.1, omega (arith, table-length t is.0.0, size, is.1)),
-          );
-          made = refl;
-          printed = refl;
-        }
+    (λ t ts. refl)
+    (λ t ts is. (
+      (is.0.0, is.1.0),
+      joined t ts ∙ omega (arith, table-length t is.0.0, is.0.1, is.1.1),
+    ))
+    (λ is. eqb-false left 0 z (sym is.1))
+    (λ t ts is.
+    let size = table-length t is.0.0 in (
+      (is.0.0, omega (arith, size, joined t ts, is.1)),
+      (is.0.1, omega (arith, size, joined t ts, is.1)),
+    )))
 
 pub dqt : Codec dqt_at quantization_tables
     (λ (ts : List QuantizationTable). sized (flat_map quantization_bytes ts))
@@ -255,22 +212,18 @@ placed_codes most left few = remap (bind _ byte (λ (b : ℕ).
     let code : b ≡ nibbles (class_number (class_of (b / 16))) (b % 16) = omega arith in
     let rules = is.1.1.1.0 in
     let none = eqb-false (sum counts) 0 rules.1.0 in
+    let is_table : IsHuffmanTable most (placed_table (b % 16) (class_of (b / 16)) counts x.1.1) =
     record {
-      value = placed_table (b % 16) (class_of (b / 16)) counts x.1.1;
-      valid = (
-        record {
-          placed = ltb-false most (b % 16) is.1.1.0;
-          counted = rules.0;
-          has_symbols = rules.1.1.1.1.0;
-          some = grind (arith, none);
-          at_most = ltb-false 256 (sum counts) rules.1.1.0;
-          exists = tested-exist (code_lengths counts) rules.1.1.1.1.1.0;
-        },
-        ltb-false left (17 + sum counts) rules.1.1.1.0,
-      );
-      made = refl;
-      printed = ap (λ (k : ℕ). k ∷ (counts ++ x.1.1)) code;
-    })
+      placed = ltb-false most (b % 16) is.1.1.0;
+      counted = rules.0;
+      has_symbols = rules.1.1.1.1.0;
+      some = grind (arith, none);
+      at_most = ltb-false 256 (sum counts) rules.1.1.0;
+      exists = tested-exist (code_lengths counts) rules.1.1.1.1.1.0;
+    } in
+    namely (placed_table (b % 16) (class_of (b / 16)) counts x.1.1)
+    (is_table, ltb-false left (17 + sum counts) rules.1.1.1.0) refl
+    (ap (λ (k : ℕ). k ∷ (counts ++ x.1.1)) code))
     (λ t is.
     let class : ℕ = class_number t.table.class in
     let counts : List ℕ = t.table.counts in
@@ -279,43 +232,29 @@ placed_codes most left few = remap (bind _ byte (λ (b : ℕ).
     let some = is.0.some in
     let high : n / 16 ≡ class = nibbles-high class t.place (omega arith) in
     let low : n % 16 ≡ t.place = nibbles-low class t.place (omega arith) in
-    record {
-      value = (n, (counts, t.table.symbols));
-      valid = (
-        tt,
-        (
-          ap (ltb 1) high ∙ le-ltb 1 class (class-small t.table.class),
-          (
-            ap (ltb most) low ∙ le-ltb most t.place q,
-            (
-              (
-                is.0.counted,
-                (
-                  ne_eqb (sum counts) 0 (λ e. omega arith),
-                  (
-                    le-ltb 256 (sum counts) is.0.at_most,
-                    (
-                      le-ltb left (17 + sum counts) is.1,
-                      (is.0.has_symbols, (exist-tested (code_lengths counts) is.0.exists, tt)),
-                    ),
-                  ),
-                ),
-              ),
-              tt,
-            ),
-          ),
-        ),
-      );
-      made = ap₂ (λ (c : HuffmanTableClass) (p : ℕ). placed_table p c counts t.table.symbols) (sym (ap class_of high ∙ class-read t.table.class)) (sym low);
-      printed = refl;
-    })
+    let a = ap (ltb 1) high ∙ le-ltb 1 class (class-small t.table.class) in
+    let b = ap (ltb most) low ∙ le-ltb most t.place q in
+    let c = ne_eqb (sum counts) 0 (λ e. omega arith) in
+    let d = le-ltb 256 (sum counts) is.0.at_most in
+    let room = le-ltb left (17 + sum counts) is.1 in
+    let exist = exist-tested (code_lengths counts) is.0.exists in
+    namely (n, (counts, t.table.symbols))
+    (tt, (a, (b, ((is.0.counted, (c, (d, (room, (is.0.has_symbols, (exist, tt)))))), tt))))
+    (ap₂ (λ (c : HuffmanTableClass) (p : ℕ). placed_table p c counts t.table.symbols)
+    (sym (ap class_of high ∙ class-read t.table.class)) (sym low)) refl)
 
-codes-length : (most : ℕ) (t : PlacedTable) → IsHuffmanTable most t → length (huffman_bytes t) ≡ size_of t
+codes-length : (most : ℕ) (t : PlacedTable) → IsHuffmanTable most t
+    → length (huffman_bytes t) ≡ size_of t
 unfolding huffman_bytes
 codes-length most t is =
     let c = is.counted in
     let s = is.has_symbols in
     omega (arith, length-append t.table.counts t.table.symbols)
+
+codes-joined : (t : PlacedTable) (ts : List PlacedTable)
+    → length (flat_map huffman_bytes (t ∷ ts))
+    ≡ length (huffman_bytes t) + length (flat_map huffman_bytes ts)
+codes-joined t ts = length-append (huffman_bytes t) (flat_map huffman_bytes ts)
 
 -- these tables take `left` bytes
 abbrev FillCodes : ℕ → ℕ → List PlacedTable → Type 0
@@ -323,28 +262,20 @@ FillCodes most left ts =
     AllByRecursion (IsHuffmanTable most) ts × (length (flat_map huffman_bytes ts) ≡ left)
 
 no-codes : (most left : ℕ) (old : Tables) → left ≤ 17
-    → Codec (λ (bytes : List ℕ). cond (eqb left 0) (outcome old bytes) (Err Malformed)) (fold with_table old)
-    (flat_map huffman_bytes) (FillCodes most left)
-no-codes most left old few = remap (check-if (eqb left 0) Malformed (done old))
-    (λ x is. record {
-      value = [];
-      valid = (tt, sym (eqb-true left 0 is.0));
-      made = refl;
-      printed = refl;
-    })
-    (λ ts is. none ts is)
+    → Codec (λ (bytes : List ℕ). cond (eqb left 0) (outcome old bytes) (Err Malformed))
+    (fold with_table old) (flat_map huffman_bytes) (FillCodes most left)
+no-codes most left old few = choose (eqb left 0)
+    (λ z. nil _ old _ _ refl (tt, sym (eqb-true left 0 z)) (λ t ts is. too-long t ts is))
+    (λ z. refused Malformed (go (eqb-false left 0 z)))
   where
-    none : (ts : List PlacedTable) → FillCodes most left ts
-        → As (fold with_table old) (flat_map huffman_bytes) (λ (u : Unit {0}). old)
-        (λ (u : Unit {0}). []) (λ (u : Unit {0}). (eqb left 0 ≡ true) × Unit {0}) ts
-    none [] is =
-        record { value = tt; valid = (eq-eqb left 0 (sym is.1), tt); made = refl; printed = refl }
-    none (t ∷ ts) is = let some = is.0.0.some in absurd (omega (
-      arith,
-      is.1,
-      codes-length most t is.0.0,
-      length-append (huffman_bytes t) (flat_map huffman_bytes ts),
-    ))
+    too-long : (t : PlacedTable) (ts : List PlacedTable) → FillCodes most left (t ∷ ts) → ⊥
+    too-long t ts is =
+        let some = is.0.0.some in
+        omega (arith, is.1, codes-length most t is.0.0, codes-joined t ts)
+
+    go : (left ≡ 0 → ⊥) → (ts : List PlacedTable) → FillCodes most left ts → ⊥
+    go n [] is = n (sym is.1)
+    go n (t ∷ ts) is = too-long t ts is
 
 all-codes : (turns most left : ℕ) (old : Tables) → most ≤ 3 → left ≤ turns
     → Codec (tables_from turns most left old) (fold with_table old) (flat_map huffman_bytes)
@@ -352,40 +283,22 @@ all-codes : (turns most left : ℕ) (old : Tables) → most ≤ 3 → left ≤ t
 unfolding tables_from
 all-codes zero most left old few le = no-codes most left old (omega (arith, le))
 all-codes (suc turns) most left old few le = choose (ltb 17 left)
-    (λ z. remap (bind (λ (t : PlacedTable). tables_from turns most (left - size_of t) (with_table old t))
+    (λ z. cons _ _ _ (bind (λ (t : PlacedTable).
+    tables_from turns most (left - size_of t) (with_table old t))
     (placed_codes most left few) (λ (t : PlacedTable).
     all-codes turns most (left - size_of t) (with_table old t) few (omega (arith, le))))
-    (λ x is. record {
-      value = x.0 ∷ x.1;
-      valid = (
-        (is.0.0, is.1.0),
-        length-append (huffman_bytes x.0) (flat_map huffman_bytes x.1)
-            ∙ omega (arith, codes-length most x.0 is.0.0, is.0.1, is.1.1),
-      );
-      made = refl;
-      printed = refl;
-    })
-    (λ ts is. some (ltb-true 17 left z) ts is))
+    (λ t ts. refl)
+    (λ t ts is. (
+      (is.0.0, is.1.0),
+      codes-joined t ts ∙ omega (arith, codes-length most t is.0.0, is.0.1, is.1.1),
+    ))
+    (λ is. let some : 17 < left = ltb-true 17 left z in omega (arith, some, is.1))
+    (λ t ts is.
+    let size = codes-length most t is.0.0 in (
+      (is.0.0, omega (arith, size, codes-joined t ts, is.1)),
+      (is.0.1, omega (arith, size, codes-joined t ts, is.1)),
+    )))
     (λ z. no-codes most left old (ltb-false 17 left z))
-  where
-    some : 17 < left → (ts : List PlacedTable) → FillCodes most left ts
-        → As (fold with_table old) (flat_map huffman_bytes)
-        (λ (x : PlacedTable × List PlacedTable). fold with_table (with_table old x.0) x.1)
-        (λ (x : PlacedTable × List PlacedTable). huffman_bytes x.0 ++ flat_map huffman_bytes x.1)
-        (λ (x : PlacedTable × List PlacedTable).
-        (IsHuffmanTable most x.0 × (size_of x.0 ≤ left)) × FillCodes most (left - size_of x.0) x.1) ts
-    some n [] is = absurd (omega (arith, n, is.1))
-    some n (t ∷ ts) is =
-        let size = length-append (huffman_bytes t) (flat_map huffman_bytes ts) in
-        record {
-          value = (t, ts);
-          valid = (
-            (is.0.0, omega (arith, codes-length most t is.0.0, size, is.1)),
-            (is.0.1, omega (arith, codes-length most t is.0.0, size, is.1)),
-          );
-          made = refl;
-          printed = refl;
-        }
 
 greatest-small : (b : Option Bool) → greatest_place b ≤ 3
 greatest-small None = omega arith
