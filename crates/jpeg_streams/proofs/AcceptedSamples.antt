@@ -3,7 +3,7 @@ use Rattle.std.proofs.Common.{◌≡◌, ◌⊎◌, inl, inr, ℕ, ◌*◌, ◌/
 use Rattle.std.proofs.Common.{List, [], ◌∷◌, map, length, Option, Some, None, Ok, refl, sym, ap, ap₂, ◌∙◌}
 use Rattle.std.specs.Prelude.{nat_le}
 use Rattle.std.proofs.Common.{true≢false}
-use Rattle.std.proofs.lemmas.Bool.{eqb-true, leb-true}
+use Rattle.std.proofs.lemmas.Bool.{and_parts, eqb-true, leb-true}
 use Rattle.std.specs.List.{AllByRecursion}
 use lib.ListN.{length-map}
 use Rattle.jpeg_bits.specs.Reading.{Lacks}
@@ -20,7 +20,7 @@ use Rattle.jpeg_streams.proofs.AcceptedTurns.{bind-ok, err-ok}
 use Rattle.jpeg_streams.proofs.FrameFits.{factors-back}
 use Rattle.jpeg_streams.proofs.PicturedFrames.{Upsampled}
 use Rattle.jpeg_streams.proofs.ScaledSources.{pick-test}
-use Rattle.jpeg_streams.proofs.Soundness.{accepted-facts, accepted-precision, both-hold}
+use Rattle.jpeg_streams.proofs.Soundness.{accepted-facts, accepted-precision}
 
 -- ---- rules
 
@@ -72,7 +72,7 @@ rule-back most_h most_v width height c r e =
         → Upsampled most_h most_v width height c
     go (inl near) = inl (near-by c.horizontal most_h width near.0, near-by c.vertical most_v height near.1)
     go (inr whole) =
-        let both = both-hold (divides c.horizontal most_h) (divides c.vertical most_v) whole in
+        let both = and_parts (divides c.horizontal most_h) (divides c.vertical most_v) whole in
         inr (eqb-true (most_h % c.horizontal) 0 both.0, eqb-true (most_v % c.vertical) 0 both.1)
 
 -- ---- sources
@@ -138,7 +138,7 @@ unfolding frame_of
 accepted-samples h ok =
     let frame = frame_written 3 h in
     let parts = accepted-parts 3 h ok in
-    let precise = both-hold (nat_le 2 h.precision) (nat_le h.precision 16) (accepted-precision frame frame ok) in
+    let precise = and_parts (nat_le 2 h.precision) (nat_le h.precision 16) (accepted-precision frame frame ok) in
     record {
       lossless = refl;
       least = leb-true 2 h.precision precise.0;

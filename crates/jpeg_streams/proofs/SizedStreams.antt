@@ -205,7 +205,7 @@ header-by array tail final last one other e r =
       written = r.written;
     }
 
-head-on : (turns : ℕ) (before : Before) (f : Found) (met : Option Marker) (all rest : List ℕ) (t : Turn)
+pub head-on : (turns : ℕ) (before : Before) (f : Found) (met : Option Marker) (all rest : List ℕ) (t : Turn)
     → f.frame ≡ None → turn_at before f met all ≡ Ok (t, rest) → t.ended ≡ false
     → segments_within (suc turns) true before f met all ≡ segments_within turns true t.before t.found t.met rest
 unfolding segments_within
