@@ -5,24 +5,19 @@ use Rattle.std.specs.Prelude.{MatchResult, IfOk, OnOk, if◌then◌else◌, nat_
 use Rattle.jpeg_bits.specs.declared.error.Error.{Error}
 use Rattle.jpeg_decoder.specs.Bytes.{HasBytes, HasBytesBy, IsCounted, IsWhole}
 use Rattle.jpeg_decoder.specs.Bytes.{bytes_a_sample, picture_bytes, samples_a_pixel}
-use Rattle.std.specs.Prelude.{not}
-use Rattle.std.proofs.Math.Bool.{cond}
-use Rattle.jpeg_bits.specs.Reading.{Lacks}
-use Rattle.jpeg_bits.specs.declared.error.UnsupportedFeature.TheVariants as features
 use Rattle.jpeg_segments.specs.declared.parser.CodingProcess.{CodingProcess}
 use Rattle.jpeg_segments.specs.declared.parser.CodingProcess.TheVariants.{DctSequential, DctProgressive, Lossless}
 use Rattle.jpeg_streams.specs.Pixels.{bytes_a_pixel, format_of}
 use Rattle.jpeg_streams.specs.declared.images.PixelFormat.TheVariants.{L8, L16}
-use Rattle.jpeg_streams.specs.Segments.{accepted, is_decoded_count, is_arithmetic, is_decoded_precision}
+use Rattle.jpeg_streams.specs.Segments.{is_decoded_count, is_decoded_precision}
 use Rattle.std.specs.Prelude.{◌==◌, ◌||◌, min}
 use Rattle.std.specs.List.{AllByRecursion}
 use Rattle.std.proofs.lemmas.Bool.{eqb-true}
 use Rattle.std.proofs.lemmas.List.Elements.{recursion_from_All}
 use Rattle.std.proofs.Common.{mul_assoc}
 use Rattle.std.proofs.Math.Nat.{mul_comm, mul-div_cancel}
-use Rattle.jpeg_bits.specs.Reading.{Fault}
 use Rattle.jpeg_segments.specs.Frame.{Frame, Component, IsInRange, ceiling}
-use Rattle.jpeg_segments.specs.Scales.{is_scale, frame_at}
+use Rattle.jpeg_segments.specs.Scales.{frame_at}
 use Rattle.jpeg_pixels.specs.Pictures.{AreWhole, image_of}
 use Rattle.jpeg_segments.proofs.Ceilings.{ceiling-low}
 use Rattle.jpeg_streams.specs.ColourChoice.{identifiers_of, transform_of}

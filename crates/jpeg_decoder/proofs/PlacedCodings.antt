@@ -1,19 +1,10 @@
 -- The codings of a scan, as the code has them and as the definitions do.
-use Rattle.std.proofs.Common.{◌≡◌, ℕ, List, [], ◌∷◌, Some, Ok, Err, refl, sym, ap}
-use Rattle.std.proofs.Common.{◌∙◌, get_or, map, drop, Option, None, Result}
-use Rattle.std.specs.Prelude.{◌==◌, nat_lt}
-use Rattle.jpeg_bits.specs.Codes.{Table}
-use Rattle.jpeg_bits.specs.declared.codes.HuffmanTableClass.TheVariants as classes
-use Rattle.jpeg_bits.specs.Passes.{Pass}
-use Rattle.jpeg_bits.specs.Reading.{Fault, ◌>>=◌}
-use Rattle.jpeg_segments.specs.Frame.{Frame, Component}
+use Rattle.std.proofs.Common.{◌≡◌, ℕ, List, [], ◌∷◌, refl, ap}
+use Rattle.std.proofs.Common.{map}
+use Rattle.jpeg_segments.specs.Frame.{Component}
 use Rattle.jpeg_segments.specs.FrameView.{component_in}
-use Rattle.jpeg_segments.specs.HuffmanTables.{Tables}
 use Rattle.jpeg_decoder.specs.declared.scan.Coded.{Coded}
 use Rattle.jpeg_decoder.specs.Scanning.{components_in}
-use Rattle.jpeg_streams.specs.Needed.{first_of, needed}
-use Rattle.jpeg_streams.specs.ScanSegments.{codings_from, component_coding, needed_if, Coding}
-use Rattle.jpeg_streams.specs.Found.{Found}
 use Rattle.jpeg_decoder.specs.Steps.{coding_in}
 use Rattle.jpeg_decoder.proofs.TakenBlocks.{places_of}
 

@@ -1,17 +1,15 @@
 -- Lossless streams for the same samples mean the same picture.
-use Rattle.std.proofs.Common.{◌≡◌, ◌⊎◌, inl, inr, ℕ, ◌*◌, ◌<◌, ◌≤◌, List, [], ◌++◌, map, length, Ok, Some, refl, sym, ap, ap₂, ◌∙◌}
+use Rattle.std.proofs.Common.{◌≡◌, ◌⊎◌, inl, inr, ℕ, ◌*◌, ◌<◌, ◌≤◌, List, [], ◌++◌, map, length, Ok, Some, sym, ap, ap₂, ◌∙◌}
 use Rattle.std.proofs.Common.{subst}
 use Rattle.std.proofs.lemmas.Bool.{cases_lt}
 use lib.ListN.{length-map}
-use Rattle.jpeg_bits.specs.Reading.{Outcome, ◌>>=◌}
+use Rattle.jpeg_bits.specs.Reading.{◌>>=◌}
 use Rattle.jpeg_segments.specs.Frame.{Frame}
 use Rattle.jpeg_streams.specs.declared.settings.Settings.{Settings}
 use Rattle.jpeg_streams.specs.Found.{Found, nothing_found}
 use Rattle.jpeg_streams.specs.FrameSamples.{sampling_of, ShowAlike}
 use Rattle.jpeg_streams.specs.WrittenLossless.{Samples, WritesSamples}
 use Rattle.jpeg_streams.specs.WrittenParts.{picture_meant_by}
-use Rattle.jpeg_streams.specs.Stream.{Told}
-use Rattle.jpeg_streams.proofs.AcceptedTurns.{then-ok}
 use Rattle.jpeg_streams.proofs.LosslessFrames.{IsShaped}
 use Rattle.jpeg_streams.proofs.SamplesAlike.{pictures-alike}
 use Rattle.jpeg_decoder.proofs.LosslessPixels.{final-shaped, lossless-means}

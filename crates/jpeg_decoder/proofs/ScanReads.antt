@@ -1,5 +1,5 @@
 -- The steps of a scan that is read, and what they are to a segment of the stream.
-use Rattle.std.proofs.Common.{◌≡◌, ℕ, suc, Bool, true, false, List, length, Option, Some, Result, Ok, Err, refl, sym}
+use Rattle.std.proofs.Common.{◌≡◌, ℕ, suc, Bool, true, false, List, length, Option, Result, Ok, Err, refl, sym}
 use Rattle.std.proofs.Common.{ap, ◌∙◌}
 use Rattle.jpeg_bits.specs.Stream.{Stream}
 use Rattle.jpeg_bits.specs.Reading.{Answers, Fault, MayFail, Names, Outcome, ◌>>=◌}
@@ -21,7 +21,7 @@ use Rattle.jpeg_streams.specs.ScanSegments.{scan_segment}
 use Rattle.jpeg_streams.specs.Segments.{Turn}
 use Rattle.jpeg_streams.specs.Found.{Found}
 use Rattle.jpeg_streams.specs.LosslessScans.{lossless_codings}
-use Rattle.jpeg_decoder.specs.Steps.{IsDct, IsRefusal, after_all, blocks_read, codings_in_force, read_by, samples_read}
+use Rattle.jpeg_decoder.specs.Steps.{IsRefusal, after_all, blocks_read, codings_in_force, read_by, samples_read}
 use Rattle.jpeg_decoder.specs.Steps.{scan_data, scan_read}
 
 -- ---- calls on a source

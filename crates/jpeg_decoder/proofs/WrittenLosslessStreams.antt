@@ -1,7 +1,7 @@
 -- Lossless streams that are written give their samples, and keep their size.
 use Rattle.std.proofs.Common.{◌≡◌, ℕ, zero, suc, ◌+◌, ◌*◌, ◌<◌, ◌≤◌, true, false, List, [], ◌∷◌, ◌++◌, length}
 use Rattle.std.proofs.Common.{replicate, set, get_or, Option, Some, None, Result, Ok, Err, refl, sym, ap, ◌∙◌}
-use Rattle.std.proofs.Common.{subst, arith, append_assoc, length-append, length-set, ltb, inl, inr}
+use Rattle.std.proofs.Common.{subst, arith, length-append, length-set, ltb, inl, inr}
 use Rattle.std.proofs.lemmas.Bool.{le-ltb, lt-ltb}
 use Rattle.std.specs.Prelude.{is_some, option_map, slice_index_or, slice_set}
 use Rattle.std.specs.List.{AllByRecursion, concat, range_with_len}
@@ -34,7 +34,7 @@ use Rattle.jpeg_streams.specs.LosslessScans.{samples_from, with_samples}
 use Rattle.jpeg_lossless.specs.Pictures.{lossless_picture}
 use Rattle.jpeg_streams.specs.Needed.{needed}
 use Rattle.jpeg_streams.specs.SaidSegments.{found_after}
-use Rattle.jpeg_streams.specs.Segments.{frame_segment, onward, Turn, application_segment, restart_segment}
+use Rattle.jpeg_streams.specs.Segments.{frame_segment, onward, application_segment, restart_segment}
 use Rattle.jpeg_streams.specs.Segments.{huffman_segment, quantization_segment, skipped_segment}
 use Rattle.jpeg_streams.specs.Found.{nothing_found, Found}
 use Rattle.jpeg_streams.specs.Stream.{end_segment, start_at, segment_at, turn_at, segments_within, segments_at}
@@ -44,8 +44,10 @@ use Rattle.jpeg_streams.specs.FoundPictures.{picture_of, picture_by_process, sam
 use Rattle.jpeg_streams.specs.WrittenLossless.{Samples, StandsInLossless, Writes, WritesSamples, WritesScan, closed}
 use Rattle.jpeg_streams.specs.InTurn.{IsIn}
 use Rattle.jpeg_streams.specs.WrittenLossless.{said_after_scan, scan, segment}
-use Rattle.jpeg_streams.proofs.AcceptedTurns.{then-ok, stands-next}
+use Rattle.jpeg_streams.proofs.AcceptedImages.{frame-or, frame-stays as unchanged, segment-tail, scan-tail}
+use Rattle.jpeg_streams.proofs.AcceptedTurns.{then-ok, stands-next, turn-end, turn-on}
 use Rattle.jpeg_streams.proofs.LosslessFrames.{IsShaped, header-shaped, lossless-accepted}
+use Rattle.jpeg_streams.proofs.SizedStreams.{head-on}
 use Rattle.jpeg_streams.proofs.SaidTables.{HasTables, no-tables, segment-tables}
 use Rattle.jpeg_streams.proofs.WrittenMarkers.{marker-append, marker_for, segment-marker}
 use Rattle.jpeg_decoder.proofs.WrittenSamples.{IsEnd, and_samples, components-of, places_of, planes_for, scan-read}
@@ -191,18 +193,6 @@ stands-met fill code m rest h = record {
       ∙ sym (marker-turn before found fill code m rest h);
 }
 
-turn-on : (turns : ℕ) (before : Before) (found : Found) (met : Option Marker) (all rest : List ℕ) (t : Turn)
-    → turn_at before found met all ≡ Ok (t, rest) → t.ended ≡ false
-    → segments_within (suc turns) false before found met all ≡ segments_within turns false t.before t.found t.met rest
-unfolding segments_within
-turn-on turns before found met all rest t e g = rw e (rw g refl)
-
-turn-end : (turns : ℕ) (before : Before) (found : Found) (met : Option Marker) (all rest : List ℕ) (t : Turn)
-    → turn_at before found met all ≡ Ok (t, rest) → t.ended ≡ true
-    → segments_within (suc turns) false before found met all ≡ Ok (t.found, rest)
-unfolding segments_within
-turn-end turns before found met all rest t e g = rw e (rw g refl)
-
 -- ---- what begins with a marker
 
 record Starts (bytes : List ℕ) : Type 0 where
@@ -291,18 +281,6 @@ segment-said said s may h =
     }
 
 -- ---- the rest of a stream
-
--- the bytes after the marker, and those after the end of the image
-segment-tail : (fill code : ℕ) (bytes more tail : List ℕ)
-    → marker fill code (bytes ++ more) ++ tail ≡ marker fill code (bytes ++ (more ++ tail))
-segment-tail fill code bytes more tail =
-    marker-append fill code (bytes ++ more) tail ∙ ap (marker fill code) (append_assoc bytes more tail)
-
-scan-tail : (fill code : ℕ) (header bytes more tail : List ℕ)
-    → marker fill code (header ++ (bytes ++ more)) ++ tail ≡ marker fill code (header ++ (bytes ++ (more ++ tail)))
-scan-tail fill code header bytes more tail =
-    segment-tail fill code header (bytes ++ more) tail ∙ ap (λ (l : List ℕ). marker fill code (header ++ l))
-    (append_assoc bytes more tail)
 
 -- what is found by the end: all samples, of a size
 record Ends (samples : Samples) (turns : ℕ) (before : Before) (said final : Found) (decided : List (Option (List ℕ)))
@@ -603,13 +581,6 @@ final-lossless samples frame said sent bytes final (scan said' final' sent' f fi
 
 -- ---- the header
 
-header-on : (turns : ℕ) (before : Before) (found : Found) (met : Option Marker) (all rest : List ℕ) (t : Turn)
-    → is_some found.frame ≡ false
-    → turn_at before found met all ≡ Ok (t, rest) → t.ended ≡ false
-    → segments_within (suc turns) true before found met all ≡ segments_within turns true t.before t.found t.met rest
-unfolding segments_within
-header-on turns before found met all rest t n e g = rw (n, segments_within) (rw e (rw g refl))
-
 stop : (turns : ℕ) (before : Before) (found : Found) (met : Option Marker) (all : List ℕ) → 0 < turns
     → is_some found.frame ≡ true → segments_within turns true before found met all ≡ Ok (found, all)
 unfolding segments_within
@@ -628,16 +599,6 @@ record Headed (samples : Samples) (turns : ℕ) (before : Before) (said final : 
   is : segments_within turns true before (and_samples said decided) None (bytes ++ rest)
       ≡ Ok (and_samples between decided, after ++ rest)
 
--- a frame, or none
-frame-or : {P : Type 0} (s : Segment) → ((number : ℕ) (h : FrameHeader) → s ≡ Header number h → P)
-    → (((said : Found) → (found_after said s).frame ≡ said.frame) → P) → P
-frame-or (Quantization ts) f g = g (λ said. refl)
-frame-or (Huffman ts) f g = g (λ said. refl)
-frame-or (Interval n) f g = g (λ said. refl)
-frame-or (Application number payload) f g = g (λ said. refl)
-frame-or (Comment payload) f g = g (λ said. refl)
-frame-or (Header number h) f g = f number h refl
-
 header-read : (samples : Samples) (rest : List ℕ) (decided : List (Option (List ℕ))) (turns : ℕ) (before : Before)
     (said : Found) (sent bytes : List ℕ) (final : Found)
     → Writes samples said sent bytes final → length bytes < turns → IsSaid said → said.frame ≡ None
@@ -654,8 +615,8 @@ header-read samples rest decided (suc turns) before said sent bytes final (segme
     let step : segments_within (suc turns) true before (and_samples said decided) None
     (marker fill (code_of s) (sized (payload_of s) ++ more) ++ rest)
     ≡ segments_within turns true Elsewhere (and_samples (found_after said s) decided) None (more ++ rest)
-    = header-on turns before (and_samples said decided) None (marker fill (code_of s) (sized (payload_of s) ++ more)
-    ++ rest) (more ++ rest) (onward (and_samples (found_after said s) decided)) (ap is_some e)
+    = head-on turns before (and_samples said decided) None (marker fill (code_of s) (sized (payload_of s) ++ more)
+    ++ rest) (more ++ rest) (onward (and_samples (found_after said s) decided)) e
     (ap (turn_at before (and_samples said decided) None) (segment-tail fill (code_of s) (sized (payload_of s)) more
     rest)
     ∙ marker-turn before (and_samples said decided) fill (code_of s) (marker_for s)
@@ -677,9 +638,9 @@ header-read samples rest decided (suc turns) before said sent bytes final (segme
         shorter,
       )) (ap is_some framed);
     })
-    (λ same.
+    (λ other.
     let r = header-read samples rest decided turns Elsewhere (found_after said s) sent more final w shorter next
-    (same said ∙ e) in
+    (unchanged said s other ∙ e) in
     record {
       between = r.between;
       frame = r.frame;

@@ -27,7 +27,7 @@ use Rattle.jpeg_lossless.specs.Places.{AreEven}
 use Rattle.jpeg_lossless.specs.Scans.{Way, all_above, is_of_rows, is_one_interval, mcu_size, planes_of}
 use Rattle.jpeg_lossless.specs.Scans.{rows_of_interval, scan_at, shifted}
 use Rattle.jpeg_lossless.specs.Written.{AreGrids, AreLines, AreSamples, AreTables, HaveDifferences}
-use Rattle.jpeg_lossless.specs.Written.{WritesIntervals, differences_of}
+use Rattle.jpeg_lossless.specs.Written.{WritesIntervals}
 use Rattle.jpeg_bits.specs.Written.{marker}
 use Rattle.jpeg_lossless.specs.Written.WritesIntervals.{last, another}
 use Rattle.jpeg_lossless.proofs.ReadBack.{reads-scan}

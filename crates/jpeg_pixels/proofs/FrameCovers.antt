@@ -16,7 +16,8 @@ use Rattle.jpeg_pixels.proofs.RuleRatios.{in-blocks as in-blocks-at, reach-full,
 -- the samples of a line stand in its blocks
 in-blocks : (width h m : ℕ) → 0 < m → ceiling (width * h) m ≤ (ceiling width (8 * m) * h) * 8
 in-blocks width h m some =
-    subst (λ (n : ℕ). n ≤ (ceiling width (8 * m) * h) * 8) (ceiling-eights (width * h) m some) (in-blocks-at 8 width h m some)
+    subst (λ (n : ℕ). n ≤ (ceiling width (8 * m) * h) * 8) (ceiling-eights (width * h) m some)
+    (in-blocks-at 8 width h m some)
 
 covers : (width height most_h most_v : ℕ) (f : Factors) (rule : UpsampleRule) (plane : List ℕ) → 0 < width → 0 < height
     → IsInRange f → f.horizontal ≤ most_h → f.vertical ≤ most_v

@@ -14,7 +14,7 @@ use Rattle.jpeg_segments.specs.ScanHeaders.{scan_payload, scan_written}
 use Rattle.jpeg_segments.proofs.Fields.{sized-read, skip-read}
 use Rattle.jpeg_segments.proofs.TableSegments.{dqt-read, dht-read}
 use Rattle.jpeg_segments.proofs.OtherSegments.{dri-read, app-read}
-use Rattle.jpeg_segments.proofs.HeaderSegments.{sof-read, sos-read}
+use Rattle.jpeg_segments.proofs.HeaderSegments.{sof-read}
 use Rattle.jpeg_streams.proofs.PicturedFrames.{header-accepted}
 use Rattle.jpeg_streams.proofs.WrittenMarkers.{marker-append, marker_for, segment-marker}
 use Rattle.jpeg_streams.specs.Levels.{Levels, nothing_sent}
@@ -24,7 +24,6 @@ use Rattle.jpeg_streams.specs.Found.{nothing_found, Found}
 use Rattle.jpeg_streams.proofs.AcceptedStreams as streams
 use Rattle.jpeg_streams.proofs.SaidTables.{written-tables}
 use Rattle.jpeg_streams.proofs.FrameShapes.{frame-lossy}
-use Rattle.jpeg_streams.proofs.ScanFacts.{header-facts}
 use Rattle.jpeg_streams.proofs.LosslessFrames.{all-ranged}
 use Rattle.jpeg_segments.specs.HuffmanTables.{greatest_place}
 use Rattle.jpeg_streams.specs.WrittenScans.{Coefficients, levels_after}
@@ -178,9 +177,8 @@ scans-begin array tail frame said final levels last scanned bytes
           (sized (scan_payload h) ++ (data_bytes ++ (more ++ tail))) final last) same
           (subst (λ (l : List ℕ). WritesScans array f tail said levels scanned SOS
           (sized (scan_payload h) ++ (data_bytes ++ l)) final last) (sym b.is)
-          (streams.WritesScans.scan said final levels last scanned b.m b.fill b.code
-          (sized (scan_payload h)) data_bytes b.after (scan_written f h) codings
-          (record { accepted = λ rest. sos-read f h rest is }) (header-facts f h is) legal written b.makes b.rest));
+          (streams.WritesScans.scan said final levels last scanned b.m b.fill b.code h data_bytes b.after
+          (scan_written f h) codings refl is legal written b.makes b.rest));
     }
 
 -- ---- before the frame
@@ -212,7 +210,8 @@ frame-begins array tail said final last number h more may dct b =
     (streams.WritesHead.frame said final last b.m number b.fill b.code (sized (payload_of (Header number h))) b.after
     (frame_written number h)
     dct (written-plain number h may.0.1)
-    (frame-lossy number h.precision h.width h.height h.components dct) (record { accepted = λ rest. sof-read number h rest may.0.1 })
+    (frame-lossy number h.precision h.width h.height h.components dct)
+    (record { accepted = λ rest. sof-read number h rest may.0.1 })
     (header-accepted number h dct may.1) b.makes b.rest)
 
 frame-head : (array : Coefficients) (tail : List ℕ) (said final : Found) (last : ℕ → Levels) (s : Segment)

@@ -1,5 +1,6 @@
 -- Written streams once more, by bytes that the rules of segments accept: what proofs about reading go by.
-use Rattle.std.specs.Prelude.{◌≡◌, ◌≢◌, ◌⊎◌, ℕ, ◌-◌, ◌<◌, ◌≤◌, Bool, true, false, List, ◌∷◌, ◌++◌, map, length, option_map, Option, Some}
+use Rattle.std.specs.Prelude.{◌≡◌, ◌≢◌, ◌⊎◌, ℕ, ◌-◌, ◌<◌, ◌≤◌, Bool, true, false, List, ◌∷◌, ◌++◌, map, length}
+use Rattle.std.specs.Prelude.{option_map, Option, Some}
 use Rattle.std.specs.Prelude.{Ok}
 use Rattle.std.specs.List.{AllByRecursion, range_with_len}
 use Rattle.jpeg_bits.specs.Reading.{Outcome, ◌>>=◌, length_at, skip_at}
@@ -11,7 +12,9 @@ use Rattle.jpeg_segments.specs.declared.parser.CodingProcess.TheVariants.{Lossle
 use Rattle.jpeg_segments.specs.Frame.{Factors, Frame, frame_of, IsInRange, sof_at}
 use Rattle.jpeg_segments.specs.HuffmanTables.{Tables, dht_at}
 use Rattle.jpeg_segments.specs.Quantization.{dqt_at}
-use Rattle.jpeg_segments.specs.ScanHeader.{Scan, sos_at}
+use Rattle.jpeg_segments.specs.ScanHeader.{Scan}
+use Rattle.jpeg_segments.specs.ScanHeaders.{IsScan, ScanHeader, scan_payload, scan_written}
+use Rattle.jpeg_segments.specs.WrittenSegments.{sized}
 use Rattle.jpeg_streams.specs.Levels.{Levels, nothing_sent}
 use Rattle.jpeg_streams.specs.ScanSegments.{Coding, pass_of, is_progressive}
 use Rattle.jpeg_streams.specs.Segments.{with_application, accepted, with_huffman, updated}
@@ -85,12 +88,13 @@ pub data WritesScans (array : Coefficients) (f : Frame) (tail : List ℕ) : Foun
       → WritesScans array f tail next levels scanned after more final last
       → WritesScans array f tail w levels scanned m (bytes ++ marker fill code more) final last
   scan : (w final : Found) (levels last : ℕ → Levels) (scanned : Bool) (after : Marker) (fill code : ℕ)
-      (header bytes more : List ℕ) (s : Scan) (codings : List Coding)
-      → IsAccepted (sos_at f) header s → (f.process ≢ Lossless → ScanFacts f s) → IsLegalScan w f levels s codings
+      (h : ScanHeader) (bytes more : List ℕ) (s : Scan) (codings : List Coding)
+      → s ≡ scan_written f h → IsScan f h → IsLegalScan w f levels s codings
       → WritesScan f w.restart (pass_of s) codings array bytes → IsMarker code after
       → WritesScans array f tail w
       (levels_after (pass_of s) (map (λ c. c.place) codings) levels) true after more final last
-      → WritesScans array f tail w levels scanned SOS (header ++ (bytes ++ marker fill code more)) final last
+      → WritesScans array f tail w levels scanned SOS
+      (sized (scan_payload h) ++ (bytes ++ marker fill code more)) final last
   closed : (w : Found) (levels : ℕ → Levels) → AllByRecursion (HasTable w) f.components
       → (is_progressive f.process ≡ false
       → AllByRecursion (λ k. IsComplete (levels k)) (range_with_len 0 (length f.components)))

@@ -482,7 +482,7 @@ one-scan kind number h array front more c levels last scanned bytes fits le p ra
       marker 0 218 (sized (scan_payload head) ++ (d.0 ++ bytes)),
       scan (said number h) (said number h) levels last scanned f 0 head ks d.0 bytes refl
           (lone-written (from_for kind) (to_for kind) number h front more c (band-is kind number h fits)
-              (let q = p.precise in omega arith) e is.is_new) legal coded w,
+          (let q = p.precise in omega arith) e is.is_new) legal coded w,
     )
 
 -- The scans of a component: what was sent after them, and they stand before what is written then.

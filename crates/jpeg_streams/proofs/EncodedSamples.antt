@@ -4,7 +4,7 @@ use Rattle.std.proofs.Common.{Bool, true, false, List, [], ◌∷◌, ◌++◌, 
 use Rattle.std.proofs.Common.{◌≤ℤ◌, unsigned_abs, Some, None}
 use Rattle.std.proofs.Common.{refl, sym, ap, ap₂, ◌∙◌, subst, append_assoc, length-append, arith}
 use Rattle.std.proofs.Math.Pow.{pow_mono}
-use Rattle.std.proofs.lemmas.Bool.{cases_lt, eqb-true, ltb-true}
+use Rattle.std.proofs.lemmas.Bool.{and_parts, cases_lt, eqb-true, ltb-true}
 use Rattle.std.proofs.lemmas.Int.{ints}
 use Rattle.std.proofs.lemmas.List.{append-nil, take_all}
 use Rattle.std.proofs.lemmas.List.FromFn.{get_or-range_with_len}
@@ -45,7 +45,6 @@ use Rattle.jpeg_streams.specs.WrittenLossless.Writes.{closed, scan, segment}
 use Rattle.jpeg_streams.proofs.EncodedBlocks.{category-at_most, packed}
 use Rattle.jpeg_streams.proofs.EncodedImages.{component_in, first-is, in-range, lone_header, lone-written}
 use Rattle.jpeg_streams.proofs.TestedParts.{table-by}
-use Rattle.jpeg_streams.proofs.Soundness.{both-hold}
 
 -- ---- the table
 
@@ -312,7 +311,7 @@ header-bytes h is p fits =
 tested-bytes : (bytes : List ℕ) → list_all (λ b. nat_lt b 256) bytes ≡ true → AreBytes bytes
 tested-bytes [] h = tt
 tested-bytes (b ∷ bytes) h =
-    let both = both-hold (nat_lt b 256) (list_all (λ b. nat_lt b 256) bytes) h in
+    let both = and_parts (nat_lt b 256) (list_all (λ b. nat_lt b 256) bytes) h in
     (ltb-true b 256 both.0, tested-bytes bytes both.1)
 
 -- ---- the interval

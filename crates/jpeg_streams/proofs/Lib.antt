@@ -46,6 +46,7 @@ pub mod InsidePictures
 pub mod ScaledSizes
 pub mod WrittenPictures
 pub mod ScaledScans
+pub mod UpsampledFactors
 pub mod ScaledSources
 pub mod SizedStreams
 pub mod AcceptedImages

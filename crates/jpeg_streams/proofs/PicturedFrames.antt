@@ -1,95 +1,20 @@
 -- A frame header that has a picture is accepted.
-use Rattle.std.proofs.Common.{◌≡◌, ◌⊎◌, inl, inr, ℕ, zero, suc, ◌≤◌, ◌*◌, ◌/◌, ◌%◌, ◌==◌, ◌&&◌, ◌||◌, Bool, true, false}
-use Rattle.std.proofs.Common.{List, [], ◌∷◌, map, length, Some, Ok, refl, sym, ap, ap₂, ◌∙◌}
+use Rattle.std.proofs.Common.{◌≡◌, ◌⊎◌, inl, inr, ℕ, zero, suc, ◌≤◌, ◌==◌, true, false}
+use Rattle.std.proofs.Common.{List, [], ◌∷◌, map, length, Ok, refl, ap, ap₂, ◌∙◌}
 use Rattle.std.proofs.Common.{arith}
-use Rattle.std.proofs.Common.{true≢false}
 use Rattle.std.proofs.lemmas.Bool.{eq-eqb}
 use Rattle.std.specs.List.{AllByRecursion}
 use lib.ListN.{length-map}
-use Rattle.jpeg_pixels.specs.declared.upsampler.UpsampleRule.{UpsampleRule}
-use Rattle.jpeg_pixels.specs.declared.upsampler.UpsampleRule.TheVariants.{Generic}
-use Rattle.jpeg_pixels.specs.Pictures.{Source, source_by, source_of, sources_by, sources_of}
-use Rattle.jpeg_pixels.specs.Upsampling.{divides, rule_of}
-use Rattle.jpeg_segments.specs.Frame.{Component, component_of, Factors, Frame, frame_of, greatest}
+use Rattle.jpeg_pixels.specs.Pictures.{Source, sources_by, sources_of}
+use Rattle.jpeg_segments.specs.Frame.{component_of, Factors, Frame, frame_of, greatest}
 use Rattle.jpeg_segments.specs.WrittenSegments.{FrameHeader, frame_written}
-use Rattle.jpeg_streams.specs.SaidSegments.{HasPicture, IsNear, IsUpsampled}
+use Rattle.jpeg_streams.specs.SaidSegments.{HasPicture, IsUpsampled}
 use Rattle.jpeg_streams.specs.Segments.{accepted, is_decoded_count, is_arithmetic, is_decoded_precision}
 use Rattle.jpeg_streams.proofs.AcceptedTurns.{then-ok}
 use Rattle.jpeg_streams.proofs.FrameFits.{factors-back}
-use Rattle.jpeg_streams.proofs.ScaledSources.{pick-some}
-
--- ---- rules
-
-and-true : (a b : Bool) → a ≡ true → b ≡ true → (a && b) ≡ true
-and-true true b e f = f
-and-true false b e f = absurd (true≢false (sym e))
-
-or-left : (a b : Bool) → a ≡ true → (a || b) ≡ true
-or-left true b e = refl
-or-left false b e = absurd (true≢false (sym e))
-
-or-right : (a b : Bool) → b ≡ true → (a || b) ≡ true
-or-right true b e = refl
-or-right false b e = e
-
--- near is at most a half, by the tests of a rule
-near-test : (n m s : ℕ) → IsNear n m s → ((n == m || s == 1) ≡ true) ⊎ ((2 * n == m) ≡ true)
-near-test n m s (inl e) = inl (or-left (n == m) (s == 1) (eq-eqb n m e))
-near-test n m s (inr (inl e)) = inr (eq-eqb (2 * n) m e)
-near-test n m s (inr (inr e)) = inl (or-right (n == m) (s == 1) (eq-eqb s 1 e))
-
-any-test : (h1 h2 v1 v2 e : Bool) → ((h1 ≡ true) ⊎ (h2 ≡ true)) × ((v1 ≡ true) ⊎ (v2 ≡ true)) ⊎ (e ≡ true)
-    → (h1 && v1 || (h2 && v1 || (h1 && v2 || (h2 && v2 || e)))) ≡ true
-any-test h1 h2 v1 v2 e (inl (inl a, inl b)) = or-left (h1 && v1) _ (and-true h1 v1 a b)
-any-test h1 h2 v1 v2 e (inl (inr a, inl b)) = or-right (h1 && v1) _ (or-left (h2 && v1) _ (and-true h2 v1 a b))
-any-test h1 h2 v1 v2 e (inl (inl a, inr b)) =
-    or-right (h1 && v1) _ (or-right (h2 && v1) _ (or-left (h1 && v2) _ (and-true h1 v2 a b)))
-any-test h1 h2 v1 v2 e (inl (inr a, inr b)) =
-    or-right (h1 && v1) _ (or-right (h2 && v1) _ (or-right (h1 && v2) _ (or-left (h2 && v2) _ (and-true h2 v2 a b))))
-any-test h1 h2 v1 v2 e (inr a) =
-    or-right (h1 && v1) _ (or-right (h2 && v1) _ (or-right (h1 && v2) _ (or-right (h2 && v2) _ a)))
-
--- the greatest factors, and the size of the picture
-abbrev pub Upsampled : ℕ → ℕ → ℕ → ℕ → Factors → Type 0
-Upsampled most_h most_v width height c =
-    (IsNear c.horizontal most_h width × IsNear c.vertical most_v height)
-    ⊎ ((most_h % c.horizontal ≡ 0) × (most_v % c.vertical ≡ 0))
-
-rule-some : (most_h most_v width height : ℕ) (c : Factors) → Upsampled most_h most_v width height c
-    → (r : UpsampleRule) × (rule_of c.horizontal c.vertical most_h most_v width height ≡ Some r)
-unfolding rule_of
-rule-some most_h most_v width height c u =
-    let h1 = c.horizontal == most_h || width == 1 in
-    let v1 = c.vertical == most_v || height == 1 in
-    let h2 = 2 * c.horizontal == most_h in
-    let v2 = 2 * c.vertical == most_v in
-    let any = divides c.horizontal most_h && divides c.vertical most_v in
-    pick-some (h1 && v1) (h2 && v1) (h1 && v2) (h2 && v2) any (Generic (most_h / c.horizontal) (most_v / c.vertical))
-    (any-test h1 h2 v1 v2 any (go u))
-  where
-    go : Upsampled most_h most_v width height c
-        → (((c.horizontal == most_h || width == 1) ≡ true) ⊎ ((2 * c.horizontal == most_h) ≡ true))
-        × (((c.vertical == most_v || height == 1) ≡ true) ⊎ ((2 * c.vertical == most_v) ≡ true))
-        ⊎ ((divides c.horizontal most_h && divides c.vertical most_v) ≡ true)
-    go (inl near) = inl (near-test c.horizontal most_h width near.0, near-test c.vertical most_v height near.1)
-    go (inr whole) =
-        inr (and-true (divides c.horizontal most_h) (divides c.vertical most_v)
-        (eq-eqb (most_h % c.horizontal) 0 whole.0) (eq-eqb (most_v % c.vertical) 0 whole.1))
+use Rattle.jpeg_streams.proofs.UpsampledFactors.{Upsampled, sources-some, or-left, or-right}
 
 -- ---- sources
-
-sources-some : (most_h most_v width height : ℕ) (cs : List Component)
-    → AllByRecursion (λ c. Upsampled most_h most_v width height c.factors) cs
-    → (sources : List Source) × (sources_by most_h most_v width height cs ≡ Ok sources)
-unfolding sources_by
-sources-some most_h most_v width height [] u = ([], refl)
-sources-some most_h most_v width height (c ∷ cs) u =
-    let r = rule-some most_h most_v width height c.factors u.0 in
-    let others = sources-some most_h most_v width height cs u.1 in (
-      _,
-      then-ok (source_of most_h most_v width height c) _ _ _ (ap (source_by c) r.1)
-          (then-ok (sources_by most_h most_v width height cs) _ others.0 _ others.1 refl),
-    )
 
 all-made : (P : Factors → Type 0) (width height h v : ℕ) (xs : List Factors) → AllByRecursion P xs
     → AllByRecursion (λ c. P c.factors) (map (component_of width height h v) xs)

@@ -18,7 +18,7 @@ use Rattle.jpeg_streams.specs.Stream.{segment_at, end_segment, segments_within, 
 use Rattle.jpeg_streams.specs.Levels.{Levels, Is8Bit, nothing_sent}
 use Rattle.jpeg_bits.specs.Written.{marker}
 use Rattle.jpeg_streams.specs.WrittenScans.{Coefficients, levels_after, IsComplete, HasTable}
-use Rattle.jpeg_streams.proofs.AcceptedStreams.{Plain, WritesSegment, WritesScans, WritesHead, WritesStream}
+use Rattle.jpeg_streams.proofs.AcceptedStreams.{Plain, ScanFacts, WritesSegment, WritesScans, WritesHead, WritesStream}
 use Rattle.jpeg_streams.proofs.AcceptedStreams.WritesSegment.{quantization, huffman, restart, application, comment}
 use Rattle.jpeg_streams.proofs.AcceptedStreams.WritesScans.{segment, scan, closed}
 use Rattle.jpeg_streams.proofs.AcceptedStreams.WritesHead.{before as earlier, frame as framing}
@@ -27,6 +27,11 @@ use Rattle.jpeg_streams.proofs.ReadStates.{reading, is_whole, PlaneSo, AllHeld, 
 use Rattle.jpeg_streams.proofs.AcceptedTurns.{StandsAt, stands-met, stands-next, turn-on, turn-end, then-ok}
 use Rattle.jpeg_streams.proofs.AcceptedTurns.{segment-read, frame-kept, scans-plain, codings-same, codings-read}
 use Rattle.jpeg_streams.proofs.AcceptedTurns.{scan-by}
+use Rattle.jpeg_segments.specs.ScanHeader.{Scan, sos_at}
+use Rattle.jpeg_segments.specs.ScanHeaders.{scan_payload}
+use Rattle.jpeg_segments.specs.WrittenSegments.{sized}
+use Rattle.jpeg_segments.proofs.HeaderSegments.{sos-read}
+use Rattle.jpeg_streams.proofs.ScanFacts.{header-facts}
 use Rattle.jpeg_streams.proofs.TablesInForce.{tables-next, tables-start, codings-good}
 use Rattle.jpeg_streams.proofs.SaidTables.{HasTables}
 use Rattle.jpeg_streams.proofs.BroughtLevels.{Shaped, Framed, framed-start, scan-brings}
@@ -169,15 +174,19 @@ reads-scans array f tail w final levels last sc m bytes h fi pl (suc turns) bf m
     (framed-next w next m payload f array levels sc h fi pl q none s fr) r (stands-next fill code after more i)
     (omega arith))
 reads-scans array f tail w final levels last sc m bytes h fi pl (suc turns) bf met all range shape good e none fr
-    (scan w' final' levels' last' sc' after fill code header payload more s codings a rules l x i r) at room =
-    let b = scan-brings w f array levels sc h fi pl s codings payload range shape fr (rules shape.lossy)
+    (scan w' final' levels' last' sc' after fill code head payload more s codings made is l x i r) at room =
+    let header = sized (scan_payload head) in
+    let read : (rest : List ℕ) → sos_at f (sized (scan_payload head) ++ rest) ≡ Ok (s, rest) =
+    λ rest. sos-read f head rest is ∙ ap (λ (y : Scan). Ok (y, rest)) (sym made) in
+    let rules = subst (ScanFacts f) (sym made) (header-facts f head is shape.lossy) in
+    let b = scan-brings w f array levels sc h fi pl s codings payload range shape fr rules
     (codings-good w f s codings good l.are_in_force) l x in
     let sizes = length-append header (payload ++ marker fill code more) in
     let others = length-append payload (marker fill code more) in
     let fills = length-append (replicate fill 0xFF) (code ∷ more) in
     let now = reading w sc h fi pl in
     let turn = scan-by now f s codings b.arrays after (header ++ (payload ++ marker fill code more))
-    (payload ++ marker fill code more) more shape.lossy e (a.accepted (payload ++ marker fill code more))
+    (payload ++ marker fill code more) more shape.lossy e (read (payload ++ marker fill code more))
     (codings-same w sc h fi pl f s ∙ codings-read w f s codings l.are_in_force)
     (b.read fill code after more i)
     (scans-plain array f tail w final _ last true after more more (length more) r) in

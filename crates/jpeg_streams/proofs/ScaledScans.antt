@@ -1,23 +1,23 @@
 -- A stream that was written for a frame is one for the frame at any scale.
 use Rattle.std.proofs.Common.{◌≡◌, ◌⊎◌, inl, inr, ℕ, zero, suc, ◌+◌, ◌*◌, ◌/◌, ◌%◌, ◌<◌, ◌≤◌, ◌==◌, nat_lt, Bool}
-use Rattle.std.proofs.Common.{true, false, cond, List, [], ◌∷◌, ◌++◌, map, length, get_or, slice_index_or, sum_by}
-use Rattle.std.proofs.Common.{sum, drop, Option, Some, None, Ok, Err, refl, sym, ap, ap₂, ◌∙◌, subst, arith, leb}
-use Rattle.std.proofs.Common.{mul_assoc, if◌then◌else◌}
+use Rattle.std.proofs.Common.{true, false, List, [], ◌∷◌, ◌++◌, map, length, get_or, slice_index_or, sum_by}
+use Rattle.std.proofs.Common.{sum, drop, Option, Some, None, refl, sym, ap, ap₂, ◌∙◌, subst, arith, leb}
+use Rattle.std.proofs.Common.{mul_assoc}
 use Rattle.std.proofs.lemmas.Bool.Decides.{leb_tells}
 use Rattle.std.proofs.Math.Nat.{mul_comm, lt_of_mul-lt-mul_right, mul-lt-mul_of_pos_right}
 use Rattle.std.specs.List.{AllByRecursion, range_with_len, flat_map, position}
 use Rattle.std.proofs.lemmas.List.Sums.{sum-map}
-use Rattle.jpeg_bits.specs.Reading.{Outcome, Malformed, ◌>>=◌, next_byte}
 use Rattle.jpeg_segments.specs.Frame.{Frame, Component, Factors, ceiling}
-use Rattle.jpeg_segments.specs.ScanHeader.{Scan, Selector, place_of, blocks_by, tables_at, tables_by, selector_at}
-use Rattle.jpeg_segments.specs.ScanHeader.{selectors_from, is_mcu, scan_of, band_at, count_at, sos_at}
+use Rattle.jpeg_segments.specs.declared.parser.CodingProcess.{CodingProcess}
+use Rattle.jpeg_segments.specs.ScanHeader.{Scan, Selector, place_of, blocks_by, is_band, is_mcu, scan_of}
+use Rattle.jpeg_segments.specs.ScanHeaders.{AreChoices, Choice, IsScan, ScanHeader, scan_written, selector_of}
 use Rattle.jpeg_segments.proofs.ScanLemmas.{position-map}
 use Rattle.jpeg_streams.specs.declared.grids.Grid.{Grid}
 use Rattle.jpeg_bits.specs.Passes.{Pass, Via}
 use Rattle.jpeg_streams.specs.Order.{Spot, grid_of, own_spots, part_spots, mcu_spots, all_spots, spots_of, mcu_size}
 use Rattle.jpeg_bits.specs.Codes.{Table}
 use Rattle.jpeg_bits.specs.declared.marker.Marker.{Marker}
-use Rattle.jpeg_segments.specs.HuffmanTables.{Tables}
+use Rattle.jpeg_segments.specs.HuffmanTables.{Tables, greatest_place}
 use Rattle.jpeg_bits.specs.Passes.{Block}
 use Rattle.jpeg_bits.specs.Intervals.{first_group, other_groups}
 use Rattle.jpeg_streams.specs.Levels.{Levels, IsLegal, numbers_at}
@@ -27,7 +27,7 @@ use Rattle.jpeg_streams.specs.ScanSegments.{vias_from, Coding, tables_of, pass_o
 use Rattle.jpeg_streams.specs.Found.{Found}
 use Rattle.jpeg_streams.specs.WrittenScans.{Coefficients, IsOwn, no_grid, grid_at, written_turns}
 use Rattle.jpeg_streams.specs.WrittenScans.{IsCoding, AreCodings, WritesScan, levels_after, IsComplete, HasTable}
-use Rattle.jpeg_streams.proofs.AcceptedStreams.{IsAccepted, PassSo, ScanFacts, WritesSegment, WritesScans, progressive, sequential}
+use Rattle.jpeg_streams.proofs.AcceptedStreams.{IsAccepted, WritesSegment, WritesScans}
 use Rattle.jpeg_streams.specs.WrittenScans.AreCodings.{no_more, and_more}
 use Rattle.jpeg_streams.proofs.AcceptedStreams.WritesSegment.{quantization, huffman, restart, application, comment}
 use Rattle.jpeg_streams.proofs.AcceptedStreams.WritesScans.{segment, scan, closed}
@@ -163,71 +163,43 @@ blocks-same cs ds place none = refl
 blocks-same cs ds zero (one_more c d cs' ds' h more) = rw h.factors refl
 blocks-same cs ds (suc place) (one_more c d cs' ds' h more) = blocks-same cs' ds' place more
 
-tables-same : (f g : Frame) → SameFrame f g → (place : ℕ) (bytes : List ℕ)
-    → tables_at g place bytes ≡ tables_at f place bytes
-unfolding tables_at
-tables-same f g same place bytes =
-    rw (same.is_baseline, blocks-same f.components g.components place same.components) refl
+selectors-same : (f g : Frame) (cs : List Choice) → SameFrame f g → map (selector_of g) cs ≡ map (selector_of f) cs
+selectors-same f g [] same = refl
+selectors-same f g (c ∷ cs) same =
+    ap₂ (λ (n : ℕ) (l : List Selector). record { component = c.component; dc = c.dc; ac = c.ac; blocks = n } ∷ l)
+    (blocks-same f.components g.components c.component same.components) (selectors-same f g cs same)
 
-selector-same : (f g : Frame) → SameFrame f g → (least : ℕ) (bytes : List ℕ)
-    → selector_at g least bytes ≡ selector_at f least bytes
-unfolding selector_at
-selector-same f g same least bytes = go (next_byte bytes)
-  where
-    by : (place : Option ℕ) (rest : List ℕ) → tables_by g least place rest ≡ tables_by f least place rest
-    by None rest = refl
-    by (Some place) rest =
-        ap (λ (o : Outcome Selector). cond (nat_lt place least) (Err Malformed) o) (tables-same f g same place rest)
+written-same : (f g : Frame) (h : ScanHeader) → SameFrame f g → scan_written g h ≡ scan_written f h
+unfolding scan_of
+written-same f g h same = rw (selectors-same f g h.choices same, same.process) refl
 
-    go : (o : Outcome ℕ) → (o >>= (λ i. tables_by g least (place_of g.components i.0) i.1))
-        ≡ (o >>= (λ i. tables_by f least (place_of f.components i.0) i.1))
-    go (Err e) = refl
-    go (Ok i) = ap (λ (p : Option ℕ). tables_by g least p i.1)
-        (place-same f.components g.components i.0 same.components) ∙ by (place_of f.components i.0) i.1
+choices-same : (f g : Frame) (least : ℕ) (cs : List Choice) → SameFrame f g → AreChoices f least cs
+    → AreChoices g least cs
+unfolding AreChoices
+choices-same f g least [] same are = tt
+choices-same f g least (c ∷ cs) same are =
+    let is = are.0 in
+    let most : (n : ℕ) → n ≤ greatest_place (Some f.is_baseline) → n ≤ greatest_place (Some g.is_baseline) =
+    λ n. subst (λ (b : Bool). n ≤ greatest_place (Some b)) (sym same.is_baseline) in (
+      record {
+        identified = place-same f.components g.components c.identifier same.components ∙ is.identified;
+        ordered = is.ordered;
+        dc_placed = most c.dc is.dc_placed;
+        ac_placed = most c.ac is.ac_placed;
+      },
+      choices-same f g (c.component + 1) cs same are.1,
+    )
 
-selectors-same : (f g : Frame) → SameFrame f g → (n : ℕ) (front : List Selector) (least : ℕ) (bytes : List ℕ)
-    → selectors_from g n front least bytes ≡ selectors_from f n front least bytes
-unfolding selectors_from
-selectors-same f g same zero front least bytes = refl
-selectors-same f g same (suc n) front least bytes =
-    ap (λ (o : Outcome Selector). o >>= (λ s. selectors_from g n (front ++ s.0 ∷ []) (s.0.component + 1) s.1))
-    (selector-same f g same least bytes)
-    ∙ go (selector_at f least bytes) (λ s. selectors-same f g same n (front ++ s.0 ∷ []) (s.0.component + 1) s.1)
-  where
-    go : (o : Outcome Selector)
-        → ((s : Selector × List ℕ)
-        → selectors_from g n (front ++ s.0 ∷ []) (s.0.component + 1) s.1
-        ≡ selectors_from f n (front ++ s.0 ∷ []) (s.0.component + 1) s.1)
-        → (o >>= (λ s. selectors_from g n (front ++ s.0 ∷ []) (s.0.component + 1) s.1))
-        ≡ (o >>= (λ s. selectors_from f n (front ++ s.0 ∷ []) (s.0.component + 1) s.1))
-    go (Err e) h = refl
-    go (Ok s) h = h s
-
-band-same : (f g : Frame) → SameFrame f g → (sel : List Selector) (bytes : List ℕ)
-    → band_at g sel bytes ≡ band_at f sel bytes
-unfolding band_at scan_of
-band-same f g same sel bytes = rw (same.process, same.precision) refl
-
-pub sos-same : (f g : Frame) → SameFrame f g → (bytes : List ℕ) → sos_at g bytes ≡ sos_at f bytes
-unfolding sos_at
-sos-same f g same bytes = go (count_at bytes)
-  where
-    then_ : (o : Outcome (List Selector))
-        → (o >>= (λ s. if is_mcu s.0 then band_at g s.0 s.1 else Err Malformed))
-        ≡ (o >>= (λ s. if is_mcu s.0 then band_at f s.0 s.1 else Err Malformed))
-    then_ (Err e) = refl
-    then_ (Ok s) = ap (λ (o : Outcome Scan). cond (is_mcu s.0) o (Err Malformed)) (band-same f g same s.0 s.1)
-
-    go : (o : Outcome ℕ)
-        → (o >>= (λ n. selectors_from g n.0 [] 0 n.1 >>=
-        (λ s. if is_mcu s.0 then band_at g s.0 s.1 else Err Malformed)))
-        ≡ (o >>= (λ n. selectors_from f n.0 [] 0 n.1 >>=
-        (λ s. if is_mcu s.0 then band_at f s.0 s.1 else Err Malformed)))
-    go (Err e) = refl
-    go (Ok n) =
-        ap (λ (o : Outcome (List Selector)). o >>= (λ s. if is_mcu s.0 then band_at g s.0 s.1 else Err Malformed))
-        (selectors-same f g same n.0 [] 0 n.1)
-        ∙ then_ (selectors_from f n.0 [] 0 n.1)
+scan-same : (f g : Frame) (h : ScanHeader) → SameFrame f g → IsScan f h → IsScan g h
+scan-same f g h same is = record {
+  some = is.some;
+  most = is.most;
+  choices = choices-same f g 0 h.choices same is.choices;
+  fits = ap is_mcu (selectors-same f g h.choices same) ∙ is.fits;
+  narrow = is.narrow;
+  precise = ap (λ (n : ℕ). nat_lt h.low n) same.precision ∙ is.precise;
+  band = ap (λ (p : CodingProcess). is_band p (length h.choices) h.first h.last h.high h.low) same.process ∙ is.band;
+}
 
 -- ---- codings
 
@@ -391,19 +363,6 @@ tables-there w g cs ds (one_more c d cs' ds' a more) h = (
   tables-there w g cs' ds' more h.1,
 )
 
-so-alike : (f g : Frame) (s : Scan) → SameFrame f g → PassSo f s → PassSo g s
-so-alike f g s same (sequential e p) = sequential (ap is_progressive same.process ∙ e) p
-so-alike f g s same (progressive e d a lt le) = progressive (ap is_progressive same.process ∙ e) d a lt le
-
-facts-alike : (f g : Frame) (s : Scan) → SameFrame f g → ScanFacts f s → ScanFacts g s
-facts-alike f g s same h = record {
-  some = h.some;
-  dc_length = h.dc_length;
-  ac_length = h.ac_length;
-  apart = h.apart;
-  so = so-alike f g s same h.so;
-}
-
 -- A stream that was written for a frame is written for one with the same blocks.
 pub scans-alike : (array : Coefficients) (f g : Frame) (tail : List ℕ) (w final : Found) (levels last : ℕ → Levels)
     (sc : Bool) (m : Marker) (bytes : List ℕ) → SameFrame f g → w.frame ≡ Some f
@@ -415,13 +374,12 @@ scans-alike array f g tail w final levels last sc m bytes same e
     (segment-alike w next m payload f g same e s) q i
     (scans-alike array f g tail next final levels last sc after more same (frame-kept w next m payload s ∙ e) r)
 scans-alike array f g tail w final levels last sc m bytes same e
-    (scan w' final' levels' last' sc' after fill code header payload more s codings a rules l x i r) =
+    (scan w' final' levels' last' sc' after fill code h payload more s codings made is l x i r) =
     let o = codings-alike w f g same (pass_of s)
     (tables_of w s) s.components s.dc_places s.ac_places codings l.are_in_force in
     let places = places-alike codings o.0 o.2 in
-    scan (at_frame w g) (at_frame final g) levels last sc after fill code header payload more s o.0
-    (record { accepted = λ rest. sos-same f g same (header ++ rest) ∙ a.accepted rest })
-    (λ n. facts-alike f g s same (rules (λ e. n (same.process ∙ e))))
+    scan (at_frame w g) (at_frame final g) levels last sc after fill code h payload more s o.0
+    (made ∙ sym (written-same f g h same)) (scan-same f g h same is)
     (record {
       are_in_force = subst (λ (t : Tables). AreCodings (at_frame w g) g
           (pass_of s) t s.components s.dc_places s.ac_places o.0) (sym (tables-kept w g s)) o.1;

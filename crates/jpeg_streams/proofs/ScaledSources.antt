@@ -1,110 +1,45 @@
 -- A frame with a way to upsample each component has one at each scale.
-use Rattle.std.proofs.Common.{◌≡◌, ℕ, ◌*◌, ◌/◌, ◌==◌, ◌&&◌, ◌||◌, Bool, true, false, List, [], ◌∷◌, map, Option, Some}
-use Rattle.std.proofs.Common.{None, Ok, refl, sym, ap, ap₂, ◌∙◌, subst, arith, ◌<◌, ◌≤◌, if◌then◌else◌, true≢false}
-use Rattle.std.proofs.lemmas.Bool.{eqb-true, eq-eqb}
-use Rattle.jpeg_bits.specs.Reading.{Lacks}
+use Rattle.std.proofs.Common.{◌≡◌, inl, inr, ℕ, ◌*◌, ◌<◌, ◌≤◌, List, [], ◌∷◌, map, Ok, sym, ap, ap₂, ◌∙◌, subst}
+use Rattle.std.proofs.Common.{arith}
+use Rattle.std.specs.List.{AllByRecursion}
 use Rattle.jpeg_segments.specs.Frame.{Component, Factors, Frame, ceiling}
 use Rattle.jpeg_segments.specs.Scales.{frame_at}
-use Rattle.jpeg_pixels.specs.declared.upsampler.UpsampleRule.{UpsampleRule}
-use Rattle.jpeg_pixels.specs.declared.upsampler.UpsampleRule.TheVariants.{H1V1, H2V1, H1V2, H2V2, Generic}
-use Rattle.jpeg_pixels.specs.Upsampling.{rule_of, divides}
-use Rattle.jpeg_pixels.specs.Pictures.{Source, source_by, source_of, sources_by, sources_of}
-use Rattle.jpeg_streams.proofs.AcceptedTurns.{err-ok, bind-ok, then-ok}
+use Rattle.jpeg_pixels.specs.Pictures.{Source, sources_by, sources_of}
+use Rattle.jpeg_pixels.proofs.RuleRatios.{some-ceiling}
+use Rattle.jpeg_streams.specs.SaidSegments.{IsNear}
 use Rattle.jpeg_streams.proofs.FrameShapes.{Plain, made-at, plain-size, ceiling-covers, ceiling-least}
 use Rattle.jpeg_streams.proofs.ScaledSizes.{scaled_component, most_h, most_v, is-sized, factors-scaled}
-use Rattle.jpeg_pixels.proofs.RuleRatios.{some-ceiling}
+use Rattle.jpeg_streams.proofs.UpsampledFactors.{Upsampled, sources-back, sources-some}
 
--- ---- choices
+-- ---- components
 
--- one follows from the other
-abbrev Follows : Bool → Bool → Type 0
-Follows a b = a ≡ true → b ≡ true
+near-kept : (n m s t : ℕ) → (s ≡ 1 → t ≡ 1) → IsNear n m s → IsNear n m t
+near-kept n m s t f (inl e) = inl e
+near-kept n m s t f (inr (inl e)) = inr (inl e)
+near-kept n m s t f (inr (inr e)) = inr (inr (f e))
 
-and-follows : (a b c d : Bool) → Follows a c → Follows b d → Follows (a && b) (c && d)
-and-follows true b c d f g h = rw (f refl) (g h)
-and-follows false b c d f g h = absurd (true≢false (sym h))
+upsampled-kept : (mh mv a b a' b' : ℕ) (x : Factors) → (a ≡ 1 → a' ≡ 1) → (b ≡ 1 → b' ≡ 1) → Upsampled mh mv a b x
+    → Upsampled mh mv a' b' x
+upsampled-kept mh mv a b a' b' x f g (inl near) =
+    inl (near-kept x.horizontal mh a a' f near.0, near-kept x.vertical mv b b' g near.1)
+upsampled-kept mh mv a b a' b' x f g (inr whole) = inr whole
 
-or-follows : (a b c d : Bool) → Follows a c → Follows b d → Follows (a || b) (c || d)
-or-follows true b c d f g h = rw (f refl) refl
-or-follows false b true d f g h = refl
-or-follows false b false d f g h = g h
+all-kept : (s width height mh mv a b a' b' : ℕ) (xs : List Factors) → (a ≡ 1 → a' ≡ 1) → (b ≡ 1 → b' ≡ 1)
+    → AllByRecursion (λ c. Upsampled mh mv a b c.factors) (map (scaled_component 8 width height mh mv) xs)
+    → AllByRecursion (λ c. Upsampled mh mv a' b' c.factors) (map (scaled_component s width height mh mv) xs)
+all-kept s width height mh mv a b a' b' [] f g h = tt
+all-kept s width height mh mv a b a' b' (x ∷ xs) f g h =
+    (upsampled-kept mh mv a b a' b' x f g h.0, all-kept s width height mh mv a b a' b' xs f g h.1)
 
-abbrev pub pick : Bool → Bool → Bool → Bool → Bool → UpsampleRule → Option UpsampleRule
-pick a b c d e last =
-    if a then Some H1V1 else
-    (if b then Some H2V1 else (if c then Some H1V2 else (if d then Some H2V2 else (if e then Some last else None))))
-
-pub pick-test : (a b c d e : Bool) (l r : UpsampleRule) → pick a b c d e l ≡ Some r → (a || (b || (c || (d || e)))) ≡ true
-pick-test true b c d e l r h = refl
-pick-test false true c d e l r h = refl
-pick-test false false true d e l r h = refl
-pick-test false false false true e l r h = refl
-pick-test false false false false true l r h = refl
-pick-test false false false false false l r h = absurd (no h)
-  where
-    no : ◌≡◌ {A = Option UpsampleRule} None (Some r) → ⊥
-    no e = cc
-
-pub pick-some : (a b c d e : Bool) (l : UpsampleRule) → (a || (b || (c || (d || e)))) ≡ true
-    → (r : UpsampleRule) × (pick a b c d e l ≡ Some r)
-pick-some true b c d e l h = (H1V1, refl)
-pick-some false true c d e l h = (H2V1, refl)
-pick-some false false true d e l h = (H1V2, refl)
-pick-some false false false true e l h = (H2V2, refl)
-pick-some false false false false true l h = (l, refl)
-pick-some false false false false false l h = absurd (true≢false (sym h))
-
-one-follows : (h m a b : ℕ) → (a ≡ 1 → b ≡ 1) → Follows (h == m || a == 1) (h == m || b == 1)
-one-follows h m a b f = or-follows (h == m) (a == 1) (h == m) (b == 1) (λ e. e) (λ e. eq-eqb b 1 (f (eqb-true a 1 e)))
-
--- a rule for one size is there for another that is 1 where the first is
-rule-there : (h v mh mv a b c d : ℕ) (rule : UpsampleRule) → (a ≡ 1 → c ≡ 1) → (b ≡ 1 → d ≡ 1)
-    → rule_of h v mh mv a b ≡ Some rule → (r : UpsampleRule) × (rule_of h v mh mv c d ≡ Some r)
-unfolding rule_of
-rule-there h v mh mv a b c d rule f g e =
-    let h1 = h == mh || a == 1 in
-    let v1 = v == mv || b == 1 in
-    let h3 = h == mh || c == 1 in
-    let v3 = v == mv || d == 1 in
-    let h2 = 2 * h == mh in
-    let v2 = 2 * v == mv in
-    let any = divides h mh && divides v mv in
-    let fh = one-follows h mh a c f in
-    let fv = one-follows v mv b d g in
-    let test = pick-test (h1 && v1) (h2 && v1) (h1 && v2) (h2 && v2) any (Generic (mh / h) (mv / v)) rule e in
-    pick-some (h3 && v3) (h2 && v3) (h3 && v2) (h2 && v2) any (Generic (mh / h) (mv / v))
-    (or-follows (h1 && v1) _ (h3 && v3) _ (and-follows h1 v1 h3 v3 fh fv)
-    (or-follows (h2 && v1) _ (h2 && v3) _ (and-follows h2 v1 h2 v3 (λ x. x) fv)
-    (or-follows (h1 && v2) _ (h3 && v2) _ (and-follows h1 v2 h3 v2 fh (λ x. x)) (λ x. x))) test)
-
--- ---- sources
-
-source-there : (c d : Component) (o p : Option UpsampleRule) (s : Source)
-    → ((rule : UpsampleRule) → o ≡ Some rule → (r : UpsampleRule) × (p ≡ Some r)) → source_by c o ≡ Ok s
-    → (t : Source) × (source_by d p ≡ Ok t)
-source-there c d None p s f e = absurd (err-ok (Lacks _) s e)
-source-there c d (Some rule) p s f e = let r = f rule refl in (_, ap (source_by d) r.1)
-
+-- sources for one size are there for another that is 1 where the first is
 sources-there : (s width height mh mv a b a' b' : ℕ) (xs : List Factors) (sources : List Source)
     → (a ≡ 1 → a' ≡ 1) → (b ≡ 1 → b' ≡ 1)
     → sources_by mh mv a b (map (scaled_component 8 width height mh mv) xs) ≡ Ok sources
     → (others : List Source) × (sources_by mh mv a' b' (map (scaled_component s width height mh mv) xs) ≡ Ok others)
-unfolding sources_by
-sources-there s width height mh mv a b a' b' [] sources f g e = ([], refl)
-sources-there s width height mh mv a b a' b' (x ∷ xs) sources f g e =
-    let c = scaled_component 8 width height mh mv x in
-    let d = scaled_component s width height mh mv x in
-    let one = bind-ok (source_of mh mv a b c) _ sources e in
-    let more = bind-ok (sources_by mh mv a b (map (scaled_component 8 width height mh mv) xs)) _ sources one.2 in
-    let t = source-there c d (rule_of x.horizontal x.vertical mh mv a b)
-    (rule_of x.horizontal x.vertical mh mv a' b') one.0
-    (λ rule k. rule-there x.horizontal x.vertical mh mv a b a' b' rule f g k) one.1 in
-    let others = sources-there s width height mh mv a b a' b' xs more.0 f g more.1 in (
-      t.0 ∷ others.0,
-      then-ok (source_of mh mv a' b' d) _ t.0 _ t.1
-          (then-ok (sources_by mh mv a' b' (map (scaled_component s width height mh mv) xs)) _ others.0 _ others.1
-          refl),
-    )
+sources-there s width height mh mv a b a' b' xs sources f g e =
+    sources-some mh mv a' b' (map (scaled_component s width height mh mv) xs)
+    (all-kept s width height mh mv a b a' b' xs f g
+    (sources-back mh mv a b (map (scaled_component 8 width height mh mv) xs) sources e))
 
 -- ---- frames
 

@@ -1,5 +1,5 @@
 -- A written stream, read at a scale.
-use Rattle.std.proofs.Common.{◌≡◌, ◌≢◌, ℕ, zero, suc, ◌*◌, ◌<◌, ◌≤◌, Bool, true, false, cond, List, [], ◌∷◌, ◌++◌}
+use Rattle.std.proofs.Common.{◌≡◌, ◌≢◌, ℕ, zero, suc, ◌*◌, ◌<◌, ◌≤◌, Bool, true, false, List, [], ◌∷◌, ◌++◌}
 use Rattle.std.proofs.Common.{map, length, replicate, is_some, option_map, Option, Some, None, Result, Ok, refl, sym}
 use Rattle.std.proofs.Common.{ap, ap₂, ◌∙◌, subst, arith, length-append}
 use Rattle.jpeg_bits.specs.Reading.{Outcome, Fault, ◌>>=◌}
@@ -10,7 +10,7 @@ use Rattle.jpeg_segments.specs.Frame.{Frame, Component, Factors}
 use Rattle.jpeg_streams.specs.declared.before.Before.{Before}
 use Rattle.jpeg_streams.specs.declared.before.Before.TheVariants.{Elsewhere}
 use Rattle.jpeg_streams.specs.declared.settings.Settings.{Settings}
-use Rattle.jpeg_segments.specs.Scales.{frame_at, scale_for, reaches, sized}
+use Rattle.jpeg_segments.specs.Scales.{frame_at, scale_for, sized}
 use Rattle.jpeg_streams.specs.Stream.{turn_at, segments_within, segments_at, start_at, header_at, rest_at, sized_to}
 use Rattle.jpeg_streams.specs.Stream.{sized_meaning, told_of}
 use Rattle.jpeg_streams.specs.Segments.{accepted, onward, Turn}
@@ -37,6 +37,8 @@ use Rattle.jpeg_streams.proofs.ReadStreams.{nothing-is, no-frame, starts-so, wit
 use Rattle.jpeg_streams.proofs.WrittenPictures.{pictures-same, rest-by}
 use Rattle.jpeg_streams.proofs.FrameShapes.{greatest-some, accepted-sources}
 use Rattle.jpeg_streams.proofs.ScaledSources.{frame-sources}
+use Rattle.jpeg_streams.proofs.Soundness.{scale-bounds}
+use Rattle.jpeg_segments.proofs.ScaleLemmas.{scale_for_is_scale}
 use Rattle.jpeg_pixels.specs.Pictures.{sources_of}
 use Rattle.jpeg_streams.specs.ArrayPictures.{Takes}
 use Rattle.jpeg_streams.proofs.WrittenPictures.{pictures-taken}
@@ -115,44 +117,20 @@ shaped-at f s o h shape =
       lossy = λ e. shape.lossy (sym same.process ∙ e);
     }
 
-pick-some : (a b c : Bool) → 0 < cond a 1 (cond b 2 (cond c 4 8))
-pick-some true b c = omega arith
-pick-some false true c = omega arith
-pick-some false false true = omega arith
-pick-some false false false = omega arith
-
-scale-some : (a b c d : ℕ) → 0 < scale_for a b c d
-unfolding scale_for
-scale-some a b c d = pick-some (reaches 1 a b c d) (reaches 2 a b c d) (reaches 4 a b c d)
-
-pick-most : (a b c : Bool) → cond a 1 (cond b 2 (cond c 4 8)) ≤ 8
-pick-most true b c = omega arith
-pick-most false true c = omega arith
-pick-most false false true = omega arith
-pick-most false false false = omega arith
-
-scale-most : (a b c d : ℕ) → scale_for a b c d ≤ 8
-unfolding scale_for
-scale-most a b c d = pick-most (reaches 1 a b c d) (reaches 2 a b c d) (reaches 4 a b c d)
-
 -- the scale that is asked for
 pub sized-is : (width height : ℕ) (f : Frame) → f.process ≢ Lossless
     → (s : ℕ) × (0 < s) × (sized width height f ≡ frame_at s f) × (s ≤ 8)
 sized-is width height f n = go f.process refl
   where
+    least : ℕ
+    least = scale_for f.width f.height width height
+
+    bounds : (0 < least) × (least ≤ 8)
+    bounds = scale-bounds least (scale_for_is_scale f.width f.height width height)
+
     go : (p : CodingProcess) → f.process ≡ p → (s : ℕ) × (0 < s) × (sized width height f ≡ frame_at s f) × (s ≤ 8)
-    go DctSequential e = (
-      scale_for f.width f.height width height,
-      scale-some f.width f.height width height,
-      (rw e refl),
-      scale-most f.width f.height width height,
-    )
-    go DctProgressive e = (
-      scale_for f.width f.height width height,
-      scale-some f.width f.height width height,
-      (rw e refl),
-      scale-most f.width f.height width height,
-    )
+    go DctSequential e = (least, bounds.0, (rw e refl), bounds.1)
+    go DctProgressive e = (least, bounds.0, (rw e refl), bounds.1)
     go Lossless e = absurd (n e)
 
 -- ---- the header
@@ -205,7 +183,7 @@ header-by array tail final last one other e r =
       written = r.written;
     }
 
-head-on : (turns : ℕ) (before : Before) (f : Found) (met : Option Marker) (all rest : List ℕ) (t : Turn)
+pub head-on : (turns : ℕ) (before : Before) (f : Found) (met : Option Marker) (all rest : List ℕ) (t : Turn)
     → f.frame ≡ None → turn_at before f met all ≡ Ok (t, rest) → t.ended ≡ false
     → segments_within (suc turns) true before f met all ≡ segments_within turns true t.before t.found t.met rest
 unfolding segments_within

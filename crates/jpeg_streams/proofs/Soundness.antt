@@ -4,7 +4,7 @@ use Rattle.std.proofs.Common.{Bool, true, false, Option, Some, None, Ok}
 use Rattle.std.specs.Prelude.{◌==◌, ◌||◌, ◌&&◌, not, nat_le, is_some}
 use Rattle.std.specs.List.{AllByRecursion}
 use Rattle.std.proofs.Math.Bool.{cond}
-use Rattle.std.proofs.lemmas.Bool.{eqb-true, leb-true}
+use Rattle.std.proofs.lemmas.Bool.{and_parts, eqb-true, leb-true}
 use Rattle.std.proofs.lemmas.List.{length-map}
 use Rattle.std.proofs.lemmas.List.Elements.{recursion_from_All}
 use Rattle.jpeg_bits.specs.Reading.{Lacks}
@@ -31,11 +31,6 @@ use Rattle.jpeg_segments.proofs.Codecs.{kept-unless as unless-ok}
 
 -- ---- frames
 
-pub both-hold : (a b : Bool) → (a && b) ≡ true → (a ≡ true) × (b ≡ true)
-both-hold true true h = (refl, refl)
-both-hold true false h = absurd (cc)
-both-hold false b h = absurd (cc)
-
 not-false : (b : Bool) → not b ≡ false → b ≡ true
 not-false true h = refl
 not-false false h = absurd (cc)
@@ -58,7 +53,7 @@ decoded-precision f p e =
     let is : is_decoded_precision Lossless p.full.precision ≡ true =
     ap (λ (x : CodingProcess). is_decoded_precision x p.full.precision) (sym process)
     ∙ accepted-precision p.full p.full p.is_accepted in
-    let most : p.full.precision ≤ 16 = leb-true p.full.precision 16 (both-hold (nat_le 2 p.full.precision)
+    let most : p.full.precision ≤ 16 = leb-true p.full.precision 16 (and_parts (nat_le 2 p.full.precision)
     (nat_le p.full.precision 16) is).1 in
     subst (λ (n : ℕ). n ≤ 16) (ap (λ (x : Frame). x.precision) (sym p.made)) most
 

@@ -1,6 +1,7 @@
 -- Tests that tell parts of a written stream, for streams that are known: each test computes.
 use Rattle.std.proofs.Common.{◌≡◌, ◌≢◌, ◌⊎◌, inl, inr, ℕ, zero, suc, ◌+◌, ◌^◌, ◌<◌, ◌≤◌, ◌==◌, ◌&&◌, not, nat_lt, Bool}
-use Rattle.std.proofs.Common.{true, false, List, [], ◌∷◌, ◌++◌, map, length, drop, replicate, sum, Option, Some, None, Ok}
+use Rattle.std.proofs.Common.{true, false, List, [], ◌∷◌, ◌++◌, map, length, drop, replicate, sum, Option}
+use Rattle.std.proofs.Common.{Some, None, Ok}
 use Rattle.std.proofs.Common.{is_some, ℤ, unsigned_abs, refl, sym, ap, ◌∙◌, subst, arith, true≢false}
 use Rattle.std.proofs.Math.Nat.{pow-le-pow_right}
 use Rattle.std.proofs.lemmas.Bool.{and_parts, cases_lt, eq-eqb, eqb-true, leb-true, ltb-true, ne_eqb}
@@ -172,7 +173,8 @@ dc_legal false first al l = is_some l
 
 abbrev is_legal : Pass → Levels → Bool
 is_legal p l =
-    nat_le p.al 7 && (dc_legal (p.ss == 0) p.is_first p.al l.dc && list_all (ac_legal p.is_first p.al) (band_of p l.acs))
+    nat_le p.al 7 && (dc_legal (p.ss == 0) p.is_first p.al l.dc
+    && list_all (ac_legal p.is_first p.al) (band_of p l.acs))
 
 none-is : (o : Option ℕ) → not (is_some o) ≡ true → o ≡ None
 none-is None e = refl
@@ -200,8 +202,8 @@ legal-by p l e =
       dc_sent = λ s f. at-is l.dc (suc p.al) (dc true false both.0 (eq-eqb p.ss 0 s) f);
       dc_before = λ n. some-is l.dc (dc false p.is_first both.0 (ne_eqb p.ss 0 n) refl);
       acs_unsent = λ f. all-by (ac_legal true p.al) (λ x. x ≡ None) none-is (band_of p l.acs) (band true f);
-      acs_sent = λ f. all-by (ac_legal false p.al) (λ x. x ≡ Some (suc p.al)) (λ x. at-is x (suc p.al)) (band_of p l.acs)
-          (band false f);
+      acs_sent = λ f. all-by (ac_legal false p.al) (λ x. x ≡ Some (suc p.al)) (λ x. at-is x (suc p.al))
+          (band_of p l.acs) (band false f);
     }
 
 -- a scan whose codings are found

@@ -273,8 +273,10 @@ grey-written = record {
         ((one-quantizes 0 16 (omega arith) (omega arith), tt), tt) tt (λ e. absurd (true≢false (sym e))) (
         segment said_1 said _ sent_4 false 0 (Header 2 header) _ ((refl, frame-by 2 header refl), has-picture)
         (omega arith) (λ e. absurd (true≢false (sym e))) (
-        segment _ said _ sent_4 false 0 (segment_of dc_table) _ ((table-by _ _ (omega arith) refl, tt), tt) tt (λ e. tt) (
-        segment _ said _ sent_4 false 0 (segment_of ac_table) _ ((table-by _ _ (omega arith) refl, tt), tt) tt (λ e. tt) (
+        segment _ said _ sent_4 false 0 (segment_of dc_table) _ ((table-by _ _ (omega arith) refl, tt), tt) tt
+        (λ e. tt) (
+        segment _ said _ sent_4 false 0 (segment_of ac_table) _ ((table-by _ _ (omega arith) refl, tt), tt) tt
+        (λ e. tt) (
         scan said said _ sent_4 false the_frame 0 header_1 dc_codings _ _ refl scans-are.0 legal.0 dc-first (
         scan said said sent_1 sent_4 true the_frame 0 header_2 ac_codings _ _ refl scans-are.1 legal.1 ac-first (
         scan said said sent_2 sent_4 true the_frame 0 header_3 dc_codings _ _ refl scans-are.2 legal.2 dc-again (
