@@ -199,7 +199,12 @@ fn zeros_from(mask: u64, index: usize, end: usize) -> usize
     ensures zeros { (k : ℕ) → k < result → bit_at mask (index + k) ≡ 0 }
     ensures stop { index + result < end → bit_at mask (index + result) ≡ 1 }
 {
-    let zeros = (mask >> index).trailing_zeros() as usize;
+    let ahead = mask >> index;
+    // The processor foresees this where few are 0, and need not wait for the count.
+    if ahead % 2 == 1 {
+        return 0;
+    }
+    let zeros = ahead.trailing_zeros() as usize;
     if zeros < end - index {
         zeros
     } else {
