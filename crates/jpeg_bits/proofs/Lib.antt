@@ -24,6 +24,7 @@ pub mod BandLoop
 pub mod WholeBlocks
 pub mod BandSteps
 pub mod SetBits
+mod Masks
 pub mod PieceWalks
 pub mod RefinedPieces
 pub mod RefinedBands

@@ -24,4 +24,5 @@ pub mod Reservoir
 pub mod ShortCodes
 pub mod Lookups
 pub mod Pieces
+pub mod Masks
 pub mod ZigzagParts

@@ -56,7 +56,7 @@ impl Pass {
 pub struct BlockCoding<'a> {
     /// What the scan codes.
     pub pass: Pass,
-    /// The component's index in the scan, by which it has its predictor.
+    /// The component's index in the scan, from 0 to 3, which is that of its predictor.
     pub slot: usize,
     /// The table of the DC coefficients.
     pub dc_table: &'a HuffmanTable,
@@ -67,12 +67,12 @@ pub struct BlockCoding<'a> {
     pub ghost class: { ac_table.now.class ≡ AC },
 }
 
-/// What a block leaves for those after it in its restart interval (T.81, F.2.1.3.1 and G.1.2.2).
+/// What a block leaves for those after it in its restart interval (T.81, F.2.1.3.1).
 #[derive(Clone, Copy, Debug, PartialEq)]
 pub struct Carried {
     /// The predictor of the DC coefficient of each component, by its index in the scan.
     pub predictors: [i16; 4],
-    /// The number of blocks whose band ends with the end-of-band run that was last met.
+    /// The number of blocks that follow in the end-of-band run that was last met (T.81, G.1.2.2).
     pub run: u16,
 }
 
@@ -80,7 +80,7 @@ impl Carried {
     ghost use Rattle.std.specs.Prelude.{◌≡◌};
     ghost use Rattle.jpeg_bits.specs.Intervals.{predictors_at_start};
 
-    /// What the first block of an interval starts with.
+    /// Gives what the first block of an interval starts with: no prediction and no run.
     pub fn at_start() -> Carried
         ensures { result ≡ record { predictors = predictors_at_start; run = 0 } }
     {
@@ -190,8 +190,7 @@ fn read_band<R: Read + Drop>(
     }
 }
 
-/// Reads a block, in block order, on what is held of it. A refusal is put into its place, and
-/// answered by false.
+/// As `read_block`. A refusal is put into `refusal`, and answered by false.
 pub fn take_block<R: Read + Drop>(
     decoder: &mut HuffmanDecoder,
     source: &mut Source<R>,
@@ -225,7 +224,9 @@ pub fn take_block<R: Read + Drop>(
     read_band(held, source, coding, &mut carried.run, block, refusal)
 }
 
-/// Reads a block, in block order, on what is held of it.
+/// Reads what a pass codes of a block, in block order, over its coefficients so far (T.81, F.2.2
+/// and G.2). It is `Format` where the bits begin no code or a coefficient does not fit; the other
+/// errors are those of `HuffmanDecoder::get_bits`.
 pub fn read_block<R: Read + Drop>(
     decoder: &mut HuffmanDecoder,
     source: &mut Source<R>,

@@ -1,6 +1,11 @@
 //! Refinement of the coefficients of a block.
 ghost use Rattle.std.specs.Prelude.{◌≡◌, ◌≤◌, ◌==◌, ◌^◌, ◌<◌, ◌-◌, pos, IfSome, is_some};
-ghost use Rattle.std.specs.Prelude.{true, false};
+ghost use Rattle.std.specs.Prelude.{ℕ, ◌+◌, true, false, length, map, slice_index, get_or};
+ghost use Rattle.std.specs.Prelude.{if◌then◌else◌};
+ghost use Rattle.jpeg_bits.specs.Zigzag.{zigzag};
+ghost use Rattle.std.specs.Simd.Lanes.{Each1};
+ghost use Rattle.std.specs.Int.{bit_at};
+ghost use Rattle.jpeg_bits.specs.Masks.{MarksFrom, marked};
 ghost use Rattle.jpeg_bits.specs.Refusals.{answer_of, outcome_of, held_refusal, IsHeld};
 ghost use Rattle.jpeg_bits.specs.Reading.{Gives, NamesFormat};
 ghost use Rattle.jpeg_bits.specs.Entropy.{Takes};
@@ -21,6 +26,7 @@ use crate::tokens::power_of_two;
 use crate::zigzag::place_of;
 use std::alloc::Global;
 use std::io::Read;
+use std::simd::prelude::*;
 
 /// What a token of a refinement says of the places after it.
 #[derive(Clone, Copy, Debug, PartialEq)]
@@ -134,7 +140,79 @@ fn correct<R: Read + Drop>(
     move_away(held.alloc(), value, distance(value, al, bit), refusal)
 }
 
-/// A piece of the band of a block, from a zigzag place on: it ends with the zero after this many
+/// Marks the coefficients of a block that aren't 0 by 1, and the others by 0.
+#[inline(always)]
+fn marked(block: [i16; 64]) -> u16x64
+    ensures { result ≡ map marked block }
+{
+    i16x64::from_slice(&block[..])
+        .simd_ne(i16x64::splat(0))
+        .select(u16x64::splat(1), u16x64::splat(0))
+}
+
+/// Narrows each value to a byte.
+#[inline(always)]
+fn narrowed(values: u16x64) -> u8x64
+    requires { Each1 (λ x. x < 256) values }
+    ensures { result ≡ values }
+{
+    values.cast::<u8>()
+}
+
+/// Puts values in block order into zigzag order (T.81, A.3.6).
+#[inline(always)]
+fn in_zigzag(values: u8x64) -> u8x64
+    requires { length values ≡ 64 }
+    ensures { result ≡ map (λ place. slice_index values place) zigzag }
+{
+    values.swizzle([
+        0, 1, 8, 16, 9, 2, 3, 10, 17, 24, 32, 25, 18, 11, 4, 5, 12, 19, 26, 33, 40, 48, 41, 34, 27,
+        20, 13, 6, 7, 14, 21, 28, 35, 42, 49, 56, 57, 50, 43, 36, 29, 22, 15, 23, 30, 37, 44, 51,
+        58, 59, 52, 45, 38, 31, 39, 46, 53, 60, 61, 54, 47, 55, 62, 63,
+    ])
+}
+
+/// Sets the bits of a number at the indices of the values that aren't 0.
+#[inline(always)]
+fn bits_of(values: u8x64) -> u64
+    requires { length values ≡ 64 }
+    ensures { (k : ℕ) → bit_at result k ≡ (if slice_index values k == 0 then 0 else 1) }
+{
+    values.simd_ne(u8x64::splat(0)).to_bitmask()
+}
+
+/// Sets the bits of a number at the zigzag indices of the coefficients that aren't 0.
+#[inline(always)]
+fn mask_of(block: [i16; 64]) -> u64
+    ensures { MarksFrom result 0 block }
+{
+    bits_of(in_zigzag(narrowed(marked(block))))
+}
+
+/// Counts the zeros from a zigzag index on, before the next coefficient that isn't 0 or the end of
+/// the band.
+#[inline(always)]
+fn zeros_from(mask: u64, index: usize, end: usize) -> usize
+    requires some { index < end }
+    requires most { end ≤ 64 }
+    ensures within { index + result ≤ end }
+    ensures zeros { (k : ℕ) → k < result → bit_at mask (index + k) ≡ 0 }
+    ensures stop { index + result < end → bit_at mask (index + result) ≡ 1 }
+{
+    let ahead = mask >> index;
+    // The processor foresees this where few are 0, and need not wait for the count.
+    if ahead % 2 == 1 {
+        return 0;
+    }
+    let zeros = ahead.trailing_zeros() as usize;
+    if zeros < end - index {
+        zeros
+    } else {
+        end - index
+    }
+}
+
+/// A piece of the band of a block, from a zigzag index on: it ends with the zero after this many
 /// zeros, or is the whole rest of the band.
 #[derive(Clone, Copy)]
 struct BandPiece {
@@ -143,17 +221,20 @@ struct BandPiece {
     zeros: usize,
 }
 
-/// Corrects a piece of the band. Gives the place after it.
+/// Corrects a piece of the band of a block with this mask, going from one coefficient that isn't 0
+/// to the next. Gives the index after it.
 #[inline(always)]
 fn correct_piece<R: Read + Drop>(
     held: &mut Held,
     source: &mut Source<R>,
     piece: BandPiece,
+    mask: u64,
     block: &mut [i16; 64],
     refusal: &mut Option<Error>,
 ) -> Option<usize>
     requires pass { IsPass (pass_in piece.pass) }
     requires from { piece.from ≤ band_end (pass_in piece.pass) }
+    requires mask { MarksFrom mask piece.from block.old }
     ensures within { IfSome result (λ next. (piece.from ≤ next)
         × (next ≤ band_end (pass_in piece.pass))
         × (piece.from < band_end (pass_in piece.pass) → piece.from < next)) }
@@ -164,24 +245,29 @@ fn correct_piece<R: Read + Drop>(
         (piece_from piece.pass.al piece.zeros (rest_in (pass_in piece.pass) piece.from block.old))
         held.old source.old (answer_of result refusal.new) held.new source.new }
     ensures others { IsKeptAround piece.from (band_end (pass_in piece.pass)) block.old block.new }
+    ensures mask { IfSome result (λ next. MarksFrom mask next block.new) }
     ensures held { IsHeld result refusal.new }
 {
     let BandPiece { pass, from, zeros } = piece;
     let end = pass.band_end();
     let mut left = zeros;
-    for index in from..end {
-        let place = place_of(index);
-        let value = block[place];
-        if value != 0 {
-            let Some(corrected) = correct(held, source, pass.al, value, refusal) else {
-                return None;
-            };
-            block[place] = corrected;
-        } else if left == 0 {
-            return Some(index + 1);
-        } else {
-            left -= 1;
+    let mut index = from;
+    while index < end {
+        let gap = zeros_from(mask, index, end);
+        if left < gap {
+            return Some(index + left + 1);
         }
+        left -= gap;
+        index += gap;
+        if index == end {
+            return Some(end);
+        }
+        let place = place_of(index);
+        let Some(corrected) = correct(held, source, pass.al, block[place], refusal) else {
+            return None;
+        };
+        block[place] = corrected;
+        index += 1;
     }
     Some(end)
 }
@@ -263,6 +349,7 @@ fn read_refined_places<R: Read + Drop>(
     ensures others { KeepsOthers (pass_in pass) block.old block.new }
     ensures held { IsHeld result refusal.new }
 {
+    let mask = mask_of(*block);
     let end = pass.band_end();
     let mut index = pass.band_start();
     while index < end {
@@ -276,7 +363,7 @@ fn read_refined_places<R: Read + Drop>(
                     from: index,
                     zeros: 15,
                 };
-                let Some(next) = correct_piece(held, source, piece, block, refusal) else {
+                let Some(next) = correct_piece(held, source, piece, mask, block, refusal) else {
                     return None;
                 };
                 index = next;
@@ -288,7 +375,7 @@ fn read_refined_places<R: Read + Drop>(
                     from: index,
                     zeros,
                 };
-                let Some(next) = correct_piece(held, source, piece, block, refusal) else {
+                let Some(next) = correct_piece(held, source, piece, mask, block, refusal) else {
                     return None;
                 };
                 block[place_of(next - 1)] = value;
@@ -300,7 +387,7 @@ fn read_refined_places<R: Read + Drop>(
                     from: index,
                     zeros: end - index,
                 };
-                return match correct_piece(held, source, piece, block, refusal) {
+                return match correct_piece(held, source, piece, mask, block, refusal) {
                     Some(_) => Some(blocks),
                     None => None,
                 };
@@ -356,7 +443,8 @@ pub(crate) fn correct_band<R: Read + Drop>(
         zeros: pass.band_end() - start,
     };
     let mut local = held.copied();
-    let next = correct_piece(&mut local, source, piece, block, refusal);
+    let mask = mask_of(*block);
+    let next = correct_piece(&mut local, source, piece, mask, block, refusal);
     *held = local;
     next.is_some()
 }

@@ -10,31 +10,33 @@ use Rattle.jpeg_bits.proofs.blocks.read_band.Goals as goal
 
 pub returns-then-not-correct_band-clause-band : goal.returns-then-not-correct_band-clause-band
 returns-then-not-correct_band-clause-band g c =
-    let p = pass_in c.args.coding.now.pass in
-    let is = c.args.coding.now.legal in
+    let k = c.args.coding.now in
+    let p = pass_in k.pass in
+    let is = k.legal in
     let band = band_in p c.args.block.now in
     let some : 0 < length band = some_places p.ss p.se c.args.block.now is.order is.end c.if-pass-eq0.false in
-    let whole = band_part p c.args.coding.now.ac_table.now band c.args.run.now in
+    let whole = band_part p k.ac_table.now band c.args.run.now in
     Leaves-err (λ (u : Unit {0}). (band_in p c.correct_band.new.block, c.args.run.now))
     (λ (u : Unit {0}). band_in p c.correct_band.new.block)
     whole whole (corrected p.al band)
     c.args.held.now c.args.held.now c.correct_band.new.held c.args.source.now c.args.source.now
     c.correct_band.new.source _
-    (λ t f h. band_refused p c.args.coding.now.ac_table.now band c.args.run.now t f c.if-pass.false some c.if-run-gt0.true h)
+    (λ t f h. band_refused p k.ac_table.now band c.args.run.now t f c.if-pass.false some c.if-run-gt0.true h)
     (Leaves-whole whole c.args.held.now c.args.source.now) c.if-not-correct_band.ensures.band
 
 pub returns-then-run-gt0-clause-band : goal.returns-then-run-gt0-clause-band
 returns-then-run-gt0-clause-band g c =
-    let p = pass_in c.args.coding.now.pass in
-    let is = c.args.coding.now.legal in
+    let k = c.args.coding.now in
+    let p = pass_in k.pass in
+    let is = k.legal in
     let band = band_in p c.args.block.now in
     let some : 0 < length band = some_places p.ss p.se c.args.block.now is.order is.end c.if-pass-eq0.false in
     let q = c.if-not-correct_band.ensures.band in (
       q.0,
-      λ k.
-          let at = q.1 k in (
+      λ known.
+          let at = q.1 known in (
             at.0,
-            band_corrected p c.args.coding.now.ac_table.now band (band_in p c.correct_band.new.block) c.args.run.now
+            band_corrected p k.ac_table.now band (band_in p c.correct_band.new.block) c.args.run.now
                 (upcoming c.args.held.now c.args.source.now.bytes) (upcoming c.correct_band.new.held
                 c.correct_band.new.source.bytes) c.if-pass.false some c.if-run-gt0.true at.1,
           ),

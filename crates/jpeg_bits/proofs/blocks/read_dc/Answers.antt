@@ -9,6 +9,7 @@ use Rattle.jpeg_bits.proofs.blocks.read_dc.Goals as goal
 
 pub returns-then-pass-clause-part : goal.returns-then-pass-clause-part
 returns-then-pass-clause-part g c =
+    let k = c.args.coding.now in
     let s = to_z-of_z w16 c.wrapped_sum.result (record { sfits = c.wrapped_sum.type_inv }) in
     let v = to_z-of_z w16 c.shifted.result (record { sfits = c.shifted.type_inv }) in
     let predictor : FitsSigned w16 c.args.predictor.now = search rules in
@@ -17,14 +18,14 @@ returns-then-pass-clause-part g c =
     let d = to_z-of_z w16 c.in-Some.difference fits in
     let sum : c.wrapped_sum.result ≡ wrapped (c.args.predictor.now +ℤ c.in-Some.difference) =
     rw (q, d) at c.wrapped_sum.ensures in
-    let value : c.shifted.result ≡ wrapped (c.wrapped_sum.result *ℤ pos (2 ^ c.args.coding.now.pass.al)) =
+    let value : c.shifted.result ≡ wrapped (c.wrapped_sum.result *ℤ pos (2 ^ k.pass.al)) =
     rw (s, s) at c.shifted.ensures in
     rw (s, v) (
       c.in-Some.ensures.difference.0,
-      λ k.
-          let at = c.in-Some.ensures.difference.1 k in (
+      λ known.
+          let at = c.in-Some.ensures.difference.1 known in (
             at.0,
-            dc_first (pass_in c.args.coding.now.pass) c.args.coding.now.dc_table.now c.args.value c.args.predictor.now c.in-Some.difference
+            dc_first (pass_in k.pass) k.dc_table.now c.args.value c.args.predictor.now c.in-Some.difference
                 c.wrapped_sum.result c.shifted.result (upcoming c.args.held.now c.args.source.now.bytes)
                 (upcoming c.read_difference.new.held c.read_difference.new.source.bytes) (omega arith) c.if-pass.true
                 sum
@@ -34,16 +35,17 @@ returns-then-pass-clause-part g c =
 
 pub returns-in-Some-take_number-clause-part : goal.returns-in-Some-take_number-clause-part
 returns-in-Some-take_number-clause-part g c =
+    let k = c.args.coding.now in
     let v = to_z-of_z w16 c.with_bit.result (record { sfits = c.with_bit.type_inv }) in
     let q = to_z-of_z w16 c.args.value c.ranges.value in
-    let is : c.with_bit.result ≡ or_bit c.args.coding.now.pass.al c.args.value c.in-Some-take_number.bit =
+    let is : c.with_bit.result ≡ or_bit k.pass.al c.args.value c.in-Some-take_number.bit =
     rw q at c.with_bit.ensures in
     rw v (
       c.in-Some-take_number.ensures.bits.0,
-      λ k.
-          let at = c.in-Some-take_number.ensures.bits.1 k in (
+      λ known.
+          let at = c.in-Some-take_number.ensures.bits.1 known in (
             at.0,
-            dc_refined (pass_in c.args.coding.now.pass) c.args.coding.now.dc_table.now c.args.value c.args.predictor.now c.with_bit.result
+            dc_refined (pass_in k.pass) k.dc_table.now c.args.value c.args.predictor.now c.with_bit.result
                 c.in-Some-take_number.bit (upcoming c.args.held.now c.args.source.now.bytes)
                 (upcoming c.take_number.new.self c.take_number.new.source.bytes) (omega arith) c.if-pass.false is at.1,
           ),

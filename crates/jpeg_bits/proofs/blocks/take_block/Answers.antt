@@ -12,33 +12,39 @@ use Rattle.jpeg_bits.proofs.blocks.take_block.Goals as goal
 pub returns-in_default-clause-block : goal.returns-in_default-clause-block
 returns-in_default-clause-block g c =
     let block = c.args.block.now in
-    let p = pass_in c.args.coding.now.pass in
-    let viewed : c.decoder.inside.held ≡ c.args.decoder.now = c.decoder.view_is in
-    let slot = c.args.coding.now.slot in
+    let k = c.args.coding.now in
+    let a = c.args in
+    let p = pass_in k.pass in
+    let viewed : c.decoder.inside.held ≡ a.decoder.now = c.decoder.view_is in
+    let slot = k.slot in
     let predictors = c.args.carried.now.predictors in
+    let run = c.args.carried.now.run in
     let predictor = get_or predictors slot (pos 0) in
     let first = slice_index_or block 0 (pos 0) in
     let fits : FitsSigned w16 first = search rules in
     let z = to_z-of_z w16 first fits in
-    let whole = block_from p c.args.coding.now.dc_table.now c.args.coding.now.ac_table.now predictor c.args.carried.now.run
+    let whole = block_from p k.dc_table.now k.ac_table.now predictor run
     (to_block block) in
-    (Leaves-err (λ (u : Unit {0}). (to_block block, c.read_dc.new.predictor, c.args.carried.now.run)) (λ (z : ℤ). (
+    (Leaves-err (λ (u : Unit {0}). (to_block block, c.read_dc.new.predictor, run)) (λ (z : ℤ). (
       z,
       c.read_dc.new.predictor,
     ))
-    whole whole (dc_part p c.args.coding.now.dc_table.now (cast_signed w16 (cast_unsigned w16 first)) predictor)
-    c.args.decoder.now c.args.decoder.now c.read_dc.new.held c.args.source.now c.args.source.now c.read_dc.new.source _
-    (λ t f h. dc_refused p c.args.coding.now.dc_table.now c.args.coding.now.ac_table.now predictor
-    (cast_signed w16 (cast_unsigned w16 first)) c.args.carried.now.run block t f z h)
-    (Leaves-whole whole c.args.decoder.now c.args.source.now) (rw viewed at c.in_default.ensures.part))
+    whole whole (dc_part p k.dc_table.now (cast_signed w16 (cast_unsigned w16 first)) predictor)
+    a.decoder.now a.decoder.now c.read_dc.new.held a.source.now a.source.now c.read_dc.new.source _
+    (λ t f h. dc_refused p k.dc_table.now k.ac_table.now predictor
+    (cast_signed w16 (cast_unsigned w16 first)) run block t f z h)
+    (Leaves-whole whole a.decoder.now a.source.now) (rw viewed at c.in_default.ensures.part))
 
 pub returns-clause-block : goal.returns-clause-block
 returns-clause-block g c =
     let block = c.args.block.now in
-    let p = pass_in c.args.coding.now.pass in
-    let viewed : c.decoder.inside.held ≡ c.args.decoder.now = c.decoder.view_is in
-    let slot = c.args.coding.now.slot in
+    let k = c.args.coding.now in
+    let a = c.args in
+    let p = pass_in k.pass in
+    let viewed : c.decoder.inside.held ≡ a.decoder.now = c.decoder.view_is in
+    let slot = k.slot in
     let predictors = c.args.carried.now.predictors in
+    let run = c.args.carried.now.run in
     let predictor = get_or predictors slot (pos 0) in
     let first = slice_index_or block 0 (pos 0) in
     let fits : FitsSigned w16 first = search rules in
@@ -47,21 +53,21 @@ returns-clause-block g c =
     let s : cast_signed w16 (cast_unsigned w16 y) ≡ y = to_z-of_z w16 y (search rules) in
     let n : length block ≡ 64 = search rules in
     let four : length predictors ≡ 4 = search rules in
-    let inside : slot < length predictors = rw four c.args.coding.now.within in
+    let inside : slot < length predictors = rw four k.within in
     let kept : get_or (set predictors slot c.read_dc.new.predictor) slot (pos 0) ≡ c.read_dc.new.predictor =
     get_or-set_same predictors slot c.read_dc.new.predictor (pos 0) inside in
     let q = rw viewed at c.in-Some.ensures.part in
-    rw kept (block_read p c.args.coding.now.ac_table.now y c.read_dc.new.predictor c.args.carried.now.run c.read_band-2.new.run block
-    c.read_band-2.new.block (block_from p c.args.coding.now.dc_table.now c.args.coding.now.ac_table.now predictor c.args.carried.now.run
-    (to_block block)) c.args.decoder.now c.read_dc.new.held c.read_band-2.new.held c.args.source.now c.read_dc.new.source
-    c.read_band-2.new.source c.read_band-2.new.refusal c.read_band-2.result n c.args.coding.now.legal
+    rw kept (block_read p k.ac_table.now y c.read_dc.new.predictor run c.read_band-2.new.run block
+    c.read_band-2.new.block (block_from p k.dc_table.now k.ac_table.now predictor run
+    (to_block block)) a.decoder.now c.read_dc.new.held c.read_band-2.new.held a.source.now c.read_dc.new.source
+    c.read_band-2.new.source c.read_band-2.new.refusal c.read_band-2.result n k.legal
     (rw s at c.read_band-2.ensures.others) (
       q.0,
-      λ k. let at = q.1 k in (
+      λ known. let at = q.1 known in (
         at.0,
-        dc_step p c.args.coding.now.dc_table.now c.args.coding.now.ac_table.now predictor
-            (cast_signed w16 (cast_unsigned w16 first)) c.read_dc.new.predictor y c.args.carried.now.run block
-            (upcoming c.args.decoder.now c.args.source.now.bytes) (upcoming c.read_dc.new.held c.read_dc.new.source.bytes)
+        dc_step p k.dc_table.now k.ac_table.now predictor
+            (cast_signed w16 (cast_unsigned w16 first)) c.read_dc.new.predictor y run block
+            (upcoming a.decoder.now a.source.now.bytes) (upcoming c.read_dc.new.held c.read_dc.new.source.bytes)
             z at.1,
       ),
     ) (rw s at c.read_band-2.ensures.band))
@@ -69,26 +75,29 @@ returns-clause-block g c =
 pub returns-then-coding-gt0-clause-block : goal.returns-then-coding-gt0-clause-block
 returns-then-coding-gt0-clause-block g c =
     let block = c.args.block.now in
-    let p = pass_in c.args.coding.now.pass in
-    let viewed : c.decoder.inside.held ≡ c.args.decoder.now = c.decoder.view_is in
-    let slot = c.args.coding.now.slot in
+    let k = c.args.coding.now in
+    let a = c.args in
+    let p = pass_in k.pass in
+    let viewed : c.decoder.inside.held ≡ a.decoder.now = c.decoder.view_is in
+    let slot = k.slot in
     let predictors = c.args.carried.now.predictors in
+    let run = c.args.carried.now.run in
     let predictor = get_or predictors slot (pos 0) in
     let first = slice_index_or block 0 (pos 0) in
     let n : length block ≡ 64 = search rules in
     let same : set block 0 first ≡ block = set-get_or block 0 (pos 0) in
-    block_read p c.args.coding.now.ac_table.now first predictor c.args.carried.now.run c.read_band.new.run block
-    c.read_band.new.block (block_from p c.args.coding.now.dc_table.now c.args.coding.now.ac_table.now predictor c.args.carried.now.run
-    (to_block block)) c.args.decoder.now c.args.decoder.now c.read_band.new.held c.args.source.now c.args.source.now
-    c.read_band.new.source c.read_band.new.refusal c.read_band.result n c.args.coding.now.legal
+    block_read p k.ac_table.now first predictor run c.read_band.new.run block
+    c.read_band.new.block (block_from p k.dc_table.now k.ac_table.now predictor run
+    (to_block block)) a.decoder.now a.decoder.now c.read_band.new.held a.source.now a.source.now
+    c.read_band.new.source c.read_band.new.refusal c.read_band.result n k.legal
     (rw same c.read_band.ensures.others) (
       refl,
-      λ k. (
-        k,
-        dc_step p c.args.coding.now.dc_table.now c.args.coding.now.ac_table.now predictor first predictor
-            first c.args.carried.now.run block (upcoming c.args.decoder.now c.args.source.now.bytes)
-            (upcoming c.args.decoder.now c.args.source.now.bytes) refl
-            (dc_kept p c.args.coding.now.dc_table.now first predictor _ c.if-coding-gt0.true),
+      λ known. (
+        known,
+        dc_step p k.dc_table.now k.ac_table.now predictor first predictor
+            first run block (upcoming a.decoder.now a.source.now.bytes)
+            (upcoming a.decoder.now a.source.now.bytes) refl
+            (dc_kept p k.dc_table.now first predictor _ c.if-coding-gt0.true),
       ),
     )
     (rw (same, sym viewed) c.read_band.ensures.band)

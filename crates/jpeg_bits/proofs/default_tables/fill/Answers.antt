@@ -7,5 +7,6 @@ use Rattle.jpeg_bits.proofs.default_tables.fill.Goals as goal
 pub returns-in_err-new : goal.returns-in_err-new
 returns-in_err-new c =
     let p = err_from_is_err_and c.from_residual.result c.from_residual.ensures.1 in
-    let e = only-memory _ (code_lengths c.args.listed.now.counts.now) c.in_err-new.ensures.refused c.args.listed.now.codes.exist in
+    let l = c.args.listed.now in
+    let e = only-memory _ (code_lengths l.counts.now) c.in_err-new.ensures.refused l.codes.exist in
     rw (p.1, p.2) (e, refl)

@@ -1,115 +1,179 @@
-use Rattle.std.proofs.Common.{◌≡◌, ◌≤◌, ◌<◌, ◌-◌, ℤ, ℕ, pos, get_or, length-set, ◌∙◌, ap, sym, w16, SFits}
+use Rattle.std.proofs.Common.{◌≡◌, ◌-◌, ◌+◌, ◌<◌, ◌≤◌, ℤ, ℕ, pos, get_or, length-set, ◌∙◌, ap, sym, w16, SFits}
 use Rattle.std.proofs.Common.{arith, rules, refl}
 use Rattle.std.proofs.lemmas.Int.{to_z-of_z}
 use Rattle.std.specs.Int.{cast_signed, cast_unsigned}
-use Rattle.jpeg_bits.specs.Entropy.{upcoming}
+use Rattle.jpeg_bits.specs.Entropy.{Text, upcoming}
 use Rattle.jpeg_bits.specs.Pieces.{piece_from, place_from}
 use Rattle.jpeg_bits.specs.BlockView.{pass_in}
 use Rattle.jpeg_bits.specs.ZigzagParts.{band_end, rest_in}
 use Rattle.jpeg_bits.proofs.BandSteps.{Leaves-ok, Leaves-err}
-use Rattle.jpeg_bits.proofs.BandSteps.{pos-of-ne}
-use Rattle.jpeg_bits.proofs.BlockWalks.{walk_at, at-start, at-end, at-stop, at-skip, at-value, at-refused}
+use Rattle.jpeg_bits.proofs.BlockWalks.{walk_at, at-start, at-end, at-value, at-refused}
+use Rattle.jpeg_bits.proofs.Masks.{gap-zeros, at-skips, at-gap, at-last-gap, marks-set, marks-later}
 use Rattle.jpeg_bits.proofs.ZigzagParts.{kept-same, kept-set}
 use Rattle.jpeg_bits.proofs.refinement.correct_piece.Goals as goal
-use Rattle.jpeg_bits.proofs.refinement.correct_piece.Goals.{then-value-ne0+in-Some, else-value-ne0+else-left-eq0}
 
 pub loop-index-init : goal.loop-index-init
 loop-index-init g c =
-    let p = pass_in c.args.piece.pass in
+    let a = c.args.piece in
+    let p = pass_in a.pass in
     record {
       len = search rules;
-      walk = (refl, λ k. (k, sym (at-start p.al c.args.piece.zeros c.args.piece.from (band_end p) c.args.block.now _)));
-      others = kept-same c.args.piece.from (band_end p) c.args.block.now;
+      after = omega arith;
+      within = c.requires.from;
+      walk = (refl, λ k. (k, sym (at-start p.al a.zeros a.from (band_end p) c.args.block.now _)));
+      others = kept-same a.from (band_end p) c.args.block.now;
+      marks = c.requires.mask;
     }
 
-pub returns-in_default-clause-piece : goal.returns-in_default-clause-piece
-returns-in_default-clause-piece g c =
-    let p = pass_in c.args.piece.pass in
-    let l = c.loop-index in
+pub returns-then-left-gap-clause-within : goal.returns-then-left-gap-clause-within
+returns-then-left-gap-clause-within g c =
     let end = c.band_end-end.ensures in
-    let last = c.requires.pass.end in
-    let x = get_or l.block c.place_of-place.result (pos 0) in
-    let f : SFits w16 x = search rules in
-    let s : cast_signed w16 (cast_unsigned w16 x) ≡ x = to_z-of_z w16 x f in
-    let after : c.args.piece.from ≤ l.index = omega arith in
-    let before : l.index < band_end p = omega arith in
-    (Leaves-err (λ (next : ℕ). (next - c.args.piece.from, rest_in p c.args.piece.from l.block)) (λ (v : ℤ). v)
-    (piece_from p.al c.args.piece.zeros (rest_in p c.args.piece.from c.args.block.now))
-    (walk_at p.al l.left c.args.piece.from (band_end p) l.block l.index)
-    (place_from p.al (cast_signed w16 (cast_unsigned w16 x))) c.args.held.now l.held c.correct.new.held
-    c.args.source.now l.source c.correct.new.source _
-    (λ t f e. at-refused p.al l.left c.args.piece.from (band_end p) l.index c.place_of-place.result l.block (omega arith)
-    after before c.place_of-place.ensures.value (cast_signed w16 (cast_unsigned w16 x)) t f
-    (λ h. c.if-value-ne0.true (ap (cast_unsigned w16) h)) s e)
-    l.invariant.walk c.in_default.ensures.place)
+    let i = c.loop-index.invariant in
+    let gap = c.zeros_from-gap.ensures.within in
+    let few = c.if-left-gap.true in (
+      omega (arith, i.after),
+      omega (arith, end, gap, few),
+      λ h. omega (arith, i.after),
+    )
 
-pub returns-then-left-eq0-clause-piece : goal.returns-then-left-eq0-clause-piece
-returns-then-left-eq0-clause-piece g c =
+pub returns-then-left-gap-clause-piece : goal.returns-then-left-gap-clause-piece
+returns-then-left-gap-clause-piece g c =
     let p = pass_in c.args.piece.pass in
     let l = c.loop-index in
     let end = c.band_end-end.ensures in
     let last = c.requires.pass.end in
-    let x = get_or l.block c.place_of-place.result (pos 0) in
-    let f : SFits w16 x = search rules in
-    let s : cast_signed w16 (cast_unsigned w16 x) ≡ x = to_z-of_z w16 x f in
-    let zero : x ≡ pos 0 = sym s ∙ ap (cast_signed w16) c.if-value-ne0.false in
-    let after : c.args.piece.from ≤ l.index = omega arith in
-    let before : l.index < band_end p = omega arith in (
+    let gap = c.zeros_from-gap.result in
+    let inside = c.zeros_from-gap.ensures.within in (
       l.invariant.walk.0,
       λ k. let at = l.invariant.walk.1 k in (
         at.0,
-        at.1 ∙ at-stop p.al l.left c.args.piece.from (band_end p) l.index c.place_of-place.result l.block (omega arith) after
-            before c.place_of-place.ensures.value (upcoming l.held l.source.bytes) zero c.if-left-eq0.true,
+        at.1
+            ∙ at-gap p.al c.args.piece.from (band_end p) l.block (omega (arith, last)) gap l.left l.index
+            (upcoming l.held l.source.bytes) l.invariant.after (omega (arith, end, inside)) c.if-left-gap.true
+            (gap-zeros c.args.mask l.index gap l.block (omega (arith, end, last, inside)) l.invariant.marks
+            c.zeros_from-gap.ensures.zeros),
       ),
     )
 
-pub loop-index-preserved : goal.loop-index-preserved
-loop-index-preserved g c =
+pub returns-then-left-gap-clause-mask : goal.returns-then-left-gap-clause-mask
+returns-then-left-gap-clause-mask g c =
+    let l = c.loop-index in
+    marks-later c.args.mask l.index (l.index + l.left + 1) l.block (omega arith) l.invariant.marks
+
+pub returns-then-index-end-clause-within : goal.returns-then-index-end-clause-within
+returns-then-index-end-clause-within g c =
+    let end = c.band_end-end.ensures in (
+      omega (arith, end, c.requires.from),
+      omega (arith, end),
+      λ h. omega (arith, end, h),
+    )
+
+pub returns-then-index-end-clause-piece : goal.returns-then-index-end-clause-piece
+returns-then-index-end-clause-piece g c =
     let p = pass_in c.args.piece.pass in
     let l = c.loop-index in
     let end = c.band_end-end.ensures in
     let last = c.requires.pass.end in
+    let gap = c.zeros_from-gap.result in
+    let inside = c.zeros_from-gap.ensures.within in
+    rw end (
+      l.invariant.walk.0,
+      λ k. let at = l.invariant.walk.1 k in (
+        at.0,
+        at.1
+            ∙ at-last-gap p.al c.args.piece.from (band_end p) l.block (omega (arith, last)) gap l.left l.index
+            (upcoming l.held l.source.bytes) l.invariant.after (c.if-index-end.true ∙ end)
+            (omega (arith, c.if-left-gap.false))
+            (gap-zeros c.args.mask l.index gap l.block (omega (arith, end, last, inside)) l.invariant.marks
+            c.zeros_from-gap.ensures.zeros),
+      ),
+    )
+
+pub returns-then-index-end-clause-mask : goal.returns-then-index-end-clause-mask
+returns-then-index-end-clause-mask g c =
+    let l = c.loop-index in
+    marks-later c.args.mask l.index c.band_end-end.result l.block (omega (arith, c.loop-index-test.true))
+    l.invariant.marks
+
+-- at the coefficient after the gap
+pub returns-in_default-clause-piece : goal.returns-in_default-clause-piece
+returns-in_default-clause-piece g c =
+    let a = c.args.piece in
+    let p = pass_in a.pass in
+    let l = c.loop-index in
+    let end = c.band_end-end.ensures in
+    let last = c.requires.pass.end in
+    let gap = c.zeros_from-gap.result in
+    let inside = c.zeros_from-gap.ensures.within in
+    let next = l.index + gap in
     let x = get_or l.block c.place_of-place.result (pos 0) in
     let f : SFits w16 x = search rules in
     let s : cast_signed w16 (cast_unsigned w16 x) ≡ x = to_z-of_z w16 x f in
-    let after : c.args.piece.from ≤ l.index = omega arith in
-    let before : l.index < band_end p = omega arith in
+    let after : a.from ≤ next = omega (arith, l.invariant.after) in
+    let before : next < band_end p = omega (arith, end, inside, c.if-index-end.false) in
+    let set = c.zeros_from-gap.ensures.stop (omega (arith, end, before)) in
     let is = c.place_of-place.ensures.value in
-    elim c.if-value-ne0.branch [
-      | then-value-ne0+in-Some w ↦
-          let y = cast_signed w16 (cast_unsigned w16 w.in-Some.corrected) in
-          rw (w.held-is, w.source-is, w.block-is, w.left-is) record {
-            len = length-set _ _ _ ∙ l.invariant.len;
-            walk = Leaves-ok (λ (v : ℤ). v) (piece_from p.al c.args.piece.zeros (rest_in p c.args.piece.from c.args.block.now))
-                (walk_at p.al l.left c.args.piece.from (band_end p) l.block l.index) _
-                (place_from p.al (cast_signed w16 (cast_unsigned w16 x))) c.args.held.now l.held w.correct.new.held
-                c.args.source.now l.source w.correct.new.source w.in-Some.corrected
-                (λ t u e. at-value p.al l.left c.args.piece.from (band_end p) l.index c.place_of-place.result l.block
-                (omega arith) after before is (cast_signed w16 (cast_unsigned w16 x)) y w.in-Some.corrected t u
-                l.invariant.len (λ h. w.if-value-ne0.true (ap (cast_unsigned w16) h)) s
-                (to_z-of_z w16 _ (search rules)) e) l.invariant.walk w.in-Some.ensures.place;
-            others = rw is (kept-set c.args.piece.from (band_end p) l.index c.args.block.now l.block y l.invariant.len after
-                before (omega arith) l.invariant.others);
-          }
-      | else-value-ne0+else-left-eq0 w ↦
-          let zero : x ≡ pos 0 = sym s ∙ ap (cast_signed w16) w.if-value-ne0.false in
-          rw (w.held-is, w.source-is, w.block-is, w.left-is) record {
-            len = l.invariant.len;
-            walk = (
-              l.invariant.walk.0,
-              λ k. let at = l.invariant.walk.1 k in (
-                at.0,
-                at.1 ∙ at-skip p.al l.left c.args.piece.from (band_end p) l.index c.place_of-place.result l.block
-                    (omega arith) after before is _ zero (pos-of-ne l.left w.if-left-eq0.false),
-              ),
-            );
-            others = l.invariant.others;
-          }
-    ]
+    let some : x ≡ pos 0 → ⊥ = λ h. l.invariant.marks.values next (omega arith) (omega (arith, last, before)) set
+    (ap (λ (i : ℕ). get_or l.block i (pos 0)) (sym is) ∙ h) in
+    let skips = λ (t : Text). at-skips p.al a.from (band_end p) l.block (omega (arith, last)) gap l.left l.index t
+    l.invariant.after (omega (arith, end, inside)) (omega (arith, c.if-left-gap.false))
+    (gap-zeros c.args.mask l.index gap l.block (omega (arith, end, last, inside)) l.invariant.marks
+    c.zeros_from-gap.ensures.zeros) in
+    (Leaves-err (λ (next : ℕ). (next - a.from, rest_in p a.from l.block)) (λ (v : ℤ). v)
+    (piece_from p.al a.zeros (rest_in p a.from c.args.block.now))
+    (walk_at p.al l.left a.from (band_end p) l.block l.index)
+    (place_from p.al (cast_signed w16 (cast_unsigned w16 x))) c.args.held.now l.held c.correct.new.held
+    c.args.source.now l.source c.correct.new.source _
+    (λ t f e. skips t ∙ at-refused p.al (l.left - gap) a.from (band_end p) next c.place_of-place.result l.block
+    (omega (arith, last)) after before is (cast_signed w16 (cast_unsigned w16 x)) t f some s e)
+    l.invariant.walk c.in_default.ensures.place)
+
+pub loop-index-preserved : goal.loop-index-preserved
+loop-index-preserved g c =
+    let a = c.args.piece in
+    let p = pass_in a.pass in
+    let l = c.loop-index in
+    let end = c.band_end-end.ensures in
+    let last = c.requires.pass.end in
+    let gap = c.zeros_from-gap.result in
+    let inside = c.zeros_from-gap.ensures.within in
+    let next = l.index + gap in
+    let x = get_or l.block c.place_of-place.result (pos 0) in
+    let f : SFits w16 x = search rules in
+    let s : cast_signed w16 (cast_unsigned w16 x) ≡ x = to_z-of_z w16 x f in
+    let after : a.from ≤ next = omega (arith, l.invariant.after) in
+    let before : next < band_end p = omega (arith, end, inside, c.if-index-end.false) in
+    let set = c.zeros_from-gap.ensures.stop (omega (arith, end, before)) in
+    let is = c.place_of-place.ensures.value in
+    let some : x ≡ pos 0 → ⊥ = λ h. l.invariant.marks.values next (omega arith) (omega (arith, last, before)) set
+    (ap (λ (i : ℕ). get_or l.block i (pos 0)) (sym is) ∙ h) in
+    let skips = λ (t : Text). at-skips p.al a.from (band_end p) l.block (omega (arith, last)) gap l.left l.index t
+    l.invariant.after (omega (arith, end, inside)) (omega (arith, c.if-left-gap.false))
+    (gap-zeros c.args.mask l.index gap l.block (omega (arith, end, last, inside)) l.invariant.marks
+    c.zeros_from-gap.ensures.zeros) in
+    let y = cast_signed w16 (cast_unsigned w16 c.in-Some.corrected) in
+    record {
+      len = length-set _ _ _ ∙ l.invariant.len;
+      after = omega (arith, after);
+      within = omega (arith, before);
+      walk = Leaves-ok (λ (v : ℤ). v) (piece_from p.al a.zeros (rest_in p a.from c.args.block.now))
+          (walk_at p.al l.left a.from (band_end p) l.block l.index) _
+          (place_from p.al (cast_signed w16 (cast_unsigned w16 x))) c.args.held.now l.held c.correct.new.held
+          c.args.source.now l.source c.correct.new.source c.in-Some.corrected
+          (λ t u e. skips t ∙ at-value p.al (l.left - gap) a.from (band_end p) next c.place_of-place.result l.block
+          (omega (arith, last)) after before is (cast_signed w16 (cast_unsigned w16 x)) y c.in-Some.corrected t u
+          l.invariant.len some s (to_z-of_z w16 _ (search rules)) e) l.invariant.walk c.in-Some.ensures.place;
+      others = rw is (kept-set a.from (band_end p) next c.args.block.now l.block y l.invariant.len after before
+          (omega (arith, last)) l.invariant.others);
+      marks = rw is (marks-set c.args.mask next (next + 1) l.block y l.invariant.len (omega arith)
+          (omega (arith, last, before))
+          (marks-later c.args.mask l.index (next + 1) l.block (omega arith) l.invariant.marks));
+    }
 
 pub returns-clause-piece : goal.returns-clause-piece
 returns-clause-piece g c =
-    let p = pass_in c.args.piece.pass in
+    let a = c.args.piece in
+    let p = pass_in a.pass in
     let l = c.loop-index in
     let end = c.band_end-end.ensures in
     let last = c.requires.pass.end in
@@ -117,7 +181,7 @@ returns-clause-piece g c =
       l.invariant.walk.0,
       λ k. let at = l.invariant.walk.1 k in (
         at.0,
-        at.1 ∙ at-end p.al l.left c.args.piece.from (band_end p) l.index l.block (upcoming l.held l.source.bytes)
-            (omega arith) (omega arith),
+        at.1 ∙ at-end p.al l.left a.from (band_end p) l.index l.block (upcoming l.held l.source.bytes)
+            (omega (arith, last)) (omega (arith, end, c.loop-index-test.false, l.invariant.within)),
       ),
     )

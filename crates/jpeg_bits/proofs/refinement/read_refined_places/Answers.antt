@@ -8,6 +8,7 @@ use Rattle.jpeg_bits.specs.BlockView.{pass_in}
 use Rattle.jpeg_bits.specs.ZigzagParts.{band_start, band_end, band_in}
 use Rattle.jpeg_bits.proofs.BlockRefinement.{from-start, at-last, token-refused, piece-refused, zeros-read, new-read}
 use Rattle.jpeg_bits.proofs.BlockRefinement.{end-read}
+use Rattle.jpeg_bits.proofs.Masks.{marks-later, marks-set}
 use Rattle.jpeg_bits.proofs.ZigzagParts.{kept-same, kept-set, kept-rest}
 use Rattle.jpeg_bits.proofs.refinement.read_refined_places.Goals as goal
 
@@ -21,6 +22,7 @@ loop-index-init g c =
       within = omega arith;
       rest = (refl, λ k. (k, sym (from-start c.args.table.now p c.args.block.now _)));
       others = kept-same (band_start p) (band_end p) c.args.block.now;
+      marks = marks-later c.mask_of-mask.result 0 (band_start p) c.args.block.now (omega arith) c.mask_of-mask.ensures;
     }
 
 pub returns-in_default-clause-reads : goal.returns-in_default-clause-reads
@@ -69,6 +71,7 @@ loop-index-preserved-in-Zeros g c =
           c.in-Some-correct_piece.ensures.others within.0 refl c.in-Some-correct_piece.ensures.piece;
       others = kept-rest (band_start p) l.index (band_end p) c.args.block.now l.block c.correct_piece.new.block from
           l.invariant.others c.in-Some-correct_piece.ensures.others;
+      marks = c.in-Some-correct_piece.ensures.mask;
     }
 
 pub returns-in_default-correct_piece-2-clause-reads : goal.returns-in_default-correct_piece-2-clause-reads
@@ -120,6 +123,8 @@ loop-index-preserved g c =
           (omega arith) (omega arith)
           (kept-rest (band_start p) l.index (band_end p) c.args.block.now l.block blk from l.invariant.others
           c.in-Some-correct_piece-2.ensures.others);
+      marks = marks-set c.mask_of-mask.result (next - 1) next blk c.in-New.value n (omega arith) (omega arith)
+          c.in-Some-correct_piece-2.ensures.mask;
     }
 
 pub returns-in-Some-correct_piece-3-clause-reads : goal.returns-in-Some-correct_piece-3-clause-reads

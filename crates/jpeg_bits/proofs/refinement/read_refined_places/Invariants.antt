@@ -1,4 +1,5 @@
 use Rattle.std.proofs.Common.{◌≡◌, ◌≤◌, ◌-◌, length}
+use Rattle.jpeg_bits.specs.Masks.{MarksFrom}
 use Rattle.jpeg_bits.specs.Pieces.{refined_band_from}
 use Rattle.jpeg_bits.specs.BlockView.{pass_in}
 use Rattle.jpeg_bits.specs.ZigzagParts.{band_start, band_end, band_in, KeepsOthers}
@@ -15,6 +16,7 @@ invariant-loop-index g l = record {
       l.fn.source (refined_left l.fn.table l.fn.pass.al (band_in (pass_in l.fn.pass) l.block)
       (l.index - band_start (pass_in l.fn.pass))) l.held l.source;
   others : KeepsOthers (pass_in l.fn.pass) l.fn.block l.block;
+  marks : MarksFrom l.mask l.index l.block;
 }
 
 abbrev pub decreases-loop-index : goal.decreases-loop-index

@@ -1,0 +1,220 @@
+-- The bits of a mask, and the coefficients that they stand for.
+use Rattle.std.proofs.Common.{◌≡◌, ℕ, zero, suc, ◌+◌, ◌-◌, ◌/◌, ◌%◌, ◌^◌, ◌<◌, ◌≤◌, ◌==◌, List, [], ◌∷◌, length}
+use Rattle.std.proofs.Common.{get_or, set, map, replicate, cond, not, true, false, Bool, nat_eq, if◌then◌else◌}
+use Rattle.std.proofs.Common.{ℤ, pos, negsuc, refl, sym, ap, ◌∙◌, arith, w8, w16, w64, FitsSigned}
+use Rattle.std.proofs.Common.{Ok, shr-shr, take, lit<}
+use mir.Val.{Val}
+use denote.Array.{each}
+use denote.Shadow.{shadow}
+use denote.Signed.{SInt}
+use Rattle.std.specs.Int.{bit_at, cast_signed, cast_unsigned}
+use Rattle.std.specs.Int.Count.{count_trailing_zeros, trailing_of_zero}
+use Rattle.std.specs.Simd.Lanes.{sel_l, mask_l, zip2, top, Each1}
+use Rattle.std.proofs.lemmas.Bool.{ne_eqb}
+use Rattle.std.proofs.lemmas.Int.{to_z-of_z}
+use Rattle.std.proofs.lemmas.Nat.Bits.{bit_at-zero, bit_at-trailing_zeros}
+use Rattle.std.proofs.lemmas.Simd.{tops_compared, zip2_splat, bitmask_splat, bit_mask_l}
+use Rattle.std.proofs.lemmas.List.{get_or-set_other, take_all, length-map, get_or-map as get_or-map_within}
+use Rattle.std.proofs.Math.ListN.{get_or-map}
+use Rattle.jpeg_bits.specs.Zigzag.{zigzag}
+use Rattle.jpeg_bits.specs.ZigzagParts.{zigzag_part}
+use Rattle.jpeg_bits.specs.Masks.{coefficient_at, MarksFrom, marked}
+use Rattle.jpeg_bits.specs.Entropy.{Text}
+use Rattle.jpeg_bits.proofs.BlockWalks.{walk_at, at-skip, at-stop, at-end}
+use Rattle.jpeg_bits.proofs.ZigzagParts.{part-get, part-set}
+
+-- each coefficient fits, by what its type says
+pub block-fits : (xs : List ℤ) (us : List Val) → shadow (each ℤ (SInt w16).own_val xs us) → (k : ℕ)
+    → FitsSigned w16 (get_or xs k (pos 0))
+block-fits [] us p k = record { sfits = lit< tt }
+block-fits (x ∷ xs) [] p k = absurd p
+block-fits (x ∷ xs) (u ∷ us) p zero = record { sfits = p.0.1 }
+block-fits (x ∷ xs) (u ∷ us) p (suc k) = block-fits xs us p.1 k
+
+-- ---- the zeros before the next bit that is set
+
+shifted : (m i k : ℕ) → bit_at (m / 2 ^ i) k ≡ bit_at m (i + k)
+shifted m i k = ap (λ (x : ℕ). x % 2) (shr-shr m i k)
+
+clear-before : (n k : ℕ) → n < 2 ^ 64 → k < count_trailing_zeros 64 n → bit_at n k ≡ 0
+clear-before zero k fits lt = bit_at-zero k
+clear-before (suc n) k fits lt = (bit_at-trailing_zeros w64 (suc n) (omega arith) fits).2 k lt
+
+set-at : (n : ℕ) → n < 2 ^ 64 → count_trailing_zeros 64 n < 64 → bit_at n (count_trailing_zeros 64 n) ≡ 1
+set-at zero fits lt = absurd (let e = trailing_of_zero 64 in omega (arith, e))
+set-at (suc n) fits lt = (bit_at-trailing_zeros w64 (suc n) (omega arith) fits).1
+
+pub clear-from : (m i k : ℕ) → m / 2 ^ i < 2 ^ 64 → k < count_trailing_zeros 64 (m / 2 ^ i) → bit_at m (i + k) ≡ 0
+clear-from m i k fits lt = sym (shifted m i k) ∙ clear-before (m / 2 ^ i) k fits lt
+
+pub set-after : (m i : ℕ) → m / 2 ^ i < 2 ^ 64 → count_trailing_zeros 64 (m / 2 ^ i) < 64
+    → bit_at m (i + count_trailing_zeros 64 (m / 2 ^ i)) ≡ 1
+set-after m i fits lt = sym (shifted m i (count_trailing_zeros 64 (m / 2 ^ i))) ∙ set-at (m / 2 ^ i) fits lt
+
+-- ---- which lanes aren't 0
+
+abbrev differ : ℕ → ℕ → Bool
+differ a b = not (nat_eq a b)
+
+-- 1 in the lanes that are set, of n
+abbrev chosen : ℕ → List Bool → List ℕ
+chosen n set = sel_l set (replicate n 1) (replicate n 0)
+
+abbrev residues : List ℤ → List ℕ
+residues zs = map (cast_unsigned w16) zs
+
+-- all bits of the lanes that aren't 0
+abbrev compared : ℕ → List ℕ → List ℕ
+compared ones xs = zip2 (λ (a b : ℕ). cond (differ a b) ones 0) xs (replicate 64 0)
+
+unequal : (z : ℤ) → FitsSigned w16 z → (z ≡ pos 0 → ⊥) → nat_eq (cast_unsigned w16 z) 0 ≡ false
+unequal z f h = ne_eqb (cast_unsigned w16 z) 0 (λ e. h (sym (to_z-of_z w16 z f) ∙ ap (cast_signed w16) e))
+
+marked-is : (z : ℤ) → FitsSigned w16 z → cond (differ (cast_unsigned w16 z) 0) 1 0 ≡ marked z
+marked-is (pos zero) f = refl
+marked-is (pos (suc n)) f = ap (λ (b : Bool). cond (not b) 1 0) (unequal (pos (suc n)) f (λ e. cc))
+marked-is (negsuc n) f = ap (λ (b : Bool). cond (not b) 1 0) (unequal (negsuc n) f (λ e. cc))
+
+marked-all : (zs : List ℤ) → ((k : ℕ) → FitsSigned w16 (get_or zs k (pos 0)))
+    → chosen (length zs) (map (λ (x : ℕ). differ x 0) (residues zs)) ≡ map marked zs
+marked-all [] f = refl
+marked-all (z ∷ zs) f =
+    ap (λ (n : ℕ). n ∷ chosen (length zs) (map (λ (x : ℕ). differ x 0) (residues zs))) (marked-is z (f 0))
+    ∙ ap (λ (ns : List ℕ). marked z ∷ ns) (marked-all zs (λ k. f (suc k)))
+
+pub marked-lanes : (zs : List ℤ) → length zs ≡ 64 → ((k : ℕ) → FitsSigned w16 (get_or zs k (pos 0)))
+    → chosen 64 (map (top 15) (compared 65535 (residues (take 64 zs)))) ≡ map marked zs
+marked-lanes zs n f =
+    ap (λ (ys : List ℤ). chosen 64 (map (top 15) (compared 65535 (residues ys)))) (take_all 64 zs (omega (arith, n)))
+    ∙ ap (chosen 64) (tops_compared w16 differ (residues zs) (replicate 64 0)
+    ∙ zip2_splat differ (residues zs) 64 0 (length-map zs (cast_unsigned w16) ∙ n))
+    ∙ ap (λ (m : ℕ). chosen m (map (λ (x : ℕ). differ x 0) (residues zs))) (sym n) ∙ marked-all zs f
+
+pub marked-small : (zs : List ℤ) → Each1 (λ x. x < 256) (map marked zs)
+marked-small [] = tt
+marked-small (z ∷ zs) = (small z, marked-small zs)
+  where
+    small : (z : ℤ) → marked z < 256
+    small (pos zero) = omega arith
+    small (pos (suc n)) = omega arith
+    small (negsuc n) = omega arith
+
+abbrev pub one_or : Bool → ℕ
+one_or b = if b then 0 else 1
+
+either : (b : Bool) → cond (not b) 1 0 ≡ one_or b
+either true = refl
+either false = refl
+
+pub bits-of : (values : List ℕ) (k : ℕ) → length values ≡ 64
+    → bit_at (mask_l (map (top 7) (compared 255 values)) % 2 ^ 64) k ≡ one_or (get_or values k 0 == 0)
+bits-of values k n =
+    ap (λ (m : ℕ). bit_at m k) (bitmask_splat w8 differ values 64 0 n (omega arith))
+    ∙ bit_mask_l (map (λ (x : ℕ). differ x 0) values) k
+    ∙ ap (λ (b : Bool). cond b 1 0) (get_or-map (λ (x : ℕ). differ x 0) values k 0)
+    ∙ either (nat_eq (get_or values k 0) 0)
+
+-- ---- the coefficients that a mask marks
+
+zero-marked : (z : ℤ) → marked z ≡ 0 → z ≡ pos 0
+zero-marked (pos zero) e = refl
+zero-marked (pos (suc n)) e = absurd (omega (arith, e))
+zero-marked (negsuc n) e = absurd (omega (arith, e))
+
+-- with another place written
+pub others-kept : (k n : ℕ) (block : List ℤ) (v : ℤ) → length block ≡ 64 → k < 64 → n < 64 → (n ≡ k → ⊥)
+    → coefficient_at n (set block (get_or zigzag k 0) v) ≡ coefficient_at n block
+others-kept k n block v long within inside apart =
+    sym (part-get 0 64 n (set block (get_or zigzag k 0) v) (pos 0) (omega arith) inside (omega arith))
+    ∙ ap (λ (zs : List ℤ). get_or zs (n - 0) (pos 0)) (part-set 0 64 k block v long (omega arith) within (omega arith))
+    ∙ get_or-set_other (zigzag_part 0 64 block) (k - 0) (n - 0) v (pos 0) (λ e. apart (omega (arith, e)))
+    ∙ part-get 0 64 n block (pos 0) (omega arith) inside (omega arith)
+
+pub marks-set : (mask k from : ℕ) (block : List ℤ) (v : ℤ) → length block ≡ 64 → k < from → k < 64
+    → MarksFrom mask from block → MarksFrom mask from (set block (get_or zigzag k 0) v)
+marks-set mask k from block v long before within h = record {
+  zeros = λ n after inside clear.
+      others-kept k n block v long within inside (λ e. omega (arith, e)) ∙ h.zeros n after inside clear;
+  values = λ n after inside set e.
+      h.values n after inside set (sym (others-kept k n block v long within inside (λ e. omega (arith, e))) ∙ e);
+}
+
+pub marks-later : (mask from next : ℕ) (block : List ℤ) → from ≤ next → MarksFrom mask from block
+    → MarksFrom mask next block
+marks-later mask from next block after h = record {
+  zeros = λ n later inside clear. h.zeros n (omega arith) inside clear;
+  values = λ n later inside set. h.values n (omega arith) inside set;
+}
+
+abbrev in_order : List ℤ → List ℕ
+in_order zs = map (λ (place : ℕ). get_or (map marked zs) place 0) zigzag
+
+marked-at : (zs : List ℤ) (k : ℕ) → k < 64 → get_or (in_order zs) k 0 ≡ marked (coefficient_at k zs)
+marked-at zs k within =
+    get_or-map_within (λ (place : ℕ). get_or (map marked zs) place 0) zigzag k 0 0 within
+    ∙ get_or-map marked zs (get_or zigzag k 0) (pos 0)
+
+one-or-zero : (n : ℕ) → one_or (n == 0) ≡ 0 → n ≡ 0
+one-or-zero zero e = refl
+one-or-zero (suc n) e =
+    let some : (suc n == 0) ≡ false = ne_eqb (suc n) 0 (λ e. omega (arith, e)) in
+    let one : one_or false ≡ 0 = rw some at e in absurd (omega (arith, one))
+
+marked-one : (z : ℤ) → one_or (marked z == 0) ≡ 1 → z ≡ pos 0 → ⊥
+marked-one (pos zero) e h = omega (arith, e)
+marked-one (pos (suc n)) e h = cc
+marked-one (negsuc n) e h = cc
+
+pub marks : (mask : ℕ) (zs : List ℤ)
+    → ((k : ℕ) → bit_at mask k ≡ one_or (get_or (in_order zs) k 0 == 0)) → MarksFrom mask 0 zs
+marks mask zs h = record {
+  zeros = λ k after within clear.
+      zero-marked (coefficient_at k zs) (sym (marked-at zs k within) ∙ one-or-zero _ (sym (h k) ∙ clear));
+  values = λ k after within set.
+      marked-one (coefficient_at k zs)
+      (ap (λ (n : ℕ). one_or (n == 0)) (sym (marked-at zs k within)) ∙ sym (h k) ∙ set);
+}
+
+-- ---- a piece that is walked from one coefficient that isn't 0 to the next
+
+pub gap-zeros : (mask index gap : ℕ) (block : List ℤ) → index + gap ≤ 64 → MarksFrom mask index block
+    → ((k : ℕ) → k < gap → bit_at mask (index + k) ≡ 0) → (i : ℕ) → index ≤ i → i < index + gap
+    → coefficient_at i block ≡ pos 0
+gap-zeros mask index gap block within m zeros i after before =
+    let e : i ≡ index + (i - index) = omega arith in
+    m.zeros i after (omega arith) (ap (bit_at mask) e ∙ zeros (i - index) (omega arith))
+
+module _ (al from end : ℕ) (block : List ℤ) (within : end ≤ 64) where
+  pub at-skips : (n r k : ℕ) (t : Text) → from ≤ k → k + n ≤ end → n ≤ r
+      → ((i : ℕ) → k ≤ i → i < k + n → coefficient_at i block ≡ pos 0)
+      → walk_at al r from end block k t ≡ walk_at al (r - n) from end block (k + n) t
+  at-skips zero r k t after inside some zeros =
+      let a : r ≡ r - 0 = omega arith in
+      let b : k ≡ k + 0 = omega arith in
+      ap (λ (m : ℕ). walk_at al m from end block k t) a ∙ ap (λ (i : ℕ). walk_at al (r - 0) from end block i t) b
+  at-skips (suc n) r k t after inside some zeros =
+      let a : r - 1 - n ≡ r - suc n = omega arith in
+      let b : k + 1 + n ≡ k + suc n = omega arith in
+      at-skip al r from end k (get_or zigzag k 0) block within after (omega arith) refl t
+      (zeros k (omega arith) (omega arith)) (omega arith)
+      ∙ at-skips n (r - 1) (k + 1) t (omega arith) (omega arith) (omega arith)
+      (λ i later before. zeros i (omega arith) (omega arith))
+      ∙ ap (λ (m : ℕ). walk_at al m from end block (k + 1 + n) t) a
+      ∙ ap (λ (i : ℕ). walk_at al (r - suc n) from end block i t) b
+
+  -- the zero that ends the piece stands in the gap
+  pub at-gap : (gap r k : ℕ) (t : Text) → from ≤ k → k + gap ≤ end → r < gap
+      → ((i : ℕ) → k ≤ i → i < k + gap → coefficient_at i block ≡ pos 0)
+      → walk_at al r from end block k t ≡ Ok ((k + r + 1 - from, zigzag_part from end block), t)
+  at-gap gap r k t after inside few zeros =
+      at-skips r r k t after (omega arith) (omega arith) (λ i later before. zeros i later (omega arith))
+      ∙ at-stop al (r - r) from end (k + r) (get_or zigzag (k + r) 0) block within (omega arith) (omega arith) refl t
+      (zeros (k + r) (omega arith) (omega arith)) (omega arith)
+
+  -- the band ends with the gap
+  pub at-last-gap : (gap r k : ℕ) (t : Text) → from ≤ k → k + gap ≡ end → gap ≤ r
+      → ((i : ℕ) → k ≤ i → i < k + gap → coefficient_at i block ≡ pos 0)
+      → walk_at al r from end block k t ≡ Ok ((end - from, zigzag_part from end block), t)
+  at-last-gap gap r k t after last some zeros =
+      at-skips gap r k t after (omega (arith, last)) some zeros
+      ∙ at-end al (r - gap) from end (k + gap) block t within last

@@ -1,0 +1,16 @@
+use Rattle.std.proofs.Common.{ℕ, ◌==◌, List, get_or, map, ◌∙◌, ap}
+use Rattle.jpeg_bits.specs.Zigzag.{zigzag}
+use Rattle.jpeg_bits.proofs.Masks.{marks, one_or, marked-small}
+use Rattle.jpeg_bits.proofs.refinement.mask_of.Goals as goal
+
+pub narrowed-requires : goal.narrowed-requires
+narrowed-requires c = rw c.marked.ensures (marked-small c.args.block)
+
+pub returns : goal.returns
+returns c =
+    marks c.bits_of.result c.args.block (λ k.
+    c.bits_of.ensures k
+    ∙ ap (λ (xs : List ℕ). one_or (get_or xs k 0 == 0))
+    (c.in_zigzag.ensures
+    ∙ ap (λ (xs : List ℕ). map (λ (place : ℕ). get_or xs place 0) zigzag)
+    (c.narrowed.ensures ∙ c.marked.ensures)))
