@@ -68,10 +68,9 @@ forced-defaults l c places (suc (suc n)) (a ∷ b ∷ more) (suc (suc place)) e 
 forced-by : (b : Bool) (l c : Table) (places : List ℕ) (tables : List (Option Table)) (place : ℕ) → length tables ≡ 4
     → get_or (cond b (with_defaults l c places tables) tables) place None
     ≡ or_spare (get_or tables place None) (get_or
-    (cond b (with_defaults l c places (replicate 4 None)) (replicate 4 None)) place None)
+    (cond b (with_defaults l c places (replicate 4 None)) []) place None)
 forced-by true l c places tables place e = forced-defaults l c places 4 tables place e
-forced-by false l c places tables place e = sym (ap (or_spare (get_or tables place None)) (none-at 4 place) ∙ or-none
-    (get_or tables place None))
+forced-by false l c places tables place e = sym (or-none (get_or tables place None))
 
 dc-by : (b : Bool) (found : Found) (scan : Scan) → found.metadata.avi1 ≡ b
     → (tables_of found scan).dc ≡ cond b (with_defaults luminance_dc chrominance_dc scan.dc_places found.huffman.dc)
@@ -125,7 +124,7 @@ filled-ac t true e = e
 filled-ac t false e = tt
 
 spare-ac : (b : Bool) (places : List ℕ) (place : ℕ) → IsAc (get_or (default_ac b places) place None)
-spare-ac false places place = rw (none-at 4 place) tt
+spare-ac false places place = tt
 spare-ac true places zero = filled-ac luminance_ac (names places 0) refl
 spare-ac true places (suc zero) = filled-ac chrominance_ac (names places 1) refl
 spare-ac true places (suc (suc place)) = rw (none-at 2 place) tt

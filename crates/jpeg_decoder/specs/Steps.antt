@@ -70,11 +70,11 @@ after_all met bytes = after_restarts (suc (length bytes)) met bytes
 -- the default tables at the places that a scan names, where a frame of an MJPEG stream was named
 abbrev pub default_dc : Bool → List ℕ → List (Option Table)
 default_dc is_mjpeg places = if is_mjpeg then with_defaults luminance_dc chrominance_dc places
-    (replicate 4 None) else replicate 4 None
+    (replicate 4 None) else []
 
 abbrev pub default_ac : Bool → List ℕ → List (Option Table)
 default_ac is_mjpeg places = if is_mjpeg then with_defaults luminance_ac chrominance_ac places
-    (replicate 4 None) else replicate 4 None
+    (replicate 4 None) else []
 
 -- the table at a place, or else the spare one there
 abbrev pub or_spare : Option Table → Option Table → Option Table

@@ -98,12 +98,14 @@ pub fn spare_tables(
     ensures err { IfErr result (λ e. e ≡ OutOfMemory) }
 {
     let mut spare = Spare {
-        dc: vec![in alloc; None, None, None, None]?,
-        ac: vec![in alloc; None, None, None, None]?,
+        dc: Vec::new(alloc),
+        ac: Vec::new(alloc),
         no_dc: HuffmanTable::without_codes(alloc, HuffmanTableClass::DC),
         no_ac: HuffmanTable::without_codes(alloc, HuffmanTableClass::AC),
     };
     if is_mjpeg {
+        spare.dc = vec![in alloc; None, None, None, None]?;
+        spare.ac = vec![in alloc; None, None, None, None]?;
         fill_default_mjpeg_tables(alloc, header, &mut spare.dc, &mut spare.ac)?;
         if is_large(frame) {
             widen_all(alloc, &mut spare.ac)?;
