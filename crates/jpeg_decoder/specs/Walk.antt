@@ -1,5 +1,5 @@
--- The order of the blocks of a scan (T.81, A.2), as it is walked: MCU by MCU, and of each MCU member
--- by member.
+-- The order of the blocks of a scan (T.81, A.2), as it is walked: MCU by MCU, and of each MCU
+-- member by member.
 use Rattle.std.specs.Prelude.{◌≡◌, ◌<◌, ℕ, ◌+◌, ◌-◌, ◌*◌, min, List, [], ◌∷◌, ◌++◌, map, drop}
 use Rattle.std.specs.Prelude.{length, Option, Some, None}
 use Rattle.std.specs.List.{range_with_len, flat_map}

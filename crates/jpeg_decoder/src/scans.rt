@@ -187,8 +187,8 @@ pub fn read_spots<R: Read + Drop>(
     Ok(())
 }
 
-/// Reads the blocks at some spots, in restart intervals of `n` blocks, or in one where `n` is 0, and
-/// returns the marker after them, if it was met.
+/// Reads the blocks at some spots, in restart intervals of `n` blocks, or in one where `n` is 0,
+/// and returns the marker after them, if it was met.
 #[tactic(auto, unfolding(jpeg_streams::specs::InTurn::scan_from))]
 fn read_scan<R: Read + Drop>(
     alloc: Global,

@@ -110,7 +110,8 @@ counted_at_start n arrays = record { reached = at_start arrays; left = n; number
 unfoldable pub scan_from : Pass → List Via → ℕ → List Spot → Arrays → List ℕ
     → Outcome (Arrays × Option Marker)
 scan_from p vias n spots arrays bytes =
-    reading.◌>>=◌ (blocks_from p vias n spots (counted_at_start n arrays) (upcoming fresh bytes)) (λ r.
+    reading.◌>>=◌ (blocks_from p vias n spots (counted_at_start n arrays) (upcoming fresh bytes))
+    (λ r.
     reading.◌>>=◌ (marker_from r.1) (λ m. Ok ((r.0.reached.arrays, m.0), m.1)))
 
 -- ---- spots that are apart
