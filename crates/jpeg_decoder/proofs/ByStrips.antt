@@ -22,7 +22,7 @@ use Rattle.jpeg_streams.specs.McuRows.{row_at, zero_rows, rows_of, joined, on_ar
 use Rattle.jpeg_streams.specs.McuRows.{scan_by_rows}
 use Rattle.jpeg_streams.specs.ScanSegments.{plane_by, Coding, components_of}
 use Rattle.jpeg_decoder.specs.Strips.{planes_by, planes_at, samples_of, with_strips, strips_from}
-use Rattle.jpeg_decoder.specs.Strips.{planes_by_rows}
+use Rattle.jpeg_decoder.specs.Strips.{no_samples, planes_by_rows}
 use Rattle.jpeg_streams.proofs.Apart.{zeros-sized}
 use Rattle.jpeg_streams.proofs.CountedScans.{frame-scans, on-on}
 use Rattle.jpeg_streams.proofs.McuRows.{AreRows, blocks-any, rows-kept, counted-where, joined-rows, no-blocks, zero-rows}
@@ -191,7 +191,8 @@ all-grown frame (c ∷ codings) (blocks ∷ arrays) fits =
 -- A sequential scan is its rows of MCUs, each of which gives a strip of each plane.
 pub planes-by-rows : (frame : Frame) (c : Coding) (codings : List Coding) (p : Pass) (n : ℕ) (vias : List Via)
     (bytes : List ℕ) → AllByRecursion (Fits frame) (components_of (c ∷ codings))
-    → planes_at p n vias frame (c ∷ codings) bytes ≡ planes_by_rows p vias n frame (c ∷ codings) bytes
+    → planes_at p n vias frame (c ∷ codings) bytes
+    ≡ planes_by_rows p vias n frame (c ∷ codings) (no_samples (c ∷ codings)) bytes
 unfolding planes_at planes_by_rows scan_by_rows ended
 planes-by-rows frame c codings p n vias bytes fits =
     let all = c ∷ codings in

@@ -9,7 +9,7 @@ use Rattle.jpeg_streams.specs.ScanSegments.{decided}
 use Rattle.jpeg_streams.specs.Found.{Found}
 use Rattle.jpeg_decoder.specs.Steps.{decided_planes, is_wanted, marks_after, with_its_plane}
 
-planes_kept : (marks : List Bool) (place : ℕ) (plane : List ℕ) (planes : List (Option (List ℕ)))
+pub planes_kept : (marks : List Bool) (place : ℕ) (plane : List ℕ) (planes : List (Option (List ℕ)))
     → is_wanted marks (slice_index_or planes place None) ≡ false → decided_planes marks place plane planes ≡ planes
 unfolding decided_planes
 planes_kept marks place plane planes h = go (list_all (λ mark. mark) marks) (slice_index_or planes place None) refl h

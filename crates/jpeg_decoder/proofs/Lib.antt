@@ -16,6 +16,7 @@ pub mod StripSteps
 pub mod StripScans
 pub mod CodedScales
 pub mod DecidedPlanes
+pub mod DecidedScans
 pub mod ReadableScans
 pub mod ScanReads
 pub mod SlotCodings
@@ -26,6 +27,7 @@ pub mod PlacedCodings
 pub mod DecodedImages
 pub mod PutLoops
 pub mod ScanData
+pub mod SequentialScans
 pub mod EndedPlanes
 pub mod PicturesOfPlanes
 mod LosslessReads

@@ -15,7 +15,7 @@ use Rattle.jpeg_decoder.specs.declared.scan.Coded.{Coded}
 use Rattle.jpeg_decoder.proofs.BlocksBefore.{zero-blocks}
 use Rattle.jpeg_decoder.proofs.HeldBlocks.{Held, get-map, sizes-long, size-at}
 use Rattle.jpeg_streams.proofs.InPlace.{patched, patched-next, patched-at, patched-all, patched-length}
-use Rattle.jpeg_decoder.proofs.StripRows.{strips-at, strips-length}
+use Rattle.jpeg_decoder.proofs.StripRows.{strips-at, strips-length, strips-none}
 
 abbrev pub Plane : Type 0
 Plane = Vec ℕ Global
@@ -53,6 +53,11 @@ cleared-next old items i v w h sizes arrays is new =
     )
 
 -- ---- samples that are appended
+
+pub no-strips : (cs : List Coded) (old : List Held) (start : List Plane) → length start ≡ 0
+    → planes_in start ≡ with_strips (map coding_in cs) (arrays_in old) (planes_in start)
+no-strips cs old [] e = sym (strips-none (map coding_in cs) (arrays_in old))
+no-strips cs old (x ∷ start) e = absurd (omega arith)
 
 module _ (cs : List Coded) (old : List Held) (start : List Plane) (sizes : sizes_of old
     ≡ row_sizes cs) (long : length start ≡ length cs) where

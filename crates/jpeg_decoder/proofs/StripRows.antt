@@ -78,6 +78,12 @@ raster-rows s table wide width high counter blocks old new w h e sized done =
 
 -- ---- the planes
 
+pub strips-none : (codings : List Coding) (arrays : Arrays) → with_strips codings arrays [] ≡ []
+unfolding with_strips
+strips-none [] arrays = refl
+strips-none (c ∷ codings) [] = refl
+strips-none (c ∷ codings) (a ∷ arrays) = refl
+
 pub strips-length : (codings : List Coding) (arrays : Arrays) (planes : List (List ℕ)) → length arrays
     ≡ length codings → length planes ≡ length codings
     → length (with_strips codings arrays planes) ≡ length codings

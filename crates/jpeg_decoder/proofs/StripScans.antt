@@ -18,48 +18,46 @@ use Rattle.jpeg_streams.specs.Order.{Spot, mcu_size}
 use Rattle.jpeg_decoder.specs.Scanning.{components_in}
 use Rattle.jpeg_decoder.specs.Steps.{coding_in}
 use Rattle.jpeg_streams.specs.ScanSegments.{Coding, components_of}
-use Rattle.jpeg_decoder.specs.Strips.{strips_from, planes_at, planes_by_rows}
+use Rattle.jpeg_decoder.specs.Strips.{no_samples, strips_from, planes_at, planes_by_rows}
 use Rattle.jpeg_decoder.proofs.ByStrips.{planes-by-rows}
 use Rattle.jpeg_decoder.specs.declared.scan_order.ScanOrder.{ScanOrder}
 use Rattle.jpeg_decoder.specs.Walk.{IsOrderOf, walks_of_rows}
 use Rattle.jpeg_decoder.proofs.ScanOrders.{rows-walked}
 use Rattle.jpeg_decoder.proofs.StripSteps.{components-are}
 
-abbrev Planes : Type 0
+abbrev pub Planes : Type 0
 Planes = List (List ℕ)
 
-abbrev marked : Planes → Outcome (Option Marker) → Outcome (Planes × Option Marker)
+abbrev pub marked : Planes → Outcome (Option Marker) → Outcome (Planes × Option Marker)
 marked planes o = reading.◌>>=◌ o (λ (m : Option Marker × List ℕ). Ok ((planes, m.0), m.1))
 
-ended : Result (Planes × Text) Fault → Outcome (Planes × Option Marker)
+unfoldable pub ended : Result (Planes × Text) Fault → Outcome (Planes × Option Marker)
 ended o = reading.◌>>=◌ o (λ (r : Planes × Text). marked r.0 (marker_from r.1))
 
 module _ (p : Pass) (vias : List Via) (n blocks : ℕ) (frame : Frame) (codings : List Coding) (rows : List (List Spot))
     (start : Planes) (i : Counted) (a : Ahead) (old : Stream)
-    (same : (bytes : List ℕ) → planes_at p n vias frame codings bytes ≡ planes_by_rows p vias n frame codings bytes)
     (count : blocks ≡ n * mcu_size (components_of codings)) (walked : rows ≡ rows_of frame (components_of codings))
-    (nothing : start ≡ map (λ (c : Coding). []) codings) (first : i ≡ counted_at_start blocks [])
-    (none : a ≡ fresh) where
+    (first : i ≡ counted_at_start blocks []) (none : a ≡ fresh) where
+  abbrev by_rows : List ℕ → Outcome (Planes × Option Marker)
+  by_rows = planes_by_rows p vias n frame codings start
+
   abbrev whole : Text → Result (Planes × Text) Fault
   whole = strips_from p vias blocks codings rows start i
 
-  whole-is : (bytes : List ℕ) → planes_at p n vias frame codings bytes ≡ ended (whole (upcoming a bytes))
+  whole-is : (bytes : List ℕ) → by_rows bytes ≡ ended (whole (upcoming a bytes))
   unfolding planes_by_rows ended
   whole-is bytes =
-      same bytes
-      ∙ ap (λ (k : ℕ). ended (strips_from p vias k codings (rows_of frame (components_of codings))
-      (map (λ (c : Coding). []) codings) (counted_at_start k []) (upcoming fresh bytes))) (sym count)
-      ∙ ap (λ (l : List (List Spot)). ended (strips_from p vias blocks codings l
-      (map (λ (c : Coding). []) codings) (counted_at_start blocks []) (upcoming fresh bytes))) (sym walked)
-      ∙ ap (λ (x : Planes). ended (strips_from p vias blocks codings rows x (counted_at_start blocks [])
-      (upcoming fresh bytes))) (sym nothing)
+      ap (λ (k : ℕ). ended (strips_from p vias k codings (rows_of frame (components_of codings)) start
+      (counted_at_start k []) (upcoming fresh bytes))) (sym count)
+      ∙ ap (λ (l : List (List Spot)). ended (strips_from p vias blocks codings l start
+      (counted_at_start blocks []) (upcoming fresh bytes))) (sym walked)
       ∙ ap (λ (x : Counted). ended (strips_from p vias blocks codings rows start x (upcoming fresh bytes))) (sym first)
       ∙ ap (λ (x : Ahead). ended (whole (upcoming x bytes))) (sym none)
 
   -- a refusal in the rows
   pub rows-refused : {X Y : Type 0} (v : X → Planes) (view : Y → Planes
       × Option Marker) (b : Ahead) (new : Stream) (e : Error)
-      → Takes v whole a old (Err e) b new → Answers view (planes_at p n vias frame codings) old (Err e) new
+      → Takes v whole a old (Err e) b new → Answers view by_rows old (Err e) new
   unfolding ended
   rows-refused v view b new e q = (
     q.0,
@@ -68,41 +66,29 @@ module _ (p : Pass) (vias : List Via) (n blocks : ℕ) (frame : Frame) (codings 
     q.2,
   )
 
-  -- one after them
-  pub marker-refused : {X Y : Type 0} (v : X → Planes) (view : Y → Planes
-      × Option Marker) (b : Ahead) (cur new : Stream) (u : X) (e : Error)
+  -- the marker after them
+  pub scan-ended : {X : Type 0} (v : X → Planes) (b : Ahead) (cur new : Stream) (u : X) (r : Result (Option Marker) Error)
       → Takes v whole a old (Ok u) b cur → Answers (λ (m : Option Marker). m) (λ bytes. marker_from
-      (upcoming b bytes)) cur (Err e) new
-      → Answers view (planes_at p n vias frame codings) old (Err e) new
+      (upcoming b bytes)) cur r new → Answers (λ (m : Option Marker). (v u, m)) by_rows old r new
   unfolding ended
-  marker-refused v view b cur new u e q m = (
+  scan-ended v b cur new u (Err e) q m = (
     MayFail-from e _ _ _ q.0 m.0,
     λ k known.
         let at = q.1 k in
         Names-through e _ _ (λ f h. whole-is old.bytes ∙ ap ended at.1 ∙ ap (marked (v u)) h) (m.1 at.0 known),
     λ k. m.2 (q.1 k).0,
   )
-
-  pub scan-read : {X Y : Type 0} (v : X → Planes) (view : Y → Planes
-      × Option Marker) (b : Ahead) (cur new : Stream) (u : X) (met : Option Marker) (y : Y)
-      → Takes v whole a old (Ok u) b cur → Answers (λ (m : Option Marker). m) (λ bytes. marker_from
-      (upcoming b bytes)) cur (Ok met) new → view y ≡ (v u, met)
-      → Answers view (planes_at p n vias frame codings) old (Ok y) new
-  unfolding ended
-  scan-read v view b cur new u met y q m e = (
+  scan-ended v b cur new u (Ok met) q m = (
     m.0 ∙ q.0,
     λ k.
         let at = q.1 k in
-        let by = m.1 at.0 in (
-          by.0,
-          whole-is old.bytes ∙ ap ended at.1 ∙ ap (marked (v u)) by.1 ∙ ap (λ (x : Planes
-              × Option Marker). Ok (x, new.bytes)) (sym e),
-        ),
+        let by = m.1 at.0 in (by.0, whole-is old.bytes ∙ ap ended at.1 ∙ ap (marked (v u)) by.1),
   )
 
 pub scan-by-rows : (frame : Frame) (cs : List Coded) (p : Pass) (n : ℕ) (vias : List Via) (bytes : List ℕ)
     → 1 ≤ length cs → AllByRecursion (Fits frame) (components_in cs)
-    → planes_at p n vias frame (map coding_in cs) bytes ≡ planes_by_rows p vias n frame (map coding_in cs) bytes
+    → planes_at p n vias frame (map coding_in cs) bytes
+    ≡ planes_by_rows p vias n frame (map coding_in cs) (no_samples (map coding_in cs)) bytes
 scan-by-rows frame [] p n vias bytes h fits = absurd (omega arith)
 scan-by-rows frame (c ∷ cs) p n vias bytes h fits =
     planes-by-rows frame (coding_in c) (map coding_in cs) p n vias bytes (subst (λ

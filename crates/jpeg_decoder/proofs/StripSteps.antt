@@ -19,9 +19,11 @@ use Rattle.jpeg_streams.specs.McuRows.{zero_rows, on_arrays}
 use Rattle.jpeg_decoder.specs.Scanning.{components_in, arrays_in, blocks_in, sizes_of, wide_in, down_in}
 use Rattle.jpeg_decoder.specs.Steps.{coding_in}
 use Rattle.jpeg_streams.specs.ScanSegments.{Coding, components_of}
-use Rattle.jpeg_decoder.specs.Strips.{row_sizes, samples_in, samples_of, zeros_of, with_strips}
+use Rattle.jpeg_decoder.specs.Strips.{planes_in, row_sizes, samples_in, samples_of, zeros_of, with_strips}
 use Rattle.jpeg_decoder.specs.Strips.{strips_from}
 use Rattle.jpeg_decoder.proofs.HeldBlocks.{Held, sizes-long}
+use Rattle.jpeg_decoder.proofs.RowBuffers.{Plane}
+use Rattle.jpeg_decoder.proofs.StripRows.{strips-length, strips-none}
 
 -- ---- the rows
 
@@ -163,6 +165,20 @@ pub row-count : (cs : List Coded) (vs : List Held) → sizes_of vs ≡ row_sizes
 row-count cs vs sizes =
     length-map vs blocks_in ∙ sym (sizes-long vs) ∙ ap (λ (l : List ℕ). length l) sizes
     ∙ length-map cs (λ (c : Coded). down_in c * wide_in c)
+
+-- the planes that are there are those of the components, also after a row of MCUs
+pub kept-count : (cs : List Coded) (arrays : Arrays) (old new : List Plane) → length arrays ≡ length cs
+    → planes_in new ≡ with_strips (map coding_in cs) arrays (planes_in old)
+    → (0 < length old → length old ≡ length cs) → 0 < length new → length new ≡ length cs
+kept-count cs arrays [] new e made h some = absurd
+    (let n = ap (λ (l : List (List ℕ)). length l) (made ∙ strips-none (map coding_in cs) arrays) in
+    omega (arith, n, some, length-map new (λ (v : Plane). v.items)))
+kept-count cs arrays (x ∷ old) new e made h some =
+    sym (length-map new (λ (v : Plane). v.items))
+    ∙ ap (λ (l : List (List ℕ)). length l) made
+    ∙ strips-length (map coding_in cs) arrays (planes_in (x ∷ old)) (e ∙ sym (length-map cs coding_in))
+    (length-map (x ∷ old) (λ (v : Plane). v.items) ∙ h (omega arith) ∙ sym (length-map cs coding_in))
+    ∙ length-map cs coding_in
 
 -- a plane of all rows of MCUs has the samples of all blocks
 pub lengths-all : (frame : Frame) (cs : List Coded) → AllByRecursion (Fits frame) (components_in cs)

@@ -61,14 +61,19 @@ strips_from p vias n codings (spots ∷ rows) planes old =
     strips_from p vias n codings rows (with_strips codings r.reached.arrays planes)
     (on_arrays [] r))
 
--- a scan from zeros, row by row of MCUs, in intervals of n MCUs
-unfoldable pub planes_by_rows : Pass → List Via → ℕ → Frame → List Coding → List ℕ
+-- a scan from zeros, row by row of MCUs, in intervals of n MCUs, after the planes in `start`; where
+-- there are none, nothing is made of the blocks
+unfoldable pub planes_by_rows : Pass → List Via → ℕ → Frame → List Coding → List (List ℕ) → List ℕ
     → Outcome (List (List ℕ) × Option Marker)
-planes_by_rows p vias n frame codings bytes =
+planes_by_rows p vias n frame codings start bytes =
     let blocks = n * mcu_size (components_of codings) in
-    reading.◌>>=◌ (strips_from p vias blocks codings (rows_of frame (components_of codings)) (map
-    (λ c. []) codings) (counted_at_start blocks []) (upcoming fresh bytes)) (λ r.
+    reading.◌>>=◌ (strips_from p vias blocks codings (rows_of frame (components_of codings)) start
+    (counted_at_start blocks []) (upcoming fresh bytes)) (λ r.
     reading.◌>>=◌ (marker_from r.1) (λ m. Ok ((r.0, m.0), m.1)))
+
+-- a plane without samples for each component
+abbrev pub no_samples : List Coding → List (List ℕ)
+no_samples codings = map (λ c. []) codings
 
 -- ---- what a caller sees
 

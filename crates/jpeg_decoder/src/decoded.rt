@@ -19,7 +19,7 @@ use crate::scan::{Coded, Scan};
 use crate::scans::read_blocks;
 use crate::sequential::read_planes;
 use crate::state::State;
-use crate::strips::{append_rows, plane_size};
+use crate::strips::{append_rows, empty_planes, plane_size};
 use jpeg_bits::blocks::Pass;
 use jpeg_bits::error::Result;
 use jpeg_bits::marker::Marker;
@@ -154,7 +154,7 @@ fn put_blocks(
 impl Decoded {
     ghost use Rattle.std.specs.Prelude.{◌≡◌, ◌<◌, [], All, IfOk, OnOk, None, Some};
     ghost use Rattle.std.specs.Prelude.{◌*◌, true, false, length, map, replicate, slice_index_or};
-    ghost use Rattle.std.specs.Prelude.{slice_set};
+    ghost use Rattle.std.specs.Prelude.{is_some, slice_set};
     ghost use Rattle.jpeg_bits.specs.Reading.{Answers};
     ghost use Rattle.jpeg_bits.specs.BlockView.{pass_in, IsPass, to_block};
     ghost use Rattle.jpeg_pixels.specs.Scaled.{IsScale};
@@ -365,7 +365,61 @@ impl Decoded {
         Ok(met)
     }
 
-    /// Reads a scan of a sequential frame, and returns the marker after it, if it was met.
+    /// Returns whether the plane of a component is decided.
+    fn has_plane(&self, place: usize) -> bool
+        requires { place < 4 }
+        ensures { result ≡ is_some (slice_index_or (planes_in self.now.planes) place None) }
+    {
+        self.planes[place].is_some()
+    }
+
+    /// Returns whether the planes of all components of a scan are decided.
+    fn are_decided(&self, codings: &[Coded<'_>]) -> bool
+        requires places { All HasPlace codings.now }
+        ensures { result ≡ true → All (λ c. is_some (slice_index_or (planes_in self.now.planes)
+            c.place None) ≡ true) codings.now }
+    {
+        for coded in codings {
+            if !self.has_plane(coded.place) {
+                return false;
+            }
+        }
+        true
+    }
+
+    /// Reads a scan of a sequential frame whose components have planes already, and returns the
+    /// marker after it, if one was reached.
+    ///
+    /// The first scan of a component decides its plane; the blocks of later ones are read, and
+    /// neither transformed nor kept.
+    fn read_again<R: Read + Drop>(
+        &mut self,
+        alloc: Global,
+        source: &mut Source<R>,
+        state: &State,
+        frame: &FrameInfo,
+        scan: &Scan<'_>,
+    ) -> Result<Option<Marker>>
+        requires process { is_progressive (frame_in frame.now).process ≡ false }
+        requires ready { IsReadable (frame_in frame.now) (found_in state.now) scan.now }
+        requires decided { All (λ c. is_some (slice_index_or (planes_in self.now.planes)
+            c.place None) ≡ true) scan.now.components.items }
+        ensures data { Answers (λ m.
+            (record (with_decoded (found_in state.now) self.new) { scanned = true }, m))
+            (scan_data (with_decoded (found_in state.now) self.old) (frame_in frame.now)
+            (pass_in scan.now.pass) (map coding_in scan.now.components.items))
+            source.old result source.new }
+        ensures planes { OnOk result (planes_in self.new.planes ≡ planes_in self.old.planes) }
+        ensures samples { OnOk result (self.new.samples ≡ self.old.samples) }
+    {
+        let mut none = empty_planes(alloc, &scan.components, false)?;
+        let reached = read_planes(alloc, source, scan, frame, &mut Vec::new(alloc))?;
+        self.held = Vec::new(alloc);
+        self.add_planes(scan, &mut none, alloc);
+        Ok(reached)
+    }
+
+    /// Reads a scan of a sequential frame, and returns the marker after it, if one was reached.
     fn read_sequential<R: Read + Drop>(
         &mut self,
         alloc: Global,
@@ -385,10 +439,14 @@ impl Decoded {
             → OnOk result (ArePlanes (frame_in frame.now).components (planes_in self.new.planes)) }
         ensures samples { OnOk result (self.new.samples ≡ self.old.samples) }
     {
-        let (mut planes, met) = read_planes(alloc, source, scan, frame)?;
+        if self.are_decided(&scan.components) {
+            return self.read_again(alloc, source, state, frame, scan);
+        }
+        let mut planes = empty_planes(alloc, &scan.components, true)?;
+        let reached = read_planes(alloc, source, scan, frame, &mut planes)?;
         self.held = Vec::new(alloc);
         self.add_planes(scan, &mut planes, alloc);
-        Ok(met)
+        Ok(reached)
     }
 
     /// Reads the entropy-coded data of a scan, and returns the marker after it, if it was met.

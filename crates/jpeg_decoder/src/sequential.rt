@@ -1,5 +1,5 @@
 //! Sequential scans, whose planes are made row by row of MCUs (T.81, A.2 and F.2).
-ghost use Rattle.std.specs.Prelude.{[], map, OnOk, IfOk, length, ◌≡◌, ◌≤◌, ◌<◌, ◌*◌};
+ghost use Rattle.std.specs.Prelude.{[], map, OnOk, length, ◌≡◌, ◌≤◌, ◌<◌, ◌*◌};
 ghost use Rattle.std.specs.List.{AllByRecursion};
 ghost use Rattle.jpeg_bits.specs.Entropy.{Takes};
 ghost use Rattle.jpeg_bits.specs.Reading.{Answers};
@@ -8,14 +8,14 @@ ghost use Rattle.jpeg_streams.specs.InTurn.{Fits};
 ghost use Rattle.jpeg_decoder.specs.Scanning.{IsSpotOf, sizes_of, counted, down_in};
 ghost use Rattle.jpeg_decoder.specs.Scanning.{scan_pass, scan_vias, scan_components};
 ghost use Rattle.jpeg_decoder.specs.Steps.{coding_in};
-ghost use Rattle.jpeg_decoder.specs.Strips.{planes_in, row_sizes, samples_in};
-ghost use Rattle.jpeg_decoder.specs.Strips.{planes_at, strips_from};
+ghost use Rattle.jpeg_decoder.specs.Strips.{no_samples, planes_by_rows, planes_in, row_sizes};
+ghost use Rattle.jpeg_decoder.specs.Strips.{samples_in, strips_from};
 ghost use Rattle.jpeg_decoder.specs.Walk.{walks_of_rows};
 
 use crate::scan::Scan;
 use crate::scan_order::ScanOrder;
 use crate::scans::{Interval, first_interval, read_spots};
-use crate::strips::{append_strips, clear_rows, empty_planes, row_buffers};
+use crate::strips::{append_strips, clear_rows, row_buffers};
 use jpeg_bits::error::Result;
 use jpeg_bits::marker::Marker;
 use jpeg_bits::source::Source;
@@ -24,7 +24,7 @@ use std::alloc::Global;
 use std::io::Read;
 
 /// Reads the rows of MCUs of a scan, and appends the samples of each to the planes of the scan's
-/// components.
+/// components, if there are any.
 fn read_strips<R: Read + Drop>(
     interval: &mut Interval,
     source: &mut Source<R>,
@@ -37,9 +37,11 @@ fn read_strips<R: Read + Drop>(
     requires sizes { sizes_of rows.now.items ≡ row_sizes scan.now.components.items }
     requires spots { AllByRecursion (AllByRecursion (IsSpotOf (length scan.now.components.items)
         (sizes_of rows.now.items))) (walks_of_rows order.now) }
-    requires planes { planes_in planes.now.items
-        ≡ map (λ c. []) (map coding_in scan.now.components.items) }
-    ensures sizes { OnOk result (map length (planes_in planes.new.items)
+    requires planes { 0 < length planes.now.items
+        → length planes.now.items ≡ length scan.now.components.items }
+    ensures sizes { planes_in planes.old.items
+        ≡ no_samples (map coding_in scan.now.components.items)
+        → OnOk result (map length (planes_in planes.new.items)
         ≡ map (λ c. samples_in (order.now.rows * down_in c) c) scan.now.components.items) }
     ensures strips { Takes (λ _. planes_in planes.new.items)
         (strips_from (scan_pass scan.now) (scan_vias scan.now) order.now.interval
@@ -56,35 +58,40 @@ fn read_strips<R: Read + Drop>(
     Ok(())
 }
 
-/// Reads a scan of a sequential frame, and returns the plane of each of its components and the
-/// marker after the scan, if it was met.
+/// Reads a scan of a sequential frame, appends the samples of its blocks to the planes of its
+/// components, and returns the marker after the scan, if one was reached.
 ///
-/// The blocks are read from zeros, row by row of MCUs, and those of one row are held at a time. A
+/// The blocks are read from zeros, row by row of MCUs, and those of one row are kept at a time. A
 /// plane has the samples of all blocks of its component, also of those that only fill its last
-/// MCUs.
+/// MCUs. Without planes, the blocks are read and nothing is made of them: so are later scans of
+/// components whose planes are decided.
 /// The errors are those of the source, a refused code or category (T.81, F.2.2), a restart marker
-/// that is missing or out of turn, and no memory.
+/// that is missing or out of turn, and out of memory.
 pub fn read_planes<R: Read + Drop>(
     alloc: Global,
     source: &mut Source<R>,
     scan: &Scan<'_>,
     frame: &FrameInfo,
-) -> Result<(Vec<Vec<u8>>, Option<Marker>)>
+    planes: &mut Vec<Vec<u8>>,
+) -> Result<Option<Marker>>
     requires some { 1 ≤ length scan.now.components.items }
     requires fits { AllByRecursion (Fits (frame_in frame.now)) (scan_components scan.now) }
-    ensures sizes { IfOk result (λ r. map length (planes_in r.0.items)
+    requires planes { 0 < length planes.now.items
+        → length planes.now.items ≡ length scan.now.components.items }
+    ensures sizes { planes_in planes.old.items
+        ≡ no_samples (map coding_in scan.now.components.items)
+        → OnOk result (map length (planes_in planes.new.items)
         ≡ map (λ c. c.blocks_high * c.scale * (c.blocks_wide * c.scale))
         (scan_components scan.now)) }
-    ensures planes { Answers (λ r. (planes_in r.0.items, r.1))
-        (planes_at (scan_pass scan.now) scan.now.restart_interval (scan_vias scan.now)
-        (frame_in frame.now) (map coding_in scan.now.components.items))
+    ensures planes { Answers (λ m. (planes_in planes.new.items, m))
+        (planes_by_rows (scan_pass scan.now) (scan_vias scan.now) scan.now.restart_interval
+        (frame_in frame.now) (map coding_in scan.now.components.items)
+        (planes_in planes.old.items))
         source.old result source.new }
 {
     let order = ScanOrder::new(alloc, scan, frame)?;
     let mut interval = first_interval(alloc, order.interval);
     let mut rows = row_buffers(alloc, &scan.components)?;
-    let mut planes = empty_planes(alloc, &scan.components)?;
-    read_strips(&mut interval, source, scan, &order, &mut rows, &mut planes)?;
-    let met = interval.decoder.take_marker(source)?;
-    Ok((planes, met))
+    read_strips(&mut interval, source, scan, &order, &mut rows, planes)?;
+    interval.decoder.take_marker(source)
 }

@@ -1,6 +1,6 @@
 //! Planes, as they grow by rows of blocks: in a sequential scan row by row of MCUs (T.81, A.2).
 ghost use Rattle.std.specs.Prelude.{[], map, length, pos, replicate, IfOk, OnOk};
-ghost use Rattle.std.specs.Prelude.{◌≡◌, ◌≤◌, ◌*◌, ◌++◌};
+ghost use Rattle.std.specs.Prelude.{◌≡◌, ◌≤◌, ◌<◌, ◌*◌, ◌++◌};
 ghost use Rattle.jpeg_bits.specs.BlockView.{to_block};
 ghost use Rattle.jpeg_bits.specs.Zigzag.{values_in_block_order};
 ghost use Rattle.jpeg_pixels.specs.Planes.{plane_of};
@@ -8,7 +8,8 @@ ghost use Rattle.jpeg_pixels.specs.Scaled.{IsScale};
 ghost use Rattle.jpeg_streams.specs.Rasters.{in_raster};
 ghost use Rattle.jpeg_decoder.specs.Scanning.{arrays_in, sizes_of};
 ghost use Rattle.jpeg_decoder.specs.Steps.{coding_in};
-ghost use Rattle.jpeg_decoder.specs.Strips.{planes_in, row_sizes, zeros_of, with_strips};
+ghost use Rattle.jpeg_decoder.specs.Strips.{no_samples, planes_in, row_sizes, zeros_of};
+ghost use Rattle.jpeg_decoder.specs.Strips.{with_strips};
 
 use crate::scan::Coded;
 use jpeg_pixels::plane::append_row;
@@ -56,15 +57,24 @@ pub fn plane_size(wide: u16, high: u16, scale: usize) -> usize
     usize::from(wide) * scale * (usize::from(high) * scale)
 }
 
-/// A plane without samples for each component of a scan, with room for all of them.
-pub fn empty_planes(alloc: Global, codings: &[Coded<'_>]) -> Result<Vec<Vec<u8>>, AllocError>
-    ensures { IfOk result (λ v. planes_in v.items ≡ map (λ c. []) (map coding_in codings.now)) }
+/// Makes a plane without samples for each component of a scan, with room for all of them if
+/// `has_room`.
+pub fn empty_planes(
+    alloc: Global,
+    codings: &[Coded<'_>],
+    has_room: bool,
+) -> Result<Vec<Vec<u8>>, AllocError>
+    ensures { IfOk result (λ v. planes_in v.items ≡ no_samples (map coding_in codings.now)) }
 {
     let mut planes = Vec::with_capacity(alloc, codings.len())?;
     for coded in codings {
-        let blocks = coded.component.block_size;
-        let size = plane_size(blocks.width, blocks.height, coded.component.dct_scale);
-        planes.push(Vec::with_capacity(alloc, size)?)?;
+        let mut plane = Vec::new(alloc);
+        if has_room {
+            let blocks = coded.component.block_size;
+            let size = plane_size(blocks.width, blocks.height, coded.component.dct_scale);
+            plane = Vec::with_capacity(alloc, size)?;
+        }
+        planes.push(plane)?;
     }
     Ok(planes)
 }
@@ -96,18 +106,22 @@ pub fn append_rows(
     Ok(())
 }
 
-/// Appends the samples of the blocks of a row of MCUs to the planes of a scan's components.
+/// Appends the samples of the blocks of a row of MCUs to the planes of a scan's components, if
+/// there are any.
 pub fn append_strips(
     planes: &mut Vec<Vec<u8>>,
     codings: &[Coded<'_>],
     rows: &[Vec<[i16; 64]>],
 ) -> Result<(), AllocError>
-    requires planes { length planes.now.items ≡ length codings.now }
+    requires planes { 0 < length planes.now.items → length planes.now.items ≡ length codings.now }
     requires sizes { sizes_of rows.now ≡ row_sizes codings.now }
     ensures { OnOk result (planes_in planes.new.items
         ≡ with_strips (map coding_in codings.now) (arrays_in rows.now)
         (planes_in planes.old.items)) }
 {
+    if planes.is_empty() {
+        return Ok(());
+    }
     for slot in 0..codings.len() {
         let coded = &codings[slot];
         let component = coded.component;

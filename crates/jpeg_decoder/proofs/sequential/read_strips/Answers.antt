@@ -16,7 +16,8 @@ use Rattle.jpeg_decoder.specs.Walk.{walk_of_row, walks_of_rows}
 use Rattle.jpeg_streams.specs.ScanSegments.{components_of}
 use Rattle.jpeg_decoder.proofs.HeldBlocks.{Held}
 use Rattle.jpeg_decoder.proofs.StripSteps.{strips_step, strips_refused, strips_none, whole-rows, first-row, later-rows}
-use Rattle.jpeg_decoder.proofs.StripSteps.{zeros-are, lengths, lengths-none, lengths-next, row-count}
+use Rattle.jpeg_decoder.proofs.StripSteps.{zeros-are, kept-count, lengths, lengths-none, lengths-next}
+use Rattle.jpeg_decoder.proofs.StripSteps.{row-count}
 use Rattle.jpeg_decoder.proofs.sequential.read_strips.Goals as goal
 
 pub loop-row-init : goal.loop-row-init
@@ -30,7 +31,8 @@ loop-row-init g c =
       sizes = c.requires.sizes;
       spots = subst (AllByRecursion (AllByRecursion (IsSpotOf (length cs) (sizes_of c.args.rows.now.items))))
           (whole-rows (walk_of_row o) o.rows) c.requires.spots;
-      lengths = lengths-none cs planes c.requires.planes;
+      count = c.requires.planes;
+      lengths = lengths-none cs planes;
       strips = (
         refl,
         λ k. (
@@ -111,8 +113,10 @@ loop-row-preserved g c =
       sizes = sizes;
       spots = later-rows (AllByRecursion (IsSpotOf (length cs) (sizes_of c.args.rows.now.items))) f l.row high
           c.loop-row-test.true l.invariant.spots;
-      lengths = ap lengths made ∙ lengths-next cs (arrays_in read) planes l.row
-          (row-count cs read sizes) l.invariant.lengths;
+      count = kept-count cs (arrays_in read) l.planes.items c.append_strips.new.planes.items
+          (row-count cs read sizes) made l.invariant.count;
+      lengths = λ none. ap lengths made ∙ lengths-next cs (arrays_in read) planes l.row
+          (row-count cs read sizes) (l.invariant.lengths none);
       strips = (
         q.blocks.0 ∙ l.invariant.strips.0,
         λ k.
@@ -137,7 +141,7 @@ returns-clause-sizes g c =
     let cs = c.args.scan.now.components.items in
     let l = c.loop-row in
     let end : l.row ≡ c.args.order.now.rows = omega (arith, c.loop-row-test.false, l.auto.row-end) in
-    l.invariant.lengths ∙ ap (λ (k : ℕ). map (λ (x : Coded). samples_in (k * down_in x) x) cs) end
+    λ none. l.invariant.lengths none ∙ ap (λ (k : ℕ). map (λ (x : Coded). samples_in (k * down_in x) x) cs) end
 
 pub returns-clause-strips : goal.returns-clause-strips
 returns-clause-strips g c =

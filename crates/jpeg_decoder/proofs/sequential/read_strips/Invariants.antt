@@ -1,10 +1,10 @@
-use Rattle.std.proofs.Common.{◌≡◌, ◌*◌, ◌-◌, [], length, map}
+use Rattle.std.proofs.Common.{◌≡◌, ◌*◌, ◌-◌, ◌<◌, [], length, map}
 use Rattle.std.specs.List.{AllByRecursion, range_with_len}
 use Rattle.jpeg_bits.proofs.BandLoop.{Leaves}
 use Rattle.jpeg_bits.specs.BlockView.{pass_in}
 use Rattle.jpeg_decoder.specs.Scanning.{IsSpotOf, counted, down_in, sizes_of, vias_in}
 use Rattle.jpeg_decoder.specs.Steps.{coding_in}
-use Rattle.jpeg_decoder.specs.Strips.{planes_in, row_sizes, samples_in, strips_from}
+use Rattle.jpeg_decoder.specs.Strips.{no_samples, planes_in, row_sizes, samples_in, strips_from}
 use Rattle.jpeg_decoder.specs.Walk.{walk_of_row, walks_of_rows}
 use Rattle.jpeg_decoder.proofs.sequential.read_strips.Given as goal
 
@@ -13,7 +13,9 @@ invariant-loop-row g l = record {
   sizes : sizes_of l.rows.items ≡ row_sizes l.fn.scan.components.items;
   spots : AllByRecursion (AllByRecursion (IsSpotOf (length l.fn.scan.components.items) (sizes_of l.fn.rows.items)))
       (map (walk_of_row l.fn.order) (range_with_len l.row (l.fn.order.rows - l.row)));
-  lengths : map length (planes_in l.planes.items)
+  count : 0 < length l.planes.items → length l.planes.items ≡ length l.fn.scan.components.items;
+  lengths : planes_in l.fn.planes.items ≡ no_samples (map coding_in l.fn.scan.components.items)
+      → map length (planes_in l.planes.items)
       ≡ map (λ c. samples_in (l.row * down_in c) c) l.fn.scan.components.items;
   strips : Leaves (strips_from (pass_in l.fn.scan.pass)
       (vias_in 0 l.fn.scan.components.items) l.fn.order.interval (map coding_in l.fn.scan.components.items)
