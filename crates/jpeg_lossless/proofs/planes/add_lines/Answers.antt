@@ -9,8 +9,8 @@ loop-left-preserved c =
     let a = c.args in
     let r = a.row.now in
     let l = c.loop-left in
-    let p = a.prediction.predictor in
-    let s = a.prediction.start in
+    let p = a.row.now.prediction.predictor in
+    let s = a.row.now.prediction.start in
     let width = a.part.now.width in
     let across = a.part.now.across in
     let is = c.from-across.ensures in
@@ -37,5 +37,5 @@ returns c =
     let a = c.args in
     let r = a.row.now in
     let l = c.loop-left in
-    sym (lines_none a.prediction.predictor a.prediction.start l.is_first a.part.now.width l.left r.count r.size l.place
+    sym (lines_none a.row.now.prediction.predictor a.row.now.prediction.start l.is_first a.part.now.width l.left r.count r.size l.place
     a.part.now.across r.differences.now l.plane.items (omega arith)) ∙ l.invariant.lines

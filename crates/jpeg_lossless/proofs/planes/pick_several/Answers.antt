@@ -1,4 +1,4 @@
-use Rattle.std.proofs.Common.{◌≡◌, ◌<◌, ◌+◌, ◌*◌, ◌-◌, ◌++◌, ◌∙◌, ap, sym, arith, length, take, drop, ℕ}
+use Rattle.std.proofs.Common.{◌≡◌, ◌+◌, ◌*◌, ◌-◌, ◌++◌, ◌∙◌, ap, sym, arith, take, drop, ℕ}
 use Rattle.jpeg_lossless.proofs.RowLoops.{several_step, pick_none, less}
 use Rattle.jpeg_lossless.proofs.planes.pick_several.Goals as goal
 
@@ -22,12 +22,3 @@ returns c = record {
   line = sym (pick_none c.loop-left.left c.args.size c.args.from c.args.across c.loop-left.line.items
       c.loop-left.rest.now (omega arith)) ∙ c.loop-left.invariant.line;
 }
-
-pub offset_bounds-rest-from : goal.offset_bounds-rest-from
-offset_bounds-rest-from c =
-    let left = c.loop-left.left in
-    let size = c.args.size in
-    let some : 0 < c.args.count = omega (arith, c.loop-left.invariant.few, c.loop-left-test.true) in
-    let all : c.args.count * size ≡ size + (c.args.count - 1) * size = less c.args.count size some in
-    let t : length c.args.row.now * 2 < 9223372036854775808 = c.well_formed.0.1 in
-    record { fits = omega (arith, all, t, c.requires.within, c.requires.long) }
