@@ -15,11 +15,6 @@ use Rattle.jpeg_pixels.proofs.picture_lines.upsample_lines.Goals as goal
 abbrev none : ComponentSource
 none = record { rule = H1V1; width = 0; height = 0; row_stride = 0 }
 
-pub loop-index-init : goal.loop-index-init
-loop-index-init c =
-    let nothing : 0 * c.args.width ≡ 0 = omega arith in
-    ap (λ n. take n c.args.lines.now) nothing
-
 pub upsample_line-requires-clause-cover : goal.upsample_line-requires-clause-cover
 upsample_line-requires-clause-cover c =
     let index = c.loop-index.index in
