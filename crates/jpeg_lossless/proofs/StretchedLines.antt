@@ -10,7 +10,7 @@ use Rattle.std.proofs.lemmas.Nat.{div-mul-add}
 use Rattle.std.specs.List.{range_with_len}
 use Rattle.jpeg_segments.specs.Frame.{Component, Frame, greatest}
 use Rattle.jpeg_lossless.specs.Pictures.{AreLong, Layer, bytes_at, layer_of, line_bytes, line_from, lines_across}
-use Rattle.jpeg_lossless.specs.Pictures.{factors_of, most_across, most_down, pixel_bytes, sample_at, sample_bytes}
+use Rattle.jpeg_lossless.specs.Pictures.{factors_of, most_across, most_down, pixel_bytes, sample_at}
 use Rattle.jpeg_lossless.proofs.ImageLoops.{IsPixelOf, at-most, greatest-some, inside, line-begun, line-grown}
 use Rattle.jpeg_lossless.proofs.ImageLoops.{line-more, line-none, through, within}
 
@@ -162,17 +162,14 @@ lines_step i lines rest line h = simp (append_assoc, take_more_set)
 pub lines_long : (h v width y : ℕ) (layers : List Layer) → AreLong width (lines_across h v width layers y)
 unfolding AreLong lines_across
 lines_long h v width y [] = tt
-lines_long h v width y (l ∷ layers) =
-    (omega (arith, length-map-range_with_len (λ x. sample_at h v l x y) 0 width), lines_long h v width y layers)
+lines_long h v width y (l ∷ layers) = search (rules, length-map-range_with_len, lines_long h v width y layers)
 
 pixel-of : (precision h v width y x : ℕ) (layers : List Layer) → x < width
     → bytes_at precision (lines_across h v width layers y) x ≡ pixel_bytes precision h v layers y x
 unfolding bytes_at lines_across
 pixel-of precision h v width y x [] k = refl
 pixel-of precision h v width y x (l ∷ layers) k =
-    ap₂ (λ (n : ℕ) (more : List ℕ). sample_bytes precision n ++ more)
-    (get_or-map-range_with_len (λ x. sample_at h v l x y) 0 width x x 0 k (omega arith))
-    (pixel-of precision h v width y x layers k)
+    search (rules, get_or-map-range_with_len, pixel-of precision h v width y x layers k)
 
 pub from-none : (n : ℕ) → 0 + n ≡ n
 from-none n = omega arith

@@ -1,5 +1,5 @@
 use Rattle.std.proofs.Common.{◌≡◌, ◌+◌, ◌-◌, Bool, subst, ◌∙◌, ap, ap₂, sym, map, length, ℕ, List}
-use Rattle.std.proofs.Common.{Vec, Global, take, drop, ◌++◌, true, false, arith}
+use Rattle.std.proofs.Common.{Vec, Global, take, drop, ◌++◌, true, false, arith, rules}
 use Rattle.std.proofs.lemmas.List.{length-map}
 use Rattle.std.proofs.lemmas.Result.{err_from_is_err_and}
 use Rattle.jpeg_lossless.specs.Differences.{differences, mcu_tables, row_tables}
@@ -9,7 +9,7 @@ use Rattle.jpeg_lossless.specs.PlanesRead.{AreGrown}
 use Rattle.jpeg_lossless.specs.Scans.{mcu_size}
 use Rattle.jpeg_bits.specs.Codes.{Table}
 use Rattle.jpeg_bits.specs.declared.scan.Predictor.{Predictor}
-use Rattle.jpeg_lossless.proofs.Leaves.{Leaves-step, Leaves-refused, Leaves-done}
+use Rattle.jpeg_lossless.proofs.Leaves.{Leaves-step, Leaves-refused}
 use Rattle.jpeg_lossless.proofs.PlaneLoops.{planes_more, planes_refused, planes_none}
 use Rattle.jpeg_lossless.proofs.Sizes.{grown-as, one-row, written-back}
 use Rattle.jpeg_lossless.proofs.scan.LosslessScan.read_rows.Goals as goal
@@ -86,12 +86,4 @@ loop-left-preserved g c =
     }
 
 pub returns-clause-reads : goal.returns-clause-reads
-returns-clause-reads g c =
-    let tables = map (λ t. t.now) c.as_slice-tables.result.now in
-    let v = way_by c.args.coding.now.scan (map part_in c.args.coding.now.parts.now) in
-    let planes = map (λ v. v.items) c.loop-left.self.planes.items in
-    Leaves-done (planes_after_rows v true c.args.count (map (λ v. v.items) c.args.self.now.planes.items))
-    (planes_after_rows v c.loop-left.is_first c.loop-left.left planes) c.args.decoder.now c.loop-left.decoder
-    c.args.source.now c.loop-left.source
-    (λ (u : Unit {0}). planes) tt (λ t. planes_none v c.loop-left.is_first c.loop-left.left planes t
-    (omega arith)) c.loop-left.invariant.reads
+returns-clause-reads g c = search (rules, planes_none)
