@@ -62,17 +62,7 @@ unfolding AllCover
 cover-lower [] planes width low high le all = tt
 cover-lower (s ∷ sources) [] width low high le all = all
 cover-lower (s ∷ sources) (p ∷ planes) width low high le all =
-    (lower all.0, cover-lower sources planes width low high le all.1)
-  where
-    lower : Covers s p width high → Covers s p width low
-    lower c = record {
-      some_width = c.some_width;
-      some_across = c.some_across;
-      some_down = c.some_down;
-      wide_enough = c.wide_enough;
-      high_enough = omega arith;
-      room = c.room;
-    }
+    search (rules, cover-lower sources planes width low high le all.1)
 
 pub lines_of-long : (sources : List Source) (planes : List (List ℕ)) (width row : ℕ) → length planes ≡ length sources
     → AreLong width (lines_of sources planes width row)
@@ -80,14 +70,7 @@ unfolding lines_of
 lines_of-long [] planes width row e = record { each = λ k h. absurd (omega arith) }
 lines_of-long (s ∷ sources) [] width row e = absurd (omega arith)
 lines_of-long (s ∷ sources) (p ∷ planes) width row e =
-    record { each = by_place (lines_of-long sources planes width row (omega arith)) }
-  where
-    by_place : AreLong width (lines_of sources planes width row) → (k : ℕ)
-        → k < length (line_of s p width row ∷ lines_of sources planes width row)
-        → length (get_or (line_of s p width row ∷ lines_of sources planes width row) k []) ≡ width
-    by_place others zero h = length-map-range_with_len (λ x. upsampled s.rule (λ i j. slice_index p (j * s.stride + i))
-        s.width s.height x row) 0 width
-    by_place others (suc k) h = others.each k (omega arith)
+    search (rules, get_or, length-map-range_with_len, slice_index, lines_of-long sources planes width row (omega arith))
 
 -- a part written after the first a places
 pub take-put : (a n k : ℕ) (xs ys : List ℕ) → a ≤ length xs → length ys ≡ n

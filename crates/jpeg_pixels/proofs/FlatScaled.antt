@@ -1,8 +1,7 @@
 -- Blocks of one coefficient, the first, at less than full size.
-use Rattle.std.proofs.Common.{◌≡◌, ℕ, zero, suc, ◌+◌, ◌-◌, ◌*◌, ◌/◌, ◌<◌, ◌≤◌, List, get_or, ℤ, pos, negsuc, ◌+ℤ◌}
+use Rattle.std.proofs.Common.{◌≡◌, ℕ, zero, suc, ◌+◌, ◌*◌, ◌<◌, ◌≤◌, List, get_or, ℤ, pos, negsuc, ◌+ℤ◌}
 use Rattle.std.proofs.Common.{◌*ℤ◌, unsigned_abs, rules}
 use Rattle.std.proofs.Common.{refl, sym, ap, ◌∙◌, arith, FitsSigned, lit<}
-use Rattle.std.proofs.Math.Logic.{⊎_elim}
 use Rattle.std.proofs.lemmas.Bool.{cases_lt}
 use Rattle.std.proofs.lemmas.Int.{ints, int_wrap_fits}
 use Rattle.std.specs.Int.{w32, int_shr, int_wrap}
@@ -75,24 +74,8 @@ half_first_only coefficients quantization x y first hx hy small =
 
 -- 128 units in eighths
 more_eighths : (z : ℤ) → int_shr (z +ℤ pos 1024) 3 ≡ int_shr z 3 +ℤ pos 128
-more_eighths (pos n) =
-    let d : (n + 1024) / 8 ≡ n / 8 + 128 = omega arith in
-    ap pos d
-more_eighths (negsuc n) = ⊎_elim near far (cases_lt n 1024)
-  where
-    near : n < 1024 → int_shr (negsuc n +ℤ pos 1024) 3 ≡ int_shr (negsuc n) 3 +ℤ pos 128
-    near h =
-        let a : negsuc n +ℤ pos 1024 ≡ pos (1023 - n) = omega (arith, ints) in
-        let b : negsuc (n / 8) +ℤ pos 128 ≡ pos (127 - n / 8) = omega (arith, ints) in
-        let d : (1023 - n) / 8 ≡ 127 - n / 8 = omega arith in
-        ap (λ z. int_shr z 3) a ∙ ap pos d ∙ sym b
-
-    far : 1024 ≤ n → int_shr (negsuc n +ℤ pos 1024) 3 ≡ int_shr (negsuc n) 3 +ℤ pos 128
-    far h =
-        let a : negsuc n +ℤ pos 1024 ≡ negsuc (n - 1024) = omega (arith, ints) in
-        let b : negsuc (n / 8) +ℤ pos 128 ≡ negsuc (n / 8 - 128) = omega (arith, ints) in
-        let d : (n - 1024) / 8 ≡ n / 8 - 128 = omega arith in
-        ap (λ z. int_shr z 3) a ∙ ap negsuc d ∙ sym b
+more_eighths (pos n) = search rules
+more_eighths (negsuc n) = search (rules, cases_lt)
 
 pub eighth_first_only : (coefficients : List ℤ) (quantization : List ℕ)
     → unsigned_abs (dequantized coefficients quantization 0 0) ≤ 65536

@@ -32,11 +32,7 @@ in-blocks s size factor most some =
 pub room-of : (columns lines stride most : ℕ) → 0 < lines → columns ≤ stride → lines ≤ most
     → (lines - 1) * stride + columns ≤ most * stride
 room-of columns zero stride most some inside within = absurd (omega arith)
-room-of columns (suc k) stride most some inside within =
-    let less : (k + 1) * stride ≤ most * stride = mul-le-mul_right stride (omega arith) in
-    let e : (k + 1) * stride ≡ k * stride + 1 * stride = add-mul k 1 stride in
-    let z : suc k - 1 ≡ k = omega arith in
-    rw z (omega (arith, less, e, inside))
+room-of columns (suc k) stride most some inside within = search (rules, add-mul, mul-le-mul_right)
 
 -- ---- ratios
 

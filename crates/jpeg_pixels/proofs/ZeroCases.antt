@@ -1,12 +1,12 @@
 -- Rows and columns of which all but the first number is 0.
-use Rattle.std.proofs.Common.{◌≡◌, ℕ, zero, suc, ◌+◌, ◌*◌, ◌<◌, List, ℤ, pos, neg_ℤ, ◌+ℤ◌, ◌*ℤ◌, ◌≤ℤ◌, ◌<ℤ◌}
+use Rattle.std.proofs.Common.{◌≡◌, ℕ, zero, suc, ◌<◌, List, ℤ, pos, neg_ℤ, ◌+ℤ◌, ◌*ℤ◌, ◌≤ℤ◌, ◌<ℤ◌}
 use Rattle.std.proofs.Common.{Bool, true, false, ◌&&◌, ◌==◌, unsigned_abs, rules}
 use Rattle.std.proofs.Common.{refl, sym, ap, ◌∙◌, arith, get_or}
 use Rattle.std.proofs.Math.Logic.{⊎_elim}
 use Rattle.std.proofs.lemmas.Bool.{cases_lt, eqb-true}
 use Rattle.std.proofs.lemmas.Int.{ints, int_wrap_fits}
 use Rattle.std.specs.Int.{w32, int_shr, int_wrap}
-use Rattle.jpeg_pixels.specs.Samples.{is_zero_at, is_flat_column, dequantized, transformed, column_value}
+use Rattle.jpeg_pixels.specs.Samples.{is_flat_column, dequantized, transformed, column_value}
 use Rattle.jpeg_bits.specs.Codes.{all_below}
 use Rattle.jpeg_pixels.specs.Samples.{sample, clamped}
 use Rattle.jpeg_pixels.proofs.Columns.{flat_value}
@@ -38,9 +38,7 @@ no_product : (coefficients : List ℤ) (quantization : List ℕ) (column k : ℕ
     ≡ true → 0 < k → k < 8 → dequantized coefficients quantization k column ≡ pos 0
 unfolding dequantized is_flat_column
 no_product coefficients quantization column zero flat some h = absurd (omega arith)
-no_product coefficients quantization column (suc k) flat some h =
-    ap (λ z. z *ℤ pos (get_or quantization (suc k * 8 + column) 0))
-    (none_of _ (below_true (is_zero_at coefficients column) 7 k flat (omega arith))) ∙ omega (arith, ints)
+no_product coefficients quantization column (suc k) flat some h = search (rules, below_true, get_or, none_of)
 
 -- four times a number, by way of 4096 times
 four_of : (p : ℤ) → neg_ℤ (pos 524288) ≤ℤ p → p <ℤ pos 524288 → int_wrap w32 (pos 4 *ℤ p)
