@@ -19,11 +19,11 @@ pub upsample_line-requires-clause-cover : goal.upsample_line-requires-clause-cov
 upsample_line-requires-clause-cover c =
     let index = c.loop-index.index in
     let components = c.args.components.now in
-    let planes = c.args.planes.now in
+    let planes = c.args.line.now.planes.now in
     let inside : index < length planes = omega arith in
     let counts : length (map (λ v. v.items) planes) ≡ length (map source_in components) =
     length-map planes (λ v. v.items) ∙ c.requires.planes ∙ sym (length-map components source_in) in
-    cover-of (map source_in components) (map (λ v. v.items) planes) c.args.width (c.args.row + 1) index (source_in none)
+    cover-of (map source_in components) (map (λ v. v.items) planes) c.args.line.now.width (c.args.line.now.row + 1) index (source_in none)
     (source_in (get_or components index none)) c.deref.result.now
     counts c.requires.cover (omega (arith, length-map components source_in)) (lists.get_or-map source_in components
     index none)
@@ -34,9 +34,9 @@ pub loop-index-preserved : goal.loop-index-preserved
 loop-index-preserved c =
     let index = c.loop-index.index in
     let components = c.args.components.now in
-    let planes = c.args.planes.now in
-    let width = c.args.width in
-    let row = c.args.row in
+    let planes = c.args.line.now.planes.now in
+    let width = c.args.line.now.width in
+    let row = c.args.line.now.row in
     let inside : index < length planes = omega arith in
     let sources = map source_in components in
     let counts : length (map (λ v. v.items) planes) ≡ length sources = length-map planes (λ v. v.items)

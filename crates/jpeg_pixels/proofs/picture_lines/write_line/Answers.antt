@@ -21,18 +21,18 @@ pub returns-in-YCbCr : goal.returns-in-YCbCr
 unfolding picture_line
 returns-in-YCbCr c =
     let sources = map source_in c.args.components.now in
-    let planes = map (λ v. v.items) c.args.planes.now in
-    let width = c.args.width in
-    let counts : length planes ≡ length sources = length-map c.args.planes.now (λ v. v.items) ∙ c.requires.planes
+    let planes = map (λ v. v.items) c.args.line.now.planes.now in
+    let width = c.args.line.now.width in
+    let counts : length planes ≡ length sources = length-map c.args.line.now.planes.now (λ v. v.items) ∙ c.requires.planes
     ∙ sym (length-map c.args.components.now source_in) in
-    let all = lines_of sources planes width c.args.row in
+    let all = lines_of sources planes width c.args.line.now.row in
     let out = c.write_ycbcr.new.output in
     let fits : length c.args.components.now ≡ 3 = subst (λ (k : ColorConvert). IsFor (length c.args.components.now) k)
     c.in-YCbCr.is c.requires.fits in
-    let count : length all ≡ 3 = lines_of-length sources planes width c.args.row counts
+    let count : length all ≡ 3 = lines_of-length sources planes width c.args.line.now.row counts
     ∙ length-map c.args.components.now source_in ∙ fits in
     let size : length out ≡ 3 * width = c.write_ycbcr.auto.output ∙ c.requires.room ∙ ap (λ m. m * width) fits in
-    line-ycbcr width all out (lines_of-long sources planes width c.args.row counts) count size
+    line-ycbcr width all out (lines_of-long sources planes width c.args.line.now.row counts) count size
     (subst (λ (ls : List ℕ). (x : ℕ) → x < width
     → get_or out (3 * x) 0 ≡ (red_of (get_or ls x 0) (get_or ls (2 * width + x) 0))) c.upsample_lines.ensures
     c.write_ycbcr.ensures.red)
@@ -52,18 +52,18 @@ pub returns-in-Ycck : goal.returns-in-Ycck
 unfolding picture_line
 returns-in-Ycck c =
     let sources = map source_in c.args.components.now in
-    let planes = map (λ v. v.items) c.args.planes.now in
-    let width = c.args.width in
-    let counts : length planes ≡ length sources = length-map c.args.planes.now (λ v. v.items) ∙ c.requires.planes
+    let planes = map (λ v. v.items) c.args.line.now.planes.now in
+    let width = c.args.line.now.width in
+    let counts : length planes ≡ length sources = length-map c.args.line.now.planes.now (λ v. v.items) ∙ c.requires.planes
     ∙ sym (length-map c.args.components.now source_in) in
-    let all = lines_of sources planes width c.args.row in
+    let all = lines_of sources planes width c.args.line.now.row in
     let out = c.write_ycck.new.output in
     let fits : length c.args.components.now ≡ 4 = subst (λ (k : ColorConvert). IsFor (length c.args.components.now) k)
     c.in-Ycck.is c.requires.fits in
-    let count : length all ≡ 4 = lines_of-length sources planes width c.args.row counts
+    let count : length all ≡ 4 = lines_of-length sources planes width c.args.line.now.row counts
     ∙ length-map c.args.components.now source_in ∙ fits in
     let size : length out ≡ 4 * width = c.write_ycck.auto.output ∙ c.requires.room ∙ ap (λ m. m * width) fits in
-    line-ycck width all out (lines_of-long sources planes width c.args.row counts) count size
+    line-ycck width all out (lines_of-long sources planes width c.args.line.now.row counts) count size
     (subst (λ (ls : List ℕ). (x : ℕ) → x < width
     → get_or out (4 * x) 0 ≡ (red_of (get_or ls x 0) (get_or ls (2 * width + x) 0))) c.upsample_lines.ensures
     c.write_ycck.ensures.red)
