@@ -1,7 +1,7 @@
 -- Steps of the loops over the lines of a picture in which components have factors of their own.
 use Rattle.std.proofs.Common.{◌≡◌, ℕ, zero, suc, ◌+◌, ◌*◌, ◌/◌, ◌<◌, ◌≤◌, List, [], ◌∷◌, ◌++◌}
 use Rattle.std.proofs.Common.{length, take, drop, map, set, slice_index, slice_index_or, arith, refl, ap, ap₂, sym}
-use Rattle.std.proofs.Common.{◌∙◌, append_assoc, length-drop, length-take}
+use Rattle.std.proofs.Common.{◌∙◌, append_assoc, length-drop, length-take, rules}
 use Rattle.std.proofs.Math.Nat.{add-mul, one-mul}
 use Rattle.std.proofs.lemmas.List.{get_or-drop, get_or-take, take_more, take_more_set}
 use Rattle.std.proofs.lemmas.List.FromFn.{get_or-map-range_with_len, length-map-range_with_len}
@@ -10,7 +10,7 @@ use Rattle.std.proofs.lemmas.Nat.{div-mul-add}
 use Rattle.std.specs.List.{range_with_len}
 use Rattle.jpeg_segments.specs.Frame.{Component, Frame, greatest}
 use Rattle.jpeg_lossless.specs.Pictures.{AreLong, Layer, bytes_at, layer_of, line_bytes, line_from, lines_across}
-use Rattle.jpeg_lossless.specs.Pictures.{factors_of, most_across, most_down, pixel_bytes, sample_at, sample_bytes}
+use Rattle.jpeg_lossless.specs.Pictures.{factors_of, most_across, most_down, pixel_bytes, sample_at}
 use Rattle.jpeg_lossless.proofs.ImageLoops.{IsPixelOf, at-most, greatest-some, inside, line-begun, line-grown}
 use Rattle.jpeg_lossless.proofs.ImageLoops.{line-more, line-none, through, within}
 
@@ -49,8 +49,7 @@ pub record IsColumn (factor most x column rest : ℕ) : Type 0 where
   pub less : rest < most
 
 pub column-of : (factor most x column rest : ℕ) → IsColumn factor most x column rest → x * factor / most ≡ column
-column-of factor most x column rest is =
-    ap (λ (n : ℕ). n / most) (sym is.sum) ∙ div-mul-add column most rest is.less
+column-of factor most x column rest is = search (rules, div-mul-add)
 
 pub stretched_step : (own line new : List ℕ) (factor most x column rest : ℕ) → IsColumn factor most x column rest
     → line ≡ stretched own factor most x → new ≡ line ++ slice_index own column ∷ []
@@ -64,40 +63,18 @@ next-product x factor = add-mul x 1 factor ∙ omega (arith, one-mul factor)
 
 pub same_column : (factor most x column rest next left : ℕ) → IsColumn factor most x column rest → next ≡ column
     → left ≡ rest + factor → left < most → IsColumn factor most (x + 1) next left
-same_column factor most x column rest next left is e f h =
-    record {
-      sum = omega (arith, is.sum, next-product x factor, ap (λ (n : ℕ). n * most) e, f);
-      less = h;
-    }
+same_column factor most x column rest next left is e f h = search (rules, next-product)
 
 pub next_column : (factor most x column rest next left : ℕ) → factor ≤ most → IsColumn factor most x column rest
     → next ≡ column + 1 → left + most ≡ rest + factor → IsColumn factor most (x + 1) next left
-next_column factor most x column rest next left h is e f =
-    record {
-      sum = omega (
-        arith,
-        is.sum,
-        next-product x factor,
-        next-product column most,
-        ap (λ (n : ℕ). n * most) e,
-        f,
-      );
-      less = omega (arith, is.less, f);
-    }
-
-pub column_inside : (factor most x column rest width long : ℕ) → 1 ≤ factor → IsColumn factor most x column rest
-    → x < width → width * factor ≤ long * most → column < long
-column_inside factor most x column rest width long some is h le =
-    rw (sym (column-of factor most x column rest is))
-    (inside x width factor most long h some (omega (arith, is.less)) le)
+next_column factor most x column rest next left h is e f = search (rules, next-product)
 
 -- ---- the lines of all components
 
 -- a line of a plane is that of its component
 row-at : (own row width y : ℕ) (plane : List ℕ) (k : ℕ) → k < own
     → slice_index (take own (drop (row * own) plane)) k ≡ slice_index plane (row * own + k)
-row-at own row width y plane k h =
-    get_or-take own (drop (row * own) plane) k 0 h ∙ get_or-drop (row * own) plane k 0
+row-at own row width y plane k h = simp (get_or-drop, get_or-take)
 
 pub own_line : (frame : Frame) (c : Component) (plane : List ℕ) (y n : ℕ) → IsPixelOf frame c plane
     → n ≤ frame.width
@@ -142,13 +119,7 @@ pub line_reaches : (frame : Frame) (c : Component) (plane slice own : List ℕ) 
     → own ≡ take c.width (drop (y * c.factors.vertical / v * c.width) slice) → IsPixelOf frame c plane
     → y < frame.height → width * c.factors.horizontal ≤ length own * h
 line_reaches frame c plane slice own y h v width e f g s o is k =
-    let start = y * c.factors.vertical / v * c.width in
-    let ends = line_inside frame c plane slice y v f s is k in
-    let long : length own ≡ c.width =
-    ap length o ∙ omega (arith, ends, length-take c.width (drop start slice), length-drop start slice) in
-    let left = ap (λ (n : ℕ). n * c.factors.horizontal) g in
-    let right : length own * h ≡ c.width * most_across frame = ap₂ (λ (a b : ℕ). a * b) long e in
-    omega (arith, is.reaches.across, left, right)
+    search (rules, length-drop, length-take, line_inside)
 
 -- the samples of a line that is put out
 pub own_samples : (frame : Frame) (c : Component) (plane slice own line : List ℕ) (y h v width : ℕ)
@@ -184,26 +155,21 @@ lines_none h v width y = refl
 -- one line more is put in place
 pub lines_step : (i : ℕ) (lines rest : List (List ℕ)) (line : List ℕ) → i < length lines
     → take i lines ++ (line ∷ rest) ≡ take (i + 1) (set lines i line) ++ rest
-lines_step i lines rest line h =
-    sym (append_assoc (take i lines) (line ∷ []) rest)
-    ∙ ap (λ (l : List (List ℕ)). l ++ rest) (sym (take_more_set lines i line h))
+lines_step i lines rest line h = simp (append_assoc, take_more_set)
 
 -- ---- the bytes of a line
 
 pub lines_long : (h v width y : ℕ) (layers : List Layer) → AreLong width (lines_across h v width layers y)
 unfolding AreLong lines_across
 lines_long h v width y [] = tt
-lines_long h v width y (l ∷ layers) =
-    (omega (arith, length-map-range_with_len (λ x. sample_at h v l x y) 0 width), lines_long h v width y layers)
+lines_long h v width y (l ∷ layers) = search (rules, length-map-range_with_len, lines_long h v width y layers)
 
 pixel-of : (precision h v width y x : ℕ) (layers : List Layer) → x < width
     → bytes_at precision (lines_across h v width layers y) x ≡ pixel_bytes precision h v layers y x
 unfolding bytes_at lines_across
 pixel-of precision h v width y x [] k = refl
 pixel-of precision h v width y x (l ∷ layers) k =
-    ap₂ (λ (n : ℕ) (more : List ℕ). sample_bytes precision n ++ more)
-    (get_or-map-range_with_len (λ x. sample_at h v l x y) 0 width x x 0 k (omega arith))
-    (pixel-of precision h v width y x layers k)
+    search (rules, get_or-map-range_with_len, pixel-of precision h v width y x layers k)
 
 pub from-none : (n : ℕ) → 0 + n ≡ n
 from-none n = omega arith

@@ -4,6 +4,7 @@ ghost use Rattle.std.specs.Prelude.{length, map, replicate, take, []};
 ghost use Rattle.jpeg_bits.specs.Reading.{Answers};
 ghost use Rattle.jpeg_bits.specs.Entropy.{Takes};
 ghost use Rattle.std.specs.List.{AllByRecursion};
+ghost use Rattle.std.proofs.Props.{props};
 ghost use Rattle.jpeg_lossless.specs.Rows.{planes_after_rows};
 ghost use Rattle.jpeg_lossless.specs.PlanesRead.{planes_interval, planes_intervals, planes_scan};
 ghost use Rattle.jpeg_lossless.specs.PlanesRead.{AreGrown, IsWithin, cut_planes};
@@ -66,6 +67,20 @@ fn rows_of_interval(coding: Coding) -> Option<u16>
     Some(interval / coding.wide)
 }
 
+/// How the rows of MCUs of a scan are coded.
+#[derive(Drop)]
+struct RowCoding<'a, 't> {
+    scan: Coding,
+    /// The components of the scan.
+    parts: &'a [Part<'t>],
+    /// The table of each sample of an MCU.
+    tables: Vec<&'t HuffmanTable>,
+    ghost listed: { map (λ t. t.now) tables.items ≡ mcu_tables (map part_in parts.now) },
+    ghost within: { AllByRecursion (IsWithin scan.wide) (map part_in parts.now) } by { Prim.hlevel props },
+    ghost point: { scan.point_transform < scan.precision },
+    ghost precision: { scan.precision ≤ 16 },
+}
+
 /// A scan that is being read: the samples so far, and buffers for a row of MCUs.
 #[derive(Drop)]
 struct LosslessScan {
@@ -94,31 +109,26 @@ impl LosslessScan {
         &mut self,
         decoder: &mut HuffmanDecoder,
         source: &mut Source<R>,
-        coding: Coding,
-        parts: &[Part<'_>],
-        tables: &[&HuffmanTable],
+        coding: &RowCoding<'_, '_>,
         count: u16,
     ) -> Result<()>
-        requires planes { length self.old.planes.items ≡ length parts.now }
-        requires tables { map (λ t. t.now) tables.now ≡ mcu_tables (map part_in parts.now) }
-        requires within { AllByRecursion (IsWithin coding.wide) (map part_in parts.now) }
-        requires point { coding.point_transform < coding.precision }
-        requires precision { coding.precision ≤ 16 }
+        requires planes { length self.old.planes.items ≡ length coding.now.parts.now }
         ensures count { length self.new.planes.items ≡ length self.old.planes.items }
         ensures long { (k : ℕ)
-            → AreGrown k (map part_in parts.now) (map (λ v. v.items) self.old.planes.items)
-            → OnOk result (AreGrown (k + count) (map part_in parts.now)
+            → AreGrown k (map part_in coding.now.parts.now) (map (λ v. v.items) self.old.planes.items)
+            → OnOk result (AreGrown (k + count) (map part_in coding.now.parts.now)
             (map (λ v. v.items) self.new.planes.items)) }
         ensures reads { Takes (λ _. map (λ v. v.items) self.new.planes.items)
-            (planes_after_rows (way_by coding (map part_in parts.now)) true count
+            (planes_after_rows (way_by coding.now.scan (map part_in coding.now.parts.now)) true count
             (map (λ v. v.items) self.old.planes.items))
             decoder.old source.old result decoder.new source.new }
     {
         let prediction = Prediction {
-            predictor: coding.predictor,
-            start: start_of(coding.precision, coding.point_transform),
+            predictor: coding.scan.predictor,
+            start: start_of(coding.scan.precision, coding.scan.point_transform),
         };
-        let wide = usize::from(coding.wide);
+        let tables = coding.tables.as_slice();
+        let wide = usize::from(coding.scan.wide);
         let mut is_first = true;
         let mut left = count;
         while left > 0 {
@@ -127,15 +137,11 @@ impl LosslessScan {
                 differences: &self.row,
                 count: wide,
                 size: tables.len(),
-            };
-            add_row(
                 prediction,
                 is_first,
-                &row,
-                parts,
-                &mut self.line,
-                self.planes.as_mut_slice(),
-            )?;
+            };
+            let planes = self.planes.as_mut_slice();
+            add_row(&row, coding.parts, &mut self.line, planes)?;
             is_first = false;
             left -= 1;
         }
@@ -147,28 +153,22 @@ impl LosslessScan {
     fn read_interval<R: Read + Drop>(
         &mut self,
         source: &mut Source<R>,
-        coding: Coding,
-        parts: &[Part<'_>],
-        tables: &[&HuffmanTable],
+        coding: &RowCoding<'_, '_>,
         count: u16,
     ) -> Result<Option<Marker>>
-        requires planes { length self.old.planes.items ≡ length parts.now }
-        requires tables { map (λ t. t.now) tables.now ≡ mcu_tables (map part_in parts.now) }
-        requires within { AllByRecursion (IsWithin coding.wide) (map part_in parts.now) }
-        requires point { coding.point_transform < coding.precision }
-        requires precision { coding.precision ≤ 16 }
+        requires planes { length self.old.planes.items ≡ length coding.now.parts.now }
         ensures count { length self.new.planes.items ≡ length self.old.planes.items }
         ensures long { (k : ℕ)
-            → AreGrown k (map part_in parts.now) (map (λ v. v.items) self.old.planes.items)
-            → OnOk result (AreGrown (k + count) (map part_in parts.now)
+            → AreGrown k (map part_in coding.now.parts.now) (map (λ v. v.items) self.old.planes.items)
+            → OnOk result (AreGrown (k + count) (map part_in coding.now.parts.now)
             (map (λ v. v.items) self.new.planes.items)) }
         ensures answers { Answers (λ m. (map (λ v. v.items) self.new.planes.items, m))
-            (planes_interval (way_by coding (map part_in parts.now)) count
+            (planes_interval (way_by coding.now.scan (map part_in coding.now.parts.now)) count
             (map (λ v. v.items) self.old.planes.items))
             source.old result source.new }
     {
         let mut decoder = HuffmanDecoder::new(self.alloc);
-        self.read_rows(&mut decoder, source, coding, parts, tables, count)?;
+        self.read_rows(&mut decoder, source, coding, count)?;
         decoder.take_marker(source)
     }
 
@@ -177,38 +177,32 @@ impl LosslessScan {
     fn read_intervals<R: Read + Drop>(
         &mut self,
         source: &mut Source<R>,
-        coding: Coding,
-        parts: &[Part<'_>],
-        tables: &[&HuffmanTable],
+        coding: &RowCoding<'_, '_>,
         rows: u16,
     ) -> Result<Option<Marker>>
         requires rows { 0 < rows }
-        requires planes { length self.old.planes.items ≡ length parts.now }
-        requires tables { map (λ t. t.now) tables.now ≡ mcu_tables (map part_in parts.now) }
-        requires within { AllByRecursion (IsWithin coding.wide) (map part_in parts.now) }
-        requires point { coding.point_transform < coding.precision }
-        requires precision { coding.precision ≤ 16 }
+        requires planes { length self.old.planes.items ≡ length coding.now.parts.now }
         ensures count { length self.new.planes.items ≡ length self.old.planes.items }
         ensures long { (k : ℕ)
-            → AreGrown k (map part_in parts.now) (map (λ v. v.items) self.old.planes.items)
-            → OnOk result (AreGrown (k + coding.high) (map part_in parts.now)
+            → AreGrown k (map part_in coding.now.parts.now) (map (λ v. v.items) self.old.planes.items)
+            → OnOk result (AreGrown (k + coding.now.scan.high) (map part_in coding.now.parts.now)
             (map (λ v. v.items) self.new.planes.items)) }
         ensures answers { Answers (λ m. (map (λ v. v.items) self.new.planes.items, m))
-            (planes_intervals (coding.high + 1) (way_by coding (map part_in parts.now))
-            rows 0 coding.high (map (λ v. v.items) self.old.planes.items))
+            (planes_intervals (coding.now.scan.high + 1) (way_by coding.now.scan (map part_in coding.now.parts.now))
+            rows 0 coding.now.scan.high (map (λ v. v.items) self.old.planes.items))
             source.old result source.new }
     {
         let mut number = 0u16;
-        let mut left = coding.high;
+        let mut left = coding.scan.high;
         while left > rows {
-            let marker = self.read_interval(source, coding, parts, tables, rows)?;
+            let marker = self.read_interval(source, coding, rows)?;
             if !is_restart(marker, number) {
                 return Err(restart_error(self.alloc, marker, (number % 8) as u8));
             }
             number += 1;
             left -= rows;
         }
-        self.read_interval(source, coding, parts, tables, left)
+        self.read_interval(source, coding, left)
     }
 }
 
@@ -292,7 +286,6 @@ fn read_planes<R: Read + Drop>(
             coding.restart_interval, coding.wide
         )));
     };
-    let tables = mcu_tables(alloc, parts)?;
     let planes = empty_planes(alloc, coding.high, parts)?;
     let mut scan = LosslessScan {
         alloc,
@@ -300,7 +293,12 @@ fn read_planes<R: Read + Drop>(
         line: Vec::new(alloc),
         planes,
     };
-    let marker = scan.read_intervals(source, coding, parts, &tables, rows)?;
+    let row_coding = RowCoding {
+        scan: coding,
+        parts,
+        tables: mcu_tables(alloc, parts)?,
+    };
+    let marker = scan.read_intervals(source, &row_coding, rows)?;
     finish_all(scan.planes.as_mut_slice(), parts, coding.point_transform);
     Ok((scan.planes, marker))
 }

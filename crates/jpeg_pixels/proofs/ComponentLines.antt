@@ -1,6 +1,8 @@
 -- The lines of the components of a picture.
+use Rattle.std.proofs.lemmas.Grind.{common_steps}
+use Rattle.std.proofs.Common.{rules}
 use Rattle.std.proofs.Common.{◌≡◌, ℕ, zero, suc, ◌+◌, ◌*◌, ◌<◌, ◌≤◌, List, [], ◌∷◌, ◌++◌, length, get_or, slice_index}
-use Rattle.std.proofs.Common.{take, drop, sym, ap, ◌∙◌, refl, arith, length-take, add-one, subst}
+use Rattle.std.proofs.Common.{take, ap, refl, arith, length-take, add-one, subst}
 use Rattle.std.proofs.lemmas.List.{append-nil}
 use Rattle.std.proofs.lemmas.List.FromFn.{length-map-range_with_len, fill_by_all}
 use Rattle.std.proofs.lemmas.List.Folds.{concat-append}
@@ -51,8 +53,7 @@ pub line-of : (sources : List Source) (planes : List (List ℕ)) (width row k : 
     → length planes ≡ length sources → k < length sources
     → get_or sources k s ≡ t → get_or planes k [] ≡ p → get_or (lines_of sources planes width row) k []
     ≡ line_of t p width row
-line-of sources planes width row k s t p e h source plane =
-    lines_of-at sources planes width row k s e h ∙ (λ i. line_of (source i) (plane i) width row)
+line-of sources planes width row k s t p e h source plane = search (rules, lines_of-at)
 
 -- planes that cover a picture cover its upper part
 pub cover-lower : (sources : List Source) (planes : List (List ℕ)) (width low high : ℕ) → low ≤ high
@@ -61,17 +62,7 @@ unfolding AllCover
 cover-lower [] planes width low high le all = tt
 cover-lower (s ∷ sources) [] width low high le all = all
 cover-lower (s ∷ sources) (p ∷ planes) width low high le all =
-    (lower all.0, cover-lower sources planes width low high le all.1)
-  where
-    lower : Covers s p width high → Covers s p width low
-    lower c = record {
-      some_width = c.some_width;
-      some_across = c.some_across;
-      some_down = c.some_down;
-      wide_enough = c.wide_enough;
-      high_enough = omega arith;
-      room = c.room;
-    }
+    search (rules, cover-lower sources planes width low high le all.1)
 
 pub lines_of-long : (sources : List Source) (planes : List (List ℕ)) (width row : ℕ) → length planes ≡ length sources
     → AreLong width (lines_of sources planes width row)
@@ -79,24 +70,12 @@ unfolding lines_of
 lines_of-long [] planes width row e = record { each = λ k h. absurd (omega arith) }
 lines_of-long (s ∷ sources) [] width row e = absurd (omega arith)
 lines_of-long (s ∷ sources) (p ∷ planes) width row e =
-    record { each = by_place (lines_of-long sources planes width row (omega arith)) }
-  where
-    by_place : AreLong width (lines_of sources planes width row) → (k : ℕ)
-        → k < length (line_of s p width row ∷ lines_of sources planes width row)
-        → length (get_or (line_of s p width row ∷ lines_of sources planes width row) k []) ≡ width
-    by_place others zero h = length-map-range_with_len (λ x. upsampled s.rule (λ i j. slice_index p (j * s.stride + i))
-        s.width s.height x row) 0 width
-    by_place others (suc k) h = others.each k (omega arith)
+    search (rules, get_or, length-map-range_with_len, slice_index, lines_of-long sources planes width row (omega arith))
 
 -- a part written after the first a places
 pub take-put : (a n k : ℕ) (xs ys : List ℕ) → a ≤ length xs → length ys ≡ n
     → take (a + n) (put_mid a k xs ys) ≡ take a xs ++ ys
-take-put a n k xs ys le e =
-    let front : length (take a xs) ≡ a = omega (arith, length-take {A = ℕ}) in
-    ap (λ m. take (m + n) (put_mid a k xs ys)) (sym front)
-    ∙ take-append-add (take a xs) (ys ++ drop k (drop a xs)) n
-    ∙ ap (λ (l : List ℕ). take a xs ++ l) (ap (λ m. take m (ys ++ drop k (drop a xs))) (sym e)
-    ∙ take-append_seam ys (drop k (drop a xs)))
+take-put a n k xs ys le e = grind (arith, common_steps, length-take, take-append-add, take-append_seam)
 
 -- one more line after the first lines
 pub lines-more : (all : List (List ℕ)) (index width k : ℕ) (now new : List ℕ) → index < length all
@@ -105,15 +84,7 @@ pub lines-more : (all : List (List ℕ)) (index width k : ℕ) (now new : List �
     → take (index * width) now ≡ concat (take index all)
     → take ((index + 1) * width) (put_mid (index * width) k now new) ≡ concat (take (index + 1) all)
 lines-more all index width k now new h room long is before =
-    let at : (index + 1) * width ≡ index * width + width = omega arith in
-    let next : take (index + 1) all ≡ take index all ++ (get_or all index [] ∷ []) =
-    rw add-one (take-suc all index [] h) in
-    ap (λ n. take n (put_mid (index * width) k now new)) at
-    ∙ take-put (index * width) width k now new room long
-    ∙ (λ i. before i ++ is i)
-    ∙ ap (λ (l : List ℕ). concat (take index all) ++ l) (sym (append-nil (get_or all index [])))
-    ∙ sym (concat-append (take index all) (get_or all index [] ∷ []))
-    ∙ ap concat (sym next)
+    grind (arith, common_steps, add-one, append-nil, concat-append, get_or, take-put, take-suc)
 
 -- a line by its samples
 pub line-by-samples : (s : Source) (plane : List ℕ) (width row : ℕ) (new : List ℕ) → length new ≡ width

@@ -1,12 +1,12 @@
 -- Blocks whose coefficients outside the top left 4x4 corner are 0.
-use Rattle.std.proofs.Common.{◌≡◌, ℕ, ◌+◌, ◌*◌, ◌<◌, ◌≤◌, suc, List, length, get_or, ℤ, pos, ◌*ℤ◌, refl, sym}
-use Rattle.std.proofs.Common.{ap, ◌∙◌, map, FitsSigned, of_z, arith, Bool, true, false, ◌==◌, unsigned_abs, eqb}
-use Rattle.std.proofs.Common.{cond, replicate, ◌%◌, ◌/◌, ◌^◌, ◌-◌, ◌++◌, ◌∷◌, [], nat_eq, lit≤, lit<}
+use Rattle.std.proofs.Common.{rules}
+use Rattle.std.proofs.Common.{◌≡◌, ℕ, ◌+◌, ◌*◌, ◌<◌, ◌≤◌, suc, List, length, get_or, ℤ, pos, ◌*ℤ◌, sym}
+use Rattle.std.proofs.Common.{ap, ◌∙◌, map, FitsSigned, of_z, arith, true, ◌==◌, unsigned_abs, eqb}
+use Rattle.std.proofs.Common.{cond, replicate, ◌%◌, ◌-◌, ◌++◌, ◌∷◌, [], nat_eq, lit≤, lit<}
 use Rattle.std.proofs.lemmas.Int.{ints, int_wrap_fits}
 use Rattle.std.proofs.lemmas.Simd.{bitmask_splat, bit_mask_l, map-map, get_or-chunk, length-chunk}
 use Rattle.std.proofs.lemmas.Bool.{eqb-true}
 use Rattle.std.proofs.lemmas.List.FromFn.{fill_by_all, length-map-range_with_len, get_or-map-range_with_len}
-use Rattle.std.specs.List.{range_with_len}
 use Rattle.std.specs.Int.{w16, w32, int_wrap}
 use Rattle.std.specs.Int.Bits.{bit_or}
 use lib.Lanes.{zip2, mask_l, top, pick_l, chunk}
@@ -37,8 +37,7 @@ nothing_times z n e = ap (λ y. y *ℤ pos n) e ∙ omega (arith, ints)
 pub no_product_below : (coefficients : List ℤ) (quantization : List ℕ) → IsInCorner coefficients → (row column : ℕ)
     → 4 ≤ row → row < 8 → column < 8 → dequantized coefficients quantization row column ≡ pos 0
 unfolding dequantized
-no_product_below coefficients quantization corner row column below h h' =
-    nothing_times _ (get_or quantization (row * 8 + column) 0) (corner.below row column below h h')
+no_product_below coefficients quantization corner row column below h h' = search (rules, get_or, nothing_times)
 
 -- and to its right each column is flat, and 0
 pub no_value_right : (coefficients : List ℤ) (quantization : List ℕ) → IsInCorner coefficients → (row column : ℕ)
@@ -67,47 +66,20 @@ lower_bits coefficients j = bit_or (bit_or (bit_or (row_bits coefficients 32 j) 
 
 pub first_bits : (coefficients : List ℤ) → length coefficients ≡ 64
     → IsBits (map (of_z w16) (chunk 0 8 coefficients)) (row_bits coefficients 0)
-first_bits coefficients long =
-    let row = λ (j : ℕ). get_or coefficients (0 + j) (pos 0) in
-    let room : 0 + 8 ≤ length coefficients = omega arith in
-    record {
-      is = ap (map (of_z w16)) (fill_by_all row (chunk 0 8 coefficients) 8 (pos 0)
-          (length-chunk 0 8 coefficients room) (λ k h. get_or-chunk 0 8 coefficients k (pos 0) h))
-          ∙ map-map (of_z w16) row (range_with_len 0 8);
-    }
+first_bits coefficients long = search (rules, fill_by_all, get_or, get_or-chunk, length-chunk, map-map, of_z)
 
 -- each of eight lanes is 0 where the mask of the zero lanes is full
 pub all_zero : (v : List ℕ) (f : ℕ → ℕ) → IsBits v f
     → nat_eq (mask_l (map (top 15) (zip2 (λ a b. cond (eqb a b) 65535 0) v (replicate 8 0))) % 18446744073709551616) 255
     ≡ true → (j : ℕ) → j < 8 → eqb (f j) 0 ≡ true
 all_zero v f bits full j h =
-    let places = range_with_len 0 8 in
-    let long : length v ≡ 8 = ap (λ (l : List ℕ). length l) bits.is ∙ length-map-range_with_len f 0 8 in
-    let zeros = λ (l : List ℕ). map (λ x. eqb x 0) l in
-    let mask : mask_l (zeros v) ≡ 255 = sym (bitmask_splat w16 eqb v 8 0 long (lit≤ tt)) ∙ eqb-true _ 255 full in
-    let bit : (i : ℕ) → 255 / 2 ^ i % 2 ≡ cond (get_or (zeros v) i false) 1 0 =
-    λ i. ap (λ (n : ℕ). n / 2 ^ i % 2) (sym mask) ∙ bit_mask_l (zeros v) i in
-    let here : get_or (zeros v) j false ≡ eqb (f j) 0 =
-    ap (λ (l : List ℕ). get_or (zeros l) j false) bits.is
-    ∙ ap (λ (l : List Bool). get_or l j false) (map-map (λ x. eqb x 0) f places)
-    ∙ get_or-map-range_with_len (λ i. eqb (f i) 0) 0 8 j j false h (omega arith) in
-    sym here ∙ set_bit (get_or (zeros v) j false) (sym (bit j)
-    ∙ eight_cases (λ (i : ℕ). 255 / 2 ^ i % 2 ≡ 1) refl refl refl refl refl refl refl refl j h)
-  where
-    set_bit : (b : Bool) → ◌≡◌ {A = ℕ} (cond b 1 0) 1 → b ≡ true
-    set_bit true e = refl
-    set_bit false e = absurd (omega (arith, e))
+    search (rules, bit_mask_l, bitmask_splat, eight_cases, eqb-true, get_or, get_or-map-range_with_len, length-map-range_with_len, map-map)
 
 -- and that mask is full where each of the lanes is 0
 pub zero_all : (v : List ℕ) (f : ℕ → ℕ) → IsBits v f → ((j : ℕ) → j < 8 → eqb (f j) 0 ≡ true)
     → nat_eq (mask_l (map (top 15) (zip2 (λ a b. cond (eqb a b) 65535 0) v (replicate 8 0))) % 18446744073709551616) 255
     ≡ true
-zero_all v f bits zero =
-    let long : length v ≡ 8 = ap (λ (l : List ℕ). length l) bits.is ∙ length-map-range_with_len f 0 8 in
-    ap (λ (n : ℕ). nat_eq n 255) (bitmask_splat w16 eqb v 8 0 long (lit≤ tt)
-    ∙ ap (λ (l : List ℕ). mask_l (map (λ x. eqb x 0) l)) bits.is
-    ∙ (λ i. mask_l (zero 0 (lit< tt) i ∷ zero 1 (lit< tt) i ∷ zero 2 (lit< tt) i ∷ zero 3 (lit< tt) i
-    ∷ zero 4 (lit< tt) i ∷ zero 5 (lit< tt) i ∷ zero 6 (lit< tt) i ∷ zero 7 (lit< tt) i ∷ [])))
+zero_all v f bits zero = search (rules, bitmask_splat, length-map-range_with_len, nat_eq)
 
 -- the last four lanes, twice
 pub last_lanes : {v : List ℕ} {f : ℕ → ℕ} → IsBits v f

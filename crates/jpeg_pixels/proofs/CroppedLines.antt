@@ -1,6 +1,6 @@
 -- Lines are moved together.
 use Rattle.std.proofs.Common.{◌≡◌, ℕ, zero, suc, ◌+◌, ◌-◌, ◌*◌, ◌<◌, ◌≤◌, ◌/◌, ◌%◌, List, length, get_or, slice_index}
-use Rattle.std.proofs.Common.{sym, ap, ◌∙◌, arith, take, length-take}
+use Rattle.std.proofs.Common.{sym, ap, ◌∙◌, arith, take, length-take, rules}
 use Rattle.std.proofs.lemmas.List.FromFn.{fill_by_all}
 use Rattle.std.proofs.lemmas.List.{get_or-take}
 use Rattle.std.proofs.lemmas.Bool.{cases_lt}
@@ -61,6 +61,4 @@ all_lines stride width height old new narrow room each =
 -- lines that stand together already
 pub same_lines : (stride width height : ℕ) (old : List ℕ) → width ≡ stride → height * stride ≤ length old
     → take (width * height) old ≡ cropped stride width height old
-same_lines stride width height old e room =
-    let narrow : width ≤ stride = omega arith in
-    all_lines stride width height old old narrow room (λ y x hy hx. ap (λ n. get_or old (y * n + x) 0) e)
+same_lines stride width height old e room = search (rules, all_lines, get_or)

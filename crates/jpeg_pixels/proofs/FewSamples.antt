@@ -1,4 +1,5 @@
 -- A few samples are written one by one.
+use Rattle.std.proofs.Common.{rules}
 use Rattle.std.proofs.Common.{◌≡◌, ◌≢◌, ℕ, zero, suc, ◌+◌, ◌*◌, ◌<◌, ◌≤◌, ℤ, pos, neg_ℤ, ◌+ℤ◌, ◌-ℤ◌, List, length}
 use Rattle.std.proofs.Common.{set, get_or, slice_index, ap, ◌∙◌, arith, get_or-set_other, length-set}
 use Rattle.std.proofs.lemmas.Grind.{get_or-set_at}
@@ -10,19 +11,7 @@ use Rattle.jpeg_pixels.specs.Blocks.{WritesBlock}
 
 pub one_sample : (stride : ℕ) (f : ℕ → ℕ → ℕ) (old : List ℕ) (a : ℕ) → 1 ≤ stride → 1 ≤ length old → a ≡ f 0 0
     → WritesBlock 1 1 stride f old (set old 0 a)
-one_sample stride f old a wide room is = record { inside = inside; right = right; below = below }
-  where
-    inside : (x y : ℕ) → x < 1 → y < 1 → slice_index (set old 0 a) (y * stride + x) ≡ f x y
-    inside zero zero hx hy = get_or-set_at old 0 (0 * stride + 0) a 0 (omega arith) room ∙ is
-    inside zero (suc y) hx hy = absurd (omega arith)
-    inside (suc x) y hx hy = absurd (omega arith)
-
-    right : (x y : ℕ) → 1 ≤ x → x < stride → y < 1 → slice_index (set old 0 a) (y * stride + x)
-        ≡ slice_index old (y * stride + x)
-    right x y hx hs hy = get_or-set_other old 0 (y * stride + x) a 0 (omega arith)
-
-    below : (i : ℕ) → 1 * stride ≤ i → slice_index (set old 0 a) i ≡ slice_index old i
-    below i hi = get_or-set_other old 0 i a 0 (omega arith)
+one_sample stride f old a wide room is = search (rules, get_or-set_at, get_or-set_other, slice_index)
 
 -- two lines of two samples
 abbrev pub two_lines : ℕ → List ℕ → ℕ → ℕ → ℕ → ℕ → List ℕ
@@ -30,11 +19,7 @@ two_lines stride old a b d e = set (set (set (set old 0 a) 1 b) stride d) (strid
 
 two_kept : (stride : ℕ) (old : List ℕ) (a b d e i : ℕ) → i ≢ 0 → i ≢ 1 → i ≢ stride → i ≢ stride + 1
     → get_or (two_lines stride old a b d e) i 0 ≡ get_or old i 0
-two_kept stride old a b d e i h0 h1 h2 h3 =
-    get_or-set_other (set (set (set old 0 a) 1 b) stride d) (stride + 1) i e 0 h3
-    ∙ get_or-set_other (set (set old 0 a) 1 b) stride i d 0 h2
-    ∙ get_or-set_other (set old 0 a) 1 i b 0 h1
-    ∙ get_or-set_other old 0 i a 0 h0
+two_kept stride old a b d e i h0 h1 h2 h3 = simp (get_or-set_other)
 
 pub four_samples : (stride : ℕ) (f : ℕ → ℕ → ℕ) (old : List ℕ) (a b d e : ℕ) → 2 ≤ stride → stride + 2 ≤ length old
     → a ≡ f 0 0 → b ≡ f 1 0 → d ≡ f 0 1 → e ≡ f 1 1 → WritesBlock 2 2 stride f old (two_lines stride old a b d e)
@@ -108,5 +93,4 @@ sum_down s m a d b e0 e1 e2 e3 = wrapped_eighths _ ∙ (λ i. eighths (e0 i +ℤ
 
 pub sum_across : (s : ℕ → ℕ → ℤ) (m a d b : ℤ) → m ≡ s 0 0 → a ≡ s 0 1 → d ≡ s 1 0 → b ≡ s 1 1
     → eighths (int_wrap w32 (m -ℤ a -ℤ (d -ℤ b))) ≡ sample_by s 1 1
-sum_across s m a d b e0 e1 e2 e3 = wrapped_eighths _
-    ∙ (λ i. eighths (e0 i +ℤ neg_ℤ (e1 i) +ℤ neg_ℤ (e2 i +ℤ neg_ℤ (e3 i))))
+sum_across s m a d b e0 e1 e2 e3 = search (rules, neg_ℤ, wrapped_eighths)

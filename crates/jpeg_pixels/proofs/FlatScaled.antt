@@ -1,8 +1,7 @@
 -- Blocks of one coefficient, the first, at less than full size.
-use Rattle.std.proofs.Common.{◌≡◌, ℕ, zero, suc, ◌+◌, ◌-◌, ◌*◌, ◌/◌, ◌<◌, ◌≤◌, List, get_or, ℤ, pos, negsuc, ◌+ℤ◌}
-use Rattle.std.proofs.Common.{◌*ℤ◌, unsigned_abs}
+use Rattle.std.proofs.Common.{◌≡◌, ℕ, zero, suc, ◌+◌, ◌*◌, ◌<◌, ◌≤◌, List, get_or, ℤ, pos, negsuc, ◌+ℤ◌}
+use Rattle.std.proofs.Common.{◌*ℤ◌, unsigned_abs, rules}
 use Rattle.std.proofs.Common.{refl, sym, ap, ◌∙◌, arith, FitsSigned, lit<}
-use Rattle.std.proofs.Math.Logic.{⊎_elim}
 use Rattle.std.proofs.lemmas.Bool.{cases_lt}
 use Rattle.std.proofs.lemmas.Int.{ints, int_wrap_fits}
 use Rattle.std.specs.Int.{w32, int_shr, int_wrap}
@@ -17,9 +16,7 @@ use Rattle.jpeg_pixels.proofs.FlatBlocks.{scaled}
 no_product : (coefficients : List ℤ) (quantization : List ℕ) (row column : ℕ) → HasFirstOnly coefficients
     → 0 < row * 8 + column → row * 8 + column < 64 → dequantized coefficients quantization row column ≡ pos 0
 unfolding dequantized
-no_product coefficients quantization row column first some h = ap
-    (λ z. z *ℤ pos (get_or quantization (row * 8 + column) 0)) (first.others (row * 8 + column) some h)
-    ∙ omega (arith, ints)
+no_product coefficients quantization row column first some h = search (rules, get_or)
 
 -- a column of one number
 column_one : (v : ℤ) (row : ℕ) → row < 4 → column_by (four v (pos 0) (pos 0) (pos 0)) row ≡ int_wrap w32 (pos 4 *ℤ v)
@@ -77,33 +74,14 @@ half_first_only coefficients quantization x y first hx hy small =
 
 -- 128 units in eighths
 more_eighths : (z : ℤ) → int_shr (z +ℤ pos 1024) 3 ≡ int_shr z 3 +ℤ pos 128
-more_eighths (pos n) =
-    let d : (n + 1024) / 8 ≡ n / 8 + 128 = omega arith in
-    ap pos d
-more_eighths (negsuc n) = ⊎_elim near far (cases_lt n 1024)
-  where
-    near : n < 1024 → int_shr (negsuc n +ℤ pos 1024) 3 ≡ int_shr (negsuc n) 3 +ℤ pos 128
-    near h =
-        let a : negsuc n +ℤ pos 1024 ≡ pos (1023 - n) = omega (arith, ints) in
-        let b : negsuc (n / 8) +ℤ pos 128 ≡ pos (127 - n / 8) = omega (arith, ints) in
-        let d : (1023 - n) / 8 ≡ 127 - n / 8 = omega arith in
-        ap (λ z. int_shr z 3) a ∙ ap pos d ∙ sym b
-
-    far : 1024 ≤ n → int_shr (negsuc n +ℤ pos 1024) 3 ≡ int_shr (negsuc n) 3 +ℤ pos 128
-    far h =
-        let a : negsuc n +ℤ pos 1024 ≡ negsuc (n - 1024) = omega (arith, ints) in
-        let b : negsuc (n / 8) +ℤ pos 128 ≡ negsuc (n / 8 - 128) = omega (arith, ints) in
-        let d : (n - 1024) / 8 ≡ n / 8 - 128 = omega arith in
-        ap (λ z. int_shr z 3) a ∙ ap negsuc d ∙ sym b
+more_eighths (pos n) = search rules
+more_eighths (negsuc n) = search (rules, cases_lt)
 
 pub eighth_first_only : (coefficients : List ℤ) (quantization : List ℕ)
     → unsigned_abs (dequantized coefficients quantization 0 0) ≤ 65536
     → sample_of_1 coefficients quantization ≡ clamped (int_shr (dequantized coefficients quantization 0 0) 3 +ℤ pos 128)
 unfolding sample_of_1
-eighth_first_only coefficients quantization small =
-    let p = dequantized coefficients quantization 0 0 in
-    let fits : FitsSigned w32 (p +ℤ pos 1024) = omega (arith, ints) in
-    ap (λ z. clamped (int_shr z 3)) (int_wrap_fits w32 (p +ℤ pos 1024) fits) ∙ ap clamped (more_eighths p)
+eighth_first_only coefficients quantization small = search (rules, int_wrap_fits, more_eighths)
 
 -- four products of which three are 0
 abbrev alone : ℤ → ℤ → ℤ → ℤ → ℕ → ℕ → ℤ
@@ -124,12 +102,4 @@ pub quarter_first_only : (coefficients : List ℤ) (quantization : List ℕ) (x 
     ≡ clamped (int_shr (dequantized coefficients quantization 0 0 +ℤ pos 4) 3 +ℤ pos 128)
 unfolding sample_of_2
 quarter_first_only coefficients quantization x y first hx hy small =
-    let p = dequantized coefficients quantization 0 0 in
-    let b = no_product coefficients quantization 0 1 first (lit< tt) (lit< tt) in
-    let d = no_product coefficients quantization 1 0 first (lit< tt) (lit< tt) in
-    let e = no_product coefficients quantization 1 1 first (lit< tt) (lit< tt) in
-    let fits : FitsSigned w32 (p +ℤ pos 4 +ℤ pos 1024) = omega (arith, ints) in
-    (λ i. clamped (int_shr (int_wrap w32 (alone p (b i) (d i) (e i) x y)) 3))
-    ∙ ap (λ z. clamped (int_shr (int_wrap w32 z) 3)) (quarter_sum p x y hx hy)
-    ∙ ap (λ z. clamped (int_shr z 3)) (int_wrap_fits w32 (p +ℤ pos 4 +ℤ pos 1024) fits)
-    ∙ ap clamped (more_eighths (p +ℤ pos 4))
+    search (rules, int_wrap_fits, more_eighths, no_product, quarter_sum)

@@ -1,6 +1,6 @@
 -- The transform of four numbers.
 use Rattle.std.proofs.Common.{◌≡◌, ℕ, zero, suc, ◌<◌, List, [], ◌∷◌, ℤ, pos, neg_ℤ, ◌+ℤ◌, ◌-ℤ◌, ◌*ℤ◌, slice_index_or}
-use Rattle.std.proofs.Common.{ap, ◌∙◌, arith}
+use Rattle.std.proofs.Common.{ap, ◌∙◌, arith, rules}
 use Rattle.std.proofs.lemmas.Int.{int_wrap-add_left}
 use Rattle.std.specs.Int.{w32, int_wrap, int_shr}
 use Rattle.jpeg_pixels.specs.Scaled.{joined, even_part, odd_part, column_by}
@@ -32,8 +32,7 @@ difference_left x y a b ex ey = (λ i. int_wrap w32 (ex i -ℤ ey i)) ∙ int_wr
 -- what is rounded of a sum that was wrapped
 rounded_is : (t o z : ℤ) → o ≡ int_wrap w32 z → t ≡ int_shr (int_wrap w32 (o +ℤ pos 512)) 10 → t
     ≡ int_shr (int_wrap w32 (z +ℤ pos 512)) 10
-rounded_is t o z eo et = et ∙ ap (λ y. int_shr (int_wrap w32 (y +ℤ pos 512)) 10) eo
-    ∙ ap (λ y. int_shr y 10) (int_wrap-add_left w32 z (pos 512))
+rounded_is t o z eo et = search (rules, int_wrap-add_left)
 
 -- what the four numbers of a column become
 pub column_is : (s0 s1 s2 s3 outer_even inner_even outer inner t u : ℤ) (xs : List ℤ)

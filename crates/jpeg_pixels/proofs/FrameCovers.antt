@@ -1,6 +1,6 @@
 -- The planes of a frame's components cover its picture.
 use Rattle.std.proofs.Common.{◌≡◌, ◌≤◌, ◌<◌, ℕ, ◌+◌, ◌-◌, ◌*◌, List, [], ◌∷◌, length, map, Option, Some, None, Result}
-use Rattle.std.proofs.Common.{Ok, Err, All, refl, ap, subst, arith}
+use Rattle.std.proofs.Common.{Ok, Err, All, refl, ap, subst, arith, rules}
 use Rattle.std.proofs.Math.Nat.{le-mul_of_pos_right}
 use Rattle.std.proofs.lemmas.List.Elements.{All-cons, All-head, All-nil, All-tail}
 use Rattle.jpeg_bits.specs.Reading.{Fault, ◌>>=◌}
@@ -151,8 +151,4 @@ pub whole-planes-have-room : (number precision width height : ℕ) (factors : Li
     → HaveRoom (frame_of number precision width height factors).components planes
 unfolding frame_of
 whole-planes-have-room number precision width height factors planes range some_width some_height whole =
-    let h = greatest (λ f. f.horizontal) factors in
-    let v = greatest (λ f. f.vertical) factors in
-    have-room width height h v factors planes some_width some_height range
-    (greatest-all (λ f. f.horizontal) h factors (omega arith)) (greatest-all (λ f. f.vertical) v factors (omega arith))
-    whole
+    search (rules, greatest-all, have-room)

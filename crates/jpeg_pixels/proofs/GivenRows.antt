@@ -1,6 +1,6 @@
 -- Rows that an iterator gives.
 use Rattle.std.proofs.Common.{◌≡◌, ℕ, ◌<◌, ℤ, List, [], ◌∷◌, ◌++◌, get_or, Option, Some, None, refl, sym, subst, ap}
-use Rattle.std.proofs.Common.{◌∙◌}
+use Rattle.std.proofs.Common.{rules}
 use Rattle.std.specs.declared.vec.Vec.{Vec}
 use Rattle.std.specs.declared.alloc.Global.{Global}
 use Rattle.std.specs.Iterator.{Yields, HoldsAlong}
@@ -33,8 +33,7 @@ given_first : {S A : Type 0} (steps : S → Option A → S → Type 0) (left : S
     → ((s : S) (x : A) (t : S) → steps s (Some x) t → left s ≡ x ∷ left t)
     → (s t : S) (xs : List A) → Yields steps s xs t → left s ≡ xs ++ left t
 given_first steps left go s t [] e = ap left e
-given_first steps left go s t (x ∷ xs) r = go s x r.0 r.1
-    ∙ ap (λ (l : List _). x ∷ l) (given_first steps left go r.0 t xs r.2)
+given_first steps left go s t (x ∷ xs) r = search (rules, given_first steps left go r.0 t xs r.2)
 
 -- an iterator over some rows
 pub rows_along : {S : Type 0} (steps : S → Option (ℕ × Vec ℤ Global) → S → Type 0) (left : S → List (ℕ × Vec ℤ Global))

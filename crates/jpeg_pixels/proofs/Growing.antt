@@ -1,7 +1,8 @@
 -- A plane that is being made, with one more row.
-use Rattle.std.proofs.Common.{◌≡◌, ℕ, zero, suc, ◌+◌, ◌-◌, ◌*◌, ◌/◌, ◌<◌, ◌≤◌, ℤ, List, ◌++◌, length, get_or, take}
-use Rattle.std.proofs.Common.{drop, replicate, slice_index_or, refl, sym, subst, ap, ◌∙◌, arith, length-take}
-use Rattle.std.proofs.Common.{length-drop, length-append}
+use Rattle.std.proofs.lemmas.Grind.{common_steps}
+use Rattle.std.proofs.Common.{◌≡◌, ℕ, zero, suc, ◌+◌, ◌-◌, ◌*◌, ◌/◌, ◌<◌, ◌≤◌, ℤ, List, length, get_or, take}
+use Rattle.std.proofs.Common.{drop, replicate, slice_index_or, sym, ap, ◌∙◌, arith, length-take}
+use Rattle.std.proofs.Common.{length-drop, length-append, rules}
 use Rattle.std.proofs.Math.Seq.{drop-append-add, drop-append_seam}
 use Rattle.std.proofs.Math.Nat.{mul-le-mul_right}
 use Rattle.std.proofs.lemmas.List.{drop-replicate, with_items_is, drop-drop}
@@ -18,30 +19,13 @@ use Rattle.jpeg_pixels.proofs.RowsOfBlocks.{take_next}
 -- the samples after a row was written after the first w
 put_length : (w size k : ℕ) (items strips : List ℕ) → k ≡ size → w + size ≤ length items → length strips ≡ size
     → length (put_mid w k items strips) ≡ length items
-put_length w size k items strips e room count =
-    length-append (take w items) (strips ++ drop k (drop w items))
-    ∙ omega (
-      arith,
-      length-append strips (drop k (drop w items)),
-      length-drop k
-          (drop w items),
-      length-drop w items,
-      length-take w items,
-    )
+put_length w size k items strips e room count = search (rules, length-append, length-drop, length-take)
 
 put_rest : (w size k : ℕ) (items strips : List ℕ) → k ≡ size → w + size ≤ length items → length strips ≡ size
     → drop w items ≡ replicate (length items - w) 0
     → drop (w + size) (put_mid w k items strips) ≡ replicate (length (put_mid w k items strips) - (w + size)) 0
 put_rest w size k items strips e room count rest =
-    let after = drop k (drop w items) in
-    let front : length (take w items) ≡ w = omega (arith, length-take w items) in
-    ap (λ (n : ℕ). drop (n + size) (take w items ++ (strips ++ after))) (sym front)
-    ∙ drop-append-add (take w items) (strips ++ after) size
-    ∙ ap (λ (n : ℕ). drop n (strips ++ after)) (sym count)
-    ∙ drop-append_seam strips after
-    ∙ ap (drop k) rest
-    ∙ drop-replicate k (length items - w) 0
-    ∙ ap (λ (n : ℕ). replicate n 0) (omega (arith, put_length w size k items strips e room count))
+    grind (arith, common_steps, drop-append-add, drop-append_seam, drop-replicate, length-take, put_length)
 
 -- what is kept of a plane through a row
 pub grown_fits : (p : Inside) (size k : ℕ) (xs strips : List ℕ) → xs ≡ p.samples.items → k ≡ size
@@ -51,21 +35,7 @@ pub grown_fits : (p : Inside) (size k : ℕ) (xs strips : List ℕ) → xs ≡ p
           (put_mid p.written k xs strips);
       written = p.written + size;
     })
-grown_fits p size k xs strips is e room count fits =
-    let w = p.written in
-    let items = p.samples.items in
-    let same : length (put_mid w k items strips) ≡ length items = put_length w size k items strips e room count in
-    let held : (with_items p.samples (put_mid w k xs strips)).items ≡ put_mid w k items strips =
-    ap (λ (l : List ℕ). (with_items p.samples (put_mid w k l strips)).items) is
-    ∙ with_items_is p.samples (put_mid w k items strips) (same ∙ sym p.samples.ok.0) in
-    record {
-      scale = fits.scale;
-      wide = fits.wide;
-      rows = fits.rows;
-      written = omega (arith, same, ap length held);
-      others = ap (drop (w + size)) held ∙ put_rest w size k items strips e room count fits.others
-          ∙ ap (λ (l : List ℕ). replicate (length l - (w + size)) 0) (sym held);
-    }
+grown_fits p size k xs strips is e room count fits = search (rules, put_length, put_rest, with_items_is)
 
 -- a block among the coefficients that are given
 chunk_at : (count i : ℕ) (coefficients d : List ℤ) → i < count → get_or (first_chunks 64 count coefficients) i d
@@ -101,36 +71,10 @@ pub grown_is : (p : Inside) (w : Work) (size k : ℕ) (xs strips : List ℕ) (co
       written = p.written + size;
     }) ≡ grown coefficients w
 grown_is p w size k xs strips coefficients seen is e room count within samples =
-    let items = p.samples.items in
-    let same : length (put_mid p.written k items strips)
-    ≡ length items = put_length p.written size k items strips e room count in
-    let held : (with_items p.samples (put_mid p.written k xs strips)).items ≡ put_mid p.written k items strips =
-    ap (λ (l : List ℕ). (with_items p.samples (put_mid p.written k l strips)).items) is
-    ∙ with_items_is p.samples (put_mid p.written k items strips) (same ∙ sym p.samples.ok.0) in
-    let come : take (p.written + size) (with_items p.samples (put_mid p.written k xs strips)).items
-    ≡ take p.written items ++ plane_of p.scale p.quantization_table p.blocks_wide p.rows
-    (block_in coefficients p.blocks_wide) =
-    ap (take (p.written + size)) held ∙ take_next p.written size k items strips _ refl within count
-    ∙ ap (λ (l : List ℕ). take p.written items ++ l) samples in
-    let all : length (with_items p.samples (put_mid p.written k xs strips)).items ≡ length items = ap length held
-    ∙ same in
-    (λ i. record {
-      scale = p.scale;
-      wide = p.blocks_wide;
-      down = p.rows;
-      table = p.quantization_table;
-      samples = come
-          i;
-      room = all i;
-    })
-    ∙ ap (grown coefficients) seen
+    search (rules, put_length, take_next, with_items_is)
 
 -- a row has room
 pub row_fits : (p : Inside) (w : Work) (coefficients : List ℤ) → work_in p ≡ w → IsGrowing p → IsRowOf w coefficients
     → (p.written + p.scale * p.blocks_wide * (p.scale * p.rows) ≤ length p.samples.items) ×
     (length coefficients / 64 ≡ p.blocks_wide * p.rows)
-row_fits p w coefficients seen fits row =
-    let here = subst (λ (v : Work). IsRowOf v coefficients) (sym seen) row in
-    let front : length (take p.written p.samples.items)
-    ≡ p.written = omega (arith, length-take p.written p.samples.items, fits.written) in
-    (omega (arith, here.room, front), omega (arith, here.blocks))
+row_fits p w coefficients seen fits row = search (rules, length-take)

@@ -1,6 +1,6 @@
 -- Lines of one length, one after the other.
 use Rattle.std.proofs.Common.{◌≡◌, ℕ, zero, suc, ◌+◌, ◌-◌, ◌*◌, ◌<◌, ◌/◌, ◌%◌, List, [], ◌∷◌, ◌++◌, length, get_or, map}
-use Rattle.std.proofs.Common.{sym, ap, ◌∙◌, arith, length-append}
+use Rattle.std.proofs.Common.{sym, ap, ◌∙◌, arith, length-append, rules}
 use Rattle.std.proofs.lemmas.List.{ext_get_or, get_or-append_right, get_or_append_left, get_or-map}
 use Rattle.std.proofs.lemmas.List.FromFn.{length-map-range_with_len, get_or-map-range_with_len}
 use Rattle.std.proofs.Math.Nat.{mul_comm, div-lt_iff_lt-mul, mod-lt, div-add-mod}
@@ -69,5 +69,4 @@ by_pixels n width pixel out some sizes long each =
 -- the samples of a pixel stand in the lines
 pub sample-at : (n : ℕ) (lines : List (List ℕ)) (k x : ℕ) → AreLong n lines → k < length lines → x < n
     → get_or (map (λ (l : List ℕ). get_or l x 0) lines) k 0 ≡ get_or (concat lines) (k * n + x) 0
-sample-at n lines k x long h lt = get_or-map (λ (l : List ℕ). get_or l x 0) lines k [] 0 h
-    ∙ sym (joined-at n lines k x long h lt)
+sample-at n lines k x long h lt = search (rules, get_or, get_or-map, joined-at)

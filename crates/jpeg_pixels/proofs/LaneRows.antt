@@ -1,5 +1,6 @@
 -- Rows of lanes, by their numbers.
-use Rattle.std.proofs.Common.{◌≡◌, ℕ, ◌<◌, zero, suc, List, [], ◌∷◌, map, length, get_or, ℤ, pos, ◌+ℤ◌, ◌*ℤ◌, refl, sym}
+use Rattle.std.proofs.Common.{rules}
+use Rattle.std.proofs.Common.{◌≡◌, ℕ, ◌<◌, zero, suc, List, map, length, get_or, ℤ, pos, ◌+ℤ◌, ◌*ℤ◌, refl, sym}
 use Rattle.std.proofs.Common.{ap, ◌∙◌, replicate, FitsSigned, of_z, to_z, arith, cond, eqb, true, false, Bool, lit<}
 use Rattle.std.specs.Int.{w32, int_shr, int_wrap}
 use Rattle.std.proofs.lemmas.List.FromFn.{fill_by_all}
@@ -27,11 +28,7 @@ eight_cases P a b c d e f g h (suc (suc (suc (suc (suc (suc (suc (suc n)))))))) 
 
 pub lane_at_is : (rows : Rows) (f : ℕ → ℕ → ℤ) → HasNumbers rows f → (k j : ℕ) → k < 8 → j < 8
     → lane_at rows k j ≡ f k j
-lane_at_is rows f e k j hk hj = eight_cases (λ (i : ℕ). lane_at rows i j ≡ f i j)
-    (lane-lanes rows.r0 (f 0) e.r0 j hj) (lane-lanes rows.r1 (f 1) e.r1 j hj) (lane-lanes rows.r2 (f 2) e.r2 j hj)
-    (lane-lanes rows.r3 (f 3) e.r3 j hj)
-    (lane-lanes rows.r4 (f 4) e.r4 j hj) (lane-lanes rows.r5 (f 5) e.r5 j hj) (lane-lanes rows.r6 (f 6) e.r6 j hj)
-    (lane-lanes rows.r7 (f 7) e.r7 j hj) k hk
+lane_at_is rows f e k j hk hj = search (rules, eight_cases, lane-lanes)
 
 -- a row of the columns' values, as the kernel chooses it
 pub column_row : (coefficients : List ℤ) (quantization : List ℕ) (rows : Rows) (row : ℕ) (sums flat below : List ℤ)
@@ -64,10 +61,7 @@ column_row coefficients quantization rows row sums flat below ls lf lb fs ff fb 
 
 column_is : (rows : Rows) (f : ℕ → ℕ → ℤ) → HasNumbers rows f → (k : ℕ) → k < 8 → column_of rows k ≡ lanes (λ j. f j k)
 unfolding lanes
-column_is rows f e k h = λ i. lane-lanes rows.r0 (f 0) e.r0 k h i ∷ lane-lanes rows.r1 (f 1) e.r1 k h i ∷ lane-lanes
-    rows.r2 (f 2) e.r2 k h i ∷ lane-lanes rows.r3 (f 3) e.r3 k h i
-    ∷ lane-lanes rows.r4 (f 4) e.r4 k h i ∷ lane-lanes rows.r5 (f 5) e.r5 k h i ∷ lane-lanes rows.r6 (f 6) e.r6 k h i
-    ∷ lane-lanes rows.r7 (f 7) e.r7 k h i ∷ []
+column_is rows f e k h = search (rules, lane-lanes)
 
 pub turned_numbers : (rows turned : Rows) (f : ℕ → ℕ → ℤ) → HasNumbers rows f → IsTurned rows turned
     → HasNumbers turned (λ k j. f j k)

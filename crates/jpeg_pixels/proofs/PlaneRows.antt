@@ -1,6 +1,6 @@
 -- A plane at a scale by its rows of blocks.
 use Rattle.std.proofs.Common.{◌≡◌, ℕ, zero, suc, ◌+◌, ◌-◌, ◌*◌, ◌<◌, ◌≤◌, ◌/◌, ◌%◌, ℤ, List, [], ◌++◌, length, get_or}
-use Rattle.std.proofs.Common.{slice_index_or, map, sym, ap, ◌∙◌, arith, length-append}
+use Rattle.std.proofs.Common.{slice_index_or, map, sym, ap, ◌∙◌, arith, length-append, rules}
 use Rattle.std.proofs.lemmas.List.{append-nil, append_assoc, ext_get_or, get_or-append_right, get_or_append_left}
 use Rattle.std.proofs.lemmas.List.FromFn.{length-map-range_with_len, get_or-map-range_with_len}
 use Rattle.std.proofs.Math.Nat.{mul_comm, mul-add, div-lt_iff_lt-mul, mod-lt, mul-add-div, mul-add-mod_self_left}
@@ -29,8 +29,7 @@ some-left zero m i h = absurd (let e : 0 * m ≡ 0 = omega arith in omega arith)
 some-left (suc n) m i h = omega arith
 
 pub line_lt : (w n i : ℕ) → i < w * n → i / w < n
-line_lt w n i h = (div-lt_iff_lt-mul {k = w} {x = i} {y = n} (some-left w n i h)).1
-    (let turned : w * n ≡ n * w = mul_comm w n in omega (arith, turned))
+line_lt w n i h = search (rules, div-lt_iff_lt-mul, mul_comm, some-left)
 
 -- a plane depends on its blocks alone
 pub plane-same : (s : ℕ) (table : List ℕ) (wide high : ℕ) (f g : ℕ → ℕ → List ℤ)
@@ -50,12 +49,7 @@ plane-same s table wide high f g same = ext_get_or 0 (plane_of s table wide high
 
 pub plane-none : (s : ℕ) (table : List ℕ) (wide : ℕ) (block_at : ℕ → ℕ → List ℤ) → plane_of s table wide 0 block_at ≡ []
 unfolding plane_of
-plane-none s table wide block_at = ap (λ n. map (λ i. plane_sample s table block_at (i % (s * wide))
-    (i / (s * wide))) (range_with_len 0 n)) nothing
-  where
-    nothing : s * wide * (s * 0) ≡ 0
-    nothing = let e : s * 0 ≡ 0 = omega arith in ap (λ n. s * wide * n) e
-        ∙ (let z : s * wide * 0 ≡ 0 = omega arith in z)
+plane-none s table wide block_at = search rules
 
 -- the blocks of a row, as a function of coordinates
 abbrev pub row_blocks : ℕ → (ℕ → ℕ → List ℤ) → ℕ → List (List ℤ)
@@ -66,8 +60,7 @@ row_at wide block_at high row column = slice_index_or (row_blocks wide block_at 
 
 strip_is : (s : ℕ) (table : List ℕ) (wide high : ℕ) (block_at : ℕ → ℕ → List ℤ)
     → strip_of s table (row_blocks wide block_at high) ≡ plane_of s table wide 1 (row_at wide block_at high)
-strip_is s table wide high block_at = ap (λ n. plane_of s table n 1 (row_at wide block_at high))
-    (length-map-range_with_len (block_at high) 0 wide)
+strip_is s table wide high block_at = simp (length-map-range_with_len)
 
 -- a place of the next row of blocks
 next_row : (s : ℕ) (table : List ℕ) (wide high : ℕ) (block_at : ℕ → ℕ → List ℤ) (j : ℕ) → j < s * wide * s →
@@ -93,9 +86,7 @@ next_row s table wide high block_at j h =
     ∙ ap (λ (b : List ℤ). sample_at s b table (j % w % s) (j / w % s)) block
 
 area-more : (s wide high : ℕ) → area s wide (high + 1) ≡ area s wide high + s * wide * s
-area-more s wide high = ap (λ n. s * wide * n) (mul-add s high 1)
-    ∙ (mul-add (s * wide) (s * high) (s * 1)
-    ∙ (let e : s * 1 ≡ s = omega arith in ap (λ n. area s wide high + s * wide * n) e))
+area-more s wide high = omega (arith, mul-add)
 
 -- one more row of blocks
 pub plane-more : (s : ℕ) (table : List ℕ) (wide high : ℕ) (block_at : ℕ → ℕ → List ℤ) →

@@ -1,4 +1,5 @@
 -- Some rows of blocks are written row by row.
+use Rattle.std.proofs.lemmas.Grind.{common_steps}
 use Rattle.std.proofs.Common.{◌≡◌, ℕ, ◌+◌, ◌*◌, ◌<◌, ◌≤◌, ℤ, List, ◌++◌, length, take, drop, slice_index_or, map, sym}
 use Rattle.std.proofs.Common.{ap, ◌∙◌, arith, length-take, length-drop}
 use Rattle.std.proofs.Math.Seq.{take-append_seam, take-append-add}
@@ -14,13 +15,7 @@ use Rattle.jpeg_pixels.proofs.PlaneRows.{plane-more}
 pub take_next : (a size k : ℕ) (now piece above : List ℕ) → take a now ≡ above → a ≤ length now → length piece ≡ size
     → take (a + size) (put_mid a k now piece) ≡ above ++ piece
 take_next a size k now piece above is room e =
-    let rest = drop k (drop a now) in
-    let front : length (take a now) ≡ a = omega (arith, length-take {A = ℕ}) in
-    ap (λ (n : ℕ). take (n + size) (take a now ++ (piece ++ rest))) (sym front)
-    ∙ take-append-add (take a now) (piece ++ rest) size
-    ∙ ap (λ (n : ℕ). take a now ++ take n (piece ++ rest)) (sym e)
-    ∙ ap (λ (l : List ℕ). take a now ++ l) (take-append_seam piece rest)
-    ∙ ap (λ (l : List ℕ). l ++ piece) is
+    grind (arith, common_steps, length-take, take-append-add, take-append_seam)
 
 -- the blocks of a row
 blocks_of_row : (blocks : List (List ℤ)) (first wide k : ℕ) → k ≡ wide → first + wide ≤ length blocks

@@ -1,6 +1,6 @@
 -- How many outputs a sample stands for by the rule of its component, and that samples reach the last output.
-use Rattle.std.proofs.Common.{◌≡◌, ◌≤◌, ◌<◌, ℕ, zero, suc, ◌+◌, ◌-◌, ◌*◌, ◌/◌, ◌%◌, Bool, true, false, Option}
-use Rattle.std.proofs.Common.{Some, None}
+use Rattle.std.proofs.Common.{◌≡◌, ◌≤◌, ◌<◌, ℕ, zero, suc, ◌+◌, ◌-◌, ◌*◌, ◌/◌, Bool, true, false, Option}
+use Rattle.std.proofs.Common.{Some, None, rules}
 use Rattle.std.proofs.Common.{◌⊎◌, inl, inr, refl, ap, sym, ◌∙◌, subst, arith}
 use Rattle.std.specs.Prelude.{◌==◌, ◌&&◌, ◌||◌, if◌then◌else◌}
 use Rattle.std.proofs.Math.Nat.{add-mul, div-add-mod, mul_assoc, mul_comm, le_of_mul-le-mul_left, mul-le-mul}
@@ -15,11 +15,7 @@ use Rattle.jpeg_pixels.specs.Upsampling.{across, divides, down, rule_of}
 -- ---- samples at a scale
 
 pub some-ceiling : (a b : ℕ) → 0 < a → 0 < b → 0 < ceiling a b
-some-ceiling a b some h = go (ceiling a b) (ceiling-low a b h)
-  where
-    go : (c : ℕ) → a ≤ b * c → 0 < c
-    go zero le = absurd (let z : b * 0 ≡ 0 = omega arith in omega arith)
-    go (suc c) le = omega arith
+some-ceiling a b some h = search (rules, ceiling-low)
 
 -- the samples of a line stand in its blocks
 pub in-blocks : (s size factor most : ℕ) → 0 < most
@@ -36,11 +32,7 @@ in-blocks s size factor most some =
 pub room-of : (columns lines stride most : ℕ) → 0 < lines → columns ≤ stride → lines ≤ most
     → (lines - 1) * stride + columns ≤ most * stride
 room-of columns zero stride most some inside within = absurd (omega arith)
-room-of columns (suc k) stride most some inside within =
-    let less : (k + 1) * stride ≤ most * stride = mul-le-mul_right stride (omega arith) in
-    let e : (k + 1) * stride ≡ k * stride + 1 * stride = add-mul k 1 stride in
-    let z : suc k - 1 ≡ k = omega arith in
-    rw z (omega (arith, less, e, inside))
+room-of columns (suc k) stride most some inside within = search (rules, add-mul, mul-le-mul_right)
 
 -- ---- ratios
 
@@ -94,10 +86,6 @@ reach-full size factor most k hs hf hm r =
 
 -- ---- rules
 
-either : {A : Type 0} (a b : Bool) → (a ≡ true → A) → (b ≡ true → A) → (a || b) ≡ true → A
-either true b left right e = left refl
-either false b left right e = right e
-
 one-rule : (a b : UpsampleRule) → ◌≡◌ {A = Option UpsampleRule} (Some a) (Some b) → a ≡ b
 one-rule a b e = cc
 
@@ -108,22 +96,13 @@ chosen P true rule other rest first others e = subst P (one-rule other rule e) (
 chosen P false rule other rest first others e = others e
 
 ratio-1 : (h m n : ℕ) → (h == m || n == 1) ≡ true → Ratio h m n 1
-ratio-1 h m n = either (h == m) (n == 1)
-    (λ e. let p : h ≡ m = eqb-true h m e in record { some = omega arith; is = inl (omega arith) })
-    (λ e. record { some = omega arith; is = inr (eqb-true n 1 e, refl) })
+ratio-1 h m n = search (rules, eqb-true)
 
 ratio-2 : (h m n : ℕ) → (2 * h == m) ≡ true → Ratio h m n 2
 ratio-2 h m n e = let p : 2 * h ≡ m = eqb-true (2 * h) m e in record { some = omega arith; is = inl (omega arith) }
 
 ratio-any : (h m n : ℕ) → 0 < m → divides h m ≡ true → Ratio h m n (m / h)
-ratio-any h m n some e =
-    let none : m % h ≡ 0 = eqb-true (m % h) 0 e in
-    let d : h * (m / h) + m % h ≡ m = div-add-mod m h in
-    record { some = go (m / h) (omega arith); is = inl (omega arith) }
-  where
-    go : (k : ℕ) → m ≡ h * k → 0 < k
-    go zero p = absurd (omega arith)
-    go (suc k) p = omega arith
+ratio-any h m n some e = search (rules, div-add-mod, eqb-true)
 
 pub record Ratios (h v mh mv width height : ℕ) (rule : UpsampleRule) : Type 0 where
   pub columns : Ratio h mh width (across rule)

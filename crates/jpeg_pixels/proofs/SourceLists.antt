@@ -1,10 +1,9 @@
 -- The components of a frame, one after the other.
 use Rattle.std.proofs.Common.{◌≡◌, ℕ, zero, suc, ◌<◌, ◌≤◌, List, [], ◌∷◌, ◌++◌, length, get_or, max, sym, ap, ◌∙◌, refl}
-use Rattle.std.proofs.Common.{arith, append_assoc, Result, Ok, Err}
+use Rattle.std.proofs.Common.{arith, append_assoc, Result, Ok, Err, rules}
 use Rattle.std.proofs.lemmas.List.{append-nil}
-use Rattle.jpeg_bits.specs.Reading.{Fault, Malformed, Lacks, Names, ◌>>=◌}
+use Rattle.jpeg_bits.specs.Reading.{Fault, Names, ◌>>=◌}
 use Rattle.jpeg_bits.specs.declared.error.Error.{Error}
-use Rattle.jpeg_bits.specs.declared.error.Error.TheVariants as errors
 use Rattle.jpeg_segments.specs.Frame.{Component, Factors, greatest}
 use Rattle.jpeg_pixels.specs.Pictures.{Source, source_of, sources_by}
 use Rattle.jpeg_segments.specs.Frame.{HasSampling, AllHaveSampling}
@@ -64,25 +63,13 @@ pub sources-end : (most_h most_v width height : ℕ) (before : List Source) (all
 unfolding after sources_by
 sources-end most_h most_v width height before all so_far = so_far.same ∙ ap as_all (append-nil before)
 
--- an error that names the fault of one outcome names that of another with the same faults
-pub Names-on : {X Y : Type 0} (e : Error) (one : Result X Fault) (all : Result Y Fault)
-    → ((f : Fault) → one ≡ Err f → all ≡ Err f) → Names e one → Names e all
-Names-on (errors.Format text) one all same names = same Malformed names
-Names-on (errors.Unsupported feature) one all same names = same (Lacks feature) names
-Names-on (errors.Io e) one all same names = (same _ names.0, names.1)
-Names-on (errors.Internal text) one all same names = names
-Names-on errors.OutOfMemory one all same names = tt
-
 pub sources-err : (most_h most_v width height : ℕ) (before : List Source) (c : Component) (more : List Component)
     (e : Error) (all : Result (List Source) Fault)
     → Names e (source_of most_h most_v width height c)
     → Continues before (sources_by most_h most_v width height (c ∷ more)) all
     → Names e all
 unfolding after sources_by
-sources-err most_h most_v width height before c more e all names so_far =
-    Names-on e (source_of most_h most_v width height c) all
-    (λ f is. so_far.same ∙ ap (λ (o : Result Source Fault). after before (o
-    >>= (λ t. sources_by most_h most_v width height more >>= (λ others. Ok (t ∷ others))))) is) names
+sources-err most_h most_v width height before c more e all names so_far = search rules
 
 -- as many sources as components
 pub sources-length : (most_h most_v width height : ℕ) (cs : List Component) (sources : List Source)

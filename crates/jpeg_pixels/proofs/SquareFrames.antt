@@ -1,5 +1,5 @@
 -- Frames whose components have each one factor across and down, as the tests make them.
-use Rattle.std.proofs.Common.{◌≡◌, ◌≤◌, ℕ, List, map, Ok, All}
+use Rattle.std.proofs.Common.{◌≡◌, ◌≤◌, ℕ, List, map, Ok, All, rules}
 use Rattle.std.proofs.lemmas.List.Elements.{All-map}
 use Rattle.jpeg_segments.specs.Frame.{AllHaveSampling, Component, Factors, IsInRange}
 use Rattle.jpeg_pixels.specs.Pictures.{AllCover, HaveRoom, Source, sources_of}
@@ -26,12 +26,10 @@ in-range factors all = All-map IsInRange square factors (λ k d lt.
 
 pub squares-have-factors : (width height : ℕ) (factors : List ℕ) (seen : List Component)
     → seen ≡ squares width height factors → All IsFactor factors → AllHaveSampling seen
-squares-have-factors width height factors seen is all =
-    have-factors width height (map square factors) seen is (in-range factors all)
+squares-have-factors width height factors seen is all = search (rules, have-factors, in-range)
 
 pub squares-are-covered : (width height : ℕ) (factors : List ℕ) (seen : List Component) (planes : List (List ℕ))
     → seen ≡ squares width height factors → All IsFactor factors
     → 1 ≤ width → 1 ≤ height → HaveRoom (squares width height factors) planes
     → (sources : List Source) → sources_of seen width height ≡ Ok sources → AllCover sources planes width height
-squares-are-covered width height factors seen planes is all =
-    are-covered width height (map square factors) seen planes is (in-range factors all)
+squares-are-covered width height factors seen planes is all = search (rules, are-covered, in-range)

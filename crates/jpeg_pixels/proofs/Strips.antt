@@ -1,6 +1,6 @@
 -- The lines of a row of blocks are written block by block.
 use Rattle.std.proofs.Common.{◌≡◌, ℕ, zero, suc, ◌+◌, ◌-◌, ◌*◌, ◌<◌, ◌≤◌, ◌/◌, ◌%◌, ℤ, List, length, get_or}
-use Rattle.std.proofs.Common.{slice_index, slice_index_or, sym, ap, ◌∙◌, arith}
+use Rattle.std.proofs.Common.{slice_index, slice_index_or, sym, ap, ◌∙◌, arith, rules}
 use Rattle.std.proofs.lemmas.List.FromFn.{fill_by_all}
 use Rattle.std.proofs.lemmas.Bool.{cases_lt}
 use Rattle.std.proofs.Math.Logic.{⊎_elim}
@@ -20,9 +20,7 @@ pub record HoldsSamples (lines stride columns : ℕ) (at : ℕ → ℕ → ℕ) 
 -- the place of a block in a row
 pub block_has_room : (s column count room : ℕ) → 1 ≤ s → column < count → room ≡ s * s * count
     → (s * column + s ≤ s * count) × (s * column ≤ room)
-block_has_room s column count room some h is =
-    let within : s * column + s ≤ s * count = omega (arith, mul-le-mul_right s h) in
-    (within, omega (arith, mul-le-mul_right (s * count) some))
+block_has_room s column count room some h is = search (rules, mul-le-mul_right)
 
 -- one more block, written at the front of what begins at its first sample
 pub HoldsSamples-next : (s stride column k : ℕ) (at block_at : ℕ → ℕ → ℕ) (now new : List ℕ)
@@ -68,15 +66,7 @@ pub block_in_row : (s : ℕ) (table : List ℕ) (blocks : List (List ℤ)) (colu
     → sample_at s block table x y ≡ plane_sample s table (λ row place. slice_index_or blocks place zero_coefficients)
     (s * column + x) y
 block_in_row s table blocks column block is x y hx hy =
-    let none : x / s ≡ 0 = let below : x / s < 1 = line_lt s 1 x
-    (let e : s * 1 ≡ s = omega arith in omega arith) in omega arith in
-    let place : (s * column + x) / s ≡ column = mul-add-div (let some : 0 < s = omega arith in some) column x
-    ∙ omega (arith, none) in
-    let across : (s * column + x) % s ≡ x = mul-add-mod_self_left s column x ∙ mod-eq_of_lt hx in
-    ap (λ (b : List ℤ). sample_at s b table x y) is
-    ∙ sym (ap (λ n. sample_at s (slice_index_or blocks n zero_coefficients) table ((s * column + x) % s) (y % s)) place
-    ∙ ap (λ n. sample_at s (slice_index_or blocks column zero_coefficients) table n (y % s)) across
-    ∙ ap (λ n. sample_at s (slice_index_or blocks column zero_coefficients) table x n) (mod-eq_of_lt hy))
+    search (rules, line_lt, mod-eq_of_lt, mul-add-div, mul-add-mod_self_left, slice_index_or)
 
 -- all columns
 pub HoldsSamples-all : (s : ℕ) (table : List ℕ) (blocks : List (List ℤ)) (strip : List ℕ) → length strip

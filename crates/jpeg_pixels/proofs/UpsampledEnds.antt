@@ -1,4 +1,6 @@
 -- Samples at the ends of a component.
+use Rattle.std.proofs.lemmas.Grind.{common_steps}
+use Rattle.std.proofs.Common.{rules}
 use Rattle.std.proofs.Common.{◌≡◌, ℕ, ◌+◌, ◌-◌, ◌*◌, ◌/◌, ◌%◌, ◌<◌, ◌≤◌, arith, ap, ◌∙◌, inl, inr}
 use Rattle.std.proofs.lemmas.Bool.{cases_eq}
 use Rattle.std.proofs.lemmas.Nat.{div-mul-add}
@@ -33,15 +35,12 @@ far_alone x h = elim (cases_eq (x % 2) 0) [
 
 pub first_across : (plane : ℕ → ℕ → ℕ) (width height row : ℕ) → upsampled H2V1 plane width height 0 row ≡ plane 0 row
 unfolding upsampled
-first_across plane width height row =
-    ap (λ f. blended (plane 0 row) (plane f row)) (far_first width) ∙ alike (plane 0 row)
+first_across plane width height row = omega (arith, far_first)
 
 pub last_across : (plane : ℕ → ℕ → ℕ) (width height row : ℕ) → 1 ≤ width
     → upsampled H2V1 plane width height (2 * width - 1) row ≡ plane (width - 1) row
 unfolding upsampled
-last_across plane width height row some =
-    (λ i. blended (plane (near_last width some i) row) (plane (far_last width some i) row))
-    ∙ alike (plane (width - 1) row)
+last_across plane width height row some = search (rules, far_last, near_last)
 
 pub first_down : (plane : ℕ → ℕ → ℕ) (width height x : ℕ) → upsampled H1V2 plane width height x 0 ≡ plane x 0
 unfolding upsampled
@@ -50,8 +49,7 @@ first_down plane width height x = ap (λ f. blended (plane x 0) (plane x f)) (fa
 pub last_down : (plane : ℕ → ℕ → ℕ) (width height x : ℕ) → 1 ≤ height
     → upsampled H1V2 plane width height x (2 * height - 1) ≡ plane x (height - 1)
 unfolding upsampled
-last_down plane width height x some =
-    (λ i. blended (plane x (near_last height some i)) (plane x (far_last height some i))) ∙ alike (plane x (height - 1))
+last_down plane width height x some = search (rules, far_last, near_last)
 
 -- a sample of H2V2 by the four places that it is blended from
 at_places : (plane : ℕ → ℕ → ℕ) (width height x row near far upper lower : ℕ) → x / 2 ≡ near → far_place width x ≡ far
@@ -59,19 +57,14 @@ at_places : (plane : ℕ → ℕ → ℕ) (width height x row near far upper low
     upsampled H2V2 plane width height x row ≡ (3 * (3 * plane near upper + plane near lower)
     + (3 * plane far upper + plane far lower) + 8) / 16
 unfolding upsampled
-at_places plane width height x row near far upper lower a b c d =
-    λ i. (3 * (3 * plane (a i) (c i) + plane (a i) (d i)) + (3 * plane (b i) (c i) + plane (b i) (d i)) + 8) / 16
+at_places plane width height x row near far upper lower a b c d = cc
 
 pub first_corner : (plane : ℕ → ℕ → ℕ) (width height : ℕ) → upsampled H2V2 plane width height 0 0 ≡ plane 0 0
-first_corner plane width height = at_places plane width height 0 0 0 0 0 0 (omega arith) (far_first width) (omega arith)
-    (far_first height) ∙ alike_twice (plane 0 0)
+first_corner plane width height = search (rules, alike_twice, at_places, far_first)
 
 pub last_corner : (plane : ℕ → ℕ → ℕ) (width height : ℕ) → 1 ≤ width → 1 ≤ height →
     upsampled H2V2 plane width height (2 * width - 1) (2 * height - 1) ≡ plane (width - 1) (height - 1)
-last_corner plane width height wide high =
-    at_places plane width height (2 * width - 1) (2 * height - 1) (width - 1) (width - 1) (height - 1) (height - 1)
-    (near_last width wide) (far_last width wide) (near_last height high) (far_last height high)
-    ∙ alike_twice (plane (width - 1) (height - 1))
+last_corner plane width height wide high = search (rules, alike_twice, at_places, far_last, near_last)
 
 -- three parts of one sum of two lines and one of the same sum
 alike_sums : (a : ℕ) → (3 * a + a + 8) / 16 ≡ (a + 2) / 4
@@ -79,17 +72,11 @@ alike_sums a = omega arith
 
 pub first_column : (plane : ℕ → ℕ → ℕ) (width height row : ℕ) → upsampled H2V2 plane width height 0 row
     ≡ (line_sum plane height row 0 + 2) / 4
-first_column plane width height row =
-    at_places plane width height 0 row 0 0 (row / 2) (far_place height row) (omega arith) (far_first width)
-    (λ i. row / 2) (λ i. far_place height row)
-    ∙ alike_sums (line_sum plane height row 0)
+first_column plane width height row = search (rules, alike_sums, at_places, far_first)
 
 pub last_column : (plane : ℕ → ℕ → ℕ) (width height row : ℕ) → 1 ≤ width
     → upsampled H2V2 plane width height (2 * width - 1) row ≡ (line_sum plane height row (width - 1) + 2) / 4
-last_column plane width height row wide =
-    at_places plane width height (2 * width - 1) row (width - 1) (width - 1) (row / 2) (far_place height row)
-    (near_last width wide) (far_last width wide) (λ i. row / 2) (λ i. far_place height row)
-    ∙ alike_sums (line_sum plane height row (width - 1))
+last_column plane width height row wide = search (rules, alike_sums, at_places, far_last, near_last)
 
 -- two lines alike are one line
 one_line : (a b : ℕ) → (3 * (3 * a + a) + (3 * b + b) + 8) / 16 ≡ blended a b
@@ -98,9 +85,7 @@ one_line a b = omega arith
 pub first_line : (plane : ℕ → ℕ → ℕ) (width height x : ℕ) → upsampled H2V2 plane width height x 0 ≡ upsampled H2V1 plane
     width height x 0
 unfolding upsampled
-first_line plane width height x = at_places plane width height x 0 (x / 2) (far_place width x) 0 0 (λ i. x / 2)
-    (λ i. far_place width x) (omega arith) (far_first height)
-    ∙ one_line (plane (x / 2) 0) (plane (far_place width x) 0)
+first_line plane width height x = grind (arith, common_steps, at_places, far_first, one_line)
 
 pub repeated : (plane : ℕ → ℕ → ℕ) (width height h v i j k l : ℕ) → k < h → l < v
     → upsampled (Generic h v) plane width height (i * h + k) (j * v + l) ≡ plane i j

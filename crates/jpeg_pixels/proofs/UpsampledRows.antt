@@ -1,14 +1,14 @@
 -- Rows of samples made wider, place by place.
 use Rattle.std.proofs.Common.{◌≡◌, ℕ, ◌+◌, ◌-◌, ◌*◌, ◌/◌, ◌%◌, ◌<◌, ◌≤◌, List, length, get_or, set, get_or-set_other}
-use Rattle.std.proofs.Common.{get_or-set_same, length-set, ◌≢◌, arith, ap, sym, subst, ◌∙◌, cond, min, inl, inr, take}
-use Rattle.std.proofs.Common.{drop, ◌++◌, length-take}
+use Rattle.std.proofs.Common.{get_or-set_same, length-set, ◌≢◌, arith, ap, subst, ◌∙◌, cond, min, inl, inr, take}
+use Rattle.std.proofs.Common.{drop, ◌++◌, length-take, rules}
 use Rattle.std.specs.Prelude.{◌==◌}
 use Rattle.std.specs.Int.{div_ceil}
 use Rattle.std.proofs.lemmas.Bool.{cases_eq}
 use Rattle.std.proofs.Math.Nat.{mul_comm, mul-add, mul-le-mul_right, div-lt_iff_lt-mul, lt_of_mul-lt-mul_left}
 use Rattle.std.proofs.lemmas.List.{get_or_append_left}
 use Rattle.std.proofs.lemmas.Nat.{mod-mul-add}
-use Rattle.std.proofs.lemmas.Grind.{div_ceil_times}
+use Rattle.std.proofs.lemmas.Grind.{div_ceil_times, common_steps}
 use Rattle.jpeg_pixels.specs.Upsampling.{across, down, blended, far_place, upsampled}
 use Rattle.jpeg_pixels.specs.declared.upsampler.UpsampleRule.{UpsampleRule}
 use Rattle.jpeg_pixels.specs.declared.upsampler.UpsampleRule.TheVariants.{H1V1, H2V1, H1V2, H2V2, Generic}
@@ -29,9 +29,7 @@ far_below count x h = elim (cases_eq (x % 2) 0) [
 -- the front of a row, once it is written
 pub in_front : (n : ℕ) (new old : List ℕ) (x : ℕ) → length new ≡ length (take n old) → n ≤ length old → x < n
     → get_or (new ++ drop n old) x 0 ≡ get_or new x 0
-in_front n new old x long room h =
-    let inside : x < length new = omega (arith, length-take n old) in
-    get_or_append_left new (drop n old) 0 x inside
+in_front n new old x long room h = grind (arith, common_steps, get_or_append_left, length-take)
 
 -- the sample of each rule by the lines that it reads
 
@@ -48,16 +46,7 @@ pub as_h2v1 : (rule : UpsampleRule) (plane : ℕ → ℕ → ℕ) (line : List �
     blended (get_or line (x / 2) 0) (get_or line (far_place (length line) x) 0) ≡ upsampled rule plane width height x
     row
 unfolding upsampled
-as_h2v1 rule plane line width height x row e long inside each = rw e (λ i. blended (near i) (far i))
-  where
-    below : x / 2 < width
-    below = let two : across rule ≡ 2 = ap across e in let h : x < 2 * width = rw (← two) inside in omega arith
-
-    near : get_or line (x / 2) 0 ≡ plane (x / 2) row
-    near = each (x / 2) below
-
-    far : get_or line (far_place (length line) x) 0 ≡ plane (far_place width x) row
-    far = ap (λ n. get_or line (far_place n x) 0) long ∙ each (far_place width x) (far_below width x below)
+as_h2v1 rule plane line width height x row e long inside each = search (rules, far_below, get_or)
 
 pub as_h1v2 : (rule : UpsampleRule) (plane : ℕ → ℕ → ℕ) (near far : List ℕ) (used width height x row : ℕ) → rule ≡ H1V2
     → x < used →
@@ -65,8 +54,7 @@ pub as_h1v2 : (rule : UpsampleRule) (plane : ℕ → ℕ → ℕ) (near far : Li
     ((i : ℕ) → i < used → get_or far i 0 ≡ plane i (far_place height row)) →
     blended (get_or near x 0) (get_or far x 0) ≡ upsampled rule plane width height x row
 unfolding upsampled
-as_h1v2 rule plane near far used width height x row e inside near_is far_is =
-    rw e (λ i. blended (near_is x inside i) (far_is x inside i))
+as_h1v2 rule plane near far used width height x row e inside near_is far_is = search rules
 
 pub as_h2v2 : (rule : UpsampleRule) (plane : ℕ → ℕ → ℕ) (near far : List ℕ) (width height x row : ℕ) → rule ≡ H2V2
     → length near ≡ width → x < across rule * width →
@@ -76,34 +64,19 @@ pub as_h2v2 : (rule : UpsampleRule) (plane : ℕ → ℕ → ℕ) (near far : Li
     + get_or far (far_place (length near) x) 0) + 8) / 16
     ≡ upsampled rule plane width height x row
 unfolding upsampled
-as_h2v2 rule plane near far width height x row e long inside near_is far_is =
-    rw (e, long) (λ i. (3 * (3 * near_is (x / 2) below i + far_is (x / 2) below i)
-    + (3 * near_is (far_place width x) farther i + far_is (far_place width x) farther i) + 8) / 16)
-  where
-    below : x / 2 < width
-    below = let two : across rule ≡ 2 = ap across e in let h : x < 2 * width = rw (← two) inside in omega arith
-
-    farther : far_place width x < width
-    farther = far_below width x below
+as_h2v2 rule plane near far width height x row e long inside near_is far_is = search (rules, far_below)
 
 pub as_generic : (rule : UpsampleRule) (h v : ℕ) (plane : ℕ → ℕ → ℕ) (line : List ℕ) (used width height x row : ℕ)
     → rule ≡ Generic h v → 1 ≤ h → x < h * used →
     ((i : ℕ) → i < used → get_or line i 0 ≡ plane i (row / v)) →
     get_or line (x / h) 0 ≡ upsampled rule plane width height x row
 unfolding upsampled
-as_generic rule h v plane line used width height x row e some inside each = rw e (each (x / h) below)
-  where
-    below : x / h < used
-    below =
-        let turned : x < used * h = rw (mul_comm used h) inside in
-        (div-lt_iff_lt-mul {k = h} {x = x} {y = used} some).1 turned
+as_generic rule h v plane line used width height x row e some inside each =
+    grind (arith, common_steps, div-lt_iff_lt-mul, mul_comm)
 
 -- the outputs are those of the samples used
 pub used_enough : (output h used : ℕ) → 0 < h → used ≡ div_ceil output h → output ≤ h * used
-used_enough output h used some is =
-    let low : output ≤ div_ceil output h * h = (div_ceil_times output h some).0 in
-    let turned : h * used ≡ div_ceil output h * h = ap (λ n. h * n) is ∙ mul_comm h (div_ceil output h) in
-    omega (arith, low, turned)
+used_enough output h used some is = search (rules, div_ceil_times, mul_comm)
 
 -- and a line has these samples
 used_within : (output h used width : ℕ) → 0 < h → used ≡ div_ceil output h → output ≤ h * width → used ≤ width
@@ -136,19 +109,11 @@ pub spread_samples : (line xs ys : List ℕ) (step first i : ℕ) → first < st
     ((k : ℕ) → k < i → k * step + first < length xs → get_or xs (k * step + first) 0 ≡ get_or line k 0) →
     (k : ℕ) → k < i + 1 → k * step + first < length ys → get_or ys (k * step + first) 0 ≡ get_or line k 0
 spread_samples line xs ys step first i some inside is before k h long =
-    ap (λ (l : List ℕ). get_or l (k * step + first) 0) is ∙ (elim (cases_eq k i) [
-      | inl e ↦ ap (λ n. get_or (set xs (i * step + first) (get_or line i 0)) (n * step + first) 0) e
-          ∙ get_or-set_same xs (i * step + first) (get_or line i 0) 0 inside ∙ ap (λ n. get_or line n 0) (sym e)
-      | inr ne ↦ let next : k + 1 ≤ i = omega arith in
-          let apart : k * step + first ≢ i * step + first = omega (arith, mul-le-mul_right step next) in
-          get_or-set_other xs (i * step + first) (k * step + first) (get_or line i 0) 0 apart
-          ∙ before k (omega arith) (omega (arith, ap length is, length-set xs (i * step + first) (get_or line i 0)))
-    ])
+    search (rules, cases_eq, get_or, get_or-set_other, get_or-set_same, length-set, mul-le-mul_right)
 
 -- the places between
 pub spread_others : (xs ys was : List ℕ) (step first i v : ℕ) → first < step → ys ≡ set xs (i * step + first) v →
     ((x : ℕ) → x % step ≢ first → get_or xs x 0 ≡ get_or was x 0) →
     (x : ℕ) → x % step ≢ first → get_or ys x 0 ≡ get_or was x 0
 spread_others xs ys was step first i v some is before x between =
-    let apart : x ≢ i * step + first = λ e. between (ap (λ n. n % step) e ∙ mod-mul-add i step first some) in
-    ap (λ (l : List ℕ). get_or l x 0) is ∙ get_or-set_other xs (i * step + first) x v 0 apart ∙ before x between
+    grind (arith, common_steps, get_or, get_or-set_other, mod-mul-add)

@@ -1,7 +1,8 @@
 -- A picture is its lines from above.
-use Rattle.std.proofs.Common.{◌≡◌, ℕ, ◌+◌, ◌==◌, Bool, true, false, List, [], ◌∷◌, ◌++◌, length, map, sym, ap, subst}
-use Rattle.std.proofs.Common.{◌∙◌, refl, arith, take, drop, length-drop, ◌-◌, Vec, Global, MatchResult, Result, Ok, Err}
-use Rattle.std.proofs.Common.{if◌then◌else◌}
+use Rattle.std.proofs.lemmas.Grind.{common_steps}
+use Rattle.std.proofs.Common.{◌≡◌, ℕ, ◌+◌, ◌==◌, List, [], ◌∷◌, ◌++◌, length, map, sym, ap, subst}
+use Rattle.std.proofs.Common.{◌∙◌, refl, arith, take, length-drop, ◌-◌, Vec, Global, MatchResult, Result, Ok, Err}
+use Rattle.std.proofs.Common.{if◌then◌else◌, rules}
 use Rattle.std.proofs.lemmas.List.{append-nil, take-append-drop}
 use Rattle.std.proofs.Math.ListN.{drop_of_length-le}
 use Rattle.std.proofs.Math.Seq.{take-append_seam}
@@ -9,9 +10,8 @@ use borrow.Rule.Slice.PartMut.{put_mid}
 use Rattle.std.proofs.lemmas.List.Folds.{concat-append}
 use Rattle.std.proofs.lemmas.List.FromFn.{map-range_with_len_more}
 use Rattle.std.proofs.lemmas.Bool.Decides.{eqb_tells}
-use Rattle.std.proofs.Math.Logic.{⊎_elim}
 use Rattle.std.specs.List.{range_with_len, concat}
-use Rattle.jpeg_bits.specs.Reading.{Fault, Malformed, Names, ◌>>=◌}
+use Rattle.jpeg_bits.specs.Reading.{Fault, Malformed, Names}
 use Rattle.jpeg_bits.specs.declared.error.Error.{Error}
 use Rattle.jpeg_bits.specs.declared.error.Error.TheVariants.{OutOfMemory}
 use Rattle.jpeg_bits.specs.declared.color_transform.ColorTransform.{ColorTransform}
@@ -22,7 +22,7 @@ use Rattle.jpeg_pixels.specs.declared.upsampler.ColorConvert.TheVariants as conv
 use Rattle.jpeg_pixels.specs.Colour.{conversion_of}
 use Rattle.jpeg_pixels.specs.Pictures.{Source, sources_of, picture_line, picture_bytes, image_of}
 use Rattle.jpeg_pixels.specs.PicturesView.{IsFor}
-use Rattle.jpeg_pixels.proofs.SourceLists.{Names-on, sources-length}
+use Rattle.jpeg_pixels.proofs.SourceLists.{sources-length}
 
 abbrev as_convert : ColorConvert → Result ColorConvert Fault
 as_convert k = Ok k
@@ -32,15 +32,7 @@ pub grown : (start size : ℕ) (old whole new tail : List ℕ) → start ≡ len
     → whole ≡ take (start + size) old ++ tail → length whole ≡ start + size
     → put_mid start (length whole - start) whole new ≡ old ++ new
 grown start size old whole new tail begins is long =
-    let none : drop (start + size) old ≡ [] = drop_of_length-le old (omega arith) in
-    let all : take (start + size) old ≡ old =
-    sym (append-nil (take (start + size) old)) ∙ ap (λ (l : List ℕ). take (start + size) old ++ l) (sym none)
-    ∙ take-append-drop (start + size) old in
-    let front : take start whole ≡ old = ap (λ (l : List ℕ). take start l) (is ∙ ap (λ (l : List ℕ). l ++ tail) all)
-    ∙ ap (λ n. take n (old ++ tail)) begins ∙ take-append_seam old tail in
-    let after : drop (length whole - start) (drop start whole) ≡ [] =
-    drop_of_length-le (drop start whole) (omega (arith, length-drop {A = ℕ})) in
-    (λ i. front i ++ (new ++ after i)) ∙ ap (λ (l : List ℕ). old ++ l) (append-nil new)
+    grind (arith, common_steps, append-nil, drop_of_length-le, length-drop, take-append-drop, take-append_seam)
 
 -- one more line
 pub picture-more : (convert : ColorConvert) (sources : List Source) (planes : List (List ℕ)) (width height : ℕ)
@@ -60,13 +52,7 @@ picture-none convert sources planes width = refl
 
 by_count : (count n : ℕ) (own convert : ColorConvert) → (count ≡ n → IsFor count own)
     → (if count == n then as_convert own else Err Malformed) ≡ as_convert convert → IsFor count convert
-by_count count n own convert fits is = by_test (count == n) (λ h. ⊎_elim (λ t. t.1) (λ t. let bad : true ≡ false = sym h
-    ∙ t.0 in absurd (cc)) (eqb_tells count n)) is
-  where
-    by_test : (b : Bool) → (b ≡ true → count ≡ n) → (if b then as_convert own else Err Malformed) ≡ as_convert convert
-        → IsFor count convert
-    by_test true known is = let e : own ≡ convert = cc in subst (IsFor count) e (fits (known refl))
-    by_test false known is = absurd (cc)
+by_count count n own convert fits is = search (rules, eqb_tells)
 
 -- a conversion that a transform gives fits the number of components
 pub conversion-fits : (count : ℕ) (transform : ColorTransform) (convert : ColorConvert)
@@ -91,33 +77,21 @@ pub image-is : (components : List Component) (planes : List (List ℕ)) (width h
     → bytes ≡ picture_bytes convert sources planes width height
     → image_of components planes width height transform ≡ Ok bytes
 unfolding image_of
-image-is components planes width height transform convert sources bytes conversion is same =
-    ap (λ (o : Result ColorConvert Fault). o >>= (λ k. sources_of components width height
-    >>= (λ s. as_bytes (picture_bytes k s planes width height)))) conversion
-    ∙ ap (λ (o : Result (List Source) Fault). o >>= (λ s. as_bytes (picture_bytes convert s planes width height))) is
-    ∙ ap as_bytes (sym same)
+image-is components planes width height transform convert sources bytes conversion is same = cc
 
 pub image-no_conversion : (components : List Component) (planes : List (List ℕ)) (width height : ℕ)
     (transform : ColorTransform) (e : Error)
     → Names e (conversion_of (length components) transform)
     → Names e (image_of components planes width height transform)
 unfolding image_of
-image-no_conversion components planes width height transform e names =
-    Names-on e (conversion_of (length components) transform) _
-    (λ f is. ap (λ (o : Result ColorConvert Fault). o >>= (λ k. sources_of components width height
-    >>= (λ s. as_bytes (picture_bytes k s planes width height)))) is) names
+image-no_conversion components planes width height transform e names = search rules
 
 pub image-no_sources : (components : List Component) (planes : List (List ℕ)) (width height : ℕ)
     (transform : ColorTransform) (convert : ColorConvert) (e : Error)
     → conversion_of (length components) transform ≡ Ok convert → Names e (sources_of components width height)
     → Names e (image_of components planes width height transform)
 unfolding image_of
-image-no_sources components planes width height transform convert e conversion names =
-    Names-on e (sources_of components width height) _
-    (λ f is. ap (λ (o : Result ColorConvert Fault). o >>= (λ k. sources_of components width height
-    >>= (λ s. as_bytes (picture_bytes k s planes width height)))) conversion
-    ∙ ap (λ (o : Result (List Source) Fault). o >>= (λ s. as_bytes (picture_bytes convert s planes width height))) is)
-    names
+image-no_sources components planes width height transform convert e conversion names = search rules
 
 -- what a call answered that gives the picture, or lacks memory
 pub image-answer : (components : List Component) (planes : List (List ℕ)) (width height : ℕ)

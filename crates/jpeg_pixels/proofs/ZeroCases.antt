@@ -1,12 +1,12 @@
 -- Rows and columns of which all but the first number is 0.
-use Rattle.std.proofs.Common.{◌≡◌, ℕ, zero, suc, ◌+◌, ◌*◌, ◌<◌, List, ℤ, pos, negsuc, neg_ℤ, ◌+ℤ◌, ◌*ℤ◌, ◌≤ℤ◌, ◌<ℤ◌}
-use Rattle.std.proofs.Common.{Bool, true, false, ◌&&◌, ◌==◌, unsigned_abs}
-use Rattle.std.proofs.Common.{refl, sym, ap, ◌∙◌, arith, FitsSigned, get_or, ◌/◌}
+use Rattle.std.proofs.Common.{◌≡◌, ℕ, zero, suc, ◌<◌, List, ℤ, pos, neg_ℤ, ◌+ℤ◌, ◌*ℤ◌, ◌≤ℤ◌, ◌<ℤ◌}
+use Rattle.std.proofs.Common.{Bool, true, false, ◌&&◌, ◌==◌, unsigned_abs, rules}
+use Rattle.std.proofs.Common.{refl, sym, ap, ◌∙◌, arith, get_or}
 use Rattle.std.proofs.Math.Logic.{⊎_elim}
 use Rattle.std.proofs.lemmas.Bool.{cases_lt, eqb-true}
 use Rattle.std.proofs.lemmas.Int.{ints, int_wrap_fits}
 use Rattle.std.specs.Int.{w32, int_shr, int_wrap}
-use Rattle.jpeg_pixels.specs.Samples.{is_zero_at, is_flat_column, dequantized, transformed, column_value}
+use Rattle.jpeg_pixels.specs.Samples.{is_flat_column, dequantized, transformed, column_value}
 use Rattle.jpeg_bits.specs.Codes.{all_below}
 use Rattle.jpeg_pixels.specs.Samples.{sample, clamped}
 use Rattle.jpeg_pixels.proofs.Columns.{flat_value}
@@ -17,9 +17,7 @@ pub zero_row : (coefficients : List ℤ) (quantization : List ℕ) (x y : ℕ) �
     → sample coefficients quantization x y
     ≡ clamped (int_shr (int_wrap w32 (pos 4096 *ℤ column_value coefficients quantization y 0 +ℤ pos 16842752)) 17)
 unfolding sample
-zero_row coefficients quantization x y h none =
-    ap (λ z. clamped (int_shr (int_wrap w32 (z +ℤ pos 16842752)) 17))
-    (transformed_one (column_value coefficients quantization y) x h none)
+zero_row coefficients quantization x y h none = simp (transformed_one)
 
 pub both_true : (a b : Bool) → (a && b) ≡ true → (a ≡ true) × (b ≡ true)
 both_true true true e = (refl, refl)
@@ -40,28 +38,12 @@ no_product : (coefficients : List ℤ) (quantization : List ℕ) (column k : ℕ
     ≡ true → 0 < k → k < 8 → dequantized coefficients quantization k column ≡ pos 0
 unfolding dequantized is_flat_column
 no_product coefficients quantization column zero flat some h = absurd (omega arith)
-no_product coefficients quantization column (suc k) flat some h =
-    ap (λ z. z *ℤ pos (get_or quantization (suc k * 8 + column) 0))
-    (none_of _ (below_true (is_zero_at coefficients column) 7 k flat (omega arith))) ∙ omega (arith, ints)
+no_product coefficients quantization column (suc k) flat some h = search (rules, below_true, get_or, none_of)
 
 -- four times a number, by way of 4096 times
 four_of : (p : ℤ) → neg_ℤ (pos 524288) ≤ℤ p → p <ℤ pos 524288 → int_wrap w32 (pos 4 *ℤ p)
     ≡ int_shr (int_wrap w32 (pos 4096 *ℤ p +ℤ pos 512)) 10
-four_of p low high =
-    let small : FitsSigned w32 (pos 4 *ℤ p) = omega (arith, ints) in
-    let large : FitsSigned w32 (pos 4096 *ℤ p +ℤ pos 512) = omega (arith, ints) in
-    int_wrap_fits w32 (pos 4 *ℤ p) small ∙ sym (ap (λ z. int_shr z 10)
-    (int_wrap_fits w32 (pos 4096 *ℤ p +ℤ pos 512) large) ∙ shifted p)
-  where
-    shifted : (p : ℤ) → int_shr (pos 4096 *ℤ p +ℤ pos 512) 10 ≡ pos 4 *ℤ p
-    shifted (pos n) =
-        let e : pos 4096 *ℤ pos n +ℤ pos 512 ≡ pos (4096 * n + 512) = omega (arith, ints) in
-        let d : (4096 * n + 512) / 1024 ≡ 4 * n = omega arith in
-        ap (λ z. int_shr z 10) e ∙ ap pos d ∙ omega (arith, ints)
-    shifted (negsuc n) =
-        let e : pos 4096 *ℤ negsuc n +ℤ pos 512 ≡ negsuc (4096 * n + 3583) = omega (arith, ints) in
-        let d : (4096 * n + 3583) / 1024 ≡ 4 * n + 3 = omega arith in
-        ap (λ z. int_shr z 10) e ∙ ap negsuc d ∙ omega (arith, ints)
+four_of p low high = search (rules, int_wrap_fits)
 
 pub zero_column : (coefficients : List ℤ) (quantization : List ℕ) (row column : ℕ) → row < 8
     → is_flat_column coefficients column ≡ true
@@ -70,8 +52,4 @@ pub zero_column : (coefficients : List ℤ) (quantization : List ℕ) (row colum
     → column_value coefficients quantization row column
     ≡ int_shr (int_wrap w32 (transformed (λ k. dequantized coefficients quantization k column) row +ℤ pos 512)) 10
 zero_column coefficients quantization row column h flat low high =
-    flat_value coefficients quantization row column flat
-    ∙ four_of (dequantized coefficients quantization 0 column) low high
-    ∙ sym (ap (λ z. int_shr (int_wrap w32 (z +ℤ pos 512)) 10)
-    (transformed_one (λ k. dequantized coefficients quantization k column) row h
-    (λ k some hk. no_product coefficients quantization column k flat some hk)))
+    simp (flat_value, four_of, no_product, transformed_one)

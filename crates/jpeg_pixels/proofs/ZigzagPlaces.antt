@@ -1,9 +1,9 @@
 -- The places of the zigzag order.
+use Rattle.std.proofs.Common.{rules}
 use Rattle.std.proofs.Common.{◌≡◌, ℕ, ◌<◌, List, length, get_or, map, refl, sym, ◌∙◌, arith, true}
 use Rattle.std.proofs.lemmas.List.{ext_get_or, get_or-map, length-map}
 use Rattle.std.proofs.lemmas.List.Folds.{list_all_at}
-use Rattle.std.proofs.lemmas.Bool.{cases_lt, ltb-true, false_from_ne_true, false≢true}
-use Rattle.std.proofs.Math.Logic.{⊎_elim}
+use Rattle.std.proofs.lemmas.Bool.{cases_lt, ltb-true, false_from_ne_true}
 use Rattle.std.proofs.Math.Dec.{ltb}
 use Rattle.std.specs.List.{list_all}
 use Rattle.jpeg_bits.specs.Zigzag.{zigzag_places}
@@ -23,9 +23,7 @@ filled_by_places f xs d n each =
     each i lt ∙ sym (get_or-map f zigzag_places i 0 d within))
 
 each_below : (xs : List ℕ) (n : ℕ) → list_all (λ x. ltb x n) xs ≡ true → (i : ℕ) → i < length xs → get_or xs i 0 < n
-each_below xs n all i h = ⊎_elim (λ lt. lt)
-    (λ le. absurd (false≢true (sym (list_all_at (λ x. ltb x n) xs i 0 h (false_from_ne_true (ltb (get_or xs i 0) n)
-    (λ e. omega (arith, ltb-true (get_or xs i 0) n e)))) ∙ all))) (cases_lt (get_or xs i 0) n)
+each_below xs n all i h = search (rules, cases_lt, false_from_ne_true, get_or, list_all_at, ltb-true)
 
 -- each of them is a place
 pub place_lt : (place : ℕ) → place < 64 → get_or zigzag_places place 0 < 64

@@ -130,36 +130,37 @@ fn interleave_three(
     }
 }
 
+/// A row of each of four components.
+#[derive(Drop)]
+struct FourRows<'a> {
+    first: &'a [u8],
+    second: &'a [u8],
+    third: &'a [u8],
+    fourth: &'a [u8],
+}
+
 // Writes the pixels from `start` on, of four rows.
-fn interleave_four(
-    first: &[u8],
-    second: &[u8],
-    third: &[u8],
-    fourth: &[u8],
-    count: usize,
-    output: &mut [u8],
-    start: usize,
-)
-    requires first { count ≤ length first.now }
-    requires second { count ≤ length second.now }
-    requires third { count ≤ length third.now }
-    requires fourth { count ≤ length fourth.now }
+fn interleave_four(rows: &FourRows<'_>, count: usize, output: &mut [u8], start: usize)
+    requires first { count ≤ length rows.now.first.now }
+    requires second { count ≤ length rows.now.second.now }
+    requires third { count ≤ length rows.now.third.now }
+    requires fourth { count ≤ length rows.now.fourth.now }
     requires room { 4 * (start + count) ≤ length output.old }
     ensures first { (x : ℕ) → x < count → slice_index output.new (4 * (start + x))
-        ≡ slice_index first.now x }
+        ≡ slice_index rows.now.first.now x }
     ensures second { (x : ℕ) → x < count → slice_index output.new (4 * (start + x) + 1)
-        ≡ slice_index second.now x }
+        ≡ slice_index rows.now.second.now x }
     ensures third { (x : ℕ) → x < count → slice_index output.new (4 * (start + x) + 2)
-        ≡ slice_index third.now x }
+        ≡ slice_index rows.now.third.now x }
     ensures fourth { (x : ℕ) → x < count → slice_index output.new (4 * (start + x) + 3)
-        ≡ slice_index fourth.now x }
+        ≡ slice_index rows.now.fourth.now x }
     ensures before { (i : ℕ) → i < 4 * start → slice_index output.new i ≡ slice_index output.old i }
 {
     for x in 0..count {
-        output[4 * (start + x)] = first[x];
-        output[4 * (start + x) + 1] = second[x];
-        output[4 * (start + x) + 2] = third[x];
-        output[4 * (start + x) + 3] = fourth[x];
+        output[4 * (start + x)] = rows.first[x];
+        output[4 * (start + x) + 1] = rows.second[x];
+        output[4 * (start + x) + 2] = rows.third[x];
+        output[4 * (start + x) + 3] = rows.fourth[x];
     }
 }
 
@@ -248,7 +249,13 @@ fn write_ycck_piece(lines: &[u8], width: usize, start: usize, count: usize, outp
     green_row(lines, cb, cr, start, count, &mut green);
     blue_row(lines, cb, start, count, &mut blue);
     inverted_row(lines, 3 * width + start, count, &mut black);
-    interleave_four(&red, &green, &blue, &black, count, output, start);
+    let rows = FourRows {
+        first: &red,
+        second: &green,
+        third: &blue,
+        fourth: &black,
+    };
+    interleave_four(&rows, count, output, start);
 }
 
 // The inverse of each component of some pixels from `start` on.
@@ -276,7 +283,13 @@ fn write_cmyk_piece(lines: &[u8], width: usize, start: usize, count: usize, outp
     inverted_row(lines, width + start, count, &mut magenta);
     inverted_row(lines, 2 * width + start, count, &mut yellow);
     inverted_row(lines, 3 * width + start, count, &mut black);
-    interleave_four(&cyan, &magenta, &yellow, &black, count, output, start);
+    let rows = FourRows {
+        first: &cyan,
+        second: &magenta,
+        third: &yellow,
+        fourth: &black,
+    };
+    interleave_four(&rows, count, output, start);
 }
 
 /// Writes the pixels of a line of red, green and blue, whose components stand one after the other.

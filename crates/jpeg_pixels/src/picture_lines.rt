@@ -9,6 +9,17 @@ use crate::color_rows::{write_cmyk, write_rgb, write_ycbcr, write_ycck};
 use crate::upsampler::{ColorConvert, ComponentSource};
 use std::alloc::{AllocError, Global};
 
+/// A line of a picture, and the planes that it is made of.
+#[derive(Drop)]
+pub(crate) struct Line<'a> {
+    /// The plane of each component.
+    pub(crate) planes: &'a [Vec<u8>],
+    /// How many lines are above it.
+    pub(crate) row: usize,
+    /// How many pixels it has.
+    pub(crate) width: usize,
+}
+
 // Writes line `row` of a component, as wide as the picture.
 fn upsample_line(source: ComponentSource, plane: &[u8], row: usize, width: usize, line: &mut [u8])
     requires cover { Covers (source_in source) plane.now width (row + 1) }
@@ -26,53 +37,48 @@ fn upsample_line(source: ComponentSource, plane: &[u8], row: usize, width: usize
     );
 }
 
-// Writes line `row` of each component, each as wide as the picture, one after the other.
-fn upsample_lines(
-    components: &[ComponentSource],
-    planes: &[Vec<u8>],
-    row: usize,
-    width: usize,
-    lines: &mut [u8],
-)
-    requires planes { length planes.now ≡ length components.now }
-    requires cover { AllCover (map source_in components.now) (map (λ v. v.items) planes.now) width
-        (row + 1) }
-    requires room { length lines.old ≡ length components.now * width }
-    ensures { lines.new ≡ concat
-        (lines_of (map source_in components.now) (map (λ v. v.items) planes.now) width row) }
+// Writes a line of each component, each as wide as the picture, one after the other.
+fn upsample_lines(components: &[ComponentSource], line: &Line<'_>, lines: &mut [u8])
+    requires planes { length line.now.planes.now ≡ length components.now }
+    requires cover { AllCover (map source_in components.now)
+        (map (λ v. v.items) line.now.planes.now) line.now.width (line.now.row + 1) }
+    requires room { length lines.old ≡ length components.now * line.now.width }
+    ensures { lines.new ≡ concat (lines_of (map source_in components.now)
+        (map (λ v. v.items) line.now.planes.now) line.now.width line.now.row) }
 {
+    let planes = line.planes;
+    let width = line.width;
     for index in 0..components.len() {
         let start = index * width;
         upsample_line(
             components[index],
             &planes[index],
-            row,
+            line.row,
             width,
             &mut lines[start..start + width],
         );
     }
 }
 
-/// Writes line `row` of the picture. The lines of the components are put into the buffer `lines`.
+/// Writes a line of the picture. The lines of the components are put into the buffer `lines`.
 pub(crate) fn write_line(
     components: &[ComponentSource],
-    planes: &[Vec<u8>],
-    row: usize,
-    width: usize,
+    line: &Line<'_>,
     lines: &mut [u8],
     output: &mut [u8],
     color_convert: ColorConvert,
 )
-    requires planes { length planes.now ≡ length components.now }
-    requires cover { AllCover (map source_in components.now) (map (λ v. v.items) planes.now) width
-        (row + 1) }
+    requires planes { length line.now.planes.now ≡ length components.now }
+    requires cover { AllCover (map source_in components.now)
+        (map (λ v. v.items) line.now.planes.now) line.now.width (line.now.row + 1) }
     requires fits { IsFor (length components.now) color_convert }
-    requires lines_room { length lines.old ≡ length components.now * width }
-    requires room { length output.old ≡ length components.now * width }
+    requires lines_room { length lines.old ≡ length components.now * line.now.width }
+    requires room { length output.old ≡ length components.now * line.now.width }
     ensures { output.new ≡ picture_line color_convert (map source_in components.now)
-        (map (λ v. v.items) planes.now) width row }
+        (map (λ v. v.items) line.now.planes.now) line.now.width line.now.row }
 {
-    upsample_lines(components, planes, row, width, lines);
+    let width = line.width;
+    upsample_lines(components, line, lines);
     match color_convert {
         ColorConvert::None => output.copy_from_slice(lines),
         ColorConvert::Rgb => write_rgb(lines, width, output),
@@ -108,14 +114,13 @@ pub(crate) fn lines_from_above(
     for row in 0..height {
         let start = picture.len();
         picture.resize(start + line_size, 0)?;
-        let line = &mut picture[start..];
+        let output = &mut picture[start..];
+        let line = Line { planes, row, width };
         write_line(
             components,
-            planes,
-            row,
-            width,
+            &line,
             lines.as_mut_slice(),
-            line,
+            output,
             color_convert,
         );
     }

@@ -4,7 +4,7 @@ ghost use Rattle.jpeg_bits.specs.Reading.{Gives, NamesFormat};
 ghost use Rattle.jpeg_pixels.specs.Upsampling.{upsampled, across, down};
 ghost use Rattle.jpeg_pixels.specs.Colour.{conversion_of};
 
-use crate::picture_lines::{lines_from_above, write_line};
+use crate::picture_lines::{Line, lines_from_above, write_line};
 use crate::sources::component_sources;
 use crate::upsample_rows::{
     far_line, line_at, repeat_samples, upsample_row_h1v2, upsample_row_h2v1, upsample_row_h2v2,
@@ -246,15 +246,12 @@ impl Upsampler {
         let mut lines = vec![in self.alloc; 0; output.len()]?;
         let components = self.components.as_slice();
         let lines = lines.as_mut_slice();
-        write_line(
-            components,
-            component_data,
+        let line = Line {
+            planes: component_data,
             row,
-            output_width,
-            lines,
-            output,
-            color_convert,
-        );
+            width: output_width,
+        };
+        write_line(components, &line, lines, output, color_convert);
         Ok(())
     }
 

@@ -1,5 +1,5 @@
-use Rattle.std.proofs.Common.{◌≡◌, ◌+◌, ◌*◌, ◌++◌, ◌∙◌, ap, ap₂, sym, arith, map, drop, List, ℕ, replicate}
-use Rattle.std.proofs.Common.{append_assoc, append-nil}
+use Rattle.std.proofs.Common.{◌≡◌, ◌+◌, ◌*◌, ◌++◌, ◌∙◌, ap, ap₂, sym, map, drop, List, ℕ, replicate}
+use Rattle.std.proofs.Common.{append_assoc, append-nil, rules}
 use Rattle.std.proofs.lemmas.List.{length-map}
 use Rattle.jpeg_bits.specs.Codes.{Table}
 use Rattle.jpeg_lossless.specs.Codings.{part_in}
@@ -23,8 +23,4 @@ loop-left-init c =
     ∙ c.loop-i.invariant
 
 pub returns : goal.returns
-returns c =
-    let parts = c.args.parts.now in
-    let front = map (λ t. t.now) c.loop-i.tables.items in
-    sym (ap (λ (l : List Table). front ++ l) (tables_none (map part_in parts) c.loop-i.i
-    (omega (arith, length-map parts part_in))) ∙ append-nil front) ∙ c.loop-i.invariant
+returns c = search (rules, append-nil, length-map, tables_none)

@@ -1,4 +1,4 @@
-use Rattle.std.proofs.Common.{◌≡◌, ◌≤◌, ◌<◌, ◌+◌, ◌++◌, ◌∷◌, ◌∙◌, ap, sym, arith, drop, length, length-set}
+use Rattle.std.proofs.Common.{◌≡◌, ◌<◌, ◌+◌, ◌++◌, ◌∷◌, ◌∙◌, ap, sym, arith, drop, length, length-set}
 use Rattle.std.proofs.Common.{map, take, rules, List, ℕ}
 use Rattle.std.proofs.Common.{append-nil, slice_index_or, Vec, Global}
 use Rattle.std.proofs.lemmas.List.{length-map, map-set, take_all}
@@ -6,7 +6,7 @@ use Rattle.std.specs.List.{AllByRecursion}
 use Rattle.jpeg_segments.specs.Frame.{AllHaveSampling, Frame}
 use Rattle.jpeg_segments.specs.FrameView.{component_in, frame_in}
 use Rattle.jpeg_segments.specs.declared.parser.Component.{Component}
-use Rattle.jpeg_lossless.specs.Pictures.{ArePlanesOf, Layer, Reaches, factors_of, layer_of, layers_of, lines_across}
+use Rattle.jpeg_lossless.specs.Pictures.{ArePlanesOf, Layer, Reaches, layer_of, layers_of, lines_across}
 use Rattle.jpeg_lossless.proofs.ImageLoops.{IsPixelOf, greatest-some, layers_none, layers_step, pixels-at, planes-count}
 use Rattle.jpeg_lossless.proofs.RowLoops.{mapped-at, mapped-within}
 use Rattle.jpeg_lossless.proofs.StretchedLines.{factor_most, line_inside, line_reaches, lines_more, lines_none}
@@ -16,9 +16,7 @@ use Rattle.jpeg_lossless.proofs.picture.stretch_all.Goals as goal
 -- as many components as planes
 within-components : (cs : List Component) (planes : List (Vec ℕ Global)) (i : ℕ)
     → ArePlanesOf (map component_in cs) (map (λ v. v.items) planes) → i < length planes → i < length cs
-within-components cs planes i w h =
-    let count = planes-count (map component_in cs) (map (λ v. v.items) planes) w in
-    omega (arith, h, count, length-map cs component_in, length-map planes (λ v. v.items))
+within-components cs planes i w h = search (rules, length-map, planes-count)
 
 component-at : (frame : Frame) (cs : List Component) (planes : List (Vec ℕ Global)) (i : ℕ) (r : Component)
     (p : Vec ℕ Global) → ArePlanesOf (map component_in cs) (map (λ v. v.items) planes)
@@ -31,15 +29,10 @@ component-at frame cs planes i r p w reaches sampling h e f =
     (mapped-at component_in cs i r e) (mapped-at (λ v. v.items) planes i p f)
 
 pub index-component-requires : goal.index-component-requires
-index-component-requires c =
-    let cs = c.args.frame.now.components in
-    let h = within-components cs.items c.args.planes.now c.loop-i.i c.requires.whole c.loop-i-test.true in
-    omega (arith, h, cs.ok.0)
+index-component-requires c = search (rules, within-components)
 
 pub line_of-own-requires-clause-some : goal.line_of-own-requires-clause-some
-line_of-own-requires-clause-some c =
-    let some = greatest-some (λ f. f.vertical) (factors_of (frame_in c.args.frame.now)) in
-    omega (arith, some, c.requires.vertical)
+line_of-own-requires-clause-some c = search (rules, greatest-some)
 
 pub line_of-own-requires-clause-long : goal.line_of-own-requires-clause-long
 line_of-own-requires-clause-long c =
@@ -133,22 +126,4 @@ loop-i-preserved c =
     }
 
 pub returns-clause-lines : goal.returns-clause-lines
-returns-clause-lines c =
-    let a = c.args in
-    let frame = frame_in a.frame.now in
-    let grids = map (λ v. v.items) a.planes.now in
-    let lines = map (λ v. v.items) c.loop-i.lines in
-    let i = c.loop-i.i in
-    let count = length-map a.planes.now (λ v. v.items) in
-    let long : length lines ≤ i = omega (
-      arith,
-      c.loop-i-test.false,
-      c.loop-i.invariant.count,
-      length-map c.loop-i.lines (λ v. v.items),
-    ) in
-    let none = layers_none i frame.components grids (omega (arith, count, c.loop-i-test.false)) in
-    let across : List Layer → List (List ℕ) = λ l. lines_across a.horizontal a.vertical frame.width l a.y in
-    sym (ap (λ (l : List (List ℕ)). take i lines ++ l)
-    (ap across none ∙ lines_none a.horizontal a.vertical frame.width a.y)
-    ∙ append-nil (take i lines) ∙ take_all i lines long)
-    ∙ c.loop-i.invariant.lines
+returns-clause-lines c = search (rules, append-nil, layers_none, length-map, lines_none, take_all)

@@ -1,5 +1,5 @@
 use Rattle.std.proofs.Common.{◌≡◌, ◌<◌, ◌*◌, ◌++◌, ◌+◌, ◌∙◌, ap, ap₂, sym, arith, map, take, drop}
-use Rattle.std.proofs.Common.{length, length-set, List, ℕ, slice_index_or}
+use Rattle.std.proofs.Common.{length, length-set, List, ℕ, slice_index_or, rules}
 use Rattle.std.proofs.Math.ListN as lists
 use Rattle.std.proofs.lemmas.List.{length-map, map-set}
 use Rattle.jpeg_lossless.specs.Codings.{part_in}
@@ -43,8 +43,4 @@ loop-i-preserved c =
     }
 
 pub returns-clause-planes : goal.returns-clause-planes
-returns-clause-planes c =
-    let parts = map part_in c.args.parts.now in
-    let old = map (λ v. v.items) c.loop-i.planes in
-    let count : length old ≡ length c.loop-i.planes = length-map c.loop-i.planes (λ v. v.items) in
-    sym (cut_none c.args.point_transform parts old c.loop-i.i (omega (arith, count))) ∙ c.loop-i.invariant.planes
+returns-clause-planes c = search (rules, cut_none, length-map)

@@ -1,14 +1,11 @@
-use Rattle.jpeg_pixels.specs.Samples.{column_value, dequantized}
+use Rattle.std.proofs.Common.{rules}
+use Rattle.jpeg_pixels.specs.Samples.{column_value}
 use Rattle.jpeg_pixels.proofs.LaneRows.{turned_numbers, sums_numbers}
 use Rattle.jpeg_pixels.proofs.Corners.{zero_rows, no_product_below, no_value_right}
 use Rattle.jpeg_pixels.proofs.arch.transform_corner.Goals as goal
 
 pub with_zeros-inputs-requires : goal.with_zeros-inputs-requires
-with_zeros-inputs-requires c =
-    let coefficients = c.args.coefficients in
-    let quantization = c.args.quantization_table.now in
-    zero_rows c.dequantized_rows.result (dequantized coefficients quantization) c.dequantized_rows.ensures
-    (no_product_below coefficients quantization c.requires)
+with_zeros-inputs-requires c = search (rules, no_product_below, zero_rows)
 
 pub with_zeros-requires : goal.with_zeros-requires
 with_zeros-requires c =

@@ -1,8 +1,6 @@
-use Rattle.std.proofs.Common.{◌≡◌, ℤ, pos, ◌+ℤ◌, ◌*ℤ◌, ap, ◌∙◌, arith, to_z, of_z}
-use Rattle.std.proofs.lemmas.Int.{ints}
-use Rattle.std.specs.Int.{w32, int_shr}
-use Rattle.jpeg_pixels.specs.Samples.{clamped}
-use Rattle.jpeg_pixels.specs.Colour.{luma_of, centred_of, red_of}
+use Rattle.std.proofs.Common.{ℤ, to_z, of_z, rules}
+use Rattle.std.specs.Int.{w32}
+use Rattle.jpeg_pixels.specs.Colour.{red_of}
 use Rattle.jpeg_pixels.proofs.color_rows.red.Goals as goal
 
 -- an `i32` that went to its bits and back
@@ -11,9 +9,4 @@ kept z = to_z w32 (of_z w32 z)
 
 pub returns : goal.returns
 unfolding red_of
-returns c =
-    let y = c.luma-y.ensures in
-    let v = c.centred-cr.ensures in
-    let sum : kept (kept c.luma-y.result +ℤ kept (pos 1470104 *ℤ kept c.centred-cr.result)) ≡ luma_of c.args.y
-    +ℤ pos 1470104 *ℤ centred_of c.args.cr = omega (arith, ints, y, v) in
-    c.scaled_down.ensures ∙ ap (λ z. clamped (int_shr z 20)) sum
+returns c = search rules

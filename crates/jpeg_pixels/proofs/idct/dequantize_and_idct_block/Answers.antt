@@ -1,4 +1,4 @@
-use Rattle.std.proofs.Common.{◌≡◌, arith}
+use Rattle.std.proofs.Common.{rules}
 use Rattle.jpeg_pixels.proofs.AtScales.{at_8, at_4, at_2, at_1}
 use Rattle.jpeg_pixels.proofs.idct.dequantize_and_idct_block.Goals as goal
 
@@ -12,6 +12,4 @@ pub returns-in-2 : goal.returns-in-2
 returns-in-2 c = at_2 c.args.scale c.args.output_linestride _ _ _ _ c.in-2.is c.dequantize_and_idct_block_2x2.ensures
 
 pub returns-in_default : goal.returns-in_default
-returns-in_default c =
-    let one : c.args.scale ≡ 1 = omega arith in
-    at_1 c.args.scale c.args.output_linestride _ _ _ _ one c.dequantize_and_idct_block_1x1.ensures
+returns-in_default c = search (rules, at_1)

@@ -1,5 +1,5 @@
 use Rattle.std.proofs.Common.{◌≡◌, ◌<◌, ◌+◌, ℕ, ℤ, pos, ◌+ℤ◌, length, List, slice_index_or, arith, rules, FitsSigned}
-use Rattle.std.proofs.Common.{ap, ◌∙◌, sym, refl, ◌≢◌, ◌-◌, get_or-set_other, lit<, take, drop, length-drop}
+use Rattle.std.proofs.Common.{ap, ◌∙◌, sym, refl, ◌-◌, get_or-set_other, lit<, take, drop, length-drop}
 use Rattle.std.proofs.Math.Seq.{take-length}
 use Rattle.std.proofs.lemmas.List.{get_or-drop}
 use borrow.Rule.Slice.PartMut.{mid_of}
@@ -19,16 +19,7 @@ returns-clause-inside c = λ x h.
     c.kernel-sums.ensures x h)
 
 pub samples-preserved : goal.samples-preserved
-samples-preserved c =
-    let x = c.samples.x in
-    let sum = slice_index_or c.kernel-sums.result x (pos 0) in
-    let fits : FitsSigned w32 sum = search rules in (
-      set_next c.samples.output x c.sample_of.result 0
-          (λ j. clamped (int_shr (slice_index_or c.kernel-sums.result j (pos 0)) 17)) (omega arith)
-          c.samples.invariant.0
-          (c.sample_of.ensures ∙ ap (λ z. clamped (int_shr z 17)) (to_z-of_z w32 sum fits)),
-      λ i h. let ne : i ≢ x = omega arith in rw get_or-set_other (c.samples.invariant.1 i h),
-    )
+samples-preserved c = search (rules, get_or-set_other, set_next, slice_index_or, to_z-of_z)
 
 pub returns-then-is_zero-clause-inside : goal.returns-then-is_zero-clause-inside
 returns-then-is_zero-clause-inside c = λ x h.

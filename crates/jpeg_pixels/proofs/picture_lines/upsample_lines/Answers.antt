@@ -1,9 +1,9 @@
-use Rattle.std.proofs.Common.{◌≡◌, ◌+◌, ◌*◌, ◌<◌, ◌≤◌, [], length, map, take, get_or, ap, sym, ◌∙◌, arith}
+use Rattle.std.proofs.lemmas.Grind.{common_steps}
+use Rattle.std.proofs.Common.{◌≡◌, ◌+◌, ◌*◌, ◌<◌, ◌≤◌, [], length, map, get_or, ap, sym, ◌∙◌, arith}
 use Rattle.std.proofs.Math.Nat.{mul-le-mul_right}
 use Rattle.std.proofs.Math.ListN as lists
 use Rattle.std.proofs.Math.Seq.{take-length}
 use Rattle.std.proofs.lemmas.List.{get_or-map, length-map}
-use Rattle.std.specs.List.{concat}
 use Rattle.jpeg_pixels.specs.declared.upsampler.ComponentSource.{ComponentSource}
 use Rattle.jpeg_pixels.specs.declared.upsampler.UpsampleRule.TheVariants.{H1V1}
 use Rattle.jpeg_pixels.specs.Pictures.{lines_of}
@@ -15,20 +15,15 @@ use Rattle.jpeg_pixels.proofs.picture_lines.upsample_lines.Goals as goal
 abbrev none : ComponentSource
 none = record { rule = H1V1; width = 0; height = 0; row_stride = 0 }
 
-pub loop-index-init : goal.loop-index-init
-loop-index-init c =
-    let nothing : 0 * c.args.width ≡ 0 = omega arith in
-    ap (λ n. take n c.args.lines.now) nothing
-
 pub upsample_line-requires-clause-cover : goal.upsample_line-requires-clause-cover
 upsample_line-requires-clause-cover c =
     let index = c.loop-index.index in
     let components = c.args.components.now in
-    let planes = c.args.planes.now in
+    let planes = c.args.line.now.planes.now in
     let inside : index < length planes = omega arith in
     let counts : length (map (λ v. v.items) planes) ≡ length (map source_in components) =
     length-map planes (λ v. v.items) ∙ c.requires.planes ∙ sym (length-map components source_in) in
-    cover-of (map source_in components) (map (λ v. v.items) planes) c.args.width (c.args.row + 1) index (source_in none)
+    cover-of (map source_in components) (map (λ v. v.items) planes) c.args.line.now.width (c.args.line.now.row + 1) index (source_in none)
     (source_in (get_or components index none)) c.deref.result.now
     counts c.requires.cover (omega (arith, length-map components source_in)) (lists.get_or-map source_in components
     index none)
@@ -39,9 +34,9 @@ pub loop-index-preserved : goal.loop-index-preserved
 loop-index-preserved c =
     let index = c.loop-index.index in
     let components = c.args.components.now in
-    let planes = c.args.planes.now in
-    let width = c.args.width in
-    let row = c.args.row in
+    let planes = c.args.line.now.planes.now in
+    let width = c.args.line.now.width in
+    let row = c.args.line.now.row in
     let inside : index < length planes = omega arith in
     let sources = map source_in components in
     let counts : length (map (λ v. v.items) planes) ≡ length sources = length-map planes (λ v. v.items)
@@ -62,17 +57,4 @@ loop-index-preserved c =
     (omega (arith, c.upsample_line.auto.line)) (c.upsample_line.ensures ∙ sym line) c.loop-index.invariant
 
 pub returns : goal.returns
-returns c =
-    let components = c.args.components.now in
-    let planes = c.args.planes.now in
-    let sources = map source_in components in
-    let counts : length (map (λ v. v.items) planes) ≡ length sources = length-map planes (λ v. v.items)
-    ∙ c.requires.planes ∙ sym (length-map components source_in) in
-    let all = lines_of sources (map (λ v. v.items) planes) c.args.width c.args.row in
-    let done : c.loop-index.index ≡ length components = omega arith in
-    let whole : c.loop-index.index * c.args.width ≡ length c.loop-index.lines = ap (λ n. n * c.args.width) done
-    ∙ sym c.requires.room ∙ sym c.loop-index.auto.lines in
-    let count : c.loop-index.index ≡ length all = done ∙ sym (length-map components source_in)
-    ∙ sym (lines_of-length sources (map (λ v. v.items) planes) c.args.width c.args.row counts) in
-    sym (take-length c.loop-index.lines) ∙ ap (λ n. take n c.loop-index.lines) (sym whole) ∙ c.loop-index.invariant
-    ∙ ap (λ n. concat (take n all)) count ∙ ap concat (take-length all)
+returns c = grind (arith, common_steps, length-map, lines_of-length, take-length)

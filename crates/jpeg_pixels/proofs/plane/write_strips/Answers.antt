@@ -1,14 +1,10 @@
-use Rattle.std.proofs.Common.{◌≡◌, ◌*◌, length, take, arith, sym, ap, ◌∙◌, ℕ}
+use Rattle.std.proofs.Common.{length, arith, rules}
 use Rattle.jpeg_pixels.proofs.PlaneRows.{plane-none}
 use Rattle.jpeg_pixels.proofs.RowsOfBlocks.{rows_next, row_has_room}
 use Rattle.jpeg_pixels.proofs.plane.write_strips.Goals as goal
 
 pub loop-row-init : goal.loop-row-init
-loop-row-init c =
-    let s = c.args.scale in
-    let none : 0 * (s * s * c.args.blocks_wide) ≡ 0 = omega arith in
-    ap (λ (n : ℕ). take n c.args.strips.now) none
-    ∙ sym (plane-none s c.args.quantization_table.now c.args.blocks_wide _)
+loop-row-init c = search (rules, plane-none)
 
 pub slice_bounds-write_strip-end : goal.slice_bounds-write_strip-end
 slice_bounds-write_strip-end c =

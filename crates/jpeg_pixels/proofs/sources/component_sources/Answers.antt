@@ -1,5 +1,5 @@
 use Rattle.std.proofs.Common.{◌≡◌, ◌+◌, ◌<◌, List, [], ◌∷◌, ◌++◌, length, get_or, map, drop, ap, sym, ◌∙◌, arith, subst}
-use Rattle.std.proofs.Common.{add-one, drop-cons, Result}
+use Rattle.std.proofs.Common.{add-one, drop-cons, Result, rules}
 use Rattle.std.proofs.Math.ListN.{drop_of_length-le}
 use Rattle.std.proofs.Math.ListN as lists
 use Rattle.std.proofs.lemmas.List.{map-append, length-map}
@@ -27,11 +27,7 @@ none = record {
 }
 
 pub loop-component-init : goal.loop-component-init
-loop-component-init c =
-    let all = sources_by c.greatest_horizontal-greatest_h.result c.greatest_vertical-greatest_v.result
-    c.args.output_width c.args.output_height (map component_in c.args.components.now) in
-    subst (λ (l : List ComponentSource). Continues (map source_in l) all all) (sym c.in_ok-sources.ensures.items)
-    (sources-start all)
+loop-component-init c = search (rules, sources-start)
 
 pub component_source-requires : goal.component_source-requires
 component_source-requires c =
@@ -92,18 +88,4 @@ returns-in_err-source c =
     height (map component_in components)) names)
 
 pub returns : goal.returns
-returns c =
-    let components = c.args.components.now in
-    let h = c.greatest_horizontal-greatest_h.result in
-    let v = c.greatest_vertical-greatest_v.result in
-    let width = c.args.output_width in
-    let height = c.args.output_height in
-    let before = map source_in c.loop-component.sources.items in
-    let all = sources_by h v width height (map component_in components) in
-    let nothing : drop c.loop-component.component-index components ≡ [] =
-    drop_of_length-le components c.loop-component-test.false in
-    (λ i. sources_by (sym c.greatest_horizontal-greatest_h.ensures i) (sym c.greatest_vertical-greatest_v.ensures i)
-    width height (map component_in components))
-    ∙ sources-end h v width height before all
-    (subst (λ (l : List Component). Continues before (sources_by h v width height (map component_in l)) all) nothing
-    c.loop-component.invariant)
+returns c = search (rules, drop_of_length-le, sources-end)

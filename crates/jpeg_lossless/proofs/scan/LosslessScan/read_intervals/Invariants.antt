@@ -7,12 +7,12 @@ use Rattle.jpeg_lossless.proofs.scan.LosslessScan.read_intervals.Given as goal
 abbrev pub invariant-loop-left : goal.invariant-loop-left
 invariant-loop-left g l = record {
   count : length l.self.planes.items ≡ length l.fn.self.planes.items;
-  turns : l.number + l.left ≤ l.coding.high;
-  long : (k : ℕ) → AreGrown k (map part_in l.parts) (map (λ v. v.items) l.fn.self.planes.items)
-      → AreGrown (k + (l.coding.high - l.left)) (map part_in l.parts) (map (λ v. v.items) l.self.planes.items);
-  reads : Continues (planes_intervals (l.coding.high + 1) (way_by l.coding (map part_in l.parts)) l.rows 0
-      l.coding.high (map (λ v. v.items) l.fn.self.planes.items)) l.fn.source
-      (planes_intervals (l.coding.high + 1 - l.number) (way_by l.coding (map part_in l.parts)) l.rows
+  turns : l.number + l.left ≤ l.coding.scan.high;
+  long : (k : ℕ) → AreGrown k (map part_in l.coding.parts.now) (map (λ v. v.items) l.fn.self.planes.items)
+      → AreGrown (k + (l.coding.scan.high - l.left)) (map part_in l.coding.parts.now) (map (λ v. v.items) l.self.planes.items);
+  reads : Continues (planes_intervals (l.coding.scan.high + 1) (way_by l.coding.scan (map part_in l.coding.parts.now)) l.rows 0
+      l.coding.scan.high (map (λ v. v.items) l.fn.self.planes.items)) l.fn.source
+      (planes_intervals (l.coding.scan.high + 1 - l.number) (way_by l.coding.scan (map part_in l.coding.parts.now)) l.rows
       l.number l.left (map (λ v. v.items) l.self.planes.items)) l.source;
 }
 

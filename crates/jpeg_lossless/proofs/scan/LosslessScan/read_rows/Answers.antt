@@ -1,24 +1,26 @@
-use Rattle.std.proofs.Common.{◌≡◌, refl, ◌+◌, ◌-◌, Bool, subst, ◌∙◌, ap, ap₂, sym, map, length, ℕ, List}
-use Rattle.std.proofs.Common.{Vec, Global, take, drop, ◌++◌, true, false, arith}
+use Rattle.std.proofs.Common.{◌≡◌, ◌+◌, ◌-◌, Bool, subst, ◌∙◌, ap, ap₂, sym, map, length, ℕ, List}
+use Rattle.std.proofs.Common.{Vec, Global, take, drop, ◌++◌, true, false, arith, rules}
 use Rattle.std.proofs.lemmas.List.{length-map}
 use Rattle.std.proofs.lemmas.Result.{err_from_is_err_and}
-use Rattle.jpeg_lossless.specs.Differences.{differences, row_tables}
+use Rattle.jpeg_lossless.specs.Differences.{differences, mcu_tables, row_tables}
 use Rattle.jpeg_lossless.specs.Rows.{planes_after_rows, with_row}
 use Rattle.jpeg_lossless.specs.Codings.{part_in, way_by}
 use Rattle.jpeg_lossless.specs.PlanesRead.{AreGrown}
 use Rattle.jpeg_lossless.specs.Scans.{mcu_size}
 use Rattle.jpeg_bits.specs.Codes.{Table}
 use Rattle.jpeg_bits.specs.declared.scan.Predictor.{Predictor}
-use Rattle.jpeg_lossless.proofs.Leaves.{Leaves-step, Leaves-refused, Leaves-done}
+use Rattle.jpeg_lossless.proofs.Leaves.{Leaves-step, Leaves-refused}
 use Rattle.jpeg_lossless.proofs.PlaneLoops.{planes_more, planes_refused, planes_none}
-use Rattle.jpeg_lossless.proofs.Sizes.{grown-as, one-row, none-yet, written-back}
+use Rattle.jpeg_lossless.proofs.Sizes.{grown-as, one-row, written-back}
 use Rattle.jpeg_lossless.proofs.scan.LosslessScan.read_rows.Goals as goal
 
 pub returns-in_err-read_row-clause-reads : goal.returns-in_err-read_row-clause-reads
 returns-in_err-read_row-clause-reads g c =
+    let listed : map (λ t. t.now) c.as_slice-tables.result.now ≡ mcu_tables (map part_in c.args.coding.now.parts.now) =
+    ap (map (λ t. t.now)) c.as_slice-tables.ensures.value ∙ c.args.coding.now.listed in
     let e = err_from_is_err_and c.from_residual.result c.from_residual.ensures.1 in
-    let tables = map (λ t. t.now) c.args.tables.now in
-    let v = way_by c.args.coding (map part_in c.args.parts.now) in
+    let tables = map (λ t. t.now) c.as_slice-tables.result.now in
+    let v = way_by c.args.coding.now.scan (map part_in c.args.coding.now.parts.now) in
     let planes = map (λ v. v.items) c.loop-left.self.planes.items in
     rw (e.1, e.2) (Leaves-refused (planes_after_rows v true c.args.count
     (map (λ v. v.items) c.args.self.now.planes.items))
@@ -29,19 +31,21 @@ returns-in_err-read_row-clause-reads g c =
     (λ (u : Unit {0}). c.read_row.new.row.items) (λ (u : Unit {0}). planes) _
     (λ t f h. planes_refused v c.loop-left.is_first c.loop-left.left planes t f c.loop-left-test.true
     (ap₂ (λ (n : ℕ) (l : List Table). differences (row_tables n l) t) (sym c.from-wide.ensures)
-    (sym c.requires.tables) ∙ h))
+    (sym listed) ∙ h))
     c.loop-left.invariant.reads c.in_err-read_row.ensures.reads)
 
 pub loop-left-preserved : goal.loop-left-preserved
 loop-left-preserved g c =
-    let tables = map (λ t. t.now) c.args.tables.now in
-    let coding = c.args.coding in
-    let parts = map part_in c.args.parts.now in
+    let listed : map (λ t. t.now) c.as_slice-tables.result.now ≡ mcu_tables (map part_in c.args.coding.now.parts.now) =
+    ap (map (λ t. t.now)) c.as_slice-tables.ensures.value ∙ c.args.coding.now.listed in
+    let tables = map (λ t. t.now) c.as_slice-tables.result.now in
+    let coding = c.args.coding.now.scan in
+    let parts = map part_in c.args.coding.now.parts.now in
     let v = way_by coding parts in
     let first = c.loop-left.is_first in
     let planes = map (λ v. v.items) c.loop-left.self.planes.items in
     let was = c.loop-left.self.planes in
-    let back : c.as_mut_slice.result.now ≡ was.items = c.as_mut_slice.ensures.value in
+    let back : c.as_mut_slice-planes.result.now ≡ was.items = c.as_mut_slice-planes.ensures.value in
     let old-long : length was.items ≡ was.len = sym was.ok.0 in
     let new-long : length c.add_row.new.planes ≡ was.len = c.add_row.ensures.count ∙ ap length back ∙ old-long in
     let held = written-back was.len c.add_row.new.planes was.items new-long old-long in
@@ -50,15 +54,15 @@ loop-left-preserved g c =
     let same : next ≡ map (λ v. v.items) c.add_row.new.planes = ap (map (λ v. v.items)) held in
     let row = c.read_row.new.row.items in
     let grid = λ (l : List (Vec ℕ Global)). map (λ v. v.items) l in
-    let size : length c.args.tables.now ≡ mcu_size v =
-    sym (length-map c.args.tables.now (λ t. t.now)) ∙ ap (λ (l : List Table). length l) c.requires.tables in
+    let size : length c.as_slice-tables.result.now ≡ mcu_size v =
+    sym (length-map c.as_slice-tables.result.now (λ t. t.now)) ∙ ap (λ (l : List Table). length l) listed in
     let made : Predictor → ℕ → Bool → ℕ → ℕ → List ℕ → List (Vec ℕ Global) → List (List ℕ) =
     λ p s f n k r l. with_row p s f n k r 0 parts (grid l) in
     let grown : next ≡ with_row v.selection v.start first v.wide (mcu_size v) row 0 parts planes
     = same ∙ c.in_ok-add_row.ensures.planes
-    ∙ ap₂ (λ (s n : ℕ). made coding.predictor s first n (length c.args.tables.now) c.deref.result.now
-    c.as_mut_slice.result.now) c.start_of.ensures c.from-wide.ensures
-    ∙ ap₂ (λ (k : ℕ) (r : List ℕ). made coding.predictor v.start first v.wide k r c.as_mut_slice.result.now) size
+    ∙ ap₂ (λ (s n : ℕ). made coding.predictor s first n (length c.as_slice-tables.result.now) c.deref.result.now
+    c.as_mut_slice-planes.result.now) c.start_of.ensures c.from-wide.ensures
+    ∙ ap₂ (λ (k : ℕ) (r : List ℕ). made coding.predictor v.start first v.wide k r c.as_mut_slice-planes.result.now) size
     c.deref.ensures.value
     ∙ ap (λ (l : List (Vec ℕ Global)). made coding.predictor v.start first v.wide (mcu_size v) row l) back in
     record {
@@ -77,32 +81,9 @@ loop-left-preserved g c =
           (λ (u : Unit {0}). row) tt
           (λ t u h. planes_more v first c.loop-left.left planes next row t u c.loop-left-test.true grown
           (ap₂ (λ (n : ℕ) (l : List Table). differences (row_tables n l) t) (sym c.from-wide.ensures)
-          (sym c.requires.tables) ∙ h))
+          (sym listed) ∙ h))
           c.loop-left.invariant.reads c.in_ok-read_row.ensures.reads;
     }
 
 pub returns-clause-reads : goal.returns-clause-reads
-returns-clause-reads g c =
-    let tables = map (λ t. t.now) c.args.tables.now in
-    let v = way_by c.args.coding (map part_in c.args.parts.now) in
-    let planes = map (λ v. v.items) c.loop-left.self.planes.items in
-    Leaves-done (planes_after_rows v true c.args.count (map (λ v. v.items) c.args.self.now.planes.items))
-    (planes_after_rows v c.loop-left.is_first c.loop-left.left planes) c.args.decoder.now c.loop-left.decoder
-    c.args.source.now c.loop-left.source
-    (λ (u : Unit {0}). planes) tt (λ t. planes_none v c.loop-left.is_first c.loop-left.left planes t
-    (omega arith)) c.loop-left.invariant.reads
-
-pub loop-left-init : goal.loop-left-init
-loop-left-init g c = record {
-  count = refl;
-  left = omega arith;
-  long = λ k w. grown-as k _ (map part_in c.args.parts.now) (map (λ v. v.items) c.args.self.now.planes.items)
-      (none-yet k c.args.count) w;
-  reads = (refl, λ known. (known, refl));
-}
-
-pub returns-clause-long : goal.returns-clause-long
-returns-clause-long g c = λ k w.
-    let e : c.args.count - c.loop-left.left ≡ c.args.count = omega arith in
-    subst (λ (n : ℕ). AreGrown (k + n) (map part_in c.args.parts.now) (map (λ v. v.items) c.loop-left.self.planes.items))
-    e (c.loop-left.invariant.long k w)
+returns-clause-reads g c = search (rules, planes_none)

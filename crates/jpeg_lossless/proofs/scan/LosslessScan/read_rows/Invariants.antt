@@ -9,11 +9,11 @@ abbrev pub invariant-loop-left : goal.invariant-loop-left
 invariant-loop-left g l = record {
   count : length l.self.planes.items ≡ length l.fn.self.planes.items;
   left : l.left ≤ l.count;
-  long : (k : ℕ) → AreGrown k (map part_in l.parts) (map (λ v. v.items) l.fn.self.planes.items)
-      → AreGrown (k + (l.count - l.left)) (map part_in l.parts) (map (λ v. v.items) l.self.planes.items);
-  reads : Leaves (planes_after_rows (way_by l.fn.coding (map part_in l.parts)) true l.count
+  long : (k : ℕ) → AreGrown k (map part_in l.coding.parts.now) (map (λ v. v.items) l.fn.self.planes.items)
+      → AreGrown (k + (l.count - l.left)) (map part_in l.coding.parts.now) (map (λ v. v.items) l.self.planes.items);
+  reads : Leaves (planes_after_rows (way_by l.coding.scan (map part_in l.coding.parts.now)) true l.count
       (map (λ v. v.items) l.fn.self.planes.items)) l.fn.decoder l.fn.source
-      (planes_after_rows (way_by l.fn.coding (map part_in l.parts)) l.is_first l.left
+      (planes_after_rows (way_by l.coding.scan (map part_in l.coding.parts.now)) l.is_first l.left
       (map (λ v. v.items) l.self.planes.items)) l.decoder l.source;
 }
 

@@ -1,14 +1,10 @@
+use Rattle.std.proofs.lemmas.Grind.{common_steps}
 use Rattle.std.proofs.Common.{◌+◌, ◌-◌, ◌*◌, ◌/◌, ◌∙◌, length, arith}
 use Rattle.jpeg_pixels.proofs.Growing.{grown_fits, grown_is, row_fits, row_of_chunks}
 use Rattle.jpeg_pixels.proofs.growing_plane.GrowingPlane.append.Goals as goal
 
 pub invariant_of-self : goal.invariant_of-self
-invariant_of-self c =
-    let p = c.self.inside in
-    let size = p.scale * p.blocks_wide * (p.scale * p.rows) in
-    let room = row_fits p c.args.self.now c.args.coefficients.now c.self.view_is c.self.invariant c.requires in
-    grown_fits p size (p.written + size - p.written) c.deref_mut.result.now c.write_strips.new.strips
-    c.deref_mut.ensures.value (omega arith) room.0 (omega arith) c.self.invariant
+invariant_of-self c = grind (arith, common_steps, grown_fits, row_fits)
 
 pub returns : goal.returns
 returns c =

@@ -1,5 +1,5 @@
-use Rattle.std.proofs.Common.{ℕ, ◌+◌, ◌*◌, ◌/◌, ◌≤◌, ◌∙◌, arith, ap, subst, slice_index, get_or, List, length}
-use Rattle.std.proofs.Common.{length-take}
+use Rattle.std.proofs.Common.{ℕ, ◌+◌, ◌*◌, ◌/◌, ◌≤◌, ◌∙◌, arith, ap, subst, slice_index, get_or, length}
+use Rattle.std.proofs.Common.{length-take, rules}
 use Rattle.std.specs.Int.{div_ceil}
 use Rattle.jpeg_pixels.specs.Upsampling.{across}
 use Rattle.jpeg_pixels.proofs.UpsampledRows.{in_front, as_h1v1, as_h2v1, as_h1v2, as_h2v2, as_generic, repeated_within}
@@ -7,48 +7,16 @@ use Rattle.jpeg_pixels.proofs.UpsampledRows.{used_enough}
 use Rattle.jpeg_pixels.proofs.upsampler.UpsampleRule.upsample_row.Goals as goal
 
 pub returns-in-H1V1-clause-samples : goal.returns-in-H1V1-clause-samples
-returns-in-H1V1-clause-samples c = λ x h.
-    let a = c.args in
-    in_front a.output_width c.copy_from_slice.new.self a.output.now x c.copy_from_slice.ensures.len
-    c.requires.output_room h
-    ∙ ap (λ (l : List ℕ). get_or l x 0) c.copy_from_slice.ensures.after
-    ∙ as_h1v1 a.self.now (λ i j. slice_index a.input.now (j * a.row_stride + i)) c.line_at-line.result.now
-    a.output_width a.input_width a.input_height x a.row
-    c.in-H1V1.is h c.line_at-line.ensures.samples
+returns-in-H1V1-clause-samples c = search (rules, as_h1v1, get_or, in_front, slice_index)
 
 pub returns-in-H2V1-clause-samples : goal.returns-in-H2V1-clause-samples
-returns-in-H2V1-clause-samples c = λ x h.
-    let a = c.args in
-    in_front a.output_width c.upsample_row_h2v1.new.output a.output.now x c.upsample_row_h2v1.auto.output
-    c.requires.output_room h
-    ∙ c.upsample_row_h2v1.ensures x (omega (arith, length-take {A = ℕ}))
-    ∙ as_h2v1 a.self.now (λ i j. slice_index a.input.now (j * a.row_stride + i)) c.line_at-line-in-H2V1.result.now
-    a.input_width a.input_height x a.row
-    c.in-H2V1.is c.line_at-line-in-H2V1.ensures.long (omega arith) c.line_at-line-in-H2V1.ensures.samples
+returns-in-H2V1-clause-samples c = search (rules, as_h2v1, in_front, length-take, slice_index)
 
 pub returns-in-H1V2-clause-samples : goal.returns-in-H1V2-clause-samples
-returns-in-H1V2-clause-samples c = λ x h.
-    let a = c.args in
-    in_front a.output_width c.upsample_row_h1v2.new.output a.output.now x c.upsample_row_h1v2.auto.output
-    c.requires.output_room h
-    ∙ c.upsample_row_h1v2.ensures x (omega (arith, length-take {A = ℕ}))
-    ∙ as_h1v2 a.self.now (λ i j. slice_index a.input.now (j * a.row_stride + i)) c.line_at-near.result.now
-    c.line_at-far.result.now a.output_width a.input_width a.input_height x a.row
-    c.in-H1V2.is h c.line_at-near.ensures.samples
-    (λ i b. c.line_at-far.ensures.samples i b ∙ ap (λ n. slice_index a.input.now (n * a.row_stride + i))
-    c.far_line.ensures)
+returns-in-H1V2-clause-samples c = search (rules, as_h1v2, in_front, length-take, slice_index)
 
 pub returns-in-H2V2-clause-samples : goal.returns-in-H2V2-clause-samples
-returns-in-H2V2-clause-samples c = λ x h.
-    let a = c.args in
-    in_front a.output_width c.upsample_row_h2v2.new.output a.output.now x c.upsample_row_h2v2.auto.output
-    c.requires.output_room h
-    ∙ c.upsample_row_h2v2.ensures x (omega (arith, length-take {A = ℕ}))
-    ∙ as_h2v2 a.self.now (λ i j. slice_index a.input.now (j * a.row_stride + i)) c.line_at-near-in-H2V2.result.now
-    c.line_at-far-in-H2V2.result.now a.input_width a.input_height x a.row
-    c.in-H2V2.is c.line_at-near-in-H2V2.ensures.long (omega arith) c.line_at-near-in-H2V2.ensures.samples
-    (λ i b. c.line_at-far-in-H2V2.ensures.samples i b ∙ ap (λ n. slice_index a.input.now (n * a.row_stride + i))
-    c.far_line-in-H2V2.ensures)
+returns-in-H2V2-clause-samples c = search (rules, as_h2v2, in_front, length-take, slice_index)
 
 pub line_at-line-requires-in-Generic : goal.line_at-line-requires-in-Generic
 line_at-line-requires-in-Generic c =

@@ -1,8 +1,7 @@
-use Rattle.std.proofs.Common.{ℕ, ℤ, [], ◌∷◌, ◌++◌, sym, subst, ◌∙◌}
+use Rattle.std.proofs.Common.{ℕ, ℤ, [], ◌∷◌, ◌++◌, subst, rules}
 use Rattle.std.specs.declared.vec.Vec.{Vec}
 use Rattle.std.specs.declared.alloc.Global.{Global}
 use Rattle.std.specs.Iterator.{Yields}
-use Rattle.jpeg_pixels.specs.Workers.{with_row}
 use Rattle.jpeg_pixels.proofs.GivenRows.{yields_more, with_rows_more, last_is_row}
 use Rattle.jpeg_pixels.proofs.worker.ImmediateWorker.append_rows.Goals as goal
 
@@ -31,8 +30,4 @@ append-requires-clause-row g c =
     rw (c.loop-index.invariant, c.deref.ensures.value) (last_is_row c.args.self.now rows row are).1
 
 pub loop-index-preserved : goal.loop-index-preserved
-loop-index-preserved g c =
-    let row : ℕ × Vec ℤ Global = (c.in-Some.index, c.in-Some.coefficients) in
-    c.append.ensures
-    ∙ (λ i. with_row (c.loop-index.invariant i) c.in-Some.index (c.deref.ensures.value i))
-    ∙ sym (with_rows_more c.args.self.now c.loop-index.yielded row)
+loop-index-preserved g c = search (rules, with_rows_more)
