@@ -26,8 +26,8 @@ use jpeg_bits::scan::ScanInfo;
 use jpeg_segments::parser::{CodingProcess, FrameInfo};
 use std::alloc::{AllocError, Global};
 
-/// The tables that stand in where a scan names a place that is unset: the default ones of MJPEG
-/// frames by their places, and tables without codes where the scan needs none.
+/// The tables that stand in where a scan names a destination that is unset: the default ones of
+/// MJPEG frames by their destinations, and tables without codes where the scan needs none.
 #[derive(Drop)]
 pub struct Spare {
     dc: Vec<Option<HuffmanTable>>,
@@ -36,7 +36,7 @@ pub struct Spare {
     no_ac: HuffmanTable,
 }
 
-/// Whether a process is progressive, so that its scans refine what earlier ones gave.
+/// Returns whether a process is progressive, so that its scans refine what earlier ones gave.
 pub fn is_progressive(process: CodingProcess) -> bool
     ensures { result ≡ is_progressive process }
 {
@@ -46,7 +46,7 @@ pub fn is_progressive(process: CodingProcess) -> bool
     }
 }
 
-/// What a scan codes.
+/// Returns what a scan codes.
 pub fn pass_of(header: &ScanInfo) -> Pass
     requires { 1 ≤ (scan_in header.now).after }
     ensures { pass_in result ≡ pass_of (scan_in header.now) }
@@ -63,7 +63,7 @@ pub fn pass_of(header: &ScanInfo) -> Pass
 /// 2,304 entries, and a small picture has fewer tokens.
 const WIDE_PIXELS: u32 = 1 << 14;
 
-/// Whether a frame has so many pixels that it pays to fill the look-up tables of AC values.
+/// Returns whether a frame has so many pixels that it pays to fill the look-up tables of AC values.
 pub fn is_large(frame: &FrameInfo) -> bool {
     let size = &frame.image_size;
     u32::from(size.width) * u32::from(size.height) >= WIDE_PIXELS
@@ -84,7 +84,7 @@ pub fn widen_all(
     Ok(())
 }
 
-/// The spare tables of a scan; the default ones where a frame of an MJPEG stream was named.
+/// Returns the spare tables of a scan; the default ones where a frame of an MJPEG stream was named.
 pub fn spare_tables(
     alloc: Global,
     header: &ScanInfo,
@@ -114,7 +114,7 @@ pub fn spare_tables(
     Ok(spare)
 }
 
-/// The table in force at a place: the one that was read, or else the spare one.
+/// Returns the table in force at a destination: the one that was read, or else the spare one.
 fn table_in_force<'a>(
     tables: &'a [Option<HuffmanTable>],
     spare: &'a [Option<HuffmanTable>],
@@ -128,7 +128,7 @@ fn table_in_force<'a>(
     }
 }
 
-/// The table of a component where the scan needs one, and else the one without codes.
+/// Returns the table of a component where the scan needs one, and else the one without codes.
 fn needed_table<'a>(
     alloc: Global,
     is_needed: bool,
@@ -147,7 +147,7 @@ fn needed_table<'a>(
     }
 }
 
-/// The component in a slot of a scan, and its tables in force.
+/// Returns the component in a slot of a scan, and its tables in force.
 fn coding_of<'a>(
     alloc: Global,
     state: &'a State,
@@ -194,8 +194,8 @@ fn coding_of<'a>(
     })
 }
 
-/// The components of a scan, and their tables in force. The errors are `Format` where a table that
-/// the scan needs is unset, and `OutOfMemory`.
+/// Returns the components of a scan, and their tables in force. The errors are `Format` where a
+/// table that the scan needs is unset, and `OutOfMemory`.
 pub fn codings_of<'a>(
     alloc: Global,
     state: &'a State,

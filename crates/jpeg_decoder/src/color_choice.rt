@@ -7,7 +7,7 @@ ghost use Rattle.jpeg_streams.specs.ColourChoice.{by_adobe, transform_of};
 use jpeg_bits::color_transform::ColorTransform;
 use jpeg_segments::parser::{AdobeColorTransform, Component};
 
-/// Whether there are three components, of these identifiers.
+/// Returns whether there are three components, of these identifiers.
 fn are_three(components: &[Component], first: u8, second: u8, third: u8) -> bool
     ensures { result ≡ are_three first second third
         (identifiers_of (map component_in components.now)) }
@@ -18,7 +18,7 @@ fn are_three(components: &[Component], first: u8, second: u8, third: u8) -> bool
     }
 }
 
-/// The transform that the identifiers of three components stand for.
+/// Returns the transform that the identifiers of three components stand for.
 #[tactic(auto, unfolding(jpeg_streams::specs::ColourChoice::by_identifiers))]
 fn by_identifiers(components: &[Component]) -> Option<ColorTransform>
     ensures { result ≡ by_identifiers (identifiers_of (map component_in components.now)) }
@@ -36,7 +36,7 @@ fn by_identifiers(components: &[Component]) -> Option<ColorTransform>
     }
 }
 
-/// The transform that Adobe's segment names for three or four components.
+/// Returns the transform that Adobe's segment names for three or four components.
 fn by_adobe(is_three: bool, adobe: Option<AdobeColorTransform>) -> ColorTransform
     ensures { result ≡ by_adobe is_three adobe }
 {
@@ -60,7 +60,7 @@ fn by_adobe(is_three: bool, adobe: Option<AdobeColorTransform>) -> ColorTransfor
     }
 }
 
-/// The transform of three or four components: what a caller set, or what the segments say.
+/// Returns the transform of three or four components: what a caller set, or what the segments say.
 #[tactic(auto, unfolding(jpeg_streams::specs::ColourChoice::transform_of))]
 pub fn choose_color_transform(
     set: Option<ColorTransform>,

@@ -28,10 +28,10 @@ use jpeg_segments::parser::{Component, FrameInfo};
 use std::alloc::{AllocError, Global};
 use std::io::Read;
 
-/// What the scans so far have given, by the components' places in the frame.
+/// What the scans so far have given, by the components' indices in the frame.
 #[derive(Drop)]
 pub struct Decoded {
-    /// The blocks that are held between the scans of a progressive frame, in raster order, their
+    /// The blocks that are kept between the scans of a progressive frame, in raster order, their
     /// coefficients in block order. Empty before its first scan.
     pub held: Vec<Vec<[i16; 64]>>,
     /// Which coefficients of a block are finished, in zigzag order.
@@ -53,14 +53,14 @@ fn finish(pass: Pass, marks: &mut [bool; 64])
     }
 }
 
-/// Whether all coefficients are marked.
+/// Returns whether all coefficients are marked.
 fn are_all(marks: &[bool; 64]) -> bool
     ensures { result ≡ list_all (λ mark. mark) marks.now }
 {
     marks.iter().all(|mark| *mark)
 }
 
-/// The blocks of a component in which nothing was read yet.
+/// Returns the blocks of a component in which nothing was read yet.
 fn zero_blocks(
     alloc: Global,
     component: &Component,
@@ -71,7 +71,7 @@ fn zero_blocks(
     vec![in alloc; [0; 64]; count]
 }
 
-/// The blocks of all components of a frame in which nothing was read yet.
+/// Returns the blocks of all components of a frame in which nothing was read yet.
 fn zero_frame(
     alloc: Global,
     frame: &FrameInfo,
@@ -86,8 +86,8 @@ fn zero_frame(
     Ok(arrays)
 }
 
-/// The plane of a component's blocks, which stand in raster order, at the component's scale, by its
-/// quantization table in zigzag order.
+/// Returns the plane of a component's blocks, which stand in raster order, at the component's
+/// scale, by its quantization table in zigzag order.
 #[tactic(auto, unfolding(jpeg_streams::specs::ScanSegments::plane_by))]
 pub fn render(
     alloc: Global,
@@ -108,8 +108,7 @@ pub fn render(
     Ok(plane)
 }
 
-/// Takes the blocks of a scan's components out of those that are held, and leaves none in their
-/// places.
+/// Takes the blocks of a scan's components out of those that are kept, and leaves none there.
 fn take_blocks(
     alloc: Global,
     codings: &[Coded<'_>],
@@ -132,7 +131,7 @@ fn take_blocks(
     Ok(taken)
 }
 
-/// Puts blocks at the places of a scan's components in the frame.
+/// Puts blocks at the indices of a scan's components in the frame.
 fn put_blocks(
     alloc: Global,
     codings: &[Coded<'_>],
@@ -171,7 +170,7 @@ impl Decoded {
     ghost use Rattle.jpeg_streams.specs.ScanSegments.{plane_by};
     ghost use Rattle.jpeg_streams.specs.Found.{Found, none_finished};
 
-    /// Nothing was read.
+    /// Makes the state in which nothing was read.
     pub fn new(alloc: Global) -> Decoded
         ensures held { arrays_in result.held.items ≡ [] }
         ensures finished { result.finished ≡ replicate 4 none_finished }
@@ -186,7 +185,7 @@ impl Decoded {
         }
     }
 
-    /// Puts the samples of a lossless scan at the places of its components, where they replace
+    /// Puts the samples of a lossless scan at the indices of its components, where they replace
     /// those of earlier scans.
     pub fn put_samples(&mut self, alloc: Global, places: &[usize], planes: &mut Vec<Vec<u16>>)
         requires count { length planes.old.items ≡ length places.now }
@@ -332,8 +331,8 @@ impl Decoded {
         Ok(())
     }
 
-    /// Reads a scan of a progressive frame on the blocks that are held, and returns the marker
-    /// after it, if it was met.
+    /// Reads a scan of a progressive frame on the blocks that are kept, and returns the marker
+    /// after it, if it was reached.
     fn read_held<R: Read + Drop>(
         &mut self,
         alloc: Global,
@@ -449,7 +448,7 @@ impl Decoded {
         Ok(reached)
     }
 
-    /// Reads the entropy-coded data of a scan, and returns the marker after it, if it was met.
+    /// Reads the entropy-coded data of a scan, and returns the marker after it, if it was reached.
     pub fn read<R: Read + Drop>(
         &mut self,
         alloc: Global,

@@ -40,7 +40,7 @@ use std::alloc::Global;
 use std::io::Read;
 use std::marker::Model;
 
-/// The format of this many components at a precision.
+/// Returns the format of this many components at a precision.
 fn format_of(count: usize, precision: u8) -> PixelFormat
     ensures { result ≡ format_of count precision }
 {
@@ -57,7 +57,7 @@ fn format_of(count: usize, precision: u8) -> PixelFormat
     }
 }
 
-/// What a caller is given of a frame.
+/// Returns what a caller is given of a frame.
 fn info_of(frame: &FrameInfo) -> ImageInfo
     ensures { result ≡ info_of (frame_in frame.now) }
 {
@@ -115,7 +115,7 @@ enum Progress {
     Failed,
 }
 
-/// How far a decoder has come after a call: a refusal fails it.
+/// Returns how far a decoder has come after a call: a refusal fails it.
 fn progress_after(is_ok: bool, progress: Progress) -> Progress
     ensures { result ≡ (if is_ok then progress else Failed) }
 {
@@ -158,8 +158,8 @@ impl<R: Read + Drop> Model for Decoder<R> {
 }
 
 impl<R: Read + Drop> Decoder<R> {
-    /// A decoder of the stream that the reader gives. The only error is `OutOfMemory`; the reader
-    /// is then dropped.
+    /// Makes a decoder of the stream that the reader gives. The only error is `OutOfMemory`; the
+    /// reader is then dropped.
     pub fn new(alloc: Global, reader: R) -> Result<Decoder<R>>
         ensures ok { IfOk result (λ d. d ≡ record {
           source = stream_of (R.remaining reader) false false;
@@ -254,7 +254,7 @@ impl<R: Read + Drop> Decoder<R> {
         self.settings.limit = max;
     }
 
-    /// The last Exif data that was read. Tells it in every state.
+    /// Returns the last Exif data that was read. It does so in every state.
     pub fn exif_data(&self) -> Option<&[u8]>
         ensures { option_copied result ≡ self.now.found.metadata.exif }
     {
@@ -265,7 +265,7 @@ impl<R: Read + Drop> Decoder<R> {
             .map(|bytes| bytes.as_slice())
     }
 
-    /// The last XMP data that was read. Tells it in every state.
+    /// Returns the last XMP data that was read. It does so in every state.
     pub fn xmp_data(&self) -> Option<&[u8]>
         ensures { option_copied result ≡ self.now.found.metadata.xmp }
     {
@@ -276,8 +276,8 @@ impl<R: Read + Drop> Decoder<R> {
             .map(|bytes| bytes.as_slice())
     }
 
-    /// The ICC profile that was read (ICC.1, Annex B.4), where all its parts were. The only error
-    /// is `OutOfMemory`.
+    /// Returns the ICC profile that was read (ICC.1, Annex B.4), where all its parts were. The only
+    /// error is `OutOfMemory`.
     pub fn icc_profile(&self) -> Result<Option<Vec<u8>>>
         ensures { MatchResult result (λ o. option_map (λ v. v.items) o
             ≡ profile_of self.now.found.metadata.icc) (λ e. e ≡ OutOfMemory) }

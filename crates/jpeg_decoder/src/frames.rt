@@ -12,7 +12,7 @@ use jpeg_pixels::upsampler::Upsampler;
 use jpeg_segments::parser::{CodingProcess, EntropyCoding, FrameInfo};
 use std::alloc::Global;
 
-/// Whether a frame's entropy coding is arithmetic.
+/// Returns whether a frame's entropy coding is arithmetic.
 fn is_arithmetic(coding: EntropyCoding) -> bool
     ensures { result ≡ is_arithmetic coding }
 {
@@ -22,7 +22,8 @@ fn is_arithmetic(coding: EntropyCoding) -> bool
     }
 }
 
-/// Whether frames of a process are decoded at a precision: 8 bits, or in a lossless frame 2 to 16.
+/// Returns whether frames of a process are decoded at a precision: 8 bits, or in a lossless frame 2
+/// to 16.
 fn is_precision(process: CodingProcess, precision: u8) -> bool
     ensures { result ≡ is_decoded_precision process precision }
 {

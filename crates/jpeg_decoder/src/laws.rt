@@ -43,8 +43,8 @@ pub fn spots_are_apart()
         AreApart (spots_of frame components) }
 {}
 
-/// A scan decodes its blocks one after the other: each is read on top of what its place holds, and
-/// put back there.
+/// A scan decodes its blocks one after the other: each is read on top of the block at its index,
+/// which it replaces.
 pub fn scans_go_in_turn()
     ensures { (frame : Frame) (components : List Component) (p : Pass) (n : ℕ)
         (vias : List Via) (arrays : Arrays) (bytes : List ℕ) →

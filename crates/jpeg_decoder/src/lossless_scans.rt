@@ -28,14 +28,15 @@ use jpeg_segments::sizes::{ceiling, greatest_of};
 use std::alloc::{AllocError, Global};
 use std::io::Read;
 
-/// The identifier of the component in a slot of a scan, or 0 where there is none.
+/// Returns the identifier of the component in a slot of a scan, or 0 where there is none.
 fn identifier_of(frame: &FrameInfo, header: &ScanInfo, slot: usize) -> u8 {
     let index = header.component_indices.get(slot).copied();
     let component = index.and_then(|index| frame.components.get(index));
     component.map_or(0, |component| component.identifier)
 }
 
-/// The tables in force for the differences of a scan's components. There are no default ones.
+/// Returns the tables in force for the differences of a scan's components. There are no default
+/// ones.
 fn tables_of<'a>(
     alloc: Global,
     state: &'a State,
@@ -57,8 +58,8 @@ fn tables_of<'a>(
     Ok(tables)
 }
 
-/// What a scan has of a component: one sample an MCU where it is alone in the scan, and else as many
-/// as its factors say (T.81, A.2).
+/// Returns what a scan has of a component: one sample an MCU where it is alone in the scan, and
+/// else as many as its factors say (T.81, A.2).
 fn part_of<'a>(component: &Component, is_alone: bool, table: &'a HuffmanTable) -> Part<'a>
     ensures { part_in result ≡ part_by is_alone (component_in component.now) table.now }
 {
@@ -79,7 +80,7 @@ fn part_of<'a>(component: &Component, is_alone: bool, table: &'a HuffmanTable) -
     }
 }
 
-/// What a scan has of each of its components, which have these tables.
+/// Returns what a scan has of each of its components, which have these tables.
 fn parts_of<'a>(
     alloc: Global,
     frame: &FrameInfo,
@@ -100,8 +101,8 @@ fn parts_of<'a>(
     Ok(parts)
 }
 
-/// How many MCUs a row of a scan has, and how many rows there are: of a component alone, its
-/// samples.
+/// Returns how many MCUs a row of a scan has, and how many rows there are: of a component alone,
+/// its samples.
 fn mcus_of(frame: &FrameInfo, places: &[usize]) -> (u16, u16)
     requires some { 0 < length places.now }
     requires within { All (λ place. place < length (frame_in frame.now).components) places.now }
@@ -119,7 +120,7 @@ fn mcus_of(frame: &FrameInfo, places: &[usize]) -> (u16, u16)
     (wide as u16, high as u16)
 }
 
-/// How a scan of a frame is coded.
+/// Returns how a scan of a frame is coded.
 fn coding_of(frame: &FrameInfo, header: &ScanInfo, restart_interval: u16) -> Coding
     requires legal { IsScanOf (frame_in frame.now) (scan_in header.now) }
     requires sampling { AllHaveSampling (frame_in frame.now).components }
@@ -144,8 +145,8 @@ fn coding_of(frame: &FrameInfo, header: &ScanInfo, restart_interval: u16) -> Cod
 }
 
 /// Reads a scan of a lossless frame by what was said before it, with what the scans before it gave,
-/// and returns the marker after it and after the restart markers at its end, if one was met. The
-/// samples of the scan take the places of its components' earlier ones.
+/// and returns the marker after it and after the restart markers at its end, if one was reached.
+/// The samples of the scan replace its components' earlier ones.
 pub fn read_lossless_scan<R: Read + Drop>(
     alloc: Global,
     source: &mut Source<R>,

@@ -32,7 +32,7 @@ impl Metadata {
     ghost use Rattle.jpeg_streams.specs.Found.{no_metadata};
     ghost use Rattle.jpeg_decoder.specs.Seen.{metadata_in};
 
-    /// Nothing has been said.
+    /// Makes the state in which nothing has been said.
     pub fn new(alloc: Global) -> Metadata
         ensures { metadata_in result ≡ no_metadata }
     {
@@ -47,7 +47,7 @@ impl Metadata {
         }
     }
 
-    /// What the segment of an application says is added. Where memory runs out nothing changes.
+    /// Adds what the segment of an application says. Where memory runs out nothing changes.
     pub fn add(&mut self, said: Option<AppData>) -> Result<()>
         ensures { MatchResult result (λ _. metadata_in self.new
             ≡ with_application (metadata_in self.old) (option_map application_in said)) (λ e. (e

@@ -60,14 +60,14 @@ fn read_start<R: Read + Drop>(alloc: Global, source: &mut Source<R>) -> Result<(
     Ok(())
 }
 
-/// The samples of a component of the size of the picture.
+/// Returns the samples of a component of the size of the picture.
 fn area_of(size: Dimensions) -> usize
     ensures { result ≡ size.width * size.height }
 {
     usize::from(size.width) * usize::from(size.height)
 }
 
-/// Whether this many components of a picture are within a limit.
+/// Returns whether this many components of a picture are within a limit.
 fn is_within(limit: usize, count: usize, area: usize) -> bool
     ensures { result ≡ not (nat_lt limit (count * area)) }
 {
@@ -77,14 +77,14 @@ fn is_within(limit: usize, count: usize, area: usize) -> bool
     }
 }
 
-/// Whether blocks are held of a frame: it is progressive, and a scan of it was read.
+/// Returns whether blocks of a frame are kept: it is progressive, and a scan of it was read.
 fn are_held(state: &State, frame: &FrameInfo) -> bool
     ensures { result ≡ is_held (found_in state.now) (frame_in frame.now) }
 {
     is_progressive(frame.coding_process) && state.scanned
 }
 
-/// Takes the blocks of a component out of those that are held, where blocks are held.
+/// Takes the blocks of a component out of those that are kept, where blocks are kept.
 fn take_held(
     alloc: Global,
     is_held: bool,
@@ -103,8 +103,8 @@ fn take_held(
     Some(std::mem::replace(&mut held[place], Vec::new(alloc)))
 }
 
-/// The plane of a component at the end of an image: the one that is decided, or else that of the
-/// blocks that are held, by the quantization table in force.
+/// Returns the plane of a component at the end of an image: the one that is decided, or else that
+/// of the blocks that are kept, by the quantization table in force.
 fn plane_at_end(
     alloc: Global,
     state: &State,
@@ -134,8 +134,8 @@ fn plane_at_end(
     Ok(render(alloc, component, table, &blocks)?)
 }
 
-/// The planes of a frame's components at the end of an image, which are taken. Blocks that are held
-/// are rendered where no plane is decided, one component after the other, and freed.
+/// Returns the planes of a frame's components at the end of an image, which are taken. Blocks that
+/// are kept are rendered where no plane is decided, one component after the other, and freed.
 fn planes_at_end(
     alloc: Global,
     state: &State,
@@ -175,7 +175,7 @@ fn crop_to(plane: &mut Vec<u8>, component: &Component, size: Dimensions)
     crop(plane, stride, width, height);
 }
 
-/// The picture of a frame's planes: of one its samples, and of several their colours.
+/// Returns the picture of a frame's planes: of one its samples, and of several their colours.
 fn picture_by(
     alloc: Global,
     state: &State,
@@ -208,7 +208,7 @@ fn picture_by(
     compute_image_rows(alloc, components, &planes, frame.output_size, transform)
 }
 
-/// The picture of a frame of blocks.
+/// Returns the picture of a frame of blocks.
 #[tactic(auto, unfolding(jpeg_streams::specs::FoundPictures::blocks_picture))]
 fn blocks_picture(
     alloc: Global,
@@ -229,7 +229,7 @@ fn blocks_picture(
     picture_by(alloc, state, frame, planes, settings)
 }
 
-/// The samples of a lossless frame's components, which are taken.
+/// Returns the samples of a lossless frame's components, which are taken.
 fn samples_at_end(alloc: Global, frame: &FrameInfo, decoded: &mut Decoded) -> Result<Vec<Vec<u16>>>
     requires count { length (frame_in frame.now).components ≤ 4 }
     ensures planes { let expected = samples_from (planes_in decoded.old.samples) 0
@@ -247,7 +247,7 @@ fn samples_at_end(alloc: Global, frame: &FrameInfo, decoded: &mut Decoded) -> Re
     Ok(planes)
 }
 
-/// The picture of a lossless frame.
+/// Returns the picture of a lossless frame.
 #[tactic(auto, unfolding(jpeg_streams::specs::FoundPictures::samples_picture))]
 fn samples_picture(
     alloc: Global,
@@ -280,7 +280,8 @@ fn limit_error(alloc: Global, frame: &FrameInfo, limit: usize) -> Error
     format_error_of(format!(in alloc; "{count} samples in the picture, expected at most {limit}"))
 }
 
-/// The picture of what was found, which is taken: within the limit, of planes that are there.
+/// Returns the picture of what was found, which is taken: within the limit, of planes that are
+/// there.
 #[tactic(auto, unfolding(jpeg_streams::specs::FoundPictures::picture_of))]
 fn picture(
     alloc: Global,

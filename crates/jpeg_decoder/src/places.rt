@@ -1,4 +1,4 @@
-//! Tables by their places.
+//! Tables by their destinations.
 ghost use Rattle.std.specs.Prelude.{◌≡◌, None, length, slice_index_or, Some, MatchResult};
 ghost use Rattle.std.specs.Option.{option_copied};
 ghost use Rattle.jpeg_streams.specs.Segments.{updated};
@@ -21,7 +21,7 @@ pub fn update<T: Drop>(old: &mut [Option<T>], new: &mut [Option<T>])
     }
 }
 
-/// The table at a place.
+/// Returns the table at a destination.
 pub fn table_at<T>(tables: &[Option<T>], place: usize) -> Option<&T>
     ensures { option_copied result ≡ slice_index_or tables.now place None }
 {

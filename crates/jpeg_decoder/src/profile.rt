@@ -10,7 +10,7 @@ use jpeg_bits::error::Result;
 use jpeg_segments::parser::IccChunk;
 use std::alloc::Global;
 
-/// The first part of this number.
+/// Returns the first part of this number.
 fn part_of(chunks: &[IccChunk], number: usize) -> Option<&IccChunk>
     ensures { option_copied result ≡ find (λ c. c.seq_no == number) chunks.now }
 {
@@ -19,7 +19,7 @@ fn part_of(chunks: &[IccChunk], number: usize) -> Option<&IccChunk>
         .find(|chunk| usize::from(chunk.seq_no) == number)
 }
 
-/// The bytes of the first part of this number.
+/// Returns the bytes of the first part of this number.
 fn part(chunks: &[IccChunk], number: usize) -> Option<&[u8]>
     ensures { option_copied result ≡ part number (map chunk_in chunks.now) }
 {
@@ -37,14 +37,14 @@ fn all_name(chunks: &[IccChunk], count: usize) -> bool
         .all(|chunk| usize::from(chunk.num_markers) == count)
 }
 
-/// Whether each part names this number of parts.
+/// Returns whether each part names this number of parts.
 fn have_count(chunks: &[IccChunk], count: usize) -> bool
     ensures { result ≡ list_all (λ c. c.count == count) (map chunk_in chunks.now) }
 {
     all_name(chunks, count)
 }
 
-/// The bytes of this many parts, which are numbered from 1, in turn.
+/// Returns the bytes of this many parts, which are numbered from 1, in turn.
 fn joined(alloc: Global, chunks: &[IccChunk], count: usize) -> Result<Option<Vec<u8>>>
     ensures { MatchResult result (λ o. option_map (λ v. v.items) o
         ≡ parts_from count 1 (map chunk_in chunks.now)) (λ e. e ≡ OutOfMemory) }
@@ -59,8 +59,8 @@ fn joined(alloc: Global, chunks: &[IccChunk], count: usize) -> Result<Option<Vec
     Ok(Some(bytes))
 }
 
-/// The profile: there where 1 to 254 parts are, each names their number, and they are numbered 1, 2
-/// and so on, in any order. The only error is want of memory.
+/// Returns the profile: there where 1 to 254 parts are, each names their number, and they are
+/// numbered 1, 2 and so on, in any order. The only error is out of memory.
 #[tactic(auto, unfolding(jpeg_streams::specs::Profile::profile_of))]
 pub fn profile(alloc: Global, chunks: &[IccChunk]) -> Result<Option<Vec<u8>>>
     ensures { MatchResult result (λ o. option_map (λ v. v.items) o

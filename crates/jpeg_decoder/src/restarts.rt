@@ -13,7 +13,7 @@ use jpeg_bits::source::Source;
 use std::alloc::Global;
 use std::io::Read;
 
-/// Whether a marker is the restart marker of a number, which counts modulo 8.
+/// Returns whether a marker is the restart marker of a number, which counts modulo 8.
 fn is_numbered(marker: Option<Marker>, number: u8) -> bool
     ensures { result ≡ intervals.is_restart number marker }
 {
@@ -42,14 +42,14 @@ pub fn read_restart<R: Read + Drop>(
     Ok(())
 }
 
-/// Whether a restart marker was met.
+/// Returns whether a restart marker was reached.
 fn is_restart(met: Option<Marker>) -> bool
     ensures { result ≡ is_restart_marker met }
 {
     matches!(met, Some(Marker::RST(_)))
 }
 
-/// Passes over restart markers after a scan, and returns the marker after them, if it was met.
+/// Skips restart markers after a scan, and returns the marker after them, if it was reached.
 pub fn pass_restarts<R: Read + Drop>(
     alloc: Global,
     source: &mut Source<R>,

@@ -46,7 +46,7 @@ fn write_fully<W: Write>(alloc: Global, writer: &mut W, bytes: &[u8]) -> Result<
     Err(Error::Format(String::new(alloc)))
 }
 
-/// The name of a format in the header line.
+/// Returns the name of a format in the header line.
 fn format_name(format: PixelFormat) -> &'static str
     ensures { result.now ≡ name_of format }
 {
@@ -58,7 +58,7 @@ fn format_name(format: PixelFormat) -> &'static str
     }
 }
 
-/// The header line: width, height and format, with spaces between, and a line feed.
+/// Returns the header line: width, height and format, with spaces between, and a line feed.
 fn info_line(alloc: Global, info: ImageInfo) -> std::result::Result<String, AllocError>
     ensures { IfOk result (λ line. string_bytes line ≡ header_line_of (Some info)) }
 {
@@ -68,7 +68,7 @@ fn info_line(alloc: Global, info: ImageInfo) -> std::result::Result<String, Allo
     format!(in alloc; "{width} {height} {format}\n")
 }
 
-/// The header line, where there is a frame.
+/// Returns the header line, where there is a frame.
 fn header_line(alloc: Global, info: Option<ImageInfo>) -> std::result::Result<String, AllocError>
     ensures { IfOk result (λ line. string_bytes line ≡ header_line_of info) }
 {
@@ -90,7 +90,7 @@ fn write_both<W: Write>(alloc: Global, writer: &mut W, first: &[u8], second: &[u
     write_fully(alloc, writer, second)
 }
 
-/// The header line and the picture of the stream that the reader gives.
+/// Returns the header line and the picture of the stream that the reader gives.
 fn line_and_pixels<R: Read + Drop>(alloc: Global, reader: R) -> Result<(String, Vec<u8>)>
     ensures ok { (bytes : List ℕ) → Tells (R.remaining reader) bytes
         → IfOk result (λ made. output_of bytes ≡ Some (string_bytes made.0 ++ made.1.items)) }

@@ -8,10 +8,10 @@ use jpeg_bits::blocks::Pass;
 use jpeg_bits::huffman::HuffmanTable;
 use jpeg_segments::parser::Component;
 
-/// A component of a scan: its place in the frame, and the tables that its blocks are coded by.
+/// A component of a scan: its index in the frame, and the tables that its blocks are coded by.
 #[derive(Drop)]
 pub struct Coded<'a> {
-    /// The component's place in the frame.
+    /// The component's index in the frame.
     pub place: usize,
     /// The component itself.
     pub component: &'a Component,

@@ -146,7 +146,7 @@ impl ScanOrder {
         })
     }
 
-    /// Makes the order of the blocks of a scan of a frame. The error is no memory.
+    /// Makes the order of the blocks of a scan of a frame. The error is out of memory.
     pub fn new(alloc: Global, scan: &Scan<'_>, frame: &FrameInfo) -> Result<ScanOrder, AllocError>
         requires some { 1 ≤ length scan.now.components.items }
         requires fits { AllByRecursion (Fits (frame_in frame.now)) (scan_components scan.now) }

@@ -38,7 +38,7 @@ pub fn refused_line_count(alloc: Global, before: Before) -> Error
 }
 
 /// Reads a scan of blocks by what was said before it, with what the scans before it gave, and
-/// returns the marker after it and after the restart markers at its end, if one was met.
+/// returns the marker after it and after the restart markers at its end, if one was reached.
 #[tactic(auto, unfolding(crate::specs::Steps::blocks_read))]
 fn read_blocks_scan<R: Read + Drop>(
     alloc: Global,
@@ -71,7 +71,7 @@ fn read_blocks_scan<R: Read + Drop>(
 }
 
 /// Reads a scan by what was said before it, with what the scans before it gave, and returns the
-/// marker after it and after the restart markers at its end, if one was met.
+/// marker after it and after the restart markers at its end, if one was reached.
 #[tactic(auto, unfolding(crate::specs::Steps::scan_read))]
 pub fn read_scan<R: Read + Drop>(
     alloc: Global,

@@ -188,7 +188,7 @@ pub fn read_spots<R: Read + Drop>(
 }
 
 /// Reads the blocks at some spots, in restart intervals of `n` blocks, or in one where `n` is 0,
-/// and returns the marker after them, if it was met.
+/// and returns the marker after them, if it was reached.
 #[tactic(auto, unfolding(jpeg_streams::specs::InTurn::scan_from))]
 fn read_scan<R: Read + Drop>(
     alloc: Global,
@@ -211,11 +211,11 @@ fn read_scan<R: Read + Drop>(
     interval.decoder.take_marker(source)
 }
 
-/// Reads a scan of a frame on the blocks that are held of its components, and returns the marker
-/// after it, if it was met.
+/// Reads a scan of a frame on the blocks that are kept of its components, and returns the marker
+/// after it, if it was reached.
 ///
 /// The errors are those of the source, a refused code or category (T.81, F.2.2), a restart marker
-/// that is missing or out of turn, and no memory.
+/// that is missing or out of turn, and out of memory.
 pub fn read_blocks<R: Read + Drop>(
     alloc: Global,
     source: &mut Source<R>,

@@ -20,8 +20,8 @@ use jpeg_streams::before::Before;
 use std::alloc::{AllocError, Global};
 use std::io::Read;
 
-/// What the segments of a stream have said so far: the frame, the tables in force by their places,
-/// and the planes that are decided, by the components' places in the frame.
+/// What the segments of a stream have said so far: the frame, the tables in force by their
+/// destinations, and the planes that are decided, by the components' indices in the frame.
 #[derive(Drop)]
 pub struct State {
     /// The frame, once its header was accepted.
@@ -45,13 +45,13 @@ pub struct State {
     ghost ac_classes: { all_ac ac_tables ≡ true },
 }
 
-/// What stands after a segment: what stands before the next marker, that marker, if it was met
+/// What stands after a segment: what stands before the next marker, that marker, if it was reached
 /// already, and whether the image has ended.
 #[derive(Clone, Copy, Debug, PartialEq)]
 pub struct Step {
     /// What stands before the next marker.
     pub before: Before,
-    /// The next marker, if it was met already.
+    /// The next marker, if it was reached already.
     pub met: Option<Marker>,
     /// Whether the image has ended.
     pub ended: bool,
@@ -82,7 +82,7 @@ impl State {
     ghost use Rattle.jpeg_streams.specs.Sound.{IsSound, IsUnread};
     ghost use Rattle.jpeg_streams.specs.declared.before.Before.TheVariants.{Elsewhere};
 
-    /// The state at the start of a stream.
+    /// Makes the state at the start of a stream.
     #[tactic(auto, unfolding(jpeg_streams::specs::Found::nothing_found))]
     pub fn new(alloc: Global) -> State
         ensures { found_in result ≡ nothing_found }
@@ -99,7 +99,7 @@ impl State {
         }
     }
 
-    /// A frame header (T.81, B.2.2).
+    /// Reads a frame header (T.81, B.2.2).
     #[tactic(auto, unfolding(jpeg_streams::specs::Segments::frame_segment))]
     fn read_frame<R: Read + Drop>(
         &mut self,
@@ -169,7 +169,7 @@ impl State {
         Ok(ONWARD)
     }
 
-    /// A restart interval (T.81, B.2.4.4).
+    /// Reads a restart interval (T.81, B.2.4.4).
     #[tactic(auto, unfolding(jpeg_streams::specs::Segments::restart_segment), using(jpeg_streams::proofs::Soundness::sound_kept))]
     fn read_restart<R: Read + Drop>(
         &mut self,
@@ -211,7 +211,7 @@ impl State {
         Ok(ONWARD)
     }
 
-    /// A segment that is passed over.
+    /// Skips a segment.
     #[tactic(auto, unfolding(jpeg_streams::specs::Segments::skipped_segment))]
     fn skip_segment<R: Read + Drop>(&self, alloc: Global, source: &mut Source<R>) -> Result<Step>
         ensures reads { Answers (turn_of self.now) (skipped_segment (found_in self.now)) source.old
@@ -223,7 +223,7 @@ impl State {
         Ok(ONWARD)
     }
 
-    /// The end of the image, which needs a frame.
+    /// Ends the image, which needs a frame.
     #[tactic(auto, unfolding(jpeg_streams::specs::Stream::end_segment))]
     fn end<R: Read + Drop>(&self, alloc: Global, source: &mut Source<R>) -> Result<Step>
         ensures reads { Answers (turn_of self.now) (end_segment (found_in self.now)) source.old
@@ -240,7 +240,7 @@ impl State {
         })
     }
 
-    /// What a scan is to the marker after it.
+    /// Returns what a scan is to the marker after it.
     fn scan_before(&self) -> Before
         ensures { result ≡ scan_before (found_in self.now) }
     {
@@ -264,7 +264,7 @@ impl State {
         widen_all(alloc, &mut self.ac_tables)
     }
 
-    /// A scan (T.81, B.2.3).
+    /// Reads a scan (T.81, B.2.3).
     fn read_scan<R: Read + Drop>(&mut self, alloc: Global, source: &mut Source<R>) -> Result<Step>
         requires sound { IsSound (found_in self.old) }
         ensures reads { Answers (turn_of self.new) (scan_segment (found_in self.old)) source.old
@@ -291,7 +291,7 @@ impl State {
         })
     }
 
-    /// A restart marker after a scan is ignored, once.
+    /// Ignores a restart marker after a scan, once.
     fn stray_restart<R: Read + Drop>(
         &self,
         alloc: Global,
@@ -311,7 +311,7 @@ impl State {
         }
     }
 
-    /// What stands after a marker.
+    /// Reads what stands after a marker.
     #[tactic(auto, unfolding(jpeg_streams::specs::Stream::segment_at))]
     fn read_segment<R: Read + Drop>(
         &mut self,
@@ -351,7 +351,7 @@ impl State {
         }
     }
 
-    /// One marker, which may have been met already, and what stands after it.
+    /// Reads one marker, which may have been reached already, and what stands after it.
     #[tactic(auto, unfolding(jpeg_streams::specs::Stream::turn_at))]
     fn read_turn<R: Read + Drop>(
         &mut self,
@@ -377,7 +377,7 @@ impl State {
         self.read_segment(alloc, source, marker, before)
     }
 
-    /// Whether the frame was read, where the header is wanted alone.
+    /// Returns whether the frame was read, where the header is wanted alone.
     fn is_read_for(&self, header: bool) -> bool
         ensures { result ≡ (header && is_some (found_in self.now).frame) }
     {
@@ -424,7 +424,7 @@ impl State {
     }
 }
 
-/// The marker that was met, or else the next.
+/// Reads the marker that was reached, or else the next.
 fn marker_or_next<R: Read + Drop>(
     alloc: Global,
     source: &mut Source<R>,

@@ -17,7 +17,8 @@ use jpeg_pixels::zigzag::values_in_order;
 use jpeg_segments::parser::Component;
 use std::alloc::{AllocError, Global};
 
-/// Room for the blocks of a row of MCUs: for each component of a scan as many as it has in one.
+/// Returns room for the blocks of a row of MCUs: for each component of a scan as many as it has in
+/// one.
 pub fn row_buffers(alloc: Global, codings: &[Coded<'_>]) -> Result<Vec<Vec<[i16; 64]>>, AllocError>
     ensures { IfOk result (λ v. sizes_of v.items ≡ row_sizes codings.now) }
 {
@@ -50,7 +51,8 @@ pub fn clear_rows(rows: &mut Vec<Vec<[i16; 64]>>)
     }
 }
 
-/// The number of samples of a plane of some blocks across and down, of `scale` samples a side.
+/// Returns the number of samples of a plane of some blocks across and down, of `scale` samples a
+/// side.
 pub fn plane_size(wide: u16, high: u16, scale: usize) -> usize
     requires { scale ≤ 8 }
 {

@@ -199,7 +199,7 @@ pub fn known_transforms()
     ensures ac { toward_zero 1 (negsuc 4) ≡ negsuc 1 }
 {}
 
-/// Tables that are read take the places of those that were there.
+/// Tables that are read replace those that were there.
 pub fn known_tables()
     ensures { updated {A = ℕ} (Some 1 ∷ None ∷ Some 3 ∷ None ∷ [])
         (Some 4 ∷ Some 5 ∷ None ∷ None ∷ []) ≡ Some 4 ∷ Some 5 ∷ Some 3 ∷ None ∷ [] }

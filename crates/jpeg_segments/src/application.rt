@@ -22,7 +22,7 @@ use std::io::Read;
 /// What a payload says, where there is memory to hold it.
 type Said = std::result::Result<Option<AppData>, AllocError>;
 
-/// The bytes after the first `count`.
+/// Returns the bytes after the first `count`.
 fn bytes_after(
     alloc: Global,
     payload: &[u8],
@@ -90,7 +90,7 @@ fn application_13(alloc: Global, payload: &[u8]) -> Said
     }
 }
 
-/// What the payload after the marker `APP(number)` says.
+/// Returns what the payload after the marker `APP(number)` says.
 #[tactic(auto, unfolding(crate::specs::Application::application_by))]
 fn application_by(alloc: Global, number: u8, payload: &[u8]) -> Said
     ensures { IfOk result (λ said. option_map application_in said
@@ -105,7 +105,7 @@ fn application_by(alloc: Global, number: u8, payload: &[u8]) -> Said
     }
 }
 
-/// Passes over `left` bytes, which say nothing that is known.
+/// Skips `left` bytes, which say nothing that is known.
 fn pass_over<R: Read + Drop>(
     alloc: Global,
     source: &mut Source<R>,
@@ -118,7 +118,7 @@ fn pass_over<R: Read + Drop>(
     Ok(None)
 }
 
-/// Passes over `left` bytes after a transform.
+/// Skips `left` bytes after a transform.
 fn pass_over_after<R: Read + Drop>(
     alloc: Global,
     source: &mut Source<R>,
@@ -143,8 +143,8 @@ fn transform_by(number: u8) -> Option<AdobeColorTransform>
     }
 }
 
-/// The payload after the marker `APP(14)`, where it has `left` bytes and at least twelve: an Adobe
-/// segment, whose twelfth byte is the transform, or none.
+/// Reads the payload after the marker `APP(14)`, where it has `left` bytes and at least twelve:
+/// an Adobe segment, whose twelfth byte is the transform, or none.
 #[tactic(auto, unfolding(crate::specs::Application::adobe_at))]
 fn read_adobe<R: Read + Drop>(
     alloc: Global,
@@ -167,7 +167,7 @@ fn read_adobe<R: Read + Drop>(
     }
 }
 
-/// The payload after the marker `APP(14)`, of `left` bytes.
+/// Reads the payload after the marker `APP(14)`, of `left` bytes.
 #[tactic(auto, unfolding(crate::specs::Application::application_14))]
 fn read_application_14<R: Read + Drop>(
     alloc: Global,
@@ -184,8 +184,8 @@ fn read_application_14<R: Read + Drop>(
     }
 }
 
-/// The payload after the marker `APP(number)`, of `left` bytes. It is held only where it may say
-/// something.
+/// Reads the payload after the marker `APP(number)`, of `left` bytes. It is kept only where it
+/// may say something.
 fn read_payload<R: Read + Drop>(
     alloc: Global,
     source: &mut Source<R>,
@@ -202,7 +202,7 @@ fn read_payload<R: Read + Drop>(
     }
 }
 
-/// The payload after the marker `APP(number)`, of `left` bytes.
+/// Reads the payload after the marker `APP(number)`, of `left` bytes.
 #[tactic(auto, unfolding(crate::specs::Application::payload_at))]
 fn read_known_payload<R: Read + Drop>(
     alloc: Global,

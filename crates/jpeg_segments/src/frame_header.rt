@@ -45,7 +45,7 @@ pub(crate) struct Factors {
     pub quantization: usize,
 }
 
-/// The size of the frame. A height of 0 would be defined by a later DNL segment.
+/// Reads the size of the frame. A height of 0 would be defined by a later DNL segment.
 #[tactic(auto, unfolding(crate::specs::Frame::size_at))]
 fn read_size<R: Read + Drop>(alloc: Global, source: &mut Source<R>) -> Result<Dimensions>
     ensures answers { Answers (λ d. (d.width, d.height)) size_at source.old result source.new }
@@ -68,7 +68,7 @@ fn is_lossless(number: u8) -> bool
     number % 4 == 3
 }
 
-/// The process of the marker `SOF(number)`.
+/// Returns the process of the marker `SOF(number)`.
 fn process_of(number: u8) -> CodingProcess
     ensures { result ≡ process_of number }
 {
@@ -185,7 +185,8 @@ fn is_place(lossless: bool, place: u8) -> bool
     if lossless { place == 0 } else { place <= 3 }
 }
 
-/// The sampling factors and the destination of the quantization table, after the identifier.
+/// Reads the sampling factors and the destination of the quantization table, after the
+/// identifier.
 #[tactic(auto, unfolding(crate::specs::Frame::parameters_at))]
 fn read_parameters<R: Read + Drop>(
     alloc: Global,
@@ -235,14 +236,14 @@ fn has_identifier(front: &[Factors], identifier: u8) -> bool
         .any(|component| component.identifier == identifier)
 }
 
-/// Whether a component in `front` has this identifier.
+/// Returns whether a component in `front` has this identifier.
 fn is_taken(front: &[Factors], identifier: u8) -> bool
     ensures { result ≡ is_taken (map factors_of front.now) identifier }
 {
     has_identifier(front, identifier)
 }
 
-/// The next component, after those in `front`.
+/// Reads the next component, after those in `front`.
 #[tactic(auto, unfolding(crate::specs::Frame::factors_at))]
 fn read_factors<R: Read + Drop>(
     alloc: Global,
@@ -285,7 +286,7 @@ fn read_components<R: Read + Drop>(
     Ok(components)
 }
 
-/// A frame of these components.
+/// Returns a frame of these components.
 #[tactic(auto, unfolding(crate::specs::Frame::frame_of))]
 fn frame_of(
     alloc: Global,
@@ -319,7 +320,7 @@ fn frame_of(
     })
 }
 
-/// A frame header of the marker `SOF(number)`.
+/// Reads a frame header of the marker `SOF(number)`.
 #[tactic(auto, using(crate::proofs::ScaleLemmas::frames_are_sized), unfolding(crate::specs::Frame::sof_at))]
 fn read_frame<R: Read + Drop>(
     alloc: Global,

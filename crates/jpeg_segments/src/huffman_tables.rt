@@ -12,10 +12,10 @@ use jpeg_bits::source::Source;
 use std::alloc::{AllocError, Global};
 use std::io::Read;
 
-/// The tables of each class, DC and AC, by their places 0 to 3.
+/// The tables of each class, DC and AC, by their destinations 0 to 3.
 pub type PlacedTables = (Vec<Option<HuffmanTable>>, Vec<Option<HuffmanTable>>);
 
-/// How many codes each length has, from 1 to 16 bits.
+/// Reads how many codes each length has, from 1 to 16 bits.
 fn read_counts<R: Read + Drop>(alloc: Global, source: &mut Source<R>) -> Result<[u8; 16]>
     ensures { Answers (λ v. v) (times 16 next_byte) source.old result source.new }
 {
@@ -34,7 +34,7 @@ fn total(counts: &[u8; 16]) -> u16
     total
 }
 
-/// The symbols of a table of these counts, and the table.
+/// Reads the symbols of a table of these counts, and the table.
 #[tactic(auto, unfolding(crate::specs::HuffmanTables::symbols_at))]
 fn read_table<R: Read + Drop>(
     alloc: Global,
@@ -65,8 +65,8 @@ fn count_error(alloc: Global, class: HuffmanTableClass, destination: u8, count: 
     ))
 }
 
-/// The next table of this class for this destination, where `left` bytes are left of the segment:
-/// how many bytes it takes with the byte of its class, and the table.
+/// Reads the next table of this class for this destination, where `left` bytes are left of the
+/// segment: how many bytes it takes with the byte of its class, and the table.
 #[tactic(auto, unfolding(crate::specs::HuffmanTables::codes_at))]
 fn read_codes<R: Read + Drop>(
     alloc: Global,
@@ -97,7 +97,7 @@ fn read_codes<R: Read + Drop>(
     Ok((size, table))
 }
 
-/// A table that is read: its class, its place, and how many bytes of the segment it takes.
+/// A table that is read: its class, its destination, and how many bytes of the segment it takes.
 #[derive(Drop)]
 struct PlacedTable {
     class: HuffmanTableClass,
@@ -106,7 +106,7 @@ struct PlacedTable {
     table: HuffmanTable,
 }
 
-/// The next table, where `left` bytes are left of the segment.
+/// Reads the next table, where `left` bytes are left of the segment.
 #[tactic(auto, unfolding(crate::specs::HuffmanTables::placed_codes_at))]
 fn read_placed_table<R: Read + Drop>(
     alloc: Global,
@@ -147,7 +147,7 @@ fn read_placed_table<R: Read + Drop>(
     })
 }
 
-/// Four places with no table.
+/// Returns four destinations with no table.
 fn no_tables(alloc: Global) -> std::result::Result<Vec<Option<HuffmanTable>>, AllocError>
     ensures { IfOk result (λ v. v.items ≡ replicate 4 None) }
 {
@@ -179,7 +179,7 @@ fn place_table(tables: &mut PlacedTables, placed: PlacedTable)
     }
 }
 
-/// The greatest place that a table may have.
+/// Returns the greatest destination that a table may have.
 pub(crate) fn greatest_place(is_baseline: Option<bool>) -> u8
     ensures place { result ≡ greatest_place is_baseline }
     ensures most { result ≤ 3 }
@@ -190,7 +190,7 @@ pub(crate) fn greatest_place(is_baseline: Option<bool>) -> u8
     }
 }
 
-/// The destinations up to the greatest, as a refusal names them.
+/// Returns the destinations up to the greatest, as a refusal names them.
 pub(crate) fn expected_destinations(greatest: u8) -> &'static str {
     if greatest == 1 {
         "0 or 1 in a baseline frame"
@@ -199,13 +199,13 @@ pub(crate) fn expected_destinations(greatest: u8) -> &'static str {
     }
 }
 
-/// Reads the tables of a segment (T.81, B.2.4.2): two lists of four places, for DC and for AC.
-/// `is_baseline` is of the frame, where one was read: in a baseline frame a place is 0 or 1, else 0
-/// to 3.
+/// Reads the tables of a segment (T.81, B.2.4.2): two lists of four destinations, for DC and for
+/// AC. `is_baseline` is of the frame, where one was read: in a baseline frame a destination is 0 or
+/// 1, else 0 to 3.
 ///
-/// Errors: `Format` where the length, a class, a place, the number of codes or their lengths break
-/// a rule, or where 1 to 17 bytes are left after the last table; `Io` where the bytes end or a read
-/// fails; `OutOfMemory`.
+/// Errors: `Format` where the length, a class, a destination, the number of codes or their lengths
+/// break a rule, or where 1 to 17 bytes are left after the last table; `Io` where the bytes end or
+/// a read fails; `OutOfMemory`.
 #[tactic(auto, unfolding(crate::specs::HuffmanTables::dht_at))]
 pub fn parse_dht<R: Read + Drop>(
     alloc: Global,

@@ -45,7 +45,7 @@ pub struct Component {
     pub horizontal_sampling_factor: u8,
     /// How many of its blocks an MCU has down: 1 to 4.
     pub vertical_sampling_factor: u8,
-    /// The place of its quantization table: 0 to 3.
+    /// The destination of its quantization table: 0 to 3.
     pub quantization_table_index: usize,
     /// How many samples one side of a block gives: 1, 2, 4 or 8.
     pub dct_scale: usize,

@@ -69,7 +69,7 @@ fn read_table<R: Read + Drop>(
     Ok(values)
 }
 
-/// The next table where `left` bytes are left: its size and place, and the table.
+/// Reads the next table where `left` bytes are left: its size and destination, and the table.
 #[tactic(auto, unfolding(crate::specs::Quantization::placed_table_at))]
 fn read_placed_table<R: Read + Drop>(
     alloc: Global,
@@ -105,10 +105,10 @@ fn read_placed_table<R: Read + Drop>(
 }
 
 /// Reads the quantization tables of a segment (T.81, B.2.4.1), each in zigzag order, by their
-/// places 0 to 3. Of two tables for one place the later stays.
+/// destinations 0 to 3. Of two tables for one destination the later stays.
 ///
-/// Errors: `Format` where the length, a precision, a place or a value of 0 breaks a rule; `Io`
-/// where the bytes end or a read fails; `OutOfMemory`.
+/// Errors: `Format` where the length, a precision, a destination or a value of 0 breaks a rule;
+/// `Io` where the bytes end or a read fails; `OutOfMemory`.
 #[tactic(auto, unfolding(crate::specs::Quantization::dqt_at))]
 pub fn parse_dqt<R: Read + Drop>(
     alloc: Global,

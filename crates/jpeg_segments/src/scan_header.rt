@@ -20,8 +20,8 @@ use jpeg_bits::source::Source;
 use std::alloc::{AllocError, Global};
 use std::io::Read;
 
-/// A component's place in the frame, the places of its tables, and the blocks that it has in an
-/// MCU.
+/// A component's index in the frame, the destinations of its tables, and the blocks that it has in
+/// an MCU.
 #[derive(Clone, Copy)]
 struct Selector {
     component: usize,
@@ -30,7 +30,7 @@ struct Selector {
     blocks: u16,
 }
 
-/// The number of components of the scan, where the length is the one that they need.
+/// Reads the number of components of the scan, where the length is the one that they need.
 #[tactic(auto, unfolding(crate::specs::ScanHeader::count_at))]
 fn read_count<R: Read + Drop>(alloc: Global, source: &mut Source<R>) -> Result<u8>
     ensures answers { Answers (λ n. n) count_at source.old result source.new }
@@ -65,7 +65,7 @@ fn position_of(components: &[Component], identifier: u8) -> Option<usize>
         .position(|component| component.identifier == identifier)
 }
 
-/// The place of the component with this identifier.
+/// Returns the index of the component with this identifier.
 fn place_of(components: &[Component], identifier: u8) -> Option<usize>
     ensures place { result ≡ place_of (map component_in components.now) identifier }
     ensures within { IfSome result (λ i. i < length components.now) }
@@ -80,7 +80,7 @@ fn block_count(component: &Component) -> u16
     u16::from(component.horizontal_sampling_factor) * u16::from(component.vertical_sampling_factor)
 }
 
-/// The number of blocks that the component at a place has in an MCU.
+/// Returns the number of blocks that the component at an index has in an MCU.
 fn blocks_by(components: &[Component], place: usize) -> u16
     requires { place < length components.now }
     ensures { result ≡ blocks_by (map component_in components.now) place }
@@ -106,7 +106,7 @@ fn destination_error(
     ))
 }
 
-/// The tables of the component at a place of the frame.
+/// Reads the tables of the component at an index of the frame.
 #[tactic(auto, unfolding(crate::specs::ScanHeader::tables_at))]
 fn read_tables<R: Read + Drop>(
     alloc: Global,
@@ -140,8 +140,8 @@ fn read_tables<R: Read + Drop>(
     })
 }
 
-/// The next component, whose place in the frame is at least `least`: components stand in the order
-/// of the frame.
+/// Reads the next component, whose index in the frame is at least `least`: components stand in
+/// the order of the frame.
 #[tactic(auto, unfolding(crate::specs::ScanHeader::selector_at))]
 fn read_selector<R: Read + Drop>(
     alloc: Global,
@@ -193,7 +193,7 @@ fn read_selectors<R: Read + Drop>(
     Ok(selectors)
 }
 
-/// The number of blocks of an MCU.
+/// Returns the number of blocks of an MCU.
 fn total(selectors: &[Selector]) -> u32
     requires { length selectors.now ≤ 4 }
     ensures { result ≡ sum_by (λ s. s.blocks) selectors.now }
@@ -205,7 +205,7 @@ fn total(selectors: &[Selector]) -> u32
     total
 }
 
-/// Whether an MCU of several components has at most 10 blocks.
+/// Returns whether an MCU of several components has at most 10 blocks.
 fn is_mcu(selectors: &[Selector]) -> bool
     requires { length selectors.now ≤ 4 }
     ensures { result ≡ is_mcu (map selector_of selectors.now) }
@@ -213,8 +213,9 @@ fn is_mcu(selectors: &[Selector]) -> bool
     selectors.len() <= 1 || total(selectors) <= 10
 }
 
-/// A progressive scan (T.81, G.1.1.1) codes the DC coefficients or others: never both, and others
-/// of one component alone. A refinement lowers the level by one.
+/// Returns whether a progressive scan may have this band and these levels (T.81, G.1.1.1): it codes
+/// the DC coefficients or others, never both, and others of one component alone. A refinement
+/// lowers the level by one.
 fn is_progressive_band(count: usize, first: u8, last: u8, high: u8, low: u8) -> bool
     ensures { result ≡ is_progressive_band count first last high low }
 {
@@ -234,7 +235,7 @@ struct Band {
     low: u8,
 }
 
-/// Whether a scan of `count` components may have this band.
+/// Returns whether a scan of `count` components may have this band.
 fn is_band(process: CodingProcess, count: usize, band: Band) -> bool
     ensures value { result ≡ is_band process count band.first band.last band.high band.low }
     ensures small { IsTrue result → band.last ≤ 63 }
@@ -369,7 +370,7 @@ fn predictor_of(process: CodingProcess, first: u8) -> Predictor
     }
 }
 
-/// The place after the last coefficient.
+/// Returns the index after the last coefficient.
 fn after_of(process: CodingProcess, last: u8) -> u8
     requires { last ≤ 63 }
     ensures { result ≡ after_of process last }
@@ -380,7 +381,7 @@ fn after_of(process: CodingProcess, last: u8) -> u8
     }
 }
 
-/// The places of components, of their DC tables and of their AC tables.
+/// The indices of components, and the destinations of their DC and AC tables.
 #[derive(Drop)]
 struct Places {
     components: Vec<usize>,
@@ -438,7 +439,7 @@ fn scan_of(
     })
 }
 
-/// The coefficients and the levels; a level is below the precision.
+/// Reads the coefficients and the levels; a level is below the precision.
 #[tactic(auto, unfolding(crate::specs::ScanHeader::band_at, crate::specs::ScanHeader::scan_of))]
 fn read_band<R: Read + Drop>(
     alloc: Global,
@@ -476,10 +477,10 @@ fn read_band<R: Read + Drop>(
     Ok(scan_of(alloc, frame.coding_process, selectors, band)?)
 }
 
-/// Reads a scan header of a frame (T.81, B.2.3): the places of its components in the frame and of
-/// the components' tables, the coefficients that it codes by their places in zigzag order, the
-/// predictor, the levels and the point transform. In a sequential scan all 64 coefficients are
-/// coded, and a last coefficient of 0 is read as 63.
+/// Reads a scan header of a frame (T.81, B.2.3): the indices of its components in the frame and the
+/// destinations of the components' tables, the coefficients that it codes by their indices in
+/// zigzag order, the predictor, the levels and the point transform. In a sequential scan all 64
+/// coefficients are coded, and a last coefficient of 0 is read as 63.
 ///
 /// Errors: `Format` where the header breaks a rule, names a component that the frame does not have,
 /// or names components out of the frame's order; `Io` where the bytes end or a read fails;

@@ -22,9 +22,9 @@ pub fn ceiling(n: u32, d: u32) -> u32
     (n + (d - 1)) / d
 }
 
-/// The number of samples along a side of a component at a scale, where the frame has `side` samples
-/// along it, the component has this sampling factor and the greatest of the frame is `most` (T.81,
-/// A.1.1). At a scale a block gives `scale` samples a side in place of 8.
+/// Returns the number of samples along a side of a component at a scale, where the frame has `side`
+/// samples along it, the component has this sampling factor and the greatest of the frame is `most`
+/// (T.81, A.1.1). At a scale a block gives `scale` samples a side in place of 8.
 fn samples(side: u16, factor: u8, most: u8, scale: usize) -> u16
     requires some { 1 ≤ most }
     requires within { factor ≤ most }
@@ -37,8 +37,8 @@ fn samples(side: u16, factor: u8, most: u8, scale: usize) -> u16
     ceiling(scaled, u32::from(most) * BLOCK_SIDE as u32) as u16
 }
 
-/// The number of MCUs along a side of the frame (T.81, A.2), by its number of samples and the
-/// greatest sampling factor.
+/// Returns the number of MCUs along a side of the frame (T.81, A.2), by its number of samples and
+/// the greatest sampling factor.
 pub(crate) fn mcus(side: u16, most: u8) -> u16
     requires some { 1 ≤ most }
     requires most { most ≤ 4 }
@@ -48,7 +48,7 @@ pub(crate) fn mcus(side: u16, most: u8) -> u16
     ceiling(u32::from(side), BLOCK_SIDE as u32 * u32::from(most)) as u16
 }
 
-/// A component of a frame of this size, where these are the greatest factors.
+/// Returns a component of a frame of this size, where these are the greatest factors.
 #[tactic(auto, unfolding(crate::specs::Frame::component_of))]
 fn component_of(
     size: Dimensions,
@@ -88,7 +88,7 @@ fn greater(a: u8, b: u8) -> u8
     if a < b { b } else { a }
 }
 
-/// The greatest factors, across and down.
+/// Returns the greatest factors, across and down.
 pub(crate) fn greatest_factors(components: &[Factors]) -> (u8, u8)
     requires { All IsInRange (map factors_of components.now) }
     ensures horizontal { result.0 ≡ greatest (λ c. c.horizontal) (map factors_of components.now) }
@@ -109,7 +109,7 @@ pub(crate) fn greatest_factors(components: &[Factors]) -> (u8, u8)
     (horizontal, vertical)
 }
 
-/// The components of a frame of this size.
+/// Returns the components of a frame of this size.
 pub(crate) fn components_of(
     alloc: Global,
     size: Dimensions,
@@ -134,7 +134,7 @@ pub(crate) fn components_of(
     Ok(made)
 }
 
-/// The greatest sampling factors of the components of a frame, across and down.
+/// Returns the greatest sampling factors of the components of a frame, across and down.
 pub fn greatest_of(components: &[Component]) -> (u8, u8)
     requires { AllHaveSampling (map component_in components.now) }
     ensures horizontal { result.0 ≡ greatest (λ f. f.horizontal) (map factors_in components.now) }

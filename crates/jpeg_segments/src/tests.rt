@@ -91,7 +91,7 @@ fn sizes_of_a_frame(rt: HostRuntime) -> std::result::Result<(), Fail> {
     Ok(())
 }
 
-/// Whether the picture and the components of a frame have these sizes at a scale.
+/// Returns whether the picture and the components of a frame have these sizes at a scale.
 fn has_sizes(frame: &FrameInfo, scale: usize, output: Dimensions, sizes: &[Dimensions]) -> bool {
     let mut is_same = frame.output_size == output && frame.components.len() == sizes.len();
     for (component, size) in frame.components.iter().zip(sizes) {
@@ -343,7 +343,7 @@ fn a_table_of_codes(rt: HostRuntime) -> std::result::Result<(), Fail> {
     Ok(())
 }
 
-/// A segment of one table with one code of length 1.
+/// Returns a segment of one table with one code of length 1.
 fn short_table(length: u8, place: u8) -> [u8; 20] {
     [
         0, length, place, 1, 0, 0, 0, 0, 0, 0, 0, 0, 0, 0, 0, 0, 0, 0, 0, 4,
@@ -515,7 +515,7 @@ fn outcomes_of_scan_headers(rt: HostRuntime) {
     }
 }
 
-/// A scan of a frame of three components.
+/// Returns a scan of a frame of three components.
 fn scan_of_three(alloc: Global, number: u8, bytes: &[u8]) -> Result<ScanInfo> {
     let frame = frame_of(alloc, number, &THREE)?;
     parse_sos(alloc, &mut Source::new(bytes), &frame)
@@ -566,7 +566,7 @@ fn outcomes_of_scans_of_three_components(rt: HostRuntime) {
     }
 }
 
-/// A scan of a frame of two components, with these sampling factors.
+/// Returns a scan of a frame of two components, with these sampling factors.
 fn scan_of_two(alloc: Global, factors: [u8; 2], bytes: &[u8]) -> Result<ScanInfo> {
     let [first, second] = factors;
     let header = [0, 14, 8, 0, 8, 0, 16, 2, 1, first, 0, 2, second, 0];
@@ -812,7 +812,7 @@ enum Seen {
     Psir,
 }
 
-/// A segment after the marker `APP(number)`, of a name and the bytes after it.
+/// Returns a segment after the marker `APP(number)`, of a name and the bytes after it.
 fn app_of(alloc: Global, number: u8, name: &[u8], data: &[u8]) -> Result<Option<AppData>> {
     let mut bytes = Vec::new(alloc);
     let length = name.len().saturating_add(data.len()).saturating_add(2);
