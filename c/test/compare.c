@@ -42,7 +42,7 @@ static void with_jpegraw(const char *jpegraw, const char *name, int answer, cons
     } else {
         CHECK(WIFEXITED(status) && WEXITSTATUS(status) == 1);
         int is_told = picture->text[0] && strstr((char *)written, picture->text);
-        if (!is_told) printf("%s: jpegraw says %s, the library %s\n", name, (char *)written, picture->text);
+        if (!is_told) printf("%s: jpegraw says %.100s, the library %s\n", name, (char *)written, picture->text);
         CHECK(is_told);
     }
     free(written);
