@@ -41,7 +41,7 @@ extern "C" {
 #define ZAXBRIAR_CALL
 #endif
 
-/* What a call returns. After any other value than ZAXBRIAR_OK, `pixels` and `data` are unchanged. */
+/* What a call returns. Unless it is ZAXBRIAR_OK, `pixels` and `data` are as they were. */
 enum {
     ZAXBRIAR_OK = 0,
     ZAXBRIAR_MALFORMED = 1,    /* the stream breaks a rule of the standard */
@@ -53,8 +53,8 @@ enum {
     ZAXBRIAR_NO_DATA = 7       /* the header has no such metadata */
 };
 
-/* How the pixels are arranged. A layout other than AS_STORED is for grey and for red, green and
- * blue pictures with one byte a sample; for others it is a ZAXBRIAR_BAD_ARGUMENT. */
+/* How the pixels are arranged. A layout other than AS_STORED is for pictures of grey, or of red,
+ * green and blue, with 8 bits a sample; for others it is a ZAXBRIAR_BAD_ARGUMENT. */
 enum {
     ZAXBRIAR_AS_STORED = 0, /* each pixel's samples, in the order of the components */
     ZAXBRIAR_GREY = 1,      /* 1 byte; for grey pictures only */
@@ -70,7 +70,7 @@ enum { ZAXBRIAR_SEQUENTIAL = 1, ZAXBRIAR_PROGRESSIVE = 2, ZAXBRIAR_LOSSLESS = 3 
  * pictures of three components, CMYK and YCCK for those of four; decoding others is MALFORMED.
  * Grey and lossless pictures aren't affected. */
 enum {
-    ZAXBRIAR_TRANSFORM_OF_STREAM = 0,
+    ZAXBRIAR_TRANSFORM_OF_STREAM = 0, /* 1 isn't one */
     ZAXBRIAR_TRANSFORM_RGB = 2,
     ZAXBRIAR_TRANSFORM_YCBCR = 3,
     ZAXBRIAR_TRANSFORM_CMYK = 4,
@@ -86,9 +86,10 @@ typedef struct zaxbriar_options {
     uint64_t stride;       /* bytes from a line to the next, at most 2^32; 0: no gaps */
     uint16_t min_width;    /* decode at the least of 1/8, 1/4, 1/2 and 1 of the size at which .. */
     uint16_t min_height;   /* .. the picture is so wide or so high; 0 and 0: at full size */
-    uint16_t transform;    /* ZAXBRIAR_TRANSFORM_.. */
-    uint16_t layout;       /* ZAXBRIAR_AS_STORED .. */
-    uint64_t reserved[3];  /* zero */
+    uint8_t transform;     /* ZAXBRIAR_TRANSFORM_.. */
+    uint8_t layout;        /* ZAXBRIAR_AS_STORED .. */
+    uint16_t reserved;     /* zero */
+    uint64_t reserved_words[3];
 } zaxbriar_options;
 
 /* A picture, as decoding with the options gives it. All zero, but for `text`, where the header was
