@@ -19,7 +19,9 @@ uint32_t zaxbriar_checked_metadata(const uint8_t *jpeg, size_t jpeg_size, uint32
 _Static_assert(sizeof(size_t) == 8, "the proofs are for 64 bits");
 _Static_assert(sizeof(zaxbriar_options) == 48, "options");
 _Static_assert(offsetof(zaxbriar_options, min_width) == 16, "options");
-_Static_assert(offsetof(zaxbriar_options, reserved) == 24, "options");
+_Static_assert(offsetof(zaxbriar_options, transform) == 20, "options");
+_Static_assert(offsetof(zaxbriar_options, layout) == 21, "options");
+_Static_assert(offsetof(zaxbriar_options, reserved_words) == 24, "options");
 _Static_assert(sizeof(zaxbriar_picture) == 192, "picture");
 _Static_assert(offsetof(zaxbriar_picture, width) == 32, "picture");
 _Static_assert(offsetof(zaxbriar_picture, pixel_bytes) == 40, "picture");

@@ -38,7 +38,7 @@ static inline int zaxbriar_read_info_in_colour(const void *jpeg, size_t jpeg_siz
     int answer = zaxbriar_read_info(jpeg, jpeg_size, &as_stored, picture);
     if (answer != ZAXBRIAR_OK) return answer;
     if (in_colour_is_there(picture)) return zaxbriar_read_info(jpeg, jpeg_size, options, picture);
-    picture->layout = (uint8_t)options->layout;
+    picture->layout = options->layout;
     picture->pixel_bytes = options->layout == ZAXBRIAR_RGB ? 3 : 4;
     picture->row_bytes = (uint64_t)picture->width * picture->pixel_bytes;
     uint64_t stride = options->stride ? options->stride : picture->row_bytes;

@@ -33,12 +33,14 @@ static void sizes(void) {
 
 static void unknown_options(void) {
     size_t length;
-    for (int which = 0; which < 6; which++) {
+    for (int which = 0; which < 8; which++) {
         zaxbriar_options options = {0};
         if (which == 0) options.layout = ZAXBRIAR_BGRA + 1;
         if (which == 1) options.transform = ZAXBRIAR_TRANSFORM_YCCK + 1;
-        if (which == 2) options.layout = UINT16_MAX;
-        if (which >= 3) options.reserved[which - 3] = 1;
+        if (which == 2) options.layout = UINT8_MAX;
+        if (which == 3) options.transform = 1;
+        if (which == 4) options.reserved = 1;
+        if (which >= 5) options.reserved_words[which - 5] = 1;
         CHECK(zaxbriar_read_info(jpeg.start, jpeg.size, &options, &picture) == ZAXBRIAR_BAD_ARGUMENT);
         CHECK(picture.text[0] != 0);
         CHECK(zaxbriar_decode(jpeg.start, jpeg.size, &options, NULL, 0, &picture) == ZAXBRIAR_BAD_ARGUMENT);

@@ -96,7 +96,7 @@ static void each_allocation(const unsigned char *jpeg, size_t size, const zaxbri
 }
 
 static void of_stream(const unsigned char *bytes, size_t size, int is_whole) {
-    static const uint16_t layouts[] = {ZAXBRIAR_AS_STORED, ZAXBRIAR_AS_STORED, ZAXBRIAR_BGRA, ZAXBRIAR_RGB};
+    static const uint8_t layouts[] = {ZAXBRIAR_AS_STORED, ZAXBRIAR_AS_STORED, ZAXBRIAR_BGRA, ZAXBRIAR_RGB};
     zaxbriar_options options = {.layout = layouts[files % 4], .stride = files % 8 >= 6 ? 70000 * 8 : 0};
     zaxbriar_picture picture;
     struct fenced jpeg = fence(size);

@@ -126,7 +126,7 @@ int tjDecompress2(tjhandle handle, const unsigned char *jpeg, unsigned long size
     if (!handle || !pixels || width < 0 || height < 0 || pitch < 0) return fail(handle, "a bad argument");
     if (format < 0 || (size_t)format >= sizeof formats / sizeof *formats || !formats[format].bytes)
         return fail(handle, "a pixel format that isn't supported");
-    options.layout = (uint16_t)layout_of(format);
+    options.layout = (uint8_t)layout_of(format);
     if (!options_for(jpeg, size, width, height, &options, &picture)) return fail(handle, picture.text);
     if (!pitch) pitch = (int)picture.width * formats[format].bytes;
     if ((uint64_t)pitch < (uint64_t)picture.width * formats[format].bytes) return fail(handle, "a line is longer than the pitch");

@@ -18,9 +18,10 @@ class Options(Structure):
         ("stride", c_uint64),
         ("min_width", c_uint16),
         ("min_height", c_uint16),
-        ("transform", c_uint16),
-        ("layout", c_uint16),
-        ("reserved", c_uint64 * 3),
+        ("transform", c_uint8),
+        ("layout", c_uint8),
+        ("reserved", c_uint16),
+        ("reserved_words", c_uint64 * 3),
     ]
 
 
