@@ -81,7 +81,7 @@ static int same_pixel(int layout, const zaxbriar_picture *whole, const unsigned 
 static void in_layout(int layout, const zaxbriar_picture *whole, const unsigned char *pixels) {
     zaxbriar_options options = {.layout = (uint8_t)layout, .stride = (uint64_t)whole->width * 8 + 13};
     zaxbriar_picture picture, head;
-    int is_8_bit = whole->sample_bytes == 1 && whole->components != 4;
+    int is_8_bit = whole->precision == 8 && whole->components != 4;
     int is_there = layout == ZAXBRIAR_AS_STORED || (is_8_bit && (layout != ZAXBRIAR_GREY || whole->components == 1));
     int answer = zaxbriar_read_info(jpeg.start, jpeg.size, &options, &head);
     CHECK(answer == (is_there ? ZAXBRIAR_OK : ZAXBRIAR_BAD_ARGUMENT));
