@@ -14,7 +14,8 @@ ROOT = Path(__file__).resolve().parent.parent
 OTHERS = """axioms Box ceil clone compute_image_parallel dyn FORMAT Hmax ljpeg LOSSLESS malloc
     non_exhaustive perf plant Pt random_tests_tests rattle_alloc rattle_dealloc rattle_errno
     rattle_realloc realloc ROW TEST tmp try ulimit Upsample Vmax __xpg_strerror_r""".split()
-COMMENTS = {".rt": r'//.*|"(?:\\.|[^"\\\n])*"', ".antt": r"--.*", ".py": r"(?m)^\s*#.*", ".edit": "(?!)"}
+C_COMMENTS = r'/\*[\s\S]*?\*/|"(?:\\.|[^"\\\n])*"'
+COMMENTS = {".rt": r'//.*|"(?:\\.|[^"\\\n])*"', ".antt": r"--.*", ".py": r"(?m)^\s*#.*", ".edit": "(?!)", ".c": C_COMMENTS, ".h": C_COMMENTS}
 
 
 def words_of_sources(files):

@@ -1,0 +1,42 @@
+/* The allocator of the proved code, over malloc, realloc and free.
+ *
+ * The proofs take for granted that
+ * - the three functions belong to one allocator;
+ * - a block is aligned to each power of two up to 16 that divides its size, which C's malloc and
+ *   realloc guarantee where alignof(max_align_t) is 16;
+ * - a refused allocation is reported, and leaves a block that was to be resized as it was.
+ *
+ * `align` is 1, 2, 4, 8 or 16. `kept` bytes of a block have to stay as they are when it is resized;
+ * realloc keeps them all. A block of no bytes is a block too: malloc(0) may return a null pointer,
+ * so such a block is given `align` bytes. */
+#include <stdalign.h>
+#include <stdbool.h>
+#include <stddef.h>
+#include <stdlib.h>
+
+/* What an allocation returns: whether it succeeded, and a pointer that is never null. */
+struct tried {
+    bool ok;
+    void *block;
+};
+
+struct tried rattle_alloc(size_t size, size_t align);
+struct tried rattle_realloc(void *block, size_t kept, size_t size, size_t align);
+void rattle_dealloc(void *block);
+
+_Static_assert(alignof(max_align_t) >= 16, "blocks are aligned to 16 bytes");
+
+static char nothing;
+
+static struct tried tried(void *block) {
+    return (struct tried){block != NULL, block ? block : &nothing};
+}
+
+struct tried rattle_alloc(size_t size, size_t align) { return tried(malloc(size ? size : align)); }
+
+struct tried rattle_realloc(void *block, size_t kept, size_t size, size_t align) {
+    (void)kept;
+    return tried(realloc(block, size ? size : align));
+}
+
+void rattle_dealloc(void *block) { free(block); }

@@ -1,0 +1,187 @@
+/* hostile LIST DAMAGED: decodes each file that LIST names, and so many damaged copies of each, from memory that ends right
+ * before a page that can't be read, into memory that ends right before a page that can't be written; and files of less
+ * than 3,000 bytes with each allocation refused in turn. A call must free what it has allocated, and change no byte of the
+ * pixels unless it succeeds. Linked with --wrap=malloc, --wrap=realloc and --wrap=free. */
+#define _GNU_SOURCE
+#include <sys/mman.h>
+
+#include "common.h"
+
+enum { PAGE = 4096, MOST_PIXELS = 4000000, SMALL_FILE = 3000 };
+
+static int is_counting;
+static long allocations, refused_one, live, most_allocations;
+static long files, refusals, answers[ZAXBRIAR_NO_DATA + 1];
+
+void *__real_malloc(size_t size);
+void *__real_realloc(void *start, size_t size);
+void __real_free(void *start);
+void *__wrap_malloc(size_t size);
+void *__wrap_realloc(void *start, size_t size);
+void __wrap_free(void *start);
+
+void *__wrap_malloc(size_t size) {
+    if (!is_counting) return __real_malloc(size);
+    if (++allocations == refused_one) return NULL;
+    void *start = __real_malloc(size);
+    live += start != NULL;
+    return start;
+}
+
+void *__wrap_realloc(void *start, size_t size) {
+    if (!is_counting) return __real_realloc(start, size);
+    if (++allocations == refused_one) return NULL;
+    void *moved = __real_realloc(start, size);
+    live += !start && moved;
+    return moved;
+}
+
+void __wrap_free(void *start) {
+    if (is_counting) live -= start != NULL;
+    __real_free(start);
+}
+
+/* Bytes between two pages that can't be touched, right before the second. */
+struct fenced {
+    unsigned char *base, *start;
+    size_t whole;
+};
+
+static struct fenced fence(size_t size) {
+    struct fenced fenced;
+    size_t pages = (size + PAGE - 1) / PAGE * PAGE;
+    fenced.whole = pages + 2 * PAGE;
+    fenced.base = mmap(NULL, fenced.whole, PROT_READ | PROT_WRITE, MAP_PRIVATE | MAP_ANONYMOUS, -1, 0);
+    if (fenced.base == MAP_FAILED) {
+        perror("mmap");
+        exit(2);
+    }
+    mprotect(fenced.base, PAGE, PROT_NONE);
+    mprotect(fenced.base + PAGE + pages, PAGE, PROT_NONE);
+    fenced.start = fenced.base + PAGE + pages - size;
+    return fenced;
+}
+
+static void begin(long refused) {
+    allocations = live = 0;
+    refused_one = refused;
+    is_counting = 1;
+}
+
+static void end(void) {
+    is_counting = 0;
+    CHECK(live == 0);
+}
+
+static int decode(const unsigned char *jpeg, size_t size, const zaxbriar_options *options, struct fenced pixels,
+                  size_t room, long refused) {
+    zaxbriar_picture picture;
+    memset(pixels.start, 0x5A, room);
+    begin(refused);
+    int answer = zaxbriar_decode(jpeg, size, options, pixels.start, room, &picture);
+    end();
+    if (answer) CHECK(is_all(pixels.start, room, 0x5A));
+    return answer;
+}
+
+static void each_allocation(const unsigned char *jpeg, size_t size, const zaxbriar_options *options,
+                            struct fenced pixels, size_t room, int answer) {
+    long all = allocations;
+    for (long refused = 1; refused <= all; refused++) {
+        int other = decode(jpeg, size, options, pixels, room, refused);
+        /* the text of a refusal may be what was refused */
+        CHECK(other == ZAXBRIAR_NO_MEMORY || (other == answer && answer));
+        refusals++;
+    }
+}
+
+static void of_stream(const unsigned char *bytes, size_t size, int is_whole) {
+    static const uint8_t layouts[] = {ZAXBRIAR_AS_STORED, ZAXBRIAR_AS_STORED, ZAXBRIAR_BGRA, ZAXBRIAR_RGB};
+    zaxbriar_options options = {.layout = layouts[files % 4], .stride = files % 8 >= 6 ? 70000 * 8 : 0};
+    zaxbriar_picture picture;
+    struct fenced jpeg = fence(size);
+    if (size) memcpy(jpeg.start, bytes, size);
+    mprotect(jpeg.base + PAGE, jpeg.whole - 2 * PAGE, PROT_READ);
+    files++;
+    begin(0);
+    int answer = zaxbriar_read_info(jpeg.start, size, &options, &picture);
+    end();
+    if (answer == ZAXBRIAR_OK && (uint64_t)picture.width * picture.height <= MOST_PIXELS && picture.size < 100000000) {
+        struct fenced pixels = fence(picture.size);
+        answer = decode(jpeg.start, size, &options, pixels, picture.size, 0);
+        if (allocations > most_allocations) most_allocations = allocations;
+        if (size < SMALL_FILE && is_whole && picture.size < 100000)
+            each_allocation(jpeg.start, size, &options, pixels, picture.size, answer);
+        munmap(pixels.base, pixels.whole);
+    }
+    answers[answer]++;
+    for (int kind = ZAXBRIAR_EXIF; kind <= ZAXBRIAR_ICC; kind++) {
+        size_t length = 0;
+        begin(0);
+        answer = zaxbriar_metadata(jpeg.start, size, kind, NULL, 0, &length);
+        end();
+        if (answer == ZAXBRIAR_NO_ROOM && length < 100000) {
+            struct fenced data = fence(length);
+            begin(0);
+            CHECK(zaxbriar_metadata(jpeg.start, size, kind, data.start, length, &length) == ZAXBRIAR_OK);
+            end();
+            munmap(data.base, data.whole);
+        }
+    }
+    munmap(jpeg.base, jpeg.whole);
+}
+
+static uint64_t state = 88172645463325252u;
+
+/* Marsaglia's xorshift: the same numbers in each run. */
+static size_t below(size_t most) {
+    state ^= state << 13;
+    state ^= state >> 7;
+    state ^= state << 17;
+    return most ? (size_t)(state % most) : 0;
+}
+
+/* Changes one to three bytes, cuts the end off, or repeats some bytes elsewhere. */
+static size_t damage(unsigned char *bytes, size_t size) {
+    static const unsigned char markers[] = {0x00, 0xC0, 0xC2, 0xC3, 0xC4, 0xD0, 0xD8, 0xD9, 0xDA, 0xDB, 0xDD, 0xE1, 0xFF};
+    for (size_t changes = 1 + below(3); changes && size > 4; changes--) {
+        size_t place = 2 + below(below(2) && size > 700 ? 700 : size - 2);
+        switch (below(5)) {
+        case 0: bytes[place] = (unsigned char)below(256); break;
+        case 1: bytes[place] ^= (unsigned char)(1u << below(8)); break;
+        case 2:
+            bytes[place - 1] = 0xFF;
+            bytes[place] = markers[below(sizeof markers)];
+            break;
+        case 3: memmove(bytes + place, bytes + below(size), below(size - place) / 8); break;
+        default: size = place; break;
+        }
+    }
+    return size;
+}
+
+int main(int argc, char **argv) {
+    char name[4096];
+    FILE *list = argc == 3 ? fopen(argv[1], "r") : NULL;
+    if (!list) return 2;
+    while (fgets(name, sizeof name, list)) {
+        name[strcspn(name, "\n")] = 0;
+        subject = name;
+        struct bytes whole = read_file(name);
+        unsigned char *damaged = block(2 * whole.size);
+        of_stream(whole.start, whole.size, 1);
+        for (int copy = 0; copy < atoi(argv[2]); copy++) {
+            memcpy(damaged, whole.start, whole.size);
+            memcpy(damaged + whole.size, whole.start, whole.size);
+            of_stream(damaged, damage(damaged, whole.size), 0);
+        }
+        free(damaged);
+        free(whole.start);
+    }
+    fclose(list);
+    printf("hostile: %ld streams between guard pages:", files);
+    for (int answer = 0; answer <= ZAXBRIAR_NO_DATA; answer++)
+        if (answers[answer]) printf(" %s %ld,", zaxbriar_answer_name(answer), answers[answer]);
+    printf(" at most %ld allocations a call; %ld allocations refused; %d faults\n", most_allocations, refusals, faults);
+    return faults != 0;
+}

@@ -1,0 +1,74 @@
+/* stack LIST: makes each call for each file that LIST names on a thread of 128 kB of stack, which is painted before, and
+ * says how much of it the calls used: more than 64 kB is a fault. */
+#define _GNU_SOURCE
+#include <pthread.h>
+#include <sys/mman.h>
+
+#include "common.h"
+
+enum { STACK = 128 * 1024, FENCE = 4096, PAINT = 0x77, MOST_USED = 64 * 1024 };
+enum call { DECODE, READ_INFO, METADATA, NOTHING, CALLS };
+
+static struct bytes jpeg;
+static unsigned char *pixels;
+static size_t room;
+static enum call call;
+
+static void *make_call(void *unused) {
+    static zaxbriar_picture picture;
+    static int answer;
+    size_t length;
+    (void)unused;
+    switch (call) {
+    case DECODE: answer = zaxbriar_decode(jpeg.start, jpeg.size, NULL, pixels, room, &picture); break;
+    case READ_INFO: answer = zaxbriar_read_info(jpeg.start, jpeg.size, NULL, &picture); break;
+    case METADATA: answer = zaxbriar_metadata(jpeg.start, jpeg.size, ZAXBRIAR_ICC, NULL, 0, &length); break;
+    default: answer = 0;
+    }
+    return &answer;
+}
+
+static size_t used_by_thread(unsigned char *stack) {
+    pthread_attr_t attributes;
+    pthread_t thread;
+    size_t unused = 0;
+    memset(stack, PAINT, STACK);
+    pthread_attr_init(&attributes);
+    if (pthread_attr_setstack(&attributes, stack, STACK) || pthread_create(&thread, &attributes, make_call, NULL)) exit(2);
+    pthread_join(thread, NULL);
+    pthread_attr_destroy(&attributes);
+    while (unused < STACK && stack[unused] == PAINT) unused++;
+    return STACK - unused;
+}
+
+int main(int argc, char **argv) {
+    char name[4096];
+    size_t most[CALLS] = {0};
+    long files = 0;
+    unsigned char *base = mmap(NULL, FENCE + STACK, PROT_READ | PROT_WRITE, MAP_PRIVATE | MAP_ANONYMOUS, -1, 0);
+    FILE *list = argc == 2 ? fopen(argv[1], "r") : NULL;
+    if (!list || base == MAP_FAILED) return 2;
+    mprotect(base, FENCE, PROT_NONE);
+    while (fgets(name, sizeof name, list)) {
+        zaxbriar_picture picture;
+        name[strcspn(name, "\n")] = 0;
+        subject = name;
+        jpeg = read_file(name);
+        room = zaxbriar_read_info(jpeg.start, jpeg.size, NULL, &picture) ? 0 : picture.size;
+        pixels = block(room);
+        for (call = 0; call < CALLS; call++) {
+            size_t used = used_by_thread(base + FENCE);
+            if (used > most[call]) most[call] = used;
+        }
+        free(pixels);
+        free(jpeg.start);
+        files++;
+    }
+    fclose(list);
+    subject = "stack of a call";
+    for (call = 0; call < NOTHING; call++) CHECK(most[call] - most[NOTHING] <= MOST_USED);
+    printf("stack: %ld files on a thread of %d bytes, of which a thread that makes no call uses %zu; with it decode %zu, "
+           "read_info %zu, metadata %zu; %d faults\n",
+           files, STACK, most[NOTHING], most[DECODE], most[READ_INFO], most[METADATA], faults);
+    return faults != 0;
+}

@@ -1,0 +1,90 @@
+/* The C side of the library: tests what a C caller can get wrong and the proved calls can't (null
+ * pointers, sizes above PTRDIFF_MAX), and then calls these. */
+#include "zaxbriar.h"
+
+#include <stddef.h>
+#include <string.h>
+
+/* The proved calls, of crates/zaxbriar. They take a slice as a pointer that isn't null and a
+ * length. */
+uint32_t zaxbriar_checked_read_info(const uint8_t *jpeg, size_t jpeg_size,
+                                    const zaxbriar_options *options, zaxbriar_picture *picture);
+uint32_t zaxbriar_checked_decode(const uint8_t *jpeg, size_t jpeg_size,
+                                 const zaxbriar_options *options, uint8_t *pixels,
+                                 size_t pixels_size, zaxbriar_picture *picture);
+uint32_t zaxbriar_checked_metadata(const uint8_t *jpeg, size_t jpeg_size, uint32_t kind,
+                                   uint8_t *data, size_t data_size, uint64_t *length);
+
+/* The proved code has the same structs. */
+_Static_assert(sizeof(size_t) == 8, "the proofs are for 64 bits");
+_Static_assert(sizeof(zaxbriar_options) == 48, "options");
+_Static_assert(offsetof(zaxbriar_options, min_width) == 16, "options");
+_Static_assert(offsetof(zaxbriar_options, transform) == 20, "options");
+_Static_assert(offsetof(zaxbriar_options, layout) == 21, "options");
+_Static_assert(offsetof(zaxbriar_options, reserved_words) == 24, "options");
+_Static_assert(sizeof(zaxbriar_picture) == 192, "picture");
+_Static_assert(offsetof(zaxbriar_picture, width) == 32, "picture");
+_Static_assert(offsetof(zaxbriar_picture, pixel_bytes) == 40, "picture");
+_Static_assert(offsetof(zaxbriar_picture, orientation) == 46, "picture");
+_Static_assert(offsetof(zaxbriar_picture, text) == 80, "picture");
+
+static const zaxbriar_options no_options;
+
+/* Where an empty slice without a pointer begins. */
+static uint8_t nothing;
+
+static int is_slice(const void *start, size_t size) {
+    return size <= PTRDIFF_MAX && (start != NULL || size == 0);
+}
+
+static int bad_argument(zaxbriar_picture *picture, const char *text) {
+    memset(picture, 0, sizeof *picture);
+    strcpy(picture->text, text);
+    return ZAXBRIAR_BAD_ARGUMENT;
+}
+
+int zaxbriar_read_info(const void *jpeg, size_t jpeg_size, const zaxbriar_options *options,
+                       zaxbriar_picture *picture) {
+    if (!picture) return ZAXBRIAR_BAD_ARGUMENT;
+    if (!is_slice(jpeg, jpeg_size)) return bad_argument(picture, "jpeg is a null pointer");
+    return (int)zaxbriar_checked_read_info(jpeg ? jpeg : &nothing, jpeg_size,
+                                           options ? options : &no_options, picture);
+}
+
+int zaxbriar_decode(const void *jpeg, size_t jpeg_size, const zaxbriar_options *options,
+                    void *pixels, size_t pixels_size, zaxbriar_picture *picture) {
+    zaxbriar_picture unused;
+    if (!picture) picture = &unused;
+    if (!is_slice(jpeg, jpeg_size)) return bad_argument(picture, "jpeg is a null pointer");
+    if (!is_slice(pixels, pixels_size)) return bad_argument(picture, "pixels is a null pointer");
+    return (int)zaxbriar_checked_decode(jpeg ? jpeg : &nothing, jpeg_size,
+                                        options ? options : &no_options,
+                                        pixels ? pixels : &nothing, pixels_size, picture);
+}
+
+int zaxbriar_metadata(const void *jpeg, size_t jpeg_size, int kind, void *data, size_t data_size,
+                      size_t *length) {
+    uint64_t found = 0;
+    int answer = ZAXBRIAR_BAD_ARGUMENT;
+    if (is_slice(jpeg, jpeg_size) && is_slice(data, data_size))
+        answer = (int)zaxbriar_checked_metadata(jpeg ? jpeg : &nothing, jpeg_size, (uint32_t)kind,
+                                                data ? data : &nothing, data_size, &found);
+    if (length) *length = (size_t)found;
+    return answer;
+}
+
+const char *zaxbriar_answer_name(int answer) {
+    switch (answer) {
+    case ZAXBRIAR_OK: return "ok";
+    case ZAXBRIAR_MALFORMED: return "malformed stream";
+    case ZAXBRIAR_UNSUPPORTED: return "unsupported feature";
+    case ZAXBRIAR_TRUNCATED: return "truncated stream";
+    case ZAXBRIAR_NO_MEMORY: return "out of memory";
+    case ZAXBRIAR_NO_ROOM: return "buffer too small";
+    case ZAXBRIAR_BAD_ARGUMENT: return "bad argument";
+    case ZAXBRIAR_NO_DATA: return "no such metadata";
+    default: return "unknown answer";
+    }
+}
+
+uint32_t zaxbriar_version(void) { return 0x000100; }

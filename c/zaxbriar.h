@@ -1,0 +1,141 @@
+/* zaxbriar: a JPEG decoder whose calls are proved.
+ *
+ *     zaxbriar_picture picture;
+ *     if (zaxbriar_read_info(jpeg, jpeg_size, NULL, &picture) != ZAXBRIAR_OK)
+ *         fail(picture.text);
+ *     unsigned char *pixels = malloc(picture.size);
+ *     if (zaxbriar_decode(jpeg, jpeg_size, NULL, pixels, picture.size, &picture) != ZAXBRIAR_OK)
+ *         fail(picture.text);
+ *
+ * The calls keep no state: there is no handle to create or free, any thread may make any call at
+ * any time, and memory that a call allocates it has freed when it returns. Whatever the bytes of
+ * the stream are, a call returns; it never aborts, prints, jumps or waits.
+ *
+ * The caller guarantees that
+ * - `jpeg` points to `jpeg_size` readable bytes that nobody changes during the call;
+ * - `pixels`, `data`, `picture` and `length` point to writable memory that overlaps neither each
+ *   other nor `jpeg` nor `options`, and that nobody else uses during the call;
+ * - the stack has some 64 KB left;
+ * - the system has 64-bit pointers.
+ *
+ * The picture is given as the stream stores it, or with its pixels rearranged (`layout`). A picture
+ * has 1, 3 or 4 components: grey, red green blue, or cyan magenta yellow black, where 255 is full
+ * ink. A sample takes one byte if it has at most 8 bits, and otherwise two, the lower byte first
+ * (only lossless pictures have other than 8 bits).
+ */
+#ifndef ZAXBRIAR_H
+#define ZAXBRIAR_H
+
+#include <stddef.h>
+#include <stdint.h>
+
+#ifdef __cplusplus
+extern "C" {
+#endif
+
+#if defined __GNUC__ && __GNUC__ >= 4
+#define ZAXBRIAR_API __attribute__((visibility("default")))
+#define ZAXBRIAR_CALL ZAXBRIAR_API __attribute__((warn_unused_result))
+#else
+#define ZAXBRIAR_API
+#define ZAXBRIAR_CALL
+#endif
+
+/* What a call returns. Unless it is ZAXBRIAR_OK, `pixels` and `data` are as they were. */
+enum {
+    ZAXBRIAR_OK = 0,
+    ZAXBRIAR_MALFORMED = 1,    /* the stream breaks a rule of the standard */
+    ZAXBRIAR_UNSUPPORTED = 2,  /* the stream needs a feature that isn't supported */
+    ZAXBRIAR_TRUNCATED = 3,    /* the stream ends too soon */
+    ZAXBRIAR_NO_MEMORY = 4,    /* out of memory */
+    ZAXBRIAR_NO_ROOM = 5,      /* the buffer is too small: picture.size or *length is needed */
+    ZAXBRIAR_BAD_ARGUMENT = 6, /* a null pointer, or options that don't exist or don't fit */
+    ZAXBRIAR_NO_DATA = 7       /* the header has no such metadata */
+};
+
+/* How the pixels are arranged. A layout other than AS_STORED is for pictures of grey, or of red,
+ * green and blue, with 8 bits a sample; for others it is a ZAXBRIAR_BAD_ARGUMENT. */
+enum {
+    ZAXBRIAR_AS_STORED = 0, /* each pixel's samples, in the order of the components */
+    ZAXBRIAR_GREY = 1,      /* 1 byte; for grey pictures only */
+    ZAXBRIAR_RGB = 2,       /* 3 bytes; a grey sample is repeated, here and below */
+    ZAXBRIAR_RGBA = 3,      /* 4 bytes, of which the last is 255 */
+    ZAXBRIAR_BGRA = 4       /* 4 bytes, of which the last is 255 */
+};
+
+/* The coding process of a picture. */
+enum { ZAXBRIAR_SEQUENTIAL = 1, ZAXBRIAR_PROGRESSIVE = 2, ZAXBRIAR_LOSSLESS = 3 };
+
+/* How the components are to be understood, in place of what the stream says. RGB and YCBCR are for
+ * pictures of three components, CMYK and YCCK for those of four; decoding others is MALFORMED.
+ * Grey and lossless pictures aren't affected. */
+enum {
+    ZAXBRIAR_TRANSFORM_OF_STREAM = 0, /* 1 isn't one */
+    ZAXBRIAR_TRANSFORM_RGB = 2,
+    ZAXBRIAR_TRANSFORM_YCBCR = 3,
+    ZAXBRIAR_TRANSFORM_CMYK = 4,
+    ZAXBRIAR_TRANSFORM_YCCK = 5
+};
+
+/* Kinds of metadata. */
+enum { ZAXBRIAR_EXIF = 1, ZAXBRIAR_XMP = 2, ZAXBRIAR_ICC = 3 };
+
+/* How to decode. Set all of it to zero first; a null pointer stands for all zeros. */
+typedef struct zaxbriar_options {
+    uint64_t max_samples;  /* decoding a picture of more samples is MALFORMED; 0: no limit */
+    uint64_t stride;       /* bytes from a line to the next, at most 2^32; 0: no gaps */
+    uint16_t min_width;    /* decode at the least of 1/8, 1/4, 1/2 and 1 of the size at which .. */
+    uint16_t min_height;   /* .. the picture is so wide or so high; 0 and 0: at full size */
+    uint8_t transform;     /* ZAXBRIAR_TRANSFORM_.. */
+    uint8_t layout;        /* ZAXBRIAR_AS_STORED .. */
+    uint16_t reserved;     /* zero */
+    uint64_t reserved_words[3];
+} zaxbriar_options;
+
+/* A picture, as decoding with the options gives it. All zero, but for `text`, where the header was
+ * refused. */
+typedef struct zaxbriar_picture {
+    uint64_t size;           /* the bytes of the picture: stride * (height - 1) + row_bytes */
+    uint64_t row_bytes;      /* the bytes of a line without its gap: width * pixel_bytes */
+    uint64_t decoding_bytes; /* the memory that decoding allocates for samples */
+    uint64_t stream_bytes;   /* after decoding: how many bytes of `jpeg` were read */
+    uint32_t width;          /* in pixels, at the scale of the options */
+    uint32_t height;
+    uint8_t pixel_bytes;     /* the bytes of a pixel in this layout */
+    uint8_t layout;          /* the layout that was asked for */
+    uint8_t components;      /* of the stream: 1, 3 or 4 */
+    uint8_t precision;       /* of the stream: the bits of a sample, 2 to 16 */
+    uint8_t sample_bytes;    /* of the stream: 1 or 2 */
+    uint8_t process;
+    uint8_t orientation;     /* 1 to 8, as Exif data before the frame say; otherwise 1 */
+    uint8_t reserved[33];    /* zero */
+    char text[112];          /* why the call failed, for people, ended by a zero; "" after OK */
+} zaxbriar_picture;
+
+/* Describes the stream's picture, by its header. */
+ZAXBRIAR_CALL int zaxbriar_read_info(const void *jpeg, size_t jpeg_size,
+                                     const zaxbriar_options *options, zaxbriar_picture *picture);
+
+/* Decodes the picture into `pixels`. The bytes between the lines and after the last one are left
+ * unchanged. A buffer that is too small is refused before the picture is decoded. `picture` may be
+ * null. */
+ZAXBRIAR_CALL int zaxbriar_decode(const void *jpeg, size_t jpeg_size,
+                                  const zaxbriar_options *options, void *pixels,
+                                  size_t pixels_size, zaxbriar_picture *picture);
+
+/* Copies Exif data from the TIFF header on, XMP data or an ICC profile, as the segments before the
+ * frame have them. Stores in *length how many bytes they have, also where `data_size` is too small;
+ * `data` may be null where `data_size` is 0, and `length` may be null. */
+ZAXBRIAR_CALL int zaxbriar_metadata(const void *jpeg, size_t jpeg_size, int kind, void *data,
+                                    size_t data_size, size_t *length);
+
+/* Returns a short name of a value that a call returns, in English. */
+ZAXBRIAR_API const char *zaxbriar_answer_name(int answer);
+
+/* Returns the version of the library, as 0x00MMmmpp. */
+ZAXBRIAR_API uint32_t zaxbriar_version(void);
+
+#ifdef __cplusplus
+}
+#endif
+#endif

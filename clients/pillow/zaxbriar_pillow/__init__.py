@@ -1,0 +1,99 @@
+"""`import zaxbriar_pillow`: from then on Pillow decodes JPEG pictures by zaxbriar.
+
+Pillow's own Python code still reads the header and the metadata, and libjpeg still writes.
+"""
+
+import ctypes
+from array import array
+
+from PIL import Image, ImageFile
+
+from . import library
+
+# How many pictures were decoded so, and how many of them right into the image's memory.
+decoded = 0
+decoded_in_place = 0
+
+
+def _options_for(whole, scale):
+    """The options that ask for a picture at 1/scale. The longer side picks it: the shorter may be as long at two scales."""
+    if scale <= 1:
+        return {}
+    width, height = -(-whole.width // scale), -(-whole.height // scale)
+    if whole.width > whole.height:
+        return {"min_width": width, "min_height": library.NO_LIMIT_OF_A_SIDE}
+    return {"min_width": library.NO_LIMIT_OF_A_SIDE, "min_height": height}
+
+
+def _memory_of(image, pixel_bytes):
+    """The address of an image's first line and the bytes from a line to the next, where all lines are equally far."""
+    try:
+        lines = dict(image.unsafe_ptrs)["image"]
+    except (AttributeError, KeyError):  # other versions of Pillow
+        return None
+    width, height = image.size
+    starts = (ctypes.c_uint64 * height).from_address(lines)
+    stride = starts[1] - starts[0] if height > 1 else width * pixel_bytes
+    if stride < width * pixel_bytes or bytes(starts) != array("Q", range(starts[0], starts[0] + height * stride, stride)).tobytes():
+        return None
+    return starts[0], stride
+
+
+class ZaxbriarDecoder(ImageFile.PyDecoder):
+    """Pillow's decoder `jpeg`: its arguments are the raw mode, the mode of the colours in the file, and a scale."""
+
+    _pulls_fd = True
+
+    def _in_place(self, stream, layout, pixel_bytes, options):
+        """Decodes right into the image, and says whether that was possible."""
+        global decoded_in_place
+        if self.state.extents() != (0, 0, *self.im.size):
+            return False
+        memory = _memory_of(self.im, pixel_bytes)
+        if memory is None:
+            return False
+        address, stride = memory
+        width, height = self.im.size
+        size = stride * (height - 1) + width * pixel_bytes
+        library.decode_at(stream, address, size, layout=layout, stride=stride, **options)
+        decoded_in_place += 1
+        return True
+
+    def _by_copy(self, stream, mode, options):
+        """Decodes into memory of its own, in the picture's colours, and converts these to the mode."""
+        picture, pixels = library.decode(stream, **options)
+        if picture.sample_bytes != 1:
+            raise OSError(f"samples of {picture.precision} bits")
+        stored = {1: "L", 3: "RGB", 4: "CMYK"}[picture.components]
+        image = Image.frombytes(stored, (picture.width, picture.height), bytes(pixels))
+        if image.size != (self.state.xsize, self.state.ysize):  # a lossless picture isn't scaled
+            image = image.reduce(max(1, round(picture.width / self.state.xsize)))
+        self.set_as_raw(image.convert(mode).tobytes(), mode)
+
+    def decode(self, buffer):
+        global decoded
+        mode = self.args[0].partition(";")[0]
+        scale = self.args[2] if len(self.args) > 2 else 1
+        stream = self.fd.read()
+        try:
+            whole = library.read_info(stream)
+            options = _options_for(whole, scale)
+            picture = library.read_info(stream, **options)
+            is_scaled = (picture.width, picture.height) == (self.state.xsize, self.state.ysize)
+            layout, pixel_bytes, components = {
+                "L": (library.GREY, 1, (1,)),
+                "RGB": (library.RGBA, 4, (1, 3)),
+                "CMYK": (library.AS_STORED, 4, (4,)),
+            }.get(mode, (None, None, ()))
+            is_plain = is_scaled and picture.precision == 8 and picture.components in components and self.im.mode == mode
+            if not (is_plain and self._in_place(stream, layout, pixel_bytes, options)):
+                self._by_copy(stream, mode, options)
+        except library.Error as error:
+            if ImageFile.LOAD_TRUNCATED_IMAGES:
+                return -1, -2  # the image stays blank
+            raise OSError(f"zaxbriar: {error}") from error
+        decoded += 1
+        return -1, 0
+
+
+Image.register_decoder("jpeg", ZaxbriarDecoder)

@@ -1,0 +1,91 @@
+"""The calls of zaxbriar.h, by ctypes. The interpreter's lock is released during a call."""
+
+import ctypes
+import os
+from ctypes import POINTER, Structure, byref, c_char, c_int, c_size_t, c_uint8, c_uint16, c_uint32, c_uint64, c_void_p
+
+OK, MALFORMED, UNSUPPORTED, TRUNCATED, NO_MEMORY, NO_ROOM, BAD_ARGUMENT, NO_DATA = range(8)
+AS_STORED, GREY, RGB, RGBA, BGRA = range(5)
+SEQUENTIAL, PROGRESSIVE, LOSSLESS = range(1, 4)
+NO_LIMIT_OF_A_SIDE = 65535
+
+
+class Options(Structure):
+    """zaxbriar_options."""
+
+    _fields_ = [
+        ("max_samples", c_uint64),
+        ("stride", c_uint64),
+        ("min_width", c_uint16),
+        ("min_height", c_uint16),
+        ("transform", c_uint8),
+        ("layout", c_uint8),
+        ("reserved", c_uint16),
+        ("reserved_words", c_uint64 * 3),
+    ]
+
+
+class Picture(Structure):
+    """zaxbriar_picture."""
+
+    _fields_ = [
+        ("size", c_uint64),
+        ("row_bytes", c_uint64),
+        ("decoding_bytes", c_uint64),
+        ("stream_bytes", c_uint64),
+        ("width", c_uint32),
+        ("height", c_uint32),
+        ("pixel_bytes", c_uint8),
+        ("layout", c_uint8),
+        ("components", c_uint8),
+        ("precision", c_uint8),
+        ("sample_bytes", c_uint8),
+        ("process", c_uint8),
+        ("orientation", c_uint8),
+        ("reserved", c_uint8 * 33),
+        ("text", c_char * 112),
+    ]
+
+
+class Error(OSError):
+    """A stream that was refused, with the value that the call returned."""
+
+    def __init__(self, answer, text):
+        super().__init__(text)
+        self.answer = answer
+
+
+_library = ctypes.CDLL(os.environ.get("ZAXBRIAR_LIBRARY", "libzaxbriar.so.0"))
+_library.zaxbriar_read_info.argtypes = [c_void_p, c_size_t, POINTER(Options), POINTER(Picture)]
+_library.zaxbriar_decode.argtypes = [c_void_p, c_size_t, POINTER(Options), c_void_p, c_size_t, POINTER(Picture)]
+for _call in (_library.zaxbriar_read_info, _library.zaxbriar_decode):
+    _call.restype = c_int
+
+
+def _checked(answer, picture):
+    if answer == NO_MEMORY:
+        raise MemoryError(picture.text.decode())
+    if answer != OK:
+        raise Error(answer, picture.text.decode())
+    return picture
+
+
+def read_info(stream, **options):
+    """Describes the picture of a stream, which is `bytes`, so that nobody changes it."""
+    picture = Picture()
+    answer = _library.zaxbriar_read_info(stream, len(stream), byref(Options(**options)), byref(picture))
+    return _checked(answer, picture)
+
+
+def decode_at(stream, address, size, **options):
+    """Decodes the picture to `size` bytes at an address, which nobody else uses meanwhile."""
+    picture = Picture()
+    answer = _library.zaxbriar_decode(stream, len(stream), byref(Options(**options)), address, size, byref(picture))
+    return _checked(answer, picture)
+
+
+def decode(stream, **options):
+    """Decodes the picture: what it is, and its pixels in a bytearray."""
+    pixels = bytearray(read_info(stream, **options).size)
+    memory = (c_uint8 * len(pixels)).from_buffer(pixels)
+    return decode_at(stream, ctypes.addressof(memory), len(pixels), **options), pixels

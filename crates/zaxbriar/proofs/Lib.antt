@@ -1,0 +1,4 @@
+mod Fails
+mod Laid
+mod Means
+mod Told

@@ -1,0 +1,26 @@
+-- A header that was read, and then the rest of its stream, are what the stream means by some options.
+use Rattle.std.proofs.Common.{◌≡◌, ℕ, List, Ok, Err, Result}
+use Rattle.std.specs.Prelude.{IfErr, OnOk}
+use Rattle.jpeg_streams.specs.DecodedImages.{Size, FullSize, AtLeast, at_size, HasLeft}
+use Rattle.jpeg_streams.specs.Found.{Found}
+use Rattle.jpeg_streams.specs.States.{HeaderRead}
+use Rattle.jpeg_streams.specs.Stream.{Told, header_at, rest_at}
+use Rattle.jpeg_streams.proofs.AcceptedTurns.{then-ok}
+use Rattle.zaxbriar.specs.Meanings.{settings_of, size_of, meaning_by}
+use Rattle.zaxbriar.specs.declared.options.Options.{Options}
+
+pub joined : (o : Options) (bytes rest left : List ℕ) (header : Found) (told : Told) (pixels : List ℕ)
+    → header_at bytes ≡ Ok (header, rest)
+    → rest_at (settings_of o) (at_size (size_of o) header) rest ≡ Ok ((told, pixels), left)
+    → meaning_by o bytes ≡ Ok ((told, pixels), left)
+unfolding meaning_by
+joined o bytes rest left header told pixels h r = then-ok (header_at bytes) _ (header, rest) _ h r
+
+pub has-left : (size : Size) (bytes left : List ℕ) (found header : Found)
+    → header_at bytes ≡ Ok (header, left) → found ≡ at_size size header → HasLeft size bytes HeaderRead found left
+has-left FullSize bytes left found header h s = (header, h, s)
+has-left (AtLeast width height) bytes left found header h s = (header, h, s)
+
+pub on-ok : {X E : Type 0} (outcome : Result X E) (P Z : Type 0) → IfErr outcome (λ _. Z → ⊥) → OnOk outcome P → Z → P
+on-ok (Ok x) P Z e o z = o
+on-ok (Err x) P Z e o z = absurd (e z)

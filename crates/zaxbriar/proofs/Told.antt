@@ -1,0 +1,84 @@
+-- What a caller is given of a picture that was decoded.
+use Rattle.std.proofs.Common.{◌≡◌, ◌∙◌, ℕ, ◌*◌, List, Result, Ok, Err, length, refl, sym, ap, suc, ◌+◌, ◌<◌, ◌≤◌, zero, ◌-◌, arith}
+use Rattle.std.specs.Prelude.{IfErr, IfOk, OnOk}
+use Rattle.std.proofs.Math.Nat.{mul_comm, mul_assoc}
+use Rattle.jpeg_bits.specs.Reading.{Fault}
+use Rattle.jpeg_streams.specs.declared.images.ImageInfo.{ImageInfo}
+use Rattle.zaxbriar.specs.Layouts.{laid_out, line_of}
+use Rattle.zaxbriar.specs.Lines.{Arranged, HasLines, lines_by, picture_by, stored_bytes}
+use Rattle.zaxbriar.specs.Meanings.{Shows, ShowsSamples}
+use Rattle.zaxbriar.specs.declared.lines.Lines.{Lines}
+use Rattle.zaxbriar.specs.declared.options.Options.{Options}
+use Rattle.zaxbriar.specs.declared.picture.Picture.{Picture}
+
+pub count-of : (o : Options) (info : ImageInfo) (precision count : ℕ) (lines : Lines) → HasLines o info precision lines
+    → count ≡ info.width * info.height * stored_bytes info precision
+    → count ≡ lines.height * (lines.width * lines.stored)
+count-of o info precision count lines h e =
+    e ∙ ap (λ n. n * stored_bytes info precision) (mul_comm info.width info.height)
+    ∙ mul_assoc info.height info.width (stored_bytes info precision)
+    ∙ ap (λ (l : Lines). l.height * (l.width * l.stored)) (sym h.lines_are)
+
+pub arranged-of : (o : Options) (info : ImageInfo) (precision : ℕ) (samples old new : List ℕ) (picture : Picture)
+    (lines : Lines) (decoding orientation : ℕ)
+    → HasLines o info precision lines
+    → new ≡ laid_out (line_of lines.conversion lines.width) (lines.width * lines.stored) lines.stride lines.height
+    samples old
+    → picture ≡ picture_by o.layout info precision lines decoding orientation 0
+    → Arranged o info precision samples old new picture
+arranged-of o info precision samples old new picture lines decoding orientation h e p = record {
+  conversion = h.conversion;
+  is = h.is;
+  pixels = e ∙ ap (λ (l : Lines). laid_out (line_of l.conversion l.width) (l.width * l.stored) l.stride l.height samples old)
+      h.lines_are;
+  decoding = decoding;
+  orientation = orientation;
+  picture_is = p ∙ (λ i. picture_by o.layout info precision (h.lines_are i) decoding orientation
+      (ap (λ (q : Picture). q.stream_bytes) (sym p) i));
+}
+
+-- the same picture, with the bytes of its stream
+retold : (o : Options) (info : ImageInfo) (precision : ℕ) (samples old new : List ℕ) (picture : Picture)
+    (stream : ℕ) (text : List ℕ) → text ≡ picture.text → Arranged o info precision samples old new picture
+    → Arranged o info precision samples old new (record picture { stream_bytes = stream; text = text })
+retold o info precision samples old new picture stream text t a = record {
+  conversion = a.conversion;
+  is = a.is;
+  pixels = a.pixels;
+  decoding = a.decoding;
+  orientation = a.orientation;
+  picture_is = λ i. record (a.picture_is i)
+      { stream_bytes = stream; text = (t ∙ ap (λ (q : Picture). q.text) a.picture_is) i };
+}
+
+pub shown : {X E : Type 0} (outcome : Result X E) (o : Options) (bytes old new : List ℕ) (picture : Picture)
+    (stream : ℕ) (text : List ℕ) (result : ℕ)
+    → IfErr outcome (λ _. result ≡ 0 → ⊥) → IfOk outcome (λ _. (result ≡ 0) × (text ≡ picture.text))
+    → OnOk outcome (Shows o bytes old new picture) → result ≡ 0
+    → Shows o bytes old new (record picture { stream_bytes = stream; text = text })
+shown (Ok x) o bytes old new picture stream text result err ok s z = record {
+  told = s.told;
+  samples = s.samples;
+  rest = s.rest;
+  info = s.info;
+  precision = s.precision;
+  means = s.means;
+  info_is = s.info_is;
+  precision_is = s.precision_is;
+  arranged = retold o s.info s.precision s.samples old new picture stream text ok.1 s.arranged;
+}
+shown (Err e) o bytes old new picture stream text result err ok s z = absurd (err z)
+
+pub shown-samples : {X E : Type 0} (outcome : Result X E) (o : Options) (image : Result (List ℕ) Fault)
+    (old new : List ℕ) (picture : Picture) (stream : ℕ) (text : List ℕ) (result : ℕ)
+    → IfErr outcome (λ _. result ≡ 0 → ⊥) → IfOk outcome (λ _. (result ≡ 0) × (text ≡ picture.text))
+    → OnOk outcome (ShowsSamples o image old new picture) → result ≡ 0
+    → ShowsSamples o image old new (record picture { stream_bytes = stream; text = text })
+shown-samples (Ok x) o image old new picture stream text result err ok s z = record {
+  samples = s.samples;
+  info = s.info;
+  precision = s.precision;
+  are = s.are;
+  arranged = retold o s.info s.precision s.samples old new picture stream text ok.1 s.arranged;
+}
+shown-samples (Err e) o image old new picture stream text result err ok s z = absurd (err z)

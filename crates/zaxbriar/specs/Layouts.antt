@@ -1,0 +1,92 @@
+-- How the samples of a picture become the lines of a layout.
+use Rattle.std.specs.Prelude.{◌≡◌, ◌≤◌, ℕ, zero, suc, ◌+◌, ◌-◌, ◌*◌, ◌==◌, ◌&&◌, if◌then◌else◌}
+use Rattle.std.specs.Prelude.{List, [], ◌∷◌, ◌++◌, drop, take, length, slice_index, Option, Some, None}
+use Rattle.jpeg_decoder.specs.Bytes.{bytes_a_sample, samples_a_pixel}
+use Rattle.jpeg_streams.specs.declared.images.PixelFormat.{PixelFormat}
+use Rattle.jpeg_streams.specs.declared.images.PixelFormat.TheVariants.{L8, L16, RGB24, CMYK32}
+use Rattle.zaxbriar.specs.declared.layouts.Conversion.{Conversion}
+use Rattle.zaxbriar.specs.declared.layouts.Conversion.TheVariants.{Stored, GreyToRgb, GreyToRgba}
+use Rattle.zaxbriar.specs.declared.layouts.Conversion.TheVariants.{RgbToRgba, RgbToBgra}
+
+-- ---- pixels
+
+-- the samples of a pixel as the bytes of a layout
+abbrev pub grey_as_rgb : List ℕ → List ℕ
+grey_as_rgb p = slice_index p 0 ∷ slice_index p 0 ∷ slice_index p 0 ∷ []
+
+abbrev pub grey_as_rgba : List ℕ → List ℕ
+grey_as_rgba p = slice_index p 0 ∷ slice_index p 0 ∷ slice_index p 0 ∷ 255 ∷ []
+
+abbrev pub rgb_as_rgba : List ℕ → List ℕ
+rgb_as_rgba p = slice_index p 0 ∷ slice_index p 1 ∷ slice_index p 2 ∷ 255 ∷ []
+
+abbrev pub rgb_as_bgra : List ℕ → List ℕ
+rgb_as_bgra p = slice_index p 2 ∷ slice_index p 1 ∷ slice_index p 0 ∷ 255 ∷ []
+
+-- so many pixels of a row, each of so many samples
+unfoldable pub pixels_of : (List ℕ → List ℕ) → ℕ → ℕ → List ℕ → List ℕ
+pixels_of pixel stored zero row = []
+pixels_of pixel stored (suc width) row =
+    pixel (take stored row) ++ pixels_of pixel stored width (drop stored row)
+
+-- a row of samples as a line of a layout
+abbrev pub line_of : Conversion → ℕ → List ℕ → List ℕ
+line_of Stored width row = row
+line_of GreyToRgb width row = pixels_of grey_as_rgb 1 width row
+line_of GreyToRgba width row = pixels_of grey_as_rgba 1 width row
+line_of RgbToRgba width row = pixels_of rgb_as_rgba 3 width row
+line_of RgbToBgra width row = pixels_of rgb_as_bgra 3 width row
+
+-- the bytes of a pixel in a layout, where it is stored in so many
+abbrev pub converted_bytes : Conversion → ℕ → ℕ
+converted_bytes Stored stored = stored
+converted_bytes GreyToRgb stored = 3
+converted_bytes GreyToRgba stored = 4
+converted_bytes RgbToRgba stored = 4
+converted_bytes RgbToBgra stored = 4
+
+-- A conversion takes pixels that are stored in so many bytes.
+abbrev pub Fits : Conversion → ℕ → Type 0
+Fits Stored stored = Unit {0}
+Fits GreyToRgb stored = stored ≡ 1
+Fits GreyToRgba stored = stored ≡ 1
+Fits RgbToRgba stored = stored ≡ 3
+Fits RgbToBgra stored = stored ≡ 3
+
+-- ---- layouts
+
+-- the conversion to a layout of samples of 8 bits
+abbrev pub conversion_of_bytes : ℕ → PixelFormat → Option Conversion
+conversion_of_bytes layout L8 = if layout == 1 then Some Stored
+    else (if layout == 2 then Some GreyToRgb
+    else (if layout == 3 then Some GreyToRgba
+    else (if layout == 4 then Some GreyToRgba else None)))
+conversion_of_bytes layout RGB24 = if layout == 2 then Some Stored
+    else (if layout == 3 then Some RgbToRgba
+    else (if layout == 4 then Some RgbToBgra else None))
+conversion_of_bytes layout L16 = None
+conversion_of_bytes layout CMYK32 = None
+
+-- the conversion to a layout: 0 as stored, 1 grey, 2 RGB, 3 RGBA, 4 BGRA
+abbrev pub conversion_of : ℕ → PixelFormat → ℕ → Option Conversion
+conversion_of layout format precision = if layout == 0 then Some Stored
+    else (if precision == 8 then conversion_of_bytes layout format else None)
+
+-- ---- lines
+
+-- the bytes from the first of a picture to its last
+abbrev pub size_of_lines : ℕ → ℕ → ℕ → ℕ
+size_of_lines stride row_bytes height =
+    if height == 0 then 0 else stride * (height - 1) + row_bytes
+
+-- some bytes at the beginning of others
+abbrev pub over : List ℕ → List ℕ → List ℕ
+over new old = new ++ drop (length new) old
+
+-- So many rows of samples, each as a line, one stride after the other, in the place of old bytes:
+-- those between the lines, and those after the last, stay.
+unfoldable pub laid_out : (List ℕ → List ℕ) → ℕ → ℕ → ℕ → List ℕ → List ℕ → List ℕ
+laid_out line row stride zero samples old = old
+laid_out line row stride (suc height) samples old =
+    over (line (take row samples)) (take stride old)
+    ++ laid_out line row stride height (drop row samples) (drop stride old)

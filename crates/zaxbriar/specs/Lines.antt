@@ -1,0 +1,90 @@
+-- The lines of a picture, and what a caller is told of it.
+use Rattle.std.specs.Prelude.{◌≡◌, ◌==◌, ◌≤◌, ℕ, ◌*◌, List, replicate, if◌then◌else◌, Some}
+use Rattle.jpeg_decoder.specs.Bytes.{bytes_a_sample, samples_a_pixel}
+use Rattle.jpeg_segments.specs.declared.parser.CodingProcess.{CodingProcess}
+use Rattle.jpeg_segments.specs.declared.parser.CodingProcess.TheVariants.{DctSequential}
+use Rattle.jpeg_segments.specs.declared.parser.CodingProcess.TheVariants.{DctProgressive, Lossless}
+use Rattle.jpeg_streams.specs.declared.images.ImageInfo.{ImageInfo}
+use Rattle.zaxbriar.specs.Layouts.{Fits, conversion_of, converted_bytes, laid_out, line_of}
+use Rattle.zaxbriar.specs.Layouts.{size_of_lines}
+use Rattle.zaxbriar.specs.declared.layouts.Conversion.{Conversion}
+use Rattle.zaxbriar.specs.declared.lines.Lines.{Lines}
+use Rattle.zaxbriar.specs.declared.options.Options.{Options}
+use Rattle.zaxbriar.specs.declared.picture.Picture.{Picture}
+
+-- the bytes of a pixel as it is stored
+abbrev pub stored_bytes : ImageInfo → ℕ → ℕ
+stored_bytes info precision = samples_a_pixel info.pixel_format * bytes_a_sample precision
+
+-- the bytes of a pixel, and those of a line without its gap
+abbrev pub pixel_bytes : ImageInfo → ℕ → Conversion → ℕ
+pixel_bytes info precision conversion = converted_bytes conversion (stored_bytes info precision)
+
+abbrev pub row_bytes : ImageInfo → ℕ → Conversion → ℕ
+row_bytes info precision conversion = info.width * pixel_bytes info precision conversion
+
+-- the bytes from one line to the next
+abbrev pub stride_of : ℕ → ℕ → ℕ
+stride_of stride row = if stride == 0 then row else stride
+
+-- the lines of a picture
+abbrev pub lines_by : ℕ → ImageInfo → ℕ → Conversion → Lines
+lines_by stride info precision conversion = record {
+  conversion = conversion;
+  width = info.width;
+  height = info.height;
+  stored = stored_bytes info precision;
+  pixel_bytes = pixel_bytes info precision conversion;
+  row_bytes = row_bytes info precision conversion;
+  stride = stride_of stride (row_bytes info precision conversion);
+}
+
+-- Lines are those that the options ask for.
+pub record HasLines (o : Options) (info : ImageInfo) (precision : ℕ) (lines : Lines) : Type 0 where
+  pub conversion : Conversion
+  pub is : conversion_of o.layout info.pixel_format precision ≡ Some conversion
+  pub fits : Fits conversion (stored_bytes info precision)
+  pub lines_are : lines ≡ lines_by o.stride info precision conversion
+  pub wide : lines.row_bytes ≤ lines.stride
+  pub narrow : lines.stride ≤ 4294967296
+
+-- the number of a coding process
+abbrev pub number_of : CodingProcess → ℕ
+number_of DctSequential = 1
+number_of DctProgressive = 2
+number_of Lossless = 3
+
+-- what a caller is told of a picture: these lines, the memory that decoding takes, the orientation,
+-- and the bytes of the stream
+abbrev pub picture_by : ℕ → ImageInfo → ℕ → Lines → ℕ → ℕ → ℕ → Picture
+picture_by layout info precision lines decoding orientation stream = record {
+  size = size_of_lines lines.stride lines.row_bytes lines.height;
+  row_bytes = lines.row_bytes;
+  decoding_bytes = decoding;
+  stream_bytes = stream;
+  width = lines.width;
+  height = lines.height;
+  pixel_bytes = lines.pixel_bytes;
+  layout = layout;
+  components = samples_a_pixel info.pixel_format;
+  precision = precision;
+  sample_bytes = bytes_a_sample precision;
+  process = number_of info.coding_process;
+  orientation = orientation;
+  reserved = replicate 33 0;
+  text = replicate 112 0;
+}
+
+-- The samples of a picture are in the caller's memory in the layout that the options ask for, and a
+-- caller is told of them.
+pub record Arranged (o : Options) (info : ImageInfo) (precision : ℕ) (samples old new : List ℕ)
+    (picture : Picture) : Type 0 where
+  pub conversion : Conversion
+  pub is : conversion_of o.layout info.pixel_format precision ≡ Some conversion
+  pub pixels : new ≡ laid_out (line_of conversion info.width)
+      (info.width * stored_bytes info precision)
+      (stride_of o.stride (row_bytes info precision conversion)) info.height samples old
+  pub decoding : ℕ
+  pub orientation : ℕ
+  pub picture_is : picture ≡ picture_by o.layout info precision
+      (lines_by o.stride info precision conversion) decoding orientation picture.stream_bytes

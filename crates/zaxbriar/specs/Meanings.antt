@@ -1,0 +1,72 @@
+-- What a call with some options gives for the bytes of a stream.
+use Rattle.std.specs.Prelude.{◌≡◌, ◌==◌, ◌&&◌, ℕ, List, Option, Some, None, if◌then◌else◌}
+use Rattle.std.specs.Prelude.{option_map, true, Ok, Result}
+use Rattle.jpeg_bits.specs.Reading.{Outcome, ◌>>=◌}
+use Rattle.jpeg_bits.specs.declared.color_transform.ColorTransform.{ColorTransform}
+use Rattle.jpeg_bits.specs.declared.color_transform.ColorTransform.TheVariants as transforms
+use Rattle.jpeg_streams.specs.DecodedImages.{Size, FullSize, AtLeast, at_size}
+use Rattle.jpeg_streams.specs.Found.{Found}
+use Rattle.jpeg_streams.specs.States.{Decoding, HeaderRead}
+use Rattle.jpeg_streams.specs.Pixels.{info_of}
+use Rattle.jpeg_streams.specs.Stream.{Told, header_at, rest_at}
+use Rattle.jpeg_streams.specs.declared.images.ImageInfo.{ImageInfo}
+use Rattle.jpeg_streams.specs.declared.settings.Settings.{Settings}
+use Rattle.jpeg_bits.specs.Reading.{Fault}
+use Rattle.zaxbriar.specs.Lines.{Arranged}
+use Rattle.zaxbriar.specs.declared.options.Options.{Options}
+use Rattle.zaxbriar.specs.declared.picture.Picture.{Picture}
+
+-- the colour transform of a number
+abbrev pub transform_of : ℕ → Option ColorTransform
+transform_of n = if n == 2 then Some transforms.RGB
+    else (if n == 3 then Some transforms.YCbCr
+    else (if n == 4 then Some transforms.CMYK
+    else (if n == 5 then Some transforms.YCCK else None)))
+
+-- the settings of a decoder
+abbrev pub settings_of : Options → Settings
+settings_of o = record {
+  limit = if o.max_samples == 0 then 18446744073709551615 else o.max_samples;
+  color_transform = transform_of o.transform;
+}
+
+-- the size that the picture is to have
+abbrev pub size_of : Options → Size
+size_of o = if o.min_width == 0 && o.min_height == 0 then FullSize
+    else AtLeast o.min_width o.min_height
+
+-- what is told of a stream, its picture, and the bytes after it
+unfoldable pub meaning_by : Options → List ℕ → Outcome (Told × List ℕ)
+meaning_by o bytes = do
+  header ← header_at bytes
+  rest_at (settings_of o) (at_size (size_of o) header.0) header.1
+
+-- A decoder of known bytes has read their header, and its picture is to have the size of the
+-- options.
+pub record ReadsHeader (o : Options) (old new : Decoding) : Type 0 where
+  pub stage : new.stage ≡ HeaderRead
+  pub settings : new.settings ≡ settings_of o
+  pub reads : old.source.known ≡ true → (new.source.known ≡ true) × ((header : Found)
+      × (header_at old.source.bytes ≡ Ok (header, new.source.bytes))
+      × (new.found ≡ at_size (size_of o) header))
+
+-- The picture of a stream is in the caller's memory.
+pub record Shows (o : Options) (bytes old new : List ℕ) (picture : Picture) : Type 0 where
+  pub told : Told
+  pub samples : List ℕ
+  pub rest : List ℕ
+  pub info : ImageInfo
+  pub precision : ℕ
+  pub means : meaning_by o bytes ≡ Ok ((told, samples), rest)
+  pub info_is : option_map info_of told.frame ≡ Some info
+  pub precision_is : option_map (λ f. f.precision) told.frame ≡ Some precision
+  pub arranged : Arranged o info precision samples old new picture
+
+-- So are some samples.
+pub record ShowsSamples (o : Options) (picture : Result (List ℕ) Fault) (old new : List ℕ)
+    (told : Picture) : Type 0 where
+  pub samples : List ℕ
+  pub info : ImageInfo
+  pub precision : ℕ
+  pub are : picture ≡ Ok samples
+  pub arranged : Arranged o info precision samples old new told

@@ -1,0 +1,63 @@
+//! The header of a stream.
+ghost use Rattle.std.specs.Prelude.{◌≡◌, true, Some, IfOk, IfErr, OnOk, option_map};
+ghost use Rattle.jpeg_streams.specs.Output.{default_settings};
+ghost use Rattle.jpeg_streams.specs.Pixels.{info_of};
+ghost use Rattle.jpeg_streams.specs.States.{Fresh};
+ghost use Rattle.jpeg_streams.specs.Stream.{header_at};
+ghost use Rattle.zaxbriar.specs.Faults.{IsFault};
+ghost use Rattle.zaxbriar.specs.Meanings.{ReadsHeader};
+
+use crate::answers::Refusal;
+use crate::options::{Options, apply, apply_size, are_known};
+use crate::orientation::orientation_of;
+use jpeg_decoder::{Decoder, ImageInfo};
+use std::io::Read;
+
+/// What a header says of its picture.
+#[derive(Clone, Copy)]
+pub struct Header {
+    /// The picture at the scale of the options.
+    pub info: ImageInfo,
+    /// The bits of a sample.
+    pub precision: u8,
+    /// The memory that decoding allocates for samples.
+    pub decoding_bytes: u64,
+    /// The orientation by the Exif data.
+    pub orientation: u8,
+}
+
+/// Reads the header, and chooses the scale of the picture.
+pub fn read_header<R: Read + Drop>(
+    decoder: &mut Decoder<R>,
+    options: &Options,
+) -> std::result::Result<Header, Refusal>
+    requires fresh { decoder.old.stage ≡ Fresh }
+    requires plain { decoder.old.settings ≡ default_settings }
+    ensures reads { OnOk result (ReadsHeader options.now decoder.old decoder.new) }
+    ensures named { decoder.old.source.known ≡ true
+        → IfErr result (IsFault (header_at decoder.old.source.bytes)) }
+    ensures info { IfOk result (λ h. option_map info_of decoder.new.found.frame ≡ Some h.info) }
+    ensures precision { IfOk result (λ h. option_map (λ f. f.precision) decoder.new.found.frame
+        ≡ Some h.precision) }
+{
+    if !are_known(options) {
+        return Err(Refusal::Argument("an option doesn't exist"));
+    }
+    apply(decoder, options);
+    decoder.read_info()?;
+    apply_size(decoder, options)?;
+    let (Some(info), Some(precision), Some(bytes)) = (
+        decoder.info(),
+        decoder.precision(),
+        decoder.decoding_bytes(),
+    ) else {
+        // There is a frame.
+        return Err(Refusal::Argument("no frame"));
+    };
+    Ok(Header {
+        info,
+        precision,
+        decoding_bytes: bytes.peak,
+        orientation: orientation_of(decoder.exif_data()),
+    })
+}

@@ -1,0 +1,108 @@
+//! The decoder for programs in other languages: C functions over streams in memory.
+//!
+//! The calls keep no state and share nothing: each reads its stream from the start, writes only
+//! through its arguments, and has freed all of its memory when it returns. `c/zaxbriar.h` has the
+//! functions that a C program calls: they test the pointers and then call these.
+#![tactic(auto)]
+
+ghost use Rattle.std.specs.Prelude.{◌≡◌, ◌++◌, ◌<◌, ◌^◌, ℕ, List, length, Err};
+ghost use Rattle.jpeg_bits.specs.Reading.{Malformed, Lacks};
+ghost use Rattle.jpeg_bits.specs.declared.error.UnsupportedFeature.{UnsupportedFeature};
+ghost use Rattle.jpeg_streams.specs.ArrayPictures.{picture_of_array, Takes};
+ghost use Rattle.jpeg_streams.specs.DecodedImages.{at_size};
+ghost use Rattle.jpeg_streams.specs.Found.{Found};
+ghost use Rattle.jpeg_streams.specs.Levels.{Is8Bit, Levels};
+ghost use Rattle.jpeg_streams.specs.WrittenImages.{WritesImage};
+ghost use Rattle.jpeg_streams.specs.WrittenScans.{Coefficients};
+ghost use Rattle.zaxbriar.specs.Meanings.{meaning_by, settings_of, size_of, Shows, ShowsSamples};
+
+mod answers;
+mod decode;
+mod header;
+mod layouts;
+mod lines;
+mod metadata;
+pub mod options;
+mod orientation;
+pub mod picture;
+mod reader;
+#[cfg(test)]
+mod tests;
+
+use answers::{answer, code_of};
+use decode::{decode_into, read_info_from};
+use metadata::read_metadata;
+use options::Options;
+use picture::{NO_PICTURE, Picture};
+use reader::Bytes;
+use std::alloc::Global;
+
+/// Describes the picture of a stream, by its header.
+#[unsafe(no_mangle)]
+pub extern "C" fn zaxbriar_checked_read_info(
+    alloc: Global,
+    jpeg: &[u8],
+    options: &Options,
+    picture: &mut Picture,
+) -> u32 {
+    *picture = NO_PICTURE;
+    let outcome = read_info_from(alloc, &mut Bytes::new(jpeg), options, picture);
+    answer(alloc, outcome, &mut picture.text)
+}
+
+/// Decodes a stream into `pixels`.
+#[unsafe(no_mangle)]
+pub extern "C" fn zaxbriar_checked_decode(
+    alloc: Global,
+    jpeg: &[u8],
+    options: &Options,
+    pixels: &mut [u8],
+    picture: &mut Picture,
+) -> u32
+    // After OK, `pixels` has the picture that the bytes mean, in the layout of the options, and
+    // nothing else has changed in it; and `picture` describes it.
+    ensures means { result ≡ 0 → length jpeg.now < 2 ^ 64 →
+        Shows options.now jpeg.now pixels.old pixels.new picture.new }
+
+    // Where the bytes are written for the coefficients of an image, it is their picture.
+    ensures images { result ≡ 0 → length jpeg.now < 2 ^ 64 →
+        (array : Coefficients) (image rest : List ℕ) (final : Found) (last : ℕ → Levels) →
+        ((place row column : ℕ) → Is8Bit (array place row column)) →
+        WritesImage array image final last →
+        Takes (settings_of options.now) (at_size (size_of options.now) final) →
+        jpeg.now ≡ image ++ rest →
+        ShowsSamples options.now (picture_of_array (settings_of options.now)
+        (at_size (size_of options.now) final) array last) pixels.old pixels.new picture.new }
+
+    // MALFORMED and UNSUPPORTED name the stream's fault.
+    ensures malformed { length jpeg.now < 2 ^ 64 → result ≡ 1
+        → meaning_by options.now jpeg.now ≡ Err Malformed }
+    ensures unsupported { length jpeg.now < 2 ^ 64 → result ≡ 2 → (feature : UnsupportedFeature)
+        × (meaning_by options.now jpeg.now ≡ Err (Lacks feature)) }
+
+    // After any other result than OK, `pixels` is as it was.
+    ensures kept { (result ≡ 0 → ⊥) → pixels.new ≡ pixels.old }
+{
+    *picture = NO_PICTURE;
+    let mut reader = Bytes::new(jpeg);
+    let outcome = decode_into(alloc, &mut reader, options, pixels, picture);
+    picture.stream_bytes = jpeg.len().saturating_sub(reader.left()) as u64;
+    answer(alloc, outcome, &mut picture.text)
+}
+
+/// Copies the Exif data, the XMP data or the ICC profile of a header, and writes how many bytes
+/// they have.
+#[unsafe(no_mangle)]
+pub extern "C" fn zaxbriar_checked_metadata(
+    alloc: Global,
+    jpeg: &[u8],
+    kind: u32,
+    buffer: &mut [u8],
+    length: &mut u64,
+) -> u32 {
+    *length = 0;
+    match read_metadata(alloc, &mut Bytes::new(jpeg), kind, buffer, length) {
+        Ok(code) => code,
+        Err(error) => code_of(&error),
+    }
+}

@@ -1,0 +1,100 @@
+//! What a caller is told of a picture.
+ghost use Rattle.std.specs.Prelude.{◌≡◌, ◌≤◌, ◌<◌};
+ghost use Rattle.zaxbriar.specs.Lines.{number_of, picture_by};
+
+use crate::answers::TEXT_BYTES;
+use crate::header::Header;
+use crate::lines::{Lines, bytes_a_sample, samples_a_pixel, size_of_lines};
+use crate::options::Options;
+use jpeg_decoder::CodingProcess;
+
+/// A picture as decoding with some options gives it: `zaxbriar_picture` of the header.
+#[repr(C)]
+#[derive(Clone, Copy)]
+pub struct Picture {
+    /// The bytes of the picture: `stride * (height - 1) + row_bytes`.
+    pub size: u64,
+    /// The bytes of a line without its gap: `width * pixel_bytes`.
+    pub row_bytes: u64,
+    /// The memory that decoding allocates for samples.
+    pub decoding_bytes: u64,
+    /// After decoding, how many bytes of the stream were read.
+    pub stream_bytes: u64,
+    /// The size in pixels, at the scale of the options.
+    pub width: u32,
+    pub height: u32,
+    /// The bytes of a pixel in its layout.
+    pub pixel_bytes: u8,
+    /// The number of the layout that was asked for.
+    pub layout: u8,
+    /// How many components the stream has: 1, 3 or 4.
+    pub components: u8,
+    /// The bits of a sample in the stream.
+    pub precision: u8,
+    /// The bytes of a sample as it is stored: 1 or 2.
+    pub sample_bytes: u8,
+    /// The number of the coding process.
+    pub process: u8,
+    /// The orientation by the Exif data, 1 to 8.
+    pub orientation: u8,
+    /// Zero.
+    pub reserved: [u8; 33],
+    /// Why a call failed, ended by a zero; all zeros after a success.
+    pub text: [u8; TEXT_BYTES],
+}
+
+/// No picture.
+pub const NO_PICTURE: Picture = Picture {
+    size: 0,
+    row_bytes: 0,
+    decoding_bytes: 0,
+    stream_bytes: 0,
+    width: 0,
+    height: 0,
+    pixel_bytes: 0,
+    layout: 0,
+    components: 0,
+    precision: 0,
+    sample_bytes: 0,
+    process: 0,
+    orientation: 0,
+    reserved: [0; 33],
+    text: [0; TEXT_BYTES],
+};
+
+/// Returns the number of a coding process.
+fn process_number(process: CodingProcess) -> u8
+    ensures { result ≡ number_of process }
+{
+    match process {
+        CodingProcess::DctSequential => 1,
+        CodingProcess::DctProgressive => 2,
+        CodingProcess::Lossless => 3,
+    }
+}
+
+/// Returns what a caller is told of a picture before it is decoded.
+pub fn picture_of(header: Header, lines: Lines, layout: u8) -> Picture
+    requires row { lines.row_bytes ≤ lines.stride }
+    requires stride { lines.stride ≤ 4294967296 }
+    ensures { result ≡ picture_by layout header.info header.precision lines header.decoding_bytes
+        header.orientation 0 }
+{
+    Picture {
+        size: size_of_lines(lines),
+        row_bytes: lines.row_bytes,
+        decoding_bytes: header.decoding_bytes,
+        stream_bytes: 0,
+        width: u32::from(lines.width),
+        height: u32::from(lines.height),
+        pixel_bytes: lines.pixel_bytes,
+        layout,
+        components: samples_a_pixel(header.info.pixel_format),
+        precision: header.precision,
+        sample_bytes: bytes_a_sample(header.precision),
+        process: process_number(header.info.coding_process),
+        orientation: header.orientation,
+        reserved: [0; 33],
+        text: [0; TEXT_BYTES],
+    }
+}
