@@ -12,6 +12,7 @@ use Rattle.jpeg_bits.specs.Pieces.{place_from, moved_within, distance_of}
 use Rattle.jpeg_bits.specs.declared.error.Error.{Error}
 use Rattle.jpeg_bits.specs.declared.error.Error.TheVariants as errors
 use Rattle.jpeg_bits.proofs.Loops.{Names-through}
+use Rattle.jpeg_bits.proofs.PieceWalks.{by_bool}
 
 -- at most the unit of the highest level
 pub small-distance : (b l p : ℕ) → b < 2 → l < 2 → p ≤ 8192 → b * l * p ≤ 8192
@@ -78,3 +79,8 @@ pub nonzero : (z : ℤ) → (z ≡ pos 0 → ⊥) → is_zero z ≡ false
 nonzero (pos zero) h = absurd (h refl)
 nonzero (pos (suc n)) h = refl
 nonzero (negsuc n) h = refl
+
+-- a place whose correction bit is 0 stays
+pub place-kept : (al : ℕ) (z : ℤ) (t : Text) → bits_from 1 t ≡ Ok (0, t) → place_from al z t ≡ Ok (z, t)
+unfolding place_from
+place-kept al z t e = by_bool (is_zero z) (λ zero. rw zero refl) (λ some. rw (some, e) refl)

@@ -7,20 +7,21 @@ use mir.Val.{Val}
 use denote.Array.{each}
 use denote.Shadow.{shadow}
 use denote.Signed.{SInt}
-use Rattle.std.specs.Int.{bit_at, cast_signed, cast_unsigned}
+use Rattle.std.specs.Int.{bit_at, bit_not, cast_signed, cast_unsigned}
 use Rattle.std.specs.Int.Count.{count_trailing_zeros, trailing_of_zero}
 use Rattle.std.specs.Simd.Lanes.{sel_l, mask_l, zip2, top, Each1}
 use Rattle.std.proofs.lemmas.Bool.{ne_eqb}
 use Rattle.std.proofs.lemmas.Int.{to_z-of_z}
-use Rattle.std.proofs.lemmas.Nat.Bits.{bit_at-zero, bit_at-trailing_zeros}
+use Rattle.std.proofs.lemmas.Nat.Bits.{bit_at-zero, bit_at-trailing_zeros, bit_at_not, bit_at-lt}
 use Rattle.std.proofs.lemmas.Simd.{tops_compared, zip2_splat, bitmask_splat, bit_mask_l}
-use Rattle.std.proofs.lemmas.List.{get_or-set_other, take_all, length-map, get_or-map as get_or-map_within}
+use Rattle.std.proofs.lemmas.List.{get_or-set_other, set-get_or, take_all, length-map, get_or-map as get_or-map_within}
 use Rattle.std.proofs.Math.ListN.{get_or-map}
 use Rattle.jpeg_bits.specs.Zigzag.{zigzag}
 use Rattle.jpeg_bits.specs.ZigzagParts.{zigzag_part}
 use Rattle.jpeg_bits.specs.Masks.{coefficient_at, MarksFrom, marked}
-use Rattle.jpeg_bits.specs.Entropy.{Text}
-use Rattle.jpeg_bits.proofs.BlockWalks.{walk_at, at-skip, at-stop, at-end}
+use Rattle.jpeg_bits.specs.Entropy.{Text, bits_from}
+use Rattle.jpeg_bits.proofs.BlockWalks.{walk_at, at-skip, at-stop, at-end, at-value}
+use Rattle.jpeg_bits.proofs.Corrections.{place-kept}
 use Rattle.jpeg_bits.proofs.ZigzagParts.{part-get, part-set}
 
 -- each coefficient fits, by what its type says
@@ -184,7 +185,45 @@ gap-zeros mask index gap block within m zeros i after before =
     let e : i ≡ index + (i - index) = omega arith in
     m.zeros i after (omega arith) (ap (bit_at mask) e ∙ zeros (i - index) (omega arith))
 
+-- where a bit isn't set in the complement, it is set
+set-in : (mask i : ℕ) → mask < 2 ^ 64 → i < 64 → bit_at (bit_not w64 mask) i ≡ 0 → bit_at mask i ≡ 1
+set-in mask i fits within e = omega (arith, e, bit_at_not w64 mask i fits within, bit_at-lt mask i)
+
+pub gap-values : (mask index gap : ℕ) (block : List ℤ) → mask < 2 ^ 64 → index + gap ≤ 64 → MarksFrom mask index block
+    → ((k : ℕ) → k < gap → bit_at (bit_not w64 mask) (index + k) ≡ 0) → (i : ℕ) → index ≤ i → i < index + gap
+    → coefficient_at i block ≡ pos 0 → ⊥
+gap-values mask index gap block fits within m zeros i after before =
+    let e : i ≡ index + (i - index) = omega arith in
+    m.values i after (omega arith) (set-in mask i fits (omega arith) (ap (bit_at (bit_not w64 mask)) e
+    ∙ zeros (i - index) (omega arith)))
+
+-- a bit that isn't set begins a gap
+pub gap-some : (mask index gap end : ℕ) → mask < 2 ^ 64 → end ≤ 64 → index < end
+    → bit_at (bit_not w64 mask) index ≡ 1 → (index + gap < end → bit_at mask (index + gap) ≡ 1) → 0 < gap
+gap-some mask index zero end fits within before clear stop =
+    let none : index + 0 ≡ index = omega arith in
+    let one : bit_at mask index ≡ 1 = sym (ap (bit_at mask) none) ∙ stop (omega arith) in
+    absurd (omega (arith, one, clear, bit_at_not w64 mask index fits (omega arith)))
+gap-some mask index (suc gap) end fits within before clear stop = omega arith
+
 module _ (al from end : ℕ) (block : List ℤ) (within : end ≤ 64) where
+  -- values whose correction bits are 0
+  pub at-keeps : (n r k : ℕ) (t : Text) → length block ≡ 64 → from ≤ k → k + n ≤ end
+      → ((i : ℕ) → k ≤ i → i < k + n → coefficient_at i block ≡ pos 0 → ⊥) → bits_from 1 t ≡ Ok (0, t)
+      → walk_at al r from end block k t ≡ walk_at al r from end block (k + n) t
+  at-keeps zero r k t long after inside some e =
+      let b : k ≡ k + 0 = omega arith in
+      ap (λ (i : ℕ). walk_at al r from end block i t) b
+  at-keeps (suc n) r k t long after inside some e =
+      let z = coefficient_at k block in
+      let b : k + 1 + n ≡ k + suc n = omega arith in
+      at-value al r from end k (get_or zigzag k 0) block within after (omega arith) refl z z z t t long
+      (some k (omega arith) (omega arith)) refl refl (place-kept al z t e)
+      ∙ ap (λ (b : List ℤ). walk_at al r from end b (k + 1) t) (set-get_or block (get_or zigzag k 0) (pos 0))
+      ∙ at-keeps n r (k + 1) t long (omega arith) (omega arith)
+      (λ i later before. some i (omega arith) (omega arith)) e
+      ∙ ap (λ (i : ℕ). walk_at al r from end block i t) b
+
   pub at-skips : (n r k : ℕ) (t : Text) → from ≤ k → k + n ≤ end → n ≤ r
       → ((i : ℕ) → k ≤ i → i < k + n → coefficient_at i block ≡ pos 0)
       → walk_at al r from end block k t ≡ walk_at al (r - n) from end block (k + n) t

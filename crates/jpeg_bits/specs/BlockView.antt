@@ -8,9 +8,13 @@ use Rattle.jpeg_bits.specs.declared.blocks.Carried.{Carried}
 abbrev pub pass_in : declared.Pass → Pass
 pass_in p = record { is_first = p.is_first; ss = p.ss; se = p.se; al = p.al }
 
+-- the DC coefficient of a block in block order
+abbrev pub dc_in : List ℤ → ℤ
+dc_in l = slice_index_or l 0 (pos 0)
+
 -- a block of its coefficients, which stand in block order
 abbrev pub to_block : List ℤ → Block
-to_block l = record { dc = slice_index_or l 0 (pos 0); acs = drop 1 (coefficients_in_zigzag l) }
+to_block l = record { dc = dc_in l; acs = drop 1 (coefficients_in_zigzag l) }
 
 -- the predictor of the component with this index in the scan
 abbrev pub predictor_at : ℕ → Carried → ℤ

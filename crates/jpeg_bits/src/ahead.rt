@@ -3,6 +3,7 @@ ghost use Rattle.std.specs.Prelude.{◌≡◌, ◌++◌, Ok, is_some, true, fals
 ghost use Rattle.jpeg_bits.specs.Reading.{Answers, IsShort, Gives, NamesFormat};
 ghost use Rattle.jpeg_bits.specs.Refusals.{held_refusal, answer_of, IsHeld};
 ghost use Rattle.jpeg_bits.specs.Entropy.{piece_at, after_ff, byte_or_end, marker_held, has_held};
+ghost use Rattle.jpeg_bits.specs.Entropy.{bits_from, upcoming_by};
 ghost use Rattle.std.specs.Prelude.{ℕ, ◌<◌, Bool, List, length, is_ok};
 ghost use Rattle.jpeg_bits.specs.Reading.{Names};
 
@@ -132,7 +133,7 @@ impl Model for Held {
 
 impl Held {
     ghost use Rattle.std.specs.Prelude.{◌≡◌, ◌≤◌, ◌<◌, ◌^◌, ◌++◌, ℕ, [], None, IfSome, true, false};
-    ghost use Rattle.std.specs.Prelude.{Some, is_ok, is_some, length, take, drop, replicate};
+    ghost use Rattle.std.specs.Prelude.{Some, Ok, List, is_ok, is_some, length, take, drop, replicate};
     ghost use Rattle.jpeg_bits.specs.Stream.{Stream};
     ghost use Rattle.jpeg_bits.specs.Codes.{next_16, code_from, symbol_from, fast_from};
     ghost use Rattle.jpeg_bits.specs.ShortCodes.{symbol_in, short_value_of, next_bits};
@@ -140,7 +141,7 @@ impl Held {
     ghost use Rattle.jpeg_bits.specs.Readers.{signed_from};
     ghost use Rattle.jpeg_bits.specs.Refusals.{outcome_of, answer_of, IsHeld};
     ghost use Rattle.jpeg_bits.specs.Entropy.{Takes, fresh, same_text, has_held, marker_held};
-    ghost use Rattle.jpeg_bits.specs.Entropy.{number_of, IsFilled, bits_from};
+    ghost use Rattle.jpeg_bits.specs.Entropy.{number_of, IsFilled, bits_from, upcoming};
 
     pub(crate) fn new(alloc: Global) -> Held
         ensures { result ≡ fresh }
@@ -240,6 +241,15 @@ impl Held {
         ensures { result ≡ is_ok (has_held count self.now.bits self.now.met) }
     {
         count <= self.bits.len() || is_padded(self.end)
+    }
+
+    /// Whether a marker was met and no bit is held: zeros come then without end.
+    #[inline(always)]
+    pub(crate) fn is_past_marker(&self) -> bool
+        ensures { result ≡ true → (bytes : List ℕ) → bits_from 1 (upcoming self.now bytes)
+            ≡ Ok (0, upcoming self.now bytes) }
+    {
+        self.bits.len() == 0 && is_marker(self.end)
     }
 
     /// The next `count` bits, from 1 to 16, as a number, the highest first. A refusal is held in
@@ -446,6 +456,18 @@ impl Held {
     {
         let empty = Held::new(self.alloc);
         std::mem::replace(self, empty).end
+    }
+}
+
+/// Whether a marker was met.
+#[inline(always)]
+fn is_marker(end: Option<DataEnd>) -> bool
+    ensures { result ≡ true → (bits : List Bool) (bytes : List ℕ) → length bits ≡ 0 →
+        bits_from 1 (upcoming_by bits end bytes) ≡ Ok (0, upcoming_by bits end bytes) }
+{
+    match end {
+        Some(DataEnd::Marker(_)) => true,
+        _ => false,
     }
 }
 

@@ -1,10 +1,10 @@
 //! A block of a scan, of any pass.
 ghost use Rattle.std.specs.Prelude.{◌≡◌, ◌≤◌, ◌<◌, set, is_some, true, false};
-ghost use Rattle.jpeg_bits.specs.Refusals.{answer_of, outcome_of, IsHeld};
+ghost use Rattle.jpeg_bits.specs.Refusals.{outcome_of};
 ghost use Rattle.jpeg_bits.specs.Entropy.{Takes};
 ghost use Rattle.jpeg_bits.specs.declared.codes.HuffmanTableClass.TheVariants.{AC};
 ghost use Rattle.jpeg_bits.specs.Passes.{dc_part, band_part, block_from, or_bit};
-ghost use Rattle.jpeg_bits.specs.BlockView.{to_block, pass_in, predictor_at, IsPass};
+ghost use Rattle.jpeg_bits.specs.BlockView.{to_block, dc_in, pass_in, predictor_at, IsPass};
 ghost use Rattle.jpeg_bits.specs.ZigzagParts.{band_in, KeepsOthers};
 
 use crate::ahead::Held;
@@ -93,56 +93,58 @@ impl Carried {
 
 /// A DC coefficient with the bit set, where it isn't.
 #[inline]
-#[tactic(auto, using(crate::proofs::SetBits::or_none, crate::proofs::SetBits::or_kept))]
-fn with_bit(value: i16, al: u8, bit: u16) -> i16
-    requires level { al ≤ 13 }
-    requires bit { bit ≤ 1 }
-    ensures { result ≡ or_bit al value bit }
+#[tactic(auto, using(crate::proofs::SetBits::or_kept))]
+fn with_bit(value: i16, al: u8) -> i16
+    requires { al ≤ 13 }
+    ensures { result ≡ or_bit al value 1 }
 {
-    if bit == 0 {
-        return value;
-    }
     if lacks_bit(value, al) {
         return value.wrapping_add(unit(al));
     }
     value
 }
 
-/// The DC coefficient of a block, in a pass that begins with it. A refusal is held in its place,
-/// and answered by none.
+/// Reads the DC coefficient of a block, in a pass that begins with it. A refusal is held in its
+/// place, and answered by false.
 #[inline]
 #[tactic(auto, using(crate::proofs::BlockParts::dc_rules))]
 fn read_dc<R: Read + Drop>(
     held: &mut Held,
     source: &mut Source<R>,
     coding: &BlockCoding<'_>,
-    value: i16,
     predictor: &mut i16,
+    block: &mut [i16; 64],
     refusal: &mut Option<Error>,
-) -> Option<i16>
+) -> bool
     requires dc { coding.now.pass.ss ≡ 0 }
-    ensures part { Takes (λ z. (z, predictor.new))
-        (dc_part (pass_in coding.now.pass) coding.now.dc_table.now value predictor.old)
-        held.old source.old (answer_of result refusal.new) held.new source.new }
-    ensures held { IsHeld result refusal.new }
+    ensures part { Takes (λ _. (dc_in block.new, predictor.new))
+        (dc_part (pass_in coding.now.pass) coding.now.dc_table.now (dc_in block.old) predictor.old)
+        held.old source.old (outcome_of result refusal.new) held.new source.new }
+    ensures others { block.new ≡ set block.old 0 (dc_in block.new) }
+    ensures held { result ≡ false → is_some refusal.new ≡ true }
 {
     let pass = coding.pass;
     if pass.is_first {
         let Some(difference) = read_difference(held, source, coding.dc_table, refusal) else {
-            return None;
+            return false;
         };
         *predictor = wrapped_sum(*predictor, difference);
-        return Some(shifted(*predictor, pass.al));
+        block[0] = shifted(*predictor, pass.al);
+        return true;
     }
-    match held.take_number(source, 1, refusal) {
-        Some(bit) => Some(with_bit(value, pass.al, bit)),
-        None => None,
+    let Some(bit) = held.take_number(source, 1, refusal) else {
+        return false;
+    };
+    // A block that stays as it is isn't even loaded.
+    if bit > 0 {
+        block[0] = with_bit(block[0], pass.al);
     }
+    true
 }
 
 /// The band of a block. In a run of blocks without tokens it stays as it is, and in a refinement it
 /// is corrected. A refusal is held in its place, and answered by false.
-#[inline]
+#[inline(always)]
 #[tactic(auto, using(crate::proofs::BlockParts::band_rules))]
 fn read_band<R: Read + Drop>(
     held: &mut Held,
@@ -164,11 +166,35 @@ fn read_band<R: Read + Drop>(
     if pass.se == 0 {
         return true;
     }
+    if *run > 0 && pass.is_first {
+        *run -= 1;
+        return true;
+    }
+    read_coded_band(held, source, coding, run, block, refusal)
+}
+
+/// As `read_band`, where the bits have something of the band.
+#[inline(never)]
+#[tactic(auto, using(crate::proofs::BlockParts::band_rules))]
+fn read_coded_band<R: Read + Drop>(
+    held: &mut Held,
+    source: &mut Source<R>,
+    coding: &BlockCoding<'_>,
+    run: &mut u16,
+    block: &mut [i16; 64],
+    refusal: &mut Option<Error>,
+) -> bool
+    requires some { 0 < coding.now.pass.se }
+    requires coded { 0 < run.old → coding.now.pass.is_first ≡ false }
+    ensures band { Takes (λ _. (band_in (pass_in coding.now.pass) block.new, run.new))
+        (band_part (pass_in coding.now.pass) coding.now.ac_table.now
+        (band_in (pass_in coding.now.pass) block.old) run.old)
+        held.old source.old (outcome_of result refusal.new) held.new source.new }
+    ensures others { KeepsOthers (pass_in coding.now.pass) block.old block.new }
+    ensures held { result ≡ false → is_some refusal.new ≡ true }
+{
+    let pass = coding.pass;
     if *run > 0 {
-        if pass.is_first {
-            *run -= 1;
-            return true;
-        }
         if !correct_band(held, source, pass, block, refusal) {
             return false;
         }
@@ -217,10 +243,9 @@ pub fn take_block<R: Read + Drop>(
         return read_band(held, source, coding, &mut carried.run, block, refusal);
     }
     let predictor = &mut carried.predictors[coding.slot];
-    let Some(dc) = read_dc(held, source, coding, block[0], predictor, refusal) else {
+    if !read_dc(held, source, coding, predictor, block, refusal) {
         return false;
-    };
-    block[0] = dc;
+    }
     read_band(held, source, coding, &mut carried.run, block, refusal)
 }
 

@@ -1,14 +1,14 @@
 //! Refinement of the coefficients of a block.
 ghost use Rattle.std.specs.Prelude.{◌≡◌, ◌≤◌, ◌==◌, ◌^◌, ◌<◌, ◌-◌, pos, IfSome, is_some};
 ghost use Rattle.std.specs.Prelude.{ℕ, ◌+◌, true, false, length, map, slice_index, get_or};
-ghost use Rattle.std.specs.Prelude.{if◌then◌else◌};
+ghost use Rattle.std.specs.Prelude.{if◌then◌else◌, List, ℤ, Ok};
 ghost use Rattle.jpeg_bits.specs.Zigzag.{zigzag};
 ghost use Rattle.std.specs.Simd.Lanes.{Each1};
 ghost use Rattle.std.specs.Int.{bit_at};
 ghost use Rattle.jpeg_bits.specs.Masks.{MarksFrom, marked};
 ghost use Rattle.jpeg_bits.specs.Refusals.{answer_of, outcome_of, held_refusal, IsHeld};
 ghost use Rattle.jpeg_bits.specs.Reading.{Gives, NamesFormat};
-ghost use Rattle.jpeg_bits.specs.Entropy.{Takes};
+ghost use Rattle.jpeg_bits.specs.Entropy.{Text, Takes, bits_from};
 ghost use Rattle.jpeg_bits.specs.Refinement.{bit_of, new_number};
 ghost use Rattle.jpeg_bits.specs.Pieces.{moved_within, run_from, place_from, piece_from};
 ghost use Rattle.jpeg_bits.specs.Pieces.{refinement_from, refined_band_from, corrected};
@@ -221,6 +221,40 @@ struct BandPiece {
     zeros: usize,
 }
 
+/// Gives the index after a piece of the band of a block with this mask, where all correction bits
+/// are 0: the block stays as it is.
+#[cold]
+#[inline(never)]
+fn pass_piece(piece: BandPiece, mask: u64) -> usize
+    requires pass { IsPass (pass_in piece.pass) }
+    requires from { piece.from ≤ band_end (pass_in piece.pass) }
+    ensures after { piece.from ≤ result }
+    ensures within { result ≤ band_end (pass_in piece.pass) }
+    ensures some { piece.from < band_end (pass_in piece.pass) → piece.from < result }
+    ensures piece { (block : List ℤ) (t : Text) → length block ≡ 64
+        → MarksFrom mask piece.from block → bits_from 1 t ≡ Ok (0, t) →
+        piece_from piece.pass.al piece.zeros (rest_in (pass_in piece.pass) piece.from block) t
+        ≡ Ok ((result - piece.from, rest_in (pass_in piece.pass) piece.from block), t) }
+{
+    let BandPiece { pass, from, zeros } = piece;
+    let end = pass.band_end();
+    let mut left = zeros;
+    let mut index = from;
+    while index < end {
+        index += zeros_from(!mask, index, end);
+        if index == end {
+            return end;
+        }
+        let gap = zeros_from(mask, index, end);
+        if left < gap {
+            return index + left + 1;
+        }
+        left -= gap;
+        index += gap;
+    }
+    end
+}
+
 /// Corrects a piece of the band of a block with this mask, going from one coefficient that isn't 0
 /// to the next. Gives the index after it.
 #[inline(always)]
@@ -248,6 +282,10 @@ fn correct_piece<R: Read + Drop>(
     ensures mask { IfSome result (λ next. MarksFrom mask next block.new) }
     ensures held { IsHeld result refusal.new }
 {
+    // Refinements by the zeros after a marker cost a file no bytes, and needn't cost much time.
+    if held.is_past_marker() {
+        return Some(pass_piece(piece, mask));
+    }
     let BandPiece { pass, from, zeros } = piece;
     let end = pass.band_end();
     let mut left = zeros;

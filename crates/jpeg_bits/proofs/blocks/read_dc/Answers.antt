@@ -1,15 +1,18 @@
-use Rattle.std.proofs.Common.{◌≡◌, ◌+ℤ◌, ◌*ℤ◌, ◌^◌, pos, FitsSigned, w16, rules, arith}
+use Rattle.std.proofs.Common.{◌≡◌, ◌+ℤ◌, ◌*ℤ◌, ◌^◌, ◌<◌, pos, length, set, FitsSigned, sym, ap, ◌∙◌, w16, rules, arith}
 use Rattle.std.proofs.lemmas.Int.{to_z-of_z}
+use Rattle.std.proofs.lemmas.List.{get_or-set_same}
 use Rattle.jpeg_bits.specs.Entropy.{upcoming}
 use Rattle.jpeg_bits.specs.Bands.{wrapped}
 use Rattle.jpeg_bits.specs.Passes.{or_bit}
-use Rattle.jpeg_bits.specs.BlockView.{pass_in}
+use Rattle.jpeg_bits.specs.BlockView.{pass_in, dc_in}
 use Rattle.jpeg_bits.proofs.BlockParts.{dc_first, dc_refined}
+use Rattle.jpeg_bits.proofs.SetBits.{or_none}
 use Rattle.jpeg_bits.proofs.blocks.read_dc.Goals as goal
 
 pub returns-then-pass-clause-part : goal.returns-then-pass-clause-part
 returns-then-pass-clause-part g c =
     let k = c.args.coding.now in
+    let block = c.args.block.now in
     let s = to_z-of_z w16 c.wrapped_sum.result (record { sfits = c.wrapped_sum.type_inv }) in
     let v = to_z-of_z w16 c.shifted.result (record { sfits = c.shifted.type_inv }) in
     let predictor : FitsSigned w16 c.args.predictor.now = search rules in
@@ -20,12 +23,15 @@ returns-then-pass-clause-part g c =
     rw (q, d) at c.wrapped_sum.ensures in
     let value : c.shifted.result ≡ wrapped (c.wrapped_sum.result *ℤ pos (2 ^ k.pass.al)) =
     rw (s, s) at c.shifted.ensures in
-    rw (s, v) (
+    let some : 0 < length block = rw c.told-block (omega arith) in
+    let put : dc_in (set block 0 c.shifted.result) ≡ c.shifted.result =
+    get_or-set_same block 0 c.shifted.result (pos 0) some in
+    rw (s, v, put) (
       c.in-Some.ensures.difference.0,
       λ known.
           let at = c.in-Some.ensures.difference.1 known in (
             at.0,
-            dc_first (pass_in k.pass) k.dc_table.now c.args.value c.args.predictor.now c.in-Some.difference
+            dc_first (pass_in k.pass) k.dc_table.now (dc_in block) c.args.predictor.now c.in-Some.difference
                 c.wrapped_sum.result c.shifted.result (upcoming c.args.held.now c.args.source.now.bytes)
                 (upcoming c.read_difference.new.held c.read_difference.new.source.bytes) (omega arith) c.if-pass.true
                 sum
@@ -33,20 +39,43 @@ returns-then-pass-clause-part g c =
           ),
     )
 
-pub returns-in-Some-take_number-clause-part : goal.returns-in-Some-take_number-clause-part
-returns-in-Some-take_number-clause-part g c =
+pub returns-then-bit-gt0-clause-part : goal.returns-then-bit-gt0-clause-part
+returns-then-bit-gt0-clause-part g c =
     let k = c.args.coding.now in
+    let block = c.args.block.now in
     let v = to_z-of_z w16 c.with_bit.result (record { sfits = c.with_bit.type_inv }) in
-    let q = to_z-of_z w16 c.args.value c.ranges.value in
-    let is : c.with_bit.result ≡ or_bit k.pass.al c.args.value c.in-Some-take_number.bit =
-    rw q at c.with_bit.ensures in
-    rw v (
+    let fits : FitsSigned w16 (dc_in block) = search rules in
+    let q = to_z-of_z w16 (dc_in block) fits in
+    let one : 1 ≡ c.in-Some-take_number.bit =
+    omega (arith, c.if-bit-gt0.true, c.in-Some-take_number.ensures.small) in
+    let is : c.with_bit.result ≡ or_bit k.pass.al (dc_in block) c.in-Some-take_number.bit =
+    (rw q at c.with_bit.ensures) ∙ ap (or_bit k.pass.al (dc_in block)) one in
+    let some : 0 < length block = rw c.told-block (omega arith) in
+    let put : dc_in (set block 0 c.with_bit.result) ≡ c.with_bit.result =
+    get_or-set_same block 0 c.with_bit.result (pos 0) some in
+    rw (v, put) (
       c.in-Some-take_number.ensures.bits.0,
       λ known.
           let at = c.in-Some-take_number.ensures.bits.1 known in (
             at.0,
-            dc_refined (pass_in k.pass) k.dc_table.now c.args.value c.args.predictor.now c.with_bit.result
+            dc_refined (pass_in k.pass) k.dc_table.now (dc_in block) c.args.predictor.now c.with_bit.result
                 c.in-Some-take_number.bit (upcoming c.args.held.now c.args.source.now.bytes)
                 (upcoming c.take_number.new.self c.take_number.new.source.bytes) (omega arith) c.if-pass.false is at.1,
+          ),
+    )
+
+pub returns-else-bit-gt0-clause-part : goal.returns-else-bit-gt0-clause-part
+returns-else-bit-gt0-clause-part g c =
+    let k = c.args.coding.now in
+    let block = c.args.block.now in
+    let none : c.in-Some-take_number.bit ≡ 0 = omega (arith, c.if-bit-gt0.false) in (
+      c.in-Some-take_number.ensures.bits.0,
+      λ known.
+          let at = c.in-Some-take_number.ensures.bits.1 known in (
+            at.0,
+            dc_refined (pass_in k.pass) k.dc_table.now (dc_in block) c.args.predictor.now (dc_in block)
+                c.in-Some-take_number.bit (upcoming c.args.held.now c.args.source.now.bytes)
+                (upcoming c.take_number.new.self c.take_number.new.source.bytes) (omega arith) c.if-pass.false
+                (sym (or_none k.pass.al (dc_in block) c.in-Some-take_number.bit none)) at.1,
           ),
     )

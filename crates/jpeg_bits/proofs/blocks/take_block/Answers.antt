@@ -1,39 +1,34 @@
-use Rattle.std.proofs.Common.{◌≡◌, ◌<◌, ℤ, pos, length, get_or, set, slice_index_or, w16, FitsSigned, rules, refl, sym}
+use Rattle.std.proofs.Common.{◌≡◌, ◌<◌, List, ℤ, pos, length, get_or, set, slice_index_or, rules, refl, sym, subst}
 use Rattle.std.proofs.lemmas.List.{get_or-set_same, set-get_or}
-use Rattle.std.proofs.lemmas.Int.{to_z-of_z}
-use Rattle.std.specs.Int.{cast_signed, cast_unsigned}
-use Rattle.jpeg_bits.specs.Entropy.{upcoming}
-use Rattle.jpeg_bits.specs.Passes.{dc_part, block_from}
-use Rattle.jpeg_bits.specs.BlockView.{to_block, pass_in}
+use Rattle.jpeg_bits.specs.Entropy.{Takes, upcoming}
+use Rattle.jpeg_bits.specs.Passes.{dc_part, band_part, block_from}
+use Rattle.jpeg_bits.specs.BlockView.{to_block, dc_in, pass_in}
+use Rattle.jpeg_bits.specs.ZigzagParts.{band_in, KeepsOthers}
+use Rattle.jpeg_bits.specs.Refusals.{outcome_of}
 use Rattle.jpeg_bits.proofs.BandSteps.{Leaves-whole, Leaves-err}
 use Rattle.jpeg_bits.proofs.BlockParts.{dc_step, dc_refused, dc_kept, block_read}
 use Rattle.jpeg_bits.proofs.blocks.take_block.Goals as goal
 
-pub returns-in_default-clause-block : goal.returns-in_default-clause-block
-returns-in_default-clause-block g c =
+pub returns-then-not-read_dc-clause-block : goal.returns-then-not-read_dc-clause-block
+returns-then-not-read_dc-clause-block g c =
     let block = c.args.block.now in
     let k = c.args.coding.now in
     let a = c.args in
     let p = pass_in k.pass in
     let viewed : c.decoder.inside.held ≡ a.decoder.now = c.decoder.view_is in
-    let slot = k.slot in
-    let predictors = c.args.carried.now.predictors in
     let run = c.args.carried.now.run in
-    let predictor = get_or predictors slot (pos 0) in
-    let first = slice_index_or block 0 (pos 0) in
-    let fits : FitsSigned w16 first = search rules in
-    let z = to_z-of_z w16 first fits in
+    let predictor = get_or c.args.carried.now.predictors k.slot (pos 0) in
+    let first = dc_in block in
     let whole = block_from p k.dc_table.now k.ac_table.now predictor run
     (to_block block) in
-    (Leaves-err (λ (u : Unit {0}). (to_block block, c.read_dc.new.predictor, run)) (λ (z : ℤ). (
-      z,
+    (Leaves-err (λ (u : Unit {0}). (to_block block, c.read_dc.new.predictor, run)) (λ (u : Unit {0}). (
+      dc_in c.read_dc.new.block,
       c.read_dc.new.predictor,
     ))
-    whole whole (dc_part p k.dc_table.now (cast_signed w16 (cast_unsigned w16 first)) predictor)
+    whole whole (dc_part p k.dc_table.now first predictor)
     a.decoder.now a.decoder.now c.read_dc.new.held a.source.now a.source.now c.read_dc.new.source _
-    (λ t f h. dc_refused p k.dc_table.now k.ac_table.now predictor
-    (cast_signed w16 (cast_unsigned w16 first)) run block t f z h)
-    (Leaves-whole whole a.decoder.now a.source.now) (rw viewed at c.in_default.ensures.part))
+    (λ t f h. dc_refused p k.dc_table.now k.ac_table.now predictor first run block t f refl h)
+    (Leaves-whole whole a.decoder.now a.source.now) (rw viewed at c.if-not-read_dc.ensures.part))
 
 pub returns-clause-block : goal.returns-clause-block
 returns-clause-block g c =
@@ -46,31 +41,31 @@ returns-clause-block g c =
     let predictors = c.args.carried.now.predictors in
     let run = c.args.carried.now.run in
     let predictor = get_or predictors slot (pos 0) in
-    let first = slice_index_or block 0 (pos 0) in
-    let fits : FitsSigned w16 first = search rules in
-    let z = to_z-of_z w16 first fits in
-    let y = c.in-Some.dc in
-    let s : cast_signed w16 (cast_unsigned w16 y) ≡ y = to_z-of_z w16 y (search rules) in
+    let first = dc_in block in
+    let y = dc_in c.read_dc.new.block in
+    let put : c.read_dc.new.block ≡ set block 0 y = c.if-not-read_dc.ensures.others in
     let n : length block ≡ 64 = search rules in
     let four : length predictors ≡ 4 = search rules in
     let inside : slot < length predictors = rw four k.within in
     let kept : get_or (set predictors slot c.read_dc.new.predictor) slot (pos 0) ≡ c.read_dc.new.predictor =
     get_or-set_same predictors slot c.read_dc.new.predictor (pos 0) inside in
-    let q = rw viewed at c.in-Some.ensures.part in
+    let q = rw viewed at c.if-not-read_dc.ensures.part in
     rw kept (block_read p k.ac_table.now y c.read_dc.new.predictor run c.read_band-2.new.run block
     c.read_band-2.new.block (block_from p k.dc_table.now k.ac_table.now predictor run
     (to_block block)) a.decoder.now c.read_dc.new.held c.read_band-2.new.held a.source.now c.read_dc.new.source
     c.read_band-2.new.source c.read_band-2.new.refusal c.read_band-2.result n k.legal
-    (rw s at c.read_band-2.ensures.others) (
+    (subst (λ (b : List ℤ). KeepsOthers p b c.read_band-2.new.block) put c.read_band-2.ensures.others) (
       q.0,
       λ known. let at = q.1 known in (
         at.0,
-        dc_step p k.dc_table.now k.ac_table.now predictor
-            (cast_signed w16 (cast_unsigned w16 first)) c.read_dc.new.predictor y run block
+        dc_step p k.dc_table.now k.ac_table.now predictor first c.read_dc.new.predictor y run block
             (upcoming a.decoder.now a.source.now.bytes) (upcoming c.read_dc.new.held c.read_dc.new.source.bytes)
-            z at.1,
+            refl at.1,
       ),
-    ) (rw s at c.read_band-2.ensures.band))
+    ) (subst (λ (b : List ℤ). Takes (λ (u : Unit {0}). (band_in p c.read_band-2.new.block, c.read_band-2.new.run))
+    (band_part p k.ac_table.now (band_in p b) run) c.read_dc.new.held c.read_dc.new.source
+    (outcome_of c.read_band-2.result c.read_band-2.new.refusal) c.read_band-2.new.held c.read_band-2.new.source) put
+    c.read_band-2.ensures.band))
 
 pub returns-then-coding-gt0-clause-block : goal.returns-then-coding-gt0-clause-block
 returns-then-coding-gt0-clause-block g c =

@@ -1,4 +1,4 @@
-use Rattle.std.proofs.Common.{◌≡◌, ◌∙◌, ◌==◌, ◌+ℤ◌, true, ap, sym, w16, arith}
+use Rattle.std.proofs.Common.{◌≡◌, ◌∙◌, ◌==◌, ◌+ℤ◌, true, ap, sym, w16, refl}
 use Rattle.std.proofs.lemmas.Int.{wrapping_add_is, to_z-of_z}
 use Rattle.std.specs.Int.{int_wrap}
 use Rattle.jpeg_bits.specs.Refinement.{bit_of}
@@ -11,4 +11,4 @@ returns-then-lacks_bit c =
     let clear : (bit_of c.args.al c.args.value == 0) ≡ true = sym (rw s at c.lacks_bit.ensures) ∙ c.if-lacks_bit.true in
     wrapping_add_is w16 c.args.value c.unit.result c.ranges.value (record { sfits = c.unit.type_inv })
     ∙ ap (λ z. int_wrap w16 (c.args.value +ℤ z)) c.unit.ensures
-    ∙ or_set c.args.al c.args.value c.args.bit c.requires.level c.ranges.value clear (omega arith)
+    ∙ or_set c.args.al c.args.value 1 c.requires c.ranges.value clear refl

@@ -1,0 +1,110 @@
+use Rattle.std.proofs.Common.{◌+◌, ◌<◌, sym, ◌∙◌, arith}
+use Rattle.jpeg_bits.specs.BlockView.{pass_in}
+use Rattle.jpeg_bits.specs.ZigzagParts.{band_end}
+use Rattle.jpeg_bits.proofs.BlockWalks.{at-start, at-end}
+use Rattle.jpeg_bits.proofs.Masks.{gap-zeros, gap-values, gap-some, at-skips, at-keeps, at-gap, marks-later}
+use Rattle.jpeg_bits.proofs.refinement.pass_piece.Goals as goal
+
+pub loop-index-init : goal.loop-index-init
+loop-index-init c =
+    let a = c.args.piece in
+    let p = pass_in a.pass in
+    record {
+      after = omega arith;
+      within = c.requires.from;
+      walk = λ block t long marks zeros. sym (at-start p.al a.zeros a.from (band_end p) block t);
+    }
+
+pub returns-then-index-end-clause-piece : goal.returns-then-index-end-clause-piece
+returns-then-index-end-clause-piece c block t long marks zeros =
+    let a = c.args.piece in
+    let p = pass_in a.pass in
+    let l = c.loop-index in
+    let end = c.band_end-end.ensures in
+    let last = c.requires.pass.end in
+    let kept = c.zeros_from-index.result in
+    rw end (l.invariant.walk block t long marks zeros
+    ∙ at-keeps p.al a.from (band_end p) block (omega (arith, last)) kept l.left l.index t long l.invariant.after
+    (omega (arith, end, c.if-index-end.true))
+    (gap-values c.args.mask l.index kept block c.ranges.mask.fits (omega (arith, end, last, c.if-index-end.true))
+    (marks-later c.args.mask a.from l.index block l.invariant.after marks) c.zeros_from-index.ensures.zeros) zeros
+    ∙ at-end p.al l.left a.from (band_end p) (l.index + kept) block t (omega (arith, last))
+    (c.if-index-end.true ∙ end))
+
+pub returns-then-left-gap-clause-after : goal.returns-then-left-gap-clause-after
+returns-then-left-gap-clause-after c = omega (arith, c.loop-index.invariant.after)
+
+pub returns-then-left-gap-clause-some : goal.returns-then-left-gap-clause-some
+returns-then-left-gap-clause-some c h = omega (arith, c.loop-index.invariant.after)
+
+pub returns-then-left-gap-clause-piece : goal.returns-then-left-gap-clause-piece
+returns-then-left-gap-clause-piece c block t long marks zeros =
+    let a = c.args.piece in
+    let p = pass_in a.pass in
+    let l = c.loop-index in
+    let end = c.band_end-end.ensures in
+    let last = c.requires.pass.end in
+    let kept = c.zeros_from-index.result in
+    let gap = c.zeros_from-gap.result in
+    let inside = c.zeros_from-gap.ensures.within in
+    l.invariant.walk block t long marks zeros
+    ∙ at-keeps p.al a.from (band_end p) block (omega (arith, last)) kept l.left l.index t long l.invariant.after
+    (omega (arith, end, inside))
+    (gap-values c.args.mask l.index kept block c.ranges.mask.fits (omega (arith, end, last, inside))
+    (marks-later c.args.mask a.from l.index block l.invariant.after marks) c.zeros_from-index.ensures.zeros) zeros
+    ∙ at-gap p.al a.from (band_end p) block (omega (arith, last)) gap l.left (l.index + kept) t
+    (omega (arith, l.invariant.after)) (omega (arith, end, inside)) c.if-left-gap.true
+    (gap-zeros c.args.mask (l.index + kept) gap block (omega (arith, end, last, inside))
+    (marks-later c.args.mask a.from (l.index + kept) block (omega (arith, l.invariant.after)) marks)
+    c.zeros_from-gap.ensures.zeros)
+
+pub loop-index-smaller : goal.loop-index-smaller
+loop-index-smaller c =
+    let l = c.loop-index in
+    let end = c.band_end-end.ensures in
+    let last = c.requires.pass.end in
+    let kept = c.zeros_from-index.result in
+    let gap = c.zeros_from-gap.result in
+    let before : l.index + kept < c.band_end-end.result =
+    omega (arith, c.zeros_from-index.ensures.within, c.if-index-end.false) in
+    let some : 0 < gap = gap-some c.args.mask (l.index + kept) gap c.band_end-end.result c.ranges.mask.fits
+    (omega (arith, end, last)) before (c.zeros_from-index.ensures.stop before) c.zeros_from-gap.ensures.stop in
+    omega (arith, some, before)
+
+pub loop-index-preserved : goal.loop-index-preserved
+loop-index-preserved c =
+    let a = c.args.piece in
+    let p = pass_in a.pass in
+    let l = c.loop-index in
+    let end = c.band_end-end.ensures in
+    let last = c.requires.pass.end in
+    let kept = c.zeros_from-index.result in
+    let gap = c.zeros_from-gap.result in
+    let inside = c.zeros_from-gap.ensures.within in
+    record {
+      after = omega (arith, l.invariant.after);
+      within = omega (arith, end, inside);
+      walk = λ block t long marks zeros.
+          l.invariant.walk block t long marks zeros
+          ∙ at-keeps p.al a.from (band_end p) block (omega (arith, last)) kept l.left l.index t long l.invariant.after
+          (omega (arith, end, inside))
+          (gap-values c.args.mask l.index kept block c.ranges.mask.fits (omega (arith, end, last, inside))
+          (marks-later c.args.mask a.from l.index block l.invariant.after marks) c.zeros_from-index.ensures.zeros)
+          zeros
+          ∙ at-skips p.al a.from (band_end p) block (omega (arith, last)) gap l.left (l.index + kept) t
+          (omega (arith, l.invariant.after)) (omega (arith, end, inside)) (omega (arith, c.if-left-gap.false))
+          (gap-zeros c.args.mask (l.index + kept) gap block (omega (arith, end, last, inside))
+          (marks-later c.args.mask a.from (l.index + kept) block (omega (arith, l.invariant.after)) marks)
+          c.zeros_from-gap.ensures.zeros);
+    }
+
+pub returns-clause-piece : goal.returns-clause-piece
+returns-clause-piece c block t long marks zeros =
+    let a = c.args.piece in
+    let p = pass_in a.pass in
+    let l = c.loop-index in
+    let end = c.band_end-end.ensures in
+    let last = c.requires.pass.end in
+    rw end (l.invariant.walk block t long marks zeros
+    ∙ at-end p.al l.left a.from (band_end p) l.index block t (omega (arith, last))
+    (omega (arith, end, c.loop-index-test.false, l.invariant.within)))
