@@ -1,0 +1,929 @@
+#!/usr/bin/env python3
+"""An independent, slow model of what `decode` must return, written from T.81 and from what is said of the original crate, not from the code.
+
+meaning(bytes, settings) -> ('ok', width, height, format, pixels) or ('err', kind, in_scan)
+kind is 'Format', 'Io' or 'Unsupported(..)'. Where in_scan is true it is left open
+which of several faults is named, so Format and Io are both right.
+"""
+import sys
+
+ZIGZAG = [0, 1, 8, 16, 9, 2, 3, 10, 17, 24, 32, 25, 18, 11, 4, 5, 12, 19, 26, 33, 40, 48, 41, 34, 27, 20, 13, 6, 7, 14, 21, 28,
+          35, 42, 49, 56, 57, 50, 43, 36, 29, 22, 15, 23, 30, 37, 44, 51, 58, 59, 52, 45, 38, 31, 39, 46, 53, 60, 61, 54, 47, 55, 62, 63]
+
+
+class Refused(Exception):
+    def __init__(self, kind, in_scan=False):
+        super().__init__(kind)
+        self.kind, self.in_scan = kind, in_scan
+
+
+def fmt(in_scan=False):
+    return Refused('Format', in_scan)
+
+
+def unsupported(what):
+    return Refused('Unsupported(%s)' % what)
+
+
+def hx(s):
+    return bytes.fromhex(s.replace(' ', '').replace('\n', ''))
+
+
+class Settings:
+    def __init__(self, transform=None, limit=2 ** 64 - 1, scale=None, equal_factors=False):
+        self.transform = transform          # None, or one of the names of ColorTransform
+        self.limit = limit
+        self.scale = scale                  # None, or (requested_width, requested_height)
+        self.equal_factors = equal_factors  # True: lossless scans ignore factors (the rule before the change)
+
+
+# ---- bytes and codes
+
+class Bytes:
+    def __init__(self, b):
+        self.b, self.p = b, 0
+
+    def u8(self):
+        if self.p >= len(self.b):
+            raise Refused('Io')
+        self.p += 1
+        return self.b[self.p - 1]
+
+    def u16(self):
+        return self.u8() << 8 | self.u8()
+
+    def take(self, n):
+        if self.p + n > len(self.b):
+            self.p = len(self.b)
+            raise Refused('Io')
+        self.p += n
+        return self.b[self.p - n:self.p]
+
+    def marker(self):
+        """D1"""
+        b, i = self.b, self.p
+        while i + 1 < len(b):
+            if b[i] == 0xFF and b[i + 1] not in (0, 0xFF):
+                self.p = i + 2
+                return b[i + 1]
+            i += 1
+        raise Refused('Io')
+
+    def length(self):
+        n = self.u16()
+        if n < 2:
+            raise fmt()
+        return n
+
+
+class Text:
+    """D2 from place p: destuffed bytes with the place behind each, then an end."""
+
+    def __init__(self, b, p):
+        self.data, self.behind = [], []
+        n = len(b)
+        while True:
+            if p >= n:
+                self.end = ('fault', 'Io', n)
+                break
+            if b[p] != 0xFF:
+                self.data.append(b[p])
+                p += 1
+                self.behind.append(p)
+                continue
+            if p + 1 < n and b[p + 1] == 0:
+                self.data.append(0xFF)
+                p += 2
+                self.behind.append(p)
+                continue
+            q = p + 1
+            while q < n and b[q] == 0xFF:
+                q += 1
+            if q >= n:
+                self.end = ('fault', 'Io', n)
+            elif b[q] == 0:
+                self.end = ('fault', 'Format', q + 1)
+            else:
+                self.end = ('marker', b[q], q + 1)
+            break
+        self.k = 0
+
+    def bit_at(self, i):
+        if i < 8 * len(self.data):
+            return self.data[i >> 3] >> (7 - (i & 7)) & 1
+        if self.end[0] == 'marker':
+            return 0
+        raise Refused(self.end[1], True)
+
+    def bits(self, n):
+        v = 0
+        for _ in range(n):
+            v = v << 1 | self.bit_at(self.k)
+            self.k += 1
+        return v
+
+    def symbol(self, table):
+        """D5: symbol and length"""
+        v = 0
+        for n in range(1, 17):
+            v = v << 1 | self.bit_at(self.k + n - 1)
+            if (n, v) in table:
+                self.k += n
+                return table[n, v], n
+        raise fmt(True)
+
+    def finish(self):
+        """D3: (marker or None, place where reading goes on)"""
+        left = 8 * len(self.data) - self.k
+        if left <= 56:
+            if self.end[0] == 'marker':
+                return self.end[1], self.end[2]
+            raise Refused(self.end[1], True)
+        return None, self.behind[-(-(self.k + 57) // 8) - 1]
+
+
+def codes(counts, values):
+    """D4, or None"""
+    table, lens = {}, []
+    for i, c in enumerate(counts):
+        lens += [i + 1] * c
+    for i, n in enumerate(lens):
+        num = sum(2 ** (n - lens[j]) for j in range(i))
+        if num >= 2 ** n:
+            return None
+        table[n, num] = values[i]
+    return table
+
+
+def extend(v, s):
+    return v if v >= 1 << (s - 1) else v - (1 << s) + 1
+
+
+def i16(x):
+    x &= 0xFFFF
+    return x - 0x10000 if x >= 0x8000 else x
+
+
+def default_tables():
+    k3 = [0, 1, 5, 1, 1, 1, 1, 1, 1] + [0] * 7
+    k4 = [0, 3, 1, 1, 1, 1, 1, 1, 1, 1, 1] + [0] * 5
+    cat = list(range(12))
+    k5 = list(hx('00020103030204030505040400000 17D'.replace(' ', '')))
+    k6 = list(hx('0002010204040304070504040001 0277'))
+    v5 = hx("""01 02 03 00 04 11 05 12 21 31 41 06 13 51 61 07
+22 71 14 32 81 91 A1 08 23 42 B1 C1 15 52 D1 F0
+24 33 62 72 82 09 0A 16 17 18 19 1A 25 26 27 28
+29 2A 34 35 36 37 38 39 3A 43 44 45 46 47 48 49
+4A 53 54 55 56 57 58 59 5A 63 64 65 66 67 68 69
+6A 73 74 75 76 77 78 79 7A 83 84 85 86 87 88 89
+8A 92 93 94 95 96 97 98 99 9A A2 A3 A4 A5 A6 A7
+A8 A9 AA B2 B3 B4 B5 B6 B7 B8 B9 BA C2 C3 C4 C5
+C6 C7 C8 C9 CA D2 D3 D4 D5 D6 D7 D8 D9 DA E1 E2
+E3 E4 E5 E6 E7 E8 E9 EA F1 F2 F3 F4 F5 F6 F7 F8
+F9 FA""")
+    v6 = hx("""00 01 02 03 11 04 05 21 31 06 12 41 51 07 61 71
+13 22 32 81 08 14 42 91 A1 B1 C1 09 23 33 52 F0
+15 62 72 D1 0A 16 24 34 E1 25 F1 17 18 19 1A 26
+27 28 29 2A 35 36 37 38 39 3A 43 44 45 46 47 48
+49 4A 53 54 55 56 57 58 59 5A 63 64 65 66 67 68
+69 6A 73 74 75 76 77 78 79 7A 82 83 84 85 86 87
+88 89 8A 92 93 94 95 96 97 98 99 9A A2 A3 A4 A5
+A6 A7 A8 A9 AA B2 B3 B4 B5 B6 B7 B8 B9 BA C2 C3
+C4 C5 C6 C7 C8 C9 CA D2 D3 D4 D5 D6 D7 D8 D9 DA
+E2 E3 E4 E5 E6 E7 E8 E9 EA F2 F3 F4 F5 F6 F7 F8
+F9 FA""")
+    return [codes(k3, cat), codes(k4, cat)], [codes(k5, v5), codes(k6, v6)]
+
+
+# ---- frame
+
+class Component:
+    def __init__(self, ident, h, v, tq):
+        self.id, self.h, self.v, self.tq = ident, h, v, tq
+
+
+def ceil_div(a, b):
+    return -(-a // b)
+
+
+def rule(c, hmax, vmax, w, g):
+    """04, section 5: the rule's name, or None"""
+    h1, v1 = c.h == hmax or w == 1, c.v == vmax or g == 1
+    h2, v2 = 2 * c.h == hmax, 2 * c.v == vmax
+    if h1 and v1:
+        return 'H1V1'
+    if h2 and v1:
+        return 'H2V1'
+    if h1 and v2:
+        return 'H1V2'
+    if h2 and v2:
+        return 'H2V2'
+    if hmax % c.h == 0 and vmax % c.v == 0:
+        return 'Generic'
+    return None
+
+
+class Frame:
+    def sizes(self, s):
+        """of each component: (samples wide, high)"""
+        return [(ceil_div(self.w * c.h * s, self.hmax * 8), ceil_div(self.h * c.v * s, self.vmax * 8)) for c in self.comps]
+
+    def output(self, s):
+        return ceil_div(self.w * s, 8), ceil_div(self.h * s, 8)
+
+
+def parse_sof(r, n):
+    f = Frame()
+    f.n = n
+    base = n % 4  # 0 baseline/sequential, 1 extended, 2 progressive, 3 lossless
+    f.process = {0: 'seq', 1: 'seq', 2: 'prog', 3: 'lossless'}[base]
+    f.baseline = n == 0
+    f.differential = n in (5, 6, 7, 13, 14, 15)
+    f.arithmetic = n >= 9
+    length = r.length()
+    if length < 9:
+        raise fmt()
+    p = r.u8()
+    if not (p == 8 or (p == 12 and n != 0) or (f.process == 'lossless' and p <= 16)):
+        raise fmt()
+    f.precision = p
+    f.h, f.w = r.u16(), r.u16()
+    if f.h == 0:
+        raise unsupported('DNL')
+    if f.w == 0:
+        raise fmt()
+    count = r.u8()
+    if count < 1 or (f.process == 'prog' and count > 4) or length != 8 + 3 * count:
+        raise fmt()
+    f.comps = []
+    for _ in range(count):
+        ident = r.u8()
+        if any(c.id == ident for c in f.comps):
+            raise fmt()
+        hv = r.u8()
+        if not (1 <= hv >> 4 <= 4 and 1 <= hv & 15 <= 4):
+            raise fmt()
+        tq = r.u8()
+        if tq > 3 or (f.process == 'lossless' and tq != 0):
+            raise fmt()
+        f.comps.append(Component(ident, hv >> 4, hv & 15, tq))
+    if f.differential:
+        raise unsupported('Hierarchical')
+    if f.arithmetic:
+        raise unsupported('ArithmeticEntropyCoding')
+    if (f.process != 'lossless' and p != 8) or not 2 <= p <= 16:
+        raise unsupported('SamplePrecision(%d)' % p)
+    if count not in (1, 3, 4):
+        raise unsupported('ComponentCount(%d)' % count)
+    f.hmax, f.vmax = max(c.h for c in f.comps), max(c.v for c in f.comps)
+    if any(rule(c, f.hmax, f.vmax, f.w, f.h) is None for c in f.comps):
+        raise unsupported('NonIntegerSubsamplingRatio')
+    f.mcus = ceil_div(f.w, 8 * f.hmax), ceil_div(f.h, 8 * f.vmax)
+    return f
+
+
+class Scan:
+    pass
+
+
+def parse_sos(r, f):
+    s = Scan()
+    length = r.length()
+    if length <= 2:
+        raise fmt()
+    n = r.u8()
+    if not 1 <= n <= 4 or length != 6 + 2 * n:
+        raise fmt()
+    s.comps, s.dc, s.ac = [], [], []
+    for _ in range(n):
+        ident = r.u8()
+        at = [i for i, c in enumerate(f.comps) if c.id == ident]
+        if not at or at[0] in s.comps or (s.comps and at[0] < max(s.comps)):
+            raise fmt()
+        t = r.u8()
+        most = 1 if f.baseline else 3
+        if t >> 4 > most or t & 15 > most:
+            raise fmt()
+        s.comps.append(at[0])
+        s.dc.append(t >> 4)
+        s.ac.append(t & 15)
+    if n > 1 and sum(f.comps[i].h * f.comps[i].v for i in s.comps) > 10:
+        raise fmt()
+    s.ss, s.se, a = r.u8(), r.u8(), r.u8()
+    s.ah, s.al = a >> 4, a & 15
+    if s.al >= f.precision:
+        raise fmt()
+    if f.process == 'prog':
+        if not s.ss <= s.se <= 63 or (s.ss == 0 and s.se != 0) or (s.ss > 0 and n != 1):
+            raise fmt()
+        if s.ah > 13 or s.al > 13 or (s.ah != 0 and s.ah != s.al + 1):
+            raise fmt()
+    elif f.process == 'lossless':
+        if s.se != 0 or s.ah != 0 or s.ss > 7:
+            raise fmt()
+    else:
+        if s.se == 0:
+            s.se = 63
+        if s.ss != 0 or s.se != 63 or s.ah or s.al:
+            raise fmt()
+    return s
+
+
+# ---- scans
+
+def dc_first(t, table, pred, al):
+    s, _ = t.symbol(table)
+    if s > 11:
+        raise fmt(True)
+    d = extend(t.bits(s), s) if s else 0
+    return i16(pred + d)
+
+
+def ac_first(t, table, block, ss, se, al, run):
+    place = max(ss, 1)
+    if se == 0:
+        return run
+    if run > 0:
+        return run - 1
+    while place <= se:
+        sym, n = t.symbol(table)
+        r, s = sym >> 4, sym & 15
+        if s == 0:
+            if r == 15:
+                place += 16
+            else:
+                return (1 << r) - 1 + t.bits(r)
+        elif place + r <= se:
+            block[place + r] = i16(extend(t.bits(s), s) << al)
+            place += r + 1
+        else:
+            if n + s <= 8:
+                t.bits(s)
+            break
+    return 0
+
+
+def correct(t, block, place, al):
+    if t.bits(1):
+        c = block[place]
+        if not c >> al & 1:
+            c += (1 << al) if c > 0 else -(1 << al)
+            if not -32768 <= c <= 32767:
+                raise fmt(True)
+            block[place] = c
+
+
+def ac_refine(t, table, block, ss, se, al, run):
+    place = ss
+    if run > 0:
+        for i in range(place, se + 1):
+            if block[i]:
+                correct(t, block, i, al)
+        return run - 1
+    while place <= se:
+        sym, _ = t.symbol(table)
+        r, s = sym >> 4, sym & 15
+        if s > 1:
+            raise fmt(True)
+        value = 0
+        end_of_band = s == 0 and r < 15
+        if s == 1:
+            value = (1 << al) if t.bits(1) else -(1 << al)
+        if end_of_band:
+            new_run = (1 << r) - 1 + t.bits(r)
+            last = se
+        else:
+            zeros = [i for i in range(place, se + 1) if block[i] == 0]
+            last = zeros[r] if len(zeros) > r else se
+        for i in range(place, last + 1):
+            if block[i]:
+                correct(t, block, i, al)
+        if s == 1:
+            block[last] = value
+        if end_of_band:
+            return new_run
+        place = last + 1
+    return 0
+
+
+def intervals(total, ri):
+    if ri == 0:
+        return [total]
+    out = []
+    while total > ri:
+        out.append(ri)
+        total -= ri
+    return out + [total]
+
+
+def run_scan(r, mcus, ri, start, unit):
+    """cuts the MCUs into intervals; unit(text, mcu, state); returns the pending marker or None"""
+    number, at = 0, 0
+    parts = intervals(len(mcus), ri)
+    for j, n in enumerate(parts):
+        t = Text(r.b, r.p)
+        state = start()
+        for m in mcus[at:at + n]:
+            unit(t, m, state)
+        at += n
+        marker, r.p = t.finish()
+        if j + 1 < len(parts):
+            if marker != 0xD0 + number % 8:
+                raise fmt(True)
+            number += 1
+    while marker is not None and 0xD0 <= marker <= 0xD7:
+        try:
+            marker = r.marker()
+        except Refused as e:
+            raise Refused(e.kind, True)
+    return marker
+
+
+def dct_scan(r, f, s, dc, ac, ri, blocks):
+    """blocks: of each component of the scan the blocks held, changed in place"""
+    if len(s.comps) == 1:
+        i = s.comps[0]
+        c = f.comps[i]
+        wide, high = ceil_div(ceil_div(f.w * c.h, f.hmax), 8), ceil_div(ceil_div(f.h * c.v, f.vmax), 8)
+        mcus = [[(0, y, x)] for y in range(high) for x in range(wide)]
+    else:
+        mcus = [[(j, y * f.comps[i].v + v, x * f.comps[i].h + h) for j, i in enumerate(s.comps)
+                 for v in range(f.comps[i].v) for h in range(f.comps[i].h)]
+                for y in range(f.mcus[1]) for x in range(f.mcus[0])]
+
+    def start():
+        return {'pred': [0] * len(s.comps), 'run': 0}
+
+    def unit(t, mcu, st):
+        for j, y, x in mcu:
+            i = s.comps[j]
+            block = blocks[i][y * f.mcus[0] * f.comps[i].h + x]
+            if s.ah == 0:
+                if s.ss == 0:
+                    st['pred'][j] = dc_first(t, dc[s.dc[j]], st['pred'][j], s.al)
+                    block[0] = i16(st['pred'][j] << s.al)
+                if s.se > 0:
+                    st['run'] = ac_first(t, ac[s.ac[j]], block, s.ss, s.se, s.al, st['run'])
+            else:
+                if s.ss == 0:
+                    block[0] = i16(block[0] | t.bits(1) << s.al)
+                else:
+                    st['run'] = ac_refine(t, ac[s.ac[j]], block, s.ss, s.se, s.al, st['run'])
+
+    return run_scan(r, mcus, ri, start, unit)
+
+
+def predict(ra, rb, rc, sel):
+    return [0, ra, rb, rc, ra + rb - rc, ra + ((rb - rc) >> 1), rb + ((ra - rc) >> 1), (ra + rb) // 2][sel]
+
+
+def lossless_scan(r, f, s, dc, ri, settings):
+    if settings.equal_factors:
+        grid = {j: (1, 1, f.w, f.h) for j in range(len(s.comps))}
+        cols, rows = f.w, f.h
+    elif len(s.comps) == 1:
+        c = f.comps[s.comps[0]]
+        cols, rows = ceil_div(f.w * c.h, f.hmax), ceil_div(f.h * c.v, f.vmax)
+        grid = {0: (1, 1, cols, rows)}
+    else:
+        cols, rows = ceil_div(f.w, f.hmax), ceil_div(f.h, f.vmax)
+        grid = {j: (f.comps[i].h, f.comps[i].v, cols * f.comps[i].h, rows * f.comps[i].v) for j, i in enumerate(s.comps)}
+    if 0 < ri < cols * rows and ri % cols:
+        raise fmt(True)
+    mcus = [(x, y) for y in range(rows) for x in range(cols)]
+    planes = {j: [0] * (g[2] * g[3]) for j, g in grid.items()}
+
+    def start():
+        return {'first': {}}
+
+    def unit(t, mcu, st):
+        x, y = mcu
+        for j in range(len(s.comps)):
+            h, v, wide, _ = grid[j]
+            plane = planes[j]
+            for yy in range(y * v, y * v + v):
+                st['first'].setdefault(j, yy)
+                for xx in range(x * h, x * h + h):
+                    cat, _ = t.symbol(dc[s.dc[j]])
+                    if cat > 16:
+                        raise fmt(True)
+                    d = 32768 if cat == 16 else (extend(t.bits(cat), cat) if cat else 0)
+                    ra = plane[yy * wide + xx - 1] if xx else 0
+                    if yy == st['first'][j]:
+                        p = ra if xx else 1 << (f.precision - s.al - 1)
+                    elif xx == 0:
+                        p = plane[(yy - 1) * wide]
+                    else:
+                        p = predict(ra, plane[(yy - 1) * wide + xx], plane[(yy - 1) * wide + xx - 1], s.ss)
+                    plane[yy * wide + xx] = (p + d) & 0xFFFF
+
+    marker = run_scan(r, mcus, ri, start, unit)
+    out = {}
+    for j, i in enumerate(s.comps):
+        c = f.comps[i]
+        wide = grid[j][2]
+        if settings.equal_factors:
+            cw, ch = f.w, f.h
+        else:
+            cw, ch = ceil_div(f.w * c.h, f.hmax), ceil_div(f.h * c.v, f.vmax)
+        out[i] = (cw, ch, [planes[j][y * wide + x] << s.al & 0xFFFF for y in range(ch) for x in range(cw)])
+    return marker, out
+
+
+# ---- samples and pixels
+
+M_TOP = [[4096, 5683, 5352, 4816, 4096, 3219, 2217, 1131], [4096, 4816, 2217, -1129, -4096, -5681, -5350, -3218],
+         [4096, 3219, -2217, -5681, -4096, 1132, 5350, 4816], [4096, 1131, -5352, -3218, 4096, 4816, -2217, -5680]]
+M = M_TOP + [[-v if i % 2 else v for i, v in enumerate(row)] for row in reversed(M_TOP)]
+
+
+def i32(x):
+    x &= 0xFFFFFFFF
+    return x - (1 << 32) if x >= 1 << 31 else x
+
+
+def clamp(x):
+    return max(0, min(255, x))
+
+
+def idct8(c, q):
+    cols = []
+    for x in range(8):
+        s = [c[8 * k + x] * q[8 * k + x] for k in range(8)]
+        if all(c[8 * k + x] == 0 for k in range(1, 8)):
+            cols.append([i32(4 * s[0])] * 8)
+        else:
+            cols.append([i32(sum(M[y][k] * s[k] for k in range(8)) + 512) >> 10 for y in range(8)])
+    return [clamp(i32(sum(M[x][k] * cols[k][y] for k in range(8)) + 16842752) >> 17) for y in range(8) for x in range(8)]
+
+
+def idct4(c, q):
+    cols = []
+    for x in range(4):
+        s = [c[8 * k + x] * q[8 * k + x] for k in range(4)]
+        x0, x2 = i32((s[0] + s[2]) << 2), i32((s[0] - s[2]) << 2)
+        t2, t0 = i32(5352 * s[1] + 2217 * s[3] + 512) >> 10, i32(2217 * s[1] - 5350 * s[3] + 512) >> 10
+        cols.append([i32(x0 + t2), i32(x2 + t0), i32(x2 - t0), i32(x0 - t2)])
+    out = []
+    for y in range(4):
+        s = [cols[k][y] for k in range(4)]
+        x0, x2 = ((s[0] + s[2]) << 12) + 16842752, ((s[0] - s[2]) << 12) + 16842752
+        t2, t0 = 5352 * s[1] + 2217 * s[3], 2217 * s[1] - 5350 * s[3]
+        out += [clamp(i32(v) >> 17) for v in (x0 + t2, x2 + t0, x2 - t0, x0 - t2)]
+    return out
+
+
+def idct2(c, q):
+    a, b, d, e = (c[i] * q[i] for i in (0, 1, 8, 9))
+    return [clamp(i32(v + 1028) >> 3) for v in (a + d + b + e, a + d - b - e, a - d + b - e, a - d - b + e)]
+
+
+def idct1(c, q):
+    v = i32(c[0] * q[0] + 1024)
+    return [clamp(v // 8 if v >= 0 else -(-v // 8))]
+
+
+IDCT = {8: idct8, 4: idct4, 2: idct2, 1: idct1}
+
+
+def plane_of(f, i, blocks, q, s):
+    """the samples of component i as a function of coordinates"""
+    c = f.comps[i]
+    cache = {}
+
+    def p(x, y):
+        at = (y // s) * f.mcus[0] * c.h + x // s
+        if at not in cache:
+            block = [0] * 64
+            for z, v in enumerate(blocks[at]):
+                block[ZIGZAG[z]] = v
+            cache[at] = IDCT[s](block, q)
+        return cache[at][(y % s) * s + x % s]
+    return p
+
+
+def upsampled(name, p, n, m, ratio, x, r):
+    if name == 'H1V1':
+        return p(x, r)
+    if name == 'H2V1':
+        if n == 1:
+            return p(0, r)
+        i = x // 2
+        if x == 0:
+            return p(0, r)
+        if x == 2 * n - 1:
+            return p(n - 1, r)
+        return (3 * p(i, r) + p(i - 1 if x % 2 == 0 else i + 1, r) + 2) >> 2
+    if name == 'Generic':
+        return p(x // ratio[0], r // ratio[1])
+    near = r // 2
+    far = max(near - 1, 0) if r % 2 == 0 else min(near + 1, m - 1)
+    if name == 'H1V2':
+        return (3 * p(x, near) + p(x, far) + 2) >> 2
+
+    def t(i):
+        return 3 * p(i, near) + p(i, far)
+    if n == 1 or x == 0:
+        return (t(0) + 2) >> 2
+    if x == 2 * n - 1:
+        return (t(n - 1) + 2) >> 2
+    if x % 2 == 1:
+        i = (x + 1) // 2
+        return (3 * t(i - 1) + t(i) + 8) >> 4
+    i = x // 2
+    return (3 * t(i) + t(i - 1) + 8) >> 4
+
+
+def ycc(y, cb, cr):
+    yy, u, v = (y << 20) + (1 << 19), cb - 128, cr - 128
+    return clamp((yy + 1470104 * v) >> 20), clamp((yy - 360857 * u - 748830 * v) >> 20), clamp((yy + 1858077 * u) >> 20)
+
+
+def choose(f, st, settings):
+    if settings.transform is not None:
+        return settings.transform
+    if len(f.comps) == 3:
+        ids = tuple(c.id for c in f.comps)
+        known = {(1, 2, 3): 'YCbCr', (1, 34, 35): 'JcsBgYcc', (82, 71, 66): 'RGB', (114, 103, 98): 'JcsBgRgb'}
+        if ids in known:
+            return known[ids]
+        if st['jfif']:
+            return 'YCbCr'
+    if st['adobe'] is not None:
+        return {0: 'RGB' if len(f.comps) == 3 else 'CMYK', 1: 'YCbCr', 2: 'YCCK'}[st['adobe']]
+    return 'YCbCr' if len(f.comps) == 3 else 'CMYK'
+
+
+def conversion(n, transform):
+    if transform in ('JcsBgYcc', 'JcsBgRgb'):
+        raise unsupported('ColorTransform(%s)' % transform)
+    fits = {3: ('None', 'RGB', 'YCbCr'), 4: ('None', 'CMYK', 'YCCK')}[n]
+    if transform not in fits:
+        raise fmt()
+    return transform
+
+
+def picture(f, planes, s, conv):
+    w, h = f.output(s)
+    sizes = f.sizes(s)
+    if len(f.comps) == 1:
+        return bytes(planes[0](x, y) for y in range(h) for x in range(w))
+    names = [rule(c, f.hmax, f.vmax, w, h) for c in f.comps]
+    out = bytearray()
+    for r in range(h):
+        rows = []
+        for i, c in enumerate(f.comps):
+            n, m = sizes[i]
+            ratio = (f.hmax // c.h, f.vmax // c.v)
+            rows.append([upsampled(names[i], planes[i], n, m, ratio, x, r) for x in range(w)])
+        if conv == 'None':
+            for row in rows:
+                out += bytes(row)
+            continue
+        for px in zip(*rows):
+            if conv == 'RGB':
+                out += bytes(px)
+            elif conv == 'YCbCr':
+                out += bytes(ycc(*px))
+            elif conv == 'CMYK':
+                out += bytes(255 - v for v in px)
+            else:
+                out += bytes(ycc(*px[:3])) + bytes([255 - px[3]])
+    return bytes(out)
+
+
+def lossless_picture(f, planes, settings):
+    out = bytearray()
+    for y in range(f.h):
+        for x in range(f.w):
+            for i, c in enumerate(f.comps):
+                cw, ch, p = planes[i]
+                if settings.equal_factors:
+                    v = p[y * cw + x]
+                else:
+                    v = p[y * c.v // f.vmax * cw + x * c.h // f.hmax]
+                out += bytes([v & 255]) if f.precision <= 8 else bytes([v & 255, v >> 8])
+    return bytes(out)
+
+
+def info(f, s):
+    w, h = f.output(s)
+    name = {1: 'L8' if f.precision <= 8 else 'L16', 3: 'RGB24', 4: 'CMYK32'}[len(f.comps)]
+    return w, h, name
+
+
+def pick_scale(f, want):
+    if want is None or f.process == 'lossless':
+        return 8
+    for s in (1, 2, 4):
+        if ceil_div(f.w * s, 8) >= want[0] or ceil_div(f.h * s, 8) >= want[1]:
+            return s
+    return 8
+
+
+# ---- the whole
+
+def icc_profile(chunks):
+    n = len(chunks)
+    if not 1 <= n <= 254 or any(c[1] != n for c in chunks) or sorted(c[0] for c in chunks) != list(range(1, n + 1)):
+        return None
+    return b''.join(c[2] for c in sorted(chunks))
+
+
+def parse_app(r, n, st):
+    left = r.length() - 2
+    if n in (1,) or (n == 0 and left >= 5) or (n == 2 and left > 14) or (n == 13 and left >= 14) or (n == 14 and left >= 12):
+        head = {0: 5, 1: left, 2: 14, 13: 14, 14: 12}[n]
+        data = r.take(head)
+        left -= head
+        if n == 0 and data == b'JFIF\0':
+            found = ('jfif', True)
+        elif n == 0 and data == b'AVI1\0':
+            found = ('avi', True)
+        elif n == 1 and data[:6] == b'Exif\0\0':
+            found = ('exif', data[6:])
+        elif n == 1 and data[:29] == b'http://ns.adobe.com/xap/1.0/\0':
+            found = ('xmp', data[29:])
+        elif n == 2 and data[:12] == b'ICC_PROFILE\0':
+            found = ('icc', st['icc'] + [(data[12], data[13], r.take(left))])
+            left = 0
+        elif n == 14 and data[:6] == b'Adobe\0':
+            if data[11] > 2:
+                raise fmt()
+            found = ('adobe', data[11])
+        else:
+            found = None
+        r.take(left)
+        if found:
+            st[found[0]] = found[1]
+    else:
+        r.take(left)
+
+
+def meaning(data, settings=None, trace=None):
+    settings = settings or Settings()
+    st = {'jfif': False, 'avi': False, 'adobe': None, 'exif': None, 'xmp': None, 'icc': []}
+    if trace is not None:
+        trace['state'] = st
+    try:
+        return decode(Bytes(data), settings, st, trace)
+    except Refused as e:
+        return ('err', e.kind, e.in_scan)
+
+
+def decode(r, settings, st, trace):
+    if r.u8() != 0xFF:
+        raise fmt()
+    if r.u8() != 0xD8:
+        raise fmt()
+    f, s8, ri = None, 8, 0
+    dc, ac, qt = [None] * 4, [None] * 4, [None] * 4
+    held, finished, planes, scans = None, {}, {}, 0
+    pending, previous = None, 0xD8
+    scanned = False
+    while True:
+        m, pending = (pending, None) if pending is not None else (r.marker(), None)
+        if 0xC0 <= m <= 0xCF and m not in (0xC4, 0xC8, 0xCC):
+            if f is not None:
+                raise unsupported('Hierarchical')
+            f = parse_sof(r, m - 0xC0)
+            s8 = pick_scale(f, settings.scale)
+            if trace is not None:
+                trace['info'] = info(f, s8)
+        elif m == 0xDA:
+            if f is None:
+                raise fmt()
+            s = parse_sos(r, f)
+            scanned = True
+            if f.process == 'lossless':
+                if any(dc[t] is None for t in s.dc):
+                    raise fmt(True)
+                pending, got = lossless_scan(r, f, s, dc, ri, settings)
+                planes.update(got)
+            else:
+                if st['avi']:
+                    ddc, dac = default_tables()
+                    for t in (0, 1):
+                        if t in s.dc and dc[t] is None:
+                            dc[t] = ddc[t]
+                        if t in s.ac and ac[t] is None:
+                            ac[t] = dac[t]
+                if any(qt[f.comps[i].tq] is None for i in s.comps):
+                    raise fmt(True)
+                if s.ss == 0 and any(dc[t] is None for t in s.dc):
+                    raise fmt(True)
+                if s.se > 0 and any(ac[t] is None for t in s.ac):
+                    raise fmt(True)
+                counts = [f.mcus[0] * c.h * f.mcus[1] * c.v for c in f.comps]
+                if f.process == 'prog':
+                    if held is None:
+                        held = [[[0] * 64 for _ in range(n)] for n in counts]
+                    blocks = held
+                else:
+                    blocks = {i: [[0] * 64 for _ in range(counts[i])] for i in s.comps}
+                pending = dct_scan(r, f, s, dc, ac, ri, blocks)
+                if s.al == 0:
+                    for i in s.comps:
+                        was = len(finished.get(i, ())) == 64
+                        finished[i] = finished.get(i, frozenset()) | set(range(s.ss, s.se + 1))
+                        if len(finished[i]) == 64 and not was:
+                            planes[i] = ([list(b) for b in blocks[i]], qt[f.comps[i].tq])
+            scans += 1
+        elif m == 0xDB:
+            left = r.length() - 2
+            new = {}
+            while left:
+                b = r.u8()
+                if b >> 4 > 1 or b & 15 > 3:
+                    raise fmt()
+                size = 64 * (1 + (b >> 4))
+                if left < 1 + size:
+                    raise fmt()
+                vals = [r.u16() if b >> 4 else r.u8() for _ in range(64)]
+                if 0 in vals:
+                    raise fmt()
+                q = [0] * 64
+                for z, v in enumerate(vals):
+                    q[ZIGZAG[z]] = v
+                new[b & 15] = q
+                left -= 1 + size
+            for t, q in new.items():
+                qt[t] = q
+        elif m == 0xC4:
+            left = r.length() - 2
+            new = []
+            while left > 17:
+                b = r.u8()
+                if b >> 4 > 1 or b & 15 > (1 if f is not None and f.baseline else 3):
+                    raise fmt()
+                counts = list(r.take(16))
+                n = sum(counts)
+                if not 1 <= n <= 256 or n > left - 17:
+                    raise fmt()
+                vals = r.take(n)
+                t = codes(counts, vals)
+                if t is None:
+                    raise fmt()
+                new.append((b, t))
+                left -= 17 + n
+            if left:
+                raise fmt()
+            for b, t in new:
+                (ac if b >> 4 else dc)[b & 15] = t
+        elif m == 0xCC:
+            raise unsupported('ArithmeticEntropyCoding')
+        elif m == 0xDD:
+            if r.length() != 4:
+                raise fmt()
+            ri = r.u16()
+        elif m == 0xFE:
+            r.take(r.length() - 2)
+        elif 0xE0 <= m <= 0xEF:
+            parse_app(r, m - 0xE0, st)
+        elif 0xD0 <= m <= 0xD7:
+            if previous != 0xDA:
+                raise fmt()
+        elif m == 0xDC:
+            if previous != 0xDA or scans != 1:
+                raise fmt()
+            raise unsupported('DNL')
+        elif m in (0xDE, 0xDF):
+            raise unsupported('Hierarchical')
+        elif m == 0xD9:
+            break
+        else:
+            raise fmt()
+        previous = m
+    if f is None:
+        raise fmt()
+    w, h, name = info(f, s8)
+    if len(f.comps) * w * h > settings.limit:
+        raise fmt()
+    if trace is not None:
+        trace['end'] = r.p
+    if f.process == 'lossless':
+        if any(i not in planes for i in range(len(f.comps))):
+            raise fmt()
+        return ('ok', w, h, name, lossless_picture(f, planes, settings))
+    if f.process == 'prog' and scanned:
+        for i, c in enumerate(f.comps):
+            if i not in planes and qt[c.tq] is not None:
+                planes[i] = (held[i], qt[c.tq])
+    if any(i not in planes for i in range(len(f.comps))):
+        raise fmt()
+    conv = conversion(len(f.comps), choose(f, st, settings)) if len(f.comps) > 1 else None
+    return ('ok', w, h, name, picture(f, [plane_of(f, i, *planes[i], s8) for i in range(len(f.comps))], s8, conv))
+
+
+def main():
+    data = sys.stdin.buffer.read()
+    got = meaning(data)
+    if got[0] == 'err':
+        print('model: %s%s' % (got[1], ' (in a scan)' if got[2] else ''), file=sys.stderr)
+        return 1
+    sys.stdout.buffer.write(b'%d %d %s\n' % (got[1], got[2], got[3].encode()) + got[4])
+    return 0
+
+
+if __name__ == '__main__':
+    sys.exit(main())
