@@ -95,6 +95,28 @@ static void each_allocation(const unsigned char *jpeg, size_t size, const zaxbri
     }
 }
 
+/* Calls read_info for the kind 0, and else metadata. */
+static int read_header(const unsigned char *jpeg, size_t size, int kind, long refused) {
+    zaxbriar_picture picture;
+    begin(refused);
+    int answer = kind ? zaxbriar_metadata(jpeg, size, kind, NULL, 0, NULL)
+                      : zaxbriar_read_info(jpeg, size, NULL, &picture);
+    end();
+    return answer;
+}
+
+static void each_allocation_of_header(const unsigned char *jpeg, size_t size) {
+    for (int kind = 0; kind <= ZAXBRIAR_ICC; kind++) {
+        int answer = read_header(jpeg, size, kind, 0);
+        long all = allocations;
+        for (long refused = 1; refused <= all; refused++) {
+            int other = read_header(jpeg, size, kind, refused);
+            CHECK(other == ZAXBRIAR_NO_MEMORY || (other == answer && answer));
+            refusals++;
+        }
+    }
+}
+
 static void of_stream(const unsigned char *bytes, size_t size, int is_whole) {
     static const uint8_t layouts[] = {ZAXBRIAR_AS_STORED, ZAXBRIAR_AS_STORED, ZAXBRIAR_BGRA, ZAXBRIAR_RGB};
     zaxbriar_options options = {.layout = layouts[files % 4], .stride = files % 8 >= 6 ? 70000 * 8 : 0};
@@ -115,6 +137,7 @@ static void of_stream(const unsigned char *bytes, size_t size, int is_whole) {
         munmap(pixels.base, pixels.whole);
     }
     answers[answer]++;
+    if (size < SMALL_FILE && is_whole) each_allocation_of_header(jpeg.start, size);
     for (int kind = ZAXBRIAR_EXIF; kind <= ZAXBRIAR_ICC; kind++) {
         size_t length = 0;
         begin(0);
