@@ -32,7 +32,9 @@ static struct tried tried(void *block) {
     return (struct tried){block != NULL, block ? block : &nothing};
 }
 
-struct tried rattle_alloc(size_t size, size_t align) { return tried(malloc(size ? size : align)); }
+struct tried rattle_alloc(size_t size, size_t align) {
+    return tried(malloc(size ? size : align));
+}
 
 struct tried rattle_realloc(void *block, size_t kept, size_t size, size_t align) {
     (void)kept;

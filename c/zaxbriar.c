@@ -58,8 +58,8 @@ int zaxbriar_decode(const void *jpeg, size_t jpeg_size, const zaxbriar_options *
     if (!is_slice(jpeg, jpeg_size)) return bad_argument(picture, "jpeg is a null pointer");
     if (!is_slice(pixels, pixels_size)) return bad_argument(picture, "pixels is a null pointer");
     return (int)zaxbriar_checked_decode(jpeg ? jpeg : &nothing, jpeg_size,
-                                        options ? options : &no_options,
-                                        pixels ? pixels : &nothing, pixels_size, picture);
+                                        options ? options : &no_options, pixels ? pixels : &nothing,
+                                        pixels_size, picture);
 }
 
 int zaxbriar_metadata(const void *jpeg, size_t jpeg_size, int kind, void *data, size_t data_size,

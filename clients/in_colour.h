@@ -1,5 +1,6 @@
-/* Any picture as 8-bit red, green and blue, for clients that know nothing else. The library rearranges grey and colour
- * pictures of 8 bits; here the others are converted: more or fewer bits a sample, and cyan, magenta, yellow and black. */
+/* Any picture as 8-bit red, green and blue, for clients that know nothing else. The library
+ * rearranges grey and colour pictures of 8 bits; here the others are converted: more or fewer bits
+ * a sample, and cyan, magenta, yellow and black. */
 #ifndef IN_COLOUR_H
 #define IN_COLOUR_H
 
@@ -15,12 +16,15 @@ static inline uint8_t in_colour_sample(const zaxbriar_picture *stored, const uin
     return (uint8_t)((value * 255 + most / 2) / most);
 }
 
-static inline void in_colour_pixel(const zaxbriar_picture *stored, const uint8_t *pixel, uint8_t rgb[3]) {
+static inline void in_colour_pixel(const zaxbriar_picture *stored, const uint8_t *pixel,
+                                   uint8_t rgb[3]) {
     uint8_t samples[4] = {0};
-    for (int i = 0; i < stored->components; i++) samples[i] = in_colour_sample(stored, pixel + i * stored->sample_bytes);
+    for (int i = 0; i < stored->components; i++)
+        samples[i] = in_colour_sample(stored, pixel + i * stored->sample_bytes);
     for (int i = 0; i < 3; i++) {
         rgb[i] = samples[stored->components == 1 ? 0 : i];
-        if (stored->components == 4) rgb[i] = (uint8_t)(((255 - rgb[i]) * (255 - samples[3]) + 127) / 255);
+        if (stored->components == 4)
+            rgb[i] = (uint8_t)(((255 - rgb[i]) * (255 - samples[3]) + 127) / 255);
     }
 }
 
@@ -30,7 +34,8 @@ static inline int in_colour_is_there(const zaxbriar_picture *picture) {
 }
 
 /* As zaxbriar_read_info, for zaxbriar_decode_in_colour. */
-static inline int zaxbriar_read_info_in_colour(const void *jpeg, size_t jpeg_size, const zaxbriar_options *options,
+static inline int zaxbriar_read_info_in_colour(const void *jpeg, size_t jpeg_size,
+                                               const zaxbriar_options *options,
                                                zaxbriar_picture *picture) {
     zaxbriar_options as_stored = *options;
     as_stored.layout = ZAXBRIAR_AS_STORED;
@@ -48,13 +53,15 @@ static inline int zaxbriar_read_info_in_colour(const void *jpeg, size_t jpeg_siz
 }
 
 /* Decodes any picture to RGB, RGBA or BGRA. */
-static inline int zaxbriar_decode_in_colour(const void *jpeg, size_t jpeg_size, const zaxbriar_options *options,
-                                            uint8_t *pixels, size_t pixels_size, zaxbriar_picture *picture) {
+static inline int zaxbriar_decode_in_colour(const void *jpeg, size_t jpeg_size,
+                                            const zaxbriar_options *options, uint8_t *pixels,
+                                            size_t pixels_size, zaxbriar_picture *picture) {
     zaxbriar_options as_stored = *options;
     zaxbriar_picture stored;
     int answer = zaxbriar_read_info_in_colour(jpeg, jpeg_size, options, picture);
     if (answer != ZAXBRIAR_OK) return answer;
-    if (in_colour_is_there(picture)) return zaxbriar_decode(jpeg, jpeg_size, options, pixels, pixels_size, picture);
+    if (in_colour_is_there(picture))
+        return zaxbriar_decode(jpeg, jpeg_size, options, pixels, pixels_size, picture);
     if (pixels_size < picture->size) return ZAXBRIAR_NO_ROOM;
     as_stored.layout = ZAXBRIAR_AS_STORED;
     as_stored.stride = 0;
@@ -68,8 +75,11 @@ static inline int zaxbriar_decode_in_colour(const void *jpeg, size_t jpeg_size, 
         for (uint32_t y = 0; y < picture->height; y++)
             for (uint32_t x = 0; x < picture->width; x++) {
                 uint8_t rgb[3], *pixel = pixels + y * stride + (uint64_t)x * picture->pixel_bytes;
-                in_colour_pixel(&stored, samples + y * stored.row_bytes + (uint64_t)x * stored.pixel_bytes, rgb);
-                for (int i = 0; i < 3; i++) pixel[options->layout == ZAXBRIAR_BGRA ? 2 - i : i] = rgb[i];
+                in_colour_pixel(&stored,
+                                samples + y * stored.row_bytes + (uint64_t)x * stored.pixel_bytes,
+                                rgb);
+                for (int i = 0; i < 3; i++)
+                    pixel[options->layout == ZAXBRIAR_BGRA ? 2 - i : i] = rgb[i];
                 if (picture->pixel_bytes == 4) pixel[3] = 255;
             }
         picture->stream_bytes = stored.stream_bytes;

@@ -1,5 +1,6 @@
-/* jpeg2pnm FILE [WIDTH HEIGHT] > PICTURE: the picture as PGM, PPM, or PAM where it is cyan, magenta, yellow and black;
- * where a size is given, at the least of 1/8, 1/4, 1/2 and 1 of its size that is so wide or so high. */
+/* jpeg2pnm FILE [WIDTH HEIGHT] > PICTURE: the picture as PGM, PPM, or PAM where it is cyan,
+ * magenta, yellow and black; where a size is given, at the least of 1/8, 1/4, 1/2 and 1 of its size
+ * that is so wide or so high. */
 #include <stdio.h>
 #include <stdlib.h>
 
@@ -31,10 +32,11 @@ static unsigned char *read_file(const char *name, size_t *size) {
 static int write_picture(const zaxbriar_picture *picture, unsigned char *pixels) {
     unsigned most = (1u << picture->precision) - 1;
     if (picture->components == 4)
-        printf("P7\nWIDTH %u\nHEIGHT %u\nDEPTH 4\nMAXVAL %u\nTUPLTYPE CMYK\nENDHDR\n", picture->width, picture->height,
-               most);
+        printf("P7\nWIDTH %u\nHEIGHT %u\nDEPTH 4\nMAXVAL %u\nTUPLTYPE CMYK\nENDHDR\n",
+               picture->width, picture->height, most);
     else
-        printf("P%c\n%u %u\n%u\n", picture->components == 1 ? '5' : '6', picture->width, picture->height, most);
+        printf("P%c\n%u %u\n%u\n", picture->components == 1 ? '5' : '6', picture->width,
+               picture->height, most);
     if (picture->sample_bytes == 2)
         for (size_t i = 0; i + 1 < picture->size; i += 2) {
             unsigned char lower = pixels[i];
@@ -69,9 +71,9 @@ int main(int argc, char **argv) {
     }
     int done = answer == ZAXBRIAR_OK && write_picture(&picture, pixels);
     if (answer != ZAXBRIAR_OK)
-        fprintf(stderr, "jpeg2pnm: %s: %s: %s\n", argv[1], zaxbriar_answer_name(answer), picture.text);
-    else if (!done)
-        perror("jpeg2pnm");
+        fprintf(stderr, "jpeg2pnm: %s: %s: %s\n", argv[1], zaxbriar_answer_name(answer),
+                picture.text);
+    else if (!done) perror("jpeg2pnm");
     free(pixels);
     free(jpeg);
     return !done;

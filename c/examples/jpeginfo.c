@@ -14,10 +14,13 @@ static void describe(const char *name, const unsigned char *jpeg, size_t size) {
         return;
     }
     for (int kind = ZAXBRIAR_EXIF; kind <= ZAXBRIAR_ICC; kind++)
-        if (zaxbriar_metadata(jpeg, size, kind, NULL, 0, &lengths[kind]) == ZAXBRIAR_NO_DATA) lengths[kind] = 0;
-    printf("%s: %u x %u, %u components of %u bits, %s, orientation %u, exif %zu, xmp %zu, icc %zu bytes; decoding takes %llu bytes\n",
-           name, picture.width, picture.height, picture.components, picture.precision, processes[picture.process & 3],
-           picture.orientation, lengths[ZAXBRIAR_EXIF], lengths[ZAXBRIAR_XMP], lengths[ZAXBRIAR_ICC],
+        if (zaxbriar_metadata(jpeg, size, kind, NULL, 0, &lengths[kind]) == ZAXBRIAR_NO_DATA)
+            lengths[kind] = 0;
+    printf("%s: %u x %u, %u components of %u bits, %s, orientation %u, exif %zu, xmp %zu, icc %zu "
+           "bytes; decoding takes %llu bytes\n",
+           name, picture.width, picture.height, picture.components, picture.precision,
+           processes[picture.process & 3], picture.orientation, lengths[ZAXBRIAR_EXIF],
+           lengths[ZAXBRIAR_XMP], lengths[ZAXBRIAR_ICC],
            (unsigned long long)picture.decoding_bytes);
 }
 
@@ -29,7 +32,8 @@ int main(int argc, char **argv) {
         if (file && fseek(file, 0, SEEK_END) == 0 && (size = ftell(file)) >= 0) {
             unsigned char *jpeg = malloc((size_t)size + 1);
             rewind(file);
-            if (jpeg && fread(jpeg, 1, (size_t)size, file) == (size_t)size) describe(argv[i], jpeg, (size_t)size);
+            if (jpeg && fread(jpeg, 1, (size_t)size, file) == (size_t)size)
+                describe(argv[i], jpeg, (size_t)size);
             else failed = 1;
             free(jpeg);
         } else {

@@ -18,17 +18,22 @@ static void null_pointers(void) {
     CHECK(zaxbriar_decode(jpeg.start, jpeg.size, NULL, NULL, 1, &picture) == ZAXBRIAR_BAD_ARGUMENT);
     CHECK(zaxbriar_decode(jpeg.start, jpeg.size, NULL, NULL, 0, &picture) == ZAXBRIAR_NO_ROOM);
     CHECK(picture.size > 0);
-    CHECK(zaxbriar_metadata(NULL, 1, ZAXBRIAR_EXIF, NULL, 0, &length) == ZAXBRIAR_BAD_ARGUMENT && length == 0);
-    CHECK(zaxbriar_metadata(jpeg.start, jpeg.size, ZAXBRIAR_EXIF, NULL, 1, NULL) == ZAXBRIAR_BAD_ARGUMENT);
+    CHECK(zaxbriar_metadata(NULL, 1, ZAXBRIAR_EXIF, NULL, 0, &length) == ZAXBRIAR_BAD_ARGUMENT &&
+          length == 0);
+    CHECK(zaxbriar_metadata(jpeg.start, jpeg.size, ZAXBRIAR_EXIF, NULL, 1, NULL) ==
+          ZAXBRIAR_BAD_ARGUMENT);
     CHECK(zaxbriar_metadata(NULL, 0, ZAXBRIAR_EXIF, NULL, 0, NULL) != ZAXBRIAR_OK);
 }
 
 static void sizes(void) {
     unsigned char pixel;
     CHECK(zaxbriar_read_info(jpeg.start, SIZE_MAX, NULL, &picture) == ZAXBRIAR_BAD_ARGUMENT);
-    CHECK(zaxbriar_decode(jpeg.start, (size_t)PTRDIFF_MAX + 1, NULL, &pixel, 1, NULL) == ZAXBRIAR_BAD_ARGUMENT);
-    CHECK(zaxbriar_decode(jpeg.start, jpeg.size, NULL, &pixel, SIZE_MAX, NULL) == ZAXBRIAR_BAD_ARGUMENT);
-    CHECK(zaxbriar_metadata(jpeg.start, SIZE_MAX, ZAXBRIAR_EXIF, NULL, 0, NULL) == ZAXBRIAR_BAD_ARGUMENT);
+    CHECK(zaxbriar_decode(jpeg.start, (size_t)PTRDIFF_MAX + 1, NULL, &pixel, 1, NULL) ==
+          ZAXBRIAR_BAD_ARGUMENT);
+    CHECK(zaxbriar_decode(jpeg.start, jpeg.size, NULL, &pixel, SIZE_MAX, NULL) ==
+          ZAXBRIAR_BAD_ARGUMENT);
+    CHECK(zaxbriar_metadata(jpeg.start, SIZE_MAX, ZAXBRIAR_EXIF, NULL, 0, NULL) ==
+          ZAXBRIAR_BAD_ARGUMENT);
 }
 
 static void unknown_options(void) {
@@ -41,9 +46,11 @@ static void unknown_options(void) {
         if (which == 3) options.transform = 1;
         if (which == 4) options.reserved = 1;
         if (which >= 5) options.reserved_words[which - 5] = 1;
-        CHECK(zaxbriar_read_info(jpeg.start, jpeg.size, &options, &picture) == ZAXBRIAR_BAD_ARGUMENT);
+        CHECK(zaxbriar_read_info(jpeg.start, jpeg.size, &options, &picture) ==
+              ZAXBRIAR_BAD_ARGUMENT);
         CHECK(picture.text[0] != 0);
-        CHECK(zaxbriar_decode(jpeg.start, jpeg.size, &options, NULL, 0, &picture) == ZAXBRIAR_BAD_ARGUMENT);
+        CHECK(zaxbriar_decode(jpeg.start, jpeg.size, &options, NULL, 0, &picture) ==
+              ZAXBRIAR_BAD_ARGUMENT);
     }
     zaxbriar_options narrow = {.stride = 1};
     CHECK(zaxbriar_read_info(jpeg.start, jpeg.size, &narrow, &picture) == ZAXBRIAR_BAD_ARGUMENT);
@@ -58,7 +65,8 @@ static void names(void) {
     for (int answer = ZAXBRIAR_OK; answer <= ZAXBRIAR_NO_DATA; answer++) {
         CHECK(zaxbriar_answer_name(answer)[0] != 0);
         for (int other = ZAXBRIAR_OK; other <= ZAXBRIAR_NO_DATA + 1; other++)
-            CHECK(other == answer || strcmp(zaxbriar_answer_name(answer), zaxbriar_answer_name(other)) != 0);
+            CHECK(other == answer ||
+                  strcmp(zaxbriar_answer_name(answer), zaxbriar_answer_name(other)) != 0);
     }
     CHECK(strcmp(zaxbriar_answer_name(-1), zaxbriar_answer_name(1000)) == 0);
     CHECK(zaxbriar_version() == 0x000100);

@@ -12,12 +12,12 @@
 static int faults;
 static const char *subject = "";
 
-#define CHECK(condition)                                                                     \
-    do {                                                                                     \
-        if (!(condition)) {                                                                  \
-            printf("%s:%d: %s: not so: %s\n", __FILE__, __LINE__, subject, #condition);      \
-            faults++;                                                                        \
-        }                                                                                    \
+#define CHECK(condition)                                                                           \
+    do {                                                                                           \
+        if (!(condition)) {                                                                        \
+            printf("%s:%d: %s: not so: %s\n", __FILE__, __LINE__, subject, #condition);            \
+            faults++;                                                                              \
+        }                                                                                          \
     } while (0)
 
 struct bytes {

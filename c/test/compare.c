@@ -1,9 +1,10 @@
 /* compare LIST [JPEGRAW]: decodes each file that LIST names, a name in each line.
  *
- * Where JPEGRAW is given, the picture or the refusal is compared with what that program writes, byte for byte. Then the
- * same picture is asked for with less room, from the part of the file that was read, in each layout with gaps between the
- * lines, at each scale, and with a limit. Metadata are compared with NAME.exif, NAME.xmp and NAME.icc where there are such
- * files, and the orientation with the number after `orientation-` in the name. */
+ * Where JPEGRAW is given, the picture or the refusal is compared with what that program writes,
+ * byte for byte. Then the same picture is asked for with less room, from the part of the file that
+ * was read, in each layout with gaps between the lines, at each scale, and with a limit. Metadata
+ * are compared with NAME.exif, NAME.xmp and NAME.icc where there are such files, and the
+ * orientation with the number after `orientation-` in the name. */
 #define _POSIX_C_SOURCE 200809L
 #include <sys/wait.h>
 
@@ -21,11 +22,13 @@ static const char *format(const zaxbriar_picture *picture) {
     }
 }
 
-/* Compares with what jpegraw writes: a line and the pixels, or a line on standard error and the status 1. */
-static void with_jpegraw(const char *jpegraw, const char *name, int answer, const zaxbriar_picture *picture,
-                         const unsigned char *pixels) {
+/* Compares with what jpegraw writes: a line and the pixels, or a line on standard error and the
+ * status 1. */
+static void with_jpegraw(const char *jpegraw, const char *name, int answer,
+                         const zaxbriar_picture *picture, const unsigned char *pixels) {
     char command[8192], line[64];
-    int count = snprintf(line, sizeof line, "%u %u %s\n", picture->width, picture->height, format(picture));
+    int count =
+        snprintf(line, sizeof line, "%u %u %s\n", picture->width, picture->height, format(picture));
     if (strchr(name, '\'')) return;
     snprintf(command, sizeof command, "'%s' < '%s' 2>&1", jpegraw, name);
     FILE *pipe = popen(command, "r");
@@ -38,34 +41,42 @@ static void with_jpegraw(const char *jpegraw, const char *name, int answer, cons
     if (answer == ZAXBRIAR_OK) {
         CHECK(status == 0);
         CHECK(size == (size_t)count + picture->size && !memcmp(written, line, (size_t)count));
-        CHECK(size == (size_t)count + picture->size && !memcmp(written + count, pixels, picture->size));
+        CHECK(size == (size_t)count + picture->size &&
+              !memcmp(written + count, pixels, picture->size));
     } else {
         CHECK(WIFEXITED(status) && WEXITSTATUS(status) == 1);
         int is_told = picture->text[0] && strstr((char *)written, picture->text);
-        if (!is_told) printf("%s: jpegraw says %.100s, the library %s\n", name, (char *)written, picture->text);
+        if (!is_told)
+            printf("%s: jpegraw says %.100s, the library %s\n", name, (char *)written,
+                   picture->text);
         CHECK(is_told);
     }
     free(written);
 }
 
-/* The stream ends where `stream_bytes` says: that part alone gives the picture, and one byte less none. */
+/* The stream ends where `stream_bytes` says: that part alone gives the picture, and one byte less
+ * none. */
 static void of_part(const zaxbriar_picture *whole, const unsigned char *pixels) {
     zaxbriar_picture picture;
     unsigned char *again = block(whole->size), *part = block(whole->stream_bytes);
     CHECK(whole->stream_bytes >= 4 && whole->stream_bytes <= jpeg.size);
     memcpy(part, jpeg.start, whole->stream_bytes);
-    CHECK(zaxbriar_decode(part, whole->stream_bytes, NULL, again, whole->size, &picture) == ZAXBRIAR_OK);
+    CHECK(zaxbriar_decode(part, whole->stream_bytes, NULL, again, whole->size, &picture) ==
+          ZAXBRIAR_OK);
     CHECK(!memcmp(again, pixels, whole->size));
     memset(again, 0xA5, whole->size);
-    CHECK(zaxbriar_decode(part, whole->stream_bytes - 1, NULL, again, whole->size, &picture) != ZAXBRIAR_OK);
+    CHECK(zaxbriar_decode(part, whole->stream_bytes - 1, NULL, again, whole->size, &picture) !=
+          ZAXBRIAR_OK);
     CHECK(is_all(again, whole->size, 0xA5));
-    CHECK(zaxbriar_decode(jpeg.start, jpeg.size, NULL, again, whole->size - 1, &picture) == ZAXBRIAR_NO_ROOM);
+    CHECK(zaxbriar_decode(jpeg.start, jpeg.size, NULL, again, whole->size - 1, &picture) ==
+          ZAXBRIAR_NO_ROOM);
     CHECK(picture.size == whole->size && is_all(again, whole->size, 0xA5));
     free(again);
     free(part);
 }
 
-static int same_pixel(int layout, const zaxbriar_picture *whole, const unsigned char *got, const unsigned char *stored) {
+static int same_pixel(int layout, const zaxbriar_picture *whole, const unsigned char *got,
+                      const unsigned char *stored) {
     unsigned char red = stored[0], green = whole->components == 3 ? stored[1] : red;
     unsigned char blue = whole->components == 3 ? stored[2] : red;
     switch (layout) {
@@ -77,12 +88,15 @@ static int same_pixel(int layout, const zaxbriar_picture *whole, const unsigned 
     }
 }
 
-/* Each layout with gaps between the lines, which stay as they were, as do the bytes after the picture. */
+/* Each layout with gaps between the lines, which stay as they were, as do the bytes after the
+ * picture. */
 static void in_layout(int layout, const zaxbriar_picture *whole, const unsigned char *pixels) {
-    zaxbriar_options options = {.layout = (uint8_t)layout, .stride = (uint64_t)whole->width * 8 + 13};
+    zaxbriar_options options = {.layout = (uint8_t)layout,
+                                .stride = (uint64_t)whole->width * 8 + 13};
     zaxbriar_picture picture, head;
     int is_8_bit = whole->precision == 8 && whole->components != 4;
-    int is_there = layout == ZAXBRIAR_AS_STORED || (is_8_bit && (layout != ZAXBRIAR_GREY || whole->components == 1));
+    int is_there = layout == ZAXBRIAR_AS_STORED ||
+                   (is_8_bit && (layout != ZAXBRIAR_GREY || whole->components == 1));
     int answer = zaxbriar_read_info(jpeg.start, jpeg.size, &options, &head);
     CHECK(answer == (is_there ? ZAXBRIAR_OK : ZAXBRIAR_BAD_ARGUMENT));
     if (answer) return;
@@ -93,11 +107,13 @@ static void in_layout(int layout, const zaxbriar_picture *whole, const unsigned 
     memset(rows, 0xA5, room);
     CHECK(zaxbriar_decode(jpeg.start, jpeg.size, &options, rows, room, &picture) == ZAXBRIAR_OK);
     for (size_t y = 0; y < picture.height; y++) {
-        const unsigned char *row = rows + y * options.stride, *stored = pixels + y * whole->row_bytes;
+        const unsigned char *row = rows + y * options.stride,
+                            *stored = pixels + y * whole->row_bytes;
         size_t end = y + 1 < picture.height ? options.stride : room - y * options.stride;
         int same = is_all(row + picture.row_bytes, end - picture.row_bytes, 0xA5);
         for (size_t x = 0; same && x < picture.width; x++)
-            same = same_pixel(layout, whole, row + x * picture.pixel_bytes, stored + x * whole->pixel_bytes);
+            same = same_pixel(layout, whole, row + x * picture.pixel_bytes,
+                              stored + x * whole->pixel_bytes);
         CHECK(same);
         if (!same) break;
     }
@@ -105,9 +121,11 @@ static void in_layout(int layout, const zaxbriar_picture *whole, const unsigned 
     options.stride = 0;
     if (zaxbriar_read_info(jpeg.start, jpeg.size, &options, &head) == ZAXBRIAR_OK) {
         unsigned char *joined = block(head.size);
-        CHECK(zaxbriar_decode(jpeg.start, jpeg.size, &options, joined, head.size, &picture) == ZAXBRIAR_OK);
+        CHECK(zaxbriar_decode(jpeg.start, jpeg.size, &options, joined, head.size, &picture) ==
+              ZAXBRIAR_OK);
         for (size_t y = 0; y < head.height; y++)
-            CHECK(!memcmp(joined + y * head.row_bytes, rows + y * ((uint64_t)whole->width * 8 + 13), head.row_bytes));
+            CHECK(!memcmp(joined + y * head.row_bytes, rows + y * ((uint64_t)whole->width * 8 + 13),
+                          head.row_bytes));
         free(joined);
     }
     free(rows);
@@ -119,11 +137,14 @@ static void at_scale(unsigned part, const zaxbriar_picture *whole) {
     zaxbriar_options options = {.min_width = (uint16_t)width, .min_height = UINT16_MAX};
     zaxbriar_picture head, picture;
     CHECK(zaxbriar_read_info(jpeg.start, jpeg.size, &options, &head) == ZAXBRIAR_OK);
-    if (whole->process == ZAXBRIAR_LOSSLESS) CHECK(head.width == whole->width && head.height == whole->height);
+    if (whole->process == ZAXBRIAR_LOSSLESS)
+        CHECK(head.width == whole->width && head.height == whole->height);
     else CHECK(head.width == width);
     unsigned char *pixels = block(head.size);
-    CHECK(zaxbriar_decode(jpeg.start, jpeg.size, &options, pixels, head.size, &picture) == ZAXBRIAR_OK);
-    CHECK(picture.width == head.width && picture.height == head.height && picture.size == head.size);
+    CHECK(zaxbriar_decode(jpeg.start, jpeg.size, &options, pixels, head.size, &picture) ==
+          ZAXBRIAR_OK);
+    CHECK(picture.width == head.width && picture.height == head.height &&
+          picture.size == head.size);
     free(pixels);
     scaled++;
 }
@@ -133,10 +154,12 @@ static void limited(const zaxbriar_picture *whole) {
     zaxbriar_options options = {.max_samples = samples};
     zaxbriar_picture picture;
     unsigned char *pixels = block(whole->size);
-    CHECK(zaxbriar_decode(jpeg.start, jpeg.size, &options, pixels, whole->size, &picture) == ZAXBRIAR_OK);
+    CHECK(zaxbriar_decode(jpeg.start, jpeg.size, &options, pixels, whole->size, &picture) ==
+          ZAXBRIAR_OK);
     options.max_samples = samples - 1;
     if (options.max_samples)
-        CHECK(zaxbriar_decode(jpeg.start, jpeg.size, &options, pixels, whole->size, &picture) == ZAXBRIAR_MALFORMED);
+        CHECK(zaxbriar_decode(jpeg.start, jpeg.size, &options, pixels, whole->size, &picture) ==
+              ZAXBRIAR_MALFORMED);
     free(pixels);
 }
 
@@ -150,9 +173,11 @@ static void metadata(const char *name) {
         if (answer == ZAXBRIAR_NO_ROOM) {
             CHECK(length > 0);
             memset(data, 0xA5, length);
-            CHECK(zaxbriar_metadata(jpeg.start, jpeg.size, kind, data, length - 1, &again) == ZAXBRIAR_NO_ROOM);
+            CHECK(zaxbriar_metadata(jpeg.start, jpeg.size, kind, data, length - 1, &again) ==
+                  ZAXBRIAR_NO_ROOM);
             CHECK(again == length && is_all(data, length, 0xA5));
-            CHECK(zaxbriar_metadata(jpeg.start, jpeg.size, kind, data, length, &again) == ZAXBRIAR_OK);
+            CHECK(zaxbriar_metadata(jpeg.start, jpeg.size, kind, data, length, &again) ==
+                  ZAXBRIAR_OK);
             CHECK(again == length);
         }
         snprintf(beside, sizeof beside, "%s%s", name, ends[kind]);
@@ -172,7 +197,8 @@ static void of_file(const char *name, const char *jpegraw) {
     int answer = zaxbriar_read_info(jpeg.start, jpeg.size, NULL, &head);
     int is_headed = answer == ZAXBRIAR_OK;
     unsigned char *pixels = block(is_headed ? head.size : 0);
-    answer = zaxbriar_decode(jpeg.start, jpeg.size, NULL, pixels, is_headed ? head.size : 0, &picture);
+    answer =
+        zaxbriar_decode(jpeg.start, jpeg.size, NULL, pixels, is_headed ? head.size : 0, &picture);
     CHECK(is_headed || answer != ZAXBRIAR_OK);
     if (answer) refused++;
     else decoded++;
@@ -181,16 +207,18 @@ static void of_file(const char *name, const char *jpegraw) {
     if (answer == ZAXBRIAR_OK) {
         const char *told = strstr(name, "orientation-");
         CHECK(!told || picture.orientation == atoi(told + 12));
-        CHECK(picture.size == head.size && picture.orientation == head.orientation && picture.text[0] == 0);
-        CHECK(picture.width == head.width && picture.height == head.height && picture.decoding_bytes == head.decoding_bytes);
+        CHECK(picture.size == head.size && picture.orientation == head.orientation &&
+              picture.text[0] == 0);
+        CHECK(picture.width == head.width && picture.height == head.height &&
+              picture.decoding_bytes == head.decoding_bytes);
         CHECK(picture.pixel_bytes == picture.components * picture.sample_bytes);
         CHECK(picture.sample_bytes == (picture.precision > 8 ? 2 : 1));
         of_part(&picture, pixels);
-        for (int layout = ZAXBRIAR_AS_STORED; layout <= ZAXBRIAR_BGRA; layout++) in_layout(layout, &picture, pixels);
+        for (int layout = ZAXBRIAR_AS_STORED; layout <= ZAXBRIAR_BGRA; layout++)
+            in_layout(layout, &picture, pixels);
         for (unsigned part = 1; part <= 8; part *= 2) at_scale(part, &picture);
         limited(&picture);
-    } else
-        CHECK(picture.text[0] != 0);
+    } else CHECK(picture.text[0] != 0);
     free(pixels);
 }
 
@@ -206,7 +234,8 @@ int main(int argc, char **argv) {
         free(jpeg.start);
     }
     fclose(list);
-    printf("compare: %ld files decoded, %ld refused; %ld compared with jpegraw; %ld pictures in other layouts, %ld at scales; "
+    printf("compare: %ld files decoded, %ld refused; %ld compared with jpegraw; %ld pictures in "
+           "other layouts, %ld at scales; "
            "%d faults\n",
            decoded, refused, compared, arranged, scaled, faults);
     return faults != 0;

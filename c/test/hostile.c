@@ -1,7 +1,8 @@
-/* hostile LIST DAMAGED: decodes each file that LIST names, and so many damaged copies of each, from memory that ends right
- * before a page that can't be read, into memory that ends right before a page that can't be written; and files of less
- * than 3,000 bytes with each allocation refused in turn. A call must free what it has allocated, and change no byte of the
- * pixels unless it succeeds. Linked with --wrap=malloc, --wrap=realloc and --wrap=free. */
+/* hostile LIST DAMAGED: decodes each file that LIST names, and so many damaged copies of each, from
+ * memory that ends right before a page that can't be read, into memory that ends right before a
+ * page that can't be written; and files of less than 3,000 bytes with each allocation refused in
+ * turn. A call must free what it has allocated, and change no byte of the pixels unless it
+ * succeeds. Linked with --wrap=malloc, --wrap=realloc and --wrap=free. */
 #define _GNU_SOURCE
 #include <sys/mman.h>
 
@@ -51,7 +52,8 @@ static struct fenced fence(size_t size) {
     struct fenced fenced;
     size_t pages = (size + PAGE - 1) / PAGE * PAGE;
     fenced.whole = pages + 2 * PAGE;
-    fenced.base = mmap(NULL, fenced.whole, PROT_READ | PROT_WRITE, MAP_PRIVATE | MAP_ANONYMOUS, -1, 0);
+    fenced.base =
+        mmap(NULL, fenced.whole, PROT_READ | PROT_WRITE, MAP_PRIVATE | MAP_ANONYMOUS, -1, 0);
     if (fenced.base == MAP_FAILED) {
         perror("mmap");
         exit(2);
@@ -73,8 +75,8 @@ static void end(void) {
     CHECK(live == 0);
 }
 
-static int decode(const unsigned char *jpeg, size_t size, const zaxbriar_options *options, struct fenced pixels,
-                  size_t room, long refused) {
+static int decode(const unsigned char *jpeg, size_t size, const zaxbriar_options *options,
+                  struct fenced pixels, size_t room, long refused) {
     zaxbriar_picture picture;
     memset(pixels.start, 0x5A, room);
     begin(refused);
@@ -95,9 +97,33 @@ static void each_allocation(const unsigned char *jpeg, size_t size, const zaxbri
     }
 }
 
+/* Calls read_info for the kind 0, and else metadata. */
+static int read_header(const unsigned char *jpeg, size_t size, int kind, long refused) {
+    zaxbriar_picture picture;
+    begin(refused);
+    int answer = kind ? zaxbriar_metadata(jpeg, size, kind, NULL, 0, NULL)
+                      : zaxbriar_read_info(jpeg, size, NULL, &picture);
+    end();
+    return answer;
+}
+
+static void each_allocation_of_header(const unsigned char *jpeg, size_t size) {
+    for (int kind = 0; kind <= ZAXBRIAR_ICC; kind++) {
+        int answer = read_header(jpeg, size, kind, 0);
+        long all = allocations;
+        for (long refused = 1; refused <= all; refused++) {
+            int other = read_header(jpeg, size, kind, refused);
+            CHECK(other == ZAXBRIAR_NO_MEMORY || (other == answer && answer));
+            refusals++;
+        }
+    }
+}
+
 static void of_stream(const unsigned char *bytes, size_t size, int is_whole) {
-    static const uint8_t layouts[] = {ZAXBRIAR_AS_STORED, ZAXBRIAR_AS_STORED, ZAXBRIAR_BGRA, ZAXBRIAR_RGB};
-    zaxbriar_options options = {.layout = layouts[files % 4], .stride = files % 8 >= 6 ? 70000 * 8 : 0};
+    static const uint8_t layouts[] = {ZAXBRIAR_AS_STORED, ZAXBRIAR_AS_STORED, ZAXBRIAR_BGRA,
+                                      ZAXBRIAR_RGB};
+    zaxbriar_options options = {.layout = layouts[files % 4],
+                                .stride = files % 8 >= 6 ? 70000 * 8 : 0};
     zaxbriar_picture picture;
     struct fenced jpeg = fence(size);
     if (size) memcpy(jpeg.start, bytes, size);
@@ -106,7 +132,8 @@ static void of_stream(const unsigned char *bytes, size_t size, int is_whole) {
     begin(0);
     int answer = zaxbriar_read_info(jpeg.start, size, &options, &picture);
     end();
-    if (answer == ZAXBRIAR_OK && (uint64_t)picture.width * picture.height <= MOST_PIXELS && picture.size < 100000000) {
+    if (answer == ZAXBRIAR_OK && (uint64_t)picture.width * picture.height <= MOST_PIXELS &&
+        picture.size < 100000000) {
         struct fenced pixels = fence(picture.size);
         answer = decode(jpeg.start, size, &options, pixels, picture.size, 0);
         if (allocations > most_allocations) most_allocations = allocations;
@@ -115,6 +142,7 @@ static void of_stream(const unsigned char *bytes, size_t size, int is_whole) {
         munmap(pixels.base, pixels.whole);
     }
     answers[answer]++;
+    if (size < SMALL_FILE && is_whole) each_allocation_of_header(jpeg.start, size);
     for (int kind = ZAXBRIAR_EXIF; kind <= ZAXBRIAR_ICC; kind++) {
         size_t length = 0;
         begin(0);
@@ -123,7 +151,8 @@ static void of_stream(const unsigned char *bytes, size_t size, int is_whole) {
         if (answer == ZAXBRIAR_NO_ROOM && length < 100000) {
             struct fenced data = fence(length);
             begin(0);
-            CHECK(zaxbriar_metadata(jpeg.start, size, kind, data.start, length, &length) == ZAXBRIAR_OK);
+            CHECK(zaxbriar_metadata(jpeg.start, size, kind, data.start, length, &length) ==
+                  ZAXBRIAR_OK);
             end();
             munmap(data.base, data.whole);
         }
@@ -143,7 +172,8 @@ static size_t below(size_t most) {
 
 /* Changes one to three bytes, cuts the end off, or repeats some bytes elsewhere. */
 static size_t damage(unsigned char *bytes, size_t size) {
-    static const unsigned char markers[] = {0x00, 0xC0, 0xC2, 0xC3, 0xC4, 0xD0, 0xD8, 0xD9, 0xDA, 0xDB, 0xDD, 0xE1, 0xFF};
+    static const unsigned char markers[] = {0x00, 0xC0, 0xC2, 0xC3, 0xC4, 0xD0, 0xD8,
+                                            0xD9, 0xDA, 0xDB, 0xDD, 0xE1, 0xFF};
     for (size_t changes = 1 + below(3); changes && size > 4; changes--) {
         size_t place = 2 + below(below(2) && size > 700 ? 700 : size - 2);
         switch (below(5)) {
@@ -182,6 +212,7 @@ int main(int argc, char **argv) {
     printf("hostile: %ld streams between guard pages:", files);
     for (int answer = 0; answer <= ZAXBRIAR_NO_DATA; answer++)
         if (answers[answer]) printf(" %s %ld,", zaxbriar_answer_name(answer), answers[answer]);
-    printf(" at most %ld allocations a call; %ld allocations refused; %d faults\n", most_allocations, refusals, faults);
+    printf(" at most %ld allocations a call; %ld allocations refused; %d faults\n",
+           most_allocations, refusals, faults);
     return faults != 0;
 }

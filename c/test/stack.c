@@ -1,5 +1,5 @@
-/* stack LIST: makes each call for each file that LIST names on a thread of 128 kB of stack, which is painted before, and
- * says how much of it the calls used: more than 64 kB is a fault. */
+/* stack LIST: makes each call for each file that LIST names on a thread of 128 kB of stack, which
+ * is painted before, and says how much of it the calls used: more than 64 kB is a fault. */
 #define _GNU_SOURCE
 #include <pthread.h>
 #include <sys/mman.h>
@@ -20,9 +20,13 @@ static void *make_call(void *unused) {
     size_t length;
     (void)unused;
     switch (call) {
-    case DECODE: answer = zaxbriar_decode(jpeg.start, jpeg.size, NULL, pixels, room, &picture); break;
+    case DECODE:
+        answer = zaxbriar_decode(jpeg.start, jpeg.size, NULL, pixels, room, &picture);
+        break;
     case READ_INFO: answer = zaxbriar_read_info(jpeg.start, jpeg.size, NULL, &picture); break;
-    case METADATA: answer = zaxbriar_metadata(jpeg.start, jpeg.size, ZAXBRIAR_ICC, NULL, 0, &length); break;
+    case METADATA:
+        answer = zaxbriar_metadata(jpeg.start, jpeg.size, ZAXBRIAR_ICC, NULL, 0, &length);
+        break;
     default: answer = 0;
     }
     return &answer;
@@ -34,7 +38,9 @@ static size_t used_by_thread(unsigned char *stack) {
     size_t unused = 0;
     memset(stack, PAINT, STACK);
     pthread_attr_init(&attributes);
-    if (pthread_attr_setstack(&attributes, stack, STACK) || pthread_create(&thread, &attributes, make_call, NULL)) exit(2);
+    if (pthread_attr_setstack(&attributes, stack, STACK) ||
+        pthread_create(&thread, &attributes, make_call, NULL))
+        exit(2);
     pthread_join(thread, NULL);
     pthread_attr_destroy(&attributes);
     while (unused < STACK && stack[unused] == PAINT) unused++;
@@ -45,7 +51,8 @@ int main(int argc, char **argv) {
     char name[4096];
     size_t most[CALLS] = {0};
     long files = 0;
-    unsigned char *base = mmap(NULL, FENCE + STACK, PROT_READ | PROT_WRITE, MAP_PRIVATE | MAP_ANONYMOUS, -1, 0);
+    unsigned char *base =
+        mmap(NULL, FENCE + STACK, PROT_READ | PROT_WRITE, MAP_PRIVATE | MAP_ANONYMOUS, -1, 0);
     FILE *list = argc == 2 ? fopen(argv[1], "r") : NULL;
     if (!list || base == MAP_FAILED) return 2;
     mprotect(base, FENCE, PROT_NONE);
@@ -67,7 +74,8 @@ int main(int argc, char **argv) {
     fclose(list);
     subject = "stack of a call";
     for (call = 0; call < NOTHING; call++) CHECK(most[call] - most[NOTHING] <= MOST_USED);
-    printf("stack: %ld files on a thread of %d bytes, of which a thread that makes no call uses %zu; with it decode %zu, "
+    printf("stack: %ld files on a thread of %d bytes, of which a thread that makes no call uses "
+           "%zu; with it decode %zu, "
            "read_info %zu, metadata %zu; %d faults\n",
            files, STACK, most[NOTHING], most[DECODE], most[READ_INFO], most[METADATA], faults);
     return faults != 0;

@@ -1,5 +1,5 @@
-/* threads LIST: eight threads decode the files that LIST names, each in an order of its own, and must get what one thread
- * got. */
+/* threads LIST: eight threads decode the files that LIST names, each in an order of its own, and
+ * must get what one thread got. */
 #include <pthread.h>
 
 #include "common.h"
@@ -21,7 +21,8 @@ static uint64_t decode(int index, int *answer) {
     if (*answer) return 0;
     unsigned char *pixels = block(picture.size);
     *answer = zaxbriar_decode(jpeg.start, jpeg.size, NULL, pixels, picture.size, &picture);
-    for (size_t i = 0; !*answer && i < picture.size; i++) hash = (hash ^ pixels[i]) * 1099511628211u;
+    for (size_t i = 0; !*answer && i < picture.size; i++)
+        hash = (hash ^ pixels[i]) * 1099511628211u;
     free(pixels);
     return *answer ? 0 : hash;
 }
@@ -30,7 +31,8 @@ static void *all_files(void *first) {
     for (int k = 0; k < count; k++) {
         int answer, index = (*(int *)first + k) % count;
         uint64_t hash = decode(index, &answer);
-        if (hash != files[index].hash || answer != files[index].answer) __atomic_add_fetch(&faults, 1, __ATOMIC_SEQ_CST);
+        if (hash != files[index].hash || answer != files[index].answer)
+            __atomic_add_fetch(&faults, 1, __ATOMIC_SEQ_CST);
     }
     return NULL;
 }

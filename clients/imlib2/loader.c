@@ -10,25 +10,28 @@ static const char *const _formats[] = {"jpg", "jpeg", "jfif", "jfi"};
 static int answer_of(int answer) { return answer == ZAXBRIAR_NO_MEMORY ? LOAD_OOM : LOAD_BADIMAGE; }
 
 /* Turns a picture by its Exif orientation; for 5 to 8 `to` has the other's width as its height. */
-static void turn(const uint32_t *from, uint32_t width, uint32_t height, int orientation, uint32_t *to) {
+static void turn(const uint32_t *from, uint32_t width, uint32_t height, int orientation,
+                 uint32_t *to) {
     int is_mirrored = orientation == 2 || orientation == 3 || orientation == 7 || orientation == 8;
     int is_flipped = orientation == 3 || orientation == 4 || orientation == 6 || orientation == 7;
     for (uint32_t y = 0; y < height; y++)
         for (uint32_t x = 0; x < width; x++) {
             size_t column = is_mirrored ? width - 1 - x : x, row = is_flipped ? height - 1 - y : y;
-            to[orientation < 5 ? row * width + column : column * height + row] = from[(size_t)y * width + x];
+            to[orientation < 5 ? row * width + column : column * height + row] =
+                from[(size_t)y * width + x];
         }
 }
 
-static int load_pixels(ImlibImage *image, const uint8_t *jpeg, size_t size, const zaxbriar_options *options,
-                       zaxbriar_picture *picture) {
+static int load_pixels(ImlibImage *image, const uint8_t *jpeg, size_t size,
+                       const zaxbriar_options *options, zaxbriar_picture *picture) {
     uint32_t *turned = NULL;
     int orientation = picture->orientation;
     if (!__imlib_AllocateData(image)) return LOAD_OOM;
     if (orientation > 1 && !(turned = malloc(picture->size))) return LOAD_OOM;
-    int answer = zaxbriar_decode_in_colour(jpeg, size, options, (uint8_t *)(turned ? turned : image->data),
-                                           picture->size, picture);
-    if (answer == ZAXBRIAR_OK && turned) turn(turned, picture->width, picture->height, orientation, image->data);
+    int answer = zaxbriar_decode_in_colour(
+        jpeg, size, options, (uint8_t *)(turned ? turned : image->data), picture->size, picture);
+    if (answer == ZAXBRIAR_OK && turned)
+        turn(turned, picture->width, picture->height, orientation, image->data);
     free(turned);
     if (answer != ZAXBRIAR_OK) return answer_of(answer);
     return image->lc && __imlib_LoadProgressRows(image, 0, image->h) ? LOAD_BREAK : LOAD_SUCCESS;
@@ -50,7 +53,8 @@ static int _load(ImlibImage *image, int load_data) {
     const uint8_t *mapped = image->fi->fdata;
     size_t size = (size_t)image->fi->fsize;
     if (size < 2 || mapped[0] != 0xFF || mapped[1] != 0xD8) return LOAD_FAIL;
-    /* imlib2 maps the file, which another program may write meanwhile; the library asks for bytes that don't change. */
+    /* imlib2 maps the file, which another program may write meanwhile; the library asks for bytes
+     * that don't change. */
     uint8_t *jpeg = malloc(size);
     if (!jpeg) return LOAD_OOM;
     memcpy(jpeg, mapped, size);

@@ -1,5 +1,5 @@
-/* show FILE: the picture that imlib2 loads, as PPM, and on standard error the files of imlib2's loaders and of libjpeg that
- * are mapped. */
+/* show FILE: the picture that imlib2 loads, as PPM, and on standard error the files of imlib2's
+ * loaders and of libjpeg that are mapped. */
 #include <Imlib2.h>
 #include <stdio.h>
 #include <string.h>
@@ -9,7 +9,8 @@ static void mapped_files(void) {
     FILE *maps = fopen("/proc/self/maps", "r");
     while (maps && fgets(line, sizeof line, maps)) {
         char *name = strchr(line, '/');
-        if (name && strcmp(name, last) && (strstr(name, "/jpeg.so") || strstr(name, "libjpeg"))) fputs(strcpy(last, name), stderr);
+        if (name && strcmp(name, last) && (strstr(name, "/jpeg.so") || strstr(name, "libjpeg")))
+            fputs(strcpy(last, name), stderr);
     }
     if (maps) fclose(maps);
 }

@@ -1,5 +1,5 @@
-/* calls LIST: for each file that LIST names, the picture in every format of RGB, with a pitch, from the bottom and at each
- * scale has the pixels that jpeg2pnm's way gives: the library's own RGB. */
+/* calls LIST: for each file that LIST names, the picture in every format of RGB, with a pitch, from
+ * the bottom and at each scale has the pixels that jpeg2pnm's way gives: the library's own RGB. */
 #include <stdio.h>
 #include <turbojpeg.h>
 
@@ -11,8 +11,10 @@ static unsigned char jpeg[1 << 22];
 static const struct {
     int format, bytes, red, green, blue;
 } formats[] = {
-    {TJPF_RGB, 3, 0, 1, 2},  {TJPF_BGR, 3, 2, 1, 0},  {TJPF_RGBX, 4, 0, 1, 2}, {TJPF_BGRX, 4, 2, 1, 0}, {TJPF_XBGR, 4, 3, 2, 1},
-    {TJPF_XRGB, 4, 1, 2, 3}, {TJPF_RGBA, 4, 0, 1, 2}, {TJPF_BGRA, 4, 2, 1, 0}, {TJPF_ABGR, 4, 3, 2, 1}, {TJPF_ARGB, 4, 1, 2, 3},
+    {TJPF_RGB, 3, 0, 1, 2},  {TJPF_BGR, 3, 2, 1, 0},  {TJPF_RGBX, 4, 0, 1, 2},
+    {TJPF_BGRX, 4, 2, 1, 0}, {TJPF_XBGR, 4, 3, 2, 1}, {TJPF_XRGB, 4, 1, 2, 3},
+    {TJPF_RGBA, 4, 0, 1, 2}, {TJPF_BGRA, 4, 2, 1, 0}, {TJPF_ABGR, 4, 3, 2, 1},
+    {TJPF_ARGB, 4, 1, 2, 3},
 };
 
 static void fault(const char *name, const char *what) {
@@ -20,18 +22,22 @@ static void fault(const char *name, const char *what) {
     faults++;
 }
 
-static void in_format(tjhandle handle, const char *name, size_t size, int which, int width, int height,
-                      const unsigned char *wanted, size_t wanted_row) {
+static void in_format(tjhandle handle, const char *name, size_t size, int which, int width,
+                      int height, const unsigned char *wanted, size_t wanted_row) {
     for (int flags = 0; flags <= TJFLAG_BOTTOMUP; flags += TJFLAG_BOTTOMUP) {
         int pitch = width * formats[which].bytes + (which % 2 ? 7 : 0);
         unsigned char *pixels = calloc((size_t)pitch, (size_t)height);
-        if (!pixels || tjDecompress2(handle, jpeg, size, pixels, width, which % 2 ? pitch : 0, height, formats[which].format, flags))
+        if (!pixels || tjDecompress2(handle, jpeg, size, pixels, width, which % 2 ? pitch : 0,
+                                     height, formats[which].format, flags))
             fault(name, tjGetErrorStr2(handle));
         for (int y = 0; pixels && y < height; y++)
             for (int x = 0; x < width; x++) {
-                const unsigned char *from = wanted + (size_t)(flags ? height - 1 - y : y) * wanted_row + 3 * (size_t)x;
-                const unsigned char *pixel = pixels + (size_t)y * (size_t)pitch + (size_t)(x * formats[which].bytes);
-                if (pixel[formats[which].red] != from[0] || pixel[formats[which].green] != from[1] ||
+                const unsigned char *from =
+                    wanted + (size_t)(flags ? height - 1 - y : y) * wanted_row + 3 * (size_t)x;
+                const unsigned char *pixel =
+                    pixels + (size_t)y * (size_t)pitch + (size_t)(x * formats[which].bytes);
+                if (pixel[formats[which].red] != from[0] ||
+                    pixel[formats[which].green] != from[1] ||
                     pixel[formats[which].blue] != from[2]) {
                     fault(name, "another pixel");
                     x = width;
@@ -49,28 +55,38 @@ static void of_file(const char *name, size_t size) {
     tjscalingfactor *factors = tjGetScalingFactors(&count);
     int answer = tjDecompressHeader3(handle, jpeg, size, &width, &height, &sampling, &colours);
     zaxbriar_picture whole, picture;
-    if ((answer == 0) != (zaxbriar_read_info(jpeg, size, NULL, &whole) == ZAXBRIAR_OK)) fault(name, "another header");
+    if ((answer == 0) != (zaxbriar_read_info(jpeg, size, NULL, &whole) == ZAXBRIAR_OK))
+        fault(name, "another header");
     for (int i = 0; answer == 0 && i < count; i++) {
-        int scaled_width = TJSCALED(width, factors[i]), scaled_height = TJSCALED(height, factors[i]);
+        int scaled_width = TJSCALED(width, factors[i]),
+            scaled_height = TJSCALED(height, factors[i]);
         zaxbriar_options options = {.layout = ZAXBRIAR_RGB};
         if (i && whole.process == ZAXBRIAR_LOSSLESS) break;
         /* of two scales of the same size the greater is taken */
-        if (i && scaled_width == TJSCALED(width, factors[i - 1]) && scaled_height == TJSCALED(height, factors[i - 1])) continue;
+        if (i && scaled_width == TJSCALED(width, factors[i - 1]) &&
+            scaled_height == TJSCALED(height, factors[i - 1]))
+            continue;
         if (!i) options.min_width = options.min_height = 0;
-        else if (width > height) options.min_width = (uint16_t)scaled_width, options.min_height = UINT16_MAX;
+        else if (width > height)
+            options.min_width = (uint16_t)scaled_width, options.min_height = UINT16_MAX;
         else options.min_width = UINT16_MAX, options.min_height = (uint16_t)scaled_height;
-        if (zaxbriar_read_info_in_colour(jpeg, size, &options, &picture) != ZAXBRIAR_OK) fault(name, picture.text);
+        if (zaxbriar_read_info_in_colour(jpeg, size, &options, &picture) != ZAXBRIAR_OK)
+            fault(name, picture.text);
         unsigned char *wanted = malloc(picture.size);
-        if (zaxbriar_decode_in_colour(jpeg, size, &options, wanted, picture.size, &picture) != ZAXBRIAR_OK) {
-            if (!tjDecompress2(handle, jpeg, size, wanted, 0, 0, 0, TJPF_RGB, 0)) fault(name, "not refused");
+        if (zaxbriar_decode_in_colour(jpeg, size, &options, wanted, picture.size, &picture) !=
+            ZAXBRIAR_OK) {
+            if (!tjDecompress2(handle, jpeg, size, wanted, 0, 0, 0, TJPF_RGB, 0))
+                fault(name, "not refused");
             refused++;
             free(wanted);
             break;
         }
-        if ((int)picture.width != scaled_width || (int)picture.height != scaled_height) fault(name, "another size");
+        if ((int)picture.width != scaled_width || (int)picture.height != scaled_height)
+            fault(name, "another size");
         else
             for (unsigned which = 0; which < sizeof formats / sizeof *formats; which++)
-                in_format(handle, name, size, (int)which, scaled_width, scaled_height, wanted, picture.row_bytes);
+                in_format(handle, name, size, (int)which, scaled_width, scaled_height, wanted,
+                          picture.row_bytes);
         free(wanted);
     }
     if (answer) refused++;
@@ -92,6 +108,7 @@ int main(int argc, char **argv) {
         of_file(name, size);
     }
     fclose(list);
-    printf("turbojpeg: %ld files, %ld of them refused, %ld pictures; %ld faults\n", files, refused, pictures, faults);
+    printf("turbojpeg: %ld files, %ld of them refused, %ld pictures; %ld faults\n", files, refused,
+           pictures, faults);
     return faults != 0;
 }

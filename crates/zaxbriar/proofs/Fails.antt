@@ -8,7 +8,9 @@ use Rattle.jpeg_streams.specs.DecodedImages.{at_size}
 use Rattle.jpeg_streams.specs.Found.{Found}
 use Rattle.jpeg_streams.specs.Stream.{header_at, rest_at}
 use Rattle.jpeg_streams.proofs.AcceptedTurns.{then-ok}
-use Rattle.zaxbriar.specs.Faults.{FailsBy, IsArgument, IsFault}
+use Rattle.std.specs.Prelude.{IfErr, IsErrAnd}
+use Rattle.jpeg_bits.specs.declared.error.UnsupportedFeature.{UnsupportedFeature}
+use Rattle.zaxbriar.specs.Faults.{FailsBy, IsArgument, IsFault, IsUnsupported, OfStream}
 use Rattle.zaxbriar.specs.Meanings.{settings_of, size_of, meaning_by}
 use Rattle.zaxbriar.specs.declared.answers.Refusal.{Refusal}
 use Rattle.zaxbriar.specs.declared.answers.Refusal.TheVariants as refusals
@@ -55,3 +57,16 @@ pub means-rest : (o : Options) (bytes rest : List ℕ) (header : Found) → head
     → meaning_by o bytes ≡ rest_at (settings_of o) (at_size (size_of o) header) rest
 unfolding meaning_by
 means-rest o bytes rest header h = then-ok (header_at bytes) _ (header, rest) _ h refl
+
+-- A refusal by a feature's name names a fault.
+pub unsupported-of : {X Y : Type 0} (outcome : Result X Refusal) (read : Result Y Fault)
+    → IsErrAnd outcome (OfStream IsUnsupported) → IfErr outcome (IsFault read)
+    → (feature : UnsupportedFeature) × (read ≡ Err (Lacks feature))
+unsupported-of (Ok x) read h n = absurd h
+unsupported-of (Err (refusals.Argument text)) read h n = absurd h
+unsupported-of (Err refusals.NoRoom) read h n = absurd h
+unsupported-of (Err (refusals.Stream (errors.Unsupported feature))) read h n = (feature, n)
+unsupported-of (Err (refusals.Stream (errors.Format text))) read h n = absurd h
+unsupported-of (Err (refusals.Stream (errors.Io e))) read h n = absurd h
+unsupported-of (Err (refusals.Stream (errors.Internal text))) read h n = absurd h
+unsupported-of (Err (refusals.Stream errors.OutOfMemory)) read h n = absurd h

@@ -1,3 +1,4 @@
+mod Copied
 mod Fails
 mod Laid
 mod Means

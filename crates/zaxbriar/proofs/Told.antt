@@ -1,12 +1,18 @@
 -- What a caller is given of a picture that was decoded.
-use Rattle.std.proofs.Common.{◌≡◌, ◌∙◌, ℕ, ◌*◌, List, Result, Ok, Err, length, refl, sym, ap, suc, ◌+◌, ◌<◌, ◌≤◌, zero, ◌-◌, arith}
-use Rattle.std.specs.Prelude.{IfErr, IfOk, OnOk}
+use Rattle.std.proofs.Common.{◌≡◌, ◌∙◌, ℕ, ◌*◌, List, Result, Ok, Err, sym, ap, Some}
+use Rattle.std.specs.Prelude.{IfErr, IfOk, OnOk, option_map}
 use Rattle.std.proofs.Math.Nat.{mul_comm, mul_assoc}
 use Rattle.jpeg_bits.specs.Reading.{Fault}
 use Rattle.jpeg_streams.specs.declared.images.ImageInfo.{ImageInfo}
 use Rattle.zaxbriar.specs.Layouts.{laid_out, line_of}
 use Rattle.zaxbriar.specs.Lines.{Arranged, HasLines, lines_by, picture_by, stored_bytes}
-use Rattle.zaxbriar.specs.Meanings.{Shows, ShowsSamples}
+use Rattle.zaxbriar.specs.Meanings.{Describes, Shows, ShowsSamples, size_of}
+use Rattle.jpeg_streams.specs.Found.{Found}
+use Rattle.jpeg_streams.specs.DecodedImages.{at_size}
+use Rattle.jpeg_streams.specs.Pixels.{info_of}
+use Rattle.jpeg_streams.specs.Stream.{header_at}
+use Rattle.jpeg_decoder.specs.Bytes.{decoding_bytes}
+use Rattle.jpeg_decoder.specs.declared.memory.DecodingBytes.{DecodingBytes}
 use Rattle.zaxbriar.specs.declared.lines.Lines.{Lines}
 use Rattle.zaxbriar.specs.declared.options.Options.{Options}
 use Rattle.zaxbriar.specs.declared.picture.Picture.{Picture}
@@ -35,6 +41,29 @@ arranged-of o info precision samples old new picture lines decoding orientation 
   orientation = orientation;
   picture_is = p ∙ (λ i. picture_by o.layout info precision (h.lines_are i) decoding orientation
       (ap (λ (q : Picture). q.stream_bytes) (sym p) i));
+}
+
+pub described-of : (o : Options) (bytes rest : List ℕ) (header found : Found) (info : ImageInfo) (precision : ℕ)
+    (decoding : DecodingBytes) (lines : Lines) (orientation : ℕ) (picture : Picture)
+    → header_at bytes ≡ Ok (header, rest) → found ≡ at_size (size_of o) header
+    → option_map info_of found.frame ≡ Some info → option_map (λ f. f.precision) found.frame ≡ Some precision
+    → option_map decoding_bytes found.frame ≡ Some decoding → HasLines o info precision lines
+    → picture ≡ picture_by o.layout info precision lines decoding.peak orientation 0
+    → Describes o bytes picture
+described-of o bytes rest header found info precision decoding lines orientation picture r s i p d h e = record {
+  header = header;
+  rest = rest;
+  info = info;
+  precision = precision;
+  decoding = decoding;
+  conversion = h.conversion;
+  orientation = orientation;
+  reads = r;
+  info_is = ap (λ (f : Found). option_map info_of f.frame) (sym s) ∙ i;
+  precision_is = ap (λ (f : Found). option_map (λ f. f.precision) f.frame) (sym s) ∙ p;
+  decoding_is = ap (λ (f : Found). option_map decoding_bytes f.frame) (sym s) ∙ d;
+  conversion_is = h.is;
+  picture_is = e ∙ ap (λ (l : Lines). picture_by o.layout info precision l decoding.peak orientation 0) h.lines_are;
 }
 
 -- the same picture, with the bytes of its stream
@@ -82,3 +111,25 @@ shown-samples (Ok x) o image old new picture stream text result err ok s z = rec
   arranged = retold o s.info s.precision s.samples old new picture stream text ok.1 s.arranged;
 }
 shown-samples (Err e) o image old new picture stream text result err ok s z = absurd (err z)
+
+pub described : {X E : Type 0} (outcome : Result X E) (o : Options) (bytes : List ℕ) (picture : Picture)
+    (text : List ℕ) (result : ℕ)
+    → IfErr outcome (λ _. result ≡ 0 → ⊥) → IfOk outcome (λ _. (result ≡ 0) × (text ≡ picture.text))
+    → OnOk outcome (Describes o bytes picture) → result ≡ 0
+    → Describes o bytes (record picture { text = text })
+described (Ok x) o bytes picture text result err ok d z = record {
+  header = d.header;
+  rest = d.rest;
+  info = d.info;
+  precision = d.precision;
+  decoding = d.decoding;
+  conversion = d.conversion;
+  orientation = d.orientation;
+  reads = d.reads;
+  info_is = d.info_is;
+  precision_is = d.precision_is;
+  decoding_is = d.decoding_is;
+  conversion_is = d.conversion_is;
+  picture_is = λ i. record (d.picture_is i) { text = (ok.1 ∙ ap (λ (q : Picture). q.text) d.picture_is) i };
+}
+described (Err e) o bytes picture text result err ok d z = absurd (err z)

@@ -2,3 +2,4 @@ pub mod Faults
 pub mod Layouts
 pub mod Lines
 pub mod Meanings
+pub mod Metadata

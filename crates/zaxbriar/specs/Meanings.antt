@@ -12,7 +12,11 @@ use Rattle.jpeg_streams.specs.Stream.{Told, header_at, rest_at}
 use Rattle.jpeg_streams.specs.declared.images.ImageInfo.{ImageInfo}
 use Rattle.jpeg_streams.specs.declared.settings.Settings.{Settings}
 use Rattle.jpeg_bits.specs.Reading.{Fault}
-use Rattle.zaxbriar.specs.Lines.{Arranged}
+use Rattle.jpeg_decoder.specs.Bytes.{decoding_bytes}
+use Rattle.jpeg_decoder.specs.declared.memory.DecodingBytes.{DecodingBytes}
+use Rattle.zaxbriar.specs.Layouts.{conversion_of}
+use Rattle.zaxbriar.specs.Lines.{Arranged, lines_by, picture_by}
+use Rattle.zaxbriar.specs.declared.layouts.Conversion.{Conversion}
 use Rattle.zaxbriar.specs.declared.options.Options.{Options}
 use Rattle.zaxbriar.specs.declared.picture.Picture.{Picture}
 
@@ -49,6 +53,24 @@ pub record ReadsHeader (o : Options) (old new : Decoding) : Type 0 where
   pub reads : old.source.known ≡ true → (new.source.known ≡ true) × ((header : Found)
       × (header_at old.source.bytes ≡ Ok (header, new.source.bytes))
       × (new.found ≡ at_size (size_of o) header))
+
+-- A caller is told of the picture of a stream, by its header.
+pub record Describes (o : Options) (bytes : List ℕ) (picture : Picture) : Type 0 where
+  pub header : Found
+  pub rest : List ℕ
+  pub info : ImageInfo
+  pub precision : ℕ
+  pub decoding : DecodingBytes
+  pub conversion : Conversion
+  pub orientation : ℕ
+  pub reads : header_at bytes ≡ Ok (header, rest)
+  pub info_is : option_map info_of (at_size (size_of o) header).frame ≡ Some info
+  pub precision_is : option_map (λ f. f.precision) (at_size (size_of o) header).frame
+      ≡ Some precision
+  pub decoding_is : option_map decoding_bytes (at_size (size_of o) header).frame ≡ Some decoding
+  pub conversion_is : conversion_of o.layout info.pixel_format precision ≡ Some conversion
+  pub picture_is : picture ≡ picture_by o.layout info precision
+      (lines_by o.stride info precision conversion) decoding.peak orientation 0
 
 -- The picture of a stream is in the caller's memory.
 pub record Shows (o : Options) (bytes old new : List ℕ) (picture : Picture) : Type 0 where

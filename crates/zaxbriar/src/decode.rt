@@ -1,6 +1,6 @@
 //! Descriptions and pictures of streams.
-ghost use Rattle.std.specs.Prelude.{◌≡◌, ◌++◌, ◌*◌, ◌≤◌, ℕ, List, Ok, Some, IfOk, IfErr, OnErr, OnOk};
-ghost use Rattle.std.specs.Prelude.{length, option_map};
+ghost use Rattle.std.specs.Prelude.{◌≡◌, ◌++◌, ◌*◌, ◌≤◌, ℕ, List, Ok, Some, length, option_map};
+ghost use Rattle.std.specs.Prelude.{IfOk, IfErr, OnErr, OnOk};
 ghost use Rattle.jpeg_streams.specs.ArrayPictures.{picture_of_array, Takes};
 ghost use Rattle.jpeg_streams.specs.DecodedImages.{at_size};
 ghost use Rattle.jpeg_streams.specs.Found.{Found};
@@ -12,7 +12,8 @@ ghost use Rattle.jpeg_streams.specs.WrittenImages.{WritesImage};
 ghost use Rattle.jpeg_streams.specs.WrittenScans.{Coefficients};
 ghost use Rattle.zaxbriar.specs.Faults.{IsFault};
 ghost use Rattle.zaxbriar.specs.Lines.{HasLines, picture_by};
-ghost use Rattle.zaxbriar.specs.Meanings.{meaning_by, settings_of, size_of, Shows, ShowsSamples};
+ghost use Rattle.zaxbriar.specs.Meanings.{Describes, Shows, ShowsSamples};
+ghost use Rattle.zaxbriar.specs.Meanings.{meaning_by, settings_of, size_of};
 
 use crate::answers::Refusal;
 use crate::header::{Header, read_header};
@@ -37,7 +38,12 @@ pub fn read_info_from<R: Read + Drop>(
     reader: &mut R,
     options: &Options,
     picture: &mut Picture,
-) -> std::result::Result<(), Refusal> {
+) -> std::result::Result<(), Refusal>
+    ensures describes { (bytes : List ℕ) → Tells (R.remaining reader.old) bytes
+        → OnOk result (Describes options.now bytes picture.new) }
+    ensures named { (bytes : List ℕ) → Tells (R.remaining reader.old) bytes
+        → IfErr result (IsFault (header_at bytes)) }
+{
     let mut decoder = Decoder::new(alloc, reader)?;
     let header = read_header(&mut decoder, options)?;
     let lines = lines_of(header.info, header.precision, options)?;
@@ -74,7 +80,7 @@ fn decode_from<R: Read + Drop>(
         ≡ d.lines.height * (d.lines.width * d.lines.stored)) }
     ensures room { OnOk result (picture.new.size ≤ room) }
     ensures picture { IfOk result (λ d. picture.new ≡ picture_by options.now.layout d.header.info
-        d.header.precision d.lines d.header.decoding_bytes d.header.orientation 0) }
+        d.header.precision d.lines d.header.decoding_bytes.peak d.header.orientation 0) }
 {
     let mut decoder = Decoder::new(alloc, reader)?;
     let header = read_header(&mut decoder, options)?;

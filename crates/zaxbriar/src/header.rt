@@ -1,5 +1,6 @@
 //! The header of a stream.
 ghost use Rattle.std.specs.Prelude.{◌≡◌, true, Some, IfOk, IfErr, OnOk, option_map};
+ghost use Rattle.jpeg_decoder.specs.Bytes.{decoding_bytes};
 ghost use Rattle.jpeg_streams.specs.Output.{default_settings};
 ghost use Rattle.jpeg_streams.specs.Pixels.{info_of};
 ghost use Rattle.jpeg_streams.specs.States.{Fresh};
@@ -10,7 +11,7 @@ ghost use Rattle.zaxbriar.specs.Meanings.{ReadsHeader};
 use crate::answers::Refusal;
 use crate::options::{Options, apply, apply_size, are_known};
 use crate::orientation::orientation_of;
-use jpeg_decoder::{Decoder, ImageInfo};
+use jpeg_decoder::{Decoder, DecodingBytes, ImageInfo};
 use std::io::Read;
 
 /// What a header says of its picture.
@@ -20,8 +21,8 @@ pub struct Header {
     pub info: ImageInfo,
     /// The bits of a sample.
     pub precision: u8,
-    /// The memory that decoding allocates for samples.
-    pub decoding_bytes: u64,
+    /// The memory that decoding allocates.
+    pub decoding_bytes: DecodingBytes,
     /// The orientation by the Exif data.
     pub orientation: u8,
 }
@@ -39,6 +40,8 @@ pub fn read_header<R: Read + Drop>(
     ensures info { IfOk result (λ h. option_map info_of decoder.new.found.frame ≡ Some h.info) }
     ensures precision { IfOk result (λ h. option_map (λ f. f.precision) decoder.new.found.frame
         ≡ Some h.precision) }
+    ensures bytes { IfOk result (λ h. option_map decoding_bytes decoder.new.found.frame
+        ≡ Some h.decoding_bytes) }
 {
     if !are_known(options) {
         return Err(Refusal::Argument("an option doesn't exist"));
@@ -46,7 +49,7 @@ pub fn read_header<R: Read + Drop>(
     apply(decoder, options);
     decoder.read_info()?;
     apply_size(decoder, options)?;
-    let (Some(info), Some(precision), Some(bytes)) = (
+    let (Some(info), Some(precision), Some(decoding_bytes)) = (
         decoder.info(),
         decoder.precision(),
         decoder.decoding_bytes(),
@@ -57,7 +60,7 @@ pub fn read_header<R: Read + Drop>(
     Ok(Header {
         info,
         precision,
-        decoding_bytes: bytes.peak,
+        decoding_bytes,
         orientation: orientation_of(decoder.exif_data()),
     })
 }

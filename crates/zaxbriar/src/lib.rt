@@ -12,9 +12,12 @@ ghost use Rattle.jpeg_streams.specs.ArrayPictures.{picture_of_array, Takes};
 ghost use Rattle.jpeg_streams.specs.DecodedImages.{at_size};
 ghost use Rattle.jpeg_streams.specs.Found.{Found};
 ghost use Rattle.jpeg_streams.specs.Levels.{Is8Bit, Levels};
+ghost use Rattle.jpeg_streams.specs.Stream.{header_at};
 ghost use Rattle.jpeg_streams.specs.WrittenImages.{WritesImage};
 ghost use Rattle.jpeg_streams.specs.WrittenScans.{Coefficients};
-ghost use Rattle.zaxbriar.specs.Meanings.{meaning_by, settings_of, size_of, Shows, ShowsSamples};
+ghost use Rattle.zaxbriar.specs.Metadata.{Copies};
+ghost use Rattle.zaxbriar.specs.Meanings.{Describes, Shows, ShowsSamples};
+ghost use Rattle.zaxbriar.specs.Meanings.{meaning_by, settings_of, size_of};
 
 mod answers;
 mod decode;
@@ -44,7 +47,16 @@ pub extern "C" fn zaxbriar_checked_read_info(
     jpeg: &[u8],
     options: &Options,
     picture: &mut Picture,
-) -> u32 {
+) -> u32
+    // After OK, `picture` describes the picture of the header.
+    ensures describes { result ≡ 0 → length jpeg.now < 2 ^ 64
+        → Describes options.now jpeg.now picture.new }
+
+    // MALFORMED and UNSUPPORTED name the header's fault.
+    ensures malformed { length jpeg.now < 2 ^ 64 → result ≡ 1 → header_at jpeg.now ≡ Err Malformed }
+    ensures unsupported { length jpeg.now < 2 ^ 64 → result ≡ 2 → (feature : UnsupportedFeature)
+        × (header_at jpeg.now ≡ Err (Lacks feature)) }
+{
     *picture = NO_PICTURE;
     let outcome = read_info_from(alloc, &mut Bytes::new(jpeg), options, picture);
     answer(alloc, outcome, &mut picture.text)
@@ -98,10 +110,17 @@ pub extern "C" fn zaxbriar_checked_metadata(
     jpeg: &[u8],
     kind: u32,
     buffer: &mut [u8],
-    length: &mut u64,
-) -> u32 {
-    *length = 0;
-    match read_metadata(alloc, &mut Bytes::new(jpeg), kind, buffer, length) {
+    count: &mut u64,
+) -> u32
+    // After OK, `buffer` begins with what some first segments of the stream have said.
+    ensures copies { result ≡ 0 → length jpeg.now < 2 ^ 64
+        → Copies kind jpeg.now buffer.old buffer.new count.new }
+
+    // After any other result, `buffer` is as it was.
+    ensures kept { (result ≡ 0 → ⊥) → buffer.new ≡ buffer.old }
+{
+    *count = 0;
+    match read_metadata(alloc, &mut Bytes::new(jpeg), kind, buffer, count) {
         Ok(code) => code,
         Err(error) => code_of(&error),
     }

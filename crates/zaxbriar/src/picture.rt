@@ -77,13 +77,13 @@ fn process_number(process: CodingProcess) -> u8
 pub fn picture_of(header: Header, lines: Lines, layout: u8) -> Picture
     requires row { lines.row_bytes ≤ lines.stride }
     requires stride { lines.stride ≤ 4294967296 }
-    ensures { result ≡ picture_by layout header.info header.precision lines header.decoding_bytes
-        header.orientation 0 }
+    ensures { result ≡ picture_by layout header.info header.precision lines
+        header.decoding_bytes.peak header.orientation 0 }
 {
     Picture {
         size: size_of_lines(lines),
         row_bytes: lines.row_bytes,
-        decoding_bytes: header.decoding_bytes,
+        decoding_bytes: header.decoding_bytes.peak,
         stream_bytes: 0,
         width: u32::from(lines.width),
         height: u32::from(lines.height),

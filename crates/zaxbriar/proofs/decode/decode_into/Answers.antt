@@ -16,7 +16,7 @@ returns-clause-means g c bytes tells =
       precision_is = means.4;
       arranged = arranged-of c.args.options.now header.info header.precision c.in_ok-decoded.decoded.samples.items
           c.args.pixels.now c.put_lines.new.pixels c.decode_from.new.picture c.in_ok-decoded.decoded.lines
-          header.decoding_bytes header.orientation c.in_ok-decoded.ensures.lines
+          header.decoding_bytes.peak header.orientation c.in_ok-decoded.ensures.lines
           (rw c.deref.ensures.value at c.put_lines.ensures) c.in_ok-decoded.ensures.picture;
     }
 
@@ -30,6 +30,6 @@ returns-clause-images g c bytes tells array image rest final last range w takes 
       are = c.in_ok-decoded.ensures.images bytes tells array image rest final last range w takes is;
       arranged = arranged-of c.args.options.now header.info header.precision c.in_ok-decoded.decoded.samples.items
           c.args.pixels.now c.put_lines.new.pixels c.decode_from.new.picture c.in_ok-decoded.decoded.lines
-          header.decoding_bytes header.orientation c.in_ok-decoded.ensures.lines
+          header.decoding_bytes.peak header.orientation c.in_ok-decoded.ensures.lines
           (rw c.deref.ensures.value at c.put_lines.ensures) c.in_ok-decoded.ensures.picture;
     }

@@ -1,0 +1,24 @@
+-- The metadata that a caller is given.
+use Rattle.std.specs.Prelude.{◌≡◌, ◌==◌, ℕ, List, ◌++◌, drop, length, Option, Some, None, true}
+use Rattle.std.specs.Prelude.{if◌then◌else◌}
+use Rattle.jpeg_streams.specs.Found.{Metadata}
+use Rattle.jpeg_streams.specs.Profile.{profile_of}
+use Rattle.jpeg_streams.specs.Reported.{told_by_turns}
+
+-- what was said of a kind: 1 Exif, 2 XMP, 3 an ICC profile
+abbrev pub metadata_of : ℕ → Metadata → Option (List ℕ)
+metadata_of kind said = if kind == 1 then said.exif
+    else (if kind == 2 then said.xmp
+    else (if kind == 3 then profile_of said.icc else None))
+
+-- Data are at the beginning of a buffer whose other bytes stay, and they are counted.
+pub record IsCopied (found : Option (List ℕ)) (old new : List ℕ) (count : ℕ) : Type 0 where
+  pub bytes : List ℕ
+  pub are : found ≡ Some bytes
+  pub buffer : new ≡ bytes ++ drop (length bytes) old
+  pub count_is : count ≡ length bytes
+
+-- So are those of a kind, as some first segments of a stream have said them.
+pub record Copies (kind : ℕ) (stream old new : List ℕ) (count : ℕ) : Type 0 where
+  pub turns : ℕ
+  pub copied : IsCopied (metadata_of kind (told_by_turns turns true stream).metadata) old new count
