@@ -10,9 +10,9 @@ use jpeg_bits::source::Source;
 use std::alloc::Global;
 use std::io::Read;
 
-/// The next difference, modulo 2^16: a code of its category, and as many bits. A difference of
-/// category 16 is 32768 and has no bits; a category above 16 is refused. A refusal is held in its
-/// place, and answered by none.
+/// Reads the next difference, modulo 2^16: a code of its category, and as many bits. A difference
+/// of category 16 is 32768 and has no bits; a category above 16 is an error. On an error stores it
+/// in `refusal` and returns none.
 #[inline(always)]
 #[tactic(auto, unfolding(crate::specs::Differences::difference))]
 fn take_difference<R: Read + Drop>(
@@ -45,8 +45,8 @@ fn take_difference<R: Read + Drop>(
     }
 }
 
-/// Appends the differences of an MCU to those of a row. A refusal is held in its place, and
-/// answered by false.
+/// Appends the differences of an MCU to those of a row. On an error stores it in `refusal` and
+/// returns false.
 #[inline(always)]
 fn take_mcu<R: Read + Drop>(
     alloc: Global,
@@ -75,7 +75,7 @@ fn take_mcu<R: Read + Drop>(
     true
 }
 
-/// Reads the differences of a row of `count` MCUs into `row`, in place of what it holds. An MCU has
+/// Reads the differences of a row of `count` MCUs into `row`, replacing its contents. An MCU has
 /// one for each of the tables.
 pub(crate) fn read_row<R: Read + Drop>(
     alloc: Global,
@@ -91,7 +91,7 @@ pub(crate) fn read_row<R: Read + Drop>(
         decoder.old source.old result decoder.new source.new }
 {
     row.clear();
-    // The bits held stay in registers while the row is read, as a local's do.
+    // The buffered bits of a local decoder stay in registers while the row is read.
     let mut held = decoder.copied();
     let mut refusal = None;
     let mut left = count;

@@ -45,8 +45,8 @@ pub struct Coding {
     pub restart_interval: u16,
 }
 
-/// How many rows of MCUs a restart interval has: all without restarts, or where it holds the whole
-/// scan. It is none where an interval would end inside a row.
+/// Returns how many rows of MCUs a restart interval has: all without restarts, or where it has the
+/// whole scan. It is none where an interval would end inside a row.
 fn rows_of_interval(coding: Coding) -> Option<u16>
     requires wide { 0 < coding.wide }
     requires high { 0 < coding.high }
@@ -76,7 +76,8 @@ struct RowCoding<'a, 't> {
     /// The table of each sample of an MCU.
     tables: Vec<&'t HuffmanTable>,
     ghost listed: { map (λ t. t.now) tables.items ≡ mcu_tables (map part_in parts.now) },
-    ghost within: { AllByRecursion (IsWithin scan.wide) (map part_in parts.now) } by { Prim.hlevel props },
+    ghost within: { AllByRecursion (IsWithin scan.wide)
+        (map part_in parts.now) } by { Prim.hlevel props },
     ghost point: { scan.point_transform < scan.precision },
     ghost precision: { scan.precision ≤ 16 },
 }
@@ -114,13 +115,13 @@ impl LosslessScan {
     ) -> Result<()>
         requires planes { length self.old.planes.items ≡ length coding.now.parts.now }
         ensures count { length self.new.planes.items ≡ length self.old.planes.items }
-        ensures long { (k : ℕ)
-            → AreGrown k (map part_in coding.now.parts.now) (map (λ v. v.items) self.old.planes.items)
+        ensures long { (k : ℕ) → AreGrown k (map part_in coding.now.parts.now)
+            (map (λ v. v.items) self.old.planes.items)
             → OnOk result (AreGrown (k + count) (map part_in coding.now.parts.now)
             (map (λ v. v.items) self.new.planes.items)) }
         ensures reads { Takes (λ _. map (λ v. v.items) self.new.planes.items)
-            (planes_after_rows (way_by coding.now.scan (map part_in coding.now.parts.now)) true count
-            (map (λ v. v.items) self.old.planes.items))
+            (planes_after_rows (way_by coding.now.scan (map part_in coding.now.parts.now)) true
+            count (map (λ v. v.items) self.old.planes.items))
             decoder.old source.old result decoder.new source.new }
     {
         let prediction = Prediction {
@@ -148,7 +149,7 @@ impl LosslessScan {
         Ok(())
     }
 
-    /// Reads an interval of `count` rows of MCUs, and returns the marker after it, if it is met.
+    /// Reads an interval of `count` rows of MCUs, and returns the marker after it, if it was read.
     #[tactic(auto, unfolding(crate::specs::PlanesRead::planes_interval))]
     fn read_interval<R: Read + Drop>(
         &mut self,
@@ -158,8 +159,8 @@ impl LosslessScan {
     ) -> Result<Option<Marker>>
         requires planes { length self.old.planes.items ≡ length coding.now.parts.now }
         ensures count { length self.new.planes.items ≡ length self.old.planes.items }
-        ensures long { (k : ℕ)
-            → AreGrown k (map part_in coding.now.parts.now) (map (λ v. v.items) self.old.planes.items)
+        ensures long { (k : ℕ) → AreGrown k (map part_in coding.now.parts.now)
+            (map (λ v. v.items) self.old.planes.items)
             → OnOk result (AreGrown (k + count) (map part_in coding.now.parts.now)
             (map (λ v. v.items) self.new.planes.items)) }
         ensures answers { Answers (λ m. (map (λ v. v.items) self.new.planes.items, m))
@@ -173,7 +174,7 @@ impl LosslessScan {
     }
 
     /// Reads the intervals of a scan, each of `rows` rows of MCUs and the last of those that are
-    /// left, and returns the marker after them, if it is met.
+    /// left, and returns the marker after them, if it was read.
     fn read_intervals<R: Read + Drop>(
         &mut self,
         source: &mut Source<R>,
@@ -183,13 +184,14 @@ impl LosslessScan {
         requires rows { 0 < rows }
         requires planes { length self.old.planes.items ≡ length coding.now.parts.now }
         ensures count { length self.new.planes.items ≡ length self.old.planes.items }
-        ensures long { (k : ℕ)
-            → AreGrown k (map part_in coding.now.parts.now) (map (λ v. v.items) self.old.planes.items)
+        ensures long { (k : ℕ) → AreGrown k (map part_in coding.now.parts.now)
+            (map (λ v. v.items) self.old.planes.items)
             → OnOk result (AreGrown (k + coding.now.scan.high) (map part_in coding.now.parts.now)
             (map (λ v. v.items) self.new.planes.items)) }
         ensures answers { Answers (λ m. (map (λ v. v.items) self.new.planes.items, m))
-            (planes_intervals (coding.now.scan.high + 1) (way_by coding.now.scan (map part_in coding.now.parts.now))
-            rows 0 coding.now.scan.high (map (λ v. v.items) self.old.planes.items))
+            (planes_intervals (coding.now.scan.high + 1)
+            (way_by coding.now.scan (map part_in coding.now.parts.now)) rows 0
+            coding.now.scan.high (map (λ v. v.items) self.old.planes.items))
             source.old result source.new }
     {
         let mut number = 0u16;
@@ -216,7 +218,7 @@ fn is_restart(marker: Option<Marker>, number: u16) -> bool
     }
 }
 
-/// Empty planes, each with room for the samples of a part in `high` rows of MCUs.
+/// Makes empty planes, each with room for the samples of a part in `high` rows of MCUs.
 fn empty_planes(
     alloc: Global,
     high: u16,
@@ -304,8 +306,8 @@ fn read_planes<R: Read + Drop>(
 }
 
 /// Reads the entropy-coded data of a lossless scan, of which the parts are its components. Returns
-/// a plane for each part, and the marker after the data, if it was met. A plane has the component's
-/// own samples, line by line, which are shifted by the point transform.
+/// a plane for each part, and the marker after the data, if it was read. A plane has the
+/// component's own samples, line by line, which are shifted by the point transform.
 ///
 /// It is `Format` where a restart interval ends inside a row, bits are no code of their table, a
 /// category is above 16, FF 00 stands where a marker is expected, or an interval does not end with

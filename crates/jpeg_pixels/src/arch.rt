@@ -251,7 +251,7 @@ fn below_first_row(coefficients: [i16; 64]) -> i32x8
     any.cast::<i32>()
 }
 
-// What the flat columns hold.
+// The values of the flat columns.
 fn flat_row(coefficients: [i16; 64], quantization_table: &[u16; 64]) -> i32x8
     ensures { result ≡ lanes (λ j. int_wrap w32 (pos 4 *ℤ dequantized coefficients
         quantization_table.now 0 j)) }
@@ -295,7 +295,7 @@ fn transform_columns(coefficients: [i16; 64], quantization_table: &[u16; 64], in
     }
 }
 
-// The sums of the samples, before the last shift, of columns whose values stand in rows.
+// The sums of the samples, before the last shift, of columns whose values are in rows.
 fn transform_rows(turned: Rows) -> Rows
     ensures { HasNumbers result
         (λ y x. int_wrap w32 (transformed (λ k. lane_at turned k y) x +ℤ pos 16842752)) }
@@ -368,7 +368,7 @@ fn write_samples(sums: &[i32; 8], output: &mut [u8])
     }
 }
 
-// The samples of a block, line by line. They stand in an array of their own, which is known to be
+// The samples of a block, line by line. They are in an array of their own, which is known to be
 // apart from the sums: so their clamps are vectorised.
 fn samples_of(sums: &[[i32; 8]; 8]) -> [u8; 64]
     ensures { (x y : ℕ) → x < 8 → y < 8 → slice_index result (y * 8 + x)

@@ -49,7 +49,7 @@ fn blue(y: u8, cb: u8) -> u8
     scaled_down(y + 1858077 * cb)
 }
 
-// The red of some pixels from place `start` on, by their brightness and third component.
+// Writes the red of some pixels from index `start` on, by their brightness and third component.
 fn red_row(y: &[u8], cr: &[u8], start: usize, count: usize, row: &mut [u8; 64])
     requires most { count ≤ 64 }
     requires y_room { start + count ≤ length y.now }
@@ -88,7 +88,7 @@ fn blue_row(y: &[u8], cb: &[u8], start: usize, count: usize, row: &mut [u8; 64])
     }
 }
 
-// 255 minus each sample from place `start` on.
+// Writes 255 minus each sample from index `start` on.
 fn inverted_row(lines: &[u8], start: usize, count: usize, row: &mut [u8; 64])
     requires most { count ≤ 64 }
     requires room { start + count ≤ length lines.now }
@@ -193,8 +193,8 @@ fn write_ycbcr_piece(y: &[u8], cb: &[u8], cr: &[u8], start: usize, count: usize,
 }
 
 /// Writes red, green and blue of pixels by their brightness and two colour differences, in chunks
-/// of eight: of the pixels for which the output has room, those that make whole chunks. Their
-/// number is answered; the output's other bytes stay.
+/// of eight: of the pixels for which the output has room, those that make whole chunks. Returns
+/// their number. The output's other bytes stay.
 pub fn color_convert_line_ycbcr(y: &[u8], cb: &[u8], cr: &[u8], output: &mut [u8]) -> usize
     requires whole { 3 * (length output.old / 3) ≡ length output.old }
     requires y_long { length output.old ≤ 3 * length y.now }
@@ -292,7 +292,7 @@ fn write_cmyk_piece(lines: &[u8], width: usize, start: usize, count: usize, outp
     interleave_four(&rows, count, output, start);
 }
 
-/// Writes the pixels of a line of red, green and blue, whose components stand one after the other.
+/// Writes the pixels of a line of red, green and blue, whose components follow one another.
 pub(crate) fn write_rgb(lines: &[u8], width: usize, output: &mut [u8])
     requires lines { 3 * width ≤ length lines.now }
     requires room { 3 * width ≤ length output.old }
@@ -312,8 +312,8 @@ pub(crate) fn write_rgb(lines: &[u8], width: usize, output: &mut [u8])
     );
 }
 
-/// Writes the pixels of a line of brightness and two colour differences, which stand one after the
-/// other: red, green and blue.
+/// Writes the pixels of a line of brightness and two colour differences, which follow one another:
+/// red, green and blue.
 pub(crate) fn write_ycbcr(lines: &[u8], width: usize, output: &mut [u8])
     requires lines { 3 * width ≤ length lines.now }
     requires room { length output.old ≡ 3 * width }
@@ -331,8 +331,8 @@ pub(crate) fn write_ycbcr(lines: &[u8], width: usize, output: &mut [u8])
     write_ycbcr_piece(lines, cb, cr, done, width - done, output);
 }
 
-/// Writes the pixels of a line of brightness, two colour differences and black, which stand one
-/// after the other: red, green, blue, and black inverted.
+/// Writes the pixels of a line of brightness, two colour differences and black, which follow one
+/// another: red, green, blue, and black inverted.
 pub(crate) fn write_ycck(lines: &[u8], width: usize, output: &mut [u8])
     requires lines { 4 * width ≤ length lines.now }
     requires room { 4 * width ≤ length output.old }
@@ -353,8 +353,8 @@ pub(crate) fn write_ycck(lines: &[u8], width: usize, output: &mut [u8])
     write_ycck_piece(lines, width, 64 * pieces, width % 64, output);
 }
 
-/// Writes the pixels of a line of cyan, magenta, yellow and black, which stand one after the other,
-/// each inverted.
+/// Writes the pixels of a line of cyan, magenta, yellow and black, which follow one another, each
+/// inverted.
 pub(crate) fn write_cmyk(lines: &[u8], width: usize, output: &mut [u8])
     requires lines { 4 * width ≤ length lines.now }
     requires room { 4 * width ≤ length output.old }

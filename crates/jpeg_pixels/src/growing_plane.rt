@@ -1,4 +1,4 @@
-//! A plane that is made row by row, in room that is taken at first.
+//! A plane that is made row by row, in memory that is allocated at first.
 ghost use Rattle.std.specs.Prelude.{◌≡◌, ℕ, ◌+◌, ◌≤◌, length, MatchResult};
 ghost use Rattle.jpeg_bits.specs.declared.error.Error.TheVariants.{OutOfMemory};
 ghost use Rattle.jpeg_segments.specs.FrameView.{component_in};

@@ -66,7 +66,7 @@ pub fn zero_columns_change_nothing()
         row +ℤ pos 512)) 10 }
 {}
 
-/// The table of places in zigzag order and the table of places in the block are inverse to one
+/// The table of indices in zigzag order and the table of indices in the block are inverse to one
 /// another (T.81, A.3.6).
 pub fn zigzag_places_are_inverse()
     ensures forth { map (λ place. slice_index zigzag place) zigzag_places ≡ range_with_len 0 64 }

@@ -10,7 +10,7 @@ use std::alloc::AllocError;
 /// Appends the samples of a row of blocks to a plane: `scale` lines of `scale * blocks.len()`
 /// samples.
 ///
-/// A block gives `scale` samples a side: 1, 2, 4 or 8. The blocks and the quantization table stand
+/// A block gives `scale` samples a side: 1, 2, 4 or 8. The blocks and the quantization table are
 /// in block order: row `v` and column `u` at `8 * v + u`. The only error is that no memory is left
 /// to grow the plane, which then stays as it was.
 pub fn append_row(

@@ -32,7 +32,7 @@ fn product(
     dequantize(coefficients[place], quantization_table[place])
 }
 
-// What the odd ones of four numbers give for the outer two places, and for the inner two.
+// What the odd ones of four numbers give for the outer two values, and for the inner two.
 fn odd_sums(s1: i32, s3: i32) -> (i32, i32)
     ensures outer { result.0 ≡ int_wrap w32 (pos 5352 *ℤ s1 +ℤ pos 2217 *ℤ s3) }
     ensures inner { result.1 ≡ int_wrap w32 (pos 2217 *ℤ s1 -ℤ pos 5350 *ℤ s3) }
@@ -58,7 +58,7 @@ fn biased(sum: i32) -> i32
     (sum << 12).wrapping_add(ROW_BIAS)
 }
 
-// Four values by what the even and the odd numbers give for the outer and the inner places.
+// Four values by what the even and the odd numbers give for the outer and the inner ones.
 fn join(outer_even: i32, inner_even: i32, outer_odd: i32, inner_odd: i32) -> [i32; 4]
     ensures { result ≡ int_wrap w32 (outer_even +ℤ outer_odd)
         ∷ int_wrap w32 (inner_even +ℤ inner_odd)
@@ -134,7 +134,7 @@ fn write_row(sums: &[i32; 4], output: &mut [u8])
 /// Dequantizes a block of 8x8 coefficients and transforms the first four of its first four rows to
 /// 4x4 samples from 0 to 255, with 128 added to each.
 ///
-/// Coefficients and quantization values stand in block order: row `v` and column `u` at
+/// Coefficients and quantization values are in block order: row `v` and column `u` at
 /// `8 * v + u`. The sample at `(x, y)` goes to byte `y * output_linestride + x` of the output,
 /// which has room for three lines of `output_linestride` bytes and four bytes more. Its other bytes
 /// stay as they are. Sums that are too large for an `i32` wrap.
@@ -169,7 +169,7 @@ fn sample_of_eighths(sum: i32) -> u8
 /// Dequantizes a block of 8x8 coefficients and transforms the first two of its first two rows to
 /// 2x2 samples from 0 to 255, with 128 added to each.
 ///
-/// Coefficients and quantization values stand in block order: row `v` and column `u` at
+/// Coefficients and quantization values are in block order: row `v` and column `u` at
 /// `8 * v + u`. The sample at `(x, y)` goes to byte `y * output_linestride + x` of the output,
 /// which has room for a line of `output_linestride` bytes and two bytes more. Its other bytes stay
 /// as they are. Sums that are too large for an `i32` wrap.

@@ -108,7 +108,7 @@ pub fn upsample_row_h2v2(near: &[u8], far: &[u8], output: &mut [u8])
     }
 }
 
-// Writes the samples of a line at every `step`th place from `first` on, as far as the output goes.
+// Writes the samples of a line at every `step`th index from `first` on, as far as the output goes.
 fn spread(line: &[u8], step: usize, first: usize, output: &mut [u8])
     requires first { first < step }
     requires wide { length output.old ≤ step * length line.now }
@@ -138,7 +138,7 @@ pub fn repeat_samples(line: &[u8], times: usize, output: &mut [u8])
         output.copy_from_slice(line);
         return;
     }
-    // A pass for each place: runs as short as these would cost more one by one.
+    // A pass for each index: runs as short as these would cost more one by one.
     for first in 0..times {
         spread(line, times, first, output);
     }

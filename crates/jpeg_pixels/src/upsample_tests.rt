@@ -4,7 +4,7 @@ ghost use Rattle.jpeg_pixels.specs.Upsampling.{across, down};
 use crate::upsampler::UpsampleRule;
 
 // The first samples of a row of the picture, in eleven bytes that were 7. The lines of the
-// component stand together.
+// component are together.
 fn row_of(
     rule: UpsampleRule,
     samples: &[u8],

@@ -99,7 +99,7 @@ impl UpsampleRule {
 /// How the samples of a pixel become its bytes.
 #[derive(Clone, Copy, Debug, PartialEq)]
 pub enum ColorConvert {
-    /// No conversion; the components of a line stand one after the other.
+    /// No conversion; the components of a line follow one another.
     None,
     /// Red, green and blue, interleaved.
     Rgb,

@@ -13,10 +13,10 @@ use jpeg_segments::parser::{Component, Dimensions};
 use std::alloc::Global;
 use std::marker::Model;
 
-/// A component whose plane is to be made at a place of a worker.
+/// A component whose plane is to be made at an index of a worker.
 #[derive(Drop)]
 pub struct RowData {
-    /// The place: 0 to 3.
+    /// The index: 0 to 3.
     pub index: usize,
     /// The component, whose sizes the plane has.
     pub component: Component,
@@ -52,7 +52,7 @@ impl ImmediateWorker {
     ghost use Rattle.jpeg_pixels.specs.Workers.{AreRows, IsRowAt, plane_at, with_row, with_rows};
     ghost use Rattle.jpeg_pixels.specs.Workers.{work_of};
 
-    /// A worker whose four places hold no plane.
+    /// Makes a worker that has no plane at any of its four indices.
     pub fn default_in_memory(alloc: Global) -> Result<ImmediateWorker>
         ensures { result ≡ Ok (None ∷ None ∷ None ∷ None ∷ []) }
     {
@@ -62,7 +62,7 @@ impl ImmediateWorker {
         })
     }
 
-    /// Starts the plane of a component at a place that holds none, and allocates all of it: each
+    /// Starts the plane of a component at an index that has none, and allocates all of it: each
     /// sample is 0 until its row comes.
     ///
     /// The only error is that no memory is left; nothing has changed then.
@@ -84,11 +84,11 @@ impl ImmediateWorker {
         Ok(())
     }
 
-    /// Appends the samples of a row to the plane at a place: as many rows of blocks as the vertical
-    /// factor of the component says. It allocates nothing, and returns no error.
+    /// Appends the samples of a row to the plane at an index: as many rows of blocks as the
+    /// vertical factor of the component says. It allocates nothing, and returns no error.
     ///
-    /// The row holds the coefficients of its blocks, block by block, from the left and row of
-    /// blocks by row of blocks. Those of a block stand in block order, as its quantization table
+    /// The row has the coefficients of its blocks, block by block, from the left and row of
+    /// blocks by row of blocks. Those of a block are in block order, as its quantization table
     /// does.
     pub fn append_row(&mut self, row: (usize, Vec<i16>)) -> Result<()>
         requires place { row.0 < 4 }
@@ -129,8 +129,8 @@ impl ImmediateWorker {
         }
     }
 
-    /// Takes the plane at a place: its samples are 0 where no row has come yet. It is empty where
-    /// the place holds none. It allocates nothing, and returns no error.
+    /// Takes the plane at an index: its samples are 0 where no row has come yet. It is empty where
+    /// the index has none. It allocates nothing, and returns no error.
     pub fn get_result(&mut self, index: usize) -> Result<Vec<u8>>
         requires place { index < 4 }
         ensures plane { MatchResult result

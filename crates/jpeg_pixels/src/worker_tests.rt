@@ -47,7 +47,7 @@ fn row_of(alloc: Global, firsts: [i16; 4]) -> Result<Vec<i16>, Error>
     Ok(row)
 }
 
-// A worker that makes the plane of that component at place 2.
+// A worker that makes the plane of that component at index 2.
 fn started(alloc: Global) -> Result<ImmediateWorker, Error>
     ensures { IfOk result (λ worker. worker ≡ None ∷ None ∷ Some (work_of (record {
       factors = record { identifier = 1; horizontal = 1; vertical = 2; quantization = 0 };

@@ -2,7 +2,7 @@
 ghost use Rattle.std.specs.Prelude.{◌≡◌, ◌<◌, slice_index};
 ghost use Rattle.jpeg_bits.specs.Zigzag.{zigzag_places, values_in_block_order};
 
-// The place in zigzag order of each place in the block.
+// The index in zigzag order of each index in the block.
 const PLACES: [usize; 64] = [
     0, 1, 5, 6, 14, 15, 27, 28, //
     2, 4, 7, 13, 16, 26, 29, 42, //
@@ -24,7 +24,7 @@ fn zigzag_place(place: usize) -> usize
 }
 
 /// The 64 values of a quantization table, given in zigzag order, in block order: that of row `v`
-/// and column `u` stands at `8 * v + u` (T.81, A.3.6).
+/// and column `u` is at `8 * v + u` (T.81, A.3.6).
 #[tactic(auto, using(crate::proofs::Sums::set_next))]
 pub fn values_in_order(values: &[u16; 64]) -> [u16; 64]
     ensures { result ≡ values_in_block_order values.now }
