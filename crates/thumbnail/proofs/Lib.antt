@@ -1,2 +1,0 @@
-mod Pictures
-mod Turned
