@@ -90,10 +90,10 @@ def memory_programs(bench_memory, peers):
         yield Memory(name, tjbench, small, r"Frame rate: +([\d.]+) fps", lambda fps: 1000 / fps, environment)
 
 
-def programs(jpegraw, thumbnail, peers):
+def programs(jpegraw, jpeg2pnm, peers):
     """All the programs, ours first."""
     size = "%dx%d" % SMALL
-    yield Program("ours", [jpegraw], [thumbnail, *map(str, SMALL)])
+    yield Program("ours", [jpegraw], [jpeg2pnm, "--scale", "1/8"])
     for peer in peers:
         yield Program(os.path.basename(peer), [peer, "FILE"], [peer, "--scale", size, "FILE"])
     djpeg = ["djpeg", "-dct", "int", "-pnm"]
@@ -169,12 +169,12 @@ def time_memory(all_programs, all_files):
             print(line([kind, f"{times[0]:.1f}", *ratios(times)]), flush=True)
 
 
-def main(jpegraw, thumbnail, bench_memory, folder, *peers):
+def main(jpegraw, jpeg2pnm, bench_memory, folder, *peers):
     # A program that uses several threads has one processor too, so that its time is comparable.
     os.sched_setaffinity(0, {max(os.sched_getaffinity(0))})
     print(f"{WIDTH}x{HEIGHT}, the best of {ROUNDS}, load {load()} of {os.cpu_count()} processors")
     all_files = list(files(folder))
-    time_programs(list(programs(jpegraw, thumbnail, peers)), all_files)
+    time_programs(list(programs(jpegraw, jpeg2pnm, peers)), all_files)
     print(f"load {load()}\n")
     time_memory(list(memory_programs(bench_memory, peers)), all_files)
     print(f"load {load()}")

@@ -1,13 +1,15 @@
 """Compares jpegraw with another program of the same output, byte for byte, on files of many kinds.
 
-against.py JPEGRAW THUMBNAIL FRAMES PEER: PEER reads a JPEG stream and writes what jpegraw writes, for example a program of the original
-crate. The pixels of THUMBNAIL at each scale are compared with those of `PEER --scale WIDTHxHEIGHT`, and those of FRAMES, the program
+against.py JPEGRAW JPEG2PNM FRAMES PEER: PEER reads a JPEG stream and writes what jpegraw writes, for example a program of the original
+crate. The pixels of JPEG2PNM at each scale are compared with those of `PEER --scale WIDTHxHEIGHT`, and those of FRAMES, the program
 mjpeg_frames, with those of PEER for each frame. The status is 1 where one of them refuses a file that the other decodes, or where their
 outputs differ.
 """
 
 import subprocess
 import sys
+import tempfile
+from pathlib import Path
 
 from damaged import damaged
 from streams import CODINGS, FEW_SIZES, SAMPLINGS, drawn, groups, mjpeg_frames, output_of
@@ -19,30 +21,33 @@ def answer_of(words, stream):
     return done.returncode != 0, done.stdout
 
 
-def scaled_answers(thumbnail, peer, size, stream):
-    """The pixels of both programs for a picture that reaches a size; a header of the netpbm formats has three lines."""
-    ours, picture = answer_of([thumbnail, *map(str, size)], stream)
+def scaled_answers(jpeg2pnm, peer, scale, size, stream):
+    """The pixels of both programs for a picture at a scale; a header of the netpbm formats has three lines."""
+    ours, picture = answer_of([jpeg2pnm, "--scale", scale], stream)
     theirs, raw = answer_of([peer, "--scale", "%dx%d" % size], stream)
     return (ours, picture.split(b"\n", 3)[-1]), (theirs, raw.split(b"\n", 1)[-1])
 
 
-def scaled(thumbnail, peer):
+def scaled(jpeg2pnm, peer):
     """The answers of both programs at each scale."""
     for name, picture in drawn(FEW_SIZES):
         width, height = map(int, picture.split(b"\n", 2)[1].split())
         for sampling in SAMPLINGS:
             for coding in ("plain", "progressive"):
                 stream = output_of(["cjpeg", "-sample", sampling, *CODINGS[coding]], picture)
-                for scale in (1, 2, 4, 8):
+                for scale, name_of_scale in ((1, "1/8"), (2, "1/4"), (4, "1/2"), (8, "1")):
                     size = -(-width * scale // 8), -(-height * scale // 8)
-                    yield f"{name}; {sampling}; {coding}; {scale}/8", *scaled_answers(thumbnail, peer, size, stream)
+                    yield f"{name}; {sampling}; {coding}; {scale}/8", *scaled_answers(jpeg2pnm, peer, name_of_scale, size, stream)
 
 
 def as_one_stream(frames_program, peer):
     """The answers for all MJPEG frames, one after the other and one by one."""
     frames = [stream for _, stream in mjpeg_frames()]
-    theirs = [answer_of([peer], frame) for frame in frames]
-    yield "all frames", answer_of([frames_program, "pixels"], b"".join(frames)), (False, b"".join(text for _, text in theirs))
+    theirs = [answer_of([peer], frame)[1].split(b"\n", 1)[1] for frame in frames]
+    with tempfile.TemporaryDirectory() as folder:
+        refused, _ = answer_of([frames_program, "-o", f"{folder}/%04d.ppm"], b"".join(frames))
+        ours = [path.read_bytes().split(b"\n", 3)[3] for path in sorted(Path(folder).iterdir())]
+    yield "all frames", (refused, ours), (False, theirs)
 
 
 def counted(title, answers):
@@ -58,12 +63,12 @@ def counted(title, answers):
     return differing
 
 
-def main(jpegraw, thumbnail, frames_program, peer):
+def main(jpegraw, jpeg2pnm, frames_program, peer):
     differing = 0
     for title, files in [*groups(), ("damaged files", damaged())]:
         answers = ((name, answer_of([jpegraw], stream), answer_of([peer], stream)) for name, stream in files)
         differing += counted(title, answers)
-    differing += counted("scales", scaled(thumbnail, peer))
+    differing += counted("scales", scaled(jpeg2pnm, peer))
     differing += counted("MJPEG frames as one stream", as_one_stream(frames_program, peer))
     return 1 if differing else 0
 

@@ -102,7 +102,7 @@ def of_profiles(jpeginfo):
             file.write(profile)
             file.flush()
             stream = output_of(["cjpeg", "-icc", file.name], ppm("checks", 17, 9))
-        done = subprocess.run([jpeginfo, "icc"], input=stream, capture_output=True)
+        done = subprocess.run([jpeginfo, "--icc", "-"], input=stream, capture_output=True)
         equal += done.returncode == 0 and done.stdout == profile
     print(f"ICC profiles: {equal} of {len(PROFILE_SIZES)} are the same bytes")
     return len(PROFILE_SIZES) - equal
@@ -119,7 +119,7 @@ def of_metadata(jpeginfo):
             output_of(["exiftool", "-overwrite_original_in_place", *tags, file.name], b"")
             for word in ("exif", "xmp"):
                 with open(file.name, "rb") as stdin:
-                    ours = subprocess.run([jpeginfo, word], stdin=stdin, capture_output=True).stdout
+                    ours = subprocess.run([jpeginfo, f"--{word}", "-"], stdin=stdin, capture_output=True).stdout
                 total += 1
                 equal += ours != b"" and ours == output_of(["exiftool", "-b", f"-{word.upper()}", file.name], b"")
     print(f"Exif and XMP data: {equal} of {total} are the bytes that exiftool gives")

@@ -1,4 +1,4 @@
-"""Files of `thumbnail`, read back by netpbm's tools and by ImageMagick: each sample is the one that was coded.
+"""Files of `jpeg2pnm`, read back by netpbm's tools and by ImageMagick: each sample is the one that was coded.
 
 netpbm.py [THUMBNAIL]. Lossless streams of each precision from 2 to 16 bits and of 1, 3 and 4 components come from
 lossless_encoder.py, DCT streams from cjpeg. At quality 100, and where each block has one value, a DCT stream has the
@@ -50,7 +50,7 @@ def enlarged(planes, side, width, height):
 
 
 def lossless_files(chance):
-    """For each file its name, its stream, the arguments of `thumbnail`, its precision and its planes."""
+    """For each file its name, its stream, the arguments of `jpeg2pnm`, its precision and its planes."""
     for precision in range(2, 17):
         for count in KINDS:
             for interleaved in (True, False) if count > 1 else (False,):
@@ -81,10 +81,10 @@ def dct_files(chance):
         for progressive in (False, True):
             values = random_planes(count, 4, 3, 255, chance)
             stream = dct_stream(enlarged(values, 8, width, height), progressive)
-            for side in (1, 2, 4, 8):
+            for side, scale in ((1, "1/8"), (2, "1/4"), (4, "1/2"), (8, "1")):
                 size = -(-width * side // 8), -(-height * side // 8)
                 name = f"{'progressive' if progressive else 'sequential'}, {count} components, {side}/8"
-                yield name, stream, [str(length) for length in size], 8, enlarged(values, side, *size)
+                yield name, stream, ["--scale", scale], 8, enlarged(values, side, *size)
 
 
 def read_by_netpbm(path):
@@ -102,9 +102,9 @@ def read_by_imagemagick(path, count, most):
     return [(2 * value * most + 65535) // (2 * 65535) for value in wide]
 
 
-def faults_of(thumbnail, path, stream, arguments, precision, planes):
-    """What differs in the file that `thumbnail` writes for a stream."""
-    path.write_bytes(output_of(thumbnail, *arguments, stdin=stream))
+def faults_of(jpeg2pnm, path, stream, arguments, precision, planes):
+    """What differs in the file that `jpeg2pnm` writes for a stream."""
+    path.write_bytes(output_of(jpeg2pnm, *arguments, stdin=stream))
     count, most, samples = len(planes), (1 << precision) - 1, pixels_of(planes)
     head = [KINDS[count], len(planes[0][0]), len(planes[0]), count, most, TUPLE_TYPES[count]]
     said, read = read_by_netpbm(path)
@@ -116,7 +116,7 @@ def faults_of(thumbnail, path, stream, arguments, precision, planes):
         yield "ImageMagick reads other samples"
 
 
-def main(thumbnail):
+def main(jpeg2pnm):
     chance, faulty = random.Random(1), []
     with tempfile.TemporaryDirectory() as folder:
         for title, files in (("lossless", lossless_files(chance)), ("DCT", dct_files(chance))):
@@ -125,7 +125,7 @@ def main(thumbnail):
                 total += 1
                 samples += len(pixels_of(rest[-1]))
                 try:
-                    faulty += [f"{name}: {fault}" for fault in faults_of(thumbnail, Path(folder) / "file", *rest)]
+                    faulty += [f"{name}: {fault}" for fault in faults_of(jpeg2pnm, Path(folder) / "file", *rest)]
                 except subprocess.CalledProcessError as error:
                     faulty.append(f"{name}: {error.cmd[0]}: {error.stderr.decode().strip()}")
             print(f"{title}: {total} files, {samples} samples", flush=True)
@@ -139,4 +139,4 @@ if __name__ == "__main__":
         if shutil.which(program) is None:
             sys.exit(f"netpbm.py: {program} is missing; Debian's package {package} has it")
     top = Path(__file__).resolve().parent.parent
-    sys.exit(main(*sys.argv[1:] or [top / "crates/thumbnail/out/thumbnail"]))
+    sys.exit(main(*sys.argv[1:] or [top / "crates/jpeg2pnm/out/jpeg2pnm"]))

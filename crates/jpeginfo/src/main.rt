@@ -1,162 +1,163 @@
-//! Says what the JPEG stream on standard input is: `jpeginfo < photo.jpg` reads its header alone
-//! and writes a line `WIDTH HEIGHT FORMAT PROCESS`, such as `4000 3000 RGB24 progressive`.
+//! Says what a JPEG file is: `jpeginfo photo.jpg` reads its segments up to the first scan and
+//! writes lines `key: value`, or one object of JSON with `--json`.
 //!
-//! `jpeginfo exif`, `jpeginfo xmp` and `jpeginfo icc` write the data of that kind as they stand in
-//! the stream: Exif data from their TIFF header on, XMP data as text, and the ICC profile joined of
-//! its parts. The stream is read to its end, since such data may stand anywhere in it; where it is
-//! refused, what stands before the fault is written all the same.
-//!
-//! A header that is refused, a stream without such data, or out of memory, is one line on standard
-//! error, and the status is then 1. Other arguments are refused by a line on their use, and the
-//! status 2.
+//! `--exif FILE`, `--xmp FILE` and `--icc FILE` write data of that kind as they stand in the
+//! stream: Exif data from their TIFF header on, XMP data as text, and the ICC profile joined of its
+//! parts. Where the header hasn't all of them the stream is read to its end, since such data may
+//! stand anywhere in it; where it is refused, what stands before the fault is written all the same.
 #![tactic(auto)]
 
-use jpeg_decoder::error::{Error, Result};
-use jpeg_decoder::parser::CodingProcess;
-use jpeg_decoder::{ByteReader, Decoder, ImageInfo};
+mod description;
+mod header;
+mod metadata;
+
+use clap::{Arg, ArgAction, ArgMatches, Command};
+use description::{json_of, lines_of};
+use header::read_header;
+use jpeg_decoder::Decoder;
+use jpeg_decoder::error::Result;
+use jpeg_programs::files::Output;
+use jpeg_programs::{arguments, files};
+use metadata::{KINDS, Kind, is_read, write_data};
 use std::alloc::{AllocError, Global};
-use std::env;
-use std::env::Args;
-use std::io::{BufReader, ErrorKind, Read, Write};
+use std::io::{Read, Write};
 use std::process::ExitCode;
 
-/// What the arguments ask for.
-#[derive(Clone, Copy)]
-enum Request {
-    Header,
-    Exif,
-    Xmp,
-    Icc,
+const NAME: &str = "jpeginfo";
+
+const ABOUT: &str = "Says what a JPEG file is, and takes its Exif, XMP and ICC data out of it";
+
+/// Returns an option that names the file for data of a kind.
+fn data_option<'a>(alloc: Global, name: &'a str, help: &'a str) -> Arg<'a> {
+    Arg::new(alloc, name)
+        .long(name)
+        .value_name("FILE")
+        .help(help)
 }
 
-/// What the arguments ask for, unless they are none that the program takes.
-fn request_of(mut arguments: Args) -> Option<Request> {
-    let _program = arguments.next();
-    let Some(word) = arguments.next() else {
-        return Some(Request::Header);
-    };
-    if arguments.next().is_some() {
-        return None;
-    }
-    match word.as_str() {
-        "exif" => Some(Request::Exif),
-        "xmp" => Some(Request::Xmp),
-        "icc" => Some(Request::Icc),
-        _ => None,
-    }
+/// Returns what the program takes.
+fn command<'a>(alloc: Global) -> std::result::Result<Command<'a>, AllocError> {
+    let json = Arg::new(alloc, "json")
+        .long("json")
+        .action(ArgAction::SetTrue)
+        .help("Write JSON in place of lines");
+    arguments::reading(alloc, NAME, ABOUT)?
+        .arg(arguments::output_option(
+            alloc,
+            "The file for the description; - or none is standard output",
+        ))?
+        .arg(json)?
+        .arg(data_option(
+            alloc,
+            "exif",
+            "Write the Exif data to FILE, and nothing else",
+        ))?
+        .arg(data_option(alloc, "xmp", "Write the XMP data to FILE, and nothing else"))?
+        .arg(data_option(
+            alloc,
+            "icc",
+            "Write the ICC profile to FILE, and nothing else",
+        ))
 }
 
-/// The name of a process in the line.
-fn process_name(process: CodingProcess) -> &'static str {
-    match process {
-        CodingProcess::DctSequential => "sequential",
-        CodingProcess::DctProgressive => "progressive",
-        CodingProcess::Lossless => "lossless",
-    }
-}
-
-/// The line that says what a picture is.
-fn line_of(alloc: Global, info: ImageInfo) -> std::result::Result<String, AllocError> {
-    let width = info.width;
-    let height = info.height;
-    let format = info.pixel_format;
-    let process = process_name(info.coding_process);
-    format!(in alloc; "{width} {height} {format:?} {process}\n")
-}
-
-/// Writes the line of the picture, and reads no further than its header.
-fn write_header<R: Read + Drop, W: Write>(
+/// Writes what the header of a stream says.
+fn describe<R: Read + Drop, W: Write>(
     alloc: Global,
     reader: R,
+    is_json: bool,
     writer: &mut W,
-) -> Result<bool> {
-    let mut decoder = Decoder::new(alloc, reader)?;
-    decoder.read_info()?;
-    if let Some(info) = decoder.info() {
-        writer.write_all(line_of(alloc, info)?.as_bytes())?;
+) -> Result<()> {
+    let header = read_header(alloc, reader)?;
+    if is_json {
+        writer.write_all(json_of(alloc, &header)?.as_slice())?;
+    } else {
+        writer.write_all(lines_of(alloc, &header)?.as_bytes())?;
+    }
+    Ok(())
+}
+
+/// Returns whether a decoder has read all data that are asked for.
+fn has_all<R: Read + Drop>(decoder: &Decoder<R>, matches: &ArgMatches<'_>) -> Result<bool> {
+    for kind in KINDS {
+        if matches.contains_id(kind.option()) && !is_read(decoder, kind)? {
+            return Ok(false);
+        }
     }
     Ok(true)
 }
 
-/// Reads the whole stream. Its picture is decoded at 1/8 of its size, for nobody asks for it.
-fn read_all<R: Read + Drop>(decoder: &mut Decoder<R>) -> Result<()> {
+/// Reads a stream as far as the data that are asked for take it. A picture is decoded at 1/8 of its
+/// size, for nobody asks for it.
+fn read_data<R: Read + Drop>(decoder: &mut Decoder<R>, matches: &ArgMatches<'_>) -> Result<()> {
     decoder.scale(1, 1)?;
-    let _pixels = decoder.decode()?;
+    if !has_all(decoder, matches)? {
+        let _pixels = decoder.decode()?;
+    }
     Ok(())
 }
 
-/// Writes data, and says whether there are any.
-fn write_data<W: Write>(data: Option<&[u8]>, writer: &mut W) -> Result<bool> {
-    match data {
-        Some(bytes) => {
-            writer.write_all(bytes)?;
-            Ok(true)
+/// Writes the data of a kind that a decoder has read to a file. Where there are none that is said,
+/// or why the stream was refused before them.
+fn extract_kind<R: Read + Drop>(
+    rt: HostRuntime,
+    decoder: &Decoder<R>,
+    outcome: &Result<()>,
+    kind: Kind,
+    matches: &ArgMatches<'_>,
+) -> std::result::Result<(), u8> {
+    let input = arguments::file_of(matches, "FILE");
+    let mut output = Output::new(rt, arguments::file_of(matches, kind.option()));
+    match (write_data(decoder, kind, &mut output), outcome) {
+        (Ok(true), _) => Ok(()),
+        (Ok(false), Ok(())) => Err(files::report(&rt, NAME, input, &kind.absence())),
+        (Ok(false), Err(error)) => Err(files::report(&rt, NAME, input, error)),
+        (Err(error), _) => files::finish(&rt, NAME, input, &output, Err(error)),
+    }
+}
+
+/// Writes all data that are asked for, as far as there are any.
+fn extract<R: Read + Drop>(
+    rt: HostRuntime,
+    mut decoder: Decoder<R>,
+    matches: &ArgMatches<'_>,
+) -> std::result::Result<(), u8> {
+    let outcome = read_data(&mut decoder, matches);
+    let mut extracted = Ok(());
+    for kind in KINDS {
+        if matches.contains_id(kind.option()) {
+            let written = extract_kind(rt, &decoder, &outcome, kind, matches);
+            if written.is_err() {
+                extracted = written;
+            }
         }
-        None => Ok(false),
     }
+    extracted
 }
 
-/// Writes what is asked for, and says whether the stream has it. Where the stream is refused and
-/// didn't have it before, that refusal is the answer.
-fn write_answer<R: Read + Drop, W: Write>(
-    alloc: Global,
-    reader: R,
-    request: Request,
-    writer: &mut W,
-) -> Result<bool> {
-    let mut decoder = Decoder::new(alloc, reader)?;
-    let outcome = read_all(&mut decoder);
-    let is_there = match request {
-        Request::Header => false,
-        Request::Exif => write_data(decoder.exif_data(), writer)?,
-        Request::Xmp => write_data(decoder.xmp_data(), writer)?,
-        Request::Icc => match decoder.icc_profile()? {
-            Some(profile) => write_data(Some(profile.as_slice()), writer)?,
-            None => false,
-        },
+/// Returns whether data are asked for, and not a description.
+fn is_extraction(matches: &ArgMatches<'_>) -> bool {
+    KINDS.iter().any(|kind| matches.contains_id(kind.option()))
+}
+
+/// Does what the arguments ask for.
+fn run(rt: HostRuntime) -> std::result::Result<(), u8> {
+    let words = arguments::words(&rt, NAME)?;
+    let Some(matches) = arguments::parse(&rt, command(rt.alloc()), words.as_slice())? else {
+        return Ok(());
     };
-    if is_there {
-        Ok(true)
-    } else {
-        outcome.map(|_| false)
-    }
-}
-
-/// Reports in one line on standard error why the program ended, and returns its status.
-fn report(rt: &impl Eprint, error: &Error) -> ExitCode {
-    let _ = eprintln!(rt; "jpeginfo: {error}");
-    ExitCode::from(1)
+    let input = arguments::file_of(&matches, "FILE");
+    let mut output = Output::new(rt, arguments::file_of(&matches, "output"));
+    let outcome = match files::open(&rt, input) {
+        Ok(reader) if is_extraction(&matches) => match Decoder::new(rt.alloc(), reader) {
+            Ok(decoder) => return extract(rt, decoder, &matches),
+            Err(error) => Err(error),
+        },
+        Ok(reader) => describe(rt.alloc(), reader, matches.get_flag("json"), &mut output),
+        Err(error) => Err(error),
+    };
+    files::finish(&rt, NAME, input, &output, outcome)
 }
 
 fn main(rt: HostRuntime) -> ExitCode {
-    let request = match env::args(&rt) {
-        Ok(arguments) => request_of(arguments),
-        Err(error) if error.kind() == ErrorKind::OutOfMemory => {
-            return report(&rt, &Error::OutOfMemory);
-        }
-        // An argument that isn't UTF-8.
-        Err(_) => None,
-    };
-    let Some(request) = request else {
-        let _ = eprintln!(rt; "usage: jpeginfo [exif | xmp | icc] < photo.jpg");
-        return ExitCode::from(2);
-    };
-    let outcome = match BufReader::new(rt.alloc(), rt.stdin()) {
-        Ok(reader) => match request {
-            Request::Header => write_header(rt.alloc(), reader, &mut rt.stdout()),
-            _ => {
-                let reader = ByteReader::new(reader);
-                write_answer(rt.alloc(), reader, request, &mut rt.stdout())
-            }
-        },
-        Err(error) => Err(Error::Io(error)),
-    };
-    match outcome {
-        Ok(true) => ExitCode::SUCCESS,
-        Ok(false) => {
-            let _ = eprintln!(rt; "jpeginfo: the stream has no such data");
-            ExitCode::from(1)
-        }
-        Err(error) => report(&rt, &error),
-    }
+    arguments::exit_code(run(rt))
 }

@@ -1,161 +1,164 @@
-//! Decodes the frames of the MJPEG stream on standard input, JPEG images one after the other:
-//! `mjpeg_frames < stream.mjpeg` writes for each a line `NUMBER WIDTH HEIGHT FORMAT`, numbered from
-//! 1; `mjpeg_frames pixels < stream.mjpeg` a line `WIDTH HEIGHT FORMAT` and then its pixels, as
-//! `jpegraw`.
+//! Decodes the frames of an MJPEG stream, JPEG images one after the other.
+//!
+//! `mjpeg_frames stream.mjpeg -o frame-%04d.ppm` writes each frame as a netpbm file: the number of
+//! the frame, from 1, takes the place of `%04d` in the file's name, with as many digits at least.
+//! Without a `%` in the name, and without `-o`, the frames' pixels are written one after the other
+//! into one file or to standard output: what `ffmpeg` calls rawvideo, of the pixel format gray,
+//! gray16le or rgb24. All frames are then of one size and format. `--list` writes a line `NUMBER
+//! WIDTH HEIGHT FORMAT` for each frame in place of its pixels.
 //!
 //! `decode` reads no byte after the end of an image, so one reader is lent to a decoder for each
-//! frame. The first byte of a frame is read before, since the stream ends where there is none.
-//!
-//! A frame that is refused ends the program: its number and what was wrong are one line on standard
-//! error, and the status is then 1. The frames before it are written. Where these can't be written,
-//! or the program can't start for want of memory, the line names no frame. Other arguments are
-//! refused by a line on their use, and the status 2.
+//! frame. The first byte of a frame is read before, since the stream ends where there is none. A
+//! frame that is refused ends the program; the frames before it are written.
 #![tactic(auto)]
 
+mod frames;
+mod names;
+
+use clap::{Arg, ArgAction, Command};
+use frames::{Refusal, next_frame};
+use jpeg_decoder::ImageInfo;
 use jpeg_decoder::error::{Error, Result};
-use jpeg_decoder::{ByteReader, Decoder, ImageInfo};
-use std::alloc::Global;
-use std::env::Args;
-use std::io::{BufReader, ErrorKind, Read, Write};
+use jpeg_programs::files::{InputReader, Output};
+use jpeg_programs::netpbm::{Picture, write_picture};
+use jpeg_programs::{arguments, files};
+use names::Pattern;
+use std::alloc::{AllocError, Global};
+use std::io::Write;
 use std::process::ExitCode;
-use std::{env, fmt, io};
 
-/// What is written of each frame.
+const NAME: &str = "mjpeg_frames";
+
+const ABOUT: &str = "Decodes the frames of an MJPEG stream, JPEG images one after the other";
+
+const OUTPUT: &str = "The files to write, as frame-%04d.ppm; or one file of rawvideo; \
+    - or none is rawvideo on standard output";
+
+/// What is done, or the status of why it isn't, which was reported.
+type Outcome<T> = std::result::Result<T, u8>;
+
+/// Returns what the program takes.
+fn command<'a>(alloc: Global) -> std::result::Result<Command<'a>, AllocError> {
+    let list = Arg::new(alloc, "list")
+        .long("list")
+        .action(ArgAction::SetTrue)
+        .help("Write a line NUMBER WIDTH HEIGHT FORMAT for each frame in place of its pixels");
+    arguments::reading(alloc, NAME, ABOUT)?
+        .arg(arguments::output_option(alloc, OUTPUT))?
+        .arg(list)
+}
+
+/// What is asked for: a stream, and what is done with its frames.
 #[derive(Clone, Copy)]
-enum Request {
-    Lines,
-    Pixels,
+struct Job<'a> {
+    rt: HostRuntime,
+    input: Option<&'a str>,
+    output: Option<&'a str>,
+    is_list: bool,
 }
 
-/// Returns what the arguments ask for, unless they are none that the program takes.
-fn request_of(mut arguments: Args) -> Option<Request> {
-    let _program = arguments.next();
-    let Some(word) = arguments.next() else {
-        return Some(Request::Lines);
-    };
-    if word.as_str() == "pixels" && arguments.next().is_none() {
-        Some(Request::Pixels)
-    } else {
-        None
-    }
-}
-
-/// Why the program ended early.
-#[derive(Drop)]
-enum Refusal {
-    /// The frame of this number can't be decoded.
-    Frame(u64, Error),
-    /// What was decoded can't be written, or the program can't start.
-    Outside(Error),
-}
-
-impl fmt::Display for Refusal {
-    fn fmt<W: fmt::Write>(&self, f: &mut fmt::Formatter<W>) -> fmt::Result {
-        match self {
-            Refusal::Frame(number, error) => write!(f, "frame {number}: {error}"),
-            Refusal::Outside(error) => write!(f, "{error}"),
+impl<'a> Job<'a> {
+    /// Decodes the next frame, where the bytes go on. A frame that is refused is reported.
+    fn next(&self, reader: &mut InputReader, number: u64) -> Outcome<Option<Picture>> {
+        match next_frame(self.rt.alloc(), reader, number) {
+            Ok(frame) => Ok(frame),
+            Err(refusal) => Err(files::report(&self.rt, NAME, self.input, &refusal)),
         }
     }
-}
 
-/// A frame that was decoded.
-#[derive(Drop)]
-struct Frame {
-    info: ImageInfo,
-    pixels: Vec<u8>,
-}
-
-/// Decodes the frame that the reader gives.
-fn decode_frame<R: Read + Drop>(alloc: Global, reader: R) -> Result<Frame> {
-    let mut decoder = Decoder::new(alloc, reader)?;
-    let pixels = decoder.decode()?;
-    let info = decoder.info().unwrap();
-    Ok(Frame { info, pixels })
-}
-
-/// Decodes the next frame, where the bytes go on.
-fn next_frame<R: Read + Drop>(alloc: Global, reader: &mut R) -> Result<Option<Frame>> {
-    let mut first = [0u8];
-    if reader.read(&mut first)? == 0 {
-        return Ok(None);
+    /// Writes a frame as a file of its own.
+    fn write_file(&self, name: &str, frame: Picture) -> Outcome<()> {
+        let mut output = Output::new(self.rt, Some(name));
+        let written = write_picture(self.rt.alloc(), frame, &mut output);
+        files::finish(&self.rt, NAME, self.input, &output, written)
     }
-    let frame = decode_frame(alloc, io::repeat(first[0]).take(1).chain(reader))?;
-    Ok(Some(frame))
-}
 
-/// Writes what is asked for of a frame.
-fn write_frame<W: Write>(
-    alloc: Global,
-    number: u64,
-    frame: &Frame,
-    request: Request,
-    writer: &mut W,
-) -> io::Result<()> {
-    let width = frame.info.width;
-    let height = frame.info.height;
-    let format = frame.info.pixel_format;
-    match request {
-        Request::Lines => {
-            let line = format!(in alloc; "{number} {width} {height} {format:?}\n")?;
-            writer.write_all(line.as_bytes())
-        }
-        Request::Pixels => {
-            let line = format!(in alloc; "{width} {height} {format:?}\n")?;
-            writer.write_all(line.as_bytes())?;
-            writer.write_all(frame.pixels.as_slice())
-        }
-    }
-}
-
-/// Writes what is asked for of each frame to the end of the bytes.
-fn write_frames<R: Read + Drop, W: Write>(
-    alloc: Global,
-    reader: &mut R,
-    request: Request,
-    writer: &mut W,
-) -> std::result::Result<(), Refusal> {
-    for number in 1..u64::MAX {
-        match next_frame(alloc, &mut *reader) {
-            Ok(Some(frame)) => {
-                if let Err(error) = write_frame(alloc, number, &frame, request, writer) {
-                    return Err(Refusal::Outside(Error::Io(error)));
+    /// Writes each frame as a file of its own.
+    fn write_files(&self, reader: &mut InputReader, pattern: Pattern<'_>) -> Outcome<()> {
+        for number in 1..u64::MAX {
+            let Some(frame) = self.next(reader, number)? else {
+                break;
+            };
+            match pattern.name_of(self.rt.alloc(), number) {
+                Ok(name) => self.write_file(name.as_str(), frame)?,
+                Err(error) => {
+                    let error = Error::from(error);
+                    return Err(files::report(&self.rt, NAME, self.input, &error));
                 }
             }
-            Ok(None) => break,
-            Err(error) => return Err(Refusal::Frame(number, error)),
         }
+        Ok(())
     }
+
+    /// Writes what is asked for of each frame to one file.
+    fn write_stream(&self, reader: &mut InputReader) -> Outcome<()> {
+        let mut output = Output::new(self.rt, self.output);
+        let mut first: Option<ImageInfo> = None;
+        for number in 1..u64::MAX {
+            let Some(frame) = self.next(reader, number)? else {
+                break;
+            };
+            if !self.is_list && first.is_some() && first != Some(frame.info) {
+                return Err(files::report(&self.rt, NAME, self.input, &Refusal::Other(number)));
+            }
+            first = Some(frame.info);
+            let written = if self.is_list {
+                write_line(self.rt.alloc(), number, frame.info, &mut output)
+            } else {
+                write_pixels(&frame, &mut output)
+            };
+            files::finish(&self.rt, NAME, self.input, &output, written)?;
+        }
+        Ok(())
+    }
+}
+
+/// Writes the line of a frame.
+fn write_line<W: Write>(alloc: Global, number: u64, info: ImageInfo, writer: &mut W) -> Result<()> {
+    let width = info.width;
+    let height = info.height;
+    let format = info.pixel_format;
+    let line = format!(in alloc; "{number} {width} {height} {format:?}\n")?;
+    writer.write_all(line.as_bytes())?;
     Ok(())
 }
 
-/// Reports in one line on standard error why the program ended, and returns its status.
-fn report(rt: &impl Eprint, refusal: &Refusal) -> ExitCode {
-    let _ = eprintln!(rt; "mjpeg_frames: {refusal}");
-    ExitCode::from(1)
+/// Writes the pixels of a frame.
+fn write_pixels<W: Write>(frame: &Picture, writer: &mut W) -> Result<()> {
+    writer.write_all(frame.pixels.as_slice())?;
+    Ok(())
+}
+
+/// Decodes the stream that the arguments name.
+fn run(rt: HostRuntime) -> Outcome<()> {
+    let words = arguments::words(&rt, NAME)?;
+    let Some(matches) = arguments::parse(&rt, command(rt.alloc()), words.as_slice())? else {
+        return Ok(());
+    };
+    let input = arguments::file_of(&matches, "FILE");
+    let output = arguments::file_of(&matches, "output");
+    let job = Job {
+        rt,
+        input,
+        output,
+        is_list: matches.get_flag("list"),
+    };
+    let mut reader = match files::open(&rt, input) {
+        Ok(reader) => reader,
+        Err(error) => return Err(files::report(&rt, NAME, input, &error)),
+    };
+    let Some(name) = output else {
+        return job.write_stream(&mut reader);
+    };
+    if job.is_list || !name.contains('%') {
+        return job.write_stream(&mut reader);
+    }
+    match Pattern::new(name) {
+        Some(pattern) => job.write_files(&mut reader, pattern),
+        None => Err(arguments::refuse_value(&rt, NAME, "--output", "one %d or %04d in the name")),
+    }
 }
 
 fn main(rt: HostRuntime) -> ExitCode {
-    let request = match env::args(&rt) {
-        Ok(arguments) => request_of(arguments),
-        Err(error) if error.kind() == ErrorKind::OutOfMemory => {
-            return report(&rt, &Refusal::Outside(Error::OutOfMemory));
-        }
-        // An argument that isn't UTF-8.
-        Err(_) => None,
-    };
-    let Some(request) = request else {
-        let _ = eprintln!(rt; "usage: mjpeg_frames [pixels] < stream.mjpeg");
-        return ExitCode::from(2);
-    };
-    let outcome = match BufReader::new(rt.alloc(), rt.stdin()) {
-        Ok(reader) => {
-            let mut reader = ByteReader::new(reader);
-            write_frames(rt.alloc(), &mut reader, request, &mut rt.stdout())
-        }
-        Err(error) => Err(Refusal::Outside(Error::Io(error))),
-    };
-    match outcome {
-        Ok(()) => ExitCode::SUCCESS,
-        Err(refusal) => report(&rt, &refusal),
-    }
+    arguments::exit_code(run(rt))
 }

@@ -1,2 +1,1 @@
-mod Pictures
-mod Turned
+mod WrittenThumbnails

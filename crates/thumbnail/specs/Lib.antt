@@ -1,2 +1,2 @@
-pub mod Netpbm
 pub mod Thumbnails
+pub mod Turns

@@ -1,9 +1,9 @@
-//! Writes the picture of the JPEG stream on standard input to standard output, as a file that the
-//! netpbm tools and most viewers read: `thumbnail WIDTH HEIGHT < photo.jpg > thumb.ppm`.
+//! Writes a small picture of a JPEG file, which the netpbm tools and most viewers read:
+//! `thumbnail --max 640x480 photo.jpg -o thumb.ppm`.
 //!
-//! The picture is the least of 1/8, 1/4, 1/2 and all of its size that is as wide as WIDTH or as
-//! high as HEIGHT (`Decoder::scale`); where none is, all of it. Without arguments it is all of the
-//! picture. Its format decides the file's:
+//! The picture is the greatest of 1/8, 1/4, 1/2 and all of its size that fits within `--max`, and
+//! 1/8 where none fits. It is turned upright by the orientation in its Exif data, as it is shown,
+//! unless `--as-stored` is given. Its format decides the file's:
 //!
 //! - `L8` and `L16`: a grey picture, PGM (`P5`).
 //! - `RGB24`: PPM (`P6`).
@@ -13,111 +13,107 @@
 //! (`Decoder::precision`): 255 for sequential and progressive pictures, and 3 to 65535 for lossless
 //! ones, of 2 to 16 bits. A sample is one byte up to 8 bits, and two bytes above, the higher byte
 //! first.
-//!
-//! A refusal, or out of memory, is one line on standard error, and the status is then 1. Where the
-//! arguments aren't two numbers of at most 65535, their use is written to standard error, and the
-//! status is 2.
 #![tactic(auto)]
 
-ghost use Rattle.std.specs.Prelude.{◌≡◌, List, ℕ, IfOk, OnOk, Some, IsSomeAnd};
-ghost use Rattle.std.specs.Io.KnownBytes.{Appends};
+ghost use Rattle.std.specs.Prelude.{List, ℕ, OnOk};
 ghost use Rattle.jpeg_streams.specs.Output.{Tells};
-ghost use Rattle.thumbnail.specs.Thumbnails.{decoded, file_at, picture_at};
+ghost use Rattle.thumbnail.specs.Thumbnails.{WritesThumbnail};
 
-mod netpbm;
+mod turns;
 
-use jpeg_decoder::error::{Error, Result};
+use clap::{Arg, ArgAction, ArgMatches, Command};
+use jpeg_decoder::error::Result;
 use jpeg_decoder::parser::Dimensions;
-use jpeg_decoder::{ByteReader, Decoder};
-use netpbm::{Picture, write_picture};
-use std::alloc::Global;
-use std::env;
-use std::env::Args;
-use std::io::{BufReader, ErrorKind, Read, Write};
+use jpeg_programs::files::Output;
+use jpeg_programs::netpbm::write_picture;
+use jpeg_programs::pictures::{Request, Upright, read_picture};
+use jpeg_programs::{arguments, files};
+use std::alloc::{AllocError, Global};
+use std::io::{Read, Write};
 use std::process::ExitCode;
+use turns::upright;
 
-/// The size that asks for all of a picture.
-const FULL_SIZE: Dimensions = Dimensions {
-    width: u16::MAX,
-    height: u16::MAX,
-};
+const NAME: &str = "thumbnail";
 
-/// The size that the arguments ask for, unless they are none that the program takes.
-fn requested_size(mut arguments: Args) -> Option<Dimensions> {
-    let _program = arguments.next();
-    let Some(width) = arguments.next() else {
-        return Some(FULL_SIZE);
-    };
-    let height = arguments.next()?;
-    if arguments.next().is_some() {
-        return None;
-    }
+const ABOUT: &str = "Writes a small picture of a JPEG file as PGM, PPM or, of CMYK, PAM";
+
+const MAX: &str =
+    "The size that the picture is to fit within, as 640x480: it is the greatest of 1/8, \
+    1/4, 1/2 and all of its size that does, or 1/8";
+
+/// Returns what the program takes.
+fn command<'a>(alloc: Global) -> std::result::Result<Command<'a>, AllocError> {
+    let max = Arg::new(alloc, "max")
+        .long("max")
+        .value_name("WIDTHxHEIGHT")
+        .required(true)
+        .help(MAX);
+    let as_stored = Arg::new(alloc, "as-stored")
+        .long("as-stored")
+        .action(ArgAction::SetTrue)
+        .help("Don't turn the picture by the orientation in its Exif data");
+    arguments::reading(alloc, NAME, ABOUT)?
+        .arg(arguments::output_option(alloc, arguments::OUTPUT))?
+        .arg(max)?
+        .arg(as_stored)
+}
+
+/// Returns the size that a text `WIDTHxHEIGHT` names.
+fn size_of(text: &str) -> Option<Dimensions> {
+    let (width, height) = text.split_once('x')?;
     let width = width.parse::<u16>().ok()?;
     let height = height.parse::<u16>().ok()?;
+    if width == 0 || height == 0 {
+        return None;
+    }
     Some(Dimensions { width, height })
 }
 
-/// Decodes the stream that the reader gives at the scale for a size.
-fn read_picture<R: Read + Drop>(alloc: Global, reader: R, size: Dimensions) -> Result<Picture>
-    ensures { (bytes : List ℕ) → Tells (R.remaining reader) bytes
-        → IfOk result (λ made. picture_at size.width size.height bytes
-        ≡ Some (decoded made.info made.precision made.pixels.items)) }
-{
-    let mut decoder = Decoder::new(alloc, reader)?;
-    decoder.scale(size.width, size.height)?;
-    let pixels = decoder.decode()?;
-    let info = decoder.info().unwrap();
-    let precision = decoder.precision().unwrap();
-    Ok(Picture {
-        info,
-        precision,
-        pixels,
-    })
+/// Returns what is asked for, unless the size is none.
+fn request_of(matches: &ArgMatches<'_>) -> Option<Request> {
+    let most = size_of(matches.get_str("max")?)?;
+    let is_as_stored = matches.get_flag("as-stored");
+    let upright = if is_as_stored {
+        Upright::AsStored
+    } else {
+        Upright::Turned
+    };
+    Some(Request::Within(most, upright))
 }
 
-/// Decodes the stream that the reader gives, and writes its picture at the scale for a size.
+/// Decodes the stream that the reader gives, and writes the picture that is asked for.
 fn write_thumbnail<R: Read + Drop, W: Write>(
     alloc: Global,
     reader: R,
-    size: Dimensions,
+    request: Request,
     writer: &mut W,
 ) -> Result<()>
     ensures { (bytes : List ℕ) → Tells (R.remaining reader) bytes
-        → OnOk result (IsSomeAnd (file_at size.width size.height bytes)
-        (Appends (W.contents writer.old) (W.contents writer.new))) }
+        → OnOk result (WritesThumbnail bytes (W.contents writer.old) (W.contents writer.new)) }
 {
-    let picture = read_picture(alloc, reader, size)?;
+    let made = read_picture(alloc, reader, request)?;
+    let picture = upright(alloc, made.picture, made.orientation)?;
     write_picture(alloc, picture, writer)
 }
 
-/// Reports in one line on standard error why the program ended, and returns its status.
-fn report(rt: &impl Eprint, error: &Error) -> ExitCode {
-    let _ = eprintln!(rt; "thumbnail: {error}");
-    ExitCode::from(1)
+/// Writes the thumbnail of the file that the arguments name.
+fn run(rt: HostRuntime) -> std::result::Result<(), u8> {
+    let words = arguments::words(&rt, NAME)?;
+    let Some(matches) = arguments::parse(&rt, command(rt.alloc()), words.as_slice())? else {
+        return Ok(());
+    };
+    let Some(request) = request_of(&matches) else {
+        return Err(arguments::refuse_value(&rt, NAME, "--max", "WIDTHxHEIGHT, of 1 to 65535"));
+    };
+    let input = arguments::file_of(&matches, "FILE");
+    let mut output = Output::new(rt, arguments::file_of(&matches, "output"));
+    let outcome = match files::open(&rt, input) {
+        Ok(reader) => write_thumbnail(rt.alloc(), reader, request, &mut output),
+        Err(error) => Err(error),
+    };
+    files::finish(&rt, NAME, input, &output, outcome)
 }
 
 fn main(rt: HostRuntime) -> ExitCode {
-    let size = match env::args(&rt) {
-        Ok(arguments) => requested_size(arguments),
-        Err(error) if error.kind() == ErrorKind::OutOfMemory => {
-            return report(&rt, &Error::OutOfMemory);
-        }
-        // An argument that isn't UTF-8.
-        Err(_) => None,
-    };
-    let Some(size) = size else {
-        let _ = eprintln!(rt; "usage: thumbnail [WIDTH HEIGHT] < photo.jpg > thumb.ppm");
-        return ExitCode::from(2);
-    };
-    let outcome = match BufReader::new(rt.alloc(), rt.stdin()) {
-        Ok(reader) => {
-            let reader = ByteReader::new(reader);
-            write_thumbnail(rt.alloc(), reader, size, &mut rt.stdout())
-        }
-        Err(error) => Err(Error::Io(error)),
-    };
-    match outcome {
-        Ok(()) => ExitCode::SUCCESS,
-        Err(error) => report(&rt, &error),
-    }
+    arguments::exit_code(run(rt))
 }

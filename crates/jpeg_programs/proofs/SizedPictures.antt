@@ -1,5 +1,5 @@
 -- A header that was sized, and then the rest of its stream, are the picture of the stream.
-use Rattle.std.proofs.Common.{◌≡◌, ◌∙◌, ℕ, List, Result, Ok, Err, Option, Some, None, ap, option_map}
+use Rattle.std.proofs.Common.{◌≡◌, ◌∙◌, ℕ, List, Result, Ok, Err, Option, Some, None, ap, option_map, refl}
 use Rattle.jpeg_bits.specs.Reading.{Fault, Outcome}
 use Rattle.jpeg_streams.specs.Output.{default_settings}
 use Rattle.jpeg_streams.specs.Pixels.{info_of}
@@ -8,7 +8,9 @@ use Rattle.jpeg_streams.specs.Found.{Found}
 use Rattle.jpeg_streams.proofs.AcceptedTurns.{then-ok}
 use Rattle.jpeg_decoder.proofs.Headers.{bind-ok}
 use Rattle.jpeg_streams.specs.declared.images.ImageInfo.{ImageInfo}
-use Rattle.thumbnail.specs.Thumbnails.{decoded, picture_at}
+use Rattle.jpeg_programs.specs.ScaledPictures.{decoded, header_info, picture_at, picture_at_scale}
+use Rattle.jpeg_programs.specs.ScaledPictures.{requested_height, requested_width}
+use Rattle.jpeg_programs.specs.declared.pictures.Scale.{Scale}
 
 value_or : {Y : Type 0} → Y → Result Y Fault → Y
 value_or d (Ok y) = y
@@ -40,7 +42,7 @@ of_frame : {F : Type 0} (frame : Option F) (said : F → ImageInfo) (bits : F �
 of_frame (Some f) said bits pixels info precision hi hp = cc
 of_frame None said bits pixels info precision hi hp = absurd (cc)
 
-pub picture-some : (width height : ℕ) (bytes rest left : List ℕ) (found : Found) (told : Told) (pixels : List ℕ)
+picture-some : (width height : ℕ) (bytes rest left : List ℕ) (found : Found) (told : Told) (pixels : List ℕ)
     (info : ImageInfo) (precision : ℕ)
     → sized_header_at width height bytes ≡ Ok (found, rest)
     → rest_at default_settings found rest ≡ Ok ((told, pixels), left)
@@ -50,3 +52,23 @@ unfolding picture_at
 picture-some width height bytes rest left found told pixels info precision header picture hi hp =
     rw (picture_at, sized-rest width height bytes rest found header ∙ picture)
     (of_frame told.frame info_of (λ f. f.precision) pixels info precision hi hp)
+
+sized-header : (width height : ℕ) (bytes rest : List ℕ) (found : Found) → header_at bytes ≡ Ok (found, rest)
+    → sized_header_at width height bytes ≡ Ok (sized_to width height found, rest)
+unfolding sized_header_at
+sized-header width height bytes rest found e = then-ok (header_at bytes) _ (found, rest) _ e refl
+
+-- The header of a stream, what it says of the picture, and the rest at the size that asks for a scale, are the picture
+-- at that scale.
+pub picture-at-scale-some : (scale : Scale) (bytes rest left : List ℕ) (found : Found) (told : Told) (pixels : List ℕ)
+    (full info : ImageInfo) (precision : ℕ)
+    → header_at bytes ≡ Ok (found, rest) → option_map info_of found.frame ≡ Some full
+    → rest_at default_settings (sized_to (requested_width scale full) (requested_height scale full) found) rest
+    ≡ Ok ((told, pixels), left)
+    → option_map info_of told.frame ≡ Some info → option_map (λ f. f.precision) told.frame ≡ Some precision
+    → picture_at_scale scale bytes ≡ Some (decoded info precision pixels)
+unfolding picture_at_scale header_info
+picture-at-scale-some scale bytes rest left found told pixels full info precision header hf picture hi hp =
+    rw (picture_at_scale, header_info, header, hf) (picture-some (requested_width scale full) (requested_height scale full)
+    bytes rest left (sized_to (requested_width scale full) (requested_height scale full) found) told pixels info precision
+    (sized-header (requested_width scale full) (requested_height scale full) bytes rest found header) picture hi hp)

@@ -1,8 +1,8 @@
 //! Pictures as files of the netpbm formats PGM, PPM and PAM.
 ghost use Rattle.std.specs.Prelude.{◌≡◌, ◌++◌, ◌-◌, ◌^◌, IfOk, OnOk, string_bytes};
 ghost use Rattle.std.specs.Io.KnownBytes.{Appends};
-ghost use Rattle.thumbnail.specs.Netpbm.{file_of, header_in, higher_first, is_wide};
-ghost use Rattle.thumbnail.specs.Netpbm.{pam_header, plain_header, samples_in};
+ghost use Rattle.jpeg_programs.specs.Netpbm.{file_of, header_in, higher_first, is_wide};
+ghost use Rattle.jpeg_programs.specs.Netpbm.{pam_header, plain_header, samples_in};
 
 use jpeg_decoder::error::{Error, Result, UnsupportedFeature};
 use jpeg_decoder::{ImageInfo, PixelFormat};

@@ -3,7 +3,7 @@ use Rattle.std.proofs.Common.{◌≡◌, ◌∙◌, ℕ, zero, suc, ◌+◌, ◌
 use Rattle.std.proofs.Common.{set}
 use Rattle.std.specs.List.{swap}
 use Rattle.std.proofs.lemmas.Grind.{get_or_default_zero}
-use Rattle.thumbnail.specs.Netpbm.{first_turned}
+use Rattle.jpeg_programs.specs.Netpbm.{first_turned}
 
 -- two elements in each other's place
 abbrev swapped : List ℕ → ℕ → ℕ → List ℕ

@@ -1,6 +1,6 @@
 use Rattle.std.proofs.Common.{◌≡◌, length}
-use Rattle.thumbnail.specs.Netpbm.{first_turned}
-use Rattle.thumbnail.proofs.netpbm.put_higher_first.Given as goal
+use Rattle.jpeg_programs.specs.Netpbm.{first_turned}
+use Rattle.jpeg_programs.proofs.netpbm.put_higher_first.Given as goal
 
 abbrev pub invariant-loop-place : goal.invariant-loop-place
 invariant-loop-place l = (l.samples ≡ first_turned l.place l.initial.samples)

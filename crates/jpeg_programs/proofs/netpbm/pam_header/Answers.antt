@@ -1,5 +1,5 @@
 use Rattle.std.proofs.Common.{rules, append_assoc}
-use Rattle.thumbnail.proofs.netpbm.pam_header.Goals as goal
+use Rattle.jpeg_programs.proofs.netpbm.pam_header.Goals as goal
 
 pub returns : goal.returns
 returns c =

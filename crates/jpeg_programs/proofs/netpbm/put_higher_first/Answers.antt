@@ -1,7 +1,7 @@
 use Rattle.std.proofs.Common.{rules, refl, ◌∙◌, ◌+◌, ◌*◌, ◌<◌, length}
-use Rattle.thumbnail.specs.Netpbm.{first_turned}
-use Rattle.thumbnail.proofs.Turned.{one-more}
-use Rattle.thumbnail.proofs.netpbm.put_higher_first.Goals as goal
+use Rattle.jpeg_programs.specs.Netpbm.{first_turned}
+use Rattle.jpeg_programs.proofs.Turned.{one-more}
+use Rattle.jpeg_programs.proofs.netpbm.put_higher_first.Goals as goal
 
 pub loop-place-init : goal.loop-place-init
 unfolding first_turned

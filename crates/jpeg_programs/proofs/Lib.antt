@@ -1,0 +1,2 @@
+mod SizedPictures
+mod Turned

@@ -1,0 +1,2 @@
+pub mod Netpbm
+pub mod ScaledPictures

@@ -1,0 +1,76 @@
+-- Pictures turned upright by the orientation in their Exif data: where each byte comes from.
+use Rattle.std.specs.Prelude.{ℕ, zero, suc, ◌+◌, ◌-◌, ◌*◌, ◌/◌, ◌%◌, ◌==◌, ◌||◌, List, [], ◌∷◌, ◌++◌, length}
+use Rattle.std.specs.Prelude.{Bool, if◌then◌else◌, nat_lt, get_or}
+use Rattle.jpeg_streams.specs.declared.images.ImageInfo.{ImageInfo}
+use Rattle.jpeg_streams.specs.declared.images.PixelFormat.{PixelFormat}
+use Rattle.jpeg_streams.specs.declared.images.PixelFormat.TheVariants.{L8, L16, RGB24, CMYK32}
+use Rattle.jpeg_programs.specs.ScaledPictures.{Decoded, decoded}
+use Rattle.jpeg_programs.specs.declared.netpbm.Picture.{Picture}
+use Rattle.thumbnail.specs.declared.turns.Turn.{Turn}
+
+-- whether a picture lies on its side: the columns of the upright one are its lines
+abbrev pub is_on_side : ℕ → Bool
+is_on_side orientation = nat_lt 4 orientation
+
+-- whether the columns of the stored picture are in the other direction, and whether its lines are
+abbrev pub flips_x : ℕ → Bool
+flips_x o = o == 2 || (o == 3 || (o == 7 || o == 8))
+
+abbrev pub flips_y : ℕ → Bool
+flips_y o = o == 3 || (o == 4 || (o == 6 || o == 7))
+
+-- a place on a side, from its other end where it is flipped
+abbrev pub mirrored : Bool → ℕ → ℕ → ℕ
+mirrored flipped side place = if flipped then side - 1 - place else place
+
+-- the place in the stored picture of a pixel across and down in the upright one
+abbrev pub stored_place : Turn → ℕ → ℕ → ℕ
+stored_place turn across down =
+    mirrored (flips_y turn.orientation) turn.height (if is_on_side turn.orientation then across else down)
+    * turn.width
+    + mirrored (flips_x turn.orientation) turn.width (if is_on_side turn.orientation then down else across)
+
+-- where the byte at a place of the upright picture stands in the stored one
+abbrev pub source_of : Turn → ℕ → ℕ
+source_of turn place =
+    let wide = if is_on_side turn.orientation then turn.height else turn.width in
+    let pixel = place / turn.bytes in
+    stored_place turn (pixel % wide) (pixel / wide) * turn.bytes + place % turn.bytes
+
+unfoldable pub turned_byte : Turn → List ℕ → ℕ → ℕ
+turned_byte turn pixels place = get_or pixels (source_of turn place) 0
+
+-- the values of a function at so many numbers from 0
+unfoldable pub tabulate : ℕ → (ℕ → ℕ) → List ℕ
+tabulate zero f = []
+tabulate (suc count) f = tabulate count f ++ f count ∷ []
+
+-- how many bytes a pixel has
+abbrev pub bytes_of : PixelFormat → ℕ → ℕ
+bytes_of L8 precision = 1
+bytes_of L16 precision = 2
+bytes_of RGB24 precision = if nat_lt 8 precision then 6 else 3
+bytes_of CMYK32 precision = if nat_lt 8 precision then 8 else 4
+
+-- what is said of the upright picture
+abbrev pub turned_info : ImageInfo → ℕ → ImageInfo
+turned_info info orientation = if is_on_side orientation
+    then record info { width = info.height; height = info.width } else info
+
+-- how a picture is turned by an orientation
+abbrev pub turn_of : ImageInfo → ℕ → ℕ → Turn
+turn_of info precision orientation = record {
+  width = info.width;
+  height = info.height;
+  bytes = bytes_of info.pixel_format precision;
+  orientation = orientation;
+}
+
+-- the upright picture
+abbrev pub upright : ℕ → Decoded → Decoded
+upright orientation p = if orientation == 1 then p else decoded (turned_info p.info orientation) p.precision
+    (tabulate (length p.pixels) (turned_byte (turn_of p.info p.precision orientation) p.pixels))
+
+-- the picture that a value of the program is
+abbrev pub decoded_in : Picture → Decoded
+decoded_in picture = decoded picture.info picture.precision picture.pixels.items

@@ -1,0 +1,179 @@
+"""Compares the programs with those of others on photographs, or on files that cjpeg, ImageMagick and exiftool make where none are named.
+
+programs.py CRATES [FILE..]: CRATES is the folder of the crates, in which the programs were built. For each file it compares
+- what `jpeginfo --json` says with `identify` (sizes, components' sampling), `exiftool` (process, precision, orientation) and the bytes of
+  exiftool's Exif, XMP and ICC data with those that `jpeginfo --exif`, `--xmp` and `--icc` write;
+- the sizes of `jpeg2pnm` at each scale with those of `djpeg -scale`, and the samples of the whole picture with djpeg's (the mean difference
+  is printed, for djpeg upsamples in another way);
+- the picture of `thumbnail` with that of `--as-stored` turned by ImageMagick's `-auto-orient`, sample by sample;
+- the frames of `mjpeg_frames` with those of ffmpeg as rawvideo, and with those of `jpeg2pnm` sample by sample.
+The status is 1 where something differs that has to be the same.
+"""
+
+import json
+import subprocess
+import sys
+import tempfile
+from pathlib import Path
+
+from pictures import ppm
+from streams import output_of
+
+SCALES = {"1/8": 1, "1/4": 2, "1/2": 4, "1": 8}
+PROCESSES = {"baseline": "Baseline DCT", "extended": "Extended sequential DCT", "progressive": "Progressive DCT", "lossless": "Lossless"}
+
+
+class Tools:
+    """The programs that were built, by name."""
+
+    def __init__(self, crates):
+        self.crates = Path(crates)
+
+    def run(self, name, *words, stdin=b""):
+        return output_of([str(self.crates / name / "out" / name), *map(str, words)], stdin)
+
+
+def made_files(folder):
+    """Files of each sampling, process and orientation, with and without metadata."""
+    profile = folder / "any.icc"
+    profile.write_bytes(bytes(range(256)) * 300)
+    number = 0
+    for sampling in ("1x1", "2x1", "1x2", "2x2"):
+        for words in ([], ["-progressive"], ["-restart", "1"], ["-icc", profile]):
+            number += 1
+            path = folder / f"made-{number}.jpg"
+            path.write_bytes(output_of(["cjpeg", "-quality", "90", "-sample", sampling, *map(str, words)], ppm("gradient", 203, 151)))
+            tags = ["-n", f"-Orientation={1 + number % 8}", "-Artist=nobody", "-XMP-dc:Description=" + 200 * "x"]
+            if number % 3:
+                output_of(["exiftool", "-q", "-overwrite_original", *tags, path], b"")
+            yield path
+    grey = folder / "grey.jpg"
+    grey.write_bytes(output_of(["cjpeg", "-grayscale"], ppm("checks", 97, 64)))
+    yield grey
+    four = folder / "four.jpg"
+    output_of(["convert", "ppm:-", "-colorspace", "CMYK", four], ppm("gradient", 60, 44))
+    yield four
+
+
+def size_of(netpbm):
+    """The width and height of a PGM, PPM or PAM file of ours or of djpeg."""
+    if netpbm.startswith(b"P7"):
+        words = netpbm.split(b"ENDHDR")[0].split()
+        return [int(words[words.index(key) + 1]) for key in (b"WIDTH", b"HEIGHT")]
+    return [int(word) for word in netpbm.split(None, 3)[1:3]]
+
+
+def samples_of(netpbm):
+    """The samples of a PGM or PPM file."""
+    return netpbm.split(b"\n", 3)[3]
+
+
+def description_faults(tools, path):
+    """What `jpeginfo` says in another way than identify and exiftool."""
+    said = json.loads(tools.run("jpeginfo", "--json", path))
+    tags = ["-Orientation", "-EncodingProcess", "-BitsPerSample", "-ColorComponents", "-ImageWidth", "-ImageHeight"]
+    theirs = json.loads(output_of(["exiftool", "-j", "-n", *tags, path], b""))[0]
+    names = json.loads(output_of(["exiftool", "-j", "-EncodingProcess", path], b""))[0]
+    width, height = output_of(["identify", "-format", "%w %h", path], b"").split()
+    pairs = {
+        "width": (said["width"], int(width)),
+        "height": (said["height"], int(height)),
+        "precision": (said["precision"], theirs["BitsPerSample"]),
+        "components": (len(said["components"]), theirs["ColorComponents"]),
+        "orientation": (said["orientation"], theirs.get("Orientation")),
+    }
+    faults = [f"{key} {ours}, not {other}" for key, (ours, other) in pairs.items() if ours != other]
+    if not names["EncodingProcess"].startswith(PROCESSES[said["process"]]):
+        faults.append(f"process {said['process']}, not {names['EncodingProcess']}")
+    if len(said["components"]) > 1:
+        sampling = output_of(["identify", "-format", "%[jpeg:sampling-factor]", path], b"").decode()
+        ours = ",".join(f"{each['horizontal']}x{each['vertical']}" for each in said["components"])
+        if ours != sampling:
+            faults.append(f"sampling {ours}, not {sampling}")
+    return faults
+
+
+def data_faults(tools, path):
+    """Which of exiftool's Exif, XMP and ICC data `jpeginfo` doesn't write as they are."""
+    faults = []
+    for option, tag in (("--exif", "-Exif"), ("--xmp", "-XMP"), ("--icc", "-ICC_Profile")):
+        theirs = output_of(["exiftool", "-b", tag, path], b"")
+        done = subprocess.run([tools.crates / "jpeginfo/out/jpeginfo", option, "-", path], capture_output=True)
+        if done.stdout != theirs or (done.returncode == 0) != bool(theirs):
+            faults.append(f"{option}: {len(done.stdout)} bytes, not {len(theirs)}")
+    return faults
+
+
+def picture_faults(tools, path, means):
+    """Which sizes and samples of `jpeg2pnm` aren't djpeg's."""
+    faults = []
+    for scale, eighths in SCALES.items():
+        ours = tools.run("jpeg2pnm", "--scale", scale, path)
+        if ours.startswith(b"P7"):
+            continue
+        theirs = output_of(["djpeg", "-dct", "int", "-pnm", "-scale", f"{eighths}/8", path], b"")
+        if size_of(ours) != size_of(theirs):
+            faults.append(f"at {scale} {size_of(ours)}, not {size_of(theirs)}")
+        elif scale == "1":
+            pairs = list(zip(samples_of(ours), samples_of(theirs)))
+            means.append(sum(abs(a - b) for a, b in pairs) / len(pairs))
+            if len(samples_of(ours)) != len(samples_of(theirs)):
+                faults.append("another number of samples")
+    return faults
+
+
+def orientation_faults(tools, path, folder):
+    """Whether `thumbnail` turns a picture in another way than ImageMagick."""
+    most = "128x128"
+    ours = tools.run("thumbnail", "--max", most, path)
+    stored = tools.run("thumbnail", "--max", most, "--as-stored", path)
+    if ours.startswith(b"P7"):
+        return []
+    tagged = folder / "tagged.jpg"
+    orientation = json.loads(output_of(["exiftool", "-j", "-n", "-Orientation", path], b""))[0].get("Orientation", 1)
+    names = "Undefined TopLeft TopRight BottomRight BottomLeft LeftTop RightTop RightBottom LeftBottom".split()
+    turned = output_of(["convert", "pnm:-", "-orient", names[orientation], "-auto-orient", "-depth", "8", "pnm:-"], stored)
+    tagged.unlink(missing_ok=True)
+    same = size_of(turned) == size_of(ours) and samples_of(turned) == samples_of(ours)
+    return [] if same else [f"orientation {orientation}: another picture than ImageMagick's"]
+
+
+def frame_faults(tools, folder):
+    """Whether the frames of an MJPEG stream are those of ffmpeg, by number and size, and of `jpeg2pnm`, by sample."""
+    stream = folder / "stream.mjpeg"
+    output_of(["ffmpeg", "-v", "error", "-f", "lavfi", "-i", "testsrc=size=96x64:rate=5:duration=2", "-c:v", "mjpeg", "-f", "mjpeg", stream], b"")
+    raw = tools.run("mjpeg_frames", stream)
+    theirs = output_of(["ffmpeg", "-v", "error", "-i", stream, "-f", "rawvideo", "-pix_fmt", "rgb24", "-"], b"")
+    tools.run("mjpeg_frames", "-o", folder / "frame-%04d.ppm", stream)
+    numbered = b"".join(samples_of(path.read_bytes()) for path in sorted(folder.glob("frame-*.ppm")))
+    back = ["ffmpeg", "-v", "error", "-f", "rawvideo", "-pixel_format", "rgb24", "-video_size", "96x64", "-i", "-", "-f", "framemd5", "-"]
+    read = [line for line in output_of(back, raw).decode().splitlines() if not line.startswith("#")]
+    faults = []
+    if len(raw) != len(theirs):
+        faults.append(f"{len(raw)} bytes of frames, not {len(theirs)}")
+    if numbered != raw:
+        faults.append("the numbered files have other samples than the stream")
+    if len(read) != 10:
+        faults.append(f"ffmpeg reads {len(read)} frames, not 10")
+    mean = sum(abs(a - b) for a, b in zip(raw, theirs)) / len(theirs)
+    print(f"MJPEG: {len(raw) // (96 * 64 * 3)} frames, mean difference from ffmpeg's {mean:.3f}")
+    return faults
+
+
+def main(crates, *files):
+    tools, faults, means = Tools(crates), [], []
+    with tempfile.TemporaryDirectory() as name:
+        folder = Path(name)
+        paths = [Path(file) for file in files] or list(made_files(folder))
+        for path in paths:
+            found = description_faults(tools, path) + data_faults(tools, path)
+            found += picture_faults(tools, path, means) + orientation_faults(tools, path, folder)
+            faults += [f"{path.name}: {fault}" for fault in found]
+        faults += frame_faults(tools, folder)
+    print(f"programs: {len(paths)} files, greatest mean difference from djpeg {max(means):.3f}, {len(faults)} faults")
+    print(*faults, sep="\n", end="\n" if faults else "")
+    return 1 if faults else 0
+
+
+if __name__ == "__main__":
+    sys.exit(main(*sys.argv[1:]))
