@@ -35,7 +35,7 @@ pub(crate) enum Piece {
     Data(DataEnd),
 }
 
-/// What comes next. A refusal is held in its place, and answered by none.
+/// Reads what comes next. A refusal is stored in `refusal`, and none is returned.
 #[inline(always)]
 #[tactic(auto, unfolding(crate::specs::Entropy::piece_at))]
 fn next_piece<R: Read + Drop>(
@@ -55,7 +55,8 @@ fn next_piece<R: Read + Drop>(
     }
 }
 
-/// What a byte FF and those after it are. A refusal is held in its place, and answered by none.
+/// Reads what a byte FF and those after it are. A refusal is stored in `refusal`, and none is
+/// returned.
 #[cold]
 #[inline(never)]
 fn next_after_ff<R: Read + Drop>(
@@ -76,7 +77,7 @@ fn next_after_ff<R: Read + Drop>(
     }
 }
 
-/// What a byte FF and those after it are.
+/// Reads what a byte FF and those after it are.
 #[tactic(auto, unfolding(crate::specs::Entropy::filled_end))]
 fn read_after_ff<R: Read + Drop>(alloc: Global, source: &mut Source<R>) -> Result<Piece>
     ensures { Answers (λ p. p) (λ bytes. Ok (after_ff bytes)) source.old result source.new }
@@ -102,7 +103,7 @@ fn read_after_ff<R: Read + Drop>(alloc: Global, source: &mut Source<R>) -> Resul
     Err(format_error(alloc, "found 2^64 fill bytes, expected a marker"))
 }
 
-/// The next byte, or none where the bytes end.
+/// Reads the next byte, or none where the bytes end.
 fn read_or_end<R: Read + Drop>(alloc: Global, source: &mut Source<R>) -> Result<Option<u8>>
     ensures answers { Answers (λ b. b) byte_or_end source.old result source.new }
     ensures short { IsShort source.old }
@@ -158,7 +159,8 @@ impl Held {
         self.alloc
     }
 
-    /// A copy, so that the hot loops work on a local of their own, which stays in registers.
+    /// Returns a copy, so that the hot loops work on a local of their own, which stays in
+    /// registers.
     #[inline(always)]
     pub(crate) fn copied(&self) -> Held
         ensures { result ≡ self.now }
@@ -170,8 +172,8 @@ impl Held {
         }
     }
 
-    /// Sees that `count` bits are held, or that the end is met. A refusal is held in its place, and
-    /// answered by false.
+    /// Sees that `count` bits are buffered, or that the end is reached. A refusal is stored in
+    /// `refusal`, and false is returned.
     #[inline(always)]
     #[tactic(auto, using(crate::proofs::Rules::filled))]
     pub(crate) fn hold<R: Read + Drop>(
@@ -215,8 +217,8 @@ impl Held {
         is_full
     }
 
-    /// Reads ahead until at least 57 bits are held, or the end is met, which is read once. A
-    /// refusal is held in its place, and answered by false.
+    /// Reads ahead until at least 57 bits are buffered, or the end is reached, which is read once.
+    /// A refusal is stored in `refusal`, and false is returned.
     #[inline(always)]
     #[tactic(auto, unfolding(crate::specs::Entropy::upcoming))]
     fn fill<R: Read + Drop>(&mut self, source: &mut Source<R>, refusal: &mut Option<Error>) -> bool
@@ -235,7 +237,7 @@ impl Held {
         true
     }
 
-    /// Whether no fault stands before `count` bits of those held.
+    /// Returns whether no fault stands before `count` of the buffered bits.
     #[inline(always)]
     pub(crate) fn has(&self, count: usize) -> bool
         ensures { result ≡ is_ok (has_held count self.now.bits self.now.met) }
@@ -243,7 +245,7 @@ impl Held {
         count <= self.bits.len() || is_padded(self.end)
     }
 
-    /// Whether a marker was met and no bit is held: zeros come then without end.
+    /// Returns whether a marker was reached and no bit is buffered: zeros come then without end.
     #[inline(always)]
     pub(crate) fn is_past_marker(&self) -> bool
         ensures { result ≡ true → (bytes : List ℕ) → bits_from 1 (upcoming self.now bytes)
@@ -252,8 +254,8 @@ impl Held {
         self.bits.len() == 0 && is_marker(self.end)
     }
 
-    /// The next `count` bits, from 1 to 16, as a number, the highest first. A refusal is held in
-    /// its place, and answered by none.
+    /// Reads the next `count` bits, from 1 to 16, as a number, the highest first. A refusal is
+    /// stored in `refusal`, and none is returned.
     #[inline(always)]
     pub(crate) fn take_number<R: Read + Drop>(
         &mut self,
@@ -279,8 +281,8 @@ impl Held {
         Some(self.take(count))
     }
 
-    /// The next `count` bits, from 1 to 15, as a signed number (T.81, F.2.2.1). A refusal is held
-    /// in its place, and answered by none.
+    /// Reads the next `count` bits, from 1 to 15, as a signed number (T.81, F.2.2.1). A refusal
+    /// is stored in `refusal`, and none is returned.
     #[inline(always)]
     #[tactic(auto, unfolding(crate::specs::Readers::signed_from))]
     pub(crate) fn take_signed<R: Read + Drop>(
@@ -301,7 +303,7 @@ impl Held {
         }
     }
 
-    /// How many bits are held.
+    /// Returns how many bits are buffered.
     #[inline(always)]
     pub(crate) fn len(&self) -> usize
         ensures { result ≡ length self.now.bits }
@@ -309,8 +311,9 @@ impl Held {
         self.bits.len()
     }
 
-    /// The length and the symbol of the code that begins the bits (T.81, F.2.2.3), where 16 bits
-    /// are held, or the end is met. A refusal is held in its place, and answered by none.
+    /// Reads the length and the symbol of the code that begins the bits (T.81, F.2.2.3), where 16
+    /// bits are buffered, or the end is reached. A refusal is stored in `refusal`, and none is
+    /// returned.
     #[inline(always)]
     pub(crate) fn take_held_code(
         &mut self,
@@ -336,8 +339,8 @@ impl Held {
         Some((length, symbol))
     }
 
-    /// The symbol whose code begins the bits (T.81, F.2.2.3). A refusal is held in its place, and
-    /// answered by none.
+    /// Reads the symbol whose code begins the bits (T.81, F.2.2.3). A refusal is stored in
+    /// `refusal`, and none is returned.
     #[inline(always)]
     pub(crate) fn take_symbol<R: Read + Drop>(
         &mut self,
@@ -358,9 +361,9 @@ impl Held {
         }
     }
 
-    /// The value and the run of zeros before it, where a code of a table of class AC and the value
-    /// after it take at most 8 bits together (T.81, F.2.2.2), or none within. A refusal is held in
-    /// its place, and answered by none.
+    /// Reads the value and the run of zeros before it, where a code of a table of class AC and
+    /// the value after it take at most 8 bits together (T.81, F.2.2.2), or none within. A refusal
+    /// is stored in `refusal`, and none is returned.
     #[inline(always)]
     pub(crate) fn take_short_value<R: Read + Drop>(
         &mut self,
@@ -387,7 +390,7 @@ impl Held {
         Some(Some((value, run)))
     }
 
-    /// The first `count` bits of those held, with zeros after them.
+    /// Returns the first `count` of the buffered bits, with zeros after them.
     #[inline(always)]
     pub(crate) fn take(&mut self, count: usize) -> u16
         requires some { 1 ≤ count }
@@ -412,7 +415,7 @@ impl Held {
         self.bits.skip(count);
     }
 
-    /// The symbol and the length of the code that begins the bits held.
+    /// Returns the symbol and the length of the code that begins the buffered bits.
     #[inline(always)]
     pub(crate) fn symbol(&self, table: &HuffmanTable) -> Option<(u8, u8)>
         ensures symbol { result ≡ symbol_in table.now (next_16 self.now.bits) }
@@ -421,8 +424,8 @@ impl Held {
         table.symbol_of(self.bits.front_16())
     }
 
-    /// The value and the run that the bits held begin with, and how many bits they take, where they
-    /// are at most 8.
+    /// Returns the value and the run that the buffered bits begin with, and how many bits they
+    /// take, where they are at most 8.
     #[inline(always)]
     pub(crate) fn short_value(&self, table: &HuffmanTable) -> Option<(i16, u8, u16)>
         ensures value { result ≡ short_value_of 8 table.now (next_bits 8 self.now.bits) }
@@ -449,7 +452,7 @@ impl Held {
         self.bits.clear();
     }
 
-    /// The end that was met. Nothing is held any more.
+    /// Takes the end that was reached. Nothing is buffered any more.
     pub(crate) fn take_end(&mut self) -> Option<DataEnd>
         ensures end { result ≡ self.old.met }
         ensures none { self.new ≡ fresh }
@@ -459,7 +462,7 @@ impl Held {
     }
 }
 
-/// Whether a marker was met.
+/// Returns whether a marker was reached.
 #[inline(always)]
 fn is_marker(end: Option<DataEnd>) -> bool
     ensures { result ≡ true → (bits : List Bool) (bytes : List ℕ) → length bits ≡ 0 →
@@ -471,7 +474,7 @@ fn is_marker(end: Option<DataEnd>) -> bool
     }
 }
 
-/// Whether no fault was met where the held bits end.
+/// Returns whether no fault was reached where the buffered bits end.
 #[cold]
 #[inline(never)]
 fn is_padded(end: Option<DataEnd>) -> bool
@@ -484,7 +487,7 @@ fn is_padded(end: Option<DataEnd>) -> bool
     }
 }
 
-/// Holds the fault that stands where the held bits end.
+/// Stores the fault that stands where the buffered bits end.
 #[cold]
 #[inline(never)]
 fn hold_fault(alloc: Global, end: Option<DataEnd>, refusal: &mut Option<Error>)
@@ -512,7 +515,7 @@ fn hold_no_code(alloc: Global, refusal: &mut Option<Error>)
     );
 }
 
-/// The refusal of FF 00 after fill bytes.
+/// Returns the refusal of FF 00 after fill bytes.
 #[cold]
 #[inline(never)]
 fn malformed_end(alloc: Global) -> Error
@@ -521,7 +524,7 @@ fn malformed_end(alloc: Global) -> Error
     format_error(alloc, "found FF00 after fill bytes, expected a marker")
 }
 
-/// The marker of an end that was met, or its refusal.
+/// Returns the marker of an end that was reached, or its refusal.
 pub(crate) fn marker_of_end(alloc: Global, end: Option<DataEnd>) -> Result<Option<Marker>>
     ensures { Gives (marker_held end) result }
 {

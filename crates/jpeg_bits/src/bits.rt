@@ -72,7 +72,7 @@ impl Bits {
         self.count += 8;
     }
 
-    /// The first `count` bits, with zeros after them, as a number.
+    /// Returns the first `count` bits, with zeros after them, as a number.
     #[inline(always)]
     pub(crate) fn front(&self, count: usize) -> u16
         requires some { 1 ≤ count }
@@ -83,7 +83,7 @@ impl Bits {
         (self.word >> (64 - count)) as u16
     }
 
-    /// The first 16 bits, with zeros after them, as a number.
+    /// Returns the first 16 bits, with zeros after them, as a number.
     #[inline(always)]
     pub(crate) fn front_16(&self) -> u16
         ensures { low_bits 16 result ≡ next_16 self.now }
@@ -91,7 +91,7 @@ impl Bits {
         (self.word >> 48) as u16
     }
 
-    /// The first 8 bits, with zeros after them, as a number.
+    /// Returns the first 8 bits, with zeros after them, as a number.
     #[inline(always)]
     pub(crate) fn front_8(&self) -> u8
         ensures { low_bits 8 result ≡ next_bits 8 self.now }
@@ -118,8 +118,8 @@ pub(crate) fn power_of_two(exponent: u8) -> u16
     1 << exponent
 }
 
-/// A value of `count` bits as a signed number. There is no branch by the sign, which no processor
-/// foresees in most data.
+/// Returns a value of `count` bits as a signed number. There is no branch by the sign, which no
+/// processor foresees in most data.
 pub(crate) fn extend(value: u16, count: u8) -> i16
     requires some { 1 ≤ count }
     requires most { count ≤ 15 }

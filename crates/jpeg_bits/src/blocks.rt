@@ -34,7 +34,7 @@ impl Pass {
     ghost use Rattle.jpeg_bits.specs.BlockView.{pass_in};
     ghost use Rattle.jpeg_bits.specs.ZigzagParts.{band_start, band_end};
 
-    /// The zigzag place at which the band begins (T.81, G.1.1.1.1). DC is no part of it.
+    /// Returns the zigzag place at which the band begins (T.81, G.1.1.1.1). DC is no part of it.
     #[inline(always)]
     pub(crate) fn band_start(self) -> usize
         ensures { result ≡ band_start (pass_in self) }
@@ -42,7 +42,7 @@ impl Pass {
         usize::from(self.ss.max(1))
     }
 
-    /// The zigzag place after the last one of the band.
+    /// Returns the zigzag place after the last one of the band.
     #[inline(always)]
     pub(crate) fn band_end(self) -> usize
         ensures { result ≡ band_end (pass_in self) }
@@ -91,7 +91,7 @@ impl Carried {
     }
 }
 
-/// A DC coefficient with the bit set, where it isn't.
+/// Returns a DC coefficient with the bit set, where it isn't.
 #[inline]
 #[tactic(auto, using(crate::proofs::SetBits::or_kept))]
 fn with_bit(value: i16, al: u8) -> i16
@@ -104,8 +104,8 @@ fn with_bit(value: i16, al: u8) -> i16
     value
 }
 
-/// Reads the DC coefficient of a block, in a pass that begins with it. A refusal is held in its
-/// place, and answered by false.
+/// Reads the DC coefficient of a block, in a pass that begins with it. A refusal is stored in
+/// `refusal`, and false is returned.
 #[inline]
 #[tactic(auto, using(crate::proofs::BlockParts::dc_rules))]
 fn read_dc<R: Read + Drop>(
@@ -142,8 +142,8 @@ fn read_dc<R: Read + Drop>(
     true
 }
 
-/// The band of a block. In a run of blocks without tokens it stays as it is, and in a refinement it
-/// is corrected. A refusal is held in its place, and answered by false.
+/// Reads the band of a block. In a run of blocks without tokens it stays as it is, and in a
+/// refinement it is corrected. A refusal is stored in `refusal`, and false is returned.
 #[inline(always)]
 #[tactic(auto, using(crate::proofs::BlockParts::band_rules))]
 fn read_band<R: Read + Drop>(
@@ -216,7 +216,7 @@ fn read_coded_band<R: Read + Drop>(
     }
 }
 
-/// As `read_block`. A refusal is put into `refusal`, and answered by false.
+/// As `read_block`. A refusal is stored in `refusal`, and false is returned.
 pub fn take_block<R: Read + Drop>(
     decoder: &mut HuffmanDecoder,
     source: &mut Source<R>,

@@ -12,7 +12,7 @@ pub struct ByteReader<R: Read + Drop> {
 impl<R: Read + Drop> ByteReader<R> {
     ghost use Rattle.std.specs.Prelude.{◌≡◌};
 
-    /// A reader that goes on where `inner` stands.
+    /// Returns a reader that goes on where `inner` stands.
     pub fn new(inner: BufReader<R>) -> ByteReader<R>
         ensures { result ≡ record { inner = inner } }
     {

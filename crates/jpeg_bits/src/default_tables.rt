@@ -53,7 +53,7 @@ const CHROMINANCE_AC_SYMBOLS: [u8; 162] = [
     0xf9, 0xfa,
 ];
 
-/// Whether a place is among those named.
+/// Returns whether a place is among those named.
 fn names(places: &[usize], place: usize) -> bool
     ensures { result ≡ names places.now place }
 {

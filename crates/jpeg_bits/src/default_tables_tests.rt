@@ -7,7 +7,7 @@ use crate::source::Source;
 use std::alloc::Global;
 use std::test::Fail;
 
-/// A sequential scan whose components name these tables.
+/// Returns a sequential scan whose components name these tables.
 fn scan_of(alloc: Global, dc: &[usize], ac: &[usize]) -> Result<ScanInfo, Fail> {
     Ok(ScanInfo {
         component_indices: Vec::from_array(alloc, [0, 1])?,
@@ -21,7 +21,7 @@ fn scan_of(alloc: Global, dc: &[usize], ac: &[usize]) -> Result<ScanInfo, Fail> 
     })
 }
 
-/// The symbol whose code begins some bytes.
+/// Returns the symbol whose code begins some bytes.
 fn first_symbol(alloc: Global, table: Option<&HuffmanTable>, bytes: &[u8]) -> Result<u8, Fail> {
     match table {
         Some(table) => Ok(HuffmanDecoder::new(alloc).decode(&mut Source::new(bytes), table)?),
@@ -66,7 +66,7 @@ fn other_tables_stay(rt: HostRuntime) -> Result<(), Fail> {
     Ok(())
 }
 
-/// The luminance table of class AC.
+/// Returns the luminance table of class AC.
 fn luminance_ac(alloc: Global) -> Result<HuffmanTable, Fail> {
     let mut dc = [None, None];
     let mut ac = [None, None];

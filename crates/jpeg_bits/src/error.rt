@@ -124,7 +124,7 @@ pub fn hold_category_error(alloc: Global, category: u8, greatest: u8, refusal: &
     )));
 }
 
-/// The refusal where the bytes end: an `Io` of the kind `UnexpectedEof`.
+/// Returns the refusal where the bytes end: an `Io` of the kind `UnexpectedEof`.
 #[cold]
 #[inline(never)]
 pub fn end_of_bytes() -> Error
@@ -133,7 +133,7 @@ pub fn end_of_bytes() -> Error
     Error::Io(io::Error::new(ErrorKind::UnexpectedEof, "the file ends too soon"))
 }
 
-/// The refusal that a call has put into its place, taken out.
+/// Returns the refusal that a call has stored, taken out of its variable.
 #[cold]
 #[inline(never)]
 pub fn take_refusal(refusal: &mut Option<Error>) -> Error

@@ -39,7 +39,7 @@ impl HuffmanDecoder {
     ghost use Rattle.jpeg_bits.specs.Readers.{signed_from};
     ghost use Rattle.jpeg_bits.specs.Entropy.{Takes, fresh, bits_from, marker_from, upcoming};
 
-    /// A decoder that holds nothing.
+    /// Returns a decoder with no buffered bits.
     pub fn new(alloc: Global) -> HuffmanDecoder
         ensures { result ≡ fresh }
     {
@@ -50,8 +50,8 @@ impl HuffmanDecoder {
         }
     }
 
-    /// A copy with no refusal in it, so that a hot loop works on a local of its own, which stays in
-    /// registers.
+    /// Returns a copy with no refusal in it, so that a hot loop works on a local of its own, which
+    /// stays in registers.
     #[inline(always)]
     pub fn copied(&self) -> HuffmanDecoder
         ensures { result ≡ self.now }
@@ -70,9 +70,9 @@ impl HuffmanDecoder {
         self.held.clear();
     }
 
-    /// The next `count` bits, from 1 to 16, as a number, the highest first. After a marker they are
-    /// zeros. It is `Format` where FF 00 stands for a marker before them, and `Io` where the bytes
-    /// end before them or a read fails.
+    /// Reads the next `count` bits, from 1 to 16, as a number, the highest first. After a marker
+    /// they are zeros. It is `Format` where FF 00 stands for a marker before them, and `Io` where
+    /// the bytes end before them or a read fails.
     #[inline(always)]
     pub fn get_bits<R: Read + Drop>(&mut self, source: &mut Source<R>, count: u8) -> Result<u16>
         requires some { 1 ≤ count }
@@ -87,8 +87,8 @@ impl HuffmanDecoder {
         }
     }
 
-    /// The next `count` bits, from 1 to 15, as a signed number (T.81, F.2.2.1): those below half
-    /// their range stand for the negative ones. Errors are those of `get_bits`.
+    /// Reads the next `count` bits, from 1 to 15, as a signed number (T.81, F.2.2.1): those below
+    /// half their range stand for the negative ones. Errors are those of `get_bits`.
     #[inline(always)]
     #[tactic(auto, unfolding(crate::specs::Readers::signed_from))]
     pub fn receive_extend<R: Read + Drop>(
@@ -105,8 +105,8 @@ impl HuffmanDecoder {
         Ok(extend(value, count))
     }
 
-    /// The symbol whose code begins the bits (T.81, F.2.2.3), whose bits are taken. It is `Format`
-    /// where no code of the table begins them; the other errors are those of `get_bits`.
+    /// Reads the symbol whose code begins the bits (T.81, F.2.2.3), whose bits are taken. It is
+    /// `Format` where no code of the table begins them; the other errors are those of `get_bits`.
     #[inline(always)]
     pub fn decode<R: Read + Drop>(
         &mut self,
@@ -122,9 +122,9 @@ impl HuffmanDecoder {
         }
     }
 
-    /// The value and the run of zeros before it, where a code of a table of class AC and the value
-    /// after it take at most 8 bits together (T.81, F.2.2.2), all of which are taken. Otherwise
-    /// none, and no bit is taken. Errors are those of `get_bits`.
+    /// Reads the value and the run of zeros before it, where a code of a table of class AC and
+    /// the value after it take at most 8 bits together (T.81, F.2.2.2), all of which are taken.
+    /// Otherwise none, and no bit is taken. Errors are those of `get_bits`.
     #[inline(always)]
     pub fn decode_fast_ac<R: Read + Drop>(
         &mut self,
@@ -140,10 +140,10 @@ impl HuffmanDecoder {
         }
     }
 
-    /// The marker after the bits taken, where at most 56 bits stand before it; no bit is held any
-    /// more, and the source goes on after it. Otherwise none, and the source goes on after the byte
-    /// of the 57th bit. It is `Format` where FF 00 stands for the marker, and `Io` where the bytes
-    /// end first or a read fails.
+    /// Reads the marker after the bits taken, where at most 56 bits stand before it; no bit is
+    /// buffered any more, and the source goes on after it. Otherwise none, and the source goes on
+    /// after the byte of the 57th bit. It is `Format` where FF 00 stands for the marker, and `Io`
+    /// where the bytes end first or a read fails.
     pub fn take_marker<R: Read + Drop>(&mut self, source: &mut Source<R>) -> Result<Option<Marker>>
         ensures answers { Answers (λ m. m) (λ bytes. marker_from (upcoming self.old bytes))
             source.old result source.new }

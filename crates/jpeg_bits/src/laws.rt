@@ -48,7 +48,7 @@ pub fn intervals_end()
         ≡ end_after k bytes (drop k (text_at bytes).bits) (text_at bytes).ending }
 {}
 
-/// Whether the codes of a table exist can be computed.
+/// Returns whether the codes of a table exist can be computed.
 pub fn codes_exist_or_not()
     ensures exist { (lengths : List ℕ) → HasCodes lengths → codes_exist lengths ≡ true }
     ensures tested { (lengths : List ℕ) → codes_exist lengths ≡ true → HasCodes lengths }

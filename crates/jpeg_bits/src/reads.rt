@@ -9,7 +9,7 @@ use crate::source::Source;
 use std::alloc::Global;
 use std::io::Read;
 
-/// The next byte. It is `Io` where the bytes end or a read fails.
+/// Reads the next byte. It is `Io` where the bytes end or a read fails.
 pub fn read_u8<R: Read + Drop>(alloc: Global, source: &mut Source<R>) -> Result<u8>
     ensures answers { Answers (λ b. b) next_byte source.old result source.new }
     ensures room { source.old.known ≡ true → result ≡ Err OutOfMemory
@@ -24,7 +24,8 @@ pub fn read_u8<R: Read + Drop>(alloc: Global, source: &mut Source<R>) -> Result<
     Ok(buffer[0])
 }
 
-/// The next two bytes as a number, the higher first (T.81, B.1.1.1). Errors are those of `read_u8`.
+/// Reads the next two bytes as a number, the higher first (T.81, B.1.1.1). Errors are those of
+/// `read_u8`.
 #[tactic(auto, unfolding(crate::specs::Reading::next_u16))]
 pub fn read_u16_be<R: Read + Drop>(alloc: Global, source: &mut Source<R>) -> Result<u16>
     ensures answers { Answers (λ n. n) next_u16 source.old result source.new }
@@ -36,8 +37,8 @@ pub fn read_u16_be<R: Read + Drop>(alloc: Global, source: &mut Source<R>) -> Res
     Ok(256 * u16::from(high) + u16::from(low))
 }
 
-/// A length field of two bytes, which counts itself (T.81, B.1.1.4): how many bytes follow it. It
-/// is `Format` where the field is below 2; the other errors are those of `read_u8`.
+/// Reads a length field of two bytes, which counts itself (T.81, B.1.1.4): how many bytes follow
+/// it. It is `Format` where the field is below 2; the other errors are those of `read_u8`.
 #[tactic(auto, unfolding(crate::specs::Reading::length_at))]
 pub fn read_length<R: Read + Drop>(alloc: Global, source: &mut Source<R>) -> Result<u16>
     ensures answers { Answers (λ n. n) length_at source.old result source.new }
@@ -77,8 +78,8 @@ pub fn read_exact<R: Read + Drop>(
     Ok(())
 }
 
-/// The next `count` bytes. It is `OutOfMemory` where there is no room for them; the other errors
-/// are those of `read_u8`.
+/// Reads the next `count` bytes. It is `OutOfMemory` where there is no room for them; the other
+/// errors are those of `read_u8`.
 pub fn read_bytes<R: Read + Drop>(
     alloc: Global,
     source: &mut Source<R>,
@@ -92,8 +93,7 @@ pub fn read_bytes<R: Read + Drop>(
     Ok(bytes)
 }
 
-/// Passes over `count` bytes, as many at once as the buffer has room for. Errors are those of
-/// `read_u8`.
+/// Skips `count` bytes, as many at once as the buffer has room for. Errors are those of `read_u8`.
 fn skip_by<R: Read + Drop>(
     alloc: Global,
     source: &mut Source<R>,
@@ -114,7 +114,7 @@ fn skip_by<R: Read + Drop>(
     Ok(())
 }
 
-/// Passes over `count` bytes. Errors are those of `read_u8`.
+/// Skips `count` bytes. Errors are those of `read_u8`.
 pub fn skip<R: Read + Drop>(alloc: Global, source: &mut Source<R>, count: u16) -> Result<()>
     ensures answers { Answers (λ u. u) (skip_at count) source.old result source.new }
     ensures room { source.old.known ≡ true → result ≡ Err OutOfMemory

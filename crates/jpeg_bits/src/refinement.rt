@@ -48,7 +48,7 @@ pub(crate) fn unit(al: u8) -> i16
     1 << al
 }
 
-/// Whether bit `al` of a number's two's complement isn't set.
+/// Returns whether bit `al` of a number's two's complement isn't set.
 #[inline]
 pub(crate) fn lacks_bit(value: i16, al: u8) -> bool
     requires { al ≤ 13 }
@@ -57,7 +57,7 @@ pub(crate) fn lacks_bit(value: i16, al: u8) -> bool
     (value.cast_unsigned() >> al) % 2 == 0
 }
 
-/// How many blocks after this one have no tokens.
+/// Reads how many blocks after this one have no tokens.
 #[inline(always)]
 #[tactic(auto, unfolding(crate::specs::Pieces::run_from), using(crate::proofs::BandSteps::no_bits_taken))]
 fn read_run<R: Read + Drop>(
@@ -80,8 +80,8 @@ fn read_run<R: Read + Drop>(
     }
 }
 
-/// How far a correction bit moves a number that isn't 0: by the unit of the point transform, where
-/// the bit is set and the number's own isn't.
+/// Returns how far a correction bit moves a number that isn't 0: by the unit of the point
+/// transform, where the bit is set and the number's own isn't.
 #[inline(always)]
 fn distance(value: i16, al: u8, bit: u16) -> u16
     requires level { al ≤ 13 }
@@ -93,8 +93,8 @@ fn distance(value: i16, al: u8, bit: u16) -> u16
     bit * lacking * power_of_two(al)
 }
 
-/// A number that isn't 0, moved away from zero. A refusal is held in its place, and answered by
-/// none. Nothing branches by the distance or the sign, which no processor foresees.
+/// Returns a number that isn't 0, moved away from zero. A refusal is stored in `refusal`, and none
+/// is returned. Nothing branches by the distance or the sign, which no processor foresees.
 #[inline(always)]
 fn move_away(alloc: Global, value: i16, by: u16, refusal: &mut Option<Error>) -> Option<i16>
     requires { by ≤ 8192 }
@@ -116,7 +116,7 @@ fn move_away(alloc: Global, value: i16, by: u16, refusal: &mut Option<Error>) ->
     }
 }
 
-/// A place of a piece, with its correction bit.
+/// Reads a place of a piece, with its correction bit.
 #[inline(always)]
 #[tactic(auto, unfolding(crate::specs::Pieces::place_from))]
 fn correct<R: Read + Drop>(
@@ -310,7 +310,7 @@ fn correct_piece<R: Read + Drop>(
     Some(end)
 }
 
-/// The new number of a sign bit.
+/// Returns the new number of a sign bit.
 fn signed_unit(sign: u16, al: u8) -> i16
     requires { al ≤ 13 }
     ensures { result ≡ new_number al sign }
@@ -318,7 +318,7 @@ fn signed_unit(sign: u16, al: u8) -> i16
     if sign == 0 { -unit(al) } else { unit(al) }
 }
 
-/// A token of a refinement, and its sign bit or the bits of its run.
+/// Reads a token of a refinement, and its sign bit or the bits of its run.
 #[inline(always)]
 #[tactic(auto, unfolding(crate::specs::Pieces::refinement_from))]
 fn read_refinement<R: Read + Drop>(
@@ -370,7 +370,7 @@ fn hold_refined_category_error(alloc: Global, category: u8, refusal: &mut Option
     )));
 }
 
-/// The band of a block in a refinement, and how many blocks after this one have no tokens.
+/// Reads the band of a block in a refinement, and how many blocks after this one have no tokens.
 #[inline(always)]
 fn read_refined_places<R: Read + Drop>(
     held: &mut Held,
@@ -458,8 +458,8 @@ pub(crate) fn read_refined_band<R: Read + Drop>(
     run
 }
 
-/// The whole band of a block, one correction bit for each place that isn't zero. A refusal is held
-/// in its place, and answered by false.
+/// Reads the whole band of a block, one correction bit for each place that isn't zero. A refusal
+/// is stored in `refusal`, and false is returned.
 pub(crate) fn correct_band<R: Read + Drop>(
     held: &mut Held,
     source: &mut Source<R>,

@@ -29,7 +29,7 @@ pub enum Predictor {
 /// A scan header. The lists have a place for each component of the scan, in its order.
 #[derive(Debug, Drop)]
 pub struct ScanInfo {
-    /// The components' places in the frame.
+    /// The components' indices in the frame.
     pub component_indices: Vec<usize>,
     /// The places of their DC tables.
     pub dc_table_indices: Vec<usize>,

@@ -12,7 +12,7 @@ pub struct SliceReader<'a> {
 impl<'a> SliceReader<'a> {
     ghost use Rattle.std.specs.Prelude.{◌≡◌};
 
-    /// A reader of all of the bytes.
+    /// Returns a reader of all of the bytes.
     pub fn new(bytes: &'a [u8]) -> SliceReader<'a>
         ensures { result.bytes.now ≡ bytes.now }
     {

@@ -277,7 +277,7 @@ const RUNS_AND_SIZES: [u8; 16] = [
     0x00, 0x17, 0x25, 0x26, 0x06, 0x16, 0x01, 0x32, 0x02, 0x11, 0x21, 0xf0, 0x30, 0x0a, 0x41, 0x51,
 ];
 
-/// A block whose places 1 to `se` are read in a first pass.
+/// Reads a block whose places 1 to `se` are read in a first pass.
 fn read_first(
     alloc: Global,
     decoder: &mut HuffmanDecoder,
@@ -305,7 +305,7 @@ fn read_first(
     Ok(block)
 }
 
-/// The block with these coefficients after DC in zigzag order, and zeros.
+/// Returns the block with these coefficients after DC in zigzag order, and zeros.
 fn block_of(first: [i16; 6]) -> [i16; 64] {
     let mut block = [0; 64];
     for (place, coefficient) in [1usize, 8, 16, 9, 2, 3].into_iter().zip(first) {

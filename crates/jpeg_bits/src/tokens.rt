@@ -30,7 +30,7 @@ pub enum Token {
     Overlong,
 }
 
-/// A DC difference. A refusal is held in its place, and answered by none.
+/// Reads a DC difference. A refusal is stored in `refusal`, and none is returned.
 #[inline(always)]
 #[tactic(auto, unfolding(crate::specs::Bands::difference))]
 pub(crate) fn read_difference<R: Read + Drop>(
@@ -56,7 +56,7 @@ pub(crate) fn read_difference<R: Read + Drop>(
     held.take_signed(source, category, refusal)
 }
 
-/// A sum modulo 2^16.
+/// Returns a sum modulo 2^16.
 #[inline]
 pub(crate) fn wrapped_sum(a: i16, b: i16) -> i16
     ensures { result ≡ wrapped (a +ℤ b) }
@@ -75,8 +75,8 @@ pub(crate) fn power_of_two(exponent: u8) -> u16
     1 << exponent
 }
 
-/// The token of a code, by its length and its symbol. A refusal is held in its place, and answered
-/// by none.
+/// Returns the token of a code, by its length and its symbol. A refusal is stored in `refusal`, and
+/// none is returned.
 #[inline(always)]
 #[tactic(auto, unfolding(crate::specs::Bands::token_at))]
 fn read_token_of<R: Read + Drop>(
@@ -121,8 +121,9 @@ fn read_token_of<R: Read + Drop>(
     }
 }
 
-/// The next token of a first pass, where `room` places are left of the band. A value that is within
-/// them is looked up by the next 11 bits. A refusal is held in its place, and answered by none.
+/// Reads the next token of a first pass, where `room` places are left of the band. A value that
+/// is within them is looked up by the next 11 bits. A refusal is stored in `refusal`, and none is
+/// returned.
 #[inline(always)]
 fn read_token<R: Read + Drop>(
     held: &mut Held,
@@ -161,7 +162,7 @@ fn power_i16(exponent: u8) -> i16
     power_of_two(exponent) as i16
 }
 
-/// A product with a power of two, modulo 2^16.
+/// Returns a product with a power of two, modulo 2^16.
 #[inline]
 pub(crate) fn shifted(value: i16, point: u8) -> i16
     requires { point ≤ 13 }
@@ -170,8 +171,8 @@ pub(crate) fn shifted(value: i16, point: u8) -> i16
     value.wrapping_mul(power_i16(point))
 }
 
-/// The band of a block in a first pass, and the blocks of the run that follows. A refusal is held
-/// in its place, and answered by none.
+/// Reads the band of a block in a first pass, and the blocks of the run that follows. A refusal
+/// is stored in `refusal`, and none is returned.
 #[inline(always)]
 fn read_places<R: Read + Drop>(
     held: &mut Held,

@@ -14,7 +14,7 @@ const PLACES: [u8; 64] = [
     53, 60, 61, 54, 47, 55, 62, 63,
 ];
 
-/// The place in the block, `8 * row + column`, of a place in zigzag order (T.81, A.3.6).
+/// Returns the place in the block, `8 * row + column`, of a place in zigzag order (T.81, A.3.6).
 #[inline(always)]
 pub(crate) fn place_of(zigzag_place: usize) -> usize
     requires { zigzag_place < 64 }
