@@ -70,7 +70,7 @@ enum { ZAXBRIAR_SEQUENTIAL = 1, ZAXBRIAR_PROGRESSIVE = 2, ZAXBRIAR_LOSSLESS = 3 
  * pictures of three components, CMYK and YCCK for those of four; decoding others is MALFORMED.
  * Grey and lossless pictures aren't affected. */
 enum {
-    ZAXBRIAR_TRANSFORM_OF_STREAM = 0, /* 1 isn't one */
+    ZAXBRIAR_TRANSFORM_OF_STREAM = 0, /* there is no transform 1 */
     ZAXBRIAR_TRANSFORM_RGB = 2,
     ZAXBRIAR_TRANSFORM_YCBCR = 3,
     ZAXBRIAR_TRANSFORM_CMYK = 4,
