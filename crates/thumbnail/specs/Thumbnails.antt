@@ -1,5 +1,5 @@
 -- The file that the program writes for a stream.
-use Rattle.std.specs.Prelude.{ℕ, List, Option, ◌×◌, ◌≤◌, ◌≡◌, Some}
+use Rattle.std.specs.Prelude.{ℕ, List, Option, ◌≤◌, ◌≡◌, Some}
 use Rattle.std.specs.Io.KnownBytes.{Appends}
 use Rattle.jpeg_programs.specs.Netpbm.{file_of}
 use Rattle.jpeg_programs.specs.ScaledPictures.{Decoded, picture_at_scale}

@@ -1,6 +1,6 @@
 -- Pictures turned upright by the orientation in their Exif data: where each byte comes from.
 use Rattle.std.specs.Prelude.{ℕ, zero, suc, ◌+◌, ◌-◌, ◌*◌, ◌/◌, ◌%◌, ◌==◌, ◌||◌, List, [], ◌∷◌, ◌++◌, length}
-use Rattle.std.specs.Prelude.{Bool, if◌then◌else◌, nat_lt, get_or}
+use Rattle.std.specs.Prelude.{Bool, if◌then◌else◌, nat_lt, slice_index_or}
 use Rattle.jpeg_streams.specs.declared.images.ImageInfo.{ImageInfo}
 use Rattle.jpeg_streams.specs.declared.images.PixelFormat.{PixelFormat}
 use Rattle.jpeg_streams.specs.declared.images.PixelFormat.TheVariants.{L8, L16, RGB24, CMYK32}
@@ -38,7 +38,7 @@ source_of turn place =
     stored_place turn (pixel % wide) (pixel / wide) * turn.bytes + place % turn.bytes
 
 unfoldable pub turned_byte : Turn → List ℕ → ℕ → ℕ
-turned_byte turn pixels place = get_or pixels (source_of turn place) 0
+turned_byte turn pixels place = slice_index_or pixels (source_of turn place) 0
 
 -- the values of a function at so many numbers from 0
 unfoldable pub tabulate : ℕ → (ℕ → ℕ) → List ℕ

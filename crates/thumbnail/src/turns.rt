@@ -77,6 +77,7 @@ fn source_of(turn: Turn, place: usize) -> Option<usize>
 }
 
 /// Returns a byte of the upright picture.
+#[tactic(auto, unfolding(crate::specs::Turns::turned_byte))]
 fn turned_byte(turn: Turn, pixels: &[u8], place: usize) -> Option<u8>
     ensures { IfSome result (λ byte. byte ≡ turned_byte turn pixels.now place) }
 {
