@@ -42,4 +42,4 @@ pub mod PictureSizes
 pub mod LosslessPictureSizes
 pub mod OnLiterals
 pub mod MemorySums
-mod LosslessOnLiterals
+pub mod LosslessOnLiterals

@@ -8,7 +8,8 @@ ghost use Rattle.jpeg_bits.specs.Codes.{all_below};
 ghost use Rattle.jpeg_bits.specs.Zigzag.{zigzag};
 ghost use Rattle.jpeg_streams.specs.Worked.{picture_meant};
 ghost use Rattle.jpeg_evidence.specs.Cosines.{adds, are_entries, cosine, is_positive, unit};
-ghost use Rattle.jpeg_evidence.specs.Files.{picture_of_files, progressive_file, sequential_file};
+ghost use Rattle.jpeg_evidence.specs.Files.{lossless_file, picture_of_files, progressive_file};
+ghost use Rattle.jpeg_evidence.specs.Files.{samples_of_file, sequential_file};
 ghost use Rattle.jpeg_evidence.specs.Walks.{at, walk};
 
 /// The zigzag order is the walk over a block's diagonals of T.81, Figure A.6.
@@ -37,4 +38,9 @@ pub fn matrix_is_of_cosines()
 pub fn files_mean_their_picture()
     ensures sequential { picture_meant sequential_file ≡ Ok picture_of_files }
     ensures progressive { picture_meant progressive_file ≡ Ok picture_of_files }
+{}
+
+/// A lossless file of `dcmcjpeg` means the samples that it was given.
+pub fn lossless_file_means_its_samples()
+    ensures { picture_meant lossless_file ≡ Ok samples_of_file }
 {}
