@@ -113,7 +113,7 @@ fn read_or_end<R: Read + Drop>(alloc: Global, source: &mut Source<R>) -> Result<
     Ok(if count == 0 { None } else { Some(buffer[0]) })
 }
 
-/// The bits read ahead of a source, and the end that was met.
+/// The bits read ahead of a source, and the end that was reached.
 #[derive(Debug, Drop)]
 pub(crate) struct Held {
     alloc: Global,
@@ -405,7 +405,7 @@ impl Held {
         number
     }
 
-    /// Takes the first `count` bits of those held away.
+    /// Drops the first `count` buffered bits.
     #[inline(always)]
     pub(crate) fn skip(&mut self, count: usize)
         requires { count ≤ 16 }

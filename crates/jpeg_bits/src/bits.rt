@@ -62,7 +62,7 @@ impl Bits {
         self.count
     }
 
-    /// Puts a byte's bits after those held.
+    /// Appends a byte's bits to those buffered.
     #[inline(always)]
     pub(crate) fn push(&mut self, byte: u8)
         requires { length self.old ≤ 56 }
@@ -99,7 +99,7 @@ impl Bits {
         (self.word >> 56) as u8
     }
 
-    /// Takes the first `count` bits away, or all where fewer are held.
+    /// Drops the first `count` bits, or all where fewer are buffered.
     #[inline(always)]
     pub(crate) fn skip(&mut self, count: usize)
         requires { count ≤ 16 }

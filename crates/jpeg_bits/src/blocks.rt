@@ -15,15 +15,15 @@ use crate::source::Source;
 use crate::tokens::{read_difference, read_first_band, shifted, wrapped_sum};
 use std::io::Read;
 
-/// What a scan codes: the places from `ss` to `se` at the point transform `al`, for the first time
-/// or as a refinement.
+/// What a scan codes: the coefficients from `ss` to `se` in zigzag order at the point transform
+/// `al`, for the first time or as a refinement.
 #[derive(Clone, Copy, Debug, PartialEq)]
 pub struct Pass {
-    /// Whether the places are coded for the first time.
+    /// Whether the coefficients are coded for the first time.
     pub is_first: bool,
-    /// The first place of the band (T.81, B.2.3): Ss.
+    /// The first coefficient of the band (T.81, B.2.3): Ss.
     pub ss: u8,
-    /// The last place of the band: Se.
+    /// The last coefficient of the band: Se.
     pub se: u8,
     /// The point transform: Al.
     pub al: u8,
@@ -34,7 +34,8 @@ impl Pass {
     ghost use Rattle.jpeg_bits.specs.BlockView.{pass_in};
     ghost use Rattle.jpeg_bits.specs.ZigzagParts.{band_start, band_end};
 
-    /// Returns the zigzag place at which the band begins (T.81, G.1.1.1.1). DC is no part of it.
+    /// Returns the index in zigzag order at which the band begins (T.81, G.1.1.1.1). DC is no part
+    /// of it.
     #[inline(always)]
     pub(crate) fn band_start(self) -> usize
         ensures { result ≡ band_start (pass_in self) }
@@ -42,7 +43,7 @@ impl Pass {
         usize::from(self.ss.max(1))
     }
 
-    /// Returns the zigzag place after the last one of the band.
+    /// Returns the index in zigzag order after the last one of the band.
     #[inline(always)]
     pub(crate) fn band_end(self) -> usize
         ensures { result ≡ band_end (pass_in self) }
@@ -72,7 +73,7 @@ pub struct BlockCoding<'a> {
 pub struct Carried {
     /// The predictor of the DC coefficient of each component, by its index in the scan.
     pub predictors: [i16; 4],
-    /// The number of blocks that follow in the end-of-band run that was last met (T.81, G.1.2.2).
+    /// The number of blocks that follow in the end-of-band run that was last read (T.81, G.1.2.2).
     pub run: u16,
 }
 

@@ -53,7 +53,7 @@ const CHROMINANCE_AC_SYMBOLS: [u8; 162] = [
     0xf9, 0xfa,
 ];
 
-/// Returns whether a place is among those named.
+/// Returns whether a destination is among those named.
 fn names(places: &[usize], place: usize) -> bool
     ensures { result ≡ names places.now place }
 {
@@ -68,7 +68,7 @@ struct Listed<'a> {
     ghost codes: { AreCodes counts.now symbols.now },
 }
 
-/// Puts the table of these codes at a place that is named and unset.
+/// Puts the table of these codes at a destination that is named and unset.
 fn fill(
     alloc: Global,
     table: &mut Option<HuffmanTable>,
@@ -91,7 +91,7 @@ fn fill(
     Ok(())
 }
 
-/// Fills places 0 and 1, where they are named and unset, with the tables of luminance and of
+/// Fills destinations 0 and 1, where they are named and unset, with the tables of luminance and of
 /// chrominance.
 fn fill_both(
     alloc: Global,
@@ -122,10 +122,10 @@ fn fill_both(
 }
 
 /// Puts the default tables of T.81 (Tables K.3 to K.6), which the frames of an MJPEG stream may
-/// leave out, at those of the places 0 and 1 that a scan names and that are unset. All other places
-/// stay as they are. The lists have a table for each place, DC and AC.
+/// leave out, at those of the destinations 0 and 1 that a scan names and that are unset. All others
+/// stay as they are. The lists have a table for each destination, DC and AC.
 ///
-/// The only error is `OutOfMemory`; places that were filled before it stay filled.
+/// The only error is `OutOfMemory`; destinations that were filled before it stay filled.
 pub fn fill_default_mjpeg_tables(
     alloc: Global,
     scan: &ScanInfo,

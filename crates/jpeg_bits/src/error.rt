@@ -101,8 +101,7 @@ pub fn format_error_of(text: std::result::Result<String, AllocError>) -> Error
     }
 }
 
-/// Holds `format_error` in the place of a refusal: a call in which no `Error` stands has none to
-/// make room for.
+/// Stores `format_error` in `refusal`: a call in which no `Error` stands has none to make room for.
 #[cold]
 #[inline(never)]
 pub fn hold_format_error(alloc: Global, text: &str, refusal: &mut Option<Error>)

@@ -13,9 +13,9 @@ use std::io::Read;
 use std::marker::Model;
 
 /// A reader of entropy-coded bits (T.81, F.2.2): those read ahead of a source, at most 64, and the
-/// end that was met. Stuffed zeros are taken out (B.1.1.5). After a marker, zeros come without end.
-/// A fault that is met is refused only where a bit after it is taken, and a read that fails at
-/// once, by the call that meets it.
+/// end that was reached. Stuffed zeros are taken out (B.1.1.5). After a marker, zeros come without
+/// end. A fault in the data is refused only where a bit after it is taken, and a read that fails at
+/// once, by the call that reads.
 #[derive(Debug, Drop)]
 pub struct HuffmanDecoder {
     alloc: Global,
@@ -63,7 +63,7 @@ impl HuffmanDecoder {
         }
     }
 
-    /// Forgets the bits read ahead, as at a restart (T.81, E.2.4). A marker that was met stays met.
+    /// Forgets the bits read ahead, as at a restart (T.81, E.2.4). A marker that was reached is kept.
     pub fn reset(&mut self)
         ensures { self.new ≡ record self.old { bits = [] } }
     {
@@ -156,7 +156,7 @@ impl HuffmanDecoder {
         marker_of_end(self.alloc, end)
     }
 
-    /// As `receive_extend`. A refusal is put into its place, and answered by none.
+    /// As `receive_extend`. A refusal is stored in `refusal`, and none is returned.
     #[inline(always)]
     pub fn take_signed<R: Read + Drop>(
         &mut self,
@@ -173,7 +173,7 @@ impl HuffmanDecoder {
         self.held.take_signed(source, count, refusal)
     }
 
-    /// As `decode`. A refusal is put into its place, and answered by none: a call in which no
+    /// As `decode`. A refusal is stored in `refusal`, and none is returned: a call in which no
     /// `Error` stands has none to make room for.
     #[inline(always)]
     pub fn take_symbol<R: Read + Drop>(

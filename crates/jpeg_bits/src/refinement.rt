@@ -28,7 +28,7 @@ use std::alloc::Global;
 use std::io::Read;
 use std::simd::prelude::*;
 
-/// What a token of a refinement says of the places after it.
+/// What a token of a refinement says of the coefficients after it.
 #[derive(Clone, Copy, Debug, PartialEq)]
 pub enum Refinement {
     /// The piece ends with the sixteenth zero.
@@ -116,7 +116,7 @@ fn move_away(alloc: Global, value: i16, by: u16, refusal: &mut Option<Error>) ->
     }
 }
 
-/// Reads a place of a piece, with its correction bit.
+/// Reads a coefficient of a piece, with its correction bit.
 #[inline(always)]
 #[tactic(auto, unfolding(crate::specs::Pieces::place_from))]
 fn correct<R: Read + Drop>(
@@ -435,7 +435,7 @@ fn read_refined_places<R: Read + Drop>(
     Some(0)
 }
 
-/// As `read_refined_places`, on a copy of what is held: a local that stays in registers.
+/// As `read_refined_places`, on a copy of the buffered bits: a local that stays in registers.
 #[inline(never)]
 pub(crate) fn read_refined_band<R: Read + Drop>(
     held: &mut Held,
@@ -458,7 +458,7 @@ pub(crate) fn read_refined_band<R: Read + Drop>(
     run
 }
 
-/// Reads the whole band of a block, one correction bit for each place that isn't zero. A refusal
+/// Reads the whole band of a block, one correction bit for each coefficient that isn't zero. A refusal
 /// is stored in `refusal`, and false is returned.
 pub(crate) fn correct_band<R: Read + Drop>(
     held: &mut Held,

@@ -26,16 +26,16 @@ pub enum Predictor {
     RaRb,
 }
 
-/// A scan header. The lists have a place for each component of the scan, in its order.
+/// A scan header. The lists have an entry for each component of the scan, in its order.
 #[derive(Debug, Drop)]
 pub struct ScanInfo {
     /// The components' indices in the frame.
     pub component_indices: Vec<usize>,
-    /// The places of their DC tables.
+    /// The destinations of their DC tables.
     pub dc_table_indices: Vec<usize>,
-    /// The places of their AC tables.
+    /// The destinations of their AC tables.
     pub ac_table_indices: Vec<usize>,
-    /// The coefficients that the scan codes, by their places in zigzag order.
+    /// The coefficients that the scan codes, by their indices in zigzag order.
     pub spectral_selection: Range<u8>,
     /// The predictor of a lossless scan.
     pub predictor_selection: Predictor,

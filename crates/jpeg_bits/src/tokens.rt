@@ -121,7 +121,7 @@ fn read_token_of<R: Read + Drop>(
     }
 }
 
-/// Reads the next token of a first pass, where `room` places are left of the band. A value that
+/// Reads the next token of a first pass, where `room` coefficients are left of the band. A value that
 /// is within them is looked up by the next 11 bits. A refusal is stored in `refusal`, and none is
 /// returned.
 #[inline(always)]
@@ -211,7 +211,7 @@ fn read_places<R: Read + Drop>(
     Some(0)
 }
 
-/// As `read_places`, on a copy of what is held: a local that stays in registers.
+/// As `read_places`, on a copy of the buffered bits: a local that stays in registers.
 #[inline(never)]
 pub(crate) fn read_first_band<R: Read + Drop>(
     held: &mut Held,

@@ -113,7 +113,7 @@ pub fn frames_are_covered_at_each_scale()
 {}
 
 /// A scan of a sequential frame decodes its rows of MCUs from zeros, and one of a progressive frame
-/// decodes its blocks on top of those that are held.
+/// decodes its blocks on top of those that are kept.
 pub fn scans_of_frames()
     ensures sequential { (found : Found) (frame : Frame) (scan : Scan) (c : Coding)
         (codings : List Coding) (bytes : List ℕ) →

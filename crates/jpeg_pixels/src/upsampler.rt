@@ -200,10 +200,10 @@ impl Upsampler {
     ghost use Rattle.jpeg_pixels.specs.PicturesView.{IsFor};
     ghost use Rattle.jpeg_segments.specs.Frame.{AllHaveSampling};
 
-    /// The upsampler of a frame's components for a picture of this size in pixels.
+    /// Makes the upsampler of a frame's components for a picture of this size in pixels.
     ///
-    /// A component for which there is no rule is `Unsupported(NonIntegerSubsamplingRatio)`, and
-    /// want of memory is `OutOfMemory`.
+    /// A component for which there is no rule is `Unsupported(NonIntegerSubsamplingRatio)`, and a
+    /// refused allocation `OutOfMemory`.
     pub fn new(
         alloc: Global,
         components: &[Component],

@@ -10,7 +10,7 @@ use test_streams::streams::bytes;
 /// A size, in columns and lines.
 type Size = (u16, u16);
 
-/// A name, a stream, the size asked for, the size that is answered, and the picture.
+/// A name, a stream, the size asked for, the size that is returned, and the picture.
 type Scaled = (&'static str, &'static str, Size, Size, &'static str);
 
 const SEQUENTIAL: [Scaled; 9] = [
@@ -80,7 +80,7 @@ const SEQUENTIAL: [Scaled; 9] = [
     ),
 ];
 
-/// The coefficients 3 and -1 at places 1 and 2, in scans of several kinds and orders.
+/// The coefficients 3 and -1 at indices 1 and 2 in zigzag order, in scans of several kinds and orders.
 const TWO_COEFFICIENTS: [Scaled; 6] = [
     (
         "a refinement of a band",

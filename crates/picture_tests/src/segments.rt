@@ -7,7 +7,7 @@ use test_streams::named;
 use test_streams::named::Named;
 use test_streams::streams::{AC_0, DC_4, FRAME, ONE_BLOCK, ONES, SCAN, bytes};
 
-/// Entropy-coded data of one block or two, and where a fault after it is met.
+/// Entropy-coded data of one block or two, and where a fault after it is found.
 const DATA: [(&str, &str, Gives); 7] = [
     (
         "DC alone",

@@ -101,7 +101,7 @@ impl Levels {
         (0, 0)
     }
 
-    /// The end of a band that begins at a place, and whose coefficients are sent at one level.
+    /// The end of a band that begins at an index, and whose coefficients are sent at one level.
     fn band_end(&self, random: &mut Random, component: usize, start: usize) -> usize {
         let level = self.level(component, start);
         let mut end = start;

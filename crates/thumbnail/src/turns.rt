@@ -43,7 +43,7 @@ fn flips_y(orientation: u8) -> bool
     orientation == 3 || orientation == 4 || orientation == 6 || orientation == 7
 }
 
-/// Returns a place on a side, from its other end where it is flipped.
+/// Returns an index along a side, from its other end where it is flipped.
 fn mirrored(is_flipped: bool, side: usize, place: usize) -> usize
     ensures { result ≡ mirrored is_flipped side place }
 {
