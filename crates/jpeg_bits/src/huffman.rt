@@ -63,7 +63,8 @@ impl HuffmanDecoder {
         }
     }
 
-    /// Forgets the bits read ahead, as at a restart (T.81, E.2.4). A marker that was reached is kept.
+    /// Forgets the bits read ahead, as at a restart (T.81, E.2.4). A marker that was reached
+    /// is kept.
     pub fn reset(&mut self)
         ensures { self.new ≡ record self.old { bits = [] } }
     {

@@ -458,8 +458,8 @@ pub(crate) fn read_refined_band<R: Read + Drop>(
     run
 }
 
-/// Reads the whole band of a block, one correction bit for each coefficient that isn't zero. A refusal
-/// is stored in `refusal`, and false is returned.
+/// Reads the whole band of a block, one correction bit for each coefficient that isn't zero. A
+/// refusal is stored in `refusal`, and false is returned.
 pub(crate) fn correct_band<R: Read + Drop>(
     held: &mut Held,
     source: &mut Source<R>,

@@ -121,9 +121,9 @@ fn read_token_of<R: Read + Drop>(
     }
 }
 
-/// Reads the next token of a first pass, where `room` coefficients are left of the band. A value that
-/// is within them is looked up by the next 11 bits. A refusal is stored in `refusal`, and none is
-/// returned.
+/// Reads the next token of a first pass, where `room` coefficients are left of the band. A value
+/// that is within them is looked up by the next 11 bits. A refusal is stored in `refusal`, and
+/// none is returned.
 #[inline(always)]
 fn read_token<R: Read + Drop>(
     held: &mut Held,

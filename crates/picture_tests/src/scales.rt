@@ -80,7 +80,8 @@ const SEQUENTIAL: [Scaled; 9] = [
     ),
 ];
 
-/// The coefficients 3 and -1 at indices 1 and 2 in zigzag order, in scans of several kinds and orders.
+/// The coefficients 3 and -1 at indices 1 and 2 in zigzag order, in scans of several kinds and
+/// orders.
 const TWO_COEFFICIENTS: [Scaled; 6] = [
     (
         "a refinement of a band",
