@@ -3,7 +3,7 @@
 
     docs/believed.py            counts and names by file
     docs/believed.py --table    the generated part of docs/DESIGN.md
-    docs/believed.py --shared   that of docs/HEADLINE.md: what writer, reader and picture share
+    docs/believed.py --shared   that of docs/SHARED.md: what writer, reader and picture share
     docs/believed.py --check    fails with a diff where a page differs from what this computes
     docs/believed.py --write    writes both parts into the pages
 
@@ -203,7 +203,7 @@ def table(specs):
 
 
 def shared(specs):
-    """The generated part of docs/HEADLINE.md."""
+    """The generated part of docs/SHARED.md."""
     reader = specs.under(READER)
     for what, names in [("What is written", WRITER), ("The picture", PICTURE)]:
         under = specs.under(names)
@@ -233,7 +233,7 @@ def main(choice):
         return
     if choice not in ("--check", "--write"):
         sys.exit(__doc__)
-    for page, part in [("docs/DESIGN.md", table(specs)), ("docs/HEADLINE.md", shared(specs))]:
+    for page, part in [("docs/DESIGN.md", table(specs)), ("docs/SHARED.md", shared(specs))]:
         old = (ROOT / page).read_text("utf8")
         new = "\n".join([old.split(BEGIN)[0] + BEGIN, *part, "", END + old.split(END)[1]])
         if choice == "--write":

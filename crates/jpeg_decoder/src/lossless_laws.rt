@@ -1,4 +1,4 @@
-//! Theorems on lossless streams, each on a function without a body. docs/HEADLINE.md says them in
+//! Theorems on lossless streams, each on a function without a body. docs/LOSSLESS.md says them in
 //! plain words.
 ghost use Rattle.std.specs.Prelude.{◌≡◌, ℕ, ◌*◌, ◌/◌, ◌<◌, List, [], ◌∷◌, ◌++◌, drop, Some, Ok};
 ghost use Rattle.std.specs.List.{AllByRecursion};
