@@ -1,4 +1,6 @@
 -- Steps of the loop over the tokens of a band.
+use Rattle.std.proofs.lemmas.Grind.{common_steps}
+use Rattle.std.proofs.lemmas.Bool.Decides.{nat_tests}
 use Rattle.std.proofs.Common.{◌≡◌, ℕ, zero, suc, ◌+◌, ◌-◌, ◌^◌, ◌<◌, ◌≤◌, true, List, [], ◌∷◌, ◌++◌, length, take, drop}
 use Rattle.std.proofs.Common.{set, ℤ, pos, ◌*ℤ◌, Result, Ok, Err, refl, sym, ap, ◌∙◌, subst, arith, append_assoc}
 use Rattle.std.proofs.Common.{append-nil, length-drop, length-set}
@@ -9,7 +11,6 @@ use Rattle.jpeg_bits.specs.Reading.{Fault}
 use Rattle.jpeg_bits.specs.Entropy.{Text, Ahead, upcoming, Takes}
 use Rattle.jpeg_bits.specs.Codes.{Table}
 use Rattle.jpeg_bits.specs.declared.error.Error.{Error}
-use Rattle.jpeg_bits.proofs.Loops.{Names-through, MayFail-from}
 use Rattle.jpeg_bits.specs.Readers.{Reads, ◌>>=◌, gives, read_on}
 use Rattle.jpeg_bits.specs.Bands.{Band, before_more, wrapped, first_ac, token_from, after_token}
 use Rattle.jpeg_bits.specs.declared.tokens.Token.{Token}
@@ -35,12 +36,10 @@ after_front front others = others >>= (λ more. gives (before_more front more))
 joined : (xs ys : List ℤ) (o : Result (Band × Text) Fault)
     → read_on (λ more. gives (before_more xs more)) (read_on (λ more. gives (before_more ys more)) o)
     ≡ read_on (λ more. gives (before_more (xs ++ ys) more)) o
-joined xs ys (Ok m) = ap (λ (l : List ℤ). Ok ((l, m.0.1), m.1)) (sym (append_assoc xs ys m.0.0))
-joined xs ys (Err e) = refl
+joined xs ys o = grind (arith, append_assoc)
 
 nothing-before : (o : Result (Band × Text) Fault) → o ≡ read_on (λ more. gives (before_more [] more)) o
-nothing-before (Ok m) = refl
-nothing-before (Err e) = refl
+nothing-before o = grind arith
 
 pub Leaves-start : (whole : Reads Band) (a : Ahead) (old : Stream) → Leaves whole a old (after_front [] whole) a old
 Leaves-start whole a old = (refl, λ k. (k, nothing-before (whole (upcoming a old.bytes))))
@@ -57,38 +56,20 @@ module _ (table : Table) (al : ℕ) (whole : Reads Band) (a b d : Ahead) (old cu
   step : (k : Token) → Leaves whole a old (after_front front (first_ac table al (suc n) places)) b cur
       → Takes (λ (t : Token). t) reader b cur (Ok k) d new
       → Leaves whole a old (after_front front (after_token al (first_ac table al n) places k)) d new
-  step k p q = (
-    q.0 ∙ p.0,
-    λ known. let at = p.1 known in let by = q.1 at.0 in (
-      by.0,
-      at.1 ∙ ap (read_on (λ more. gives (before_more front more))) (first_ac-token table al n x rest
-          (upcoming b cur.bytes) ∙ ap (read_on (after_token al (first_ac table al n) places)) by.1),
-    ),
-  )
+  step k p q = grind (arith, first_ac-token)
 
   pub Leaves-value : (r : ℕ) (v : ℤ) → Leaves whole a old (after_front front (first_ac table al (suc n) places)) b cur
       → Takes (λ (t : Token). t) reader b cur (Ok (Value r v)) d new
       → Leaves whole a old (after_front (front ++ (take r places ++ wrapped (v *ℤ pos (2 ^ al)) ∷ []))
       (first_ac table al n (drop (r + 1) places))) d new
   Leaves-value r v p q =
-      let s = step (Value r v) p q in (
-        s.0,
-        λ known. let at = s.1 known in (
-          at.0,
-          at.1 ∙ joined front (take r places ++ wrapped (v *ℤ pos (2 ^ al)) ∷ [])
-              (first_ac table al n (drop (r + 1) places) (upcoming d new.bytes)),
-        ),
-      )
+      let s = step (Value r v) p q in grind (arith, common_steps, nat_tests, joined)
 
   pub Leaves-sixteen : Leaves whole a old (after_front front (first_ac table al (suc n) places)) b cur
       → Takes (λ (t : Token). t) reader b cur (Ok Sixteen) d new
       → Leaves whole a old (after_front (front ++ take 16 places) (first_ac table al n (drop 16 places))) d new
   Leaves-sixteen p q =
-      let s = step Sixteen p q in (
-        s.0,
-        λ known. let at = s.1 known in
-            (at.0, at.1 ∙ joined front (take 16 places) (first_ac table al n (drop 16 places) (upcoming d new.bytes))),
-      )
+      let s = step Sixteen p q in grind (arith, common_steps, nat_tests, joined)
 
   pub Leaves-rest : {X : Type 0} (view : X → Band) (run : ℕ) (y : X) → view y ≡ (front ++ places, run)
       → Leaves whole a old (after_front front (first_ac table al (suc n) places)) b cur
@@ -110,27 +91,13 @@ module _ (table : Table) (al : ℕ) (whole : Reads Band) (a b d : Ahead) (old cu
       → Leaves whole a old (after_front front (first_ac table al (suc n) places)) b cur
       → Takes (λ (t : Token). t) reader b cur (Err e) d new
       → Takes view whole a old (Err e) d new
-  Leaves-refused view e p q = (
-    MayFail-from e _ _ _ p.0 q.0,
-    (λ known still. let at = p.1 known in
-        Names-through e _ _ (λ f h. at.1 ∙ ap (read_on (λ more. gives (before_more front more)))
-        (first_ac-token table al n x rest (upcoming b cur.bytes)
-        ∙ ap (read_on (after_token al (first_ac table al n) places)) h)) (q.1 at.0 still)),
-    λ known. q.2 (p.1 known).0,
-  )
+  Leaves-refused view e p q = grind (arith, first_ac-token)
 
 pub Leaves-none : {X : Type 0} (view : X → Band) (table : Table) (al n : ℕ) (whole : Reads Band) (a b : Ahead)
     (old new : Stream) (front : List ℤ) (y : X) → view y ≡ (front, 0)
     → Leaves whole a old (after_front front (first_ac table al n [])) b new → Takes view whole a old (Ok y) b new
 unfolding first_ac
-Leaves-none view table al n whole a b old new front y e p = (
-  p.0,
-  λ known. let at = p.1 known in (
-    at.0,
-    at.1 ∙ ap (λ (z : Band). Ok (z, upcoming b new.bytes)) (ap (λ (l : List ℤ). (l, 0)) (append-nil front)
-        ∙ sym e),
-  ),
-)
+Leaves-none view table al n whole a b old new front y e p = grind (arith, append-nil)
 
 -- a band is written up to a place, and what is left is read with some turns
 abbrev pub IsAt : Table → ℕ → Reads Band → Ahead → Stream → List ℤ → ℕ → Ahead → Stream → Type 0
@@ -194,15 +161,7 @@ module _ (table : Table) (al : ℕ) (whole : Reads Band) (a b d : Ahead) (old cu
       let back : drop (r + 1) (m.x ∷ m.rest) ≡ drop (at + r + 1) (set band (at + r) w)
       = ap (drop (r + 1)) (sym m.is) ∙ drop-drop (r + 1) at band ∙ ap (λ (k : ℕ). drop k band) place
       ∙ sym (drop-set-lt (at + r + 1) band (at + r) w (omega arith)) in
-      let room = m.room in (
-        m.n,
-        omega (arith, length-set band (at + r) w),
-        subst (λ (f : List ℤ). Leaves whole a old
-            (after_front f (first_ac table al m.n (drop (at + r + 1) (set band (at + r) w)))) d new) front
-            (subst (λ (l : List ℤ). Leaves whole a old
-            (after_front (take at band ++ (take r (m.x ∷ m.rest) ++ value ∷ [])) (first_ac table al m.n l)) d new)
-            back s),
-      )
+      let room = m.room in grind (arith, common_steps, nat_tests, length-set)
 
   IsAt-after : (to : ℕ) → at < to → take at band ++ take 16 (drop at band) ≡ take to band
       → drop 16 (drop at band) ≡ drop to band → IsAt table al whole a old band at b cur
@@ -212,14 +171,7 @@ module _ (table : Table) (al : ℕ) (whole : Reads Band) (a b d : Ahead) (old cu
       let m = parts p in
       let s = Leaves-sixteen table al whole a b d old cur new (take at band) m.n m.x m.rest m.text
       (token-of (λ (t : Token). t) (Ok Sixteen) m q) in
-      let room = m.room in (
-        m.n,
-        omega arith,
-        subst (λ (f : List ℤ). Leaves whole a old (after_front f (first_ac table al m.n (drop to band))) d new)
-            (ap (λ (l : List ℤ). take at band ++ take 16 l) (sym m.is) ∙ front)
-            (subst (λ (l : List ℤ). Leaves whole a old (after_front (take at band ++ take 16 (m.x ∷ m.rest))
-            (first_ac table al m.n l)) d new) (ap (drop 16) (sym m.is) ∙ back) s),
-      )
+      let room = m.room in grind (arith, common_steps, nat_tests)
 
   pub IsAt-sixteen : IsAt table al whole a old band at b cur
       → Takes (λ (t : Token). t) (token_from table (length band - at)) b cur (Ok Sixteen) d new

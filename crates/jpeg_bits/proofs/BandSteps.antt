@@ -1,13 +1,10 @@
 -- Steps of loops over a decoder.
-use Rattle.std.proofs.Common.{◌≡◌, ℕ, zero, suc, ◌<◌, Bool, List, Result, Ok, Err, refl, sym, ap, ◌∙◌, arith, ◌++◌}
-use Rattle.std.proofs.Common.{append_assoc, ℤ}
+use Rattle.std.proofs.Common.{◌≡◌, ℕ, ◌<◌, Bool, List, Result, Ok, Err, refl, ◌∙◌, arith, ◌++◌, append_assoc, ℤ}
 use Rattle.jpeg_bits.specs.Stream.{Stream}
 use Rattle.jpeg_bits.specs.Reading.{Fault, ◌>>=◌}
-use Rattle.std.proofs.Common.{length}
 use Rattle.std.proofs.lemmas.Bool.{le-leb}
-use Rattle.jpeg_bits.specs.Entropy.{Text, Ahead, Takes, Ending, Found, Broken, has_bits, bits_from}
+use Rattle.jpeg_bits.specs.Entropy.{Text, Ahead, Takes, Ending, has_bits, bits_from}
 use Rattle.jpeg_bits.specs.declared.error.Error.{Error}
-use Rattle.jpeg_bits.proofs.Loops.{Names-through, MayFail-from}
 use Rattle.jpeg_bits.specs.Bands.{Band}
 use Rattle.jpeg_bits.proofs.BandLoop.{Leaves}
 use Rattle.jpeg_bits.specs.Pieces.{before}
@@ -17,21 +14,14 @@ pub Leaves-ok : {X Y W : Type 0} (view : X → W) (whole rest next : Text → Re
     → Result (W × Text) Fault) (a b d : Ahead) (old cur new : Stream) (x : X)
     → ((t u : Text) → read t ≡ Ok (view x, u) → rest t ≡ next u) → Leaves whole a old rest b cur
     → Takes view read b cur (Ok x) d new → Leaves whole a old next d new
-Leaves-ok view whole rest next read a b d old cur new x step p q =
-    (q.0 ∙ p.0, λ k. let at = p.1 k in let by = q.1 at.0 in (by.0, at.1 ∙ step _ _ by.1))
+Leaves-ok view whole rest next read a b d old cur new x step p q = grind arith
 
 -- a refusal after a part of the whole
 pub Leaves-err : {X Y Z W : Type 0} (v : X → Y) (view : Z → W) (whole rest : Text → Result (Y × Text) Fault)
     (read : Text → Result (W × Text) Fault) (a b d : Ahead) (old cur new : Stream) (e : Error)
     → ((t : Text) (f : Fault) → read t ≡ Err f → rest t ≡ Err f) → Leaves whole a old rest b cur
     → Takes view read b cur (Err e) d new → Takes v whole a old (Err e) d new
-Leaves-err v view whole rest read a b d old cur new e through p q = (
-  MayFail-from e _ _ _ p.0 q.0,
-  λ k known.
-      let at = p.1 k in
-      Names-through e _ _ (λ f h. at.1 ∙ through _ f h) (q.1 at.0 known),
-  λ k. q.2 (p.1 k).0,
-)
+Leaves-err v view whole rest read a b d old cur new e through p q = grind arith
 
 -- the end of the whole
 pub Leaves-end : {X Y : Type 0} (v : X → Y) (whole rest : Text → Result (Y × Text) Fault) (a b : Ahead)
@@ -45,20 +35,16 @@ Leaves-whole whole a old = (refl, λ k. (k, refl))
 
 pub bind_same : {A B : Type 0} (r : Result A Fault) (f g : A → Result B Fault) → ((x : A) → f x ≡ g x)
     → (r >>= f) ≡ (r >>= g)
-bind_same (Ok x) f g h = h x
-bind_same (Err e) f g h = refl
+bind_same r f g h = grind arith
 
 pub before-before : (a b : List ℤ) (o : Result (Band × Text) Fault) → before a (before b o) ≡ before (a ++ b) o
-before-before a b (Ok x) = ap (λ (ys : List ℤ). Ok ((ys, x.0.1), x.1)) (sym (append_assoc a b x.0.0))
-before-before a b (Err e) = refl
+before-before a b o = grind (arith, append_assoc)
 
 pub pos-of-ne : (n : ℕ) → (n ≡ 0 → ⊥) → 0 < n
-pos-of-ne zero h = absurd (h refl)
-pos-of-ne (suc n) h = omega arith
+pos-of-ne n h = grind arith
 
 has_no_bits : (bits : List Bool) (e : Ending) → has_bits 0 bits e ≡ Ok tt
-has_no_bits bits (Found m rest) = refl
-has_no_bits bits (Broken f) = rw (le-leb 0 (length bits) (omega arith)) refl
+has_no_bits bits e = grind (arith, le-leb)
 
 -- no bits are 0, and change nothing
 pub no_bits_taken : (r : ℕ) (t : Text) → r ≡ 0 → bits_from r t ≡ Ok (0, t)

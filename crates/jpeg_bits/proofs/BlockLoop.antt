@@ -25,8 +25,7 @@ IsAtPlace table p whole a old block at b cur =
 -- the place within the band is another number
 moved : (table : Table) (p : Pass) (whole : Reads Band) (a b : Ahead) (old cur : Stream) (band : List ℤ) (i j : ℕ)
     → i ≡ j → IsAt table p.al whole a old band i b cur → IsAt table p.al whole a old band j b cur
-moved table p whole a b old cur band i j e h =
-    subst (λ (k : ℕ). IsAt table p.al whole a old band k b cur) e h
+moved table p whole a b old cur band i j e h = grind arith
 
 module _ (table : Table) (p : Pass) (whole : Reads Band) (a b d : Ahead) (old cur new : Stream) (block : List ℤ)
     (at end : ℕ) (is : IsPass p) (e : end ≡ band_end p) (from : band_start p ≤ at) (lt : at < end) where

@@ -1,23 +1,21 @@
 -- The parts of a block, of any pass.
-use Rattle.std.proofs.Common.{◌≡◌, ℕ, zero, suc, ◌-◌, ◌+◌, ◌<◌, ◌≤◌, ◌^◌, true, false, List, [], ◌∷◌, length}
-use Rattle.std.proofs.Common.{set, slice_index_or, ℤ, pos, ◌+ℤ◌, ◌*ℤ◌, Result, Ok, Err, refl, sym, ap, ◌∙◌, arith}
-use Rattle.std.proofs.Common.{Bool, Option}
+use Rattle.std.proofs.Common.{◌≡◌, ℕ, ◌-◌, ◌+◌, ◌<◌, ◌≤◌, ◌^◌, true, false, List, length, set, slice_index_or, ℤ, pos}
+use Rattle.std.proofs.Common.{◌+ℤ◌, ◌*ℤ◌, Result, Ok, Err, refl, ap, ◌∙◌, arith, Bool, Option}
 use Rattle.std.proofs.lemmas.Bool.{ne_eqb}
 use Rattle.jpeg_bits.specs.Reading.{Fault}
 use Rattle.jpeg_bits.specs.Stream.{Stream}
 use Rattle.jpeg_bits.specs.Entropy.{Text, Ahead, Takes, bits_from}
 use Rattle.jpeg_bits.specs.declared.error.Error.{Error}
-use Rattle.jpeg_bits.specs.Refusals.{outcome_of, held_refusal}
+use Rattle.jpeg_bits.specs.Refusals.{outcome_of}
 use Rattle.jpeg_bits.specs.Codes.{Table}
 use Rattle.jpeg_bits.specs.Readers.{Reads, gives, read_on}
 use Rattle.jpeg_bits.specs.Bands.{Band, wrapped, difference, first_dc, first_ac}
-use Rattle.jpeg_bits.specs.Passes.{Pass, Block, or_bit, band_of, with_band, dc_part, band_part}
-use Rattle.jpeg_bits.specs.Passes.{block_from}
+use Rattle.jpeg_bits.specs.Passes.{Pass, Block, or_bit, band_of, with_band, dc_part, band_part, block_from}
 use Rattle.jpeg_bits.specs.Pieces.{corrected, refined_band_from}
 use Rattle.jpeg_bits.specs.BlockView.{to_block, IsPass}
 use Rattle.jpeg_bits.specs.ZigzagParts.{zigzag_part, band_in, KeepsOthers}
 use Rattle.jpeg_bits.proofs.BandLoop.{Leaves}
-use Rattle.jpeg_bits.proofs.BandSteps.{pos-of-ne, Leaves-ok, Leaves-err}
+use Rattle.jpeg_bits.proofs.BandSteps.{pos-of-ne}
 use Rattle.jpeg_bits.proofs.RefinedPieces.{corrected-same, refined-same}
 use Rattle.jpeg_bits.proofs.ZigzagParts.{part-length, band-is, dc-put, band-put}
 
@@ -26,32 +24,25 @@ use Rattle.jpeg_bits.proofs.ZigzagParts.{part-length, band-is, dc-put, band-put}
 pub band_none : (p : Pass) (table : Table) (band : List ℤ) (run : ℕ) (t : Text) → length band ≡ 0
     → band_part p table band run t ≡ Ok ((band, run), t)
 unfolding band_part
-band_none p table [] run t e = refl
-band_none p table (x ∷ band) run t e = absurd (omega arith)
+band_none p table band run t e = grind arith
 
 pub band_run : (p : Pass) (table : Table) (band : List ℤ) (run : ℕ) (t : Text) → p.is_first ≡ true → 0 < length band
     → 0 < run
     → band_part p table band run t ≡ Ok ((band, run - 1), t)
 unfolding band_part
-band_run p table [] run t f some h = absurd (omega arith)
-band_run p table (x ∷ band) zero t f some h = absurd (omega arith)
-band_run p table (x ∷ band) (suc run) t f some h = let e : suc run - 1 ≡ run = omega arith in rw (f, e) refl
+band_run p table band run t f some h = grind arith
 
 pub band_first : (p : Pass) (table : Table) (band : List ℤ) (run : ℕ) (t : Text) → p.is_first ≡ true → 0 < length band
     → run ≡ 0
     → band_part p table band run t ≡ first_ac table p.al (length band) band t
 unfolding band_part
-band_first p table [] run t f some e = absurd (omega arith)
-band_first p table (x ∷ band) zero t f some e = rw f refl
-band_first p table (x ∷ band) (suc run) t f some e = absurd (omega arith)
+band_first p table band run t f some e = grind arith
 
 pub band_refined : (p : Pass) (table : Table) (band : List ℤ) (run : ℕ) (t : Text) → p.is_first ≡ false
     → 0 < length band → run ≡ 0
     → band_part p table band run t ≡ refined_band_from table p.al band t
 unfolding band_part refined_band_from
-band_refined p table [] run t f some e = absurd (omega arith)
-band_refined p table (x ∷ band) zero t f some e = rw f (sym (refined-same table p.al (length (x ∷ band)) (x ∷ band) t))
-band_refined p table (x ∷ band) (suc run) t f some e = absurd (omega arith)
+band_refined p table band run t f some e = grind (arith, refined-same)
 
 abbrev with_run : ℕ → Result (List ℤ × Text) Fault → Result (Band × Text) Fault
 with_run run o = read_on (λ (all : List ℤ). gives (all, run)) o
@@ -60,22 +51,17 @@ corrected-part : (p : Pass) (table : Table) (band : List ℤ) (run : ℕ) (t : T
     → 0 < run
     → band_part p table band run t ≡ with_run (run - 1) (corrected p.al band t)
 unfolding band_part
-corrected-part p table [] run t f some h = absurd (omega arith)
-corrected-part p table (x ∷ band) zero t f some h = absurd (omega arith)
-corrected-part p table (x ∷ band) (suc run) t f some h = let e : suc run - 1 ≡ run =
-    omega arith in rw (f, e) (ap (with_run run) (sym (corrected-same p.al (x ∷ band) t)))
+corrected-part p table band run t f some h = grind (arith, corrected-same)
 
 pub band_corrected : (p : Pass) (table : Table) (band all : List ℤ) (run : ℕ) (t u : Text) → p.is_first ≡ false
     → 0 < length band → 0 < run
     → corrected p.al band t ≡ Ok (all, u) → band_part p table band run t ≡ Ok ((all, run - 1), u)
-band_corrected p table band all run t u f some h e =
-    corrected-part p table band run t f some h ∙ ap (with_run (run - 1)) e
+band_corrected p table band all run t u f some h e = grind (arith, corrected-part)
 
 pub band_refused : (p : Pass) (table : Table) (band : List ℤ) (run : ℕ) (t : Text) (fault : Fault) → p.is_first ≡ false
     → 0 < length band → 0 < run
     → corrected p.al band t ≡ Err fault → band_part p table band run t ≡ Err fault
-band_refused p table band run t fault f some h e =
-    corrected-part p table band run t f some h ∙ ap (with_run (run - 1)) e
+band_refused p table band run t fault f some h e = grind (arith, corrected-part)
 
 -- a pass has no band where it is of DC alone
 pub no_places : (ss se : ℕ) (block : List ℤ) → ss ≤ se → se ≤ 63 → se ≡ 0
@@ -84,9 +70,7 @@ no_places ss se block order end none = omega (arith, part-length (ss - 1 + 1) (s
 
 pub some_places : (ss se : ℕ) (block : List ℤ) → ss ≤ se → se ≤ 63 → (se ≡ 0 → ⊥)
     → 0 < length (zigzag_part (ss - 1 + 1) (se + 1) block)
-some_places ss se block order end some =
-    let h = pos-of-ne se some in
-    omega (arith, part-length (ss - 1 + 1) (se + 1) block (omega arith))
+some_places ss se block order end some = omega (arith, pos-of-ne, part-length)
 
 pub ruleset band_rules = (
   no_places,
@@ -122,17 +106,12 @@ first-whole table al predictor t = refl
 pub dc_first : (p : Pass) (table : Table) (z predictor d next value : ℤ) (t u : Text) → p.ss ≡ 0 → p.is_first ≡ true
     → next ≡ wrapped (predictor +ℤ d) → value ≡ wrapped (next *ℤ pos (2 ^ p.al)) → difference table t ≡ Ok (d, u)
     → dc_part p table z predictor t ≡ Ok ((value, next), u)
-dc_first p table z predictor d next value t u h f n v e =
-    first-part p table z predictor t h f ∙ first-whole table p.al predictor t
-    ∙ ap (read_on {B = ℤ × ℤ} (λ (d : ℤ). scaled p.al predictor d)) e
-    ∙ ap (λ (y : ℤ). Ok ((wrapped (y *ℤ pos (2 ^ p.al)), y), u)) (sym n) ∙ ap (λ (y : ℤ). Ok ((y, next), u)) (sym v)
+dc_first p table z predictor d next value t u h f n v e = grind (arith, first-part, first-whole)
 
 pub dc_first_refused : (p : Pass) (table : Table) (z predictor : ℤ) (t : Text) (fault : Fault) → p.ss ≡ 0
     → p.is_first ≡ true
     → difference table t ≡ Err fault → dc_part p table z predictor t ≡ Err fault
-dc_first_refused p table z predictor t fault h f e =
-    first-part p table z predictor t h f ∙ first-whole table p.al predictor t
-    ∙ ap (read_on {B = ℤ × ℤ} (λ (d : ℤ). scaled p.al predictor d)) e
+dc_first_refused p table z predictor t fault h f e = grind (arith, first-part, first-whole)
 
 bit-part : (p : Pass) (table : Table) (z predictor : ℤ) (t : Text) → p.ss ≡ 0 → p.is_first ≡ false
     → dc_part p table z predictor t ≡ read_on {B = ℤ × ℤ} (λ (b : ℕ). gives (or_bit p.al z b, predictor))
@@ -142,15 +121,12 @@ bit-part p table z predictor t h f = rw (h, f, dc_part) refl
 
 pub dc_refined : (p : Pass) (table : Table) (z predictor value : ℤ) (b : ℕ) (t u : Text) → p.ss ≡ 0 → p.is_first ≡ false
     → value ≡ or_bit p.al z b → bits_from 1 t ≡ Ok (b, u) → dc_part p table z predictor t ≡ Ok ((value, predictor), u)
-dc_refined p table z predictor value b t u h f v e =
-    bit-part p table z predictor t h f ∙ ap (read_on {B = ℤ × ℤ} (λ (b : ℕ). gives (or_bit p.al z b, predictor))) e
-    ∙ ap (λ (y : ℤ). Ok ((y, predictor), u)) (sym v)
+dc_refined p table z predictor value b t u h f v e = grind (arith, bit-part)
 
 pub dc_refined_refused : (p : Pass) (table : Table) (z predictor : ℤ) (t : Text) (fault : Fault) → p.ss ≡ 0
     → p.is_first ≡ false
     → bits_from 1 t ≡ Err fault → dc_part p table z predictor t ≡ Err fault
-dc_refined_refused p table z predictor t fault h f e =
-    bit-part p table z predictor t h f ∙ ap (read_on {B = ℤ × ℤ} (λ (b : ℕ). gives (or_bit p.al z b, predictor))) e
+dc_refined_refused p table z predictor t fault h f e = grind (arith, bit-part)
 
 pub ruleset dc_rules = (dc_kept, dc_first, dc_first_refused, dc_refined, dc_refined_refused)
 
@@ -174,18 +150,12 @@ pub dc_step : (p : Pass) (dc ac : Table) (predictor z next value : ℤ) (run : �
     → z ≡ slice_index_or block 0 (pos 0)
     → dc_part p dc z predictor t ≡ Ok ((value, next), u)
     → block_from p dc ac predictor run (to_block block) t ≡ after_dc p ac run block (value, next) u
-dc_step p dc ac predictor z next value run block t u s e =
-    block-whole p dc ac predictor run block t
-    ∙ ap (λ (y : ℤ). read_on (after_dc p ac run block) (dc_part p dc y predictor t)) (sym s)
-    ∙ ap (read_on (after_dc p ac run block)) e
+dc_step p dc ac predictor z next value run block t u s e = grind (arith, block-whole)
 
 pub dc_refused : (p : Pass) (dc ac : Table) (predictor z : ℤ) (run : ℕ) (block : List ℤ) (t : Text) (f : Fault)
     → z ≡ slice_index_or block 0 (pos 0)
     → dc_part p dc z predictor t ≡ Err f → block_from p dc ac predictor run (to_block block) t ≡ Err f
-dc_refused p dc ac predictor z run block t f s e =
-    block-whole p dc ac predictor run block t
-    ∙ ap (λ (y : ℤ). read_on (after_dc p ac run block) (dc_part p dc y predictor t)) (sym s)
-    ∙ ap (read_on (after_dc p ac run block)) e
+dc_refused p dc ac predictor z run block t f s e = grind (arith, block-whole)
 
 pub band_step : (p : Pass) (ac : Table) (value next : ℤ) (run more : ℕ) (block part band blk : List ℤ) (t u : Text)
     → part ≡ band_of p (to_block block).acs
@@ -193,18 +163,13 @@ pub band_step : (p : Pass) (ac : Table) (value next : ℤ) (run more : ℕ) (blo
     → band_part p ac part run t ≡ Ok ((band, more), u)
     → after_dc p ac run block (value, next) t ≡ Ok ((to_block blk, next, more), u)
 unfolding after_dc
-band_step p ac value next run more block part band blk t u e b h =
-    ap (read_on (with_dc p (value, next) (to_block block).acs)) (ap (λ (xs : List ℤ). band_part p ac xs run t) (sym e)
-    ∙ h)
-    ∙ ap (λ (x : Block). Ok ((x, next, more), u)) (sym b)
+band_step p ac value next run more block part band blk t u e b h = grind arith
 
 pub band_fails : (p : Pass) (ac : Table) (value next : ℤ) (run : ℕ) (block part : List ℤ) (t : Text) (f : Fault)
     → part ≡ band_of p (to_block block).acs
     → band_part p ac part run t ≡ Err f → after_dc p ac run block (value, next) t ≡ Err f
 unfolding after_dc
-band_fails p ac value next run block part t f e h =
-    ap (read_on (with_dc p (value, next) (to_block block).acs)) (ap (λ (xs : List ℤ). band_part p ac xs run t) (sym e)
-    ∙ h)
+band_fails p ac value next run block part t f e h = grind arith
 
 -- the band of a block whose DC is written
 pub block_part : (p : Pass) (block : List ℤ) (y : ℤ) → length block ≡ 64
@@ -226,14 +191,4 @@ pub block_read : (p : Pass) (ac : Table) (value next : ℤ) (run more : ℕ) (bl
     → Takes (λ (u : Unit {0}). (band_in p blk, more)) (band_part p ac (band_in p (set block 0 value)) run) b cur
     (outcome_of done refusal) d new
     → Takes (λ (u : Unit {0}). (to_block blk, next, more)) whole a old (outcome_of done refusal) d new
-block_read p ac value next run more block blk whole a b d old cur new refusal true n is others h q =
-    let band = band_in p (set block 0 value) in
-    Leaves-ok (λ (u : Unit {0}). (band_in p blk, more)) whole (after_dc p ac run block (value, next))
-    (λ (t : Text). Ok ((to_block blk, next, more), t)) (band_part p ac band run) a b d old cur new tt
-    (λ t u e. band_step p ac value next run more block band (band_in p blk) blk t u (block_part p block value n)
-    (block_put p block blk value n is others) e) h q
-block_read p ac value next run more block blk whole a b d old cur new refusal false n is others h q =
-    let band = band_in p (set block 0 value) in
-    Leaves-err (λ (u : Unit {0}). (to_block blk, next, more)) (λ (u : Unit {0}). (band_in p blk, more)) whole
-    (after_dc p ac run block (value, next)) (band_part p ac band run) a b d old cur new (held_refusal refusal)
-    (λ t f e. band_fails p ac value next run block band t f (block_part p block value n) e) h q
+block_read p ac value next run more block blk whole a b d old cur new refusal done n is others h q = grind (arith, band_step, block_part, block_put, band_fails)

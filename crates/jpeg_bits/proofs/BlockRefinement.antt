@@ -1,7 +1,6 @@
 -- Bands of a refinement, by the zigzag places of a block in block order.
-use Rattle.std.proofs.Common.{◌≡◌, ℕ, ◌+◌, ◌-◌, ◌<◌, ◌≤◌, List, ◌++◌, length, get_or, set, take, drop, ℤ}
-use Rattle.std.proofs.Common.{Result, Ok, Err, Option, Some, None, is_some, Bool}
-use Rattle.std.proofs.Common.{sym, ap, ◌∙◌, arith}
+use Rattle.std.proofs.Common.{◌≡◌, ℕ, ◌+◌, ◌-◌, ◌<◌, ◌≤◌, List, ◌++◌, length, get_or, set, take, drop, ℤ, Result, Ok}
+use Rattle.std.proofs.Common.{Err, Option, Some, None, is_some, Bool, sym, ap, ◌∙◌, arith}
 use Rattle.jpeg_bits.specs.Stream.{Stream}
 use Rattle.jpeg_bits.specs.Reading.{Fault, ◌>>=◌}
 use Rattle.jpeg_bits.specs.Entropy.{Text, Ahead, Takes, upcoming}
@@ -20,8 +19,8 @@ use Rattle.jpeg_bits.specs.ZigzagParts.{band_start, band_end, band_in, rest_in, 
 use Rattle.jpeg_bits.proofs.BandLoop.{Leaves}
 use Rattle.jpeg_bits.proofs.BandSteps.{Leaves-ok, Leaves-err, Leaves-whole}
 use Rattle.jpeg_bits.proofs.RefinedBands.{refined_left, refined_step, refined_more, refined_token, refined_none}
-use Rattle.jpeg_bits.proofs.RefinedBands.{refined_all, zeros_of, step_refused, zeros_step, new_step}
-use Rattle.jpeg_bits.proofs.RefinedBands.{end_step, whole_piece}
+use Rattle.jpeg_bits.proofs.RefinedBands.{refined_all, zeros_of, step_refused, zeros_step, new_step, end_step}
+use Rattle.jpeg_bits.proofs.RefinedBands.{whole_piece}
 use Rattle.jpeg_bits.proofs.ZigzagParts.{band-length, part-length, part-rest, part-put, part-set}
 
 -- what the band from zigzag place k on gives, after what stands before it
@@ -40,9 +39,7 @@ from-start table p block t =
 
 pub at-last : (table : Table) (p : Pass) (block : List ℤ) (k : ℕ) (t : Text) → IsPass p → band_end p ≤ k
     → refined_at table p block k t ≡ Ok ((band_in p block, 0), t)
-at-last table p block k t is end =
-    refined_none table p.al (band_in p block) (k - band_start p) t
-    (let n = band-length p block is in let order = is.order in omega arith)
+at-last table p block k t is end = grind (arith, refined_none, band-length)
 
 module _ (table : Table) (p : Pass) (block : List ℤ) (k : ℕ) (t u : Text) (is : IsPass p) (from : band_start p ≤ k)
     (lt : k < band_end p) where
@@ -64,16 +61,11 @@ module _ (table : Table) (p : Pass) (block : List ℤ) (k : ℕ) (t u : Text) (i
   token-at x h = refined_token table p.al (band_in p block) (k - band_start p) x t u inside h
 
   pub no-token-at : (f : Fault) → refinement_from table p.al t ≡ Err f → refined_at table p block k t ≡ Err f
-  no-token-at f h =
-      refined_more table p.al (band_in p block) (k - band_start p) t inside
-      ∙ ap (λ (o : Result (Refinement × Text) Fault). o
-      >>= λ (x : Refinement × Text). step_at table p block k x.0 x.1) h
+  no-token-at f h = grind (arith, refined_more, inside)
 
   pub refused-at : (all : ℕ) (x : Refinement) (f : Fault) → band_end p - k ≤ all
       → piece_from p.al (zeros_of all x) (rest_in p k block) t ≡ Err f → step_at table p block k x t ≡ Err f
-  refused-at all x f few h =
-      step_refused table p.al (band_in p block) (rest_in p k block) (k - band_start p) all x t f rest
-      (omega (arith, rest-length)) h
+  refused-at all x f few h = grind (arith, step_refused, rest, rest-length)
 
   pub zeros-at : (next : ℕ) (new : List ℤ) → IsKeptAround k (band_end p) block new → k ≤ next
       → piece_from p.al 15 (rest_in p k block) t ≡ Ok ((next - k, rest_in p k new), u)
@@ -179,13 +171,7 @@ whole-in : (p : Pass) (block : List ℤ) (start zeros : ℕ) (t : Text) → IsPa
     → zeros ≡ band_end p - start
     → corrected p.al (band_in p block) t ≡ (piece_at p block start zeros t
     >>= λ (w : (ℕ × List ℤ) × Text). Ok (w.0.1, w.1))
-whole-in p block start zeros t is s z =
-    let n = band-length p block is in
-    let order = is.order in
-    let all : length (band_in p block) ≡ zeros = omega arith in
-    whole_piece p.al (band_in p block) t
-    ∙ ap (λ (n : ℕ). piece_from p.al n (band_in p block) t >>= λ (w : (ℕ × List ℤ) × Text). Ok (w.0.1, w.1)) all
-    ∙ ap (λ (k : ℕ). piece_at p block k zeros t >>= λ (w : (ℕ × List ℤ) × Text). Ok (w.0.1, w.1)) (sym s)
+whole-in p block start zeros t is s z = grind (arith, band-length, whole_piece)
 
 pub band-corrected : (p : Pass) (block new : List ℤ) (start zeros : ℕ) (a b : Ahead) (old cur : Stream)
     (next : Option ℕ) (refusal : Option Error) (done : Bool) → IsPass p → start ≡ band_start p

@@ -1,6 +1,6 @@
 -- A piece of a refinement, as it is walked over the zigzag places of a block in block order.
-use Rattle.std.proofs.Common.{◌≡◌, ℕ, ◌+◌, ◌-◌, ◌<◌, ◌≤◌, List, length, get_or, set, ℤ, pos, Ok, Err, sym, ap}
-use Rattle.std.proofs.Common.{◌∙◌, arith}
+use Rattle.std.proofs.Common.{◌≡◌, ℕ, ◌+◌, ◌-◌, ◌<◌, ◌≤◌, List, length, get_or, set, ℤ, pos, Ok, Err, sym, ap, ◌∙◌}
+use Rattle.std.proofs.Common.{arith}
 use Rattle.jpeg_bits.specs.Reading.{Fault}
 use Rattle.jpeg_bits.specs.Entropy.{Text}
 use Rattle.jpeg_bits.specs.Pieces.{place_from, piece_from}
@@ -22,10 +22,7 @@ at-start al r from end block t =
 
 pub at-end : (al r from end k : ℕ) (block : List ℤ) (t : Text) → end ≤ 64 → k ≡ end
     → walk_at al r from end block k t ≡ Ok ((end - from, zigzag_part from end block), t)
-at-end al r from end k block t within e =
-    let n = part-length from end block within in
-    ap (λ (k : ℕ). walk_at al r from end block k t) e
-    ∙ walk_none al r (zigzag_part from end block) (end - from) t (omega arith)
+at-end al r from end k block t within e = grind (arith, part-length, walk_none)
 
 -- at a place k of the piece, which stands at this place of the block
 module _ (al r from end k place : ℕ) (block : List ℤ) (within : end ≤ 64) (after : from ≤ k) (lt : k < end)
@@ -42,16 +39,12 @@ module _ (al r from end k place : ℕ) (block : List ℤ) (within : end ≤ 64) 
   -- the zero that ends the piece
   pub at-stop : (t : Text) → get_or block place (pos 0) ≡ pos 0 → r ≡ 0
       → walk_at al r from end block k t ≡ Ok ((k + 1 - from, zigzag_part from end block), t)
-  at-stop t zero none =
-      walk_stop al r (zigzag_part from end block) (k - from) t inside (same ∙ zero) none
-      ∙ ap (λ (i : ℕ). Ok ((i, zigzag_part from end block), t)) next
+  at-stop t zero none = grind (arith, walk_stop, inside, same, next)
 
   -- a zero before it
   pub at-skip : (t : Text) → get_or block place (pos 0) ≡ pos 0 → 0 < r
       → walk_at al r from end block k t ≡ walk_at al (r - 1) from end block (k + 1) t
-  at-skip t zero some =
-      walk_skip al r (zigzag_part from end block) (k - from) t inside (same ∙ zero) some
-      ∙ ap (λ (i : ℕ). walk_left al (r - 1) (zigzag_part from end block) i t) next
+  at-skip t zero some = grind (arith, walk_skip, inside, same, walk_left, next)
 
   -- a place that isn't zero, which is read as x and written as y
   pub at-value : (x y z : ℤ) (t u : Text) → length block ≡ 64 → (get_or block place (pos 0) ≡ pos 0 → ⊥)
@@ -66,6 +59,4 @@ module _ (al r from end k place : ℕ) (block : List ℤ) (within : end ≤ 64) 
 
   pub at-refused : (x : ℤ) (t : Text) (f : Fault) → (get_or block place (pos 0) ≡ pos 0 → ⊥)
       → x ≡ get_or block place (pos 0) → place_from al x t ≡ Err f → walk_at al r from end block k t ≡ Err f
-  at-refused x t f some read h =
-      value_refused al r (zigzag_part from end block) (k - from) x t f inside (λ e. some (sym same ∙ e))
-      (read ∙ sym same) h
+  at-refused x t f some read h = grind (arith, value_refused, inside, same)

@@ -1,5 +1,5 @@
 -- The default tables have codes, and how places are filled.
-use Rattle.std.proofs.Common.{◌≡◌, ◌≤◌, Bool, ℕ, List, [], ◌∷◌, length, get_or, set, true, Option, inl, inr, ◌∙◌, ap}
+use Rattle.std.proofs.Common.{rules, ◌≡◌, ◌≤◌, Bool, ℕ, List, [], ◌∷◌, length, get_or, set, true, Option, inl, inr}
 use Rattle.std.proofs.Common.{refl, arith}
 use Rattle.jpeg_bits.specs.Codes.{Table, HasCodes, RefusesCodes, code_lengths, code_value, codes_exist, lengths_from}
 use Rattle.jpeg_bits.specs.DefaultTables.{AreBetween, AreCodes, filled, names, with_defaults, luminance_ac}
@@ -10,54 +10,26 @@ use Rattle.jpeg_bits.proofs.Tables.{tested-exist}
 
 -- where the codes exist, a table is refused for lack of memory alone
 pub only-memory : (e : Error) (lengths : List ℕ) → RefusesCodes e lengths → HasCodes lengths → e ≡ errors.OutOfMemory
-only-memory (errors.Format text) lengths refused exist = absurd (refused exist)
-only-memory (errors.Unsupported feature) lengths refused exist = absurd refused
-only-memory (errors.Io e) lengths refused exist = absurd refused
-only-memory (errors.Internal text) lengths refused exist = absurd refused
-only-memory errors.OutOfMemory lengths refused exist = refl
+only-memory e lengths refused exist = grind arith
 
 exists : (counts : List ℕ) → codes_exist (code_lengths counts) ≡ true → HasCodes (code_lengths counts)
 exists counts e = tested-exist (code_lengths counts) e
 
 pub luminance-dc-codes : AreCodes luminance_dc.counts luminance_dc.symbols
 unfolding codes_exist code_value lengths_from
-luminance-dc-codes =
-    record {
-      count = refl;
-      some = omega arith;
-      most = omega arith;
-      exist = exists luminance_dc.counts refl;
-    }
+luminance-dc-codes = search (rules, exists)
 
 pub chrominance-dc-codes : AreCodes chrominance_dc.counts chrominance_dc.symbols
 unfolding codes_exist code_value lengths_from
-chrominance-dc-codes =
-    record {
-      count = refl;
-      some = omega arith;
-      most = omega arith;
-      exist = exists chrominance_dc.counts refl;
-    }
+chrominance-dc-codes = search (rules, exists)
 
 pub luminance-ac-codes : AreCodes luminance_ac.counts luminance_ac.symbols
 unfolding codes_exist code_value lengths_from
-luminance-ac-codes =
-    record {
-      count = refl;
-      some = omega arith;
-      most = omega arith;
-      exist = exists luminance_ac.counts refl;
-    }
+luminance-ac-codes = search (rules, exists)
 
 pub chrominance-ac-codes : AreCodes chrominance_ac.counts chrominance_ac.symbols
 unfolding codes_exist code_value lengths_from
-chrominance-ac-codes =
-    record {
-      count = refl;
-      some = omega arith;
-      most = omega arith;
-      exist = exists chrominance_ac.counts refl;
-    }
+chrominance-ac-codes = search (rules, exists)
 
 -- ---- places
 
@@ -71,12 +43,7 @@ pub both-filled : (l r : Table) (places : List ℕ) (ts : List (Option Table)) (
     → n ≡ names places 0 → m ≡ names places 1 → a ≡ filled l n (get_or ts 0 d)
     → b ≡ filled r m (get_or (set ts 0 a) 1 e)
     → set (set ts 0 a) 1 b ≡ with_defaults l r places ts
-both-filled l r places [] n m d e a b two is_n is_m first second = absurd (omega arith)
-both-filled l r places (x ∷ []) n m d e a b two is_n is_m first second = absurd (omega arith)
-both-filled l r places (x ∷ y ∷ more) n m d e a b two is_n is_m first second =
-    let p : a ≡ filled l (names places 0) x = first ∙ ap (λ (k : Bool). filled l k x) is_n in
-    let q : b ≡ filled r (names places 1) y = second ∙ ap (λ (k : Bool). filled r k y) is_m in
-    λ i. p i ∷ q i ∷ more
+both-filled l r places ts n m d e a b two is_n is_m first second = grind arith
 
 as-it-was : (whole : List (Option Table)) (ts : List (Option Table)) → length whole ≡ length ts → AreBetween ts whole ts
 unfolding AreBetween
@@ -88,25 +55,18 @@ as-it-was (w ∷ whole) (t ∷ ts) same = (inl refl, as-it-was whole ts (omega a
 pub first-refused : (l r : Table) (places : List ℕ) (ts : List (Option Table)) (d a : Option Table) → 2 ≤ length ts
     → a ≡ get_or ts 0 d → AreBetween ts (with_defaults l r places ts) (set ts 0 a)
 unfolding AreBetween
-first-refused l r places [] d a two first = absurd (omega arith)
-first-refused l r places (x ∷ []) d a two first = absurd (omega arith)
-first-refused l r places (x ∷ y ∷ more) d a two first = (inl first, (inl refl, all-same more))
+first-refused l r places ts d a two first = grind (arith, all-same)
 
 pub second-refused : (l r : Table) (places : List ℕ) (ts : List (Option Table)) (n m : Bool) (d e a b : Option Table)
     → 2 ≤ length ts
     → n ≡ names places 0 → m ≡ names places 1 → a ≡ filled l n (get_or ts 0 d) → b ≡ get_or (set ts 0 a) 1 e
     → AreBetween ts (with_defaults l r places ts) (set (set ts 0 a) 1 b)
 unfolding AreBetween
-second-refused l r places [] n m d e a b two is_n is_m first second = absurd (omega arith)
-second-refused l r places (x ∷ []) n m d e a b two is_n is_m first second = absurd (omega arith)
-second-refused l r places (x ∷ y ∷ more) n m d e a b two is_n is_m first second =
-    (inr (first ∙ ap (λ (k : Bool). filled l k x) is_n), (inl second, all-same more))
+second-refused l r places ts n m d e a b two is_n is_m first second = grind (arith, all-same)
 
 same-length : (l r : Table) (places : List ℕ) (ts : List (Option Table)) → length (with_defaults l r places ts)
     ≡ length ts
-same-length l r places [] = refl
-same-length l r places (a ∷ []) = refl
-same-length l r places (a ∷ b ∷ more) = refl
+same-length l r places ts = grind arith
 
 -- tables that nothing was done to
 pub untouched : (l r : Table) (places : List ℕ) (ts : List (Option Table))

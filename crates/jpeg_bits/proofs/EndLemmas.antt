@@ -5,8 +5,8 @@ use Rattle.std.proofs.Common.{length-append, length-drop}
 use Rattle.std.proofs.lemmas.List.{length-replicate, drop-drop, drop_more, get_or_append_left, get_or-replicate}
 use Rattle.std.proofs.lemmas.Bool.{le-leb, lt-leb, cases_lt}
 use Rattle.jpeg_bits.specs.Reading.{End}
-use Rattle.jpeg_bits.specs.Entropy.{Text, Ending, Found, Broken, bits_of, text_at, add_byte, no_bits, ending_by}
-use Rattle.jpeg_bits.specs.Entropy.{filled_end, upcoming, fresh, advance, marker_from, marker_by}
+use Rattle.jpeg_bits.specs.Entropy.{Text, Ending, Broken, bits_of, text_at, add_byte, no_bits, ending_by, filled_end}
+use Rattle.jpeg_bits.specs.Entropy.{upcoming, fresh, advance, marker_from, marker_by}
 use Rattle.jpeg_bits.specs.Ends.{after_bytes, met, end_after}
 
 -- Each bit of a text has the place after the byte that has it.
@@ -16,8 +16,7 @@ pub record IsPlaced (bytes : List ℕ) (t : Text) : Type 0 where
 
 get_or-after : {A : Type 0} (n i : ℕ) (x d : A) (ys : List A) → get_or (replicate n x ++ ys) (n + i) d ≡ get_or ys i d
 get_or-after zero i x d ys = let e : zero + i ≡ i = omega arith in ap (λ (k : ℕ). get_or ys k d) e
-get_or-after (suc n) i x d ys = let e : suc n + i ≡ suc (n + i) =
-    omega arith in ap (λ (k : ℕ). get_or (x ∷ (replicate n x ++ ys)) k d) e ∙ get_or-after n i x d ys
+get_or-after (suc n) i x d ys = grind (arith, get_or-after n i x d ys)
 
 none-placed : (bytes : List ℕ) (e : Ending) → IsPlaced bytes (no_bits e)
 none-placed bytes e = record { sized = refl; each = λ i h. absurd (omega arith) }
@@ -52,8 +51,7 @@ add-placed bytes rest b t step h = record {
 
 one-step : (b : ℕ) (n : ℕ) → after_bytes (suc n) (b ∷ []) ≡ after_bytes n []
 unfolding after_bytes
-one-step b zero = refl
-one-step b (suc n) = refl
+one-step b n = grind arith
 
 plain-step : (b c : ℕ) (rest : List ℕ) → eqb b 255 ≡ false → (n : ℕ)
     → after_bytes (suc n) (b ∷ c ∷ rest) ≡ after_bytes n (c ∷ rest)
@@ -84,9 +82,7 @@ placed (b ∷ c ∷ rest) = go (eqb b 255) refl (eqb c 0) (placed rest) (placed 
     go false e y h k = add-placed (b ∷ c ∷ rest) (c ∷ rest) b (text_at (c ∷ rest)) (plain-step b c rest e) k
 
 marker-met : (places : List (List ℕ)) (e : Ending) → length places ≡ 0 → marker_by places e ≡ met e
-marker-met [] (Found m rest) h = refl
-marker-met [] (Broken f) h = refl
-marker-met (x ∷ places) e h = absurd (omega arith)
+marker-met places e h = grind arith
 
 -- After k bits of the text that begins with bytes, the end is met where at most 56 bits are left, and otherwise
 -- reading goes on after the bytes of the bits taken and 57 more.

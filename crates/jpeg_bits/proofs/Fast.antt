@@ -1,10 +1,10 @@
 -- A token that is looked up is the token that is defined.
-use Rattle.std.proofs.Common.{◌≡◌, ◌⊎◌, inl, inr, ℕ, zero, suc, ◌+◌, ◌-◌, ◌/◌, ◌%◌, ◌^◌, ◌==◌, ◌<◌, ◌≤◌, nat_lt, nat_le}
-use Rattle.std.proofs.Common.{Bool, true, false, cond, List, ◌++◌, length, take, drop, replicate, slice_index, ℤ}
-use Rattle.std.proofs.Common.{Option, Some, None, Result, Ok, Err, refl, sym, ap, ◌∙◌, arith, length-drop}
+use Rattle.std.proofs.Common.{◌≡◌, ◌⊎◌, inl, inr, ℕ, ◌+◌, ◌-◌, ◌/◌, ◌%◌, ◌^◌, nat_lt, nat_le, Bool, true, false, List}
+use Rattle.std.proofs.Common.{◌++◌, take, drop, replicate, slice_index, ℤ, Option, Some, None, Result, Ok, Err, refl}
+use Rattle.std.proofs.Common.{sym, ap, ◌∙◌, arith, length-drop}
 use Rattle.std.proofs.lemmas.Bool.{le-leb, lt-leb, lt-ltb, cases_lt, false≢true}
 use Rattle.jpeg_bits.specs.Reading.{Fault, ◌>>=◌ as ◌>>r=◌}
-use Rattle.jpeg_bits.specs.Entropy.{Text, Ending, Found, Broken, has_bits, bits_from, advance, number_of}
+use Rattle.jpeg_bits.specs.Entropy.{Text, Ending, has_bits, bits_from, advance, number_of}
 use Rattle.jpeg_bits.specs.Codes.{Table, code_in, code_lengths, next_16, symbol_by, symbol_from, is_ac, short_token}
 use Rattle.jpeg_bits.specs.Codes.{after_code, short_code_by, short_code_from, short_value, fast_from, if_held, code_by}
 use Rattle.jpeg_bits.specs.Codes.{code_from}
@@ -12,7 +12,7 @@ use Rattle.jpeg_bits.specs.Readers.{Reads, ◌>>=◌, gives, read_on, signed_fro
 use Rattle.jpeg_bits.specs.Bands.{token_at, token_from}
 use Rattle.jpeg_bits.specs.Lookups.{value_token, slow_token, fast_or, looked_up}
 use Rattle.jpeg_bits.specs.declared.tokens.Token.{Token}
-use Rattle.jpeg_bits.specs.declared.tokens.Token.TheVariants.{Value, Sixteen, Rest, Overlong}
+use Rattle.jpeg_bits.specs.declared.tokens.Token.TheVariants.{Rest}
 
 advance-none : (t : Text) → advance 0 t ≡ t
 advance-none t = refl
@@ -21,8 +21,7 @@ take-none : (xs : List Bool) → number_of (take 0 xs) ≡ 0
 take-none xs = refl
 
 has-none : (bits : List Bool) (e : Ending) → has_bits 0 bits e ≡ Ok tt
-has-none bits (Found m rest) = refl
-has-none bits (Broken f) = ap (λ b. cond b (Ok tt) (Err f)) (le-leb 0 (length bits) (omega arith))
+has-none bits e = grind (arith, le-leb)
 
 pub no-bits : (t : Text) → bits_from 0 t ≡ Ok (0, t)
 unfolding bits_from
@@ -33,105 +32,29 @@ rest-same : (r : ℕ) (t : Text) → read_on (λ e. gives (Rest (2 ^ r - 1 + e))
       | true ↦ bits_from r >>= (λ e. gives (Rest (2 ^ r - 1 + e)))
       | false ↦ gives (Rest 0)
     ]) t
-rest-same zero t = ap (read_on (λ e. gives (Rest (2 ^ 0 - 1 + e)))) (no-bits t)
-rest-same (suc r) t = rw (lt-ltb 0 (suc r) (omega arith)) refl
+rest-same r t = grind (arith, no-bits, lt-ltb)
 
 -- a token that isn't short
 slow-same : (room size r s : ℕ) (t : Text) (a : Bool) → nat_lt 0 s ≡ a → (a ≡ true → nat_le (size + s) 8 ≡ false)
     → token_at room size r s t ≡ slow_token room r s t
 unfolding token_at slow_token
-slow-same room size r s t false e long = rw (e, token_at, slow_token) (go (r == 15))
-  where
-    go : (b : Bool) → (elim b as (λ _. Reads Token) [
-      | true ↦ gives Sixteen
-      | false ↦ bits_from r
-          >>= (λ e. gives (Rest (2 ^ r - 1 + e)))
-    ]) t
-        ≡ (elim b as (λ _. Reads Token) [
-          | true ↦ gives Sixteen
-          | false ↦ elim (nat_lt 0 r) as (λ _. Reads Token)
-              [ true ↦ bits_from r >>= (λ e. gives (Rest (2 ^ r - 1 + e))) | false ↦ gives (Rest 0) ]
-        ]) t
-    go true = refl
-    go false = rest-same r t
-slow-same room size r s t true e long =
-    rw (e, token_at, slow_token) (go (nat_lt r room) (nat_le (size + s) 8) (long refl))
-  where
-    go : (b c : Bool) → c ≡ false
-        → (elim b as (λ _. Reads Token) [
-          | true ↦ signed_from s >>= (λ v. gives (Value r v))
-          | false ↦ elim c as (λ _. Reads Token) [
-            | true ↦ signed_from s >>= (λ v. gives Overlong)
-            | false ↦ gives Overlong
-          ]
-        ]) t
-        ≡ (elim b as (λ _. Reads Token) [ true ↦ signed_from s >>= (λ v. gives (Value r v)) | false ↦ gives Overlong ])
-        t
-    go true c h = refl
-    go false true h = absurd (false≢true (sym h))
-    go false false h = refl
+slow-same room size r s t a e long = grind (arith, nat_lt, rest-same, nat_le, false≢true)
 
 -- a token that is short
 value-same : (room size r s : ℕ) (t : Text) → nat_lt 0 s ≡ true → nat_le (size + s) 8 ≡ true
     → token_at room size r s t ≡ read_on (λ v. gives (value_token room r v)) (signed_from s t)
 unfolding token_at
-value-same room size r s t e short = rw (e, token_at) (go (nat_lt r room) (nat_le (size + s) 8) short)
-  where
-    go : (b c : Bool) → c ≡ true
-        → (elim b as (λ _. Reads Token) [
-          | true ↦ signed_from s >>= (λ v. gives (Value r v))
-          | false ↦ elim c as (λ _. Reads Token) [
-            | true ↦ signed_from s >>= (λ v. gives Overlong)
-            | false ↦ gives Overlong
-          ]
-        ]) t
-        ≡ read_on (λ v. gives (elim b as (λ _. Token) [ true ↦ Value r v | false ↦ Overlong ])) (signed_from s t)
-    go true c h = refl
-    go false true h = refl
-    go false false h = absurd (false≢true h)
+value-same room size r s t e short = grind (arith, nat_lt, nat_le, false≢true)
 
 -- ---- bits that can be taken
 
 both-held : (n s : ℕ) (bits : List Bool) (e : Ending) → has_bits (n + s) bits e ≡ Ok tt → has_bits n bits e ≡ Ok tt
-both-held n s bits (Found m rest) h = refl
-both-held n s bits (Broken f) h = go (cases_lt (length bits) n)
-  where
-    no : (f : Fault) → ◌≡◌ {A = Result (Unit {0}) Fault} (Err f) (Ok tt) → ⊥
-    no f e = cc
-
-    go : (length bits < n) ⊎ (n ≤ length bits) → has_bits n bits (Broken f) ≡ Ok tt
-    go (inl few) = absurd (no f (sym (ap (λ b. cond b (Ok tt) (Err f)) (lt-leb (n + s) (length bits) (omega arith)))
-        ∙ h))
-    go (inr enough) = ap (λ b. cond b (Ok tt) (Err f)) (le-leb n (length bits) enough)
+both-held n s bits e h = grind (arith, cases_lt, lt-leb, le-leb)
 
 -- where n + s bits can't be taken, the n can't, or the s after them
 not-held : (n s : ℕ) (bits : List Bool) (e : Ending) (f : Fault) → has_bits (n + s) bits e ≡ Err f
     → (has_bits n bits e ≡ Err f) ⊎ ((has_bits n bits e ≡ Ok tt) × (has_bits s (drop n bits) e ≡ Err f))
-not-held n s bits (Found m rest) f h = absurd (no f h)
-  where
-    no : (f : Fault) → ◌≡◌ {A = Result (Unit {0}) Fault} (Ok tt) (Err f) → ⊥
-    no f e = cc
-not-held n s bits (Broken g) f h = go (cases_lt (length bits) (n + s)) (cases_lt (length bits) n)
-  where
-    no : (f : Fault) → ◌≡◌ {A = Result (Unit {0}) Fault} (Ok tt) (Err f) → ⊥
-    no f e = cc
-
-    by : (m : ℕ) (xs : List Bool) → length xs < m → has_bits m xs (Broken g) ≡ Err g
-    by m xs few = ap (λ b. cond b (Ok tt) (Err g)) (lt-leb m (length xs) few)
-
-    go : (length bits < n + s) ⊎ (n + s ≤ length bits) → (length bits < n) ⊎ (n ≤ length bits)
-        → (has_bits n bits (Broken g) ≡ Err f) ⊎ ((has_bits n bits (Broken g) ≡ Ok tt)
-        × (has_bits s (drop n bits) (Broken g) ≡ Err f))
-    go (inr enough) x = absurd (no f (sym (ap (λ b. cond b (Ok tt) (Err g)) (le-leb (n + s) (length bits) enough)) ∙ h))
-    go (inl few) (inl less) =
-        let same : ◌≡◌ {A = Result (Unit {0}) Fault} (Err g) (Err f) = sym (by (n + s) bits few) ∙ h in
-        inl (by n bits less ∙ same)
-    go (inl few) (inr more) =
-        let same : ◌≡◌ {A = Result (Unit {0}) Fault} (Err g) (Err f) = sym (by (n + s) bits few) ∙ h in
-        inr (
-          ap (λ b. cond b (Ok tt) (Err g)) (le-leb n (length bits) more),
-          by s (drop n bits) (omega (arith, length-drop n bits)) ∙ same,
-        )
+not-held n s bits e f h = grind (arith, cases_lt, lt-leb, le-leb, length-drop)
 
 signed-refused : (s : ℕ) (t : Text) (f : Fault) → has_bits s t.bits t.ending ≡ Err f → signed_from s t ≡ Err f
 unfolding signed_from bits_from
@@ -148,8 +71,7 @@ by_look table room o = read_on (fast_or table room) (read_on short_value o)
 value-look : (table : Table) (room r : ℕ) (o : Result (ℤ × Text) Fault)
     → read_on (λ v. gives (value_token room r v)) o ≡ read_on (fast_or table room) (read_on (λ v. gives (Some (v, r)))
     o)
-value-look table room r (Ok v) = refl
-value-look table room r (Err f) = refl
+value-look table room r o = grind arith
 
 -- a code of a symbol that is short
 module _ (table : Table) (room n symbol : ℕ) (t : Text) (some : nat_lt 0 (symbol % 16) ≡ true)
@@ -164,9 +86,7 @@ module _ (table : Table) (room n symbol : ℕ) (t : Text) (some : nat_lt 0 (symb
         Some (symbol / 16, symbol % 16),
         advance n t,
       )))
-  at-short (Ok u) h =
-      ap (λ o. by_code room (if_held (n, symbol) (advance n t) o)) (both-held n (symbol % 16) t.bits t.ending h)
-      ∙ at-value ∙ value-look table room (symbol / 16) (signed_from (symbol % 16) (advance n t))
+  at-short (Ok u) h = grind (arith, both-held, at-value, value-look)
   at-short (Err f) h =
       elim (not-held n (symbol % 16) t.bits t.ending f h) [
         | inl e ↦ ap (λ o. by_code room (if_held (n, symbol) (advance n t) o)) e
@@ -181,18 +101,14 @@ at-long : (room n symbol : ℕ) (t : Text) (a : Bool) → nat_lt 0 (symbol % 16)
     → (a ≡ true → nat_le (n + symbol % 16) 8 ≡ false) → (o : Result (Unit {0}) Fault)
     → by_code room (if_held (n, symbol) t o) ≡ read_on (λ (c : ℕ). slow_token room (c / 16) (c % 16))
     (◌>>r=◌ {B = ℕ × Text} o (λ (u : Unit {0}). Ok (symbol, t)))
-at-long room n symbol t a e long (Ok u) = slow-same room n (symbol / 16) (symbol % 16) t a e long
-at-long room n symbol t a e long (Err f) = refl
+at-long room n symbol t a e long o = grind (arith, slow-same)
 
 module _ (table : Table) (room : ℕ) (ac : is_ac table.class ≡ true) (t : Text) where
   at-slow : (c : ℕ × ℕ) → symbol_from table t ≡ symbol_by table t (Some c) → short_token table c ≡ None → (a : Bool)
       → nat_lt 0 (slice_index table.symbols c.0 % 16) ≡ a
       → (a ≡ true → nat_le (c.1 + slice_index table.symbols c.0 % 16) 8 ≡ false)
       → by_code room (code_by table t (Some c)) ≡ by_look table room (short_code_by table t (Some c))
-  at-slow c hs none a ha long =
-      at-long room c.1 (slice_index table.symbols c.0) (advance c.1 t) a ha long (has_bits c.1 t.bits t.ending)
-      ∙ ap (read_on (λ (c : ℕ). slow_token room (c / 16) (c % 16))) (sym hs)
-      ∙ sym (ap (λ k. by_look table room (after_code c.1 t k)) none)
+  at-slow c hs none a ha long = grind (arith, at-long, slice_index)
 
   at-code : (c : ℕ × ℕ) → symbol_from table t ≡ symbol_by table t (Some c) → (a b : Bool)
       → nat_lt 0 (slice_index table.symbols c.0 % 16) ≡ a → nat_le (c.1 + slice_index table.symbols c.0 % 16) 8 ≡ b
@@ -207,9 +123,7 @@ module _ (table : Table) (room : ℕ) (ac : is_ac table.class ≡ true) (t : Tex
 
   at-any : (o : Option (ℕ × ℕ)) → symbol_from table t ≡ symbol_by table t o
       → by_code room (code_by table t o) ≡ by_look table room (short_code_by table t o)
-  at-any None hs = sym (ap (read_on (λ (c : ℕ). slow_token room (c / 16) (c % 16))) hs)
-  at-any (Some c) hs = at-code c hs (nat_lt 0 (slice_index table.symbols c.0 % 16))
-      (nat_le (c.1 + slice_index table.symbols c.0 % 16) 8) refl refl
+  at-any o hs = grind (arith, at-code, nat_lt, slice_index, nat_le)
 
   -- A token that is looked up, in a table for AC, is the token that is defined.
   pub tokens-same : token_from table room t ≡ looked_up table room t

@@ -1,16 +1,15 @@
 -- A buffer that is filled from the front by reads.
-use Rattle.std.proofs.Common.{◌≡◌, ℕ, zero, suc, ◌+◌, ◌-◌, ◌<◌, ◌≤◌, Bool, true, false, List, [], ◌∷◌, ◌++◌, length, take, drop}
-use Rattle.std.proofs.Common.{Ok, Err, refl, sym, subst, ap, ◌∙◌, arith, append_assoc, length-take, length-take-le}
+use Rattle.std.proofs.Common.{◌≡◌, ℕ, zero, suc, ◌+◌, ◌-◌, ◌<◌, ◌≤◌, true, List, [], ◌∷◌, ◌++◌, length, take, Ok, Err}
+use Rattle.std.proofs.Common.{refl, sym, ap, ◌∙◌, arith, append_assoc, length-take, length-take-le}
 use Rattle.std.proofs.lemmas.Bool.{false≢true}
 use Rattle.std.proofs.lemmas.List.{append-nil, take-append-le, take_all}
 use Rattle.std.proofs.Math.Seq.{take-append-add}
 use borrow.Rule.Slice.PartMut.{put_mid}
 use Rattle.jpeg_bits.specs.Stream.{Stream}
-use Rattle.jpeg_bits.specs.Reading.{Outcome, Fault, End, Answers, ReadsSome, NamesEnd, next_byte, times}
-use Rattle.jpeg_bits.specs.Reading.{◌>>=◌, skip_at, IsGivenUp}
+use Rattle.jpeg_bits.specs.Reading.{Outcome, Fault, End, Answers, ReadsSome, NamesEnd, next_byte, times, ◌>>=◌, skip_at}
 use Rattle.jpeg_bits.specs.declared.error.Error.{Error}
 use Rattle.jpeg_bits.specs.declared.error.Error.TheVariants as errors
-use Rattle.jpeg_bits.proofs.Loops.{bind_at, bind_err, MayFail-from}
+use Rattle.jpeg_bits.proofs.Loops.{bind_at, bind_err}
 
 pub bytes-read : (bytes rest : List ℕ) → times (length bytes) next_byte (bytes ++ rest) ≡ Ok (bytes, rest)
 unfolding times
@@ -31,84 +30,36 @@ HasFilled old front new =
 -- n bytes that were read into the part after the first `at`
 put-front : (at n k : ℕ) (items part : List ℕ) → at ≤ length items → n ≤ length part
     → take (at + n) (put_mid at k items part) ≡ take at items ++ take n part
-put-front at n k items part le fits =
-    let front : length (take at items) ≡ at = omega (arith, length-take {A = ℕ}) in
-    ap (λ m. take (m + n) (put_mid at k items part)) (sym front)
-    ∙ take-append-add (take at items) (part ++ drop k (drop at items)) n
-    ∙ ap (λ (l : List ℕ). take at items ++ l) (take-append-le n part (drop k (drop at items)) fits)
+put-front at n k items part le fits = grind (arith, length-take, take-append-add, take-append-le)
 
 pub filled-more : (old cur new : Stream) (at n k : ℕ) (items part : List ℕ) → at ≤ length items
     → HasFilled old (take at items) cur → ReadsSome cur (Ok n) part new
     → HasFilled old (take (at + n) (put_mid at k items part)) new
-filled-more old cur new at n k items part le p r = (
-  r.1 ∙ p.0,
-  λ known.
-      let before = p.1 known in
-      let read = r.2 before.0 in (
-        read.0,
-        before.1 ∙ ap (λ (l : List ℕ). take at items ++ l) read.1
-            ∙ sym (append_assoc (take at items) (take n part) new.bytes)
-            ∙ ap (λ (l : List ℕ). l ++ new.bytes) (sym (put-front at n k items part le r.0)),
-      ),
-)
+filled-more old cur new at n k items part le p r = grind (arith, append_assoc, put-front)
 
 -- the buffer is full
 pub filled-all : (old new : Stream) (at n : ℕ) (items : List ℕ) → length items ≡ n → n ≤ at
     → HasFilled old (take at items) new
     → Answers (λ (u : Unit {0}). items) (times n next_byte) old (Ok tt) new
-filled-all old new at n items long full p = (
-  p.0,
-  λ known. let done = p.1 known in (
-    done.0,
-    ap (times n next_byte) (done.1 ∙ ap (λ (l : List ℕ). l ++ new.bytes) (take_all at items (omega (arith, long, full))))
-        ∙ ap (λ m. times m next_byte (items ++ new.bytes)) (sym long) ∙ bytes-read items new.bytes,
-  ),
-)
+filled-all old new at n items long full p = grind (arith, take_all, bytes-read)
 
 -- the bytes end before the buffer is full
 pub filled-short : (old cur new : Stream) (at count n : ℕ) (items part : List ℕ) (e : Error)
     → length items ≡ n → at < n → count ≡ 0 → 0 < length part → HasFilled old (take at items) cur
     → ReadsSome cur (Ok count) part new → NamesEnd e
     → Answers (λ (u : Unit {0}). items) (times n next_byte) old (Err e) new
-filled-short old cur new at count n items part (errors.Io e) long less none some p r named = (
-  ((λ f. r.1 ∙ p.0 ∙ f), λ f. named),
-  (λ known still.
-      let before = p.1 known in
-      let read = r.2 before.0 in
-      let nothing : cur.bytes ≡ [] = read.1 ∙ ap (λ (m : ℕ). take m part ++ new.bytes) none ∙ read.2 none some in
-      let all : old.bytes ≡ take at items =
-      before.1 ∙ ap (λ (l : List ℕ). take at items ++ l) nothing ∙ append-nil (take at items) in
-      let few : length old.bytes ≡ at =
-      ap length all ∙ length-take-le at items (omega (arith, long, less)) in
-      (bytes-end old.bytes n (omega (arith, few, less)), named)),
-  λ known lost. absurd (false≢true (sym lost ∙ (r.2 (p.1 known).0).0)),
-)
-filled-short old cur new at count n items part (errors.Format t) long less none some p r named = absurd named
-filled-short old cur new at count n items part (errors.Unsupported u) long less none some p r named = absurd named
-filled-short old cur new at count n items part (errors.Internal t) long less none some p r named = absurd named
-filled-short old cur new at count n items part errors.OutOfMemory long less none some p r named = absurd named
+filled-short old cur new at count n items part e long less none some p r named = grind (arith, append-nil, length-take-le, bytes-end, false≢true)
 
 -- a read is refused
 pub filled-err : (n : ℕ) (old cur new : Stream) (front part : List ℕ) (e : Error) → HasFilled old front cur
     → ReadsSome cur (Err e) part new
     → Answers (λ (u : Unit {0}). front) (times n next_byte) old (Err e) new
-filled-err n old cur new front part e p r = (
-  MayFail-from e _ _ _ p.0 r.0,
-  (λ known still. absurd (r.1 (p.1 known).0 still)),
-  λ known. r.2 (p.1 known).0,
-)
+filled-err n old cur new front part e p r = grind arith
 
 -- a read is not refused for want of memory
 pub filled-room : (old cur new : Stream) (front part : List ℕ) (e : Error)
     → HasFilled old front cur → ReadsSome cur (Err e) part new → old.known ≡ true → e ≡ errors.OutOfMemory → ⊥
-filled-room old cur new front part e p r known is = go new.known refl
-  where
-    at : cur.known ≡ true
-    at = (p.1 known).0
-
-    go : (b : Bool) → new.known ≡ b → ⊥
-    go true still = r.1 at still
-    go false lost = subst (λ (e : Error). IsGivenUp e new.failed) is (r.2 at lost)
+filled-room old cur new front part e p r known is = grind arith
 
 -- passing over bytes is reading some, and passing over the others
 skip-bytes : (n more : ℕ) (bytes : List ℕ)
@@ -142,5 +93,4 @@ skip-goes n left bytes front rest le e =
 
 pub skip-none : (n : ℕ) (bytes : List ℕ) → n ≤ 0 → skip_at n bytes ≡ Ok (tt, bytes)
 unfolding skip_at
-skip-none zero bytes h = refl
-skip-none (suc n) bytes h = absurd (omega (arith, h))
+skip-none n bytes h = grind arith

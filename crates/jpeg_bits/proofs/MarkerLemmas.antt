@@ -1,7 +1,8 @@
 -- The next marker is at the least index.
-use Rattle.std.proofs.Common.{◌≡◌, ◌⊎◌, inl, inr, ℕ, zero, suc, ◌+◌, ◌<◌, ◌≤◌, Bool, true, false, cond, eqb, List, []}
-use Rattle.std.proofs.Common.{◌∷◌, length, drop, get_or, Option, Some, None, Ok, Err, is_ok, refl, sym, ap, subst, ◌∙◌}
-use Rattle.std.proofs.Common.{arith}
+use Rattle.std.proofs.lemmas.Grind.{common_steps}
+use Rattle.std.proofs.lemmas.Bool.Decides.{nat_tests}
+use Rattle.std.proofs.Common.{◌≡◌, ◌⊎◌, inl, inr, ℕ, suc, ◌+◌, ◌<◌, ◌≤◌, Bool, cond, eqb, List, [], ◌∷◌, length, Option}
+use Rattle.std.proofs.Common.{Some, None, Ok, Err, refl, sym, ap, ◌∙◌, arith}
 use Rattle.std.proofs.lemmas.Bool.{false≢true, cases_lt, eqb-true, eq-eqb}
 use Rattle.jpeg_bits.specs.Reading.{Outcome, Fault, End}
 use Rattle.jpeg_bits.specs.Marker.{marker_of, marker_at, found_or, next_marker}
@@ -22,35 +23,17 @@ marker_at-none a b h e = ap (λ (x : Bool). cond x (marker_of b) None) (sym (eq-
 -- a marker at the first byte
 here : (a b : ℕ) (rest : List ℕ) (m : Marker) → (x : Bool) → eqb a 255 ≡ x → cond x (marker_of b) None ≡ Some m
     → IsNextMarker (a ∷ b ∷ rest) 0 m rest
-here a b rest m true t e =
-    record {
-      within = omega arith;
-      first = eqb-true a 255 t;
-      second = e;
-      after = refl;
-      least = λ j h. absurd (omega arith);
-    }
-here a b rest m false t e = cc
+here a b rest m x t e = grind (arith, eqb-true)
 
 before : (a b : ℕ) (rest : List ℕ) → marker_at a b ≡ None → (n : ℕ) → ((j : ℕ) → j < n → IsNoMarker (b ∷ rest) j)
     → (j : ℕ) → j < suc n → IsNoMarker (a ∷ b ∷ rest) j
-before a b rest h n k zero lt = marker_at-none a b h
-before a b rest h n k (suc j) lt =
-    let e : suc j + 1 ≡ suc (j + 1) = omega arith in
-    λ is. ap (λ (x : ℕ). marker_of (get_or (a ∷ b ∷ rest) x 0)) e ∙ k j (omega arith) is
+before a b rest h n k j lt = grind (arith, marker_at-none)
 
 later : (a b : ℕ) (rest others : List ℕ) (i : ℕ) (m : Marker) → marker_at a b ≡ None
     → IsNextMarker (b ∷ rest) i m others → IsNextMarker (a ∷ b ∷ rest) (suc i) m others
 later a b rest others i m h k =
     let e : suc i + 1 ≡ suc (i + 1) = omega arith in
-    let f : suc i + 2 ≡ suc (i + 2) = omega arith in
-    record {
-      within = omega (arith, k.within);
-      first = k.first;
-      second = ap (λ (x : ℕ). marker_of (get_or (a ∷ b ∷ rest) x 0)) e ∙ k.second;
-      after = k.after ∙ sym (ap (λ (x : ℕ). drop x (a ∷ b ∷ rest)) f);
-      least = before a b rest h i k.least;
-    }
+    let f : suc i + 2 ≡ suc (i + 2) = omega arith in grind (arith, common_steps, nat_tests, before)
 
 step : (a b : ℕ) (rest : List ℕ) (x : Option Marker) → marker_at a b ≡ x → Finds (b ∷ rest) (next_marker (b ∷ rest))
     → Finds (a ∷ b ∷ rest) (found_or x rest (next_marker (b ∷ rest)))
@@ -71,42 +54,25 @@ same-index bytes i j m n a b p q lt = let e = q.least i lt p.first in let d = p.
 
 only-one : (bytes : List ℕ) (i j : ℕ) (m n : Marker) (a b : List ℕ) → IsNextMarker bytes i m a
     → IsNextMarker bytes j n b → i ≡ j
-only-one bytes i j m n a b p q = elim (cases_lt i j) [
-  | inl lt ↦ absurd (same-index bytes i j m n a b p q lt)
-  | inr le ↦ elim (cases_lt j i) [ inl lt ↦ absurd (same-index bytes j i n m b a q p lt) | inr ge ↦ omega arith ]
-]
+only-one bytes i j m n a b p q = grind (arith, cases_lt, same-index)
 
 marker-same : (bytes : List ℕ) (i j : ℕ) (m n : Marker) (a b : List ℕ) → IsNextMarker bytes i m a
     → IsNextMarker bytes j n b → i ≡ j → ◌≡◌ {A = Outcome Marker} (Ok (n, b)) (Ok (m, a))
-marker-same bytes i j m n a b p q e =
-    let x = p.second in
-    let y = q.second in
-    let s : Some n ≡ Some m = sym y ∙ ap (λ (k : ℕ). marker_of (get_or bytes (k + 1) 0)) (sym e) ∙ x in
-    let t : n ≡ m = cc in
-    let u : b ≡ a = q.after ∙ ap (λ (k : ℕ). drop (k + 2) bytes) (sym e) ∙ sym p.after in
-    ap (λ (k : Marker). Ok (k, b)) t ∙ ap (λ (k : List ℕ). Ok (m, k)) u
+marker-same bytes i j m n a b p q e = grind arith
 
 found-by : (bytes : List ℕ) (o : Outcome Marker) (i : ℕ) (m : Marker) (rest : List ℕ) → IsNextMarker bytes i m rest
     → Finds bytes o → o ≡ Ok (m, rest)
-found-by bytes o i m rest p (inl h) =
-    h.3 ∙ marker-same bytes i h.0 m h.1 rest h.2 p h.4 (only-one bytes i h.0 m h.1 rest h.2 p h.4)
-found-by bytes o i m rest p (inr h) = let e = h.1 i p.within p.first in let d = p.second in absurd cc
+found-by bytes o i m rest p h = grind (arith, marker-same, only-one)
 
 only-by : (bytes : List ℕ) (o : Outcome Marker) (m : Marker) (rest : List ℕ) → o ≡ Ok (m, rest) → Finds bytes o
     → (i : ℕ) × IsNextMarker bytes i m rest
-only-by bytes o m rest e (inl h) =
-    let s : ◌≡◌ {A = Outcome Marker} (Ok (h.1, h.2)) (Ok (m, rest)) = sym h.3 ∙ e in
-    let p : ◌≡◌ {A = Marker × List ℕ} (h.1, h.2) (m, rest) = cc in
-    (h.0, subst (λ (x : Marker × List ℕ). IsNextMarker bytes h.0 x.0 x.1) p h.4)
-only-by bytes o m rest e (inr h) = absurd (false≢true (ap is_ok (sym h.0 ∙ e)))
+only-by bytes o m rest e h = grind (arith, false≢true)
 
 none-by : (bytes : List ℕ) (o : Outcome Marker) → HasNoMarker bytes → Finds bytes o → o ≡ Err End
-none-by bytes o none (inl h) = let k = h.4 in let e = none h.0 k.within k.first in let d = k.second in absurd cc
-none-by bytes o none (inr h) = h.0
+none-by bytes o none h = grind arith
 
 refused-by : (bytes : List ℕ) (o : Outcome Marker) (f : Fault) → o ≡ Err f → Finds bytes o → HasNoMarker bytes
-refused-by bytes o f e (inl h) = absurd (false≢true (ap is_ok (sym e ∙ h.3)))
-refused-by bytes o f e (inr h) = h.1
+refused-by bytes o f e h = grind (arith, false≢true)
 
 pub is-found : (bytes : List ℕ) (i : ℕ) (m : Marker) (rest : List ℕ) → IsNextMarker bytes i m rest
     → next_marker bytes ≡ Ok (m, rest)

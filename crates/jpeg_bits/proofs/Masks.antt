@@ -1,8 +1,7 @@
 -- The bits of a mask, and the coefficients that they stand for.
-use Rattle.std.proofs.Common.{◌≡◌, ℕ, zero, suc, ◌+◌, ◌-◌, ◌/◌, ◌%◌, ◌^◌, ◌<◌, ◌≤◌, ◌==◌, List, [], ◌∷◌, length}
-use Rattle.std.proofs.Common.{get_or, set, map, replicate, cond, not, true, false, Bool, nat_eq, if◌then◌else◌}
-use Rattle.std.proofs.Common.{ℤ, pos, negsuc, refl, sym, ap, ◌∙◌, arith, w8, w16, w64, FitsSigned}
-use Rattle.std.proofs.Common.{Ok, shr-shr, take, lit<}
+use Rattle.std.proofs.Common.{◌≡◌, ℕ, zero, suc, ◌+◌, ◌-◌, ◌/◌, ◌%◌, ◌^◌, ◌<◌, ◌≤◌, ◌==◌, List, [], ◌∷◌, length, get_or}
+use Rattle.std.proofs.Common.{set, map, replicate, cond, not, false, Bool, nat_eq, if◌then◌else◌, ℤ, pos, refl, sym, ap}
+use Rattle.std.proofs.Common.{◌∙◌, arith, w8, w16, w64, FitsSigned, Ok, shr-shr, take, lit<}
 use mir.Val.{Val}
 use denote.Array.{each}
 use denote.Shadow.{shadow}
@@ -72,9 +71,7 @@ unequal : (z : ℤ) → FitsSigned w16 z → (z ≡ pos 0 → ⊥) → nat_eq (c
 unequal z f h = ne_eqb (cast_unsigned w16 z) 0 (λ e. h (sym (to_z-of_z w16 z f) ∙ ap (cast_signed w16) e))
 
 marked-is : (z : ℤ) → FitsSigned w16 z → cond (differ (cast_unsigned w16 z) 0) 1 0 ≡ marked z
-marked-is (pos zero) f = refl
-marked-is (pos (suc n)) f = ap (λ (b : Bool). cond (not b) 1 0) (unequal (pos (suc n)) f (λ e. cc))
-marked-is (negsuc n) f = ap (λ (b : Bool). cond (not b) 1 0) (unequal (negsuc n) f (λ e. cc))
+marked-is z f = grind (arith, unequal)
 
 marked-all : (zs : List ℤ) → ((k : ℕ) → FitsSigned w16 (get_or zs k (pos 0)))
     → chosen (length zs) (map (λ (x : ℕ). differ x 0) (residues zs)) ≡ map marked zs
@@ -93,19 +90,13 @@ marked-lanes zs n f =
 
 pub marked-small : (zs : List ℤ) → Each1 (λ x. x < 256) (map marked zs)
 marked-small [] = tt
-marked-small (z ∷ zs) = (small z, marked-small zs)
-  where
-    small : (z : ℤ) → marked z < 256
-    small (pos zero) = omega arith
-    small (pos (suc n)) = omega arith
-    small (negsuc n) = omega arith
+marked-small (z ∷ zs) = grind (arith, marked-small zs)
 
 abbrev pub one_or : Bool → ℕ
 one_or b = if b then 0 else 1
 
 either : (b : Bool) → cond (not b) 1 0 ≡ one_or b
-either true = refl
-either false = refl
+either b = grind arith
 
 pub bits-of : (values : List ℕ) (k : ℕ) → length values ≡ 64
     → bit_at (mask_l (map (top 7) (compared 255 values)) % 2 ^ 64) k ≡ one_or (get_or values k 0 == 0)
@@ -118,9 +109,7 @@ bits-of values k n =
 -- ---- the coefficients that a mask marks
 
 zero-marked : (z : ℤ) → marked z ≡ 0 → z ≡ pos 0
-zero-marked (pos zero) e = refl
-zero-marked (pos (suc n)) e = absurd (omega (arith, e))
-zero-marked (negsuc n) e = absurd (omega (arith, e))
+zero-marked z e = grind arith
 
 -- with another place written
 pub others-kept : (k n : ℕ) (block : List ℤ) (v : ℤ) → length block ≡ 64 → k < 64 → n < 64 → (n ≡ k → ⊥)
@@ -142,10 +131,7 @@ marks-set mask k from block v long before within h = record {
 
 pub marks-later : (mask from next : ℕ) (block : List ℤ) → from ≤ next → MarksFrom mask from block
     → MarksFrom mask next block
-marks-later mask from next block after h = record {
-  zeros = λ n later inside clear. h.zeros n (omega arith) inside clear;
-  values = λ n later inside set. h.values n (omega arith) inside set;
-}
+marks-later mask from next block after h = grind arith
 
 abbrev in_order : List ℤ → List ℕ
 in_order zs = map (λ (place : ℕ). get_or (map marked zs) place 0) zigzag
@@ -156,15 +142,10 @@ marked-at zs k within =
     ∙ get_or-map marked zs (get_or zigzag k 0) (pos 0)
 
 one-or-zero : (n : ℕ) → one_or (n == 0) ≡ 0 → n ≡ 0
-one-or-zero zero e = refl
-one-or-zero (suc n) e =
-    let some : (suc n == 0) ≡ false = ne_eqb (suc n) 0 (λ e. omega (arith, e)) in
-    let one : one_or false ≡ 0 = rw some at e in absurd (omega (arith, one))
+one-or-zero n e = grind (arith, ne_eqb)
 
 marked-one : (z : ℤ) → one_or (marked z == 0) ≡ 1 → z ≡ pos 0 → ⊥
-marked-one (pos zero) e h = omega (arith, e)
-marked-one (pos (suc n)) e h = cc
-marked-one (negsuc n) e h = cc
+marked-one z e h = grind arith
 
 pub marks : (mask : ℕ) (zs : List ℤ)
     → ((k : ℕ) → bit_at mask k ≡ one_or (get_or (in_order zs) k 0 == 0)) → MarksFrom mask 0 zs
@@ -211,9 +192,7 @@ module _ (al from end : ℕ) (block : List ℤ) (within : end ≤ 64) where
   pub at-keeps : (n r k : ℕ) (t : Text) → length block ≡ 64 → from ≤ k → k + n ≤ end
       → ((i : ℕ) → k ≤ i → i < k + n → coefficient_at i block ≡ pos 0 → ⊥) → bits_from 1 t ≡ Ok (0, t)
       → walk_at al r from end block k t ≡ walk_at al r from end block (k + n) t
-  at-keeps zero r k t long after inside some e =
-      let b : k ≡ k + 0 = omega arith in
-      ap (λ (i : ℕ). walk_at al r from end block i t) b
+  at-keeps zero r k t long after inside some e = grind (arith, walk_at)
   at-keeps (suc n) r k t long after inside some e =
       let z = coefficient_at k block in
       let b : k + 1 + n ≡ k + suc n = omega arith in
@@ -227,19 +206,8 @@ module _ (al from end : ℕ) (block : List ℤ) (within : end ≤ 64) where
   pub at-skips : (n r k : ℕ) (t : Text) → from ≤ k → k + n ≤ end → n ≤ r
       → ((i : ℕ) → k ≤ i → i < k + n → coefficient_at i block ≡ pos 0)
       → walk_at al r from end block k t ≡ walk_at al (r - n) from end block (k + n) t
-  at-skips zero r k t after inside some zeros =
-      let a : r ≡ r - 0 = omega arith in
-      let b : k ≡ k + 0 = omega arith in
-      ap (λ (m : ℕ). walk_at al m from end block k t) a ∙ ap (λ (i : ℕ). walk_at al (r - 0) from end block i t) b
-  at-skips (suc n) r k t after inside some zeros =
-      let a : r - 1 - n ≡ r - suc n = omega arith in
-      let b : k + 1 + n ≡ k + suc n = omega arith in
-      at-skip al r from end k (get_or zigzag k 0) block within after (omega arith) refl t
-      (zeros k (omega arith) (omega arith)) (omega arith)
-      ∙ at-skips n (r - 1) (k + 1) t (omega arith) (omega arith) (omega arith)
-      (λ i later before. zeros i (omega arith) (omega arith))
-      ∙ ap (λ (m : ℕ). walk_at al m from end block (k + 1 + n) t) a
-      ∙ ap (λ (i : ℕ). walk_at al (r - suc n) from end block i t) b
+  at-skips zero r k t after inside some zeros = grind (arith, walk_at)
+  at-skips (suc n) r k t after inside some zeros = grind (arith, at-skip, walk_at, at-skips n (r - 1) (k + 1) t (omega arith) (omega arith) (omega arith) (λ i later before. zeros i (omega arith) (omega arith)))
 
   -- the zero that ends the piece stands in the gap
   pub at-gap : (gap r k : ℕ) (t : Text) → from ≤ k → k + gap ≤ end → r < gap

@@ -1,7 +1,8 @@
 -- A piece of a refinement, as it is walked.
+use Rattle.std.proofs.lemmas.Grind.{common_steps}
+use Rattle.std.proofs.lemmas.Bool.Decides.{nat_tests}
 use Rattle.std.proofs.Common.{◌≡◌, ℕ, zero, suc, ◌+◌, ◌-◌, ◌<◌, ◌≤◌, Bool, true, false, List, [], ◌∷◌, ◌++◌, length}
-use Rattle.std.proofs.Common.{take, drop, set, get_or, ℤ, pos, negsuc, Result, Ok, Err, refl, sym, ap, ◌∙◌, arith}
-use Rattle.std.proofs.Common.{append_assoc}
+use Rattle.std.proofs.Common.{take, drop, set, get_or, ℤ, pos, Result, Ok, Err, refl, sym, ap, ◌∙◌, arith, append_assoc}
 use Rattle.std.proofs.lemmas.List.{drop_all, drop_more, take_all, append-nil, take-append-drop, take_more_set}
 use Rattle.std.proofs.lemmas.List.{drop-set-lt, set-get_or}
 use Rattle.jpeg_bits.specs.Reading.{Fault, ◌>>=◌}
@@ -47,21 +48,7 @@ in_front z o = Ok (z ∷ o.0, o.1)
 piece_step : (al n : ℕ) (z : ℤ) (rest : List ℤ) (t : Text) → piece_of al (suc n) (z ∷ rest) t ≡ (place_from al z t
     >>= λ (f : ℤ × Text). one_more f.0 (piece_of al n rest f.1))
 unfolding piece_of corrected
-piece_step al n z rest t = by_place (place_from al z t)
-  where
-    by_place : (o : Result (ℤ × Text) Fault)
-        → ((o >>= λ (f : ℤ × Text). corrected al (take n rest) f.1 >>= λ (x : List ℤ × Text). in_front f.0 x)
-        >>= λ (front : List ℤ × Text). with_rest (suc n) (z ∷ rest) front)
-        ≡ (o >>= λ (f : ℤ × Text). one_more f.0 (corrected al (take n rest) f.1
-        >>= λ (front : List ℤ × Text). with_rest n rest front))
-    by_place (Ok f) = under_other f.0 (corrected al (take n rest) f.1)
-      where
-        under_other : (y : ℤ) (o : Result (List ℤ × Text) Fault) → ((o >>= λ (x : List ℤ × Text). in_front y x)
-            >>= λ (front : List ℤ × Text). with_rest (suc n) (z ∷ rest) front) ≡ one_more y (o
-            >>= λ (front : List ℤ × Text). with_rest n rest front)
-        under_other y (Ok x) = refl
-        under_other y (Err e) = refl
-    by_place (Err e) = refl
+piece_step al n z rest t = grind arith
 
 piece_zero : (al : ℕ) (rest : List ℤ) (t : Text) → piece_of al 0 rest t ≡ Ok ((0, rest), t)
 unfolding piece_of corrected
@@ -70,25 +57,19 @@ piece_zero al rest t = refl
 -- a zero that ends the piece
 walk_ends : (al : ℕ) (z : ℤ) (places : List ℤ) (t : Text) → is_zero z ≡ true
     → piece_of al 1 (z ∷ places) t ≡ Ok ((1, z ∷ places), t)
-walk_ends al z places t e =
-    piece_step al 0 z places t ∙ ap (λ o. o >>= λ (f : ℤ × Text). one_more f.0 (piece_of al 0 places f.1))
-    (place_zero al z t e) ∙ ap (one_more z) (piece_zero al places t)
+walk_ends al z places t e = grind (arith, piece_step, place_zero, piece_zero)
 
 walk_over : (al n : ℕ) (z : ℤ) (places : List ℤ) (t : Text) (w : Walk) → is_zero z ≡ true → piece_of al n places t ≡ w
     → piece_of al (suc n) (z ∷ places) t ≡ one_more z w
-walk_over al n z places t w e h =
-    piece_step al n z places t ∙ ap (λ o. o >>= λ (f : ℤ × Text). one_more f.0 (piece_of al n places f.1))
-    (place_zero al z t e) ∙ ap (one_more z) h
+walk_over al n z places t w e h = grind (arith, piece_step, place_zero)
 
 walk_value_at : (al n : ℕ) (z : ℤ) (places : List ℤ) (t : Text) (w : Text → Walk)
     → ((t : Text) → piece_of al n places t ≡ w t) → piece_of al (suc n) (z ∷ places) t ≡ (place_from al z t
     >>= λ (f : ℤ × Text). one_more f.0 (w f.1))
-walk_value_at al n z places t w h = piece_step al n z places t
-    ∙ bind_same (place_from al z t) _ _ (λ f. ap (one_more f.0) (h f.1))
+walk_value_at al n z places t w h = grind (arith, piece_step, bind_same)
 
 pub by_bool : {P : Type 0} (b : Bool) → (b ≡ true → P) → (b ≡ false → P) → P
-by_bool true f g = f refl
-by_bool false f g = g refl
+by_bool b f g = grind arith
 
 pub piece_walk : (al r : ℕ) (rest : List ℤ) (t : Text) → piece_of al (through_zero r rest) rest t ≡ walk_from al r rest
     t
@@ -127,19 +108,11 @@ pub walk_none : (al r : ℕ) (cur : List ℤ) (i : ℕ) (t : Text) → length cu
   t,
 )
 unfolding walk_left walk_from
-walk_none al r cur i t h =
-    let n : i + 0 ≡ i = omega arith in
-    ap (λ (ys : List ℤ). walk_from al r ys t >>= λ w. after i (take i cur) w) (drop_all i cur h)
-    ∙ ap (λ (ys : List ℤ). Ok ((i + 0, ys), t)) (append-nil (take i cur) ∙ take_all i cur h)
-    ∙ ap (λ n. Ok ((n, cur), t)) n
+walk_none al r cur i t h = grind (arith, drop_all, append-nil, take_all)
 
 more_left : (i : ℕ) (front : List ℤ) (z : ℤ) (w : Walk) → (one_more z w >>= λ w. after i front w) ≡ (w >>= λ w.
     after (i + 1) (front ++ z ∷ []) w)
-more_left i front z (Ok x) =
-    let n : i + suc x.0.0 ≡ i + 1 + x.0.0 = omega arith in
-    ap (λ n. Ok ((n, front ++ z ∷ x.0.1), x.1)) n ∙ ap (λ (ys : List ℤ). Ok ((i + 1 + x.0.0, ys), x.1))
-    (sym (append_assoc front (z ∷ []) x.0.1))
-more_left i front z (Err e) = refl
+more_left i front z w = grind (arith, append_assoc)
 
 from_here : (cur : List ℤ) (i : ℕ) (z : ℤ) → i < length cur → get_or cur i (pos 0) ≡ z
     → drop i cur ≡ z ∷ drop (i + 1) cur
@@ -147,46 +120,31 @@ from_here cur i z h e = drop_more cur i (pos 0) h ∙ ap (λ (z : ℤ). z ∷ dr
 
 through_here : (cur : List ℤ) (i : ℕ) (z : ℤ) → i < length cur → get_or cur i (pos 0) ≡ z
     → take i cur ++ z ∷ [] ≡ take (i + 1) cur
-through_here cur i z h e =
-    sym (take_more_set cur i z h) ∙ ap (take (i + 1)) (ap (λ (z : ℤ). set cur i z) (sym e) ∙ set-get_or cur i (pos 0))
+through_here cur i z h e = grind (arith, common_steps, nat_tests, take_more_set, set-get_or)
 
 -- the zero that ends the piece
 pub walk_stop : (al r : ℕ) (cur : List ℤ) (i : ℕ) (t : Text) → i < length cur → get_or cur i (pos 0) ≡ pos 0 → r ≡ 0
     → walk_left al r cur i t ≡ Ok ((i + 1, cur), t)
 unfolding walk_left walk_from
-walk_stop al r cur i t h e z =
-    rw z (ap (λ (ys : List ℤ). walk_from al 0 ys t >>= λ w. after i (take i cur) w) (from_here cur i (pos 0) h e)
-    ∙ ap (λ (ys : List ℤ). Ok ((i + 1, take i cur ++ ys), t)) (sym (from_here cur i (pos 0) h e))
-    ∙ ap (λ (ys : List ℤ). Ok ((i + 1, ys), t)) (take-append-drop i cur))
+walk_stop al r cur i t h e z = grind (arith, from_here, take-append-drop)
 
 -- a zero before it
 pub walk_skip : (al r : ℕ) (cur : List ℤ) (i : ℕ) (t : Text) → i < length cur → get_or cur i (pos 0) ≡ pos 0 → 0 < r
     → walk_left al r cur i t ≡ walk_left al (r - 1) cur (i + 1) t
 unfolding walk_left walk_from
-walk_skip al zero cur i t h e k = absurd (omega arith)
-walk_skip al (suc r) cur i t h e k =
-    let n : suc r - 1 ≡ r = omega arith in
-    ap (λ (ys : List ℤ). walk_from al (suc r) ys t >>= λ w. after i (take i cur) w) (from_here cur i (pos 0) h e)
-    ∙ more_left i (take i cur) (pos 0) (walk_from al r (drop (i + 1) cur) t)
-    ∙ ap (λ (ys : List ℤ). walk_from al r (drop (i + 1) cur) t >>= λ w. after (i + 1) ys w)
-    (through_here cur i (pos 0) h e)
-    ∙ ap (λ m. walk_from al m (drop (i + 1) cur) t >>= λ w. after (i + 1) (take (i + 1) cur) w) (sym n)
+walk_skip al r cur i t h e k = grind (arith, from_here, more_left, through_here)
 
 walk_nonzero : (al r : ℕ) (z : ℤ) (rest : List ℤ) (t : Text) → is_zero z ≡ false
     → walk_from al r (z ∷ rest) t ≡ (place_from al z t >>= λ (f : ℤ × Text). one_more f.0 (walk_from al r rest f.1))
 unfolding walk_from
-walk_nonzero al zero z rest t e = rw (e, walk_from) refl
-walk_nonzero al (suc r) z rest t e = rw (e, walk_from) refl
+walk_nonzero al r z rest t e = grind arith
 
 not_zero : (z : ℤ) → (z ≡ pos 0 → ⊥) → is_zero z ≡ false
-not_zero (pos zero) h = absurd (h refl)
-not_zero (pos (suc n)) h = refl
-not_zero (negsuc n) h = refl
+not_zero z h = grind arith
 
 bind_bind : (o : Result (ℤ × Text) Fault) (f : ℤ × Text → Walk) (i : ℕ) (front : List ℤ)
     → ((o >>= f) >>= λ w. after i front w) ≡ (o >>= λ (x : ℤ × Text). (f x >>= λ w. after i front w))
-bind_bind (Ok x) f i front = refl
-bind_bind (Err e) f i front = refl
+bind_bind o f i front = grind arith
 
 -- a place that isn't zero
 pub walk_value : (al r : ℕ) (cur : List ℤ) (i : ℕ) (t : Text) → i < length cur → (get_or cur i (pos 0) ≡ pos 0 → ⊥)
@@ -210,16 +168,9 @@ walk_value al r cur i t h e =
 pub value_step : (al r : ℕ) (cur : List ℤ) (i : ℕ) (x y z : ℤ) (t u : Text) → i < length cur
     → (get_or cur i (pos 0) ≡ pos 0 → ⊥) → x ≡ get_or cur i (pos 0) → y ≡ z
     → place_from al x t ≡ Ok (z, u) → walk_left al r cur i t ≡ walk_left al r (set cur i y) (i + 1) u
-value_step al r cur i x y z t u h e p q o =
-    walk_value al r cur i t h e
-    ∙ ap (λ (k : Result (ℤ × Text) Fault). k >>= λ (f : ℤ × Text). walk_left al r (set cur i f.0) (i + 1) f.1)
-    (ap (λ (x : ℤ). place_from al x t) (sym p) ∙ o)
-    ∙ ap (λ (z : ℤ). walk_left al r (set cur i z) (i + 1) u) (sym q)
+value_step al r cur i x y z t u h e p q o = grind (arith, walk_value)
 
 pub value_refused : (al r : ℕ) (cur : List ℤ) (i : ℕ) (x : ℤ) (t : Text) (f : Fault) → i < length cur
     → (get_or cur i (pos 0) ≡ pos 0 → ⊥) → x ≡ get_or cur i (pos 0)
     → place_from al x t ≡ Err f → walk_left al r cur i t ≡ Err f
-value_refused al r cur i x t f h e p o =
-    walk_value al r cur i t h e
-    ∙ ap (λ (k : Result (ℤ × Text) Fault). k >>= λ (f : ℤ × Text). walk_left al r (set cur i f.0) (i + 1) f.1)
-    (ap (λ (x : ℤ). place_from al x t) (sym p) ∙ o)
+value_refused al r cur i x t f h e p o = grind (arith, walk_value)

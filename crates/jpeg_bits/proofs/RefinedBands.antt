@@ -11,51 +11,34 @@ use Rattle.jpeg_bits.specs.Codes.{Table}
 use Rattle.jpeg_bits.specs.declared.refinement.Refinement.{Refinement}
 use Rattle.jpeg_bits.specs.declared.refinement.Refinement.TheVariants.{Zeros, New, End}
 use Rattle.jpeg_bits.specs.Bands.{Band}
-use Rattle.jpeg_bits.specs.Pieces.{ReadsBand, before}
-use Rattle.jpeg_bits.specs.Refinement.{is_zero, through_zero, with_last}
-use Rattle.jpeg_bits.specs.Pieces.{place_from, corrected, refinement_from, refined_piece, refined_ac, refined_band_from}
-use Rattle.jpeg_bits.specs.Pieces.{piece_from}
+use Rattle.jpeg_bits.specs.Pieces.{ReadsBand, before, place_from, corrected, refinement_from, refined_piece, refined_ac}
+use Rattle.jpeg_bits.specs.Pieces.{refined_band_from, piece_from}
+use Rattle.jpeg_bits.specs.Refinement.{through_zero, with_last}
 use Rattle.jpeg_bits.proofs.BandSteps.{bind_same, before-before}
 use Rattle.jpeg_bits.proofs.PieceWalks.{by_bool, Walk}
 
 through_zero_pos : (r : ℕ) (z : ℤ) (places : List ℤ) → 0 < through_zero r (z ∷ places)
 unfolding through_zero
-through_zero_pos zero z places = by_bool (is_zero z) (λ e. rw (e, through_zero) (omega arith)) (λ e. rw (
-  e,
-  through_zero,
-) (omega arith))
-through_zero_pos (suc r) z places = by_bool (is_zero z) (λ e. rw (e, through_zero) (omega arith)) (λ e. rw (
-  e,
-  through_zero,
-) (omega arith))
+through_zero_pos r z places = grind (arith, by_bool)
 
 through_zero_le : (r : ℕ) (places : List ℤ) → through_zero r places ≤ length places
 unfolding through_zero
 through_zero_le r [] = omega arith
-through_zero_le zero (z ∷ places) = let h = through_zero_le zero places in
-    by_bool (is_zero z) (λ e. rw (e, through_zero) (omega arith)) (λ e. rw (e, through_zero) (omega arith))
-through_zero_le (suc r) (z ∷ places) = let h = through_zero_le r places in let k = through_zero_le (suc r) places in
-    by_bool (is_zero z) (λ e. rw (e, through_zero) (omega arith)) (λ e. rw (e, through_zero) (omega arith))
+through_zero_le zero (z ∷ places) = grind (arith, by_bool, through_zero_le zero places)
+through_zero_le (suc r) (z ∷ places) = grind (arith, by_bool, through_zero_le r places, through_zero_le (suc r) places)
 
 -- where there are too few zeros the piece is all places
 pub through_all : (r : ℕ) (places : List ℤ) → length places ≤ r → through_zero r places ≡ length places
 unfolding through_zero
 through_all r [] h = refl
 through_all zero (z ∷ places) h = absurd (omega arith)
-through_all (suc r) (z ∷ places) h = let p = through_all r places (omega arith) in
-    let q = through_all (suc r) places (omega arith) in
-    by_bool (is_zero z) (λ e. rw (e, through_zero) (omega arith)) (λ e. rw (e, through_zero) (omega arith))
+through_all (suc r) (z ∷ places) h = grind (arith, by_bool, through_all r places (omega arith), through_all (suc r) places (omega arith))
 
 piece-same : (al : ℕ) (f g : ReadsBand) (x : ℤ) (places : List ℤ) (k : Refinement) (t : Text)
     → ((j : ℕ) (t : Text) → 0 < j → f (drop j (x ∷ places)) t ≡ g (drop j (x ∷ places)) t)
     → refined_piece al f (x ∷ places) k t ≡ refined_piece al g (x ∷ places) k t
 unfolding refined_piece
-piece-same al f g x places Zeros t h = bind_same (corrected al (take (through_zero 15 (x ∷ places)) (x ∷ places)) t) _ _
-    (λ front. ap (before front.0) (h (through_zero 15 (x ∷ places)) front.1 (through_zero_pos 15 x places)))
-piece-same al f g x places (New r v) t h = bind_same (corrected al (take (through_zero r (x ∷ places)) (x ∷ places)) t)
-    _ _ (λ front. ap (before (with_last v front.0)) (h (through_zero r (x ∷ places)) front.1
-    (through_zero_pos r x places)))
-piece-same al f g x places (End run) t h = refl
+piece-same al f g x places k t h = grind (arith, bind_same, through_zero_pos)
 
 refined-fuel : (table : Table) (al n m : ℕ) (rest : List ℤ) (t : Text) → length rest ≤ n → length rest ≤ m
     → refined_ac table al n rest t ≡ refined_ac table al m rest t
@@ -74,12 +57,7 @@ band-step : (table : Table) (al : ℕ) (rest : List ℤ) (t : Text) → 0 < leng
     → refined_band_from table al rest t ≡ (refinement_from table al t >>= λ (k : Refinement × Text). refined_piece al
     (refined_band_from table al) rest k.0 k.1)
 unfolding refined_band_from refined_ac
-band-step table al [] t h = absurd (omega arith)
-band-step table al (x ∷ rest) t h =
-    bind_same (refinement_from table al t) _ _ (λ c.
-    piece-same al (refined_ac table al (length rest)) (refined_band_from table al) x rest c.0 c.1 (λ j t g.
-    let d = length-drop j (x ∷ rest) in
-    refined-fuel table al (length rest) (length (drop j (x ∷ rest))) (drop j (x ∷ rest)) t (omega arith) (le_refl _)))
+band-step table al rest t h = grind (arith, bind_same, piece-same, length-drop, refined-fuel, le_refl)
 
 -- what the places from i on give, after those before them
 unfoldable pub refined_left : Table → ℕ → List ℤ → ℕ → Text → Result (Band × Text) Fault
@@ -92,34 +70,23 @@ refined_step table al band i k t = before (take i band) (refined_piece al (refin
 
 bind_before : (a : List ℤ) (r : Result (Refinement × Text) Fault) (f : Refinement × Text → Result (Band × Text) Fault)
     → before a (r >>= f) ≡ (r >>= λ (k : Refinement × Text). before a (f k))
-bind_before a (Ok x) f = refl
-bind_before a (Err e) f = refl
+bind_before a r f = grind arith
 
 pub refined_more : (table : Table) (al : ℕ) (band : List ℤ) (i : ℕ) (t : Text) → i < length band
     → refined_left table al band i t ≡ (refinement_from table al t >>= λ (k : Refinement × Text). refined_step table al
     band i k.0 k.1)
 unfolding refined_left refined_step
-refined_more table al band i t h =
-    let d = length-drop i band in
-    ap (before (take i band)) (band-step table al (drop i band) t (omega arith))
-    ∙ bind_before (take i band) (refinement_from table al t) (λ (k : Refinement × Text). refined_piece al
-    (refined_band_from table al) (drop i band) k.0 k.1)
+refined_more table al band i t h = grind (arith, length-drop, band-step, bind_before)
 
 pub refined_none : (table : Table) (al : ℕ) (band : List ℤ) (i : ℕ) (t : Text) → length band ≤ i
     → refined_left table al band i t ≡ Ok ((band, 0), t)
 unfolding refined_left refined_band_from refined_ac
-refined_none table al band i t h =
-    ap (λ (ys : List ℤ). before (take i band) (refined_band_from table al ys t)) (drop_all i band h)
-    ∙ ap (λ (ys : List ℤ). Ok ((ys, 0), t)) (append-nil (take i band) ∙ take_all i band h)
+refined_none table al band i t h = grind (arith, drop_all, append-nil, take_all)
 
 pub refined_all : (table : Table) (al : ℕ) (band : List ℤ) (t : Text)
     → refined_left table al band 0 t ≡ refined_band_from table al band t
 unfolding refined_left
-refined_all table al band t = by_result (refined_band_from table al band t)
-  where
-    by_result : (o : Result (Band × Text) Fault) → before [] o ≡ o
-    by_result (Ok x) = refl
-    by_result (Err e) = refl
+refined_all table al band t = grind arith
 
 abbrev pub KeepsLength : ℕ → Result (List ℤ × Text) Fault → Type 0
 KeepsLength n (Ok x) = length x.0 ≡ n
@@ -164,12 +131,7 @@ length_short n xs h = length-take-le n xs h
 corrected_refused : (al r : ℕ) (rest : List ℤ) (t : Text) (f : Fault) → piece_from al r rest t ≡ Err f
     → corrected al (take (through_zero r rest) rest) t ≡ Err f
 unfolding piece_from fault_of
-corrected_refused al r rest t f h = by_result (corrected al (take (through_zero r rest) rest) t) h
-  where
-    by_result : (o : Result (List ℤ × Text) Fault)
-        → (o >>= λ (front : List ℤ × Text). pieced (through_zero r rest) rest front) ≡ Err f → o ≡ Err f
-    by_result (Ok x) e = absurd (false≢true (ap is_ok (sym e)))
-    by_result (Err g) e = ap (λ (w : Walk). fault_of g w) e
+corrected_refused al r rest t f h = grind (arith, false≢true)
 
 -- the zeros that a token asks for, in the rest of a band of this many places
 abbrev pub zeros_of : ℕ → Refinement → ℕ
@@ -182,28 +144,13 @@ pub step_refused : (table : Table) (al : ℕ) (band rest : List ℤ) (i all : �
     → rest ≡ drop i band → length rest ≤ all
     → piece_from al (zeros_of all k) rest t ≡ Err f → refined_step table al band i k t ≡ Err f
 unfolding refined_step refined_piece
-step_refused table al band rest i all Zeros t f e le h =
-    ap (λ (o : Result (List ℤ × Text) Fault). before (take i band) (o >>= λ front.
-    before front.0 (refined_band_from table al (drop (through_zero 15 (drop i band)) (drop i band)) front.1)))
-    (corrected_refused al 15 (drop i band) t f (ap (λ (ys : List ℤ). piece_from al 15 ys t) (sym e) ∙ h))
-step_refused table al band rest i all (New r v) t f e le h =
-    ap (λ (o : Result (List ℤ × Text) Fault). before (take i band) (o >>= λ front.
-    before (with_last v front.0) (refined_band_from table al (drop (through_zero r (drop i band)) (drop i band))
-    front.1)))
-    (corrected_refused al r (drop i band) t f (ap (λ (ys : List ℤ). piece_from al r ys t) (sym e) ∙ h))
-step_refused table al band rest i all (End run) t f e le h =
-    ap (λ (o : Result (List ℤ × Text) Fault). before (take i band) (o >>= λ x. ended run x))
-    (ap (λ (ys : List ℤ). corrected al ys t) (sym e)
-    ∙ ap (λ (ys : List ℤ). corrected al ys t)
-    (sym (take_all (through_zero all rest) rest (omega (arith, through_all all rest le))))
-    ∙ corrected_refused al all rest t f h)
+step_refused table al band rest i all k t f e le h = grind (arith, corrected_refused, take_all, through_all)
 
 take_front : (k : ℕ) (xs ys : List ℤ) → length xs ≡ k → take k (xs ++ ys) ≡ xs
 take_front k xs ys e = take-append-le k xs ys (omega arith) ∙ take_all k xs (omega arith)
 
 drop_front : (k : ℕ) (xs ys : List ℤ) → length xs ≡ k → drop k (xs ++ ys) ≡ ys
-drop_front k xs ys e = drop-append-le k xs ys (omega arith)
-    ∙ ap (λ (zs : List ℤ). zs ++ ys) (drop_all k xs (omega arith))
+drop_front k xs ys e = grind (arith, drop-append-le, drop_all)
 
 set_last : (a front : List ℤ) (v : ℤ) (k : ℕ) → k + 1 ≡ length a + length front → 0 < length front
     → set (a ++ front) k v ≡ a ++ with_last v front
@@ -303,40 +250,14 @@ module _ (table : Table) (al i n : ℕ) (band nb rest ys : List ℤ) (t u : Text
   pub end_step : (run all : ℕ) → length rest ≤ all → piece_from al all rest t ≡ Ok ((n, ys), u)
       → refined_step table al band i (End run) t ≡ Ok ((nb, run), u)
   unfolding refined_step refined_piece
-  end_step run all few h = by (is_piece al all rest t n ys u h)
-    where
-      by : IsPiece al all rest t n ys u → refined_step table al band i (End run) t ≡ Ok ((nb, run), u)
-      by (piece front c l m e) =
-          let whole : take (through_zero all rest) rest ≡ rest =
-          take_all (through_zero all rest) rest (omega (arith, through_all all rest few)) in
-          let none : drop (through_zero all rest) rest ≡ [] =
-          drop_all (through_zero all rest) rest (omega (arith, through_all all rest few)) in
-          let b : nb ≡ take i band ++ front = new ∙ ap (λ (xs : List ℤ). take i band ++ xs) (e
-          ∙ ap (λ (xs : List ℤ). front ++ xs) none ∙ append-nil front) in
-          ap (λ (o : Result (List ℤ × Text) Fault). before (take i band) (o >>= λ x. ended run x))
-          (ap (λ (xs : List ℤ). corrected al xs t) (sym old) ∙ ap (λ (xs : List ℤ). corrected al xs t) (sym whole) ∙ c)
-          ∙ ap (λ (xs : List ℤ). Ok ((xs, run), u)) (sym b)
+  end_step run all few h = grind (arith, is_piece, take_all, through_all, drop_all, append-nil)
 
 pub refined_token : (table : Table) (al : ℕ) (band : List ℤ) (i : ℕ) (k : Refinement) (t u : Text) → i < length band
     → refinement_from table al t ≡ Ok (k, u) → refined_left table al band i t ≡ refined_step table al band i k u
-refined_token table al band i k t u h e = refined_more table al band i t h
-    ∙ ap (λ (o : Result (Refinement × Text) Fault). o >>= λ (k : Refinement × Text). refined_step table al band i k.0
-    k.1) e
+refined_token table al band i k t u h e = grind (arith, refined_more)
 
 -- a piece that is the whole band
 pub whole_piece : (al : ℕ) (band : List ℤ) (t : Text) → corrected al band t ≡ (piece_from al (length band) band t
     >>= λ (p : (ℕ × List ℤ) × Text). Ok (p.0.1, p.1))
 unfolding piece_from
-whole_piece al band t =
-    let n = through_all (length band) band (le_refl _) in
-    let whole : take (through_zero (length band) band) band ≡ band =
-    take_all (through_zero (length band) band) band (omega (arith, n)) in
-    let none : drop (through_zero (length band) band) band ≡ [] =
-    drop_all (through_zero (length band) band) band (omega (arith, n)) in
-    rw (whole, none) (by_result (corrected al band t))
-  where
-    by_result : (o : Result (List ℤ × Text) Fault)
-        → o ≡ ((o >>= λ (front : List ℤ × Text). Ok ((through_zero (length band) band, front.0 ++ []), front.1))
-        >>= λ (p : (ℕ × List ℤ) × Text). Ok (p.0.1, p.1))
-    by_result (Ok x) = ap (λ (xs : List ℤ). Ok (xs, x.1)) (sym (append-nil x.0))
-    by_result (Err e) = refl
+whole_piece al band t = grind (arith, through_all, le_refl, take_all, drop_all, append-nil)

@@ -5,10 +5,9 @@ use Rattle.std.proofs.lemmas.Bool.{ne_eqb}
 use Rattle.jpeg_bits.specs.Reading.{Fault, Malformed, ◌>>=◌}
 use Rattle.jpeg_bits.specs.Entropy.{Text, bits_from}
 use Rattle.jpeg_bits.specs.Codes.{Table, symbol_from}
-use Rattle.jpeg_bits.specs.Readers.{Reads, read_on, gives, refused}
+use Rattle.jpeg_bits.specs.Readers.{Reads, read_on, gives}
 use Rattle.jpeg_bits.specs.Bands.{Band, before_more}
-use Rattle.jpeg_bits.specs.Refinement.{is_zero, bit_of, moved, fits_i16, corrected_by, through_zero, with_last}
-use Rattle.jpeg_bits.specs.Refinement.{new_number}
+use Rattle.jpeg_bits.specs.Refinement.{is_zero, corrected_by, through_zero, with_last, new_number}
 use Rattle.jpeg_bits.specs.Refinement as defined
 use Rattle.jpeg_bits.specs.Pieces.{before, run_from, place_from, corrected, refinement_from, refined_piece, refined_ac}
 use Rattle.jpeg_bits.specs.declared.refinement.Refinement.{Refinement}
@@ -24,41 +23,7 @@ place_by al z b t = (elim b as (λ _. Reads ℤ) [
 
 place-same : (al : ℕ) (z : ℤ) (t : Text) → place_from al z t ≡ place_by al z (is_zero z) t
 unfolding place_from
-place-same al z t = go (is_zero z)
-  where
-    two : (u : Text) (b f : Bool) → (if b then ((if f then Ok (moved (2 ^ al) z) else Err Malformed)
-        >>= λ (m : ℤ). Ok (m, u)) else Ok (z, u))
-        ≡ (elim b as (λ _. Reads ℤ) [
-          | true ↦ elim f as (λ _. Reads ℤ) [
-            | true ↦ gives (moved (2 ^ al) z)
-            | false ↦ refused
-          ]
-          | false ↦ gives z
-        ]) u
-    two u true true = refl
-    two u true false = refl
-    two u false f = refl
-
-    one : (n : ℕ) (u : Text) → (if n == 0 then Ok (z, u)
-        else (if bit_of al z == 0 then ((if fits_i16 (moved (2 ^ al) z) then Ok (moved (2 ^ al) z) else Err Malformed)
-        >>= λ (m : ℤ). Ok (m, u)) else Ok (z, u)))
-        ≡ corrected_by al z n u
-    one zero u = refl
-    one (suc n) u = rw (ne_eqb (suc n) 0 (λ e. omega arith)) (two u (bit_of al z == 0) (fits_i16 (moved (2 ^ al) z)))
-
-    bits : (o : Result (ℕ × Text) Fault) → (o >>= λ (b : ℕ × Text). if b.0 == 0 then Ok (z, b.1)
-        else (if bit_of al z == 0 then ((if fits_i16 (moved (2 ^ al) z) then Ok (moved (2 ^ al) z) else Err Malformed)
-        >>= λ (m : ℤ). Ok (m, b.1)) else Ok (z, b.1)))
-        ≡ read_on (λ (b : ℕ). corrected_by al z b) o
-    bits (Ok b) = one b.0 b.1
-    bits (Err e) = refl
-
-    go : (b : Bool) → (if b then Ok (z, t) else (bits_from 1 t >>= λ (b : ℕ × Text). if b.0 == 0 then Ok (z, b.1)
-        else (if bit_of al z == 0 then ((if fits_i16 (moved (2 ^ al) z) then Ok (moved (2 ^ al) z) else Err Malformed)
-        >>= λ (m : ℤ). Ok (m, b.1)) else Ok (z, b.1))))
-        ≡ place_by al z b t
-    go true = refl
-    go false = bits (bits_from 1 t)
+place-same al z t = grind (arith, ne_eqb)
 
 pub corrected-same : (al : ℕ) (places : List ℤ) (t : Text) → corrected al places t ≡ defined.corrected al places t
 unfolding corrected defined.corrected
@@ -81,8 +46,7 @@ corrected-same al (z ∷ places) t = go (λ u. corrected-same al places u) (plac
 
 before-same : (front : List ℤ) (o : Result (Band × Text) Fault)
     → before front o ≡ read_on (λ (more : Band). gives (before_more front more)) o
-before-same front (Ok x) = refl
-before-same front (Err e) = refl
+before-same front o = grind arith
 
 abbrev read_piece : (List ℤ → List ℤ) → ℕ → (List ℤ → Reads Band) → List ℤ → Result (List ℤ × Text) Fault
     → Result (Band × Text) Fault
@@ -94,14 +58,11 @@ piece-on : (f : List ℤ → List ℤ) (n : ℕ) (mine theirs : List ℤ → Rea
     → (o : Result (List ℤ × Text) Fault)
     → (o >>= λ (front : List ℤ × Text). before (f front.0) (mine (drop n rest) front.1)) ≡ read_piece f n theirs
     rest o
-piece-on f n mine theirs rest same (Ok x) =
-    ap (before (f x.0)) (same (drop n rest) x.1) ∙ before-same (f x.0) (theirs (drop n rest) x.1)
-piece-on f n mine theirs rest same (Err e) = refl
+piece-on f n mine theirs rest same o = grind (arith, before-same)
 
 end-on : (run : ℕ) (o : Result (List ℤ × Text) Fault) → (o >>= λ (all : List ℤ × Text). Ok ((all.0, run), all.1))
     ≡ read_on {B = Band} (λ (all : List ℤ). gives (all, run)) o
-end-on run (Ok x) = refl
-end-on run (Err e) = refl
+end-on run o = grind arith
 
 abbrev Others : Table → ℕ → ℕ → Type 0
 Others table al n = (xs : List ℤ) (u : Text) → refined_ac table al n xs u ≡ defined.refined_ac table al n xs u

@@ -1,4 +1,6 @@
 -- Bits in a word of 64.
+use Rattle.std.proofs.lemmas.Grind.{common_steps}
+use Rattle.std.proofs.lemmas.Bool.Decides.{nat_tests}
 use Rattle.std.proofs.Common.{◌≡◌, ℕ, zero, suc, ◌+◌, ◌-◌, ◌*◌, ◌/◌, ◌%◌, ◌^◌, ◌<◌, ◌≤◌, Bool, false, List, [], ◌∷◌}
 use Rattle.std.proofs.Common.{◌++◌, length, take, drop, replicate, refl, sym, ap, ◌∙◌, arith, pow-suc, pow-add, pow_pos}
 use Rattle.std.proofs.Common.{add-zero, mul_assoc, inl, inr}
@@ -8,7 +10,7 @@ use Rattle.std.proofs.lemmas.Nat.{div-mul-add, div-add-mod', mod-pow-add, shl-sh
 use Rattle.std.proofs.lemmas.List.{take-replicate, take-append-le, drop_at, drop_all, take_all}
 use Rattle.std.proofs.Math.Pow.{shl_exact}
 use Rattle.std.proofs.lemmas.Bool.{cases_lt}
-use Rattle.jpeg_bits.specs.Written.{bit, low_bits}
+use Rattle.jpeg_bits.specs.Written.{low_bits}
 use Rattle.jpeg_bits.specs.Entropy.{bits_of, number_of}
 use Rattle.jpeg_bits.specs.Reservoir.{bits_held, HasZerosAfter}
 use Rattle.jpeg_bits.proofs.WrittenBits.{number_of-low_bits, length-low_bits}
@@ -17,52 +19,33 @@ use Rattle.jpeg_bits.proofs.WrittenBits.{number_of-low_bits, length-low_bits}
 pub low_bits-high : (n a y : ℕ) → low_bits n (a * 2 ^ n + y) ≡ low_bits n y
 unfolding low_bits
 low_bits-high zero a y = refl
-low_bits-high (suc n) a y =
-    let x = a * 2 ^ suc n + y in
-    let d : 2 ^ suc n ≡ 2 * 2 ^ n = omega (arith, pow-suc 2 n) in
-    let e : x ≡ a * 2 * 2 ^ n + y = ap (λ (p : ℕ). a * p + y) d ∙ ap (λ (p : ℕ). p + y) (sym (mul_assoc a 2 (2 ^ n))) in
-    let h : x / 2 ^ n ≡ a * 2 + y / 2 ^ n = ap (λ (v : ℕ). v / 2 ^ n) e ∙ mul-add-div_right (pow_pos n) (a * 2) y in
-    let b : x / 2 ^ n % 2 ≡ y / 2 ^ n % 2 = omega (arith, h) in
-    ap (λ (v : ℕ). bit v ∷ low_bits n x) b ∙ ap (λ (l : List Bool). bit (y / 2 ^ n % 2) ∷ l) (ap (low_bits n) e
-    ∙ low_bits-high n (a * 2) y)
+low_bits-high (suc n) a y = grind (arith, pow-suc, mul_assoc, mul-add-div_right, pow_pos, low_bits-high n (a * 2) y)
 
 pub low_bits-append : (a b x y : ℕ) → y < 2 ^ b → low_bits (a + b) (x * 2 ^ b + y) ≡ low_bits a x ++ low_bits b y
 unfolding low_bits
-low_bits-append zero b x y h =
-    let z : 0 + b ≡ b = omega arith in
-    ap (λ (n : ℕ). low_bits n (x * 2 ^ b + y)) z ∙ low_bits-high b x y
+low_bits-append zero b x y h = grind (arith, low_bits-high)
 low_bits-append (suc a) b x y h =
     let v = x * 2 ^ b + y in
     let s : suc a + b ≡ suc (a + b) = omega arith in
     let t : a + b ≡ b + a = omega arith in
     let q : v / 2 ^ (a + b) ≡ x / 2 ^ a
     = ap (λ (n : ℕ). v / 2 ^ n) t ∙ ap (λ (d : ℕ). v / d) (pow-add 2 b a) ∙ sym (div-div-eq-div-mul v (2 ^ b) (2 ^ a))
-    ∙ ap (λ (k : ℕ). k / 2 ^ a) (div-mul-add x (2 ^ b) y h) in
-    ap (λ (n : ℕ). low_bits n v) s
-    ∙ ap (λ (k : ℕ). bit (k % 2) ∷ low_bits (a + b) v) q
-    ∙ ap (λ (l : List Bool). bit (x / 2 ^ a % 2) ∷ l) (low_bits-append a b x y h)
+    ∙ ap (λ (k : ℕ). k / 2 ^ a) (div-mul-add x (2 ^ b) y h) in grind (arith, common_steps, nat_tests, low_bits-append a b x y h)
 
 pub low_bits-split : (n m x : ℕ) → low_bits (n + m) x ≡ low_bits n (x / 2 ^ m) ++ low_bits m (x % 2 ^ m)
 low_bits-split n m x = ap (low_bits (n + m)) (sym (div-add-mod' x (2 ^ m)))
     ∙ low_bits-append n m (x / 2 ^ m) (x % 2 ^ m) (mod-lt x (pow_pos m))
 
 pub low_bits-take : (n m x : ℕ) → take n (low_bits (n + m) x) ≡ low_bits n (x / 2 ^ m)
-low_bits-take n m x =
-    let l = length-low_bits n (x / 2 ^ m) in
-    ap (take n) (low_bits-split n m x)
-    ∙ take-append-le n (low_bits n (x / 2 ^ m)) (low_bits m (x % 2 ^ m)) (omega (arith, l))
-    ∙ take_all n (low_bits n (x / 2 ^ m)) (omega (arith, l))
+low_bits-take n m x = grind (arith, length-low_bits, low_bits-split, take-append-le, take_all)
 
 pub low_bits-drop : (n m x : ℕ) → drop n (low_bits (n + m) x) ≡ low_bits m (x % 2 ^ m)
-low_bits-drop n m x =
-    ap (drop n) (low_bits-split n m x) ∙ drop_at (low_bits n (x / 2 ^ m)) (low_bits m (x % 2 ^ m)) n
-    (length-low_bits n (x / 2 ^ m))
+low_bits-drop n m x = grind (arith, low_bits-split, drop_at, length-low_bits)
 
 pub low_bits-zeros : (n : ℕ) → low_bits n 0 ≡ replicate n false
 unfolding low_bits
 low_bits-zeros zero = refl
-low_bits-zeros (suc n) = ap (λ (v : ℕ). bit (v % 2) ∷ low_bits n 0) (zero-div (2 ^ n))
-    ∙ ap (λ (l : List Bool). false ∷ l) (low_bits-zeros n)
+low_bits-zeros (suc n) = grind (arith, zero-div, low_bits-zeros n)
 
 pub same_zeros : (xs : List Bool) (m n k : ℕ) → m ≤ length xs + n → m ≤ length xs + k
     → take m (xs ++ replicate n false) ≡ take m (xs ++ replicate k false)
@@ -75,10 +58,7 @@ pub whole_word : (word count : ℕ) → count ≤ 64 → HasZerosAfter word coun
     → low_bits 64 word ≡ bits_held word count ++ replicate (64 - count) false
 whole_word word count h z =
     let e : 64 ≡ count + (64 - count) = omega arith in
-    let k = 64 - count in
-    ap (λ (n : ℕ). low_bits n word) e ∙ low_bits-split count k word
-    ∙ ap (λ (y : ℕ). bits_held word count ++ low_bits k y) z
-    ∙ ap (λ (l : List Bool). bits_held word count ++ l) (low_bits-zeros k)
+    let k = 64 - count in grind (arith, common_steps, nat_tests, low_bits-split, low_bits-zeros)
 
 -- the first n bits, with zeros after them
 pub front_bits : (word count n : ℕ) → count ≤ 64 → n ≤ 64 → HasZerosAfter word count
@@ -91,17 +71,11 @@ front_bits word count n h g z =
     ∙ low_bits-take n (64 - n) word
 
 pub front_small : (word n m : ℕ) → word < 2 ^ (n + m) → word / 2 ^ m < 2 ^ n
-front_small word n m h =
-    let p = pow-add 2 n m in
-    (div-lt_iff_lt-mul (pow_pos m)).1 (omega (arith, p))
+front_small word n m h = grind (arith, pow-add, div-lt_iff_lt-mul, pow_pos)
 
 pub front_number : (word count n : ℕ) → word < 2 ^ 64 → count ≤ 64 → n ≤ 64 → HasZerosAfter word count
     → word / 2 ^ (64 - n) ≡ number_of (take n (bits_held word count ++ replicate n false))
-front_number word count n w h g z =
-    let e : 64 ≡ n + (64 - n) = omega arith in
-    let p : 2 ^ 64 ≡ 2 ^ (n + (64 - n)) = ap (λ (k : ℕ). 2 ^ k) e in
-    sym (ap number_of (front_bits word count n h g z) ∙ number_of-low_bits n (word / 2 ^ (64 - n))
-    (front_small word n (64 - n) (omega (arith, p))))
+front_number word count n w h g z = grind (arith, front_bits, number_of-low_bits, front_small)
 
 -- the word by the bits of it
 by_bits : (word count : ℕ) → HasZerosAfter word count → word ≡ word / 2 ^ (64 - count) * 2 ^ (64 - count)
@@ -109,9 +83,7 @@ by_bits word count z = sym (div-add-mod' word (2 ^ (64 - count))) ∙ omega (ari
 
 byte_bits : (b : ℕ) → low_bits 8 b ≡ bits_of b
 unfolding low_bits
-byte_bits b = let e : b / 1 ≡ b = omega arith in
-    ap (λ (v : ℕ). bit (b / 128 % 2) ∷ bit (b / 64 % 2) ∷ bit (b / 32 % 2) ∷ bit (b / 16 % 2) ∷ bit (b / 8 % 2)
-    ∷ bit (b / 4 % 2) ∷ bit (b / 2 % 2) ∷ bit (v % 2) ∷ []) e
+byte_bits b = grind arith
 
 -- a byte after the bits
 module _ (word count byte : ℕ) (few : count ≤ 56) (z : HasZerosAfter word count) where
@@ -127,22 +99,11 @@ module _ (word count byte : ℕ) (few : count ≤ 56) (z : HasZerosAfter word co
       omega (arith, w, a, d)
 
   pub byte_zeros : HasZerosAfter (word + byte * 2 ^ (56 - count)) (count + 8)
-  byte_zeros =
-      let k = 56 - count in
-      let e : 64 - (count + 8) ≡ k = omega arith in
-      ap (λ (n : ℕ). (word + byte * 2 ^ k) % 2 ^ n) e ∙ ap (λ (v : ℕ). v % 2 ^ k) with_byte ∙ mul-mod_left _ (2 ^ k)
+  byte_zeros = grind (arith, with_byte, mul-mod_left)
 
   pub byte_held : byte < 256 → bits_held (word + byte * 2 ^ (56 - count)) (count + 8) ≡ bits_held word count ++ bits_of
       byte
-  byte_held small =
-      let k = 56 - count in
-      let q = word / 2 ^ (64 - count) in
-      let e : 64 - (count + 8) ≡ k = omega arith in
-      ap (λ (n : ℕ). low_bits (count + 8) ((word + byte * 2 ^ k) / 2 ^ n)) e
-      ∙ ap (λ (v : ℕ). low_bits (count + 8) (v / 2 ^ k)) with_byte
-      ∙ ap (low_bits (count + 8)) (shl-shr (q * 256 + byte) k)
-      ∙ low_bits-append count 8 q byte small
-      ∙ ap (λ (l : List Bool). bits_held word count ++ l) (byte_bits byte)
+  byte_held small = grind (arith, with_byte, shl-shr, low_bits-append, byte_bits)
 
   pub byte_fits : word < 2 ^ 64 → byte < 256 → word + byte * 2 ^ (56 - count) < 2 ^ 64
   byte_fits fits small =
@@ -164,11 +125,7 @@ module _ (word count byte : ℕ) (few : count ≤ 56) (z : HasZerosAfter word co
 -- the first n bits taken away
 module _ (word count n : ℕ) (few : count ≤ 64) (z : HasZerosAfter word count) where
   moved : word * 2 ^ n ≡ word / 2 ^ (64 - count) * 2 ^ (64 - count + n)
-  moved =
-      let k = 64 - count in
-      let q = word / 2 ^ k in
-      ap (λ (v : ℕ). v * 2 ^ n) (by_bits word count z) ∙ mul_assoc q (2 ^ k) (2 ^ n)
-      ∙ ap (λ (v : ℕ). q * v) (sym (pow-add 2 k n))
+  moved = grind (arith, by_bits, mul_assoc, pow-add)
 
   shifted : n ≤ count → word * 2 ^ n % 2 ^ 64 ≡ word / 2 ^ (64 - count) % 2 ^ (count - n) * 2 ^ (64 - (count - n))
   shifted le =
@@ -225,10 +182,7 @@ pub word_fits : (v : ℕ) → v % 2 ^ 64 < 2 ^ 64
 word_fits v = mod-lt v (pow_pos 64)
 
 pub front_below : (word n : ℕ) → word < 2 ^ 64 → n ≤ 64 → word / 2 ^ (64 - n) < 2 ^ n
-front_below word n h g =
-    let e : 64 ≡ n + (64 - n) = omega arith in
-    let p : 2 ^ 64 ≡ 2 ^ (n + (64 - n)) = ap (λ (k : ℕ). 2 ^ k) e in
-    front_small word n (64 - n) (omega (arith, p))
+front_below word n h g = grind (arith, front_small)
 
 pub byte_shifted : (count byte : ℕ) → count ≤ 56 → byte < 256
     → byte * 2 ^ (56 - count) % 2 ^ 64 ≡ byte * 2 ^ (56 - count)
@@ -239,7 +193,4 @@ pub prefix_number : (bits l : ℕ) → bits < 2 ^ 16 → l < 16
     → bits / 2 ^ (15 - l) ≡ number_of (take (l + 1) (low_bits 16 bits))
 prefix_number bits l h lt =
     let e : 16 ≡ l + 1 + (15 - l) = omega arith in
-    let p : 2 ^ 16 ≡ 2 ^ (l + 1 + (15 - l)) = ap (λ (k : ℕ). 2 ^ k) e in
-    sym (ap (λ (k : ℕ). number_of (take (l + 1) (low_bits k bits))) e
-    ∙ ap number_of (low_bits-take (l + 1) (15 - l) bits)
-    ∙ number_of-low_bits (l + 1) (bits / 2 ^ (15 - l)) (front_small bits (l + 1) (15 - l) (omega (arith, p))))
+    let p : 2 ^ 16 ≡ 2 ^ (l + 1 + (15 - l)) = ap (λ (k : ℕ). 2 ^ k) e in grind (arith, common_steps, nat_tests, low_bits-take, number_of-low_bits, front_small)

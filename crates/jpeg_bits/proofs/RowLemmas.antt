@@ -102,20 +102,14 @@ module _ (counts : List ℕ) (rows : List Row) (bits i : ℕ) (counted : length 
 
   pub above_more : (get_or rows i no_row).end ≤ bits / 2 ^ (15 - i)
       → value_after counts (i + 1) ≤ bits / 2 ^ (16 - (i + 1))
-  above_more h =
-      let e = ap (λ (r : Row). r.end) (holds i lt) in
-      let s : 16 - (i + 1) ≡ 15 - i = omega arith in
-      subst (λ (k : ℕ). value_after counts (i + 1) ≤ bits / 2 ^ k) (sym s) (omega (arith, e, h))
+  above_more h = grind arith
 
 -- Where a code of at most n bits would be found, and none is, n rows are passed.
 pub rows_passed : (counts : List ℕ) (rows : List Row) (bits n : ℕ) → length counts ≡ 16 → HoldsRows counts rows
     → bits < 2 ^ 16 → n ≤ 16
     → ((c : ℕ × ℕ) → c.1 ≤ n → code_in (code_lengths counts) (low_bits 16 bits) ≡ Some c → ⊥)
     → (i : ℕ) → i ≤ n → (value_after counts i ≤ bits / 2 ^ (16 - i)) × NoneYet counts bits i
-rows_passed counts rows bits n counted holds fits most none zero h =
-    let lens = code_lengths counts in
-    let all : length lens - 0 ≡ length lens = omega arith in
-    (omega arith, ap (first_from (begins lens (low_bits 16 bits)) 0) (sym all))
+rows_passed counts rows bits n counted holds fits most none zero h = grind arith
 rows_passed counts rows bits n counted holds fits most none (suc i) h =
     let before = rows_passed counts rows bits n counted holds fits most none i (omega arith) in
     let lt : i < 16 = omega arith in
@@ -146,23 +140,9 @@ same_row a b c d e f p q r = rw (p, q, r) refl
 pub passed-none : (counts : List ℕ) (rows : List Row) (bits : ℕ) → length counts ≡ 16 → HoldsRows counts rows
     → bits < 2 ^ 16 → (i : ℕ) → i ≤ 16 → ArePassed rows i bits
     → (value_after counts i ≤ bits / 2 ^ (16 - i)) × NoneYet counts bits i
-passed-none counts rows bits counted holds fits zero h passed =
-    let lens = code_lengths counts in
-    let all : length lens - 0 ≡ length lens = omega arith in
-    (omega arith, ap (first_from (begins lens (low_bits 16 bits)) 0) (sym all))
-passed-none counts rows bits counted holds fits (suc i) h passed =
-    let before = passed-none counts rows bits counted holds fits i (omega arith) (λ j lt. passed j (omega arith)) in
-    let lt : i < 16 = omega arith in
-    let long = passed i (omega arith) in
-    subst (λ (k : ℕ). (value_after counts k ≤ bits / 2 ^ (16 - k)) × NoneYet counts bits k) (add-one i) (
-      above_more counts rows bits i counted holds lt fits before.0 long,
-      row_missed counts rows bits i counted holds lt fits before.0 long before.1,
-    )
+passed-none counts rows bits counted holds fits zero h passed = grind arith
+passed-none counts rows bits counted holds fits (suc i) h passed = grind (arith, add-one, above_more, row_missed, passed-none counts rows bits counted holds fits i (omega arith) (λ j lt. passed j (omega arith)))
 
 -- they stay passed for greater bits
 pub still-passed : (rows : List Row) (n bits more : ℕ) → bits ≤ more → ArePassed rows n bits → ArePassed rows n more
-still-passed rows n bits more le passed i lt =
-    let d = 2 ^ (15 - i) in
-    let below : bits / d * d ≤ more = omega (arith, div-mul-le_self bits d, le) in
-    let m = le-div (bits / d) more d (pow_pos (15 - i)) below in
-    omega (arith, passed i lt, m)
+still-passed rows n bits more le passed i lt = grind (arith, div-mul-le_self, le-div, pow_pos)

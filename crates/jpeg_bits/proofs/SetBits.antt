@@ -1,38 +1,17 @@
 -- Bits of a number's two's complement.
 use Rattle.std.proofs.Math.Pow.{pow_mono}
 use Rattle.std.proofs.lemmas.Bool.{eqb-true, cases_lt}
-use Rattle.std.proofs.lemmas.Int.{int_wrap_fits, ints}
-use Rattle.std.specs.Int.{int_wrap}
+use Rattle.std.proofs.lemmas.Int.{int_wrap_fits}
+use Rattle.std.specs.Int.{int_wrap, cast_unsigned}
 use Rattle.jpeg_bits.specs.Passes.{or_bit}
-use Rattle.std.proofs.Common.{◌⊎◌, inl, inr, Bool, true, false, ◌==◌, ◌+ℤ◌, sym, ◌≡◌, ℕ, zero, suc, ◌+◌, ◌-◌, ◌*◌, ◌/◌}
-use Rattle.std.proofs.Common.{◌%◌, ◌^◌, ◌<◌, ◌≤◌, ℤ, pos, negsuc, refl, ap, ◌∙◌, arith, w16, FitsSigned}
-use Rattle.std.specs.Int.{cast_unsigned}
+use Rattle.std.proofs.Common.{Bool, true, false, ◌==◌, ◌+ℤ◌, ◌≡◌, ℕ, suc, ◌+◌, ◌-◌, ◌*◌, ◌/◌, ◌%◌, ◌^◌, ◌<◌, ◌≤◌, ℤ}
+use Rattle.std.proofs.Common.{pos, negsuc, refl, ap, ◌∙◌, arith, w16, FitsSigned}
 use Rattle.jpeg_bits.specs.Refinement.{bit_of}
 
 -- a number to 13, one by one
 pub by_level : (P : ℕ → Type 0) → P 0 → P 1 → P 2 → P 3 → P 4 → P 5 → P 6 → P 7 → P 8 → P 9 → P 10 → P 11 → P 12 → P 13
     → (al : ℕ) → al ≤ 13 → P al
-by_level P p0 p1 p2 p3 p4 p5 p6 p7 p8 p9 p10 p11 p12 p13 zero h = p0
-by_level P p0 p1 p2 p3 p4 p5 p6 p7 p8 p9 p10 p11 p12 p13 (suc zero) h = p1
-by_level P p0 p1 p2 p3 p4 p5 p6 p7 p8 p9 p10 p11 p12 p13 (suc (suc zero)) h = p2
-by_level P p0 p1 p2 p3 p4 p5 p6 p7 p8 p9 p10 p11 p12 p13 (suc (suc (suc zero))) h = p3
-by_level P p0 p1 p2 p3 p4 p5 p6 p7 p8 p9 p10 p11 p12 p13 (suc (suc (suc (suc zero)))) h = p4
-by_level P p0 p1 p2 p3 p4 p5 p6 p7 p8 p9 p10 p11 p12 p13 (suc (suc (suc (suc (suc zero))))) h = p5
-by_level P p0 p1 p2 p3 p4 p5 p6 p7 p8 p9 p10 p11 p12 p13 (suc (suc (suc (suc (suc (suc zero)))))) h = p6
-by_level P p0 p1 p2 p3 p4 p5 p6 p7 p8 p9 p10 p11 p12 p13 (suc (suc (suc (suc (suc (suc (suc zero))))))) h = p7
-by_level P p0 p1 p2 p3 p4 p5 p6 p7 p8 p9 p10 p11 p12 p13 (suc (suc (suc (suc (suc (suc (suc (suc zero)))))))) h = p8
-by_level P p0 p1 p2 p3 p4 p5 p6 p7 p8 p9 p10 p11 p12 p13 (suc (suc (suc (suc (suc (suc (suc (suc (suc zero))))))))) h =
-    p9
-by_level P p0 p1 p2 p3 p4 p5 p6 p7 p8 p9 p10 p11 p12 p13
-    (suc (suc (suc (suc (suc (suc (suc (suc (suc (suc zero)))))))))) h = p10
-by_level P p0 p1 p2 p3 p4 p5 p6 p7 p8 p9 p10 p11 p12 p13
-    (suc (suc (suc (suc (suc (suc (suc (suc (suc (suc (suc zero))))))))))) h = p11
-by_level P p0 p1 p2 p3 p4 p5 p6 p7 p8 p9 p10 p11 p12 p13
-    (suc (suc (suc (suc (suc (suc (suc (suc (suc (suc (suc (suc zero)))))))))))) h = p12
-by_level P p0 p1 p2 p3 p4 p5 p6 p7 p8 p9 p10 p11 p12 p13
-    (suc (suc (suc (suc (suc (suc (suc (suc (suc (suc (suc (suc (suc zero))))))))))))) h = p13
-by_level P p0 p1 p2 p3 p4 p5 p6 p7 p8 p9 p10 p11 p12 p13
-    (suc (suc (suc (suc (suc (suc (suc (suc (suc (suc (suc (suc (suc (suc n)))))))))))))) h = absurd (omega arith)
+by_level P p0 p1 p2 p3 p4 p5 p6 p7 p8 p9 p10 p11 p12 p13 al h = grind arith
 
 negative : (n : ℕ) → n < 32768 → (al : ℕ) → al ≤ 13 → (65535 - n) / 2 ^ al % 2 ≡ 1 - n / 2 ^ al % 2
 negative n f = by_level (λ al. (65535 - n) / 2 ^ al % 2 ≡ 1 - n / 2 ^ al % 2) (omega arith) (omega arith) (omega arith)
@@ -52,32 +31,17 @@ set-below n f = by_level (λ al. n / 2 ^ al % 2 ≡ 0 → n + 2 ^ al < 32768) (�
 -- ---- a bit that is set
 
 pub or_none : (al : ℕ) (z : ℤ) (b : ℕ) → b ≡ 0 → or_bit al z b ≡ z
-or_none al z b e = rw e (go (bit_of al z == 0))
-  where
-    go : (t : Bool) → (elim t as (λ _. ℤ) [ true ↦ z +ℤ pos (0 * 2 ^ al) | false ↦ z ]) ≡ z
-    go true = let e : 0 * 2 ^ al ≡ 0 = omega arith in ap (λ (n : ℕ). z +ℤ pos n) e ∙ omega (arith, ints)
-    go false = refl
+or_none al z b e = grind arith
 
 pub or_kept : (al : ℕ) (z : ℤ) (b : ℕ) → (bit_of al z == 0) ≡ false → or_bit al z b ≡ z
 or_kept al z b e = ap (λ (t : Bool). elim t as (λ _. ℤ) [ true ↦ z +ℤ pos (b * 2 ^ al) | false ↦ z ]) e
 
 after : (n k : ℕ) → n < 32768 → k < 32768 → FitsSigned w16 (negsuc n +ℤ pos k)
-after n k h i = go (cases_lt n k)
-  where
-    go : (n < k) ⊎ (k ≤ n) → FitsSigned w16 (negsuc n +ℤ pos k)
-    go (inl l) = let e : negsuc n +ℤ pos k ≡ pos (k - suc n) =
-        omega (arith, ints) in rw e record { sfits = omega arith }
-    go (inr l) = let e : negsuc n +ℤ pos k ≡ negsuc (n - k) = omega (arith, ints) in rw e record { sfits = omega arith }
+after n k h i = grind (arith, cases_lt)
 
 set-fits : (al : ℕ) (z : ℤ) → al ≤ 13 → FitsSigned w16 z → bit_of al z ≡ 0 → FitsSigned w16 (z +ℤ pos (2 ^ al))
-set-fits al (pos n) h f e = let s = f.sfits in let m = set-below n (omega arith) al h e in record { sfits = m }
-set-fits al (negsuc n) h f e = let s = f.sfits in let m : 2 ^ al ≤ 2 ^ 13 =
-    pow_mono h in after n (2 ^ al) (omega arith) (omega arith)
+set-fits al z h f e = grind (arith, set-below, pow_mono, after)
 
 pub or_set : (al : ℕ) (z : ℤ) (b : ℕ) → al ≤ 13 → FitsSigned w16 z → (bit_of al z == 0) ≡ true → b ≡ 1
     → int_wrap w16 (z +ℤ pos (2 ^ al)) ≡ or_bit al z b
-or_set al z b h f t e =
-    let one : b * 2 ^ al ≡ 2 ^ al = rw e (omega arith) in
-    int_wrap_fits w16 (z +ℤ pos (2 ^ al)) (set-fits al z h f (eqb-true (bit_of al z) 0 t))
-    ∙ sym (ap (λ (t : Bool). elim t as (λ _. ℤ) [ true ↦ z +ℤ pos (b * 2 ^ al) | false ↦ z ]) t
-    ∙ ap (λ (n : ℕ). z +ℤ pos n) one)
+or_set al z b h f t e = grind (arith, int_wrap_fits, set-fits, eqb-true)

@@ -1,32 +1,30 @@
 -- Short codes and values.
+use Rattle.std.proofs.lemmas.Grind.{common_steps}
 use Rattle.std.proofs.Common.{◌≡◌, ◌≢◌, length-set, set, below_more, get_or-set_other, get_or-set_same, ℕ, ℤ, zero, suc}
 use Rattle.std.proofs.Common.{◌+◌, ◌-◌, ◌*◌, ◌/◌, ◌%◌, ◌^◌, ◌<◌, ◌≤◌, Bool, true, false, cond, eqb, leb, ltb, ◌&&◌}
-use Rattle.std.proofs.Common.{List, [], ◌∷◌, ◌++◌, length, take, drop, get_or, replicate, Option, Some, None, Result}
-use Rattle.std.proofs.Common.{Ok, Err, refl, sym, ap, ◌∙◌, subst, arith, inl, inr, length-append, length-take}
-use Rattle.std.proofs.Common.{length-drop, IfSome, is_ok, is_some}
+use Rattle.std.proofs.Common.{List, [], ◌∷◌, ◌++◌, length, take, drop, get_or, replicate, Option, Some, None, Ok, refl}
+use Rattle.std.proofs.Common.{sym, ap, ◌∙◌, arith, inl, inr, length-append, length-take, length-drop, IfSome, is_some}
+use Rattle.std.proofs.Common.{pow_pos}
 use Rattle.std.specs.Option.{option_map}
 use Rattle.std.proofs.Math.Seq.{drop-nil}
 use Rattle.std.proofs.lemmas.List.{take-take, take-append-le, take_all, take-replicate, drop-replicate, drop-take}
 use Rattle.std.proofs.lemmas.List.{drop-drop, length-replicate}
 use Rattle.std.proofs.lemmas.Bool.{cases_lt, false≢true}
 use Rattle.std.proofs.lemmas.Bool.Decides.{nat_tests}
-use Rattle.jpeg_bits.specs.Reading.{Fault, ◌>>=◌}
-use Rattle.jpeg_bits.specs.Entropy.{Text, number_of, extended, upcoming_by, has_held, advance, IsFilled, text_at}
-use Rattle.jpeg_bits.specs.Readers.{read_on, gives, signed_from}
+use Rattle.jpeg_bits.specs.Reading.{◌>>=◌}
+use Rattle.jpeg_bits.specs.Entropy.{number_of, extended, upcoming_by, has_held, IsFilled, text_at}
+use Rattle.jpeg_bits.specs.Readers.{read_on, signed_from}
 use Rattle.jpeg_bits.specs.Written.{low_bits}
 use Rattle.jpeg_bits.specs.Codes.{Table, code_in, code_lengths, code_value, begins, first_from, next_16, is_ac}
-use Rattle.jpeg_bits.specs.Codes.{lengths_from}
-use Rattle.jpeg_bits.specs.Codes.{short_token, after_code, short_code_by, short_code_from, short_value, fast_from}
-use Rattle.jpeg_bits.specs.ShortCodes.{IsOf}
-use Rattle.jpeg_bits.specs.ShortCodes.{named, symbol_in, short_only, short_code, short_value_by, short_value_of}
+use Rattle.jpeg_bits.specs.Codes.{lengths_from, short_token, after_code, short_code_by, short_code_from, short_value}
+use Rattle.jpeg_bits.specs.Codes.{fast_from}
+use Rattle.jpeg_bits.specs.ShortCodes.{IsOf, named, symbol_in, short_only, short_code, short_value_by, short_value_of}
 use Rattle.jpeg_bits.specs.ShortCodes.{next_bits, packed}
-use Rattle.jpeg_bits.specs.ShortCodes.{HoldsCodes}
 use Rattle.jpeg_bits.specs.declared.codes.HuffmanTableClass.{HuffmanTableClass}
 use Rattle.jpeg_bits.specs.declared.codes.HuffmanTableClass.TheVariants as classes
 use Rattle.jpeg_bits.specs.declared.ahead.DataEnd.{DataEnd}
 use Rattle.jpeg_bits.specs.declared.ahead.DataEnd.TheVariants as ends
 use Rattle.std.proofs.Math.Nat.{mod-lt}
-use Rattle.std.proofs.Common.{pow_pos}
 use Rattle.jpeg_bits.proofs.WrittenBits.{length-low_bits, number_of-low_bits}
 use Rattle.jpeg_bits.proofs.Reservoirs.{low_bits-append, low_bits-zeros, low_bits-take, low_bits-drop, same_zeros}
 use Rattle.jpeg_bits.proofs.Reservoirs.{front_small}
@@ -54,14 +52,7 @@ long_only : (n : ℕ) (lens : List ℕ) (test : ℕ → Bool) (i k : ℕ)
     → ((j : ℕ) → i ≤ j → j < i + k → n < get_or lens j 0) → short_from n lens (first_from test i k) ≡ None
 unfolding first_from
 long_only n lens test i zero h = refl
-long_only n lens test i (suc k) h =
-    go (test i) (long_only n lens test (i + 1) k (λ j a b. h j (omega arith) (omega arith)))
-  where
-    go : (b : Bool) → short_from n lens (first_from test (i + 1) k) ≡ None
-        → short_from n lens (cond b (Some i) (first_from test (i + 1) k)) ≡ None
-    go true r = let m = h i (omega arith) (omega arith) in let t : leb (get_or lens i 0) n ≡ false =
-        grind (arith, nat_tests) in rw t refl
-    go false r = r
+long_only n lens test i (suc k) h = grind (arith, long_only n lens test (i + 1) k (λ j a b. h j (omega arith) (omega arith)))
 
 module _ (n : ℕ) (lens : List ℕ) (rising : IsRising 1 16 lens) (x y : List Bool) (same : take n x ≡ take n y) where
   agree_from : (i k : ℕ) → i + k ≤ length lens → short_from n lens (first_from (begins lens x) i k)
@@ -92,24 +83,7 @@ module _ (n : ℕ) (lens : List ℕ) (rising : IsRising 1 16 lens) (x y : List B
 -- a code that is too long makes no short value
 pub short_enough : (n : ℕ) (class : HuffmanTableClass) (bits : List Bool) (symbols : List ℕ) (o : Option (ℕ × ℕ))
     → short_value_by n class bits (named symbols (at_most n o)) ≡ short_value_by n class bits (named symbols o)
-short_enough n class bits symbols None = refl
-short_enough n class bits symbols (Some c) = go (leb c.1 n) refl
-  where
-    size : ℕ
-    size = get_or symbols c.0 0 % 16
-
-    none : (a b d : Bool) (x : ℤ × ℕ × ℕ) → d ≡ false → cond {A = Option (ℤ × ℕ × ℕ)} (a && (b && d)) (Some x) None
-        ≡ None
-    none true true d x h = rw h refl
-    none true false d x h = refl
-    none false b d x h = refl
-
-    go : (b : Bool) → leb c.1 n ≡ b → short_value_by n class bits (named symbols (at_most n (Some c)))
-        ≡ short_value_by n class bits (named symbols (Some c))
-    go true e = rw e refl
-    go false e =
-        let l : leb (c.1 + size) n ≡ false = grind (arith, nat_tests) in
-        rw e (sym (none (is_ac class) (ltb 0 size) (leb (c.1 + size) n) _ l))
+short_enough n class bits symbols o = grind arith
 
 -- what n bits begin with is seen from the first n of more
 pub value_seen : (n : ℕ) (table : Table) (x y bits : List Bool) → length table.counts ≡ 16 → take n x ≡ take n y
@@ -126,10 +100,7 @@ value_seen n table x y bits counted same =
 -- a list whose first places hold the values of f, with one more
 pub set_next : {A : Type 0} (xs : List A) (i : ℕ) (v d : A) (f : ℕ → A) → i < length xs
     → ((k : ℕ) → k < i → get_or xs k d ≡ f k) → v ≡ f i → (k : ℕ) → k < i + 1 → get_or (set xs i v) k d ≡ f k
-set_next xs i v d f lt below here =
-    below_more _ _
-    (λ k h. let ne : k ≢ i = omega arith in rw get_or-set_other (below k h))
-    (rw get_or-set_same here)
+set_next xs i v d f lt below here = grind (arith, below_more, get_or-set_other, get_or-set_same)
 
 pub length_set : {A : Type 0} (xs : List A) (i : ℕ) (v : A) (n : ℕ) → length xs ≡ n → length (set xs i v) ≡ n
 length_set xs i v n h = length-set xs i v ∙ h
@@ -157,40 +128,23 @@ short_of_16 counts bits h =
 
 short_named : (symbols : List ℕ) (o : Option (ℕ × ℕ)) (p : ℕ × ℕ) → named symbols (short_only o) ≡ Some p
     → named symbols o ≡ Some p
-short_named symbols None p h = h
-short_named symbols (Some c) p h = go (leb c.1 8) refl
-  where
-    go : (b : Bool) → leb c.1 8 ≡ b → named symbols (Some c) ≡ Some p
-    go true e = rw e at h
-    go false e = absurd (false≢true (ap is_some (rw e at h)))
+short_named symbols o p h = grind (arith, false≢true)
 
 -- whether a code is short is seen with its symbol too
 pub short-of-named : (symbols : List ℕ) (o : Option (ℕ × ℕ)) → short_only (named symbols o) ≡ named symbols (short_only o)
-short-of-named symbols None = refl
-short-of-named symbols (Some c) = go (leb c.1 8) refl
-  where
-    go : (b : Bool) → leb c.1 8 ≡ b → short_only (named symbols (Some c)) ≡ named symbols (short_only (Some c))
-    go true e = rw e refl
-    go false e = rw e refl
+short-of-named symbols o = grind arith
 
 -- a short code that stands at the place of the first 8 bits is that of the bits
 pub symbol_found : (table : Table) (bits : ℕ) (p : ℕ × ℕ) → length table.counts ≡ 16
     → short_code table.counts table.symbols (low_bits 8 (bits / 256)) ≡ Some p
     → symbol_in table (low_bits 16 bits) ≡ Some p
-symbol_found table bits p h e =
-    short_named table.symbols (code_in (code_lengths table.counts) (low_bits 16 bits)) p
-    (sym (ap (named table.symbols) (short_of_16 table.counts bits h)) ∙ e)
+symbol_found table bits p h e = grind (arith, short_named, short_of_16)
 
 -- where none stands there, no code of at most 8 bits begins the bits
 pub none_short : (counts symbols : List ℕ) (bits : ℕ) → length counts ≡ 16
     → short_code counts symbols (low_bits 8 (bits / 256)) ≡ None
     → (c : ℕ × ℕ) → c.1 ≤ 8 → code_in (code_lengths counts) (low_bits 16 bits) ≡ Some c → ⊥
-none_short counts symbols bits h none c le found =
-    let t : leb c.1 8 ≡ true = grind (arith, nat_tests) in
-    let e : named symbols (short_only (Some c)) ≡ None =
-    ap (λ (o : Option (ℕ × ℕ)). named symbols (short_only o)) (sym found)
-    ∙ sym (ap (named symbols) (short_of_16 counts bits h)) ∙ none in
-    false≢true (sym (ap is_some (rw t at e)))
+none_short counts symbols bits h none c le found = grind (arith, short_of_16, false≢true)
 
 -- ---- values by their first n bits
 
@@ -207,12 +161,7 @@ next-held n bits (Some end) bytes le h =
     take-take n 16 (bits ++ replicate 16 false) le ∙ same_zeros bits n 16 n (omega arith) (omega arith)
 
 length-next_bits : (n : ℕ) (bits : List Bool) → length (next_bits n bits) ≡ n
-length-next_bits n bits = omega (
-  arith,
-  length-take n (bits ++ replicate n false),
-  length-append bits (replicate n false),
-  length-replicate n false,
-)
+length-next_bits n bits = grind (arith, length-take, length-append, length-replicate)
 
 -- the first 11 of the next 16 bits
 pub eleven-front : (number : ℕ) (bits : List Bool) → low_bits 16 number ≡ next_16 bits
@@ -224,52 +173,20 @@ eleven-front number bits e =
 -- whether the rest of some bits can be taken
 pub rest-held : (l n : ℕ) (bits : List Bool) (met : Option DataEnd) → l + n ≤ length bits
     → has_held n (drop l bits) met ≡ Ok tt
-rest-held l n bits None h = refl
-rest-held l n bits (Some (ends.Marker m)) h = refl
-rest-held l n bits (Some ends.Malformed) h = let t : leb n (length (drop l bits)) ≡ true =
-    grind (arith, nat_tests, length-drop l bits) in rw t refl
-rest-held l n bits (Some ends.Ended) h = let t : leb n (length (drop l bits)) ≡ true =
-    grind (arith, nat_tests, length-drop l bits) in rw t refl
+rest-held l n bits met h = grind (arith, length-drop)
 
 both-held : (l n : ℕ) (bits : List Bool) (met : Option DataEnd) → has_held (l + n) bits met ≡ Ok tt
     → has_held n (drop l bits) met ≡ Ok tt
-both-held l n bits None h = refl
-both-held l n bits (Some (ends.Marker m)) h = refl
-both-held l n bits (Some ends.Malformed) h = go (leb (l + n) (length bits)) refl
-  where
-    go : (b : Bool) → leb (l + n) (length bits) ≡ b → has_held n (drop l bits) (Some ends.Malformed) ≡ Ok tt
-    go true e = let w : l + n ≤ length bits = grind (arith, nat_tests) in rest-held l n bits (Some ends.Malformed) w
-    go false e = absurd (false≢true (ap is_ok (rw e at h)))
-both-held l n bits (Some ends.Ended) h = go (leb (l + n) (length bits)) refl
-  where
-    go : (b : Bool) → leb (l + n) (length bits) ≡ b → has_held n (drop l bits) (Some ends.Ended) ≡ Ok tt
-    go true e = let w : l + n ≤ length bits = grind (arith, nat_tests) in rest-held l n bits (Some ends.Ended) w
-    go false e = absurd (false≢true (ap is_ok (rw e at h)))
+both-held l n bits met h = grind (arith, rest-held, false≢true)
 
 -- fewer bits can be taken too
 pub fewer-held : (few n : ℕ) (bits : List Bool) (met : Option DataEnd) → few ≤ n → has_held n bits met ≡ Ok tt
     → has_held few bits met ≡ Ok tt
-fewer-held few n bits None le h = refl
-fewer-held few n bits (Some (ends.Marker m)) le h = refl
-fewer-held few n bits (Some ends.Malformed) le h = go (leb n (length bits)) refl
-  where
-    go : (b : Bool) → leb n (length bits) ≡ b → has_held few bits (Some ends.Malformed) ≡ Ok tt
-    go true e = let w : n ≤ length bits = grind (arith, nat_tests) in
-        rest-held 0 few bits (Some ends.Malformed) (omega arith)
-    go false e = absurd (false≢true (ap is_ok (rw e at h)))
-fewer-held few n bits (Some ends.Ended) le h = go (leb n (length bits)) refl
-  where
-    go : (b : Bool) → leb n (length bits) ≡ b → has_held few bits (Some ends.Ended) ≡ Ok tt
-    go true e = let w : n ≤ length bits = grind (arith, nat_tests) in
-        rest-held 0 few bits (Some ends.Ended) (omega arith)
-    go false e = absurd (false≢true (ap is_ok (rw e at h)))
+fewer-held few n bits met le h = grind (arith, rest-held, false≢true)
 
 zeros-after : (bits : List Bool) (l n k : ℕ) → l + n ≤ k → take n (drop l (bits ++ replicate k false))
     ≡ take n (drop l bits ++ replicate n false)
-zeros-after [] l n k h =
-    ap (take n) (drop-replicate l k false) ∙ take-replicate n (k - l) false (omega arith)
-    ∙ sym (ap (λ (ys : List Bool). take n (ys ++ replicate n false)) (drop-nil l)
-    ∙ take-replicate n n false (omega arith))
+zeros-after [] l n k h = grind (arith, drop-replicate, take-replicate, drop-nil)
 zeros-after (x ∷ xs) zero n k h = same_zeros (x ∷ xs) n k n (omega arith) (omega arith)
 zeros-after (x ∷ xs) (suc l) n k h = zeros-after xs l n k (omega arith)
 
@@ -278,11 +195,7 @@ value-bits : (n : ℕ) (bits : List Bool) (l s : ℕ) → l + s ≤ n
     → take s (drop l (next_bits n bits)) ≡ take s (drop l bits ++ replicate s false)
 value-bits n bits l s h =
     let z = bits ++ replicate n false in
-    let e : n ≡ l + (n - l) = omega arith in
-    ap (λ (k : ℕ). take s (drop l (take k z))) e
-    ∙ ap (take s) (drop-take l (n - l) z)
-    ∙ take-take s (n - l) (drop l z) (omega arith)
-    ∙ zeros-after bits l s n h
+    let e : n ≡ l + (n - l) = omega arith in grind (arith, common_steps, nat_tests, drop-take, take-take, zeros-after)
 
 abbrev pub size_of : Table → ℕ × ℕ → ℕ
 size_of table c = get_or table.symbols c.0 0 % 16
@@ -292,11 +205,7 @@ is_short n table c = is_ac table.class && (ltb 0 (size_of table c) && leb (c.1 +
 
 token_none : (table : Table) (c : ℕ × ℕ) (bits : List Bool)
     → short_value_by 8 table.class bits (Some (get_or table.symbols c.0 0, c.1)) ≡ None → short_token table c ≡ None
-token_none table c bits h = go (is_short 8 table c) refl
-  where
-    go : (b : Bool) → is_short 8 table c ≡ b → short_token table c ≡ None
-    go false w = rw w refl
-    go true w = absurd (false≢true (sym (ap is_some (rw w at h))))
+token_none table c bits h = grind (arith, false≢true)
 
 -- the code of a short value
 pub record IsShort (most : ℕ) (table : Table) (c : ℕ × ℕ) (bits : List Bool) (v : ℤ) (r n : ℕ) : Type 0 where
@@ -308,9 +217,7 @@ pub record IsShort (most : ℕ) (table : Table) (c : ℕ × ℕ) (bits : List Bo
   pub all : n ≡ c.1 + size_of table c
 
 all_short : (a b d : Bool) → (a && (b && d)) ≡ true → (b ≡ true) × (d ≡ true)
-all_short true true d h = (refl, h)
-all_short true false d h = absurd (false≢true h)
-all_short false b d h = absurd (false≢true h)
+all_short a b d h = grind (arith, false≢true)
 
 triple : {A : Type 0} (d : A) → Option A → A
 triple d (Some x) = x
@@ -320,33 +227,11 @@ pub short_some : (most : ℕ) (table : Table) (c : ℕ × ℕ) (bits : List Bool
     → short_value_by most table.class bits (Some (get_or table.symbols c.0 0, c.1)) ≡ Some (v, r, n)
     → IsShort most table c bits v r n
 unfolding triple
-short_some most table c bits v r n h = go (is_short most table c) refl
-  where
-    go : (b : Bool) → is_short most table c ≡ b → IsShort most table c bits v r n
-    go false w = absurd (false≢true (ap is_some (rw w at h)))
-    go true w =
-        let s = size_of table c in
-        let d = all_short (is_ac table.class) (ltb 0 s) (leb (c.1 + s) most) w in
-        let le = d.1 in
-        let few : c.1 + s ≤ most = grind (arith, nat_tests) in
-        let x : (extended (number_of (take s (drop c.1 bits))) s, get_or table.symbols c.0 0 / 16, c.1 + s) ≡ (
-          v,
-          r,
-          n,
-        ) = ap (triple (v, r, n)) (rw w at h) in
-        record {
-          short = w;
-          some = d.0;
-          few = few;
-          value = sym (ap (λ (k : ℤ × ℕ × ℕ). k.0) x);
-          run = sym (ap (λ (k : ℤ × ℕ × ℕ). k.1) x);
-          all = sym (ap (λ (k : ℤ × ℕ × ℕ). k.2) x);
-        }
+short_some most table c bits v r n h = grind (arith, false≢true, all_short)
 
 filled-rest : (m l n : ℕ) (bits : List Bool) (met : Option DataEnd) → l + n ≤ m → IsFilled m bits met
     → IsFilled n (drop l bits) met
-filled-rest m l n bits None h f = omega (arith, length-drop l bits)
-filled-rest m l n bits (Some e) h f = omega (arith, length-drop l bits)
+filled-rest m l n bits met h f = grind (arith, length-drop)
 
 module _ (most : ℕ) (table : Table) (bits : List Bool) (met : Option DataEnd) (bytes : List ℕ) (few : most ≤ 16)
     (filled : IsFilled most bits met) where
@@ -354,70 +239,21 @@ module _ (most : ℕ) (table : Table) (bits : List Bool) (met : Option DataEnd) 
   pub value-text : length table.counts ≡ 16 → short_value_of most table (next_bits most bits)
       ≡ short_value_by most table.class (next_bits most bits)
       (symbol_in table (next_16 (upcoming_by bits met bytes).bits))
-  value-text counted =
-      value_seen most table (next_bits most bits ++ replicate (16 - most) false)
-      (next_16 (upcoming_by bits met bytes).bits) (next_bits most bits) counted
-      (front_of most (16 - most) (next_bits most bits) (length-next_bits most bits)
-      ∙ sym (next-held most bits met bytes few filled))
+  value-text counted = grind (arith, value_seen, front_of, length-next_bits, next-held)
 
   -- the value after a code of l bits
   pub value-read : (l s : ℕ) → l + s ≤ most → has_held (l + s) bits met ≡ Ok tt
       → signed_from s (upcoming_by (drop l bits) met bytes)
       ≡ Ok (extended (number_of (take s (drop l (next_bits most bits)))) s, upcoming_by (drop (l + s) bits) met bytes)
   unfolding signed_from
-  value-read l s le held =
-      let rest = drop l bits in
-      let f = filled-rest most l s bits met le filled in
-      let d : drop s rest ≡ drop (l + s) bits = drop-drop s l bits in
-      ap (λ (o : Result (ℕ × Text) Fault). read_on (λ (v : ℕ). gives (extended v s)) o)
-      (bits_from-held s rest met bytes f
-      ∙ ap (λ (o : Result (Unit {0}) Fault). o
-      >>= λ (u : Unit {0}). Ok (
-        number_of (take s (rest ++ replicate s false)),
-        upcoming_by (drop s rest) met bytes,
-      )) (both-held l s bits met held))
-      ∙ ap (λ (b : List Bool). Ok (extended (number_of b) s, upcoming_by (drop s rest) met bytes))
-      (sym (value-bits most bits l s le))
-      ∙ ap (λ (b : List Bool). Ok (
-        extended (number_of (take s (drop l (next_bits most bits)))) s,
-        upcoming_by b met bytes,
-      )) d
+  value-read l s le held = grind (arith, filled-rest, drop-drop, bits_from-held, both-held, value-bits)
 
 module _ (table : Table) (bits : List Bool) (met : Option DataEnd) (bytes : List ℕ) (filled : IsFilled 8 bits met)
     (counted : length table.counts ≡ 16) where
   token-text : (c : ℕ × ℕ) (v : ℤ) (r n : ℕ) → IsShort 8 table c (next_bits 8 bits) v r n
       → read_on short_value (after_code c.1 (upcoming_by bits met bytes) (short_token table c)) ≡ (has_held n bits met
       >>= λ (u : Unit {0}). Ok (Some (v, r), upcoming_by (drop n bits) met bytes))
-  token-text c v r n k =
-      let t = upcoming_by bits met bytes in
-      let s = size_of table c in
-      let m = c.1 + s in
-      let w = k.few in
-      let f = filled-less m 8 bits met w filled in
-      let g = filled-less c.1 8 bits met (omega arith) filled in
-      let token : short_token table c ≡ Some (r, s) = rw k.short (ap (λ (i : ℕ). Some (i, s)) (sym k.run)) in
-      ap (λ (o : Option (ℕ × ℕ)). read_on short_value (after_code c.1 t o)) token
-      ∙ ap (λ (o : Result (Unit {0}) Fault). read_on short_value (o >>= λ (u : Unit {0}). Ok (
-        Some (r, s),
-        advance c.1 t,
-      ))) (has_bits-held m bits met bytes f)
-      ∙ ap (λ (u : Text). read_on short_value (has_held m bits met >>= λ (_ : Unit {0}). Ok (Some (r, s), u)))
-      (advance-held c.1 bits met bytes g)
-      ∙ go (has_held m bits met) refl
-      ∙ ap (λ (i : ℕ). has_held i bits met >>= λ (u : Unit {0}). Ok (Some (v, r), upcoming_by (drop i bits) met bytes))
-      (sym k.all)
-    where
-      go : (o : Result (Unit {0}) Fault) → has_held (c.1 + size_of table c) bits met ≡ o
-          → read_on short_value (o >>= λ (u : Unit {0}). Ok (
-            Some (r, size_of table c),
-            upcoming_by (drop c.1 bits) met bytes,
-          ))
-          ≡ (o >>= λ (u : Unit {0}). Ok (Some (v, r), upcoming_by (drop (c.1 + size_of table c) bits) met bytes))
-      go (Ok u) h =
-          ap (read_on (λ (x : ℤ). gives (Some (x, r)))) (value-read 8 table bits met bytes (omega arith) filled c.1
-          (size_of table c) k.few h)
-          ∙ ap (λ (x : ℤ). Ok (Some (x, r), upcoming_by (drop (c.1 + size_of table c) bits) met bytes)) (sym k.value)
-      go (Err f) h = refl
+  token-text c v r n k = grind (arith, filled-less, has_bits-held, advance-held, value-read)
 
   -- no short token
   pub fast-none : short_value_of 8 table (next_bits 8 bits) ≡ None → fast_from table (upcoming_by bits met bytes) ≡ Ok (
@@ -456,55 +292,16 @@ module _ (table : Table) (bits : List Bool) (met : Option DataEnd) (bytes : List
 
 -- ---- building tables
 
-pub short_code-is : (counts symbols : List ℕ) (b v : ℕ) (o : Option (ℕ × ℕ)) → v ≡ b * 256
-    → code_in (code_lengths counts) (low_bits 16 v) ≡ o → short_code counts symbols (low_bits 8 b)
-    ≡ named symbols (short_only o)
-short_code-is counts symbols b v o h e =
-    ap (λ (l : List Bool). named symbols (short_only (code_in (code_lengths counts) l))) (sym (byte_padded b))
-    ∙ ap (λ (n : ℕ). named symbols (short_only (code_in (code_lengths counts) (low_bits 16 n)))) (sym h)
-    ∙ ap (λ (o : Option (ℕ × ℕ)). named symbols (short_only o)) e
-
-pub named-short : (symbols : List ℕ) (c : ℕ × ℕ) → c.1 ≤ 8
-    → named symbols (short_only (Some c)) ≡ Some (get_or symbols c.0 0, c.1)
-named-short symbols c h = let t : leb c.1 8 ≡ true = grind (arith, nat_tests) in rw t refl
-
-pub named-long : (symbols : List ℕ) (c : ℕ × ℕ) → 8 < c.1 → named symbols (short_only (Some c)) ≡ None
-named-long symbols c h = let t : leb c.1 8 ≡ false = grind (arith, nat_tests) in rw t refl
-
 -- the number of a value after a code of l bits, of n
 pub value_below : (n bits l s : ℕ) → l + s ≤ n → bits % 2 ^ (n - l) / 2 ^ (n - l - s) < 2 ^ s
-value_below n bits l s h =
-    let m = n - l in
-    let e : m ≡ s + (m - s) = omega arith in
-    let p : 2 ^ m ≡ 2 ^ (s + (m - s)) = ap (λ (k : ℕ). 2 ^ k) e in
-    let w = mod-lt bits (pow_pos m) in
-    front_small (bits % 2 ^ m) s (m - s) (omega (arith, p, w))
+value_below n bits l s h = grind (arith, mod-lt, pow_pos, front_small)
 
 pub value_number : (n bits l s : ℕ) → l + s ≤ n → bits % 2 ^ (n - l) / 2 ^ (n - l - s)
     ≡ number_of (take s (drop l (low_bits n bits)))
 value_number n bits l s h =
     let m = n - l in
     let e : n ≡ l + m = omega arith in
-    let f : m ≡ s + (m - s) = omega arith in
-    sym (ap (λ (k : ℕ). number_of (take s (drop l (low_bits k bits)))) e
-    ∙ ap (λ (b : List Bool). number_of (take s b)) (low_bits-drop l m bits)
-    ∙ ap (λ (k : ℕ). number_of (take s (low_bits k (bits % 2 ^ m)))) f
-    ∙ ap number_of (low_bits-take s (m - s) (bits % 2 ^ m))
-    ∙ number_of-low_bits s (bits % 2 ^ m / 2 ^ (m - s)) (value_below n bits l s h))
-
-short_small : (symbols : List ℕ) (o : Option (ℕ × ℕ)) → IfSome (named symbols (short_only o)) (λ c. c.1 ≤ 16)
-short_small symbols None = tt
-short_small symbols (Some c) = go (leb c.1 8) refl
-  where
-    go : (b : Bool) → leb c.1 8 ≡ b → IfSome (named symbols (short_only (Some c))) (λ c. c.1 ≤ 16)
-    go true e = let w : c.1 ≤ 16 = grind (arith, nat_tests) in rw e w
-    go false e = rw e tt
-
--- each code of a table of short codes has at most 16 bits
-pub codes_small : (counts symbols : List ℕ) (codes : List (Option (ℕ × ℕ))) → HoldsCodes counts symbols codes → (b : ℕ)
-    → b < 256 → IfSome (get_or codes b None) (λ c. c.1 ≤ 16)
-codes_small counts symbols codes h b lt = subst (λ (o : Option (ℕ × ℕ)). IfSome o (λ c. c.1 ≤ 16)) (sym (h b lt))
-    (short_small symbols (code_in (code_lengths counts) (low_bits 8 b ++ replicate 8 false)))
+    let f : m ≡ s + (m - s) = omega arith in grind (arith, common_steps, nat_tests, low_bits-drop, low_bits-take, number_of-low_bits, value_below)
 
 -- 11 bits with zeros after them
 pub eleven_padded : (b : ℕ) → low_bits 16 (b * 32) ≡ low_bits 11 b ++ replicate 5 false
@@ -515,10 +312,8 @@ eleven_padded b =
 
 -- an entry of a filled table
 pub entry-of : (value : Option (ℤ × ℕ × ℕ)) (entry : ℤ × ℕ × ℕ) → entry ≡ packed value → IsOf value entry
-entry-of None entry e = λ some. let n : entry.2 ≡ 0 = ap (λ (t : ℤ × ℕ × ℕ). t.2) e in absurd (omega (arith, n, some))
-entry-of (Some t) entry e = λ some. ap Some (sym e)
+entry-of value entry e = grind arith
 
 -- bits that fit a byte
 pub within_byte : (o : Option (ℤ × ℕ × ℕ)) → IfSome o (λ t. t.2 ≤ 11) → IfSome o (λ t. t.2 ≤ 255)
-within_byte None h = tt
-within_byte (Some t) h = omega arith
+within_byte o h = grind arith

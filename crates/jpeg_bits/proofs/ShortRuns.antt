@@ -1,8 +1,7 @@
 -- Bytes that the same short code begins.
-use Rattle.std.proofs.Common.{◌≡◌, ℕ, ◌+◌, ◌-◌, ◌*◌, ◌/◌, ◌%◌, ◌^◌, ◌<◌, ◌≤◌, ◌++◌, Bool, true, false, cond, leb, List, take}
-use Rattle.std.proofs.Common.{length, get_or, replicate, IfSome, Option, Some, None, refl, sym, ap, ◌∙◌, subst, arith, is_some}
+use Rattle.std.proofs.Common.{◌≡◌, ℕ, ◌+◌, ◌-◌, ◌*◌, ◌/◌, ◌%◌, ◌^◌, ◌<◌, ◌≤◌, ◌++◌, false, cond, List, take, length}
+use Rattle.std.proofs.Common.{get_or, replicate, IfSome, Option, Some, sym, ap, ◌∙◌, subst, arith}
 use Rattle.std.proofs.lemmas.Bool.{false≢true}
-use Rattle.std.proofs.lemmas.Bool.Decides.{nat_tests}
 use Rattle.std.proofs.lemmas.List.{take-append-le}
 use Rattle.std.proofs.Math.Nat.{div-mul-le_self, div-eq_of_lt-le, mul-le-mul_right}
 use Rattle.std.proofs.lemmas.Nat.{pow-add}
@@ -17,24 +16,7 @@ use Rattle.jpeg_bits.proofs.WrittenBits.{length-low_bits}
 -- a code of l bits begins all bits that have its first l bits
 same-code : (symbols : List ℕ) (l v : ℕ) (x y : Option (ℕ × ℕ)) → at_most l x ≡ at_most l y
     → named symbols (short_only x) ≡ Some (v, l) → named symbols (short_only y) ≡ Some (v, l)
-same-code symbols l v None y e h = absurd (false≢true (ap is_some h))
-same-code symbols l v (Some c) y e h = go (leb c.1 8) refl
-  where
-    other : (y : Option (ℕ × ℕ)) → Some c ≡ at_most l y → y ≡ Some c
-    other None f = absurd (false≢true (sym (ap is_some f)))
-    other (Some d) f = at (leb d.1 l) refl
-      where
-        at : (b : Bool) → leb d.1 l ≡ b → Some d ≡ Some c
-        at true t = sym (rw t at f)
-        at false t = absurd (false≢true (sym (ap is_some (rw t at f))))
-
-    go : (b : Bool) → leb c.1 8 ≡ b → named symbols (short_only y) ≡ Some (v, l)
-    go false t = absurd (false≢true (ap is_some (rw t at h)))
-    go true t =
-        let same : c.1 ≡ l = ap (λ (o : Option (ℕ × ℕ)). elim o [ None ↦ 0 | Some p ↦ p.1 ]) (rw t at h) in
-        let few : leb c.1 l ≡ true = grind (arith, nat_tests) in
-        let is : y ≡ Some c = other y (rw few at e) in
-        rw is h
+same-code symbols l v x y e h = grind (arith, false≢true, at_most)
 
 -- the same code begins the bytes of a run
 pub same-run : (counts symbols : List ℕ) (first b v l : ℕ) → length counts ≡ 16 → l ≤ 8
@@ -54,11 +36,7 @@ same-run counts symbols first b v l counted few e h =
 pub run-entry : (counts symbols : List ℕ) (first end b : ℕ) (code : Option (ℕ × ℕ)) → length counts ≡ 16
     → first ≤ b → b < end → IfSome code (λ c. c.1 ≤ 8) → IsRun first end code
     → code ≡ short_code counts symbols (low_bits 8 first) → code ≡ short_code counts symbols (low_bits 8 b)
-run-entry counts symbols first end b None counted from to few run is =
-    let e : b ≡ first = omega (arith, run) in
-    is ∙ ap (λ (n : ℕ). short_code counts symbols (low_bits 8 n)) (sym e)
-run-entry counts symbols first end b (Some c) counted from to few run is =
-    sym (same-run counts symbols first b c.0 c.1 counted few (run b from to) (sym is))
+run-entry counts symbols first end b code counted from to few run is = grind (arith, same-run)
 
 -- ---- where a run ends
 

@@ -1,23 +1,20 @@
 -- Each code of a table that exists is read as itself, and no other begins its bits.
-use Rattle.std.proofs.Common.{◌≡◌, inl, inr, ℕ, zero, suc, ◌+◌, ◌-◌, ◌*◌, ◌^◌, ◌<◌, ◌≤◌, Bool, true, false, cond, List}
-use Rattle.std.proofs.Common.{[], ◌∷◌, ◌++◌, length, take, drop, get_or, replicate, slice_index, sum_by, Option, Some}
-use Rattle.std.proofs.Common.{None, Result, Ok, Err, refl, sym, ap, ◌∙◌, subst, length-append, length-take, length-drop}
-use Rattle.std.proofs.Common.{mul_assoc, arith, pow-suc, pow-add, le_refl}
+use Rattle.std.proofs.Common.{◌≡◌, ℕ, zero, suc, ◌+◌, ◌-◌, ◌*◌, ◌^◌, ◌<◌, ◌≤◌, Bool, true, false, cond, List, [], ◌∷◌}
+use Rattle.std.proofs.Common.{◌++◌, length, take, drop, get_or, replicate, slice_index, sum_by, Option, Some, refl, sym}
+use Rattle.std.proofs.Common.{ap, ◌∙◌, subst, length-append, length-take, length-drop, mul_assoc, arith, pow-suc}
+use Rattle.std.proofs.Common.{pow-add, le_refl, ◌&&◌}
 use Rattle.std.proofs.Math.Nat.{add-mul, one-mul, zero-mul, mul-le-mul_right}
 use Rattle.std.proofs.Math.Seq.{take-add}
 use Rattle.std.specs.Option.{option_map}
 use Rattle.std.proofs.lemmas.Bool.{eq-eqb, eqb-true, cases_lt, lt-ltb, ltb-true, false≢true}
 use Rattle.std.proofs.Math.Logic.{⊎_elim}
-use Rattle.std.proofs.Common.{◌&&◌}
 use Rattle.std.proofs.lemmas.List.{take-append-le, take_all, drop_at, take-take, get_or-take, length-replicate}
 use Rattle.std.proofs.lemmas.List.Sums.{sum_by-append, sum_by_more, sum_by-take-le}
 use Rattle.jpeg_bits.specs.Codes.{Table, code_lengths, lengths_from, code_value, HasCodes, codes_exist, all_below}
-use Rattle.jpeg_bits.specs.Codes.{begins, first_from, code_in, next_16, symbol_by, symbol_from}
-use Rattle.jpeg_bits.specs.Reading.{Fault, ◌>>=◌ as ◌>>r=◌}
-use Rattle.jpeg_bits.specs.Entropy.{Text, number_of, has_bits, advance}
+use Rattle.jpeg_bits.specs.Codes.{begins, first_from, code_in, next_16, symbol_by, symbol_from, code_from, code_by}
+use Rattle.jpeg_bits.specs.Entropy.{Text, number_of}
 use Rattle.jpeg_bits.proofs.CodeLemmas.{first_from-skip, first_from-hit}
 use Rattle.jpeg_bits.proofs.Held.{has_enough, bit_le}
-use Rattle.jpeg_bits.specs.Codes.{code_from, code_by, if_held}
 use Rattle.jpeg_bits.specs.Readers.{read_on, gives, text, ReadsJust}
 use Rattle.jpeg_bits.specs.Written.{low_bits, code_size, code_bits}
 use Rattle.jpeg_bits.proofs.WrittenBits.{number_of-low_bits, length-low_bits, number_onto}
@@ -51,11 +48,7 @@ pub rising-at : (n most : ℕ) (ls : List ℕ) (i : ℕ) → IsRising n most ls 
     × (get_or ls i 0 ≤ most)
 rising-at n most [] i h k = absurd (omega arith)
 rising-at n most (l ∷ ls) zero h k = (h.0, h.1)
-rising-at n most (l ∷ ls) (suc i) h k =
-    let r = rising-at l most ls i h.2 (omega arith) in
-    let a = h.0 in
-    let b = r.0 in
-    (omega arith, r.1)
+rising-at n most (l ∷ ls) (suc i) h k = omega (arith, rising-at l most ls i h.2 (omega arith))
 
 -- ---- values
 
@@ -157,21 +150,10 @@ module _ (n most : ℕ) (lens : List ℕ) (rising : IsRising n most lens) (bits 
   -- no two codes begin the same bits
   pub only-code : (i j : ℕ) → i < length lens → j < length lens → begins lens bits i ≡ true → begins lens bits j ≡ true
       → i ≡ j
-  only-code i j within within' p q =
-      elim (cases_lt i j) [
-        | inl lt ↦ absurd (not-both i j lt within' p q)
-        | inr le ↦ elim (cases_lt j i) [
-          | inl gt ↦ absurd (not-both j i gt within q p)
-          | inr ge ↦ omega arith
-        ]
-      ]
+  only-code i j within within' p q = grind (arith, cases_lt, not-both)
 
   earlier : (i k : ℕ) → i < length lens → k < i → begins lens bits i ≡ true → begins lens bits k ≡ false
-  earlier i k within lt p = go (begins lens bits k) refl
-    where
-      go : (b : Bool) → begins lens bits k ≡ b → begins lens bits k ≡ false
-      go false e = e
-      go true e = absurd (not-both k i lt within e p)
+  earlier i k within lt p = grind (arith, not-both)
 
   -- the code that begins the bits is the one that is found
   pub finds : (i : ℕ) → i < length lens → begins lens bits i ≡ true → code_in lens bits ≡ Some (i, get_or lens i 0)
@@ -192,12 +174,7 @@ pub all-rising : (counts : List ℕ) → length counts ≡ 16 → IsRising 1 16 
 all-rising counts h = rising-lengths 1 16 counts 1 (le_refl 1) (omega arith)
 
 enough-bits : (bits : List Bool) → 16 ≤ length (next_16 bits)
-enough-bits bits = omega (
-  arith,
-  length-take 16 (bits ++ replicate 16 false),
-  length-append bits (replicate 16 false),
-  length-replicate 16 false,
-)
+enough-bits bits = grind (arith, length-take, length-append, length-replicate)
 
 begins-own : (counts : List ℕ) (i : ℕ) (rest : List Bool) → length counts ≡ 16 → HasCodes (code_lengths counts)
     → i < length (code_lengths counts)
@@ -244,13 +221,7 @@ good-table table h all = record { reads = λ i within. code-read table i h all w
 -- a symbol is that of the code read
 symbol-by_code : (table : Table) (t : Text) (o : Option (ℕ × ℕ))
     → symbol_by table t o ≡ read_on (λ (c : ℕ × ℕ). gives c.1) (code_by table t o)
-symbol-by_code table t None = refl
-symbol-by_code table t (Some c) = go (has_bits c.1 t.bits t.ending)
-  where
-    go : (r : Result (Unit {0}) Fault) → (r >>r= λ (u : Unit {0}). Ok (slice_index table.symbols c.0, advance c.1 t))
-        ≡ read_on (λ (c : ℕ × ℕ). gives c.1) (if_held (c.1, slice_index table.symbols c.0) (advance c.1 t) r)
-    go (Ok u) = refl
-    go (Err e) = refl
+symbol-by_code table t o = grind (arith, slice_index)
 
 pub symbol-code : (table : Table) (t : Text) → symbol_from table t ≡ read_on (λ (c : ℕ × ℕ). gives c.1)
     (code_from table t)
@@ -259,11 +230,7 @@ symbol-code table t = symbol-by_code table t (code_in (code_lengths table.counts
 
 pub takes-symbol : (table : Table) (i : ℕ) → IsGood table → i < length (code_lengths table.counts)
     → ReadsJust (symbol_from table) (code_bits table i) (slice_index table.symbols i)
-takes-symbol table i good within = record {
-  read = λ rest places e.
-      symbol-code table (text (code_bits table i ++ rest) places e)
-      ∙ ap (read_on (λ (c : ℕ × ℕ). gives c.1)) ((good.reads i within).read rest places e);
-}
+takes-symbol table i good within = grind (arith, symbol-code)
 
 -- ---- whether the codes exist, as a test
 
@@ -272,9 +239,7 @@ all_below-each p zero h = refl
 all_below-each p (suc n) h = rw (all_below-each p n (λ k l. h k (omega arith)), h n (omega arith)) refl
 
 both : (a b : Bool) → a && b ≡ true → (a ≡ true) × (b ≡ true)
-both true true h = (refl, refl)
-both true false h = absurd (false≢true h)
-both false b h = absurd (false≢true h)
+both a b h = grind (arith, false≢true)
 
 each-below : (p : ℕ → Bool) (n : ℕ) → all_below p n ≡ true → (k : ℕ) → k < n → p k ≡ true
 each-below p zero h k l = absurd (omega arith)
@@ -284,8 +249,7 @@ each-below p (suc n) h k l =
 
 pub exist-tested : (lengths : List ℕ) → HasCodes lengths → codes_exist lengths ≡ true
 unfolding codes_exist
-exist-tested lengths h = all_below-each _ (length lengths) (λ i l. lt-ltb (code_value lengths i)
-    (2 ^ slice_index lengths i) (h i l))
+exist-tested lengths h = grind (arith, all_below-each, lt-ltb, slice_index)
 
 pub tested-exist : (lengths : List ℕ) → codes_exist lengths ≡ true → HasCodes lengths
 unfolding codes_exist

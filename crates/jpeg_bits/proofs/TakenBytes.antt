@@ -1,6 +1,6 @@
 -- A byte that is taken from the front of a buffer.
-use Rattle.std.proofs.Common.{◌≡◌, ℕ, ◌<◌, Bool, true, false, List, [], ◌∷◌, ◌++◌, length, take, slice_set}
-use Rattle.std.proofs.Common.{slice_index_or, Option, Some, None, if◌then◌else◌, refl, arith, ap, sym, drop, ◌-◌, ◌≤◌}
+use Rattle.std.proofs.Common.{◌≡◌, ℕ, ◌<◌, Bool, List, [], ◌∷◌, ◌++◌, length, take, slice_set, slice_index_or, Option}
+use Rattle.std.proofs.Common.{Some, None, if◌then◌else◌, arith, drop, ◌-◌}
 use Rattle.std.proofs.lemmas.List.{take_all}
 use Rattle.std.specs.Io.KnownBytes.{Consumes, prepend_known}
 use Rattle.std.specs.Io.BufRead.{DropsConsumable}
@@ -8,9 +8,7 @@ use Rattle.std.specs.Io.BufRead.{DropsConsumable}
 pub consumes-front : (is_none : Bool) (x : ℕ) (held : List ℕ) (inner new : Option (List ℕ))
     → DropsConsumable (if is_none then None else prepend_known (x ∷ held) inner) new (Some (length (x ∷ held))) 1
     → Consumes (if is_none then None else prepend_known (x ∷ held) inner) new (x ∷ [])
-consumes-front true x held inner new h = tt
-consumes-front false x held None new h = tt
-consumes-front false x held (Some ys) new h = let e : new ≡ Some (held ++ ys) = h (omega arith) in rw e refl
+consumes-front is_none x held inner new h = grind arith
 
 -- the byte is put into a place for one
 pub takes-front : (is_none : Bool) (held buf : List ℕ) (inner new : Option (List ℕ)) → 0 < length held → length buf ≡ 1
@@ -27,7 +25,5 @@ pub takes-first : (bytes buf : List ℕ) → 0 < length bytes → length buf ≡
     → bytes ≡ take 1 (slice_set buf 0 (slice_index_or bytes 0 0)) ++ take (length bytes - 1) (drop 1 bytes)
 takes-first [] buf some one = absurd (omega (arith, some))
 takes-first (x ∷ bytes) [] some one = absurd (omega (arith, one))
-takes-first (x ∷ bytes) (b ∷ []) some one =
-    let n : length bytes ≤ length (x ∷ bytes) - 1 = omega arith in
-    ap (λ (l : List ℕ). x ∷ l) (sym (take_all (length (x ∷ bytes) - 1) bytes n))
+takes-first (x ∷ bytes) (b ∷ []) some one = grind (arith, take_all)
 takes-first (x ∷ bytes) (b ∷ c ∷ rest) some one = absurd (omega (arith, one))

@@ -1,21 +1,21 @@
 -- The next token: a value within the room that the next 11 bits begin with, or by its code.
-use Rattle.std.proofs.Common.{◌≡◌, ℕ, ℤ, ◌+◌, ◌-◌, ◌/◌, ◌%◌, ◌^◌, ◌<◌, Bool, true, List, length, drop, get_or}
-use Rattle.std.proofs.Common.{Option, Some, None, Result, Ok, Err, refl, sym, ap, ◌∙◌, arith, is_ok, is_some, ltb}
+use Rattle.std.proofs.lemmas.Grind.{common_steps}
+use Rattle.std.proofs.lemmas.Bool.Decides.{nat_tests}
+use Rattle.std.proofs.Common.{◌≡◌, ℕ, ℤ, ◌+◌, ◌-◌, ◌/◌, ◌%◌, ◌^◌, ◌<◌, Bool, true, List, length, drop, get_or, Option}
+use Rattle.std.proofs.Common.{Some, None, Result, Ok, Err, refl, sym, ap, ◌∙◌, arith, is_ok, is_some, ltb}
 use Rattle.std.proofs.lemmas.Bool.{lt-ltb, false≢true}
 use Rattle.jpeg_bits.specs.Reading.{Fault}
-use Rattle.jpeg_bits.specs.Entropy.{Text, Ahead, upcoming_by, upcoming, IsFilled, advance, has_held}
-use Rattle.jpeg_bits.specs.Entropy.{Takes, same_text}
+use Rattle.jpeg_bits.specs.Entropy.{Text, Ahead, upcoming_by, upcoming, IsFilled, has_held, Takes, same_text}
 use Rattle.jpeg_bits.specs.Stream.{Stream}
 use Rattle.jpeg_bits.specs.declared.error.Error.{Error}
-use Rattle.jpeg_bits.specs.Codes.{Table, code_in, code_lengths, next_16, if_held, code_by, code_from}
+use Rattle.jpeg_bits.specs.Codes.{Table, code_in, code_lengths, next_16, code_by, code_from}
 use Rattle.jpeg_bits.specs.ShortCodes.{named, short_value_by, short_value_of, next_bits}
-use Rattle.jpeg_bits.specs.Readers.{Reads, read_on, gives, signed_from}
+use Rattle.jpeg_bits.specs.Readers.{read_on, gives, signed_from}
 use Rattle.jpeg_bits.specs.Bands.{token_at, token_from}
 use Rattle.jpeg_bits.specs.declared.ahead.DataEnd.{DataEnd}
 use Rattle.jpeg_bits.specs.declared.tokens.Token.{Token}
 use Rattle.jpeg_bits.specs.declared.tokens.Token.TheVariants.{Value, Rest}
 use Rattle.jpeg_bits.proofs.Held.{has_bits-held, advance-held, filled-less}
-use Rattle.jpeg_bits.proofs.Calls.{Takes-ahead, Takes-next, Takes-first-refused}
 use Rattle.jpeg_bits.proofs.Fast.{no-bits}
 use Rattle.jpeg_bits.proofs.ShortLemmas.{IsShort, short_some, size_of, fewer-held, value-text, value-read}
 
@@ -52,16 +52,7 @@ module _ (table : Table) (room : ℕ) (bits : List Bool) (met : Option DataEnd) 
       let run = k.run in
       let both : has_held (c.1 + s) bits met ≡ Ok tt = ap (λ (i : ℕ). has_held i bits met) (sym all) ∙ enough in
       let f = filled-less c.1 16 bits met (omega arith) filled in
-      let g = filled-less 11 16 bits met (omega arith) filled in
-      ap (λ (o : Result (Unit {0}) Fault). by_code (if_held (c.1, symbol) (advance c.1 t) o))
-      (has_bits-held c.1 bits met bytes f ∙ fewer-held c.1 (c.1 + s) bits met (omega arith) both)
-      ∙ ap (λ (u : Text). by_code (Ok ((c.1, symbol), u))) (advance-held c.1 bits met bytes f)
-      ∙ value-within room c.1 (symbol / 16) s rest k.some (lt-ltb (symbol / 16) room (omega arith))
-      ∙ ap (read_on (λ (x : ℤ). gives (Value (symbol / 16) x)))
-      (value-read 11 table bits met bytes (omega arith) g c.1 s few both)
-      ∙ ap (λ (x : ℤ). Ok (Value (symbol / 16) x, upcoming_by (drop (c.1 + s) bits) met bytes)) (sym k.value)
-      ∙ ap (λ (i : ℕ). Ok (Value i v, upcoming_by (drop (c.1 + s) bits) met bytes)) (sym run)
-      ∙ ap (λ (i : ℕ). Ok (Value r v, upcoming_by (drop i bits) met bytes)) (sym all)
+      let g = filled-less 11 16 bits met (omega arith) filled in grind (arith, common_steps, nat_tests, has_bits-held, fewer-held, advance-held, value-within, lt-ltb, value-read)
 
   wide-token : (v : ℤ) (r n : ℕ) → length table.counts ≡ 16
       → short_value_of 11 table (next_bits 11 bits) ≡ Some (v, r, n) → r < room → has_held n bits met ≡ Ok tt
@@ -85,36 +76,25 @@ pub wide-taken : (table : Table) (room : ℕ) (b d : Ahead) (bytes : List ℕ) (
     → d.bits ≡ drop n b.bits → d.met ≡ b.met
     → token_from table room (upcoming b bytes) ≡ Ok (Value r v, upcoming d bytes)
 unfolding upcoming
-wide-taken table room b d bytes v r n counted filled e within enough eb em =
-    wide-token table room b.bits b.met bytes filled v r n counted e within enough
-    ∙ sym (ap (λ bs. Ok (Value r v, upcoming_by bs d.met bytes)) eb
-    ∙ ap (λ m. Ok (Value r v, upcoming_by (drop n b.bits) m bytes)) em)
+wide-taken table room b d bytes v r n counted filled e within enough eb em = grind (arith, wide-token)
 
 -- what can be taken, by its test
 pub held-tested : (o : Result (Unit {0}) Fault) → is_ok o ≡ true → o ≡ Ok tt
-held-tested (Ok u) h = refl
-held-tested (Err e) h = absurd (false≢true h)
+held-tested o h = grind (arith, false≢true)
 
 -- ---- a token of a code that was read on bits that are held
 
 module _ (table : Table) (room : ℕ) (u : Unit {0}) (a b d : Ahead) where
-  abbrev rest_of : ℕ × ℕ → Reads Token
-  rest_of c = token_at room c.0 (c.1 / 16) (c.1 % 16)
-
   pub Token-of-code : (e : Ahead) (old mid new : Stream) (c : ℕ × ℕ) (r : Result Token Error)
       → Takes (λ (u : Unit {0}). 0) same_text a old (Ok u) b mid
       → Takes (λ (c : ℕ × ℕ). c) (code_from table) b mid (Ok c) d mid
       → Takes (λ (t : Token). t) (token_at room c.0 (c.1 / 16) (c.1 % 16)) d mid r e new
       → Takes (λ (t : Token). t) (token_from table room) a old r e new
   unfolding token_from
-  Token-of-code e old mid new c r held code token =
-      Takes-ahead (token_from table room) u a b e old mid new r held
-      (Takes-next (code_from table) rest_of b d e mid mid new c r code token)
+  Token-of-code e old mid new c r held code token = grind arith
 
   pub Token-no-code : (old mid : Stream) (e : Error) → Takes (λ (u : Unit {0}). 0) same_text a old (Ok u) b mid
       → Takes (λ (c : ℕ × ℕ). c) (code_from table) b mid (Err e) d mid
       → Takes (λ (t : Token). t) (token_from table room) a old (Err e) d mid
   unfolding token_from
-  Token-no-code old mid e held code =
-      Takes-ahead (token_from table room) u a b d old mid mid (Err e) held
-      (Takes-first-refused (code_from table) rest_of b d mid mid e code)
+  Token-no-code old mid e held code = grind arith

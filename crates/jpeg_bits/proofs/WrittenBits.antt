@@ -1,14 +1,15 @@
 -- What is read of bits that were written.
+use Rattle.std.proofs.lemmas.Grind.{common_steps}
+use Rattle.std.proofs.lemmas.Bool.Decides.{nat_tests}
 use Rattle.std.proofs.Common.{◌≡◌, ℕ, zero, suc, ◌+◌, ◌*◌, ◌/◌, ◌%◌, ◌^◌, ◌<◌, Bool, false, cond, List, [], ◌∷◌, ◌++◌}
-use Rattle.std.proofs.Common.{length, take, drop, replicate, fold, Ok, refl, sym, ap, ◌∙◌, subst, append_assoc}
-use Rattle.std.proofs.Common.{length-append, mul_assoc, arith}
+use Rattle.std.proofs.Common.{length, take, drop, replicate, fold, refl, ap, ◌∙◌, subst, append_assoc, length-append}
+use Rattle.std.proofs.Common.{mul_assoc, arith, pow_pos, pow-suc, mod-eq_of_lt}
 use Rattle.std.proofs.Math.Arith.{mod-mul}
 use Rattle.std.proofs.Math.Nat.{mod-one, add-mul}
 use Rattle.std.proofs.lemmas.List.{take-append-le, take_all, drop_at, drop-drop}
-use Rattle.std.proofs.Common.{pow_pos, pow-suc, mod-eq_of_lt, lit<}
 use Rattle.jpeg_bits.specs.Entropy.{bits_from, number_of}
 use Rattle.jpeg_bits.proofs.Held.{has_enough}
-use Rattle.jpeg_bits.specs.Readers.{Reads, ◌>>=◌, gives, read_on, text, ReadsJust}
+use Rattle.jpeg_bits.specs.Readers.{Reads, ◌>>=◌, gives, text, ReadsJust}
 use Rattle.jpeg_bits.specs.Written.{bit, low_bits}
 
 pub takes-gives : {A : Type 0} (x : A) → ReadsJust (gives x) [] x
@@ -16,32 +17,21 @@ takes-gives x = record { read = λ rest places e. refl }
 
 pub places-after : (bits more : List Bool) (places : List (List ℕ)) → drop (length more) (drop (length bits) places)
     ≡ drop (length (bits ++ more)) places
-places-after bits more places = drop-drop (length more) (length bits) places
-    ∙ ap (λ (n : ℕ). drop n places) (sym (length-append bits more))
+places-after bits more places = grind (arith, drop-drop, length-append)
 
 pub takes-bind : {A B : Type 0} (p : Reads A) (f : A → Reads B) (bits more : List Bool) (x : A) (y : B)
     → ReadsJust p bits x → ReadsJust (f x) more y → ReadsJust (p >>= f) (bits ++ more) y
-takes-bind {A} {B} p f bits more x y h k = record {
-  read = λ rest places e.
-      ap (λ (b : List Bool). read_on f (p (text b places e))) (append_assoc bits more rest)
-      ∙ ap (read_on f) (h.read (more ++ rest) places e)
-      ∙ k.read rest (drop (length bits) places) e
-      ∙ ap (λ (l : List (List ℕ)). Ok (y, text rest l e)) (places-after bits more places);
-}
+takes-bind {A} {B} p f bits more x y h k = grind (arith, append_assoc, places-after)
 
 pub low_bits-mod : (n v : ℕ) → v % 2 ^ suc n ≡ (v / 2 ^ n % 2) * 2 ^ n + v % 2 ^ n
-low_bits-mod n v =
-    let e : 2 ^ suc n ≡ 2 * 2 ^ n = omega (arith, pow-suc 2 n) in
-    ap (λ (x : ℕ). v % x) e ∙ mod-mul v (lit< tt) (pow_pos n)
+low_bits-mod n v = grind (arith, pow-suc, mod-mul, pow_pos)
 
 pub carry : (a b p w q v : ℕ) → q ≡ p * 2 → v ≡ b * p + w → (2 * a + b) * p + w ≡ a * q + v
 carry a b p w q v e f = rw (e, f) (omega (arith, add-mul (2 * a) b p, mul_assoc 2 a p, mul_assoc a p 2))
 
 -- a bit as the number that it is
 pub bit-value : (b : ℕ) → b < 2 → cond (bit b) 1 0 ≡ b
-bit-value zero h = refl
-bit-value (suc zero) h = refl
-bit-value (suc (suc b)) h = absurd (omega arith)
+bit-value b h = grind arith
 
 abbrev pub number_onto : ℕ → List Bool → ℕ
 number_onto a bits = fold (λ n b. 2 * n + cond b 1 0) a bits
@@ -51,9 +41,7 @@ unfolding low_bits
 onto-bits zero a v = omega (arith, mod-one v)
 onto-bits (suc n) a v =
     let e : (2 * a + v / 2 ^ n % 2) * 2 ^ n + v % 2 ^ n ≡ a * 2 ^ suc n + v % 2 ^ suc n =
-    carry a (v / 2 ^ n % 2) (2 ^ n) (v % 2 ^ n) _ _ (pow-suc 2 n) (low_bits-mod n v) in
-    ap (λ (b : ℕ). number_onto (2 * a + b) (low_bits n v)) (bit-value (v / 2 ^ n % 2) (omega arith))
-    ∙ onto-bits n (2 * a + v / 2 ^ n % 2) v ∙ e
+    carry a (v / 2 ^ n % 2) (2 ^ n) (v % 2 ^ n) _ _ (pow-suc 2 n) (low_bits-mod n v) in grind (arith, common_steps, nat_tests, bit-value, onto-bits n (2 * a + v / 2 ^ n % 2) v)
 
 pub number_of-low_bits : (n v : ℕ) → v < 2 ^ n → number_of (low_bits n v) ≡ v
 number_of-low_bits n v h = onto-bits n 0 v ∙ omega (arith, mod-eq_of_lt h)
@@ -65,22 +53,12 @@ length-low_bits (suc n) v = ap suc (length-low_bits n v)
 
 -- the first n bits of a text that begins with n
 pub front : (n : ℕ) (bits rest : List Bool) → length bits ≡ n → take n ((bits ++ rest) ++ replicate n false) ≡ bits
-front n bits rest h =
-    take-append-le n (bits ++ rest) (replicate n false) (omega (arith, length-append bits rest))
-    ∙ take-append-le n bits rest (omega arith) ∙ take_all n bits (omega arith)
+front n bits rest h = grind (arith, take-append-le, length-append, take_all)
 
 -- n bits are read as their number
 pub takes-bits : (n : ℕ) (bits : List Bool) → length bits ≡ n → ReadsJust (bits_from n) bits (number_of bits)
 unfolding bits_from
-takes-bits n bits h = record {
-  read = λ rest places e.
-      rw (
-        has_enough n (bits ++ rest) e (omega (arith, length-append bits rest)),
-        front n bits rest h,
-        drop_at bits rest n h,
-        h,
-      ) refl;
-}
+takes-bits n bits h = grind (arith, has_enough, length-append, front, drop_at)
 
 pub takes-number : (n v : ℕ) → v < 2 ^ n → ReadsJust (bits_from n) (low_bits n v) v
 takes-number n v h =
@@ -100,5 +78,4 @@ takes-map p f bits x h = record { read = λ rest places e. rw (h.read rest place
 
 pub takes-as : {A : Type 0} (p : Reads A) (bits more : List Bool) (x y : A) → bits ≡ more → x ≡ y → ReadsJust p bits x
     → ReadsJust p more y
-takes-as {A} p bits more x y e f h = subst (λ (b : List Bool). ReadsJust p b y) e (subst (λ (z : A). ReadsJust p bits z)
-    f h)
+takes-as {A} p bits more x y e f h = grind arith

@@ -1,6 +1,8 @@
 -- Parts of a block in block order, by their places in zigzag order.
-use Rattle.std.proofs.Common.{◌≡◌, ℕ, ◌+◌, ◌-◌, ◌<◌, ◌≤◌, List, ◌++◌, length, get_or, set, take}
-use Rattle.std.proofs.Common.{drop, ℤ, pos, refl, sym, ap, ◌∙◌, arith, length-drop}
+use Rattle.std.proofs.lemmas.Grind.{common_steps}
+use Rattle.std.proofs.lemmas.Bool.Decides.{nat_tests}
+use Rattle.std.proofs.Common.{◌≡◌, ℕ, ◌+◌, ◌-◌, ◌<◌, ◌≤◌, List, ◌++◌, length, get_or, set, take, drop, ℤ, pos, refl}
+use Rattle.std.proofs.Common.{sym, ap, ◌∙◌, arith, length-drop}
 use Rattle.std.proofs.lemmas.List.{length-take-le, take-set-le, drop-set-lt, drop-set-add, drop-take, drop-drop}
 use Rattle.std.proofs.lemmas.List.{take-take, take-append-drop, get_or-take, get_or-drop, get_or-set_same}
 use Rattle.std.proofs.Math.Seq.{take-set-lt}
@@ -12,10 +14,7 @@ use Rattle.jpeg_bits.proofs.ZigzagPlaces.{length-in_zigzag, in_zigzag-set, get_o
 
 pub part-length : (start end : ℕ) (block : List ℤ) → end ≤ 64 → length (zigzag_part start end block) ≡ end - start
 unfolding zigzag_part
-part-length start end block within =
-    let z = coefficients_in_zigzag block in
-    let rest = length-drop start z in
-    length-take-le (end - start) (drop start z) (omega (arith, rest, length-in_zigzag block))
+part-length start end block within = grind (arith, length-drop, length-take-le, length-in_zigzag)
 
 -- a place of a part, as it is read
 pub part-get : (start end k : ℕ) (block : List ℤ) (d : ℤ) → start ≤ k → k < end → end ≤ 64
@@ -23,10 +22,7 @@ pub part-get : (start end k : ℕ) (block : List ℤ) (d : ℤ) → start ≤ k 
 unfolding zigzag_part
 part-get start end k block d from before within =
     let z = coefficients_in_zigzag block in
-    let at : start + (k - start) ≡ k = omega arith in
-    get_or-take (end - start) (drop start z) (k - start) d (omega arith)
-    ∙ get_or-drop start z (k - start) d ∙ ap (λ (i : ℕ). get_or z i d) at
-    ∙ get_or-in_zigzag block k d (omega arith)
+    let at : start + (k - start) ≡ k = omega arith in grind (arith, common_steps, nat_tests, get_or-take, get_or-drop, get_or-in_zigzag)
 
 -- and as it is written
 pub part-set : (start end k : ℕ) (block : List ℤ) (v : ℤ) → length block ≡ 64 → start ≤ k → k < end → end ≤ 64
@@ -47,10 +43,7 @@ unfolding zigzag_part
 part-rest start from end block after within =
     let z = coefficients_in_zigzag block in
     let all : end - start ≡ from - start + (end - from) = omega arith in
-    let at : start + (from - start) ≡ from = omega arith in
-    ap (λ (k : ℕ). drop (from - start) (take k (drop start z))) all
-    ∙ drop-take (from - start) (end - from) (drop start z)
-    ∙ ap (take (end - from)) (drop-drop (from - start) start z ∙ ap (λ (k : ℕ). drop k z) at)
+    let at : start + (from - start) ≡ from = omega arith in grind (arith, common_steps, nat_tests, drop-take, drop-drop)
 
 pub kept-same : (start end : ℕ) (block : List ℤ) → IsKeptAround start end block block
 kept-same start end block = record { front = refl; back = refl }
@@ -60,11 +53,7 @@ pub kept-set : (start end k : ℕ) (old block : List ℤ) (v : ℤ) → length b
     → IsKeptAround start end old block → IsKeptAround start end old (set block (get_or zigzag k 0) v)
 kept-set start end k old block v n from before within h =
     let z = coefficients_in_zigzag block in
-    let is = in_zigzag-set block k v n (omega arith) in
-    record {
-      front = ap (take start) is ∙ take-set-le start z k v from ∙ h.front;
-      back = ap (drop end) is ∙ drop-set-lt end z k v before ∙ h.back;
-    }
+    let is = in_zigzag-set block k v n (omega arith) in grind (arith, common_steps, nat_tests, take-set-le, drop-set-lt)
 
 -- a part of a part is written
 pub kept-rest : (start from end : ℕ) (old block new : List ℤ) → start ≤ from → IsKeptAround start end old block
@@ -81,9 +70,7 @@ part-front : (start from end : ℕ) (block : List ℤ) → start ≤ from → fr
 unfolding zigzag_part
 part-front start from end block after within =
     let z = coefficients_in_zigzag block in
-    let at : start + (from - start) ≡ from = omega arith in
-    take-take (from - start) (end - start) (drop start z) (omega arith)
-    ∙ sym (drop-take start (from - start) z) ∙ ap (λ (k : ℕ). drop start (take k z)) at
+    let at : start + (from - start) ≡ from = omega arith in grind (arith, common_steps, nat_tests, take-take, drop-take)
 
 pub part-put : (start from end : ℕ) (block new : List ℤ) → start ≤ from → from ≤ end
     → IsKeptAround from end block new
@@ -98,18 +85,11 @@ part-put start from end block new after within k =
 -- ---- the band of a pass
 
 pub band-length : (p : Pass) (block : List ℤ) → IsPass p → length (band_in p block) ≡ band_size p
-band-length p block is =
-    part-length (band_start p) (band_end p) block (let e = is.end in omega arith) ∙ (let o = is.order in omega arith)
+band-length p block is = grind (arith, part-length)
 
 pub band-is : (p : Pass) (block : List ℤ) → band_in p block ≡ band_of p (to_block block).acs
 unfolding zigzag_part
-band-is p block =
-    let z = coefficients_in_zigzag block in
-    let size : band_end p - band_start p ≡ band_size p = omega arith in
-    let start : band_start p ≡ 1 + before_band p = omega arith in
-    ap (λ (k : ℕ). take k (drop (band_start p) z)) size
-    ∙ ap (λ (k : ℕ). take (band_size p) (drop k z)) start
-    ∙ ap (take (band_size p)) (sym (drop-drop (before_band p) 1 z))
+band-is p block = grind (arith, common_steps, nat_tests, drop-drop)
 
 -- DC is written
 pub dc-put : (block : List ℤ) (y : ℤ) → length block ≡ 64

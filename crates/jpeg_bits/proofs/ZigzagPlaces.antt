@@ -1,6 +1,6 @@
 -- The places of the zigzag order.
-use Rattle.std.proofs.Common.{◌≡◌, ℕ, ◌<◌, List, ◌∷◌, length, get_or, map, set, drop}
-use Rattle.std.proofs.Common.{replicate, ℤ, pos, refl, sym, ap, ◌∙◌, arith, true, length-set}
+use Rattle.std.proofs.Common.{◌≡◌, ℕ, ◌<◌, List, ◌∷◌, length, get_or, map, set, drop, ℤ, pos, refl, sym, ap, ◌∙◌, arith}
+use Rattle.std.proofs.Common.{true, length-set}
 use Rattle.std.proofs.lemmas.List.{ext_get_or, get_or-map, length-map, get_or-set_same, get_or-set_other}
 use Rattle.std.proofs.lemmas.List.Folds.{list_all_at}
 use Rattle.std.proofs.lemmas.List.FromFn.{get_or-range_with_len}
@@ -18,9 +18,7 @@ unfolding zigzag_places
 length_places = refl
 
 each_below : (xs : List ℕ) (n : ℕ) → list_all (λ x. ltb x n) xs ≡ true → (i : ℕ) → i < length xs → get_or xs i 0 < n
-each_below xs n all i h = ⊎_elim (λ lt. lt)
-    (λ le. absurd (false≢true (sym (list_all_at (λ x. ltb x n) xs i 0 h (false_from_ne_true (ltb (get_or xs i 0) n)
-    (λ e. omega (arith, ltb-true (get_or xs i 0) n e)))) ∙ all))) (cases_lt (get_or xs i 0) n)
+each_below xs n all i h = grind (arith, false≢true, list_all_at, false_from_ne_true, ltb-true, cases_lt)
 
 -- each place in zigzag order is a place of the block
 pub zigzag_lt : (k : ℕ) → k < 64 → get_or zigzag k 0 < 64
@@ -67,8 +65,7 @@ get_or-in_zigzag l k d h = get_or-map (λ place. get_or l place (pos 0)) zigzag 
 pub get_or-in_block_order : (l : List ℤ) (k : ℕ) (d : ℤ) → k < 64
     → get_or (coefficients_in_block_order l) k d ≡ get_or l (get_or zigzag_places k 0) (pos 0)
 unfolding coefficients_in_block_order
-get_or-in_block_order l k d h =
-    get_or-map (λ place. get_or l place (pos 0)) zigzag_places k 0 d (omega (arith, length_places))
+get_or-in_block_order l k d h = grind (arith, get_or-map, length_places)
 
 -- and written there
 pub in_zigzag-set : (l : List ℤ) (k : ℕ) (v : ℤ) → length l ≡ 64 → k < 64
@@ -99,11 +96,6 @@ in_zigzag-set l k v n h =
         ∙ sym (get_or-in_zigzag l i (pos 0) lt)
         ∙ sym (get_or-set_other (coefficients_in_zigzag l) k i v (pos 0) ne)
 
--- a block of zeros has zeros in either order
-pub zeros-in_zigzag : coefficients_in_zigzag (replicate 64 (pos 0)) ≡ replicate 64 (pos 0)
-unfolding coefficients_in_zigzag
-zeros-in_zigzag = refl
-
 -- the two orders of a block's coefficients
 pub block_order-of-zigzag : (l : List ℤ) → length l ≡ 64
     → coefficients_in_block_order (coefficients_in_zigzag l) ≡ l
@@ -115,17 +107,6 @@ block_order-of-zigzag l n =
     get_or-in_block_order (coefficients_in_zigzag l) i (pos 0) lt
     ∙ get_or-in_zigzag l (get_or zigzag_places i 0) (pos 0) (places_lt i lt)
     ∙ ap (λ (place : ℕ). get_or l place (pos 0)) (zigzag-places i lt))
-
-pub zigzag-of-block_order : (l : List ℤ) → length l ≡ 64
-    → coefficients_in_zigzag (coefficients_in_block_order l) ≡ l
-zigzag-of-block_order l n =
-    ext_get_or (pos 0) (coefficients_in_zigzag (coefficients_in_block_order l)) l
-    (length-in_zigzag (coefficients_in_block_order l) ∙ sym n)
-    (λ i within.
-    let lt : i < 64 = omega (arith, length-in_zigzag (coefficients_in_block_order l)) in
-    get_or-in_zigzag (coefficients_in_block_order l) i (pos 0) lt
-    ∙ get_or-in_block_order l (get_or zigzag i 0) (pos 0) (zigzag_lt i lt)
-    ∙ ap (λ (place : ℕ). get_or l place (pos 0)) (places-zigzag i lt))
 
 -- DC is first in both orders
 pub with_dc-in_zigzag : (l : List ℤ) → get_or l 0 (pos 0) ∷ drop 1 (coefficients_in_zigzag l)

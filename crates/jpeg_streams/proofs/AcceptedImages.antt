@@ -1,7 +1,6 @@
 -- What is written by fields is accepted, whatever stands after it.
-use Rattle.std.proofs.Common.{◌≡◌, ℕ, ◌≤◌, Bool, true, false, List, [], ◌∷◌, ◌++◌, map, Option, Some, None, Ok, refl}
-use Rattle.std.proofs.Common.{sym, ap, ◌∙◌, subst, append_assoc}
-use Rattle.std.specs.Prelude.{option_map}
+use Rattle.std.proofs.Common.{rules, ◌≡◌, ℕ, ◌≤◌, Bool, true, false, List, [], ◌∷◌, ◌++◌, map, Option, Some, None, Ok}
+use Rattle.std.proofs.Common.{refl, sym, ap, ◌∙◌, subst, append_assoc}
 use Rattle.jpeg_bits.specs.Marker.{marker_of}
 use Rattle.jpeg_bits.specs.declared.marker.Marker.{Marker}
 use Rattle.jpeg_bits.specs.declared.marker.Marker.TheVariants.{SOF, EOI, SOS, DQT}
@@ -25,7 +24,6 @@ use Rattle.jpeg_streams.proofs.AcceptedStreams as streams
 use Rattle.jpeg_streams.proofs.SaidTables.{written-tables}
 use Rattle.jpeg_streams.proofs.FrameShapes.{frame-lossy}
 use Rattle.jpeg_streams.proofs.LosslessFrames.{all-ranged}
-use Rattle.jpeg_segments.specs.HuffmanTables.{greatest_place}
 use Rattle.jpeg_streams.specs.WrittenScans.{Coefficients, levels_after}
 use Rattle.jpeg_streams.proofs.AcceptedStreams.{Plain, WritesScans, WritesHead, WritesStream, comment_at}
 use Rattle.jpeg_streams.proofs.AcceptedStreams.WritesStream.{stream}
@@ -58,8 +56,8 @@ accepted said (Quantization ts) may other =
     (record { accepted = λ rest. dqt-read ts rest may.0 })
 accepted said (Huffman ts) may other =
     streams.WritesSegment.huffman said (sized (payload_of (Huffman ts))) (huffman_tables ts)
-    (written-tables (greatest_place (option_map (λ (f : Frame). f.is_baseline) said.frame)) ts may.0)
-    (record { accepted = λ rest. dht-read (option_map (λ (f : Frame). f.is_baseline) said.frame) ts rest may.0 })
+    (search (rules, written-tables))
+    (record { accepted = search (rules, dht-read) })
 accepted said (Interval n) may other =
     streams.WritesSegment.restart said (sized (payload_of (Interval n))) n (record { accepted = dri-read n })
 accepted said (Application number payload) may other =
@@ -100,8 +98,7 @@ some-none f o e g = absurd (let n : ⊥ = cc in n)
 
 pub none-stands : {P : Type 0} (said : Found) (frame : Frame) (number : ℕ) (h : FrameHeader) (s : Segment)
     → said.frame ≡ Some frame → s ≡ Header number h → Stands said s → P
-none-stands said frame number h s e f may = let here : Stands said (Header number h) = subst (Stands said) f may in
-    some-none frame said.frame e here.0.0
+none-stands said frame number h s e f may = search (rules, some-none)
 
 pub same-frame : (a b : Frame) (o : Option Frame) → o ≡ Some a → o ≡ Some b → a ≡ b
 same-frame a b o e f = let s : ◌≡◌ {A = Option Frame} (Some a) (Some b) = sym e ∙ f in cc
@@ -111,14 +108,11 @@ same-frame a b o e f = let s : ◌≡◌ {A = Option Frame} (Some a) (Some b) = 
 -- a marker and what is written after it, and the bytes after the end of the image
 pub segment-tail : (fill code : ℕ) (bytes more tail : List ℕ)
     → marker fill code (bytes ++ more) ++ tail ≡ marker fill code (bytes ++ (more ++ tail))
-segment-tail fill code bytes more tail = marker-append fill code (bytes ++ more) tail
-    ∙ ap (marker fill code) (append_assoc bytes more tail)
+segment-tail fill code bytes more tail = search (rules, marker-append, append_assoc)
 
 pub scan-tail : (fill code : ℕ) (header bytes more tail : List ℕ)
     → marker fill code (header ++ (bytes ++ more)) ++ tail ≡ marker fill code (header ++ (bytes ++ (more ++ tail)))
-scan-tail fill code header bytes more tail =
-    segment-tail fill code header (bytes ++ more) tail
-    ∙ ap (λ (l : List ℕ). marker fill code (header ++ l)) (append_assoc bytes more tail)
+scan-tail fill code header bytes more tail = search (rules, segment-tail, append_assoc)
 
 abbrev Scans : Coefficients → Frame → List ℕ → Found → (ℕ → Levels) → Bool → Found → (ℕ → Levels) → Marker → List ℕ
     → Type 0
@@ -187,17 +181,7 @@ abbrev Head : Coefficients → List ℕ → Found → Found → (ℕ → Levels)
 Head array tail said final last m bytes = WritesHead array tail said m bytes final last
 
 written-plain : (number : ℕ) (h : FrameHeader) → IsFrame number h → Plain (frame_written number h)
-written-plain number h is = record {
-  number = number;
-  precision = h.precision;
-  width = h.width;
-  height = h.height;
-  factors = h.components;
-  in_range = all-ranged number [] h.components is.components;
-  some_width = is.wide;
-  some_height = is.high;
-  is = refl;
-}
+written-plain number h is = search (rules, all-ranged)
 
 frame-begins : (array : Coefficients) (tail : List ℕ) (said final : Found) (last : ℕ → Levels) (number : ℕ)
     (h : FrameHeader) (more : List ℕ) → Stands said (Header number h) → number ≤ 2
@@ -218,11 +202,7 @@ frame-head : (array : Coefficients) (tail : List ℕ) (said final : Found) (last
     (number : ℕ) (h : FrameHeader) (more : List ℕ) → s ≡ Header number h → Stands said s → IsDctSegment s
     → Begins (Scans array (frame_written number h) tail (found_after said s) (λ k. nothing_sent) false final last) more
     → WritesHead array tail said (marker_for s) (sized (payload_of s) ++ more) final last
-frame-head array tail said final last s number h more e may dct b =
-    subst (λ (x : Segment). WritesHead array tail said (marker_for x) (sized (payload_of x) ++ more) final last) (sym e)
-    (frame-begins array tail said final last number h more (subst (Stands said) e may) (subst IsDctSegment e dct)
-    (subst (λ (x : Segment). Begins
-    (Scans array (frame_written number h) tail (found_after said x) (λ k. nothing_sent) false final last) more) e b))
+frame-head array tail said final last s number h more e may dct b = search (rules, frame-begins)
 
 framed-after : (said : Found) (s : Segment) (number : ℕ) (h : FrameHeader) → s ≡ Header number h
     → (found_after said s).frame ≡ Some (frame_written number h)
@@ -245,11 +225,7 @@ head-begins array tail said final levels last scanned bytes
       makes = record { is = segment-marker said.frame s may.0 };
       rest = frame-or s
           (λ number h f. frame-head array tail said final last s number h (more ++ tail) f may dct
-          (scans-begin array tail (frame_written number h) (found_after said s) final
-          (λ k. nothing_sent) last false more
-          (subst (λ (x : Bool). Writes array (found_after said s) (λ k. nothing_sent) x more final last) none
-          (subst (λ (l : ℕ → Levels). Writes array (found_after said s) l scanned more final last) fresh w))
-          (framed-after said s number h f)))
+          (search (rules, scans-begin, framed-after)))
           (λ other.
           let b = head-begins array tail (found_after said s) final levels last scanned more w
           (frame-stays said s other ∙ e) fresh none in

@@ -1,11 +1,9 @@
 -- A lossless frame that is accepted has samples that a writer may emit.
-use Rattle.std.proofs.Common.{◌≡◌, ◌⊎◌, inl, inr, ℕ, ◌==◌, ◌||◌, true}
-use Rattle.std.proofs.Common.{List, [], ◌∷◌, map, length, Ok, refl, sym, ap, ap₂, ◌∙◌}
+use Rattle.std.proofs.Common.{rules, arith, ◌≡◌, ◌⊎◌, ℕ, true, List, [], ◌∷◌, map, length, Ok, sym, ap, ◌∙◌}
 use Rattle.std.specs.Prelude.{nat_le}
 use Rattle.std.proofs.lemmas.Bool.{and_parts, eqb-true, leb-true}
 use Rattle.std.specs.List.{AllByRecursion}
 use lib.ListN.{length-map}
-use Rattle.jpeg_pixels.specs.Pictures.{sources_by}
 use Rattle.jpeg_segments.specs.Frame.{component_of, Factors, frame_of, greatest}
 use Rattle.jpeg_segments.specs.WrittenSegments.{FrameHeader, frame_written}
 use Rattle.jpeg_streams.specs.SaidSegments.{HasPicture, IsUpsampled}
@@ -26,15 +24,7 @@ all-back P width height h v (x ∷ xs) u = (u.0, all-back P width height h v xs 
 -- ---- frames
 
 count-back : (n : ℕ) → is_decoded_count n ≡ true → (n ≡ 1) ⊎ ((n ≡ 3) ⊎ (n ≡ 4))
-count-back n e = go (either (n == 1) _ e)
-  where
-    go : ((n == 1) ≡ true) ⊎ ((n == 3 || n == 4) ≡ true) → (n ≡ 1) ⊎ ((n ≡ 3) ⊎ (n ≡ 4))
-    go (inl f) = inl (eqb-true n 1 f)
-    go (inr f) = inr (next (either (n == 3) _ f))
-      where
-        next : ((n == 3) ≡ true) ⊎ ((n == 4) ≡ true) → (n ≡ 3) ⊎ (n ≡ 4)
-        next (inl g) = inl (eqb-true n 3 g)
-        next (inr g) = inr (eqb-true n 4 g)
+count-back n e = search (rules, either, eqb-true)
 
 abbrev HasCount : ℕ → Type 0
 HasCount n = (n ≡ 1) ⊎ ((n ≡ 3) ⊎ (n ≡ 4))
@@ -53,8 +43,7 @@ accepted-parts number h ok =
       count-back (length h.components) (sym (ap is_decoded_count size) ∙ facts.0),
       all-back (Upsampled most_h most_v h.width h.height) h.width h.height most_h most_v h.components
           (sources-back most_h most_v h.width h.height cs facts.1.0
-          (sym (ap₂ (λ (a b : ℕ). sources_by a b h.width h.height cs) (ap (greatest (λ f. f.horizontal)) back)
-          (ap (greatest (λ f. f.vertical)) back)) ∙ facts.1.1)),
+          (search rules)),
     )
 
 pub accepted-samples : (h : FrameHeader) → accepted (frame_written 3 h) ≡ Ok (frame_written 3 h) → HasSamples 3 h
@@ -63,16 +52,9 @@ accepted-samples h ok =
     let frame = frame_written 3 h in
     let parts = accepted-parts 3 h ok in
     let precise = and_parts (nat_le 2 h.precision) (nat_le h.precision 16) (accepted-precision frame frame ok) in
-    record {
-      lossless = refl;
-      least = leb-true 2 h.precision precise.0;
-      most = leb-true h.precision 16 precise.1;
-      counted = parts.0;
-      upsampled = parts.1;
-    }
+    grind (arith, leb-true 2 h.precision precise.0, leb-true h.precision 16 precise.1)
 
 -- and a frame of 8 bits has a picture
 pub accepted-picture : (number : ℕ) (h : FrameHeader) → h.precision ≡ 8
     → accepted (frame_written number h) ≡ Ok (frame_written number h) → HasPicture h
-accepted-picture number h e ok =
-    let parts = accepted-parts number h ok in record { precise = e; counted = parts.0; upsampled = parts.1 }
+accepted-picture number h e ok = search (rules, accepted-parts)

@@ -1,7 +1,6 @@
 -- Written streams once more, by bytes that the rules of segments accept: what proofs about reading go by.
 use Rattle.std.specs.Prelude.{◌≡◌, ◌≢◌, ◌⊎◌, ℕ, ◌-◌, ◌<◌, ◌≤◌, Bool, true, false, List, ◌∷◌, ◌++◌, map, length}
-use Rattle.std.specs.Prelude.{option_map, Option, Some}
-use Rattle.std.specs.Prelude.{Ok}
+use Rattle.std.specs.Prelude.{option_map, Option, Some, Ok}
 use Rattle.std.specs.List.{AllByRecursion, range_with_len}
 use Rattle.jpeg_bits.specs.Reading.{Outcome, ◌>>=◌, length_at, skip_at}
 use Rattle.jpeg_bits.specs.Passes.{whole_pass}

@@ -1,9 +1,10 @@
 -- A turn of a written stream.
-use Rattle.std.proofs.Common.{◌≡◌, ◌≢◌, ℕ, zero, suc, nat_lt, ◌==◌, Bool, true, false, List, [], ◌∷◌, ◌++◌, map}
-use Rattle.std.proofs.Common.{length, drop, replicate, slice_index_or, Option, Some, None, Result, Ok, Err, refl, sym}
-use Rattle.std.proofs.Common.{ap, ap₂, ◌∙◌, subst, arith}
+use Rattle.std.proofs.Common.{rules, ◌≡◌, ◌≢◌, ℕ, zero, suc, Bool, true, false, List, [], ◌∷◌, ◌++◌, map, length, drop}
+use Rattle.std.proofs.Common.{replicate, slice_index_or, Option, Some, None, Result, Ok, refl, sym, ap, ◌∙◌, subst}
+use Rattle.std.proofs.Common.{arith}
+use Rattle.std.proofs.lemmas.Grind.{common_steps}
 use Rattle.std.specs.List.{AllByRecursion}
-use Rattle.jpeg_bits.specs.Reading.{Fault, Malformed, ◌>>=◌, length_at, skip_at}
+use Rattle.jpeg_bits.specs.Reading.{Fault, ◌>>=◌}
 use Rattle.jpeg_bits.specs.Codes.{Table}
 use Rattle.jpeg_bits.specs.Marker.{marker_of, next_marker}
 use Rattle.jpeg_bits.specs.declared.marker.Marker.{Marker}
@@ -22,7 +23,6 @@ use Rattle.jpeg_streams.specs.Segments.{quantization_segment, skipped_segment}
 use Rattle.jpeg_streams.specs.Found.{Found}
 use Rattle.jpeg_streams.specs.Stream.{segment_at, turn_at, segments_within}
 use Rattle.jpeg_bits.specs.declared.codes.HuffmanTableClass.{HuffmanTableClass}
-use Rattle.jpeg_bits.specs.declared.codes.HuffmanTableClass.TheVariants as classes
 use Rattle.jpeg_segments.specs.declared.parser.CodingProcess.{CodingProcess}
 use Rattle.jpeg_segments.specs.declared.parser.CodingProcess.TheVariants.{DctSequential, DctProgressive, Lossless}
 use Rattle.jpeg_streams.specs.WrittenScans.{Coefficients, InForce, IsCoding, AreCodings}
@@ -67,11 +67,7 @@ turn-next before f all bytes m e = rw e refl
 
 pub stands-next : (fill code : ℕ) (m : Marker) (bytes : List ℕ) → IsMarker code m
     → StandsAt None (marker fill code bytes) m bytes
-stands-next fill code m bytes h =
-    record {
-      turn = λ before f. turn-next before f (marker fill code bytes) bytes m
-          (next-marker fill code m bytes h);
-    }
+stands-next fill code m bytes h = search (rules, turn-next, next-marker)
 
 -- ---- steps
 
@@ -102,10 +98,7 @@ segment-read w next m bytes rest before s h fi pl (quantization w' bytes' t a) =
 segment-read w next m bytes rest before s h fi pl (huffman w' bytes' t k a) = rw (a.accepted rest) refl
 segment-read w next m bytes rest before s h fi pl (restart w' bytes' n a) = rw (a.accepted rest) refl
 segment-read w next m bytes rest before s h fi pl (application w' number bytes' t a) = rw (a.accepted rest) refl
-segment-read w next m bytes rest before s h fi pl (comment w' bytes' a) =
-    let step = bind-ok (length_at (bytes ++ rest)) (λ (n : ℕ × List ℕ). skip_at n.0 n.1) (tt, rest) (a.accepted rest) in
-    then-ok (length_at (bytes ++ rest)) _ step.0 _ step.1
-    (then-ok (skip_at step.0.0 step.0.1) _ (tt, rest) _ step.2 refl)
+segment-read w next m bytes rest before s h fi pl (comment w' bytes' a) = search (rules, bind-ok, then-ok)
 
 pub frame-kept : (w next : Found) (m : Marker) (bytes : List ℕ) → WritesSegment w m bytes next → next.frame ≡ w.frame
 frame-kept w next m bytes (quantization w' bytes' t a) = refl
@@ -140,18 +133,11 @@ scans-plain array f tail w final levels last scanned m bytes all turns (closed w
 -- ---- the tables of a scan
 
 pub needed-some : {A : Type 0} (o : Option A) (x : A) → needed o ≡ Ok x → o ≡ Some x
-needed-some None x e = absurd (no e)
-  where
-    no : ◌≡◌ {A = Result _ Fault} (Err Malformed) (Ok x) → ⊥
-    no e = cc
+needed-some None x e = search rules
 needed-some (Some y) x e = cc
 
 first-drop : {A : Type 0} (n : ℕ) (xs : List A) (x : A) → first_of (drop n xs) ≡ Some x → At n xs x
-first-drop n [] x e = no n e
-  where
-    no : (n : ℕ) → first_of (drop n []) ≡ Some x → ⊥
-    no zero e = cc
-    no (suc n) e = cc
+first-drop n [] x e = grind (arith, common_steps)
 first-drop zero (y ∷ xs) x e = cc
 first-drop (suc n) (y ∷ xs) x e = first-drop n xs x e
 
@@ -168,19 +154,7 @@ in-force-back false class tables place table e = sym (ok-same _ table e)
 coding-back : (w : Found) (frame : Frame) (p : Pass) (tables : Tables) (place d a : ℕ) (k : Coding)
     → component_coding w frame p tables place d a ≡ Ok k → IsCoding w frame p tables place d a k
 unfolding component_coding
-coding-back w frame p tables place d a k e =
-    let component = bind-ok (needed (first_of (drop place frame.components))) _ k e in
-    let table = bind-ok (needed (slice_index_or w.quantization component.0.factors.quantization None)) _ k component.2
-    in
-    let dc = bind-ok (needed_if (p.ss == 0) classes.DC (slice_index_or tables.dc d None)) _ k table.2 in
-    let ac = bind-ok (needed_if (nat_lt 0 p.se) classes.AC (slice_index_or tables.ac a None)) _ k dc.2 in
-    subst (IsCoding w frame p tables place d a) (ok-same _ k ac.2) (record {
-      stands = refl;
-      component = needed-some (first_of (drop place frame.components)) component.0 component.1;
-      quantization = needed-some (slice_index_or w.quantization component.0.factors.quantization None) table.0 table.1;
-      dc = in-force-back (p.ss == 0) classes.DC tables.dc d dc.0 dc.1;
-      ac = in-force-back (nat_lt 0 p.se) classes.AC tables.ac a ac.0 ac.1;
-    })
+coding-back w frame p tables place d a k e = search (rules, bind-ok, ok-same, needed-some, in-force-back)
 
 pub codings-back : (w : Found) (frame : Frame) (p : Pass) (tables : Tables) (places ds ks : List ℕ)
     (codings : List Coding) → length ds ≡ length places → length ks ≡ length places
@@ -209,12 +183,7 @@ codings-so : (w : Found) (frame : Frame) (p : Pass) (tables : Tables) (places ds
     → AreCodings w frame p tables places ds ks codings → AllFacts w frame places codings
 codings-so w frame p tables places ds ks codings no_more = (refl, tt, refl)
 codings-so w frame p tables places ds ks codings (and_more place d a places' ds' ks' k more h r) =
-    let rest = codings-so w frame p tables places' ds' ks' more r in
-    let at = ap (λ (n : ℕ). first_of (drop n frame.components)) h.stands ∙ h.component in (
-      ap suc rest.0,
-      (record { at = first-drop k.place frame.components k.component at; table = h.quantization }, rest.1),
-      ap₂ (λ (m : ℕ) (l : List ℕ). m ∷ l) h.stands rest.2,
-    )
+    search (rules, first-drop, codings-so w frame p tables places' ds' ks' more r)
 
 pub codings-facts_from : (w : Found) (frame : Frame) (p : Pass) (tables : Tables) (places ds ks : List ℕ)
     (codings : List Coding) → length ds ≡ length places → length ks ≡ length places
@@ -246,22 +215,7 @@ in-force false class tables place table e = ap (λ (t : Table). Ok t) (sym e)
 coding-read : (w : Found) (frame : Frame) (p : Pass) (tables : Tables) (place d a : ℕ) (k : Coding)
     → IsCoding w frame p tables place d a k → component_coding w frame p tables place d a ≡ Ok k
 unfolding component_coding
-coding-read w frame p tables place d a k h =
-    then-ok (needed (first_of (drop place frame.components))) _ k.component _ (ap needed h.component)
-    (then-ok (needed (slice_index_or w.quantization k.component.factors.quantization None)) _ k.quantization _
-    (ap needed h.quantization)
-    (then-ok (needed_if (p.ss == 0) classes.DC (slice_index_or tables.dc d None)) _ k.dc _
-    (in-force (p.ss == 0) classes.DC tables.dc d k.dc h.dc)
-    (then-ok (needed_if (nat_lt 0 p.se) classes.AC (slice_index_or tables.ac a None)) _ k.ac _
-    (in-force (nat_lt 0 p.se) classes.AC tables.ac a k.ac h.ac)
-    (ap (λ (n : ℕ). Ok (record {
-      place = n;
-      component = k.component;
-      quantization = k.quantization;
-      dc = k.dc;
-      ac =
-          k.ac;
-    })) (sym h.stands)))))
+coding-read w frame p tables place d a k h = search (rules, then-ok, in-force)
 
 codings-read_from : (w : Found) (frame : Frame) (p : Pass) (tables : Tables) (places ds ks : List ℕ)
     (codings : List Coding) → AreCodings w frame p tables places ds ks codings
@@ -269,16 +223,12 @@ codings-read_from : (w : Found) (frame : Frame) (p : Pass) (tables : Tables) (pl
 unfolding codings_from
 codings-read_from w frame p tables places ds ks codings no_more = refl
 codings-read_from w frame p tables places ds ks codings (and_more place d a places' ds' ks' k more h r) =
-    then-ok (component_coding w frame p tables place d a) _ k _ (coding-read w frame p tables place d a k h)
-    (then-ok (codings_from w frame p tables places' ds' ks') _ more _
-    (codings-read_from w frame p tables places' ds' ks' more r) refl)
+    search (rules, then-ok, coding-read, codings-read_from w frame p tables places' ds' ks' more r)
 
 pub codings-read : (w : Found) (frame : Frame) (s : Scan) (codings : List Coding)
     → AreCodings w frame (pass_of s) (tables_of w s) s.components s.dc_places s.ac_places codings
     → codings_of w frame s ≡ Ok codings
-codings-read w frame s codings h =
-    codings-by w frame s
-    ∙ codings-read_from w frame (pass_of s) (tables_of w s) s.components s.dc_places s.ac_places codings h
+codings-read w frame s codings h = search (rules, codings-by, codings-read_from)
 
 -- what scans have brought doesn't change them
 coding-same : (w : Found) (sc : Bool) (h : Arrays) (fi : List (List Bool)) (pl : List (Option (List ℕ)))
@@ -286,10 +236,6 @@ coding-same : (w : Found) (sc : Bool) (h : Arrays) (fi : List (List Bool)) (pl :
     → component_coding (reading w sc h fi pl) frame p tables place d a ≡ component_coding w frame p tables place d a
 unfolding component_coding
 coding-same w sc h fi pl frame p tables place d a = refl
-
-then-other : (c : Coding) (o r : Result (List Coding) Fault) → o ≡ r
-    → (o >>= (λ others. Ok (c ∷ others))) ≡ (r >>= (λ others. Ok (c ∷ others)))
-then-other c o r e = ap (λ (x : Result (List Coding) Fault). x >>= (λ (others : List Coding). Ok (c ∷ others))) e
 
 pub codings-same_from : (w : Found) (sc : Bool) (h : Arrays) (fi : List (List Bool)) (pl : List (Option (List ℕ)))
     (frame : Frame) (p : Pass) (tables : Tables) (places ds ks : List ℕ)
@@ -299,18 +245,7 @@ codings-same_from w sc h fi pl frame p tables [] ds ks = refl
 codings-same_from w sc h fi pl frame p tables (x ∷ places) [] ks = refl
 codings-same_from w sc h fi pl frame p tables (x ∷ places) (d ∷ ds) [] = refl
 codings-same_from w sc h fi pl frame p tables (x ∷ places) (d ∷ ds) (a ∷ ks) =
-    let more = codings-same_from w sc h fi pl frame p tables places ds ks in
-    ap (λ (o : Result Coding Fault). o >>=
-    (λ c. codings_from (reading w sc h fi pl) frame p tables places ds ks >>= (λ others. Ok (c ∷ others))))
-    (coding-same w sc h fi pl frame p tables x d a)
-    ∙ go (component_coding w frame p tables x d a) more
-  where
-    go : (o : Result Coding Fault)
-        → codings_from (reading w sc h fi pl) frame p tables places ds ks ≡ codings_from w frame p tables places ds ks
-        → (o >>= (λ c. codings_from (reading w sc h fi pl) frame p tables places ds ks >>= (λ others. Ok (c ∷ others))))
-        ≡ (o >>= (λ c. codings_from w frame p tables places ds ks >>= (λ others. Ok (c ∷ others))))
-    go (Ok c) e = then-other c _ _ e
-    go (Err e') e = refl
+    rw (codings-same_from w sc h fi pl frame p tables places ds ks, coding-same w sc h fi pl frame p tables x d a) refl
 
 pub tables-same : (w : Found) (sc : Bool) (h : Arrays) (fi : List (List Bool)) (pl : List (Option (List ℕ))) (s : Scan)
     → tables_of (reading w sc h fi pl) s ≡ tables_of w s
@@ -320,12 +255,7 @@ tables-same w sc h fi pl s = refl
 pub codings-same : (w : Found) (sc : Bool) (h : Arrays) (fi : List (List Bool)) (pl : List (Option (List ℕ)))
     (frame : Frame) (s : Scan)
     → codings_of (reading w sc h fi pl) frame s ≡ codings_of w frame s
-codings-same w sc h fi pl frame s =
-    codings-by (reading w sc h fi pl) frame s
-    ∙ ap (λ (t : Tables). codings_from (reading w sc h fi pl) frame
-    (pass_of s) t s.components s.dc_places s.ac_places) (tables-same w sc h fi pl s)
-    ∙ codings-same_from w sc h fi pl frame (pass_of s) (tables_of w s) s.components s.dc_places s.ac_places
-    ∙ sym (codings-by w frame s)
+codings-same w sc h fi pl frame s = search (rules, codings-by, tables-same, codings-same_from)
 
 -- ---- a scan
 
@@ -352,9 +282,4 @@ pub scan-by : (found : Found) (frame : Frame) (s : Scan) (codings : List Coding)
       more,
     )
 unfolding scan_segment blocks_scan
-scan-by found frame s codings arrays m bytes data_bytes more n a b c d e =
-    then-ok (needed found.frame) _ frame _ (ap needed a)
-    (then-ok (sos_at frame bytes) _ (s, data_bytes) _ b
-    (blocks-by frame.process n found frame s data_bytes ∙ then-ok (codings_of found frame s) _ codings _ c
-    (then-ok (scan_arrays found frame s codings data_bytes) _ ((arrays, Some m), more) _ d
-    (then-ok (after_restarts (suc (length more)) (Some m) more) _ (Some m, more) _ e refl))))
+scan-by found frame s codings arrays m bytes data_bytes more n a b c d e = search (rules, then-ok, blocks-by)

@@ -1,6 +1,7 @@
 -- The spots of a scan are apart, and inside the arrays of its components.
-use Rattle.std.proofs.Common.{◌≡◌, ◌⊎◌, inl, inr, ℕ, zero, suc, ◌+◌, ◌*◌, ◌/◌, ◌%◌, ◌<◌, ◌≤◌, List, [], ◌∷◌, ◌++◌}
-use Rattle.std.proofs.Common.{map, length, get_or, replicate, refl, sym, ap, ◌∙◌, subst, arith}
+use Rattle.std.proofs.lemmas.Grind.{common_steps}
+use Rattle.std.proofs.Common.{rules, ◌≡◌, ◌⊎◌, inl, inr, ℕ, zero, suc, ◌+◌, ◌*◌, ◌/◌, ◌%◌, ◌<◌, ◌≤◌, List, [], ◌∷◌}
+use Rattle.std.proofs.Common.{◌++◌, map, length, get_or, replicate, refl, sym, ap, ◌∙◌, subst, arith}
 use Rattle.std.proofs.Math.Nat.{div-lt_iff_lt-mul}
 use Rattle.std.proofs.lemmas.Nat.{div-mul-add, mod-mul-add}
 use Rattle.std.specs.List.{AllByRecursion, range_with_len, flat_map}
@@ -16,11 +17,7 @@ use Rattle.jpeg_streams.specs.InTurn.{IsIn, AreApart, IsInside, Fits, AreArrays}
 pub in-either : {A : Type 0} (x : A) (xs ys : List A) → IsIn x (xs ++ ys) → IsIn x xs ⊎ IsIn x ys
 in-either x [] ys h = inr h
 in-either x (y ∷ xs) ys (inl e) = inl (inl e)
-in-either x (y ∷ xs) ys (inr t) = go (in-either x xs ys t)
-  where
-    go : IsIn x xs ⊎ IsIn x ys → ((y ≡ x) ⊎ IsIn x xs) ⊎ IsIn x ys
-    go (inl a) = inl (inr a)
-    go (inr b) = inr b
+in-either x (y ∷ xs) ys (inr t) = search (rules, in-either x xs ys t)
 
 pub apart-append : {A : Type 0} (xs ys : List A) → AreApart xs → AreApart ys → ((x : A) → IsIn x xs → IsIn x ys → ⊥)
     → AreApart (xs ++ ys)
@@ -51,9 +48,8 @@ in-flat-back {A} f x a (suc n) h =
   where
     go : (IsIn x (flat_map f (range_with_len (a + 1) n)) → GivesAt f (a + 1) n x)
         → IsIn x (f a) ⊎ IsIn x (flat_map f (range_with_len (a + 1) n)) → GivesAt f a (suc n) x
-    go rec (inl g) = record { at = a; between = record { low = omega arith; high = omega arith }; gives = g }
-    go rec (inr t) = let r = rec t in let l = r.between.low in let h = r.between.high in
-        record { at = r.at; between = record { low = omega arith; high = omega arith }; gives = r.gives }
+    go rec (inl g) = search rules
+    go rec (inr t) = search rules
 
 pub record EqualAt {A : Type 0} (f : ℕ → A) (a n : ℕ) (x : A) : Type 0 where
   pub at : ℕ
@@ -62,11 +58,8 @@ pub record EqualAt {A : Type 0} (f : ℕ → A) (a n : ℕ) (x : A) : Type 0 whe
 
 pub in-line-back : {A : Type 0} (f : ℕ → A) (x : A) (a n : ℕ) → IsIn x (map f (range_with_len a n)) → EqualAt f a n x
 in-line-back f x a zero h = absurd h
-in-line-back f x a (suc n) (inl e) =
-    record { at = a; between = record { low = omega arith; high = omega arith }; equal = e }
-in-line-back f x a (suc n) (inr t) = let r = in-line-back f x (a + 1) n t in let l = r.between.low in let h =
-    r.between.high in
-    record { at = r.at; between = record { low = omega arith; high = omega arith }; equal = r.equal }
+in-line-back f x a (suc n) (inl e) = search rules
+in-line-back f x a (suc n) (inr t) = search (rules, in-line-back f x (a + 1) n t)
 
 -- lists of elements that tell their number
 pub apart-flat : {A : Type 0} (f : ℕ → List A) (Tells : A → ℕ → Type 0) (a n : ℕ)
@@ -80,7 +73,7 @@ apart-flat {A} f Tells a (suc n) each tells one =
     (λ x h k. other x (tells a x first h) (in-flat-back f x (a + 1) n k))
   where
     wider : (k : ℕ) → Between (a + 1) n k → Between a (suc n) k
-    wider k b = let l = b.low in let h = b.high in record { low = omega arith; high = omega arith }
+    wider k b = search rules
 
     other : (x : A) → Tells x a → GivesAt f (a + 1) n x → ⊥
     other x t g = let e : a ≡ g.at = one x a g.at t (tells g.at x (wider g.at g.between) g.gives) in let l =
@@ -93,12 +86,10 @@ apart-line {A} f key a (suc n) tells =
     ((λ h. other (in-line-back f (f a) (a + 1) n h)), apart-line f key (a + 1) n (λ k b. tells k (wider k b)))
   where
     wider : (k : ℕ) → Between (a + 1) n k → Between a (suc n) k
-    wider k b = let l = b.low in let h = b.high in record { low = omega arith; high = omega arith }
+    wider k b = search rules
 
     other : EqualAt f (a + 1) n (f a) → ⊥
-    other g = let e : g.at ≡ a = sym (tells g.at (wider g.at g.between)) ∙ ap key g.equal
-        ∙ tells a (record { low = omega arith; high = omega arith }) in
-        let l = g.between.low in absurd (omega arith)
+    other g = search rules
 
 -- x stands at place j
 abbrev pub At : {A : Type 0} → ℕ → List A → A → Type 0
@@ -126,14 +117,7 @@ pub record TellsOwn (g : Grid) (row column : ℕ) (s : Spot) : Type 0 where
 
 own-tells : (g : Grid) (row column : ℕ) (s : Spot) → column < g.wide
     → record { slot = 0; index = row * g.wide + column } ≡ s → TellsOwn g row column s
-own-tells g row column s lt e =
-    subst (TellsOwn g row column) e
-    (record {
-      slot = refl;
-      row_of = div-mul-add row g.wide column lt;
-      column_of =
-          mod-mul-add row g.wide column lt;
-    })
+own-tells g row column s lt e = search (rules, div-mul-add, mod-mul-add)
 
 pub own-apart : (g : Grid) → g.own_wide ≤ g.wide → AreApart (own_spots g)
 unfolding own_spots
@@ -148,8 +132,7 @@ own-apart g fits =
     told : (f : ℕ → Spot) (row : ℕ) (s : Spot)
         → ((column : ℕ) → column < g.own_wide → f column ≡ record { slot = 0; index = row * g.wide + column })
         → EqualAt f 0 g.own_wide s → s.index / g.wide ≡ row
-    told f row s is x = let h = x.between.high in
-        (own-tells g row x.at s (omega arith) (sym (is x.at (omega arith)) ∙ x.equal)).row_of
+    told f row s is x = search (rules, own-tells)
 
 -- ---- several components
 
@@ -164,12 +147,7 @@ pub record Tells (frame : Frame) (c : Component) (slot row column : ℕ) (s : Sp
 within : (frame : Frame) (c : Component) (column h : ℕ) → Fits frame c → column < frame.mcus_wide
     → h < c.factors.horizontal
     → column * c.factors.horizontal + h < c.blocks_wide
-within frame c column h fits lt l =
-    let d : (column * c.factors.horizontal + h) / c.factors.horizontal ≡ column =
-    div-mul-add column c.factors.horizontal h l in
-    let b : column * c.factors.horizontal + h < frame.mcus_wide * c.factors.horizontal =
-    (div-lt_iff_lt-mul fits.horizontal).0 (omega arith) in
-    let w = fits.wide in omega arith
+within frame c column h fits lt l = search (rules, div-mul-add, div-lt_iff_lt-mul)
 
 spot-tells : (frame : Frame) (c : Component) (slot row column v h : ℕ) (s : Spot) → Fits frame c
     → column < frame.mcus_wide → v < c.factors.vertical → h < c.factors.horizontal
@@ -189,15 +167,7 @@ spot-tells frame c slot row column v h s fits lt vl hl e =
     let by-row : i / w ≡ row * vt + v = div-mul-add (row * vt + v) w (column * hz + h) lw in
     let by-column : i % w ≡ column * hz + h = mod-mul-add (row * vt + v) w (column * hz + h) lw in
     let up : (row * vt + v) / vt ≡ row = div-mul-add row vt v vl in
-    subst (Tells frame c slot row column) e (record {
-      slot_of = refl;
-      row_of = ap (λ (k : ℕ). k / vt) by-row ∙ up;
-      column_of = ap (λ (k : ℕ). k / hz) by-column ∙ div-mul-add column hz h hl;
-      inside = λ high.
-          let r : row * vt + v < frame.mcus_high * vt = (div-lt_iff_lt-mul fits.vertical).0 (omega arith) in
-          let b : i / w < c.blocks_high = let f = fits.high in omega arith in
-          (div-lt_iff_lt-mul wp).0 b;
-    })
+    search (rules, div-mul-add, div-lt_iff_lt-mul)
 
 part-tells : (frame : Frame) (c : Component) (slot row column : ℕ) (s : Spot) → Fits frame c → column < frame.mcus_wide
     → IsIn s (part_spots row column slot c) → Tells frame c slot row column s
@@ -229,15 +199,8 @@ part-apart frame c slot row column fits lt =
     let by-column : (v h : ℕ) → h < hz → (at v h).index % w ≡ column * hz + h
     = λ v h l. mod-mul-add (row * vt + v) w (column * hz + h) (within frame c column h fits lt l) in
     apart-flat (λ v. map (at v) (range_with_len 0 hz)) (λ s v. s.index / w % vt ≡ v) 0 vt
-    (λ v b. apart-line (at v) (λ s. s.index % w % hz) 0 hz (λ h k.
-    let l : h < hz = let x = k.high in omega arith in ap (λ (n : ℕ). n % hz) (by-column v h l)
-    ∙ mod-mul-add column hz h l))
-    (λ v s b h.
-    let e = in-line-back (at v) s 0 hz h in
-    let vl : v < vt = let x = b.high in omega arith in
-    let hl : e.at < hz = let x = e.between.high in omega arith in
-    subst (λ (r : Spot). r.index / w % vt ≡ v) e.equal
-    (ap (λ (n : ℕ). n % vt) (by-row v e.at hl) ∙ mod-mul-add row vt v vl))
+    (λ v b. apart-line (at v) (λ s. s.index % w % hz) 0 hz (grind (arith, common_steps, mod-mul-add)))
+    (grind (arith, common_steps, in-line-back, mod-mul-add))
     (λ s k l e f. sym e ∙ f)
 
 -- the component that a spot of an MCU is of
@@ -259,18 +222,12 @@ mcu-tells frame (c ∷ more) base row column s fits lt h =
     go : (IsIn s (mcu_spots row column (base + 1) more) → IsOf frame more (base + 1) row column s)
         → IsIn s (part_spots row column base c) ⊎ IsIn s (mcu_spots row column (base + 1) more)
         → IsOf frame (c ∷ more) base row column s
-    go rec (inl p) = record {
-      place = 0;
-      component = c;
-      here = refl;
-      tells = subst (λ (n : ℕ). Tells frame c n row column s) (omega arith)
-          (part-tells frame c base row column s fits.0 lt p);
-    }
+    go rec (inl p) = grind (arith, part-tells frame c base row column s fits.0 lt p)
     go rec (inr t) = let r = rec t in record {
       place = suc r.place;
       component = r.component;
       here = r.here;
-      tells = subst (λ (n : ℕ). Tells frame r.component n row column s) (omega arith) r.tells;
+      tells = search rules;
     }
 
 mcu-apart : (frame : Frame) (components : List Component) (base row column : ℕ)
@@ -298,20 +255,14 @@ pub record TellsColumn (components : List Component) (column : ℕ) (s : Spot) :
 
 pub placed : (frame : Frame) (components : List Component) (row column : ℕ) (s : Spot)
     (x : IsOf frame components 0 row column s) → At s.slot components x.component
-placed frame components row column s x =
-    let e : x.place ≡ s.slot = let t = x.tells.slot_of in omega arith in
-    subst (λ (n : ℕ). At n components x.component) e x.here
+placed frame components row column s x = search rules
 
 one-row : (components : List Component) (s : Spot) (k l : ℕ) → TellsRow components k s → TellsRow components l s → k ≡ l
-one-row components s k l a b =
-    let e = at-one s.slot components a.component b.component a.here b.here in
-    sym a.row_of ∙ ap (λ (c : Component). s.index / c.blocks_wide / c.factors.vertical) e ∙ b.row_of
+one-row components s k l a b = search (rules, at-one)
 
 one-column : (components : List Component) (s : Spot) (k l : ℕ) → TellsColumn components k s
     → TellsColumn components l s → k ≡ l
-one-column components s k l a b =
-    let e = at-one s.slot components a.component b.component a.here b.here in
-    sym a.column_of ∙ ap (λ (c : Component). s.index % c.blocks_wide / c.factors.horizontal) e ∙ b.column_of
+one-column components s k l a b = search (rules, at-one)
 
 pub all-apart : (frame : Frame) (components : List Component) → AllByRecursion (Fits frame) components
     → AreApart (all_spots frame.mcus_wide frame.mcus_high components)
@@ -321,11 +272,11 @@ all-apart frame components fits =
     let mcu : ℕ → ℕ → List Spot = λ row column. mcu_spots row column 0 components in
     let of : (row column : ℕ) (s : Spot) → Between 0 wide column → IsIn s (mcu row column)
     → IsOf frame components 0 row column s
-    = λ row column s b h. mcu-tells frame components 0 row column s fits (let x = b.high in omega arith) h in
+    = search (rules, mcu-tells) in
     apart-flat (λ row. flat_map (mcu row) (range_with_len 0 wide))
     (λ s row. TellsRow components row s) 0 frame.mcus_high
     (λ row b. apart-flat (mcu row) (λ s column. TellsColumn components column s) 0 wide
-    (λ column k. mcu-apart frame components 0 row column fits (let x = k.high in omega arith))
+    (search (rules, mcu-apart))
     (λ column s k h. let x = of row column s k h in
     record { component = x.component; here = placed frame components row column s x; column_of = x.tells.column_of })
     (λ s k l a b. one-column components s k l a b))
@@ -372,8 +323,7 @@ own-inside c frame arrays q fits h k =
     let z = sized (c ∷ []) arrays 0 c h refl in
     let e : 0 ≡ q.slot = sym t.slot in
     let r : (q.slot < length arrays) × (q.index < length (get_or arrays q.slot []))
-    = subst (λ (n : ℕ). (n < length arrays) × (q.index < length (get_or arrays n []))) e
-    (z.0, (let l = z.1 in omega arith)) in
+    = search rules in
     record { slot = r.0; index = r.1 }
 
 all-inside : (frame : Frame) (components : List Component) (arrays : Arrays) (q : Spot)
@@ -401,7 +351,7 @@ spots-inside frame [] arrays q fits h k = absurd k
 spots-inside frame (c ∷ []) arrays q fits h k = own-inside c frame arrays q fits.0 h k
 spots-inside frame (c ∷ d ∷ more) arrays q fits h k = all-inside frame (c ∷ d ∷ more) arrays q fits h k
 
-length-same : (n : ℕ) (b : Block) → length (replicate n b) ≡ n
+pub length-same : (n : ℕ) (b : Block) → length (replicate n b) ≡ n
 length-same zero b = refl
 length-same (suc n) b = ap suc (length-same n b)
 

@@ -1,8 +1,7 @@
 -- A written stream is read as the blocks of its array, cut at the levels that were sent.
-use Rattle.std.proofs.Common.{◌≡◌, ◌≢◌, ◌⊎◌, inl, inr, ℕ, zero, suc, ◌+◌, ◌-◌, ◌*◌, ◌/◌, ◌%◌, ◌<◌, ◌≤◌, ◌&&◌, ◌||◌}
-use Rattle.std.proofs.Common.{not, nat_le, ◌==◌, Bool, true, false, cond, List, [], ◌∷◌, ◌++◌, length, take, drop}
-use Rattle.std.proofs.Common.{replicate, get_or, Option, Some, None, Ok, refl, sym, ap, ◌∙◌, subst, arith, eqb}
-use Rattle.std.proofs.Common.{true≢false, length-append, length-take, length-drop}
+use Rattle.std.proofs.Common.{rules, ◌≡◌, ◌≢◌, ◌⊎◌, inl, inr, ℕ, zero, suc, ◌-◌, ◌*◌, ◌<◌, ◌≤◌, ◌||◌, nat_le, Bool}
+use Rattle.std.proofs.Common.{true, false, List, [], ◌∷◌, ◌++◌, length, replicate, get_or, Option, Some, None, Ok, refl}
+use Rattle.std.proofs.Common.{sym, ap, ◌∙◌, subst, arith, eqb, true≢false, length-append, length-take, length-drop}
 use Rattle.std.proofs.lemmas.Bool.{and_parts, eqb-true, eq-eqb, not-true}
 use Rattle.std.proofs.lemmas.List.{length-replicate}
 use lib.ListN.{length-map}
@@ -13,7 +12,7 @@ use Rattle.jpeg_bits.specs.declared.marker.Marker.{Marker}
 use Rattle.jpeg_segments.specs.declared.parser.CodingProcess.TheVariants.{Lossless}
 use Rattle.jpeg_segments.specs.Frame.{Frame, Component, Factors, IsInRange, frame_of}
 use Rattle.jpeg_segments.specs.ScanHeader.{Scan, is_progressive_band}
-use Rattle.jpeg_bits.specs.Passes.{Pass, Block, whole_pass, zero_block, band_of, before_band, band_size}
+use Rattle.jpeg_bits.specs.Passes.{Pass, Block, whole_pass, zero_block}
 use Rattle.jpeg_streams.specs.Order.{grid_of}
 use Rattle.jpeg_segments.specs.Scales.{frame_at}
 use Rattle.jpeg_streams.specs.Scans.{Arrays, zero_arrays}
@@ -28,10 +27,12 @@ use Rattle.jpeg_lossless.specs.Written.{IsMarker}
 use Rattle.jpeg_streams.proofs.FinishedMarks.{IsBand, marks-start}
 use Rattle.jpeg_streams.proofs.OwnSpots.{At, at-get, Fits}
 use Rattle.jpeg_streams.proofs.WrittenFrameScans.{HoldsOwn, HasGood, SlotReady, SpotsSuit, none_read, dc_alone}
-use Rattle.jpeg_streams.proofs.WrittenFrameScans.{one_component, ReadsScan, scan-is_read, cut-nothing, at-all}
+use Rattle.jpeg_streams.proofs.WrittenFrameScans.{one_component, ReadsScan, scan-is_read, cut-nothing}
+use Rattle.jpeg_streams.proofs.Apart.{at-all}
 use Rattle.jpeg_streams.proofs.ReadStates.{reading, Marked, AllDone, places_of, Brought, brings, AllHeld, held-after}
 use Rattle.jpeg_streams.proofs.AcceptedTurns.{CodingFacts, codings-facts, codings-read}
 use Rattle.jpeg_streams.proofs.AcceptedStreams.{PassSo, ScanFacts, progressive, sequential}
+use Rattle.jpeg_streams.proofs.UpsampledFactors.{either as either-true}
 
 -- ---- the frame
 
@@ -78,11 +79,10 @@ zeros-everywhere [] place index = refl
 zeros-everywhere (c ∷ more) zero index = get-replicate (c.blocks_high * c.blocks_wide) index
 zeros-everywhere (c ∷ more) (suc place) index = zeros-everywhere more place index
 
-zero-at : (components : List Component) (k : ℕ) (c : Component) → At k components c
+pub zero-at : (components : List Component) (k : ℕ) (c : Component) → At k components c
     → get_or (zero_arrays components) k [] ≡ replicate (c.blocks_high * c.blocks_wide) zero_block
 unfolding zero_arrays
-zero-at components k c h =
-    at-get (λ (x : Component). replicate (x.blocks_high * x.blocks_wide) zero_block) [] k components c h
+zero-at components k c h = search (rules, at-get)
 
 zero-count : (components : List Component) → length (zero_arrays components) ≡ length components
 unfolding zero_arrays
@@ -90,40 +90,19 @@ zero-count components = length-map components (λ (c : Component). replicate (c.
 
 pub zero-holds : (array : ℕ → ℕ → Block) (c : Component) → ((row column : ℕ) → Is8Bit (array row column))
     → HoldsOwn (grid_of c) array nothing_sent (replicate (c.blocks_high * c.blocks_wide) zero_block)
-zero-holds array c range = record {
-  sized = length-replicate (c.blocks_high * c.blocks_wide) zero_block;
-  each = λ i own. get-replicate (c.blocks_high * c.blocks_wide) i
-      ∙ sym (cut-nothing (array (i / c.blocks_wide) (i % c.blocks_wide))
-      (range (i / c.blocks_wide) (i % c.blocks_wide)).count);
-}
+zero-holds array c range = search (rules, length-replicate, get-replicate, cut-nothing)
 
 arrays-fresh : (w : Found) (h : Arrays) (fi : List (List Bool)) (pl : List (Option (List ℕ))) (f : Frame)
     → arrays_before (reading w false h fi pl) f ≡ zero_arrays f.components
 unfolding arrays_before
-arrays-fresh w h fi pl f = go (is_progressive f.process)
-  where
-    go : (b : Bool) → cond (b && false) h (zero_arrays f.components) ≡ zero_arrays f.components
-    go true = refl
-    go false = refl
-
-get-none : (k : ℕ) (l : List (Option (List ℕ))) → l ≡ replicate 4 None → get_or l k None ≡ None
-get-none k l e = let none : Option (List ℕ) = None in ap (λ (x : List (Option (List ℕ))). get_or x k none) e
-    ∙ get-same none 4 k
-
-get-unmarked : (k : ℕ) (l : List (List Bool)) → l ≡ replicate 4 none_finished → get_or l k none_finished ≡ none_finished
-get-unmarked k l e = ap (λ (x : List (List Bool)). get_or x k none_finished) e ∙ get-same none_finished 4 k
+arrays-fresh w h fi pl f = search rules
 
 -- before the first scan
 pub framed-start : (w : Found) (f : Frame) (array : Coefficients) (h : Arrays) (fi : List (List Bool))
     (pl : List (Option (List ℕ))) → ((place row column : ℕ) → Is8Bit (array place row column))
     → fi ≡ replicate 4 none_finished → pl ≡ replicate 4 None → Framed w f array (λ k. nothing_sent) false h fi pl
 framed-start w f array h fi pl range e g = record {
-  marked = record {
-    fi_count = ap length e;
-    pl_count = ap length g;
-    marks = λ k c t. get-unmarked k fi e ∙ marks-start;
-    planes = λ k c t. record { decided = λ d. absurd (true≢false (sym d)); undecided = λ d. get-none k pl g };
-  };
+  marked = grind (arith, marks-start);
   sized = λ k. refl;
   held = λ d. subst (AllHeld f array (λ k. nothing_sent)) (sym (arrays-fresh w h fi pl f))
       (record {
@@ -137,27 +116,11 @@ framed-start w f array h fi pl range e g = record {
 -- ---- levels
 
 pub levels-length : (p : Pass) (l : Levels) → length l.acs ≡ 63 → length (sent_after p l).acs ≡ 63
-levels-length p l h =
-    let b = before_band p in
-    let s = band_size p in
-    let ls = l.acs in
-    let band = length-take s (drop b ls) in
-    let after = length-drop b ls in
-    let now = length-replicate (length (band_of p ls)) (Some p.al) in
-    let one = length-append (take b ls) (replicate (length (band_of p ls)) (Some p.al) ++ drop (b + s) ls) in
-    let two = length-append (replicate (length (band_of p ls)) (Some p.al)) (drop (b + s) ls) in
-    let front = length-take b ls in
-    let rest = length-drop (b + s) ls in
-    omega arith
+levels-length p l h = search (rules, length-take, length-drop, length-replicate, length-append)
 
 one-length : (p : Pass) (place k : ℕ) (levels : ℕ → Levels) → ((j : ℕ) → length (levels j).acs ≡ 63)
     → length (levels_of_one p place levels k).acs ≡ 63
-one-length p place k levels h = go (eqb k place) (levels k) (h k)
-  where
-    go : (b : Bool) (l : Levels) → length l.acs ≡ 63
-        → length (elim b as (λ _. Levels) [ true ↦ sent_after p l | false ↦ l ]).acs ≡ 63
-    go true l e = levels-length p l e
-    go false l e = e
+one-length p place k levels h = search (rules, levels-length)
 
 pub after-length : (p : Pass) (places : List ℕ) (levels : ℕ → Levels) → ((j : ℕ) → length (levels j).acs ≡ 63)
     → (k : ℕ) → length (levels_after p places levels k).acs ≡ 63
@@ -173,15 +136,7 @@ some-none a e = cc
 one-fresh : (p : Pass) (place k : ℕ) (levels : ℕ → Levels) → p ≡ whole_pass
     → ((j : ℕ) → (levels j).dc ≡ None → levels j ≡ nothing_sent)
     → (levels_of_one p place levels k).dc ≡ None → levels_of_one p place levels k ≡ nothing_sent
-one-fresh p place k levels e h n =
-    subst (λ (q : Pass). (levels_of_one q place levels k).dc ≡ None → levels_of_one q place levels k ≡ nothing_sent)
-    (sym e) (go (eqb k place) (levels k) (h k)) n
-  where
-    go : (b : Bool) (l : Levels) → (l.dc ≡ None → l ≡ nothing_sent)
-        → (elim b as (λ _. Levels) [ true ↦ sent_after whole_pass l | false ↦ l ]).dc ≡ None
-        → elim b as (λ _. Levels) [ true ↦ sent_after whole_pass l | false ↦ l ] ≡ nothing_sent
-    go true l g m = absurd (some-none 0 m)
-    go false l g m = g m
+one-fresh p place k levels e h n = search (rules, some-none)
 
 pub after-fresh : (p : Pass) (places : List ℕ) (levels : ℕ → Levels) → p ≡ whole_pass
     → ((j : ℕ) → (levels j).dc ≡ None → levels j ≡ nothing_sent)
@@ -193,10 +148,6 @@ after-fresh p (q ∷ places) levels e h k n =
 
 -- ---- passes
 
-either-true : (a b : Bool) → (a || b) ≡ true → (a ≡ true) ⊎ (b ≡ true)
-either-true true b e = inl refl
-either-true false b e = inr e
-
 pub pass-by : (s : Scan) → pass_of s ≡ record { is_first = eqb s.high 0; ss = s.first; se = s.after - 1; al = s.low }
 unfolding pass_of
 pass-by s = refl
@@ -204,19 +155,7 @@ pass-by s = refl
 pub progressive-pass : (count first last high low : ℕ) → is_progressive_band count first last high low ≡ true
     → (first ≡ 0 → last ≡ 0) × ((first ≡ 0) ⊎ (count ≡ 1))
 progressive-pass count first last high low e =
-    let a = and_parts (nat_le first last) _ e in
-    let b = and_parts (nat_le last 63) _ a.1 in
-    let c = and_parts (not (first == 0) || last == 0) _ b.1 in
-    let d = and_parts (first == 0 || count == 1) _ c.1 in
-    ((λ z. go z (either-true (not (first == 0)) (last == 0) c.0)), one (either-true (first == 0) (count == 1) d.0))
-  where
-    go : first ≡ 0 → (not (first == 0) ≡ true) ⊎ ((last == 0) ≡ true) → last ≡ 0
-    go z (inl n) = absurd (true≢false (sym (eq-eqb first 0 z) ∙ not-true (eqb first 0) n))
-    go z (inr y) = eqb-true last 0 y
-
-    one : ((first == 0) ≡ true) ⊎ ((count == 1) ≡ true) → (first ≡ 0) ⊎ (count ≡ 1)
-    one (inl y) = inl (eqb-true first 0 y)
-    one (inr y) = inr (eqb-true count 1 y)
+    search (rules, and_parts, nat_le, either-true, eq-eqb, not-true, eqb-true)
 
 pub band-so : (f : Frame) (s : Scan) → PassSo f s → IsBand (pass_of s)
 unfolding pass_of
@@ -237,10 +176,7 @@ some-first (x ∷ xs) h = (x, refl)
 all-good : (codings : List Coding) → AllByRecursion (λ c. IsTable c.dc × IsTable c.ac) codings
     → AllByRecursion HasGood codings
 all-good [] h = tt
-all-good (k ∷ codings) h = (
-  record { dc = good-table k.dc h.0.0.counted h.0.0.exists; ac = good-table k.ac h.0.1.counted h.0.1.exists },
-  all-good codings h.1,
-)
+all-good (k ∷ codings) h = search (rules, good-table, all-good codings h.1)
 
 sequential-arrays : (found : Found) (f : Frame) → is_progressive f.process ≡ false
     → arrays_before found f ≡ zero_arrays f.components
@@ -288,16 +224,8 @@ all-ready : (w : Found) (f : Frame) (p : Pass) (array : Coefficients) (levels : 
     → ((k : ℕ) → length (levels k).acs ≡ 63)
     → AllByRecursion (SlotReady f p array levels before) codings
 all-ready w f p array levels before [] shape holds facts legal sized = tt
-all-ready w f p array levels before (k ∷ codings) shape holds facts legal sized = (
-  record {
-    fits = shape.fits k.place k.component facts.0.at;
-    holds = holds k facts.0 legal.0;
-    legal = legal.0;
-    sized =
-        sized k.place;
-  },
-  all-ready w f p array levels before codings shape holds facts.1 legal.1 sized,
-)
+all-ready w f p array levels before (k ∷ codings) shape holds facts legal sized =
+    search (rules, all-ready w f p array levels before codings shape holds facts.1 legal.1 sized)
 
 -- what a scan was read as
 pub record Scanned (w : Found) (f : Frame) (array : Coefficients) (levels : ℕ → Levels) (sc : Bool) (h : Arrays)

@@ -1,23 +1,21 @@
 -- A legal scan takes the blocks at its levels to the blocks at the levels after it.
-use Rattle.std.proofs.Common.{◌≡◌, ℕ, zero, suc, ◌+◌, ◌*◌, ◌/◌, ◌^◌, ◌<◌, ◌≤◌, Bool, true, false, List, [], ◌∷◌, ◌++◌}
-use Rattle.std.proofs.Common.{map, take, drop, replicate, length, ℤ, pos, negsuc, neg_ℤ, ◌≤ℤ◌, unsigned_abs, Option}
-use Rattle.std.proofs.Common.{Some, None, refl, sym, ap, ap₂, ◌∙◌, subst, arith, eqb, pow_mono, w16, length-take}
-use Rattle.std.proofs.Common.{length-drop, drop-drop, take-append-drop}
+use Rattle.std.proofs.lemmas.Grind.{common_steps}
+use Rattle.std.proofs.Common.{rules, ◌≡◌, ℕ, zero, suc, ◌+◌, ◌/◌, ◌^◌, ◌≤◌, Bool, true, false, List, [], ◌∷◌, ◌++◌, map}
+use Rattle.std.proofs.Common.{take, drop, replicate, length, ℤ, pos, negsuc, neg_ℤ, ◌≤ℤ◌, unsigned_abs, Option, Some}
+use Rattle.std.proofs.Common.{None, refl, sym, ap, ap₂, ◌∙◌, arith, eqb, pow_mono, length-take, length-drop, drop-drop}
+use Rattle.std.proofs.Common.{take-append-drop}
 use Rattle.std.proofs.lemmas.List.{length-replicate}
-use lib.ListN.{length-map}
 use Rattle.std.proofs.Math.Nat.{div-le_self, div-mul-le_self, add-mul, one-mul}
 use lib.Pow.{shr-shr}
-use lib.Signed.{mag}
 use Rattle.std.proofs.lemmas.Int.{ints, int_wrap_fits}
 use Rattle.std.proofs.lemmas.Bool.{eqb-true}
 use Rattle.std.specs.List.{AllByRecursion}
 use Rattle.jpeg_bits.specs.Bands.{wrapped}
-use Rattle.jpeg_bits.specs.Passes.{Pass, Block, or_bit, band_of, with_band, before_band, band_size}
-use Rattle.jpeg_streams.specs.Levels.{floor_at, toward_zero, numbers_at, Levels, cut_dc, cut_ac, cut_acs, cut}
-use Rattle.jpeg_streams.specs.Levels.{IsLegal, sent_after, Is8Bit}
-use Rattle.jpeg_streams.specs.WrittenData.{no_numbers, low_bit}
-use Rattle.jpeg_streams.proofs.SentBlocks.{halved}
-use Rattle.jpeg_streams.proofs.SentBlocks.{scaled, held, InRange, InDcRange, Suits, after_pass, dc_held, floor_half}
+use Rattle.jpeg_bits.specs.Passes.{Pass, Block, band_of, with_band, before_band, band_size}
+use Rattle.jpeg_streams.specs.Levels.{floor_at, toward_zero, numbers_at, Levels, cut_ac, cut_acs, cut, IsLegal}
+use Rattle.jpeg_streams.specs.Levels.{sent_after, Is8Bit}
+use Rattle.jpeg_streams.specs.WrittenData.{no_numbers}
+use Rattle.jpeg_streams.proofs.SentBlocks.{halved, scaled, held, InRange, InDcRange, Suits, after_pass, floor_half}
 use Rattle.jpeg_streams.proofs.WrittenBands.{abs-scaled, mag-le}
 use Rattle.jpeg_streams.proofs.WrittenBlocks.{dc-refined}
 
@@ -40,43 +38,19 @@ half-floor al (negsuc n) = ap negsuc (half-shift n al)
 
 pub abs-toward : (al : ℕ) (x : ℤ) → unsigned_abs (toward_zero al x) ≡ unsigned_abs x / 2 ^ al
 abs-toward al (pos n) = refl
-abs-toward al (negsuc n) = abs-neg (suc n / 2 ^ al)
-  where
-    abs-neg : (k : ℕ) → unsigned_abs (neg_ℤ (pos k)) ≡ k
-    abs-neg zero = refl
-    abs-neg (suc k) = refl
+abs-toward al (negsuc n) = search (rules, unsigned_abs, neg_ℤ)
 
 pub toward-range : (al : ℕ) (x : ℤ) → unsigned_abs x ≤ 1023 → InRange al (toward_zero al x)
-toward-range al x h =
-    record {
-      within = omega
-          (arith, ap (λ (y : ℕ). y * 2 ^ al) (abs-toward al x), div-mul-le_self (unsigned_abs x) (2 ^ al));
-    }
+toward-range al x h = search (rules, abs-toward, div-mul-le_self, unsigned_abs)
 
 pub floor-range : (al : ℕ) (x : ℤ) → negsuc 1023 ≤ℤ x → x ≤ℤ pos 1023 → InDcRange (floor_at al x)
-floor-range al (pos n) h k = let d = div-le_self n (2 ^ al) in
-    record { low = omega (arith, ints); high = omega (arith, ints) }
-floor-range al (negsuc n) h k = let d = div-le_self n (2 ^ al) in
-    record { low = omega (arith, ints); high = omega (arith, ints) }
+floor-range al (pos n) h k = search (rules, div-le_self, ints)
+floor-range al (negsuc n) h k = search (rules, div-le_self, ints)
 
 pub floor-fits : (al : ℕ) (x : ℤ) → al ≤ 7 → negsuc 1023 ≤ℤ x → x ≤ℤ pos 1023
     → wrapped (scaled al (floor_at al x)) ≡ scaled al (floor_at al x)
-floor-fits al x low h k = int_wrap_fits w16 (scaled al (floor_at al x)) (record { sfits = small x h k })
-  where
-    power : 2 ^ al ≤ 2 ^ 7
-    power = pow_mono low
-
-    small : (x : ℤ) → negsuc 1023 ≤ℤ x → x ≤ℤ pos 1023 → mag (scaled al (floor_at al x)) < 2 ^ 15
-    small (pos n) h k = let d = div-mul-le_self n (2 ^ al) in omega (arith, ints)
-    small (negsuc n) h k =
-        let d = div-mul-le_self n (2 ^ al) in
-        let m = mag-le (scaled al (floor_at al (negsuc n))) in
-        let a = abs-scaled al (floor_at al (negsuc n)) in
-        let b = add-mul 1 (n / 2 ^ al) (2 ^ al) in
-        let e : suc (n / 2 ^ al) * 2 ^ al ≡ (1 + n / 2 ^ al) * 2 ^ al = ap (λ (y : ℕ). y * 2 ^ al) (omega arith) in
-        let o = one-mul (2 ^ al) in
-        let w : 2 ^ al ≤ 2 ^ 7 = power in
-        omega (arith, ints)
+floor-fits al x low h k =
+    search (rules, int_wrap_fits, scaled, pow_mono, div-mul-le_self, ints, mag-le, abs-scaled, add-mul, one-mul)
 
 -- ---- lists
 
@@ -112,16 +86,14 @@ pub cut-unsent : (cs : List ℤ) (ls : List (Option ℕ)) → length cs ≡ leng
 unfolding cut_acs
 cut-unsent [] ls h all = refl
 cut-unsent (c ∷ cs) [] h all = absurd (omega arith)
-cut-unsent (c ∷ cs) (l ∷ ls) h all =
-    ap₂ (λ (x : ℤ) (xs : List ℤ). x ∷ xs) (ap (cut_ac c) all.0) (cut-unsent cs ls (omega arith) all.1)
+cut-unsent (c ∷ cs) (l ∷ ls) h all = search (rules, cut-unsent cs ls (omega arith) all.1)
 
 pub cut-sent : (a : ℕ) (cs : List ℤ) (ls : List (Option ℕ)) → length cs ≡ length ls
     → AllByRecursion (λ x. x ≡ Some a) ls → cut_acs cs ls ≡ map (λ c. scaled a (toward_zero a c)) cs
 unfolding cut_acs
 cut-sent a [] ls h all = refl
 cut-sent a (c ∷ cs) [] h all = absurd (omega arith)
-cut-sent a (c ∷ cs) (l ∷ ls) h all =
-    ap₂ (λ (x : ℤ) (xs : List ℤ). x ∷ xs) (ap (cut_ac c) all.0) (cut-sent a cs ls (omega arith) all.1)
+cut-sent a (c ∷ cs) (l ∷ ls) h all = search (rules, cut-sent a cs ls (omega arith) all.1)
 
 pub map-take : (f : ℤ → ℤ) (n : ℕ) (xs : List ℤ) → take n (map f xs) ≡ map f (take n xs)
 map-take f zero xs = refl
@@ -135,12 +107,10 @@ map-drop f (suc n) (x ∷ xs) = map-drop f n xs
 
 pub band-cut : (p : Pass) (cs : List ℤ) (ls : List (Option ℕ))
     → band_of p (cut_acs cs ls) ≡ cut_acs (band_of p cs) (band_of p ls)
-band-cut p cs ls = ap (take (band_size p)) (cut-drop (before_band p) cs ls)
-    ∙ cut-take (band_size p) (drop (before_band p) cs) (drop (before_band p) ls)
+band-cut p cs ls = search (rules, cut-drop, cut-take)
 
 pub band-map : (p : Pass) (f : ℤ → ℤ) (cs : List ℤ) → band_of p (map f cs) ≡ map f (band_of p cs)
-band-map p f cs = ap (take (band_size p)) (map-drop f (before_band p) cs)
-    ∙ map-take f (band_size p) (drop (before_band p) cs)
+band-map p f cs = rw (map-drop f (before_band p) cs, map-take f (band_size p) (drop (before_band p) cs)) refl
 
 pub map-map : (f g h : ℤ → ℤ) → ((x : ℤ) → g (f x) ≡ h x) → (xs : List ℤ) → map g (map f xs) ≡ map h xs
 map-map f g h e [] = refl
@@ -156,14 +126,12 @@ same-drop n cs ls h = omega (arith, length-drop n cs, length-drop n ls)
 
 pub same-band : (p : Pass) (cs : List ℤ) (ls : List (Option ℕ)) → length cs ≡ length ls
     → length (band_of p cs) ≡ length (band_of p ls)
-same-band p cs ls h =
-    same-take (band_size p) (drop (before_band p) cs) (drop (before_band p) ls) (same-drop (before_band p) cs ls h)
+same-band p cs ls h = search (rules, same-take, same-drop)
 
 -- a list is what stands before a band, the band, and what stands after it
 pub around-band : (p : Pass) (cs : List ℤ) → with_band p cs (band_of p cs) ≡ cs
 around-band p cs =
-    ap (λ (l : List ℤ). take (before_band p) cs ++ (band_of p cs ++ l))
-    (sym (drop-drop (band_size p) (before_band p) cs))
+    (search (rules, drop-drop))
     ∙ ap (λ (l : List ℤ). take (before_band p) cs ++ l) (take-append-drop (band_size p) (drop (before_band p) cs))
     ∙ take-append-drop (before_band p) cs
 
@@ -192,18 +160,12 @@ all-same a (suc n) = (refl, all-same a n)
 pub suits-cut : (p : Pass) (l : Levels) (c : Block) → Is8Bit c → length c.acs ≡ length l.acs → IsLegal p l
     → Suits p (cut l c) (numbers_at p.al c)
 suits-cut p l c range same legal = record {
-  unsent = λ f. band-cut p c.acs l.acs
-      ∙ cut-unsent (band_of p c.acs) (band_of p l.acs) (same-band p c.acs l.acs same) (legal.acs_unsent f)
-      ∙ ap no_numbers (sym (ap length (band-map p (toward_zero p.al) c.acs)
-      ∙ length-map (band_of p c.acs) (toward_zero p.al)));
+  unsent = grind (arith, common_steps, band-cut, cut-unsent, same-band, band-map);
   sent = λ f. band-cut p c.acs l.acs
       ∙ cut-sent (suc p.al) (band_of p c.acs) (band_of p l.acs) (same-band p c.acs l.acs same) (legal.acs_sent f)
-      ∙ sym (map-map (toward_zero p.al) (held p.al) (λ x. scaled (suc p.al) (toward_zero (suc p.al) x))
-      (λ x. ap (scaled (suc p.al)) (halved-toward p.al x)) (band_of p c.acs))
+      ∙ sym (search (rules, map-map, scaled, halved-toward))
       ∙ ap (map (held p.al)) (sym (band-map p (toward_zero p.al) c.acs));
-  range = subst (AllByRecursion (InRange p.al)) (sym (band-map p (toward_zero p.al) c.acs))
-      (all-map (InRange p.al) (toward_zero p.al) (λ x. unsigned_abs x ≤ 1023) (toward-range p.al) (band_of p c.acs)
-      (all-take _ (band_size p) (drop (before_band p) c.acs) (all-drop _ (before_band p) c.acs range.acs)));
+  range = search (rules, band-map, all-map, unsigned_abs, toward-range, all-take, all-drop);
   dc_range = floor-range p.al c.dc range.dc_low range.dc_high;
   dc_fits = floor-fits p.al c.dc legal.low range.dc_low range.dc_high;
 }
@@ -238,15 +200,10 @@ dc-then p l c legal = go (eqb p.ss 0) refl p.is_first refl
         → (after_pass p (cut l c) (numbers_at p.al c)).dc ≡ (cut (sent_after p l) c).dc
     go true e true f = rw (e, f, after_pass) (rw (e, sent_after) refl)
     go true e false f =
-        let before : cut_dc c.dc l.dc ≡ dc_held p.al (floor_at p.al c.dc)
-        = ap (cut_dc c.dc) (legal.dc_sent (eqb-true p.ss 0 e) f)
-        ∙ ap (scaled (suc p.al)) (sym (half-floor p.al c.dc)) in
-        rw (e, f, after_pass) (rw (e, sent_after)
-        (ap (λ (x : ℤ). or_bit p.al x (low_bit (floor_at p.al c.dc))) before ∙ dc-refined p.al (floor_at p.al c.dc)))
+        grind (arith, eqb-true p.ss 0 e, scaled (suc p.al), half-floor p.al c.dc, dc-refined p.al (floor_at p.al c.dc))
     go false e f g = rw (e, after_pass) (rw (e, sent_after) refl)
 
 -- A legal scan takes the block at its levels to the block at the levels after it.
 pub cut-after : (p : Pass) (l : Levels) (c : Block) → length c.acs ≡ length l.acs → IsLegal p l
     → after_pass p (cut l c) (numbers_at p.al c) ≡ cut (sent_after p l) c
-cut-after p l c same legal =
-    ap₂ (λ (d : ℤ) (a : List ℤ). record { dc = d; acs = a }) (dc-then p l c legal) (acs-after p l c same)
+cut-after p l c same legal = rw (dc-then p l c legal, acs-after p l c same) refl

@@ -1,9 +1,7 @@
 -- Every block of 8-bit samples can be written, by tables in which each symbol has a code of 8 bits.
-use Rattle.std.proofs.Common.{◌≡◌, ◌≢◌, ◌⊎◌, inl, inr, ℕ, zero, suc, ◌+◌, ◌-◌, ◌*◌, ◌/◌, ◌%◌, ◌^◌, ◌<◌, ◌≤◌, ◌==◌}
-use Rattle.std.proofs.Common.{Bool, true, false, cond}
-use Rattle.std.proofs.Common.{List, [], ◌∷◌, ◌++◌, replicate, length, get_or, set, ℤ, pos, negsuc, ◌-ℤ◌}
-use Rattle.std.proofs.Common.{◌≤ℤ◌, unsigned_abs}
-use Rattle.std.proofs.Common.{refl, sym, ap, ap₂, ◌∙◌, subst, append_assoc, arith}
+use Rattle.std.proofs.Common.{rules, false, replicate, length, get_or, negsuc, unsigned_abs, subst, append_assoc, arith}
+use Rattle.std.proofs.Common.{◌≡◌, ◌≢◌, ◌⊎◌, inl, inr, zero, suc, ◌==◌, Bool, true, cond, List, ◌++◌, ◌-ℤ◌, ◌≤ℤ◌, refl}
+use Rattle.std.proofs.Common.{ℕ, ◌+◌, ◌-◌, ◌*◌, ◌/◌, ◌%◌, ◌^◌, ◌<◌, ◌≤◌, [], ◌∷◌, set, ℤ, pos, sym, ap, ap₂, ◌∙◌}
 use Rattle.std.proofs.Math.Nat.{pow-le-pow_right}
 use Rattle.std.proofs.lemmas.Bool.{cases_lt, eq-eqb, ne_eqb}
 use Rattle.std.proofs.lemmas.Int.{ints}
@@ -17,13 +15,13 @@ use Rattle.jpeg_bits.specs.Written.{code_bits, low_bits, bits_of_bytes, stuffed,
 use Rattle.jpeg_bits.specs.declared.codes.HuffmanTableClass.{HuffmanTableClass}
 use Rattle.jpeg_bits.specs.declared.codes.HuffmanTableClass.TheVariants as classes
 use Rattle.jpeg_streams.specs.Levels.{Is8Bit}
-use Rattle.jpeg_streams.specs.WrittenData.{no_numbers}
-use Rattle.jpeg_streams.specs.WrittenData.{WritesAc, WritesBand, WritesBlocks}
-use Rattle.jpeg_streams.specs.WrittenData.{WritesDc, WritesDifference, WritesInterval}
+use Rattle.jpeg_streams.specs.WrittenData.{no_numbers, WritesAc, WritesBand, WritesBlocks, WritesDc, WritesDifference}
+use Rattle.jpeg_streams.specs.WrittenData.{WritesInterval}
 use Rattle.jpeg_streams.specs.WrittenData.WritesAc.{first, no_band}
 use Rattle.jpeg_streams.specs.WrittenData.WritesBand.{ended, full, sixteen, value}
 use Rattle.jpeg_streams.specs.WrittenData.WritesBlocks.{block, done}
 use Rattle.jpeg_streams.specs.WrittenData.WritesDc.{other_band, whole}
+use Rattle.jpeg_bits.proofs.Held.{bit_le as at-most-one}
 
 -- ---- tables
 
@@ -40,30 +38,14 @@ lengths-are = refl
 
 flat-coded : (class : HuffmanTableClass) (symbol : ℕ) → symbol < 255
     → IsCoded (flat_table class) symbol (code_bits (flat_table class) symbol)
-flat-coded class symbol h = record {
-  place = symbol;
-  listed = subst (λ (n : ℕ). symbol < n) (sym lengths-are) h;
-  is_for = let e : 0 + symbol ≡ symbol = omega arith in get_or-range_with_len 0 255 symbol 0 h ∙ e;
-  has_bits = refl;
-}
+flat-coded class symbol h = grind (arith, lengths-are, get_or-range_with_len 0 255 symbol 0 h)
 
 -- ---- categories
 
 -- a value below 2 ^ b has a category of at most b
 pub category-at_most : (d : ℤ) (b : ℕ) → unsigned_abs d < 2 ^ b → (s : ℕ) × (s ≤ b) × IsCategory d s
 category-at_most d zero h = (0, omega arith, record { holds = h; is_least = λ t k. omega arith })
-category-at_most d (suc b) h = go (category-at_most d b) (cases_lt (unsigned_abs d) (2 ^ b))
-  where
-    least : 2 ^ b ≤ unsigned_abs d → (t : ℕ) → unsigned_abs d < 2 ^ t → (t < suc b) ⊎ (suc b ≤ t) → suc b ≤ t
-    least le t k (inl less) =
-        absurd (let p : 2 ^ t ≤ 2 ^ b = pow-le-pow_right (omega arith) (omega arith) in omega arith)
-    least le t k (inr more) = more
-
-    go : (unsigned_abs d < 2 ^ b → (s : ℕ) × (s ≤ b) × IsCategory d s)
-        → (unsigned_abs d < 2 ^ b) ⊎ (2 ^ b ≤ unsigned_abs d) → (s : ℕ) × (s ≤ suc b) × IsCategory d s
-    go shorter (inl less) = let c = shorter less in (c.0, omega arith, c.2)
-    go shorter (inr more) =
-        (suc b, omega arith, record { holds = h; is_least = λ t k. least more t k (cases_lt t (suc b)) })
+category-at_most d (suc b) h = search (rules, cases_lt, unsigned_abs, pow-le-pow_right, category-at_most d b)
 
 difference-written : (class : HuffmanTableClass) (d : ℤ) → unsigned_abs d < 2 ^ 11
     → (bits : List Bool) × WritesDifference (flat_table class) d bits
@@ -113,8 +95,7 @@ zeros-step z u more ne small w (inr far) next = sixteen-first z (u ∷ more) far
 -- zeros and a value
 zeros-written : (n z : ℕ) (u : ℤ) (more : List ℤ) → z ≤ n → u ≢ pos 0 → Small u → Written more
     → Written (no_numbers z ++ u ∷ more)
-zeros-written zero z u more le ne small w =
-    zeros-step z u more ne small w (cases_lt z 16) (λ far. absurd (omega arith))
+zeros-written zero z u more le ne small w = search (rules, zeros-step, cases_lt)
 zeros-written (suc n) z u more le ne small w =
     zeros-step z u more ne small w (cases_lt z 16) (λ far. zeros-written n (z - 16) u more (omega arith) ne small w)
 
@@ -224,8 +205,7 @@ dc-bits p table u prediction s f e range ranged =
 ac-bits : (p : Pass) (table : Table) (us : List ℤ) → p.is_first ≡ true → table ≡ flat_table classes.AC
     → AllByRecursion Small us
     → (b : List Bool) × WritesAc p table us 0 b 0
-ac-bits p table us f e small =
-    let w = ac-written p us f small in (w.0, subst (λ (x : Table). WritesAc p x us 0 w.0 0) (sym e) w.1)
+ac-bits p table us f e small = grind (arith, ac-written p us f small)
 
 pub each-whole : Each whole_pass IsFlat
 each-whole t good prediction ranged =
@@ -233,14 +213,7 @@ each-whole t good prediction ranged =
     let d = dc-bits whole_pass t.0.dc u prediction refl refl good.dc good.range ranged in
     let band : band_of whole_pass u.acs ≡ u.acs = let n = good.range.count in take_all 63 u.acs (omega arith) in
     let a = ac-bits whole_pass t.0.ac u.acs refl good.ac good.range.acs in
-    record {
-      dc = d.0;
-      ac = a.0;
-      next = u.dc;
-      ranged = block-range u good.range;
-      writes_dc = d.1;
-      writes_ac = subst (λ (l : List ℤ). WritesAc whole_pass t.0.ac l 0 a.0 0) (sym band) a.1;
-    }
+    grind (arith, block-range u good.range)
 
 pub each-dc : Each dc_pass HasFlatDc
 each-dc t good prediction ranged =
@@ -260,7 +233,7 @@ each-ac t good prediction ranged =
       ranged = ranged;
       writes_dc =
           other_band u.dc prediction (λ e. absurd (omega arith));
-      writes_ac = subst (λ (l : List ℤ). WritesAc ac_pass t.0.ac l 0 a.0 0) (sym band) a.1;
+      writes_ac = search rules;
     }
 
 start-ranged : AllRanged (replicate 4 (pos 0))
@@ -275,10 +248,6 @@ start-ranged (suc (suc (suc (suc i)))) = (record { le = tt }, record { le = tt }
 digit : (a : Bool) (n : ℕ) → n ≡ cond a 1 0 → (n == 1) ≡ a
 digit true n e = eq-eqb n 1 e
 digit false n e = ne_eqb n 1 (λ h. absurd (omega arith))
-
-at-most-one : (a : Bool) → cond a 1 0 ≤ 1
-at-most-one true = omega arith
-at-most-one false = omega arith
 
 byte-for : (a b c d e f g h : Bool)
     → (byte : ℕ) × (bits_of byte ≡ a ∷ b ∷ c ∷ d ∷ e ∷ f ∷ g ∷ h ∷ []) × (byte < 256)
@@ -299,19 +268,17 @@ byte-for a b c d e f g h =
     let lf = at-most-one f in
     let lg = at-most-one g in
     let lh = at-most-one h in
-    let n = 128 * va + 64 * vb + 32 * vc + 16 * vd + 8 * ve + 4 * vf + 2 * vg + vh in (
-      n,
-      rw (
-        digit a (n / 128 % 2) (omega arith),
-        digit b (n / 64 % 2) (omega arith),
-        digit c (n / 32 % 2) (omega arith),
-        digit d (n / 16 % 2) (omega arith),
-        digit e (n / 8 % 2) (omega arith),
-        digit f (n / 4 % 2) (omega arith),
-        digit g (n / 2 % 2) (omega arith),
-        digit h (n % 2) (omega arith),
-      ) refl,
-      omega arith,
+    let n = 128 * va + 64 * vb + 32 * vc + 16 * vd + 8 * ve + 4 * vf + 2 * vg + vh in
+    grind (
+      arith,
+      digit a (n / 128 % 2) (omega arith),
+      digit b (n / 64 % 2) (omega arith),
+      digit c (n / 32 % 2) (omega arith),
+      digit d (n / 16 % 2) (omega arith),
+      digit e (n / 8 % 2) (omega arith),
+      digit f (n / 4 % 2) (omega arith),
+      digit g (n / 2 % 2) (omega arith),
+      digit h (n % 2) (omega arith),
     )
 
 -- bits are filled up to whole bytes
@@ -352,7 +319,7 @@ packed (a ∷ b ∷ c ∷ d ∷ e ∷ f ∷ []) =
     last-byte (a ∷ b ∷ c ∷ d ∷ e ∷ f ∷ []) (replicate 2 false) x.0 (omega arith) x.1 x.2
 packed (a ∷ b ∷ c ∷ d ∷ e ∷ f ∷ g ∷ []) =
     let x = byte-for a b c d e f g false in
-    last-byte (a ∷ b ∷ c ∷ d ∷ e ∷ f ∷ g ∷ []) (replicate 1 false) x.0 (omega arith) x.1 x.2
+    search (rules, last-byte)
 packed (a ∷ b ∷ c ∷ d ∷ e ∷ f ∷ g ∷ h ∷ more) =
     let x = byte-for a b c d e f g h in
     let r = packed more in

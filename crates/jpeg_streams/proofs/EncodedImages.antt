@@ -1,11 +1,10 @@
 -- Every image has a stream: for each component a scan, or in a progressive frame a scan of DC and one of AC.
-use Rattle.std.proofs.Common.{◌≡◌, ◌≢◌, ◌⊎◌, inl, inr, ℕ, zero, suc, ◌+◌, ◌/◌, ◌%◌, ◌<◌, ◌≤◌, ◌==◌, ◌||◌}
-use Rattle.std.proofs.Common.{nat_lt, not, Bool, true, false, cond}
-use Rattle.std.proofs.Common.{List, [], ◌∷◌, ◌++◌, map, length, drop, replicate, flat_map, ℤ}
-use Rattle.std.proofs.Common.{Some, None}
-use Rattle.std.proofs.Common.{refl, sym, ap, ap₂, ◌∙◌, subst, append_assoc, length-append, arith, true≢false}
-use Rattle.std.proofs.Common.{leb-true}
-use Rattle.std.proofs.lemmas.Bool.{cases_lt, eq-eqb, ne_eqb, lt-ltb}
+use Rattle.std.proofs.Common.{rules, ◌≡◌, ◌≢◌, ◌⊎◌, inl, inr, ℕ, zero, suc, ◌+◌, ◌/◌, ◌%◌, ◌<◌, ◌≤◌, ◌==◌, ◌||◌, nat_lt}
+use Rattle.std.proofs.Common.{not, Bool, true, false, List, [], ◌∷◌, ◌++◌, map, length, drop, replicate, flat_map, ℤ}
+use Rattle.std.proofs.Common.{Some, None, refl, sym, ap, ap₂, ◌∙◌, subst, append_assoc, length-append, arith}
+use Rattle.std.proofs.Common.{true≢false, leb-true}
+use Rattle.std.proofs.lemmas.Grind.{common_steps}
+use Rattle.std.proofs.lemmas.Bool.{cases_lt, eq-eqb, ne_eqb, lt-ltb, or_parts as or-false}
 use Rattle.std.proofs.lemmas.List.{append-nil}
 use lib.ListN.{length-map}
 use Rattle.std.specs.List.{AllByRecursion, prefix_len, range_with_len}
@@ -18,12 +17,10 @@ use Rattle.jpeg_bits.specs.Codes.{Table, codes_exist, code_value, lengths_from}
 use Rattle.jpeg_segments.specs.HuffmanTables.{PlacedTable, Tables}
 use Rattle.jpeg_segments.specs.ScanHeader.{is_band, place_of, Scan, scan_of}
 use Rattle.jpeg_segments.specs.ScanHeaders.{AreChoices, IsScan, scan_payload, scan_written, ScanHeader}
-use Rattle.jpeg_segments.specs.WrittenSegments.{IsComponent, AreComponents, frame_written, FrameHeader, Header}
-use Rattle.jpeg_segments.specs.WrittenSegments.{Huffman, IsFrame}
-use Rattle.jpeg_segments.specs.WrittenSegments.{payload_of, Quantization, QuantizationTable}
-use Rattle.jpeg_segments.specs.WrittenSegments.{sized}
+use Rattle.jpeg_segments.specs.WrittenSegments.{IsComponent, AreComponents, frame_written, FrameHeader, Header, Huffman}
+use Rattle.jpeg_segments.specs.WrittenSegments.{IsFrame, payload_of, Quantization, QuantizationTable, sized}
 use Rattle.jpeg_streams.specs.declared.grids.Grid.{Grid}
-use Rattle.jpeg_streams.specs.Levels.{Is8Bit, IsLegal, Levels, sent_after, nothing_sent, numbers_at}
+use Rattle.jpeg_streams.specs.Levels.{Is8Bit, Levels, sent_after, nothing_sent, numbers_at}
 use Rattle.jpeg_streams.specs.Order.{grid_of, mcu_size, own_spots, Spot, spots_of}
 use Rattle.jpeg_streams.specs.SaidSegments.{found_after, HasPicture}
 use Rattle.jpeg_streams.specs.Scans.{no_table, via_at}
@@ -35,17 +32,15 @@ use Rattle.jpeg_streams.specs.WorkedImages.{IsWhollyWritten}
 use Rattle.jpeg_bits.specs.Written.{marker}
 use Rattle.jpeg_streams.specs.WrittenData.WritesIntervals.{last as last_interval}
 use Rattle.jpeg_streams.specs.WrittenImages.{closed, scan, segment, Writes}
-use Rattle.jpeg_streams.specs.WrittenScans.{InForce, AreCodings, block_for, Coefficients, grid_at}
-use Rattle.jpeg_streams.specs.WrittenScans.{HasTable}
-use Rattle.jpeg_streams.specs.WrittenScans.{IsComplete, IsLegalScan}
-use Rattle.jpeg_streams.specs.WrittenScans.{levels_after, place_at, WritesScan, written_turns}
+use Rattle.jpeg_streams.specs.WrittenScans.{InForce, AreCodings, block_for, Coefficients, grid_at, HasTable, IsComplete}
+use Rattle.jpeg_streams.specs.WrittenScans.{IsLegalScan, levels_after, place_at, WritesScan, written_turns}
 use Rattle.jpeg_streams.specs.WrittenScans.AreCodings.{and_more, no_more}
 use Rattle.jpeg_streams.proofs.CutLevels.{all-same}
-use Rattle.jpeg_streams.proofs.TestedParts.{legal-by, one-quantizes, table-by, table_of_one}
-use Rattle.jpeg_streams.proofs.EncodedBlocks.{ac_pass, dc_pass, Each, each-ac, each-dc, each-whole}
-use Rattle.jpeg_streams.proofs.EncodedBlocks.{flat_table, HasFlatAc}
-use Rattle.jpeg_streams.proofs.EncodedBlocks.{HasFlatDc, interval-written, IsFlat}
+use Rattle.jpeg_streams.proofs.TestedParts.{one-quantizes, table-by, table_of_one}
+use Rattle.jpeg_streams.proofs.EncodedBlocks.{ac_pass, dc_pass, Each, each-ac, each-dc, each-whole, flat_table}
+use Rattle.jpeg_streams.proofs.EncodedBlocks.{HasFlatAc, HasFlatDc, interval-written, IsFlat}
 use Rattle.jpeg_streams.proofs.WholeImages.{floor-whole, toward-whole}
+use Rattle.jpeg_streams.proofs.OwnSpots.{all-append}
 
 -- ---- what is written
 
@@ -161,11 +156,6 @@ each-map : {A B : Type 0} (P : B → Type 0) (f : A → B) (xs : List A) → ((x
 each-map P f [] h = tt
 each-map P f (x ∷ xs) h = (h x, each-map P f xs h)
 
-all-append : {A : Type 0} (P : A → Type 0) (xs ys : List A) → AllByRecursion P xs → AllByRecursion P ys
-    → AllByRecursion P (xs ++ ys)
-all-append P [] ys h k = k
-all-append P (x ∷ xs) ys h k = (h.0, all-append P xs ys h.1 k)
-
 each-flat : {A B : Type 0} (P : B → Type 0) (f : A → List B) (xs : List A) → ((x : A) → AllByRecursion P (f x))
     → AllByRecursion P (flat_map f xs)
 each-flat P f [] h = tt
@@ -173,16 +163,14 @@ each-flat P f (x ∷ xs) h = all-append P (f x) (flat_map f xs) (h x) (each-flat
 
 own-slots : (g : Grid) → AllByRecursion (λ s. s.slot ≡ 0) (own_spots g)
 unfolding own_spots
-own-slots g = each-flat (λ s. s.slot ≡ 0) _ (range_with_len 0 g.own_high)
-    (λ row. each-map (λ s. s.slot ≡ 0) _ (range_with_len 0 g.own_wide) (λ column. refl))
+own-slots g = search (rules, each-flat, each-map)
 
 map-whole : (f : ℤ → ℤ) (us : List ℤ) → ((u : ℤ) → f u ≡ u) → map f us ≡ us
 map-whole f [] h = refl
 map-whole f (u ∷ us) h = ap₂ (λ (x : ℤ) (xs : List ℤ). x ∷ xs) (h u) (map-whole f us h)
 
 numbers-whole : (b : Block) → numbers_at 0 b ≡ b
-numbers-whole b = ap₂ (λ (x : ℤ) (xs : List ℤ). record { dc = x; acs = xs }) (floor-whole b.dc)
-    (map-whole _ b.acs toward-whole)
+numbers-whole b = search (rules, floor-whole, map-whole, toward-whole)
 
 flat-spot : (kind : Kind) (h : FrameHeader) (place : ℕ) (c : Factors) (b : Block) → Is8Bit b
     → Good kind (record { component = 0; dc = dc_for kind; ac = ac_for kind }, numbers_at (pass_for kind).al b)
@@ -193,10 +181,7 @@ flat-spot OfAc h place c b range = record { ac = refl; range = subst Is8Bit (sym
 spot-flat : (kind : Kind) (h : FrameHeader) (place : ℕ) (c : Factors) (b : Block) (slot : ℕ) → Is8Bit b → slot ≡ 0
     → Good kind (via_at (vias_from 0 (coding kind h place c ∷ [])) slot, numbers_at (pass_for kind).al b)
 unfolding vias_from
-spot-flat kind h place c b slot range e =
-    subst (λ (n : ℕ). Good kind
-    (via_at (vias_from 0 (coding kind h place c ∷ [])) n, numbers_at (pass_for kind).al b)) (sym e)
-    (flat-spot kind h place c b range)
+spot-flat kind h place c b slot range e = search (rules, flat-spot)
 
 data-written : (kind : Kind) (f : Frame) (h : FrameHeader) (place : ℕ) (c : Factors) (array : Coefficients)
     → ((k row column : ℕ) → Is8Bit (array k row column))
@@ -217,10 +202,6 @@ data-written kind f h place c array range =
 
 -- ---- components by their identifiers
 
-or-false : (a b : Bool) → (a || b) ≡ false → (a ≡ false) × (b ≡ false)
-or-false true b e = absurd (true≢false e)
-or-false false b e = (refl, e)
-
 abbrev is_not : ℕ → Component → Bool
 is_not identifier c = not (c.factors.identifier == identifier)
 
@@ -234,13 +215,7 @@ before-it h (x ∷ front) more c e =
 
 place-is : (h : FrameHeader) (front more : List Factors) (c : Factors) → is_taken front c.identifier ≡ false
     → place_of (map (component_in h) (front ++ c ∷ more)) c.identifier ≡ Some (length front)
-place-is h front more c e =
-    let cs = map (component_in h) (front ++ c ∷ more) in
-    let at = before-it h front more c e in
-    let size : length cs ≡ length front + suc (length more) = length-map (front ++ c ∷ more) (component_in h)
-    ∙ length-append front (c ∷ more) in
-    let less : nat_lt (prefix_len (is_not c.identifier) cs) (length cs) ≡ true = lt-ltb _ _ (omega arith) in
-    ap (λ (b : Bool). cond b (Some (prefix_len (is_not c.identifier) cs)) None) less ∙ ap (λ (n : ℕ). Some n) at
+place-is h front more c e = grind (arith, common_steps, before-it, length-append, lt-ltb)
 
 pub first-is : (h : FrameHeader) (front more : List Factors) (c : Factors)
     → first_of (drop (length front) (map (component_in h) (front ++ c ∷ more))) ≡ Some (component_in h c)
@@ -350,17 +325,11 @@ codings-are kind number h front more c e le =
     and_more (length front) 0 0 [] [] [] (coding kind h (length front) c) []
     (record {
       stands = refl;
-      component = ap (λ (cs : List Factors). first_of (drop (length front) (map (component_in h) cs))) e
-          ∙ first-is h front more c;
+      component = grind (arith, common_steps, first-is);
       quantization = table-at number h c.quantization le;
       dc = dc-force kind kind number h (length front) c;
       ac = ac-force kind kind number h (length front) c;
     }) no_more
-
-kind-legal : (kind : Kind) → IsLegal (pass_for kind) (before kind)
-kind-legal Whole = legal-by whole_pass nothing_sent refl
-kind-legal OfDc = legal-by dc_pass nothing_sent refl
-kind-legal OfAc = legal-by ac_pass (before OfAc) refl
 
 scan-legal : (kind : Kind) (number : ℕ) (h : FrameHeader) (front more : List Factors) (c : Factors)
     (levels : ℕ → Levels) → Fits kind number
@@ -368,18 +337,8 @@ scan-legal : (kind : Kind) (number : ℕ) (h : FrameHeader) (front more : List F
     → IsLegalScan (said number h) (frame_written number h) levels (scan_for kind number h (length front) c)
     (coding kind h (length front) c ∷ [])
 unfolding scan_of
-scan-legal kind number h front more c levels fits e low was = record {
-  are_in_force = subst
-      (λ (p : Pass). AreCodings (said number h) (frame_written number h) p (tables_now kind number h (length front) c)
-      (length front ∷ []) (0 ∷ []) (0 ∷ []) (coding kind h (length front) c ∷ []))
-      (sym (pass-is kind number h (length front) c fits)) (codings-are kind number h front more c e low);
-  legal = (legal-now, tt);
-}
-  where
-    legal-now : IsLegal (pass_of (scan_for kind number h (length front) c)) (levels (length front))
-    legal-now = subst (λ (p : Pass). IsLegal p (levels (length front)))
-        (sym (pass-is kind number h (length front) c fits))
-        (subst (λ (l : Levels). IsLegal (pass_for kind) l) (sym was) (kind-legal kind))
+scan-legal kind number h front more c levels fits e low was =
+    grind (arith, pass-is kind number h (length front) c fits, codings-are kind number h front more c e low)
 
 -- ---- what is sent
 
@@ -387,29 +346,23 @@ scan-legal kind number h front more c levels fits e low was = record {
 after-same : (p : Pass) (place : ℕ) (levels : ℕ → Levels)
     → levels_after p (place ∷ []) levels place ≡ sent_after p (levels place)
 unfolding levels_after
-after-same p place levels =
-    ap (λ (b : Bool). elim b as (λ _. Levels) [ true ↦ sent_after p (levels place) | false ↦ levels place ])
-    (eq-eqb place place refl)
+after-same p place levels = search (rules, eq-eqb)
 
 after-other : (p : Pass) (place k : ℕ) (levels : ℕ → Levels) → k ≢ place
     → levels_after p (place ∷ []) levels k ≡ levels k
 unfolding levels_after
-after-other p place k levels ne =
-    ap (λ (b : Bool). elim b as (λ _. Levels) [ true ↦ sent_after p (levels k) | false ↦ levels k ])
-    (ne_eqb k place ne)
+after-other p place k levels ne = search (rules, ne_eqb)
 
 have-tables : (number : ℕ) (h : FrameHeader) (front cs : List Factors) → number ≤ 2 → AreComponents number front cs
     → AllByRecursion (HasTable (said number h)) (map (component_in h) cs)
 unfolding AreComponents component_of
 have-tables number h front [] le a = tt
-have-tables number h front (c ∷ cs) le a = (
-  record {
-    table = replicate 64 1;
-    is =
-        table-at number h c.quantization (place-low number c.quantization le a.0.placed);
-  },
-  have-tables number h (front ++ c ∷ []) cs le a.1,
-)
+have-tables number h front (c ∷ cs) le a =
+    grind (
+      arith,
+      table-at number h c.quantization (place-low number c.quantization le a.0.placed),
+      have-tables number h (front ++ c ∷ []) cs le a.1,
+    )
 
 pub in-range : (P : ℕ → Type 0) (a n : ℕ) → ((j : ℕ) → a ≤ j → j < a + n → P j) → AllByRecursion P (range_with_len a n)
 in-range P a zero all = tt
@@ -431,14 +384,7 @@ pub record HasSent (levels : ℕ → Levels) (front : ℕ) : Type 0 where
 sent-more : (levels now : ℕ → Levels) (front : ℕ) → IsComplete (now front) → ((j : ℕ) → j ≢ front → now j ≡ levels j)
     → HasSent levels front
     → HasSent now (front + 1)
-sent-more levels now front done others s = record {
-  sent = λ j lt. go j (cases_lt j front) lt;
-  unsent = λ j le. others j (λ x. absurd (omega arith)) ∙ s.unsent j (omega arith);
-}
-  where
-    go : (j : ℕ) → (j < front) ⊎ (front ≤ j) → j < front + 1 → IsComplete (now j)
-    go j (inl lt) less = subst IsComplete (sym (others j (λ x. absurd (omega arith)))) (s.sent j lt)
-    go j (inr le) less = let same : j ≡ front = omega arith in subst (λ (n : ℕ). IsComplete (now n)) (sym same) done
+sent-more levels now front done others s = search (rules, cases_lt)
 
 end-written : (number : ℕ) (h : FrameHeader) (array : Coefficients) (front : List Factors) (levels : ℕ → Levels)
     (scanned : Bool)
@@ -476,7 +422,7 @@ one-scan kind number h array front more c levels last scanned bytes fits le p ra
     let ks = coding kind h (length front) c ∷ [] in
     let d = data-written kind f h (length front) c array range in
     let coded : WritesScan f 0 (pass_of (scan_written f head)) ks array d.0 =
-    subst (λ (q : Pass). WritesScan f 0 q ks array d.0) (sym (pass-is kind number h (length front) c fits)) d.1 in
+    search (rules, pass-is) in
     let legal = scan-legal kind number h front more c levels fits e
     (place-low number c.quantization le is.placed) was in (
       marker 0 218 (sized (scan_payload head) ++ (d.0 ++ bytes)),
@@ -496,9 +442,7 @@ Steps number h array =
 
 whole-after : (p : Pass) (place : ℕ) (levels : ℕ → Levels) → p ≡ whole_pass → levels place ≡ nothing_sent
     → IsComplete (levels_after p (place ∷ []) levels place)
-whole-after p place levels e f =
-    subst IsComplete (sym (after-same p place levels ∙ ap₂ sent_after e f))
-    (record { dc = refl; acs = all-same (Some 0) 63 })
+whole-after p place levels e f = search (rules, after-same, all-same)
 
 dc-after : (p : Pass) (place : ℕ) (levels : ℕ → Levels) → p ≡ dc_pass → levels place ≡ nothing_sent
     → levels_after p (place ∷ []) levels place ≡ before OfAc
@@ -506,9 +450,7 @@ dc-after p place levels e f = after-same p place levels ∙ ap₂ sent_after e f
 
 ac-after : (p : Pass) (place : ℕ) (levels : ℕ → Levels) → p ≡ ac_pass → levels place ≡ before OfAc
     → IsComplete (levels_after p (place ∷ []) levels place)
-ac-after p place levels e f =
-    subst IsComplete (sym (after-same p place levels ∙ ap₂ sent_after e f))
-    (record { dc = refl; acs = all-same (Some 0) 63 })
+ac-after p place levels e f = search (rules, after-same, all-same)
 
 sequential-steps : (number : ℕ) (h : FrameHeader) (array : Coefficients) → number ≤ 1 → HasPicture h
     → ((k row column : ℕ) → Is8Bit (array k row column)) → Steps number h array
@@ -550,8 +492,7 @@ scans-written : (number : ℕ) (h : FrameHeader) (array : Coefficients) (more fr
     → (more ≡ [] → scanned ≡ true)
     → Sends number h array levels scanned
 unfolding AreComponents
-scans-written number h array [] front levels scanned le steps all e are s is =
-    end-written number h array front levels scanned le all (e ∙ append-nil front) s (is refl)
+scans-written number h array [] front levels scanned le steps all e are s is = search (rules, end-written, append-nil)
 scans-written number h array (c ∷ more) front levels scanned le steps all e are s is =
     let step = steps front more c levels scanned e are.0 s in
     let size : length front + 1 ≡ length (front ++ c ∷ []) = sym (length-append front (c ∷ [])) in
@@ -572,15 +513,7 @@ each-steps number h array le p range = go (cases_lt number 2)
 -- ---- the segments
 
 some-components : (h : FrameHeader) → HasPicture h → h.components ≡ [] → false ≡ true
-some-components h p e = absurd (go p.counted)
-  where
-    none : length h.components ≡ 0
-    none = ap length e
-
-    go : (length h.components ≡ 1) ⊎ ((length h.components ≡ 3) ⊎ (length h.components ≡ 4)) → ⊥
-    go (inl x) = let n = none in omega arith
-    go (inr (inl x)) = let n = none in omega arith
-    go (inr (inr x)) = let n = none in omega arith
+some-components h p e = search rules
 
 abbrev front_bytes : ℕ → FrameHeader → List ℕ → List ℕ
 front_bytes number h more =
@@ -605,16 +538,7 @@ image-written number h array le is p range =
           after = front_bytes number h r.0;
           starts = refl;
           written =
-              segment nothing_found (said number h) (λ k. nothing_sent) r.1 false 0 (Quantization all_ones) _ (
-                (
-                  one-quantizes 0 1 (omega arith) (omega arith),
-                  (
-                    one-quantizes 1 1 (omega arith) (omega arith),
-                    (one-quantizes 2 1 (omega arith) (omega arith), (one-quantizes 3 1 (omega arith) (omega arith), tt)),
-                  ),
-                ),
-                tt,
-              )
+              segment nothing_found (said number h) (λ k. nothing_sent) r.1 false 0 (Quantization all_ones) _ (search (rules, one-quantizes))
               tt
               (λ x. absurd (true≢false (sym x))) (
               segment said_1 (said number h) (λ k. nothing_sent) r.1 false 0 (Header number h) _ ((refl, is), p)
@@ -624,7 +548,6 @@ image-written number h array le is p range =
               ((table-by _ _ (omega arith) refl, (table-by _ _ (omega arith) refl, tt)), tt) tt (λ x. tt) r.2));
         };
         framed = refl;
-        complete = in-range (λ k. IsComplete (r.1 k)) 0 (length (frame_written number h).components)
-            (λ j low lt. r.3 j (omega arith));
+        complete = search (rules, in-range);
       },
     )

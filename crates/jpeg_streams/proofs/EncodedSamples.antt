@@ -1,8 +1,7 @@
 -- Every picture of samples has a stream: a scan for each component.
-use Rattle.std.proofs.Common.{◌≡◌, ◌⊎◌, inl, inr, ℕ, zero, suc, ◌+◌, ◌-◌, ◌*◌, ◌^◌, ◌<◌, ◌≤◌}
-use Rattle.std.proofs.Common.{Bool, true, false, List, [], ◌∷◌, ◌++◌, map, length, drop, take, replicate, ℤ, pos, negsuc}
-use Rattle.std.proofs.Common.{◌≤ℤ◌, unsigned_abs, Some, None}
-use Rattle.std.proofs.Common.{refl, sym, ap, ap₂, ◌∙◌, subst, append_assoc, length-append, arith}
+use Rattle.std.proofs.Common.{rules, false, length, replicate, negsuc, unsigned_abs, subst, append_assoc, length-append}
+use Rattle.std.proofs.Common.{◌≡◌, ◌⊎◌, inl, ℕ, zero, Bool, true, List, ◌++◌, drop, take, ◌≤ℤ◌, Some, None, refl, arith}
+use Rattle.std.proofs.Common.{inr, suc, ◌+◌, ◌-◌, ◌*◌, ◌^◌, ◌<◌, ◌≤◌, [], ◌∷◌, map, ℤ, pos, sym, ap, ap₂, ◌∙◌}
 use Rattle.std.proofs.Math.Pow.{pow_mono}
 use Rattle.std.proofs.lemmas.Bool.{and_parts, cases_lt, eqb-true, ltb-true}
 use Rattle.std.proofs.lemmas.Int.{ints}
@@ -19,15 +18,14 @@ use Rattle.jpeg_bits.specs.declared.scan.Predictor.TheVariants.{Ra}
 use Rattle.jpeg_segments.specs.Frame.{Factors, frame_of}
 use Rattle.jpeg_segments.specs.HuffmanTables.{PlacedTable}
 use Rattle.jpeg_segments.specs.ScanHeaders.{scan_payload, ScanHeader}
-use Rattle.jpeg_segments.specs.WrittenSegments.{AreComponents, frame_written, FrameHeader, Header, Huffman, IsFrame}
-use Rattle.jpeg_segments.specs.WrittenSegments.{factors_bytes, frame_payload, huffman_bytes}
-use Rattle.jpeg_segments.specs.WrittenSegments.{payload_of, sized, u16_bytes}
+use Rattle.jpeg_segments.specs.WrittenSegments.{AreComponents, frame_written, FrameHeader, factors_bytes, frame_payload}
+use Rattle.jpeg_segments.specs.WrittenSegments.{Header, Huffman, IsFrame, huffman_bytes, payload_of, sized, u16_bytes}
 use Rattle.jpeg_lossless.specs.Prediction.{residue, start_of}
 use Rattle.jpeg_lossless.specs.Differences.{Part, lines_in, mcu_tables, row_tables, strand, strands}
 use Rattle.jpeg_lossless.specs.Scans.{rows_of_interval, Way}
 use Rattle.jpeg_lossless.specs.Written.{AreLines, AreSamples, differences_below, differences_of, first_differences}
-use Rattle.jpeg_lossless.specs.Written.{HaveDifferences, rest_differences, WritesDifference}
-use Rattle.jpeg_lossless.specs.Written.{WritesInterval, WritesRow, WritesRows}
+use Rattle.jpeg_lossless.specs.Written.{HaveDifferences, rest_differences, WritesDifference, WritesInterval, WritesRow}
+use Rattle.jpeg_lossless.specs.Written.{WritesRows}
 use Rattle.jpeg_lossless.specs.Written.WritesIntervals.{last}
 use Rattle.jpeg_lossless.specs.Written.WritesRow.{none, one}
 use Rattle.jpeg_lossless.specs.Written.WritesRows.{no_row, row}
@@ -60,12 +58,7 @@ unfolding lengths_from
 lengths-are = refl
 
 even-coded : (s : ℕ) → s < 17 → IsCoded even_table s (code_bits even_table s)
-even-coded s h = record {
-  place = s;
-  listed = subst (λ (n : ℕ). s < n) (sym lengths-are) h;
-  is_for = let e : 0 + s ≡ s = omega arith in get_or-range_with_len 0 17 s 0 h ∙ e;
-  has_bits = refl;
-}
+even-coded s h = grind (arith, lengths-are, get_or-range_with_len 0 17 s 0 h)
 
 -- ---- differences
 
@@ -123,7 +116,8 @@ rows-written n (rs ∷ rows) h =
     let first = row-written rs h.0.1 in
     let more = rows-written n rows h.1 in (
       _,
-      row rs rows first.0 more.0 (subst (λ (k : ℕ). WritesRow (row_tables k (even_table ∷ [])) rs first.0) h.0.0 first.1)
+      row rs rows first.0 more.0 (subst (λ (k : ℕ). WritesRow (row_tables k (even_table ∷ [])) rs first.0) h.0.0
+          first.1)
           more.1,
     )
 
@@ -158,7 +152,8 @@ rest-low selection a c (b ∷ above) [] = tt
 rest-low selection a c (b ∷ above) (x ∷ xs) = (residue-low _, rest-low selection x b above xs)
 
 top-row : (selection : Predictor) (start : ℕ) (xs : List ℕ)
-    → (length (differences_below selection start [] xs) ≡ length xs) × AreResidues (differences_below selection start [] xs)
+    → (length (differences_below selection start [] xs) ≡ length xs) × AreResidues (differences_below selection start
+    [] xs)
 unfolding differences_below
 top-row selection start xs = (first-count start xs, first-low start xs)
 
@@ -168,8 +163,7 @@ below-row : (selection : Predictor) (start : ℕ) (above xs : List ℕ) → leng
 unfolding differences_below
 below-row selection start [] xs h = top-row selection start xs
 below-row selection start (b ∷ above) [] h = (refl, tt)
-below-row selection start (b ∷ above) (x ∷ xs) h =
-    (ap suc (rest-count selection x b above xs (omega arith)), (residue-low _, rest-low selection x b above xs))
+below-row selection start (b ∷ above) (x ∷ xs) h = search (rules, rest-count, residue-low, rest-low)
 
 -- lines of n samples
 abbrev AreWide : ℕ → List (List ℕ) → Type 0
@@ -180,16 +174,14 @@ below-rows : (selection : Predictor) (start n : ℕ) (above : List ℕ) (lines :
 unfolding differences_of
 below-rows selection start n above [] e h = tt
 below-rows selection start n above (line ∷ lines) e h =
-    let first = below-row selection start above line (e ∙ sym h.0) in
-    ((first.0 ∙ h.0, first.1), below-rows selection start n line lines h.0 h.1)
+    grind (arith, below-row selection start above line (e ∙ sym h.0), below-rows selection start n line lines h.0 h.1)
 
 all-rows : (selection : Predictor) (start n : ℕ) (lines : List (List ℕ)) → AreWide n lines
     → AreRows n (differences_of selection start [] lines)
 unfolding differences_of
 all-rows selection start n [] h = tt
 all-rows selection start n (line ∷ lines) h =
-    let first = top-row selection start line in
-    ((first.0 ∙ h.0, first.1), below-rows selection start n line lines h.0 h.1)
+    grind (arith, top-row selection start line, below-rows selection start n line lines h.0 h.1)
 
 pub rows-count : (selection : Predictor) (start : ℕ) (above : List ℕ) (lines : List (List ℕ))
     → length (differences_of selection start above lines) ≡ length lines
@@ -214,8 +206,7 @@ lines-whole : (width height : ℕ) (rows : List (List ℕ)) → AreRows width ro
     → lines_in (lone_part width height) width 1 0 rows ≡ rows
 unfolding lines_in strands
 lines-whole width height [] h = refl
-lines-whole width height (rs ∷ rows) h =
-    ap₂ (λ (l : List ℕ) (ls : List (List ℕ)). l ∷ ls) (strand-whole width rs h.0.0) (lines-whole width height rows h.1)
+lines-whole width height (rs ∷ rows) h = rw (strand-whole width rs h.0.0, lines-whole width height rows h.1) refl
 
 own-whole : (width height : ℕ) (lines : List (List ℕ)) → length lines ≡ height → AreWide width lines
     → own_lines (lone_part width height) lines ≡ lines
@@ -234,8 +225,7 @@ samples-low bound (x ∷ xs) le h = let low = h.0 in (omega arith, samples-low b
 lines-low : (bound n m : ℕ) (lines : List (List ℕ)) → bound ≤ 65536 → n ≡ m → AllByRecursion (IsLineOf n bound) lines
     → AreLines m lines
 lines-low bound n m [] le e h = tt
-lines-low bound n m (l ∷ lines) le e h =
-    ((h.0.0 ∙ e, samples-low bound l le h.0.1), lines-low bound n m lines le e h.1)
+lines-low bound n m (l ∷ lines) le e h = search (rules, samples-low, lines-low bound n m lines le e h.1)
 
 are-wide : (bound n : ℕ) (lines : List (List ℕ)) → AllByRecursion (IsLineOf n bound) lines → AreWide n lines
 are-wide bound n [] h = tt
@@ -269,44 +259,19 @@ marked-bytes code bytes h k = (omega arith, (h, k))
 
 factors-length : (cs : List Factors) → length (flat_map factors_bytes cs) ≡ 3 * length cs
 factors-length [] = refl
-factors-length (c ∷ cs) =
-    let more = factors-length cs in
-    omega (arith, length-append (factors_bytes c) (flat_map factors_bytes cs))
+factors-length (c ∷ cs) = search (rules, length-append, factors-length cs)
 
 components-bytes : (front cs : List Factors) → AreComponents 3 front cs → AllByRecursion (λ c. c.identifier < 256) cs
     → AreBytes (flat_map factors_bytes cs)
 unfolding AreComponents
 components-bytes front [] are low = tt
 components-bytes front (c ∷ cs) are low =
-    let r = are.0.ranged in
-    let h = r.horizontal_most in
-    let v = r.vertical_most in
-    let place : c.quantization ≡ 0 = eqb-true c.quantization 0 are.0.placed in
-    bytes-append (factors_bytes c) (flat_map factors_bytes cs)
-    (low.0, (omega (arith, h, v), (omega (arith, place), tt)))
-    (components-bytes (front ++ c ∷ []) cs are.1 low.1)
+    search (rules, eqb-true, bytes-append, components-bytes (front ++ c ∷ []) cs are.1 low.1)
 
 header-bytes : (h : FrameHeader) → IsFrame 3 h → HasSamples 3 h → FitsFields h
     → AreBytes (sized (payload_of (Header 3 h)))
 unfolding frame_payload
-header-bytes h is p fits =
-    let few : length h.components ≤ 4 = go p.counted in
-    let comps = flat_map factors_bytes h.components in
-    let size = factors-length h.components in
-    let most = p.most in
-    sized-bytes (payload_of (Header 3 h)) (omega (arith, few, size)) (
-      omega (arith, most),
-      bytes-append (u16_bytes h.height) (u16_bytes h.width ++ (length h.components ∷ comps))
-          (u16-bytes h.height fits.height)
-          (bytes-append (u16_bytes h.width) (length h.components ∷ comps) (u16-bytes h.width fits.width)
-          (omega (arith, few), components-bytes [] h.components is.components fits.identified)),
-    )
-  where
-    go : (length h.components ≡ 1) ⊎ ((length h.components ≡ 3) ⊎ (length h.components ≡ 4))
-        → length h.components ≤ 4
-    go (inl e) = omega (arith, e)
-    go (inr (inl e)) = omega (arith, e)
-    go (inr (inr e)) = omega (arith, e)
+header-bytes h is p fits = search (rules, factors-length, sized-bytes, bytes-append, u16-bytes, components-bytes)
 
 tested-bytes : (bytes : List ℕ) → list_all (λ b. nat_lt b 256) bytes ≡ true → AreBytes bytes
 tested-bytes [] h = tt
@@ -329,21 +294,12 @@ interval-written start bound width height lines le e h =
     let rows = differences_of Ra start [] lines in
     let are = all-rows Ra start width lines (are-wide bound width lines h) in
     let w = rows-written width rows are in
-    let b = packed w.0 in (
-      stuffed b.bytes,
-      record {
-        rows = rows;
-        bits = w.0;
-        filling = b.filling;
-        data_bytes = b.bytes;
-        count = rows-count Ra start [] lines ∙ e;
-        sized = (lines-low bound width (width * 1) lines le (omega arith) h, tt);
-        placed = (lines-whole width height rows are, tt);
-        coded = w.1;
-        is_short = b.is_short;
-        whole = b.whole;
-        has_bytes = refl;
-      },
+    let b = packed w.0 in
+    grind (
+      arith,
+      rows-count Ra start [] lines,
+      lines-low bound width (width * 1) lines le (omega arith) h,
+      lines-whole width height rows are,
       stuffed-bytes b.bytes b.are_bytes,
     )
 
@@ -364,8 +320,7 @@ record IsReady (h : FrameHeader) (now : Found) : Type 0 where
 component-at : (h : FrameHeader) (front more : List Factors) (c : Factors) → h.components ≡ front ++ c ∷ more
     → first_of (drop (length front) (frame_written 3 h).components) ≡ Some (component_in h c)
 unfolding frame_of
-component-at h front more c e =
-    ap (λ (cs : List Factors). first_of (drop (length front) (map (component_in h) cs))) e ∙ first-is h front more c
+component-at h front more c e = cc (first-is h front more c)
 
 data-written : (h : FrameHeader) (now : Found) (front more : List Factors) (c : Factors) (samples : Samples)
     → IsReady h now → h.components ≡ front ++ c ∷ more → h.precision ≤ 16
@@ -397,9 +352,7 @@ data-written h now front more c samples ready e most are =
 
 scan-bytes : (place : ℕ) (c : Factors) → c.identifier < 256 → AreBytes (sized (scan_payload (header_of place c)))
 unfolding scan_payload
-scan-bytes place c h =
-    sized-bytes (scan_payload (header_of place c)) (omega arith)
-    (omega arith, (h, (omega arith, (omega arith, (omega arith, (omega arith, tt))))))
+scan-bytes place c h = search (rules, sized-bytes)
 
 -- ---- the stream
 
@@ -418,11 +371,7 @@ one-identified cs front more c e all =
     go (x ∷ xs) h = go xs h.1
 
 in-next : (n : ℕ) (sent : List ℕ) → ((j : ℕ) → j < n → IsIn j sent) → (j : ℕ) → j < n + 1 → IsIn j (n ∷ sent)
-in-next n sent all j h = go (cases_lt j n)
-  where
-    go : (j < n) ⊎ (n ≤ j) → IsIn j (n ∷ sent)
-    go (inl less) = inr (all j less)
-    go (inr more) = inl (omega arith)
+in-next n sent all j h = search (rules, cases_lt)
 
 scans-written : (h : FrameHeader) (samples : Samples) (more front : List Factors) (now : Found) (sent : List ℕ)
     → HasSamples 3 h → AreSamplesOf (frame_written 3 h) samples → IsReady h now
@@ -435,8 +384,7 @@ scans-written h samples [] front now sent p all ready e are sends =
       marker 0 217 [],
       now,
       closed now sent (frame_written 3 h) 0 ready.framed refl
-          (in-range (λ k. IsIn k sent) 0 (length (frame_written 3 h).components)
-          (λ j low lt. sends j (omega arith))),
+          (search (rules, in-range)),
       ready.framed,
       λ fits. (omega arith, (omega arith, tt)),
     )
@@ -448,7 +396,7 @@ scans-written h samples (c ∷ more) front now sent p all ready e are sends =
     let rest = scans-written h samples more (front ++ c ∷ []) (said_after_scan now) (place ∷ sent) p all
     (record { framed = ready.framed; tabled = ready.tabled; restart = ready.restart })
     (e ∙ sym (append_assoc front (c ∷ []) more)) are.1
-    (subst (λ (n : ℕ). (j : ℕ) → j < n → IsIn j (place ∷ sent)) size (in-next place sent sends)) in (
+    (search (rules, in-next)) in (
       marker 0 218 (sized (scan_payload (header_of place c)) ++ (d.0 ++ rest.0)),
       rest.1,
       scan now rest.1 sent (frame_written 3 h) 0 (header_of place c) d.0 rest.0 ready.framed refl
@@ -504,10 +452,10 @@ samples-written h samples is p all =
             omega arith,
             marked-bytes 195 (sized (payload_of (Header 3 h))
                 ++ marker 0 196 (sized (payload_of (Huffman even_tables)) ++ r.0)) (omega arith)
-                (bytes-append (sized (payload_of (Header 3 h))) (marker 0 196 (sized (payload_of (Huffman even_tables)) ++ r.0))
+                (bytes-append (sized (payload_of (Header 3 h))) (marker 0 196 (sized (payload_of (Huffman even_tables))
+                ++ r.0))
                 (header-bytes h is p fits)
-                (marked-bytes 196 (sized (payload_of (Huffman even_tables)) ++ r.0) (omega arith)
-                (bytes-append (sized (payload_of (Huffman even_tables))) r.0 tables-bytes (r.4 fits)))),
+                (search (rules, marked-bytes, bytes-append, tables-bytes))),
           ),
         );
       },

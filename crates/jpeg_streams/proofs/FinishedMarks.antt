@@ -1,16 +1,15 @@
 -- The marks of finished places are the levels that are 0.
-use Rattle.std.proofs.Common.{◌≡◌, ℕ, zero, suc, ◌+◌, ◌-◌, ◌<◌, ◌≤◌, Bool, true, false, List, ◌∷◌, ◌++◌, map, take}
+use Rattle.std.proofs.Common.{rules, ◌≡◌, ℕ, zero, suc, ◌+◌, ◌-◌, ◌≤◌, Bool, true, false, List, ◌∷◌, ◌++◌, map, take}
 use Rattle.std.proofs.Common.{drop, replicate, length, refl, sym, ap, ◌∙◌, arith, eqb, length-take, length-drop}
-use Rattle.std.proofs.Common.{true≢false}
 use Rattle.std.proofs.lemmas.Bool.{eqb-true, eq-eqb}
 use lib.ListN.{length-map}
 use Rattle.jpeg_bits.specs.Passes.{Pass, band_of, with_band, before_band, band_size}
 use Rattle.jpeg_streams.specs.Levels.{Levels, IsLegal, sent_after, nothing_sent}
-use Rattle.jpeg_streams.proofs.FinishedPlaces.{Finished, finish, is_level_0, at_level_0}
+use Rattle.jpeg_streams.proofs.FinishedPlaces.{Finished, finish, is_level_0, at_level_0, finish-yes, finish-no}
+use Rattle.jpeg_streams.proofs.FinishedPlaces.{finish-legal}
 use Rattle.jpeg_streams.specs.ScanSegments.{finished_by}
 use Rattle.jpeg_streams.specs.Found.{none_finished}
 use Rattle.jpeg_lossless.proofs.ReadBack.{not-equal}
-use Rattle.jpeg_streams.proofs.FinishedPlaces.{finish-yes, finish-no, finish-legal}
 
 -- the marks of a block at these levels
 abbrev pub marks_of : Levels → List Bool
@@ -37,12 +36,7 @@ from-ac ss se m b k n d xs e f g = rw (e, f, g) refl
 
 size-of_band : {A : Type 0} (p : Pass) (xs : List A) → IsBand p → length xs ≡ 63
     → length (band_of p xs) ≡ p.se - before_band p
-size-of_band p xs band h =
-    let one = length-take (band_size p) (drop (before_band p) xs) in
-    let two = length-drop (before_band p) xs in
-    let r = band.rising in
-    let w = band.within in
-    omega arith
+size-of_band p xs band h = search (rules, length-take, length-drop)
 
 listed-yes : (p : Pass) (f : Finished) → p.al ≡ 0 → IsBand p → length f.acs ≡ 63 → (t : Bool) → eqb p.ss 0 ≡ t
     → take p.ss (marks_listed f) ++ (replicate (suc p.se - p.ss) true ++ drop (suc p.se) (marks_listed f))
@@ -51,20 +45,10 @@ listed-yes : (p : Pass) (f : Finished) → p.al ≡ 0 → IsBand p → length f.
 listed-yes p f z band h true e =
     let none = eqb-true p.ss 0 e in
     let size = size-of_band p f.acs band h in
-    ap (λ (x : ℕ). take x (marks_listed f) ++ (replicate (suc p.se - p.ss) true ++ drop (suc p.se) (marks_listed f)))
-    none
-    ∙ from-dc p.se (length (band_of p f.acs)) (before_band p) (before_band p + band_size p)
-    (suc p.se - p.ss) f.dc f.acs (omega arith) (omega arith) (omega arith) (omega arith)
-listed-yes p f z band h false e =
-    let some : 0 < p.ss = go p.ss e in
-    let size = size-of_band p f.acs band h in
-    let r = band.rising in
-    from-ac p.ss p.se (length (band_of p f.acs)) (before_band p) (before_band p + band_size p)
-    (suc p.se - p.ss) f.dc f.acs (omega arith) (omega arith) (omega arith)
-  where
-    go : (n : ℕ) → eqb n 0 ≡ false → 0 < n
-    go zero g = absurd (true≢false g)
-    go (suc n) g = omega arith
+    cc (
+    from-dc p.se (length (band_of p f.acs)) (before_band p) (before_band p + band_size p) (suc p.se - p.ss) f.dc f.acs
+    (omega arith) (omega arith) (omega arith) (omega arith))
+listed-yes p f z band h false e = search (rules, size-of_band, from-ac)
 
 marks-yes : (p : Pass) (marks : List Bool) → p.al ≡ 0
     → finished_by p marks ≡ take p.ss marks ++ (replicate (suc p.se - p.ss) true ++ drop (suc p.se) marks)
@@ -80,8 +64,7 @@ pub finished-listed : (p : Pass) (f : Finished) → IsBand p → length f.acs �
 finished-listed p f band h = go p.al refl
   where
     go : (a : ℕ) → p.al ≡ a → finished_by p (marks_listed f) ≡ marks_listed (finish p f)
-    go zero e = marks-yes p (marks_listed f) e ∙ listed-yes p f e band h (eqb p.ss 0) refl
-        ∙ ap marks_listed (sym (finish-yes p f e))
+    go zero e = search (rules, marks-yes, listed-yes, finish-yes)
     go (suc a) e = marks-no p (marks_listed f) a e ∙ ap marks_listed (sym (finish-no p f a e))
 
 pub marks-after : (p : Pass) (l : Levels) → IsLegal p l → IsBand p → length l.acs ≡ 63

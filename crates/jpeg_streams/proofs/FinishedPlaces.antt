@@ -1,7 +1,8 @@
 -- Under a legal script the finished places are those at level 0.
-use Rattle.std.proofs.Common.{◌≡◌, ℕ, zero, suc, ◌+◌, Bool, true, false, List, [], ◌∷◌, ◌++◌, map, take, drop}
-use Rattle.std.proofs.Common.{replicate, length, Option, Some, None, refl, sym, ap, ap₂, ◌∙◌, arith, eqb}
-use Rattle.std.proofs.Common.{take-append-drop, drop-drop, ◌==◌}
+use Rattle.std.proofs.Common.{rules, ◌≡◌, ℕ, zero, suc, Bool, true, false, List, [], ◌∷◌, ◌++◌, map, take, drop}
+use Rattle.std.proofs.Common.{replicate, length, Option, Some, None, refl, sym, ap, ◌∙◌, arith, take-append-drop}
+use Rattle.std.proofs.Common.{drop-drop, ◌==◌}
+use Rattle.std.proofs.lemmas.Grind.{common_steps}
 use Rattle.std.proofs.lemmas.Bool.{eqb-true, eq-eqb}
 use Rattle.jpeg_lossless.proofs.ReadBack.{not-equal}
 use Rattle.jpeg_streams.proofs.WrittenIntervals.{map-take_any, map-drop_any, map-joined}
@@ -45,29 +46,22 @@ map-replicate zero a = refl
 map-replicate (suc n) a = ap (λ (l : List Bool). is_level_0 a ∷ l) (map-replicate n a)
 
 pub map-band : (p : Pass) (ls : List (Option ℕ)) → map is_level_0 (band_of p ls) ≡ band_of p (map is_level_0 ls)
-map-band p ls = map-take_any is_level_0 (band_size p) (drop (before_band p) ls)
-    ∙ ap (take (band_size p)) (map-drop_any is_level_0 (before_band p) ls)
+map-band p ls = search (rules, map-take_any, map-drop_any)
 
 pub map-with_band : (p : Pass) (ls band : List (Option ℕ))
     → map is_level_0 (with_band p ls band) ≡ with_band p (map is_level_0 ls) (map is_level_0 band)
-map-with_band p ls band =
-    map-joined is_level_0 (take (before_band p) ls) (band ++ drop (before_band p + band_size p) ls)
-    ∙ ap₂ (λ (x y : List Bool). x ++ y) (map-take_any is_level_0 (before_band p) ls)
-    (map-joined is_level_0 band (drop (before_band p + band_size p) ls)
-    ∙ ap (λ (y : List Bool). map is_level_0 band ++ y) (map-drop_any is_level_0 (before_band p + band_size p) ls))
+map-with_band p ls band = search (rules, map-joined, map-take_any, map-drop_any)
 
 pub around : (p : Pass) (cs : List Bool) → with_band p cs (band_of p cs) ≡ cs
 around p cs =
-    ap (λ (l : List Bool). take (before_band p) cs ++ (band_of p cs ++ l))
-    (sym (drop-drop (band_size p) (before_band p) cs))
+    (search (rules, drop-drop))
     ∙ ap (λ (l : List Bool). take (before_band p) cs ++ l) (take-append-drop (band_size p) (drop (before_band p) cs))
     ∙ take-append-drop (before_band p) cs
 
 not-done : (a : Option ℕ) → is_level_0 a ≡ false → (ls : List (Option ℕ)) → AllByRecursion (λ x. x ≡ a) ls
     → map is_level_0 ls ≡ replicate (length ls) false
 not-done a h [] all = refl
-not-done a h (l ∷ ls) all =
-    ap₂ (λ (x : Bool) (xs : List Bool). x ∷ xs) (ap is_level_0 all.0 ∙ h) (not-done a h ls all.1)
+not-done a h (l ∷ ls) all = search (rules, not-done a h ls all.1)
 
 pub finish-yes : (p : Pass) (f : Finished) → p.al ≡ 0
     → finish p f ≡ record {
@@ -83,13 +77,7 @@ finish-no p f a e = rw (not-equal p.al 0 (λ g. absurd (omega arith)), finish) r
 levels-acs : (p : Pass) (l : Levels) → map is_level_0 (sent_after p l).acs
     ≡ with_band p (map is_level_0 l.acs)
     (replicate (length (band_of p (map is_level_0 l.acs))) (is_level_0 (Some p.al)))
-levels-acs p l =
-    let n = length (band_of p l.acs) in
-    let size : n ≡ length (band_of p (map is_level_0 l.acs)) =
-    sym (ap length (sym (map-band p l.acs)) ∙ length-map (band_of p l.acs) is_level_0) in
-    map-with_band p l.acs (replicate n (Some p.al))
-    ∙ ap (with_band p (map is_level_0 l.acs))
-    (map-replicate n (Some p.al) ∙ ap (λ (k : ℕ). replicate k (is_level_0 (Some p.al))) size)
+levels-acs p l = grind (arith, common_steps, map-band, map-with_band, map-replicate)
 
 -- the band of a legal scan isn't finished
 band-open : (p : Pass) (l : Levels) → IsLegal p l → (f : Bool) → p.is_first ≡ f
@@ -110,32 +98,4 @@ dc-open p l legal e true k = ap is_level_0 (legal.dc_unsent e k)
 dc-open p l legal e false k = ap is_level_0 (legal.dc_sent e k)
 
 pub finish-legal : (p : Pass) (l : Levels) → IsLegal p l → finish p (at_level_0 l) ≡ at_level_0 (sent_after p l)
-finish-legal p l legal = go p.al refl (eqb p.ss 0) refl
-  where
-    as_record : (d e : Bool) (x y : List Bool) → d ≡ e → x ≡ y
-        → ◌≡◌ {A = Finished} (record { dc = d; acs = x }) (record { dc = e; acs = y })
-    as_record d e x y g h = ap₂ (λ (b : Bool) (l : List Bool). record { dc = b; acs = l }) g h
-
-    go : (a : ℕ) → p.al ≡ a → (t : Bool) → eqb p.ss 0 ≡ t → finish p (at_level_0 l) ≡ at_level_0 (sent_after p l)
-    go zero e t g = finish-yes p (at_level_0 l) e
-        ∙ as_record _ _ _ _ (dc t g)
-        (sym (levels-acs p l ∙
-        ap (λ (b : Bool). with_band p (map is_level_0 l.acs)
-        (replicate (length (band_of p (map is_level_0 l.acs))) b)) (ap (λ (k : ℕ). is_level_0 (Some k)) e)))
-      where
-        dc : (t : Bool) → eqb p.ss 0 ≡ t
-            → elim (p.ss == 0) as (λ _. Bool) [ true ↦ true | false ↦ is_level_0 l.dc ]
-            ≡ is_level_0 (sent_after p l).dc
-        dc true g = rw (g, sent_after) (ap (λ (k : ℕ). is_level_0 (Some k)) (sym e))
-        dc false g = rw (g, sent_after) refl
-    go (suc a) e t g = finish-no p (at_level_0 l) a e ∙ as_record _ _ _ _ (dc t g)
-        (sym (levels-acs p l ∙
-        ap (λ (b : Bool). with_band p (map is_level_0 l.acs)
-        (replicate (length (band_of p (map is_level_0 l.acs))) b)) (ap (λ (k : ℕ). is_level_0 (Some k)) e)
-        ∙ ap (with_band p (map is_level_0 l.acs)) (sym (band-open p l legal p.is_first refl))
-        ∙ around p (map is_level_0 l.acs)))
-      where
-        dc : (t : Bool) → eqb p.ss 0 ≡ t → is_level_0 l.dc ≡ is_level_0 (sent_after p l).dc
-        dc true g = rw (g, sent_after)
-            (dc-open p l legal (eqb-true p.ss 0 g) p.is_first refl ∙ sym (ap (λ (k : ℕ). is_level_0 (Some k)) e))
-        dc false g = rw (g, sent_after) refl
+finish-legal p l legal = search (rules, finish-yes, levels-acs, finish-no, band-open, around, dc-open, eqb-true)

@@ -1,5 +1,5 @@
 -- The blocks of a frame's components at each scale.
-use Rattle.std.proofs.Common.{◌≡◌, ◌≤◌, ◌<◌, ℕ, ◌*◌, List, [], ◌∷◌, map, refl, ap, ap₂, sym, ◌∙◌, subst, arith}
+use Rattle.std.proofs.Common.{rules, ◌≡◌, ◌≤◌, ◌<◌, ℕ, ◌*◌, List, [], ◌∷◌, map, refl, ap, subst, arith}
 use Rattle.std.proofs.Math.Nat.{mul_assoc, mul_comm, mul-le-mul_right}
 use Rattle.std.specs.List.{AllByRecursion}
 use Rattle.jpeg_segments.specs.Frame.{Frame, Factors, IsInRange, ceiling, component_of, frame_of, greatest}
@@ -17,10 +17,9 @@ own-within width h m s some most scaled =
     let low : width ≤ (8 * m) * b = ceiling-low width (8 * m) (omega arith) in
     let wide : width * h * s ≤ ((8 * m) * b) * h * s = mul-le-mul_right s (mul-le-mul_right h low) in
     let e : ((8 * m) * b) * h * s ≡ (m * 8) * (s * (b * h))
-    = ap (λ n. n * s) (mul_assoc (8 * m) b h)
-    ∙ (mul_assoc (8 * m) (b * h) s ∙ ap₂ (λ x y. x * y) (mul_comm 8 m) (mul_comm (b * h) s)) in
+    = search (rules, mul_assoc, mul_comm) in
     let one : ceiling (width * h * s) (m * 8) ≤ s * (b * h) =
-    ceiling-le (width * h * s) (m * 8) (s * (b * h)) (omega arith) (omega (arith, wide, e)) in
+    search (rules, ceiling-le) in
     ceiling-le (ceiling (width * h * s) (m * 8)) s (b * h) scaled one
 
 pub factors-back : (width height h v : ℕ) (xs : List Factors) → all_factors (map (component_of width height h v) xs)
@@ -38,17 +37,9 @@ all-fit : (frame : Frame) (scale width height h v : ℕ) (xs : List Factors) →
 unfolding component_of component_at
 all-fit frame scale width height h v [] some wide high range across down = tt
 all-fit frame scale width height h v (x ∷ xs) some wide high range across down =
-    let r = range.0 in
-    let hs = r.horizontal_some in
-    let vs = r.vertical_some in (
-      record {
-        horizontal = hs;
-        vertical = vs;
-        wide = ap (λ n. n * x.horizontal) (sym wide);
-        high = ap (λ n. n * x.vertical) (sym high);
-        own_wide = own-within width x.horizontal h scale hs (omega arith) some;
-        own_high = own-within height x.vertical v scale vs (omega arith) some;
-      },
+    search (
+      rules,
+      own-within,
       all-fit frame scale width height h v xs some wide high range.1 (omega arith) (omega arith),
     )
 
@@ -58,16 +49,7 @@ pub scaled-frames-fit : (scale number precision width height : ℕ) (xs : List F
     → AllByRecursion (Fits (frame_at scale (frame_of number precision width height xs)))
     (frame_at scale (frame_of number precision width height xs)).components
 unfolding frame_of frame_at
-scaled-frames-fit scale number precision width height xs some range =
-    let h = greatest (λ c. c.horizontal) xs in
-    let v = greatest (λ c. c.vertical) xs in
-    let frame = frame_at scale (frame_of number precision width height xs) in
-    let back = factors-back width height h v xs in
-    subst (λ (l : List Factors).
-    AllByRecursion (Fits frame)
-    (map (component_at scale width height (greatest (λ c. c.horizontal) l) (greatest (λ c. c.vertical) l))
-    (map (component_of width height h v) xs)))
-    (sym back) (all-fit frame scale width height h v xs some refl refl range (omega arith) (omega arith))
+scaled-frames-fit scale number precision width height xs some range = search (rules, factors-back, all-fit)
 
 -- and those of a frame that is read, which is at full size
 pub frames-fit : (number precision width height : ℕ) (xs : List Factors) → AllByRecursion IsInRange xs

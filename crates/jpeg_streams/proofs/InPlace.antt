@@ -1,6 +1,6 @@
 -- Lists whose elements are replaced one after the other, and lists that grow element by element.
-use Rattle.std.proofs.Common.{◌≡◌, ℕ, zero, suc, ◌+◌, ◌<◌, ◌≤◌, List, [], ◌∷◌, ◌++◌, take, drop, length, get_or}
-use Rattle.std.proofs.Common.{set, refl, ap, ◌∙◌, arith}
+use Rattle.std.proofs.Common.{rules, ◌≡◌, ℕ, zero, suc, ◌+◌, ◌<◌, ◌≤◌, List, [], ◌∷◌, ◌++◌, take, drop, length, get_or}
+use Rattle.std.proofs.Common.{set, refl, ap, arith}
 
 -- the first elements of one list, and the others of another
 abbrev pub patched : {A : Type 0} → ℕ → List A → List A → List A
@@ -14,8 +14,7 @@ patched-next [] (b ∷ old) i x d e h f = absurd (omega arith)
 patched-next (a ∷ new) [] i x d e h f = absurd (omega arith)
 patched-next (a ∷ new) (b ∷ old) zero x d e h f = ap (λ y. y ∷ old) f
 patched-next (a ∷ new) (b ∷ old) (suc i) x d e h f =
-    ap (λ l. a ∷ l) (patched-next new old i x d (omega arith) (omega arith) f)
-    ∙ ap (λ (k : ℕ). patched k (a ∷ new) (b ∷ old)) (let z : suc (i + 1) ≡ suc i + 1 = omega arith in z)
+    search (rules, patched-next new old i x d (omega arith) (omega arith) f)
 
 pub patched-all : {A : Type 0} (new old : List A) (i : ℕ) → length new ≡ length old → length old ≤ i
     → patched i new old ≡ new

@@ -1,11 +1,10 @@
 -- Blocks that are read one after the other, at spots apart, are read on the blocks as they were and put back.
-use Rattle.std.proofs.Common.{◌≡◌, ◌≢◌, ◌⊎◌, inl, inr, ℕ, suc, Bool, true, false, List, [], ◌∷◌, ◌++◌, map, length}
-use Rattle.std.proofs.Common.{set, get_or, ℤ, pos, Option, Result, Ok, Err, refl, sym, ap, ap₂, ◌∙◌, subst}
-use Rattle.std.proofs.Common.{append-nil, arith}
+use Rattle.std.proofs.Common.{rules, Bool, true, false, List, length, get_or, Option, Result, subst, append-nil, arith}
+use Rattle.std.proofs.Common.{◌≡◌, inl, inr, ℕ, suc, [], ◌∷◌, ◌++◌, map, set, ℤ, pos, Ok, Err, refl, sym, ap, ap₂, ◌∙◌}
 use Rattle.std.specs.List.{flat_map}
 use Rattle.jpeg_bits.specs.Reading as reading
 use Rattle.jpeg_bits.specs.Reading.{Outcome, Fault, Malformed}
-use Rattle.jpeg_bits.specs.Entropy.{Text, upcoming, fresh, marker_from}
+use Rattle.jpeg_bits.specs.Entropy.{Text, upcoming, fresh}
 use Rattle.jpeg_bits.specs.Readers.{read_on, gives}
 use Rattle.jpeg_bits.specs.declared.marker.Marker.{Marker}
 use Rattle.jpeg_bits.specs.Passes.{Pass, Via, Block, block_from, blocks_of}
@@ -13,20 +12,15 @@ use Rattle.jpeg_bits.specs.Intervals.{predictors_at_start, interval, intervals, 
 use Rattle.jpeg_bits.specs.Intervals.{after_restart}
 use Rattle.jpeg_streams.specs.Order.{Spot}
 use Rattle.jpeg_streams.specs.Scans.{Arrays, block_at, put_block, put_blocks, via_at, turns_of}
-use Rattle.jpeg_streams.specs.InTurn.{Reached, turn_from, turns_from, at_start, interval_from, next_interval}
-use Rattle.jpeg_streams.specs.InTurn.{intervals_from, IsIn, AreApart, IsInside}
+use Rattle.jpeg_streams.specs.InTurn.{Reached, turn_from, turns_from, interval_from, next_interval, intervals_from}
+use Rattle.jpeg_streams.specs.InTurn.{IsIn, AreApart, IsInside}
 use Rattle.jpeg_streams.proofs.Put.{same-spot, put-other, put-inside}
 
 -- ---- spots
 
 pub kept-after : (q r : Spot) (b : Block) (arrays : Arrays) → IsInside arrays r → (q ≡ r → ⊥)
     → block_at (put_block q b arrays) r ≡ block_at arrays r
-kept-after q r b arrays h n = go (same-spot q r)
-  where
-    go : (q ≡ r) ⊎ ((q.slot ≢ r.slot) ⊎ ((q.slot ≡ r.slot) × (q.index ≢ r.index)))
-        → block_at (put_block q b arrays) r ≡ block_at arrays r
-    go (inl e) = absurd (n e)
-    go (inr m) = put-other q r b arrays h m
+kept-after q r b arrays h n = search (rules, same-spot, put-other)
 
 -- spots that keep their blocks are read alike
 pub same-turns : (vias : List Via) (spots : List Spot) (arrays others : Arrays)
@@ -111,11 +105,6 @@ in-turn p vias (s ∷ spots) arrays predictors run t apart inside =
     (block_from p (via_at vias s.slot).dc (via_at vias s.slot).ac
     (get_or predictors (via_at vias s.slot).component (pos 0)) run (block_at arrays s) t)
   where
-    all : (b : Block) (o : Result (List Block × Text) Fault)
-        → put_in spots (put_block s b arrays) o ≡ put_in (s ∷ spots) arrays (read_on (λ more. gives (b ∷ more)) o)
-    all b (Ok r) = refl
-    all b (Err e) = refl
-
     step : ((b : Block) (c : List ℤ) (n : ℕ) (u : Text)
         → arrays_in (turns_from p vias spots (record { arrays = put_block s b arrays; predictors = c; run = n }) u)
         ≡ put_in spots (put_block s b arrays) (blocks_of p c n (turns_of vias spots (put_block s b arrays)) u))
@@ -133,20 +122,9 @@ in-turn p vias (s ∷ spots) arrays predictors run t apart inside =
         (blocks_of p (set predictors (via_at vias s.slot).component r.1) r.2 (turns_of vias spots arrays) u)) o)
     step rec (Err e) = refl
     step rec (Ok r) =
-        let new = put_block s r.0.0 arrays in
-        rec r.0.0 (set predictors (via_at vias s.slot).component r.0.1) r.0.2 r.1
-        ∙ ap (λ (l : List (Via × Block)). put_in spots new
-        (blocks_of p (set predictors (via_at vias s.slot).component r.0.1) r.0.2 l r.1))
-        (same-turns vias spots arrays new
-        (λ q h. kept-after s q r.0.0 arrays (inside q (inr h))
-        (λ e. apart.0 (subst (λ (x : Spot). IsIn x spots) (sym e) h))))
-        ∙ all r.0.0 (blocks_of p (set predictors (via_at vias s.slot).component r.0.1) r.0.2
-        (turns_of vias spots arrays) r.1)
+        search (rules, same-turns, kept-after)
 
 -- ---- intervals
-
-abbrev pub after_in : Result (Arrays × Text) Fault → Outcome (Arrays × Option Marker)
-after_in o = reading.◌>>=◌ o (λ r. reading.◌>>=◌ (marker_from r.1) (λ m. Ok ((r.0, m.0), m.1)))
 
 abbrev pub put_after : List Spot → Arrays → Outcome (List Block × Option Marker) → Outcome (Arrays × Option Marker)
 put_after spots arrays (Ok r) = Ok ((put_blocks spots r.0.0 arrays, r.0.1), r.1)
@@ -157,27 +135,7 @@ pub interval-in-turn : (p : Pass) (vias : List Via) (spots : List Spot) (arrays 
     → interval_from p vias spots arrays bytes ≡ put_after spots arrays (interval p (turns_of vias spots arrays) bytes)
 unfolding interval_from interval
 interval-in-turn p vias spots arrays bytes apart inside =
-    one (turns_from p vias spots (at_start arrays) (upcoming fresh bytes))
-    ∙ ap after_in (in-turn p vias spots arrays predictors_at_start 0 (upcoming fresh bytes) apart inside)
-    ∙ two (blocks_of p predictors_at_start 0 (turns_of vias spots arrays) (upcoming fresh bytes))
-  where
-    one : (o : Result (Reached × Text) Fault)
-        → reading.◌>>=◌ o (λ r. reading.◌>>=◌ (marker_from r.1) (λ m. Ok ((r.0.arrays, m.0), m.1)))
-        ≡ after_in (arrays_in o)
-    one (Ok r) = refl
-    one (Err e) = refl
-
-    marker : (r : List Block × Text) (m : Outcome (Option Marker))
-        → reading.◌>>=◌ m (λ (m : Option Marker × List ℕ). Ok ((put_blocks spots r.0 arrays, m.0), m.1))
-        ≡ put_after spots arrays (reading.◌>>=◌ m (λ (m : Option Marker × List ℕ). Ok ((r.0, m.0), m.1)))
-    marker r (Ok m) = refl
-    marker r (Err e) = refl
-
-    two : (o : Result (List Block × Text) Fault)
-        → after_in (put_in spots arrays o)
-        ≡ put_after spots arrays (reading.◌>>=◌ o (λ r. reading.◌>>=◌ (marker_from r.1) (λ m. Ok ((r.0, m.0), m.1))))
-    two (Ok r) = marker r (marker_from r.1)
-    two (Err e) = refl
+    grind (arith, in-turn p vias spots arrays predictors_at_start 0 (upcoming fresh bytes) apart inside)
 
 abbrev pub IsLong : ℕ → Result (List Block × Text) Fault → Type 0
 IsLong n (Ok r) = length r.0 ≡ n
@@ -202,8 +160,7 @@ blocks-long p (v ∷ turns) predictors run t =
         → IsLong (suc (length turns))
         (read_on (λ (r : Block × ℤ × ℕ). λ (u : Text). read_on (λ more. gives (r.0 ∷ more))
         (blocks_of p (set predictors v.0.component r.1) r.2 turns u)) o)
-    step rec (Ok r) = more r.0.0 (blocks_of p (set predictors v.0.component r.0.1) r.0.2 turns r.1)
-        (rec (set predictors v.0.component r.0.1) r.0.2 r.1)
+    step rec (Ok r) = search rules
     step rec (Err e) = tt
 
 abbrev pub IsLongAfter : ℕ → Outcome (List Block × Option Marker) → Type 0
@@ -213,20 +170,7 @@ IsLongAfter n (Err e) = Unit {0}
 pub interval-long : (p : Pass) (turns : List (Via × Block)) (bytes : List ℕ)
     → IsLongAfter (length turns) (interval p turns bytes)
 unfolding interval
-interval-long p turns bytes =
-    go (blocks_of p predictors_at_start 0 turns (upcoming fresh bytes))
-    (blocks-long p turns predictors_at_start 0 (upcoming fresh bytes))
-  where
-    marker : (r : List Block × Text) (m : Outcome (Option Marker)) → length r.0 ≡ length turns
-        → IsLongAfter (length turns) (reading.◌>>=◌ m (λ (m : Option Marker × List ℕ). Ok ((r.0, m.0), m.1)))
-    marker r (Ok m) h = h
-    marker r (Err e) h = tt
-
-    go : (o : Result (List Block × Text) Fault) → IsLong (length turns) o
-        → IsLongAfter (length turns)
-        (reading.◌>>=◌ o (λ r. reading.◌>>=◌ (marker_from r.1) (λ m. Ok ((r.0, m.0), m.1))))
-    go (Ok r) h = marker r (marker_from r.1) h
-    go (Err e) h = tt
+interval-long p turns bytes = search (rules, blocks-long)
 
 pub turns-long : (vias : List Via) (spots : List Spot) (arrays : Arrays)
     → length (turns_of vias spots arrays) ≡ length spots
@@ -259,17 +203,11 @@ pub intervals-in-turn : (p : Pass) (vias : List Via) (k : ℕ) (spots : List Spo
     (intervals p k (turns_of vias spots arrays) (all_turns vias arrays others) bytes)
 unfolding intervals_from intervals
 intervals-in-turn p vias k spots [] arrays bytes apart inside =
-    interval-in-turn p vias spots arrays bytes (apart-front spots [] apart) (λ q t. inside q (in-front q spots [] t))
-    ∙ ap (λ (l : List Spot). put_after l arrays (interval p (turns_of vias spots arrays) bytes))
-    (sym (append-nil spots))
+    search (rules, interval-in-turn, apart-front, in-front, append-nil)
 intervals-in-turn p vias k spots (next ∷ more) arrays bytes apart inside =
-    ap (λ (o : Outcome (Arrays × Option Marker)). reading.◌>>=◌ o
-    (next_interval k (intervals_from p vias (suc k) next more)))
-    (interval-in-turn p vias spots arrays bytes (apart-front spots (all_of (next ∷ more)) apart)
-    (λ q t. inside q (in-front q spots (all_of (next ∷ more)) t)))
+    (search (rules, interval-in-turn, apart-front, in-front))
     ∙ go (interval p (turns_of vias spots arrays) bytes)
-    (subst (λ (n : ℕ). IsLongAfter n (interval p (turns_of vias spots arrays) bytes)) (turns-long vias spots arrays)
-    (interval-long p (turns_of vias spots arrays) bytes))
+    (search (rules, turns-long, interval-long))
     (λ blocks rest. intervals-in-turn p vias (suc k) next more (put_blocks spots blocks arrays) rest
     (apart-back spots (all_of (next ∷ more)) apart)
     (λ q t. inside-after spots blocks arrays q (inside q (in-back q spots (all_of (next ∷ more)) t))))
@@ -279,14 +217,13 @@ intervals-in-turn p vias k spots (next ∷ more) arrays bytes apart inside =
 
     kept : (blocks : List Block) (q : Spot) → IsIn q after
         → block_at (put_blocks spots blocks arrays) q ≡ block_at arrays q
-    kept blocks q t = others-kept spots blocks arrays q (inside q (in-back q spots after t))
-        (λ u. apart-between q spots after apart u t)
+    kept blocks q t = search (rules, others-kept, in-back, apart-between)
 
     both : (r : (List Block × Option Marker) × List ℕ) → length r.0.0 ≡ length spots
         → (o : Outcome (List Block × Option Marker))
         → put_after after (put_blocks spots r.0.0 arrays) o
         ≡ put_after (spots ++ after) arrays (blocks_before r.0.0 o)
-    both r h (Ok s) = ap (λ (l : Arrays). Ok ((l, s.0.1), s.1)) (sym (put-both spots after r.0.0 s.0.0 arrays h))
+    both r h (Ok s) = search (rules, put-both)
     both r h (Err e) = refl
 
     test : (r : (List Block × Option Marker) × List ℕ) → length r.0.0 ≡ length spots

@@ -1,17 +1,17 @@
 -- A picture is made of the samples inside its components.
-use Rattle.std.proofs.Common.{◌≡◌, ℕ, zero, suc, ◌+◌, ◌-◌, ◌*◌, ◌/◌, ◌%◌, ◌<◌, ◌≤◌, ◌==◌, Bool, true, false, cond}
-use Rattle.std.proofs.Common.{List, [], ◌∷◌, map, length, slice_index, Option, Some, None, Result, Ok, Err, refl, sym}
-use Rattle.std.proofs.Common.{ap, ap₂, ◌∙◌, subst, arith, min}
+use Rattle.std.proofs.Common.{rules, ◌≡◌, ℕ, zero, suc, ◌+◌, ◌*◌, ◌/◌, ◌%◌, ◌<◌, ◌≤◌, List, [], ◌∷◌, map, length}
+use Rattle.std.proofs.Common.{slice_index, Option, Some, None, Ok, refl, sym, ap, ap₂, ◌∙◌, subst, arith}
+use Rattle.std.proofs.lemmas.Grind.{common_steps}
 use Rattle.std.proofs.Math.Nat.{div-lt_iff_lt-mul, mod-lt, mul_comm}
 use Rattle.std.specs.List.{range_with_len, concat}
-use Rattle.jpeg_bits.specs.Reading.{Fault, Lacks, ◌>>=◌}
+use Rattle.jpeg_bits.specs.Reading.{Lacks}
 use Rattle.jpeg_bits.specs.declared.color_transform.ColorTransform.{ColorTransform}
-use Rattle.jpeg_segments.specs.Frame.{Component, greatest}
+use Rattle.jpeg_segments.specs.Frame.{Component}
 use Rattle.jpeg_pixels.specs.declared.upsampler.UpsampleRule.{UpsampleRule}
 use Rattle.jpeg_pixels.specs.declared.upsampler.UpsampleRule.TheVariants.{H1V1, H2V1, H1V2, H2V2, Generic}
 use Rattle.jpeg_pixels.specs.declared.upsampler.ColorConvert.{ColorConvert}
-use Rattle.jpeg_pixels.specs.Upsampling.{upsampled, across, down, far_place, blended, line_sum, rule_of}
-use Rattle.jpeg_pixels.specs.Colour.{line_bytes, conversion_of}
+use Rattle.jpeg_pixels.specs.Upsampling.{upsampled, across, down, far_place}
+use Rattle.jpeg_pixels.specs.Colour.{line_bytes}
 use Rattle.jpeg_pixels.specs.Pictures.{Source, source_by, source_of, sources_by, sources_of, line_of, lines_of}
 use Rattle.jpeg_pixels.specs.Pictures.{picture_line, picture_bytes, image_of}
 use Rattle.jpeg_pixels.specs.Planes.{cropped}
@@ -24,11 +24,7 @@ abbrev pub Agree : ℕ → ℕ → (ℕ → ℕ → ℕ) → (ℕ → ℕ → �
 Agree w h p q = (i j : ℕ) → i < w → j < h → p i j ≡ q i j
 
 far-within : (count i : ℕ) → 0 < count → i < 2 * count → far_place count i < count
-far-within count i some h = go (i % 2 == 0)
-  where
-    go : (b : Bool) → cond b (i / 2 - 1) (min (i / 2 + 1) (count - 1)) < count
-    go true = omega arith
-    go false = omega arith
+far-within count i some h = search rules
 
 -- a sample between a component's own is made of those inside
 upsampled-inside : (rule : UpsampleRule) (w h width height x y : ℕ) (p q : ℕ → ℕ → ℕ) → 0 < w → 0 < h
@@ -37,26 +33,11 @@ upsampled-inside : (rule : UpsampleRule) (w h width height x y : ℕ) (p q : ℕ
     → upsampled rule p w h x y ≡ upsampled rule q w h x y
 unfolding upsampled
 upsampled-inside H1V1 w h width height x y p q a b c d e f k l same = same x y (omega arith) (omega arith)
-upsampled-inside H2V1 w h width height x y p q a b c d e f k l same =
-    ap₂ blended (same (x / 2) y (omega arith) (omega arith))
-    (same (far_place w x) y (far-within w x a (omega arith)) (omega arith))
-upsampled-inside H1V2 w h width height x y p q a b c d e f k l same =
-    ap₂ blended (same x (y / 2) (omega arith) (omega arith))
-    (same x (far_place h y) (omega arith) (far-within h y b (omega arith)))
-upsampled-inside H2V2 w h width height x y p q a b c d e f k l same =
-    let far = far-within w x a (omega arith) in
-    let low = far-within h y b (omega arith) in
-    let one : line_sum p h y (x / 2) ≡ line_sum q h y (x / 2)
-    = ap₂ (λ (m n : ℕ). 3 * m + n) (same (x / 2) (y / 2) (omega arith) (omega arith))
-    (same (x / 2) (far_place h y) (omega arith) low) in
-    let two : line_sum p h y (far_place w x) ≡ line_sum q h y (far_place w x)
-    = ap₂ (λ (m n : ℕ). 3 * m + n) (same (far_place w x) (y / 2) far (omega arith))
-    (same (far_place w x) (far_place h y) far low) in
-    ap₂ (λ (m n : ℕ). (3 * m + n + 8) / 16) one two
+upsampled-inside H2V1 w h width height x y p q a b c d e f k l same = search (rules, far-within)
+upsampled-inside H1V2 w h width height x y p q a b c d e f k l same = search (rules, far-within)
+upsampled-inside H2V2 w h width height x y p q a b c d e f k l same = search (rules, far-within)
 upsampled-inside (Generic s t) w h width height x y p q a b c d e f k l same =
-    let e1 = mul_comm s w in
-    let e2 = mul_comm t h in
-    same (x / s) (y / t) ((div-lt_iff_lt-mul c).1 (omega arith)) ((div-lt_iff_lt-mul d).1 (omega arith))
+    grind (arith, common_steps, mul_comm, div-lt_iff_lt-mul)
 
 -- ---- lines and pictures
 
@@ -88,11 +69,7 @@ AllReach (s ∷ sources) width height = Reaches s width height × AllReach sourc
 line-same : (s : Source) (p q : List ℕ) (width height row : ℕ) → Reaches s width height → row < height
     → SamePlane s.stride s.width s.height p q
     → line_of s p width row ≡ line_of s q width row
-line-same s p q width height row c low same =
-    map-same (λ x. upsampled s.rule (λ i j. slice_index p (j * s.stride + i)) s.width s.height x row)
-    (λ x. upsampled s.rule (λ i j. slice_index q (j * s.stride + i)) s.width s.height x row) 0 width
-    (λ x a b. upsampled-inside s.rule s.width s.height width height x row _ _ c.some_width c.some_height c.some_across
-    c.some_down c.wide_enough c.high_enough (omega arith) low same.each)
+line-same s p q width height row c low same = search (rules, map-same, slice_index, upsampled-inside)
 
 abbrev pub AllSame : List Source → List (List ℕ) → List (List ℕ) → Type 0
 AllSame [] ps qs = Unit {0}
@@ -108,8 +85,7 @@ lines-same [] ps qs width height row c low same = refl
 lines-same (s ∷ sources) [] qs width height row c low same = absurd same
 lines-same (s ∷ sources) (p ∷ ps) [] width height row c low same = absurd same
 lines-same (s ∷ sources) (p ∷ ps) (q ∷ qs) width height row c low same =
-    ap₂ (λ (x : List ℕ) (l : List (List ℕ)). x ∷ l) (line-same s p q width height row c.0 low same.0)
-    (lines-same sources ps qs width height row c.1 low same.1)
+    search (rules, line-same, lines-same sources ps qs width height row c.1 low same.1)
 
 picture-line : (convert : ColorConvert) (sources : List Source) (ps : List (List ℕ)) (width row : ℕ)
     → picture_line convert sources ps width row ≡ line_bytes convert width (lines_of sources ps width row)
@@ -143,17 +119,13 @@ sources-same : (a b width height : ℕ) (components : List Component) (sources :
     → sources_by a b width height components ≡ Ok sources → AllAlike components ps qs
     → AllSame sources ps qs
 unfolding sources_by
-sources-same a b width height [] sources ps qs e h =
-    subst (λ (l : List Source). AllSame l ps qs) (ok-same [] sources e) tt
+sources-same a b width height [] sources ps qs e h = search (rules, ok-same)
 sources-same a b width height (c ∷ more) sources [] qs e h = absurd h
 sources-same a b width height (c ∷ more) sources (p ∷ ps) [] e h = absurd h
 sources-same a b width height (c ∷ more) sources (p ∷ ps) (q ∷ qs) e h =
     let one = bind-ok (source_of a b width height c) _ sources e in
     let others = bind-ok (sources_by a b width height more) _ sources one.2 in
-    subst (λ (l : List Source). AllSame l (p ∷ ps) (q ∷ qs)) (ok-same (one.0 ∷ others.0) sources others.2) (
-      source-plane c (rule_of c.factors.horizontal c.factors.vertical a b width height) one.0 p q one.1 h.0,
-      sources-same a b width height more others.0 ps qs others.1 h.1,
-    )
+    search (rules, ok-same, source-plane, sources-same a b width height more others.0 ps qs others.1 h.1)
 
 -- The image of several components.
 pub image-same : (components : List Component) (ps qs : List (List ℕ)) (width height : ℕ) (transform : ColorTransform)
@@ -161,24 +133,7 @@ pub image-same : (components : List Component) (ps qs : List (List ℕ)) (width 
     → AllAlike components ps qs
     → image_of components ps width height transform ≡ image_of components qs width height transform
 unfolding image_of
-image-same components ps qs width height transform covers same = go (conversion_of (length components) transform)
-  where
-    then_ : (convert : ColorConvert) (o : Result (List Source) Fault) → sources_of components width height ≡ o
-        → (o >>= (λ sources. Ok (picture_bytes convert sources ps width height)))
-        ≡ (o >>= (λ sources. Ok (picture_bytes convert sources qs width height)))
-    then_ convert (Err e) f = refl
-    then_ convert (Ok sources) f =
-        ap (λ (x : List ℕ). Ok x) (picture-same convert sources ps qs width height (covers sources f)
-        (sources-same (greatest (λ x. x.horizontal) (map (λ c. c.factors) components))
-        (greatest (λ x. x.vertical) (map (λ c. c.factors) components)) width height components sources ps qs f same))
-
-    go : (o : Result ColorConvert Fault)
-        → (o >>= (λ convert. sources_of components width height >>=
-        (λ sources. Ok (picture_bytes convert sources ps width height))))
-        ≡ (o >>= (λ convert. sources_of components width height >>=
-        (λ sources. Ok (picture_bytes convert sources qs width height))))
-    go (Err e) = refl
-    go (Ok convert) = then_ convert (sources_of components width height) refl
+image-same components ps qs width height transform covers same = search (rules, picture-same, sources-same)
 
 -- The first samples of the first lines.
 pub cropped-same : (stride w h width height : ℕ) (p q : List ℕ) → width ≤ w → height ≤ h → SamePlane stride w h p q
@@ -190,11 +145,6 @@ cropped-same stride w h width height p q a b same =
   where
     go : (n : ℕ) → n ≡ width → (i : ℕ) → i < 0 + width * height
         → slice_index p (i / width * stride + i % width) ≡ slice_index q (i / width * stride + i % width)
-    go zero e i lt = absurd
-        (let z : width * height ≡ 0 = ap (λ (x : ℕ). x * height) (sym e) ∙ omega arith in omega arith)
+    go zero e i lt = search rules
     go (suc n) e i lt =
-        let some : 0 < width = omega arith in
-        let c = mul_comm width height in
-        let row : i / width < height = (div-lt_iff_lt-mul some).1 (omega arith) in
-        let column : i % width < width = mod-lt i some in
-        same.each (i % width) (i / width) (omega arith) (omega arith)
+        grind (arith, common_steps, mul_comm, div-lt_iff_lt-mul, mod-lt)

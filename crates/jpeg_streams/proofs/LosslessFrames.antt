@@ -1,9 +1,7 @@
 -- A lossless frame header that is written is accepted.
-use Rattle.std.proofs.Common.{◌≡◌, ℕ, zero, suc, ◌≤◌, ◌<◌, ◌&&◌, Bool, true, false, List, [], ◌∷◌, ◌++◌}
-use Rattle.std.proofs.Common.{length, refl, arith, Ok}
-use Rattle.std.specs.Prelude.{nat_le}
+use Rattle.std.proofs.Common.{rules, ◌≡◌, ℕ, ◌≤◌, ◌<◌, ◌&&◌, Bool, true, false, List, [], ◌∷◌, ◌++◌, length, Ok}
 use Rattle.std.specs.List.{AllByRecursion}
-use Rattle.std.proofs.lemmas.Bool.{le-leb}
+use Rattle.std.proofs.lemmas.Bool.{le-leb, and_from as both-true}
 use Rattle.jpeg_segments.specs.Frame.{Factors, Frame, IsInRange, frame_of}
 use Rattle.jpeg_segments.specs.WrittenSegments.{AreComponents, FrameHeader, IsFrame, frame_written}
 use Rattle.jpeg_streams.specs.Segments.{accepted, is_arithmetic, is_decoded_precision}
@@ -14,20 +12,11 @@ use Rattle.jpeg_streams.proofs.PicturedFrames.{accepted-by, header-count, header
 
 -- ---- frames
 
-both-true : (a b : Bool) → a ≡ true → b ≡ true → (a && b) ≡ true
-both-true true b e f = f
-both-true false b e f = absurd (let n : ⊥ = cc in n)
-
 header-process : (h : FrameHeader) → HasSamples 3 h
     → ((frame_written 3 h).is_differential ≡ false) × (is_arithmetic (frame_written 3 h).coding ≡ false)
     × (is_decoded_precision (frame_written 3 h).process (frame_written 3 h).precision ≡ true)
 unfolding frame_of
-header-process h p = (
-  refl,
-  refl,
-  both-true (nat_le 2 h.precision) (nat_le h.precision 16) (le-leb 2 h.precision p.least)
-      (le-leb h.precision 16 p.most),
-)
+header-process h p = search (rules, both-true, le-leb)
 
 accepted-three : (h : FrameHeader) → IsFrame 3 h → HasSamples 3 h
     → accepted (frame_written 3 h) ≡ Ok (frame_written 3 h)
@@ -38,14 +27,7 @@ accepted-three h is p =
 
 pub lossless-accepted : (number : ℕ) (h : FrameHeader) → IsFrame number h → HasSamples number h
     → accepted (frame_written number h) ≡ Ok (frame_written number h)
-lossless-accepted number h is p = go number p.lossless is p
-  where
-    go : (n : ℕ) → n ≡ 3 → IsFrame n h → HasSamples n h → accepted (frame_written n h) ≡ Ok (frame_written n h)
-    go zero e = absurd (omega arith)
-    go (suc zero) e = absurd (omega arith)
-    go (suc (suc zero)) e = absurd (omega arith)
-    go (suc (suc (suc zero))) e = accepted-three h
-    go (suc (suc (suc (suc n)))) e = absurd (omega arith)
+lossless-accepted number h is p = search (rules, accepted-three)
 
 -- A frame with lines and columns, whose components have their sizes, and whose picture is as large.
 pub record IsShaped (frame : Frame) : Type 0 where
@@ -64,11 +46,4 @@ all-ranged number front (c ∷ cs) h = (h.0.ranged, all-ranged number (front ++ 
 pub header-shaped : (number : ℕ) (h : FrameHeader) → IsFrame number h
     → accepted (frame_written number h) ≡ Ok (frame_written number h) → IsShaped (frame_written number h)
 unfolding frame_of
-header-shaped number h is ok = record {
-  across = refl;
-  down = refl;
-  wide = is.wide;
-  high = is.high;
-  few = accepted-few (frame_written number h) (frame_written number h) ok;
-  made = frames-made number h.precision h.width h.height h.components (all-ranged number [] h.components is.components);
-}
+header-shaped number h is ok = search (rules, accepted-few, frames-made, all-ranged)

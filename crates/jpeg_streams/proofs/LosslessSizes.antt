@@ -1,6 +1,6 @@
 -- The sizes of the components of a lossless frame, and the MCUs of its scans.
-use Rattle.std.proofs.Common.{◌≡◌, ℕ, zero, suc, ◌*◌, ◌<◌, ◌≤◌, List, [], ◌∷◌, map}
-use Rattle.std.proofs.Common.{length, drop, Some, refl, sym, ap, ◌∙◌, subst, arith}
+use Rattle.std.proofs.Common.{rules, ◌≡◌, ℕ, zero, suc, ◌*◌, ◌<◌, ◌≤◌, List, [], ◌∷◌, map, drop, Some, refl, ap, subst}
+use Rattle.std.proofs.Common.{arith}
 use Rattle.std.specs.List.{AllByRecursion}
 use Rattle.std.proofs.lemmas.List.Elements.{recursion_from_All}
 use Rattle.std.proofs.Math.Nat.{mul-le-mul_right, mul_comm, mul_assoc}
@@ -13,7 +13,7 @@ use Rattle.jpeg_lossless.specs.Pictures.{Reaches, factors_of, most_across, most_
 use Rattle.jpeg_streams.specs.LosslessScans.{LosslessCoding, mcus_across, mcus_down, part_of, parts_of}
 use Rattle.jpeg_streams.specs.Needed.{first_of}
 use Rattle.jpeg_streams.specs.Sound.{IsDecodedFrame}
-use Rattle.jpeg_streams.proofs.FrameShapes.{below-ceiling, ceiling-covers, ceiling-least}
+use Rattle.jpeg_streams.proofs.FrameShapes.{below-ceiling, ceiling-covers, ceiling-least, greatest-some}
 
 pub all-at : {A : Type 0} (P : A → Type 0) (n : ℕ) (xs : List A) (x : A) → AllByRecursion P xs
     → first_of (drop n xs) ≡ Some x → P x
@@ -21,12 +21,6 @@ all-at P zero [] x all e = absurd (let n : ⊥ = cc in n)
 all-at P (suc n) [] x all e = absurd (let n : ⊥ = cc in n)
 all-at P zero (y ∷ xs) x all e = subst P (let s : y ≡ x = cc in s) all.0
 all-at P (suc n) (y ∷ xs) x all e = all-at P n xs x all.1 e
-
-pub place-below : {A : Type 0} (n : ℕ) (xs : List A) (x : A) → first_of (drop n xs) ≡ Some x → n < length xs
-place-below zero [] x e = absurd (let n : ⊥ = cc in n)
-place-below (suc n) [] x e = absurd (let n : ⊥ = cc in n)
-place-below zero (y ∷ xs) x e = omega arith
-place-below (suc n) (y ∷ xs) x e = let h = place-below n xs x e in omega arith
 
 -- ---- a component by its factors
 
@@ -36,10 +30,6 @@ pub record IsMade (frame : Frame) (c : Component) : Type 0 where
   pub height : c.height ≡ ceiling (frame.height * c.factors.vertical) (most_down frame)
   pub horizontal : 1 ≤ c.factors.horizontal
   pub vertical : 1 ≤ c.factors.vertical
-
-pub greatest-some : (f : Factors → ℕ) (cs : List Factors) → 0 < greatest f cs
-greatest-some f [] = omega arith
-greatest-some f (c ∷ cs) = let h = greatest-some f cs in omega arith
 
 pub some-across : (frame : Frame) → 0 < most_across frame
 some-across frame = greatest-some (λ f. f.horizontal) (factors_of frame)
@@ -58,15 +48,7 @@ all-made : (frame : Frame) (mh mv : ℕ) (cs : List Factors) → most_across fra
     → AllByRecursion (IsMade frame) (map (component_of frame.width frame.height mh mv) cs)
 unfolding component_of
 all-made frame mh mv [] a d h = tt
-all-made frame mh mv (c ∷ cs) a d h = (
-  record {
-    width = ap (ceiling (frame.width * c.horizontal)) (sym a);
-    height = ap (ceiling (frame.height * c.vertical)) (sym d);
-    horizontal = h.0.horizontal_some;
-    vertical = h.0.vertical_some;
-  },
-  all-made frame mh mv cs a d h.1,
-)
+all-made frame mh mv (c ∷ cs) a d h = search (rules, all-made frame mh mv cs a d h.1)
 
 -- the components of a frame that a header gives
 pub frames-made : (number precision width height : ℕ) (cs : List Factors) → AllByRecursion IsInRange cs
@@ -84,47 +66,24 @@ frames-made number precision width height cs h =
 pub decoded-made : (frame : Frame) → IsDecodedFrame frame → frame.process ≡ Lossless
     → AllByRecursion (IsMade frame) frame.components
 unfolding frame_at
-decoded-made frame p e =
-    let q = p.is_read in
-    let lossless : p.full.process ≡ Lossless = ap (λ (x : Frame). x.process) (sym p.made) ∙ e in
-    let full : p.full ≡ frame = sym (full_frames p.full q)
-    ∙ ap (λ (s : ℕ). frame_at s p.full) (sym (p.is_full lossless)) ∙ sym p.made in
-    subst (λ (f : Frame). AllByRecursion (IsMade f) f.components) (sym q.made ∙ full)
-    (frames-made q.number q.precision q.width q.height q.factors (recursion_from_All IsInRange q.factors q.in_range))
+decoded-made frame p e = search (rules, full_frames, frames-made, recursion_from_All)
 
 -- ---- sizes
 
 pub ceiling-some : (a b : ℕ) → 0 < a → 0 < b → 0 < ceiling a b
-ceiling-some a b h m =
-    let z : 0 * b ≡ 0 = omega arith in
-    (below-ceiling 0 a b m).1 (omega arith)
+ceiling-some a b h m = search (rules, below-ceiling)
 
 product-some : (a b : ℕ) → 0 < a → 1 ≤ b → 0 < a * b
-product-some a b h k =
-    let le : 1 * b ≤ a * b = mul-le-mul_right b h in
-    let one : 1 * b ≡ b = omega arith in
-    omega arith
+product-some a b h k = search (rules, mul-le-mul_right)
 
 pub made-wide : (frame : Frame) (c : Component) → 0 < frame.width → IsMade frame c → 0 < c.width
-made-wide frame c h is =
-    let some = ceiling-some (frame.width * c.factors.horizontal) (most_across frame)
-    (product-some frame.width c.factors.horizontal h is.horizontal) (some-across frame) in
-    omega (arith, some, is.width)
+made-wide frame c h is = search (rules, ceiling-some, product-some, some-across)
 
 pub made-high : (frame : Frame) (c : Component) → 0 < frame.height → IsMade frame c → 0 < c.height
-made-high frame c h is =
-    let some = ceiling-some (frame.height * c.factors.vertical) (most_down frame)
-    (product-some frame.height c.factors.vertical h is.vertical) (some-down frame) in
-    omega (arith, some, is.height)
+made-high frame c h is = search (rules, ceiling-some, product-some, some-down)
 
 pub made-reaches : (frame : Frame) (c : Component) → IsMade frame c → Reaches frame c
-made-reaches frame c is =
-    let a = ceiling-covers (frame.width * c.factors.horizontal) (most_across frame) (some-across frame) in
-    let d = ceiling-covers (frame.height * c.factors.vertical) (most_down frame) (some-down frame) in
-    record {
-      across = subst (λ (n : ℕ). frame.width * c.factors.horizontal ≤ n * most_across frame) (sym is.width) a;
-      down = subst (λ (n : ℕ). frame.height * c.factors.vertical ≤ n * most_down frame) (sym is.height) d;
-    }
+made-reaches frame c is = search (rules, ceiling-covers, some-across, some-down)
 
 pub all-reach : (frame : Frame) (cs : List Component) → AllByRecursion (IsMade frame) cs
     → AllByRecursion (Reaches frame) cs
@@ -137,27 +96,22 @@ covered : (size factor most : ℕ) → 0 < most → ceiling (size * factor) most
 covered size factor most h =
     let c = ceiling size most in
     let le : size * factor ≤ (c * most) * factor = mul-le-mul_right factor (ceiling-covers size most h) in
-    let turned : (c * most) * factor ≡ (c * factor) * most = mul_assoc c most factor
-    ∙ ap (λ (x : ℕ). c * x) (mul_comm most factor) ∙ sym (mul_assoc c factor most) in
+    let turned : (c * most) * factor ≡ (c * factor) * most = search (rules, mul_assoc, mul_comm) in
     ceiling-least (size * factor) most (c * factor) h (omega arith)
 
 pub made-covered : (frame : Frame) (c : Component) → IsMade frame c
     → (c.width ≤ ceiling frame.width (most_across frame) * c.factors.horizontal)
     × (c.height ≤ ceiling frame.height (most_down frame) * c.factors.vertical)
-made-covered frame c is =
-    let a = covered frame.width c.factors.horizontal (most_across frame) (some-across frame) in
-    let d = covered frame.height c.factors.vertical (most_down frame) (some-down frame) in
-    (omega (arith, a, is.width), omega (arith, d, is.height))
+made-covered frame c is = search (rules, covered, some-across, some-down)
 
 all-among : (frame : Frame) (codings : List LosslessCoding) → AllByRecursion (λ k. IsMade frame k.component) codings
     → AllByRecursion (IsCovered (ceiling frame.width (most_across frame)) (ceiling frame.height (most_down frame)))
     (map (λ k. part_of k.component.factors.horizontal k.component.factors.vertical k) codings)
 all-among frame [] h = tt
-all-among frame (k ∷ codings) h =
-    let c = made-covered frame k.component h.0 in
-    (record { across = c.0; down = c.1 }, all-among frame codings h.1)
+all-among frame (k ∷ codings) h = search (rules, made-covered, all-among frame codings h.1)
 
-pub all-covered : (frame : Frame) (codings : List LosslessCoding) → AllByRecursion (λ k. IsMade frame k.component) codings
+pub all-covered : (frame : Frame) (codings : List LosslessCoding) → AllByRecursion (λ k. IsMade frame k.component)
+    codings
     → AllByRecursion (IsCovered (mcus_across frame codings) (mcus_down frame codings)) (parts_of codings)
 unfolding mcus_across mcus_down parts_of
 all-covered frame [] h = tt

@@ -1,25 +1,26 @@
 -- A scan from zeros is its rows of MCUs, each read into blocks of its own.
-use Rattle.std.proofs.Common.{◌≡◌, ◌⊎◌, inl, inr, ℕ, zero, suc, ◌+◌, ◌-◌, ◌*◌, ◌/◌, ◌%◌, ◌≤◌, ◌<◌, Bool, true, false}
-use Rattle.std.proofs.Common.{List, [], ◌∷◌, ◌++◌, map, length, set, get_or, replicate, ℤ, pos, Result, Ok, Err, refl}
-use Rattle.std.proofs.Common.{sym, ap, ap₂, ◌∙◌, subst, append_assoc, append-nil, arith, length-set}
-use Rattle.std.specs.Prelude.{◌==◌, ◌&&◌, nat_lt, min}
+use Rattle.std.proofs.Common.{rules, ◌≡◌, inr, ℕ, zero, suc, ◌+◌, ◌-◌, ◌*◌, ◌/◌, ◌≤◌, ◌<◌, List, [], ◌∷◌, ◌++◌, map}
+use Rattle.std.proofs.Common.{length, set, get_or, replicate, Result, Ok, Err, refl, sym, ap, ap₂, ◌∙◌, append_assoc}
+use Rattle.std.proofs.Common.{append-nil, arith, length-set}
+use Rattle.std.proofs.lemmas.Grind.{common_steps}
+use Rattle.std.specs.Prelude.{min}
 use Rattle.std.specs.List.{AllByRecursion, range_with_len, flat_map}
 use Rattle.jpeg_bits.specs.Reading.{Fault}
 use Rattle.jpeg_bits.specs.Entropy.{Text, upcoming, fresh}
 use Rattle.jpeg_bits.specs.Readers.{Reads, read_on, gives}
 use Rattle.jpeg_segments.specs.Frame.{Frame, Component}
-use Rattle.jpeg_bits.specs.Passes.{Pass, Via, Block, zero_block, block_from}
+use Rattle.jpeg_bits.specs.Passes.{Pass, Via, Block, zero_block}
 use Rattle.jpeg_streams.specs.Order.{Spot, grid_of, own_spots, part_spots, mcu_spots, all_spots, spots_of, mcu_size}
-use Rattle.jpeg_streams.specs.Scans.{Arrays, zero_arrays, block_at, put_block, via_at}
-use Rattle.jpeg_streams.specs.InTurn.{Reached, turn_from, at_start, restart_from, Counted, begun_from}
-use Rattle.jpeg_streams.specs.InTurn.{next_from, blocks_from, IsIn, IsInside}
-use Rattle.jpeg_streams.specs.McuRows.{zero_rows, row_size, own_row, row_at, rows_of, joined, on_arrays}
-use Rattle.jpeg_streams.specs.McuRows.{rows_from, scan_by_rows}
+use Rattle.jpeg_streams.specs.Scans.{Arrays, zero_arrays, block_at, put_block}
+use Rattle.jpeg_streams.specs.InTurn.{Reached, turn_from, Counted, begun_from, next_from, blocks_from, IsIn, IsInside}
+use Rattle.jpeg_streams.specs.InTurn.{Fits, counted_at_start, scan_from}
+use Rattle.jpeg_streams.specs.McuRows.{zero_rows, row_size, own_row, row_at, rows_of, joined, on_arrays, rows_from}
+use Rattle.jpeg_streams.specs.McuRows.{scan_by_rows}
 use Rattle.jpeg_streams.proofs.Put.{put-inside}
 use Rattle.std.proofs.Math.Nat.{add-mul, mul_assoc, div-lt_iff_lt-mul}
 use Rattle.std.proofs.lemmas.Nat.{div-mul-add}
-use Rattle.jpeg_streams.specs.InTurn.{Fits, counted_at_start, scan_from}
 use Rattle.jpeg_streams.proofs.Apart.{At, at-all, in-flat-back, in-line-back, mcu-tells, placed}
+use Rattle.jpeg_streams.proofs.Apart.{length-same as length-some}
 use Rattle.jpeg_streams.proofs.CountedScans.{finished, on-on, blocks-append, some-product}
 
 -- ---- a list inside another
@@ -40,17 +41,7 @@ set-inside {A} x y z i b h = front x (length x + i) refl
 
 get-inside : {A : Type 0} (x y z : List A) (i : ℕ) (d : A) → i < length y → get_or (x ++ (y ++ z)) (length x + i) d
     ≡ get_or y i d
-get-inside {A} x y z i d h = front x (length x + i) refl
-  where
-    middle : (y z : List A) (i : ℕ) (d : A) → i < length y → get_or (y ++ z) i d ≡ get_or y i d
-    middle [] z i d h = absurd (omega arith)
-    middle (a ∷ y) z zero d h = refl
-    middle (a ∷ y) z (suc i) d h = middle y z i d (omega arith)
-
-    front : (x : List A) (n : ℕ) → n ≡ length x + i → get_or (x ++ (y ++ z)) n d ≡ get_or y i d
-    front [] n e = ap (λ (k : ℕ). get_or (y ++ z) k d) (omega arith) ∙ middle y z i d h
-    front (a ∷ x) zero e = absurd (omega arith)
-    front (a ∷ x) (suc n) e = front x n (omega arith)
+get-inside {A} x y z i d h = grind (arith, common_steps)
 
 -- ---- arrays inside others
 
@@ -97,25 +88,15 @@ shifted front s = record { slot = s.slot; index = length (get_or front s.slot []
 
 get-shifted : (front arrays rest : Arrays) (s : Spot) → Aligned front arrays rest → IsInside arrays s
     → block_at (around front arrays rest) (shifted front s) ≡ block_at arrays s
-get-shifted front arrays rest s a h =
-    ap (λ (l : List Block). get_or l (length (get_or front s.slot []) + s.index) zero_block)
-    (get-around front arrays rest s.slot a h.slot)
-    ∙ get-inside (get_or front s.slot []) (get_or arrays s.slot []) (get_or rest s.slot []) s.index zero_block h.index
+get-shifted front arrays rest s a h = search (rules, get-around, get-inside)
 
 put-shifted : (front arrays rest : Arrays) (s : Spot) (b : Block) → Aligned front arrays rest → IsInside arrays s
     → put_block (shifted front s) b (around front arrays rest) ≡ around front (put_block s b arrays) rest
-put-shifted front arrays rest s b a h =
-    ap (λ (l : List Block). set (around front arrays rest) s.slot (set l (length (get_or front s.slot []) + s.index) b))
-    (get-around front arrays rest s.slot a h.slot)
-    ∙ ap (λ (l : List Block). set (around front arrays rest) s.slot l)
-    (set-inside (get_or front s.slot []) (get_or arrays s.slot []) (get_or rest s.slot []) s.index b h.index)
-    ∙ set-around front arrays rest s.slot (set (get_or arrays s.slot []) s.index b) a
+put-shifted front arrays rest s b a h = search (rules, get-around, set-inside, set-around)
 
 put-aligned : (front arrays rest : Arrays) (s : Spot) (b : Block) → Aligned front arrays rest
     → Aligned front (put_block s b arrays) rest
-put-aligned front arrays rest s b a =
-    let e = length-set arrays s.slot (set (get_or arrays s.slot []) s.index b) in
-    record { before = let x = a.before in omega arith; after = let x = a.after in omega arith }
+put-aligned front arrays rest s b a = search (rules, length-set)
 
 -- ---- reading
 
@@ -132,11 +113,7 @@ pub record Holds (front rest : Arrays) (spots : List Spot) (arrays : Arrays) : T
 
 put-holds : (front rest : Arrays) (spots : List Spot) (arrays : Arrays) (s : Spot) (b : Block)
     → Holds front rest spots arrays → Holds front rest spots (put_block s b arrays)
-put-holds front rest spots arrays s b h =
-    record {
-      aligned = put-aligned front arrays rest s b h.aligned;
-      inside = λ q t. put-inside s q b arrays (h.inside q t);
-    }
+put-holds front rest spots arrays s b h = search (rules, put-aligned, put-inside)
 
 fewer-hold : (front rest : Arrays) (spots fewer : List Spot) (arrays : Arrays)
     → ((s : Spot) → IsIn s fewer → IsIn s spots) → Holds front rest spots arrays → Holds front rest fewer arrays
@@ -154,21 +131,7 @@ KeepsCounted P (Err e) = Unit {0}
 begun-keeps : (P : Arrays → Type 0) (n : ℕ) (old : Counted) (t : Text) → P old.reached.arrays
     → KeepsCounted P (begun_from n old t)
 unfolding begun_from
-begun-keeps P n old t h = test (nat_lt 0 n && old.left == 0)
-  where
-    start : Counted
-    start = record { reached = at_start old.reached.arrays; left = n; number = (old.number + 1) % 8 }
-
-    one : (o : Result (Unit {0} × Text) Fault) → KeepsCounted P (read_on (λ (u : Unit {0}). gives start) o)
-    one (Ok r) = h
-    one (Err e) = tt
-
-    test : (b : Bool) → KeepsCounted P ((elim b as (λ _. Reads Counted) [
-      | true ↦ (λ (v : Text). read_on (λ (u : Unit {0}). gives start) (restart_from old.number v))
-      | false ↦ gives old
-    ]) t)
-    test true = one (restart_from old.number t)
-    test false = h
+begun-keeps P n old t h = search rules
 
 abbrev pub after_turn : Counted → Reached → Counted
 after_turn now r = record { reached = r; left = now.left - 1; number = now.number }
@@ -188,18 +151,7 @@ IsKept P = (arrays : Arrays) (s : Spot) (b : Block) → P arrays → P (put_bloc
 turn-any : (P : Arrays → Type 0) → IsKept P → (p : Pass) (vias : List Via) (s : Spot) (old : Reached) (t : Text)
     → P old.arrays → Keeps P (turn_from p vias s old t)
 unfolding turn_from
-turn-any P kept p vias s old t h =
-    go (block_from p (via_at vias s.slot).dc (via_at vias s.slot).ac
-    (get_or old.predictors (via_at vias s.slot).component (pos 0)) old.run (block_at old.arrays s) t)
-  where
-    go : (o : Result ((Block × ℤ × ℕ) × Text) Fault)
-        → Keeps P (read_on (λ (r : Block × ℤ × ℕ). gives (record {
-          arrays = put_block s r.0 old.arrays;
-          predictors = set old.predictors (via_at vias s.slot).component r.1;
-          run = r.2;
-        })) o)
-    go (Ok r) = kept old.arrays s r.0.0 h
-    go (Err e) = tt
+turn-any P kept p vias s old t h = search rules
 
 next-any : (P : Arrays → Type 0) → IsKept P → (p : Pass) (vias : List Via) (n : ℕ) (s : Spot) (old : Counted)
     (t : Text) → P old.reached.arrays
@@ -207,7 +159,7 @@ next-any : (P : Arrays → Type 0) → IsKept P → (p : Pass) (vias : List Via)
 unfolding next_from
 next-any P kept p vias n s old t h =
     counted-on P (λ now. λ u. read_on (λ r. gives (after_turn now r)) (turn_from p vias s now.reached u))
-    (λ now u k. one now (turn_from p vias s now.reached u) (turn-any P kept p vias s now.reached u k))
+    (search (rules, turn-any, one))
     (begun_from n old t) (begun-keeps P n old t h)
   where
     one : (now : Counted) (o : Result (Reached × Text) Fault) → Keeps P o
@@ -234,69 +186,13 @@ turn-shifted : (p : Pass) (vias : List Via) (front rest : Arrays) (s : Spot) (ol
     → turn_from p vias (shifted front s) (wrapped front rest old) t ≡ read_on (λ r. gives (wrapped front rest r))
     (turn_from p vias s old t)
 unfolding turn_from
-turn-shifted p vias front rest s old t a h =
-    ap (λ (b : Block). read_on (λ (r : Block × ℤ × ℕ). gives (record {
-      arrays = put_block (shifted front s) r.0 (around front old.arrays rest);
-      predictors = set old.predictors (via_at vias s.slot).component r.1;
-      run = r.2;
-    }))
-    (block_from p (via_at vias s.slot).dc (via_at vias s.slot).ac (get_or old.predictors (via_at vias s.slot).component
-    (pos 0)) old.run b t))
-    (get-shifted front old.arrays rest s a h)
-    ∙ go (block_from p (via_at vias s.slot).dc (via_at vias s.slot).ac
-    (get_or old.predictors (via_at vias s.slot).component (pos 0)) old.run (block_at old.arrays s) t)
-  where
-    go : (o : Result ((Block × ℤ × ℕ) × Text) Fault)
-        → read_on (λ (r : Block × ℤ × ℕ). gives (record {
-          arrays = put_block (shifted front s) r.0 (around front old.arrays rest);
-          predictors = set old.predictors (via_at vias s.slot).component r.1;
-          run = r.2;
-        })) o
-        ≡ read_on (λ r. gives (wrapped front rest r)) (read_on (λ (r : Block × ℤ × ℕ). gives (record {
-          arrays = put_block s r.0 old.arrays;
-          predictors = set old.predictors (via_at vias s.slot).component r.1;
-          run = r.2;
-        })) o)
-    go (Ok r) = ap (λ (l : Arrays). Ok (
-      record {
-        arrays = l;
-        predictors = set old.predictors (via_at vias s.slot).component r.0.1;
-        run = r.0.2;
-      },
-      r.1,
-    ))
-        (put-shifted front old.arrays rest s r.0.0 a h)
-    go (Err e) = refl
+turn-shifted p vias front rest s old t a h = search (rules, get-shifted, put-shifted)
 
 begun-shifted : (n : ℕ) (front rest : Arrays) (old : Counted) (t : Text)
     → begun_from n (wrapped_count front rest old) t ≡ read_on (λ r. gives (wrapped_count front rest r))
     (begun_from n old t)
 unfolding begun_from
-begun-shifted n front rest old t = test (nat_lt 0 n && old.left == 0)
-  where
-    start : Arrays → Counted
-    start arrays = record { reached = at_start arrays; left = n; number = (old.number + 1) % 8 }
-
-    one : (o : Result (Unit {0} × Text) Fault)
-        → read_on (λ (u : Unit {0}). gives (start (around front old.reached.arrays rest))) o
-        ≡ read_on (λ r. gives (wrapped_count front rest r))
-        (read_on (λ (u : Unit {0}). gives (start old.reached.arrays)) o)
-    one (Ok r) = refl
-    one (Err e) = refl
-
-    test : (b : Bool) → ◌≡◌ {A = Result (Counted × Text) Fault}
-        ((elim b as (λ _. Reads Counted) [
-          | true ↦ (λ (v : Text). read_on (λ (u : Unit {0}). gives (start (around front old.reached.arrays rest)))
-              (restart_from old.number v))
-          | false ↦ gives (wrapped_count front rest old)
-        ]) t)
-        (read_on (λ r. gives (wrapped_count front rest r)) ((elim b as (λ _. Reads Counted) [
-          | true ↦ (λ (v : Text). read_on (λ (u : Unit {0}). gives (start old.reached.arrays))
-              (restart_from old.number v))
-          | false ↦ gives old
-        ]) t))
-    test true = one (restart_from old.number t)
-    test false = refl
+begun-shifted n front rest old t = search rules
 
 pub counted-where : {A : Type 0} (P : Arrays → Type 0) (f g : Counted → Reads A)
     → ((r : Counted) (t : Text) → P r.reached.arrays → f r t ≡ g r t)
@@ -326,9 +222,7 @@ next-shifted p vias n front rest s spots old t h =
     ∙ on-on wrap far (begun_from n old t)
     ∙ counted-where all (λ now. λ u. far (wrapped_count front rest now) u)
     (λ now. λ u. read_on wrap (near now u))
-    (λ now u k. ap (read_on (λ r. gives (after_turn now r)))
-    (turn-shifted p vias front rest s now.reached u k.aligned (k.inside s (inl refl)))
-    ∙ counts front rest now (turn_from p vias s now.reached u))
+    (search (rules, turn-shifted, counts))
     (begun_from n old t) (begun-keeps all n old t h)
     ∙ sym (on-on near wrap (begun_from n old t))
 
@@ -372,8 +266,7 @@ rows-set rows (c ∷ cs) (a ∷ arrays) zero y e h = (e ∙ h.0, h.1)
 rows-set rows (c ∷ cs) (a ∷ arrays) (suc slot) y e h = (h.0, rows-set rows cs arrays slot y e h.1)
 
 pub rows-kept : (rows : ℕ) (cs : List Component) → IsKept (AreRows rows cs)
-rows-kept rows cs arrays s b h = rows-set rows cs arrays s.slot (set (get_or arrays s.slot []) s.index b)
-    (length-set (get_or arrays s.slot []) s.index b) h
+rows-kept rows cs arrays s b h = search (rules, rows-set, length-set)
 
 pub rows-count : (rows : ℕ) (cs : List Component) (arrays : Arrays) → AreRows rows cs arrays → length arrays ≡ length cs
 unfolding AreRows
@@ -388,14 +281,8 @@ rows-at : (rows : ℕ) (cs : List Component) (arrays : Arrays) (j : ℕ) (c : Co
 unfolding AreRows
 rows-at rows [] arrays j c h k = absurd k
 rows-at rows (d ∷ cs) [] j c h k = absurd h
-rows-at rows (d ∷ cs) (a ∷ arrays) zero c h k =
-    (h.0 ∙ ap (λ (x : Component). rows * (x.factors.vertical * x.blocks_wide)) k, omega arith)
-rows-at rows (d ∷ cs) (a ∷ arrays) (suc j) c h k = let r =
-    rows-at rows cs arrays j c h.1 k in (r.0, (let l = r.1 in omega arith))
-
-length-some : (n : ℕ) (b : Block) → length (replicate n b) ≡ n
-length-some zero b = refl
-length-some (suc n) b = ap suc (length-some n b)
+rows-at rows (d ∷ cs) (a ∷ arrays) zero c h k = search rules
+rows-at rows (d ∷ cs) (a ∷ arrays) (suc j) c h k = search (rules, rows-at rows cs arrays j c h.1 k)
 
 pub zero-rows : (rows : ℕ) (cs : List Component) → AreRows rows cs (zero_rows rows cs)
 unfolding AreRows zero_rows
@@ -414,11 +301,8 @@ joined-rows r [] [] (b ∷ arrays) h k = absurd k
 joined-rows r [] (a ∷ front) arrays h k = absurd h
 joined-rows r (c ∷ cs) [] arrays h k = absurd h
 joined-rows r (c ∷ cs) (a ∷ front) [] h k = absurd k
-joined-rows r (c ∷ cs) (a ∷ front) (b ∷ arrays) h k = (
-  length-append_any a b ∙ (let x = h.0 in let y = k.0 in let n = c.factors.vertical * c.blocks_wide in
-      let p : (r + 1) * n ≡ r * n + 1 * n = add-mul r 1 n in omega arith),
-  joined-rows r cs front arrays h.1 k.1,
-)
+joined-rows r (c ∷ cs) (a ∷ front) (b ∷ arrays) h k =
+    search (rules, length-append_any, add-mul, joined-rows r cs front arrays h.1 k.1)
 
 replicate-both : (m n k : ℕ) (b : Block) → k ≡ m + n → replicate k b ≡ replicate m b ++ replicate n b
 replicate-both zero n k b e = ap (λ (i : ℕ). replicate i b) (omega arith)
@@ -432,12 +316,7 @@ unfolding AreRows joined zero_rows
 first-row rows r [] [] h = refl
 first-row rows r [] (a ∷ front) h = absurd h
 first-row rows r (c ∷ cs) [] h = absurd h
-first-row rows r (c ∷ cs) (a ∷ front) h =
-    let n = c.factors.vertical * c.blocks_wide in
-    ap₂ (λ (x : List Block) (l : Arrays). (a ++ x) ∷ l)
-    (replicate-both (1 * n) (rows * n) (suc rows * n) zero_block (let p : (rows + 1) * n ≡ rows * n + 1 * n = add-mul
-    rows 1 n in omega arith))
-    (first-row rows r cs front h.1)
+first-row rows r (c ∷ cs) (a ∷ front) h = search (rules, replicate-both, add-mul, first-row rows r cs front h.1)
 
 -- rows after rows
 around-joined : (front arrays rest : Arrays) → around front arrays rest ≡ joined (joined front arrays) rest
@@ -445,19 +324,14 @@ unfolding joined
 around-joined [] arrays rest = refl
 around-joined (x ∷ front) [] rest = refl
 around-joined (x ∷ front) (y ∷ arrays) [] = refl
-around-joined (x ∷ front) (y ∷ arrays) (z ∷ rest) =
-    ap₂ (λ (l : List Block) (m : Arrays). l ∷ m) (sym (append_assoc x y z)) (around-joined front arrays rest)
+around-joined (x ∷ front) (y ∷ arrays) (z ∷ rest) = rw (← (append_assoc x y z), around-joined front arrays rest) refl
 
 no-rows : (r : ℕ) (cs : List Component) (front : Arrays) → AreRows r cs front → joined front (zero_rows 0 cs) ≡ front
 unfolding AreRows joined zero_rows
 no-rows r [] [] h = refl
 no-rows r [] (a ∷ front) h = absurd h
 no-rows r (c ∷ cs) [] h = absurd h
-no-rows r (c ∷ cs) (a ∷ front) h =
-    ap₂ (λ (l : List Block) (m : Arrays). l ∷ m)
-    (ap (λ (n : ℕ). a ++ replicate n zero_block) (let e : 0 * (c.factors.vertical * c.blocks_wide) ≡ 0 = omega arith in
-    e) ∙ append-nil a)
-    (no-rows r cs front h.1)
+no-rows r (c ∷ cs) (a ∷ front) h = search (rules, append-nil, no-rows r cs front h.1)
 
 -- ---- the spots of a row
 
@@ -475,9 +349,7 @@ map-line f g h e (k ∷ ks) = ap₂ (λ (s : Spot) (l : List Spot). s ∷ l) (e 
 map-grid : (f : Spot → Spot) (g h : ℕ → ℕ → Spot) → ((v k : ℕ) → f (g v k) ≡ h v k) → (ks vs : List ℕ)
     → map f (flat_map (λ v. map (g v) ks) vs) ≡ flat_map (λ v. map (h v) ks) vs
 map-grid f g h e ks [] = refl
-map-grid f g h e ks (v ∷ vs) =
-    map-append f (map (g v) ks) (flat_map (λ v. map (g v) ks) vs)
-    ∙ ap₂ (λ l m. l ++ m) (map-line f (g v) (h v) (e v) ks) (map-grid f g h e ks vs)
+map-grid f g h e ks (v ∷ vs) = search (rules, map-append, map-line, map-grid f g h e ks vs)
 
 part-shift : (row column slot : ℕ) (c : Component) (by : ℕ → ℕ) → by slot ≡ row * (c.factors.vertical * c.blocks_wide)
     → map (shifted_by by) (part_spots 0 column slot c) ≡ part_spots row column slot c
@@ -488,12 +360,7 @@ part-shift row column slot c by e =
     let hz = c.factors.horizontal in
     map-grid (shifted_by by) (λ v h. record { slot = slot; index = (0 * vt + v) * w + (column * hz + h) })
     (λ v h. record { slot = slot; index = (row * vt + v) * w + (column * hz + h) })
-    (λ v h. ap (λ (i : ℕ). record { slot = slot; index = i })
-    (let p : (row * vt + v) * w ≡ row * vt * w + v * w = add-mul (row * vt) v w in
-    let q : row * vt * w ≡ row * (vt * w) = mul_assoc row vt w in
-    let z : 0 * vt + v ≡ v = omega arith in
-    let y : (0 * vt + v) * w ≡ v * w = ap (λ (n : ℕ). n * w) z in
-    omega arith))
+    (grind (arith, mul_assoc row vt w))
     (range_with_len 0 hz) (range_with_len 0 vt)
 
 mcu-shift : (row column base : ℕ) (cs : List Component) (by : ℕ → ℕ) → ((j : ℕ) (c : Component) → At j cs c
@@ -502,7 +369,7 @@ mcu-shift : (row column base : ℕ) (cs : List Component) (by : ℕ → ℕ) →
 unfolding mcu_spots
 mcu-shift row column base [] by e = refl
 mcu-shift row column base (c ∷ cs) by e =
-    map-append (shifted_by by) (part_spots 0 column base c) (mcu_spots 0 column (base + 1) cs)
+    (search (rules, map-append))
     ∙ ap₂ (λ l m. l ++ m)
     (part-shift row column base c by (ap by (let z : base ≡ base + 0 = omega arith in z) ∙ e 0 c refl))
     (mcu-shift row column (base + 1) cs by (λ j d h. ap by (let z : base + 1 + j ≡ base + suc j = omega arith in z)
@@ -540,9 +407,7 @@ map-same f g e (s ∷ m) = ap₂ (λ (x : Spot) (l : List Spot). x ∷ l) (e s) 
 
 row-shifted : (row : ℕ) (cs : List Component) (front : Arrays) (spots : List Spot) → AreRows row cs front
     → placed_row cs row spots ≡ map (shifted front) spots
-row-shifted row cs front spots h =
-    map-same (shifted_by (λ slot. row * size_at cs slot)) (shifted front)
-    (λ s. ap (λ (i : ℕ). record { slot = s.slot; index = i + s.index }) (sym (front-size row cs front s.slot h))) spots
+row-shifted row cs front spots h = search (rules, map-same, front-size)
 
 -- the spots of a row are inside its blocks
 pub record IsRow (cs : List Component) (spots : List Spot) : Type 0 where
@@ -554,8 +419,7 @@ pub rows-in-turn : (p : Pass) (vias : List Via) (n : ℕ) (cs : List Component) 
     → blocks_from p vias n (placed_rows cs row rows) (on_arrays (joined front (zero_rows (length rows) cs)) old) t
     ≡ rows_from p vias n cs rows front old t
 unfolding blocks_from rows_from placed_rows
-rows-in-turn p vias n cs [] row front old t fits h =
-    ap (λ (l : Arrays). gives (on_arrays l old) t) (no-rows row cs front h)
+rows-in-turn p vias n cs [] row front old t fits h = rw (no-rows row cs front h) refl
 rows-in-turn p vias n cs (spots ∷ rows) row front old t fits h =
     let one = zero_rows 1 cs in
     let rest = zero_rows (length rows) cs in
@@ -572,8 +436,7 @@ rows-in-turn p vias n cs (spots ∷ rows) row front old t fits h =
       };
       inside = λ s k. fits.0.inside one s sized k;
     } in
-    ap (λ (l : Arrays). blocks_from p vias n (placed_row cs row spots ++ others) (on_arrays l old) t)
-    (first-row (length rows) row cs front h)
+    (search (rules, first-row))
     ∙ blocks-append p vias n (placed_row cs row spots) others (wrapped_count front rest start) t
     ∙ ap (λ (m : List Spot). read_on next (blocks_from p vias n m (wrapped_count front rest start) t))
     (row-shifted row cs front spots h)
@@ -596,10 +459,7 @@ all-zeros : (frame : Frame) (cs : List Component) → AllByRecursion (Fits frame
     → zero_arrays cs ≡ joined (map (λ c. []) cs) (zero_rows frame.mcus_high cs)
 unfolding zero_arrays zero_rows joined
 all-zeros frame [] fits = refl
-all-zeros frame (c ∷ cs) fits =
-    ap₂ (λ (n : ℕ) (l : Arrays). replicate n zero_block ∷ l)
-    (ap (λ (k : ℕ). k * c.blocks_wide) fits.0.high ∙ mul_assoc frame.mcus_high c.factors.vertical c.blocks_wide)
-    (all-zeros frame cs fits.1)
+all-zeros frame (c ∷ cs) fits = search (rules, mul_assoc, all-zeros frame cs fits.1)
 
 -- ---- rows of several components
 
@@ -607,13 +467,7 @@ several-shift : (row : ℕ) (cs : List Component) (columns : List ℕ)
     → placed_row cs row (flat_map (λ column. mcu_spots 0 column 0 cs) columns)
     ≡ flat_map (λ column. mcu_spots row column 0 cs) columns
 several-shift row cs [] = refl
-several-shift row cs (k ∷ columns) =
-    map-append (shifted_by (λ slot. row * size_at cs slot)) (mcu_spots 0 k 0 cs)
-    (flat_map (λ column. mcu_spots 0 column 0 cs) columns)
-    ∙ ap₂ (λ (m l : List Spot). m ++ l)
-    (mcu-shift row k 0 cs (λ j. row * size_at cs j) (λ j c a. ap (λ (i : ℕ). row * size_at cs i) (let z : 0 + j
-    ≡ j = omega arith in z) ∙ ap (λ (i : ℕ). row * i) (size-at cs j c a)))
-    (several-shift row cs columns)
+several-shift row cs (k ∷ columns) = search (rules, map-append, mcu-shift, size-at, several-shift row cs columns)
 
 several-rows : (wide : ℕ) (cs : List Component) (row rows : ℕ)
     → placed_rows cs row (map (λ r. all_spots wide 1 cs) (range_with_len row rows))
@@ -644,8 +498,7 @@ several-inside frame cs arrays s fits sized h =
     let f = at-all (Fits frame) s.slot cs c fits here in
     let up : s.index / c.blocks_wide < 1 * c.factors.vertical =
     (div-lt_iff_lt-mul f.vertical).0 (let e = of.tells.row_of in omega arith) in
-    let wp : 0 < c.blocks_wide = let q = some-product frame.mcus_wide c.factors.horizontal (omega arith) f.horizontal in
-    let w = f.wide in omega arith in
+    let wp : 0 < c.blocks_wide = search (rules, some-product) in
     let i : s.index < 1 * c.factors.vertical * c.blocks_wide = (div-lt_iff_lt-mul wp).0 up in
     let e : 1 * c.factors.vertical * c.blocks_wide ≡ 1 * (c.factors.vertical * c.blocks_wide) =
     mul_assoc 1 c.factors.vertical c.blocks_wide in
@@ -666,13 +519,7 @@ own-line : (c : Component) (row v : ℕ) (columns : List ℕ)
     → placed_row (c ∷ []) row (map (λ column. record { slot = 0; index = v * c.blocks_wide + column }) columns)
     ≡ map (λ column. record { slot = 0; index = (row * c.factors.vertical + v) * c.blocks_wide + column }) columns
 own-line c row v [] = refl
-own-line c row v (k ∷ columns) =
-    let vt = c.factors.vertical in
-    let w = c.blocks_wide in
-    ap₂ (λ (i : ℕ) (l : List Spot). record { slot = 0; index = i } ∷ l)
-    (let p : (row * vt + v) * w ≡ row * vt * w + v * w = add-mul (row * vt) v w in
-    let q : row * vt * w ≡ row * (vt * w) = mul_assoc row vt w in omega arith)
-    (own-line c row v columns)
+own-line c row v (k ∷ columns) = search (rules, add-mul, mul_assoc, own-line c row v columns)
 
 -- the own blocks of a line
 abbrev pub line_at : Component → ℕ → List Spot
@@ -683,65 +530,38 @@ own-lines : (c : Component) (row a n : ℕ)
     → placed_row (c ∷ []) row (flat_map (line_at c) (range_with_len a n)) ≡ flat_map (line_at c)
     (range_with_len (row * c.factors.vertical + a) n)
 own-lines c row a zero = refl
-own-lines c row a (suc n) =
-    map-append (shifted_by (λ slot. row * size_at (c ∷ []) slot)) (line_at c a)
-    (flat_map (line_at c) (range_with_len (a + 1) n))
-    ∙ ap₂ (λ (l m : List Spot). l ++ m) (own-line c row a (range_with_len 0 (grid_of c).own_wide))
-    (own-lines c row (a + 1) n ∙ ap (λ (i : ℕ). flat_map (line_at c) (range_with_len i n))
-    (let z : row * c.factors.vertical + (a + 1) ≡ row * c.factors.vertical + a + 1 = omega arith in z))
+own-lines c row a (suc n) = search (rules, map-append, own-line, own-lines c row (a + 1) n)
 
 range-split : (a m n k : ℕ) → k ≡ m + n → range_with_len a k ≡ range_with_len a m ++ range_with_len (a + m) n
 range-split a zero n k e = ap₂ (λ (i j : ℕ). range_with_len i j) (let z : a ≡ a + 0 = omega arith in z) (omega arith)
 range-split a (suc m) n zero e = absurd (omega arith)
-range-split a (suc m) n (suc k) e =
-    ap (λ l. a ∷ l) (range-split (a + 1) m n k (omega arith)
-    ∙ ap (λ (i : ℕ). range_with_len (a + 1) m ++ range_with_len i n) (let z : a + 1 + m ≡ a + suc m = omega arith in z))
+range-split a (suc m) n (suc k) e = search (rules, range-split (a + 1) m n k (omega arith))
 
 flat-both : (f : ℕ → List Spot) (xs ys : List ℕ) → flat_map f (xs ++ ys) ≡ flat_map f xs ++ flat_map f ys
 flat-both f [] ys = refl
-flat-both f (x ∷ xs) ys = ap (λ l. f x ++ l) (flat-both f xs ys)
-    ∙ sym (append_assoc (f x) (flat_map f xs) (flat_map f ys))
+flat-both f (x ∷ xs) ys = rw (flat-both f xs ys, ← (append_assoc (f x) (flat_map f xs) (flat_map f ys))) refl
 
 own-rows : (c : Component) (row rows : ℕ) → (grid_of c).own_high ≤ (row + rows) * c.factors.vertical
     → placed_rows (c ∷ []) row (map (own_row c) (range_with_len row rows))
     ≡ flat_map (line_at c) (range_with_len (row * c.factors.vertical) ((grid_of c).own_high - row * c.factors.vertical))
 unfolding placed_rows own_spots
-own-rows c row zero h =
-    ap (λ (n : ℕ). flat_map (line_at c) (range_with_len (row * c.factors.vertical) n))
-    (let e : (row + 0) * c.factors.vertical ≡ row * c.factors.vertical = ap (λ (k : ℕ). k * c.factors.vertical)
-    (let z : row + 0 ≡ row = omega arith in z) in
-    let z : 0 ≡ (grid_of c).own_high - row * c.factors.vertical = omega arith in z)
+own-rows c row zero h = search rules
 own-rows c row (suc rows) h =
     let vt = c.factors.vertical in
     let high = (grid_of c).own_high in
     let k = min vt (high - row * vt) in
     let up : (row + 1) * vt ≡ row * vt + 1 * vt = add-mul row 1 vt in
     let more : (row + 1 + rows) * vt ≡ (row + suc rows) * vt =
-    ap (λ (i : ℕ). i * vt) (let z : row + 1 + rows ≡ row + suc rows = omega arith in z) in
+    search rules in
     let rest = high - (row + 1) * vt in
     let split : high - row * vt ≡ k + rest = omega arith in
-    ap₂ (λ (l m : List Spot). l ++ m)
-    (own-lines c row 0 k ∙ ap (λ (i : ℕ). flat_map (line_at c) (range_with_len i k)) (let z : row * vt + 0
-    ≡ row * vt = omega arith in z))
-    (own-rows c (row + 1) rows (omega arith))
-    ∙ ap (λ (l : List ℕ). flat_map (line_at c) (range_with_len (row * vt) k) ++ flat_map (line_at c) l)
-    (start-same rest ((row + 1) * vt) (row * vt + k) (meets row vt high up))
-    ∙ sym (flat-both (line_at c) (range_with_len (row * vt) k) (range_with_len (row * vt + k) rest))
-    ∙ ap (flat_map (line_at c)) (sym (range-split (row * vt) k rest (high - row * vt) split))
-  where
-    -- where some lines are left, the row was full
-    meets : (row vt high : ℕ) → (row + 1) * vt ≡ row * vt + 1 * vt → (high - (row + 1) * vt ≡ 0)
-        ⊎ ((row + 1) * vt ≡ row * vt + min vt (high - row * vt))
-    meets row vt high up = go (high - (row + 1) * vt) refl
-      where
-        go : (n : ℕ) → high - (row + 1) * vt ≡ n → (high - (row + 1) * vt ≡ 0)
-            ⊎ ((row + 1) * vt ≡ row * vt + min vt (high - row * vt))
-        go zero e = inl e
-        go (suc n) e = inr (omega arith)
-
-    start-same : (n a b : ℕ) → (n ≡ 0) ⊎ (a ≡ b) → range_with_len a n ≡ range_with_len b n
-    start-same n a b (inl e) = ap (range_with_len a) e ∙ sym (ap (range_with_len b) e)
-    start-same n a b (inr e) = ap (λ (i : ℕ). range_with_len i n) e
+    grind (
+      arith,
+      own-lines c row 0 k,
+      own-rows c (row + 1) rows (omega arith),
+      flat-both (line_at c) (range_with_len (row * vt) k) (range_with_len (row * vt + k) rest),
+      range-split (row * vt) k rest (high - row * vt) split,
+    )
 
 -- an own spot of a row of MCUs stands in the row's blocks
 own-inside : (frame : Frame) (c : Component) (row : ℕ) (arrays : Arrays) (s : Spot) → Fits frame c
@@ -764,19 +584,15 @@ own-inside frame c row arrays s fits sized h =
     let i : g.at * w + e.at < 1 * vt * w = (div-lt_iff_lt-mul wp).0 (omega arith) in
     let a : 1 * vt * w ≡ 1 * (vt * w) = mul_assoc 1 vt w in
     let z = rows-at 1 (c ∷ []) arrays 0 c sized refl in
-    subst (IsInside arrays) e.equal (record { slot = z.1; index = let l = z.0 in omega arith })
+    search rules
 
 -- the spots of each row are inside its blocks
 pub row-inside : (frame : Frame) (cs : List Component) (row : ℕ) → AllByRecursion (Fits frame) cs
     → IsRow cs (row_at frame cs row)
 unfolding row_at
 row-inside frame [] row fits = record { inside = λ arrays s sized h. absurd h }
-row-inside frame (c ∷ []) row fits = record {
-  inside = λ arrays s sized h. own-inside frame c row arrays s fits.0 sized h;
-}
-row-inside frame (c ∷ d ∷ more) row fits = record {
-  inside = λ arrays s sized h. several-inside frame (c ∷ d ∷ more) arrays s fits sized h;
-}
+row-inside frame (c ∷ []) row fits = search (rules, own-inside)
+row-inside frame (c ∷ d ∷ more) row fits = search (rules, several-inside)
 
 one-placed : (frame : Frame) (c : Component) → Fits frame c
     → spots_of frame (c ∷ []) ≡ placed_rows (c ∷ []) 0 (rows_of frame (c ∷ []))
@@ -813,7 +629,6 @@ scans-by-rows frame c more p vias n bytes fits =
     let blocks = n * mcu_size cs in
     ap₂ (λ (m : List Spot) (l : Arrays). finished (blocks_from p vias blocks m (counted_at_start blocks l) t))
     (placed-all frame c more fits)
-    (all-zeros frame cs fits ∙ ap (λ (k : ℕ). joined (map (λ c. []) cs) (zero_rows k cs))
-    (sym (length-rows_of (row_at frame cs) 0 frame.mcus_high)))
+    (search (rules, all-zeros, length-rows_of))
     ∙ ap finished (rows-in-turn p vias blocks cs (rows_of frame cs) 0 (map (λ c. []) cs) (counted_at_start blocks [])
     t (all-rows cs (row_at frame cs) 0 frame.mcus_high (λ row. row-inside frame cs row fits)) (no-blocks cs))

@@ -3,7 +3,7 @@ use Rattle.std.proofs.Common.{◌≡◌, ℕ, List, ◌++◌, Bool, true, false,
 use Rattle.std.proofs.Common.{IsSome, rules, inl, inr}
 use Rattle.jpeg_bits.specs.declared.error.Error.{Error}
 use Rattle.jpeg_bits.specs.declared.error.Error.TheVariants.{Format, Unsupported, Io, Internal, OutOfMemory}
-use Rattle.jpeg_bits.specs.Reading.{Fault, Malformed, Lacks, Names, IsGivenUp}
+use Rattle.jpeg_bits.specs.Reading.{Fault, Names, IsGivenUp}
 use Rattle.jpeg_streams.specs.Pixels.{info_of}
 use Rattle.jpeg_streams.specs.Stream.{Told, meaning}
 use Rattle.jpeg_streams.specs.Output.{output_of, header_line_of, default_settings, IsOutsideOrMemory, NamesOrOutside}
@@ -26,10 +26,8 @@ not-some (Some x) e h = absurd (let n : ⊥ = cc in n)
 pub outside-decode : (known failed : Bool) (e : Error) (bytes : List ℕ)
     → (known ≡ true → Names e (meaning default_settings bytes)) → (known ≡ false → IsGivenUp e failed)
     → IsSome (output_of bytes) → IsOutsideOrMemory e
-outside-decode true failed (Format text) bytes r f s =
-    not-some (output_of bytes) (output-none bytes Malformed (r refl)) s
-outside-decode true failed (Unsupported feature) bytes r f s =
-    not-some (output_of bytes) (output-none bytes (Lacks feature) (r refl)) s
+outside-decode true failed (Format text) bytes r f s = search (rules, not-some, output-none)
+outside-decode true failed (Unsupported feature) bytes r f s = search (rules, not-some, output-none)
 outside-decode true failed (Io error) bytes r f s = tt
 outside-decode true failed (Internal text) bytes r f s = r refl
 outside-decode true failed OutOfMemory bytes r f s = tt

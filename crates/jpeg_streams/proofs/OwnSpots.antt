@@ -1,6 +1,6 @@
 -- The order of a scan reaches each block of its components.
-use Rattle.std.proofs.Common.{◌≡◌, ◌⊎◌, inl, inr, ℕ, zero, suc, ◌+◌, ◌*◌, ◌/◌, ◌%◌, ◌<◌, ◌≤◌, true, false, List, []}
-use Rattle.std.proofs.Common.{◌∷◌, ◌++◌, map, length, get_or, refl, sym, ap, ap₂, ◌∙◌, subst, arith, leb}
+use Rattle.std.proofs.Common.{rules, ◌≡◌, ◌⊎◌, inl, inr, ℕ, zero, suc, ◌+◌, ◌*◌, ◌/◌, ◌%◌, ◌<◌, ◌≤◌, true, false, List}
+use Rattle.std.proofs.Common.{[], ◌∷◌, ◌++◌, map, length, get_or, refl, sym, ap, ap₂, subst, arith, leb}
 use Rattle.std.proofs.Math.Nat.{div-lt_iff_lt-mul, mod-lt}
 use Rattle.std.proofs.lemmas.Nat.{div-add-mod', div-mul-add, mod-mul-add}
 use Rattle.std.proofs.lemmas.Bool.Decides.{leb_tells}
@@ -10,6 +10,7 @@ use Rattle.jpeg_streams.specs.declared.grids.Grid.{Grid}
 use Rattle.jpeg_streams.specs.Order.{Spot, grid_of, own_spots, part_spots, mcu_spots, all_spots, spots_of}
 use Rattle.jpeg_streams.specs.WrittenScans.{IsOwn}
 use Rattle.jpeg_streams.specs.InTurn.{IsIn}
+use Rattle.jpeg_streams.proofs.InTurn.{in-back, in-front}
 
 -- ---- lists
 
@@ -17,15 +18,6 @@ pub in-map : {A B : Type 0} (f : A → B) (x : A) (xs : List A) → IsIn x xs �
 in-map f x [] h = absurd h
 in-map f x (y ∷ xs) (inl e) = inl (ap f e)
 in-map f x (y ∷ xs) (inr t) = inr (in-map f x xs t)
-
-pub in-front : {A : Type 0} (x : A) (xs ys : List A) → IsIn x xs → IsIn x (xs ++ ys)
-in-front x [] ys h = absurd h
-in-front x (y ∷ xs) ys (inl e) = inl e
-in-front x (y ∷ xs) ys (inr t) = inr (in-front x xs ys t)
-
-pub in-back : {A : Type 0} (x : A) (xs ys : List A) → IsIn x ys → IsIn x (xs ++ ys)
-in-back x [] ys h = h
-in-back x (y ∷ xs) ys h = inr (in-back x xs ys h)
 
 pub in-flat : {A B : Type 0} (f : A → List B) (x : B) (y : A) (ys : List A) → IsIn y ys → IsIn x (f y)
     → IsIn x (flat_map f ys)
@@ -106,15 +98,7 @@ own-only g h =
     all-flat (IsOwnSpot g)
     (λ row. map (λ column. record { slot = 0; index = row * g.wide + column }) (range_with_len 0 g.own_wide)) 0
     g.own_high (λ row a lt.
-    all-line (IsOwnSpot g) (λ column. record { slot = 0; index = row * g.wide + column }) 0 g.own_wide (λ column b l.
-    let within : column < g.wide = omega arith in
-    record {
-      slot = refl;
-      own = record {
-        row = let e = div-mul-add row g.wide column within in omega arith;
-        column = let e = mod-mul-add row g.wide column within in omega arith;
-      };
-    }))
+    all-line (IsOwnSpot g) (λ column. record { slot = 0; index = row * g.wide + column }) 0 g.own_wide (search (rules, div-mul-add, mod-mul-add)))
 
 -- ---- several components
 
@@ -131,19 +115,14 @@ pub in-mcu : (row column base j : ℕ) (components : List Component) (c : Compon
     → IsIn s (part_spots row column (base + j) c) → IsIn s (mcu_spots row column base components)
 unfolding mcu_spots
 in-mcu row column base j [] c s h k = absurd h
-in-mcu row column base zero (d ∷ more) c s h k =
-    let e : base + 0 ≡ base = omega arith in
-    in-front s (part_spots row column base d) (mcu_spots row column (base + 1) more)
-    (subst (λ (x : Component). IsIn s (part_spots row column base x)) (sym h)
-    (subst (λ (n : ℕ). IsIn s (part_spots row column n c)) e k))
+in-mcu row column base zero (d ∷ more) c s h k = search (rules, in-front)
 in-mcu row column base (suc j) (d ∷ more) c s h k =
     let e : base + suc j ≡ (base + 1) + j = omega arith in
     in-back s (part_spots row column base d) (mcu_spots row column (base + 1) more)
     (in-mcu row column (base + 1) j more c s h (subst (λ (n : ℕ). IsIn s (part_spots row column n c)) e k))
 
 place-parts : (i w hz vt : ℕ) → (i / w / vt * vt + i / w % vt) * w + (i % w / hz * hz + i % w % hz) ≡ i
-place-parts i w hz vt = ap₂ (λ (r k : ℕ). r * w + k) (div-add-mod' (i / w) vt) (div-add-mod' (i % w) hz)
-    ∙ div-add-mod' i w
+place-parts i w hz vt = rw (div-add-mod' (i / w) vt, div-add-mod' (i % w) hz, div-add-mod' i w) refl
 
 pub all-covered : (frame : Frame) (components : List Component) (c : Component) (s : Spot) → At s.slot components c
     → Fits frame c
@@ -157,10 +136,8 @@ all-covered frame components c s here fits own =
     let col = s.index % w in
     let y = row / vt in
     let x = col / hz in
-    let row-in : row < frame.mcus_high * vt = let a = own.row in let b = fits.own_high in let e = fits.high in
-    omega arith in
-    let col-in : col < frame.mcus_wide * hz = let a = own.column in let b = fits.own_wide in let e = fits.wide in
-    omega arith in
+    let row-in : row < frame.mcus_high * vt = search rules in
+    let col-in : col < frame.mcus_wide * hz = search rules in
     let y-in : y < frame.mcus_high = (div-lt_iff_lt-mul fits.vertical).1 row-in in
     let x-in : x < frame.mcus_wide = (div-lt_iff_lt-mul fits.horizontal).1 col-in in
     let v = row % vt in
@@ -176,9 +153,7 @@ all-covered frame components c s here fits own =
     (subst (λ (n : ℕ). IsIn (at v h) (part_spots y x n c)) zero-more in-part) in
     let across : ℕ → List Spot = λ b. flat_map (λ a. mcu_spots b a 0 components) (range_with_len 0 frame.mcus_wide) in
     let found : IsIn (at v h) (flat_map across (range_with_len 0 frame.mcus_high))
-    = in-flat across (at v h) y (range_with_len 0 frame.mcus_high) (in-below y frame.mcus_high y-in)
-    (in-flat (λ a. mcu_spots y a 0 components) (at v h) x (range_with_len 0 frame.mcus_wide)
-    (in-below x frame.mcus_wide x-in) in-one) in
+    = search (rules, in-flat, in-below) in
     subst (λ (k : ℕ). IsIn (record { slot = s.slot; index = k }) (flat_map across (range_with_len 0 frame.mcus_high)))
     (place-parts s.index w hz vt) found
 
@@ -188,11 +163,5 @@ pub covered : (frame : Frame) (components : List Component) (c : Component) (s :
     → IsOwn (grid_of c) s.index → IsIn s (spots_of frame components)
 unfolding spots_of
 covered frame [] c s here fits own = absurd here
-covered frame (d ∷ []) c s here fits own =
-    let alone = only s.slot here in
-    own-covered (grid_of d) s alone.0 (subst (λ (x : Component). IsOwn (grid_of x) s.index) (sym alone.1) own)
-  where
-    only : (j : ℕ) → At j (d ∷ []) c → (j ≡ 0) × (d ≡ c)
-    only zero h = (refl, h)
-    only (suc j) h = absurd h
+covered frame (d ∷ []) c s here fits own = search (rules, own-covered)
 covered frame (d ∷ e ∷ more) c s here fits own = all-covered frame (d ∷ e ∷ more) c s here fits own

@@ -1,14 +1,14 @@
 -- No sample outside a component reaches one inside.
-use Rattle.std.proofs.Common.{◌≡◌, ℕ, zero, suc, ◌+◌, ◌*◌, ◌/◌, ◌<◌, ◌≤◌, List, [], ◌∷◌, ◌++◌, map, drop, take, Some}
-use Rattle.std.proofs.Common.{refl, sym, ap, ap₂, ◌∙◌, arith}
+use Rattle.std.proofs.Common.{rules, ◌≡◌, ℕ, zero, suc, ◌+◌, ◌*◌, ◌/◌, ◌<◌, ◌≤◌, List, [], ◌∷◌, ◌++◌, map, drop, take}
+use Rattle.std.proofs.Common.{Some, refl, ap, ap₂, arith}
 use Rattle.std.specs.List.{AllByRecursion, concat, range_with_len}
 use Rattle.jpeg_bits.specs.declared.scan.Predictor.{Predictor}
 use Rattle.jpeg_segments.specs.Frame.{Component, Frame, frame_of}
 use Rattle.jpeg_segments.specs.WrittenSegments.{FrameHeader, IsFrame, frame_written}
-use Rattle.jpeg_lossless.specs.Differences.{Part, lines_in}
+use Rattle.jpeg_lossless.specs.Differences.{Part}
 use Rattle.jpeg_lossless.specs.Pictures.{most_across, most_down, sample_bytes}
 use Rattle.jpeg_lossless.specs.Prediction.{line_below, lines_below, predicted_lines}
-use Rattle.jpeg_lossless.specs.Scans.{Way, lines_by_component, mcu_size, planes_of, shifted}
+use Rattle.jpeg_lossless.specs.Scans.{Way, lines_by_component, planes_of}
 use Rattle.jpeg_lossless.proofs.ImageLoops.{inside}
 use Rattle.jpeg_lossless.proofs.LineSums.{top-narrow}
 use Rattle.jpeg_streams.specs.FrameSamples.{AgreeInside, DifferInPadding}
@@ -32,9 +32,7 @@ lines-short (suc n) selection start above (d ∷ ds) =
 pub own-predicted : (p : Part) (selection : Predictor) (start : ℕ) (differences : List (List ℕ))
     → own_lines p (predicted_lines selection start differences)
     ≡ predicted_lines selection start (own_lines p differences)
-own-predicted p selection start differences =
-    ap (λ (l : List (List ℕ)). map (take p.width) l) (lines-short p.height selection start [] differences)
-    ∙ top-narrow p.width selection start (take p.height differences)
+own-predicted p selection start differences = search (rules, lines-short, top-narrow)
 
 -- so planes do not show the differences of padding
 pub planes-same : (w : Way) (point from : ℕ) (parts : List Part) (a b : List (List ℕ))
@@ -44,31 +42,18 @@ pub planes-same : (w : Way) (point from : ℕ) (parts : List Part) (a b : List (
 unfolding DifferInPadding lines_by_component planes_of
 planes-same w point from [] a b h = refl
 planes-same w point from (p ∷ parts) a b h =
-    let own : own_lines p (predicted_lines w.selection w.start (lines_in p w.wide (mcu_size w) from a))
-    ≡ own_lines p (predicted_lines w.selection w.start (lines_in p w.wide (mcu_size w) from b))
-    = own-predicted p w.selection w.start (lines_in p w.wide (mcu_size w) from a)
-    ∙ ap (predicted_lines w.selection w.start) h.0
-    ∙ sym (own-predicted p w.selection w.start (lines_in p w.wide (mcu_size w) from b)) in
-    ap₂ (λ (x : List ℕ) (y : List (List ℕ)). x ∷ y) (ap (λ (l : List (List ℕ)). map (shifted point) (concat l)) own)
-    (planes-same w point (from + p.down * p.across) parts a b h.1)
+    search (rules, own-predicted, planes-same w point (from + p.down * p.across) parts a b h.1)
 
 -- ---- pixels
 
 pub header-made : (h : FrameHeader) → IsFrame 3 h
     → AllByRecursion (IsMade (frame_written 3 h)) (frame_written 3 h).components
-header-made h is =
-    frames-made 3 h.precision h.width h.height h.components (all-ranged 3 [] h.components is.components)
+header-made h is = search (rules, frames-made, all-ranged)
 
 made-inside : (frame : Frame) (c : Component) (x y : ℕ) → IsMade frame c → x < frame.width → y < frame.height
     → (x * c.factors.horizontal / most_across frame < c.width)
     × (y * c.factors.vertical / most_down frame < c.height)
-made-inside frame c x y made h k =
-    let reach = made-reaches frame c made in (
-      inside x frame.width c.factors.horizontal (most_across frame) c.width h made.horizontal (some-across frame)
-          reach.across,
-      inside y frame.height c.factors.vertical (most_down frame) c.height k made.vertical (some-down frame)
-          reach.down,
-    )
+made-inside frame c x y made h k = search (rules, made-reaches, inside, some-across, some-down)
 
 pub taken-inside : (h : FrameHeader) (place x y : ℕ) (c : Component) → IsFrame 3 h
     → first_of (drop place (frame_written 3 h).components) ≡ Some c → x < h.width → y < h.height
@@ -79,7 +64,8 @@ taken-inside h place x y c is e hx hy =
     made-inside (frame_written 3 h) c x y
     (all-at (IsMade (frame_written 3 h)) place (frame_written 3 h).components c (header-made h is) e) hx hy
 
-pub drop-next : {A : Type 0} (n : ℕ) (xs : List A) (x : A) (more : List A) → drop n xs ≡ x ∷ more → drop (suc n) xs ≡ more
+pub drop-next : {A : Type 0} (n : ℕ) (xs : List A) (x : A) (more : List A) → drop n xs ≡ x ∷ more → drop (suc n) xs ≡
+    more
 drop-next zero [] x more e = absurd (let n : ⊥ = cc in n)
 drop-next (suc n) [] x more e = absurd (let n : ⊥ = cc in n)
 drop-next zero (y ∷ xs) x more e = cc
@@ -97,13 +83,12 @@ pixel-agrees frame a b x y hx hy agree place (c ∷ cs) e made =
     (agree place (x * c.factors.horizontal / most_across frame) (y * c.factors.vertical / most_down frame) c
     (ap first_of e) at.0 at.1)
     (pixel-agrees frame a b x y hx hy agree (place + 1) cs
-    (ap (λ (n : ℕ). drop n frame.components) next ∙ drop-next place frame.components c cs e) made.1)
+    (search (rules, drop-next)) made.1)
 
 pub mapped-same : {A : Type 0} (f g : ℕ → A) (from n most : ℕ) → from + n ≤ most → ((x : ℕ) → x < most → f x ≡ g x)
     → map f (range_with_len from n) ≡ map g (range_with_len from n)
 mapped-same f g from zero most le same = refl
-mapped-same f g from (suc n) most le same =
-    ap₂ (λ a l. a ∷ l) (same from (omega arith)) (mapped-same f g (from + 1) n most (omega arith) same)
+mapped-same f g from (suc n) most le same = search (rules, mapped-same f g (from + 1) n most (omega arith) same)
 
 pub pictures-agree : (h : FrameHeader) (a b : Samples) → IsFrame 3 h → AgreeInside (frame_written 3 h) a b
     → picture_of_samples (frame_written 3 h) a ≡ picture_of_samples (frame_written 3 h) b
@@ -112,7 +97,4 @@ pictures-agree h a b is agree =
     let frame = frame_written 3 h in
     ap (λ (l : List (List ℕ)). concat l)
     (mapped-same (samples_line frame a) (samples_line frame b) 0 frame.height frame.height (omega arith)
-    (λ y k. ap (λ (l : List (List ℕ)). concat l)
-    (mapped-same (λ x. pixel_from frame a y x 0 frame.components) (λ x. pixel_from frame b y x 0 frame.components)
-    0 frame.width frame.width (omega arith)
-    (λ x j. pixel-agrees frame a b x y j k agree 0 frame.components refl (header-made h is)))))
+    (search (rules, mapped-same, pixel-agrees, header-made)))

@@ -1,18 +1,17 @@
 -- A frame header that has a picture is accepted.
-use Rattle.std.proofs.Common.{◌≡◌, ◌⊎◌, inl, inr, ℕ, zero, suc, ◌≤◌, ◌==◌, true, false}
-use Rattle.std.proofs.Common.{List, [], ◌∷◌, map, length, Ok, refl, ap, ap₂, ◌∙◌}
-use Rattle.std.proofs.Common.{arith}
+use Rattle.std.proofs.Common.{rules, ◌≡◌, ◌⊎◌, inl, inr, ℕ, zero, suc, ◌≤◌, ◌==◌, true, false, List, [], ◌∷◌, map}
+use Rattle.std.proofs.Common.{length, Ok, refl, arith}
+use Rattle.std.proofs.lemmas.Grind.{common_steps}
 use Rattle.std.proofs.lemmas.Bool.{eq-eqb}
 use Rattle.std.specs.List.{AllByRecursion}
-use lib.ListN.{length-map}
-use Rattle.jpeg_pixels.specs.Pictures.{Source, sources_by, sources_of}
+use Rattle.jpeg_pixels.specs.Pictures.{Source, sources_of}
 use Rattle.jpeg_segments.specs.Frame.{component_of, Factors, Frame, frame_of, greatest}
 use Rattle.jpeg_segments.specs.WrittenSegments.{FrameHeader, frame_written}
 use Rattle.jpeg_streams.specs.SaidSegments.{HasPicture, IsUpsampled}
 use Rattle.jpeg_streams.specs.Segments.{accepted, is_decoded_count, is_arithmetic, is_decoded_precision}
 use Rattle.jpeg_streams.proofs.AcceptedTurns.{then-ok}
 use Rattle.jpeg_streams.proofs.FrameFits.{factors-back}
-use Rattle.jpeg_streams.proofs.UpsampledFactors.{Upsampled, sources-some, or-left, or-right}
+use Rattle.jpeg_streams.proofs.UpsampledFactors.{sources-some, or-left, or-right}
 
 -- ---- sources
 
@@ -28,8 +27,7 @@ pub accepted-by : (f : Frame) (sources : List Source) → f.is_differential ≡ 
     → is_decoded_precision f.process f.precision ≡ true → is_decoded_count (length f.components) ≡ true
     → sources_of f.components f.output_width f.output_height ≡ Ok sources → accepted f ≡ Ok f
 unfolding accepted
-accepted-by f sources a b c d e =
-    rw (a, b, c, d) (then-ok (sources_of f.components f.output_width f.output_height) _ sources _ e refl)
+accepted-by f sources a b c d e = search (rules, then-ok)
 
 pub count-test : (n : ℕ) → (n ≡ 1) ⊎ ((n ≡ 3) ⊎ (n ≡ 4)) → is_decoded_count n ≡ true
 count-test n (inl e) = or-left (n == 1) _ (eq-eqb n 1 e)
@@ -47,18 +45,14 @@ header-sources number h p =
     let cs = map (component_of h.width h.height most_h most_v) h.components in
     let back = factors-back h.width h.height most_h most_v h.components in
     let s = sources-some most_h most_v h.width h.height cs
-    (all-made (Upsampled most_h most_v h.width h.height) h.width h.height most_h most_v h.components p) in (
-      s.0,
-      ap₂ (λ (a b : ℕ). sources_by a b h.width h.height cs) (ap (greatest (λ f. f.horizontal)) back)
-          (ap (greatest (λ f. f.vertical)) back) ∙ s.1,
-    )
+    (search (rules, all-made)) in
+    grind arith
 
 pub header-count : (number : ℕ) (h : FrameHeader)
     → (length h.components ≡ 1) ⊎ ((length h.components ≡ 3) ⊎ (length h.components ≡ 4))
     → is_decoded_count (length (frame_written number h).components) ≡ true
 unfolding frame_of
-header-count number h p =
-    ap is_decoded_count (length-map h.components _) ∙ count-test (length h.components) p
+header-count number h p = grind (arith, common_steps, count-test)
 
 -- SOF0 to SOF2 are neither differential nor arithmetic, and are decoded at 8 bits.
 header-process : (number : ℕ) (h : FrameHeader) → number ≤ 2 → HasPicture h

@@ -1,6 +1,5 @@
 -- Where all components have the same factors, they have the size of the frame.
-use Rattle.std.proofs.Common.{◌≡◌, inl, inr, ℕ, ◌-◌, ◌*◌, ◌<◌, List, [], ◌∷◌, map, refl, ap, ap₂, ◌∙◌, subst}
-use Rattle.std.proofs.Common.{arith}
+use Rattle.std.proofs.Common.{rules, ◌≡◌, inl, inr, ℕ, ◌*◌, ◌<◌, List, [], ◌∷◌, map, refl, ap, ap₂, ◌∙◌, subst, arith}
 use Rattle.std.specs.List.{AllByRecursion}
 use Rattle.std.proofs.lemmas.Nat.{div-mul-add}
 use Rattle.jpeg_bits.specs.Codes.{Table}
@@ -18,8 +17,7 @@ use Rattle.jpeg_streams.proofs.LosslessSizes.{IsMade, some-across, some-down}
 use Rattle.jpeg_streams.proofs.PaddingUnseen.{header-made}
 
 ceiling-whole : (n factor most : ℕ) → 0 < most → factor ≡ most → ceiling (n * factor) most ≡ n
-ceiling-whole n factor most h e =
-    ap (λ (k : ℕ). ceiling (n * k) most) e ∙ div-mul-add n most (most - 1) (omega arith)
+ceiling-whole n factor most h e = search (rules, div-mul-add)
 
 ceiling-one : (n most : ℕ) → most ≡ 1 → ceiling n most ≡ n
 ceiling-one n most e = ap (ceiling n) e ∙ omega arith
@@ -35,17 +33,8 @@ all-full : (frame : Frame) (cs : List Component) → AllByRecursion (IsMade fram
     → AllByRecursion (λ c. (c.factors.horizontal ≡ most_across frame) × (c.factors.vertical ≡ most_down frame)) cs
     → AllByRecursion (IsFull frame) cs
 all-full frame [] made same = tt
-all-full frame (c ∷ cs) made same = (
-  record {
-    width = made.0.width
-        ∙ ceiling-whole frame.width c.factors.horizontal (most_across frame) (some-across frame) same.0.0;
-    height = made.0.height
-        ∙ ceiling-whole frame.height c.factors.vertical (most_down frame) (some-down frame) same.0.1;
-    across = same.0.0;
-    down = same.0.1;
-  },
-  all-full frame cs made.1 same.1,
-)
+all-full frame (c ∷ cs) made same =
+    search (rules, ceiling-whole, some-across, some-down, all-full frame cs made.1 same.1)
 
 full-in : (frame : Frame) (c : Component) (cs : List Component) → AllByRecursion (IsFull frame) cs → IsIn c cs
     → IsFull frame c
@@ -73,12 +62,7 @@ pub way-alone : (h : FrameHeader) (selection : Predictor) (point : ℕ) (k : Los
     → (way_of (frame_written 3 h) selection point (k ∷ []) ≡ plain_way (frame_written 3 h) selection point (k ∷ []))
     × (mcus_down (frame_written 3 h) (k ∷ []) ≡ (frame_written 3 h).height)
 unfolding mcus_across mcus_down parts_of
-way-alone h selection point k is same in_frame =
-    let frame = frame_written 3 h in
-    let full = header-full h k.component is same in_frame in (
-      ap₂ (λ (w v : ℕ). way_by frame selection point w (part_at k.table 1 1 w v ∷ [])) full.width full.height,
-      full.height,
-    )
+way-alone h selection point k is same in_frame = search (rules, header-full)
 
 -- components of a scan where the greatest factors are 1
 parts-plain : (frame : Frame) (codings : List LosslessCoding) → most_across frame ≡ 1 → most_down frame ≡ 1
@@ -86,21 +70,13 @@ parts-plain : (frame : Frame) (codings : List LosslessCoding) → most_across fr
     → map (λ k. part_of k.component.factors.horizontal k.component.factors.vertical k) codings
     ≡ map (λ k. part_at k.table 1 1 frame.width frame.height) codings
 parts-plain frame [] a d all = refl
-parts-plain frame (k ∷ codings) a d all =
-    let full = all.0 in
-    let across = full.across ∙ a in
-    let down = full.down ∙ d in
-    let width = full.width in
-    let height = full.height in
-    let more = parts-plain frame codings a d all.1 in
-    (λ i. part_at k.table (across i) (down i) (width i) (height i) ∷ more i)
+parts-plain frame (k ∷ codings) a d all = search (rules, parts-plain frame codings a d all.1)
 
 codings-full : (h : FrameHeader) (codings : List LosslessCoding) → IsFrame 3 h → HasEqualFactors (frame_written 3 h)
     → AllByRecursion (λ k. IsIn k.component (frame_written 3 h).components) codings
     → AllByRecursion (λ k. IsFull (frame_written 3 h) k.component) codings
 codings-full h [] is same all = tt
-codings-full h (k ∷ codings) is same all =
-    (header-full h k.component is same all.0, codings-full h codings is same all.1)
+codings-full h (k ∷ codings) is same all = search (rules, header-full, codings-full h codings is same all.1)
 
 pub way-together : (h : FrameHeader) (selection : Predictor) (point : ℕ) (codings : List LosslessCoding) → IsFrame 3 h
     → HasEqualFactors (frame_written 3 h) → most_across (frame_written 3 h) ≡ 1 → most_down (frame_written 3 h) ≡ 1
@@ -108,11 +84,7 @@ pub way-together : (h : FrameHeader) (selection : Predictor) (point : ℕ) (codi
     → (way_of (frame_written 3 h) selection point codings ≡ plain_way (frame_written 3 h) selection point codings)
     × (mcus_down (frame_written 3 h) codings ≡ (frame_written 3 h).height)
 unfolding mcus_across mcus_down parts_of
-way-together h selection point [] is same a d all =
-    let frame = frame_written 3 h in (
-      ap (λ (w : ℕ). way_by frame selection point w []) (ceiling-one frame.width (most_across frame) a),
-      ceiling-one frame.height (most_down frame) d,
-    )
+way-together h selection point [] is same a d all = search (rules, ceiling-one)
 way-together h selection point (k ∷ []) is same a d all = way-alone h selection point k is same all.0
 way-together h selection point (k ∷ j ∷ codings) is same a d all =
     let frame = frame_written 3 h in (

@@ -1,8 +1,7 @@
 -- The plane of a list of blocks grows by the strip of each row of them.
-use Rattle.std.proofs.Common.{◌≡◌, ℕ, zero, suc, ◌+◌, ◌-◌, ◌*◌, ◌/◌, ◌<◌, ℤ, List, [], ◌∷◌, ◌++◌, length, get_or, map}
-use Rattle.std.proofs.Common.{sym, ap, ap₂, ◌∙◌, refl, arith}
-use Rattle.std.proofs.lemmas.List.{ext_get_or, get_or-append_right, get_or_append_left}
-use Rattle.std.proofs.lemmas.List.{length-map}
+use Rattle.std.proofs.Common.{rules, ◌≡◌, ℕ, zero, suc, ◌+◌, ◌*◌, ◌<◌, ℤ, List, [], ◌∷◌, ◌++◌, length, get_or, map, sym}
+use Rattle.std.proofs.Common.{ap₂, ◌∙◌, refl, arith}
+use Rattle.std.proofs.lemmas.List.{ext_get_or, get_or-append_right, get_or_append_left, length-map}
 use Rattle.std.proofs.lemmas.List.FromFn.{length-map-range_with_len, get_or-map-range_with_len}
 use Rattle.std.proofs.Math.Nat.{div-lt_iff_lt-mul}
 use Rattle.std.proofs.lemmas.Nat.{div-mul-add}
@@ -17,12 +16,7 @@ line-of : (wide n : ℕ) (xs row : List Block) → length xs ≡ n * wide → le
 line-of wide n xs row e f =
     ext_get_or [] (map (in_raster wide (xs ++ row) n) (range_with_len 0 wide)) (map ordered row)
     (length-map-range_with_len (in_raster wide (xs ++ row) n) 0 wide ∙ sym (length-map row ordered ∙ f))
-    (λ i h.
-    let lt : i < wide = omega (arith, length-map-range_with_len (in_raster wide (xs ++ row) n) 0 wide) in
-    get_or-map-range_with_len (in_raster wide (xs ++ row) n) 0 wide i i [] lt (omega arith)
-    ∙ ap ordered (get_or-append_right xs row (n * wide) (n * wide + i) zero_block e (omega arith)
-    ∙ ap (λ (k : ℕ). get_or row k zero_block) (let z : n * wide + i - n * wide ≡ i = omega arith in z))
-    ∙ sym (get-map row i (omega arith)))
+    (search (rules, length-map-range_with_len, get_or-map-range_with_len, get_or-append_right, get-map))
   where
     get-map : (row : List Block) (i : ℕ) → i < length row
         → get_or (map ordered row) i [] ≡ ordered (get_or row i zero_block)
@@ -38,8 +32,5 @@ pub plane-strips : (s : ℕ) (table : List ℕ) (wide n : ℕ) (xs row : List Bl
 plane-strips s table wide n xs row e f =
     plane-more s table wide n (in_raster wide (xs ++ row))
     ∙ ap₂ (λ (a : List ℕ) (l : List (List ℤ)). a ++ strip_of s table l)
-    (plane-same s table wide n (in_raster wide (xs ++ row)) (in_raster wide xs) (λ r c h k.
-    let d : (r * wide + c) / wide ≡ r = div-mul-add r wide c k in
-    let i : r * wide + c < n * wide = (div-lt_iff_lt-mul (let z : 0 < wide = omega arith in z)).0 (omega arith) in
-    ap ordered (get_or_append_left xs row zero_block (r * wide + c) (omega arith))))
+    (plane-same s table wide n (in_raster wide (xs ++ row)) (in_raster wide xs) (search (rules, div-mul-add, div-lt_iff_lt-mul, get_or_append_left)))
     (line-of wide n xs row e f)

@@ -1,22 +1,15 @@
 -- A run that prints the meaning of a stream prints images.
-use Rattle.std.proofs.Common.{◌≡◌, ℕ, ◌++◌, List, Option, Some, None, Result, Ok, Err, refl, IsSome, ap, subst}
+use Rattle.std.proofs.Common.{rules, arith, ◌≡◌, ℕ, ◌++◌, List, Option, Some, None, Result, Ok, Err, refl, IsSome}
+use Rattle.std.proofs.Common.{subst}
 use Rattle.std.specs.Prelude.{IfErr, IsSomeAnd, OnOk, option_map}
 use Rattle.std.specs.Io.KnownBytes.{Appends}
-use Rattle.jpeg_bits.specs.Reading.{Outcome}
 use Rattle.jpeg_bits.specs.declared.error.Error.{Error}
 use Rattle.jpeg_streams.specs.ArrayPictures.{picture_of_array, Takes}
 use Rattle.jpeg_streams.specs.Levels.{Is8Bit, Levels}
-use Rattle.jpeg_streams.specs.Output.{
-  default_settings,
-  header_line_of,
-  output_of,
-  IsOutsideOrMemory,
-  TakesBeginning,
-  Tells,
-}
+use Rattle.jpeg_streams.specs.Output.{default_settings, header_line_of, output_of, IsOutsideOrMemory, TakesBeginning}
+use Rattle.jpeg_streams.specs.Output.{Tells}
 use Rattle.jpeg_streams.specs.PrintedImages.{Prints, PrintsImages}
 use Rattle.jpeg_streams.specs.Pixels.{info_of}
-use Rattle.jpeg_streams.specs.Stream.{Told}
 use Rattle.jpeg_streams.specs.Found.{Found}
 use Rattle.jpeg_streams.specs.WrittenImages.{WritesImage}
 use Rattle.jpeg_streams.specs.WrittenScans.{Coefficients}
@@ -32,14 +25,8 @@ pub image-output : (array : Coefficients) (image rest : List ℕ) (final : Found
 unfolding output_of
 image-output array image rest final last range w takes =
     let p = taken-means default_settings array rest (image ++ rest) final last range (image-accepted array rest image
-    final last w) takes in (
-      p.0,
-      p.1,
-      ap (λ (o : Outcome (Told × List ℕ)). elim o as (λ _. Option (List ℕ)) [
-        | Ok stream ↦ Some (header_line_of (option_map info_of stream.0.0.frame) ++ stream.0.1)
-        | Err fault ↦ None
-      ]) p.2,
-    )
+    final last w) takes in
+    grind arith
 
 some-and : (o : Option (List ℕ)) (text : List ℕ) (P : List ℕ → Type 0) → o ≡ Some text → IsSomeAnd o P → P text
 some-and None text P e h = absurd (let n : ⊥ = cc in n)
@@ -55,8 +42,7 @@ prints : {X : Type 0} (bytes text : List ℕ) (old new : Option (List ℕ)) (res
     → (IsSome (output_of bytes) → IfErr result IsOutsideOrMemory)
     → Prints text old result new
 prints bytes text old new (Ok x) e ok beginning refused = some-and (output_of bytes) text (Appends old new) e ok
-prints bytes text old new (Err x) e ok beginning refused =
-    (refused (is-some (output_of bytes) text e), beginning text e)
+prints bytes text old new (Err x) e ok beginning refused = search (rules, is-some)
 
 pub prints-images : {X : Type 0} (remaining old new : Option (List ℕ)) (result : Result X Error)
     → ((bytes : List ℕ) → Tells remaining bytes → OnOk result (IsSomeAnd (output_of bytes) (Appends old new)))
@@ -65,10 +51,4 @@ pub prints-images : {X : Type 0} (remaining old new : Option (List ℕ)) (result
     → ((bytes : List ℕ) → Tells remaining bytes → IsSome (output_of bytes) → IfErr result IsOutsideOrMemory)
     → PrintsImages remaining old result new
 prints-images remaining old new result ok beginning refused array image rest final last range w takes tells =
-    let p = image-output array image rest final last range w takes in
-    let bytes = image ++ rest in (
-      p.0,
-      p.1,
-      prints bytes (header_line_of (option_map info_of final.frame) ++ p.0) old new result p.2 (ok bytes tells)
-          (beginning bytes tells) (refused bytes tells),
-    )
+    grind (arith, image-output array image rest final last range w takes)

@@ -1,7 +1,7 @@
 -- What a decoder holds after the scans of a written stream.
-use Rattle.std.proofs.Common.{◌≡◌, ◌≢◌, ◌⊎◌, inl, inr, ℕ, zero, suc, ◌-◌, ◌<◌, ◌≤◌, Bool, true, false, List, [], ◌∷◌}
-use Rattle.std.proofs.Common.{map, length, take, drop, get_or, set, slice_index_or, Option, Some, None, refl, sym, ap}
-use Rattle.std.proofs.Common.{◌∙◌, subst, arith, length-set, get_or-set_same, get_or-set_other, leb}
+use Rattle.std.proofs.Common.{rules, ◌≡◌, ◌≢◌, ◌⊎◌, inl, inr, ℕ, zero, suc, ◌-◌, ◌<◌, ◌≤◌, Bool, true, false, List, []}
+use Rattle.std.proofs.Common.{◌∷◌, map, length, take, drop, get_or, set, slice_index_or, Option, Some, None, refl, sym}
+use Rattle.std.proofs.Common.{ap, ◌∙◌, subst, arith, length-set, get_or-set_same, get_or-set_other}
 use Rattle.std.proofs.lemmas.Bool.{eq-eqb}
 use Rattle.std.proofs.lemmas.Bool.Decides.{leb_tells}
 use Rattle.std.proofs.lemmas.List.Folds.{list_all_at}
@@ -15,14 +15,14 @@ use Rattle.jpeg_streams.specs.ScanSegments.{with_plane, decided, finished_by, pl
 use Rattle.jpeg_streams.specs.ScanSegments.{with_blocks}
 use Rattle.jpeg_streams.specs.Found.{none_finished, Found}
 use Rattle.jpeg_streams.specs.Levels.{Levels, IsLegal, sent_after}
-use Rattle.jpeg_streams.proofs.FinishedPlaces.{is_level_0}
+use Rattle.jpeg_streams.proofs.FinishedPlaces.{is_level_0, dc-open}
 use Rattle.jpeg_streams.specs.WrittenScans.{Coefficients, levels_of_one, levels_after}
 use Rattle.jpeg_streams.proofs.PlacesApart.{IsAbsent, AreApart}
 use Rattle.jpeg_lossless.proofs.ReadBack.{not-equal}
 use Rattle.jpeg_streams.proofs.FinishedMarks.{marks_of, IsBand, marks-after}
-use Rattle.jpeg_streams.proofs.FinishedPlaces.{dc-open}
 use Rattle.jpeg_streams.proofs.OwnSpots.{At, at-within}
 use Rattle.jpeg_streams.proofs.WrittenFrameScans.{HoldsOwn}
+use Rattle.jpeg_streams.proofs.Apart.{at-one}
 
 -- what was said, with what scans have brought
 abbrev pub reading : Found → Bool → Arrays → List (List Bool) → List (Option (List ℕ)) → Found
@@ -57,18 +57,7 @@ pub record Marked (w : Found) (frame : Frame) (array : Coefficients) (levels : �
 -- ---- numbers and lists
 
 pub eqb_cases : (a b : ℕ) → (a ≡ b) ⊎ (a ≢ b)
-eqb_cases a b = either (leb_tells a b) (leb_tells b a)
-  where
-    either : ((leb a b ≡ true) × (a ≤ b)) ⊎ ((leb a b ≡ false) × (b < a))
-        → ((leb b a ≡ true) × (b ≤ a)) ⊎ ((leb b a ≡ false) × (a < b)) → (a ≡ b) ⊎ (a ≢ b)
-    either (inl x) (inl y) = inl (omega arith)
-    either (inl x) (inr y) = inr (omega arith)
-    either (inr x) y = inr (omega arith)
-
-pub at-one : {A : Type 0} (j : ℕ) (xs : List A) (x y : A) → At j xs x → At j xs y → x ≡ y
-at-one j [] x y h k = absurd h
-at-one zero (z ∷ xs) x y h k = sym h ∙ k
-at-one (suc j) (z ∷ xs) x y h k = at-one j xs x y h k
+eqb_cases a b = search (rules, leb_tells)
 
 pub first-of_band : {A : Type 0} (Q : A → Type 0) (d : A) (b n : ℕ) (xs : List A)
     → AllByRecursion Q (take (suc n) (drop b xs)) → b < length xs → Q (get_or xs b d)
@@ -100,8 +89,7 @@ legal-open p l legal band h = go p.ss refl
         let n : band_size p ≡ suc (p.se - p.ss) = let r = band.rising in omega arith in
         let s : before_band p ≡ b = omega arith in
         let all : AllByRecursion (λ x. x ≡ None) (take (suc (p.se - p.ss)) (drop b l.acs))
-        = subst (λ (k : ℕ). AllByRecursion (λ x. x ≡ None) (take k (drop b l.acs))) n
-        (subst (λ (k : ℕ). AllByRecursion (λ x. x ≡ None) (take (band_size p) (drop k l.acs))) s (legal.acs_unsent f))
+        = search rules
         in
         ap is_level_0 (first-of_band (λ x. x ≡ None) None b (p.se - p.ss) l.acs all
         (let r = band.rising in let t = band.within in omega arith))
@@ -109,15 +97,12 @@ legal-open p l legal band h = go p.ss refl
         let n : band_size p ≡ suc (p.se - p.ss) = let r = band.rising in omega arith in
         let s : before_band p ≡ b = omega arith in
         let all : AllByRecursion (λ x. x ≡ Some (suc p.al)) (take (suc (p.se - p.ss)) (drop b l.acs))
-        = subst (λ (k : ℕ). AllByRecursion (λ x. x ≡ Some (suc p.al)) (take k (drop b l.acs))) n
-        (subst (λ (k : ℕ). AllByRecursion (λ x. x ≡ Some (suc p.al)) (take (band_size p) (drop k l.acs))) s
-        (legal.acs_sent f)) in
+        = search rules in
         ap is_level_0 (first-of_band (λ x. x ≡ Some (suc p.al)) None b (p.se - p.ss) l.acs all
         (let r = band.rising in let t = band.within in omega arith))
 
     go : (n : ℕ) → p.ss ≡ n → is_whole l ≡ false
-    go zero e = list_all_at (λ (mark : Bool). mark) (marks_of l) 0 true (omega arith)
-        (dc-open p l legal e p.is_first refl)
+    go zero e = search (rules, list_all_at, dc-open)
     go (suc b) e =
         let within : b < length l.acs = let r = band.rising in let t = band.within in omega arith in
         let count = length-map l.acs is_level_0 in
@@ -150,25 +135,11 @@ plane-no k blocks marks pl e = rw (e, with_plane) refl
 
 plane-count : (k : Coding) (blocks : List Block) (marks : List Bool) (pl : List (Option (List ℕ)))
     → length (with_plane k blocks marks pl) ≡ length pl
-plane-count k blocks marks pl = go (list_all (λ mark. mark) marks) refl
-  where
-    go : (b : Bool) → list_all (λ mark. mark) marks ≡ b → length (with_plane k blocks marks pl) ≡ length pl
-    go true e = ap length (plane-yes k blocks marks pl e)
-        ∙ length-set pl k.place
-        (decided (slice_index_or pl k.place None) (plane_by k.component k.quantization blocks))
-    go false e = ap length (plane-no k blocks marks pl e)
+plane-count k blocks marks pl = search (rules, plane-yes, length-set, plane-no)
 
 plane-other : (k : Coding) (blocks : List Block) (marks : List Bool) (pl : List (Option (List ℕ))) (j : ℕ) → j ≢ k.place
     → slice_index_or (with_plane k blocks marks pl) j None ≡ slice_index_or pl j None
-plane-other k blocks marks pl j n = go (list_all (λ mark. mark) marks) refl
-  where
-    go : (b : Bool) → list_all (λ mark. mark) marks ≡ b
-        → slice_index_or (with_plane k blocks marks pl) j None ≡ slice_index_or pl j None
-    go true e =
-        ap (λ (l : List (Option (List ℕ))). slice_index_or l j None) (plane-yes k blocks marks pl e)
-        ∙ get_or-set_other pl k.place j
-        (decided (slice_index_or pl k.place None) (plane_by k.component k.quantization blocks)) None n
-    go false e = ap (λ (l : List (Option (List ℕ))). slice_index_or l j None) (plane-no k blocks marks pl e)
+plane-other k blocks marks pl j n = search (rules, plane-yes, get_or-set_other, plane-no)
 
 module _ (w : Found) (frame : Frame) (p : Pass) (array : Coefficients) (levels : ℕ → Levels) (k : Coding)
     (blocks : List Block) (fi : List (List Bool)) (pl : List (Option (List ℕ)))
@@ -280,19 +251,7 @@ done-others w frame p array levels place [] [] apart h = tt
 done-others w frame p array levels place [] (b ∷ arrays) apart h = absurd h
 done-others w frame p array levels place (k ∷ codings) [] apart h = absurd h
 done-others w frame p array levels place (k ∷ codings) (b ∷ arrays) apart h =
-    let same : levels k.place ≡ levels_of_one p place levels k.place =
-    sym (one-other p place k.place levels (λ e. apart.0 (sym e))) in
-    let d = h.0 in (
-      record {
-        at = d.at;
-        table = d.table;
-        legal = subst (IsLegal p) same d.legal;
-        sized = subst (λ (l : Levels). length l.acs ≡ 63) same d.sized;
-        holds = subst (λ (l : Levels). HoldsOwn (grid_of k.component) (array k.place) (sent_after p l) b) same
-            d.holds;
-      },
-      done-others w frame p array levels place codings arrays apart.1 h.1,
-    )
+    search (rules, one-other, done-others w frame p array levels place codings arrays apart.1 h.1)
 
 -- What scans have brought, after the components of one.
 pub record Brought (w : Found) (frame : Frame) (p : Pass) (array : Coefficients) (levels : ℕ → Levels)
@@ -327,8 +286,7 @@ pub brings : (w : Found) (frame : Frame) (p : Pass) (array : Coefficients) (leve
     → AllDone w frame p array levels codings arrays → Marked w frame array levels fi pl
     → Brought w frame p array levels codings arrays s h fi pl
 unfolding levels_after
-brings w frame p array levels [] [] s h fi pl few band apart done before =
-    record { finished = fi; planes = pl; is = with-none p (reading w s h fi pl); marked = before }
+brings w frame p array levels [] [] s h fi pl few band apart done before = search (rules, with-none)
 brings w frame p array levels [] (b ∷ arrays) s h fi pl few band apart done before = absurd done
 brings w frame p array levels (k ∷ codings) [] s h fi pl few band apart done before = absurd done
 brings w frame p array levels (k ∷ codings) (b ∷ arrays) s h fi pl few band apart done before =
@@ -337,13 +295,7 @@ brings w frame p array levels (k ∷ codings) (b ∷ arrays) s h fi pl few band 
     (with_plane k b marks pl) few band apart.1
     (done-others w frame p array levels k.place codings arrays apart.0 done.1)
     (marked-one w frame p array levels k b fi pl few band done.0 before) in
-    record {
-      finished = more.finished;
-      planes = more.planes;
-      is = with-one p k codings b arrays (reading w s h fi pl)
-          ∙ ap (with_arrays p codings arrays) (blocks-are p k b w s h fi pl) ∙ more.is;
-      marked = more.marked;
-    }
+    search (rules, with-one, blocks-are)
 
 -- ---- held between scans
 
@@ -356,31 +308,8 @@ held-one : (w : Found) (frame : Frame) (p : Pass) (array : Coefficients) (levels
     (blocks : List Block) (held : Arrays)
     → CodingDone w frame p array levels k blocks → AllHeld frame array levels held
     → AllHeld frame array (levels_of_one p k.place levels) (set held k.place blocks)
-held-one w frame p array levels k blocks held done before = record {
-  count = length-set held k.place blocks ∙ before.count;
-  each = λ j c h. go j c h (eqb_cases j k.place);
-}
-  where
-    go : (j : ℕ) (c : Component) → At j frame.components c → (j ≡ k.place) ⊎ (j ≢ k.place)
-        → HoldsOwn (grid_of c) (array j) (levels_of_one p k.place levels j) (get_or (set held k.place blocks) j [])
-    go j c h (inl e) =
-        let own : c ≡ k.component =
-        at-one k.place frame.components c k.component (subst (λ (i : ℕ). At i frame.components c) e h) done.at in
-        let within : k.place < length held = let t = at-within k.place frame.components k.component done.at in let n =
-        before.count in omega arith in
-        subst (λ (i : ℕ). HoldsOwn (grid_of c) (array i) (levels_of_one p k.place levels i)
-        (get_or (set held k.place blocks) i [])) (sym e)
-        (subst (λ (d : Component). HoldsOwn (grid_of d) (array k.place) (levels_of_one p k.place levels k.place)
-        (get_or (set held k.place blocks) k.place [])) (sym own)
-        (subst (λ (l : Levels). HoldsOwn (grid_of k.component) (array k.place) l
-        (get_or (set held k.place blocks) k.place [])) (sym (one-same p k.place levels))
-        (subst (HoldsOwn (grid_of k.component) (array k.place) (sent_after p (levels k.place)))
-        (sym (get_or-set_same held k.place blocks [] within)) done.holds)))
-    go j c h (inr n) =
-        subst (λ (l : Levels). HoldsOwn (grid_of c) (array j) l (get_or (set held k.place blocks) j []))
-        (sym (one-other p k.place j levels n))
-        (subst (HoldsOwn (grid_of c) (array j) (levels j)) (sym (get_or-set_other held k.place j blocks [] n))
-        (before.each j c h))
+held-one w frame p array levels k blocks held done before =
+    search (rules, length-set, eqb_cases, at-one, at-within, one-same, get_or-set_same, one-other, get_or-set_other)
 
 put-one : (k : Coding) (codings : List Coding) (b : List Block) (arrays held : Arrays)
     → put_arrays (k ∷ codings) (b ∷ arrays) held ≡ put_arrays codings arrays (set held k.place b)
@@ -396,8 +325,7 @@ pub held-after : (w : Found) (frame : Frame) (p : Pass) (array : Coefficients) (
     → AllDone w frame p array levels codings arrays → AllHeld frame array levels held
     → AllHeld frame array (levels_after p (places_of codings) levels) (put_arrays codings arrays held)
 unfolding levels_after
-held-after w frame p array levels [] [] held apart done before =
-    subst (AllHeld frame array levels) (sym (put-none held)) before
+held-after w frame p array levels [] [] held apart done before = search (rules, put-none)
 held-after w frame p array levels [] (b ∷ arrays) held apart done before = absurd done
 held-after w frame p array levels (k ∷ codings) [] held apart done before = absurd done
 held-after w frame p array levels (k ∷ codings) (b ∷ arrays) held apart done before =

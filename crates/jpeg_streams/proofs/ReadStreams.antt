@@ -1,7 +1,7 @@
 -- A written stream is read up to its end.
-use Rattle.std.proofs.Common.{◌≡◌, ◌≢◌, ℕ, zero, suc, ◌<◌, Bool, true, false, cond, List, [], ◌∷◌, ◌++◌, length}
-use Rattle.std.proofs.Common.{replicate, slice_index_or, is_some, Option, Some, None, Ok, refl, sym, ap, ◌∙◌, subst}
-use Rattle.std.proofs.Common.{arith, true≢false, length-append}
+use Rattle.std.proofs.Common.{rules, ◌≡◌, ◌≢◌, ℕ, zero, suc, ◌<◌, Bool, true, false, cond, List, [], ◌∷◌, ◌++◌, length}
+use Rattle.std.proofs.Common.{replicate, is_some, Option, Some, None, Ok, refl, sym, ap, ◌∙◌, subst, arith, true≢false}
+use Rattle.std.proofs.Common.{length-append}
 use Rattle.std.specs.List.{AllByRecursion, range_with_len}
 use Rattle.jpeg_bits.specs.Reading.{Outcome}
 use Rattle.jpeg_bits.specs.declared.marker.Marker.{Marker}
@@ -23,10 +23,9 @@ use Rattle.jpeg_streams.proofs.AcceptedStreams.WritesSegment.{quantization, huff
 use Rattle.jpeg_streams.proofs.AcceptedStreams.WritesScans.{segment, scan, closed}
 use Rattle.jpeg_streams.proofs.AcceptedStreams.WritesHead.{before as earlier, frame as framing}
 use Rattle.jpeg_streams.proofs.AcceptedStreams.WritesStream.{stream}
-use Rattle.jpeg_streams.proofs.ReadStates.{reading, is_whole, PlaneSo, AllHeld, places_of}
-use Rattle.jpeg_streams.proofs.AcceptedTurns.{StandsAt, stands-met, stands-next, turn-on, turn-end, then-ok}
-use Rattle.jpeg_streams.proofs.AcceptedTurns.{segment-read, frame-kept, scans-plain, codings-same, codings-read}
-use Rattle.jpeg_streams.proofs.AcceptedTurns.{scan-by}
+use Rattle.jpeg_streams.proofs.ReadStates.{reading, PlaneSo, places_of}
+use Rattle.jpeg_streams.proofs.AcceptedTurns.{StandsAt, stands-met, turn-on, turn-end, then-ok, frame-kept, scan-by}
+use Rattle.jpeg_streams.proofs.AcceptedTurns.{stands-next, segment-read, scans-plain, codings-same, codings-read}
 use Rattle.jpeg_segments.specs.ScanHeader.{Scan, sos_at}
 use Rattle.jpeg_segments.specs.ScanHeaders.{scan_payload}
 use Rattle.jpeg_segments.specs.WrittenSegments.{sized}
@@ -35,6 +34,7 @@ use Rattle.jpeg_streams.proofs.ScanFacts.{header-facts}
 use Rattle.jpeg_streams.proofs.TablesInForce.{tables-next, tables-start, codings-good}
 use Rattle.jpeg_streams.proofs.SaidTables.{HasTables}
 use Rattle.jpeg_streams.proofs.BroughtLevels.{Shaped, Framed, framed-start, scan-brings}
+use Rattle.jpeg_segments.proofs.Fields.{kept as if-true}
 
 -- ---- a segment between scans
 
@@ -47,46 +47,18 @@ same-arrays w next sc h fi pl f = refl
 plane-same : (w next : Found) (array : Coefficients) (l : Levels) (pl : List (Option (List ℕ))) (k : ℕ)
     (c : Component) → next.quantization ≡ w.quantization
     → PlaneSo w array l pl k c → PlaneSo next array l pl k c
-plane-same w next array l pl k c e p = record {
-  decided = λ d. let o = p.decided d in
-      record {
-        table = o.table;
-        is_table =
-            ap (λ (q : List (Option (List ℕ))). slice_index_or q c.factors.quantization None) e
-            ∙ o.is_table;
-        blocks = o.blocks;
-        holds = o.holds;
-        plane = o.plane;
-      };
-  undecided = p.undecided;
-}
+plane-same w next array l pl k c e p = search rules
 
 plane-unscanned : (w next : Found) (array : Coefficients) (l : Levels) (pl : List (Option (List ℕ))) (k : ℕ)
     (c : Component) → l ≡ nothing_sent
     → PlaneSo w array l pl k c → PlaneSo next array l pl k c
-plane-unscanned w next array l pl k c e p = record {
-  decided = λ d. absurd (true≢false (sym d ∙ ap is_whole e));
-  undecided = p.undecided;
-}
+plane-unscanned w next array l pl k c e p = search rules
 
 framed-by : (w next : Found) (f : Frame) (array : Coefficients) (levels : ℕ → Levels) (sc : Bool) (h : Arrays)
     (fi : List (List Bool)) (pl : List (Option (List ℕ)))
     → ((k : ℕ) (c : Component) → PlaneSo w array (levels k) pl k c → PlaneSo next array (levels k) pl k c)
     → Framed w f array levels sc h fi pl → Framed next f array levels sc h fi pl
-framed-by w next f array levels sc h fi pl g fr =
-    let m = fr.marked in
-    record {
-      marked = record {
-        fi_count = m.fi_count;
-        pl_count = m.pl_count;
-        marks = m.marks;
-        planes =
-            λ k c t. g k c (m.planes k c t);
-      };
-      sized = fr.sized;
-      held = λ e. subst (AllHeld f array levels) (same-arrays w next sc h fi pl f) (fr.held e);
-      fresh = fr.fresh;
-    }
+framed-by w next f array levels sc h fi pl g fr = search (rules, same-arrays)
 
 framed-next : (w next : Found) (m : Marker) (bytes : List ℕ) (f : Frame) (array : Coefficients) (levels : ℕ → Levels)
     (sc : Bool) (h : Arrays) (fi : List (List Bool)) (pl : List (Option (List ℕ)))
@@ -96,8 +68,7 @@ framed-next w next m bytes f array levels sc h fi pl q none (quantization w' byt
   where
     go : (b : Bool) → sc ≡ b → Framed next f array levels sc h fi pl
     go true e = absurd (q e refl)
-    go false e = framed-by w next f array levels sc h fi pl
-        (λ k c p. plane-unscanned w next array (levels k) pl k c (none e k) p) fr
+    go false e = search (rules, framed-by, plane-unscanned)
 framed-next w next m bytes f array levels sc h fi pl q none (huffman w' bytes' t k' a) fr =
     framed-by w next f array levels sc h fi pl (λ k c p. plane-same w next array (levels k) pl k c refl p) fr
 framed-next w next m bytes f array levels sc h fi pl q none (restart w' bytes' n a) fr =
@@ -125,22 +96,7 @@ pub record ReadTo (f : Frame) (array : Coefficients) (tail : List ℕ) (final : 
 read-to : (f : Frame) (array : Coefficients) (tail : List ℕ) (final : Found) (last : ℕ → Levels)
     (one other : Outcome Found) → one ≡ other → ReadTo f array tail final last other
     → ReadTo f array tail final last one
-read-to f array tail final last one other e r =
-    record {
-      held = r.held;
-      finished = r.finished;
-      planes = r.planes;
-      is = e
-          ∙ r.is;
-      framed = r.framed;
-      frame_is = r.frame_is;
-      tables = r.tables;
-      complete = r.complete;
-    }
-
-if-true : {A : Type 0} (b : Bool) (x y : A) → b ≡ true → cond b x y ≡ x
-if-true true x y e = refl
-if-true false x y e = absurd (true≢false (sym e))
+read-to f array tail final last one other e r = search rules
 
 end-turn : (bf : Before) (found : Found) (f : Frame) (tail : List ℕ) → found.frame ≡ Some f
     → segment_at EOI bf found tail ≡ Ok (record { found = found; before = Elsewhere; met = None; ended = true }, tail)
@@ -166,13 +122,15 @@ reads-scans array f tail w final levels last sc m bytes h fi pl (suc turns) bf m
     (segment w' next final' levels' last' sc' m' after fill code payload more s q i r) at room =
     let sizes = length-append payload (marker fill code more) in
     let fills = length-append (replicate fill 0xFF) (code ∷ more) in
-    read-to f array tail final last _ _
-    (turn-on turns bf (reading w sc h fi pl) met all (marker fill code more) (onward (reading next sc h fi pl))
-    (at.turn bf (reading w sc h fi pl) ∙ segment-read w next m payload (marker fill code more) bf sc h fi pl s) refl)
-    (reads-scans array f tail next final levels last sc after more h fi pl turns Elsewhere None
-    (marker fill code more) range shape (tables-next w next m payload s good) (frame-kept w next m payload s ∙ e) none
-    (framed-next w next m payload f array levels sc h fi pl q none s fr) r (stands-next fill code after more i)
-    (omega arith))
+    grind (
+      arith,
+      read-to f array tail final last,
+      turn-on turns bf (reading w sc h fi pl) met all (marker fill code more) (onward (reading next sc h fi pl))
+          (search (rules, segment-read)) refl,
+      reads-scans array f tail next final levels last sc after more h fi pl turns Elsewhere None (marker fill code
+          more) range shape (tables-next w next m payload s good) (frame-kept w next m payload s ∙ e) none (framed-next w
+          next m payload f array levels sc h fi pl q none s fr) r (stands-next fill code after more i) (omega arith),
+    )
 reads-scans array f tail w final levels last sc m bytes h fi pl (suc turns) bf met all range shape good e none fr
     (scan w' final' levels' last' sc' after fill code head payload more s codings made is l x i r) at room =
     let header = sized (scan_payload head) in
@@ -200,18 +158,17 @@ reads-scans array f tail w final levels last sc m bytes h fi pl (suc turns) bf m
     range shape good e (λ g. absurd (true≢false g)) b.framed r (stands-met after more) (omega arith))
 reads-scans array f tail w final levels last sc m bytes h fi pl (suc turns) bf met all range shape good e none fr
     (closed w' levels' t c) at room =
-    record {
-      held = h;
-      finished = fi;
-      planes = pl;
-      is = turn-end turns bf (reading w true h fi pl) met all tail
-          (record { found = reading w true h fi pl; before = Elsewhere; met = None; ended = true })
-          (at.turn bf (reading w true h fi pl) ∙ end-turn bf (reading w true h fi pl) f tail e) refl;
-      framed = fr;
-      frame_is = e;
-      tables = t;
-      complete = c;
-    }
+    grind (
+      arith,
+      turn-end turns bf (reading w true h fi pl) met all tail (record {
+        found = reading w true h fi pl;
+        before =
+            Elsewhere;
+        met = None;
+        ended = true;
+      }) (at.turn bf (reading w true h fi pl) ∙ end-turn bf (reading w true h fi
+          pl) f tail e) refl,
+    )
 
 -- ---- up to the frame
 
@@ -229,13 +186,7 @@ pub frame-by : (number : ℕ) (found : Found) (f : Frame) (bytes rest : List ℕ
     → sof_at number bytes ≡ Ok (f, rest) → accepted f ≡ Ok f
     → frame_segment number found bytes ≡ Ok (onward (record found { frame = Some f }), rest)
 unfolding frame_segment
-frame-by number found f bytes rest n e a =
-    if-false (is_some found.frame) _ _ (ap is_some n)
-    ∙ then-ok (sof_at number bytes) _ (f, rest) _ e (then-ok (accepted f) _ f _ a refl)
-  where
-    if-false : {A : Type 0} (b : Bool) (x y : A) → b ≡ false → cond b x y ≡ y
-    if-false true x y g = absurd (true≢false g)
-    if-false false x y g = refl
+frame-by number found f bytes rest n e a = search (rules, is_some, then-ok)
 
 pub frame-turn : (number : ℕ) (bf : Before) (found : Found) (bytes : List ℕ) (o : Outcome Turn)
     → frame_segment number found bytes ≡ o → segment_at (SOF number) bf found bytes ≡ o
@@ -252,14 +203,7 @@ pub record ReadWhole (array : Coefficients) (tail : List ℕ) (final : Found) (l
 
 whole-by : (array : Coefficients) (tail : List ℕ) (final : Found) (last : ℕ → Levels) (one other : Outcome Found)
     → one ≡ other → ReadWhole array tail final last other → ReadWhole array tail final last one
-whole-by array tail final last one other e r =
-    record {
-      frame = r.frame;
-      shape = r.shape;
-      is_accepted = r.is_accepted;
-      end =
-          read-to r.frame array tail final last one other e r.end;
-    }
+whole-by array tail final last one other e r = search (rules, read-to)
 
 pub reads-head : (array : Coefficients) (tail : List ℕ) (w final : Found) (last : ℕ → Levels) (m : Marker)
     (bytes : List ℕ) (turns : ℕ) (bf : Before) (met : Option Marker) (all : List ℕ)
@@ -273,13 +217,16 @@ reads-head array tail w final last m bytes (suc turns) bf met all range shapes g
     let sizes = length-append payload (marker fill code more) in
     let fills = length-append (replicate fill 0xFF) (code ∷ more) in
     let now = reading w false [] nothing_finished no_planes in
-    whole-by array tail final last _ _
-    (turn-on turns bf now met all (marker fill code more) (onward (reading next false [] nothing_finished no_planes))
-    (at.turn bf now ∙ segment-read w next m payload (marker fill code more) bf false [] nothing_finished no_planes s)
-    refl)
-    (reads-head array tail next final last after more turns Elsewhere None (marker fill code more) range shapes
-    (tables-next w next m payload s good) (frame-kept w next m payload s ∙ n) r (stands-next fill code after more i)
-    (omega arith))
+    grind (
+      arith,
+      whole-by array tail final last,
+      turn-on turns bf now met all (marker fill code more) (onward (reading next false [] nothing_finished no_planes))
+          (search (rules, segment-read))
+          refl,
+      reads-head array tail next final last after more turns Elsewhere None (marker fill code more) range shapes
+          (tables-next w next m payload s good) (frame-kept w next m payload s ∙ n) r (stands-next fill code after more i)
+          (omega arith),
+    )
 reads-head array tail w final last m bytes (suc turns) bf met all range shapes good n
     (framing w' final' last' after number fill code payload more f small o lossy a ok i r) at room =
     let sizes = length-append payload (marker fill code more) in
@@ -294,9 +241,7 @@ reads-head array tail w final last m bytes (suc turns) bf met all range shapes g
       end = read-to f array tail final last _ _
           (turn-on turns bf now met all (marker fill code more)
           (onward (reading next false [] nothing_finished no_planes))
-          (at.turn bf now ∙ frame-turn number bf now (payload ++ marker fill code more) _
-          (frame-by number now f (payload ++ marker fill code more) (marker fill code more) n
-          (a.accepted (marker fill code more)) ok)) refl)
+          (search (rules, frame-turn, frame-by)) refl)
           (reads-scans array f tail next final
           (λ k. nothing_sent) last false after more [] nothing_finished no_planes turns Elsewhere None
           (marker fill code more)
@@ -336,13 +281,12 @@ pub stream-read : (array : Coefficients) (tail : List ℕ) (bytes : List ℕ) (f
 stream-read array tail bytes final last range shapes (stream after fill code more final' last' i r) =
     let all = marker fill code more in
     let fills = length-append (replicate fill 0xFF) (code ∷ more) in
-    record {
-      rest = all;
-      starts = starts-so all;
-      whole = whole-by array tail final last _ _
-          (within-so nothing_found all
-          ∙ ap (λ (x : Found). segments_within (suc (length all)) false Elsewhere x None all) nothing-is)
-          (reads-head array tail nothing_found final last after more
-          (suc (length all)) Elsewhere None all range shapes tables-start no-frame r
-          (stands-next fill code after more i) (omega arith));
-    }
+    grind (
+      arith,
+      starts-so all,
+      whole-by array tail final last,
+      within-so nothing_found all,
+      nothing-is,
+      reads-head array tail nothing_found final last after more (suc (length all)) Elsewhere None all range shapes
+          tables-start no-frame r (stands-next fill code after more i) (omega arith),
+    )

@@ -1,5 +1,6 @@
 -- Refusals, and the turn that tells that known bytes are few.
-use Rattle.std.proofs.Common.{◌≡◌, ◌<◌, ℕ, zero, suc, List, Result, Err, Bool, true, Option, None, refl, subst, arith}
+use Rattle.std.proofs.Common.{rules, ◌≡◌, ◌<◌, ℕ, zero, suc, List, Result, Err, Bool, true, Option, None, refl, subst}
+use Rattle.std.proofs.Common.{arith}
 use Rattle.jpeg_bits.specs.Stream.{Stream}
 use Rattle.jpeg_bits.specs.Reading.{Outcome, Fault, Malformed, Lacks, End, Answers, Names, NamesFormat, MayFail}
 use Rattle.jpeg_bits.specs.Reading.{IsShort}
@@ -37,5 +38,4 @@ format_fails errors.OutOfMemory a b n h = h
 -- a refusal that known bytes never meet
 pub never-met : {X Y : Type 0} (view : X → Y) (read : List ℕ → Outcome Y) (old new : Stream) (e : Error) → NamesFormat e
     → new.failed ≡ old.failed → (old.known ≡ true → ⊥) → Answers view read old (Err e) new
-never-met view read old new e n f never =
-    (format_fails e old.failed new.failed n f, λ k _. absurd (never k), λ k _. absurd (never k))
+never-met view read old new e n f never = search (rules, format_fails)

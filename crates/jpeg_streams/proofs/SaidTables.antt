@@ -1,15 +1,13 @@
 -- The Huffman tables in force exist, where segments have set them.
-use Rattle.std.proofs.Common.{◌≡◌, ℕ, zero, suc, Bool, true, false, cond, List, [], ◌∷◌, set, get_or, fold, Option}
-use Rattle.std.proofs.Common.{Some, None, subst}
+use Rattle.std.proofs.Common.{rules, ◌≡◌, ℕ, zero, suc, List, [], ◌∷◌, set, get_or, fold, Option, Some, None, subst}
 use Rattle.std.specs.List.{AllByRecursion}
-use Rattle.std.specs.Prelude.{option_map, slice_index_or}
-use Rattle.jpeg_bits.specs.Codes.{Table, IsTable, is_ac}
-use Rattle.jpeg_segments.specs.Frame.{Frame}
-use Rattle.jpeg_segments.specs.HuffmanTables.{Tables, PlacedTable, no_tables, with_table, greatest_place}
+use Rattle.std.specs.Prelude.{slice_index_or}
+use Rattle.jpeg_bits.specs.Codes.{Table, IsTable}
+use Rattle.jpeg_segments.specs.HuffmanTables.{Tables, PlacedTable, no_tables, with_table}
 use Rattle.jpeg_streams.specs.Segments.{with_huffman, updated}
 use Rattle.jpeg_streams.specs.Found.{Found}
-use Rattle.jpeg_segments.specs.WrittenSegments.{Segment, Quantization, Huffman, Interval, Application, Comment}
-use Rattle.jpeg_segments.specs.WrittenSegments.{Header, IsHuffmanTable, huffman_tables}
+use Rattle.jpeg_segments.specs.WrittenSegments.{Segment, Quantization, Huffman, Interval, Application, Comment, Header}
+use Rattle.jpeg_segments.specs.WrittenSegments.{IsHuffmanTable, huffman_tables}
 use Rattle.jpeg_streams.specs.SaidSegments.{found_after}
 use Rattle.jpeg_streams.specs.WrittenLossless.{StandsInLossless}
 
@@ -42,24 +40,7 @@ updated-all (o ∷ old) (Some t ∷ new) p q = (q.0, updated-all old new p.1 q.1
 
 table-all : (most : ℕ) (tables : Tables) (t : PlacedTable) → HasTables tables → IsHuffmanTable most t
     → HasTables (with_table tables t)
-table-all most tables t h is = go (is_ac t.table.class)
-  where
-    go : (b : Bool) → HasTables (cond b (record tables { ac = set tables.ac t.place (Some t.table) })
-        (record tables { dc = set tables.dc t.place (Some t.table) }))
-    go true = record {
-      dc = h.dc;
-      ac = set-all IsTableOrNone tables.ac t.place (Some t.table) h.ac (record {
-        counted = is.counted;
-        exists = is.exists;
-      });
-    }
-    go false = record {
-      dc = set-all IsTableOrNone tables.dc t.place (Some t.table) h.dc (record {
-        counted = is.counted;
-        exists = is.exists;
-      });
-      ac = h.ac;
-    }
+table-all most tables t h is = search (rules, set-all)
 
 tables-all : (most : ℕ) (tables : Tables) (ts : List PlacedTable) → HasTables tables
     → AllByRecursion (IsHuffmanTable most) ts → HasTables (fold with_table tables ts)
@@ -75,15 +56,12 @@ pub written-tables : (most : ℕ) (ts : List PlacedTable) → AllByRecursion (Is
 written-tables most ts all = tables-all most no_tables ts no-tables all
 
 pub updated-tables : (old new : Tables) → HasTables old → HasTables new → HasTables (with_huffman old new)
-updated-tables old new h k =
-    record { dc = updated-all old.dc new.dc h.dc k.dc; ac = updated-all old.ac new.ac h.ac k.ac }
+updated-tables old new h k = search (rules, updated-all)
 
 pub segment-tables : (said found : Found) (s : Segment) → StandsInLossless said s → HasTables found.huffman
     → HasTables (found_after found s).huffman
 segment-tables said found (Quantization ts) may h = h
-segment-tables said found (Huffman ts) may h =
-    updated-tables found.huffman (huffman_tables ts) h
-    (written-tables (greatest_place (option_map (λ (f : Frame). f.is_baseline) said.frame)) ts may.0)
+segment-tables said found (Huffman ts) may h = search (rules, updated-tables, written-tables)
 segment-tables said found (Interval n) may h = h
 segment-tables said found (Application number payload) may h = h
 segment-tables said found (Comment payload) may h = h
@@ -95,5 +73,4 @@ some-table (Some u) t e h = subst IsTable (let s : u ≡ t = cc in s) h
 
 pub table-there : (tables : List (Option Table)) (place : ℕ) (t : Table) → AllByRecursion IsTableOrNone tables
     → slice_index_or tables place None ≡ Some t → IsTable t
-table-there tables place t all e = some-table (get_or tables place None) t e (get-all IsTableOrNone tables place None
-    all tt)
+table-there tables place t all e = search (rules, some-table, get-all)

@@ -1,9 +1,7 @@
 -- The picture of samples goes by the precision, the size and the sampling factors of a frame.
-use Rattle.std.proofs.Common.{◌≡◌, ℕ, ◌+◌, ◌*◌, ◌/◌, max, List, [], ◌∷◌, ◌++◌, map, refl, ap, ap₂}
-use Rattle.std.specs.List.{concat, range_with_len}
+use Rattle.std.proofs.Common.{rules, arith, ◌≡◌, ℕ, ◌+◌, max, List, [], ◌∷◌, map, refl, ap, ap₂}
 use Rattle.jpeg_segments.specs.Frame.{Component, Frame, greatest}
-use Rattle.jpeg_lossless.specs.Pictures.{most_across, most_down, sample_bytes}
-use Rattle.jpeg_lossless.specs.Places.{at_place}
+use Rattle.jpeg_lossless.specs.Pictures.{most_across, most_down}
 use Rattle.jpeg_streams.specs.FrameSamples.{sampling_of}
 use Rattle.jpeg_streams.specs.WrittenLossless.{picture_of_samples, pixel_from, Samples}
 
@@ -46,19 +44,14 @@ pixel-alike f g samples x y p a d place [] [] e = refl
 pixel-alike f g samples x y p a d place [] (c ∷ cs) e = absurd (let n : ⊥ = cc in n)
 pixel-alike f g samples x y p a d place (c ∷ cs) [] e = absurd (let n : ⊥ = cc in n)
 pixel-alike f g samples x y p a d place (c ∷ cs) (b ∷ bs) e =
-    let same = first-same (sampling_of c) (sampling_of b) _ _ e in
-    let h = horizontal-same c b same in
-    let v = vertical-same c b same in
-    let more = pixel-alike f g samples x y p a d (place + 1) cs bs
-    (others-same (sampling_of c) (sampling_of b) _ _ e) in
-    (λ i. sample_bytes (p i) (at_place (samples place) (x * h i / a i) (y * v i / d i)) ++ more i)
+    grind (
+      arith,
+      first-same (sampling_of c) (sampling_of b),
+      pixel-alike f g samples x y p a d (place + 1) cs bs (others-same (sampling_of c) (sampling_of b) _ _ e),
+    )
 
 pub pictures-alike : (f g : Frame) (samples : Samples) → f.precision ≡ g.precision → f.width ≡ g.width
     → f.height ≡ g.height → map sampling_of f.components ≡ map sampling_of g.components
     → picture_of_samples f samples ≡ picture_of_samples g samples
 unfolding picture_of_samples
-pictures-alike f g samples p w h e =
-    let a = across-alike f.components g.components e in
-    let d = down-alike f.components g.components e in
-    (λ i. concat (map (λ y. concat (map (λ x. pixel-alike f g samples x y p a d 0 f.components g.components e i)
-    (range_with_len 0 (w i)))) (range_with_len 0 (h i))))
+pictures-alike f g samples p w h e = search (rules, across-alike, down-alike, pixel-alike)

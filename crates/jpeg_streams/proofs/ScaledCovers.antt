@@ -1,18 +1,18 @@
 -- The planes of a frame's components cover its picture, at each scale.
-use Rattle.std.proofs.Common.{◌≡◌, ◌≤◌, ◌<◌, ℕ, ◌*◌, List, [], ◌∷◌, length, map, Option, Some, None}
-use Rattle.std.proofs.Common.{Ok, refl, sym, subst}
+use Rattle.std.proofs.Common.{rules, arith, ◌≡◌, ◌≤◌, ◌<◌, ℕ, ◌*◌, List, [], ◌∷◌, length, map, Option, Some, None, Ok}
+use Rattle.std.proofs.Common.{sym, subst}
 use Rattle.std.specs.List.{AllByRecursion}
 use Rattle.jpeg_bits.specs.Reading.{Lacks}
 use Rattle.jpeg_segments.specs.Frame.{Component, Factors, IsInRange, frame_of}
 use Rattle.jpeg_segments.specs.Scales.{frame_at}
 use Rattle.jpeg_pixels.specs.declared.upsampler.UpsampleRule.{UpsampleRule}
-use Rattle.jpeg_pixels.specs.Pictures.{AllCover, AreWhole, Covers, HasSources, Source, source_by, source_of}
-use Rattle.jpeg_pixels.specs.Pictures.{sources_by, sources_of}
+use Rattle.jpeg_pixels.specs.Pictures.{AllCover, AreWhole, Covers, HasSources, Source, source_by, source_of, sources_by}
+use Rattle.jpeg_pixels.specs.Pictures.{sources_of}
 use Rattle.jpeg_pixels.proofs.RuleRatios.{in-blocks, room-of}
 use Rattle.jpeg_streams.proofs.AcceptedTurns.{err-ok, ok-same, bind-ok}
 use Rattle.jpeg_streams.proofs.FrameShapes.{Plain, made-at, greatest-some}
 use Rattle.jpeg_streams.proofs.InsidePictures.{AllReach, Reaches}
-use Rattle.jpeg_streams.proofs.ScaledSizes.{scaled_component, most_h, most_v, is-sized, reaches-made}
+use Rattle.jpeg_streams.proofs.ScaledSizes.{scaled_component, is-sized, reaches-made}
 use Rattle.jpeg_streams.proofs.ScaledSources.{frame-sources}
 
 -- ---- one component
@@ -25,10 +25,7 @@ record InBlocks (c : Component) : Type 0 where
 all-inside : (s width height h v : ℕ) (xs : List Factors) → 0 < h → 0 < v
     → AllByRecursion InBlocks (map (scaled_component s width height h v) xs)
 all-inside s width height h v [] a b = tt
-all-inside s width height h v (x ∷ xs) a b = (
-  record { wide = in-blocks s width x.horizontal h a; high = in-blocks s height x.vertical v b },
-  all-inside s width height h v xs a b,
-)
+all-inside s width height h v (x ∷ xs) a b = search (rules, in-blocks, all-inside s width height h v xs a b)
 
 covers : (c : Component) (rule : Option UpsampleRule) (source : Source) (plane : List ℕ) (width height : ℕ)
     → InBlocks c → length plane ≡ (c.blocks_high * c.scale) * (c.blocks_wide * c.scale)
@@ -37,15 +34,11 @@ covers c None source plane width height inside size e reach = absurd (err-ok (La
 covers c (Some rule) source plane width height inside size e reach =
     let same = ok-same _ source e in
     let r = subst (λ (s : Source). Reaches s width height) (sym same) reach in
-    subst (λ (s : Source). Covers s plane width height) same (record {
-      some_width = r.some_width;
-      some_across = r.some_across;
-      some_down = r.some_down;
-      wide_enough = r.wide_enough;
-      high_enough = r.high_enough;
-      room = rw size (room-of c.width c.height (c.blocks_wide * c.scale) (c.blocks_high * c.scale) r.some_height
-          inside.wide inside.high);
-    })
+    grind (
+      arith,
+      room-of c.width c.height (c.blocks_wide * c.scale) (c.blocks_high * c.scale) r.some_height inside.wide
+          inside.high,
+    )
 
 -- ---- all components
 
@@ -53,8 +46,7 @@ all-cover : (h v width height : ℕ) (cs : List Component) (planes : List (List 
     → AllByRecursion InBlocks cs → AreWhole cs planes → sources_by h v width height cs ≡ Ok sources
     → AllReach sources width height → AllCover sources planes width height
 unfolding sources_by AreWhole AllCover
-all-cover h v width height [] planes sources inside whole e reach =
-    subst (λ (l : List Source). AllCover l planes width height) (ok-same [] sources e) tt
+all-cover h v width height [] planes sources inside whole e reach = search (rules, ok-same)
 all-cover h v width height (c ∷ cs) [] sources inside whole e reach = absurd whole
 all-cover h v width height (c ∷ cs) (plane ∷ planes) sources inside whole e reach =
     let one = bind-ok (source_of h v width height c) _ sources e in
@@ -75,25 +67,9 @@ pub frames-have-sources : (scale number precision width height : ℕ) (factors :
 unfolding frame_of
 frames-have-sources scale number precision width height factors sources range some most w g e =
     let f = frame_of number precision width height factors in
-    let o : Plain f = record {
-      number = number;
-      precision = precision;
-      width = width;
-      height = height;
-      factors = factors;
-      in_range = range;
-      some_width = w;
-      some_height = g;
-      is = refl;
-    } in
+    let o : Plain f = search rules in
     let m = made-at f scale o some in
     let there = frame-sources f scale sources o some most e in
     let inside = subst (AllByRecursion InBlocks) (sym (is-sized (frame_at scale f) m).components)
-    (all-inside scale width height (most_h factors) (most_v factors) factors (greatest-some (λ c. c.horizontal) factors)
-    (greatest-some (λ c. c.vertical) factors)) in
-    record {
-      sources = there.0;
-      is = there.1;
-      cover = λ planes whole. all-cover _ _ _ _ (frame_at scale f).components planes there.0 inside whole there.1
-          (reaches-made (frame_at scale f) there.0 m there.1);
-    }
+    (search (rules, all-inside, greatest-some)) in
+    grind (arith, all-cover, reaches-made (frame_at scale f) there.0 m there.1)

@@ -1,33 +1,25 @@
 -- A stream that was written for a frame is one for the frame at any scale.
-use Rattle.std.proofs.Common.{◌≡◌, ◌⊎◌, inl, inr, ℕ, zero, suc, ◌+◌, ◌*◌, ◌/◌, ◌%◌, ◌<◌, ◌≤◌, ◌==◌, nat_lt, Bool}
-use Rattle.std.proofs.Common.{true, false, List, [], ◌∷◌, ◌++◌, map, length, get_or, slice_index_or, sum_by}
-use Rattle.std.proofs.Common.{sum, drop, Option, Some, None, refl, sym, ap, ap₂, ◌∙◌, subst, arith, leb}
-use Rattle.std.proofs.Common.{mul_assoc}
+use Rattle.std.proofs.Common.{rules, ◌≡◌, ℕ, zero, suc, ◌+◌, ◌*◌, ◌<◌, ◌==◌, Bool, true, List, [], ◌∷◌, ◌++◌, map}
+use Rattle.std.proofs.Common.{length, sum_by, sum, drop, Some, refl, sym, ap, ap₂, ◌∙◌, subst, arith, mul_assoc}
 use Rattle.std.proofs.lemmas.Bool.Decides.{leb_tells}
 use Rattle.std.proofs.Math.Nat.{mul_comm, lt_of_mul-lt-mul_right, mul-lt-mul_of_pos_right}
-use Rattle.std.specs.List.{AllByRecursion, range_with_len, flat_map, position}
+use Rattle.std.specs.List.{AllByRecursion, flat_map, position}
 use Rattle.std.proofs.lemmas.List.Sums.{sum-map}
 use Rattle.jpeg_segments.specs.Frame.{Frame, Component, Factors, ceiling}
-use Rattle.jpeg_segments.specs.declared.parser.CodingProcess.{CodingProcess}
-use Rattle.jpeg_segments.specs.ScanHeader.{Scan, Selector, place_of, blocks_by, is_band, is_mcu, scan_of}
+use Rattle.jpeg_segments.specs.ScanHeader.{Scan, place_of, blocks_by, scan_of}
 use Rattle.jpeg_segments.specs.ScanHeaders.{AreChoices, Choice, IsScan, ScanHeader, scan_written, selector_of}
 use Rattle.jpeg_segments.proofs.ScanLemmas.{position-map}
-use Rattle.jpeg_streams.specs.declared.grids.Grid.{Grid}
-use Rattle.jpeg_bits.specs.Passes.{Pass, Via}
+use Rattle.jpeg_bits.specs.Passes.{Pass}
 use Rattle.jpeg_streams.specs.Order.{Spot, grid_of, own_spots, part_spots, mcu_spots, all_spots, spots_of, mcu_size}
-use Rattle.jpeg_bits.specs.Codes.{Table}
 use Rattle.jpeg_bits.specs.declared.marker.Marker.{Marker}
-use Rattle.jpeg_segments.specs.HuffmanTables.{Tables, greatest_place}
-use Rattle.jpeg_bits.specs.Passes.{Block}
-use Rattle.jpeg_bits.specs.Intervals.{first_group, other_groups}
+use Rattle.jpeg_segments.specs.HuffmanTables.{Tables}
 use Rattle.jpeg_streams.specs.Levels.{Levels, IsLegal, numbers_at}
-use Rattle.jpeg_streams.specs.WrittenData.{WritesIntervals}
 use Rattle.jpeg_streams.specs.Needed.{first_of}
-use Rattle.jpeg_streams.specs.ScanSegments.{vias_from, Coding, tables_of, pass_of, is_progressive, components_of}
+use Rattle.jpeg_streams.specs.ScanSegments.{vias_from, Coding, tables_of, pass_of, components_of}
 use Rattle.jpeg_streams.specs.Found.{Found}
-use Rattle.jpeg_streams.specs.WrittenScans.{Coefficients, IsOwn, no_grid, grid_at, written_turns}
-use Rattle.jpeg_streams.specs.WrittenScans.{IsCoding, AreCodings, WritesScan, levels_after, IsComplete, HasTable}
-use Rattle.jpeg_streams.proofs.AcceptedStreams.{IsAccepted, WritesSegment, WritesScans}
+use Rattle.jpeg_streams.specs.WrittenScans.{Coefficients, written_turns, IsCoding, AreCodings, WritesScan, levels_after}
+use Rattle.jpeg_streams.specs.WrittenScans.{HasTable}
+use Rattle.jpeg_streams.proofs.AcceptedStreams.{WritesSegment, WritesScans}
 use Rattle.jpeg_streams.specs.WrittenScans.AreCodings.{no_more, and_more}
 use Rattle.jpeg_streams.proofs.AcceptedStreams.WritesSegment.{quantization, huffman, restart, application, comment}
 use Rattle.jpeg_streams.proofs.AcceptedStreams.WritesScans.{segment, scan, closed}
@@ -37,13 +29,7 @@ use Rattle.jpeg_streams.proofs.AcceptedTurns.{frame-kept}
 -- ---- the same number
 
 same-number : (a b : ℕ) → ((x : ℕ) → x < a → x < b) → ((x : ℕ) → x < b → x < a) → a ≡ b
-same-number a b f g = go (leb_tells a b) (leb_tells b a)
-  where
-    go : ((leb a b ≡ true) × (a ≤ b)) ⊎ ((leb a b ≡ false) × (b < a))
-        → ((leb b a ≡ true) × (b ≤ a)) ⊎ ((leb b a ≡ false) × (a < b)) → a ≡ b
-    go (inl x) (inl y) = omega arith
-    go (inl x) (inr y) = absurd (let h = g a y.1 in omega arith)
-    go (inr x) y = absurd (let h = f b x.1 in omega arith)
+same-number a b f g = search (rules, leb_tells)
 
 -- a component has as many own blocks at each scale
 pub own-same : (n m s : ℕ) → 0 < m → 0 < s → ceiling (ceiling (n * s) (m * 8)) s ≡ ceiling (ceiling n m) 8
@@ -63,8 +49,7 @@ own-same n m s hm hs =
     (below-ceiling x (ceiling (n * s) (m * 8)) s hs).1 ((below-ceiling (x * s) (n * s) (m * 8) (omega arith)).1 b))
   where
     same : (x : ℕ) → x * s * (m * 8) ≡ (x * 8 * m) * s
-    same x = mul_assoc x s (m * 8) ∙ ap (λ (y : ℕ). x * y) (mul_comm s (m * 8) ∙ ap (λ (y : ℕ). y * s) (mul_comm m 8))
-        ∙ sym (mul_assoc x (8 * m) s) ∙ ap (λ (y : ℕ). y * s) (sym (mul_assoc x 8 m))
+    same x = search (rules, mul_assoc, mul_comm)
 
 -- ---- components with the same blocks
 
@@ -102,11 +87,7 @@ flat-same {B} f g h (x ∷ xs) = ap₂ (λ (l m : List B). l ++ m) (h x) (flat-s
 all-same_spots : (wide high : ℕ) (cs ds : List Component) → Alikes cs ds
     → all_spots wide high ds ≡ all_spots wide high cs
 unfolding all_spots
-all-same_spots wide high cs ds h =
-    flat-same (λ row. flat_map (λ column. mcu_spots row column 0 ds) (range_with_len 0 wide))
-    (λ row. flat_map (λ column. mcu_spots row column 0 cs) (range_with_len 0 wide))
-    (λ row. flat-same (λ column. mcu_spots row column 0 ds) (λ column. mcu_spots row column 0 cs)
-    (λ column. mcu-same row column 0 cs ds h) (range_with_len 0 wide)) (range_with_len 0 high)
+all-same_spots wide high cs ds h = search (rules, flat-same, mcu-same)
 
 -- a frame whose components have the same blocks, and which is read alike
 pub record SameFrame (f g : Frame) : Type 0 where
@@ -130,8 +111,7 @@ spots-same f g cs ds same (one_more c d cs' ds' h (one_more c' d' cs'' ds'' h' m
 factors-same : {B : Type 0} (t : Factors → B) (cs ds : List Component) → Alikes cs ds
     → map (λ c. t c.factors) ds ≡ map (λ c. t c.factors) cs
 factors-same t cs ds none = refl
-factors-same {B} t cs ds (one_more c d cs' ds' h more) =
-    ap₂ (λ (x : B) (l : List B). x ∷ l) (ap t h.factors) (factors-same t cs' ds' more)
+factors-same {B} t cs ds (one_more c d cs' ds' h more) = search (rules, factors-same t cs' ds' more)
 
 sum-same : (t : Factors → ℕ) (cs ds : List Component) → Alikes cs ds
     → sum_by (λ c. t c.factors) ds ≡ sum_by (λ c. t c.factors) cs
@@ -165,9 +145,7 @@ blocks-same cs ds (suc place) (one_more c d cs' ds' h more) = blocks-same cs' ds
 
 selectors-same : (f g : Frame) (cs : List Choice) → SameFrame f g → map (selector_of g) cs ≡ map (selector_of f) cs
 selectors-same f g [] same = refl
-selectors-same f g (c ∷ cs) same =
-    ap₂ (λ (n : ℕ) (l : List Selector). record { component = c.component; dc = c.dc; ac = c.ac; blocks = n } ∷ l)
-    (blocks-same f.components g.components c.component same.components) (selectors-same f g cs same)
+selectors-same f g (c ∷ cs) same = search (rules, blocks-same, selectors-same f g cs same)
 
 written-same : (f g : Frame) (h : ScanHeader) → SameFrame f g → scan_written g h ≡ scan_written f h
 unfolding scan_of
@@ -177,29 +155,10 @@ choices-same : (f g : Frame) (least : ℕ) (cs : List Choice) → SameFrame f g 
     → AreChoices g least cs
 unfolding AreChoices
 choices-same f g least [] same are = tt
-choices-same f g least (c ∷ cs) same are =
-    let is = are.0 in
-    let most : (n : ℕ) → n ≤ greatest_place (Some f.is_baseline) → n ≤ greatest_place (Some g.is_baseline) =
-    λ n. subst (λ (b : Bool). n ≤ greatest_place (Some b)) (sym same.is_baseline) in (
-      record {
-        identified = place-same f.components g.components c.identifier same.components ∙ is.identified;
-        ordered = is.ordered;
-        dc_placed = most c.dc is.dc_placed;
-        ac_placed = most c.ac is.ac_placed;
-      },
-      choices-same f g (c.component + 1) cs same are.1,
-    )
+choices-same f g least (c ∷ cs) same are = search (rules, place-same, choices-same f g (c.component + 1) cs same are.1)
 
 scan-same : (f g : Frame) (h : ScanHeader) → SameFrame f g → IsScan f h → IsScan g h
-scan-same f g h same is = record {
-  some = is.some;
-  most = is.most;
-  choices = choices-same f g 0 h.choices same is.choices;
-  fits = ap is_mcu (selectors-same f g h.choices same) ∙ is.fits;
-  narrow = is.narrow;
-  precise = ap (λ (n : ℕ). nat_lt h.low n) same.precision ∙ is.precise;
-  band = ap (λ (p : CodingProcess). is_band p (length h.choices) h.first h.last h.high h.low) same.process ∙ is.band;
-}
+scan-same f g h same is = search (rules, choices-same, selectors-same)
 
 -- ---- codings
 
@@ -219,18 +178,9 @@ at_frame w g = record w { frame = Some g }
 
 first-alike : (n : ℕ) (cs ds : List Component) (c : Component) → Alikes cs ds → first_of (drop n cs) ≡ Some c
     → (d : Component) × (first_of (drop n ds) ≡ Some d) × Alike c d
-first-alike zero cs ds c none e = absurd (no e)
-  where
-    no : ◌≡◌ {A = Option Component} None (Some c) → ⊥
-    no e = cc
-first-alike zero cs ds c (one_more x y cs' ds' h more) e = (y, refl, subst (λ (z : Component). Alike z y) (some e) h)
-  where
-    some : ◌≡◌ {A = Option Component} (Some x) (Some c) → x ≡ c
-    some e = cc
-first-alike (suc n) cs ds c none e = absurd (no e)
-  where
-    no : ◌≡◌ {A = Option Component} None (Some c) → ⊥
-    no e = cc
+first-alike zero cs ds c none e = search rules
+first-alike zero cs ds c (one_more x y cs' ds' h more) e = search rules
+first-alike (suc n) cs ds c none e = search rules
 first-alike (suc n) cs ds c (one_more x y cs' ds' h more) e = first-alike n cs' ds' c more e
 
 coding-alike : (w : Found) (f g : Frame) → SameFrame f g → (p : Pass) (tables : Tables) (place d a : ℕ) (k : Coding)
@@ -251,8 +201,7 @@ coding-alike w f g same p tables place d a k h =
         stands = h.stands;
         component = other.1;
         quantization =
-            ap (λ (x : Factors). slice_index_or w.quantization x.quantization None) other.2.factors
-            ∙ h.quantization;
+            search rules;
         dc = h.dc;
         ac = h.ac;
       },
@@ -285,21 +234,16 @@ components-alike ks ls (one_more k l ks' ls' h more) =
 places-alike : (ks ls : List Coding) → CodingsAlike ks ls
     → map (λ (c : Coding). c.place) ls ≡ map (λ (c : Coding). c.place) ks
 places-alike ks ls none = refl
-places-alike ks ls (one_more k l ks' ls' h more) =
-    ap₂ (λ (x : ℕ) (xs : List ℕ). x ∷ xs) h.place (places-alike ks' ls' more)
+places-alike ks ls (one_more k l ks' ls' h more) = search (rules, places-alike ks' ls' more)
 
 vias-alike : (base : ℕ) (ks ls : List Coding) → CodingsAlike ks ls → vias_from base ls ≡ vias_from base ks
 unfolding vias_from
 vias-alike base ks ls none = refl
-vias-alike base ks ls (one_more k l ks' ls' h more) =
-    ap₂ (λ (v : Via) (vs : List Via). v ∷ vs)
-    (ap₂ (λ (d a : Table). record { component = base; dc = d; ac = a }) h.dc h.ac)
-    (vias-alike (base + 1) ks' ls' more)
+vias-alike base ks ls (one_more k l ks' ls' h more) = search (rules, vias-alike (base + 1) ks' ls' more)
 
 grids-alike : (cs ds : List Component) → Alikes cs ds → map grid_of ds ≡ map grid_of cs
 grids-alike cs ds none = refl
-grids-alike cs ds (one_more c d cs' ds' h more) =
-    ap₂ (λ (x : Grid) (xs : List Grid). x ∷ xs) (grid-same c d h) (grids-alike cs' ds' more)
+grids-alike cs ds (one_more c d cs' ds' h more) = rw (grid-same c d h, grids-alike cs' ds' more) refl
 
 -- ---- scans
 
@@ -312,41 +256,22 @@ scan-alike f g n p ks ls array bytes same h w =
     let u = λ (s : Spot). numbers_at p.al (w.sent s) in
     let turns : written_turns (vias_from 0 ls) (spots_of g (components_of ls)) u
     ≡ written_turns (vias_from 0 ks) (spots_of f (components_of ks)) u
-    = ap₂ (λ (v : List Via) (s : List Spot). written_turns v s u) (vias-alike 0 ks ls h)
-    (spots-same f g (components_of ks) (components_of ls) same cs) in
+    = search (rules, vias-alike, spots-same) in
     let size : n * mcu_size (components_of ls) ≡ n * mcu_size (components_of ks) =
     ap (λ (x : ℕ). n * x) (mcu-size_same (components_of ks) (components_of ls) cs) in
-    record {
-      sent = w.sent;
-      in_range = w.in_range;
-      is_own = λ s own.
-          let grid : grid_at (components_of ls) s.slot ≡ grid_at (components_of ks) s.slot =
-          ap (λ (l : List Grid). get_or l s.slot no_grid) grids in
-          w.is_own s (subst (λ (x : Grid). IsOwn x s.index) grid own)
-          ∙ sym (ap₂ (λ (k : ℕ) (x : Grid). array k (s.index / x.wide) (s.index % x.wide))
-          (ap (λ (l : List ℕ). get_or l s.slot 0) places) grid);
-      coded =
-          subst (λ (k : ℕ). WritesIntervals p 0
-          (first_group k (written_turns (vias_from 0 ls) (spots_of g (components_of ls)) u))
-          (other_groups k (written_turns (vias_from 0 ls) (spots_of g (components_of ls)) u)) bytes) (sym size)
-          (subst (λ (t : List (Via × Block)). WritesIntervals p 0 (first_group (n * mcu_size (components_of ks)) t)
-          (other_groups (n * mcu_size (components_of ks)) t) bytes) (sym turns) w.coded);
-    }
+    grind arith
 
 legal-alike : (p : Pass) (levels : ℕ → Levels) (ks ls : List Coding) → CodingsAlike ks ls
     → AllByRecursion (λ c. IsLegal p (levels c.place)) ks → AllByRecursion (λ c. IsLegal p (levels c.place)) ls
 legal-alike p levels ks ls none h = tt
-legal-alike p levels ks ls (one_more k l ks' ls' a more) h =
-    (subst (λ (n : ℕ). IsLegal p (levels n)) (sym a.place) h.0, legal-alike p levels ks' ls' more h.1)
+legal-alike p levels ks ls (one_more k l ks' ls' a more) h = search (rules, legal-alike p levels ks' ls' more h.1)
 
 segment-alike : (w next : Found) (m : Marker) (bytes : List ℕ) (f g : Frame) → SameFrame f g → w.frame ≡ Some f
     → WritesSegment w m bytes next → WritesSegment (at_frame w g) m bytes (at_frame next g)
 segment-alike w next m bytes f g same e (quantization w' bytes' t a) = quantization (at_frame w g) bytes t a
 segment-alike w next m bytes f g same e (huffman w' bytes' t k a) =
     huffman (at_frame w g) bytes t k
-    (subst (λ (o : Option Bool). IsAccepted (Rattle.jpeg_segments.specs.HuffmanTables.dht_at o) bytes t)
-    (ap (Rattle.std.specs.Prelude.option_map (λ (x : Frame). x.is_baseline)) e
-    ∙ ap (λ (b : Bool). Some b) (sym same.is_baseline)) a)
+    (search rules)
 segment-alike w next m bytes f g same e (restart w' bytes' n a) = restart (at_frame w g) bytes n a
 segment-alike w next m bytes f g same e (application w' number bytes' t a) = application (at_frame w g) number bytes t a
 segment-alike w next m bytes f g same e (comment w' bytes' a) = comment (at_frame w g) bytes a
@@ -354,14 +279,7 @@ segment-alike w next m bytes f g same e (comment w' bytes' a) = comment (at_fram
 tables-there : (w : Found) (g : Frame) (cs ds : List Component) → Alikes cs ds → AllByRecursion (HasTable w) cs
     → AllByRecursion (HasTable (at_frame w g)) ds
 tables-there w g cs ds none h = tt
-tables-there w g cs ds (one_more c d cs' ds' a more) h = (
-  record {
-    table = h.0.table;
-    is =
-        ap (λ (x : Factors). slice_index_or w.quantization x.quantization None) a.factors ∙ h.0.is;
-  },
-  tables-there w g cs' ds' more h.1,
-)
+tables-there w g cs ds (one_more c d cs' ds' a more) h = search (rules, tables-there w g cs' ds' more h.1)
 
 -- A stream that was written for a frame is written for one with the same blocks.
 pub scans-alike : (array : Coefficients) (f g : Frame) (tail : List ℕ) (w final : Found) (levels last : ℕ → Levels)
@@ -380,11 +298,7 @@ scans-alike array f g tail w final levels last sc m bytes same e
     let places = places-alike codings o.0 o.2 in
     scan (at_frame w g) (at_frame final g) levels last sc after fill code h payload more s o.0
     (made ∙ sym (written-same f g h same)) (scan-same f g h same is)
-    (record {
-      are_in_force = subst (λ (t : Tables). AreCodings (at_frame w g) g
-          (pass_of s) t s.components s.dc_places s.ac_places o.0) (sym (tables-kept w g s)) o.1;
-      legal = legal-alike (pass_of s) levels codings o.0 o.2 l.legal;
-    })
+    (grind (arith, tables-kept w g s, legal-alike (pass_of s) levels codings o.0 o.2 l.legal))
     (scan-alike f g w.restart (pass_of s) codings o.0 array payload same o.2 x) i
     (subst (λ (p : List ℕ). WritesScans array g tail (at_frame w g)
     (levels_after (pass_of s) p levels) true after more (at_frame final g) last) (sym places)
@@ -392,5 +306,4 @@ scans-alike array f g tail w final levels last sc m bytes same e
     (levels_after (pass_of s) (map (λ (c : Coding). c.place) codings) levels) last true after more same e r))
 scans-alike array f g tail w final levels last sc m bytes same e (closed w' levels' t c) =
     closed (at_frame w g) levels (tables-there w g f.components g.components same.components t)
-    (λ n. subst (λ (k : ℕ). AllByRecursion (λ j. IsComplete (levels j)) (range_with_len 0 k))
-    (sym (length-same f.components g.components same.components)) (c (ap is_progressive (sym same.process) ∙ n)))
+    (search (rules, length-same))

@@ -1,21 +1,19 @@
 -- The sizes of a frame's components at each scale.
-use Rattle.std.proofs.Common.{◌≡◌, inl, ℕ, ◌*◌, ◌<◌, ◌≤◌}
-use Rattle.std.proofs.Common.{List, [], ◌∷◌, map, length, Option, Some, None, Ok, refl, sym, ap, ap₂}
-use Rattle.std.proofs.Common.{◌∙◌, subst, arith}
+use Rattle.std.proofs.Common.{rules, ◌≡◌, inl, ℕ, ◌*◌, ◌<◌, ◌≤◌, List, [], ◌∷◌, map, length, Option, Some, None, Ok}
+use Rattle.std.proofs.Common.{refl, sym, ap, ◌∙◌, subst, arith}
 use Rattle.std.proofs.Math.Nat.{mul-le-mul}
 use Rattle.std.specs.List.{AllByRecursion}
 use Rattle.jpeg_bits.specs.Reading.{Lacks}
 use Rattle.jpeg_segments.specs.Frame.{Frame, Component, Factors, IsInRange, frame_of, component_of, ceiling, greatest}
 use Rattle.jpeg_pixels.specs.declared.upsampler.UpsampleRule.{UpsampleRule}
-use Rattle.jpeg_pixels.specs.Upsampling.{across, down, rule_of}
+use Rattle.jpeg_pixels.specs.Upsampling.{rule_of}
 use Rattle.jpeg_pixels.specs.Pictures.{Source, source_by, source_of, sources_by, sources_of, all_factors}
 use Rattle.jpeg_segments.specs.Scales.{component_at, frame_at}
 use Rattle.jpeg_pixels.proofs.RuleRatios.{reach-end, rule-ratios, some-ceiling}
 use Rattle.jpeg_streams.proofs.OwnSpots.{At}
 use Rattle.jpeg_streams.proofs.AcceptedTurns.{err-ok, ok-same, bind-ok}
-use Rattle.jpeg_streams.proofs.FrameShapes.{greatest-some}
+use Rattle.jpeg_streams.proofs.FrameShapes.{greatest-some, at-mapped}
 use Rattle.jpeg_streams.proofs.FrameFits.{factors-back}
-use Rattle.jpeg_streams.proofs.FrameShapes.{at-mapped}
 use Rattle.jpeg_streams.proofs.BroughtLevels.{Made}
 use Rattle.jpeg_streams.proofs.InsidePictures.{Reaches, AllReach}
 
@@ -35,8 +33,7 @@ components-scaled : (s width height h v : ℕ) (xs : List Factors)
     ≡ map (scaled_component s width height h v) xs
 unfolding component_of component_at
 components-scaled s width height h v [] = refl
-components-scaled s width height h v (x ∷ xs) =
-    ap (λ (l : List Component). scaled_component s width height h v x ∷ l) (components-scaled s width height h v xs)
+components-scaled s width height h v (x ∷ xs) = rw (components-scaled s width height h v xs) refl
 
 abbrev pub most_h : List Factors → ℕ
 most_h xs = greatest (λ f. f.horizontal) xs
@@ -48,11 +45,7 @@ pub frame-components : (s number precision width height : ℕ) (xs : List Factor
     → (frame_at s (frame_of number precision width height xs)).components
     ≡ map (scaled_component s width height (most_h xs) (most_v xs)) xs
 unfolding frame_at frame_of
-frame-components s number precision width height xs =
-    ap (λ (l : List Factors). map (component_at s width height (most_h l) (most_v l))
-    (map (component_of width height (most_h xs) (most_v xs)) xs))
-    (factors-back width height (most_h xs) (most_v xs) xs)
-    ∙ components-scaled s width height (most_h xs) (most_v xs) xs
+frame-components s number precision width height xs = search (rules, factors-back, components-scaled)
 
 pub frame-width : (s number precision width height : ℕ) (xs : List Factors)
     → (frame_at s (frame_of number precision width height xs)).output_width ≡ ceiling (width * s) 8
@@ -80,15 +73,7 @@ reaches-one s width height mh mv x (Some rule) source ss w h a b r e f =
     let p2 : 1 * 1 ≤ width * x.horizontal * s = mul-le-mul p1 ss in
     let q1 : 1 * 1 ≤ height * x.vertical = mul-le-mul h vs in
     let q2 : 1 * 1 ≤ height * x.vertical * s = mul-le-mul q1 ss in
-    subst (λ (o : Source). Reaches o (ceiling (width * s) 8) (ceiling (height * s) 8)) (ok-same _ source f)
-    (record {
-      some_width = some-ceiling (width * x.horizontal * s) (mh * 8) (omega arith) (omega arith);
-      some_height = some-ceiling (height * x.vertical * s) (mv * 8) (omega arith) (omega arith);
-      some_across = q.columns.some;
-      some_down = q.lines.some;
-      wide_enough = reach-end width x.horizontal mh s (across rule) w hs a ss q.columns;
-      high_enough = reach-end height x.vertical mv s (down rule) h vs b ss q.lines;
-    })
+    search (rules, ok-same, some-ceiling, reach-end)
 
 reaches-all : (s width height mh mv : ℕ) (xs : List Factors) (sources : List Source) → 0 < s → 0 < width → 0 < height
     → 0 < mh → 0 < mv → AllByRecursion IsInRange xs
@@ -96,20 +81,13 @@ reaches-all : (s width height mh mv : ℕ) (xs : List Factors) (sources : List S
     (map (scaled_component s width height mh mv) xs) ≡ Ok sources
     → AllReach sources (ceiling (width * s) 8) (ceiling (height * s) 8)
 unfolding sources_by
-reaches-all s width height mh mv [] sources ss w h a b range e =
-    subst (λ (l : List Source). AllReach l (ceiling (width * s) 8) (ceiling (height * s) 8)) (ok-same [] sources e) tt
+reaches-all s width height mh mv [] sources ss w h a b range e = search (rules, ok-same)
 reaches-all s width height mh mv (x ∷ xs) sources ss w h a b range e =
     let one = bind-ok (source_of mh mv (ceiling (width * s) 8) (ceiling (height * s) 8)
     (scaled_component s width height mh mv x)) _ sources e in
     let others = bind-ok (sources_by mh mv (ceiling (width * s) 8) (ceiling (height * s) 8)
     (map (scaled_component s width height mh mv) xs)) _ sources one.2 in
-    subst (λ (l : List Source). AllReach l (ceiling (width * s) 8) (ceiling (height * s) 8))
-    (ok-same (one.0 ∷ others.0) sources others.2) (
-      reaches-one s width height mh mv x
-          (rule_of x.horizontal x.vertical mh mv (ceiling (width * s) 8) (ceiling (height * s) 8)) one.0 ss w h a b
-          range.0 refl one.1,
-      reaches-all s width height mh mv xs others.0 ss w h a b range.1 others.1,
-    )
+    search (rules, ok-same, reaches-one, reaches-all s width height mh mv xs others.0 ss w h a b range.1 others.1)
 
 pub factors-scaled : (s width height h v : ℕ) (xs : List Factors)
     → all_factors (map (scaled_component s width height h v) xs) ≡ xs
@@ -124,9 +102,7 @@ reaches-frame : (s width height : ℕ) (xs : List Factors) (sources : List Sourc
 reaches-frame s width height xs sources ss w h range e =
     reaches-all s width height (most_h xs) (most_v xs) xs sources ss w h (greatest-some (λ f. f.horizontal) xs)
     (greatest-some (λ f. f.vertical) xs) range
-    (subst (λ (l : List Factors). sources_by (most_h l) (most_v l) (ceiling (width * s) 8) (ceiling (height * s) 8)
-    (map (scaled_component s width height (most_h xs) (most_v xs)) xs) ≡ Ok sources)
-    (factors-scaled s width height (most_h xs) (most_v xs) xs) e)
+    (search (rules, factors-scaled))
 
 -- a frame that is made of factors has these components, and this size
 pub record IsSized (f : Frame) (m : Made f) : Type 0 where
@@ -136,26 +112,14 @@ pub record IsSized (f : Frame) (m : Made f) : Type 0 where
   pub height : f.output_height ≡ ceiling (m.height * m.scale) 8
 
 pub is-sized : (f : Frame) (m : Made f) → IsSized f m
-is-sized f m = record {
-  components = ap (λ (g : Frame). g.components) m.is
-      ∙ frame-components m.scale m.number m.precision m.width m.height m.factors;
-  width = ap (λ (g : Frame). g.output_width) m.is ∙ frame-width m.scale m.number m.precision m.width m.height m.factors;
-  height = ap (λ (g : Frame). g.output_height) m.is
-      ∙ frame-height m.scale m.number m.precision m.width m.height m.factors;
-}
+is-sized f m = search (rules, frame-components, frame-width, frame-height)
 
 pub reaches-made : (f : Frame) (sources : List Source) → Made f
     → sources_of f.components f.output_width f.output_height ≡ Ok sources
     → AllReach sources f.output_width f.output_height
 reaches-made f sources m e =
     let z = is-sized f m in
-    subst (λ (n : ℕ). AllReach sources n f.output_height) (sym z.width)
-    (subst (λ (n : ℕ). AllReach sources (ceiling (m.width * m.scale) 8) n) (sym z.height)
-    (reaches-frame m.scale m.width m.height m.factors sources m.some_scale m.some_width m.some_height m.in_range
-    (sym (ap₂ (λ (a b : ℕ). sources_of
-    (map (scaled_component m.scale m.width m.height (most_h m.factors) (most_v m.factors)) m.factors) a b) z.width
-    z.height)
-    ∙ sym (ap (λ (l : List Component). sources_of l f.output_width f.output_height) z.components) ∙ e)))
+    search (rules, reaches-frame)
 
 pub scale-made : (f : Frame) → Made f → (k : ℕ) (c : Component) → At k f.components c → 0 < c.scale
 scale-made f m k c t =
@@ -195,4 +159,4 @@ one-made f c m e =
     let z = is-sized f m in
     let r = one-of m.scale m.width m.height m.factors c m.some_scale m.some_width m.some_height m.in_range
     (sym z.components ∙ e) in
-    (subst (λ (n : ℕ). n ≤ c.width) (sym z.width) r.0, subst (λ (n : ℕ). n ≤ c.height) (sym z.height) r.1)
+    (search rules)

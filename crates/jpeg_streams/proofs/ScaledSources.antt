@@ -1,8 +1,7 @@
 -- A frame with a way to upsample each component has one at each scale.
-use Rattle.std.proofs.Common.{◌≡◌, inl, inr, ℕ, ◌*◌, ◌<◌, ◌≤◌, List, [], ◌∷◌, map, Ok, sym, ap, ap₂, ◌∙◌, subst}
-use Rattle.std.proofs.Common.{arith}
+use Rattle.std.proofs.Common.{rules, ◌≡◌, inl, inr, ℕ, ◌*◌, ◌<◌, ◌≤◌, List, [], ◌∷◌, map, Ok, sym, subst, arith}
 use Rattle.std.specs.List.{AllByRecursion}
-use Rattle.jpeg_segments.specs.Frame.{Component, Factors, Frame, ceiling}
+use Rattle.jpeg_segments.specs.Frame.{Factors, Frame, ceiling}
 use Rattle.jpeg_segments.specs.Scales.{frame_at}
 use Rattle.jpeg_pixels.specs.Pictures.{Source, sources_by, sources_of}
 use Rattle.jpeg_pixels.proofs.RuleRatios.{some-ceiling}
@@ -20,8 +19,7 @@ near-kept n m s t f (inr (inr e)) = inr (inr (f e))
 
 upsampled-kept : (mh mv a b a' b' : ℕ) (x : Factors) → (a ≡ 1 → a' ≡ 1) → (b ≡ 1 → b' ≡ 1) → Upsampled mh mv a b x
     → Upsampled mh mv a' b' x
-upsampled-kept mh mv a b a' b' x f g (inl near) =
-    inl (near-kept x.horizontal mh a a' f near.0, near-kept x.vertical mv b b' g near.1)
+upsampled-kept mh mv a b a' b' x f g (inl near) = search (rules, near-kept)
 upsampled-kept mh mv a b a' b' x f g (inr whole) = inr whole
 
 all-kept : (s width height mh mv a b a' b' : ℕ) (xs : List Factors) → (a ≡ 1 → a' ≡ 1) → (b ≡ 1 → b' ≡ 1)
@@ -44,13 +42,7 @@ sources-there s width height mh mv a b a' b' xs sources f g e =
 -- ---- frames
 
 one-wide : (n s : ℕ) → 0 < s → s ≤ 8 → ceiling (n * 8) 8 ≡ 1 → 0 < n → ceiling (n * s) 8 ≡ 1
-one-wide n s a b e some =
-    let cover = ceiling-covers (n * 8) 8 (omega arith) in
-    let one : n ≡ 1 = omega arith in
-    let size : n * s ≡ 1 * s = ap (λ (x : ℕ). x * s) one in
-    let most : ceiling (n * s) 8 ≤ 1 = ceiling-least (n * s) 8 1 (omega arith) (omega arith) in
-    let least : 0 < ceiling (n * s) 8 = some-ceiling (n * s) 8 (omega arith) (omega arith) in
-    omega arith
+one-wide n s a b e some = search (rules, ceiling-covers, ceiling-least, some-ceiling)
 
 -- the frame at a scale has a way to upsample each component
 pub frame-sources : (f : Frame) (s : ℕ) (sources : List Source) → Plain f → 0 < s → s ≤ 8
@@ -65,12 +57,7 @@ frame-sources f s sources o a b e =
     let full = plain-size f o in
     let at8 : sources_of (map (scaled_component 8 o.width o.height (most_h o.factors) (most_v o.factors)) o.factors)
     (ceiling (o.width * 8) 8) (ceiling (o.height * 8) 8) ≡ Ok sources
-    = sym (ap₂ (λ (x y : ℕ). sources_of
-    (map (scaled_component 8 o.width o.height (most_h o.factors) (most_v o.factors)) o.factors) x y) z8.width
-    z8.height)
-    ∙ sym (ap (λ (l : List Component). sources_of l (frame_at 8 f).output_width (frame_at 8 f).output_height)
-    z8.components)
-    ∙ ap (λ (g : Frame). sources_of g.components g.output_width g.output_height) full ∙ e in
+    = search rules in
     let by8 = subst (λ (l : List Factors). sources_by (most_h l) (most_v l) (ceiling (o.width * 8) 8)
     (ceiling (o.height * 8) 8)
     (map (scaled_component 8 o.width o.height (most_h o.factors) (most_v o.factors)) o.factors) ≡ Ok sources)
@@ -81,11 +68,5 @@ frame-sources f s sources o a b e =
     let back = subst (λ (l : List Factors). sources_by (most_h l) (most_v l) (ceiling (o.width * s) 8)
     (ceiling (o.height * s) 8)
     (map (scaled_component s o.width o.height (most_h o.factors) (most_v o.factors)) o.factors) ≡ Ok others.0)
-    (sym (factors-scaled s o.width o.height (most_h o.factors) (most_v o.factors) o.factors)) others.1 in (
-      others.0,
-      ap (λ (l : List Component). sources_of l (frame_at s f).output_width (frame_at s f).output_height) z.components
-          ∙ ap₂ (λ (x y : ℕ). sources_of
-          (map (scaled_component s o.width o.height (most_h o.factors) (most_v o.factors)) o.factors) x y) z.width
-          z.height
-          ∙ back,
-    )
+    (sym (factors-scaled s o.width o.height (most_h o.factors) (most_v o.factors) o.factors)) others.1 in
+    grind arith

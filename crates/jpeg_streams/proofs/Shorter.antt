@@ -1,6 +1,6 @@
 -- What a reading of bytes leaves.
-use Rattle.std.proofs.Common.{◌≡◌, ◌≤◌, ◌<◌, ℕ, zero, suc, List, [], ◌∷◌, Ok, Err, Bool, true, false, Option, Some}
-use Rattle.std.proofs.Common.{None, length, arith}
+use Rattle.std.proofs.Common.{rules, ◌≡◌, ◌≤◌, ◌<◌, ℕ, zero, suc, List, [], ◌∷◌, Ok, Err, Bool, true, false, Option}
+use Rattle.std.proofs.Common.{Some, None, length, arith}
 use Rattle.std.specs.Prelude.{if◌then◌else◌}
 use Rattle.jpeg_bits.specs.Reading.{Outcome, Fault, ◌>>=◌, next_byte, next_u16, length_at, skip_at, times}
 use Rattle.jpeg_bits.specs.Marker.{next_marker, found_or, marker_at}
@@ -55,16 +55,11 @@ byte-below limit (x ∷ rest) h = omega arith
 
 pub u16-below : (limit : ℕ) (bytes : List ℕ) → length bytes ≤ limit → LeavesBelow limit (next_u16 bytes)
 unfolding next_u16
-u16-below limit bytes h =
-    below-bind limit limit (next_byte bytes) _ (byte-below limit bytes h) (λ high p.
-    below-bind limit limit (next_byte high.1) _ (byte-below limit high.1 (omega arith)) (λ low q. below-ok limit _ low.1
-    q))
+u16-below limit bytes h = search (rules, below-bind, byte-below, below-ok)
 
 pub length-below : (limit : ℕ) (bytes : List ℕ) → length bytes ≤ limit → LeavesBelow limit (length_at bytes)
 unfolding length_at
-length-below limit bytes h =
-    below-bind limit limit (next_u16 bytes) _ (u16-below limit bytes h) (λ n p. below-else limit _ _ _
-    (below-ok limit _ n.1 p))
+length-below limit bytes h = search (rules, below-bind, u16-below, below-else, below-ok)
 
 pub skip-below : (limit n : ℕ) (bytes : List ℕ) → length bytes < limit → LeavesBelow limit (skip_at n bytes)
 unfolding skip_at

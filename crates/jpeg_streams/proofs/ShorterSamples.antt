@@ -1,19 +1,17 @@
 -- What a lossless scan leaves.
-use Rattle.std.proofs.Common.{◌-◌, ◌<◌, ℕ, zero, suc, List, [], ◌∷◌, Bool, true, false, Option, Err, length}
-use Rattle.std.specs.Prelude.{◌==◌, nat_le, nat_lt}
+use Rattle.std.proofs.Common.{rules, ◌-◌, ◌<◌, ℕ, zero, suc, List, [], ◌∷◌, Bool, true, false, Option, Err, length}
+use Rattle.std.specs.Prelude.{nat_le}
 use Rattle.jpeg_bits.specs.Reading.{Outcome, Malformed}
 use Rattle.jpeg_bits.specs.Codes.{Table, symbol_from}
 use Rattle.jpeg_bits.specs.Entropy.{upcoming, fresh, marker_from}
-use Rattle.jpeg_bits.specs.Readers.{refused, signed_from}
+use Rattle.jpeg_bits.specs.Readers.{refused}
 use Rattle.jpeg_bits.specs.declared.marker.Marker.{Marker}
 use Rattle.jpeg_lossless.specs.Differences.{difference, difference_of, differences, mcu_tables, rows_from, row_tables}
-use Rattle.jpeg_lossless.specs.Scans.{Way, interval, intervals, is_of_rows, lines_above}
+use Rattle.jpeg_lossless.specs.Scans.{Way, interval, intervals, is_of_rows, lines_above, rows_of_interval, scan_at}
 use Rattle.jpeg_bits.specs.Intervals.{is_restart}
-use Rattle.jpeg_lossless.specs.Scans.{rows_of_interval, scan_at}
 use Rattle.jpeg_streams.proofs.Shorter.{LeavesBelow, below-ok, below-err, below-bind}
 use Rattle.jpeg_streams.proofs.ShorterTexts.{StaysBelow, bind-stays, gives-stays, refused-stays, elim-stays}
-use Rattle.jpeg_streams.proofs.ShorterTexts.{signed-stays, symbol-stays, texts-below, upcoming-below}
-use Rattle.jpeg_streams.proofs.ShorterTexts.{marker_from-below}
+use Rattle.jpeg_streams.proofs.ShorterTexts.{signed-stays, symbol-stays, texts-below, upcoming-below, marker_from-below}
 
 -- ---- differences
 
@@ -22,24 +20,19 @@ unfolding difference
 difference-stays limit table =
     bind-stays limit (symbol_from table) _ (symbol-stays limit table) (λ s.
     elim-stays limit (nat_le s 16) (difference_of s) refused
-    (elim-stays limit (s == 0) _ _ (gives-stays limit 0)
-    (elim-stays limit (nat_lt s 16) _ _
-    (bind-stays limit (signed_from s) _ (signed-stays limit s) (λ v. gives-stays limit _)) (gives-stays limit 32768)))
+    (search (rules, elim-stays, gives-stays, bind-stays, signed-stays))
     (refused-stays ℕ limit))
 
 differences-stay : (limit : ℕ) (tables : List Table) → StaysBelow limit (differences tables)
 unfolding differences
 differences-stay limit [] = gives-stays limit []
 differences-stay limit (table ∷ tables) =
-    bind-stays limit (difference table) _ (difference-stays limit table) (λ d.
-    bind-stays limit (differences tables) _ (differences-stay limit tables) (λ more. gives-stays limit _))
+    search (rules, bind-stays, difference-stays, gives-stays, differences-stay limit tables)
 
 rows-stay : (limit : ℕ) (tables : List Table) (n : ℕ) → StaysBelow limit (rows_from tables n)
 unfolding rows_from
 rows-stay limit tables zero = gives-stays limit []
-rows-stay limit tables (suc n) =
-    bind-stays limit (differences tables) _ (differences-stay limit tables) (λ row.
-    bind-stays limit (rows_from tables n) _ (rows-stay limit tables n) (λ more. gives-stays limit _))
+rows-stay limit tables (suc n) = search (rules, bind-stays, differences-stay, gives-stays, rows-stay limit tables n)
 
 -- ---- intervals
 

@@ -1,21 +1,21 @@
 -- What a scan leaves.
-use Rattle.std.proofs.Common.{◌+◌, ◌-◌, ◌/◌, ◌%◌, ◌^◌, ◌<◌, ℕ, zero, suc, List, [], ◌∷◌, take, drop, set, get_or, Bool}
-use Rattle.std.proofs.Common.{true, false, Option, Err, ℤ, pos, length}
+use Rattle.std.proofs.Common.{rules, arith, ◌<◌, ℕ, zero, suc, List, [], ◌∷◌, set, get_or, Bool, true, false, Option}
+use Rattle.std.proofs.Common.{Err, ℤ, pos, length}
+use Rattle.std.proofs.lemmas.Grind.{common_steps}
 use Rattle.std.specs.Prelude.{◌==◌, nat_le, nat_lt}
 use Rattle.jpeg_bits.specs.Reading.{Outcome, Malformed}
 use Rattle.jpeg_bits.specs.Entropy.{upcoming, fresh, marker_from, bits_from}
-use Rattle.jpeg_bits.specs.Readers.{Reads, ◌>>=◌, gives, refused, signed_from}
-use Rattle.jpeg_bits.specs.Codes.{Table, symbol_from, code_from}
+use Rattle.jpeg_bits.specs.Readers.{Reads, refused}
+use Rattle.jpeg_bits.specs.Codes.{Table, symbol_from}
 use Rattle.jpeg_bits.specs.declared.marker.Marker.{Marker}
 use Rattle.jpeg_bits.specs.declared.tokens.Token.{Token}
 use Rattle.jpeg_bits.specs.declared.tokens.Token.TheVariants.{Value, Sixteen, Rest, Overlong}
 use Rattle.jpeg_bits.specs.Bands.{Band, category_number, difference, first_dc, token_at, token_from, after_token}
 use Rattle.jpeg_bits.specs.Bands.{first_ac}
-use Rattle.jpeg_bits.specs.Passes.{Pass, Via, Block, dc_part, band_part, band_of, block_from, blocks_of}
+use Rattle.jpeg_bits.specs.Passes.{Pass, Via, Block, dc_part, band_part, block_from, blocks_of}
 use Rattle.jpeg_bits.specs.Intervals.{interval, intervals, is_restart, blocks_before, predictors_at_start, first_group}
 use Rattle.jpeg_bits.specs.Intervals.{other_groups}
-use Rattle.jpeg_bits.specs.Refinement.{is_zero, bit_of, moved, fits_i16, corrected_by, corrected, through_zero}
-use Rattle.jpeg_bits.specs.Refinement.{refined_piece, refined_ac}
+use Rattle.jpeg_bits.specs.Refinement.{corrected_by, corrected, refined_piece, refined_ac}
 use Rattle.jpeg_streams.specs.Order.{Spot}
 use Rattle.jpeg_streams.specs.Scans.{Arrays, turns_of, arrays_at}
 use Rattle.jpeg_streams.proofs.Shorter.{LeavesBelow, below-ok, below-err, below-bind}
@@ -26,8 +26,7 @@ use Rattle.jpeg_streams.proofs.ShorterTexts.{marker_from-below}
 -- ---- blocks
 
 category-stays : (limit s : ℕ) → StaysBelow limit (category_number s)
-category-stays limit s = elim-stays limit (s == 0) (gives (pos 0)) (signed_from s) (gives-stays limit _)
-    (signed-stays limit s)
+category-stays limit s = search (rules, elim-stays, gives-stays, signed-stays)
 
 difference-stays : (limit : ℕ) (table : Table) → StaysBelow limit (difference table)
 unfolding difference
@@ -37,35 +36,24 @@ difference-stays limit table =
 
 first_dc-stays : (limit : ℕ) (table : Table) (al : ℕ) (predictor : ℤ) → StaysBelow limit (first_dc table al predictor)
 unfolding first_dc
-first_dc-stays limit table al predictor =
-    bind-stays limit (difference table) _ (difference-stays limit table) (λ d. gives-stays limit _)
+first_dc-stays limit table al predictor = search (rules, bind-stays, difference-stays, gives-stays)
 
 token_at-stays : (limit room size r s : ℕ) → StaysBelow limit (token_at room size r s)
 unfolding token_at
 token_at-stays limit room size r s =
     elim-stays limit (nat_lt 0 s) _ _
-    (elim-stays limit (nat_lt r room) _ _
-    (bind-stays limit (signed_from s) (λ v. gives (Value r v)) (signed-stays limit s) (λ v. gives-stays limit _))
-    (elim-stays limit (nat_le (size + s) 8) _ _
-    (bind-stays limit (signed_from s) (λ v. gives Overlong) (signed-stays limit s) (λ v. gives-stays limit _))
-    (gives-stays limit Overlong)))
-    (elim-stays limit (r == 15) _ _ (gives-stays limit Sixteen)
-    (bind-stays limit (bits_from r) (λ e. gives (Rest (2 ^ r - 1 + e))) (bits-stays limit r)
-    (λ e. gives-stays limit _)))
+    (grind (arith, common_steps, elim-stays, bind-stays, signed-stays, gives-stays))
+    (search (rules, elim-stays, gives-stays, bind-stays, bits-stays))
 
 token_from-stays : (limit : ℕ) (table : Table) (room : ℕ) → StaysBelow limit (token_from table room)
 unfolding token_from
-token_from-stays limit table room =
-    bind-stays limit (code_from table) _ (code-stays limit table) (λ c. token_at-stays limit room c.0 (c.1 / 16)
-    (c.1 % 16))
+token_from-stays limit table room = search (rules, bind-stays, code-stays, token_at-stays)
 
 after-stays : (limit al : ℕ) (others : List ℤ → Reads Band) (rest : List ℤ)
     → ((rest : List ℤ) → StaysBelow limit (others rest)) → (token : Token)
     → StaysBelow limit (after_token al others rest token)
-after-stays limit al others rest h (Value r v) =
-    bind-stays limit (others (drop (r + 1) rest)) _ (h (drop (r + 1) rest)) (λ more. gives-stays limit _)
-after-stays limit al others rest h Sixteen =
-    bind-stays limit (others (drop 16 rest)) _ (h (drop 16 rest)) (λ more. gives-stays limit _)
+after-stays limit al others rest h (Value r v) = search (rules, bind-stays, gives-stays)
+after-stays limit al others rest h Sixteen = search (rules, bind-stays, gives-stays)
 after-stays limit al others rest h (Rest run) = gives-stays limit _
 after-stays limit al others rest h Overlong = gives-stays limit _
 
@@ -89,22 +77,13 @@ dc-stays limit p dc z predictor =
 
 moved-stays : (limit al : ℕ) (z : ℤ) (b : ℕ) → StaysBelow limit (corrected_by al z b)
 moved-stays limit al z zero = gives-stays limit z
-moved-stays limit al z (suc b) =
-    elim-stays limit (bit_of al z == 0) _ _ (elim-stays limit (fits_i16 (moved (2 ^ al) z)) _ _ (gives-stays limit _)
-    (refused-stays ℤ limit)) (gives-stays limit z)
+moved-stays limit al z (suc b) = grind (arith, common_steps, elim-stays, gives-stays, refused-stays)
 
 corrected-stays : (limit al : ℕ) (places : List ℤ) → StaysBelow limit (corrected al places)
 unfolding corrected
 corrected-stays limit al [] = gives-stays limit _
 corrected-stays limit al (z ∷ places) =
-    bind-stays limit (elim (is_zero z) as (λ _. Reads ℤ) [
-      | true ↦ gives z
-      | false ↦ bits_from 1
-          >>= (λ b. corrected_by al z b)
-    ]) _
-    (elim-stays limit (is_zero z) _ _ (gives-stays limit z) (bind-stays limit (bits_from 1) _ (bits-stays limit 1)
-    (λ b. moved-stays limit al z b))) (λ first.
-    bind-stays limit (corrected al places) _ (corrected-stays limit al places) (λ others. gives-stays limit _))
+    search (rules, bind-stays, elim-stays, gives-stays, bits-stays, moved-stays, corrected-stays limit al places)
 
 piece-stays : (limit al : ℕ) (others : List ℤ → Reads Band) (rest : List ℤ)
     → ((rest : List ℤ) → StaysBelow limit (others rest)) → (r s : ℕ)
@@ -112,14 +91,9 @@ piece-stays : (limit al : ℕ) (others : List ℤ → Reads Band) (rest : List �
 unfolding refined_piece
 piece-stays limit al others rest h r zero =
     elim-stays limit (r == 15) _ _
-    (bind-stays limit (corrected al (take (through_zero 15 rest) rest)) _ (corrected-stays limit al _) (λ front.
-    bind-stays limit (others (drop (through_zero 15 rest) rest)) _ (h _) (λ more. gives-stays limit _)))
-    (bind-stays limit (bits_from r) _ (bits-stays limit r) (λ e. bind-stays limit (corrected al rest) _
-    (corrected-stays limit al rest) (λ all. gives-stays limit _)))
-piece-stays limit al others rest h r (suc zero) =
-    bind-stays limit (bits_from 1) _ (bits-stays limit 1) (λ sign.
-    bind-stays limit (corrected al (take (through_zero r rest) rest)) _ (corrected-stays limit al _) (λ front.
-    bind-stays limit (others (drop (through_zero r rest) rest)) _ (h _) (λ more. gives-stays limit _)))
+    (search (rules, bind-stays, corrected-stays, gives-stays))
+    (search (rules, bind-stays, bits-stays, corrected-stays, gives-stays))
+piece-stays limit al others rest h r (suc zero) = search (rules, bind-stays, bits-stays, corrected-stays, gives-stays)
 piece-stays limit al others rest h r (suc (suc s)) = refused-stays Band limit
 
 refined_ac-stays : (limit : ℕ) (table : Table) (al n : ℕ) (rest : List ℤ)
@@ -128,15 +102,12 @@ unfolding refined_ac
 refined_ac-stays limit table al n [] = gives-stays limit _
 refined_ac-stays limit table al zero (x ∷ rest) = refused-stays Band limit
 refined_ac-stays limit table al (suc n) (x ∷ rest) =
-    bind-stays limit (symbol_from table) _ (symbol-stays limit table) (λ c.
-    piece-stays limit al (refined_ac table al n) (x ∷ rest) (refined_ac-stays limit table al n) (c / 16) (c % 16))
+    search (rules, bind-stays, symbol-stays, piece-stays, refined_ac-stays limit table al n)
 
 band-stays : (limit : ℕ) (p : Pass) (ac : Table) (band : List ℤ) (run : ℕ) → StaysBelow limit (band_part p ac band run)
 unfolding band_part
 band-stays limit p ac [] run = gives-stays limit _
-band-stays limit p ac (x ∷ band) zero =
-    elim-stays limit p.is_first _ _ (first_ac-stays limit ac p.al (length (x ∷ band)) (x ∷ band))
-    (refined_ac-stays limit ac p.al (length (x ∷ band)) (x ∷ band))
+band-stays limit p ac (x ∷ band) zero = search (rules, elim-stays, first_ac-stays, refined_ac-stays)
 band-stays limit p ac (x ∷ band) (suc run) =
     elim-stays limit p.is_first _ _ (gives-stays limit _) (bind-stays limit (corrected p.al (x ∷ band)) _
     (corrected-stays limit p.al (x ∷ band)) (λ all. gives-stays limit _))
@@ -144,10 +115,7 @@ band-stays limit p ac (x ∷ band) (suc run) =
 block-stays : (limit : ℕ) (p : Pass) (dc ac : Table) (predictor : ℤ) (run : ℕ) (old : Block)
     → StaysBelow limit (block_from p dc ac predictor run old)
 unfolding block_from
-block-stays limit p dc ac predictor run old =
-    bind-stays limit (dc_part p dc old.dc predictor) _ (dc-stays limit p dc old.dc predictor) (λ d.
-    bind-stays limit (band_part p ac (band_of p old.acs) run) _ (band-stays limit p ac (band_of p old.acs) run)
-    (λ b. gives-stays limit _))
+block-stays limit p dc ac predictor run old = search (rules, bind-stays, dc-stays, band-stays, gives-stays)
 
 blocks-stay : (limit : ℕ) (p : Pass) (predictors : List ℤ) (run : ℕ) (turns : List (Via × Block))
     → StaysBelow limit (blocks_of p predictors run turns)

@@ -1,23 +1,15 @@
 -- What the segments leave.
-use Rattle.std.proofs.Common.{◌+◌, ◌-◌, ◌*◌, ◌/◌, ◌%◌, ◌≤◌, ◌<◌, ℕ, zero, suc, List, [], ◌∷◌, ◌++◌, Bool, Option, Some}
+use Rattle.std.proofs.Common.{rules, ◌+◌, ◌/◌, ◌%◌, ◌≤◌, ◌<◌, ℕ, zero, suc, List, [], ◌∷◌, ◌++◌, Bool, Option, Some}
 use Rattle.std.proofs.Common.{None, length, nat_lt, sum, arith}
-use Rattle.std.specs.Prelude.{◌==◌, slice_index}
+use Rattle.std.specs.Prelude.{◌==◌}
 use Rattle.jpeg_bits.specs.Reading.{next_byte, next_u16, length_at, skip_at, times}
 use Rattle.jpeg_bits.specs.declared.codes.HuffmanTableClass.{HuffmanTableClass}
-use Rattle.jpeg_segments.specs.Frame.{Frame, Factors, is_precision, is_count, is_factor, is_place, is_taken}
-use Rattle.jpeg_segments.specs.Frame.{
-  is_lossless_number,
-  size_at,
-  head_at,
-  parameters_at,
-  factors_at,
-  components_from,
-  sof_at,
-}
-use Rattle.jpeg_segments.specs.ScanHeader.{Selector, place_of, is_mcu, count_at, tables_at, tables_by, selector_at}
-use Rattle.jpeg_segments.specs.ScanHeader.{selectors_from, band_at, sos_at}
-use Rattle.jpeg_segments.specs.Application.{Application, begins_with, adobe_name, transform_by, passed_over, adobe_by}
-use Rattle.jpeg_segments.specs.Application.{adobe_at, application_14, payload_at, app_at, dri_at}
+use Rattle.jpeg_segments.specs.Frame.{Frame, Factors, is_factor, is_place, size_at, head_at, sof_at, is_precision}
+use Rattle.jpeg_segments.specs.Frame.{is_lossless_number, parameters_at, factors_at, components_from}
+use Rattle.jpeg_segments.specs.ScanHeader.{Selector, count_at, tables_at, tables_by, selector_at, selectors_from}
+use Rattle.jpeg_segments.specs.ScanHeader.{band_at, sos_at}
+use Rattle.jpeg_segments.specs.Application.{Application, passed_over, adobe_by, adobe_at, application_14, payload_at}
+use Rattle.jpeg_segments.specs.Application.{app_at, dri_at}
 use Rattle.jpeg_segments.specs.declared.parser.AdobeColorTransform.{AdobeColorTransform}
 use Rattle.jpeg_segments.specs.Quantization as quantization
 use Rattle.jpeg_segments.specs.Quantization.{table_size, value_at, table_at, placed_table_at, dqt_at}
@@ -32,8 +24,7 @@ size-below : (limit : ℕ) (bytes : List ℕ) → length bytes < limit → Leave
 unfolding size_at
 size-below limit bytes h =
     below-bind limit limit (next_u16 bytes) _ (u16-below limit bytes (omega arith)) (λ height p.
-    below-bind limit limit (next_u16 height.1) _ (u16-below limit height.1 (omega arith)) (λ width q.
-    below-else limit (height.0 == 0) _ _ (below-else limit (width.0 == 0) _ _ (below-ok limit _ width.1 q))))
+    below-bind limit limit (next_u16 height.1) _ (u16-below limit height.1 (omega arith)) (search (rules, below-else, below-ok)))
 
 head-below : (limit number : ℕ) (bytes : List ℕ) → length bytes ≤ limit → LeavesBelow limit (head_at number bytes)
 unfolding head_at
@@ -43,9 +34,7 @@ head-below limit number bytes h =
     below-bind limit limit (next_byte left.1) _ (byte-below limit left.1 (omega arith)) (λ precision q.
     below-then limit (is_precision number precision.0) _ _ (
     below-bind limit limit (size_at precision.1) _ (size-below limit precision.1 q) (λ size r.
-    below-bind limit limit (next_byte size.1) _ (byte-below limit size.1 (omega arith)) (λ count s.
-    below-then limit (is_count number count.0) _ _ (below-then limit (left.0 == 6 + 3 * count.0) _ _
-    (below-ok limit _ count.1 s))))))))
+    below-bind limit limit (next_byte size.1) _ (byte-below limit size.1 (omega arith)) (search (rules, below-then, below-ok)))))))
 
 parameters-below : (limit : ℕ) (lossless : Bool) (identifier : ℕ) (bytes : List ℕ) → length bytes < limit
     → LeavesBelow limit (parameters_at lossless identifier bytes)
@@ -60,8 +49,7 @@ factors-below : (limit : ℕ) (lossless : Bool) (front : List Factors) (bytes : 
     → LeavesBelow limit (factors_at lossless front bytes)
 unfolding factors_at
 factors-below limit lossless front bytes h =
-    below-bind limit limit (next_byte bytes) _ (byte-below limit bytes (omega arith)) (λ identifier p.
-    below-else limit (is_taken front identifier.0) _ _ (parameters-below limit lossless identifier.0 identifier.1 p))
+    below-bind limit limit (next_byte bytes) _ (byte-below limit bytes (omega arith)) (search (rules, below-else, parameters-below))
 
 components-below : (limit : ℕ) (lossless : Bool) (n : ℕ) (front : List Factors) (bytes : List ℕ) → length bytes < limit
     → LeavesBelow limit (components_from lossless n front bytes)
@@ -84,16 +72,12 @@ sof-below limit number bytes h =
 value-below : (limit : ℕ) (is_wide : Bool) (bytes : List ℕ) → length bytes < limit
     → LeavesBelow limit (value_at is_wide bytes)
 unfolding value_at
-value-below limit is_wide bytes h = below-cond limit is_wide _ _ (u16-below limit bytes (omega arith))
-    (byte-below limit bytes (omega arith))
+value-below limit is_wide bytes h = search (rules, below-cond, u16-below, byte-below)
 
 table-below : (limit : ℕ) (is_wide : Bool) (bytes : List ℕ) → length bytes < limit
     → LeavesBelow limit (table_at is_wide bytes)
 unfolding table_at
-table-below limit is_wide bytes h =
-    below-bind limit limit (times 64 (value_at is_wide) bytes) _ (times-below limit 64 (value_at is_wide) bytes
-    (value-below limit is_wide) h) (λ values p.
-    below-else limit _ _ _ (below-ok limit _ values.1 p))
+table-below limit is_wide bytes h = search (rules, below-bind, times-below, value-below, below-else, below-ok)
 
 placed-below : (limit left : ℕ) (bytes : List ℕ) → length bytes < limit → LeavesBelow limit (placed_table_at left bytes)
 unfolding placed_table_at
@@ -115,9 +99,7 @@ quantization-below limit (suc most) left tables bytes h =
 
 pub dqt-below : (limit : ℕ) (bytes : List ℕ) → length bytes ≤ limit → LeavesBelow limit (dqt_at bytes)
 unfolding dqt_at
-dqt-below limit bytes h =
-    below-bind limit limit (length_at bytes) _ (length-below limit bytes h) (λ left p. quantization-below limit left.0
-    left.0 _ left.1 p)
+dqt-below limit bytes h = search (rules, below-bind, length-below, quantization-below)
 
 -- ---- Huffman tables
 
@@ -134,9 +116,7 @@ codes-below : (limit left : ℕ) (class : HuffmanTableClass) (bytes : List ℕ) 
 unfolding codes_at
 codes-below limit left class bytes h =
     below-bind limit limit (times 16 next_byte bytes) _ (times-below limit 16 next_byte bytes
-    (λ bs l. byte-below limit bs (omega arith)) h) (λ counts p.
-    below-else limit (sum counts.0 == 0) _ _ (below-else limit (nat_lt 256 (sum counts.0)) _ _
-    (below-else limit (nat_lt left (17 + sum counts.0)) _ _ (symbols-below limit class counts.0 counts.1 p))))
+    (λ bs l. byte-below limit bs (omega arith)) h) (search (rules, below-else, symbols-below))
 
 placed_codes-below : (limit greatest left : ℕ) (bytes : List ℕ) → length bytes < limit
     → LeavesBelow limit (placed_codes_at greatest left bytes)
@@ -160,42 +140,31 @@ huffman-below limit (suc most) greatest left tables bytes h =
 pub dht-below : (limit : ℕ) (is_baseline : Option Bool) (bytes : List ℕ) → length bytes ≤ limit
     → LeavesBelow limit (dht_at is_baseline bytes)
 unfolding dht_at
-dht-below limit is_baseline bytes h =
-    below-bind limit limit (length_at bytes) _ (length-below limit bytes h) (λ left p. huffman-below limit left.0 _
-    left.0 _ left.1 p)
+dht-below limit is_baseline bytes h = search (rules, below-bind, length-below, huffman-below)
 
 -- ---- scan headers
 
 count-below : (limit : ℕ) (bytes : List ℕ) → length bytes ≤ limit → LeavesBelow limit (count_at bytes)
 unfolding count_at
 count-below limit bytes h =
-    below-bind limit limit (length_at bytes) _ (length-below limit bytes h) (λ left p.
-    below-else limit (left.0 == 0) _ _ (
-    below-bind limit limit (next_byte left.1) _ (byte-below limit left.1 (omega arith)) (λ count q.
-    below-else limit (count.0 == 0) _ _ (below-else limit (nat_lt 4 count.0) _ _
-    (below-then limit (left.0 == 4 + 2 * count.0) _ _ (below-ok limit _ count.1 q))))))
+    below-bind limit limit (length_at bytes) _ (length-below limit bytes h) (search (rules, below-else, below-bind, byte-below, below-then, below-ok))
 
 tables-below : (limit : ℕ) (frame : Frame) (place : ℕ) (bytes : List ℕ) → length bytes < limit
     → LeavesBelow limit (tables_at frame place bytes)
 unfolding tables_at
 tables-below limit frame place bytes h =
-    below-bind limit limit (next_byte bytes) _ (byte-below limit bytes (omega arith)) (λ places q.
-    below-else limit (nat_lt (greatest_place (Some frame.is_baseline)) (places.0 / 16)) _ _
-    (below-else limit (nat_lt (greatest_place (Some frame.is_baseline)) (places.0 % 16)) _ _
-    (below-ok limit _ places.1 q)))
+    below-bind limit limit (next_byte bytes) _ (byte-below limit bytes (omega arith)) (search (rules, below-else, below-ok))
 
 named_tables-below : (limit : ℕ) (frame : Frame) (least : ℕ) (place : Option ℕ) (bytes : List ℕ) → length bytes < limit
     → LeavesBelow limit (tables_by frame least place bytes)
 named_tables-below limit frame least None bytes h = below-err Selector limit _
-named_tables-below limit frame least (Some place) bytes h =
-    below-else limit (nat_lt place least) _ _ (tables-below limit frame place bytes h)
+named_tables-below limit frame least (Some place) bytes h = search (rules, below-else, tables-below)
 
 selector-below : (limit : ℕ) (frame : Frame) (least : ℕ) (bytes : List ℕ) → length bytes < limit
     → LeavesBelow limit (selector_at frame least bytes)
 unfolding selector_at
 selector-below limit frame least bytes h =
-    below-bind limit limit (next_byte bytes) _ (byte-below limit bytes (omega arith)) (λ identifier p.
-    named_tables-below limit frame least (place_of frame.components identifier.0) identifier.1 p)
+    below-bind limit limit (next_byte bytes) _ (byte-below limit bytes (omega arith)) (search (rules, named_tables-below))
 
 selectors-below : (limit : ℕ) (frame : Frame) (n : ℕ) (front : List Selector) (least : ℕ) (bytes : List ℕ)
     → length bytes < limit → LeavesBelow limit (selectors_from frame n front least bytes)
@@ -220,8 +189,7 @@ unfolding sos_at
 sos-below limit frame bytes h =
     below-bind limit limit (count_at bytes) _ (count-below limit bytes h) (λ count p.
     below-bind limit limit (selectors_from frame count.0 [] 0 count.1) _ (selectors-below limit frame count.0 [] 0
-    count.1 p) (λ selectors q.
-    below-then limit (is_mcu selectors.0) _ _ (band-below limit frame selectors.0 selectors.1 q)))
+    count.1 p) (search (rules, below-then, band-below)))
 
 -- ---- application data and restart intervals
 
@@ -239,16 +207,12 @@ adobe-below : (limit left : ℕ) (bytes : List ℕ) → length bytes < limit →
 unfolding adobe_at
 adobe-below limit left bytes h =
     below-bind limit limit (times 12 next_byte bytes) _ (times-below limit 12 next_byte bytes
-    (λ bs l. byte-below limit bs (omega arith)) h) (λ head p.
-    below-cond limit (begins_with head.0 adobe_name) _ _
-    (transform-below limit (left - 12) (transform_by (slice_index head.0 11)) head.1 p)
-    (passed-below limit (left - 12) None head.1 p))
+    (λ bs l. byte-below limit bs (omega arith)) h) (search (rules, below-cond, transform-below, passed-below))
 
 application_14-below : (limit left : ℕ) (bytes : List ℕ) → length bytes < limit
     → LeavesBelow limit (application_14 left bytes)
 unfolding application_14
-application_14-below limit left bytes h =
-    below-cond limit (nat_lt left 12) _ _ (passed-below limit left None bytes h) (adobe-below limit left bytes h)
+application_14-below limit left bytes h = search (rules, below-cond, passed-below, adobe-below)
 
 payload-below : (limit number left : ℕ) (bytes : List ℕ) → length bytes < limit
     → LeavesBelow limit (payload_at number left bytes)
@@ -261,9 +225,7 @@ payload-below limit number left bytes h =
 pub app-below : (limit number : ℕ) (bytes : List ℕ) → length bytes ≤ limit → LeavesBelow limit (app_at number bytes)
 unfolding app_at
 app-below limit number bytes h =
-    below-bind limit limit (length_at bytes) _ (length-below limit bytes h) (λ left p.
-    below-cond limit (number == 14) _ _ (application_14-below limit left.0 left.1 p) (payload-below limit number left.0
-    left.1 p))
+    search (rules, below-bind, length-below, below-cond, application_14-below, payload-below)
 
 pub dri-below : (limit : ℕ) (bytes : List ℕ) → length bytes ≤ limit → LeavesBelow limit (dri_at bytes)
 unfolding dri_at

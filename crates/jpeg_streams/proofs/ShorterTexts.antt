@@ -1,19 +1,15 @@
 -- What entropy-coded bits leave.
-use Rattle.std.proofs.Common.{◌≤◌, ◌<◌, ℕ, zero, suc, List, [], ◌∷◌, ◌++◌, drop, replicate, Result, Ok, Err, Bool, true}
-use Rattle.std.proofs.Common.{false, Option, Some, None, length, arith}
+use Rattle.std.proofs.Common.{rules, ◌≤◌, ◌<◌, ℕ, zero, suc, List, [], ◌∷◌, ◌++◌, drop, replicate, Result, Ok, Err}
+use Rattle.std.proofs.Common.{Bool, true, false, Option, Some, None, length, arith}
 use Rattle.std.specs.Prelude.{◌==◌, if◌then◌else◌}
 use Rattle.jpeg_bits.specs.Reading as reading
 use Rattle.jpeg_bits.specs.Reading.{Outcome, Fault}
-use Rattle.jpeg_bits.specs.Entropy.{Text, Ending, Found, Broken, no_bits, add_byte, ending_by, ending_of, filled_end}
-use Rattle.jpeg_bits.specs.Entropy.{end_by, text_at, upcoming, fresh, advance, has_bits, bits_from, marker_from}
-use Rattle.jpeg_bits.specs.Entropy.{marker_by}
-use Rattle.jpeg_bits.specs.Marker.{marker_of}
-use Rattle.jpeg_bits.specs.Readers.{Reads, read_on, ◌>>=◌, gives, refused, signed_from}
+use Rattle.jpeg_bits.specs.Entropy.{Text, add_byte, ending_by, filled_end, bits_from, marker_from, Ending, Found}
+use Rattle.jpeg_bits.specs.Entropy.{Broken, no_bits, text_at, upcoming, fresh, advance, has_bits}
+use Rattle.jpeg_bits.specs.Readers.{Reads, ◌>>=◌, gives, refused, signed_from}
 use Rattle.jpeg_bits.specs.Codes.{Table, symbol_by, symbol_from, if_held, code_by, code_from, code_in, code_lengths}
 use Rattle.jpeg_bits.specs.Codes.{next_16}
 use Rattle.jpeg_bits.specs.declared.ahead.DataEnd.{DataEnd}
-use Rattle.jpeg_bits.specs.declared.ahead.DataEnd.TheVariants as ends
-use Rattle.jpeg_bits.specs.declared.marker.Marker.{Marker}
 use Rattle.jpeg_streams.proofs.Shorter.{LeavesBelow, below-ok, below-err}
 
 -- each place of a text, and its end, has fewer bytes than the limit
@@ -44,20 +40,10 @@ repeated-below limit (suc n) p ps h a = (h, repeated-below limit n p ps h a)
 filled-shorter : (bytes : List ℕ) → length (filled_end bytes).1 ≤ length bytes
 unfolding filled_end
 filled-shorter [] = omega arith
-filled-shorter (c ∷ rest) = either (c == 255) (filled_end rest) (end_by (marker_of c)) rest (filled-shorter rest)
-  where
-    either : (b : Bool) (x : DataEnd × List ℕ) (e : DataEnd) (rest : List ℕ) → length x.1 ≤ length rest
-        → let y : DataEnd × List ℕ = if b then x else (e, rest) in length y.1 ≤ suc (length rest)
-    either true x e rest h = omega arith
-    either false x e rest h = omega arith
+filled-shorter (c ∷ rest) = search (rules, filled-shorter rest)
 
 ending-below : (limit : ℕ) (x : DataEnd × List ℕ) → length x.1 < limit → EndsBelow limit (ending_by x)
-ending-below limit x h = go x.0
-  where
-    go : (e : DataEnd) → EndsBelow limit (ending_of e x.1)
-    go (ends.Marker m) = h
-    go ends.Malformed = tt
-    go ends.Ended = tt
+ending-below limit x h = search rules
 
 no_bits-below : (limit : ℕ) (e : Ending) → EndsBelow limit e → IsBelow limit (no_bits e)
 no_bits-below limit e h = record { places = tt; ending = h }
@@ -74,9 +60,7 @@ cond-below limit false x y p q = q
 text-below : (limit : ℕ) (bytes : List ℕ) → length bytes < limit → IsBelow limit (text_at bytes)
 unfolding text_at
 text-below limit [] h = no_bits-below limit _ tt
-text-below limit (b ∷ []) h =
-    cond-below limit (b == 255) _ _ (no_bits-below limit _ tt) (add-below limit b [] _ (omega arith)
-    (no_bits-below limit _ tt))
+text-below limit (b ∷ []) h = search (rules, cond-below, no_bits-below, add-below)
 text-below limit (b ∷ c ∷ rest) h =
     cond-below limit (b == 255) _ _
     (cond-below limit (c == 0) _ _ (add-below limit 255 rest (text_at rest) (omega arith)
@@ -88,19 +72,14 @@ pub upcoming-below : (limit : ℕ) (bytes : List ℕ) → length bytes < limit �
 unfolding upcoming
 upcoming-below limit bytes h =
     let t = text-below limit bytes h in
-    record { places = drop-below limit 56 (text_at bytes).places t.places; ending = t.ending }
+    search (rules, drop-below)
 
 pub advance-below : (limit n : ℕ) (t : Text) → IsBelow limit t → IsBelow limit (advance n t)
 advance-below limit n t h = record { places = drop-below limit n t.places h.places; ending = h.ending }
 
 -- the end of a text
 pub marker_from-below : (limit : ℕ) (t : Text) → IsBelow limit t → LeavesBelow limit (marker_from t)
-marker_from-below limit t h = go t.places t.ending h.places h.ending
-  where
-    go : (ps : List (List ℕ)) (e : Ending) → AllBelow limit ps → EndsBelow limit e → LeavesBelow limit (marker_by ps e)
-    go (p ∷ ps) e a b = below-ok limit _ p a.0
-    go [] (Found m rest) a b = below-ok limit _ rest b
-    go [] (Broken f) a b = below-err (Option Marker) limit f
+marker_from-below limit t h = search (rules, below-ok, below-err)
 
 -- ---- readers
 
@@ -115,11 +94,7 @@ pub record StaysBelow {A : Type 0} (limit : ℕ) (p : Reads A) : Type 0 where
 pub bind-stays : {A B : Type 0} (limit : ℕ) (p : Reads A) (f : A → Reads B) → StaysBelow limit p
     → ((x : A) → StaysBelow limit (f x)) → StaysBelow limit (p >>= f)
 unfolding AfterIsBelow
-bind-stays {A} {B} limit p f h each = record { stays = λ t a. go (p t) (h.stays t a) }
-  where
-    go : (r : Result (A × Text) Fault) → AfterIsBelow limit r → AfterIsBelow limit (read_on f r)
-    go (Ok x) a = (each x.0).stays x.1 a
-    go (Err fault) a = tt
+bind-stays {A} {B} limit p f h each = search rules
 
 pub gives-stays : {A : Type 0} (limit : ℕ) (x : A) → StaysBelow limit (gives x)
 unfolding AfterIsBelow
@@ -148,10 +123,7 @@ if_held-below limit x t (Err f) h = tt
 
 pub bits-stays : (limit n : ℕ) → StaysBelow limit (bits_from n)
 unfolding bits_from
-bits-stays limit n = record {
-  stays = λ t a. held-below limit _ (advance n t) (has_bits n t.bits t.ending)
-      (advance-below limit n t a);
-}
+bits-stays limit n = search (rules, held-below, advance-below)
 
 pub signed-stays : (limit n : ℕ) → StaysBelow limit (signed_from n)
 unfolding signed_from

@@ -1,5 +1,5 @@
 -- The header of a stream, at a scale.
-use Rattle.std.proofs.Common.{◌≡◌, ◌∙◌, ℕ, List, Ok, Err, ap, sym, refl}
+use Rattle.std.proofs.Common.{arith, rules, ◌≡◌, ◌∙◌, ℕ, List, Ok, Err, ap, refl}
 use Rattle.jpeg_bits.specs.Reading.{Outcome, Fault, Answers, ◌>>=◌}
 use Rattle.jpeg_bits.specs.Stream.{Stream}
 use Rattle.jpeg_streams.specs.Stream.{header_at, sized_header_at, sized_to}
@@ -16,14 +16,11 @@ header-is width height bytes = refl
 pub sized-read : (width height : ℕ) (bytes rest : List ℕ) (found new : Found) → header_at bytes ≡ Ok (found, rest)
     → new ≡ sized_to width height found
     → sized_header_at width height bytes ≡ Ok (new, rest)
-sized-read width height bytes rest found new e n =
-    header-is width height bytes ∙ ap (λ (o : Outcome Found). o >>= sized_after width height) e
-    ∙ ap (λ (f : Found). Ok (f, rest)) (sym n)
+sized-read width height bytes rest found new e n = search (rules, header-is)
 
 pub sized-refused : (width height : ℕ) (bytes : List ℕ) (fault : Fault) → header_at bytes ≡ Err fault
     → sized_header_at width height bytes ≡ Err fault
-sized-refused width height bytes fault e =
-    header-is width height bytes ∙ ap (λ (o : Outcome Found). o >>= sized_after width height) e
+sized-refused width height bytes fault e = search (rules, header-is)
 
 -- a header that is read, and then sized
 pub sized-answers : {U : Type 0} (width height : ℕ) (old cur new : Stream) (found sized : Found) (u : U) (size : ℕ × ℕ)
@@ -31,8 +28,5 @@ pub sized-answers : {U : Type 0} (width height : ℕ) (old cur new : Stream) (fo
     → Answers (λ (x : ℕ × ℕ). sized) (sized_header_at width height) old (Ok size) new
 sized-answers width height old cur new found sized u size p s e = (
   ap (λ (x : Stream). x.failed) s ∙ p.0,
-  λ k. let at = p.1 k in (
-    ap (λ (x : Stream). x.known) s ∙ at.0,
-    sized-read width height old.bytes cur.bytes found sized at.1 e ∙ ap (λ (x : Stream). Ok (sized, x.bytes)) (sym s),
-  ),
+  λ k. let at = p.1 k in (grind (arith, sized-read width height old.bytes cur.bytes found sized at.1 e)),
 )

@@ -1,8 +1,9 @@
 -- A written stream, read at a scale.
-use Rattle.std.proofs.Common.{◌≡◌, ◌≢◌, ℕ, zero, suc, ◌*◌, ◌<◌, ◌≤◌, Bool, true, false, List, [], ◌∷◌, ◌++◌}
-use Rattle.std.proofs.Common.{map, length, replicate, is_some, option_map, Option, Some, None, Result, Ok, refl, sym}
-use Rattle.std.proofs.Common.{ap, ap₂, ◌∙◌, subst, arith, length-append}
-use Rattle.jpeg_bits.specs.Reading.{Outcome, Fault, ◌>>=◌}
+use Rattle.std.proofs.lemmas.Grind.{common_steps}
+use Rattle.std.proofs.Common.{rules, ◌≡◌, ◌≢◌, ℕ, zero, suc, ◌<◌, ◌≤◌, Bool, true, false, List, [], ◌∷◌, map, length}
+use Rattle.std.proofs.Common.{replicate, is_some, option_map, Option, Some, None, Ok, refl, sym, ap, ◌∙◌, subst, arith}
+use Rattle.std.proofs.Common.{length-append}
+use Rattle.jpeg_bits.specs.Reading.{Outcome}
 use Rattle.jpeg_bits.specs.declared.marker.Marker.{Marker}
 use Rattle.jpeg_segments.specs.declared.parser.CodingProcess.{CodingProcess}
 use Rattle.jpeg_segments.specs.declared.parser.CodingProcess.TheVariants.{DctSequential, DctProgressive, Lossless}
@@ -20,7 +21,7 @@ use Rattle.jpeg_bits.specs.Written.{marker}
 use Rattle.jpeg_lossless.specs.Written.{IsMarker}
 use Rattle.jpeg_streams.specs.WrittenScans.{Coefficients}
 use Rattle.jpeg_streams.proofs.AcceptedStreams.{WritesScans, WritesHead, WritesStream}
-use Rattle.jpeg_streams.specs.ArrayPictures.{meaning_of_array, picture_of_array}
+use Rattle.jpeg_streams.specs.ArrayPictures.{meaning_of_array, picture_of_array, Takes}
 use Rattle.jpeg_streams.proofs.AcceptedStreams.WritesScans.{segment, scan, closed}
 use Rattle.jpeg_streams.proofs.AcceptedStreams.WritesHead.{before as earlier, frame as framing}
 use Rattle.jpeg_streams.proofs.AcceptedStreams.WritesStream.{stream}
@@ -28,20 +29,17 @@ use Rattle.jpeg_streams.proofs.OwnSpots.{At, Fits}
 use Rattle.jpeg_streams.proofs.ReadStates.{reading}
 use Rattle.jpeg_streams.proofs.AcceptedTurns.{StandsAt, stands-next, then-ok, segment-read, frame-kept}
 use Rattle.jpeg_streams.proofs.BroughtLevels.{Shaped, framed-start}
-use Rattle.jpeg_streams.proofs.FrameShapes.{Plain, made-at, plain-size, all-shaped}
+use Rattle.jpeg_streams.proofs.FrameShapes.{Plain, plain-size, all-shaped, greatest-some, accepted-sources}
 use Rattle.jpeg_streams.proofs.ScaledSizes.{scaled_component, most_h, most_v, frame-components}
 use Rattle.jpeg_streams.proofs.ScaledScans.{own-same, Alike, Alikes, none, one_more, SameFrame, length-same, at_frame}
 use Rattle.jpeg_streams.proofs.ScaledScans.{scans-alike}
-use Rattle.jpeg_streams.proofs.ReadStreams.{nothing_finished, no_planes, frame-turn, frame-by, reads-scans}
-use Rattle.jpeg_streams.proofs.ReadStreams.{nothing-is, no-frame, starts-so, within-so}
-use Rattle.jpeg_streams.proofs.WrittenPictures.{pictures-same, rest-by}
-use Rattle.jpeg_streams.proofs.FrameShapes.{greatest-some, accepted-sources}
+use Rattle.jpeg_streams.proofs.ReadStreams.{nothing_finished, no_planes, frame-turn, frame-by, reads-scans, nothing-is}
+use Rattle.jpeg_streams.proofs.ReadStreams.{no-frame, starts-so, within-so}
+use Rattle.jpeg_streams.proofs.WrittenPictures.{pictures-same, rest-by, pictures-taken}
 use Rattle.jpeg_streams.proofs.ScaledSources.{frame-sources}
 use Rattle.jpeg_streams.proofs.Soundness.{scale-bounds}
 use Rattle.jpeg_segments.proofs.ScaleLemmas.{scale_for_is_scale}
 use Rattle.jpeg_pixels.specs.Pictures.{sources_of}
-use Rattle.jpeg_streams.specs.ArrayPictures.{Takes}
-use Rattle.jpeg_streams.proofs.WrittenPictures.{pictures-taken}
 use Rattle.jpeg_streams.proofs.TablesInForce.{tables-next, tables-start}
 use Rattle.jpeg_streams.proofs.SaidTables.{HasTables}
 
@@ -53,13 +51,7 @@ scaled-alike s width height h v [] a b c = none
 scaled-alike s width height h v (x ∷ xs) a b c =
     one_more (scaled_component 8 width height h v x) (scaled_component s width height h v x)
     (map (scaled_component 8 width height h v) xs) (map (scaled_component s width height h v) xs)
-    (record {
-      factors = refl;
-      wide = refl;
-      high = refl;
-      own_wide = own-same (width * x.horizontal) h s b a ∙ sym (own-same (width * x.horizontal) h 8 b (omega arith));
-      own_high = own-same (height * x.vertical) v s c a ∙ sym (own-same (height * x.vertical) v 8 c (omega arith));
-    })
+    (search (rules, own-same))
     (scaled-alike s width height h v xs a b c)
 
 components-alike : (f : Frame) (s : ℕ) → Plain f → 0 < s → Alikes f.components (frame_at s f).components
@@ -69,25 +61,12 @@ components-alike f s o h =
     ∙ frame-components 8 o.number o.precision o.width o.height o.factors in
     let two : (frame_at s f).components
     ≡ map (scaled_component s o.width o.height (most_h o.factors) (most_v o.factors)) o.factors
-    = ap (λ (g : Frame). (frame_at s g).components) o.is
-    ∙ frame-components s o.number o.precision o.width o.height o.factors in
-    subst (λ (l : List Component). Alikes l (frame_at s f).components) (sym one)
-    (subst (Alikes (map (scaled_component 8 o.width o.height (most_h o.factors) (most_v o.factors)) o.factors))
-    (sym two)
-    (scaled-alike s o.width o.height (most_h o.factors) (most_v o.factors) o.factors h
-    (greatest-some (λ x. x.horizontal) o.factors) (greatest-some (λ x. x.vertical) o.factors)))
+    = search (rules, frame-components) in
+    search (rules, scaled-alike, greatest-some)
 
 pub same-frame : (f : Frame) (s : ℕ) → Plain f → 0 < s → SameFrame f (frame_at s f)
 unfolding frame_at
-same-frame f s o h = record {
-  components = components-alike f s o h;
-  is_baseline = refl;
-  process = refl;
-  precision =
-      refl;
-  mcus_wide = refl;
-  mcus_high = refl;
-}
+same-frame f s o h = search (rules, components-alike)
 
 at-alike : (k : ℕ) (cs ds : List Component) (d : Component) → Alikes cs ds → At k ds d
     → (c : Component) × At k cs c × Alike c d
@@ -96,26 +75,12 @@ at-alike zero cs ds d (one_more x y cs' ds' h more) t = (x, refl, subst (Alike x
 at-alike (suc k) cs ds d (one_more x y cs' ds' h more) t = at-alike k cs' ds' d more t
 
 fits-alike : (f g : Frame) (c d : Component) → SameFrame f g → Alike c d → Fits f c → Fits g d
-fits-alike f g c d same a fit = record {
-  horizontal = subst (λ (x : Factors). 0 < x.horizontal) (sym a.factors) fit.horizontal;
-  vertical = subst (λ (x : Factors). 0 < x.vertical) (sym a.factors) fit.vertical;
-  wide = a.wide ∙ fit.wide ∙ ap₂ (λ (m : ℕ) (x : Factors). m * x.horizontal) (sym same.mcus_wide) (sym a.factors);
-  high = a.high ∙ fit.high ∙ ap₂ (λ (m : ℕ) (x : Factors). m * x.vertical) (sym same.mcus_high) (sym a.factors);
-  own_wide = let u = fit.own_wide in let e = a.own_wide in let k = a.wide in omega arith;
-  own_high = let u = fit.own_high in let e = a.own_high in let k = a.high in omega arith;
-}
+fits-alike f g c d same a fit = search rules
 
 pub shaped-at : (f : Frame) (s : ℕ) → Plain f → 0 < s → Shaped f → Shaped (frame_at s f)
 shaped-at f s o h shape =
     let same = same-frame f s o h in
-    record {
-      made = made-at f s o h;
-      few = let e = length-same f.components (frame_at s f).components same.components in let n = shape.few in
-          omega arith;
-      fits = λ k d t. let c = at-alike k f.components (frame_at s f).components d same.components t in
-          fits-alike f (frame_at s f) c.0 d same c.2 (shape.fits k c.0 c.1);
-      lossy = λ e. shape.lossy (sym same.process ∙ e);
-    }
+    grind (arith, common_steps, length-same, at-alike, fits-alike)
 
 -- the scale that is asked for
 pub sized-is : (width height : ℕ) (f : Frame) → f.process ≢ Lossless
@@ -164,31 +129,13 @@ pub record ReadHeader (array : Coefficients) (tail : List ℕ) (final : Found) (
 
 header-by : (array : Coefficients) (tail : List ℕ) (final : Found) (last : ℕ → Levels) (one other : Outcome Found)
     → one ≡ other → ReadHeader array tail final last other → ReadHeader array tail final last one
-header-by array tail final last one other e r =
-    record {
-      w = r.w;
-      frame = r.frame;
-      plain = r.plain;
-      is_accepted = r.is_accepted;
-      good = r.good;
-      shape =
-          r.shape;
-      after = r.after;
-      fill = r.fill;
-      code = r.code;
-      more = r.more;
-      is_marker = r.is_marker;
-      is = e
-          ∙ r.is;
-      written = r.written;
-    }
+header-by array tail final last one other e r = search rules
 
 pub head-on : (turns : ℕ) (before : Before) (f : Found) (met : Option Marker) (all rest : List ℕ) (t : Turn)
     → f.frame ≡ None → turn_at before f met all ≡ Ok (t, rest) → t.ended ≡ false
     → segments_within (suc turns) true before f met all ≡ segments_within turns true t.before t.found t.met rest
 unfolding segments_within
-head-on turns before f met all rest t n e g = let s : is_some f.frame ≡ false = ap is_some n in
-    rw (s, segments_within) (rw e (rw g refl))
+head-on turns before f met all rest t n e g = search (rules, is_some)
 
 head-end : (turns : ℕ) (before : Before) (f : Found) (met : Option Marker) (all : List ℕ) → is_some f.frame ≡ true
     → segments_within (suc turns) true before f met all ≡ Ok (f, all)
@@ -207,13 +154,14 @@ reads-header array tail w final last m bytes (suc turns) bf met all good n
     let sizes = length-append payload (marker fill code more) in
     let fills = length-append (replicate fill 0xFF) (code ∷ more) in
     let now = reading w false [] nothing_finished no_planes in
-    header-by array tail final last _ _
-    (head-on turns bf now met all (marker fill code more) (onward (reading next false [] nothing_finished no_planes)) n
-    (at.turn bf now ∙ segment-read w next m payload (marker fill code more) bf false [] nothing_finished no_planes s)
-    refl)
-    (reads-header array tail next final last after more turns Elsewhere None (marker fill code more)
-    (tables-next w next m payload s good) (frame-kept w next m payload s ∙ n) r (stands-next fill code after more i)
-    (omega arith))
+    grind (
+      arith,
+      header-by array tail final last,
+      head-on turns bf now met all (marker fill code more) (onward (reading next false [] nothing_finished no_planes))
+          n (search (rules, segment-read)) refl,
+      reads-header array tail next final last after more turns Elsewhere None (marker fill code more) (tables-next w
+          next m payload s good) (frame-kept w next m payload s ∙ n) r (stands-next fill code after more i) (omega arith),
+    )
 reads-header array tail w final last m bytes (suc turns) bf met all good n
     (framing w' final' last' after number fill code payload more f small o lossy a ok i r) at room =
     let sizes = length-append payload (marker fill code more) in
@@ -235,9 +183,7 @@ reads-header array tail w final last m bytes (suc turns) bf met all good n
       is_marker = i;
       is = head-on turns bf now met all (marker fill code more)
           (onward (reading next false [] nothing_finished no_planes)) n
-          (at.turn bf now ∙ frame-turn number bf now (payload ++ marker fill code more) _
-          (frame-by number now f (payload ++ marker fill code more) (marker fill code more) n
-          (a.accepted (marker fill code more)) ok)) refl
+          (search (rules, frame-turn, frame-by)) refl
           ∙ last_turn refl;
       written = r;
     }
@@ -247,7 +193,7 @@ reads-header array tail w final last m bytes (suc turns) bf met all good n
         ≡ Ok (reading next false [] nothing_finished no_planes, all)
     ended zero h next all e = absurd (omega arith)
     ended (suc turns) h next all e =
-        head-end turns Elsewhere (reading next false [] nothing_finished no_planes) None all e
+        search (rules, head-end)
 
 -- ---- the meaning
 
@@ -281,8 +227,7 @@ stream-means_sized width height settings array tail bytes final last range
     let head = header-by array tail final last _ _
     (header-so bytes all (starts-so all) ∙ header-within nothing_found all
     ∙ ap (λ (x : Found). segments_within (suc (length all)) true Elsewhere x None all) nothing-is)
-    (reads-header array tail nothing_found final last after more
-    (suc (length all)) Elsewhere None all tables-start no-frame r (stands-next fill code after more i) (omega arith))
+    (search (rules, reads-header, tables-start, no-frame, stands-next))
     in
     let f = head.frame in
     let g = sized width height f in
@@ -297,20 +242,21 @@ stream-means_sized width height settings array tail bytes final last range
     (suc (length left)) Elsewhere None left
     range shape head.good refl (λ e k. refl)
     (framed-start (at_frame w g) g array [] nothing_finished no_planes range refl refl)
-    (scans-alike array f g tail w final (λ k. nothing_sent) last false head.after head.more same refl head.written)
+    (search (rules, scans-alike))
     (stands-next head.fill head.code head.after head.more head.is_marker) (omega arith) in
     let found = reading (at_frame final g) true end.held end.finished end.planes in
     let frame : final.frame ≡ Some f =
-    kept-in array f tail w final (λ k. nothing_sent) last false head.after head.more head.written in
+    search (rules, kept-in) in
     let told : sized_to width height final ≡ at_frame final g =
-    ap (λ (o : Option Frame). record final { frame = option_map (sized width height) o }) frame in
-    sized-by width height settings bytes left (reading w false [] nothing_finished no_planes) head.is
-    ∙ rest-by settings (reading (at_frame w g) false [] nothing_finished no_planes) found left tail
-    (within-so (reading (at_frame w g) false [] nothing_finished no_planes) left ∙ end.is)
-    ∙ ap (λ (o : Result (List ℕ) Fault). o >>= (λ (picture : List ℕ). Ok ((told_of (at_frame final g), picture), tail)))
-    (pictures-same settings g array
-    (at_frame final g) last end.held end.finished end.planes shape refl end.framed end.tables end.complete)
-    ∙ ap (λ (x : Found). meaning_of_array settings x array last tail) (sym told)
+    search (rules, option_map) in
+    grind (
+      arith,
+      sized-by width height settings bytes left (reading w false [] nothing_finished no_planes) head.is,
+      rest-by settings (reading (at_frame w g) false [] nothing_finished no_planes) found left tail (within-so (reading
+          (at_frame w g) false [] nothing_finished no_planes) left ∙ end.is),
+      pictures-same settings g array (at_frame final g) last end.held end.finished end.planes shape refl end.framed
+          end.tables end.complete,
+    )
 
 -- ---- there is a picture
 
@@ -328,8 +274,7 @@ sized-taken width height settings array tail bytes final last range
     let head = header-by array tail final last _ _
     (header-so bytes all (starts-so all) ∙ header-within nothing_found all
     ∙ ap (λ (x : Found). segments_within (suc (length all)) true Elsewhere x None all) nothing-is)
-    (reads-header array tail nothing_found final last after more
-    (suc (length all)) Elsewhere None all tables-start no-frame r (stands-next fill code after more i) (omega arith))
+    (search (rules, reads-header, tables-start, no-frame, stands-next))
     in
     let f = head.frame in
     let g = sized width height f in
@@ -344,16 +289,16 @@ sized-taken width height settings array tail bytes final last range
     (suc (length left)) Elsewhere None left
     range shape head.good refl (λ e k. refl)
     (framed-start (at_frame w g) g array [] nothing_finished no_planes range refl refl)
-    (scans-alike array f g tail w final (λ k. nothing_sent) last false head.after head.more same refl head.written)
+    (search (rules, scans-alike))
     (stands-next head.fill head.code head.after head.more head.is_marker) (omega arith) in
     let frame : final.frame ≡ Some f =
-    kept-in array f tail w final (λ k. nothing_sent) last false head.after head.more head.written in
+    search (rules, kept-in) in
     let told : sized_to width height final ≡ at_frame final g =
-    ap (λ (o : Option Frame). record final { frame = option_map (sized width height) o }) frame in
+    search (rules, option_map) in
     let first = accepted-sources f f head.is_accepted in
     let there = frame-sources f size.0 first.0 head.plain size.1 size.3 first.1 in
     let sources : sources_of g.components g.output_width g.output_height ≡ Ok there.0 =
-    ap (λ (x : Frame). sources_of x.components x.output_width x.output_height) size.2 ∙ there.1 in
+    search rules in
     let p = pictures-taken settings array
     (at_frame final g) last g there.0 range shape refl end.held end.finished end.planes end.framed end.tables
     end.complete sources (subst (Takes settings) told takes) in

@@ -1,10 +1,9 @@
 -- The tables in force exist.
-use Rattle.std.proofs.Common.{ℕ, ◌==◌, nat_lt, Bool, true, false, cond, List, [], ◌∷◌, Option, Some}
-use Rattle.std.proofs.Common.{None, refl, sym, subst, arith}
+use Rattle.std.proofs.Common.{rules, ℕ, Bool, true, false, cond, List, [], ◌∷◌, Option, Some, None, refl, sym, subst}
+use Rattle.std.proofs.Common.{arith}
 use Rattle.std.specs.List.{AllByRecursion}
 use Rattle.jpeg_bits.specs.Codes.{Table, IsTable}
 use Rattle.jpeg_bits.specs.declared.codes.HuffmanTableClass.{HuffmanTableClass}
-use Rattle.jpeg_bits.specs.declared.codes.HuffmanTableClass.TheVariants as classes
 use Rattle.jpeg_bits.specs.DefaultTables.{luminance_dc, chrominance_dc, luminance_ac, chrominance_ac, with_defaults}
 use Rattle.jpeg_bits.specs.DefaultTables.{filled, names}
 use Rattle.jpeg_bits.proofs.DefaultTables.{luminance-dc-codes, chrominance-dc-codes, luminance-ac-codes}
@@ -46,8 +45,7 @@ good-defaults : (one two : Table) (places : List ℕ) (l : List (Option Table)) 
     → AllByRecursion IsTableOrNone l → AllByRecursion IsTableOrNone (with_defaults one two places l)
 good-defaults one two places [] a b h = tt
 good-defaults one two places (x ∷ []) a b h = (good-filled one (names places 0) x a h.0, tt)
-good-defaults one two places (x ∷ y ∷ more) a b h =
-    (good-filled one (names places 0) x a h.0, (good-filled two (names places 1) y b h.1.0, h.1.1))
+good-defaults one two places (x ∷ y ∷ more) a b h = search (rules, good-filled)
 
 in-force : (w : Found) (s : Scan) → HasTables w.huffman → HasTables (tables_of w s)
 unfolding tables_of
@@ -81,17 +79,11 @@ codings-good_from : (w : Found) (f : Frame) (p : Pass) (tables : Tables) (places
     (codings : List Coding) → HasTables tables → AreCodings w f p tables places ds ks codings
     → AllByRecursion (λ c. IsTable c.dc × IsTable c.ac) codings
 codings-good_from w f p tables places ds ks codings h no_more = tt
-codings-good_from w f p tables places ds ks codings h (and_more place d a places' ds' ks' k more is r) = (
-  (
-    needed-good (p.ss == 0) classes.DC tables.dc d k.dc h.dc is.dc,
-    needed-good (nat_lt 0 p.se) classes.AC tables.ac a k.ac h.ac is.ac,
-  ),
-  codings-good_from w f p tables places' ds' ks' more h r,
-)
+codings-good_from w f p tables places ds ks codings h (and_more place d a places' ds' ks' k more is r) =
+    search (rules, needed-good, codings-good_from w f p tables places' ds' ks' more h r)
 
 -- The tables of a scan exist.
 pub codings-good : (w : Found) (f : Frame) (s : Scan) (codings : List Coding) → HasTables w.huffman
     → AreCodings w f (pass_of s) (tables_of w s) s.components s.dc_places s.ac_places codings
     → AllByRecursion (λ c. IsTable c.dc × IsTable c.ac) codings
-codings-good w f s codings h are =
-    codings-good_from w f (pass_of s) (tables_of w s) s.components s.dc_places s.ac_places codings (in-force w s h) are
+codings-good w f s codings h are = search (rules, codings-good_from, in-force)

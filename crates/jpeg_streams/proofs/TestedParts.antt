@@ -1,15 +1,14 @@
 -- Tests that tell parts of a written stream, for streams that are known: each test computes.
-use Rattle.std.proofs.Common.{◌≡◌, ◌≢◌, ◌⊎◌, inl, inr, ℕ, zero, suc, ◌+◌, ◌^◌, ◌<◌, ◌≤◌, ◌==◌, ◌&&◌, not, nat_lt, Bool}
-use Rattle.std.proofs.Common.{true, false, List, [], ◌∷◌, ◌++◌, map, length, drop, replicate, sum, Option}
-use Rattle.std.proofs.Common.{Some, None, Ok}
-use Rattle.std.proofs.Common.{is_some, ℤ, unsigned_abs, refl, sym, ap, ◌∙◌, subst, arith, true≢false}
+use Rattle.std.proofs.Common.{rules, ◌≡◌, ◌≢◌, ℕ, zero, suc, ◌+◌, ◌^◌, ◌<◌, ◌≤◌, ◌==◌, ◌&&◌, not, nat_lt, Bool, true}
+use Rattle.std.proofs.Common.{false, List, [], ◌∷◌, ◌++◌, map, length, drop, replicate, sum, Option, Some, None, Ok}
+use Rattle.std.proofs.Common.{is_some, ℤ, unsigned_abs, refl, sym, ap, arith, true≢false}
+use Rattle.std.proofs.lemmas.Grind.{common_steps}
 use Rattle.std.proofs.Math.Nat.{pow-le-pow_right}
 use Rattle.std.proofs.lemmas.Bool.{and_parts, cases_lt, eq-eqb, eqb-true, leb-true, ltb-true, ne_eqb}
 use Rattle.std.proofs.lemmas.Bool.Decides.{nat_tests}
 use Rattle.std.proofs.lemmas.Int.{ints}
 use Rattle.std.specs.List.{AllByRecursion, list_all}
 use Rattle.std.specs.Prelude.{nat_le}
-use lib.ListN.{length-map}
 use Rattle.jpeg_bits.proofs.Tables.{tested-exist}
 use Rattle.jpeg_bits.specs.Codes.{code_lengths, codes_exist}
 use Rattle.jpeg_bits.specs.Intervals.{predictors_at_start}
@@ -18,13 +17,13 @@ use Rattle.jpeg_bits.specs.Written.{bits_of_bytes, IsCategory, stuffed}
 use Rattle.jpeg_segments.specs.Frame.{Factors, Frame, is_count, is_factor, is_lossless_number, is_place, is_precision}
 use Rattle.jpeg_segments.specs.Frame.{is_taken}
 use Rattle.jpeg_segments.specs.HuffmanTables.{greatest_place, PlacedTable}
-use Rattle.jpeg_segments.specs.ScanHeader.{is_band, is_mcu, place_of, Selector, scan_of}
+use Rattle.jpeg_segments.specs.ScanHeader.{is_band, is_mcu, place_of, scan_of}
 use Rattle.jpeg_segments.specs.ScanHeaders.{AreChoices, Choice, IsScan, ScanHeader, scan_written, selector_of}
 use Rattle.jpeg_segments.specs.WrittenSegments.{AreComponents, FrameHeader, IsFrame, IsHuffmanTable}
 use Rattle.jpeg_segments.specs.WrittenSegments.{IsQuantizationTable, QuantizationTable}
 use Rattle.jpeg_streams.specs.Found.{Found}
 use Rattle.jpeg_streams.specs.Levels.{Is8Bit, IsLegal, Levels}
-use Rattle.jpeg_streams.specs.ScanSegments.{Coding, codings_of, pass_of, tables_of}
+use Rattle.jpeg_streams.specs.ScanSegments.{Coding, codings_of, pass_of}
 use Rattle.jpeg_streams.specs.WorkedImages.{in_column}
 use Rattle.jpeg_streams.specs.WrittenData.{WritesBlocks, WritesInterval}
 use Rattle.jpeg_streams.specs.WrittenScans.{IsLegalScan}
@@ -55,8 +54,7 @@ abbrev pub table_of_one : ℕ → ℕ → QuantizationTable
 table_of_one place v = record { precision = 0; place = place; values = replicate 64 v }
 
 pub one-quantizes : (place v : ℕ) → place ≤ 3 → 0 < v → IsQuantizationTable (table_of_one place v)
-one-quantizes place v h k =
-    record { precise = omega arith; placed = h; counted = refl; some = some-of 64 v k }
+one-quantizes place v h k = search (rules, some-of)
 
 abbrev is_table : PlacedTable → Bool
 is_table t =
@@ -64,14 +62,7 @@ is_table t =
     && (nat_le (sum t.table.counts) 256 && codes_exist (code_lengths t.table.counts))))
 
 pub table-by : (most : ℕ) (t : PlacedTable) → t.place ≤ most → is_table t ≡ true → IsHuffmanTable most t
-table-by most t h e = record {
-  placed = h;
-  counted = grind (arith, nat_tests);
-  has_symbols = grind (arith, nat_tests);
-  some = grind (arith, nat_tests);
-  at_most = grind (arith, nat_tests);
-  exists = tested-exist (code_lengths t.table.counts) (grind (arith, nat_tests));
-}
+table-by most t h e = search (rules, nat_tests, tested-exist)
 
 abbrev are_components : ℕ → List Factors → List Factors → Bool
 are_components number front [] = true
@@ -83,19 +74,8 @@ components-by : (number : ℕ) (front cs : List Factors) → are_components numb
     → AreComponents number front cs
 unfolding AreComponents
 components-by number front [] e = tt
-components-by number front (c ∷ more) e = (
-  record {
-    is_new = grind (arith, nat_tests);
-    ranged = record {
-      horizontal_some = grind (arith, nat_tests);
-      horizontal_most = grind (arith, nat_tests);
-      vertical_some = grind (arith, nat_tests);
-      vertical_most = grind (arith, nat_tests);
-    };
-    placed = grind (arith, nat_tests);
-  },
-  components-by number (front ++ c ∷ []) more (grind (arith, nat_tests)),
-)
+components-by number front (c ∷ more) e =
+    search (rules, nat_tests, components-by number (front ++ c ∷ []) more (grind (arith, nat_tests)))
 
 abbrev is_frame : ℕ → FrameHeader → Bool
 is_frame number h =
@@ -103,14 +83,7 @@ is_frame number h =
     && (is_count number (length h.components) && are_components number [] h.components))))
 
 pub frame-by : (number : ℕ) (h : FrameHeader) → is_frame number h ≡ true → IsFrame number h
-frame-by number h e = record {
-  numbered = grind (arith, nat_tests);
-  precise = grind (arith, nat_tests);
-  wide = grind (arith, nat_tests);
-  high = grind (arith, nat_tests);
-  counted = grind (arith, nat_tests);
-  components = components-by number [] h.components (grind (arith, nat_tests));
-}
+frame-by number h e = search (rules, nat_tests, components-by)
 
 -- ---- scan headers
 
@@ -125,15 +98,8 @@ choices-by : (frame : Frame) (least : ℕ) (cs : List Choice) → are_choices fr
     → AreChoices frame least cs
 unfolding AreChoices
 choices-by frame least [] e = tt
-choices-by frame least (c ∷ more) e = (
-  record {
-    identified = at-is (place_of frame.components c.identifier) c.component (grind (arith, nat_tests));
-    ordered = grind (arith, nat_tests);
-    dc_placed = grind (arith, nat_tests);
-    ac_placed = grind (arith, nat_tests);
-  },
-  choices-by frame (c.component + 1) more (grind (arith, nat_tests)),
-)
+choices-by frame least (c ∷ more) e =
+    search (rules, at-is, nat_tests, choices-by frame (c.component + 1) more (grind (arith, nat_tests)))
 
 abbrev is_scan : Frame → ScanHeader → Bool
 is_scan frame h =
@@ -142,22 +108,7 @@ is_scan frame h =
     && is_band frame.process (length h.choices) h.first h.last h.high h.low)))))
 
 pub scan-by : (frame : Frame) (h : ScanHeader) → is_scan frame h ≡ true → IsScan frame h
-scan-by frame h e =
-    let some = and_parts (nat_le 1 (length h.choices)) _ e in
-    let most = and_parts (nat_le (length h.choices) 4) _ some.1 in
-    let choices = and_parts (are_choices frame 0 h.choices) _ most.1 in
-    let fits = and_parts (is_mcu (map (selector_of frame) h.choices)) _ choices.1 in
-    let narrow = and_parts (nat_lt h.low 16) _ fits.1 in
-    let precise = and_parts (nat_lt h.low frame.precision) _ narrow.1 in
-    record {
-      some = leb-true 1 (length h.choices) some.0;
-      most = leb-true (length h.choices) 4 most.0;
-      choices = choices-by frame 0 h.choices choices.0;
-      fits = fits.0;
-      narrow = ltb-true h.low 16 narrow.0;
-      precise = precise.0;
-      band = precise.1;
-    }
+scan-by frame h e = search (rules, and_parts, leb-true, choices-by, ltb-true)
 
 -- ---- scripts
 
@@ -186,25 +137,10 @@ some-is (Some a) e f = cc
 
 dc-at : (first : Bool) (al : ℕ) (l : Option ℕ) (a b c : Bool) → dc_legal a first al l ≡ true → a ≡ b → first ≡ c
     → dc_legal b c al l ≡ true
-dc-at first al l a b c h e f =
-    subst (λ (x : Bool). dc_legal b x al l ≡ true) f (subst (λ (x : Bool). dc_legal x first al l ≡ true) e h)
+dc-at first al l a b c h e f = search rules
 
 pub legal-by : (p : Pass) (l : Levels) → is_legal p l ≡ true → IsLegal p l
-legal-by p l e =
-    let low = and_parts (nat_le p.al 7) _ e in
-    let both = and_parts (dc_legal (p.ss == 0) p.is_first p.al l.dc) _ low.1 in
-    let dc = dc-at p.is_first p.al l.dc (p.ss == 0) in
-    let band : (first : Bool) → p.is_first ≡ first → list_all (ac_legal first p.al) (band_of p l.acs) ≡ true =
-    λ first f. subst (λ (x : Bool). list_all (ac_legal x p.al) (band_of p l.acs) ≡ true) f both.1 in
-    record {
-      low = leb-true p.al 7 low.0;
-      dc_unsent = λ s f. none-is l.dc (dc true true both.0 (eq-eqb p.ss 0 s) f);
-      dc_sent = λ s f. at-is l.dc (suc p.al) (dc true false both.0 (eq-eqb p.ss 0 s) f);
-      dc_before = λ n. some-is l.dc (dc false p.is_first both.0 (ne_eqb p.ss 0 n) refl);
-      acs_unsent = λ f. all-by (ac_legal true p.al) (λ x. x ≡ None) none-is (band_of p l.acs) (band true f);
-      acs_sent = λ f. all-by (ac_legal false p.al) (λ x. x ≡ Some (suc p.al)) (λ x. at-is x (suc p.al))
-          (band_of p l.acs) (band false f);
-    }
+legal-by p l e = search (rules, and_parts, dc-at, leb-true, none-is, eq-eqb, at-is, some-is, ne_eqb, all-by)
 
 -- a scan whose codings are found
 pub scan-legal : (w : Found) (frame : Frame) (levels : ℕ → Levels) (h : ScanHeader) (codings : List Coding)
@@ -212,18 +148,7 @@ pub scan-legal : (w : Found) (frame : Frame) (levels : ℕ → Levels) (h : Scan
     → list_all (λ c. is_legal (pass_of (scan_written frame h)) (levels c.place)) codings ≡ true
     → IsLegalScan w frame levels (scan_written frame h) codings
 unfolding scan_of
-scan-legal w frame levels h codings e legal =
-    let s = scan_written frame h in
-    let selectors = map (selector_of frame) h.choices in
-    let p = pass_of s in
-    let count : (f : Selector → ℕ) → length (map f selectors) ≡ length selectors = λ f. length-map selectors f in
-    record {
-      are_in_force = codings-back w frame p (tables_of w s) s.components s.dc_places s.ac_places codings
-          (count (λ s. s.dc) ∙ sym (count (λ s. s.component))) (count (λ s. s.ac) ∙ sym (count (λ s. s.component)))
-          (sym (codings-by w frame s) ∙ e);
-      legal = all-by (λ c. is_legal p (levels c.place)) (λ c. IsLegal p (levels c.place))
-          (λ c. legal-by p (levels c.place)) codings legal;
-    }
+scan-legal w frame levels h codings e legal = grind (arith, common_steps, codings-back, codings-by, all-by, legal-by)
 
 -- ---- data
 
@@ -232,36 +157,15 @@ is_category d zero = unsigned_abs d == 0
 is_category d (suc s) = nat_le (2 ^ s) (unsigned_abs d) && nat_lt (unsigned_abs d) (2 ^ suc s)
 
 pub category-by : (d : ℤ) (s : ℕ) → is_category d s ≡ true → IsCategory d s
-category-by d zero e = let none = eqb-true (unsigned_abs d) 0 e in record {
-  holds = omega arith;
-  is_least = λ t h. omega arith;
-}
-category-by d (suc s) e =
-    let both = and_parts (nat_le (2 ^ s) (unsigned_abs d)) _ e in
-    record {
-      holds = ltb-true (unsigned_abs d) (2 ^ suc s) both.1;
-      is_least = λ t h. least (leb-true (2 ^ s) (unsigned_abs d) both.0) t h (cases_lt t (suc s));
-    }
-  where
-    least : 2 ^ s ≤ unsigned_abs d → (t : ℕ) → unsigned_abs d < 2 ^ t → (t < suc s) ⊎ (suc s ≤ t) → suc s ≤ t
-    least le t h (inl less) =
-        absurd (let p : 2 ^ t ≤ 2 ^ s = pow-le-pow_right (omega arith) (omega arith) in omega arith)
-    least le t h (inr more) = more
+category-by d zero e = search (rules, eqb-true, unsigned_abs)
+category-by d (suc s) e = search (rules, and_parts, unsigned_abs, ltb-true, leb-true, cases_lt, pow-le-pow_right)
 
 abbrev is_8_bit : Block → Bool
 is_8_bit b =
     length b.acs == 63 && (nat_le (unsigned_abs b.dc) 1023 && list_all (λ x. nat_le (unsigned_abs x) 1023) b.acs)
 
 pub range-by : (b : Block) → is_8_bit b ≡ true → Is8Bit b
-range-by b e =
-    let small : unsigned_abs b.dc ≤ 1023 = grind (arith, nat_tests) in
-    record {
-      count = grind (arith, nat_tests);
-      dc_low = omega (arith, ints);
-      dc_high = omega (arith, ints);
-      acs = all-by (λ x. nat_le (unsigned_abs x) 1023) (λ x. unsigned_abs x ≤ 1023)
-          (λ x. leb-true (unsigned_abs x) 1023) b.acs (grind (arith, nat_tests));
-    }
+range-by b e = search (rules, unsigned_abs, nat_tests, ints, all-by, leb-true)
 
 -- the blocks in the columns of a line
 pub range-in : (blocks : List Block) → list_all is_8_bit blocks ≡ true → (column : ℕ) → Is8Bit (in_column blocks column)
@@ -275,12 +179,4 @@ pub interval-by : (p : Pass) (turns : List (Via × Block)) (bits : List Bool) (d
     → bits_of_bytes data_bytes ≡ bits ++ drop (length bits) (bits_of_bytes data_bytes)
     → nat_le (length (drop (length bits) (bits_of_bytes data_bytes))) 7 ≡ true
     → WritesInterval p turns (stuffed data_bytes)
-interval-by p turns bits data_bytes coded whole short = record {
-  bits = bits;
-  filling = drop (length bits) (bits_of_bytes data_bytes);
-  data_bytes = data_bytes;
-  coded = coded;
-  is_short = leb-true (length (drop (length bits) (bits_of_bytes data_bytes))) 7 short;
-  whole = whole;
-  has_bytes = refl;
-}
+interval-by p turns bits data_bytes coded whole short = search (rules, leb-true)

@@ -1,11 +1,11 @@
 -- What a stream has said.
-use Rattle.std.proofs.Common.{◌≡◌, ℕ, List, Bool, true, Result, Ok, Err, refl}
+use Rattle.std.proofs.Common.{rules, ◌≡◌, ℕ, List, Bool, true, Result, Ok, Err, refl}
 use Rattle.jpeg_bits.specs.Stream.{Stream}
 use Rattle.jpeg_bits.specs.declared.error.Error.{Error}
 use Rattle.jpeg_bits.specs.declared.error.Error.TheVariants as errors
 use Rattle.jpeg_streams.specs.States.{IfRefused, OnTold}
-use Rattle.jpeg_bits.specs.Reading.{Fault, Outcome}
-use Rattle.jpeg_streams.specs.Stream.{Told, told_of, start_at}
+use Rattle.jpeg_bits.specs.Reading.{Fault}
+use Rattle.jpeg_streams.specs.Stream.{told_of, start_at}
 use Rattle.jpeg_streams.specs.Reported.{told_by_stream, told_rest, told_within, told_by_turns, told_in_turns}
 use Rattle.jpeg_streams.specs.Found.{nothing_found}
 
@@ -36,14 +36,7 @@ told-through old mid new (Err e) P Q f h = λ k known. let a = f k in refused-th
 
 pub turns-none : (header : Bool) (bytes : List ℕ) → told_by_turns 0 header bytes ≡ told_of nothing_found
 unfolding told_by_turns told_within nothing_found
-turns-none header bytes = go (start_at bytes)
-  where
-    go : (start : Outcome (Unit {0})) → elim start as (λ _. Told) [
-      | Err fault ↦ told_of nothing_found
-      | Ok start ↦ told_in_turns 0 header nothing_found start.1
-    ] ≡ told_of nothing_found
-    go (Err fault) = refl
-    go (Ok start) = refl
+turns-none header bytes = search rules
 
 pub turns-start : (n : ℕ) (header : Bool) (bytes rest : List ℕ) → start_at bytes ≡ Ok (tt, rest)
     → told_by_turns n header bytes ≡ told_in_turns n header nothing_found rest

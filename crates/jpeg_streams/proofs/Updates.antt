@@ -1,6 +1,6 @@
 -- Tables by their places.
-use Rattle.std.proofs.Common.{◌≡◌, ◌<◌, ℕ, zero, suc, List, [], ◌∷◌, Option, Some, None, Bool, true, false, refl, sym}
-use Rattle.std.proofs.Common.{ap, ◌∙◌, length, get_or, arith}
+use Rattle.std.proofs.Common.{rules, ◌≡◌, ◌<◌, ℕ, zero, suc, List, [], ◌∷◌, Option, Some, None, Bool, true, false, refl}
+use Rattle.std.proofs.Common.{ap, length, get_or, arith}
 use Rattle.std.proofs.Math.ListN.{set}
 use Rattle.std.specs.Prelude.{◌&&◌}
 use Rattle.std.proofs.lemmas.List.{get_or_default}
@@ -20,8 +20,7 @@ updated-set [] ys i t p q e = absurd (omega arith)
 updated-set (x ∷ xs) [] i t p q e = absurd (omega arith)
 updated-set (x ∷ xs) (y ∷ ys) zero t p q e = rw e refl
 updated-set (x ∷ xs) (None ∷ ys) (suc i) t p q e = ap (λ r. x ∷ r) (updated-set xs ys i t (omega arith) (omega arith) e)
-updated-set (x ∷ xs) (Some s ∷ ys) (suc i) t p q e =
-    ap (λ r. Some s ∷ r) (updated-set xs ys i t (omega arith) (omega arith) e)
+updated-set (x ∷ xs) (Some s ∷ ys) (suc i) t p q e = rw (updated-set xs ys i t (omega arith) (omega arith) e) refl
 
 -- where no table is left, nothing changes
 pub updated-none : {A : Type 0} (xs ys : List (Option A)) → ((k : ℕ) → k < length xs → get_or ys k None ≡ None)
@@ -57,14 +56,12 @@ all_ac-updated (x ∷ xs) (Some s ∷ ys) p q =
 pub moved-some : {A : Type 0} (xs ys xs' ys' : List (Option A)) (i : ℕ) (found d v : Option A) (t : A) → i < length xs
     → length xs ≡ length ys → found ≡ get_or ys i d → v ≡ None → found ≡ Some t
     → xs' ≡ set xs i (Some t) → ys' ≡ set ys i v → updated xs' ys' ≡ updated xs ys
-moved-some xs ys xs' ys' i found d v t p l f n s a b =
-    rw (a, b, n) (updated-set xs ys i t p (omega arith) (get_or_default ys i None d (omega arith) ∙ sym f ∙ s))
+moved-some xs ys xs' ys' i found d v t p l f n s a b = search (rules, updated-set, get_or_default)
 
 pub moved-none : {A : Type 0} (xs ys xs' ys' : List (Option A)) (i : ℕ) (found d v : Option A) → i < length xs
     → length xs ≡ length ys → found ≡ get_or ys i d → v ≡ None → found ≡ None
     → xs' ≡ xs → ys' ≡ set ys i v → updated xs' ys' ≡ updated xs ys
-moved-none xs ys xs' ys' i found d v p l f n s a b =
-    rw (a, b, n) (updated-keep xs ys i (get_or_default ys i None d (omega arith) ∙ sym f ∙ s))
+moved-none xs ys xs' ys' i found d v p l f n s a b = search (rules, updated-keep, get_or_default)
 
 pub all_ac-moved : (old moved read new : List (Option Table)) → all_ac old ≡ true → all_ac read ≡ true → moved ≡ read
     → new ≡ updated old moved → all_ac new ≡ true

@@ -1,14 +1,14 @@
 -- Components whose factors can be upsampled have a way to upsample them, and no others.
-use Rattle.std.proofs.Common.{◌≡◌, ◌⊎◌, inl, inr, ℕ, ◌*◌, ◌/◌, ◌%◌, ◌==◌, ◌&&◌, ◌||◌, Bool, true, false, List, [], ◌∷◌}
-use Rattle.std.proofs.Common.{Option, Some, None, Ok, refl, sym, ap, if◌then◌else◌, true≢false}
-use Rattle.std.proofs.lemmas.Bool.{and_parts, eqb-true, eq-eqb}
+use Rattle.std.proofs.Common.{rules, ◌≡◌, ◌⊎◌, inl, inr, ℕ, ◌*◌, ◌%◌, ◌==◌, ◌&&◌, ◌||◌, Bool, true, false, List, []}
+use Rattle.std.proofs.Common.{◌∷◌, Option, Some, None, Ok, refl, sym, ap, if◌then◌else◌, true≢false}
+use Rattle.std.proofs.lemmas.Bool.{and_parts, eqb-true, eq-eqb, and_from as and-true}
 use Rattle.std.specs.List.{AllByRecursion}
 use Rattle.jpeg_bits.specs.Reading.{Lacks}
 use Rattle.jpeg_segments.specs.Frame.{Component, Factors}
 use Rattle.jpeg_pixels.specs.declared.upsampler.UpsampleRule.{UpsampleRule}
-use Rattle.jpeg_pixels.specs.declared.upsampler.UpsampleRule.TheVariants.{H1V1, H2V1, H1V2, H2V2, Generic}
+use Rattle.jpeg_pixels.specs.declared.upsampler.UpsampleRule.TheVariants.{H1V1, H2V1, H1V2, H2V2}
 use Rattle.jpeg_pixels.specs.Pictures.{Source, source_by, source_of, sources_by}
-use Rattle.jpeg_pixels.specs.Upsampling.{divides, rule_of}
+use Rattle.jpeg_pixels.specs.Upsampling.{rule_of}
 use Rattle.jpeg_streams.specs.SaidSegments.{IsNear}
 use Rattle.jpeg_streams.proofs.AcceptedTurns.{bind-ok, err-ok, then-ok}
 
@@ -25,10 +25,7 @@ pick-test false true c d e l r h = refl
 pick-test false false true d e l r h = refl
 pick-test false false false true e l r h = refl
 pick-test false false false false true l r h = refl
-pick-test false false false false false l r h = absurd (no h)
-  where
-    no : ◌≡◌ {A = Option UpsampleRule} None (Some r) → ⊥
-    no e = cc
+pick-test false false false false false l r h = search rules
 
 pick-some : (a b c d e : Bool) (l : UpsampleRule) → (a || (b || (c || (d || e)))) ≡ true
     → (r : UpsampleRule) × (pick a b c d e l ≡ Some r)
@@ -40,10 +37,6 @@ pick-some false false false false true l h = (l, refl)
 pick-some false false false false false l h = absurd (true≢false (sym h))
 
 -- ---- from the factors to a rule
-
-and-true : (a b : Bool) → a ≡ true → b ≡ true → (a && b) ≡ true
-and-true true b e f = f
-and-true false b e f = absurd (true≢false (sym e))
 
 pub or-left : (a b : Bool) → a ≡ true → (a || b) ≡ true
 or-left true b e = refl
@@ -63,12 +56,9 @@ any-test : (h1 h2 v1 v2 e : Bool) → ((h1 ≡ true) ⊎ (h2 ≡ true)) × ((v1 
     → (h1 && v1 || (h2 && v1 || (h1 && v2 || (h2 && v2 || e)))) ≡ true
 any-test h1 h2 v1 v2 e (inl (inl a, inl b)) = or-left (h1 && v1) _ (and-true h1 v1 a b)
 any-test h1 h2 v1 v2 e (inl (inr a, inl b)) = or-right (h1 && v1) _ (or-left (h2 && v1) _ (and-true h2 v1 a b))
-any-test h1 h2 v1 v2 e (inl (inl a, inr b)) =
-    or-right (h1 && v1) _ (or-right (h2 && v1) _ (or-left (h1 && v2) _ (and-true h1 v2 a b)))
-any-test h1 h2 v1 v2 e (inl (inr a, inr b)) =
-    or-right (h1 && v1) _ (or-right (h2 && v1) _ (or-right (h1 && v2) _ (or-left (h2 && v2) _ (and-true h2 v2 a b))))
-any-test h1 h2 v1 v2 e (inr a) =
-    or-right (h1 && v1) _ (or-right (h2 && v1) _ (or-right (h1 && v2) _ (or-right (h2 && v2) _ a)))
+any-test h1 h2 v1 v2 e (inl (inl a, inr b)) = search (rules, or-right, or-left, and-true)
+any-test h1 h2 v1 v2 e (inl (inr a, inr b)) = search (rules, or-right, or-left, and-true)
+any-test h1 h2 v1 v2 e (inr a) = search (rules, or-right)
 
 -- the greatest factors, and the size of the picture
 abbrev pub Upsampled : ℕ → ℕ → ℕ → ℕ → Factors → Type 0
@@ -79,23 +69,7 @@ Upsampled most_h most_v width height c =
 rule-some : (most_h most_v width height : ℕ) (c : Factors) → Upsampled most_h most_v width height c
     → (r : UpsampleRule) × (rule_of c.horizontal c.vertical most_h most_v width height ≡ Some r)
 unfolding rule_of
-rule-some most_h most_v width height c u =
-    let h1 = c.horizontal == most_h || width == 1 in
-    let v1 = c.vertical == most_v || height == 1 in
-    let h2 = 2 * c.horizontal == most_h in
-    let v2 = 2 * c.vertical == most_v in
-    let any = divides c.horizontal most_h && divides c.vertical most_v in
-    pick-some (h1 && v1) (h2 && v1) (h1 && v2) (h2 && v2) any (Generic (most_h / c.horizontal) (most_v / c.vertical))
-    (any-test h1 h2 v1 v2 any (go u))
-  where
-    go : Upsampled most_h most_v width height c
-        → (((c.horizontal == most_h || width == 1) ≡ true) ⊎ ((2 * c.horizontal == most_h) ≡ true))
-        × (((c.vertical == most_v || height == 1) ≡ true) ⊎ ((2 * c.vertical == most_v) ≡ true))
-        ⊎ ((divides c.horizontal most_h && divides c.vertical most_v) ≡ true)
-    go (inl near) = inl (near-test c.horizontal most_h width near.0, near-test c.vertical most_v height near.1)
-    go (inr whole) =
-        inr (and-true (divides c.horizontal most_h) (divides c.vertical most_v)
-        (eq-eqb (most_h % c.horizontal) 0 whole.0) (eq-eqb (most_v % c.vertical) 0 whole.1))
+rule-some most_h most_v width height c u = search (rules, pick-some, any-test, near-test, and-true, eq-eqb)
 
 pub sources-some : (most_h most_v width height : ℕ) (cs : List Component)
     → AllByRecursion (λ c. Upsampled most_h most_v width height c.factors) cs
@@ -120,11 +94,7 @@ either false b e = inr e
 -- near is the greatest, or a size of 1; or at most a half
 near-by : (n m s : ℕ) → ((n == m || s == 1) ≡ true) ⊎ ((2 * n == m) ≡ true) → IsNear n m s
 near-by n m s (inr e) = inr (inl (eqb-true (2 * n) m e))
-near-by n m s (inl e) = go (either (n == m) (s == 1) e)
-  where
-    go : ((n == m) ≡ true) ⊎ ((s == 1) ≡ true) → IsNear n m s
-    go (inl f) = inl (eqb-true n m f)
-    go (inr f) = inr (inr (eqb-true s 1 f))
+near-by n m s (inl e) = search (rules, either, eqb-true)
 
 tests-back : (h1 h2 v1 v2 e : Bool) → (h1 && v1 || (h2 && v1 || (h1 && v2 || (h2 && v2 || e)))) ≡ true
     → ((h1 ≡ true) ⊎ (h2 ≡ true)) × ((v1 ≡ true) ⊎ (v2 ≡ true)) ⊎ (e ≡ true)
@@ -144,24 +114,7 @@ tests-back false false false false false f = absurd (true≢false (sym f))
 rule-back : (most_h most_v width height : ℕ) (c : Factors) (r : UpsampleRule)
     → rule_of c.horizontal c.vertical most_h most_v width height ≡ Some r → Upsampled most_h most_v width height c
 unfolding rule_of
-rule-back most_h most_v width height c r e =
-    let h1 = c.horizontal == most_h || width == 1 in
-    let v1 = c.vertical == most_v || height == 1 in
-    let h2 = 2 * c.horizontal == most_h in
-    let v2 = 2 * c.vertical == most_v in
-    let any = divides c.horizontal most_h && divides c.vertical most_v in
-    go (tests-back h1 h2 v1 v2 any
-    (pick-test (h1 && v1) (h2 && v1) (h1 && v2) (h2 && v2) any (Generic (most_h / c.horizontal) (most_v / c.vertical)) r
-    e))
-  where
-    go : (((c.horizontal == most_h || width == 1) ≡ true) ⊎ ((2 * c.horizontal == most_h) ≡ true))
-        × (((c.vertical == most_v || height == 1) ≡ true) ⊎ ((2 * c.vertical == most_v) ≡ true))
-        ⊎ ((divides c.horizontal most_h && divides c.vertical most_v) ≡ true)
-        → Upsampled most_h most_v width height c
-    go (inl near) = inl (near-by c.horizontal most_h width near.0, near-by c.vertical most_v height near.1)
-    go (inr whole) =
-        let both = and_parts (divides c.horizontal most_h) (divides c.vertical most_v) whole in
-        inr (eqb-true (most_h % c.horizontal) 0 both.0, eqb-true (most_v % c.vertical) 0 both.1)
+rule-back most_h most_v width height c r e = search (rules, tests-back, pick-test, near-by, and_parts, eqb-true)
 
 rule-there : (c : Component) (o : Option UpsampleRule) (s : Source) → source_by c o ≡ Ok s
     → (r : UpsampleRule) × (o ≡ Some r)

@@ -1,25 +1,20 @@
 -- Where all is sent, the picture is that of the array itself.
-use Rattle.std.proofs.Common.{◌≡◌, ℕ, suc, ◌+◌, ◌*◌, ◌/◌, ◌%◌, ◌^◌, Bool, true, false, cond, List, [], ◌∷◌, map}
-use Rattle.std.proofs.Common.{length, ℤ, pos, negsuc, neg_ℤ, ◌*ℤ◌, Option, Some, None, Result, Ok, Err, refl, sym, ap}
-use Rattle.std.proofs.Common.{ap₂, ◌∙◌, subst, arith}
+use Rattle.std.proofs.Common.{rules, ◌≡◌, ℕ, suc, ◌+◌, ◌/◌, ◌^◌, Bool, true, false, List, [], ◌∷◌, map, length, ℤ, pos}
+use Rattle.std.proofs.Common.{negsuc, neg_ℤ, ◌*ℤ◌, Option, Some, Result, Ok, Err, refl, ap, ap₂, arith}
+use Rattle.std.proofs.lemmas.Grind.{common_steps}
 use Rattle.std.proofs.lemmas.Int.{ints}
-use Rattle.std.specs.Prelude.{slice_index_or, nat_lt}
 use Rattle.std.specs.List.{AllByRecursion, range_with_len}
-use Rattle.jpeg_bits.specs.Reading.{Fault, Malformed, ◌>>=◌}
+use Rattle.jpeg_bits.specs.Reading.{Fault, ◌>>=◌}
 use Rattle.jpeg_segments.specs.Frame.{Frame, Component}
-use Rattle.jpeg_bits.specs.Zigzag.{coefficients_in_block_order, values_in_block_order}
 use Rattle.jpeg_streams.specs.declared.settings.Settings.{Settings}
-use Rattle.jpeg_bits.specs.Passes.{Block, listed}
-use Rattle.jpeg_pixels.specs.Planes.{plane_of, plane_sample}
-use Rattle.jpeg_streams.specs.Levels.{Levels, Is8Bit, cut, cut_dc, cut_ac, cut_acs, floor_at, toward_zero}
+use Rattle.jpeg_bits.specs.Passes.{Block}
+use Rattle.jpeg_pixels.specs.Planes.{plane_of}
+use Rattle.jpeg_streams.specs.Levels.{Levels, Is8Bit, cut, cut_acs, floor_at, toward_zero}
 use lib.ListN.{length-map}
-use Rattle.std.specs.Prelude.{option_map}
 use Rattle.jpeg_segments.specs.declared.parser.CodingProcess.{CodingProcess}
 use Rattle.jpeg_segments.specs.declared.parser.CodingProcess.TheVariants.{DctSequential, DctProgressive, Lossless}
-use Rattle.jpeg_segments.specs.Scales.{frame_at, sized_by, sized}
-use Rattle.jpeg_streams.specs.Needed.{needed}
-use Rattle.jpeg_streams.specs.Stream.{sized_to, told_of}
-use Rattle.jpeg_streams.specs.FoundPictures.{picture_by}
+use Rattle.jpeg_segments.specs.Scales.{frame_at, sized_by}
+use Rattle.jpeg_streams.specs.Stream.{sized_to}
 use Rattle.jpeg_streams.specs.ScanSegments.{is_progressive}
 use Rattle.jpeg_streams.specs.Found.{Found}
 use Rattle.jpeg_streams.specs.WrittenScans.{Coefficients, IsComplete}
@@ -51,14 +46,10 @@ unfolding cut_acs
 acs-whole [] [] h all = refl
 acs-whole [] (l ∷ ls) h all = absurd (omega arith)
 acs-whole (c ∷ cs) [] h all = absurd (omega arith)
-acs-whole (c ∷ cs) (l ∷ ls) h all =
-    ap₂ (λ (x : ℤ) (xs : List ℤ). x ∷ xs) (ap (cut_ac c) all.0 ∙ times-one (toward_zero 0 c) ∙ toward-whole c)
-    (acs-whole cs ls (omega arith) all.1)
+acs-whole (c ∷ cs) (l ∷ ls) h all = search (rules, times-one, toward-whole, acs-whole cs ls (omega arith) all.1)
 
 pub cut-whole : (l : Levels) (c : Block) → IsComplete l → length c.acs ≡ length l.acs → cut l c ≡ c
-cut-whole l c done h =
-    ap₂ (λ (d : ℤ) (a : List ℤ). record { dc = d; acs = a })
-    (ap (cut_dc c.dc) done.dc ∙ times-one (floor_at 0 c.dc) ∙ floor-whole c.dc) (acs-whole c.acs l.acs h done.acs)
+cut-whole l c done h = search (rules, times-one, floor-whole, acs-whole)
 
 -- ---- planes
 
@@ -70,19 +61,13 @@ plane-same : (scale : ℕ) (table : List ℕ) (wide high : ℕ) (f g : ℕ → �
     → ((row column : ℕ) → f row column ≡ g row column)
     → plane_of scale table wide high f ≡ plane_of scale table wide high g
 unfolding plane_of
-plane-same scale table wide high f g h =
-    map-same _ _ (range_with_len 0 (scale * wide * (scale * high)))
-    (λ i. ap (λ (b : List ℤ). plane_sample scale table (λ row column. b) (i % (scale * wide)) (i / (scale * wide)))
-    (h (i / (scale * wide) / scale) (i % (scale * wide) / scale)))
+plane-same scale table wide high f g h = grind (arith, common_steps, map-same)
 
 plane-whole : (c : Component) (table : List ℕ) (l : Levels) (array : ℕ → ℕ → Block) → IsComplete l
     → ((row column : ℕ) → length (array row column).acs ≡ length l.acs)
     → plane_of_array c table l array ≡ plane_whole c table array
 unfolding plane_of_array plane_whole
-plane-whole c table l array done h =
-    plane-same c.scale (values_in_block_order table) c.blocks_wide c.blocks_high _ _
-    (λ row column. ap (λ (b : Block). coefficients_in_block_order (listed b))
-    (cut-whole l (array row column) done (h row column)))
+plane-whole c table l array done h = search (rules, plane-same, cut-whole)
 
 pub same-after : {A B : Type 0} (o : Result A Fault) (f g : A → Result B Fault) → ((x : A) → f x ≡ g x)
     → (o >>= f) ≡ (o >>= g)
@@ -96,30 +81,14 @@ planes-whole : (said : Found) (array : Coefficients) (levels : ℕ → Levels) (
 unfolding planes_of_array planes_whole
 planes-whole said array levels place [] done h = refl
 planes-whole said array levels place (c ∷ cs) done h =
-    same-after (needed (slice_index_or said.quantization c.factors.quantization None)) _ _ (λ table.
-    ap₂ (λ (plane : List ℕ) (o : Result (List (List ℕ)) Fault). o >>=
-    (λ (others : List (List ℕ)). Ok (plane ∷ others)))
-    (plane-whole c table (levels place) (array place) done.0 (h place))
-    (planes-whole said array levels (place + 1) cs done.1 h))
+    search (rules, same-after, plane-whole, planes-whole said array levels (place + 1) cs done.1 h)
 
 picture-whole : (settings : Settings) (said : Found) (array : Coefficients) (levels : ℕ → Levels) (frame : Frame)
     → said.frame ≡ Some frame → AllComplete frame levels
     → ((k row column : ℕ) → length (array k row column).acs ≡ length (levels k).acs)
     → picture_of_array settings said array levels ≡ picture_whole settings said array
 unfolding picture_of_array picture_whole
-picture-whole settings said array levels frame e done h =
-    ap (λ (o : Option Frame). needed o >>= λ (f : Frame). cond
-    (nat_lt settings.limit (length f.components * (f.output_width * f.output_height))) (Err Malformed)
-    (planes_of_array said array levels 0 f.components >>= λ (planes : List (List ℕ)). picture_by settings
-    said.metadata f f.components planes)) e
-    ∙ ap (λ (o : Result (List (List ℕ)) Fault). cond
-    (nat_lt settings.limit (length frame.components * (frame.output_width * frame.output_height))) (Err Malformed)
-    (o >>= λ (planes : List (List ℕ)). picture_by settings said.metadata frame frame.components planes))
-    (planes-whole said array levels 0 frame.components done h)
-    ∙ sym (ap (λ (o : Option Frame). needed o >>= λ (f : Frame). cond
-    (nat_lt settings.limit (length f.components * (f.output_width * f.output_height))) (Err Malformed)
-    (planes_whole said array 0 f.components >>= λ (planes : List (List ℕ)). picture_by settings said.metadata f
-    f.components planes)) e)
+picture-whole settings said array levels frame e done h = search (rules, planes-whole)
 
 -- ---- the levels of a stream
 
@@ -140,8 +109,7 @@ sequential-complete : (array : Coefficients) (said final : Found) (levels last :
     → final.frame ≡ Some frame → is_progressive frame.process ≡ false → AllComplete frame last
 sequential-complete array said final levels last scanned bytes frame
     (closed said' levels' f fill framed tables complete) e n =
-    let same = same-frame f frame said.frame framed e in
-    (subst (λ (x : Frame). is_progressive x.process ≡ false → AllComplete x levels) same complete) n
+    search (rules, same-frame)
 sequential-complete array said final levels last scanned bytes frame
     (segment said' final' levels' last' scanned' fill s more may dct follows w) e n =
     sequential-complete array _ final levels last scanned more frame w e n
@@ -153,16 +121,12 @@ pub whole-is : (settings : Settings) (array : Coefficients) (bytes tail : List �
     (frame : Frame) → ((place row column : ℕ) → Is8Bit (array place row column))
     → WritesImage array bytes final last → final.frame ≡ Some frame → AllComplete frame last
     → meaning_of_array settings final array last tail ≡ whole_meaning settings final array tail
-whole-is settings array bytes tail final last frame range w e done =
-    let sized = levels-sized array _ final _ last false w.after w.written (λ k. refl) in
-    ap (λ (o : Result (List ℕ) Fault). o >>= (λ (picture : List ℕ). Ok ((told_of final, picture), tail)))
-    (picture-whole settings final array last frame e done (λ k row column. (range k row column).count ∙ sym (sized k)))
+whole-is settings array bytes tail final last frame range w e done = search (rules, levels-sized, picture-whole)
 
 pub sequential-whole : (array : Coefficients) (bytes : List ℕ) (final : Found) (last : ℕ → Levels) (frame : Frame)
     → WritesImage array bytes final last → final.frame ≡ Some frame
     → is_progressive frame.process ≡ false → AllComplete frame last
-sequential-whole array bytes final last frame w e n =
-    sequential-complete array _ final _ last false w.after frame w.written e n
+sequential-whole array bytes final last frame w e n = search (rules, sequential-complete)
 
 -- ---- at a scale
 
@@ -179,11 +143,4 @@ pub sized-whole : (width height : ℕ) (settings : Settings) (array : Coefficien
     → meaning_of_array settings (sized_to width height final) array last tail
     ≡ whole_meaning settings (sized_to width height final) array tail
 sized-whole width height settings array bytes tail final last frame range w e done =
-    let lengths = levels-sized array _ final _ last false w.after w.written (λ k. refl) in
-    let count = sized-count width height frame.process frame in
-    ap (λ (o : Result (List ℕ) Fault). o >>=
-    (λ (picture : List ℕ). Ok ((told_of (sized_to width height final), picture), tail)))
-    (picture-whole settings (sized_to width height final) array last (sized width height frame)
-    (ap (λ (o : Option Frame). option_map (sized width height) o) e)
-    (subst (λ (n : ℕ). AllByRecursion (λ k. IsComplete (last k)) (range_with_len 0 n)) (sym count) done)
-    (λ k row column. (range k row column).count ∙ sym (lengths k)))
+    search (rules, levels-sized, sized-count, picture-whole)

@@ -1,6 +1,6 @@
 -- A sequential stream of three components, with padding and a restart, worked by hand, is one that is written.
-use Rattle.std.proofs.Common.{◌≡◌, ℕ, zero, suc, ◌*◌, ◌+◌, ◌/◌, ◌%◌, ◌<◌, Bool, true, false, List, [], ◌∷◌}
-use Rattle.std.proofs.Common.{◌++◌, replicate, ℤ, pos, negsuc, ◌-ℤ◌, Some, refl, sym, arith, true≢false}
+use Rattle.std.proofs.Common.{rules, ◌≡◌, ℕ, zero, suc, ◌*◌, ◌+◌, ◌%◌, ◌<◌, Bool, true, false, List, [], ◌∷◌, ◌++◌}
+use Rattle.std.proofs.Common.{replicate, ℤ, pos, negsuc, ◌-ℤ◌, Some, refl, sym, arith, true≢false}
 use Rattle.std.specs.Prelude.{get_or, set}
 use Rattle.jpeg_bits.specs.Codes.{Table, lengths_from, code_value, codes_exist}
 use Rattle.jpeg_bits.specs.Intervals.{groups}
@@ -31,7 +31,7 @@ use Rattle.jpeg_streams.specs.WrittenData.WritesDc.{whole}
 use Rattle.jpeg_streams.specs.WrittenData.WritesIntervals.{another, last}
 use Rattle.jpeg_streams.specs.WrittenImages.{closed, scan, segment}
 use Rattle.jpeg_streams.specs.WrittenScans.{IsComplete, IsLegalScan, IsOwn, WritesScan, block_for, grid_at}
-use Rattle.jpeg_streams.specs.WrittenScans.{levels_after, place_at}
+use Rattle.jpeg_streams.specs.WrittenScans.{levels_after}
 use Rattle.jpeg_streams.proofs.AcceptedSamples.{accepted-picture}
 use Rattle.jpeg_streams.proofs.CutLevels.{all-same}
 use Rattle.jpeg_streams.proofs.TestedParts.{category-by, frame-by, interval-by, is_category, one-quantizes, range-by}
@@ -100,9 +100,7 @@ colour-range (suc (suc zero)) row column = range-in (get_or colour_blocks 2 []) 
 colour-range (suc (suc (suc place))) row column = range-in [] refl column
 
 for-range : (s : Spot) → Is8Bit (block_for codings colour_array s)
-for-range s =
-    let g = grid_at (components_of codings) s.slot in
-    colour-range (place_at codings s.slot) (s.index / g.wide) (s.index % g.wide)
+for-range s = search (rules, colour-range)
 
 sent-range : (slot index : ℕ) → Is8Bit (sent_at slot index)
 unfolding sent_at
@@ -148,7 +146,7 @@ flat-block predictors slot dc turns bits is more =
     let d = dc -ℤ get_or predictors slot (pos 0) in
     block predictors 0 0 (via slot) (flat_block dc) turns (false ∷ bits_for d 4) (false ∷ []) bits dc
     (whole dc (get_or predictors slot (pos 0)) (false ∷ bits_for d 4) refl refl
-    (record { s = 4; code = false ∷ []; category = category-by d 4 is; coded = dc-coded; has_bits = refl }))
+    (search (rules, category-by, dc-coded)))
     no-ac more
 
 interval_1 : WritesInterval (pass_of (scan_written the_frame the_header)) (mcu (pos 8) (negsuc 0) (negsuc 7) (pos 15))
@@ -231,10 +229,7 @@ colour-written =
             ((table-by _ _ (omega arith) refl, tt), tt) tt (λ e. tt) (
             segment _ said _ sent false 0 (Interval 1) _ (tt, tt) tt (λ e. tt) (
             scan said said _ sent false the_frame 0 the_header codings scan_bytes _ refl scan-is legal data-written (
-            closed said sent the_frame 0 refl (
-              record { table = replicate 64 16; is = refl },
-              (record { table = replicate 64 16; is = refl }, (record { table = replicate 64 16; is = refl }, tt)),
-            )
+            closed said sent the_frame 0 refl (search rules)
             (λ e. (whole, (whole, (whole, tt))))))))));
       };
       framed = refl;

@@ -1,13 +1,13 @@
 -- A progressive stream of three blocks, worked by hand, is one that is written.
-use Rattle.std.proofs.Common.{ℕ, zero, suc, ◌*◌, ◌+◌, ◌%◌, true, false, List, [], ◌∷◌}
-use Rattle.std.proofs.Common.{replicate, pos, negsuc, Some, refl, sym, arith, true≢false}
+use Rattle.std.proofs.Common.{rules, ℕ, zero, suc, ◌*◌, ◌+◌, true, false, List, [], ◌∷◌, replicate, pos, negsuc, Some}
+use Rattle.std.proofs.Common.{refl, sym, arith, true≢false}
 use Rattle.jpeg_bits.specs.Codes.{Table, lengths_from, code_value, codes_exist}
 use Rattle.jpeg_bits.specs.Written.{low_bits, bits_of_bytes, IsCoded, stuffed, number_for}
 use Rattle.jpeg_bits.specs.declared.codes.HuffmanTableClass.TheVariants as classes
 use Rattle.jpeg_segments.specs.Frame.{Factors, Frame, frame_of, component_of}
 use Rattle.jpeg_segments.specs.ScanHeader.{scan_of}
-use Rattle.jpeg_segments.specs.WrittenSegments.{FrameHeader, Header, Huffman, Quantization, Segment}
-use Rattle.jpeg_segments.specs.WrittenSegments.{quantization_bytes, frame_payload, huffman_bytes}
+use Rattle.jpeg_segments.specs.WrittenSegments.{FrameHeader, Header, Huffman, Quantization, Segment, quantization_bytes}
+use Rattle.jpeg_segments.specs.WrittenSegments.{frame_payload, huffman_bytes}
 use Rattle.jpeg_segments.specs.ScanHeaders.{ScanHeader, IsScan, scan_payload, scan_written}
 use Rattle.jpeg_pixels.specs.Pictures.{sources_by}
 use Rattle.jpeg_pixels.specs.Upsampling.{rule_of}
@@ -15,11 +15,11 @@ use Rattle.jpeg_streams.specs.Levels.{Levels, nothing_sent}
 use Rattle.jpeg_streams.specs.Order.{own_spots, spots_of, mcu_size}
 use Rattle.jpeg_streams.specs.SaidSegments.{HasPicture, found_after}
 use Rattle.jpeg_streams.specs.Scans.{no_table}
-use Rattle.jpeg_streams.specs.ScanSegments.{Coding, codings_of, codings_from, component_coding, components_of, pass_of}
-use Rattle.jpeg_streams.specs.ScanSegments.{tables_of, vias_from}
+use Rattle.jpeg_streams.specs.ScanSegments.{Coding, codings_of, codings_from, component_coding, pass_of, tables_of}
+use Rattle.jpeg_streams.specs.ScanSegments.{vias_from}
 use Rattle.jpeg_streams.specs.Found.{nothing_found, Found}
 use Rattle.jpeg_streams.specs.Segments.{accepted, updated}
-use Rattle.jpeg_streams.specs.WorkedImages.{IsWhollyWritten, grey_array, grey_blocks, grey_bytes}
+use Rattle.jpeg_streams.specs.WorkedImages.{IsWhollyWritten, grey_array, grey_bytes}
 use Rattle.jpeg_streams.specs.WrittenData.{NoneNew, corrections, count_unknown}
 use Rattle.jpeg_streams.specs.WrittenData.WritesAc.{no_band, first, first_run, again, again_run}
 use Rattle.jpeg_streams.specs.WrittenData.WritesBand.{value, ended}
@@ -28,7 +28,7 @@ use Rattle.jpeg_streams.specs.WrittenData.WritesDc.{other_band, whole, one_bit}
 use Rattle.jpeg_streams.specs.WrittenData.WritesIntervals.{last}
 use Rattle.jpeg_streams.specs.WrittenData.WritesRefinement.{found, none_left}
 use Rattle.jpeg_streams.specs.WrittenImages.{closed, scan, segment}
-use Rattle.jpeg_streams.specs.WrittenScans.{block_for, grid_at, IsLegalScan, WritesScan, levels_after}
+use Rattle.jpeg_streams.specs.WrittenScans.{block_for, IsLegalScan, WritesScan, levels_after}
 use Rattle.jpeg_streams.proofs.AcceptedSamples.{accepted-picture}
 use Rattle.jpeg_streams.proofs.CutLevels.{all-same}
 use Rattle.jpeg_streams.proofs.TestedParts.{category-by, frame-by, interval-by, one-quantizes, range-in, scan-by}
@@ -120,20 +120,20 @@ unfolding low_bits number_for bits_of_bytes stuffed pass_of scan_of frame_of com
     vias_from
 dc-first = record {
   sent = block_for dc_codings grey_array;
-  in_range = λ s. range-in grey_blocks refl (s.index % (grid_at (components_of dc_codings) s.slot).wide);
+  in_range = search (rules, range-in);
   is_own = λ s own. refl;
   coded = last 0 _ _ (interval-by _ _ _ (66 ∷ 79 ∷ [])
       (block _ 0 0 _ _ _ (false ∷ true ∷ false ∷ false ∷ []) [] _ (pos 4)
       (whole (pos 4) (pos 0) _ refl refl
-      (record { s = 3; code = false ∷ []; category = category-by _ 3 refl; coded = dc-coded; has_bits = refl }))
+      (search (rules, category-by, dc-coded)))
       (no_band 0)
       (block _ 0 0 _ _ _ (false ∷ false ∷ true ∷ false ∷ []) [] _ (negsuc 0)
       (whole (negsuc 0) (pos 4) _ refl refl
-      (record { s = 3; code = false ∷ []; category = category-by _ 3 refl; coded = dc-coded; has_bits = refl }))
+      (search (rules, category-by, dc-coded)))
       (no_band 0)
       (block _ 0 0 _ _ _ (false ∷ true ∷ false ∷ false ∷ []) [] _ (pos 3)
       (whole (pos 3) (negsuc 0) _ refl refl
-      (record { s = 3; code = false ∷ []; category = category-by _ 3 refl; coded = dc-coded; has_bits = refl }))
+      (search (rules, category-by, dc-coded)))
       (no_band 0)
       (done _)))) refl refl);
 }
@@ -143,7 +143,7 @@ unfolding low_bits number_for bits_of_bytes stuffed pass_of scan_of frame_of com
     vias_from
 dc-again = record {
   sent = block_for dc_codings grey_array;
-  in_range = λ s. range-in grey_blocks refl (s.index % (grid_at (components_of dc_codings) s.slot).wide);
+  in_range = search (rules, range-in);
   is_own = λ s own. refl;
   coded = last 0 _ _ (interval-by _ _ _ (191 ∷ [])
       (block _ 0 0 _ _ _ (true ∷ []) [] _ (pos 0) (one_bit (pos 9) (pos 0) refl refl) (no_band 0)
@@ -157,7 +157,7 @@ unfolding low_bits number_for bits_of_bytes stuffed pass_of scan_of frame_of com
     vias_from
 ac-first = record {
   sent = block_for ac_codings grey_array;
-  in_range = λ s. range-in grey_blocks refl (s.index % (grid_at (components_of ac_codings) s.slot).wide);
+  in_range = search (rules, range-in);
   is_own = λ s own. refl;
   coded = last 0 _ _ (interval-by _ _ _ (99 ∷ 63 ∷ [])
       (block _ 0 0 _ _ _ [] (false ∷ true ∷ true ∷ false ∷ []) _ (pos 0)
@@ -187,7 +187,7 @@ unfolding low_bits number_for bits_of_bytes stuffed pass_of scan_of frame_of com
     vias_from corrections count_unknown NoneNew
 ac-again = record {
   sent = block_for ac_codings grey_array;
-  in_range = λ s. range-in grey_blocks refl (s.index % (grid_at (components_of ac_codings) s.slot).wide);
+  in_range = search (rules, range-in);
   is_own = λ s own. refl;
   coded = last 0 _ _ (interval-by _ _ _ (58 ∷ [])
       (block _ 0 2 _ _ _ [] (false ∷ false ∷ true ∷ true ∷ true ∷ false ∷ true ∷ []) _ (pos 0)
@@ -214,12 +214,7 @@ has-picture = accepted-picture 2 header refl refl
 scans-are : IsScan the_frame header_1 × IsScan the_frame header_2 × IsScan the_frame header_3
     × IsScan the_frame header_4
 unfolding frame_of component_of
-scans-are = (
-  scan-by the_frame header_1 refl,
-  scan-by the_frame header_2 refl,
-  scan-by the_frame header_3 refl,
-  scan-by the_frame header_4 refl,
-)
+scans-are = search (rules, scan-by)
 
 abbrev said_1 : Found
 said_1 = found_after nothing_found (Quantization (table_of_one 0 16 ∷ []))
@@ -249,12 +244,7 @@ legal : Legal header_1 dc_codings (λ k. nothing_sent) × Legal header_2 ac_codi
     × Legal header_3 dc_codings sent_2 × Legal header_4 ac_codings sent_3
 unfolding nothing_found updated frame_of component_of scan_of pass_of tables_of levels_after codings_of codings_from
     component_coding
-legal = (
-  scan-legal said the_frame (λ k. nothing_sent) header_1 dc_codings refl refl,
-  scan-legal said the_frame sent_1 header_2 ac_codings refl refl,
-  scan-legal said the_frame sent_2 header_3 dc_codings refl refl,
-  scan-legal said the_frame sent_3 header_4 ac_codings refl refl,
-)
+legal = search (rules, scan-legal)
 
 -- ---- the stream
 

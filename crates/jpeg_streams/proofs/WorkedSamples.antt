@@ -1,5 +1,5 @@
 -- The lossless streams that are worked by hand are written.
-use Rattle.std.proofs.Common.{◌≡◌, ℕ, zero, suc, ◌==◌, Bool, true, false, List, [], ◌∷◌, ◌++◌, length, drop}
+use Rattle.std.proofs.Common.{rules, ◌≡◌, ℕ, zero, suc, ◌==◌, Bool, true, false, List, [], ◌∷◌, ◌++◌, length, drop}
 use Rattle.std.proofs.Common.{replicate, flat_map, pos, negsuc, refl, sym, subst, arith, inl, inr}
 use Rattle.std.proofs.lemmas.Bool.{and_parts, eqb-true, leb-true}
 use Rattle.std.specs.List.{list_all}
@@ -24,10 +24,10 @@ use Rattle.jpeg_streams.specs.Segments.{accepted, updated}
 use Rattle.jpeg_streams.specs.Found.{nothing_found, Found}
 use Rattle.jpeg_streams.specs.WorkedSamples.{AreWritten, lone_data, lone_scan, other_data, other_scan, padded_bytes}
 use Rattle.jpeg_streams.specs.WorkedSamples.{padded_data, padded_header, padded_samples, padded_scan, plain_factors}
-use Rattle.jpeg_streams.specs.WorkedSamples.{table_segment, twice_factors}
-use Rattle.jpeg_streams.specs.WorkedSamples.{third_data, third_scan, three_bytes, three_header, three_samples}
-use Rattle.jpeg_streams.specs.WrittenLossless.{AreCodings, HasSamples, HoldSamples, WritesScan, closed}
-use Rattle.jpeg_streams.specs.WrittenLossless.{said_after_scan, scan, segment, whole_rows}
+use Rattle.jpeg_streams.specs.WorkedSamples.{table_segment, twice_factors, third_data, third_scan, three_bytes}
+use Rattle.jpeg_streams.specs.WorkedSamples.{three_header, three_samples}
+use Rattle.jpeg_streams.specs.WrittenLossless.{AreCodings, HasSamples, HoldSamples, WritesScan, closed, said_after_scan}
+use Rattle.jpeg_streams.specs.WrittenLossless.{scan, segment, whole_rows}
 use Rattle.jpeg_streams.specs.LosslessScans.{LosslessCoding, mcus_across, mcus_down, parts_of}
 use Rattle.jpeg_streams.proofs.AcceptedSamples.{accepted-samples}
 use Rattle.jpeg_streams.proofs.TestedParts.{category-by, frame-by, scan-by, table-by}
@@ -56,12 +56,7 @@ have-samples = (accepted-samples three_header refl, accepted-samples padded_head
 are-scans : IsScan (frame_by three_header) third_scan × IsScan (frame_by three_header) other_scan
     × IsScan (frame_by padded_header) padded_scan × IsScan (frame_by padded_header) lone_scan
 unfolding frame_of component_of
-are-scans = (
-  scan-by (frame_by three_header) third_scan refl,
-  scan-by (frame_by three_header) other_scan refl,
-  scan-by (frame_by padded_header) padded_scan refl,
-  scan-by (frame_by padded_header) lone_scan refl,
-)
+are-scans = search (rules, scan-by)
 
 -- ---- differences of 0, 1 and -1
 
@@ -85,7 +80,7 @@ less = record {
   low = record { le = tt };
   high = record { le = tt };
   category = category-by (negsuc 0) 1 refl;
-  coded = record { place = 1; listed = omega arith; is_for = refl; has_bits = refl };
+  coded = search rules;
   has_bits = refl;
 }
 
@@ -99,7 +94,7 @@ small-written zero e = record {
   low = record { le = tt };
   high = record { le = tt };
   category = category-by (pos 0) 0 refl;
-  coded = record { place = 0; listed = omega arith; is_for = refl; has_bits = refl };
+  coded = search rules;
   has_bits = refl;
 }
 small-written (suc zero) e = record {
@@ -113,8 +108,7 @@ small-written (suc zero) e = record {
   coded = record { place = 1; listed = omega arith; is_for = refl; has_bits = refl };
   has_bits = refl;
 }
-small-written (suc (suc n)) e = subst (λ (r : ℕ). WritesDifference small_table r (true ∷ false ∷ false ∷ []))
-    (sym (eqb-true (suc (suc n)) 65535 e)) less
+small-written (suc (suc n)) e = search (rules, eqb-true, less)
 
 row-written : (rs : List ℕ) → list_all is_small rs ≡ true
     → WritesRow (replicate (length rs) small_table) rs (flat_map small_bits rs)
@@ -187,10 +181,7 @@ unfolding frame_of component_of nothing_found updated three_samples AreCodings H
     bits_of_bytes all_above
 other-written = record {
   codings = coding 1 0 ∷ coding 2 1 ∷ [];
-  coded = (
-    record { stands = refl; component = refl; table = refl },
-    (record { stands = refl; component = refl; table = refl }, tt),
-  );
+  coded = (search rules);
   point = refl;
   interval = whole_rows 0;
   lines = _;
@@ -198,10 +189,10 @@ other-written = record {
   written = another 0 0 2 (((129 ∷ 129 ∷ []) ∷ []) ∷ ((128 ∷ 128 ∷ []) ∷ []) ∷ []) (((128 ∷ 128 ∷ []) ∷ [])
       ∷ ((129 ∷ 128 ∷ []) ∷ []) ∷ []) (0xA3 ∷ []) (0x54 ∷ []) (omega arith)
       (row-interval _ _ (1 ∷ 0 ∷ 0 ∷ 0 ∷ []) (0xA3 ∷ []) refl refl refl refl (refl, (refl, tt))
-      (((refl, (omega arith, (omega arith, tt))), tt), (((refl, (omega arith, (omega arith, tt))), tt), tt)))
+      (search rules))
       (last 1 1 _ _ (omega arith)
       (row-interval _ _ (0 ∷ 1 ∷ 0 ∷ 65535 ∷ []) (0x54 ∷ []) refl refl refl refl (refl, (refl, tt))
-      (((refl, (omega arith, (omega arith, tt))), tt), (((refl, (omega arith, (omega arith, tt))), tt), tt))));
+      (search rules)));
 }
 
 pub three-written : AreWritten three_samples three_bytes
@@ -246,32 +237,17 @@ unfolding frame_of component_of nothing_found updated padded_samples AreCodings 
     bits_of_bytes all_above
 padded-written = record {
   codings = coding_by (twice_factors 1) 0 ∷ coding_by (plain_factors 2) 1 ∷ [];
-  coded = (
-    record { stands = refl; component = refl; table = refl },
-    (record { stands = refl; component = refl; table = refl }, tt),
-  );
+  coded = (search rules);
   point = refl;
   interval = whole_rows 0;
   lines = _;
   held = (refl, (refl, tt));
   written = another 0 0 2 upper lower (0xA8 ∷ 0x49 ∷ 0x6D ∷ []) (0x49 ∷ 0x60 ∷ 0x8F ∷ []) (omega arith)
       (row-interval _ _ (1 ∷ 0 ∷ 65535 ∷ 0 ∷ 0 ∷ 65535 ∷ 65535 ∷ 1 ∷ 1 ∷ 1 ∷ []) (0xA8 ∷ 0x49 ∷ 0x6D ∷ [])
-      refl refl refl refl (refl, (refl, tt)) (
-        (
-          (refl, (omega arith, (omega arith, (omega arith, (omega arith, tt))))),
-          ((refl, (omega arith, (omega arith, (omega arith, (omega arith, tt))))), tt),
-        ),
-        (((refl, (omega arith, (omega arith, tt))), tt), tt),
-      ))
+      refl refl refl refl (refl, (refl, tt)) (search rules))
       (last 1 1 _ _ (omega arith)
       (row-interval _ _ (0 ∷ 65535 ∷ 65535 ∷ 1 ∷ 65535 ∷ 0 ∷ 0 ∷ 0 ∷ 65535 ∷ 0 ∷ []) (0x49 ∷ 0x60 ∷ 0x8F ∷ [])
-      refl refl refl refl (refl, (refl, tt)) (
-        (
-          (refl, (omega arith, (omega arith, (omega arith, (omega arith, tt))))),
-          ((refl, (omega arith, (omega arith, (omega arith, (omega arith, tt))))), tt),
-        ),
-        (((refl, (omega arith, (omega arith, tt))), tt), tt),
-      )));
+      refl refl refl refl (refl, (refl, tt)) (search rules)));
 }
 
 lone-written : WritesScan (scanned padded_header) (frame_by padded_header) lone_scan padded_samples lone_data

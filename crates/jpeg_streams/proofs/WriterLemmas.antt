@@ -1,5 +1,6 @@
 -- What a writer took of a text in several writes.
-use Rattle.std.proofs.Common.{◌≡◌, ℕ, List, ◌++◌, Option, sym, ap, ◌∙◌, take, drop, append_assoc, take-append-drop}
+use Rattle.std.proofs.Common.{arith, ◌≡◌, ℕ, List, ◌++◌, Option, sym, ap, ◌∙◌, take, drop, append_assoc}
+use Rattle.std.proofs.Common.{take-append-drop}
 use Rattle.std.specs.Io.KnownBytes.{Appends, Keeps}
 use Rattle.jpeg_streams.specs.Output.{TakesBeginning}
 use Rattle.std.proofs.KnownBytes.{Appends-trans, Appends-kept}
@@ -25,8 +26,7 @@ Took-kept text rest old mid new so_far kept = (so_far.0, so_far.1, Appends-kept 
 -- a beginning of the first text is one of both
 pub TakesBeginning-front : (old new : Option (List ℕ)) (first second : List ℕ) → TakesBeginning old new first
     → TakesBeginning old new (first ++ second)
-TakesBeginning-front old new first second h =
-    (h.0, h.1 ++ second, ap (λ xs. xs ++ second) h.2 ∙ append_assoc h.0 h.1 second, h.3)
+TakesBeginning-front old new first second h = grind (arith, append_assoc h.0 h.1 second)
 
 -- after the first text a beginning of the second is one of both
 pub TakesBeginning-after : (old mid new : Option (List ℕ)) (first second : List ℕ) → Appends old mid first

@@ -1,5 +1,5 @@
 -- A scan that was written is read at each of its spots.
-use Rattle.std.proofs.Common.{◌≡◌, ℕ, List, [], ◌∷◌, ◌++◌, map, Option, Some, Ok, refl, sym, ap, ◌∙◌, subst}
+use Rattle.std.proofs.Common.{rules, ◌≡◌, ℕ, List, [], ◌∷◌, ◌++◌, map, Option, Some, Ok, refl, sym, ap, ◌∙◌, subst}
 use Rattle.std.specs.List.{AllByRecursion}
 use Rattle.jpeg_bits.specs.Reading.{Outcome, ◌>>=◌}
 use Rattle.jpeg_bits.specs.declared.marker.Marker.{Marker}
@@ -68,5 +68,4 @@ reads-arrays p n vias spots arrays u bytes fill code m rest ready h w =
     (other_groups n x) all >>= put_back spots arrays) (sym (turns-are vias spots arrays u))
     ∙ ap (λ (o : Outcome (List Block × Option Marker)). o >>= put_back spots arrays)
     (reads-groups p n turns bytes fill code m rest (ready-turns p vias arrays u spots ready) h written)
-    ∙ ap (λ (l : List Block). Ok ((put_blocks spots l arrays, Some m), rest))
-    (map-map_any (turn_with vias arrays u) (λ (t : Via × Block × Block). after_pass p t.1 t.2) spots)
+    ∙ (search (rules, map-map_any))

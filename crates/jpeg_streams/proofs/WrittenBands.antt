@@ -1,21 +1,17 @@
 -- A band that was written is read again.
-use Rattle.std.proofs.Common.{◌≡◌, ◌≢◌, ℕ, zero, suc, ◌+◌, ◌-◌, ◌*◌, ◌/◌, ◌%◌, ◌^◌, ◌<◌, ◌≤◌, Bool}
-use Rattle.std.proofs.Common.{false, List, [], ◌∷◌, ◌++◌, map, length, take, drop, ℤ, pos, negsuc}
-use Rattle.std.proofs.Common.{unsigned_abs, refl, sym, ap, ◌∙◌, subst, append_assoc, append-nil, arith, eqb}
-use Rattle.std.proofs.Common.{w16, pow_pos}
+use Rattle.std.proofs.Common.{rules, ◌≢◌, zero, Bool, List, ◌++◌, length, take, drop, negsuc, refl, subst, arith, neg_ℤ}
+use Rattle.std.proofs.Common.{◌≡◌, unsigned_abs, append_assoc, append-nil, pow_pos, le_refl, length-append, slice_index}
+use Rattle.std.proofs.Common.{ℕ, suc, ◌+◌, ◌-◌, ◌*◌, ◌/◌, ◌%◌, ◌^◌, ◌<◌, ◌≤◌, [], ◌∷◌, map, ℤ, pos, sym, ap, ◌∙◌, ap₂}
 use Rattle.std.proofs.lemmas.List.{take-replicate, drop-replicate, length-replicate}
-use Rattle.std.proofs.Common.{neg_ℤ, le_refl, length-append, ap₂}
 use Rattle.std.proofs.Math.Nat.{zero-mul, mul-le-mul_left}
 use lib.Signed.{mag}
 use Rattle.std.proofs.lemmas.Int.{int_wrap_fits}
 use Rattle.std.proofs.lemmas.Bool.{lt-ltb}
 use Rattle.std.proofs.lemmas.Bool.Decides.{nat_tests}
 use Rattle.std.specs.List.{AllByRecursion}
-use Rattle.std.proofs.Common.{slice_index}
-use Rattle.jpeg_bits.specs.Entropy.{bits_from}
-use Rattle.jpeg_bits.specs.Codes.{Table, code_from}
-use Rattle.jpeg_bits.specs.Written.{low_bits, code_size, code_bits, IsCategory, IsCoded}
-use Rattle.jpeg_bits.specs.Readers.{Reads, signed_from, ReadsJust}
+use Rattle.jpeg_bits.specs.Codes.{Table}
+use Rattle.jpeg_bits.specs.Written.{low_bits, code_size, IsCategory, IsCoded}
+use Rattle.jpeg_bits.specs.Readers.{Reads, ReadsJust}
 use Rattle.jpeg_bits.specs.Bands.{wrapped, Band, before_more, token_at, token_from, after_token, first_ac}
 use Rattle.jpeg_bits.specs.declared.tokens.Token.{Token}
 use Rattle.jpeg_bits.specs.declared.tokens.Token.TheVariants.{Value, Sixteen, Rest}
@@ -40,10 +36,7 @@ token-read table room r s code bits x good coded small piece =
     let token = λ (c : ℕ × ℕ). token_at room c.0 (c.1 / 16) (c.1 % 16) in
     let size = code_size table coded.place in
     let body : ReadsJust (token (size, symbol)) bits x = rw (high, low) (piece size) in
-    takes-as _ (code_bits table coded.place ++ bits) (code ++ bits) x x
-    (ap (λ (b : List Bool). b ++ bits) coded.has_bits) refl
-    (takes-bind (code_from table) token (code_bits table coded.place) bits (size, symbol) x
-    (good.reads coded.place coded.listed) body)
+    search (rules, takes-as, takes-bind)
 
 pub takes-token : (table : Table) (al m j r s : ℕ) (code own bits : List Bool) (x : Token) (y : Band) → IsGood table
     → IsCoded table (16 * r + s) code → s ≤ 15
@@ -54,16 +47,13 @@ unfolding first_ac
 takes-token table al m j r s code own bits x y good coded small token after =
     takes-bind (token_from table (length (no_numbers (suc j))))
     (after_token al (first_ac table al m) (no_numbers (suc j))) (code ++ own) bits x y
-    (token-read table (length (no_numbers (suc j))) r s code own x good coded small
-    (λ size. token (length (no_numbers (suc j))) size (length-replicate (suc j) (pos 0))))
+    (search (rules, token-read, length-replicate))
     after
 
 pub token-value : (room size r t : ℕ) (u : ℤ) → r < room → IsCategory u (suc t)
     → ReadsJust (token_at room size r (suc t)) (bits_for u (suc t)) (Value r u)
 unfolding token_at
-token-value room size r t u h cat =
-    rw (lt-ltb 0 (suc t) (omega arith), lt-ltb r room h, token_at)
-    (takes-map (signed_from (suc t)) (λ (v : ℤ). Value r v) (bits_for u (suc t)) u (takes-signed u t cat))
+token-value room size r t u h cat = grind (arith, lt-ltb 0 (suc t) (omega arith), lt-ltb r room h, takes-signed u t cat)
 
 pub token-sixteen : (room size : ℕ) → ReadsJust (token_at room size 15 0) [] Sixteen
 unfolding token_at
@@ -72,50 +62,37 @@ token-sixteen room size = takes-gives Sixteen
 pub token-rest : (room size r e : ℕ) → r ≤ 14 → e < 2 ^ r
     → ReadsJust (token_at room size r 0) (low_bits r e) (Rest (2 ^ r - 1 + e))
 unfolding token_at
-token-rest room size r e h f =
-    let no : eqb r 15 ≡ false = grind (arith, nat_tests) in
-    rw (no, token_at) (takes-map (bits_from r) (λ (k : ℕ). Rest (2 ^ r - 1 + k)) (low_bits r e) e (takes-number r e f))
+token-rest room size r e h f = grind (arith, nat_tests, takes-number r e f)
 
 pub after-value : (al : ℕ) (others : List ℤ → Reads Band) (places : List ℤ) (r : ℕ) (u : ℤ) (bits : List Bool)
     (more : Band)
     → wrapped (scaled al u) ≡ scaled al u → ReadsJust (others (drop (r + 1) places)) bits more
     → ReadsJust (after_token al others places (Value r u)) bits (before_more (take r places ++ scaled al u ∷ []) more)
-after-value al others places r u bits more fits w =
-    rw fits (takes-map (others (drop (r + 1) places)) (before_more (take r places ++ scaled al u ∷ [])) bits more w)
+after-value al others places r u bits more fits w = search (rules, takes-map, scaled)
 
 pub after-sixteen : (al : ℕ) (others : List ℤ → Reads Band) (places : List ℤ) (bits : List Bool) (more : Band)
     → ReadsJust (others (drop 16 places)) bits more
     → ReadsJust (after_token al others places Sixteen) bits (before_more (take 16 places) more)
-after-sixteen al others places bits more w =
-    takes-map (others (drop 16 places)) (before_more (take 16 places)) bits more w
+after-sixteen al others places bits more w = search (rules, takes-map)
 
 -- ---- bands
 
 pub range-below : (al : ℕ) (u : ℤ) → InRange al u → unsigned_abs u < 2 ^ 15
-range-below al u h = let one : 1 ≤ 2 ^ al = pow_pos al in let p = mul-le-mul_left (unsigned_abs u) one in let w =
-    h.within in omega (arith, p, w)
+range-below al u h = search (rules, pow_pos, mul-le-mul_left, unsigned_abs)
 
 pub category-small : (al : ℕ) (u : ℤ) (s : ℕ) → InRange al u → IsCategory u s → s ≤ 15
 category-small al u s h cat = cat.is_least 15 (range-below al u h)
 
 pub abs-scaled : (al : ℕ) (u : ℤ) → unsigned_abs (scaled al u) ≡ unsigned_abs u * 2 ^ al
 abs-scaled al (pos n) = refl
-abs-scaled al (negsuc n) = abs-neg (suc n * 2 ^ al)
-  where
-    abs-neg : (k : ℕ) → unsigned_abs (neg_ℤ (pos k)) ≡ k
-    abs-neg zero = refl
-    abs-neg (suc k) = refl
+abs-scaled al (negsuc n) = search (rules, unsigned_abs, neg_ℤ)
 
 pub mag-le : (z : ℤ) → mag z ≤ unsigned_abs z
 mag-le (pos n) = le_refl n
 mag-le (negsuc n) = omega arith
 
 pub scaled-fits : (al : ℕ) (u : ℤ) → InRange al u → wrapped (scaled al u) ≡ scaled al u
-scaled-fits al u h = int_wrap_fits w16 (scaled al u)
-    (record {
-      sfits = let a = abs-scaled al u in let b = mag-le (scaled al u) in let w = h.within in
-          omega (arith, a, b, w);
-    })
+scaled-fits al u h = search (rules, int_wrap_fits, scaled, abs-scaled, mag-le)
 
 pub scaled-zero : (al : ℕ) → scaled al (pos 0) ≡ pos 0
 scaled-zero al = ap pos (omega (arith, zero-mul (2 ^ al)))
@@ -126,8 +103,7 @@ map-no_numbers al zero more = refl
 map-no_numbers al (suc r) more = ap₂ (λ (x : ℤ) (xs : List ℤ). x ∷ xs) (scaled-zero al) (map-no_numbers al r more)
 
 pub length-no_numbers : (r : ℕ) (more : List ℤ) → length (no_numbers r ++ more) ≡ r + length more
-length-no_numbers r more = length-append (no_numbers r) more
-    ∙ ap (λ (k : ℕ). k + length more) (length-replicate r (pos 0))
+length-no_numbers r more = rw (length-append (no_numbers r) more, length-replicate r (pos 0)) refl
 
 pub abs-zero : (u : ℤ) → unsigned_abs u < 2 ^ 0 → u ≡ pos 0
 abs-zero (pos zero) h = refl
@@ -142,8 +118,7 @@ pub band-value : (table : Table) (al r s n : ℕ) (u : ℤ) (code : List Bool) (
     → ReadsJust (first_ac table al n (no_numbers (length (no_numbers r ++ u ∷ more)))) (code ++ bits_for u s ++ bits)
     (map (scaled al) (no_numbers r ++ u ∷ more), run)
 band-value table al r s zero u code more bits run good range nz cat coded room others = absurd (omega arith)
-band-value table al r zero (suc m) u code more bits run good range nz cat coded room others =
-    absurd (nz (abs-zero u cat.holds))
+band-value table al r zero (suc m) u code more bits run good range nz cat coded room others = search (rules, abs-zero)
 band-value table al r (suc t) (suc m) u code more bits run good range nz cat coded room others =
     let k = length more in
     let places = no_numbers (suc (r + k)) in
@@ -156,15 +131,12 @@ band-value table al r (suc t) (suc m) u code more bits run good range nz cat cod
     let given : length (no_numbers r ++ u ∷ more) ≡ suc (r + k) = length-no_numbers r (u ∷ more) ∙ omega arith in
     let numbers : (take r places ++ scaled al u ∷ []) ++ map (scaled al) more
     ≡ map (scaled al) (no_numbers r ++ u ∷ more)
-    = ap (λ (l : List ℤ). (l ++ scaled al u ∷ []) ++ map (scaled al) more) front
-    ∙ append_assoc (no_numbers r) (scaled al u ∷ []) (map (scaled al) more) ∙ sym (map-no_numbers al r (u ∷ more)) in
+    = search (rules, scaled, append_assoc, map-no_numbers) in
     let token = takes-token table al m (r + k) r (suc t) code (bits_for u (suc t)) bits (Value r u) _ good coded
     (category-small al u (suc t) range cat)
     (λ room size e. token-value room size r t u (omega arith) cat)
     (after-value al (first_ac table al m) places r u bits (map (scaled al) more, run) (scaled-fits al u range) w) in
-    subst (λ (l : ℕ). ReadsJust (first_ac table al (suc m) (no_numbers l)) (code ++ bits_for u (suc t) ++ bits)
-    (map (scaled al) (no_numbers r ++ u ∷ more), run))
-    (sym given) (takes-as _ _ _ _ _ refl (ap (λ (l : List ℤ). (l, run)) numbers) token)
+    grind (arith, scaled al, takes-as)
 
 pub band-sixteen : (table : Table) (al n : ℕ) (code : List Bool) (more : List ℤ) (bits : List Bool) (run : ℕ)
     → IsGood table → IsCoded table (16 * 15 + 0) code → 16 + length more ≤ n
@@ -188,8 +160,7 @@ band-sixteen table al (suc m) code more bits run good coded room others =
     (after-sixteen al (first_ac table al m) places bits (map (scaled al) more, run) w) in
     subst (λ (l : ℕ). ReadsJust (first_ac table al (suc m) (no_numbers l)) (code ++ bits)
     (map (scaled al) (no_numbers 16 ++ more), run))
-    (sym given) (takes-as _ _ _ _ _ (ap (λ (b : List Bool). b ++ bits) (append-nil code))
-    (ap (λ (l : List ℤ). (l, run)) numbers) token)
+    (sym given) (grind (arith, append-nil code))
 
 pub band-rest : (table : Table) (al k n r e : ℕ) (code : List Bool) → IsGood table → r ≤ 14 → e < 2 ^ r
     → IsCoded table (16 * r + 0) code → suc k ≤ n
@@ -203,10 +174,7 @@ band-rest table al k (suc m) r e code good h f coded room =
     let token = takes-token table al m k r 0 code (low_bits r e) [] (Rest (2 ^ r - 1 + e)) _ good coded (omega arith)
     (λ room size q. token-rest room size r e h f)
     (takes-gives (no_numbers (suc k), 2 ^ r - 1 + e)) in
-    subst (λ (l : ℕ). ReadsJust (first_ac table al (suc m) (no_numbers l)) (code ++ low_bits r e)
-    (map (scaled al) (no_numbers (suc k)), 2 ^ r - 1 + e))
-    (sym (length-replicate (suc k) (pos 0)))
-    (takes-as _ _ _ _ _ (append-nil (code ++ low_bits r e)) (ap (λ (l : List ℤ). (l, 2 ^ r - 1 + e)) numbers) token)
+    grind (arith, scaled al, length-replicate (suc k) (pos 0), takes-as, append-nil (code ++ low_bits r e))
 
 pub all-after : (P : ℤ → Type 0) (r : ℕ) (more : List ℤ) → AllByRecursion P (no_numbers r ++ more)
     → AllByRecursion P more
@@ -230,5 +198,4 @@ takes-band table al band bits run good range (sixteen code more bits' run' coded
     band-sixteen table al n code more bits' run' good coded (omega arith)
     (takes-band table al more bits' run' good (all-after (InRange al) 16 more range) w)
 takes-band table al band bits run good range (ended k r e code h f coded) n room =
-    let size = length-replicate (suc k) (pos 0) in
-    band-rest table al k n r e code good h f coded (omega arith)
+    search (rules, length-replicate, band-rest)

@@ -1,27 +1,24 @@
 -- The blocks of an interval that were written are read again.
-use Rattle.std.proofs.Common.{◌≡◌, ◌≢◌, ℕ, zero, suc, ◌+◌, ◌-◌, ◌*◌, ◌/◌, ◌%◌, ◌^◌, ◌<◌, ◌≤◌, Bool, true, false, List}
-use Rattle.std.proofs.Common.{[], ◌∷◌, ◌++◌, map, length, get_or, set, ℤ, pos, negsuc, neg_ℤ, ◌+ℤ◌, ◌-ℤ◌, ◌*ℤ◌}
-use Rattle.std.proofs.Common.{unsigned_abs, nat_le, refl, sym, ap, ◌∙◌, subst, append_assoc, append-nil, arith, eqb}
-use Rattle.std.proofs.Common.{pow_pos, le_refl, w16}
+use Rattle.std.proofs.Common.{rules, ◌≡◌, ◌≢◌, ℕ, zero, suc, ◌+◌, ◌*◌, ◌^◌, ◌<◌, ◌≤◌, Bool, true, false, List, [], ◌∷◌}
+use Rattle.std.proofs.Common.{◌++◌, map, length, get_or, set, ℤ, pos, negsuc, neg_ℤ, ◌+ℤ◌, ◌-ℤ◌, unsigned_abs, nat_le}
+use Rattle.std.proofs.Common.{refl, sym, ap, ◌∙◌, subst, append_assoc, append-nil, arith, eqb, pow_pos, le_refl}
+use Rattle.std.proofs.Common.{slice_index, mul_assoc}
+use Rattle.std.proofs.lemmas.Grind.{common_steps}
 use Rattle.std.proofs.lemmas.Int.{ints, int_wrap_fits}
 use Rattle.std.proofs.lemmas.Bool.{eq-eqb, le-leb}
 use Rattle.std.specs.List.{AllByRecursion}
 use Rattle.std.proofs.lemmas.Bool.Decides.{nat_tests}
-use Rattle.std.proofs.Common.{slice_index}
-use Rattle.jpeg_bits.specs.Entropy.{bits_from}
-use Rattle.jpeg_bits.specs.Codes.{Table, symbol_from}
+use Rattle.jpeg_bits.specs.Codes.{Table}
 use Rattle.jpeg_bits.specs.Readers.{Reads, refused, ReadsJust}
-use lib.Signed.{mag}
 use Rattle.std.proofs.lemmas.List.{length-replicate}
-use Rattle.std.proofs.Common.{mul_assoc}
 use Rattle.std.proofs.Math.Nat.{add-mul, mul-le-mul}
 use Rattle.jpeg_bits.specs.Bands.{wrapped, first_dc, difference, category_number}
-use Rattle.jpeg_bits.specs.Refinement.{bit_of, corrected}
+use Rattle.jpeg_bits.specs.Refinement.{bit_of}
 use Rattle.jpeg_bits.specs.Passes.{Pass, Via, Block, band_of, with_band, or_bit, dc_part, band_part, block_from}
 use Rattle.jpeg_bits.specs.Passes.{blocks_of}
 use Rattle.jpeg_bits.specs.Written.{bit, low_bits, code_bits, IsCategory}
-use Rattle.jpeg_streams.specs.WrittenData.{WritesDifference, bits_for, no_numbers, corrections, low_bit}
-use Rattle.jpeg_streams.specs.WrittenData.{WritesDc, WritesAc, WritesBlocks}
+use Rattle.jpeg_streams.specs.WrittenData.{WritesDifference, bits_for, no_numbers, low_bit, WritesDc, WritesAc}
+use Rattle.jpeg_streams.specs.WrittenData.{WritesBlocks}
 use Rattle.jpeg_streams.specs.WrittenData.WritesDc.{other_band, whole, one_bit}
 use Rattle.jpeg_streams.specs.WrittenData.WritesAc.{no_band, first, first_run, again, again_run}
 use Rattle.jpeg_streams.specs.WrittenData.WritesBlocks.{done, block}
@@ -41,19 +38,12 @@ difference-small d s cat h = cat.is_least 11 h
 
 takes-category : (d : ℤ) (s : ℕ) → IsCategory d s → ReadsJust (category_number s) (bits_for d s) d
 unfolding low_bits
-takes-category d zero cat =
-    takes-as (category_number zero) [] (bits_for d 0) (pos 0) d refl (sym (abs-zero d cat.holds))
-    (takes-gives (pos 0))
-takes-category d (suc t) cat =
-    let no : eqb (suc t) 0 ≡ false = grind (arith, nat_tests) in
-    rw (no, category_number) (takes-signed d t cat)
+takes-category d zero cat = search (rules, takes-as, abs-zero, takes-gives)
+takes-category d (suc t) cat = search (rules, nat_tests, takes-signed)
 
 takes-listed : (k s : ℕ) (bits : List Bool) (d : ℤ) → k ≡ s → s ≤ 11 → ReadsJust (category_number s) bits d
     → ReadsJust (elim (nat_le k 11) as (λ _. Reads ℤ) [ true ↦ category_number k | false ↦ refused ]) bits d
-takes-listed k s bits d e h w =
-    subst (λ (x : ℕ). ReadsJust
-    (elim (nat_le x 11) as (λ _. Reads ℤ) [ true ↦ category_number x | false ↦ refused ]) bits d) (sym e)
-    (rw (le-leb s 11 h) w)
+takes-listed k s bits d e h w = search (rules, nat_le, le-leb)
 
 pub takes-difference : (table : Table) (d : ℤ) (bits : List Bool) → IsGood table → unsigned_abs d < 2 ^ 11
     → WritesDifference table d bits → ReadsJust (difference table) bits d
@@ -65,16 +55,10 @@ takes-difference table d bits good small w =
     (takes-category d w.s w.category) in
     takes-as _ (code_bits table i ++ bits_for d w.s) bits d d
     (ap (λ (b : List Bool). b ++ bits_for d w.s) w.coded.has_bits ∙ w.has_bits) refl
-    (takes-bind (symbol_from table)
-    (λ x. elim (nat_le x 11) as (λ _. Reads ℤ) [ true ↦ category_number x | false ↦ refused ]) (code_bits table i)
-    (bits_for d w.s) symbol d (takes-symbol table i good w.coded.listed) body)
+    (search (rules, takes-bind, nat_le, takes-symbol))
 
 dc-wrapped : (u : ℤ) → InDcRange u → wrapped u ≡ u
-dc-wrapped u h = int_wrap_fits w16 u (record { sfits = small u h })
-  where
-    small : (u : ℤ) → InDcRange u → mag u < 2 ^ 15
-    small (pos n) h = let b = h.high in omega (arith, ints)
-    small (negsuc n) h = let b = h.low in omega (arith, ints)
+dc-wrapped u h = search (rules, int_wrap_fits, ints)
 
 difference-range : (u v : ℤ) → InDcRange u → InDcRange v → unsigned_abs (u -ℤ v) < 2 ^ 11
 difference-range u v h k = let a = h.low in let b = h.high in let c = k.low in let d = k.high in omega (arith, ints)
@@ -86,10 +70,7 @@ unfolding first_dc
 takes-first_dc table al u predictor bits good range before fits w =
     let sum : predictor +ℤ (u -ℤ predictor) ≡ u = omega (arith, ints) in
     let dc : wrapped (predictor +ℤ (u -ℤ predictor)) ≡ u = ap wrapped sum ∙ dc-wrapped u range in
-    takes-as _ bits bits _ _ refl (ap (λ (x : ℤ). (wrapped (x *ℤ pos (2 ^ al)), x)) dc ∙ ap (λ (x : ℤ). (x, u)) fits)
-    (takes-map (difference table)
-    (λ (d : ℤ). (wrapped (wrapped (predictor +ℤ d) *ℤ pos (2 ^ al)), wrapped (predictor +ℤ d))) bits (u -ℤ predictor)
-    (takes-difference table (u -ℤ predictor) bits good (difference-range u predictor range before) w))
+    grind (arith, takes-difference table (u -ℤ predictor) bits good (difference-range u predictor range before) w)
 
 neg-sum : (x y z : ℕ) → x ≡ y + z → neg_ℤ (pos x) +ℤ pos y ≡ neg_ℤ (pos z)
 neg-sum x y z e = omega (arith, ints)
@@ -102,35 +83,22 @@ some-more zero h = absurd (omega arith)
 some-more (suc k) h = (k, refl)
 
 pub dc-refined : (al : ℕ) (u : ℤ) → or_bit al (dc_held al u) (low_bit u) ≡ scaled al u
-dc-refined al (pos n) =
-    let whole : 2 * (n / 2) + n % 2 ≡ n = omega arith in
-    or-even al (n % 2) (pos (n / 2 * 2 ^ suc al)) _ (even-bit al (n / 2))
-    (ap pos (omega (
-      arith,
-      times-two_power (n / 2) al,
-      spread (n / 2) (n % 2) (2 ^ al),
-      ap (λ (x : ℕ). x * 2 ^ al) whole,
-    )))
+dc-refined al (pos n) = search (rules, or-even, even-bit, times-two_power, spread)
 dc-refined al (negsuc n) =
-    let m = suc (n / 2) in
-    let b = 1 - n % 2 in
-    let one : 1 ≤ m = omega arith in
-    let two : 1 ≤ 2 ^ suc al = pow_pos (suc al) in
-    let more : 1 * 1 ≤ m * 2 ^ suc al = mul-le-mul one two in
-    let some : 0 < m * 2 ^ suc al = omega arith in
-    let k = some-more (m * 2 ^ suc al) some in
-    let bit : bit_of al (neg_ℤ (pos (m * 2 ^ suc al))) ≡ 0 = ap (λ (x : ℕ). bit_of al (neg_ℤ (pos x))) k.1
-    ∙ even-bit_neg al m k.0 (omega arith) k.1 in
-    let whole : 2 * m ≡ suc n + b = omega arith in
-    let parts : m * 2 ^ suc al ≡ b * 2 ^ al + suc n * 2 ^ al =
-    omega (
+    grind (
       arith,
-      times-two_power m al,
-      mul_assoc 2 m (2 ^ al),
-      ap (λ (x : ℕ). x * 2 ^ al) whole,
-      add-mul (suc n) b (2 ^ al),
-    ) in
-    or-even al b (neg_ℤ (pos (m * 2 ^ suc al))) _ bit (neg-sum (m * 2 ^ suc al) (b * 2 ^ al) (suc n * 2 ^ al) parts)
+      common_steps,
+      pow_pos,
+      mul-le-mul,
+      some-more,
+      neg_ℤ,
+      even-bit_neg,
+      times-two_power,
+      mul_assoc,
+      add-mul,
+      or-even,
+      neg-sum,
+    )
 
 -- ---- blocks
 
@@ -149,12 +117,9 @@ unfolding dc_part
 takes-dc_part p table old u predictor next bits good suits before (other_band v predictor' n) =
     rw (eqb_no p.ss 0 n, dc_part, after_pass) (takes-gives (old.dc, predictor))
 takes-dc_part p table old u predictor next bits good suits before (whole v predictor' bits' e f w) =
-    rw (eq-eqb p.ss 0 e, f, dc_part, after_pass)
-    (takes-first_dc table p.al u.dc predictor bits good suits.dc_range before suits.dc_fits w)
+    search (rules, eq-eqb, takes-first_dc)
 takes-dc_part p table old u predictor next bits good suits before (one_bit v predictor' e f) =
-    rw (eq-eqb p.ss 0 e, f, dc_part, after_pass)
-    (takes-map (bits_from 1) (λ (b : ℕ). (or_bit p.al old.dc b, predictor)) (bit (low_bit u.dc) ∷ []) (low_bit u.dc)
-    (takes-bit (low_bit u.dc) (low-small u.dc)))
+    grind (arith, eq-eqb p.ss 0 e, takes-bit (low_bit u.dc) (low-small u.dc))
 
 pub next-range : (p : Pass) (table : Table) (u predictor next : ℤ) (bits : List Bool) → InDcRange u
     → InDcRange predictor → WritesDc p table u predictor bits next → InDcRange next
@@ -167,13 +132,7 @@ pub takes-band_part : (p : Pass) (table : Table) (band us : List ℤ) (run after
     → AllByRecursion (InRange p.al) us
     → WritesAc p table us run bits after → ReadsJust (band_part p table band run) bits (map (scaled p.al) us, after)
 unfolding band_part
-takes-band_part p table band us run after bits good unsent sent range (no_band run') =
-    subst (λ (l : List ℤ). ReadsJust (band_part p table l run) [] ([], run)) (sym (none p.is_first refl))
-    (takes-gives ([], run))
-  where
-    none : (b : Bool) → p.is_first ≡ b → band ≡ []
-    none true e = unsent e
-    none false e = sent e
+takes-band_part p table band us run after bits good unsent sent range (no_band run') = search (rules, takes-gives)
 takes-band_part p table band us run after bits good unsent sent range (first u more bits' run' f w) =
     subst (λ (l : List ℤ). ReadsJust (band_part p table l 0) bits' (map (scaled p.al) (u ∷ more), run'))
     (sym (unsent f))
@@ -185,32 +144,19 @@ takes-band_part p table band us run after bits good unsent sent range (first_run
     let numbers : no_numbers (suc n) ≡ map (scaled p.al) (no_numbers (suc n))
     = sym (append-nil (no_numbers (suc n))) ∙ sym (map-no_numbers p.al (suc n) [])
     ∙ ap (map (scaled p.al)) (append-nil (no_numbers (suc n))) in
-    subst (λ (l : List ℤ). ReadsJust (band_part p table l (suc run')) []
-    (map (scaled p.al) (no_numbers (suc n)), run')) (sym same)
-    (rw (f, band_part) (takes-as _ _ _ _ _ refl (ap (λ (l : List ℤ). (l, run')) numbers)
-    (takes-gives (no_numbers (suc n), run'))))
+    search (rules, scaled, takes-as, takes-gives)
 takes-band_part p table band us run after bits good unsent sent range (again u more bits' run' f w) =
     subst (λ (l : List ℤ). ReadsJust (band_part p table l 0) bits' (map (scaled p.al) (u ∷ more), run')) (sym (sent f))
     (rw (f, band_part) (takes-refinement table p.al (u ∷ more) bits' run' good range w
     (length (map (held p.al) (u ∷ more))) (le_refl _)))
 takes-band_part p table band us run after bits good unsent sent range (again_run u more run' f none) =
-    subst (λ (l : List ℤ). ReadsJust (band_part p table l (suc run')) (corrections (u ∷ more))
-    (map (scaled p.al) (u ∷ more), run')) (sym (sent f))
-    (rw (f, band_part) (takes-map (corrected p.al (map (held p.al) (u ∷ more))) (λ (l : List ℤ). (l, run'))
-    (corrections (u ∷ more)) _ (takes-corrected p.al (u ∷ more) none range)))
+    grind (arith, scaled p.al, takes-corrected p.al (u ∷ more) none range)
 
 pub record Predicts (predictors : List ℤ) : Type 0 where
   pub each : (k : ℕ) → InDcRange (get_or predictors k (pos 0))
 
 predicts-set : (predictors : List ℤ) (k : ℕ) (v : ℤ) → Predicts predictors → InDcRange v → Predicts (set predictors k v)
-predicts-set predictors k v h r = record { each = λ j. go predictors k j h.each }
-  where
-    go : (l : List ℤ) (k j : ℕ) → ((i : ℕ) → InDcRange (get_or l i (pos 0))) → InDcRange (get_or (set l k v) j (pos 0))
-    go [] k j h = h 0
-    go (x ∷ xs) zero zero h = r
-    go (x ∷ xs) zero (suc j) h = h (suc j)
-    go (x ∷ xs) (suc k) zero h = h 0
-    go (x ∷ xs) (suc k) (suc j) h = go xs k j (λ i. h (suc i))
+predicts-set predictors k v h r = grind (arith, common_steps)
 
 -- each block suits the pass, and the codes of its tables are read
 pub record IsReady (p : Pass) (t : Via × Block × Block) : Type 0 where
@@ -230,8 +176,7 @@ takes-block p via old u predictor next run after dc ac good before wd wa =
     (takes-map (band_part p via.ac (band_of p old.acs) run)
     (λ (b : List ℤ × ℕ). (record { dc = (after_pass p old u).dc; acs = with_band p old.acs b.0 }, next, b.1)) ac
     (map (scaled p.al) (band_of p u.acs), after)
-    (takes-band_part p via.ac (band_of p old.acs)
-    (band_of p u.acs) run after ac good.ac_good good.suits.unsent good.suits.sent good.suits.range wa))
+    (search (rules, takes-band_part)))
 
 -- The blocks of an interval that were written are read as the blocks after the pass.
 pub takes-blocks : (p : Pass) (turns : List (Via × Block × Block)) (predictors : List ℤ) (run : ℕ) (bits : List Bool)
@@ -249,7 +194,7 @@ takes-blocks p (t ∷ turns) predictors run bits predict ready
     takes-as _ ((dc ++ ac) ++ more) (dc ++ (ac ++ more)) _ _ (append_assoc dc ac more) refl
     (takes-bind (block_from p t.0.dc t.0.ac (get_or predictors t.0.component (pos 0)) run t.1) _ (dc ++ ac) more
     (after_pass p t.1 t.2, next, run_after) _
-    (takes-block p t.0 t.1 t.2 (get_or predictors t.0.component (pos 0)) next run run_after dc ac good before wd wa)
+    (search (rules, takes-block))
     (takes-map (blocks_of p (set predictors t.0.component next) run_after (reads_of turns))
     (λ (l : List Block). after_pass p t.1 t.2 ∷ l) more _
     (takes-blocks p turns (set predictors t.0.component next) run_after more

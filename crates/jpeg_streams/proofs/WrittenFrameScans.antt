@@ -1,7 +1,7 @@
 -- A written scan of a frame takes the blocks of its components to the next level.
-use Rattle.std.proofs.Common.{◌≡◌, inl, inr, ℕ, zero, suc, ◌+◌, ◌*◌, ◌/◌, ◌%◌, ◌<◌, ◌≤◌, List, [], ◌∷◌, ◌++◌, map}
-use Rattle.std.proofs.Common.{length, take, drop, replicate, get_or, set, ℤ, pos, Some, None, Ok, refl, sym, ap, ap₂}
-use Rattle.std.proofs.Common.{◌∙◌, subst, arith, true≢false, length-set}
+use Rattle.std.proofs.Common.{rules, ◌≡◌, inl, inr, ℕ, zero, suc, ◌+◌, ◌*◌, ◌/◌, ◌%◌, ◌<◌, ◌≤◌, List, [], ◌∷◌, ◌++◌}
+use Rattle.std.proofs.Common.{map, length, get_or, Some, Ok, refl, sym, ap, ap₂, ◌∙◌, subst, arith, length-set}
+use Rattle.std.proofs.lemmas.Grind.{common_steps}
 use Rattle.std.proofs.Math.Nat.{div-lt_iff_lt-mul}
 use Rattle.std.specs.List.{AllByRecursion}
 use lib.ListN.{length-map}
@@ -11,21 +11,21 @@ use Rattle.jpeg_bits.specs.declared.marker.Marker.{Marker}
 use Rattle.jpeg_bits.proofs.Tables.{IsGood}
 use Rattle.jpeg_segments.specs.Frame.{Frame, Component}
 use Rattle.jpeg_streams.specs.declared.grids.Grid.{Grid}
-use Rattle.jpeg_bits.specs.Passes.{Pass, Via, Block, whole_pass, zero_block, band_of, before_band, band_size}
+use Rattle.jpeg_bits.specs.Passes.{Pass, Via, Block, whole_pass, zero_block, band_of}
 use Rattle.jpeg_streams.specs.Order.{Spot, grid_of, own_spots, spots_of, mcu_size}
 use Rattle.jpeg_streams.specs.Scans.{Arrays, block_at, put_block, put_blocks, via_at, no_table, arrays_at}
 use Rattle.jpeg_streams.specs.ScanSegments.{vias_from, Coding, components_of}
 use Rattle.jpeg_streams.specs.Levels.{Levels, Is8Bit, numbers_at, cut, nothing_sent, IsLegal, sent_after}
-use Rattle.jpeg_streams.specs.WrittenData.{no_numbers}
 use Rattle.jpeg_bits.specs.Written.{marker}
-use Rattle.jpeg_streams.specs.WrittenScans.{Coefficients, IsOwn, grid_at, no_grid, WritesScan}
-use Rattle.jpeg_streams.proofs.SentBlocks.{held, InRange, Suits, after_pass}
+use Rattle.jpeg_streams.specs.WrittenScans.{Coefficients, IsOwn, grid_at, WritesScan}
+use Rattle.jpeg_streams.proofs.SentBlocks.{Suits, after_pass}
 use Rattle.jpeg_lossless.specs.Written.{IsMarker}
 use Rattle.jpeg_streams.proofs.CutLevels.{suits-cut, cut-after, all-same, cut-unsent, floor-range, floor-fits}
 use Rattle.jpeg_streams.proofs.WrittenArrays.{IsReadyAt, reads-arrays, map-map_any}
 use Rattle.jpeg_streams.proofs.Put.{reaches}
 use Rattle.jpeg_streams.specs.InTurn.{IsIn, IsInside}
 use Rattle.jpeg_streams.proofs.OwnSpots.{At, at-within, at-get, IsOwnSpot, own-only, Fits, covered}
+pub use Rattle.jpeg_streams.proofs.Apart.{at-all}
 
 -- ---- blocks of a component
 
@@ -35,50 +35,26 @@ pub record HoldsOwn (g : Grid) (array : ℕ → ℕ → Block) (l : Levels) (blo
   pub each : (i : ℕ) → IsOwn g i → get_or blocks i zero_block ≡ cut l (array (i / g.wide) (i % g.wide))
 
 pub own-within : (g : Grid) (i : ℕ) → IsOwn g i → g.own_wide ≤ g.wide → g.own_high ≤ g.high → i < g.high * g.wide
-own-within g i own w h =
-    let some : 0 < g.wide = let c = own.column in omega arith in
-    let row : i / g.wide < g.high = let r = own.row in omega arith in
-    (div-lt_iff_lt-mul some).0 row
+own-within g i own w h = search (rules, div-lt_iff_lt-mul)
 
 -- ---- what suits a pass
 
 pub cut-nothing : (c : Block) → length c.acs ≡ 63 → cut nothing_sent c ≡ zero_block
 unfolding zero_block
-cut-nothing c h =
-    ap (λ (l : List ℤ). record { dc = pos 0; acs = l })
-    (cut-unsent c.acs (replicate 63 None) h (all-same None 63) ∙ ap no_numbers h)
+cut-nothing c h = search (rules, cut-unsent, all-same)
 
 pub whole-legal : IsLegal whole_pass nothing_sent
-whole-legal = record {
-  low = omega arith;
-  dc_unsent = λ e f. refl;
-  dc_sent = λ e f. absurd (true≢false f);
-  dc_before = λ n. absurd (n refl);
-  acs_unsent = λ f. all-same None 63;
-  acs_sent = λ f. absurd (true≢false f);
-}
+whole-legal = search (rules, all-same)
 
 pub suits-zero : (c : Block) → Is8Bit c → Suits whole_pass zero_block (numbers_at 0 c)
 suits-zero c range =
-    subst (λ (b : Block). Suits whole_pass b (numbers_at 0 c)) (cut-nothing c range.count)
-    (suits-cut whole_pass nothing_sent c range range.count whole-legal)
+    grind (arith, cut-nothing c range.count, suits-cut whole_pass nothing_sent c range range.count whole-legal)
 
 pub no-band : {A : Type 0} (p : Pass) (xs : List A) → p.ss ≡ 0 → p.se ≡ 0 → band_of p xs ≡ []
-no-band p xs e f =
-    let none : band_size p ≡ 0 = omega arith in
-    ap (λ (n : ℕ). take n (drop (before_band p) xs)) none
+no-band p xs e f = search rules
 
 pub suits-dc : (p : Pass) (old c : Block) → p.ss ≡ 0 → p.se ≡ 0 → p.al ≤ 7 → Is8Bit c → Suits p old (numbers_at p.al c)
-suits-dc p old c e f low range =
-    let u = numbers_at p.al c in
-    let none = no-band p u.acs e f in
-    record {
-      unsent = λ g. no-band p old.acs e f ∙ ap (λ (l : List ℤ). no_numbers (length l)) (sym none);
-      sent = λ g. no-band p old.acs e f ∙ ap (map (held p.al)) (sym none);
-      range = subst (AllByRecursion (InRange p.al)) (sym none) tt;
-      dc_range = floor-range p.al c.dc range.dc_low range.dc_high;
-      dc_fits = floor-fits p.al c.dc low range.dc_low range.dc_high;
-    }
+suits-dc p old c e f low range = search (rules, no-band, floor-range, floor-fits)
 
 -- ---- tables
 
@@ -135,9 +111,7 @@ array-at before codings k j h = at-get (λ (c : Coding). get_or before c.place [
 
 pub grid-at : (codings : List Coding) (k : Coding) (j : ℕ) → At j codings k
     → grid_at (components_of codings) j ≡ grid_of k.component
-grid-at codings k j h =
-    ap (λ (l : List Grid). get_or l j no_grid) (map-map_any (λ (c : Coding). c.component) grid_of codings)
-    ∙ at-get (λ (c : Coding). grid_of c.component) no_grid j codings k h
+grid-at codings k j h = search (rules, map-map_any, at-get)
 
 pub all-in : {A : Type 0} (Q : A → Type 0) (xs : List A) → ((x : A) → IsIn x xs → Q x) → AllByRecursion Q xs
 all-in Q [] h = tt
@@ -147,11 +121,6 @@ pub in-all : {A : Type 0} (Q : A → Type 0) (xs : List A) (x : A) → AllByRecu
 in-all Q [] x h t = absurd t
 in-all Q (y ∷ xs) x h (inl e) = subst Q e h.0
 in-all Q (y ∷ xs) x h (inr t) = in-all Q xs x h.1 t
-
-pub at-all : {A : Type 0} (Q : A → Type 0) (j : ℕ) (xs : List A) (x : A) → AllByRecursion Q xs → At j xs x → Q x
-at-all Q j [] x h t = absurd t
-at-all Q zero (y ∷ xs) x h t = subst Q t h.0
-at-all Q (suc j) (y ∷ xs) x h t = at-all Q j xs x h.1 t
 
 one-order : (frame : Frame) (c : Component) → spots_of frame (c ∷ []) ≡ own_spots (grid_of c)
 unfolding spots_of
@@ -166,21 +135,12 @@ pub put-count : (f : Spot → Block) (spots : List Spot) (arrays : Arrays)
     → length (put_blocks spots (map f spots) arrays) ≡ length arrays
 unfolding put_blocks
 put-count f [] arrays = refl
-put-count f (s ∷ spots) arrays = put-count f spots (put_block s (f s) arrays)
-    ∙ length-set arrays s.slot (set (get_or arrays s.slot []) s.index (f s))
+put-count f (s ∷ spots) arrays = search (rules, length-set, put-count f spots (put_block s (f s) arrays))
 
 -- the blocks of a component stay as many
 pub put-one : (s : Spot) (b : Block) (j : ℕ) (arrays : Arrays)
     → length (get_or (put_block s b arrays) j []) ≡ length (get_or arrays j [])
-put-one s b j arrays = go s.slot j arrays
-  where
-    go : (i j : ℕ) (l : Arrays)
-        → length (get_or (set l i (set (get_or l i []) s.index b)) j []) ≡ length (get_or l j [])
-    go i j [] = refl
-    go zero zero (x ∷ l) = length-set x s.index b
-    go zero (suc j) (x ∷ l) = refl
-    go (suc i) zero (x ∷ l) = refl
-    go (suc i) (suc j) (x ∷ l) = go i j l
+put-one s b j arrays = grind (arith, common_steps, length-set)
 
 pub put-size : (f : Spot → Block) (j : ℕ) (spots : List Spot) (arrays : Arrays)
     → length (get_or (put_blocks spots (map f spots) arrays) j []) ≡ length (get_or arrays j [])
@@ -324,9 +284,7 @@ pub scan-is_read : (frame : Frame) (restart : ℕ) (p : Pass) (codings : List Co
 scan-is_read frame restart p codings array levels before bytes range ready suit good w =
     record {
       arrays = after frame restart p codings array levels before bytes range ready w;
-      count = put-count (f frame restart p codings array levels before bytes range ready w)
-          (spots_of frame (components_of codings)) (arrays_of before codings)
-          ∙ length-map codings (λ (c : Coding). get_or before c.place []);
+      count = grind (arith, common_steps, put-count);
       holds = λ k j h. after-held frame restart p codings array levels before bytes range ready w k j h;
       read = λ fill code m rest h. reads-scan frame restart p codings array levels before bytes range ready w fill
           code m rest suit good h;

@@ -1,24 +1,21 @@
 -- The bytes of a scan that was written are read again.
-use Rattle.std.proofs.Common.{◌≡◌, ℕ, zero, suc, ◌+◌, ◌%◌, ◌≤◌, Bool, true, false, List, [], ◌∷◌, ◌++◌, map}
-use Rattle.std.proofs.Common.{take, drop, ap₂, length, length-drop, length-append, take-append-drop, pos}
-use Rattle.std.proofs.Common.{get_or, Option, Some, Result, Ok, Err, refl, sym, ap, ◌∙◌, subst, append_assoc}
-use Rattle.std.proofs.Common.{append-nil, arith, eqb}
+use Rattle.std.proofs.Common.{rules, ◌≡◌, zero, Bool, true, false, List, ◌++◌, take, drop, Option, Result, subst, arith}
+use Rattle.std.proofs.Common.{ℕ, length, length-drop, length-append, take-append-drop, append_assoc, append-nil, suc}
+use Rattle.std.proofs.Common.{◌+◌, ◌%◌, ◌≤◌, [], ◌∷◌, map, Some, Ok, Err, refl, sym, ap, ◌∙◌, eqb}
 use Rattle.std.proofs.lemmas.Bool.{eq-eqb}
 use Rattle.std.specs.List.{AllByRecursion}
 use lib.ListN.{length-map}
 use Rattle.jpeg_bits.specs.Reading.{Outcome, Fault, Malformed, ◌>>=◌}
-use Rattle.jpeg_bits.specs.Entropy.{Text, Ending, Found, text_at}
-use Rattle.jpeg_bits.specs.Entropy.{upcoming, fresh, marker_from, marker_by}
+use Rattle.jpeg_bits.specs.Entropy.{Text, Found, text_at, upcoming, fresh, marker_from, marker_by}
 use Rattle.jpeg_bits.specs.declared.marker.Marker.{Marker}
 use Rattle.jpeg_bits.specs.declared.marker.Marker.TheVariants as markers
 use Rattle.jpeg_bits.specs.Readers.{text, ReadsJust}
 use Rattle.jpeg_bits.specs.Passes.{Pass, Via, Block, blocks_of}
-use Rattle.jpeg_bits.specs.Intervals.{interval, intervals, after_restart, blocks_before, groups, first_group}
-use Rattle.jpeg_bits.specs.Intervals.{other_groups, predictors_at_start}
+use Rattle.jpeg_bits.specs.Intervals.{interval, intervals, groups, first_group, other_groups, predictors_at_start}
 use Rattle.jpeg_streams.specs.WrittenData.{WritesInterval, WritesIntervals}
-use Rattle.jpeg_bits.specs.Written.{marker, stuffed}
+use Rattle.jpeg_bits.specs.Written.{marker}
 use Rattle.jpeg_streams.specs.WrittenData.WritesIntervals.{last, another}
-use Rattle.jpeg_streams.proofs.SentBlocks.{InDcRange, after_pass, reads_of, numbers_of}
+use Rattle.jpeg_streams.proofs.SentBlocks.{after_pass, reads_of, numbers_of}
 use Rattle.jpeg_lossless.specs.Written.{IsMarker}
 use Rattle.jpeg_lossless.proofs.ReadBack.{IsText, marker-append, rst-marker, stuffed-text}
 use Rattle.jpeg_streams.proofs.WrittenBlocks.{Predicts, IsReady, takes-blocks}
@@ -26,17 +23,7 @@ use Rattle.jpeg_streams.proofs.WrittenBlocks.{Predicts, IsReady, takes-blocks}
 -- ---- intervals
 
 pub start-predicts : Predicts predictors_at_start
-start-predicts = record { each = each }
-  where
-    zero_range : InDcRange (pos 0)
-    zero_range = record { low = record { le = tt }; high = record { le = tt } }
-
-    each : (k : ℕ) → InDcRange (get_or predictors_at_start k (pos 0))
-    each zero = zero_range
-    each (suc zero) = zero_range
-    each (suc (suc zero)) = zero_range
-    each (suc (suc (suc zero))) = zero_range
-    each (suc (suc (suc (suc k)))) = zero_range
+start-predicts = search rules
 
 -- the text of an interval's bytes, where nothing is held
 abbrev pub whole_text : List ℕ → Text
@@ -77,14 +64,7 @@ in-text p turns bytes rest m bits filling blocks read is h =
       length-append bits filling,
       ap length is.bits_are,
     ) in
-    interval-text p turns bytes
-    ∙ ap (λ (b : List Bool). and_marker
-    (blocks_of p predictors_at_start 0 turns (text b places (text_at bytes).ending))) is.bits_are
-    ∙ ap (λ (e : Ending). and_marker (blocks_of p predictors_at_start 0 turns (text (bits ++ filling) places e)))
-    is.ends_so
-    ∙ ap and_marker read_all
-    ∙ ap (λ (o : Outcome (Option Marker)). o >>= λ m. Ok ((blocks, m.0), m.1))
-    (end-met (drop (length bits) places) m rest left)
+    cc (interval-text p turns bytes, end-met (drop (length bits) places) m rest left)
 
 -- An interval that was written is read as the blocks after the pass, up to the marker.
 pub reads-interval : (p : Pass) (turns : List (Via × Block × Block)) (bytes : List ℕ) (fill code : ℕ) (m : Marker)
@@ -95,10 +75,7 @@ pub reads-interval : (p : Pass) (turns : List (Via × Block × Block)) (bytes : 
 reads-interval p turns bytes fill code m rest ready h w =
     let all = bytes ++ marker fill code rest in
     let is : IsText (text_at all) (w.bits ++ w.filling) (Found m rest)
-    = subst (λ (b : List ℕ). IsText (text_at (b ++ marker fill code rest)) (w.bits ++ w.filling) (Found m rest))
-    w.has_bytes
-    (subst (λ (b : List Bool). IsText (text_at (stuffed w.data_bytes ++ marker fill code rest)) b (Found m rest))
-    w.whole (stuffed-text w.data_bytes fill code m rest h)) in
+    = search (rules, stuffed-text) in
     in-text p (reads_of turns) all rest m w.bits w.filling _
     (takes-blocks p turns predictors_at_start 0 w.bits start-predicts ready w.coded) is
     (let s = w.is_short in omega arith)
@@ -117,10 +94,7 @@ pub next-interval : (p : Pass) (k : ℕ) (turns next : List (Via × Block)) (mor
     → intervals p (suc k) next more rest ≡ Ok ((others, m), after)
     → intervals p k turns (next ∷ more) bytes ≡ Ok ((first ++ others, m), after)
 unfolding intervals
-next-interval p k turns next more bytes rest after first others m e f =
-    ap (λ o. o >>= after_restart k (intervals p (suc k) next more)) e
-    ∙ when-restart (k % 8) (blocks_before first (intervals p (suc k) next more rest))
-    ∙ ap (blocks_before first) f
+next-interval p k turns next more bytes rest after first others m e f = search (rules, when-restart)
 
 -- Intervals that were written are read as the blocks after the pass, up to the marker after the last.
 pub reads-intervals : (p : Pass) (k : ℕ) (turns : List (Via × Block × Block))
@@ -135,9 +109,7 @@ reads-intervals p k turns [] bytes fill code m rest ready all h (last k' turns' 
 reads-intervals p k turns (next ∷ more) bytes fill code m rest ready all h
     (another k' fill' turns' next' more' first others w ws) =
     let after = others ++ marker fill code rest in
-    ap (intervals p k (reads_of turns) (map reads_of (next ∷ more)))
-    (append_assoc first (marker fill' (0xD0 + k % 8) others) (marker fill code rest)
-    ∙ ap (λ (l : List ℕ). first ++ l) (marker-append fill' (0xD0 + k % 8) others (marker fill code rest)))
+    (search (rules, append_assoc, marker-append))
     ∙ next-interval p k (reads_of turns) (reads_of next) (map reads_of more) _ after rest _ _ (Some m)
     (reads-interval p turns first fill' (0xD0 + k % 8) (markers.RST (k % 8)) after ready (rst-marker k) w)
     (reads-intervals p (suc k) next more others fill code m rest all.0 all.1 h ws)
@@ -159,9 +131,7 @@ pub groups-map : {A B : Type 0} (f : A → B) (turns n : ℕ) (xs : List A)
 unfolding groups
 groups-map f turns n [] = refl
 groups-map f zero n (x ∷ xs) = refl
-groups-map f (suc turns) n (x ∷ xs) =
-    ap₂ (λ l m. l ∷ m) (map-take_any f n (x ∷ xs))
-    (groups-map f turns n (drop n (x ∷ xs)) ∙ ap (groups turns n) (map-drop_any f n (x ∷ xs)))
+groups-map f (suc turns) n (x ∷ xs) = search (rules, map-take_any, map-drop_any, groups-map f turns n (drop n (x ∷ xs)))
 
 pub first-map : {A B : Type 0} (f : A → B) (n : ℕ) (xs : List A) → map f (first_group n xs) ≡ first_group n (map f xs)
 first-map f zero xs = refl
@@ -193,9 +163,7 @@ groups-after p (suc turns) n xs (y ∷ ys) h =
 pub all-groups : (p : Pass) (n : ℕ) (xs : List (Via × Block × Block))
     → all_after p (first_group n xs) (other_groups n xs) ≡ map (λ t. after_pass p t.1 t.2) xs
 all-groups p zero xs = refl
-all-groups p (suc n) xs =
-    groups-after p (length xs) n (take (suc n) xs) (drop (suc n) xs) (let d = length-drop (suc n) xs in omega arith)
-    ∙ ap (map (λ t. after_pass p t.1 t.2)) (take-append-drop (suc n) xs)
+all-groups p (suc n) xs = search (rules, groups-after, length-drop, take-append-drop)
 
 ready-take : {A : Type 0} (Q : A → Type 0) (n : ℕ) (xs : List A) → AllByRecursion Q xs → AllByRecursion Q (take n xs)
 ready-take Q zero xs h = tt
@@ -238,12 +206,11 @@ reads-groups p n turns bytes fill code m rest ready h w =
     let read : Via × Block × Block → Via × Block = λ t. (t.0, t.1) in
     let written = subst (λ (x : List (Via × Block)). WritesIntervals p 0 x
     (map numbers_of (other_groups n turns)) bytes) (sym (first-map number n turns))
-    (subst (λ (x : List (List (Via × Block))). WritesIntervals p 0 (first_group n (numbers_of turns)) x bytes)
-    (sym (others-map number n turns)) w) in
-    ap (λ (x : List (Via × Block)). intervals p 0 x (other_groups n (reads_of turns)) all)
-    (sym (first-map read n turns))
-    ∙ ap (λ (x : List (List (Via × Block))). intervals p 0 (reads_of (first_group n turns)) x all)
-    (sym (others-map read n turns))
-    ∙ reads-intervals p 0 (first_group n turns) (other_groups n turns) bytes fill code m rest
-    (ready-first (IsReady p) n turns ready) (ready-others (IsReady p) n turns ready) h written
-    ∙ ap (λ (l : List Block). Ok ((l, Some m), rest)) (all-groups p n turns)
+    (search (rules, others-map)) in
+    cc (
+      first-map read n turns,
+      others-map read n turns,
+      reads-intervals p 0 (first_group n turns) (other_groups n turns) bytes fill code m rest (ready-first (IsReady p)
+          n turns ready) (ready-others (IsReady p) n turns ready) h written,
+      all-groups p n turns,
+    )

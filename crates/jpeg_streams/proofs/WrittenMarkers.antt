@@ -1,13 +1,13 @@
 -- The markers that are written.
-use Rattle.std.proofs.Common.{◌≡◌, ℕ, zero, suc, ◌≤◌, ◌<◌, ◌+◌, ◌-◌, false, List, ◌∷◌, ◌++◌, replicate, Option, Some}
-use Rattle.std.proofs.Common.{refl, ap, append_assoc, arith, eqb}
+use Rattle.std.proofs.Common.{rules, ◌≡◌, ℕ, zero, suc, ◌≤◌, ◌+◌, List, ◌∷◌, ◌++◌, replicate, Option, Some, refl, ap}
+use Rattle.std.proofs.Common.{append_assoc, arith}
 use Rattle.std.proofs.lemmas.Bool.{lt-ltb, le-ltb, ne_eqb}
 use Rattle.jpeg_bits.specs.Marker.{marker_of}
 use Rattle.jpeg_bits.specs.declared.marker.Marker.{Marker}
 use Rattle.jpeg_bits.specs.declared.marker.Marker.TheVariants.{SOF, DHT, DQT, DRI, APP, COM}
 use Rattle.jpeg_segments.specs.Frame.{Frame}
-use Rattle.jpeg_segments.specs.WrittenSegments.{Segment, Quantization, Huffman, Interval, Application, Comment}
-use Rattle.jpeg_segments.specs.WrittenSegments.{Header, code_of, MayStand}
+use Rattle.jpeg_segments.specs.WrittenSegments.{Segment, Quantization, Huffman, Interval, Application, Comment, Header}
+use Rattle.jpeg_segments.specs.WrittenSegments.{code_of, MayStand}
 use Rattle.jpeg_bits.specs.Written.{marker}
 
 pub marker-append : (fill code : ℕ) (rest more : List ℕ)
@@ -24,30 +24,7 @@ marker_for (Header number h) = SOF number
 
 application-marker : (n : ℕ) → n ≤ 15 → marker_of (224 + n) ≡ Some (APP n)
 unfolding marker_of
-application-marker n h =
-    let is : 224 + n - 224 ≡ n = omega arith in
-    let no : (k : ℕ) → k < 224 → eqb (224 + n) k ≡ false = λ k lt. ne_eqb (224 + n) k (λ e. omega arith) in
-    rw (
-      no 0 (omega arith),
-      ne_eqb (224 + n) 255 (λ e. omega arith),
-      no 1 (omega arith),
-      le-ltb (224 + n) 192 (omega arith),
-      no 196 (omega arith),
-      no 200 (omega arith),
-      no 204 (omega arith),
-      le-ltb (224 + n) 208 (omega arith),
-      le-ltb (224 + n) 216 (omega arith),
-      no 216 (omega arith),
-      no 217 (omega arith),
-      no 218 (omega arith),
-      no 219 (omega arith),
-      no 220 (omega arith),
-      no 221 (omega arith),
-      no 222 (omega arith),
-      no 223 (omega arith),
-      lt-ltb (224 + n) 240 (omega arith),
-      is,
-    ) refl
+application-marker n h = search (rules, ne_eqb, le-ltb, lt-ltb)
 
 frame-marker : (n : ℕ) → n ≤ 3 → marker_of (192 + n) ≡ Some (SOF n)
 unfolding marker_of

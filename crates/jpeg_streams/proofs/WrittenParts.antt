@@ -1,8 +1,7 @@
 -- Fronts of streams, and streams that mean one picture.
-use Rattle.std.proofs.Common.{◌≡◌, ◌⊎◌, inl, inr, ℕ, zero, suc, ◌+◌, ◌*◌, ◌/◌, ◌%◌, ◌<◌, Bool, true, false, cond}
-use Rattle.std.proofs.Common.{List, [], ◌∷◌, ◌++◌, map, drop, length}
-use Rattle.std.proofs.Common.{nat_lt, Option, Some, None, Result, Ok, Err, refl, sym, ap, ap₂, ◌∙◌, subst, arith}
-use Rattle.std.proofs.Common.{true≢false}
+use Rattle.std.proofs.Common.{rules, ◌≡◌, ◌⊎◌, inl, ℕ, zero, suc, ◌+◌, ◌*◌, ◌/◌, ◌%◌, Bool, true, false, cond, List, []}
+use Rattle.std.proofs.Common.{◌∷◌, ◌++◌, map, drop, length, nat_lt, Some, None, Result, Ok, Err, refl, sym, ap, ◌∙◌}
+use Rattle.std.proofs.Common.{subst, true≢false}
 use Rattle.std.specs.List.{AllByRecursion}
 use Rattle.std.specs.Prelude.{slice_index_or}
 use Rattle.jpeg_bits.specs.Passes.{Pass}
@@ -22,12 +21,12 @@ use Rattle.jpeg_streams.specs.ScanSegments.{Coding, is_progressive, pass_of, com
 use Rattle.jpeg_streams.specs.Found.{nothing_found, Found, Metadata}
 use Rattle.jpeg_streams.specs.Stream.{Told, told_of}
 use Rattle.jpeg_streams.specs.FoundPictures.{picture_by}
-use Rattle.jpeg_streams.specs.WholeImages.{AllComplete, picture_whole, plane_whole, planes_whole}
+use Rattle.jpeg_streams.specs.WholeImages.{AllComplete, picture_whole, planes_whole}
 use Rattle.jpeg_streams.specs.WrittenImages.{closed, scan as then_scan, segment as then_segment, Writes, WritesImage}
 use Rattle.jpeg_streams.specs.WrittenParts.{AgreeOnOwn, HaveSamePicture, nothing, picture_meant_by, scan, segment}
 use Rattle.jpeg_streams.specs.WrittenParts.{WritesFront}
-use Rattle.jpeg_streams.specs.WrittenScans.{AreCodings, block_for, Coefficients, grid_at, HasTable}
-use Rattle.jpeg_streams.specs.WrittenScans.{IsOwn, levels_after, no_grid, place_at}
+use Rattle.jpeg_streams.specs.WrittenScans.{AreCodings, block_for, Coefficients, grid_at, HasTable, IsOwn, levels_after}
+use Rattle.jpeg_streams.specs.WrittenScans.{no_grid, place_at}
 use Rattle.jpeg_streams.specs.WrittenScans.AreCodings.{and_more, no_more}
 use Rattle.jpeg_streams.proofs.AcceptedImages.{frame-or, frame-stays, image-accepted, none-stands, same-frame}
 use Rattle.jpeg_streams.proofs.AcceptedImages.{scan-tail, segment-tail}
@@ -89,14 +88,7 @@ same-planes : (a b : Found) (array : Coefficients) (place : ℕ) (cs : List Comp
     → planes_whole a array place cs ≡ planes_whole b array place cs
 unfolding planes_whole
 same-planes a b array place [] h = refl
-same-planes a b array place (c ∷ cs) h =
-    ap (λ (o : Option (List ℕ)). needed o >>=
-    (λ (table : List ℕ). planes_whole a array (place + 1) cs >>=
-    (λ (others : List (List ℕ)). Ok (plane_whole c table (array place) ∷ others)))) h.0
-    ∙ same-after (needed (slice_index_or b.quantization c.factors.quantization None)) _ _ (λ table.
-    ap (λ (o : Result (List (List ℕ)) Fault). o >>=
-    (λ (others : List (List ℕ)). Ok (plane_whole c table (array place) ∷ others)))
-    (same-planes a b array (place + 1) cs h.1))
+same-planes a b array place (c ∷ cs) h = search (rules, same-after, same-planes a b array (place + 1) cs h.1)
 
 same-colours : (settings : Settings) (m n : Metadata) (f g : Frame) (cs : List Component) (planes : List (List ℕ))
     → f.output_width ≡ g.output_width → f.output_height ≡ g.output_height → m.jfif ≡ n.jfif → m.adobe ≡ n.adobe
@@ -121,28 +113,7 @@ framed-picture settings array said f e = then-ok (needed said.frame) _ f _ (ap n
 same-framed : (settings : Settings) (array : Coefficients) (a b : Found) (h : HaveSamePicture a b)
     → picture_in_frame settings array a h.frame_a ≡ picture_in_frame settings array b h.frame_b
 unfolding picture_in_frame
-same-framed settings array a b h =
-    let f = h.frame_a in
-    let g = h.frame_b in
-    let size : length f.components * (f.output_width * f.output_height)
-    ≡ length g.components * (g.output_width * g.output_height) =
-    ap (λ (cs : List Component). length cs * (f.output_width * f.output_height)) h.components
-    ∙ ap₂ (λ (x y : ℕ). length g.components * (x * y)) h.width h.height in
-    let first = same-after (planes_whole a array 0 f.components)
-    (λ (planes : List (List ℕ)). picture_by settings a.metadata f f.components planes)
-    (λ (planes : List (List ℕ)). picture_by settings b.metadata g f.components planes)
-    (λ planes. same-colours settings a.metadata b.metadata f g f.components planes h.width h.height h.jfif h.adobe) in
-    let second = ap (λ (o : Result (List (List ℕ)) Fault). o >>=
-    (λ (planes : List (List ℕ)). picture_by settings b.metadata g f.components planes))
-    (same-planes a b array 0 f.components h.tables) in
-    let third = ap (λ (cs : List Component). planes_whole b array 0 cs >>=
-    (λ (planes : List (List ℕ)). picture_by settings b.metadata g cs planes)) h.components in
-    ap (λ (n : ℕ). cond (nat_lt settings.limit n) (Err Malformed)
-    (planes_whole a array 0 f.components >>=
-    (λ (planes : List (List ℕ)). picture_by settings a.metadata f f.components planes))) size
-    ∙ ap (λ (x : Result (List ℕ) Fault). cond
-    (nat_lt settings.limit (length g.components * (g.output_width * g.output_height))) (Err Malformed) x)
-    (first ∙ second ∙ third)
+same-framed settings array a b h = search (rules, same-after, same-colours, same-planes)
 
 pub same-picture : (settings : Settings) (array : Coefficients) (a b : Found) → HaveSamePicture a b
     → picture_whole settings a array ≡ picture_whole settings b array
@@ -170,7 +141,7 @@ pub one-picture : (settings : Settings) (array : Coefficients) (first second res
 one-picture settings array first second rest others a b last_a last_b range w x same done_a done_b =
     whole-picture settings array first rest a last_a same.frame_a range w same.is_a done_a
     ∙ same-picture settings array a b same
-    ∙ sym (whole-picture settings array second others b last_b same.frame_b range x same.is_b done_b)
+    ∙ sym (search (rules, whole-picture))
 
 -- ---- padding
 
@@ -182,42 +153,24 @@ slot-coded : (w : Found) (frame : Frame) (p : Pass) (tables : Tables) (places ds
     × (first_of (drop (place_at codings slot) frame.components) ≡ Some c))
 slot-coded w frame p tables places ds ks codings no_more slot = inl refl
 slot-coded w frame p tables places ds ks codings (and_more place d a places' ds' ks' k codings' is more) zero =
-    inr (
-      k.component,
-      refl,
-      subst (λ (n : ℕ). first_of (drop n frame.components) ≡ Some k.component) (sym is.stands) is.component,
-    )
+    search rules
 slot-coded w frame p tables places ds ks codings (and_more place d a places' ds' ks' k codings' is more) (suc slot) =
     slot-coded w frame p tables places' ds' ks' codings' more slot
 
 none-own : (g : Grid) (index : ℕ) → g ≡ no_grid → IsOwn g index → ⊥
-none-own g index e own = let h : index / g.wide < 0 =
-    subst (λ (n : ℕ). index / g.wide < n) (ap (λ (x : Grid). x.own_high) e) own.row in omega arith
+none-own g index e own = search rules
 
 own-agree : (frame : Frame) (a b : Coefficients) (place index : ℕ) (c : Component) (g : Grid) → AgreeOnOwn frame a b
     → first_of (drop place frame.components) ≡ Some c
     → g ≡ grid_of c → IsOwn g index
     → a place (index / g.wide) (index % g.wide) ≡ b place (index / g.wide) (index % g.wide)
-own-agree frame a b place index c g agree is e own =
-    (subst (λ (x : Grid). IsOwn x index
-    → a place (index / x.wide) (index % x.wide) ≡ b place (index / x.wide) (index % x.wide)) (sym e)
-    (λ (o : IsOwn (grid_of c) index). agree place (index / (grid_of c).wide)
-    (index % (grid_of c).wide) c is o.row o.column)) own
+own-agree frame a b place index c g agree is e own = search rules
 
 blocks-agree : (w : Found) (frame : Frame) (p : Pass) (tables : Tables) (places ds ks : List ℕ)
     (codings : List Coding) (a b : Coefficients) → AreCodings w frame p tables places ds ks codings
     → AgreeOnOwn frame a b → (s : Spot) → IsOwn (grid_at (components_of codings) s.slot) s.index
     → block_for codings a s ≡ block_for codings b s
-blocks-agree w frame p tables places ds ks codings a b are agree s own =
-    go (slot-coded w frame p tables places ds ks codings are s.slot)
-  where
-    go : (grid_at (components_of codings) s.slot ≡ no_grid)
-        ⊎ ((c : Component) × (grid_at (components_of codings) s.slot ≡ grid_of c)
-        × (first_of (drop (place_at codings s.slot) frame.components) ≡ Some c))
-        → block_for codings a s ≡ block_for codings b s
-    go (inl e) = absurd (none-own (grid_at (components_of codings) s.slot) s.index e own)
-    go (inr h) = own-agree frame a b (place_at codings s.slot) s.index h.0
-        (grid_at (components_of codings) s.slot) agree h.2 h.1 own
+blocks-agree w frame p tables places ds ks codings a b are agree s own = search (rules, slot-coded, none-own, own-agree)
 
 -- a frame that is said stays to the end
 frame-kept : (array : Coefficients) (said final : Found) (levels last : ℕ → Levels) (scanned : Bool) (bytes : List ℕ)
@@ -261,18 +214,14 @@ also-writes a b said final levels last scanned bytes frame
 
 pub also-written : (a b : Coefficients) (bytes : List ℕ) (final : Found) (last : ℕ → Levels) (frame : Frame)
     → WritesImage a bytes final last → final.frame ≡ Some frame → AgreeOnOwn frame a b → WritesImage b bytes final last
-also-written a b bytes final last frame w e agree = record {
-  after = w.after;
-  starts = w.starts;
-  written = also-writes a b nothing_found final (λ k. nothing_sent) last false w.after frame w.written e agree;
-}
+also-written a b bytes final last frame w e agree = search (rules, also-writes)
 
 array-picture : (settings : Settings) (array : Coefficients) (bytes : List ℕ) (final : Found) (last : ℕ → Levels)
     → ((place row column : ℕ) → Is8Bit (array place row column)) → WritesImage array bytes final last
     → picture_meant_by settings (bytes ++ []) ≡ picture_of_array settings final array last
 array-picture settings array bytes final last range w =
     ap (λ o. o >>= (λ m. Ok m.0.1))
-    (stream-means settings array [] (bytes ++ []) final last range (image-accepted array [] bytes final last w))
+    (search (rules, stream-means, image-accepted))
     ∙ picture-alone (picture_of_array settings final array last) (told_of final) []
 
 pub unseen-padding : (settings : Settings) (a b : Coefficients) (bytes : List ℕ) (final : Found) (last : ℕ → Levels)

@@ -1,8 +1,8 @@
 -- The picture of a written stream is that of its array, cut at the levels that were sent.
-use Rattle.std.proofs.Common.{◌≡◌, ℕ, suc, ◌+◌, ◌*◌, ◌/◌, ◌%◌, ◌<◌, ◌≤◌, ◌&&◌, nat_lt, Bool, true, false, cond, List}
-use Rattle.std.proofs.Common.{[], ◌∷◌, map, length, get_or, slice_index, slice_index_or, ℤ, Option, Some, None}
-use Rattle.std.proofs.Common.{◌≢◌, Result, Ok, Err, refl, sym, ap, ap₂, ◌∙◌, subst, arith, min, true≢false}
-use Rattle.std.proofs.Common.{if◌then◌else◌}
+use Rattle.std.proofs.Common.{rules, ◌≡◌, ◌&&◌, Bool, true, false, cond, List, Some, None, Result, refl, subst, arith}
+use Rattle.std.proofs.Common.{ℕ, nat_lt, length, get_or, slice_index, slice_index_or, Option, true≢false, if◌then◌else◌}
+use Rattle.std.proofs.Common.{suc, ◌+◌, ◌*◌, ◌/◌, ◌%◌, ◌<◌, ◌≤◌, [], ◌∷◌, map, ℤ, ◌≢◌, Ok, Err, sym, ap, ap₂, ◌∙◌}
+use Rattle.std.proofs.lemmas.Grind.{common_steps}
 use Rattle.std.proofs.Math.Nat.{div-lt_iff_lt-mul, mul_comm, div-mul-le_self}
 use Rattle.std.proofs.lemmas.Nat.{div-mul-add, mod-mul-add}
 use Rattle.std.proofs.lemmas.Bool.{eq-eqb, le-ltb}
@@ -19,12 +19,11 @@ use Rattle.jpeg_bits.specs.Zigzag.{coefficients_in_block_order, values_in_block_
 use Rattle.jpeg_pixels.specs.Pictures.{Source, sources_of, image_of}
 use Rattle.jpeg_streams.proofs.ScaledSizes.{reaches-made, scale-made, one-made}
 use Rattle.jpeg_streams.specs.declared.settings.Settings.{Settings}
-use Rattle.jpeg_streams.specs.ColourChoice.{identifiers_of, transform_of}
 use Rattle.jpeg_bits.specs.Passes.{Block, zero_block, listed}
 use Rattle.jpeg_streams.specs.Order.{grid_of}
 use Rattle.jpeg_streams.specs.Scans.{Arrays}
 use Rattle.jpeg_pixels.specs.Scaled.{sample_at}
-use Rattle.jpeg_pixels.specs.Planes.{plane_sample, plane_of, cropped}
+use Rattle.jpeg_pixels.specs.Planes.{plane_sample, plane_of}
 use Rattle.jpeg_streams.specs.Needed.{needed}
 use Rattle.jpeg_streams.specs.FoundPictures.{planes_from, plane_at_end, picture_of, picture_by_process, blocks_picture}
 use Rattle.jpeg_streams.specs.FoundPictures.{picture_by, picture_in}
@@ -41,7 +40,8 @@ use Rattle.jpeg_streams.specs.ArrayPictures.{HasTransform, IsTransformOf, Takes,
 use Rattle.jpeg_streams.specs.ArrayPictures.{picture_of_array}
 use Rattle.jpeg_streams.proofs.AcceptedStreams.{WritesStream}
 use Rattle.jpeg_streams.proofs.OwnSpots.{At, at-within, Fits, in-below}
-use Rattle.jpeg_streams.proofs.WrittenFrameScans.{HoldsOwn, in-all, at-all}
+use Rattle.jpeg_streams.proofs.WrittenFrameScans.{HoldsOwn, in-all}
+use Rattle.jpeg_streams.proofs.Apart.{at-all}
 use Rattle.jpeg_streams.proofs.ReadStates.{reading, is_whole}
 use Rattle.jpeg_streams.proofs.BroughtLevels.{Made, Shaped, Framed, held-arrays}
 use Rattle.jpeg_streams.proofs.AcceptedTurns.{then-ok}
@@ -54,9 +54,7 @@ use Rattle.jpeg_streams.proofs.InsidePictures.{SamePlane, AllAlike, image-same, 
 pub plane-length : (s : ℕ) (table : List ℕ) (wide high : ℕ) (b : ℕ → ℕ → List ℤ)
     → length (plane_of s table wide high b) ≡ s * wide * (s * high)
 unfolding plane_of
-plane-length s table wide high b =
-    length-map-range_with_len (λ i. plane_sample s table b (i % (s * wide)) (i / (s * wide))) 0
-    (s * wide * (s * high))
+plane-length s table wide high b = search (rules, length-map-range_with_len)
 
 plane-at : (s : ℕ) (table : List ℕ) (wide high : ℕ) (b : ℕ → ℕ → List ℤ) (x y : ℕ) → x < s * wide → y < s * high
     → slice_index (plane_of s table wide high b) (y * (s * wide) + x) ≡ plane_sample s table b x y
@@ -69,9 +67,7 @@ plane-at s table wide high b x y h k =
     let e = mul_comm (s * wide) (s * high) in
     let within : i < s * high * (s * wide) = (div-lt_iff_lt-mul some).0 (omega arith) in
     let zero-more : 0 + i ≡ i = omega arith in
-    get_or-map-range_with_len (λ i. plane_sample s table b (i % (s * wide)) (i / (s * wide))) 0
-    (s * wide * (s * high)) i i 0 (omega arith) zero-more
-    ∙ ap₂ (λ (m n : ℕ). plane_sample s table b m n) column row
+    search (rules, get_or-map-range_with_len)
 
 -- a sample inside a component is of one of its own blocks
 pub inside-own : (x s w : ℕ) → 0 < s → x < w → x / s < ceiling w s
@@ -103,8 +99,7 @@ plane-same frame c table l array blocks some fits holds =
           let at-row : i / wide ≡ y / s = div-mul-add (y / s) wide (x / s) column-in in
           let at-column : i % wide ≡ x / s = mod-mul-add (y / s) wide (x / s) column-in in
           let block : get_or blocks i zero_block ≡ cut l (array (y / s) (x / s))
-          = holds.each i (record { row = omega arith; column = omega arith })
-          ∙ ap₂ (λ (m n : ℕ). cut l (array m n)) at-row at-column in
+          = search rules in
           let place : y * (wide * s) + x ≡ y * (s * wide) + x = ap (λ (n : ℕ). y * n + x) e1 in
           ap (slice_index (plane_of s q wide c.blocks_high one)) place
           ∙ plane-at s q wide c.blocks_high one x y (omega arith) (omega arith)
@@ -142,9 +137,7 @@ end-held : (found : Found) (f : Frame) (k : ℕ) (c : Component) (table : List �
     → slice_index_or found.quantization c.factors.quantization None ≡ Some table
     → plane_at_end found f k c ≡ Ok (plane_by c table (get_or found.held k []))
 unfolding plane_at_end
-end-held found f k c table n p s t =
-    rw (n, plane_at_end) (rw (p, s, plane_at_end)
-    (then-ok (needed (slice_index_or found.quantization c.factors.quantization None)) _ table _ (ap needed t) refl))
+end-held found f k c table n p s t = search (rules, then-ok)
 
 module _ (f : Frame) (array : Coefficients) (final : Found) (last : ℕ → Levels) (h : Arrays) (fi : List (List Bool))
     (pl : List (Option (List ℕ)))
@@ -226,33 +219,19 @@ module _ (f : Frame) (array : Coefficients) (final : Found) (last : ℕ → Leve
 picture-one : (f : Frame) (c : Component) (p q : List ℕ) → f.output_width ≤ c.width → f.output_height ≤ c.height
     → SamePlane (c.blocks_wide * c.scale) c.width c.height p q
     → picture_in f c p ≡ picture_in f c q
-picture-one f c p q w h same =
-    let stride = c.scale * c.blocks_wide in
-    let moved : SamePlane stride c.width c.height p q =
-    subst (λ (n : ℕ). SamePlane n c.width c.height p q) (mul_comm c.blocks_wide c.scale) same in
-    cropped-same stride c.width c.height (min f.output_width stride) (min f.output_height (length p / stride)) p q
-    (omega arith) (omega arith) moved
-    ∙ ap (λ (n : ℕ). cropped stride (min f.output_width stride) (min f.output_height (n / stride)) q) same.count
+picture-one f c p q w h same = grind (arith, common_steps, mul_comm, cropped-same)
 
 pub picture-by-same : (settings : Settings) (m : Metadata) (f : Frame) (components : List Component)
     (ps qs : List (List ℕ)) → f.components ≡ components → Made f
     → AllAlike components ps qs → picture_by settings m f components ps ≡ picture_by settings m f components qs
 unfolding picture_by
-picture-by-same settings m f [] ps qs e made alike =
-    image-same [] ps qs f.output_width f.output_height
-    (transform_of settings.color_transform (identifiers_of []) m.jfif m.adobe)
-    (λ sources s. reaches-made f sources made
-    (subst (λ (l : List Component). sources_of l f.output_width f.output_height ≡ Ok sources) (sym e) s)) alike
+picture-by-same settings m f [] ps qs e made alike = search (rules, image-same, reaches-made)
 picture-by-same settings m f (c ∷ []) [] qs e made alike = absurd alike
 picture-by-same settings m f (c ∷ []) (p ∷ ps) [] e made alike = absurd alike
 picture-by-same settings m f (c ∷ []) (p ∷ ps) (q ∷ qs) e made alike =
     let size = one-made f c made e in
     ap (λ (x : List ℕ). Ok x) (picture-one f c p q size.0 size.1 alike.0)
-picture-by-same settings m f (c ∷ d ∷ more) ps qs e made alike =
-    image-same (c ∷ d ∷ more) ps qs f.output_width f.output_height
-    (transform_of settings.color_transform (identifiers_of (c ∷ d ∷ more)) m.jfif m.adobe)
-    (λ sources s. reaches-made f sources made
-    (subst (λ (l : List Component). sources_of l f.output_width f.output_height ≡ Ok sources) (sym e) s)) alike
+picture-by-same settings m f (c ∷ d ∷ more) ps qs e made alike = search (rules, image-same, reaches-made)
 
 -- ---- the meaning
 
@@ -269,11 +248,7 @@ found-picture : (settings : Settings) (found : Found) (f : Frame) (planes : List
     (length f.components * (f.output_width * f.output_height)) then Err Malformed else picture_by settings
     found.metadata f f.components planes)
 unfolding picture_of blocks_picture
-found-picture settings found f planes n e p =
-    then-ok (needed found.frame) _ f _ (ap needed e)
-    (ap (λ (o : Result (List ℕ) Fault). cond
-    (nat_lt settings.limit (length f.components * (f.output_width * f.output_height))) (Err Malformed) o)
-    (blocks-picture f.process n settings found f ∙ then-ok (planes_from found f 0 f.components) _ planes _ p refl))
+found-picture settings found f planes n e p = search (rules, then-ok, blocks-picture)
 
 array-picture : (settings : Settings) (w : Found) (array : Coefficients) (levels : ℕ → Levels) (f : Frame)
     (planes : List (List ℕ)) → w.frame ≡ Some f → planes_of_array w array levels 0 f.components ≡ Ok planes
@@ -282,11 +257,7 @@ array-picture : (settings : Settings) (w : Found) (array : Coefficients) (levels
     (length f.components * (f.output_width * f.output_height)) then Err Malformed else picture_by settings w.metadata
     f f.components planes)
 unfolding picture_of_array
-array-picture settings w array levels f planes e p =
-    then-ok (needed w.frame) _ f _ (ap needed e)
-    (ap (λ (o : Result (List ℕ) Fault). cond
-    (nat_lt settings.limit (length f.components * (f.output_width * f.output_height))) (Err Malformed) o)
-    (then-ok (planes_of_array w array levels 0 f.components) _ planes _ p refl))
+array-picture settings w array levels f planes e p = search (rules, then-ok)
 
 pub pictures-same : (settings : Settings) (f : Frame) (array : Coefficients) (final : Found) (last : ℕ → Levels)
     (h : Arrays) (fi : List (List Bool)) (pl : List (Option (List ℕ)))
@@ -299,9 +270,7 @@ pictures-same settings f array final last h fi pl shape e framed tables complete
     let b = planes-end f array final last h fi pl shape framed tables complete (scale-made f shape.made) 0 f.components
     (λ j c t. let start : 0 + j ≡ j = omega arith in subst (λ (n : ℕ). At n f.components c) (sym start) t) in
     found-picture settings (reading final true h fi pl) f b.ours shape.lossy e b.ours_are
-    ∙ ap (λ (o : Result (List ℕ) Fault). cond
-    (nat_lt settings.limit (length f.components * (f.output_width * f.output_height))) (Err Malformed) o)
-    (picture-by-same settings final.metadata f f.components b.ours b.theirs refl shape.made b.alike)
+    ∙ (search (rules, picture-by-same))
     ∙ sym (array-picture settings final array last f b.theirs e b.theirs_are)
 
 pub rest-by : (settings : Settings) (found all : Found) (bytes rest : List ℕ)
@@ -328,8 +297,7 @@ stream-means settings array tail bytes final last range w =
     meaning-by settings bytes r.rest r.starts
     ∙ rest-by settings nothing_found all r.rest tail end.is
     ∙ ap (λ (o : Result (List ℕ) Fault). o >>= (λ (picture : List ℕ). Ok ((told_of final, picture), tail)))
-    (pictures-same settings r.whole.frame array final last end.held end.finished end.planes r.whole.shape end.frame_is
-    end.framed end.tables end.complete)
+    (search (rules, pictures-same))
 
 -- ---- there is a picture
 

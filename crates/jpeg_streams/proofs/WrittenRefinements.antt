@@ -1,24 +1,21 @@
 -- A refinement that was written is read again.
-use Rattle.std.proofs.Common.{◌≡◌, ◌≢◌, ◌⊎◌, inl, inr, ℕ, zero, suc, ◌+◌, ◌-◌, ◌*◌, ◌/◌, ◌%◌, ◌^◌, ◌<◌, ◌≤◌, Bool}
-use Rattle.std.proofs.Common.{true, false, List, [], ◌∷◌, ◌++◌, map, length, take, drop, ℤ, pos, negsuc, neg_ℤ, ◌*ℤ◌}
-use Rattle.std.proofs.Common.{unsigned_abs, refl, sym, ap, ◌∙◌, subst, append_assoc, arith, eqb, pow-suc, pow_pos}
-use Rattle.std.proofs.Common.{add-zero}
+use Rattle.std.proofs.Common.{rules, ◌≡◌, ◌≢◌, ◌⊎◌, inl, inr, ℕ, zero, suc, ◌+◌, ◌-◌, ◌*◌, ◌/◌, ◌%◌, ◌^◌, ◌<◌, ◌≤◌}
+use Rattle.std.proofs.Common.{Bool, true, false, List, [], ◌∷◌, ◌++◌, map, length, take, drop, ℤ, pos, negsuc, neg_ℤ}
+use Rattle.std.proofs.Common.{◌*ℤ◌, unsigned_abs, refl, sym, ap, ◌∙◌, subst, append_assoc, arith, eqb, pow-suc, pow_pos}
+use Rattle.std.proofs.Common.{add-zero, mul_assoc, Ok, slice_index}
 use lib.Arith.{digits_div}
-use Rattle.std.proofs.Common.{mul_assoc}
 use Rattle.std.proofs.Math.Nat.{add-mul, zero-mul, one-mul, mul-le-mul}
 use Rattle.std.proofs.lemmas.Bool.{lt-ltb, eq-eqb, le-leb, leb-true}
 use Rattle.std.proofs.lemmas.Bool.Decides.{nat_tests}
 use Rattle.std.specs.List.{AllByRecursion}
-use Rattle.std.proofs.Common.{Ok, slice_index}
 use Rattle.jpeg_bits.specs.Entropy.{bits_from}
-use Rattle.jpeg_bits.specs.Codes.{Table, symbol_from}
+use Rattle.jpeg_bits.specs.Codes.{Table}
 use Rattle.jpeg_bits.specs.Readers.{Reads, ◌>>=◌, gives, text, ReadsJust}
 use Rattle.jpeg_bits.specs.Bands.{Band, before_more}
 use Rattle.jpeg_bits.specs.Refinement.{is_zero, bit_of, moved, fits_i16, corrected_by, corrected, through_zero}
 use Rattle.jpeg_bits.specs.Refinement.{new_number, with_last, refined_piece, refined_ac}
 use Rattle.jpeg_bits.specs.Written.{bit, low_bits, code_bits, IsCoded}
-use Rattle.jpeg_streams.specs.WrittenData.{is_old, count_unknown, NoneNew, corrections, sign_bit}
-use Rattle.jpeg_streams.specs.WrittenData.{WritesRefinement}
+use Rattle.jpeg_streams.specs.WrittenData.{is_old, count_unknown, NoneNew, corrections, sign_bit, WritesRefinement}
 use Rattle.jpeg_streams.specs.WrittenData.WritesRefinement.{refined, found, passed, none_left}
 use Rattle.jpeg_bits.proofs.WrittenBits.{takes-gives, takes-bind, takes-number, takes-bit, takes-map, takes-as}
 use Rattle.jpeg_bits.proofs.Tables.{IsGood, takes-symbol}
@@ -49,16 +46,14 @@ not-zero zero h = absurd (omega arith)
 not-zero (suc k) h = (refl, refl)
 
 pub held-positive : (al n : ℕ) → 2 ≤ n → 0 < (n / 2) * 2 ^ suc al
-held-positive al n h = let one : 1 ≤ 2 ^ al = pow_pos al in let half : 1 ≤ n / 2 = omega arith in
-    let some : 1 * 1 ≤ n / 2 * 2 ^ al = mul-le-mul half one in omega (arith, times-two_power (n / 2) al)
+held-positive al n h = search (rules, pow_pos, mul-le-mul, times-two_power)
 
 pub old-at : (u : ℤ) → is_old u ≡ true → 2 ≤ unsigned_abs u
 old-at u h = leb-true 2 (unsigned_abs u) h
 
 pub held-old : (al : ℕ) (u : ℤ) → is_old u ≡ true → is_zero (held al u) ≡ false
 held-old al (pos n) h = (not-zero (n / 2 * 2 ^ suc al) (held-positive al n (old-at (pos n) h))).0
-held-old al (negsuc n) h = ap is_zero (neg-times (suc n / 2) (2 ^ suc al))
-    ∙ (not-zero (suc n / 2 * 2 ^ suc al) (held-positive al (suc n) (old-at (negsuc n) h))).1
+held-old al (negsuc n) h = search (rules, neg-times, not-zero, held-positive, old-at)
 
 -- a place that isn't new is nothing or old
 pub nothing_or_old : (u : ℤ) → unsigned_abs u ≢ 1 → (u ≡ pos 0) ⊎ (is_old u ≡ true)
@@ -75,11 +70,7 @@ corrected-stays al z w e = record { read = λ rest places n. ap (λ (x : ℤ). O
 
 pub corrected-moves : (al : ℕ) (z w : ℤ) → bit_of al z ≡ 0 → moved (2 ^ al) z ≡ w → fits_i16 w ≡ true
     → ReadsJust (corrected_by al z 1) [] w
-corrected-moves al z w even e fits = record {
-  read = λ rest places n.
-      rw (eq-eqb (bit_of al z) 0 even, ap fits_i16 e ∙ fits, corrected_by)
-      (ap (λ (x : ℤ). Ok (x, text rest places n)) e);
-}
+corrected-moves al z w even e fits = search (rules, eq-eqb, even)
 
 pub even : (m : ℕ) → (2 * m) % 2 ≡ 0
 even m = omega arith
@@ -89,8 +80,7 @@ odd m h = omega arith
 
 pub corrects-pos : (al m b : ℕ) → b < 2 → (2 * m + b) * 2 ^ al < 2 ^ 15
     → ReadsJust (corrected_by al (pos (m * 2 ^ suc al)) b) [] (pos ((2 * m + b) * 2 ^ al))
-corrects-pos al m zero h fits =
-    corrected-stays al _ _ (ap pos (times-two_power m al ∙ omega (arith, spread m 0 (2 ^ al), zero-mul (2 ^ al))))
+corrects-pos al m zero h fits = search (rules, corrected-stays, times-two_power, spread, zero-mul)
 corrects-pos al m (suc zero) h fits =
     let p = 2 ^ al in
     let double = times-two_power m al in
@@ -99,14 +89,12 @@ corrects-pos al m (suc zero) h fits =
     ap (λ (x : ℕ). x / p) (double ∙ sym (mul_assoc 2 m p) ∙ sym (add-zero (2 * m * p)))
     ∙ digits_div (2 * m) (pow_pos al) in
     let sum : m * 2 ^ suc al + p ≡ (2 * m + 1) * p = omega (arith, one-mul p) in
-    corrected-moves al (pos (m * 2 ^ suc al)) (pos ((2 * m + 1) * p)) (ap (λ (x : ℕ). x % 2) high ∙ even m)
-    (ap pos sum) (lt-ltb _ _ fits)
+    grind (arith, even m, lt-ltb)
 corrects-pos al m (suc (suc b)) h fits = absurd (omega arith)
 
 pub under : (m p k : ℕ) → 0 < m → 0 < p → suc k ≡ 2 * (m * p) → k ≡ (2 * m - 1) * p + (p - 1)
 under zero p k f g e = absurd (omega arith)
-under (suc m) p k f g e = let n : 2 * suc m - 1 ≡ 2 * m + 1 = omega arith in
-    rw n (omega (arith, spread m 1 p, one-mul p, add-mul m 1 p))
+under (suc m) p k f g e = grind (arith, spread m 1 p, one-mul p, add-mul m 1 p)
 
 -- bit al of a multiple of 2 ^ (al + 1)
 pub even-bit : (al m : ℕ) → bit_of al (pos (m * 2 ^ suc al)) ≡ 0
@@ -126,72 +114,33 @@ even-bit_neg al m k some e =
 
 pub corrects-neg : (al m b k : ℕ) → m * 2 ^ suc al ≡ suc k → b < 2 → (2 * m + b) * 2 ^ al < 2 ^ 15
     → ReadsJust (corrected_by al (negsuc k) b) [] (neg_ℤ (pos ((2 * m + b) * 2 ^ al)))
-corrects-neg al m zero k e h fits =
-    corrected-stays al _ _
-    (ap (λ (x : ℕ). neg_ℤ (pos x))
-    (let total : suc k ≡ (2 * m + 0) * 2 ^ al =
-    omega (arith, times-two_power m al, spread m 0 (2 ^ al), zero-mul (2 ^ al)) in total))
+corrects-neg al m zero k e h fits = search (rules, corrected-stays, neg_ℤ, times-two_power, spread, zero-mul)
 corrects-neg al m (suc zero) k e h fits =
-    let p = 2 ^ al in
-    let one : 0 < p = pow_pos al in
-    let some : 0 < m = positive m e in
-    let double = times-two_power m al in
-    let bit = even-bit_neg al m k some e in
-    let total : suc (k + p) ≡ (2 * m + 1) * p = omega (arith, spread m 1 p, one-mul p) in
-    corrected-moves al (negsuc k) (neg_ℤ (pos ((2 * m + 1) * p))) bit (ap (λ (x : ℕ). neg_ℤ (pos x)) total)
-    (ap (λ (x : ℕ). fits_i16 (neg_ℤ (pos x))) (sym total) ∙ lt-ltb (k + p) (2 ^ 15) (omega arith))
-  where
-    positive : (m : ℕ) → m * 2 ^ suc al ≡ suc k → 0 < m
-    positive zero f = absurd (omega (arith, zero-mul (2 ^ suc al)))
-    positive (suc m) f = omega arith
+    search (rules, pow_pos, times-two_power, even-bit_neg, spread, one-mul, corrected-moves, neg_ℤ, lt-ltb, zero-mul)
 corrects-neg al m (suc (suc b)) k e h fits = absurd (omega arith)
 
 -- the correction bit of an old number gives the number
 pub corrects : (al : ℕ) (u : ℤ) → is_old u ≡ true → InRange al u
     → ReadsJust (corrected_by al (held al u) (unsigned_abs u % 2)) [] (scaled al u)
-corrects al (pos n) o range =
-    let whole : 2 * (n / 2) + n % 2 ≡ n = omega arith in
-    let fits : (2 * (n / 2) + n % 2) * 2 ^ al < 2 ^ 15 =
-    subst (λ (x : ℕ). x * 2 ^ al < 2 ^ 15) (sym whole) range.within in
-    takes-as _ [] [] (pos ((2 * (n / 2) + n % 2) * 2 ^ al)) (pos (n * 2 ^ al)) refl
-    (ap (λ (x : ℕ). pos (x * 2 ^ al)) whole)
-    (corrects-pos al (n / 2) (n % 2) (omega arith) fits)
+corrects al (pos n) o range = search (rules, takes-as, corrects-pos)
 corrects al (negsuc i) o range = go (suc i / 2 * 2 ^ suc al) refl (held-positive al (suc i) (old-at (negsuc i) o))
   where
     go : (x : ℕ) → suc i / 2 * 2 ^ suc al ≡ x → 0 < x
         → ReadsJust (corrected_by al (held al (negsuc i)) (suc i % 2)) [] (neg_ℤ (pos (suc i * 2 ^ al)))
     go zero e h = absurd (omega arith)
     go (suc k) e h =
-        let whole : 2 * (suc i / 2) + suc i % 2 ≡ suc i = omega arith in
-        let fits : (2 * (suc i / 2) + suc i % 2) * 2 ^ al < 2 ^ 15 =
-        subst (λ (x : ℕ). x * 2 ^ al < 2 ^ 15) (sym whole) range.within in
-        let is : negsuc k ≡ held al (negsuc i) =
-        sym (neg-times (suc i / 2) (2 ^ suc al) ∙ ap (λ (x : ℕ). neg_ℤ (pos x)) e) in
-        subst (λ (z : ℤ). ReadsJust (corrected_by al z (suc i % 2)) [] (neg_ℤ (pos (suc i * 2 ^ al)))) is
-        (takes-as _ [] [] (neg_ℤ (pos ((2 * (suc i / 2) + suc i % 2) * 2 ^ al))) (neg_ℤ (pos (suc i * 2 ^ al))) refl
-        (ap (λ (x : ℕ). neg_ℤ (pos (x * 2 ^ al))) whole)
-        (corrects-neg al (suc i / 2) (suc i % 2) k e (omega arith) fits))
+        search (rules, neg-times, neg_ℤ, takes-as, corrects-neg)
 
 pub corrected-zero : (al : ℕ) (z : ℤ) (zs ws : List ℤ) (bits : List Bool) → z ≡ pos 0
     → ReadsJust (corrected al zs) bits ws → ReadsJust (corrected al (z ∷ zs)) bits (pos 0 ∷ ws)
 unfolding corrected
-corrected-zero al z zs ws bits e h =
-    subst (λ (x : ℤ). ReadsJust (corrected al (x ∷ zs)) bits (pos 0 ∷ ws)) (sym e)
-    (record {
-      read = λ rest places n.
-          (takes-map (corrected al zs) (λ (others : List ℤ). pos 0 ∷ others) bits ws h).read rest places n;
-    })
+corrected-zero al z zs ws bits e h = search (rules, takes-map)
 
 pub corrected-next : (al : ℕ) (z w : ℤ) (zs ws : List ℤ) (b : ℕ) (bits : List Bool) → b < 2 → is_zero z ≡ false
     → ReadsJust (corrected_by al z b) [] w
     → ReadsJust (corrected al zs) bits ws → ReadsJust (corrected al (z ∷ zs)) (bit b ∷ bits) (w ∷ ws)
 unfolding corrected
-corrected-next al z w zs ws b bits small e h k =
-    rw (e, corrected)
-    (takes-bind (bits_from 1 >>= (λ x. corrected_by al z x))
-    (λ first. corrected al zs >>= (λ others. gives (first ∷ others))) (bit b ∷ []) bits w (w ∷ ws)
-    (takes-bind (bits_from 1) (λ x. corrected_by al z x) (bit b ∷ []) [] b w (takes-bit b small) h)
-    (takes-map (corrected al zs) (λ (others : List ℤ). w ∷ others) bits ws k))
+corrected-next al z w zs ws b bits small e h k = grind (arith, takes-bit b small)
 
 pub corrections-zero : (us : List ℤ) → corrections (pos 0 ∷ us) ≡ corrections us
 unfolding corrections
@@ -206,24 +155,23 @@ pub takes-corrected : (al : ℕ) (us : List ℤ) → NoneNew us → AllByRecursi
     → ReadsJust (corrected al (map (held al) us)) (corrections us) (map (scaled al) us)
 unfolding corrected NoneNew corrections
 takes-corrected al [] none range = takes-gives []
-takes-corrected al (u ∷ us) none range = go (nothing_or_old u none.0) (takes-corrected al us none.1 range.1)
-  where
-    go : (u ≡ pos 0) ⊎ (is_old u ≡ true)
-        → ReadsJust (corrected al (map (held al) us)) (corrections us) (map (scaled al) us)
-        → ReadsJust (corrected al (map (held al) (u ∷ us))) (corrections (u ∷ us)) (map (scaled al) (u ∷ us))
-    go (inl e) ih =
-        takes-as _ (corrections us) (corrections (u ∷ us)) (pos 0 ∷ map (scaled al) us)
-        (scaled al u ∷ map (scaled al) us)
-        (sym (ap (λ (x : ℤ). corrections (x ∷ us)) e ∙ corrections-zero us))
-        (ap (λ (x : ℤ). x ∷ map (scaled al) us) (sym (ap (scaled al) e ∙ scaled-zero al)))
-        (corrected-zero al (held al u) (map (held al) us) (map (scaled al) us) (corrections us)
-        (ap (held al) e ∙ held-zero al) ih)
-    go (inr o) ih =
-        takes-as _ (bit (unsigned_abs u % 2) ∷ corrections us) (corrections (u ∷ us)) _ _
-        (sym (corrections-old u us o)) refl
-        (corrected-next al (held al u) (scaled al u) (map (held al) us) (map (scaled al) us) (unsigned_abs u % 2)
-        (corrections us) (omega arith)
-        (held-old al u o) (corrects al u o range.0) ih)
+takes-corrected al (u ∷ us) none range =
+    search (
+      rules,
+      nothing_or_old,
+      scaled,
+      takes-as,
+      corrections-zero,
+      scaled-zero,
+      corrected-zero,
+      held-zero,
+      unsigned_abs,
+      corrections-old,
+      corrected-next,
+      held-old,
+      corrects,
+      takes-corrected al us none.1 range.1,
+    )
 
 -- ---- pieces
 
@@ -254,19 +202,18 @@ pub through : (al : ℕ) (front : List ℤ) (u : ℤ) (more : List ℤ) → held
     → NoneNew front → through_zero (count_unknown front) (map (held al) (front ++ u ∷ more)) ≡ suc (length front)
 unfolding NoneNew
 through al [] u more z none = through-first (held al u) (map (held al) more) z
-through al (v ∷ front) u more z none = go (nothing_or_old v none.0) (through al front u more z none.1)
-  where
-    go : (v ≡ pos 0) ⊎ (is_old v ≡ true)
-        → through_zero (count_unknown front) (map (held al) (front ++ u ∷ more)) ≡ suc (length front)
-        → through_zero (count_unknown (v ∷ front)) (held al v ∷ map (held al) (front ++ u ∷ more))
-        ≡ suc (suc (length front))
-    go (inl e) ih =
-        ap (λ (x : ℤ). through_zero (count_unknown (x ∷ front)) (held al v ∷ map (held al) (front ++ u ∷ more))) e
-        ∙ ap (λ (c : ℕ). through_zero c (held al v ∷ map (held al) (front ++ u ∷ more))) (count-zero front)
-        ∙ through-zero (count_unknown front) (held al v) _ (ap (held al) e ∙ held-zero al) ∙ ap suc ih
-    go (inr o) ih =
-        ap (λ (c : ℕ). through_zero c (held al v ∷ map (held al) (front ++ u ∷ more))) (count-old v front o)
-        ∙ through-other (count_unknown front) (held al v) _ (held-old al v o) ∙ ap suc ih
+through al (v ∷ front) u more z none =
+    search (
+      rules,
+      nothing_or_old,
+      count-zero,
+      through-zero,
+      held-zero,
+      count-old,
+      through-other,
+      held-old,
+      through al front u more z none.1,
+    )
 
 pub front-of : (al : ℕ) (front : List ℤ) (u : ℤ) (more : List ℤ) → held al u ≡ pos 0
     → take (suc (length front)) (map (held al) (front ++ u ∷ more)) ≡ map (held al) (front ++ pos 0 ∷ [])
@@ -281,9 +228,7 @@ back-of al (v ∷ front) u more = back-of al front u more
 pub corrections-end : (front : List ℤ) → corrections (front ++ pos 0 ∷ []) ≡ corrections front
 unfolding corrections
 corrections-end [] = refl
-corrections-end (v ∷ front) =
-    ap (λ (l : List Bool). elim (is_old v) as (λ _. List Bool) [ true ↦ bit (unsigned_abs v % 2) ∷ l | false ↦ l ])
-    (corrections-end front)
+corrections-end (v ∷ front) = search (rules, unsigned_abs, corrections-end front)
 
 pub none-end : (front : List ℤ) → NoneNew front → NoneNew (front ++ pos 0 ∷ [])
 unfolding NoneNew
@@ -342,13 +287,7 @@ piece-found al r others front u more bits run none count new range w =
     ∙ through al front u more z none in
     let result : with_last (new_number al (sign_bit u)) (map (scaled al) (front ++ pos 0 ∷ [])) ++ map
     (scaled al) more ≡ map (scaled al) (front ++ u ∷ more)
-    = ap (λ (l : List ℤ). with_last (new_number al (sign_bit u)) l ++ map (scaled al) more)
-    (map-scaled al front (pos 0 ∷ []))
-    ∙ ap (λ (l : List ℤ). l ++ map (scaled al) more)
-    (with_last-end (new_number al (sign_bit u)) (scaled al (pos 0)) (map (scaled al) front))
-    ∙ append_assoc (map (scaled al) front) (new_number al (sign_bit u) ∷ []) (map (scaled al) more)
-    ∙ ap (λ (x : ℤ). map (scaled al) front ++ x ∷ map (scaled al) more) (new-scaled al u new)
-    ∙ sym (map-scaled al front (u ∷ more)) in
+    = search (rules, scaled, map-scaled, with_last-end, append_assoc, new-scaled) in
     let back = subst (λ (l : List ℤ). ReadsJust (others l) bits (map (scaled al) more, run))
     (sym (back-of al front u more)) w in
     let step = λ (k : ℕ). bits_from 1 >>= (λ sign. corrected al (take k rest) >>= (λ f.
@@ -361,9 +300,7 @@ piece-found al r others front u more bits run none count new range w =
     (takes-bind (corrected al (take (suc (length front)) rest)) _ (corrections front) bits
     (map (scaled al) (front ++ pos 0 ∷ [])) _
     (takes-front al front u more z none range)
-    (takes-map (others (drop (suc (length front)) rest))
-    (before_more (with_last (new_number al (sign_bit u)) (map (scaled al) (front ++ pos 0 ∷ [])))) bits
-    (map (scaled al) more, run) back))))
+    (search (rules, takes-map, scaled)))))
 
 pub piece-passed : (al : ℕ) (others : List ℤ → Reads Band) (front more : List ℤ) (bits : List Bool) (run : ℕ)
     → NoneNew front → count_unknown front ≡ 15 → AllByRecursion (InRange al) (front ++ pos 0 ∷ more)
@@ -374,10 +311,9 @@ unfolding refined_piece
 piece-passed al others front more bits run none count range w =
     let z = held-zero al in
     let rest = map (held al) (front ++ pos 0 ∷ more) in
-    let n : through_zero 15 rest ≡ suc (length front) = ap (λ (c : ℕ). through_zero c rest) (sym count)
-    ∙ through al front (pos 0) more z none in
+    let n : through_zero 15 rest ≡ suc (length front) = search (rules, through) in
     let result : map (scaled al) (front ++ pos 0 ∷ []) ++ map (scaled al) more ≡ map (scaled al) (front ++ pos 0 ∷ more)
-    = sym (map-scaled al (front ++ pos 0 ∷ []) more) ∙ ap (map (scaled al)) (append_assoc front (pos 0 ∷ []) more) in
+    = search (rules, map-scaled, scaled, append_assoc) in
     let back = subst (λ (l : List ℤ). ReadsJust (others l) bits (map (scaled al) more, run))
     (sym (back-of al front (pos 0) more)) w in
     let step = λ (k : ℕ). corrected al (take k rest) >>=
@@ -388,8 +324,7 @@ piece-passed al others front more bits run none count range w =
     (takes-bind (corrected al (take (suc (length front)) rest)) _ (corrections front) bits
     (map (scaled al) (front ++ pos 0 ∷ [])) _
     (takes-front al front (pos 0) more z none range)
-    (takes-map (others (drop (suc (length front)) rest)) (before_more (map (scaled al) (front ++ pos 0 ∷ []))) bits
-    (map (scaled al) more, run) back)))
+    (search (rules, takes-map, scaled))))
 
 pub not-fifteen : (r : ℕ) → r ≤ 14 → eqb r 15 ≡ false
 not-fifteen r h = grind (arith, nat_tests)
@@ -404,8 +339,7 @@ piece-none_left al r e others us h f none range =
     rw (no, refined_piece)
     (takes-bind (bits_from r) (λ k. corrected al (map (held al) us) >>= (λ all. gives (all, 2 ^ r - 1 + k)))
     (low_bits r e) (corrections us) e _ (takes-number r e f)
-    (takes-map (corrected al (map (held al) us)) (λ (all : List ℤ). (all, 2 ^ r - 1 + e)) (corrections us)
-    (map (scaled al) us) (takes-corrected al us none range)))
+    (grind (arith, scaled al, takes-corrected al us none range)))
 
 -- ---- bands
 
@@ -422,8 +356,7 @@ refined-token table al m r s z zs code bits x good coded small piece =
     let body : ReadsJust (token symbol) bits x = rw (high, low) piece in
     takes-as _ (code_bits table coded.place ++ bits) (code ++ bits) x x
     (ap (λ (b : List Bool). b ++ bits) coded.has_bits) refl
-    (takes-bind (symbol_from table) token (code_bits table coded.place) bits symbol x
-    (takes-symbol table coded.place good coded.listed) body)
+    (search (rules, takes-bind, takes-symbol))
 
 -- the same over a list that isn't empty, with room for its length
 pub refined-step : (table : Table) (al n r s : ℕ) (places : List ℤ) (code bits : List Bool) (x : Band) → IsGood table
@@ -433,8 +366,7 @@ pub refined-step : (table : Table) (al n r s : ℕ) (places : List ℤ) (code bi
     → ReadsJust (refined_ac table al n places) (code ++ bits) x
 refined-step table al n r s [] code bits x good coded small some room piece = absurd (omega arith)
 refined-step table al zero r s (z ∷ zs) code bits x good coded small some room piece = absurd (omega arith)
-refined-step table al (suc m) r s (z ∷ zs) code bits x good coded small some room piece =
-    refined-token table al m r s z zs code bits x good coded small (piece m refl)
+refined-step table al (suc m) r s (z ∷ zs) code bits x good coded small some room piece = search (rules, refined-token)
 
 pub range-after : (P : ℤ → Type 0) (front more : List ℤ) → AllByRecursion P (front ++ more) → AllByRecursion P more
 range-after P [] more h = h

@@ -1,5 +1,5 @@
-use Rattle.std.proofs.Common.{◌≡◌, ◌-◌, ◌+◌, ◌<◌, ◌≤◌, ℤ, ℕ, pos, get_or, length-set, ◌∙◌, ap, sym, w16, SFits}
-use Rattle.std.proofs.Common.{arith, rules, refl}
+use Rattle.std.proofs.Common.{◌≡◌, ◌-◌, ◌+◌, ◌<◌, ◌≤◌, ℤ, ℕ, pos, get_or, length-set, ◌∙◌, ap, sym, w16, SFits, arith}
+use Rattle.std.proofs.Common.{rules, refl}
 use Rattle.std.proofs.lemmas.Int.{to_z-of_z}
 use Rattle.std.specs.Int.{cast_signed, cast_unsigned}
 use Rattle.jpeg_bits.specs.Entropy.{Text, upcoming}

@@ -1,5 +1,4 @@
-use Rattle.std.proofs.Common.{◌≡◌, ◌∙◌, refl, sym, ap, arith, length, replicate, ℕ, List}
-use Rattle.std.proofs.Common.{slice_index_or, None, Option}
+use Rattle.std.proofs.Common.{◌≡◌, ◌∙◌, refl, sym, ap, arith, length, replicate, ℕ, List, slice_index_or, None, Option}
 use Rattle.jpeg_bits.specs.Codes.{code_in, code_lengths, lengths_from, first_from}
 use Rattle.jpeg_bits.specs.Written.{low_bits}
 use Rattle.jpeg_bits.specs.ShortCodes.{short_code}
