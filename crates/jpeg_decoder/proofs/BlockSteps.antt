@@ -118,6 +118,14 @@ pub blocks_refused : (p : Pass) (vias : List Via) (n : ℕ) (s : Spot) (spots : 
 unfolding blocks_from
 blocks_refused p vias n s spots old t f e = ap (read_on (blocks_from p vias n spots)) e
 
+-- those that are left once the interval of the first one has begun
+pub blocks_begun : (p : Pass) (vias : List Via) (n : ℕ) (s : Spot) (spots : List Spot) (old now : Counted) (t u : Text)
+    → begun_from n old t ≡ Ok (now, u)
+    → blocks_from p vias n (s ∷ spots) old t ≡ read_on (blocks_from p vias n spots) (begun_turn p vias s now u)
+unfolding blocks_from
+blocks_begun p vias n s spots old now t u e = ap (read_on (blocks_from p vias n spots))
+    (next_begun p vias n s old now t u e)
+
 pub blocks_none : (p : Pass) (vias : List Via) (n : ℕ) (old : Counted) (t : Text)
     → blocks_from p vias n [] old t ≡ Ok (old, t)
 unfolding blocks_from

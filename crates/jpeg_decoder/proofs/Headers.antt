@@ -111,29 +111,29 @@ segment-begins (JPGn n) found bytes none = begins-err _
 segment-begins TEM found bytes none = begins-err _
 segment-begins RES found bytes none = begins-err _
 
-turn-begins : (found : Found) (bytes : List ℕ) → is_some found.frame ≡ false
+pub turn-begins : (found : Found) (bytes : List ℕ) → is_some found.frame ≡ false
     → Begins (turn_at Elsewhere found None bytes)
 unfolding turn_at
 turn-begins found bytes none = begins-bind (next_marker bytes) _ (λ m. segment-begins m.0 found m.1 none)
 
-begins-at : (r : Outcome Turn) (x : Turn × List ℕ) → Begins r → r ≡ Ok x
+pub begins-at : (r : Outcome Turn) (x : Turn × List ℕ) → Begins r → r ≡ Ok x
     → (x.0.ended ≡ false) × ((x.0.before ≡ Elsewhere) × (x.0.met ≡ None))
 unfolding Begins
 begins-at r x h e = rw e at h
 
 -- ---- the turns up to the frame
 
-chosen : {A P : Type 0} (b : Bool) (x y z : A) → cond b x y ≡ z → (b ≡ true → x ≡ z → P) → (b ≡ false → y ≡ z → P) → P
+pub chosen : {A P : Type 0} (b : Bool) (x y z : A) → cond b x y ≡ z → (b ≡ true → x ≡ z → P) → (b ≡ false → y ≡ z → P) → P
 chosen true x y z e p q = p refl e
 chosen false x y z e p q = q refl e
 
-not-ok : {A P : Type 0} (fault : Fault) (x : A) → let X : Type 0 = Result A Fault in Path X (Err fault) (Ok x) → P
+pub not-ok : {A P : Type 0} (fault : Fault) (x : A) → let X : Type 0 = Result A Fault in Path X (Err fault) (Ok x) → P
 not-ok fault x e = absurd (let n : ⊥ = cc in n)
 
-not-err : {A P : Type 0} (fault : Fault) (x : A) → let X : Type 0 = Result A Fault in Path X (Ok x) (Err fault) → P
+pub not-err : {A P : Type 0} (fault : Fault) (x : A) → let X : Type 0 = Result A Fault in Path X (Ok x) (Err fault) → P
 not-err fault x e = absurd (let n : ⊥ = cc in n)
 
-same-parts : {A : Type 0} (x y : A) (rest rest' : List ℕ) → let X : Type 0 =
+pub same-parts : {A : Type 0} (x y : A) (rest rest' : List ℕ) → let X : Type 0 =
     Outcome A in Path X (Ok (x, rest)) (Ok (y, rest')) → (x ≡ y) × (rest ≡ rest')
 same-parts {A} x y rest rest' e = let pair : Path (A × List ℕ) (x, rest) (y, rest') =
     cc in (ap (λ p. p.0) pair, ap (λ p. p.1) pair)
@@ -152,7 +152,7 @@ bind-err (Err other) f fault e p q = let same : other ≡ fault = cc in p (rw sa
 abbrev pub after : ℕ → Turn × List ℕ → Outcome Found
 after n t = if t.0.ended then Ok (t.0.found, t.1) else segments_within n true t.0.before t.0.found t.0.met t.1
 
-after-begun : (n : ℕ) (t : Turn) (rest : List ℕ) → t.ended ≡ false → t.before ≡ Elsewhere → t.met ≡ None
+pub after-begun : (n : ℕ) (t : Turn) (rest : List ℕ) → t.ended ≡ false → t.before ≡ Elsewhere → t.met ≡ None
     → after n (t, rest) ≡ segments_within n true Elsewhere t.found None rest
 after-begun n t rest e b m = rw (e, b, m) refl
 

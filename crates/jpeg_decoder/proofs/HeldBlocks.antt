@@ -14,7 +14,7 @@ use Rattle.jpeg_streams.specs.Scans.{Arrays, block_at, put_block, via_at}
 use Rattle.jpeg_streams.specs.InTurn.{Reached, turn_from}
 use Rattle.jpeg_decoder.specs.declared.scan.Coded.{Coded}
 use Rattle.jpeg_bits.specs.BlockView.{to_block}
-use Rattle.jpeg_decoder.specs.Scanning.{vias_in, blocks_in, arrays_in, sizes_of}
+use Rattle.jpeg_decoder.specs.Scanning.{IsSpotOf, vias_in, blocks_in, arrays_in, sizes_of}
 
 abbrev pub Held : Type 0
 Held = Vec (List ℤ) Global
@@ -91,9 +91,15 @@ turn-whole p vias slot index old t = refl
 
 module _ (p : Pass) (cs : List Coded) (slot index : ℕ) (c : Coded) (vs : List Held) (v : Held) (x : List ℤ)
     (predictors : List ℤ) (run : ℕ) (z : ℤ)
-    (coded : slot < length cs) (is : c ≡ get_or cs slot c) (inside : slot < length vs) (array : v ≡ get_or vs slot v)
-    (within : index < length v.items) (block : x ≡ get_or v.items index x)
+    (of : IsSpotOf (length cs) (sizes_of vs) (spot slot index)) (is : c ≡ get_or cs slot c)
+    (array : v ≡ get_or vs slot v) (block : x ≡ get_or v.items index x)
     (predictor : z ≡ get_or predictors slot (pos 0)) where
+  inside : slot < length vs
+  inside = omega (arith, of.held.has_slot, sizes-long vs)
+
+  within : index < length v.items
+  within = omega (arith, of.held.has_index, size-at vs slot v of.held.has_slot array)
+
   abbrev old : Reached
   old = record { arrays = arrays_in vs; predictors = predictors; run = run }
 
@@ -103,7 +109,7 @@ module _ (p : Pass) (cs : List Coded) (slot index : ℕ) (c : Coded) (vs : List 
       turn-whole p (vias_in 0 cs) slot index old t
       ∙ ap (λ (w : Via). read_on (put_turn w.component slot index old)
       (block_from p w.dc w.ac (get_or predictors w.component (pos 0)) run
-      (block_at (arrays_in vs) (spot slot index)) t)) (via-is cs slot c coded is)
+      (block_at (arrays_in vs) (spot slot index)) t)) (via-is cs slot c of.slot is)
       ∙ ap (λ (b : Block). read_on (put_turn slot slot index old) (block_from p c.dc.now c.ac.now
       (get_or predictors slot (pos 0)) run b t)) (block-held vs slot index v x inside array within block)
       ∙ ap (λ (y : ℤ). read_on (put_turn slot slot index old) (block_from p c.dc.now c.ac.now y run (to_block x) t))

@@ -2,6 +2,8 @@ pub mod Callers
 pub mod PassedRestarts
 pub mod Turns
 pub mod Headers
+pub mod HeaderThenRest
+pub mod DecodedInto
 pub mod Ratios
 pub mod HeldBlocks
 pub mod Walks
@@ -43,3 +45,4 @@ pub mod LosslessPictureSizes
 pub mod OnLiterals
 pub mod MemorySums
 pub mod LosslessOnLiterals
+mod Orientations

@@ -9,7 +9,7 @@ use Rattle.jpeg_segments.specs.declared.parser.CodingProcess.TheVariants.{Lossle
 use Rattle.jpeg_segments.specs.Frame.{Component, Frame, ceiling}
 use Rattle.jpeg_segments.specs.Scales.{frame_at}
 use Rattle.jpeg_lossless.specs.Pictures as pictures
-use Rattle.jpeg_lossless.specs.Pictures.{ArePlanesOf, Layer, layers_of, lossless_picture, most_across, most_down}
+use Rattle.jpeg_lossless.specs.Pictures.{ArePlanesOf, Layer, image_bytes, layers_of, lossless_picture, most_across, most_down}
 use Rattle.jpeg_lossless.specs.Pictures.{pixel_bytes, line_bytes, sample_at, sample_bytes}
 use Rattle.jpeg_streams.specs.Sound.{IsDecodedFrame}
 use Rattle.jpeg_decoder.specs.Bytes.{HasBytesBy, IsWhole, bytes_a_sample, picture_bytes}
@@ -99,3 +99,18 @@ if-samples_size items f planes (Ok x) p e whole h = (
   subst (λ (process : CodingProcess). HasBytesBy process f (items x)) (sym e) tt,
 )
 if-samples_size items f planes (Err x) p e whole h = tt
+
+-- the room of a lossless picture
+pub image-room : (f : Frame) → IsDecodedFrame f → f.process ≡ Lossless
+    → picture_bytes f ≡ image_bytes f (length f.components)
+unfolding picture_bytes
+image-room f p e =
+    let size = read-size f p e in
+    let n = length f.components * bytes_a_sample f.precision in
+    ap₂ (λ (a b : ℕ). a * b * n) size.0 size.1
+    ∙ ap (λ k. k * n) (mul_comm f.width f.height) ∙ mul_assoc f.height f.width n
+    ∙ ap (λ k. f.height * (f.width * (length f.components * k))) (same (nat_le f.precision 8))
+  where
+    same : (b : Bool) → ◌≡◌ {A = ℕ} (if b then 1 else 2) (elim b as (λ _. ℕ) [ true ↦ 1 | false ↦ 2 ])
+    same true = refl
+    same false = refl

@@ -1,7 +1,7 @@
 -- The number of bytes of a picture of a frame that is decoded.
 use Rattle.std.proofs.Common.{◌≡◌, ℕ, zero, suc, ◌*◌, ◌/◌, ◌<◌, ◌≤◌, List, [], ◌∷◌, length, sym, ap, ap₂, ◌∙◌}
 use Rattle.std.proofs.Common.{refl, arith, subst, Result, Ok, Err, Option, Some, None, Bool, true, false}
-use Rattle.std.specs.Prelude.{MatchResult, IfOk, OnOk, if◌then◌else◌, nat_le}
+use Rattle.std.specs.Prelude.{MatchResult, IfOk, IfSome, OnOk, if◌then◌else◌, nat_le}
 use Rattle.jpeg_bits.specs.declared.error.Error.{Error}
 use Rattle.jpeg_decoder.specs.Bytes.{HasBytes, HasBytesBy, IsCounted, IsWhole}
 use Rattle.jpeg_decoder.specs.Bytes.{bytes_a_sample, picture_bytes, samples_a_pixel}
@@ -153,6 +153,28 @@ by-frame f pixels eight long =
     ap (λ n. length f.components * bytes_a_sample n) eight ∙ omega arith in
     long ∙ turned f.output_width f.output_height (length f.components) _ one
 
+precision-8 : (f : Frame) → IsDecodedFrame f → (f.process ≡ Lossless → ⊥) → f.precision ≡ 8
+precision-8 f p dct = go f.process refl
+  where
+    eight : (x : CodingProcess) → f.process ≡ x → is_decoded_precision x f.precision ≡ true
+    eight x e = ap (λ (x : CodingProcess). is_decoded_precision x f.precision) (sym e) ∙ precision-of f p
+
+    go : (x : CodingProcess) → f.process ≡ x → f.precision ≡ 8
+    go DctSequential e = eqb-true f.precision 8 (eight DctSequential e)
+    go DctProgressive e = eqb-true f.precision 8 (eight DctProgressive e)
+    go Lossless e = absurd (dct e)
+
+-- the bytes of a picture of blocks
+pub block-bytes : (f : Frame) → IsDecodedFrame f → (f.process ≡ Lossless → ⊥)
+    → picture_bytes f ≡ length f.components * f.output_width * f.output_height
+unfolding picture_bytes
+block-bytes f p dct =
+    let n = length f.components in
+    let area = f.output_width * f.output_height in
+    let one : n * bytes_a_sample f.precision ≡ n =
+    ap (λ k. n * bytes_a_sample k) (precision-8 f p dct) ∙ omega arith in
+    ap (λ k. area * k) one ∙ mul_comm area n ∙ sym (mul_assoc n f.output_width f.output_height)
+
 whole-by : (f : Frame) (pixels : List ℕ) → IsDecodedFrame f → (f.process ≡ Lossless → ⊥)
     → length pixels ≡ f.output_height * (length f.components * f.output_width) → IsWhole (Some f) pixels
 whole-by f pixels p dct long = go f.process refl
@@ -167,6 +189,32 @@ whole-by f pixels p dct long = go f.process refl
     go DctSequential e = of (eqb-true f.precision 8 (eight DctSequential e))
     go DctProgressive e = of (eqb-true f.precision 8 (eight DctProgressive e))
     go Lossless e = absurd (dct e)
+
+-- a list of so many bytes
+whole-of : (f : Frame) (pixels : List ℕ) → IsDecodedFrame f → length pixels ≡ picture_bytes f
+    → IsWhole (Some f) pixels
+whole-of f pixels p long = (long, go f.process refl)
+  where
+    dct : (f.process ≡ Lossless → ⊥) → HasBytes f pixels
+    dct n =
+        by-info f pixels p (precision-8 f p n)
+        (long ∙ block-bytes f p n ∙ mul_comm (length f.components * f.output_width) f.output_height)
+
+    go : (x : CodingProcess) → f.process ≡ x → HasBytesBy x f pixels
+    go DctSequential e = dct (λ l. let n : ⊥ = cc in n)
+    go DctProgressive e = dct (λ l. let n : ⊥ = cc in n)
+    go Lossless e = tt
+
+pub whole-if : (found : Found) (frame : Option Frame) (n : ℕ) (pixels : List ℕ) → HasDecodedFrame found
+    → found.frame ≡ frame → IfSome frame (λ f. n ≡ picture_bytes f) → length pixels ≡ n
+    → IsWhole found.frame pixels
+whole-if found frame n pixels p same size long =
+    go found.frame p (subst (λ (o : Option Frame). IfSome o (λ f. n ≡ picture_bytes f)) (sym same) size)
+  where
+    go : (o : Option Frame) → ((f : Frame) → o ≡ Some f → IsDecodedFrame f) → IfSome o (λ f. n ≡ picture_bytes f)
+        → IsWhole o pixels
+    go None p h = tt
+    go (Some f) p h = whole-of f pixels (p f refl) (long ∙ h)
 
 pub if-size : {X : Type 0} (items : X → List ℕ) (E : Error → Type 0) (settings : Settings) (m : Metadata) (f : Frame)
     (planes : List (List ℕ)) (result : Result X Error) → IsDecodedFrame f → AreWhole f.components planes

@@ -1,5 +1,5 @@
 -- The steps of a scan that is read, and what they are to a segment of the stream.
-use Rattle.std.proofs.Common.{◌≡◌, ℕ, suc, Bool, true, false, List, length, Option, Result, Ok, Err, refl, sym}
+use Rattle.std.proofs.Common.{◌≡◌, ℕ, suc, Bool, true, false, List, length, Option, Some, Result, Ok, Err, refl, sym}
 use Rattle.std.proofs.Common.{ap, ◌∙◌}
 use Rattle.jpeg_bits.specs.Stream.{Stream}
 use Rattle.jpeg_bits.specs.Reading.{Answers, Fault, MayFail, Names, Outcome, ◌>>=◌}
@@ -21,7 +21,7 @@ use Rattle.jpeg_streams.specs.ScanSegments.{scan_segment}
 use Rattle.jpeg_streams.specs.Segments.{Turn}
 use Rattle.jpeg_streams.specs.Found.{Found}
 use Rattle.jpeg_streams.specs.LosslessScans.{lossless_codings}
-use Rattle.jpeg_decoder.specs.Steps.{IsRefusal, after_all, blocks_read, codings_in_force, read_by, samples_read}
+use Rattle.jpeg_decoder.specs.Steps.{IsDct, IsRefusal, after_all, blocks_read, codings_in_force, read_by, samples_read}
 use Rattle.jpeg_decoder.specs.Steps.{scan_data, scan_read}
 
 -- ---- calls on a source
@@ -90,11 +90,34 @@ abbrev pub HasRead : {Y : Type 0} → (List ℕ → Outcome Y) → Stream → Y 
 HasRead read old y new =
     (new.failed ≡ old.failed) × (old.known ≡ true → (new.known ≡ true) × (read old.bytes ≡ Ok (y, new.bytes)))
 
--- A scan of blocks begins with its tables.
-pub blocks-begun : (found : Found) (frame : Frame) (scan : Scan) (old : Stream)
-    → Continues (blocks_read found frame scan) old (after_header found frame scan) old
-unfolding blocks_read
-blocks-begun found frame scan old = (refl, λ k. (k, refl))
+by-blocks : (p : CodingProcess) (found : Found) (frame : Frame) (scan : Scan) (bytes : List ℕ)
+    → (p ≡ Lossless → ⊥) → read_by p found frame scan bytes ≡ blocks_read found frame scan bytes
+by-blocks DctSequential found frame scan bytes h = refl
+by-blocks DctProgressive found frame scan bytes h = refl
+by-blocks Lossless found frame scan bytes h = absurd (h refl)
+
+pub is-dct : (p : CodingProcess) → (p ≡ Lossless → ⊥) → IsDct p
+is-dct DctSequential h = tt
+is-dct DctProgressive h = tt
+is-dct Lossless h = absurd (h refl)
+
+-- A scan of blocks has its tables after its header.
+pub header-read : (found : Found) (frame : Frame) (scan : Scan) (old new : Stream)
+    → found.frame ≡ Some frame → (frame.process ≡ Lossless → ⊥) → HasRead (sos_at frame) old scan new
+    → Continues (scan_read found) old (after_header found frame scan) new
+unfolding scan_read blocks_read
+header-read found frame scan old new e process has = (
+  has.0,
+  λ k.
+      let at = has.1 k in (
+        at.0,
+        ap (λ (o : Option Frame). needed o >>= (λ (f : Frame). sos_at f old.bytes
+            >>= (λ (s : Scan × List ℕ). read_by f.process found f s.0 s.1))) e
+            ∙ bind_at (λ (s : Scan × List ℕ). read_by frame.process found frame s.0 s.1) (sos_at frame old.bytes)
+            (scan, new.bytes) at.1
+            ∙ by-blocks frame.process found frame scan new.bytes process,
+      ),
+)
 
 pub data-begun : (whole : List ℕ → Outcome (Found × Option Marker)) (found : Found) (frame : Frame) (scan : Scan)
     (p : Pass)

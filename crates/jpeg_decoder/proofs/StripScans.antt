@@ -1,5 +1,5 @@
 -- A sequential scan after its rows of MCUs: what was read, and the refusals.
-use Rattle.std.proofs.Common.{◌≡◌, ℕ, ◌*◌, ◌≤◌, List, [], ◌∷◌, map, length, Option, Result, Ok, Err, sym, ap, ◌∙◌, subst}
+use Rattle.std.proofs.Common.{◌≡◌, ℕ, ◌*◌, ◌≤◌, List, [], ◌∷◌, map, length, Option, Result, Ok, Err, sym, ap, ap₂, ◌∙◌, subst}
 use Rattle.std.proofs.Common.{arith}
 use Rattle.std.specs.List.{AllByRecursion}
 use Rattle.jpeg_bits.specs.Stream.{Stream}
@@ -12,7 +12,7 @@ use Rattle.jpeg_bits.specs.Passes.{Pass, Via}
 use Rattle.jpeg_bits.proofs.Loops.{Names-through, MayFail-from}
 use Rattle.jpeg_segments.specs.Frame.{Frame, Component}
 use Rattle.jpeg_decoder.specs.declared.scan.Coded.{Coded}
-use Rattle.jpeg_streams.specs.InTurn.{Counted, Fits, counted_at_start}
+use Rattle.jpeg_streams.specs.InTurn.{Fits, counted_at_start}
 use Rattle.jpeg_streams.specs.McuRows.{rows_of}
 use Rattle.jpeg_streams.specs.Order.{Spot, mcu_size}
 use Rattle.jpeg_decoder.specs.Scanning.{components_in}
@@ -34,41 +34,43 @@ marked planes o = reading.◌>>=◌ o (λ (m : Option Marker × List ℕ). Ok ((
 unfoldable pub ended : Result (Planes × Text) Fault → Outcome (Planes × Option Marker)
 ended o = reading.◌>>=◌ o (λ (r : Planes × Text). marked r.0 (marker_from r.1))
 
-module _ (p : Pass) (vias : List Via) (n blocks : ℕ) (frame : Frame) (codings : List Coding) (rows : List (List Spot))
-    (start : Planes) (i : Counted) (a : Ahead) (old : Stream)
-    (count : blocks ≡ n * mcu_size (components_of codings)) (walked : rows ≡ rows_of frame (components_of codings))
-    (first : i ≡ counted_at_start blocks []) (none : a ≡ fresh) where
+-- A scan of these components of a frame in this order, after the planes in `start`.
+module _ (frame : Frame) (cs : List Coded) (p : Pass) (vias : List Via) (n : ℕ) (o : ScanOrder)
+    (is : IsOrderOf frame (components_in cs) n o) (start : Planes) (old : Stream) where
+  abbrev codings : List Coding
+  codings = map coding_in cs
+
   abbrev by_rows : List ℕ → Outcome (Planes × Option Marker)
   by_rows = planes_by_rows p vias n frame codings start
 
   abbrev whole : Text → Result (Planes × Text) Fault
-  whole = strips_from p vias blocks codings rows start i
+  whole = strips_from p vias o.interval codings (walks_of_rows o) start (counted_at_start o.interval [])
 
-  whole-is : (bytes : List ℕ) → by_rows bytes ≡ ended (whole (upcoming a bytes))
+  whole-is : (bytes : List ℕ) → by_rows bytes ≡ ended (whole (upcoming fresh bytes))
   unfolding planes_by_rows ended
   whole-is bytes =
-      ap (λ (k : ℕ). ended (strips_from p vias k codings (rows_of frame (components_of codings)) start
-      (counted_at_start k []) (upcoming fresh bytes))) (sym count)
-      ∙ ap (λ (l : List (List Spot)). ended (strips_from p vias blocks codings l start
-      (counted_at_start blocks []) (upcoming fresh bytes))) (sym walked)
-      ∙ ap (λ (x : Counted). ended (strips_from p vias blocks codings rows start x (upcoming fresh bytes))) (sym first)
-      ∙ ap (λ (x : Ahead). ended (whole (upcoming x bytes))) (sym none)
+      let same : components_in cs ≡ components_of codings = sym (components-are cs) in
+      let walked : walks_of_rows o ≡ rows_of frame (components_of codings)
+      = rows-walked frame (components_in cs) n o is ∙ ap (rows_of frame) same in
+      let count : o.interval ≡ n * mcu_size (components_of codings)
+      = is.interval ∙ ap (λ (l : List Component). n * mcu_size l) same in
+      ap₂ (λ (k : ℕ) (l : List (List Spot)). ended (strips_from p vias k codings l start (counted_at_start k [])
+      (upcoming fresh bytes))) (sym count) (sym walked)
 
   -- a refusal in the rows
   pub rows-refused : {X Y : Type 0} (v : X → Planes) (view : Y → Planes
       × Option Marker) (b : Ahead) (new : Stream) (e : Error)
-      → Takes v whole a old (Err e) b new → Answers view by_rows old (Err e) new
+      → Takes v whole fresh old (Err e) b new → Answers view by_rows old (Err e) new
   unfolding ended
   rows-refused v view b new e q = (
     q.0,
-    λ k known. Names-through e _ _ (λ f h. whole-is old.bytes
-        ∙ ap ended h) (q.1 k known),
+    λ k known. Names-through e _ _ (λ f h. whole-is old.bytes ∙ ap ended h) (q.1 k known),
     q.2,
   )
 
   -- the marker after them
   pub scan-ended : {X : Type 0} (v : X → Planes) (b : Ahead) (cur new : Stream) (u : X) (r : Result (Option Marker) Error)
-      → Takes v whole a old (Ok u) b cur → Answers (λ (m : Option Marker). m) (λ bytes. marker_from
+      → Takes v whole fresh old (Ok u) b cur → Answers (λ (m : Option Marker). m) (λ bytes. marker_from
       (upcoming b bytes)) cur r new → Answers (λ (m : Option Marker). (v u, m)) by_rows old r new
   unfolding ended
   scan-ended v b cur new u (Err e) q m = (
@@ -93,15 +95,3 @@ scan-by-rows frame [] p n vias bytes h fits = absurd (omega arith)
 scan-by-rows frame (c ∷ cs) p n vias bytes h fits =
     planes-by-rows frame (coding_in c) (map coding_in cs) p n vias bytes (subst (λ
     (l : List Component). AllByRecursion (Fits frame) l) (sym (components-are (c ∷ cs))) fits)
-
--- ---- its order
-
-pub order-interval : (frame : Frame) (cs : List Coded) (n : ℕ) (o : ScanOrder) → IsOrderOf frame (components_in cs) n o
-    → o.interval ≡ n * mcu_size (components_of (map coding_in cs))
-order-interval frame cs n o is = is.interval
-    ∙ ap (λ (l : List Component). n * mcu_size l) (sym (components-are cs))
-
-pub order-rows : (frame : Frame) (cs : List Coded) (n : ℕ) (o : ScanOrder) → IsOrderOf frame (components_in cs) n o
-    → walks_of_rows o ≡ rows_of frame (components_of (map coding_in cs))
-order-rows frame cs n o is = rows-walked frame (components_in cs) n o is
-    ∙ ap (rows_of frame) (sym (components-are cs))

@@ -1,5 +1,5 @@
 -- How many bytes a picture has, and how many are taken while it is decoded.
-use Rattle.std.specs.Prelude.{◌≡◌, ℕ, ◌*◌, ◌+◌, ◌==◌, if◌then◌else◌, max, nat_le}
+use Rattle.std.specs.Prelude.{◌≡◌, ◌≤◌, ℕ, ◌*◌, ◌+◌, ◌==◌, if◌then◌else◌, max, nat_le}
 use Rattle.std.specs.Prelude.{List, [], ◌∷◌, length, Option, Some, None}
 use Rattle.jpeg_segments.specs.Frame.{Component, Frame}
 use Rattle.jpeg_segments.specs.declared.parser.CodingProcess.{CodingProcess}
@@ -35,6 +35,11 @@ HasBytesBy Lossless f pixels = Unit {0}
 abbrev pub IsWhole : Option Frame → List ℕ → Type 0
 IsWhole None pixels = Unit {0}
 IsWhole (Some f) pixels = (length pixels ≡ picture_bytes f) × HasBytesBy f.process f pixels
+
+-- so many bytes are enough for the picture of a frame
+abbrev pub HasRoom : Option Frame → ℕ → Type 0
+HasRoom None room = Unit {0}
+HasRoom (Some f) room = picture_bytes f ≤ room
 
 -- the samples of a pixel, by its format
 abbrev pub samples_a_pixel : PixelFormat → ℕ

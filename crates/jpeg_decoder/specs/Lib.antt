@@ -1,6 +1,8 @@
 -- what a caller sees of a decoder, and how many bytes a picture has
 pub mod Seen
 pub mod Bytes
+-- what a call has read that was refused for want of room
+pub mod HeaderAlone
 -- what a caller sees of the blocks that are held, and the code's own words
 pub mod Scanning
 -- the code's own words: the clauses of `Decoder`, `run` and `report` reach none of these
@@ -8,3 +10,5 @@ pub mod Walk
 pub mod Strips
 pub mod Steps
 pub mod LosslessParts
+-- what Exif data say
+pub mod Orientation

@@ -3,7 +3,7 @@
 use Rattle.std.specs.Prelude.{◌≡◌, ◌<◌, ◌≤◌, All, ℕ, suc, drop, ◌&&◌, not, is_some, slice_set, ◌*◌}
 use Rattle.std.specs.Prelude.{◌/◌, min, List, [], ◌∷◌, map, set, length, replicate, get_or, Bool}
 use Rattle.std.specs.Prelude.{true, false, Option, slice_index_or, Some, None, Result, Ok}
-use Rattle.std.specs.Prelude.{if◌then◌else◌}
+use Rattle.std.specs.Prelude.{if◌then◌else◌, IfOk, OnErr, OnOk}
 use Rattle.jpeg_bits.specs.Reading.{Outcome, Fault, ◌>>=◌}
 use Rattle.jpeg_bits.specs.Codes.{Table}
 use Rattle.jpeg_bits.specs.DefaultTables.{luminance_dc, chrominance_dc, luminance_ac}
@@ -40,6 +40,8 @@ use Rattle.jpeg_streams.specs.ScanSegments.{vias_from, after_samples, scan_sampl
 use Rattle.jpeg_streams.specs.Segments.{Turn}
 use Rattle.jpeg_streams.specs.Found.{Found, none_finished}
 use Rattle.jpeg_streams.specs.LosslessScans.{lossless_codings}
+use Rattle.jpeg_streams.specs.Sound.{IsSound, IsUnread}
+use Rattle.jpeg_streams.specs.Stream.{told_of}
 use Rattle.jpeg_segments.specs.declared.parser.CodingProcess.{CodingProcess}
 use Rattle.jpeg_segments.specs.declared.parser.CodingProcess.TheVariants.{DctSequential}
 use Rattle.jpeg_segments.specs.declared.parser.CodingProcess.TheVariants.{DctProgressive, Lossless}
@@ -53,6 +55,16 @@ turn_of s step =
       met = step.met;
       ended = step.ended;
     }
+
+-- What a segment does to what was found before it, beside what it says. A refusal changes nothing
+-- that a caller is told; an image ends with a frame; a frame that was read stays; and what holds
+-- between segments still does.
+pub record IsStep (old : Found) (result : Result Step Error) (new : Found) : Type 0 where
+  pub kept : OnErr result (told_of new ≡ told_of old)
+  pub framed : IfOk result (λ s. s.ended ≡ true → is_some new.frame ≡ true)
+  pub stays : is_some old.frame ≡ true → new.frame ≡ old.frame
+  pub sound : IsSound old → OnOk result (IsSound new)
+  pub unread : old.frame ≡ None → IsUnread old → OnOk result (IsUnread new)
 
 -- ---- after a scan
 

@@ -418,36 +418,6 @@ impl Decoded {
         Ok(reached)
     }
 
-    /// Reads a scan of a sequential frame, and returns the marker after it, if one was reached.
-    fn read_sequential<R: Read + Drop>(
-        &mut self,
-        alloc: Global,
-        source: &mut Source<R>,
-        state: &State,
-        frame: &FrameInfo,
-        scan: &Scan<'_>,
-    ) -> Result<Option<Marker>>
-        requires process { is_progressive (frame_in frame.now).process ≡ false }
-        requires ready { IsReadable (frame_in frame.now) (found_in state.now) scan.now }
-        ensures data { Answers (λ m.
-            (record (with_decoded (found_in state.now) self.new) { scanned = true }, m))
-            (scan_data (with_decoded (found_in state.now) self.old) (frame_in frame.now)
-            (pass_in scan.now.pass) (map coding_in scan.now.components.items))
-            source.old result source.new }
-        ensures planes { ArePlanes (frame_in frame.now).components (planes_in self.old.planes)
-            → OnOk result (ArePlanes (frame_in frame.now).components (planes_in self.new.planes)) }
-        ensures samples { OnOk result (self.new.samples ≡ self.old.samples) }
-    {
-        if self.are_decided(&scan.components) {
-            return self.read_again(alloc, source, state, frame, scan);
-        }
-        let mut planes = empty_planes(alloc, &scan.components, true)?;
-        let reached = read_planes(alloc, source, scan, frame, &mut planes)?;
-        self.held = Vec::new(alloc);
-        self.add_planes(scan, &mut planes, alloc);
-        Ok(reached)
-    }
-
     /// Reads the entropy-coded data of a scan, and returns the marker after it, if it was reached.
     pub fn read<R: Read + Drop>(
         &mut self,
@@ -473,9 +443,15 @@ impl Decoded {
         ensures samples { OnOk result (self.new.samples ≡ self.old.samples) }
     {
         if is_progressive(frame.coding_process) {
-            self.read_held(alloc, source, state, frame, scan)
-        } else {
-            self.read_sequential(alloc, source, state, frame, scan)
+            return self.read_held(alloc, source, state, frame, scan);
         }
+        if self.are_decided(&scan.components) {
+            return self.read_again(alloc, source, state, frame, scan);
+        }
+        let mut planes = empty_planes(alloc, &scan.components, true)?;
+        let reached = read_planes(alloc, source, scan, frame, &mut planes)?;
+        self.held = Vec::new(alloc);
+        self.add_planes(scan, &mut planes, alloc);
+        Ok(reached)
     }
 }

@@ -13,7 +13,11 @@ ghost use Rattle.jpeg_streams.specs.States.{HasHeader, HeaderRead};
 ghost use Rattle.jpeg_streams.specs.DecodedImages.{DecodesImages};
 ghost use Rattle.jpeg_streams.specs.DecodedSamples.{DecodesSamples};
 ghost use Rattle.jpeg_decoder.specs.Seen.{found_in};
-ghost use Rattle.jpeg_decoder.specs.Bytes.{IsCounted, IsWhole, decoding_bytes};
+ghost use Rattle.jpeg_decoder.specs.Bytes.{HasRoom, IsCounted, IsWhole, decoding_bytes};
+ghost use Rattle.jpeg_decoder.specs.Bytes.{picture_bytes};
+ghost use Rattle.jpeg_decoder.specs.HeaderAlone.{ReadsHeaderAlone};
+ghost use Rattle.jpeg_streams.specs.States.{IsInternal};
+ghost use Rattle.std.specs.Prelude.{◌≤◌, drop, length, take};
 ghost use Rattle.jpeg_streams.specs.Pixels.{format_of, info_of};
 ghost use Rattle.jpeg_streams.specs.Sound.{HasDecodedFrame, IsSound, IsUnread};
 ghost use Rattle.jpeg_decoder.specs.declared.decoder.Progress.TheVariants.{Failed};
@@ -23,8 +27,9 @@ ghost use Rattle.jpeg_streams.specs.Output.{default_settings};
 ghost use Rattle.jpeg_streams.specs.Profile.{profile_of};
 ghost use Rattle.std.specs.Option.{option_copied};
 
-use crate::memory::{DecodingBytes, decoding_bytes};
-use crate::picture::{read_header, read_rest, read_stream};
+use crate::decoded::Decoded;
+use crate::memory::{DecodingBytes, decoding_bytes, picture_bytes};
+use crate::picture::{read_header, read_rest, read_rest_into, read_stream};
 use crate::profile::profile;
 use crate::state::State;
 pub use jpeg_bits::color_transform::ColorTransform;
@@ -104,6 +109,36 @@ fn scale_state(state: &mut State, width: u16, height: u16) -> Option<(u16, u16)>
         Some(frame) => Some(size_frame(frame, width, height)),
         None => None,
     }
+}
+
+/// Returns how many bytes the picture takes, where so many are enough for it, and else `Internal`.
+fn size_within(state: &State, room: usize) -> Result<usize>
+    requires framed { is_some (found_in state.now).frame ≡ true }
+    requires frames { HasDecodedFrame (found_in state.now) }
+    ensures size { IfOk result (λ n. IfSome (found_in state.now).frame (λ f. n ≡ picture_bytes f)) }
+    ensures room { IfOk result (λ n. n ≤ room) }
+    ensures has_room { OnOk result (HasRoom (found_in state.now).frame room) }
+    ensures short { OnErr result (HasRoom (found_in state.now).frame room → ⊥) }
+    ensures err { IfErr result IsInternal }
+{
+    let Some(frame) = &state.frame else {
+        return Err(Error::Internal("decoder has no frame"));
+    };
+    let size = picture_bytes(frame);
+    if size > room as u64 {
+        return Err(Error::Internal("pixels are shorter than the picture"));
+    }
+    Ok(size as usize)
+}
+
+/// Drops what scans have given.
+fn drop_decoded(state: &mut State, alloc: Global)
+    ensures told { told_of (found_in state.new) ≡ told_of (found_in state.old) }
+    ensures emptied { ((found_in state.new).held ≡ [])
+        × ((found_in state.new).planes ≡ replicate 4 None)
+        × ((found_in state.new).samples ≡ replicate 4 None) }
+{
+    state.decoded = Decoded::new(alloc);
 }
 
 /// How far a decoder has come.
@@ -428,5 +463,87 @@ impl<R: Read + Drop> Decoder<R> {
         };
         self.progress = progress_after(result.is_ok(), Progress::Finished);
         result
+    }
+
+    /// Does as `decode` does, but writes the picture to the front of memory that the caller has, so
+    /// that no second picture is in memory, and returns how many bytes it has. What follows them
+    /// stays as it was. Reads the header first where it wasn't read.
+    ///
+    /// Errors: those of `decode`, and `Internal` where `pixels` is shorter than the picture, whose
+    /// bytes are `DecodingBytes::picture`. Nothing of the scans is read then, and the decoder is as
+    /// after `read_info`, so that the call can be made again with more room. After every error
+    /// `pixels` is as it was.
+    pub fn decode_into(&mut self, pixels: &mut [u8]) -> Result<usize>
+        // Where there is room for the picture, all is as for `decode`.
+        ensures stage { HasRoom self.new.found.frame (length pixels.old)
+            → MovesToEnd self.old.stage self.new.stage result }
+        ensures reads { HasRoom self.new.found.frame (length pixels.old)
+            → IsReading self.old.stage → Answers (λ n. (told_of self.new.found, take n pixels.new))
+            (ahead self.old.stage self.old.settings self.old.found) self.old.source result
+            self.new.source }
+        ensures images { HasRoom self.new.found.frame (length pixels.old)
+            → DecodesImages (λ n. take n pixels.new) self.old result self.new }
+        ensures samples { HasRoom self.new.found.frame (length pixels.old)
+            → DecodesSamples (λ n. take n pixels.new) self.old result self.new }
+        ensures told { HasRoom self.new.found.frame (length pixels.old)
+            → IsReading self.old.stage → OnTold self.old.source self.new.source result
+            (told_of self.new.found ≡ told_ahead false self.old.stage self.old.found
+            self.old.source.bytes) }
+        ensures turns { HasRoom self.new.found.frame (length pixels.old)
+            → IsReading self.old.stage → self.old.source.known ≡ true
+            → IsOfTurns (λ n. turns_ahead n false self.old.stage self.old.found
+            self.old.source.bytes) (told_of self.new.found) }
+        ensures emptied { HasRoom self.new.found.frame (length pixels.old)
+            → IsReading self.old.stage → (self.new.found.held ≡ [])
+            × (self.new.found.planes ≡ replicate 4 None)
+            × (self.new.found.samples ≡ replicate 4 None) }
+
+        // Where there is none, it is a refusal, and the decoder is as after `read_info`.
+        ensures short { IsReading self.old.stage
+            → (HasRoom self.new.found.frame (length pixels.old) → ⊥)
+            → ReadsHeaderAlone self.old result self.new }
+
+        // What follows the picture stays, and after an error all does.
+        ensures rest { IfOk result (λ n. drop n pixels.new ≡ drop n pixels.old) }
+        ensures unwritten { OnErr result (pixels.new ≡ pixels.old) }
+
+        // The settings stay.
+        ensures settings { self.new.settings ≡ self.old.settings }
+
+        // Where no image is left to decode nothing changes.
+        ensures still { (IsReading self.old.stage → ⊥) → self.new ≡ self.old }
+
+        // The frame that `read_info` read stays.
+        ensures stays { self.old.stage ≡ HeaderRead → self.new.found.frame ≡ self.old.found.frame }
+
+        // After an Ok there is a frame, so that `info` answers.
+        ensures framed { IfOk result (λ _. is_some self.new.found.frame ≡ true) }
+
+        // The picture has as many bytes as the frame says, and the memory has them.
+        ensures size { IfOk result (λ n. IsWhole self.new.found.frame (take n pixels.new)) }
+
+        // There are as many samples as the format of `info` says.
+        ensures counted { IfOk result (λ _. IsCounted self.new.found.frame) }
+    {
+        match self.progress {
+            Progress::Fresh | Progress::HeaderRead => {}
+            Progress::Finished => return Err(Error::Internal("image was already decoded")),
+            Progress::Failed => return Err(Error::Internal("decoder has failed")),
+        }
+        if let Err(e) = self.read_info() {
+            drop_decoded(&mut self.state, self.alloc);
+            return Err(e);
+        }
+        let size = size_within(&self.state, pixels.len())?;
+        let written = read_rest_into(
+            self.alloc,
+            &mut self.source,
+            &mut self.state,
+            self.settings,
+            &mut pixels[..size],
+        );
+        self.progress = progress_after(written.is_ok(), Progress::Finished);
+        written?;
+        Ok(size)
     }
 }

@@ -44,6 +44,9 @@ pub mod lossless_laws;
 mod lossless_scans;
 pub mod memory;
 mod metadata;
+pub mod orientation;
+#[cfg(test)]
+mod orientation_tests;
 mod picture;
 mod places;
 mod profile;

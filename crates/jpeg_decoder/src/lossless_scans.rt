@@ -23,7 +23,7 @@ use jpeg_bits::marker::Marker;
 use jpeg_bits::scan::ScanInfo;
 use jpeg_bits::source::Source;
 use jpeg_lossless::scan::{Coding, Part, read_scan};
-use jpeg_segments::parser::{CodingProcess, Component, FrameInfo};
+use jpeg_segments::parser::{Component, FrameInfo};
 use jpeg_segments::sizes::{ceiling, greatest_of};
 use std::alloc::{AllocError, Global};
 use std::io::Read;

@@ -1,5 +1,6 @@
 //! A stream from its start to its picture (T.81, B.2).
-ghost use Rattle.std.specs.Prelude.{◌≡◌, ◌*◌, ◌+◌, ◌<◌, ◌≤◌, ◌&&◌, IfOk, List, MatchResult, None};
+ghost use Rattle.std.specs.Prelude.{◌≡◌, ◌*◌, ◌+◌, ◌<◌, ◌≤◌, ◌&&◌, IfOk, IfSome, List, MatchResult};
+ghost use Rattle.std.specs.Prelude.{None, OnErr};
 ghost use Rattle.std.specs.Prelude.{OnOk, Ok, Some, drop, false, is_some, length, map, nat_lt, not};
 ghost use Rattle.std.specs.Prelude.{option_map, replicate, slice_index_or, true, []};
 ghost use Rattle.jpeg_bits.specs.Reading.{Answers, Names, NamesFormat};
@@ -21,7 +22,7 @@ ghost use Rattle.jpeg_streams.specs.Reported.{told_in_turns, told_rest};
 ghost use Rattle.jpeg_streams.specs.FoundPictures.{blocks_picture, picture_of, picture_by};
 ghost use Rattle.jpeg_streams.specs.FoundPictures.{planes_from, samples_picture};
 ghost use Rattle.jpeg_streams.specs.Found.{nothing_found};
-ghost use Rattle.jpeg_decoder.specs.Bytes.{IsWhole};
+ghost use Rattle.jpeg_decoder.specs.Bytes.{IsWhole, picture_bytes};
 
 use crate::codings::is_progressive;
 use crate::color_choice::choose_color_transform;
@@ -32,9 +33,9 @@ use jpeg_bits::error::{Error, Result, format_error_of};
 use jpeg_bits::marker::Marker;
 use jpeg_bits::reads::read_u8;
 use jpeg_bits::source::Source;
-use jpeg_lossless::lossless::compute_image_lossless;
+use jpeg_lossless::lossless::{compute_image_lossless, compute_image_lossless_into};
 use jpeg_pixels::plane::crop;
-use jpeg_pixels::worker::compute_image_rows;
+use jpeg_pixels::worker::{compute_image_rows, compute_image_rows_into};
 use jpeg_segments::parser::{CodingProcess, Component, Dimensions, FrameInfo};
 use jpeg_streams::settings::Settings;
 use std::alloc::Global;
@@ -208,6 +209,49 @@ fn picture_by(
     compute_image_rows(alloc, components, &planes, frame.output_size, transform)
 }
 
+/// Writes the picture of a frame's planes into memory that has exactly its bytes. After an error
+/// nothing is written.
+fn write_by(
+    alloc: Global,
+    state: &State,
+    frame: &FrameInfo,
+    planes: Vec<Vec<u8>>,
+    settings: Settings,
+    pixels: &mut [u8],
+) -> Result<()>
+    requires frame { IsDecodedFrame (frame_in frame.now) }
+    requires planes { AreWhole (frame_in frame.now).components (map (λ p. p.items) planes.items) }
+    requires count { length planes.items ≡ length (frame_in frame.now).components }
+    requires process { (frame_in frame.now).process ≡ Lossless → ⊥ }
+    requires room { length pixels.old ≡ picture_bytes (frame_in frame.now) }
+    ensures meant { let expected = picture_by settings (metadata_in state.now.metadata)
+        (frame_in frame.now) (frame_in frame.now).components (map (λ p. p.items) planes.items) in
+        MatchResult result (λ u. expected ≡ Ok pixels.new) (λ e. IsRefusal e × Names e expected) }
+    ensures unwritten { OnErr result (pixels.new ≡ pixels.old) }
+{
+    let components = frame.components.as_slice();
+    if components.len() == 1 {
+        let picture = picture_by(alloc, state, frame, planes, settings)?;
+        pixels.copy_from_slice(&picture);
+        return Ok(());
+    }
+    let metadata = &state.metadata;
+    let transform = choose_color_transform(
+        settings.color_transform,
+        components,
+        metadata.jfif,
+        metadata.adobe,
+    );
+    compute_image_rows_into(
+        alloc,
+        components,
+        &planes,
+        frame.output_size,
+        transform,
+        pixels,
+    )
+}
+
 /// Returns the picture of a frame of blocks.
 #[tactic(auto, unfolding(jpeg_streams::specs::FoundPictures::blocks_picture))]
 fn blocks_picture(
@@ -227,6 +271,30 @@ fn blocks_picture(
 {
     let planes = planes_at_end(alloc, state, frame, decoded)?;
     picture_by(alloc, state, frame, planes, settings)
+}
+
+/// Writes the picture of a frame of blocks into memory that has exactly its bytes. After an error
+/// nothing is written.
+#[tactic(auto, unfolding(jpeg_streams::specs::FoundPictures::blocks_picture))]
+fn write_blocks(
+    alloc: Global,
+    state: &State,
+    frame: &FrameInfo,
+    decoded: &mut Decoded,
+    settings: Settings,
+    pixels: &mut [u8],
+) -> Result<()>
+    requires sound { IsSound (with_decoded (found_in state.now) decoded.old) }
+    requires frame { (found_in state.now).frame ≡ Some (frame_in frame.now) }
+    requires process { (frame_in frame.now).process ≡ Lossless → ⊥ }
+    requires room { length pixels.old ≡ picture_bytes (frame_in frame.now) }
+    ensures meant { let expected = blocks_picture settings (with_decoded (found_in state.now) decoded.old)
+        (frame_in frame.now) in
+        MatchResult result (λ u. expected ≡ Ok pixels.new) (λ e. IsRefusal e × Names e expected) }
+    ensures unwritten { OnErr result (pixels.new ≡ pixels.old) }
+{
+    let planes = planes_at_end(alloc, state, frame, decoded)?;
+    write_by(alloc, state, frame, planes, settings, pixels)
 }
 
 /// Returns the samples of a lossless frame's components, which are taken.
@@ -265,6 +333,29 @@ fn samples_picture(
 {
     let planes = samples_at_end(alloc, frame, decoded)?;
     compute_image_lossless(alloc, frame, planes)
+}
+
+/// Writes the picture of a lossless frame into memory that has exactly its bytes. After an error
+/// nothing is written.
+#[tactic(auto, unfolding(jpeg_streams::specs::FoundPictures::samples_picture))]
+fn write_samples(
+    alloc: Global,
+    state: &State,
+    frame: &FrameInfo,
+    decoded: &mut Decoded,
+    pixels: &mut [u8],
+) -> Result<()>
+    requires sound { IsSound (with_decoded (found_in state.now) decoded.old) }
+    requires frame { (found_in state.now).frame ≡ Some (frame_in frame.now) }
+    requires process { (frame_in frame.now).process ≡ Lossless }
+    requires room { length pixels.old ≡ picture_bytes (frame_in frame.now) }
+    ensures meant { let expected =
+        samples_picture (with_decoded (found_in state.now) decoded.old) (frame_in frame.now) in
+        MatchResult result (λ u. expected ≡ Ok pixels.new) (λ e. IsRefusal e × Names e expected) }
+    ensures unwritten { OnErr result (pixels.new ≡ pixels.old) }
+{
+    let planes = samples_at_end(alloc, frame, decoded)?;
+    compute_image_lossless_into(alloc, frame, &planes, pixels)
 }
 
 /// Returns the refusal of a picture that is above the limit.
@@ -310,6 +401,38 @@ fn picture(
     }
 }
 
+/// Writes the picture of what was found, which is taken, into memory that has exactly its bytes:
+/// within the limit, of planes that are there. After an error nothing is written.
+#[tactic(auto, unfolding(jpeg_streams::specs::FoundPictures::picture_of))]
+fn write_picture(
+    alloc: Global,
+    state: &State,
+    decoded: &mut Decoded,
+    settings: Settings,
+    pixels: &mut [u8],
+) -> Result<()>
+    requires sound { IsSound (with_decoded (found_in state.now) decoded.old) }
+    requires room { IfSome (found_in state.now).frame (λ f. length pixels.old ≡ picture_bytes f) }
+    ensures meant { let expected = picture_of settings (with_decoded (found_in state.now) decoded.old) in
+        MatchResult result (λ u. expected ≡ Ok pixels.new) (λ e. IsRefusal e × Names e expected) }
+    ensures unwritten { OnErr result (pixels.new ≡ pixels.old) }
+{
+    let frame = needed(alloc, state.frame.as_ref(), Missing::Frame(Marker::EOI))?;
+    if !is_within(
+        settings.limit,
+        frame.components.len(),
+        area_of(frame.output_size),
+    ) {
+        return Err(limit_error(alloc, frame, settings.limit));
+    }
+    match frame.coding_process {
+        CodingProcess::DctSequential | CodingProcess::DctProgressive => {
+            write_blocks(alloc, state, frame, decoded, settings, pixels)
+        }
+        CodingProcess::Lossless => write_samples(alloc, state, frame, decoded, pixels),
+    }
+}
+
 /// Reads the header of a stream: all through the frame's segment.
 #[tactic(auto, unfolding(jpeg_streams::specs::Stream::header_at, jpeg_streams::specs::Reported::told_by_stream))]
 pub fn read_header<R: Read + Drop>(
@@ -331,35 +454,9 @@ pub fn read_header<R: Read + Drop>(
     state.read(alloc, source, true)
 }
 
-/// Reads the rest of a stream and gives its picture.
-#[tactic(auto, unfolding(jpeg_streams::specs::Stream::rest_at))]
-fn read_picture<R: Read + Drop>(
-    alloc: Global,
-    source: &mut Source<R>,
-    state: &mut State,
-    settings: Settings,
-) -> Result<Vec<u8>>
-    requires sound { IsSound (found_in state.old) }
-    ensures reads { Answers (λ v. (told_of (found_in state.new), v.items))
-        (rest_at settings (found_in state.old)) source.old result source.new }
-    ensures told { OnTold source.old source.new result (told_of (found_in state.new)
-        ≡ told_rest false (found_in state.old) source.old.bytes) }
-    ensures turns { source.old.known ≡ true → IsOfTurns
-        (λ n. told_in_turns n false (found_in state.old) source.old.bytes)
-        (told_of (found_in state.new)) }
-    ensures framed { IfOk result (λ _. is_some (found_in state.new).frame ≡ true) }
-    ensures stays { is_some (found_in state.old).frame ≡ true → (found_in state.new).frame
-        ≡ (found_in state.old).frame }
-    ensures frames { OnOk result (HasDecodedFrame (found_in state.new)) }
-    ensures size { IfOk result (λ v. IsWhole (found_in state.new).frame v.items) }
-{
-    state.read(alloc, source, false)?;
-    let mut decoded = std::mem::replace(&mut state.decoded, Decoded::new(alloc));
-    picture(alloc, state, &mut decoded, settings)
-}
-
 /// Reads the rest of a stream, after its start or its header, and gives its picture. No blocks or
 /// planes are kept.
+#[tactic(auto, unfolding(jpeg_streams::specs::Stream::rest_at))]
 pub fn read_rest<R: Read + Drop>(
     alloc: Global,
     source: &mut Source<R>,
@@ -383,9 +480,43 @@ pub fn read_rest<R: Read + Drop>(
         × ((found_in state.new).planes ≡ replicate 4 None)
         × ((found_in state.new).samples ≡ replicate 4 None) }
 {
-    let result = read_picture(alloc, source, state, settings);
-    state.decoded = Decoded::new(alloc);
-    result
+    let ended = state.read(alloc, source, false);
+    let mut decoded = std::mem::replace(&mut state.decoded, Decoded::new(alloc));
+    ended?;
+    picture(alloc, state, &mut decoded, settings)
+}
+
+/// Reads the rest of a stream, after its header, and writes its picture into memory that has
+/// exactly its bytes. After an error nothing is written. No blocks or planes are kept.
+#[tactic(auto, unfolding(jpeg_streams::specs::Stream::rest_at))]
+pub fn read_rest_into<R: Read + Drop>(
+    alloc: Global,
+    source: &mut Source<R>,
+    state: &mut State,
+    settings: Settings,
+    pixels: &mut [u8],
+) -> Result<()>
+    requires sound { IsSound (found_in state.old) }
+    requires framed { is_some (found_in state.old).frame ≡ true }
+    requires room { IfSome (found_in state.old).frame (λ f. length pixels.old ≡ picture_bytes f) }
+    ensures reads { Answers (λ u. (told_of (found_in state.new), pixels.new))
+        (rest_at settings (found_in state.old)) source.old result source.new }
+    ensures told { OnTold source.old source.new result (told_of (found_in state.new)
+        ≡ told_rest false (found_in state.old) source.old.bytes) }
+    ensures turns { source.old.known ≡ true → IsOfTurns
+        (λ n. told_in_turns n false (found_in state.old) source.old.bytes)
+        (told_of (found_in state.new)) }
+    ensures stays { (found_in state.new).frame ≡ (found_in state.old).frame }
+    ensures frames { OnOk result (HasDecodedFrame (found_in state.new)) }
+    ensures unwritten { OnErr result (pixels.new ≡ pixels.old) }
+    ensures emptied { ((found_in state.new).held ≡ [])
+        × ((found_in state.new).planes ≡ replicate 4 None)
+        × ((found_in state.new).samples ≡ replicate 4 None) }
+{
+    let end = state.read(alloc, source, false);
+    let mut decoded = std::mem::replace(&mut state.decoded, Decoded::new(alloc));
+    end?;
+    write_picture(alloc, state, &mut decoded, settings, pixels)
 }
 
 /// Reads a whole stream and gives its picture. No blocks or planes are kept.

@@ -1,12 +1,10 @@
 //! A scan in a stream: its header, the tables in force, its data (T.81, B.2.3), and what may stand
 //! after it.
-ghost use Rattle.std.specs.Prelude.{◌≡◌, OnOk, Some, true};
+ghost use Rattle.std.specs.Prelude.{OnOk, true};
 ghost use Rattle.jpeg_bits.specs.Reading.{Answers, Names};
 ghost use Rattle.jpeg_decoder.specs.Seen.{found_in};
 ghost use Rattle.jpeg_streams.specs.Sound.{IsSound};
-ghost use Rattle.jpeg_segments.specs.FrameView.{frame_in, scan_in};
-ghost use Rattle.jpeg_segments.specs.ScanHeader.{IsScanOf};
-ghost use Rattle.jpeg_decoder.specs.Steps.{IsDct, IsRefusal, blocks_read, scan_read, with_decoded};
+ghost use Rattle.jpeg_decoder.specs.Steps.{IsRefusal, scan_read, with_decoded};
 ghost use Rattle.jpeg_streams.specs.Stream.{line_count};
 
 use crate::codings::{codings_of, pass_of, spare_tables};
@@ -18,9 +16,8 @@ use crate::scan::Scan;
 use crate::state::State;
 use jpeg_bits::error::{Error, Result, UnsupportedFeature, format_error};
 use jpeg_bits::marker::Marker;
-use jpeg_bits::scan::ScanInfo;
 use jpeg_bits::source::Source;
-use jpeg_segments::parser::{CodingProcess, FrameInfo, parse_sos};
+use jpeg_segments::parser::{CodingProcess, parse_sos};
 use jpeg_streams::before::Before;
 use std::alloc::Global;
 use std::io::Read;
@@ -35,39 +32,6 @@ pub fn refused_line_count(alloc: Global, before: Before) -> Error
             format_error(alloc, "found DNL, expected it only after the first scan")
         }
     }
-}
-
-/// Reads a scan of blocks by what was said before it, with what the scans before it gave, and
-/// returns the marker after it and after the restart markers at its end, if one was reached.
-#[tactic(auto, unfolding(crate::specs::Steps::blocks_read))]
-fn read_blocks_scan<R: Read + Drop>(
-    alloc: Global,
-    source: &mut Source<R>,
-    state: &State,
-    frame: &FrameInfo,
-    header: &ScanInfo,
-    decoded: &mut Decoded,
-) -> Result<Option<Marker>>
-    requires sound { IsSound (with_decoded (found_in state.now) decoded.old) }
-    requires frame { (found_in state.now).frame ≡ Some (frame_in frame.now) }
-    requires process { IsDct (frame_in frame.now).process }
-    requires legal { IsScanOf (frame_in frame.now) (scan_in header.now) }
-    ensures reads { Answers (λ m.
-        (record (with_decoded (found_in state.now) decoded.new) { scanned = true }, m))
-        (blocks_read (with_decoded (found_in state.now) decoded.old) (frame_in frame.now)
-        (scan_in header.now))
-        source.old result source.new }
-    ensures sound { OnOk result (IsSound (record (with_decoded (found_in state.now) decoded.new)
-        { scanned = true })) }
-{
-    let spare = spare_tables(alloc, header, frame, state.metadata.avi1)?;
-    let scan = Scan {
-        pass: pass_of(header),
-        restart_interval: state.restart_interval,
-        components: codings_of(alloc, state, &spare, frame, header)?,
-    };
-    let met = decoded.read(alloc, source, state, frame, &scan)?;
-    pass_restarts(alloc, source, met)
 }
 
 /// Reads a scan by what was said before it, with what the scans before it gave, and returns the
@@ -88,12 +52,15 @@ pub fn read_scan<R: Read + Drop>(
 {
     let frame = needed(alloc, state.frame.as_ref(), Missing::Frame(Marker::SOS))?;
     let header = parse_sos(alloc, source, frame)?;
-    match frame.coding_process {
-        CodingProcess::DctSequential | CodingProcess::DctProgressive => {
-            read_blocks_scan(alloc, source, state, frame, &header, decoded)
-        }
-        CodingProcess::Lossless => {
-            read_lossless_scan(alloc, source, state, frame, &header, decoded)
-        }
+    if frame.coding_process == CodingProcess::Lossless {
+        return read_lossless_scan(alloc, source, state, frame, &header, decoded);
     }
+    let spare = spare_tables(alloc, &header, frame, state.metadata.avi1)?;
+    let scan = Scan {
+        pass: pass_of(&header),
+        restart_interval: state.restart_interval,
+        components: codings_of(alloc, state, &spare, frame, &header)?,
+    };
+    let met = decoded.read(alloc, source, state, frame, &scan)?;
+    pass_restarts(alloc, source, met)
 }

@@ -7,18 +7,18 @@ ghost use Rattle.jpeg_bits.specs.Reading.{Answers};
 ghost use Rattle.jpeg_bits.specs.Entropy.{Takes, fresh};
 ghost use Rattle.jpeg_bits.specs.Intervals.{predictors_at_start};
 ghost use Rattle.jpeg_segments.specs.FrameView.{frame_in};
-ghost use Rattle.jpeg_streams.specs.InTurn.{turn_from, begun_from, next_from, blocks_from};
+ghost use Rattle.jpeg_streams.specs.InTurn.{begun_from, blocks_from};
 ghost use Rattle.jpeg_streams.specs.InTurn.{scan_from, Fits, AreArrays};
 ghost use Rattle.jpeg_streams.specs.Order.{spots_of, mcu_size};
 ghost use Rattle.jpeg_streams.specs.Scans.{Arrays, arrays_at};
-ghost use Rattle.jpeg_decoder.specs.Scanning.{IsHeld, IsSpotOf};
+ghost use Rattle.jpeg_decoder.specs.Scanning.{IsSpotOf};
 ghost use Rattle.jpeg_decoder.specs.Scanning.{scan_pass, scan_vias, scan_components};
 ghost use Rattle.jpeg_decoder.specs.Scanning.{arrays_in, sizes_of, reached, counted};
 
 use crate::restarts::read_restart;
 use crate::scan::Scan;
 use crate::scan_order::ScanOrder;
-use crate::spots::{Spot, Spots};
+use crate::spots::Spots;
 use jpeg_bits::blocks::{BlockCoding, Carried, take_block};
 use jpeg_bits::error::{Error, Result, take_refusal};
 use jpeg_bits::huffman::HuffmanDecoder;
@@ -64,47 +64,6 @@ pub fn first_interval(alloc: Global, left: u64) -> Interval
     }
 }
 
-/// Reads the next block, which is that at a spot.
-fn read_turn<R: Read + Drop>(
-    interval: &mut Interval,
-    source: &mut Source<R>,
-    scan: &Scan<'_>,
-    arrays: &mut Vec<Vec<[i16; 64]>>,
-    spot: Spot,
-) -> bool
-    requires slot { spot.slot < length scan.now.components.items }
-    requires held { IsHeld (sizes_of arrays.now.items) spot.slot spot.index }
-    ensures sizes { sizes_of arrays.new.items ≡ sizes_of arrays.old.items }
-    ensures left { interval.new.left ≡ interval.old.left }
-    ensures number { interval.new.number ≡ interval.old.number }
-    ensures turn { Takes (λ _. reached interval.new (arrays_in arrays.new.items))
-        (turn_from (scan_pass scan.now) (scan_vias scan.now)
-        (record { slot = spot.slot; index = spot.index })
-        (reached interval.old (arrays_in arrays.old.items)))
-        interval.old.decoder source.old (outcome_of result interval.new.refusal)
-        interval.new.decoder source.new }
-    ensures held { result ≡ false → is_some interval.new.refusal ≡ true }
-{
-    let coded = &scan.components[spot.slot];
-    let coding = BlockCoding {
-        pass: scan.pass,
-        slot: spot.slot,
-        dc_table: coded.dc,
-        ac_table: coded.ac,
-    };
-    if !take_block(
-        &mut interval.decoder,
-        source,
-        &coding,
-        &mut interval.carried,
-        &mut arrays[spot.slot][spot.index],
-        &mut interval.refusal,
-    ) {
-        return false;
-    }
-    true
-}
-
 /// Begins the next restart interval, of `n` blocks, where no block is left of this one.
 #[tactic(auto, using(crate::proofs::BlockSteps::begun_rules))]
 fn begin<R: Read + Drop>(interval: &mut Interval, source: &mut Source<R>, n: u64) -> bool
@@ -131,36 +90,6 @@ fn begin<R: Read + Drop>(interval: &mut Interval, source: &mut Source<R>, n: u64
     true
 }
 
-/// Reads the block at a spot, and before it the restart marker, where one is due.
-fn read_next<R: Read + Drop>(
-    interval: &mut Interval,
-    source: &mut Source<R>,
-    scan: &Scan<'_>,
-    arrays: &mut Vec<Vec<[i16; 64]>>,
-    n: u64,
-    spot: Spot,
-) -> bool
-    requires slot { spot.slot < length scan.now.components.items }
-    requires held { IsHeld (sizes_of arrays.now.items) spot.slot spot.index }
-    ensures sizes { sizes_of arrays.new.items ≡ sizes_of arrays.old.items }
-    ensures next { Takes (λ _. counted interval.new (arrays_in arrays.new.items))
-        (next_from (scan_pass scan.now) (scan_vias scan.now) n
-        (record { slot = spot.slot; index = spot.index })
-        (counted interval.old (arrays_in arrays.old.items)))
-        interval.old.decoder source.old (outcome_of result interval.new.refusal)
-        interval.new.decoder source.new }
-    ensures held { result ≡ false → is_some interval.new.refusal ≡ true }
-{
-    if !begin(interval, source, n) {
-        return false;
-    }
-    if !read_turn(interval, source, scan, arrays, spot) {
-        return false;
-    }
-    interval.left = interval.left.saturating_sub(1);
-    true
-}
-
 /// Reads the blocks at some spots, in restart intervals of `n` blocks, or in one where `n` is 0.
 #[tactic(auto, using(crate::proofs::BlockSteps::blocks_rules))]
 pub fn read_spots<R: Read + Drop>(
@@ -180,9 +109,27 @@ pub fn read_spots<R: Read + Drop>(
         interval.old.decoder source.old result interval.new.decoder source.new }
 {
     while let Some(spot) = spots.next() {
-        if !read_next(interval, source, scan, arrays, n, spot) {
+        if !begin(interval, source, n) {
             return Err(take_refusal(&mut interval.refusal));
         }
+        let coded = &scan.components[spot.slot];
+        let coding = BlockCoding {
+            pass: scan.pass,
+            slot: spot.slot,
+            dc_table: coded.dc,
+            ac_table: coded.ac,
+        };
+        if !take_block(
+            &mut interval.decoder,
+            source,
+            &coding,
+            &mut interval.carried,
+            &mut arrays[spot.slot][spot.index],
+            &mut interval.refusal,
+        ) {
+            return Err(take_refusal(&mut interval.refusal));
+        }
+        interval.left = interval.left.saturating_sub(1);
     }
     Ok(())
 }

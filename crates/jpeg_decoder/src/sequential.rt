@@ -1,20 +1,16 @@
 //! Sequential scans, whose planes are made row by row of MCUs (T.81, A.2 and F.2).
-ghost use Rattle.std.specs.Prelude.{[], map, OnOk, length, ◌≡◌, ◌≤◌, ◌<◌, ◌*◌};
+ghost use Rattle.std.specs.Prelude.{map, OnOk, length, ◌≡◌, ◌≤◌, ◌<◌, ◌*◌};
 ghost use Rattle.std.specs.List.{AllByRecursion};
-ghost use Rattle.jpeg_bits.specs.Entropy.{Takes};
 ghost use Rattle.jpeg_bits.specs.Reading.{Answers};
 ghost use Rattle.jpeg_segments.specs.FrameView.{frame_in};
 ghost use Rattle.jpeg_streams.specs.InTurn.{Fits};
-ghost use Rattle.jpeg_decoder.specs.Scanning.{IsSpotOf, sizes_of, counted, down_in};
 ghost use Rattle.jpeg_decoder.specs.Scanning.{scan_pass, scan_vias, scan_components};
 ghost use Rattle.jpeg_decoder.specs.Steps.{coding_in};
-ghost use Rattle.jpeg_decoder.specs.Strips.{no_samples, planes_by_rows, planes_in, row_sizes};
-ghost use Rattle.jpeg_decoder.specs.Strips.{samples_in, strips_from};
-ghost use Rattle.jpeg_decoder.specs.Walk.{walks_of_rows};
+ghost use Rattle.jpeg_decoder.specs.Strips.{no_samples, planes_by_rows, planes_in};
 
 use crate::scan::Scan;
 use crate::scan_order::ScanOrder;
-use crate::scans::{Interval, first_interval, read_spots};
+use crate::scans::{first_interval, read_spots};
 use crate::strips::{append_strips, clear_rows, row_buffers};
 use jpeg_bits::error::Result;
 use jpeg_bits::marker::Marker;
@@ -22,41 +18,6 @@ use jpeg_bits::source::Source;
 use jpeg_segments::parser::FrameInfo;
 use std::alloc::Global;
 use std::io::Read;
-
-/// Reads the rows of MCUs of a scan, and appends the samples of each to the planes of the scan's
-/// components, if there are any.
-fn read_strips<R: Read + Drop>(
-    interval: &mut Interval,
-    source: &mut Source<R>,
-    scan: &Scan<'_>,
-    order: &ScanOrder,
-    rows: &mut Vec<Vec<[i16; 64]>>,
-    planes: &mut Vec<Vec<u8>>,
-) -> Result<()>
-    requires some { 0 < length order.now.members.items }
-    requires sizes { sizes_of rows.now.items ≡ row_sizes scan.now.components.items }
-    requires spots { AllByRecursion (AllByRecursion (IsSpotOf (length scan.now.components.items)
-        (sizes_of rows.now.items))) (walks_of_rows order.now) }
-    requires planes { 0 < length planes.now.items
-        → length planes.now.items ≡ length scan.now.components.items }
-    ensures sizes { planes_in planes.old.items
-        ≡ no_samples (map coding_in scan.now.components.items)
-        → OnOk result (map length (planes_in planes.new.items)
-        ≡ map (λ c. samples_in (order.now.rows * down_in c) c) scan.now.components.items) }
-    ensures strips { Takes (λ _. planes_in planes.new.items)
-        (strips_from (scan_pass scan.now) (scan_vias scan.now) order.now.interval
-        (map coding_in scan.now.components.items) (walks_of_rows order.now)
-        (planes_in planes.old.items) (counted interval.old []))
-        interval.old.decoder source.old result interval.new.decoder source.new }
-{
-    for row in 0..order.rows {
-        clear_rows(rows);
-        let mut spots = order.row(row);
-        read_spots(interval, source, scan, rows, order.interval, &mut spots)?;
-        append_strips(planes, &scan.components, rows)?;
-    }
-    Ok(())
-}
 
 /// Reads a scan of a sequential frame, appends the samples of its blocks to the planes of its
 /// components, and returns the marker after the scan, if one was reached.
@@ -92,6 +53,18 @@ pub fn read_planes<R: Read + Drop>(
     let order = ScanOrder::new(alloc, scan, frame)?;
     let mut interval = first_interval(alloc, order.interval);
     let mut rows = row_buffers(alloc, &scan.components)?;
-    read_strips(&mut interval, source, scan, &order, &mut rows, planes)?;
+    for row in 0..order.rows {
+        clear_rows(&mut rows);
+        let mut spots = order.row(row);
+        read_spots(
+            &mut interval,
+            source,
+            scan,
+            &mut rows,
+            order.interval,
+            &mut spots,
+        )?;
+        append_strips(planes, &scan.components, &rows)?;
+    }
     interval.decoder.take_marker(source)
 }

@@ -65,9 +65,8 @@ const ONWARD: Step = Step {
 };
 
 impl State {
-    ghost use Rattle.std.specs.Prelude.{◌≡◌, ◌&&◌, true, is_some, None, OnErr, OnOk, IfOk, false};
+    ghost use Rattle.std.specs.Prelude.{◌≡◌, ◌&&◌, true, is_some, None, OnOk, IfOk, false};
     ghost use Rattle.jpeg_bits.specs.Reading.{Answers, IsShort};
-    ghost use Rattle.jpeg_segments.specs.FrameView.{component_in, frame_in, scan_in};
     ghost use Rattle.jpeg_streams.specs.Segments.{quantization_segment, frame_segment};
     ghost use Rattle.jpeg_streams.specs.Segments.{restart_segment, huffman_segment};
     ghost use Rattle.jpeg_streams.specs.Segments.{skipped_segment, application_segment};
@@ -78,7 +77,7 @@ impl State {
     ghost use Rattle.jpeg_streams.specs.Reported.{IsOfTurns, told_in_turns, told_rest};
     ghost use Rattle.jpeg_streams.specs.States.{OnTold};
     ghost use Rattle.jpeg_decoder.specs.Seen.{found_in};
-    ghost use Rattle.jpeg_decoder.specs.Steps.{turn_of};
+    ghost use Rattle.jpeg_decoder.specs.Steps.{IsStep, turn_of};
     ghost use Rattle.jpeg_streams.specs.Sound.{IsSound, IsUnread};
     ghost use Rattle.jpeg_streams.specs.declared.before.Before.TheVariants.{Elsewhere};
 
@@ -109,12 +108,7 @@ impl State {
     ) -> Result<Step>
         ensures reads { Answers (turn_of self.new) (frame_segment number (found_in self.old))
             source.old result source.new }
-        ensures kept { OnErr result (told_of (found_in self.new) ≡ told_of (found_in self.old)) }
-        ensures onward { IfOk result (λ s. s.ended ≡ false) }
-        ensures stays { is_some (found_in self.old).frame ≡ true → (found_in self.new).frame
-            ≡ (found_in self.old).frame }
-        ensures sound { IsSound (found_in self.old) → OnOk result (IsSound (found_in self.new)) }
-        ensures unread { IsUnread (found_in self.old) → OnOk result (IsUnread (found_in self.new)) }
+        ensures steps { IsStep (found_in self.old) result (found_in self.new) }
     {
         if self.frame.is_some() {
             return Err(Error::Unsupported(UnsupportedFeature::Hierarchical));
@@ -134,12 +128,7 @@ impl State {
     ) -> Result<Step>
         ensures reads { Answers (turn_of self.new) (quantization_segment (found_in self.old))
             source.old result source.new }
-        ensures kept { OnErr result (told_of (found_in self.new) ≡ told_of (found_in self.old)) }
-        ensures onward { IfOk result (λ s. s.ended ≡ false) }
-        ensures stays { is_some (found_in self.old).frame ≡ true → (found_in self.new).frame
-            ≡ (found_in self.old).frame }
-        ensures sound { IsSound (found_in self.old) → OnOk result (IsSound (found_in self.new)) }
-        ensures unread { IsUnread (found_in self.old) → OnOk result (IsUnread (found_in self.new)) }
+        ensures steps { IsStep (found_in self.old) result (found_in self.new) }
     {
         let mut tables = parse_dqt(alloc, source)?;
         update(&mut self.quantization, &mut tables);
@@ -155,12 +144,7 @@ impl State {
     ) -> Result<Step>
         ensures reads { Answers (turn_of self.new) (huffman_segment (found_in self.old)) source.old
             result source.new }
-        ensures kept { OnErr result (told_of (found_in self.new) ≡ told_of (found_in self.old)) }
-        ensures onward { IfOk result (λ s. s.ended ≡ false) }
-        ensures stays { is_some (found_in self.old).frame ≡ true → (found_in self.new).frame
-            ≡ (found_in self.old).frame }
-        ensures sound { IsSound (found_in self.old) → OnOk result (IsSound (found_in self.new)) }
-        ensures unread { IsUnread (found_in self.old) → OnOk result (IsUnread (found_in self.new)) }
+        ensures steps { IsStep (found_in self.old) result (found_in self.new) }
     {
         let is_baseline = self.frame.as_ref().map(|frame| frame.is_baseline);
         let (mut dc_tables, mut ac_tables) = parse_dht(alloc, source, is_baseline)?;
@@ -178,12 +162,7 @@ impl State {
     ) -> Result<Step>
         ensures reads { Answers (turn_of self.new) (restart_segment (found_in self.old)) source.old
             result source.new }
-        ensures kept { OnErr result (told_of (found_in self.new) ≡ told_of (found_in self.old)) }
-        ensures onward { IfOk result (λ s. s.ended ≡ false) }
-        ensures stays { is_some (found_in self.old).frame ≡ true → (found_in self.new).frame
-            ≡ (found_in self.old).frame }
-        ensures sound { IsSound (found_in self.old) → OnOk result (IsSound (found_in self.new)) }
-        ensures unread { IsUnread (found_in self.old) → OnOk result (IsUnread (found_in self.new)) }
+        ensures steps { IsStep (found_in self.old) result (found_in self.new) }
     {
         self.restart_interval = parse_dri(alloc, source)?;
         Ok(ONWARD)
@@ -199,12 +178,7 @@ impl State {
     ) -> Result<Step>
         ensures reads { Answers (turn_of self.new) (application_segment number (found_in self.old))
             source.old result source.new }
-        ensures kept { OnErr result (told_of (found_in self.new) ≡ told_of (found_in self.old)) }
-        ensures onward { IfOk result (λ s. s.ended ≡ false) }
-        ensures stays { is_some (found_in self.old).frame ≡ true → (found_in self.new).frame
-            ≡ (found_in self.old).frame }
-        ensures sound { IsSound (found_in self.old) → OnOk result (IsSound (found_in self.new)) }
-        ensures unread { IsUnread (found_in self.old) → OnOk result (IsUnread (found_in self.new)) }
+        ensures steps { IsStep (found_in self.old) result (found_in self.new) }
     {
         let said = parse_app(alloc, source, Marker::APP(number))?;
         self.metadata.add(said)?;
@@ -216,7 +190,7 @@ impl State {
     fn skip_segment<R: Read + Drop>(&self, alloc: Global, source: &mut Source<R>) -> Result<Step>
         ensures reads { Answers (turn_of self.now) (skipped_segment (found_in self.now)) source.old
             result source.new }
-        ensures onward { IfOk result (λ s. s.ended ≡ false) }
+        ensures steps { IsStep (found_in self.now) result (found_in self.now) }
     {
         let length = read_length(alloc, source)?;
         skip(alloc, source, length)?;
@@ -228,7 +202,7 @@ impl State {
     fn end<R: Read + Drop>(&self, alloc: Global, source: &mut Source<R>) -> Result<Step>
         ensures reads { Answers (turn_of self.now) (end_segment (found_in self.now)) source.old
             result source.new }
-        ensures framed { IfOk result (λ _. is_some (found_in self.now).frame ≡ true) }
+        ensures steps { IsStep (found_in self.now) result (found_in self.now) }
     {
         if self.frame.is_none() {
             return Err(format_error(alloc, "found EOI, expected a frame header"));
@@ -269,13 +243,7 @@ impl State {
         requires sound { IsSound (found_in self.old) }
         ensures reads { Answers (turn_of self.new) (scan_segment (found_in self.old)) source.old
             result source.new }
-        ensures kept { OnErr result (told_of (found_in self.new) ≡ told_of (found_in self.old)) }
-        ensures onward { IfOk result (λ s. s.ended ≡ false) }
-        ensures stays { is_some (found_in self.old).frame ≡ true → (found_in self.new).frame
-            ≡ (found_in self.old).frame }
-        ensures sound { IsSound (found_in self.old) → OnOk result (IsSound (found_in self.new)) }
-        ensures unread { (found_in self.old).frame ≡ None
-            → OnOk result (IsUnread (found_in self.new)) }
+        ensures steps { IsStep (found_in self.old) result (found_in self.new) }
     {
         self.widen_tables(alloc)?;
         let mut decoded = std::mem::replace(&mut self.decoded, Decoded::new(alloc));
@@ -301,7 +269,7 @@ impl State {
     ) -> Result<Step>
         ensures reads { Answers (turn_of self.now) (stray_restart before (found_in self.now))
             source.old result source.new }
-        ensures onward { IfOk result (λ s. s.ended ≡ false) }
+        ensures steps { IsStep (found_in self.now) result (found_in self.now) }
     {
         match before {
             Before::FirstScan | Before::LaterScan => Ok(ONWARD),
@@ -311,27 +279,22 @@ impl State {
         }
     }
 
-    /// Reads what stands after a marker.
-    #[tactic(auto, unfolding(jpeg_streams::specs::Stream::segment_at))]
-    fn read_segment<R: Read + Drop>(
+    /// Reads one marker, which may have been reached already, and what stands after it.
+    #[tactic(auto, unfolding(jpeg_streams::specs::Stream::turn_at, jpeg_streams::specs::Stream::segment_at))]
+    fn read_turn<R: Read + Drop>(
         &mut self,
         alloc: Global,
         source: &mut Source<R>,
-        marker: Marker,
         before: Before,
+        met: Option<Marker>,
     ) -> Result<Step>
         requires sound { IsSound (found_in self.old) }
-        ensures reads { Answers (turn_of self.new) (segment_at marker before (found_in self.old))
+        ensures reads { Answers (turn_of self.new) (turn_at before (found_in self.old) met)
             source.old result source.new }
-        ensures kept { OnErr result (told_of (found_in self.new) ≡ told_of (found_in self.old)) }
-        ensures framed { IfOk result (λ s. s.ended ≡ true → is_some (found_in self.new).frame
-            ≡ true) }
-        ensures stays { is_some (found_in self.old).frame ≡ true → (found_in self.new).frame
-            ≡ (found_in self.old).frame }
-        ensures sound { IsSound (found_in self.old) → OnOk result (IsSound (found_in self.new)) }
-        ensures unread { (found_in self.old).frame ≡ None
-            → OnOk result (IsUnread (found_in self.new)) }
+        ensures steps { IsStep (found_in self.old) result (found_in self.new) }
+        ensures short { met ≡ None → IsShort source.old }
     {
+        let marker = marker_or_next(alloc, source, met)?;
         match marker {
             Marker::SOF(number) => self.read_frame(alloc, source, number),
             Marker::DQT => self.read_quantization(alloc, source),
@@ -349,32 +312,6 @@ impl State {
                 "found {marker}, expected the marker of a segment"
             ))),
         }
-    }
-
-    /// Reads one marker, which may have been reached already, and what stands after it.
-    #[tactic(auto, unfolding(jpeg_streams::specs::Stream::turn_at))]
-    fn read_turn<R: Read + Drop>(
-        &mut self,
-        alloc: Global,
-        source: &mut Source<R>,
-        before: Before,
-        met: Option<Marker>,
-    ) -> Result<Step>
-        requires sound { IsSound (found_in self.old) }
-        ensures reads { Answers (turn_of self.new) (turn_at before (found_in self.old) met)
-            source.old result source.new }
-        ensures kept { OnErr result (told_of (found_in self.new) ≡ told_of (found_in self.old)) }
-        ensures short { met ≡ None → IsShort source.old }
-        ensures framed { IfOk result (λ s. s.ended ≡ true → is_some (found_in self.new).frame
-            ≡ true) }
-        ensures stays { is_some (found_in self.old).frame ≡ true → (found_in self.new).frame
-            ≡ (found_in self.old).frame }
-        ensures sound { IsSound (found_in self.old) → OnOk result (IsSound (found_in self.new)) }
-        ensures unread { (found_in self.old).frame ≡ None
-            → OnOk result (IsUnread (found_in self.new)) }
-    {
-        let marker = marker_or_next(alloc, source, met)?;
-        self.read_segment(alloc, source, marker, before)
     }
 
     /// Returns whether the frame was read, where the header is wanted alone.

@@ -1,5 +1,5 @@
 //! Planes, as they grow by rows of blocks: in a sequential scan row by row of MCUs (T.81, A.2).
-ghost use Rattle.std.specs.Prelude.{[], map, length, pos, replicate, IfOk, OnOk};
+ghost use Rattle.std.specs.Prelude.{map, length, pos, replicate, IfOk, OnOk};
 ghost use Rattle.std.specs.Prelude.{◌≡◌, ◌≤◌, ◌<◌, ◌*◌, ◌++◌};
 ghost use Rattle.jpeg_bits.specs.BlockView.{to_block};
 ghost use Rattle.jpeg_bits.specs.Zigzag.{values_in_block_order};

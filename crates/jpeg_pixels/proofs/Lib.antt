@@ -16,6 +16,7 @@ pub mod RuleRatios
 pub mod FrameCovers
 pub mod FramesOfFactors
 pub mod ComponentLines
+pub mod FilledLines
 pub mod CroppedLines
 pub mod GivenRows
 pub mod Greys

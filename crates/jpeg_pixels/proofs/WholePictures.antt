@@ -3,6 +3,7 @@ use Rattle.std.proofs.lemmas.Grind.{common_steps}
 use Rattle.std.proofs.Common.{◌≡◌, ℕ, ◌+◌, ◌==◌, List, [], ◌∷◌, ◌++◌, length, map, sym, ap, subst}
 use Rattle.std.proofs.Common.{◌∙◌, refl, arith, take, length-drop, ◌-◌, Vec, Global, MatchResult, Result, Ok, Err}
 use Rattle.std.proofs.Common.{if◌then◌else◌, rules}
+use Rattle.std.specs.Prelude.{IfErr, OnOk}
 use Rattle.std.proofs.lemmas.List.{append-nil, take-append-drop}
 use Rattle.std.proofs.Math.ListN.{drop_of_length-le}
 use Rattle.std.proofs.Math.Seq.{take-append_seam}
@@ -107,6 +108,20 @@ image-answer components planes width height transform convert sources w h (Ok v)
     ∙ (λ i. picture_bytes convert sources planes (wide i) (high i)))
 image-answer components planes width height transform convert sources w h (Err e) conversion is wide high same =
     subst (λ (d : Error). Names d (image_of components planes width height transform)) (sym same) tt
+
+-- the same where it is written into memory
+pub image-written : (components : List Component) (planes : List (List ℕ)) (width height : ℕ)
+    (transform : ColorTransform) (convert : ColorConvert) (sources : List Source) (pixels : List ℕ)
+    (result : Result (Unit {0}) Error)
+    → conversion_of (length components) transform ≡ Ok convert → sources_of components width height ≡ Ok sources
+    → OnOk result (pixels ≡ picture_bytes convert sources planes width height)
+    → IfErr result (λ e. e ≡ OutOfMemory)
+    → MatchResult result (λ u. image_of components planes width height transform ≡ Ok pixels)
+    (λ e. Names e (image_of components planes width height transform))
+image-written components planes width height transform convert sources pixels (Ok u) conversion is same memory =
+    image-is components planes width height transform convert sources pixels conversion is same
+image-written components planes width height transform convert sources pixels (Err e) conversion is same memory =
+    subst (λ (d : Error). Names d (image_of components planes width height transform)) (sym memory) tt
 
 pub sources-count : (components : List Component) (width height : ℕ) (sources : List Source)
     → sources_of components width height ≡ Ok sources → length sources ≡ length components

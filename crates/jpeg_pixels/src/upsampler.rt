@@ -4,14 +4,14 @@ ghost use Rattle.jpeg_bits.specs.Reading.{Gives, NamesFormat};
 ghost use Rattle.jpeg_pixels.specs.Upsampling.{upsampled, across, down};
 ghost use Rattle.jpeg_pixels.specs.Colour.{conversion_of};
 
-use crate::picture_lines::{Line, lines_from_above, write_line};
+use crate::picture_lines::{Line, lines_from_above, write_line, write_lines};
 use crate::sources::component_sources;
 use crate::upsample_rows::{
     far_line, line_at, repeat_samples, upsample_row_h1v2, upsample_row_h2v1, upsample_row_h2v2,
 };
 use jpeg_bits::color_transform::ColorTransform;
 use jpeg_bits::error::{Error, Result, UnsupportedFeature, format_error_of};
-use jpeg_segments::parser::Component;
+use jpeg_segments::parser::{Component, Dimensions};
 use std::alloc::Global;
 use std::marker::Model;
 
@@ -192,7 +192,8 @@ impl Model for Upsampler {
 }
 
 impl Upsampler {
-    ghost use Rattle.std.specs.Prelude.{◌≡◌, ◌+◌, ◌*◌, ◌≤◌, map, length, OnOk, IfErr, MatchResult};
+    ghost use Rattle.std.specs.Prelude.{◌≡◌, ◌+◌, ◌*◌, ◌≤◌, map, length, OnErr, OnOk, IfErr};
+    ghost use Rattle.std.specs.Prelude.{MatchResult};
     ghost use Rattle.jpeg_bits.specs.Reading.{Gives};
     ghost use Rattle.jpeg_bits.specs.declared.error.Error.TheVariants.{OutOfMemory};
     ghost use Rattle.jpeg_segments.specs.FrameView.{component_in};
@@ -284,5 +285,40 @@ impl Upsampler {
             color_convert,
         )?;
         Ok(picture)
+    }
+
+    /// Writes all lines of the picture, from above, into memory that has exactly its bytes. The
+    /// only error is that no memory is left; nothing is written then.
+    pub(crate) fn write_picture(
+        &self,
+        component_data: &[Vec<u8>],
+        size: Dimensions,
+        color_convert: ColorConvert,
+        picture: &mut [u8],
+    ) -> Result<()>
+        requires most { length self.now ≤ 4 }
+        requires planes { length component_data.now ≡ length self.now }
+        requires cover { AllCover self.now (map (λ v. v.items) component_data.now) size.width
+            size.height }
+        requires fits { IsFor (length self.now) color_convert }
+        requires room { length picture.old ≡ length self.now * size.width * size.height }
+        ensures picture { OnOk result (picture.new ≡ picture_bytes color_convert self.now
+            (map (λ v. v.items) component_data.now) size.width size.height) }
+        ensures unwritten { OnErr result (picture.new ≡ picture.old) }
+        ensures err { IfErr result (λ e. e ≡ OutOfMemory) }
+    {
+        let components = self.components.as_slice();
+        let line_size = components.len() * usize::from(size.width);
+        let mut lines = vec![in self.alloc; 0; line_size]?;
+        let lines = lines.as_mut_slice();
+        write_lines(
+            components,
+            component_data,
+            size,
+            color_convert,
+            lines,
+            picture,
+        );
+        Ok(())
     }
 }

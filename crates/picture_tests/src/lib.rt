@@ -10,6 +10,8 @@ mod gives;
 #[cfg(test)]
 mod headers;
 #[cfg(test)]
+mod into;
+#[cfg(test)]
 mod large;
 #[cfg(test)]
 mod limits;

@@ -1,23 +1,24 @@
-use Rattle.std.proofs.Common.{◌+◌, ◌++◌, ◌∙◌, ap, arith, take, List, ℕ}
-use Rattle.jpeg_lossless.proofs.StretchedLines.{IsColumn, copied_whole, next_column, same_column, stretched_step}
+use Rattle.std.proofs.Common.{◌≡◌, ◌+◌, ◌∙◌, ap, arith, length, sym, take}
+use Rattle.std.proofs.lemmas.List.{take_all, take_more_set}
+use Rattle.jpeg_lossless.proofs.StretchedLines.{IsColumn, copied_whole, next_column, same_column, stretched, stretched_step}
 use Rattle.jpeg_lossless.proofs.picture.stretch.Goals.{then-rest-from, else-rest-from}
 use Rattle.jpeg_lossless.proofs.picture.stretch.Goals as goal
 
 pub returns-then-factor-most : goal.returns-then-factor-most
 returns-then-factor-most c =
     let a = c.args in
-    c.in_ok-extend_from_slice.ensures.items
-    ∙ ap (λ (l : List ℕ). l ++ take a.width a.own.now) c.clear.ensures.items
-    ∙ copied_whole a.own.now a.most a.factor a.width c.requires.some c.if-factor-most.true c.requires.reaches
+    c.copy_from_slice.ensures.after
+    ∙ copied_whole a.own.now a.most a.factor (length a.line.now) c.requires.some c.if-factor-most.true
+    c.requires.reaches
 
-pub loop-preserved : goal.loop-preserved
-loop-preserved c =
+pub loop-x-preserved : goal.loop-x-preserved
+loop-x-preserved c =
     let a = c.args in
-    let l = c.loop in
+    let l = c.loop-x in
     record {
-      column = elim c.if-rest-from.branch as (λ _. IsColumn a.factor a.most (l.counter + 1) c.if-rest-from.column
+      column = elim c.if-rest-from.branch as (λ _. IsColumn a.factor a.most (l.x + 1) c.if-rest-from.column
           c.if-rest-from.rest) [
-            | then-rest-from w ↦ next_column a.factor a.most l.counter l.column l.rest c.if-rest-from.column
+            | then-rest-from w ↦ next_column a.factor a.most l.x l.column l.rest c.if-rest-from.column
                 c.if-rest-from.rest c.requires.most l.invariant.column w.column-is
                 (omega (
                   arith,
@@ -27,10 +28,18 @@ loop-preserved c =
                   c.from.ensures,
                   c.from-rest.ensures,
                 ))
-            | else-rest-from w ↦ same_column a.factor a.most l.counter l.column l.rest c.if-rest-from.column
+            | else-rest-from w ↦ same_column a.factor a.most l.x l.column l.rest c.if-rest-from.column
                 c.if-rest-from.rest l.invariant.column w.column-is (omega (arith, w.rest-is, c.from-rest.ensures))
                 (omega (arith, w.rest-is, w.if-rest-from.false, c.from.ensures))
           ];
-      line = stretched_step a.own.now l.line.items c.push.new.self.items a.factor a.most l.counter l.column l.rest
-          l.invariant.column l.invariant.line c.in_ok-push.ensures.items;
+      line = stretched_step a.own.now (take l.x l.line) _ a.factor a.most l.x l.column l.rest l.invariant.column
+          l.invariant.line (take_more_set l.line l.x _ (omega (arith, l.auto.line, c.loop-x-test.true)));
     }
+
+pub returns : goal.returns
+returns c =
+    let a = c.args in
+    let l = c.loop-x in
+    let end : l.x ≡ length a.line.now = omega (arith, l.auto.x-end, c.loop-x-test.false) in
+    sym (take_all l.x l.line (omega (arith, l.auto.line, end))) ∙ l.invariant.line
+    ∙ ap (stretched a.own.now a.factor a.most) end

@@ -1,9 +1,9 @@
-use Rattle.std.proofs.Common.{◌≡◌}
+use Rattle.std.proofs.Common.{◌≡◌, take}
 use Rattle.jpeg_lossless.proofs.StretchedLines.{IsColumn, stretched}
 use Rattle.jpeg_lossless.proofs.picture.stretch.Given as goal
 
-abbrev pub invariant-loop : goal.invariant-loop
-invariant-loop l = record {
-  column : IsColumn l.factor l.most l.counter l.column l.rest;
-  line : l.line.items ≡ stretched l.own l.factor l.most l.counter;
+abbrev pub invariant-loop-x : goal.invariant-loop-x
+invariant-loop-x l = record {
+  column : IsColumn l.factor l.most l.x l.column l.rest;
+  line : take l.x l.line ≡ stretched l.own l.factor l.most l.x;
 }

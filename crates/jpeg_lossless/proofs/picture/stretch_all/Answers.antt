@@ -1,4 +1,5 @@
-use Rattle.std.proofs.Common.{◌≡◌, ◌<◌, ◌+◌, ◌++◌, ◌∷◌, ◌∙◌, ap, sym, arith, drop, length, length-set}
+use Rattle.std.proofs.Common.{◌≡◌, ◌<◌, ◌+◌, ◌++◌, ◌∷◌, ◌∙◌, ap, sym, arith, drop, length, length-set, subst}
+use Rattle.std.specs.Vec.{with_items}
 use Rattle.std.proofs.Common.{map, take, rules, List, ℕ}
 use Rattle.std.proofs.Common.{append-nil, slice_index_or, Vec, Global}
 use Rattle.std.proofs.lemmas.List.{length-map, map-set, take_all}
@@ -6,9 +7,11 @@ use Rattle.std.specs.List.{AllByRecursion}
 use Rattle.jpeg_segments.specs.Frame.{AllHaveSampling, Frame}
 use Rattle.jpeg_segments.specs.FrameView.{component_in, frame_in}
 use Rattle.jpeg_segments.specs.declared.parser.Component.{Component}
-use Rattle.jpeg_lossless.specs.Pictures.{ArePlanesOf, Layer, Reaches, layer_of, layers_of, lines_across}
+use Rattle.jpeg_lossless.specs.Pictures.{ArePlanesOf, AreWide, Layer, Reaches, layer_of, layers_of, lines_across}
+use Rattle.jpeg_lossless.proofs.FilledLines.{wide-at, wide-set}
 use Rattle.jpeg_lossless.proofs.ImageLoops.{IsPixelOf, greatest-some, layers_none, layers_step, pixels-at, planes-count}
 use Rattle.jpeg_lossless.proofs.RowLoops.{mapped-at, mapped-within}
+use Rattle.jpeg_lossless.proofs.Sizes.{written-back}
 use Rattle.jpeg_lossless.proofs.StretchedLines.{factor_most, line_inside, line_reaches, lines_more, lines_none}
 use Rattle.jpeg_lossless.proofs.StretchedLines.{lines_step, own_samples}
 use Rattle.jpeg_lossless.proofs.picture.stretch_all.Goals as goal
@@ -69,18 +72,34 @@ stretch-requires-clause-most c =
           (mapped-within component_in cs c.loop-i.i inside) (mapped-at component_in cs c.loop-i.i r at),
     )
 
+-- the line is as wide as the picture
+wide-line : (n i : ℕ) (lines : List (Vec ℕ Global)) (r : Vec ℕ Global) (slice : List ℕ)
+    → AreWide n (map (λ v. v.items) lines) → i < length lines → r ≡ slice_index_or lines i r → slice ≡ r.items
+    → length slice ≡ n
+wide-line n i lines r slice wide h e is =
+    ap length is ∙ sym (ap length (mapped-at (λ v. v.items) lines i r e))
+    ∙ wide-at n i (map (λ v. v.items) lines) r.items wide (mapped-within (λ v. v.items) lines i h)
+
 pub stretch-requires-clause-reaches : goal.stretch-requires-clause-reaches
 stretch-requires-clause-reaches c =
     let frame = frame_in c.args.frame.now in
     let cs = c.args.frame.now.components.items in
+    let i = c.loop-i.i in
     let r = c.index-component.result.now in
     let p = c.index-planes-i.result in
-    let at : r ≡ slice_index_or cs c.loop-i.i r = search rules in
-    let is = component-at frame cs c.args.planes.now c.loop-i.i r p c.requires.whole c.requires.reaches
+    let at : r ≡ slice_index_or cs i r = search rules in
+    let is = component-at frame cs c.args.planes.now i r p c.requires.whole c.requires.reaches
     c.requires.sampling c.loop-i-test.true at c.index-planes-i.is in
+    let within : i < length c.loop-i.lines = omega (arith, c.loop-i.invariant.count, c.loop-i-test.true) in
+    let wide = wide-line frame.width i c.loop-i.lines c.index-lines-i.result c.as_mut_slice.result.now
+    c.loop-i.invariant.wide within c.index-lines-i.is
+    (c.as_mut_slice.ensures.value ∙ ap (λ (v : Vec ℕ Global). v.items) (sym c.index-lines-i.is)) in
     line_reaches frame (component_in r) p.items c.deref.result.now c.line_of-own.result.now c.args.y c.args.horizontal
-    c.args.vertical c.from-width.result c.requires.horizontal c.requires.vertical c.from-width.ensures
+    c.args.vertical (length c.as_mut_slice.result.now) c.requires.horizontal c.requires.vertical wide
     c.deref.ensures.value c.line_of-own.ensures is c.requires.y
+
+items-is : (v : Vec ℕ Global) (new : List ℕ) → length new ≡ length v.items → (with_items v new).items ≡ new
+items-is v new h = search (rules, written-back)
 
 pub loop-i-preserved : goal.loop-i-preserved
 loop-i-preserved c =
@@ -93,7 +112,10 @@ loop-i-preserved c =
     let r = c.index-component.result.now in
     let p = c.index-planes-i.result in
     let old = map (λ v. v.items) c.loop-i.lines in
-    let new = c.stretch.new.line.items in
+    let new = c.stretch.new.line in
+    let own = slice_index_or c.loop-i.lines i c.index-lines-i.result in
+    let put = with_items own new in
+    let written = items-is own new (c.stretch.auto.line ∙ ap length c.as_mut_slice.ensures.value) in
     let at : r ≡ slice_index_or cs i r = search rules in
     let is = component-at frame cs planes i r p c.requires.whole c.requires.reaches c.requires.sampling
     c.loop-i-test.true at c.index-planes-i.is in
@@ -105,22 +127,28 @@ loop-i-preserved c =
       c.loop-i-test.true,
       length-map c.loop-i.lines (λ v. v.items),
     ) in
+    let wide = wide-line frame.width i c.loop-i.lines c.index-lines-i.result c.as_mut_slice.result.now
+    c.loop-i.invariant.wide (omega (arith, c.loop-i.invariant.count, c.loop-i-test.true)) c.index-lines-i.is
+    (c.as_mut_slice.ensures.value ∙ ap (λ (v : Vec ℕ Global). v.items) (sym c.index-lines-i.is)) in
     let across : List Layer → List (List ℕ) = λ l. lines_across a.horizontal a.vertical frame.width l a.y in
     let rest = layers_of (drop (i + 1) (map component_in cs)) (drop (i + 1) grids) in
     let step = layers_step i (map component_in cs) grids (component_in r) p.items inside within
     (mapped-at component_in cs i r at) (mapped-at (λ v. v.items) planes i p c.index-planes-i.is) in
     let made = own_samples frame (component_in r) p.items c.deref.result.now c.line_of-own.result.now new a.y
-    a.horizontal a.vertical c.from-width.result c.requires.horizontal c.requires.vertical c.from-width.ensures
-    c.deref.ensures.value c.line_of-own.ensures c.in_ok-stretch.ensures is in
-    let next : across (layer_of (component_in r) p.items ∷ rest) ≡ new ∷ across rest =
+    a.horizontal a.vertical (length c.as_mut_slice.result.now) c.requires.horizontal c.requires.vertical wide
+    c.deref.ensures.value c.line_of-own.ensures c.stretch.ensures is in
+    let next : across (layer_of (component_in r) p.items ∷ rest) ≡ put.items ∷ across rest =
     lines_more a.horizontal a.vertical frame.width a.y (layer_of (component_in r) p.items) rest
-    ∙ ap (λ (l : List ℕ). l ∷ across rest) (sym made) in
+    ∙ ap (λ (l : List ℕ). l ∷ across rest) (sym (written ∙ made)) in
     record {
-      count = length-set c.loop-i.lines i c.stretch.new.line ∙ c.loop-i.invariant.count;
+      count = length-set c.loop-i.lines i put ∙ c.loop-i.invariant.count;
+      wide = subst (AreWide frame.width) (sym (map-set (λ v. v.items) c.loop-i.lines i put))
+          (wide-set frame.width i old put.items c.loop-i.invariant.wide
+          (ap length written ∙ c.stretch.auto.line ∙ wide));
       lines =
           ap (λ (l : List (List ℕ)). take (i + 1) l ++ across rest)
-          (map-set (λ v. v.items) c.loop-i.lines i c.stretch.new.line)
-          ∙ sym (lines_step i old (across rest) new room)
+          (map-set (λ v. v.items) c.loop-i.lines i put)
+          ∙ sym (lines_step i old (across rest) put.items room)
           ∙ sym (ap (λ (l : List (List ℕ)). take i old ++ l) (ap across step ∙ next))
           ∙ c.loop-i.invariant.lines;
     }

@@ -38,7 +38,7 @@ returns-in_err-step-clause-told g c =
     let here = c.loop.invariant.reads.1 k in
     told-err _ (turn_at c.loop.before found c.loop.met c.loop.source.bytes) _ (c.in_err-step.ensures.reads.1 here.0
     known)
-    (λ f h. c.in_err-step.ensures.kept ∙ ap (λ (f : Found). told_of f) (sym (c.loop.invariant.told k
+    (λ f h. c.in_err-step.ensures.steps.kept ∙ ap (λ (f : Found). told_of f) (sym (c.loop.invariant.told k
     ∙ told-refused c.args.header c.loop.before found c.loop.met c.loop.source.bytes f (sym c.if-is_read_for.ensures)
     h))))
 
@@ -63,7 +63,7 @@ pub returns-in_err-step-clause-turns : goal.returns-in_err-step-clause-turns
 unfolding IsOfTurns
 returns-in_err-step-clause-turns g c k = (
   c.loop.counter + 0,
-  c.in_err-step.ensures.kept ∙ ap (λ (f : Found). told_of f) (sym (c.loop.invariant.turns k 0
+  c.in_err-step.ensures.steps.kept ∙ ap (λ (f : Found). told_of f) (sym (c.loop.invariant.turns k 0
       ∙ within-none c.args.header c.loop.before (found_in c.loop.self) c.loop.met c.loop.source.bytes)),
 )
 
@@ -119,11 +119,11 @@ returns-then-is_read_for-clause-stays g c = c.loop.invariant.stays
 
 pub returns-in_err-step-clause-stays : goal.returns-in_err-step-clause-stays
 returns-in_err-step-clause-stays g c h =
-    stays-on c.loop.self c.read_turn.new.self c.args.self.now (c.loop.invariant.stays h) c.in_err-step.ensures.stays h
+    stays-on c.loop.self c.read_turn.new.self c.args.self.now (c.loop.invariant.stays h) c.in_err-step.ensures.steps.stays h
 
 pub returns-then-step-clause-stays : goal.returns-then-step-clause-stays
 returns-then-step-clause-stays g c h =
-    stays-on c.loop.self c.read_turn.new.self c.args.self.now (c.loop.invariant.stays h) c.in_ok-step.ensures.stays h
+    stays-on c.loop.self c.read_turn.new.self c.args.self.now (c.loop.invariant.stays h) c.in_ok-step.ensures.steps.stays h
 
 pub returns-clause-stays : goal.returns-clause-stays
 returns-clause-stays g c h =
@@ -131,7 +131,7 @@ returns-clause-stays g c h =
       | else-loop-test w ↦ rw w.self-is (c.loop.invariant.stays h)
       | then-loop-test+else-is_read_for+in_ok-step+else-step+else-counter-lt18446744073709551615 w ↦ rw w.self-is
           (stays-on c.loop.self w.read_turn.new.self c.args.self.now (c.loop.invariant.stays h)
-          w.in_ok-step.ensures.stays h)
+          w.in_ok-step.ensures.steps.stays h)
     ]
 
 pub loop-preserved : goal.loop-preserved
@@ -179,10 +179,10 @@ loop-preserved g c =
       short = λ _. short-step c.loop.counter c.loop.met c.loop.source c.args.source.now c.loop.invariant.short
           c.loop.invariant.first c.in_ok-step.ensures.short;
       stays = λ h. stays-on c.loop.self c.read_turn.new.self c.args.self.now (c.loop.invariant.stays h)
-          c.in_ok-step.ensures.stays h;
-      sound = c.in_ok-step.ensures.sound c.loop.invariant.sound;
-      unread = λ h _. c.in_ok-step.ensures.unread (not-framed c.args.header found.frame (sym c.if-is_read_for.ensures)
-          h);
+          c.in_ok-step.ensures.steps.stays h;
+      sound = c.in_ok-step.ensures.steps.sound c.loop.invariant.sound;
+      unread = λ h e. c.in_ok-step.ensures.steps.unread (not-framed c.args.header found.frame
+          (sym c.if-is_read_for.ensures) h) (c.loop.invariant.unread h e);
       first = λ e. absurd (omega arith);
     }
 

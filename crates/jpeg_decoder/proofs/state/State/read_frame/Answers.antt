@@ -1,4 +1,4 @@
-use Rattle.std.proofs.Common.{sym, refl}
+use Rattle.std.proofs.Common.{sym, refl, rules}
 use Rattle.jpeg_segments.specs.FrameView.{frame_in}
 use Rattle.jpeg_decoder.specs.Seen.{found_in}
 use Rattle.jpeg_streams.proofs.SegmentParts.{no-frame, frame-read}
@@ -18,7 +18,13 @@ returns-clause-reads g c =
           ),
     )
 
-pub returns-clause-sound : goal.returns-clause-sound
-returns-clause-sound g c sound =
-    sound-framed (found_in c.args.self.now) (frame_in c.in_ok-frame.frame) sound
-    (no-frame c.args.self.now.frame (sym c.if-is_some.ensures)) c.in_ok-frame.ensures.made c.in_ok-check_frame.ensures
+pub returns-clause-steps : goal.returns-clause-steps
+returns-clause-steps g c = record {
+  kept = search rules;
+  framed = search rules;
+  stays = search rules;
+  sound = λ sound. sound-framed (found_in c.args.self.now) (frame_in c.in_ok-frame.frame) sound
+      (no-frame c.args.self.now.frame (sym c.if-is_some.ensures)) c.in_ok-frame.ensures.made
+      c.in_ok-check_frame.ensures;
+  unread = search rules;
+}

@@ -1,0 +1,205 @@
+use Rattle.std.proofs.Common.{◌≡◌, ◌++◌, ◌∙◌, ℕ, List, [], Ok, Err, Result, ap, sym, subst, drop, length, length-take, take, arith}
+use Rattle.std.proofs.Common.{rules}
+use Rattle.std.proofs.lemmas.Result.{err_from_is_err_and}
+use Rattle.jpeg_bits.specs.declared.error.Error.{Error}
+use Rattle.std.specs.Prelude.{OnOk}
+use Rattle.jpeg_streams.specs.Sound.{HasDecodedFrame}
+use Rattle.jpeg_streams.specs.Stream.{told_of}
+use Rattle.jpeg_streams.specs.Found.{Found}
+use Rattle.jpeg_decoder.specs.Seen.{found_in, stage_of}
+use Rattle.jpeg_decoder.proofs.DecodedImages.{decodes-images}
+use Rattle.jpeg_decoder.proofs.DecodedInto.{HasRead, IsBegun, begun-seen, front-of, into-err, into-ok, into-refused}
+use Rattle.jpeg_decoder.proofs.DecodedSamples.{decodes-samples}
+use Rattle.jpeg_decoder.proofs.PictureSizes.{counted, whole-if}
+use Rattle.jpeg_decoder.proofs.decoder.Decoder.decode_into.Given as given
+use Rattle.jpeg_decoder.proofs.decoder.Decoder.decode_into.Goals as goal
+
+-- ---- the header was refused
+
+refused : (g : given.Over) (c : goal.After-drop_decoded g)
+    → HasRead (λ (n : ℕ). []) (told_of (found_in c.drop_decoded.new.state)) c.args.self.now (Err c.in-Err.e)
+    c.self-2.inside.source
+refused g c =
+    into-refused (λ (n : ℕ). []) _ c.args.self.now c.read_info.new.self _ c.in-Err.e c.self-2.view_is
+    c.drop_decoded.ensures.told c.in-Err.ensures.stage c.in-Err.ensures.reads c.in-Err.ensures.told
+    c.in-Err.ensures.turns
+
+pub returns-in-Err-clause-reads : goal.returns-in-Err-clause-reads
+returns-in-Err-clause-reads g c room = (refused g c).reads
+
+pub returns-in-Err-clause-told : goal.returns-in-Err-clause-told
+returns-in-Err-clause-told g c room = (refused g c).told_is
+
+pub returns-in-Err-clause-turns : goal.returns-in-Err-clause-turns
+returns-in-Err-clause-turns g c room = (refused g c).turns
+
+pub returns-in-Err-clause-images : goal.returns-in-Err-clause-images
+returns-in-Err-clause-images g c room =
+    decodes-images (λ (n : ℕ). []) c.args.self.now (record {
+      source = c.self-2.inside.source;
+      stage = c.read_info.new.self.stage;
+      found = found_in c.drop_decoded.new.state;
+      settings = c.read_info.new.self.settings;
+    }) (Err c.in-Err.e) (refused g c).reads
+
+pub returns-in-Err-clause-samples : goal.returns-in-Err-clause-samples
+returns-in-Err-clause-samples g c room =
+    decodes-samples (λ (n : ℕ). []) c.args.self.now (record {
+      source = c.self-2.inside.source;
+      stage = c.read_info.new.self.stage;
+      found = found_in c.drop_decoded.new.state;
+      settings = c.read_info.new.self.settings;
+    }) (Err c.in-Err.e) (refused g c).reads
+
+-- ---- the rest was refused
+
+pub returns-in_err-written-clause-reads : goal.returns-in_err-written-clause-reads
+returns-in_err-written-clause-reads g c room =
+    let p = err_from_is_err_and c.from_residual-in_err-written.result c.from_residual-in_err-written.ensures.1 in
+    let h = into-err (λ (n : ℕ). []) _ c.args.self.now _ _ _ c.read_rest_into-written.result _
+    (begun-seen c.args.self.now c.read_info.new.self _ c.self-2.view_is
+    (record {
+      fresh = c.in_default.ensures.reads;
+      still = c.in_default.ensures.still;
+      settings = c.in_default.ensures.settings;
+    })) c.in_err-written.was c.read_rest_into-written.ensures.reads c.read_rest_into-written.ensures.told
+    c.read_rest_into-written.ensures.turns in
+    rw (p.1, p.2) h.reads
+
+pub returns-in_err-written-clause-told : goal.returns-in_err-written-clause-told
+returns-in_err-written-clause-told g c room =
+    let p = err_from_is_err_and c.from_residual-in_err-written.result c.from_residual-in_err-written.ensures.1 in
+    let h = into-err (λ (n : ℕ). []) _ c.args.self.now _ _ _ c.read_rest_into-written.result _
+    (begun-seen c.args.self.now c.read_info.new.self _ c.self-2.view_is
+    (record {
+      fresh = c.in_default.ensures.reads;
+      still = c.in_default.ensures.still;
+      settings = c.in_default.ensures.settings;
+    })) c.in_err-written.was c.read_rest_into-written.ensures.reads c.read_rest_into-written.ensures.told
+    c.read_rest_into-written.ensures.turns in
+    rw (p.1, p.2) h.told_is
+
+pub returns-in_err-written-clause-turns : goal.returns-in_err-written-clause-turns
+returns-in_err-written-clause-turns g c room =
+    let h = into-err (λ (n : ℕ). []) _ c.args.self.now _ _ _ c.read_rest_into-written.result _
+    (begun-seen c.args.self.now c.read_info.new.self _ c.self-2.view_is
+    (record {
+      fresh = c.in_default.ensures.reads;
+      still = c.in_default.ensures.still;
+      settings = c.in_default.ensures.settings;
+    })) c.in_err-written.was c.read_rest_into-written.ensures.reads c.read_rest_into-written.ensures.told
+    c.read_rest_into-written.ensures.turns in
+    h.turns
+
+pub returns-in_err-written-clause-images : goal.returns-in_err-written-clause-images
+returns-in_err-written-clause-images g c room =
+    let p = err_from_is_err_and c.from_residual-in_err-written.result c.from_residual-in_err-written.ensures.1 in
+    let h = into-err (λ (n : ℕ). []) _ c.args.self.now _ _ _ c.read_rest_into-written.result _
+    (begun-seen c.args.self.now c.read_info.new.self _ c.self-2.view_is
+    (record {
+      fresh = c.in_default.ensures.reads;
+      still = c.in_default.ensures.still;
+      settings = c.in_default.ensures.settings;
+    })) c.in_err-written.was c.read_rest_into-written.ensures.reads c.read_rest_into-written.ensures.told
+    c.read_rest_into-written.ensures.turns in
+    rw (p.1, p.2) (decodes-images (λ (n : ℕ). []) c.args.self.now (record {
+      source = c.read_rest_into-written.new.source;
+      stage = stage_of c.progress_after-self-inside.result;
+      found = found_in c.read_rest_into-written.new.state;
+      settings = c.self-2.inside.settings;
+    }) (Err _) h.reads)
+
+pub returns-in_err-written-clause-samples : goal.returns-in_err-written-clause-samples
+returns-in_err-written-clause-samples g c room =
+    let p = err_from_is_err_and c.from_residual-in_err-written.result c.from_residual-in_err-written.ensures.1 in
+    let h = into-err (λ (n : ℕ). []) _ c.args.self.now _ _ _ c.read_rest_into-written.result _
+    (begun-seen c.args.self.now c.read_info.new.self _ c.self-2.view_is
+    (record {
+      fresh = c.in_default.ensures.reads;
+      still = c.in_default.ensures.still;
+      settings = c.in_default.ensures.settings;
+    })) c.in_err-written.was c.read_rest_into-written.ensures.reads c.read_rest_into-written.ensures.told
+    c.read_rest_into-written.ensures.turns in
+    rw (p.1, p.2) (decodes-samples (λ (n : ℕ). []) c.args.self.now (record {
+      source = c.read_rest_into-written.new.source;
+      stage = stage_of c.progress_after-self-inside.result;
+      found = found_in c.read_rest_into-written.new.state;
+      settings = c.self-2.inside.settings;
+    }) (Err _) h.reads)
+
+-- ---- the picture is given
+
+front : (g : given.Over) (c : goal.In_ok-written g)
+    → take c.in_ok-size.size (c.read_rest_into-written.new.pixels ++ drop c.in_ok-size.size c.args.pixels.now)
+    ≡ c.read_rest_into-written.new.pixels
+front g c =
+    front-of c.in_ok-size.size c.read_rest_into-written.new.pixels (drop c.in_ok-size.size c.args.pixels.now)
+    (omega (
+      arith,
+      c.read_rest_into-written.auto.pixels,
+      length-take c.in_ok-size.size c.args.pixels.now,
+      c.in_ok-size.ensures.room,
+    ))
+
+done : (g : given.Over) (c : goal.In_ok-written g)
+    → HasRead (λ n. take n (c.read_rest_into-written.new.pixels ++ drop c.in_ok-size.size c.args.pixels.now))
+    (told_of (found_in c.read_rest_into-written.new.state)) c.args.self.now (Ok c.in_ok-size.size)
+    c.read_rest_into-written.new.source
+done g c =
+    into-ok (λ n. take n (c.read_rest_into-written.new.pixels ++ drop c.in_ok-size.size c.args.pixels.now)) _
+    c.args.self.now _ _ _ c.read_rest_into-written.result c.in_ok-size.size
+    (begun-seen c.args.self.now c.read_info.new.self _ c.self-2.view_is
+    (record {
+      fresh = c.in_default.ensures.reads;
+      still = c.in_default.ensures.still;
+      settings = c.in_default.ensures.settings;
+    })) c.in_ok-written.was (front g c) c.read_rest_into-written.ensures.reads c.read_rest_into-written.ensures.told
+    c.read_rest_into-written.ensures.turns
+
+pub returns-clause-reads : goal.returns-clause-reads
+returns-clause-reads g c room = (done g c).reads
+
+pub returns-clause-told : goal.returns-clause-told
+returns-clause-told g c room = (done g c).told_is
+
+pub returns-clause-turns : goal.returns-clause-turns
+returns-clause-turns g c room = (done g c).turns
+
+pub returns-clause-images : goal.returns-clause-images
+returns-clause-images g c room =
+    decodes-images (λ n. take n (c.read_rest_into-written.new.pixels ++ drop c.in_ok-size.size c.args.pixels.now))
+    c.args.self.now (record {
+      source = c.read_rest_into-written.new.source;
+      stage = stage_of c.progress_after-self-inside.result;
+      found = found_in c.read_rest_into-written.new.state;
+      settings = c.self-2.inside.settings;
+    }) (Ok c.in_ok-size.size) (done g c).reads
+
+pub returns-clause-samples : goal.returns-clause-samples
+returns-clause-samples g c room =
+    decodes-samples (λ n. take n (c.read_rest_into-written.new.pixels ++ drop c.in_ok-size.size c.args.pixels.now))
+    c.args.self.now (record {
+      source = c.read_rest_into-written.new.source;
+      stage = stage_of c.progress_after-self-inside.result;
+      found = found_in c.read_rest_into-written.new.state;
+      settings = c.self-2.inside.settings;
+    }) (Ok c.in_ok-size.size) (done g c).reads
+
+decoded : (g : given.Over) (c : goal.In_ok-written g) → HasDecodedFrame (found_in c.read_rest_into-written.new.state)
+decoded g c =
+    subst (λ (r : Result (Unit {0}) Error). OnOk r (HasDecodedFrame (found_in c.read_rest_into-written.new.state)))
+    c.in_ok-written.was c.read_rest_into-written.ensures.frames
+
+pub returns-clause-size : goal.returns-clause-size
+returns-clause-size g c =
+    whole-if (found_in c.read_rest_into-written.new.state) _ c.in_ok-size.size _ (decoded g c)
+    c.read_rest_into-written.ensures.stays c.in_ok-size.ensures.size
+    (ap (λ (l : List ℕ). length l) (front g c) ∙ omega (
+      arith,
+      c.read_rest_into-written.auto.pixels,
+      length-take c.in_ok-size.size c.args.pixels.now,
+      c.in_ok-size.ensures.room,
+    ))
+
+pub returns-clause-counted : goal.returns-clause-counted
+returns-clause-counted g c = counted (found_in c.read_rest_into-written.new.state) (decoded g c)
