@@ -1,7 +1,11 @@
 -- A file that cjpeg of libjpeg-turbo 2.1.5 wrote (quality 75, 4:2:0, 17 by 13 pixels, the Huffman
 -- tables of T.81, K.3 to K.6), what jpegtran -progressive made of it, and the picture that the
 -- original crate gives of both.
-use Rattle.std.specs.Prelude.{ℕ, List, [], ◌∷◌}
+use Rattle.std.specs.Prelude.{ℕ, true, List, [], ◌∷◌, ◌++◌, drop, Option, Some, None, Result, Ok, Err}
+use Rattle.std.specs.List.{flat_map}
+use Rattle.jpeg_bits.specs.Codes.{Table}
+use Rattle.jpeg_bits.specs.Reading.{Fault}
+use Rattle.jpeg_segments.specs.HuffmanTables.{Tables, dht_at}
 
 abbrev pub sequential_file : List ℕ
 sequential_file =
@@ -126,6 +130,20 @@ picture_of_files =
     216 ∷ 33 ∷ 58 ∷ 200 ∷ 23 ∷ 76 ∷ 170 ∷ 27 ∷ 98 ∷ 130 ∷ 38 ∷ 117 ∷ 88 ∷ 64 ∷ 140 ∷ 52 ∷ 93 ∷
     163 ∷ 31 ∷ 127 ∷ 183 ∷ 24 ∷ 158 ∷ 201 ∷ 26 ∷ 186 ∷ 215 ∷ 37 ∷ 205 ∷ 219 ∷ 61 ∷ 229 ∷ 224 ∷
     107 ∷ []
+
+-- ---- its Huffman tables
+
+abbrev pub listed : Option Table → List Table
+listed None = []
+listed (Some table) = table ∷ []
+
+abbrev pub all_listed : Result (Tables × List ℕ) Fault → Result (List Table) Fault
+all_listed (Ok t) = Ok (flat_map listed t.0.dc ++ flat_map listed t.0.ac)
+all_listed (Err e) = Err e
+
+-- those of the DHT segment of the sequential file whose length stands at a place
+abbrev pub tables_at : ℕ → Result (List Table) Fault
+tables_at place = all_listed (dht_at (Some true) (drop place sequential_file))
 
 -- ---- a lossless file
 

@@ -1,3 +1,4 @@
 pub mod Walks
 pub mod Cosines
 pub mod Files
+pub mod Headers

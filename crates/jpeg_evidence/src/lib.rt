@@ -3,13 +3,34 @@
 //! picture that other decoders give. Nothing here is code that runs.
 #![tactic(auto)]
 
-ghost use Rattle.std.specs.Prelude.{◌≡◌, ◌-ℤ◌, ℕ, suc, true, pos, neg_ℤ, Ok};
+ghost use Rattle.std.specs.Prelude.{◌≡◌, ◌-ℤ◌, ℕ, suc, true, false, pos, negsuc, neg_ℤ, Ok, Err};
+ghost use Rattle.std.specs.Prelude.{Some, None, [], ◌∷◌, ◌++◌, map, replicate, codes};
+ghost use Rattle.jpeg_bits.specs.Bands.{token_at};
 ghost use Rattle.jpeg_bits.specs.Codes.{all_below};
+ghost use Rattle.jpeg_bits.specs.DefaultTables.{luminance_dc, chrominance_dc};
+ghost use Rattle.jpeg_bits.specs.DefaultTables.{luminance_ac, chrominance_ac};
+ghost use Rattle.jpeg_bits.specs.Reading.{Malformed};
+ghost use Rattle.jpeg_bits.specs.Refinement.{fits_i16};
 ghost use Rattle.jpeg_bits.specs.Zigzag.{zigzag};
+ghost use Rattle.jpeg_bits.specs.declared.color_transform.ColorTransform.TheVariants as transforms;
+ghost use Rattle.jpeg_bits.specs.declared.scan.Predictor.TheVariants as selections;
+ghost use Rattle.jpeg_bits.specs.declared.tokens.Token.TheVariants as tokens;
+ghost use Rattle.jpeg_segments.specs.Application.{Adobe, Jfif, Avi1, Icc, Exif, Xmp, Psir, app_at};
+ghost use Rattle.jpeg_segments.specs.Frame.{coding_of, is_differential_number, is_factor};
+ghost use Rattle.jpeg_segments.specs.Frame.{is_precision, process_of};
+ghost use Rattle.jpeg_segments.specs.HuffmanTables.{greatest_place};
+ghost use Rattle.jpeg_segments.specs.Quantization.{value_at};
+ghost use Rattle.jpeg_segments.specs.ScanHeader.{band_at, is_progressive_band, predictor_by, scan_of};
+ghost use Rattle.jpeg_segments.specs.declared.parser.AdobeColorTransform.TheVariants as adobe;
+ghost use Rattle.jpeg_segments.specs.declared.parser.CodingProcess.TheVariants as processes;
+ghost use Rattle.jpeg_segments.specs.declared.parser.EntropyCoding.TheVariants as codings;
+ghost use Rattle.jpeg_streams.specs.ColourChoice.{by_identifiers};
+ghost use Rattle.jpeg_streams.specs.Segments.{is_decoded_count, is_decoded_precision};
 ghost use Rattle.jpeg_streams.specs.Worked.{picture_meant};
 ghost use Rattle.jpeg_evidence.specs.Cosines.{adds, are_entries, cosine, is_positive, unit};
 ghost use Rattle.jpeg_evidence.specs.Files.{lossless_file, picture_of_files, progressive_file};
-ghost use Rattle.jpeg_evidence.specs.Files.{samples_of_file, sequential_file};
+ghost use Rattle.jpeg_evidence.specs.Files.{samples_of_file, sequential_file, tables_at};
+ghost use Rattle.jpeg_evidence.specs.Headers.{adobe_segment, frame_numbers, grey_frame, ones};
 ghost use Rattle.jpeg_evidence.specs.Walks.{at, walk};
 
 /// The zigzag order is the walk over a block's diagonals of T.81, Figure A.6.
@@ -43,4 +64,92 @@ pub fn files_mean_their_picture()
 /// A lossless file of `dcmcjpeg` means the samples that it was given.
 pub fn lossless_file_means_its_samples()
     ensures { picture_meant lossless_file ≡ Ok samples_of_file }
+{}
+
+/// The default Huffman tables of MJPEG frames are the four that `cjpeg` writes into its file.
+pub fn default_tables_are_of_a_file()
+    ensures luminance { tables_at 179 ≡ Ok (luminance_dc ∷ []) }
+    ensures luminance_rest { tables_at 212 ≡ Ok (luminance_ac ∷ []) }
+    ensures chrominance { tables_at 395 ≡ Ok (chrominance_dc ∷ []) }
+    ensures chrominance_rest { tables_at 428 ≡ Ok (chrominance_ac ∷ []) }
+{}
+
+/// What segments of applications say. Adobe's transform is the last of its twelve bytes, the data of
+/// Exif, XMP and Photoshop begin after their names, and a part of an ICC profile has its number
+/// and then the count of the parts.
+pub fn applications_are_read()
+    ensures jfif { app_at 0 (0 ∷ 7 ∷ (codes "JFIF" ++ 0 ∷ [])) ≡ Ok (Some Jfif, []) }
+    ensures mjpeg { app_at 0 (0 ∷ 7 ∷ (codes "AVI1" ++ 0 ∷ [])) ≡ Ok (Some Avi1, []) }
+    ensures exif { app_at 1 (0 ∷ 10 ∷ (codes "Exif" ++ 0 ∷ 0 ∷ 77 ∷ 78 ∷ []))
+        ≡ Ok (Some (Exif (77 ∷ 78 ∷ [])), []) }
+    ensures xmp { app_at 1 (0 ∷ 33 ∷ (codes "http://ns.adobe.com/xap/1.0/" ++ 0 ∷ 60 ∷ 62 ∷ []))
+        ≡ Ok (Some (Xmp (60 ∷ 62 ∷ [])), []) }
+    ensures icc { app_at 2 (0 ∷ 18 ∷ (codes "ICC_PROFILE" ++ 0 ∷ 1 ∷ 2 ∷ 5 ∷ 6 ∷ []))
+        ≡ Ok (Some (Icc (record { number = 1; count = 2; bytes = 5 ∷ 6 ∷ [] })), []) }
+    ensures photoshop { app_at 13 (0 ∷ 17 ∷ (codes "Photoshop 3.0" ++ 0 ∷ 56 ∷ []))
+        ≡ Ok (Some (Psir (56 ∷ [])), []) }
+    ensures unknown { app_at 14 (adobe_segment 0) ≡ Ok (Some (Adobe adobe.Unknown), []) }
+    ensures ycbcr { app_at 14 (adobe_segment 1) ≡ Ok (Some (Adobe adobe.YCbCr), []) }
+    ensures ycck { app_at 14 (adobe_segment 2) ≡ Ok (Some (Adobe adobe.YCCK), []) }
+    ensures another { app_at 14 (adobe_segment 3) ≡ Err Malformed }
+{}
+
+/// What the numbers of headers mean, and which are allowed (T.81, Tables B.1 to B.5 and H.1).
+pub fn headers_are_of_tables()
+    // The frames SOF0 to SOF3, SOF5 to SOF7, SOF9 to SOF11 and SOF13 to SOF15.
+    ensures process { map process_of frame_numbers ≡ processes.DctSequential
+        ∷ processes.DctSequential ∷ processes.DctProgressive ∷ processes.Lossless
+        ∷ processes.DctSequential ∷ processes.DctProgressive ∷ processes.Lossless
+        ∷ processes.DctSequential ∷ processes.DctProgressive ∷ processes.Lossless
+        ∷ processes.DctSequential ∷ processes.DctProgressive ∷ processes.Lossless ∷ [] }
+    ensures differential { map is_differential_number frame_numbers
+        ≡ replicate 4 false ++ (replicate 3 true ++ (replicate 3 false ++ replicate 3 true)) }
+    ensures coding { map coding_of frame_numbers
+        ≡ replicate 7 codings.Huffman ++ replicate 6 codings.Arithmetic }
+
+    // Precisions, factors, and numbers of components that are decoded.
+    ensures baseline { map (is_precision 0) (7 ∷ 8 ∷ 12 ∷ []) ≡ false ∷ true ∷ false ∷ [] }
+    ensures extended { map (is_precision 1) (7 ∷ 8 ∷ 12 ∷ []) ≡ false ∷ true ∷ true ∷ [] }
+    ensures lossless { map (is_decoded_precision processes.Lossless) (1 ∷ 2 ∷ 16 ∷ 17 ∷ [])
+        ≡ false ∷ true ∷ true ∷ false ∷ [] }
+    ensures factors { map is_factor (0 ∷ 1 ∷ 2 ∷ 3 ∷ 4 ∷ 5 ∷ [])
+        ≡ false ∷ true ∷ true ∷ true ∷ true ∷ false ∷ [] }
+    ensures counts { map is_decoded_count (0 ∷ 1 ∷ 2 ∷ 3 ∷ 4 ∷ 5 ∷ [])
+        ≡ false ∷ true ∷ false ∷ true ∷ true ∷ false ∷ [] }
+
+    // Places of Huffman tables, and values of 16 bits in quantization tables.
+    ensures places { map (λ is_baseline. greatest_place (Some is_baseline)) (true ∷ false ∷ [])
+        ≡ 1 ∷ 3 ∷ [] }
+    ensures wide { value_at true (1 ∷ 2 ∷ []) ≡ Ok (258, []) }
+
+    // Predictors by their numbers, and progressive scans by the number of their components, their
+    // band, and the levels Ah and Al.
+    ensures predictors { map predictor_by (0 ∷ 1 ∷ 2 ∷ 3 ∷ 4 ∷ 5 ∷ 6 ∷ 7 ∷ [])
+        ≡ selections.NoPrediction ∷ selections.Ra ∷ selections.Rb ∷ selections.Rc
+        ∷ selections.RaRbRc1 ∷ selections.RaRbRc2 ∷ selections.RaRbRc3 ∷ selections.RaRb ∷ [] }
+    ensures dc { is_progressive_band 3 0 0 0 1 ≡ true }
+    ensures dc_and_ac { is_progressive_band 1 0 5 0 0 ≡ false }
+    ensures ac { is_progressive_band 1 1 63 0 0 ≡ true }
+    ensures ac_of_two { is_progressive_band 2 1 5 0 0 ≡ false }
+    ensures beyond { is_progressive_band 1 1 64 0 0 ≡ false }
+    ensures refined { is_progressive_band 1 1 63 2 1 ≡ true }
+    ensures not_refined { is_progressive_band 1 1 63 1 1 ≡ false }
+    ensures levels { map (is_progressive_band 1 0 0 0) (13 ∷ 14 ∷ []) ≡ true ∷ false ∷ [] }
+    ensures level_7 { band_at grey_frame [] (0 ∷ 0 ∷ 7 ∷ [])
+        ≡ Ok (scan_of grey_frame [] 0 0 7, []) }
+    ensures level_8 { band_at grey_frame [] (0 ∷ 0 ∷ 8 ∷ []) ≡ Err Malformed }
+
+    // Identifiers of components that name their colours.
+    ensures wide_ycc { by_identifiers (1 ∷ 34 ∷ 35 ∷ []) ≡ Some transforms.JcsBgYcc }
+    ensures wide_rgb { by_identifiers (114 ∷ 103 ∷ 98 ∷ []) ≡ Some transforms.JcsBgRgb }
+    ensures others { by_identifiers (1 ∷ 2 ∷ 4 ∷ []) ≡ None }
+{}
+
+/// Where numbers end: a refinement stays in 16 bits, and a value that is longer than the rest of its
+/// band is taken where it and its code have at most 8 bits (own to the decoder).
+pub fn numbers_end()
+    ensures refined { map fits_i16 (pos 32767 ∷ pos 32768 ∷ negsuc 32767 ∷ negsuc 32768 ∷ [])
+        ≡ true ∷ false ∷ true ∷ false ∷ [] }
+    ensures taken { token_at 1 1 1 7 (ones 9) ≡ Ok (tokens.Overlong, ones 2) }
+    ensures left { token_at 1 2 1 7 (ones 9) ≡ Ok (tokens.Overlong, ones 9) }
 {}

@@ -6,7 +6,7 @@ use Rattle.jpeg_bits.specs.Reading.{Fault}
 use Rattle.jpeg_streams.specs.declared.images.ImageInfo.{ImageInfo}
 use Rattle.zaxbriar.specs.Layouts.{laid_out, line_of}
 use Rattle.zaxbriar.specs.Lines.{Arranged, HasLines, lines_by, picture_by, stored_bytes}
-use Rattle.zaxbriar.specs.Meanings.{Describes, Shows, ShowsSamples, size_of}
+use Rattle.zaxbriar.specs.Meanings.{Describes, Shows, ShowsSamples, orientation_by, size_of}
 use Rattle.jpeg_streams.specs.Found.{Found}
 use Rattle.jpeg_streams.specs.DecodedImages.{at_size}
 use Rattle.jpeg_streams.specs.Pixels.{info_of}
@@ -48,22 +48,24 @@ pub described-of : (o : Options) (bytes rest : List ℕ) (header found : Found) 
     → header_at bytes ≡ Ok (header, rest) → found ≡ at_size (size_of o) header
     → option_map info_of found.frame ≡ Some info → option_map (λ f. f.precision) found.frame ≡ Some precision
     → option_map decoding_bytes found.frame ≡ Some decoding → HasLines o info precision lines
+    → orientation ≡ orientation_by found.metadata.exif
     → picture ≡ picture_by o.layout info precision lines decoding.peak orientation 0
     → Describes o bytes picture
-described-of o bytes rest header found info precision decoding lines orientation picture r s i p d h e = record {
+described-of o bytes rest header found info precision decoding lines orientation picture r s i p d h n e = record {
   header = header;
   rest = rest;
   info = info;
   precision = precision;
   decoding = decoding;
   conversion = h.conversion;
-  orientation = orientation;
   reads = r;
   info_is = ap (λ (f : Found). option_map info_of f.frame) (sym s) ∙ i;
   precision_is = ap (λ (f : Found). option_map (λ f. f.precision) f.frame) (sym s) ∙ p;
   decoding_is = ap (λ (f : Found). option_map decoding_bytes f.frame) (sym s) ∙ d;
   conversion_is = h.is;
-  picture_is = e ∙ ap (λ (l : Lines). picture_by o.layout info precision l decoding.peak orientation 0) h.lines_are;
+  picture_is = e ∙ ap (λ (l : Lines). picture_by o.layout info precision l decoding.peak orientation 0) h.lines_are
+      ∙ ap (λ (n : ℕ). picture_by o.layout info precision (lines_by o.stride info precision h.conversion) decoding.peak n 0)
+      (n ∙ ap (λ (f : Found). orientation_by f.metadata.exif) s);
 }
 
 -- the same picture, with the bytes of its stream
@@ -124,7 +126,6 @@ described (Ok x) o bytes picture text result err ok d z = record {
   precision = d.precision;
   decoding = d.decoding;
   conversion = d.conversion;
-  orientation = d.orientation;
   reads = d.reads;
   info_is = d.info_is;
   precision_is = d.precision_is;

@@ -13,6 +13,7 @@ use Rattle.jpeg_streams.specs.declared.images.ImageInfo.{ImageInfo}
 use Rattle.jpeg_streams.specs.declared.settings.Settings.{Settings}
 use Rattle.jpeg_bits.specs.Reading.{Fault}
 use Rattle.jpeg_decoder.specs.Bytes.{decoding_bytes}
+use Rattle.jpeg_decoder.specs.Orientation.{orientation_in}
 use Rattle.jpeg_decoder.specs.declared.memory.DecodingBytes.{DecodingBytes}
 use Rattle.zaxbriar.specs.Layouts.{conversion_of}
 use Rattle.zaxbriar.specs.Lines.{Arranged, lines_by, picture_by}
@@ -54,6 +55,15 @@ pub record ReadsHeader (o : Options) (old new : Decoding) : Type 0 where
       × (header_at old.source.bytes ≡ Ok (header, new.source.bytes))
       × (new.found ≡ at_size (size_of o) header))
 
+-- the orientation that Exif data say, and 1, upright, where they say none
+abbrev pub or_upright : Option ℕ → ℕ
+or_upright None = 1
+or_upright (Some orientation) = orientation
+
+abbrev pub orientation_by : Option (List ℕ) → ℕ
+orientation_by None = 1
+orientation_by (Some exif) = or_upright (orientation_in exif)
+
 -- A caller is told of the picture of a stream, by its header.
 pub record Describes (o : Options) (bytes : List ℕ) (picture : Picture) : Type 0 where
   pub header : Found
@@ -62,7 +72,6 @@ pub record Describes (o : Options) (bytes : List ℕ) (picture : Picture) : Type
   pub precision : ℕ
   pub decoding : DecodingBytes
   pub conversion : Conversion
-  pub orientation : ℕ
   pub reads : header_at bytes ≡ Ok (header, rest)
   pub info_is : option_map info_of (at_size (size_of o) header).frame ≡ Some info
   pub precision_is : option_map (λ f. f.precision) (at_size (size_of o) header).frame
@@ -70,7 +79,8 @@ pub record Describes (o : Options) (bytes : List ℕ) (picture : Picture) : Type
   pub decoding_is : option_map decoding_bytes (at_size (size_of o) header).frame ≡ Some decoding
   pub conversion_is : conversion_of o.layout info.pixel_format precision ≡ Some conversion
   pub picture_is : picture ≡ picture_by o.layout info precision
-      (lines_by o.stride info precision conversion) decoding.peak orientation 0
+      (lines_by o.stride info precision conversion) decoding.peak
+      (orientation_by (at_size (size_of o) header).metadata.exif) 0
 
 -- The picture of a stream is in the caller's memory.
 pub record Shows (o : Options) (bytes old new : List ℕ) (picture : Picture) : Type 0 where

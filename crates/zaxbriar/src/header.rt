@@ -6,11 +6,12 @@ ghost use Rattle.jpeg_streams.specs.Pixels.{info_of};
 ghost use Rattle.jpeg_streams.specs.States.{Fresh};
 ghost use Rattle.jpeg_streams.specs.Stream.{header_at};
 ghost use Rattle.zaxbriar.specs.Faults.{IsFault};
-ghost use Rattle.zaxbriar.specs.Meanings.{ReadsHeader};
+ghost use Rattle.std.specs.Option.{option_copied};
+ghost use Rattle.zaxbriar.specs.Meanings.{ReadsHeader, orientation_by};
 
 use crate::answers::Refusal;
 use crate::options::{Options, apply, apply_size, are_known};
-use crate::orientation::orientation_of;
+use jpeg_decoder::orientation::orientation_of;
 use jpeg_decoder::{Decoder, DecodingBytes, ImageInfo};
 use std::io::Read;
 
@@ -27,6 +28,19 @@ pub struct Header {
     pub orientation: u8,
 }
 
+/// Returns the orientation that Exif data say, and 1, upright, where they say none.
+fn orientation_in(exif: Option<&[u8]>) -> u8
+    ensures { result ≡ orientation_by (option_copied exif.entry) }
+{
+    let Some(bytes) = exif else {
+        return 1;
+    };
+    match orientation_of(bytes) {
+        Some(orientation) => orientation,
+        None => 1,
+    }
+}
+
 /// Reads the header, and chooses the scale of the picture.
 pub fn read_header<R: Read + Drop>(
     decoder: &mut Decoder<R>,
@@ -40,6 +54,8 @@ pub fn read_header<R: Read + Drop>(
     ensures info { IfOk result (λ h. option_map info_of decoder.new.found.frame ≡ Some h.info) }
     ensures precision { IfOk result (λ h. option_map (λ f. f.precision) decoder.new.found.frame
         ≡ Some h.precision) }
+    ensures oriented { IfOk result (λ h. h.orientation
+        ≡ orientation_by decoder.new.found.metadata.exif) }
     ensures bytes { IfOk result (λ h. option_map decoding_bytes decoder.new.found.frame
         ≡ Some h.decoding_bytes) }
 {
@@ -61,6 +77,6 @@ pub fn read_header<R: Read + Drop>(
         info,
         precision,
         decoding_bytes,
-        orientation: orientation_of(decoder.exif_data()),
+        orientation: orientation_in(decoder.exif_data()),
     })
 }

@@ -26,7 +26,6 @@ mod layouts;
 mod lines;
 mod metadata;
 pub mod options;
-mod orientation;
 pub mod picture;
 mod reader;
 #[cfg(test)]

@@ -19,7 +19,7 @@ returns-clause-describes g c bytes tells =
     described-of c.args.options.now bytes c.read_header.new.decoder.source.bytes facts.1.0 c.read_header.new.decoder.found
     header.info header.precision header.decoding_bytes c.in_ok-lines.lines header.orientation c.picture_of.result
     (rw same at facts.1.1) facts.1.2 c.in_ok-header.ensures.info c.in_ok-header.ensures.precision
-    c.in_ok-header.ensures.bytes c.in_ok-lines.ensures.lines c.picture_of.ensures
+    c.in_ok-header.ensures.bytes c.in_ok-lines.ensures.lines c.in_ok-header.ensures.oriented c.picture_of.ensures
 
 pub returns-in_err-header-clause-named : goal.returns-in_err-header-clause-named
 returns-in_err-header-clause-named g c bytes tells =
