@@ -72,3 +72,9 @@ picture-at-scale-some scale bytes rest left found told pixels full info precisio
     rw (picture_at_scale, header_info, header, hf) (picture-some (requested_width scale full) (requested_height scale full)
     bytes rest left (sized_to (requested_width scale full) (requested_height scale full) found) told pixels info precision
     (sized-header (requested_width scale full) (requested_height scale full) bytes rest found header) picture hi hp)
+
+-- what a header says of the picture
+pub header-info-some : (bytes rest : List ℕ) (found : Found) (full : ImageInfo) → header_at bytes ≡ Ok (found, rest)
+    → option_map info_of found.frame ≡ Some full → header_info bytes ≡ Some full
+unfolding header_info
+header-info-some bytes rest found full header hf = rw (header_info, header) hf

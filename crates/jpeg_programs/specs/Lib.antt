@@ -1,2 +1,3 @@
 pub mod Netpbm
 pub mod ScaledPictures
+pub mod Sizes

@@ -6,13 +6,16 @@ ghost use Rattle.jpeg_streams.specs.Output.{Tells};
 ghost use Rattle.jpeg_streams.specs.Pixels.{info_of};
 ghost use Rattle.jpeg_streams.specs.States.{IsReading, ahead};
 ghost use Rattle.jpeg_streams.specs.Stream.{told_of};
-ghost use Rattle.jpeg_programs.specs.ScaledPictures.{decoded, file_at_scale, picture_at_scale};
-ghost use Rattle.jpeg_programs.specs.ScaledPictures.{requested_height, requested_width, side_at};
+ghost use Rattle.jpeg_programs.specs.ScaledPictures.{decoded, file_at_scale, header_info};
+ghost use Rattle.jpeg_programs.specs.ScaledPictures.{picture_at_scale, requested_height};
+ghost use Rattle.jpeg_programs.specs.ScaledPictures.{requested_width, side_at};
+ghost use Rattle.jpeg_programs.specs.Sizes.{covers, least_scale, scale_for, size_for};
 ghost use Rattle.jpeg_programs.specs.declared.pictures.Request.TheVariants.{At};
 
 use crate::netpbm::{Picture, write_picture};
-use crate::orientation::orientation_of;
+use crate::sizes::{as_stored, fitted};
 use jpeg_decoder::error::Result;
+use jpeg_decoder::orientation::orientation_of;
 use jpeg_decoder::parser::Dimensions;
 use jpeg_decoder::{Decoder, ImageInfo};
 use std::alloc::Global;
@@ -89,8 +92,8 @@ pub fn decode_picture<R: Read + Drop>(decoder: &mut Decoder<R>) -> Result<Pictur
 pub enum Request {
     /// The picture at a scale.
     At(Scale),
-    /// The picture at the greatest scale at which it fits within a size: as it is shown, or as it
-    /// is stored. Where it fits at none it is at the least.
+    /// The greatest picture that fits within a size, as it is shown or as it is stored, and isn't
+    /// greater than the whole picture.
     Within(Dimensions, Upright),
 }
 
@@ -110,18 +113,38 @@ pub struct ScaledPicture {
     pub picture: Picture,
     /// Its scale.
     pub scale: Scale,
+    /// The size that is asked for, which isn't greater than the picture.
+    pub size: Dimensions,
     /// The orientation that it is to be turned by: 1 where it is none.
     pub orientation: u8,
 }
 
 impl Request {
-    /// Returns the scale of a picture whose header was read.
-    fn choose(self, full: ImageInfo, orientation: u8) -> Scale
-        ensures { (scale : _) → self ≡ At scale → result ≡ scale }
+    /// Returns the size that is asked for of a picture whose header was read.
+    #[tactic(auto, unfolding(crate::specs::Sizes::size_for))]
+    fn size(self, full: ImageInfo, orientation: u8) -> Dimensions
+        ensures { result ≡ size_for self full orientation }
+    {
+        match self {
+            Request::At(scale) => Dimensions {
+                width: scale.side(full.width),
+                height: scale.side(full.height),
+            },
+            Request::Within(most, _) => fitted(full, as_stored(most, orientation)),
+        }
+    }
+
+    /// Returns the scale that such a picture is decoded at.
+    #[tactic(auto, unfolding(crate::specs::Sizes::scale_for))]
+    fn scale(self, full: ImageInfo, orientation: u8) -> Scale
+        ensures chosen { result ≡ scale_for self full orientation }
+        ensures asked { (scale : _) → self ≡ At scale → result ≡ scale }
     {
         match self {
             Request::At(scale) => scale,
-            Request::Within(most, _) => greatest_scale(full, as_stored(most, orientation)),
+            Request::Within(most, _) => {
+                least_scale(full, fitted(full, as_stored(most, orientation)))
+            }
         }
     }
 
@@ -138,26 +161,26 @@ impl Request {
     }
 }
 
-/// Returns a size of the picture that is shown as one of the picture that is stored: the
-/// orientations from 5 to 8 lie on their side.
-fn as_stored(size: Dimensions, orientation: u8) -> Dimensions {
-    if orientation < 5 {
-        return size;
-    }
-    Dimensions {
-        width: size.height,
-        height: size.width,
-    }
+/// Returns whether a picture at a scale isn't smaller than a size.
+fn covers(scale: Scale, full: ImageInfo, size: Dimensions) -> bool
+    ensures { result ≡ covers scale full size }
+{
+    size.width <= scale.side(full.width) && size.height <= scale.side(full.height)
 }
 
-/// Returns the greatest scale at which a picture fits within a size, and 1/8 where it fits at none.
-fn greatest_scale(full: ImageInfo, most: Dimensions) -> Scale {
-    for scale in [Scale::Full, Scale::Half, Scale::Quarter] {
-        if scale.side(full.width) <= most.width && scale.side(full.height) <= most.height {
-            return scale;
-        }
+/// Returns the least scale at which a picture isn't smaller than a size.
+fn least_scale(full: ImageInfo, size: Dimensions) -> Scale
+    ensures { result ≡ least_scale full size }
+{
+    if covers(Scale::Eighth, full, size) {
+        Scale::Eighth
+    } else if covers(Scale::Quarter, full, size) {
+        Scale::Quarter
+    } else if covers(Scale::Half, full, size) {
+        Scale::Half
+    } else {
+        Scale::Full
     }
-    Scale::Eighth
 }
 
 /// Decodes the stream that the reader gives, at the scale for what is asked for.
@@ -169,7 +192,11 @@ pub fn read_picture<R: Read + Drop>(
     ensures picture { (bytes : List ℕ) → Tells (R.remaining reader) bytes
         → IfOk result (λ made. picture_at_scale made.scale bytes
         ≡ Some (decoded made.picture.info made.picture.precision made.picture.pixels.items)) }
-    ensures scale { (scale : _) → request ≡ At scale → IfOk result (λ made. made.scale ≡ scale) }
+    ensures asked { (scale : _) → request ≡ At scale → IfOk result (λ made. made.scale ≡ scale) }
+    ensures chosen { (bytes : List ℕ) → Tells (R.remaining reader) bytes → IfOk result (λ made.
+        IsSomeAnd (header_info bytes) (λ full.
+        (made.scale ≡ scale_for request full made.orientation)
+        × (made.size ≡ size_for request full made.orientation))) }
     ensures orientation { IfOk result (λ made. (1 ≤ made.orientation)
         × (made.orientation ≤ 8)) }
 {
@@ -177,13 +204,14 @@ pub fn read_picture<R: Read + Drop>(
     decoder.read_info()?;
     let full = decoder.info().unwrap();
     let orientation = request.orientation_in(decoder.exif_data());
-    let scale = request.choose(full, orientation);
-    let size = requested_size(full, scale);
-    decoder.scale(size.width, size.height)?;
+    let scale = request.scale(full, orientation);
+    let requested = requested_size(full, scale);
+    decoder.scale(requested.width, requested.height)?;
     let picture = decode_picture(&mut decoder)?;
     Ok(ScaledPicture {
         picture,
         scale,
+        size: request.size(full, orientation),
         orientation,
     })
 }

@@ -4,7 +4,7 @@ use jpeg_bits::error::{Result, format_error_of};
 use jpeg_bits::marker::{Marker, read_marker};
 use jpeg_bits::reads::{read_length, read_u16_be, skip};
 use jpeg_bits::source::Source;
-use jpeg_programs::orientation::orientation_of;
+use jpeg_decoder::orientation::orientation_of;
 use jpeg_segments::parser::{AppData, FrameInfo, parse_app, parse_dri, parse_sof};
 use std::alloc::Global;
 use std::io::Read;

@@ -1,4 +1,5 @@
-//! Decodes the frames of an MJPEG stream, JPEG images one after the other.
+//! Decodes the frames of an MJPEG stream: JPEG images one after the other, or the chunks of an AVI
+//! file.
 //!
 //! `mjpeg_frames stream.mjpeg -o frame-%04d.ppm` writes each frame as a netpbm file: the number of
 //! the frame, from 1, takes the place of `%04d` in the file's name, with as many digits at least.
@@ -8,15 +9,20 @@
 //! WIDTH HEIGHT FORMAT` for each frame in place of its pixels.
 //!
 //! `decode` reads no byte after the end of an image, so one reader is lent to a decoder for each
-//! frame. The first byte of a frame is read before, since the stream ends where there is none. A
-//! frame that is refused ends the program; the frames before it are written.
+//! frame. The first byte of a frame is read before, since the stream ends where there is none. Of an
+//! AVI file the frames are those of its first stream that has any (chunks such as `00dc`); what else
+//! it has, such as sound and indexes, is skipped. A frame that is refused ends the program; the
+//! frames before it are written.
 #![tactic(auto)]
 
+mod avi;
 mod frames;
 mod names;
+#[cfg(test)]
+mod tests;
 
 use clap::{Arg, ArgAction, Command};
-use frames::{Refusal, next_frame};
+use frames::{Frames, Refusal};
 use jpeg_decoder::ImageInfo;
 use jpeg_decoder::error::{Error, Result};
 use jpeg_programs::files::{InputReader, Output};
@@ -29,10 +35,13 @@ use std::process::ExitCode;
 
 const NAME: &str = "mjpeg_frames";
 
-const ABOUT: &str = "Decodes the frames of an MJPEG stream, JPEG images one after the other";
+const ABOUT: &str = "Decodes the frames of an MJPEG stream, plain or in an AVI file";
 
 const OUTPUT: &str = "The files to write, as frame-%04d.ppm; or one file of rawvideo; \
     - or none is rawvideo on standard output";
+
+/// The frames of a file or of standard input.
+type InputFrames = Frames<InputReader>;
 
 /// What is done, or the status of why it isn't, which was reported.
 type Outcome<T> = std::result::Result<T, u8>;
@@ -58,9 +67,21 @@ struct Job<'a> {
 }
 
 impl<'a> Job<'a> {
-    /// Decodes the next frame, where the bytes go on. A frame that is refused is reported.
-    fn next(&self, reader: &mut InputReader, number: u64) -> Outcome<Option<Picture>> {
-        match next_frame(self.rt.alloc(), reader, number) {
+    /// Opens the stream, and returns its frames.
+    fn frames(&self) -> Outcome<InputFrames> {
+        let reader = match files::open(&self.rt, self.input) {
+            Ok(reader) => reader,
+            Err(error) => return Err(files::report(&self.rt, NAME, self.input, &error)),
+        };
+        match Frames::new(reader) {
+            Ok(frames) => Ok(frames),
+            Err(refusal) => Err(files::report(&self.rt, NAME, self.input, &refusal)),
+        }
+    }
+
+    /// Decodes the next frame, where there is one. A frame that is refused is reported.
+    fn next(&self, frames: &mut InputFrames, number: u64) -> Outcome<Option<Picture>> {
+        match frames.next_frame(self.rt.alloc(), number) {
             Ok(frame) => Ok(frame),
             Err(refusal) => Err(files::report(&self.rt, NAME, self.input, &refusal)),
         }
@@ -74,9 +95,9 @@ impl<'a> Job<'a> {
     }
 
     /// Writes each frame as a file of its own.
-    fn write_files(&self, reader: &mut InputReader, pattern: Pattern<'_>) -> Outcome<()> {
+    fn write_files(&self, frames: &mut InputFrames, pattern: Pattern<'_>) -> Outcome<()> {
         for number in 1..u64::MAX {
-            let Some(frame) = self.next(reader, number)? else {
+            let Some(frame) = self.next(frames, number)? else {
                 break;
             };
             match pattern.name_of(self.rt.alloc(), number) {
@@ -91,11 +112,11 @@ impl<'a> Job<'a> {
     }
 
     /// Writes what is asked for of each frame to one file.
-    fn write_stream(&self, reader: &mut InputReader) -> Outcome<()> {
+    fn write_stream(&self, frames: &mut InputFrames) -> Outcome<()> {
         let mut output = Output::new(self.rt, self.output);
         let mut first: Option<ImageInfo> = None;
         for number in 1..u64::MAX {
-            let Some(frame) = self.next(reader, number)? else {
+            let Some(frame) = self.next(frames, number)? else {
                 break;
             };
             if !self.is_list && first.is_some() && first != Some(frame.info) {
@@ -143,18 +164,15 @@ fn run(rt: HostRuntime) -> Outcome<()> {
         output,
         is_list: matches.get_flag("list"),
     };
-    let mut reader = match files::open(&rt, input) {
-        Ok(reader) => reader,
-        Err(error) => return Err(files::report(&rt, NAME, input, &error)),
-    };
+    let mut frames = job.frames()?;
     let Some(name) = output else {
-        return job.write_stream(&mut reader);
+        return job.write_stream(&mut frames);
     };
     if job.is_list || !name.contains('%') {
-        return job.write_stream(&mut reader);
+        return job.write_stream(&mut frames);
     }
     match Pattern::new(name) {
-        Some(pattern) => job.write_files(&mut reader, pattern),
+        Some(pattern) => job.write_files(&mut frames, pattern),
         None => Err(arguments::refuse_value(&rt, NAME, "--output", "one %d or %04d in the name")),
     }
 }

@@ -1,1 +1,2 @@
+mod BoxSums
 mod WrittenThumbnails

@@ -1,9 +1,10 @@
 //! Writes a small picture of a JPEG file, which the netpbm tools and most viewers read:
 //! `thumbnail --max 640x480 photo.jpg -o thumb.ppm`.
 //!
-//! The picture is the greatest of 1/8, 1/4, 1/2 and all of its size that fits within `--max`, and
-//! 1/8 where none fits. It is turned upright by the orientation in its Exif data, as it is shown,
-//! unless `--as-stored` is given. Its format decides the file's:
+//! The picture is the greatest of its proportions that fits within `--max`, and no greater than it
+//! is: it is decoded at the least of 1/8, 1/4, 1/2 and all of its size that isn't smaller, and each
+//! sample is then the mean of those in its box. It is turned upright by the orientation in its Exif
+//! data, as it is shown, unless `--as-stored` is given. Its format decides the file's:
 //!
 //! - `L8` and `L16`: a grey picture, PGM (`P5`).
 //! - `RGB24`: PPM (`P6`).
@@ -19,8 +20,10 @@ ghost use Rattle.std.specs.Prelude.{List, ℕ, OnOk};
 ghost use Rattle.jpeg_streams.specs.Output.{Tells};
 ghost use Rattle.thumbnail.specs.Thumbnails.{WritesThumbnail};
 
+mod boxes;
 mod turns;
 
+use boxes::boxed;
 use clap::{Arg, ArgAction, ArgMatches, Command};
 use jpeg_decoder::error::Result;
 use jpeg_decoder::parser::Dimensions;
@@ -38,8 +41,8 @@ const NAME: &str = "thumbnail";
 const ABOUT: &str = "Writes a small picture of a JPEG file as PGM, PPM or, of CMYK, PAM";
 
 const MAX: &str =
-    "The size that the picture is to fit within, as 640x480: it is the greatest of 1/8, \
-    1/4, 1/2 and all of its size that does, or 1/8";
+    "The size that the picture is to fit within, as 640x480: it keeps its proportions, and is \
+    never enlarged";
 
 /// Returns what the program takes.
 fn command<'a>(alloc: Global) -> std::result::Result<Command<'a>, AllocError> {
@@ -89,10 +92,11 @@ fn write_thumbnail<R: Read + Drop, W: Write>(
     writer: &mut W,
 ) -> Result<()>
     ensures { (bytes : List ℕ) → Tells (R.remaining reader) bytes
-        → OnOk result (WritesThumbnail bytes (W.contents writer.old) (W.contents writer.new)) }
+        → OnOk result (WritesThumbnail request bytes (W.contents writer.old) (W.contents writer.new)) }
 {
     let made = read_picture(alloc, reader, request)?;
-    let picture = upright(alloc, made.picture, made.orientation)?;
+    let smaller = boxed(alloc, made.picture, made.size)?;
+    let picture = upright(alloc, smaller, made.orientation)?;
     write_picture(alloc, picture, writer)
 }
 

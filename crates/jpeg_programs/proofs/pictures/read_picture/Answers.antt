@@ -2,7 +2,7 @@ use Rattle.std.proofs.Common.{◌≡◌, ◌∙◌, ap, refl, sym}
 use Rattle.jpeg_decoder.proofs.Callers.{bytes_are_known, known_bytes_are_told}
 use Rattle.jpeg_streams.specs.States.{Decoding, Fresh, HeaderRead}
 use Rattle.jpeg_streams.specs.Stream.{told_of}
-use Rattle.jpeg_programs.proofs.SizedPictures.{picture-at-scale-some}
+use Rattle.jpeg_programs.proofs.SizedPictures.{header-info-some, picture-at-scale-some}
 use Rattle.jpeg_programs.proofs.pictures.read_picture.Goals as goal
 
 pub returns-clause-picture : goal.returns-clause-picture
@@ -19,11 +19,21 @@ returns-clause-picture g c bytes tells =
     let settings2 = ap (λ (d : Decoding). d.settings) after ∙ settings in
     let found2 = ap (λ (d : Decoding). d.found) after in
     let source2 = ap (λ (d : Decoding). d.source) after in
-    let size = c.requested_size-size.ensures in
+    let size = c.requested_size-requested.ensures in
     let picture = (rw (stage2, settings2, found2, source2, size.width, size.height) at c.in_ok-picture.ensures.reads) tt in
     let second = picture.1 first.0 in
-    picture-at-scale-some c.choose-scale.result bytes c.read_info.new.self.source.bytes
+    picture-at-scale-some c.scale-scale.result bytes c.read_info.new.self.source.bytes
     c.decode_picture.new.decoder.source.bytes c.read_info.new.self.found (told_of c.decode_picture.new.decoder.found)
     c.in_ok-picture.picture.pixels.items c.unwrap-full.result c.in_ok-picture.picture.info
     c.in_ok-picture.picture.precision (rw same at first.1) (sym c.info.ensures ∙ c.unwrap-full.ensures) second.1
     c.in_ok-picture.ensures.info c.in_ok-picture.ensures.precision
+
+pub returns-clause-chosen : goal.returns-clause-chosen
+returns-clause-chosen g c bytes tells =
+    let known = bytes_are_known (g.R.Read.remaining c.args.reader) bytes tells in
+    let same = known_bytes_are_told (g.R.Read.remaining c.args.reader) bytes tells in
+    let header = (rw c.in_ok-decoder.ensures.ok at c.in_ok-read_info.ensures.reads) refl in
+    let first = header.1 known in
+    let is = header-info-some bytes c.read_info.new.self.source.bytes c.read_info.new.self.found c.unwrap-full.result
+    (rw same at first.1) (sym c.info.ensures ∙ c.unwrap-full.ensures) in
+    rw is (c.scale-scale.ensures.chosen, c.size.ensures)

@@ -1,0 +1,58 @@
+-- The sizes and the scales of pictures that are to fit within a size.
+use Rattle.std.specs.Prelude.{ℕ, ◌+◌, ◌*◌, ◌/◌, ◌&&◌, Bool, if◌then◌else◌, max, min, nat_le, nat_lt}
+use Rattle.jpeg_segments.specs.declared.parser.Dimensions.{Dimensions}
+use Rattle.jpeg_streams.specs.declared.images.ImageInfo.{ImageInfo}
+use Rattle.jpeg_programs.specs.ScaledPictures.{side_at}
+use Rattle.jpeg_programs.specs.declared.pictures.Request.{Request}
+use Rattle.jpeg_programs.specs.declared.pictures.Request.TheVariants.{At, Within}
+use Rattle.jpeg_programs.specs.declared.pictures.Scale.{Scale}
+use Rattle.jpeg_programs.specs.declared.pictures.Scale.TheVariants.{Eighth, Quarter, Half, Full}
+
+abbrev pub sized : ℕ → ℕ → Dimensions
+sized width height = record { width = width; height = height }
+
+-- A size of the picture that is shown as one of the picture that is stored: the orientations from 5 to 8 lie on their
+-- side.
+abbrev pub as_stored : Dimensions → ℕ → Dimensions
+as_stored size orientation =
+    if nat_lt orientation 5 then size else sized size.height size.width
+
+-- what a side is when another side becomes shorter, from the first length to the second: the nearest number, and 1 at
+-- least
+abbrev pub shrunk : ℕ → ℕ → ℕ → ℕ
+shrunk side from to = max 1 (min side ((side * to + from / 2) / from))
+
+-- whether a width and a height are within a size
+abbrev pub is_within : ℕ → ℕ → Dimensions → Bool
+is_within width height most = nat_le width most.width && nat_le height most.height
+
+-- The size of a picture that is to fit within a size: its own where that fits, or else the greatest with its
+-- proportions.
+abbrev pub fitted : ImageInfo → Dimensions → Dimensions
+fitted full most = if is_within full.width full.height most
+    then sized full.width full.height
+    else if nat_le (full.height * most.width) (full.width * most.height)
+    then sized most.width (shrunk full.height full.width most.width)
+    else sized (shrunk full.width full.height most.height) most.height
+
+-- whether a picture at a scale isn't smaller than a size
+abbrev pub covers : Scale → ImageInfo → Dimensions → Bool
+covers scale full size =
+    nat_le size.width (side_at scale full.width) && nat_le size.height (side_at scale full.height)
+
+-- the least scale at which a picture isn't smaller than a size
+abbrev pub least_scale : ImageInfo → Dimensions → Scale
+least_scale full size = if covers Eighth full size then Eighth
+    else if covers Quarter full size then Quarter
+    else if covers Half full size then Half
+    else Full
+
+-- The size of the picture that is asked for, as it is stored, and the scale that it is decoded at: by what the header
+-- says, and the orientation.
+unfoldable pub size_for : Request → ImageInfo → ℕ → Dimensions
+size_for (At scale) full orientation = sized (side_at scale full.width) (side_at scale full.height)
+size_for (Within most upright) full orientation = fitted full (as_stored most orientation)
+
+unfoldable pub scale_for : Request → ImageInfo → ℕ → Scale
+scale_for (At scale) full orientation = scale
+scale_for (Within most upright) full orientation = least_scale full (fitted full (as_stored most orientation))

@@ -1,0 +1,47 @@
+-- Steps of the loops over boxes.
+use Rattle.std.proofs.Common.{◌≡◌, ℕ, suc, ◌+◌, ◌*◌, ◌/◌, ◌^◌, ◌<◌, ◌≤◌, List, ◌++◌, refl, arith}
+use Rattle.std.proofs.Common.{append-nil, append_assoc, sym}
+use Rattle.std.proofs.Math.Nat.{div-le_of_le-mul, mul-le-mul_right}
+use Rattle.thumbnail.specs.Boxes.{joined, sum_of}
+
+pub sum-none : (f : ℕ → ℕ) → sum_of 0 f ≡ 0
+unfolding sum_of
+sum-none f = refl
+
+pub sum-more : (count : ℕ) (f : ℕ → ℕ) → sum_of (count + 1) f ≡ sum_of count f + f count
+unfolding sum_of
+sum-more count f =
+    let next : count + 1 ≡ suc count = omega arith in
+    rw next refl
+
+pub joined-none : (before : List ℕ) (f : ℕ → List ℕ) → before ≡ before ++ joined 0 f
+unfolding joined
+joined-none before f = sym (append-nil before)
+
+pub joined-more : (count : ℕ) (f : ℕ → List ℕ) (before bytes after : List ℕ)
+    → bytes ≡ before ++ joined count f → after ≡ bytes ++ f count → after ≡ before ++ joined (count + 1) f
+unfolding joined
+joined-more count f before bytes after known more =
+    let next : count + 1 ≡ suc count = omega arith in
+    rw (next, more, known) (append_assoc before (joined count f) (f count))
+
+-- a box begins within its side
+pub edge-most : (place side boxes : ℕ) → place ≤ boxes → place * side / boxes ≤ side
+edge-most place side boxes h = div-le_of_le-mul boxes (mul-le-mul_right side h)
+
+-- the indices of samples are small
+pub index-most : (top down width left across components component : ℕ) → top ≤ 65535 → down ≤ 65535 → width ≤ 65535
+    → left ≤ 65535 → across ≤ 65535 → components ≤ 255 → component ≤ 255
+    → ((top + down) * width + (left + across)) * components + component < 2 ^ 42
+index-most top down width left across components component ht hd hw hl ha hn hc =
+    let lines : top + down ≤ 131070 = omega arith in
+    let a : (top + down) * width ≤ 131070 * width = mul-le-mul_right width lines in
+    let p : (top + down) * width + (left + across) ≤ 8600000000 = omega (arith, a) in
+    let b : ((top + down) * width + (left + across)) * components ≤ 8600000000 * components
+    = mul-le-mul_right components p in
+    omega (arith, b)
+
+-- what the lines of a box add up to
+pub sum-fits : (sum more k down : ℕ) → sum ≤ 65535 * 65535 * down → more ≤ 65535 * k → k ≤ 65535
+    → sum + more ≤ 65535 * 65535 * (down + 1)
+sum-fits sum more k down h m w = omega arith

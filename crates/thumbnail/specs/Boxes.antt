@@ -1,0 +1,110 @@
+-- Pictures made smaller: each sample is the mean of those of its box, rounded to the nearest number, halves up.
+use Rattle.std.specs.Prelude.{ℕ, zero, suc, ◌+◌, ◌-◌, ◌*◌, ◌/◌, ◌%◌, List, [], ◌∷◌, ◌++◌, if◌then◌else◌}
+use Rattle.std.specs.Prelude.{◌&&◌, ◌||◌, Bool, nat_le, nat_lt, slice_index_or}
+use Rattle.jpeg_segments.specs.declared.parser.Dimensions.{Dimensions}
+use Rattle.jpeg_streams.specs.declared.images.ImageInfo.{ImageInfo}
+use Rattle.jpeg_streams.specs.declared.images.PixelFormat.{PixelFormat}
+use Rattle.jpeg_streams.specs.declared.images.PixelFormat.TheVariants.{L8, L16, RGB24, CMYK32}
+use Rattle.jpeg_programs.specs.ScaledPictures.{Decoded, decoded}
+use Rattle.thumbnail.specs.declared.boxes.Area.{Area}
+use Rattle.thumbnail.specs.declared.boxes.Reduction.{Reduction}
+
+-- Where a box begins on a side: the places of a side are shared out to as many boxes as the smaller one has places.
+abbrev pub edge : ℕ → ℕ → ℕ → ℕ
+edge place side boxes = place * side / boxes
+
+-- the box of a pixel of the smaller picture: its columns and its lines
+abbrev pub area_of : Reduction → ℕ → ℕ → Area
+area_of r x y = record {
+  left = edge x r.width r.to_width;
+  top = edge y r.height r.to_height;
+  width = edge (x + 1) r.width r.to_width - edge x r.width r.to_width;
+  height = edge (y + 1) r.height r.to_height - edge y r.height r.to_height;
+}
+
+-- a sample of so many bits by its index: one byte up to 8 bits, else two, the lower first
+unfoldable pub sample_in : ℕ → List ℕ → ℕ → ℕ
+sample_in precision pixels index = if nat_lt 8 precision
+    then slice_index_or pixels (2 * index) 0 + 256 * slice_index_or pixels (2 * index + 1) 0
+    else slice_index_or pixels index 0
+
+-- the values of a function at so many numbers from 0, added
+unfoldable pub sum_of : ℕ → (ℕ → ℕ) → ℕ
+sum_of zero f = 0
+sum_of (suc count) f = sum_of count f + f count
+
+-- the index of a component's sample in a box, by its line and its column there
+abbrev pub index_of : Reduction → Area → ℕ → ℕ → ℕ → ℕ
+index_of r area component down across =
+    ((area.top + down) * r.width + (area.left + across)) * r.components + component
+
+unfoldable pub sample_of : List ℕ → Reduction → Area → ℕ → ℕ → ℕ → ℕ
+sample_of pixels r area component down across =
+    sample_in r.precision pixels (index_of r area component down across)
+
+unfoldable pub line_sum : List ℕ → Reduction → Area → ℕ → ℕ → ℕ
+line_sum pixels r area component down = sum_of area.width (sample_of pixels r area component down)
+
+-- the mean of so many values that add up to a sum
+abbrev pub rounded_mean : ℕ → ℕ → ℕ
+rounded_mean sum count = (sum + count / 2) / count
+
+-- the mean of a component's samples in a box
+unfoldable pub mean_in : List ℕ → Reduction → Area → ℕ → ℕ
+mean_in pixels r area component =
+    rounded_mean (sum_of area.height (line_sum pixels r area component)) (area.width * area.height)
+
+-- the bytes of a sample of so many bits
+unfoldable pub sample_bytes : ℕ → ℕ → List ℕ
+sample_bytes precision sample =
+    if nat_lt 8 precision then sample % 256 ∷ sample / 256 % 256 ∷ [] else sample % 256 ∷ []
+
+-- the texts of a function at so many numbers from 0, one after the other
+unfoldable pub joined : ℕ → (ℕ → List ℕ) → List ℕ
+joined zero f = []
+joined (suc count) f = joined count f ++ f count
+
+-- the bytes of a component, of a pixel, of a line and of the whole of the smaller picture
+unfoldable pub component_bytes : List ℕ → Reduction → Area → ℕ → List ℕ
+component_bytes pixels r area component = sample_bytes r.precision (mean_in pixels r area component)
+
+unfoldable pub pixel_bytes : List ℕ → Reduction → ℕ → ℕ → List ℕ
+pixel_bytes pixels r y x = joined r.components (component_bytes pixels r (area_of r x y))
+
+unfoldable pub line_bytes : List ℕ → Reduction → ℕ → List ℕ
+line_bytes pixels r y = joined r.to_width (pixel_bytes pixels r y)
+
+unfoldable pub reduced_bytes : List ℕ → Reduction → List ℕ
+reduced_bytes pixels r = joined r.to_height (line_bytes pixels r)
+
+-- how many samples a pixel has
+abbrev pub components_of : PixelFormat → ℕ
+components_of L8 = 1
+components_of L16 = 1
+components_of RGB24 = 3
+components_of CMYK32 = 4
+
+-- how a picture is made smaller to a size
+abbrev pub reduction_of : ImageInfo → ℕ → Dimensions → Reduction
+reduction_of info precision size = record {
+  width = info.width;
+  height = info.height;
+  to_width = size.width;
+  to_height = size.height;
+  components = components_of info.pixel_format;
+  precision = precision;
+}
+
+-- whether a size is smaller than a picture in one direction, and not greater in the other
+abbrev pub is_smaller : Dimensions → ImageInfo → Bool
+is_smaller size info = nat_le size.width info.width && (nat_le size.height info.height
+    && (nat_lt size.width info.width || nat_lt size.height info.height))
+
+-- what is said of a picture that has another size
+abbrev pub resized : ImageInfo → Dimensions → ImageInfo
+resized info size = record info { width = size.width; height = size.height }
+
+-- The picture boxed down to a size. A picture that isn't greater stays as it is.
+abbrev pub boxed : Dimensions → Decoded → Decoded
+boxed size p = if is_smaller size p.info then decoded (resized p.info size) p.precision
+    (reduced_bytes p.pixels (reduction_of p.info p.precision size)) else p
