@@ -5,8 +5,10 @@ programs.py CRATES [FILE..]: CRATES is the folder of the crates, in which the pr
   exiftool's Exif, XMP and ICC data with those that `jpeginfo --exif`, `--xmp` and `--icc` write;
 - the sizes of `jpeg2pnm` at each scale with those of `djpeg -scale`, and the samples of the whole picture with djpeg's (the mean difference
   is printed, for djpeg upsamples in another way);
-- the picture of `thumbnail` with that of `--as-stored` turned by ImageMagick's `-auto-orient`, sample by sample;
-- the frames of `mjpeg_frames` with those of ffmpeg as rawvideo, and with those of `jpeg2pnm` sample by sample.
+- the sizes of `thumbnail` with those of ImageMagick's `-thumbnail`, its samples with the means of the boxes of `jpeg2pnm`'s picture at the least
+  scale that isn't smaller, and the picture with that of `--as-stored` turned by ImageMagick's `-auto-orient`, sample by sample;
+- the frames of `mjpeg_frames` with those of ffmpeg as rawvideo, from plain frames and from AVI files with and without sound, which have to give
+  the same samples, and with those of its numbered files.
 The status is 1 where something differs that has to be the same.
 """
 
@@ -20,6 +22,7 @@ from pictures import ppm
 from streams import output_of
 
 SCALES = {"1/8": 1, "1/4": 2, "1/2": 4, "1": 8}
+SIZES = ("128x128", "50x1000", "1x1", "100x9", "640x480")
 PROCESSES = {"baseline": "Baseline DCT", "extended": "Extended sequential DCT", "progressive": "Progressive DCT", "lossless": "Lossless"}
 
 
@@ -64,8 +67,8 @@ def size_of(netpbm):
 
 
 def samples_of(netpbm):
-    """The samples of a PGM or PPM file."""
-    return netpbm.split(b"\n", 3)[3]
+    """The samples of a PGM, PPM or PAM file."""
+    return netpbm.split(b"ENDHDR\n", 1)[1] if netpbm.startswith(b"P7") else netpbm.split(b"\n", 3)[3]
 
 
 def description_faults(tools, path):
@@ -122,41 +125,91 @@ def picture_faults(tools, path, means):
     return faults
 
 
-def orientation_faults(tools, path, folder):
-    """Whether `thumbnail` turns a picture in another way than ImageMagick."""
-    most = "128x128"
+def orientation_of(path):
+    """The orientation that exiftool reads, or 1."""
+    return json.loads(output_of(["exiftool", "-j", "-n", "-Orientation", path], b""))[0].get("Orientation", 1)
+
+
+def turned(netpbm, orientation):
+    """A picture turned upright by ImageMagick."""
+    names = "Undefined TopLeft TopRight BottomRight BottomLeft LeftTop RightTop RightBottom LeftBottom".split()
+    return output_of(["convert", "pnm:-", "-orient", names[orientation], "-auto-orient", "-depth", "8", "pnm:-"], netpbm)
+
+
+def boxed(samples, count, own, size):
+    """The means of the boxes of a picture of so many samples a pixel."""
+    (width, height), (columns, lines) = own, size
+    across = [x * width // columns for x in range(columns + 1)]
+    down = [y * height // lines for y in range(lines + 1)]
+    means = bytearray()
+    for top, bottom in zip(down, down[1:]):
+        rows = [samples[y * width * count : (y + 1) * width * count] for y in range(top, bottom)]
+        for left, right in zip(across, across[1:]):
+            number = (bottom - top) * (right - left)
+            for c in range(count):
+                total = sum(sum(row[left * count + c : right * count : count]) for row in rows)
+                means.append((2 * total + number) // (2 * number))
+    return bytes(means)
+
+
+def thumbnail_faults(tools, path, most):
+    """Whether `thumbnail` gives another size than ImageMagick, other samples than the means of boxes, or turns the picture in another way."""
     ours = tools.run("thumbnail", "--max", most, path)
     stored = tools.run("thumbnail", "--max", most, "--as-stored", path)
-    if ours.startswith(b"P7"):
-        return []
-    tagged = folder / "tagged.jpg"
-    orientation = json.loads(output_of(["exiftool", "-j", "-n", "-Orientation", path], b""))[0].get("Orientation", 1)
-    names = "Undefined TopLeft TopRight BottomRight BottomLeft LeftTop RightTop RightBottom LeftBottom".split()
-    turned = output_of(["convert", "pnm:-", "-orient", names[orientation], "-auto-orient", "-depth", "8", "pnm:-"], stored)
-    tagged.unlink(missing_ok=True)
-    same = size_of(turned) == size_of(ours) and samples_of(turned) == samples_of(ours)
-    return [] if same else [f"orientation {orientation}: another picture than ImageMagick's"]
+    faults = []
+    for words, made in ((["-auto-orient"], ours), ([], stored)):
+        theirs = output_of(["convert", path, *words, "-thumbnail", most + ">", "-format", "%w %h", "info:"], b"").split()
+        if size_of(made) != [int(side) for side in theirs]:
+            faults.append(f"thumbnail of {size_of(made)}, not {theirs}")
+    size = size_of(stored)
+    for scale in SCALES:
+        whole = tools.run("jpeg2pnm", "--scale", scale, path)
+        if all(side >= least for side, least in zip(size_of(whole), size)):
+            break
+    count = {b"P5": 1, b"P6": 3, b"P7": 4}[whole[:2]]
+    if samples_of(stored) != boxed(samples_of(whole), count, size_of(whole), size):
+        faults.append(f"thumbnail of {size} at {scale}: other samples than the means of boxes")
+    if whole.startswith(b"P7"):
+        return faults
+    orientation = orientation_of(path)
+    if orientation > 4:
+        stored = tools.run("thumbnail", "--max", "x".join(reversed(most.split("x"))), "--as-stored", path)
+    upright = turned(stored, orientation)
+    if size_of(upright) != size_of(ours) or samples_of(upright) != samples_of(ours):
+        faults.append("another picture than ImageMagick's")
+    return faults
+
+
+def movie(folder, name, *words):
+    """A movie of ten frames of 96x64 by ffmpeg."""
+    picture = ["-f", "lavfi", "-i", "testsrc=size=96x64:rate=5:duration=2"]
+    output_of(["ffmpeg", "-v", "error", *picture, *words, "-c:v", "mjpeg", folder / name], b"")
+    return folder / name
 
 
 def frame_faults(tools, folder):
-    """Whether the frames of an MJPEG stream are those of ffmpeg, by number and size, and of `jpeg2pnm`, by sample."""
-    stream = folder / "stream.mjpeg"
-    output_of(["ffmpeg", "-v", "error", "-f", "lavfi", "-i", "testsrc=size=96x64:rate=5:duration=2", "-c:v", "mjpeg", "-f", "mjpeg", stream], b"")
-    raw = tools.run("mjpeg_frames", stream)
-    theirs = output_of(["ffmpeg", "-v", "error", "-i", stream, "-f", "rawvideo", "-pix_fmt", "rgb24", "-"], b"")
-    tools.run("mjpeg_frames", "-o", folder / "frame-%04d.ppm", stream)
-    numbered = b"".join(samples_of(path.read_bytes()) for path in sorted(folder.glob("frame-*.ppm")))
-    back = ["ffmpeg", "-v", "error", "-f", "rawvideo", "-pixel_format", "rgb24", "-video_size", "96x64", "-i", "-", "-f", "framemd5", "-"]
-    read = [line for line in output_of(back, raw).decode().splitlines() if not line.startswith("#")]
-    faults = []
-    if len(raw) != len(theirs):
-        faults.append(f"{len(raw)} bytes of frames, not {len(theirs)}")
-    if numbered != raw:
-        faults.append("the numbered files have other samples than the stream")
-    if len(read) != 10:
-        faults.append(f"ffmpeg reads {len(read)} frames, not 10")
-    mean = sum(abs(a - b) for a, b in zip(raw, theirs)) / len(theirs)
-    print(f"MJPEG: {len(raw) // (96 * 64 * 3)} frames, mean difference from ffmpeg's {mean:.3f}")
+    """Whether the frames of MJPEG streams and AVI files are those of ffmpeg, by number and size, and those of the numbered files, by sample."""
+    sound = ["-f", "lavfi", "-i", "sine=duration=2", "-c:a", "pcm_s16le"]
+    movies = [movie(folder, "plain.mjpeg", "-f", "mjpeg"), movie(folder, "silent.avi"), movie(folder, "sound.avi", *sound)]
+    faults, first = [], None
+    for path in movies:
+        raw = tools.run("mjpeg_frames", path)
+        theirs = output_of(["ffmpeg", "-v", "error", "-i", path, "-f", "rawvideo", "-pix_fmt", "rgb24", "-"], b"")
+        tools.run("mjpeg_frames", "-o", folder / (path.name + "-%04d.ppm"), path)
+        numbered = b"".join(samples_of(frame.read_bytes()) for frame in sorted(folder.glob(path.name + "-*.ppm")))
+        back = ["ffmpeg", "-v", "error", "-f", "rawvideo", "-pixel_format", "rgb24", "-video_size", "96x64", "-i", "-", "-f", "framemd5", "-"]
+        read = [line for line in output_of(back, raw).decode().splitlines() if not line.startswith("#")]
+        first = first or raw
+        if len(raw) != len(theirs):
+            faults.append(f"{path.name}: {len(raw)} bytes of frames, not {len(theirs)}")
+        if numbered != raw:
+            faults.append(f"{path.name}: the numbered files have other samples than the stream")
+        if len(read) != 10:
+            faults.append(f"{path.name}: ffmpeg reads {len(read)} frames, not 10")
+        if raw != first:
+            faults.append(f"{path.name}: other samples than of the plain frames")
+        mean = sum(abs(a - b) for a, b in zip(raw, theirs)) / len(theirs)
+        print(f"{path.name}: {len(raw) // (96 * 64 * 3)} frames, mean difference from ffmpeg's {mean:.3f}")
     return faults
 
 
@@ -167,7 +220,8 @@ def main(crates, *files):
         paths = [Path(file) for file in files] or list(made_files(folder))
         for path in paths:
             found = description_faults(tools, path) + data_faults(tools, path)
-            found += picture_faults(tools, path, means) + orientation_faults(tools, path, folder)
+            found += picture_faults(tools, path, means)
+            found += [fault for most in SIZES for fault in thumbnail_faults(tools, path, most)]
             faults += [f"{path.name}: {fault}" for fault in found]
         faults += frame_faults(tools, folder)
     print(f"programs: {len(paths)} files, greatest mean difference from djpeg {max(means):.3f}, {len(faults)} faults")
