@@ -26,6 +26,8 @@ CODINGS = {
     "4:4:4, progressive": ["-sample", "1x1", "-progressive"],
     "4:2:0, progressive": ["-sample", "2x2", "-progressive"],
 }
+# A heap that keeps what is given back: else glibc returns the memory of a large picture to the system, and the next decoding's is fresh.
+KEPT = {"GLIBC_TUNABLES": "glibc.malloc.trim_threshold=2000000000:glibc.malloc.mmap_threshold=2000000000"}
 THUMBNAIL_OF = {"1/8 of 4:2:0": "4:2:0", "1/8 of 4:2:0, progressive": "4:2:0, progressive"}
 SMALL = -(-WIDTH // 8), -(-HEIGHT // 8)
 
@@ -66,19 +68,19 @@ class Memory:
         self.pattern = re.compile(pattern)
         self.environment = os.environ | (environment or {})
 
-    def run(self, kind, path):
+    def run(self, kind, path, more=None):
         """The milliseconds of the fastest of its decodings, or None where it refuses the file."""
         words = [path if word == "FILE" else word for word in (self.small if kind in THUMBNAIL_OF else self.whole)]
         with open(path, "rb") as stdin:
-            done = subprocess.run(words, stdin=stdin, env=self.environment, capture_output=True, text=True)
+            done = subprocess.run(words, stdin=stdin, env=self.environment | (more or {}), capture_output=True, text=True)
         found = self.pattern.search(done.stdout + done.stderr) if done.returncode == 0 else None
         return self.to_ms(float(found[1])) if found else None
 
 
-def memory_programs(bench_memory, peers):
-    """The programs that decode from memory, ours first."""
+def memory_programs(bench_memory, peers, decodings=DECODINGS):
+    """The programs that decode from memory so many times, ours first."""
     size = "%dx%d" % SMALL
-    times = str(DECODINGS)
+    times = str(decodings)
     ours = [bench_memory, times]
     yield Memory("ours", ours, [*ours, *map(str, SMALL)], r"(\d+)\n\Z", lambda micros: micros / 1000)
     for peer in peers:
@@ -126,9 +128,9 @@ def files(folder):
         yield kind, path, len(text)
 
 
-def best_times(kind, path, all_programs, count):
+def best_times(kind, path, all_programs, count, *more):
     """The least time of each program over all rounds, in turn."""
-    rounds = [[program.run(kind, path) for program in all_programs] for _ in range(count)]
+    rounds = [[program.run(kind, path, *more) for program in all_programs] for _ in range(count)]
     return [None if None in times else min(times) for times in zip(*rounds)]
 
 
@@ -164,12 +166,16 @@ def time_programs(all_programs, all_files):
 def time_memory(all_programs, all_files):
     head(["from memory", "ours (ms)", *(f"to {program.name}" for program in all_programs[1:])])
     for kind, path, _ in all_files:
-        times = best_times(kind, path, all_programs, MEMORY_ROUNDS)
-        if times[0] is not None:
-            print(line([kind, f"{times[0]:.1f}", *ratios(times)]), flush=True)
+        for words, more in {kind: {}, f"{kind}, a heap that is kept": KEPT}.items():
+            times = best_times(kind, path, all_programs, MEMORY_ROUNDS, more)
+            if times[0] is not None:
+                print(line([words, f"{times[0]:.1f}", *ratios(times)]), flush=True)
 
 
 def main(jpegraw, jpeg2pnm, bench_memory, folder, *peers):
+    # small.py imports this file.
+    from small import time_small
+
     # A program that uses several threads has one processor too, so that its time is comparable.
     os.sched_setaffinity(0, {max(os.sched_getaffinity(0))})
     print(f"{WIDTH}x{HEIGHT}, the best of {ROUNDS}, load {load()} of {os.cpu_count()} processors")
@@ -177,6 +183,7 @@ def main(jpegraw, jpeg2pnm, bench_memory, folder, *peers):
     time_programs(list(programs(jpegraw, jpeg2pnm, peers)), all_files)
     print(f"load {load()}\n")
     time_memory(list(memory_programs(bench_memory, peers)), all_files)
+    time_small(bench_memory, folder, peers)
     print(f"load {load()}")
 
 

@@ -8,9 +8,8 @@ import os
 import subprocess
 import sys
 
-import decode
-from decode import Memory, best_times, head, line, load, ratios
-from photo import WIDTH, photo
+from decode import QUALITY, best_times, head, line, load, memory_programs, ratios
+from photo import HEIGHT, WIDTH, photo
 
 SIZES = (16, 16), (64, 64), (200, 150), (512, 384)
 CODINGS = {"grey": ["-grayscale"], "4:2:0": ["-sample", "2x2"], "4:2:0, progressive": ["-sample", "2x2", "-progressive"]}
@@ -25,34 +24,25 @@ def part(pixels, width, height):
     return b"P6 %d %d 255\n" % (width, height) + b"".join(lines)
 
 
-def programs(bench_memory, peers, times):
-    """The programs that decode from memory, ours first, each as often as is said."""
-    yield Memory("ours", [bench_memory, times], [], r"(\d+)\n\Z", lambda micros: micros / 1000)
-    for peer in peers:
-        yield Memory(os.path.basename(peer), [peer, "--repeat", times, "FILE"], [], r"best ([\d.]+) ms", lambda ms: ms)
-    words = ["tjbench", "FILE", "-nowrite", "-rgb", "-accuratedct", "-benchtime", "0.2", "-warmup", "0.1"]
-    yield Memory("libjpeg-turbo", words, [], r"Frame rate: +([\d.]+) fps", lambda fps: 1000 / fps)
+def time_small(bench_memory, folder, peers):
+    """Prints a line for each size and coding: our time, and its ratio to each other program's."""
+    pixels = photo()[-3 * WIDTH * HEIGHT :]
+    for width, height in SIZES:
+        all_programs = list(memory_programs(bench_memory, peers, PIXELS // (width * height)))
+        for kind, options in CODINGS.items():
+            done = subprocess.run([*QUALITY, *options], input=part(pixels, width, height), capture_output=True, check=True)
+            path = os.path.join(folder, "small.jpg")
+            with open(path, "wb") as file:
+                file.write(done.stdout)
+            best = best_times(kind, path, all_programs, ROUNDS)
+            print(line([f"{width}x{height}, {kind}", f"{best[0]:.3f}", *ratios(best)]), flush=True)
 
 
 def main(bench_memory, folder, *peers):
     os.sched_setaffinity(0, {max(os.sched_getaffinity(0))})
-    pixels = photo()
-    pixels = pixels[-3 * WIDTH * decode.HEIGHT :]
     print(f"the best of {ROUNDS}, load {load()} of {os.cpu_count()} processors")
-    titles = None
-    for width, height in SIZES:
-        times = str(PIXELS // (width * height))
-        for kind, options in CODINGS.items():
-            done = subprocess.run([*decode.QUALITY, *options], input=part(pixels, width, height), capture_output=True, check=True)
-            path = os.path.join(folder, "file.jpg")
-            with open(path, "wb") as file:
-                file.write(done.stdout)
-            all_programs = list(programs(bench_memory, peers, times))
-            if titles is None:
-                titles = ["from memory", "ours (ms)", *(f"to {program.name}" for program in all_programs[1:])]
-                head(titles)
-            best = best_times(kind, path, all_programs, ROUNDS)
-            print(line([f"{width}x{height}, {kind}", f"{best[0]:.3f}", *ratios(best)]), flush=True)
+    head(["from memory", "ours (ms)", *(f"to {program.name}" for program in list(memory_programs(bench_memory, peers))[1:])])
+    time_small(bench_memory, folder, peers)
     print(f"load {load()}")
 
 
