@@ -1,5 +1,5 @@
 -- Every image has a stream: for each component a scan, or in a progressive frame a scan of DC and one of AC.
-use Rattle.std.proofs.Common.{rules, ◌≡◌, ◌≢◌, ◌⊎◌, inl, inr, ℕ, zero, suc, ◌+◌, ◌/◌, ◌%◌, ◌<◌, ◌≤◌, ◌==◌, ◌||◌, nat_lt}
+use Rattle.std.proofs.Common.{rules, ◌≡◌, ◌≢◌, ◌⊎◌, inl, inr, ℕ, zero, suc, ◌+◌, ◌/◌, ◌%◌, ◌<◌, ◌≤◌, ◌==◌, nat_lt}
 use Rattle.std.proofs.Common.{not, Bool, true, false, List, [], ◌∷◌, ◌++◌, map, length, drop, replicate, flat_map, ℤ}
 use Rattle.std.proofs.Common.{Some, None, refl, sym, ap, ap₂, ◌∙◌, subst, append_assoc, length-append, arith}
 use Rattle.std.proofs.Common.{true≢false, leb-true}
@@ -35,7 +35,7 @@ use Rattle.jpeg_streams.specs.WrittenImages.{closed, scan, segment, Writes}
 use Rattle.jpeg_streams.specs.WrittenScans.{InForce, AreCodings, block_for, Coefficients, grid_at, HasTable, IsComplete}
 use Rattle.jpeg_streams.specs.WrittenScans.{IsLegalScan, levels_after, place_at, WritesScan, written_turns}
 use Rattle.jpeg_streams.specs.WrittenScans.AreCodings.{and_more, no_more}
-use Rattle.jpeg_streams.proofs.CutLevels.{all-same}
+use Rattle.jpeg_streams.proofs.CutLevels.{all-same, all-map}
 use Rattle.jpeg_streams.proofs.TestedParts.{one-quantizes, table-by, table_of_one}
 use Rattle.jpeg_streams.proofs.EncodedBlocks.{ac_pass, dc_pass, Each, each-ac, each-dc, each-whole, flat_table}
 use Rattle.jpeg_streams.proofs.EncodedBlocks.{HasFlatAc, HasFlatDc, interval-written, IsFlat}
@@ -145,12 +145,6 @@ abbrev header_of : Kind → ℕ → Factors → ScanHeader
 header_of kind place c = lone_header (from_for kind) (to_for kind) place c
 
 -- ---- the blocks of a scan
-
-all-map : {A B : Type 0} (Q : A → Type 0) (P : B → Type 0) (f : A → B) (xs : List A) → ((x : A) → Q x → P (f x))
-    → AllByRecursion Q xs
-    → AllByRecursion P (map f xs)
-all-map Q P f [] h all = tt
-all-map Q P f (x ∷ xs) h all = (h x all.0, all-map Q P f xs h all.1)
 
 each-map : {A B : Type 0} (P : B → Type 0) (f : A → B) (xs : List A) → ((x : A) → P (f x)) → AllByRecursion P (map f xs)
 each-map P f [] h = tt
