@@ -272,12 +272,8 @@ some-none f o e g = absurd (let n : ⊥ = cc in n)
 
 -- after the frame stands no other
 pub is-other : (said : Found) (frame : Frame) (s : Segment) → said.frame ≡ Some frame → Stands said s → IsOther s
-is-other said frame (Quantization ts) e may = tt
-is-other said frame (Huffman ts) e may = tt
-is-other said frame (Interval n) e may = tt
-is-other said frame (Application number payload) e may = tt
-is-other said frame (Comment payload) e may = tt
-is-other said frame (Header number h) e may = some-none frame said.frame e may.0.0
+is-other said frame s e may =
+    frame-or s (λ number h is. some-none frame said.frame e (subst (Stands said) is may).0.0) (λ other. other)
 
 pub same-frame : (a b : Frame) (o : Option Frame) → o ≡ Some a → o ≡ Some b → a ≡ b
 same-frame a b o e f = let s : ◌≡◌ {A = Option Frame} (Some a) (Some b) = sym e ∙ f in cc
