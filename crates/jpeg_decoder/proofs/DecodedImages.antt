@@ -16,8 +16,7 @@ use Rattle.jpeg_streams.specs.Found.{nothing_found, Found}
 use Rattle.jpeg_streams.specs.WrittenImages.{WritesImage}
 use Rattle.jpeg_streams.specs.WrittenScans.{Coefficients}
 use Rattle.jpeg_streams.specs.declared.settings.Settings.{Settings}
-use Rattle.jpeg_streams.proofs.AcceptedImages.{image-accepted}
-use Rattle.jpeg_streams.proofs.AcceptedTurns.{then-ok}
+use Rattle.jpeg_streams.proofs.ReadTurns.{then-ok}
 use Rattle.jpeg_decoder.proofs.Headers.{bind-ok, header-rest}
 use Rattle.jpeg_streams.proofs.SizedStreams.{sized-taken}
 use Rattle.jpeg_streams.proofs.WrittenPictures.{taken-means}
@@ -116,12 +115,8 @@ means-picture : (size : Size) (settings : Settings) (array : Coefficients) (imag
     → Takes settings (at_size size final)
     → (picture : List ℕ) × (picture_of_array settings (at_size size final) array last ≡ Ok picture)
     × (means_at size settings (image ++ rest) ≡ Ok ((told_of (at_size size final), picture), rest))
-means-picture FullSize settings array image rest final last range w takes =
-    taken-means settings array rest (image ++ rest) final last range
-    (image-accepted array rest image final last w) takes
-means-picture (AtLeast width height) settings array image rest final last range w takes =
-    sized-taken width height settings array rest (image ++ rest) final last range
-    (image-accepted array rest image final last w) takes
+means-picture FullSize = taken-means
+means-picture (AtLeast width height) = sized-taken width height
 
 pub decodes-images : {X : Type 0} (bytes_of : X → List ℕ) (old new : Decoding) (result : Result X Error)
     → (IsReading old.stage

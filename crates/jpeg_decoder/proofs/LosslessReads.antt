@@ -39,7 +39,7 @@ use Rattle.jpeg_decoder.specs.Steps.{IsRefusal, after_all, samples_read, with_de
 use Rattle.jpeg_streams.specs.FoundPictures.{samples_picture}
 use Rattle.jpeg_streams.specs.ScanSegments.{after_samples, scan_samples, arrays_before}
 use Rattle.jpeg_streams.specs.Found.{Found}
-use Rattle.jpeg_streams.proofs.AcceptedTurns.{bind-ok, ok-same, then-ok}
+use Rattle.jpeg_streams.proofs.ReadTurns.{bind-ok, ok-same, then-ok}
 use Rattle.jpeg_streams.proofs.LosslessSizes.{IsMade, across-some, all-at, all-covered, decoded-made, down-some}
 use Rattle.jpeg_decoder.specs.Seen.{planes_in}
 use Rattle.jpeg_decoder.proofs.PutLoops.{drop-set, seen-at}

@@ -25,7 +25,7 @@ use Rattle.jpeg_streams.specs.ScanSegments.{codings_from, component_coding, Codi
 use Rattle.jpeg_streams.specs.Found.{Found}
 use Rattle.jpeg_decoder.specs.Steps.{AreRising, HasPlace, HasScale, IsCodingOf, IsDct, IsReadable, coding_in, codings_in_force}
 use Rattle.jpeg_decoder.specs.Steps.{with_decoded}
-use Rattle.jpeg_streams.proofs.AcceptedTurns.{CodingFacts, codings-facts_from, codings-same_from, tables-same}
+use Rattle.jpeg_streams.proofs.ReadTurns.{CodingFacts, codings-facts_from, codings-same_from, tables-same}
 use Rattle.jpeg_streams.proofs.OwnSpots.{At}
 use Rattle.jpeg_streams.proofs.Soundness.{count-few, decoded-count, decoded-fits}
 use Rattle.jpeg_streams.proofs.WrittenFrameScans.{at-all}

@@ -28,7 +28,7 @@ use Rattle.jpeg_streams.specs.ScanSegments.{component_coding, needed_if, tables_
 use Rattle.jpeg_streams.specs.Found.{Found}
 use Rattle.jpeg_decoder.specs.Seen.{found_in}
 use Rattle.jpeg_decoder.specs.Steps.{IsRefusal, IsSpareOf, coding_in_slot, default_ac, in_force, or_spare, table_if}
-use Rattle.jpeg_streams.proofs.Updates.{both}
+use Rattle.std.proofs.lemmas.Bool.{and_parts}
 
 -- ---- the tables in force
 
@@ -116,8 +116,8 @@ class-ac classes.AC e = refl
 read-ac : (tables : List (Option Table)) (place : ℕ) → all_ac tables ≡ true → IsAc (get_or tables place None)
 read-ac [] place e = tt
 read-ac (None ∷ more) zero e = tt
-read-ac (Some t ∷ more) zero e = class-ac t.class (both (is_ac t.class) (all_ac more) e).0
-read-ac (o ∷ more) (suc place) e = read-ac more place (both (is_ac_or_none o) (all_ac more) e).1
+read-ac (Some t ∷ more) zero e = class-ac t.class (and_parts (is_ac t.class) (all_ac more) e).0
+read-ac (o ∷ more) (suc place) e = read-ac more place (and_parts (is_ac_or_none o) (all_ac more) e).1
 
 filled-ac : (t : Table) (b : Bool) → t.class ≡ classes.AC → IsAc (filled t b None)
 filled-ac t true e = e

@@ -5,24 +5,18 @@ use Rattle.std.proofs.Common.{subst, arith, length-append, length-set, ltb, inl,
 use Rattle.std.proofs.lemmas.Bool.{le-ltb, lt-ltb}
 use Rattle.std.specs.Prelude.{is_some, option_map, slice_index_or, slice_set}
 use Rattle.std.specs.List.{AllByRecursion, concat, range_with_len}
-use Rattle.jpeg_bits.specs.Reading.{Fault, Malformed, Outcome, ◌>>=◌, skip_at}
+use Rattle.jpeg_bits.specs.Reading.{Fault, Malformed, Outcome, ◌>>=◌}
 use Rattle.jpeg_bits.specs.Marker.{marker_of}
 use Rattle.jpeg_bits.specs.declared.marker.Marker.{Marker}
 use Rattle.jpeg_bits.specs.declared.marker.Marker.TheVariants.{EOI, SOS}
 use Rattle.jpeg_segments.specs.declared.parser.CodingProcess.{CodingProcess}
 use Rattle.jpeg_segments.specs.declared.parser.CodingProcess.TheVariants.{Lossless}
-use Rattle.jpeg_segments.specs.Frame.{Frame, Component, sof_at}
-use Rattle.jpeg_segments.specs.Quantization.{dqt_at}
-use Rattle.jpeg_segments.specs.HuffmanTables.{dht_at}
-use Rattle.jpeg_segments.specs.Application.{app_at, dri_at}
+use Rattle.jpeg_segments.specs.Frame.{Frame, Component}
 use Rattle.jpeg_segments.specs.Scales.{sized_by}
 use Rattle.jpeg_segments.specs.ScanHeaders.{ScanHeader, scan_payload, IsScan}
 use Rattle.jpeg_segments.specs.WrittenSegments.{sized, Segment, Quantization, Huffman, Interval, Application}
-use Rattle.jpeg_segments.specs.WrittenSegments.{Comment, Header, FrameHeader, code_of, payload_of, frame_written}
-use Rattle.jpeg_segments.proofs.Fields.{read-on, not-refused, kept, sized-read, skip-read}
-use Rattle.jpeg_segments.proofs.TableSegments.{dqt-read, dht-read}
-use Rattle.jpeg_segments.proofs.OtherSegments.{dri-read, app-read}
-use Rattle.jpeg_segments.proofs.HeaderSegments.{sof-read}
+use Rattle.jpeg_segments.specs.WrittenSegments.{Comment, Header, code_of, payload_of, frame_written}
+use Rattle.jpeg_segments.proofs.Fields.{not-refused, kept}
 use Rattle.jpeg_segments.proofs.HeaderRules.{header-rules}
 use Rattle.jpeg_segments.specs.ScanHeader.{scan_of}
 use Rattle.std.proofs.lemmas.List.Elements.{recursion_from_All}
@@ -34,23 +28,23 @@ use Rattle.jpeg_streams.specs.LosslessScans.{samples_from, with_samples}
 use Rattle.jpeg_lossless.specs.Pictures.{lossless_picture}
 use Rattle.jpeg_streams.specs.Needed.{needed}
 use Rattle.jpeg_streams.specs.SaidSegments.{found_after}
-use Rattle.jpeg_streams.specs.Segments.{frame_segment, onward, application_segment, restart_segment}
-use Rattle.jpeg_streams.specs.Segments.{huffman_segment, quantization_segment, skipped_segment}
+use Rattle.jpeg_streams.specs.Segments.{onward}
 use Rattle.jpeg_streams.specs.Found.{nothing_found, Found}
-use Rattle.jpeg_streams.specs.Stream.{end_segment, start_at, segment_at, turn_at, segments_within, segments_at}
+use Rattle.jpeg_streams.specs.Stream.{start_at, segment_at, turn_at, segments_within, segments_at}
 use Rattle.jpeg_streams.specs.Stream.{header_at, rest_at, meaning, sized_meaning, sized_to, Told, told_of}
-use Rattle.jpeg_streams.specs.ScanSegments.{scan_before, after_restarts, scan_segment}
+use Rattle.jpeg_streams.specs.ScanSegments.{scan_before}
 use Rattle.jpeg_streams.specs.FoundPictures.{picture_of, picture_by_process, samples_picture}
 use Rattle.jpeg_streams.specs.WrittenLossless.{Samples, StandsInLossless, Writes, WritesSamples, WritesScan, closed}
 use Rattle.jpeg_streams.specs.InTurn.{IsIn}
 use Rattle.jpeg_streams.specs.WrittenLossless.{said_after_scan, scan, segment}
-use Rattle.jpeg_streams.proofs.AcceptedImages.{frame-or, frame-stays as unchanged, segment-tail, scan-tail}
-use Rattle.jpeg_streams.proofs.AcceptedTurns.{then-ok, stands-next, turn-end, turn-on}
+use Rattle.jpeg_streams.proofs.ReadTurns.{frame-or, frame-stays as unchanged, segment-tail, scan-tail, some-none}
+use Rattle.jpeg_streams.proofs.ReadTurns.{then-ok, turn-end, turn-on, head-on, head-end, frame-turn, segment-read}
+use Rattle.jpeg_streams.proofs.ReadTurns.{marker-turn, StandsAt, stands-here, stands-met, end-turn, scan-turn, Starts}
+use Rattle.jpeg_streams.proofs.ReadTurns.{segment-starts, scan-starts, end-starts, marker-longer, scan-longer}
 use Rattle.jpeg_streams.proofs.LosslessFrames.{IsShaped, header-shaped, lossless-accepted}
-use Rattle.jpeg_streams.proofs.SizedStreams.{head-on}
 use Rattle.jpeg_streams.proofs.SaidTables.{HasTables, no-tables, segment-tables}
 use Rattle.jpeg_streams.proofs.WrittenMarkers.{marker-append, marker_for, segment-marker}
-use Rattle.jpeg_decoder.proofs.WrittenSamples.{IsEnd, and_samples, components-of, places_of, planes_for, scan-read}
+use Rattle.jpeg_decoder.proofs.WrittenSamples.{and_samples, components-of, places_of, planes_for, scan-read}
 use Rattle.jpeg_decoder.proofs.WrittenSamples.{turn_after}
 
 -- ---- samples that are decided
@@ -133,120 +127,33 @@ all-in P (k ∷ ks) sent h e = (one-held P k sent h e.0, all-in P ks sent h e.1)
 
 -- ---- segments
 
-frame-turn : (said : Found) (decided : List (Option (List ℕ))) (number : ℕ) (h : FrameHeader) (rest : List ℕ)
-    → StandsInLossless said (Header number h)
-    → frame_segment number (and_samples said decided)
-    (sized (payload_of (Header number h)) ++ rest)
-    ≡ Ok (onward (and_samples (found_after said (Header number h)) decided), rest)
-unfolding frame_segment
-frame-turn said decided number h rest may =
-    let frame = frame_written number h in
-    not-refused (is_some said.frame) _ _ (ap is_some may.0.0)
-    ∙ read-on (sof_at number (sized (payload_of (Header number h)) ++ rest)) _ frame rest _
-    (sof-read number h rest may.0.1)
-    (ap (λ (o : Result Frame Fault). o >>= λ (decoded : Frame).
-    Ok (onward (record (and_samples said decided) { frame = Some decoded }), rest))
-    (lossless-accepted number h may.0.1 may.1))
-
-segment-read : (before : Before) (said : Found) (decided : List (Option (List ℕ))) (s : Segment) (rest : List ℕ)
+segment-held : (before : Before) (said : Found) (decided : List (Option (List ℕ))) (s : Segment) (rest : List ℕ)
     → StandsInLossless said s
     → segment_at (marker_for s) before (and_samples said decided)
     (sized (payload_of s) ++ rest) ≡ Ok (onward (and_samples (found_after said s) decided), rest)
-unfolding segment_at quantization_segment huffman_segment restart_segment application_segment skipped_segment
-segment-read before said decided (Quantization ts) rest may =
-    read-on (dqt_at (sized (payload_of (Quantization ts)) ++ rest)) _ _ rest _ (dqt-read ts rest may.0) refl
-segment-read before said decided (Huffman ts) rest may =
-    read-on (dht_at (option_map (λ (f : Frame). f.is_baseline) said.frame) (sized (payload_of (Huffman ts)) ++ rest)) _
-    _ rest _ (dht-read _ ts rest may.0) refl
-segment-read before said decided (Interval n) rest may =
-    read-on (dri_at (sized (payload_of (Interval n)) ++ rest)) _ n rest _ (dri-read n rest) refl
-segment-read before said decided (Application number payload) rest may =
-    read-on (app_at number (sized payload ++ rest)) _ _ rest _ (app-read number payload rest may.0) refl
-segment-read before said decided (Comment payload) rest may =
-    sized-read payload rest _ ∙ read-on (skip_at (length payload) (payload ++ rest)) _ tt rest _
-    (skip-read payload rest) refl
-segment-read before said decided (Header number h) rest may = frame-turn said decided number h rest may
-
--- ---- turns
-
--- the turn of a marker and what stands after it
-marker-turn : (before : Before) (found : Found) (fill code : ℕ) (m : Marker) (rest : List ℕ) → marker_of code ≡ Some m
-    → turn_at before found None (marker fill code rest) ≡ segment_at m before found rest
-marker-turn before found fill code m rest h = (stands-next fill code m rest (record { is = h })).turn before found
-
-met-turn : (before : Before) (found : Found) (m : Marker) (rest : List ℕ)
-    → turn_at before found (Some m) rest ≡ segment_at m before found rest
-unfolding turn_at
-met-turn before found m rest = refl
-
--- a marker is met or stands next, and these are the bytes from it on
-record StandsAt (met : Option Marker) (all bytes : List ℕ) : Type 0 where
-  turn : (before : Before) (found : Found) → turn_at before found met all ≡ turn_at before found None bytes
-
-stands-here : (bytes : List ℕ) → StandsAt None bytes bytes
-stands-here bytes = record { turn = λ before found. refl }
-
-stands-met : (fill code : ℕ) (m : Marker) (rest : List ℕ) → marker_of code ≡ Some m
-    → StandsAt (Some m) rest (marker fill code rest)
-stands-met fill code m rest h = record {
-  turn = λ before found. met-turn before found m rest
-      ∙ sym (marker-turn before found fill code m rest h);
-}
+segment-held before said decided (Quantization ts) rest may =
+    segment-read before (and_samples said decided) (Quantization ts) rest may.0 tt
+segment-held before said decided (Huffman ts) rest may =
+    segment-read before (and_samples said decided) (Huffman ts) rest may.0 tt
+segment-held before said decided (Interval n) rest may =
+    segment-read before (and_samples said decided) (Interval n) rest may.0 tt
+segment-held before said decided (Application number payload) rest may =
+    segment-read before (and_samples said decided) (Application number payload) rest may.0 tt
+segment-held before said decided (Comment payload) rest may =
+    segment-read before (and_samples said decided) (Comment payload) rest may.0 tt
+segment-held before said decided (Header number h) rest may =
+    frame-turn before (and_samples said decided) number h rest may.0 (lossless-accepted number h may.0.1 may.1)
 
 -- ---- what begins with a marker
 
-record Starts (bytes : List ℕ) : Type 0 where
-  fill : ℕ
-  code : ℕ
-  m : Marker
-  after : List ℕ
-  is : bytes ≡ marker fill code after
-  makes : marker_of code ≡ Some m
-  ends : IsEnd m
-
-segment-ends : (s : Segment) → IsEnd (marker_for s)
-unfolding after_restarts
-segment-ends (Quantization ts) = λ turns bytes. refl
-segment-ends (Huffman ts) = λ turns bytes. refl
-segment-ends (Interval n) = λ turns bytes. refl
-segment-ends (Application number payload) = λ turns bytes. refl
-segment-ends (Comment payload) = λ turns bytes. refl
-segment-ends (Header number h) = λ turns bytes. refl
-
-eoi-ends : IsEnd EOI
-unfolding after_restarts
-eoi-ends = λ turns bytes. refl
-
-sos-ends : IsEnd SOS
-unfolding after_restarts
-sos-ends = λ turns bytes. refl
-
 starts : (samples : Samples) (said : Found) (sent bytes : List ℕ) (final : Found)
     → Writes samples said sent bytes final → Starts bytes
-unfolding marker_of
-starts samples said sent bytes final (closed said' sent' frame fill framed lossless all) =
-    record { fill = fill; code = 217; m = EOI; after = []; is = refl; makes = refl; ends = eoi-ends }
+starts samples said sent bytes final (closed said' sent' frame fill framed lossless all) = end-starts fill []
 starts samples said sent bytes final (segment said' final' sent' fill s more may w) =
-    record {
-      fill = fill;
-      code = code_of s;
-      m = marker_for s;
-      after = sized (payload_of s) ++ more;
-      is = refl;
-      makes = segment-marker said.frame s may.0;
-      ends = segment-ends s;
-    }
+    segment-starts said.frame fill s more may.0
 starts samples said sent bytes final (scan said' final' sent' frame fill h data_bytes more framed lossless is data_of
     w) =
-    record {
-      fill = fill;
-      code = 218;
-      m = SOS;
-      after = sized (scan_payload h) ++ (data_bytes ++ more);
-      is = refl;
-      makes = refl;
-      ends = sos-ends;
-    }
+    scan-starts fill (sized (scan_payload h) ++ (data_bytes ++ more))
 
 -- ---- what is kept
 
@@ -276,7 +183,7 @@ segment-shaped said (Header number header) may h frame e =
 pub segment-said : (said : Found) (s : Segment) → StandsInLossless said s → IsSaid said → IsSaid (found_after said s)
 segment-said said s may h =
     record {
-      tables = segment-tables said said s may h.tables;
+      tables = segment-tables said s may.0 h.tables;
       shaped = segment-shaped said s may h;
     }
 
@@ -292,19 +199,6 @@ record Ends (samples : Samples) (turns : ℕ) (before : Before) (said final : Fo
   lossless : frame.process ≡ Lossless
   held : AreHeld samples last (range_with_len 0 (length frame.components))
 
-end-turn : (before : Before) (found : Found) (rest : List ℕ) → is_some found.frame ≡ true
-    → segment_at EOI before found rest ≡ Ok (
-      record { found = found; before = Elsewhere; met = None; ended = true },
-      rest,
-    )
-unfolding segment_at end_segment
-end-turn before found rest some = kept (is_some found.frame) _ (Err Malformed) some
-
-scan-turn : (before : Before) (found : Found) (rest : List ℕ)
-    → segment_at SOS before found rest ≡ scan_segment found rest
-unfolding segment_at
-scan-turn before found rest = refl
-
 after-turn : (samples : Samples) (turns : ℕ) (before next : Before) (said between final : Found)
     (decided others : List (Option (List ℕ))) (met after : Option Marker) (all left rest : List ℕ)
     → segments_within (suc turns) false before (and_samples said decided) met all ≡ segments_within turns false next
@@ -313,22 +207,6 @@ after-turn : (samples : Samples) (turns : ℕ) (before next : Before) (said betw
     → Ends samples (suc turns) before said final decided met all rest
 after-turn samples turns before next said between final decided others met after all left rest e f =
     record { last = f.last; is = e ∙ f.is; frame = f.frame; framed = f.framed; lossless = f.lossless; held = f.held }
-
-marker-longer : (fill code n : ℕ) (bytes more : List ℕ) → length (marker fill code (bytes ++ more)) < suc n
-    → length more < n
-marker-longer fill code n bytes more h =
-    omega (arith, h, length-append bytes more, length-append (replicate fill 255) (code ∷ (bytes ++ more)))
-
-scan-longer : (fill code n : ℕ) (header bytes more : List ℕ)
-    → length (marker fill code (header ++ (bytes ++ more))) < suc n → length more < n
-scan-longer fill code n header bytes more h =
-    omega (
-      arith,
-      h,
-      length-append bytes more,
-      length-append header (bytes ++ more),
-      length-append (replicate fill 255) (code ∷ (header ++ (bytes ++ more))),
-    )
 
 abbrev Reads : Samples → List ℕ → ℕ → Found → Found → List ℕ → List ℕ → Type 0
 Reads samples rest turns said final sent bytes =
@@ -374,7 +252,7 @@ segment-next samples rest turns said final sent fill s more may again before dec
     (segment-tail fill (code_of s) (sized (payload_of s)) more rest)
     ∙ marker-turn before (and_samples said decided) fill (code_of s) (marker_for s)
     (sized (payload_of s) ++ (more ++ rest)) (segment-marker said.frame s may.0)
-    ∙ segment-read before said decided s (more ++ rest) may) refl)
+    ∙ segment-held before said decided s (more ++ rest) may) refl)
     (again Elsewhere decided None (more ++ rest) (segment-said said s may is) four held (stands-here (more ++ rest)))
 
 below-four : (n m : ℕ) (places : List ℕ) → n ≤ m → AllByRecursion (λ k. k < n) places
@@ -548,9 +426,6 @@ samples-refused settings samples bytes rest final frame w framed over =
 
 -- ---- the frame
 
-some-none : {P : Type 0} (f : Frame) (o : Option Frame) → o ≡ Some f → o ≡ None → P
-some-none f o e g = absurd (let n : ⊥ = cc in n)
-
 frame-stays : (said : Found) (s : Segment) (frame : Frame) → StandsInLossless said s → said.frame ≡ Some frame
     → (found_after said s).frame ≡ Some frame
 frame-stays said (Quantization ts) frame may e = e
@@ -580,12 +455,6 @@ final-lossless samples frame said sent bytes final (scan said' final' sent' f fi
     final-lossless samples frame (said_after_scan said) _ more final w e
 
 -- ---- the header
-
-stop : (turns : ℕ) (before : Before) (found : Found) (met : Option Marker) (all : List ℕ) → 0 < turns
-    → is_some found.frame ≡ true → segments_within turns true before found met all ≡ Ok (found, all)
-unfolding segments_within
-stop zero before found met all h e = absurd (omega arith)
-stop (suc turns) before found met all h e = rw (e, segments_within) refl
 
 -- what is found up to the frame
 record Headed (samples : Samples) (turns : ℕ) (before : Before) (said final : Found) (decided : List (Option (List ℕ)))
@@ -621,7 +490,7 @@ header-read samples rest decided (suc turns) before said sent bytes final (segme
     rest)
     ∙ marker-turn before (and_samples said decided) fill (code_of s) (marker_for s)
     (sized (payload_of s) ++ (more ++ rest)) (segment-marker said.frame s may.0)
-    ∙ segment-read before said decided s (more ++ rest) may) refl in
+    ∙ segment-held before said decided s (more ++ rest) may) refl in
     frame-or s
     (λ number h f.
     let framed : (found_after said s).frame ≡ Some (frame_written number h) =
@@ -633,7 +502,7 @@ header-read samples rest decided (suc turns) before said sent bytes final (segme
       framed = framed;
       written = w;
       is_said = next;
-      is = step ∙ stop turns Elsewhere (and_samples (found_after said s) decided) None (more ++ rest) (omega (
+      is = step ∙ head-end turns Elsewhere (and_samples (found_after said s) decided) None (more ++ rest) (omega (
         arith,
         shorter,
       )) (ap is_some framed);

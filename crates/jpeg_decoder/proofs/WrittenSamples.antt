@@ -40,7 +40,7 @@ use Rattle.jpeg_streams.specs.Segments.{Turn}
 use Rattle.jpeg_streams.specs.Found.{Found}
 use Rattle.jpeg_streams.specs.WrittenLossless.{AreCodings, HoldSamples, IsCoding, IsInterval, own_lines, Samples}
 use Rattle.jpeg_streams.specs.WrittenLossless.{WritesScan, no_interval, said_after_scan, whole_rows, whole_scan}
-use Rattle.jpeg_streams.proofs.AcceptedTurns.{then-ok}
+use Rattle.jpeg_streams.proofs.ReadTurns.{IsEnd, then-ok}
 use Rattle.jpeg_streams.proofs.EncodedSamples.{rows-count}
 use Rattle.jpeg_streams.proofs.LosslessFrames.{IsShaped}
 use Rattle.jpeg_streams.proofs.LosslessSizes.{IsMade, across-some, all-at, down-some, made-covered}
@@ -460,10 +460,6 @@ pub components-of : (frame : Frame) (choices : List Choice)
     → map (λ s. s.component) (map (selector_of frame) choices) ≡ places_of choices
 components-of frame [] = refl
 components-of frame (c ∷ choices) = ap (λ (l : List ℕ). c.component ∷ l) (components-of frame choices)
-
--- a marker that ends a scan
-abbrev pub IsEnd : Marker → Type 0
-IsEnd m = (turns : ℕ) (bytes : List ℕ) → after_restarts (suc turns) (Some m) bytes ≡ Ok (Some m, bytes)
 
 -- what a scan leads to
 abbrev pub turn_after : Found → List ℕ → Samples → List (Option (List ℕ)) → Marker → Turn

@@ -5,7 +5,7 @@ use Rattle.jpeg_streams.specs.Output.{default_settings}
 use Rattle.jpeg_streams.specs.Pixels.{info_of}
 use Rattle.jpeg_streams.specs.Stream.{Told, header_at, rest_at, sized_header_at, sized_meaning, sized_to}
 use Rattle.jpeg_streams.specs.Found.{Found}
-use Rattle.jpeg_streams.proofs.AcceptedTurns.{then-ok}
+use Rattle.jpeg_streams.proofs.ReadTurns.{then-ok}
 use Rattle.jpeg_decoder.proofs.Headers.{bind-ok}
 use Rattle.jpeg_streams.specs.declared.images.ImageInfo.{ImageInfo}
 use Rattle.jpeg_programs.specs.ScaledPictures.{decoded, header_info, picture_at, picture_at_scale}

@@ -1,16 +1,17 @@
 -- The spots of a scan are apart, and inside the arrays of its components.
 use Rattle.std.proofs.lemmas.Grind.{common_steps}
 use Rattle.std.proofs.Common.{rules, ◌≡◌, ◌⊎◌, inl, inr, ℕ, zero, suc, ◌+◌, ◌*◌, ◌/◌, ◌%◌, ◌<◌, ◌≤◌, List, [], ◌∷◌}
-use Rattle.std.proofs.Common.{◌++◌, map, length, get_or, replicate, refl, sym, ap, ◌∙◌, subst, arith}
+use Rattle.std.proofs.Common.{◌++◌, map, length, get_or, refl, sym, ap, ap₂, ◌∙◌, subst, arith}
 use Rattle.std.proofs.Math.Nat.{div-lt_iff_lt-mul}
 use Rattle.std.proofs.lemmas.Nat.{div-mul-add, mod-mul-add}
 use Rattle.std.specs.List.{AllByRecursion, range_with_len, flat_map}
 use Rattle.jpeg_segments.specs.Frame.{Frame, Component}
 use Rattle.jpeg_streams.specs.declared.grids.Grid.{Grid}
-use Rattle.jpeg_bits.specs.Passes.{Block, zero_block}
+use Rattle.jpeg_bits.specs.Passes.{zero_block}
 use Rattle.jpeg_streams.specs.Order.{Spot, grid_of, own_spots, part_spots, mcu_spots, all_spots, spots_of}
 use Rattle.jpeg_streams.specs.Scans.{Arrays, zero_arrays}
 use Rattle.jpeg_streams.specs.InTurn.{IsIn, AreApart, IsInside, Fits, AreArrays}
+use Rattle.std.proofs.lemmas.List.{length-replicate}
 
 -- ---- lists
 
@@ -351,11 +352,13 @@ spots-inside frame [] arrays q fits h k = absurd k
 spots-inside frame (c ∷ []) arrays q fits h k = own-inside c frame arrays q fits.0 h k
 spots-inside frame (c ∷ d ∷ more) arrays q fits h k = all-inside frame (c ∷ d ∷ more) arrays q fits h k
 
-pub length-same : (n : ℕ) (b : Block) → length (replicate n b) ≡ n
-length-same zero b = refl
-length-same (suc n) b = ap suc (length-same n b)
-
 pub zeros-sized : (components : List Component) → AreArrays components (zero_arrays components)
 unfolding zero_arrays AreArrays
 zeros-sized [] = tt
-zeros-sized (c ∷ more) = (length-same (c.blocks_high * c.blocks_wide) zero_block, zeros-sized more)
+zeros-sized (c ∷ more) = (length-replicate (c.blocks_high * c.blocks_wide) zero_block, zeros-sized more)
+
+-- ---- lists
+
+pub map-same : {A B : Type 0} (f g : A → B) (xs : List A) → ((x : A) → f x ≡ g x) → map f xs ≡ map g xs
+map-same f g [] h = refl
+map-same f g (x ∷ xs) h = ap₂ (λ y ys. y ∷ ys) (h x) (map-same f g xs h)

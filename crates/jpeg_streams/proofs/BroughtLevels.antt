@@ -1,5 +1,5 @@
 -- A written stream is read as the blocks of its array, cut at the levels that were sent.
-use Rattle.std.proofs.Common.{rules, ◌≡◌, ◌≢◌, ◌⊎◌, inl, inr, ℕ, zero, suc, ◌-◌, ◌*◌, ◌<◌, ◌≤◌, ◌||◌, nat_le, Bool}
+use Rattle.std.proofs.Common.{rules, ◌≡◌, ◌≢◌, ◌⊎◌, inl, inr, ℕ, zero, suc, ◌-◌, ◌*◌, ◌<◌, ◌≤◌, nat_le, Bool}
 use Rattle.std.proofs.Common.{true, false, List, [], ◌∷◌, ◌++◌, length, replicate, get_or, Option, Some, None, Ok, refl}
 use Rattle.std.proofs.Common.{sym, ap, ◌∙◌, subst, arith, eqb, true≢false, length-append, length-take, length-drop}
 use Rattle.std.proofs.lemmas.Bool.{and_parts, eqb-true, eq-eqb, not-true}
@@ -30,9 +30,24 @@ use Rattle.jpeg_streams.proofs.WrittenFrameScans.{HoldsOwn, HasGood, SlotReady, 
 use Rattle.jpeg_streams.proofs.WrittenFrameScans.{one_component, ReadsScan, scan-is_read, cut-nothing}
 use Rattle.jpeg_streams.proofs.Apart.{at-all}
 use Rattle.jpeg_streams.proofs.ReadStates.{reading, Marked, AllDone, places_of, Brought, brings, AllHeld, held-after}
-use Rattle.jpeg_streams.proofs.AcceptedTurns.{CodingFacts, codings-facts, codings-read}
-use Rattle.jpeg_streams.proofs.AcceptedStreams.{PassSo, ScanFacts, progressive, sequential}
+use Rattle.jpeg_streams.proofs.ReadTurns.{CodingFacts, codings-facts, codings-read}
 use Rattle.jpeg_streams.proofs.UpsampledFactors.{either as either-true}
+
+-- ---- what a scan header says
+
+-- what the process says of a scan
+pub data PassSo (f : Frame) (s : Scan) : Type 0 where
+  sequential : is_progressive f.process ≡ false → pass_of s ≡ whole_pass → PassSo f s
+  progressive : is_progressive f.process ≡ true → (s.first ≡ 0 → s.after - 1 ≡ 0)
+      → (s.first ≡ 0) ⊎ (length s.components ≡ 1) → s.first < s.after → s.after ≤ 64 → PassSo f s
+
+-- what a scan header says
+pub record ScanFacts (f : Frame) (s : Scan) : Type 0 where
+  pub some : 1 ≤ length s.components
+  pub dc_length : length s.dc_places ≡ length s.components
+  pub ac_length : length s.ac_places ≡ length s.components
+  pub apart : AreApart s.components
+  pub so : PassSo f s
 
 -- ---- the frame
 

@@ -1,6 +1,6 @@
 -- A scan is its blocks one after the other, with a restart where no block is left of an interval.
 use Rattle.std.proofs.Common.{rules, ◌≡◌, ◌⊎◌, inl, inr, ℕ, zero, suc, ◌+◌, ◌-◌, ◌*◌, ◌%◌, ◌≤◌, ◌<◌, Bool, true, false}
-use Rattle.std.proofs.Common.{List, [], ◌∷◌, ◌++◌, take, drop, length, Option, Some, None, Result, Ok, Err, refl, sym}
+use Rattle.std.proofs.Common.{List, [], ◌∷◌, ◌++◌, take, drop, length, Option, Some, Result, Ok, Err, refl, sym}
 use Rattle.std.proofs.Common.{ap, ◌∙◌, append-nil, arith, length-drop, take-append-drop}
 use Rattle.std.specs.Prelude.{◌==◌, ◌&&◌, nat_lt}
 use Rattle.std.specs.List.{AllByRecursion}
@@ -8,12 +8,11 @@ use Rattle.std.proofs.Math.Nat.{mul-add}
 use Rattle.std.proofs.Math.Bool.{and-false}
 use Rattle.std.proofs.lemmas.Bool.{ne_eqb, le-ltb, lt-ltb}
 use Rattle.jpeg_bits.specs.Reading as reading
-use Rattle.jpeg_bits.specs.Reading.{Outcome, Fault, Malformed}
+use Rattle.jpeg_bits.specs.Reading.{Outcome, Fault}
 use Rattle.jpeg_bits.specs.Entropy.{Text, upcoming, fresh, marker_from}
 use Rattle.jpeg_bits.specs.Readers.{Reads, read_on, gives}
 use Rattle.jpeg_bits.specs.declared.marker.Marker.{Marker}
-use Rattle.jpeg_bits.specs.declared.marker.Marker.TheVariants.{SOF, JPG, DHT, DAC, RST, SOI, EOI, SOS, DQT, DNL, DRI}
-use Rattle.jpeg_bits.specs.declared.marker.Marker.TheVariants.{DHP, EXP, APP, JPGn, COM, TEM, RES}
+use Rattle.jpeg_bits.specs.declared.marker.Marker.TheVariants.{RST}
 use Rattle.jpeg_segments.specs.Frame.{Frame, Component}
 use Rattle.jpeg_bits.specs.Passes.{Pass, Via}
 use Rattle.jpeg_bits.specs.Intervals.{groups, first_group, other_groups, is_restart}
@@ -157,27 +156,14 @@ after-restart : (p : Pass) (vias : List Via) (k : ℕ) (old : Reached) (t : Text
 unfolding restart_from
 after-restart p vias k old t F G same = search rules
 
+-- whether a marker is RST with this number
+abbrev is_numbered : ℕ → Option Marker → Bool
+is_numbered i (Some (RST n)) = n == i
+is_numbered i _ = false
+
 -- a number that counts modulo 8
 is-same : (j k : ℕ) → j ≡ k % 8 → (m : Option Marker) → is_restart j m ≡ is_restart k m
-is-same j k e None = refl
-is-same j k e (Some (RST n)) = let f : j % 8 ≡ k % 8 = omega (arith, e) in ap (λ (i : ℕ). n == i) f
-is-same j k e (Some (SOF n)) = refl
-is-same j k e (Some JPG) = refl
-is-same j k e (Some DHT) = refl
-is-same j k e (Some DAC) = refl
-is-same j k e (Some SOI) = refl
-is-same j k e (Some EOI) = refl
-is-same j k e (Some SOS) = refl
-is-same j k e (Some DQT) = refl
-is-same j k e (Some DNL) = refl
-is-same j k e (Some DRI) = refl
-is-same j k e (Some DHP) = refl
-is-same j k e (Some EXP) = refl
-is-same j k e (Some (APP n)) = refl
-is-same j k e (Some (JPGn n)) = refl
-is-same j k e (Some COM) = refl
-is-same j k e (Some TEM) = refl
-is-same j k e (Some RES) = refl
+is-same j k e m = let f : j % 8 ≡ k % 8 = omega (arith, e) in ap (λ (i : ℕ). is_numbered i m) f
 
 restart-same : (j k : ℕ) (t : Text) → j ≡ k % 8 → restart_from j t ≡ restart_from k t
 unfolding restart_from

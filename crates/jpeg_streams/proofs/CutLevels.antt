@@ -4,7 +4,7 @@ use Rattle.std.proofs.Common.{rules, ◌≡◌, ℕ, zero, suc, ◌+◌, ◌/◌
 use Rattle.std.proofs.Common.{take, drop, replicate, length, ℤ, pos, negsuc, neg_ℤ, ◌≤ℤ◌, unsigned_abs, Option, Some}
 use Rattle.std.proofs.Common.{None, refl, sym, ap, ap₂, ◌∙◌, arith, eqb, pow_mono, length-take, length-drop, drop-drop}
 use Rattle.std.proofs.Common.{take-append-drop}
-use Rattle.std.proofs.lemmas.List.{length-replicate}
+use Rattle.std.proofs.lemmas.List.{length-replicate, take-map, drop-map}
 use Rattle.std.proofs.Math.Nat.{div-le_self, div-mul-le_self, add-mul, one-mul}
 use lib.Pow.{shr-shr}
 use Rattle.std.proofs.lemmas.Int.{ints, int_wrap_fits}
@@ -95,22 +95,12 @@ cut-sent a [] ls h all = refl
 cut-sent a (c ∷ cs) [] h all = absurd (omega arith)
 cut-sent a (c ∷ cs) (l ∷ ls) h all = search (rules, cut-sent a cs ls (omega arith) all.1)
 
-pub map-take : (f : ℤ → ℤ) (n : ℕ) (xs : List ℤ) → take n (map f xs) ≡ map f (take n xs)
-map-take f zero xs = refl
-map-take f (suc n) [] = refl
-map-take f (suc n) (x ∷ xs) = ap (λ (l : List ℤ). f x ∷ l) (map-take f n xs)
-
-pub map-drop : (f : ℤ → ℤ) (n : ℕ) (xs : List ℤ) → drop n (map f xs) ≡ map f (drop n xs)
-map-drop f zero xs = refl
-map-drop f (suc n) [] = refl
-map-drop f (suc n) (x ∷ xs) = map-drop f n xs
-
 pub band-cut : (p : Pass) (cs : List ℤ) (ls : List (Option ℕ))
     → band_of p (cut_acs cs ls) ≡ cut_acs (band_of p cs) (band_of p ls)
 band-cut p cs ls = search (rules, cut-drop, cut-take)
 
 pub band-map : (p : Pass) (f : ℤ → ℤ) (cs : List ℤ) → band_of p (map f cs) ≡ map f (band_of p cs)
-band-map p f cs = rw (map-drop f (before_band p) cs, map-take f (band_size p) (drop (before_band p) cs)) refl
+band-map p f cs = rw (drop-map f (before_band p) cs, take-map f (band_size p) (drop (before_band p) cs)) refl
 
 pub map-map : (f g h : ℤ → ℤ) → ((x : ℤ) → g (f x) ≡ h x) → (xs : List ℤ) → map g (map f xs) ≡ map h xs
 map-map f g h e [] = refl
@@ -135,17 +125,17 @@ around-band p cs =
     ∙ ap (λ (l : List ℤ). take (before_band p) cs ++ l) (take-append-drop (band_size p) (drop (before_band p) cs))
     ∙ take-append-drop (before_band p) cs
 
-pub all-map : (P : ℤ → Type 0) (f : ℤ → ℤ) (Q : ℤ → Type 0) → ((x : ℤ) → Q x → P (f x)) → (xs : List ℤ)
+pub all-map : {A B : Type 0} (Q : A → Type 0) (P : B → Type 0) (f : A → B) (xs : List A) → ((x : A) → Q x → P (f x))
     → AllByRecursion Q xs → AllByRecursion P (map f xs)
-all-map P f Q g [] h = tt
-all-map P f Q g (x ∷ xs) h = (g x h.0, all-map P f Q g xs h.1)
+all-map Q P f [] h all = tt
+all-map Q P f (x ∷ xs) h all = (h x all.0, all-map Q P f xs h all.1)
 
-pub all-take : (Q : ℤ → Type 0) (n : ℕ) (xs : List ℤ) → AllByRecursion Q xs → AllByRecursion Q (take n xs)
+pub all-take : {A : Type 0} (Q : A → Type 0) (n : ℕ) (xs : List A) → AllByRecursion Q xs → AllByRecursion Q (take n xs)
 all-take Q zero xs h = tt
 all-take Q (suc n) [] h = tt
 all-take Q (suc n) (x ∷ xs) h = (h.0, all-take Q n xs h.1)
 
-pub all-drop : (Q : ℤ → Type 0) (n : ℕ) (xs : List ℤ) → AllByRecursion Q xs → AllByRecursion Q (drop n xs)
+pub all-drop : {A : Type 0} (Q : A → Type 0) (n : ℕ) (xs : List A) → AllByRecursion Q xs → AllByRecursion Q (drop n xs)
 all-drop Q zero xs h = h
 all-drop Q (suc n) [] h = tt
 all-drop Q (suc n) (x ∷ xs) h = all-drop Q n xs h.1

@@ -1,5 +1,5 @@
 -- Every image has a stream: for each component a scan, or in a progressive frame a scan of DC and one of AC.
-use Rattle.std.proofs.Common.{rules, ◌≡◌, ◌≢◌, ◌⊎◌, inl, inr, ℕ, zero, suc, ◌+◌, ◌/◌, ◌%◌, ◌<◌, ◌≤◌, ◌==◌, ◌||◌, nat_lt}
+use Rattle.std.proofs.Common.{rules, ◌≡◌, ◌≢◌, ◌⊎◌, inl, inr, ℕ, zero, suc, ◌+◌, ◌/◌, ◌%◌, ◌<◌, ◌≤◌, ◌==◌, nat_lt}
 use Rattle.std.proofs.Common.{not, Bool, true, false, List, [], ◌∷◌, ◌++◌, map, length, drop, replicate, flat_map, ℤ}
 use Rattle.std.proofs.Common.{Some, None, refl, sym, ap, ap₂, ◌∙◌, subst, append_assoc, length-append, arith}
 use Rattle.std.proofs.Common.{true≢false, leb-true}
@@ -35,7 +35,7 @@ use Rattle.jpeg_streams.specs.WrittenImages.{closed, scan, segment, Writes}
 use Rattle.jpeg_streams.specs.WrittenScans.{InForce, AreCodings, block_for, Coefficients, grid_at, HasTable, IsComplete}
 use Rattle.jpeg_streams.specs.WrittenScans.{IsLegalScan, levels_after, place_at, WritesScan, written_turns}
 use Rattle.jpeg_streams.specs.WrittenScans.AreCodings.{and_more, no_more}
-use Rattle.jpeg_streams.proofs.CutLevels.{all-same}
+use Rattle.jpeg_streams.proofs.CutLevels.{all-same, all-map}
 use Rattle.jpeg_streams.proofs.TestedParts.{one-quantizes, table-by, table_of_one}
 use Rattle.jpeg_streams.proofs.EncodedBlocks.{ac_pass, dc_pass, Each, each-ac, each-dc, each-whole, flat_table}
 use Rattle.jpeg_streams.proofs.EncodedBlocks.{HasFlatAc, HasFlatDc, interval-written, IsFlat}
@@ -146,12 +146,6 @@ header_of kind place c = lone_header (from_for kind) (to_for kind) place c
 
 -- ---- the blocks of a scan
 
-all-map : {A B : Type 0} (Q : A → Type 0) (P : B → Type 0) (f : A → B) (xs : List A) → ((x : A) → Q x → P (f x))
-    → AllByRecursion Q xs
-    → AllByRecursion P (map f xs)
-all-map Q P f [] h all = tt
-all-map Q P f (x ∷ xs) h all = (h x all.0, all-map Q P f xs h all.1)
-
 each-map : {A B : Type 0} (P : B → Type 0) (f : A → B) (xs : List A) → ((x : A) → P (f x)) → AllByRecursion P (map f xs)
 each-map P f [] h = tt
 each-map P f (x ∷ xs) h = (h x, each-map P f xs h)
@@ -224,35 +218,26 @@ first-is h (x ∷ front) more c = first-is h front more c
 
 -- ---- scans
 
+-- the pass that the header of such a scan gives, and that its frame has such a band
+kind-is : (kind : Kind) (number : ℕ) (h : FrameHeader) (place : ℕ) (c : Factors) → Fits kind number
+    → (pass_of (scan_written (frame_written number h) (header_of kind place c)) ≡ pass_for kind)
+    × (is_band (frame_written number h).process 1 (from_for kind) (to_for kind) 0 0 ≡ true)
+unfolding pass_of scan_of frame_of
+kind-is Whole zero h place c fits = (refl, refl)
+kind-is Whole (suc zero) h place c fits = (refl, refl)
+kind-is Whole (suc (suc number)) h place c fits = absurd (omega arith)
+kind-is OfDc zero h place c fits = absurd (omega arith)
+kind-is OfDc (suc zero) h place c fits = absurd (omega arith)
+kind-is OfDc (suc (suc zero)) h place c fits = (refl, refl)
+kind-is OfDc (suc (suc (suc number))) h place c fits = absurd (omega arith)
+kind-is OfAc zero h place c fits = absurd (omega arith)
+kind-is OfAc (suc zero) h place c fits = absurd (omega arith)
+kind-is OfAc (suc (suc zero)) h place c fits = (refl, refl)
+kind-is OfAc (suc (suc (suc number))) h place c fits = absurd (omega arith)
+
 pass-is : (kind : Kind) (number : ℕ) (h : FrameHeader) (place : ℕ) (c : Factors) → Fits kind number
     → pass_of (scan_written (frame_written number h) (header_of kind place c)) ≡ pass_for kind
-unfolding pass_of scan_of frame_of
-pass-is Whole zero h place c fits = refl
-pass-is Whole (suc zero) h place c fits = refl
-pass-is Whole (suc (suc number)) h place c fits = absurd (omega arith)
-pass-is OfDc zero h place c fits = absurd (omega arith)
-pass-is OfDc (suc zero) h place c fits = absurd (omega arith)
-pass-is OfDc (suc (suc zero)) h place c fits = refl
-pass-is OfDc (suc (suc (suc number))) h place c fits = absurd (omega arith)
-pass-is OfAc zero h place c fits = absurd (omega arith)
-pass-is OfAc (suc zero) h place c fits = absurd (omega arith)
-pass-is OfAc (suc (suc zero)) h place c fits = refl
-pass-is OfAc (suc (suc (suc number))) h place c fits = absurd (omega arith)
-
-band-is : (kind : Kind) (number : ℕ) (h : FrameHeader) → Fits kind number
-    → is_band (frame_written number h).process 1 (from_for kind) (to_for kind) 0 0 ≡ true
-unfolding frame_of
-band-is Whole zero h fits = refl
-band-is Whole (suc zero) h fits = refl
-band-is Whole (suc (suc number)) h fits = absurd (omega arith)
-band-is OfDc zero h fits = absurd (omega arith)
-band-is OfDc (suc zero) h fits = absurd (omega arith)
-band-is OfDc (suc (suc zero)) h fits = refl
-band-is OfDc (suc (suc (suc number))) h fits = absurd (omega arith)
-band-is OfAc zero h fits = absurd (omega arith)
-band-is OfAc (suc zero) h fits = absurd (omega arith)
-band-is OfAc (suc (suc zero)) h fits = refl
-band-is OfAc (suc (suc (suc number))) h fits = absurd (omega arith)
+pass-is kind number h place c fits = (kind-is kind number h place c fits).0
 
 pub lone-written : (from to number : ℕ) (h : FrameHeader) (front more : List Factors) (c : Factors)
     → is_band (frame_written number h).process 1 from to 0 0 ≡ true → 0 < h.precision
@@ -427,7 +412,7 @@ one-scan kind number h array front more c levels last scanned bytes fits le p ra
     (place-low number c.quantization le is.placed) was in (
       marker 0 218 (sized (scan_payload head) ++ (d.0 ++ bytes)),
       scan (said number h) (said number h) levels last scanned f 0 head ks d.0 bytes refl
-          (lone-written (from_for kind) (to_for kind) number h front more c (band-is kind number h fits)
+          (lone-written (from_for kind) (to_for kind) number h front more c (kind-is kind number h (length front) c fits).1
           (let q = p.precise in omega arith) e is.is_new) legal coded w,
     )
 

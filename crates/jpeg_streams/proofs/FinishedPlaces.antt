@@ -5,11 +5,11 @@ use Rattle.std.proofs.Common.{drop-drop, ◌==◌}
 use Rattle.std.proofs.lemmas.Grind.{common_steps}
 use Rattle.std.proofs.lemmas.Bool.{eqb-true, eq-eqb}
 use Rattle.jpeg_lossless.proofs.ReadBack.{not-equal}
-use Rattle.jpeg_streams.proofs.WrittenIntervals.{map-take_any, map-drop_any, map-joined}
 use lib.ListN.{length-map}
 use Rattle.std.specs.List.{AllByRecursion}
 use Rattle.jpeg_bits.specs.Passes.{Pass, band_of, with_band, before_band, band_size}
 use Rattle.jpeg_streams.specs.Levels.{Levels, IsLegal, sent_after}
+use Rattle.std.proofs.lemmas.List.{take-map, drop-map, map-append}
 
 -- ---- finished places
 
@@ -46,11 +46,11 @@ map-replicate zero a = refl
 map-replicate (suc n) a = ap (λ (l : List Bool). is_level_0 a ∷ l) (map-replicate n a)
 
 pub map-band : (p : Pass) (ls : List (Option ℕ)) → map is_level_0 (band_of p ls) ≡ band_of p (map is_level_0 ls)
-map-band p ls = search (rules, map-take_any, map-drop_any)
+map-band p ls = search (rules, take-map, drop-map)
 
 pub map-with_band : (p : Pass) (ls band : List (Option ℕ))
     → map is_level_0 (with_band p ls band) ≡ with_band p (map is_level_0 ls) (map is_level_0 band)
-map-with_band p ls band = search (rules, map-joined, map-take_any, map-drop_any)
+map-with_band p ls band = search (rules, map-append, take-map, drop-map)
 
 pub around : (p : Pass) (cs : List Bool) → with_band p cs (band_of p cs) ≡ cs
 around p cs =

@@ -6,12 +6,11 @@ use Rattle.std.proofs.lemmas.Bool.Decides.{leb_tells}
 use Rattle.std.proofs.Math.Nat.{le-div_iff_mul-le, add-mul, one-mul}
 use Rattle.std.specs.List.{AllByRecursion}
 use Rattle.jpeg_segments.specs.declared.parser.CodingProcess.TheVariants.{Lossless}
-use Rattle.jpeg_segments.specs.Frame.{Frame, Component, Factors, IsInRange, frame_of, ceiling, greatest}
+use Rattle.jpeg_segments.specs.Frame.{Frame, Component, Factors, IsInRange, frame_of, ceiling}
 use Rattle.jpeg_pixels.specs.Pictures.{Source, sources_of}
 use Rattle.jpeg_segments.specs.Scales.{frame_at}
 use Rattle.jpeg_segments.proofs.ScaleLemmas.{full_size}
 use Rattle.jpeg_streams.specs.Segments.{accepted, is_decoded_count}
-pub use Rattle.jpeg_streams.proofs.AcceptedStreams.{Plain}
 use Rattle.jpeg_streams.proofs.FrameFits.{frames-fit}
 use Rattle.jpeg_streams.proofs.OwnSpots.{At, Fits}
 use Rattle.jpeg_streams.proofs.Apart.{at-all}
@@ -31,6 +30,18 @@ ceiling-covers a b h = search (rules, leb_tells, below-ceiling)
 
 -- ---- frames that are read
 
+-- a frame that is read
+pub record Plain (f : Frame) : Type 0 where
+  pub number : ℕ
+  pub precision : ℕ
+  pub width : ℕ
+  pub height : ℕ
+  pub factors : List Factors
+  pub in_range : AllByRecursion IsInRange factors
+  pub some_width : 0 < width
+  pub some_height : 0 < height
+  pub is : f ≡ frame_of number precision width height factors
+
 pub frame-lossy : (number precision width height : ℕ) (cs : List Factors) → number ≤ 2
     → (frame_of number precision width height cs).process ≢ Lossless
 unfolding frame_of
@@ -38,10 +49,6 @@ frame-lossy zero precision width height cs h e = cc
 frame-lossy (suc zero) precision width height cs h e = cc
 frame-lossy (suc (suc zero)) precision width height cs h e = cc
 frame-lossy (suc (suc (suc n))) precision width height cs h e = absurd (omega arith)
-
-pub greatest-some : (field : Factors → ℕ) (cs : List Factors) → 0 < greatest field cs
-greatest-some field [] = omega arith
-greatest-some field (c ∷ cs) = let h = greatest-some field cs in omega arith
 
 -- ---- full size
 

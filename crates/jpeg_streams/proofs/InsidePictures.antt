@@ -15,7 +15,7 @@ use Rattle.jpeg_pixels.specs.Colour.{line_bytes}
 use Rattle.jpeg_pixels.specs.Pictures.{Source, source_by, source_of, sources_by, sources_of, line_of, lines_of}
 use Rattle.jpeg_pixels.specs.Pictures.{picture_line, picture_bytes, image_of}
 use Rattle.jpeg_pixels.specs.Planes.{cropped}
-use Rattle.jpeg_streams.proofs.AcceptedTurns.{err-ok, ok-same, bind-ok}
+use Rattle.jpeg_streams.proofs.ReadTurns.{err-ok, ok-same, bind-ok}
 
 -- ---- one sample
 

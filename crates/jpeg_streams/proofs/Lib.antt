@@ -23,7 +23,6 @@ pub mod PlaneStrips
 pub mod Products
 pub mod InPlace
 pub mod WrittenMarkers
-pub mod AcceptedStreams
 pub mod WrittenBands
 pub mod WrittenRefinements
 pub mod SentBlocks
@@ -36,7 +35,7 @@ pub mod FinishedPlaces
 pub mod FinishedMarks
 pub mod ReadStates
 pub mod WrittenFrameScans
-pub mod AcceptedTurns
+pub mod ReadTurns
 pub mod BroughtLevels
 pub mod FrameShapes
 pub mod ScanFacts
@@ -49,7 +48,6 @@ pub mod ScaledScans
 pub mod UpsampledFactors
 pub mod ScaledSources
 pub mod SizedStreams
-pub mod AcceptedImages
 pub mod WholeImages
 pub mod TestedParts
 pub mod WorkedGrey

@@ -1,5 +1,5 @@
 -- The sizes of the components of a lossless frame, and the MCUs of its scans.
-use Rattle.std.proofs.Common.{rules, ◌≡◌, ℕ, zero, suc, ◌*◌, ◌<◌, ◌≤◌, List, [], ◌∷◌, map, drop, Some, refl, ap, subst}
+use Rattle.std.proofs.Common.{rules, ◌≡◌, ℕ, zero, suc, ◌*◌, ◌<◌, ◌≤◌, List, [], ◌∷◌, map, drop, Some, ap, subst}
 use Rattle.std.proofs.Common.{arith}
 use Rattle.std.specs.List.{AllByRecursion}
 use Rattle.std.proofs.lemmas.List.Elements.{recursion_from_All}
@@ -13,7 +13,10 @@ use Rattle.jpeg_lossless.specs.Pictures.{Reaches, factors_of, most_across, most_
 use Rattle.jpeg_streams.specs.LosslessScans.{LosslessCoding, mcus_across, mcus_down, part_of, parts_of}
 use Rattle.jpeg_streams.specs.Needed.{first_of}
 use Rattle.jpeg_streams.specs.Sound.{IsDecodedFrame}
-use Rattle.jpeg_streams.proofs.FrameShapes.{below-ceiling, ceiling-covers, ceiling-least, greatest-some}
+use Rattle.jpeg_streams.proofs.FrameShapes.{below-ceiling, ceiling-covers, ceiling-least}
+use Rattle.jpeg_streams.proofs.FrameFits.{factors-back}
+use Rattle.jpeg_segments.proofs.FrameLemmas.{greatest-some}
+use Rattle.jpeg_streams.proofs.CountedScans.{some-product}
 
 pub all-at : {A : Type 0} (P : A → Type 0) (n : ℕ) (xs : List A) (x : A) → AllByRecursion P xs
     → first_of (drop n xs) ≡ Some x → P x
@@ -36,12 +39,6 @@ some-across frame = greatest-some (λ f. f.horizontal) (factors_of frame)
 
 pub some-down : (frame : Frame) → 0 < most_down frame
 some-down frame = greatest-some (λ f. f.vertical) (factors_of frame)
-
-factors-back : (width height mh mv : ℕ) (cs : List Factors)
-    → map (λ c. c.factors) (map (component_of width height mh mv) cs) ≡ cs
-unfolding component_of
-factors-back width height mh mv [] = refl
-factors-back width height mh mv (c ∷ cs) = ap (λ (l : List Factors). c ∷ l) (factors-back width height mh mv cs)
 
 all-made : (frame : Frame) (mh mv : ℕ) (cs : List Factors) → most_across frame ≡ mh → most_down frame ≡ mv
     → AllByRecursion IsInRange cs
@@ -73,14 +70,11 @@ decoded-made frame p e = search (rules, full_frames, frames-made, recursion_from
 pub ceiling-some : (a b : ℕ) → 0 < a → 0 < b → 0 < ceiling a b
 ceiling-some a b h m = search (rules, below-ceiling)
 
-product-some : (a b : ℕ) → 0 < a → 1 ≤ b → 0 < a * b
-product-some a b h k = search (rules, mul-le-mul_right)
-
 pub made-wide : (frame : Frame) (c : Component) → 0 < frame.width → IsMade frame c → 0 < c.width
-made-wide frame c h is = search (rules, ceiling-some, product-some, some-across)
+made-wide frame c h is = search (rules, ceiling-some, some-product, some-across)
 
 pub made-high : (frame : Frame) (c : Component) → 0 < frame.height → IsMade frame c → 0 < c.height
-made-high frame c h is = search (rules, ceiling-some, product-some, some-down)
+made-high frame c h is = search (rules, ceiling-some, some-product, some-down)
 
 pub made-reaches : (frame : Frame) (c : Component) → IsMade frame c → Reaches frame c
 made-reaches frame c is = search (rules, ceiling-covers, some-across, some-down)

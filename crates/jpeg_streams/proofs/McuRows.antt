@@ -1,8 +1,8 @@
 -- A scan from zeros is its rows of MCUs, each read into blocks of its own.
 use Rattle.std.proofs.Common.{rules, ◌≡◌, inr, ℕ, zero, suc, ◌+◌, ◌-◌, ◌*◌, ◌/◌, ◌≤◌, ◌<◌, List, [], ◌∷◌, ◌++◌, map}
 use Rattle.std.proofs.Common.{length, set, get_or, replicate, Result, Ok, Err, refl, sym, ap, ap₂, ◌∙◌, append_assoc}
-use Rattle.std.proofs.Common.{append-nil, arith, length-set}
-use Rattle.std.proofs.lemmas.Grind.{common_steps}
+use Rattle.std.proofs.Common.{append-nil, arith, length-set, length-append}
+use Rattle.std.proofs.lemmas.Grind.{common_steps, flat_map-append}
 use Rattle.std.specs.Prelude.{min}
 use Rattle.std.specs.List.{AllByRecursion, range_with_len, flat_map}
 use Rattle.jpeg_bits.specs.Reading.{Fault}
@@ -19,25 +19,19 @@ use Rattle.jpeg_streams.specs.McuRows.{scan_by_rows}
 use Rattle.jpeg_streams.proofs.Put.{put-inside}
 use Rattle.std.proofs.Math.Nat.{add-mul, mul_assoc, div-lt_iff_lt-mul}
 use Rattle.std.proofs.lemmas.Nat.{div-mul-add}
-use Rattle.jpeg_streams.proofs.Apart.{At, at-all, in-flat-back, in-line-back, mcu-tells, placed}
-use Rattle.jpeg_streams.proofs.Apart.{length-same as length-some}
+use Rattle.jpeg_streams.proofs.Apart.{At, at-all, in-flat-back, in-line-back, mcu-tells, placed, map-same}
 use Rattle.jpeg_streams.proofs.CountedScans.{finished, on-on, blocks-append, some-product}
+use Rattle.std.proofs.lemmas.List.{map-append, set-append_left, set-append_right, length-replicate}
+use Rattle.std.proofs.lemmas.List.FromFn.{length-map-range_with_len}
 
 -- ---- a list inside another
 
 set-inside : {A : Type 0} (x y z : List A) (i : ℕ) (b : A) → i < length y → set (x ++ (y ++ z)) (length x + i) b
     ≡ x ++ (set y i b ++ z)
-set-inside {A} x y z i b h = front x (length x + i) refl
-  where
-    middle : (y z : List A) (i : ℕ) (b : A) → i < length y → set (y ++ z) i b ≡ set y i b ++ z
-    middle [] z i b h = absurd (omega arith)
-    middle (a ∷ y) z zero b h = refl
-    middle (a ∷ y) z (suc i) b h = ap (λ l. a ∷ l) (middle y z i b (omega arith))
-
-    front : (x : List A) (n : ℕ) → n ≡ length x + i → set (x ++ (y ++ z)) n b ≡ x ++ (set y i b ++ z)
-    front [] n e = ap (λ (k : ℕ). set (y ++ z) k b) (omega arith) ∙ middle y z i b h
-    front (a ∷ x) zero e = absurd (omega arith)
-    front (a ∷ x) (suc n) e = ap (λ l. a ∷ l) (front x n (omega arith))
+set-inside x y z i b h =
+    set-append_right x (y ++ z) (length x) (length x + i) b refl (omega arith)
+    ∙ ap (λ (k : ℕ). x ++ set (y ++ z) k b) (let e : length x + i - length x ≡ i = omega arith in e)
+    ∙ ap (λ l. x ++ l) (set-append_left y z i b h)
 
 get-inside : {A : Type 0} (x y z : List A) (i : ℕ) (d : A) → i < length y → get_or (x ++ (y ++ z)) (length x + i) d
     ≡ get_or y i d
@@ -287,11 +281,7 @@ rows-at rows (d ∷ cs) (a ∷ arrays) (suc j) c h k = search (rules, rows-at ro
 pub zero-rows : (rows : ℕ) (cs : List Component) → AreRows rows cs (zero_rows rows cs)
 unfolding AreRows zero_rows
 zero-rows rows [] = tt
-zero-rows rows (c ∷ cs) = (length-some (rows * (c.factors.vertical * c.blocks_wide)) zero_block, zero-rows rows cs)
-
-length-append_any : (x y : List Block) → length (x ++ y) ≡ length x + length y
-length-append_any [] y = omega arith
-length-append_any (a ∷ x) y = let r = length-append_any x y in omega arith
+zero-rows rows (c ∷ cs) = (length-replicate (rows * (c.factors.vertical * c.blocks_wide)) zero_block, zero-rows rows cs)
 
 pub joined-rows : (r : ℕ) (cs : List Component) (front arrays : Arrays) → AreRows r cs front → AreRows 1 cs arrays
     → AreRows (r + 1) cs (joined front arrays)
@@ -302,7 +292,7 @@ joined-rows r [] (a ∷ front) arrays h k = absurd h
 joined-rows r (c ∷ cs) [] arrays h k = absurd h
 joined-rows r (c ∷ cs) (a ∷ front) [] h k = absurd k
 joined-rows r (c ∷ cs) (a ∷ front) (b ∷ arrays) h k =
-    search (rules, length-append_any, add-mul, joined-rows r cs front arrays h.1 k.1)
+    search (rules, length-append, add-mul, joined-rows r cs front arrays h.1 k.1)
 
 replicate-both : (m n k : ℕ) (b : Block) → k ≡ m + n → replicate k b ≡ replicate m b ++ replicate n b
 replicate-both zero n k b e = ap (λ (i : ℕ). replicate i b) (omega arith)
@@ -337,10 +327,6 @@ no-rows r (c ∷ cs) (a ∷ front) h = search (rules, append-nil, no-rows r cs f
 
 abbrev pub shifted_by : (ℕ → ℕ) → Spot → Spot
 shifted_by by s = record { slot = s.slot; index = by s.slot + s.index }
-
-map-append : (f : Spot → Spot) (xs ys : List Spot) → map f (xs ++ ys) ≡ map f xs ++ map f ys
-map-append f [] ys = refl
-map-append f (x ∷ xs) ys = ap (λ l. f x ∷ l) (map-append f xs ys)
 
 map-line : (f : Spot → Spot) (g h : ℕ → Spot) → ((k : ℕ) → f (g k) ≡ h k) → (ks : List ℕ) → map f (map g ks) ≡ map h ks
 map-line f g h e [] = refl
@@ -400,10 +386,6 @@ placed_row cs row spots = map (shifted_by (λ slot. row * size_at cs slot)) spot
 pub placed_rows : List Component → ℕ → List (List Spot) → List Spot
 placed_rows cs row [] = []
 placed_rows cs row (spots ∷ rows) = placed_row cs row spots ++ placed_rows cs (row + 1) rows
-
-map-same : (f g : Spot → Spot) → ((s : Spot) → f s ≡ g s) → (m : List Spot) → map f m ≡ map g m
-map-same f g e [] = refl
-map-same f g e (s ∷ m) = ap₂ (λ (x : Spot) (l : List Spot). x ∷ l) (e s) (map-same f g e m)
 
 row-shifted : (row : ℕ) (cs : List Component) (front : Arrays) (spots : List Spot) → AreRows row cs front
     → placed_row cs row spots ≡ map (shifted front) spots
@@ -509,10 +491,6 @@ all-rows : (cs : List Component) (f : ℕ → List Spot) (a n : ℕ) → ((row :
 all-rows cs f a zero h = tt
 all-rows cs f a (suc n) h = (h a, all-rows cs f (a + 1) n h)
 
-length-rows_of : (f : ℕ → List Spot) (a n : ℕ) → length (map f (range_with_len a n)) ≡ n
-length-rows_of f a zero = refl
-length-rows_of f a (suc n) = ap suc (length-rows_of f (a + 1) n)
-
 -- ---- rows of one
 
 own-line : (c : Component) (row v : ℕ) (columns : List ℕ)
@@ -537,10 +515,6 @@ range-split a zero n k e = ap₂ (λ (i j : ℕ). range_with_len i j) (let z : a
 range-split a (suc m) n zero e = absurd (omega arith)
 range-split a (suc m) n (suc k) e = search (rules, range-split (a + 1) m n k (omega arith))
 
-flat-both : (f : ℕ → List Spot) (xs ys : List ℕ) → flat_map f (xs ++ ys) ≡ flat_map f xs ++ flat_map f ys
-flat-both f [] ys = refl
-flat-both f (x ∷ xs) ys = rw (flat-both f xs ys, ← (append_assoc (f x) (flat_map f xs) (flat_map f ys))) refl
-
 own-rows : (c : Component) (row rows : ℕ) → (grid_of c).own_high ≤ (row + rows) * c.factors.vertical
     → placed_rows (c ∷ []) row (map (own_row c) (range_with_len row rows))
     ≡ flat_map (line_at c) (range_with_len (row * c.factors.vertical) ((grid_of c).own_high - row * c.factors.vertical))
@@ -559,7 +533,7 @@ own-rows c row (suc rows) h =
       arith,
       own-lines c row 0 k,
       own-rows c (row + 1) rows (omega arith),
-      flat-both (line_at c) (range_with_len (row * vt) k) (range_with_len (row * vt + k) rest),
+      flat_map-append (line_at c) (range_with_len (row * vt) k) (range_with_len (row * vt + k) rest),
       range-split (row * vt) k rest (high - row * vt) split,
     )
 
@@ -629,6 +603,6 @@ scans-by-rows frame c more p vias n bytes fits =
     let blocks = n * mcu_size cs in
     ap₂ (λ (m : List Spot) (l : Arrays). finished (blocks_from p vias blocks m (counted_at_start blocks l) t))
     (placed-all frame c more fits)
-    (search (rules, all-zeros, length-rows_of))
+    (search (rules, all-zeros, length-map-range_with_len))
     ∙ ap finished (rows-in-turn p vias blocks cs (rows_of frame cs) 0 (map (λ c. []) cs) (counted_at_start blocks [])
     t (all-rows cs (row_at frame cs) 0 frame.mcus_high (λ row. row-inside frame cs row fits)) (no-blocks cs))

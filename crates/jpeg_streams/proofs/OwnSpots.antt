@@ -10,6 +10,8 @@ use Rattle.jpeg_streams.specs.declared.grids.Grid.{Grid}
 use Rattle.jpeg_streams.specs.Order.{Spot, grid_of, own_spots, part_spots, mcu_spots, all_spots, spots_of}
 use Rattle.jpeg_streams.specs.WrittenScans.{IsOwn}
 use Rattle.jpeg_streams.specs.InTurn.{IsIn}
+pub use Rattle.jpeg_streams.specs.InTurn.{Fits}
+pub use Rattle.jpeg_streams.proofs.Apart.{At}
 use Rattle.jpeg_streams.proofs.InTurn.{in-back, in-front}
 
 -- ---- lists
@@ -56,12 +58,6 @@ all-line Q f a zero h = tt
 all-line Q f a (suc n) h =
     (h a (omega arith) (omega arith), all-line Q f (a + 1) n (λ k g l. h k (omega arith) (omega arith)))
 
--- x stands at place j
-abbrev pub At : {A : Type 0} → ℕ → List A → A → Type 0
-At j [] x = ⊥
-At zero (y ∷ ys) x = y ≡ x
-At (suc j) (y ∷ ys) x = At j ys x
-
 pub at-within : {A : Type 0} (j : ℕ) (xs : List A) (x : A) → At j xs x → j < length xs
 at-within j [] x h = absurd h
 at-within zero (y ∷ xs) x h = omega arith
@@ -101,15 +97,6 @@ own-only g h =
     all-line (IsOwnSpot g) (λ column. record { slot = 0; index = row * g.wide + column }) 0 g.own_wide (search (rules, div-mul-add, mod-mul-add)))
 
 -- ---- several components
-
--- A component's blocks fill its part of all MCUs, and its own blocks are among them.
-pub record Fits (frame : Frame) (c : Component) : Type 0 where
-  pub horizontal : 0 < c.factors.horizontal
-  pub vertical : 0 < c.factors.vertical
-  pub wide : c.blocks_wide ≡ frame.mcus_wide * c.factors.horizontal
-  pub high : c.blocks_high ≡ frame.mcus_high * c.factors.vertical
-  pub own_wide : (grid_of c).own_wide ≤ c.blocks_wide
-  pub own_high : (grid_of c).own_high ≤ c.blocks_high
 
 pub in-mcu : (row column base j : ℕ) (components : List Component) (c : Component) (s : Spot) → At j components c
     → IsIn s (part_spots row column (base + j) c) → IsIn s (mcu_spots row column base components)

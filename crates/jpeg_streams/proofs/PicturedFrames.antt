@@ -2,16 +2,16 @@
 use Rattle.std.proofs.Common.{rules, ◌≡◌, ◌⊎◌, inl, inr, ℕ, zero, suc, ◌≤◌, ◌==◌, true, false, List, [], ◌∷◌, map}
 use Rattle.std.proofs.Common.{length, Ok, refl, arith}
 use Rattle.std.proofs.lemmas.Grind.{common_steps}
-use Rattle.std.proofs.lemmas.Bool.{eq-eqb}
+use Rattle.std.proofs.lemmas.Bool.{eq-eqb, or_left, or_right}
 use Rattle.std.specs.List.{AllByRecursion}
 use Rattle.jpeg_pixels.specs.Pictures.{Source, sources_of}
 use Rattle.jpeg_segments.specs.Frame.{component_of, Factors, Frame, frame_of, greatest}
 use Rattle.jpeg_segments.specs.WrittenSegments.{FrameHeader, frame_written}
 use Rattle.jpeg_streams.specs.SaidSegments.{HasPicture, IsUpsampled}
 use Rattle.jpeg_streams.specs.Segments.{accepted, is_decoded_count, is_arithmetic, is_decoded_precision}
-use Rattle.jpeg_streams.proofs.AcceptedTurns.{then-ok}
+use Rattle.jpeg_streams.proofs.ReadTurns.{then-ok}
 use Rattle.jpeg_streams.proofs.FrameFits.{factors-back}
-use Rattle.jpeg_streams.proofs.UpsampledFactors.{sources-some, or-left, or-right}
+use Rattle.jpeg_streams.proofs.UpsampledFactors.{sources-some}
 
 -- ---- sources
 
@@ -30,9 +30,9 @@ unfolding accepted
 accepted-by f sources a b c d e = search (rules, then-ok)
 
 pub count-test : (n : ℕ) → (n ≡ 1) ⊎ ((n ≡ 3) ⊎ (n ≡ 4)) → is_decoded_count n ≡ true
-count-test n (inl e) = or-left (n == 1) _ (eq-eqb n 1 e)
-count-test n (inr (inl e)) = or-right (n == 1) _ (or-left (n == 3) _ (eq-eqb n 3 e))
-count-test n (inr (inr e)) = or-right (n == 1) _ (or-right (n == 3) _ (eq-eqb n 4 e))
+count-test n (inl e) = or_left (n == 1) _ (eq-eqb n 1 e)
+count-test n (inr (inl e)) = or_right (n == 1) _ (or_left (n == 3) _ (eq-eqb n 3 e))
+count-test n (inr (inr e)) = or_right (n == 1) _ (or_right (n == 3) _ (eq-eqb n 4 e))
 
 pub header-sources : (number : ℕ) (h : FrameHeader) → AllByRecursion (IsUpsampled h) h.components
     → (sources : List Source)

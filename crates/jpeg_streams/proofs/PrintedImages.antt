@@ -13,7 +13,6 @@ use Rattle.jpeg_streams.specs.Pixels.{info_of}
 use Rattle.jpeg_streams.specs.Found.{Found}
 use Rattle.jpeg_streams.specs.WrittenImages.{WritesImage}
 use Rattle.jpeg_streams.specs.WrittenScans.{Coefficients}
-use Rattle.jpeg_streams.proofs.AcceptedImages.{image-accepted}
 use Rattle.jpeg_streams.proofs.WrittenPictures.{taken-means}
 
 -- what is written for a stream of an image
@@ -24,8 +23,7 @@ pub image-output : (array : Coefficients) (image rest : List ℕ) (final : Found
     × (output_of (image ++ rest) ≡ Some (header_line_of (option_map info_of final.frame) ++ picture))
 unfolding output_of
 image-output array image rest final last range w takes =
-    let p = taken-means default_settings array rest (image ++ rest) final last range (image-accepted array rest image
-    final last w) takes in
+    let p = taken-means default_settings array image rest final last range w takes in
     grind arith
 
 some-and : (o : Option (List ℕ)) (text : List ℕ) (P : List ℕ → Type 0) → o ≡ Some text → IsSomeAnd o P → P text

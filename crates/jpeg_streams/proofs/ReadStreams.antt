@@ -1,40 +1,43 @@
 -- A written stream is read up to its end.
-use Rattle.std.proofs.Common.{rules, ◌≡◌, ◌≢◌, ℕ, zero, suc, ◌<◌, Bool, true, false, cond, List, [], ◌∷◌, ◌++◌, length}
+use Rattle.std.proofs.Common.{rules, ◌≡◌, ℕ, zero, suc, ◌<◌, ◌≤◌, Bool, true, false, List, [], ◌++◌, length}
 use Rattle.std.proofs.Common.{replicate, is_some, Option, Some, None, Ok, refl, sym, ap, ◌∙◌, subst, arith, true≢false}
 use Rattle.std.proofs.Common.{length-append}
-use Rattle.std.specs.List.{AllByRecursion, range_with_len}
+use Rattle.std.specs.List.{AllByRecursion}
 use Rattle.jpeg_bits.specs.Reading.{Outcome}
+use Rattle.jpeg_bits.specs.Marker.{marker_of}
 use Rattle.jpeg_bits.specs.declared.marker.Marker.{Marker}
-use Rattle.jpeg_bits.specs.declared.marker.Marker.TheVariants.{SOF, EOI, SOS, DQT}
-use Rattle.jpeg_segments.specs.declared.parser.CodingProcess.TheVariants.{Lossless}
-use Rattle.jpeg_segments.specs.Frame.{Frame, Component, sof_at}
+use Rattle.jpeg_bits.specs.declared.marker.Marker.TheVariants.{EOI, SOS}
+use Rattle.jpeg_segments.specs.Frame.{Frame, Component}
 use Rattle.jpeg_streams.specs.declared.before.Before.{Before}
 use Rattle.jpeg_streams.specs.declared.before.Before.TheVariants.{Elsewhere}
 use Rattle.jpeg_streams.specs.Scans.{Arrays}
-use Rattle.jpeg_streams.specs.ScanSegments.{is_progressive, scan_segment, scan_before, arrays_before, pass_of}
-use Rattle.jpeg_streams.specs.Segments.{accepted, onward, Turn, frame_segment}
+use Rattle.jpeg_streams.specs.ScanSegments.{Coding, is_progressive, scan_before, arrays_before, pass_of}
+use Rattle.jpeg_streams.specs.Segments.{accepted, onward}
+use Rattle.jpeg_streams.specs.SaidSegments.{Stands, found_after}
 use Rattle.jpeg_streams.specs.Found.{nothing_found, none_finished, Found}
-use Rattle.jpeg_streams.specs.Stream.{segment_at, end_segment, segments_within, segments_at, start_at}
+use Rattle.jpeg_streams.specs.Stream.{segment_at, segments_within, segments_at, start_at, turn_at}
 use Rattle.jpeg_streams.specs.Levels.{Levels, Is8Bit, nothing_sent}
 use Rattle.jpeg_bits.specs.Written.{marker}
-use Rattle.jpeg_streams.specs.WrittenScans.{Coefficients, levels_after, IsComplete, HasTable}
-use Rattle.jpeg_streams.proofs.AcceptedStreams.{Plain, ScanFacts, WritesSegment, WritesScans, WritesHead, WritesStream}
-use Rattle.jpeg_streams.proofs.AcceptedStreams.WritesSegment.{quantization, huffman, restart, application, comment}
-use Rattle.jpeg_streams.proofs.AcceptedStreams.WritesScans.{segment, scan, closed}
-use Rattle.jpeg_streams.proofs.AcceptedStreams.WritesHead.{before as earlier, frame as framing}
-use Rattle.jpeg_streams.proofs.AcceptedStreams.WritesStream.{stream}
+use Rattle.jpeg_streams.specs.WrittenScans.{Coefficients, levels_after, IsLegalScan, HasTable, WritesScan}
+use Rattle.jpeg_streams.specs.WholeImages.{AllComplete}
+use Rattle.jpeg_streams.specs.WrittenImages.{Writes, closed, segment, scan, WritesImage, MayFollow, IsDctSegment}
 use Rattle.jpeg_streams.proofs.ReadStates.{reading, PlaneSo, places_of}
-use Rattle.jpeg_streams.proofs.AcceptedTurns.{StandsAt, stands-met, turn-on, turn-end, then-ok, frame-kept, scan-by}
-use Rattle.jpeg_streams.proofs.AcceptedTurns.{stands-next, segment-read, scans-plain, codings-same, codings-read}
-use Rattle.jpeg_segments.specs.ScanHeader.{Scan, sos_at}
-use Rattle.jpeg_segments.specs.ScanHeaders.{scan_payload}
-use Rattle.jpeg_segments.specs.WrittenSegments.{sized}
+use Rattle.jpeg_streams.proofs.ReadTurns.{StandsAt, stands-here, stands-met, turn-on, turn-end, head-on, head-end}
+use Rattle.jpeg_streams.proofs.ReadTurns.{scan-by, codings-same, codings-read, segment-read, frame-turn, end-turn}
+use Rattle.jpeg_streams.proofs.ReadTurns.{scan-turn, marker-turn, segment-tail, scan-tail, marker-longer, scan-longer}
+use Rattle.jpeg_streams.proofs.ReadTurns.{writes-starts, frame-or, frame-stays, is-other, same-frame, some-none}
+use Rattle.jpeg_segments.specs.ScanHeaders.{IsScan, ScanHeader, scan_payload, scan_written}
+use Rattle.jpeg_segments.specs.WrittenSegments.{sized, Segment, Quantization, Huffman, Interval, Application, Comment}
+use Rattle.jpeg_segments.specs.WrittenSegments.{Header, FrameHeader, IsFrame, code_of, payload_of, frame_written}
 use Rattle.jpeg_segments.proofs.HeaderSegments.{sos-read}
 use Rattle.jpeg_streams.proofs.ScanFacts.{header-facts}
-use Rattle.jpeg_streams.proofs.TablesInForce.{tables-next, tables-start, codings-good}
-use Rattle.jpeg_streams.proofs.SaidTables.{HasTables}
+use Rattle.jpeg_streams.proofs.TablesInForce.{tables-start, codings-good}
+use Rattle.jpeg_streams.proofs.SaidTables.{HasTables, segment-tables}
 use Rattle.jpeg_streams.proofs.BroughtLevels.{Shaped, Framed, framed-start, scan-brings}
-use Rattle.jpeg_segments.proofs.Fields.{kept as if-true}
+use Rattle.jpeg_streams.proofs.FrameShapes.{Plain, all-shaped, frame-lossy}
+use Rattle.jpeg_streams.proofs.LosslessFrames.{all-ranged}
+use Rattle.jpeg_streams.proofs.PicturedFrames.{header-accepted}
+use Rattle.jpeg_streams.proofs.WrittenMarkers.{marker-append, marker_for, segment-marker}
 
 -- ---- a segment between scans
 
@@ -60,121 +63,166 @@ framed-by : (w next : Found) (f : Frame) (array : Coefficients) (levels : ℕ �
     → Framed w f array levels sc h fi pl → Framed next f array levels sc h fi pl
 framed-by w next f array levels sc h fi pl g fr = search (rules, same-arrays)
 
-framed-next : (w next : Found) (m : Marker) (bytes : List ℕ) (f : Frame) (array : Coefficients) (levels : ℕ → Levels)
-    (sc : Bool) (h : Arrays) (fi : List (List Bool)) (pl : List (Option (List ℕ)))
-    → (sc ≡ true → m ≡ DQT → ⊥) → (sc ≡ false → (k : ℕ) → levels k ≡ nothing_sent) → WritesSegment w m bytes next
+framed-same : (w next : Found) (f : Frame) (array : Coefficients) (levels : ℕ → Levels) (sc : Bool) (h : Arrays)
+    (fi : List (List Bool)) (pl : List (Option (List ℕ))) → next.quantization ≡ w.quantization
     → Framed w f array levels sc h fi pl → Framed next f array levels sc h fi pl
-framed-next w next m bytes f array levels sc h fi pl q none (quantization w' bytes' t a) fr = go sc refl
+framed-same w next f array levels sc h fi pl e fr =
+    framed-by w next f array levels sc h fi pl (λ k c p. plane-same w next array (levels k) pl k c e p) fr
+
+framed-next : (w : Found) (s : Segment) (f : Frame) (array : Coefficients) (levels : ℕ → Levels) (sc : Bool)
+    (h : Arrays) (fi : List (List Bool)) (pl : List (Option (List ℕ)))
+    → (sc ≡ true → MayFollow s) → (sc ≡ false → (k : ℕ) → levels k ≡ nothing_sent)
+    → Framed w f array levels sc h fi pl → Framed (found_after w s) f array levels sc h fi pl
+framed-next w (Quantization ts) f array levels sc h fi pl follows none fr = go sc refl
   where
-    go : (b : Bool) → sc ≡ b → Framed next f array levels sc h fi pl
-    go true e = absurd (q e refl)
+    go : (b : Bool) → sc ≡ b → Framed (found_after w (Quantization ts)) f array levels sc h fi pl
+    go true e = absurd (follows e)
     go false e = search (rules, framed-by, plane-unscanned)
-framed-next w next m bytes f array levels sc h fi pl q none (huffman w' bytes' t k' a) fr =
-    framed-by w next f array levels sc h fi pl (λ k c p. plane-same w next array (levels k) pl k c refl p) fr
-framed-next w next m bytes f array levels sc h fi pl q none (restart w' bytes' n a) fr =
-    framed-by w next f array levels sc h fi pl (λ k c p. plane-same w next array (levels k) pl k c refl p) fr
-framed-next w next m bytes f array levels sc h fi pl q none (application w' number bytes' t a) fr =
-    framed-by w next f array levels sc h fi pl (λ k c p. plane-same w next array (levels k) pl k c refl p) fr
-framed-next w next m bytes f array levels sc h fi pl q none (comment w' bytes' a) fr = fr
+framed-next w (Huffman ts) f array levels sc h fi pl follows none fr =
+    framed-same w (found_after w (Huffman ts)) f array levels sc h fi pl refl fr
+framed-next w (Interval n) f array levels sc h fi pl follows none fr =
+    framed-same w (found_after w (Interval n)) f array levels sc h fi pl refl fr
+framed-next w (Application number payload) f array levels sc h fi pl follows none fr =
+    framed-same w (found_after w (Application number payload)) f array levels sc h fi pl refl fr
+framed-next w (Comment payload) f array levels sc h fi pl follows none fr = fr
+framed-next w (Header number header) f array levels sc h fi pl follows none fr =
+    framed-same w (found_after w (Header number header)) f array levels sc h fi pl refl fr
 
 -- ---- from the frame on
 
--- What is found at the end: what was said, and the blocks and planes of the last levels.
-pub record ReadTo (f : Frame) (array : Coefficients) (tail : List ℕ) (final : Found) (last : ℕ → Levels)
-    (found : Outcome Found) : Type 0 where
+-- What scans have brought by the end of the image: the blocks and planes of the last levels.
+pub record Ended (f : Frame) (array : Coefficients) (final : Found) (last : ℕ → Levels) : Type 0 where
   pub held : Arrays
   pub finished : List (List Bool)
   pub planes : List (Option (List ℕ))
-  pub is : found ≡ Ok (reading final true held finished planes, tail)
   pub framed : Framed final f array last true held finished planes
   pub frame_is : final.frame ≡ Some f
   pub tables : AllByRecursion (HasTable final) f.components
-  pub complete : is_progressive f.process ≡ false
-      → AllByRecursion (λ k. IsComplete (last k)) (range_with_len 0 (length f.components))
+  pub complete : is_progressive f.process ≡ false → AllComplete f last
+
+-- What is found at the end.
+pub record ReadTo (f : Frame) (array : Coefficients) (tail : List ℕ) (final : Found) (last : ℕ → Levels)
+    (found : Outcome Found) : Type 0 where
+  pub end : Ended f array final last
+  pub is : found ≡ Ok (reading final true end.held end.finished end.planes, tail)
 
 -- the same end, of what leads to it
-read-to : (f : Frame) (array : Coefficients) (tail : List ℕ) (final : Found) (last : ℕ → Levels)
+pub read-to : (f : Frame) (array : Coefficients) (tail : List ℕ) (final : Found) (last : ℕ → Levels)
     (one other : Outcome Found) → one ≡ other → ReadTo f array tail final last other
     → ReadTo f array tail final last one
-read-to f array tail final last one other e r = search rules
+read-to f array tail final last one other e r = record { end = r.end; is = e ∙ r.is }
 
-end-turn : (bf : Before) (found : Found) (f : Frame) (tail : List ℕ) → found.frame ≡ Some f
-    → segment_at EOI bf found tail ≡ Ok (record { found = found; before = Elsewhere; met = None; ended = true }, tail)
-unfolding segment_at end_segment
-end-turn bf found f tail e = if-true (is_some found.frame) _ _ (ap is_some e)
+segment-held : (bf : Before) (w : Found) (s : Segment) (sc : Bool) (h : Arrays) (fi : List (List Bool))
+    (pl : List (Option (List ℕ))) (rest : List ℕ) → Stands w s → IsDctSegment s
+    → segment_at (marker_for s) bf (reading w sc h fi pl) (sized (payload_of s) ++ rest)
+    ≡ Ok (onward (reading (found_after w s) sc h fi pl), rest)
+segment-held bf w (Quantization ts) sc h fi pl rest may dct =
+    segment-read bf (reading w sc h fi pl) (Quantization ts) rest may.0 tt
+segment-held bf w (Huffman ts) sc h fi pl rest may dct =
+    segment-read bf (reading w sc h fi pl) (Huffman ts) rest may.0 tt
+segment-held bf w (Interval n) sc h fi pl rest may dct =
+    segment-read bf (reading w sc h fi pl) (Interval n) rest may.0 tt
+segment-held bf w (Application number payload) sc h fi pl rest may dct =
+    segment-read bf (reading w sc h fi pl) (Application number payload) rest may.0 tt
+segment-held bf w (Comment payload) sc h fi pl rest may dct =
+    segment-read bf (reading w sc h fi pl) (Comment payload) rest may.0 tt
+segment-held bf w (Header number header) sc h fi pl rest may dct =
+    frame-turn bf (reading w sc h fi pl) number header rest may.0 (header-accepted number header dct may.1)
 
-scan-turn : (bf : Before) (found : Found) (bytes : List ℕ) (o : Outcome Turn) → scan_segment found bytes ≡ o
-    → segment_at SOS bf found bytes ≡ o
-unfolding segment_at
-scan-turn bf found bytes o e = e
+segment-turn : (bf : Before) (w : Found) (s : Segment) (sc : Bool) (h : Arrays) (fi : List (List Bool))
+    (pl : List (Option (List ℕ))) (met : Option Marker) (all : List ℕ) (fill : ℕ) (more tail : List ℕ)
+    → Stands w s → IsDctSegment s
+    → StandsAt met all (marker fill (code_of s) (sized (payload_of s) ++ more) ++ tail)
+    → turn_at bf (reading w sc h fi pl) met all ≡ Ok (onward (reading (found_after w s) sc h fi pl), more ++ tail)
+segment-turn bf w s sc h fi pl met all fill more tail may dct at =
+    let now = reading w sc h fi pl in
+    at.turn bf now
+    ∙ ap (turn_at bf now None) (segment-tail fill (code_of s) (sized (payload_of s)) more tail)
+    ∙ marker-turn bf now fill (code_of s) (marker_for s) (sized (payload_of s) ++ (more ++ tail))
+    (segment-marker w.frame s may.0)
+    ∙ segment-held bf w s sc h fi pl (more ++ tail) may dct
+
+-- a scan of this frame, and what follows it
+abbrev ScanOf : Coefficients → Found → (ℕ → Levels) → Found → (ℕ → Levels) → ScanHeader → List Coding → List ℕ
+    → List ℕ → Frame → Type 0
+ScanOf array w levels final last head codings bytes more f =
+    IsScan f head × IsLegalScan w f levels (scan_written f head) codings
+    × WritesScan f w.restart (pass_of (scan_written f head)) codings array bytes
+    × Writes array w (levels_after (pass_of (scan_written f head)) (places_of codings) levels) true more final last
 
 pub reads-scans : (array : Coefficients) (f : Frame) (tail : List ℕ) (w final : Found) (levels last : ℕ → Levels)
-    (sc : Bool) (m : Marker) (bytes : List ℕ) (h : Arrays) (fi : List (List Bool)) (pl : List (Option (List ℕ)))
+    (sc : Bool) (bytes : List ℕ) (h : Arrays) (fi : List (List Bool)) (pl : List (Option (List ℕ)))
     (turns : ℕ) (bf : Before) (met : Option Marker) (all : List ℕ)
     → ((place row column : ℕ) → Is8Bit (array place row column)) → Shaped f → HasTables w.huffman → w.frame ≡ Some f
     → (sc ≡ false → (k : ℕ) → levels k ≡ nothing_sent)
-    → Framed w f array levels sc h fi pl → WritesScans array f tail w levels sc m bytes final last
-    → StandsAt met all m bytes → length bytes < turns
+    → Framed w f array levels sc h fi pl → Writes array w levels sc bytes final last
+    → StandsAt met all (bytes ++ tail) → length bytes < turns
     → ReadTo f array tail final last (segments_within turns false bf (reading w sc h fi pl) met all)
-reads-scans array f tail w final levels last sc m bytes h fi pl zero bf met all range shape good e none fr r at room =
+unfolding marker_of
+reads-scans array f tail w final levels last sc bytes h fi pl zero bf met all range shape good e none fr r at room =
     absurd (omega arith)
-reads-scans array f tail w final levels last sc m bytes h fi pl (suc turns) bf met all range shape good e none fr
-    (segment w' next final' levels' last' sc' m' after fill code payload more s q i r) at room =
-    let sizes = length-append payload (marker fill code more) in
-    let fills = length-append (replicate fill 0xFF) (code ∷ more) in
-    grind (
-      arith,
-      read-to f array tail final last,
-      turn-on turns bf (reading w sc h fi pl) met all (marker fill code more) (onward (reading next sc h fi pl))
-          (search (rules, segment-read)) refl,
-      reads-scans array f tail next final levels last sc after more h fi pl turns Elsewhere None (marker fill code
-          more) range shape (tables-next w next m payload s good) (frame-kept w next m payload s ∙ e) none (framed-next w
-          next m payload f array levels sc h fi pl q none s fr) r (stands-next fill code after more i) (omega arith),
-    )
-reads-scans array f tail w final levels last sc m bytes h fi pl (suc turns) bf met all range shape good e none fr
-    (scan w' final' levels' last' sc' after fill code head payload more s codings made is l x i r) at room =
-    let header = sized (scan_payload head) in
-    let read : (rest : List ℕ) → sos_at f (sized (scan_payload head) ++ rest) ≡ Ok (s, rest) =
-    λ rest. sos-read f head rest is ∙ ap (λ (y : Scan). Ok (y, rest)) (sym made) in
-    let rules = subst (ScanFacts f) (sym made) (header-facts f head is shape.lossy) in
-    let b = scan-brings w f array levels sc h fi pl s codings payload range shape fr rules
-    (codings-good w f s codings good l.are_in_force) l x in
-    let sizes = length-append header (payload ++ marker fill code more) in
-    let others = length-append payload (marker fill code more) in
-    let fills = length-append (replicate fill 0xFF) (code ∷ more) in
-    let now = reading w sc h fi pl in
-    let turn = scan-by now f s codings b.arrays after (header ++ (payload ++ marker fill code more))
-    (payload ++ marker fill code more) more shape.lossy e (read (payload ++ marker fill code more))
-    (codings-same w sc h fi pl f s ∙ codings-read w f s codings l.are_in_force)
-    (b.read fill code after more i)
-    (scans-plain array f tail w final _ last true after more more (length more) r) in
+reads-scans array f tail w final levels last sc bytes h fi pl (suc turns) bf met all range shape good e none fr
+    (segment w' final' levels' last' sc' fill s more may dct follows r) at room =
+    let other = is-other w f s e may in
     read-to f array tail final last _ _
-    (turn-on turns bf now met all more _
-    (at.turn bf now ∙ scan-turn bf now (header ++ (payload ++ marker fill code more)) _ turn) refl
-    ∙ ap (λ (x : Found). segments_within turns false (scan_before now) x (Some after) more) b.after)
+    (turn-on turns bf (reading w sc h fi pl) met all (more ++ tail) (onward (reading (found_after w s) sc h fi pl))
+    (segment-turn bf w s sc h fi pl met all fill more tail may dct at) refl)
+    (reads-scans array f tail (found_after w s) final levels last sc more h fi pl turns Elsewhere None (more ++ tail)
+    range shape (segment-tables w s may.0 good) (frame-stays w s other ∙ e) none
+    (framed-next w s f array levels sc h fi pl follows none fr) r (stands-here (more ++ tail))
+    (marker-longer fill (code_of s) turns (sized (payload_of s)) more room))
+reads-scans array f tail w final levels last sc bytes h fi pl (suc turns) bf met all range shape good e none fr
+    (scan w' final' levels' last' sc' frame fill head codings payload more framed is l x r) at room =
+    let header = sized (scan_payload head) in
+    let of = subst (ScanOf array w levels final last head codings payload more)
+    (same-frame frame f w.frame framed e) (is, l, x, r) in
+    let s = scan_written f head in
+    let now = reading w sc h fi pl in
+    let b = scan-brings w f array levels sc h fi pl s codings payload range shape fr
+    (header-facts f head of.0 shape.lossy) (codings-good w f s codings good of.1.are_in_force) of.1 of.2 in
+    let next = writes-starts array w final _ last true more of.3 in
+    let left = next.after ++ tail in
+    let there : more ++ tail ≡ marker next.fill next.code left = ap (λ (l : List ℕ). l ++ tail) next.is
+    ∙ marker-append next.fill next.code next.after tail in
+    let turn = scan-by now f s codings b.arrays next.m (header ++ (payload ++ marker next.fill next.code left))
+    (payload ++ marker next.fill next.code left) left shape.lossy e
+    (sos-read f head (payload ++ marker next.fill next.code left) of.0)
+    (codings-same w sc h fi pl f s ∙ codings-read w f s codings of.1.are_in_force)
+    (b.read next.fill next.code next.m left (record { is = next.makes })) (next.ends (length left) left) in
+    read-to f array tail final last _ _
+    (turn-on turns bf now met all left _
+    (at.turn bf now
+    ∙ ap (turn_at bf now None) (scan-tail fill 218 header payload more tail
+    ∙ ap (λ (l : List ℕ). marker fill 218 (header ++ (payload ++ l))) there)
+    ∙ marker-turn bf now fill 218 SOS (header ++ (payload ++ marker next.fill next.code left)) refl
+    ∙ scan-turn bf now (header ++ (payload ++ marker next.fill next.code left)) ∙ turn) refl
+    ∙ ap (λ (x : Found). segments_within turns false (scan_before now) x (Some next.m) left) b.after)
     (reads-scans array f tail w final
-    (levels_after (pass_of s) (places_of codings) levels) last true after more b.held b.finished b.planes turns
-    (scan_before now) (Some after) more
-    range shape good e (λ g. absurd (true≢false g)) b.framed r (stands-met after more) (omega arith))
-reads-scans array f tail w final levels last sc m bytes h fi pl (suc turns) bf met all range shape good e none fr
-    (closed w' levels' t c) at room =
-    grind (
-      arith,
-      turn-end turns bf (reading w true h fi pl) met all tail (record {
-        found = reading w true h fi pl;
-        before =
-            Elsewhere;
-        met = None;
-        ended = true;
-      }) (at.turn bf (reading w true h fi pl) ∙ end-turn bf (reading w true h fi
-          pl) f tail e) refl,
-    )
+    (levels_after (pass_of s) (places_of codings) levels) last true more b.held b.finished b.planes turns
+    (scan_before now) (Some next.m) left
+    range shape good e (λ g. absurd (true≢false g)) b.framed of.3
+    (subst (StandsAt (Some next.m) left) (sym there) (stands-met next.fill next.code next.m left next.makes))
+    (scan-longer fill 218 turns header payload more room))
+reads-scans array f tail w final levels last sc bytes h fi pl (suc turns) bf met all range shape good e none fr
+    (closed w' levels' frame fill framed t c) at room =
+    let now = reading w true h fi pl in
+    let same = same-frame frame f w.frame framed e in
+    record {
+      end = record {
+        held = h;
+        finished = fi;
+        planes = pl;
+        framed = fr;
+        frame_is = e;
+        tables = subst (λ (x : Frame). AllByRecursion (HasTable w) x.components) same t;
+        complete = subst (λ (x : Frame). is_progressive x.process ≡ false → AllComplete x levels) same c;
+      };
+      is = turn-end turns bf now met all tail (record { found = now; before = Elsewhere; met = None; ended = true })
+          (at.turn bf now ∙ ap (turn_at bf now None) (marker-append fill 217 [] tail)
+          ∙ marker-turn bf now fill 217 EOI tail refl ∙ end-turn bf now tail (ap is_some e)) refl;
+    }
 
 -- ---- up to the frame
-
--- every accepted frame header gives a frame of this shape
-abbrev pub AllShaped : Type 0
-AllShaped = (f : Frame) → Plain f → f.process ≢ Lossless → accepted f ≡ Ok f → Shaped f
 
 abbrev pub nothing_finished : List (List Bool)
 nothing_finished = replicate 4 none_finished
@@ -182,111 +230,131 @@ nothing_finished = replicate 4 none_finished
 abbrev pub no_planes : List (Option (List ℕ))
 no_planes = replicate 4 None
 
-pub frame-by : (number : ℕ) (found : Found) (f : Frame) (bytes rest : List ℕ) → found.frame ≡ None
-    → sof_at number bytes ≡ Ok (f, rest) → accepted f ≡ Ok f
-    → frame_segment number found bytes ≡ Ok (onward (record found { frame = Some f }), rest)
-unfolding frame_segment
-frame-by number found f bytes rest n e a = search (rules, is_some, then-ok)
+-- what was said, where nothing was read of the picture
+abbrev pub unread : Found → Found
+unread w = reading w false [] nothing_finished no_planes
 
-pub frame-turn : (number : ℕ) (bf : Before) (found : Found) (bytes : List ℕ) (o : Outcome Turn)
-    → frame_segment number found bytes ≡ o → segment_at (SOF number) bf found bytes ≡ o
-unfolding segment_at
-frame-turn number bf found bytes o e = e
+frame-plain : (number : ℕ) (h : FrameHeader) → IsFrame number h → Plain (frame_written number h)
+frame-plain number h is = search (rules, all-ranged)
 
--- What is found at the end of a stream of some frame.
-pub record ReadWhole (array : Coefficients) (tail : List ℕ) (final : Found) (last : ℕ → Levels)
-    (found : Outcome Found) : Type 0 where
+-- What is found up to the frame, and what stands after it, where whoever wants more goes on.
+pub record ReadHeader (array : Coefficients) (tail : List ℕ) (final : Found) (last : ℕ → Levels)
+    (header whole : Outcome Found) : Type 0 where
+  pub said : Found
   pub frame : Frame
-  pub shape : Shaped frame
+  pub framed : said.frame ≡ Some frame
+  pub plain : Plain frame
   pub is_accepted : accepted frame ≡ Ok frame
-  pub end : ReadTo frame array tail final last found
+  pub shape : Shaped frame
+  pub good : HasTables said.huffman
+  pub more : List ℕ
+  pub written : Writes array said (λ k. nothing_sent) false more final last
+  pub is : header ≡ Ok (unread said, more ++ tail)
+  pub turns : ℕ
+  pub room : length more < turns
+  pub goes_on : whole ≡ segments_within turns false Elsewhere (unread said) None (more ++ tail)
 
-whole-by : (array : Coefficients) (tail : List ℕ) (final : Found) (last : ℕ → Levels) (one other : Outcome Found)
-    → one ≡ other → ReadWhole array tail final last other → ReadWhole array tail final last one
-whole-by array tail final last one other e r = search (rules, read-to)
+header-by : (array : Coefficients) (tail : List ℕ) (final : Found) (last : ℕ → Levels)
+    (one two header whole : Outcome Found) → one ≡ header → two ≡ whole
+    → ReadHeader array tail final last header whole → ReadHeader array tail final last one two
+header-by array tail final last one two header whole e g r =
+    subst (λ (x : Outcome Found). ReadHeader array tail final last x two) (sym e)
+    (subst (λ (x : Outcome Found). ReadHeader array tail final last header x) (sym g) r)
 
-pub reads-head : (array : Coefficients) (tail : List ℕ) (w final : Found) (last : ℕ → Levels) (m : Marker)
-    (bytes : List ℕ) (turns : ℕ) (bf : Before) (met : Option Marker) (all : List ℕ)
-    → ((place row column : ℕ) → Is8Bit (array place row column)) → AllShaped → HasTables w.huffman → w.frame ≡ None
-    → WritesHead array tail w m bytes final last → StandsAt met all m bytes → length bytes < turns
-    → ReadWhole array tail final last
-    (segments_within turns false bf (reading w false [] nothing_finished no_planes) met all)
-reads-head array tail w final last m bytes zero bf met all range shapes good n r at room = absurd (omega arith)
-reads-head array tail w final last m bytes (suc turns) bf met all range shapes good n
-    (earlier w' next final' last' m' after fill code payload more s i r) at room =
-    let sizes = length-append payload (marker fill code more) in
-    let fills = length-append (replicate fill 0xFF) (code ∷ more) in
-    let now = reading w false [] nothing_finished no_planes in
-    grind (
-      arith,
-      whole-by array tail final last,
-      turn-on turns bf now met all (marker fill code more) (onward (reading next false [] nothing_finished no_planes))
-          (search (rules, segment-read))
-          refl,
-      reads-head array tail next final last after more turns Elsewhere None (marker fill code more) range shapes
-          (tables-next w next m payload s good) (frame-kept w next m payload s ∙ n) r (stands-next fill code after more i)
-          (omega arith),
-    )
-reads-head array tail w final last m bytes (suc turns) bf met all range shapes good n
-    (framing w' final' last' after number fill code payload more f small o lossy a ok i r) at room =
-    let sizes = length-append payload (marker fill code more) in
-    let fills = length-append (replicate fill 0xFF) (code ∷ more) in
-    let now = reading w false [] nothing_finished no_planes in
-    let next : Found = record w { frame = Some f } in
-    let shape = shapes f o lossy ok in
+frame-header : (array : Coefficients) (tail : List ℕ) (w final : Found) (last : ℕ → Levels) (turns : ℕ) (s : Segment)
+    (number : ℕ) (h : FrameHeader) (more : List ℕ)
+    → s ≡ Header number h → HasTables w.huffman → Stands w s → IsDctSegment s
+    → Writes array (found_after w s) (λ k. nothing_sent) false more final last → length more < turns
+    → ReadHeader array tail final last
+    (segments_within turns true Elsewhere (unread (found_after w s)) None (more ++ tail))
+    (segments_within turns false Elsewhere (unread (found_after w s)) None (more ++ tail))
+frame-header array tail w final last turns s number h more e good may dct r room =
+    let may_be = subst (Stands w) e may in
+    let few : number ≤ 2 = subst IsDctSegment e dct in
+    let ok = header-accepted number h few may_be.1 in
+    let plain = frame-plain number h may_be.0.1 in
+    let framed : (found_after w s).frame ≡ Some (frame_written number h) =
+    ap (λ (x : Segment). (found_after w x).frame) e in
     record {
-      frame = f;
-      shape = shape;
+      said = found_after w s;
+      frame = frame_written number h;
+      framed = framed;
+      plain = plain;
       is_accepted = ok;
-      end = read-to f array tail final last _ _
-          (turn-on turns bf now met all (marker fill code more)
-          (onward (reading next false [] nothing_finished no_planes))
-          (search (rules, frame-turn, frame-by)) refl)
-          (reads-scans array f tail next final
-          (λ k. nothing_sent) last false after more [] nothing_finished no_planes turns Elsewhere None
-          (marker fill code more)
-          range shape good refl (λ g k. refl)
-          (framed-start next f array [] nothing_finished no_planes range refl refl) r
-          (stands-next fill code after more i) (omega arith));
+      shape = all-shaped (frame_written number h) plain
+          (frame-lossy number h.precision h.width h.height h.components few) ok;
+      good = segment-tables w s may.0 good;
+      more = more;
+      written = r;
+      is = head-end turns Elsewhere (unread (found_after w s)) None (more ++ tail) (omega arith) (ap is_some framed);
+      turns = turns;
+      room = room;
+      goes_on = refl;
     }
 
-pub nothing-is : nothing_found ≡ reading nothing_found false [] nothing_finished no_planes
-unfolding nothing_found
-nothing-is = refl
+reads-header : (array : Coefficients) (tail : List ℕ) (w final : Found) (levels last : ℕ → Levels) (sc : Bool)
+    (bytes : List ℕ) (turns : ℕ)
+    → HasTables w.huffman → w.frame ≡ None → ◌≡◌ {A = ℕ → Levels} (λ k. nothing_sent) levels → false ≡ sc
+    → Writes array w levels sc bytes final last → length bytes < turns
+    → ReadHeader array tail final last
+    (segments_within turns true Elsewhere (unread w) None (bytes ++ tail))
+    (segments_within turns false Elsewhere (unread w) None (bytes ++ tail))
+reads-header array tail w final levels last sc bytes zero good none fresh unscanned r room = absurd (omega arith)
+reads-header array tail w final levels last sc bytes (suc turns) good none fresh unscanned
+    (segment w' final' levels' last' sc' fill s more may dct follows r) room =
+    let all = marker fill (code_of s) (sized (payload_of s) ++ more) ++ tail in
+    let next = onward (unread (found_after w s)) in
+    let shorter = marker-longer fill (code_of s) turns (sized (payload_of s)) more room in
+    let turn = segment-turn Elsewhere w s false [] nothing_finished no_planes None all fill more tail may dct
+    (stands-here all) in
+    header-by array tail final last _ _ _ _
+    (head-on turns Elsewhere (unread w) None all (more ++ tail) next none turn refl)
+    (turn-on turns Elsewhere (unread w) None all (more ++ tail) next turn refl)
+    (frame-or s
+    (λ number h is. frame-header array tail w final last turns s number h more is good may dct
+    (subst (λ (x : Bool). Writes array (found_after w s) (λ k. nothing_sent) x more final last) (sym unscanned)
+    (subst (λ (l : ℕ → Levels). Writes array (found_after w s) l sc more final last) (sym fresh) r)) shorter)
+    (λ other. reads-header array tail (found_after w s) final levels last sc more turns
+    (segment-tables w s may.0 good) (frame-stays w s other ∙ none) fresh unscanned r shorter))
+reads-header array tail w final levels last sc bytes (suc turns) good none fresh unscanned
+    (scan w' final' levels' last' sc' frame fill head codings payload more framed is l x r) room =
+    some-none frame w.frame framed none
+reads-header array tail w final levels last sc bytes (suc turns) good none fresh unscanned
+    (closed w' levels' frame fill framed t c) room =
+    some-none frame w.frame framed none
+
+-- ---- the whole
 
 pub no-frame : nothing_found.frame ≡ None
 unfolding nothing_found
 no-frame = refl
 
 -- What a written stream is read as, after its first two bytes.
-pub record ReadStream (array : Coefficients) (tail : List ℕ) (bytes : List ℕ) (final : Found)
-    (last : ℕ → Levels) : Type 0 where
+pub record ReadStream (array : Coefficients) (tail bytes : List ℕ) (final : Found) (last : ℕ → Levels) : Type 0 where
   pub rest : List ℕ
   pub starts : start_at bytes ≡ Ok (tt, rest)
-  pub whole : ReadWhole array tail final last (segments_at false Elsewhere nothing_found None rest)
+  pub header : ReadHeader array tail final last (segments_at true Elsewhere nothing_found None rest)
+      (segments_at false Elsewhere nothing_found None rest)
 
-pub starts-so : (rest : List ℕ) → start_at (0xFF ∷ 0xD8 ∷ rest) ≡ Ok (tt, rest)
-unfolding start_at
-starts-so rest = refl
+pub stream-read : (array : Coefficients) (tail bytes : List ℕ) (final : Found) (last : ℕ → Levels)
+    → WritesImage array bytes final last → ReadStream array tail (bytes ++ tail) final last
+unfolding nothing_found start_at segments_at
+stream-read array tail bytes final last w =
+    let sizes = length-append w.after tail in
+    record {
+      rest = w.after ++ tail;
+      starts = ap (λ (l : List ℕ). start_at (l ++ tail)) w.starts;
+      header = reads-header array tail nothing_found final (λ k. nothing_sent) last false w.after
+          (suc (length (w.after ++ tail))) tables-start refl refl refl w.written (omega arith);
+    }
 
-pub within-so : (found : Found) (bytes : List ℕ)
-    → segments_at false Elsewhere found None bytes
-    ≡ segments_within (suc (length bytes)) false Elsewhere found None bytes
-unfolding segments_at
-within-so found bytes = refl
-
-pub stream-read : (array : Coefficients) (tail : List ℕ) (bytes : List ℕ) (final : Found) (last : ℕ → Levels)
-    → ((place row column : ℕ) → Is8Bit (array place row column)) → AllShaped
-    → WritesStream array tail bytes final last → ReadStream array tail bytes final last
-stream-read array tail bytes final last range shapes (stream after fill code more final' last' i r) =
-    let all = marker fill code more in
-    let fills = length-append (replicate fill 0xFF) (code ∷ more) in
-    grind (
-      arith,
-      starts-so all,
-      whole-by array tail final last,
-      within-so nothing_found all,
-      nothing-is,
-      reads-head array tail nothing_found final last after more (suc (length all)) Elsewhere None all range shapes
-          tables-start no-frame r (stands-next fill code after more i) (omega arith),
-    )
+-- the scans of a stream whose header was read
+pub scans-read : (array : Coefficients) (tail : List ℕ) (final : Found) (last : ℕ → Levels) (header whole : Outcome Found)
+    → ((place row column : ℕ) → Is8Bit (array place row column))
+    → (r : ReadHeader array tail final last header whole) → ReadTo r.frame array tail final last whole
+scans-read array tail final last header whole range r =
+    read-to r.frame array tail final last whole _ r.goes_on
+    (reads-scans array r.frame tail r.said final (λ k. nothing_sent) last false r.more [] nothing_finished no_planes
+    r.turns Elsewhere None (r.more ++ tail) range r.shape r.good r.framed (λ e k. refl)
+    (framed-start r.said r.frame array [] nothing_finished no_planes range refl refl) r.written
+    (stands-here (r.more ++ tail)) r.room)

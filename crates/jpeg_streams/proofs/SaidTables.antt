@@ -7,9 +7,8 @@ use Rattle.jpeg_segments.specs.HuffmanTables.{Tables, PlacedTable, no_tables, wi
 use Rattle.jpeg_streams.specs.Segments.{with_huffman, updated}
 use Rattle.jpeg_streams.specs.Found.{Found}
 use Rattle.jpeg_segments.specs.WrittenSegments.{Segment, Quantization, Huffman, Interval, Application, Comment, Header}
-use Rattle.jpeg_segments.specs.WrittenSegments.{IsHuffmanTable, huffman_tables}
+use Rattle.jpeg_segments.specs.WrittenSegments.{IsHuffmanTable, MayStand, huffman_tables}
 use Rattle.jpeg_streams.specs.SaidSegments.{found_after}
-use Rattle.jpeg_streams.specs.WrittenLossless.{StandsInLossless}
 
 abbrev pub IsTableOrNone : Option Table → Type 0
 IsTableOrNone None = Unit {0}
@@ -58,14 +57,14 @@ written-tables most ts all = tables-all most no_tables ts no-tables all
 pub updated-tables : (old new : Tables) → HasTables old → HasTables new → HasTables (with_huffman old new)
 updated-tables old new h k = search (rules, updated-all)
 
-pub segment-tables : (said found : Found) (s : Segment) → StandsInLossless said s → HasTables found.huffman
+pub segment-tables : (found : Found) (s : Segment) → MayStand found.frame s → HasTables found.huffman
     → HasTables (found_after found s).huffman
-segment-tables said found (Quantization ts) may h = h
-segment-tables said found (Huffman ts) may h = search (rules, updated-tables, written-tables)
-segment-tables said found (Interval n) may h = h
-segment-tables said found (Application number payload) may h = h
-segment-tables said found (Comment payload) may h = h
-segment-tables said found (Header number header) may h = h
+segment-tables found (Quantization ts) may h = h
+segment-tables found (Huffman ts) may h = search (rules, updated-tables, written-tables)
+segment-tables found (Interval n) may h = h
+segment-tables found (Application number payload) may h = h
+segment-tables found (Comment payload) may h = h
+segment-tables found (Header number header) may h = h
 
 some-table : (o : Option Table) (t : Table) → o ≡ Some t → IsTableOrNone o → IsTable t
 some-table None t e h = absurd (let n : ⊥ = cc in n)

@@ -9,11 +9,12 @@ use Rattle.jpeg_pixels.specs.declared.upsampler.UpsampleRule.{UpsampleRule}
 use Rattle.jpeg_pixels.specs.Pictures.{AllCover, AreWhole, Covers, HasSources, Source, source_by, source_of, sources_by}
 use Rattle.jpeg_pixels.specs.Pictures.{sources_of}
 use Rattle.jpeg_pixels.proofs.RuleRatios.{in-blocks, room-of}
-use Rattle.jpeg_streams.proofs.AcceptedTurns.{err-ok, ok-same, bind-ok}
-use Rattle.jpeg_streams.proofs.FrameShapes.{Plain, made-at, greatest-some}
+use Rattle.jpeg_streams.proofs.ReadTurns.{err-ok, ok-same, bind-ok}
+use Rattle.jpeg_streams.proofs.FrameShapes.{Plain, made-at}
 use Rattle.jpeg_streams.proofs.InsidePictures.{AllReach, Reaches}
 use Rattle.jpeg_streams.proofs.ScaledSizes.{scaled_component, is-sized, reaches-made}
 use Rattle.jpeg_streams.proofs.ScaledSources.{frame-sources}
+use Rattle.jpeg_segments.proofs.FrameLemmas.{greatest-some}
 
 -- ---- one component
 

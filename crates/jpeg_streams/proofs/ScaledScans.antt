@@ -1,30 +1,32 @@
 -- A stream that was written for a frame is one for the frame at any scale.
 use Rattle.std.proofs.Common.{rules, ◌≡◌, ℕ, zero, suc, ◌+◌, ◌*◌, ◌<◌, ◌==◌, Bool, true, List, [], ◌∷◌, ◌++◌, map}
-use Rattle.std.proofs.Common.{length, sum_by, sum, drop, Some, refl, sym, ap, ap₂, ◌∙◌, subst, arith, mul_assoc}
+use Rattle.std.proofs.Common.{length, sum_by, sum, drop, option_map, Option, Some, refl, sym, ap, ap₂, ◌∙◌, subst, arith, mul_assoc}
 use Rattle.std.proofs.lemmas.Bool.Decides.{leb_tells}
 use Rattle.std.proofs.Math.Nat.{mul_comm, lt_of_mul-lt-mul_right, mul-lt-mul_of_pos_right}
 use Rattle.std.specs.List.{AllByRecursion, flat_map, position}
 use Rattle.std.proofs.lemmas.List.Sums.{sum-map}
 use Rattle.jpeg_segments.specs.Frame.{Frame, Component, Factors, ceiling}
 use Rattle.jpeg_segments.specs.ScanHeader.{Scan, place_of, blocks_by, scan_of}
-use Rattle.jpeg_segments.specs.ScanHeaders.{AreChoices, Choice, IsScan, ScanHeader, scan_written, selector_of}
+use Rattle.jpeg_segments.specs.ScanHeaders.{AreChoices, Choice, IsScan, ScanHeader, scan_payload, scan_written, selector_of}
 use Rattle.jpeg_segments.proofs.ScanLemmas.{position-map}
 use Rattle.jpeg_bits.specs.Passes.{Pass}
 use Rattle.jpeg_streams.specs.Order.{Spot, grid_of, own_spots, part_spots, mcu_spots, all_spots, spots_of, mcu_size}
-use Rattle.jpeg_bits.specs.declared.marker.Marker.{Marker}
 use Rattle.jpeg_segments.specs.HuffmanTables.{Tables}
 use Rattle.jpeg_streams.specs.Levels.{Levels, IsLegal, numbers_at}
 use Rattle.jpeg_streams.specs.Needed.{first_of}
 use Rattle.jpeg_streams.specs.ScanSegments.{vias_from, Coding, tables_of, pass_of, components_of}
 use Rattle.jpeg_streams.specs.Found.{Found}
 use Rattle.jpeg_streams.specs.WrittenScans.{Coefficients, written_turns, IsCoding, AreCodings, WritesScan, levels_after}
-use Rattle.jpeg_streams.specs.WrittenScans.{HasTable}
-use Rattle.jpeg_streams.proofs.AcceptedStreams.{WritesSegment, WritesScans}
+use Rattle.jpeg_streams.specs.WrittenScans.{HasTable, IsLegalScan}
 use Rattle.jpeg_streams.specs.WrittenScans.AreCodings.{no_more, and_more}
-use Rattle.jpeg_streams.proofs.AcceptedStreams.WritesSegment.{quantization, huffman, restart, application, comment}
-use Rattle.jpeg_streams.proofs.AcceptedStreams.WritesScans.{segment, scan, closed}
+use Rattle.jpeg_streams.specs.WrittenImages.{Writes, closed, segment, scan}
+use Rattle.jpeg_streams.specs.SaidSegments.{Stands, found_after}
+use Rattle.jpeg_segments.specs.WrittenSegments.{sized, Segment, Quantization, Huffman, Interval, Application, Comment}
+use Rattle.jpeg_segments.specs.WrittenSegments.{Header, IsHuffmanTable}
+use Rattle.jpeg_segments.specs.HuffmanTables.{greatest_place}
+use Rattle.jpeg_bits.specs.Written.{marker}
 use Rattle.jpeg_streams.proofs.FrameShapes.{below-ceiling}
-use Rattle.jpeg_streams.proofs.AcceptedTurns.{frame-kept}
+use Rattle.jpeg_streams.proofs.ReadTurns.{frame-stays, is-other, same-frame, some-none}
 
 -- ---- the same number
 
@@ -266,44 +268,72 @@ legal-alike : (p : Pass) (levels : ℕ → Levels) (ks ls : List Coding) → Cod
 legal-alike p levels ks ls none h = tt
 legal-alike p levels ks ls (one_more k l ks' ls' a more) h = search (rules, legal-alike p levels ks' ls' more h.1)
 
-segment-alike : (w next : Found) (m : Marker) (bytes : List ℕ) (f g : Frame) → SameFrame f g → w.frame ≡ Some f
-    → WritesSegment w m bytes next → WritesSegment (at_frame w g) m bytes (at_frame next g)
-segment-alike w next m bytes f g same e (quantization w' bytes' t a) = quantization (at_frame w g) bytes t a
-segment-alike w next m bytes f g same e (huffman w' bytes' t k a) =
-    huffman (at_frame w g) bytes t k
-    (search rules)
-segment-alike w next m bytes f g same e (restart w' bytes' n a) = restart (at_frame w g) bytes n a
-segment-alike w next m bytes f g same e (application w' number bytes' t a) = application (at_frame w g) number bytes t a
-segment-alike w next m bytes f g same e (comment w' bytes' a) = comment (at_frame w g) bytes a
+segment-alike : (w : Found) (s : Segment) (f g : Frame) → SameFrame f g → w.frame ≡ Some f → Stands w s
+    → Stands (at_frame w g) s × (found_after (at_frame w g) s ≡ at_frame (found_after w s) g)
+segment-alike w (Quantization ts) f g same e may = (may, refl)
+segment-alike w (Huffman ts) f g same e may = (
+  (
+    subst (λ (b : Option Bool). AllByRecursion (IsHuffmanTable (greatest_place b)) ts)
+        (ap (option_map (λ (x : Frame). x.is_baseline)) e ∙ ap (λ (b : Bool). Some b) (sym same.is_baseline)) may.0,
+    tt,
+  ),
+  refl,
+)
+segment-alike w (Interval n) f g same e may = (may, refl)
+segment-alike w (Application number payload) f g same e may = (may, refl)
+segment-alike w (Comment payload) f g same e may = (may, refl)
+segment-alike w (Header number h) f g same e may = some-none f w.frame e may.0.0
 
 tables-there : (w : Found) (g : Frame) (cs ds : List Component) → Alikes cs ds → AllByRecursion (HasTable w) cs
     → AllByRecursion (HasTable (at_frame w g)) ds
 tables-there w g cs ds none h = tt
 tables-there w g cs ds (one_more c d cs' ds' a more) h = search (rules, tables-there w g cs' ds' more h.1)
 
--- A stream that was written for a frame is written for one with the same blocks.
-pub scans-alike : (array : Coefficients) (f g : Frame) (tail : List ℕ) (w final : Found) (levels last : ℕ → Levels)
-    (sc : Bool) (m : Marker) (bytes : List ℕ) → SameFrame f g → w.frame ≡ Some f
-    → WritesScans array f tail w levels sc m bytes final last
-    → WritesScans array g tail (at_frame w g) levels sc m bytes (at_frame final g) last
-scans-alike array f g tail w final levels last sc m bytes same e
-    (segment w' next final' levels' last' sc' m' after fill code payload more s q i r) =
-    segment (at_frame w g) (at_frame next g) (at_frame final g) levels last sc m after fill code payload more
-    (segment-alike w next m payload f g same e s) q i
-    (scans-alike array f g tail next final levels last sc after more same (frame-kept w next m payload s ∙ e) r)
-scans-alike array f g tail w final levels last sc m bytes same e
-    (scan w' final' levels' last' sc' after fill code h payload more s codings made is l x i r) =
+-- a scan is written for a frame with the same blocks too
+scan-other : (array : Coefficients) (f g : Frame) (w final : Found) (levels last : ℕ → Levels) (sc : Bool)
+    (fill : ℕ) (h : ScanHeader) (codings : List Coding) (bytes more : List ℕ) → SameFrame f g
+    → IsScan f h → IsLegalScan w f levels (scan_written f h) codings
+    → WritesScan f w.restart (pass_of (scan_written f h)) codings array bytes
+    → Writes array (at_frame w g) (levels_after (pass_of (scan_written f h)) (map (λ c. c.place) codings) levels) true
+    more (at_frame final g) last
+    → Writes array (at_frame w g) levels sc (marker fill 218 (sized (scan_payload h) ++ (bytes ++ more)))
+    (at_frame final g) last
+scan-other array f g w final levels last sc fill h codings bytes more same is l x r =
+    let s = scan_written f h in
+    let t = scan_written g h in
+    let alike : t ≡ s = written-same f g h same in
     let o = codings-alike w f g same (pass_of s)
     (tables_of w s) s.components s.dc_places s.ac_places codings l.are_in_force in
     let places = places-alike codings o.0 o.2 in
-    scan (at_frame w g) (at_frame final g) levels last sc after fill code h payload more s o.0
-    (made ∙ sym (written-same f g h same)) (scan-same f g h same is)
-    (grind (arith, tables-kept w g s, legal-alike (pass_of s) levels codings o.0 o.2 l.legal))
-    (scan-alike f g w.restart (pass_of s) codings o.0 array payload same o.2 x) i
-    (subst (λ (p : List ℕ). WritesScans array g tail (at_frame w g)
-    (levels_after (pass_of s) p levels) true after more (at_frame final g) last) (sym places)
-    (scans-alike array f g tail w final
-    (levels_after (pass_of s) (map (λ (c : Coding). c.place) codings) levels) last true after more same e r))
-scans-alike array f g tail w final levels last sc m bytes same e (closed w' levels' t c) =
-    closed (at_frame w g) levels (tables-there w g f.components g.components same.components t)
+    let legal : IsLegalScan (at_frame w g) g levels s o.0 =
+    grind (arith, tables-kept w g s, legal-alike (pass_of s) levels codings o.0 o.2 l.legal) in
+    scan (at_frame w g) (at_frame final g) levels last sc g fill h o.0 bytes more refl (scan-same f g h same is)
+    (subst (λ (y : Scan). IsLegalScan (at_frame w g) g levels y o.0) (sym alike) legal)
+    (subst (λ (y : Scan). WritesScan g w.restart (pass_of y) o.0 array bytes) (sym alike)
+    (scan-alike f g w.restart (pass_of s) codings o.0 array bytes same o.2 x))
+    (subst (λ (y : Scan). Writes array (at_frame w g)
+    (levels_after (pass_of y) (map (λ (c : Coding). c.place) o.0) levels) true more (at_frame final g) last) (sym alike)
+    (subst (λ (p : List ℕ). Writes array (at_frame w g) (levels_after (pass_of s) p levels) true more
+    (at_frame final g) last) (sym places) r))
+
+-- A stream that was written for a frame is written for one with the same blocks.
+pub scans-alike : (array : Coefficients) (f g : Frame) (w final : Found) (levels last : ℕ → Levels)
+    (sc : Bool) (bytes : List ℕ) → SameFrame f g → w.frame ≡ Some f
+    → Writes array w levels sc bytes final last
+    → Writes array (at_frame w g) levels sc bytes (at_frame final g) last
+scans-alike array f g w final levels last sc bytes same e
+    (segment w' final' levels' last' sc' fill s more may dct follows r) =
+    let alike = segment-alike w s f g same e may in
+    segment (at_frame w g) (at_frame final g) levels last sc fill s more alike.0 dct follows
+    (subst (λ (x : Found). Writes array x levels sc more (at_frame final g) last) (sym alike.1)
+    (scans-alike array f g (found_after w s) final levels last sc more same
+    (frame-stays w s (is-other w f s e may) ∙ e) r))
+scans-alike array f g w final levels last sc bytes same e
+    (scan w' final' levels' last' sc' frame fill h codings payload more framed is l x r) =
+    let is_same = subst (λ (y : Frame). SameFrame y g) (same-frame f frame w.frame e framed) same in
+    scan-other array frame g w final levels last sc fill h codings payload more is_same is l x
+    (scans-alike array f g w final _ last true more same e r)
+scans-alike array f g w final levels last sc bytes same e (closed w' levels' frame fill framed t c) =
+    let is_same = subst (λ (y : Frame). SameFrame y g) (same-frame f frame w.frame e framed) same in
+    closed (at_frame w g) levels g fill refl (tables-there w g frame.components g.components is_same.components t)
     (search (rules, length-same))

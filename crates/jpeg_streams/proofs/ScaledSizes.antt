@@ -11,11 +11,12 @@ use Rattle.jpeg_pixels.specs.Pictures.{Source, source_by, source_of, sources_by,
 use Rattle.jpeg_segments.specs.Scales.{component_at, frame_at}
 use Rattle.jpeg_pixels.proofs.RuleRatios.{reach-end, rule-ratios, some-ceiling}
 use Rattle.jpeg_streams.proofs.OwnSpots.{At}
-use Rattle.jpeg_streams.proofs.AcceptedTurns.{err-ok, ok-same, bind-ok}
-use Rattle.jpeg_streams.proofs.FrameShapes.{greatest-some, at-mapped}
+use Rattle.jpeg_streams.proofs.ReadTurns.{err-ok, ok-same, bind-ok}
+use Rattle.jpeg_streams.proofs.FrameShapes.{at-mapped}
 use Rattle.jpeg_streams.proofs.FrameFits.{factors-back}
 use Rattle.jpeg_streams.proofs.BroughtLevels.{Made}
 use Rattle.jpeg_streams.proofs.InsidePictures.{Reaches, AllReach}
+use Rattle.jpeg_segments.proofs.FrameLemmas.{greatest-some}
 
 -- a component of these factors at a scale
 abbrev pub scaled_component : ℕ → ℕ → ℕ → ℕ → ℕ → Factors → Component

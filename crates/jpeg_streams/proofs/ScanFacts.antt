@@ -12,8 +12,7 @@ use Rattle.jpeg_segments.specs.WrittenSegments.{nibbles}
 use Rattle.jpeg_segments.proofs.Fields.{nibbles-high, nibbles-low}
 use Rattle.jpeg_streams.specs.ScanSegments.{pass_of}
 use Rattle.jpeg_streams.proofs.PlacesApart.{IsAbsent, AreApart}
-use Rattle.jpeg_streams.proofs.AcceptedStreams.{PassSo, ScanFacts}
-use Rattle.jpeg_streams.proofs.BroughtLevels.{progressive-pass}
+use Rattle.jpeg_streams.proofs.BroughtLevels.{PassSo, ScanFacts, progressive-pass}
 
 -- ---- the components, each after those before it
 

@@ -1,7 +1,7 @@
 -- The state between segments: frames that are decoded, at a scale, and what is kept from turn to turn.
 use Rattle.std.proofs.Common.{rules, ◌≡◌, ◌≤◌, ◌<◌, ℕ, List, [], ◌∷◌, length, replicate, refl, ap, sym, ◌∙◌, subst}
-use Rattle.std.proofs.Common.{arith, Bool, true, false, Some, None, Ok}
-use Rattle.std.specs.Prelude.{not, is_some}
+use Rattle.std.proofs.Common.{arith, true, false, Some, None, Ok}
+use Rattle.std.specs.Prelude.{is_some}
 use Rattle.std.specs.List.{AllByRecursion}
 use Rattle.std.proofs.Math.Bool.{cond}
 use Rattle.std.proofs.lemmas.Bool.{and_parts, eqb-true, leb-true}
@@ -163,9 +163,6 @@ decoded-asked width height f p = go f.process refl
     go DctProgressive e = at (λ l. cc)
     go Lossless e = p
 
-pub sized_of : (f : Frame) → IsDecodedFrame f → IsSizedFrame f
-sized_of f p = decoded-sized f p
-
 pub frames_scaled : (width height : ℕ) (old new : Found) → new ≡ sized_to width height old → HasDecodedFrame old
     → HasDecodedFrame new
 frames_scaled width height old new e h = search (rules, decoded-asked)
@@ -174,4 +171,4 @@ pub sound_scaled : (width height : ℕ) (old new : Found) → new ≡ sized_to w
     → IsSound new
 sound_scaled width height old new e p u = search (rules, sound-frame, decoded-asked)
 
-pub ruleset scaled_rules = (sized_of, frames_scaled, sound_scaled)
+pub ruleset scaled_rules = (decoded-sized, frames_scaled, sound_scaled)

@@ -8,7 +8,6 @@ use Rattle.jpeg_bits.specs.DefaultTables.{luminance_dc, chrominance_dc, luminanc
 use Rattle.jpeg_bits.specs.DefaultTables.{filled, names}
 use Rattle.jpeg_bits.proofs.DefaultTables.{luminance-dc-codes, chrominance-dc-codes, luminance-ac-codes}
 use Rattle.jpeg_bits.proofs.DefaultTables.{chrominance-ac-codes}
-use Rattle.jpeg_bits.specs.declared.marker.Marker.{Marker}
 use Rattle.jpeg_segments.specs.Frame.{Frame}
 use Rattle.jpeg_segments.specs.ScanHeader.{Scan}
 use Rattle.jpeg_segments.specs.HuffmanTables.{Tables}
@@ -18,18 +17,8 @@ use Rattle.jpeg_streams.specs.ScanSegments.{Coding, tables_of, pass_of}
 use Rattle.jpeg_streams.specs.Found.{Found, nothing_found}
 use Rattle.jpeg_streams.specs.WrittenScans.{AreCodings, InForce}
 use Rattle.jpeg_streams.specs.WrittenScans.AreCodings.{no_more, and_more}
-use Rattle.jpeg_streams.proofs.AcceptedStreams.{WritesSegment}
-use Rattle.jpeg_streams.proofs.AcceptedStreams.WritesSegment.{quantization, huffman, restart, application, comment}
-use Rattle.jpeg_streams.proofs.SaidTables.{HasTables, IsTableOrNone, no-tables, table-there, updated-tables}
+use Rattle.jpeg_streams.proofs.SaidTables.{HasTables, IsTableOrNone, no-tables, table-there}
 use Rattle.jpeg_streams.proofs.WrittenFrameScans.{no-codes}
-
-pub tables-next : (w next : Found) (m : Marker) (bytes : List ℕ) → WritesSegment w m bytes next → HasTables w.huffman
-    → HasTables next.huffman
-tables-next w next m bytes (quantization w' bytes' t a) h = h
-tables-next w next m bytes (huffman w' bytes' t k a) h = updated-tables w.huffman t h k
-tables-next w next m bytes (restart w' bytes' n a) h = h
-tables-next w next m bytes (application w' number bytes' t a) h = h
-tables-next w next m bytes (comment w' bytes' a) h = h
 
 pub tables-start : HasTables nothing_found.huffman
 unfolding nothing_found

@@ -27,7 +27,7 @@ use Rattle.jpeg_streams.specs.ScanSegments.{Coding, codings_of, pass_of}
 use Rattle.jpeg_streams.specs.WorkedImages.{in_column}
 use Rattle.jpeg_streams.specs.WrittenData.{WritesBlocks, WritesInterval}
 use Rattle.jpeg_streams.specs.WrittenScans.{IsLegalScan}
-use Rattle.jpeg_streams.proofs.AcceptedTurns.{codings-back, codings-by}
+use Rattle.jpeg_streams.proofs.ReadTurns.{codings-back, codings-by}
 
 all-by : {A : Type 0} (test : A → Bool) (P : A → Type 0) → ((x : A) → test x ≡ true → P x)
     → (xs : List A) → list_all test xs ≡ true → AllByRecursion P xs

@@ -1,16 +1,12 @@
 -- Tables by their places.
-use Rattle.std.proofs.Common.{rules, ◌≡◌, ◌<◌, ℕ, zero, suc, List, [], ◌∷◌, Option, Some, None, Bool, true, false, refl}
+use Rattle.std.proofs.Common.{rules, ◌≡◌, ◌<◌, ℕ, zero, suc, List, [], ◌∷◌, Option, Some, None, true, refl}
 use Rattle.std.proofs.Common.{ap, length, get_or, arith}
 use Rattle.std.proofs.Math.ListN.{set}
-use Rattle.std.specs.Prelude.{◌&&◌}
 use Rattle.std.proofs.lemmas.List.{get_or_default}
 use Rattle.jpeg_bits.specs.Codes.{Table, is_ac}
 use Rattle.jpeg_segments.specs.HuffmanTables.{all_ac, is_ac_or_none}
 use Rattle.jpeg_streams.specs.Segments.{updated}
-
-pub both : (a b : Bool) → (a && b) ≡ true → (a ≡ true) × (b ≡ true)
-both true b e = (refl, e)
-both false b e = absurd (let n : ⊥ = cc in n)
+use Rattle.std.proofs.lemmas.Bool.{and_parts}
 
 -- a table that is moved to its place
 pub updated-set : {A : Type 0} (xs ys : List (Option A)) (i : ℕ) (t : A) → i < length xs → i < length ys
@@ -47,10 +43,10 @@ unfolding updated
 all_ac-updated [] ys p q = refl
 all_ac-updated (x ∷ xs) [] p q = p
 all_ac-updated (x ∷ xs) (None ∷ ys) p q =
-    rw (both (is_ac_or_none x) (all_ac xs) p).0 (all_ac-updated xs ys (both (is_ac_or_none x) (all_ac xs) p).1 q)
+    rw (and_parts (is_ac_or_none x) (all_ac xs) p).0 (all_ac-updated xs ys (and_parts (is_ac_or_none x) (all_ac xs) p).1 q)
 all_ac-updated (x ∷ xs) (Some s ∷ ys) p q =
-    rw (both (is_ac s.class) (all_ac ys) q).0 (all_ac-updated xs ys (both (is_ac_or_none x) (all_ac xs) p).1
-    (both (is_ac s.class) (all_ac ys) q).1)
+    rw (and_parts (is_ac s.class) (all_ac ys) q).0 (all_ac-updated xs ys (and_parts (is_ac_or_none x) (all_ac xs) p).1
+    (and_parts (is_ac s.class) (all_ac ys) q).1)
 
 -- a place is moved
 pub moved-some : {A : Type 0} (xs ys xs' ys' : List (Option A)) (i : ℕ) (found d v : Option A) (t : A) → i < length xs

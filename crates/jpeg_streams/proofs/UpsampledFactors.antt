@@ -1,7 +1,7 @@
 -- Components whose factors can be upsampled have a way to upsample them, and no others.
 use Rattle.std.proofs.Common.{rules, ◌≡◌, ◌⊎◌, inl, inr, ℕ, ◌*◌, ◌%◌, ◌==◌, ◌&&◌, ◌||◌, Bool, true, false, List, []}
 use Rattle.std.proofs.Common.{◌∷◌, Option, Some, None, Ok, refl, sym, ap, if◌then◌else◌, true≢false}
-use Rattle.std.proofs.lemmas.Bool.{and_parts, eqb-true, eq-eqb, and_from as and-true}
+use Rattle.std.proofs.lemmas.Bool.{and_parts, eqb-true, eq-eqb, and_from as and-true, or_left, or_right}
 use Rattle.std.specs.List.{AllByRecursion}
 use Rattle.jpeg_bits.specs.Reading.{Lacks}
 use Rattle.jpeg_segments.specs.Frame.{Component, Factors}
@@ -10,7 +10,7 @@ use Rattle.jpeg_pixels.specs.declared.upsampler.UpsampleRule.TheVariants.{H1V1, 
 use Rattle.jpeg_pixels.specs.Pictures.{Source, source_by, source_of, sources_by}
 use Rattle.jpeg_pixels.specs.Upsampling.{rule_of}
 use Rattle.jpeg_streams.specs.SaidSegments.{IsNear}
-use Rattle.jpeg_streams.proofs.AcceptedTurns.{bind-ok, err-ok, then-ok}
+use Rattle.jpeg_streams.proofs.ReadTurns.{bind-ok, err-ok, then-ok}
 
 -- ---- a rule by its tests
 
@@ -38,27 +38,19 @@ pick-some false false false false false l h = absurd (true≢false (sym h))
 
 -- ---- from the factors to a rule
 
-pub or-left : (a b : Bool) → a ≡ true → (a || b) ≡ true
-or-left true b e = refl
-or-left false b e = absurd (true≢false (sym e))
-
-pub or-right : (a b : Bool) → b ≡ true → (a || b) ≡ true
-or-right true b e = refl
-or-right false b e = e
-
 -- near is at most a half, by the tests of a rule
 near-test : (n m s : ℕ) → IsNear n m s → ((n == m || s == 1) ≡ true) ⊎ ((2 * n == m) ≡ true)
-near-test n m s (inl e) = inl (or-left (n == m) (s == 1) (eq-eqb n m e))
+near-test n m s (inl e) = inl (or_left (n == m) (s == 1) (eq-eqb n m e))
 near-test n m s (inr (inl e)) = inr (eq-eqb (2 * n) m e)
-near-test n m s (inr (inr e)) = inl (or-right (n == m) (s == 1) (eq-eqb s 1 e))
+near-test n m s (inr (inr e)) = inl (or_right (n == m) (s == 1) (eq-eqb s 1 e))
 
 any-test : (h1 h2 v1 v2 e : Bool) → ((h1 ≡ true) ⊎ (h2 ≡ true)) × ((v1 ≡ true) ⊎ (v2 ≡ true)) ⊎ (e ≡ true)
     → (h1 && v1 || (h2 && v1 || (h1 && v2 || (h2 && v2 || e)))) ≡ true
-any-test h1 h2 v1 v2 e (inl (inl a, inl b)) = or-left (h1 && v1) _ (and-true h1 v1 a b)
-any-test h1 h2 v1 v2 e (inl (inr a, inl b)) = or-right (h1 && v1) _ (or-left (h2 && v1) _ (and-true h2 v1 a b))
-any-test h1 h2 v1 v2 e (inl (inl a, inr b)) = search (rules, or-right, or-left, and-true)
-any-test h1 h2 v1 v2 e (inl (inr a, inr b)) = search (rules, or-right, or-left, and-true)
-any-test h1 h2 v1 v2 e (inr a) = search (rules, or-right)
+any-test h1 h2 v1 v2 e (inl (inl a, inl b)) = or_left (h1 && v1) _ (and-true h1 v1 a b)
+any-test h1 h2 v1 v2 e (inl (inr a, inl b)) = or_right (h1 && v1) _ (or_left (h2 && v1) _ (and-true h2 v1 a b))
+any-test h1 h2 v1 v2 e (inl (inl a, inr b)) = search (rules, or_right, or_left, and-true)
+any-test h1 h2 v1 v2 e (inl (inr a, inr b)) = search (rules, or_right, or_left, and-true)
+any-test h1 h2 v1 v2 e (inr a) = search (rules, or_right)
 
 -- the greatest factors, and the size of the picture
 abbrev pub Upsampled : ℕ → ℕ → ℕ → ℕ → Factors → Type 0

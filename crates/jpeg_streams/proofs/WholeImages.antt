@@ -1,10 +1,9 @@
 -- Where all is sent, the picture is that of the array itself.
-use Rattle.std.proofs.Common.{rules, ◌≡◌, ℕ, suc, ◌+◌, ◌/◌, ◌^◌, Bool, true, false, List, [], ◌∷◌, map, length, ℤ, pos}
-use Rattle.std.proofs.Common.{negsuc, neg_ℤ, ◌*ℤ◌, Option, Some, Result, Ok, Err, refl, ap, ap₂, arith}
+use Rattle.std.proofs.Common.{rules, ◌≡◌, ℕ, suc, ◌+◌, ◌/◌, ◌^◌, Bool, true, false, List, [], ◌∷◌, length, ℤ, pos}
+use Rattle.std.proofs.Common.{negsuc, neg_ℤ, ◌*ℤ◌, Option, Some, refl, ap, arith}
 use Rattle.std.proofs.lemmas.Grind.{common_steps}
 use Rattle.std.proofs.lemmas.Int.{ints}
 use Rattle.std.specs.List.{AllByRecursion, range_with_len}
-use Rattle.jpeg_bits.specs.Reading.{Fault, ◌>>=◌}
 use Rattle.jpeg_segments.specs.Frame.{Frame, Component}
 use Rattle.jpeg_streams.specs.declared.settings.Settings.{Settings}
 use Rattle.jpeg_bits.specs.Passes.{Block}
@@ -22,7 +21,9 @@ use Rattle.jpeg_streams.specs.ArrayPictures.{plane_of_array, planes_of_array, pi
 use Rattle.jpeg_streams.proofs.BroughtLevels.{after-length}
 use Rattle.jpeg_streams.specs.WrittenImages.{Writes, closed, segment, scan, WritesImage}
 use Rattle.jpeg_streams.specs.WholeImages.{plane_whole, planes_whole, picture_whole, whole_meaning, AllComplete}
-use Rattle.jpeg_streams.proofs.AcceptedImages.{same-frame}
+use Rattle.jpeg_streams.proofs.ReadTurns.{same-frame}
+use Rattle.jpeg_bits.proofs.BandSteps.{bind_same}
+use Rattle.jpeg_streams.proofs.Apart.{map-same}
 
 -- ---- cuts that cut nothing
 
@@ -53,10 +54,6 @@ cut-whole l c done h = search (rules, times-one, floor-whole, acs-whole)
 
 -- ---- planes
 
-map-same : {A B : Type 0} (f g : A → B) (xs : List A) → ((x : A) → f x ≡ g x) → map f xs ≡ map g xs
-map-same f g [] h = refl
-map-same f g (x ∷ xs) h = ap₂ (λ y ys. y ∷ ys) (h x) (map-same f g xs h)
-
 plane-same : (scale : ℕ) (table : List ℕ) (wide high : ℕ) (f g : ℕ → ℕ → List ℤ)
     → ((row column : ℕ) → f row column ≡ g row column)
     → plane_of scale table wide high f ≡ plane_of scale table wide high g
@@ -69,11 +66,6 @@ plane-whole : (c : Component) (table : List ℕ) (l : Levels) (array : ℕ → �
 unfolding plane_of_array plane_whole
 plane-whole c table l array done h = search (rules, plane-same, cut-whole)
 
-pub same-after : {A B : Type 0} (o : Result A Fault) (f g : A → Result B Fault) → ((x : A) → f x ≡ g x)
-    → (o >>= f) ≡ (o >>= g)
-same-after (Ok x) f g h = h x
-same-after (Err e) f g h = refl
-
 planes-whole : (said : Found) (array : Coefficients) (levels : ℕ → Levels) (place : ℕ) (cs : List Component)
     → AllByRecursion (λ k. IsComplete (levels k)) (range_with_len place (length cs))
     → ((k row column : ℕ) → length (array k row column).acs ≡ length (levels k).acs)
@@ -81,7 +73,7 @@ planes-whole : (said : Found) (array : Coefficients) (levels : ℕ → Levels) (
 unfolding planes_of_array planes_whole
 planes-whole said array levels place [] done h = refl
 planes-whole said array levels place (c ∷ cs) done h =
-    search (rules, same-after, plane-whole, planes-whole said array levels (place + 1) cs done.1 h)
+    search (rules, bind_same, plane-whole, planes-whole said array levels (place + 1) cs done.1 h)
 
 picture-whole : (settings : Settings) (said : Found) (array : Coefficients) (levels : ℕ → Levels) (frame : Frame)
     → said.frame ≡ Some frame → AllComplete frame levels

@@ -1,5 +1,5 @@
 -- A scan is its blocks one after the other, interval by interval.
-use Rattle.std.proofs.Common.{rules, ◌≡◌, ℕ, zero, suc, ◌≤◌, List, [], ◌∷◌, ◌++◌, map, take, drop, length, refl, ap}
+use Rattle.std.proofs.Common.{rules, ◌≡◌, ℕ, zero, suc, ◌≤◌, List, [], ◌∷◌, ◌++◌, take, drop, length, refl, ap}
 use Rattle.std.proofs.Common.{◌∙◌, append-nil, arith, length-drop, take-append-drop}
 use Rattle.jpeg_bits.specs.Passes.{Pass, Via}
 use Rattle.jpeg_bits.specs.Intervals.{groups, first_group, other_groups}
@@ -7,7 +7,7 @@ use Rattle.jpeg_streams.specs.Order.{Spot}
 use Rattle.jpeg_streams.specs.Scans.{Arrays, turns_of, arrays_at}
 use Rattle.jpeg_streams.specs.InTurn.{intervals_from, IsIn, AreApart, IsInside}
 use Rattle.jpeg_streams.proofs.InTurn.{all_of, intervals-in-turn}
-use Rattle.jpeg_streams.proofs.WrittenIntervals.{map-take_any, map-drop_any, groups-map, first-map, others-map}
+use Rattle.jpeg_streams.proofs.WrittenIntervals.{first-map, others-map}
 
 groups-whole : (turns n : ℕ) (xs : List Spot) → length xs ≤ turns → all_of (groups turns (suc n) xs) ≡ xs
 unfolding groups
@@ -22,10 +22,6 @@ groups-whole (suc turns) n (x ∷ xs) h =
 pub whole-again : (n : ℕ) (xs : List Spot) → first_group n xs ++ all_of (other_groups n xs) ≡ xs
 whole-again zero xs = append-nil xs
 whole-again (suc n) xs = search (rules, groups-whole, length-drop, take-append-drop)
-
-length-map_any : {A B : Type 0} (f : A → B) (xs : List A) → length (map f xs) ≡ length xs
-length-map_any f [] = refl
-length-map_any f (x ∷ xs) = ap suc (length-map_any f xs)
 
 -- A scan over spots that are apart and inside is its blocks in turn.
 pub scans-in-turn : (p : Pass) (n : ℕ) (vias : List Via) (spots : List Spot) (arrays : Arrays) (bytes : List ℕ)

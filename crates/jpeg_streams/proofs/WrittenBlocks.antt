@@ -1,11 +1,11 @@
 -- The blocks of an interval that were written are read again.
-use Rattle.std.proofs.Common.{rules, ◌≡◌, ◌≢◌, ℕ, zero, suc, ◌+◌, ◌*◌, ◌^◌, ◌<◌, ◌≤◌, Bool, true, false, List, [], ◌∷◌}
+use Rattle.std.proofs.Common.{rules, ◌≡◌, ℕ, zero, suc, ◌+◌, ◌*◌, ◌^◌, ◌<◌, ◌≤◌, Bool, true, false, List, [], ◌∷◌}
 use Rattle.std.proofs.Common.{◌++◌, map, length, get_or, set, ℤ, pos, negsuc, neg_ℤ, ◌+ℤ◌, ◌-ℤ◌, unsigned_abs, nat_le}
-use Rattle.std.proofs.Common.{refl, sym, ap, ◌∙◌, subst, append_assoc, append-nil, arith, eqb, pow_pos, le_refl}
+use Rattle.std.proofs.Common.{refl, sym, ap, ◌∙◌, subst, append_assoc, append-nil, arith, pow_pos, le_refl}
 use Rattle.std.proofs.Common.{slice_index, mul_assoc}
 use Rattle.std.proofs.lemmas.Grind.{common_steps}
 use Rattle.std.proofs.lemmas.Int.{ints, int_wrap_fits}
-use Rattle.std.proofs.lemmas.Bool.{eq-eqb, le-leb}
+use Rattle.std.proofs.lemmas.Bool.{eq-eqb, le-leb, ne_eqb}
 use Rattle.std.specs.List.{AllByRecursion}
 use Rattle.std.proofs.lemmas.Bool.Decides.{nat_tests}
 use Rattle.jpeg_bits.specs.Codes.{Table}
@@ -102,9 +102,6 @@ dc-refined al (negsuc n) =
 
 -- ---- blocks
 
-pub eqb_no : (a b : ℕ) → a ≢ b → eqb a b ≡ false
-eqb_no a b h = grind (arith, nat_tests)
-
 low-small : (u : ℤ) → low_bit u < 2
 low-small (pos n) = omega arith
 low-small (negsuc n) = omega arith
@@ -115,7 +112,7 @@ pub takes-dc_part : (p : Pass) (table : Table) (old u : Block) (predictor next :
     → ReadsJust (dc_part p table old.dc predictor) bits ((after_pass p old u).dc, next)
 unfolding dc_part
 takes-dc_part p table old u predictor next bits good suits before (other_band v predictor' n) =
-    rw (eqb_no p.ss 0 n, dc_part, after_pass) (takes-gives (old.dc, predictor))
+    rw (ne_eqb p.ss 0 n, dc_part, after_pass) (takes-gives (old.dc, predictor))
 takes-dc_part p table old u predictor next bits good suits before (whole v predictor' bits' e f w) =
     search (rules, eq-eqb, takes-first_dc)
 takes-dc_part p table old u predictor next bits good suits before (one_bit v predictor' e f) =

@@ -1,12 +1,12 @@
 -- The bytes of a scan that was written are read again.
 use Rattle.std.proofs.Common.{rules, ◌≡◌, zero, Bool, true, false, List, ◌++◌, take, drop, Option, Result, subst, arith}
 use Rattle.std.proofs.Common.{ℕ, length, length-drop, length-append, take-append-drop, append_assoc, append-nil, suc}
-use Rattle.std.proofs.Common.{◌+◌, ◌%◌, ◌≤◌, [], ◌∷◌, map, Some, Ok, Err, refl, sym, ap, ◌∙◌, eqb}
+use Rattle.std.proofs.Common.{◌+◌, ◌%◌, ◌≤◌, [], ◌∷◌, map, Some, Ok, Err, refl, sym, ap, ◌∙◌, eqb, ap₂}
 use Rattle.std.proofs.lemmas.Bool.{eq-eqb}
 use Rattle.std.specs.List.{AllByRecursion}
 use lib.ListN.{length-map}
 use Rattle.jpeg_bits.specs.Reading.{Outcome, Fault, Malformed, ◌>>=◌}
-use Rattle.jpeg_bits.specs.Entropy.{Text, Found, text_at, upcoming, fresh, marker_from, marker_by}
+use Rattle.jpeg_bits.specs.Entropy.{Text, Found, text_at, marker_from}
 use Rattle.jpeg_bits.specs.declared.marker.Marker.{Marker}
 use Rattle.jpeg_bits.specs.declared.marker.Marker.TheVariants as markers
 use Rattle.jpeg_bits.specs.Readers.{text, ReadsJust}
@@ -17,8 +17,10 @@ use Rattle.jpeg_bits.specs.Written.{marker}
 use Rattle.jpeg_streams.specs.WrittenData.WritesIntervals.{last, another}
 use Rattle.jpeg_streams.proofs.SentBlocks.{after_pass, reads_of, numbers_of}
 use Rattle.jpeg_lossless.specs.Written.{IsMarker}
-use Rattle.jpeg_lossless.proofs.ReadBack.{IsText, marker-append, rst-marker, stuffed-text}
+use Rattle.jpeg_lossless.proofs.ReadBack.{IsText, marker-append, rst-marker, stuffed-text, end-met, upcoming-fresh}
 use Rattle.jpeg_streams.proofs.WrittenBlocks.{Predicts, IsReady, takes-blocks}
+use Rattle.jpeg_streams.proofs.CutLevels.{all-take, all-drop}
+use Rattle.std.proofs.lemmas.List.{take-map, drop-map, map-append}
 
 -- ---- intervals
 
@@ -28,15 +30,6 @@ start-predicts = search rules
 -- the text of an interval's bytes, where nothing is held
 abbrev pub whole_text : List ℕ → Text
 whole_text bytes = text (text_at bytes).bits (drop 56 (text_at bytes).places) (text_at bytes).ending
-
-upcoming-fresh : (bytes : List ℕ) → upcoming fresh bytes ≡ whole_text bytes
-unfolding upcoming
-upcoming-fresh bytes = refl
-
-end-met : (places : List (List ℕ)) (m : Marker) (rest : List ℕ) → length places ≡ 0
-    → marker_by places (Found m rest) ≡ Ok (Some m, rest)
-end-met [] m rest h = refl
-end-met (x ∷ places) m rest h = absurd (omega arith)
 
 -- what is read of a text, and the marker after it
 abbrev pub and_marker : Result (List Block × Text) Fault → Outcome (List Block × Option Marker)
@@ -116,37 +109,25 @@ reads-intervals p k turns (next ∷ more) bytes fill code m rest ready all h
 
 -- ---- groups
 
-pub map-take_any : {A B : Type 0} (f : A → B) (n : ℕ) (xs : List A) → map f (take n xs) ≡ take n (map f xs)
-map-take_any f zero xs = refl
-map-take_any f (suc n) [] = refl
-map-take_any f (suc n) (x ∷ xs) = ap (λ l. f x ∷ l) (map-take_any f n xs)
-
-pub map-drop_any : {A B : Type 0} (f : A → B) (n : ℕ) (xs : List A) → map f (drop n xs) ≡ drop n (map f xs)
-map-drop_any f zero xs = refl
-map-drop_any f (suc n) [] = refl
-map-drop_any f (suc n) (x ∷ xs) = map-drop_any f n xs
-
 pub groups-map : {A B : Type 0} (f : A → B) (turns n : ℕ) (xs : List A)
     → map (map f) (groups turns n xs) ≡ groups turns n (map f xs)
 unfolding groups
 groups-map f turns n [] = refl
 groups-map f zero n (x ∷ xs) = refl
-groups-map f (suc turns) n (x ∷ xs) = search (rules, map-take_any, map-drop_any, groups-map f turns n (drop n (x ∷ xs)))
+groups-map f (suc turns) n (x ∷ xs) =
+    ap₂ (λ l ls. l ∷ ls) (sym (take-map f n (x ∷ xs)))
+    (groups-map f turns n (drop n (x ∷ xs)) ∙ ap (groups turns n) (sym (drop-map f n (x ∷ xs))))
 
 pub first-map : {A B : Type 0} (f : A → B) (n : ℕ) (xs : List A) → map f (first_group n xs) ≡ first_group n (map f xs)
 first-map f zero xs = refl
-first-map f (suc n) xs = map-take_any f (suc n) xs
+first-map f (suc n) xs = sym (take-map f (suc n) xs)
 
 pub others-map : {A B : Type 0} (f : A → B) (n : ℕ) (xs : List A)
     → map (map f) (other_groups n xs) ≡ other_groups n (map f xs)
 others-map f zero xs = refl
 others-map {A} {B} f (suc n) xs =
-    groups-map f (length xs) (suc n) (drop (suc n) xs) ∙ ap (groups (length xs) (suc n)) (map-drop_any f (suc n) xs)
+    groups-map f (length xs) (suc n) (drop (suc n) xs) ∙ ap (groups (length xs) (suc n)) (sym (drop-map f (suc n) xs))
     ∙ ap (λ (k : ℕ). groups k (suc n) (drop (suc n) (map f xs))) (sym (length-map xs f))
-
-pub map-joined : {A B : Type 0} (f : A → B) (xs ys : List A) → map f (xs ++ ys) ≡ map f xs ++ map f ys
-map-joined f [] ys = refl
-map-joined f (x ∷ xs) ys = ap (λ l. f x ∷ l) (map-joined f xs ys)
 
 groups-after : (p : Pass) (turns n : ℕ) (xs ys : List (Via × Block × Block)) → length ys ≤ turns
     → all_after p xs (groups turns (suc n) ys) ≡ map (λ t. after_pass p t.1 t.2) (xs ++ ys)
@@ -158,22 +139,12 @@ groups-after p (suc turns) n xs (y ∷ ys) h =
     (groups-after p turns n (take (suc n) (y ∷ ys)) (drop (suc n) (y ∷ ys))
     (let d = length-drop (suc n) (y ∷ ys) in omega arith)
     ∙ ap (map (λ t. after_pass p t.1 t.2)) (take-append-drop (suc n) (y ∷ ys)))
-    ∙ sym (map-joined (λ t. after_pass p t.1 t.2) xs (y ∷ ys))
+    ∙ sym (map-append (λ t. after_pass p t.1 t.2) xs (y ∷ ys))
 
 pub all-groups : (p : Pass) (n : ℕ) (xs : List (Via × Block × Block))
     → all_after p (first_group n xs) (other_groups n xs) ≡ map (λ t. after_pass p t.1 t.2) xs
 all-groups p zero xs = refl
 all-groups p (suc n) xs = search (rules, groups-after, length-drop, take-append-drop)
-
-ready-take : {A : Type 0} (Q : A → Type 0) (n : ℕ) (xs : List A) → AllByRecursion Q xs → AllByRecursion Q (take n xs)
-ready-take Q zero xs h = tt
-ready-take Q (suc n) [] h = tt
-ready-take Q (suc n) (x ∷ xs) h = (h.0, ready-take Q n xs h.1)
-
-ready-drop : {A : Type 0} (Q : A → Type 0) (n : ℕ) (xs : List A) → AllByRecursion Q xs → AllByRecursion Q (drop n xs)
-ready-drop Q zero xs h = h
-ready-drop Q (suc n) [] h = tt
-ready-drop Q (suc n) (x ∷ xs) h = ready-drop Q n xs h.1
 
 ready-groups : {A : Type 0} (Q : A → Type 0) (turns n : ℕ) (xs : List A) → AllByRecursion Q xs
     → AllByRecursion (AllByRecursion Q) (groups turns n xs)
@@ -181,17 +152,17 @@ unfolding groups
 ready-groups Q turns n [] h = tt
 ready-groups Q zero n (x ∷ xs) h = tt
 ready-groups Q (suc turns) n (x ∷ xs) h =
-    (ready-take Q n (x ∷ xs) h, ready-groups Q turns n (drop n (x ∷ xs)) (ready-drop Q n (x ∷ xs) h))
+    (all-take Q n (x ∷ xs) h, ready-groups Q turns n (drop n (x ∷ xs)) (all-drop Q n (x ∷ xs) h))
 
 pub ready-first : {A : Type 0} (Q : A → Type 0) (n : ℕ) (xs : List A) → AllByRecursion Q xs
     → AllByRecursion Q (first_group n xs)
 ready-first Q zero xs h = h
-ready-first Q (suc n) xs h = ready-take Q (suc n) xs h
+ready-first Q (suc n) xs h = all-take Q (suc n) xs h
 
 pub ready-others : {A : Type 0} (Q : A → Type 0) (n : ℕ) (xs : List A) → AllByRecursion Q xs
     → AllByRecursion (AllByRecursion Q) (other_groups n xs)
 ready-others Q zero xs h = tt
-ready-others Q (suc n) xs h = ready-groups Q (length xs) (suc n) (drop (suc n) xs) (ready-drop Q (suc n) xs h)
+ready-others Q (suc n) xs h = ready-groups Q (length xs) (suc n) (drop (suc n) xs) (all-drop Q (suc n) xs h)
 
 -- A scan that was written is read as the blocks after the pass.
 pub reads-groups : (p : Pass) (n : ℕ) (turns : List (Via × Block × Block)) (bytes : List ℕ) (fill code : ℕ)

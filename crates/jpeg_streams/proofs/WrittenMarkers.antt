@@ -1,6 +1,6 @@
 -- The markers that are written.
-use Rattle.std.proofs.Common.{rules, ◌≡◌, ℕ, zero, suc, ◌≤◌, ◌+◌, List, ◌∷◌, ◌++◌, replicate, Option, Some, refl, ap}
-use Rattle.std.proofs.Common.{append_assoc, arith}
+use Rattle.std.proofs.Common.{rules, ◌≡◌, ℕ, zero, suc, ◌≤◌, ◌+◌, Option, Some, refl}
+use Rattle.std.proofs.Common.{arith}
 use Rattle.std.proofs.lemmas.Bool.{lt-ltb, le-ltb, ne_eqb}
 use Rattle.jpeg_bits.specs.Marker.{marker_of}
 use Rattle.jpeg_bits.specs.declared.marker.Marker.{Marker}
@@ -8,11 +8,7 @@ use Rattle.jpeg_bits.specs.declared.marker.Marker.TheVariants.{SOF, DHT, DQT, DR
 use Rattle.jpeg_segments.specs.Frame.{Frame}
 use Rattle.jpeg_segments.specs.WrittenSegments.{Segment, Quantization, Huffman, Interval, Application, Comment, Header}
 use Rattle.jpeg_segments.specs.WrittenSegments.{code_of, MayStand}
-use Rattle.jpeg_bits.specs.Written.{marker}
-
-pub marker-append : (fill code : ℕ) (rest more : List ℕ)
-    → marker fill code rest ++ more ≡ marker fill code (rest ++ more)
-marker-append fill code rest more = ap (λ (l : List ℕ). 255 ∷ l) (append_assoc (replicate fill 255) (code ∷ rest) more)
+pub use Rattle.jpeg_lossless.proofs.ReadBack.{marker-append}
 
 abbrev pub marker_for : Segment → Marker
 marker_for (Quantization ts) = DQT

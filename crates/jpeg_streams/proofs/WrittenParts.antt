@@ -28,11 +28,10 @@ use Rattle.jpeg_streams.specs.WrittenParts.{WritesFront}
 use Rattle.jpeg_streams.specs.WrittenScans.{AreCodings, block_for, Coefficients, grid_at, HasTable, IsOwn, levels_after}
 use Rattle.jpeg_streams.specs.WrittenScans.{no_grid, place_at}
 use Rattle.jpeg_streams.specs.WrittenScans.AreCodings.{and_more, no_more}
-use Rattle.jpeg_streams.proofs.AcceptedImages.{frame-or, frame-stays, image-accepted, none-stands, same-frame}
-use Rattle.jpeg_streams.proofs.AcceptedImages.{scan-tail, segment-tail}
-use Rattle.jpeg_streams.proofs.AcceptedTurns.{then-ok}
-use Rattle.jpeg_streams.proofs.WholeImages.{same-after, whole-is}
+use Rattle.jpeg_streams.proofs.ReadTurns.{frame-kept, same-frame, scan-tail, segment-tail, then-ok}
+use Rattle.jpeg_streams.proofs.WholeImages.{whole-is}
 use Rattle.jpeg_streams.proofs.WrittenPictures.{stream-means}
+use Rattle.jpeg_bits.proofs.BandSteps.{bind_same}
 
 -- ---- fronts
 
@@ -88,7 +87,7 @@ same-planes : (a b : Found) (array : Coefficients) (place : ℕ) (cs : List Comp
     → planes_whole a array place cs ≡ planes_whole b array place cs
 unfolding planes_whole
 same-planes a b array place [] h = refl
-same-planes a b array place (c ∷ cs) h = search (rules, same-after, same-planes a b array (place + 1) cs h.1)
+same-planes a b array place (c ∷ cs) h = search (rules, bind_same, same-planes a b array (place + 1) cs h.1)
 
 same-colours : (settings : Settings) (m n : Metadata) (f g : Frame) (cs : List Component) (planes : List (List ℕ))
     → f.output_width ≡ g.output_width → f.output_height ≡ g.output_height → m.jfif ≡ n.jfif → m.adobe ≡ n.adobe
@@ -113,7 +112,7 @@ framed-picture settings array said f e = then-ok (needed said.frame) _ f _ (ap n
 same-framed : (settings : Settings) (array : Coefficients) (a b : Found) (h : HaveSamePicture a b)
     → picture_in_frame settings array a h.frame_a ≡ picture_in_frame settings array b h.frame_b
 unfolding picture_in_frame
-same-framed settings array a b h = search (rules, same-after, same-colours, same-planes)
+same-framed settings array a b h = search (rules, bind_same, same-colours, same-planes)
 
 pub same-picture : (settings : Settings) (array : Coefficients) (a b : Found) → HaveSamePicture a b
     → picture_whole settings a array ≡ picture_whole settings b array
@@ -128,7 +127,7 @@ whole-picture : (settings : Settings) (array : Coefficients) (bytes rest : List 
     → picture_meant_by settings (bytes ++ rest) ≡ picture_whole settings final array
 whole-picture settings array bytes rest final last frame range w e done =
     ap (λ o. o >>= (λ m. Ok m.0.1))
-    (stream-means settings array rest (bytes ++ rest) final last range (image-accepted array rest bytes final last w)
+    (stream-means settings array bytes rest final last range w
     ∙ whole-is settings array bytes rest final last frame range w e done)
     ∙ picture-alone (picture_whole settings final array) (told_of final) rest
 
@@ -172,19 +171,6 @@ blocks-agree : (w : Found) (frame : Frame) (p : Pass) (tables : Tables) (places 
     → block_for codings a s ≡ block_for codings b s
 blocks-agree w frame p tables places ds ks codings a b are agree s own = search (rules, slot-coded, none-own, own-agree)
 
--- a frame that is said stays to the end
-frame-kept : (array : Coefficients) (said final : Found) (levels last : ℕ → Levels) (scanned : Bool) (bytes : List ℕ)
-    (f : Frame)
-    → Writes array said levels scanned bytes final last → said.frame ≡ Some f → final.frame ≡ Some f
-frame-kept array said final levels last scanned bytes f (closed said' levels' g fill framed tables complete) e = e
-frame-kept array said final levels last scanned bytes f
-    (then_segment said' final' levels' last' scanned' fill s more may dct follows w) e =
-    frame-or s (λ number h is. none-stands said f number h s e is may) (λ other.
-    frame-kept array (found_after said s) final levels last scanned more f w (frame-stays said s other ∙ e))
-frame-kept array said final levels last scanned bytes f
-    (then_scan said' final' levels' last' scanned' g fill h codings data_bytes more framed is legal written w) e =
-    frame-kept array said final _ last true more f w e
-
 also-writes : (a b : Coefficients) (said final : Found) (levels last : ℕ → Levels) (scanned : Bool) (bytes : List ℕ)
     (frame : Frame)
     → Writes a said levels scanned bytes final last → final.frame ≡ Some frame → AgreeOnOwn frame a b
@@ -221,7 +207,7 @@ array-picture : (settings : Settings) (array : Coefficients) (bytes : List ℕ) 
     → picture_meant_by settings (bytes ++ []) ≡ picture_of_array settings final array last
 array-picture settings array bytes final last range w =
     ap (λ o. o >>= (λ m. Ok m.0.1))
-    (search (rules, stream-means, image-accepted))
+    (search (rules, stream-means))
     ∙ picture-alone (picture_of_array settings final array last) (told_of final) []
 
 pub unseen-padding : (settings : Settings) (a b : Coefficients) (bytes : List ℕ) (final : Found) (last : ℕ → Levels)

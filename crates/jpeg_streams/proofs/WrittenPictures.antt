@@ -1,7 +1,7 @@
 -- The picture of a written stream is that of its array, cut at the levels that were sent.
 use Rattle.std.proofs.Common.{rules, ◌≡◌, ◌&&◌, Bool, true, false, cond, List, Some, None, Result, refl, subst, arith}
 use Rattle.std.proofs.Common.{ℕ, nat_lt, length, get_or, slice_index, slice_index_or, Option, true≢false, if◌then◌else◌}
-use Rattle.std.proofs.Common.{suc, ◌+◌, ◌*◌, ◌/◌, ◌%◌, ◌<◌, ◌≤◌, [], ◌∷◌, map, ℤ, ◌≢◌, Ok, Err, sym, ap, ap₂, ◌∙◌}
+use Rattle.std.proofs.Common.{suc, ◌+◌, ◌*◌, ◌/◌, ◌%◌, ◌<◌, ◌≤◌, [], ◌∷◌, map, ℤ, ◌≢◌, Ok, Err, sym, ap, ap₂, ◌∙◌, ◌++◌}
 use Rattle.std.proofs.lemmas.Grind.{common_steps}
 use Rattle.std.proofs.Math.Nat.{div-lt_iff_lt-mul, mul_comm, div-mul-le_self}
 use Rattle.std.proofs.lemmas.Nat.{div-mul-add, mod-mul-add}
@@ -38,15 +38,15 @@ use Rattle.jpeg_streams.proofs.FinishedPlaces.{is_level_0}
 use Rattle.jpeg_streams.specs.WrittenScans.{Coefficients, HasTable, IsComplete}
 use Rattle.jpeg_streams.specs.ArrayPictures.{HasTransform, IsTransformOf, Takes, plane_of_array, planes_of_array}
 use Rattle.jpeg_streams.specs.ArrayPictures.{picture_of_array}
-use Rattle.jpeg_streams.proofs.AcceptedStreams.{WritesStream}
+use Rattle.jpeg_streams.specs.WrittenImages.{WritesImage}
 use Rattle.jpeg_streams.proofs.OwnSpots.{At, at-within, Fits, in-below}
 use Rattle.jpeg_streams.proofs.WrittenFrameScans.{HoldsOwn, in-all}
 use Rattle.jpeg_streams.proofs.Apart.{at-all}
 use Rattle.jpeg_streams.proofs.ReadStates.{reading, is_whole}
-use Rattle.jpeg_streams.proofs.BroughtLevels.{Made, Shaped, Framed, held-arrays}
-use Rattle.jpeg_streams.proofs.AcceptedTurns.{then-ok}
-use Rattle.jpeg_streams.proofs.FrameShapes.{below-ceiling, all-shaped, accepted-sources}
-use Rattle.jpeg_streams.proofs.ReadStreams.{stream-read}
+use Rattle.jpeg_streams.proofs.BroughtLevels.{Made, Shaped, held-arrays}
+use Rattle.jpeg_streams.proofs.ReadTurns.{then-ok}
+use Rattle.jpeg_streams.proofs.FrameShapes.{below-ceiling, accepted-sources}
+use Rattle.jpeg_streams.proofs.ReadStreams.{Ended, scans-read, stream-read}
 use Rattle.jpeg_streams.proofs.InsidePictures.{SamePlane, AllAlike, image-same, cropped-same}
 
 -- ---- one plane
@@ -139,14 +139,10 @@ end-held : (found : Found) (f : Frame) (k : ℕ) (c : Component) (table : List �
 unfolding plane_at_end
 end-held found f k c table n p s t = search (rules, then-ok)
 
-module _ (f : Frame) (array : Coefficients) (final : Found) (last : ℕ → Levels) (h : Arrays) (fi : List (List Bool))
-    (pl : List (Option (List ℕ)))
-    (shape : Shaped f) (framed : Framed final f array last true h fi pl)
-    (tables : AllByRecursion (HasTable final) f.components)
-    (complete : is_progressive f.process ≡ false
-    → AllByRecursion (λ k. IsComplete (last k)) (range_with_len 0 (length f.components))) where
+module _ (f : Frame) (array : Coefficients) (final : Found) (last : ℕ → Levels) (shape : Shaped f)
+    (end : Ended f array final last) where
   abbrev found : Found
-  found = reading final true h fi pl
+  found = reading final true end.held end.finished end.planes
 
   plane-end : (k : ℕ) (c : Component) → At k f.components c → PlaneAtEnd found f array (last k) k c
   plane-end k c t = go (is_whole (last k)) refl (is_progressive f.process) refl
@@ -154,7 +150,7 @@ module _ (f : Frame) (array : Coefficients) (final : Found) (last : ℕ → Leve
       go : (b : Bool) → is_whole (last k) ≡ b → (p : Bool) → is_progressive f.process ≡ p
           → PlaneAtEnd found f array (last k) k c
       go true e p g =
-          let o = (framed.marked.planes k c t).decided e in
+          let o = (end.framed.marked.planes k c t).decided e in
           record {
             table = o.table;
             is_table = o.is_table;
@@ -164,18 +160,18 @@ module _ (f : Frame) (array : Coefficients) (final : Found) (last : ℕ → Leve
                 end-decided found f k c (plane_by c o.table o.blocks) o.plane;
           }
       go false e true g =
-          let n = (framed.marked.planes k c t).undecided e in
-          let q = at-all (HasTable final) k f.components c tables t in
+          let n = (end.framed.marked.planes k c t).undecided e in
+          let q = at-all (HasTable final) k f.components c end.tables t in
           record {
             table = q.table;
             is_table = q.is;
-            blocks = get_or h k [];
+            blocks = get_or end.held k [];
             holds = subst (λ (a : Arrays). HoldsOwn (grid_of c) (array k) (last k) (get_or a k []))
-                (held-arrays final h fi pl f g) ((framed.held g).each k c t);
+                (held-arrays final end.held end.finished end.planes f g) ((end.framed.held g).each k c t);
             is = end-held found f k c q.table n g refl q.is;
           }
       go false e false g =
-          let all = in-all (λ (j : ℕ). IsComplete (last j)) (range_with_len 0 (length f.components)) k (complete g)
+          let all = in-all (λ (j : ℕ). IsComplete (last j)) (range_with_len 0 (length f.components)) k (end.complete g)
           (in-below k (length f.components) (at-within k f.components c t)) in
           absurd (true≢false (sym (complete-whole (last k) all) ∙ e))
 
@@ -260,18 +256,16 @@ unfolding picture_of_array
 array-picture settings w array levels f planes e p = search (rules, then-ok)
 
 pub pictures-same : (settings : Settings) (f : Frame) (array : Coefficients) (final : Found) (last : ℕ → Levels)
-    (h : Arrays) (fi : List (List Bool)) (pl : List (Option (List ℕ)))
-    → Shaped f → final.frame ≡ Some f → Framed final f array last true h fi pl
-    → AllByRecursion (HasTable final) f.components
-    → (is_progressive f.process ≡ false
-    → AllByRecursion (λ k. IsComplete (last k)) (range_with_len 0 (length f.components)))
-    → picture_of settings (reading final true h fi pl) ≡ picture_of_array settings final array last
-pictures-same settings f array final last h fi pl shape e framed tables complete =
-    let b = planes-end f array final last h fi pl shape framed tables complete (scale-made f shape.made) 0 f.components
+    → Shaped f → (end : Ended f array final last)
+    → picture_of settings (reading final true end.held end.finished end.planes)
+    ≡ picture_of_array settings final array last
+pictures-same settings f array final last shape end =
+    let b = planes-end f array final last shape end (scale-made f shape.made) 0 f.components
     (λ j c t. let start : 0 + j ≡ j = omega arith in subst (λ (n : ℕ). At n f.components c) (sym start) t) in
-    found-picture settings (reading final true h fi pl) f b.ours shape.lossy e b.ours_are
+    found-picture settings (reading final true end.held end.finished end.planes) f b.ours shape.lossy end.frame_is
+    b.ours_are
     ∙ (search (rules, picture-by-same))
-    ∙ sym (array-picture settings final array last f b.theirs e b.theirs_are)
+    ∙ sym (array-picture settings final array last f b.theirs end.frame_is b.theirs_are)
 
 pub rest-by : (settings : Settings) (found all : Found) (bytes rest : List ℕ)
     → segments_at false Elsewhere found None bytes ≡ Ok (all, rest)
@@ -285,19 +279,19 @@ unfolding meaning
 meaning-by settings bytes rest e = then-ok (start_at bytes) _ (tt, rest) _ e refl
 
 -- The meaning of a written stream is the picture of its array, cut at the levels that were sent.
-pub stream-means : (settings : Settings) (array : Coefficients) (tail bytes : List ℕ) (final : Found)
+pub stream-means : (settings : Settings) (array : Coefficients) (bytes rest : List ℕ) (final : Found)
     (last : ℕ → Levels)
-    → ((place row column : ℕ) → Is8Bit (array place row column)) → WritesStream array tail bytes final last
-    → meaning settings bytes
-    ≡ (picture_of_array settings final array last >>= (λ picture. Ok ((told_of final, picture), tail)))
-stream-means settings array tail bytes final last range w =
-    let r = stream-read array tail bytes final last range all-shaped w in
-    let end = r.whole.end in
-    let all = reading final true end.held end.finished end.planes in
-    meaning-by settings bytes r.rest r.starts
-    ∙ rest-by settings nothing_found all r.rest tail end.is
-    ∙ ap (λ (o : Result (List ℕ) Fault). o >>= (λ (picture : List ℕ). Ok ((told_of final, picture), tail)))
-    (search (rules, pictures-same))
+    → ((place row column : ℕ) → Is8Bit (array place row column)) → WritesImage array bytes final last
+    → meaning settings (bytes ++ rest)
+    ≡ (picture_of_array settings final array last >>= (λ picture. Ok ((told_of final, picture), rest)))
+stream-means settings array bytes rest final last range w =
+    let r = stream-read array rest bytes final last w in
+    let s = scans-read array rest final last _ _ range r.header in
+    let all = reading final true s.end.held s.end.finished s.end.planes in
+    meaning-by settings (bytes ++ rest) r.rest r.starts
+    ∙ rest-by settings nothing_found all r.rest rest s.is
+    ∙ ap (λ (o : Result (List ℕ) Fault). o >>= (λ (picture : List ℕ). Ok ((told_of final, picture), rest)))
+    (pictures-same settings r.header.frame array final last r.header.shape s.end)
 
 -- ---- there is a picture
 
@@ -339,23 +333,19 @@ within-limit a b x h = rw (le-ltb a b h) refl
 
 -- The picture of an array that is taken.
 pub pictures-taken : (settings : Settings) (array : Coefficients) (final : Found) (last : ℕ → Levels) (f : Frame)
-    (sources : List Source) → ((place row column : ℕ) → Is8Bit (array place row column))
-    → Shaped f → final.frame ≡ Some f → (h : Arrays) (fi : List (List Bool)) (pl : List (Option (List ℕ)))
-    → Framed final f array last true h fi pl → AllByRecursion (HasTable final) f.components
-    → (is_progressive f.process ≡ false
-    → AllByRecursion (λ k. IsComplete (last k)) (range_with_len 0 (length f.components)))
+    (sources : List Source) → Shaped f → Ended f array final last
     → sources_of f.components f.output_width f.output_height ≡ Ok sources → Takes settings final
     → (picture : List ℕ) × (picture_of_array settings final array last ≡ Ok picture)
-pictures-taken settings array final last f sources range shape e h fi pl framed tables complete is takes =
-    let same : takes.frame ≡ f = some-same takes.frame f (sym takes.is_said ∙ e) in
-    let b = planes-end f array final last h fi pl shape framed tables complete (scale-made f shape.made) 0 f.components
+pictures-taken settings array final last f sources shape end is takes =
+    let same : takes.frame ≡ f = some-same takes.frame f (sym takes.is_said ∙ end.frame_is) in
+    let b = planes-end f array final last shape end (scale-made f shape.made) 0 f.components
     (λ j c t. let start : 0 + j ≡ j = omega arith in subst (λ (n : ℕ). At n f.components c) (sym start) t) in
     let limit = subst (λ (g : Frame). length g.components * (g.output_width * g.output_height) ≤ settings.limit) same
     takes.limit in
     let picture = picture-there settings final f f.components b.ours b.theirs sources
     (subst (λ (g : Frame). HasTransform settings final g.components) same takes.transform) is b.alike in (
       picture.0,
-      array-picture settings final array last f b.theirs e b.theirs_are
+      array-picture settings final array last f b.theirs end.frame_is b.theirs_are
           ∙ within-limit settings.limit (length f.components * (f.output_width * f.output_height))
           (picture_by settings final.metadata f f.components b.theirs) limit
           ∙ picture.1,
@@ -365,28 +355,19 @@ pictures-taken settings array final last f sources range shape e h fi pl framed 
     some-same a b e = cc
 
 -- A written stream whose picture is taken means that picture.
-pub stream-taken : (settings : Settings) (array : Coefficients) (tail bytes : List ℕ) (final : Found)
-    (last : ℕ → Levels)
-    → ((place row column : ℕ) → Is8Bit (array place row column)) → WritesStream array tail bytes final last
+pub taken-means : (settings : Settings) (array : Coefficients) (bytes rest : List ℕ) (final : Found) (last : ℕ → Levels)
+    → ((place row column : ℕ) → Is8Bit (array place row column)) → WritesImage array bytes final last
     → Takes settings final
     → (picture : List ℕ) × (picture_of_array settings final array last ≡ Ok picture)
-stream-taken settings array tail bytes final last range w takes =
-    let r = stream-read array tail bytes final last range all-shaped w in
-    let f = r.whole.frame in
-    let end = r.whole.end in
-    let sources = accepted-sources f f r.whole.is_accepted in
-    pictures-taken settings array final last f sources.0 range r.whole.shape end.frame_is end.held end.finished
-    end.planes end.framed end.tables end.complete sources.1 takes
-
-pub taken-means : (settings : Settings) (array : Coefficients) (tail bytes : List ℕ) (final : Found) (last : ℕ → Levels)
-    → ((place row column : ℕ) → Is8Bit (array place row column)) → WritesStream array tail bytes final last
-    → Takes settings final
-    → (picture : List ℕ) × (picture_of_array settings final array last ≡ Ok picture)
-    × (meaning settings bytes ≡ Ok ((told_of final, picture), tail))
-taken-means settings array tail bytes final last range w takes =
-    let p = stream-taken settings array tail bytes final last range w takes in (
+    × (meaning settings (bytes ++ rest) ≡ Ok ((told_of final, picture), rest))
+taken-means settings array bytes rest final last range w takes =
+    let r = stream-read array rest bytes final last w in
+    let f = r.header.frame in
+    let s = scans-read array rest final last _ _ range r.header in
+    let sources = accepted-sources f f r.header.is_accepted in
+    let p = pictures-taken settings array final last f sources.0 r.header.shape s.end sources.1 takes in (
       p.0,
       p.1,
-      stream-means settings array tail bytes final last range w
+      stream-means settings array bytes rest final last range w
           ∙ then-ok (picture_of_array settings final array last) _ p.0 _ p.1 refl,
     )

@@ -7,7 +7,7 @@ use Rattle.jpeg_bits.specs.declared.error.Error.TheVariants as errors
 use Rattle.jpeg_streams.specs.DecodedImages.{at_size}
 use Rattle.jpeg_streams.specs.Found.{Found}
 use Rattle.jpeg_streams.specs.Stream.{header_at, rest_at}
-use Rattle.jpeg_streams.proofs.AcceptedTurns.{then-ok}
+use Rattle.jpeg_streams.proofs.ReadTurns.{then-ok}
 use Rattle.std.specs.Prelude.{IfErr, IsErrAnd}
 use Rattle.jpeg_bits.specs.declared.error.UnsupportedFeature.{UnsupportedFeature}
 use Rattle.zaxbriar.specs.Faults.{FailsBy, IsArgument, IsFault, IsUnsupported, OfStream}

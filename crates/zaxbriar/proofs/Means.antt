@@ -5,7 +5,7 @@ use Rattle.jpeg_streams.specs.DecodedImages.{Size, FullSize, AtLeast, at_size, H
 use Rattle.jpeg_streams.specs.Found.{Found}
 use Rattle.jpeg_streams.specs.States.{HeaderRead}
 use Rattle.jpeg_streams.specs.Stream.{Told, header_at, rest_at}
-use Rattle.jpeg_streams.proofs.AcceptedTurns.{then-ok}
+use Rattle.jpeg_streams.proofs.ReadTurns.{then-ok}
 use Rattle.zaxbriar.specs.Meanings.{settings_of, size_of, meaning_by}
 use Rattle.zaxbriar.specs.declared.options.Options.{Options}
 

@@ -1,7 +1,6 @@
 use Rattle.std.proofs.Common.{[], ◌∷◌, ◌++◌, false, true, refl}
 use Rattle.jpeg_streams.specs.Levels.{nothing_sent}
 use Rattle.jpeg_streams.specs.Found.{nothing_found}
-use Rattle.jpeg_streams.proofs.AcceptedImages.{image-accepted}
 use Rattle.jpeg_streams.proofs.WrittenParts.{front-append, front-closed}
 use Rattle.jpeg_streams.proofs.WrittenPictures.{stream-means}
 use Rattle.jpeg_decoder.proofs.headline.progressive_images_may_end_early.Goals as goal
@@ -18,7 +17,5 @@ returns-clause-closed c = front-closed
 
 pub returns-clause-pictured : goal.returns-clause-pictured
 returns-clause-pictured c = λ settings array front rest said levels frame range f framed progressive tables.
-    let image = 255 ∷ 216 ∷ (front ++ (255 ∷ 217 ∷ [])) in
-    stream-means settings array rest (image ++ rest) said levels range
-    (image-accepted array rest image said levels
-    (front-closed array front said levels frame f framed progressive tables))
+    stream-means settings array (255 ∷ 216 ∷ (front ++ (255 ∷ 217 ∷ []))) rest said levels range
+    (front-closed array front said levels frame f framed progressive tables)

@@ -1,0 +1,457 @@
+-- A turn of a written stream is read.
+use Rattle.std.proofs.Common.{rules, ◌≡◌, ◌≢◌, ℕ, zero, suc, ◌<◌, Bool, true, false, List, [], ◌∷◌, ◌++◌, map, length}
+use Rattle.std.proofs.Common.{drop, replicate, slice_index_or, is_some, option_map, Option, Some, None, Result, Ok, Err}
+use Rattle.std.proofs.Common.{refl, sym, ap, ◌∙◌, subst, arith, append_assoc, length-append}
+use Rattle.std.proofs.lemmas.Grind.{common_steps}
+use Rattle.std.specs.List.{AllByRecursion}
+use Rattle.jpeg_bits.specs.Reading.{Fault, Malformed, ◌>>=◌, skip_at}
+use Rattle.jpeg_bits.specs.Codes.{Table}
+use Rattle.jpeg_bits.specs.Marker.{marker_of, next_marker}
+use Rattle.jpeg_bits.specs.declared.marker.Marker.{Marker}
+use Rattle.jpeg_bits.specs.declared.marker.Marker.TheVariants.{EOI, SOF, SOS}
+use Rattle.jpeg_segments.specs.Frame.{Frame, sof_at}
+use Rattle.jpeg_segments.specs.ScanHeader.{Scan, sos_at}
+use Rattle.jpeg_segments.specs.HuffmanTables.{Tables, dht_at}
+use Rattle.jpeg_segments.specs.Quantization.{dqt_at}
+use Rattle.jpeg_segments.specs.Application.{app_at, dri_at}
+use Rattle.jpeg_segments.specs.ScanHeaders.{scan_payload}
+use Rattle.jpeg_segments.specs.WrittenSegments.{sized, Segment, Quantization, Huffman, Interval, Application, Comment}
+use Rattle.jpeg_segments.specs.WrittenSegments.{Header, FrameHeader, MayStand, code_of, frame_written, payload_of}
+use Rattle.jpeg_segments.proofs.Fields.{kept, not-refused, read-on, sized-read, skip-read}
+use Rattle.jpeg_segments.proofs.TableSegments.{dqt-read, dht-read}
+use Rattle.jpeg_segments.proofs.OtherSegments.{dri-read, app-read}
+use Rattle.jpeg_segments.proofs.HeaderSegments.{sof-read}
+use Rattle.jpeg_streams.specs.declared.before.Before.{Before}
+use Rattle.jpeg_streams.specs.declared.before.Before.TheVariants.{Elsewhere}
+use Rattle.jpeg_bits.specs.Passes.{Pass}
+use Rattle.jpeg_streams.specs.Scans.{Arrays}
+use Rattle.jpeg_streams.specs.Needed.{first_of, needed}
+use Rattle.jpeg_streams.specs.ScanSegments.{component_coding, needed_if, Coding, tables_of, after_restarts, after_scan}
+use Rattle.jpeg_streams.specs.ScanSegments.{scan_arrays, codings_of, codings_from, pass_of, scan_segment, scan_before}
+use Rattle.jpeg_streams.specs.ScanSegments.{scan_by, blocks_scan}
+use Rattle.jpeg_streams.specs.Segments.{onward, Turn, application_segment, restart_segment, huffman_segment}
+use Rattle.jpeg_streams.specs.Segments.{quantization_segment, skipped_segment, frame_segment, accepted}
+use Rattle.jpeg_streams.specs.Found.{Found}
+use Rattle.jpeg_streams.specs.SaidSegments.{Stands, found_after}
+use Rattle.jpeg_streams.specs.Stream.{segment_at, end_segment, turn_at, segments_within}
+use Rattle.jpeg_bits.specs.declared.codes.HuffmanTableClass.{HuffmanTableClass}
+use Rattle.jpeg_segments.specs.declared.parser.CodingProcess.{CodingProcess}
+use Rattle.jpeg_segments.specs.declared.parser.CodingProcess.TheVariants.{DctSequential, DctProgressive, Lossless}
+use Rattle.jpeg_streams.specs.WrittenScans.{Coefficients, InForce, IsCoding, AreCodings}
+use Rattle.jpeg_streams.specs.WrittenScans.AreCodings.{no_more, and_more}
+use Rattle.jpeg_streams.specs.WrittenImages.{Writes, closed, segment, scan}
+use Rattle.jpeg_streams.specs.Levels.{Levels}
+use Rattle.jpeg_bits.specs.Written.{marker}
+use Rattle.jpeg_lossless.specs.Written.{IsMarker}
+pub use Rattle.jpeg_segments.proofs.Codecs.{err-ok, ok-same, bind-ok}
+use Rattle.jpeg_streams.proofs.OwnSpots.{At}
+use Rattle.jpeg_streams.proofs.ReadStates.{reading}
+use Rattle.jpeg_streams.proofs.WrittenMarkers.{marker-append, marker_for, segment-marker}
+
+-- ---- the next marker
+
+next-one : (code : ℕ) (m : Marker) (rest : List ℕ) → IsMarker code m → next_marker (0xFF ∷ code ∷ rest) ≡ Ok (m, rest)
+unfolding next_marker
+next-one code m rest h = rw h.is refl
+
+next-fill : (rest : List ℕ) → next_marker (0xFF ∷ 0xFF ∷ rest) ≡ next_marker (0xFF ∷ rest)
+unfolding next_marker marker_of
+next-fill rest = refl
+
+pub next-marker : (fill code : ℕ) (m : Marker) (rest : List ℕ) → IsMarker code m
+    → next_marker (marker fill code rest) ≡ Ok (m, rest)
+next-marker zero code m rest h = next-one code m rest h
+next-marker (suc fill) code m rest h = next-fill (replicate fill 0xFF ++ code ∷ rest) ∙ next-marker fill code m rest h
+
+-- ---- steps
+
+pub then-ok : {A B : Type 0} (o : Result A Fault) (f : A → Result B Fault) (x : A) (y : Result B Fault) → o ≡ Ok x
+    → f x ≡ y → (o >>= f) ≡ y
+then-ok o f x y e g = ap (λ r. r >>= f) e ∙ g
+
+-- ---- segments
+
+pub turn-on : (turns : ℕ) (before : Before) (f : Found) (met : Option Marker) (all rest : List ℕ) (t : Turn)
+    → turn_at before f met all ≡ Ok (t, rest) → t.ended ≡ false
+    → segments_within (suc turns) false before f met all ≡ segments_within turns false t.before t.found t.met rest
+unfolding segments_within
+turn-on turns before f met all rest t e g = rw e (rw g refl)
+
+pub turn-end : (turns : ℕ) (before : Before) (f : Found) (met : Option Marker) (all rest : List ℕ) (t : Turn)
+    → turn_at before f met all ≡ Ok (t, rest) → t.ended ≡ true
+    → segments_within (suc turns) false before f met all ≡ Ok (t.found, rest)
+unfolding segments_within
+turn-end turns before f met all rest t e g = rw e (rw g refl)
+
+-- a frame whose header is met, where the header is wanted alone
+pub head-on : (turns : ℕ) (before : Before) (f : Found) (met : Option Marker) (all rest : List ℕ) (t : Turn)
+    → f.frame ≡ None → turn_at before f met all ≡ Ok (t, rest) → t.ended ≡ false
+    → segments_within (suc turns) true before f met all ≡ segments_within turns true t.before t.found t.met rest
+unfolding segments_within
+head-on turns before f met all rest t n e g = search (rules, is_some)
+
+pub head-end : (turns : ℕ) (before : Before) (f : Found) (met : Option Marker) (all : List ℕ) → 0 < turns
+    → is_some f.frame ≡ true → segments_within turns true before f met all ≡ Ok (f, all)
+unfolding segments_within
+head-end zero before f met all h e = absurd (omega arith)
+head-end (suc turns) before f met all h e = rw (e, segments_within) refl
+
+-- ---- the turn of a marker
+
+turn-next : (before : Before) (found : Found) (all rest : List ℕ) (m : Marker) → next_marker all ≡ Ok (m, rest)
+    → turn_at before found None all ≡ segment_at m before found rest
+unfolding turn_at
+turn-next before found all rest m e = rw e refl
+
+-- the turn of a marker and what stands after it
+pub marker-turn : (before : Before) (found : Found) (fill code : ℕ) (m : Marker) (rest : List ℕ)
+    → marker_of code ≡ Some m → turn_at before found None (marker fill code rest) ≡ segment_at m before found rest
+marker-turn before found fill code m rest h =
+    turn-next before found (marker fill code rest) rest m (next-marker fill code m rest (record { is = h }))
+
+met-turn : (before : Before) (found : Found) (m : Marker) (rest : List ℕ)
+    → turn_at before found (Some m) rest ≡ segment_at m before found rest
+unfolding turn_at
+met-turn before found m rest = refl
+
+-- A marker is met or stands next, and these are the bytes from it on.
+pub record StandsAt (met : Option Marker) (all bytes : List ℕ) : Type 0 where
+  pub turn : (before : Before) (found : Found) → turn_at before found met all ≡ turn_at before found None bytes
+
+pub stands-here : (bytes : List ℕ) → StandsAt None bytes bytes
+stands-here bytes = record { turn = λ before found. refl }
+
+pub stands-met : (fill code : ℕ) (m : Marker) (rest : List ℕ) → marker_of code ≡ Some m
+    → StandsAt (Some m) rest (marker fill code rest)
+stands-met fill code m rest h = record {
+  turn = λ before found. met-turn before found m rest
+      ∙ sym (marker-turn before found fill code m rest h);
+}
+
+pub end-turn : (before : Before) (found : Found) (rest : List ℕ) → is_some found.frame ≡ true
+    → segment_at EOI before found rest ≡ Ok (
+      record { found = found; before = Elsewhere; met = None; ended = true },
+      rest,
+    )
+unfolding segment_at end_segment
+end-turn before found rest some = kept (is_some found.frame) _ (Err Malformed) some
+
+pub scan-turn : (before : Before) (found : Found) (rest : List ℕ)
+    → segment_at SOS before found rest ≡ scan_segment found rest
+unfolding segment_at
+scan-turn before found rest = refl
+
+-- ---- what begins with a marker
+
+-- no marker of a restart
+abbrev pub IsEnd : Marker → Type 0
+IsEnd m = (turns : ℕ) (bytes : List ℕ) → after_restarts (suc turns) (Some m) bytes ≡ Ok (Some m, bytes)
+
+pub record Starts (bytes : List ℕ) : Type 0 where
+  pub fill : ℕ
+  pub code : ℕ
+  pub m : Marker
+  pub after : List ℕ
+  pub is : bytes ≡ marker fill code after
+  pub makes : marker_of code ≡ Some m
+  pub ends : IsEnd m
+
+segment-ends : (s : Segment) → IsEnd (marker_for s)
+unfolding after_restarts
+segment-ends (Quantization ts) = λ turns bytes. refl
+segment-ends (Huffman ts) = λ turns bytes. refl
+segment-ends (Interval n) = λ turns bytes. refl
+segment-ends (Application number payload) = λ turns bytes. refl
+segment-ends (Comment payload) = λ turns bytes. refl
+segment-ends (Header number h) = λ turns bytes. refl
+
+pub segment-starts : (frame : Option Frame) (fill : ℕ) (s : Segment) (more : List ℕ) → MayStand frame s
+    → Starts (marker fill (code_of s) (sized (payload_of s) ++ more))
+segment-starts frame fill s more may = record {
+  fill = fill;
+  code = code_of s;
+  m = marker_for s;
+  after = sized (payload_of s) ++ more;
+  is = refl;
+  makes = segment-marker frame s may;
+  ends = segment-ends s;
+}
+
+pub scan-starts : (fill : ℕ) (after : List ℕ) → Starts (marker fill 218 after)
+unfolding marker_of after_restarts
+scan-starts fill after =
+    record { fill = fill; code = 218; m = SOS; after = after; is = refl; makes = refl; ends = λ turns bytes. refl }
+
+pub end-starts : (fill : ℕ) (after : List ℕ) → Starts (marker fill 217 after)
+unfolding marker_of after_restarts
+end-starts fill after =
+    record { fill = fill; code = 217; m = EOI; after = after; is = refl; makes = refl; ends = λ turns bytes. refl }
+
+-- a marker and what is written after it, and the bytes after the end of the image
+pub segment-tail : (fill code : ℕ) (bytes more tail : List ℕ)
+    → marker fill code (bytes ++ more) ++ tail ≡ marker fill code (bytes ++ (more ++ tail))
+segment-tail fill code bytes more tail = search (rules, marker-append, append_assoc)
+
+pub scan-tail : (fill code : ℕ) (header bytes more tail : List ℕ)
+    → marker fill code (header ++ (bytes ++ more)) ++ tail ≡ marker fill code (header ++ (bytes ++ (more ++ tail)))
+scan-tail fill code header bytes more tail = search (rules, segment-tail, append_assoc)
+
+pub marker-longer : (fill code n : ℕ) (bytes more : List ℕ) → length (marker fill code (bytes ++ more)) < suc n
+    → length more < n
+marker-longer fill code n bytes more h =
+    omega (arith, h, length-append bytes more, length-append (replicate fill 255) (code ∷ (bytes ++ more)))
+
+pub scan-longer : (fill code n : ℕ) (header bytes more : List ℕ)
+    → length (marker fill code (header ++ (bytes ++ more))) < suc n → length more < n
+scan-longer fill code n header bytes more h =
+    omega (
+      arith,
+      h,
+      length-append bytes more,
+      length-append header (bytes ++ more),
+      length-append (replicate fill 255) (code ∷ (header ++ (bytes ++ more))),
+    )
+
+-- ---- segments other than a frame
+
+abbrev pub IsOther : Segment → Type 0
+IsOther (Header number h) = ⊥
+IsOther _ = Unit {0}
+
+-- such a segment is read, whatever was found before it
+pub segment-read : (before : Before) (found : Found) (s : Segment) (rest : List ℕ) → MayStand found.frame s → IsOther s
+    → segment_at (marker_for s) before found (sized (payload_of s) ++ rest) ≡ Ok (onward (found_after found s), rest)
+unfolding segment_at quantization_segment huffman_segment restart_segment application_segment skipped_segment
+segment-read before found (Quantization ts) rest may other =
+    read-on (dqt_at (sized (payload_of (Quantization ts)) ++ rest)) _ _ rest _ (dqt-read ts rest may) refl
+segment-read before found (Huffman ts) rest may other =
+    read-on (dht_at (option_map (λ (f : Frame). f.is_baseline) found.frame) (sized (payload_of (Huffman ts)) ++ rest)) _
+    _ rest _ (dht-read _ ts rest may) refl
+segment-read before found (Interval n) rest may other =
+    read-on (dri_at (sized (payload_of (Interval n)) ++ rest)) _ n rest _ (dri-read n rest) refl
+segment-read before found (Application number payload) rest may other =
+    read-on (app_at number (sized payload ++ rest)) _ _ rest _ (app-read number payload rest may) refl
+segment-read before found (Comment payload) rest may other =
+    sized-read payload rest _ ∙ read-on (skip_at (length payload) (payload ++ rest)) _ tt rest _
+    (skip-read payload rest) refl
+segment-read before found (Header number h) rest may other = absurd other
+
+-- a frame that is accepted is read, where none was
+pub frame-turn : (before : Before) (found : Found) (number : ℕ) (h : FrameHeader) (rest : List ℕ)
+    → MayStand found.frame (Header number h) → accepted (frame_written number h) ≡ Ok (frame_written number h)
+    → segment_at (SOF number) before found (sized (payload_of (Header number h)) ++ rest)
+    ≡ Ok (onward (found_after found (Header number h)), rest)
+unfolding segment_at frame_segment
+frame-turn before found number h rest may ok =
+    not-refused (is_some found.frame) _ _ (ap is_some may.0)
+    ∙ read-on (sof_at number (sized (payload_of (Header number h)) ++ rest)) _ (frame_written number h) rest _
+    (sof-read number h rest may.1)
+    (ap (λ (o : Result Frame Fault). o >>= λ (decoded : Frame).
+    Ok (onward (record found { frame = Some decoded }), rest)) ok)
+
+pub frame-stays : (said : Found) (s : Segment) → IsOther s → (found_after said s).frame ≡ said.frame
+frame-stays said (Quantization ts) other = refl
+frame-stays said (Huffman ts) other = refl
+frame-stays said (Interval n) other = refl
+frame-stays said (Application number payload) other = refl
+frame-stays said (Comment payload) other = refl
+frame-stays said (Header number h) other = absurd other
+
+-- a frame, or none
+pub frame-or : {P : Type 0} (s : Segment) → ((number : ℕ) (h : FrameHeader) → s ≡ Header number h → P)
+    → (IsOther s → P) → P
+frame-or (Quantization ts) f g = g tt
+frame-or (Huffman ts) f g = g tt
+frame-or (Interval n) f g = g tt
+frame-or (Application number payload) f g = g tt
+frame-or (Comment payload) f g = g tt
+frame-or (Header number h) f g = f number h refl
+
+pub some-none : {P : Type 0} (f : Frame) (o : Option Frame) → o ≡ Some f → o ≡ None → P
+some-none f o e g = absurd (let n : ⊥ = cc in n)
+
+-- after the frame stands no other
+pub is-other : (said : Found) (frame : Frame) (s : Segment) → said.frame ≡ Some frame → Stands said s → IsOther s
+is-other said frame s e may =
+    frame-or s (λ number h is. some-none frame said.frame e (subst (Stands said) is may).0.0) (λ other. other)
+
+pub same-frame : (a b : Frame) (o : Option Frame) → o ≡ Some a → o ≡ Some b → a ≡ b
+same-frame a b o e f = let s : ◌≡◌ {A = Option Frame} (Some a) (Some b) = sym e ∙ f in cc
+
+-- a frame that is said stays to the end
+pub frame-kept : (array : Coefficients) (said final : Found) (levels last : ℕ → Levels) (scanned : Bool)
+    (bytes : List ℕ) (f : Frame)
+    → Writes array said levels scanned bytes final last → said.frame ≡ Some f → final.frame ≡ Some f
+frame-kept array said final levels last scanned bytes f (closed said' levels' g fill framed tables complete) e = e
+frame-kept array said final levels last scanned bytes f
+    (segment said' final' levels' last' scanned' fill s more may dct follows w) e =
+    frame-kept array (found_after said s) final levels last scanned more f w
+    (frame-stays said s (is-other said f s e may) ∙ e)
+frame-kept array said final levels last scanned bytes f
+    (scan said' final' levels' last' scanned' g fill h codings data_bytes more framed is legal written w) e =
+    frame-kept array said final _ last true more f w e
+
+pub writes-starts : (array : Coefficients) (said final : Found) (levels last : ℕ → Levels) (scanned : Bool)
+    (bytes : List ℕ) → Writes array said levels scanned bytes final last → Starts bytes
+writes-starts array said final levels last scanned bytes (closed said' levels' f fill framed tables complete) =
+    end-starts fill []
+writes-starts array said final levels last scanned bytes
+    (segment said' final' levels' last' scanned' fill s more may dct follows w) =
+    segment-starts said.frame fill s more may.0
+writes-starts array said final levels last scanned bytes
+    (scan said' final' levels' last' scanned' f fill h codings data_bytes more framed is legal written w) =
+    scan-starts fill (sized (scan_payload h) ++ (data_bytes ++ more))
+
+-- ---- the tables of a scan
+
+pub needed-some : {A : Type 0} (o : Option A) (x : A) → needed o ≡ Ok x → o ≡ Some x
+needed-some None x e = search rules
+needed-some (Some y) x e = cc
+
+first-drop : {A : Type 0} (n : ℕ) (xs : List A) (x : A) → first_of (drop n xs) ≡ Some x → At n xs x
+first-drop n [] x e = grind (arith, common_steps)
+first-drop zero (y ∷ xs) x e = cc
+first-drop (suc n) (y ∷ xs) x e = first-drop n xs x e
+
+-- a coding is of a component of the frame, with its quantization table
+pub record CodingFacts (w : Found) (frame : Frame) (k : Coding) : Type 0 where
+  pub at : At k.place frame.components k.component
+  pub table : slice_index_or w.quantization k.component.factors.quantization None ≡ Some k.quantization
+
+in-force-back : (b : Bool) (class : HuffmanTableClass) (tables : List (Option Table)) (place : ℕ) (table : Table)
+    → needed_if b class (slice_index_or tables place None) ≡ Ok table → InForce b class tables place table
+in-force-back true class tables place table e = needed-some (slice_index_or tables place None) table e
+in-force-back false class tables place table e = sym (ok-same _ table e)
+
+coding-back : (w : Found) (frame : Frame) (p : Pass) (tables : Tables) (place d a : ℕ) (k : Coding)
+    → component_coding w frame p tables place d a ≡ Ok k → IsCoding w frame p tables place d a k
+unfolding component_coding
+coding-back w frame p tables place d a k e = search (rules, bind-ok, ok-same, needed-some, in-force-back)
+
+pub codings-back : (w : Found) (frame : Frame) (p : Pass) (tables : Tables) (places ds ks : List ℕ)
+    (codings : List Coding) → length ds ≡ length places → length ks ≡ length places
+    → codings_from w frame p tables places ds ks ≡ Ok codings → AreCodings w frame p tables places ds ks codings
+unfolding codings_from
+codings-back w frame p tables [] [] [] codings h g e =
+    subst (AreCodings w frame p tables [] [] []) (ok-same [] codings e) no_more
+codings-back w frame p tables [] (d ∷ ds) ks codings h g e = absurd (omega arith)
+codings-back w frame p tables [] [] (a ∷ ks) codings h g e = absurd (omega arith)
+codings-back w frame p tables (x ∷ places) [] ks codings h g e = absurd (omega arith)
+codings-back w frame p tables (x ∷ places) (d ∷ ds) [] codings h g e = absurd (omega arith)
+codings-back w frame p tables (x ∷ places) (d ∷ ds) (a ∷ ks) codings h g e =
+    let one = bind-ok (component_coding w frame p tables x d a) _ codings e in
+    let more = bind-ok (codings_from w frame p tables places ds ks) _ codings one.2 in
+    subst (AreCodings w frame p tables (x ∷ places) (d ∷ ds) (a ∷ ks)) (ok-same (one.0 ∷ more.0) codings more.2)
+    (and_more x d a places ds ks one.0 more.0 (coding-back w frame p tables x d a one.0 one.1)
+    (codings-back w frame p tables places ds ks more.0 (omega arith) (omega arith) more.1))
+
+-- the facts of codings
+abbrev AllFacts : Found → Frame → List ℕ → List Coding → Type 0
+AllFacts w frame places codings =
+    (length codings ≡ length places) × AllByRecursion (CodingFacts w frame) codings
+    × (map (λ c. c.place) codings ≡ places)
+
+codings-so : (w : Found) (frame : Frame) (p : Pass) (tables : Tables) (places ds ks : List ℕ) (codings : List Coding)
+    → AreCodings w frame p tables places ds ks codings → AllFacts w frame places codings
+codings-so w frame p tables places ds ks codings no_more = (refl, tt, refl)
+codings-so w frame p tables places ds ks codings (and_more place d a places' ds' ks' k more h r) =
+    search (rules, first-drop, codings-so w frame p tables places' ds' ks' more r)
+
+pub codings-facts_from : (w : Found) (frame : Frame) (p : Pass) (tables : Tables) (places ds ks : List ℕ)
+    (codings : List Coding) → length ds ≡ length places → length ks ≡ length places
+    → codings_from w frame p tables places ds ks ≡ Ok codings → AllFacts w frame places codings
+codings-facts_from w frame p tables places ds ks codings h g e =
+    codings-so w frame p tables places ds ks codings (codings-back w frame p tables places ds ks codings h g e)
+
+pub codings-by : (w : Found) (frame : Frame) (s : Scan)
+    → codings_of w frame s ≡ codings_from w frame (pass_of s) (tables_of w s) s.components s.dc_places s.ac_places
+unfolding codings_of
+codings-by w frame s = refl
+
+pub codings-facts : (w : Found) (frame : Frame) (s : Scan) (codings : List Coding)
+    → length s.dc_places ≡ length s.components → length s.ac_places ≡ length s.components
+    → codings_of w frame s ≡ Ok codings
+    → (length codings ≡ length s.components) × AllByRecursion (CodingFacts w frame) codings
+    × (map (λ c. c.place) codings ≡ s.components)
+codings-facts w frame s codings h g e =
+    codings-facts_from w frame (pass_of s) (tables_of w s) s.components s.dc_places s.ac_places codings h g
+    (sym (codings-by w frame s) ∙ e)
+
+-- ---- the tables in force
+
+in-force : (b : Bool) (class : HuffmanTableClass) (tables : List (Option Table)) (place : ℕ) (table : Table)
+    → InForce b class tables place table → needed_if b class (slice_index_or tables place None) ≡ Ok table
+in-force true class tables place table e = ap needed e
+in-force false class tables place table e = ap (λ (t : Table). Ok t) (sym e)
+
+coding-read : (w : Found) (frame : Frame) (p : Pass) (tables : Tables) (place d a : ℕ) (k : Coding)
+    → IsCoding w frame p tables place d a k → component_coding w frame p tables place d a ≡ Ok k
+unfolding component_coding
+coding-read w frame p tables place d a k h = search (rules, then-ok, in-force)
+
+codings-read_from : (w : Found) (frame : Frame) (p : Pass) (tables : Tables) (places ds ks : List ℕ)
+    (codings : List Coding) → AreCodings w frame p tables places ds ks codings
+    → codings_from w frame p tables places ds ks ≡ Ok codings
+unfolding codings_from
+codings-read_from w frame p tables places ds ks codings no_more = refl
+codings-read_from w frame p tables places ds ks codings (and_more place d a places' ds' ks' k more h r) =
+    search (rules, then-ok, coding-read, codings-read_from w frame p tables places' ds' ks' more r)
+
+pub codings-read : (w : Found) (frame : Frame) (s : Scan) (codings : List Coding)
+    → AreCodings w frame (pass_of s) (tables_of w s) s.components s.dc_places s.ac_places codings
+    → codings_of w frame s ≡ Ok codings
+codings-read w frame s codings h = search (rules, codings-by, codings-read_from)
+
+-- what scans have brought doesn't change them
+coding-same : (w : Found) (sc : Bool) (h : Arrays) (fi : List (List Bool)) (pl : List (Option (List ℕ)))
+    (frame : Frame) (p : Pass) (tables : Tables) (place d a : ℕ)
+    → component_coding (reading w sc h fi pl) frame p tables place d a ≡ component_coding w frame p tables place d a
+unfolding component_coding
+coding-same w sc h fi pl frame p tables place d a = refl
+
+pub codings-same_from : (w : Found) (sc : Bool) (h : Arrays) (fi : List (List Bool)) (pl : List (Option (List ℕ)))
+    (frame : Frame) (p : Pass) (tables : Tables) (places ds ks : List ℕ)
+    → codings_from (reading w sc h fi pl) frame p tables places ds ks ≡ codings_from w frame p tables places ds ks
+unfolding codings_from
+codings-same_from w sc h fi pl frame p tables [] ds ks = refl
+codings-same_from w sc h fi pl frame p tables (x ∷ places) [] ks = refl
+codings-same_from w sc h fi pl frame p tables (x ∷ places) (d ∷ ds) [] = refl
+codings-same_from w sc h fi pl frame p tables (x ∷ places) (d ∷ ds) (a ∷ ks) =
+    rw (codings-same_from w sc h fi pl frame p tables places ds ks, coding-same w sc h fi pl frame p tables x d a) refl
+
+pub tables-same : (w : Found) (sc : Bool) (h : Arrays) (fi : List (List Bool)) (pl : List (Option (List ℕ))) (s : Scan)
+    → tables_of (reading w sc h fi pl) s ≡ tables_of w s
+unfolding tables_of
+tables-same w sc h fi pl s = refl
+
+pub codings-same : (w : Found) (sc : Bool) (h : Arrays) (fi : List (List Bool)) (pl : List (Option (List ℕ)))
+    (frame : Frame) (s : Scan)
+    → codings_of (reading w sc h fi pl) frame s ≡ codings_of w frame s
+codings-same w sc h fi pl frame s = search (rules, codings-by, tables-same, codings-same_from)
+
+-- ---- a scan
+
+blocks-by : (p : CodingProcess) → p ≢ Lossless → (found : Found) (frame : Frame) (s : Scan) (bytes : List ℕ)
+    → scan_by p found frame s bytes ≡ blocks_scan found frame s bytes
+blocks-by DctSequential h found frame s bytes = refl
+blocks-by DctProgressive h found frame s bytes = refl
+blocks-by Lossless h found frame s bytes = absurd (h refl)
+
+pub scan-by : (found : Found) (frame : Frame) (s : Scan) (codings : List Coding) (arrays : Arrays) (m : Marker)
+    (bytes data_bytes more : List ℕ) → frame.process ≢ Lossless
+    → found.frame ≡ Some frame → sos_at frame bytes ≡ Ok (s, data_bytes) → codings_of found frame s ≡ Ok codings
+    → scan_arrays found frame s codings data_bytes ≡ Ok ((arrays, Some m), more)
+    → after_restarts (suc (length more)) (Some m) more ≡ Ok (Some m, more)
+    → scan_segment found bytes
+    ≡ Ok (
+      record {
+        found = after_scan found frame s codings arrays;
+        before = scan_before found;
+        met = Some m;
+        ended =
+            false;
+      },
+      more,
+    )
+unfolding scan_segment blocks_scan
+scan-by found frame s codings arrays m bytes data_bytes more n a b c d e = search (rules, then-ok, blocks-by)
