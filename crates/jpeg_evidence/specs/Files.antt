@@ -1,7 +1,8 @@
 -- A file that cjpeg of libjpeg-turbo 2.1.5 wrote (quality 75, 4:2:0, 17 by 13 pixels, the Huffman
 -- tables of T.81, K.3 to K.6), what jpegtran -progressive made of it, and the picture that the
 -- original crate gives of both.
-use Rattle.std.specs.Prelude.{ℕ, true, List, [], ◌∷◌, ◌++◌, drop, Option, Some, None, Result, Ok, Err}
+use Rattle.std.specs.Prelude.{ℕ, true, List, [], ◌∷◌, ◌++◌, drop, set, Option, Some, None, Result, Ok}
+use Rattle.std.specs.Prelude.{Err}
 use Rattle.std.specs.List.{flat_map}
 use Rattle.jpeg_bits.specs.Codes.{Table}
 use Rattle.jpeg_bits.specs.Reading.{Fault}
@@ -160,6 +161,10 @@ lossless_file =
     246 ∷ 151 ∷ 215 ∷ 29 ∷ 46 ∷ 75 ∷ 229 ∷ 201 ∷ 177 ∷ 151 ∷ 37 ∷ 146 ∷ 228 ∷ 188 ∷ 92 ∷ 151 ∷
     11 ∷ 147 ∷ 35 ∷ 174 ∷ 88 ∷ 75 ∷ 152 ∷ 241 ∷ 115 ∷ 29 ∷ 46 ∷ 99 ∷ 197 ∷ 204 ∷ 176 ∷ 23 ∷ 49 ∷
     242 ∷ 230 ∷ 127 ∷ 255 ∷ 255 ∷ 217 ∷ []
+
+-- the same with its Huffman table at index 1: Td is 1 in the scan header, and Ta is 0
+abbrev pub file_of_table_1 : List ℕ
+file_of_table_1 = set (set (set (set lossless_file 25 1) 55 16) 57 16) 59 16
 
 abbrev pub samples_of_file : List ℕ
 samples_of_file =

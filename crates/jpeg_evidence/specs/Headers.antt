@@ -1,8 +1,10 @@
 -- Parts of headers and of bits, for the laws.
-use Rattle.std.specs.Prelude.{ℕ, List, [], ◌∷◌, ◌++◌, codes, replicate, true}
+use Rattle.std.specs.Prelude.{ℕ, List, [], ◌∷◌, ◌++◌, codes, replicate, Bool, true, false}
+use Rattle.jpeg_bits.specs.Codes.{Table}
 use Rattle.jpeg_bits.specs.Entropy.{Broken, Text}
 use Rattle.jpeg_bits.specs.Reading.{End}
 use Rattle.jpeg_bits.specs.Readers.{text}
+use Rattle.jpeg_bits.specs.declared.codes.HuffmanTableClass.TheVariants.{AC}
 use Rattle.jpeg_segments.specs.Frame.{Frame, frame_of}
 use Rattle.jpeg_streams.specs.Worked.{factors_by}
 
@@ -20,6 +22,17 @@ abbrev pub adobe_segment : ℕ → List ℕ
 adobe_segment transform =
     0 ∷ 14 ∷ (codes "Adobe" ++ 0 ∷ 100 ∷ 128 ∷ 0 ∷ 0 ∷ 0 ∷ transform ∷ [])
 
--- some bits of 1 that are the last
+-- some bits that are the last
+abbrev pub last_bits : List Bool → Text
+last_bits bits = text bits [] (Broken End)
+
 abbrev pub ones : ℕ → Text
-ones n = text (replicate n true) [] (Broken End)
+ones n = last_bits (replicate n true)
+
+-- a table with the codes 0 of symbol F0 and 10 of symbol 01
+abbrev pub table_of_f0 : Table
+table_of_f0 = record { class = AC; counts = 1 ∷ 1 ∷ replicate 14 0; symbols = 240 ∷ 1 ∷ [] }
+
+-- a code of symbol F0, one of symbol 01, and a bit that makes its number 1
+abbrev pub f0_and_one : Text
+f0_and_one = last_bits (false ∷ true ∷ false ∷ true ∷ [])

@@ -4,22 +4,29 @@
 #![tactic(auto)]
 
 ghost use Rattle.std.specs.Prelude.{◌≡◌, ◌-ℤ◌, ℕ, suc, true, false, pos, negsuc, neg_ℤ, Ok, Err};
+ghost use Rattle.std.specs.Prelude.{◌+◌, ◌*◌};
 ghost use Rattle.std.specs.Prelude.{Some, None, [], ◌∷◌, ◌++◌, map, replicate, codes};
-ghost use Rattle.jpeg_bits.specs.Bands.{token_at};
+ghost use Rattle.std.specs.List.{range_with_len};
+ghost use Rattle.jpeg_bits.specs.Bands.{first_ac, token_at};
 ghost use Rattle.jpeg_bits.specs.Codes.{all_below};
 ghost use Rattle.jpeg_bits.specs.DefaultTables.{luminance_dc, chrominance_dc};
 ghost use Rattle.jpeg_bits.specs.DefaultTables.{luminance_ac, chrominance_ac};
 ghost use Rattle.jpeg_bits.specs.Reading.{Malformed};
-ghost use Rattle.jpeg_bits.specs.Refinement.{fits_i16};
+ghost use Rattle.jpeg_bits.specs.Refinement.{fits_i16, refined_ac};
 ghost use Rattle.jpeg_bits.specs.Zigzag.{zigzag};
 ghost use Rattle.jpeg_bits.specs.declared.color_transform.ColorTransform.TheVariants as transforms;
 ghost use Rattle.jpeg_bits.specs.declared.scan.Predictor.TheVariants as selections;
 ghost use Rattle.jpeg_bits.specs.declared.tokens.Token.TheVariants as tokens;
+ghost use Rattle.jpeg_lossless.specs.Prediction.{line_below};
+ghost use Rattle.jpeg_pixels.specs.Planes.{plane_of};
+ghost use Rattle.jpeg_pixels.specs.Upsampling.{upsampled};
+ghost use Rattle.jpeg_pixels.specs.declared.upsampler.UpsampleRule.TheVariants as rules;
 ghost use Rattle.jpeg_segments.specs.Application.{Adobe, Jfif, Avi1, Icc, Exif, Xmp, Psir, app_at};
 ghost use Rattle.jpeg_segments.specs.Frame.{coding_of, is_differential_number, is_factor};
 ghost use Rattle.jpeg_segments.specs.Frame.{is_precision, process_of};
 ghost use Rattle.jpeg_segments.specs.HuffmanTables.{greatest_place};
 ghost use Rattle.jpeg_segments.specs.Quantization.{value_at};
+ghost use Rattle.jpeg_segments.specs.Scales.{scale_for};
 ghost use Rattle.jpeg_segments.specs.ScanHeader.{band_at, is_progressive_band, predictor_by, scan_of};
 ghost use Rattle.jpeg_segments.specs.declared.parser.AdobeColorTransform.TheVariants as adobe;
 ghost use Rattle.jpeg_segments.specs.declared.parser.CodingProcess.TheVariants as processes;
@@ -28,9 +35,11 @@ ghost use Rattle.jpeg_streams.specs.ColourChoice.{by_identifiers};
 ghost use Rattle.jpeg_streams.specs.Segments.{is_decoded_count, is_decoded_precision};
 ghost use Rattle.jpeg_streams.specs.Worked.{picture_meant};
 ghost use Rattle.jpeg_evidence.specs.Cosines.{adds, are_entries, cosine, is_positive, unit};
-ghost use Rattle.jpeg_evidence.specs.Files.{lossless_file, picture_of_files, progressive_file};
-ghost use Rattle.jpeg_evidence.specs.Files.{samples_of_file, sequential_file, tables_at};
-ghost use Rattle.jpeg_evidence.specs.Headers.{adobe_segment, frame_numbers, grey_frame, ones};
+ghost use Rattle.jpeg_evidence.specs.Files.{file_of_table_1, lossless_file, picture_of_files};
+ghost use Rattle.jpeg_evidence.specs.Files.{progressive_file, samples_of_file, sequential_file};
+ghost use Rattle.jpeg_evidence.specs.Files.{tables_at};
+ghost use Rattle.jpeg_evidence.specs.Headers.{adobe_segment, f0_and_one, frame_numbers, grey_frame};
+ghost use Rattle.jpeg_evidence.specs.Headers.{ones, table_of_f0};
 ghost use Rattle.jpeg_evidence.specs.Walks.{at, walk};
 
 /// The zigzag order is the walk over a block's diagonals of T.81, Figure A.6.
@@ -64,6 +73,12 @@ pub fn files_mean_their_picture()
 /// A lossless file of `dcmcjpeg` means the samples that it was given.
 pub fn lossless_file_means_its_samples()
     ensures { picture_meant lossless_file ≡ Ok samples_of_file }
+{}
+
+/// The table of a lossless scan's component is that of Td, not of Ta (T.81, B.2.3): with the table and
+/// Td at 1, the file means the same.
+pub fn lossless_tables_are_by_td()
+    ensures { picture_meant file_of_table_1 ≡ Ok samples_of_file }
 {}
 
 /// The default Huffman tables of MJPEG frames are the four that `cjpeg` writes into its file.
@@ -152,4 +167,59 @@ pub fn numbers_end()
         ≡ true ∷ false ∷ true ∷ false ∷ [] }
     ensures taken { token_at 1 1 1 7 (ones 9) ≡ Ok (tokens.Overlong, ones 2) }
     ensures left { token_at 1 2 1 7 (ones 9) ≡ Ok (tokens.Overlong, ones 9) }
+{}
+
+/// A symbol F0 stands for sixteen zeros, in a first pass over a band and in a refinement (T.81,
+/// F.1.2.2.1 and G.1.2.3).
+pub fn sixteen_zeros_are_run()
+    ensures first { first_ac table_of_f0 0 17 (replicate 17 (pos 0)) f0_and_one
+        ≡ Ok ((replicate 16 (pos 0) ++ pos 1 ∷ [], 0), ones 0) }
+    ensures refined { refined_ac table_of_f0 0 17 (replicate 17 (pos 0)) f0_and_one
+        ≡ Ok ((replicate 16 (pos 0) ++ pos 1 ∷ [], 0), ones 0) }
+{}
+
+/// The sums of a column are rounded to the nearest, at full and at half size, and a sample at an
+/// eighth is rounded down (own to the decoder: T.81, A.3.3, leaves the accuracy open). Each of the
+/// first two blocks has a sum that ends in one half.
+pub fn sums_are_rounded()
+    ensures full { plane_of 8 (replicate 64 1) 1 1
+        (λ row column. pos 3 ∷ (replicate 7 (pos 0) ++ pos 96 ∷ replicate 55 (pos 0)))
+        ≡ replicate 8 145 ++ (replicate 8 143 ++ (replicate 8 138 ++ (replicate 8 132
+        ++ (replicate 8 125 ++ (replicate 8 119 ++ (replicate 8 114 ++ replicate 8 112)))))) }
+    ensures half { plane_of 4 (replicate 64 1) 1 1
+        (λ row column. pos 0 ∷ (replicate 7 (pos 0) ++ pos 67 ∷ (replicate 15 (pos 0)
+        ++ pos 8 ∷ replicate 39 (pos 0))))
+        ≡ replicate 4 140 ++ (replicate 4 131 ++ (replicate 4 125 ++ replicate 4 117)) }
+    ensures eighth { plane_of 1 (replicate 64 1) 1 1
+        (λ row column. pos 4 ∷ replicate 63 (pos 0)) ≡ 128 ∷ [] }
+{}
+
+/// A lossless sample's prediction by three others has the sample above and to the left in its own
+/// column (T.81, H.1.2.1).
+pub fn lines_are_predicted()
+    ensures corner { line_below selections.Rc 128 (10 ∷ 20 ∷ 40 ∷ 80 ∷ []) (1 ∷ 2 ∷ 3 ∷ 4 ∷ [])
+        ≡ 11 ∷ 12 ∷ 23 ∷ 44 ∷ [] }
+    ensures plane { line_below selections.RaRbRc1 128 (10 ∷ 20 ∷ 40 ∷ 80 ∷ [])
+        (1 ∷ 2 ∷ 3 ∷ 4 ∷ []) ≡ 11 ∷ 23 ∷ 46 ∷ 90 ∷ [] }
+    ensures left_slope { line_below selections.RaRbRc2 128 (10 ∷ 20 ∷ 40 ∷ 80 ∷ [])
+        (1 ∷ 2 ∷ 3 ∷ 4 ∷ []) ≡ 11 ∷ 18 ∷ 31 ∷ 55 ∷ [] }
+    ensures above_slope { line_below selections.RaRbRc3 128 (10 ∷ 20 ∷ 40 ∷ 80 ∷ [])
+        (1 ∷ 2 ∷ 3 ∷ 4 ∷ []) ≡ 11 ∷ 22 ∷ 44 ∷ 86 ∷ [] }
+{}
+
+/// A component with half the columns and a quarter of the lines is repeated twice across and four
+/// times down (own to the decoder: T.81, A.1.1, only says how many samples there are).
+pub fn samples_are_repeated()
+    ensures across { map (λ x. upsampled (rules.Generic 2 4) (λ i j. 10 * j + i) 2 2 x 5)
+        (range_with_len 0 4) ≡ 10 ∷ 10 ∷ 11 ∷ 11 ∷ [] }
+    ensures down { map (λ row. upsampled (rules.Generic 2 4) (λ i j. 10 * j + i) 2 2 3 row)
+        (range_with_len 0 8) ≡ 1 ∷ 1 ∷ 1 ∷ 1 ∷ 11 ∷ 11 ∷ 11 ∷ 11 ∷ [] }
+{}
+
+/// A scale is large enough where the picture is as wide as is asked for, or as high (own to the
+/// decoder).
+pub fn either_side_is_enough()
+    ensures width { scale_for 500 333 63 333 ≡ 1 }
+    ensures height { scale_for 500 333 500 42 ≡ 1 }
+    ensures neither { scale_for 500 333 64 43 ≡ 2 }
 {}
