@@ -75,8 +75,8 @@ pub fn lossless_file_means_its_samples()
     ensures { picture_meant lossless_file ≡ Ok samples_of_file }
 {}
 
-/// The table of a lossless scan's component is that of Td, not of Ta (T.81, B.2.3): with the table and
-/// Td at 1, the file means the same.
+/// The table of a lossless scan's component is that of Td, not of Ta (T.81, B.2.3): with the table
+/// and Td at 1, the file means the same.
 pub fn lossless_tables_are_by_td()
     ensures { picture_meant file_of_table_1 ≡ Ok samples_of_file }
 {}
