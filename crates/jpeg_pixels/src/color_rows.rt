@@ -165,8 +165,8 @@ fn interleave_four(rows: &FourRows<'_>, count: usize, output: &mut [u8], start: 
 }
 
 // Red, green and blue of some pixels from `start` on, by rows of 64.
-#[inline(never)]
-fn write_ycbcr_piece(y: &[u8], cb: &[u8], cr: &[u8], start: usize, count: usize, output: &mut [u8])
+#[inline(always)]
+fn write_ycbcr_rows(y: &[u8], cb: &[u8], cr: &[u8], start: usize, count: usize, output: &mut [u8])
     requires most { count ≤ 64 }
     requires y_room { start + count ≤ length y.now }
     requires cb_room { start + count ≤ length cb.now }
@@ -190,6 +190,33 @@ fn write_ycbcr_piece(y: &[u8], cb: &[u8], cr: &[u8], start: usize, count: usize,
     green_row(y, cb, cr, start, count, &mut green);
     blue_row(y, cb, start, count, &mut blue);
     interleave_three(&red, &green, &blue, count, output, start);
+}
+
+// The same. Most pieces have 64 pixels: where the compiler knows their number, it unrolls the loops
+// over the rows, and keeps these in registers.
+#[inline(never)]
+fn write_ycbcr_piece(y: &[u8], cb: &[u8], cr: &[u8], start: usize, count: usize, output: &mut [u8])
+    requires most { count ≤ 64 }
+    requires y_room { start + count ≤ length y.now }
+    requires cb_room { start + count ≤ length cb.now }
+    requires cr_room { start + count ≤ length cr.now }
+    requires room { 3 * (start + count) ≤ length output.old }
+    ensures red { (x : ℕ) → x < count → slice_index output.new (3 * (start + x))
+        ≡ red_of (slice_index y.now (start + x)) (slice_index cr.now (start + x)) }
+    ensures green { (x : ℕ) → x < count → slice_index output.new (3 * (start + x) + 1) ≡ green_of
+        (slice_index y.now (start + x)) (slice_index cb.now (start + x))
+        (slice_index cr.now (start + x)) }
+    ensures blue { (x : ℕ) → x < count → slice_index output.new (3 * (start + x) + 2)
+        ≡ blue_of (slice_index y.now (start + x)) (slice_index cb.now (start + x)) }
+    ensures before { (i : ℕ) → i < 3 * start → slice_index output.new i ≡ slice_index output.old i }
+    ensures after { (i : ℕ) → 3 * (start + count) ≤ i → slice_index output.new i
+        ≡ slice_index output.old i }
+{
+    if count == 64 {
+        write_ycbcr_rows(y, cb, cr, start, 64, output);
+    } else {
+        write_ycbcr_rows(y, cb, cr, start, count, output);
+    }
 }
 
 /// Writes red, green and blue of pixels by their brightness and two colour differences, in chunks
