@@ -1,7 +1,7 @@
 -- The planes of a sequential scan are the strips of its rows of MCUs, one after the other.
 use Rattle.std.proofs.Common.{◌≡◌, ℕ, zero, suc, ◌+◌, ◌*◌, List, [], ◌∷◌, ◌++◌, map, take, drop, length, Option, Result}
 use Rattle.std.proofs.Common.{Ok, Err, refl, sym, ap, ap₂, ◌∙◌, append_assoc, append-nil, arith, add-mul, suc-mul}
-use Rattle.std.proofs.Common.{mul_assoc, length-take, length-drop, take-append-drop}
+use Rattle.std.proofs.Common.{mul_assoc, length-append, length-take, length-drop, take-append-drop}
 use Rattle.std.proofs.lemmas.List.FromFn.{length-map-range_with_len}
 use Rattle.std.specs.List.{AllByRecursion}
 use Rattle.jpeg_bits.specs.Reading as reading
@@ -37,10 +37,6 @@ front-long wide k ys e = let n = suc-mul k wide in let t = length-take (k * wide
 back-long : (wide k : ℕ) (ys : List Block) → length ys ≡ suc k * wide → length (drop (k * wide) ys) ≡ wide
 back-long wide k ys e = let n = suc-mul k wide in let d = length-drop (k * wide) ys in omega arith
 
-length-both : (xs ys : List Block) → length (xs ++ ys) ≡ length xs + length ys
-length-both [] ys = omega arith
-length-both (x ∷ xs) ys = let r = length-both xs ys in omega arith
-
 pub plane-joined : (s : ℕ) (table : List ℕ) (wide n k : ℕ) (xs ys : List Block) → length xs ≡ n * wide → length ys
     ≡ k * wide
     → plane_of s table wide (n + k) (in_raster wide (xs ++ ys))
@@ -58,7 +54,7 @@ plane-joined s table wide n (suc k) xs ys e f =
     let fl = front-long wide k ys f in
     let rl = back-long wide k ys f in
     let long : length (xs ++ front) ≡
-    (n + k) * wide = let l = length-both xs front in let m = add-mul n k wide in omega arith in
+    (n + k) * wide = let l = length-append xs front in let m = add-mul n k wide in omega arith in
     let above = plane_of s table wide n (in_raster wide xs) in
     let middle = plane_of s table wide k (in_raster wide front) in
     let last = strip_of s table (map ordered row) in

@@ -1,5 +1,5 @@
 -- A call that answers the meaning of what its source has left decodes images.
-use Rattle.std.proofs.Common.{◌≡◌, ℕ, suc, length, List, ◌++◌, true, Result, Ok, Err, is_ok, refl, sym, ap, ◌∙◌}
+use Rattle.std.proofs.Common.{◌≡◌, ℕ, List, ◌++◌, true, Result, Ok, Err, is_ok, refl, sym, ap, ◌∙◌}
 use Rattle.std.proofs.lemmas.Bool.{false≢true}
 use Rattle.std.specs.Prelude.{MatchResult}
 use Rattle.jpeg_bits.specs.Reading.{Outcome, Fault, Answers, Names}
@@ -11,13 +11,13 @@ use Rattle.jpeg_streams.specs.DecodedImages.{AtLeast, DecodesImages, FailsOutsid
 use Rattle.jpeg_streams.specs.DecodedImages.{at_size}
 use Rattle.jpeg_streams.specs.Levels.{Is8Bit, Levels}
 use Rattle.jpeg_streams.specs.States.{Decoding, Failed, Finished, Fresh, HeaderRead, IsReading, Stage, ahead}
-use Rattle.jpeg_streams.specs.Stream.{Told, header_at, meaning, rest_at, segments_at, sized_meaning, start_at, told_of}
-use Rattle.jpeg_streams.specs.Found.{nothing_found, Found}
+use Rattle.jpeg_streams.specs.Stream.{Told, header_at, meaning, rest_at, sized_meaning, told_of}
+use Rattle.jpeg_streams.specs.Found.{Found}
 use Rattle.jpeg_streams.specs.WrittenImages.{WritesImage}
 use Rattle.jpeg_streams.specs.WrittenScans.{Coefficients}
 use Rattle.jpeg_streams.specs.declared.settings.Settings.{Settings}
-use Rattle.jpeg_streams.proofs.ReadTurns.{then-ok}
-use Rattle.jpeg_decoder.proofs.Headers.{bind-ok, header-rest}
+use Rattle.jpeg_streams.proofs.ReadTurns.{ok-same, then-ok}
+use Rattle.jpeg_decoder.proofs.HeaderThenRest.{header-means}
 use Rattle.jpeg_streams.proofs.SizedStreams.{sized-taken}
 use Rattle.jpeg_streams.proofs.WrittenPictures.{taken-means}
 
@@ -36,13 +36,6 @@ abbrev pub means_at : Size → Settings → List ℕ → Outcome (Told × List �
 means_at FullSize settings bytes = meaning settings bytes
 means_at (AtLeast width height) settings bytes = sized_meaning width height settings bytes
 
-header-begins : (settings : Settings) (found : Found) (bytes rest : List ℕ) → header_at bytes ≡ Ok (found, rest)
-    → meaning settings bytes ≡ rest_at settings found rest
-unfolding header_at meaning rest_at segments_at
-header-begins settings found bytes rest e =
-    bind-ok (start_at bytes) _ (found, rest) e (λ start is e1.
-    rw (is, header-rest (suc (length start.1)) nothing_found found start.1 rest e1) refl)
-
 sized-begins : (width height : ℕ) (settings : Settings) (found : Found) (bytes rest : List ℕ)
     → header_at bytes ≡ Ok (found, rest)
     → sized_meaning width height settings bytes ≡ rest_at settings (at_size (AtLeast width height) found) rest
@@ -52,7 +45,7 @@ sized-begins width height settings found bytes rest e = then-ok (header_at bytes
 rest-begins : (size : Size) (settings : Settings) (found : Found) (bytes rest : List ℕ)
     → header_at bytes ≡ Ok (found, rest)
     → means_at size settings bytes ≡ rest_at settings (at_size size found) rest
-rest-begins FullSize settings found bytes rest e = header-begins settings found bytes rest e
+rest-begins FullSize settings found bytes rest e = header-means settings found bytes rest e
 rest-begins (AtLeast width height) settings found bytes rest e = sized-begins width height settings found bytes rest e
 
 pub left-means : (size : Size) (settings : Settings) (bytes : List ℕ) (stage : Stage) (found : Found) (left : List ℕ)
@@ -66,14 +59,6 @@ left-means size settings bytes Finished found left o h e = absurd h
 left-means size settings bytes Failed found left o h e = absurd h
 
 -- ---- what is given
-
-value_or : {Y : Type 0} → Y → Result Y Fault → Y
-value_or d (Ok y) = y
-value_or d (Err f) = d
-
-same-value : {Y : Type 0} (x y : Y) → ◌≡◌ {A = Result Y Fault} (Ok x) (Ok y) → x ≡ y
-unfolding value_or
-same-value x y e = ap (value_or x) e
 
 no-refusal : {P Y : Type 0} (o : Result Y Fault) (y : Y) (f : Fault) → o ≡ Ok y → o ≡ Err f → P
 no-refusal o y f e h = absurd (false≢true (ap is_ok (sym h ∙ e)))
@@ -94,7 +79,7 @@ pub gives : {X : Type 0} (bytes_of : X → List ℕ) (o : Result (List ℕ) Faul
     → MatchResult result (λ x. Gives o rest final (bytes_of x) new) (λ e. FailsOutside e new.source)
 gives bytes_of o picture rest final new read old (Ok x) answers is means known =
     let all = answers.1 known in
-    let same = same-value ((told_of new.found, bytes_of x), new.source.bytes) ((told_of final, picture), rest)
+    let same = ok-same ((told_of new.found, bytes_of x), new.source.bytes) ((told_of final, picture), rest)
     (sym all.1 ∙ means) in
     record {
       pixels = is ∙ ap (λ (p : List ℕ). Ok p) (sym (ap (λ y. y.0.1) same));

@@ -2,14 +2,14 @@
 use Rattle.std.proofs.Common.{◌≡◌, ◌++◌, ℕ, List, Result, Ok, Err, true, false, refl, sym, ap, ◌∙◌, subst, length, take}
 use Rattle.std.proofs.lemmas.Bool.{false≢true}
 use Rattle.std.proofs.Math.Seq.{take-append_seam}
-use Rattle.jpeg_bits.specs.Reading.{Answers, Fault, IsGivenUp, MayFail, Names, Outcome}
+use Rattle.jpeg_bits.specs.Reading.{Answers, MayFail, Names, Outcome}
 use Rattle.jpeg_bits.specs.Stream.{Stream}
 use Rattle.jpeg_bits.specs.declared.error.Error.{Error}
 use Rattle.jpeg_bits.specs.declared.error.Error.TheVariants as errors
 use Rattle.jpeg_streams.specs.declared.settings.Settings.{Settings}
 use Rattle.jpeg_streams.specs.Found.{Found}
 use Rattle.jpeg_streams.specs.Reported.{IsOfTurns, told_by_stream, told_in_turns, told_rest}
-use Rattle.jpeg_streams.specs.States.{Failed, Finished, Fresh, HeaderRead, IfRefused, IsReading, MovesToEnd, OnTold}
+use Rattle.jpeg_streams.specs.States.{Failed, Finished, Fresh, HeaderRead, IfRefused, IsReading, OnTold}
 use Rattle.jpeg_streams.specs.States.{Decoding, MovesToHeader, Stage, ahead, told_ahead, turns_ahead}
 use Rattle.jpeg_streams.specs.Stream.{Told, header_at, rest_at, told_of}
 use Rattle.jpeg_streams.proofs.Refusals.{told-err}
@@ -156,8 +156,11 @@ pub record IsBegun (old mid : Decoding) : Type 0 where
   pub still : (old.stage ≡ Fresh → ⊥) → mid ≡ old
   pub settings : mid.settings ≡ old.settings
 
-pub begun-seen : (old mid seen : Decoding) → seen ≡ mid → IsBegun old mid → IsBegun old seen
-begun-seen old mid seen e b = subst (λ (d : Decoding). IsBegun old d) (sym e) b
+pub begun-seen : (old mid seen : Decoding) → seen ≡ mid
+    → (old.stage ≡ Fresh → Answers (λ (u : Unit {0}). mid.found) header_at old.source (Ok tt) mid.source)
+    → ((old.stage ≡ Fresh → ⊥) → mid ≡ old) → mid.settings ≡ old.settings → IsBegun old seen
+begun-seen old mid seen e fresh still settings =
+    subst (λ (d : Decoding). IsBegun old d) (sym e) (record { fresh = fresh; still = still; settings = settings })
 
 has-begun : (old mid : Decoding) → IsBegun old mid → HasBegun old.stage old.found mid.found old.source mid.source
 has-begun old mid b = record {

@@ -9,12 +9,10 @@ use Rattle.std.proofs.lemmas.Bool.{eqb-true}
 use Rattle.std.specs.declared.alloc.Global.{Global}
 use Rattle.std.specs.declared.vec.Vec.{Vec}
 use Rattle.std.proofs.Math.Bool.{cond}
-use Rattle.std.proofs.lemmas.List.{append_assoc, append-nil, drop_more, drop-set-lt, drop-drop, get_or-drop, get_or-map}
+use Rattle.std.proofs.lemmas.List.{append_assoc, append-nil, drop_more, drop-set-lt, get_or-drop, get_or-map}
 use Rattle.std.proofs.lemmas.List.{length-drop, length-map, map-set}
 use Rattle.jpeg_bits.specs.Passes.{Block}
-use Rattle.jpeg_bits.specs.Reading.{Fault, Malformed, Names, ◌>>=◌}
-use Rattle.jpeg_bits.specs.declared.error.Error.{Error}
-use Rattle.jpeg_bits.proofs.Loops.{Names-through}
+use Rattle.jpeg_bits.specs.Reading.{Fault, Malformed, ◌>>=◌}
 use Rattle.jpeg_segments.specs.Frame.{Frame, Component}
 use Rattle.jpeg_segments.specs.Scales.{component_at, frame_at, is_scale}
 use Rattle.jpeg_pixels.specs.Pictures.{AreWhole}
@@ -29,6 +27,7 @@ use Rattle.jpeg_streams.specs.Needed.{needed}
 use Rattle.jpeg_streams.specs.FoundPictures.{planes_from, plane_at_end}
 use Rattle.jpeg_streams.specs.ScanSegments.{plane_by, arrays_before}
 use Rattle.jpeg_streams.specs.Found.{Found}
+use Rattle.jpeg_decoder.proofs.ReadLists.{and_others}
 
 -- ---- what is left after some places
 
@@ -55,10 +54,6 @@ same-at xs ys i d e =
     ∙ (ap (λ (l : List _). get_or l 0 d) e ∙ get_or-drop i ys 0 d) in
     subst (λ (k : ℕ). get_or xs k d ≡ get_or ys k d) n a
 
-pub same-next : {A : Type 0} (xs ys : List A) (i : ℕ) → drop i xs ≡ drop i ys → drop (i + 1) xs ≡ drop (i + 1) ys
-same-next xs ys i e =
-    sym (drop-drop 1 i xs) ∙ (ap (drop 1) e ∙ drop-drop 1 i ys)
-
 pub same-within : {A : Type 0} (xs ys : List A) (i : ℕ) → drop i xs ≡ drop i ys → i < length ys → i < length xs
 same-within xs ys i e h = omega (arith, length-drop i xs, length-drop i ys, ap length e)
 
@@ -66,9 +61,6 @@ same-within xs ys i e h = omega (arith, length-drop i xs, length-drop i ys, ap l
 pub mapped-or : {A B : Type 0} (f : A → B) (xs : List A) (i : ℕ) (x d : A) (e : B) → i < length xs → x ≡ get_or xs i d
     → f x ≡ get_or (map f xs) i e
 mapped-or f xs i x d e h is = ap f is ∙ sym (get_or-map f xs i d e h)
-
-pub mapped-within : {A B : Type 0} (f : A → B) (xs : List A) (i : ℕ) → i < length xs → i < length (map f xs)
-mapped-within f xs i h = omega (arith, length-map xs f, h)
 
 pub none-left : {A B : Type 0} (f : A → B) (xs : List A) (i : ℕ) → length xs ≤ i → drop i (map f xs) ≡ []
 none-left f xs i h = drop_of_length-le (map f xs) (omega (arith, length-map xs f, h))
@@ -99,47 +91,23 @@ at-end found frame place c = go (slice_index_or found.planes place None) (is_hel
 
 -- ---- in turn
 
-abbrev pub others-after : List (List ℕ) → List (List ℕ) → Result (List (List ℕ)) Fault
-others-after front others = Ok (front ++ others)
+left-at : (cs : List Component) (place : ℕ) (c : Component) → place < length cs → c ≡ get_or cs place c
+    → drop place cs ≡ c ∷ drop (place + 1) cs
+left-at cs place c h e = drop_more cs place c h ∙ ap (λ (x : Component). x ∷ drop (place + 1) cs) (sym e)
 
-pub planes-more : (found : Found) (frame : Frame) (place : ℕ) (c : Component) (more : List Component)
-    (front : List (List ℕ)) (plane : List ℕ) (whole : Result (List (List ℕ)) Fault)
-    → whole ≡ (planes_from found frame place (c ∷ more) >>= others-after front)
-    → plane_at_end found frame place c ≡ Ok plane
-    → whole ≡ (planes_from found frame (place + 1) more >>= others-after (front ++ plane ∷ []))
+-- a component, and those after it
+pub planes-after : (found : Found) (frame : Frame) (place : ℕ) (c : Component) → place < length frame.components
+    → c ≡ get_or frame.components place c
+    → planes_from found frame place (drop place frame.components)
+    ≡ and_others (plane_at_end found frame place c)
+    (planes_from found frame (place + 1) (drop (place + 1) frame.components))
 unfolding planes_from
-planes-more found frame place c more front plane whole e h =
-    e ∙ go (plane_at_end found frame place c) (planes_from found frame (place + 1) more) h
-  where
-    go : (o : Result (List ℕ) Fault) (r : Result (List (List ℕ)) Fault) → o ≡ Ok plane
-        → (o >>= (λ (p : List ℕ). r >>= (λ (others : List (List ℕ)). Ok (p ∷ others))) >>= others-after front)
-        ≡ (r >>= others-after (front ++ plane ∷ []))
-    go (Err fault) r k = absurd (let n : ⊥ = cc in n)
-    go (Ok p) (Err fault) k = refl
-    go (Ok p) (Ok others) k =
-        let same : p ≡ plane = cc in
-        rw (same) (ap (λ (l : List (List ℕ)). Ok l) (sym (append_assoc front (plane ∷ []) others)))
+planes-after found frame place c h e = ap (planes_from found frame place) (left-at frame.components place c h e)
 
-pub planes-failed : (found : Found) (frame : Frame) (place : ℕ) (c : Component) (more : List Component)
-    (front : List (List ℕ)) (error : Error) (whole : Result (List (List ℕ)) Fault)
-    → whole ≡ (planes_from found frame place (c ∷ more) >>= others-after front)
-    → Names error (plane_at_end found frame place c) → Names error whole
+pub no-planes : (found : Found) (frame : Frame) (place : ℕ) → drop place frame.components ≡ []
+    → planes_from found frame place (drop place frame.components) ≡ Ok []
 unfolding planes_from
-planes-failed found frame place c more front error whole e n =
-    Names-through error (plane_at_end found frame place c) whole
-    (λ f h. e ∙ go (plane_at_end found frame place c) (planes_from found frame (place + 1) more) f h) n
-  where
-    go : (o : Result (List ℕ) Fault) (r : Result (List (List ℕ)) Fault) (f : Fault) → o ≡ Err f
-        → (o >>= (λ (p : List ℕ). r >>= (λ (others : List (List ℕ)). Ok (p ∷ others))) >>= others-after front) ≡ Err f
-    go (Ok p) r f k = absurd (let n : ⊥ = cc in n)
-    go (Err fault) r f k = cc
-
-pub planes-all : (found : Found) (frame : Frame) (place : ℕ) (left : List Component) (front : List (List ℕ))
-    (whole : Result (List (List ℕ)) Fault) → left ≡ []
-    → whole ≡ (planes_from found frame place left >>= others-after front) → whole ≡ Ok front
-unfolding planes_from
-planes-all found frame place left front whole n e =
-    e ∙ (rw (n, planes_from) (ap (λ (l : List (List ℕ)). Ok l) (append-nil front)))
+no-planes found frame place e = ap (planes_from found frame place) e
 
 -- ---- all blocks
 
@@ -303,37 +271,8 @@ reached-scale found frame place c s f h e =
     subst (λ (x : Component). IsScale x.scale) (sym e) (element (λ x. IsScale x.scale) frame.components place c
     (decoded-scales frame (s.frames frame f)) h)
 
-pub failed-there : (found : Found) (frame : Frame) (place : ℕ) (c : Component) (front : List (List ℕ)) (error : Error)
-    (o : Result (List ℕ) Fault) (whole : Result (List (List ℕ)) Fault) → place < length frame.components
-    → c ≡ get_or frame.components place c
-    → whole ≡ (planes_from found frame place (drop place frame.components) >>= others-after front)
-    → plane_at_end found frame place c ≡ o → Names error o → Names error whole
-failed-there found frame place c front error o whole h e given is n =
-    let left : drop place frame.components ≡ c ∷ drop (place + 1) frame.components =
-    drop_more frame.components place c h ∙ ap (λ (x : Component). x ∷ drop (place + 1) frame.components) (sym e) in
-    planes-failed found frame place c (drop (place + 1) frame.components) front error whole
-    (given ∙ ap (λ (l : List Component). planes_from found frame place l >>= others-after front) left)
-    (subst (λ (r : Result (List ℕ) Fault). Names error r) (sym is) n)
-
-pub more-there : (found : Found) (frame : Frame) (place : ℕ) (c : Component) (front new : List (List ℕ))
-    (plane : List ℕ)
-    (o : Result (List ℕ) Fault) (whole : Result (List (List ℕ)) Fault) → place < length frame.components
-    → c ≡ get_or frame.components place c
-    → whole ≡ (planes_from found frame place (drop place frame.components) >>= others-after front)
-    → plane_at_end found frame place c ≡ o → o ≡ Ok plane → new ≡ front ++ plane ∷ []
-    → whole ≡ (planes_from found frame (place + 1) (drop (place + 1) frame.components) >>= others-after new)
-more-there found frame place c front new plane o whole h e given is ok joined =
-    let left : drop place frame.components ≡ c ∷ drop (place + 1) frame.components =
-    drop_more frame.components place c h ∙ ap (λ (x : Component). x ∷ drop (place + 1) frame.components) (sym e) in
-    planes-more found frame place c (drop (place + 1) frame.components) front plane whole
-    (given ∙ ap (λ (l : List Component). planes_from found frame place l >>= others-after front) left) (is ∙ ok)
-    ∙ ap (λ (l : List (List ℕ)). planes_from found frame (place + 1) (drop (place + 1) frame.components)
-    >>= others-after l) (sym joined)
-
 pub whole-there : (cs : List Component) (place : ℕ) (c : Component) (front new : List (List ℕ)) (plane : List ℕ)
     → place < length cs → c ≡ get_or cs place c → AreWholeWith cs place front → IsPlaneOf c (Some plane)
     → new ≡ front ++ plane ∷ [] → AreWholeWith cs (place + 1) new
 whole-there cs place c front new plane h e old l joined =
-    let left : drop place cs ≡ c ∷ drop (place + 1) cs =
-    drop_more cs place c h ∙ ap (λ (x : Component). x ∷ drop (place + 1) cs) (sym e) in
-    subst (AreWholeWith cs (place + 1)) (sym joined) (whole-more cs place c front plane old left l)
+    subst (AreWholeWith cs (place + 1)) (sym joined) (whole-more cs place c front plane old (left-at cs place c h e) l)

@@ -1,10 +1,8 @@
 -- A stream whose header is read, and then the rest of it.
-use Rattle.std.proofs.Common.{◌≡◌, ◌+◌, ◌<◌, ℕ, zero, suc, List, Result, Ok, Err, Bool, true, false, Option, Some, None}
-use Rattle.std.proofs.Common.{refl, sym, ap, ◌∙◌, length, arith, subst}
+use Rattle.std.proofs.Common.{◌≡◌, ◌+◌, ◌<◌, ℕ, zero, suc, List, Ok, Err, Bool, true, false, Option, None}
+use Rattle.std.proofs.Common.{refl, sym, ap, ◌∙◌, length, arith}
 use Rattle.std.specs.Prelude.{◌&&◌, is_some}
-use Rattle.jpeg_bits.specs.Reading.{Answers, Fault, Outcome, ◌>>=◌}
-use Rattle.jpeg_bits.specs.Stream.{Stream}
-use Rattle.jpeg_bits.specs.declared.error.Error.{Error}
+use Rattle.jpeg_bits.specs.Reading.{Fault, Outcome, ◌>>=◌}
 use Rattle.jpeg_bits.specs.declared.marker.Marker.{Marker}
 use Rattle.jpeg_streams.specs.declared.before.Before.{Before}
 use Rattle.jpeg_streams.specs.declared.before.Before.TheVariants.{Elsewhere}
@@ -168,10 +166,6 @@ within-ended n header before found met bytes rest t p e q = rw (p, q, e) refl
 
 abbrev IsSaid : Before → Found → Option Marker → List ℕ → Found → Type 0
 IsSaid before found met bytes told = (m : ℕ) × (told ≡ told_within m false before found met bytes)
-
-said-now : (before : Before) (found : Found) (met : Option Marker) (bytes : List ℕ)
-    → IsSaid before found met bytes found
-said-now before found met bytes = (0, sym (within-none false before found met bytes))
 
 said-turn : (n : ℕ) (before : Before) (found : Found) (met : Option Marker) (bytes : List ℕ) (t : Turn × List ℕ)
     → is_some found.frame ≡ false → turn_at before found met bytes ≡ Ok t

@@ -1,10 +1,10 @@
 -- Blocks that are held, as they are read and put back.
-use Rattle.std.proofs.Common.{◌≡◌, ℕ, zero, suc, ◌+◌, ◌<◌, List, [], ◌∷◌, map, length, get_or, set, ℤ, pos, Ok, Err}
+use Rattle.std.proofs.Common.{◌≡◌, ℕ, zero, suc, ◌+◌, ◌<◌, List, [], ◌∷◌, length, get_or, set, ℤ, pos, Ok, Err}
 use Rattle.std.proofs.Common.{refl, sym, ap, ◌∙◌, arith, length-set}
 use Rattle.std.specs.declared.alloc.Global.{Global}
 use Rattle.std.specs.declared.vec.Vec.{Vec}
 use Rattle.std.specs.Vec.{with_item}
-use Rattle.std.proofs.lemmas.List.{map-set}
+use Rattle.std.proofs.lemmas.List.{get_or-map, map-set}
 use Rattle.jpeg_bits.specs.Reading.{Fault}
 use Rattle.jpeg_bits.specs.Entropy.{Text}
 use Rattle.jpeg_bits.specs.Readers.{Reads, gives, read_on}
@@ -22,12 +22,6 @@ Held = Vec (List ℤ) Global
 abbrev pub spot : ℕ → ℕ → Spot
 spot slot index = record { slot = slot; index = index }
 
-pub get-map : {A B : Type 0} (f : A → B) (l : List A) (i : ℕ) (d : A) (e : B) → i < length l
-    → get_or (map f l) i e ≡ f (get_or l i d)
-get-map f [] i d e h = absurd (omega arith)
-get-map f (x ∷ l) zero d e h = refl
-get-map f (x ∷ l) (suc i) d e h = get-map f l i d e (omega arith)
-
 pub sizes-set : (vs : List Held) (slot index : ℕ) (v : Held) (x : List ℤ) → v ≡ get_or vs slot v
     → sizes_of (set vs slot (with_item v index x)) ≡ sizes_of vs
 sizes-set [] slot index v x e = refl
@@ -41,7 +35,7 @@ sizes-long (v ∷ vs) = ap (λ (n : ℕ). suc n) (sizes-long vs)
 
 pub size-at : (vs : List Held) (slot : ℕ) (v : Held) → slot < length (sizes_of vs) → v ≡ get_or vs slot v
     → get_or (sizes_of vs) slot 0 ≡ length v.items
-size-at vs slot v h e = get-map (λ (u : Held). length u.items) vs slot v 0 (omega (arith, sizes-long vs))
+size-at vs slot v h e = get_or-map (λ (u : Held). length u.items) vs slot v 0 (omega (arith, sizes-long vs))
     ∙ ap (λ (u : Held). length u.items) (sym e)
 
 arrays-set : (vs : List Held) (slot index : ℕ) (v : Held) (x : List ℤ) → slot < length vs → v ≡ get_or vs slot v
@@ -49,14 +43,14 @@ arrays-set : (vs : List Held) (slot index : ℕ) (v : Held) (x : List ℤ) → s
 arrays-set vs slot index v x h e =
     map-set blocks_in vs slot (with_item v index x)
     ∙ ap (λ (l : List Block). set (arrays_in vs) slot l) (map-set to_block v.items index x
-    ∙ ap (λ (l : List Block). set l index (to_block x)) (ap blocks_in e ∙ sym (get-map blocks_in vs slot v [] h)))
+    ∙ ap (λ (l : List Block). set l index (to_block x)) (ap blocks_in e ∙ sym (get_or-map blocks_in vs slot v [] h)))
 
 block-held : (vs : List Held) (slot index : ℕ) (v : Held) (x : List ℤ) → slot < length vs → v ≡ get_or vs slot v
     → index < length v.items → x ≡ get_or v.items index x
     → block_at (arrays_in vs) (spot slot index) ≡ to_block x
 block-held vs slot index v x h e i f =
-    ap (λ (l : List Block). get_or l index zero_block) (get-map blocks_in vs slot v [] h ∙ sym (ap blocks_in e))
-    ∙ get-map to_block v.items index x zero_block i ∙ sym (ap to_block f)
+    ap (λ (l : List Block). get_or l index zero_block) (get_or-map blocks_in vs slot v [] h ∙ sym (ap blocks_in e))
+    ∙ get_or-map to_block v.items index x zero_block i ∙ sym (ap to_block f)
 
 abbrev pub via_of : ℕ → Coded → Via
 via_of slot c = record { component = slot; dc = c.dc.now; ac = c.ac.now }

@@ -1,4 +1,5 @@
 pub mod Callers
+pub mod ReadLists
 pub mod PassedRestarts
 pub mod Turns
 pub mod Headers

@@ -21,16 +21,12 @@ use Rattle.jpeg_streams.specs.SaidSegments.{found_after}
 use Rattle.jpeg_streams.proofs.LosslessFrames.{IsShaped}
 use Rattle.jpeg_streams.proofs.LosslessSizes.{IsMade, made-reaches, some-across, some-down}
 use Rattle.jpeg_streams.proofs.PaddingUnseen.{drop-next, mapped-same}
+use Rattle.jpeg_streams.proofs.OwnSpots.{all-append}
 use Rattle.jpeg_decoder.proofs.WrittenLosslessStreams.{IsSaid, all-in, drawn, final-framed, nothing-said, samples-meant}
 use Rattle.jpeg_decoder.proofs.WrittenLosslessStreams.{samples-sized, segment-said, some-same}
 use Rattle.jpeg_decoder.proofs.WrittenSamples.{HasSize, SizedAt, places_of, planes_for, scan-sized}
 
 -- ---- sizes
-
-all-append : {A : Type 0} (P : A → Type 0) (xs ys : List A) → AllByRecursion P xs → AllByRecursion P ys
-    → AllByRecursion P (xs ++ ys)
-all-append P [] ys h g = g
-all-append P (x ∷ xs) ys h g = (h.0, all-append P xs ys h.1 g)
 
 sent-sized : (samples : Samples) (frame : Frame) (said : Found) (sent bytes : List ℕ) (final : Found)
     → Writes samples said sent bytes final → IsSaid said → final.frame ≡ Some frame

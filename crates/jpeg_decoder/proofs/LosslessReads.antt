@@ -7,10 +7,10 @@ use Rattle.std.specs.declared.alloc.Global.{Global}
 use Rattle.std.specs.declared.vec.Vec.{Vec}
 use Rattle.std.proofs.lemmas.List.{length-map, map-set}
 use Rattle.std.specs.List.{AllByRecursion}
-use Rattle.std.proofs.lemmas.List.{append_assoc, append-nil, drop_all, drop_more}
+use Rattle.std.proofs.lemmas.List.{append_assoc, append-nil, drop-set-lt, drop_all, drop_more}
 use Rattle.std.proofs.lemmas.List.Elements.{All-from_recursion, recursion_from_All}
 use Rattle.jpeg_bits.specs.Codes.{Table}
-use Rattle.jpeg_bits.specs.Reading.{Answers, Fault, Malformed, Names, Outcome, ◌>>=◌}
+use Rattle.jpeg_bits.specs.Reading.{Answers, Fault, Names, Outcome, ◌>>=◌}
 use Rattle.jpeg_bits.specs.Stream.{Stream}
 use Rattle.jpeg_bits.specs.declared.error.Error.{Error}
 use Rattle.jpeg_bits.specs.declared.marker.Marker.{Marker}
@@ -39,10 +39,11 @@ use Rattle.jpeg_decoder.specs.Steps.{IsRefusal, after_all, samples_read, with_de
 use Rattle.jpeg_streams.specs.FoundPictures.{samples_picture}
 use Rattle.jpeg_streams.specs.ScanSegments.{after_samples, scan_samples, arrays_before}
 use Rattle.jpeg_streams.specs.Found.{Found}
-use Rattle.jpeg_streams.proofs.ReadTurns.{bind-ok, ok-same, then-ok}
+use Rattle.jpeg_streams.proofs.ReadTurns.{bind-ok, needed-some, ok-same, then-ok}
 use Rattle.jpeg_streams.proofs.LosslessSizes.{IsMade, across-some, all-at, all-covered, decoded-made, down-some}
 use Rattle.jpeg_decoder.specs.Seen.{planes_in}
-use Rattle.jpeg_decoder.proofs.PutLoops.{drop-set, seen-at}
+use Rattle.jpeg_decoder.proofs.PutLoops.{seen-at}
+use Rattle.jpeg_decoder.proofs.ReadLists.{and_others}
 use Rattle.jpeg_decoder.proofs.ScanReads.{HasRead, last-step}
 use Rattle.jpeg_streams.proofs.Soundness.{count-few, decoded-count, decoded-some}
 use Rattle.std.proofs.lemmas.Bool.Decides.{nat_tests}
@@ -50,65 +51,20 @@ use Rattle.jpeg_bits.specs.declared.error.Error.TheVariants.{OutOfMemory}
 
 -- ---- tables, slot after slot
 
-abbrev pub tables-after : List Table → List Table → Result (List Table) Fault
-tables-after front others = Ok (front ++ others)
-
-tables-more : (ts : List (Option Table)) (d : ℕ) (more : List ℕ) (front : List Table) (table : Table)
-    → slice_index_or ts d None ≡ Some table
-    → (tables_in ts (d ∷ more) >>= tables-after front) ≡ (tables_in ts more >>= tables-after (front ++ table ∷ []))
-unfolding tables_in
-tables-more ts d more front table e =
-    go (slice_index_or ts d None) (tables_in ts more) e
-  where
-    go : (o : Option Table) (r : Result (List Table) Fault) → o ≡ Some table
-        → (needed o >>= (λ (t : Table). r >>= (λ (others : List Table). Ok (t ∷ others))) >>= tables-after front)
-        ≡ (r >>= tables-after (front ++ table ∷ []))
-    go None r k = absurd (let n : ⊥ = cc in n)
-    go (Some t) (Err fault) k = refl
-    go (Some t) (Ok others) k =
-        let same : t ≡ table = cc in
-        rw same (ap (λ (l : List Table). Ok l) (sym (append_assoc front (table ∷ []) others)))
-
-tables-failed : (ts : List (Option Table)) (d : ℕ) (more : List ℕ) (front : List Table) (f : Fault)
-    → needed (slice_index_or ts d None) ≡ Err f → (tables_in ts (d ∷ more) >>= tables-after front) ≡ Err f
-unfolding tables_in
-tables-failed ts d more front f e = go (needed (slice_index_or ts d None)) (tables_in ts more) e
-  where
-    go : (o : Result Table Fault) (r : Result (List Table) Fault) → o ≡ Err f
-        → (o >>= (λ (t : Table). r >>= (λ (others : List Table). Ok (t ∷ others))) >>= tables-after front) ≡ Err f
-    go (Ok t) r k = absurd (let n : ⊥ = cc in n)
-    go (Err fault) r k = cc
-
 dropped : (ds : List ℕ) (slot d : ℕ) → slot < length ds → d ≡ get_or ds slot d → drop slot ds ≡ d ∷ drop (slot + 1) ds
 dropped ds slot d h e = drop_more ds slot d h ∙ ap (λ (x : ℕ). x ∷ drop (slot + 1) ds) (sym e)
 
--- a slot more
-pub tables-there : (ts : List (Option Table)) (ds : List ℕ) (slot d : ℕ) (front new : List Table) (table : Table)
-    (whole : Result (List Table) Fault) → slot < length ds → d ≡ get_or ds slot d
-    → slice_index_or ts d None ≡ Some table → new ≡ front ++ table ∷ []
-    → whole ≡ (tables_in ts (drop slot ds) >>= tables-after front)
-    → whole ≡ (tables_in ts (drop (slot + 1) ds) >>= tables-after new)
-tables-there ts ds slot d front new table whole h e is joined w =
-    w ∙ ap (λ (l : List ℕ). tables_in ts l >>= tables-after front) (dropped ds slot d h e)
-    ∙ tables-more ts d (drop (slot + 1) ds) front table is
-    ∙ ap (λ (l : List Table). tables_in ts (drop (slot + 1) ds) >>= tables-after l) (sym joined)
-
--- a slot without a table
-pub tables-lacking : (ts : List (Option Table)) (ds : List ℕ) (slot d : ℕ) (front : List Table)
-    (whole : Result (List Table) Fault) → slot < length ds → d ≡ get_or ds slot d
-    → slice_index_or ts d None ≡ None → whole ≡ (tables_in ts (drop slot ds) >>= tables-after front)
-    → whole ≡ Err Malformed
-tables-lacking ts ds slot d front whole h is none w =
-    w ∙ ap (λ (l : List ℕ). tables_in ts l >>= tables-after front) (dropped ds slot d h is)
-    ∙ tables-failed ts d (drop (slot + 1) ds) front Malformed (ap needed none)
-
--- all slots
-pub tables-all : (ts : List (Option Table)) (ds : List ℕ) (slot : ℕ) (front : List Table)
-    (whole : Result (List Table) Fault)
-    → length ds ≤ slot → whole ≡ (tables_in ts (drop slot ds) >>= tables-after front) → whole ≡ Ok front
+-- a slot, and those after it
+pub tables-from : (ts : List (Option Table)) (ds : List ℕ) (slot d : ℕ) → slot < length ds → d ≡ get_or ds slot d
+    → tables_in ts (drop slot ds)
+    ≡ and_others (needed (slice_index_or ts d None)) (tables_in ts (drop (slot + 1) ds))
 unfolding tables_in
-tables-all ts ds slot front whole h w =
-    w ∙ (rw (drop_all slot ds h, tables_in) (ap (λ (l : List Table). Ok l) (append-nil front)))
+tables-from ts ds slot d h e = ap (tables_in ts) (dropped ds slot d h e)
+
+pub no-tables : (ts : List (Option Table)) (ds : List ℕ) (slot : ℕ) → length ds ≤ slot
+    → tables_in ts (drop slot ds) ≡ Ok []
+unfolding tables_in
+no-tables ts ds slot h = ap (tables_in ts) (drop_all slot ds h)
 
 -- ---- the components of a scan, by its tables
 
@@ -235,33 +191,22 @@ parts-are cs (k ∷ j ∷ codings) (p ∷ q ∷ places) (t ∷ ts) h =
     several cs (k ∷ j ∷ codings) (p ∷ q ∷ places) (t ∷ ts) h
     ∙ ap (λ (b : Bool). parts_at b cs (p ∷ q ∷ places) (t ∷ ts)) (sym (two (length places)))
 
-pub across-are : (frame : Frame) (codings : List LosslessCoding) (places : List ℕ) (ts : List Table)
-    → AreOf frame.components codings places ts → mcus_across frame codings ≡ mcus_wide frame places
-unfolding AreOf mcus_across mcus_wide
-across-are frame [] [] [] h = refl
-across-are frame [] [] (t ∷ ts) h = absurd h
-across-are frame [] (p ∷ places) ts h = absurd h
-across-are frame (k ∷ codings) [] ts h = absurd h
-across-are frame (k ∷ codings) (p ∷ places) [] h = absurd h
-across-are frame (k ∷ []) (p ∷ []) (t ∷ ts) h =
-    ap (λ (c : Component). c.width) (got p frame.components k.component no_component h.0.0)
-across-are frame (k ∷ []) (p ∷ q ∷ places) (t ∷ ts) h = absurd h.1
-across-are frame (k ∷ j ∷ codings) (p ∷ []) (t ∷ ts) h = absurd h.1
-across-are frame (k ∷ j ∷ codings) (p ∷ q ∷ places) (t ∷ ts) h = refl
-
-pub down-are : (frame : Frame) (codings : List LosslessCoding) (places : List ℕ) (ts : List Table)
-    → AreOf frame.components codings places ts → mcus_down frame codings ≡ mcus_high frame places
-unfolding AreOf mcus_down mcus_high
-down-are frame [] [] [] h = refl
-down-are frame [] [] (t ∷ ts) h = absurd h
-down-are frame [] (p ∷ places) ts h = absurd h
-down-are frame (k ∷ codings) [] ts h = absurd h
-down-are frame (k ∷ codings) (p ∷ places) [] h = absurd h
-down-are frame (k ∷ []) (p ∷ []) (t ∷ ts) h =
-    ap (λ (c : Component). c.height) (got p frame.components k.component no_component h.0.0)
-down-are frame (k ∷ []) (p ∷ q ∷ places) (t ∷ ts) h = absurd h.1
-down-are frame (k ∷ j ∷ codings) (p ∷ []) (t ∷ ts) h = absurd h.1
-down-are frame (k ∷ j ∷ codings) (p ∷ q ∷ places) (t ∷ ts) h = refl
+-- as many MCUs across and down
+pub mcus-are : (frame : Frame) (codings : List LosslessCoding) (places : List ℕ) (ts : List Table)
+    → AreOf frame.components codings places ts
+    → (mcus_across frame codings ≡ mcus_wide frame places) × (mcus_down frame codings ≡ mcus_high frame places)
+unfolding AreOf mcus_across mcus_down mcus_wide mcus_high
+mcus-are frame [] [] [] h = (refl, refl)
+mcus-are frame [] [] (t ∷ ts) h = absurd h
+mcus-are frame [] (p ∷ places) ts h = absurd h
+mcus-are frame (k ∷ codings) [] ts h = absurd h
+mcus-are frame (k ∷ codings) (p ∷ places) [] h = absurd h
+mcus-are frame (k ∷ []) (p ∷ []) (t ∷ ts) h =
+    let c = got p frame.components k.component no_component h.0.0 in
+    (ap (λ (c : Component). c.width) c, ap (λ (c : Component). c.height) c)
+mcus-are frame (k ∷ []) (p ∷ q ∷ places) (t ∷ ts) h = absurd h.1
+mcus-are frame (k ∷ j ∷ codings) (p ∷ []) (t ∷ ts) h = absurd h.1
+mcus-are frame (k ∷ j ∷ codings) (p ∷ q ∷ places) (t ∷ ts) h = (refl, refl)
 
 codings-made : (frame : Frame) (cs : List Component) (codings : List LosslessCoding) (places : List ℕ) (ts : List Table)
     → AllByRecursion (IsMade frame) cs → AreOf cs codings places ts
@@ -285,33 +230,22 @@ component-at [] place r h e = absurd (omega arith)
 component-at (c ∷ cs) zero r h e = ap component_in e
 component-at (c ∷ cs) (suc place) r h e = component-at cs place r (omega arith) e
 
-pub alone-wide : (frame : Frame) (places : List ℕ) → length places ≡ 1
-    → mcus_wide frame places ≡ (get_or frame.components (get_or places 0 0) no_component).width
-unfolding mcus_wide
-alone-wide frame [] e = absurd (omega arith)
-alone-wide frame (p ∷ []) e = refl
-alone-wide frame (p ∷ q ∷ places) e = absurd (omega arith)
+-- those of a component alone, and of several
+pub alone : (frame : Frame) (places : List ℕ) → length places ≡ 1
+    → let c = get_or frame.components (get_or places 0 0) no_component in
+    (mcus_wide frame places ≡ c.width) × (mcus_high frame places ≡ c.height)
+unfolding mcus_wide mcus_high
+alone frame [] e = absurd (omega arith)
+alone frame (p ∷ []) e = (refl, refl)
+alone frame (p ∷ q ∷ places) e = absurd (omega arith)
 
-pub alone-high : (frame : Frame) (places : List ℕ) → length places ≡ 1
-    → mcus_high frame places ≡ (get_or frame.components (get_or places 0 0) no_component).height
-unfolding mcus_high
-alone-high frame [] e = absurd (omega arith)
-alone-high frame (p ∷ []) e = refl
-alone-high frame (p ∷ q ∷ places) e = absurd (omega arith)
-
-pub several-wide : (frame : Frame) (places : List ℕ) → (length places == 1) ≡ false
-    → mcus_wide frame places ≡ ceiling frame.width (most_across frame)
-unfolding mcus_wide
-several-wide frame [] e = refl
-several-wide frame (p ∷ []) e = absurd (cc)
-several-wide frame (p ∷ q ∷ places) e = refl
-
-pub several-high : (frame : Frame) (places : List ℕ) → (length places == 1) ≡ false
-    → mcus_high frame places ≡ ceiling frame.height (most_down frame)
-unfolding mcus_high
-several-high frame [] e = refl
-several-high frame (p ∷ []) e = absurd (cc)
-several-high frame (p ∷ q ∷ places) e = refl
+pub not-alone : (frame : Frame) (places : List ℕ) → (length places == 1) ≡ false
+    → (mcus_wide frame places ≡ ceiling frame.width (most_across frame))
+    × (mcus_high frame places ≡ ceiling frame.height (most_down frame))
+unfolding mcus_wide mcus_high
+not-alone frame [] e = (refl, refl)
+not-alone frame (p ∷ []) e = absurd (cc)
+not-alone frame (p ∷ q ∷ places) e = (refl, refl)
 
 -- a part more
 pub parts_step : (is_alone : Bool) (cs : List Component) (places : List ℕ) (ts : List Table) (slot p : ℕ) (t : Table)
@@ -362,15 +296,14 @@ pub has-mcus : (tables : List (Option Table)) (frame : Frame) (places ds : List 
 has-mcus tables frame places ds ts a decoded lossless =
     let made = codings-made frame frame.components a.codings places ts (decoded-made frame decoded lossless) a.of in
     let some = decoded-some frame decoded in
-    let across = across-are frame a.codings places ts a.of in
-    let down = down-are frame a.codings places ts a.of in
+    let mcus = mcus-are frame a.codings places ts a.of in
     let parts = parts-are frame.components a.codings places ts a.of in
     record {
-      some_wide = subst (λ (n : ℕ). 0 < n) across (across-some frame a.codings some.0 made);
-      some_high = subst (λ (n : ℕ). 0 < n) down (down-some frame a.codings some.1 made);
+      some_wide = subst (λ (n : ℕ). 0 < n) mcus.0 (across-some frame a.codings some.0 made);
+      some_high = subst (λ (n : ℕ). 0 < n) mcus.1 (down-some frame a.codings some.1 made);
       covered = subst (AllByRecursion (IsCovered (mcus_wide frame places) (mcus_high frame places))) parts
-          (subst (λ (n : ℕ). AllByRecursion (IsCovered (mcus_wide frame places) n) (parts_of a.codings)) down
-          (subst (λ (n : ℕ). AllByRecursion (IsCovered n (mcus_down frame a.codings)) (parts_of a.codings)) across
+          (subst (λ (n : ℕ). AllByRecursion (IsCovered (mcus_wide frame places) n) (parts_of a.codings)) mcus.1
+          (subst (λ (n : ℕ). AllByRecursion (IsCovered n (mcus_down frame a.codings)) (parts_of a.codings)) mcus.0
           (all-covered frame a.codings made)));
     }
 
@@ -530,7 +463,8 @@ put-step places i planes empty plane before h e is =
     let back : drop i (map items planes) ≡ plane.items ∷ drop (i + 1) (map items planes) =
     seen-at items planes i plane (omega arith) is in
     let rest : drop (i + 1) (map items (set planes i empty)) ≡ drop (i + 1) (map items planes)
-    = ap (drop (i + 1)) (map-set items planes i empty) ∙ drop-set (map items planes) i empty.items in
+    = ap (drop (i + 1)) (map-set items planes i empty)
+    ∙ drop-set-lt (i + 1) (map items planes) i empty.items (omega arith) in
     ap₂ (λ (ps : List (List ℕ)) (s : List (Option (List ℕ))). with_samples (drop (i + 1) places) ps s) rest
     (map-set (λ (q : Option (Vec ℕ Global)). option_map (λ (v : Vec ℕ Global). v.items) q) before p (Some plane))
     ∙ sym (with-more p (drop (i + 1) places) plane.items (drop (i + 1) (map items planes)) (planes_in before))
@@ -546,75 +480,17 @@ put-all places i planes samples whole h w =
 
 -- ---- samples at the end of an image
 
-abbrev pub others-after : List (List ℕ) → List (List ℕ) → Result (List (List ℕ)) Fault
-others-after front others = Ok (front ++ others)
-
-samples-more : (samples : List (Option (List ℕ))) (place : ℕ) (c : Component) (more : List Component)
-    (front : List (List ℕ)) (plane : List ℕ) → slice_index_or samples place None ≡ Some plane
-    → (samples_from samples place (c ∷ more) >>= others-after front)
-    ≡ (samples_from samples (place + 1) more >>= others-after (front ++ plane ∷ []))
+-- a component, and those after it
+pub samples-after : (samples : List (Option (List ℕ))) (cs : List Component) (place : ℕ) → place < length cs
+    → samples_from samples place (drop place cs)
+    ≡ and_others (needed (slice_index_or samples place None)) (samples_from samples (place + 1) (drop (place + 1) cs))
 unfolding samples_from
-samples-more samples place c more front plane e =
-    go (slice_index_or samples place None) (samples_from samples (place + 1) more) e
-  where
-    go : (o : Option (List ℕ)) (r : Result (List (List ℕ)) Fault) → o ≡ Some plane
-        → (needed o >>= (λ (p : List ℕ). r >>= (λ (others : List (List ℕ)). Ok (p ∷ others))) >>= others-after front)
-        ≡ (r >>= others-after (front ++ plane ∷ []))
-    go None r k = absurd (let n : ⊥ = cc in n)
-    go (Some p) (Err fault) k = refl
-    go (Some p) (Ok others) k =
-        let same : p ≡ plane = cc in
-        rw same (ap (λ (l : List (List ℕ)). Ok l) (sym (append_assoc front (plane ∷ []) others)))
+samples-after samples cs place h = ap (samples_from samples place) (drop_more cs place no_component h)
 
-samples-failed : (samples : List (Option (List ℕ))) (place : ℕ) (c : Component) (more : List Component)
-    (front : List (List ℕ)) (f : Fault) → needed (slice_index_or samples place None) ≡ Err f
-    → (samples_from samples place (c ∷ more) >>= others-after front) ≡ Err f
+pub no-samples : (samples : List (Option (List ℕ))) (cs : List Component) (place : ℕ) → length cs ≤ place
+    → samples_from samples place (drop place cs) ≡ Ok []
 unfolding samples_from
-samples-failed samples place c more front f e =
-    go (needed (slice_index_or samples place None)) (samples_from samples (place + 1) more) e
-  where
-    go : (o : Result (List ℕ) Fault) (r : Result (List (List ℕ)) Fault) → o ≡ Err f
-        → (o >>= (λ (p : List ℕ). r >>= (λ (others : List (List ℕ)). Ok (p ∷ others))) >>= others-after front) ≡ Err f
-    go (Ok p) r k = absurd (let n : ⊥ = cc in n)
-    go (Err fault) r k = cc
-
-first-left : (cs : List Component) (place : ℕ) → place < length cs
-    → (c : Component) × (drop place cs ≡ c ∷ drop (place + 1) cs)
-first-left [] place h = absurd (omega arith)
-first-left (c ∷ cs) zero h = (c, refl)
-first-left (c ∷ cs) (suc place) h =
-    let r = first-left cs place (omega arith) in
-    let e : suc place + 1 ≡ suc (place + 1) = omega arith in
-    (r.0, r.1 ∙ ap (λ (n : ℕ). r.0 ∷ drop n (c ∷ cs)) (sym e))
-
--- a component more
-pub samples-there : (samples : List (Option (List ℕ))) (cs : List Component) (place : ℕ) (front new : List (List ℕ))
-    (plane : List ℕ) (whole : Result (List (List ℕ)) Fault) → place < length cs
-    → slice_index_or samples place None ≡ Some plane → new ≡ front ++ plane ∷ []
-    → whole ≡ (samples_from samples place (drop place cs) >>= others-after front)
-    → whole ≡ (samples_from samples (place + 1) (drop (place + 1) cs) >>= others-after new)
-samples-there samples cs place front new plane whole h is joined w =
-    let c = first-left cs place h in
-    w ∙ ap (λ (l : List Component). samples_from samples place l >>= others-after front) c.1
-    ∙ samples-more samples place c.0 (drop (place + 1) cs) front plane is
-    ∙ ap (λ (l : List (List ℕ)). samples_from samples (place + 1) (drop (place + 1) cs) >>= others-after l) (sym joined)
-
--- a component without samples
-pub samples-lack : (samples : List (Option (List ℕ))) (cs : List Component) (place : ℕ) (front : List (List ℕ))
-    (whole : Result (List (List ℕ)) Fault) → place < length cs → slice_index_or samples place None ≡ None
-    → whole ≡ (samples_from samples place (drop place cs) >>= others-after front) → whole ≡ Err Malformed
-samples-lack samples cs place front whole h none w =
-    let c = first-left cs place h in
-    w ∙ ap (λ (l : List Component). samples_from samples place l >>= others-after front) c.1
-    ∙ samples-failed samples place c.0 (drop (place + 1) cs) front Malformed (ap needed none)
-
--- all components
-pub samples-all : (samples : List (Option (List ℕ))) (cs : List Component) (place : ℕ) (front : List (List ℕ))
-    (whole : Result (List (List ℕ)) Fault) → length cs ≤ place
-    → whole ≡ (samples_from samples place (drop place cs) >>= others-after front) → whole ≡ Ok front
-unfolding samples_from
-samples-all samples cs place front whole h w =
-    w ∙ (rw (drop_all place cs h, samples_from) (ap (λ (l : List (List ℕ)). Ok l) (append-nil front)))
+no-samples samples cs place h = ap (samples_from samples place) (drop_all place cs h)
 
 drop-there : (samples : List (Option (List ℕ))) (place : ℕ) (plane : List ℕ)
     → slice_index_or samples place None ≡ Some plane → drop place samples ≡ Some plane ∷ drop (place + 1) samples
@@ -626,10 +502,6 @@ drop-there (x ∷ samples) (suc place) plane e =
     let k : suc (place + 1) ≡ suc place + 1 = omega arith in
     drop-there samples place plane e ∙ ap (λ (n : ℕ). Some plane ∷ drop n (x ∷ samples)) k
 
-needed-of : {A : Type 0} (o : Option A) (x : A) → needed o ≡ Ok x → o ≡ Some x
-needed-of None x e = absurd (let n : ⊥ = cc in n)
-needed-of (Some y) x e = ap (λ (z : _). Some z) (ok-same y x e)
-
 -- The planes are those of the components.
 samples-from : (samples : List (Option (List ℕ))) (place : ℕ) (cs : List Component) (planes : List (List ℕ))
     → AreSampled cs (drop place samples) → samples_from samples place cs ≡ Ok planes → ArePlanesOf cs planes
@@ -638,7 +510,7 @@ samples-from samples place [] planes h e = subst (ArePlanesOf []) (ok-same [] pl
 samples-from samples place (c ∷ cs) planes h e =
     let one = bind-ok (needed (slice_index_or samples place None)) _ planes e in
     let more = bind-ok (samples_from samples (place + 1) cs) _ planes one.2 in
-    let there = needed-of (slice_index_or samples place None) one.0 one.1 in
+    let there = needed-some (slice_index_or samples place None) one.0 one.1 in
     let is : AreSampled (c ∷ cs) (Some one.0 ∷ drop (place + 1) samples) =
     subst (AreSampled (c ∷ cs)) (drop-there samples place one.0 there) h in
     subst (ArePlanesOf (c ∷ cs)) (ok-same (one.0 ∷ more.0) planes more.2) (
@@ -675,8 +547,8 @@ coded-by found frame scan ts a k parts e is =
     let by : ℕ → ℕ → List Part → List ℕ → Outcome (List (List ℕ) × Option Marker) = λ wide high l.
     scan_at (record { wide = wide; selection = scan.predictor; start = start; parts = l }) high found.restart
     scan.point_transform in
-    ap₂ (λ (w h : ℕ). by w h (parts_of a.codings)) (across-are frame a.codings scan.components ts a.of)
-    (down-are frame a.codings scan.components ts a.of)
+    let mcus = mcus-are frame a.codings scan.components ts a.of in
+    ap₂ (λ (w h : ℕ). by w h (parts_of a.codings)) mcus.0 mcus.1
     ∙ ap (by (mcus_wide frame scan.components) (mcus_high frame scan.components))
     (parts-are frame.components a.codings scan.components ts a.of ∙ sym is)
     ∙ ap (λ (x : Coding). scan_at (way_by x parts) x.high x.restart_interval x.point_transform) (sym e)
@@ -707,10 +579,10 @@ codings-count tables frame places ds ts a =
     ap (λ (l : List Table). length l) (sym a.tables_are) ∙ length-map a.codings (λ (k : LosslessCoding). k.table)
     ∙ sym (length-map a.codings (λ (k : LosslessCoding). k.place)) ∙ ap (λ (l : List ℕ). length l) a.places_are
 
-below-four : (n : ℕ) (places : List ℕ) → n ≤ 4 → AllByRecursion (λ place. place < n) places
-    → AllByRecursion (λ place. place < 4) places
-below-four n [] most h = tt
-below-four n (p ∷ places) most h = let first = h.0 in (omega (arith, first, most), below-four n places most h.1)
+pub all-below : (n m : ℕ) (places : List ℕ) → n ≤ m → AllByRecursion (λ place. place < n) places
+    → AllByRecursion (λ place. place < m) places
+all-below n m [] most h = tt
+all-below n m (p ∷ places) most h = let first = h.0 in (omega (arith, first, most), all-below n m places most h.1)
 
 -- Places of a frame's components are below 4.
 pub four-places : (frame : Frame) (places : List ℕ) → IsDecodedFrame frame
@@ -718,7 +590,7 @@ pub four-places : (frame : Frame) (places : List ℕ) → IsDecodedFrame frame
     → All (λ place. place < 4) places
 four-places frame places decoded h =
     All-from_recursion (λ place. place < 4) places
-    (below-four (length frame.components) places (count-few (length frame.components) (decoded-count frame decoded)).1
+    (all-below (length frame.components) 4 places (count-few (length frame.components) (decoded-count frame decoded)).1
     (recursion_from_All (λ place. place < length frame.components) places h))
 
 -- ---- the picture

@@ -1,11 +1,12 @@
 -- Restart markers after a scan.
-use Rattle.std.proofs.Common.{◌≡◌, ◌<◌, ℕ, zero, suc, List, Result, Ok, Err, Bool, true, false, Option, Some, None}
+use Rattle.std.proofs.Common.{◌≡◌, ◌<◌, ℕ, zero, suc, List, Result, Ok, Err, true, false, Option, Some, None}
 use Rattle.std.proofs.Common.{refl, sym, ap, ◌∙◌, length, arith}
 use Rattle.jpeg_bits.specs.Reading.{Outcome, Fault, ◌>>=◌}
 use Rattle.jpeg_bits.specs.Marker.{next_marker}
 use Rattle.jpeg_bits.specs.declared.marker.Marker.{Marker}
 use Rattle.jpeg_bits.specs.declared.marker.Marker.TheVariants.{SOF, JPG, DHT, DAC, RST, SOI, EOI, SOS, DQT, DNL, DRI}
 use Rattle.jpeg_bits.specs.declared.marker.Marker.TheVariants.{DHP, EXP, APP, JPGn, COM, TEM, RES}
+use Rattle.jpeg_bits.proofs.PieceWalks.{by_bool}
 use Rattle.jpeg_streams.specs.ScanSegments.{after_restarts}
 use Rattle.jpeg_decoder.specs.Steps.{is_restart_marker, after_all}
 use Rattle.jpeg_streams.proofs.Shorter.{LeavesBelow, below-at, marker-below}
@@ -65,17 +66,13 @@ restarts-more turns (Some COM) bytes e = absurd (let n : ⊥ = cc in n)
 restarts-more turns (Some TEM) bytes e = absurd (let n : ⊥ = cc in n)
 restarts-more turns (Some RES) bytes e = absurd (let n : ⊥ = cc in n)
 
-pub either : {P : Type 0} (b : Bool) → (b ≡ true → P) → (b ≡ false → P) → P
-either true f g = f refl
-either false f g = g refl
-
 -- more turns than bytes change nothing
 restarts-enough : (m n : ℕ) (met : Option Marker) (bytes : List ℕ) → length bytes < m → length bytes < n
     → after_restarts m met bytes ≡ after_restarts n met bytes
 restarts-enough zero n met bytes p q = absurd (omega arith)
 restarts-enough (suc m) zero met bytes p q = absurd (omega arith)
 restarts-enough (suc m) (suc n) met bytes p q =
-    either (is_restart_marker met)
+    by_bool (is_restart_marker met)
     (λ e. restarts-more m met bytes e ∙ bind-same (next_marker bytes) _ _ (λ r is.
     let less : length r.1 < length bytes = below-at (length bytes) (next_marker bytes) r (marker-below bytes) is in
     restarts-enough m n (Some r.0) r.1 (omega arith) (omega arith)) ∙ sym (restarts-more n met bytes e))
@@ -133,7 +130,7 @@ restarts-pass : (limit turns : ℕ) (met : Option Marker) (bytes : List ℕ) →
 unfolding after_restarts
 restarts-pass limit zero met bytes h = none-passes limit _
 restarts-pass limit (suc turns) met bytes h =
-    either (is_restart_marker met)
+    by_bool (is_restart_marker met)
     (λ e. as-passes limit _ _ (restarts-more turns met bytes e)
     (bind-passes limit (length bytes) (next_marker bytes) _ (marker-below bytes) (λ m p. restarts-pass limit turns
     (Some m.0) m.1 (omega arith))))

@@ -27,7 +27,8 @@ use Rattle.jpeg_streams.specs.FoundPictures.{picture_by}
 use Rattle.jpeg_streams.specs.Segments.{is_decoded_count}
 use Rattle.jpeg_streams.specs.Found.{Metadata}
 use Rattle.jpeg_streams.specs.declared.settings.Settings.{Settings}
-use Rattle.jpeg_decoder.proofs.EndedPlanes.{decoded-scales, element, mapped-or, mapped-within}
+use Rattle.jpeg_decoder.proofs.EndedPlanes.{decoded-scales, element, mapped-or}
+use Rattle.jpeg_lossless.proofs.RowLoops.{mapped-within}
 use Rattle.jpeg_streams.proofs.Soundness.{decoded-count, decoded-sized, decoded-sources}
 
 -- ---- counts

@@ -1,7 +1,7 @@
 -- The loops that add the planes and the blocks of a scan's components, one after the other.
 use Rattle.std.proofs.Common.{◌≡◌, ◌<◌, ℕ, zero, suc, ◌+◌, ◌*◌, ℤ, true, Option, Some, None, List, [], ◌∷◌, refl, sym}
 use Rattle.std.proofs.Common.{ap, ap₂, ◌∙◌, length, get_or, set, map, drop, arith}
-use Rattle.std.proofs.lemmas.List.{map-set, length-map}
+use Rattle.std.proofs.lemmas.List.{drop-set-lt, drop_more, get_or-map, length-map, map-set}
 use Rattle.std.specs.declared.alloc.Global.{Global}
 use Rattle.std.specs.declared.vec.Vec.{Vec}
 use Rattle.jpeg_bits.specs.Passes.{Pass, Block}
@@ -20,45 +20,21 @@ use Rattle.std.specs.Prelude.{slice_set, slice_index_or, option_map}
 use Rattle.jpeg_decoder.proofs.DecidedPlanes.{its_plane_set}
 
 -- the first of those that are left, in a list that is seen by a function
-seen-first : {A B : Type 0} (f : A → B) (xs : List A) (i : ℕ) (d : A) → i < length xs
-    → drop i (map f xs) ≡ f (get_or xs i d) ∷ drop (suc i) (map f xs)
-seen-first f [] i d h = absurd (omega arith)
-seen-first f (y ∷ ys) zero d h = refl
-seen-first f (y ∷ ys) (suc i) d h = seen-first f ys i d (omega arith)
-
 pub seen-any : {A B : Type 0} (f : A → B) (xs : List A) (i : ℕ) (d : A) → i < length xs
     → drop i (map f xs) ≡ f (get_or xs i d) ∷ drop (i + 1) (map f xs)
 seen-any f xs i d h =
-    let e : suc i ≡ i + 1 = omega arith in
-    seen-first f xs i d h ∙ ap (λ (k : ℕ). f (get_or xs i d) ∷ drop k (map f xs)) e
+    drop_more (map f xs) i (f d) (omega (arith, length-map xs f))
+    ∙ ap (λ (y : _). y ∷ drop (i + 1) (map f xs)) (get_or-map f xs i d (f d) h)
 
 pub seen-at : {A B : Type 0} (f : A → B) (xs : List A) (i : ℕ) (x : A) → i < length xs → x ≡ get_or xs i x
     → drop i (map f xs) ≡ f x ∷ drop (i + 1) (map f xs)
 seen-at f xs i x h e = seen-any f xs i x h ∙ ap (λ (y : _). f y ∷ drop (i + 1) (map f xs)) (sym e)
-
--- what stands after an item that is replaced
-set-later : {A : Type 0} (xs : List A) (i : ℕ) (x : A) → drop (suc i) (set xs i x) ≡ drop (suc i) xs
-set-later [] i x = refl
-set-later (y ∷ ys) zero x = refl
-set-later (y ∷ ys) (suc i) x = set-later ys i x
-
-pub drop-set : {A : Type 0} (xs : List A) (i : ℕ) (x : A) → drop (i + 1) (set xs i x) ≡ drop (i + 1) xs
-drop-set xs i x =
-    let e : i + 1 ≡ suc i = omega arith in
-    ap (λ (k : ℕ). drop k (set xs i x)) e ∙ (set-later xs i x ∙ ap (λ (k : ℕ). drop k xs) (sym e))
 
 pub none-left : {A B : Type 0} (f : A → B) (xs : List A) → drop (length xs) (map f xs) ≡ []
 none-left f [] = refl
 none-left f (x ∷ xs) = none-left f xs
 
 -- ---- planes
-
-pub planes-more : (p : Pass) (c : Coding) (codings : List Coding) (plane : List ℕ) (planes : List (List ℕ))
-    (found : Found)
-    → with_planes p (c ∷ codings) (plane ∷ planes) found ≡ with_planes p codings planes (with_its_plane p c.place plane
-    found)
-unfolding with_planes
-planes-more p c codings plane planes found = refl
 
 pub planes-none : (p : Pass) (planes : List (List ℕ)) (found : Found) → with_planes p [] planes found ≡ found
 unfolding with_planes
@@ -71,13 +47,6 @@ pub blocks-are : (p : Pass) (c : Coding) (blocks : List Block) (found : Found)
 unfolding with_blocks with_plane with_its_plane decided_planes
 blocks-are p c blocks found = refl
 
-pub arrays-more : (p : Pass) (c : Coding) (codings : List Coding) (blocks : List Block) (arrays : Arrays)
-    (found : Found)
-    → with_arrays p (c ∷ codings) (blocks ∷ arrays) found ≡ with_arrays p codings arrays
-    (with_its_plane p c.place (plane_by c.component c.quantization blocks) found)
-unfolding with_arrays
-arrays-more p c codings blocks arrays found = ap (with_arrays p codings arrays) (blocks-are p c blocks found)
-
 pub arrays-none : (p : Pass) (arrays : Arrays) (found : Found) → with_arrays p [] arrays found ≡ found
 unfolding with_arrays
 arrays-none p arrays found = refl
@@ -86,11 +55,6 @@ arrays-none p arrays found = refl
 
 abbrev pub Held : Type 0
 Held = Vec (List ℤ) Global
-
-pub put-more : (c : Coding) (codings : List Coding) (blocks : List Block) (arrays held : Arrays)
-    → put_arrays (c ∷ codings) (blocks ∷ arrays) held ≡ put_arrays codings arrays (set held c.place blocks)
-unfolding put_arrays
-put-more c codings blocks arrays held = refl
 
 pub put-none : (arrays held : Arrays) → put_arrays [] arrays held ≡ held
 unfolding put_arrays
@@ -102,6 +66,7 @@ pub put-step : (cs : List Coded) (i : ℕ) (d : Coded) (arrays held : List Held)
     → put_arrays (drop (i + 1) (map coding_in cs)) (drop (i + 1) (arrays_in (set arrays i empty)))
     (arrays_in (set held (get_or cs i d).place blocks))
     ≡ put_arrays (drop i (map coding_in cs)) (drop i (arrays_in arrays)) (arrays_in held)
+unfolding put_arrays
 put-step cs i d arrays held empty blocks h e is =
     let c = get_or cs i d in
     let front : drop i (map coding_in cs) ≡ coding_in c ∷ drop (i + 1) (map coding_in cs) =
@@ -109,11 +74,10 @@ put-step cs i d arrays held empty blocks h e is =
     let back : drop i (arrays_in arrays) ≡ blocks_in blocks ∷ drop (i + 1) (arrays_in arrays) =
     seen-at blocks_in arrays i blocks (omega arith) is in
     let rest : drop (i + 1) (arrays_in (set arrays i empty)) ≡ drop (i + 1) (arrays_in arrays)
-    = ap (drop (i + 1)) (map-set blocks_in arrays i empty) ∙ drop-set (arrays_in arrays) i (blocks_in empty) in
+    = ap (drop (i + 1)) (map-set blocks_in arrays i empty)
+    ∙ drop-set-lt (i + 1) (arrays_in arrays) i (blocks_in empty) (omega arith) in
     ap₂ (λ (a b : Arrays). put_arrays (drop (i + 1) (map coding_in cs)) a b) rest (map-set blocks_in held c.place
     blocks)
-    ∙ sym (put-more (coding_in c) (drop (i + 1) (map coding_in cs)) (blocks_in blocks) (drop (i + 1) (arrays_in arrays))
-    (arrays_in held))
     ∙ sym (ap₂ (λ (l : List Coding) (a : Arrays). put_arrays l a (arrays_in held)) front back)
 
 -- ---- the planes and the blocks of a slot
@@ -125,6 +89,7 @@ pub planes-step : (p : Pass) (cs : List Coded) (i : ℕ) (d : Coded) (planes : L
     → with_planes p (drop (i + 1) (map coding_in cs))
     (drop (i + 1) (map (λ (v : Vec ℕ Global). v.items) (set planes i empty))) after
     ≡ with_planes p (drop i (map coding_in cs)) (drop i (map (λ (v : Vec ℕ Global). v.items) planes)) before
+unfolding with_planes
 planes-step p cs i d planes empty plane before after h e is made =
     let c = get_or cs i d in
     let items : Vec ℕ Global → List ℕ = λ v. v.items in
@@ -133,10 +98,9 @@ planes-step p cs i d planes empty plane before after h e is made =
     let back : drop i (map items planes) ≡ plane.items ∷ drop (i + 1) (map items planes) =
     seen-at items planes i plane (omega arith) is in
     let rest : drop (i + 1) (map items (set planes i empty)) ≡ drop (i + 1) (map items planes)
-    = ap (drop (i + 1)) (map-set items planes i empty) ∙ drop-set (map items planes) i empty.items in
+    = ap (drop (i + 1)) (map-set items planes i empty)
+    ∙ drop-set-lt (i + 1) (map items planes) i empty.items (omega arith) in
     ap₂ (λ (ps : List (List ℕ)) (f : Found). with_planes p (drop (i + 1) (map coding_in cs)) ps f) rest made
-    ∙ sym (planes-more p (coding_in c) (drop (i + 1) (map coding_in cs)) plane.items (drop (i + 1) (map items planes))
-    before)
     ∙ sym (ap₂ (λ (l : List Coding) (ps : List (List ℕ)). with_planes p l ps before) front back)
 
 pub arrays-step : (p : Pass) (cs : List Coded) (i : ℕ) (d : Coded) (arrays : List Held) (blocks : Held)
@@ -146,15 +110,15 @@ pub arrays-step : (p : Pass) (cs : List Coded) (i : ℕ) (d : Coded) (arrays : L
     (coding_in (get_or cs i d)).quantization (blocks_in blocks)) before
     → with_arrays p (drop (i + 1) (map coding_in cs)) (drop (i + 1) (arrays_in arrays)) after
     ≡ with_arrays p (drop i (map coding_in cs)) (drop i (arrays_in arrays)) before
+unfolding with_arrays
 arrays-step p cs i d arrays blocks before after h k is made =
     let c = get_or cs i d in
     let front : drop i (map coding_in cs) ≡ coding_in c ∷ drop (i + 1) (map coding_in cs) =
     seen-any coding_in cs i d h in
     let back : drop i (arrays_in arrays) ≡ blocks_in blocks ∷ drop (i + 1) (arrays_in arrays) =
     seen-at blocks_in arrays i blocks k is in
-    ap (with_arrays p (drop (i + 1) (map coding_in cs)) (drop (i + 1) (arrays_in arrays))) made
-    ∙ sym (arrays-more p (coding_in c) (drop (i + 1) (map coding_in cs)) (blocks_in blocks)
-    (drop (i + 1) (arrays_in arrays)) before)
+    ap (with_arrays p (drop (i + 1) (map coding_in cs)) (drop (i + 1) (arrays_in arrays)))
+    (made ∙ sym (blocks-are p (coding_in c) (blocks_in blocks) before))
     ∙ sym (ap₂ (λ (l : List Coding) (a : Arrays). with_arrays p l a before) front back)
 
 -- each component has its blocks

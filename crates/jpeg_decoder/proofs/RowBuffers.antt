@@ -1,7 +1,7 @@
 -- The blocks of a row of MCUs, as they are cleared and as their samples are appended.
 use Rattle.std.proofs.Common.{◌≡◌, ℕ, zero, suc, ◌+◌, ◌*◌, ◌<◌, ◌≤◌, List, [], ◌∷◌, ◌++◌, map, length, get_or}
 use Rattle.std.proofs.Common.{set, replicate, ℤ, pos, refl, sym, ap, ◌∙◌, arith}
-use Rattle.std.proofs.lemmas.List.{length-map, map-set, length-replicate}
+use Rattle.std.proofs.lemmas.List.{length-map, map-set, length-replicate, get_or-map}
 use Rattle.std.specs.declared.alloc.Global.{Global}
 use Rattle.std.specs.declared.vec.Vec.{Vec}
 use Rattle.jpeg_bits.specs.BlockView.{to_block}
@@ -13,7 +13,7 @@ use Rattle.jpeg_decoder.specs.Scanning.{arrays_in, blocks_in, sizes_of, down_in,
 use Rattle.jpeg_decoder.specs.Strips.{planes_in, row_sizes, zeros_of, samples_of, with_strips}
 use Rattle.jpeg_decoder.specs.declared.scan.Coded.{Coded}
 use Rattle.jpeg_decoder.proofs.BlocksBefore.{zero-blocks}
-use Rattle.jpeg_decoder.proofs.HeldBlocks.{Held, get-map, sizes-long, size-at}
+use Rattle.jpeg_decoder.proofs.HeldBlocks.{Held, sizes-long, size-at}
 use Rattle.jpeg_streams.proofs.InPlace.{patched, patched-next, patched-at, patched-all, patched-length}
 use Rattle.jpeg_decoder.proofs.StripRows.{strips-at, strips-length, strips-none}
 
@@ -48,7 +48,7 @@ cleared-next old items i v w h sizes arrays is new =
           ∙ patched-next (zeros_of (sizes_of old)) (arrays_in old) i (blocks_in w) [] same (omega
           (arith, length-map old blocks_in))
           (ap (λ (l : List (List ℤ)). map to_block l) new ∙ zero-blocks (length v.items)
-          ∙ sym (get-map (λ (n : ℕ). replicate n zero_block) (sizes_of old) i 0 [] (omega (arith, sizes-long old))
+          ∙ sym (get_or-map (λ (n : ℕ). replicate n zero_block) (sizes_of old) i 0 [] (omega (arith, sizes-long old))
           ∙ ap (λ (n : ℕ). replicate n zero_block) size)),
     )
 
@@ -93,7 +93,7 @@ module _ (cs : List Coded) (old : List Held) (start : List Plane) (sizes : sizes
   row-size slot c v h is held =
       sym (size-at old slot v (omega (arith, sizes-long old, old-long)) held)
       ∙ ap (λ (l : List ℕ). get_or l slot 0) sizes
-      ∙ get-map (λ (x : Coded). down_in x * wide_in x) cs slot c 0 h
+      ∙ get_or-map (λ (x : Coded). down_in x * wide_in x) cs slot c 0 h
       ∙ sym (ap (λ (x : Coded). down_in x * wide_in x) is)
 
   pub planes-next : (planes : List Plane) (slot : ℕ) (c : Coded) (v : Held) (p q : Plane)
@@ -105,13 +105,13 @@ module _ (cs : List Coded) (old : List Held) (start : List Plane) (sizes : sizes
       let view : Plane → List ℕ = λ x. x.items in
       let pl = planes-long planes slot inv in
       let before : p.items ≡ get_or (planes_in start) slot [] =
-      ap view at ∙ sym (get-map view planes slot p [] (omega (arith, pl)))
+      ap view at ∙ sym (get_or-map view planes slot p [] (omega (arith, pl)))
       ∙ ap (λ (l : List (List ℕ)). get_or l slot []) inv
       ∙ patched-at all (planes_in start) slot [] all-long in
       let blocks : get_or (arrays_in old) slot [] ≡ map to_block v.items =
-      get-map blocks_in old slot v [] (omega (arith, old-long)) ∙ sym (ap blocks_in held) in
+      get_or-map blocks_in old slot v [] (omega (arith, old-long)) ∙ sym (ap blocks_in held) in
       let coded : coding_in c ≡ get_or codings slot (coding_in c) = ap coding_in is
-      ∙ sym (get-map coding_in cs slot c (coding_in c) h) in
+      ∙ sym (get_or-map coding_in cs slot c (coding_in c) h) in
       map-set view planes slot q
       ∙ ap (λ (l : List (List ℕ)). set l slot q.items) inv
       ∙ patched-next all (planes_in start) slot q.items [] all-long (omega (arith, start-long, length-map cs coding_in))

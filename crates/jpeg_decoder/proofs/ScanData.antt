@@ -27,6 +27,7 @@ use Rattle.jpeg_streams.specs.ScanSegments.{is_progressive, put_arrays, with_arr
 use Rattle.jpeg_decoder.specs.Steps.{with_decoded, with_its_plane, with_planes, IsCodingOf, AreRising}
 use Rattle.jpeg_streams.specs.Found.{Found}
 use Rattle.jpeg_decoder.specs.Strips.{planes_by, planes_at}
+use Rattle.jpeg_streams.proofs.ReadTurns.{ok-same}
 use Rattle.jpeg_streams.proofs.Apart.{At, zeros-sized}
 use Rattle.jpeg_decoder.proofs.BlocksBefore.{plane_by-length}
 use Rattle.jpeg_decoder.proofs.PlacedCodings.{coded-components}
@@ -202,9 +203,6 @@ planes-are : (n : ℕ) (frame : Frame) (p : Pass) (codings : List Coding) (vias 
     (zero_arrays (components_of codings)) bytes >>= planes_after codings)
 unfolding planes_at
 planes-are n frame p codings vias bytes = refl
-
-ok-same : {A E : Type 0} (x y : A) → ◌≡◌ {A = Result A E} (Ok x) (Ok y) → x ≡ y
-ok-same x y h = cc
 
 pub data-planes : (f : Found) (frame : Frame) (p : Pass) (codings : List Coding) (planes : List (List ℕ))
     (met : Option Marker) (bytes rest : List ℕ) (one two : Decoded)

@@ -3,7 +3,7 @@ use Rattle.std.proofs.Common.{◌≡◌, ℕ, zero, suc, ◌+◌, ◌*◌, ◌<�
 use Rattle.std.proofs.Common.{get_or, slice_index_or, ℤ, refl, sym, ap, ap₂, ◌∙◌, arith, append-nil, suc-mul}
 use Rattle.std.proofs.Common.{length-take, length-drop}
 use Rattle.std.proofs.Math.Nat.{mul-le-mul_right}
-use Rattle.std.proofs.lemmas.List.{ext_get_or, get_or-take, get_or-drop, get_or_default}
+use Rattle.std.proofs.lemmas.List.{drop-drop, ext_get_or, get_or-map, get_or-take, get_or-drop, get_or_default}
 use Rattle.std.proofs.lemmas.List.FromFn.{length-map-range_with_len, get_or-map-range_with_len}
 use Rattle.std.specs.List.{range_with_len}
 use Rattle.jpeg_bits.specs.BlockView.{to_block}
@@ -15,7 +15,6 @@ use Rattle.jpeg_streams.specs.Scans.{Arrays}
 use Rattle.jpeg_streams.specs.Rasters.{ordered, in_raster}
 use Rattle.jpeg_streams.specs.ScanSegments.{Coding}
 use Rattle.jpeg_decoder.specs.Strips.{samples_of, with_strips}
-use Rattle.jpeg_decoder.proofs.HeldBlocks.{get-map}
 
 -- ---- a row of blocks
 
@@ -61,7 +60,7 @@ in-raster wide high blocks r k e sized h i =
     let f = rows-fit r high wide (length blocks) h e in
     let inside : r * wide + k < length blocks = omega arith in
     let block = get_or blocks (r * wide + k) [] in
-    sym (ap ordered (get-map to_block blocks (r * wide + k) [] zero_block inside)
+    sym (ap ordered (get_or-map to_block blocks (r * wide + k) [] zero_block inside)
     ∙ ordered-block block (sized (r * wide + k) inside)
     ∙ get_or_default blocks (r * wide + k) [] zero_coefficients inside)
 
@@ -119,14 +118,6 @@ none-yet s table wide block_at plane = sym (ap (λ (l : List ℕ). plane ++ l) (
 
 pub drop-none : (wide : ℕ) (blocks : List (List ℤ)) → blocks ≡ drop (0 * wide) blocks
 drop-none wide blocks = let e : 0 ≡ 0 * wide = omega arith in ap (λ (k : ℕ). drop k blocks) e
-
-drop-drop : (a b : ℕ) (blocks : List (List ℤ)) → drop a (drop b blocks) ≡ drop (b + a) blocks
-drop-drop a zero blocks = let e : a ≡ 0 + a = omega arith in ap (λ (k : ℕ). drop k blocks) e
-drop-drop zero (suc b) [] = let e : suc b ≡ suc b + 0 = omega arith in ap (λ (k : ℕ). drop {A = List ℤ} k []) e
-drop-drop (suc a) (suc b) [] = let e : suc (b + suc a)
-    ≡ suc b + suc a = omega arith in ap (λ (k : ℕ). drop {A = List ℤ} k []) e
-drop-drop a (suc b) (x ∷ blocks) = drop-drop a b blocks ∙ (let e : suc (b + a)
-    ≡ suc b + a = omega arith in ap (λ (k : ℕ). drop k (x ∷ blocks)) e)
 
 pub drop-next : (wide v : ℕ) (blocks : List (List ℤ)) → drop wide (drop (v * wide) blocks)
     ≡ drop ((v + 1) * wide) blocks

@@ -1,6 +1,6 @@
 -- Steps of the loop over the rows of MCUs of a sequential scan.
-use Rattle.std.proofs.Common.{◌≡◌, ℕ, suc, ◌+◌, ◌-◌, ◌*◌, ◌<◌, ◌≤◌, List, [], ◌∷◌, ◌++◌, map, drop, length, replicate}
-use Rattle.std.proofs.Common.{get_or, Ok, Err, refl, sym, subst, ap, ap₂, ◌∙◌, arith, add-mul, mul-add, mul_comm}
+use Rattle.std.proofs.Common.{◌≡◌, ℕ, suc, ◌+◌, ◌-◌, ◌*◌, ◌<◌, ◌≤◌, List, [], ◌∷◌, map, drop, length, replicate}
+use Rattle.std.proofs.Common.{get_or, Ok, Err, refl, sym, subst, ap, ap₂, ◌∙◌, arith, add-mul, length-append, mul-add, mul_comm}
 use Rattle.std.proofs.lemmas.List.{length-map}
 use Rattle.std.proofs.lemmas.List.FromFn.{length-map-range_with_len}
 use Rattle.jpeg_pixels.specs.Planes.{plane_of}
@@ -114,10 +114,6 @@ unfolding samples_of plane_of
 length-samples high c blocks = length-map-range_with_len _ 0 (c.component.scale * c.component.blocks_wide *
     (c.component.scale * high))
 
-length-both : (xs ys : List ℕ) → length (xs ++ ys) ≡ length xs + length ys
-length-both [] ys = omega arith
-length-both (x ∷ xs) ys = let r = length-both xs ys in omega arith
-
 one-row-more : (a s r d : ℕ) → a * (s * (r * d)) + a * (s * d) ≡ a * (s * ((r + 1) * d))
 one-row-more a s r d =
     let p : (r + 1) * d ≡ r * d + d = let q : (r + 1) * d ≡ r * d + 1 * d = add-mul r 1 d in omega arith in
@@ -156,7 +152,7 @@ lengths-next (c ∷ cs) (a ∷ arrays) (p ∷ planes) row e h =
     let head : length p ≡ samples_in (row * down_in c) c = ap (λ (l : List ℕ). get_or l 0 0) h in
     let tail = ap (λ (l : List ℕ). drop 1 l) h in
     ap₂ (λ (n : ℕ) (l : List ℕ). n ∷ l)
-    (length-both p (samples_of (down_in c) (coding_in c) a)
+    (length-append p (samples_of (down_in c) (coding_in c) a)
     ∙ ap₂ (λ (m n : ℕ). m + n) head (length-samples (down_in c) (coding_in c) a)
     ∙ one-row-more (s * wide_in c) s row (down_in c))
     (lengths-next cs arrays planes row (omega arith) tail)

@@ -4,7 +4,7 @@ use Rattle.std.proofs.Common.{get_or, set, map, take, arith}
 use Rattle.std.specs.declared.alloc.Global.{Global}
 use Rattle.std.specs.declared.vec.Vec.{Vec}
 use Rattle.std.proofs.Math.Logic.{inl, inr}
-use Rattle.std.proofs.lemmas.List.{get_or-set_other, map-append, map-set, set_comm, take_more}
+use Rattle.std.proofs.lemmas.List.{get_or-set_other, map-append, map-set, set-set, set_comm, take_more}
 use Rattle.jpeg_bits.specs.Passes.{Block}
 use Rattle.jpeg_bits.specs.BlockView.{to_block}
 use Rattle.jpeg_decoder.specs.declared.scan.Coded.{Coded}
@@ -16,11 +16,6 @@ use Rattle.jpeg_streams.specs.ScanSegments.{put_arrays, Coding}
 
 abbrev pub places_of : List Coding → List ℕ
 places_of codings = map (λ c. c.place) codings
-
-set-twice : {A : Type 0} (l : List A) (i : ℕ) (a b : A) → set (set l i a) i b ≡ set l i b
-set-twice [] i a b = refl
-set-twice (x ∷ l) zero a b = refl
-set-twice (x ∷ l) (suc i) a b = ap (λ (r : List _). x ∷ r) (set-twice l i a b)
 
 -- what is left elsewhere
 pub left-elsewhere : (codings : List Coding) (held : Arrays) (place : ℕ) → (IsIn place (places_of codings) → ⊥)
@@ -52,7 +47,7 @@ put-back (c ∷ more) [] held apart e = absurd (omega arith)
 put-back (c ∷ more) (blocks ∷ arrays) held apart e =
     ap (put_arrays more arrays) (set-after more (set held c.place []) c.place blocks apart.0)
     ∙ put-back more arrays (set (set held c.place []) c.place blocks) apart.1 (omega arith)
-    ∙ ap (put_arrays more arrays) (set-twice held c.place [] blocks)
+    ∙ ap (put_arrays more arrays) (set-set held c.place [] blocks)
 
 -- ---- one component more
 

@@ -3,6 +3,7 @@ use Rattle.std.proofs.Common.{◌≡◌, ℕ, zero, suc, ◌+◌, ◌*◌, ◌<�
 use Rattle.std.proofs.Common.{replicate, set, get_or, Option, Some, None, Result, Ok, Err, refl, sym, ap, ◌∙◌}
 use Rattle.std.proofs.Common.{subst, arith, length-append, length-set, ltb, inl, inr}
 use Rattle.std.proofs.lemmas.Bool.{le-ltb, lt-ltb}
+use Rattle.std.proofs.lemmas.List.{get_or-set_same}
 use Rattle.std.specs.Prelude.{is_some, option_map, slice_index_or, slice_set}
 use Rattle.std.specs.List.{AllByRecursion, concat, range_with_len}
 use Rattle.jpeg_bits.specs.Reading.{Fault, Malformed, Outcome, ◌>>=◌}
@@ -46,6 +47,7 @@ use Rattle.jpeg_streams.proofs.SaidTables.{HasTables, no-tables, segment-tables}
 use Rattle.jpeg_streams.proofs.WrittenMarkers.{marker-append, marker_for, segment-marker}
 use Rattle.jpeg_decoder.proofs.WrittenSamples.{and_samples, components-of, places_of, planes_for, scan-read}
 use Rattle.jpeg_decoder.proofs.WrittenSamples.{turn_after}
+use Rattle.jpeg_decoder.proofs.LosslessReads.{all-below}
 
 -- ---- samples that are decided
 
@@ -60,11 +62,6 @@ set-keeps v (x ∷ xs) zero zero d h = refl
 set-keeps v (x ∷ xs) zero (suc k) d h = h
 set-keeps v (x ∷ xs) (suc j) zero d h = h
 set-keeps v (x ∷ xs) (suc j) (suc k) d h = set-keeps (λ n. v (suc n)) xs j k d h
-
-set-there : {A : Type 0} (xs : List A) (j : ℕ) (x d : A) → j < length xs → get_or (set xs j x) j d ≡ x
-set-there [] j x d h = absurd (omega arith)
-set-there (y ∷ xs) zero x d h = refl
-set-there (y ∷ xs) (suc j) x d h = set-there xs j x d (omega arith)
 
 with-keeps : (samples : Samples) (places : List ℕ) (decided : List (Option (List ℕ))) (k : ℕ)
     → slice_index_or decided k None ≡ Some (concat (samples k))
@@ -90,7 +87,7 @@ unfolding with_samples
 with-there samples [] decided h = tt
 with-there samples (p ∷ places) decided h =
     let next = slice_set decided p (Some (concat (samples p))) in (
-      with-keeps samples places next p (set-there decided p (Some (concat (samples p))) None h.0),
+      with-keeps samples places next p (get_or-set_same decided p (Some (concat (samples p))) None h.0),
       with-there samples places next (subst (λ (n : ℕ). AllByRecursion (λ (k : ℕ). k < n) places)
           (sym (length-set decided p (Some (concat (samples p))))) h.1),
     )
@@ -255,11 +252,6 @@ segment-next samples rest turns said final sent fill s more may again before dec
     ∙ segment-held before said decided s (more ++ rest) may) refl)
     (again Elsewhere decided None (more ++ rest) (segment-said said s may is) four held (stands-here (more ++ rest)))
 
-below-four : (n m : ℕ) (places : List ℕ) → n ≤ m → AllByRecursion (λ k. k < n) places
-    → AllByRecursion (λ k. k < m) places
-below-four n m [] le h = tt
-below-four n m (p ∷ places) le h = let first = h.0 in (omega (arith, first, le), below-four n m places le h.1)
-
 places-below : (frame : Frame) (h : ScanHeader) → IsScan frame h
     → AllByRecursion (λ k. k < length frame.components) (places_of h.choices)
 unfolding scan_of
@@ -296,7 +288,7 @@ scan-next samples rest turns said final sent frame fill h data_bytes more framed
     s.makes s.ends) refl)
     (again (scan_before said) next (Some s.m) left (record { tables = is.tables; shaped = is.shaped })
     (with-length samples places decided ∙ four)
-    (held-after samples places decided sent (below-four (length frame.components) (length decided) places (omega (
+    (held-after samples places decided sent (all-below (length frame.components) (length decided) places (omega (
       arith,
       few,
       four,

@@ -1,11 +1,11 @@
 -- A lossless scan that is written is read as its samples.
-use Rattle.std.proofs.Common.{◌≡◌, ℕ, zero, suc, ◌+◌, ◌-◌, ◌*◌, ◌/◌, ◌%◌, ◌<◌, ◌≤◌, Bool, true, false, ◌||◌, eqb}
+use Rattle.std.proofs.Common.{◌≡◌, ℕ, zero, suc, ◌+◌, ◌-◌, ◌*◌, ◌/◌, ◌%◌, ◌<◌, ◌≤◌, Bool, true, false, eqb}
 use Rattle.std.proofs.Common.{leb, List, [], ◌∷◌, ◌++◌, drop, map, length, replicate, take, Option, Some, None}
 use Rattle.std.proofs.Common.{Ok, refl, sym, ap, ap₂, ◌∙◌, subst, arith, length-append}
 use Rattle.std.specs.Prelude.{slice_index_or}
 use Rattle.std.specs.List.{AllByRecursion, concat}
-use Rattle.std.proofs.lemmas.Bool.{le-leb, eq-eqb}
-use Rattle.std.proofs.lemmas.List.{length-map}
+use Rattle.std.proofs.lemmas.Bool.{le-leb, eq-eqb, or_right}
+use Rattle.std.proofs.lemmas.List.{length-map, length-take-le}
 use Rattle.std.proofs.lemmas.Nat.{div-mul-add, mod-mul-add}
 use Rattle.std.proofs.Math.Nat.{add-mul, one-mul}
 use Rattle.jpeg_bits.specs.Codes.{IsTable, Table}
@@ -69,15 +69,11 @@ by-rows wide high n w h false e =
     let d : suc n * wide / wide ≡ suc n = ap (λ (x : ℕ). x / wide) z ∙ div-mul-add (suc n) wide 0 w in
     record { is = rw (e, eq-eqb (suc n * wide % wide) 0 m) refl; some = rw (e, rows_of_interval, d) (omega arith) }
 
-or-second : (a b : Bool) → b ≡ true → (a || b) ≡ true
-or-second true b e = refl
-or-second false b e = e
-
 of-rows : (wide high restart : ℕ) → 0 < wide → 0 < high → IsInterval wide high restart → IsOfRows wide high restart
 of-rows wide high restart w h no_interval = by-one wide high 0 h refl
 of-rows wide high restart w h (whole_rows n) = by-rows wide high n w h (is_one_interval wide high (suc n * wide)) refl
 of-rows wide high restart w h (whole_scan n le) =
-    by-one wide high restart h (or-second (eqb restart 0) (leb (wide * high) restart) (le-leb (wide * high) restart le))
+    by-one wide high restart h (or_right (eqb restart 0) (leb (wide * high) restart) (le-leb (wide * high) restart le))
 
 -- ---- how many lines there are
 
@@ -167,11 +163,6 @@ intervals-grids w per k left lines bytes (another k' fill' left' front others fi
 
 -- ---- own lines
 
-take-whole : {A : Type 0} (n : ℕ) (xs : List A) → n ≤ length xs → length (take n xs) ≡ n
-take-whole zero xs h = refl
-take-whole (suc n) [] h = absurd (omega arith)
-take-whole (suc n) (x ∷ xs) h = ap suc (take-whole n xs (omega arith))
-
 own-even : (wide n high : ℕ) (lines : List (List ℕ)) → AreLines n lines → wide ≤ n
     → AreEven wide (map (take wide) (take high lines))
 unfolding AreEven
@@ -179,7 +170,7 @@ own-even wide n zero lines h le = tt
 own-even wide n (suc high) [] h le = tt
 own-even wide n (suc high) (l ∷ lines) h le =
     let e = h.0.0 in
-    (take-whole wide l (omega (arith, e, le)), own-even wide n high lines h.1 le)
+    (length-take-le wide l (omega (arith, e, le)), own-even wide n high lines h.1 le)
 
 -- the samples of a component have its size
 pub record HasSize (lines : List (List ℕ)) (c : Component) : Type 0 where
@@ -202,7 +193,7 @@ part-sized w high c p lines h grid count =
     let down = h.down in
     record {
       count = length-map (take p.height lines) (take p.width)
-          ∙ take-whole p.height lines (omega (arith, height, down, count)) ∙ h.height;
+          ∙ length-take-le p.height lines (omega (arith, height, down, count)) ∙ h.height;
       even = subst (λ (n : ℕ). AreEven n (own_lines p lines)) h.width
           (own-even p.width (w.wide * p.across) p.height lines grid (omega (arith, width, across)));
     }

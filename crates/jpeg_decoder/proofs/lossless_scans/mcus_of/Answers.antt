@@ -5,7 +5,7 @@ use Rattle.jpeg_segments.specs.Frame.{Component, ceiling, greatest}
 use Rattle.jpeg_segments.specs.FrameView.{component_in, factors_in, frame_in}
 use Rattle.jpeg_segments.specs.declared.parser.Component.{Component as Given}
 use Rattle.jpeg_lossless.specs.Pictures.{most_across, most_down}
-use Rattle.jpeg_decoder.proofs.LosslessReads.{alone-high, alone-wide, component-at, factors-seen, several-high, several-wide}
+use Rattle.jpeg_decoder.proofs.LosslessReads.{alone, component-at, factors-seen, not-alone}
 use Rattle.jpeg_decoder.proofs.lossless_scans.mcus_of.Goals as goal
 
 pub returns-then-places-eq1-clause-wide : goal.returns-then-places-eq1-clause-wide
@@ -20,7 +20,7 @@ returns-then-places-eq1-clause-wide c =
       length-map cs component_in,
     ) in
     ap (λ (x : Component). x.width) (component-at cs place r inside at)
-    ∙ sym (alone-wide (frame_in c.args.frame.now) c.args.places.now (search rules))
+    ∙ sym (alone (frame_in c.args.frame.now) c.args.places.now (search rules)).0
 
 pub returns-then-places-eq1-clause-high : goal.returns-then-places-eq1-clause-high
 returns-then-places-eq1-clause-high c =
@@ -34,7 +34,7 @@ returns-then-places-eq1-clause-high c =
       length-map cs component_in,
     ) in
     ap (λ (x : Component). x.height) (component-at cs place r inside at)
-    ∙ sym (alone-high (frame_in c.args.frame.now) c.args.places.now (search rules))
+    ∙ sym (alone (frame_in c.args.frame.now) c.args.places.now (search rules)).1
 
 pub returns-clause-wide : goal.returns-clause-wide
 returns-clause-wide c =
@@ -45,7 +45,7 @@ returns-clause-wide c =
     ∙ ap (λ (l : List Given). greatest (λ f. f.horizontal) (map factors_in l)) c.deref.ensures.value
     ∙ ap (greatest (λ f. f.horizontal)) (factors-seen cs) in
     c.ceiling-wide.ensures ∙ ap₂ ceiling c.from.ensures (c.from-2.ensures ∙ most)
-    ∙ sym (several-wide frame c.args.places.now (search rules))
+    ∙ sym (not-alone frame c.args.places.now (search rules)).0
 
 pub returns-clause-high : goal.returns-clause-high
 returns-clause-high c =
@@ -56,4 +56,4 @@ returns-clause-high c =
     ∙ ap (λ (l : List Given). greatest (λ f. f.vertical) (map factors_in l)) c.deref.ensures.value
     ∙ ap (greatest (λ f. f.vertical)) (factors-seen cs) in
     c.ceiling-high.ensures ∙ ap₂ ceiling c.from-3.ensures (c.from-4.ensures ∙ most)
-    ∙ sym (several-high frame c.args.places.now (search rules))
+    ∙ sym (not-alone frame c.args.places.now (search rules)).1

@@ -1,8 +1,12 @@
-use Rattle.std.proofs.Common.{◌≡◌, ◌∷◌, ◌++◌, [], None, Some, ap, ◌∙◌, get_or, map, rules}
+use Rattle.std.proofs.Common.{◌≡◌, ◌∷◌, ◌++◌, [], None, Some, ap, ◌∙◌, drop, get_or, map, rules}
 use Rattle.std.specs.Prelude.{slice_index_or}
 use Rattle.std.proofs.lemmas.List.{map-append}
 use Rattle.std.proofs.lemmas.Result.{err_from_is_err_and}
-use Rattle.jpeg_decoder.proofs.LosslessReads.{tables-all, tables-lacking, tables-there}
+use Rattle.jpeg_bits.specs.Reading.{Malformed}
+use Rattle.jpeg_streams.specs.LosslessScans.{tables_in}
+use Rattle.jpeg_streams.specs.Needed.{needed}
+use Rattle.jpeg_decoder.proofs.LosslessReads.{no-tables, tables-from}
+use Rattle.jpeg_decoder.proofs.ReadLists.{no-more, one-more, one-refused}
 use Rattle.jpeg_decoder.proofs.SlotCodings.{format-refuses}
 use Rattle.jpeg_decoder.proofs.lossless_scans.tables_of.Goals as goal
 
@@ -14,9 +18,11 @@ returns-in_err-needed c =
     let unset : slice_index_or ts c.index-destination.result.now None ≡ None = search rules in
     let p = err_from_is_err_and c.from_residual-in_err-needed.result c.from_residual-in_err-needed.ensures.1 in
     rw (p.1, p.2) (format-refuses c.in_err-needed.field-0.0 _ c.in_err-needed.ensures.1
-    (tables-lacking ts ds c.loop-slot.slot c.index-destination.result.now (map (λ t. t.now) c.loop-slot.tables.items) _
-    (search rules) at
-    unset c.loop-slot.invariant))
+    (one-refused (λ i. tables_in ts (drop i ds)) c.loop-slot.slot
+    (needed (slice_index_or ts c.index-destination.result.now None)) Malformed
+    (map (λ t. t.now) c.loop-slot.tables.items) _
+    (tables-from ts ds c.loop-slot.slot c.index-destination.result.now (search rules) at) (ap needed unset)
+    c.loop-slot.invariant))
 
 pub loop-slot-preserved : goal.loop-slot-preserved
 loop-slot-preserved c =
@@ -27,10 +33,14 @@ loop-slot-preserved c =
     let at : c.index-destination.result.now ≡ get_or ds c.loop-slot.slot c.index-destination.result.now = search rules in
     let set : slice_index_or ts c.index-destination.result.now None ≡ Some table.now = search rules in
     let pushed : c.push.new.self.items ≡ old ++ table ∷ [] = search rules in
-    tables-there ts ds c.loop-slot.slot c.index-destination.result.now (map (λ t. t.now) old) _ table.now _ (search rules) at set
+    one-more (λ i. tables_in ts (drop i ds)) c.loop-slot.slot
+    (needed (slice_index_or ts c.index-destination.result.now None)) table.now (map (λ t. t.now) old) _ _
+    (tables-from ts ds c.loop-slot.slot c.index-destination.result.now (search rules) at) (ap needed set)
     (ap (map (λ t. t.now)) pushed ∙ map-append (λ t. t.now) old (table ∷ [])) c.loop-slot.invariant
 
 pub returns : goal.returns
 returns c =
-    tables-all c.args.state.now.dc_tables c.args.header.now.dc_table_indices.items c.loop-slot.slot
-    (map (λ t. t.now) c.loop-slot.tables.items) _ (search rules) c.loop-slot.invariant
+    let ts = c.args.state.now.dc_tables in
+    let ds = c.args.header.now.dc_table_indices.items in
+    no-more (λ i. tables_in ts (drop i ds)) c.loop-slot.slot (map (λ t. t.now) c.loop-slot.tables.items) _
+    (no-tables ts ds c.loop-slot.slot (search rules)) c.loop-slot.invariant

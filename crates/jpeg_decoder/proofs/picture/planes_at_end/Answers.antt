@@ -1,15 +1,20 @@
-use Rattle.std.proofs.Common.{◌≡◌, ◌∷◌, ◌++◌, [], get_or, map, rules, arith, refl, sym, ap}
+use Rattle.std.proofs.Common.{◌≡◌, ◌∷◌, ◌++◌, [], drop, get_or, map, rules, arith, refl, sym, ap}
 use Rattle.std.proofs.Common.{None, ◌∙◌}
 use Rattle.std.specs.Prelude.{option_map}
 use Rattle.std.proofs.lemmas.List.{length-map, map-append}
+use Rattle.std.proofs.lemmas.Grind.{drop_more_same}
 use Rattle.std.proofs.lemmas.Result.{err_from_is_err_and}
+use Rattle.jpeg_bits.proofs.Loops.{Names-through}
+use Rattle.jpeg_streams.specs.FoundPictures.{plane_at_end, planes_from}
 use Rattle.jpeg_segments.specs.FrameView.{component_in, frame_in}
 use Rattle.jpeg_decoder.specs.Scanning.{arrays_in, blocks_in}
 use Rattle.jpeg_decoder.specs.Seen.{found_in, planes_in}
 use Rattle.jpeg_decoder.specs.Steps.{with_decoded}
-use Rattle.jpeg_decoder.proofs.EndedPlanes.{mapped-or, mapped-within, none-left, same-next, planes-kept, reached-four}
+use Rattle.jpeg_decoder.proofs.EndedPlanes.{mapped-or, none-left, planes-kept, reached-four}
 use Rattle.jpeg_decoder.proofs.EndedPlanes.{reached-held, reached-scale, reached-plane, reached-blocks, reached-end}
-use Rattle.jpeg_decoder.proofs.EndedPlanes.{failed-there, more-there, whole-there, planes-all, whole-all}
+use Rattle.jpeg_decoder.proofs.EndedPlanes.{no-planes, planes-after, whole-there, whole-all}
+use Rattle.jpeg_lossless.proofs.RowLoops.{mapped-within}
+use Rattle.jpeg_decoder.proofs.ReadLists.{no-more, one-more, one-refused}
 use Rattle.jpeg_decoder.proofs.picture.planes_at_end.Goals as goal
 
 pub listed : goal.listed
@@ -94,8 +99,10 @@ returns-in_err-plane_at_end-clause-planes c =
     c.from_residual-in_err-plane_at_end.ensures.1 in
     rw (p.1, p.2) (
       c.in_err-plane_at_end.ensures.plane.0,
-      failed-there found frame place component (map (λ v. v.items) c.loop-place.planes.items) _ _ _ within is
-          c.loop-place.invariant.given end c.in_err-plane_at_end.ensures.plane.1,
+      Names-through _ _ _ (λ f h. one-refused (λ i. planes_from found frame i (drop i frame.components)) place
+          (plane_at_end found frame place component) f (map (λ v. v.items) c.loop-place.planes.items) _
+          (planes-after found frame place component within is) (end ∙ h) c.loop-place.invariant.given)
+          c.in_err-plane_at_end.ensures.plane.1,
     )
 
 pub loop-place-preserved : goal.loop-place-preserved
@@ -123,12 +130,15 @@ loop-place-preserved c =
     let joined : map (λ v. v.items) c.push.new.self.items ≡ front ++ plane.items ∷ [] =
     ap (map (λ v. v.items)) pushed ∙ map-append (λ v. v.items) c.loop-place.planes.items (plane ∷ []) in
     record {
-      decided = planes-kept c.loop-place.decoded.planes place _ ∙ same-next planes (planes_in c.args.decoded.now.planes)
+      decided = planes-kept c.loop-place.decoded.planes place _
+          ∙ drop_more_same planes (planes_in c.args.decoded.now.planes)
           place c.loop-place.invariant.decided;
-      held = c.take_held-held.ensures.left ∙ same-next held (arrays_in c.args.decoded.now.held.items) place
+      held = c.take_held-held.ensures.left ∙ drop_more_same held (arrays_in c.args.decoded.now.held.items) place
           c.loop-place.invariant.held;
-      given = more-there found frame place component front _ plane.items _ _ within is c.loop-place.invariant.given end
-          c.in_ok-plane_at_end.ensures.plane joined;
+      given = one-more (λ i. planes_from found frame i (drop i frame.components)) place
+          (plane_at_end found frame place component) plane.items front _ _
+          (planes-after found frame place component within is) (end ∙ c.in_ok-plane_at_end.ensures.plane) joined
+          c.loop-place.invariant.given;
       whole = whole-there frame.components place component front _ plane.items within is c.loop-place.invariant.whole
           c.in_ok-plane_at_end.ensures.whole joined;
       count = search rules;
@@ -136,9 +146,11 @@ loop-place-preserved c =
 
 pub returns-clause-planes : goal.returns-clause-planes
 returns-clause-planes c =
-    planes-all (with_decoded (found_in c.args.state.now) c.args.decoded.now) (frame_in c.args.frame.now)
-    c.loop-place.place _ _ _
-    (none-left component_in c.args.frame.now.components.items c.loop-place.place (omega arith))
+    let found = with_decoded (found_in c.args.state.now) c.args.decoded.now in
+    let frame = frame_in c.args.frame.now in
+    no-more (λ i. planes_from found frame i (drop i frame.components)) c.loop-place.place _ _
+    (no-planes found frame c.loop-place.place
+    (none-left component_in c.args.frame.now.components.items c.loop-place.place (omega arith)))
     c.loop-place.invariant.given
 
 pub returns-clause-whole : goal.returns-clause-whole

@@ -5,7 +5,8 @@ use Rattle.jpeg_decoder.specs.Scanning.{arrays_in}
 use Rattle.jpeg_decoder.specs.Seen.{found_in, planes_in}
 use Rattle.jpeg_decoder.specs.Steps.{with_decoded}
 use Rattle.jpeg_streams.specs.FoundPictures.{planes_from}
-use Rattle.jpeg_decoder.proofs.EndedPlanes.{AreWholeWith, others-after}
+use Rattle.jpeg_decoder.proofs.EndedPlanes.{AreWholeWith}
+use Rattle.jpeg_decoder.proofs.ReadLists.{after}
 use Rattle.jpeg_decoder.proofs.picture.planes_at_end.Given as goal
 
 abbrev pub invariant-loop-place : goal.invariant-loop-place
@@ -15,7 +16,7 @@ invariant-loop-place l = record {
   given : planes_from (with_decoded (found_in l.fn.state) l.fn.decoded) (frame_in l.fn.frame) 0
       (frame_in l.fn.frame).components
       ≡ (planes_from (with_decoded (found_in l.fn.state) l.fn.decoded) (frame_in l.fn.frame) l.place
-      (drop l.place (frame_in l.fn.frame).components) >>= others-after (map (λ v. v.items) l.planes.items));
+      (drop l.place (frame_in l.fn.frame).components) >>= after (map (λ v. v.items) l.planes.items));
   whole : AreWholeWith (frame_in l.fn.frame).components l.place (map (λ v. v.items) l.planes.items);
   count : length l.planes.items ≡ l.place;
 }

@@ -1,11 +1,17 @@
-use Rattle.std.proofs.Common.{◌≡◌, ◌<◌, ◌∷◌, ◌++◌, ◌∙◌, [], None, Some, ap, sym, arith, get_or, map, rules}
+use Rattle.std.proofs.Common.{◌≡◌, ◌<◌, ◌∷◌, ◌++◌, ◌∙◌, [], None, Some, ap, sym, arith, drop, get_or, map, rules}
 use Rattle.std.specs.Prelude.{option_map, slice_index_or}
 use Rattle.std.proofs.lemmas.List.{length-map, map-append}
+use Rattle.std.proofs.lemmas.Grind.{drop_more_same}
 use Rattle.std.proofs.lemmas.Result.{err_from_is_err_and}
+use Rattle.jpeg_bits.specs.Reading.{Malformed}
+use Rattle.jpeg_streams.specs.LosslessScans.{samples_from}
+use Rattle.jpeg_streams.specs.Needed.{needed}
 use Rattle.jpeg_segments.specs.FrameView.{component_in, frame_in}
 use Rattle.jpeg_decoder.specs.Seen.{planes_in}
-use Rattle.jpeg_decoder.proofs.EndedPlanes.{mapped-or, mapped-within, planes-kept, same-at, same-next}
-use Rattle.jpeg_decoder.proofs.LosslessReads.{samples-all, samples-lack, samples-there}
+use Rattle.jpeg_decoder.proofs.EndedPlanes.{mapped-or, planes-kept, same-at}
+use Rattle.jpeg_decoder.proofs.LosslessReads.{no-samples, samples-after}
+use Rattle.jpeg_lossless.proofs.RowLoops.{mapped-within}
+use Rattle.jpeg_decoder.proofs.ReadLists.{no-more, one-more, one-refused}
 use Rattle.jpeg_decoder.proofs.SlotCodings.{format-refuses}
 use Rattle.jpeg_decoder.proofs.picture.samples_at_end.Goals as goal
 
@@ -26,8 +32,9 @@ returns-in_err-needed-clause-planes c =
     sym (same-at (planes_in l.decoded.samples) samples l.place None l.invariant.left) ∙ sym taken ∙ none in
     let p = err_from_is_err_and c.from_residual-in_err-needed.result c.from_residual-in_err-needed.ensures.1 in
     rw (p.1, p.2) (format-refuses c.in_err-needed.field-0.0 _ c.in_err-needed.ensures.1
-    (samples-lack samples (frame_in c.args.frame.now).components l.place (map (λ v. v.items) l.planes.items) _ within
-    unset l.invariant.given))
+    (one-refused (λ i. samples_from samples i (drop i (frame_in c.args.frame.now).components)) l.place
+    (needed (slice_index_or samples l.place None)) Malformed (map (λ v. v.items) l.planes.items) _
+    (samples-after samples (frame_in c.args.frame.now).components l.place within) (ap needed unset) l.invariant.given))
 
 pub loop-place-preserved : goal.loop-place-preserved
 loop-place-preserved c =
@@ -50,16 +57,20 @@ loop-place-preserved c =
     let joined : map (λ v. v.items) c.push.new.self.items ≡ front ++ plane.items ∷ [] =
     ap (map (λ v. v.items)) pushed ∙ map-append (λ v. v.items) l.planes.items (plane ∷ []) in
     record {
-      left = planes-kept l.decoded.samples l.place _ ∙ same-next (planes_in l.decoded.samples) samples l.place
+      left = planes-kept l.decoded.samples l.place _ ∙ drop_more_same (planes_in l.decoded.samples) samples l.place
           l.invariant.left;
-      given = samples-there samples (frame_in c.args.frame.now).components l.place front _ plane.items _ within set
-          joined l.invariant.given;
+      given = one-more (λ i. samples_from samples i (drop i (frame_in c.args.frame.now).components)) l.place
+          (needed (slice_index_or samples l.place None)) plane.items front _ _
+          (samples-after samples (frame_in c.args.frame.now).components l.place within) (ap needed set) joined
+          l.invariant.given;
       count = search rules;
     }
 
 pub returns-clause-planes : goal.returns-clause-planes
 returns-clause-planes c =
     let l = c.loop-place in
-    samples-all (planes_in c.args.decoded.now.samples) (frame_in c.args.frame.now).components l.place
-    (map (λ v. v.items) l.planes.items) _ (omega (arith, length-map c.args.frame.now.components.items component_in))
+    let samples = planes_in c.args.decoded.now.samples in
+    let cs = (frame_in c.args.frame.now).components in
+    no-more (λ i. samples_from samples i (drop i cs)) l.place (map (λ v. v.items) l.planes.items) _
+    (no-samples samples cs l.place (omega (arith, length-map c.args.frame.now.components.items component_in)))
     l.invariant.given

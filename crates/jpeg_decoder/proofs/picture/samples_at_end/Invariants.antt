@@ -3,7 +3,7 @@ use Rattle.jpeg_bits.specs.Reading.{◌>>=◌}
 use Rattle.jpeg_segments.specs.FrameView.{frame_in}
 use Rattle.jpeg_streams.specs.LosslessScans.{samples_from}
 use Rattle.jpeg_decoder.specs.Seen.{planes_in}
-use Rattle.jpeg_decoder.proofs.LosslessReads.{others-after}
+use Rattle.jpeg_decoder.proofs.ReadLists.{after}
 use Rattle.jpeg_decoder.proofs.picture.samples_at_end.Given as goal
 
 abbrev pub invariant-loop-place : goal.invariant-loop-place
@@ -11,6 +11,6 @@ invariant-loop-place l = record {
   left : drop l.place (planes_in l.decoded.samples) ≡ drop l.place (planes_in l.fn.decoded.samples);
   given : samples_from (planes_in l.fn.decoded.samples) 0 (frame_in l.fn.frame).components
       ≡ (samples_from (planes_in l.fn.decoded.samples) l.place (drop l.place (frame_in l.fn.frame).components)
-      >>= others-after (map (λ v. v.items) l.planes.items));
+      >>= after (map (λ v. v.items) l.planes.items));
   count : length l.planes.items ≡ l.place;
 }

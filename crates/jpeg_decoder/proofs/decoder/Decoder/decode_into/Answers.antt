@@ -1,14 +1,12 @@
-use Rattle.std.proofs.Common.{◌≡◌, ◌++◌, ◌∙◌, ℕ, List, [], Ok, Err, Result, ap, sym, subst, drop, length, length-take, take, arith}
-use Rattle.std.proofs.Common.{rules}
+use Rattle.std.proofs.Common.{◌≡◌, ◌++◌, ◌∙◌, ℕ, List, [], Ok, Err, Result, ap, subst, drop, length, length-take, take, arith}
 use Rattle.std.proofs.lemmas.Result.{err_from_is_err_and}
 use Rattle.jpeg_bits.specs.declared.error.Error.{Error}
 use Rattle.std.specs.Prelude.{OnOk}
 use Rattle.jpeg_streams.specs.Sound.{HasDecodedFrame}
 use Rattle.jpeg_streams.specs.Stream.{told_of}
-use Rattle.jpeg_streams.specs.Found.{Found}
 use Rattle.jpeg_decoder.specs.Seen.{found_in, stage_of}
 use Rattle.jpeg_decoder.proofs.DecodedImages.{decodes-images}
-use Rattle.jpeg_decoder.proofs.DecodedInto.{HasRead, IsBegun, begun-seen, front-of, into-err, into-ok, into-refused}
+use Rattle.jpeg_decoder.proofs.DecodedInto.{HasRead, begun-seen, front-of, into-err, into-ok, into-refused}
 use Rattle.jpeg_decoder.proofs.DecodedSamples.{decodes-samples}
 use Rattle.jpeg_decoder.proofs.PictureSizes.{counted, whole-if}
 use Rattle.jpeg_decoder.proofs.decoder.Decoder.decode_into.Given as given
@@ -57,12 +55,9 @@ pub returns-in_err-written-clause-reads : goal.returns-in_err-written-clause-rea
 returns-in_err-written-clause-reads g c room =
     let p = err_from_is_err_and c.from_residual-in_err-written.result c.from_residual-in_err-written.ensures.1 in
     let h = into-err (λ (n : ℕ). []) _ c.args.self.now _ _ _ c.read_rest_into-written.result _
-    (begun-seen c.args.self.now c.read_info.new.self _ c.self-2.view_is
-    (record {
-      fresh = c.in_default.ensures.reads;
-      still = c.in_default.ensures.still;
-      settings = c.in_default.ensures.settings;
-    })) c.in_err-written.was c.read_rest_into-written.ensures.reads c.read_rest_into-written.ensures.told
+    (begun-seen c.args.self.now c.read_info.new.self _ c.self-2.view_is c.in_default.ensures.reads
+    c.in_default.ensures.still c.in_default.ensures.settings)
+    c.in_err-written.was c.read_rest_into-written.ensures.reads c.read_rest_into-written.ensures.told
     c.read_rest_into-written.ensures.turns in
     rw (p.1, p.2) h.reads
 
@@ -70,24 +65,18 @@ pub returns-in_err-written-clause-told : goal.returns-in_err-written-clause-told
 returns-in_err-written-clause-told g c room =
     let p = err_from_is_err_and c.from_residual-in_err-written.result c.from_residual-in_err-written.ensures.1 in
     let h = into-err (λ (n : ℕ). []) _ c.args.self.now _ _ _ c.read_rest_into-written.result _
-    (begun-seen c.args.self.now c.read_info.new.self _ c.self-2.view_is
-    (record {
-      fresh = c.in_default.ensures.reads;
-      still = c.in_default.ensures.still;
-      settings = c.in_default.ensures.settings;
-    })) c.in_err-written.was c.read_rest_into-written.ensures.reads c.read_rest_into-written.ensures.told
+    (begun-seen c.args.self.now c.read_info.new.self _ c.self-2.view_is c.in_default.ensures.reads
+    c.in_default.ensures.still c.in_default.ensures.settings)
+    c.in_err-written.was c.read_rest_into-written.ensures.reads c.read_rest_into-written.ensures.told
     c.read_rest_into-written.ensures.turns in
     rw (p.1, p.2) h.told_is
 
 pub returns-in_err-written-clause-turns : goal.returns-in_err-written-clause-turns
 returns-in_err-written-clause-turns g c room =
     let h = into-err (λ (n : ℕ). []) _ c.args.self.now _ _ _ c.read_rest_into-written.result _
-    (begun-seen c.args.self.now c.read_info.new.self _ c.self-2.view_is
-    (record {
-      fresh = c.in_default.ensures.reads;
-      still = c.in_default.ensures.still;
-      settings = c.in_default.ensures.settings;
-    })) c.in_err-written.was c.read_rest_into-written.ensures.reads c.read_rest_into-written.ensures.told
+    (begun-seen c.args.self.now c.read_info.new.self _ c.self-2.view_is c.in_default.ensures.reads
+    c.in_default.ensures.still c.in_default.ensures.settings)
+    c.in_err-written.was c.read_rest_into-written.ensures.reads c.read_rest_into-written.ensures.told
     c.read_rest_into-written.ensures.turns in
     h.turns
 
@@ -95,12 +84,9 @@ pub returns-in_err-written-clause-images : goal.returns-in_err-written-clause-im
 returns-in_err-written-clause-images g c room =
     let p = err_from_is_err_and c.from_residual-in_err-written.result c.from_residual-in_err-written.ensures.1 in
     let h = into-err (λ (n : ℕ). []) _ c.args.self.now _ _ _ c.read_rest_into-written.result _
-    (begun-seen c.args.self.now c.read_info.new.self _ c.self-2.view_is
-    (record {
-      fresh = c.in_default.ensures.reads;
-      still = c.in_default.ensures.still;
-      settings = c.in_default.ensures.settings;
-    })) c.in_err-written.was c.read_rest_into-written.ensures.reads c.read_rest_into-written.ensures.told
+    (begun-seen c.args.self.now c.read_info.new.self _ c.self-2.view_is c.in_default.ensures.reads
+    c.in_default.ensures.still c.in_default.ensures.settings)
+    c.in_err-written.was c.read_rest_into-written.ensures.reads c.read_rest_into-written.ensures.told
     c.read_rest_into-written.ensures.turns in
     rw (p.1, p.2) (decodes-images (λ (n : ℕ). []) c.args.self.now (record {
       source = c.read_rest_into-written.new.source;
@@ -113,12 +99,9 @@ pub returns-in_err-written-clause-samples : goal.returns-in_err-written-clause-s
 returns-in_err-written-clause-samples g c room =
     let p = err_from_is_err_and c.from_residual-in_err-written.result c.from_residual-in_err-written.ensures.1 in
     let h = into-err (λ (n : ℕ). []) _ c.args.self.now _ _ _ c.read_rest_into-written.result _
-    (begun-seen c.args.self.now c.read_info.new.self _ c.self-2.view_is
-    (record {
-      fresh = c.in_default.ensures.reads;
-      still = c.in_default.ensures.still;
-      settings = c.in_default.ensures.settings;
-    })) c.in_err-written.was c.read_rest_into-written.ensures.reads c.read_rest_into-written.ensures.told
+    (begun-seen c.args.self.now c.read_info.new.self _ c.self-2.view_is c.in_default.ensures.reads
+    c.in_default.ensures.still c.in_default.ensures.settings)
+    c.in_err-written.was c.read_rest_into-written.ensures.reads c.read_rest_into-written.ensures.told
     c.read_rest_into-written.ensures.turns in
     rw (p.1, p.2) (decodes-samples (λ (n : ℕ). []) c.args.self.now (record {
       source = c.read_rest_into-written.new.source;
@@ -148,12 +131,9 @@ done : (g : given.Over) (c : goal.In_ok-written g)
 done g c =
     into-ok (λ n. take n (c.read_rest_into-written.new.pixels ++ drop c.in_ok-size.size c.args.pixels.now)) _
     c.args.self.now _ _ _ c.read_rest_into-written.result c.in_ok-size.size
-    (begun-seen c.args.self.now c.read_info.new.self _ c.self-2.view_is
-    (record {
-      fresh = c.in_default.ensures.reads;
-      still = c.in_default.ensures.still;
-      settings = c.in_default.ensures.settings;
-    })) c.in_ok-written.was (front g c) c.read_rest_into-written.ensures.reads c.read_rest_into-written.ensures.told
+    (begun-seen c.args.self.now c.read_info.new.self _ c.self-2.view_is c.in_default.ensures.reads
+    c.in_default.ensures.still c.in_default.ensures.settings)
+    c.in_ok-written.was (front g c) c.read_rest_into-written.ensures.reads c.read_rest_into-written.ensures.told
     c.read_rest_into-written.ensures.turns
 
 pub returns-clause-reads : goal.returns-clause-reads
