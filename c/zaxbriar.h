@@ -97,7 +97,7 @@ typedef struct zaxbriar_options {
 typedef struct zaxbriar_picture {
     uint64_t size;           /* the bytes of the picture: stride * (height - 1) + row_bytes */
     uint64_t row_bytes;      /* the bytes of a line without its gap: width * pixel_bytes */
-    uint64_t decoding_bytes; /* the memory that decoding allocates for samples */
+    uint64_t decoding_bytes; /* the most memory that decoding takes for samples */
     uint64_t stream_bytes;   /* after decoding: how many bytes of `jpeg` were read */
     uint32_t width;          /* in pixels, at the scale of the options */
     uint32_t height;
@@ -117,8 +117,9 @@ ZAXBRIAR_CALL int zaxbriar_read_info(const void *jpeg, size_t jpeg_size,
                                      const zaxbriar_options *options, zaxbriar_picture *picture);
 
 /* Decodes the picture into `pixels`. The bytes between the lines and after the last one are left
- * unchanged. A buffer that is too small is refused before the picture is decoded. `picture` may be
- * null. */
+ * unchanged. A buffer that is too small is refused before the picture is decoded. A picture as it
+ * is stored and without gaps is decoded in `pixels` itself, and otherwise copied there. `picture`
+ * may be null. */
 ZAXBRIAR_CALL int zaxbriar_decode(const void *jpeg, size_t jpeg_size,
                                   const zaxbriar_options *options, void *pixels,
                                   size_t pixels_size, zaxbriar_picture *picture);

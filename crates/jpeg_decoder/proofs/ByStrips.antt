@@ -96,13 +96,12 @@ strips-grow : (r : ℕ) (codings : List Coding) (front arrays : Arrays) → AreR
     → with_strips codings arrays (grown r codings front) ≡ grown (r + 1) codings (joined front arrays)
 unfolding AreRows with_strips joined grown
 strips-grow r [] [] [] h k = refl
-strips-grow r [] [] (b ∷ arrays) h k = absurd k
-strips-grow r [] (a ∷ front) arrays h k = absurd h
-strips-grow r (c ∷ codings) [] arrays h k = absurd h
-strips-grow r (c ∷ codings) (a ∷ front) [] h k = absurd k
 strips-grow r (c ∷ codings) (a ∷ front) (b ∷ arrays) h k =
     ap₂ (λ (x : List ℕ) (l : List (List ℕ)). x ∷ l) (one-more r c a b h.0 k.0)
     (strips-grow r codings front arrays h.1 k.1)
+strips-grow r [] (a ∷ front) arrays h k = absurd h
+strips-grow r (c ∷ codings) [] arrays h k = absurd h
+strips-grow r _ _ _ h k = absurd k
 
 strips-in-turn : (p : Pass) (vias : List Via) (n : ℕ) (codings : List Coding) (rows : List (List Spot))
     (r : ℕ) (front : Arrays) (old : Counted) (t : Text)
@@ -177,12 +176,11 @@ all-grown : (frame : Frame) (codings : List Coding) (arrays : Arrays)
     → AllByRecursion (Fits frame) (components_of codings) → grown frame.mcus_high codings arrays
     ≡ planes_by codings arrays
 unfolding planes_by samples_of plane_by grown
-all-grown frame [] arrays fits = refl
-all-grown frame (c ∷ codings) [] fits = refl
 all-grown frame (c ∷ codings) (blocks ∷ arrays) fits =
     ap₂ (λ (n : ℕ) (l : List (List ℕ)). plane_of c.component.scale
     (values_in_block_order c.quantization) c.component.blocks_wide n (in_raster c.component.blocks_wide blocks) ∷ l)
     (sym fits.0.high) (all-grown frame codings arrays fits.1)
+all-grown frame _ _ fits = refl
 
 -- A sequential scan is its rows of MCUs, each of which gives a strip of each plane.
 pub planes-by-rows : (frame : Frame) (c : Coding) (codings : List Coding) (p : Pass) (n : ℕ) (vias : List Via)

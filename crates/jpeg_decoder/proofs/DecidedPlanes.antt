@@ -37,9 +37,8 @@ planes_set marks place plane planes h = go (list_all (λ mark. mark) marks) (sli
               (decided (slice_index_or planes place None) plane)
           | false ↦ planes
         ] ≡ slice_set planes place (Some plane)
-    go false o e h = absurd cc
-    go true (Some first) e h = absurd cc
     go true None e h = ap (λ (q : Option (List ℕ)). slice_set planes place (decided q plane)) e
+    go _ _ e h = absurd cc
 
 -- a component whose plane isn't wanted
 pub its_plane_kept : (p : Pass) (place : ℕ) (plane : List ℕ) (found : Found) (finished : List (List Bool))
@@ -49,13 +48,8 @@ pub its_plane_kept : (p : Pass) (place : ℕ) (plane : List ℕ) (found : Found)
     → record found { finished = finished; planes = planes } ≡ with_its_plane p place plane found
 unfolding with_its_plane
 its_plane_kept p place plane found finished planes e k h =
-    ap (λ (f : List (List Bool)). record found { finished = f; planes = planes }) e
-    ∙ ap (λ (ps : List (Option (List ℕ))). record found {
-      finished = slice_set found.finished place
-          (marks_after p found.finished place);
-      planes = ps;
-    })
-    (k ∙ sym (planes_kept (marks_after p found.finished place) place plane found.planes h))
+    let same = k ∙ sym (planes_kept (marks_after p found.finished place) place plane found.planes h) in
+    λ i. record found { finished = e i; planes = same i }
 
 -- and one whose plane is
 pub its_plane_set : (p : Pass) (place : ℕ) (plane : List ℕ) (found : Found) (finished : List (List Bool))
@@ -66,12 +60,7 @@ pub its_plane_set : (p : Pass) (place : ℕ) (plane : List ℕ) (found : Found) 
     → record found { finished = finished; planes = planes } ≡ with_its_plane p place plane found
 unfolding with_its_plane
 its_plane_set p place plane found finished planes e k h =
-    ap (λ (f : List (List Bool)). record found { finished = f; planes = planes }) e
-    ∙ ap (λ (ps : List (Option (List ℕ))). record found {
-      finished = slice_set found.finished place
-          (marks_after p found.finished place);
-      planes = ps;
-    })
-    (k ∙ sym (planes_set (marks_after p found.finished place) place plane found.planes h))
+    let same = k ∙ sym (planes_set (marks_after p found.finished place) place plane found.planes h) in
+    λ i. record found { finished = e i; planes = same i }
 
 pub ruleset plane_rules = (its_plane_kept, its_plane_set)

@@ -84,8 +84,7 @@ alike-ended n (Ok r) (Ok q) h =
     go (Ok m) = (refl, (refl, h.1))
     go (Err f) = refl
 alike-ended n (Err f) (Err g) h = h
-alike-ended n (Ok r) (Err g) h = absurd h
-alike-ended n (Err f) (Ok q) h = absurd h
+alike-ended n _ _ h = absurd h
 
 module _ (p : Pass) (vias : List Via) (n : ℕ) (frame : Frame) (codings : List Coding) (bytes : List ℕ) where
   abbrev by_rows : Planes → Outcome (Planes × Option Marker)
@@ -108,9 +107,8 @@ module _ (p : Pass) (vias : List Via) (n : ℕ) (frame : Frame) (codings : List 
     where
       go : (o q : Outcome (Planes × Option Marker)) → AlikeEnds (length codings) o q → q ≡ Err fault → o ≡ Err fault
       go (Ok r) (Ok q) k h = absurd cc
-      go (Ok r) (Err g) k h = absurd k
-      go (Err f) (Ok q) k h = absurd k
       go (Err f) (Err g) k h = ap Err k ∙ h
+      go _ _ k h = absurd k
 
   -- the planes that would have been made
   pub record ReadAgain (met : Option Marker) (rest : List ℕ) : Type 0 where
@@ -162,23 +160,20 @@ its-plane-decided : (p : Pass) (place : ℕ) (plane : List ℕ) (found : Found)
     ≡ record found { finished = slice_set found.finished place (marks_after p found.finished place) }
 unfolding with_its_plane
 its-plane-decided p place plane found h =
-    ap (λ (ps : List (Option (List ℕ))). record found {
-      finished = slice_set found.finished place (marks_after p found.finished place);
-      planes = ps;
-    }) (planes_kept (marks_after p found.finished place) place plane found.planes
-    (not-wanted (marks_after p found.finished place) (slice_index_or found.planes place None) h))
+    let marks = marks_after p found.finished place in
+    let kept = planes_kept marks place plane found.planes (not-wanted marks (slice_index_or found.planes place None) h) in
+    λ i. record found { finished = slice_set found.finished place marks; planes = kept i }
 
 pub planes-decided : (p : Pass) (codings : List Coding) (planes : Planes) (found : Found)
     → AllByRecursion (IsDecided found.planes) codings → length planes ≡ length codings
     → with_planes p codings planes found ≡ record found { finished = finished_after p codings found.finished }
 unfolding with_planes finished_after
 planes-decided p [] [] found h e = refl
-planes-decided p [] (x ∷ planes) found h e = absurd (omega arith)
-planes-decided p (c ∷ codings) [] found h e = absurd (omega arith)
 planes-decided p (c ∷ codings) (x ∷ planes) found h e =
     ap (with_planes p codings planes) (its-plane-decided p c.place x found h.0)
     ∙ planes-decided p codings planes
     (record found { finished = slice_set found.finished c.place (marks_after p found.finished c.place) }) h.1 (omega arith)
+planes-decided p _ _ found h e = absurd (omega arith)
 
 -- ---- a loop over the components
 

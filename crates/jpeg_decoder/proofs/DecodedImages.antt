@@ -10,7 +10,7 @@ use Rattle.jpeg_streams.specs.ArrayPictures.{picture_of_array, Takes}
 use Rattle.jpeg_streams.specs.DecodedImages.{AtLeast, DecodesImages, FailsOutside, FullSize, Gives, HasLeft, Size}
 use Rattle.jpeg_streams.specs.DecodedImages.{at_size}
 use Rattle.jpeg_streams.specs.Levels.{Is8Bit, Levels}
-use Rattle.jpeg_streams.specs.States.{Decoding, Failed, Finished, Fresh, HeaderRead, IsReading, Stage, ahead}
+use Rattle.jpeg_streams.specs.States.{Decoding, Fresh, HeaderRead, IsReading, Stage, ahead}
 use Rattle.jpeg_streams.specs.Stream.{Told, header_at, meaning, rest_at, sized_meaning, told_of}
 use Rattle.jpeg_streams.specs.Found.{Found}
 use Rattle.jpeg_streams.specs.WrittenImages.{WritesImage}
@@ -26,10 +26,8 @@ use Rattle.jpeg_streams.proofs.WrittenPictures.{taken-means}
 pub left-reading : (size : Size) (bytes : List ℕ) (stage : Stage) (found : Found) (left : List ℕ)
     → HasLeft size bytes stage found left → IsReading stage
 left-reading FullSize bytes Fresh found left h = tt
-left-reading (AtLeast width height) bytes Fresh found left h = absurd h
 left-reading size bytes HeaderRead found left h = tt
-left-reading size bytes Finished found left h = absurd h
-left-reading size bytes Failed found left h = absurd h
+left-reading _ bytes _ found left h = absurd h
 
 -- the meaning of a stream whose picture is to have a size
 abbrev pub means_at : Size → Settings → List ℕ → Outcome (Told × List ℕ)
@@ -52,11 +50,9 @@ pub left-means : (size : Size) (settings : Settings) (bytes : List ℕ) (stage :
     (o : Outcome (Told × List ℕ))
     → HasLeft size bytes stage found left → means_at size settings bytes ≡ o → ahead stage settings found left ≡ o
 left-means FullSize settings bytes Fresh found left o h e = ap (meaning settings) h ∙ e
-left-means (AtLeast width height) settings bytes Fresh found left o h e = absurd h
 left-means size settings bytes HeaderRead found left o h e =
     ap (λ (x : Found). rest_at settings x left) h.2 ∙ sym (rest-begins size settings h.0 bytes left h.1) ∙ e
-left-means size settings bytes Finished found left o h e = absurd h
-left-means size settings bytes Failed found left o h e = absurd h
+left-means _ settings bytes _ found left o h e = absurd h
 
 -- ---- what is given
 
@@ -65,11 +61,10 @@ no-refusal o y f e h = absurd (false≢true (ap is_ok (sym h ∙ e)))
 
 -- Where bytes have a meaning, an error that their source allows is that memory is out.
 only-memory : {Y : Type 0} (e : Error) (o : Result Y Fault) (y : Y) → o ≡ Ok y → Names e o → e ≡ errors.OutOfMemory
-only-memory (errors.Format text) o y h n = no-refusal o y _ h n
-only-memory (errors.Unsupported feature) o y h n = no-refusal o y _ h n
 only-memory (errors.Io x) o y h n = no-refusal o y _ h n.0
 only-memory (errors.Internal text) o y h n = absurd n
 only-memory errors.OutOfMemory o y h n = refl
+only-memory _ o y h n = no-refusal o y _ h n
 
 pub gives : {X : Type 0} (bytes_of : X → List ℕ) (o : Result (List ℕ) Fault) (picture rest : List ℕ) (final : Found)
     (new : Decoding)

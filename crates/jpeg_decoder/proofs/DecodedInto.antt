@@ -9,7 +9,7 @@ use Rattle.jpeg_bits.specs.declared.error.Error.TheVariants as errors
 use Rattle.jpeg_streams.specs.declared.settings.Settings.{Settings}
 use Rattle.jpeg_streams.specs.Found.{Found}
 use Rattle.jpeg_streams.specs.Reported.{IsOfTurns, told_by_stream, told_in_turns, told_rest}
-use Rattle.jpeg_streams.specs.States.{Failed, Finished, Fresh, HeaderRead, IfRefused, IsReading, OnTold}
+use Rattle.jpeg_streams.specs.States.{Fresh, HeaderRead, IfRefused, IsReading, OnTold}
 use Rattle.jpeg_streams.specs.States.{Decoding, MovesToHeader, Stage, ahead, told_ahead, turns_ahead}
 use Rattle.jpeg_streams.specs.Stream.{Told, header_at, rest_at, told_of}
 use Rattle.jpeg_streams.proofs.Refusals.{told-err}
@@ -59,8 +59,7 @@ reads-on told bytes_of HeaderRead settings found begun source mid new r reading 
     let s = b.still other-stage in
     subst (λ (m : Stream). Answers (λ x. (told, bytes_of x)) (rest_at settings found) m r new) s.1
     (subst (λ (f : Found). Answers (λ x. (told, bytes_of x)) (rest_at settings f) mid r new) s.0 h)
-reads-on told bytes_of Finished settings found begun source mid new r reading b h = absurd reading
-reads-on told bytes_of Failed settings found begun source mid new r reading b h = absurd reading
+reads-on told bytes_of _ settings found begun source mid new r reading b h = absurd reading
 
 pub told-on : {X : Type 0} (told : Told) (stage : Stage) (found begun : Found) (source mid new : Stream)
     (r : Result X Error) → IsReading stage → HasBegun stage found begun source mid
@@ -75,8 +74,7 @@ told-on told HeaderRead found begun source mid new r reading b h =
     let s = b.still other-stage in
     subst (λ (m : Stream). OnTold m new r (told ≡ told_rest false found m.bytes)) s.1
     (subst (λ (f : Found). OnTold mid new r (told ≡ told_rest false f mid.bytes)) s.0 h)
-told-on told Finished found begun source mid new r reading b h = absurd reading
-told-on told Failed found begun source mid new r reading b h = absurd reading
+told-on told _ found begun source mid new r reading b h = absurd reading
 
 pub turns-on : (told : Told) (stage : Stage) (found begun : Found) (source mid : Stream) → IsReading stage
     → HasBegun stage found begun source mid
@@ -88,8 +86,7 @@ turns-on told HeaderRead found begun source mid reading b h k =
     let s = b.still other-stage in
     subst (λ (m : Stream). m.known ≡ true → IsOfTurns (λ n. told_in_turns n false found m.bytes) told) s.1
     (subst (λ (f : Found). mid.known ≡ true → IsOfTurns (λ n. told_in_turns n false f mid.bytes) told) s.0 h) k
-turns-on told Finished found begun source mid reading b h k = absurd reading
-turns-on told Failed found begun source mid reading b h k = absurd reading
+turns-on told _ found begun source mid reading b h k = absurd reading
 
 -- ---- where the header is refused
 
@@ -98,8 +95,7 @@ pub refused-fresh : (stage new : Stage) (e : Error) → IsReading stage
     → MovesToHeader {X = Unit {0}} stage new (Err e) → stage ≡ Fresh
 refused-fresh Fresh new e reading h = refl
 refused-fresh HeaderRead new e reading h = absurd (false≢true h.1)
-refused-fresh Finished new e reading h = absurd reading
-refused-fresh Failed new e reading h = absurd reading
+refused-fresh _ new e reading h = absurd reading
 
 pub reads-refused : {X : Type 0} (told : Told) (bytes_of : X → List ℕ) (stage : Stage) (settings : Settings)
     (found begun : Found) (source new : Stream) (e : Error) → stage ≡ Fresh
@@ -111,11 +107,8 @@ reads-refused told bytes_of stage settings found begun source new e f h =
     (λ fault is. header-lacks settings source.bytes fault is) h)
 
 refused-and : (e : Error) (P Q R : Type 0) → (P → Q → R) → IfRefused e P → IfRefused e Q → IfRefused e R
-refused-and (errors.Format text) P Q R f p q = f p q
-refused-and (errors.Unsupported feature) P Q R f p q = f p q
-refused-and (errors.Io x) P Q R f p q = f p q
-refused-and (errors.Internal text) P Q R f p q = f p q
 refused-and errors.OutOfMemory P Q R f p q = tt
+refused-and _ _ _ _ f p q = f p q
 
 pub told-refused : (X : Type 0) (told : Told) (stage : Stage) (found begun : Found) (source new : Stream) (e : Error)
     → stage ≡ Fresh → Answers (λ (u : Unit {0}). begun) header_at source (Err e) new
@@ -168,32 +161,37 @@ has-begun old mid b = record {
   still = λ n. let s = b.still n in (ap (λ (d : Decoding). d.found) s, ap (λ (d : Decoding). d.source) s);
 }
 
+into : {X : Type 0} (bytes_of : X → List ℕ) (told : Told) (old mid : Decoding) (new : Stream) (r : Result X Error)
+    → IsBegun old mid
+    → Answers (λ x. (told, bytes_of x)) (rest_at mid.settings mid.found) mid.source r new
+    → OnTold mid.source new r (told ≡ told_rest false mid.found mid.source.bytes)
+    → (mid.source.known ≡ true → IsOfTurns (λ n. told_in_turns n false mid.found mid.source.bytes) told)
+    → HasRead bytes_of told old r new
+into {X = X} bytes_of told old mid new r b answers tells turns =
+    let begun = has-begun old mid b in
+    record {
+      reads = λ h. reads-on told bytes_of old.stage old.settings old.found mid.found old.source mid.source new r h begun
+          (subst (λ (s : Settings). Answers (λ (x : X). (told, bytes_of x)) (rest_at s mid.found) mid.source r new)
+          b.settings answers);
+      told_is = λ h. told-on {X = X} told old.stage old.found mid.found old.source mid.source new r h begun tells;
+      turns = λ h. turns-on told old.stage old.found mid.found old.source mid.source h begun turns;
+    }
+
 pub into-ok : {X : Type 0} (bytes_of : X → List ℕ) (told : Told) (old mid : Decoding) (pixels : List ℕ)
     (new : Stream) (r : Result (Unit {0}) Error) (x : X) → IsBegun old mid → r ≡ Ok tt → bytes_of x ≡ pixels
     → Answers (λ u. (told, pixels)) (rest_at mid.settings mid.found) mid.source r new
     → OnTold mid.source new r (told ≡ told_rest false mid.found mid.source.bytes)
     → (mid.source.known ≡ true → IsOfTurns (λ n. told_in_turns n false mid.found mid.source.bytes) told)
     → HasRead bytes_of told old (Ok x) new
-into-ok {X = X} bytes_of told old mid pixels new r x b is same answers tells turns =
-    let begun = has-begun old mid b in
+into-ok bytes_of told old mid pixels new r x b is same answers tells turns =
     let given = subst (λ (q : Result (Unit {0}) Error). Answers (λ u. (told, pixels)) (rest_at mid.settings mid.found)
     mid.source q new) is answers in
-    let own : Answers (λ (y : X). (told, bytes_of y)) (rest_at mid.settings mid.found) mid.source (Ok x) new = (
+    into bytes_of told old mid new (Ok x) b (
       given.0,
       λ k. ((given.1 k).0, (given.1 k).1 ∙ ap (λ (l : List ℕ). Ok ((told, l), new.bytes)) (sym same)),
-    ) in
-    let under : Answers (λ (y : X). (told, bytes_of y)) (rest_at old.settings mid.found) mid.source (Ok x) new =
-    subst (λ (s : Settings). Answers (λ (y : X). (told, bytes_of y)) (rest_at s mid.found) mid.source (Ok x) new)
-    b.settings own in
-    let said : OnTold {X = X} mid.source new (Ok x) (told ≡ told_rest false mid.found mid.source.bytes) =
-    subst (λ (q : Result (Unit {0}) Error). OnTold mid.source new q (told ≡ told_rest false mid.found mid.source.bytes))
-    is tells in
-    record {
-      reads = λ h. reads-on told bytes_of old.stage old.settings old.found mid.found old.source mid.source new (Ok x) h
-          begun under;
-      told_is = λ h. told-on {X = X} told old.stage old.found mid.found old.source mid.source new (Ok x) h begun said;
-      turns = λ h. turns-on told old.stage old.found mid.found old.source mid.source h begun turns;
-    }
+    )
+    (subst (λ (q : Result (Unit {0}) Error). OnTold mid.source new q (told ≡ told_rest false mid.found mid.source.bytes))
+    is tells) turns
 
 pub into-err : {X : Type 0} (bytes_of : X → List ℕ) (told : Told) (old mid : Decoding) (pixels : List ℕ)
     (new : Stream) (r : Result (Unit {0}) Error) (e : Error) → IsBegun old mid → r ≡ Err e
@@ -201,23 +199,12 @@ pub into-err : {X : Type 0} (bytes_of : X → List ℕ) (told : Told) (old mid :
     → OnTold mid.source new r (told ≡ told_rest false mid.found mid.source.bytes)
     → (mid.source.known ≡ true → IsOfTurns (λ n. told_in_turns n false mid.found mid.source.bytes) told)
     → HasRead bytes_of told old (Err e) new
-into-err {X = X} bytes_of told old mid pixels new r e b is answers tells turns =
-    let begun = has-begun old mid b in
-    let own : Answers (λ (y : X). (told, bytes_of y)) (rest_at mid.settings mid.found) mid.source (Err e) new =
-    subst (λ (q : Result (Unit {0}) Error). Answers (λ u. (told, pixels)) (rest_at mid.settings mid.found)
-    mid.source q new) is answers in
-    let under : Answers (λ (y : X). (told, bytes_of y)) (rest_at old.settings mid.found) mid.source (Err e) new =
-    subst (λ (s : Settings). Answers (λ (y : X). (told, bytes_of y)) (rest_at s mid.found) mid.source (Err e) new)
-    b.settings own in
-    let said : OnTold {X = X} mid.source new (Err e) (told ≡ told_rest false mid.found mid.source.bytes) =
-    subst (λ (q : Result (Unit {0}) Error). OnTold mid.source new q (told ≡ told_rest false mid.found mid.source.bytes))
-    is tells in
-    record {
-      reads = λ h. reads-on told bytes_of old.stage old.settings old.found mid.found old.source mid.source new (Err e) h
-          begun under;
-      told_is = λ h. told-on {X = X} told old.stage old.found mid.found old.source mid.source new (Err e) h begun said;
-      turns = λ h. turns-on told old.stage old.found mid.found old.source mid.source h begun turns;
-    }
+into-err bytes_of told old mid pixels new r e b is answers tells turns =
+    into bytes_of told old mid new (Err e) b
+    (subst (λ (q : Result (Unit {0}) Error). Answers (λ u. (told, pixels)) (rest_at mid.settings mid.found)
+    mid.source q new) is answers)
+    (subst (λ (q : Result (Unit {0}) Error). OnTold mid.source new q (told ≡ told_rest false mid.found mid.source.bytes))
+    is tells) turns
 
 -- where the header was refused
 pub into-refused : {X : Type 0} (bytes_of : X → List ℕ) (told : Told) (old mid seen : Decoding) (e : Error)

@@ -1,125 +1,71 @@
 -- The header of a stream, and what stands in front of a frame.
 use Rattle.std.proofs.Common.{◌≡◌, ◌<◌, ℕ, zero, suc, List, Result, Ok, Err, Bool, true, false, Option, Some, None}
 use Rattle.std.proofs.Common.{refl, sym, ap, ◌∙◌, length, arith}
-use Rattle.std.specs.Prelude.{if◌then◌else◌, is_some, option_map}
+use Rattle.std.specs.Prelude.{if◌then◌else◌, is_some}
 use Rattle.std.proofs.Math.Bool.{cond}
-use Rattle.jpeg_bits.specs.Reading.{Outcome, Fault, End, ◌>>=◌, length_at, skip_at}
+use Rattle.jpeg_bits.specs.Reading.{Outcome, Fault, End, ◌>>=◌}
 use Rattle.jpeg_bits.specs.Marker.{next_marker}
 use Rattle.jpeg_bits.specs.declared.marker.Marker.{Marker}
-use Rattle.jpeg_bits.specs.declared.marker.Marker.TheVariants.{SOF, JPG, DHT, DAC, RST, SOI, EOI, SOS, DQT, DNL, DRI}
-use Rattle.jpeg_bits.specs.declared.marker.Marker.TheVariants.{DHP, EXP, APP, JPGn, COM, TEM, RES}
-use Rattle.jpeg_segments.specs.Frame.{Frame, sof_at}
-use Rattle.jpeg_segments.specs.Quantization.{dqt_at}
-use Rattle.jpeg_segments.specs.HuffmanTables.{dht_at}
-use Rattle.jpeg_segments.specs.Application.{app_at, dri_at}
+use Rattle.jpeg_bits.specs.declared.marker.Marker.TheVariants.{SOF, DHT, EOI, SOS, DQT, DRI}
+use Rattle.jpeg_bits.specs.declared.marker.Marker.TheVariants.{APP, COM}
+use Rattle.jpeg_segments.specs.Frame.{Frame}
 use Rattle.jpeg_streams.specs.declared.before.Before.TheVariants.{Elsewhere}
 use Rattle.jpeg_streams.specs.Needed.{needed}
-use Rattle.jpeg_streams.specs.Segments.{quantization_segment, frame_segment, accepted, onward, Turn, skipped_segment}
-use Rattle.jpeg_streams.specs.Segments.{application_segment, restart_segment, huffman_segment}
+use Rattle.jpeg_streams.specs.Segments.{Turn}
 use Rattle.jpeg_streams.specs.Found.{Found}
 use Rattle.jpeg_streams.specs.Stream.{end_segment, segment_at, turn_at, segments_within, segments_at}
 use Rattle.jpeg_streams.specs.ScanSegments.{scan_segment}
-use Rattle.jpeg_decoder.proofs.Turns.{turn-takes, segments-refused, segments-next}
+use Rattle.jpeg_decoder.proofs.Turns.{IsElsewhere, IsOnward, On, on-at, on-err, on-needs, on-weaker}
+use Rattle.jpeg_decoder.proofs.Turns.{application-goes, frame-goes, huffman-goes, quantization-goes, restart-goes}
+use Rattle.jpeg_decoder.proofs.Turns.{skipped-goes, turn-takes, segments-refused, segments-next}
 
 -- ---- turns in front of a frame
 
--- The image goes on elsewhere.
-unfoldable pub Begins : Outcome Turn → Type 0
-Begins (Ok x) = (x.0.ended ≡ false) × ((x.0.before ≡ Elsewhere) × (x.0.met ≡ None))
-Begins (Err fault) = Unit {0}
-
-begins-onward : (found : Found) (rest : List ℕ) → Begins (Ok (onward found, rest))
-unfolding Begins
-begins-onward found rest = (refl, (refl, refl))
-
-begins-err : (fault : Fault) → Begins (Err fault)
-unfolding Begins
-begins-err fault = tt
-
-begins-bind : {A : Type 0} (r : Result A Fault) (f : A → Outcome Turn) → ((x : A) → Begins (f x)) → Begins (r >>= f)
-begins-bind (Ok x) f q = q x
-begins-bind (Err fault) f q = begins-err fault
-
-begins-needed : (o : Option Frame) (f : Frame → Outcome Turn) → is_some o ≡ false → Begins (needed o >>= f)
-begins-needed None f e = begins-err _
+begins-needed : (o : Option Frame) (f : Frame → Outcome Turn) → is_some o ≡ false → On IsElsewhere (needed o >>= f)
+begins-needed None f e = on-err IsElsewhere _
 begins-needed (Some x) f e = absurd (let n : ⊥ = cc in n)
 
-begins-else : (b : Bool) (fault : Fault) (x : Outcome Turn) → Begins x → Begins (if b then Err fault else x)
-begins-else true fault x p = begins-err fault
-begins-else false fault x p = p
-
-begins-then : (b : Bool) (fault : Fault) (x : Outcome Turn) → b ≡ false → Begins (if b then x else Err fault)
+begins-then : (b : Bool) (fault : Fault) (x : Outcome Turn) → b ≡ false → On IsElsewhere (if b then x else Err fault)
 begins-then true fault x p = absurd (let n : ⊥ = cc in n)
-begins-then false fault x p = begins-err fault
+begins-then false fault x p = on-err IsElsewhere fault
 
-frame-begins : (number : ℕ) (found : Found) (bytes : List ℕ) → Begins (frame_segment number found bytes)
-unfolding frame_segment
-frame-begins number found bytes =
-    begins-else (is_some found.frame) _ _ (
-    begins-bind (sof_at number bytes) _ (λ f.
-    begins-bind (accepted f.0) _ (λ decoded. begins-onward _ f.1)))
+onward-begins : (bytes : List ℕ) (r : Outcome Turn) → On (IsOnward (length bytes)) r → On IsElsewhere r
+onward-begins bytes r h = on-weaker (IsOnward (length bytes)) IsElsewhere r (λ x k. k.0) h
 
-quantization-begins : (found : Found) (bytes : List ℕ) → Begins (quantization_segment found bytes)
-unfolding quantization_segment
-quantization-begins found bytes = begins-bind (dqt_at bytes) _ (λ t. begins-onward _ t.1)
-
-huffman-begins : (found : Found) (bytes : List ℕ) → Begins (huffman_segment found bytes)
-unfolding huffman_segment
-huffman-begins found bytes = begins-bind (dht_at (option_map (λ f. f.is_baseline) found.frame) bytes) _
-    (λ t. begins-onward _ t.1)
-
-restart-begins : (found : Found) (bytes : List ℕ) → Begins (restart_segment found bytes)
-unfolding restart_segment
-restart-begins found bytes = begins-bind (dri_at bytes) _ (λ t. begins-onward _ t.1)
-
-application-begins : (number : ℕ) (found : Found) (bytes : List ℕ) → Begins (application_segment number found bytes)
-unfolding application_segment
-application-begins number found bytes = begins-bind (app_at number bytes) _ (λ t. begins-onward _ t.1)
-
-skipped-begins : (found : Found) (bytes : List ℕ) → Begins (skipped_segment found bytes)
-unfolding skipped_segment
-skipped-begins found bytes =
-    begins-bind (length_at bytes) _ (λ n. begins-bind (skip_at n.0 n.1) _ (λ u. begins-onward found u.1))
-
-scan-begins : (found : Found) (bytes : List ℕ) → is_some found.frame ≡ false → Begins (scan_segment found bytes)
+scan-begins : (found : Found) (bytes : List ℕ) → is_some found.frame ≡ false → On IsElsewhere (scan_segment found bytes)
 unfolding scan_segment
 scan-begins found bytes none = begins-needed found.frame _ none
 
-end-begins : (found : Found) (bytes : List ℕ) → is_some found.frame ≡ false → Begins (end_segment found bytes)
+end-begins : (found : Found) (bytes : List ℕ) → is_some found.frame ≡ false → On IsElsewhere (end_segment found bytes)
 unfolding end_segment
 end-begins found bytes none = begins-then (is_some found.frame) _ _ none
 
 segment-begins : (m : Marker) (found : Found) (bytes : List ℕ) → is_some found.frame ≡ false
-    → Begins (segment_at m Elsewhere found bytes)
+    → On IsElsewhere (segment_at m Elsewhere found bytes)
 unfolding segment_at
-segment-begins (SOF number) found bytes none = frame-begins number found bytes
-segment-begins DQT found bytes none = quantization-begins found bytes
-segment-begins DHT found bytes none = huffman-begins found bytes
+segment-begins (SOF number) found bytes none =
+    onward-begins bytes _ (frame-goes (length bytes) number found bytes (omega arith))
+segment-begins DQT found bytes none =
+    onward-begins bytes _ (quantization-goes (length bytes) found bytes (omega arith))
+segment-begins DHT found bytes none =
+    onward-begins bytes _ (huffman-goes (length bytes) found bytes (omega arith))
 segment-begins SOS found bytes none = scan-begins found bytes none
 segment-begins EOI found bytes none = end-begins found bytes none
-segment-begins DRI found bytes none = restart-begins found bytes
-segment-begins (APP number) found bytes none = application-begins number found bytes
-segment-begins COM found bytes none = skipped-begins found bytes
-segment-begins (RST n) found bytes none = begins-err _
-segment-begins DNL found bytes none = begins-err _
-segment-begins JPG found bytes none = begins-err _
-segment-begins DAC found bytes none = begins-err _
-segment-begins SOI found bytes none = begins-err _
-segment-begins DHP found bytes none = begins-err _
-segment-begins EXP found bytes none = begins-err _
-segment-begins (JPGn n) found bytes none = begins-err _
-segment-begins TEM found bytes none = begins-err _
-segment-begins RES found bytes none = begins-err _
+segment-begins DRI found bytes none =
+    onward-begins bytes _ (restart-goes (length bytes) found bytes (omega arith))
+segment-begins (APP number) found bytes none =
+    onward-begins bytes _ (application-goes (length bytes) number found bytes (omega arith))
+segment-begins COM found bytes none =
+    onward-begins bytes _ (skipped-goes (length bytes) found bytes (omega arith))
+segment-begins _ found bytes none = on-err IsElsewhere _
 
 pub turn-begins : (found : Found) (bytes : List ℕ) → is_some found.frame ≡ false
-    → Begins (turn_at Elsewhere found None bytes)
+    → On IsElsewhere (turn_at Elsewhere found None bytes)
 unfolding turn_at
-turn-begins found bytes none = begins-bind (next_marker bytes) _ (λ m. segment-begins m.0 found m.1 none)
+turn-begins found bytes none = on-needs IsElsewhere (next_marker bytes) _ (λ m. segment-begins m.0 found m.1 none)
 
-pub begins-at : (r : Outcome Turn) (x : Turn × List ℕ) → Begins r → r ≡ Ok x
-    → (x.0.ended ≡ false) × ((x.0.before ≡ Elsewhere) × (x.0.met ≡ None))
-unfolding Begins
-begins-at r x h e = rw e at h
+pub begins-at : (r : Outcome Turn) (x : Turn × List ℕ) → On IsElsewhere r → r ≡ Ok x → IsElsewhere x
+begins-at r x h e = on-at IsElsewhere r x h e
 
 -- ---- the turns up to the frame
 

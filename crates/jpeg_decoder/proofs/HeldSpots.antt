@@ -71,13 +71,12 @@ held-spots frame cs vs fits arrays =
 are-rows : (cs : List Coded) (vs : List Held) → sizes_of vs ≡ row_sizes cs → AreRows 1 (components_in cs) (arrays_in vs)
 unfolding AreRows
 are-rows [] [] e = tt
-are-rows [] (v ∷ vs) e = absurd (let n = ap (λ (l : List ℕ). length l) e in omega arith)
-are-rows (c ∷ cs) [] e = absurd (let n = ap (λ (l : List ℕ). length l) e in omega arith)
 are-rows (c ∷ cs) (v ∷ vs) e = (
   length-map v.items to_block ∙ ap (λ (l : List ℕ). get_or l 0 0) e
       ∙ (let z : down_in c * wide_in c ≡ 1 * (down_in c * wide_in c) = omega arith in z),
   are-rows cs vs (ap (λ (l : List ℕ). drop 1 l) e),
 )
+are-rows _ _ e = absurd (let n = ap (λ (l : List ℕ). length l) e in omega arith)
 
 row-spots : (frame : Frame) (cs : List Coded) (vs : List Held) (row : ℕ) → AllByRecursion (Fits frame) (components_in cs)
     → sizes_of vs ≡ row_sizes cs

@@ -1,6 +1,8 @@
 -- The number of bytes of a picture.
 use Rattle.std.proofs.Common.{◌≡◌, ℕ, ◌-◌, ◌*◌, ◌<◌, List, [], length, get_or, map, sym, ap, ◌∙◌}
-use Rattle.std.proofs.Common.{refl, arith, subst, Result, Ok, Err}
+use Rattle.std.proofs.Common.{refl, arith, subst, Result, Ok, Err, Bool, true, false}
+use Rattle.std.specs.Prelude.{◌==◌, ◌||◌}
+use Rattle.std.proofs.lemmas.Bool.{eqb-true}
 use Rattle.std.proofs.lemmas.List.{length-map}
 use Rattle.std.proofs.lemmas.List.FromFn.{length-map-range_with_len, get_or-map-range_with_len}
 use Rattle.std.proofs.Math.Nat.{mul_comm}
@@ -14,6 +16,7 @@ use Rattle.jpeg_pixels.specs.Colour.{colour_of, line_bytes, conversion_of}
 use Rattle.jpeg_pixels.specs.Pictures.{Source, sources_of, lines_of, picture_line, picture_bytes, image_of}
 use Rattle.jpeg_pixels.specs.PicturesView.{IsFor}
 use Rattle.jpeg_pixels.specs.Planes.{cropped}
+use Rattle.jpeg_streams.specs.Segments.{is_decoded_count}
 use Rattle.jpeg_pixels.proofs.JoinedLines.{AreLong, joined-length}
 use Rattle.jpeg_pixels.proofs.LinesOfColour.{line-none}
 use Rattle.jpeg_pixels.proofs.ComponentLines.{lines_of-length, lines_of-long}
@@ -104,3 +107,14 @@ pub cropped-length : (stride width height : ℕ) (plane : List ℕ)
     → length (cropped stride width height plane) ≡ width * height
 unfolding cropped
 cropped-length stride width height plane = length-map-range_with_len _ 0 (width * height)
+
+-- What holds of one component, of three and of four holds of as many as are decoded.
+pub decoded-counts : (P : ℕ → Type 0) (n : ℕ) → is_decoded_count n ≡ true → P 1 → P 3 → P 4 → P n
+decoded-counts P n h one three four = go (n == 1) refl (n == 3) refl (n == 4) refl h
+  where
+    go : (a : Bool) → (n == 1) ≡ a → (b : Bool) → (n == 3) ≡ b → (c : Bool) → (n == 4) ≡ c → (a || (b || c)) ≡ true
+        → P n
+    go true e b f c g h = subst P (sym (eqb-true n 1 e)) one
+    go false e true f c g h = subst P (sym (eqb-true n 3 f)) three
+    go false e false f true g h = subst P (sym (eqb-true n 4 g)) four
+    go false e false f false g h = absurd (cc)

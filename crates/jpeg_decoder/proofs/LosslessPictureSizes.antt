@@ -56,9 +56,8 @@ layers-length : (components : List Component) (planes : List (List ℕ)) → Are
     → length (layers_of components planes) ≡ length components
 unfolding layers_of ArePlanesOf
 layers-length [] [] h = refl
-layers-length [] (plane ∷ planes) h = absurd h
-layers-length (c ∷ components) [] h = absurd h
 layers-length (c ∷ components) (plane ∷ planes) h = ap (λ n. suc n) (layers-length components planes h.1)
+layers-length _ _ h = absurd h
 
 -- ---- the frame
 

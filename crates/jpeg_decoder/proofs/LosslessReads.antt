@@ -1,5 +1,5 @@
 -- A lossless scan as it is read: its tables, its samples and where they are put.
-use Rattle.std.proofs.Common.{◌≡◌, ℕ, ℤ, zero, suc, ◌+◌, ◌*◌, ◌<◌, ◌≤◌, ◌==◌, Bool, true, false, List, [], ◌∷◌, ◌++◌, All}
+use Rattle.std.proofs.Common.{◌≡◌, ℕ, zero, suc, ◌+◌, ◌*◌, ◌<◌, ◌≤◌, ◌==◌, Bool, true, false, List, [], ◌∷◌, ◌++◌, All}
 use Rattle.std.proofs.Common.{length, map, drop, get_or, set, Option, Some, None, Result, Ok, Err, refl, sym, ap}
 use Rattle.std.proofs.Common.{ap₂, ◌∙◌, subst, arith}
 use Rattle.std.specs.Prelude.{IfErr, IfOk, MatchResult, OnOk, option_map, slice_index_or, slice_set}
@@ -32,27 +32,24 @@ use Rattle.jpeg_streams.specs.LosslessScans.{mcus_down, part_of, parts_of, sampl
 use Rattle.jpeg_decoder.specs.LosslessParts.{mcus_high, mcus_wide, no_component, part_by, parts_at}
 use Rattle.jpeg_streams.specs.Needed.{first_of, needed}
 use Rattle.jpeg_decoder.specs.Scanning.{arrays_in}
-use Rattle.jpeg_streams.specs.Scans.{Arrays, zero_arrays}
 use Rattle.jpeg_decoder.specs.declared.decoded.Decoded.{Decoded}
 use Rattle.jpeg_streams.specs.Sound.{AreSampled, IsDecodedFrame, IsSound}
 use Rattle.jpeg_decoder.specs.Steps.{IsRefusal, after_all, samples_read, with_decoded}
 use Rattle.jpeg_streams.specs.FoundPictures.{samples_picture}
-use Rattle.jpeg_streams.specs.ScanSegments.{after_samples, scan_samples, arrays_before}
+use Rattle.jpeg_streams.specs.ScanSegments.{after_samples, arrays_before, is_progressive, scan_samples}
 use Rattle.jpeg_streams.specs.Found.{Found}
 use Rattle.jpeg_streams.proofs.ReadTurns.{bind-ok, needed-some, ok-same, then-ok}
 use Rattle.jpeg_streams.proofs.LosslessSizes.{IsMade, across-some, all-at, all-covered, decoded-made, down-some}
 use Rattle.jpeg_decoder.specs.Seen.{planes_in}
 use Rattle.jpeg_decoder.proofs.PutLoops.{seen-at}
-use Rattle.jpeg_decoder.proofs.ReadLists.{and_others}
+use Rattle.jpeg_decoder.proofs.ScanData.{before-sequential}
+use Rattle.jpeg_decoder.proofs.ReadLists.{and_others, dropped}
 use Rattle.jpeg_decoder.proofs.ScanReads.{HasRead, last-step}
 use Rattle.jpeg_streams.proofs.Soundness.{count-few, decoded-count, decoded-some}
 use Rattle.std.proofs.lemmas.Bool.Decides.{nat_tests}
 use Rattle.jpeg_bits.specs.declared.error.Error.TheVariants.{OutOfMemory}
 
 -- ---- tables, slot after slot
-
-dropped : (ds : List ℕ) (slot d : ℕ) → slot < length ds → d ≡ get_or ds slot d → drop slot ds ≡ d ∷ drop (slot + 1) ds
-dropped ds slot d h e = drop_more ds slot d h ∙ ap (λ (x : ℕ). x ∷ drop (slot + 1) ds) (sym e)
 
 -- a slot, and those after it
 pub tables-from : (ts : List (Option Table)) (ds : List ℕ) (slot d : ℕ) → slot < length ds → d ≡ get_or ds slot d
@@ -101,8 +98,6 @@ codings-by-tables tables frame [] [] ts within long e =
       tables_are = none;
       of = subst (AreOf frame.components [] []) none tt;
     }
-codings-by-tables tables frame [] (d ∷ ds) ts within long e = absurd (omega arith)
-codings-by-tables tables frame (p ∷ places) [] ts within long e = absurd (omega arith)
 codings-by-tables tables frame (p ∷ places) (d ∷ ds) ts within long e =
     let one = bind-ok (needed (slice_index_or tables d None)) _ ts e in
     let more = bind-ok (tables_in tables ds) _ ts one.2 in
@@ -121,6 +116,7 @@ codings-by-tables tables frame (p ∷ places) (d ∷ ds) ts within long e =
       of = subst (AreOf frame.components (k ∷ rest.codings) (p ∷ places)) (ok-same (one.0 ∷ more.0) ts more.2)
           ((c.1, refl), rest.of);
     }
+codings-by-tables tables frame _ _ ts within long e = absurd (omega arith)
 
 pub codings-lacking : (tables : List (Option Table)) (frame : Frame) (places ds : List ℕ) (f : Fault)
     → AllByRecursion (λ place. place < length frame.components) places → length ds ≡ length places
@@ -141,10 +137,9 @@ codings-lacking tables frame (p ∷ places) (d ∷ ds) f within long e =
         → ((needed c >>= (λ (component : Component). needed t >>= (λ (table : Table).
         Ok (record { place = p; component = component; table = table }))))
         >>= (λ (k : LosslessCoding). r >>= (λ (others : List LosslessCoding). Ok (k ∷ others)))) ≡ Err f
-    go None h t o r e k = absurd (let n : ⊥ = cc in n)
     go (Some x) h None o r e k = cc
-    go (Some x) h (Some table) (Ok others) r e k = absurd (let n : ⊥ = cc in n)
     go (Some x) h (Some table) (Err g) r e k = rw (k e) refl
+    go _ h _ _ r e k = absurd (let n : ⊥ = cc in n)
 
 -- ---- the MCUs of a scan
 
@@ -163,13 +158,10 @@ several : (cs : List Component) (codings : List LosslessCoding) (places : List �
     ≡ parts_at false cs places ts
 unfolding AreOf parts_at
 several cs [] [] [] h = refl
-several cs [] [] (t ∷ ts) h = absurd h
-several cs [] (p ∷ places) ts h = absurd h
-several cs (k ∷ codings) [] ts h = absurd h
-several cs (k ∷ codings) (p ∷ places) [] h = absurd h
 several cs (k ∷ codings) (p ∷ places) (t ∷ ts) h =
     ap₂ (λ (x : Part) (l : List Part). x ∷ l)
     (ap₂ (part false) (got p cs k.component no_component h.0.0) h.0.1) (several cs codings places ts h.1)
+several cs _ _ _ h = absurd h
 
 two : (n : ℕ) → (suc (suc n) == 1) ≡ false
 two n = grind (arith, nat_tests)
@@ -178,45 +170,35 @@ pub parts-are : (cs : List Component) (codings : List LosslessCoding) (places : 
     → AreOf cs codings places ts → parts_of codings ≡ parts_at (length places == 1) cs places ts
 unfolding AreOf parts_of parts_at
 parts-are cs [] [] [] h = refl
-parts-are cs [] [] (t ∷ ts) h = absurd h
-parts-are cs [] (p ∷ places) ts h = absurd h
-parts-are cs (k ∷ codings) [] ts h = absurd h
-parts-are cs (k ∷ codings) (p ∷ places) [] h = absurd h
 parts-are cs (k ∷ []) (p ∷ []) (t ∷ []) h =
     ap (λ (x : Part). x ∷ []) (ap₂ (part true) (got p cs k.component no_component h.0.0) h.0.1)
-parts-are cs (k ∷ []) (p ∷ []) (t ∷ u ∷ ts) h = absurd h.1
-parts-are cs (k ∷ []) (p ∷ q ∷ places) (t ∷ ts) h = absurd h.1
-parts-are cs (k ∷ j ∷ codings) (p ∷ []) (t ∷ ts) h = absurd h.1
 parts-are cs (k ∷ j ∷ codings) (p ∷ q ∷ places) (t ∷ ts) h =
     several cs (k ∷ j ∷ codings) (p ∷ q ∷ places) (t ∷ ts) h
     ∙ ap (λ (b : Bool). parts_at b cs (p ∷ q ∷ places) (t ∷ ts)) (sym (two (length places)))
+parts-are cs (k ∷ codings) (p ∷ places) (t ∷ ts) h = absurd h.1
+parts-are cs _ _ _ h = absurd h
 
 -- as many MCUs across and down
 pub mcus-are : (frame : Frame) (codings : List LosslessCoding) (places : List ℕ) (ts : List Table)
     → AreOf frame.components codings places ts
     → (mcus_across frame codings ≡ mcus_wide frame places) × (mcus_down frame codings ≡ mcus_high frame places)
 unfolding AreOf mcus_across mcus_down mcus_wide mcus_high
-mcus-are frame [] [] [] h = (refl, refl)
-mcus-are frame [] [] (t ∷ ts) h = absurd h
-mcus-are frame [] (p ∷ places) ts h = absurd h
-mcus-are frame (k ∷ codings) [] ts h = absurd h
-mcus-are frame (k ∷ codings) (p ∷ places) [] h = absurd h
 mcus-are frame (k ∷ []) (p ∷ []) (t ∷ ts) h =
     let c = got p frame.components k.component no_component h.0.0 in
     (ap (λ (c : Component). c.width) c, ap (λ (c : Component). c.height) c)
-mcus-are frame (k ∷ []) (p ∷ q ∷ places) (t ∷ ts) h = absurd h.1
-mcus-are frame (k ∷ j ∷ codings) (p ∷ []) (t ∷ ts) h = absurd h.1
 mcus-are frame (k ∷ j ∷ codings) (p ∷ q ∷ places) (t ∷ ts) h = (refl, refl)
+mcus-are frame [] [] [] h = (refl, refl)
+mcus-are frame (k ∷ codings) (p ∷ places) (t ∷ ts) h = absurd h.1
+mcus-are frame _ _ _ h = absurd h
 
 codings-made : (frame : Frame) (cs : List Component) (codings : List LosslessCoding) (places : List ℕ) (ts : List Table)
     → AllByRecursion (IsMade frame) cs → AreOf cs codings places ts
     → AllByRecursion (λ k. IsMade frame k.component) codings
 unfolding AreOf
 codings-made frame cs [] places ts made h = tt
-codings-made frame cs (k ∷ codings) [] ts made h = absurd h
-codings-made frame cs (k ∷ codings) (p ∷ places) [] made h = absurd h
 codings-made frame cs (k ∷ codings) (p ∷ places) (t ∷ ts) made h =
     (all-at (IsMade frame) p cs k.component made h.0.0, codings-made frame cs codings places ts made h.1)
+codings-made frame cs _ _ _ made h = absurd h
 
 -- ---- MCUs by places
 
@@ -235,17 +217,15 @@ pub alone : (frame : Frame) (places : List ℕ) → length places ≡ 1
     → let c = get_or frame.components (get_or places 0 0) no_component in
     (mcus_wide frame places ≡ c.width) × (mcus_high frame places ≡ c.height)
 unfolding mcus_wide mcus_high
-alone frame [] e = absurd (omega arith)
 alone frame (p ∷ []) e = (refl, refl)
-alone frame (p ∷ q ∷ places) e = absurd (omega arith)
+alone frame _ e = absurd (omega arith)
 
 pub not-alone : (frame : Frame) (places : List ℕ) → (length places == 1) ≡ false
     → (mcus_wide frame places ≡ ceiling frame.width (most_across frame))
     × (mcus_high frame places ≡ ceiling frame.height (most_down frame))
 unfolding mcus_wide mcus_high
-not-alone frame [] e = (refl, refl)
 not-alone frame (p ∷ []) e = absurd (cc)
-not-alone frame (p ∷ q ∷ places) e = (refl, refl)
+not-alone frame _ e = (refl, refl)
 
 -- a part more
 pub parts_step : (is_alone : Bool) (cs : List Component) (places : List ℕ) (ts : List Table) (slot p : ℕ) (t : Table)
@@ -375,11 +355,6 @@ samples-end found next frame scan codings read planes met old mid new r c is mad
 
 -- ---- what is found after it
 
-before-lossless : (found : Found) (f : Frame) → f.process ≡ Lossless
-    → arrays_before found f ≡ zero_arrays f.components
-unfolding arrays_before
-before-lossless found f e = rw e refl
-
 set-sampled : (cs : List Component) (samples : List (Option (List ℕ))) (place : ℕ) (plane : List ℕ)
     → length plane ≡ (get_or cs place no_component).width * (get_or cs place no_component).height
     → AreSampled cs samples → AreSampled cs (set samples place (Some plane))
@@ -393,12 +368,11 @@ with-sampled : (is_alone : Bool) (cs : List Component) (places : List ℕ) (ts :
     (samples : List (Option (List ℕ))) → AreWhole (parts_at is_alone cs places ts) planes
     → AreSampled cs samples → AreSampled cs (with_samples places planes samples)
 unfolding with_samples AreWhole parts_at
-with-sampled is_alone cs [] ts planes samples w h = h
-with-sampled is_alone cs (p ∷ places) ts [] samples w h = h
 with-sampled is_alone cs (p ∷ places) [] (plane ∷ planes) samples w h = absurd w
 with-sampled is_alone cs (p ∷ places) (t ∷ ts) (plane ∷ planes) samples w h =
     with-sampled is_alone cs places ts planes (slice_set samples p (Some plane)) w.1
     (set-sampled cs samples p plane w.0 h)
+with-sampled is_alone cs _ ts _ samples w h = h
 
 -- The samples of a scan are those of its components.
 pub scan-sampled : (is_alone : Bool) (found : Found) (frame : Frame) (places : List ℕ) (ts : List Table)
@@ -417,9 +391,9 @@ unfolding arrays_before
 samples-sound found next frame places planes sound e lossless whole is = subst IsSound (sym is) (record {
   frames = sound.frames;
   held = λ f k.
-      let p : f.process ≡ Lossless = subst (λ (x : Frame). x.process ≡ Lossless) (same f k) lossless in
+      let p = ap is_progressive (subst (λ (x : Frame). x.process ≡ Lossless) (same f k) lossless) in
       subst (AreArrays f.components)
-      (before-lossless found f p ∙ sym (before-lossless (record found {
+      (before-sequential found f p ∙ sym (before-sequential (record found {
         scanned = true;
         samples = with_samples places planes found.samples;
       }) f p)) (sound.held f k);
@@ -548,9 +522,7 @@ coded-by found frame scan ts a k parts e is =
     scan_at (record { wide = wide; selection = scan.predictor; start = start; parts = l }) high found.restart
     scan.point_transform in
     let mcus = mcus-are frame a.codings scan.components ts a.of in
-    ap₂ (λ (w h : ℕ). by w h (parts_of a.codings)) mcus.0 mcus.1
-    ∙ ap (by (mcus_wide frame scan.components) (mcus_high frame scan.components))
-    (parts-are frame.components a.codings scan.components ts a.of ∙ sym is)
+    (λ i. by (mcus.0 i) (mcus.1 i) ((parts-are frame.components a.codings scan.components ts a.of ∙ sym is) i))
     ∙ ap (λ (x : Coding). scan_at (way_by x parts) x.high x.restart_interval x.point_transform) (sym e)
 
 -- What is found after samples are put.
@@ -558,19 +530,13 @@ pub put-made : (base : Found) (old new : Decoded) (samples : List (Option (List 
     → new.finished ≡ old.finished → new.planes ≡ old.planes → planes_in new.samples ≡ samples
     → ◌≡◌ {A = Found} (record (with_decoded base new) { scanned = true })
     (record (with_decoded base old) { scanned = true; samples = samples })
-put-made base old new samples h f p s =
-    ap (λ (x : Arrays). found_with x new.finished (planes_in new.planes) (planes_in new.samples)) (ap held_in h)
-    ∙ ap (λ (x : List (List Bool)). found_with (held_in old.held) x (planes_in new.planes) (planes_in new.samples)) f
-    ∙ ap (λ (x : List (Option (List ℕ))). found_with (held_in old.held) old.finished x (planes_in new.samples))
-    (ap planes_in p)
-    ∙ ap (found_with (held_in old.held) old.finished (planes_in old.planes)) s
-  where
-    held_in : Vec (Vec (List ℤ) Global) Global → Arrays
-    held_in v = arrays_in v.items
-
-    found_with : Arrays → List (List Bool) → List (Option (List ℕ)) → List (Option (List ℕ)) → Found
-    found_with held finished planes samples =
-        record base { scanned = true; held = held; finished = finished; planes = planes; samples = samples }
+put-made base old new samples h f p s = λ i. record base {
+  scanned = true;
+  held = arrays_in (h i).items;
+  finished = f i;
+  planes = planes_in (p i);
+  samples = s i;
+}
 
 -- as many tables as places
 pub codings-count : (tables : List (Option Table)) (frame : Frame) (places ds : List ℕ) (ts : List Table)

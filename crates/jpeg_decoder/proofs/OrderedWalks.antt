@@ -2,6 +2,8 @@
 use Rattle.std.proofs.Common.{◌≡◌, ℕ, zero, suc, ◌+◌, ◌-◌, ◌*◌, ◌<◌, ◌≤◌, List, [], ◌∷◌, ◌++◌, map, drop, length, refl, sym, ap}
 use Rattle.std.proofs.Common.{ap₂, ◌∙◌, arith, add-mul, mul_assoc, append-nil, append_assoc}
 use Rattle.std.specs.List.{range_with_len, flat_map}
+use Rattle.std.proofs.lemmas.List.{drop_all}
+use Rattle.jpeg_decoder.proofs.ReadLists.{dropped}
 use Rattle.jpeg_segments.specs.Frame.{Component}
 use Rattle.jpeg_streams.specs.declared.grids.Grid.{Grid}
 use Rattle.jpeg_streams.specs.Order.{Spot, part_spot, part_spots, mcu_spots, all_spots, own_spots}
@@ -142,19 +144,6 @@ pub ruleset line_rules = (more_members, no_members)
 
 pub ruleset part_rules = (more_lines, no_lines)
 
-slot-drop : (slot : ℕ) (cs : List Coded) (c : Coded) → slot < length cs → c ≡ get_or cs slot c
-    → drop slot cs ≡ c ∷ drop (slot + 1) cs
-slot-drop slot [] c h e = absurd (omega arith)
-slot-drop zero (x ∷ cs) c h e = ap (λ (y : Coded). y ∷ cs) (sym e)
-slot-drop (suc slot) (x ∷ cs) c h e = slot-drop slot cs c (omega arith) e
-    ∙ ap (λ (n : ℕ). c ∷ drop n (x ∷ cs)) (let z : suc (slot + 1) ≡ suc slot + 1 = omega arith in z)
-
-slot-past : (slot : ℕ) (cs : List Coded) → length cs ≤ slot → drop slot cs ≡ []
-slot-past zero [] h = refl
-slot-past (suc slot) [] h = refl
-slot-past zero (c ∷ cs) h = absurd (omega arith)
-slot-past (suc slot) (c ∷ cs) h = slot-past slot cs (omega arith)
-
 abbrev pub slots_left : ℕ → List Coded → List Member
 slots_left slot cs = members_from slot (components_in (drop slot cs))
 
@@ -163,11 +152,11 @@ pub slot_next : (xs : List Member) (slot : ℕ) (cs : List Coded) (c : Coded) �
 unfolding members_from
 slot_next xs slot cs c h e =
     append_assoc xs (part_members slot (component_in c.component.now)) (slots_left (slot + 1) cs)
-    ∙ ap (λ (l : List Coded). xs ++ members_from slot (components_in l)) (sym (slot-drop slot cs c h e))
+    ∙ ap (λ (l : List Coded). xs ++ members_from slot (components_in l)) (sym (dropped cs slot c h e))
 
 pub slot_none : (xs : List Member) (slot : ℕ) (cs : List Coded) → length cs ≤ slot → xs ++ slots_left slot cs ≡ xs
 unfolding members_from
 slot_none xs slot cs h =
-    ap (λ (l : List Coded). xs ++ members_from slot (components_in l)) (slot-past slot cs h) ∙ append-nil xs
+    ap (λ (l : List Coded). xs ++ members_from slot (components_in l)) (drop_all slot cs h) ∙ append-nil xs
 
 pub ruleset slot_rules = (slot_next, slot_none)

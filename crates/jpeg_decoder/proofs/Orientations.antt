@@ -2,40 +2,31 @@
 use Rattle.std.proofs.Common.{◌≡◌, ℕ, zero, suc, ◌+◌, ◌*◌, ◌<◌, ◌≤◌, Bool, true, false, List, [], ◌∷◌, length, take, drop}
 use Rattle.std.proofs.Common.{slice_index, refl, arith, None, Some, length-drop, nat_le, if◌then◌else◌, Option, ap, sym, ◌∙◌, ◌==◌, eq-eqb, ne_eqb, ◌-◌}
 use Rattle.std.proofs.lemmas.Bool.{lt-leb, le-leb}
-use Rattle.std.proofs.lemmas.Bool.Decides.{nat_tests}
 use Rattle.jpeg_decoder.specs.Orientation.{lower_first, number, number_at, entries_in, entries_of, first_directory, orientation_in, orientation_among, is_orientation, value_of}
 
 pub two-lower : (xs : List ℕ) → 2 ≤ length xs → slice_index xs 0 + 256 * slice_index xs 1 ≡ number true (take 2 xs)
 unfolding lower_first
 two-lower (a ∷ b ∷ xs) h = omega arith
-two-lower (a ∷ []) h = absurd (omega arith)
-two-lower [] h = absurd (omega arith)
+two-lower _ h = absurd (omega arith)
 
 pub two-higher : (xs : List ℕ) → 2 ≤ length xs → 256 * slice_index xs 0 + slice_index xs 1 ≡ number false (take 2 xs)
 unfolding lower_first
 two-higher (a ∷ b ∷ xs) h = omega arith
-two-higher (a ∷ []) h = absurd (omega arith)
-two-higher [] h = absurd (omega arith)
+two-higher _ h = absurd (omega arith)
 
 pub four-lower : (xs : List ℕ) → 4 ≤ length xs
     → slice_index xs 0 + 256 * slice_index xs 1 + 65536 * slice_index xs 2 + 16777216 * slice_index xs 3
     ≡ number true (take 4 xs)
 unfolding lower_first
 four-lower (a ∷ b ∷ c ∷ d ∷ xs) h = omega arith
-four-lower (a ∷ b ∷ c ∷ []) h = absurd (omega arith)
-four-lower (a ∷ b ∷ []) h = absurd (omega arith)
-four-lower (a ∷ []) h = absurd (omega arith)
-four-lower [] h = absurd (omega arith)
+four-lower _ h = absurd (omega arith)
 
 pub four-higher : (xs : List ℕ) → 4 ≤ length xs
     → 16777216 * slice_index xs 0 + 65536 * slice_index xs 1 + 256 * slice_index xs 2 + slice_index xs 3
     ≡ number false (take 4 xs)
 unfolding lower_first
 four-higher (a ∷ b ∷ c ∷ d ∷ xs) h = omega arith
-four-higher (a ∷ b ∷ c ∷ []) h = absurd (omega arith)
-four-higher (a ∷ b ∷ []) h = absurd (omega arith)
-four-higher (a ∷ []) h = absurd (omega arith)
-four-higher [] h = absurd (omega arith)
+four-higher _ h = absurd (omega arith)
 
 -- cut data have no entries
 pub no_entries : (count : ℕ) (bytes : List ℕ) → length bytes < 12 → entries_in count bytes ≡ []

@@ -1,11 +1,10 @@
 -- Restart markers after a scan.
-use Rattle.std.proofs.Common.{◌≡◌, ◌<◌, ℕ, zero, suc, List, Result, Ok, Err, true, false, Option, Some, None}
+use Rattle.std.proofs.Common.{◌≡◌, ◌<◌, ℕ, zero, suc, List, Result, Ok, Err, true, false, Option, Some}
 use Rattle.std.proofs.Common.{refl, sym, ap, ◌∙◌, length, arith}
 use Rattle.jpeg_bits.specs.Reading.{Outcome, Fault, ◌>>=◌}
 use Rattle.jpeg_bits.specs.Marker.{next_marker}
 use Rattle.jpeg_bits.specs.declared.marker.Marker.{Marker}
-use Rattle.jpeg_bits.specs.declared.marker.Marker.TheVariants.{SOF, JPG, DHT, DAC, RST, SOI, EOI, SOS, DQT, DNL, DRI}
-use Rattle.jpeg_bits.specs.declared.marker.Marker.TheVariants.{DHP, EXP, APP, JPGn, COM, TEM, RES}
+use Rattle.jpeg_bits.specs.declared.marker.Marker.TheVariants.{RST}
 use Rattle.jpeg_bits.proofs.PieceWalks.{by_bool}
 use Rattle.jpeg_streams.specs.ScanSegments.{after_restarts}
 use Rattle.jpeg_decoder.specs.Steps.{is_restart_marker, after_all}
@@ -23,60 +22,25 @@ others turns bytes = next_marker bytes >>= (λ (m : Marker × List ℕ). after_r
 restarts-none : (turns : ℕ) (met : Option Marker) (bytes : List ℕ) → is_restart_marker met ≡ false
     → after_restarts (suc turns) met bytes ≡ Ok (met, bytes)
 unfolding after_restarts
-restarts-none turns None bytes e = refl
 restarts-none turns (Some (RST n)) bytes e = absurd (let n : ⊥ = cc in n)
-restarts-none turns (Some (SOF n)) bytes e = refl
-restarts-none turns (Some JPG) bytes e = refl
-restarts-none turns (Some DHT) bytes e = refl
-restarts-none turns (Some DAC) bytes e = refl
-restarts-none turns (Some SOI) bytes e = refl
-restarts-none turns (Some EOI) bytes e = refl
-restarts-none turns (Some SOS) bytes e = refl
-restarts-none turns (Some DQT) bytes e = refl
-restarts-none turns (Some DNL) bytes e = refl
-restarts-none turns (Some DRI) bytes e = refl
-restarts-none turns (Some DHP) bytes e = refl
-restarts-none turns (Some EXP) bytes e = refl
-restarts-none turns (Some (APP n)) bytes e = refl
-restarts-none turns (Some (JPGn n)) bytes e = refl
-restarts-none turns (Some COM) bytes e = refl
-restarts-none turns (Some TEM) bytes e = refl
-restarts-none turns (Some RES) bytes e = refl
+restarts-none turns _ bytes e = refl
 
 restarts-more : (turns : ℕ) (met : Option Marker) (bytes : List ℕ) → is_restart_marker met ≡ true
     → after_restarts (suc turns) met bytes ≡ others turns bytes
 unfolding after_restarts
 restarts-more turns (Some (RST n)) bytes e = refl
-restarts-more turns None bytes e = absurd (let n : ⊥ = cc in n)
-restarts-more turns (Some (SOF n)) bytes e = absurd (let n : ⊥ = cc in n)
-restarts-more turns (Some JPG) bytes e = absurd (let n : ⊥ = cc in n)
-restarts-more turns (Some DHT) bytes e = absurd (let n : ⊥ = cc in n)
-restarts-more turns (Some DAC) bytes e = absurd (let n : ⊥ = cc in n)
-restarts-more turns (Some SOI) bytes e = absurd (let n : ⊥ = cc in n)
-restarts-more turns (Some EOI) bytes e = absurd (let n : ⊥ = cc in n)
-restarts-more turns (Some SOS) bytes e = absurd (let n : ⊥ = cc in n)
-restarts-more turns (Some DQT) bytes e = absurd (let n : ⊥ = cc in n)
-restarts-more turns (Some DNL) bytes e = absurd (let n : ⊥ = cc in n)
-restarts-more turns (Some DRI) bytes e = absurd (let n : ⊥ = cc in n)
-restarts-more turns (Some DHP) bytes e = absurd (let n : ⊥ = cc in n)
-restarts-more turns (Some EXP) bytes e = absurd (let n : ⊥ = cc in n)
-restarts-more turns (Some (APP n)) bytes e = absurd (let n : ⊥ = cc in n)
-restarts-more turns (Some (JPGn n)) bytes e = absurd (let n : ⊥ = cc in n)
-restarts-more turns (Some COM) bytes e = absurd (let n : ⊥ = cc in n)
-restarts-more turns (Some TEM) bytes e = absurd (let n : ⊥ = cc in n)
-restarts-more turns (Some RES) bytes e = absurd (let n : ⊥ = cc in n)
+restarts-more turns _ bytes e = absurd (let n : ⊥ = cc in n)
 
 -- more turns than bytes change nothing
 restarts-enough : (m n : ℕ) (met : Option Marker) (bytes : List ℕ) → length bytes < m → length bytes < n
     → after_restarts m met bytes ≡ after_restarts n met bytes
-restarts-enough zero n met bytes p q = absurd (omega arith)
-restarts-enough (suc m) zero met bytes p q = absurd (omega arith)
 restarts-enough (suc m) (suc n) met bytes p q =
     by_bool (is_restart_marker met)
     (λ e. restarts-more m met bytes e ∙ bind-same (next_marker bytes) _ _ (λ r is.
     let less : length r.1 < length bytes = below-at (length bytes) (next_marker bytes) r (marker-below bytes) is in
     restarts-enough m n (Some r.0) r.1 (omega arith) (omega arith)) ∙ sym (restarts-more n met bytes e))
     (λ e. restarts-none m met bytes e ∙ sym (restarts-none n met bytes e))
+restarts-enough _ _ met bytes p q = absurd (omega arith)
 
 pub marker-takes : (bytes : List ℕ) (r : Marker × List ℕ) → next_marker bytes ≡ Ok r → length r.1 < length bytes
 marker-takes bytes r is = below-at (length bytes) (next_marker bytes) r (marker-below bytes) is

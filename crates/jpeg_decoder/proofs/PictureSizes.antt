@@ -1,16 +1,15 @@
 -- The number of bytes of a picture of a frame that is decoded.
 use Rattle.std.proofs.Common.{◌≡◌, ℕ, zero, suc, ◌*◌, ◌/◌, ◌<◌, ◌≤◌, List, [], ◌∷◌, length, sym, ap, ap₂, ◌∙◌}
 use Rattle.std.proofs.Common.{refl, arith, subst, Result, Ok, Err, Option, Some, None, Bool, true, false}
-use Rattle.std.specs.Prelude.{MatchResult, IfOk, IfSome, OnOk, if◌then◌else◌, nat_le}
+use Rattle.std.specs.Prelude.{MatchResult, IfOk, IfSome, OnOk, if◌then◌else◌, nat_le, min}
 use Rattle.jpeg_bits.specs.declared.error.Error.{Error}
 use Rattle.jpeg_decoder.specs.Bytes.{HasBytes, HasBytesBy, IsCounted, IsWhole}
 use Rattle.jpeg_decoder.specs.Bytes.{bytes_a_sample, picture_bytes, samples_a_pixel}
 use Rattle.jpeg_segments.specs.declared.parser.CodingProcess.{CodingProcess}
-use Rattle.jpeg_segments.specs.declared.parser.CodingProcess.TheVariants.{DctSequential, DctProgressive, Lossless}
+use Rattle.jpeg_segments.specs.declared.parser.CodingProcess.TheVariants.{Lossless}
 use Rattle.jpeg_streams.specs.Pixels.{bytes_a_pixel, format_of}
 use Rattle.jpeg_streams.specs.declared.images.PixelFormat.TheVariants.{L8, L16}
 use Rattle.jpeg_streams.specs.Segments.{is_decoded_count, is_decoded_precision}
-use Rattle.std.specs.Prelude.{◌==◌, ◌||◌, min}
 use Rattle.std.specs.List.{AllByRecursion}
 use Rattle.std.proofs.lemmas.Bool.{eqb-true}
 use Rattle.std.proofs.lemmas.List.Elements.{recursion_from_All}
@@ -30,7 +29,7 @@ use Rattle.jpeg_streams.proofs.BroughtLevels.{Made}
 use Rattle.jpeg_streams.proofs.OwnSpots.{At}
 use Rattle.jpeg_streams.proofs.ScaledSizes.{one-made, scale-made}
 use Rattle.jpeg_streams.proofs.Soundness.{accepted-precision, decoded-count, decoded-fits, scale-bounds}
-use Rattle.jpeg_decoder.proofs.ImageSizes.{cropped-length, image-length}
+use Rattle.jpeg_decoder.proofs.ImageSizes.{cropped-length, decoded-counts, image-length}
 
 made-of : (f : Frame) → IsDecodedFrame f → Made f
 made-of f p =
@@ -104,12 +103,11 @@ picture-length settings m f planes picture p whole count is = go f.components re
     go : (cs : List Component) → f.components ≡ cs → (ps : List (List ℕ)) → AreWhole cs ps → length ps ≡ length cs
         → picture_by settings m f cs ps ≡ Ok picture
         → length picture ≡ f.output_height * (length cs * f.output_width)
-    go [] e ps w n h = several [] ps n h
     go (c ∷ []) e [] w n h = absurd (omega arith)
     go (c ∷ []) e (q ∷ ps) w n h =
         let same : picture_in f c q ≡ picture = cc in
         ap (λ (l : List ℕ). length l) (sym same) ∙ one-length f c q p e w.0
-    go (c ∷ d ∷ more) e ps w n h = several (c ∷ d ∷ more) ps n h
+    go cs e ps w n h = several cs ps n h
 
 -- ---- by its format
 
@@ -122,14 +120,7 @@ precision-of f p =
 
 -- as many bytes as components, of 8 bits
 format-bytes : (n : ℕ) → is_decoded_count n ≡ true → bytes_a_pixel (format_of n 8) ≡ n
-format-bytes n h = go (n == 1) refl (n == 3) refl (n == 4) refl h
-  where
-    go : (a : Bool) → (n == 1) ≡ a → (b : Bool) → (n == 3) ≡ b → (c : Bool) → (n == 4) ≡ c → (a || (b || c)) ≡ true
-        → bytes_a_pixel (format_of n 8) ≡ n
-    go true e b f c g h = subst (λ k. bytes_a_pixel (format_of k 8) ≡ k) (sym (eqb-true n 1 e)) refl
-    go false e true f c g h = subst (λ k. bytes_a_pixel (format_of k 8) ≡ k) (sym (eqb-true n 3 f)) refl
-    go false e false f true g h = subst (λ k. bytes_a_pixel (format_of k 8) ≡ k) (sym (eqb-true n 4 g)) refl
-    go false e false f false g h = absurd (cc)
+format-bytes n h = decoded-counts (λ k. bytes_a_pixel (format_of k 8) ≡ k) n h refl refl refl
 
 turned : (w h n k : ℕ) → k ≡ n → h * (n * w) ≡ w * h * k
 turned w h n k e = ap (λ m. h * m) (mul_comm n w) ∙ sym (mul_assoc h w n) ∙ ap (λ m. m * n) (mul_comm h w)
@@ -160,9 +151,8 @@ precision-8 f p dct = go f.process refl
     eight x e = ap (λ (x : CodingProcess). is_decoded_precision x f.precision) (sym e) ∙ precision-of f p
 
     go : (x : CodingProcess) → f.process ≡ x → f.precision ≡ 8
-    go DctSequential e = eqb-true f.precision 8 (eight DctSequential e)
-    go DctProgressive e = eqb-true f.precision 8 (eight DctProgressive e)
     go Lossless e = absurd (dct e)
+    go x e = eqb-true f.precision 8 (eight x e)
 
 -- the bytes of a picture of blocks
 pub block-bytes : (f : Frame) → IsDecodedFrame f → (f.process ≡ Lossless → ⊥)
@@ -186,9 +176,8 @@ whole-by f pixels p dct long = go f.process refl
     of e = (by-frame f pixels e long, by-info f pixels p e long)
 
     go : (x : CodingProcess) → f.process ≡ x → (length pixels ≡ picture_bytes f) × HasBytesBy x f pixels
-    go DctSequential e = of (eqb-true f.precision 8 (eight DctSequential e))
-    go DctProgressive e = of (eqb-true f.precision 8 (eight DctProgressive e))
     go Lossless e = absurd (dct e)
+    go x e = of (eqb-true f.precision 8 (eight x e))
 
 -- a list of so many bytes
 whole-of : (f : Frame) (pixels : List ℕ) → IsDecodedFrame f → length pixels ≡ picture_bytes f
@@ -201,9 +190,8 @@ whole-of f pixels p long = (long, go f.process refl)
         (long ∙ block-bytes f p n ∙ mul_comm (length f.components * f.output_width) f.output_height)
 
     go : (x : CodingProcess) → f.process ≡ x → HasBytesBy x f pixels
-    go DctSequential e = dct (λ l. let n : ⊥ = cc in n)
-    go DctProgressive e = dct (λ l. let n : ⊥ = cc in n)
     go Lossless e = tt
+    go _ e = dct (λ l. let n : ⊥ = cc in n)
 
 pub whole-if : (found : Found) (frame : Option Frame) (n : ℕ) (pixels : List ℕ) → HasDecodedFrame found
     → found.frame ≡ frame → IfSome frame (λ f. n ≡ picture_bytes f) → length pixels ≡ n
@@ -228,19 +216,12 @@ if-size items E settings m f planes (Err e) p w n h dct = tt
 -- ---- the samples of a pixel
 
 by-format : (n precision : ℕ) → is_decoded_count n ≡ true → n ≡ samples_a_pixel (format_of n precision)
-by-format n precision h = go (n == 1) refl (n == 3) refl (n == 4) refl h
+by-format n precision h =
+    decoded-counts (λ k. k ≡ samples_a_pixel (format_of k precision)) n h (one (nat_le precision 8)) refl refl
   where
     one : (b : Bool) → 1 ≡ samples_a_pixel (if b then L8 else L16)
     one true = refl
     one false = refl
-
-    go : (a : Bool) → (n == 1) ≡ a → (b : Bool) → (n == 3) ≡ b → (c : Bool) → (n == 4) ≡ c → (a || (b || c)) ≡ true
-        → n ≡ samples_a_pixel (format_of n precision)
-    go true e b f c g h = subst (λ k. k ≡ samples_a_pixel (format_of k precision)) (sym (eqb-true n 1 e))
-        (one (nat_le precision 8))
-    go false e true f c g h = subst (λ k. k ≡ samples_a_pixel (format_of k precision)) (sym (eqb-true n 3 f)) refl
-    go false e false f true g h = subst (λ k. k ≡ samples_a_pixel (format_of k precision)) (sym (eqb-true n 4 g)) refl
-    go false e false f false g h = absurd (cc)
 
 pub counted : (found : Found) → HasDecodedFrame found → IsCounted found.frame
 counted found p = go found.frame p

@@ -1,8 +1,7 @@
 -- The picture of a frame's planes: of one component, and of several.
 use Rattle.std.proofs.Common.{◌≡◌, ◌≢◌, ◌<◌, ◌≤◌, ℕ, List, [], ◌∷◌, ◌++◌, refl, sym, ap, ◌∙◌}
 use Rattle.std.proofs.Common.{subst, length, get_or, map, arith, Bool, true, false, Result, Ok, Err}
-use Rattle.std.specs.Prelude.{◌==◌, ◌||◌, MatchResult}
-use Rattle.std.proofs.lemmas.Bool.{eqb-true}
+use Rattle.std.specs.Prelude.{◌==◌, MatchResult}
 use Rattle.std.proofs.Math.Bool.{cond}
 use Rattle.std.specs.List.{AllByRecursion}
 use Rattle.std.proofs.lemmas.List.{length-append, length-map}
@@ -24,9 +23,9 @@ use Rattle.jpeg_streams.specs.ColourChoice.{identifiers_of, transform_of}
 use Rattle.jpeg_streams.specs.Sound.{IsDecodedFrame}
 use Rattle.jpeg_decoder.specs.Steps.{IsRefusal, cropped_to}
 use Rattle.jpeg_streams.specs.FoundPictures.{picture_by}
-use Rattle.jpeg_streams.specs.Segments.{is_decoded_count}
 use Rattle.jpeg_streams.specs.Found.{Metadata}
 use Rattle.jpeg_streams.specs.declared.settings.Settings.{Settings}
+use Rattle.jpeg_decoder.proofs.ImageSizes.{decoded-counts}
 use Rattle.jpeg_decoder.proofs.EndedPlanes.{decoded-scales, element, mapped-or}
 use Rattle.jpeg_lossless.proofs.RowLoops.{mapped-within}
 use Rattle.jpeg_streams.proofs.Soundness.{decoded-count, decoded-sized, decoded-sources}
@@ -36,17 +35,20 @@ use Rattle.jpeg_streams.proofs.Soundness.{decoded-count, decoded-sized, decoded-
 -- A frame that is decoded has one component, or three or four.
 pub decoded-several : (f : Frame) → IsDecodedFrame f → length f.components ≢ 1
     → (3 ≤ length f.components) × (length f.components ≤ 4)
-decoded-several f p other = go (length f.components) other (decoded-count f p)
-  where
-    go : (n : ℕ) → n ≢ 1 → is_decoded_count n ≡ true → (3 ≤ n) × (n ≤ 4)
-    go n other h = at n other (n == 1) refl (n == 3) refl (n == 4) refl h
-      where
-        at : (n : ℕ) → n ≢ 1 → (a : Bool) → (n == 1) ≡ a → (b : Bool) → (n == 3) ≡ b → (c : Bool) → (n == 4) ≡ c
-            → (a || (b || c)) ≡ true → (3 ≤ n) × (n ≤ 4)
-        at n other true e b f c g h = absurd (other (eqb-true n 1 e))
-        at n other false e true f c g h = let k : n ≡ 3 = eqb-true n 3 f in (omega arith, omega arith)
-        at n other false e false f true g h = let k : n ≡ 4 = eqb-true n 4 g in (omega arith, omega arith)
-        at n other false e false f false g h = absurd (let z : ⊥ = cc in z)
+decoded-several f p other =
+    decoded-counts (λ n. n ≢ 1 → (3 ≤ n) × (n ≤ 4)) (length f.components) (decoded-count f p) (λ o. absurd (o refl))
+    (λ _. (omega arith, omega arith)) (λ _. (omega arith, omega arith)) other
+
+-- the components that the code has of one
+pub several-seen : (items slice : List declared.Component) (f : Frame) → f.components ≡ map component_in items
+    → slice ≡ items → IsDecodedFrame f → length slice ≢ 1
+    → (length f.components ≢ 1) × ((3 ≤ length slice) × (length slice ≤ 4))
+several-seen items slice f is same p other =
+    let long : length f.components ≡ length slice =
+    ap length is ∙ length-map items component_in ∙ sym (ap length same) in
+    let one : length f.components ≢ 1 = λ h. other (omega (arith, h, long)) in
+    let n = decoded-several f p one in
+    (one, (omega (arith, n.0, long), omega (arith, n.1, long)))
 
 pub decoded-factors : (f : Frame) → IsDecodedFrame f → AllHaveSampling f.components
 decoded-factors f p = sized_frames_have_factors f (decoded-sized f p)
@@ -68,48 +70,27 @@ decoded-cover f p planes whole sources e =
 
 -- ---- refusals
 
+end-if : (b : Bool) (convert : ColorConvert) (s : List Source) (bytes : ColorConvert → List Source → List ℕ)
+    → (cond b (Ok convert) (Err Malformed) >>= (λ (convert : ColorConvert). Ok (bytes convert s))) ≡ Err End → ⊥
+end-if true convert s bytes e = cc
+end-if false convert s bytes e = cc
+
 never-end : (n : ℕ) (t : ColorTransform) (r : Result (List Source) Fault) (sources : List Source)
     (bytes : ColorConvert → List Source → List ℕ) → r ≡ Ok sources
     → (conversion_of n t >>= (λ (convert : ColorConvert). r >>= (λ (s : List Source). Ok (bytes convert s)))) ≡ Err End
     → ⊥
 unfolding conversion_of
 never-end n t (Err fault) sources bytes r e = absurd (let z : ⊥ = cc in z)
-never-end n transforms.None (Ok s) sources bytes r e = cc
-never-end n transforms.RGB (Ok s) sources bytes r e = go (n == 3) e
-  where
-    go : (b : Bool) → (cond b (Ok converts.Rgb) (Err Malformed) >>= (λ (convert : ColorConvert). Ok (bytes convert s)))
-        ≡ Err End → ⊥
-    go true e = cc
-    go false e = cc
-never-end n transforms.YCbCr (Ok s) sources bytes r e = go (n == 3) e
-  where
-    go : (b : Bool) → (cond b (Ok converts.YCbCr) (Err Malformed)
-        >>= (λ (convert : ColorConvert). Ok (bytes convert s))) ≡ Err End → ⊥
-    go true e = cc
-    go false e = cc
-never-end n transforms.CMYK (Ok s) sources bytes r e = go (n == 4) e
-  where
-    go : (b : Bool) → (cond b (Ok converts.Cmyk) (Err Malformed) >>= (λ (convert : ColorConvert). Ok (bytes convert s)))
-        ≡ Err End → ⊥
-    go true e = cc
-    go false e = cc
-never-end n transforms.YCCK (Ok s) sources bytes r e = go (n == 4) e
-  where
-    go : (b : Bool) → (cond b (Ok converts.Ycck) (Err Malformed) >>= (λ (convert : ColorConvert). Ok (bytes convert s)))
-        ≡ Err End → ⊥
-    go true e = cc
-    go false e = cc
-never-end n transforms.Grayscale (Ok s) sources bytes r e = cc
-never-end n transforms.Unknown (Ok s) sources bytes r e = cc
-never-end n transforms.JcsBgYcc (Ok s) sources bytes r e = cc
-never-end n transforms.JcsBgRgb (Ok s) sources bytes r e = cc
+never-end n transforms.RGB (Ok s) sources bytes r e = end-if (n == 3) converts.Rgb s bytes e
+never-end n transforms.YCbCr (Ok s) sources bytes r e = end-if (n == 3) converts.YCbCr s bytes e
+never-end n transforms.CMYK (Ok s) sources bytes r e = end-if (n == 4) converts.Cmyk s bytes e
+never-end n transforms.YCCK (Ok s) sources bytes r e = end-if (n == 4) converts.Ycck s bytes e
+never-end n _ (Ok s) sources bytes r e = cc
 
 refused : {Y : Type 0} (e : Error) (o : Result Y Fault) → (o ≡ Err End → ⊥) → Names e o → IsRefusal e
-refused (errors.Format text) o h n = tt
-refused (errors.Unsupported feature) o h n = tt
 refused (errors.Io x) o h n = h n.0
 refused (errors.Internal text) o h n = n
-refused errors.OutOfMemory o h n = tt
+refused _ o h n = tt
 
 -- An image of a frame that is decoded is refused by name alone.
 pub image-refused : (f : Frame) → IsDecodedFrame f → (planes : List (List ℕ)) (t : ColorTransform) (e : Error)
@@ -129,9 +110,8 @@ pub picture-one : (settings : Settings) (m : Metadata) (f : Frame) (cs : List Co
     → picture ≡ cropped_to c f.output_width f.output_height plane
     → picture_by settings m f cs planes ≡ Ok picture
 unfolding picture_by
-picture-one settings m f [] c planes plane picture h e is made = absurd (omega arith)
 picture-one settings m f (x ∷ []) c planes plane picture h e is made = rw (is, made, e, picture_by) refl
-picture-one settings m f (x ∷ y ∷ more) c planes plane picture h e is made = absurd (omega arith)
+picture-one settings m f _ c planes plane picture h e is made = absurd (omega arith)
 
 -- of several
 pub picture-several : (settings : Settings) (m : Metadata) (f : Frame) (cs : List Component) (planes : List (List ℕ))
@@ -139,9 +119,8 @@ pub picture-several : (settings : Settings) (m : Metadata) (f : Frame) (cs : Lis
     ≡ image_of cs planes f.output_width f.output_height (transform_of settings.color_transform (identifiers_of cs)
     m.jfif m.adobe)
 unfolding picture_by
-picture-several settings m f [] planes h = refl
 picture-several settings m f (c ∷ []) planes h = absurd (h (omega arith))
-picture-several settings m f (c ∷ d ∷ more) planes h = refl
+picture-several settings m f _ planes h = refl
 
 -- what an image of some components and planes gives, where they are those of the frame
 pub several-given : {R : Type 0} (view : R → List ℕ) (settings : Settings) (m : Metadata) (f : Frame)
@@ -156,10 +135,8 @@ several-given {R = R} view settings m f cs planes given t r p other ec ep et h =
   where
     image-is : image_of cs given f.output_width f.output_height t ≡ picture_by settings m f f.components planes
     image-is =
-        ap (λ (l : List Component). image_of l given f.output_width f.output_height t) ec
-        ∙ ap (λ (l : List (List ℕ)). image_of f.components l f.output_width f.output_height t) ep
-        ∙ ap (λ (x : ColorTransform). image_of f.components planes f.output_width f.output_height x)
-        (et ∙ ap (λ (l : List Component). transform_of settings.color_transform (identifiers_of l) m.jfif m.adobe) ec)
+        let same = et ∙ (λ i. transform_of settings.color_transform (identifiers_of (ec i)) m.jfif m.adobe) in
+        (λ i. image_of (ec i) (ep i) f.output_width f.output_height (same i))
         ∙ sym (picture-several settings m f f.components planes other)
 
     go : (r : Result R Error)

@@ -148,18 +148,12 @@ pub decided-as : (p : Pass) (place : ℕ) (plane : Vec ℕ Global) (base : Found
     → with_decoded base (record new { planes = slice_set new.planes place (Some plane) }) ≡ with_its_plane p place
     plane.items (with_decoded base old)
 decided-as p place plane base old new a s b e w =
-    ap (λ (h : Vec Held Global). record base {
-      held = arrays_in h.items;
+    (λ i. record base {
+      held = arrays_in (a i).items;
       finished = new.finished;
       planes = planes_in (slice_set new.planes place (Some plane));
-      samples = planes_in new.samples;
-    }) a
-    ∙ ap (λ (l : List (Option (Vec ℕ Global))). record base {
-      held = arrays_in old.held.items;
-      finished = new.finished;
-      planes = planes_in (slice_set new.planes place (Some plane));
-      samples = planes_in l;
-    }) s
+      samples = planes_in (s i);
+    })
     ∙ its_plane_set p place plane.items (with_decoded base old) new.finished
     (planes_in (slice_set new.planes place (Some plane))) e
     (map-set (λ (q : Option (Vec ℕ Global)). option_map (λ (v : Vec ℕ Global). v.items) q) new.planes place (Some plane)

@@ -1,8 +1,8 @@
 -- Sampling ratios are refused by name alone.
-use Rattle.std.proofs.Common.{◌≡◌, ℕ, List, [], ◌∷◌, Result, Ok, Err, Option, Some, None}
+use Rattle.std.proofs.Common.{◌≡◌, ℕ, List, [], ◌∷◌, Result, Ok, Err, Option, Some}
 use Rattle.jpeg_bits.specs.Reading.{Fault, End, Names, ◌>>=◌}
 use Rattle.jpeg_bits.specs.declared.error.Error.{Error}
-use Rattle.jpeg_bits.specs.declared.error.Error.TheVariants.{Format, Unsupported, Io, Internal, OutOfMemory}
+use Rattle.jpeg_bits.specs.declared.error.Error.TheVariants.{Io, Internal}
 use Rattle.jpeg_segments.specs.Frame.{Component, greatest}
 use Rattle.jpeg_pixels.specs.declared.upsampler.UpsampleRule.{UpsampleRule}
 use Rattle.jpeg_pixels.specs.Upsampling.{rule_of}
@@ -11,9 +11,8 @@ use Rattle.jpeg_decoder.specs.Steps.{IsRefusal}
 
 one : (c : Component) (rule : Option UpsampleRule) (others : Result (List Source) Fault) → (others ≡ Err End → ⊥)
     → (source_by c rule >>= λ (s : Source). (others >>= λ (rest : List Source). Ok (s ∷ rest))) ≡ Err End → ⊥
-one c None others h e = cc
-one c (Some rule) (Ok rest) h e = cc
 one c (Some rule) (Err fault) h e = h e
+one c _ _ h e = cc
 
 never-end : (h v width height : ℕ) (components : List Component) → sources_by h v width height components ≡ Err End → ⊥
 unfolding sources_by
@@ -24,11 +23,9 @@ never-end h v width height (c ∷ more) e =
 
 -- an error that names a refusal of ratios is one of a call with no source
 refused : (e : Error) (o : Result (List Source) Fault) → (o ≡ Err End → ⊥) → Names e o → IsRefusal e
-refused (Format text) o h n = tt
-refused (Unsupported feature) o h n = tt
 refused (Io error) o h n = h n.0
 refused (Internal text) o h n = n
-refused OutOfMemory o h n = tt
+refused _ o h n = tt
 
 pub ratios-refused : (e : Error) (components : List Component) (width height : ℕ)
     → Names e (sources_of components width height) → IsRefusal e

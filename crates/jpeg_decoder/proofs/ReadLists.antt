@@ -1,7 +1,12 @@
 -- Lists of which each element is needed, one after the other.
-use Rattle.std.proofs.Common.{◌≡◌, ◌+◌, ◌∙◌, ℕ, List, [], ◌∷◌, ◌++◌, Result, Ok, Err, refl, sym, ap}
-use Rattle.std.proofs.lemmas.List.{append_assoc, append-nil}
+use Rattle.std.proofs.Common.{◌≡◌, ◌+◌, ◌<◌, ◌∙◌, ℕ, List, [], ◌∷◌, ◌++◌, Result, Ok, Err, refl, sym, ap, drop, get_or, length}
+use Rattle.std.proofs.lemmas.List.{append_assoc, append-nil, drop_more}
 use Rattle.jpeg_bits.specs.Reading.{Fault, ◌>>=◌}
+
+-- an element of a list, and what stands after it
+pub dropped : {A : Type 0} (xs : List A) (i : ℕ) (x : A) → i < length xs → x ≡ get_or xs i x
+    → drop i xs ≡ x ∷ drop (i + 1) xs
+dropped xs i x h e = drop_more xs i x h ∙ (λ j. sym e j ∷ drop (i + 1) xs)
 
 -- some elements, and the others after them
 abbrev pub after : {A : Type 0} → List A → List A → Result (List A) Fault

@@ -114,10 +114,9 @@ places-at n (c ∷ cs) most h = let first = h.0 in (omega (arith, first, most), 
 rising-at : (codings : List Coding) (least : ℕ) → IsRising least (map (λ (c : Coding). c.place) codings)
     → AreRising codings
 unfolding IsRising
-rising-at [] least h = tt
-rising-at (c ∷ []) least h = tt
 rising-at (c ∷ d ∷ more) least h =
     let next = h.1.0 in (omega (arith, next), rising-at (d ∷ more) (c.place + 1) h.1)
+rising-at _ least h = tt
 
 -- ---- a scan
 

@@ -35,13 +35,11 @@ one-more : (found : Found) (frame : Frame) (p : Pass) (tables : Tables) (cs ds a
     codings_from found frame p tables (drop (slot + 1) cs) (drop (slot + 1) ds) (drop (slot + 1) acs) >>=
     (λ others. Ok (c ∷ others))))
 unfolding codings_from
-one-more found frame p tables [] ds acs slot h d a = absurd (omega arith)
-one-more found frame p tables (c ∷ cs) [] acs slot h d a = absurd (omega arith)
-one-more found frame p tables (c ∷ cs) (x ∷ ds) [] slot h d a = absurd (omega arith)
 one-more found frame p tables (c ∷ cs) (x ∷ ds) (y ∷ acs) zero h d a = refl
 one-more found frame p tables (c ∷ cs) (x ∷ ds) (y ∷ acs) (suc slot) h d a =
     let e : suc slot + 1 ≡ suc (slot + 1) = omega arith in
     rw e (one-more found frame p tables cs ds acs slot (omega arith) (omega arith) (omega arith))
+one-more found frame p tables _ _ _ slot h d a = absurd (omega arith)
 
 -- a slot more
 pub codings-more : (found : Found) (frame : Frame) (scan : Scan) (slot : ℕ) (xs : List Coded) (c : Coded)

@@ -68,18 +68,16 @@ pub held-kept : (p : Pass) (codings : List Coding) (arrays : Arrays) (found : Fo
     → record (with_arrays p codings arrays found) { held = h } ≡ with_arrays p codings arrays
     (record found { held = h })
 unfolding with_arrays with_blocks
-held-kept p [] arrays found h = refl
-held-kept p (c ∷ codings) [] found h = refl
 held-kept p (c ∷ codings) (blocks ∷ arrays) found h = held-kept p codings arrays (with_blocks p c blocks found) h
+held-kept p _ _ found h = refl
 
 pub arrays-by-planes : (p : Pass) (codings : List Coding) (arrays : Arrays) (found : Found)
     → with_arrays p codings arrays found ≡ with_planes p codings (planes_by codings arrays) found
 unfolding with_arrays with_planes planes_by
-arrays-by-planes p [] arrays found = refl
-arrays-by-planes p (c ∷ codings) [] found = refl
 arrays-by-planes p (c ∷ codings) (blocks ∷ arrays) found =
     ap (with_arrays p codings arrays) (blocks-are p c blocks found)
     ∙ arrays-by-planes p codings arrays (with_its_plane p c.place (plane_by c.component c.quantization blocks) found)
+arrays-by-planes p _ _ found = refl
 
 -- the blocks at their places, of those of the frame
 abbrev pub read_at : Found → Frame → Pass → List Coding → Arrays → List ℕ → Outcome (Arrays × Option Marker)
@@ -115,7 +113,7 @@ held-sequential : (f : Found) (frame : Frame) (codings : List Coding) (arrays : 
     → is_progressive frame.process ≡ false → held_after f frame codings arrays ≡ []
 held-sequential f frame codings arrays e = rw e refl
 
-before-sequential : (f : Found) (frame : Frame) → is_progressive frame.process ≡ false
+pub before-sequential : (f : Found) (frame : Frame) → is_progressive frame.process ≡ false
     → arrays_before f frame ≡ zero_arrays frame.components
 unfolding arrays_before
 before-sequential f frame e = rw e refl
@@ -164,19 +162,13 @@ data-held f frame p codings arrays met bytes rest one two held e r added fin pl 
     same =
         ap (λ (x : Arrays). with_arrays p codings arrays (record f { scanned = true; held = x }))
         (held-progressive f frame codings arrays e ∙ sym h)
-        ∙ ap (λ (a : List (Option (List ℕ))). with_arrays p codings arrays (record f {
+        ∙ (λ i. with_arrays p codings arrays (record f {
           scanned = true;
           held = held;
-          samples = a;
-        })) (sym sa)
-        ∙ ap₂ (λ (a : List (List Bool)) (b : List (Option (List ℕ))).
-        with_arrays p codings arrays (record f {
-          scanned = true;
-          held = held;
-          finished = a;
-          planes = b;
-          samples = planes_in one.samples;
-        })) (sym fin) (sym pl)
+          finished = sym fin i;
+          planes = sym pl i;
+          samples = sym sa i;
+        }))
         ∙ sym (held-kept p codings arrays (with_decoded base one) held)
         ∙ sym (ap (λ (x : Found). record x { held = held }) (added base))
 
@@ -228,19 +220,13 @@ data-planes f frame p codings planes met bytes rest one two e of r added fin pl 
     made arrays q =
         ap (λ (x : Arrays). with_arrays p codings arrays (record f { scanned = true; held = x }))
         (held-sequential f frame codings arrays e ∙ sym none)
-        ∙ ap (λ (a : List (Option (List ℕ))). with_arrays p codings arrays (record f {
+        ∙ (λ i. with_arrays p codings arrays (record f {
           scanned = true;
           held = arrays_in one.held.items;
-          samples = a;
-        })) (sym sa)
-        ∙ ap₂ (λ (a : List (List Bool)) (b : List (Option (List ℕ))).
-        with_arrays p codings arrays (record f {
-          scanned = true;
-          held = arrays_in one.held.items;
-          finished = a;
-          planes = b;
-          samples = planes_in one.samples;
-        })) (sym fin) (sym pl)
+          finished = sym fin i;
+          planes = sym pl i;
+          samples = sym sa i;
+        }))
         ∙ arrays-by-planes p codings arrays (with_decoded base one)
         ∙ ap (λ (ps : List (List ℕ)). with_planes p codings ps (with_decoded base one)) q
         ∙ sym (added base)
@@ -250,11 +236,8 @@ data-planes f frame p codings planes met bytes rest one two e of r added fin pl 
     go (Err fault) h = absurd (cc)
     go (Ok x) h =
         let j : ((planes_by codings x.0.0, x.0.1), x.1) ≡ ((planes, met), rest) = ok-same _ _ h in
-        let a : planes_by codings x.0.0 ≡ planes = ap (λ z. z.0.0) j in
-        let b : x.0.1 ≡ met = ap (λ z. z.0.1) j in
-        let d : x.1 ≡ rest = ap (λ z. z.1) j in
-        ap (λ (y : Found). Ok ((y, x.0.1), x.1)) (made x.0.0 a)
-        ∙ ap₂ (λ (m : Option Marker) (l : List ℕ). Ok ((record (with_decoded f two) { scanned = true }, m), l)) b d
+        let is = made x.0.0 (ap (λ z. z.0.0) j) in
+        λ i. Ok ((is i, (j i).0.1), (j i).1)
 
 pub data-planes-refused : (f : Found) (frame : Frame) (p : Pass) (codings : List Coding) (bytes : List ℕ)
     (fault : Fault)
@@ -317,25 +300,23 @@ pub planes-whole : (frame : Frame) (p : Pass) (codings : List Coding) (planes : 
     (components_of codings)
     → ArePlanes frame.components found.planes → ArePlanes frame.components (with_planes p codings planes found).planes
 unfolding with_planes
-planes-whole frame p [] planes found of k h = h
-planes-whole frame p (c ∷ codings) [] found of k h = h
 planes-whole frame p (c ∷ codings) (plane ∷ planes) found of k h =
     let a : length plane ≡ (c.component.blocks_high * c.component.scale)
     * (c.component.blocks_wide * c.component.scale) = ap (λ (l : List ℕ). get_or l 0 0) k in
     planes-whole frame p codings planes (with_its_plane p c.place plane found) of.1 (ap (λ (l : List ℕ). drop 1 l) k)
     (one-whole frame.components p c.place c.component plane found of.0.here a h)
+planes-whole frame p _ _ found of k h = h
 
 pub arrays-whole : (frame : Frame) (p : Pass) (codings : List Coding) (arrays : Arrays) (found : Found)
     → AllByRecursion (IsOf frame) codings
     → ArePlanes frame.components found.planes → ArePlanes frame.components (with_arrays p codings arrays found).planes
 unfolding with_arrays
-arrays-whole frame p [] arrays found of h = h
-arrays-whole frame p (c ∷ codings) [] found of h = h
 arrays-whole frame p (c ∷ codings) (blocks ∷ arrays) found of h =
     arrays-whole frame p codings arrays (with_blocks p c blocks found) of.1
     (subst (λ (x : Found). ArePlanes frame.components x.planes) (sym (blocks-are p c blocks found))
     (one-whole frame.components p c.place c.component (plane_by c.component c.quantization blocks) found of.0.here
     (plane_by-length c.component c.quantization blocks) h))
+arrays-whole frame p _ _ found of h = h
 
 -- ---- refusals
 

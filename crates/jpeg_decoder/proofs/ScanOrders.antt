@@ -62,8 +62,6 @@ pub several-order : (frame : Frame) (cs : List Component) (n : ℕ) (o : ScanOrd
     → o.high ≡ frame.mcus_high → o.lines ≡ 1 → o.rows ≡ frame.mcus_high → o.interval ≡ n * length o.members.items
     → IsOrderOf frame cs n o
 unfolding mcu_size spots_of row_at
-several-order frame [] n o h fits members wide high lines rows interval = absurd (omega arith)
-several-order frame (c ∷ []) n o h fits members wide high lines rows interval = absurd (omega arith)
 several-order frame (c ∷ d ∷ more) n o h fits members wide high lines rows interval =
     let cs = c ∷ d ∷ more in
     let size : length o.members.items ≡ size_of cs
@@ -81,6 +79,7 @@ several-order frame (c ∷ d ∷ more) n o h fits members wide high lines rows i
           ap (λ (k : ℕ). spots_at o.members.items (raster o.wide (min k (o.high - row * k)))) lines
           ∙ ap (λ (k : ℕ). spots_at o.members.items (raster o.wide k)) one ∙ walked 1;
     }
+several-order frame _ n o h fits members wide high lines rows interval = absurd (omega arith)
 
 pub several-of : (frame : Frame) (cs : List Coded) (n : ℕ) (o : ScanOrder) → 1 < length cs
     → AllByRecursion (Fits frame) (components_in cs) → o.members.items ≡ members_from 0 (components_in cs)
@@ -118,11 +117,10 @@ pub alone-of : (frame : Frame) (cs : List Coded) (c : Coded) (n : ℕ) (o : Scan
     → o.high ≡ (grid_of (component_in c.component.now)).own_high
     → o.lines ≡ (component_in c.component.now).factors.vertical → o.rows ≡ frame.mcus_high → o.interval ≡ n
     → IsOrderOf frame (components_in cs) n o
-alone-of frame [] c n o one is members wide high lines rows interval = absurd (omega arith)
-alone-of frame (x ∷ y ∷ cs) c n o one is members wide high lines rows interval = absurd (omega arith)
 alone-of frame (x ∷ []) c n o one is members wide high lines rows interval =
     subst (λ (y : Coded). IsOrderOf frame (component_in y.component.now ∷ []) n o) is
     (alone-order frame (component_in c.component.now) n o members wide high lines rows interval)
+alone-of frame _ c n o one is members wide high lines rows interval = absurd (omega arith)
 
 -- ---- the rows
 

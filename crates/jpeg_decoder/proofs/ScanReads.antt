@@ -10,7 +10,7 @@ use Rattle.jpeg_bits.specs.declared.marker.Marker.{Marker}
 use Rattle.jpeg_bits.proofs.Loops.{Continues, Continues-err, Names-through, bind_at, bind_err, still_known}
 use Rattle.jpeg_segments.specs.Frame.{Frame}
 use Rattle.jpeg_segments.specs.declared.parser.CodingProcess.{CodingProcess}
-use Rattle.jpeg_segments.specs.declared.parser.CodingProcess.TheVariants.{DctSequential, DctProgressive, Lossless}
+use Rattle.jpeg_segments.specs.declared.parser.CodingProcess.TheVariants.{Lossless}
 use Rattle.jpeg_segments.specs.ScanHeader.{Scan, sos_at}
 use Rattle.jpeg_streams.specs.declared.before.Before.{Before}
 use Rattle.jpeg_streams.specs.Scans.{Arrays}
@@ -28,11 +28,9 @@ use Rattle.jpeg_decoder.specs.Steps.{scan_data, scan_read}
 
 -- a refusal of a call with no source
 refusal-fails : (e : Error) (a b : Bool) → IsRefusal e → b ≡ a → MayFail e a b
-refusal-fails (errors.Format text) a b r h = h
-refusal-fails (errors.Unsupported feature) a b r h = h
 refusal-fails (errors.Io x) a b r h = absurd r
 refusal-fails (errors.Internal text) a b r h = absurd r
-refusal-fails errors.OutOfMemory a b r h = h
+refusal-fails _ a b r h = h
 
 pub refused : {X Y Z : Type 0} (view : X → Y) (whole rest : List ℕ → Outcome Y) (old new : Stream) (e : Error)
     (o : Result Z Fault) → Continues whole old rest new → IsRefusal e → Names e o
@@ -92,14 +90,12 @@ HasRead read old y new =
 
 by-blocks : (p : CodingProcess) (found : Found) (frame : Frame) (scan : Scan) (bytes : List ℕ)
     → (p ≡ Lossless → ⊥) → read_by p found frame scan bytes ≡ blocks_read found frame scan bytes
-by-blocks DctSequential found frame scan bytes h = refl
-by-blocks DctProgressive found frame scan bytes h = refl
 by-blocks Lossless found frame scan bytes h = absurd (h refl)
+by-blocks _ found frame scan bytes h = refl
 
 pub is-dct : (p : CodingProcess) → (p ≡ Lossless → ⊥) → IsDct p
-is-dct DctSequential h = tt
-is-dct DctProgressive h = tt
 is-dct Lossless h = absurd (h refl)
+is-dct _ h = tt
 
 -- A scan of blocks has its tables after its header.
 pub header-read : (found : Found) (frame : Frame) (scan : Scan) (old new : Stream)
@@ -203,9 +199,8 @@ samples-parts found frame scan bytes =
 
 process-parts : (p : CodingProcess) (found : Found) (frame : Frame) (scan : Scan) (bytes : List ℕ)
     → scan_by p found frame scan bytes ≡ (read_by p found frame scan bytes >>= scan_turn found)
-process-parts DctSequential found frame scan bytes = blocks-parts found frame scan bytes
-process-parts DctProgressive found frame scan bytes = blocks-parts found frame scan bytes
 process-parts Lossless found frame scan bytes = samples-parts found frame scan bytes
+process-parts _ found frame scan bytes = blocks-parts found frame scan bytes
 
 -- A segment of a scan is a scan that is read.
 scan-parts : (found : Found) (bytes : List ℕ) → scan_segment found bytes ≡ (scan_read found bytes >>= scan_turn found)

@@ -41,9 +41,8 @@ abbrev none_of : (A : Type 0) → Option A
 none_of A = None
 
 none-at : (n place : ℕ) → get_or (replicate n (none_of Table)) place (none_of Table) ≡ none_of Table
-none-at zero place = refl
-none-at (suc n) zero = refl
 none-at (suc n) (suc place) = none-at n place
+none-at _ _ = refl
 
 filled-or : (t : Table) (b : Bool) (o : Option Table) → filled t b o ≡ or_spare o (filled t b None)
 filled-or t b None = refl
@@ -54,16 +53,13 @@ forced-defaults : (l c : Table) (places : List ℕ) (n : ℕ) (tables : List (Op
     → get_or (with_defaults l c places tables) place None
     ≡ or_spare (get_or tables place None) (get_or (with_defaults l c places (replicate n None)) place None)
 forced-defaults l c places zero [] place e = refl
-forced-defaults l c places (suc n) [] place e = absurd (omega arith)
-forced-defaults l c places zero (a ∷ more) place e = absurd (omega arith)
-forced-defaults l c places (suc zero) (a ∷ []) zero e = filled-or l (names places 0) a
 forced-defaults l c places (suc zero) (a ∷ []) (suc place) e = refl
-forced-defaults l c places (suc (suc n)) (a ∷ []) place e = absurd (omega arith)
-forced-defaults l c places (suc zero) (a ∷ b ∷ more) place e = absurd (omega arith)
+forced-defaults l c places (suc zero) (a ∷ []) zero e = filled-or l (names places 0) a
 forced-defaults l c places (suc (suc n)) (a ∷ b ∷ more) zero e = filled-or l (names places 0) a
 forced-defaults l c places (suc (suc n)) (a ∷ b ∷ more) (suc zero) e = filled-or c (names places 1) b
 forced-defaults l c places (suc (suc n)) (a ∷ b ∷ more) (suc (suc place)) e =
     sym (ap (or_spare (get_or more place None)) (none-at n place) ∙ or-none (get_or more place None))
+forced-defaults l c places _ _ place e = absurd (omega arith)
 
 forced-by : (b : Bool) (l c : Table) (places : List ℕ) (tables : List (Option Table)) (place : ℕ) → length tables ≡ 4
     → get_or (cond b (with_defaults l c places tables) tables) place None
@@ -114,10 +110,9 @@ class-ac classes.DC e = absurd (let n : ⊥ = cc in n)
 class-ac classes.AC e = refl
 
 read-ac : (tables : List (Option Table)) (place : ℕ) → all_ac tables ≡ true → IsAc (get_or tables place None)
-read-ac [] place e = tt
-read-ac (None ∷ more) zero e = tt
 read-ac (Some t ∷ more) zero e = class-ac t.class (and_parts (is_ac t.class) (all_ac more) e).0
 read-ac (o ∷ more) (suc place) e = read-ac more place (and_parts (is_ac_or_none o) (all_ac more) e).1
+read-ac _ _ e = tt
 
 filled-ac : (t : Table) (b : Bool) → t.class ≡ classes.AC → IsAc (filled t b None)
 filled-ac t true e = e
@@ -302,7 +297,5 @@ is-ac state header spare slot place o r h p e t =
 pub format-refuses : {Y : Type 0} (e : Error) (o : Result Y Fault) → NamesFormat e → o ≡ Err Malformed
     → IsRefusal e × Names e o
 format-refuses (errors.Format text) o n h = (tt, h)
-format-refuses (errors.Unsupported feature) o n h = absurd n
-format-refuses (errors.Io x) o n h = absurd n
-format-refuses (errors.Internal text) o n h = absurd n
 format-refuses errors.OutOfMemory o n h = (tt, tt)
+format-refuses _ o n h = absurd n

@@ -88,12 +88,9 @@ pub strips-length : (codings : List Coding) (arrays : Arrays) (planes : List (Li
     → length (with_strips codings arrays planes) ≡ length codings
 unfolding with_strips
 strips-length [] [] [] e f = refl
-strips-length [] (a ∷ arrays) planes e f = absurd (omega arith)
-strips-length [] [] (x ∷ planes) e f = absurd (omega arith)
-strips-length (c ∷ codings) [] planes e f = absurd (omega arith)
-strips-length (c ∷ codings) (a ∷ arrays) [] e f = absurd (omega arith)
 strips-length (c ∷ codings) (a ∷ arrays) (x ∷ planes) e f = ap (λ (n : ℕ). suc n)
     (strips-length codings arrays planes (omega arith) (omega arith))
+strips-length _ _ _ e f = absurd (omega arith)
 
 pub strips-at : (codings : List Coding) (arrays : Arrays) (planes : List (List ℕ)) (slot : ℕ) (c : Coding)
     → length arrays ≡ length codings → length planes ≡ length codings
@@ -101,13 +98,11 @@ pub strips-at : (codings : List Coding) (arrays : Arrays) (planes : List (List �
     → get_or (with_strips codings arrays planes) slot []
     ≡ get_or planes slot [] ++ samples_of c.component.factors.vertical c (get_or arrays slot [])
 unfolding with_strips
-strips-at [] arrays planes slot c e f h is = absurd (omega arith)
-strips-at (d ∷ codings) [] planes slot c e f h is = absurd (omega arith)
-strips-at (d ∷ codings) (a ∷ arrays) [] slot c e f h is = absurd (omega arith)
 strips-at (d ∷ codings) (a ∷ arrays) (x ∷ planes) zero c e f h is = ap (λ
     (y : Coding). x ++ samples_of y.component.factors.vertical y a) (sym is)
 strips-at (d ∷ codings) (a ∷ arrays) (x ∷ planes) (suc slot) c e f h is = strips-at codings arrays planes slot c
     (omega arith) (omega arith) (omega arith) is
+strips-at _ _ _ slot c e f h is = absurd (omega arith)
 
 -- ---- the loop over the rows
 

@@ -23,7 +23,7 @@ use Rattle.jpeg_decoder.proofs.ByStrips.{planes-by-rows}
 use Rattle.jpeg_decoder.specs.declared.scan_order.ScanOrder.{ScanOrder}
 use Rattle.jpeg_decoder.specs.Walk.{IsOrderOf, walks_of_rows}
 use Rattle.jpeg_decoder.proofs.ScanOrders.{rows-walked}
-use Rattle.jpeg_decoder.proofs.StripSteps.{components-are}
+use Rattle.jpeg_decoder.proofs.PlacedCodings.{coded-components}
 
 abbrev pub Planes : Type 0
 Planes = List (List ℕ)
@@ -49,7 +49,7 @@ module _ (frame : Frame) (cs : List Coded) (p : Pass) (vias : List Via) (n : ℕ
   whole-is : (bytes : List ℕ) → by_rows bytes ≡ ended (whole (upcoming fresh bytes))
   unfolding planes_by_rows ended
   whole-is bytes =
-      let same : components_in cs ≡ components_of codings = sym (components-are cs) in
+      let same : components_in cs ≡ components_of codings = sym (coded-components cs) in
       let walked : walks_of_rows o ≡ rows_of frame (components_of codings)
       = rows-walked frame (components_in cs) n o is ∙ ap (rows_of frame) same in
       let count : o.interval ≡ n * mcu_size (components_of codings)
@@ -94,4 +94,4 @@ pub scan-by-rows : (frame : Frame) (cs : List Coded) (p : Pass) (n : ℕ) (vias 
 scan-by-rows frame [] p n vias bytes h fits = absurd (omega arith)
 scan-by-rows frame (c ∷ cs) p n vias bytes h fits =
     planes-by-rows frame (coding_in c) (map coding_in cs) p n vias bytes (subst (λ
-    (l : List Component). AllByRecursion (Fits frame) l) (sym (components-are (c ∷ cs))) fits)
+    (l : List Component). AllByRecursion (Fits frame) l) (sym (coded-components (c ∷ cs))) fits)

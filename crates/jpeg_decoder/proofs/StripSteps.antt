@@ -10,7 +10,6 @@ use Rattle.jpeg_bits.specs.Entropy.{Text}
 use Rattle.jpeg_bits.specs.Readers.{Reads, read_on}
 use Rattle.jpeg_bits.specs.Passes.{Pass, Via, Block, zero_block}
 use Rattle.jpeg_segments.specs.Frame.{Frame, Component}
-use Rattle.jpeg_segments.specs.FrameView.{component_in}
 use Rattle.jpeg_decoder.specs.declared.scan.Coded.{Coded}
 use Rattle.jpeg_streams.specs.Order.{Spot}
 use Rattle.jpeg_streams.specs.Scans.{Arrays}
@@ -95,10 +94,6 @@ strips_none p vias n codings f k high planes old t h =
     let e : high - k ≡ 0 = omega arith in
     ap (λ (m : ℕ). strips_from p vias n codings (map f (range_with_len k m)) planes old t) e
 
-pub components-are : (cs : List Coded) → components_of (map coding_in cs) ≡ components_in cs
-components-are [] = refl
-components-are (c ∷ cs) = ap (λ (l : List Component). component_in c.component.now ∷ l) (components-are cs)
-
 pub zeros-are : (cs : List Coded) → zeros_of (row_sizes cs) ≡ zero_rows 1 (components_of (map coding_in cs))
 unfolding zero_rows
 zeros-are [] = refl
@@ -143,10 +138,6 @@ pub lengths-next : (cs : List Coded) (arrays : Arrays) (planes : List (List ℕ)
     ≡ map (λ (c : Coded). samples_in ((row + 1) * down_in c) c) cs
 unfolding with_strips
 lengths-next [] [] [] row e h = refl
-lengths-next [] [] (p ∷ planes) row e h = absurd (let n = ap (λ (l : List ℕ). length l) h in omega arith)
-lengths-next [] (a ∷ arrays) planes row e h = absurd (omega arith)
-lengths-next (c ∷ cs) [] planes row e h = absurd (omega arith)
-lengths-next (c ∷ cs) (a ∷ arrays) [] row e h = absurd (let n = ap (λ (l : List ℕ). length l) h in omega arith)
 lengths-next (c ∷ cs) (a ∷ arrays) (p ∷ planes) row e h =
     let s = c.component.now.dct_scale in
     let head : length p ≡ samples_in (row * down_in c) c = ap (λ (l : List ℕ). get_or l 0 0) h in
@@ -156,6 +147,9 @@ lengths-next (c ∷ cs) (a ∷ arrays) (p ∷ planes) row e h =
     ∙ ap₂ (λ (m n : ℕ). m + n) head (length-samples (down_in c) (coding_in c) a)
     ∙ one-row-more (s * wide_in c) s row (down_in c))
     (lengths-next cs arrays planes row (omega arith) tail)
+lengths-next [] (a ∷ arrays) planes row e h = absurd (omega arith)
+lengths-next (c ∷ cs) [] planes row e h = absurd (omega arith)
+lengths-next _ _ _ row e h = absurd (let n = ap (λ (l : List ℕ). length l) h in omega arith)
 
 pub row-count : (cs : List Coded) (vs : List Held) → sizes_of vs ≡ row_sizes cs → length (arrays_in vs) ≡ length cs
 row-count cs vs sizes =

@@ -1,17 +1,17 @@
 -- The segments of a stream, a turn at a time.
-use Rattle.std.proofs.Common.{◌≡◌, ◌≤◌, ◌<◌, ℕ, zero, suc, List, Result, Ok, Err, Bool, true, false, Option, Some, None}
-use Rattle.std.proofs.Common.{refl, ◌∙◌, length, arith}
+use Rattle.std.proofs.Common.{◌≡◌, ◌≤◌, ◌<◌, ℕ, suc, List, Result, Ok, Err, Bool, true, false, Option, Some, None}
+use Rattle.std.proofs.Common.{ap, refl, ◌∙◌, length, arith}
 use Rattle.std.specs.Prelude.{if◌then◌else◌, ◌&&◌, is_some, option_map}
 use Rattle.std.proofs.Math.Bool.{cond}
 use Rattle.jpeg_bits.specs.Reading.{Outcome, Fault, Malformed, ◌>>=◌, length_at, skip_at}
 use Rattle.jpeg_bits.specs.Marker.{next_marker}
 use Rattle.jpeg_bits.specs.declared.marker.Marker.{Marker}
-use Rattle.jpeg_bits.specs.declared.marker.Marker.TheVariants.{SOF, JPG, DHT, DAC, RST, SOI, EOI, SOS, DQT, DNL, DRI}
-use Rattle.jpeg_bits.specs.declared.marker.Marker.TheVariants.{DHP, EXP, APP, JPGn, COM, TEM, RES}
+use Rattle.jpeg_bits.specs.declared.marker.Marker.TheVariants.{SOF, DHT, RST, EOI, SOS, DQT, DNL, DRI}
+use Rattle.jpeg_bits.specs.declared.marker.Marker.TheVariants.{APP, COM}
 use Rattle.jpeg_segments.specs.Frame.{Frame, sof_at}
 use Rattle.jpeg_segments.specs.ScanHeader.{Scan, sos_at}
 use Rattle.jpeg_segments.specs.declared.parser.CodingProcess.{CodingProcess}
-use Rattle.jpeg_segments.specs.declared.parser.CodingProcess.TheVariants.{DctSequential, DctProgressive, Lossless}
+use Rattle.jpeg_segments.specs.declared.parser.CodingProcess.TheVariants.{Lossless}
 use Rattle.jpeg_streams.specs.LosslessScans.{lossless_codings}
 use Rattle.jpeg_segments.specs.Quantization.{dqt_at}
 use Rattle.jpeg_segments.specs.HuffmanTables.{dht_at}
@@ -36,110 +36,131 @@ use Rattle.jpeg_decoder.proofs.PassedRestarts.{Passes, after-passes, bind-same}
 
 -- ---- what a turn takes
 
+-- What holds of a turn and of what is left after it, if one was read.
+unfoldable pub On : (Turn × List ℕ → Type 0) → Outcome Turn → Type 0
+On P (Ok x) = P x
+On P (Err fault) = Unit {0}
+
 -- Where the image goes on, fewer bytes are left than the limit, and no restart marker is met.
-unfoldable pub GoesBelow : ℕ → Outcome Turn → Type 0
-GoesBelow limit (Ok x) = x.0.ended ≡ false → (length x.1 < limit) × (is_restart_marker x.0.met ≡ false)
-GoesBelow limit (Err fault) = Unit {0}
+abbrev Below : ℕ → Turn × List ℕ → Type 0
+Below limit x = x.0.ended ≡ false → (length x.1 < limit) × (is_restart_marker x.0.met ≡ false)
 
-goes-at : (limit : ℕ) (r : Outcome Turn) (x : Turn × List ℕ) → GoesBelow limit r → r ≡ Ok x → x.0.ended ≡ false
-    → (length x.1 < limit) × (is_restart_marker x.0.met ≡ false)
-unfolding GoesBelow
-goes-at limit r x h e = rw e at h
+-- The image goes on elsewhere.
+abbrev pub IsElsewhere : Turn × List ℕ → Type 0
+IsElsewhere x = (x.0.ended ≡ false) × ((x.0.before ≡ Elsewhere) × (x.0.met ≡ None))
 
-goes-onward : (limit : ℕ) (found : Found) (rest : List ℕ) → length rest < limit
-    → GoesBelow limit (Ok (onward found, rest))
-unfolding GoesBelow
-goes-onward limit found rest h = λ _. (h, refl)
+-- The same with fewer bytes left than the limit.
+abbrev pub IsOnward : ℕ → Turn × List ℕ → Type 0
+IsOnward limit x = IsElsewhere x × (length x.1 < limit)
 
-goes-err : (limit : ℕ) (fault : Fault) → GoesBelow limit (Err fault)
-unfolding GoesBelow
-goes-err limit fault = tt
+pub on-at : (P : Turn × List ℕ → Type 0) (r : Outcome Turn) (x : Turn × List ℕ) → On P r → r ≡ Ok x → P x
+unfolding On
+on-at P r x h e = rw e at h
 
-goes-else : (limit : ℕ) (b : Bool) (fault : Fault) (x : Outcome Turn) → GoesBelow limit x
-    → GoesBelow limit (if b then Err fault else x)
-goes-else limit true fault x p = goes-err limit fault
-goes-else limit false fault x p = p
+pub on-err : (P : Turn × List ℕ → Type 0) (fault : Fault) → On P (Err fault)
+unfolding On
+on-err P fault = tt
 
-goes-bind : {A : Type 0} (limit first : ℕ) (r : Outcome A) (f : A × List ℕ → Outcome Turn) → LeavesBelow first r
-    → ((x : A × List ℕ) → length x.1 < first → GoesBelow limit (f x)) → GoesBelow limit (r >>= f)
-unfolding GoesBelow LeavesBelow
-goes-bind limit first (Ok x) f p q = q x p
-goes-bind limit first (Err fault) f p q = tt
+pub on-weaker : (P Q : Turn × List ℕ → Type 0) (r : Outcome Turn) → ((x : Turn × List ℕ) → P x → Q x) → On P r → On Q r
+unfolding On
+on-weaker P Q (Ok x) f h = f x h
+on-weaker P Q (Err fault) f h = tt
 
-goes-needs : {A : Type 0} (limit : ℕ) (r : Result A Fault) (f : A → Outcome Turn) → ((x : A) → GoesBelow limit (f x))
-    → GoesBelow limit (r >>= f)
-goes-needs limit (Ok x) f q = q x
-goes-needs limit (Err fault) f q = goes-err limit fault
+on-else : (P : Turn × List ℕ → Type 0) (b : Bool) (fault : Fault) (r : Outcome Turn) → On P r
+    → On P (if b then Err fault else r)
+on-else P true fault r p = on-err P fault
+on-else P false fault r p = p
+
+on-bind : {A : Type 0} (P : Turn × List ℕ → Type 0) (first : ℕ) (r : Outcome A) (f : A × List ℕ → Outcome Turn)
+    → LeavesBelow first r → ((x : A × List ℕ) → length x.1 < first → On P (f x)) → On P (r >>= f)
+unfolding On LeavesBelow
+on-bind P first (Ok x) f p q = q x p
+on-bind P first (Err fault) f p q = tt
+
+pub on-needs : {A : Type 0} (P : Turn × List ℕ → Type 0) (r : Result A Fault) (f : A → Outcome Turn)
+    → ((x : A) → On P (f x)) → On P (r >>= f)
+on-needs P (Ok x) f q = q x
+on-needs P (Err fault) f q = on-err P fault
 
 goes-passes : (limit : ℕ) (r : Outcome (Option Marker)) (f : Option Marker × List ℕ → Outcome Turn) → Passes limit r
-    → ((x : Option Marker × List ℕ) → length x.1 < limit → is_restart_marker x.0 ≡ false → GoesBelow limit (f x))
-    → GoesBelow limit (r >>= f)
+    → ((x : Option Marker × List ℕ) → length x.1 < limit → is_restart_marker x.0 ≡ false → On (Below limit) (f x))
+    → On (Below limit) (r >>= f)
 unfolding Passes
 goes-passes limit (Ok x) f p q = q x p.0 p.1
-goes-passes limit (Err fault) f p q = goes-err limit fault
+goes-passes limit (Err fault) f p q = on-err (Below limit) fault
 
 goes-ok : (limit : ℕ) (t : Turn) (rest : List ℕ) → length rest < limit → is_restart_marker t.met ≡ false
-    → GoesBelow limit (Ok (t, rest))
-unfolding GoesBelow
+    → On (Below limit) (Ok (t, rest))
+unfolding On
 goes-ok limit t rest h e = λ _. (h, e)
 
-frame-goes : (limit number : ℕ) (found : Found) (bytes : List ℕ) → length bytes ≤ limit
-    → GoesBelow limit (frame_segment number found bytes)
+on-onward : (limit : ℕ) (found : Found) (rest : List ℕ) → length rest < limit
+    → On (IsOnward limit) (Ok (onward found, rest))
+unfolding On
+on-onward limit found rest h = ((refl, (refl, refl)), h)
+
+onward-goes : (limit : ℕ) (r : Outcome Turn) → On (IsOnward limit) r → On (Below limit) r
+onward-goes limit r h =
+    on-weaker (IsOnward limit) (Below limit) r
+    (λ x k _. (k.1, ap (λ (m : Option Marker). is_restart_marker m) k.0.1.1)) h
+
+pub frame-goes : (limit number : ℕ) (found : Found) (bytes : List ℕ) → length bytes ≤ limit
+    → On (IsOnward limit) (frame_segment number found bytes)
 unfolding frame_segment
 frame-goes limit number found bytes h =
-    goes-else limit (is_some found.frame) _ _ (
-    goes-bind limit limit (sof_at number bytes) _ (sof-below limit number bytes h) (λ f p.
-    goes-needs limit (accepted f.0) _ (λ decoded. goes-onward limit _ f.1 p)))
+    on-else (IsOnward limit) (is_some found.frame) _ _ (
+    on-bind (IsOnward limit) limit (sof_at number bytes) _ (sof-below limit number bytes h) (λ f p.
+    on-needs (IsOnward limit) (accepted f.0) _ (λ decoded. on-onward limit _ f.1 p)))
 
-quantization-goes : (limit : ℕ) (found : Found) (bytes : List ℕ) → length bytes ≤ limit
-    → GoesBelow limit (quantization_segment found bytes)
+pub quantization-goes : (limit : ℕ) (found : Found) (bytes : List ℕ) → length bytes ≤ limit
+    → On (IsOnward limit) (quantization_segment found bytes)
 unfolding quantization_segment
 quantization-goes limit found bytes h =
-    goes-bind limit limit (dqt_at bytes) _ (dqt-below limit bytes h) (λ t p. goes-onward limit _ t.1 p)
+    on-bind (IsOnward limit) limit (dqt_at bytes) _ (dqt-below limit bytes h) (λ t p. on-onward limit _ t.1 p)
 
-huffman-goes : (limit : ℕ) (found : Found) (bytes : List ℕ) → length bytes ≤ limit
-    → GoesBelow limit (huffman_segment found bytes)
+pub huffman-goes : (limit : ℕ) (found : Found) (bytes : List ℕ) → length bytes ≤ limit
+    → On (IsOnward limit) (huffman_segment found bytes)
 unfolding huffman_segment
 huffman-goes limit found bytes h =
-    goes-bind limit limit (dht_at (option_map (λ f. f.is_baseline) found.frame) bytes) _ (dht-below limit _ bytes h)
-    (λ t p. goes-onward limit _ t.1 p)
+    on-bind (IsOnward limit) limit (dht_at (option_map (λ f. f.is_baseline) found.frame) bytes) _ (dht-below limit _ bytes h)
+    (λ t p. on-onward limit _ t.1 p)
 
-restart-goes : (limit : ℕ) (found : Found) (bytes : List ℕ) → length bytes ≤ limit
-    → GoesBelow limit (restart_segment found bytes)
+pub restart-goes : (limit : ℕ) (found : Found) (bytes : List ℕ) → length bytes ≤ limit
+    → On (IsOnward limit) (restart_segment found bytes)
 unfolding restart_segment
 restart-goes limit found bytes h =
-    goes-bind limit limit (dri_at bytes) _ (dri-below limit bytes h) (λ t p. goes-onward limit _ t.1 p)
+    on-bind (IsOnward limit) limit (dri_at bytes) _ (dri-below limit bytes h) (λ t p. on-onward limit _ t.1 p)
 
-application-goes : (limit number : ℕ) (found : Found) (bytes : List ℕ) → length bytes ≤ limit
-    → GoesBelow limit (application_segment number found bytes)
+pub application-goes : (limit number : ℕ) (found : Found) (bytes : List ℕ) → length bytes ≤ limit
+    → On (IsOnward limit) (application_segment number found bytes)
 unfolding application_segment
 application-goes limit number found bytes h =
-    goes-bind limit limit (app_at number bytes) _ (app-below limit number bytes h) (λ t p. goes-onward limit _ t.1 p)
+    on-bind (IsOnward limit) limit (app_at number bytes) _ (app-below limit number bytes h) (λ t p. on-onward limit _ t.1 p)
 
-skipped-goes : (limit : ℕ) (found : Found) (bytes : List ℕ) → length bytes ≤ limit
-    → GoesBelow limit (skipped_segment found bytes)
+pub skipped-goes : (limit : ℕ) (found : Found) (bytes : List ℕ) → length bytes ≤ limit
+    → On (IsOnward limit) (skipped_segment found bytes)
 unfolding skipped_segment
 skipped-goes limit found bytes h =
-    goes-bind limit limit (length_at bytes) _ (length-below limit bytes h) (λ n p.
-    goes-bind limit limit (skip_at n.0 n.1) _ (skip-below limit n.0 n.1 p) (λ u q. goes-onward limit found u.1 q))
+    on-bind (IsOnward limit) limit (length_at bytes) _ (length-below limit bytes h) (λ n p.
+    on-bind (IsOnward limit) limit (skip_at n.0 n.1) _ (skip-below limit n.0 n.1 p) (λ u q. on-onward limit found u.1 q))
 
 blocks-go : (limit : ℕ) (found : Found) (frame : Frame) (scan : Scan) (bytes : List ℕ) → length bytes < limit
-    → GoesBelow limit (blocks_scan found frame scan bytes)
+    → On (Below limit) (blocks_scan found frame scan bytes)
 unfolding blocks_scan scan_arrays
 blocks-go limit found frame scan bytes p =
-    goes-needs limit (codings_of found frame scan) _ (λ codings.
-    goes-bind limit limit (scan_arrays found frame scan codings bytes) _ (arrays-below limit _ _ _ _ _ bytes p)
+    on-needs (Below limit) (codings_of found frame scan) _ (λ codings.
+    on-bind (Below limit) limit (scan_arrays found frame scan codings bytes) _ (arrays-below limit _ _ _ _ _ bytes p)
     (λ read q.
     goes-passes limit (after_restarts (suc (length read.1)) read.0.1 read.1) _ (after-passes limit read.0.1 read.1 q)
     (λ met r e.
     goes-ok limit _ met.1 r e)))
 
 samples-go : (limit : ℕ) (found : Found) (frame : Frame) (scan : Scan) (bytes : List ℕ) → length bytes < limit
-    → GoesBelow limit (lossless_scan found frame scan bytes)
+    → On (Below limit) (lossless_scan found frame scan bytes)
 unfolding lossless_scan
 samples-go limit found frame scan bytes p =
-    goes-needs limit (lossless_codings found.huffman.dc frame scan.components scan.dc_places) _ (λ codings.
-    goes-bind limit limit (scan_samples found frame scan codings bytes) _ (samples-below limit _ _ _ _ bytes p)
+    on-needs (Below limit) (lossless_codings found.huffman.dc frame scan.components scan.dc_places) _ (λ codings.
+    on-bind (Below limit) limit (scan_samples found frame scan codings bytes) _ (samples-below limit _ _ _ _ bytes p)
     (λ read q.
     goes-passes limit (after_restarts (suc (length read.1)) read.0.1 read.1) _ (after-passes limit read.0.1 read.1 q)
     (λ met r e.
@@ -147,24 +168,23 @@ samples-go limit found frame scan bytes p =
 
 process-goes : (limit : ℕ) (p : CodingProcess) (found : Found) (frame : Frame) (scan : Scan) (bytes : List ℕ)
     → length bytes < limit
-    → GoesBelow limit (scan_by p found frame scan bytes)
-process-goes limit DctSequential found frame scan bytes h = blocks-go limit found frame scan bytes h
-process-goes limit DctProgressive found frame scan bytes h = blocks-go limit found frame scan bytes h
+    → On (Below limit) (scan_by p found frame scan bytes)
 process-goes limit Lossless found frame scan bytes h = samples-go limit found frame scan bytes h
+process-goes limit _ found frame scan bytes h = blocks-go limit found frame scan bytes h
 
 scan-goes : (limit : ℕ) (found : Found) (bytes : List ℕ) → length bytes ≤ limit
-    → GoesBelow limit (scan_segment found bytes)
+    → On (Below limit) (scan_segment found bytes)
 unfolding scan_segment
 scan-goes limit found bytes h =
-    goes-needs limit (needed found.frame) _ (λ frame.
-    goes-bind limit limit (sos_at frame bytes) _ (sos-below limit frame bytes h) (λ scan p.
+    on-needs (Below limit) (needed found.frame) _ (λ frame.
+    on-bind (Below limit) limit (sos_at frame bytes) _ (sos-below limit frame bytes h) (λ scan p.
     process-goes limit frame.process found frame scan.0 scan.1 p))
 
-end-goes : (limit : ℕ) (found : Found) (bytes : List ℕ) → GoesBelow limit (end_segment found bytes)
-unfolding end_segment GoesBelow
+end-goes : (limit : ℕ) (found : Found) (bytes : List ℕ) → On (Below limit) (end_segment found bytes)
+unfolding end_segment On
 end-goes limit found bytes = go (is_some found.frame)
   where
-    go : (b : Bool) → GoesBelow limit (cond b (Ok (
+    go : (b : Bool) → On (Below limit) (cond b (Ok (
       record {
         found = found;
         before = Elsewhere;
@@ -177,45 +197,37 @@ end-goes limit found bytes = go (is_some found.frame)
     go false = tt
 
 stray-goes : (limit : ℕ) (before : Before) (found : Found) (bytes : List ℕ) → length bytes < limit
-    → GoesBelow limit (stray_restart before found bytes)
-stray-goes limit Elsewhere found bytes h = goes-err limit _
-stray-goes limit FirstScan found bytes h = goes-onward limit found bytes h
-stray-goes limit LaterScan found bytes h = goes-onward limit found bytes h
+    → On (Below limit) (stray_restart before found bytes)
+stray-goes limit Elsewhere found bytes h = on-err (Below limit) _
+stray-goes limit _ found bytes h = onward-goes limit _ (on-onward limit found bytes h)
 
-lines-goes : (limit : ℕ) (before : Before) → GoesBelow limit (line_count before)
-lines-goes limit FirstScan = goes-err limit _
-lines-goes limit LaterScan = goes-err limit _
-lines-goes limit Elsewhere = goes-err limit _
+lines-goes : (limit : ℕ) (before : Before) → On (Below limit) (line_count before)
+lines-goes limit FirstScan = on-err (Below limit) _
+lines-goes limit LaterScan = on-err (Below limit) _
+lines-goes limit Elsewhere = on-err (Below limit) _
 
 segment-goes : (limit : ℕ) (m : Marker) (before : Before) (found : Found) (bytes : List ℕ) → length bytes ≤ limit
-    → (is_restart_marker (Some m) ≡ true → length bytes < limit) → GoesBelow limit (segment_at m before found bytes)
+    → (is_restart_marker (Some m) ≡ true → length bytes < limit) → On (Below limit) (segment_at m before found bytes)
 unfolding segment_at
-segment-goes limit (SOF number) before found bytes h r = frame-goes limit number found bytes h
-segment-goes limit DQT before found bytes h r = quantization-goes limit found bytes h
-segment-goes limit DHT before found bytes h r = huffman-goes limit found bytes h
+segment-goes limit (SOF number) before found bytes h r = onward-goes limit _ (frame-goes limit number found bytes h)
+segment-goes limit DQT before found bytes h r = onward-goes limit _ (quantization-goes limit found bytes h)
+segment-goes limit DHT before found bytes h r = onward-goes limit _ (huffman-goes limit found bytes h)
 segment-goes limit SOS before found bytes h r = scan-goes limit found bytes h
 segment-goes limit EOI before found bytes h r = end-goes limit found bytes
-segment-goes limit DRI before found bytes h r = restart-goes limit found bytes h
-segment-goes limit (APP number) before found bytes h r = application-goes limit number found bytes h
-segment-goes limit COM before found bytes h r = skipped-goes limit found bytes h
+segment-goes limit DRI before found bytes h r = onward-goes limit _ (restart-goes limit found bytes h)
+segment-goes limit (APP number) before found bytes h r = onward-goes limit _ (application-goes limit number found bytes h)
+segment-goes limit COM before found bytes h r = onward-goes limit _ (skipped-goes limit found bytes h)
 segment-goes limit (RST n) before found bytes h r = stray-goes limit before found bytes (r refl)
 segment-goes limit DNL before found bytes h r = lines-goes limit before
-segment-goes limit JPG before found bytes h r = goes-err limit _
-segment-goes limit DAC before found bytes h r = goes-err limit _
-segment-goes limit SOI before found bytes h r = goes-err limit _
-segment-goes limit DHP before found bytes h r = goes-err limit _
-segment-goes limit EXP before found bytes h r = goes-err limit _
-segment-goes limit (JPGn n) before found bytes h r = goes-err limit _
-segment-goes limit TEM before found bytes h r = goes-err limit _
-segment-goes limit RES before found bytes h r = goes-err limit _
+segment-goes limit _ before found bytes h r = on-err (Below limit) _
 
 turn-goes : (before : Before) (found : Found) (met : Option Marker) (bytes : List ℕ) → is_restart_marker met ≡ false
-    → GoesBelow (length bytes) (turn_at before found met bytes)
+    → On (Below (length bytes)) (turn_at before found met bytes)
 unfolding turn_at
 turn-goes before found (Some m) bytes none =
     segment-goes (length bytes) m before found bytes (omega arith) (λ e. absurd (let n : ⊥ = cc in n))
 turn-goes before found None bytes none =
-    goes-bind (length bytes) (length bytes) (next_marker bytes) _ (marker-below bytes)
+    on-bind (Below (length bytes)) (length bytes) (next_marker bytes) _ (marker-below bytes)
     (λ m p. segment-goes (length bytes) m.0 before found m.1 (omega arith) (λ _. p))
 
 -- A turn after which the image goes on takes at least one byte, where no restart marker is met; and none is met after
@@ -224,7 +236,7 @@ pub turn-takes : (before : Before) (found : Found) (met : Option Marker) (bytes 
     → is_restart_marker met ≡ false → turn_at before found met bytes ≡ Ok r → r.0.ended ≡ false
     → (length r.1 < length bytes) × (is_restart_marker r.0.met ≡ false)
 turn-takes before found met bytes r none e =
-    goes-at (length bytes) (turn_at before found met bytes) r (turn-goes before found met bytes none) e
+    on-at (Below (length bytes)) (turn_at before found met bytes) r (turn-goes before found met bytes none) e
 
 -- ---- turns
 
@@ -246,8 +258,6 @@ turns-enough : (m n : ℕ) (header : Bool) (before : Before) (found : Found) (me
     → is_restart_marker met ≡ false → length bytes < m → length bytes < n
     → segments_within m header before found met bytes ≡ segments_within n header before found met bytes
 unfolding segments_within
-turns-enough zero n header before found met bytes none p q = absurd (omega arith)
-turns-enough (suc m) zero header before found met bytes none p q = absurd (omega arith)
 turns-enough (suc m) (suc n) header before found met bytes none p q =
     cond-same (header && is_some found.frame) _ _ _ (λ _.
     bind-same (turn_at before found met bytes) _ _ (λ t is.
@@ -255,13 +265,12 @@ turns-enough (suc m) (suc n) header before found met bytes none p q =
     let took = turn-takes before found met bytes t none is on in
     let less : length t.1 < length bytes = took.0 in
     turns-enough m n header t.0.before t.0.found t.0.met t.1 took.1 (omega arith) (omega arith))))
+turns-enough _ _ header before found met bytes none p q = absurd (omega arith)
 
 told-enough : (m n : ℕ) (header : Bool) (before : Before) (found : Found) (met : Option Marker) (bytes : List ℕ)
     → is_restart_marker met ≡ false → length bytes < m → length bytes < n
     → told_within m header before found met bytes ≡ told_within n header before found met bytes
 unfolding told_within
-told-enough zero n header before found met bytes none p q = absurd (omega arith)
-told-enough (suc m) zero header before found met bytes none p q = absurd (omega arith)
 told-enough (suc m) (suc n) header before found met bytes none p q =
     cond-same (header && is_some found.frame) _ _ _ (λ _.
     turn-same (turn_at before found met bytes) found _ _ (λ t is.
@@ -269,6 +278,7 @@ told-enough (suc m) (suc n) header before found met bytes none p q =
     let took = turn-takes before found met bytes t none is on in
     let less : length t.1 < length bytes = took.0 in
     told-enough m n header t.0.before t.0.found t.0.met t.1 took.1 (omega arith) (omega arith))))
+told-enough _ _ header before found met bytes none p q = absurd (omega arith)
 
 -- the segments are one turn and then the segments after it
 pub segments-turn : (header : Bool) (before : Before) (found : Found) (met : Option Marker) (bytes : List ℕ)
@@ -373,5 +383,4 @@ within-end header before found met bytes rest t p e q = rw (p, q, e) refl
 -- While a header is read on, the frame is not read yet.
 pub not-framed : {A : Type 0} (header : Bool) (o : Option A) → (header && is_some o) ≡ false → header ≡ true → o ≡ None
 not-framed true None e h = refl
-not-framed true (Some x) e h = absurd (let n : ⊥ = cc in n)
-not-framed false o e h = absurd (let n : ⊥ = cc in n)
+not-framed _ _ e h = absurd (let n : ⊥ = cc in n)

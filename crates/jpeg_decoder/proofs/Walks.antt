@@ -1,8 +1,9 @@
 -- Steps of a walk.
-use Rattle.std.proofs.Common.{◌≡◌, ℕ, zero, suc, ◌+◌, ◌-◌, ◌<◌, List, [], ◌∷◌, ◌++◌, map, drop, length, refl, sym, ap}
-use Rattle.std.proofs.Common.{ap₂, ◌∙◌, arith}
-use Rattle.std.proofs.Common.{get_or}
+use Rattle.std.proofs.Common.{◌≡◌, ℕ, zero, suc, ◌+◌, ◌-◌, ◌<◌, List, [], ◌∷◌, ◌++◌, map, length}
+use Rattle.std.proofs.Common.{refl, sym, ap, ap₂, ◌∙◌, arith, get_or}
+use Rattle.std.proofs.lemmas.List.{drop_all}
 use Rattle.jpeg_decoder.specs.declared.spots.Member.{Member}
+use Rattle.jpeg_decoder.proofs.ReadLists.{dropped}
 use Rattle.jpeg_decoder.specs.Walk.{positions_of, rows_from, raster_left, spot_at, spots_at, spots_left}
 
 -- ---- a raster
@@ -41,36 +42,25 @@ pub ruleset raster_rules = (position-next, row-next, rows-none, wide-none)
 
 -- ---- the blocks of a scan
 
-member-drop : (number : ℕ) (members : List Member) (m : Member) → number < length members → m ≡ get_or members number m
-    → drop number members ≡ m ∷ drop (number + 1) members
-member-drop number [] m h e = absurd (omega arith)
-member-drop zero (x ∷ members) m h e = ap (λ (y : Member). y ∷ members) (sym e)
-member-drop (suc number) (x ∷ members) m h e = member-drop number members m (omega arith) e
-    ∙ ap (λ (n : ℕ). m ∷ drop n (x ∷ members)) (let z : suc (number + 1) ≡ suc number + 1 = omega arith in z)
-
-pub drop-all : (members : List Member) → drop (length members) members ≡ []
-drop-all [] = refl
-drop-all (m ∷ members) = drop-all members
-
 pub block-next : (members : List Member) (number : ℕ) (mcu : ℕ × ℕ) (mcus : List (ℕ × ℕ)) (m : Member)
     → number < length members → m ≡ get_or members number m
     → spots_left members number mcu mcus ≡ spot_at mcu m ∷ spots_left members (number + 1) mcu mcus
 block-next members number mcu mcus m h e =
-    ap (λ (l : List Member). map (spot_at mcu) l ++ spots_at members mcus) (member-drop number members m h e)
+    ap (λ (l : List Member). map (spot_at mcu) l ++ spots_at members mcus) (dropped members number m h e)
 
 pub mcu-next : (members : List Member) (number : ℕ) (mcu next : ℕ × ℕ) (mcus more : List (ℕ × ℕ))
     → number ≡ length members → mcus ≡ next ∷ more
     → spots_left members number mcu mcus ≡ spots_left members 0 next more
 mcu-next members number mcu next mcus more e f =
     ap (λ (n : ℕ). spots_left members n mcu mcus) e
-    ∙ ap (λ (l : List Member). map (spot_at mcu) l ++ spots_at members mcus) (drop-all members)
+    ∙ ap (λ (l : List Member). map (spot_at mcu) l ++ spots_at members mcus) (drop_all (length members) members (omega arith))
     ∙ ap (spots_at members) f
 
 pub mcus-none : (members : List Member) (number : ℕ) (mcu : ℕ × ℕ) (mcus : List (ℕ × ℕ))
     → number ≡ length members → mcus ≡ [] → spots_left members number mcu mcus ≡ []
 mcus-none members number mcu mcus e f =
     ap (λ (n : ℕ). spots_left members n mcu mcus) e
-    ∙ ap (λ (l : List Member). map (spot_at mcu) l ++ spots_at members mcus) (drop-all members)
+    ∙ ap (λ (l : List Member). map (spot_at mcu) l ++ spots_at members mcus) (drop_all (length members) members (omega arith))
     ∙ ap (spots_at members) f
 
 pub ruleset spots_rules = (block-next, mcu-next, mcus-none)

@@ -15,8 +15,8 @@ use Rattle.jpeg_segments.specs.declared.parser.CodingProcess.TheVariants.{Lossle
 use Rattle.jpeg_segments.specs.Frame.{Frame, Component}
 use Rattle.jpeg_segments.specs.Scales.{sized_by}
 use Rattle.jpeg_segments.specs.ScanHeaders.{ScanHeader, scan_payload, IsScan}
-use Rattle.jpeg_segments.specs.WrittenSegments.{sized, Segment, Quantization, Huffman, Interval, Application}
-use Rattle.jpeg_segments.specs.WrittenSegments.{Comment, Header, code_of, payload_of, frame_written}
+use Rattle.jpeg_segments.specs.WrittenSegments.{sized, Segment}
+use Rattle.jpeg_segments.specs.WrittenSegments.{Header, code_of, payload_of, frame_written}
 use Rattle.jpeg_segments.proofs.Fields.{not-refused, kept}
 use Rattle.jpeg_segments.proofs.HeaderRules.{header-rules}
 use Rattle.jpeg_segments.specs.ScanHeader.{scan_of}
@@ -57,11 +57,9 @@ AreHeld samples decided sent = AllByRecursion (λ k. slice_index_or decided k No
 
 set-keeps : {A : Type 0} (v : ℕ → A) (xs : List A) (j k : ℕ) (d : A) → get_or xs k d ≡ v k
     → get_or (set xs j (v j)) k d ≡ v k
-set-keeps v [] j k d h = h
 set-keeps v (x ∷ xs) zero zero d h = refl
-set-keeps v (x ∷ xs) zero (suc k) d h = h
-set-keeps v (x ∷ xs) (suc j) zero d h = h
 set-keeps v (x ∷ xs) (suc j) (suc k) d h = set-keeps (λ n. v (suc n)) xs j k d h
+set-keeps v _ _ _ d h = h
 
 with-keeps : (samples : Samples) (places : List ℕ) (decided : List (Option (List ℕ))) (k : ℕ)
     → slice_index_or decided k None ≡ Some (concat (samples k))
@@ -128,18 +126,9 @@ segment-held : (before : Before) (said : Found) (decided : List (Option (List �
     → StandsInLossless said s
     → segment_at (marker_for s) before (and_samples said decided)
     (sized (payload_of s) ++ rest) ≡ Ok (onward (and_samples (found_after said s) decided), rest)
-segment-held before said decided (Quantization ts) rest may =
-    segment-read before (and_samples said decided) (Quantization ts) rest may.0 tt
-segment-held before said decided (Huffman ts) rest may =
-    segment-read before (and_samples said decided) (Huffman ts) rest may.0 tt
-segment-held before said decided (Interval n) rest may =
-    segment-read before (and_samples said decided) (Interval n) rest may.0 tt
-segment-held before said decided (Application number payload) rest may =
-    segment-read before (and_samples said decided) (Application number payload) rest may.0 tt
-segment-held before said decided (Comment payload) rest may =
-    segment-read before (and_samples said decided) (Comment payload) rest may.0 tt
 segment-held before said decided (Header number h) rest may =
     frame-turn before (and_samples said decided) number h rest may.0 (lossless-accepted number h may.0.1 may.1)
+segment-held before said decided s rest may = segment-read before (and_samples said decided) s rest may.0 tt
 
 -- ---- what begins with a marker
 
@@ -168,14 +157,10 @@ some-same a b e = cc
 
 segment-shaped : (said : Found) (s : Segment) → StandsInLossless said s → IsSaid said → (frame : Frame)
     → (found_after said s).frame ≡ Some frame → IsShaped frame
-segment-shaped said (Quantization ts) may h frame e = h.shaped frame e
-segment-shaped said (Huffman ts) may h frame e = h.shaped frame e
-segment-shaped said (Interval n) may h frame e = h.shaped frame e
-segment-shaped said (Application number payload) may h frame e = h.shaped frame e
-segment-shaped said (Comment payload) may h frame e = h.shaped frame e
 segment-shaped said (Header number header) may h frame e =
     subst IsShaped (some-same (frame_written number header) frame e) (header-shaped number header may.0.1
     (lossless-accepted number header may.0.1 may.1))
+segment-shaped said _ may h frame e = h.shaped frame e
 
 pub segment-said : (said : Found) (s : Segment) → StandsInLossless said s → IsSaid said → IsSaid (found_after said s)
 segment-said said s may h =
@@ -420,12 +405,8 @@ samples-refused settings samples bytes rest final frame w framed over =
 
 frame-stays : (said : Found) (s : Segment) (frame : Frame) → StandsInLossless said s → said.frame ≡ Some frame
     → (found_after said s).frame ≡ Some frame
-frame-stays said (Quantization ts) frame may e = e
-frame-stays said (Huffman ts) frame may e = e
-frame-stays said (Interval n) frame may e = e
-frame-stays said (Application number payload) frame may e = e
-frame-stays said (Comment payload) frame may e = e
 frame-stays said (Header number h) frame may e = some-none frame said.frame e may.0.0
+frame-stays said _ frame may e = e
 
 pub final-framed : (samples : Samples) (frame : Frame) (said : Found) (sent bytes : List ℕ) (final : Found)
     → Writes samples said sent bytes final → said.frame ≡ Some frame → final.frame ≡ Some frame

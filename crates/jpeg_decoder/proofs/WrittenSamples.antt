@@ -7,7 +7,8 @@ use Rattle.std.specs.List.{AllByRecursion, concat}
 use Rattle.std.proofs.lemmas.Bool.{le-leb, eq-eqb, or_right}
 use Rattle.std.proofs.lemmas.List.{length-map, length-take-le}
 use Rattle.std.proofs.lemmas.Nat.{div-mul-add, mod-mul-add}
-use Rattle.std.proofs.Math.Nat.{add-mul, one-mul}
+use Rattle.std.proofs.Common.{suc-mul}
+use Rattle.std.proofs.Math.Nat.{add-mul}
 use Rattle.jpeg_bits.specs.Codes.{IsTable, Table}
 use Rattle.jpeg_bits.specs.Marker.{marker_of}
 use Rattle.jpeg_bits.specs.Reading.{Outcome}
@@ -77,13 +78,6 @@ of-rows wide high restart w h (whole_scan n le) =
 
 -- ---- how many lines there are
 
-product-next : (n d : ℕ) → suc n * d ≡ d + n * d
-product-next n d =
-    let one = one-mul d in
-    let sum = add-mul n 1 d in
-    let next : suc n * d ≡ (n + 1) * d = ap (λ (x : ℕ). x * d) (omega arith) in
-    omega arith
-
 strands-count : (down n size from across : ℕ) (row : List ℕ) → length (strands down n size from across row) ≡ down
 unfolding strands
 strands-count zero n size from across row = refl
@@ -96,7 +90,9 @@ lines-count p n size from [] = omega arith
 lines-count p n size from (row ∷ rows) =
     length-append (strands p.down n size from p.across row) (lines_in p n size from rows)
     ∙ ap₂ (λ (a b : ℕ). a + b) (strands-count p.down n size from p.across row) (lines-count p n size from rows)
-    ∙ sym (product-next (length rows) p.down)
+    ∙ (let e = suc-mul (length rows) p.down in
+    let sum : p.down + length rows * p.down ≡ suc (length rows) * p.down = omega arith in
+    sum)
 
 -- each component has the lines of this many rows of MCUs
 abbrev pub AreCounted : ℕ → List Part → List (List (List ℕ)) → Type 0
@@ -108,26 +104,24 @@ placed-counted : (w : Way) (n from : ℕ) (parts : List Part) (lines : List (Lis
     → length rows ≡ n → HaveDifferences w from parts lines rows → AreCounted n parts lines
 unfolding HaveDifferences
 placed-counted w n from [] [] rows e h = tt
-placed-counted w n from [] (l ∷ lines) rows e h = absurd h
-placed-counted w n from (p ∷ parts) [] rows e h = absurd h
 placed-counted w n from (p ∷ parts) (l ∷ lines) rows e h = (
   sym (rows-count w.selection w.start [] l) ∙ ap (λ (x : List (List ℕ)). length x) (sym h.0)
       ∙ lines-count p w.wide (mcu_size w) from rows ∙ ap (λ (x : ℕ). x * p.down) e,
   placed-counted w n (from + p.down * p.across) parts lines rows e h.1,
 )
+placed-counted w n from _ _ rows e h = absurd h
 
 above-counted : (a b : ℕ) (parts : List Part) (front others : List (List (List ℕ))) → AreCounted a parts front
     → AreCounted b parts others → AreCounted (a + b) parts (all_above front others)
 unfolding all_above
 above-counted a b [] [] [] h g = tt
-above-counted a b [] [] (m ∷ others) h g = absurd g
-above-counted a b [] (l ∷ front) others h g = absurd h
-above-counted a b (p ∷ parts) [] others h g = absurd h
-above-counted a b (p ∷ parts) (l ∷ front) [] h g = absurd g
 above-counted a b (p ∷ parts) (l ∷ front) (m ∷ others) h g = (
   length-append l m ∙ ap₂ (λ (x y : ℕ). x + y) h.0 g.0 ∙ sym (add-mul a b p.down),
   above-counted a b parts front others h.1 g.1,
 )
+above-counted a b [] (l ∷ front) others h g = absurd h
+above-counted a b (p ∷ parts) [] others h g = absurd h
+above-counted a b _ _ _ h g = absurd g
 
 intervals-counted : (w : Way) (per k left : ℕ) (lines : List (List (List ℕ))) (bytes : List ℕ)
     → WritesIntervals w per k left lines bytes → AreCounted left w.parts lines
@@ -149,11 +143,10 @@ grids-above : (w : Way) (parts : List Part) (front others : List (List (List ℕ
     → AreGrids w parts others → AreGrids w parts (all_above front others)
 unfolding all_above
 grids-above w [] [] others h g = g
-grids-above w [] (l ∷ front) others h g = absurd h
-grids-above w (p ∷ parts) [] others h g = absurd h
 grids-above w (p ∷ parts) (l ∷ front) [] h g = absurd g
 grids-above w (p ∷ parts) (l ∷ front) (m ∷ others) h g =
     (lines-above (w.wide * p.across) l m h.0 g.0, grids-above w parts front others h.1 g.1)
+grids-above w _ _ others h g = absurd h
 
 intervals-grids : (w : Way) (per k left : ℕ) (lines : List (List (List ℕ))) (bytes : List ℕ)
     → WritesIntervals w per k left lines bytes → AreGrids w w.parts lines
@@ -166,11 +159,10 @@ intervals-grids w per k left lines bytes (another k' fill' left' front others fi
 own-even : (wide n high : ℕ) (lines : List (List ℕ)) → AreLines n lines → wide ≤ n
     → AreEven wide (map (take wide) (take high lines))
 unfolding AreEven
-own-even wide n zero lines h le = tt
-own-even wide n (suc high) [] h le = tt
 own-even wide n (suc high) (l ∷ lines) h le =
     let e = h.0.0 in
     (length-take-le wide l (omega (arith, e, le)), own-even wide n high lines h.1 le)
+own-even wide n _ _ h le = tt
 
 -- the samples of a component have its size
 pub record HasSize (lines : List (List ℕ)) (c : Component) : Type 0 where
@@ -200,9 +192,8 @@ part-sized w high c p lines h grid count =
 
 abbrev AllCover : ℕ → ℕ → List LosslessCoding → List Part → Type 0
 AllCover wide high [] [] = Unit {0}
-AllCover wide high [] (p ∷ parts) = ⊥
-AllCover wide high (k ∷ codings) [] = ⊥
 AllCover wide high (k ∷ codings) (p ∷ parts) = Covers wide high k.component p × AllCover wide high codings parts
+AllCover wide high _ _ = ⊥
 
 all-sized : (w : Way) (high : ℕ) (samples : Samples) (codings : List LosslessCoding) (parts : List Part)
     (lines : List (List (List ℕ))) → AllCover w.wide high codings parts → AreGrids w parts lines
@@ -248,9 +239,8 @@ all-unshifted [] h = refl
 all-unshifted (x ∷ xs) h = ap₂ (λ (a : ℕ) (l : List ℕ). a ∷ l) (shifted-none x h.0) (all-unshifted xs h.1)
 
 take-samples : (n : ℕ) (xs : List ℕ) → AreSamples xs → AreSamples (take n xs)
-take-samples zero xs h = tt
-take-samples (suc n) [] h = tt
 take-samples (suc n) (x ∷ xs) h = (h.0, take-samples n xs h.1)
+take-samples _ _ h = tt
 
 samples-append : (xs ys : List ℕ) → AreSamples xs → AreSamples ys → AreSamples (xs ++ ys)
 samples-append [] ys h g = g
@@ -258,11 +248,10 @@ samples-append (x ∷ xs) ys h g = (h.0, samples-append xs ys h.1 g)
 
 own-samples : (n wide high : ℕ) (lines : List (List ℕ)) → AreLines n lines
     → AreSamples (concat (map (take wide) (take high lines)))
-own-samples n wide zero lines h = tt
-own-samples n wide (suc high) [] h = tt
 own-samples n wide (suc high) (l ∷ lines) h =
     samples-append (take wide l) (concat (map (take wide) (take high lines))) (take-samples wide l h.0.1)
     (own-samples n wide high lines h.1)
+own-samples n wide _ _ h = tt
 
 -- the samples of the components at some places
 abbrev pub planes_for : Samples → List ℕ → List (List ℕ)
@@ -273,15 +262,12 @@ planes-are : (samples : Samples) (w : Way) (codings : List LosslessCoding) (part
     → planes_of 0 parts lines ≡ map (λ k. concat (samples k.place)) codings
 unfolding planes_of HoldSamples
 planes-are samples w [] [] [] g h = refl
-planes-are samples w [] [] (l ∷ lines) g h = absurd h
-planes-are samples w [] (p ∷ parts) lines g h = absurd h
-planes-are samples w (k ∷ codings) [] lines g h = absurd h
-planes-are samples w (k ∷ codings) (p ∷ parts) [] g h = absurd h
 planes-are samples w (k ∷ codings) (p ∷ parts) (l ∷ lines) g h =
     ap₂ (λ (a : List ℕ) (b : List (List ℕ)). a ∷ b)
     (all-unshifted (concat (own_lines p l)) (own-samples (w.wide * p.across) p.width p.height l g.0)
     ∙ ap (λ (x : List (List ℕ)). concat x) h.0)
     (planes-are samples w codings parts lines g.1 h.1)
+planes-are samples w _ _ _ g h = absurd h
 
 -- ---- what a scan names
 
@@ -299,22 +285,20 @@ codings-read : (said : Found) (frame from : Frame) (choices : List Choice) (codi
     (map (λ s. s.dc) (map (selector_of from) choices)) ≡ Ok codings
 unfolding lossless_codings AreCodings
 codings-read said frame from [] [] h = refl
-codings-read said frame from [] (k ∷ codings) h = absurd h
-codings-read said frame from (c ∷ choices) [] h = absurd h
 codings-read said frame from (c ∷ choices) (k ∷ codings) h =
     then-ok (lossless_coding said.huffman.dc frame c.component c.dc) _ k _ (coding-read said frame c k h.0)
     (then-ok (lossless_codings said.huffman.dc frame (map (λ s. s.component) (map (selector_of from) choices))
     (map (λ s. s.dc) (map (selector_of from) choices))) _ codings _ (codings-read said frame from choices codings h.1)
     refl)
+codings-read said frame from _ _ h = absurd h
 
 places-are : (said : Found) (frame : Frame) (choices : List Choice) (codings : List LosslessCoding)
     → AreCodings said frame choices codings → map (λ k. k.place) codings ≡ places_of choices
 unfolding AreCodings
 places-are said frame [] [] h = refl
-places-are said frame [] (k ∷ codings) h = absurd h
-places-are said frame (c ∷ choices) [] h = absurd h
 places-are said frame (c ∷ choices) (k ∷ codings) h =
     ap₂ (λ (n : ℕ) (l : List ℕ). n ∷ l) h.0.stands (places-are said frame choices codings h.1)
+places-are said frame _ _ h = absurd h
 
 planes-placed : (samples : Samples) (codings : List LosslessCoding)
     → map (λ k. concat (samples k.place)) codings ≡ planes_for samples (map (λ k. k.place) codings)
@@ -327,12 +311,11 @@ codings-made : (said : Found) (frame : Frame) (choices : List Choice) (codings :
     → AllByRecursion (λ k. IsMade frame k.component) codings
 unfolding AreCodings
 codings-made said frame [] [] made h = tt
-codings-made said frame [] (k ∷ codings) made h = absurd h
-codings-made said frame (c ∷ choices) [] made h = absurd h
 codings-made said frame (c ∷ choices) (k ∷ codings) made h = (
   all-at (IsMade frame) c.component frame.components k.component made h.0.component,
   codings-made said frame choices codings made h.1,
 )
+codings-made said frame _ _ made h = absurd h
 
 -- the samples of the component at a place have its size
 abbrev pub SizedAt : Samples → List Component → ℕ → Type 0
@@ -380,10 +363,9 @@ codings-tables : (said : Found) (frame : Frame) (choices : List Choice) (codings
     → HasTables said.huffman → AreCodings said frame choices codings → AllByRecursion (λ k. IsTable k.table) codings
 unfolding AreCodings
 codings-tables said frame [] [] all h = tt
-codings-tables said frame [] (k ∷ codings) all h = absurd h
-codings-tables said frame (c ∷ choices) [] all h = absurd h
 codings-tables said frame (c ∷ choices) (k ∷ codings) all h =
     (table-there said.huffman.dc c.dc k.table all.dc h.0.table, codings-tables said frame choices codings all h.1)
+codings-tables said frame _ _ all h = absurd h
 
 mapped-tables : (codings : List LosslessCoding) → AllByRecursion (λ k. IsTable k.table) codings
     → AllByRecursion (λ p. IsTable p.table)

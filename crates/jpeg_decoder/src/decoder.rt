@@ -236,6 +236,14 @@ impl<R: Read + Drop> Decoder<R> {
         self.state.frame.as_ref().map(|frame| frame.precision)
     }
 
+    /// Returns whether a read of the reader has failed, other than by an interruption, in every
+    /// state. The end of the bytes is no failure.
+    pub fn has_read_failed(&self) -> bool
+        ensures { result ≡ self.now.source.failed }
+    {
+        self.source.has_failed()
+    }
+
     /// Returns how many bytes decoding takes, once the header was read: between `read_info` or
     /// `scale` and `decode`, and after a picture. `None` before the header was read, and on a
     /// decoder that has failed.

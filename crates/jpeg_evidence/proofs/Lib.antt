@@ -1,0 +1,11 @@
+pub mod Integers
+pub mod Sums
+pub mod Errors
+pub mod NearTransform
+pub mod TakenBits
+pub mod TakenValues
+pub mod TakenBytes
+pub mod TakenTokens
+pub mod TakenBands
+pub mod TakenIntervals
+pub mod TakenDc

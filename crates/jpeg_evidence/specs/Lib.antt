@@ -1,4 +1,6 @@
 pub mod Walks
 pub mod Cosines
+pub mod Exact
 pub mod Files
 pub mod Headers
+pub mod Strict

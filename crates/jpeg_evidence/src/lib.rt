@@ -4,7 +4,7 @@
 #![tactic(auto)]
 
 ghost use Rattle.std.specs.Prelude.{◌≡◌, ◌-ℤ◌, ℕ, suc, true, false, pos, negsuc, neg_ℤ, Ok, Err};
-ghost use Rattle.std.specs.Prelude.{◌+◌, ◌*◌};
+ghost use Rattle.std.specs.Prelude.{◌+◌, ◌*◌, ◌<◌, ◌≤◌, ◌≤ℤ◌, List, ℤ};
 ghost use Rattle.std.specs.Prelude.{Some, None, [], ◌∷◌, ◌++◌, map, replicate, codes};
 ghost use Rattle.std.specs.List.{range_with_len};
 ghost use Rattle.jpeg_bits.specs.Bands.{first_ac, token_at};
@@ -19,6 +19,7 @@ ghost use Rattle.jpeg_bits.specs.declared.scan.Predictor.TheVariants as selectio
 ghost use Rattle.jpeg_bits.specs.declared.tokens.Token.TheVariants as tokens;
 ghost use Rattle.jpeg_lossless.specs.Prediction.{line_below};
 ghost use Rattle.jpeg_pixels.specs.Planes.{plane_of};
+ghost use Rattle.jpeg_pixels.specs.Samples.{clamped, dequantized, sample};
 ghost use Rattle.jpeg_pixels.specs.Upsampling.{upsampled};
 ghost use Rattle.jpeg_pixels.specs.declared.upsampler.UpsampleRule.TheVariants as rules;
 ghost use Rattle.jpeg_segments.specs.Application.{Adobe, Jfif, Avi1, Icc, Exif, Xmp, Psir, app_at};
@@ -35,12 +36,15 @@ ghost use Rattle.jpeg_streams.specs.ColourChoice.{by_identifiers};
 ghost use Rattle.jpeg_streams.specs.Segments.{is_decoded_count, is_decoded_precision};
 ghost use Rattle.jpeg_streams.specs.Worked.{picture_meant};
 ghost use Rattle.jpeg_evidence.specs.Cosines.{adds, are_entries, cosine, is_positive, unit};
+ghost use Rattle.jpeg_evidence.specs.Exact.{distance, squares, unclamped, whole};
 ghost use Rattle.jpeg_evidence.specs.Files.{file_of_table_1, lossless_file, picture_of_files};
 ghost use Rattle.jpeg_evidence.specs.Files.{progressive_file, samples_of_file, sequential_file};
 ghost use Rattle.jpeg_evidence.specs.Files.{tables_at};
 ghost use Rattle.jpeg_evidence.specs.Headers.{adobe_segment, f0_and_one, frame_numbers, grey_frame};
 ghost use Rattle.jpeg_evidence.specs.Headers.{ones, table_of_f0};
 ghost use Rattle.jpeg_evidence.specs.Walks.{at, walk};
+
+pub mod read_back;
 
 /// The zigzag order is the walk over a block's diagonals of T.81, Figure A.6.
 pub fn zigzag_is_a_walk()
@@ -61,6 +65,22 @@ pub fn cosines_are_cosines()
 /// within 2 of 4096 sqrt 2 times its cosine.
 pub fn matrix_is_of_cosines()
     ensures { are_entries ≡ true }
+{}
+
+/// The samples are near those of the exact transform (T.81, A.3.3). Where the squares of a block's
+/// dequantized coefficients add up to at most n^2, n being at most 2048, the number that is clamped
+/// to a sample is within (617000 + 342 n) / 10^6 of A.3.3's. So it is less than 1 away where they
+/// add up to at most 1119^2. (Those of a block of 8-bit samples add up to at most 1024^2 before
+/// they are quantized, by Parseval's equation.)
+pub fn transform_is_near()
+    ensures clamped { (coefficients : List ℤ) (quantization : List ℕ) (x y : ℕ) →
+        sample coefficients quantization x y ≡ clamped (unclamped coefficients quantization x y) }
+    ensures near { (coefficients : List ℤ) (quantization : List ℕ) (n x y : ℕ) → n ≤ 2048 →
+        x < 8 → y < 8 → squares (dequantized coefficients quantization) ≤ℤ pos (n * n) →
+        1000000 * distance coefficients quantization x y ≤ (617000 + 342 * n) * whole }
+    ensures within_one { (coefficients : List ℤ) (quantization : List ℕ) (x y : ℕ) →
+        x < 8 → y < 8 → squares (dequantized coefficients quantization) ≤ℤ pos (1119 * 1119) →
+        distance coefficients quantization x y < whole }
 {}
 
 /// A file of `cjpeg` means the picture that the original crate gives, and so does what `jpegtran`

@@ -3,6 +3,8 @@ pub mod BlockRows
 pub mod LaneChoice
 pub mod LaneRows
 pub mod LaneSums
+pub mod ShortLanes
+pub mod ShortPasses
 pub mod MatrixRows
 pub mod Columns
 pub mod Corners

@@ -10,7 +10,6 @@ ghost use Rattle.jpeg_pixels.specs.Samples.{column_value, sample};
 ghost use Rattle.jpeg_pixels.specs.Lanes.{lanes, lane, lane_is_zero};
 ghost use Rattle.jpeg_pixels.specs.Blocks.{WritesBlock};
 ghost use Rattle.jpeg_pixels.specs.LaneRows.{lane_at, HasNumbers, HasZeros, IsInCorner, IsTurned};
-ghost use Rattle.jpeg_pixels.specs.ShortRows.{short_lane_at};
 
 pub use crate::color_rows::color_convert_line_ycbcr;
 use crate::idct::{COLUMN_BIAS, ROW_BIAS, sample_of};
@@ -18,15 +17,15 @@ use std::simd::prelude::*;
 
 // Eight rows of eight lanes.
 #[derive(Clone, Copy)]
-struct Rows {
-    r0: i32x8,
-    r1: i32x8,
-    r2: i32x8,
-    r3: i32x8,
-    r4: i32x8,
-    r5: i32x8,
-    r6: i32x8,
-    r7: i32x8,
+pub(crate) struct Rows {
+    pub(crate) r0: i32x8,
+    pub(crate) r1: i32x8,
+    pub(crate) r2: i32x8,
+    pub(crate) r3: i32x8,
+    pub(crate) r4: i32x8,
+    pub(crate) r5: i32x8,
+    pub(crate) r6: i32x8,
+    pub(crate) r7: i32x8,
 }
 
 // What the even numbers give, in each lane.
@@ -134,63 +133,6 @@ fn transpose(rows: Rows) -> Rows
     }
 }
 
-// Eight rows of eight short lanes.
-#[derive(Clone, Copy)]
-struct Shorts {
-    r0: i16x8,
-    r1: i16x8,
-    r2: i16x8,
-    r3: i16x8,
-    r4: i16x8,
-    r5: i16x8,
-    r6: i16x8,
-    r7: i16x8,
-}
-
-// Two products added, in each lane: the processor's product of pairs.
-#[inline(always)]
-fn pair(a: i16x8, b: i16x8, first: i32, second: i32) -> i32x8
-    ensures { result ≡ lanes (λ j. int_wrap w32 (lane a j *ℤ first +ℤ lane b j *ℤ second)) }
-{
-    a.cast::<i32>() * i32x8::splat(first) + b.cast::<i32>() * i32x8::splat(second)
-}
-
-// The transform of each lane's eight numbers, modulo 2^32, by products of pairs. Each pair is used
-// twice, so that the compiler doesn't add its products in another order.
-#[inline(always)]
-fn short_kernel(s: Shorts, x_scale: i32) -> Rows
-    ensures { HasNumbers result
-        (λ place j. int_wrap w32 (transformed (λ k. short_lane_at s k j) place +ℤ x_scale)) }
-{
-    let x_scale = i32x8::splat(x_scale);
-    let e0 = pair(s.r0, s.r4, 4096, 4096) + x_scale;
-    let e1 = pair(s.r0, s.r4, 4096, -4096) + x_scale;
-    let o0 = pair(s.r2, s.r6, 5352, 2217);
-    let o1 = pair(s.r2, s.r6, 2217, -5350);
-    let x0 = e0 + o0;
-    let x1 = e1 + o1;
-    let x2 = e1 - o1;
-    let x3 = e0 - o0;
-    let a0 = pair(s.r1, s.r3, 1131, -3218);
-    let b0 = pair(s.r5, s.r7, 4816, -5680);
-    let a1 = pair(s.r1, s.r3, 3219, -5681);
-    let b1 = pair(s.r5, s.r7, 1132, 4816);
-    let a2 = pair(s.r1, s.r3, 4816, -1129);
-    let b2 = pair(s.r5, s.r7, -5681, -3218);
-    let a3 = pair(s.r1, s.r3, 5683, 4816);
-    let b3 = pair(s.r5, s.r7, 3219, 1131);
-    Rows {
-        r0: (x0 + a3) + b3,
-        r1: (x1 + a2) + b2,
-        r2: (x2 + a1) + b1,
-        r3: (x3 + a0) + b0,
-        r4: (x3 - a0) - b0,
-        r5: (x2 - a1) - b1,
-        r6: (x1 - a2) - b2,
-        r7: (x0 - a3) - b3,
-    }
-}
-
 fn products(coefficients: [i16; 64], quantization_table: &[u16; 64], at: usize) -> i32x8
     requires { at + 8 ≤ 64 }
     ensures { result ≡ lanes (λ j. slice_index_or coefficients (at + j) (pos 0) *ℤ pos
@@ -202,7 +144,7 @@ fn products(coefficients: [i16; 64], quantization_table: &[u16; 64], at: usize) 
 }
 
 // Whether every coefficient outside the top left 4x4 corner is 0.
-fn is_in_corner(coefficients: [i16; 64]) -> bool
+pub(crate) fn is_in_corner(coefficients: [i16; 64]) -> bool
     ensures { IsTrue result ↔ IsInCorner coefficients }
 {
     let upper = i16x8::from_slice(&coefficients[..])
@@ -338,7 +280,7 @@ fn transform(coefficients: [i16; 64], quantization_table: &[u16; 64]) -> Rows
 }
 
 // The sums of the samples, before the last shift.
-fn sums_of(coefficients: [i16; 64], quantization_table: &[u16; 64]) -> [[i32; 8]; 8]
+pub(crate) fn sums_of(coefficients: [i16; 64], quantization_table: &[u16; 64]) -> [[i32; 8]; 8]
     ensures { (y x : ℕ) → y < 8 → x < 8 → slice_index_or (slice_index_or result y []) x (pos 0)
         ≡ int_wrap w32 (transformed (column_value coefficients quantization_table.now y) x +ℤ pos
         16842752) }
@@ -370,7 +312,7 @@ fn write_samples(sums: &[i32; 8], output: &mut [u8])
 
 // The samples of a block, line by line. They are in an array of their own, which is known to be
 // apart from the sums: so their clamps are vectorised.
-fn samples_of(sums: &[[i32; 8]; 8]) -> [u8; 64]
+pub(crate) fn samples_of(sums: &[[i32; 8]; 8]) -> [u8; 64]
     ensures { (x y : ℕ) → x < 8 → y < 8 → slice_index result (y * 8 + x)
         ≡ clamped (int_shr (slice_index_or (slice_index_or sums.now y []) x (pos 0)) 17) }
 {
@@ -391,6 +333,22 @@ fn copy_line(line: &[u8], output: &mut [u8])
     output[..8].copy_from_slice(line);
 }
 
+// Copies the samples of a block, line by line.
+pub(crate) fn copy_lines(samples: &[u8; 64], output_linestride: usize, output: &mut [u8])
+    requires wide { 8 ≤ output_linestride }
+    requires room { 7 * output_linestride + 8 ≤ length output.old }
+    ensures { WritesBlock 8 8 output_linestride (λ x y. slice_index samples.now (y * 8 + x))
+        output.old output.new }
+{
+    for y in 0..8 {
+        let first = y * 8;
+        copy_line(
+            &samples[first..first + 8],
+            &mut output[y * output_linestride..],
+        );
+    }
+}
+
 /// Dequantizes a block of 8x8 coefficients and transforms it to 8x8 samples, as
 /// `idct::dequantize_and_idct_block_8x8` does: eight columns side by side, and then eight rows.
 pub fn dequantize_and_idct_block_8x8(
@@ -405,11 +363,5 @@ pub fn dequantize_and_idct_block_8x8(
         output.old output.new }
 {
     let samples = samples_of(&sums_of(*coefficients, quantization_table));
-    for y in 0..8 {
-        let first = y * 8;
-        copy_line(
-            &samples[first..first + 8],
-            &mut output[y * output_linestride..],
-        );
-    }
+    copy_lines(&samples, output_linestride, output);
 }

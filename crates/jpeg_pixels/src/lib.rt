@@ -12,6 +12,7 @@ mod picture_lines;
 pub mod plane;
 #[cfg(test)]
 mod scale_tests;
+mod short_block;
 mod small_transforms;
 mod sources;
 #[cfg(test)]

@@ -5,7 +5,11 @@ ghost use Rattle.jpeg_pixels.specs.Planes.{plane_of, strip_of, zero_coefficients
 ghost use Rattle.jpeg_pixels.specs.Scaled.{IsScale};
 
 use crate::idct::dequantize_and_idct_block;
+use crate::short_block::{short_table, write_block};
 use std::alloc::AllocError;
+
+// The blocks for which it pays to make a table of limits: it takes as long as some of them.
+const LONG_ROW: usize = 16;
 
 /// Appends the samples of a row of blocks to a plane: `scale` lines of `scale * blocks.len()`
 /// samples.
@@ -68,6 +72,10 @@ fn write_strip(scale: usize, strip: &mut [u8], blocks: &[[i16; 64]], quantizatio
     requires room { length strip.old ≡ scale * scale * length blocks.now }
     ensures { strip.new ≡ strip_of scale quantization_table.now blocks.now }
 {
+    if scale == 8 && blocks.len() >= LONG_ROW {
+        write_long_strip(strip, blocks, quantization_table);
+        return;
+    }
     let stride = scale * blocks.len();
     for column in 0..blocks.len() {
         dequantize_and_idct_block(
@@ -76,6 +84,25 @@ fn write_strip(scale: usize, strip: &mut [u8], blocks: &[[i16; 64]], quantizatio
             quantization_table,
             stride,
             &mut strip[scale * column..],
+        );
+    }
+}
+
+// Writes the samples of a row of blocks at full size, by a table that is made for all of them.
+fn write_long_strip(strip: &mut [u8], blocks: &[[i16; 64]], quantization_table: &[u16; 64])
+    requires few { length blocks.now ≤ 65536 }
+    requires room { length strip.old ≡ 64 * length blocks.now }
+    ensures { strip.new ≡ strip_of 8 quantization_table.now blocks.now }
+{
+    let table = short_table(quantization_table);
+    let stride = 8 * blocks.len();
+    for column in 0..blocks.len() {
+        write_block(
+            &blocks[column],
+            quantization_table,
+            &table,
+            stride,
+            &mut strip[8 * column..],
         );
     }
 }

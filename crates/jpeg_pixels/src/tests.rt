@@ -243,3 +243,56 @@ fn chunks_of_eight_pixels_are_converted(rt: HostRuntime) {
     assert_eq!(rt; count, 0);
     assert_eq!(rt; output, [7; 21]);
 }
+
+// Blocks whose greatest product is at the limit of the transform in 16 bits, or above it, stand in a
+// strip that is long enough for it, beside other blocks.
+#[test]
+fn long_strips_are_their_blocks(rt: HostRuntime) -> Result<(), Fail> {
+    let cases = [
+        (0, 1095, 1),
+        (0, 1096, 1),
+        (0, -1095, 1),
+        (0, -1096, 1),
+        (9, 365, 3),
+        (9, 366, 3),
+        (27, -365, 3),
+        (63, 1, 1095),
+        (63, -1, 1096),
+        (5, 0, 65535),
+        (5, 1, 65535),
+        (5, -1, 65535),
+        (36, 0, 1096),
+        (0, -32768, 1),
+        (0, 32767, 65535),
+    ];
+    for (place, coefficient, value) in cases {
+        assert!(rt; place < 64);
+        let mut block = COEFFICIENTS;
+        block[place] = coefficient;
+        let table = table_of_one(place, value);
+        let mut row = [COEFFICIENTS; 16];
+        row[5] = block;
+        let mut samples = [0; 64];
+        arch::dequantize_and_idct_block_8x8(&block, &table, 8, &mut samples);
+        let mut others = [0; 64];
+        arch::dequantize_and_idct_block_8x8(&COEFFICIENTS, &table, 8, &mut others);
+        let mut plane = Vec::new(rt.alloc());
+        append_row(&mut plane, 8, &row, &table)?;
+        assert_eq!(rt; plane.len(), 1024);
+        for (index, sample) in plane.iter().enumerate() {
+            let at = index / 128 * 8 + index % 8;
+            assert!(rt; at < 64);
+            let expected = if index % 128 / 8 == 5 {
+                samples[at]
+            } else {
+                others[at]
+            };
+            assert_eq!(rt;
+                *sample,
+                expected,
+                "{place} {coefficient} {value}, at {index}"
+            );
+        }
+    }
+    Ok(())
+}

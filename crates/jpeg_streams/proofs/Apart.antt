@@ -146,16 +146,14 @@ pub record Tells (frame : Frame) (c : Component) (slot row column : ℕ) (s : Sp
 
 -- a column of an MCU is within the component's blocks
 within : (frame : Frame) (c : Component) (column h : ℕ) → Fits frame c → column < frame.mcus_wide
-    → h < c.factors.horizontal
-    → column * c.factors.horizontal + h < c.blocks_wide
+    → h < c.factors.horizontal → column * c.factors.horizontal + h < c.blocks_wide
 within frame c column h fits lt l = search (rules, div-mul-add, div-lt_iff_lt-mul)
 
 spot-tells : (frame : Frame) (c : Component) (slot row column v h : ℕ) (s : Spot) → Fits frame c
     → column < frame.mcus_wide → v < c.factors.vertical → h < c.factors.horizontal
     → record {
       slot = slot;
-      index =
-          (row * c.factors.vertical + v) * c.blocks_wide + (column * c.factors.horizontal + h);
+      index = (row * c.factors.vertical + v) * c.blocks_wide + (column * c.factors.horizontal + h);
     } ≡ s
     → Tells frame c slot row column s
 spot-tells frame c slot row column v h s fits lt vl hl e =
@@ -174,11 +172,9 @@ part-tells : (frame : Frame) (c : Component) (slot row column : ℕ) (s : Spot) 
     → IsIn s (part_spots row column slot c) → Tells frame c slot row column s
 unfolding part_spots
 part-tells frame c slot row column s fits lt h =
-    let at : ℕ → ℕ → Spot =
-    λ v h. record {
+    let at : ℕ → ℕ → Spot = λ v h. record {
       slot = slot;
-      index =
-          (row * c.factors.vertical + v) * c.blocks_wide + (column * c.factors.horizontal + h);
+      index = (row * c.factors.vertical + v) * c.blocks_wide + (column * c.factors.horizontal + h);
     } in
     let line : ℕ → List Spot = λ v. map (at v) (range_with_len 0 c.factors.horizontal) in
     let g = in-flat-back line s 0 c.factors.vertical h in
@@ -290,8 +286,7 @@ pub spots-apart : (frame : Frame) (components : List Component) → AllByRecursi
     → AreApart (spots_of frame components)
 unfolding spots_of
 spots-apart frame [] fits = tt
-spots-apart frame (c ∷ []) fits = own-apart (grid_of c) fits.0.own_wide
-spots-apart frame (c ∷ d ∷ more) fits = all-apart frame (c ∷ d ∷ more) fits
+spots-apart frame components fits = search (rules, own-apart, all-apart)
 
 -- ---- inside
 

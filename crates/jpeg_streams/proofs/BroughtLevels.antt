@@ -1,8 +1,9 @@
 -- A written stream is read as the blocks of its array, cut at the levels that were sent.
-use Rattle.std.proofs.Common.{rules, ◌≡◌, ◌≢◌, ◌⊎◌, inl, inr, ℕ, zero, suc, ◌-◌, ◌*◌, ◌<◌, ◌≤◌, nat_le, Bool}
-use Rattle.std.proofs.Common.{true, false, List, [], ◌∷◌, ◌++◌, length, replicate, get_or, Option, Some, None, Ok, refl}
-use Rattle.std.proofs.Common.{sym, ap, ◌∙◌, subst, arith, eqb, true≢false, length-append, length-take, length-drop}
-use Rattle.std.proofs.lemmas.Bool.{and_parts, eqb-true, eq-eqb, not-true}
+use Rattle.std.proofs.lemmas.Grind.{common_steps}
+use Rattle.std.proofs.Common.{rules, ◌≡◌, ◌≢◌, ◌⊎◌, inl, inr, ℕ, zero, suc, ◌-◌, ◌*◌, ◌<◌, ◌≤◌, Bool, true, false, List}
+use Rattle.std.proofs.Common.{[], ◌∷◌, ◌++◌, length, replicate, get_or, Option, Some, None, Ok, refl, sym, ap, ◌∙◌}
+use Rattle.std.proofs.Common.{subst, arith, eqb, true≢false, length-append, length-take, length-drop}
+use Rattle.std.proofs.lemmas.Bool.{eqb-true, eq-eqb, not-true}
 use Rattle.std.proofs.lemmas.List.{length-replicate}
 use lib.ListN.{length-map}
 use Rattle.std.specs.List.{AllByRecursion}
@@ -26,8 +27,8 @@ use Rattle.jpeg_bits.specs.Written.{marker}
 use Rattle.jpeg_lossless.specs.Written.{IsMarker}
 use Rattle.jpeg_streams.proofs.FinishedMarks.{IsBand, marks-start}
 use Rattle.jpeg_streams.proofs.OwnSpots.{At, at-get, Fits}
-use Rattle.jpeg_streams.proofs.WrittenFrameScans.{HoldsOwn, HasGood, SlotReady, SpotsSuit, none_read, dc_alone}
-use Rattle.jpeg_streams.proofs.WrittenFrameScans.{one_component, ReadsScan, scan-is_read, cut-nothing}
+use Rattle.jpeg_streams.proofs.WrittenFrameScans.{HoldsOwn, HasGood, SlotReady, SpotsSuit, dc_alone, one_component}
+use Rattle.jpeg_streams.proofs.WrittenFrameScans.{ReadsScan, scan-is_read, cut-nothing}
 use Rattle.jpeg_streams.proofs.Apart.{at-all}
 use Rattle.jpeg_streams.proofs.ReadStates.{reading, Marked, AllDone, places_of, Brought, brings, AllHeld, held-after}
 use Rattle.jpeg_streams.proofs.ReadTurns.{CodingFacts, codings-facts, codings-read}
@@ -80,9 +81,8 @@ pub record Framed (w : Found) (f : Frame) (array : Coefficients) (levels : ℕ �
   pub fresh : is_progressive f.process ≡ false → (k : ℕ) → (levels k).dc ≡ None → levels k ≡ nothing_sent
 
 pub get-same : {A : Type 0} (x : A) (n k : ℕ) → get_or (replicate n x) k x ≡ x
-get-same x zero k = refl
-get-same x (suc n) zero = refl
 get-same x (suc n) (suc k) = get-same x n k
+get-same x n k = refl
 
 get-replicate : (n i : ℕ) → get_or (replicate n zero_block) i zero_block ≡ zero_block
 get-replicate n i = get-same zero_block n i
@@ -90,9 +90,8 @@ get-replicate n i = get-same zero_block n i
 pub zeros-everywhere : (components : List Component) (place index : ℕ)
     → get_or (get_or (zero_arrays components) place []) index zero_block ≡ zero_block
 unfolding zero_arrays
-zeros-everywhere [] place index = refl
-zeros-everywhere (c ∷ more) zero index = get-replicate (c.blocks_high * c.blocks_wide) index
 zeros-everywhere (c ∷ more) (suc place) index = zeros-everywhere more place index
+zeros-everywhere components place index = search (rules, get-replicate)
 
 pub zero-at : (components : List Component) (k : ℕ) (c : Component) → At k components c
     → get_or (zero_arrays components) k [] ≡ replicate (c.blocks_high * c.blocks_wide) zero_block
@@ -169,8 +168,7 @@ pass-by s = refl
 
 pub progressive-pass : (count first last high low : ℕ) → is_progressive_band count first last high low ≡ true
     → (first ≡ 0 → last ≡ 0) × ((first ≡ 0) ⊎ (count ≡ 1))
-progressive-pass count first last high low e =
-    search (rules, and_parts, nat_le, either-true, eq-eqb, not-true, eqb-true)
+progressive-pass count first last high low e = grind (arith, common_steps, either-true, eq-eqb, not-true, eqb-true)
 
 pub band-so : (f : Frame) (s : Scan) → PassSo f s → IsBand (pass_of s)
 unfolding pass_of
@@ -216,12 +214,10 @@ unfolding after_scan
 after-is w sc h fi pl f s codings arrays = refl
 
 all-done : (w : Found) (f : Frame) (p : Pass) (array : Coefficients) (levels : ℕ → Levels) (codings : List Coding)
-    (arrays : Arrays) → length arrays ≡ length codings
-    → ((k : Coding) (j : ℕ) → At j codings k
+    (arrays : Arrays) → length arrays ≡ length codings → ((k : Coding) (j : ℕ) → At j codings k
     → HoldsOwn (grid_of k.component) (array k.place) (sent_after p (levels k.place)) (get_or arrays j []))
     → AllByRecursion (CodingFacts w f) codings → AllByRecursion (λ c. IsLegal p (levels c.place)) codings
-    → ((k : ℕ) → length (levels k).acs ≡ 63)
-    → AllDone w f p array levels codings arrays
+    → ((k : ℕ) → length (levels k).acs ≡ 63) → AllDone w f p array levels codings arrays
 all-done w f p array levels [] [] n holds facts legal sized = tt
 all-done w f p array levels [] (b ∷ arrays) n holds facts legal sized = absurd (omega arith)
 all-done w f p array levels (k ∷ codings) [] n holds facts legal sized = absurd (omega arith)
@@ -301,10 +297,7 @@ module _ (w : Found) (f : Frame) (array : Coefficients) (levels : ℕ → Levels
   holds-now (progressive e d a lt le) k fact l = (framed.held e).each k.place k.component fact.at
 
   suit-now : PassSo f s → SpotsSuit (pass_of s) (arrays_before now f) codings
-  suit-now (sequential e q) =
-      none_read q (subst (λ (a : Arrays). (place index : ℕ)
-      → get_or (get_or a place []) index zero_block ≡ zero_block) (sym (sequential-arrays now f e))
-      (zeros-everywhere f.components))
+  suit-now (sequential e q) = grind (arith, common_steps, sequential-arrays, zeros-everywhere)
   suit-now (progressive e d (inl z) lt le) = dc_alone (ss-is ∙ z) (se-is ∙ d z) low
   suit-now (progressive e d (inr one) lt le) = let k = single codings (facts.0 ∙ one) in one_component k.0 k.1
 
@@ -339,8 +332,7 @@ module _ (w : Found) (f : Frame) (array : Coefficients) (levels : ℕ → Levels
   held-now : is_progressive f.process ≡ true
       → AllHeld f array (levels_after (pass_of s) (places_of codings) levels)
       (arrays_before (reading w true after_held brought.finished brought.planes) f)
-  held-now e =
-      subst (AllHeld f array (levels_after (pass_of s) (places_of codings) levels))
+  held-now e = subst (AllHeld f array (levels_after (pass_of s) (places_of codings) levels))
       (sym (held-arrays w after_held brought.finished brought.planes f e
       ∙ held-after_is now f codings reads-now.arrays e))
       (held-after w f (pass_of s) array levels codings reads-now.arrays (arrays_before now f) apart done

@@ -84,8 +84,7 @@ pub blocks-within : (p : Pass) (vias : List Via) (n : ℕ) (spots : List Spot) (
     ≡ read_on (λ r. gives (counted (left - length spots) number r)) (turns_from p vias spots old t)
 unfolding blocks_from next_from turns_from
 blocks-within p vias n [] left number old t h = ap (λ (k : ℕ). gives (counted k number old) t) (omega arith)
-blocks-within p vias n (s ∷ spots) left number old t h =
-    (search (rules, begun-same, goes-on))
+blocks-within p vias n (s ∷ spots) left number old t h = (search (rules, begun-same, goes-on))
     ∙ on-on (λ r. gives (counted (left - 1) number r)) (blocks_from p vias n spots) (turn_from p vias s old t)
     ∙ same-on (λ r. λ u. blocks_from p vias n spots (counted (left - 1) number r) u)
     (λ r. λ u. read_on (λ s. gives (counted (left - suc (length spots)) number s)) (turns_from p vias spots r u))
@@ -96,8 +95,7 @@ blocks-within p vias n (s ∷ spots) left number old t h =
 
 -- where none is left, a restart stands before the next
 restarts : (p : Pass) (vias : List Via) (n number : ℕ) (s : Spot) (spots : List Spot) (old : Reached)
-    (t : Text) → 0 < n
-    → blocks_from p vias n (s ∷ spots) (counted 0 number old) t
+    (t : Text) → 0 < n → blocks_from p vias n (s ∷ spots) (counted 0 number old) t
     ≡ read_on (λ (u : Unit {0}). blocks_from p vias n (s ∷ spots) (counted n ((number + 1) % 8) (at_start old.arrays)))
     (restart_from number t)
 unfolding blocks_from next_from
@@ -125,14 +123,12 @@ unfolding interval_from
 one-interval p vias n k spots arrays bytes h = search (rules, blocks-within, finished-counted)
 
 cut-either : (n : ℕ) (zs : List Spot) → (drop n zs ≡ []) ⊎ (length (take n zs) ≡ n)
-cut-either zero zs = inr refl
-cut-either (suc n) [] = inl refl
 cut-either (suc n) (z ∷ zs) = search (rules, cut-either n zs)
+cut-either n zs = search rules
 
 take-most : (n : ℕ) (zs : List Spot) → length (take n zs) ≤ n
-take-most zero zs = omega arith
-take-most (suc n) [] = omega arith
 take-most (suc n) (z ∷ zs) = let r = take-most n zs in omega arith
+take-most n zs = omega arith
 
 groups-cons : (fuel n : ℕ) (l : List Spot) → 0 < length l → groups (suc fuel) n l ≡ take n l ∷ groups fuel n (drop n l)
 unfolding groups
@@ -184,8 +180,7 @@ intervals-in-blocks p vias n (suc fuel) xs (y ∷ ys) j k arrays bytes same some
     let t = upcoming fresh bytes in
     let start = at_start arrays in
     let few-more : length (drop n zs) ≤ fuel = let d = length-drop n zs in omega arith in
-    let F : Arrays → List ℕ
-    → Outcome (Arrays × Option Marker) =
+    let F : Arrays → List ℕ → Outcome (Arrays × Option Marker) =
     λ a b. intervals_from p vias (suc k) (take n zs) (groups fuel n (drop n zs)) a b in
     let rec : (a : Arrays) (b : List ℕ)
     → finished (blocks_from p vias n zs (counted n ((j + 1) % 8) (at_start a)) (upcoming fresh b)) ≡ F a b

@@ -56,10 +56,8 @@ floor-fits al x low h k =
 
 pub cut-take : (n : ℕ) (cs : List ℤ) (ls : List (Option ℕ)) → take n (cut_acs cs ls) ≡ cut_acs (take n cs) (take n ls)
 unfolding cut_acs
-cut-take zero cs ls = refl
-cut-take (suc n) [] ls = refl
-cut-take (suc n) (c ∷ cs) [] = refl
 cut-take (suc n) (c ∷ cs) (l ∷ ls) = ap (λ (m : List ℤ). cut_ac c l ∷ m) (cut-take n cs ls)
+cut-take n cs ls = refl
 
 pub cut-nil : (cs : List ℤ) → [] ≡ cut_acs cs []
 unfolding cut_acs
@@ -68,32 +66,27 @@ cut-nil (c ∷ cs) = refl
 
 pub cut-drop : (n : ℕ) (cs : List ℤ) (ls : List (Option ℕ)) → drop n (cut_acs cs ls) ≡ cut_acs (drop n cs) (drop n ls)
 unfolding cut_acs
-cut-drop zero cs ls = refl
-cut-drop (suc n) [] ls = refl
-cut-drop (suc n) (c ∷ cs) [] = cut-nil (drop n cs)
 cut-drop (suc n) (c ∷ cs) (l ∷ ls) = cut-drop n cs ls
+cut-drop n cs ls = search (rules, cut-nil)
 
 pub cut-append : (xs ys : List ℤ) (ms ns : List (Option ℕ)) → length xs ≡ length ms
     → cut_acs (xs ++ ys) (ms ++ ns) ≡ cut_acs xs ms ++ cut_acs ys ns
 unfolding cut_acs
 cut-append [] ys [] ns h = refl
-cut-append [] ys (m ∷ ms) ns h = absurd (omega arith)
-cut-append (x ∷ xs) ys [] ns h = absurd (omega arith)
 cut-append (x ∷ xs) ys (m ∷ ms) ns h = ap (λ (l : List ℤ). cut_ac x m ∷ l) (cut-append xs ys ms ns (omega arith))
+cut-append xs ys ms ns h = absurd (omega arith)
 
 pub cut-unsent : (cs : List ℤ) (ls : List (Option ℕ)) → length cs ≡ length ls → AllByRecursion (λ x. x ≡ None) ls
     → cut_acs cs ls ≡ no_numbers (length cs)
 unfolding cut_acs
-cut-unsent [] ls h all = refl
-cut-unsent (c ∷ cs) [] h all = absurd (omega arith)
 cut-unsent (c ∷ cs) (l ∷ ls) h all = search (rules, cut-unsent cs ls (omega arith) all.1)
+cut-unsent cs ls h all = search rules
 
 pub cut-sent : (a : ℕ) (cs : List ℤ) (ls : List (Option ℕ)) → length cs ≡ length ls
     → AllByRecursion (λ x. x ≡ Some a) ls → cut_acs cs ls ≡ map (λ c. scaled a (toward_zero a c)) cs
 unfolding cut_acs
-cut-sent a [] ls h all = refl
-cut-sent a (c ∷ cs) [] h all = absurd (omega arith)
 cut-sent a (c ∷ cs) (l ∷ ls) h all = search (rules, cut-sent a cs ls (omega arith) all.1)
+cut-sent a cs ls h all = search rules
 
 pub band-cut : (p : Pass) (cs : List ℤ) (ls : List (Option ℕ))
     → band_of p (cut_acs cs ls) ≡ cut_acs (band_of p cs) (band_of p ls)
@@ -120,8 +113,7 @@ same-band p cs ls h = search (rules, same-take, same-drop)
 
 -- a list is what stands before a band, the band, and what stands after it
 pub around-band : (p : Pass) (cs : List ℤ) → with_band p cs (band_of p cs) ≡ cs
-around-band p cs =
-    (search (rules, drop-drop))
+around-band p cs = (search (rules, drop-drop))
     ∙ ap (λ (l : List ℤ). take (before_band p) cs ++ l) (take-append-drop (band_size p) (drop (before_band p) cs))
     ∙ take-append-drop (before_band p) cs
 
@@ -131,14 +123,12 @@ all-map Q P f [] h all = tt
 all-map Q P f (x ∷ xs) h all = (h x all.0, all-map Q P f xs h all.1)
 
 pub all-take : {A : Type 0} (Q : A → Type 0) (n : ℕ) (xs : List A) → AllByRecursion Q xs → AllByRecursion Q (take n xs)
-all-take Q zero xs h = tt
-all-take Q (suc n) [] h = tt
 all-take Q (suc n) (x ∷ xs) h = (h.0, all-take Q n xs h.1)
+all-take Q n xs h = tt
 
 pub all-drop : {A : Type 0} (Q : A → Type 0) (n : ℕ) (xs : List A) → AllByRecursion Q xs → AllByRecursion Q (drop n xs)
-all-drop Q zero xs h = h
-all-drop Q (suc n) [] h = tt
 all-drop Q (suc n) (x ∷ xs) h = all-drop Q n xs h.1
+all-drop Q n xs h = search rules
 
 pub all-same : (a : Option ℕ) (n : ℕ) → AllByRecursion (λ x. x ≡ a) (replicate n a)
 all-same a zero = tt

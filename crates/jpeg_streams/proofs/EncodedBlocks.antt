@@ -63,8 +63,7 @@ Small u = unsigned_abs u ≤ 1023
 
 -- zeros, fewer than sixteen, and a value
 value-written : (z : ℕ) (u : ℤ) (more : List ℤ) (bits : List Bool) → z ≤ 15 → u ≢ pos 0 → Small u
-    → WritesBand ac more bits 0
-    → (b : List Bool) × WritesBand ac (no_numbers z ++ u ∷ more) b 0
+    → WritesBand ac more bits 0 → (b : List Bool) × WritesBand ac (no_numbers z ++ u ∷ more) b 0
 value-written z u more bits le ne small w =
     let c = category-at_most u 10 (omega arith) in
     (_, value z c.0 u _ more bits 0 le ne c.2 (flat-coded classes.AC (16 * z + c.0) (omega arith)) w)
@@ -113,11 +112,9 @@ band-written [] (suc n) small =
           (ended n 0 0 code (omega arith) (omega arith) (flat-coded classes.AC (16 * 0 + 0) (omega arith))),
     )
 band-written (pos zero ∷ us) z small = subst Written (zeros-shift z us) (band-written us (suc z) small.1)
-band-written (pos (suc n) ∷ us) z small =
-    zeros-written z z (pos (suc n)) us (omega arith)
+band-written (pos (suc n) ∷ us) z small = zeros-written z z (pos (suc n)) us (omega arith)
     (λ e. absurd (let h : suc n ≡ 0 = ap unsigned_abs e in omega arith)) small.0 (band-written us 0 small.1)
-band-written (negsuc n ∷ us) z small =
-    zeros-written z z (negsuc n) us (omega arith)
+band-written (negsuc n ∷ us) z small = zeros-written z z (negsuc n) us (omega arith)
     (λ e. absurd (let h : suc n ≡ 0 = ap unsigned_abs e in omega arith)) small.0 (band-written us 0 small.1)
 
 ac-written : (p : Pass) (us : List ℤ) → p.is_first ≡ true → AllByRecursion Small us
@@ -159,8 +156,7 @@ abbrev pub Each : Pass → (Via × Block → Type 0) → Type 0
 Each p Good = (t : Via × Block) → Good t → (prediction : ℤ) → Ranged prediction → BlockBits p t prediction
 
 blocks-written : (p : Pass) (Good : Via × Block → Type 0) → Each p Good → (ps : List ℤ) (turns : List (Via × Block))
-    → AllRanged ps
-    → AllByRecursion Good turns → (b : List Bool) × WritesBlocks p ps 0 turns b
+    → AllRanged ps → AllByRecursion Good turns → (b : List Bool) × WritesBlocks p ps 0 turns b
 blocks-written p Good each ps [] ranged good = ([], done ps)
 blocks-written p Good each ps (t ∷ turns) ranged good =
     let b = each t good.0 (get_or ps t.0.component (pos 0)) (ranged t.0.component) in
@@ -203,8 +199,7 @@ dc-bits p table u prediction s f e range ranged =
     (d.0, subst (λ (x : Table). WritesDc p x u.dc prediction d.0 u.dc) (sym e) (whole u.dc prediction d.0 s f d.1))
 
 ac-bits : (p : Pass) (table : Table) (us : List ℤ) → p.is_first ≡ true → table ≡ flat_table classes.AC
-    → AllByRecursion Small us
-    → (b : List Bool) × WritesAc p table us 0 b 0
+    → AllByRecursion Small us → (b : List Bool) × WritesAc p table us 0 b 0
 ac-bits p table us f e small = grind (arith, ac-written p us f small)
 
 pub each-whole : Each whole_pass IsFlat
@@ -231,17 +226,13 @@ each-ac t good prediction ranged =
       ac = a.0;
       next = prediction;
       ranged = ranged;
-      writes_dc =
-          other_band u.dc prediction (λ e. absurd (omega arith));
+      writes_dc = other_band u.dc prediction (λ e. absurd (omega arith));
       writes_ac = search rules;
     }
 
 start-ranged : AllRanged (replicate 4 (pos 0))
 start-ranged zero = (record { le = tt }, record { le = tt })
-start-ranged (suc zero) = (record { le = tt }, record { le = tt })
-start-ranged (suc (suc zero)) = (record { le = tt }, record { le = tt })
-start-ranged (suc (suc (suc zero))) = (record { le = tt }, record { le = tt })
-start-ranged (suc (suc (suc (suc i)))) = (record { le = tt }, record { le = tt })
+start-ranged n = search rules
 
 -- ---- bytes
 
@@ -332,8 +323,7 @@ packed (a ∷ b ∷ c ∷ d ∷ e ∷ f ∷ g ∷ h ∷ more) =
     }
 
 pub interval-written : (p : Pass) (Good : Via × Block → Type 0) → Each p Good → (turns : List (Via × Block))
-    → AllByRecursion Good turns
-    → (bytes : List ℕ) × WritesInterval p turns bytes
+    → AllByRecursion Good turns → (bytes : List ℕ) × WritesInterval p turns bytes
 interval-written p Good each turns good =
     let w = blocks-written p Good each (replicate 4 (pos 0)) turns start-ranged good in
     let b = packed w.0 in (
@@ -344,8 +334,7 @@ interval-written p Good each turns good =
         data_bytes = b.bytes;
         coded = w.1;
         is_short = b.is_short;
-        whole =
-            b.whole;
+        whole = b.whole;
         has_bytes = refl;
       },
     )

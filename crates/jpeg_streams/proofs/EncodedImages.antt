@@ -50,8 +50,7 @@ all_ones = table_of_one 0 1 ∷ table_of_one 1 1 ∷ table_of_one 2 1 ∷ table_
 abbrev flat_tables : List PlacedTable
 flat_tables = record { place = 0; table = flat_table classes.DC } ∷ record {
   place = 0;
-  table =
-      flat_table classes.AC;
+  table = flat_table classes.AC;
 } ∷ []
 
 abbrev said_1 : Found
@@ -117,8 +116,7 @@ before OfAc = record { dc = Some 0; acs = replicate 63 None }
 
 each-for : (kind : Kind) → Each (pass_for kind) (Good kind)
 each-for Whole = each-whole
-each-for OfDc = each-dc
-each-for OfAc = each-ac
+each-for kind = search (rules, each-dc, each-ac)
 
 abbrev coding : Kind → FrameHeader → ℕ → Factors → Coding
 coding kind h place c =
@@ -127,8 +125,7 @@ coding kind h place c =
       component = component_in h c;
       quantization = replicate 64 1;
       dc = dc_for kind;
-      ac =
-          ac_for kind;
+      ac = ac_for kind;
     }
 
 -- a scan of one component, first sent at level 0
@@ -169,8 +166,7 @@ numbers-whole b = search (rules, floor-whole, map-whole, toward-whole)
 flat-spot : (kind : Kind) (h : FrameHeader) (place : ℕ) (c : Factors) (b : Block) → Is8Bit b
     → Good kind (record { component = 0; dc = dc_for kind; ac = ac_for kind }, numbers_at (pass_for kind).al b)
 flat-spot Whole h place c b range = record { dc = refl; ac = refl; range = subst Is8Bit (sym (numbers-whole b)) range }
-flat-spot OfDc h place c b range = record { dc = refl; range = subst Is8Bit (sym (numbers-whole b)) range }
-flat-spot OfAc h place c b range = record { ac = refl; range = subst Is8Bit (sym (numbers-whole b)) range }
+flat-spot kind h place c b range = search (rules, numbers-whole)
 
 spot-flat : (kind : Kind) (h : FrameHeader) (place : ℕ) (c : Factors) (b : Block) (slot : ℕ) → Is8Bit b → slot ≡ 0
     → Good kind (via_at (vias_from 0 (coding kind h place c ∷ [])) slot, numbers_at (pass_for kind).al b)
@@ -224,16 +220,7 @@ kind-is : (kind : Kind) (number : ℕ) (h : FrameHeader) (place : ℕ) (c : Fact
     × (is_band (frame_written number h).process 1 (from_for kind) (to_for kind) 0 0 ≡ true)
 unfolding pass_of scan_of frame_of
 kind-is Whole zero h place c fits = (refl, refl)
-kind-is Whole (suc zero) h place c fits = (refl, refl)
-kind-is Whole (suc (suc number)) h place c fits = absurd (omega arith)
-kind-is OfDc zero h place c fits = absurd (omega arith)
-kind-is OfDc (suc zero) h place c fits = absurd (omega arith)
-kind-is OfDc (suc (suc zero)) h place c fits = (refl, refl)
-kind-is OfDc (suc (suc (suc number))) h place c fits = absurd (omega arith)
-kind-is OfAc zero h place c fits = absurd (omega arith)
-kind-is OfAc (suc zero) h place c fits = absurd (omega arith)
-kind-is OfAc (suc (suc zero)) h place c fits = (refl, refl)
-kind-is OfAc (suc (suc (suc number))) h place c fits = absurd (omega arith)
+kind-is kind number h place c fits = search rules
 
 pass-is : (kind : Kind) (number : ℕ) (h : FrameHeader) (place : ℕ) (c : Factors) → Fits kind number
     → pass_of (scan_written (frame_written number h) (header_of kind place c)) ≡ pass_for kind
@@ -268,17 +255,12 @@ lone-written from to number h front more c band some e new = record {
 table-at : (number : ℕ) (h : FrameHeader) (place : ℕ) → place ≤ 3
     → slice_index_or (said number h).quantization place None ≡ Some (replicate 64 1)
 unfolding nothing_found updated
-table-at number h zero le = refl
-table-at number h (suc zero) le = refl
-table-at number h (suc (suc zero)) le = refl
-table-at number h (suc (suc (suc zero))) le = refl
 table-at number h (suc (suc (suc (suc place)))) le = absurd (omega arith)
+table-at number h place le = refl
 
 place-low : (number place : ℕ) → number ≤ 2 → is_place (is_lossless_number number) place ≡ true → place ≤ 3
-place-low zero place le e = leb-true place 3 e
-place-low (suc zero) place le e = leb-true place 3 e
-place-low (suc (suc zero)) place le e = leb-true place 3 e
 place-low (suc (suc (suc number))) place le e = absurd (omega arith)
+place-low number place le e = leb-true place 3 e
 
 abbrev scan_for : Kind → ℕ → FrameHeader → ℕ → Factors → Scan
 scan_for kind number h place c = scan_written (frame_written number h) (header_of kind place c)
@@ -290,19 +272,16 @@ dc-force : (kind other : Kind) (number : ℕ) (h : FrameHeader) (place : ℕ) (c
     → InForce ((pass_for kind).ss == 0) classes.DC (tables_now other number h place c).dc 0 (dc_for kind)
 unfolding tables_of nothing_found updated
 dc-force Whole other number h place c = refl
-dc-force OfDc other number h place c = refl
-dc-force OfAc other number h place c = refl
+dc-force kind other number h place c = refl
 
 ac-force : (kind other : Kind) (number : ℕ) (h : FrameHeader) (place : ℕ) (c : Factors)
     → InForce (nat_lt 0 (pass_for kind).se) classes.AC (tables_now other number h place c).ac 0 (ac_for kind)
 unfolding tables_of nothing_found updated
 ac-force Whole other number h place c = refl
-ac-force OfDc other number h place c = refl
-ac-force OfAc other number h place c = refl
+ac-force kind other number h place c = refl
 
 codings-are : (kind : Kind) (number : ℕ) (h : FrameHeader) (front more : List Factors) (c : Factors)
-    → h.components ≡ front ++ c ∷ more
-    → c.quantization ≤ 3
+    → h.components ≡ front ++ c ∷ more → c.quantization ≤ 3
     → AreCodings (said number h) (frame_written number h) (pass_for kind) (tables_now kind number h (length front) c)
     (length front ∷ []) (0 ∷ []) (0 ∷ []) (coding kind h (length front) c ∷ [])
 unfolding frame_of component_of
@@ -342,12 +321,11 @@ have-tables : (number : ℕ) (h : FrameHeader) (front cs : List Factors) → num
     → AllByRecursion (HasTable (said number h)) (map (component_in h) cs)
 unfolding AreComponents component_of
 have-tables number h front [] le a = tt
-have-tables number h front (c ∷ cs) le a =
-    grind (
-      arith,
-      table-at number h c.quantization (place-low number c.quantization le a.0.placed),
-      have-tables number h (front ++ c ∷ []) cs le a.1,
-    )
+have-tables number h front (c ∷ cs) le a = grind (
+  arith,
+  table-at number h c.quantization (place-low number c.quantization le a.0.placed),
+  have-tables number h (front ++ c ∷ []) cs le a.1,
+)
 
 pub in-range : (P : ℕ → Type 0) (a n : ℕ) → ((j : ℕ) → a ≤ j → j < a + n → P j) → AllByRecursion P (range_with_len a n)
 in-range P a zero all = tt
@@ -367,15 +345,13 @@ pub record HasSent (levels : ℕ → Levels) (front : ℕ) : Type 0 where
   pub unsent : (j : ℕ) → front ≤ j → levels j ≡ nothing_sent
 
 sent-more : (levels now : ℕ → Levels) (front : ℕ) → IsComplete (now front) → ((j : ℕ) → j ≢ front → now j ≡ levels j)
-    → HasSent levels front
-    → HasSent now (front + 1)
+    → HasSent levels front → HasSent now (front + 1)
 sent-more levels now front done others s = search (rules, cases_lt)
 
 end-written : (number : ℕ) (h : FrameHeader) (array : Coefficients) (front : List Factors) (levels : ℕ → Levels)
     (scanned : Bool)
     → number ≤ 2 → AreComponents number [] h.components → h.components ≡ front → HasSent levels (length front)
-    → scanned ≡ true
-    → Sends number h array levels scanned
+    → scanned ≡ true → Sends number h array levels scanned
 unfolding frame_of
 end-written number h array front levels scanned le are e s is =
     let all : (j : ℕ) → j < length h.components
@@ -474,8 +450,7 @@ scans-written : (number : ℕ) (h : FrameHeader) (array : Coefficients) (more fr
     (levels : ℕ → Levels) (scanned : Bool)
     → number ≤ 2 → Steps number h array → AreComponents number [] h.components
     → h.components ≡ front ++ more → AreComponents number front more → HasSent levels (length front)
-    → (more ≡ [] → scanned ≡ true)
-    → Sends number h array levels scanned
+    → (more ≡ [] → scanned ≡ true) → Sends number h array levels scanned
 unfolding AreComponents
 scans-written number h array [] front levels scanned le steps all e are s is = search (rules, end-written, append-nil)
 scans-written number h array (c ∷ more) front levels scanned le steps all e are s is =
@@ -501,8 +476,7 @@ some-components : (h : FrameHeader) → HasPicture h → h.components ≡ [] →
 some-components h p e = search rules
 
 abbrev front_bytes : ℕ → FrameHeader → List ℕ → List ℕ
-front_bytes number h more =
-    marker 0 219 (sized (payload_of (Quantization all_ones))
+front_bytes number h more = marker 0 219 (sized (payload_of (Quantization all_ones))
     ++ marker 0 (192 + number)
     (sized (payload_of (Header number h)) ++ marker 0 196 (sized (payload_of (Huffman flat_tables)) ++ more)))
 

@@ -140,16 +140,13 @@ first-low a (x ∷ xs) = (residue-low _, first-low x xs)
 rest-count : (selection : Predictor) (a c : ℕ) (above xs : List ℕ) → length above ≡ length xs
     → length (rest_differences selection a c above xs) ≡ length xs
 unfolding rest_differences
-rest-count selection a c [] [] h = refl
-rest-count selection a c [] (x ∷ xs) h = absurd (omega arith)
-rest-count selection a c (b ∷ above) [] h = refl
 rest-count selection a c (b ∷ above) (x ∷ xs) h = ap suc (rest-count selection x b above xs (omega arith))
+rest-count selection a c above xs h = search rules
 
 rest-low : (selection : Predictor) (a c : ℕ) (above xs : List ℕ) → AreResidues (rest_differences selection a c above xs)
 unfolding rest_differences
-rest-low selection a c [] xs = tt
-rest-low selection a c (b ∷ above) [] = tt
 rest-low selection a c (b ∷ above) (x ∷ xs) = (residue-low _, rest-low selection x b above xs)
+rest-low selection a c above xs = tt
 
 top-row : (selection : Predictor) (start : ℕ) (xs : List ℕ)
     → (length (differences_below selection start [] xs) ≡ length xs) × AreResidues (differences_below selection start
@@ -162,8 +159,7 @@ below-row : (selection : Predictor) (start : ℕ) (above xs : List ℕ) → leng
     × AreResidues (differences_below selection start above xs)
 unfolding differences_below
 below-row selection start [] xs h = top-row selection start xs
-below-row selection start (b ∷ above) [] h = (refl, tt)
-below-row selection start (b ∷ above) (x ∷ xs) h = search (rules, rest-count, residue-low, rest-low)
+below-row selection start above xs h = search (rules, rest-count, residue-low, rest-low)
 
 -- lines of n samples
 abbrev AreWide : ℕ → List (List ℕ) → Type 0
@@ -194,9 +190,8 @@ rows-count selection start above (line ∷ lines) = ap suc (rows-count selection
 strand-whole : (n : ℕ) (rs : List ℕ) → length rs ≡ n → strand n 1 0 1 rs ≡ rs
 unfolding strand
 strand-whole zero [] e = refl
-strand-whole zero (r ∷ rs) e = absurd (omega arith)
-strand-whole (suc n) [] e = absurd (omega arith)
 strand-whole (suc n) (r ∷ rs) e = ap (λ (l : List ℕ). r ∷ l) (strand-whole n rs (omega arith))
+strand-whole n rs e = absurd (omega arith)
 
 -- a component alone, of this size
 abbrev lone_part : ℕ → ℕ → Part
@@ -441,8 +436,7 @@ samples-written h samples is p all =
         written = record {
           after = front_bytes h r.0;
           starts = refl;
-          written =
-              segment nothing_found r.1 [] 0 (Header 3 h) _ ((refl, is), p) (
+          written = segment nothing_found r.1 [] 0 (Header 3 h) _ ((refl, is), p) (
               segment (said_1 h) r.1 [] 0 (Huffman even_tables) _ ((table-by _ _ (omega arith) refl, tt), tt) r.2);
         };
         framed = r.3;

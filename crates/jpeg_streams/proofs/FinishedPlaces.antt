@@ -20,15 +20,13 @@ pub record Finished : Type 0 where
 
 -- A scan with al = 0 finishes its band.
 abbrev pub finish : Pass → Finished → Finished
-finish p f =
-    elim (p.al == 0) as (λ _. Finished) [
-      | true ↦ record {
-        dc = elim (p.ss == 0) as (λ _. Bool) [ true ↦ true | false ↦ f.dc ];
-        acs =
-            with_band p f.acs (replicate (length (band_of p f.acs)) true);
-      }
-      | false ↦ f
-    ]
+finish p f = elim (p.al == 0) as (λ _. Finished) [
+  | true ↦ record {
+    dc = elim (p.ss == 0) as (λ _. Bool) [ true ↦ true | false ↦ f.dc ];
+    acs = with_band p f.acs (replicate (length (band_of p f.acs)) true);
+  }
+  | false ↦ f
+]
 
 abbrev pub is_level_0 : Option ℕ → Bool
 is_level_0 None = false
@@ -53,8 +51,7 @@ pub map-with_band : (p : Pass) (ls band : List (Option ℕ))
 map-with_band p ls band = search (rules, map-append, take-map, drop-map)
 
 pub around : (p : Pass) (cs : List Bool) → with_band p cs (band_of p cs) ≡ cs
-around p cs =
-    (search (rules, drop-drop))
+around p cs = (search (rules, drop-drop))
     ∙ ap (λ (l : List Bool). take (before_band p) cs ++ l) (take-append-drop (band_size p) (drop (before_band p) cs))
     ∙ take-append-drop (before_band p) cs
 
@@ -63,12 +60,10 @@ not-done : (a : Option ℕ) → is_level_0 a ≡ false → (ls : List (Option �
 not-done a h [] all = refl
 not-done a h (l ∷ ls) all = search (rules, not-done a h ls all.1)
 
-pub finish-yes : (p : Pass) (f : Finished) → p.al ≡ 0
-    → finish p f ≡ record {
-      dc = elim (p.ss == 0) as (λ _. Bool) [ true ↦ true | false ↦ f.dc ];
-      acs =
-          with_band p f.acs (replicate (length (band_of p f.acs)) true);
-    }
+pub finish-yes : (p : Pass) (f : Finished) → p.al ≡ 0 → finish p f ≡ record {
+  dc = elim (p.ss == 0) as (λ _. Bool) [ true ↦ true | false ↦ f.dc ];
+  acs = with_band p f.acs (replicate (length (band_of p f.acs)) true);
+}
 finish-yes p f e = rw (eq-eqb p.al 0 e, finish) refl
 
 pub finish-no : (p : Pass) (f : Finished) (a : ℕ) → p.al ≡ suc a → finish p f ≡ f

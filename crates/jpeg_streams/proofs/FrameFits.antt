@@ -1,4 +1,5 @@
 -- The blocks of a frame's components at each scale.
+use Rattle.std.proofs.lemmas.Grind.{common_steps}
 use Rattle.std.proofs.Common.{rules, ◌≡◌, ◌≤◌, ◌<◌, ℕ, ◌*◌, List, [], ◌∷◌, map, refl, ap, subst, arith}
 use Rattle.std.proofs.Math.Nat.{mul_assoc, mul_comm, mul-le-mul_right}
 use Rattle.std.specs.List.{AllByRecursion}
@@ -18,8 +19,7 @@ own-within width h m s some most scaled =
     let wide : width * h * s ≤ ((8 * m) * b) * h * s = mul-le-mul_right s (mul-le-mul_right h low) in
     let e : ((8 * m) * b) * h * s ≡ (m * 8) * (s * (b * h))
     = search (rules, mul_assoc, mul_comm) in
-    let one : ceiling (width * h * s) (m * 8) ≤ s * (b * h) =
-    search (rules, ceiling-le) in
+    let one : ceiling (width * h * s) (m * 8) ≤ s * (b * h) = search (rules, ceiling-le) in
     ceiling-le (ceiling (width * h * s) (m * 8)) s (b * h) scaled one
 
 pub factors-back : (width height h v : ℕ) (xs : List Factors) → all_factors (map (component_of width height h v) xs)
@@ -36,12 +36,12 @@ all-fit : (frame : Frame) (scale width height h v : ℕ) (xs : List Factors) →
     → AllByRecursion (Fits frame) (map (component_at scale width height h v) (map (component_of width height h v) xs))
 unfolding component_of component_at
 all-fit frame scale width height h v [] some wide high range across down = tt
-all-fit frame scale width height h v (x ∷ xs) some wide high range across down =
-    search (
-      rules,
-      own-within,
-      all-fit frame scale width height h v xs some wide high range.1 (omega arith) (omega arith),
-    )
+all-fit frame scale width height h v (x ∷ xs) some wide high range across down = grind (
+  arith,
+  common_steps,
+  own-within,
+  all-fit frame scale width height h v xs some wide high range.1 (omega arith) (omega arith),
+)
 
 -- The components of a frame at a scale fit it.
 pub scaled-frames-fit : (scale number precision width height : ℕ) (xs : List Factors) → 0 < scale

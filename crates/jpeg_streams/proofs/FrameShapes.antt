@@ -1,4 +1,5 @@
 -- Frames that are read have the blocks that the order of a scan goes over.
+use Rattle.std.proofs.lemmas.Grind.{common_steps}
 use Rattle.std.proofs.Common.{rules, ◌≡◌, ◌≢◌, ℕ, zero, suc, ◌*◌, ◌<◌, ◌≤◌, true, List, [], ◌∷◌, map, length, Ok, refl}
 use Rattle.std.proofs.Common.{sym, ap, ◌∙◌, subst, arith}
 use Rattle.std.proofs.lemmas.Bool.{eqb-true}
@@ -45,27 +46,13 @@ pub record Plain (f : Frame) : Type 0 where
 pub frame-lossy : (number precision width height : ℕ) (cs : List Factors) → number ≤ 2
     → (frame_of number precision width height cs).process ≢ Lossless
 unfolding frame_of
-frame-lossy zero precision width height cs h e = cc
-frame-lossy (suc zero) precision width height cs h e = cc
-frame-lossy (suc (suc zero)) precision width height cs h e = cc
 frame-lossy (suc (suc (suc n))) precision width height cs h e = absurd (omega arith)
+frame-lossy number precision width height cs h e = cc
 
 -- ---- full size
 
 abbrev pub made-at : (f : Frame) (s : ℕ) → Plain f → 0 < s → Made (frame_at s f)
-made-at f s o h = record {
-  number = o.number;
-  precision = o.precision;
-  width = o.width;
-  height = o.height;
-  factors = o.factors;
-  in_range = o.in_range;
-  some_width = o.some_width;
-  some_height = o.some_height;
-  scale = s;
-  some_scale = h;
-  is = ap (frame_at s) o.is;
-}
+made-at f s o h = grind (arith, common_steps)
 
 pub plain-size : (f : Frame) → Plain f → frame_at 8 f ≡ f
 plain-size f o = ap (frame_at 8) o.is ∙ full_size o.number o.precision o.width o.height o.factors ∙ sym o.is

@@ -7,33 +7,26 @@ abbrev pub patched : {A : Type 0} → ℕ → List A → List A → List A
 patched i new old = take i new ++ drop i old
 
 pub patched-next : {A : Type 0} (new old : List A) (i : ℕ) (x d : A) → length new ≡ length old → i < length old → x
-    ≡ get_or new i d
-    → set (patched i new old) i x ≡ patched (i + 1) new old
-patched-next [] [] i x d e h f = absurd (omega arith)
-patched-next [] (b ∷ old) i x d e h f = absurd (omega arith)
-patched-next (a ∷ new) [] i x d e h f = absurd (omega arith)
-patched-next (a ∷ new) (b ∷ old) zero x d e h f = ap (λ y. y ∷ old) f
+    ≡ get_or new i d → set (patched i new old) i x ≡ patched (i + 1) new old
 patched-next (a ∷ new) (b ∷ old) (suc i) x d e h f =
     search (rules, patched-next new old i x d (omega arith) (omega arith) f)
+patched-next new old i x d e h f = search rules
 
 pub patched-all : {A : Type 0} (new old : List A) (i : ℕ) → length new ≡ length old → length old ≤ i
     → patched i new old ≡ new
 patched-all [] [] zero e h = refl
 patched-all [] [] (suc i) e h = refl
-patched-all [] (b ∷ old) i e h = absurd (omega arith)
-patched-all (a ∷ new) [] i e h = absurd (omega arith)
-patched-all (a ∷ new) (b ∷ old) zero e h = absurd (omega arith)
 patched-all (a ∷ new) (b ∷ old) (suc i) e h = ap (λ l. a ∷ l) (patched-all new old i (omega arith) (omega arith))
+patched-all new old i e h = absurd (omega arith)
 
 -- after those that are replaced stands what stood there
 pub patched-at : {A : Type 0} (new old : List A) (i : ℕ) (d : A) → length new ≡ length old
     → get_or (patched i new old) i d ≡ get_or old i d
 patched-at [] [] zero d e = refl
 patched-at [] [] (suc i) d e = refl
-patched-at [] (b ∷ old) i d e = absurd (omega arith)
-patched-at (a ∷ new) [] i d e = absurd (omega arith)
 patched-at (a ∷ new) (b ∷ old) zero d e = refl
 patched-at (a ∷ new) (b ∷ old) (suc i) d e = patched-at new old i d (omega arith)
+patched-at new old i d e = absurd (omega arith)
 
 -- ---- a list of what some elements give
 
@@ -41,7 +34,6 @@ pub patched-length : {A : Type 0} (new old : List A) (i : ℕ) → length new �
     ≡ length old
 patched-length [] [] zero e = refl
 patched-length [] [] (suc i) e = refl
-patched-length [] (b ∷ old) i e = absurd (omega arith)
-patched-length (a ∷ new) [] i e = absurd (omega arith)
 patched-length (a ∷ new) (b ∷ old) zero e = refl
 patched-length (a ∷ new) (b ∷ old) (suc i) e = ap (λ (n : ℕ). suc n) (patched-length new old i (omega arith))
+patched-length new old i e = absurd (omega arith)

@@ -35,29 +35,25 @@ same-turns vias (s ∷ spots) arrays others h =
 pub inside-after : (spots : List Spot) (blocks : List Block) (arrays : Arrays) (q : Spot) → IsInside arrays q
     → IsInside (put_blocks spots blocks arrays) q
 unfolding put_blocks
-inside-after [] blocks arrays q h = h
-inside-after (s ∷ spots) [] arrays q h = h
 inside-after (s ∷ spots) (b ∷ blocks) arrays q h =
     inside-after spots blocks (put_block s b arrays) q (put-inside s q b arrays h)
+inside-after spots blocks arrays q h = h
 
 pub others-kept : (spots : List Spot) (blocks : List Block) (arrays : Arrays) (q : Spot) → IsInside arrays q
-    → (IsIn q spots → ⊥)
-    → block_at (put_blocks spots blocks arrays) q ≡ block_at arrays q
+    → (IsIn q spots → ⊥) → block_at (put_blocks spots blocks arrays) q ≡ block_at arrays q
 unfolding put_blocks
-others-kept [] blocks arrays q h n = refl
-others-kept (s ∷ spots) [] arrays q h n = refl
 others-kept (s ∷ spots) (b ∷ blocks) arrays q h n =
     others-kept spots blocks (put_block s b arrays) q (put-inside s q b arrays h) (λ t. n (inr t))
     ∙ kept-after s q b arrays h (λ e. n (inl e))
+others-kept spots blocks arrays q h n = refl
 
 pub put-both : (spots more : List Spot) (blocks others : List Block) (arrays : Arrays) → length blocks ≡ length spots
     → put_blocks (spots ++ more) (blocks ++ others) arrays ≡ put_blocks more others (put_blocks spots blocks arrays)
 unfolding put_blocks
 put-both [] more [] others arrays e = refl
-put-both [] more (b ∷ blocks) others arrays e = absurd (omega arith)
-put-both (s ∷ spots) more [] others arrays e = absurd (omega arith)
 put-both (s ∷ spots) more (b ∷ blocks) others arrays e =
     put-both spots more blocks others (put_block s b arrays) (omega arith)
+put-both spots more blocks others arrays e = absurd (omega arith)
 
 pub apart-back : {A : Type 0} (xs ys : List A) → AreApart (xs ++ ys) → AreApart ys
 apart-back [] ys h = h
@@ -93,8 +89,7 @@ put_in spots arrays (Err e) = Err e
 
 -- blocks in turn are put back as all are
 pub in-turn : (p : Pass) (vias : List Via) (spots : List Spot) (arrays : Arrays) (predictors : List ℤ) (run : ℕ)
-    (t : Text)
-    → AreApart spots → ((q : Spot) → IsIn q spots → IsInside arrays q)
+    (t : Text) → AreApart spots → ((q : Spot) → IsIn q spots → IsInside arrays q)
     → arrays_in (turns_from p vias spots (record { arrays = arrays; predictors = predictors; run = run }) t)
     ≡ put_in spots arrays (blocks_of p predictors run (turns_of vias spots arrays) t)
 unfolding turns_from turn_from blocks_of turns_of put_blocks
@@ -108,21 +103,18 @@ in-turn p vias (s ∷ spots) arrays predictors run t apart inside =
     step : ((b : Block) (c : List ℤ) (n : ℕ) (u : Text)
         → arrays_in (turns_from p vias spots (record { arrays = put_block s b arrays; predictors = c; run = n }) u)
         ≡ put_in spots (put_block s b arrays) (blocks_of p c n (turns_of vias spots (put_block s b arrays)) u))
-        → (o : Result ((Block × ℤ × ℕ) × Text) Fault)
-        → arrays_in (read_on (turns_from p vias spots)
+        → (o : Result ((Block × ℤ × ℕ) × Text) Fault) → arrays_in (read_on (turns_from p vias spots)
         (read_on (λ (r : Block × ℤ × ℕ). gives
         (record {
           arrays = put_block s r.0 arrays;
-          predictors =
-              set predictors (via_at vias s.slot).component r.1;
+          predictors = set predictors (via_at vias s.slot).component r.1;
           run = r.2;
         })) o))
         ≡ put_in (s ∷ spots) arrays (read_on (λ (r : Block × ℤ × ℕ). λ (u : Text).
         read_on (λ more. gives (r.0 ∷ more))
         (blocks_of p (set predictors (via_at vias s.slot).component r.1) r.2 (turns_of vias spots arrays) u)) o)
     step rec (Err e) = refl
-    step rec (Ok r) =
-        search (rules, same-turns, kept-after)
+    step rec (Ok r) = search (rules, same-turns, kept-after)
 
 -- ---- intervals
 
@@ -146,8 +138,7 @@ pub blocks-long : (p : Pass) (turns : List (Via × Block)) (predictors : List �
     → IsLong (length turns) (blocks_of p predictors run turns t)
 unfolding blocks_of
 blocks-long p [] predictors run t = refl
-blocks-long p (v ∷ turns) predictors run t =
-    step (λ c n u. blocks-long p turns c n u)
+blocks-long p (v ∷ turns) predictors run t = step (λ c n u. blocks-long p turns c n u)
     (block_from p v.0.dc v.0.ac (get_or predictors v.0.component (pos 0)) run v.1 t)
   where
     more : (b : Block) (o : Result (List Block × Text) Fault) → IsLong (length turns) o
@@ -156,8 +147,7 @@ blocks-long p (v ∷ turns) predictors run t =
     more b (Err e) h = tt
 
     step : ((c : List ℤ) (n : ℕ) (u : Text) → IsLong (length turns) (blocks_of p c n turns u))
-        → (o : Result ((Block × ℤ × ℕ) × Text) Fault)
-        → IsLong (suc (length turns))
+        → (o : Result ((Block × ℤ × ℕ) × Text) Fault) → IsLong (suc (length turns))
         (read_on (λ (r : Block × ℤ × ℕ). λ (u : Text). read_on (λ more. gives (r.0 ∷ more))
         (blocks_of p (set predictors v.0.component r.1) r.2 turns u)) o)
     step rec (Ok r) = search rules
@@ -231,8 +221,7 @@ intervals-in-turn p vias k spots (next ∷ more) arrays bytes apart inside =
         → intervals_from p vias (suc k) next more (put_blocks spots blocks arrays) rest
         ≡ put_after after (put_blocks spots blocks arrays)
         (intervals p (suc k) (turns_of vias next (put_blocks spots blocks arrays))
-        (all_turns vias (put_blocks spots blocks arrays) more) rest))
-        → (b : Bool)
+        (all_turns vias (put_blocks spots blocks arrays) more) rest)) → (b : Bool)
         → ◌≡◌ {A = Outcome (Arrays × Option Marker)}
         (elim b [
           | true ↦ intervals_from p vias (suc k) next more

@@ -8,7 +8,7 @@ use Rattle.jpeg_bits.specs.Reading.{Lacks}
 use Rattle.jpeg_bits.specs.declared.color_transform.ColorTransform.{ColorTransform}
 use Rattle.jpeg_segments.specs.Frame.{Component}
 use Rattle.jpeg_pixels.specs.declared.upsampler.UpsampleRule.{UpsampleRule}
-use Rattle.jpeg_pixels.specs.declared.upsampler.UpsampleRule.TheVariants.{H1V1, H2V1, H1V2, H2V2, Generic}
+use Rattle.jpeg_pixels.specs.declared.upsampler.UpsampleRule.TheVariants.{Generic}
 use Rattle.jpeg_pixels.specs.declared.upsampler.ColorConvert.{ColorConvert}
 use Rattle.jpeg_pixels.specs.Upsampling.{upsampled, across, down, far_place}
 use Rattle.jpeg_pixels.specs.Colour.{line_bytes}
@@ -32,20 +32,16 @@ upsampled-inside : (rule : UpsampleRule) (w h width height x y : ℕ) (p q : ℕ
     → width ≤ across rule * w → height ≤ down rule * h → x < width → y < height → Agree w h p q
     → upsampled rule p w h x y ≡ upsampled rule q w h x y
 unfolding upsampled
-upsampled-inside H1V1 w h width height x y p q a b c d e f k l same = same x y (omega arith) (omega arith)
-upsampled-inside H2V1 w h width height x y p q a b c d e f k l same = search (rules, far-within)
-upsampled-inside H1V2 w h width height x y p q a b c d e f k l same = search (rules, far-within)
-upsampled-inside H2V2 w h width height x y p q a b c d e f k l same = search (rules, far-within)
 upsampled-inside (Generic s t) w h width height x y p q a b c d e f k l same =
     grind (arith, common_steps, mul_comm, div-lt_iff_lt-mul)
+upsampled-inside rule w h width height x y p q a b c d e f k l same = search (rules, far-within)
 
 -- ---- lines and pictures
 
 map-same : {B : Type 0} (f g : ℕ → B) (a n : ℕ) → ((k : ℕ) → a ≤ k → k < a + n → f k ≡ g k)
     → map f (range_with_len a n) ≡ map g (range_with_len a n)
 map-same f g a zero h = refl
-map-same {B} f g a (suc n) h =
-    ap₂ (λ (x : B) (l : List B). x ∷ l) (h a (omega arith) (omega arith))
+map-same {B} f g a (suc n) h = ap₂ (λ (x : B) (l : List B). x ∷ l) (h a (omega arith) (omega arith))
     (map-same f g (a + 1) n (λ k low high. h k (omega arith) (omega arith)))
 
 -- two lists of samples, in lines of a stride, that are the same inside
@@ -67,8 +63,7 @@ AllReach [] width height = Unit {0}
 AllReach (s ∷ sources) width height = Reaches s width height × AllReach sources width height
 
 line-same : (s : Source) (p q : List ℕ) (width height row : ℕ) → Reaches s width height → row < height
-    → SamePlane s.stride s.width s.height p q
-    → line_of s p width row ≡ line_of s q width row
+    → SamePlane s.stride s.width s.height p q → line_of s p width row ≡ line_of s q width row
 line-same s p q width height row c low same = search (rules, map-same, slice_index, upsampled-inside)
 
 abbrev pub AllSame : List Source → List (List ℕ) → List (List ℕ) → Type 0
@@ -81,11 +76,9 @@ lines-same : (sources : List Source) (ps qs : List (List ℕ)) (width height row
     → row < height → AllSame sources ps qs
     → lines_of sources ps width row ≡ lines_of sources qs width row
 unfolding lines_of
-lines-same [] ps qs width height row c low same = refl
-lines-same (s ∷ sources) [] qs width height row c low same = absurd same
-lines-same (s ∷ sources) (p ∷ ps) [] width height row c low same = absurd same
 lines-same (s ∷ sources) (p ∷ ps) (q ∷ qs) width height row c low same =
     search (rules, line-same, lines-same sources ps qs width height row c.1 low same.1)
+lines-same sources ps qs width height row c low same = search rules
 
 picture-line : (convert : ColorConvert) (sources : List Source) (ps : List (List ℕ)) (width row : ℕ)
     → picture_line convert sources ps width row ≡ line_bytes convert width (lines_of sources ps width row)
@@ -119,13 +112,11 @@ sources-same : (a b width height : ℕ) (components : List Component) (sources :
     → sources_by a b width height components ≡ Ok sources → AllAlike components ps qs
     → AllSame sources ps qs
 unfolding sources_by
-sources-same a b width height [] sources ps qs e h = search (rules, ok-same)
-sources-same a b width height (c ∷ more) sources [] qs e h = absurd h
-sources-same a b width height (c ∷ more) sources (p ∷ ps) [] e h = absurd h
 sources-same a b width height (c ∷ more) sources (p ∷ ps) (q ∷ qs) e h =
     let one = bind-ok (source_of a b width height c) _ sources e in
     let others = bind-ok (sources_by a b width height more) _ sources one.2 in
     search (rules, ok-same, source-plane, sources-same a b width height more others.0 ps qs others.1 h.1)
+sources-same a b width height components sources ps qs e h = search (rules, ok-same)
 
 -- The image of several components.
 pub image-same : (components : List Component) (ps qs : List (List ℕ)) (width height : ℕ) (transform : ColorTransform)
@@ -146,5 +137,4 @@ cropped-same stride w h width height p q a b same =
     go : (n : ℕ) → n ≡ width → (i : ℕ) → i < 0 + width * height
         → slice_index p (i / width * stride + i % width) ≡ slice_index q (i / width * stride + i % width)
     go zero e i lt = search rules
-    go (suc n) e i lt =
-        grind (arith, common_steps, mul_comm, div-lt_iff_lt-mul, mod-lt)
+    go (suc n) e i lt = grind (arith, common_steps, mul_comm, div-lt_iff_lt-mul, mod-lt)

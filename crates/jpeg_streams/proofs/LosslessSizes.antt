@@ -1,6 +1,5 @@
 -- The sizes of the components of a lossless frame, and the MCUs of its scans.
-use Rattle.std.proofs.Common.{rules, ◌≡◌, ℕ, zero, suc, ◌*◌, ◌<◌, ◌≤◌, List, [], ◌∷◌, map, drop, Some, ap, subst}
-use Rattle.std.proofs.Common.{arith}
+use Rattle.std.proofs.Common.{rules, ◌≡◌, ℕ, zero, suc, ◌*◌, ◌<◌, ◌≤◌, List, [], ◌∷◌, map, drop, Some, ap, arith}
 use Rattle.std.specs.List.{AllByRecursion}
 use Rattle.std.proofs.lemmas.List.Elements.{recursion_from_All}
 use Rattle.std.proofs.Math.Nat.{mul-le-mul_right, mul_comm, mul_assoc}
@@ -20,10 +19,8 @@ use Rattle.jpeg_streams.proofs.CountedScans.{some-product}
 
 pub all-at : {A : Type 0} (P : A → Type 0) (n : ℕ) (xs : List A) (x : A) → AllByRecursion P xs
     → first_of (drop n xs) ≡ Some x → P x
-all-at P zero [] x all e = absurd (let n : ⊥ = cc in n)
-all-at P (suc n) [] x all e = absurd (let n : ⊥ = cc in n)
-all-at P zero (y ∷ xs) x all e = subst P (let s : y ≡ x = cc in s) all.0
 all-at P (suc n) (y ∷ xs) x all e = all-at P n xs x all.1 e
+all-at P n xs x all e = search rules
 
 -- ---- a component by its factors
 
@@ -115,13 +112,11 @@ all-covered frame (k ∷ j ∷ codings) h = all-among frame (k ∷ j ∷ codings
 pub across-some : (frame : Frame) (codings : List LosslessCoding) → 0 < frame.width
     → AllByRecursion (λ k. IsMade frame k.component) codings → 0 < mcus_across frame codings
 unfolding mcus_across
-across-some frame [] w all = ceiling-some frame.width (most_across frame) w (some-across frame)
 across-some frame (k ∷ []) w all = made-wide frame k.component w all.0
-across-some frame (k ∷ j ∷ codings) w all = ceiling-some frame.width (most_across frame) w (some-across frame)
+across-some frame codings w all = ceiling-some frame.width (most_across frame) w (some-across frame)
 
 pub down-some : (frame : Frame) (codings : List LosslessCoding) → 0 < frame.height
     → AllByRecursion (λ k. IsMade frame k.component) codings → 0 < mcus_down frame codings
 unfolding mcus_down
-down-some frame [] h all = ceiling-some frame.height (most_down frame) h (some-down frame)
 down-some frame (k ∷ []) h all = made-high frame k.component h all.0
-down-some frame (k ∷ j ∷ codings) h all = ceiling-some frame.height (most_down frame) h (some-down frame)
+down-some frame codings h all = ceiling-some frame.height (most_down frame) h (some-down frame)

@@ -28,8 +28,7 @@ use Rattle.std.proofs.lemmas.List.FromFn.{length-map-range_with_len}
 
 set-inside : {A : Type 0} (x y z : List A) (i : ℕ) (b : A) → i < length y → set (x ++ (y ++ z)) (length x + i) b
     ≡ x ++ (set y i b ++ z)
-set-inside x y z i b h =
-    set-append_right x (y ++ z) (length x) (length x + i) b refl (omega arith)
+set-inside x y z i b h = set-append_right x (y ++ z) (length x) (length x + i) b refl (omega arith)
     ∙ ap (λ (k : ℕ). x ++ set (y ++ z) k b) (let e : length x + i - length x ≡ i = omega arith in e)
     ∙ ap (λ l. x ++ l) (set-append_left y z i b h)
 
@@ -50,31 +49,20 @@ pub record Aligned (front arrays rest : Arrays) : Type 0 where
 
 get-around : (front arrays rest : Arrays) (slot : ℕ) → Aligned front arrays rest → slot < length arrays
     → get_or (around front arrays rest) slot [] ≡ get_or front slot [] ++ (get_or arrays slot [] ++ get_or rest slot [])
-get-around [] [] rest slot a h = absurd (omega arith)
-get-around [] (y ∷ arrays) rest slot a h = absurd (let b = a.before in omega arith)
-get-around (x ∷ front) [] rest slot a h = absurd (omega arith)
-get-around (x ∷ front) (y ∷ arrays) [] slot a h = absurd (let b = a.after in omega arith)
-get-around (x ∷ front) (y ∷ arrays) (z ∷ rest) zero a h = refl
 get-around (x ∷ front) (y ∷ arrays) (z ∷ rest) (suc slot) a h =
-    get-around front arrays rest slot (record {
-      before = let b = a.before in omega arith;
-      after = let b = a.after in
-          omega arith;
-    }) (omega arith)
+    get-around front arrays rest slot
+    (record { before = let b = a.before in omega arith; after = let b = a.after in omega arith }) (omega arith)
+get-around front arrays rest slot a h = search rules
 
 set-around : (front arrays rest : Arrays) (slot : ℕ) (y : List Block) → Aligned front arrays rest
     → set (around front arrays rest) slot (get_or front slot [] ++ (y ++ get_or rest slot []))
     ≡ around front (set arrays slot y) rest
-set-around [] [] rest slot y a = refl
-set-around [] (b ∷ arrays) rest slot y a = absurd (let e = a.before in omega arith)
-set-around (x ∷ front) [] rest slot y a = absurd (let e = a.before in omega arith)
-set-around (x ∷ front) (b ∷ arrays) [] slot y a = absurd (let e = a.after in omega arith)
-set-around (x ∷ front) (b ∷ arrays) (z ∷ rest) zero y a = refl
 set-around (x ∷ front) (b ∷ arrays) (z ∷ rest) (suc slot) y a =
     ap (λ l. (x ++ (b ++ z)) ∷ l) (set-around front arrays rest slot y (record {
       before = let e = a.before in omega arith;
       after = let e = a.after in omega arith;
     }))
+set-around front arrays rest slot y a = search rules
 
 -- a spot after those in front
 abbrev pub shifted : Arrays → Spot → Spot
@@ -148,8 +136,7 @@ unfolding turn_from
 turn-any P kept p vias s old t h = search rules
 
 next-any : (P : Arrays → Type 0) → IsKept P → (p : Pass) (vias : List Via) (n : ℕ) (s : Spot) (old : Counted)
-    (t : Text) → P old.reached.arrays
-    → KeepsCounted P (next_from p vias n s old t)
+    (t : Text) → P old.reached.arrays → KeepsCounted P (next_from p vias n s old t)
 unfolding next_from
 next-any P kept p vias n s old t h =
     counted-on P (λ now. λ u. read_on (λ r. gives (after_turn now r)) (turn_from p vias s now.reached u))
@@ -253,30 +240,23 @@ AreRows rows (c ∷ more) (a ∷ arrays) =
 rows-set : (rows : ℕ) (cs : List Component) (arrays : Arrays) (slot : ℕ) (y : List Block)
     → length y ≡ length (get_or arrays slot []) → AreRows rows cs arrays → AreRows rows cs (set arrays slot y)
 unfolding AreRows
-rows-set rows [] [] slot y e h = tt
-rows-set rows [] (a ∷ arrays) slot y e h = absurd h
-rows-set rows (c ∷ cs) [] slot y e h = absurd h
-rows-set rows (c ∷ cs) (a ∷ arrays) zero y e h = (e ∙ h.0, h.1)
 rows-set rows (c ∷ cs) (a ∷ arrays) (suc slot) y e h = (h.0, rows-set rows cs arrays slot y e h.1)
+rows-set rows cs arrays slot y e h = search rules
 
 pub rows-kept : (rows : ℕ) (cs : List Component) → IsKept (AreRows rows cs)
 rows-kept rows cs arrays s b h = search (rules, rows-set, length-set)
 
 pub rows-count : (rows : ℕ) (cs : List Component) (arrays : Arrays) → AreRows rows cs arrays → length arrays ≡ length cs
 unfolding AreRows
-rows-count rows [] [] h = refl
-rows-count rows [] (a ∷ arrays) h = absurd h
-rows-count rows (c ∷ cs) [] h = absurd h
 rows-count rows (c ∷ cs) (a ∷ arrays) h = ap suc (rows-count rows cs arrays h.1)
+rows-count rows cs arrays h = search rules
 
 rows-at : (rows : ℕ) (cs : List Component) (arrays : Arrays) (j : ℕ) (c : Component) → AreRows rows cs arrays
     → At j cs c
     → (length (get_or arrays j []) ≡ rows * (c.factors.vertical * c.blocks_wide)) × (j < length arrays)
 unfolding AreRows
-rows-at rows [] arrays j c h k = absurd k
-rows-at rows (d ∷ cs) [] j c h k = absurd h
-rows-at rows (d ∷ cs) (a ∷ arrays) zero c h k = search rules
 rows-at rows (d ∷ cs) (a ∷ arrays) (suc j) c h k = search (rules, rows-at rows cs arrays j c h.1 k)
+rows-at rows cs arrays j c h k = search rules
 
 pub zero-rows : (rows : ℕ) (cs : List Component) → AreRows rows cs (zero_rows rows cs)
 unfolding AreRows zero_rows
@@ -286,42 +266,31 @@ zero-rows rows (c ∷ cs) = (length-replicate (rows * (c.factors.vertical * c.bl
 pub joined-rows : (r : ℕ) (cs : List Component) (front arrays : Arrays) → AreRows r cs front → AreRows 1 cs arrays
     → AreRows (r + 1) cs (joined front arrays)
 unfolding AreRows joined
-joined-rows r [] [] [] h k = tt
-joined-rows r [] [] (b ∷ arrays) h k = absurd k
-joined-rows r [] (a ∷ front) arrays h k = absurd h
-joined-rows r (c ∷ cs) [] arrays h k = absurd h
-joined-rows r (c ∷ cs) (a ∷ front) [] h k = absurd k
 joined-rows r (c ∷ cs) (a ∷ front) (b ∷ arrays) h k =
     search (rules, length-append, add-mul, joined-rows r cs front arrays h.1 k.1)
+joined-rows r cs front arrays h k = search rules
 
 replicate-both : (m n k : ℕ) (b : Block) → k ≡ m + n → replicate k b ≡ replicate m b ++ replicate n b
-replicate-both zero n k b e = ap (λ (i : ℕ). replicate i b) (omega arith)
-replicate-both (suc m) n zero b e = absurd (omega arith)
 replicate-both (suc m) n (suc k) b e = ap (λ l. b ∷ l) (replicate-both m n k b (omega arith))
+replicate-both m n k b e = search rules
 
 -- a row of zeros, and the others
 first-row : (rows r : ℕ) (cs : List Component) (front : Arrays) → AreRows r cs front
     → joined front (zero_rows (suc rows) cs) ≡ around front (zero_rows 1 cs) (zero_rows rows cs)
 unfolding AreRows joined zero_rows
-first-row rows r [] [] h = refl
-first-row rows r [] (a ∷ front) h = absurd h
-first-row rows r (c ∷ cs) [] h = absurd h
 first-row rows r (c ∷ cs) (a ∷ front) h = search (rules, replicate-both, add-mul, first-row rows r cs front h.1)
+first-row rows r cs front h = search rules
 
 -- rows after rows
 around-joined : (front arrays rest : Arrays) → around front arrays rest ≡ joined (joined front arrays) rest
 unfolding joined
-around-joined [] arrays rest = refl
-around-joined (x ∷ front) [] rest = refl
-around-joined (x ∷ front) (y ∷ arrays) [] = refl
 around-joined (x ∷ front) (y ∷ arrays) (z ∷ rest) = rw (← (append_assoc x y z), around-joined front arrays rest) refl
+around-joined front arrays rest = refl
 
 no-rows : (r : ℕ) (cs : List Component) (front : Arrays) → AreRows r cs front → joined front (zero_rows 0 cs) ≡ front
 unfolding AreRows joined zero_rows
-no-rows r [] [] h = refl
-no-rows r [] (a ∷ front) h = absurd h
-no-rows r (c ∷ cs) [] h = absurd h
 no-rows r (c ∷ cs) (a ∷ front) h = search (rules, append-nil, no-rows r cs front h.1)
+no-rows r cs front h = search rules
 
 -- ---- the spots of a row
 
@@ -354,8 +323,7 @@ mcu-shift : (row column base : ℕ) (cs : List Component) (by : ℕ → ℕ) →
     → map (shifted_by by) (mcu_spots 0 column base cs) ≡ mcu_spots row column base cs
 unfolding mcu_spots
 mcu-shift row column base [] by e = refl
-mcu-shift row column base (c ∷ cs) by e =
-    (search (rules, map-append))
+mcu-shift row column base (c ∷ cs) by e = (search (rules, map-append))
     ∙ ap₂ (λ l m. l ++ m)
     (part-shift row column base c by (ap by (let z : base ≡ base + 0 = omega arith in z) ∙ e 0 c refl))
     (mcu-shift row column (base + 1) cs by (λ j d h. ap by (let z : base + 1 + j ≡ base + suc j = omega arith in z)
@@ -366,18 +334,14 @@ abbrev pub size_at : List Component → ℕ → ℕ
 size_at cs slot = get_or (map row_size cs) slot 0
 
 size-at : (cs : List Component) (j : ℕ) (c : Component) → At j cs c → size_at cs j ≡ row_size c
-size-at [] j c h = absurd h
-size-at (d ∷ cs) zero c h = ap row_size h
 size-at (d ∷ cs) (suc j) c h = size-at cs j c h
+size-at cs j c h = search rules
 
 front-size : (row : ℕ) (cs : List Component) (front : Arrays) (slot : ℕ) → AreRows row cs front
     → length (get_or front slot []) ≡ row * size_at cs slot
 unfolding AreRows
-front-size row [] [] slot h = omega arith
-front-size row [] (a ∷ front) slot h = absurd h
-front-size row (c ∷ cs) [] slot h = absurd h
-front-size row (c ∷ cs) (a ∷ front) zero h = h.0
 front-size row (c ∷ cs) (a ∷ front) (suc slot) h = front-size row cs front slot h.1
+front-size row cs front slot h = search rules
 
 -- a row's blocks by their indices among all
 abbrev pub placed_row : List Component → ℕ → List Spot → List Spot
@@ -456,16 +420,14 @@ several-rows : (wide : ℕ) (cs : List Component) (row rows : ℕ)
     ≡ flat_map (λ r. flat_map (λ column. mcu_spots r column 0 cs) (range_with_len 0 wide)) (range_with_len row rows)
 unfolding placed_rows all_spots
 several-rows wide cs row zero = refl
-several-rows wide cs row (suc rows) =
-    ap₂ (λ (l m : List Spot). l ++ m)
+several-rows wide cs row (suc rows) = ap₂ (λ (l m : List Spot). l ++ m)
     (ap (placed_row cs row) (append-nil (flat_map (λ column. mcu_spots 0 column 0 cs) (range_with_len 0 wide)))
     ∙ several-shift row cs (range_with_len 0 wide))
     (several-rows wide cs (row + 1) rows)
 
 -- the spots of a row are inside its blocks
 several-inside : (frame : Frame) (cs : List Component) (arrays : Arrays) (s : Spot) → AllByRecursion (Fits frame) cs
-    → AreRows 1 cs arrays
-    → IsIn s (all_spots frame.mcus_wide 1 cs) → IsInside arrays s
+    → AreRows 1 cs arrays → IsIn s (all_spots frame.mcus_wide 1 cs) → IsInside arrays s
 unfolding all_spots
 several-inside frame cs arrays s fits sized h =
     let r = in-flat-back (λ row. flat_map (λ column. mcu_spots row column 0 cs) (range_with_len 0 frame.mcus_wide)) s
@@ -511,9 +473,8 @@ own-lines c row a zero = refl
 own-lines c row a (suc n) = search (rules, map-append, own-line, own-lines c row (a + 1) n)
 
 range-split : (a m n k : ℕ) → k ≡ m + n → range_with_len a k ≡ range_with_len a m ++ range_with_len (a + m) n
-range-split a zero n k e = ap₂ (λ (i j : ℕ). range_with_len i j) (let z : a ≡ a + 0 = omega arith in z) (omega arith)
-range-split a (suc m) n zero e = absurd (omega arith)
 range-split a (suc m) n (suc k) e = search (rules, range-split (a + 1) m n k (omega arith))
+range-split a m n k e = search rules
 
 own-rows : (c : Component) (row rows : ℕ) → (grid_of c).own_high ≤ (row + rows) * c.factors.vertical
     → placed_rows (c ∷ []) row (map (own_row c) (range_with_len row rows))
@@ -525,8 +486,7 @@ own-rows c row (suc rows) h =
     let high = (grid_of c).own_high in
     let k = min vt (high - row * vt) in
     let up : (row + 1) * vt ≡ row * vt + 1 * vt = add-mul row 1 vt in
-    let more : (row + 1 + rows) * vt ≡ (row + suc rows) * vt =
-    search rules in
+    let more : (row + 1 + rows) * vt ≡ (row + suc rows) * vt = search rules in
     let rest = high - (row + 1) * vt in
     let split : high - row * vt ≡ k + rest = omega arith in
     grind (
@@ -539,8 +499,7 @@ own-rows c row (suc rows) h =
 
 -- an own spot of a row of MCUs stands in the row's blocks
 own-inside : (frame : Frame) (c : Component) (row : ℕ) (arrays : Arrays) (s : Spot) → Fits frame c
-    → AreRows 1 (c ∷ []) arrays
-    → IsIn s (own_row c row) → IsInside arrays s
+    → AreRows 1 (c ∷ []) arrays → IsIn s (own_row c row) → IsInside arrays s
 unfolding own_spots
 own-inside frame c row arrays s fits sized h =
     let vt = c.factors.vertical in

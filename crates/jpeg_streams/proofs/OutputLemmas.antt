@@ -1,8 +1,8 @@
 -- What is written for a stream, by its meaning.
 use Rattle.std.proofs.Common.{◌≡◌, ℕ, List, ◌++◌, Bool, true, false, option_map, Option, None, Some, Ok, Err, refl}
-use Rattle.std.proofs.Common.{IsSome, rules, inl, inr}
+use Rattle.std.proofs.Common.{IsSome, rules, inl}
 use Rattle.jpeg_bits.specs.declared.error.Error.{Error}
-use Rattle.jpeg_bits.specs.declared.error.Error.TheVariants.{Format, Unsupported, Io, Internal, OutOfMemory}
+use Rattle.jpeg_bits.specs.declared.error.Error.TheVariants.{Format}
 use Rattle.jpeg_bits.specs.Reading.{Fault, Names, IsGivenUp}
 use Rattle.jpeg_streams.specs.Pixels.{info_of}
 use Rattle.jpeg_streams.specs.Stream.{Told, meaning}
@@ -27,23 +27,11 @@ pub outside-decode : (known failed : Bool) (e : Error) (bytes : List ℕ)
     → (known ≡ true → Names e (meaning default_settings bytes)) → (known ≡ false → IsGivenUp e failed)
     → IsSome (output_of bytes) → IsOutsideOrMemory e
 outside-decode true failed (Format text) bytes r f s = search (rules, not-some, output-none)
-outside-decode true failed (Unsupported feature) bytes r f s = search (rules, not-some, output-none)
-outside-decode true failed (Io error) bytes r f s = tt
-outside-decode true failed (Internal text) bytes r f s = r refl
-outside-decode true failed OutOfMemory bytes r f s = tt
-outside-decode false failed (Format text) bytes r f s = f refl
-outside-decode false failed (Unsupported feature) bytes r f s = f refl
-outside-decode false failed (Io error) bytes r f s = tt
-outside-decode false failed (Internal text) bytes r f s = f refl
-outside-decode false failed OutOfMemory bytes r f s = tt
+outside-decode known failed e bytes r f s = search (rules, not-some, output-none)
 
 -- an error names the stream's fault, or is the reader's, or out of memory
 pub named-decode : (known failed : Bool) (e : Error) (bytes : List ℕ)
     → (known ≡ true → Names e (meaning default_settings bytes)) → (known ≡ false → IsGivenUp e failed)
     → NamesOrOutside bytes e
 named-decode true failed e bytes r f = inl (r refl)
-named-decode false failed (Format text) bytes r f = inr (f refl)
-named-decode false failed (Unsupported feature) bytes r f = inr (f refl)
-named-decode false failed (Io error) bytes r f = inr tt
-named-decode false failed (Internal text) bytes r f = inr (f refl)
-named-decode false failed OutOfMemory bytes r f = inr tt
+named-decode known failed e bytes r f = search rules

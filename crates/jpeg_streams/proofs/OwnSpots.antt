@@ -90,8 +90,7 @@ pub record IsOwnSpot (g : Grid) (s : Spot) : Type 0 where
 
 pub own-only : (g : Grid) → g.own_wide ≤ g.wide → AllByRecursion (IsOwnSpot g) (own_spots g)
 unfolding own_spots
-own-only g h =
-    all-flat (IsOwnSpot g)
+own-only g h = all-flat (IsOwnSpot g)
     (λ row. map (λ column. record { slot = 0; index = row * g.wide + column }) (range_with_len 0 g.own_wide)) 0
     g.own_high (λ row a lt.
     all-line (IsOwnSpot g) (λ column. record { slot = 0; index = row * g.wide + column }) 0 g.own_wide (search (rules, div-mul-add, mod-mul-add)))
@@ -146,8 +145,7 @@ all-covered frame components c s here fits own =
 
 -- each own block of a scan's component stands in its order
 pub covered : (frame : Frame) (components : List Component) (c : Component) (s : Spot) → At s.slot components c
-    → Fits frame c
-    → IsOwn (grid_of c) s.index → IsIn s (spots_of frame components)
+    → Fits frame c → IsOwn (grid_of c) s.index → IsIn s (spots_of frame components)
 unfolding spots_of
 covered frame [] c s here fits own = absurd here
 covered frame (d ∷ []) c s here fits own = search (rules, own-covered)

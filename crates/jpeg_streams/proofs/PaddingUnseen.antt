@@ -22,11 +22,10 @@ use Rattle.jpeg_streams.proofs.LosslessSizes.{IsMade, all-at, frames-made, made-
 lines-short : (n : ℕ) (selection : Predictor) (start : ℕ) (above : List ℕ) (ds : List (List ℕ))
     → take n (lines_below selection start above ds) ≡ lines_below selection start above (take n ds)
 unfolding lines_below
-lines-short zero selection start above ds = refl
-lines-short (suc n) selection start above [] = refl
 lines-short (suc n) selection start above (d ∷ ds) =
     let line = line_below selection start above d in
     ap (λ (l : List (List ℕ)). line ∷ l) (lines-short n selection start line ds)
+lines-short n selection start above ds = refl
 
 -- the samples inside come of the differences inside alone
 pub own-predicted : (p : Part) (selection : Predictor) (start : ℕ) (differences : List (List ℕ))
@@ -36,8 +35,7 @@ own-predicted p selection start differences = search (rules, lines-short, top-na
 
 -- so planes do not show the differences of padding
 pub planes-same : (w : Way) (point from : ℕ) (parts : List Part) (a b : List (List ℕ))
-    → DifferInPadding w from parts a b
-    → planes_of point parts (lines_by_component w from parts a)
+    → DifferInPadding w from parts a b → planes_of point parts (lines_by_component w from parts a)
     ≡ planes_of point parts (lines_by_component w from parts b)
 unfolding DifferInPadding lines_by_component planes_of
 planes-same w point from [] a b h = refl
@@ -60,16 +58,13 @@ pub taken-inside : (h : FrameHeader) (place x y : ℕ) (c : Component) → IsFra
     → (x * c.factors.horizontal / most_across (frame_written 3 h) < c.width)
     × (y * c.factors.vertical / most_down (frame_written 3 h) < c.height)
 unfolding frame_of
-taken-inside h place x y c is e hx hy =
-    made-inside (frame_written 3 h) c x y
+taken-inside h place x y c is e hx hy = made-inside (frame_written 3 h) c x y
     (all-at (IsMade (frame_written 3 h)) place (frame_written 3 h).components c (header-made h is) e) hx hy
 
 pub drop-next : {A : Type 0} (n : ℕ) (xs : List A) (x : A) (more : List A) → drop n xs ≡ x ∷ more → drop (suc n) xs ≡
     more
-drop-next zero [] x more e = absurd (let n : ⊥ = cc in n)
-drop-next (suc n) [] x more e = absurd (let n : ⊥ = cc in n)
-drop-next zero (y ∷ xs) x more e = cc
 drop-next (suc n) (y ∷ xs) x more e = drop-next n xs x more e
+drop-next n xs x more e = search rules
 
 pixel-agrees : (frame : Frame) (a b : Samples) (x y : ℕ) → x < frame.width → y < frame.height
     → AgreeInside frame a b → (place : ℕ) (cs : List Component) → drop place frame.components ≡ cs

@@ -1,8 +1,8 @@
 -- A frame header that has a picture is accepted.
-use Rattle.std.proofs.Common.{rules, ◌≡◌, ◌⊎◌, inl, inr, ℕ, zero, suc, ◌≤◌, ◌==◌, true, false, List, [], ◌∷◌, map}
-use Rattle.std.proofs.Common.{length, Ok, refl, arith}
+use Rattle.std.proofs.Common.{rules, ◌≡◌, ◌⊎◌, inl, ℕ, zero, suc, ◌≤◌, ◌==◌, true, false, List, [], ◌∷◌, map, length}
+use Rattle.std.proofs.Common.{Ok, refl, arith}
 use Rattle.std.proofs.lemmas.Grind.{common_steps}
-use Rattle.std.proofs.lemmas.Bool.{eq-eqb, or_left, or_right}
+use Rattle.std.proofs.lemmas.Bool.{eq-eqb, or_left}
 use Rattle.std.specs.List.{AllByRecursion}
 use Rattle.jpeg_pixels.specs.Pictures.{Source, sources_of}
 use Rattle.jpeg_segments.specs.Frame.{component_of, Factors, Frame, frame_of, greatest}
@@ -31,8 +31,7 @@ accepted-by f sources a b c d e = search (rules, then-ok)
 
 pub count-test : (n : ℕ) → (n ≡ 1) ⊎ ((n ≡ 3) ⊎ (n ≡ 4)) → is_decoded_count n ≡ true
 count-test n (inl e) = or_left (n == 1) _ (eq-eqb n 1 e)
-count-test n (inr (inl e)) = or_right (n == 1) _ (or_left (n == 3) _ (eq-eqb n 3 e))
-count-test n (inr (inr e)) = or_right (n == 1) _ (or_right (n == 3) _ (eq-eqb n 4 e))
+count-test n k = search (rules, eq-eqb)
 
 pub header-sources : (number : ℕ) (h : FrameHeader) → AllByRecursion (IsUpsampled h) h.components
     → (sources : List Source)
@@ -59,10 +58,8 @@ header-process : (number : ℕ) (h : FrameHeader) → number ≤ 2 → HasPictur
     → ((frame_written number h).is_differential ≡ false) × (is_arithmetic (frame_written number h).coding ≡ false)
     × (is_decoded_precision (frame_written number h).process (frame_written number h).precision ≡ true)
 unfolding frame_of
-header-process zero h le p = (refl, refl, eq-eqb h.precision 8 p.precise)
-header-process (suc zero) h le p = (refl, refl, eq-eqb h.precision 8 p.precise)
-header-process (suc (suc zero)) h le p = (refl, refl, eq-eqb h.precision 8 p.precise)
 header-process (suc (suc (suc number))) h le p = absurd (omega arith)
+header-process number h le p = (refl, refl, eq-eqb h.precision 8 p.precise)
 
 pub header-accepted : (number : ℕ) (h : FrameHeader) → number ≤ 2 → HasPicture h
     → accepted (frame_written number h) ≡ Ok (frame_written number h)

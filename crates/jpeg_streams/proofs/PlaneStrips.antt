@@ -26,11 +26,9 @@ line-of wide n xs row e f =
 
 -- One more row of blocks.
 pub plane-strips : (s : ℕ) (table : List ℕ) (wide n : ℕ) (xs row : List Block) → length xs ≡ n * wide
-    → length row ≡ wide
-    → plane_of s table wide (n + 1) (in_raster wide (xs ++ row))
+    → length row ≡ wide → plane_of s table wide (n + 1) (in_raster wide (xs ++ row))
     ≡ plane_of s table wide n (in_raster wide xs) ++ strip_of s table (map ordered row)
-plane-strips s table wide n xs row e f =
-    plane-more s table wide n (in_raster wide (xs ++ row))
+plane-strips s table wide n xs row e f = plane-more s table wide n (in_raster wide (xs ++ row))
     ∙ ap₂ (λ (a : List ℕ) (l : List (List ℤ)). a ++ strip_of s table l)
     (plane-same s table wide n (in_raster wide (xs ++ row)) (in_raster wide xs) (search (rules, div-mul-add, div-lt_iff_lt-mul, get_or_append_left)))
     (line-of wide n xs row e f)

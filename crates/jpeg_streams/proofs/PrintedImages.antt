@@ -34,11 +34,9 @@ is-some : (o : Option (List ℕ)) (text : List ℕ) → o ≡ Some text → IsSo
 is-some o text e = rw e refl
 
 prints : {X : Type 0} (bytes text : List ℕ) (old new : Option (List ℕ)) (result : Result X Error)
-    → output_of bytes ≡ Some text
-    → OnOk result (IsSomeAnd (output_of bytes) (Appends old new))
+    → output_of bytes ≡ Some text → OnOk result (IsSomeAnd (output_of bytes) (Appends old new))
     → ((text : List ℕ) → output_of bytes ≡ Some text → TakesBeginning old new text)
-    → (IsSome (output_of bytes) → IfErr result IsOutsideOrMemory)
-    → Prints text old result new
+    → (IsSome (output_of bytes) → IfErr result IsOutsideOrMemory) → Prints text old result new
 prints bytes text old new (Ok x) e ok beginning refused = some-and (output_of bytes) text (Appends old new) e ok
 prints bytes text old new (Err x) e ok beginning refused = search (rules, is-some)
 

@@ -26,8 +26,7 @@ put-inside r q b arrays h = search (rules, same-spot, length-set, get_or-set_sam
 
 -- a place that has f of it keeps it
 pub stays : (f : Spot → Block) (q : Spot) (spots : List Spot) (arrays : Arrays) → IsInside arrays q
-    → block_at arrays q ≡ f q
-    → block_at (put_blocks spots (map f spots) arrays) q ≡ f q
+    → block_at arrays q ≡ f q → block_at (put_blocks spots (map f spots) arrays) q ≡ f q
 unfolding put_blocks
 stays f q [] arrays h e = e
 stays f q (r ∷ spots) arrays h e =

@@ -1,4 +1,5 @@
 -- What a decoder holds after the scans of a written stream.
+use Rattle.std.proofs.lemmas.Grind.{common_steps}
 use Rattle.std.proofs.Common.{rules, ◌≡◌, ◌≢◌, ◌⊎◌, inl, inr, ℕ, zero, suc, ◌-◌, ◌<◌, ◌≤◌, Bool, true, false, List, []}
 use Rattle.std.proofs.Common.{◌∷◌, map, length, take, drop, get_or, set, slice_index_or, Option, Some, None, refl, sym}
 use Rattle.std.proofs.Common.{ap, ◌∙◌, subst, arith, length-set, get_or-set_same, get_or-set_other}
@@ -61,9 +62,8 @@ eqb_cases a b = search (rules, leb_tells)
 
 pub first-of_band : {A : Type 0} (Q : A → Type 0) (d : A) (b n : ℕ) (xs : List A)
     → AllByRecursion Q (take (suc n) (drop b xs)) → b < length xs → Q (get_or xs b d)
-first-of_band Q d b n [] h lt = absurd (omega arith)
-first-of_band Q d zero n (x ∷ xs) h lt = h.0
 first-of_band Q d (suc b) n (x ∷ xs) h lt = first-of_band Q d b n xs h (omega arith)
+first-of_band Q d b n xs h lt = search rules
 
 -- ---- levels
 
@@ -76,9 +76,8 @@ one-other p place k levels n = rw (not-equal k place n, levels_of_one) refl
 
 get-map : (f : Option ℕ → Bool) (xs : List (Option ℕ)) (i : ℕ) → i < length xs
     → get_or (map f xs) i true ≡ f (get_or xs i None)
-get-map f [] i h = absurd (omega arith)
-get-map f (x ∷ xs) zero h = refl
 get-map f (x ∷ xs) (suc i) h = get-map f xs i (omega arith)
+get-map f xs i h = search rules
 
 -- a legal scan finds something that isn't finished
 pub legal-open : (p : Pass) (l : Levels) → IsLegal p l → IsBand p → length l.acs ≡ 63 → is_whole l ≡ false
@@ -121,15 +120,13 @@ pub record CodingDone (w : Found) (frame : Frame) (p : Pass) (array : Coefficien
   pub holds : HoldsOwn (grid_of k.component) (array k.place) (sent_after p (levels k.place)) blocks
 
 plane-yes : (k : Coding) (blocks : List Block) (marks : List Bool) (pl : List (Option (List ℕ)))
-    → list_all (λ mark. mark) marks ≡ true
-    → with_plane k blocks marks pl
+    → list_all (λ mark. mark) marks ≡ true → with_plane k blocks marks pl
     ≡ set pl k.place (decided (slice_index_or pl k.place None) (plane_by k.component k.quantization blocks))
 unfolding with_plane
 plane-yes k blocks marks pl e = rw (e, with_plane) refl
 
 plane-no : (k : Coding) (blocks : List Block) (marks : List Bool) (pl : List (Option (List ℕ)))
-    → list_all (λ mark. mark) marks ≡ false
-    → with_plane k blocks marks pl ≡ pl
+    → list_all (λ mark. mark) marks ≡ false → with_plane k blocks marks pl ≡ pl
 unfolding with_plane
 plane-no k blocks marks pl e = rw (e, with_plane) refl
 
@@ -152,8 +149,7 @@ module _ (w : Found) (frame : Frame) (p : Pass) (array : Coefficients) (levels :
   next = sent_after p (levels k.place)
 
   marks-are : marks ≡ marks_of next
-  marks-are = ap (finished_by p) (before.marks k.place k.component done.at)
-      ∙ marks-after p (levels k.place) done.legal band done.sized
+  marks-are = grind (arith, common_steps, marks-after)
 
   was-open : is_whole (levels k.place) ≡ false
   was-open = legal-open p (levels k.place) done.legal band done.sized
@@ -165,61 +161,17 @@ module _ (w : Found) (frame : Frame) (p : Pass) (array : Coefficients) (levels :
   place-in = let h = at-within k.place frame.components k.component done.at in omega arith
 
   plane-own : PlaneSo w array next (with_plane k blocks marks pl) k.place k.component
-  plane-own = record {
-    decided = λ e. record {
-      table = k.quantization;
-      is_table = done.table;
-      blocks = blocks;
-      holds = done.holds;
-      plane = ap (λ (l : List (Option (List ℕ))). slice_index_or l k.place None)
-          (plane-yes k blocks marks pl (ap (list_all (λ mark. mark)) marks-are ∙ e))
-          ∙ get_or-set_same pl k.place
-          (decided (slice_index_or pl k.place None) (plane_by k.component k.quantization blocks)) None
-          (let h = place-in in let c = before.pl_count in omega arith)
-          ∙ ap (λ (o : Option (List ℕ)). decided o (plane_by k.component k.quantization blocks)) was-none;
-    };
-    undecided = λ e. ap (λ (l : List (Option (List ℕ))). slice_index_or l k.place None)
-        (plane-no k blocks marks pl (ap (list_all (λ mark. mark)) marks-are ∙ e)) ∙ was-none;
-  }
+  plane-own = grind (arith, common_steps, plane-yes, marks-are, get_or-set_same, place-in, was-none, plane-no)
 
   plane-moved : (j : ℕ) (c : Component) → At j frame.components c → (j ≡ k.place) ⊎ (j ≢ k.place)
       → PlaneSo w array (levels_of_one p k.place levels j) (with_plane k blocks marks pl) j c
-  plane-moved j c h (inl e) =
-      let own : c ≡ k.component =
-      at-one k.place frame.components c k.component (subst (λ (i : ℕ). At i frame.components c) e h) done.at in
-      subst (λ (i : ℕ). PlaneSo w array (levels_of_one p k.place levels i) (with_plane k blocks marks pl) i c) (sym e)
-      (subst (λ (d : Component). PlaneSo w array (levels_of_one p k.place levels k.place)
-      (with_plane k blocks marks pl) k.place d) (sym own)
-      (subst (λ (l : Levels). PlaneSo w array l (with_plane k blocks marks pl) k.place k.component)
-      (sym (one-same p k.place levels)) plane-own))
-  plane-moved j c h (inr n) =
-      let old = before.planes j c h in
-      let same = plane-other k blocks marks pl j n in
-      subst (λ (l : Levels). PlaneSo w array l (with_plane k blocks marks pl) j c)
-      (sym (one-other p k.place j levels n))
-      (record {
-        decided = λ e. let o = old.decided e in
-            record {
-              table = o.table;
-              is_table = o.is_table;
-              blocks = o.blocks;
-              holds = o.holds;
-              plane = same
-                  ∙ o.plane;
-            };
-        undecided = λ e. same ∙ old.undecided e;
-      })
+  plane-moved j c h (inl e) = grind (arith, common_steps, at-one, one-same, plane-own)
+  plane-moved j c h (inr n) = grind (arith, common_steps, plane-other, one-other)
 
   marks-moved : (j : ℕ) (c : Component) → At j frame.components c → (j ≡ k.place) ⊎ (j ≢ k.place)
       → slice_index_or (set fi k.place marks) j none_finished ≡ marks_of (levels_of_one p k.place levels j)
-  marks-moved j c h (inl e) =
-      ap (λ (i : ℕ). slice_index_or (set fi k.place marks) i none_finished) e
-      ∙ get_or-set_same fi k.place marks none_finished (let h = place-in in let c = before.fi_count in omega arith)
-      ∙ marks-are ∙ ap marks_of (sym (one-same p k.place levels))
-      ∙ ap (λ (i : ℕ). marks_of (levels_of_one p k.place levels i)) (sym e)
-  marks-moved j c h (inr n) =
-      get_or-set_other fi k.place j marks none_finished n ∙ before.marks j c h
-      ∙ ap marks_of (sym (one-other p k.place j levels n))
+  marks-moved j c h (inl e) = grind (arith, common_steps, get_or-set_same, place-in, marks-are, one-same)
+  marks-moved j c h (inr n) = grind (arith, common_steps, get_or-set_other, one-other)
 
   pub marked-one : Marked w frame array (levels_of_one p k.place levels) (set fi k.place marks)
       (with_plane k blocks marks pl)
@@ -247,11 +199,9 @@ pub done-others : (w : Found) (frame : Frame) (p : Pass) (array : Coefficients) 
     (codings : List Coding) (arrays : Arrays)
     → IsAbsent place (places_of codings) → AllDone w frame p array levels codings arrays
     → AllDone w frame p array (levels_of_one p place levels) codings arrays
-done-others w frame p array levels place [] [] apart h = tt
-done-others w frame p array levels place [] (b ∷ arrays) apart h = absurd h
-done-others w frame p array levels place (k ∷ codings) [] apart h = absurd h
 done-others w frame p array levels place (k ∷ codings) (b ∷ arrays) apart h =
     search (rules, one-other, done-others w frame p array levels place codings arrays apart.1 h.1)
+done-others w frame p array levels place codings arrays apart h = search rules
 
 -- What scans have brought, after the components of one.
 pub record Brought (w : Found) (frame : Frame) (p : Pass) (array : Coefficients) (levels : ℕ → Levels)
@@ -272,8 +222,7 @@ unfolding with_arrays
 with-none p f = refl
 
 blocks-are : (p : Pass) (k : Coding) (b : List Block) (w : Found) (s : Bool) (h : Arrays) (fi : List (List Bool))
-    (pl : List (Option (List ℕ)))
-    → with_blocks p k b (reading w s h fi pl)
+    (pl : List (Option (List ℕ))) → with_blocks p k b (reading w s h fi pl)
     ≡ reading w s h (set fi k.place (finished_by p (slice_index_or fi k.place none_finished)))
     (with_plane k b (finished_by p (slice_index_or fi k.place none_finished)) pl)
 unfolding with_blocks
@@ -325,12 +274,10 @@ pub held-after : (w : Found) (frame : Frame) (p : Pass) (array : Coefficients) (
     → AllDone w frame p array levels codings arrays → AllHeld frame array levels held
     → AllHeld frame array (levels_after p (places_of codings) levels) (put_arrays codings arrays held)
 unfolding levels_after
-held-after w frame p array levels [] [] held apart done before = search (rules, put-none)
-held-after w frame p array levels [] (b ∷ arrays) held apart done before = absurd done
-held-after w frame p array levels (k ∷ codings) [] held apart done before = absurd done
 held-after w frame p array levels (k ∷ codings) (b ∷ arrays) held apart done before =
     subst (AllHeld frame array (levels_after p (places_of codings) (levels_of_one p k.place levels)))
     (sym (put-one k codings b arrays held))
     (held-after w frame p array (levels_of_one p k.place levels) codings arrays (set held k.place b) apart.1
     (done-others w frame p array levels k.place codings arrays apart.0 done.1)
     (held-one w frame p array levels k b held done.0 before))
+held-after w frame p array levels codings arrays held apart n before = search (rules, put-none)

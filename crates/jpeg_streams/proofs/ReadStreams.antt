@@ -1,4 +1,5 @@
 -- A written stream is read up to its end.
+use Rattle.std.proofs.lemmas.Grind.{common_steps}
 use Rattle.std.proofs.Common.{rules, ◌≡◌, ℕ, zero, suc, ◌<◌, ◌≤◌, Bool, true, false, List, [], ◌++◌, length}
 use Rattle.std.proofs.Common.{replicate, is_some, Option, Some, None, Ok, refl, sym, ap, ◌∙◌, subst, arith, true≢false}
 use Rattle.std.proofs.Common.{length-append}
@@ -42,8 +43,7 @@ use Rattle.jpeg_streams.proofs.WrittenMarkers.{marker-append, marker_for, segmen
 -- ---- a segment between scans
 
 same-arrays : (w next : Found) (sc : Bool) (h : Arrays) (fi : List (List Bool)) (pl : List (Option (List ℕ)))
-    (f : Frame)
-    → arrays_before (reading w sc h fi pl) f ≡ arrays_before (reading next sc h fi pl) f
+    (f : Frame) → arrays_before (reading w sc h fi pl) f ≡ arrays_before (reading next sc h fi pl) f
 unfolding arrays_before
 same-arrays w next sc h fi pl f = refl
 
@@ -53,8 +53,7 @@ plane-same : (w next : Found) (array : Coefficients) (l : Levels) (pl : List (Op
 plane-same w next array l pl k c e p = search rules
 
 plane-unscanned : (w next : Found) (array : Coefficients) (l : Levels) (pl : List (Option (List ℕ))) (k : ℕ)
-    (c : Component) → l ≡ nothing_sent
-    → PlaneSo w array l pl k c → PlaneSo next array l pl k c
+    (c : Component) → l ≡ nothing_sent → PlaneSo w array l pl k c → PlaneSo next array l pl k c
 plane-unscanned w next array l pl k c e p = search rules
 
 framed-by : (w next : Found) (f : Frame) (array : Coefficients) (levels : ℕ → Levels) (sc : Bool) (h : Arrays)
@@ -66,8 +65,7 @@ framed-by w next f array levels sc h fi pl g fr = search (rules, same-arrays)
 framed-same : (w next : Found) (f : Frame) (array : Coefficients) (levels : ℕ → Levels) (sc : Bool) (h : Arrays)
     (fi : List (List Bool)) (pl : List (Option (List ℕ))) → next.quantization ≡ w.quantization
     → Framed w f array levels sc h fi pl → Framed next f array levels sc h fi pl
-framed-same w next f array levels sc h fi pl e fr =
-    framed-by w next f array levels sc h fi pl (λ k c p. plane-same w next array (levels k) pl k c e p) fr
+framed-same w next f array levels sc h fi pl e fr = search (rules, framed-by, plane-same)
 
 framed-next : (w : Found) (s : Segment) (f : Frame) (array : Coefficients) (levels : ℕ → Levels) (sc : Bool)
     (h : Arrays) (fi : List (List Bool)) (pl : List (Option (List ℕ)))
@@ -78,15 +76,11 @@ framed-next w (Quantization ts) f array levels sc h fi pl follows none fr = go s
     go : (b : Bool) → sc ≡ b → Framed (found_after w (Quantization ts)) f array levels sc h fi pl
     go true e = absurd (follows e)
     go false e = search (rules, framed-by, plane-unscanned)
-framed-next w (Huffman ts) f array levels sc h fi pl follows none fr =
-    framed-same w (found_after w (Huffman ts)) f array levels sc h fi pl refl fr
-framed-next w (Interval n) f array levels sc h fi pl follows none fr =
-    framed-same w (found_after w (Interval n)) f array levels sc h fi pl refl fr
-framed-next w (Application number payload) f array levels sc h fi pl follows none fr =
-    framed-same w (found_after w (Application number payload)) f array levels sc h fi pl refl fr
+framed-next w (Huffman ts) f array levels sc h fi pl follows none fr = search (rules, framed-same)
+framed-next w (Interval n) f array levels sc h fi pl follows none fr = search (rules, framed-same)
+framed-next w (Application number payload) f array levels sc h fi pl follows none fr = search (rules, framed-same)
 framed-next w (Comment payload) f array levels sc h fi pl follows none fr = fr
-framed-next w (Header number header) f array levels sc h fi pl follows none fr =
-    framed-same w (found_after w (Header number header)) f array levels sc h fi pl refl fr
+framed-next w (Header number header) f array levels sc h fi pl follows none fr = search (rules, framed-same)
 
 -- ---- from the frame on
 
@@ -116,18 +110,12 @@ segment-held : (bf : Before) (w : Found) (s : Segment) (sc : Bool) (h : Arrays) 
     (pl : List (Option (List ℕ))) (rest : List ℕ) → Stands w s → IsDctSegment s
     → segment_at (marker_for s) bf (reading w sc h fi pl) (sized (payload_of s) ++ rest)
     ≡ Ok (onward (reading (found_after w s) sc h fi pl), rest)
-segment-held bf w (Quantization ts) sc h fi pl rest may dct =
-    segment-read bf (reading w sc h fi pl) (Quantization ts) rest may.0 tt
-segment-held bf w (Huffman ts) sc h fi pl rest may dct =
-    segment-read bf (reading w sc h fi pl) (Huffman ts) rest may.0 tt
-segment-held bf w (Interval n) sc h fi pl rest may dct =
-    segment-read bf (reading w sc h fi pl) (Interval n) rest may.0 tt
-segment-held bf w (Application number payload) sc h fi pl rest may dct =
-    segment-read bf (reading w sc h fi pl) (Application number payload) rest may.0 tt
-segment-held bf w (Comment payload) sc h fi pl rest may dct =
-    segment-read bf (reading w sc h fi pl) (Comment payload) rest may.0 tt
-segment-held bf w (Header number header) sc h fi pl rest may dct =
-    frame-turn bf (reading w sc h fi pl) number header rest may.0 (header-accepted number header dct may.1)
+segment-held bf w (Quantization ts) sc h fi pl rest may dct = search (rules, segment-read)
+segment-held bf w (Huffman ts) sc h fi pl rest may dct = search (rules, segment-read)
+segment-held bf w (Interval n) sc h fi pl rest may dct = search (rules, segment-read)
+segment-held bf w (Application number payload) sc h fi pl rest may dct = search (rules, segment-read)
+segment-held bf w (Comment payload) sc h fi pl rest may dct = search (rules, segment-read)
+segment-held bf w (Header number header) sc h fi pl rest may dct = search (rules, frame-turn, header-accepted)
 
 segment-turn : (bf : Before) (w : Found) (s : Segment) (sc : Bool) (h : Arrays) (fi : List (List Bool))
     (pl : List (Option (List ℕ))) (met : Option Marker) (all : List ℕ) (fill : ℕ) (more tail : List ℕ)
@@ -257,9 +245,7 @@ pub record ReadHeader (array : Coefficients) (tail : List ℕ) (final : Found) (
 header-by : (array : Coefficients) (tail : List ℕ) (final : Found) (last : ℕ → Levels)
     (one two header whole : Outcome Found) → one ≡ header → two ≡ whole
     → ReadHeader array tail final last header whole → ReadHeader array tail final last one two
-header-by array tail final last one two header whole e g r =
-    subst (λ (x : Outcome Found). ReadHeader array tail final last x two) (sym e)
-    (subst (λ (x : Outcome Found). ReadHeader array tail final last header x) (sym g) r)
+header-by array tail final last one two header whole e g r = grind (arith, common_steps)
 
 frame-header : (array : Coefficients) (tail : List ℕ) (w final : Found) (last : ℕ → Levels) (turns : ℕ) (s : Segment)
     (number : ℕ) (h : FrameHeader) (more : List ℕ)
@@ -320,8 +306,7 @@ reads-header array tail w final levels last sc bytes (suc turns) good none fresh
     (scan w' final' levels' last' sc' frame fill head codings payload more framed is l x r) room =
     some-none frame w.frame framed none
 reads-header array tail w final levels last sc bytes (suc turns) good none fresh unscanned
-    (closed w' levels' frame fill framed t c) room =
-    some-none frame w.frame framed none
+    (closed w' levels' frame fill framed t c) room = some-none frame w.frame framed none
 
 -- ---- the whole
 
@@ -353,8 +338,4 @@ pub scans-read : (array : Coefficients) (tail : List ℕ) (final : Found) (last 
     → ((place row column : ℕ) → Is8Bit (array place row column))
     → (r : ReadHeader array tail final last header whole) → ReadTo r.frame array tail final last whole
 scans-read array tail final last header whole range r =
-    read-to r.frame array tail final last whole _ r.goes_on
-    (reads-scans array r.frame tail r.said final (λ k. nothing_sent) last false r.more [] nothing_finished no_planes
-    r.turns Elsewhere None (r.more ++ tail) range r.shape r.good r.framed (λ e k. refl)
-    (framed-start r.said r.frame array [] nothing_finished no_planes range refl refl) r.written
-    (stands-here (r.more ++ tail)) r.room)
+    search (rules, read-to, reads-scans, framed-start, stands-here)

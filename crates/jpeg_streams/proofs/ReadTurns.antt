@@ -1,19 +1,17 @@
 -- A turn of a written stream is read.
 use Rattle.std.proofs.Common.{rules, ◌≡◌, ◌≢◌, ℕ, zero, suc, ◌<◌, Bool, true, false, List, [], ◌∷◌, ◌++◌, map, length}
-use Rattle.std.proofs.Common.{drop, replicate, slice_index_or, is_some, option_map, Option, Some, None, Result, Ok, Err}
-use Rattle.std.proofs.Common.{refl, sym, ap, ◌∙◌, subst, arith, append_assoc, length-append}
+use Rattle.std.proofs.Common.{drop, replicate, slice_index_or, is_some, Option, Some, None, Result, Ok, Err, refl, sym}
+use Rattle.std.proofs.Common.{ap, ◌∙◌, subst, arith, append_assoc, length-append}
 use Rattle.std.proofs.lemmas.Grind.{common_steps}
 use Rattle.std.specs.List.{AllByRecursion}
-use Rattle.jpeg_bits.specs.Reading.{Fault, Malformed, ◌>>=◌, skip_at}
+use Rattle.jpeg_bits.specs.Reading.{Fault, Malformed, ◌>>=◌}
 use Rattle.jpeg_bits.specs.Codes.{Table}
 use Rattle.jpeg_bits.specs.Marker.{marker_of, next_marker}
 use Rattle.jpeg_bits.specs.declared.marker.Marker.{Marker}
 use Rattle.jpeg_bits.specs.declared.marker.Marker.TheVariants.{EOI, SOF, SOS}
-use Rattle.jpeg_segments.specs.Frame.{Frame, sof_at}
+use Rattle.jpeg_segments.specs.Frame.{Frame}
 use Rattle.jpeg_segments.specs.ScanHeader.{Scan, sos_at}
-use Rattle.jpeg_segments.specs.HuffmanTables.{Tables, dht_at}
-use Rattle.jpeg_segments.specs.Quantization.{dqt_at}
-use Rattle.jpeg_segments.specs.Application.{app_at, dri_at}
+use Rattle.jpeg_segments.specs.HuffmanTables.{Tables}
 use Rattle.jpeg_segments.specs.ScanHeaders.{scan_payload}
 use Rattle.jpeg_segments.specs.WrittenSegments.{sized, Segment, Quantization, Huffman, Interval, Application, Comment}
 use Rattle.jpeg_segments.specs.WrittenSegments.{Header, FrameHeader, MayStand, code_of, frame_written, payload_of}
@@ -36,7 +34,7 @@ use Rattle.jpeg_streams.specs.SaidSegments.{Stands, found_after}
 use Rattle.jpeg_streams.specs.Stream.{segment_at, end_segment, turn_at, segments_within}
 use Rattle.jpeg_bits.specs.declared.codes.HuffmanTableClass.{HuffmanTableClass}
 use Rattle.jpeg_segments.specs.declared.parser.CodingProcess.{CodingProcess}
-use Rattle.jpeg_segments.specs.declared.parser.CodingProcess.TheVariants.{DctSequential, DctProgressive, Lossless}
+use Rattle.jpeg_segments.specs.declared.parser.CodingProcess.TheVariants.{DctSequential, Lossless}
 use Rattle.jpeg_streams.specs.WrittenScans.{Coefficients, InForce, IsCoding, AreCodings}
 use Rattle.jpeg_streams.specs.WrittenScans.AreCodings.{no_more, and_more}
 use Rattle.jpeg_streams.specs.WrittenImages.{Writes, closed, segment, scan}
@@ -106,8 +104,7 @@ turn-next before found all rest m e = rw e refl
 -- the turn of a marker and what stands after it
 pub marker-turn : (before : Before) (found : Found) (fill code : ℕ) (m : Marker) (rest : List ℕ)
     → marker_of code ≡ Some m → turn_at before found None (marker fill code rest) ≡ segment_at m before found rest
-marker-turn before found fill code m rest h =
-    turn-next before found (marker fill code rest) rest m (next-marker fill code m rest (record { is = h }))
+marker-turn before found fill code m rest h = grind (arith, common_steps, turn-next, next-marker)
 
 met-turn : (before : Before) (found : Found) (m : Marker) (rest : List ℕ)
     → turn_at before found (Some m) rest ≡ segment_at m before found rest
@@ -123,10 +120,7 @@ stands-here bytes = record { turn = λ before found. refl }
 
 pub stands-met : (fill code : ℕ) (m : Marker) (rest : List ℕ) → marker_of code ≡ Some m
     → StandsAt (Some m) rest (marker fill code rest)
-stands-met fill code m rest h = record {
-  turn = λ before found. met-turn before found m rest
-      ∙ sym (marker-turn before found fill code m rest h);
-}
+stands-met fill code m rest h = grind (arith, common_steps, met-turn, marker-turn)
 
 pub end-turn : (before : Before) (found : Found) (rest : List ℕ) → is_some found.frame ≡ true
     → segment_at EOI before found rest ≡ Ok (
@@ -159,23 +153,11 @@ pub record Starts (bytes : List ℕ) : Type 0 where
 segment-ends : (s : Segment) → IsEnd (marker_for s)
 unfolding after_restarts
 segment-ends (Quantization ts) = λ turns bytes. refl
-segment-ends (Huffman ts) = λ turns bytes. refl
-segment-ends (Interval n) = λ turns bytes. refl
-segment-ends (Application number payload) = λ turns bytes. refl
-segment-ends (Comment payload) = λ turns bytes. refl
-segment-ends (Header number h) = λ turns bytes. refl
+segment-ends s = λ turns bytes. refl
 
 pub segment-starts : (frame : Option Frame) (fill : ℕ) (s : Segment) (more : List ℕ) → MayStand frame s
     → Starts (marker fill (code_of s) (sized (payload_of s) ++ more))
-segment-starts frame fill s more may = record {
-  fill = fill;
-  code = code_of s;
-  m = marker_for s;
-  after = sized (payload_of s) ++ more;
-  is = refl;
-  makes = segment-marker frame s may;
-  ends = segment-ends s;
-}
+segment-starts frame fill s more may = grind (arith, common_steps, segment-marker, segment-ends)
 
 pub scan-starts : (fill : ℕ) (after : List ℕ) → Starts (marker fill 218 after)
 unfolding marker_of after_restarts
@@ -198,19 +180,11 @@ scan-tail fill code header bytes more tail = search (rules, segment-tail, append
 
 pub marker-longer : (fill code n : ℕ) (bytes more : List ℕ) → length (marker fill code (bytes ++ more)) < suc n
     → length more < n
-marker-longer fill code n bytes more h =
-    omega (arith, h, length-append bytes more, length-append (replicate fill 255) (code ∷ (bytes ++ more)))
+marker-longer fill code n bytes more h = grind (arith, common_steps, length-append)
 
 pub scan-longer : (fill code n : ℕ) (header bytes more : List ℕ)
     → length (marker fill code (header ++ (bytes ++ more))) < suc n → length more < n
-scan-longer fill code n header bytes more h =
-    omega (
-      arith,
-      h,
-      length-append bytes more,
-      length-append header (bytes ++ more),
-      length-append (replicate fill 255) (code ∷ (header ++ (bytes ++ more))),
-    )
+scan-longer fill code n header bytes more h = grind (arith, common_steps, length-append)
 
 -- ---- segments other than a frame
 
@@ -222,18 +196,11 @@ IsOther _ = Unit {0}
 pub segment-read : (before : Before) (found : Found) (s : Segment) (rest : List ℕ) → MayStand found.frame s → IsOther s
     → segment_at (marker_for s) before found (sized (payload_of s) ++ rest) ≡ Ok (onward (found_after found s), rest)
 unfolding segment_at quantization_segment huffman_segment restart_segment application_segment skipped_segment
-segment-read before found (Quantization ts) rest may other =
-    read-on (dqt_at (sized (payload_of (Quantization ts)) ++ rest)) _ _ rest _ (dqt-read ts rest may) refl
-segment-read before found (Huffman ts) rest may other =
-    read-on (dht_at (option_map (λ (f : Frame). f.is_baseline) found.frame) (sized (payload_of (Huffman ts)) ++ rest)) _
-    _ rest _ (dht-read _ ts rest may) refl
-segment-read before found (Interval n) rest may other =
-    read-on (dri_at (sized (payload_of (Interval n)) ++ rest)) _ n rest _ (dri-read n rest) refl
-segment-read before found (Application number payload) rest may other =
-    read-on (app_at number (sized payload ++ rest)) _ _ rest _ (app-read number payload rest may) refl
-segment-read before found (Comment payload) rest may other =
-    sized-read payload rest _ ∙ read-on (skip_at (length payload) (payload ++ rest)) _ tt rest _
-    (skip-read payload rest) refl
+segment-read before found (Quantization ts) rest may other = grind (arith, common_steps, read-on, dqt-read)
+segment-read before found (Huffman ts) rest may other = grind (arith, common_steps, read-on, dht-read)
+segment-read before found (Interval n) rest may other = grind (arith, common_steps, read-on, dri-read)
+segment-read before found (Application number payload) rest may other = grind (arith, common_steps, read-on, app-read)
+segment-read before found (Comment payload) rest may other = search (rules, sized-read, read-on, skip-read)
 segment-read before found (Header number h) rest may other = absurd other
 
 -- a frame that is accepted is read, where none was
@@ -242,38 +209,24 @@ pub frame-turn : (before : Before) (found : Found) (number : ℕ) (h : FrameHead
     → segment_at (SOF number) before found (sized (payload_of (Header number h)) ++ rest)
     ≡ Ok (onward (found_after found (Header number h)), rest)
 unfolding segment_at frame_segment
-frame-turn before found number h rest may ok =
-    not-refused (is_some found.frame) _ _ (ap is_some may.0)
-    ∙ read-on (sof_at number (sized (payload_of (Header number h)) ++ rest)) _ (frame_written number h) rest _
-    (sof-read number h rest may.1)
-    (ap (λ (o : Result Frame Fault). o >>= λ (decoded : Frame).
-    Ok (onward (record found { frame = Some decoded }), rest)) ok)
+frame-turn before found number h rest may ok = grind (arith, common_steps, not-refused, read-on, sof-read)
 
 pub frame-stays : (said : Found) (s : Segment) → IsOther s → (found_after said s).frame ≡ said.frame
-frame-stays said (Quantization ts) other = refl
-frame-stays said (Huffman ts) other = refl
-frame-stays said (Interval n) other = refl
-frame-stays said (Application number payload) other = refl
-frame-stays said (Comment payload) other = refl
 frame-stays said (Header number h) other = absurd other
+frame-stays said s other = refl
 
 -- a frame, or none
 pub frame-or : {P : Type 0} (s : Segment) → ((number : ℕ) (h : FrameHeader) → s ≡ Header number h → P)
     → (IsOther s → P) → P
-frame-or (Quantization ts) f g = g tt
-frame-or (Huffman ts) f g = g tt
-frame-or (Interval n) f g = g tt
-frame-or (Application number payload) f g = g tt
-frame-or (Comment payload) f g = g tt
 frame-or (Header number h) f g = f number h refl
+frame-or s f g = g tt
 
 pub some-none : {P : Type 0} (f : Frame) (o : Option Frame) → o ≡ Some f → o ≡ None → P
 some-none f o e g = absurd (let n : ⊥ = cc in n)
 
 -- after the frame stands no other
 pub is-other : (said : Found) (frame : Frame) (s : Segment) → said.frame ≡ Some frame → Stands said s → IsOther s
-is-other said frame s e may =
-    frame-or s (λ number h is. some-none frame said.frame e (subst (Stands said) is may).0.0) (λ other. other)
+is-other said frame s e may = grind (arith, common_steps, frame-or, some-none)
 
 pub same-frame : (a b : Frame) (o : Option Frame) → o ≡ Some a → o ≡ Some b → a ≡ b
 same-frame a b o e f = let s : ◌≡◌ {A = Option Frame} (Some a) (Some b) = sym e ∙ f in cc
@@ -309,9 +262,8 @@ needed-some None x e = search rules
 needed-some (Some y) x e = cc
 
 first-drop : {A : Type 0} (n : ℕ) (xs : List A) (x : A) → first_of (drop n xs) ≡ Some x → At n xs x
-first-drop n [] x e = grind (arith, common_steps)
-first-drop zero (y ∷ xs) x e = cc
 first-drop (suc n) (y ∷ xs) x e = first-drop n xs x e
+first-drop n xs x e = search rules
 
 -- a coding is of a component of the frame, with its quantization table
 pub record CodingFacts (w : Found) (frame : Frame) (k : Coding) : Type 0 where
@@ -334,16 +286,13 @@ pub codings-back : (w : Found) (frame : Frame) (p : Pass) (tables : Tables) (pla
 unfolding codings_from
 codings-back w frame p tables [] [] [] codings h g e =
     subst (AreCodings w frame p tables [] [] []) (ok-same [] codings e) no_more
-codings-back w frame p tables [] (d ∷ ds) ks codings h g e = absurd (omega arith)
-codings-back w frame p tables [] [] (a ∷ ks) codings h g e = absurd (omega arith)
-codings-back w frame p tables (x ∷ places) [] ks codings h g e = absurd (omega arith)
-codings-back w frame p tables (x ∷ places) (d ∷ ds) [] codings h g e = absurd (omega arith)
 codings-back w frame p tables (x ∷ places) (d ∷ ds) (a ∷ ks) codings h g e =
     let one = bind-ok (component_coding w frame p tables x d a) _ codings e in
     let more = bind-ok (codings_from w frame p tables places ds ks) _ codings one.2 in
     subst (AreCodings w frame p tables (x ∷ places) (d ∷ ds) (a ∷ ks)) (ok-same (one.0 ∷ more.0) codings more.2)
     (and_more x d a places ds ks one.0 more.0 (coding-back w frame p tables x d a one.0 one.1)
     (codings-back w frame p tables places ds ks more.0 (omega arith) (omega arith) more.1))
+codings-back w frame p tables places ds ks codings h g e = absurd (omega arith)
 
 -- the facts of codings
 abbrev AllFacts : Found → Frame → List ℕ → List Coding → Type 0
@@ -413,11 +362,9 @@ pub codings-same_from : (w : Found) (sc : Bool) (h : Arrays) (fi : List (List Bo
     (frame : Frame) (p : Pass) (tables : Tables) (places ds ks : List ℕ)
     → codings_from (reading w sc h fi pl) frame p tables places ds ks ≡ codings_from w frame p tables places ds ks
 unfolding codings_from
-codings-same_from w sc h fi pl frame p tables [] ds ks = refl
-codings-same_from w sc h fi pl frame p tables (x ∷ places) [] ks = refl
-codings-same_from w sc h fi pl frame p tables (x ∷ places) (d ∷ ds) [] = refl
 codings-same_from w sc h fi pl frame p tables (x ∷ places) (d ∷ ds) (a ∷ ks) =
     rw (codings-same_from w sc h fi pl frame p tables places ds ks, coding-same w sc h fi pl frame p tables x d a) refl
+codings-same_from w sc h fi pl frame p tables places ds ks = refl
 
 pub tables-same : (w : Found) (sc : Bool) (h : Arrays) (fi : List (List Bool)) (pl : List (Option (List ℕ))) (s : Scan)
     → tables_of (reading w sc h fi pl) s ≡ tables_of w s
@@ -425,8 +372,7 @@ unfolding tables_of
 tables-same w sc h fi pl s = refl
 
 pub codings-same : (w : Found) (sc : Bool) (h : Arrays) (fi : List (List Bool)) (pl : List (Option (List ℕ)))
-    (frame : Frame) (s : Scan)
-    → codings_of (reading w sc h fi pl) frame s ≡ codings_of w frame s
+    (frame : Frame) (s : Scan) → codings_of (reading w sc h fi pl) frame s ≡ codings_of w frame s
 codings-same w sc h fi pl frame s = search (rules, codings-by, tables-same, codings-same_from)
 
 -- ---- a scan
@@ -434,8 +380,7 @@ codings-same w sc h fi pl frame s = search (rules, codings-by, tables-same, codi
 blocks-by : (p : CodingProcess) → p ≢ Lossless → (found : Found) (frame : Frame) (s : Scan) (bytes : List ℕ)
     → scan_by p found frame s bytes ≡ blocks_scan found frame s bytes
 blocks-by DctSequential h found frame s bytes = refl
-blocks-by DctProgressive h found frame s bytes = refl
-blocks-by Lossless h found frame s bytes = absurd (h refl)
+blocks-by p h found frame s bytes = search rules
 
 pub scan-by : (found : Found) (frame : Frame) (s : Scan) (codings : List Coding) (arrays : Arrays) (m : Marker)
     (bytes data_bytes more : List ℕ) → frame.process ≢ Lossless
@@ -448,8 +393,7 @@ pub scan-by : (found : Found) (frame : Frame) (s : Scan) (codings : List Coding)
         found = after_scan found frame s codings arrays;
         before = scan_before found;
         met = Some m;
-        ended =
-            false;
+        ended = false;
       },
       more,
     )

@@ -2,8 +2,7 @@
 use Rattle.std.proofs.Common.{rules, ◌≡◌, ◌<◌, ℕ, zero, suc, List, Result, Err, Bool, true, Option, None, refl, subst}
 use Rattle.std.proofs.Common.{arith}
 use Rattle.jpeg_bits.specs.Stream.{Stream}
-use Rattle.jpeg_bits.specs.Reading.{Outcome, Fault, Malformed, Lacks, End, Answers, Names, NamesFormat, MayFail}
-use Rattle.jpeg_bits.specs.Reading.{IsShort}
+use Rattle.jpeg_bits.specs.Reading.{Outcome, Fault, Malformed, Answers, Names, NamesFormat, MayFail, IsShort}
 use Rattle.jpeg_bits.specs.declared.error.Error.{Error}
 use Rattle.jpeg_bits.specs.declared.error.Error.TheVariants as errors
 use Rattle.jpeg_bits.specs.declared.marker.Marker.{Marker}
@@ -23,10 +22,7 @@ short-first (suc n) s first p q r = p (omega arith)
 pub told-err : {Y : Type 0} (e : Error) (outcome : Result Y Fault) (P : Type 0) → Names e outcome
     → ((f : Fault) → outcome ≡ Err f → P) → IfRefused e P
 told-err (errors.Format text) outcome P n h = h Malformed n
-told-err (errors.Unsupported feature) outcome P n h = h (Lacks feature) n
-told-err (errors.Io x) outcome P n h = h End n.0
-told-err (errors.Internal text) outcome P n h = absurd n
-told-err errors.OutOfMemory outcome P n h = tt
+told-err e outcome P n h = search rules
 
 format_fails : (e : Error) (a b : Bool) → NamesFormat e → b ≡ a → MayFail e a b
 format_fails (errors.Format text) a b n h = h

@@ -6,8 +6,7 @@ use Rattle.jpeg_bits.specs.Codes.{Table, IsTable}
 use Rattle.jpeg_segments.specs.HuffmanTables.{Tables, PlacedTable, no_tables, with_table}
 use Rattle.jpeg_streams.specs.Segments.{with_huffman, updated}
 use Rattle.jpeg_streams.specs.Found.{Found}
-use Rattle.jpeg_segments.specs.WrittenSegments.{Segment, Quantization, Huffman, Interval, Application, Comment, Header}
-use Rattle.jpeg_segments.specs.WrittenSegments.{IsHuffmanTable, MayStand, huffman_tables}
+use Rattle.jpeg_segments.specs.WrittenSegments.{Segment, Huffman, IsHuffmanTable, MayStand, huffman_tables}
 use Rattle.jpeg_streams.specs.SaidSegments.{found_after}
 
 abbrev pub IsTableOrNone : Option Table → Type 0
@@ -20,22 +19,19 @@ pub record HasTables (h : Tables) : Type 0 where
 
 set-all : {A : Type 0} (P : A → Type 0) (xs : List A) (i : ℕ) (x : A) → AllByRecursion P xs → P x
     → AllByRecursion P (set xs i x)
-set-all P [] i x all h = all
-set-all P (y ∷ xs) zero x all h = (h, all.1)
 set-all P (y ∷ xs) (suc i) x all h = (all.0, set-all P xs i x all.1 h)
+set-all P xs i x all h = search rules
 
 get-all : {A : Type 0} (P : A → Type 0) (xs : List A) (i : ℕ) (d : A) → AllByRecursion P xs → P d → P (get_or xs i d)
-get-all P [] i d all h = h
-get-all P (y ∷ xs) zero d all h = all.0
 get-all P (y ∷ xs) (suc i) d all h = get-all P xs i d all.1 h
+get-all P xs i d all h = search rules
 
 updated-all : (old new : List (Option Table)) → AllByRecursion IsTableOrNone old → AllByRecursion IsTableOrNone new
     → AllByRecursion IsTableOrNone (updated old new)
 unfolding updated
-updated-all [] new p q = tt
-updated-all (o ∷ old) [] p q = p
 updated-all (o ∷ old) (None ∷ new) p q = (p.0, updated-all old new p.1 q.1)
 updated-all (o ∷ old) (Some t ∷ new) p q = (q.0, updated-all old new p.1 q.1)
+updated-all old new p q = search rules
 
 table-all : (most : ℕ) (tables : Tables) (t : PlacedTable) → HasTables tables → IsHuffmanTable most t
     → HasTables (with_table tables t)
@@ -59,12 +55,8 @@ updated-tables old new h k = search (rules, updated-all)
 
 pub segment-tables : (found : Found) (s : Segment) → MayStand found.frame s → HasTables found.huffman
     → HasTables (found_after found s).huffman
-segment-tables found (Quantization ts) may h = h
 segment-tables found (Huffman ts) may h = search (rules, updated-tables, written-tables)
-segment-tables found (Interval n) may h = h
-segment-tables found (Application number payload) may h = h
-segment-tables found (Comment payload) may h = h
-segment-tables found (Header number header) may h = h
+segment-tables found s may h = h
 
 some-table : (o : Option Table) (t : Table) → o ≡ Some t → IsTableOrNone o → IsTable t
 some-table None t e h = absurd (let n : ⊥ = cc in n)

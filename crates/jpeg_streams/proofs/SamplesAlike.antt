@@ -1,4 +1,5 @@
 -- The picture of samples goes by the precision, the size and the sampling factors of a frame.
+use Rattle.std.proofs.lemmas.Grind.{common_steps}
 use Rattle.std.proofs.Common.{rules, arith, ◌≡◌, ℕ, ◌+◌, max, List, [], ◌∷◌, map, refl, ap, ap₂}
 use Rattle.jpeg_segments.specs.Frame.{Component, Frame, greatest}
 use Rattle.jpeg_lossless.specs.Pictures.{most_across, most_down}
@@ -21,34 +22,32 @@ vertical-same x y e = ap (λ (p : ℕ × ℕ). p.1) e
 across-alike : (xs ys : List Component) → map sampling_of xs ≡ map sampling_of ys
     → greatest (λ f. f.horizontal) (map (λ c. c.factors) xs) ≡ greatest (λ f. f.horizontal) (map (λ c. c.factors) ys)
 across-alike [] [] e = refl
-across-alike [] (y ∷ ys) e = absurd (let n : ⊥ = cc in n)
-across-alike (x ∷ xs) [] e = absurd (let n : ⊥ = cc in n)
 across-alike (x ∷ xs) (y ∷ ys) e =
     ap₂ (λ (a b : ℕ). max a b) (horizontal-same x y (first-same (sampling_of x) (sampling_of y) _ _ e))
     (across-alike xs ys (others-same (sampling_of x) (sampling_of y) _ _ e))
+across-alike xs ys e = absurd (let n : ⊥ = cc in n)
 
 down-alike : (xs ys : List Component) → map sampling_of xs ≡ map sampling_of ys
     → greatest (λ f. f.vertical) (map (λ c. c.factors) xs) ≡ greatest (λ f. f.vertical) (map (λ c. c.factors) ys)
 down-alike [] [] e = refl
-down-alike [] (y ∷ ys) e = absurd (let n : ⊥ = cc in n)
-down-alike (x ∷ xs) [] e = absurd (let n : ⊥ = cc in n)
 down-alike (x ∷ xs) (y ∷ ys) e =
     ap₂ (λ (a b : ℕ). max a b) (vertical-same x y (first-same (sampling_of x) (sampling_of y) _ _ e))
     (down-alike xs ys (others-same (sampling_of x) (sampling_of y) _ _ e))
+down-alike xs ys e = absurd (let n : ⊥ = cc in n)
 
 pixel-alike : (f g : Frame) (samples : Samples) (x y : ℕ) → f.precision ≡ g.precision
     → most_across f ≡ most_across g → most_down f ≡ most_down g → (place : ℕ) (cs ds : List Component)
     → map sampling_of cs ≡ map sampling_of ds → pixel_from f samples y x place cs ≡ pixel_from g samples y x place ds
 unfolding pixel_from
 pixel-alike f g samples x y p a d place [] [] e = refl
-pixel-alike f g samples x y p a d place [] (c ∷ cs) e = absurd (let n : ⊥ = cc in n)
-pixel-alike f g samples x y p a d place (c ∷ cs) [] e = absurd (let n : ⊥ = cc in n)
-pixel-alike f g samples x y p a d place (c ∷ cs) (b ∷ bs) e =
-    grind (
-      arith,
-      first-same (sampling_of c) (sampling_of b),
-      pixel-alike f g samples x y p a d (place + 1) cs bs (others-same (sampling_of c) (sampling_of b) _ _ e),
-    )
+pixel-alike f g samples x y p a d place (c ∷ cs) (b ∷ bs) e = grind (
+  arith,
+  common_steps,
+  first-same,
+  others-same,
+  pixel-alike f g samples x y p a d (place + 1) cs bs (others-same (sampling_of c) (sampling_of b) _ _ e),
+)
+pixel-alike f g samples x y p a d place cs bs e = absurd (let n : ⊥ = cc in n)
 
 pub pictures-alike : (f g : Frame) (samples : Samples) → f.precision ≡ g.precision → f.width ≡ g.width
     → f.height ≡ g.height → map sampling_of f.components ≡ map sampling_of g.components

@@ -47,8 +47,6 @@ all-cover : (h v width height : ℕ) (cs : List Component) (planes : List (List 
     → AllByRecursion InBlocks cs → AreWhole cs planes → sources_by h v width height cs ≡ Ok sources
     → AllReach sources width height → AllCover sources planes width height
 unfolding sources_by AreWhole AllCover
-all-cover h v width height [] planes sources inside whole e reach = search (rules, ok-same)
-all-cover h v width height (c ∷ cs) [] sources inside whole e reach = absurd whole
 all-cover h v width height (c ∷ cs) (plane ∷ planes) sources inside whole e reach =
     let one = bind-ok (source_of h v width height c) _ sources e in
     let more = bind-ok (sources_by h v width height cs) _ sources one.2 in
@@ -58,6 +56,7 @@ all-cover h v width height (c ∷ cs) (plane ∷ planes) sources inside whole e 
       covers c _ one.0 plane width height inside.0 whole.0 one.1 r.0,
       all-cover h v width height cs planes more.0 inside.1 whole.1 more.1 r.1,
     )
+all-cover h v width height cs planes sources inside whole e reach = search (rules, ok-same)
 
 -- The picture of a frame that is accepted at full size has its sources at each scale, and planes of all blocks cover
 -- it.

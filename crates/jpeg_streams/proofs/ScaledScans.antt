@@ -1,6 +1,7 @@
 -- A stream that was written for a frame is one for the frame at any scale.
+use Rattle.std.proofs.lemmas.Grind.{common_steps}
 use Rattle.std.proofs.Common.{rules, ◌≡◌, ℕ, zero, suc, ◌+◌, ◌*◌, ◌<◌, ◌==◌, Bool, true, List, [], ◌∷◌, ◌++◌, map}
-use Rattle.std.proofs.Common.{length, sum_by, sum, drop, option_map, Option, Some, refl, sym, ap, ap₂, ◌∙◌, subst, arith, mul_assoc}
+use Rattle.std.proofs.Common.{length, sum_by, sum, drop, Some, refl, sym, ap, ap₂, ◌∙◌, subst, arith, mul_assoc}
 use Rattle.std.proofs.lemmas.Bool.Decides.{leb_tells}
 use Rattle.std.proofs.Math.Nat.{mul_comm, lt_of_mul-lt-mul_right, mul-lt-mul_of_pos_right}
 use Rattle.std.specs.List.{AllByRecursion, flat_map, position}
@@ -21,9 +22,7 @@ use Rattle.jpeg_streams.specs.WrittenScans.{HasTable, IsLegalScan}
 use Rattle.jpeg_streams.specs.WrittenScans.AreCodings.{no_more, and_more}
 use Rattle.jpeg_streams.specs.WrittenImages.{Writes, closed, segment, scan}
 use Rattle.jpeg_streams.specs.SaidSegments.{Stands, found_after}
-use Rattle.jpeg_segments.specs.WrittenSegments.{sized, Segment, Quantization, Huffman, Interval, Application, Comment}
-use Rattle.jpeg_segments.specs.WrittenSegments.{Header, IsHuffmanTable}
-use Rattle.jpeg_segments.specs.HuffmanTables.{greatest_place}
+use Rattle.jpeg_segments.specs.WrittenSegments.{sized, Segment, Quantization, Huffman, Header}
 use Rattle.jpeg_bits.specs.Written.{marker}
 use Rattle.jpeg_streams.proofs.FrameShapes.{below-ceiling}
 use Rattle.jpeg_streams.proofs.ReadTurns.{frame-stays, is-other, same-frame, some-none}
@@ -35,8 +34,7 @@ same-number a b f g = search (rules, leb_tells)
 
 -- a component has as many own blocks at each scale
 pub own-same : (n m s : ℕ) → 0 < m → 0 < s → ceiling (ceiling (n * s) (m * 8)) s ≡ ceiling (ceiling n m) 8
-own-same n m s hm hs =
-    same-number (ceiling (ceiling (n * s) (m * 8)) s) (ceiling (ceiling n m) 8)
+own-same n m s hm hs = same-number (ceiling (ceiling (n * s) (m * 8)) s) (ceiling (ceiling n m) 8)
     (λ x h.
     let a = (below-ceiling x (ceiling (n * s) (m * 8)) s hs).0 h in
     let b : x * s * (m * 8) < n * s = (below-ceiling (x * s) (n * s) (m * 8) (omega arith)).0 a in
@@ -122,11 +120,10 @@ sum-same t cs ds h = sym (sum-map (λ (c : Component). t c.factors) ds) ∙ ap s
 
 pub mcu-size_same : (cs ds : List Component) → Alikes cs ds → mcu_size ds ≡ mcu_size cs
 unfolding mcu_size
-mcu-size_same cs ds none = refl
-mcu-size_same cs ds (one_more c d cs' ds' h none) = refl
 mcu-size_same cs ds (one_more c d cs' ds' h (one_more c' d' cs'' ds'' h' more)) =
     sum-same (λ t. t.horizontal * t.vertical) (c ∷ c' ∷ cs'') (d ∷ d' ∷ ds'')
     (one_more c d (c' ∷ cs'') (d' ∷ ds'') h (one_more c' d' cs'' ds'' h' more))
+mcu-size_same cs ds n = refl
 
 pub length-same : (cs ds : List Component) → Alikes cs ds → length ds ≡ length cs
 length-same cs ds none = refl
@@ -195,15 +192,13 @@ coding-alike w f g same p tables place d a k h =
       component = other.0;
       quantization = k.quantization;
       dc = k.dc;
-      ac =
-          k.ac;
+      ac = k.ac;
     } in (
       l,
       record {
         stands = h.stands;
         component = other.1;
-        quantization =
-            search rules;
+        quantization = search rules;
         dc = h.dc;
         ac = h.ac;
       },
@@ -271,18 +266,9 @@ legal-alike p levels ks ls (one_more k l ks' ls' a more) h = search (rules, lega
 segment-alike : (w : Found) (s : Segment) (f g : Frame) → SameFrame f g → w.frame ≡ Some f → Stands w s
     → Stands (at_frame w g) s × (found_after (at_frame w g) s ≡ at_frame (found_after w s) g)
 segment-alike w (Quantization ts) f g same e may = (may, refl)
-segment-alike w (Huffman ts) f g same e may = (
-  (
-    subst (λ (b : Option Bool). AllByRecursion (IsHuffmanTable (greatest_place b)) ts)
-        (ap (option_map (λ (x : Frame). x.is_baseline)) e ∙ ap (λ (b : Bool). Some b) (sym same.is_baseline)) may.0,
-    tt,
-  ),
-  refl,
-)
-segment-alike w (Interval n) f g same e may = (may, refl)
-segment-alike w (Application number payload) f g same e may = (may, refl)
-segment-alike w (Comment payload) f g same e may = (may, refl)
+segment-alike w (Huffman ts) f g same e may = grind (arith, common_steps)
 segment-alike w (Header number h) f g same e may = some-none f w.frame e may.0.0
+segment-alike w s f g same e may = (may, refl)
 
 tables-there : (w : Found) (g : Frame) (cs ds : List Component) → Alikes cs ds → AllByRecursion (HasTable w) cs
     → AllByRecursion (HasTable (at_frame w g)) ds

@@ -132,8 +132,6 @@ scale-made f m k c t =
 one-of : (s width height : ℕ) (xs : List Factors) (c : Component) → 0 < s → 0 < width → 0 < height
     → AllByRecursion IsInRange xs → map (scaled_component s width height (most_h xs) (most_v xs)) xs ≡ c ∷ []
     → (ceiling (width * s) 8 ≤ c.width) × (ceiling (height * s) 8 ≤ c.height)
-one-of s width height [] c ss w h range e = absurd (let n = ap length e in omega arith)
-one-of s width height (x ∷ y ∷ xs) c ss w h range e = absurd (let n = ap length e in omega arith)
 one-of s width height (x ∷ []) c ss w h range e =
     let hs = range.0.horizontal_some in
     let vs = range.0.vertical_some in
@@ -152,6 +150,7 @@ one-of s width height (x ∷ []) c ss w h range e =
   where
     head-same : (p q : Component) (ps qs : List Component) → ◌≡◌ {A = List Component} (p ∷ ps) (q ∷ qs) → p ≡ q
     head-same p q ps qs g = cc
+one-of s width height n c ss w h range e = absurd (let n = ap length e in omega arith)
 
 -- one component has all samples of the picture
 pub one-made : (f : Frame) (c : Component) → Made f → f.components ≡ c ∷ []

@@ -14,8 +14,7 @@ use Rattle.jpeg_streams.proofs.UpsampledFactors.{Upsampled, sources-back, source
 
 near-kept : (n m s t : ℕ) → (s ≡ 1 → t ≡ 1) → IsNear n m s → IsNear n m t
 near-kept n m s t f (inl e) = inl e
-near-kept n m s t f (inr (inl e)) = inr (inl e)
-near-kept n m s t f (inr (inr e)) = inr (inr (f e))
+near-kept n m s t f k = search rules
 
 upsampled-kept : (mh mv a b a' b' : ℕ) (x : Factors) → (a ≡ 1 → a' ≡ 1) → (b ≡ 1 → b' ≡ 1) → Upsampled mh mv a b x
     → Upsampled mh mv a' b' x
@@ -46,8 +45,7 @@ one-wide n s a b e some = search (rules, ceiling-covers, ceiling-least, some-cei
 
 -- the frame at a scale has a way to upsample each component
 pub frame-sources : (f : Frame) (s : ℕ) (sources : List Source) → Plain f → 0 < s → s ≤ 8
-    → sources_of f.components f.output_width f.output_height ≡ Ok sources
-    → (others : List Source)
+    → sources_of f.components f.output_width f.output_height ≡ Ok sources → (others : List Source)
     × (sources_of (frame_at s f).components (frame_at s f).output_width (frame_at s f).output_height ≡ Ok others)
 frame-sources f s sources o a b e =
     let m = made-at f s o a in

@@ -1,6 +1,6 @@
 -- The blocks of a scan's components, before it and after it.
 use Rattle.std.proofs.Common.{rules, arith, ◌≡◌, ℕ, zero, suc, ◌*◌, false, List, [], ◌∷◌, map, drop, length, set}
-use Rattle.std.proofs.Common.{get_or, replicate, Option, Some, Result, Ok, Err, refl, ap, ◌∙◌}
+use Rattle.std.proofs.Common.{get_or, Option, Some, Result, Ok, Err, refl, ◌∙◌}
 use Rattle.std.proofs.lemmas.Grind.{common_steps}
 use Rattle.std.specs.Prelude.{◌&&◌, if◌then◌else◌}
 use Rattle.std.specs.List.{AllByRecursion}
@@ -8,7 +8,7 @@ use Rattle.jpeg_bits.specs.Reading.{Fault}
 use Rattle.jpeg_segments.specs.Frame.{Frame, Component}
 use Rattle.jpeg_segments.specs.HuffmanTables.{Tables}
 use Rattle.jpeg_segments.specs.ScanHeader.{Scan}
-use Rattle.jpeg_bits.specs.Passes.{Pass, Block, zero_block}
+use Rattle.jpeg_bits.specs.Passes.{Pass, Block}
 use Rattle.jpeg_streams.specs.Order.{spots_of, mcu_size}
 use Rattle.jpeg_streams.specs.Scans.{Arrays, zero_arrays}
 use Rattle.jpeg_streams.specs.InTurn.{Fits, AreArrays, scan_from}
@@ -30,10 +30,8 @@ pub record IsOf (frame : Frame) (c : Coding) : Type 0 where
 
 pub first-at : (place : ℕ) (cs : List Component) (c : Component)
     → ◌≡◌ {A = Option Component} (first_of (drop place cs)) (Some c) → At place cs c
-first-at zero [] c e = cc
-first-at (suc place) [] c e = cc
-first-at zero (d ∷ cs) c e = cc
 first-at (suc place) (d ∷ cs) c e = first-at place cs c e
+first-at place cs c e = search rules
 
 abbrev pub AllOf : Frame → Result (List Coding) Fault → Type 0
 AllOf frame (Ok codings) = AllByRecursion (IsOf frame) codings
@@ -51,11 +49,9 @@ coding-of found frame p tables place d a = search (rules, first-at)
 codings-from : (found : Found) (frame : Frame) (p : Pass) (tables : Tables) (places dcs acs : List ℕ)
     → AllOf frame (codings_from found frame p tables places dcs acs)
 unfolding codings_from
-codings-from found frame p tables [] dcs acs = tt
-codings-from found frame p tables (place ∷ places) [] acs = tt
-codings-from found frame p tables (place ∷ places) (d ∷ dcs) [] = tt
 codings-from found frame p tables (place ∷ places) (d ∷ dcs) (a ∷ acs) =
     search (rules, coding-of, codings-from found frame p tables places dcs acs)
+codings-from found frame p tables places dcs acs = tt
 
 pub codings-are-of : (found : Found) (frame : Frame) (scan : Scan) → AllOf frame (codings_of found frame scan)
 unfolding codings_of
@@ -92,21 +88,18 @@ zeros-of frame (c ∷ codings) of = search (rules, zeros-at, zeros-of frame codi
 set-sized : (cs : List Component) (arrays : Arrays) (j : ℕ) (y : List Block) → length y ≡ length (get_or arrays j [])
     → AreArrays cs arrays → AreArrays cs (set arrays j y)
 unfolding AreArrays
-set-sized [] arrays j y e h = tt
-set-sized (c ∷ cs) [] j y e h = absurd h
-set-sized (c ∷ cs) (a ∷ arrays) zero y e h = (e ∙ h.0, h.1)
 set-sized (c ∷ cs) (a ∷ arrays) (suc j) y e h = (h.0, set-sized cs arrays j y e h.1)
+set-sized cs arrays j y e h = search rules
 
 -- and so do the arrays of a scan's components
 pub held-sized : (frame : Frame) (codings : List Coding) (arrays held : Arrays) → AreArrays frame.components held
     → AllByRecursion (IsOf frame) codings
     → AreArrays (components_of codings) arrays → AreArrays frame.components (put_arrays codings arrays held)
 unfolding put_arrays AreArrays
-held-sized frame [] arrays held h of k = h
-held-sized frame (c ∷ codings) [] held h of k = h
 held-sized frame (c ∷ codings) (a ∷ arrays) held h of k =
     held-sized frame codings arrays (set held c.place a)
     (grind (arith, common_steps, set-sized, sized)) of.1 k.1
+held-sized frame codings arrays held h of k = h
 
 -- ---- scans
 
@@ -114,8 +107,7 @@ held-sized frame (c ∷ codings) (a ∷ arrays) held h of k =
 pub sequential-scan : (found : Found) (frame : Frame) (scan : Scan) (c : Coding) (codings : List Coding)
     (bytes : List ℕ)
     → is_progressive frame.process ≡ false → AllByRecursion (Fits frame) frame.components
-    → AllByRecursion (IsOf frame) (c ∷ codings)
-    → scan_arrays found frame scan (c ∷ codings) bytes
+    → AllByRecursion (IsOf frame) (c ∷ codings) → scan_arrays found frame scan (c ∷ codings) bytes
     ≡ scan_by_rows (pass_of scan) (vias_from 0 (c ∷ codings)) found.restart frame (components_of (c ∷ codings)) bytes
 unfolding scan_arrays arrays_before
 sequential-scan found frame scan c codings bytes process fits of =
@@ -134,14 +126,12 @@ sequential-scan found frame scan c codings bytes process fits of =
 pub progressive-scan : (found : Found) (frame : Frame) (scan : Scan) (c : Coding) (codings : List Coding)
     (bytes : List ℕ)
     → AreArrays frame.components (arrays_before found frame) → AllByRecursion (Fits frame) frame.components
-    → AllByRecursion (IsOf frame) (c ∷ codings)
-    → scan_arrays found frame scan (c ∷ codings) bytes
+    → AllByRecursion (IsOf frame) (c ∷ codings) → scan_arrays found frame scan (c ∷ codings) bytes
     ≡ scan_from (pass_of scan) (vias_from 0 (c ∷ codings)) (found.restart * mcu_size (components_of (c ∷ codings)))
     (spots_of frame (components_of (c ∷ codings)))
     (arrays_of (c ∷ codings) (arrays_before found frame)) bytes
 unfolding scan_arrays
-progressive-scan found frame scan c codings bytes held fits of =
-    rw (
+progressive-scan found frame scan c codings bytes held fits of = rw (
     frame-scans frame (components_of (c ∷ codings)) (pass_of scan) (vias_from 0 (c ∷ codings)) (found.restart *
     mcu_size (components_of (c ∷ codings))) (arrays_of (c ∷ codings) (arrays_before found frame)) bytes (fits-of frame
     (c ∷ codings) fits of) (arrays-sized frame (c ∷ codings) (arrays_before found frame) held of)) refl

@@ -1,14 +1,12 @@
 -- What a scan header that is written says.
-use Rattle.std.proofs.Common.{rules, ◌≡◌, ◌≢◌, ℕ, ◌+◌, ◌/◌, ◌%◌, ◌<◌, ◌≤◌, nat_le, true, List, [], ◌∷◌, map, length}
-use Rattle.std.proofs.Common.{sym, subst, arith}
+use Rattle.std.proofs.Common.{rules, ◌≡◌, ◌≢◌, ℕ, ◌+◌, ◌/◌, ◌%◌, ◌<◌, ◌≤◌, true, List, [], ◌∷◌, map, length, arith}
 use Rattle.std.proofs.lemmas.Grind.{common_steps}
-use Rattle.std.proofs.lemmas.Bool.{and_parts, eqb-true, leb-true}
+use Rattle.std.proofs.lemmas.Bool.{eqb-true, leb-true}
 use lib.ListN.{length-map}
 use Rattle.jpeg_segments.specs.declared.parser.CodingProcess.TheVariants.{Lossless}
 use Rattle.jpeg_segments.specs.Frame.{Frame}
 use Rattle.jpeg_segments.specs.ScanHeader.{Selector, is_band, scan_of}
 use Rattle.jpeg_segments.specs.ScanHeaders.{AreChoices, Choice, IsScan, ScanHeader, scan_written, selector_of}
-use Rattle.jpeg_segments.specs.WrittenSegments.{nibbles}
 use Rattle.jpeg_segments.proofs.Fields.{nibbles-high, nibbles-low}
 use Rattle.jpeg_streams.specs.ScanSegments.{pass_of}
 use Rattle.jpeg_streams.proofs.PlacesApart.{IsAbsent, AreApart}
@@ -36,8 +34,7 @@ scan-is : (f : Frame) (sel : List Selector) (first last levels : ℕ) → f.proc
     → is_band f.process (length sel) first last (levels / 16) (levels % 16) ≡ true
     → PassSo f (scan_of f sel first last levels)
 unfolding scan_of pass_of
-scan-is f sel first last levels n b =
-    grind (arith, common_steps, and_parts, eqb-true, progressive-pass, nat_le, leb-true)
+scan-is f sel first last levels n b = grind (arith, common_steps, eqb-true, progressive-pass, leb-true)
 
 scan-facts : (f : Frame) (sel : List Selector) (first last levels : ℕ) → 1 ≤ length sel
     → AreApart (map (λ x. x.component) sel) → PassSo f (scan_of f sel first last levels)
@@ -48,12 +45,4 @@ scan-facts f sel first last levels h apart so = grind (arith, common_steps)
 -- What a scan header that is written says.
 pub header-facts : (f : Frame) (h : ScanHeader) → IsScan f h → f.process ≢ Lossless → ScanFacts f (scan_written f h)
 unfolding places_of
-header-facts f h is n =
-    let sel = map (selector_of f) h.choices in
-    let levels = nibbles h.high h.low in
-    let size : length sel ≡ length h.choices = length-map h.choices (selector_of f) in
-    let some = is.some in
-    let band = subst (λ (k : ℕ). is_band f.process k h.first h.last (levels / 16) (levels % 16) ≡ true) (sym size)
-    (search (rules, nibbles-high, nibbles-low)) in
-    scan-facts f sel h.first h.last levels (omega arith) (all-apart f 0 h.choices is.choices)
-    (scan-is f sel h.first h.last levels n band)
+header-facts f h is n = search (rules, length-map, nibbles-high, nibbles-low, scan-facts, all-apart, scan-is)

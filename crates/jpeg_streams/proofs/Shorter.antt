@@ -1,9 +1,10 @@
 -- What a reading of bytes leaves.
+use Rattle.std.proofs.lemmas.Grind.{common_steps}
 use Rattle.std.proofs.Common.{rules, ◌≡◌, ◌≤◌, ◌<◌, ℕ, zero, suc, List, [], ◌∷◌, Ok, Err, Bool, true, false, Option}
 use Rattle.std.proofs.Common.{Some, None, length, arith}
 use Rattle.std.specs.Prelude.{if◌then◌else◌}
 use Rattle.jpeg_bits.specs.Reading.{Outcome, Fault, ◌>>=◌, next_byte, next_u16, length_at, skip_at, times}
-use Rattle.jpeg_bits.specs.Marker.{next_marker, found_or, marker_at}
+use Rattle.jpeg_bits.specs.Marker.{next_marker, found_or}
 use Rattle.jpeg_bits.specs.declared.marker.Marker.{Marker}
 
 -- fewer bytes are left than the limit
@@ -89,8 +90,5 @@ below-more a b (Err fault) h p = tt
 
 pub marker-below : (bytes : List ℕ) → LeavesBelow (length bytes) (next_marker bytes)
 unfolding next_marker
-marker-below [] = below-err Marker _ _
-marker-below (a ∷ []) = below-err Marker _ _
-marker-below (a ∷ b ∷ rest) =
-    found-below _ (marker_at a b) rest _ (omega arith) (below-more (suc (length rest)) (suc (suc (length rest)))
-    (next_marker (b ∷ rest)) (omega arith) (marker-below (b ∷ rest)))
+marker-below (a ∷ b ∷ rest) = grind (arith, common_steps, found-below, below-more, marker-below (b ∷ rest))
+marker-below bytes = below-err Marker _ _

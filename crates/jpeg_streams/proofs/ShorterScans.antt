@@ -9,7 +9,7 @@ use Rattle.jpeg_bits.specs.Readers.{Reads, refused}
 use Rattle.jpeg_bits.specs.Codes.{Table, symbol_from}
 use Rattle.jpeg_bits.specs.declared.marker.Marker.{Marker}
 use Rattle.jpeg_bits.specs.declared.tokens.Token.{Token}
-use Rattle.jpeg_bits.specs.declared.tokens.Token.TheVariants.{Value, Sixteen, Rest, Overlong}
+use Rattle.jpeg_bits.specs.declared.tokens.Token.TheVariants.{Value}
 use Rattle.jpeg_bits.specs.Bands.{Band, category_number, difference, first_dc, token_at, token_from, after_token}
 use Rattle.jpeg_bits.specs.Bands.{first_ac}
 use Rattle.jpeg_bits.specs.Passes.{Pass, Via, Block, dc_part, band_part, block_from, blocks_of}
@@ -40,8 +40,7 @@ first_dc-stays limit table al predictor = search (rules, bind-stays, difference-
 
 token_at-stays : (limit room size r s : ℕ) → StaysBelow limit (token_at room size r s)
 unfolding token_at
-token_at-stays limit room size r s =
-    elim-stays limit (nat_lt 0 s) _ _
+token_at-stays limit room size r s = elim-stays limit (nat_lt 0 s) _ _
     (grind (arith, common_steps, elim-stays, bind-stays, signed-stays, gives-stays))
     (search (rules, elim-stays, gives-stays, bind-stays, bits-stays))
 
@@ -53,22 +52,17 @@ after-stays : (limit al : ℕ) (others : List ℤ → Reads Band) (rest : List �
     → ((rest : List ℤ) → StaysBelow limit (others rest)) → (token : Token)
     → StaysBelow limit (after_token al others rest token)
 after-stays limit al others rest h (Value r v) = search (rules, bind-stays, gives-stays)
-after-stays limit al others rest h Sixteen = search (rules, bind-stays, gives-stays)
-after-stays limit al others rest h (Rest run) = gives-stays limit _
-after-stays limit al others rest h Overlong = gives-stays limit _
+after-stays limit al others rest h n = search (rules, bind-stays, gives-stays)
 
 first_ac-stays : (limit : ℕ) (table : Table) (al n : ℕ) (rest : List ℤ) → StaysBelow limit (first_ac table al n rest)
 unfolding first_ac
-first_ac-stays limit table al n [] = gives-stays limit _
-first_ac-stays limit table al zero (x ∷ rest) = refused-stays Band limit
 first_ac-stays limit table al (suc n) (x ∷ rest) =
-    bind-stays limit (token_from table (length (x ∷ rest))) _ (token_from-stays limit table (length (x ∷ rest)))
-    (after-stays limit al (first_ac table al n) (x ∷ rest) (first_ac-stays limit table al n))
+    search (rules, bind-stays, token_from-stays, after-stays, first_ac-stays limit table al n)
+first_ac-stays limit table al n rest = search (rules, gives-stays, refused-stays)
 
 dc-stays : (limit : ℕ) (p : Pass) (dc : Table) (z predictor : ℤ) → StaysBelow limit (dc_part p dc z predictor)
 unfolding dc_part
-dc-stays limit p dc z predictor =
-    elim-stays limit (p.ss == 0) _ _
+dc-stays limit p dc z predictor = elim-stays limit (p.ss == 0) _ _
     (elim-stays limit p.is_first _ _ (first_dc-stays limit dc p.al predictor) (bind-stays limit (bits_from 1) _
     (bits-stays limit 1) (λ b. gives-stays limit _)))
     (gives-stays limit _)
@@ -89,8 +83,7 @@ piece-stays : (limit al : ℕ) (others : List ℤ → Reads Band) (rest : List �
     → ((rest : List ℤ) → StaysBelow limit (others rest)) → (r s : ℕ)
     → StaysBelow limit (refined_piece al others rest r s)
 unfolding refined_piece
-piece-stays limit al others rest h r zero =
-    elim-stays limit (r == 15) _ _
+piece-stays limit al others rest h r zero = elim-stays limit (r == 15) _ _
     (search (rules, bind-stays, corrected-stays, gives-stays))
     (search (rules, bind-stays, bits-stays, corrected-stays, gives-stays))
 piece-stays limit al others rest h r (suc zero) = search (rules, bind-stays, bits-stays, corrected-stays, gives-stays)
@@ -99,10 +92,9 @@ piece-stays limit al others rest h r (suc (suc s)) = refused-stays Band limit
 refined_ac-stays : (limit : ℕ) (table : Table) (al n : ℕ) (rest : List ℤ)
     → StaysBelow limit (refined_ac table al n rest)
 unfolding refined_ac
-refined_ac-stays limit table al n [] = gives-stays limit _
-refined_ac-stays limit table al zero (x ∷ rest) = refused-stays Band limit
 refined_ac-stays limit table al (suc n) (x ∷ rest) =
     search (rules, bind-stays, symbol-stays, piece-stays, refined_ac-stays limit table al n)
+refined_ac-stays limit table al n rest = search (rules, gives-stays, refused-stays)
 
 band-stays : (limit : ℕ) (p : Pass) (ac : Table) (band : List ℤ) (run : ℕ) → StaysBelow limit (band_part p ac band run)
 unfolding band_part

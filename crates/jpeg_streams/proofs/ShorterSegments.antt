@@ -14,7 +14,7 @@ use Rattle.jpeg_segments.specs.declared.parser.AdobeColorTransform.{AdobeColorTr
 use Rattle.jpeg_segments.specs.Quantization as quantization
 use Rattle.jpeg_segments.specs.Quantization.{table_size, value_at, table_at, placed_table_at, dqt_at}
 use Rattle.jpeg_segments.specs.HuffmanTables as huffman
-use Rattle.jpeg_segments.specs.HuffmanTables.{symbols_at, codes_at, placed_codes_at, dht_at, greatest_place, class_of}
+use Rattle.jpeg_segments.specs.HuffmanTables.{symbols_at, codes_at, placed_codes_at, dht_at, class_of}
 use Rattle.jpeg_streams.proofs.Shorter.{LeavesBelow, below-ok, below-err, below-cond, below-else, below-then}
 use Rattle.jpeg_streams.proofs.Shorter.{below-bind, byte-below, u16-below, length-below, skip-below, times-below}
 
@@ -131,8 +131,7 @@ huffman-below : (limit most greatest left : ℕ) (tables : huffman.Tables) (byte
     → LeavesBelow limit (huffman.tables_from most greatest left tables bytes)
 unfolding huffman.tables_from
 huffman-below limit zero greatest left tables bytes h = below-then limit _ _ _ (below-ok limit _ bytes h)
-huffman-below limit (suc most) greatest left tables bytes h =
-    below-cond limit _ _ _
+huffman-below limit (suc most) greatest left tables bytes h = below-cond limit _ _ _
     (below-bind limit limit (placed_codes_at greatest left bytes) _ (placed_codes-below limit greatest left bytes h)
     (λ t p. huffman-below limit most greatest _ _ t.1 p))
     (below-then limit _ _ _ (below-ok limit _ bytes h))

@@ -26,9 +26,8 @@ pub record IsBelow (limit : ℕ) (t : Text) : Type 0 where
   pub ending : EndsBelow limit t.ending
 
 drop-below : (limit n : ℕ) (ps : List (List ℕ)) → AllBelow limit ps → AllBelow limit (drop n ps)
-drop-below limit zero ps h = h
-drop-below limit (suc n) [] h = tt
 drop-below limit (suc n) (p ∷ ps) h = drop-below limit n ps h.1
+drop-below limit n ps h = search rules
 
 repeated-below : (limit n : ℕ) (p : List ℕ) (ps : List (List ℕ)) → length p < limit → AllBelow limit ps
     → AllBelow limit (replicate n p ++ ps)
@@ -59,14 +58,12 @@ cond-below limit false x y p q = q
 
 text-below : (limit : ℕ) (bytes : List ℕ) → length bytes < limit → IsBelow limit (text_at bytes)
 unfolding text_at
-text-below limit [] h = no_bits-below limit _ tt
-text-below limit (b ∷ []) h = search (rules, cond-below, no_bits-below, add-below)
-text-below limit (b ∷ c ∷ rest) h =
-    cond-below limit (b == 255) _ _
+text-below limit (b ∷ c ∷ rest) h = cond-below limit (b == 255) _ _
     (cond-below limit (c == 0) _ _ (add-below limit 255 rest (text_at rest) (omega arith)
     (text-below limit rest (omega arith)))
     (no_bits-below limit _ (ending-below limit (filled_end (c ∷ rest)) (omega (arith, filled-shorter (c ∷ rest))))))
     (add-below limit b (c ∷ rest) (text_at (c ∷ rest)) (omega arith) (text-below limit (c ∷ rest) (omega arith)))
+text-below limit bytes h = search (rules, no_bits-below, cond-below, add-below)
 
 pub upcoming-below : (limit : ℕ) (bytes : List ℕ) → length bytes < limit → IsBelow limit (upcoming fresh bytes)
 unfolding upcoming

@@ -1,7 +1,7 @@
 -- A frame that was sized is sized again as if it had not been.
 use Rattle.std.proofs.Common.{rules, ◌≡◌, ℕ, refl}
 use Rattle.jpeg_segments.specs.declared.parser.CodingProcess.{CodingProcess}
-use Rattle.jpeg_segments.specs.declared.parser.CodingProcess.TheVariants.{DctProgressive, DctSequential, Lossless}
+use Rattle.jpeg_segments.specs.declared.parser.CodingProcess.TheVariants.{DctSequential}
 use Rattle.jpeg_segments.specs.Frame.{Frame}
 use Rattle.jpeg_segments.specs.Scales.{frame_at, scale_for, sized, sized_by}
 use Rattle.jpeg_segments.proofs.ScaleLemmas.{scaled_again}
@@ -11,8 +11,7 @@ use Rattle.jpeg_streams.specs.Found.{Found}
 process-kept : (p : CodingProcess) (width height : ℕ) (f : Frame) → (sized_by p width height f).process ≡ f.process
 unfolding frame_at
 process-kept DctSequential width height f = refl
-process-kept DctProgressive width height f = refl
-process-kept Lossless width height f = refl
+process-kept p width height f = refl
 
 same-scale : (s width height : ℕ) (f : Frame)
     → scale_for (frame_at s f).width (frame_at s f).height width height ≡ scale_for f.width f.height width height
@@ -27,8 +26,7 @@ frame-again s width height f = search (rules, same-scale, scaled_again)
 by-again : (p : CodingProcess) (width height other_width other_height : ℕ) (f : Frame)
     → sized_by p width height (sized_by p other_width other_height f) ≡ sized_by p width height f
 by-again DctSequential width height other_width other_height f = search (rules, frame-again)
-by-again DctProgressive width height other_width other_height f = search (rules, frame-again)
-by-again Lossless width height other_width other_height f = refl
+by-again p width height other_width other_height f = search (rules, frame-again)
 
 sized-again : (width height other_width other_height : ℕ) (f : Frame)
     → sized width height (sized other_width other_height f) ≡ sized width height f

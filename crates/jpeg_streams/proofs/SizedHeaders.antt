@@ -14,8 +14,7 @@ unfolding sized_header_at
 header-is width height bytes = refl
 
 pub sized-read : (width height : ℕ) (bytes rest : List ℕ) (found new : Found) → header_at bytes ≡ Ok (found, rest)
-    → new ≡ sized_to width height found
-    → sized_header_at width height bytes ≡ Ok (new, rest)
+    → new ≡ sized_to width height found → sized_header_at width height bytes ≡ Ok (new, rest)
 sized-read width height bytes rest found new e n = search (rules, header-is)
 
 pub sized-refused : (width height : ℕ) (bytes : List ℕ) (fault : Fault) → header_at bytes ≡ Err fault

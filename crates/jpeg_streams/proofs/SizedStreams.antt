@@ -96,8 +96,7 @@ header-so : (bytes rest : List ℕ) → start_at bytes ≡ Ok (tt, rest)
 unfolding header_at
 header-so bytes rest e = then-ok (start_at bytes) _ (tt, rest) _ e refl
 
-rest-within : (found : Found) (bytes : List ℕ)
-    → segments_at false Elsewhere found None bytes
+rest-within : (found : Found) (bytes : List ℕ) → segments_at false Elsewhere found None bytes
     ≡ segments_within (suc (length bytes)) false Elsewhere found None bytes
 unfolding segments_at
 rest-within found bytes = refl

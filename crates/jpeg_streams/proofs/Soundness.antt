@@ -90,8 +90,7 @@ unfolding arrays_before
 before-same old new f b c = rw (b, c) refl
 
 pub sound_kept : (old new : Found) → IsSound old → new.frame ≡ old.frame → new.scanned ≡ old.scanned
-    → new.held ≡ old.held → new.planes ≡ old.planes
-    → new.samples ≡ old.samples → IsSound new
+    → new.held ≡ old.held → new.planes ≡ old.planes → new.samples ≡ old.samples → IsSound new
 sound_kept old new p a b c d s = record {
   frames = λ f e. p.frames f (sym a ∙ e);
   held = λ f e. subst (AreArrays f.components) (sym (before-same old new f b c)) (p.held f (sym a ∙ e));
@@ -126,13 +125,12 @@ zeros-before found x e = search (rules, cond, zeros-sized)
 pub sound-frame : (found : Found) (f : Frame) → IsDecodedFrame f → found.scanned ≡ false
     → found.planes ≡ replicate 4 None
     → found.samples ≡ replicate 4 None → IsSound (record found { frame = Some f })
-sound-frame found f p e n s =
-    grind (
-      arith,
-      zeros-before (record found { frame = Some f }) f e,
-      no-planes f.components (count-few (length f.components) (decoded-count f p)).1,
-      no-samples f.components (count-few (length f.components) (decoded-count f p)).1,
-    )
+sound-frame found f p e n s = grind (
+  arith,
+  zeros-before (record found { frame = Some f }) f e,
+  no-planes f.components (count-few (length f.components) (decoded-count f p)).1,
+  no-samples f.components (count-few (length f.components) (decoded-count f p)).1,
+)
 
 pub sound-framed : (found : Found) (f : Frame) → IsSound found → is_some found.frame ≡ false → IsFrame f
     → accepted f ≡ Ok f → IsSound (record found { frame = Some f })

@@ -1,11 +1,9 @@
 -- The tables in force exist.
-use Rattle.std.proofs.Common.{rules, ℕ, Bool, true, false, cond, List, [], ◌∷◌, Option, Some, None, refl, sym, subst}
-use Rattle.std.proofs.Common.{arith}
+use Rattle.std.proofs.Common.{rules, ℕ, Bool, true, false, List, [], ◌∷◌, Option, None, refl, sym, subst, arith}
 use Rattle.std.specs.List.{AllByRecursion}
 use Rattle.jpeg_bits.specs.Codes.{Table, IsTable}
 use Rattle.jpeg_bits.specs.declared.codes.HuffmanTableClass.{HuffmanTableClass}
-use Rattle.jpeg_bits.specs.DefaultTables.{luminance_dc, chrominance_dc, luminance_ac, chrominance_ac, with_defaults}
-use Rattle.jpeg_bits.specs.DefaultTables.{filled, names}
+use Rattle.jpeg_bits.specs.DefaultTables.{with_defaults, filled}
 use Rattle.jpeg_bits.proofs.DefaultTables.{luminance-dc-codes, chrominance-dc-codes, luminance-ac-codes}
 use Rattle.jpeg_bits.proofs.DefaultTables.{chrominance-ac-codes}
 use Rattle.jpeg_segments.specs.Frame.{Frame}
@@ -27,34 +25,17 @@ tables-start = no-tables
 good-filled : (default : Table) (b : Bool) (o : Option Table) → IsTable default → IsTableOrNone o
     → IsTableOrNone (filled default b o)
 good-filled default true None h k = h
-good-filled default false None h k = tt
-good-filled default b (Some t) h k = k
+good-filled default b o h k = search rules
 
 good-defaults : (one two : Table) (places : List ℕ) (l : List (Option Table)) → IsTable one → IsTable two
     → AllByRecursion IsTableOrNone l → AllByRecursion IsTableOrNone (with_defaults one two places l)
 good-defaults one two places [] a b h = tt
-good-defaults one two places (x ∷ []) a b h = (good-filled one (names places 0) x a h.0, tt)
-good-defaults one two places (x ∷ y ∷ more) a b h = search (rules, good-filled)
+good-defaults one two places l a b h = search (rules, good-filled)
 
 in-force : (w : Found) (s : Scan) → HasTables w.huffman → HasTables (tables_of w s)
 unfolding tables_of
-in-force w s good = go w.metadata.avi1
-  where
-    go : (b : Bool) → HasTables
-        (cond b (record {
-          dc = with_defaults luminance_dc chrominance_dc s.dc_places w.huffman.dc;
-          ac =
-              with_defaults luminance_ac chrominance_ac s.ac_places w.huffman.ac;
-        }) w.huffman)
-    go true = record {
-      dc = good-defaults luminance_dc chrominance_dc s.dc_places w.huffman.dc
-          (record { counted = refl; exists = luminance-dc-codes.exist })
-          (record { counted = refl; exists = chrominance-dc-codes.exist }) good.dc;
-      ac = good-defaults luminance_ac chrominance_ac s.ac_places w.huffman.ac
-          (record { counted = refl; exists = luminance-ac-codes.exist })
-          (record { counted = refl; exists = chrominance-ac-codes.exist }) good.ac;
-    }
-    go false = good
+in-force w s good =
+    search (rules, good-defaults, luminance-dc-codes, chrominance-dc-codes, luminance-ac-codes, chrominance-ac-codes)
 
 none-good : (class : HuffmanTableClass) → IsTable (no_table class)
 none-good class = record { counted = refl; exists = λ i h. absurd (let n = no-codes class in omega arith) }

@@ -123,8 +123,7 @@ dc_legal true first al l = ac_legal first al l
 dc_legal false first al l = is_some l
 
 abbrev is_legal : Pass → Levels → Bool
-is_legal p l =
-    nat_le p.al 7 && (dc_legal (p.ss == 0) p.is_first p.al l.dc
+is_legal p l = nat_le p.al 7 && (dc_legal (p.ss == 0) p.is_first p.al l.dc
     && list_all (ac_legal p.is_first p.al) (band_of p l.acs))
 
 none-is : (o : Option ℕ) → not (is_some o) ≡ true → o ≡ None
@@ -169,9 +168,8 @@ range-by b e = search (rules, unsigned_abs, nat_tests, ints, all-by, leb-true)
 
 -- the blocks in the columns of a line
 pub range-in : (blocks : List Block) → list_all is_8_bit blocks ≡ true → (column : ℕ) → Is8Bit (in_column blocks column)
-range-in [] e column = range-by _ refl
-range-in (b ∷ blocks) e zero = range-by b (and_parts (is_8_bit b) _ e).0
 range-in (b ∷ blocks) e (suc column) = range-in blocks (and_parts (is_8_bit b) _ e).1 column
+range-in blocks e column = search (rules, range-by)
 
 -- the bits of an interval, and what is left of its last byte
 pub interval-by : (p : Pass) (turns : List (Via × Block)) (bits : List Bool) (data_bytes : List ℕ)

@@ -21,10 +21,7 @@ told-start header bytes rest h = rw (h, told_by_stream) refl
 
 refused-through : (e : Error) (P Q : Type 0) → (P → Q) → IfRefused e P → IfRefused e Q
 refused-through (errors.Format text) P Q f h = f h
-refused-through (errors.Unsupported feature) P Q f h = f h
-refused-through (errors.Io x) P Q f h = f h
-refused-through (errors.Internal text) P Q f h = f h
-refused-through errors.OutOfMemory P Q f h = tt
+refused-through e P Q f h = search rules
 
 -- what a part of a call left
 pub told-through : {X : Type 0} (old mid new : Stream) (r : Result X Error) (P Q : Type 0)

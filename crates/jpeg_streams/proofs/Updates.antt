@@ -12,41 +12,35 @@ use Rattle.std.proofs.lemmas.Bool.{and_parts}
 pub updated-set : {A : Type 0} (xs ys : List (Option A)) (i : ℕ) (t : A) → i < length xs → i < length ys
     → get_or ys i None ≡ Some t → updated (set xs i (Some t)) (set ys i None) ≡ updated xs ys
 unfolding updated
-updated-set [] ys i t p q e = absurd (omega arith)
-updated-set (x ∷ xs) [] i t p q e = absurd (omega arith)
-updated-set (x ∷ xs) (y ∷ ys) zero t p q e = rw e refl
 updated-set (x ∷ xs) (None ∷ ys) (suc i) t p q e = ap (λ r. x ∷ r) (updated-set xs ys i t (omega arith) (omega arith) e)
 updated-set (x ∷ xs) (Some s ∷ ys) (suc i) t p q e = rw (updated-set xs ys i t (omega arith) (omega arith) e) refl
+updated-set xs ys i t p q e = search rules
 
 -- where no table is left, nothing changes
 pub updated-none : {A : Type 0} (xs ys : List (Option A)) → ((k : ℕ) → k < length xs → get_or ys k None ≡ None)
     → updated xs ys ≡ xs
 unfolding updated
-updated-none [] ys h = refl
-updated-none (x ∷ xs) [] h = refl
 updated-none (x ∷ xs) (None ∷ ys) h = ap (λ r. x ∷ r) (updated-none xs ys (λ k lt. h (suc k) (omega arith)))
 updated-none (x ∷ xs) (Some s ∷ ys) h = let e : Some s ≡ None = h 0 (omega arith) in absurd (let n : ⊥ = cc in n)
+updated-none xs ys h = refl
 
 -- no table to move
 pub updated-keep : {A : Type 0} (xs ys : List (Option A)) (i : ℕ) → get_or ys i None ≡ None
     → updated xs (set ys i None) ≡ updated xs ys
 unfolding updated
-updated-keep [] ys i e = refl
-updated-keep (x ∷ xs) [] i e = refl
-updated-keep (x ∷ xs) (y ∷ ys) zero e = rw e refl
 updated-keep (x ∷ xs) (None ∷ ys) (suc i) e = ap (λ r. x ∷ r) (updated-keep xs ys i e)
 updated-keep (x ∷ xs) (Some s ∷ ys) (suc i) e = ap (λ r. Some s ∷ r) (updated-keep xs ys i e)
+updated-keep xs ys i e = search rules
 
 -- each table stays of class AC
 pub all_ac-updated : (xs ys : List (Option Table)) → all_ac xs ≡ true → all_ac ys ≡ true → all_ac (updated xs ys) ≡ true
 unfolding updated
-all_ac-updated [] ys p q = refl
-all_ac-updated (x ∷ xs) [] p q = p
 all_ac-updated (x ∷ xs) (None ∷ ys) p q =
     rw (and_parts (is_ac_or_none x) (all_ac xs) p).0 (all_ac-updated xs ys (and_parts (is_ac_or_none x) (all_ac xs) p).1 q)
 all_ac-updated (x ∷ xs) (Some s ∷ ys) p q =
     rw (and_parts (is_ac s.class) (all_ac ys) q).0 (all_ac-updated xs ys (and_parts (is_ac_or_none x) (all_ac xs) p).1
     (and_parts (is_ac s.class) (all_ac ys) q).1)
+all_ac-updated xs ys p q = search rules
 
 -- a place is moved
 pub moved-some : {A : Type 0} (xs ys xs' ys' : List (Option A)) (i : ℕ) (found d v : Option A) (t : A) → i < length xs

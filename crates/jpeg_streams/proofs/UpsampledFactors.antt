@@ -1,7 +1,7 @@
 -- Components whose factors can be upsampled have a way to upsample them, and no others.
 use Rattle.std.proofs.Common.{rules, ◌≡◌, ◌⊎◌, inl, inr, ℕ, ◌*◌, ◌%◌, ◌==◌, ◌&&◌, ◌||◌, Bool, true, false, List, []}
 use Rattle.std.proofs.Common.{◌∷◌, Option, Some, None, Ok, refl, sym, ap, if◌then◌else◌, true≢false}
-use Rattle.std.proofs.lemmas.Bool.{and_parts, eqb-true, eq-eqb, and_from as and-true, or_left, or_right}
+use Rattle.std.proofs.lemmas.Bool.{and_parts, eqb-true, eq-eqb, and_from as and-true, or_left}
 use Rattle.std.specs.List.{AllByRecursion}
 use Rattle.jpeg_bits.specs.Reading.{Lacks}
 use Rattle.jpeg_segments.specs.Frame.{Component, Factors}
@@ -15,17 +15,12 @@ use Rattle.jpeg_streams.proofs.ReadTurns.{bind-ok, err-ok, then-ok}
 -- ---- a rule by its tests
 
 abbrev pick : Bool → Bool → Bool → Bool → Bool → UpsampleRule → Option UpsampleRule
-pick a b c d e last =
-    if a then Some H1V1 else
+pick a b c d e last = if a then Some H1V1 else
     (if b then Some H2V1 else (if c then Some H1V2 else (if d then Some H2V2 else (if e then Some last else None))))
 
 pick-test : (a b c d e : Bool) (l r : UpsampleRule) → pick a b c d e l ≡ Some r → (a || (b || (c || (d || e)))) ≡ true
-pick-test true b c d e l r h = refl
-pick-test false true c d e l r h = refl
-pick-test false false true d e l r h = refl
-pick-test false false false true e l r h = refl
-pick-test false false false false true l r h = refl
 pick-test false false false false false l r h = search rules
+pick-test a b c d e l r h = refl
 
 pick-some : (a b c d e : Bool) (l : UpsampleRule) → (a || (b || (c || (d || e)))) ≡ true
     → (r : UpsampleRule) × (pick a b c d e l ≡ Some r)
@@ -41,16 +36,12 @@ pick-some false false false false false l h = absurd (true≢false (sym h))
 -- near is at most a half, by the tests of a rule
 near-test : (n m s : ℕ) → IsNear n m s → ((n == m || s == 1) ≡ true) ⊎ ((2 * n == m) ≡ true)
 near-test n m s (inl e) = inl (or_left (n == m) (s == 1) (eq-eqb n m e))
-near-test n m s (inr (inl e)) = inr (eq-eqb (2 * n) m e)
-near-test n m s (inr (inr e)) = inl (or_right (n == m) (s == 1) (eq-eqb s 1 e))
+near-test n m s k = search (rules, eq-eqb)
 
 any-test : (h1 h2 v1 v2 e : Bool) → ((h1 ≡ true) ⊎ (h2 ≡ true)) × ((v1 ≡ true) ⊎ (v2 ≡ true)) ⊎ (e ≡ true)
     → (h1 && v1 || (h2 && v1 || (h1 && v2 || (h2 && v2 || e)))) ≡ true
 any-test h1 h2 v1 v2 e (inl (inl a, inl b)) = or_left (h1 && v1) _ (and-true h1 v1 a b)
-any-test h1 h2 v1 v2 e (inl (inr a, inl b)) = or_right (h1 && v1) _ (or_left (h2 && v1) _ (and-true h2 v1 a b))
-any-test h1 h2 v1 v2 e (inl (inl a, inr b)) = search (rules, or_right, or_left, and-true)
-any-test h1 h2 v1 v2 e (inl (inr a, inr b)) = search (rules, or_right, or_left, and-true)
-any-test h1 h2 v1 v2 e (inr a) = search (rules, or_right)
+any-test h1 h2 v1 v2 e n = search (rules, and-true)
 
 -- the greatest factors, and the size of the picture
 abbrev pub Upsampled : ℕ → ℕ → ℕ → ℕ → Factors → Type 0
@@ -91,17 +82,7 @@ near-by n m s (inl e) = search (rules, either, eqb-true)
 tests-back : (h1 h2 v1 v2 e : Bool) → (h1 && v1 || (h2 && v1 || (h1 && v2 || (h2 && v2 || e)))) ≡ true
     → ((h1 ≡ true) ⊎ (h2 ≡ true)) × ((v1 ≡ true) ⊎ (v2 ≡ true)) ⊎ (e ≡ true)
 tests-back h1 h2 v1 v2 true f = inr refl
-tests-back true h2 true v2 false f = inl (inl refl, inl refl)
-tests-back true h2 false true false f = inl (inl refl, inr refl)
-tests-back false true true v2 false f = inl (inr refl, inl refl)
-tests-back false true false true false f = inl (inr refl, inr refl)
-tests-back true true false false false f = absurd (true≢false (sym f))
-tests-back true false false false false f = absurd (true≢false (sym f))
-tests-back false true false false false f = absurd (true≢false (sym f))
-tests-back false false true true false f = absurd (true≢false (sym f))
-tests-back false false true false false f = absurd (true≢false (sym f))
-tests-back false false false true false f = absurd (true≢false (sym f))
-tests-back false false false false false f = absurd (true≢false (sym f))
+tests-back h1 h2 v1 v2 e f = search rules
 
 rule-back : (most_h most_v width height : ℕ) (c : Factors) (r : UpsampleRule)
     → rule_of c.horizontal c.vertical most_h most_v width height ≡ Some r → Upsampled most_h most_v width height c

@@ -11,7 +11,7 @@ use Rattle.jpeg_pixels.specs.Planes.{plane_of}
 use Rattle.jpeg_streams.specs.Levels.{Levels, Is8Bit, cut, cut_acs, floor_at, toward_zero}
 use lib.ListN.{length-map}
 use Rattle.jpeg_segments.specs.declared.parser.CodingProcess.{CodingProcess}
-use Rattle.jpeg_segments.specs.declared.parser.CodingProcess.TheVariants.{DctSequential, DctProgressive, Lossless}
+use Rattle.jpeg_segments.specs.declared.parser.CodingProcess.TheVariants.{DctSequential}
 use Rattle.jpeg_segments.specs.Scales.{frame_at, sized_by}
 use Rattle.jpeg_streams.specs.Stream.{sized_to}
 use Rattle.jpeg_streams.specs.ScanSegments.{is_progressive}
@@ -44,10 +44,8 @@ toward-whole (negsuc n) = ap (λ (k : ℕ). neg_ℤ (pos k)) (over-one (suc n))
 acs-whole : (cs : List ℤ) (ls : List (Option ℕ)) → length cs ≡ length ls → AllByRecursion (λ x. x ≡ Some 0) ls
     → cut_acs cs ls ≡ cs
 unfolding cut_acs
-acs-whole [] [] h all = refl
-acs-whole [] (l ∷ ls) h all = absurd (omega arith)
-acs-whole (c ∷ cs) [] h all = absurd (omega arith)
 acs-whole (c ∷ cs) (l ∷ ls) h all = search (rules, times-one, toward-whole, acs-whole cs ls (omega arith) all.1)
+acs-whole cs ls h all = search rules
 
 pub cut-whole : (l : Levels) (c : Block) → IsComplete l → length c.acs ≡ length l.acs → cut l c ≡ c
 cut-whole l c done h = search (rules, times-one, floor-whole, acs-whole)
@@ -100,8 +98,7 @@ sequential-complete : (array : Coefficients) (said final : Found) (levels last :
     (bytes : List ℕ) (frame : Frame) → Writes array said levels scanned bytes final last
     → final.frame ≡ Some frame → is_progressive frame.process ≡ false → AllComplete frame last
 sequential-complete array said final levels last scanned bytes frame
-    (closed said' levels' f fill framed tables complete) e n =
-    search (rules, same-frame)
+    (closed said' levels' f fill framed tables complete) e n = search (rules, same-frame)
 sequential-complete array said final levels last scanned bytes frame
     (segment said' final' levels' last' scanned' fill s more may dct follows w) e n =
     sequential-complete array _ final levels last scanned more frame w e n
@@ -126,8 +123,7 @@ sized-count : (width height : ℕ) (p : CodingProcess) (frame : Frame)
     → length (sized_by p width height frame).components ≡ length frame.components
 unfolding frame_at
 sized-count width height DctSequential frame = length-map frame.components _
-sized-count width height DctProgressive frame = length-map frame.components _
-sized-count width height Lossless frame = refl
+sized-count width height p frame = search (rules, length-map)
 
 pub sized-whole : (width height : ℕ) (settings : Settings) (array : Coefficients) (bytes tail : List ℕ)
     (final : Found) (last : ℕ → Levels) (frame : Frame) → ((place row column : ℕ) → Is8Bit (array place row column))

@@ -11,12 +11,10 @@ use Rattle.jpeg_streams.proofs.WrittenIntervals.{first-map, others-map}
 
 groups-whole : (turns n : ℕ) (xs : List Spot) → length xs ≤ turns → all_of (groups turns (suc n) xs) ≡ xs
 unfolding groups
-groups-whole turns n [] h = refl
-groups-whole zero n (x ∷ xs) h = absurd (omega arith)
-groups-whole (suc turns) n (x ∷ xs) h =
-    ap (λ (l : List Spot). take (suc n) (x ∷ xs) ++ l)
+groups-whole (suc turns) n (x ∷ xs) h = ap (λ (l : List Spot). take (suc n) (x ∷ xs) ++ l)
     (groups-whole turns n (drop (suc n) (x ∷ xs)) (let d = length-drop (suc n) (x ∷ xs) in omega arith))
     ∙ take-append-drop (suc n) (x ∷ xs)
+groups-whole turns n xs h = search rules
 
 -- the groups are the list
 pub whole-again : (n : ℕ) (xs : List Spot) → first_group n xs ++ all_of (other_groups n xs) ≡ xs

@@ -86,18 +86,12 @@ sent_at slot index = block_for codings colour_array (record { slot = slot; index
 own-sent : (slot index : ℕ) → IsOwn (grid_at (components_of codings) slot) index
     → sent_at slot index ≡ block_for codings colour_array (record { slot = slot; index = index })
 unfolding sent_at component_of
-own-sent zero zero own = refl
-own-sent zero (suc zero) own = refl
-own-sent zero (suc (suc zero)) own = refl
 own-sent zero (suc (suc (suc zero))) own = absurd (let h : 3 % 4 < 3 = own.column in omega arith)
-own-sent zero (suc (suc (suc (suc index)))) own = refl
-own-sent (suc slot) index own = refl
+own-sent slot index own = refl
 
 colour-range : (place row column : ℕ) → Is8Bit (colour_array place row column)
 colour-range zero row column = range-in (get_or colour_blocks 0 []) refl column
-colour-range (suc zero) row column = range-in (get_or colour_blocks 1 []) refl column
-colour-range (suc (suc zero)) row column = range-in (get_or colour_blocks 2 []) refl column
-colour-range (suc (suc (suc place))) row column = range-in [] refl column
+colour-range place row column = search (rules, range-in)
 
 for-range : (s : Spot) → Is8Bit (block_for codings colour_array s)
 for-range s = search (rules, colour-range)
@@ -105,11 +99,7 @@ for-range s = search (rules, colour-range)
 sent-range : (slot index : ℕ) → Is8Bit (sent_at slot index)
 unfolding sent_at
 sent-range zero zero = for-range (record { slot = 0; index = 0 })
-sent-range zero (suc zero) = for-range (record { slot = 0; index = 1 })
-sent-range zero (suc (suc zero)) = for-range (record { slot = 0; index = 2 })
-sent-range zero (suc (suc (suc zero))) = range-by (flat_block (negsuc 0)) refl
-sent-range zero (suc (suc (suc (suc index)))) = for-range (record { slot = 0; index = suc (suc (suc (suc index))) })
-sent-range (suc slot) index = for-range (record { slot = suc slot; index = index })
+sent-range slot index = search (rules, for-range, range-by)
 
 -- ---- codes
 

@@ -76,14 +76,13 @@ abbrev header_4 : ScanHeader
 header_4 = scan_header 1 63 1 0
 
 abbrev codings : Table → Table → List Coding
-codings dc ac =
-    (record {
-      place = 0;
-      component = component_of 24 8 1 1 factors;
-      quantization = replicate 64 16;
-      dc = dc;
-      ac = ac;
-    }) ∷ []
+codings dc ac = (record {
+  place = 0;
+  component = component_of 24 8 1 1 factors;
+  quantization = replicate 64 16;
+  dc = dc;
+  ac = ac;
+}) ∷ []
 
 abbrev dc_codings : List Coding
 dc_codings = codings dc_table (no_table classes.AC)
@@ -258,8 +257,7 @@ grey-written = record {
   written = record {
     after = _;
     starts = refl;
-    written =
-        segment nothing_found said _ sent_4 false 0 (Quantization (table_of_one 0 16 ∷ [])) _
+    written = segment nothing_found said _ sent_4 false 0 (Quantization (table_of_one 0 16 ∷ [])) _
         ((one-quantizes 0 16 (omega arith) (omega arith), tt), tt) tt (λ e. absurd (true≢false (sym e))) (
         segment said_1 said _ sent_4 false 0 (Header 2 header) _ ((refl, frame-by 2 header refl), has-picture)
         (omega arith) (λ e. absurd (true≢false (sym e))) (

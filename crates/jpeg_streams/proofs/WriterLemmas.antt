@@ -1,6 +1,7 @@
 -- What a writer took of a text in several writes.
-use Rattle.std.proofs.Common.{arith, ◌≡◌, ℕ, List, ◌++◌, Option, sym, ap, ◌∙◌, take, drop, append_assoc}
-use Rattle.std.proofs.Common.{take-append-drop}
+use Rattle.std.proofs.Common.{rules}
+use Rattle.std.proofs.lemmas.Grind.{common_steps}
+use Rattle.std.proofs.Common.{arith, ◌≡◌, ℕ, List, ◌++◌, Option, ◌∙◌, take, drop, append_assoc, take-append-drop}
 use Rattle.std.specs.Io.KnownBytes.{Appends, Keeps}
 use Rattle.jpeg_streams.specs.Output.{TakesBeginning}
 use Rattle.std.proofs.KnownBytes.{Appends-trans, Appends-kept}
@@ -11,12 +12,7 @@ Took text rest old new = (taken : List ℕ) × (text ≡ taken ++ rest) × Appen
 -- a write took n bytes more
 pub Took-more : (text rest : List ℕ) (old mid new : Option (List ℕ)) (n : ℕ) → Took text rest old mid
     → Appends mid new (take n rest) → Took text (drop n rest) old new
-Took-more text rest old mid new n so_far more = (
-  so_far.0 ++ take n rest,
-  so_far.1 ∙ ap (λ xs. so_far.0 ++ xs) (sym (take-append-drop n rest))
-      ∙ sym (append_assoc so_far.0 (take n rest) (drop n rest)),
-  Appends-trans old mid new so_far.0 (take n rest) so_far.2 more,
-)
+Took-more text rest old mid new n so_far more = search (rules, take-append-drop, append_assoc, Appends-trans)
 
 -- a write took nothing
 pub Took-kept : (text rest : List ℕ) (old mid new : Option (List ℕ)) → Took text rest old mid → Keeps mid new
@@ -31,9 +27,4 @@ TakesBeginning-front old new first second h = grind (arith, append_assoc h.0 h.1
 -- after the first text a beginning of the second is one of both
 pub TakesBeginning-after : (old mid new : Option (List ℕ)) (first second : List ℕ) → Appends old mid first
     → TakesBeginning mid new second → TakesBeginning old new (first ++ second)
-TakesBeginning-after old mid new first second p h = (
-  first ++ h.0,
-  h.1,
-  ap (λ xs. first ++ xs) h.2 ∙ sym (append_assoc first h.0 h.1),
-  Appends-trans old mid new first h.0 p h.3,
-)
+TakesBeginning-after old mid new first second p h = grind (arith, common_steps, append_assoc, Appends-trans)

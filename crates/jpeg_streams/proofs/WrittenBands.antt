@@ -107,13 +107,11 @@ length-no_numbers r more = rw (length-append (no_numbers r) more, length-replica
 
 pub abs-zero : (u : ℤ) → unsigned_abs u < 2 ^ 0 → u ≡ pos 0
 abs-zero (pos zero) h = refl
-abs-zero (pos (suc n)) h = absurd (omega arith)
-abs-zero (negsuc n) h = absurd (omega arith)
+abs-zero u h = absurd (omega arith)
 
 pub band-value : (table : Table) (al r s n : ℕ) (u : ℤ) (code : List Bool) (more : List ℤ) (bits : List Bool) (run : ℕ)
     → IsGood table → InRange al u → u ≢ pos 0 → IsCategory u s → IsCoded table (16 * r + s) code
-    → suc (r + length more) ≤ n
-    → ((m : ℕ) → length more ≤ m
+    → suc (r + length more) ≤ n → ((m : ℕ) → length more ≤ m
     → ReadsJust (first_ac table al m (no_numbers (length more))) bits (map (scaled al) more, run))
     → ReadsJust (first_ac table al n (no_numbers (length (no_numbers r ++ u ∷ more)))) (code ++ bits_for u s ++ bits)
     (map (scaled al) (no_numbers r ++ u ∷ more), run)
@@ -183,8 +181,7 @@ all-after P (suc r) more h = all-after P r more h.1
 
 -- A band that was written is read as its numbers times 2 ^ al, and as the run after it.
 pub takes-band : (table : Table) (al : ℕ) (band : List ℤ) (bits : List Bool) (run : ℕ) → IsGood table
-    → AllByRecursion (InRange al) band
-    → WritesBand table band bits run → (n : ℕ) → length band ≤ n
+    → AllByRecursion (InRange al) band → WritesBand table band bits run → (n : ℕ) → length band ≤ n
     → ReadsJust (first_ac table al n (no_numbers (length band))) bits (map (scaled al) band, run)
 unfolding first_ac
 takes-band table al band bits run good range full n room = takes-gives ([], 0)

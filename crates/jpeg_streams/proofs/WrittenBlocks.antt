@@ -84,21 +84,20 @@ some-more (suc k) h = (k, refl)
 
 pub dc-refined : (al : ℕ) (u : ℤ) → or_bit al (dc_held al u) (low_bit u) ≡ scaled al u
 dc-refined al (pos n) = search (rules, or-even, even-bit, times-two_power, spread)
-dc-refined al (negsuc n) =
-    grind (
-      arith,
-      common_steps,
-      pow_pos,
-      mul-le-mul,
-      some-more,
-      neg_ℤ,
-      even-bit_neg,
-      times-two_power,
-      mul_assoc,
-      add-mul,
-      or-even,
-      neg-sum,
-    )
+dc-refined al (negsuc n) = grind (
+  arith,
+  common_steps,
+  pow_pos,
+  mul-le-mul,
+  some-more,
+  neg_ℤ,
+  even-bit_neg,
+  times-two_power,
+  mul_assoc,
+  add-mul,
+  or-even,
+  neg-sum,
+)
 
 -- ---- blocks
 
@@ -107,8 +106,7 @@ low-small (pos n) = omega arith
 low-small (negsuc n) = omega arith
 
 pub takes-dc_part : (p : Pass) (table : Table) (old u : Block) (predictor next : ℤ) (bits : List Bool) → IsGood table
-    → Suits p old u → InDcRange predictor
-    → WritesDc p table u.dc predictor bits next
+    → Suits p old u → InDcRange predictor → WritesDc p table u.dc predictor bits next
     → ReadsJust (dc_part p table old.dc predictor) bits ((after_pass p old u).dc, next)
 unfolding dc_part
 takes-dc_part p table old u predictor next bits good suits before (other_band v predictor' n) =
@@ -120,9 +118,8 @@ takes-dc_part p table old u predictor next bits good suits before (one_bit v pre
 
 pub next-range : (p : Pass) (table : Table) (u predictor next : ℤ) (bits : List Bool) → InDcRange u
     → InDcRange predictor → WritesDc p table u predictor bits next → InDcRange next
-next-range p table u predictor next bits h k (other_band v w n) = k
 next-range p table u predictor next bits h k (whole v w bits' e f d) = h
-next-range p table u predictor next bits h k (one_bit v w e f) = k
+next-range p table u predictor next bits h k i = k
 
 pub takes-band_part : (p : Pass) (table : Table) (band us : List ℤ) (run after : ℕ) (bits : List Bool) → IsGood table
     → (p.is_first ≡ true → band ≡ no_numbers (length us)) → (p.is_first ≡ false → band ≡ map (held p.al) us)

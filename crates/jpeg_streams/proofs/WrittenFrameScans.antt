@@ -166,17 +166,11 @@ module _ (frame : Frame) (restart : ℕ) (p : Pass) (codings : List Coding) (arr
   held-own : (k : Coding) (s : Spot) → At s.slot codings k → IsOwn (grid_of k.component) s.index
       → block_at scanned s ≡ cut (levels k.place)
       (array k.place (s.index / k.component.blocks_wide) (s.index % k.component.blocks_wide))
-  held-own k s h own =
-      ap (λ (l : List Block). get_or l s.index zero_block) (array-at before codings k s.slot h)
-      ∙ (at-all (SlotReady frame p array levels before) s.slot codings k ready h).holds.each s.index own
+  held-own k s h own = grind (arith, common_steps, array-at, at-all)
 
   sent-own : (k : Coding) (s : Spot) → At s.slot codings k → IsOwn (grid_of k.component) s.index
       → w.sent s ≡ array k.place (s.index / k.component.blocks_wide) (s.index % k.component.blocks_wide)
-  sent-own k s h own =
-      let g = grid-at codings k s.slot h in
-      w.is_own s (subst (λ (x : Grid). IsOwn x s.index) (sym g) own)
-      ∙ ap₂ (λ (x : ℕ) (y : Grid). array x (s.index / y.wide) (s.index % y.wide))
-      (at-get (λ (c : Coding). c.place) 0 s.slot codings k h) g
+  sent-own k s h own = grind (arith, common_steps, grid-at, at-get)
 
   suits-own : (k : Coding) (s : Spot) → At s.slot codings k → IsOwn (grid_of k.component) s.index
       → Suits p (block_at scanned s) (u s)
@@ -191,9 +185,8 @@ module _ (frame : Frame) (restart : ℕ) (p : Pass) (codings : List Coding) (arr
   zeros-at : (l : List Coding) (slot index : ℕ)
       → ((place i : ℕ) → get_or (get_or before place []) i zero_block ≡ zero_block)
       → get_or (get_or (arrays_of before l) slot []) index zero_block ≡ zero_block
-  zeros-at [] slot index z = refl
-  zeros-at (k ∷ more) zero index z = z k.place index
   zeros-at (k ∷ more) (suc slot) index z = zeros-at more slot index z
+  zeros-at l slot index z = search rules
 
   suits-at : SpotsSuit p before codings → (s : Spot) → IsIn s spots → Suits p (block_at scanned s) (u s)
   suits-at (none_read e z) s t =

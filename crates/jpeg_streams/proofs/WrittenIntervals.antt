@@ -1,4 +1,5 @@
 -- The bytes of a scan that was written are read again.
+use Rattle.std.proofs.lemmas.Grind.{common_steps}
 use Rattle.std.proofs.Common.{rules, ◌≡◌, zero, Bool, true, false, List, ◌++◌, take, drop, Option, Result, subst, arith}
 use Rattle.std.proofs.Common.{ℕ, length, length-drop, length-append, take-append-drop, append_assoc, append-nil, suc}
 use Rattle.std.proofs.Common.{◌+◌, ◌%◌, ◌≤◌, [], ◌∷◌, map, Some, Ok, Err, refl, sym, ap, ◌∙◌, eqb, ap₂}
@@ -41,8 +42,7 @@ unfolding interval
 interval-text p turns bytes = ap (λ t. and_marker (blocks_of p predictors_at_start 0 turns t)) (upcoming-fresh bytes)
 
 in-text : (p : Pass) (turns : List (Via × Block)) (bytes rest : List ℕ) (m : Marker) (bits filling : List Bool)
-    (blocks : List Block)
-    → ReadsJust (blocks_of p predictors_at_start 0 turns) bits blocks
+    (blocks : List Block) → ReadsJust (blocks_of p predictors_at_start 0 turns) bits blocks
     → IsText (text_at bytes) (bits ++ filling) (Found m rest) → length filling ≤ 56
     → interval p turns bytes ≡ Ok ((blocks, Some m), rest)
 in-text p turns bytes rest m bits filling blocks read is h =
@@ -112,11 +112,9 @@ reads-intervals p k turns (next ∷ more) bytes fill code m rest ready all h
 pub groups-map : {A B : Type 0} (f : A → B) (turns n : ℕ) (xs : List A)
     → map (map f) (groups turns n xs) ≡ groups turns n (map f xs)
 unfolding groups
-groups-map f turns n [] = refl
-groups-map f zero n (x ∷ xs) = refl
-groups-map f (suc turns) n (x ∷ xs) =
-    ap₂ (λ l ls. l ∷ ls) (sym (take-map f n (x ∷ xs)))
+groups-map f (suc turns) n (x ∷ xs) = ap₂ (λ l ls. l ∷ ls) (sym (take-map f n (x ∷ xs)))
     (groups-map f turns n (drop n (x ∷ xs)) ∙ ap (groups turns n) (sym (drop-map f n (x ∷ xs))))
+groups-map f turns n xs = search rules
 
 pub first-map : {A B : Type 0} (f : A → B) (n : ℕ) (xs : List A) → map f (first_group n xs) ≡ first_group n (map f xs)
 first-map f zero xs = refl
@@ -125,21 +123,16 @@ first-map f (suc n) xs = sym (take-map f (suc n) xs)
 pub others-map : {A B : Type 0} (f : A → B) (n : ℕ) (xs : List A)
     → map (map f) (other_groups n xs) ≡ other_groups n (map f xs)
 others-map f zero xs = refl
-others-map {A} {B} f (suc n) xs =
-    groups-map f (length xs) (suc n) (drop (suc n) xs) ∙ ap (groups (length xs) (suc n)) (sym (drop-map f (suc n) xs))
-    ∙ ap (λ (k : ℕ). groups k (suc n) (drop (suc n) (map f xs))) (sym (length-map xs f))
+others-map {A} {B} f (suc n) xs = grind (arith, common_steps, groups-map, drop-map, length-map)
 
 groups-after : (p : Pass) (turns n : ℕ) (xs ys : List (Via × Block × Block)) → length ys ≤ turns
     → all_after p xs (groups turns (suc n) ys) ≡ map (λ t. after_pass p t.1 t.2) (xs ++ ys)
 unfolding groups
-groups-after p turns n xs [] h = ap (map (λ t. after_pass p t.1 t.2)) (sym (append-nil xs))
-groups-after p zero n xs (y ∷ ys) h = absurd (omega arith)
 groups-after p (suc turns) n xs (y ∷ ys) h =
-    ap (λ (l : List Block). map (λ t. after_pass p t.1 t.2) xs ++ l)
-    (groups-after p turns n (take (suc n) (y ∷ ys)) (drop (suc n) (y ∷ ys))
-    (let d = length-drop (suc n) (y ∷ ys) in omega arith)
-    ∙ ap (map (λ t. after_pass p t.1 t.2)) (take-append-drop (suc n) (y ∷ ys)))
-    ∙ sym (map-append (λ t. after_pass p t.1 t.2) xs (y ∷ ys))
+    let few : length (drop (suc n) (y ∷ ys)) ≤ turns = omega (arith, length-drop (suc n) (y ∷ ys)) in
+    let more = groups-after p turns n (take (suc n) (y ∷ ys)) (drop (suc n) (y ∷ ys)) few in
+    grind (arith, common_steps, take-append-drop, map-append, more)
+groups-after p turns n xs ys h = search (rules, append-nil)
 
 pub all-groups : (p : Pass) (n : ℕ) (xs : List (Via × Block × Block))
     → all_after p (first_group n xs) (other_groups n xs) ≡ map (λ t. after_pass p t.1 t.2) xs
@@ -149,10 +142,9 @@ all-groups p (suc n) xs = search (rules, groups-after, length-drop, take-append-
 ready-groups : {A : Type 0} (Q : A → Type 0) (turns n : ℕ) (xs : List A) → AllByRecursion Q xs
     → AllByRecursion (AllByRecursion Q) (groups turns n xs)
 unfolding groups
-ready-groups Q turns n [] h = tt
-ready-groups Q zero n (x ∷ xs) h = tt
 ready-groups Q (suc turns) n (x ∷ xs) h =
     (all-take Q n (x ∷ xs) h, ready-groups Q turns n (drop n (x ∷ xs)) (all-drop Q n (x ∷ xs) h))
+ready-groups Q turns n xs h = search rules
 
 pub ready-first : {A : Type 0} (Q : A → Type 0) (n : ℕ) (xs : List A) → AllByRecursion Q xs
     → AllByRecursion Q (first_group n xs)
@@ -166,8 +158,7 @@ ready-others Q (suc n) xs h = ready-groups Q (length xs) (suc n) (drop (suc n) x
 
 -- A scan that was written is read as the blocks after the pass.
 pub reads-groups : (p : Pass) (n : ℕ) (turns : List (Via × Block × Block)) (bytes : List ℕ) (fill code : ℕ)
-    (m : Marker) (rest : List ℕ)
-    → AllByRecursion (IsReady p) turns → IsMarker code m
+    (m : Marker) (rest : List ℕ) → AllByRecursion (IsReady p) turns → IsMarker code m
     → WritesIntervals p 0 (first_group n (numbers_of turns)) (other_groups n (numbers_of turns)) bytes
     → intervals p 0 (first_group n (reads_of turns)) (other_groups n (reads_of turns)) (bytes ++ marker fill code rest)
     ≡ Ok ((map (λ t. after_pass p t.1 t.2) turns, Some m), rest)

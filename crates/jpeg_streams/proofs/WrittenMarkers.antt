@@ -24,18 +24,11 @@ application-marker n h = search (rules, ne_eqb, le-ltb, lt-ltb)
 
 frame-marker : (n : ℕ) → n ≤ 3 → marker_of (192 + n) ≡ Some (SOF n)
 unfolding marker_of
-frame-marker zero h = refl
-frame-marker (suc zero) h = refl
-frame-marker (suc (suc zero)) h = refl
-frame-marker (suc (suc (suc zero))) h = refl
 frame-marker (suc (suc (suc (suc n)))) h = absurd (omega arith)
+frame-marker n h = refl
 
 pub segment-marker : (frame : Option Frame) (s : Segment) → MayStand frame s
     → marker_of (code_of s) ≡ Some (marker_for s)
 unfolding marker_of
 segment-marker frame (Quantization ts) may = refl
-segment-marker frame (Huffman ts) may = refl
-segment-marker frame (Interval n) may = refl
-segment-marker frame (Application number payload) may = application-marker number may.numbered
-segment-marker frame (Comment payload) may = refl
-segment-marker frame (Header number h) may = frame-marker number may.1.numbered
+segment-marker frame s may = search (rules, application-marker, frame-marker)

@@ -48,8 +48,7 @@ front-append array said next final levels reached last scanned after front more
     (front-append array (found_after said s) next final levels reached last scanned after others more f w))
 front-append array said next final levels reached last scanned after front more
     (scan said' next' levels' reached' scanned' after' frame fill h codings data_bytes others framed is legal written
-    f) w =
-    subst (λ (l : List ℕ). Writes array said levels scanned l final last)
+    f) w = subst (λ (l : List ℕ). Writes array said levels scanned l final last)
     (sym (scan-tail fill 218 (sized (scan_payload h)) data_bytes others more))
     (then_scan said final levels last scanned frame fill h codings data_bytes (others ++ more) framed is legal written
     (front-append array said next final
@@ -58,8 +57,7 @@ front-append array said next final levels reached last scanned after front more
 
 pub front-closed : (array : Coefficients) (front : List ℕ) (said : Found) (levels : ℕ → Levels) (frame : Frame)
     → WritesFront array nothing_found (λ k. nothing_sent) false front said levels true → said.frame ≡ Some frame
-    → is_progressive frame.process ≡ true
-    → AllByRecursion (HasTable said) frame.components
+    → is_progressive frame.process ≡ true → AllByRecursion (HasTable said) frame.components
     → WritesImage array (255 ∷ 216 ∷ (front ++ (255 ∷ 217 ∷ []))) said levels
 front-closed array front said levels frame f framed progressive tables = record {
   after = front ++ (255 ∷ 217 ∷ []);
@@ -93,9 +91,8 @@ same-colours : (settings : Settings) (m n : Metadata) (f g : Frame) (cs : List C
     → f.output_width ≡ g.output_width → f.output_height ≡ g.output_height → m.jfif ≡ n.jfif → m.adobe ≡ n.adobe
     → picture_by settings m f cs planes ≡ picture_by settings n g cs planes
 unfolding picture_by
-same-colours settings m n f g [] planes w h j a = rw (w, h, j, a) refl
 same-colours settings m n f g (c ∷ []) planes w h j a = rw (w, h) refl
-same-colours settings m n f g (c ∷ d ∷ more) planes w h j a = rw (w, h, j, a) refl
+same-colours settings m n f g cs planes w h j a = rw (w, h, j, a) refl
 
 -- the picture of an array in a frame
 picture_in_frame : Settings → Coefficients → Found → Frame → Result (List ℕ) Fault
@@ -160,8 +157,7 @@ none-own : (g : Grid) (index : ℕ) → g ≡ no_grid → IsOwn g index → ⊥
 none-own g index e own = search rules
 
 own-agree : (frame : Frame) (a b : Coefficients) (place index : ℕ) (c : Component) (g : Grid) → AgreeOnOwn frame a b
-    → first_of (drop place frame.components) ≡ Some c
-    → g ≡ grid_of c → IsOwn g index
+    → first_of (drop place frame.components) ≡ Some c → g ≡ grid_of c → IsOwn g index
     → a place (index / g.wide) (index % g.wide) ≡ b place (index / g.wide) (index % g.wide)
 own-agree frame a b place index c g agree is e own = search rules
 
@@ -205,8 +201,7 @@ also-written a b bytes final last frame w e agree = search (rules, also-writes)
 array-picture : (settings : Settings) (array : Coefficients) (bytes : List ℕ) (final : Found) (last : ℕ → Levels)
     → ((place row column : ℕ) → Is8Bit (array place row column)) → WritesImage array bytes final last
     → picture_meant_by settings (bytes ++ []) ≡ picture_of_array settings final array last
-array-picture settings array bytes final last range w =
-    ap (λ o. o >>= (λ m. Ok m.0.1))
+array-picture settings array bytes final last range w = ap (λ o. o >>= (λ m. Ok m.0.1))
     (search (rules, stream-means))
     ∙ picture-alone (picture_of_array settings final array last) (told_of final) []
 

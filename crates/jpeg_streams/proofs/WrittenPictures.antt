@@ -30,7 +30,7 @@ use Rattle.jpeg_streams.specs.FoundPictures.{picture_by, picture_in}
 use Rattle.jpeg_streams.specs.ScanSegments.{plane_by, is_progressive}
 use Rattle.jpeg_streams.specs.Found.{Found, Metadata, nothing_found}
 use Rattle.jpeg_segments.specs.declared.parser.CodingProcess.{CodingProcess}
-use Rattle.jpeg_segments.specs.declared.parser.CodingProcess.TheVariants.{DctSequential, DctProgressive, Lossless}
+use Rattle.jpeg_segments.specs.declared.parser.CodingProcess.TheVariants.{DctSequential, Lossless}
 use Rattle.jpeg_streams.specs.Stream.{rest_at, meaning, start_at, segments_at, told_of}
 use Rattle.jpeg_streams.specs.declared.before.Before.TheVariants.{Elsewhere}
 use Rattle.jpeg_streams.specs.Levels.{Levels, Is8Bit, cut}
@@ -156,8 +156,7 @@ module _ (f : Frame) (array : Coefficients) (final : Found) (last : ℕ → Leve
             is_table = o.is_table;
             blocks = o.blocks;
             holds = o.holds;
-            is =
-                end-decided found f k c (plane_by c o.table o.blocks) o.plane;
+            is = end-decided found f k c (plane_by c o.table o.blocks) o.plane;
           }
       go false e true g =
           let n = (end.framed.marked.planes k c t).undecided e in
@@ -213,29 +212,24 @@ module _ (f : Frame) (array : Coefficients) (final : Found) (last : ℕ → Leve
 -- ---- the picture
 
 picture-one : (f : Frame) (c : Component) (p q : List ℕ) → f.output_width ≤ c.width → f.output_height ≤ c.height
-    → SamePlane (c.blocks_wide * c.scale) c.width c.height p q
-    → picture_in f c p ≡ picture_in f c q
+    → SamePlane (c.blocks_wide * c.scale) c.width c.height p q → picture_in f c p ≡ picture_in f c q
 picture-one f c p q w h same = grind (arith, common_steps, mul_comm, cropped-same)
 
 pub picture-by-same : (settings : Settings) (m : Metadata) (f : Frame) (components : List Component)
     (ps qs : List (List ℕ)) → f.components ≡ components → Made f
     → AllAlike components ps qs → picture_by settings m f components ps ≡ picture_by settings m f components qs
 unfolding picture_by
-picture-by-same settings m f [] ps qs e made alike = search (rules, image-same, reaches-made)
-picture-by-same settings m f (c ∷ []) [] qs e made alike = absurd alike
-picture-by-same settings m f (c ∷ []) (p ∷ ps) [] e made alike = absurd alike
 picture-by-same settings m f (c ∷ []) (p ∷ ps) (q ∷ qs) e made alike =
     let size = one-made f c made e in
     ap (λ (x : List ℕ). Ok x) (picture-one f c p q size.0 size.1 alike.0)
-picture-by-same settings m f (c ∷ d ∷ more) ps qs e made alike = search (rules, image-same, reaches-made)
+picture-by-same settings m f components ps qs e made alike = search (rules, image-same, reaches-made)
 
 -- ---- the meaning
 
 blocks-picture : (p : CodingProcess) → p ≢ Lossless → (settings : Settings) (found : Found) (f : Frame)
     → picture_by_process p settings found f ≡ blocks_picture settings found f
 blocks-picture DctSequential h settings found f = refl
-blocks-picture DctProgressive h settings found f = refl
-blocks-picture Lossless h settings found f = absurd (h refl)
+blocks-picture p h settings found f = search rules
 
 found-picture : (settings : Settings) (found : Found) (f : Frame) (planes : List (List ℕ)) → f.process ≢ Lossless
     → found.frame ≡ Some f → planes_from found f 0 f.components ≡ Ok planes
@@ -303,14 +297,7 @@ conversion-there : (count : ℕ) (t : ColorTransform) → IsTransformOf count t
     → (convert : ColorConvert) × (conversion_of count t ≡ Ok convert)
 unfolding conversion_of
 conversion-there count transforms.None h = (converts.None, refl)
-conversion-there count transforms.RGB h = (converts.Rgb, rw (eq-eqb count 3 h) refl)
-conversion-there count transforms.YCbCr h = (converts.YCbCr, rw (eq-eqb count 3 h) refl)
-conversion-there count transforms.CMYK h = (converts.Cmyk, rw (eq-eqb count 4 h) refl)
-conversion-there count transforms.YCCK h = (converts.Ycck, rw (eq-eqb count 4 h) refl)
-conversion-there count transforms.Grayscale h = absurd h
-conversion-there count transforms.Unknown h = absurd h
-conversion-there count transforms.JcsBgYcc h = absurd h
-conversion-there count transforms.JcsBgRgb h = absurd h
+conversion-there count t h = search (rules, eq-eqb)
 
 picture-there : (settings : Settings) (w : Found) (f : Frame) (components : List Component)
     (ours planes : List (List ℕ)) (sources : List Source) → HasTransform settings w components
@@ -318,8 +305,6 @@ picture-there : (settings : Settings) (w : Found) (f : Frame) (components : List
     → (picture : List ℕ) × (picture_by settings w.metadata f components planes ≡ Ok picture)
 unfolding picture_by image_of
 picture-there settings w f [] ours planes sources t e h = absurd t
-picture-there settings w f (c ∷ []) [] planes sources t e h = absurd h
-picture-there settings w f (c ∷ []) (o ∷ ours) [] sources t e h = absurd h
 picture-there settings w f (c ∷ []) (o ∷ ours) (p ∷ planes) sources t e h = (picture_in f c p, refl)
 picture-there settings w f (c ∷ d ∷ more) ours planes sources t e h =
     let convert = conversion-there (length (c ∷ d ∷ more)) _ t in
@@ -327,6 +312,7 @@ picture-there settings w f (c ∷ d ∷ more) ours planes sources t e h =
       _,
       refl,
     ))
+picture-there settings w f components ours planes sources t e h = absurd h
 
 within-limit : (a b : ℕ) (x : Result (List ℕ) Fault) → b ≤ a → cond (nat_lt a b) (Err Malformed) x ≡ x
 within-limit a b x h = rw (le-ltb a b h) refl

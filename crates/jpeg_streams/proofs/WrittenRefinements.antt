@@ -80,7 +80,6 @@ odd m h = omega arith
 
 pub corrects-pos : (al m b : ℕ) → b < 2 → (2 * m + b) * 2 ^ al < 2 ^ 15
     → ReadsJust (corrected_by al (pos (m * 2 ^ suc al)) b) [] (pos ((2 * m + b) * 2 ^ al))
-corrects-pos al m zero h fits = search (rules, corrected-stays, times-two_power, spread, zero-mul)
 corrects-pos al m (suc zero) h fits =
     let p = 2 ^ al in
     let double = times-two_power m al in
@@ -90,7 +89,7 @@ corrects-pos al m (suc zero) h fits =
     ∙ digits_div (2 * m) (pow_pos al) in
     let sum : m * 2 ^ suc al + p ≡ (2 * m + 1) * p = omega (arith, one-mul p) in
     grind (arith, even m, lt-ltb)
-corrects-pos al m (suc (suc b)) h fits = absurd (omega arith)
+corrects-pos al m b h fits = search (rules, corrected-stays, times-two_power, zero-mul)
 
 pub under : (m p k : ℕ) → 0 < m → 0 < p → suc k ≡ 2 * (m * p) → k ≡ (2 * m - 1) * p + (p - 1)
 under zero p k f g e = absurd (omega arith)
@@ -99,8 +98,7 @@ under (suc m) p k f g e = grind (arith, spread m 1 p, one-mul p, add-mul m 1 p)
 -- bit al of a multiple of 2 ^ (al + 1)
 pub even-bit : (al m : ℕ) → bit_of al (pos (m * 2 ^ suc al)) ≡ 0
 even-bit al m =
-    let high : m * 2 ^ suc al / 2 ^ al ≡ 2 * m =
-    ap (λ (x : ℕ). x / 2 ^ al)
+    let high : m * 2 ^ suc al / 2 ^ al ≡ 2 * m = ap (λ (x : ℕ). x / 2 ^ al)
     (times-two_power m al ∙ sym (mul_assoc 2 m (2 ^ al)) ∙ sym (add-zero (2 * m * 2 ^ al)))
     ∙ digits_div (2 * m) (pow_pos al) in
     ap (λ (x : ℕ). x % 2) high ∙ even m
@@ -114,10 +112,9 @@ even-bit_neg al m k some e =
 
 pub corrects-neg : (al m b k : ℕ) → m * 2 ^ suc al ≡ suc k → b < 2 → (2 * m + b) * 2 ^ al < 2 ^ 15
     → ReadsJust (corrected_by al (negsuc k) b) [] (neg_ℤ (pos ((2 * m + b) * 2 ^ al)))
-corrects-neg al m zero k e h fits = search (rules, corrected-stays, neg_ℤ, times-two_power, spread, zero-mul)
 corrects-neg al m (suc zero) k e h fits =
     search (rules, pow_pos, times-two_power, even-bit_neg, spread, one-mul, corrected-moves, neg_ℤ, lt-ltb, zero-mul)
-corrects-neg al m (suc (suc b)) k e h fits = absurd (omega arith)
+corrects-neg al m b k e h fits = search (rules, corrected-stays, times-two_power, zero-mul)
 
 -- the correction bit of an old number gives the number
 pub corrects : (al : ℕ) (u : ℤ) → is_old u ≡ true → InRange al u
@@ -128,8 +125,7 @@ corrects al (negsuc i) o range = go (suc i / 2 * 2 ^ suc al) refl (held-positive
     go : (x : ℕ) → suc i / 2 * 2 ^ suc al ≡ x → 0 < x
         → ReadsJust (corrected_by al (held al (negsuc i)) (suc i % 2)) [] (neg_ℤ (pos (suc i * 2 ^ al)))
     go zero e h = absurd (omega arith)
-    go (suc k) e h =
-        search (rules, neg-times, neg_ℤ, takes-as, corrects-neg)
+    go (suc k) e h = search (rules, neg-times, neg_ℤ, takes-as, corrects-neg)
 
 pub corrected-zero : (al : ℕ) (z : ℤ) (zs ws : List ℤ) (bits : List Bool) → z ≡ pos 0
     → ReadsJust (corrected al zs) bits ws → ReadsJust (corrected al (z ∷ zs)) bits (pos 0 ∷ ws)
@@ -155,23 +151,22 @@ pub takes-corrected : (al : ℕ) (us : List ℤ) → NoneNew us → AllByRecursi
     → ReadsJust (corrected al (map (held al) us)) (corrections us) (map (scaled al) us)
 unfolding corrected NoneNew corrections
 takes-corrected al [] none range = takes-gives []
-takes-corrected al (u ∷ us) none range =
-    search (
-      rules,
-      nothing_or_old,
-      scaled,
-      takes-as,
-      corrections-zero,
-      scaled-zero,
-      corrected-zero,
-      held-zero,
-      unsigned_abs,
-      corrections-old,
-      corrected-next,
-      held-old,
-      corrects,
-      takes-corrected al us none.1 range.1,
-    )
+takes-corrected al (u ∷ us) none range = search (
+  rules,
+  nothing_or_old,
+  scaled,
+  takes-as,
+  corrections-zero,
+  scaled-zero,
+  corrected-zero,
+  held-zero,
+  unsigned_abs,
+  corrections-old,
+  corrected-next,
+  held-old,
+  corrects,
+  takes-corrected al us none.1 range.1,
+)
 
 -- ---- pieces
 
@@ -202,18 +197,17 @@ pub through : (al : ℕ) (front : List ℤ) (u : ℤ) (more : List ℤ) → held
     → NoneNew front → through_zero (count_unknown front) (map (held al) (front ++ u ∷ more)) ≡ suc (length front)
 unfolding NoneNew
 through al [] u more z none = through-first (held al u) (map (held al) more) z
-through al (v ∷ front) u more z none =
-    search (
-      rules,
-      nothing_or_old,
-      count-zero,
-      through-zero,
-      held-zero,
-      count-old,
-      through-other,
-      held-old,
-      through al front u more z none.1,
-    )
+through al (v ∷ front) u more z none = search (
+  rules,
+  nothing_or_old,
+  count-zero,
+  through-zero,
+  held-zero,
+  count-old,
+  through-other,
+  held-old,
+  through al front u more z none.1,
+)
 
 pub front-of : (al : ℕ) (front : List ℤ) (u : ℤ) (more : List ℤ) → held al u ≡ pos 0
     → take (suc (length front)) (map (held al) (front ++ u ∷ more)) ≡ map (held al) (front ++ pos 0 ∷ [])
@@ -245,9 +239,8 @@ range-end al (v ∷ front) more h = (h.0, range-end al front more h.1)
 
 pub with_last-end : (x y : ℤ) (xs : List ℤ) → with_last x (xs ++ y ∷ []) ≡ xs ++ x ∷ []
 unfolding with_last
-with_last-end x y [] = refl
-with_last-end x y (z ∷ []) = refl
 with_last-end x y (z ∷ w ∷ xs) = ap (λ (l : List ℤ). z ∷ l) (with_last-end x y (w ∷ xs))
+with_last-end x y xs = refl
 
 -- the places of a piece, with their corrections
 pub takes-front : (al : ℕ) (front : List ℤ) (u : ℤ) (more : List ℤ) → held al u ≡ pos 0 → NoneNew front
@@ -360,13 +353,11 @@ refined-token table al m r s z zs code bits x good coded small piece =
 
 -- the same over a list that isn't empty, with room for its length
 pub refined-step : (table : Table) (al n r s : ℕ) (places : List ℤ) (code bits : List Bool) (x : Band) → IsGood table
-    → IsCoded table (16 * r + s) code → s ≤ 15
-    → 0 < length places → length places ≤ n
+    → IsCoded table (16 * r + s) code → s ≤ 15 → 0 < length places → length places ≤ n
     → ((m : ℕ) → suc m ≡ n → ReadsJust (refined_piece al (refined_ac table al m) places r s) bits x)
     → ReadsJust (refined_ac table al n places) (code ++ bits) x
-refined-step table al n r s [] code bits x good coded small some room piece = absurd (omega arith)
-refined-step table al zero r s (z ∷ zs) code bits x good coded small some room piece = absurd (omega arith)
 refined-step table al (suc m) r s (z ∷ zs) code bits x good coded small some room piece = search (rules, refined-token)
+refined-step table al n r s places code bits x good coded small some room piece = absurd (omega arith)
 
 pub range-after : (P : ℤ → Type 0) (front more : List ℤ) → AllByRecursion P (front ++ more) → AllByRecursion P more
 range-after P [] more h = h

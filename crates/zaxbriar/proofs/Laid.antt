@@ -1,10 +1,11 @@
 -- Pixels and lines that are written one after the other.
-use Rattle.std.proofs.Common.{◌≡◌, ◌∙◌, ℕ, zero, suc, ◌+◌, ◌*◌, ◌<◌, ◌≤◌, ◌-◌, List, [], ◌∷◌, ◌++◌, length}
+use Rattle.std.proofs.Common.{◌≡◌, ◌∙◌, ℕ, zero, suc, ◌+◌, ◌*◌, ◌<◌, ◌≤◌, List, [], ◌∷◌, ◌++◌, length}
 use Rattle.std.proofs.Common.{take, drop, slice_index, refl, sym, ap, arith, append_assoc, length-append, length-drop}
 use Rattle.std.proofs.Common.{length-take}
 use Rattle.std.proofs.Math.Seq.{take-append_seam, drop-append_seam, take-append-add, drop-append-add}
-use Rattle.std.proofs.lemmas.List.{append-nil, drop-append-le, drop-drop, take-append-drop, get_or-take, get_or-drop}
+use Rattle.std.proofs.lemmas.List.{append-nil, drop-append-le, drop-drop, drop_min, take-append-drop, get_or-take, get_or-drop}
 use Rattle.std.proofs.Math.ListN.{drop_of_length-le}
+use Rattle.std.specs.Prelude.{min}
 use borrow.Rule.Slice.PartMut.{put_mid}
 use Rattle.zaxbriar.specs.Layouts.{Fits, converted_bytes, laid_out, line_of, over, pixels_of}
 use Rattle.zaxbriar.specs.Layouts.{grey_as_rgb, grey_as_rgba, rgb_as_rgba, rgb_as_bgra}
@@ -172,3 +173,39 @@ line-length GreyToRgb stored width row fits e = pixels-length grey_as_rgb 1 3 wi
 line-length GreyToRgba stored width row fits e = pixels-length grey_as_rgba 1 4 width row (λ p. refl)
 line-length RgbToRgba stored width row fits e = pixels-length rgb_as_rgba 3 4 width row (λ p. refl)
 line-length RgbToBgra stored width row fits e = pixels-length rgb_as_bgra 3 4 width row (λ p. refl)
+
+-- ---- a picture that is written at once
+
+-- the lines of a picture as it is stored, without gaps
+laid-whole : (width row height : ℕ) (samples old : List ℕ) → length samples ≡ height * row
+    → laid_out (line_of Stored width) row row height samples old ≡ over samples old
+unfolding laid_out
+laid-whole width row zero [] old e = refl
+laid-whole width row zero (x ∷ xs) old e = absurd (omega (arith, e))
+laid-whole width row (suc height) samples old e =
+    let first : length (take row samples) ≡ row = omega (arith, e, length-take {A = ℕ}) in
+    let rest : length (drop row samples) ≡ height * row = omega (arith, e, length-drop {A = ℕ}) in
+    let no_more : drop (length (take row samples)) (take row old) ≡ [] =
+    drop_of_length-le (take row old) (omega (arith, first, length-take {A = ℕ})) in
+    let all : row + length (drop row samples) ≡ length samples = omega (arith, e, rest) in
+    (λ i. (take row samples ++ no_more i) ++ laid-whole width row height (drop row samples) (drop row old) rest i)
+    ∙ (λ i. append-nil (take row samples) i ++ (drop row samples ++ drop-drop (length (drop row samples)) row old i))
+    ∙ sym (append_assoc (take row samples) (drop row samples) (drop (row + length (drop row samples)) old))
+    ∙ (λ i. take-append-drop row samples i ++ drop (all i) old)
+
+-- bytes that were written at the beginning of others
+written-over : (n : ℕ) (old new : List ℕ) → length new ≡ length old → drop n new ≡ drop n old → new ≡ over (take n new) old
+written-over n old new same rest =
+    sym (take-append-drop n new)
+    ∙ ap (λ (l : List ℕ). take n new ++ l) (rest ∙ sym (drop_min n old)
+    ∙ ap (λ k. drop k old) (ap (λ k. min n k) (sym same) ∙ sym (length-take n new)))
+
+-- lines without gaps of a picture as it is stored, that was written at once
+pub laid-at_once : (conversion : Conversion) (width stored row stride height n : ℕ) (old new : List ℕ) → conversion ≡ Stored
+    → row ≡ width * converted_bytes conversion stored → stride ≡ row → length new ≡ length old → drop n new ≡ drop n old
+    → length (take n new) ≡ height * (width * stored)
+    → new ≡ laid_out (line_of conversion width) (width * stored) stride height (take n new) old
+laid-at_once conversion width stored row stride height n old new s r e same rest count =
+    let at : stride ≡ width * stored = e ∙ r ∙ ap (λ (x : Conversion). width * converted_bytes x stored) s in
+    written-over n old new same rest ∙ sym (laid-whole width (width * stored) height (take n new) old count)
+    ∙ (λ i. laid_out (line_of (sym s i) width) (width * stored) (sym at i) height (take n new) old)

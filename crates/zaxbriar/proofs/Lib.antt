@@ -1,4 +1,4 @@
-mod Copied
+mod Decoded
 mod Fails
 mod Laid
 mod Means

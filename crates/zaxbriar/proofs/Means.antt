@@ -1,6 +1,5 @@
 -- A header that was read, and then the rest of its stream, are what the stream means by some options.
-use Rattle.std.proofs.Common.{◌≡◌, ℕ, List, Ok, Err, Result}
-use Rattle.std.specs.Prelude.{IfErr, OnOk}
+use Rattle.std.proofs.Common.{◌≡◌, ℕ, List, Ok}
 use Rattle.jpeg_streams.specs.DecodedImages.{Size, FullSize, AtLeast, at_size, HasLeft}
 use Rattle.jpeg_streams.specs.Found.{Found}
 use Rattle.jpeg_streams.specs.States.{HeaderRead}
@@ -20,7 +19,3 @@ pub has-left : (size : Size) (bytes left : List ℕ) (found header : Found)
     → header_at bytes ≡ Ok (header, left) → found ≡ at_size size header → HasLeft size bytes HeaderRead found left
 has-left FullSize bytes left found header h s = (header, h, s)
 has-left (AtLeast width height) bytes left found header h s = (header, h, s)
-
-pub on-ok : {X E : Type 0} (outcome : Result X E) (P Z : Type 0) → IfErr outcome (λ _. Z → ⊥) → OnOk outcome P → Z → P
-on-ok (Ok x) P Z e o z = o
-on-ok (Err x) P Z e o z = absurd (e z)

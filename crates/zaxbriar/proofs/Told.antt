@@ -1,9 +1,10 @@
 -- What a caller is given of a picture that was decoded.
 use Rattle.std.proofs.Common.{◌≡◌, ◌∙◌, ℕ, ◌*◌, List, Result, Ok, Err, sym, ap, Some}
-use Rattle.std.specs.Prelude.{IfErr, IfOk, OnOk, option_map}
+use Rattle.std.specs.Prelude.{IfOk, OnOk, option_map}
 use Rattle.std.proofs.Math.Nat.{mul_comm, mul_assoc}
 use Rattle.jpeg_bits.specs.Reading.{Fault}
 use Rattle.jpeg_streams.specs.declared.images.ImageInfo.{ImageInfo}
+use Rattle.zaxbriar.specs.Faults.{answer_of}
 use Rattle.zaxbriar.specs.Layouts.{laid_out, line_of}
 use Rattle.zaxbriar.specs.Lines.{Arranged, HasLines, lines_by, picture_by, stored_bytes}
 use Rattle.zaxbriar.specs.Meanings.{Describes, Shows, ShowsSamples, orientation_by, size_of}
@@ -13,6 +14,8 @@ use Rattle.jpeg_streams.specs.Pixels.{info_of}
 use Rattle.jpeg_streams.specs.Stream.{header_at}
 use Rattle.jpeg_decoder.specs.Bytes.{decoding_bytes}
 use Rattle.jpeg_decoder.specs.declared.memory.DecodingBytes.{DecodingBytes}
+use Rattle.zaxbriar.proofs.Fails.{code-fails}
+use Rattle.zaxbriar.specs.declared.answers.Refusal.{Refusal}
 use Rattle.zaxbriar.specs.declared.lines.Lines.{Lines}
 use Rattle.zaxbriar.specs.declared.options.Options.{Options}
 use Rattle.zaxbriar.specs.declared.picture.Picture.{Picture}
@@ -82,12 +85,12 @@ retold o info precision samples old new picture stream text t a = record {
       { stream_bytes = stream; text = (t ∙ ap (λ (q : Picture). q.text) a.picture_is) i };
 }
 
-pub shown : {X E : Type 0} (outcome : Result X E) (o : Options) (bytes old new : List ℕ) (picture : Picture)
+pub shown : {X : Type 0} (outcome : Result X Refusal) (o : Options) (bytes old new : List ℕ) (picture : Picture)
     (stream : ℕ) (text : List ℕ) (result : ℕ)
-    → IfErr outcome (λ _. result ≡ 0 → ⊥) → IfOk outcome (λ _. (result ≡ 0) × (text ≡ picture.text))
+    → result ≡ answer_of outcome → IfOk outcome (λ _. text ≡ picture.text)
     → OnOk outcome (Shows o bytes old new picture) → result ≡ 0
     → Shows o bytes old new (record picture { stream_bytes = stream; text = text })
-shown (Ok x) o bytes old new picture stream text result err ok s z = record {
+shown (Ok x) o bytes old new picture stream text result code ok s z = record {
   told = s.told;
   samples = s.samples;
   rest = s.rest;
@@ -96,30 +99,30 @@ shown (Ok x) o bytes old new picture stream text result err ok s z = record {
   means = s.means;
   info_is = s.info_is;
   precision_is = s.precision_is;
-  arranged = retold o s.info s.precision s.samples old new picture stream text ok.1 s.arranged;
+  arranged = retold o s.info s.precision s.samples old new picture stream text ok s.arranged;
 }
-shown (Err e) o bytes old new picture stream text result err ok s z = absurd (err z)
+shown (Err e) o bytes old new picture stream text result code ok s z = absurd (code-fails e (sym code ∙ z))
 
-pub shown-samples : {X E : Type 0} (outcome : Result X E) (o : Options) (image : Result (List ℕ) Fault)
+pub shown-samples : {X : Type 0} (outcome : Result X Refusal) (o : Options) (image : Result (List ℕ) Fault)
     (old new : List ℕ) (picture : Picture) (stream : ℕ) (text : List ℕ) (result : ℕ)
-    → IfErr outcome (λ _. result ≡ 0 → ⊥) → IfOk outcome (λ _. (result ≡ 0) × (text ≡ picture.text))
+    → result ≡ answer_of outcome → IfOk outcome (λ _. text ≡ picture.text)
     → OnOk outcome (ShowsSamples o image old new picture) → result ≡ 0
     → ShowsSamples o image old new (record picture { stream_bytes = stream; text = text })
-shown-samples (Ok x) o image old new picture stream text result err ok s z = record {
+shown-samples (Ok x) o image old new picture stream text result code ok s z = record {
   samples = s.samples;
   info = s.info;
   precision = s.precision;
   are = s.are;
-  arranged = retold o s.info s.precision s.samples old new picture stream text ok.1 s.arranged;
+  arranged = retold o s.info s.precision s.samples old new picture stream text ok s.arranged;
 }
-shown-samples (Err e) o image old new picture stream text result err ok s z = absurd (err z)
+shown-samples (Err e) o image old new picture stream text result code ok s z = absurd (code-fails e (sym code ∙ z))
 
-pub described : {X E : Type 0} (outcome : Result X E) (o : Options) (bytes : List ℕ) (picture : Picture)
+pub described : {X : Type 0} (outcome : Result X Refusal) (o : Options) (bytes : List ℕ) (picture : Picture)
     (text : List ℕ) (result : ℕ)
-    → IfErr outcome (λ _. result ≡ 0 → ⊥) → IfOk outcome (λ _. (result ≡ 0) × (text ≡ picture.text))
+    → result ≡ answer_of outcome → IfOk outcome (λ _. text ≡ picture.text)
     → OnOk outcome (Describes o bytes picture) → result ≡ 0
     → Describes o bytes (record picture { text = text })
-described (Ok x) o bytes picture text result err ok d z = record {
+described (Ok x) o bytes picture text result code ok d z = record {
   header = d.header;
   rest = d.rest;
   info = d.info;
@@ -131,6 +134,6 @@ described (Ok x) o bytes picture text result err ok d z = record {
   precision_is = d.precision_is;
   decoding_is = d.decoding_is;
   conversion_is = d.conversion_is;
-  picture_is = λ i. record (d.picture_is i) { text = (ok.1 ∙ ap (λ (q : Picture). q.text) d.picture_is) i };
+  picture_is = λ i. record (d.picture_is i) { text = (ok ∙ ap (λ (q : Picture). q.text) d.picture_is) i };
 }
-described (Err e) o bytes picture text result err ok d z = absurd (err z)
+described (Err e) o bytes picture text result code ok d z = absurd (code-fails e (sym code ∙ z))

@@ -1,48 +1,47 @@
--- What a refusal says of the bytes of a stream.
-use Rattle.std.specs.Prelude.{◌≡◌, [], ◌⊎◌, Result, Err, string_bytes}
-use Rattle.jpeg_bits.specs.Reading.{Fault, Malformed, Lacks}
+-- What a refusal says of the bytes of a stream, and its number.
+use Rattle.std.specs.Prelude.{◌≡◌, ℕ, Bool, Result, Ok, Err}
+use Rattle.jpeg_bits.specs.Reading.{Fault, Malformed, Lacks, End, IsGivenUp, Names}
 use Rattle.jpeg_bits.specs.declared.error.Error.{Error}
 use Rattle.jpeg_bits.specs.declared.error.Error.TheVariants as errors
+use Rattle.jpeg_bits.specs.declared.error.UnsupportedFeature.{UnsupportedFeature}
 use Rattle.zaxbriar.specs.declared.answers.Refusal.{Refusal}
 use Rattle.zaxbriar.specs.declared.answers.Refusal.TheVariants.{Stream, Argument, NoRoom}
 
--- An error names the fault of some bytes; one of the reader or of memory says nothing of them.
-abbrev pub FailsBy : {Y : Type 0} → Error → Result Y Fault → Type 0
-FailsBy (errors.Format text) outcome = (outcome ≡ Err Malformed) ⊎ (string_bytes text ≡ [])
-FailsBy (errors.Unsupported feature) outcome = outcome ≡ Err (Lacks feature)
-FailsBy (errors.Io e) outcome = Unit {0}
-FailsBy (errors.Internal text) outcome = Unit {0}
-FailsBy errors.OutOfMemory outcome = Unit {0}
-
+-- A refusal of a stream names the fault of its bytes.
 abbrev pub IsFault : {Y : Type 0} → Result Y Fault → Refusal → Type 0
-IsFault outcome (Stream e) = FailsBy e outcome
+IsFault outcome (Stream e) = Names e outcome
 IsFault outcome (Argument text) = Unit {0}
 IsFault outcome NoRoom = Unit {0}
-
--- A rule is broken, by its text.
-abbrev pub IsFormat : Error → Type 0
-IsFormat (errors.Format text) = string_bytes text ≡ [] → ⊥
-IsFormat (errors.Unsupported feature) = ⊥
-IsFormat (errors.Io e) = ⊥
-IsFormat (errors.Internal text) = ⊥
-IsFormat errors.OutOfMemory = ⊥
-
--- A feature is refused by name.
-abbrev pub IsUnsupported : Error → Type 0
-IsUnsupported (errors.Format text) = ⊥
-IsUnsupported (errors.Unsupported feature) = Unit {0}
-IsUnsupported (errors.Io e) = ⊥
-IsUnsupported (errors.Internal text) = ⊥
-IsUnsupported errors.OutOfMemory = ⊥
-
--- a refusal of the decoder, of which something holds
-abbrev pub OfStream : (Error → Type 0) → Refusal → Type 0
-OfStream P (Stream e) = P e
-OfStream P (Argument text) = ⊥
-OfStream P NoRoom = ⊥
 
 -- A refusal of the arguments.
 abbrev pub IsArgument : Refusal → Type 0
 IsArgument (Stream e) = ⊥
 IsArgument (Argument text) = Unit {0}
 IsArgument NoRoom = ⊥
+
+-- A refusal stands for an error of a decoder: it is one of the stream only where the reader, a read
+-- of which has failed or not, wasn't given up.
+abbrev pub StandsFor : Error → Bool → Refusal → Type 0
+StandsFor error failed (Stream e) = (e ≡ error) × (IsGivenUp error failed → ⊥)
+StandsFor error failed (Argument text) = Unit {0}
+StandsFor error failed NoRoom = ⊥
+
+-- the number of a refusal, and of an outcome
+abbrev pub code_of : Refusal → ℕ
+code_of (Stream (errors.Format text)) = 1
+code_of (Stream (errors.Unsupported feature)) = 2
+code_of (Stream (errors.Io e)) = 3
+code_of (Stream errors.OutOfMemory) = 4
+code_of (Stream (errors.Internal text)) = 6
+code_of (Argument text) = 6
+code_of NoRoom = 5
+
+abbrev pub answer_of : {X : Type 0} → Result X Refusal → ℕ
+answer_of (Ok x) = 0
+answer_of (Err r) = code_of r
+
+-- Where a number is that of a fault, it is the fault of the bytes.
+abbrev pub IsNamed : {Y : Type 0} → ℕ → Result Y Fault → Type 0
+IsNamed code read = (code ≡ 1 → read ≡ Err Malformed)
+    × (code ≡ 2 → (feature : UnsupportedFeature) × (read ≡ Err (Lacks feature)))
+    × (code ≡ 3 → read ≡ Err End)

@@ -1,9 +1,13 @@
 -- The lines of a picture, and what a caller is told of it.
-use Rattle.std.specs.Prelude.{◌≡◌, ◌==◌, ◌≤◌, ℕ, ◌*◌, List, replicate, if◌then◌else◌, Some}
+use Rattle.std.specs.Prelude.{◌≡◌, ◌==◌, ◌≤◌, ℕ, ◌*◌, List, replicate, if◌then◌else◌, Ok, Some}
+use Rattle.jpeg_bits.specs.Reading.{Answers}
 use Rattle.jpeg_decoder.specs.Bytes.{bytes_a_sample, samples_a_pixel}
 use Rattle.jpeg_segments.specs.declared.parser.CodingProcess.{CodingProcess}
 use Rattle.jpeg_segments.specs.declared.parser.CodingProcess.TheVariants.{DctSequential}
 use Rattle.jpeg_segments.specs.declared.parser.CodingProcess.TheVariants.{DctProgressive, Lossless}
+use Rattle.jpeg_streams.specs.DecodedImages.{DecodesImages}
+use Rattle.jpeg_streams.specs.States.{Decoding}
+use Rattle.jpeg_streams.specs.Stream.{rest_at, told_of}
 use Rattle.jpeg_streams.specs.declared.images.ImageInfo.{ImageInfo}
 use Rattle.zaxbriar.specs.Layouts.{Fits, conversion_of, converted_bytes, laid_out, line_of}
 use Rattle.zaxbriar.specs.Layouts.{size_of_lines}
@@ -88,3 +92,14 @@ pub record Arranged (o : Options) (info : ImageInfo) (precision : ℕ) (samples 
   pub orientation : ℕ
   pub picture_is : picture ≡ picture_by o.layout info precision
       (lines_by o.stride info precision conversion) decoding orientation picture.stream_bytes
+
+-- A decoder whose header was read has decoded its picture, and the lines of it are in the caller's
+-- memory.
+pub record Decodes (lines : Lines) (old new : Decoding) (before after : List ℕ) : Type 0 where
+  pub samples : List ℕ
+  pub frame : new.found.frame ≡ old.found.frame
+  pub reads : Answers {X = Unit {0}} (λ u. (told_of new.found, samples))
+      (rest_at old.settings old.found) old.source (Ok tt) new.source
+  pub images : DecodesImages {X = Unit {0}} (λ u. samples) old (Ok tt) new
+  pub pixels : after ≡ laid_out (line_of lines.conversion lines.width) (lines.width * lines.stored)
+      lines.stride lines.height samples before

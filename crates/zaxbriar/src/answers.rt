@@ -1,9 +1,11 @@
 //! What a call returns, and the text of a refusal.
-ghost use Rattle.std.specs.Prelude.{◌≡◌, IfOk, IfErr, IsErrAnd};
-ghost use Rattle.zaxbriar.specs.Faults.{IsFormat, IsUnsupported, OfStream};
+ghost use Rattle.std.specs.Prelude.{◌≡◌, IfOk};
+ghost use Rattle.zaxbriar.specs.Faults.{StandsFor, answer_of, code_of};
 
+use jpeg_decoder::Decoder;
 use jpeg_decoder::error::Error;
 use std::alloc::Global;
+use std::io::Read;
 
 pub const OK: u32 = 0;
 
@@ -24,7 +26,7 @@ pub const NO_DATA: u32 = 7;
 /// The bytes of a refusal's text, with the zero that ends it.
 pub const TEXT_BYTES: usize = 112;
 
-/// A refusal of the decoder, or of this library.
+/// A refusal of the stream, or of the call.
 #[derive(Drop)]
 pub enum Refusal {
     Stream(Error),
@@ -43,20 +45,35 @@ impl From<Error> for Refusal {
     }
 }
 
-/// Returns the number of an error.
-pub fn code_of(error: &Error) -> u32
-    ensures fails { result ≡ 0 → ⊥ }
-    ensures malformed { result ≡ 1 → IsFormat error.now }
-    ensures unsupported { result ≡ 2 → IsUnsupported error.now }
+/// Returns the refusal for an error of a decoder.
+pub fn refusal_of<R: Read + Drop>(decoder: &Decoder<R>, error: Error) -> Refusal
+    ensures { StandsFor error decoder.now.source.failed result }
 {
-    match error {
-        // A reader that is interrupted without end.
-        Error::Format(text) if text.is_empty() => TRUNCATED,
-        Error::Format(_) => MALFORMED,
-        Error::Unsupported(_) => UNSUPPORTED,
-        Error::Io(_) => TRUNCATED,
-        Error::OutOfMemory => NO_MEMORY,
-        Error::Internal(_) => BAD_ARGUMENT,
+    let is_of_reader = match &error {
+        // A read that was interrupted without end.
+        Error::Format(text) => text.is_empty(),
+        Error::Io(_) => decoder.has_read_failed(),
+        Error::Unsupported(_) | Error::Internal(_) | Error::OutOfMemory => false,
+    };
+    if is_of_reader {
+        // This never happens over bytes in memory.
+        Refusal::Argument("the bytes can't be read")
+    } else {
+        Refusal::Stream(error)
+    }
+}
+
+/// Returns the number of a refusal.
+pub fn code_of(refusal: &Refusal) -> u32
+    ensures { result ≡ code_of refusal.now }
+{
+    match refusal {
+        Refusal::Stream(Error::Format(_)) => MALFORMED,
+        Refusal::Stream(Error::Unsupported(_)) => UNSUPPORTED,
+        Refusal::Stream(Error::Io(_)) => TRUNCATED,
+        Refusal::Stream(Error::OutOfMemory) => NO_MEMORY,
+        Refusal::Stream(Error::Internal(_)) | Refusal::Argument(_) => BAD_ARGUMENT,
+        Refusal::NoRoom => NO_ROOM,
     }
 }
 
@@ -67,33 +84,32 @@ fn put_text(text: &[u8], buffer: &mut [u8; TEXT_BYTES]) {
     buffer[..count].copy_from_slice(&text[..count]);
 }
 
+/// Writes the text of a refusal.
+fn put_refusal(alloc: Global, refusal: &Refusal, text: &mut [u8; TEXT_BYTES]) {
+    match refusal {
+        Refusal::Stream(error) => match format!(in alloc; "{error}") {
+            Ok(line) => put_text(line.as_bytes(), text),
+            Err(_) => put_text(b"out of memory", text),
+        },
+        Refusal::Argument(reason) => put_text(reason.as_bytes(), text),
+        Refusal::NoRoom => put_text(b"the buffer is too small for the picture", text),
+    }
+}
+
 /// Returns the number of an outcome, and writes the text of a refusal.
 pub fn answer(
     alloc: Global,
     outcome: std::result::Result<(), Refusal>,
     text: &mut [u8; TEXT_BYTES],
 ) -> u32
-    ensures ok { IfOk outcome (λ _. (result ≡ 0) × (text.new ≡ text.old)) }
-    ensures err { IfErr outcome (λ _. result ≡ 0 → ⊥) }
-    ensures malformed { result ≡ 1 → IsErrAnd outcome (OfStream IsFormat) }
-    ensures unsupported { result ≡ 2 → IsErrAnd outcome (OfStream IsUnsupported) }
+    ensures code { result ≡ answer_of outcome }
+    ensures text { IfOk outcome (λ _. text.new ≡ text.old) }
 {
     match outcome {
         Ok(()) => OK,
-        Err(Refusal::Argument(reason)) => {
-            put_text(reason.as_bytes(), text);
-            BAD_ARGUMENT
-        }
-        Err(Refusal::NoRoom) => {
-            put_text(b"the buffer is too small for the picture", text);
-            NO_ROOM
-        }
-        Err(Refusal::Stream(error)) => {
-            match format!(in alloc; "{error}") {
-                Ok(line) => put_text(line.as_bytes(), text),
-                Err(_) => put_text(b"out of memory", text),
-            }
-            code_of(&error)
+        Err(refusal) => {
+            put_refusal(alloc, &refusal, text);
+            code_of(&refusal)
         }
     }
 }

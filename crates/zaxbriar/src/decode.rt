@@ -1,36 +1,31 @@
 //! Descriptions and pictures of streams.
-ghost use Rattle.std.specs.Prelude.{◌≡◌, ◌++◌, ◌*◌, ◌≤◌, ℕ, List, Ok, Some, length, option_map};
-ghost use Rattle.std.specs.Prelude.{IfOk, IfErr, OnErr, OnOk};
+ghost use Rattle.std.specs.Prelude.{◌≡◌, ◌++◌, ◌≤◌, ℕ, List, Some, length, option_map, true};
+ghost use Rattle.std.specs.Prelude.{IfErr, OnErr, OnOk};
+ghost use Rattle.jpeg_decoder.specs.Bytes.{decoding_bytes};
 ghost use Rattle.jpeg_streams.specs.ArrayPictures.{picture_of_array, Takes};
 ghost use Rattle.jpeg_streams.specs.DecodedImages.{at_size};
 ghost use Rattle.jpeg_streams.specs.Found.{Found};
 ghost use Rattle.jpeg_streams.specs.Levels.{Is8Bit, Levels};
 ghost use Rattle.jpeg_streams.specs.Output.{Tells};
 ghost use Rattle.jpeg_streams.specs.Pixels.{info_of};
-ghost use Rattle.jpeg_streams.specs.Stream.{Told, header_at};
+ghost use Rattle.jpeg_streams.specs.States.{HeaderRead};
+ghost use Rattle.jpeg_streams.specs.Stream.{header_at, rest_at};
 ghost use Rattle.jpeg_streams.specs.WrittenImages.{WritesImage};
 ghost use Rattle.jpeg_streams.specs.WrittenScans.{Coefficients};
 ghost use Rattle.zaxbriar.specs.Faults.{IsFault};
-ghost use Rattle.zaxbriar.specs.Lines.{HasLines, picture_by};
+ghost use Rattle.zaxbriar.specs.Layouts.{size_of_lines};
+ghost use Rattle.zaxbriar.specs.Lines.{Decodes, HasLines};
 ghost use Rattle.zaxbriar.specs.Meanings.{Describes, Shows, ShowsSamples};
 ghost use Rattle.zaxbriar.specs.Meanings.{meaning_by, settings_of, size_of};
 
-use crate::answers::Refusal;
+use crate::answers::{Refusal, refusal_of};
 use crate::header::{Header, read_header};
-use crate::lines::{Lines, lines_of, put_lines};
+use crate::lines::{Lines, is_as_decoded, lines_of, put_lines};
 use crate::options::Options;
 use crate::picture::{Picture, picture_of};
 use jpeg_decoder::Decoder;
 use std::alloc::Global;
 use std::io::Read;
-
-/// A picture that was decoded, and where its lines are to be written.
-#[derive(Drop)]
-struct Decoded {
-    header: Header,
-    lines: Lines,
-    samples: Vec<u8>,
-}
 
 /// Describes the picture of a stream by its header.
 pub fn read_info_from<R: Read + Drop>(
@@ -51,50 +46,41 @@ pub fn read_info_from<R: Read + Drop>(
     Ok(())
 }
 
-/// Reads the header, and then the picture if there is room for it.
-fn decode_from<R: Read + Drop>(
-    alloc: Global,
-    reader: R,
-    options: &Options,
-    room: usize,
-    picture: &mut Picture,
-) -> std::result::Result<Decoded, Refusal>
-    ensures means { (bytes : List ℕ) → Tells (R.remaining reader) bytes
-        → IfOk result (λ d. (told : Told) × (rest : List ℕ)
-        × (meaning_by options.now bytes ≡ Ok ((told, d.samples.items), rest))
-        × (option_map info_of told.frame ≡ Some d.header.info)
-        × (option_map (λ f. f.precision) told.frame ≡ Some d.header.precision)) }
-    ensures images { (bytes : List ℕ) → Tells (R.remaining reader) bytes →
-        (array : Coefficients) (image rest : List ℕ) (final : Found) (last : ℕ → Levels) →
-        ((place row column : ℕ) → Is8Bit (array place row column)) →
-        WritesImage array image final last →
-        Takes (settings_of options.now) (at_size (size_of options.now) final) →
-        bytes ≡ image ++ rest →
-        IfOk result (λ d. picture_of_array (settings_of options.now)
-        (at_size (size_of options.now) final) array last ≡ Ok d.samples.items) }
-    ensures named { (bytes : List ℕ) → Tells (R.remaining reader) bytes
-        → IfErr result (IsFault (meaning_by options.now bytes)) }
-    ensures lines { IfOk result (λ d. HasLines options.now d.header.info d.header.precision
-        d.lines) }
-    ensures count { IfOk result (λ d. length d.samples.items
-        ≡ d.lines.height * (d.lines.width * d.lines.stored)) }
-    ensures room { OnOk result (picture.new.size ≤ room) }
-    ensures picture { IfOk result (λ d. picture.new ≡ picture_by options.now.layout d.header.info
-        d.header.precision d.lines d.header.decoding_bytes.peak d.header.orientation 0) }
+/// Decodes the picture whose header was read into its lines in the caller's memory.
+fn decode_lines<R: Read + Drop>(
+    decoder: &mut Decoder<R>,
+    header: Header,
+    lines: Lines,
+    pixels: &mut [u8],
+) -> std::result::Result<(), Refusal>
+    requires read { decoder.old.stage ≡ HeaderRead }
+    requires info { option_map info_of decoder.old.found.frame ≡ Some header.info }
+    requires precision { option_map (λ f. f.precision) decoder.old.found.frame
+        ≡ Some header.precision }
+    requires bytes { option_map decoding_bytes decoder.old.found.frame
+        ≡ Some header.decoding_bytes }
+    requires lines { (options : Options) × HasLines options header.info header.precision lines }
+    requires room { size_of_lines lines.stride lines.row_bytes lines.height ≤ length pixels.old }
+    ensures decodes { OnOk result (Decodes lines decoder.old decoder.new pixels.old pixels.new) }
+    ensures named { decoder.old.source.known ≡ true
+        → IfErr result (IsFault (rest_at decoder.old.settings decoder.old.found
+        decoder.old.source.bytes)) }
+    ensures kept { OnErr result (pixels.new ≡ pixels.old) }
 {
-    let mut decoder = Decoder::new(alloc, reader)?;
-    let header = read_header(&mut decoder, options)?;
-    let lines = lines_of(header.info, header.precision, options)?;
-    *picture = picture_of(header, lines, options.layout);
-    if picture.size > room as u64 {
-        return Err(Refusal::NoRoom);
+    // Lines without gaps, in the layout that a decoder gives, need no second picture.
+    if is_as_decoded(lines) && header.decoding_bytes.picture <= pixels.len() as u64 {
+        return match decoder.decode_into(pixels) {
+            Ok(_) => Ok(()),
+            Err(error) => Err(refusal_of(decoder, error)),
+        };
     }
-    let samples = decoder.decode()?;
-    Ok(Decoded {
-        header,
-        lines,
-        samples,
-    })
+    match decoder.decode() {
+        Ok(samples) => {
+            put_lines(&samples, lines, pixels);
+            Ok(())
+        }
+        Err(error) => Err(refusal_of(decoder, error)),
+    }
 }
 
 /// Decodes a stream into the caller's memory.
@@ -119,7 +105,13 @@ pub fn decode_into<R: Read + Drop>(
         → IfErr result (IsFault (meaning_by options.now bytes)) }
     ensures kept { OnErr result (pixels.new ≡ pixels.old) }
 {
-    let decoded = decode_from(alloc, reader, options, pixels.len(), picture)?;
-    put_lines(&decoded.samples, decoded.lines, pixels);
+    let mut decoder = Decoder::new(alloc, reader)?;
+    let header = read_header(&mut decoder, options)?;
+    let lines = lines_of(header.info, header.precision, options)?;
+    *picture = picture_of(header, lines, options.layout);
+    if picture.size > pixels.len() as u64 {
+        return Err(Refusal::NoRoom);
+    }
+    decode_lines(&mut decoder, header, lines, pixels)?;
     Ok(())
 }

@@ -9,7 +9,7 @@ ghost use Rattle.zaxbriar.specs.Faults.{IsFault};
 ghost use Rattle.std.specs.Option.{option_copied};
 ghost use Rattle.zaxbriar.specs.Meanings.{ReadsHeader, orientation_by};
 
-use crate::answers::Refusal;
+use crate::answers::{Refusal, refusal_of};
 use crate::options::{Options, apply, apply_size, are_known};
 use jpeg_decoder::orientation::orientation_of;
 use jpeg_decoder::{Decoder, DecodingBytes, ImageInfo};
@@ -63,7 +63,9 @@ pub fn read_header<R: Read + Drop>(
         return Err(Refusal::Argument("an option doesn't exist"));
     }
     apply(decoder, options);
-    decoder.read_info()?;
+    if let Err(error) = decoder.read_info() {
+        return Err(refusal_of(decoder, error));
+    }
     apply_size(decoder, options)?;
     let (Some(info), Some(precision), Some(decoding_bytes)) = (
         decoder.info(),

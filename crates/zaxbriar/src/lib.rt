@@ -5,8 +5,8 @@
 //! functions that a C program calls: they test the pointers and then call these.
 #![tactic(auto)]
 
-ghost use Rattle.std.specs.Prelude.{◌≡◌, ◌++◌, ◌<◌, ◌^◌, ℕ, List, length, Err};
-ghost use Rattle.jpeg_bits.specs.Reading.{Malformed, Lacks};
+ghost use Rattle.std.specs.Prelude.{◌≡◌, ◌++◌, ◌<◌, ◌^◌, ℕ, List, length, Err, None};
+ghost use Rattle.jpeg_bits.specs.Reading.{Malformed, Lacks, End};
 ghost use Rattle.jpeg_bits.specs.declared.error.UnsupportedFeature.{UnsupportedFeature};
 ghost use Rattle.jpeg_streams.specs.ArrayPictures.{picture_of_array, Takes};
 ghost use Rattle.jpeg_streams.specs.DecodedImages.{at_size};
@@ -15,7 +15,7 @@ ghost use Rattle.jpeg_streams.specs.Levels.{Is8Bit, Levels};
 ghost use Rattle.jpeg_streams.specs.Stream.{header_at};
 ghost use Rattle.jpeg_streams.specs.WrittenImages.{WritesImage};
 ghost use Rattle.jpeg_streams.specs.WrittenScans.{Coefficients};
-ghost use Rattle.zaxbriar.specs.Metadata.{Copies};
+ghost use Rattle.zaxbriar.specs.Metadata.{IsCopied, said_of};
 ghost use Rattle.zaxbriar.specs.Meanings.{Describes, Shows, ShowsSamples};
 ghost use Rattle.zaxbriar.specs.Meanings.{meaning_by, settings_of, size_of};
 
@@ -31,7 +31,7 @@ mod reader;
 #[cfg(test)]
 mod tests;
 
-use answers::{answer, code_of};
+use answers::{NO_MEMORY, answer};
 use decode::{decode_into, read_info_from};
 use metadata::read_metadata;
 use options::Options;
@@ -51,10 +51,11 @@ pub extern "C" fn zaxbriar_checked_read_info(
     ensures describes { result ≡ 0 → length jpeg.now < 2 ^ 64
         → Describes options.now jpeg.now picture.new }
 
-    // MALFORMED and UNSUPPORTED name the header's fault.
+    // MALFORMED, UNSUPPORTED and TRUNCATED name the header's fault.
     ensures malformed { length jpeg.now < 2 ^ 64 → result ≡ 1 → header_at jpeg.now ≡ Err Malformed }
     ensures unsupported { length jpeg.now < 2 ^ 64 → result ≡ 2 → (feature : UnsupportedFeature)
         × (header_at jpeg.now ≡ Err (Lacks feature)) }
+    ensures truncated { length jpeg.now < 2 ^ 64 → result ≡ 3 → header_at jpeg.now ≡ Err End }
 {
     *picture = NO_PICTURE;
     let outcome = read_info_from(alloc, &mut Bytes::new(jpeg), options, picture);
@@ -85,11 +86,13 @@ pub extern "C" fn zaxbriar_checked_decode(
         ShowsSamples options.now (picture_of_array (settings_of options.now)
         (at_size (size_of options.now) final) array last) pixels.old pixels.new picture.new }
 
-    // MALFORMED and UNSUPPORTED name the stream's fault.
+    // MALFORMED, UNSUPPORTED and TRUNCATED name the stream's fault.
     ensures malformed { length jpeg.now < 2 ^ 64 → result ≡ 1
         → meaning_by options.now jpeg.now ≡ Err Malformed }
     ensures unsupported { length jpeg.now < 2 ^ 64 → result ≡ 2 → (feature : UnsupportedFeature)
         × (meaning_by options.now jpeg.now ≡ Err (Lacks feature)) }
+    ensures truncated { length jpeg.now < 2 ^ 64 → result ≡ 3
+        → meaning_by options.now jpeg.now ≡ Err End }
 
     // After any other result than OK, `pixels` is as it was.
     ensures kept { (result ≡ 0 → ⊥) → pixels.new ≡ pixels.old }
@@ -111,9 +114,18 @@ pub extern "C" fn zaxbriar_checked_metadata(
     buffer: &mut [u8],
     count: &mut u64,
 ) -> u32
-    // After OK, `buffer` begins with what some first segments of the stream have said.
+    // After OK, `buffer` begins with what the segments by the end or the refusal of the header say.
     ensures copies { result ≡ 0 → length jpeg.now < 2 ^ 64
-        → Copies kind jpeg.now buffer.old buffer.new count.new }
+        → IsCopied (said_of kind jpeg.now) buffer.old buffer.new count.new }
+
+    // NO_DATA: they say nothing of this kind.
+    ensures none { length jpeg.now < 2 ^ 64 → result ≡ 7 → said_of kind jpeg.now ≡ None }
+
+    // MALFORMED, UNSUPPORTED and TRUNCATED name the header's fault.
+    ensures malformed { length jpeg.now < 2 ^ 64 → result ≡ 1 → header_at jpeg.now ≡ Err Malformed }
+    ensures unsupported { length jpeg.now < 2 ^ 64 → result ≡ 2 → (feature : UnsupportedFeature)
+        × (header_at jpeg.now ≡ Err (Lacks feature)) }
+    ensures truncated { length jpeg.now < 2 ^ 64 → result ≡ 3 → header_at jpeg.now ≡ Err End }
 
     // After any other result, `buffer` is as it was.
     ensures kept { (result ≡ 0 → ⊥) → buffer.new ≡ buffer.old }
@@ -121,6 +133,6 @@ pub extern "C" fn zaxbriar_checked_metadata(
     *count = 0;
     match read_metadata(alloc, &mut Bytes::new(jpeg), kind, buffer, count) {
         Ok(code) => code,
-        Err(error) => code_of(&error),
+        Err(_) => NO_MEMORY,
     }
 }

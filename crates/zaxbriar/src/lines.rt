@@ -1,9 +1,10 @@
 //! Where the lines of a picture are in the caller's memory.
-ghost use Rattle.std.specs.Prelude.{◌≡◌, ◌+◌, ◌*◌, ◌<◌, ◌≤◌, ℕ, length, IfOk, IfErr};
+ghost use Rattle.std.specs.Prelude.{◌≡◌, ◌+◌, ◌*◌, ◌<◌, ◌≤◌, ℕ, length, true, IfOk, IfErr};
 ghost use Rattle.jpeg_decoder.specs.Bytes.{bytes_a_sample, samples_a_pixel};
 ghost use Rattle.zaxbriar.specs.Faults.{IsArgument};
 ghost use Rattle.zaxbriar.specs.Layouts.{Fits, converted_bytes, laid_out, line_of, size_of_lines};
 ghost use Rattle.zaxbriar.specs.Lines.{HasLines};
+ghost use Rattle.zaxbriar.specs.declared.layouts.Conversion.TheVariants.{Stored};
 
 use crate::answers::Refusal;
 use crate::layouts::{Conversion, conversion_of, converted_bytes, put_row};
@@ -79,6 +80,17 @@ pub fn lines_of(
         row_bytes,
         stride,
     })
+}
+
+/// Returns whether the lines are those that a decoder gives, without gaps.
+pub fn is_as_decoded(lines: Lines) -> bool
+    ensures { result ≡ true
+        → (lines.conversion ≡ Stored) × (lines.stride ≡ lines.row_bytes) }
+{
+    match lines.conversion {
+        Conversion::Stored => lines.stride == lines.row_bytes,
+        _ => false,
+    }
 }
 
 /// Returns the bytes from the first of a picture to its last.

@@ -1,10 +1,14 @@
 //! The metadata of a header.
-ghost use Rattle.std.specs.Prelude.{◌≡◌, ℕ, List, IfOk, OnErr};
+ghost use Rattle.std.specs.Prelude.{◌≡◌, ◌<◌, ℕ, List, None, true, IfErr, IfOk, OnErr, OnOk};
 ghost use Rattle.std.specs.Option.{option_copied};
 ghost use Rattle.jpeg_streams.specs.Output.{Tells};
-ghost use Rattle.zaxbriar.specs.Metadata.{Copies, IsCopied, metadata_of};
+ghost use Rattle.jpeg_streams.specs.Reported.{told_by_stream};
+ghost use Rattle.jpeg_streams.specs.States.{Fresh};
+ghost use Rattle.jpeg_streams.specs.Stream.{header_at, told_of};
+ghost use Rattle.zaxbriar.specs.Faults.{IsNamed};
+ghost use Rattle.zaxbriar.specs.Metadata.{IsCopied, metadata_of, said_of};
 
-use crate::answers::{BAD_ARGUMENT, NO_DATA, NO_ROOM, OK};
+use crate::answers::{BAD_ARGUMENT, NO_DATA, NO_ROOM, OK, TRUNCATED, code_of, refusal_of};
 use jpeg_decoder::Decoder;
 use jpeg_decoder::error::Result;
 use std::alloc::Global;
@@ -14,6 +18,8 @@ use std::io::Read;
 fn copy_data(found: Option<&[u8]>, buffer: &mut [u8], count: &mut u64) -> u32
     ensures copied { result ≡ 0
         → IsCopied (option_copied found.entry) buffer.old buffer.new count.new }
+    ensures none { result ≡ 7 → option_copied found.entry ≡ None }
+    ensures own { result < 4 → result ≡ 0 }
     ensures kept { (result ≡ 0 → ⊥) → buffer.new ≡ buffer.old }
 {
     match found {
@@ -38,6 +44,9 @@ fn copy_profile<R: Read + Drop>(
 ) -> Result<u32>
     ensures copied { IfOk result (λ code. code ≡ 0
         → IsCopied (metadata_of 3 decoder.now.found.metadata) buffer.old buffer.new count.new) }
+    ensures none { IfOk result (λ code. code ≡ 7
+        → metadata_of 3 decoder.now.found.metadata ≡ None) }
+    ensures own { IfOk result (λ code. code < 4 → code ≡ 0) }
     ensures kept { IfOk result (λ code. (code ≡ 0 → ⊥) → buffer.new ≡ buffer.old) }
     ensures failed { OnErr result (buffer.new ≡ buffer.old) }
 {
@@ -56,6 +65,9 @@ fn copy_kind<R: Read + Drop>(
 ) -> Result<u32>
     ensures copied { IfOk result (λ code. code ≡ 0
         → IsCopied (metadata_of kind decoder.now.found.metadata) buffer.old buffer.new count.new) }
+    ensures none { IfOk result (λ code. code ≡ 7
+        → metadata_of kind decoder.now.found.metadata ≡ None) }
+    ensures own { IfOk result (λ code. code < 4 → code ≡ 0) }
     ensures kept { IfOk result (λ code. (code ≡ 0 → ⊥) → buffer.new ≡ buffer.old) }
     ensures failed { OnErr result (buffer.new ≡ buffer.old) }
 {
@@ -67,7 +79,29 @@ fn copy_kind<R: Read + Drop>(
     }
 }
 
-/// Copies metadata that the segments before the frame have, also where the frame isn't accepted.
+/// Reads a header, also one whose frame isn't accepted, and returns the number of a call that finds
+/// no data in it. Where memory or the reader fails, that number is the error.
+fn read_told<R: Read + Drop>(decoder: &mut Decoder<R>) -> std::result::Result<u32, u32>
+    requires fresh { decoder.old.stage ≡ Fresh }
+    ensures told { decoder.old.source.known ≡ true → OnOk result (told_of decoder.new.found
+        ≡ told_by_stream true decoder.old.source.bytes) }
+    ensures named { decoder.old.source.known ≡ true
+        → IfOk result (λ code. IsNamed code (header_at decoder.old.source.bytes)) }
+    ensures fails { IfOk result (λ code. code ≡ 0 → ⊥) }
+    ensures other { IfErr result (λ code. 3 < code × (code ≡ 7 → ⊥)) }
+{
+    let Err(error) = decoder.read_info() else {
+        return Ok(NO_DATA);
+    };
+    let code = code_of(&refusal_of(decoder, error));
+    if code <= TRUNCATED {
+        Ok(code)
+    } else {
+        Err(code)
+    }
+}
+
+/// Copies metadata that the segments before the frame have. The only error is `OutOfMemory`.
 pub fn read_metadata<R: Read + Drop>(
     alloc: Global,
     reader: &mut R,
@@ -76,15 +110,20 @@ pub fn read_metadata<R: Read + Drop>(
     count: &mut u64,
 ) -> Result<u32>
     ensures copied { (bytes : List ℕ) → Tells (R.remaining reader.old) bytes
-        → IfOk result (λ code. code ≡ 0 → Copies kind bytes buffer.old buffer.new count.new) }
+        → IfOk result (λ code. code ≡ 0
+        → IsCopied (said_of kind bytes) buffer.old buffer.new count.new) }
+    ensures none { (bytes : List ℕ) → Tells (R.remaining reader.old) bytes
+        → IfOk result (λ code. code ≡ 7 → said_of kind bytes ≡ None) }
+    ensures named { (bytes : List ℕ) → Tells (R.remaining reader.old) bytes
+        → IfOk result (λ code. IsNamed code (header_at bytes)) }
     ensures kept { IfOk result (λ code. (code ≡ 0 → ⊥) → buffer.new ≡ buffer.old) }
     ensures failed { OnErr result (buffer.new ≡ buffer.old) }
 {
     let mut decoder = Decoder::new(alloc, reader)?;
-    let outcome = decoder.read_info();
+    let missing = match read_told(&mut decoder) {
+        Ok(code) => code,
+        Err(code) => return Ok(code),
+    };
     let code = copy_kind(&decoder, kind, buffer, count)?;
-    if code == NO_DATA {
-        outcome?;
-    }
-    Ok(code)
+    Ok(if code == NO_DATA { missing } else { code })
 }

@@ -16,7 +16,7 @@ pub struct Picture {
     pub size: u64,
     /// The bytes of a line without its gap: `width * pixel_bytes`.
     pub row_bytes: u64,
-    /// The memory that decoding allocates for samples.
+    /// The most memory that decoding takes for samples.
     pub decoding_bytes: u64,
     /// After decoding, how many bytes of the stream were read.
     pub stream_bytes: u64,

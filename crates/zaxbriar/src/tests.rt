@@ -73,6 +73,35 @@ fn a_small_buffer_and_a_cut_stream_are_refused(rt: HostRuntime) {
 }
 
 #[test]
+fn stored_samples_have_gaps_or_none(rt: HostRuntime) {
+    for layout in [0, 1] {
+        for stride in [0, 8, 9] {
+            let mut picture = NO_PICTURE;
+            let mut pixels = [7u8; 80];
+            let options = Options {
+                stride,
+                layout,
+                ..PLAIN
+            };
+            let result = zaxbriar_checked_decode(
+                rt.alloc(),
+                &GREY,
+                &options,
+                &mut pixels,
+                &mut picture,
+            );
+            assert_eq!(rt; result, OK);
+            let stride = if stride == 9 { 9 } else { 8 };
+            assert_eq!(rt; picture.size, stride * 7 + 8);
+            for (x, pixel) in pixels.iter().enumerate() {
+                let is_of_line = (x as u64) < picture.size && x as u64 % stride < 8;
+                assert_eq!(rt; *pixel, if is_of_line { 0x81 } else { 7 });
+            }
+        }
+    }
+}
+
+#[test]
 fn samples_above_8_bits_have_two_bytes(rt: HostRuntime) {
     let mut picture = NO_PICTURE;
     let mut pixels = [7u8; 6];
@@ -221,6 +250,13 @@ fn metadata_are_copied(rt: HostRuntime) -> Result<(), Fail> {
         assert_eq!(rt; count, 22);
         let result = zaxbriar_checked_metadata(rt.alloc(), bytes, 3, &mut [], &mut count);
         assert_eq!(rt; result, NO_DATA);
+        // The header ends too soon, after the Exif data.
+        let cut = &bytes[..40];
+        let result = zaxbriar_checked_metadata(rt.alloc(), cut, 1, &mut buffer, &mut count);
+        assert_eq!(rt; result, OK);
+        assert_eq!(rt; count, 22);
+        let result = zaxbriar_checked_metadata(rt.alloc(), cut, 2, &mut buffer, &mut count);
+        assert_eq!(rt; result, TRUNCATED);
         let result = zaxbriar_checked_metadata(rt.alloc(), bytes, 4, &mut [], &mut count);
         assert_eq!(rt; result, BAD_ARGUMENT);
         let mut picture = NO_PICTURE;

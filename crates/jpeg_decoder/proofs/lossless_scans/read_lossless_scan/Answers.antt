@@ -6,24 +6,72 @@ use Rattle.std.specs.List.{AllByRecursion}
 use Rattle.std.specs.declared.alloc.Global.{Global}
 use Rattle.std.specs.declared.vec.Vec.{Vec}
 use Rattle.jpeg_bits.specs.declared.codes.HuffmanTable.{HuffmanTable}
-use Rattle.jpeg_lossless.specs.Codings.{AreWhole, IsCovered, part_in, way_by}
+use Rattle.jpeg_lossless.specs.Codings.{AreWhole, IsCovered, part_in}
 use Rattle.jpeg_lossless.specs.Differences.{Part}
-use Rattle.jpeg_lossless.specs.Scans.{scan_at}
 use Rattle.jpeg_lossless.specs.declared.scan.Coding.{Coding}
 use Rattle.std.proofs.lemmas.Result.{err_from_is_err_and}
 use Rattle.jpeg_bits.specs.declared.marker.Marker.{Marker}
 use Rattle.jpeg_segments.specs.FrameView.{frame_in, scan_in}
-use Rattle.jpeg_streams.specs.LosslessScans.{LosslessCoding, with_samples}
+use Rattle.jpeg_streams.specs.Found.{Found}
+use Rattle.jpeg_streams.specs.LosslessScans.{with_samples}
 use Rattle.jpeg_decoder.specs.LosslessParts.{mcus_high, mcus_wide, parts_at}
 use Rattle.jpeg_decoder.specs.Seen.{found_in, planes_in}
 use Rattle.jpeg_decoder.specs.Steps.{samples_read, with_decoded}
-use Rattle.jpeg_decoder.proofs.LosslessReads.{begun, coded-by, codings-by-tables, codings-count, codings-lacking, four-places}
+use Rattle.jpeg_decoder.proofs.LosslessReads.{AreCodings, HasMcus, begun, coded-by, codings-by-tables, codings-count, codings-lacking, four-places}
 use Rattle.jpeg_decoder.proofs.LosslessReads.{has-mcus, on-ok, parts-count, put-made, samples-end, samples-fail}
 use Rattle.jpeg_decoder.proofs.LosslessReads.{samples-lacking, samples-sound, scan-sampled}
 use Rattle.jpeg_decoder.proofs.PicturesOfPlanes.{decoded-factors}
 use Rattle.jpeg_decoder.proofs.ScanReads.{refused}
 use Rattle.jpeg_streams.proofs.Soundness.{decoded-precision}
+use Rattle.jpeg_decoder.proofs.lossless_scans.read_lossless_scan.Given as given
+use Rattle.jpeg_decoder.proofs.lossless_scans.read_lossless_scan.Goals.{After-deref-2, After-deref-3, After-put_samples}
 use Rattle.jpeg_decoder.proofs.lossless_scans.read_lossless_scan.Goals as goal
+
+-- the components of the scan, with their tables
+coded : (g : given.Over) (c : After-deref-2 g) → let scan = scan_in c.args.header.now in
+    AreCodings (found_in c.args.state.now).huffman.dc (frame_in c.args.frame.now) scan.components scan.dc_places
+    (map (λ t. t.now) c.in_ok-tables.tables.items)
+coded g c =
+    let frame = frame_in c.args.frame.now in
+    let scan = scan_in c.args.header.now in
+    codings-by-tables _ frame scan.components scan.dc_places _
+    (recursion_from_All (λ place. place < length frame.components) scan.components c.requires.legal.components)
+    c.requires.legal.dc_length c.in_ok-tables.ensures
+
+-- their parts
+made : (g : given.Over) (c : After-deref-3 g) → let places = (scan_in c.args.header.now).components in
+    map part_in c.deref-3.result.now ≡ parts_at (length places == 1) (frame_in c.args.frame.now).components places
+    (map (λ t. t.now) c.in_ok-tables.tables.items)
+made g c =
+    ap (map part_in) c.deref-3.ensures.value ∙ c.in_ok-parts.ensures
+    ∙ ap₂ (λ (l : List ℕ) (b : List (Bor HuffmanTable)).
+    parts_at (length l == 1) (frame_in c.args.frame.now).components l (map (λ t. t.now) b))
+    c.deref.ensures.value c.deref-2.ensures.value
+
+-- their MCUs
+mcus : (g : given.Over) (c : After-deref-2 g)
+    → let frame = frame_in c.args.frame.now in
+    let places = (scan_in c.args.header.now).components in
+    HasMcus (mcus_wide frame places) (mcus_high frame places) (parts_at (length places == 1) frame.components places
+    (map (λ t. t.now) c.in_ok-tables.tables.items))
+mcus g c =
+    has-mcus _ _ _ _ _ (coded g c) (c.requires.sound.frames (frame_in c.args.frame.now) c.requires.frame)
+    c.requires.process
+
+-- the planes of their samples
+placed : (g : given.Over) (c : After-put_samples g)
+    → let found = with_decoded (found_in c.args.state.now) c.args.decoded.now in
+    ◌≡◌ {A = Found} (record (with_decoded (found_in c.args.state.now) c.put_samples.new.self) { scanned = true })
+    (record found {
+      scanned = true;
+      samples = with_samples (scan_in c.args.header.now).components (map (λ v. v.items) c.in_ok-planes.planes.items) found.samples;
+    })
+placed g c =
+    let planes = map (λ v. v.items) c.in_ok-planes.planes.items in
+    put-made (found_in c.args.state.now) c.args.decoded.now c.put_samples.new.self _ c.put_samples.ensures.held
+    c.put_samples.ensures.finished c.put_samples.ensures.planes
+    (c.put_samples.ensures.samples
+    ∙ ap (λ (l : List ℕ). with_samples l planes (planes_in c.args.decoded.now.samples)) c.deref-4.ensures.value)
 
 pub returns-in_err-tables-clause-reads : goal.returns-in_err-tables-clause-reads
 returns-in_err-tables-clause-reads g c =
@@ -43,71 +91,31 @@ returns-in_err-tables-clause-reads g c =
 
 pub parts_of-requires-clause-count : goal.parts_of-requires-clause-count
 parts_of-requires-clause-count g c =
-    let found = with_decoded (found_in c.args.state.now) c.args.decoded.now in
-    let frame = frame_in c.args.frame.now in
-    let header = scan_in c.args.header.now in
-    let places = recursion_from_All (λ place. place < length frame.components) header.components
-    c.requires.legal.components in
-    let ts = map (λ t. t.now) c.in_ok-tables.tables.items in
-    let a = codings-by-tables found.huffman.dc frame header.components header.dc_places ts places
-    c.requires.legal.dc_length c.in_ok-tables.ensures in
     ap (λ l. length l) c.deref-2.ensures.value ∙ sym (length-map c.in_ok-tables.tables.items (λ t. t.now))
-    ∙ codings-count found.huffman.dc frame header.components header.dc_places ts a
+    ∙ codings-count _ _ _ _ _ (coded g (goal.at.parts_of-requires-clause-count g c).After-deref-2)
     ∙ ap length (sym c.deref.ensures.value)
 
 pub coding_of-coding-requires-clause-sampling : goal.coding_of-coding-requires-clause-sampling
 coding_of-coding-requires-clause-sampling g c =
-    let frame = frame_in c.args.frame.now in
-    decoded-factors frame (c.requires.sound.frames frame c.requires.frame)
+    decoded-factors _ (c.requires.sound.frames (frame_in c.args.frame.now) c.requires.frame)
 
 pub read_scan-requires-clause-wide : goal.read_scan-requires-clause-wide
 read_scan-requires-clause-wide g c =
-    let found = with_decoded (found_in c.args.state.now) c.args.decoded.now in
-    let frame = frame_in c.args.frame.now in
-    let header = scan_in c.args.header.now in
-    let places = recursion_from_All (λ place. place < length frame.components) header.components
-    c.requires.legal.components in
-    let ts = map (λ t. t.now) c.in_ok-tables.tables.items in
-    let a = codings-by-tables found.huffman.dc frame header.components header.dc_places ts places
-    c.requires.legal.dc_length c.in_ok-tables.ensures in
-    let mcus = has-mcus found.huffman.dc frame header.components header.dc_places ts a
-    (c.requires.sound.frames frame c.requires.frame) c.requires.process in
-    rw c.coding_of-coding.ensures mcus.some_wide
+    rw c.coding_of-coding.ensures (mcus g (goal.at.read_scan-requires-clause-wide g c).After-deref-2).some_wide
 
 pub read_scan-requires-clause-high : goal.read_scan-requires-clause-high
 read_scan-requires-clause-high g c =
-    let found = with_decoded (found_in c.args.state.now) c.args.decoded.now in
-    let frame = frame_in c.args.frame.now in
-    let header = scan_in c.args.header.now in
-    let places = recursion_from_All (λ place. place < length frame.components) header.components
-    c.requires.legal.components in
-    let ts = map (λ t. t.now) c.in_ok-tables.tables.items in
-    let a = codings-by-tables found.huffman.dc frame header.components header.dc_places ts places
-    c.requires.legal.dc_length c.in_ok-tables.ensures in
-    let mcus = has-mcus found.huffman.dc frame header.components header.dc_places ts a
-    (c.requires.sound.frames frame c.requires.frame) c.requires.process in
-    rw c.coding_of-coding.ensures mcus.some_high
+    rw c.coding_of-coding.ensures (mcus g (goal.at.read_scan-requires-clause-high g c).After-deref-2).some_high
 
 pub read_scan-requires-clause-covered : goal.read_scan-requires-clause-covered
 read_scan-requires-clause-covered g c =
-    let found = with_decoded (found_in c.args.state.now) c.args.decoded.now in
     let frame = frame_in c.args.frame.now in
-    let header = scan_in c.args.header.now in
-    let places = recursion_from_All (λ place. place < length frame.components) header.components
-    c.requires.legal.components in
-    let ts = map (λ t. t.now) c.in_ok-tables.tables.items in
-    let a = codings-by-tables found.huffman.dc frame header.components header.dc_places ts places
-    c.requires.legal.dc_length c.in_ok-tables.ensures in
-    let parts = map part_in c.deref-3.result.now in
-    let made : parts ≡ parts_at (length header.components == 1) frame.components header.components ts =
-    ap (map part_in) c.deref-3.ensures.value ∙ c.in_ok-parts.ensures
-    ∙ ap₂ (λ (l : List ℕ) (b : List (Bor HuffmanTable)). parts_at (length l == 1) frame.components l
-    (map (λ t. t.now) b)) c.deref.ensures.value c.deref-2.ensures.value in
-    let mcus = has-mcus found.huffman.dc frame header.components header.dc_places ts a
-    (c.requires.sound.frames frame c.requires.frame) c.requires.process in
-    subst (λ (k : Coding). AllByRecursion (IsCovered k.wide k.high) parts) (sym c.coding_of-coding.ensures)
-    (subst (AllByRecursion (IsCovered (mcus_wide frame header.components) (mcus_high frame header.components)))
-    (sym made) mcus.covered)
+    let places = (scan_in c.args.header.now).components in
+    let at = goal.at.read_scan-requires-clause-covered g c in
+    subst (λ (k : Coding). AllByRecursion (IsCovered k.wide k.high) (map part_in c.deref-3.result.now))
+    (sym c.coding_of-coding.ensures)
+    (subst (AllByRecursion (IsCovered (mcus_wide frame places) (mcus_high frame places)))
+    (sym (made g at.After-deref-3)) (mcus g at.After-deref-2).covered)
 
 pub read_scan-requires-clause-precision : goal.read_scan-requires-clause-precision
 read_scan-requires-clause-precision g c =
@@ -121,43 +129,20 @@ returns-in_err-planes-clause-reads g c =
     let found = with_decoded (found_in c.args.state.now) c.args.decoded.now in
     let frame = frame_in c.args.frame.now in
     let header = scan_in c.args.header.now in
-    let places = recursion_from_All (λ place. place < length frame.components) header.components
-    c.requires.legal.components in
-    let ts = map (λ t. t.now) c.in_ok-tables.tables.items in
-    let a = codings-by-tables found.huffman.dc frame header.components header.dc_places ts places
-    c.requires.legal.dc_length c.in_ok-tables.ensures in
-    let parts = map part_in c.deref-3.result.now in
-    let made : parts ≡ parts_at (length header.components == 1) frame.components header.components ts =
-    ap (map part_in) c.deref-3.ensures.value ∙ c.in_ok-parts.ensures
-    ∙ ap₂ (λ (l : List ℕ) (b : List (Bor HuffmanTable)). parts_at (length l == 1) frame.components l
-    (map (λ t. t.now) b)) c.deref.ensures.value c.deref-2.ensures.value in
-    let is = coded-by found frame header ts a c.coding_of-coding.result parts c.coding_of-coding.ensures made in
-    let k = c.coding_of-coding.result in
+    let at = goal.at.returns-in_err-planes-clause-reads g c in
+    let a = coded g at.After-deref-2 in
     rw (p.1, p.2) (samples-fail {X = Option Marker} (λ m. (found, m))
     (λ (r : Vec (Vec ℕ Global) Global × Option Marker). (map (λ v. v.items) r.0.items, r.1)) found
-    frame header a.codings
-    (scan_at (way_by k parts) k.high k.restart_interval k.point_transform)
-    c.args.source.now c.read_scan.new.source _ a.are is c.in_err-planes.ensures.reads)
+    frame header a.codings _ c.args.source.now c.read_scan.new.source _ a.are
+    (coded-by found frame header _ a _ _ c.coding_of-coding.ensures (made g at.After-deref-3))
+    c.in_err-planes.ensures.reads)
 
 pub put_samples-requires-clause-count : goal.put_samples-requires-clause-count
 put_samples-requires-clause-count g c =
-    let found = with_decoded (found_in c.args.state.now) c.args.decoded.now in
-    let frame = frame_in c.args.frame.now in
-    let header = scan_in c.args.header.now in
-    let places = recursion_from_All (λ place. place < length frame.components) header.components
-    c.requires.legal.components in
-    let ts = map (λ t. t.now) c.in_ok-tables.tables.items in
-    let a = codings-by-tables found.huffman.dc frame header.components header.dc_places ts places
-    c.requires.legal.dc_length c.in_ok-tables.ensures in
-    let parts = map part_in c.deref-3.result.now in
-    let made : parts ≡ parts_at (length header.components == 1) frame.components header.components ts =
-    ap (map part_in) c.deref-3.ensures.value ∙ c.in_ok-parts.ensures
-    ∙ ap₂ (λ (l : List ℕ) (b : List (Bor HuffmanTable)). parts_at (length l == 1) frame.components l
-    (map (λ t. t.now) b)) c.deref.ensures.value c.deref-2.ensures.value in
+    let at = goal.at.put_samples-requires-clause-count g c in
     c.in_ok-planes.ensures.count
-    ∙ sym (length-map c.deref-3.result.now part_in) ∙ ap (λ (l : List Part). length l) made
-    ∙ parts-count (length header.components == 1) frame.components header.components ts
-    (codings-count found.huffman.dc frame header.components header.dc_places ts a)
+    ∙ sym (length-map c.deref-3.result.now part_in) ∙ ap (λ (l : List Part). length l) (made g at.After-deref-3)
+    ∙ parts-count _ _ _ _ (codings-count _ _ _ _ _ (coded g at.After-deref-2))
     ∙ ap length (sym c.deref-4.ensures.value)
 
 pub put_samples-requires-clause-places : goal.put_samples-requires-clause-places
@@ -171,29 +156,15 @@ returns-clause-reads g c =
     let found = with_decoded (found_in c.args.state.now) c.args.decoded.now in
     let frame = frame_in c.args.frame.now in
     let header = scan_in c.args.header.now in
-    let places = recursion_from_All (λ place. place < length frame.components) header.components
-    c.requires.legal.components in
-    let ts = map (λ t. t.now) c.in_ok-tables.tables.items in
-    let a = codings-by-tables found.huffman.dc frame header.components header.dc_places ts places
-    c.requires.legal.dc_length c.in_ok-tables.ensures in
-    let parts = map part_in c.deref-3.result.now in
-    let made : parts ≡ parts_at (length header.components == 1) frame.components header.components ts =
-    ap (map part_in) c.deref-3.ensures.value ∙ c.in_ok-parts.ensures
-    ∙ ap₂ (λ (l : List ℕ) (b : List (Bor HuffmanTable)). parts_at (length l == 1) frame.components l
-    (map (λ t. t.now) b)) c.deref.ensures.value c.deref-2.ensures.value in
-    let is = coded-by found frame header ts a c.coding_of-coding.result parts c.coding_of-coding.ensures made in
-    let k = c.coding_of-coding.result in
+    let at = goal.at.returns-clause-reads g c in
+    let a = coded g at.After-deref-2 in
     let planes = map (λ v. v.items) c.in_ok-planes.planes.items in
-    let put : planes_in c.put_samples.new.self.samples ≡ with_samples (map (λ (x : LosslessCoding). x.place) a.codings)
-    planes found.samples =
-    c.put_samples.ensures.samples
-    ∙ ap (λ (l : List ℕ). with_samples l planes found.samples) (c.deref-4.ensures.value ∙ sym a.places_are) in
     samples-end found (record (with_decoded (found_in c.args.state.now) c.put_samples.new.self) { scanned = true })
-    frame header a.codings (scan_at (way_by k parts) k.high k.restart_interval k.point_transform) planes
-    c.in_ok-planes.met
-    c.args.source.now c.read_scan.new.source c.pass_restarts.new.source c.pass_restarts.result a.are is
-    (put-made (found_in c.args.state.now) c.args.decoded.now c.put_samples.new.self _ c.put_samples.ensures.held
-    c.put_samples.ensures.finished c.put_samples.ensures.planes put)
+    frame header a.codings _ planes c.in_ok-planes.met
+    c.args.source.now c.read_scan.new.source c.pass_restarts.new.source c.pass_restarts.result a.are
+    (coded-by found frame header _ a _ _ c.coding_of-coding.ensures (made g at.After-deref-3))
+    (placed g at.After-put_samples
+    ∙ ap (λ (l : List ℕ). record found { scanned = true; samples = with_samples l planes found.samples }) (sym a.places_are))
     c.in_ok-planes.ensures.reads c.pass_restarts.ensures
 
 pub returns-clause-sound : goal.returns-clause-sound
@@ -201,24 +172,11 @@ returns-clause-sound g c =
     let found = with_decoded (found_in c.args.state.now) c.args.decoded.now in
     let frame = frame_in c.args.frame.now in
     let header = scan_in c.args.header.now in
-    let places = recursion_from_All (λ place. place < length frame.components) header.components
-    c.requires.legal.components in
-    let ts = map (λ t. t.now) c.in_ok-tables.tables.items in
-    let a = codings-by-tables found.huffman.dc frame header.components header.dc_places ts places
-    c.requires.legal.dc_length c.in_ok-tables.ensures in
+    let at = goal.at.returns-clause-sound g c in
     let next = record (with_decoded (found_in c.args.state.now) c.put_samples.new.self) { scanned = true } in
     let planes = map (λ v. v.items) c.in_ok-planes.planes.items in
-    let parts = map part_in c.deref-3.result.now in
-    let made : parts ≡ parts_at (length header.components == 1) frame.components header.components ts =
-    ap (map part_in) c.deref-3.ensures.value ∙ c.in_ok-parts.ensures
-    ∙ ap₂ (λ (l : List ℕ) (b : List (Bor HuffmanTable)). parts_at (length l == 1) frame.components l
-    (map (λ t. t.now) b)) c.deref.ensures.value c.deref-2.ensures.value in
-    let whole : AreWhole (parts_at (length header.components == 1) frame.components header.components ts) planes =
-    subst (λ (l : List Part). AreWhole l planes) made c.in_ok-planes.ensures.whole in
     on-ok c.pass_restarts.result (samples-sound found next frame header.components planes c.requires.sound
     c.requires.frame c.requires.process
-    (scan-sampled (length header.components == 1) found frame header.components ts planes c.requires.sound
-    c.requires.frame whole)
-    (put-made (found_in c.args.state.now) c.args.decoded.now c.put_samples.new.self _ c.put_samples.ensures.held
-    c.put_samples.ensures.finished c.put_samples.ensures.planes
-    (c.put_samples.ensures.samples ∙ ap (λ (l : List ℕ). with_samples l planes found.samples) c.deref-4.ensures.value)))
+    (scan-sampled (length header.components == 1) found frame header.components _ planes c.requires.sound
+    c.requires.frame (subst (λ (l : List Part). AreWhole l planes) (made g at.After-deref-3) c.in_ok-planes.ensures.whole))
+    (placed g at.After-put_samples))

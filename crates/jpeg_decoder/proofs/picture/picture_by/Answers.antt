@@ -1,10 +1,10 @@
-use Rattle.std.proofs.Common.{◌≡◌, ◌≢◌, Option, ◌∙◌, ◌∷◌, ◌++◌, [], arith, refl, ap}
+use Rattle.std.proofs.Common.{◌≡◌, ◌≢◌, ◌≤◌, Option, ◌∙◌, ◌∷◌, ◌++◌, [], arith, refl, ap}
 use Rattle.std.proofs.Common.{length, map}
 use Rattle.std.specs.Option.{option_to_list}
 use Rattle.std.proofs.lemmas.List.{length-map}
 use Rattle.jpeg_segments.specs.FrameView.{component_in, frame_in}
 use Rattle.jpeg_decoder.specs.Seen.{metadata_in}
-use Rattle.jpeg_decoder.proofs.PicturesOfPlanes.{decoded-several, decoded-factors, decoded-cover, picture-first}
+use Rattle.jpeg_decoder.proofs.PicturesOfPlanes.{several-seen, decoded-factors, decoded-cover, picture-first}
 use Rattle.jpeg_decoder.proofs.PicturesOfPlanes.{popped-only, scale-first, several-given}
 use Rattle.jpeg_decoder.proofs.picture.picture_by.Goals as goal
 
@@ -34,21 +34,18 @@ returns-then-components-eq1 c =
     c.if-components-eq1.true
     (ap (map (λ v. v.items)) only) c.crop_to.ensures
 
+several : (c : goal.After-compute_image_rows-arg-1)
+    → let slice = c.as_slice-components.result.now in
+    (length (frame_in c.args.frame.now).components ≢ 1) × ((3 ≤ length slice) × (length slice ≤ 4))
+several c =
+    several-seen c.args.frame.now.components.items c.as_slice-components.result.now (frame_in c.args.frame.now) refl
+    c.as_slice-components.ensures.value c.requires.frame c.if-components-eq1.false
+
 pub compute_image_rows-requires-clause-some : goal.compute_image_rows-requires-clause-some
-compute_image_rows-requires-clause-some c =
-    let frame = frame_in c.args.frame.now in
-    let same = ap length c.as_slice-components.ensures.value in
-    let count = length-map c.args.frame.now.components.items component_in in
-    let other : length frame.components ≢ 1 = λ h. c.if-components-eq1.false (omega (arith, h, same, count)) in
-    omega (arith, same, count, (decoded-several frame c.requires.frame other).0)
+compute_image_rows-requires-clause-some c = (several c).1.0
 
 pub compute_image_rows-requires-clause-most : goal.compute_image_rows-requires-clause-most
-compute_image_rows-requires-clause-most c =
-    let frame = frame_in c.args.frame.now in
-    let same = ap length c.as_slice-components.ensures.value in
-    let count = length-map c.args.frame.now.components.items component_in in
-    let other : length frame.components ≢ 1 = λ h. c.if-components-eq1.false (omega (arith, h, same, count)) in
-    omega (arith, same, count, (decoded-several frame c.requires.frame other).1)
+compute_image_rows-requires-clause-most c = (several c).1.1
 
 pub compute_image_rows-requires-clause-factors : goal.compute_image_rows-requires-clause-factors
 compute_image_rows-requires-clause-factors c =
@@ -63,9 +60,8 @@ compute_image_rows-requires-clause-cover c =
 pub returns : goal.returns
 returns c =
     let frame = frame_in c.args.frame.now in
-    let same = ap length c.as_slice-components.ensures.value in
-    let count = length-map c.args.frame.now.components.items component_in in
-    let other : length frame.components ≢ 1 = λ h. c.if-components-eq1.false (omega (arith, h, same, count)) in
+    let other = (several-seen c.args.frame.now.components.items c.as_slice-components.result.now frame refl
+    c.as_slice-components.ensures.value c.requires.frame c.if-components-eq1.false).0 in
     several-given (λ v. v.items) c.args.settings (metadata_in c.args.state.now.metadata) frame
     (map component_in c.as_slice-components.result.now)
     (map (λ v. v.items) c.args.planes.items) (map (λ v. v.items) c.deref.result.now) _ c.compute_image_rows.result

@@ -1,5 +1,5 @@
-use Rattle.std.proofs.Common.{◌≡◌, ◌∷◌, ◌++◌, [], drop, get_or, map, rules, arith, refl, sym, ap}
-use Rattle.std.proofs.Common.{None, ◌∙◌}
+use Rattle.std.proofs.Common.{◌≡◌, ◌<◌, ◌∷◌, ◌++◌, [], drop, get_or, map, rules, arith, refl, sym, ap}
+use Rattle.std.proofs.Common.{None, ◌∙◌, length}
 use Rattle.std.specs.Prelude.{option_map}
 use Rattle.std.proofs.lemmas.List.{length-map, map-append}
 use Rattle.std.proofs.lemmas.Grind.{drop_more_same}
@@ -15,6 +15,7 @@ use Rattle.jpeg_decoder.proofs.EndedPlanes.{reached-held, reached-scale, reached
 use Rattle.jpeg_decoder.proofs.EndedPlanes.{no-planes, planes-after, whole-there, whole-all}
 use Rattle.jpeg_lossless.proofs.RowLoops.{mapped-within}
 use Rattle.jpeg_decoder.proofs.ReadLists.{no-more, one-more, one-refused}
+use Rattle.jpeg_decoder.proofs.picture.planes_at_end.Goals.{After-index}
 use Rattle.jpeg_decoder.proofs.picture.planes_at_end.Goals as goal
 
 pub listed : goal.listed
@@ -38,62 +39,53 @@ take_held-held-requires c h =
     c.loop-place.invariant.held (sym c.are_held-is_held.ensures ∙ h) in
     omega (arith, some, length-map c.loop-place.decoded.held.items blocks_in)
 
-pub plane_at_end-requires-clause-scale : goal.plane_at_end-requires-clause-scale
-plane_at_end-requires-clause-scale c =
-    let cs = c.args.frame.now.components.items in
-    let place = c.loop-place.place in
-    let within = mapped-within component_in cs place (omega arith) in
-    let is = mapped-or component_in cs place c.index.result.now c.index.result.now (component_in c.index.result.now)
-    (omega arith) c.index.ensures in
-    reached-scale (with_decoded (found_in c.args.state.now) c.args.decoded.now) (frame_in c.args.frame.now) place
-    (component_in c.index.result.now) c.requires.sound c.requires.frame within is
+-- ---- a component of the frame
 
-pub plane_at_end-requires-clause-plane : goal.plane_at_end-requires-clause-plane
-plane_at_end-requires-clause-plane c =
-    let cs = c.args.frame.now.components.items in
+inside : (c : After-index) → c.loop-place.place < length (frame_in c.args.frame.now).components
+inside c = mapped-within component_in c.args.frame.now.components.items c.loop-place.place (omega arith)
+
+seen : (c : After-index) → let component = component_in c.index.result.now in
+    component ≡ get_or (frame_in c.args.frame.now).components c.loop-place.place component
+seen c =
+    mapped-or component_in c.args.frame.now.components.items c.loop-place.place c.index.result.now c.index.result.now
+    (component_in c.index.result.now) (omega arith) c.index.ensures
+
+-- the plane that was decided of it
+taken : (c : After-index)
+    → option_map (λ v. v.items) c.take-plane.result
+    ≡ get_or (planes_in c.loop-place.decoded.planes) c.loop-place.place None
+taken c =
+    let four = reached-four (with_decoded (found_in c.args.state.now) c.args.decoded.now) (frame_in c.args.frame.now)
+    c.loop-place.place c.requires.sound c.requires.frame (inside c) in
+    mapped-or (λ p. option_map (λ v. v.items) p) c.loop-place.decoded.planes c.loop-place.place c.take-plane.result _
+    None (omega (arith, four)) c.take-plane.ensures.value
+
+pub plane_at_end-requires : goal.plane_at_end-requires
+plane_at_end-requires c =
     let place = c.loop-place.place in
-    let planes = planes_in c.loop-place.decoded.planes in
     let found = with_decoded (found_in c.args.state.now) c.args.decoded.now in
     let frame = frame_in c.args.frame.now in
-    let within = mapped-within component_in cs place (omega arith) in
-    let four = reached-four found frame place c.requires.sound c.requires.frame within in
-    let is = mapped-or component_in cs place c.index.result.now c.index.result.now (component_in c.index.result.now)
-    (omega arith) c.index.ensures in
-    let taken : option_map (λ v. v.items) c.take-plane.result ≡ get_or planes place None =
-    mapped-or (λ p. option_map (λ v. v.items) p) c.loop-place.decoded.planes place c.take-plane.result _ None
-    (omega (arith, four)) c.take-plane.ensures.value in
-    reached-plane found frame place (component_in c.index.result.now) planes _ c.requires.sound c.requires.frame within
-    is c.loop-place.invariant.decided taken
-
-pub plane_at_end-requires-clause-blocks : goal.plane_at_end-requires-clause-blocks
-plane_at_end-requires-clause-blocks c =
-    let cs = c.args.frame.now.components.items in
-    let place = c.loop-place.place in
-    let within = mapped-within component_in cs place (omega arith) in
-    let is = mapped-or component_in cs place c.index.result.now c.index.result.now (component_in c.index.result.now)
-    (omega arith) c.index.ensures in
-    reached-blocks (with_decoded (found_in c.args.state.now) c.args.decoded.now) (frame_in c.args.frame.now) place
-    (component_in c.index.result.now) (arrays_in c.loop-place.decoded.held.items) c.are_held-is_held.result _
-    c.requires.sound c.requires.frame within is c.loop-place.invariant.held c.are_held-is_held.ensures
-    c.take_held-held.ensures.taken
+    let component = component_in c.index.result.now in
+    let at = (goal.at.plane_at_end-requires c).After-index in
+    record {
+      scale = reached-scale found frame place component c.requires.sound c.requires.frame (inside at) (seen at);
+      plane = reached-plane found frame place component (planes_in c.loop-place.decoded.planes) _ c.requires.sound
+          c.requires.frame (inside at) (seen at) c.loop-place.invariant.decided (taken at);
+      blocks = reached-blocks found frame place component (arrays_in c.loop-place.decoded.held.items)
+          c.are_held-is_held.result _ c.requires.sound c.requires.frame (inside at) (seen at)
+          c.loop-place.invariant.held c.are_held-is_held.ensures c.take_held-held.ensures.taken;
+    }
 
 pub returns-in_err-plane_at_end-clause-planes : goal.returns-in_err-plane_at_end-clause-planes
 returns-in_err-plane_at_end-clause-planes c =
-    let cs = c.args.frame.now.components.items in
     let place = c.loop-place.place in
     let component = component_in c.index.result.now in
     let planes = planes_in c.loop-place.decoded.planes in
     let found = with_decoded (found_in c.args.state.now) c.args.decoded.now in
     let frame = frame_in c.args.frame.now in
-    let within = mapped-within component_in cs place (omega arith) in
-    let four = reached-four found frame place c.requires.sound c.requires.frame within in
-    let is = mapped-or component_in cs place c.index.result.now c.index.result.now component (omega arith)
-    c.index.ensures in
-    let taken : option_map (λ v. v.items) c.take-plane.result ≡ get_or planes place None =
-    mapped-or (λ p. option_map (λ v. v.items) p) c.loop-place.decoded.planes place c.take-plane.result _ None
-    (omega (arith, four)) c.take-plane.ensures.value in
+    let at = (goal.at.returns-in_err-plane_at_end-clause-planes c).After-index in
     let end = reached-end found frame place component planes (arrays_in c.loop-place.decoded.held.items) _ _
-    c.are_held-is_held.result _ refl c.loop-place.invariant.decided taken c.loop-place.invariant.held
+    c.are_held-is_held.result _ refl c.loop-place.invariant.decided (taken at) c.loop-place.invariant.held
     c.are_held-is_held.ensures c.take_held-held.ensures.taken in
     let p = err_from_is_err_and c.from_residual-in_err-plane_at_end.result
     c.from_residual-in_err-plane_at_end.ensures.1 in
@@ -101,28 +93,21 @@ returns-in_err-plane_at_end-clause-planes c =
       c.in_err-plane_at_end.ensures.plane.0,
       Names-through _ _ _ (λ f h. one-refused (λ i. planes_from found frame i (drop i frame.components)) place
           (plane_at_end found frame place component) f (map (λ v. v.items) c.loop-place.planes.items) _
-          (planes-after found frame place component within is) (end ∙ h) c.loop-place.invariant.given)
+          (planes-after found frame place component (inside at) (seen at)) (end ∙ h) c.loop-place.invariant.given)
           c.in_err-plane_at_end.ensures.plane.1,
     )
 
 pub loop-place-preserved : goal.loop-place-preserved
 loop-place-preserved c =
-    let cs = c.args.frame.now.components.items in
     let place = c.loop-place.place in
     let component = component_in c.index.result.now in
     let planes = planes_in c.loop-place.decoded.planes in
     let held = arrays_in c.loop-place.decoded.held.items in
     let found = with_decoded (found_in c.args.state.now) c.args.decoded.now in
     let frame = frame_in c.args.frame.now in
-    let within = mapped-within component_in cs place (omega arith) in
-    let four = reached-four found frame place c.requires.sound c.requires.frame within in
-    let is = mapped-or component_in cs place c.index.result.now c.index.result.now component (omega arith)
-    c.index.ensures in
-    let taken : option_map (λ v. v.items) c.take-plane.result ≡ get_or planes place None =
-    mapped-or (λ p. option_map (λ v. v.items) p) c.loop-place.decoded.planes place c.take-plane.result _ None
-    (omega (arith, four)) c.take-plane.ensures.value in
+    let at = (goal.at.loop-place-preserved c).After-index in
     let end = reached-end found frame place component planes held _ _ c.are_held-is_held.result _ refl
-    c.loop-place.invariant.decided taken c.loop-place.invariant.held c.are_held-is_held.ensures
+    c.loop-place.invariant.decided (taken at) c.loop-place.invariant.held c.are_held-is_held.ensures
     c.take_held-held.ensures.taken in
     let front = map (λ v. v.items) c.loop-place.planes.items in
     let plane = c.in_ok-plane_at_end.field-0 in
@@ -137,9 +122,9 @@ loop-place-preserved c =
           c.loop-place.invariant.held;
       given = one-more (λ i. planes_from found frame i (drop i frame.components)) place
           (plane_at_end found frame place component) plane.items front _ _
-          (planes-after found frame place component within is) (end ∙ c.in_ok-plane_at_end.ensures.plane) joined
+          (planes-after found frame place component (inside at) (seen at)) (end ∙ c.in_ok-plane_at_end.ensures.plane) joined
           c.loop-place.invariant.given;
-      whole = whole-there frame.components place component front _ plane.items within is c.loop-place.invariant.whole
+      whole = whole-there frame.components place component front _ plane.items (inside at) (seen at) c.loop-place.invariant.whole
           c.in_ok-plane_at_end.ensures.whole joined;
       count = search rules;
     }

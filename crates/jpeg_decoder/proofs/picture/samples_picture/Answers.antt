@@ -28,30 +28,18 @@ returns-in_err-planes-clause-meant c =
           c.in_err-planes.ensures.planes.1,
     )
 
-pub compute_image_lossless-requires-clause-most : goal.compute_image_lossless-requires-clause-most
-compute_image_lossless-requires-clause-most c =
+pub compute_image_lossless-requires : goal.compute_image_lossless-requires
+compute_image_lossless-requires c =
     let frame = frame_in c.args.frame.now in
-    let few = (count-few (length frame.components)
-    (decoded-count frame (c.requires.sound.frames frame c.requires.frame))).1 in
-    omega (arith, few, c.in_ok-planes.ensures.count)
-
-pub compute_image_lossless-requires-clause-whole : goal.compute_image_lossless-requires-clause-whole
-compute_image_lossless-requires-clause-whole c =
-    let frame = frame_in c.args.frame.now in
-    samples-whole (planes_in c.args.decoded.now.samples) frame.components
-    (map (λ v. v.items) c.in_ok-planes.planes.items) (c.requires.sound.samples frame c.requires.frame)
-    c.in_ok-planes.ensures.planes
-
-pub compute_image_lossless-requires-clause-sampling : goal.compute_image_lossless-requires-clause-sampling
-compute_image_lossless-requires-clause-sampling c =
-    let frame = frame_in c.args.frame.now in
-    decoded-factors frame (c.requires.sound.frames frame c.requires.frame)
-
-pub compute_image_lossless-requires-clause-reaches : goal.compute_image_lossless-requires-clause-reaches
-compute_image_lossless-requires-clause-reaches c =
-    let frame = frame_in c.args.frame.now in
-    all-reach frame frame.components
-    (decoded-made frame (c.requires.sound.frames frame c.requires.frame) c.requires.process)
+    let decoded = c.requires.sound.frames frame c.requires.frame in
+    record {
+      most = omega (arith, (count-few (length frame.components) (decoded-count frame decoded)).1, c.in_ok-planes.ensures.count);
+      whole = samples-whole (planes_in c.args.decoded.now.samples) frame.components
+          (map (λ v. v.items) c.in_ok-planes.planes.items) (c.requires.sound.samples frame c.requires.frame)
+          c.in_ok-planes.ensures.planes;
+      sampling = decoded-factors frame decoded;
+      reaches = all-reach frame frame.components (decoded-made frame decoded c.requires.process);
+    }
 
 pub returns-clause-meant : goal.returns-clause-meant
 returns-clause-meant c =

@@ -1,9 +1,9 @@
-use Rattle.std.proofs.Common.{◌≡◌, ◌≢◌, ◌*◌, ◌∙◌, ℕ, Ok, Vec, Global, arith, ap, length, map, sym}
+use Rattle.std.proofs.Common.{◌≡◌, ◌≢◌, ◌≤◌, ◌*◌, ◌∙◌, ℕ, Ok, Vec, Global, arith, ap, length, map, refl, sym}
 use Rattle.std.proofs.lemmas.List.{length-map}
 use Rattle.jpeg_segments.specs.FrameView.{component_in, frame_in}
 use Rattle.jpeg_decoder.specs.Seen.{metadata_in}
 use Rattle.jpeg_decoder.proofs.PictureSizes.{block-bytes, if-size}
-use Rattle.jpeg_decoder.proofs.PicturesOfPlanes.{decoded-several, decoded-factors, decoded-cover, several-given}
+use Rattle.jpeg_decoder.proofs.PicturesOfPlanes.{several-seen, decoded-factors, decoded-cover, several-given}
 use Rattle.jpeg_decoder.proofs.picture.write_by.Goals as goal
 
 pub copy_from_slice-requires : goal.copy_from_slice-requires
@@ -15,21 +15,18 @@ copy_from_slice-requires c =
     c.in_ok-picture.ensures c.requires.process in
     omega (arith, c.requires.room, whole.0, ap length c.deref.ensures.value)
 
+several : (c : goal.After-compute_image_rows_into-arg-2-1)
+    → let slice = c.as_slice-components.result.now in
+    (length (frame_in c.args.frame.now).components ≢ 1) × ((3 ≤ length slice) × (length slice ≤ 4))
+several c =
+    several-seen c.args.frame.now.components.items c.as_slice-components.result.now (frame_in c.args.frame.now) refl
+    c.as_slice-components.ensures.value c.requires.frame c.if-components-eq1.false
+
 pub compute_image_rows_into-requires-clause-some : goal.compute_image_rows_into-requires-clause-some
-compute_image_rows_into-requires-clause-some c =
-    let frame = frame_in c.args.frame.now in
-    let same = ap length c.as_slice-components.ensures.value in
-    let count = length-map c.args.frame.now.components.items component_in in
-    let other : length frame.components ≢ 1 = λ h. c.if-components-eq1.false (omega (arith, h, same, count)) in
-    omega (arith, same, count, (decoded-several frame c.requires.frame other).0)
+compute_image_rows_into-requires-clause-some c = (several c).1.0
 
 pub compute_image_rows_into-requires-clause-most : goal.compute_image_rows_into-requires-clause-most
-compute_image_rows_into-requires-clause-most c =
-    let frame = frame_in c.args.frame.now in
-    let same = ap length c.as_slice-components.ensures.value in
-    let count = length-map c.args.frame.now.components.items component_in in
-    let other : length frame.components ≢ 1 = λ h. c.if-components-eq1.false (omega (arith, h, same, count)) in
-    omega (arith, same, count, (decoded-several frame c.requires.frame other).1)
+compute_image_rows_into-requires-clause-most c = (several c).1.1
 
 pub compute_image_rows_into-requires-clause-factors : goal.compute_image_rows_into-requires-clause-factors
 compute_image_rows_into-requires-clause-factors c =
@@ -52,9 +49,8 @@ compute_image_rows_into-requires-clause-room c =
 pub returns-clause-meant : goal.returns-clause-meant
 returns-clause-meant c =
     let frame = frame_in c.args.frame.now in
-    let same = ap length c.as_slice-components.ensures.value in
-    let count = length-map c.args.frame.now.components.items component_in in
-    let other : length frame.components ≢ 1 = λ h. c.if-components-eq1.false (omega (arith, h, same, count)) in
+    let other = (several-seen c.args.frame.now.components.items c.as_slice-components.result.now frame refl
+    c.as_slice-components.ensures.value c.requires.frame c.if-components-eq1.false).0 in
     several-given {R = Unit {0}} (λ u. c.compute_image_rows_into.new.picture) c.args.settings (metadata_in c.args.state.now.metadata) frame
     (map component_in c.as_slice-components.result.now)
     (map (λ v. v.items) c.args.planes.items) (map (λ v. v.items) c.deref-2.result.now) _ c.compute_image_rows_into.result

@@ -17,34 +17,18 @@ samples_at_end-requires c =
           (decoded-count frame (c.requires.sound.frames frame c.requires.frame))).1;
     }
 
-pub compute_image_lossless_into-requires-clause-most : goal.compute_image_lossless_into-requires-clause-most
-compute_image_lossless_into-requires-clause-most c =
+pub compute_image_lossless_into-requires : goal.compute_image_lossless_into-requires
+compute_image_lossless_into-requires c =
     let frame = frame_in c.args.frame.now in
-    let few = (count-few (length frame.components)
-    (decoded-count frame (c.requires.sound.frames frame c.requires.frame))).1 in
-    omega (arith, few, c.in_ok-planes.ensures.count, ap length c.deref.ensures.value)
-
-pub compute_image_lossless_into-requires-clause-whole : goal.compute_image_lossless_into-requires-clause-whole
-compute_image_lossless_into-requires-clause-whole c =
-    let frame = frame_in c.args.frame.now in
-    rw (c.deref.ensures.value) (samples-whole (planes_in c.args.decoded.now.samples) frame.components
-    (map (λ v. v.items) c.in_ok-planes.planes.items) (c.requires.sound.samples frame c.requires.frame)
-    c.in_ok-planes.ensures.planes)
-
-pub compute_image_lossless_into-requires-clause-sampling : goal.compute_image_lossless_into-requires-clause-sampling
-compute_image_lossless_into-requires-clause-sampling c =
-    let frame = frame_in c.args.frame.now in
-    decoded-factors frame (c.requires.sound.frames frame c.requires.frame)
-
-pub compute_image_lossless_into-requires-clause-reaches : goal.compute_image_lossless_into-requires-clause-reaches
-compute_image_lossless_into-requires-clause-reaches c =
-    let frame = frame_in c.args.frame.now in
-    all-reach frame frame.components
-    (decoded-made frame (c.requires.sound.frames frame c.requires.frame) c.requires.process)
-
-pub compute_image_lossless_into-requires-clause-room : goal.compute_image_lossless_into-requires-clause-room
-compute_image_lossless_into-requires-clause-room c =
-    let frame = frame_in c.args.frame.now in
-    c.requires.room
-    ∙ image-room frame (c.requires.sound.frames frame c.requires.frame) c.requires.process
-    ∙ ap (image_bytes frame) (sym (ap length c.deref.ensures.value ∙ c.in_ok-planes.ensures.count))
+    let decoded = c.requires.sound.frames frame c.requires.frame in
+    let few = (count-few (length frame.components) (decoded-count frame decoded)).1 in
+    record {
+      most = omega (arith, few, c.in_ok-planes.ensures.count, ap length c.deref.ensures.value);
+      whole = rw (c.deref.ensures.value) (samples-whole (planes_in c.args.decoded.now.samples) frame.components
+          (map (λ v. v.items) c.in_ok-planes.planes.items) (c.requires.sound.samples frame c.requires.frame)
+          c.in_ok-planes.ensures.planes);
+      sampling = decoded-factors frame decoded;
+      reaches = all-reach frame frame.components (decoded-made frame decoded c.requires.process);
+      room = c.requires.room ∙ image-room frame decoded c.requires.process
+          ∙ ap (image_bytes frame) (sym (ap length c.deref.ensures.value ∙ c.in_ok-planes.ensures.count));
+    }

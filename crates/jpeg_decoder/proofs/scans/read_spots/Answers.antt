@@ -1,16 +1,15 @@
-use Rattle.std.proofs.Common.{◌∙◌, ap, pos, refl, rules, List, ◌∷◌, ℕ, Result, get_or, length}
+use Rattle.std.proofs.Common.{◌∙◌, ap, pos, refl, rules, List, ◌∷◌, Result, get_or, length}
 use Rattle.std.specs.List.{AllByRecursion}
-use Rattle.jpeg_bits.proofs.BandLoop.{Leaves}
 use Rattle.jpeg_bits.proofs.WholeBlocks.{refused_after}
 use Rattle.jpeg_bits.specs.BlockView.{pass_in, predictor_at, to_block}
 use Rattle.jpeg_bits.specs.Entropy.{Text, upcoming}
 use Rattle.jpeg_bits.specs.Passes.{block_from}
 use Rattle.jpeg_bits.specs.Readers.{read_on}
 use Rattle.jpeg_streams.specs.Order.{Spot}
-use Rattle.jpeg_streams.specs.InTurn.{Counted, Reached, begun_from, blocks_from, turn_from}
+use Rattle.jpeg_streams.specs.InTurn.{Counted, begun_from, blocks_from}
 use Rattle.jpeg_bits.specs.Reading.{Fault}
-use Rattle.jpeg_decoder.specs.Scanning.{IsSpotOf, arrays_in, counted, reached, sizes_of, vias_in}
-use Rattle.jpeg_decoder.proofs.BlockSteps.{begun_turn, blocks_begun, blocks_refused, blocks_step, next_begun, next_read, next_refused, next_unbegun}
+use Rattle.jpeg_decoder.specs.Scanning.{IsSpotOf, arrays_in, counted, sizes_of, vias_in}
+use Rattle.jpeg_decoder.proofs.BlockSteps.{begun_turn, blocks_begun, blocks_refused, next_read, next_refused, next_unbegun}
 use Rattle.jpeg_decoder.proofs.HeldBlocks.{sizes-set, spot, turn-read, turn-refused}
 use Rattle.jpeg_decoder.proofs.scans.read_spots.Goals as goal
 

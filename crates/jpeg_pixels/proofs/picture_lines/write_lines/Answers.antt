@@ -1,4 +1,4 @@
-use Rattle.std.proofs.Common.{◌≡◌, ◌*◌, ◌∙◌, ap, length, map, arith, rules}
+use Rattle.std.proofs.Common.{◌*◌, ◌∙◌, length, map, arith, rules}
 use Rattle.jpeg_pixels.specs.Pictures.{picture_bytes}
 use Rattle.jpeg_pixels.specs.PicturesView.{source_in}
 use Rattle.jpeg_pixels.proofs.ComponentLines.{cover-lower}

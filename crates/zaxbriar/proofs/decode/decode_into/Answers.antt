@@ -1,35 +1,81 @@
+use Rattle.std.proofs.Common.{◌∙◌, ◌++◌, ap}
+use Rattle.std.specs.Prelude.{option_map}
+use Rattle.std.proofs.lemmas.Result.{err_from_is_err_and}
+use Rattle.jpeg_decoder.proofs.Callers.{bytes_are_known, known_bytes_are_told}
+use Rattle.jpeg_streams.specs.Pixels.{info_of}
+use Rattle.jpeg_streams.specs.Stream.{told_of}
+use Rattle.zaxbriar.proofs.Fails.{argument-fails, header-fails, means-rest}
+use Rattle.zaxbriar.proofs.Means.{joined, has-left}
 use Rattle.zaxbriar.proofs.Told.{arranged-of}
+use Rattle.zaxbriar.specs.Meanings.{meaning_by, size_of}
 use Rattle.zaxbriar.proofs.decode.decode_into.Goals as goal
 
 pub returns-clause-means : goal.returns-clause-means
 returns-clause-means g c bytes tells =
-    let means = c.in_ok-decoded.ensures.means bytes tells in
-    let header = c.in_ok-decoded.decoded.header in
+    let known = bytes_are_known (g.R.Read.remaining c.args.reader.now) bytes tells in
+    let same = known_bytes_are_told (g.R.Read.remaining c.args.reader.now) bytes tells in
+    let read = rw c.in_ok-decoder.ensures.ok at c.in_ok-header.ensures.reads in
+    let facts = read.reads known in
+    let header = c.in_ok-header.header in
+    let decodes = c.in_ok-decode_lines.ensures.decodes in
+    let second = (rw (read.settings, facts.1.2) at decodes.reads).1 facts.0 in
     record {
-      told = means.0;
-      samples = c.in_ok-decoded.decoded.samples.items;
-      rest = means.1;
+      told = told_of c.decode_lines.new.decoder.found;
+      samples = decodes.samples;
+      rest = c.decode_lines.new.decoder.source.bytes;
       info = header.info;
       precision = header.precision;
-      means = means.2;
-      info_is = means.3;
-      precision_is = means.4;
-      arranged = arranged-of c.args.options.now header.info header.precision c.in_ok-decoded.decoded.samples.items
-          c.args.pixels.now c.put_lines.new.pixels c.decode_from.new.picture c.in_ok-decoded.decoded.lines
-          header.decoding_bytes.peak header.orientation c.in_ok-decoded.ensures.lines
-          (rw c.deref.ensures.value at c.put_lines.ensures) c.in_ok-decoded.ensures.picture;
+      means = joined c.args.options.now bytes c.read_header.new.decoder.source.bytes
+          c.decode_lines.new.decoder.source.bytes facts.1.0 (told_of c.decode_lines.new.decoder.found) decodes.samples
+          (rw same at facts.1.1) second.1;
+      info_is = ap (λ f. option_map info_of f) decodes.frame ∙ c.in_ok-header.ensures.info;
+      precision_is = ap (λ f. option_map (λ f. f.precision) f) decodes.frame ∙ c.in_ok-header.ensures.precision;
+      arranged = arranged-of c.args.options.now header.info header.precision decodes.samples c.args.pixels.now
+          c.decode_lines.new.pixels c.picture_of.result c.in_ok-lines.lines header.decoding_bytes.peak
+          header.orientation c.in_ok-lines.ensures.lines decodes.pixels c.picture_of.ensures;
     }
 
 pub returns-clause-images : goal.returns-clause-images
 returns-clause-images g c bytes tells array image rest final last range w takes is =
-    let header = c.in_ok-decoded.decoded.header in
+    let known = bytes_are_known (g.R.Read.remaining c.args.reader.now) bytes tells in
+    let same = known_bytes_are_told (g.R.Read.remaining c.args.reader.now) bytes tells in
+    let read = rw c.in_ok-decoder.ensures.ok at c.in_ok-header.ensures.reads in
+    let facts = read.reads known in
+    let header = c.in_ok-header.header in
+    let decodes = c.in_ok-decode_lines.ensures.decodes in
+    let images = rw (read.stage, read.settings) at decodes.images in
+    let left = has-left (size_of c.args.options.now) (image ++ rest) c.read_header.new.decoder.source.bytes
+    c.read_header.new.decoder.found facts.1.0 (rw (same ∙ is) at facts.1.1) facts.1.2 in
     record {
-      samples = c.in_ok-decoded.decoded.samples.items;
+      samples = decodes.samples;
       info = header.info;
       precision = header.precision;
-      are = c.in_ok-decoded.ensures.images bytes tells array image rest final last range w takes is;
-      arranged = arranged-of c.args.options.now header.info header.precision c.in_ok-decoded.decoded.samples.items
-          c.args.pixels.now c.put_lines.new.pixels c.decode_from.new.picture c.in_ok-decoded.decoded.lines
-          header.decoding_bytes.peak header.orientation c.in_ok-decoded.ensures.lines
-          (rw c.deref.ensures.value at c.put_lines.ensures) c.in_ok-decoded.ensures.picture;
+      are = (images (size_of c.args.options.now) array image rest final last range w takes left facts.0).pixels;
+      arranged = arranged-of c.args.options.now header.info header.precision decodes.samples c.args.pixels.now
+          c.decode_lines.new.pixels c.picture_of.result c.in_ok-lines.lines header.decoding_bytes.peak
+          header.orientation c.in_ok-lines.ensures.lines decodes.pixels c.picture_of.ensures;
     }
+
+pub returns-in_err-header-clause-named : goal.returns-in_err-header-clause-named
+returns-in_err-header-clause-named g c bytes tells =
+    let p = err_from_is_err_and c.from_residual-in_err-header.result c.from_residual-in_err-header.ensures.1 in
+    let known = bytes_are_known (g.R.Read.remaining c.args.reader.now) bytes tells in
+    let same = known_bytes_are_told (g.R.Read.remaining c.args.reader.now) bytes tells in
+    let named = (rw c.in_ok-decoder.ensures.ok at c.in_err-header.ensures.named) known in
+    rw (p.1, p.2) (header-fails c.args.options.now bytes _ (rw same at named))
+
+pub returns-in_err-lines-clause-named : goal.returns-in_err-lines-clause-named
+returns-in_err-lines-clause-named g c bytes tells =
+    let p = err_from_is_err_and c.from_residual-in_err-lines.result c.from_residual-in_err-lines.ensures.1 in
+    rw (p.1, p.2) (argument-fails (meaning_by c.args.options.now bytes) _ c.in_err-lines.ensures.named)
+
+pub returns-in_err-decode_lines-clause-named : goal.returns-in_err-decode_lines-clause-named
+returns-in_err-decode_lines-clause-named g c bytes tells =
+    let p = err_from_is_err_and c.from_residual-in_err-decode_lines.result c.from_residual-in_err-decode_lines.ensures.1 in
+    let known = bytes_are_known (g.R.Read.remaining c.args.reader.now) bytes tells in
+    let same = known_bytes_are_told (g.R.Read.remaining c.args.reader.now) bytes tells in
+    let read = rw c.in_ok-decoder.ensures.ok at c.in_ok-header.ensures.reads in
+    let facts = read.reads known in
+    let whole = means-rest c.args.options.now bytes c.read_header.new.decoder.source.bytes facts.1.0 (rw same at facts.1.1) in
+    let named = (rw (read.settings, facts.1.2) at c.in_err-decode_lines.ensures.named) facts.0 in
+    rw (p.1, p.2, whole) named

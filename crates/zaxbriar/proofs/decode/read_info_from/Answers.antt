@@ -1,9 +1,5 @@
-use Rattle.std.proofs.Common.{◌∙◌, ap}
-use Rattle.std.specs.Prelude.{option_map}
 use Rattle.std.proofs.lemmas.Result.{err_from_is_err_and}
 use Rattle.jpeg_decoder.proofs.Callers.{bytes_are_known, known_bytes_are_told}
-use Rattle.jpeg_decoder.specs.Bytes.{decoding_bytes}
-use Rattle.jpeg_streams.specs.Pixels.{info_of}
 use Rattle.jpeg_streams.specs.Stream.{header_at}
 use Rattle.zaxbriar.proofs.Fails.{argument-fails}
 use Rattle.zaxbriar.proofs.Told.{described-of}

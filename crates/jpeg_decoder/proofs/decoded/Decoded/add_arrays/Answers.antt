@@ -1,7 +1,6 @@
 use Rattle.std.proofs.Common.{◌≡◌, ◌∙◌, sym, ap, arith, rules, length, drop, map, get_or, ◌<◌, ◌*◌}
 use Rattle.jpeg_decoder.specs.declared.scan.Coded.{Coded}
-use Rattle.jpeg_bits.specs.BlockView.{to_block}
-use Rattle.jpeg_bits.specs.BlockView.{pass_in}
+use Rattle.jpeg_bits.specs.BlockView.{to_block, pass_in}
 use Rattle.jpeg_decoder.specs.Scanning.{arrays_in, blocks_in}
 use Rattle.jpeg_decoder.specs.Steps.{coding_in, with_decoded, with_its_plane}
 use Rattle.jpeg_streams.specs.ScanSegments.{with_arrays, plane_by}

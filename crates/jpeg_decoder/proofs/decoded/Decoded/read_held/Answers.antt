@@ -27,6 +27,8 @@ use Rattle.jpeg_streams.proofs.ScanArrays.{arrays-sized, held-sized}
 use Rattle.jpeg_decoder.proofs.TakenBlocks.{put-back}
 use Rattle.jpeg_decoder.proofs.ScanData.{of-frame, arrays-by-sizes, coded-within-held, read-as, rising-codings}
 use Rattle.jpeg_decoder.proofs.ScanData.{data-held, data-held-refused, arrays-whole, answers-err}
+use Rattle.jpeg_decoder.proofs.decoded.Decoded.read_held.Given as given
+use Rattle.jpeg_decoder.proofs.decoded.Decoded.read_held.Goals.{In_ok-arrays}
 use Rattle.jpeg_decoder.proofs.decoded.Decoded.read_held.Goals as goal
 
 pub take_blocks-requires-clause-within : goal.take_blocks-requires-clause-within
@@ -59,12 +61,17 @@ taken-sized frame cs seen held taken before d e t of h =
           (arrays-sized frame (map coding_in cs) before h (of-frame frame (map coding_in cs) of))),
     )
 
+taken : (g : given.Over) (c : In_ok-arrays g) → let cs = c.args.scan.now.components.items in
+    (arrays_in c.in_ok-arrays.arrays.items ≡ blocks_at (map coding_in cs)
+    (arrays_before (with_decoded (found_in c.args.state.now) c.args.self.now) (frame_in c.args.frame.now)))
+    × AreArrays (components_in cs) (arrays_in c.in_ok-arrays.arrays.items)
+taken g c =
+    taken-sized (frame_in c.args.frame.now) c.args.scan.now.components.items c.deref.result.now
+    c.hold.new.self.held.items c.in_ok-arrays.arrays.items _ c.deref.ensures.value c.in_ok-hold.ensures.held
+    c.in_ok-arrays.ensures.taken c.requires.ready.of_frame c.requires.held
+
 pub read_blocks-requires-clause-arrays : goal.read_blocks-requires-clause-arrays
-read_blocks-requires-clause-arrays g c =
-    (taken-sized (frame_in c.args.frame.now) c.args.scan.now.components.items c.deref.result.now
-    c.hold.new.self.held.items c.in_ok-arrays.arrays.items _
-    c.deref.ensures.value c.in_ok-hold.ensures.held c.in_ok-arrays.ensures.taken c.requires.ready.of_frame
-    c.requires.held).1
+read_blocks-requires-clause-arrays g c = (taken g (goal.at.read_blocks-requires-clause-arrays g c).In_ok-arrays).1
 
 pub returns-in_err-met-clause-data : goal.returns-in_err-met-clause-data
 returns-in_err-met-clause-data g c =
@@ -75,9 +82,7 @@ returns-in_err-met-clause-data g c =
     let cs = c.args.scan.now.components.items in
     let n = c.args.scan.now.restart_interval in
     let bytes = c.args.source.now.bytes in
-    let t = taken-sized frame cs c.deref.result.now c.hold.new.self.held.items c.in_ok-arrays.arrays.items _
-    c.deref.ensures.value c.in_ok-hold.ensures.held c.in_ok-arrays.ensures.taken c.requires.ready.of_frame
-    c.requires.held in
+    let t = taken g (goal.at.returns-in_err-met-clause-data g c).In_ok-arrays in
     let read : Arrays → List ℕ → Outcome (Arrays × Option Marker) = λ a. arrays_at p (n * mcu_size (components_in cs))
     (vias_in 0 cs) (spots_of frame (components_in cs)) a in
     rw (e.1, e.2) (answers-err (λ (m : Option Marker). (arrays_in c.read_blocks.new.arrays.items, m))
@@ -90,12 +95,9 @@ returns-in_err-met-clause-data g c =
 
 pub add_arrays-requires-clause-blocks : goal.add_arrays-requires-clause-blocks
 add_arrays-requires-clause-blocks g c =
-    let t = taken-sized (frame_in c.args.frame.now) c.args.scan.now.components.items c.deref.result.now
-    c.hold.new.self.held.items c.in_ok-arrays.arrays.items _
-    c.deref.ensures.value c.in_ok-hold.ensures.held c.in_ok-arrays.ensures.taken c.requires.ready.of_frame
-    c.requires.held in
     arrays-by-sizes (components_in c.args.scan.now.components.items) c.in_ok-arrays.arrays.items
-    c.read_blocks.new.arrays.items t.1 c.in_ok-met.ensures.sizes
+    c.read_blocks.new.arrays.items (taken g (goal.at.add_arrays-requires-clause-blocks g c).In_ok-arrays).1
+    c.in_ok-met.ensures.sizes
 
 pub put_blocks-requires-clause-places : goal.put_blocks-requires-clause-places
 put_blocks-requires-clause-places g c =
@@ -142,9 +144,7 @@ returns-clause-data g c =
     let cs = c.args.scan.now.components.items in
     let n = c.args.scan.now.restart_interval in
     let bytes = c.args.source.now.bytes in
-    let t = taken-sized frame cs c.deref.result.now c.hold.new.self.held.items c.in_ok-arrays.arrays.items _
-    c.deref.ensures.value c.in_ok-hold.ensures.held c.in_ok-arrays.ensures.taken c.requires.ready.of_frame
-    c.requires.held in
+    let t = taken g (goal.at.returns-clause-data g c).In_ok-arrays in
     let read : Arrays → List ℕ → Outcome (Arrays × Option Marker) = λ a. arrays_at p (n * mcu_size (components_in cs))
     (vias_in 0 cs) (spots_of frame (components_in cs)) a in
     let q = c.in_ok-met.ensures.scan in
@@ -176,9 +176,7 @@ returns-clause-held g c =
     let f = with_decoded (found_in c.args.state.now) c.args.self.now in
     let frame = frame_in c.args.frame.now in
     let cs = c.args.scan.now.components.items in
-    let t = taken-sized frame cs c.deref.result.now c.hold.new.self.held.items c.in_ok-arrays.arrays.items _
-    c.deref.ensures.value c.in_ok-hold.ensures.held c.in_ok-arrays.ensures.taken c.requires.ready.of_frame
-    c.requires.held in
+    let t = taken g (goal.at.returns-clause-held g c).In_ok-arrays in
     let long : length c.read_blocks.new.arrays.items ≡ length cs =
     long-read cs c.in_ok-arrays.arrays.items c.read_blocks.new.arrays.items (arrays_before f frame) t.0
     c.in_ok-met.ensures.sizes in

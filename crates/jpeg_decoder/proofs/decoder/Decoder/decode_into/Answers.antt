@@ -3,6 +3,7 @@ use Rattle.std.proofs.lemmas.Result.{err_from_is_err_and}
 use Rattle.jpeg_bits.specs.declared.error.Error.{Error}
 use Rattle.std.specs.Prelude.{OnOk}
 use Rattle.jpeg_streams.specs.Sound.{HasDecodedFrame}
+use Rattle.jpeg_streams.specs.States.{Decoding}
 use Rattle.jpeg_streams.specs.Stream.{told_of}
 use Rattle.jpeg_decoder.specs.Seen.{found_in, stage_of}
 use Rattle.jpeg_decoder.proofs.DecodedImages.{decodes-images}
@@ -13,6 +14,15 @@ use Rattle.jpeg_decoder.proofs.decoder.Decoder.decode_into.Given as given
 use Rattle.jpeg_decoder.proofs.decoder.Decoder.decode_into.Goals as goal
 
 -- ---- the header was refused
+
+-- the decoder after that
+abbrev left : (g : given.Over) → goal.After-drop_decoded g → Decoding
+left g c = record {
+  source = c.self-2.inside.source;
+  stage = c.read_info.new.self.stage;
+  found = found_in c.drop_decoded.new.state;
+  settings = c.read_info.new.self.settings;
+}
 
 refused : (g : given.Over) (c : goal.After-drop_decoded g)
     → HasRead (λ (n : ℕ). []) (told_of (found_in c.drop_decoded.new.state)) c.args.self.now (Err c.in-Err.e)
@@ -33,84 +43,65 @@ returns-in-Err-clause-turns g c room = (refused g c).turns
 
 pub returns-in-Err-clause-images : goal.returns-in-Err-clause-images
 returns-in-Err-clause-images g c room =
-    decodes-images (λ (n : ℕ). []) c.args.self.now (record {
-      source = c.self-2.inside.source;
-      stage = c.read_info.new.self.stage;
-      found = found_in c.drop_decoded.new.state;
-      settings = c.read_info.new.self.settings;
-    }) (Err c.in-Err.e) (refused g c).reads
+    decodes-images (λ (n : ℕ). []) c.args.self.now (left g c) (Err c.in-Err.e) (refused g c).reads
 
 pub returns-in-Err-clause-samples : goal.returns-in-Err-clause-samples
 returns-in-Err-clause-samples g c room =
-    decodes-samples (λ (n : ℕ). []) c.args.self.now (record {
-      source = c.self-2.inside.source;
-      stage = c.read_info.new.self.stage;
-      found = found_in c.drop_decoded.new.state;
-      settings = c.read_info.new.self.settings;
-    }) (Err c.in-Err.e) (refused g c).reads
+    decodes-samples (λ (n : ℕ). []) c.args.self.now (left g c) (Err c.in-Err.e) (refused g c).reads
 
 -- ---- the rest was refused
+
+abbrev stopped : (g : given.Over) → goal.After-from_residual-in_err-written g → Decoding
+stopped g c = record {
+  source = c.read_rest_into-written.new.source;
+  stage = stage_of c.progress_after-self-inside.result;
+  found = found_in c.read_rest_into-written.new.state;
+  settings = c.self-2.inside.settings;
+}
+
+unread : (g : given.Over) (c : goal.After-from_residual-in_err-written g) (e : Error)
+    → c.read_rest_into-written.result ≡ Err e
+    → HasRead (λ (n : ℕ). []) (told_of (found_in c.read_rest_into-written.new.state)) c.args.self.now (Err e)
+    c.read_rest_into-written.new.source
+unread g c e is =
+    into-err (λ (n : ℕ). []) _ c.args.self.now _ _ _ c.read_rest_into-written.result e
+    (begun-seen c.args.self.now c.read_info.new.self _ c.self-2.view_is c.in_default.ensures.reads
+    c.in_default.ensures.still c.in_default.ensures.settings)
+    is c.read_rest_into-written.ensures.reads c.read_rest_into-written.ensures.told
+    c.read_rest_into-written.ensures.turns
 
 pub returns-in_err-written-clause-reads : goal.returns-in_err-written-clause-reads
 returns-in_err-written-clause-reads g c room =
     let p = err_from_is_err_and c.from_residual-in_err-written.result c.from_residual-in_err-written.ensures.1 in
-    let h = into-err (λ (n : ℕ). []) _ c.args.self.now _ _ _ c.read_rest_into-written.result _
-    (begun-seen c.args.self.now c.read_info.new.self _ c.self-2.view_is c.in_default.ensures.reads
-    c.in_default.ensures.still c.in_default.ensures.settings)
-    c.in_err-written.was c.read_rest_into-written.ensures.reads c.read_rest_into-written.ensures.told
-    c.read_rest_into-written.ensures.turns in
-    rw (p.1, p.2) h.reads
+    rw (p.1, p.2) (unread g c _ c.in_err-written.was).reads
 
 pub returns-in_err-written-clause-told : goal.returns-in_err-written-clause-told
 returns-in_err-written-clause-told g c room =
     let p = err_from_is_err_and c.from_residual-in_err-written.result c.from_residual-in_err-written.ensures.1 in
-    let h = into-err (λ (n : ℕ). []) _ c.args.self.now _ _ _ c.read_rest_into-written.result _
-    (begun-seen c.args.self.now c.read_info.new.self _ c.self-2.view_is c.in_default.ensures.reads
-    c.in_default.ensures.still c.in_default.ensures.settings)
-    c.in_err-written.was c.read_rest_into-written.ensures.reads c.read_rest_into-written.ensures.told
-    c.read_rest_into-written.ensures.turns in
-    rw (p.1, p.2) h.told_is
+    rw (p.1, p.2) (unread g c _ c.in_err-written.was).told_is
 
 pub returns-in_err-written-clause-turns : goal.returns-in_err-written-clause-turns
-returns-in_err-written-clause-turns g c room =
-    let h = into-err (λ (n : ℕ). []) _ c.args.self.now _ _ _ c.read_rest_into-written.result _
-    (begun-seen c.args.self.now c.read_info.new.self _ c.self-2.view_is c.in_default.ensures.reads
-    c.in_default.ensures.still c.in_default.ensures.settings)
-    c.in_err-written.was c.read_rest_into-written.ensures.reads c.read_rest_into-written.ensures.told
-    c.read_rest_into-written.ensures.turns in
-    h.turns
+returns-in_err-written-clause-turns g c room = (unread g c _ c.in_err-written.was).turns
 
 pub returns-in_err-written-clause-images : goal.returns-in_err-written-clause-images
 returns-in_err-written-clause-images g c room =
     let p = err_from_is_err_and c.from_residual-in_err-written.result c.from_residual-in_err-written.ensures.1 in
-    let h = into-err (λ (n : ℕ). []) _ c.args.self.now _ _ _ c.read_rest_into-written.result _
-    (begun-seen c.args.self.now c.read_info.new.self _ c.self-2.view_is c.in_default.ensures.reads
-    c.in_default.ensures.still c.in_default.ensures.settings)
-    c.in_err-written.was c.read_rest_into-written.ensures.reads c.read_rest_into-written.ensures.told
-    c.read_rest_into-written.ensures.turns in
-    rw (p.1, p.2) (decodes-images (λ (n : ℕ). []) c.args.self.now (record {
-      source = c.read_rest_into-written.new.source;
-      stage = stage_of c.progress_after-self-inside.result;
-      found = found_in c.read_rest_into-written.new.state;
-      settings = c.self-2.inside.settings;
-    }) (Err _) h.reads)
+    rw (p.1, p.2) (decodes-images (λ (n : ℕ). []) c.args.self.now (stopped g c) (Err _) (unread g c _ c.in_err-written.was).reads)
 
 pub returns-in_err-written-clause-samples : goal.returns-in_err-written-clause-samples
 returns-in_err-written-clause-samples g c room =
     let p = err_from_is_err_and c.from_residual-in_err-written.result c.from_residual-in_err-written.ensures.1 in
-    let h = into-err (λ (n : ℕ). []) _ c.args.self.now _ _ _ c.read_rest_into-written.result _
-    (begun-seen c.args.self.now c.read_info.new.self _ c.self-2.view_is c.in_default.ensures.reads
-    c.in_default.ensures.still c.in_default.ensures.settings)
-    c.in_err-written.was c.read_rest_into-written.ensures.reads c.read_rest_into-written.ensures.told
-    c.read_rest_into-written.ensures.turns in
-    rw (p.1, p.2) (decodes-samples (λ (n : ℕ). []) c.args.self.now (record {
-      source = c.read_rest_into-written.new.source;
-      stage = stage_of c.progress_after-self-inside.result;
-      found = found_in c.read_rest_into-written.new.state;
-      settings = c.self-2.inside.settings;
-    }) (Err _) h.reads)
+    rw (p.1, p.2) (decodes-samples (λ (n : ℕ). []) c.args.self.now (stopped g c) (Err _) (unread g c _ c.in_err-written.was).reads)
 
 -- ---- the picture is given
+
+abbrev ended : (g : given.Over) → goal.In_ok-written g → Decoding
+ended g c = record {
+  source = c.read_rest_into-written.new.source;
+  stage = stage_of c.progress_after-self-inside.result;
+  found = found_in c.read_rest_into-written.new.state;
+  settings = c.self-2.inside.settings;
+}
 
 front : (g : given.Over) (c : goal.In_ok-written g)
     → take c.in_ok-size.size (c.read_rest_into-written.new.pixels ++ drop c.in_ok-size.size c.args.pixels.now)
@@ -148,22 +139,12 @@ returns-clause-turns g c room = (done g c).turns
 pub returns-clause-images : goal.returns-clause-images
 returns-clause-images g c room =
     decodes-images (λ n. take n (c.read_rest_into-written.new.pixels ++ drop c.in_ok-size.size c.args.pixels.now))
-    c.args.self.now (record {
-      source = c.read_rest_into-written.new.source;
-      stage = stage_of c.progress_after-self-inside.result;
-      found = found_in c.read_rest_into-written.new.state;
-      settings = c.self-2.inside.settings;
-    }) (Ok c.in_ok-size.size) (done g c).reads
+    c.args.self.now (ended g c) (Ok c.in_ok-size.size) (done g c).reads
 
 pub returns-clause-samples : goal.returns-clause-samples
 returns-clause-samples g c room =
     decodes-samples (λ n. take n (c.read_rest_into-written.new.pixels ++ drop c.in_ok-size.size c.args.pixels.now))
-    c.args.self.now (record {
-      source = c.read_rest_into-written.new.source;
-      stage = stage_of c.progress_after-self-inside.result;
-      found = found_in c.read_rest_into-written.new.state;
-      settings = c.self-2.inside.settings;
-    }) (Ok c.in_ok-size.size) (done g c).reads
+    c.args.self.now (ended g c) (Ok c.in_ok-size.size) (done g c).reads
 
 decoded : (g : given.Over) (c : goal.In_ok-written g) → HasDecodedFrame (found_in c.read_rest_into-written.new.state)
 decoded g c =

@@ -5,7 +5,7 @@ use Rattle.std.specs.List.{range_with_len}
 use Rattle.jpeg_pixels.specs.Samples.{transformed, basis}
 use Rattle.jpeg_pixels.proofs.Residues.{residue_bits}
 use Rattle.jpeg_pixels.proofs.LaneSums.{lane_add, lane_sub, lane_splat, lanes_read, lane_pair, kept_shorts, halves_fit}
-use Rattle.jpeg_pixels.proofs.arch.short_kernel.Goals as goal
+use Rattle.jpeg_pixels.proofs.short_block.short_kernel.Goals as goal
 
 pub returns : goal.returns
 unfolding transformed basis

@@ -5,7 +5,7 @@ use Rattle.jpeg_pixels.proofs.Residues.{residue_bits}
 use Rattle.jpeg_pixels.specs.Lanes.{lane, lanes}
 use Rattle.jpeg_pixels.proofs.LaneSums.{halves_fit, lane_add, lane_mul, lane_splat, lane_widen, lanes_read}
 use Rattle.jpeg_pixels.proofs.LaneRows.{own_lanes}
-use Rattle.jpeg_pixels.proofs.arch.pair.Goals as goal
+use Rattle.jpeg_pixels.proofs.short_block.pair.Goals as goal
 
 pub returns : goal.returns
 unfolding lanes

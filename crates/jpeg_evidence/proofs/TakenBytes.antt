@@ -1,0 +1,106 @@
+-- Bytes whose text ends with a marker are stuffed bytes of its bits, and the marker.
+use Rattle.std.proofs.Common.{◌≡◌, ℕ, zero, suc, Bool, true, false, cond, List, [], ◌∷◌, ◌++◌, replicate, refl, sym}
+use Rattle.std.proofs.Common.{ap, ap₂, ◌∙◌, eqb, Option, Some, None}
+use Rattle.std.proofs.lemmas.Bool.{eqb-true}
+use Rattle.jpeg_bits.specs.Reading.{End, Fault, Malformed}
+use Rattle.jpeg_bits.specs.Entropy.{Ending, Found, Broken, bits_of, text_at, add_byte, no_bits, ending_by, ending_of}
+use Rattle.jpeg_bits.specs.Entropy.{filled_end, end_by}
+use Rattle.jpeg_bits.specs.Marker.{marker_of}
+use Rattle.jpeg_bits.specs.Written.{stuffed, marker, bits_of_bytes}
+use Rattle.jpeg_bits.specs.declared.marker.Marker.{Marker}
+use Rattle.jpeg_bits.specs.declared.ahead.DataEnd.{DataEnd}
+use Rattle.jpeg_bits.specs.declared.ahead.DataEnd.TheVariants as ends
+use Rattle.jpeg_evidence.specs.Strict.{IsData}
+
+not-broken : (f : Fault) (m : Marker) (rest : List ℕ) → ◌≡◌ {A = Ending} (Broken f) (Found m rest) → ⊥
+not-broken f m rest e = cc
+
+end-found : (d : DataEnd) (r rest : List ℕ) (m : Marker) → ending_of d r ≡ Found m rest → (d ≡ ends.Marker m)
+    × (r ≡ rest)
+end-found (ends.Marker n) r rest m e = (cc, cc)
+end-found ends.Malformed r rest m e = absurd (not-broken Malformed m rest e)
+end-found ends.Ended r rest m e = absurd (not-broken End m rest e)
+
+not-malformed : (m : Marker) → ◌≡◌ {A = DataEnd} ends.Malformed (ends.Marker m) → ⊥
+not-malformed m e = cc
+
+not-ended : (m : Marker) → ◌≡◌ {A = DataEnd} ends.Ended (ends.Marker m) → ⊥
+not-ended m e = cc
+
+end-named : (o : Option Marker) (m : Marker) → end_by o ≡ ends.Marker m → o ≡ Some m
+end-named None m e = absurd (not-malformed m e)
+end-named (Some n) m e = cc
+
+-- fill bytes, and a marker's second byte
+filled-back : (bytes rest : List ℕ) (m : Marker) → (filled_end bytes).0 ≡ ends.Marker m → (filled_end bytes).1 ≡ rest
+    → (fill : ℕ) × (code : ℕ) × (bytes ≡ replicate fill 0xFF ++ code ∷ rest) × (marker_of code ≡ Some m)
+unfolding filled_end
+filled-back [] rest m e f = absurd (not-ended m e)
+filled-back (c ∷ bytes) rest m e f = go (eqb c 255) refl (filled-back bytes rest m) e f
+  where
+    go : (b : Bool) → eqb c 255 ≡ b
+        → ((filled_end bytes).0 ≡ ends.Marker m → (filled_end bytes).1 ≡ rest
+        → (fill : ℕ) × (code : ℕ) × (bytes ≡ replicate fill 0xFF ++ code ∷ rest) × (marker_of code ≡ Some m))
+        → (cond b (filled_end bytes) (end_by (marker_of c), bytes)).0 ≡ ends.Marker m
+        → (cond b (filled_end bytes) (end_by (marker_of c), bytes)).1 ≡ rest
+        → (fill : ℕ) × (code : ℕ) × (c ∷ bytes ≡ replicate fill 0xFF ++ code ∷ rest) × (marker_of code ≡ Some m)
+    go true h more k l =
+        let r = more k l in
+        (suc r.0, r.1, ap₂ (λ (x : ℕ) (xs : List ℕ). x ∷ xs) (eqb-true c 255 h) r.2, r.3)
+    go false h more k l = (zero, c, ap (λ (xs : List ℕ). c ∷ xs) l, end-named (marker_of c) m k)
+
+-- The bytes of data are its bits' bytes, stuffed, and the marker after them.
+pub bytes-back : (bytes rest : List ℕ) (m : Marker) → (text_at bytes).ending ≡ Found m rest
+    → IsData bytes (text_at bytes).bits m rest
+unfolding text_at stuffed bits_of_bytes
+bytes-back [] rest m e = absurd (not-broken End m rest e)
+bytes-back (b ∷ []) rest m e = go (eqb b 255) e
+  where
+    go : (x : Bool) → (cond x (no_bits (Broken End)) (add_byte b [] (no_bits (Broken End)))).ending ≡ Found m rest
+        → IsData (b ∷ []) (cond x (no_bits (Broken End)) (add_byte b [] (no_bits (Broken End)))).bits m rest
+    go true k = absurd (not-broken End m rest k)
+    go false k = absurd (not-broken End m rest k)
+bytes-back (b ∷ c ∷ more) rest m e =
+    go (eqb b 255) refl (eqb c 0) refl (bytes-back more rest m) (bytes-back (c ∷ more) rest m) e
+  where
+    go : (x : Bool) → eqb b 255 ≡ x → (y : Bool) → eqb c 0 ≡ y
+        → ((text_at more).ending ≡ Found m rest → IsData more (text_at more).bits m rest)
+        → ((text_at (c ∷ more)).ending ≡ Found m rest → IsData (c ∷ more) (text_at (c ∷ more)).bits m rest)
+        → (cond x (cond y (add_byte 255 more (text_at more)) (no_bits (ending_by (filled_end (c ∷ more)))))
+        (add_byte b (c ∷ more) (text_at (c ∷ more)))).ending ≡ Found m rest
+        → IsData (b ∷ c ∷ more) (cond x (cond y (add_byte 255 more (text_at more))
+        (no_bits (ending_by (filled_end (c ∷ more))))) (add_byte b (c ∷ more) (text_at (c ∷ more)))).bits m rest
+    go true h true k first second f =
+        let r = first f in
+        record {
+          data_bytes = 255 ∷ r.data_bytes;
+          fill = r.fill;
+          code = r.code;
+          parts = ap₂ (λ (x : ℕ) (xs : List ℕ). x ∷ xs) (eqb-true b 255 h)
+              (ap₂ (λ (x : ℕ) (xs : List ℕ). x ∷ xs) (eqb-true c 0 k) r.parts);
+          names = r.names;
+          has_bits = ap (λ (l : List Bool). bits_of 255 ++ l) r.has_bits;
+        }
+    go true h false k first second f =
+        let found = end-found (filled_end (c ∷ more)).0 (filled_end (c ∷ more)).1 rest m f in
+        let r = filled-back (c ∷ more) rest m found.0 found.1 in
+        record {
+          data_bytes = [];
+          fill = r.0;
+          code = r.1;
+          parts = ap₂ (λ (x : ℕ) (xs : List ℕ). x ∷ xs) (eqb-true b 255 h) r.2;
+          names = r.3;
+          has_bits = refl;
+        }
+    go false h y k first second f =
+        let r = second f in
+        let plain : stuffed (b ∷ r.data_bytes) ≡ b ∷ stuffed r.data_bytes = rw (h, stuffed) refl in
+        record {
+          data_bytes = b ∷ r.data_bytes;
+          fill = r.fill;
+          code = r.code;
+          parts = ap (λ (xs : List ℕ). b ∷ xs) r.parts
+              ∙ sym (ap (λ (l : List ℕ). l ++ marker r.fill r.code rest) plain);
+          names = r.names;
+          has_bits = ap (λ (l : List Bool). bits_of b ++ l) r.has_bits;
+        }

@@ -1,0 +1,26 @@
+-- The bits that were taken of a DC coefficient in its first scan are those that are written for it.
+use Rattle.std.proofs.Common.{◌≡◌, ℕ, ◌^◌, Bool, List, sym, ap, subst, arith, Ok, ℤ, pos, ◌+ℤ◌, ◌-ℤ◌, ◌*ℤ◌}
+use Rattle.std.proofs.lemmas.Int.{ints}
+use Rattle.jpeg_bits.specs.Entropy.{Text}
+use Rattle.jpeg_bits.specs.Codes.{Table, IsTable}
+use Rattle.jpeg_bits.specs.Bands.{difference, first_dc, wrapped}
+use Rattle.jpeg_streams.specs.WrittenData.{WritesDifference}
+use Rattle.jpeg_evidence.specs.Strict.{alone, IsCut, IsDc}
+use Rattle.jpeg_evidence.proofs.TakenBits.{map-parts, cut-map}
+use Rattle.jpeg_evidence.proofs.TakenValues.{difference-taken}
+
+pub dc-taken : (table : Table) (al : ℕ) (predictor : ℤ) (bits : List Bool) (y : ℤ × ℤ) (t : Text) → IsTable table
+    → first_dc table al predictor (alone bits) ≡ Ok (y, t) → IsCut (IsDc table al predictor y) bits t
+unfolding first_dc
+dc-taken table al predictor bits y t is e =
+    let r = map-parts (difference table)
+    (λ (d : ℤ). (wrapped (wrapped (predictor +ℤ d) *ℤ pos (2 ^ al)), wrapped (predictor +ℤ d))) (alone bits) t y e in
+    let d = r.0 in
+    cut-map (WritesDifference table d) (IsDc table al predictor y) bits t
+    (λ own w. record {
+      u = predictor +ℤ d;
+      written = subst (λ (x : ℤ). WritesDifference table x own)
+          (let same : d ≡ predictor +ℤ d -ℤ predictor = omega (arith, ints) in same) w;
+      next = ap (λ (v : ℤ × ℤ). v.1) (sym r.2);
+      are = ap (λ (v : ℤ × ℤ). v.0) (sym r.2);
+    }) (difference-taken table bits d t is r.1)

@@ -1,0 +1,121 @@
+-- What is read of the bits of an interval alone, and what bits stand for what was read.
+use Rattle.std.specs.Prelude.{◌≡◌, ◌≢◌, ℕ, ℤ, suc, ◌<◌, ◌+◌, ◌-◌, ◌*◌, ◌^◌, ◌++◌, Bool, List, [], Some}
+use Rattle.std.specs.Prelude.{Ok, map, pos, ◌*ℤ◌, ◌≤◌, unsigned_abs, slice_index}
+use Rattle.std.specs.Prelude.{◌-ℤ◌}
+use Rattle.jpeg_bits.specs.Bands.{token_from, wrapped}
+use Rattle.jpeg_streams.specs.WrittenData.{WritesBand, WritesInterval, WritesDifference}
+use Rattle.jpeg_bits.specs.Passes.{Block, Pass, Via}
+use Rattle.jpeg_bits.specs.Entropy.{Broken, Text}
+use Rattle.jpeg_bits.specs.Marker.{marker_of}
+use Rattle.jpeg_bits.specs.Reading.{End}
+use Rattle.jpeg_bits.specs.Readers.{text}
+use Rattle.jpeg_bits.specs.Codes.{Table}
+use Rattle.jpeg_bits.specs.Written.{low_bits, number_for, IsCategory, IsCoded}
+use Rattle.jpeg_bits.specs.Written.{stuffed, marker, bits_of_bytes}
+use Rattle.jpeg_bits.specs.declared.marker.Marker.{Marker}
+use Rattle.jpeg_bits.specs.declared.tokens.Token.{Token}
+use Rattle.jpeg_bits.specs.declared.tokens.Token.TheVariants.{Value, Sixteen, Rest, Overlong}
+
+-- Bits that nothing follows: no marker after which zeros would come without end.
+abbrev pub alone : List Bool → Text
+alone bits = text bits [] (Broken End)
+
+-- Of some bits these were taken, of which P holds, and the others are left.
+pub record IsCut (P : List Bool → Type 0) (bits : List Bool) (left : Text) : Type 0 where
+  pub own : List Bool
+  pub parts : bits ≡ own ++ left.bits
+  pub rest : left ≡ alone left.bits
+  pub holds : P own
+
+-- a number that n bits can have, and its bits
+pub record IsNumber (n v : ℕ) (own : List Bool) : Type 0 where
+  pub below : v < 2 ^ n
+  pub are : low_bits n v ≡ own
+
+-- a value of category s, and the bits after the category
+pub record IsValue (s : ℕ) (u : ℤ) (own : List Bool) : Type 0 where
+  pub category : IsCategory u s
+  pub are : low_bits s (number_for u s) ≡ own
+
+-- Bytes that begin with data of these bits, stuffed, up to a marker, and go on with the rest.
+pub record IsData (bytes : List ℕ) (bits : List Bool) (m : Marker) (rest : List ℕ) : Type 0 where
+  pub data_bytes : List ℕ
+  pub fill : ℕ
+  pub code : ℕ
+  pub parts : bytes ≡ stuffed data_bytes ++ marker fill code rest
+  pub names : marker_of code ≡ Some m
+  pub has_bits : bits_of_bytes data_bytes ≡ bits
+
+-- What follows the code of run r and size s of a token: nothing, or the bits of its value, or of
+-- the number that an end of bands has. A value that is longer than its band is none that is written:
+-- this decoder takes its code, and its bits or none of them.
+pub data Follows : ℕ → ℕ → Token → List Bool → Type 0 where
+  value : (r s : ℕ) (u : ℤ) (own : List Bool)
+      → IsValue (suc s) u own → Follows r (suc s) (Value r u) own
+  sixteen : (r : ℕ) → r ≡ 15 → Follows r 0 Sixteen []
+  ended : (r e : ℕ) (own : List Bool)
+      → r ≢ 15 → IsNumber r e own → Follows r 0 (Rest (2 ^ r - 1 + e)) own
+  overlong : (r s : ℕ) (own : List Bool) → Follows r (suc s) Overlong own
+
+-- the bits of a token: a code RRRRSSSS, and what follows it
+pub record IsToken (table : Table) (x : Token) (own : List Bool) : Type 0 where
+  pub r : ℕ
+  pub s : ℕ
+  pub code : List Bool
+  pub after : List Bool
+  pub coded : IsCoded table (16 * r + s) code
+  pub follows : Follows r s x after
+  pub whole : code ++ after ≡ own
+
+-- ---- a band in its first scan
+
+-- A token that stands for places that the rest of its band has, and whose value fits 16 bits.
+abbrev pub Fits : ℕ → ℕ → Token → Type 0
+Fits al room (Value r u) = (r < room) × (unsigned_abs u * 2 ^ al < 2 ^ 15)
+Fits al room Sixteen = 16 ≤ room
+Fits al room (Rest run) = Unit {0}
+Fits al room Overlong = ⊥
+
+-- how many places are left after it
+abbrev pub room_after : ℕ → Token → ℕ
+room_after room (Value r u) = room - (r + 1)
+room_after room Sixteen = room - 16
+room_after room (Rest run) = 0
+room_after room Overlong = 0
+
+-- The tokens of a band of so many places fit, one after the other.
+pub data TokensFit (table : Table) (al : ℕ) : ℕ → List Bool → Type 0 where
+  filled : (bits : List Bool) → TokensFit table al 0 bits
+  token : (room : ℕ) (x : Token) (bits more : List Bool)
+      → token_from table (suc room) (alone bits) ≡ Ok (x, alone more) → Fits al (suc room) x
+      → TokensFit table al (room_after (suc room) x) more → TokensFit table al (suc room) bits
+
+-- the symbols are bytes
+pub record HasBytes (table : Table) : Type 0 where
+  pub each : (i : ℕ) → slice_index table.symbols i < 256
+
+-- A band of these coefficients at level al, the run after it, and bits that are written for them.
+pub record IsBand (table : Table) (al : ℕ) (band : List ℤ) (run : ℕ) (own : List Bool) : Type 0 where
+  pub numbers : List ℤ
+  pub are : map (λ u. u *ℤ pos (2 ^ al)) numbers ≡ band
+  pub written : WritesBand table numbers own run
+
+-- ---- an interval
+
+-- Bytes that begin with an interval that is written, up to a marker, and go on with the rest.
+pub record IsInterval (p : Pass) (turns : List (Via × Block)) (bytes : List ℕ) (m : Marker) (rest : List ℕ)
+    : Type 0 where
+  pub front : List ℕ
+  pub fill : ℕ
+  pub code : ℕ
+  pub parts : bytes ≡ front ++ marker fill code rest
+  pub names : marker_of code ≡ Some m
+  pub written : WritesInterval p turns front
+
+-- A DC coefficient u at level al in its first scan: what is read, which goes round at 16 bits, and
+-- bits that are written for its difference from the predictor.
+pub record IsDc (table : Table) (al : ℕ) (predictor : ℤ) (y : ℤ × ℤ) (own : List Bool) : Type 0 where
+  pub u : ℤ
+  pub written : WritesDifference table (u -ℤ predictor) own
+  pub next : y.1 ≡ wrapped u
+  pub are : y.0 ≡ wrapped (wrapped u *ℤ pos (2 ^ al))

@@ -1,0 +1,74 @@
+//! What is read of entropy-coded data was written: the writer's relation is no narrower than what
+//! is read of data that end where their blocks do.
+ghost use Rattle.std.specs.Prelude.{◌≡◌, ℕ, suc, Ok};
+ghost use Rattle.std.specs.Prelude.{◌≤◌, List, ℤ, Bool, length};
+ghost use Rattle.jpeg_bits.specs.Bands.{Band, difference, first_ac, first_dc, token_from};
+ghost use Rattle.jpeg_bits.specs.Codes.{IsTable, Table, symbol_from};
+ghost use Rattle.jpeg_bits.specs.Entropy.{Found, Text, bits_from, text_at};
+ghost use Rattle.jpeg_bits.specs.Intervals.{predictors_at_start};
+ghost use Rattle.jpeg_bits.specs.Passes.{Block, Pass, Via};
+ghost use Rattle.jpeg_bits.specs.Readers.{signed_from};
+ghost use Rattle.jpeg_bits.specs.Written.{IsCoded};
+ghost use Rattle.jpeg_bits.specs.declared.marker.Marker.{Marker};
+ghost use Rattle.jpeg_bits.specs.declared.tokens.Token.{Token};
+ghost use Rattle.jpeg_streams.specs.WrittenData.{WritesBlocks, WritesDifference, no_numbers};
+ghost use Rattle.jpeg_evidence.specs.Strict.{HasBytes, IsBand, IsCut, IsData, IsDc, IsInterval};
+ghost use Rattle.jpeg_evidence.specs.Strict.{IsNumber, IsToken, IsValue, TokensFit, alone};
+
+/// What is read of bits that nothing follows was written (T.81, C.2 and F.1.2): the bits that were
+/// taken are those of the number, of a code for the symbol, of the value, and of the DC difference.
+pub fn bits_taken_are_written()
+    ensures numbers { (n : ℕ) (bits : List Bool) (v : ℕ) (left : Text)
+        → bits_from n (alone bits) ≡ Ok (v, left) → IsCut (IsNumber n v) bits left }
+    ensures symbols { (table : Table) (bits : List Bool) (symbol : ℕ) (left : Text)
+        → IsTable table → symbol_from table (alone bits) ≡ Ok (symbol, left)
+        → IsCut (IsCoded table symbol) bits left }
+    ensures values { (s : ℕ) (bits : List Bool) (u : ℤ) (left : Text)
+        → signed_from (suc s) (alone bits) ≡ Ok (u, left) → IsCut (IsValue (suc s) u) bits left }
+    ensures differences { (table : Table) (bits : List Bool) (u : ℤ) (left : Text)
+        → IsTable table → difference table (alone bits) ≡ Ok (u, left)
+        → IsCut (WritesDifference table u) bits left }
+{}
+
+/// Bytes whose data end with a marker are the data's bits in bytes, where 00 follows each FF, and
+/// the marker after fill bytes (T.81, B.1.1.2 and B.1.1.5).
+pub fn data_up_to_a_marker_are_stuffed()
+    ensures { (bytes rest : List ℕ) (m : Marker) → (text_at bytes).ending ≡ Found m rest
+        → IsData bytes (text_at bytes).bits m rest }
+{}
+
+/// A DC coefficient that is read in its first scan was written, by its difference from the predictor
+/// (T.81, F.1.2.1): what is read is the coefficient modulo 2 ^ 16.
+pub fn dc_taken_is_written()
+    ensures { (table : Table) (al : ℕ) (predictor : ℤ) (bits : List Bool) (y : ℤ × ℤ) (left : Text)
+        → IsTable table → first_dc table al predictor (alone bits) ≡ Ok (y, left)
+        → IsCut (IsDc table al predictor y) bits left }
+{}
+
+/// A token of a band that is read of bits that nothing follows is a code RRRRSSSS and the bits after
+/// it (T.81, F.1.2.2 and G.1.2.2): those of its value, none for sixteen zeros, or those of the number
+/// of an end of bands.
+pub fn tokens_taken_are_written()
+    ensures { (table : Table) (room : ℕ) (bits : List Bool) (x : Token) (left : Text)
+        → IsTable table → token_from table room (alone bits) ≡ Ok (x, left)
+        → IsCut (IsToken table x) bits left }
+{}
+
+/// A band that is read in its first scan, where each token stands for places that the band has, was
+/// written: the bits that were taken are those that a writer may emit for the coefficients read at
+/// level al, and for the run of blocks after them (T.81, F.1.2.2 and G.1.2.2).
+pub fn bands_taken_are_written()
+    ensures { (table : Table) (al n room : ℕ) (bits : List Bool) (y : Band) (left : Text)
+        → IsTable table → HasBytes table → TokensFit table al room bits → room ≤ n
+        → first_ac table al n (no_numbers room) (alone bits) ≡ Ok (y, left)
+        → IsCut (IsBand table al y.0 y.1) bits left }
+{}
+
+/// An interval up to a marker is written where its bits are those of its blocks, and at most 7 more
+/// (T.81, F.1.2.3 and B.1.1.5).
+pub fn intervals_of_written_bits_are_written()
+    ensures { (p : Pass) (turns : List (Via × Block)) (bytes rest : List ℕ) (m : Marker)
+        (left : Text) → (text_at bytes).ending ≡ Found m rest
+        → IsCut (WritesBlocks p predictors_at_start 0 turns) (text_at bytes).bits left
+        → length left.bits ≤ 7 → IsInterval p turns bytes m rest }
+{}

@@ -1,0 +1,8 @@
+use Rattle.std.proofs.Common.{◌*◌, length, slice_index_or}
+use Rattle.jpeg_pixels.specs.Planes.{plane_sample, zero_coefficients}
+use Rattle.jpeg_pixels.proofs.Strips.{HoldsSamples}
+use Rattle.jpeg_pixels.proofs.plane.write_long_strip.Given as goal
+
+abbrev pub invariant-loop-column : goal.invariant-loop-column
+invariant-loop-column l = HoldsSamples 8 (8 * length l.blocks) (8 * l.column)
+    (plane_sample 8 l.quantization_table (λ row place. slice_index_or l.blocks place zero_coefficients)) l.strip

@@ -1,0 +1,18 @@
+use Rattle.std.proofs.Common.{ap, ◌∙◌, rules}
+use Rattle.std.specs.Int.{int_shr}
+use Rattle.jpeg_pixels.specs.Samples.{sample, clamped, column_value}
+use Rattle.jpeg_pixels.specs.ShortRows.{line_value, IsWithin}
+use Rattle.jpeg_pixels.proofs.short_block.samples_of_block.Goals as goal
+
+pub returns-then-is_within : goal.returns-then-is_within
+unfolding sample line_value
+returns-then-is_within c =
+    let quantization = c.args.quantization_table.now in
+    let within : IsWithin c.args.coefficients quantization = search rules in
+    c.short_samples.ensures (line_value (column_value c.args.coefficients quantization))
+    (c.lines_within.ensures quantization c.requires within)
+
+pub returns-else-is_within : goal.returns-else-is_within
+unfolding sample
+returns-else-is_within c = λ x y hx hy. c.samples_of.ensures x y hx hy
+    ∙ ap (λ z. clamped (int_shr z 17)) (c.sums_of.ensures y x hy hx)

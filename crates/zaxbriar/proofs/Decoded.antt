@@ -1,0 +1,70 @@
+-- A picture that was decoded into its lines.
+use Rattle.std.proofs.Common.{◌≡◌, ◌∙◌, ◌≤◌, ◌*◌, ℕ, List, Ok, Err, Option, Some, None, ap, sym, subst, true, length}
+use Rattle.std.specs.Prelude.{option_map}
+use Rattle.jpeg_bits.specs.Reading.{Answers}
+use Rattle.jpeg_bits.specs.declared.error.Error.{Error}
+use Rattle.jpeg_segments.specs.Frame.{Frame}
+use Rattle.jpeg_streams.specs.DecodedImages.{DecodesImages}
+use Rattle.jpeg_streams.specs.Pixels.{info_of}
+use Rattle.jpeg_streams.specs.States.{Decoding, HeaderRead, IsReading, Stage, ahead}
+use Rattle.jpeg_streams.specs.Stream.{Told, rest_at, told_of}
+use Rattle.jpeg_streams.specs.declared.images.ImageInfo.{ImageInfo}
+use Rattle.jpeg_decoder.proofs.Callers.{picture_size}
+use Rattle.jpeg_decoder.specs.Bytes.{HasRoom, IsCounted, IsWhole, decoding_bytes}
+use Rattle.jpeg_decoder.specs.declared.memory.DecodingBytes.{DecodingBytes}
+use Rattle.zaxbriar.proofs.Fails.{stands}
+use Rattle.zaxbriar.proofs.Told.{count-of}
+use Rattle.zaxbriar.specs.Faults.{IsFault, StandsFor}
+use Rattle.zaxbriar.specs.Layouts.{converted_bytes, laid_out, line_of}
+use Rattle.zaxbriar.specs.Lines.{Decodes, HasLines}
+use Rattle.zaxbriar.specs.declared.answers.Refusal.{Refusal}
+use Rattle.zaxbriar.specs.declared.lines.Lines.{Lines}
+use Rattle.zaxbriar.specs.declared.options.Options.{Options}
+
+pub has-room : (old new : Option Frame) (bytes : DecodingBytes) (room : ℕ) → new ≡ old
+    → option_map decoding_bytes old ≡ Some bytes → bytes.picture ≤ room → HasRoom new room
+has-room old None bytes room same e le = tt
+has-room old (Some f) bytes room same e le =
+    let whole : option_map decoding_bytes (Some f) ≡ Some bytes = ap (λ (x : Option Frame). option_map decoding_bytes x) same ∙ e in
+    let is : decoding_bytes f ≡ bytes = cc in
+    subst (λ (b : DecodingBytes). b.picture ≤ room) (sym is) le
+
+pub row-of : (o : Options) (info : ImageInfo) (precision : ℕ) (lines : Lines) → HasLines o info precision lines
+    → lines.row_bytes ≡ lines.width * converted_bytes lines.conversion lines.stored
+row-of o info precision lines h = ap (λ (l : Lines). l.row_bytes) h.lines_are
+    ∙ sym (ap (λ (l : Lines). l.width * converted_bytes l.conversion l.stored) h.lines_are)
+
+pub samples-count : (o : Options) (info : ImageInfo) (precision : ℕ) (lines : Lines) (old new : Option Frame)
+    (samples : List ℕ) → HasLines o info precision lines → new ≡ old → option_map info_of old ≡ Some info
+    → option_map (λ f. f.precision) old ≡ Some precision → IsWhole new samples → IsCounted new
+    → length samples ≡ lines.height * (lines.width * lines.stored)
+samples-count o info precision lines old new samples h same i p whole counted =
+    count-of o info precision (length samples) lines h (picture_size new info precision samples whole counted
+    (ap (λ (f : Option Frame). option_map info_of f) same ∙ i)
+    (ap (λ (f : Option Frame). option_map (λ f. f.precision) f) same ∙ p))
+
+pub decodes-of : (lines : Lines) (old new : Decoding) (samples before after : List ℕ) → old.stage ≡ HeaderRead
+    → new.found.frame ≡ old.found.frame
+    → (IsReading old.stage → Answers {X = Unit {0}} (λ u. (told_of new.found, samples))
+    (ahead old.stage old.settings old.found) old.source (Ok tt) new.source)
+    → DecodesImages {X = Unit {0}} (λ u. samples) old (Ok tt) new
+    → after ≡ laid_out (line_of lines.conversion lines.width) (lines.width * lines.stored) lines.stride lines.height samples before
+    → Decodes lines old new before after
+decodes-of lines old new samples before after s frame reads images pixels = record {
+  samples = samples;
+  frame = frame;
+  reads = subst (λ (t : Stage). IsReading t → Answers {X = Unit {0}} (λ u. (told_of new.found, samples))
+      (ahead t old.settings old.found) old.source (Ok tt) new.source) s reads tt;
+  images = images;
+  pixels = pixels;
+}
+
+-- a refusal of a decoder whose header was read names the fault of what follows
+pub named-rest : {X : Type 0} (view : X → Told × List ℕ) (old new : Decoding) (e : Error) (r : Refusal)
+    → old.stage ≡ HeaderRead → StandsFor e new.source.failed r
+    → (IsReading old.stage → Answers {X = X} view (ahead old.stage old.settings old.found) old.source (Err e) new.source)
+    → old.source.known ≡ true → IsFault (rest_at old.settings old.found old.source.bytes) r
+named-rest {X = X} view old new e r s for reads known =
+    stands view (rest_at old.settings old.found) old.source new.source e r for
+    (subst (λ (t : Stage). IsReading t → Answers {X = X} view (ahead t old.settings old.found) old.source (Err e) new.source)
+    s reads tt) known
