@@ -251,7 +251,7 @@ fn metadata_are_copied(rt: HostRuntime) -> Result<(), Fail> {
         let result = zaxbriar_checked_metadata(rt.alloc(), bytes, 3, &mut [], &mut count);
         assert_eq!(rt; result, NO_DATA);
         // The header ends too soon, after the Exif data.
-        let cut = &bytes[..40];
+        let cut = bytes.get(..40).ok_or("not so long")?;
         let result = zaxbriar_checked_metadata(rt.alloc(), cut, 1, &mut buffer, &mut count);
         assert_eq!(rt; result, OK);
         assert_eq!(rt; count, 22);
