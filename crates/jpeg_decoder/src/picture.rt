@@ -454,8 +454,8 @@ pub fn read_header<R: Read + Drop>(
     state.read(alloc, source, true)
 }
 
-/// Reads the rest of a stream, after its start or its header, and gives its picture. No blocks or
-/// planes are kept.
+/// Reads the rest of a stream, after its header, and gives its picture. No blocks or planes are
+/// kept.
 #[tactic(auto, unfolding(jpeg_streams::specs::Stream::rest_at))]
 pub fn read_rest<R: Read + Drop>(
     alloc: Global,
