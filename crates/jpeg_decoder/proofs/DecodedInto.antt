@@ -161,7 +161,7 @@ has-begun old mid b = record {
   still = λ n. let s = b.still n in (ap (λ (d : Decoding). d.found) s, ap (λ (d : Decoding). d.source) s);
 }
 
-into : {X : Type 0} (bytes_of : X → List ℕ) (told : Told) (old mid : Decoding) (new : Stream) (r : Result X Error)
+pub into : {X : Type 0} (bytes_of : X → List ℕ) (told : Told) (old mid : Decoding) (new : Stream) (r : Result X Error)
     → IsBegun old mid
     → Answers (λ x. (told, bytes_of x)) (rest_at mid.settings mid.found) mid.source r new
     → OnTold mid.source new r (told ≡ told_rest false mid.found mid.source.bytes)

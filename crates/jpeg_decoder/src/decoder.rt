@@ -29,7 +29,7 @@ ghost use Rattle.std.specs.Option.{option_copied};
 
 use crate::decoded::Decoded;
 use crate::memory::{DecodingBytes, decoding_bytes, picture_bytes};
-use crate::picture::{read_header, read_rest, read_rest_into, read_stream};
+use crate::picture::{read_header, read_rest, read_rest_into};
 use crate::profile::profile;
 use crate::state::State;
 pub use jpeg_bits::color_transform::ColorTransform;
@@ -453,22 +453,16 @@ impl<R: Read + Drop> Decoder<R> {
         // There are as many samples as the format of `info` says.
         ensures counted { IfOk result (λ _. IsCounted self.new.found.frame) }
     {
-        let result = match self.progress {
-            Progress::Fresh => read_stream(
-                self.alloc,
-                &mut self.source,
-                &mut self.state,
-                self.settings,
-            ),
-            Progress::HeaderRead => read_rest(
-                self.alloc,
-                &mut self.source,
-                &mut self.state,
-                self.settings,
-            ),
+        let header = match self.progress {
+            Progress::Fresh | Progress::HeaderRead => self.read_info(),
             Progress::Finished => return Err(Error::Internal("image was already decoded")),
             Progress::Failed => return Err(Error::Internal("decoder has failed")),
         };
+        if let Err(e) = header {
+            drop_decoded(&mut self.state, self.alloc);
+            return Err(e);
+        }
+        let result = read_rest(self.alloc, &mut self.source, &mut self.state, self.settings);
         self.progress = progress_after(result.is_ok(), Progress::Finished);
         result
     }

@@ -1,5 +1,5 @@
 //! A stream from its start to its picture (T.81, B.2).
-ghost use Rattle.std.specs.Prelude.{◌≡◌, ◌*◌, ◌+◌, ◌<◌, ◌≤◌, ◌&&◌, IfOk, IfSome, List, MatchResult};
+ghost use Rattle.std.specs.Prelude.{◌≡◌, ◌*◌, ◌+◌, ◌<◌, ◌≤◌, ◌&&◌, IfOk, IfSome, MatchResult};
 ghost use Rattle.std.specs.Prelude.{None, OnErr};
 ghost use Rattle.std.specs.Prelude.{OnOk, Ok, Some, drop, false, is_some, length, map, nat_lt, not};
 ghost use Rattle.std.specs.Prelude.{option_map, replicate, slice_index_or, true, []};
@@ -16,7 +16,7 @@ ghost use Rattle.jpeg_streams.specs.Sound.{IsDecodedFrame, IsPlaneOf, IsSound, H
 ghost use Rattle.jpeg_streams.specs.Sound.{IsUnread};
 ghost use Rattle.jpeg_streams.specs.States.{OnTold};
 ghost use Rattle.jpeg_decoder.specs.Steps.{IsRefusal, cropped_to, with_decoded};
-ghost use Rattle.jpeg_streams.specs.Stream.{header_at, meaning, rest_at, start_at, told_of};
+ghost use Rattle.jpeg_streams.specs.Stream.{header_at, rest_at, start_at, told_of};
 ghost use Rattle.jpeg_streams.specs.Reported.{IsOfTurns, told_by_stream, told_by_turns};
 ghost use Rattle.jpeg_streams.specs.Reported.{told_in_turns, told_rest};
 ghost use Rattle.jpeg_streams.specs.FoundPictures.{blocks_picture, picture_of, picture_by};
@@ -454,8 +454,8 @@ pub fn read_header<R: Read + Drop>(
     state.read(alloc, source, true)
 }
 
-/// Reads the rest of a stream, after its start or its header, and gives its picture. No blocks or
-/// planes are kept.
+/// Reads the rest of a stream, after its header, and gives its picture. No blocks or planes are
+/// kept.
 #[tactic(auto, unfolding(jpeg_streams::specs::Stream::rest_at))]
 pub fn read_rest<R: Read + Drop>(
     alloc: Global,
@@ -517,30 +517,4 @@ pub fn read_rest_into<R: Read + Drop>(
     let mut decoded = std::mem::replace(&mut state.decoded, Decoded::new(alloc));
     end?;
     write_picture(alloc, state, &mut decoded, settings, pixels)
-}
-
-/// Reads a whole stream and gives its picture. No blocks or planes are kept.
-#[tactic(auto, unfolding(jpeg_streams::specs::Stream::meaning, jpeg_streams::specs::Reported::told_by_stream, jpeg_streams::specs::Found::nothing_found))]
-pub fn read_stream<R: Read + Drop>(
-    alloc: Global,
-    source: &mut Source<R>,
-    state: &mut State,
-    settings: Settings,
-) -> Result<Vec<u8>>
-    requires { found_in state.old ≡ nothing_found }
-    ensures reads { Answers (λ v. (told_of (found_in state.new), v.items)) (meaning settings)
-        source.old result source.new }
-    ensures told { OnTold source.old source.new result (told_of (found_in state.new)
-        ≡ told_by_stream false source.old.bytes) }
-    ensures turns { source.old.known ≡ true → IsOfTurns
-        (λ n. told_by_turns n false source.old.bytes) (told_of (found_in state.new)) }
-    ensures framed { IfOk result (λ _. is_some (found_in state.new).frame ≡ true) }
-    ensures frames { OnOk result (HasDecodedFrame (found_in state.new)) }
-    ensures size { IfOk result (λ v. IsWhole (found_in state.new).frame v.items) }
-    ensures emptied { ((found_in state.new).held ≡ [])
-        × ((found_in state.new).planes ≡ replicate 4 None)
-        × ((found_in state.new).samples ≡ replicate 4 None) }
-{
-    read_start(alloc, source)?;
-    read_rest(alloc, source, state, settings)
 }

@@ -1,5 +1,5 @@
 //! The program's engine: a stream from a reader, its picture to a writer, and a line for a refusal.
-ghost use Rattle.std.specs.Prelude.{◌≡◌, ◌++◌, ℕ, List, Some, None, option_map, Err, IsSome};
+ghost use Rattle.std.specs.Prelude.{◌≡◌, ◌++◌, ℕ, List, Some, None, Err, IsSome};
 ghost use Rattle.std.specs.Prelude.{IsSomeAnd, OnOk, OnErr, IfErr, IfOk, IsErr, string_bytes};
 ghost use Rattle.jpeg_streams.specs.States.{IsOfBytes};
 ghost use Rattle.std.specs.Io.KnownBytes.{Appends, Keeps};
@@ -90,22 +90,6 @@ fn write_both<W: Write>(alloc: Global, writer: &mut W, first: &[u8], second: &[u
     write_fully(alloc, writer, second)
 }
 
-/// Returns the header line and the picture of the stream that the reader gives.
-fn line_and_pixels<R: Read + Drop>(alloc: Global, reader: R) -> Result<(String, Vec<u8>)>
-    ensures ok { (bytes : List ℕ) → Tells (R.remaining reader) bytes
-        → IfOk result (λ made. output_of bytes ≡ Some (string_bytes made.0 ++ made.1.items)) }
-    ensures err { (bytes : List ℕ) → Tells (R.remaining reader) bytes
-        → IsSome (output_of bytes) → IfErr result IsOutsideOrMemory }
-    ensures named { (bytes : List ℕ) → Tells (R.remaining reader) bytes
-        → IfErr result (NamesOrOutside bytes) }
-    ensures own { IfErr result IsOfBytes }
-{
-    let mut decoder = Decoder::new(alloc, reader)?;
-    let pixels = decoder.decode()?;
-    let line = header_line(alloc, decoder.info())?;
-    Ok((line, pixels))
-}
-
 /// Decodes the stream that the reader gives, and writes the header line `WIDTH HEIGHT FORMAT` with
 /// a line feed and then the pixels, line by line from the top. All is decoded before anything is
 /// written.
@@ -144,7 +128,9 @@ pub fn run<R: Read + Drop, W: Write>(alloc: Global, reader: R, writer: &mut W) -
     // No error is one of a decoder's state.
     ensures own { IfErr result IsOfBytes }
 {
-    let (line, pixels) = line_and_pixels(alloc, reader)?;
+    let mut decoder = Decoder::new(alloc, reader)?;
+    let pixels = decoder.decode()?;
+    let line = header_line(alloc, decoder.info())?;
     write_both(alloc, writer, line.as_bytes(), pixels.as_slice())
 }
 
