@@ -1,4 +1,4 @@
-use Rattle.std.proofs.Common.{◌≡◌, ◌+◌, ◌*◌, ◌∙◌, ap, sym, arith, length, map, rules}
+use Rattle.std.proofs.Common.{◌≡◌, ◌+◌, ◌*◌, ◌∙◌, sym, arith, length, map, rules}
 use Rattle.jpeg_lossless.specs.Pictures.{layer_by, line_from, picture_bytes}
 use Rattle.jpeg_lossless.proofs.FilledLines.{all-pieces, no-pieces, piece-fits, pieces-more}
 use Rattle.jpeg_lossless.proofs.ImageLoops.{picture-none, picture-more, long-less, within}
