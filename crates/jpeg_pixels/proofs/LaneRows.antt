@@ -10,21 +10,11 @@ use Rattle.jpeg_pixels.specs.Lanes.{lanes, lane, lane_is_zero}
 use Rattle.jpeg_pixels.specs.LaneRows.{lane_at, column_of, HasNumbers, IsTurned}
 use Rattle.jpeg_pixels.specs.Samples.{dequantized, transformed, column_value, is_flat_column}
 use Rattle.jpeg_pixels.proofs.Sums.{transformed_same}
+pub use Rattle.jpeg_pixels.proofs.Sums.{eight_cases}
 use Rattle.jpeg_pixels.proofs.Columns.{flat_value, other_value}
 use Rattle.jpeg_pixels.proofs.LaneSums.{AreLanes, lane-lanes, lanes_same, lanes_read, lanes_read_fitting, lanes_given}
 use Rattle.jpeg_pixels.proofs.LaneSums.{lane_wrapped}
 use Rattle.jpeg_pixels.proofs.LaneChoice.{settled_is}
-
-pub eight_cases : (P : ℕ → Type 0) → P 0 → P 1 → P 2 → P 3 → P 4 → P 5 → P 6 → P 7 → (k : ℕ) → k < 8 → P k
-eight_cases P a b c d e f g h zero l = a
-eight_cases P a b c d e f g h (suc zero) l = b
-eight_cases P a b c d e f g h (suc (suc zero)) l = c
-eight_cases P a b c d e f g h (suc (suc (suc zero))) l = d
-eight_cases P a b c d e f g h (suc (suc (suc (suc zero)))) l = e
-eight_cases P a b c d e f g h (suc (suc (suc (suc (suc zero))))) l = f
-eight_cases P a b c d e f g h (suc (suc (suc (suc (suc (suc zero)))))) l = g
-eight_cases P a b c d e f g h (suc (suc (suc (suc (suc (suc (suc zero))))))) l = h
-eight_cases P a b c d e f g h (suc (suc (suc (suc (suc (suc (suc (suc n)))))))) l = absurd (omega arith)
 
 pub lane_at_is : (rows : Rows) (f : ℕ → ℕ → ℤ) → HasNumbers rows f → (k j : ℕ) → k < 8 → j < 8
     → lane_at rows k j ≡ f k j

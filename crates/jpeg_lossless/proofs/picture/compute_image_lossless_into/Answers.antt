@@ -12,7 +12,8 @@ seen [] = refl
 seen (c ∷ cs) = ap (λ (l : List Factors). factors_in c ∷ l) (seen cs)
 
 -- the greatest factor, as it is found in the components that are given
-most : (f : Factors → ℕ) (n : ℕ) (seen_in cs : List Given) → n ≡ greatest f (map factors_in seen_in) → seen_in ≡ cs
+most : (f : Factors → ℕ) (n : ℕ) (seen_in cs : List Given) → n ≡ greatest f (map factors_in seen_in)
+    → seen_in ≡ cs
     → n ≡ greatest f (map (λ c. c.factors) (map component_in cs))
 most f n seen_in cs is same =
     is ∙ ap (λ (l : List Given). greatest f (map factors_in l)) same ∙ ap (greatest f) (seen cs)
