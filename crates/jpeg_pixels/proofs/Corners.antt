@@ -54,11 +54,13 @@ no_value_right coefficients quantization corner row column right h =
 -- ---- the test of a block
 
 abbrev pub upper_bits : List ℤ → ℕ → ℕ
-upper_bits coefficients j = bit_or (bit_or (bit_or (bits_at coefficients 0 j) (bits_at coefficients 8 j))
+upper_bits coefficients j =
+    bit_or (bit_or (bit_or (bits_at coefficients 0 j) (bits_at coefficients 8 j))
     (bits_at coefficients 16 j)) (bits_at coefficients 24 j)
 
 abbrev pub lower_bits : List ℤ → ℕ → ℕ
-lower_bits coefficients j = bit_or (bit_or (bit_or (bits_at coefficients 32 j) (bits_at coefficients 40 j))
+lower_bits coefficients j =
+    bit_or (bit_or (bit_or (bits_at coefficients 32 j) (bits_at coefficients 40 j))
     (bits_at coefficients 48 j)) (bits_at coefficients 56 j)
 
 pub first_bits : (coefficients : List ℤ) → length coefficients ≡ 64
@@ -145,7 +147,8 @@ corner_zero coefficients corner j h =
     (bits_at coefficients 56 j) (below 4 (lit≤ tt) (lit< tt)) (below 5 (lit≤ tt) (lit< tt))
     (below 6 (lit≤ tt) (lit< tt)) (below 7 (lit≤ tt) (lit< tt)))
     (four_zero (bits_at coefficients 0 k) (bits_at coefficients 8 k) (bits_at coefficients 16 k)
-    (bits_at coefficients 24 k) (right 0 (lit< tt)) (right 1 (lit< tt)) (right 2 (lit< tt)) (right 3 (lit< tt)))
+    (bits_at coefficients 24 k) (right 0 (lit< tt)) (right 1 (lit< tt)) (right 2 (lit< tt))
+    (right 3 (lit< tt)))
   where
     none : (z : ℤ) → z ≡ pos 0 → eqb (of_z w16 z) 0 ≡ true
     none z e = ap (λ z. eqb (of_z w16 z) 0) e

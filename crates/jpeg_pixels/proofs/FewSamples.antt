@@ -26,10 +26,14 @@ pub four_samples : (stride : ℕ) (f : ℕ → ℕ → ℕ) (old : List ℕ) (a 
 four_samples stride f old a b d e wide room is0 is1 is2 is3 = record { inside = inside; right = right; below = below }
   where
     inside : (x y : ℕ) → x < 2 → y < 2 → slice_index (two_lines stride old a b d e) (y * stride + x) ≡ f x y
-    inside zero zero hx hy = search (rules, get_or-set_at, get_or-set_other, length-set, slice_index)
-    inside (suc zero) zero hx hy = search (rules, get_or-set_at, get_or-set_other, length-set, slice_index)
-    inside zero (suc zero) hx hy = search (rules, get_or-set_at, get_or-set_other, length-set, slice_index)
-    inside (suc zero) (suc zero) hx hy = search (rules, get_or-set_at, get_or-set_other, length-set, slice_index)
+    inside zero zero hx hy =
+        search (rules, get_or-set_at, get_or-set_other, length-set, slice_index)
+    inside (suc zero) zero hx hy =
+        search (rules, get_or-set_at, get_or-set_other, length-set, slice_index)
+    inside zero (suc zero) hx hy =
+        search (rules, get_or-set_at, get_or-set_other, length-set, slice_index)
+    inside (suc zero) (suc zero) hx hy =
+        search (rules, get_or-set_at, get_or-set_other, length-set, slice_index)
     inside (suc (suc x)) y hx hy = absurd (omega arith)
     inside zero (suc (suc y)) hx hy = absurd (omega arith)
     inside (suc zero) (suc (suc y)) hx hy = absurd (omega arith)

@@ -1,5 +1,5 @@
 -- The two passes of the transform in lanes of 16 bits, and why they are exact.
-use Rattle.std.proofs.Common.{◌≡◌, ℕ, ◌+◌, ◌*◌, ◌/◌, ◌<◌, ◌≤◌, List, map, length, get_or, ℤ, pos, negsuc, ◌++◌, subst}
+use Rattle.std.proofs.Common.{◌≡◌, ℕ, ◌+◌, ◌*◌, ◌/◌, ◌<◌, ◌≤◌, List, map, ℤ, pos, negsuc, subst}
 use Rattle.std.proofs.Common.{◌+ℤ◌, ◌*ℤ◌, refl, sym, ap, ◌∙◌, replicate, FitsSigned, of_z, to_z, arith, rules}
 use Rattle.std.proofs.Common.{Bool, true, false, unsigned_abs, lit<, lit≤, max, zero, suc}
 use Rattle.std.proofs.lemmas.Simd.{zip2_of_maps, splat_is_map, map-map}

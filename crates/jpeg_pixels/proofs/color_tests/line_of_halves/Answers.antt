@@ -29,7 +29,8 @@ upsample_and_interleave_row-requires-clause-cover c =
     let planes = c.args.luma.items ∷ c.args.cb.items ∷ c.args.cr.items ∷ [] in
     let sources = c.in_ok-upsampler.upsampler in
     cover-lower sources planes 3 (c.args.row + 1) 2 (omega arith)
-    (squares-are-covered 3 2 factors _ planes (λ i. c.component-one.ensures i ∷ c.component-two.ensures i
+    (squares-are-covered 3 2 factors _ planes (λ i. c.component-one.ensures i
+    ∷ c.component-two.ensures i
     ∷ c.component-three.ensures i ∷ []) are-factors (omega arith) (omega arith) (
       omega arith,
       (omega arith, (omega arith, tt)),
@@ -38,7 +39,8 @@ upsample_and_interleave_row-requires-clause-cover c =
 
 pub upsample_and_interleave_row-requires-clause-fits : goal.upsample_and_interleave_row-requires-clause-fits
 upsample_and_interleave_row-requires-clause-fits c =
-    subst (λ n. IsFor n c.args.color_convert) (upsample_and_interleave_row-requires-clause-planes c) c.requires.fits
+    subst (λ n. IsFor n c.args.color_convert) (upsample_and_interleave_row-requires-clause-planes c)
+    c.requires.fits
 
 pub upsample_and_interleave_row-requires-clause-room : goal.upsample_and_interleave_row-requires-clause-room
 upsample_and_interleave_row-requires-clause-room c = search (rules, sources-count)
