@@ -24,8 +24,8 @@ lane_at_is rows f e k j hk hj = search (rules, eight_cases, lane-lanes)
 module _ (coefficients : List ℤ) (quantization : List ℕ) (rows : Rows) (flat below : List ℤ)
     (is_flat : AreLanes w32 flat) (is_below : AreLanes w32 below)
     (zero_where : (j : ℕ) → j < 8 → lane_is_zero below j ≡ is_flat_column coefficients j)
-    (flat_is : flat ≡ lanes (λ j. int_wrap w32 (pos 4 *ℤ dequantized coefficients quantization 0
-    j)))
+    (flat_is : flat
+    ≡ lanes (λ j. int_wrap w32 (pos 4 *ℤ dequantized coefficients quantization 0 j)))
     (products : HasNumbers rows (dequantized coefficients quantization)) where
   -- a row of the columns' values, as the kernel chooses it
   pub column_row : (row : ℕ) (sums : List ℤ) → AreLanes w32 sums

@@ -49,8 +49,8 @@ module _ (width : ℕ) (lines : List (List ℕ)) (out : List ℕ) (long : AreLon
   first n x = ap (λ m. get_or out m 0) (omega arith)
 
   -- a sample of a pixel, by its place in the lines, and what it lacks to 255
-  sample : (k x i : ℕ) → k < length lines → i ≡ k * width + x → x < width → in_lines i
-      ≡ get_or (samples lines x) k 0
+  sample : (k x i : ℕ) → k < length lines → i ≡ k * width + x → x < width
+      → in_lines i ≡ get_or (samples lines x) k 0
   sample k x i h e lt = ap in_lines e ∙ sym (sample-at width lines k x long h lt)
 
   inverse : (k x i : ℕ) → k < length lines → i ≡ k * width + x → x < width
@@ -102,8 +102,8 @@ module _ (width : ℕ) (lines : List (List ℕ)) (out : List ℕ) (long : AreLon
   blue_at x = blue_of (in_lines x) (in_lines (width + x))
 
   pub line-ycbcr : length lines ≡ 3 → length out ≡ 3 * width → Puts (λ x. 3 * x) red_at
-      → Puts (λ x. 3 * x + 1) green_at → Puts (λ x. 3 * x + 2) blue_at → out
-      ≡ line_bytes converts.YCbCr width lines
+      → Puts (λ x. 3 * x + 1) green_at → Puts (λ x. 3 * x + 2) blue_at
+      → out ≡ line_bytes converts.YCbCr width lines
   unfolding line_bytes colour_of
   line-ycbcr three size red green blue =
       by_pixels 3 width (λ x. colour_of converts.YCbCr (samples lines x)) out (omega arith)
@@ -112,16 +112,16 @@ module _ (width : ℕ) (lines : List (List ℕ)) (out : List ℕ) (long : AreLon
       let y = sample 0 x x (omega arith) (omega arith) hx in
       let cb = sample 1 x (width + x) (omega arith) (omega arith) hx in
       let cr = sample 2 x (2 * width + x) (omega arith) (omega arith) hx in
-      by_three (λ k. get_or out (3 * x + k) 0) (λ k. get_or
-      (colour_of converts.YCbCr (samples lines x)) k 0)
+      by_three (λ k. get_or out (3 * x + k) 0)
+      (λ k. get_or (colour_of converts.YCbCr (samples lines x)) k 0)
       (first 3 x ∙ red x hx ∙ (λ i. red_of (y i) (cr i)))
       (green x hx ∙ (λ i. green_of (y i) (cb i) (cr i)))
       (blue x hx ∙ (λ i. blue_of (y i) (cb i))) k hk)
 
   pub line-ycck : length lines ≡ 4 → length out ≡ 4 * width → Puts (λ x. 4 * x) red_at
       → Puts (λ x. 4 * x + 1) green_at → Puts (λ x. 4 * x + 2) blue_at
-      → Puts (λ x. 4 * x + 3) (λ x. 255 - in_lines (3 * width + x)) → out
-      ≡ line_bytes converts.Ycck width lines
+      → Puts (λ x. 4 * x + 3) (λ x. 255 - in_lines (3 * width + x))
+      → out ≡ line_bytes converts.Ycck width lines
   unfolding line_bytes colour_of
   line-ycck four size red green blue black =
       by_pixels 4 width (λ x. colour_of converts.Ycck (samples lines x)) out (omega arith)
@@ -131,8 +131,8 @@ module _ (width : ℕ) (lines : List (List ℕ)) (out : List ℕ) (long : AreLon
       let cb = sample 1 x (width + x) (omega arith) (omega arith) hx in
       let cr = sample 2 x (2 * width + x) (omega arith) (omega arith) hx in
       let dark = sample 3 x (3 * width + x) (omega arith) (omega arith) hx in
-      by_four (λ k. get_or out (4 * x + k) 0) (λ k. get_or
-      (colour_of converts.Ycck (samples lines x)) k 0)
+      by_four (λ k. get_or out (4 * x + k) 0)
+      (λ k. get_or (colour_of converts.Ycck (samples lines x)) k 0)
       (first 4 x ∙ red x hx ∙ (λ i. red_of (y i) (cr i)))
       (green x hx ∙ (λ i. green_of (y i) (cb i) (cr i)))
       (blue x hx ∙ (λ i. blue_of (y i) (cb i)))
