@@ -1,8 +1,9 @@
 -- Pieces of one length that are written one after the other into a list that has exactly their room.
 use Rattle.std.proofs.lemmas.Grind.{common_steps}
-use Rattle.std.proofs.Common.{◌≡◌, ℕ, zero, suc, ◌+◌, ◌*◌, ◌<◌, ◌≤◌, List, [], ◌∷◌, ◌++◌, length, take, set, map, ap, sym}
-use Rattle.std.proofs.Common.{◌∙◌, arith, refl, length-take, slice_index_or}
-use Rattle.std.proofs.Math.Nat.{add-mul, mul-le-mul_right, mul_comm, one-mul}
+use Rattle.std.proofs.Common.{◌≡◌, ℕ, zero, suc, ◌+◌, ◌*◌, ◌<◌, ◌≤◌, List, [], ◌∷◌, ◌++◌, length}
+use Rattle.std.proofs.Common.{take, set, ap, sym}
+use Rattle.std.proofs.Common.{◌∙◌, arith, length-take, slice_index_or}
+use Rattle.std.proofs.Math.Nat.{add-mul, mul-le-mul_right, one-mul}
 use Rattle.std.proofs.Math.Seq.{take-append-add, take-append_seam}
 use Rattle.std.proofs.lemmas.List.{take_all}
 use Rattle.std.proofs.lemmas.List.FromFn.{length-map-range_with_len}

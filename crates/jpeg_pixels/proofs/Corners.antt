@@ -18,7 +18,7 @@ use Rattle.jpeg_pixels.proofs.FlatBlocks.{all_below_true}
 use Rattle.jpeg_pixels.proofs.LaneSums.{lanes_same}
 use Rattle.jpeg_pixels.proofs.ZeroCases.{none_of, both_true}
 use Rattle.jpeg_pixels.proofs.LaneRows.{eight_cases}
-use Rattle.jpeg_pixels.proofs.LaneChoice.{IsBits, or_both, or_zero, half_zero}
+use Rattle.jpeg_pixels.proofs.LaneChoice.{IsBits, bits_at, or_both, or_zero, half_zero}
 
 -- rows whose last four have only zeros
 pub zero_rows : (rows : Rows) (f : ℕ → ℕ → ℤ) → HasNumbers rows f
@@ -53,19 +53,18 @@ no_value_right coefficients quantization corner row column right h =
 
 -- ---- the test of a block
 
-abbrev row_bits : List ℤ → ℕ → ℕ → ℕ
-row_bits coefficients at j = of_z w16 (get_or coefficients (at + j) (pos 0))
-
 abbrev pub upper_bits : List ℤ → ℕ → ℕ
-upper_bits coefficients j = bit_or (bit_or (bit_or (row_bits coefficients 0 j) (row_bits coefficients 8 j))
-    (row_bits coefficients 16 j)) (row_bits coefficients 24 j)
+upper_bits coefficients j =
+    bit_or (bit_or (bit_or (bits_at coefficients 0 j) (bits_at coefficients 8 j))
+    (bits_at coefficients 16 j)) (bits_at coefficients 24 j)
 
 abbrev pub lower_bits : List ℤ → ℕ → ℕ
-lower_bits coefficients j = bit_or (bit_or (bit_or (row_bits coefficients 32 j) (row_bits coefficients 40 j))
-    (row_bits coefficients 48 j)) (row_bits coefficients 56 j)
+lower_bits coefficients j =
+    bit_or (bit_or (bit_or (bits_at coefficients 32 j) (bits_at coefficients 40 j))
+    (bits_at coefficients 48 j)) (bits_at coefficients 56 j)
 
 pub first_bits : (coefficients : List ℤ) → length coefficients ≡ 64
-    → IsBits (map (of_z w16) (chunk 0 8 coefficients)) (row_bits coefficients 0)
+    → IsBits (map (of_z w16) (chunk 0 8 coefficients)) (bits_at coefficients 0)
 first_bits coefficients long = search (rules, fill_by_all, get_or, get_or-chunk, length-chunk, map-map, of_z)
 
 -- each of eight lanes is 0 where the mask of the zero lanes is full
@@ -123,12 +122,12 @@ corner_is coefficients fits tested = record {
         → get_or coefficients place (pos 0) ≡ pos 0
     none place e = none_of _ (sym (half_zero _ (fits place)) ∙ e)
 
-    lower : (j : ℕ) → j < 8 → AreZero (row_bits coefficients 32 j) (row_bits coefficients 40 j)
-        (row_bits coefficients 48 j) (row_bits coefficients 56 j)
+    lower : (j : ℕ) → j < 8 → AreZero (bits_at coefficients 32 j) (bits_at coefficients 40 j)
+        (bits_at coefficients 48 j) (bits_at coefficients 56 j)
     lower j h = four _ _ _ _ (parts (lower_bits coefficients j) (upper_bits coefficients (4 + j % 4)) (tested j h)).0
 
-    upper : (j : ℕ) → 4 ≤ j → j < 8 → AreZero (row_bits coefficients 0 j) (row_bits coefficients 8 j)
-        (row_bits coefficients 16 j) (row_bits coefficients 24 j)
+    upper : (j : ℕ) → 4 ≤ j → j < 8 → AreZero (bits_at coefficients 0 j) (bits_at coefficients 8 j)
+        (bits_at coefficients 16 j) (bits_at coefficients 24 j)
     upper j low h =
         let e : 4 + (j - 4) % 4 ≡ j = omega arith in
         four _ _ _ _ (ap (λ (n : ℕ). eqb (upper_bits coefficients n) 0) (sym e)
@@ -144,11 +143,12 @@ corner_zero coefficients corner j h =
     let below : (row : ℕ) → 4 ≤ row → row < 8 → eqb (of_z w16 (get_or coefficients (row * 8 + j) (pos 0))) 0 ≡ true =
     λ row low r. none _ (corner.below row j low r h) in
     or_both (lower_bits coefficients j) (upper_bits coefficients k)
-    (four_zero (row_bits coefficients 32 j) (row_bits coefficients 40 j) (row_bits coefficients 48 j)
-    (row_bits coefficients 56 j) (below 4 (lit≤ tt) (lit< tt)) (below 5 (lit≤ tt) (lit< tt))
+    (four_zero (bits_at coefficients 32 j) (bits_at coefficients 40 j) (bits_at coefficients 48 j)
+    (bits_at coefficients 56 j) (below 4 (lit≤ tt) (lit< tt)) (below 5 (lit≤ tt) (lit< tt))
     (below 6 (lit≤ tt) (lit< tt)) (below 7 (lit≤ tt) (lit< tt)))
-    (four_zero (row_bits coefficients 0 k) (row_bits coefficients 8 k) (row_bits coefficients 16 k)
-    (row_bits coefficients 24 k) (right 0 (lit< tt)) (right 1 (lit< tt)) (right 2 (lit< tt)) (right 3 (lit< tt)))
+    (four_zero (bits_at coefficients 0 k) (bits_at coefficients 8 k) (bits_at coefficients 16 k)
+    (bits_at coefficients 24 k) (right 0 (lit< tt)) (right 1 (lit< tt)) (right 2 (lit< tt))
+    (right 3 (lit< tt)))
   where
     none : (z : ℤ) → z ≡ pos 0 → eqb (of_z w16 z) 0 ≡ true
     none z e = ap (λ z. eqb (of_z w16 z) 0) e

@@ -25,36 +25,15 @@ pub four_samples : (stride : ℕ) (f : ℕ → ℕ → ℕ) (old : List ℕ) (a 
     → a ≡ f 0 0 → b ≡ f 1 0 → d ≡ f 0 1 → e ≡ f 1 1 → WritesBlock 2 2 stride f old (two_lines stride old a b d e)
 four_samples stride f old a b d e wide room is0 is1 is2 is3 = record { inside = inside; right = right; below = below }
   where
-    first : List ℕ
-    first = set old 0 a
-
-    second : List ℕ
-    second = set (set old 0 a) 1 b
-
-    third : List ℕ
-    third = set (set (set old 0 a) 1 b) stride d
-
-    second_length : length (set (set old 0 a) 1 b) ≡ length old
-    second_length = length-set (set old 0 a) 1 b ∙ length-set old 0 a
-
-    third_length : length (set (set (set old 0 a) 1 b) stride d) ≡ length old
-    third_length = length-set (set (set old 0 a) 1 b) stride d ∙ second_length
-
     inside : (x y : ℕ) → x < 2 → y < 2 → slice_index (two_lines stride old a b d e) (y * stride + x) ≡ f x y
     inside zero zero hx hy =
-        get_or-set_other third (stride + 1) (0 * stride + 0) e 0 (omega arith)
-        ∙ get_or-set_other second stride (0 * stride + 0) d 0 (omega arith)
-        ∙ get_or-set_other first 1 (0 * stride + 0) b 0 (omega arith)
-        ∙ get_or-set_at old 0 (0 * stride + 0) a 0 (omega arith) (omega arith) ∙ is0
+        search (rules, get_or-set_at, get_or-set_other, length-set, slice_index)
     inside (suc zero) zero hx hy =
-        get_or-set_other third (stride + 1) (0 * stride + 1) e 0 (omega arith)
-        ∙ get_or-set_other second stride (0 * stride + 1) d 0 (omega arith)
-        ∙ get_or-set_at first 1 (0 * stride + 1) b 0 (omega arith) (omega (arith, length-set old 0 a)) ∙ is1
+        search (rules, get_or-set_at, get_or-set_other, length-set, slice_index)
     inside zero (suc zero) hx hy =
-        get_or-set_other third (stride + 1) (1 * stride + 0) e 0 (omega arith)
-        ∙ get_or-set_at second stride (1 * stride + 0) d 0 (omega arith) (omega (arith, second_length)) ∙ is2
+        search (rules, get_or-set_at, get_or-set_other, length-set, slice_index)
     inside (suc zero) (suc zero) hx hy =
-        get_or-set_at third (stride + 1) (1 * stride + 1) e 0 (omega arith) (omega (arith, third_length)) ∙ is3
+        search (rules, get_or-set_at, get_or-set_other, length-set, slice_index)
     inside (suc (suc x)) y hx hy = absurd (omega arith)
     inside zero (suc (suc y)) hx hy = absurd (omega arith)
     inside (suc zero) (suc (suc y)) hx hy = absurd (omega arith)

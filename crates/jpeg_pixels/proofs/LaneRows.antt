@@ -1,7 +1,7 @@
 -- Rows of lanes, by their numbers.
 use Rattle.std.proofs.Common.{rules}
-use Rattle.std.proofs.Common.{◌≡◌, ℕ, ◌<◌, zero, suc, List, map, length, get_or, ℤ, pos, ◌+ℤ◌, ◌*ℤ◌, refl, sym}
-use Rattle.std.proofs.Common.{ap, ◌∙◌, replicate, FitsSigned, of_z, to_z, arith, cond, eqb, true, false, Bool, lit<}
+use Rattle.std.proofs.Common.{◌≡◌, ℕ, ◌<◌, List, map, length, get_or, ℤ, pos, ◌+ℤ◌, ◌*ℤ◌, refl, sym}
+use Rattle.std.proofs.Common.{ap, ◌∙◌, replicate, FitsSigned, of_z, to_z, cond, eqb, true, false, Bool, lit<}
 use Rattle.std.specs.Int.{w32, int_shr, int_wrap}
 use Rattle.std.proofs.lemmas.List.FromFn.{fill_by_all}
 use lib.Lanes.{zip2, sel_l, top}
@@ -10,54 +10,52 @@ use Rattle.jpeg_pixels.specs.Lanes.{lanes, lane, lane_is_zero}
 use Rattle.jpeg_pixels.specs.LaneRows.{lane_at, column_of, HasNumbers, IsTurned}
 use Rattle.jpeg_pixels.specs.Samples.{dequantized, transformed, column_value, is_flat_column}
 use Rattle.jpeg_pixels.proofs.Sums.{transformed_same}
+pub use Rattle.jpeg_pixels.proofs.Sums.{eight_cases}
 use Rattle.jpeg_pixels.proofs.Columns.{flat_value, other_value}
-use Rattle.jpeg_pixels.proofs.LaneSums.{lane-lanes, lanes_same, lanes_read, lanes_read_fitting, lanes_given}
+use Rattle.jpeg_pixels.proofs.LaneSums.{AreLanes, lane-lanes, lanes_same, lanes_read}
+use Rattle.jpeg_pixels.proofs.LaneSums.{lanes_read_fitting, lanes_given}
 use Rattle.jpeg_pixels.proofs.LaneSums.{lane_wrapped}
 use Rattle.jpeg_pixels.proofs.LaneChoice.{settled_is}
-
-pub eight_cases : (P : ℕ → Type 0) → P 0 → P 1 → P 2 → P 3 → P 4 → P 5 → P 6 → P 7 → (k : ℕ) → k < 8 → P k
-eight_cases P a b c d e f g h zero l = a
-eight_cases P a b c d e f g h (suc zero) l = b
-eight_cases P a b c d e f g h (suc (suc zero)) l = c
-eight_cases P a b c d e f g h (suc (suc (suc zero))) l = d
-eight_cases P a b c d e f g h (suc (suc (suc (suc zero)))) l = e
-eight_cases P a b c d e f g h (suc (suc (suc (suc (suc zero))))) l = f
-eight_cases P a b c d e f g h (suc (suc (suc (suc (suc (suc zero)))))) l = g
-eight_cases P a b c d e f g h (suc (suc (suc (suc (suc (suc (suc zero))))))) l = h
-eight_cases P a b c d e f g h (suc (suc (suc (suc (suc (suc (suc (suc n)))))))) l = absurd (omega arith)
 
 pub lane_at_is : (rows : Rows) (f : ℕ → ℕ → ℤ) → HasNumbers rows f → (k j : ℕ) → k < 8 → j < 8
     → lane_at rows k j ≡ f k j
 lane_at_is rows f e k j hk hj = search (rules, eight_cases, lane-lanes)
 
--- a row of the columns' values, as the kernel chooses it
-pub column_row : (coefficients : List ℤ) (quantization : List ℕ) (rows : Rows) (row : ℕ) (sums flat below : List ℤ)
-    → length sums ≡ 8 → length flat ≡ 8 → length below ≡ 8
-    → ((j : ℕ) → FitsSigned w32 (lane sums j)) → ((j : ℕ) → FitsSigned w32 (lane flat j))
-    → ((j : ℕ) → FitsSigned w32 (lane below j))
-    → ((j : ℕ) → j < 8 → lane_is_zero below j ≡ is_flat_column coefficients j)
-    → flat ≡ lanes (λ j. int_wrap w32 (pos 4 *ℤ dequantized coefficients quantization 0 j))
-    → HasNumbers rows (dequantized coefficients quantization)
-    → sums ≡ lanes (λ j. int_wrap w32 (transformed (λ k. lane_at rows k j) row +ℤ pos 512))
-    → map (to_z w32) (sel_l (map (top 31) (zip2 (λ a b. cond (eqb a b) 4294967295 0) (map (of_z w32) below)
-    (replicate 8 0))) (map (of_z w32) flat)
-    (zip2 (λ a b. of_z w32 (int_shr (to_z w32 a) b)) (map (of_z w32) sums) (replicate 8 10)))
-    ≡ lanes (λ j. column_value coefficients quantization row j)
-column_row coefficients quantization rows row sums flat below ls lf lb fs ff fb zero_where flat_is products sums_are =
-    settled_is sums flat below ls lf lb fs ff fb ∙ lanes_same _ (λ j. column_value coefficients quantization row j)
-    (λ j h.
-    ap (λ (t : Bool). cond t (lane flat j) (int_shr (lane sums j) 10)) (zero_where j h)
-    ∙ by_flat j h (is_flat_column coefficients j) refl)
-  where
-    by_flat : (j : ℕ) → j < 8 → (t : Bool) → is_flat_column coefficients j ≡ t
-        → cond t (lane flat j) (int_shr (lane sums j) 10) ≡ column_value coefficients quantization row j
-    by_flat j h true e = lane-lanes flat (λ i. int_wrap w32 (pos 4 *ℤ dequantized coefficients quantization 0 i))
-        flat_is j h ∙ sym (flat_value coefficients quantization row j e)
-    by_flat j h false e = ap (λ z. int_shr z 10)
-        (lane-lanes sums (λ i. int_wrap w32 (transformed (λ k. lane_at rows k i) row +ℤ pos 512)) sums_are j h
-        ∙ ap (λ z. int_wrap w32 (z +ℤ pos 512)) (transformed_same (λ k. lane_at rows k j) (λ k. dequantized coefficients
-        quantization k j) row (λ k hk. lane_at_is rows (dequantized coefficients quantization) products k j hk h)))
-        ∙ sym (other_value coefficients quantization row j e)
+module _ (coefficients : List ℤ) (quantization : List ℕ) (rows : Rows) (flat below : List ℤ)
+    (is_flat : AreLanes w32 flat) (is_below : AreLanes w32 below)
+    (zero_where : (j : ℕ) → j < 8 → lane_is_zero below j ≡ is_flat_column coefficients j)
+    (flat_is : flat
+    ≡ lanes (λ j. int_wrap w32 (pos 4 *ℤ dequantized coefficients quantization 0 j)))
+    (products : HasNumbers rows (dequantized coefficients quantization)) where
+  -- a row of the columns' values, as the kernel chooses it
+  pub column_row : (row : ℕ) (sums : List ℤ) → AreLanes w32 sums
+      → sums ≡ lanes (λ j. int_wrap w32 (transformed (λ k. lane_at rows k j) row +ℤ pos 512))
+      → map (to_z w32) (sel_l (map (top 31) (zip2 (λ a b. cond (eqb a b) 4294967295 0)
+      (map (of_z w32) below)
+      (replicate 8 0))) (map (of_z w32) flat)
+      (zip2 (λ a b. of_z w32 (int_shr (to_z w32 a) b)) (map (of_z w32) sums) (replicate 8 10)))
+      ≡ lanes (λ j. column_value coefficients quantization row j)
+  column_row row sums is_sums sums_are =
+      settled_is sums flat below is_sums is_flat is_below
+      ∙ lanes_same _ (λ j. column_value coefficients quantization row j) (λ j h.
+      ap (λ (t : Bool). cond t (lane flat j) (int_shr (lane sums j) 10)) (zero_where j h)
+      ∙ by_flat j h (is_flat_column coefficients j) refl)
+    where
+      by_flat : (j : ℕ) → j < 8 → (t : Bool) → is_flat_column coefficients j ≡ t
+          → cond t (lane flat j) (int_shr (lane sums j) 10)
+          ≡ column_value coefficients quantization row j
+      by_flat j h true e =
+          lane-lanes flat (λ i. int_wrap w32 (pos 4 *ℤ dequantized coefficients quantization 0 i))
+          flat_is j h
+          ∙ sym (flat_value coefficients quantization row j e)
+      by_flat j h false e =
+          ap (λ z. int_shr z 10)
+          (lane-lanes sums (λ i. int_wrap w32 (transformed (λ k. lane_at rows k i) row +ℤ pos 512))
+          sums_are j h
+          ∙ ap (λ z. int_wrap w32 (z +ℤ pos 512)) (transformed_same (λ k. lane_at rows k j)
+          (λ k. dequantized coefficients quantization k j) row
+          (λ k hk. lane_at_is rows (dequantized coefficients quantization) products k j hk h)))
+          ∙ sym (other_value coefficients quantization row j e)
 
 column_is : (rows : Rows) (f : ℕ → ℕ → ℤ) → HasNumbers rows f → (k : ℕ) → k < 8 → column_of rows k ≡ lanes (λ j. f j k)
 unfolding lanes

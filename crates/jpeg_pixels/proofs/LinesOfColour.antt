@@ -35,110 +35,105 @@ line-none width lines long = ap concat (ext_get_or [] lines (map (take width) li
     sym (get_or-map (take width) lines k [] [] h ∙ ap (λ n. take n (get_or lines k [])) (sym own)
     ∙ take-length (get_or lines k []))))
 
-pub line-rgb : (width : ℕ) (lines : List (List ℕ)) (out : List ℕ) → AreLong width lines → length lines ≡ 3
-    → length out ≡ 3 * width
-    → ((x : ℕ) → x < width → get_or out (3 * x) 0 ≡ get_or (concat lines) x 0)
-    → ((x : ℕ) → x < width → get_or out (3 * x + 1) 0 ≡ get_or (concat lines) (width + x) 0)
-    → ((x : ℕ) → x < width → get_or out (3 * x + 2) 0 ≡ get_or (concat lines) (2 * width + x) 0)
-    → out ≡ line_bytes converts.Rgb width lines
-unfolding line_bytes colour_of
-line-rgb width lines out long three size red green blue =
-    by_pixels 3 width (λ x. colour_of converts.Rgb (samples lines x)) out (omega arith)
-    (λ x. length-map lines (λ (l : List ℕ). get_or l x 0) ∙ three) size
-    (λ x k hx hk. by_three (λ k. get_or out (3 * x + k) 0) (λ k. get_or (samples lines x) k 0)
-    (at (3 * x + 0) (3 * x) (omega arith) ∙ red x hx ∙ own 0 x x (omega arith) (omega arith) hx)
-    (green x hx ∙ own 1 x (width + x) (omega arith) (omega arith) hx)
-    (blue x hx ∙ own 2 x (2 * width + x) (omega arith) (omega arith) hx) k hk)
-  where
-    at : (i j : ℕ) → i ≡ j → get_or out i 0 ≡ get_or out j 0
-    at i j e = ap (λ m. get_or out m 0) e
+module _ (width : ℕ) (lines : List (List ℕ)) (out : List ℕ) (long : AreLong width lines) where
+  -- the number at a place of the lines in a row
+  abbrev pub in_lines : ℕ → ℕ
+  in_lines i = get_or (concat lines) i 0
 
-    own : (k x i : ℕ) → k < length lines → i ≡ k * width + x → x < width
-        → get_or (concat lines) i 0 ≡ get_or (samples lines x) k 0
-    own k x i h e lt = ap (λ m. get_or (concat lines) m 0) e ∙ sym (sample-at width lines k x long h lt)
+  -- at the place of each pixel stands its value
+  abbrev pub Puts : (ℕ → ℕ) → (ℕ → ℕ) → Type 0
+  Puts place value = (x : ℕ) → x < width → get_or out (place x) 0 ≡ value x
 
-pub line-cmyk : (width : ℕ) (lines : List (List ℕ)) (out : List ℕ) → AreLong width lines → length lines ≡ 4
-    → length out ≡ 4 * width
-    → ((x : ℕ) → x < width → get_or out (4 * x) 0 ≡ 255 - get_or (concat lines) x 0)
-    → ((x : ℕ) → x < width → get_or out (4 * x + 1) 0 ≡ 255 - get_or (concat lines) (width + x) 0)
-    → ((x : ℕ) → x < width → get_or out (4 * x + 2) 0 ≡ 255 - get_or (concat lines) (2 * width + x) 0)
-    → ((x : ℕ) → x < width → get_or out (4 * x + 3) 0 ≡ 255 - get_or (concat lines) (3 * width + x) 0)
-    → out ≡ line_bytes converts.Cmyk width lines
-unfolding line_bytes colour_of
-line-cmyk width lines out long four size cyan magenta yellow black =
-    by_pixels 4 width (λ x. colour_of converts.Cmyk (samples lines x)) out (omega arith)
-    (λ x. length-map (samples lines x) (λ s. 255 - s) ∙ length-map lines (λ (l : List ℕ). get_or l x 0) ∙ four) size
-    (λ x k hx hk. by_four (λ k. get_or out (4 * x + k) 0) (λ k. get_or (map (λ s. 255 - s) (samples lines x)) k 0)
-    (at (4 * x + 0) (4 * x) (omega arith) ∙ cyan x hx ∙ own 0 x x (omega arith) (omega arith) hx)
-    (magenta x hx ∙ own 1 x (width + x) (omega arith) (omega arith) hx)
-    (yellow x hx ∙ own 2 x (2 * width + x) (omega arith) (omega arith) hx)
-    (black x hx ∙ own 3 x (3 * width + x) (omega arith) (omega arith) hx) k hk)
-  where
-    at : (i j : ℕ) → i ≡ j → get_or out i 0 ≡ get_or out j 0
-    at i j e = ap (λ m. get_or out m 0) e
+  -- the first byte of a pixel
+  first : (n x : ℕ) → get_or out (n * x + 0) 0 ≡ get_or out (n * x) 0
+  first n x = ap (λ m. get_or out m 0) (omega arith)
 
-    own : (k x i : ℕ) → k < length lines → i ≡ k * width + x → x < width
-        → 255 - get_or (concat lines) i 0 ≡ get_or (map (λ s. 255 - s) (samples lines x)) k 0
-    own k x i h e lt = ap (λ m. 255 - get_or (concat lines) m 0) e
-        ∙ ap (λ v. 255 - v) (sym (sample-at width lines k x long h lt))
-        ∙ sym (get_or-map (λ s. 255 - s) (samples lines x) k 0 0 (omega (
-          arith,
-          length-map lines (λ (l : List ℕ). get_or l x 0),
-        )))
+  -- a sample of a pixel, by its place in the lines, and what it lacks to 255
+  sample : (k x i : ℕ) → k < length lines → i ≡ k * width + x → x < width
+      → in_lines i ≡ get_or (samples lines x) k 0
+  sample k x i h e lt = ap in_lines e ∙ sym (sample-at width lines k x long h lt)
 
--- a sample of a pixel, by its place in the lines
-sample : (width : ℕ) (lines : List (List ℕ)) (k x i : ℕ) → AreLong width lines → k < length lines → i ≡ k * width + x
-    → x < width
-    → get_or (concat lines) i 0 ≡ get_or (samples lines x) k 0
-sample width lines k x i long h e lt = ap (λ m. get_or (concat lines) m 0) e ∙ sym (sample-at width lines k x long h lt)
+  inverse : (k x i : ℕ) → k < length lines → i ≡ k * width + x → x < width
+      → 255 - in_lines i ≡ get_or (map (λ s. 255 - s) (samples lines x)) k 0
+  inverse k x i h e lt =
+      ap (λ v. 255 - v) (sample k x i h e lt)
+      ∙ sym (get_or-map (λ s. 255 - s) (samples lines x) k 0 0
+      (omega (arith, length-map lines (λ (l : List ℕ). get_or l x 0))))
 
-pub line-ycbcr : (width : ℕ) (lines : List (List ℕ)) (out : List ℕ) → AreLong width lines → length lines ≡ 3
-    → length out ≡ 3 * width
-    → ((x : ℕ) → x < width → get_or out (3 * x) 0 ≡ red_of (get_or (concat lines) x 0)
-    (get_or (concat lines) (2 * width + x) 0))
-    → ((x : ℕ) → x < width → get_or out (3 * x + 1) 0 ≡ green_of (get_or (concat lines) x 0)
-    (get_or (concat lines) (width + x) 0) (get_or (concat lines) (2 * width + x) 0))
-    → ((x : ℕ) → x < width → get_or out (3 * x + 2) 0 ≡ blue_of (get_or (concat lines) x 0)
-    (get_or (concat lines) (width + x) 0))
-    → out ≡ line_bytes converts.YCbCr width lines
-unfolding line_bytes colour_of
-line-ycbcr width lines out long three size red green blue =
-    by_pixels 3 width (λ x. colour_of converts.YCbCr (samples lines x)) out (omega arith) (λ x. refl) size
-    (λ x k hx hk.
-    let y = sample width lines 0 x x long (omega arith) (omega arith) hx in
-    let cb = sample width lines 1 x (width + x) long (omega arith) (omega arith) hx in
-    let cr = sample width lines 2 x (2 * width + x) long (omega arith) (omega arith) hx in
-    by_three (λ k. get_or out (3 * x + k) 0) (λ k. get_or (colour_of converts.YCbCr (samples lines x)) k 0)
-    (at (3 * x + 0) (3 * x) (omega arith) ∙ red x hx ∙ (λ i. red_of (y i) (cr i)))
-    (green x hx ∙ (λ i. green_of (y i) (cb i) (cr i)))
-    (blue x hx ∙ (λ i. blue_of (y i) (cb i))) k hk)
-  where
-    at : (i j : ℕ) → i ≡ j → get_or out i 0 ≡ get_or out j 0
-    at i j e = ap (λ m. get_or out m 0) e
+  pub line-rgb : length lines ≡ 3 → length out ≡ 3 * width → Puts (λ x. 3 * x) in_lines
+      → Puts (λ x. 3 * x + 1) (λ x. in_lines (width + x))
+      → Puts (λ x. 3 * x + 2) (λ x. in_lines (2 * width + x))
+      → out ≡ line_bytes converts.Rgb width lines
+  unfolding line_bytes colour_of
+  line-rgb three size red green blue =
+      by_pixels 3 width (λ x. colour_of converts.Rgb (samples lines x)) out (omega arith)
+      (λ x. length-map lines (λ (l : List ℕ). get_or l x 0) ∙ three) size
+      (λ x k hx hk. by_three (λ k. get_or out (3 * x + k) 0) (λ k. get_or (samples lines x) k 0)
+      (first 3 x ∙ red x hx ∙ sample 0 x x (omega arith) (omega arith) hx)
+      (green x hx ∙ sample 1 x (width + x) (omega arith) (omega arith) hx)
+      (blue x hx ∙ sample 2 x (2 * width + x) (omega arith) (omega arith) hx) k hk)
 
-pub line-ycck : (width : ℕ) (lines : List (List ℕ)) (out : List ℕ) → AreLong width lines → length lines ≡ 4
-    → length out ≡ 4 * width
-    → ((x : ℕ) → x < width → get_or out (4 * x) 0 ≡ red_of (get_or (concat lines) x 0)
-    (get_or (concat lines) (2 * width + x) 0))
-    → ((x : ℕ) → x < width → get_or out (4 * x + 1) 0 ≡ green_of (get_or (concat lines) x 0)
-    (get_or (concat lines) (width + x) 0) (get_or (concat lines) (2 * width + x) 0))
-    → ((x : ℕ) → x < width → get_or out (4 * x + 2) 0 ≡ blue_of (get_or (concat lines) x 0)
-    (get_or (concat lines) (width + x) 0))
-    → ((x : ℕ) → x < width → get_or out (4 * x + 3) 0 ≡ 255 - get_or (concat lines) (3 * width + x) 0)
-    → out ≡ line_bytes converts.Ycck width lines
-unfolding line_bytes colour_of
-line-ycck width lines out long four size red green blue black =
-    by_pixels 4 width (λ x. colour_of converts.Ycck (samples lines x)) out (omega arith) (λ x. refl) size
-    (λ x k hx hk.
-    let y = sample width lines 0 x x long (omega arith) (omega arith) hx in
-    let cb = sample width lines 1 x (width + x) long (omega arith) (omega arith) hx in
-    let cr = sample width lines 2 x (2 * width + x) long (omega arith) (omega arith) hx in
-    let dark = sample width lines 3 x (3 * width + x) long (omega arith) (omega arith) hx in
-    by_four (λ k. get_or out (4 * x + k) 0) (λ k. get_or (colour_of converts.Ycck (samples lines x)) k 0)
-    (at (4 * x + 0) (4 * x) (omega arith) ∙ red x hx ∙ (λ i. red_of (y i) (cr i)))
-    (green x hx ∙ (λ i. green_of (y i) (cb i) (cr i)))
-    (blue x hx ∙ (λ i. blue_of (y i) (cb i)))
-    (black x hx ∙ (λ i. 255 - dark i)) k hk)
-  where
-    at : (i j : ℕ) → i ≡ j → get_or out i 0 ≡ get_or out j 0
-    at i j e = ap (λ m. get_or out m 0) e
+  pub line-cmyk : length lines ≡ 4 → length out ≡ 4 * width
+      → Puts (λ x. 4 * x) (λ x. 255 - in_lines x)
+      → Puts (λ x. 4 * x + 1) (λ x. 255 - in_lines (width + x))
+      → Puts (λ x. 4 * x + 2) (λ x. 255 - in_lines (2 * width + x))
+      → Puts (λ x. 4 * x + 3) (λ x. 255 - in_lines (3 * width + x))
+      → out ≡ line_bytes converts.Cmyk width lines
+  unfolding line_bytes colour_of
+  line-cmyk four size cyan magenta yellow black =
+      by_pixels 4 width (λ x. colour_of converts.Cmyk (samples lines x)) out (omega arith)
+      (λ x. length-map (samples lines x) (λ s. 255 - s)
+      ∙ length-map lines (λ (l : List ℕ). get_or l x 0) ∙ four) size
+      (λ x k hx hk. by_four (λ k. get_or out (4 * x + k) 0)
+      (λ k. get_or (map (λ s. 255 - s) (samples lines x)) k 0)
+      (first 4 x ∙ cyan x hx ∙ inverse 0 x x (omega arith) (omega arith) hx)
+      (magenta x hx ∙ inverse 1 x (width + x) (omega arith) (omega arith) hx)
+      (yellow x hx ∙ inverse 2 x (2 * width + x) (omega arith) (omega arith) hx)
+      (black x hx ∙ inverse 3 x (3 * width + x) (omega arith) (omega arith) hx) k hk)
+
+  -- the colours of a pixel, by the places of its samples
+  abbrev pub red_at : ℕ → ℕ
+  red_at x = red_of (in_lines x) (in_lines (2 * width + x))
+
+  abbrev pub green_at : ℕ → ℕ
+  green_at x = green_of (in_lines x) (in_lines (width + x)) (in_lines (2 * width + x))
+
+  abbrev pub blue_at : ℕ → ℕ
+  blue_at x = blue_of (in_lines x) (in_lines (width + x))
+
+  pub line-ycbcr : length lines ≡ 3 → length out ≡ 3 * width → Puts (λ x. 3 * x) red_at
+      → Puts (λ x. 3 * x + 1) green_at → Puts (λ x. 3 * x + 2) blue_at
+      → out ≡ line_bytes converts.YCbCr width lines
+  unfolding line_bytes colour_of
+  line-ycbcr three size red green blue =
+      by_pixels 3 width (λ x. colour_of converts.YCbCr (samples lines x)) out (omega arith)
+      (λ x. refl) size
+      (λ x k hx hk.
+      let y = sample 0 x x (omega arith) (omega arith) hx in
+      let cb = sample 1 x (width + x) (omega arith) (omega arith) hx in
+      let cr = sample 2 x (2 * width + x) (omega arith) (omega arith) hx in
+      by_three (λ k. get_or out (3 * x + k) 0)
+      (λ k. get_or (colour_of converts.YCbCr (samples lines x)) k 0)
+      (first 3 x ∙ red x hx ∙ (λ i. red_of (y i) (cr i)))
+      (green x hx ∙ (λ i. green_of (y i) (cb i) (cr i)))
+      (blue x hx ∙ (λ i. blue_of (y i) (cb i))) k hk)
+
+  pub line-ycck : length lines ≡ 4 → length out ≡ 4 * width → Puts (λ x. 4 * x) red_at
+      → Puts (λ x. 4 * x + 1) green_at → Puts (λ x. 4 * x + 2) blue_at
+      → Puts (λ x. 4 * x + 3) (λ x. 255 - in_lines (3 * width + x))
+      → out ≡ line_bytes converts.Ycck width lines
+  unfolding line_bytes colour_of
+  line-ycck four size red green blue black =
+      by_pixels 4 width (λ x. colour_of converts.Ycck (samples lines x)) out (omega arith)
+      (λ x. refl) size
+      (λ x k hx hk.
+      let y = sample 0 x x (omega arith) (omega arith) hx in
+      let cb = sample 1 x (width + x) (omega arith) (omega arith) hx in
+      let cr = sample 2 x (2 * width + x) (omega arith) (omega arith) hx in
+      let dark = sample 3 x (3 * width + x) (omega arith) (omega arith) hx in
+      by_four (λ k. get_or out (4 * x + k) 0)
+      (λ k. get_or (colour_of converts.Ycck (samples lines x)) k 0)
+      (first 4 x ∙ red x hx ∙ (λ i. red_of (y i) (cr i)))
+      (green x hx ∙ (λ i. green_of (y i) (cb i) (cr i)))
+      (blue x hx ∙ (λ i. blue_of (y i) (cb i)))
+      (black x hx ∙ (λ i. 255 - dark i)) k hk)

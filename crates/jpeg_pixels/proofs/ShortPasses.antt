@@ -1,9 +1,8 @@
 -- The two passes of the transform in lanes of 16 bits, and why they are exact.
-use Rattle.std.proofs.Common.{◌≡◌, ℕ, ◌+◌, ◌*◌, ◌/◌, ◌<◌, ◌≤◌, List, map, length, get_or, ℤ, pos, negsuc, ◌++◌, subst}
+use Rattle.std.proofs.Common.{◌≡◌, ℕ, ◌+◌, ◌*◌, ◌/◌, ◌<◌, ◌≤◌, List, map, ℤ, pos, negsuc, subst}
 use Rattle.std.proofs.Common.{◌+ℤ◌, ◌*ℤ◌, refl, sym, ap, ◌∙◌, replicate, FitsSigned, of_z, to_z, arith, rules}
 use Rattle.std.proofs.Common.{Bool, true, false, unsigned_abs, lit<, lit≤, max, zero, suc}
 use Rattle.std.proofs.lemmas.Simd.{zip2_of_maps, splat_is_map, map-map}
-use Rattle.std.proofs.lemmas.List.{get_or_append_left, get_or-append-add, get_or-map, length-map}
 use Rattle.std.proofs.lemmas.List.FromFn.{length-range_with_len}
 use Rattle.std.proofs.lemmas.Int.{ints, to_z-of_z, SFits-int_wrap, int_wrap_fits, unsigned_abs-mul}
 use Rattle.std.proofs.lemmas.Int.{fits_signed_from_abs}
@@ -24,30 +23,6 @@ use Rattle.jpeg_pixels.proofs.Sums.{transformed_same}
 use Rattle.jpeg_pixels.proofs.ZeroCases.{zero_column}
 
 -- ---- rows and columns exchanged
-
--- a lane of the first of two vectors that are joined, and one of the second, through their bits
-thrice : (x y : ℤ) → x ≡ y → FitsSigned w16 y → to_z w16 (of_z w16 (to_z w16 (of_z w16 (to_z w16 (of_z w16 x))))) ≡ y
-thrice x y e f = search (rules, of_z, to_z, to_z-of_z)
-
-abbrev pub PassedShort : ℕ → ℤ → Type 0
-PassedShort n y = to_z w16 (of_z w16 (to_z w16 (of_z w16 (to_z w16 (of_z w16 (to_z w16 n)))))) ≡ y
-
-joined_left : (a b : List ℤ) → length a ≡ 8 → ((j : ℕ) → FitsSigned w16 (get_or a j (pos 0))) → (k : ℕ) → k < 8
-    → to_z w16 (get_or (map (of_z w16) a ++ map (of_z w16) b) k 0) ≡ get_or a k (pos 0)
-joined_left a b e fits k h = search (rules, get_or, get_or-map, get_or_append_left, length-map, of_z, to_z, to_z-of_z)
-
-joined_right : (a b : List ℤ) → length a ≡ 8 → length b ≡ 8 → ((j : ℕ) → FitsSigned w16 (get_or b j (pos 0)))
-    → (k : ℕ) → k < 8 → to_z w16 (get_or (map (of_z w16) a ++ map (of_z w16) b) (8 + k) 0) ≡ get_or b k (pos 0)
-joined_right a b e e' fits k h =
-    search (rules, get_or, get_or-append-add, get_or-map, length-map, of_z, to_z, to_z-of_z)
-
-pub short_left : (a b : List ℤ) → length a ≡ 8 → ((j : ℕ) → FitsSigned w16 (get_or a j (pos 0))) → (k : ℕ) → k < 8
-    → PassedShort (get_or (map (of_z w16) a ++ map (of_z w16) b) k 0) (get_or a k (pos 0))
-short_left a b e fits k h = thrice _ _ (joined_left a b e fits k h) (fits k)
-
-pub short_right : (a b : List ℤ) → length a ≡ 8 → length b ≡ 8 → ((j : ℕ) → FitsSigned w16 (get_or b j (pos 0)))
-    → (k : ℕ) → k < 8 → PassedShort (get_or (map (of_z w16) a ++ map (of_z w16) b) (8 + k) 0) (get_or b k (pos 0))
-short_right a b e e' fits k h = thrice _ _ (joined_right a b e e' fits k h) (fits k)
 
 pub record AreTurned (rows turned : Shorts) : Type 0 where
   pub r0 : turned.r0 ≡ short_column_of rows 0

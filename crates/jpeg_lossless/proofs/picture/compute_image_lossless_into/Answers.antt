@@ -1,4 +1,4 @@
-use Rattle.std.proofs.Common.{[], ◌∷◌, refl, ◌≡◌, ◌∙◌, ap, map, List, rules}
+use Rattle.std.proofs.Common.{[], ◌∷◌, refl, ◌≡◌, ◌∙◌, ap, map, List, ℕ, rules}
 use Rattle.jpeg_segments.specs.Frame.{Factors, greatest}
 use Rattle.std.specs.List.{AllByRecursion}
 use Rattle.jpeg_segments.specs.FrameView.{component_in, factors_in, frame_in}
@@ -11,29 +11,28 @@ seen : (cs : List Given) → map factors_in cs ≡ map (λ c. c.factors) (map co
 seen [] = refl
 seen (c ∷ cs) = ap (λ (l : List Factors). factors_in c ∷ l) (seen cs)
 
+-- the greatest factor, as it is found in the components that are given
+most : (f : Factors → ℕ) (n : ℕ) (seen_in cs : List Given) → n ≡ greatest f (map factors_in seen_in)
+    → seen_in ≡ cs
+    → n ≡ greatest f (map (λ c. c.factors) (map component_in cs))
+most f n seen_in cs is same =
+    is ∙ ap (λ (l : List Given). greatest f (map factors_in l)) same ∙ ap (greatest f) (seen cs)
+
 pub write_sampled-requires-clause-horizontal : goal.write_sampled-requires-clause-horizontal
 write_sampled-requires-clause-horizontal c =
-    c.greatest_of-horizontal.ensures.horizontal
-    ∙ ap (λ (l : List Given). greatest (λ f. f.horizontal) (map factors_in l)) c.deref.ensures.value
-    ∙ ap (greatest (λ f. f.horizontal)) (seen c.args.frame.now.components.items)
+    most (λ f. f.horizontal) _ _ _ c.greatest_of-horizontal.ensures.horizontal c.deref.ensures.value
 
 pub is_plain-requires-clause-horizontal : goal.is_plain-requires-clause-horizontal
 is_plain-requires-clause-horizontal c =
-    c.greatest_of-horizontal.ensures.horizontal
-    ∙ ap (λ (l : List Given). greatest (λ f. f.horizontal) (map factors_in l)) c.deref.ensures.value
-    ∙ ap (greatest (λ f. f.horizontal)) (seen c.args.frame.now.components.items)
+    most (λ f. f.horizontal) _ _ _ c.greatest_of-horizontal.ensures.horizontal c.deref.ensures.value
 
 pub write_sampled-requires-clause-vertical : goal.write_sampled-requires-clause-vertical
 write_sampled-requires-clause-vertical c =
-    c.greatest_of-horizontal.ensures.vertical
-    ∙ ap (λ (l : List Given). greatest (λ f. f.vertical) (map factors_in l)) c.deref.ensures.value
-    ∙ ap (greatest (λ f. f.vertical)) (seen c.args.frame.now.components.items)
+    most (λ f. f.vertical) _ _ _ c.greatest_of-horizontal.ensures.vertical c.deref.ensures.value
 
 pub is_plain-requires-clause-vertical : goal.is_plain-requires-clause-vertical
 is_plain-requires-clause-vertical c =
-    c.greatest_of-horizontal.ensures.vertical
-    ∙ ap (λ (l : List Given). greatest (λ f. f.vertical) (map factors_in l)) c.deref.ensures.value
-    ∙ ap (greatest (λ f. f.vertical)) (seen c.args.frame.now.components.items)
+    most (λ f. f.vertical) _ _ _ c.greatest_of-horizontal.ensures.vertical c.deref.ensures.value
 
 pub write_plain-requires-clause-long : goal.write_plain-requires-clause-long
 write_plain-requires-clause-long c =

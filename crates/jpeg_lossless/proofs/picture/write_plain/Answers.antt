@@ -1,11 +1,11 @@
-use Rattle.std.proofs.Common.{◌≡◌, ◌+◌, ◌*◌, ◌∙◌, ap, sym, arith, length, map, rules}
+use Rattle.std.proofs.Common.{◌≡◌, ◌+◌, ◌*◌, ◌∙◌, sym, arith, length, map, rules}
 use Rattle.jpeg_lossless.specs.Pictures.{layer_by, line_from, picture_bytes}
 use Rattle.jpeg_lossless.proofs.FilledLines.{all-pieces, no-pieces, piece-fits, pieces-more}
-use Rattle.jpeg_lossless.proofs.ImageLoops.{picture-none, picture-more, long-less, within}
+use Rattle.jpeg_lossless.proofs.ImageLoops.{picture-begun, picture-more, long-less, within}
 use Rattle.jpeg_lossless.proofs.picture.write_plain.Goals as goal
 
 pub loop-y-init : goal.loop-y-init
-loop-y-init c = search (rules, no-pieces, picture-none)
+loop-y-init c = search (rules, no-pieces, picture-begun)
 
 pub write_line-requires-clause-long : goal.write_line-requires-clause-long
 write_line-requires-clause-long c =

@@ -1,47 +1,42 @@
-use Rattle.std.proofs.Common.{◌+◌, ◌-◌, ◌*◌, ◌/◌, ◌%◌, slice_index, arith}
+use Rattle.std.proofs.Common.{◌+◌, ◌-◌, ◌*◌, ◌/◌, ◌%◌, slice_index, arith, ℕ}
 use Rattle.jpeg_pixels.proofs.Pieces.{piece_joined}
 use Rattle.jpeg_pixels.proofs.color_rows.write_cmyk.Goals as goal
 
 pub loop-piece-preserved : goal.loop-piece-preserved
 loop-piece-preserved c =
     let start = 64 * c.loop-piece.piece in
+    let was = c.loop-piece.invariant in
+    let now = c.write_cmyk_piece.ensures in
+    let w = c.args.width in
+    let line : ℕ → ℕ = λ i. slice_index c.args.lines.now i in
+    let joined = piece_joined start 64 (64 * (c.loop-piece.piece + 1)) (4 * start)
+    c.loop-piece.output c.write_cmyk_piece.new.output (omega arith) now.before in
     record {
-      cyan = piece_joined (λ x. 4 * x) (λ x. 255 - slice_index c.args.lines.now x) start 64
-          (64 * (c.loop-piece.piece + 1)) (4 * start) c.loop-piece.output c.write_cmyk_piece.new.output
-          (omega arith) (λ x h. omega arith) c.loop-piece.invariant.cyan c.write_cmyk_piece.ensures.cyan
-          c.write_cmyk_piece.ensures.before;
-      magenta = piece_joined (λ x. 4 * x + 1) (λ x. 255 - slice_index c.args.lines.now (c.args.width + x)) start 64
-          (64 * (c.loop-piece.piece + 1)) (4 * start) c.loop-piece.output c.write_cmyk_piece.new.output
-          (omega arith) (λ x h. omega arith) c.loop-piece.invariant.magenta c.write_cmyk_piece.ensures.magenta
-          c.write_cmyk_piece.ensures.before;
-      yellow = piece_joined (λ x. 4 * x + 2) (λ x. 255 - slice_index c.args.lines.now (2 * c.args.width + x)) start 64
-          (64 * (c.loop-piece.piece + 1)) (4 * start) c.loop-piece.output c.write_cmyk_piece.new.output
-          (omega arith) (λ x h. omega arith) c.loop-piece.invariant.yellow c.write_cmyk_piece.ensures.yellow
-          c.write_cmyk_piece.ensures.before;
-      black = piece_joined (λ x. 4 * x + 3) (λ x. 255 - slice_index c.args.lines.now (3 * c.args.width + x)) start 64
-          (64 * (c.loop-piece.piece + 1)) (4 * start) c.loop-piece.output c.write_cmyk_piece.new.output
-          (omega arith) (λ x h. omega arith) c.loop-piece.invariant.black c.write_cmyk_piece.ensures.black
-          c.write_cmyk_piece.ensures.before;
+      cyan = joined (λ x. 4 * x) (λ x. 255 - line x) (λ x h. omega arith) was.cyan now.cyan;
+      magenta = joined (λ x. 4 * x + 1) (λ x. 255 - line (w + x))
+          (λ x h. omega arith) was.magenta now.magenta;
+      yellow = joined (λ x. 4 * x + 2) (λ x. 255 - line (2 * w + x))
+          (λ x h. omega arith) was.yellow now.yellow;
+      black = joined (λ x. 4 * x + 3) (λ x. 255 - line (3 * w + x))
+          (λ x h. omega arith) was.black now.black;
     }
 
 pub returns : goal.returns
 returns c =
     let start = 64 * (c.args.width / 64) in
+    let was = c.loop-piece.invariant in
+    let now = c.write_cmyk_piece-2.ensures in
+    let w = c.args.width in
+    let line : ℕ → ℕ = λ i. slice_index c.args.lines.now i in
+    let joined = piece_joined start (w % 64) w (4 * start)
+    c.loop-piece.output c.write_cmyk_piece-2.new.output (omega arith) now.before in
     record {
-      cyan = piece_joined (λ x. 4 * x) (λ x. 255 - slice_index c.args.lines.now x) start (c.args.width % 64)
-          c.args.width (4 * start) c.loop-piece.output c.write_cmyk_piece-2.new.output
-          (omega arith) (λ x h. omega arith) (λ x h. c.loop-piece.invariant.cyan x (omega arith))
-          c.write_cmyk_piece-2.ensures.cyan c.write_cmyk_piece-2.ensures.before;
-      magenta = piece_joined (λ x. 4 * x + 1) (λ x. 255 - slice_index c.args.lines.now (c.args.width + x)) start
-          (c.args.width % 64) c.args.width (4 * start) c.loop-piece.output c.write_cmyk_piece-2.new.output
-          (omega arith) (λ x h. omega arith) (λ x h. c.loop-piece.invariant.magenta x (omega arith))
-          c.write_cmyk_piece-2.ensures.magenta c.write_cmyk_piece-2.ensures.before;
-      yellow = piece_joined (λ x. 4 * x + 2) (λ x. 255 - slice_index c.args.lines.now (2 * c.args.width + x)) start
-          (c.args.width % 64) c.args.width (4 * start) c.loop-piece.output c.write_cmyk_piece-2.new.output
-          (omega arith) (λ x h. omega arith) (λ x h. c.loop-piece.invariant.yellow x (omega arith))
-          c.write_cmyk_piece-2.ensures.yellow c.write_cmyk_piece-2.ensures.before;
-      black = piece_joined (λ x. 4 * x + 3) (λ x. 255 - slice_index c.args.lines.now (3 * c.args.width + x)) start
-          (c.args.width % 64) c.args.width (4 * start) c.loop-piece.output c.write_cmyk_piece-2.new.output
-          (omega arith) (λ x h. omega arith) (λ x h. c.loop-piece.invariant.black x (omega arith))
-          c.write_cmyk_piece-2.ensures.black c.write_cmyk_piece-2.ensures.before;
+      cyan = joined (λ x. 4 * x) (λ x. 255 - line x)
+          (λ x h. omega arith) (λ x h. was.cyan x (omega arith)) now.cyan;
+      magenta = joined (λ x. 4 * x + 1) (λ x. 255 - line (w + x))
+          (λ x h. omega arith) (λ x h. was.magenta x (omega arith)) now.magenta;
+      yellow = joined (λ x. 4 * x + 2) (λ x. 255 - line (2 * w + x))
+          (λ x h. omega arith) (λ x h. was.yellow x (omega arith)) now.yellow;
+      black = joined (λ x. 4 * x + 3) (λ x. 255 - line (3 * w + x))
+          (λ x h. omega arith) (λ x h. was.black x (omega arith)) now.black;
     }

@@ -1,4 +1,4 @@
-use Rattle.std.proofs.Common.{◌*◌, ◌+◌, ℕ, List, [], ◌∷◌, All, ap, sym, subst, arith}
+use Rattle.std.proofs.Common.{◌*◌, ◌+◌, ℕ, List, [], ◌∷◌, All, subst, arith, rules}
 use Rattle.std.proofs.lemmas.List.Elements.{All-cons, All-nil}
 use Rattle.jpeg_segments.specs.Frame.{component_of, frame_of}
 use Rattle.jpeg_segments.specs.FrameView.{component_in}
@@ -13,21 +13,15 @@ abbrev factors : List ℕ
 factors = 2 ∷ 1 ∷ 1 ∷ []
 
 are-factors : All IsFactor factors
-are-factors = All-cons IsFactor 2 (1 ∷ 1 ∷ []) (omega arith, omega arith) (All-cons IsFactor 1 (1 ∷ []) (
-  omega arith,
-  omega arith,
-) (All-cons IsFactor 1 ([]) (omega arith, omega arith) (All-nil IsFactor)))
+are-factors = search (rules, All-cons, All-nil)
 
 pub new-requires-clause-factors : goal.new-requires-clause-factors
 unfolding frame_of component_of
-new-requires-clause-factors c = squares-have-factors 3 2 factors (component_in c.component-one.result ∷ component_in
-    c.component-two.result ∷ component_in c.component-three.result ∷ []) (λ i. c.component-one.ensures i
+new-requires-clause-factors c = squares-have-factors 3 2 factors _ (λ i. c.component-one.ensures i
     ∷ c.component-two.ensures i ∷ c.component-three.ensures i ∷ []) are-factors
 
 pub upsample_and_interleave_row-requires-clause-planes : goal.upsample_and_interleave_row-requires-clause-planes
-upsample_and_interleave_row-requires-clause-planes c =
-    sym (sources-count (component_in c.component-one.result ∷ component_in c.component-two.result ∷ component_in
-    c.component-three.result ∷ []) 3 2 c.in_ok-upsampler.upsampler c.in_ok-upsampler.ensures)
+upsample_and_interleave_row-requires-clause-planes c = search (rules, sources-count)
 
 pub upsample_and_interleave_row-requires-clause-cover : goal.upsample_and_interleave_row-requires-clause-cover
 unfolding frame_of component_of HaveRoom
@@ -35,8 +29,8 @@ upsample_and_interleave_row-requires-clause-cover c =
     let planes = c.args.luma.items ∷ c.args.cb.items ∷ c.args.cr.items ∷ [] in
     let sources = c.in_ok-upsampler.upsampler in
     cover-lower sources planes 3 (c.args.row + 1) 2 (omega arith)
-    (squares-are-covered 3 2 factors (component_in c.component-one.result ∷ component_in c.component-two.result
-    ∷ component_in c.component-three.result ∷ []) planes (λ i. c.component-one.ensures i ∷ c.component-two.ensures i
+    (squares-are-covered 3 2 factors _ planes (λ i. c.component-one.ensures i
+    ∷ c.component-two.ensures i
     ∷ c.component-three.ensures i ∷ []) are-factors (omega arith) (omega arith) (
       omega arith,
       (omega arith, (omega arith, tt)),
@@ -45,12 +39,8 @@ upsample_and_interleave_row-requires-clause-cover c =
 
 pub upsample_and_interleave_row-requires-clause-fits : goal.upsample_and_interleave_row-requires-clause-fits
 upsample_and_interleave_row-requires-clause-fits c =
-    subst (λ n. IsFor n c.args.color_convert)
-    (sym (sources-count (component_in c.component-one.result ∷ component_in c.component-two.result ∷ component_in
-    c.component-three.result ∷ []) 3 2 c.in_ok-upsampler.upsampler c.in_ok-upsampler.ensures))
+    subst (λ n. IsFor n c.args.color_convert) (upsample_and_interleave_row-requires-clause-planes c)
     c.requires.fits
 
 pub upsample_and_interleave_row-requires-clause-room : goal.upsample_and_interleave_row-requires-clause-room
-upsample_and_interleave_row-requires-clause-room c =
-    ap (λ n. n * 3) (sym (sources-count (component_in c.component-one.result ∷ component_in c.component-two.result
-    ∷ component_in c.component-three.result ∷ []) 3 2 c.in_ok-upsampler.upsampler c.in_ok-upsampler.ensures))
+upsample_and_interleave_row-requires-clause-room c = search (rules, sources-count)

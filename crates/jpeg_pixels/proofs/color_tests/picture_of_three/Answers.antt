@@ -1,4 +1,4 @@
-use Rattle.std.proofs.Common.{ℕ, List, [], ◌∷◌, All, arith}
+use Rattle.std.proofs.Common.{ℕ, List, [], ◌∷◌, All, arith, rules}
 use Rattle.std.proofs.lemmas.List.Elements.{All-cons, All-nil}
 use Rattle.jpeg_segments.specs.Frame.{component_of, frame_of}
 use Rattle.jpeg_segments.specs.FrameView.{component_in}
@@ -10,22 +10,17 @@ abbrev factors : List ℕ
 factors = 1 ∷ 1 ∷ 1 ∷ []
 
 are-factors : All IsFactor factors
-are-factors = All-cons IsFactor 1 (1 ∷ 1 ∷ []) (omega arith, omega arith) (All-cons IsFactor 1 (1 ∷ []) (
-  omega arith,
-  omega arith,
-) (All-cons IsFactor 1 ([]) (omega arith, omega arith) (All-nil IsFactor)))
+are-factors = search (rules, All-cons, All-nil)
 
 pub compute_image_rows-requires-clause-factors : goal.compute_image_rows-requires-clause-factors
 unfolding frame_of component_of
 compute_image_rows-requires-clause-factors c =
-    squares-have-factors 2 1 factors (component_in c.component-one.result ∷ component_in c.component-two.result
-    ∷ component_in c.component-three.result ∷ []) (λ i. c.component-one.ensures i ∷ c.component-two.ensures i
+    squares-have-factors 2 1 factors _ (λ i. c.component-one.ensures i ∷ c.component-two.ensures i
     ∷ c.component-three.ensures i ∷ []) are-factors
 
 pub compute_image_rows-requires-clause-cover : goal.compute_image_rows-requires-clause-cover
 unfolding frame_of component_of HaveRoom
 compute_image_rows-requires-clause-cover c =
-    squares-are-covered 2 1 factors (component_in c.component-one.result ∷ component_in c.component-two.result
-    ∷ component_in c.component-three.result ∷ []) (c.args.first.items ∷ c.args.second.items ∷ c.args.third.items
+    squares-are-covered 2 1 factors _ (c.args.first.items ∷ c.args.second.items ∷ c.args.third.items
     ∷ []) (λ i. c.component-one.ensures i ∷ c.component-two.ensures i ∷ c.component-three.ensures i ∷ [])
     are-factors (omega arith) (omega arith) (omega arith, (omega arith, (omega arith, tt)))
