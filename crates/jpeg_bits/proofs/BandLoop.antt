@@ -38,66 +38,47 @@ joined : (xs ys : List ℤ) (o : Result (Band × Text) Fault)
     ≡ read_on (λ more. gives (before_more (xs ++ ys) more)) o
 joined xs ys o = grind (arith, append_assoc)
 
-nothing-before : (o : Result (Band × Text) Fault) → o ≡ read_on (λ more. gives (before_more [] more)) o
-nothing-before o = grind arith
-
-pub Leaves-start : (whole : Reads Band) (a : Ahead) (old : Stream) → Leaves whole a old (after_front [] whole) a old
-Leaves-start whole a old = (refl, λ k. (k, nothing-before (whole (upcoming a old.bytes))))
+-- a token that ends the band, and the blocks of the run that follows
+abbrev pub IsLast : Token → ℕ → Type 0
+IsLast (Value r v) run = ⊥
+IsLast Sixteen run = ⊥
+IsLast (Rest n) run = run ≡ n
+IsLast Overlong run = run ≡ 0
 
 module _ (table : Table) (al : ℕ) (whole : Reads Band) (a b d : Ahead) (old cur new : Stream) (front : List ℤ) (n : ℕ)
-    (x : ℤ) (rest : List ℤ) where
-  abbrev places : List ℤ
-  places = x ∷ rest
+    (x : ℤ) (rest : List ℤ) (left : Leaves whole a old (after_front front (first_ac table al (suc n) (x ∷ rest))) b cur)
+  where
+    abbrev places : List ℤ
+    places = x ∷ rest
 
-  abbrev reader : Reads Token
-  reader = token_from table (length (x ∷ rest))
+    abbrev Gives : Result Token Error → Type 0
+    Gives r = Takes (λ (t : Token). t) (token_from table (length (x ∷ rest))) b cur r d new
 
-  -- what a token leaves to read
-  step : (k : Token) → Leaves whole a old (after_front front (first_ac table al (suc n) places)) b cur
-      → Takes (λ (t : Token). t) reader b cur (Ok k) d new
-      → Leaves whole a old (after_front front (after_token al (first_ac table al n) places k)) d new
-  step k p q = grind (arith, first_ac-token)
+    -- what a token leaves to read
+    step : (k : Token) → Gives (Ok k)
+        → Leaves whole a old (after_front front (after_token al (first_ac table al n) places k)) d new
+    step k q = grind (arith, first_ac-token)
 
-  pub Leaves-value : (r : ℕ) (v : ℤ) → Leaves whole a old (after_front front (first_ac table al (suc n) places)) b cur
-      → Takes (λ (t : Token). t) reader b cur (Ok (Value r v)) d new
-      → Leaves whole a old (after_front (front ++ (take r places ++ wrapped (v *ℤ pos (2 ^ al)) ∷ []))
-      (first_ac table al n (drop (r + 1) places))) d new
-  Leaves-value r v p q =
-      let s = step (Value r v) p q in grind (arith, common_steps, nat_tests, joined)
+    pub Leaves-value : (r : ℕ) (v : ℤ) → Gives (Ok (Value r v))
+        → Leaves whole a old (after_front (front ++ (take r places ++ wrapped (v *ℤ pos (2 ^ al)) ∷ []))
+        (first_ac table al n (drop (r + 1) places))) d new
+    Leaves-value r v q =
+        let s = step (Value r v) q in grind (arith, common_steps, nat_tests, joined)
 
-  pub Leaves-sixteen : Leaves whole a old (after_front front (first_ac table al (suc n) places)) b cur
-      → Takes (λ (t : Token). t) reader b cur (Ok Sixteen) d new
-      → Leaves whole a old (after_front (front ++ take 16 places) (first_ac table al n (drop 16 places))) d new
-  Leaves-sixteen p q =
-      let s = step Sixteen p q in grind (arith, common_steps, nat_tests, joined)
+    pub Leaves-sixteen : Gives (Ok Sixteen)
+        → Leaves whole a old (after_front (front ++ take 16 places) (first_ac table al n (drop 16 places))) d new
+    Leaves-sixteen q =
+        let s = step Sixteen q in grind (arith, common_steps, nat_tests, joined)
 
-  pub Leaves-rest : {X : Type 0} (view : X → Band) (run : ℕ) (y : X) → view y ≡ (front ++ places, run)
-      → Leaves whole a old (after_front front (first_ac table al (suc n) places)) b cur
-      → Takes (λ (t : Token). t) reader b cur (Ok (Rest run)) d new
-      → Takes view whole a old (Ok y) d new
-  Leaves-rest view run y e p q =
-      let s = step (Rest run) p q in
-      (s.0, λ known. let at = s.1 known in (at.0, at.1 ∙ ap (λ (z : Band). Ok (z, upcoming d new.bytes)) (sym e)))
+    pub Leaves-last : (k : Token) (run : ℕ) → IsLast k run → Gives (Ok k)
+        → Leaves whole a old (λ (t : Text). Ok ((front ++ places, run), t)) d new
+    Leaves-last (Value r v) run last q = absurd last
+    Leaves-last Sixteen run last q = absurd last
+    Leaves-last (Rest n) run last q = let s = step (Rest n) q in rw last s
+    Leaves-last Overlong run last q = let s = step Overlong q in rw last s
 
-  pub Leaves-overlong : {X : Type 0} (view : X → Band) (y : X) → view y ≡ (front ++ places, 0)
-      → Leaves whole a old (after_front front (first_ac table al (suc n) places)) b cur
-      → Takes (λ (t : Token). t) reader b cur (Ok Overlong) d new
-      → Takes view whole a old (Ok y) d new
-  Leaves-overlong view y e p q =
-      let s = step Overlong p q in
-      (s.0, λ known. let at = s.1 known in (at.0, at.1 ∙ ap (λ (z : Band). Ok (z, upcoming d new.bytes)) (sym e)))
-
-  pub Leaves-refused : {X : Type 0} (view : X → Band) (e : Error)
-      → Leaves whole a old (after_front front (first_ac table al (suc n) places)) b cur
-      → Takes (λ (t : Token). t) reader b cur (Err e) d new
-      → Takes view whole a old (Err e) d new
-  Leaves-refused view e p q = grind (arith, first_ac-token)
-
-pub Leaves-none : {X : Type 0} (view : X → Band) (table : Table) (al n : ℕ) (whole : Reads Band) (a b : Ahead)
-    (old new : Stream) (front : List ℤ) (y : X) → view y ≡ (front, 0)
-    → Leaves whole a old (after_front front (first_ac table al n [])) b new → Takes view whole a old (Ok y) b new
-unfolding first_ac
-Leaves-none view table al n whole a b old new front y e p = grind (arith, append-nil)
+    pub Leaves-refused : {X : Type 0} (view : X → Band) (e : Error) → Gives (Err e) → Takes view whole a old (Err e) d new
+    Leaves-refused view e q = grind (arith, first_ac-token)
 
 -- a band is written up to a place, and what is left is read with some turns
 abbrev pub IsAt : Table → ℕ → Reads Band → Ahead → Stream → List ℤ → ℕ → Ahead → Stream → Type 0
@@ -117,9 +98,9 @@ pub record Parts (table : Table) (al : ℕ) (whole : Reads Band) (a : Ahead) (ol
   pub text : Leaves whole a old (after_front (take at band) (first_ac table al (suc n) (x ∷ rest))) b cur
 
 module _ (table : Table) (al : ℕ) (whole : Reads Band) (a b d : Ahead) (old cur new : Stream) (band : List ℤ) (at : ℕ)
-    (lt : at < length band) where
-  pub parts : IsAt table al whole a old band at b cur → Parts table al whole a old band at b cur
-  parts p = go p.0 (drop at band) refl p.1 p.2
+    (lt : at < length band) (p : IsAt table al whole a old band at b cur) where
+  pub parts : Parts table al whole a old band at b cur
+  parts = go p.0 (drop at band) refl p.1 p.2
     where
       go : (turns : ℕ) (places : List ℤ) → drop at band ≡ places → length band - at ≤ turns
           → Leaves whole a old (after_front (take at band) (first_ac table al turns (drop at band))) b cur
@@ -133,23 +114,25 @@ module _ (table : Table) (al : ℕ) (whole : Reads Band) (a b d : Ahead) (old cu
         is = e;
         room = h;
         long = sym (length-drop at band) ∙ ap length e;
-        text = subst (λ (l : List ℤ). Leaves whole a old (after_front (take at band) (first_ac table al (suc n) l)) b
-            cur) e t;
+        text = rw e at t;
       }
 
-  token-of : {X : Type 0} (view : X → Token) (r : Result X Error) (w : Parts table al whole a old band at b cur)
-      → Takes view (token_from table (length band - at)) b cur r d new
-      → Takes view (token_from table (length (w.x ∷ w.rest))) b cur r d new
-  token-of view r w q = subst (λ (k : ℕ). Takes view (token_from table k) b cur r d new) w.long q
+  abbrev Gives-here : Result Token Error → Type 0
+  Gives-here r = Takes (λ (t : Token). t) (token_from table (length band - at)) b cur r d new
+
+  token-of : (r : Result Token Error) → Gives-here r
+      → Takes (λ (t : Token). t) (token_from table (length (parts.x ∷ parts.rest))) b cur r d new
+  token-of r q = rw parts.long at q
+
+  whole-band : take at band ++ (parts.x ∷ parts.rest) ≡ band
+  whole-band = ap (λ (l : List ℤ). take at band ++ l) (sym parts.is) ∙ take-append-drop at band
 
   pub IsAt-value : (r : ℕ) (v w : ℤ) → r < length band - at → w ≡ wrapped (v *ℤ pos (2 ^ al))
-      → IsAt table al whole a old band at b cur
-      → Takes (λ (t : Token). t) (token_from table (length band - at)) b cur (Ok (Value r v)) d new
-      → IsAt table al whole a old (set band (at + r) w) (at + r + 1) d new
-  IsAt-value r v w within is p q =
-      let m = parts p in
-      let s = Leaves-value table al whole a b d old cur new (take at band) m.n m.x m.rest r v m.text
-      (token-of (λ (t : Token). t) (Ok (Value r v)) m q) in
+      → Gives-here (Ok (Value r v)) → IsAt table al whole a old (set band (at + r) w) (at + r + 1) d new
+  IsAt-value r v w within is q =
+      let m = parts in
+      let s = Leaves-value table al whole a b d old cur new (take at band) m.n m.x m.rest m.text r v
+      (token-of (Ok (Value r v)) q) in
       let value = wrapped (v *ℤ pos (2 ^ al)) in
       let front : take at band ++ (take r (m.x ∷ m.rest) ++ value ∷ []) ≡ take (at + r + 1) (set band (at + r) w)
       = ap (λ (l : List ℤ). take at band ++ (take r l ++ value ∷ [])) (sym m.is)
@@ -164,23 +147,17 @@ module _ (table : Table) (al : ℕ) (whole : Reads Band) (a b d : Ahead) (old cu
       let room = m.room in grind (arith, common_steps, nat_tests, length-set)
 
   IsAt-after : (to : ℕ) → at < to → take at band ++ take 16 (drop at band) ≡ take to band
-      → drop 16 (drop at band) ≡ drop to band → IsAt table al whole a old band at b cur
-      → Takes (λ (t : Token). t) (token_from table (length band - at)) b cur (Ok Sixteen) d new
-      → IsAt table al whole a old band to d new
-  IsAt-after to more front back p q =
-      let m = parts p in
+      → drop 16 (drop at band) ≡ drop to band → Gives-here (Ok Sixteen) → IsAt table al whole a old band to d new
+  IsAt-after to more front back q =
+      let m = parts in
       let s = Leaves-sixteen table al whole a b d old cur new (take at band) m.n m.x m.rest m.text
-      (token-of (λ (t : Token). t) (Ok Sixteen) m q) in
+      (token-of (Ok Sixteen) q) in
       let room = m.room in grind (arith, common_steps, nat_tests)
 
-  pub IsAt-sixteen : IsAt table al whole a old band at b cur
-      → Takes (λ (t : Token). t) (token_from table (length band - at)) b cur (Ok Sixteen) d new
-      → IsAt table al whole a old band (at + 16) d new
+  pub IsAt-sixteen : Gives-here (Ok Sixteen) → IsAt table al whole a old band (at + 16) d new
   IsAt-sixteen = IsAt-after (at + 16) (omega arith) (sym (take-add at 16 band)) (drop-drop 16 at band)
 
-  pub IsAt-all : length band - at ≤ 16 → IsAt table al whole a old band at b cur
-      → Takes (λ (t : Token). t) (token_from table (length band - at)) b cur (Ok Sixteen) d new
-      → IsAt table al whole a old band (length band) d new
+  pub IsAt-all : length band - at ≤ 16 → Gives-here (Ok Sixteen) → IsAt table al whole a old band (length band) d new
   IsAt-all few =
       let l : length (drop at band) ≤ 16 = omega (arith, length-drop at band) in
       IsAt-after (length band) lt
@@ -188,41 +165,22 @@ module _ (table : Table) (al : ℕ) (whole : Reads Band) (a b d : Ahead) (old cu
       ∙ sym (take_all (length band) band (omega arith)))
       (drop_all 16 (drop at band) l ∙ sym (drop_all (length band) band (omega arith)))
 
-  pub IsAt-rest : {X : Type 0} (view : X → Band) (run : ℕ) (y : X) → view y ≡ (band, run)
-      → IsAt table al whole a old band at b cur
-      → Takes (λ (t : Token). t) (token_from table (length band - at)) b cur (Ok (Rest run)) d new
-      → Takes view whole a old (Ok y) d new
-  IsAt-rest view run y e p q =
-      let m = parts p in
-      let all : take at band ++ (m.x ∷ m.rest) ≡ band = ap (λ (l : List ℤ). take at band ++ l) (sym m.is)
-      ∙ take-append-drop at band in
-      Leaves-rest table al whole a b d old cur new (take at band) m.n m.x m.rest view run y (e
-      ∙ ap (λ (l : List ℤ). (l, run)) (sym all)) m.text (token-of (λ (t : Token). t) (Ok (Rest run)) m q)
+  pub IsAt-last : (k : Token) (run : ℕ) → IsLast k run → Gives-here (Ok k)
+      → Takes (λ (run : ℕ). (band, run)) whole a old (Ok run) d new
+  IsAt-last k run last q =
+      let m = parts in
+      let s = Leaves-last table al whole a b d old cur new (take at band) m.n m.x m.rest m.text k run last
+      (token-of (Ok k) q) in
+      rw whole-band at s
 
-  pub IsAt-overlong : {X : Type 0} (view : X → Band) (y : X) → view y ≡ (band, 0)
-      → IsAt table al whole a old band at b cur
-      → Takes (λ (t : Token). t) (token_from table (length band - at)) b cur (Ok Overlong) d new
-      → Takes view whole a old (Ok y) d new
-  IsAt-overlong view y e p q =
-      let m = parts p in
-      let all : take at band ++ (m.x ∷ m.rest) ≡ band = ap (λ (l : List ℤ). take at band ++ l) (sym m.is)
-      ∙ take-append-drop at band in
-      Leaves-overlong table al whole a b d old cur new (take at band) m.n m.x m.rest view y (e
-      ∙ ap (λ (l : List ℤ). (l, 0)) (sym all)) m.text (token-of (λ (t : Token). t) (Ok Overlong) m q)
+  pub IsAt-refused : {X : Type 0} (view : X → Band) (e : Error) → Gives-here (Err e) → Takes view whole a old (Err e) d new
+  IsAt-refused view e q =
+      let m = parts in
+      Leaves-refused table al whole a b d old cur new (take at band) m.n m.x m.rest m.text view e (token-of (Err e) q)
 
-  pub IsAt-refused : {X : Type 0} (view : X → Band) (e : Error) → IsAt table al whole a old band at b cur
-      → Takes (λ (t : Token). t) (token_from table (length band - at)) b cur (Err e) d new
-      → Takes view whole a old (Err e) d new
-  IsAt-refused view e p q =
-      let m = parts p in
-      Leaves-refused table al whole a b d old cur new (take at band) m.n m.x m.rest view e m.text
-      (token-of (λ (t : Token). t) (Err e) m q)
-
-pub IsAt-none : {X : Type 0} (view : X → Band) (table : Table) (al : ℕ) (whole : Reads Band) (a b : Ahead)
-    (old new : Stream) (band : List ℤ) (at : ℕ) (y : X) → length band ≤ at → view y ≡ (band, 0)
-    → IsAt table al whole a old band at b new → Takes view whole a old (Ok y) b new
-IsAt-none view table al whole a b old new band at y end e p =
-    Leaves-none view table al p.0 whole a b old new (take at band) y (e
-    ∙ ap (λ (l : List ℤ). (l, 0)) (sym (take_all at band end)))
-    (subst (λ (l : List ℤ). Leaves whole a old (after_front (take at band) (first_ac table al p.0 l)) b new)
-    (drop_all at band end) p.2)
+pub IsAt-none : (table : Table) (al : ℕ) (whole : Reads Band) (a b : Ahead) (old new : Stream) (band : List ℤ) (at : ℕ)
+    → length band ≤ at → IsAt table al whole a old band at b new
+    → Takes (λ (run : ℕ). (band, run)) whole a old (Ok 0) b new
+unfolding first_ac
+IsAt-none table al whole a b old new band at end p =
+    let left = rw (take_all at band end, drop_all at band end) at p.2 in grind (arith, append-nil)

@@ -1,12 +1,12 @@
 -- Steps of loops over a decoder.
-use Rattle.std.proofs.Common.{◌≡◌, ℕ, ◌<◌, Bool, List, Result, Ok, Err, refl, ◌∙◌, arith, ◌++◌, append_assoc, ℤ}
+use Rattle.std.proofs.Common.{◌≡◌, ℕ, ◌<◌, List, Result, Ok, Err, refl, ◌∙◌, arith, ◌++◌, append_assoc, ℤ}
 use Rattle.jpeg_bits.specs.Stream.{Stream}
 use Rattle.jpeg_bits.specs.Reading.{Fault, ◌>>=◌}
-use Rattle.std.proofs.lemmas.Bool.{le-leb}
-use Rattle.jpeg_bits.specs.Entropy.{Text, Ahead, Takes, Ending, has_bits, bits_from}
+use Rattle.jpeg_bits.specs.Entropy.{Text, Ahead, Takes, bits_from}
 use Rattle.jpeg_bits.specs.declared.error.Error.{Error}
 use Rattle.jpeg_bits.specs.Bands.{Band}
 use Rattle.jpeg_bits.proofs.BandLoop.{Leaves}
+use Rattle.jpeg_bits.proofs.Fast.{no-bits}
 use Rattle.jpeg_bits.specs.Pieces.{before}
 
 -- one step of the whole
@@ -43,10 +43,6 @@ before-before a b o = grind (arith, append_assoc)
 pub pos-of-ne : (n : ℕ) → (n ≡ 0 → ⊥) → 0 < n
 pos-of-ne n h = grind arith
 
-has_no_bits : (bits : List Bool) (e : Ending) → has_bits 0 bits e ≡ Ok tt
-has_no_bits bits e = grind (arith, le-leb)
-
 -- no bits are 0, and change nothing
 pub no_bits_taken : (r : ℕ) (t : Text) → r ≡ 0 → bits_from r t ≡ Ok (0, t)
-unfolding bits_from
-no_bits_taken r t e = rw (e, has_no_bits t.bits t.ending) refl
+no_bits_taken r t e = rw e (no-bits t)

@@ -51,9 +51,6 @@ Takes-given {X} {Y} whole read a d old new x outcome None refusal step p g = (
   λ k known. absurd (false≢true (sym known ∙ (p.1 k).0)),
 )
 
-pub nonzero : (z : ℤ) → (z ≡ pos 0 → ⊥) → is_zero z ≡ false
-nonzero z h = grind arith
-
 -- a place whose correction bit is 0 stays
 pub place-kept : (al : ℕ) (z : ℤ) (t : Text) → bits_from 1 t ≡ Ok (0, t) → place_from al z t ≡ Ok (z, t)
 unfolding place_from

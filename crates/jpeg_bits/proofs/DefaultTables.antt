@@ -48,9 +48,8 @@ both-filled l r places ts n m d e a b two is_n is_m first second = grind arith
 as-it-was : (whole : List (Option Table)) (ts : List (Option Table)) → length whole ≡ length ts → AreBetween ts whole ts
 unfolding AreBetween
 as-it-was [] [] same = tt
-as-it-was [] (t ∷ ts) same = absurd (omega arith)
-as-it-was (w ∷ whole) [] same = absurd (omega arith)
 as-it-was (w ∷ whole) (t ∷ ts) same = (inl refl, as-it-was whole ts (omega arith))
+as-it-was whole ts same = absurd (omega arith)
 
 pub first-refused : (l r : Table) (places : List ℕ) (ts : List (Option Table)) (d a : Option Table) → 2 ≤ length ts
     → a ≡ get_or ts 0 d → AreBetween ts (with_defaults l r places ts) (set ts 0 a)
@@ -78,9 +77,8 @@ pub all-done : (whole : List (Option Table)) (ts : List (Option Table)) → leng
     → AreBetween ts whole whole
 unfolding AreBetween
 all-done [] [] same = tt
-all-done [] (t ∷ ts) same = absurd (omega arith)
-all-done (w ∷ whole) [] same = absurd (omega arith)
 all-done (w ∷ whole) (t ∷ ts) same = (inr refl, all-done whole ts (omega arith))
+all-done whole ts same = absurd (omega arith)
 
 pub done : (l r : Table) (places : List ℕ) (ts : List (Option Table))
     → AreBetween ts (with_defaults l r places ts) (with_defaults l r places ts)

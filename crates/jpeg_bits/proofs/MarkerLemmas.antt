@@ -60,30 +60,16 @@ marker-same : (bytes : List ℕ) (i j : ℕ) (m n : Marker) (a b : List ℕ) →
     → IsNextMarker bytes j n b → i ≡ j → ◌≡◌ {A = Outcome Marker} (Ok (n, b)) (Ok (m, a))
 marker-same bytes i j m n a b p q e = grind arith
 
-found-by : (bytes : List ℕ) (o : Outcome Marker) (i : ℕ) (m : Marker) (rest : List ℕ) → IsNextMarker bytes i m rest
-    → Finds bytes o → o ≡ Ok (m, rest)
-found-by bytes o i m rest p h = grind (arith, marker-same, only-one)
-
-only-by : (bytes : List ℕ) (o : Outcome Marker) (m : Marker) (rest : List ℕ) → o ≡ Ok (m, rest) → Finds bytes o
-    → (i : ℕ) × IsNextMarker bytes i m rest
-only-by bytes o m rest e h = grind (arith, false≢true)
-
-none-by : (bytes : List ℕ) (o : Outcome Marker) → HasNoMarker bytes → Finds bytes o → o ≡ Err End
-none-by bytes o none h = grind arith
-
-refused-by : (bytes : List ℕ) (o : Outcome Marker) (f : Fault) → o ≡ Err f → Finds bytes o → HasNoMarker bytes
-refused-by bytes o f e h = grind (arith, false≢true)
-
 pub is-found : (bytes : List ℕ) (i : ℕ) (m : Marker) (rest : List ℕ) → IsNextMarker bytes i m rest
     → next_marker bytes ≡ Ok (m, rest)
-is-found bytes i m rest p = found-by bytes (next_marker bytes) i m rest p (finds bytes)
+is-found bytes i m rest p = grind (arith, marker-same, only-one, finds bytes)
 
 pub only-found : (bytes : List ℕ) (m : Marker) (rest : List ℕ) → next_marker bytes ≡ Ok (m, rest)
     → (i : ℕ) × IsNextMarker bytes i m rest
-only-found bytes m rest e = only-by bytes (next_marker bytes) m rest e (finds bytes)
+only-found bytes m rest e = grind (arith, false≢true, finds bytes)
 
 pub none-found : (bytes : List ℕ) → HasNoMarker bytes → next_marker bytes ≡ Err End
-none-found bytes none = none-by bytes (next_marker bytes) none (finds bytes)
+none-found bytes none = grind (arith, finds bytes)
 
 pub none-there : (bytes : List ℕ) (f : Fault) → next_marker bytes ≡ Err f → HasNoMarker bytes
-none-there bytes f e = refused-by bytes (next_marker bytes) f e (finds bytes)
+none-there bytes f e = grind (arith, false≢true, finds bytes)

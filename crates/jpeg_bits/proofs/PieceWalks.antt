@@ -41,9 +41,6 @@ place_zero : (al : ℕ) (z : ℤ) (t : Text) → is_zero z ≡ true → place_fr
 unfolding place_from
 place_zero al z t e = rw e refl
 
-abbrev in_front : ℤ → List ℤ × Text → Result (List ℤ × Text) Fault
-in_front z o = Ok (z ∷ o.0, o.1)
-
 -- one place of a piece, and then the others
 piece_step : (al n : ℕ) (z : ℤ) (rest : List ℤ) (t : Text) → piece_of al (suc n) (z ∷ rest) t ≡ (place_from al z t
     >>= λ (f : ℤ × Text). one_more f.0 (piece_of al n rest f.1))
@@ -139,7 +136,7 @@ walk_nonzero : (al r : ℕ) (z : ℤ) (rest : List ℤ) (t : Text) → is_zero z
 unfolding walk_from
 walk_nonzero al r z rest t e = grind arith
 
-not_zero : (z : ℤ) → (z ≡ pos 0 → ⊥) → is_zero z ≡ false
+pub not_zero : (z : ℤ) → (z ≡ pos 0 → ⊥) → is_zero z ≡ false
 not_zero z h = grind arith
 
 bind_bind : (o : Result (ℤ × Text) Fault) (f : ℤ × Text → Walk) (i : ℕ) (front : List ℤ)

@@ -111,10 +111,6 @@ corrected-length al (z ∷ places) t = by_place (place_from al z t) (λ t. corre
     by_place (Ok x) h = by_others x.0 (corrected al places x.1) (h x.1)
     by_place (Err e) h = tt
 
-unfoldable fault_of : Fault → Walk → Result (List ℤ × Text) Fault
-fault_of g (Ok x) = Err g
-fault_of g (Err e) = Err e
-
 unfoldable ok_of : (ℕ × List ℤ) × Text → Walk → (ℕ × List ℤ) × Text
 ok_of d (Ok x) = x
 ok_of d (Err e) = d
@@ -130,7 +126,7 @@ length_short n xs h = length-take-le n xs h
 
 corrected_refused : (al r : ℕ) (rest : List ℤ) (t : Text) (f : Fault) → piece_from al r rest t ≡ Err f
     → corrected al (take (through_zero r rest) rest) t ≡ Err f
-unfolding piece_from fault_of
+unfolding piece_from
 corrected_refused al r rest t f h = grind (arith, false≢true)
 
 -- the zeros that a token asks for, in the rest of a band of this many places

@@ -219,14 +219,9 @@ pub record IsShort (most : ℕ) (table : Table) (c : ℕ × ℕ) (bits : List Bo
 all_short : (a b d : Bool) → (a && (b && d)) ≡ true → (b ≡ true) × (d ≡ true)
 all_short a b d h = grind (arith, false≢true)
 
-triple : {A : Type 0} (d : A) → Option A → A
-triple d (Some x) = x
-triple d None = d
-
 pub short_some : (most : ℕ) (table : Table) (c : ℕ × ℕ) (bits : List Bool) (v : ℤ) (r n : ℕ)
     → short_value_by most table.class bits (Some (get_or table.symbols c.0 0, c.1)) ≡ Some (v, r, n)
     → IsShort most table c bits v r n
-unfolding triple
 short_some most table c bits v r n h = grind (arith, false≢true, all_short)
 
 filled-rest : (m l n : ℕ) (bits : List Bool) (met : Option DataEnd) → l + n ≤ m → IsFilled m bits met

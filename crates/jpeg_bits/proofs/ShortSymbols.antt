@@ -5,7 +5,6 @@ use Rattle.std.proofs.lemmas.Bool.{false≢true}
 use Rattle.jpeg_bits.specs.Stream.{Stream}
 use Rattle.jpeg_bits.specs.Reading.{Fault, ◌>>=◌ as ◌>>r=◌, Names, NamesFormat}
 use Rattle.jpeg_bits.specs.Entropy.{Text, Ahead, Takes, upcoming_by, upcoming, has_held, IsFilled}
-use Rattle.jpeg_bits.specs.Readers.{read_on, gives}
 use Rattle.jpeg_bits.specs.Codes.{Table, code_in, code_lengths, next_16, symbol_from, fast_from, if_held, code_from}
 use Rattle.jpeg_bits.specs.ShortCodes.{symbol_in, short_value_of, next_bits}
 use Rattle.jpeg_bits.specs.declared.error.Error.{Error}
@@ -14,6 +13,7 @@ use Rattle.jpeg_bits.proofs.Loops.{Names-through, bind_err, still_known}
 use Rattle.jpeg_bits.proofs.Held.{ok_unit, MayFail-same}
 use Rattle.jpeg_bits.proofs.Symbols.{code_from-held, code_from-none, names_format, may_fail_format}
 use Rattle.jpeg_bits.proofs.ShortLemmas.{fast-none, fast-some}
+use Rattle.jpeg_bits.proofs.Tables.{symbol-code}
 
 -- the code of a symbol that is found
 record IsCode (table : Table) (bits : List Bool) (symbol size : ℕ) : Type 0 where
@@ -22,13 +22,8 @@ record IsCode (table : Table) (bits : List Bool) (symbol size : ℕ) : Type 0 wh
   symbol_is : symbol ≡ get_or table.symbols code.0 0
   size_is : code.1 ≡ size
 
-pair : ℕ × ℕ → Option (ℕ × ℕ) → ℕ × ℕ
-pair d (Some x) = x
-pair d None = d
-
 code_of : (table : Table) (bits : List Bool) (symbol size : ℕ) → symbol_in table bits ≡ Some (symbol, size)
     → IsCode table bits symbol size
-unfolding pair
 code_of table bits symbol size h = grind (arith, false≢true)
 
 no_code_of : (table : Table) (bits : List Bool) → symbol_in table bits ≡ None → code_in (code_lengths table.counts) bits
@@ -74,12 +69,6 @@ pub Code-none : (table : Table) (b : Ahead) (source : Stream) (e : Error) → Is
     → Takes (λ (c : ℕ × ℕ). c) (code_from table) b source (Err e) b source
 unfolding upcoming
 Code-none table b source e f h format = grind (arith, may_fail_format, names_format, code_from-none, no_code_of, still_known)
-
--- a symbol is that of a code
-pub symbol-code : (table : Table) (t : Text)
-    → symbol_from table t ≡ read_on (λ (c : ℕ × ℕ). gives c.1) (code_from table t)
-unfolding symbol_from code_from
-symbol-code table t = grind arith
 
 pub Symbol-of-code : (table : Table) (b d : Ahead) (source : Stream) (c : ℕ × ℕ)
     → Takes (λ (c : ℕ × ℕ). c) (code_from table) b source (Ok c) d source

@@ -219,14 +219,10 @@ pub good-table : (table : Table) → length table.counts ≡ 16 → HasCodes (co
 good-table table h all = record { reads = λ i within. code-read table i h all within }
 
 -- a symbol is that of the code read
-symbol-by_code : (table : Table) (t : Text) (o : Option (ℕ × ℕ))
-    → symbol_by table t o ≡ read_on (λ (c : ℕ × ℕ). gives c.1) (code_by table t o)
-symbol-by_code table t o = grind (arith, slice_index)
-
 pub symbol-code : (table : Table) (t : Text) → symbol_from table t ≡ read_on (λ (c : ℕ × ℕ). gives c.1)
     (code_from table t)
 unfolding symbol_from code_from
-symbol-code table t = symbol-by_code table t (code_in (code_lengths table.counts) (next_16 t.bits))
+symbol-code table t = grind (arith, slice_index)
 
 pub takes-symbol : (table : Table) (i : ℕ) → IsGood table → i < length (code_lengths table.counts)
     → ReadsJust (symbol_from table) (code_bits table i) (slice_index table.symbols i)

@@ -15,15 +15,11 @@ pub takes-front : (is_none : Bool) (held buf : List ℕ) (inner new : Option (Li
     → DropsConsumable (if is_none then None else prepend_known held inner) new (Some (length held)) 1
     → Consumes (if is_none then None else prepend_known held inner) new
     (take 1 (slice_set buf 0 (slice_index_or held 0 0)))
-takes-front z [] buf inner new some one h = absurd (omega (arith, some))
-takes-front z (x ∷ held) [] inner new some one h = absurd (omega (arith, one))
 takes-front z (x ∷ held) (b ∷ []) inner new some one h = consumes-front z x held inner new h
-takes-front z (x ∷ held) (b ∷ c ∷ rest) inner new some one h = absurd (omega (arith, one))
+takes-front z held buf inner new some one h = absurd (omega (arith, some, one))
 
 -- the first of some bytes, and the others
 pub takes-first : (bytes buf : List ℕ) → 0 < length bytes → length buf ≡ 1
     → bytes ≡ take 1 (slice_set buf 0 (slice_index_or bytes 0 0)) ++ take (length bytes - 1) (drop 1 bytes)
-takes-first [] buf some one = absurd (omega (arith, some))
-takes-first (x ∷ bytes) [] some one = absurd (omega (arith, one))
 takes-first (x ∷ bytes) (b ∷ []) some one = grind (arith, take_all)
-takes-first (x ∷ bytes) (b ∷ c ∷ rest) some one = absurd (omega (arith, one))
+takes-first bytes buf some one = absurd (omega (arith, some, one))

@@ -2,7 +2,7 @@
 use Rattle.std.proofs.lemmas.Grind.{common_steps}
 use Rattle.std.proofs.lemmas.Bool.Decides.{nat_tests}
 use Rattle.std.proofs.Common.{◌≡◌, ℕ, ℤ, ◌+◌, ◌-◌, ◌/◌, ◌%◌, ◌^◌, ◌<◌, Bool, true, List, length, drop, get_or, Option}
-use Rattle.std.proofs.Common.{Some, None, Result, Ok, Err, refl, sym, ap, ◌∙◌, arith, is_ok, is_some, ltb}
+use Rattle.std.proofs.Common.{Some, None, Result, Ok, Err, refl, sym, ap, ◌∙◌, arith, is_some, ltb}
 use Rattle.std.proofs.lemmas.Bool.{lt-ltb, false≢true}
 use Rattle.jpeg_bits.specs.Reading.{Fault}
 use Rattle.jpeg_bits.specs.Entropy.{Text, Ahead, upcoming_by, upcoming, IsFilled, has_held, Takes, same_text}
@@ -77,10 +77,6 @@ pub wide-taken : (table : Table) (room : ℕ) (b d : Ahead) (bytes : List ℕ) (
     → token_from table room (upcoming b bytes) ≡ Ok (Value r v, upcoming d bytes)
 unfolding upcoming
 wide-taken table room b d bytes v r n counted filled e within enough eb em = grind (arith, wide-token)
-
--- what can be taken, by its test
-pub held-tested : (o : Result (Unit {0}) Fault) → is_ok o ≡ true → o ≡ Ok tt
-held-tested o h = grind (arith, false≢true)
 
 -- ---- a token of a code that was read on bits that are held
 

@@ -3,7 +3,8 @@ use Rattle.std.proofs.lemmas.Int.{to_z-of_z}
 use Rattle.std.specs.Int.{cast_signed, cast_unsigned}
 use Rattle.jpeg_bits.specs.Entropy.{bits_from}
 use Rattle.jpeg_bits.specs.Pieces.{place_from, moved_within, distance_of}
-use Rattle.jpeg_bits.proofs.Corrections.{place-moved, Takes-given, nonzero, given}
+use Rattle.jpeg_bits.proofs.Corrections.{place-moved, Takes-given, given}
+use Rattle.jpeg_bits.proofs.PieceWalks.{not_zero}
 use Rattle.jpeg_bits.proofs.refinement.correct.Goals as goal
 
 pub returns-clause-place : goal.returns-clause-place
@@ -16,6 +17,6 @@ returns-clause-place g c =
     c.args.source.now c.take_number.new.source c.in-Some.bit (moved_within c.distance.result value)
     c.move_away.result c.move_away.new.refusal
     (λ t u e. place-moved c.args.al value c.in-Some.bit t u
-    (nonzero value (λ h. c.if-value-eq0.false (ap (cast_unsigned w16) h))) c.ranges.value c.in-Some.ensures.small e
+    (not_zero value (λ h. c.if-value-eq0.false (ap (cast_unsigned w16) h))) c.ranges.value c.in-Some.ensures.small e
     ∙ ap (λ (n : ℕ). given u (moved_within n value)) (sym by))
     c.in-Some.ensures.bits (rw same at c.move_away.ensures.moved)

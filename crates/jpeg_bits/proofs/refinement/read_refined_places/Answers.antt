@@ -48,10 +48,8 @@ returns-in_default-correct_piece-clause-reads g c =
 
 pub returns-in_default-correct_piece-clause-others : goal.returns-in_default-correct_piece-clause-others
 returns-in_default-correct_piece-clause-others g c =
-    let p = pass_in c.args.pass in
     let l = c.loop-index in
-    kept-rest (band_start p) l.index (band_end p) c.args.block.now l.block c.correct_piece.new.block l.invariant.from
-    l.invariant.others c.in_default-correct_piece.ensures.others
+    search (rules, kept-rest, l.invariant.from, l.invariant.others, c.in_default-correct_piece.ensures.others)
 
 pub loop-index-preserved-in-Zeros : goal.loop-index-preserved-in-Zeros
 loop-index-preserved-in-Zeros g c =
@@ -88,10 +86,8 @@ returns-in_default-correct_piece-2-clause-reads g c =
 
 pub returns-in_default-correct_piece-2-clause-others : goal.returns-in_default-correct_piece-2-clause-others
 returns-in_default-correct_piece-2-clause-others g c =
-    let p = pass_in c.args.pass in
     let l = c.loop-index in
-    kept-rest (band_start p) l.index (band_end p) c.args.block.now l.block c.correct_piece-in-New.new.block
-    l.invariant.from l.invariant.others c.in_default-correct_piece-2.ensures.others
+    search (rules, kept-rest, l.invariant.from, l.invariant.others, c.in_default-correct_piece-2.ensures.others)
 
 pub loop-index-preserved : goal.loop-index-preserved
 loop-index-preserved g c =
@@ -142,10 +138,8 @@ returns-in-Some-correct_piece-3-clause-reads g c =
 
 pub returns-in-Some-correct_piece-3-clause-others : goal.returns-in-Some-correct_piece-3-clause-others
 returns-in-Some-correct_piece-3-clause-others g c =
-    let p = pass_in c.args.pass in
     let l = c.loop-index in
-    kept-rest (band_start p) l.index (band_end p) c.args.block.now l.block c.correct_piece-in-End.new.block
-    l.invariant.from l.invariant.others c.in-Some-correct_piece-3.ensures.others
+    search (rules, kept-rest, l.invariant.from, l.invariant.others, c.in-Some-correct_piece-3.ensures.others)
 
 pub returns-in-None-clause-reads : goal.returns-in-None-clause-reads
 returns-in-None-clause-reads g c =
@@ -160,10 +154,8 @@ returns-in-None-clause-reads g c =
 
 pub returns-in-None-clause-others : goal.returns-in-None-clause-others
 returns-in-None-clause-others g c =
-    let p = pass_in c.args.pass in
     let l = c.loop-index in
-    kept-rest (band_start p) l.index (band_end p) c.args.block.now l.block c.correct_piece-in-End.new.block
-    l.invariant.from l.invariant.others c.in-None.ensures.others
+    search (rules, kept-rest, l.invariant.from, l.invariant.others, c.in-None.ensures.others)
 
 pub returns-clause-reads : goal.returns-clause-reads
 returns-clause-reads g c =

@@ -1,9 +1,9 @@
-use Rattle.std.proofs.Common.{◌+◌, ◌-◌, ◌<◌, ◌∙◌, length, length-set, FitsSigned, w16, rules, arith}
+use Rattle.std.proofs.Common.{◌+◌, ◌-◌, ◌<◌, ◌∙◌, length, length-set, refl, FitsSigned, w16, rules, arith}
 use Rattle.std.proofs.lemmas.Int.{to_z-of_z}
 use Rattle.jpeg_bits.specs.Bands.{first_ac}
 use Rattle.jpeg_bits.specs.BlockView.{pass_in}
 use Rattle.jpeg_bits.specs.ZigzagParts.{band_start, band_end, band_in}
-use Rattle.jpeg_bits.proofs.BlockLoop.{place-value, place-sixteen, place-all, place-rest, place-overlong, place-refused}
+use Rattle.jpeg_bits.proofs.BlockLoop.{place-value, place-sixteen, place-all, place-last, place-refused}
 use Rattle.jpeg_bits.proofs.BlockLoop.{place-none}
 use Rattle.jpeg_bits.proofs.ZigzagParts.{kept-set}
 use Rattle.jpeg_bits.proofs.tokens.read_places.Goals as goal
@@ -14,8 +14,8 @@ returns-in_default-clause-band g c =
     let band = band_in p c.args.block.now in
     place-refused c.args.table.now p (first_ac c.args.table.now p.al (length band) band) c.args.held.now c.loop-at.held
     c.read_token.new.held c.args.source.now c.loop-at.source c.read_token.new.source c.loop-at.block c.loop-at.at
-    c.band_end-end.result c.requires.pass c.band_end-end.ensures c.loop-at.invariant.from c.loop-at-test.true _
-    c.loop-at.invariant.text c.in_default.ensures.token
+    c.band_end-end.result c.requires.pass c.band_end-end.ensures c.loop-at.invariant.from c.loop-at-test.true
+    c.loop-at.invariant.text _ c.in_default.ensures.token
 
 pub loop-at-preserved-in-Value : goal.loop-at-preserved-in-Value
 loop-at-preserved-in-Value g c =
@@ -36,7 +36,7 @@ loop-at-preserved-in-Value g c =
       text = place-value c.args.table.now p (first_ac c.args.table.now p.al (length band) band) c.args.held.now
           c.loop-at.held c.read_token.new.held c.args.source.now c.loop-at.source c.read_token.new.source
           c.loop-at.block c.loop-at.at c.band_end-end.result c.requires.pass end from c.loop-at-test.true
-          c.in-Value.run' c.in-Value.value c.shifted.result c.loop-at.invariant.len room is c.loop-at.invariant.text
+          c.loop-at.invariant.text c.in-Value.run' c.in-Value.value c.shifted.result c.loop-at.invariant.len room is
           (rw c.in-Value.is at c.in-Some.ensures.token);
       others = kept-set (band_start p) (band_end p) (c.loop-at.at + c.in-Value.run') c.args.block.now c.loop-at.block
           c.shifted.result c.loop-at.invariant.len (omega arith) (omega arith) (omega arith)
@@ -73,7 +73,7 @@ loop-at-preserved g c =
       text = place-all c.args.table.now p (first_ac c.args.table.now p.al (length band) band) c.args.held.now
           c.loop-at.held c.read_token.new.held c.args.source.now c.loop-at.source c.read_token.new.source
           c.loop-at.block c.loop-at.at c.band_end-end.result c.requires.pass end from c.loop-at-test.true
-          (omega (arith, c.if-end-at-gt16.false)) c.loop-at.invariant.text
+          c.loop-at.invariant.text (omega (arith, c.if-end-at-gt16.false))
           (rw c.in-Sixteen.is at c.in-Some.ensures.token);
       others = c.loop-at.invariant.others;
     }
@@ -82,19 +82,19 @@ pub returns-in-Rest-clause-band : goal.returns-in-Rest-clause-band
 returns-in-Rest-clause-band g c =
     let p = pass_in c.args.pass in
     let band = band_in p c.args.block.now in
-    place-rest c.args.table.now p (first_ac c.args.table.now p.al (length band) band) c.args.held.now c.loop-at.held
+    place-last c.args.table.now p (first_ac c.args.table.now p.al (length band) band) c.args.held.now c.loop-at.held
     c.read_token.new.held c.args.source.now c.loop-at.source c.read_token.new.source c.loop-at.block c.loop-at.at
     c.band_end-end.result c.requires.pass c.band_end-end.ensures c.loop-at.invariant.from c.loop-at-test.true
-    c.in-Rest.run' c.loop-at.invariant.text (rw c.in-Rest.is at c.in-Some.ensures.token)
+    c.loop-at.invariant.text _ c.in-Rest.run' refl (rw c.in-Rest.is at c.in-Some.ensures.token)
 
 pub returns-in-Overlong-clause-band : goal.returns-in-Overlong-clause-band
 returns-in-Overlong-clause-band g c =
     let p = pass_in c.args.pass in
     let band = band_in p c.args.block.now in
-    place-overlong c.args.table.now p (first_ac c.args.table.now p.al (length band) band) c.args.held.now
+    place-last c.args.table.now p (first_ac c.args.table.now p.al (length band) band) c.args.held.now
     c.loop-at.held c.read_token.new.held c.args.source.now c.loop-at.source c.read_token.new.source c.loop-at.block
     c.loop-at.at c.band_end-end.result c.requires.pass c.band_end-end.ensures c.loop-at.invariant.from
-    c.loop-at-test.true c.loop-at.invariant.text (rw c.in-Overlong.is at c.in-Some.ensures.token)
+    c.loop-at-test.true c.loop-at.invariant.text _ 0 refl (rw c.in-Overlong.is at c.in-Some.ensures.token)
 
 pub returns-clause-band : goal.returns-clause-band
 returns-clause-band g c =

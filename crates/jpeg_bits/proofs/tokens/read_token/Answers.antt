@@ -5,8 +5,9 @@ use Rattle.jpeg_bits.specs.Bands.{token_from}
 use Rattle.jpeg_bits.specs.Entropy.{has_held}
 use Rattle.jpeg_bits.specs.Refusals.{held_refusal, answer_of}
 use Rattle.jpeg_bits.specs.declared.tokens.Token.TheVariants.{Value}
+use Rattle.jpeg_bits.proofs.Held.{ok_unit}
 use Rattle.jpeg_bits.proofs.Symbols.{Takes-after}
-use Rattle.jpeg_bits.proofs.WideTokens.{wide-taken, held-tested, Token-of-code, Token-no-code}
+use Rattle.jpeg_bits.proofs.WideTokens.{wide-taken, Token-of-code, Token-no-code}
 use Rattle.jpeg_bits.proofs.tokens.read_token.Goals as goal
 
 pub returns-then-has-clause-token : goal.returns-then-has-clause-token
@@ -15,7 +16,7 @@ returns-then-has-clause-token g c =
     let d = rw c.from-count.ensures at c.skip.ensures.bits in
     let within : t.run' < c.args.room = omega (arith, c.from.ensures, c.if-from-room.true) in
     let enough = subst (λ (n : ℕ). has_held n c.hold.new.self.bits c.hold.new.self.met ≡ Ok tt) c.from-count.ensures
-    (held-tested (has_held c.from-count.result c.hold.new.self.bits c.hold.new.self.met)
+    (ok_unit (has_held c.from-count.result c.hold.new.self.bits c.hold.new.self.met)
     (sym c.has.ensures ∙ c.if-has.true)) in
     let fits : FitsSigned w16 t.value = search rules in
     rw (to_z-of_z w16 t.value fits) (Takes-after (token_from c.args.table.now c.args.room) tt c.args.held.now

@@ -28,12 +28,7 @@ invariant_of-self c =
     let b = c.from.result in
     let i = c.self.invariant in
     let small : b < 256 = omega (arith, c.from.ensures, c.ranges.byte.fits) in
-    let few : s.count ≤ 56 = omega (
-      arith,
-      sym (length-low_bits s.count (s.word / 2 ^ (64 - s.count)))
-          ∙ ap length c.self.view_is,
-      c.requires,
-    ) in
+    let few = few (goal.at.invariant_of-self c).After-self in
     subst (λ (k : ℕ). IsReservoir (s.word + k) (s.count + 8)) (sym (byte_shifted s.count b few small))
     (omega arith, byte_fits s.word s.count b few i.2 i.1 small, byte_zeros s.word s.count b few i.2)
 
@@ -43,12 +38,7 @@ returns c =
     let b = c.from.result in
     let i = c.self.invariant in
     let small : b < 256 = omega (arith, c.from.ensures, c.ranges.byte.fits) in
-    let few : s.count ≤ 56 = omega (
-      arith,
-      sym (length-low_bits s.count (s.word / 2 ^ (64 - s.count)))
-          ∙ ap length c.self.view_is,
-      c.requires,
-    ) in
+    let few = few (goal.at.returns c).After-self in
     ap (λ (k : ℕ). bits_held (s.word + k) (s.count + 8)) (byte_shifted s.count b few small)
     ∙ byte_held s.word s.count b few i.2 small
     ∙ ap (λ (bs : List Bool). bs ++ bits_of b) c.self.view_is
