@@ -9,6 +9,7 @@ use Rattle.jpeg_bits.specs.Passes.{Pass, Via}
 use Rattle.jpeg_streams.specs.Order.{Spot}
 use Rattle.jpeg_streams.specs.InTurn.{Reached, turn_from, at_start, restart_from, Counted, begun_from, next_from}
 use Rattle.jpeg_streams.specs.InTurn.{blocks_from}
+use Rattle.std.proofs.lemmas.Grind.{common_steps}
 
 -- ---- between blocks
 
@@ -35,15 +36,10 @@ and-false true = refl
 and-false false = refl
 
 pub begun_within : (n : ℕ) (old : Counted) (t : Text) → 0 < old.left → begun_from n old t ≡ Ok (old, t)
-begun_within n old t h =
-    begun-is n old t ∙ ap (λ (b : Bool). begun_by n old (nat_lt 0 n && b) t)
-    (ne_eqb old.left 0 (λ e. omega (arith, h, e)))
-    ∙ ap (λ (b : Bool). begun_by n old b t) (and-false (nat_lt 0 n))
+begun_within n old t h = grind (arith, common_steps, begun-is, nat_lt, ne_eqb, and-false)
 
 begun-restart : (n : ℕ) (old : Counted) (t : Text) → 0 < n → old.left ≡ 0 → begun_from n old t ≡ begun_by n old true t
-begun-restart n old t h e =
-    begun-is n old t ∙ ap (λ (b : Bool). begun_by n old (b && old.left == 0) t) (lt-ltb 0 n h)
-    ∙ ap (λ (k : ℕ). begun_by n old (k == 0) t) e
+begun-restart n old t h e = grind (arith, common_steps, begun-is, lt-ltb)
 
 pub begun_next : (n : ℕ) (old : Counted) (t u : Text) → 0 < n → old.left ≡ 0 → restart_from old.number t ≡ Ok (tt, u)
     → begun_from n old t ≡ Ok (
@@ -54,21 +50,11 @@ pub begun_next : (n : ℕ) (old : Counted) (t u : Text) → 0 < n → old.left �
       },
       u,
     )
-begun_next n old t u h e r =
-    begun-restart n old t h e ∙ ap (read_on (λ (x : Unit {0}). gives (record {
-      reached = at_start old.reached.arrays;
-      left = n;
-      number = (old.number + 1) % 8;
-    }))) r
+begun_next n old t u h e r = grind (arith, common_steps, begun-restart)
 
 pub begun_refused : (n : ℕ) (old : Counted) (t : Text) (f : Fault) → 0 < n → old.left ≡ 0
     → restart_from old.number t ≡ Err f → begun_from n old t ≡ Err f
-begun_refused n old t f h e r =
-    begun-restart n old t h e ∙ ap (read_on (λ (x : Unit {0}). gives (record {
-      reached = at_start old.reached.arrays;
-      left = n;
-      number = (old.number + 1) % 8;
-    }))) r
+begun_refused n old t f h e r = grind (arith, common_steps, begun-restart)
 
 pub ruleset begun_rules = (begun_none, begun_within, begun_next, begun_refused)
 

@@ -16,6 +16,7 @@ use Rattle.jpeg_pixels.specs.Planes.{plane_of}
 use Rattle.jpeg_decoder.specs.Scanning.{blocks_in}
 use Rattle.jpeg_streams.specs.Scans.{zero_of, zero_arrays}
 use Rattle.jpeg_streams.specs.ScanSegments.{finished_by, plane_by}
+use Rattle.std.proofs.lemmas.Grind.{common_steps}
 
 -- ---- zeros
 
@@ -41,9 +42,7 @@ pub marked-by : (p : Pass) (marks new : List Bool) (from n : ℕ) → p.al ≡ 0
     → p.ss ≤ p.se → new ≡ replicate n true
     → take from marks ++ (new ++ drop n (drop from marks)) ≡ finished_by p marks
 unfolding finished_by
-marked-by p marks new from n level f c order e =
-    let end : from + n ≡ suc p.se = omega arith in
-    rw (level, e, drop-drop, end, f, c) refl
+marked-by p marks new from n level f c order e = grind (arith, common_steps, drop-drop)
 
 pub unmarked-by : (p : Pass) (marks : List Bool) → p.al ≢ 0 → marks ≡ finished_by p marks
 unfolding finished_by
@@ -55,10 +54,7 @@ unmarked-by p marks level = rw (ne_eqb p.al 0 level) refl
 pub plane_by-length : (c : Component) (quantization : List ℕ) (blocks : List Block)
     → length (plane_by c quantization blocks) ≡ (c.blocks_high * c.scale) * (c.blocks_wide * c.scale)
 unfolding plane_by plane_of
-plane_by-length c quantization blocks =
-    length-map-range_with_len _ 0 (c.scale * c.blocks_wide * (c.scale * c.blocks_high))
-    ∙ (let e : c.scale * c.blocks_wide * (c.scale * c.blocks_high)
-    ≡ (c.blocks_high * c.scale) * (c.blocks_wide * c.scale) = grind (arith) in e)
+plane_by-length c quantization blocks = grind (arith, common_steps, length-map-range_with_len)
 
 -- after the last component
 pub zeros-all : {A : Type 0} (f : A → Component) (xs items : List A) (i : ℕ) → length xs ≤ i → xs ≡ items

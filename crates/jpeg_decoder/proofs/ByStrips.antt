@@ -28,6 +28,7 @@ use Rattle.jpeg_streams.proofs.CountedScans.{frame-scans, on-on}
 use Rattle.jpeg_streams.proofs.McuRows.{AreRows, blocks-any, rows-kept, counted-where, joined-rows, no-blocks, zero-rows}
 use Rattle.jpeg_streams.proofs.McuRows.{scans-by-rows}
 use Rattle.jpeg_streams.proofs.PlaneStrips.{plane-strips}
+use Rattle.std.proofs.lemmas.Grind.{common_steps}
 
 -- ---- rows of blocks after rows of blocks
 
@@ -41,11 +42,7 @@ pub plane-joined : (s : ℕ) (table : List ℕ) (wide n k : ℕ) (xs ys : List B
     ≡ k * wide
     → plane_of s table wide (n + k) (in_raster wide (xs ++ ys))
     ≡ plane_of s table wide n (in_raster wide xs) ++ plane_of s table wide k (in_raster wide ys)
-plane-joined s table wide n zero xs [] e f =
-    ap₂ (λ (m : ℕ) (l : List Block). plane_of s table wide m (in_raster wide l)) (let z : n + 0
-    ≡ n = omega arith in z) (append-nil xs)
-    ∙ sym (ap (λ (l : List ℕ). plane_of s table wide n (in_raster wide xs) ++ l) (plane-none s table wide
-    (in_raster wide [])) ∙ append-nil (plane_of s table wide n (in_raster wide xs)))
+plane-joined s table wide n zero xs [] e f = grind (arith, common_steps, append-nil, plane-none)
 plane-joined s table wide n zero xs (y ∷ ys) e f = absurd (let z : 0 * wide ≡ 0 = omega arith in omega arith)
 plane-joined s table wide n (suc k) xs ys e f =
     let front = take (k * wide) ys in
@@ -82,14 +79,7 @@ one-more : (r : ℕ) (c : Coding) (a b : List Block)
     → samples_of (r * c.component.factors.vertical) c a ++ samples_of c.component.factors.vertical c b
     ≡ samples_of ((r + 1) * c.component.factors.vertical) c (a ++ b)
 unfolding samples_of
-one-more r c a b e f =
-    let v = c.component.factors.vertical in
-    let w = c.component.blocks_wide in
-    let m : r * v * w ≡ r * (v * w) = mul_assoc r v w in
-    let up : r * v + v ≡ (r + 1) * v = let p : (r + 1) * v ≡ r * v + 1 * v = add-mul r 1 v in omega arith in
-    sym (plane-joined c.component.scale (values_in_block_order c.quantization) w (r * v) v a b (omega arith)
-    (omega arith))
-    ∙ ap (λ (n : ℕ). plane_of c.component.scale (values_in_block_order c.quantization) w n (in_raster w (a ++ b))) up
+one-more r c a b e f = grind (arith, common_steps, mul_assoc, add-mul, plane-joined)
 
 strips-grow : (r : ℕ) (codings : List Coding) (front arrays : Arrays) → AreRows r (components_of codings) front
     → AreRows 1 (components_of codings) arrays

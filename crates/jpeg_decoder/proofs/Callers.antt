@@ -1,6 +1,6 @@
 -- For callers that prove contracts of their own: a new decoder knows the bytes that its reader tells, and a picture
 -- has the bytes that its size, format and precision say.
-use Rattle.std.proofs.Common.{◌≡◌, ◌∙◌, ◌*◌, ◌^◌, ℕ, List, length, Option, Some, None, true, false, refl, ap, ap₂}
+use Rattle.std.proofs.Common.{◌≡◌, ◌*◌, ◌^◌, ℕ, List, length, Option, Some, None, true, false, refl}
 use Rattle.std.specs.Prelude.{option_map}
 use Rattle.std.proofs.lemmas.Bool.{lt-ltb}
 use Rattle.jpeg_bits.specs.Stream.{stream_of}
@@ -9,6 +9,8 @@ use Rattle.jpeg_streams.specs.Output.{Tells}
 use Rattle.jpeg_streams.specs.Pixels.{info_of}
 use Rattle.jpeg_streams.specs.declared.images.ImageInfo.{ImageInfo}
 use Rattle.jpeg_decoder.specs.Bytes.{IsCounted, IsWhole, bytes_a_sample, picture_bytes, samples_a_pixel}
+use Rattle.std.proofs.lemmas.Grind.{common_steps}
+use Rattle.std.proofs.Common.{arith}
 
 -- its bytes are known
 pub bytes_are_known : (remaining : Option (List ℕ)) (bytes : List ℕ) → Tells remaining bytes
@@ -27,9 +29,4 @@ pub picture_size : (frame : Option Frame) (info : ImageInfo) (precision : ℕ) (
     → length pixels ≡ info.width * info.height * (samples_a_pixel info.pixel_format * bytes_a_sample precision)
 unfolding picture_bytes
 picture_size None info precision pixels whole counted i p = absurd (cc)
-picture_size (Some f) info precision pixels whole counted i p =
-    let same : info_of f ≡ info = cc in
-    let bits : f.precision ≡ precision = cc in
-    whole.0 ∙ ap (λ n. f.output_width * f.output_height * (n * bytes_a_sample f.precision)) counted
-    ∙ ap₂ (λ (x : ImageInfo) (n : ℕ). x.width * x.height * (samples_a_pixel x.pixel_format * bytes_a_sample n))
-    same bits
+picture_size (Some f) info precision pixels whole counted i p = grind (arith, common_steps)

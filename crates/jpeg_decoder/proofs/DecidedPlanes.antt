@@ -1,6 +1,6 @@
 -- Planes that scans decide.
 use Rattle.std.proofs.Common.{◌≡◌, ℕ, Bool, true, false, List, Option, Some, None, refl, sym, ap}
-use Rattle.std.proofs.Common.{◌∙◌}
+use Rattle.std.proofs.Common.{◌∙◌, arith}
 use Rattle.std.proofs.lemmas.List.{set-get_or}
 use Rattle.std.specs.Prelude.{◌&&◌, not, is_some, slice_set, slice_index_or}
 use Rattle.std.specs.List.{list_all}
@@ -8,6 +8,7 @@ use Rattle.jpeg_bits.specs.Passes.{Pass}
 use Rattle.jpeg_streams.specs.ScanSegments.{decided}
 use Rattle.jpeg_streams.specs.Found.{Found}
 use Rattle.jpeg_decoder.specs.Steps.{decided_planes, is_wanted, marks_after, with_its_plane}
+use Rattle.std.proofs.lemmas.Grind.{common_steps}
 
 pub planes_kept : (marks : List Bool) (place : ℕ) (plane : List ℕ) (planes : List (Option (List ℕ)))
     → is_wanted marks (slice_index_or planes place None) ≡ false → decided_planes marks place plane planes ≡ planes
@@ -47,9 +48,7 @@ pub its_plane_kept : (p : Pass) (place : ℕ) (plane : List ℕ) (found : Found)
     → is_wanted (marks_after p found.finished place) (slice_index_or found.planes place None) ≡ false
     → record found { finished = finished; planes = planes } ≡ with_its_plane p place plane found
 unfolding with_its_plane
-its_plane_kept p place plane found finished planes e k h =
-    let same = k ∙ sym (planes_kept (marks_after p found.finished place) place plane found.planes h) in
-    λ i. record found { finished = e i; planes = same i }
+its_plane_kept p place plane found finished planes e k h = grind (arith, common_steps, planes_kept)
 
 -- and one whose plane is
 pub its_plane_set : (p : Pass) (place : ℕ) (plane : List ℕ) (found : Found) (finished : List (List Bool))
@@ -59,8 +58,6 @@ pub its_plane_set : (p : Pass) (place : ℕ) (plane : List ℕ) (found : Found) 
     → is_wanted (marks_after p found.finished place) (slice_index_or found.planes place None) ≡ true
     → record found { finished = finished; planes = planes } ≡ with_its_plane p place plane found
 unfolding with_its_plane
-its_plane_set p place plane found finished planes e k h =
-    let same = k ∙ sym (planes_set (marks_after p found.finished place) place plane found.planes h) in
-    λ i. record found { finished = e i; planes = same i }
+its_plane_set p place plane found finished planes e k h = grind (arith, common_steps, planes_set)
 
 pub ruleset plane_rules = (its_plane_kept, its_plane_set)

@@ -24,6 +24,7 @@ use Rattle.jpeg_decoder.specs.Strips.{no_samples, planes_by_rows, strips_from, w
 use Rattle.jpeg_decoder.proofs.DecidedPlanes.{planes_kept}
 use Rattle.jpeg_decoder.proofs.StripRows.{strips-length, strips-none}
 use Rattle.jpeg_decoder.proofs.StripScans.{Planes, ended, marked}
+use Rattle.std.proofs.lemmas.Grind.{common_steps}
 
 -- ---- with planes and without
 
@@ -159,10 +160,7 @@ its-plane-decided : (p : Pass) (place : ℕ) (plane : List ℕ) (found : Found)
     → with_its_plane p place plane found
     ≡ record found { finished = slice_set found.finished place (marks_after p found.finished place) }
 unfolding with_its_plane
-its-plane-decided p place plane found h =
-    let marks = marks_after p found.finished place in
-    let kept = planes_kept marks place plane found.planes (not-wanted marks (slice_index_or found.planes place None) h) in
-    λ i. record found { finished = slice_set found.finished place marks; planes = kept i }
+its-plane-decided p place plane found h = grind (arith, common_steps, planes_kept, not-wanted)
 
 pub planes-decided : (p : Pass) (codings : List Coding) (planes : Planes) (found : Found)
     → AllByRecursion (IsDecided found.planes) codings → length planes ≡ length codings

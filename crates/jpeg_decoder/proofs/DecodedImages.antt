@@ -20,6 +20,8 @@ use Rattle.jpeg_streams.proofs.ReadTurns.{ok-same, then-ok}
 use Rattle.jpeg_decoder.proofs.HeaderThenRest.{header-means}
 use Rattle.jpeg_streams.proofs.SizedStreams.{sized-taken}
 use Rattle.jpeg_streams.proofs.WrittenPictures.{taken-means}
+use Rattle.std.proofs.lemmas.Grind.{common_steps}
+use Rattle.std.proofs.Common.{arith}
 
 -- ---- what is left
 
@@ -73,21 +75,9 @@ pub gives : {X : Type 0} (bytes_of : X → List ℕ) (o : Result (List ℕ) Faul
     → read old.bytes ≡ Ok ((told_of final, picture), rest) → old.known ≡ true
     → MatchResult result (λ x. Gives o rest final (bytes_of x) new) (λ e. FailsOutside e new.source)
 gives bytes_of o picture rest final new read old (Ok x) answers is means known =
-    let all = answers.1 known in
-    let same = ok-same ((told_of new.found, bytes_of x), new.source.bytes) ((told_of final, picture), rest)
-    (sym all.1 ∙ means) in
-    record {
-      pixels = is ∙ ap (λ (p : List ℕ). Ok p) (sym (ap (λ y. y.0.1) same));
-      told = ap (λ y. y.0.0) same;
-      left =
-          ap (λ y. y.1) same;
-      known = all.0;
-    }
+    grind (arith, common_steps, ok-same)
 gives bytes_of o picture rest final new read old (Err e) answers is means known =
-    record {
-      memory = λ still. only-memory e (read old.bytes) ((told_of final, picture), rest) means (answers.1 known still);
-      reader = λ lost. answers.2 known lost;
-    }
+    grind (arith, common_steps, only-memory)
 
 means-picture : (size : Size) (settings : Settings) (array : Coefficients) (image rest : List ℕ) (final : Found)
     (last : ℕ → Levels)

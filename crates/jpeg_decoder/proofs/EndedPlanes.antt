@@ -1,7 +1,7 @@
 -- The planes of a frame's components at the end of an image, one after the other.
 use Rattle.std.proofs.Common.{◌≡◌, ◌<◌, ◌≤◌, ℕ, zero, suc, ◌+◌, ◌*◌, ℤ, Bool, true, false, List, [], ◌∷◌, ◌++◌, refl}
 use Rattle.std.proofs.Common.{sym, ap, ◌∙◌, subst, length, get_or, set, map, drop, drop_of_length-le, arith, Option}
-use Rattle.std.proofs.Common.{Some, None, Result, Ok, Err}
+use Rattle.std.proofs.Common.{Some, None, Result, Ok, Err, rules}
 use Rattle.std.specs.Prelude.{◌==◌, ◌||◌, option_map, slice_index_or}
 use Rattle.std.specs.List.{AllByRecursion}
 use Rattle.std.proofs.Math.Logic.{inl, inr}
@@ -19,7 +19,7 @@ use Rattle.jpeg_pixels.specs.Pictures.{AreWhole}
 use Rattle.jpeg_pixels.specs.Scaled.{IsScale}
 use Rattle.jpeg_streams.specs.EndPlanes.{AreBlocksOf, blocks_if, is_held, plane_or}
 use Rattle.jpeg_streams.specs.InTurn.{AreArrays}
-use Rattle.jpeg_decoder.specs.Scanning.{arrays_in, blocks_in}
+use Rattle.jpeg_decoder.specs.Scanning.{arrays_in}
 use Rattle.jpeg_streams.specs.Scans.{Arrays, zero_arrays}
 use Rattle.jpeg_streams.specs.Sound.{ArePlanes, IsDecodedFrame, IsPlaneOf, IsSound}
 use Rattle.jpeg_streams.proofs.Soundness.{count-few, decoded-count}
@@ -28,31 +28,23 @@ use Rattle.jpeg_streams.specs.FoundPictures.{planes_from, plane_at_end}
 use Rattle.jpeg_streams.specs.ScanSegments.{plane_by, arrays_before}
 use Rattle.jpeg_streams.specs.Found.{Found}
 use Rattle.jpeg_decoder.proofs.ReadLists.{and_others}
+use Rattle.std.proofs.lemmas.Grind.{common_steps}
 
 -- ---- what is left after some places
 
 -- A place that is set leaves what is after it.
 pub rest-kept : (held : List (Vec (List ℤ) Global)) (place : ℕ) (v : Vec (List ℤ) Global)
     → drop (place + 1) (arrays_in (set held place v)) ≡ drop (place + 1) (arrays_in held)
-rest-kept held place v =
-    ap (drop (place + 1)) (map-set blocks_in held place v)
-    ∙ drop-set-lt (place + 1) (arrays_in held) place (blocks_in v) (omega arith)
+rest-kept held place v = grind (arith, common_steps, map-set, drop-set-lt)
 
 pub planes-kept : (planes : List (Option (Vec ℕ Global))) (place : ℕ) (p : Option (Vec ℕ Global))
     → drop (place + 1) (map (λ q. option_map (λ v. v.items) q) (set planes place p))
     ≡ drop (place + 1) (map (λ q. option_map (λ v. v.items) q) planes)
-planes-kept planes place p =
-    ap (drop (place + 1)) (map-set (λ (q : Option (Vec ℕ Global)). option_map (λ v. v.items) q) planes place p)
-    ∙ drop-set-lt (place + 1) (map (λ (q : Option (Vec ℕ Global)). option_map (λ v. v.items) q) planes) place
-    (option_map (λ v. v.items) p) (omega arith)
+planes-kept planes place p = grind (arith, common_steps, map-set, drop-set-lt)
 
 -- Lists that are the same from a place on are so there, and from the next on.
 pub same-at : {A : Type 0} (xs ys : List A) (i : ℕ) (d : A) → drop i xs ≡ drop i ys → get_or xs i d ≡ get_or ys i d
-same-at xs ys i d e =
-    let n : i + 0 ≡ i = omega arith in
-    let a : get_or xs (i + 0) d ≡ get_or ys (i + 0) d = sym (get_or-drop i xs 0 d)
-    ∙ (ap (λ (l : List _). get_or l 0 d) e ∙ get_or-drop i ys 0 d) in
-    subst (λ (k : ℕ). get_or xs k d ≡ get_or ys k d) n a
+same-at xs ys i d e = grind (arith, common_steps, get_or-drop)
 
 pub same-within : {A : Type 0} (xs ys : List A) (i : ℕ) → drop i xs ≡ drop i ys → i < length ys → i < length xs
 same-within xs ys i e h = omega (arith, length-drop i xs, length-drop i ys, ap length e)
@@ -120,9 +112,7 @@ pub whole-more : (cs : List Component) (place : ℕ) (c : Component) (front : Li
     → length plane ≡ (c.blocks_high * c.scale) * (c.blocks_wide * c.scale)
     → AreWholeWith cs (place + 1) (front ++ plane ∷ [])
 unfolding AreWhole
-whole-more cs place c front plane old e l others h =
-    subst (AreWhole cs) (sym (append_assoc front (plane ∷ []) others))
-    (old (plane ∷ others) (subst (λ (left : List Component). AreWhole left (plane ∷ others)) (sym e) (l, h)))
+whole-more cs place c front plane old e l others h = grind (arith, common_steps, append_assoc)
 
 pub whole-all : (cs : List Component) (place : ℕ) (front : List (List ℕ)) → AreWholeWith cs place front
     → drop place cs ≡ [] → AreWhole cs front
@@ -197,9 +187,7 @@ unfolding frame_at
 scaled-frame s f p = scaled-components s f.width f.height _ _ f.components p
 
 pub decoded-scales : (f : Frame) → IsDecodedFrame f → AllByRecursion (λ c. IsScale c.scale) f.components
-decoded-scales f p =
-    subst (λ (g : Frame). AllByRecursion (λ c. IsScale c.scale) g.components) (sym p.made)
-    (scaled-frame p.scale p.full (scale-is p.scale p.is_scale))
+decoded-scales f p = grind (arith, common_steps, scaled-frame, scale-is)
 
 pub element : (P : Component → Type 0) (cs : List Component) (i : ℕ) (d : Component) → AllByRecursion P cs
     → i < length cs
@@ -219,8 +207,7 @@ pub reached-held : (found : Found) (frame : Frame) (place : ℕ) (held : Arrays)
     → found.frame ≡ Some frame → place < length frame.components → drop place held ≡ drop place found.held
     → is_held found frame ≡ true → place < length held
 reached-held found frame place held s f h e b =
-    let count = arrays-count frame.components found.held (held-arrays found frame (s.held frame f) b) in
-    same-within held found.held place e (omega (arith, count, h))
+    search (rules, arrays-count, held-arrays, same-within)
 
 pub reached-plane : (found : Found) (frame : Frame) (place : ℕ) (c : Component) (planes : List (Option (List ℕ)))
     (o : Option (List ℕ)) → IsSound found
@@ -258,11 +245,7 @@ pub reached-end : (found : Found) (frame : Frame) (place : ℕ) (c : Component) 
     → drop place held ≡ drop place found.held → b ≡ is_held found frame → blocks ≡ blocks_if b held place
     → plane_at_end found frame place c ≡ plane_or c table plane blocks
 reached-end found frame place c planes held table plane b blocks t left is held_left held_is given =
-    let p : plane ≡ get_or found.planes place None = is ∙ same-at planes found.planes place None left in
-    let q : blocks ≡ blocks_if (is_held found frame) found.held place =
-    given ∙ (ap (λ (x : Bool). blocks_if x held place) held_is ∙ blocks-same (is_held found frame) held found.held
-    place held_left) in
-    at-end found frame place c ∙ (rw (p, q, t) refl)
+    grind (arith, common_steps, same-at, blocks-same, at-end)
 
 pub reached-scale : (found : Found) (frame : Frame) (place : ℕ) (c : Component) → IsSound found
     → found.frame ≡ Some frame → place < length frame.components → c ≡ get_or frame.components place c

@@ -17,6 +17,7 @@ use Rattle.jpeg_decoder.proofs.Headers.{after, after-begun, begins-at, bind-err,
 use Rattle.jpeg_decoder.proofs.Headers.{header-rest, not-err, not-ok, same-parts, turn-begins}
 use Rattle.jpeg_decoder.proofs.Turns.{told-next, told-refused, turn-takes, within-next, within-none}
 use Rattle.jpeg_streams.proofs.Told.{told-no_start, told-start, turns-start}
+use Rattle.std.proofs.lemmas.Grind.{common_steps}
 
 -- ---- what is meant
 
@@ -24,17 +25,13 @@ use Rattle.jpeg_streams.proofs.Told.{told-no_start, told-start, turns-start}
 pub header-means : (settings : Settings) (found : Found) (bytes rest : List ℕ) → header_at bytes ≡ Ok (found, rest)
     → meaning settings bytes ≡ rest_at settings found rest
 unfolding header_at meaning rest_at segments_at
-header-means settings found bytes rest e =
-    bind-ok (start_at bytes) _ (found, rest) e (λ start is e1.
-    rw (is, header-rest (suc (length start.1)) nothing_found found start.1 rest e1) refl)
+header-means settings found bytes rest e = grind (arith, common_steps, bind-ok, header-rest)
 
 -- a fault of the header is that of the stream
 pub header-lacks : (settings : Settings) (bytes : List ℕ) (fault : Fault) → header_at bytes ≡ Err fault
     → meaning settings bytes ≡ Err fault
 unfolding header_at meaning rest_at segments_at
-header-lacks settings bytes fault e =
-    bind-err (start_at bytes) _ fault e (λ is. rw is refl) (λ start is e1.
-    rw (is, header-refused (suc (length start.1)) nothing_found start.1 fault (omega arith) e1) refl)
+header-lacks settings bytes fault e = grind (arith, common_steps, bind-err, header-refused)
 
 -- ---- what is told
 
@@ -91,13 +88,7 @@ pub header-told_lacking : (bytes : List ℕ) (fault : Fault) → header_at bytes
     → told_by_stream true bytes ≡ told_by_stream false bytes
 unfolding header_at segments_at
 header-told_lacking bytes fault e =
-    bind-err (start_at bytes) _ fault e
-    (λ is. told-no_start true bytes fault is ∙ sym (told-no_start false bytes fault is))
-    (λ start is e1.
-    told-start true bytes start.1 is
-    ∙ ap (λ (f : Found). told_of f)
-    (told-lacking (suc (length start.1)) nothing_found start.1 fault (omega arith) e1)
-    ∙ sym (told-start false bytes start.1 is))
+    grind (arith, common_steps, bind-err, told-no_start, told-start, told-lacking)
 
 -- ---- what some turns have told
 
@@ -202,10 +193,7 @@ said-one n before found met bytes others = go (is_some found.frame) refl (turn_a
 
 said-header : (n : ℕ) (before : Before) (found : Found) (met : Option Marker) (bytes : List ℕ)
     → IsSaid before found met bytes (told_within n true before found met bytes)
-said-header zero before found met bytes = (
-  0,
-  within-none true before found met bytes ∙ sym (within-none false before found met bytes),
-)
+said-header zero before found met bytes = grind (arith, common_steps, within-none)
 said-header (suc n) before found met bytes =
     said-one n before found met bytes (λ t. said-header n t.0.before t.0.found t.0.met t.1)
 

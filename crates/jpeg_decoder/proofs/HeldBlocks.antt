@@ -8,13 +8,14 @@ use Rattle.std.proofs.lemmas.List.{get_or-map, map-set}
 use Rattle.jpeg_bits.specs.Reading.{Fault}
 use Rattle.jpeg_bits.specs.Entropy.{Text}
 use Rattle.jpeg_bits.specs.Readers.{Reads, gives, read_on}
-use Rattle.jpeg_bits.specs.Passes.{Pass, Via, Block, zero_block, block_from}
+use Rattle.jpeg_bits.specs.Passes.{Pass, Via, Block, block_from}
 use Rattle.jpeg_streams.specs.Order.{Spot}
 use Rattle.jpeg_streams.specs.Scans.{Arrays, block_at, put_block, via_at}
 use Rattle.jpeg_streams.specs.InTurn.{Reached, turn_from}
 use Rattle.jpeg_decoder.specs.declared.scan.Coded.{Coded}
 use Rattle.jpeg_bits.specs.BlockView.{to_block}
-use Rattle.jpeg_decoder.specs.Scanning.{IsSpotOf, vias_in, blocks_in, arrays_in, sizes_of}
+use Rattle.jpeg_decoder.specs.Scanning.{IsSpotOf, vias_in, arrays_in, sizes_of}
+use Rattle.std.proofs.lemmas.Grind.{common_steps}
 
 abbrev pub Held : Type 0
 Held = Vec (List ℤ) Global
@@ -40,17 +41,12 @@ size-at vs slot v h e = get_or-map (λ (u : Held). length u.items) vs slot v 0 (
 
 arrays-set : (vs : List Held) (slot index : ℕ) (v : Held) (x : List ℤ) → slot < length vs → v ≡ get_or vs slot v
     → arrays_in (set vs slot (with_item v index x)) ≡ put_block (spot slot index) (to_block x) (arrays_in vs)
-arrays-set vs slot index v x h e =
-    map-set blocks_in vs slot (with_item v index x)
-    ∙ ap (λ (l : List Block). set (arrays_in vs) slot l) (map-set to_block v.items index x
-    ∙ ap (λ (l : List Block). set l index (to_block x)) (ap blocks_in e ∙ sym (get_or-map blocks_in vs slot v [] h)))
+arrays-set vs slot index v x h e = grind (arith, common_steps, map-set, get_or-map)
 
 block-held : (vs : List Held) (slot index : ℕ) (v : Held) (x : List ℤ) → slot < length vs → v ≡ get_or vs slot v
     → index < length v.items → x ≡ get_or v.items index x
     → block_at (arrays_in vs) (spot slot index) ≡ to_block x
-block-held vs slot index v x h e i f =
-    ap (λ (l : List Block). get_or l index zero_block) (get_or-map blocks_in vs slot v [] h ∙ sym (ap blocks_in e))
-    ∙ get_or-map to_block v.items index x zero_block i ∙ sym (ap to_block f)
+block-held vs slot index v x h e i f = grind (arith, common_steps, get_or-map)
 
 abbrev pub via_of : ℕ → Coded → Via
 via_of slot c = record { component = slot; dc = c.dc.now; ac = c.ac.now }

@@ -17,6 +17,7 @@ use Rattle.jpeg_decoder.specs.Scanning.{IsSpotOf, arrays_in, blocks_in, sizes_of
 use Rattle.jpeg_decoder.specs.Scanning.{wide_in}
 use Rattle.jpeg_decoder.specs.Strips.{row_sizes}
 use Rattle.jpeg_decoder.proofs.HeldBlocks.{Held, sizes-long}
+use Rattle.std.proofs.lemmas.Grind.{common_steps}
 
 held-long : (vs : List Held) (slot : ℕ) → slot < length vs
     → get_or (sizes_of vs) slot 0 ≡ length (get_or (arrays_in vs) slot [])
@@ -29,14 +30,7 @@ arrays-long vs = length-map vs blocks_in
 
 one-spot : (slots : ℕ) (vs : List Held) (q : Spot) → q.slot < slots → IsInside (arrays_in vs) q
     → IsSpotOf slots (sizes_of vs) q
-one-spot slots vs q few i =
-    let a = arrays-long vs in
-    let b = i.slot in
-    let k : q.slot < length vs = omega arith in
-    let g = held-long vs q.slot k in
-    let d = i.index in
-    let l = sizes-long vs in
-    record { slot = few; held = record { has_slot = omega arith; has_index = omega arith } }
+one-spot slots vs q few i = grind (arith, common_steps, arrays-long, held-long, sizes-long)
 
 all-spots : (slots : ℕ) (vs : List Held) (spots : List Spot) → ((q : Spot) → IsIn q spots → q.slot < slots)
     → ((q : Spot) → IsIn q spots → IsInside (arrays_in vs) q) → AllByRecursion (IsSpotOf slots (sizes_of vs)) spots
@@ -62,9 +56,7 @@ slot-few frame cs q fits t =
 pub held-spots : (frame : Frame) (cs : List Coded) (vs : List Held) → AllByRecursion (Fits frame) (components_in cs)
     → AreArrays (components_in cs) (arrays_in vs)
     → AllByRecursion (IsSpotOf (length cs) (sizes_of vs)) (spots_of frame (components_in cs))
-held-spots frame cs vs fits arrays =
-    all-spots (length cs) vs (spots_of frame (components_in cs)) (λ q t. slot-few frame cs q fits t)
-    (λ q t. spots-inside frame (components_in cs) (arrays_in vs) q fits arrays t)
+held-spots frame cs vs fits arrays = grind (arith, common_steps, all-spots, slot-few, spots-inside)
 
 -- ---- those of a row of MCUs
 

@@ -1,5 +1,5 @@
 -- The number of bytes of a picture.
-use Rattle.std.proofs.Common.{◌≡◌, ℕ, ◌-◌, ◌*◌, ◌<◌, List, [], length, get_or, map, sym, ap, ◌∙◌}
+use Rattle.std.proofs.Common.{◌≡◌, ℕ, ◌*◌, ◌<◌, List, [], length, get_or, map, sym, ap, ◌∙◌}
 use Rattle.std.proofs.Common.{refl, arith, subst, Result, Ok, Err, Bool, true, false}
 use Rattle.std.specs.Prelude.{◌==◌, ◌||◌}
 use Rattle.std.proofs.lemmas.Bool.{eqb-true}
@@ -13,7 +13,7 @@ use Rattle.jpeg_segments.specs.Frame.{Component}
 use Rattle.jpeg_pixels.specs.declared.upsampler.ColorConvert.{ColorConvert}
 use Rattle.jpeg_pixels.specs.declared.upsampler.ColorConvert.TheVariants as converts
 use Rattle.jpeg_pixels.specs.Colour.{colour_of, line_bytes, conversion_of}
-use Rattle.jpeg_pixels.specs.Pictures.{Source, sources_of, lines_of, picture_line, picture_bytes, image_of}
+use Rattle.jpeg_pixels.specs.Pictures.{Source, sources_of, picture_line, picture_bytes, image_of}
 use Rattle.jpeg_pixels.specs.PicturesView.{IsFor}
 use Rattle.jpeg_pixels.specs.Planes.{cropped}
 use Rattle.jpeg_streams.specs.Segments.{is_decoded_count}
@@ -22,6 +22,7 @@ use Rattle.jpeg_pixels.proofs.LinesOfColour.{line-none}
 use Rattle.jpeg_pixels.proofs.ComponentLines.{lines_of-length, lines_of-long}
 use Rattle.jpeg_pixels.proofs.SourceLists.{sources-length}
 use Rattle.jpeg_pixels.proofs.WholePictures.{conversion-fits}
+use Rattle.std.proofs.lemmas.Grind.{common_steps}
 
 -- lines made of numbers, of n entries each
 pub made-length : (n width : ℕ) (line : ℕ → List ℕ) → ((x : ℕ) → length (line x) ≡ n)
@@ -46,19 +47,12 @@ unfolding line_bytes colour_of
 line-length converts.None width lines long fits =
     ap (λ (l : List ℕ). length l) (sym (line-none width lines long)) ∙ joined-length width lines long
 line-length converts.Rgb width lines long fits =
-    made-length 3 width (λ x. colour_of converts.Rgb (samples lines x))
-    (λ x. length-map lines (λ (l : List ℕ). get_or l x 0) ∙ fits)
-    ∙ mul_comm width 3 ∙ ap (λ m. m * width) (sym fits)
+    grind (arith, common_steps, made-length, length-map, mul_comm)
 line-length converts.YCbCr width lines long fits =
-    made-length 3 width (λ x. colour_of converts.YCbCr (samples lines x)) (λ x. refl)
-    ∙ mul_comm width 3 ∙ ap (λ m. m * width) (sym fits)
+    grind (arith, common_steps, made-length, mul_comm)
 line-length converts.Cmyk width lines long fits =
-    made-length 4 width (λ x. colour_of converts.Cmyk (samples lines x))
-    (λ x. length-map (samples lines x) (λ s. 255 - s) ∙ length-map lines (λ (l : List ℕ). get_or l x 0) ∙ fits)
-    ∙ mul_comm width 4 ∙ ap (λ m. m * width) (sym fits)
-line-length converts.Ycck width lines long fits =
-    made-length 4 width (λ x. colour_of converts.Ycck (samples lines x)) (λ x. refl)
-    ∙ mul_comm width 4 ∙ ap (λ m. m * width) (sym fits)
+    grind (arith, common_steps, made-length, length-map, mul_comm)
+line-length converts.Ycck width lines long fits = grind (arith, common_steps, made-length, mul_comm)
 
 abbrev as_bytes : List ℕ → Result (List ℕ) Fault
 as_bytes l = Ok l
@@ -68,12 +62,7 @@ pub bytes-length : (convert : ColorConvert) (sources : List Source) (planes : Li
     → length (picture_bytes convert sources planes width height) ≡ height * (length sources * width)
 unfolding picture_bytes picture_line
 bytes-length convert sources planes width height same fits =
-    made-length (length sources * width) height (picture_line convert sources planes width) (λ row.
-    let count : length (lines_of sources planes width row) ≡ length sources =
-    lines_of-length sources planes width row same in
-    line-length convert width (lines_of sources planes width row) (lines_of-long sources planes width row same)
-    (subst (λ n. IsFor n convert) (sym count) fits)
-    ∙ ap (λ m. m * width) count)
+    grind (arith, common_steps, made-length, lines_of-length, line-length, lines_of-long)
 
 pub image-length : (components : List Component) (planes : List (List ℕ)) (width height : ℕ)
     (transform : ColorTransform) (picture : List ℕ) → length planes ≡ length components

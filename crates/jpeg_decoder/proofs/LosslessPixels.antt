@@ -6,7 +6,7 @@ use Rattle.std.specs.List.{AllByRecursion, concat, range_with_len}
 use Rattle.std.proofs.lemmas.List.{get_or_append_left, get_or-append_right}
 use Rattle.std.proofs.Math.Nat.{add-mul, one-mul}
 use Rattle.jpeg_segments.specs.Frame.{Component, Frame}
-use Rattle.jpeg_lossless.specs.Pictures.{layers_of, line_bytes, lossless_picture, most_across, most_down, pixel_bytes}
+use Rattle.jpeg_lossless.specs.Pictures.{layers_of, lossless_picture, most_across, most_down, pixel_bytes}
 use Rattle.jpeg_lossless.specs.Pictures.{picture_bytes, sample_bytes}
 use Rattle.jpeg_lossless.specs.Places.{AreEven, at_place}
 use Rattle.jpeg_lossless.proofs.ImageLoops.{inside}
@@ -14,8 +14,7 @@ use Rattle.jpeg_streams.specs.declared.settings.Settings.{Settings}
 use Rattle.jpeg_streams.specs.Needed.{first_of}
 use Rattle.jpeg_streams.specs.Stream.{meaning, sized_meaning, told_of}
 use Rattle.jpeg_streams.specs.Found.{nothing_found, Found}
-use Rattle.jpeg_streams.specs.WrittenLossless.{IsWithin, Samples, Writes, WritesSamples, closed, samples_line}
-use Rattle.jpeg_streams.specs.InTurn.{IsIn}
+use Rattle.jpeg_streams.specs.WrittenLossless.{IsWithin, Samples, Writes, WritesSamples, closed}
 use Rattle.jpeg_streams.specs.WrittenLossless.{picture_of_samples, pixel_from, said_after_scan, scan, segment}
 use Rattle.jpeg_streams.specs.SaidSegments.{found_after}
 use Rattle.jpeg_streams.proofs.LosslessFrames.{IsShaped}
@@ -25,6 +24,7 @@ use Rattle.jpeg_streams.proofs.OwnSpots.{all-append}
 use Rattle.jpeg_decoder.proofs.WrittenLosslessStreams.{IsSaid, all-in, drawn, final-framed, nothing-said, samples-meant}
 use Rattle.jpeg_decoder.proofs.WrittenLosslessStreams.{samples-sized, segment-said, some-same}
 use Rattle.jpeg_decoder.proofs.WrittenSamples.{HasSize, SizedAt, places_of, planes_for, scan-sized}
+use Rattle.std.proofs.lemmas.Grind.{common_steps}
 
 -- ---- sizes
 
@@ -33,9 +33,7 @@ sent-sized : (samples : Samples) (frame : Frame) (said : Found) (sent bytes : Li
     → AllByRecursion (SizedAt samples frame.components) sent
     → AllByRecursion (SizedAt samples frame.components) (range_with_len 0 (length frame.components))
 sent-sized samples frame said sent bytes final (closed said' sent' f fill framed lossless all) is e h =
-    all-in (SizedAt samples frame.components) (range_with_len 0 (length frame.components)) sent h
-    (subst (λ (g : Frame). AllByRecursion (λ k. IsIn k sent) (range_with_len 0 (length g.components)))
-    (some-same f frame (sym framed ∙ e)) all)
+    grind (arith, common_steps, all-in, some-same)
 sent-sized samples frame said sent bytes final (segment said' final' sent' fill s more may w) is e h =
     sent-sized samples frame (found_after said s) sent more final w (segment-said said s may is) e h
 sent-sized samples frame said sent bytes final (scan said' final' sent' f fill h' data_bytes more framed lossless header
@@ -84,10 +82,7 @@ at-flat : (w x : ℕ) (lines : List (List ℕ)) (y : ℕ) → AreEven w lines �
     → slice_index (concat lines) (y * w + x) ≡ at_place lines x y
 unfolding AreEven
 at-flat w x [] y even h k = absurd (omega arith)
-at-flat w x (l ∷ lines) zero even h k =
-    let long = even.0 in
-    let i : zero * w + x ≡ x = omega arith in
-    ap (get_or_zero (l ++ concat lines)) i ∙ get_or_append_left l (concat lines) 0 x (omega arith)
+at-flat w x (l ∷ lines) zero even h k = grind (arith, common_steps, get_or_append_left)
 at-flat w x (l ∷ lines) (suc y) even h k =
     let long = even.0 in
     let one = one-mul w in
@@ -124,18 +119,7 @@ pixel-same frame samples x y hx hy place (c ∷ cs) all =
 samples-shown : (frame : Frame) (samples : Samples) → AreAll frame samples 0 frame.components
     → drawn frame samples ≡ picture_of_samples frame samples
 unfolding picture_of_samples lossless_picture picture_bytes
-samples-shown frame samples all =
-    let a = most_across frame in
-    let d = most_down frame in
-    let layers = layers_of frame.components (planes_for samples (range_with_len 0 (length frame.components))) in
-    ap (λ (l : List (List ℕ)). concat l)
-    (mapped-same (line_bytes frame.precision a d frame.width layers) (samples_line frame samples) 0 frame.height
-    frame.height
-    (omega arith)
-    (λ y k. ap (λ (l : List (List ℕ)). concat l)
-    (mapped-same (pixel_bytes frame.precision a d layers y) (λ x. pixel_from frame samples y x 0 frame.components)
-    0 frame.width frame.width (omega arith)
-    (λ x h. pixel-same frame samples x y h k 0 frame.components all))))
+samples-shown frame samples all = grind (arith, common_steps, mapped-same, pixel-same)
 
 shown : (samples : Samples) (bytes : List ℕ) (final : Found) (frame : Frame) → WritesSamples samples bytes final
     → final.frame ≡ Some frame

@@ -2,7 +2,7 @@
 use Rattle.std.proofs.Common.{◌≡◌, ℕ, zero, suc, ◌+◌, ◌*◌, ◌<◌, ◌≤◌, ◌==◌, Bool, true, false, List, [], ◌∷◌, ◌++◌, All}
 use Rattle.std.proofs.Common.{length, map, drop, get_or, set, Option, Some, None, Result, Ok, Err, refl, sym, ap}
 use Rattle.std.proofs.Common.{ap₂, ◌∙◌, subst, arith}
-use Rattle.std.specs.Prelude.{IfErr, IfOk, MatchResult, OnOk, option_map, slice_index_or, slice_set}
+use Rattle.std.specs.Prelude.{IfErr, IfOk, MatchResult, OnOk, slice_index_or, slice_set}
 use Rattle.std.specs.declared.alloc.Global.{Global}
 use Rattle.std.specs.declared.vec.Vec.{Vec}
 use Rattle.std.proofs.lemmas.List.{length-map, map-set}
@@ -24,14 +24,12 @@ use Rattle.jpeg_lossless.specs.Codings.{AreWhole, IsCovered, way_by}
 use Rattle.jpeg_lossless.specs.Differences.{Part}
 use Rattle.jpeg_lossless.specs.declared.scan.Coding.{Coding}
 use Rattle.jpeg_lossless.specs.Pictures.{ArePlanesOf, lossless_picture, most_across, most_down}
-use Rattle.jpeg_lossless.specs.Prediction.{start_of}
 use Rattle.jpeg_lossless.specs.Scans.{scan_at}
 use Rattle.jpeg_streams.specs.InTurn.{AreArrays}
 use Rattle.jpeg_streams.specs.LosslessScans.{LosslessCoding, lossless_coding, lossless_codings, mcus_across}
 use Rattle.jpeg_streams.specs.LosslessScans.{mcus_down, part_of, parts_of, samples_from, tables_in, with_samples}
 use Rattle.jpeg_decoder.specs.LosslessParts.{mcus_high, mcus_wide, no_component, part_by, parts_at}
 use Rattle.jpeg_streams.specs.Needed.{first_of, needed}
-use Rattle.jpeg_decoder.specs.Scanning.{arrays_in}
 use Rattle.jpeg_decoder.specs.declared.decoded.Decoded.{Decoded}
 use Rattle.jpeg_streams.specs.Sound.{AreSampled, IsDecodedFrame, IsSound}
 use Rattle.jpeg_decoder.specs.Steps.{IsRefusal, after_all, samples_read, with_decoded}
@@ -48,6 +46,7 @@ use Rattle.jpeg_decoder.proofs.ScanReads.{HasRead, last-step}
 use Rattle.jpeg_streams.proofs.Soundness.{count-few, decoded-count, decoded-some}
 use Rattle.std.proofs.lemmas.Bool.Decides.{nat_tests}
 use Rattle.jpeg_bits.specs.declared.error.Error.TheVariants.{OutOfMemory}
+use Rattle.std.proofs.lemmas.Grind.{common_steps}
 
 -- ---- tables, slot after slot
 
@@ -89,15 +88,7 @@ pub codings-by-tables : (tables : List (Option Table)) (frame : Frame) (places d
     → AllByRecursion (λ place. place < length frame.components) places → length ds ≡ length places
     → tables_in tables ds ≡ Ok ts → AreCodings tables frame places ds ts
 unfolding lossless_codings lossless_coding tables_in AreOf
-codings-by-tables tables frame [] [] ts within long e =
-    let none : [] ≡ ts = ok-same [] ts e in
-    record {
-      codings = [];
-      are = refl;
-      places_are = refl;
-      tables_are = none;
-      of = subst (AreOf frame.components [] []) none tt;
-    }
+codings-by-tables tables frame [] [] ts within long e = grind (arith, common_steps, ok-same)
 codings-by-tables tables frame (p ∷ places) (d ∷ ds) ts within long e =
     let one = bind-ok (needed (slice_index_or tables d None)) _ ts e in
     let more = bind-ok (tables_in tables ds) _ ts one.2 in
@@ -173,8 +164,7 @@ parts-are cs [] [] [] h = refl
 parts-are cs (k ∷ []) (p ∷ []) (t ∷ []) h =
     ap (λ (x : Part). x ∷ []) (ap₂ (part true) (got p cs k.component no_component h.0.0) h.0.1)
 parts-are cs (k ∷ j ∷ codings) (p ∷ q ∷ places) (t ∷ ts) h =
-    several cs (k ∷ j ∷ codings) (p ∷ q ∷ places) (t ∷ ts) h
-    ∙ ap (λ (b : Bool). parts_at b cs (p ∷ q ∷ places) (t ∷ ts)) (sym (two (length places)))
+    grind (arith, common_steps, several, two)
 parts-are cs (k ∷ codings) (p ∷ places) (t ∷ ts) h = absurd h.1
 parts-are cs _ _ _ h = absurd h
 
@@ -183,9 +173,7 @@ pub mcus-are : (frame : Frame) (codings : List LosslessCoding) (places : List �
     → AreOf frame.components codings places ts
     → (mcus_across frame codings ≡ mcus_wide frame places) × (mcus_down frame codings ≡ mcus_high frame places)
 unfolding AreOf mcus_across mcus_down mcus_wide mcus_high
-mcus-are frame (k ∷ []) (p ∷ []) (t ∷ ts) h =
-    let c = got p frame.components k.component no_component h.0.0 in
-    (ap (λ (c : Component). c.width) c, ap (λ (c : Component). c.height) c)
+mcus-are frame (k ∷ []) (p ∷ []) (t ∷ ts) h = grind (arith, common_steps, got)
 mcus-are frame (k ∷ j ∷ codings) (p ∷ q ∷ places) (t ∷ ts) h = (refl, refl)
 mcus-are frame [] [] [] h = (refl, refl)
 mcus-are frame (k ∷ codings) (p ∷ places) (t ∷ ts) h = absurd h.1
@@ -236,13 +224,7 @@ pub parts_step : (is_alone : Bool) (cs : List Component) (places : List ℕ) (ts
     ≡ new ++ parts_at is_alone cs (drop (slot + 1) places) (drop (slot + 1) ts)
 unfolding parts_at
 parts_step is_alone cs places ts slot p t c front new h k e f g n =
-    let rest : List Part = parts_at is_alone cs (drop (slot + 1) places) (drop (slot + 1) ts) in
-    ap (λ (l : List Part). front ++ l)
-    (ap₂ (parts_at is_alone cs) (dropped places slot p h e)
-    (drop_more ts slot t k ∙ ap (λ (x : Table). x ∷ drop (slot + 1) ts) f)
-    ∙ ap (λ (x : Component). part_by is_alone x t ∷ rest) (sym g))
-    ∙ sym (append_assoc front (part_by is_alone c t ∷ []) rest)
-    ∙ ap (λ (l : List Part). l ++ rest) (sym n)
+    grind (arith, common_steps, dropped, drop_more, append_assoc)
 
 no-parts : (is_alone : Bool) (cs : List Component) (ts : List Table) → parts_at is_alone cs [] ts ≡ []
 unfolding parts_at
@@ -253,8 +235,7 @@ pub parts_none : (is_alone : Bool) (cs : List Component) (places : List ℕ) (ts
     (front : List Part) → length places ≤ slot
     → front ++ parts_at is_alone cs (drop slot places) (drop slot ts) ≡ front
 parts_none is_alone cs places ts slot front h =
-    ap (λ (l : List ℕ). front ++ parts_at is_alone cs l (drop slot ts)) (drop_all slot places h)
-    ∙ ap (λ (l : List Part). front ++ l) (no-parts is_alone cs (drop slot ts)) ∙ append-nil front
+    grind (arith, common_steps, drop_all, no-parts, append-nil)
 
 pub parts-count : (is_alone : Bool) (cs : List Component) (places : List ℕ) (ts : List Table)
     → length ts ≡ length places → length (parts_at is_alone cs places ts) ≡ length places
@@ -432,25 +413,12 @@ pub put-step : (places : List ℕ) (i : ℕ) (planes : List (Vec ℕ Global)) (e
     (planes_in (slice_set before (slice_index_or places i 0) (Some plane)))
     ≡ with_samples (drop i places) (drop i (map (λ (v : Vec ℕ Global). v.items) planes)) (planes_in before)
 put-step places i planes empty plane before h e is =
-    let items : Vec ℕ Global → List ℕ = λ v. v.items in
-    let p = get_or places i 0 in
-    let back : drop i (map items planes) ≡ plane.items ∷ drop (i + 1) (map items planes) =
-    seen-at items planes i plane (omega arith) is in
-    let rest : drop (i + 1) (map items (set planes i empty)) ≡ drop (i + 1) (map items planes)
-    = ap (drop (i + 1)) (map-set items planes i empty)
-    ∙ drop-set-lt (i + 1) (map items planes) i empty.items (omega arith) in
-    ap₂ (λ (ps : List (List ℕ)) (s : List (Option (List ℕ))). with_samples (drop (i + 1) places) ps s) rest
-    (map-set (λ (q : Option (Vec ℕ Global)). option_map (λ (v : Vec ℕ Global). v.items) q) before p (Some plane))
-    ∙ sym (with-more p (drop (i + 1) places) plane.items (drop (i + 1) (map items planes)) (planes_in before))
-    ∙ sym (ap₂ (λ (l : List ℕ) (ps : List (List ℕ)). with_samples l ps (planes_in before)) (drop_more places i 0 h)
-    back)
+    grind (arith, common_steps, seen-at, map-set, drop-set-lt, with-more, drop_more)
 
 -- all slots
 pub put-all : (places : List ℕ) (i : ℕ) (planes : List (List ℕ)) (samples whole : List (Option (List ℕ)))
     → length places ≤ i → with_samples (drop i places) planes samples ≡ whole → samples ≡ whole
-put-all places i planes samples whole h w =
-    sym (with-none planes samples)
-    ∙ ap (λ (l : List ℕ). with_samples l planes samples) (sym (drop_all i places h)) ∙ w
+put-all places i planes samples whole h w = grind (arith, common_steps, with-none, drop_all)
 
 -- ---- samples at the end of an image
 
@@ -469,9 +437,7 @@ no-samples samples cs place h = ap (samples_from samples place) (drop_all place 
 drop-there : (samples : List (Option (List ℕ))) (place : ℕ) (plane : List ℕ)
     → slice_index_or samples place None ≡ Some plane → drop place samples ≡ Some plane ∷ drop (place + 1) samples
 drop-there [] place plane e = absurd (let n : ⊥ = cc in n)
-drop-there (x ∷ samples) zero plane e =
-    let k : 0 + 1 ≡ 1 = omega arith in
-    ap (λ (o : Option (List ℕ)). o ∷ samples) e ∙ ap (λ (n : ℕ). Some plane ∷ drop n (x ∷ samples)) (sym k)
+drop-there (x ∷ samples) zero plane e = grind (arith, common_steps)
 drop-there (x ∷ samples) (suc place) plane e =
     let k : suc (place + 1) ≡ suc place + 1 = omega arith in
     drop-there samples place plane e ∙ ap (λ (n : ℕ). Some plane ∷ drop n (x ∷ samples)) k
@@ -516,34 +482,19 @@ pub coded-by : (found : Found) (frame : Frame) (scan : Scan) (ts : List Table)
     → parts ≡ parts_at (length scan.components == 1) frame.components scan.components ts
     → scan_samples found frame scan a.codings
     ≡ scan_at (way_by k parts) k.high k.restart_interval k.point_transform
-coded-by found frame scan ts a k parts e is =
-    let start = start_of frame.precision scan.point_transform in
-    let by : ℕ → ℕ → List Part → List ℕ → Outcome (List (List ℕ) × Option Marker) = λ wide high l.
-    scan_at (record { wide = wide; selection = scan.predictor; start = start; parts = l }) high found.restart
-    scan.point_transform in
-    let mcus = mcus-are frame a.codings scan.components ts a.of in
-    (λ i. by (mcus.0 i) (mcus.1 i) ((parts-are frame.components a.codings scan.components ts a.of ∙ sym is) i))
-    ∙ ap (λ (x : Coding). scan_at (way_by x parts) x.high x.restart_interval x.point_transform) (sym e)
+coded-by found frame scan ts a k parts e is = grind (arith, common_steps, mcus-are, parts-are)
 
 -- What is found after samples are put.
 pub put-made : (base : Found) (old new : Decoded) (samples : List (Option (List ℕ))) → new.held ≡ old.held
     → new.finished ≡ old.finished → new.planes ≡ old.planes → planes_in new.samples ≡ samples
     → ◌≡◌ {A = Found} (record (with_decoded base new) { scanned = true })
     (record (with_decoded base old) { scanned = true; samples = samples })
-put-made base old new samples h f p s = λ i. record base {
-  scanned = true;
-  held = arrays_in (h i).items;
-  finished = f i;
-  planes = planes_in (p i);
-  samples = s i;
-}
+put-made base old new samples h f p s = grind (arith, common_steps)
 
 -- as many tables as places
 pub codings-count : (tables : List (Option Table)) (frame : Frame) (places ds : List ℕ) (ts : List Table)
     → AreCodings tables frame places ds ts → length ts ≡ length places
-codings-count tables frame places ds ts a =
-    ap (λ (l : List Table). length l) (sym a.tables_are) ∙ length-map a.codings (λ (k : LosslessCoding). k.table)
-    ∙ sym (length-map a.codings (λ (k : LosslessCoding). k.place)) ∙ ap (λ (l : List ℕ). length l) a.places_are
+codings-count tables frame places ds ts a = grind (arith, common_steps, length-map)
 
 pub all-below : (n m : ℕ) (places : List ℕ) → n ≤ m → AllByRecursion (λ place. place < n) places
     → AllByRecursion (λ place. place < m) places

@@ -1,30 +1,23 @@
 -- The blocks of a scan in order are those that are walked.
 use Rattle.std.proofs.Common.{◌≡◌, ℕ, zero, suc, ◌+◌, ◌-◌, ◌*◌, ◌<◌, ◌≤◌, List, [], ◌∷◌, ◌++◌, map, drop, length, refl, sym, ap}
-use Rattle.std.proofs.Common.{ap₂, ◌∙◌, arith, add-mul, mul_assoc, append-nil, append_assoc}
+use Rattle.std.proofs.Common.{ap₂, ◌∙◌, arith, add-mul, mul_assoc, append-nil, append_assoc, get_or}
 use Rattle.std.specs.List.{range_with_len, flat_map}
 use Rattle.std.proofs.lemmas.List.{drop_all}
 use Rattle.jpeg_decoder.proofs.ReadLists.{dropped}
 use Rattle.jpeg_segments.specs.Frame.{Component}
 use Rattle.jpeg_streams.specs.declared.grids.Grid.{Grid}
 use Rattle.jpeg_streams.specs.Order.{Spot, part_spot, part_spots, mcu_spots, all_spots, own_spots}
-use Rattle.std.proofs.Common.{get_or}
 use Rattle.jpeg_segments.specs.FrameView.{component_in}
 use Rattle.jpeg_decoder.specs.declared.scan.Coded.{Coded}
 use Rattle.jpeg_decoder.specs.declared.spots.Member.{Member}
 use Rattle.jpeg_decoder.specs.Scanning.{components_in}
 use Rattle.jpeg_decoder.specs.Walk.{spot_at, mcu_at, spots_at, raster, positions_of, member_of, line_members, part_members}
 use Rattle.jpeg_decoder.specs.Walk.{members_from, own_member}
+use Rattle.std.proofs.lemmas.Grind.{common_steps}
 
 spot-is : (row column slot : ℕ) (c : Component) (v h : ℕ)
     → spot_at (row, column) (member_of slot c v h) ≡ part_spot row column slot c v h
-spot-is row column slot c v h =
-    let V = c.factors.vertical in
-    let W = c.blocks_wide in
-    let H = c.factors.horizontal in
-    let a : (row * V + v) * W ≡ row * V * W + v * W = add-mul (row * V) v W in
-    let b : row * V * W ≡ row * (V * W) = mul_assoc row V W in
-    let e : row * (V * W) + column * H + (v * W + h) ≡ (row * V + v) * W + (column * H + h) = omega arith in
-    ap (λ (i : ℕ). record { slot = slot; index = i }) e
+spot-is row column slot c v h = grind (arith, common_steps, add-mul, mul_assoc)
 
 line-is : (row column slot : ℕ) (c : Component) (v : ℕ) (hs : List ℕ)
     → mcu_at (map (member_of slot c v) hs) (row, column) ≡ map (part_spot row column slot c v) hs
@@ -82,9 +75,7 @@ all_walked wide high cs = rows-are cs wide (range_with_len 0 high)
 -- ---- a component that is alone
 
 own-spot : (g : Grid) (row k : ℕ) → spot_at (row, k) (own_member g) ≡ record { slot = 0; index = row * g.wide + k }
-own-spot g row k =
-    let e : row * g.wide + k * 1 + 0 ≡ row * g.wide + k = omega arith in
-    ap (λ (i : ℕ). record { slot = 0; index = i }) e
+own-spot g row k = grind (arith, common_steps)
 
 own-columns : (g : Grid) (row : ℕ) (ks : List ℕ)
     → spots_at (own_member g ∷ []) (map (λ c. (row, c)) ks)
@@ -129,14 +120,10 @@ more_lines g xs v n l =
         ∙ sym (ap (λ (j : ℕ). flat_map g (range_with_len v j)) e)
 
 pub no_members : (f : ℕ → Member) (xs : List Member) (h n : ℕ) → n ≤ h → xs ++ map f (range_with_len h (n - h)) ≡ xs
-no_members f xs h n l =
-    let z : n - h ≡ 0 = omega arith in
-    ap (λ (j : ℕ). xs ++ map f (range_with_len h j)) z ∙ append-nil xs
+no_members f xs h n l = grind (arith, common_steps, append-nil)
 
 pub no_lines : (g : ℕ → List Member) (xs : List Member) (v n : ℕ) → n ≤ v → xs ++ flat_map g (range_with_len v (n - v)) ≡ xs
-no_lines g xs v n l =
-    let z : n - v ≡ 0 = omega arith in
-    ap (λ (j : ℕ). xs ++ flat_map g (range_with_len v j)) z ∙ append-nil xs
+no_lines g xs v n l = grind (arith, common_steps, append-nil)
 
 pub ruleset order_rules = (all_walked, own_walked)
 
@@ -150,9 +137,7 @@ slots_left slot cs = members_from slot (components_in (drop slot cs))
 pub slot_next : (xs : List Member) (slot : ℕ) (cs : List Coded) (c : Coded) → slot < length cs → c ≡ get_or cs slot c
     → (xs ++ part_members slot (component_in c.component.now)) ++ slots_left (slot + 1) cs ≡ xs ++ slots_left slot cs
 unfolding members_from
-slot_next xs slot cs c h e =
-    append_assoc xs (part_members slot (component_in c.component.now)) (slots_left (slot + 1) cs)
-    ∙ ap (λ (l : List Coded). xs ++ members_from slot (components_in l)) (sym (dropped cs slot c h e))
+slot_next xs slot cs c h e = grind (arith, common_steps, append_assoc, dropped)
 
 pub slot_none : (xs : List Member) (slot : ℕ) (cs : List Coded) → length cs ≤ slot → xs ++ slots_left slot cs ≡ xs
 unfolding members_from

@@ -1,8 +1,9 @@
 -- Numbers of two and four bytes, and the entries of a directory.
 use Rattle.std.proofs.Common.{◌≡◌, ℕ, zero, suc, ◌+◌, ◌*◌, ◌<◌, ◌≤◌, Bool, true, false, List, [], ◌∷◌, length, take, drop}
-use Rattle.std.proofs.Common.{slice_index, refl, arith, None, Some, length-drop, nat_le, if◌then◌else◌, Option, ap, sym, ◌∙◌, ◌==◌, eq-eqb, ne_eqb, ◌-◌}
+use Rattle.std.proofs.Common.{slice_index, refl, arith, None, Some, length-drop, nat_le, if◌then◌else◌, Option, ap, ◌∙◌, eq-eqb, ne_eqb, ◌-◌}
 use Rattle.std.proofs.lemmas.Bool.{lt-leb, le-leb}
-use Rattle.jpeg_decoder.specs.Orientation.{lower_first, number, number_at, entries_in, entries_of, first_directory, orientation_in, orientation_among, is_orientation, value_of}
+use Rattle.jpeg_decoder.specs.Orientation.{lower_first, number, number_at, entries_in, first_directory, orientation_in, orientation_among, is_orientation, value_of}
+use Rattle.std.proofs.lemmas.Grind.{common_steps}
 
 pub two-lower : (xs : List ℕ) → 2 ≤ length xs → slice_index xs 0 + 256 * slice_index xs 1 ≡ number true (take 2 xs)
 unfolding lower_first
@@ -48,10 +49,7 @@ empty-if false xs h = refl
 pub no_directory : (le : Bool) (exif : List ℕ) → length (drop 2 (drop (number_at le 4 4 exif) exif)) < 12
     → orientation_among le (first_directory le exif) ≡ None
 unfolding first_directory
-no_directory le exif h =
-    ap (λ (all : List (List ℕ)). orientation_among le all)
-    (empty-if (number_at le 2 2 exif == 42) (entries_of le (drop (number_at le 4 4 exif) exif))
-    (no_entries (number_at le 0 2 (drop (number_at le 4 4 exif) exif)) (drop 2 (drop (number_at le 4 4 exif) exif)) h))
+no_directory le exif h = grind (arith, common_steps, empty-if, no_entries)
 
 pub cut_directory : (le : Bool) (exif : List ℕ) → length exif < 14 + number_at le 4 4 exif
     → orientation_among le (first_directory le exif) ≡ None
@@ -66,9 +64,7 @@ few_after offset exif rest e h =
 pub other_directory : (le : Bool) (exif : List ℕ) → (number_at le 2 2 exif ≡ 42 → ⊥)
     → orientation_among le (first_directory le exif) ≡ None
 unfolding first_directory
-other_directory le exif h =
-    let e : (number_at le 2 2 exif == 42) ≡ false = ne_eqb (number_at le 2 2 exif) 42 h in
-    ap (λ (b : Bool). orientation_among le (if b then entries_of le (drop (number_at le 4 4 exif) exif) else [])) e
+other_directory le exif h = grind (arith, common_steps, ne_eqb)
 
 pub found_directory : (le : Bool) (exif directory entries : List ℕ) (offset count : ℕ) → number_at le 2 2 exif ≡ 42
     → offset ≡ number_at le 4 4 exif → directory ≡ drop offset exif → count ≡ number_at le 0 2 directory
@@ -76,12 +72,7 @@ pub found_directory : (le : Bool) (exif directory entries : List ℕ) (offset co
     → orientation_among le (entries_in count entries) ≡ orientation_among le (first_directory le exif)
 unfolding first_directory
 found_directory le exif directory entries offset count h o d n e =
-    let t : (number_at le 2 2 exif == 42) ≡ true = eq-eqb (number_at le 2 2 exif) 42 h in
-    let d' : directory ≡ drop (number_at le 4 4 exif) exif = d ∙ ap (λ (k : ℕ). drop k exif) o in
-    (λ i. orientation_among le (entries_in (n i) (e i)))
-    ∙ ap (λ (l : List ℕ). orientation_among le (entries_of le l)) d'
-    ∙ ap (λ (b : Bool). orientation_among le (if b then entries_of le (drop (number_at le 4 4 exif) exif) else []))
-    (sym t)
+    grind (arith, common_steps, eq-eqb)
 
 -- ---- the order of the bytes
 
@@ -92,34 +83,22 @@ none-if false false x y h k = refl
 
 pub cut_exif : (exif : List ℕ) → length exif < 2 → orientation_in exif ≡ None
 unfolding orientation_in
-cut_exif exif h =
-    none-if (number_at true 0 2 exif == 18761) (number_at true 0 2 exif == 19789)
-    (orientation_among true (first_directory true exif)) (orientation_among false (first_directory false exif))
-    (no_directory true exif (omega (arith, length-drop {A = ℕ})))
-    (no_directory false exif (omega (arith, length-drop {A = ℕ})))
+cut_exif exif h = grind (arith, common_steps, none-if, no_directory, length-drop)
 
 pub lower_exif : (exif : List ℕ) → number_at true 0 2 exif ≡ 18761
     → orientation_among true (first_directory true exif) ≡ orientation_in exif
 unfolding orientation_in
-lower_exif exif h =
-    let e : (number_at true 0 2 exif == 18761) ≡ true = eq-eqb (number_at true 0 2 exif) 18761 h in
-    rw e refl
+lower_exif exif h = grind (arith, common_steps, eq-eqb)
 
 pub higher_exif : (exif : List ℕ) → number_at true 0 2 exif ≡ 19789
     → orientation_among false (first_directory false exif) ≡ orientation_in exif
 unfolding orientation_in
-higher_exif exif h =
-    let e : (number_at true 0 2 exif == 18761) ≡ false = ne_eqb (number_at true 0 2 exif) 18761 (λ k. omega (arith, h, k)) in
-    let f : (number_at true 0 2 exif == 19789) ≡ true = eq-eqb (number_at true 0 2 exif) 19789 h in
-    rw (e, f) refl
+higher_exif exif h = grind (arith, common_steps, ne_eqb, eq-eqb)
 
 pub other_exif : (exif : List ℕ) → (number_at true 0 2 exif ≡ 18761 → ⊥) → (number_at true 0 2 exif ≡ 19789 → ⊥)
     → orientation_in exif ≡ None
 unfolding orientation_in
-other_exif exif h k =
-    let e : (number_at true 0 2 exif == 18761) ≡ false = ne_eqb (number_at true 0 2 exif) 18761 h in
-    let f : (number_at true 0 2 exif == 19789) ≡ false = ne_eqb (number_at true 0 2 exif) 19789 k in
-    rw (e, f) refl
+other_exif exif h k = grind (arith, common_steps, ne_eqb)
 
 -- ---- entries
 
@@ -128,10 +107,7 @@ pub passed : (le : Bool) (count : ℕ) (bytes : List ℕ) → 12 ≤ length byte
     → is_orientation le (take 12 bytes) ≡ false
     → orientation_among le (entries_in count bytes) ≡ orientation_among le (entries_in (count - 1) (drop 12 bytes))
 unfolding entries_in
-passed le (suc count) bytes room few h =
-    let e : nat_le 12 (length bytes) ≡ true = le-leb 12 (length bytes) room in
-    let f : suc count - 1 ≡ count = omega arith in
-    rw (e, entries_in, f) (rw h refl)
+passed le (suc count) bytes room few h = grind (arith, common_steps, nat_le, le-leb)
 passed le zero bytes room few h = absurd (omega arith)
 
 -- Or it is one.
@@ -139,7 +115,5 @@ pub met : (le : Bool) (count : ℕ) (bytes : List ℕ) → 12 ≤ length bytes �
     → is_orientation le (take 12 bytes) ≡ true
     → orientation_among le (entries_in count bytes) ≡ Some (value_of le (take 12 bytes))
 unfolding entries_in
-met le (suc count) bytes room few h =
-    let e : nat_le 12 (length bytes) ≡ true = le-leb 12 (length bytes) room in
-    rw (e, entries_in) (rw h refl)
+met le (suc count) bytes room few h = grind (arith, common_steps, nat_le, le-leb)
 met le zero bytes room few h = absurd (omega arith)

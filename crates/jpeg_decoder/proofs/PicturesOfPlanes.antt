@@ -29,6 +29,7 @@ use Rattle.jpeg_decoder.proofs.ImageSizes.{decoded-counts}
 use Rattle.jpeg_decoder.proofs.EndedPlanes.{decoded-scales, element, mapped-or}
 use Rattle.jpeg_lossless.proofs.RowLoops.{mapped-within}
 use Rattle.jpeg_streams.proofs.Soundness.{decoded-count, decoded-sized, decoded-sources}
+use Rattle.std.proofs.lemmas.Grind.{common_steps}
 
 -- ---- counts
 
@@ -44,11 +45,7 @@ pub several-seen : (items slice : List declared.Component) (f : Frame) → f.com
     → slice ≡ items → IsDecodedFrame f → length slice ≢ 1
     → (length f.components ≢ 1) × ((3 ≤ length slice) × (length slice ≤ 4))
 several-seen items slice f is same p other =
-    let long : length f.components ≡ length slice =
-    ap length is ∙ length-map items component_in ∙ sym (ap length same) in
-    let one : length f.components ≢ 1 = λ h. other (omega (arith, h, long)) in
-    let n = decoded-several f p one in
-    (one, (omega (arith, n.0, long), omega (arith, n.1, long)))
+    grind (arith, common_steps, length-map, decoded-several)
 
 pub decoded-factors : (f : Frame) → IsDecodedFrame f → AllHaveSampling f.components
 decoded-factors f p = sized_frames_have_factors f (decoded-sized f p)
@@ -160,9 +157,7 @@ popped-only xs (y ∷ front) x e h = absurd (omega (arith, ap length e, length-a
 -- the first of the components that the code has
 first-is : (items slice : List declared.Component) (d : declared.Component) → slice ≡ items → length slice ≡ 1
     → component_in (get_or slice 0 d) ≡ get_or (map component_in items) 0 (component_in (get_or slice 0 d))
-first-is items slice d e one =
-    mapped-or component_in items 0 (get_or slice 0 d) d _ (omega (arith, ap length e, one))
-    (ap (λ (l : List declared.Component). get_or l 0 d) e)
+first-is items slice d e one = grind (arith, common_steps, mapped-or)
 
 pub scale-first : (f : Frame) (items slice : List declared.Component) (d : declared.Component) → IsDecodedFrame f
     → f.components ≡ map component_in items → slice ≡ items → length slice ≡ 1 → IsScale (get_or slice 0 d).dct_scale

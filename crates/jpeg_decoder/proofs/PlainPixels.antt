@@ -1,5 +1,5 @@
 -- Where all components have the same factors, the picture of samples shows them one by one.
-use Rattle.std.proofs.Common.{◌≡◌, ℕ, ◌+◌, ◌*◌, ◌/◌, ◌<◌, List, [], ◌∷◌, ◌++◌, map, length, refl, ap, ap₂, ◌∙◌, arith}
+use Rattle.std.proofs.Common.{◌≡◌, ℕ, ◌+◌, ◌*◌, ◌/◌, ◌<◌, List, [], ◌∷◌, ◌++◌, map, length, refl, ap, ap₂, arith}
 use Rattle.std.specs.List.{AllByRecursion, concat, range_with_len}
 use Rattle.std.proofs.lemmas.Nat.{div-mul-add}
 use Rattle.jpeg_segments.specs.Frame.{Component, Frame}
@@ -8,11 +8,10 @@ use Rattle.jpeg_lossless.specs.Places.{at_place}
 use Rattle.jpeg_streams.specs.PlainSamples.{HasEqualFactors, plain_picture}
 use Rattle.jpeg_streams.specs.WrittenLossless.{Samples, picture_of_samples, pixel_from}
 use Rattle.jpeg_streams.proofs.LosslessSizes.{some-across, some-down}
+use Rattle.std.proofs.lemmas.Grind.{common_steps}
 
 through : (x factor most : ℕ) → 0 < most → factor ≡ most → x * factor / most ≡ x
-through x factor most h e =
-    let z : x * most ≡ x * most + 0 = omega arith in
-    ap (λ (n : ℕ). x * n / most) e ∙ ap (λ (n : ℕ). n / most) z ∙ div-mul-add x most 0 h
+through x factor most h e = grind (arith, common_steps, div-mul-add)
 
 pixel-plain : (frame : Frame) (samples : Samples) (y x place : ℕ) (cs : List Component)
     → AllByRecursion (λ c. (c.factors.horizontal ≡ most_across frame) × (c.factors.vertical ≡ most_down frame)) cs
@@ -30,6 +29,4 @@ pixel-plain frame samples y x place (c ∷ cs) h =
 pub picture-plain : (frame : Frame) (samples : Samples) → HasEqualFactors frame
     → picture_of_samples frame samples ≡ plain_picture frame samples
 unfolding picture_of_samples plain_picture
-picture-plain frame samples h =
-    (λ i. concat (map (λ y. concat (map (λ x. pixel-plain frame samples y x 0 frame.components h i)
-    (range_with_len 0 frame.width))) (range_with_len 0 frame.height)))
+picture-plain frame samples h = grind (arith, common_steps, pixel-plain)

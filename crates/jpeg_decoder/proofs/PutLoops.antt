@@ -1,6 +1,6 @@
 -- The loops that add the planes and the blocks of a scan's components, one after the other.
-use Rattle.std.proofs.Common.{◌≡◌, ◌<◌, ℕ, zero, suc, ◌+◌, ◌*◌, ℤ, true, Option, Some, None, List, [], ◌∷◌, refl, sym}
-use Rattle.std.proofs.Common.{ap, ap₂, ◌∙◌, length, get_or, set, map, drop, arith}
+use Rattle.std.proofs.Common.{◌≡◌, ◌<◌, ℕ, zero, suc, ◌+◌, ◌*◌, ℤ, true, Some, None, List, [], ◌∷◌, refl, sym}
+use Rattle.std.proofs.Common.{ap, ◌∙◌, length, get_or, set, map, drop, arith}
 use Rattle.std.proofs.lemmas.List.{drop-set-lt, drop_more, get_or-map, length-map, map-set}
 use Rattle.std.specs.declared.alloc.Global.{Global}
 use Rattle.std.specs.declared.vec.Vec.{Vec}
@@ -16,8 +16,9 @@ use Rattle.jpeg_decoder.specs.declared.decoded.Decoded.{Decoded}
 use Rattle.jpeg_streams.specs.InTurn.{AreArrays}
 use Rattle.jpeg_decoder.specs.Seen.{planes_in}
 use Rattle.jpeg_bits.specs.BlockView.{to_block}
-use Rattle.std.specs.Prelude.{slice_set, slice_index_or, option_map}
+use Rattle.std.specs.Prelude.{slice_set, slice_index_or}
 use Rattle.jpeg_decoder.proofs.DecidedPlanes.{its_plane_set}
+use Rattle.std.proofs.lemmas.Grind.{common_steps}
 
 -- the first of those that are left, in a list that is seen by a function
 pub seen-any : {A B : Type 0} (f : A → B) (xs : List A) (i : ℕ) (d : A) → i < length xs
@@ -68,17 +69,7 @@ pub put-step : (cs : List Coded) (i : ℕ) (d : Coded) (arrays held : List Held)
     ≡ put_arrays (drop i (map coding_in cs)) (drop i (arrays_in arrays)) (arrays_in held)
 unfolding put_arrays
 put-step cs i d arrays held empty blocks h e is =
-    let c = get_or cs i d in
-    let front : drop i (map coding_in cs) ≡ coding_in c ∷ drop (i + 1) (map coding_in cs) =
-    seen-any coding_in cs i d h in
-    let back : drop i (arrays_in arrays) ≡ blocks_in blocks ∷ drop (i + 1) (arrays_in arrays) =
-    seen-at blocks_in arrays i blocks (omega arith) is in
-    let rest : drop (i + 1) (arrays_in (set arrays i empty)) ≡ drop (i + 1) (arrays_in arrays)
-    = ap (drop (i + 1)) (map-set blocks_in arrays i empty)
-    ∙ drop-set-lt (i + 1) (arrays_in arrays) i (blocks_in empty) (omega arith) in
-    ap₂ (λ (a b : Arrays). put_arrays (drop (i + 1) (map coding_in cs)) a b) rest (map-set blocks_in held c.place
-    blocks)
-    ∙ sym (ap₂ (λ (l : List Coding) (a : Arrays). put_arrays l a (arrays_in held)) front back)
+    grind (arith, common_steps, seen-any, seen-at, map-set, drop-set-lt)
 
 -- ---- the planes and the blocks of a slot
 
@@ -91,17 +82,7 @@ pub planes-step : (p : Pass) (cs : List Coded) (i : ℕ) (d : Coded) (planes : L
     ≡ with_planes p (drop i (map coding_in cs)) (drop i (map (λ (v : Vec ℕ Global). v.items) planes)) before
 unfolding with_planes
 planes-step p cs i d planes empty plane before after h e is made =
-    let c = get_or cs i d in
-    let items : Vec ℕ Global → List ℕ = λ v. v.items in
-    let front : drop i (map coding_in cs) ≡ coding_in c ∷ drop (i + 1) (map coding_in cs) =
-    seen-any coding_in cs i d h in
-    let back : drop i (map items planes) ≡ plane.items ∷ drop (i + 1) (map items planes) =
-    seen-at items planes i plane (omega arith) is in
-    let rest : drop (i + 1) (map items (set planes i empty)) ≡ drop (i + 1) (map items planes)
-    = ap (drop (i + 1)) (map-set items planes i empty)
-    ∙ drop-set-lt (i + 1) (map items planes) i empty.items (omega arith) in
-    ap₂ (λ (ps : List (List ℕ)) (f : Found). with_planes p (drop (i + 1) (map coding_in cs)) ps f) rest made
-    ∙ sym (ap₂ (λ (l : List Coding) (ps : List (List ℕ)). with_planes p l ps before) front back)
+    grind (arith, common_steps, seen-any, seen-at, map-set, drop-set-lt)
 
 pub arrays-step : (p : Pass) (cs : List Coded) (i : ℕ) (d : Coded) (arrays : List Held) (blocks : Held)
     (before after : Found)
@@ -112,14 +93,7 @@ pub arrays-step : (p : Pass) (cs : List Coded) (i : ℕ) (d : Coded) (arrays : L
     ≡ with_arrays p (drop i (map coding_in cs)) (drop i (arrays_in arrays)) before
 unfolding with_arrays
 arrays-step p cs i d arrays blocks before after h k is made =
-    let c = get_or cs i d in
-    let front : drop i (map coding_in cs) ≡ coding_in c ∷ drop (i + 1) (map coding_in cs) =
-    seen-any coding_in cs i d h in
-    let back : drop i (arrays_in arrays) ≡ blocks_in blocks ∷ drop (i + 1) (arrays_in arrays) =
-    seen-at blocks_in arrays i blocks k is in
-    ap (with_arrays p (drop (i + 1) (map coding_in cs)) (drop (i + 1) (arrays_in arrays)))
-    (made ∙ sym (blocks-are p (coding_in c) (blocks_in blocks) before))
-    ∙ sym (ap₂ (λ (l : List Coding) (a : Arrays). with_arrays p l a before) front back)
+    grind (arith, common_steps, seen-any, seen-at, blocks-are)
 
 -- each component has its blocks
 pub sized-at : (cs : List Coded) (vs : List Held) (i : ℕ) (d : Coded) (v : Held)
@@ -148,14 +122,4 @@ pub decided-as : (p : Pass) (place : ℕ) (plane : Vec ℕ Global) (base : Found
     → with_decoded base (record new { planes = slice_set new.planes place (Some plane) }) ≡ with_its_plane p place
     plane.items (with_decoded base old)
 decided-as p place plane base old new a s b e w =
-    (λ i. record base {
-      held = arrays_in (a i).items;
-      finished = new.finished;
-      planes = planes_in (slice_set new.planes place (Some plane));
-      samples = planes_in (s i);
-    })
-    ∙ its_plane_set p place plane.items (with_decoded base old) new.finished
-    (planes_in (slice_set new.planes place (Some plane))) e
-    (map-set (λ (q : Option (Vec ℕ Global)). option_map (λ (v : Vec ℕ Global). v.items) q) new.planes place (Some plane)
-    ∙ ap (λ (ps : List (Option (List ℕ))). slice_set ps place (Some plane.items)) b)
-    (sym w)
+    grind (arith, common_steps, its_plane_set, map-set)

@@ -1,13 +1,14 @@
 -- Sampling ratios are refused by name alone.
-use Rattle.std.proofs.Common.{◌≡◌, ℕ, List, [], ◌∷◌, Result, Ok, Err, Option, Some}
+use Rattle.std.proofs.Common.{◌≡◌, ℕ, List, [], ◌∷◌, Result, Ok, Err, Option, Some, arith}
 use Rattle.jpeg_bits.specs.Reading.{Fault, End, Names, ◌>>=◌}
 use Rattle.jpeg_bits.specs.declared.error.Error.{Error}
 use Rattle.jpeg_bits.specs.declared.error.Error.TheVariants.{Io, Internal}
-use Rattle.jpeg_segments.specs.Frame.{Component, greatest}
+use Rattle.jpeg_segments.specs.Frame.{Component}
 use Rattle.jpeg_pixels.specs.declared.upsampler.UpsampleRule.{UpsampleRule}
 use Rattle.jpeg_pixels.specs.Upsampling.{rule_of}
-use Rattle.jpeg_pixels.specs.Pictures.{Source, source_by, sources_by, sources_of, all_factors}
+use Rattle.jpeg_pixels.specs.Pictures.{Source, source_by, sources_by, sources_of}
 use Rattle.jpeg_decoder.specs.Steps.{IsRefusal}
+use Rattle.std.proofs.lemmas.Grind.{common_steps}
 
 one : (c : Component) (rule : Option UpsampleRule) (others : Result (List Source) Fault) → (others ≡ Err End → ⊥)
     → (source_by c rule >>= λ (s : Source). (others >>= λ (rest : List Source). Ok (s ∷ rest))) ≡ Err End → ⊥
@@ -29,7 +30,4 @@ refused _ o h n = tt
 
 pub ratios-refused : (e : Error) (components : List Component) (width height : ℕ)
     → Names e (sources_of components width height) → IsRefusal e
-ratios-refused e components width height n =
-    refused e (sources_of components width height)
-    (never-end (greatest (λ f. f.horizontal) (all_factors components))
-    (greatest (λ f. f.vertical) (all_factors components)) width height components) n
+ratios-refused e components width height n = grind (arith, common_steps, refused, never-end)

@@ -1,6 +1,6 @@
 -- Lossless streams for the same samples mean the same picture.
-use Rattle.std.proofs.Common.{◌≡◌, ◌⊎◌, inl, inr, ℕ, ◌*◌, ◌<◌, ◌≤◌, List, [], ◌++◌, map, length, Ok, Some, sym, ap, ap₂, ◌∙◌}
-use Rattle.std.proofs.Common.{subst}
+use Rattle.std.proofs.Common.{◌≡◌, ◌⊎◌, inl, inr, ℕ, ◌*◌, ◌<◌, ◌≤◌, List, [], ◌++◌, map, length, Ok, Some, sym, ap, ◌∙◌}
+use Rattle.std.proofs.Common.{subst, arith}
 use Rattle.std.proofs.lemmas.Bool.{cases_lt}
 use lib.ListN.{length-map}
 use Rattle.jpeg_bits.specs.Reading.{◌>>=◌}
@@ -14,6 +14,7 @@ use Rattle.jpeg_streams.proofs.LosslessFrames.{IsShaped}
 use Rattle.jpeg_streams.proofs.SamplesAlike.{pictures-alike}
 use Rattle.jpeg_decoder.proofs.LosslessPixels.{final-shaped, lossless-means}
 use Rattle.jpeg_decoder.proofs.WrittenLosslessStreams.{nothing-said, samples-refused}
+use Rattle.std.proofs.lemmas.Grind.{common_steps}
 
 -- how many samples a frame's picture has
 abbrev count_of : Frame → ℕ
@@ -26,10 +27,7 @@ shaped samples bytes final frame w e =
 
 counts-same : (f g : Frame) → IsShaped f → IsShaped g → f.width ≡ g.width → f.height ≡ g.height
     → map sampling_of f.components ≡ map sampling_of g.components → count_of f ≡ count_of g
-counts-same f g p q w h e =
-    ap₂ (λ (a b : ℕ). a * b)
-    (sym (length-map f.components sampling_of) ∙ ap length e ∙ length-map g.components sampling_of)
-    (ap₂ (λ (a b : ℕ). a * b) (p.across ∙ w ∙ sym q.across) (p.down ∙ h ∙ sym q.down))
+counts-same f g p q w h e = grind (arith, common_steps, length-map)
 
 pub samples-alike : (settings : Settings) (samples : Samples) (first second rest others : List ℕ) (a b : Found)
     → WritesSamples samples first a → WritesSamples samples second b → ShowAlike a b

@@ -1,6 +1,6 @@
 -- The codings of a scan, slot after slot.
 use Rattle.std.proofs.Common.{◌≡◌, ◌<◌, ◌≤◌, ◌+◌, ℕ, zero, suc, List, [], ◌∷◌, ◌++◌, Result, Ok, Err, refl, sym, ap}
-use Rattle.std.proofs.Common.{◌∙◌, length, get_or, map, drop, arith}
+use Rattle.std.proofs.Common.{length, get_or, map, drop, arith}
 use Rattle.std.proofs.lemmas.List.{map-append, append-nil, append_assoc, drop_all}
 use Rattle.jpeg_bits.specs.Passes.{Pass}
 use Rattle.jpeg_bits.specs.Reading.{Fault, ◌>>=◌}
@@ -11,6 +11,7 @@ use Rattle.jpeg_decoder.specs.declared.scan.Coded.{Coded}
 use Rattle.jpeg_streams.specs.ScanSegments.{codings_from, component_coding, Coding, tables_of, pass_of}
 use Rattle.jpeg_streams.specs.Found.{Found}
 use Rattle.jpeg_decoder.specs.Steps.{coding_in, coding_in_slot, codings_in_force}
+use Rattle.std.proofs.lemmas.Grind.{common_steps}
 
 -- codings after those in front
 abbrev pub front : List Coding → Result (List Coding) Fault → Result (List Coding) Fault
@@ -50,11 +51,7 @@ pub codings-more : (found : Found) (frame : Frame) (scan : Scan) (slot : ℕ) (x
     → codings_in_force found frame scan
     ≡ front (map coding_in (xs ++ c ∷ [])) (codings_left found frame scan (slot + 1))
 codings-more found frame scan slot xs c h d a w e =
-    w ∙ ap (front (map coding_in xs)) (one-more found frame (pass_of scan) (tables_of found scan) scan.components
-    scan.dc_places scan.ac_places slot h d a ∙ (rw e refl))
-    ∙ front-one (map coding_in xs) (coding_in c) (codings_left found frame scan (slot + 1))
-    ∙ ap (λ (l : List Coding). front l (codings_left found frame scan (slot + 1)))
-    (sym (map-append coding_in xs (c ∷ [])))
+    grind (arith, common_steps, one-more, front-one, map-append)
 
 -- a slot that is refused
 pub codings-fail : (found : Found) (frame : Frame) (scan : Scan) (slot : ℕ) (xs : List Coded) (f : Fault)
@@ -63,11 +60,7 @@ pub codings-fail : (found : Found) (frame : Frame) (scan : Scan) (slot : ℕ) (x
     → codings_in_force found frame scan ≡ front (map coding_in xs) (codings_left found frame scan slot)
     → coding_in_slot found frame scan slot ≡ Err f
     → codings_in_force found frame scan ≡ Err f
-codings-fail found frame scan slot xs f h d a w e =
-    let one : codings_left found frame scan slot ≡ Err f =
-    one-more found frame (pass_of scan) (tables_of found scan) scan.components scan.dc_places scan.ac_places slot h d
-    a ∙ (rw e refl) in
-    w ∙ ap (front (map coding_in xs)) one
+codings-fail found frame scan slot xs f h d a w e = grind (arith, common_steps, one-more)
 
 none-left : (found : Found) (frame : Frame) (p : Pass) (tables : Tables) (cs ds acs : List ℕ) → cs ≡ []
     → codings_from found frame p tables cs ds acs ≡ Ok []
@@ -80,7 +73,4 @@ pub codings-all : (found : Found) (frame : Frame) (scan : Scan) (slot : ℕ) (xs
     → codings_in_force found frame scan ≡ front (map coding_in xs) (codings_left found frame scan slot)
     → codings_in_force found frame scan ≡ Ok (map coding_in xs)
 codings-all found frame scan slot xs h w =
-    w ∙ ap (front (map coding_in xs)) (none-left found frame (pass_of scan) (tables_of found scan)
-    (drop slot scan.components) (drop slot scan.dc_places) (drop slot scan.ac_places)
-    (drop_all slot scan.components h))
-    ∙ ap (λ (l : List Coding). Ok l) (append-nil (map coding_in xs))
+    grind (arith, common_steps, none-left, drop_all, append-nil)

@@ -1,6 +1,6 @@
 -- The data of a scan, of what is read of its blocks, and the planes that it decides.
 use Rattle.std.proofs.Common.{◌≡◌, ◌<◌, ℕ, zero, suc, ◌+◌, ◌*◌, Bool, true, false, Option, Some, None, Result, Ok, Err}
-use Rattle.std.proofs.Common.{List, [], ◌∷◌, refl, sym, ap, ap₂, subst, ◌∙◌, length, get_or, set, map, drop, arith}
+use Rattle.std.proofs.Common.{List, [], ◌∷◌, refl, sym, ap, subst, ◌∙◌, length, get_or, set, map, drop, arith}
 use Rattle.std.proofs.Math.Logic.{inl, inr}
 use Rattle.std.specs.Prelude.{All, OnOk, slice_set, slice_index_or}
 use Rattle.std.specs.List.{AllByRecursion, list_all}
@@ -33,6 +33,8 @@ use Rattle.jpeg_decoder.proofs.BlocksBefore.{plane_by-length}
 use Rattle.jpeg_decoder.proofs.PlacedCodings.{coded-components}
 use Rattle.jpeg_decoder.proofs.PutLoops.{Held, blocks-are}
 use Rattle.jpeg_streams.proofs.ScanArrays.{IsOf, first-at, zeros-of}
+use Rattle.std.proofs.lemmas.Grind.{common_steps}
+use Rattle.std.proofs.Common.{rules}
 
 -- ---- the scan's components
 
@@ -175,9 +177,8 @@ data-held f frame p codings arrays met bytes rest one two held e r added fin pl 
 pub data-held-refused : (f : Found) (frame : Frame) (p : Pass) (codings : List Coding) (bytes : List ℕ) (fault : Fault)
     → read_at f frame p codings (blocks_at codings (arrays_before f frame)) bytes ≡ Err fault
     → scan_data f frame p codings bytes ≡ Err fault
-data-held-refused f frame p codings bytes fault r =
-    data-is f frame p codings bytes ∙ ap (λ (o : Outcome (Arrays × Option Marker)). o >>= after_read f frame p codings)
-    r
+unfolding scan_data
+data-held-refused f frame p codings bytes fault r = search (rules)
 
 -- A scan of a sequential frame.
 
@@ -342,11 +343,7 @@ pub read-as : (f : Found) (frame : Frame) (p : Pass) (cs : List Coded) (n : ℕ)
     → n ≡ f.restart
     → read_at f frame p (map coding_in cs) arrays bytes ≡ arrays_at p (n * mcu_size (components_in cs)) (vias_in 0 cs)
     (spots_of frame (components_in cs)) arrays bytes
-read-as f frame p cs n arrays bytes e =
-    ap (λ (v : List Via). arrays_at p (f.restart * mcu_size (components_of (map coding_in cs))) v
-    (spots_of frame (components_of (map coding_in cs))) arrays bytes) (vias-same 0 cs)
-    ∙ ap₂ (λ (l : List Component) (k : ℕ). arrays_at p (k * mcu_size l) (vias_in 0 cs) (spots_of frame l) arrays bytes)
-    (coded-components cs) (sym e)
+read-as f frame p cs n arrays bytes e = grind (arith, common_steps, vias-same, coded-components)
 
 -- the places of a scan's components are places of the arrays
 pub coded-within-held : (frame : Frame) (cs : List Coded) (held : List Held)

@@ -1,6 +1,6 @@
 -- The order of a scan is that of its blocks.
 use Rattle.std.proofs.Common.{◌≡◌, ℕ, zero, suc, ◌+◌, ◌-◌, ◌*◌, ◌<◌, List, [], ◌∷◌, ◌++◌, map, length, get_or, refl}
-use Rattle.std.proofs.Common.{sym, subst, ap, ap₂, ◌∙◌, arith, add-mul}
+use Rattle.std.proofs.Common.{sym, subst, ap, ap₂, ◌∙◌, arith, add-mul, rules}
 use Rattle.std.proofs.Math.Nat.{mul_comm}
 use Rattle.std.proofs.lemmas.List.{length-map}
 use Rattle.std.proofs.lemmas.List.FromFn.{length-map-range_with_len}
@@ -8,7 +8,7 @@ use Rattle.std.proofs.lemmas.List.Sums.{sum_by-cons}
 use Rattle.std.specs.Prelude.{min, sum_by}
 use Rattle.std.specs.List.{AllByRecursion, range_with_len, flat_map}
 use Rattle.jpeg_segments.specs.Frame.{Frame, Component}
-use Rattle.jpeg_streams.specs.Order.{Spot, grid_of, mcu_size, all_spots, own_spots, spots_of}
+use Rattle.jpeg_streams.specs.Order.{Spot, grid_of, mcu_size, own_spots, spots_of}
 use Rattle.jpeg_streams.specs.InTurn.{Fits}
 use Rattle.jpeg_streams.specs.McuRows.{row_at, rows_of}
 use Rattle.jpeg_streams.proofs.CountedScans.{some-product}
@@ -17,9 +17,10 @@ use Rattle.jpeg_decoder.specs.declared.scan.Coded.{Coded}
 use Rattle.jpeg_decoder.specs.declared.scan_order.ScanOrder.{ScanOrder}
 use Rattle.jpeg_decoder.specs.Scanning.{components_in}
 use Rattle.jpeg_decoder.specs.declared.spots.Member.{Member}
-use Rattle.jpeg_decoder.specs.Walk.{IsOrderOf, walk_of_row, walks_of_rows, spots_at, raster, members_from}
+use Rattle.jpeg_decoder.specs.Walk.{IsOrderOf, walks_of_rows, spots_at, raster, members_from}
 use Rattle.jpeg_decoder.specs.Walk.{line_members, part_members, member_of, own_member}
 use Rattle.jpeg_decoder.proofs.OrderedWalks.{all_walked, own_walked}
+use Rattle.std.proofs.lemmas.Grind.{common_steps}
 
 -- ---- the number of members
 
@@ -51,9 +52,7 @@ length-members slot (c ∷ cs) =
     ∙ sym (sum_by-cons (λ (c : Component). c.factors.horizontal * c.factors.vertical) c cs)
 
 some-size : (frame : Frame) (c : Component) (cs : List Component) → Fits frame c → 0 < size_of (c ∷ cs)
-some-size frame c cs fits =
-    let e = sum_by-cons (λ (c : Component). c.factors.horizontal * c.factors.vertical) c cs in
-    let p = some-product c.factors.horizontal c.factors.vertical fits.horizontal fits.vertical in omega arith
+some-size frame c cs fits = grind (arith, common_steps, sum_by-cons, some-product)
 
 -- ---- several components
 
@@ -63,22 +62,7 @@ pub several-order : (frame : Frame) (cs : List Component) (n : ℕ) (o : ScanOrd
     → IsOrderOf frame cs n o
 unfolding mcu_size spots_of row_at
 several-order frame (c ∷ d ∷ more) n o h fits members wide high lines rows interval =
-    let cs = c ∷ d ∷ more in
-    let size : length o.members.items ≡ size_of cs
-    = ap (λ (l : List Member). length l) members ∙ length-members 0 cs in
-    let walked : (k : ℕ) → spots_at o.members.items (raster o.wide k) ≡ all_spots frame.mcus_wide k cs
-    = λ k. ap₂ (λ (l : List Member) (w : ℕ). spots_at l (raster w k)) members wide
-    ∙ all_walked frame.mcus_wide k cs in
-    record {
-      some = let s = some-size frame c (d ∷ more) fits.0 in omega arith;
-      interval = interval ∙ ap (λ (k : ℕ). n * k) size;
-      rows = rows;
-      all = walked o.high ∙ ap (λ (k : ℕ). all_spots frame.mcus_wide k cs) high;
-      each = λ row lt.
-          let one : min 1 (o.high - row * 1) ≡ 1 = omega arith in
-          ap (λ (k : ℕ). spots_at o.members.items (raster o.wide (min k (o.high - row * k)))) lines
-          ∙ ap (λ (k : ℕ). spots_at o.members.items (raster o.wide k)) one ∙ walked 1;
-    }
+    grind (arith, common_steps, length-members, all_walked, some-size)
 several-order frame _ n o h fits members wide high lines rows interval = absurd (omega arith)
 
 pub several-of : (frame : Frame) (cs : List Coded) (n : ℕ) (o : ScanOrder) → 1 < length cs
@@ -86,8 +70,7 @@ pub several-of : (frame : Frame) (cs : List Coded) (n : ℕ) (o : ScanOrder) →
     → o.wide ≡ frame.mcus_wide → o.high ≡ frame.mcus_high → o.lines ≡ 1 → o.rows ≡ frame.mcus_high
     → o.interval ≡ n * length o.members.items → IsOrderOf frame (components_in cs) n o
 several-of frame cs n o several fits members wide high lines rows interval =
-    let l = length-map cs (λ (c : Coded). component_in c.component.now) in
-    several-order frame (components_in cs) n o (omega arith) fits members wide high lines rows interval
+    search (rules, length-map, several-order)
 
 -- ---- a component that is alone
 
@@ -133,6 +116,4 @@ range-same f g a (suc n) h =
 
 pub rows-walked : (frame : Frame) (cs : List Component) (n : ℕ) (o : ScanOrder) → IsOrderOf frame cs n o
     → walks_of_rows o ≡ rows_of frame cs
-rows-walked frame cs n o is =
-    ap (λ (k : ℕ). map (walk_of_row o) (range_with_len 0 k)) is.rows
-    ∙ range-same (walk_of_row o) (row_at frame cs) 0 frame.mcus_high (λ k lt. is.each k (omega arith))
+rows-walked frame cs n o is = grind (arith, common_steps, range-same)

@@ -1,28 +1,27 @@
 -- The steps of a scan that is read, and what they are to a segment of the stream.
-use Rattle.std.proofs.Common.{◌≡◌, ℕ, suc, Bool, true, false, List, length, Option, Some, Result, Ok, Err, refl, sym}
-use Rattle.std.proofs.Common.{ap, ◌∙◌}
+use Rattle.std.proofs.Common.{◌≡◌, ℕ, suc, Bool, true, false, List, length, Option, Some, Result, Ok, Err, refl}
+use Rattle.std.proofs.Common.{◌∙◌, arith}
 use Rattle.jpeg_bits.specs.Stream.{Stream}
 use Rattle.jpeg_bits.specs.Reading.{Answers, Fault, MayFail, Names, Outcome, ◌>>=◌}
 use Rattle.jpeg_bits.specs.Passes.{Pass}
 use Rattle.jpeg_bits.specs.declared.error.Error.{Error}
 use Rattle.jpeg_bits.specs.declared.error.Error.TheVariants as errors
 use Rattle.jpeg_bits.specs.declared.marker.Marker.{Marker}
-use Rattle.jpeg_bits.proofs.Loops.{Continues, Continues-err, Names-through, bind_at, bind_err, still_known}
+use Rattle.jpeg_bits.proofs.Loops.{Continues, Continues-err, bind_at, bind_err, still_known}
 use Rattle.jpeg_segments.specs.Frame.{Frame}
 use Rattle.jpeg_segments.specs.declared.parser.CodingProcess.{CodingProcess}
 use Rattle.jpeg_segments.specs.declared.parser.CodingProcess.TheVariants.{Lossless}
 use Rattle.jpeg_segments.specs.ScanHeader.{Scan, sos_at}
 use Rattle.jpeg_streams.specs.declared.before.Before.{Before}
 use Rattle.jpeg_streams.specs.Scans.{Arrays}
-use Rattle.jpeg_streams.specs.Needed.{needed}
 use Rattle.jpeg_streams.specs.ScanSegments.{blocks_scan, after_restarts, after_scan, codings_of, Coding, scan_by}
-use Rattle.jpeg_streams.specs.ScanSegments.{lossless_scan, scan_samples, scan_before, scan_arrays, pass_of}
+use Rattle.jpeg_streams.specs.ScanSegments.{lossless_scan, scan_before, scan_arrays, pass_of}
 use Rattle.jpeg_streams.specs.ScanSegments.{scan_segment}
 use Rattle.jpeg_streams.specs.Segments.{Turn}
 use Rattle.jpeg_streams.specs.Found.{Found}
-use Rattle.jpeg_streams.specs.LosslessScans.{lossless_codings}
 use Rattle.jpeg_decoder.specs.Steps.{IsDct, IsRefusal, after_all, blocks_read, codings_in_force, read_by, samples_read}
 use Rattle.jpeg_decoder.specs.Steps.{scan_data, scan_read}
+use Rattle.std.proofs.lemmas.Grind.{common_steps}
 
 -- ---- calls on a source
 
@@ -35,13 +34,8 @@ refusal-fails _ a b r h = h
 pub refused : {X Y Z : Type 0} (view : X → Y) (whole rest : List ℕ → Outcome Y) (old new : Stream) (e : Error)
     (o : Result Z Fault) → Continues whole old rest new → IsRefusal e → Names e o
     → ((f : Fault) → o ≡ Err f → rest new.bytes ≡ Err f) → Answers view whole old (Err e) new
-refused view whole rest old new e o p r n through = (
-  refusal-fails e old.failed new.failed r p.0,
-  λ k known.
-      let at = p.1 k in
-      Names-through e _ _ (λ f h. at.1 ∙ through f h) n,
-  λ k unknown. still_known e new.failed (p.1 k).0 unknown,
-)
+refused view whole rest old new e o p r n through =
+    grind (arith, common_steps, refusal-fails, through, still_known)
 
 -- the last step of the whole
 pub last-step : {X Y W : Type 0} (view : X → Y) (v : X → W) (whole rest : List ℕ → Outcome Y) (read : List ℕ
@@ -79,9 +73,7 @@ codings-refused found frame scan bytes f e =
 codings-read : (found : Found) (frame : Frame) (scan : Scan) (p : Pass) (codings : List Coding) (bytes : List ℕ)
     → codings_in_force found frame scan ≡ Ok codings → p ≡ pass_of scan
     → after_header found frame scan bytes ≡ after_codings found frame p codings bytes
-codings-read found frame scan p codings bytes e is =
-    bind_at (λ (codings : List Coding). after_codings found frame (pass_of scan) codings bytes) _ codings e
-    ∙ ap (λ (q : Pass). after_codings found frame q codings bytes) (sym is)
+codings-read found frame scan p codings bytes e is = grind (arith, common_steps, bind_at)
 
 -- what a call has read of a source that is known
 abbrev pub HasRead : {Y : Type 0} → (List ℕ → Outcome Y) → Stream → Y → Stream → Type 0
@@ -102,18 +94,7 @@ pub header-read : (found : Found) (frame : Frame) (scan : Scan) (old new : Strea
     → found.frame ≡ Some frame → (frame.process ≡ Lossless → ⊥) → HasRead (sos_at frame) old scan new
     → Continues (scan_read found) old (after_header found frame scan) new
 unfolding scan_read blocks_read
-header-read found frame scan old new e process has = (
-  has.0,
-  λ k.
-      let at = has.1 k in (
-        at.0,
-        ap (λ (o : Option Frame). needed o >>= (λ (f : Frame). sos_at f old.bytes
-            >>= (λ (s : Scan × List ℕ). read_by f.process found f s.0 s.1))) e
-            ∙ bind_at (λ (s : Scan × List ℕ). read_by frame.process found frame s.0 s.1) (sos_at frame old.bytes)
-            (scan, new.bytes) at.1
-            ∙ by-blocks frame.process found frame scan new.bytes process,
-      ),
-)
+header-read found frame scan old new e process has = grind (arith, common_steps, bind_at, by-blocks)
 
 pub data-begun : (whole : List ℕ → Outcome (Found × Option Marker)) (found : Found) (frame : Frame) (scan : Scan)
     (p : Pass)
@@ -132,18 +113,7 @@ pub scan-ends : (whole rest : List ℕ → Outcome (Found × Option Marker)) (ne
     → Answers (λ (m : Option Marker). m) (after_all met) mid r new
     → Answers (λ (m : Option Marker). (next, m)) whole old r new
 scan-ends whole rest next met old cur mid new r read is begun has ends =
-    last-step {X = Option Marker} (λ m. (next, m)) (λ m. m) whole (λ bytes. after_data ((next, met), bytes))
-    (after_all met)
-    old mid new r
-    (λ m h. bind_at (λ (m : Option Marker × List ℕ). Ok ((next, m.0), m.1)) _ (m, new.bytes) h)
-    (λ f h. bind_err (λ (m : Option Marker × List ℕ). Ok ((next, m.0), m.1)) _ f h) (
-      has.0 ∙ begun.0,
-      λ k.
-          let at = begun.1 k in
-          let by = has.1 at.0 in
-          (by.0, at.1 ∙ is cur.bytes ∙ bind_at after_data _ ((next, met), mid.bytes) by.1),
-    )
-    ends
+    grind (arith, common_steps, last-step, bind_at, bind_err)
 
 -- ---- a segment of the stream
 
@@ -191,11 +161,7 @@ blocks-parts found frame scan bytes =
 samples-parts : (found : Found) (frame : Frame) (scan : Scan) (bytes : List ℕ)
     → lossless_scan found frame scan bytes ≡ (samples_read found frame scan bytes >>= scan_turn found)
 unfolding lossless_scan samples_read after_all
-samples-parts found frame scan bytes =
-    through (lossless_codings found.huffman.dc frame scan.components scan.dc_places) _ _ (scan_turn found) (λ codings.
-    through (scan_samples found frame scan codings bytes) _ _ (scan_turn found)
-    (λ (r : (List (List ℕ) × Option Marker) × List ℕ).
-    through (after_restarts (suc (length r.1)) r.0.1 r.1) _ _ (scan_turn found) (λ met. refl)))
+samples-parts found frame scan bytes = grind (arith, common_steps, through)
 
 process-parts : (p : CodingProcess) (found : Found) (frame : Frame) (scan : Scan) (bytes : List ℕ)
     → scan_by p found frame scan bytes ≡ (read_by p found frame scan bytes >>= scan_turn found)
@@ -205,10 +171,7 @@ process-parts _ found frame scan bytes = blocks-parts found frame scan bytes
 -- A segment of a scan is a scan that is read.
 scan-parts : (found : Found) (bytes : List ℕ) → scan_segment found bytes ≡ (scan_read found bytes >>= scan_turn found)
 unfolding scan_segment scan_read
-scan-parts found bytes =
-    through (needed found.frame) _ _ (scan_turn found) (λ (frame : Frame).
-    through (sos_at frame bytes) _ _ (scan_turn found) (λ (scan : Scan × List ℕ).
-    process-parts frame.process found frame scan.0 scan.1))
+scan-parts found bytes = grind (arith, common_steps, through, process-parts)
 
 pub scan-turned : (found next : Found) (met : Option Marker) (b : Before) (bytes rest : List ℕ)
     → scan_read found bytes ≡ Ok ((next, met), rest) → b ≡ scan_before found

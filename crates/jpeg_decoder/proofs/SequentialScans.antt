@@ -20,6 +20,7 @@ use Rattle.jpeg_decoder.specs.declared.scan.Scan.{Scan}
 use Rattle.jpeg_decoder.proofs.DecidedScans.{IsDecided, again-read, again-refused, planes-decided}
 use Rattle.jpeg_decoder.proofs.ScanData.{data-planes, data-planes-refused, of-frame, vias-same}
 use Rattle.jpeg_decoder.proofs.StripScans.{Planes, scan-by-rows}
+use Rattle.std.proofs.lemmas.Grind.{common_steps}
 
 module _ (said : Found) (before : Decoded) (frame : Frame) (scan : Scan) (bytes : List ℕ)
     (process : is_progressive frame.process ≡ false) (ready : IsReadable frame said scan) where
@@ -80,9 +81,8 @@ pub again-planes : (p : Pass) (codings : List Coding) (base : Found) (one two : 
     → AllByRecursion (IsDecided (planes_in one.planes)) codings
     → with_decoded base two ≡ with_planes p codings (no_samples codings) (with_decoded base one)
     → planes_in two.planes ≡ planes_in one.planes
-again-planes p codings base one two decided added = ap (λ (x : Found). x.planes) (added
-    ∙ planes-decided p codings (no_samples codings) (with_decoded base one) decided
-    (length-map codings (λ (c : Coding). [])))
+again-planes p codings base one two decided added =
+    grind (arith, common_steps, planes-decided, length-map)
 
 -- the components whose planes were found to be decided
 pub are-decided : (cs : List Coded) (planes : List (Option (List ℕ)))

@@ -10,7 +10,7 @@ use Rattle.jpeg_bits.specs.DefaultTables.{luminance_dc, chrominance_dc, luminanc
 use Rattle.jpeg_bits.specs.DefaultTables.{with_defaults}
 use Rattle.jpeg_bits.specs.declared.codes.HuffmanTableClass.{HuffmanTableClass}
 use Rattle.jpeg_bits.specs.declared.codes.HuffmanTableClass.TheVariants as classes
-use Rattle.std.proofs.lemmas.Grind.{get_or_default_zero}
+use Rattle.std.proofs.lemmas.Grind.{get_or_default_zero, common_steps}
 use Rattle.jpeg_bits.specs.declared.error.Error.{Error}
 use Rattle.jpeg_bits.specs.declared.error.Error.TheVariants as errors
 use Rattle.jpeg_bits.specs.declared.scan.ScanInfo.{ScanInfo}
@@ -29,6 +29,7 @@ use Rattle.jpeg_streams.specs.Found.{Found}
 use Rattle.jpeg_decoder.specs.Seen.{found_in}
 use Rattle.jpeg_decoder.specs.Steps.{IsRefusal, IsSpareOf, coding_in_slot, default_ac, in_force, or_spare, table_if}
 use Rattle.std.proofs.lemmas.Bool.{and_parts}
+use Rattle.std.proofs.Common.{rules}
 
 -- ---- the tables in force
 
@@ -86,18 +87,14 @@ ac-by false found scan e = rw e refl
 pub forced-dc : (found : Found) (scan : Scan) (spare : Spare) (place : ℕ) → IsSpareOf found scan spare
     → length found.huffman.dc ≡ 4
     → get_or (tables_of found scan).dc place None ≡ in_force found.huffman.dc spare.dc.items place
-forced-dc found scan spare place s e =
-    ap (λ (l : List (Option Table)). get_or l place None) (dc-by found.metadata.avi1 found scan refl)
-    ∙ forced-by found.metadata.avi1 luminance_dc chrominance_dc scan.dc_places found.huffman.dc place e
-    ∙ ap (λ (l : List (Option Table)). in_force found.huffman.dc l place) (sym s.dc)
+unfolding tables_of
+forced-dc found scan spare place s e = search (rules, dc-by, forced-by)
 
 pub forced-ac : (found : Found) (scan : Scan) (spare : Spare) (place : ℕ) → IsSpareOf found scan spare
     → length found.huffman.ac ≡ 4
     → get_or (tables_of found scan).ac place None ≡ in_force found.huffman.ac spare.ac.items place
-forced-ac found scan spare place s e =
-    ap (λ (l : List (Option Table)). get_or l place None) (ac-by found.metadata.avi1 found scan refl)
-    ∙ forced-by found.metadata.avi1 luminance_ac chrominance_ac scan.ac_places found.huffman.ac place e
-    ∙ ap (λ (l : List (Option Table)). in_force found.huffman.ac l place) (sym s.ac)
+unfolding tables_of
+forced-ac found scan spare place s e = search (rules, ac-by, forced-by)
 
 -- ---- the class of an AC table in force
 
@@ -138,12 +135,7 @@ pub class-in-force : (found : Found) (scan : Scan) (spare : Spare) (needs : Bool
     → IsSpareOf found scan spare → all_ac found.huffman.ac ≡ true
     → table_if needs spare.no_ac (in_force found.huffman.ac spare.ac.items place) ≡ Ok t → t.class ≡ classes.AC
 class-in-force found scan spare needs place t s a e =
-    let none : table_if needs (no_table classes.AC) (in_force found.huffman.ac
-    (default_ac found.metadata.avi1 scan.ac_places) place) ≡ Ok t = rw (s.ac, s.no_ac) at e in
-    if-ac needs (in_force found.huffman.ac (default_ac found.metadata.avi1 scan.ac_places) place) t
-    (or-ac (get_or found.huffman.ac place None) (get_or (default_ac found.metadata.avi1 scan.ac_places) place None)
-    (read-ac found.huffman.ac place a) (spare-ac found.metadata.avi1 scan.ac_places place))
-    none
+    grind (arith, common_steps, if-ac, or-ac, read-ac, spare-ac)
 
 -- ---- what a slot gives
 
@@ -167,10 +159,7 @@ dc-needed : (found : Found) (scan : Scan) (spare : Spare) (place : ℕ) → IsSp
     → needed_if ((pass_of scan).ss == 0) classes.DC (get_or (tables_of found scan).dc place None)
     ≡ dc_of found scan spare place
 unfolding pass_of
-dc-needed found scan spare place s e =
-    ap (needed_if (scan.first == 0) classes.DC) (forced-dc found scan spare place s e)
-    ∙ needed-either (scan.first == 0) classes.DC (in_force found.huffman.dc spare.dc.items place)
-    ∙ ap (λ (t : Table). table_if (scan.first == 0) t (in_force found.huffman.dc spare.dc.items place)) (sym s.no_dc)
+dc-needed found scan spare place s e = grind (arith, common_steps, forced-dc, needed-either)
 
 ac-needed : (found : Found) (scan : Scan) (spare : Spare) (place : ℕ) → IsSpareOf found scan spare
     → length found.huffman.ac ≡ 4
@@ -178,11 +167,7 @@ ac-needed : (found : Found) (scan : Scan) (spare : Spare) (place : ℕ) → IsSp
     ≡ ac_of found scan spare place
 unfolding pass_of
 ac-needed found scan spare place s e =
-    ap (needed_if (nat_lt 0 (scan.after - 1)) classes.AC) (forced-ac found scan spare place s e)
-    ∙ needed-either (nat_lt 0 (scan.after - 1)) classes.AC (in_force found.huffman.ac spare.ac.items place)
-    ∙ ap (λ (b : Bool). table_if b (no_table classes.AC) (in_force found.huffman.ac spare.ac.items place))
-    (some-after scan.after)
-    ∙ ap (λ (t : Table). table_if (nat_lt 1 scan.after) t (in_force found.huffman.ac spare.ac.items place)) (sym s.no_ac)
+    grind (arith, common_steps, forced-ac, needed-either, some-after)
 
 -- what is there of the component in a slot, by the places of the header
 pub record HasComponent (found : Found) (frame : Frame) (scan : Scan) (spare : Spare) (slot index : ℕ)
@@ -207,9 +192,8 @@ pub fails-quantization : (found : Found) (frame : Frame) (scan : Scan) (spare : 
     (c : Component) → HasComponent found frame scan spare slot place c
     → get_or found.quantization c.factors.quantization None ≡ None
     → coding_in_slot found frame scan slot ≡ Err Malformed
-fails-quantization found frame scan spare slot place c h q =
-    at-quantization (pass_of scan) (tables_of found scan) (get_or scan.dc_places slot 0)
-    (get_or scan.ac_places slot 0) h ∙ (rw q refl)
+unfolding component_coding
+fails-quantization found frame scan spare slot place c h q = search (rules, at-quantization)
 
 -- A DC table that is needed and unset.
 pub fails-dc : (found : Found) (frame : Frame) (scan : Scan) (spare : Spare) (slot place : ℕ) (c : Component)
@@ -265,12 +249,8 @@ pub is-there : (state : State) (frame : FrameInfo) (header : ScanInfo) (spare : 
     → place ≡ get_or header.component_indices.items slot place → place < length frame.components.items
     → c ≡ get_or frame.components.items place c
     → HasComponent (found_in state) (frame_in frame) (scan_in header) spare slot place (component_in c)
-is-there state frame header spare slot place c s h p l e = record {
-  stands_in = s;
-  place = p ∙ get_or_default_zero header.component_indices.items slot place h;
-  component = component-at component_in frame.components.items place c l
-      ∙ ap (λ (x : declared.Component). Some (component_in x)) (sym e);
-}
+is-there state frame header spare slot place c s h p l e =
+    grind (arith, common_steps, get_or_default_zero, component-at)
 
 -- the table that is needed, of the one that the code looks up
 pub is-dc : (state : State) (header : ScanInfo) (spare : Spare) (slot place : ℕ) (o : Option Table)
@@ -279,9 +259,7 @@ pub is-dc : (state : State) (header : ScanInfo) (spare : Spare) (slot place : �
     → o ≡ in_force state.dc_tables spare.dc.items place
     → table_if (header.spectral_selection.start == 0) spare.no_dc o ≡ r
     → dc_of (found_in state) (scan_in header) spare (get_or header.dc_table_indices.items slot 0) ≡ r
-is-dc state header spare slot place o r h p e t =
-    let at = p ∙ get_or_default_zero header.dc_table_indices.items slot place h in
-    rw (← at, ← e) t
+is-dc state header spare slot place o r h p e t = grind (arith, common_steps, get_or_default_zero)
 
 pub is-ac : (state : State) (header : ScanInfo) (spare : Spare) (slot place : ℕ) (o : Option Table)
     (r : Result Table Fault)
@@ -289,9 +267,7 @@ pub is-ac : (state : State) (header : ScanInfo) (spare : Spare) (slot place : �
     → o ≡ in_force state.ac_tables spare.ac.items place
     → table_if (nat_lt 1 header.spectral_selection.end) spare.no_ac o ≡ r
     → ac_of (found_in state) (scan_in header) spare (get_or header.ac_table_indices.items slot 0) ≡ r
-is-ac state header spare slot place o r h p e t =
-    let at = p ∙ get_or_default_zero header.ac_table_indices.items slot place h in
-    rw (← at, ← e) t
+is-ac state header spare slot place o r h p e t = grind (arith, common_steps, get_or_default_zero)
 
 -- a broken rule is a refusal
 pub format-refuses : {Y : Type 0} (e : Error) (o : Result Y Fault) → NamesFormat e → o ≡ Err Malformed

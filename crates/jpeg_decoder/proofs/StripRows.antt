@@ -1,20 +1,20 @@
 -- The samples of a component's blocks, row by row of blocks.
 use Rattle.std.proofs.Common.{◌≡◌, ℕ, zero, suc, ◌+◌, ◌*◌, ◌<◌, ◌≤◌, List, [], ◌∷◌, ◌++◌, map, take, drop, length}
-use Rattle.std.proofs.Common.{get_or, slice_index_or, ℤ, refl, sym, ap, ap₂, ◌∙◌, arith, append-nil, suc-mul}
-use Rattle.std.proofs.Common.{length-take, length-drop}
+use Rattle.std.proofs.Common.{get_or, slice_index_or, ℤ, refl, sym, ap, ◌∙◌, arith, append-nil, suc-mul}
+use Rattle.std.proofs.Common.{length-take, length-drop, rules}
 use Rattle.std.proofs.Math.Nat.{mul-le-mul_right}
 use Rattle.std.proofs.lemmas.List.{drop-drop, ext_get_or, get_or-map, get_or-take, get_or-drop, get_or_default}
 use Rattle.std.proofs.lemmas.List.FromFn.{length-map-range_with_len, get_or-map-range_with_len}
 use Rattle.std.specs.List.{range_with_len}
 use Rattle.jpeg_bits.specs.BlockView.{to_block}
-use Rattle.jpeg_bits.specs.Passes.{zero_block}
 use Rattle.jpeg_bits.proofs.ZigzagPlaces.{ordered-block}
 use Rattle.jpeg_pixels.specs.Planes.{plane_of, strip_of, zero_coefficients}
 use Rattle.jpeg_pixels.proofs.PlaneRows.{plane-more, plane-same, plane-none}
 use Rattle.jpeg_streams.specs.Scans.{Arrays}
-use Rattle.jpeg_streams.specs.Rasters.{ordered, in_raster}
+use Rattle.jpeg_streams.specs.Rasters.{in_raster}
 use Rattle.jpeg_streams.specs.ScanSegments.{Coding}
 use Rattle.jpeg_decoder.specs.Strips.{samples_of, with_strips}
+use Rattle.std.proofs.lemmas.Grind.{common_steps}
 
 -- ---- a row of blocks
 
@@ -23,10 +23,7 @@ abbrev pub block_in : ℕ → List (List ℤ) → ℕ → ℕ → List ℤ
 block_in wide blocks row column = slice_index_or blocks (row * wide + column) zero_coefficients
 
 pub rows-fit : (v down wide size : ℕ) → v < down → size ≡ down * wide → v * wide + wide ≤ size
-rows-fit v down wide size h e =
-    let m : suc v * wide ≤ down * wide = mul-le-mul_right wide (omega arith) in
-    let n : suc v * wide ≡ v * wide + wide = suc-mul v wide in
-    omega arith
+rows-fit v down wide size h e = grind (arith, common_steps, mul-le-mul_right, suc-mul)
 
 row-of : (wide v : ℕ) (blocks : List (List ℤ)) → v * wide + wide ≤ length blocks
     → map (block_in wide blocks v) (range_with_len 0 wide) ≡ take wide (drop (v * wide) blocks)
@@ -45,10 +42,7 @@ row-of wide v blocks h =
 pub strip-next : (s : ℕ) (table : List ℕ) (wide v : ℕ) (blocks : List (List ℤ)) → v * wide + wide ≤ length blocks
     → plane_of s table wide v (block_in wide blocks) ++ strip_of s table (take wide (drop (v * wide) blocks))
     ≡ plane_of s table wide (v + 1) (block_in wide blocks)
-strip-next s table wide v blocks h =
-    ap (λ (l : List (List ℤ)). plane_of s table wide v (block_in wide blocks) ++ strip_of s table l) (sym
-    (row-of wide v blocks h))
-    ∙ sym (plane-more s table wide v (block_in wide blocks))
+strip-next s table wide v blocks h = grind (arith, common_steps, row-of, plane-more)
 
 -- ---- all rows
 
@@ -57,12 +51,7 @@ in-raster : (wide high : ℕ) (blocks : List (List ℤ)) (r k : ℕ) → length 
     → ((i : ℕ) → i < length blocks → length (get_or blocks i []) ≡ 64) → r < high → k < wide
     → block_in wide blocks r k ≡ in_raster wide (map to_block blocks) r k
 in-raster wide high blocks r k e sized h i =
-    let f = rows-fit r high wide (length blocks) h e in
-    let inside : r * wide + k < length blocks = omega arith in
-    let block = get_or blocks (r * wide + k) [] in
-    sym (ap ordered (get_or-map to_block blocks (r * wide + k) [] zero_block inside)
-    ∙ ordered-block block (sized (r * wide + k) inside)
-    ∙ get_or_default blocks (r * wide + k) [] zero_coefficients inside)
+    search (rules, rows-fit, get_or-map, ordered-block, get_or_default)
 
 pub raster-rows : (s : ℕ) (table : List ℕ) (wide width high counter : ℕ) (blocks : List (List ℤ)) (old new : List ℕ)
     → wide ≡ width → counter ≡ high → length blocks ≡ high * width
@@ -70,10 +59,7 @@ pub raster-rows : (s : ℕ) (table : List ℕ) (wide width high counter : ℕ) (
     → new ≡ old ++ plane_of s table wide counter (block_in wide blocks)
     → new ≡ old ++ plane_of s table width high (in_raster width (map to_block blocks))
 raster-rows s table wide width high counter blocks old new w h e sized done =
-    done
-    ∙ ap₂ (λ (a b : ℕ). old ++ plane_of s table a b (block_in a blocks)) w h
-    ∙ ap (λ (l : List ℕ). old ++ l) (plane-same s table width high (block_in width blocks)
-    (in_raster width (map to_block blocks)) (λ r k m n. in-raster width high blocks r k e sized m n))
+    search (rules, plane-same, in-raster)
 
 -- ---- the planes
 
@@ -116,10 +102,7 @@ drop-none wide blocks = let e : 0 ≡ 0 * wide = omega arith in ap (λ (k : ℕ)
 
 pub drop-next : (wide v : ℕ) (blocks : List (List ℤ)) → drop wide (drop (v * wide) blocks)
     ≡ drop ((v + 1) * wide) blocks
-drop-next wide v blocks =
-    drop-drop wide (v * wide) blocks
-    ∙ ap (λ (k : ℕ). drop k blocks) (let n : suc v * wide ≡ v * wide + wide = suc-mul v wide in let z : suc v
-    ≡ v + 1 = omega arith in sym n ∙ ap (λ (k : ℕ). k * wide) z)
+drop-next wide v blocks = grind (arith, common_steps, drop-drop, suc-mul)
 
 pub rest-long : (wide v : ℕ) (blocks : List (List ℤ)) → v * wide + wide ≤ length blocks
     → wide ≤ length (drop (v * wide) blocks)

@@ -1,5 +1,5 @@
 -- A sequential scan after its rows of MCUs: what was read, and the refusals.
-use Rattle.std.proofs.Common.{◌≡◌, ℕ, ◌*◌, ◌≤◌, List, [], ◌∷◌, map, length, Option, Result, Ok, Err, sym, ap, ap₂, ◌∙◌, subst}
+use Rattle.std.proofs.Common.{◌≡◌, ℕ, ◌*◌, ◌≤◌, List, [], ◌∷◌, map, length, Option, Result, Ok, Err, sym, ap, ap₂, ◌∙◌}
 use Rattle.std.proofs.Common.{arith}
 use Rattle.std.specs.List.{AllByRecursion}
 use Rattle.jpeg_bits.specs.Stream.{Stream}
@@ -24,6 +24,7 @@ use Rattle.jpeg_decoder.specs.declared.scan_order.ScanOrder.{ScanOrder}
 use Rattle.jpeg_decoder.specs.Walk.{IsOrderOf, walks_of_rows}
 use Rattle.jpeg_decoder.proofs.ScanOrders.{rows-walked}
 use Rattle.jpeg_decoder.proofs.PlacedCodings.{coded-components}
+use Rattle.std.proofs.lemmas.Grind.{common_steps}
 
 abbrev pub Planes : Type 0
 Planes = List (List ℕ)
@@ -93,5 +94,4 @@ pub scan-by-rows : (frame : Frame) (cs : List Coded) (p : Pass) (n : ℕ) (vias 
     ≡ planes_by_rows p vias n frame (map coding_in cs) (no_samples (map coding_in cs)) bytes
 scan-by-rows frame [] p n vias bytes h fits = absurd (omega arith)
 scan-by-rows frame (c ∷ cs) p n vias bytes h fits =
-    planes-by-rows frame (coding_in c) (map coding_in cs) p n vias bytes (subst (λ
-    (l : List Component). AllByRecursion (Fits frame) l) (sym (coded-components (c ∷ cs))) fits)
+    grind (arith, common_steps, planes-by-rows, coded-components)

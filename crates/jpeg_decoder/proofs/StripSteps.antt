@@ -1,5 +1,5 @@
 -- Steps of the loop over the rows of MCUs of a sequential scan.
-use Rattle.std.proofs.Common.{◌≡◌, ℕ, suc, ◌+◌, ◌-◌, ◌*◌, ◌<◌, ◌≤◌, List, [], ◌∷◌, map, drop, length, replicate}
+use Rattle.std.proofs.Common.{◌≡◌, ℕ, ◌+◌, ◌-◌, ◌*◌, ◌<◌, ◌≤◌, List, [], ◌∷◌, map, drop, length, replicate}
 use Rattle.std.proofs.Common.{get_or, Ok, Err, refl, sym, subst, ap, ap₂, ◌∙◌, arith, add-mul, length-append, mul-add, mul_comm}
 use Rattle.std.proofs.lemmas.List.{length-map}
 use Rattle.std.proofs.lemmas.List.FromFn.{length-map-range_with_len}
@@ -15,7 +15,7 @@ use Rattle.jpeg_streams.specs.Order.{Spot}
 use Rattle.jpeg_streams.specs.Scans.{Arrays}
 use Rattle.jpeg_streams.specs.InTurn.{Counted, Fits, blocks_from}
 use Rattle.jpeg_streams.specs.McuRows.{zero_rows, on_arrays}
-use Rattle.jpeg_decoder.specs.Scanning.{components_in, arrays_in, blocks_in, sizes_of, wide_in, down_in}
+use Rattle.jpeg_decoder.specs.Scanning.{components_in, arrays_in, sizes_of, wide_in, down_in}
 use Rattle.jpeg_decoder.specs.Steps.{coding_in}
 use Rattle.jpeg_streams.specs.ScanSegments.{Coding, components_of}
 use Rattle.jpeg_decoder.specs.Strips.{planes_in, row_sizes, samples_in, samples_of, zeros_of, with_strips}
@@ -23,13 +23,13 @@ use Rattle.jpeg_decoder.specs.Strips.{strips_from}
 use Rattle.jpeg_decoder.proofs.HeldBlocks.{Held, sizes-long}
 use Rattle.jpeg_decoder.proofs.RowBuffers.{Plane}
 use Rattle.jpeg_decoder.proofs.StripRows.{strips-length, strips-none}
+use Rattle.std.proofs.lemmas.Grind.{common_steps}
+use Rattle.std.proofs.Common.{rules}
 
 -- ---- the rows
 
 one-less : (k high : ℕ) → k < high → range_with_len k (high - k) ≡ k ∷ range_with_len (k + 1) (high - (k + 1))
-one-less k high h =
-    let e : high - k ≡ suc (high - (k + 1)) = omega arith in
-    ap (range_with_len k) e
+one-less k high h = grind (arith, common_steps)
 
 -- all rows, from the first on
 pub whole-rows : (f : ℕ → List Spot) (high : ℕ) → map f (range_with_len 0 high) ≡ map f (range_with_len 0 (high - 0))
@@ -59,10 +59,7 @@ strips-more : (p : Pass) (vias : List Via) (n : ℕ) (codings : List Coding) (f 
     spots (on_arrays zeros old) t)
 unfolding strips_from after
 strips-more p vias n codings f spots k high planes zeros old t h e is =
-    ap (λ (l : List ℕ). strips_from p vias n codings (map f l) planes old t) (one-less k high h)
-    ∙ ap₂ (λ (z : Arrays) (x : List Spot). read_on
-    (after p vias n codings (map f (range_with_len (k + 1) (high - (k + 1)))) planes)
-    (blocks_from p vias n x (on_arrays z old) t)) (sym e) (sym is)
+    grind (arith, common_steps, one-less, after)
 
 pub strips_step : (p : Pass) (vias : List Via) (n : ℕ) (codings : List Coding) (f : ℕ → List Spot) (spots : List Spot)
     (k high : ℕ) (planes : List (List ℕ)) (zeros : Arrays) (old new : Counted) (t u : Text)
@@ -71,10 +68,9 @@ pub strips_step : (p : Pass) (vias : List Via) (n : ℕ) (codings : List Coding)
     → strips_from p vias n codings (map f (range_with_len k (high - k))) planes old t
     ≡ strips_from p vias n codings (map f (range_with_len (k + 1) (high - (k + 1))))
     (with_strips codings new.reached.arrays planes) (on_arrays [] new) u
-unfolding after
+unfolding after strips_from
 strips_step p vias n codings f spots k high planes zeros old new t u h e is r =
-    strips-more p vias n codings f spots k high planes zeros old t h e is
-    ∙ ap (read_on (after p vias n codings (map f (range_with_len (k + 1) (high - (k + 1)))) planes)) r
+    search (rules, strips-more, after)
 
 pub strips_refused : (p : Pass) (vias : List Via) (n : ℕ) (codings : List Coding) (f : ℕ → List Spot)
     (spots : List Spot) (k high : ℕ) (planes : List (List ℕ)) (zeros : Arrays) (old : Counted) (t : Text)
@@ -90,9 +86,7 @@ pub strips_none : (p : Pass) (vias : List Via) (n : ℕ) (codings : List Coding)
     (k high : ℕ) (planes : List (List ℕ)) (old : Counted) (t : Text)
     → high ≤ k → strips_from p vias n codings (map f (range_with_len k (high - k))) planes old t ≡ Ok (planes, t)
 unfolding strips_from
-strips_none p vias n codings f k high planes old t h =
-    let e : high - k ≡ 0 = omega arith in
-    ap (λ (m : ℕ). strips_from p vias n codings (map f (range_with_len k m)) planes old t) e
+strips_none p vias n codings f k high planes old t h = grind (arith, common_steps)
 
 pub zeros-are : (cs : List Coded) → zeros_of (row_sizes cs) ≡ zero_rows 1 (components_of (map coding_in cs))
 unfolding zero_rows
@@ -110,9 +104,7 @@ length-samples high c blocks = length-map-range_with_len _ 0 (c.component.scale 
     (c.component.scale * high))
 
 one-row-more : (a s r d : ℕ) → a * (s * (r * d)) + a * (s * d) ≡ a * (s * ((r + 1) * d))
-one-row-more a s r d =
-    let p : (r + 1) * d ≡ r * d + d = let q : (r + 1) * d ≡ r * d + 1 * d = add-mul r 1 d in omega arith in
-    sym (ap (λ (n : ℕ). a * (s * n)) p ∙ ap (λ (n : ℕ). a * n) (mul-add s (r * d) d) ∙ mul-add a (s * (r * d)) (s * d))
+one-row-more a s r d = grind (arith, common_steps, add-mul, mul-add)
 
 abbrev pub lengths : List (List ℕ) → List ℕ
 lengths planes = map (λ (l : List ℕ). length l) planes
@@ -152,23 +144,15 @@ lengths-next (c ∷ cs) [] planes row e h = absurd (omega arith)
 lengths-next _ _ _ row e h = absurd (let n = ap (λ (l : List ℕ). length l) h in omega arith)
 
 pub row-count : (cs : List Coded) (vs : List Held) → sizes_of vs ≡ row_sizes cs → length (arrays_in vs) ≡ length cs
-row-count cs vs sizes =
-    length-map vs blocks_in ∙ sym (sizes-long vs) ∙ ap (λ (l : List ℕ). length l) sizes
-    ∙ length-map cs (λ (c : Coded). down_in c * wide_in c)
+row-count cs vs sizes = grind (arith, common_steps, length-map, sizes-long)
 
 -- the planes that are there are those of the components, also after a row of MCUs
 pub kept-count : (cs : List Coded) (arrays : Arrays) (old new : List Plane) → length arrays ≡ length cs
     → planes_in new ≡ with_strips (map coding_in cs) arrays (planes_in old)
     → (0 < length old → length old ≡ length cs) → 0 < length new → length new ≡ length cs
-kept-count cs arrays [] new e made h some = absurd
-    (let n = ap (λ (l : List (List ℕ)). length l) (made ∙ strips-none (map coding_in cs) arrays) in
-    omega (arith, n, some, length-map new (λ (v : Plane). v.items)))
+kept-count cs arrays [] new e made h some = grind (arith, common_steps, strips-none, length-map)
 kept-count cs arrays (x ∷ old) new e made h some =
-    sym (length-map new (λ (v : Plane). v.items))
-    ∙ ap (λ (l : List (List ℕ)). length l) made
-    ∙ strips-length (map coding_in cs) arrays (planes_in (x ∷ old)) (e ∙ sym (length-map cs coding_in))
-    (length-map (x ∷ old) (λ (v : Plane). v.items) ∙ h (omega arith) ∙ sym (length-map cs coding_in))
-    ∙ length-map cs coding_in
+    grind (arith, common_steps, length-map, strips-length)
 
 -- a plane of all rows of MCUs has the samples of all blocks
 pub lengths-all : (frame : Frame) (cs : List Coded) → AllByRecursion (Fits frame) (components_in cs)

@@ -1,18 +1,18 @@
 -- Blocks that are taken out of those that are held, and put back.
-use Rattle.std.proofs.Common.{◌≡◌, ◌≢◌, ◌<◌, ℕ, zero, suc, ◌+◌, ℤ, List, [], ◌∷◌, ◌++◌, refl, sym, ap, ap₂, ◌∙◌, length}
+use Rattle.std.proofs.Common.{◌≡◌, ◌≢◌, ◌<◌, ℕ, zero, suc, ◌+◌, ℤ, List, [], ◌∷◌, ◌++◌, refl, sym, ap, ◌∙◌, length}
 use Rattle.std.proofs.Common.{get_or, set, map, take, arith}
 use Rattle.std.specs.declared.alloc.Global.{Global}
 use Rattle.std.specs.declared.vec.Vec.{Vec}
 use Rattle.std.proofs.Math.Logic.{inl, inr}
 use Rattle.std.proofs.lemmas.List.{get_or-set_other, map-append, map-set, set-set, set_comm, take_more}
 use Rattle.jpeg_bits.specs.Passes.{Block}
-use Rattle.jpeg_bits.specs.BlockView.{to_block}
 use Rattle.jpeg_decoder.specs.declared.scan.Coded.{Coded}
 use Rattle.jpeg_streams.specs.InTurn.{AreApart, IsIn}
 use Rattle.jpeg_streams.specs.Scans.{Arrays}
 use Rattle.jpeg_decoder.specs.Scanning.{arrays_in, blocks_in}
 use Rattle.jpeg_decoder.specs.Steps.{blocks_at, coding_in, without_blocks}
 use Rattle.jpeg_streams.specs.ScanSegments.{put_arrays, Coding}
+use Rattle.std.proofs.lemmas.Grind.{common_steps}
 
 abbrev pub places_of : List Coding → List ℕ
 places_of codings = map (λ c. c.place) codings
@@ -59,9 +59,7 @@ left-one (d ∷ more) c held = left-one more c (set held d.place [])
 
 more-codings : (cs : List Coded) (i : ℕ) (c : Coded) → i < length cs → c ≡ get_or cs i c
     → map coding_in (take (i + 1) cs) ≡ map coding_in (take i cs) ++ coding_in c ∷ []
-more-codings cs i c h e =
-    ap (map coding_in) (take_more cs i c h ∙ ap (λ (x : Coded). take i cs ++ x ∷ []) (sym e))
-    ∙ map-append coding_in (take i cs) (c ∷ [])
+more-codings cs i c h e = grind (arith, common_steps, take_more, map-append)
 
 not-before : (cs : List Coded) (i : ℕ) (c : Coded) → i < length cs → c ≡ get_or cs i c
     → AreApart (map (λ (x : Coded). x.place) cs) → IsIn c.place (places_of (map coding_in (take i cs))) → ⊥
@@ -93,13 +91,7 @@ pub taken-more : (cs : List Coded) (i : ℕ) (c : Coded) (old now taken : List H
     → arrays_in taken ≡ blocks_at (map coding_in (take i cs)) (arrays_in old)
     → arrays_in (taken ++ v ∷ []) ≡ blocks_at (map coding_in (take (i + 1) cs)) (arrays_in old)
 taken-more cs i c old now taken v h e apart within is left so_far =
-    map-append blocks_in taken (v ∷ [])
-    ∙ ap₂ (λ (a : Arrays) (b : List Block). a ++ b ∷ []) so_far
-    (sym (blocks-of now c.place v within is) ∙ ap (λ (a : Arrays). get_or a c.place []) left
-    ∙ left-elsewhere (map coding_in (take i cs)) (arrays_in old) c.place (not-before cs i c h e apart))
-    ∙ sym (ap (λ (l : List Coding). blocks_at l (arrays_in old)) (more-codings cs i c h e)
-    ∙ map-append (λ (x : Coding). get_or (arrays_in old) x.place []) (map coding_in (take i cs))
-    (coding_in c ∷ []))
+    grind (arith, common_steps, map-append, blocks-of, left-elsewhere, not-before, more-codings)
 
 -- and none of its blocks are left
 pub left-more : (cs : List Coded) (i : ℕ) (c : Coded) (old now : List Held) (empty : Held) → i < length cs
@@ -107,10 +99,7 @@ pub left-more : (cs : List Coded) (i : ℕ) (c : Coded) (old now : List Held) (e
     → arrays_in now ≡ without_blocks (map coding_in (take i cs)) (arrays_in old)
     → arrays_in (set now c.place empty) ≡ without_blocks (map coding_in (take (i + 1) cs)) (arrays_in old)
 left-more cs i c old now empty h e none left =
-    map-set blocks_in now c.place empty
-    ∙ ap₂ (λ (a : Arrays) (b : List Block). set a c.place b) left (ap (map to_block) none)
-    ∙ sym (ap (λ (l : List Coding). without_blocks l (arrays_in old)) (more-codings cs i c h e)
-    ∙ left-one (map coding_in (take i cs)) (coding_in c) (arrays_in old))
+    grind (arith, common_steps, map-set, more-codings, left-one)
 
 -- before the first, and after the last
 pub none-taken : (cs : List Coded) (old : List Held)

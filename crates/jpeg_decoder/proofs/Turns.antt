@@ -1,6 +1,6 @@
 -- The segments of a stream, a turn at a time.
 use Rattle.std.proofs.Common.{◌≡◌, ◌≤◌, ◌<◌, ℕ, suc, List, Result, Ok, Err, Bool, true, false, Option, Some, None}
-use Rattle.std.proofs.Common.{ap, refl, ◌∙◌, length, arith}
+use Rattle.std.proofs.Common.{refl, ◌∙◌, length, arith}
 use Rattle.std.specs.Prelude.{if◌then◌else◌, ◌&&◌, is_some, option_map}
 use Rattle.std.proofs.Math.Bool.{cond}
 use Rattle.jpeg_bits.specs.Reading.{Outcome, Fault, Malformed, ◌>>=◌, length_at, skip_at}
@@ -33,6 +33,7 @@ use Rattle.jpeg_streams.proofs.ShorterSegments.{sof-below, dqt-below, dht-below,
 use Rattle.jpeg_streams.proofs.ShorterScans.{arrays-below}
 use Rattle.jpeg_streams.proofs.ShorterSamples.{samples-below}
 use Rattle.jpeg_decoder.proofs.PassedRestarts.{Passes, after-passes, bind-same}
+use Rattle.std.proofs.lemmas.Grind.{common_steps}
 
 -- ---- what a turn takes
 
@@ -100,9 +101,7 @@ unfolding On
 on-onward limit found rest h = ((refl, (refl, refl)), h)
 
 onward-goes : (limit : ℕ) (r : Outcome Turn) → On (IsOnward limit) r → On (Below limit) r
-onward-goes limit r h =
-    on-weaker (IsOnward limit) (Below limit) r
-    (λ x k _. (k.1, ap (λ (m : Option Marker). is_restart_marker m) k.0.1.1)) h
+onward-goes limit r h = grind (arith, common_steps, on-weaker)
 
 pub frame-goes : (limit number : ℕ) (found : Found) (bytes : List ℕ) → length bytes ≤ limit
     → On (IsOnward limit) (frame_segment number found bytes)
@@ -288,12 +287,7 @@ pub segments-turn : (header : Bool) (before : Before) (found : Found) (met : Opt
     else segments_at header t.0.before t.0.found t.0.met t.1))
 unfolding segments_at segments_within
 segments-turn header before found met bytes none =
-    cond-same (header && is_some found.frame) _ _ _ (λ _.
-    bind-same (turn_at before found met bytes) _ _ (λ t is.
-    cond-same t.0.ended _ _ _ (λ on.
-    let took = turn-takes before found met bytes t none is on in
-    turns-enough (length bytes) (suc (length t.1)) header t.0.before t.0.found t.0.met t.1 took.1 took.0
-    (omega arith))))
+    grind (arith, common_steps, cond-same, bind-same, turn-takes, turns-enough)
 
 pub told-turn : (header : Bool) (before : Before) (found : Found) (met : Option Marker) (bytes : List ℕ)
     → is_restart_marker met ≡ false
@@ -304,11 +298,7 @@ pub told-turn : (header : Bool) (before : Before) (found : Found) (met : Option 
     ])
 unfolding told_at told_within
 told-turn header before found met bytes none =
-    cond-same (header && is_some found.frame) _ _ _ (λ _.
-    turn-same (turn_at before found met bytes) found _ _ (λ t is.
-    cond-same t.0.ended _ _ _ (λ on.
-    let took = turn-takes before found met bytes t none is on in
-    told-enough (length bytes) (suc (length t.1)) header t.0.before t.0.found t.0.met t.1 took.1 took.0 (omega arith))))
+    grind (arith, common_steps, cond-same, turn-same, turn-takes, told-enough)
 
 -- ---- the ways a turn goes
 

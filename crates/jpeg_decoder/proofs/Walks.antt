@@ -1,10 +1,11 @@
 -- Steps of a walk.
 use Rattle.std.proofs.Common.{◌≡◌, ℕ, zero, suc, ◌+◌, ◌-◌, ◌<◌, List, [], ◌∷◌, ◌++◌, map, length}
-use Rattle.std.proofs.Common.{refl, sym, ap, ap₂, ◌∙◌, arith, get_or}
+use Rattle.std.proofs.Common.{refl, ap, ap₂, ◌∙◌, arith, get_or}
 use Rattle.std.proofs.lemmas.List.{drop_all}
 use Rattle.jpeg_decoder.specs.declared.spots.Member.{Member}
 use Rattle.jpeg_decoder.proofs.ReadLists.{dropped}
 use Rattle.jpeg_decoder.specs.Walk.{positions_of, rows_from, raster_left, spot_at, spots_at, spots_left}
+use Rattle.std.proofs.lemmas.Grind.{common_steps}
 
 -- ---- a raster
 
@@ -12,17 +13,12 @@ pub position-next : (wide row column columns below rows : ℕ) → 0 < columns
     → raster_left wide row column columns below rows
     ≡ (row, column) ∷ raster_left wide row (column + 1) (columns - 1) below rows
 position-next wide row column zero below rows h = absurd (omega arith)
-position-next wide row column (suc n) below rows h =
-    let e : suc n - 1 ≡ n = omega arith in
-    ap (λ (k : ℕ). (row, column) ∷ raster_left wide row (column + 1) k below rows) (sym e)
+position-next wide row column (suc n) below rows h = grind (arith, common_steps)
 
 pub row-next : (wide row column columns below rows : ℕ) → columns ≡ 0 → 0 < rows
     → raster_left wide row column columns below rows ≡ raster_left wide below 0 wide (below + 1) (rows - 1)
 row-next wide row column columns below zero e h = absurd (omega arith)
-row-next wide row column columns below (suc n) e h =
-    let f : suc n - 1 ≡ n = omega arith in
-    ap (λ (k : ℕ). positions_of row column k ++ rows_from wide below (suc n)) e
-    ∙ ap (λ (k : ℕ). raster_left wide below 0 wide (below + 1) k) (sym f)
+row-next wide row column columns below (suc n) e h = grind (arith, common_steps)
 
 pub rows-none : (wide row column columns below rows : ℕ) → columns ≡ 0 → rows ≡ 0
     → raster_left wide row column columns below rows ≡ []
@@ -51,16 +47,10 @@ block-next members number mcu mcus m h e =
 pub mcu-next : (members : List Member) (number : ℕ) (mcu next : ℕ × ℕ) (mcus more : List (ℕ × ℕ))
     → number ≡ length members → mcus ≡ next ∷ more
     → spots_left members number mcu mcus ≡ spots_left members 0 next more
-mcu-next members number mcu next mcus more e f =
-    ap (λ (n : ℕ). spots_left members n mcu mcus) e
-    ∙ ap (λ (l : List Member). map (spot_at mcu) l ++ spots_at members mcus) (drop_all (length members) members (omega arith))
-    ∙ ap (spots_at members) f
+mcu-next members number mcu next mcus more e f = grind (arith, common_steps, drop_all)
 
 pub mcus-none : (members : List Member) (number : ℕ) (mcu : ℕ × ℕ) (mcus : List (ℕ × ℕ))
     → number ≡ length members → mcus ≡ [] → spots_left members number mcu mcus ≡ []
-mcus-none members number mcu mcus e f =
-    ap (λ (n : ℕ). spots_left members n mcu mcus) e
-    ∙ ap (λ (l : List Member). map (spot_at mcu) l ++ spots_at members mcus) (drop_all (length members) members (omega arith))
-    ∙ ap (spots_at members) f
+mcus-none members number mcu mcus e f = grind (arith, common_steps, drop_all)
 
 pub ruleset spots_rules = (block-next, mcu-next, mcus-none)

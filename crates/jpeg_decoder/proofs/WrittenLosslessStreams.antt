@@ -1,19 +1,17 @@
 -- Lossless streams that are written give their samples, and keep their size.
 use Rattle.std.proofs.Common.{◌≡◌, ℕ, zero, suc, ◌+◌, ◌*◌, ◌<◌, ◌≤◌, true, false, List, [], ◌∷◌, ◌++◌, length}
 use Rattle.std.proofs.Common.{replicate, set, get_or, Option, Some, None, Result, Ok, Err, refl, sym, ap, ◌∙◌}
-use Rattle.std.proofs.Common.{subst, arith, length-append, length-set, ltb, inl, inr}
+use Rattle.std.proofs.Common.{subst, arith, length-append, length-set, inl, inr, rules}
 use Rattle.std.proofs.lemmas.Bool.{le-ltb, lt-ltb}
 use Rattle.std.proofs.lemmas.List.{get_or-set_same}
-use Rattle.std.specs.Prelude.{is_some, option_map, slice_index_or, slice_set}
+use Rattle.std.specs.Prelude.{is_some, slice_index_or, slice_set}
 use Rattle.std.specs.List.{AllByRecursion, concat, range_with_len}
 use Rattle.jpeg_bits.specs.Reading.{Fault, Malformed, Outcome, ◌>>=◌}
 use Rattle.jpeg_bits.specs.Marker.{marker_of}
 use Rattle.jpeg_bits.specs.declared.marker.Marker.{Marker}
 use Rattle.jpeg_bits.specs.declared.marker.Marker.TheVariants.{EOI, SOS}
-use Rattle.jpeg_segments.specs.declared.parser.CodingProcess.{CodingProcess}
 use Rattle.jpeg_segments.specs.declared.parser.CodingProcess.TheVariants.{Lossless}
 use Rattle.jpeg_segments.specs.Frame.{Frame, Component}
-use Rattle.jpeg_segments.specs.Scales.{sized_by}
 use Rattle.jpeg_segments.specs.ScanHeaders.{ScanHeader, scan_payload, IsScan}
 use Rattle.jpeg_segments.specs.WrittenSegments.{sized, Segment}
 use Rattle.jpeg_segments.specs.WrittenSegments.{Header, code_of, payload_of, frame_written}
@@ -34,7 +32,7 @@ use Rattle.jpeg_streams.specs.Found.{nothing_found, Found}
 use Rattle.jpeg_streams.specs.Stream.{start_at, segment_at, turn_at, segments_within, segments_at}
 use Rattle.jpeg_streams.specs.Stream.{header_at, rest_at, meaning, sized_meaning, sized_to, Told, told_of}
 use Rattle.jpeg_streams.specs.ScanSegments.{scan_before}
-use Rattle.jpeg_streams.specs.FoundPictures.{picture_of, picture_by_process, samples_picture}
+use Rattle.jpeg_streams.specs.FoundPictures.{picture_of, samples_picture}
 use Rattle.jpeg_streams.specs.WrittenLossless.{Samples, StandsInLossless, Writes, WritesSamples, WritesScan, closed}
 use Rattle.jpeg_streams.specs.InTurn.{IsIn}
 use Rattle.jpeg_streams.specs.WrittenLossless.{said_after_scan, scan, segment}
@@ -48,6 +46,7 @@ use Rattle.jpeg_streams.proofs.WrittenMarkers.{marker-append, marker_for, segmen
 use Rattle.jpeg_decoder.proofs.WrittenSamples.{and_samples, components-of, places_of, planes_for, scan-read}
 use Rattle.jpeg_decoder.proofs.WrittenSamples.{turn_after}
 use Rattle.jpeg_decoder.proofs.LosslessReads.{all-below}
+use Rattle.std.proofs.lemmas.Grind.{common_steps}
 
 -- ---- samples that are decided
 
@@ -106,9 +105,7 @@ held-after : (samples : Samples) (places : List ℕ) (decided : List (Option (Li
     → AllByRecursion (λ k. k < length decided) places
     → AreHeld samples decided sent
     → AreHeld samples (with_samples places (planes_for samples places) decided) (places ++ sent)
-held-after samples places decided sent h g =
-    let next = with_samples places (planes_for samples places) decided in
-    held-append samples next places sent (with-there samples places decided h) (all-kept samples places decided sent g)
+held-after samples places decided sent h g = search (rules, held-append, with-there, all-kept)
 
 one-held : (P : ℕ → Type 0) (k : ℕ) (sent : List ℕ) → AllByRecursion P sent → IsIn k sent → P k
 one-held P k [] h e = absurd e
@@ -158,16 +155,11 @@ some-same a b e = cc
 segment-shaped : (said : Found) (s : Segment) → StandsInLossless said s → IsSaid said → (frame : Frame)
     → (found_after said s).frame ≡ Some frame → IsShaped frame
 segment-shaped said (Header number header) may h frame e =
-    subst IsShaped (some-same (frame_written number header) frame e) (header-shaped number header may.0.1
-    (lossless-accepted number header may.0.1 may.1))
+    grind (arith, common_steps, some-same, header-shaped, lossless-accepted)
 segment-shaped said _ may h frame e = h.shaped frame e
 
 pub segment-said : (said : Found) (s : Segment) → StandsInLossless said s → IsSaid said → IsSaid (found_after said s)
-segment-said said s may h =
-    record {
-      tables = segment-tables said s may.0 h.tables;
-      shaped = segment-shaped said s may h;
-    }
+segment-said said s may h = search (rules, segment-tables, segment-shaped)
 
 -- ---- the rest of a stream
 
@@ -241,8 +233,7 @@ places-below : (frame : Frame) (h : ScanHeader) → IsScan frame h
     → AllByRecursion (λ k. k < length frame.components) (places_of h.choices)
 unfolding scan_of
 places-below frame h is =
-    subst (AllByRecursion (λ (k : ℕ). k < length frame.components)) (components-of frame h.choices)
-    (recursion_from_All (λ (k : ℕ). k < length frame.components) _ (header-rules frame h is).components)
+    grind (arith, common_steps, components-of, recursion_from_All, header-rules)
 
 scan-next : (samples : Samples) (rest : List ℕ) (turns : ℕ) (said final : Found) (sent : List ℕ) (frame : Frame)
     (fill : ℕ) (h : ScanHeader) (data_bytes more : List ℕ)
@@ -317,11 +308,7 @@ samples-drawn : (found : Found) (samples : Samples) (frame : Frame)
     → AreHeld samples found.samples (range_with_len 0 (length frame.components))
     → samples_picture found frame ≡ Ok (drawn frame samples)
 unfolding samples_picture
-samples-drawn found samples frame held =
-    then-ok (samples_from found.samples 0 frame.components) _
-    (planes_for samples (range_with_len 0 (length frame.components))) _
-    (planes-there found.samples samples 0 frame.components held)
-    refl
+samples-drawn found samples frame held = grind (arith, common_steps, then-ok, planes-there)
 
 picture-there : (settings : Settings) (found : Found) (samples : Samples) (frame : Frame)
     → found.frame ≡ Some frame → frame.process ≡ Lossless
@@ -330,11 +317,7 @@ picture-there : (settings : Settings) (found : Found) (samples : Samples) (frame
     → picture_of settings found ≡ Ok (drawn frame samples)
 unfolding picture_of
 picture-there settings found samples frame framed lossless within held =
-    then-ok (needed found.frame) _ frame _ (ap needed framed)
-    (not-refused (ltb settings.limit (length frame.components * (frame.output_width * frame.output_height))) _ _
-    (le-ltb settings.limit (length frame.components * (frame.output_width * frame.output_height)) within)
-    ∙ ap (λ (p : CodingProcess). picture_by_process p settings found frame) lossless
-    ∙ samples-drawn found samples frame held)
+    grind (arith, common_steps, then-ok, not-refused, le-ltb, samples-drawn)
 
 -- what a caller is given of a picture
 abbrev given : Found → List ℕ → List ℕ → Outcome (Told × List ℕ)
@@ -345,9 +328,7 @@ picture-refused : (settings : Settings) (found : Found) (frame : Frame) → foun
     → picture_of settings found ≡ Err Malformed
 unfolding picture_of
 picture-refused settings found frame framed over =
-    then-ok (needed found.frame) _ frame _ (ap needed framed)
-    (kept (ltb settings.limit (length frame.components * (frame.output_width * frame.output_height))) _ _
-    (lt-ltb settings.limit (length frame.components * (frame.output_width * frame.output_height)) over))
+    grind (arith, common_steps, then-ok, kept, lt-ltb)
 
 rest-refused : (samples : Samples) (settings : Settings) (bytes rest : List ℕ) (said final : Found) (frame : Frame)
     → Writes samples said [] bytes final → IsSaid said → final.frame ≡ Some frame
@@ -495,17 +476,9 @@ header-read samples rest decided (suc turns) before said sent bytes final (segme
 
 -- ---- the whole
 
-abbrev some_frame : Frame → Option Frame
-some_frame f = Some f
-
 pub keeps-size : (width height : ℕ) (found : Found) (frame : Frame) → found.frame ≡ Some frame
     → frame.process ≡ Lossless → sized_to width height found ≡ found
-keeps-size width height found frame framed lossless =
-    let grown : Frame → Frame = λ f. sized_by f.process width height f in
-    let same : option_map grown found.frame ≡ found.frame
-    = ap (option_map grown) framed ∙ ap (λ (p : CodingProcess). some_frame (sized_by p width height frame)) lossless
-    ∙ sym framed in
-    ap (λ (o : Option Frame). record found { frame = o }) same
+keeps-size width height found frame framed lossless = grind (arith, common_steps)
 
 pub samples-sized : (width height : ℕ) (settings : Settings) (samples : Samples) (bytes rest : List ℕ)
     (final : Found) (frame : Frame) → WritesSamples samples bytes final

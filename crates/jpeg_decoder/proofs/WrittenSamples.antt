@@ -1,13 +1,11 @@
 -- A lossless scan that is written is read as its samples.
 use Rattle.std.proofs.Common.{◌≡◌, ℕ, zero, suc, ◌+◌, ◌-◌, ◌*◌, ◌/◌, ◌%◌, ◌<◌, ◌≤◌, Bool, true, false, eqb}
-use Rattle.std.proofs.Common.{leb, List, [], ◌∷◌, ◌++◌, drop, map, length, replicate, take, Option, Some, None}
-use Rattle.std.proofs.Common.{Ok, refl, sym, ap, ap₂, ◌∙◌, subst, arith, length-append}
-use Rattle.std.specs.Prelude.{slice_index_or}
+use Rattle.std.proofs.Common.{leb, List, [], ◌∷◌, ◌++◌, drop, map, length, replicate, take, Option, Some}
+use Rattle.std.proofs.Common.{Ok, refl, sym, ap, ap₂, ◌∙◌, subst, arith, length-append, suc-mul}
 use Rattle.std.specs.List.{AllByRecursion, concat}
 use Rattle.std.proofs.lemmas.Bool.{le-leb, eq-eqb, or_right}
 use Rattle.std.proofs.lemmas.List.{length-map, length-take-le}
 use Rattle.std.proofs.lemmas.Nat.{div-mul-add, mod-mul-add}
-use Rattle.std.proofs.Common.{suc-mul}
 use Rattle.std.proofs.Math.Nat.{add-mul}
 use Rattle.jpeg_bits.specs.Codes.{IsTable, Table}
 use Rattle.jpeg_bits.specs.Marker.{marker_of}
@@ -15,7 +13,7 @@ use Rattle.jpeg_bits.specs.Reading.{Outcome}
 use Rattle.jpeg_bits.specs.declared.marker.Marker.{Marker}
 use Rattle.jpeg_bits.specs.declared.scan.Predictor.{Predictor}
 use Rattle.jpeg_segments.specs.Frame.{Component, Frame, ceiling}
-use Rattle.jpeg_segments.specs.ScanHeader.{predictor_by, predictor_of, scan_of, sos_at}
+use Rattle.jpeg_segments.specs.ScanHeader.{predictor_by, predictor_of, scan_of}
 use Rattle.jpeg_segments.specs.ScanHeaders.{Choice, IsScan, ScanHeader, scan_payload, scan_written, selector_of}
 use Rattle.jpeg_segments.specs.WrittenSegments.{sized}
 use Rattle.jpeg_segments.specs.declared.parser.CodingProcess.{CodingProcess}
@@ -34,8 +32,8 @@ use Rattle.jpeg_lossless.specs.Written.WritesIntervals.{last, another}
 use Rattle.jpeg_lossless.proofs.ReadBack.{reads-scan}
 use Rattle.jpeg_streams.specs.LosslessScans.{LosslessCoding, lossless_coding, lossless_codings, mcus_across, mcus_down}
 use Rattle.jpeg_streams.specs.LosslessScans.{part_of, parts_of, way_of, with_samples}
-use Rattle.jpeg_streams.specs.Needed.{first_of, needed}
-use Rattle.jpeg_streams.specs.ScanSegments.{scan_by, lossless_scan, scan_before, after_restarts, scan_segment}
+use Rattle.jpeg_streams.specs.Needed.{first_of}
+use Rattle.jpeg_streams.specs.ScanSegments.{lossless_scan, scan_before, after_restarts, scan_segment}
 use Rattle.jpeg_streams.specs.ScanSegments.{scan_samples}
 use Rattle.jpeg_streams.specs.Segments.{Turn}
 use Rattle.jpeg_streams.specs.Found.{Found}
@@ -46,6 +44,7 @@ use Rattle.jpeg_streams.proofs.EncodedSamples.{rows-count}
 use Rattle.jpeg_streams.proofs.LosslessFrames.{IsShaped}
 use Rattle.jpeg_streams.proofs.LosslessSizes.{IsMade, across-some, all-at, down-some, made-covered}
 use Rattle.jpeg_streams.proofs.SaidTables.{HasTables, table-there}
+use Rattle.std.proofs.lemmas.Grind.{common_steps}
 
 -- what was said, with the samples that scans have given
 abbrev pub and_samples : Found → List (Option (List ℕ)) → Found
@@ -179,16 +178,7 @@ record Covers (wide high : ℕ) (c : Component) (p : Part) : Type 0 where
 part-sized : (w : Way) (high : ℕ) (c : Component) (p : Part) (lines : List (List ℕ)) → Covers w.wide high c p
     → AreLines (w.wide * p.across) lines → length lines ≡ high * p.down → HasSize (own_lines p lines) c
 part-sized w high c p lines h grid count =
-    let width = h.width in
-    let height = h.height in
-    let across = h.across in
-    let down = h.down in
-    record {
-      count = length-map (take p.height lines) (take p.width)
-          ∙ length-take-le p.height lines (omega (arith, height, down, count)) ∙ h.height;
-      even = subst (λ (n : ℕ). AreEven n (own_lines p lines)) h.width
-          (own-even p.width (w.wide * p.across) p.height lines grid (omega (arith, width, across)));
-    }
+    grind (arith, common_steps, length-map, length-take-le, own-even)
 
 abbrev AllCover : ℕ → ℕ → List LosslessCoding → List Part → Type 0
 AllCover wide high [] [] = Unit {0}
@@ -274,10 +264,7 @@ planes-are samples w _ _ _ g h = absurd h
 coding-read : (said : Found) (frame : Frame) (c : Choice) (k : LosslessCoding) → IsCoding said frame c k
     → lossless_coding said.huffman.dc frame c.component c.dc ≡ Ok k
 unfolding lossless_coding
-coding-read said frame c k h =
-    then-ok (needed (first_of (drop c.component frame.components))) _ k.component _ (ap needed h.component)
-    (then-ok (needed (slice_index_or said.huffman.dc c.dc None)) _ k.table _ (ap needed h.table)
-    (ap (λ (n : ℕ). Ok (record { place = n; component = k.component; table = k.table })) (sym h.stands)))
+coding-read said frame c k h = grind (arith, common_steps, then-ok)
 
 codings-read : (said : Found) (frame from : Frame) (choices : List Choice) (codings : List LosslessCoding)
     → AreCodings said frame choices codings
@@ -483,8 +470,4 @@ pub scan-read : (said : Found) (decided : List (Option (List ℕ))) (frame : Fra
     ≡ Ok (turn_after said (places_of h.choices) samples decided m, rest)
 unfolding scan_segment
 scan-read said decided frame h samples bytes rest fill code m w framed scan lossless is tables makes end =
-    let all = bytes ++ marker fill code rest in
-    then-ok (needed said.frame) _ frame _ (ap needed framed)
-    (then-ok (sos_at frame (sized (scan_payload h) ++ all)) _ (scan_written frame h, all) _ (sos-read frame h all scan)
-    (ap (λ (p : CodingProcess). scan_by p (and_samples said decided) frame (scan_written frame h) all) lossless
-    ∙ lossless-read said decided frame h samples bytes rest fill code m w scan lossless is tables makes end))
+    grind (arith, common_steps, then-ok, sos-read, lossless-read)

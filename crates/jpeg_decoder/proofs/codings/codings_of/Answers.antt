@@ -1,4 +1,4 @@
-use Rattle.std.proofs.Common.{◌≡◌, ◌++◌, ◌∷◌, [], Err, arith, rules}
+use Rattle.std.proofs.Common.{◌≡◌, Err, arith}
 use Rattle.std.proofs.lemmas.Result.{err_from_is_err_and}
 use Rattle.jpeg_bits.specs.Reading.{Fault}
 use Rattle.jpeg_bits.proofs.Loops.{Names-through}
@@ -7,20 +7,10 @@ use Rattle.jpeg_decoder.specs.Seen.{found_in}
 use Rattle.jpeg_decoder.specs.Steps.{coding_in_slot}
 use Rattle.jpeg_decoder.proofs.ScanCodings.{codings-more, codings-fail, codings-all}
 use Rattle.jpeg_decoder.proofs.codings.codings_of.Goals as goal
+use Rattle.std.proofs.lemmas.Grind.{common_steps}
 
 pub loop-slot-preserved : goal.loop-slot-preserved
-loop-slot-preserved c =
-    let found = found_in c.args.state.now in
-    let scan = scan_in c.args.header.now in
-    let coded = c.in_ok-coding_of.field-0 in
-    let old = c.loop-slot.codings.items in
-    let more : c.push.new.self.items ≡ old ++ coded ∷ [] = search rules in
-    record {
-      whole = rw more (codings-more found (frame_in c.args.frame.now) scan c.loop-slot.slot old coded (omega arith)
-          c.requires.legal.dc_length c.requires.legal.ac_length
-          c.loop-slot.invariant.whole c.in_ok-coding_of.ensures.coding);
-      count = search rules;
-    }
+loop-slot-preserved c = grind (arith, common_steps, codings-more)
 
 pub returns-in_err-coding_of-clause-codings : goal.returns-in_err-coding_of-clause-codings
 returns-in_err-coding_of-clause-codings c =
@@ -38,6 +28,4 @@ returns-in_err-coding_of-clause-codings c =
     )
 
 pub returns-clause-codings : goal.returns-clause-codings
-returns-clause-codings c =
-    codings-all (found_in c.args.state.now) (frame_in c.args.frame.now) (scan_in c.args.header.now) c.loop-slot.slot
-    c.loop-slot.codings.items (omega arith) c.loop-slot.invariant.whole
+returns-clause-codings c = grind (arith, common_steps, codings-all)

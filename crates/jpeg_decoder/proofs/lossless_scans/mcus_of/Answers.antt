@@ -3,24 +3,20 @@ use Rattle.std.proofs.lemmas.List.{length-map}
 use Rattle.jpeg_segments.specs.Frame.{Component, ceiling, greatest}
 use Rattle.jpeg_segments.specs.FrameView.{component_in, factors_in, frame_in}
 use Rattle.jpeg_segments.specs.declared.parser.Component.{Component as Given}
-use Rattle.jpeg_lossless.specs.Pictures.{most_across, most_down}
+use Rattle.jpeg_lossless.specs.Pictures.{most_down}
 use Rattle.jpeg_decoder.specs.LosslessParts.{no_component}
 use Rattle.jpeg_decoder.proofs.LosslessReads.{alone, component-at, factors-seen, not-alone}
 use Rattle.jpeg_decoder.proofs.lossless_scans.mcus_of.Goals as goal
+use Rattle.std.proofs.lemmas.Grind.{common_steps}
 
 -- the component alone
 only : (c : goal.After-size-1)
     → component_in c.index.result.now
     ≡ get_or (frame_in c.args.frame.now).components (get_or c.args.places.now 0 0) no_component
-only c =
-    let cs = c.args.frame.now.components.items in
-    component-at cs (get_or c.args.places.now 0 0) c.index.result.now
-    (omega (arith, c.requires.within 0 0 c.requires.some, length-map cs component_in)) (search rules)
+only c = grind (arith, common_steps, component-at, length-map)
 
 pub returns-then-places-eq1-clause-wide : goal.returns-then-places-eq1-clause-wide
-returns-then-places-eq1-clause-wide c =
-    ap (λ (x : Component). x.width) (only c)
-    ∙ sym (alone (frame_in c.args.frame.now) c.args.places.now (search rules)).0
+returns-then-places-eq1-clause-wide c = grind (arith, common_steps, only, alone)
 
 pub returns-then-places-eq1-clause-high : goal.returns-then-places-eq1-clause-high
 returns-then-places-eq1-clause-high c =
@@ -28,15 +24,7 @@ returns-then-places-eq1-clause-high c =
     ∙ sym (alone (frame_in c.args.frame.now) c.args.places.now (search rules)).1
 
 pub returns-clause-wide : goal.returns-clause-wide
-returns-clause-wide c =
-    let frame = frame_in c.args.frame.now in
-    let cs = c.args.frame.now.components.items in
-    let most : c.greatest_of-horizontal.result.0 ≡ most_across frame =
-    c.greatest_of-horizontal.ensures.horizontal
-    ∙ ap (λ (l : List Given). greatest (λ f. f.horizontal) (map factors_in l)) c.deref.ensures.value
-    ∙ ap (greatest (λ f. f.horizontal)) (factors-seen cs) in
-    c.ceiling-wide.ensures ∙ ap₂ ceiling c.from.ensures (c.from-2.ensures ∙ most)
-    ∙ sym (not-alone frame c.args.places.now (search rules)).0
+returns-clause-wide c = grind (arith, common_steps, factors-seen, not-alone)
 
 pub returns-clause-high : goal.returns-clause-high
 returns-clause-high c =

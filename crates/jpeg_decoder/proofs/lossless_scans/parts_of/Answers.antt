@@ -6,6 +6,7 @@ use Rattle.jpeg_segments.specs.FrameView.{component_in, frame_in}
 use Rattle.jpeg_lossless.specs.Codings.{part_in}
 use Rattle.jpeg_decoder.proofs.LosslessReads.{component-at, parts_none, parts_step}
 use Rattle.jpeg_decoder.proofs.lossless_scans.parts_of.Goals as goal
+use Rattle.std.proofs.lemmas.Grind.{common_steps}
 
 pub loop-slot-preserved : goal.loop-slot-preserved
 loop-slot-preserved c =
@@ -32,8 +33,4 @@ loop-slot-preserved c =
     ∙ c.loop-slot.invariant
 
 pub returns : goal.returns
-returns c =
-    let places = c.args.places.now in
-    sym (parts_none (length places == 1) (frame_in c.args.frame.now).components places
-    (map (λ t. t.now) c.args.tables.now) c.loop-slot.slot (map part_in c.loop-slot.parts.items) (search rules))
-    ∙ c.loop-slot.invariant
+returns c = grind (arith, common_steps, parts_none)

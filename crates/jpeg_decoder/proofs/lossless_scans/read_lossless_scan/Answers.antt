@@ -1,11 +1,10 @@
-use Rattle.std.proofs.Common.{true, ◌≡◌, ◌<◌, ◌==◌, ◌∙◌, ℕ, List, ap, ap₂, length, map, subst, sym, Bor}
+use Rattle.std.proofs.Common.{true, ◌≡◌, ◌<◌, ◌==◌, ◌∙◌, ℕ, List, ap, length, map, subst, sym}
 use Rattle.std.specs.Prelude.{Option}
 use Rattle.std.proofs.lemmas.List.{length-map}
 use Rattle.std.proofs.lemmas.List.Elements.{recursion_from_All}
 use Rattle.std.specs.List.{AllByRecursion}
 use Rattle.std.specs.declared.alloc.Global.{Global}
 use Rattle.std.specs.declared.vec.Vec.{Vec}
-use Rattle.jpeg_bits.specs.declared.codes.HuffmanTable.{HuffmanTable}
 use Rattle.jpeg_lossless.specs.Codings.{AreWhole, IsCovered, part_in}
 use Rattle.jpeg_lossless.specs.Differences.{Part}
 use Rattle.jpeg_lossless.specs.declared.scan.Coding.{Coding}
@@ -15,7 +14,7 @@ use Rattle.jpeg_segments.specs.FrameView.{frame_in, scan_in}
 use Rattle.jpeg_streams.specs.Found.{Found}
 use Rattle.jpeg_streams.specs.LosslessScans.{with_samples}
 use Rattle.jpeg_decoder.specs.LosslessParts.{mcus_high, mcus_wide, parts_at}
-use Rattle.jpeg_decoder.specs.Seen.{found_in, planes_in}
+use Rattle.jpeg_decoder.specs.Seen.{found_in}
 use Rattle.jpeg_decoder.specs.Steps.{samples_read, with_decoded}
 use Rattle.jpeg_decoder.proofs.LosslessReads.{AreCodings, HasMcus, begun, coded-by, codings-by-tables, codings-count, codings-lacking, four-places}
 use Rattle.jpeg_decoder.proofs.LosslessReads.{has-mcus, on-ok, parts-count, put-made, samples-end, samples-fail}
@@ -26,27 +25,20 @@ use Rattle.jpeg_streams.proofs.Soundness.{decoded-precision}
 use Rattle.jpeg_decoder.proofs.lossless_scans.read_lossless_scan.Given as given
 use Rattle.jpeg_decoder.proofs.lossless_scans.read_lossless_scan.Goals.{After-deref-2, After-deref-3, After-put_samples}
 use Rattle.jpeg_decoder.proofs.lossless_scans.read_lossless_scan.Goals as goal
+use Rattle.std.proofs.lemmas.Grind.{common_steps}
+use Rattle.std.proofs.Common.{arith}
 
 -- the components of the scan, with their tables
 coded : (g : given.Over) (c : After-deref-2 g) → let scan = scan_in c.args.header.now in
     AreCodings (found_in c.args.state.now).huffman.dc (frame_in c.args.frame.now) scan.components scan.dc_places
     (map (λ t. t.now) c.in_ok-tables.tables.items)
-coded g c =
-    let frame = frame_in c.args.frame.now in
-    let scan = scan_in c.args.header.now in
-    codings-by-tables _ frame scan.components scan.dc_places _
-    (recursion_from_All (λ place. place < length frame.components) scan.components c.requires.legal.components)
-    c.requires.legal.dc_length c.in_ok-tables.ensures
+coded g c = grind (arith, common_steps, codings-by-tables, recursion_from_All)
 
 -- their parts
 made : (g : given.Over) (c : After-deref-3 g) → let places = (scan_in c.args.header.now).components in
     map part_in c.deref-3.result.now ≡ parts_at (length places == 1) (frame_in c.args.frame.now).components places
     (map (λ t. t.now) c.in_ok-tables.tables.items)
-made g c =
-    ap (map part_in) c.deref-3.ensures.value ∙ c.in_ok-parts.ensures
-    ∙ ap₂ (λ (l : List ℕ) (b : List (Bor HuffmanTable)).
-    parts_at (length l == 1) (frame_in c.args.frame.now).components l (map (λ t. t.now) b))
-    c.deref.ensures.value c.deref-2.ensures.value
+made g c = grind (arith, common_steps)
 
 -- their MCUs
 mcus : (g : given.Over) (c : After-deref-2 g)
@@ -66,12 +58,7 @@ placed : (g : given.Over) (c : After-put_samples g)
       scanned = true;
       samples = with_samples (scan_in c.args.header.now).components (map (λ v. v.items) c.in_ok-planes.planes.items) found.samples;
     })
-placed g c =
-    let planes = map (λ v. v.items) c.in_ok-planes.planes.items in
-    put-made (found_in c.args.state.now) c.args.decoded.now c.put_samples.new.self _ c.put_samples.ensures.held
-    c.put_samples.ensures.finished c.put_samples.ensures.planes
-    (c.put_samples.ensures.samples
-    ∙ ap (λ (l : List ℕ). with_samples l planes (planes_in c.args.decoded.now.samples)) c.deref-4.ensures.value)
+placed g c = grind (arith, common_steps, put-made)
 
 pub returns-in_err-tables-clause-reads : goal.returns-in_err-tables-clause-reads
 returns-in_err-tables-clause-reads g c =

@@ -9,6 +9,8 @@ use Rattle.jpeg_decoder.proofs.LosslessReads.{no-tables, tables-from}
 use Rattle.jpeg_decoder.proofs.ReadLists.{no-more, one-more, one-refused}
 use Rattle.jpeg_decoder.proofs.SlotCodings.{format-refuses}
 use Rattle.jpeg_decoder.proofs.lossless_scans.tables_of.Goals as goal
+use Rattle.std.proofs.lemmas.Grind.{common_steps}
+use Rattle.std.proofs.Common.{arith}
 
 pub returns-in_err-needed : goal.returns-in_err-needed
 returns-in_err-needed c =
@@ -39,8 +41,4 @@ loop-slot-preserved c =
     (ap (map (λ t. t.now)) pushed ∙ map-append (λ t. t.now) old (table ∷ [])) c.loop-slot.invariant
 
 pub returns : goal.returns
-returns c =
-    let ts = c.args.state.now.dc_tables in
-    let ds = c.args.header.now.dc_table_indices.items in
-    no-more (λ i. tables_in ts (drop i ds)) c.loop-slot.slot (map (λ t. t.now) c.loop-slot.tables.items) _
-    (no-tables ts ds c.loop-slot.slot (search rules)) c.loop-slot.invariant
+returns c = grind (arith, common_steps, no-more, no-tables)

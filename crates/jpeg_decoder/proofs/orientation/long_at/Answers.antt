@@ -1,28 +1,10 @@
-use Rattle.std.proofs.Common.{ap, ◌∙◌, take, true, false}
-use Rattle.jpeg_decoder.specs.Orientation.{number}
 use Rattle.jpeg_decoder.proofs.Orientations.{four-lower, four-higher}
 use Rattle.jpeg_decoder.proofs.orientation.long_at.Goals as goal
+use Rattle.std.proofs.lemmas.Grind.{common_steps}
+use Rattle.std.proofs.Common.{arith}
 
 pub returns-then-is_little : goal.returns-then-is_little
-returns-then-is_little c =
-    rw (
-      c.if-is_little.true,
-      c.from-first.ensures,
-      c.from-second.ensures,
-      c.from-third.ensures,
-      c.from-fourth.ensures,
-    )
-    (four-lower c.in_ok-rest.rest.now c.in-len4-up.len_at_least
-    ∙ ap (λ l. number true (take 4 l)) (c.in_ok-rest.ensures {u = tt}).cases.2)
+returns-then-is_little c = grind (arith, common_steps, four-lower)
 
 pub returns-else-is_little : goal.returns-else-is_little
-returns-else-is_little c =
-    rw (
-      c.if-is_little.false,
-      c.from-first.ensures,
-      c.from-second.ensures,
-      c.from-third.ensures,
-      c.from-fourth.ensures,
-    )
-    (four-higher c.in_ok-rest.rest.now c.in-len4-up.len_at_least
-    ∙ ap (λ l. number false (take 4 l)) (c.in_ok-rest.ensures {u = tt}).cases.2)
+returns-else-is_little c = grind (arith, common_steps, four-higher)

@@ -1,16 +1,10 @@
-use Rattle.std.proofs.Common.{◌∙◌, ap, sym, ℕ, List, Option, Some}
-use Rattle.std.specs.Prelude.{option_map}
-use Rattle.jpeg_segments.specs.declared.parser.IccChunk.{IccChunk}
 use Rattle.jpeg_streams.proofs.ProfileLemmas.{part_find}
 use Rattle.jpeg_decoder.proofs.profile.part.Goals as goal
+use Rattle.std.proofs.lemmas.Grind.{common_steps}
+use Rattle.std.proofs.Common.{arith}
 
 pub returns-in-Some : goal.returns-in-Some
-returns-in-Some c =
-    ap (λ (ys : List ℕ). Some ys) c.as_slice.ensures.value
-    ∙ ap (λ (o : Option IccChunk). option_map (λ (p : IccChunk). p.bytes.items) o) c.in-Some.ensures
-    ∙ sym (part_find c.args.number c.args.chunks.now)
+returns-in-Some c = grind (arith, common_steps, part_find)
 
 pub returns-in-None : goal.returns-in-None
-returns-in-None c =
-    ap (λ (o : Option IccChunk). option_map (λ (p : IccChunk). p.bytes.items) o) c.in-None.ensures
-    ∙ sym (part_find c.args.number c.args.chunks.now)
+returns-in-None c = grind (arith, common_steps, part_find)

@@ -1,30 +1,21 @@
-use Rattle.std.proofs.Common.{rules, ◌≡◌, ◌∙◌, ◌<◌, ◌^◌, Option, Some, true, false, ap, arith, length}
+use Rattle.std.proofs.Common.{rules, ◌≡◌, ◌∙◌, ◌<◌, ◌^◌, Option, Some, true, ap, arith, length}
 use Rattle.std.proofs.lemmas.Result.{err_from_is_err_and}
 use Rattle.jpeg_bits.specs.Marker.{next_marker}
 use Rattle.jpeg_bits.specs.declared.marker.Marker.{Marker}
-use Rattle.jpeg_bits.proofs.Loops.{Continues-ok, Continues-err}
+use Rattle.jpeg_bits.proofs.Loops.{Continues-ok}
 use Rattle.jpeg_decoder.specs.Steps.{is_restart_marker, after_all}
 use Rattle.jpeg_streams.proofs.Refusals.{never-met, short-first}
 use Rattle.jpeg_decoder.proofs.PassedRestarts.{after-done, after-refused, after-next, marker-takes}
 use Rattle.jpeg_decoder.proofs.restarts.pass_restarts.Goals as goal
 use Rattle.jpeg_decoder.proofs.restarts.pass_restarts.Goals.{else-loop-test}
 use Rattle.jpeg_decoder.proofs.restarts.pass_restarts.Goals.{then-loop-test+else-not-is_restart+in_ok-read_marker+else-counter-lt18446744073709551615}
+use Rattle.std.proofs.lemmas.Grind.{common_steps}
 
 pub returns-then-not-is_restart : goal.returns-then-not-is_restart
-returns-then-not-is_restart g c =
-    let e : is_restart_marker c.loop.met ≡ false = search rules in (
-      c.loop.invariant.reads.0,
-      λ k. let here = c.loop.invariant.reads.1 k in (here.0, here.1 ∙ after-done c.loop.met c.loop.source.bytes e),
-    )
+returns-then-not-is_restart g c = grind (arith, common_steps, after-done)
 
 pub returns-in_err-read_marker : goal.returns-in_err-read_marker
-returns-in_err-read_marker g c =
-    let p = err_from_is_err_and c.from_residual.result c.from_residual.ensures.1 in
-    let e : is_restart_marker c.loop.met ≡ true = search rules in
-    rw (p.1, p.2) (Continues-err {X = Option Marker} {Z = Marker} (λ m. m) (λ m. m) (after_all c.args.met)
-    (after_all c.loop.met) next_marker c.args.source.now c.loop.source c.read_marker.new.source _
-    (λ f h. after-refused c.loop.met c.loop.source.bytes f e h) c.loop.invariant.reads
-    c.in_err-read_marker.ensures.answers)
+returns-in_err-read_marker g c = grind (arith, common_steps, err_from_is_err_and, after-refused)
 
 pub loop-preserved : goal.loop-preserved
 loop-preserved g c =

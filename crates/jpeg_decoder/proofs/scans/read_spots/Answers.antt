@@ -1,4 +1,4 @@
-use Rattle.std.proofs.Common.{◌∙◌, ap, pos, refl, rules, List, ◌∷◌, Result, get_or, length}
+use Rattle.std.proofs.Common.{◌∙◌, ap, pos, refl, rules, List, ◌∷◌, Result, get_or, length, arith}
 use Rattle.std.specs.List.{AllByRecursion}
 use Rattle.jpeg_bits.proofs.WholeBlocks.{refused_after}
 use Rattle.jpeg_bits.specs.BlockView.{pass_in, predictor_at, to_block}
@@ -12,6 +12,7 @@ use Rattle.jpeg_decoder.specs.Scanning.{IsSpotOf, arrays_in, counted, sizes_of, 
 use Rattle.jpeg_decoder.proofs.BlockSteps.{begun_turn, blocks_begun, blocks_refused, next_read, next_refused, next_unbegun}
 use Rattle.jpeg_decoder.proofs.HeldBlocks.{sizes-set, spot, turn-read, turn-refused}
 use Rattle.jpeg_decoder.proofs.scans.read_spots.Goals as goal
+use Rattle.std.proofs.lemmas.Grind.{common_steps}
 
 pub returns-then-not-begin-clause-blocks : goal.returns-then-not-begin-clause-blocks
 returns-then-not-begin-clause-blocks g c =
@@ -32,9 +33,7 @@ returns-then-not-begin-clause-blocks g c =
     l.invariant.blocks (c.if-not-begin.ensures.begun arrays))
 
 pub returns-then-not-take_block-clause-sizes : goal.returns-then-not-take_block-clause-sizes
-returns-then-not-take_block-clause-sizes g c =
-    sizes-set c.loop-spot.arrays.items c.in-Some.spot.slot c.in-Some.spot.index c.index_mut.result.now
-    c.take_block.new.block c.index_mut.ensures.value ∙ c.loop-spot.invariant.sizes
+returns-then-not-take_block-clause-sizes g c = grind (arith, common_steps, sizes-set)
 
 pub returns-then-not-take_block-clause-blocks : goal.returns-then-not-take_block-clause-blocks
 returns-then-not-take_block-clause-blocks g c =

@@ -2,6 +2,7 @@ use Rattle.std.proofs.Common.{◌∙◌, ap, set, length, replicate, [], sym, Li
 use Rattle.std.proofs.lemmas.List.{length-replicate, get_or-replicate}
 use Rattle.jpeg_streams.proofs.InPlace.{patched-next, patched-all}
 use Rattle.jpeg_decoder.proofs.strips.clear_blocks.Goals as goal
+use Rattle.std.proofs.lemmas.Grind.{common_steps}
 
 pub loop-block-preserved : goal.loop-block-preserved
 loop-block-preserved c =
@@ -14,8 +15,4 @@ loop-block-preserved c =
     (get_or-replicate (length old) i zero [] c.loop-block-test.true))
 
 pub returns : goal.returns
-returns c =
-    let old = c.args.blocks.now in
-    let zero = replicate 64 (pos 0) in
-    c.loop-block.invariant ∙ patched-all (replicate (length old) zero) old c.loop-block.block-index (length-replicate
-    (length old) zero) (omega arith)
+returns c = grind (arith, common_steps, pos, patched-all, length-replicate)

@@ -1,9 +1,10 @@
-use Rattle.std.proofs.Common.{◌≡◌, ◌∙◌, sym, ap, rules, length, drop, map, get_or}
+use Rattle.std.proofs.Common.{◌≡◌, ◌∙◌, ap, rules, get_or, arith}
 use Rattle.jpeg_decoder.specs.declared.scan.Coded.{Coded}
 use Rattle.jpeg_bits.specs.BlockView.{pass_in}
-use Rattle.jpeg_decoder.specs.Steps.{coding_in, with_decoded, with_its_plane, with_planes}
+use Rattle.jpeg_decoder.specs.Steps.{with_decoded, with_its_plane}
 use Rattle.jpeg_decoder.proofs.PutLoops.{planes-step, none-left, planes-none}
 use Rattle.jpeg_decoder.proofs.decoded.Decoded.add_planes.Goals as goal
+use Rattle.std.proofs.lemmas.Grind.{common_steps}
 
 pub loop-slot-preserved : goal.loop-slot-preserved
 loop-slot-preserved c =
@@ -26,15 +27,4 @@ loop-slot-preserved c =
     }
 
 pub returns-clause-planes : goal.returns-clause-planes
-returns-clause-planes c =
-    let l = c.loop-slot in
-    let cs = c.args.scan.now.components.items in
-    let p = pass_in c.args.scan.now.pass in
-    let end : l.slot ≡ length cs = search rules in
-    λ base.
-    sym (ap (λ k. with_planes p (drop k (map coding_in cs)) (drop l.slot (map (λ v. v.items) l.planes.items))
-    (with_decoded base l.self)) end
-    ∙ ap (λ xs. with_planes p xs (drop l.slot (map (λ v. v.items) l.planes.items)) (with_decoded base l.self))
-    (none-left coding_in cs)
-    ∙ planes-none p (drop l.slot (map (λ v. v.items) l.planes.items)) (with_decoded base l.self))
-    ∙ l.invariant.added base
+returns-clause-planes c = grind (arith, common_steps, none-left, planes-none)

@@ -1,21 +1,10 @@
-use Rattle.std.proofs.Common.{◌∙◌, rules}
+use Rattle.std.proofs.Common.{rules, arith}
 use Rattle.jpeg_decoder.proofs.LosslessReads.{put-all, put-step}
 use Rattle.jpeg_decoder.proofs.decoded.Decoded.put_samples.Goals as goal
+use Rattle.std.proofs.lemmas.Grind.{common_steps}
 
 pub loop-slot-preserved : goal.loop-slot-preserved
-loop-slot-preserved c =
-    let l = c.loop-slot in
-    record {
-      within = search rules;
-      count = search rules;
-      held = search rules;
-      finished = search rules;
-      planes = search rules;
-      samples =
-          put-step c.args.places.now l.slot l.planes.items c.replace-plane.new.dest c.replace-plane.result
-          l.self.samples
-          (search rules) l.invariant.count (search rules) ∙ l.invariant.samples;
-    }
+loop-slot-preserved c = grind (arith, common_steps, put-step)
 
 pub returns-clause-samples : goal.returns-clause-samples
 returns-clause-samples c =

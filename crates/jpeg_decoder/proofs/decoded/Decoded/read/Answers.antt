@@ -1,6 +1,5 @@
-use Rattle.std.proofs.Common.{◌≡◌, ◌∙◌, ap, sym, subst, refl, true, List, map, ℕ, ◌*◌, Option, Ok}
+use Rattle.std.proofs.Common.{◌≡◌, ◌∙◌, ap, sym, subst, refl, List, map, ℕ, ◌*◌, Option, arith}
 use Rattle.std.proofs.lemmas.Result.{err_from_is_err_and}
-use Rattle.jpeg_bits.specs.declared.error.Error.{Error}
 use Rattle.jpeg_bits.specs.declared.marker.Marker.{Marker}
 use Rattle.jpeg_bits.specs.BlockView.{pass_in}
 use Rattle.jpeg_segments.specs.Frame.{Component}
@@ -17,6 +16,7 @@ use Rattle.jpeg_decoder.proofs.PlacedCodings.{coded-components}
 use Rattle.jpeg_decoder.proofs.ScanData.{answers-err, held-afterwards, none-held, of-frame, planes-whole}
 use Rattle.jpeg_decoder.proofs.SequentialScans.{read-data, read-refused}
 use Rattle.jpeg_decoder.proofs.decoded.Decoded.read.Goals as goal
+use Rattle.std.proofs.lemmas.Grind.{common_steps}
 
 pub returns-in_err-reached-clause-data : goal.returns-in_err-reached-clause-data
 returns-in_err-reached-clause-data g c =
@@ -76,17 +76,10 @@ returns-clause-planes g c =
     (sym (coded-components cs))) h)
 
 pub returns-then-is_progressive-clause-held : goal.returns-then-is_progressive-clause-held
-returns-then-is_progressive-clause-held g c =
-    held-afterwards c.read_held.result (record (with_decoded (found_in c.args.state.now) c.read_held.new.self)
-    { scanned = true }) (frame_in c.args.frame.now)
-    (sym c.if-is_progressive.ensures) refl c.read_held.ensures.held
+returns-then-is_progressive-clause-held g c = grind (arith, common_steps, held-afterwards)
 
 pub returns-then-are_decided-clause-held : goal.returns-then-are_decided-clause-held
-returns-then-are_decided-clause-held g c =
-    none-held c.read_again.result (record (with_decoded (found_in c.args.state.now) c.read_again.new.self)
-    { scanned = true }) (frame_in c.args.frame.now) (sym c.if-is_progressive.ensures)
+returns-then-are_decided-clause-held g c = grind (arith, common_steps, none-held)
 
 pub returns-clause-held : goal.returns-clause-held
-returns-clause-held g c =
-    none-held {X = Option Marker} {E = Error} (Ok c.in_ok-reached.reached)
-    (record (with_decoded (found_in c.args.state.now) c.add_planes.new.self) { scanned = true }) (frame_in c.args.frame.now) (sym c.if-is_progressive.ensures)
+returns-clause-held g c = grind (arith, common_steps, none-held)

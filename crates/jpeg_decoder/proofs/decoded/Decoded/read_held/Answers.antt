@@ -1,4 +1,4 @@
-use Rattle.std.proofs.Common.{◌≡◌, ◌∙◌, ◌<◌, ◌*◌, ap, ap₂, sym, subst, List, map, length, ℕ, Option}
+use Rattle.std.proofs.Common.{◌≡◌, ◌∙◌, ◌<◌, ◌*◌, ap, sym, subst, List, map, length, ℕ, Option}
 use Rattle.std.specs.Prelude.{All}
 use Rattle.std.specs.declared.alloc.Global.{Global}
 use Rattle.std.specs.declared.vec.Vec.{Vec}
@@ -11,12 +11,12 @@ use Rattle.std.specs.List.{AllByRecursion}
 use Rattle.jpeg_segments.specs.Frame.{Frame, Component}
 use Rattle.jpeg_segments.specs.FrameView.{frame_in}
 use Rattle.jpeg_decoder.specs.declared.scan.Coded.{Coded}
-use Rattle.jpeg_streams.specs.InTurn.{AreApart, AreArrays}
+use Rattle.jpeg_streams.specs.InTurn.{AreArrays}
 use Rattle.jpeg_streams.specs.Order.{spots_of, mcu_size}
 use Rattle.jpeg_streams.specs.Scans.{Arrays, arrays_at}
 use Rattle.jpeg_decoder.specs.Seen.{found_in, planes_in}
 use Rattle.jpeg_streams.specs.Sound.{ArePlanes}
-use Rattle.jpeg_decoder.specs.Scanning.{arrays_in, blocks_in, components_in, sizes_of, vias_in}
+use Rattle.jpeg_decoder.specs.Scanning.{arrays_in, components_in, sizes_of, vias_in}
 use Rattle.jpeg_decoder.specs.Steps.{blocks_at, coding_in, scan_data, with_decoded, without_blocks, AreRising}
 use Rattle.jpeg_decoder.specs.Steps.{IsCodingOf}
 use Rattle.jpeg_streams.specs.ScanSegments.{put_arrays, arrays_before}
@@ -30,6 +30,8 @@ use Rattle.jpeg_decoder.proofs.ScanData.{data-held, data-held-refused, arrays-wh
 use Rattle.jpeg_decoder.proofs.decoded.Decoded.read_held.Given as given
 use Rattle.jpeg_decoder.proofs.decoded.Decoded.read_held.Goals.{In_ok-arrays}
 use Rattle.jpeg_decoder.proofs.decoded.Decoded.read_held.Goals as goal
+use Rattle.std.proofs.lemmas.Grind.{common_steps}
+use Rattle.std.proofs.Common.{arith}
 
 pub take_blocks-requires-clause-within : goal.take_blocks-requires-clause-within
 take_blocks-requires-clause-within g c =
@@ -42,9 +44,7 @@ take_blocks-requires-clause-within g c =
     (sym c.in_ok-hold.ensures.held) c.requires.held))
 
 pub take_blocks-requires-clause-apart : goal.take_blocks-requires-clause-apart
-take_blocks-requires-clause-apart g c =
-    subst (λ (xs : List Coded). AreApart (map (λ (x : Coded). x.place) xs)) (sym c.deref.ensures.value)
-    (rising-codings c.args.scan.now.components.items c.requires.ready.rising)
+take_blocks-requires-clause-apart g c = grind (arith, common_steps, rising-codings)
 
 -- the blocks that are taken are those of the components
 taken-sized : (frame : Frame) (cs seen : List Coded) (held taken : List Held) (before : Arrays) → seen ≡ cs
@@ -53,13 +53,7 @@ taken-sized : (frame : Frame) (cs seen : List Coded) (held taken : List Held) (b
     → AllByRecursion (IsCodingOf frame) (map coding_in cs) → AreArrays frame.components before
     → (arrays_in taken ≡ blocks_at (map coding_in cs) before) × AreArrays (components_in cs) (arrays_in taken)
 taken-sized frame cs seen held taken before d e t of h =
-    let is : arrays_in taken ≡ blocks_at (map coding_in cs) before
-    = t ∙ ap₂ (λ (l : List Coded) (a : Arrays). blocks_at (map coding_in l) a) d e in (
-      is,
-      subst (AreArrays (components_in cs)) (sym is)
-          (subst (λ (l : List Component). AreArrays l (blocks_at (map coding_in cs) before)) (coded-components cs)
-          (arrays-sized frame (map coding_in cs) before h (of-frame frame (map coding_in cs) of))),
-    )
+    grind (arith, common_steps, taken, coded-components, arrays-sized, of-frame)
 
 taken : (g : given.Over) (c : In_ok-arrays g) → let cs = c.args.scan.now.components.items in
     (arrays_in c.in_ok-arrays.arrays.items ≡ blocks_at (map coding_in cs)
@@ -115,10 +109,7 @@ put_blocks-requires-clause-places g c =
 
 long-read : (cs : List Coded) (taken new : List Held) (before : Arrays)
     → arrays_in taken ≡ blocks_at (map coding_in cs) before → sizes_of new ≡ sizes_of taken → length new ≡ length cs
-long-read cs taken new before t e =
-    sym (length-map new (λ (v : Held). length v.items))
-    ∙ (ap length e ∙ length-map taken (λ (v : Held). length v.items))
-    ∙ (sym (length-map taken blocks_in) ∙ (ap length t ∙ (length-map (map coding_in cs) _ ∙ length-map cs coding_in)))
+long-read cs taken new before t e = grind (arith, common_steps, length-map, taken)
 
 -- the blocks that are held afterwards
 put-held : (cs seen again : List Coded) (held left arrays put : List Held) (before : Arrays) → seen ≡ cs → again ≡ cs
@@ -128,13 +119,7 @@ put-held : (cs seen again : List Coded) (held left arrays put : List Held) (befo
     → AreRising (map coding_in cs) → length arrays ≡ length cs
     → arrays_in put ≡ put_arrays (map coding_in cs) (arrays_in arrays) before
 put-held cs seen again held left arrays put before d k e l h r n =
-    h
-    ∙ ap₂ (λ (xs : List Coded) (a : Arrays). put_arrays (map coding_in xs) (arrays_in arrays) a) k (l
-    ∙ ap (λ (xs : List Coded). without_blocks (map coding_in xs) (arrays_in held)) d)
-    ∙ put-back (map coding_in cs) (arrays_in arrays) (arrays_in held) (subst AreApart (sym (coded-places cs))
-    (rising-codings cs r))
-    (length-map arrays blocks_in ∙ (n ∙ sym (length-map cs coding_in)))
-    ∙ ap (put_arrays (map coding_in cs) (arrays_in arrays)) e
+    grind (arith, common_steps, put-back, coded-places, rising-codings, length-map)
 
 pub returns-clause-data : goal.returns-clause-data
 returns-clause-data g c =
