@@ -285,8 +285,7 @@ all-apart frame components fits =
 pub spots-apart : (frame : Frame) (components : List Component) → AllByRecursion (Fits frame) components
     → AreApart (spots_of frame components)
 unfolding spots_of
-spots-apart frame [] fits = tt
-spots-apart frame components fits = search (rules, own-apart, all-apart)
+spots-apart frame components hyp3 = search (rules, own-apart, all-apart)
 
 -- ---- inside
 

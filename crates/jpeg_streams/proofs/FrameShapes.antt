@@ -46,8 +46,7 @@ pub record Plain (f : Frame) : Type 0 where
 pub frame-lossy : (number precision width height : ℕ) (cs : List Factors) → number ≤ 2
     → (frame_of number precision width height cs).process ≢ Lossless
 unfolding frame_of
-frame-lossy (suc (suc (suc n))) precision width height cs h e = absurd (omega arith)
-frame-lossy number precision width height cs h e = cc
+frame-lossy number precision width height cs hyp6 = search rules
 
 -- ---- full size
 
@@ -64,11 +63,6 @@ pub at-mapped : {A B : Type 0} (g : A → B) (k : ℕ) (xs : List A) (y : B) →
 at-mapped g k [] y h = absurd h
 at-mapped g zero (x ∷ xs) y h = (x, refl, h)
 at-mapped g (suc k) (x ∷ xs) y h = at-mapped g k xs y h
-
-frame-fits : (number precision width height : ℕ) (cs : List Factors) → AllByRecursion IsInRange cs
-    → (k : ℕ) (c : Component)
-    → At k (frame_of number precision width height cs).components c → Fits (frame_of number precision width height cs) c
-frame-fits number precision width height cs all k c t = search (rules, at-all, frames-fit)
 
 pub count-few : (n : ℕ) → is_decoded_count n ≡ true → (0 < n) × (n ≤ 4)
 count-few n h = search (rules, eqb-true)
@@ -87,7 +81,7 @@ pub all-shaped : (f : Frame) → Plain f → f.process ≢ Lossless → accepted
 all-shaped f o lossy ok = record {
   made = subst Made (plain-size f o) (made-at f 8 o (omega arith));
   few = accepted-few f f ok;
-  fits = search (rules, frame-fits);
+  fits = search (rules, at-all, frames-fit);
   lossy = lossy;
 }
 

@@ -23,9 +23,6 @@ use Rattle.jpeg_streams.proofs.ReadTurns.{err-ok, ok-same, bind-ok}
 abbrev pub Agree : ℕ → ℕ → (ℕ → ℕ → ℕ) → (ℕ → ℕ → ℕ) → Type 0
 Agree w h p q = (i j : ℕ) → i < w → j < h → p i j ≡ q i j
 
-far-within : (count i : ℕ) → 0 < count → i < 2 * count → far_place count i < count
-far-within count i some h = search rules
-
 -- a sample between a component's own is made of those inside
 upsampled-inside : (rule : UpsampleRule) (w h width height x y : ℕ) (p q : ℕ → ℕ → ℕ) → 0 < w → 0 < h
     → 0 < across rule → 0 < down rule
@@ -34,7 +31,7 @@ upsampled-inside : (rule : UpsampleRule) (w h width height x y : ℕ) (p q : ℕ
 unfolding upsampled
 upsampled-inside (Generic s t) w h width height x y p q a b c d e f k l same =
     grind (arith, common_steps, mul_comm, div-lt_iff_lt-mul)
-upsampled-inside rule w h width height x y p q a b c d e f k l same = search (rules, far-within)
+upsampled-inside rule w h width height x y p q a b c d e f k l same = search rules
 
 -- ---- lines and pictures
 
@@ -62,10 +59,6 @@ abbrev pub AllReach : List Source → ℕ → ℕ → Type 0
 AllReach [] width height = Unit {0}
 AllReach (s ∷ sources) width height = Reaches s width height × AllReach sources width height
 
-line-same : (s : Source) (p q : List ℕ) (width height row : ℕ) → Reaches s width height → row < height
-    → SamePlane s.stride s.width s.height p q → line_of s p width row ≡ line_of s q width row
-line-same s p q width height row c low same = search (rules, map-same, slice_index, upsampled-inside)
-
 abbrev pub AllSame : List Source → List (List ℕ) → List (List ℕ) → Type 0
 AllSame [] ps qs = Unit {0}
 AllSame (s ∷ sources) [] qs = ⊥
@@ -77,7 +70,13 @@ lines-same : (sources : List Source) (ps qs : List (List ℕ)) (width height row
     → lines_of sources ps width row ≡ lines_of sources qs width row
 unfolding lines_of
 lines-same (s ∷ sources) (p ∷ ps) (q ∷ qs) width height row c low same =
-    search (rules, line-same, lines-same sources ps qs width height row c.1 low same.1)
+    search (
+      rules,
+      map-same,
+      slice_index,
+      upsampled-inside,
+      lines-same sources ps qs width height row c.1 low same.1,
+    )
 lines-same sources ps qs width height row c low same = search rules
 
 picture-line : (convert : ColorConvert) (sources : List Source) (ps : List (List ℕ)) (width row : ℕ)
@@ -103,19 +102,12 @@ AllAlike (c ∷ more) [] qs = ⊥
 AllAlike (c ∷ more) (p ∷ ps) [] = ⊥
 AllAlike (c ∷ more) (p ∷ ps) (q ∷ qs) = SamePlane (c.blocks_wide * c.scale) c.width c.height p q × AllAlike more ps qs
 
-source-plane : (c : Component) (rule : Option UpsampleRule) (s : Source) (p q : List ℕ) → source_by c rule ≡ Ok s
-    → SamePlane (c.blocks_wide * c.scale) c.width c.height p q → SamePlane s.stride s.width s.height p q
-source-plane c None s p q e h = absurd (err-ok (Lacks _) s e)
-source-plane c (Some rule) s p q e h = subst (λ (x : Source). SamePlane x.stride x.width x.height p q) (ok-same _ s e) h
-
 sources-same : (a b width height : ℕ) (components : List Component) (sources : List Source) (ps qs : List (List ℕ))
     → sources_by a b width height components ≡ Ok sources → AllAlike components ps qs
     → AllSame sources ps qs
 unfolding sources_by
 sources-same a b width height (c ∷ more) sources (p ∷ ps) (q ∷ qs) e h =
-    let one = bind-ok (source_of a b width height c) _ sources e in
-    let others = bind-ok (sources_by a b width height more) _ sources one.2 in
-    search (rules, ok-same, source-plane, sources-same a b width height more others.0 ps qs others.1 h.1)
+    search (rules, bind-ok, err-ok, sources-same a b width height more)
 sources-same a b width height components sources ps qs e h = search (rules, ok-same)
 
 -- The image of several components.

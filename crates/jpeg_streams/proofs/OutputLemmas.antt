@@ -26,12 +26,10 @@ not-some (Some x) e h = absurd (let n : ⊥ = cc in n)
 pub outside-decode : (known failed : Bool) (e : Error) (bytes : List ℕ)
     → (known ≡ true → Names e (meaning default_settings bytes)) → (known ≡ false → IsGivenUp e failed)
     → IsSome (output_of bytes) → IsOutsideOrMemory e
-outside-decode true failed (Format text) bytes r f s = search (rules, not-some, output-none)
-outside-decode known failed e bytes r f s = search (rules, not-some, output-none)
+outside-decode known failed e bytes hyp5 hyp6 hyp7 = search (rules, not-some, output-none)
 
 -- an error names the stream's fault, or is the reader's, or out of memory
 pub named-decode : (known failed : Bool) (e : Error) (bytes : List ℕ)
     → (known ≡ true → Names e (meaning default_settings bytes)) → (known ≡ false → IsGivenUp e failed)
     → NamesOrOutside bytes e
-named-decode true failed e bytes r f = inl (r refl)
-named-decode known failed e bytes r f = search rules
+named-decode known failed e bytes hyp5 hyp6 = search rules

@@ -22,9 +22,7 @@ use Rattle.jpeg_streams.proofs.LosslessSizes.{IsMade, all-at, frames-made, made-
 lines-short : (n : ℕ) (selection : Predictor) (start : ℕ) (above : List ℕ) (ds : List (List ℕ))
     → take n (lines_below selection start above ds) ≡ lines_below selection start above (take n ds)
 unfolding lines_below
-lines-short (suc n) selection start above (d ∷ ds) =
-    let line = line_below selection start above d in
-    ap (λ (l : List (List ℕ)). line ∷ l) (lines-short n selection start line ds)
+lines-short (suc n) selection start above (d ∷ ds) = search (rules, lines-short n selection start)
 lines-short n selection start above ds = refl
 
 -- the samples inside come of the differences inside alone

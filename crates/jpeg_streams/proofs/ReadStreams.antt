@@ -42,11 +42,6 @@ use Rattle.jpeg_streams.proofs.WrittenMarkers.{marker-append, marker_for, segmen
 
 -- ---- a segment between scans
 
-same-arrays : (w next : Found) (sc : Bool) (h : Arrays) (fi : List (List Bool)) (pl : List (Option (List ℕ)))
-    (f : Frame) → arrays_before (reading w sc h fi pl) f ≡ arrays_before (reading next sc h fi pl) f
-unfolding arrays_before
-same-arrays w next sc h fi pl f = refl
-
 plane-same : (w next : Found) (array : Coefficients) (l : Levels) (pl : List (Option (List ℕ))) (k : ℕ)
     (c : Component) → next.quantization ≡ w.quantization
     → PlaneSo w array l pl k c → PlaneSo next array l pl k c
@@ -60,7 +55,8 @@ framed-by : (w next : Found) (f : Frame) (array : Coefficients) (levels : ℕ �
     (fi : List (List Bool)) (pl : List (Option (List ℕ)))
     → ((k : ℕ) (c : Component) → PlaneSo w array (levels k) pl k c → PlaneSo next array (levels k) pl k c)
     → Framed w f array levels sc h fi pl → Framed next f array levels sc h fi pl
-framed-by w next f array levels sc h fi pl g fr = search (rules, same-arrays)
+unfolding arrays_before
+framed-by w next f array levels sc h fi pl g fr = search rules
 
 framed-same : (w next : Found) (f : Frame) (array : Coefficients) (levels : ℕ → Levels) (sc : Bool) (h : Arrays)
     (fi : List (List Bool)) (pl : List (Option (List ℕ))) → next.quantization ≡ w.quantization
@@ -110,12 +106,8 @@ segment-held : (bf : Before) (w : Found) (s : Segment) (sc : Bool) (h : Arrays) 
     (pl : List (Option (List ℕ))) (rest : List ℕ) → Stands w s → IsDctSegment s
     → segment_at (marker_for s) bf (reading w sc h fi pl) (sized (payload_of s) ++ rest)
     ≡ Ok (onward (reading (found_after w s) sc h fi pl), rest)
-segment-held bf w (Quantization ts) sc h fi pl rest may dct = search (rules, segment-read)
-segment-held bf w (Huffman ts) sc h fi pl rest may dct = search (rules, segment-read)
-segment-held bf w (Interval n) sc h fi pl rest may dct = search (rules, segment-read)
-segment-held bf w (Application number payload) sc h fi pl rest may dct = search (rules, segment-read)
-segment-held bf w (Comment payload) sc h fi pl rest may dct = search (rules, segment-read)
-segment-held bf w (Header number header) sc h fi pl rest may dct = search (rules, frame-turn, header-accepted)
+segment-held bf w s sc h fi pl rest hyp9 hyp10 =
+    search (rules, segment-read, frame-turn, header-accepted)
 
 segment-turn : (bf : Before) (w : Found) (s : Segment) (sc : Bool) (h : Arrays) (fi : List (List Bool))
     (pl : List (Option (List ℕ))) (met : Option Marker) (all : List ℕ) (fill : ℕ) (more tail : List ℕ)
@@ -304,7 +296,7 @@ reads-header array tail w final levels last sc bytes (suc turns) good none fresh
     (segment-tables w s may.0 good) (frame-stays w s other ∙ none) fresh unscanned r shorter))
 reads-header array tail w final levels last sc bytes (suc turns) good none fresh unscanned
     (scan w' final' levels' last' sc' frame fill head codings payload more framed is l x r) room =
-    some-none frame w.frame framed none
+    search (rules, some-none)
 reads-header array tail w final levels last sc bytes (suc turns) good none fresh unscanned
     (closed w' levels' frame fill framed t c) room = some-none frame w.frame framed none
 

@@ -64,21 +64,16 @@ pub record Alike (c d : Component) : Type 0 where
 pub grid-same : (c d : Component) → Alike c d → grid_of d ≡ grid_of c
 grid-same c d h = rw (h.own_wide, h.own_high, h.wide, h.high) refl
 
-part-same : (row column slot : ℕ) (c d : Component) → Alike c d
-    → part_spots row column slot d ≡ part_spots row column slot c
-unfolding part_spots
-part-same row column slot c d h = rw (h.factors, h.wide) refl
-
 pub data Alikes : List Component → List Component → Type 0 where
   none : Alikes [] []
   one_more : (c d : Component) (cs ds : List Component) → Alike c d → Alikes cs ds → Alikes (c ∷ cs) (d ∷ ds)
 
 mcu-same : (row column slot : ℕ) (cs ds : List Component) → Alikes cs ds
     → mcu_spots row column slot ds ≡ mcu_spots row column slot cs
-unfolding mcu_spots
+unfolding mcu_spots part_spots
 mcu-same row column slot cs ds none = refl
 mcu-same row column slot cs ds (one_more c d cs' ds' h more) =
-    ap₂ (λ (x y : List Spot). x ++ y) (part-same row column slot c d h) (mcu-same row column (slot + 1) cs' ds' more)
+    search (rules, mcu-same row column (slot + 1) cs' ds' more)
 
 flat-same : {B : Type 0} (f g : ℕ → List B) → ((k : ℕ) → f k ≡ g k) → (xs : List ℕ) → flat_map f xs ≡ flat_map g xs
 flat-same f g h [] = refl
@@ -265,10 +260,7 @@ legal-alike p levels ks ls (one_more k l ks' ls' a more) h = search (rules, lega
 
 segment-alike : (w : Found) (s : Segment) (f g : Frame) → SameFrame f g → w.frame ≡ Some f → Stands w s
     → Stands (at_frame w g) s × (found_after (at_frame w g) s ≡ at_frame (found_after w s) g)
-segment-alike w (Quantization ts) f g same e may = (may, refl)
-segment-alike w (Huffman ts) f g same e may = grind (arith, common_steps)
-segment-alike w (Header number h) f g same e may = some-none f w.frame e may.0.0
-segment-alike w s f g same e may = (may, refl)
+segment-alike w s f g hyp5 hyp6 hyp7 = search (rules, some-none)
 
 tables-there : (w : Found) (g : Frame) (cs ds : List Component) → Alikes cs ds → AllByRecursion (HasTable w) cs
     → AllByRecursion (HasTable (at_frame w g)) ds
@@ -316,9 +308,7 @@ scans-alike array f g w final levels last sc bytes same e
     (frame-stays w s (is-other w f s e may) ∙ e) r))
 scans-alike array f g w final levels last sc bytes same e
     (scan w' final' levels' last' sc' frame fill h codings payload more framed is l x r) =
-    let is_same = subst (λ (y : Frame). SameFrame y g) (same-frame f frame w.frame e framed) same in
-    scan-other array frame g w final levels last sc fill h codings payload more is_same is l x
-    (scans-alike array f g w final _ last true more same e r)
+    search (rules, same-frame, scan-other, scans-alike array f g w final _ last true more same e r)
 scans-alike array f g w final levels last sc bytes same e (closed w' levels' frame fill framed t c) =
     let is_same = subst (λ (y : Frame). SameFrame y g) (same-frame f frame w.frame e framed) same in
     closed (at_frame w g) levels g fill refl (tables-there w g frame.components g.components is_same.components t)

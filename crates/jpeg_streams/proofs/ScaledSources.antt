@@ -16,17 +16,12 @@ near-kept : (n m s t : ℕ) → (s ≡ 1 → t ≡ 1) → IsNear n m s → IsNea
 near-kept n m s t f (inl e) = inl e
 near-kept n m s t f k = search rules
 
-upsampled-kept : (mh mv a b a' b' : ℕ) (x : Factors) → (a ≡ 1 → a' ≡ 1) → (b ≡ 1 → b' ≡ 1) → Upsampled mh mv a b x
-    → Upsampled mh mv a' b' x
-upsampled-kept mh mv a b a' b' x f g (inl near) = search (rules, near-kept)
-upsampled-kept mh mv a b a' b' x f g (inr whole) = inr whole
-
 all-kept : (s width height mh mv a b a' b' : ℕ) (xs : List Factors) → (a ≡ 1 → a' ≡ 1) → (b ≡ 1 → b' ≡ 1)
     → AllByRecursion (λ c. Upsampled mh mv a b c.factors) (map (scaled_component 8 width height mh mv) xs)
     → AllByRecursion (λ c. Upsampled mh mv a' b' c.factors) (map (scaled_component s width height mh mv) xs)
 all-kept s width height mh mv a b a' b' [] f g h = tt
 all-kept s width height mh mv a b a' b' (x ∷ xs) f g h =
-    (upsampled-kept mh mv a b a' b' x f g h.0, all-kept s width height mh mv a b a' b' xs f g h.1)
+    search (rules, near-kept, all-kept s width height mh mv a b a' b' xs f g h.1)
 
 -- sources for one size are there for another that is 1 where the first is
 sources-there : (s width height mh mv a b a' b' : ℕ) (xs : List Factors) (sources : List Source)

@@ -40,10 +40,7 @@ scaled-alike : (s width height h v : ℕ) (xs : List Factors) → 0 < s → 0 < 
     → Alikes (map (scaled_component 8 width height h v) xs) (map (scaled_component s width height h v) xs)
 scaled-alike s width height h v [] a b c = none
 scaled-alike s width height h v (x ∷ xs) a b c =
-    one_more (scaled_component 8 width height h v x) (scaled_component s width height h v x)
-    (map (scaled_component 8 width height h v) xs) (map (scaled_component s width height h v) xs)
-    (search (rules, own-same))
-    (scaled-alike s width height h v xs a b c)
+    search (rules, one_more, own-same, scaled-alike s width height h v xs a b c)
 
 components-alike : (f : Frame) (s : ℕ) → Plain f → 0 < s → Alikes f.components (frame_at s f).components
 components-alike f s o h =
@@ -65,13 +62,10 @@ at-alike k cs ds d none t = absurd t
 at-alike zero cs ds d (one_more x y cs' ds' h more) t = (x, refl, subst (Alike x) t h)
 at-alike (suc k) cs ds d (one_more x y cs' ds' h more) t = at-alike k cs' ds' d more t
 
-fits-alike : (f g : Frame) (c d : Component) → SameFrame f g → Alike c d → Fits f c → Fits g d
-fits-alike f g c d same a fit = search rules
-
 pub shaped-at : (f : Frame) (s : ℕ) → Plain f → 0 < s → Shaped f → Shaped (frame_at s f)
 shaped-at f s o h shape =
     let same = same-frame f s o h in
-    grind (arith, common_steps, length-same, at-alike, fits-alike)
+    grind (arith, common_steps, length-same, at-alike)
 
 -- the scale that is asked for
 pub sized-is : (width height : ℕ) (f : Frame) → f.process ≢ Lossless

@@ -22,15 +22,10 @@ pub tables-start : HasTables nothing_found.huffman
 unfolding nothing_found
 tables-start = no-tables
 
-good-filled : (default : Table) (b : Bool) (o : Option Table) → IsTable default → IsTableOrNone o
-    → IsTableOrNone (filled default b o)
-good-filled default true None h k = h
-good-filled default b o h k = search rules
-
 good-defaults : (one two : Table) (places : List ℕ) (l : List (Option Table)) → IsTable one → IsTable two
     → AllByRecursion IsTableOrNone l → AllByRecursion IsTableOrNone (with_defaults one two places l)
 good-defaults one two places [] a b h = tt
-good-defaults one two places l a b h = search (rules, good-filled)
+good-defaults one two places l a b h = search rules
 
 in-force : (w : Found) (s : Scan) → HasTables w.huffman → HasTables (tables_of w s)
 unfolding tables_of

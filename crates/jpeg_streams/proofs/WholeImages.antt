@@ -58,20 +58,20 @@ plane-same : (scale : ℕ) (table : List ℕ) (wide high : ℕ) (f g : ℕ → �
 unfolding plane_of
 plane-same scale table wide high f g h = grind (arith, common_steps, map-same)
 
-plane-whole : (c : Component) (table : List ℕ) (l : Levels) (array : ℕ → ℕ → Block) → IsComplete l
-    → ((row column : ℕ) → length (array row column).acs ≡ length l.acs)
-    → plane_of_array c table l array ≡ plane_whole c table array
-unfolding plane_of_array plane_whole
-plane-whole c table l array done h = search (rules, plane-same, cut-whole)
-
 planes-whole : (said : Found) (array : Coefficients) (levels : ℕ → Levels) (place : ℕ) (cs : List Component)
     → AllByRecursion (λ k. IsComplete (levels k)) (range_with_len place (length cs))
     → ((k row column : ℕ) → length (array k row column).acs ≡ length (levels k).acs)
     → planes_of_array said array levels place cs ≡ planes_whole said array place cs
-unfolding planes_of_array planes_whole
+unfolding planes_of_array planes_whole plane_of_array plane_whole
 planes-whole said array levels place [] done h = refl
 planes-whole said array levels place (c ∷ cs) done h =
-    search (rules, bind_same, plane-whole, planes-whole said array levels (place + 1) cs done.1 h)
+    search (
+      rules,
+      bind_same,
+      plane-same,
+      cut-whole,
+      planes-whole said array levels (place + 1) cs done.1 h,
+    )
 
 picture-whole : (settings : Settings) (said : Found) (array : Coefficients) (levels : ℕ → Levels) (frame : Frame)
     → said.frame ≡ Some frame → AllComplete frame levels
@@ -88,7 +88,7 @@ levels-sized : (array : Coefficients) (said final : Found) (levels last : ℕ �
 levels-sized array said final levels last scanned bytes (closed said' levels' f fill framed tables complete) h = h
 levels-sized array said final levels last scanned bytes
     (segment said' final' levels' last' scanned' fill s more may dct follows w) h =
-    levels-sized array _ final levels last scanned more w h
+    search (rules, levels-sized array _ final levels last scanned more w h)
 levels-sized array said final levels last scanned bytes
     (scan said' final' levels' last' scanned' f fill header ks data_bytes more framed is legal written w) h =
     levels-sized array said final _ last true more w (after-length _ _ levels h)
@@ -101,10 +101,10 @@ sequential-complete array said final levels last scanned bytes frame
     (closed said' levels' f fill framed tables complete) e n = search (rules, same-frame)
 sequential-complete array said final levels last scanned bytes frame
     (segment said' final' levels' last' scanned' fill s more may dct follows w) e n =
-    sequential-complete array _ final levels last scanned more frame w e n
+    search (rules, sequential-complete array _ final levels last scanned more frame w e n)
 sequential-complete array said final levels last scanned bytes frame
     (scan said' final' levels' last' scanned' f fill header ks data_bytes more framed is legal written w) e n =
-    sequential-complete array said final _ last true more frame w e n
+    search (rules, sequential-complete array said final _ last true more frame w e n)
 
 pub whole-is : (settings : Settings) (array : Coefficients) (bytes tail : List ℕ) (final : Found) (last : ℕ → Levels)
     (frame : Frame) → ((place row column : ℕ) → Is8Bit (array place row column))

@@ -11,15 +11,9 @@ use Rattle.jpeg_streams.proofs.WrittenIntervals.{first-map, others-map}
 
 groups-whole : (turns n : ℕ) (xs : List Spot) → length xs ≤ turns → all_of (groups turns (suc n) xs) ≡ xs
 unfolding groups
-groups-whole (suc turns) n (x ∷ xs) h = ap (λ (l : List Spot). take (suc n) (x ∷ xs) ++ l)
-    (groups-whole turns n (drop (suc n) (x ∷ xs)) (let d = length-drop (suc n) (x ∷ xs) in omega arith))
-    ∙ take-append-drop (suc n) (x ∷ xs)
+groups-whole (suc turns) n (x ∷ xs) h =
+    search (rules, length-drop, take-append-drop, groups-whole turns n (drop (suc n) (x ∷ xs)))
 groups-whole turns n xs h = search rules
-
--- the groups are the list
-pub whole-again : (n : ℕ) (xs : List Spot) → first_group n xs ++ all_of (other_groups n xs) ≡ xs
-whole-again zero xs = append-nil xs
-whole-again (suc n) xs = search (rules, groups-whole, length-drop, take-append-drop)
 
 -- A scan over spots that are apart and inside is its blocks in turn.
 pub scans-in-turn : (p : Pass) (n : ℕ) (vias : List Via) (spots : List Spot) (arrays : Arrays) (bytes : List ℕ)
@@ -28,4 +22,13 @@ pub scans-in-turn : (p : Pass) (n : ℕ) (vias : List Via) (spots : List Spot) (
     ≡ intervals_from p vias 0 (first_group n spots) (other_groups n spots) arrays bytes
 unfolding arrays_at turns_of
 scans-in-turn p n vias spots arrays bytes apart inside =
-    search (rules, whole-again, intervals-in-turn, first-map, others-map)
+    search (
+      rules,
+      append-nil,
+      groups-whole,
+      length-drop,
+      take-append-drop,
+      intervals-in-turn,
+      first-map,
+      others-map,
+    )

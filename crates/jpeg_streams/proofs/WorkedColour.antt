@@ -86,15 +86,10 @@ sent_at slot index = block_for codings colour_array (record { slot = slot; index
 own-sent : (slot index : ℕ) → IsOwn (grid_at (components_of codings) slot) index
     → sent_at slot index ≡ block_for codings colour_array (record { slot = slot; index = index })
 unfolding sent_at component_of
-own-sent zero (suc (suc (suc zero))) own = absurd (let h : 3 % 4 < 3 = own.column in omega arith)
-own-sent slot index own = refl
-
-colour-range : (place row column : ℕ) → Is8Bit (colour_array place row column)
-colour-range zero row column = range-in (get_or colour_blocks 0 []) refl column
-colour-range place row column = search (rules, range-in)
+own-sent slot index hyp3 = search rules
 
 for-range : (s : Spot) → Is8Bit (block_for codings colour_array s)
-for-range s = search (rules, colour-range)
+for-range s = search (rules, range-in)
 
 sent-range : (slot index : ℕ) → Is8Bit (sent_at slot index)
 unfolding sent_at

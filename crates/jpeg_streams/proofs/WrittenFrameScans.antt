@@ -50,11 +50,8 @@ pub suits-zero : (c : Block) → Is8Bit c → Suits whole_pass zero_block (numbe
 suits-zero c range =
     grind (arith, cut-nothing c range.count, suits-cut whole_pass nothing_sent c range range.count whole-legal)
 
-pub no-band : {A : Type 0} (p : Pass) (xs : List A) → p.ss ≡ 0 → p.se ≡ 0 → band_of p xs ≡ []
-no-band p xs e f = search rules
-
 pub suits-dc : (p : Pass) (old c : Block) → p.ss ≡ 0 → p.se ≡ 0 → p.al ≤ 7 → Is8Bit c → Suits p old (numbers_at p.al c)
-suits-dc p old c e f low range = search (rules, no-band, floor-range, floor-fits)
+suits-dc p old c e f low range = search (rules, floor-range, floor-fits)
 
 -- ---- tables
 

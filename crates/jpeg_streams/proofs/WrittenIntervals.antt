@@ -77,17 +77,13 @@ abbrev pub all_after : Pass → List (Via × Block × Block) → List (List (Via
 all_after p turns [] = map (λ t. after_pass p t.1 t.2) turns
 all_after p turns (next ∷ more) = map (λ t. after_pass p t.1 t.2) turns ++ all_after p next more
 
-when-restart : {A : Type 0} (k : ℕ) (x : Result A Fault)
-    → elim (eqb k k) as (λ _. Result A Fault) [ true ↦ x | false ↦ Err Malformed ] ≡ x
-when-restart k x = rw (eq-eqb k k refl) refl
-
 pub next-interval : (p : Pass) (k : ℕ) (turns next : List (Via × Block)) (more : List (List (Via × Block)))
     (bytes rest after : List ℕ) (first others : List Block) (m : Option Marker)
     → interval p turns bytes ≡ Ok ((first, Some (markers.RST (k % 8))), rest)
     → intervals p (suc k) next more rest ≡ Ok ((others, m), after)
     → intervals p k turns (next ∷ more) bytes ≡ Ok ((first ++ others, m), after)
 unfolding intervals
-next-interval p k turns next more bytes rest after first others m e f = search (rules, when-restart)
+next-interval p k turns next more bytes rest after first others m e f = search (rules, eq-eqb)
 
 -- Intervals that were written are read as the blocks after the pass, up to the marker after the last.
 pub reads-intervals : (p : Pass) (k : ℕ) (turns : List (Via × Block × Block))
@@ -129,9 +125,13 @@ groups-after : (p : Pass) (turns n : ℕ) (xs ys : List (Via × Block × Block))
     → all_after p xs (groups turns (suc n) ys) ≡ map (λ t. after_pass p t.1 t.2) (xs ++ ys)
 unfolding groups
 groups-after p (suc turns) n xs (y ∷ ys) h =
-    let few : length (drop (suc n) (y ∷ ys)) ≤ turns = omega (arith, length-drop (suc n) (y ∷ ys)) in
-    let more = groups-after p turns n (take (suc n) (y ∷ ys)) (drop (suc n) (y ∷ ys)) few in
-    grind (arith, common_steps, take-append-drop, map-append, more)
+    search (
+      rules,
+      length-drop,
+      take-append-drop,
+      map-append,
+      groups-after p turns n (take (suc n) (y ∷ ys)) (drop (suc n) (y ∷ ys)),
+    )
 groups-after p turns n xs ys h = search (rules, append-nil)
 
 pub all-groups : (p : Pass) (n : ℕ) (xs : List (Via × Block × Block))

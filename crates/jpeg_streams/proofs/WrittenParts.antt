@@ -87,13 +87,6 @@ unfolding planes_whole
 same-planes a b array place [] h = refl
 same-planes a b array place (c ∷ cs) h = search (rules, bind_same, same-planes a b array (place + 1) cs h.1)
 
-same-colours : (settings : Settings) (m n : Metadata) (f g : Frame) (cs : List Component) (planes : List (List ℕ))
-    → f.output_width ≡ g.output_width → f.output_height ≡ g.output_height → m.jfif ≡ n.jfif → m.adobe ≡ n.adobe
-    → picture_by settings m f cs planes ≡ picture_by settings n g cs planes
-unfolding picture_by
-same-colours settings m n f g (c ∷ []) planes w h j a = rw (w, h) refl
-same-colours settings m n f g cs planes w h j a = rw (w, h, j, a) refl
-
 -- the picture of an array in a frame
 picture_in_frame : Settings → Coefficients → Found → Frame → Result (List ℕ) Fault
 picture_in_frame settings array said f =
@@ -108,8 +101,8 @@ framed-picture settings array said f e = then-ok (needed said.frame) _ f _ (ap n
 
 same-framed : (settings : Settings) (array : Coefficients) (a b : Found) (h : HaveSamePicture a b)
     → picture_in_frame settings array a h.frame_a ≡ picture_in_frame settings array b h.frame_b
-unfolding picture_in_frame
-same-framed settings array a b h = search (rules, bind_same, same-colours, same-planes)
+unfolding picture_in_frame picture_by
+same-framed settings array a b h = search (rules, bind_same, same-planes)
 
 pub same-picture : (settings : Settings) (array : Coefficients) (a b : Found) → HaveSamePicture a b
     → picture_whole settings a array ≡ picture_whole settings b array
@@ -153,19 +146,11 @@ slot-coded w frame p tables places ds ks codings (and_more place d a places' ds'
 slot-coded w frame p tables places ds ks codings (and_more place d a places' ds' ks' k codings' is more) (suc slot) =
     slot-coded w frame p tables places' ds' ks' codings' more slot
 
-none-own : (g : Grid) (index : ℕ) → g ≡ no_grid → IsOwn g index → ⊥
-none-own g index e own = search rules
-
-own-agree : (frame : Frame) (a b : Coefficients) (place index : ℕ) (c : Component) (g : Grid) → AgreeOnOwn frame a b
-    → first_of (drop place frame.components) ≡ Some c → g ≡ grid_of c → IsOwn g index
-    → a place (index / g.wide) (index % g.wide) ≡ b place (index / g.wide) (index % g.wide)
-own-agree frame a b place index c g agree is e own = search rules
-
 blocks-agree : (w : Found) (frame : Frame) (p : Pass) (tables : Tables) (places ds ks : List ℕ)
     (codings : List Coding) (a b : Coefficients) → AreCodings w frame p tables places ds ks codings
     → AgreeOnOwn frame a b → (s : Spot) → IsOwn (grid_at (components_of codings) s.slot) s.index
     → block_for codings a s ≡ block_for codings b s
-blocks-agree w frame p tables places ds ks codings a b are agree s own = search (rules, slot-coded, none-own, own-agree)
+blocks-agree w frame p tables places ds ks codings a b are agree s own = search (rules, slot-coded)
 
 also-writes : (a b : Coefficients) (said final : Found) (levels last : ℕ → Levels) (scanned : Bool) (bytes : List ℕ)
     (frame : Frame)
