@@ -70,18 +70,14 @@ pub blocks-within : (p : Pass) (vias : List Via) (n : ℕ) (spots : List Spot) (
     ≡ read_on (λ r. gives (counted (left - length spots) number r)) (turns_from p vias spots old t)
 unfolding blocks_from next_from turns_from
 blocks-within p vias n [] left number old t h = ap (λ (k : ℕ). gives (counted k number old) t) (omega arith)
-blocks-within p vias n (s ∷ spots) left number old t h =
-    search (
-      rules,
-      begun-same,
-      on-on,
-      same-on,
-      fewer,
-      le-ltb,
-      ne_eqb,
-      and-false,
-      blocks-within p vias n spots (left - 1) number,
-    )
+blocks-within p vias n (s ∷ spots) left number old t h = (search (rules, begun-same, le-ltb, ne_eqb, and-false))
+    ∙ on-on (λ r. gives (counted (left - 1) number r)) (blocks_from p vias n spots) (turn_from p vias s old t)
+    ∙ same-on (λ r. λ u. blocks_from p vias n spots (counted (left - 1) number r) u)
+    (λ r. λ u. read_on (λ s. gives (counted (left - suc (length spots)) number s)) (turns_from p vias spots r u))
+    (λ r u. blocks-within p vias n spots (left - 1) number r u (fewer n left (length spots) h)
+    ∙ ap (λ (k : ℕ). read_on (λ s. gives (counted k number s)) (turns_from p vias spots r u)) (omega arith))
+    (turn_from p vias s old t)
+    ∙ sym (search (rules, on-on))
 
 -- where none is left, a restart stands before the next
 restarts : (p : Pass) (vias : List Via) (n number : ℕ) (s : Spot) (spots : List Spot) (old : Reached)

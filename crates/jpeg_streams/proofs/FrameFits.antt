@@ -36,12 +36,12 @@ all-fit : (frame : Frame) (scale width height h v : ℕ) (xs : List Factors) →
     → AllByRecursion (Fits frame) (map (component_at scale width height h v) (map (component_of width height h v) xs))
 unfolding component_of component_at
 all-fit frame scale width height h v [] some wide high range across down = tt
-all-fit frame scale width height h v (x ∷ xs) some wide high range across down =
-    search (
-      rules,
-      own-within,
-      all-fit frame scale width height h v xs some wide high range.1 (omega arith) (omega arith),
-    )
+all-fit frame scale width height h v (x ∷ xs) some wide high range across down = grind (
+  arith,
+  common_steps,
+  own-within,
+  all-fit frame scale width height h v xs some wide high range.1 (omega arith) (omega arith),
+)
 
 -- The components of a frame at a scale fit it.
 pub scaled-frames-fit : (scale number precision width height : ℕ) (xs : List Factors) → 0 < scale

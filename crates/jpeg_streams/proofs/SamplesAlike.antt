@@ -12,28 +12,27 @@ first-same x y xs ys e = cc
 others-same : {A : Type 0} (x y : A) (xs ys : List A) → ◌≡◌ {A = List A} (x ∷ xs) (y ∷ ys) → xs ≡ ys
 others-same x y xs ys e = cc
 
+-- two components with the same factors
+horizontal-same : (x y : Component) → sampling_of x ≡ sampling_of y → x.factors.horizontal ≡ y.factors.horizontal
+horizontal-same x y e = ap (λ (p : ℕ × ℕ). p.0) e
+
+vertical-same : (x y : Component) → sampling_of x ≡ sampling_of y → x.factors.vertical ≡ y.factors.vertical
+vertical-same x y e = ap (λ (p : ℕ × ℕ). p.1) e
+
 across-alike : (xs ys : List Component) → map sampling_of xs ≡ map sampling_of ys
     → greatest (λ f. f.horizontal) (map (λ c. c.factors) xs) ≡ greatest (λ f. f.horizontal) (map (λ c. c.factors) ys)
 across-alike [] [] e = refl
 across-alike (x ∷ xs) (y ∷ ys) e =
-    search (
-      rules,
-      first-same,
-      others-same,
-      across-alike xs ys (others-same (sampling_of x) (sampling_of y) _ _ e),
-    )
+    ap₂ (λ (a b : ℕ). max a b) (horizontal-same x y (first-same (sampling_of x) (sampling_of y) _ _ e))
+    (across-alike xs ys (others-same (sampling_of x) (sampling_of y) _ _ e))
 across-alike xs ys e = absurd (let n : ⊥ = cc in n)
 
 down-alike : (xs ys : List Component) → map sampling_of xs ≡ map sampling_of ys
     → greatest (λ f. f.vertical) (map (λ c. c.factors) xs) ≡ greatest (λ f. f.vertical) (map (λ c. c.factors) ys)
 down-alike [] [] e = refl
 down-alike (x ∷ xs) (y ∷ ys) e =
-    search (
-      rules,
-      first-same,
-      others-same,
-      down-alike xs ys (others-same (sampling_of x) (sampling_of y) _ _ e),
-    )
+    ap₂ (λ (a b : ℕ). max a b) (vertical-same x y (first-same (sampling_of x) (sampling_of y) _ _ e))
+    (down-alike xs ys (others-same (sampling_of x) (sampling_of y) _ _ e))
 down-alike xs ys e = absurd (let n : ⊥ = cc in n)
 
 pixel-alike : (f g : Frame) (samples : Samples) (x y : ℕ) → f.precision ≡ g.precision
@@ -41,13 +40,13 @@ pixel-alike : (f g : Frame) (samples : Samples) (x y : ℕ) → f.precision ≡ 
     → map sampling_of cs ≡ map sampling_of ds → pixel_from f samples y x place cs ≡ pixel_from g samples y x place ds
 unfolding pixel_from
 pixel-alike f g samples x y p a d place [] [] e = refl
-pixel-alike f g samples x y p a d place (c ∷ cs) (b ∷ bs) e =
-    search (
-      rules,
-      first-same,
-      others-same,
-      pixel-alike f g samples x y p a d (place + 1) cs bs (others-same (sampling_of c) (sampling_of b) _ _ e),
-    )
+pixel-alike f g samples x y p a d place (c ∷ cs) (b ∷ bs) e = grind (
+  arith,
+  common_steps,
+  first-same,
+  others-same,
+  pixel-alike f g samples x y p a d (place + 1) cs bs (others-same (sampling_of c) (sampling_of b) _ _ e),
+)
 pixel-alike f g samples x y p a d place cs bs e = absurd (let n : ⊥ = cc in n)
 
 pub pictures-alike : (f g : Frame) (samples : Samples) → f.precision ≡ g.precision → f.width ≡ g.width

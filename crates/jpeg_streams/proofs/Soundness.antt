@@ -63,16 +63,13 @@ sized-sources : (number precision width height : ℕ) (factors : List Factors) (
 unfolding frame_of
 sized-sources number precision width height factors sources e = e
 
+read-sources : (f : Frame) → IsFrame f → (sources : List Source)
+    → sources_of f.components f.output_width f.output_height ≡ Ok sources
+    → (s : ℕ) → 0 < s → s ≤ 8 → HasSources (frame_at s f)
+read-sources f q sources e s some most = search (rules, frames-have-sources, recursion_from_All, sized-sources)
+
 pub decoded-sources : (f : Frame) → IsDecodedFrame f → HasSources f
-decoded-sources f p =
-    search (
-      rules,
-      scale-bounds,
-      accepted-facts,
-      frames-have-sources,
-      recursion_from_All,
-      sized-sources,
-    )
+decoded-sources f p = search (rules, scale-bounds, accepted-facts, read-sources)
 
 pub decoded-read : (f : Frame) → IsFrame f → accepted f ≡ Ok f → IsDecodedFrame f
 decoded-read f q a = grind (arith, full_frames f q)

@@ -15,6 +15,11 @@ groups-whole (suc turns) n (x ∷ xs) h =
     search (rules, length-drop, take-append-drop, groups-whole turns n (drop (suc n) (x ∷ xs)))
 groups-whole turns n xs h = search rules
 
+-- the groups are the list
+pub whole-again : (n : ℕ) (xs : List Spot) → first_group n xs ++ all_of (other_groups n xs) ≡ xs
+whole-again zero xs = append-nil xs
+whole-again (suc n) xs = search (rules, groups-whole, length-drop, take-append-drop)
+
 -- A scan over spots that are apart and inside is its blocks in turn.
 pub scans-in-turn : (p : Pass) (n : ℕ) (vias : List Via) (spots : List Spot) (arrays : Arrays) (bytes : List ℕ)
     → AreApart spots → ((q : Spot) → IsIn q spots → IsInside arrays q)
@@ -22,13 +27,4 @@ pub scans-in-turn : (p : Pass) (n : ℕ) (vias : List Via) (spots : List Spot) (
     ≡ intervals_from p vias 0 (first_group n spots) (other_groups n spots) arrays bytes
 unfolding arrays_at turns_of
 scans-in-turn p n vias spots arrays bytes apart inside =
-    search (
-      rules,
-      append-nil,
-      groups-whole,
-      length-drop,
-      take-append-drop,
-      intervals-in-turn,
-      first-map,
-      others-map,
-    )
+    search (rules, whole-again, intervals-in-turn, first-map, others-map)

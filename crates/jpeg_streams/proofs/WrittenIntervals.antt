@@ -125,13 +125,9 @@ groups-after : (p : Pass) (turns n : ℕ) (xs ys : List (Via × Block × Block))
     → all_after p xs (groups turns (suc n) ys) ≡ map (λ t. after_pass p t.1 t.2) (xs ++ ys)
 unfolding groups
 groups-after p (suc turns) n xs (y ∷ ys) h =
-    search (
-      rules,
-      length-drop,
-      take-append-drop,
-      map-append,
-      groups-after p turns n (take (suc n) (y ∷ ys)) (drop (suc n) (y ∷ ys)),
-    )
+    let few : length (drop (suc n) (y ∷ ys)) ≤ turns = omega (arith, length-drop (suc n) (y ∷ ys)) in
+    let more = groups-after p turns n (take (suc n) (y ∷ ys)) (drop (suc n) (y ∷ ys)) few in
+    grind (arith, common_steps, take-append-drop, map-append, more)
 groups-after p turns n xs ys h = search (rules, append-nil)
 
 pub all-groups : (p : Pass) (n : ℕ) (xs : List (Via × Block × Block))

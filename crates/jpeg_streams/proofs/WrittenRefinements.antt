@@ -64,6 +64,10 @@ nothing_or_old u hyp2 = search (rules, le-leb)
 pub corrected-stays : (al : ℕ) (z w : ℤ) → z ≡ w → ReadsJust (corrected_by al z 0) [] w
 corrected-stays al z w e = record { read = λ rest places n. ap (λ (x : ℤ). Ok (x, text rest places n)) e }
 
+pub corrected-moves : (al : ℕ) (z w : ℤ) → bit_of al z ≡ 0 → moved (2 ^ al) z ≡ w → fits_i16 w ≡ true
+    → ReadsJust (corrected_by al z 1) [] w
+corrected-moves al z w even e fits = search (rules, eq-eqb, even)
+
 pub even : (m : ℕ) → (2 * m) % 2 ≡ 0
 even m = omega arith
 
@@ -105,19 +109,7 @@ even-bit_neg al m k some e =
 pub corrects-neg : (al m b k : ℕ) → m * 2 ^ suc al ≡ suc k → b < 2 → (2 * m + b) * 2 ^ al < 2 ^ 15
     → ReadsJust (corrected_by al (negsuc k) b) [] (neg_ℤ (pos ((2 * m + b) * 2 ^ al)))
 corrects-neg al m (suc zero) k e h fits =
-    search (
-      rules,
-      pow_pos,
-      times-two_power,
-      even-bit_neg,
-      spread,
-      one-mul,
-      eq-eqb,
-      even,
-      neg_ℤ,
-      lt-ltb,
-      zero-mul,
-    )
+    search (rules, pow_pos, times-two_power, even-bit_neg, spread, one-mul, corrected-moves, neg_ℤ, lt-ltb, zero-mul)
 corrects-neg al m b k e h fits = search (rules, corrected-stays, times-two_power, zero-mul)
 
 -- the correction bit of an old number gives the number
