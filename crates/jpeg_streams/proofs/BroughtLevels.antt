@@ -1,6 +1,6 @@
 -- A written stream is read as the blocks of its array, cut at the levels that were sent.
 use Rattle.std.proofs.lemmas.Grind.{common_steps}
-use Rattle.std.proofs.Common.{rules, ◌≡◌, ◌≢◌, ◌⊎◌, inl, inr, ℕ, zero, suc, ◌-◌, ◌*◌, ◌<◌, ◌≤◌, Bool, true, false, List}
+use Rattle.std.proofs.Common.{rules, ◌≡◌, ◌≢◌, ◌⊎◌, inl, inr, ℕ, suc, ◌-◌, ◌*◌, ◌<◌, ◌≤◌, Bool, true, false, List}
 use Rattle.std.proofs.Common.{[], ◌∷◌, ◌++◌, length, replicate, get_or, Option, Some, None, Ok, refl, sym, ap, ◌∙◌}
 use Rattle.std.proofs.Common.{subst, arith, eqb, true≢false, length-append, length-take, length-drop}
 use Rattle.std.proofs.lemmas.Bool.{eqb-true, eq-eqb, not-true}

@@ -1,5 +1,5 @@
 -- A scan is its blocks one after the other, with a restart where no block is left of an interval.
-use Rattle.std.proofs.Common.{rules, ◌≡◌, ◌⊎◌, inl, inr, ℕ, zero, suc, ◌+◌, ◌-◌, ◌*◌, ◌%◌, ◌≤◌, ◌<◌, Bool, true, false}
+use Rattle.std.proofs.Common.{rules, ◌≡◌, ◌⊎◌, inl, inr, ℕ, zero, suc, ◌+◌, ◌-◌, ◌*◌, ◌%◌, ◌≤◌, ◌<◌, Bool, false}
 use Rattle.std.proofs.Common.{List, [], ◌∷◌, ◌++◌, take, drop, length, Option, Some, Result, Ok, Err, refl, sym}
 use Rattle.std.proofs.Common.{ap, ◌∙◌, append-nil, arith, length-drop, take-append-drop}
 use Rattle.std.specs.Prelude.{◌==◌, ◌&&◌, nat_lt}
@@ -15,12 +15,12 @@ use Rattle.jpeg_bits.specs.declared.marker.Marker.{Marker}
 use Rattle.jpeg_bits.specs.declared.marker.Marker.TheVariants.{RST}
 use Rattle.jpeg_segments.specs.Frame.{Frame, Component}
 use Rattle.jpeg_bits.specs.Passes.{Pass, Via}
-use Rattle.jpeg_bits.specs.Intervals.{groups, first_group, other_groups, is_restart}
+use Rattle.jpeg_bits.specs.Intervals.{groups, first_group, other_groups}
 use Rattle.jpeg_streams.specs.Order.{Spot, spots_of}
 use Rattle.jpeg_streams.specs.Scans.{Arrays, arrays_at}
 use Rattle.jpeg_streams.specs.InTurn.{Reached, turn_from, turns_from, at_start, interval_from, next_interval}
 use Rattle.jpeg_streams.specs.InTurn.{intervals_from, restart_from, Counted, begun_from, next_from, blocks_from}
-use Rattle.jpeg_streams.specs.InTurn.{scan_from, AreArrays, Fits, AreApart, IsIn, IsInside}
+use Rattle.jpeg_streams.specs.InTurn.{scan_from, AreArrays, Fits}
 use Rattle.jpeg_streams.proofs.WholeScans.{scans-in-turn}
 use Rattle.jpeg_streams.proofs.Apart.{spots-apart, spots-inside}
 
@@ -134,10 +134,6 @@ abbrev is_numbered : ℕ → Option Marker → Bool
 is_numbered i (Some (RST n)) = n == i
 is_numbered i _ = false
 
--- a number that counts modulo 8
-is-same : (j k : ℕ) → j ≡ k % 8 → (m : Option Marker) → is_restart j m ≡ is_restart k m
-is-same j k e m = let f : j % 8 ≡ k % 8 = omega (arith, e) in ap (λ (i : ℕ). is_numbered i m) f
-
 pub intervals-in-blocks : (p : Pass) (vias : List Via) (n fuel : ℕ) (xs ys : List Spot) (j k : ℕ)
     (arrays : Arrays) (bytes : List ℕ) → j ≡ k % 8
     → 0 < n → length ys ≤ fuel → length xs ≤ n → (ys ≡ []) ⊎ (length xs ≡ n)
@@ -169,7 +165,7 @@ intervals-in-blocks p vias n (suc fuel) xs (y ∷ ys) j k arrays bytes same some
     ∙ same-on (λ r. λ v. blocks_from p vias n zs (counted 0 j r) v)
     (λ r. λ v. read_on (λ (u : Unit {0}). blocks_from p vias n zs (counted n ((j + 1) % 8) (at_start r.arrays)))
     (restart_from k v))
-    (search (rules, restarts, is-same)) o)
+    (search (rules, restarts)) o)
     ∙ (search (rules, close))
     ∙ ap (λ (l : List (List Spot)). intervals_from p vias k xs l arrays bytes) (sym (groups-cons fuel n zs (omega
     arith)))

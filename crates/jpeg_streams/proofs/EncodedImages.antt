@@ -160,13 +160,10 @@ map-whole : (f : ℤ → ℤ) (us : List ℤ) → ((u : ℤ) → f u ≡ u) → 
 map-whole f [] h = refl
 map-whole f (u ∷ us) h = ap₂ (λ (x : ℤ) (xs : List ℤ). x ∷ xs) (h u) (map-whole f us h)
 
-numbers-whole : (b : Block) → numbers_at 0 b ≡ b
-numbers-whole b = search (rules, floor-whole, map-whole, toward-whole)
-
 spot-flat : (kind : Kind) (h : FrameHeader) (place : ℕ) (c : Factors) (b : Block) (slot : ℕ) → Is8Bit b → slot ≡ 0
     → Good kind (via_at (vias_from 0 (coding kind h place c ∷ [])) slot, numbers_at (pass_for kind).al b)
 unfolding vias_from
-spot-flat kind h place c b slot range e = search (rules, numbers-whole)
+spot-flat kind h place c b slot range e = search (rules, floor-whole, map-whole, toward-whole)
 
 data-written : (kind : Kind) (f : Frame) (h : FrameHeader) (place : ℕ) (c : Factors) (array : Coefficients)
     → ((k row column : ℕ) → Is8Bit (array k row column))
@@ -212,7 +209,7 @@ kind-is : (kind : Kind) (number : ℕ) (h : FrameHeader) (place : ℕ) (c : Fact
     → (pass_of (scan_written (frame_written number h) (header_of kind place c)) ≡ pass_for kind)
     × (is_band (frame_written number h).process 1 (from_for kind) (to_for kind) 0 0 ≡ true)
 unfolding pass_of scan_of frame_of
-kind-is kind number h place c hyp6 = search rules
+kind-is kind number h place c fits = search rules
 
 pass-is : (kind : Kind) (number : ℕ) (h : FrameHeader) (place : ℕ) (c : Factors) → Fits kind number
     → pass_of (scan_written (frame_written number h) (header_of kind place c)) ≡ pass_for kind
@@ -247,7 +244,7 @@ lone-written from to number h front more c band some e new = record {
 table-at : (number : ℕ) (h : FrameHeader) (place : ℕ) → place ≤ 3
     → slice_index_or (said number h).quantization place None ≡ Some (replicate 64 1)
 unfolding nothing_found updated
-table-at number h place hyp4 = search rules
+table-at number h place le = search rules
 
 place-low : (number place : ℕ) → number ≤ 2 → is_place (is_lossless_number number) place ≡ true → place ≤ 3
 place-low (suc (suc (suc number))) place le e = absurd (omega arith)

@@ -1,5 +1,5 @@
 -- Every picture of samples has a stream: a scan for each component.
-use Rattle.std.proofs.Common.{rules, false, length, replicate, negsuc, unsigned_abs, subst, append_assoc, length-append}
+use Rattle.std.proofs.Common.{rules, length, replicate, negsuc, unsigned_abs, subst, append_assoc, length-append}
 use Rattle.std.proofs.Common.{◌≡◌, ◌⊎◌, inl, ℕ, zero, Bool, true, List, ◌++◌, drop, take, ◌≤ℤ◌, Some, None, refl, arith}
 use Rattle.std.proofs.Common.{inr, suc, ◌+◌, ◌-◌, ◌*◌, ◌^◌, ◌<◌, ◌≤◌, [], ◌∷◌, map, ℤ, pos, sym, ap, ap₂, ◌∙◌}
 use Rattle.std.proofs.Math.Pow.{pow_mono}
@@ -9,7 +9,7 @@ use Rattle.std.proofs.lemmas.List.{append-nil, take_all}
 use Rattle.std.proofs.lemmas.List.FromFn.{get_or-range_with_len}
 use lib.ListN.{length-map}
 use Rattle.std.specs.List.{AllByRecursion, list_all, range_with_len}
-use Rattle.std.specs.Prelude.{flat_map, nat_lt, slice_index_or, ◌==◌}
+use Rattle.std.specs.Prelude.{flat_map, nat_lt, slice_index_or}
 use Rattle.jpeg_bits.specs.Codes.{code_lengths, code_value, codes_exist, lengths_from, Table}
 use Rattle.jpeg_bits.specs.Written.{code_bits, IsCoded, marker, stuffed}
 use Rattle.jpeg_bits.specs.declared.codes.HuffmanTableClass.TheVariants as classes

@@ -7,13 +7,13 @@ use Rattle.std.proofs.lemmas.Bool.Decides.{leb_tells}
 use Rattle.std.proofs.Math.Nat.{le-div_iff_mul-le, add-mul, one-mul}
 use Rattle.std.specs.List.{AllByRecursion}
 use Rattle.jpeg_segments.specs.declared.parser.CodingProcess.TheVariants.{Lossless}
-use Rattle.jpeg_segments.specs.Frame.{Frame, Component, Factors, IsInRange, frame_of, ceiling}
+use Rattle.jpeg_segments.specs.Frame.{Frame, Factors, IsInRange, frame_of, ceiling}
 use Rattle.jpeg_pixels.specs.Pictures.{Source, sources_of}
 use Rattle.jpeg_segments.specs.Scales.{frame_at}
 use Rattle.jpeg_segments.proofs.ScaleLemmas.{full_size}
 use Rattle.jpeg_streams.specs.Segments.{accepted, is_decoded_count}
 use Rattle.jpeg_streams.proofs.FrameFits.{frames-fit}
-use Rattle.jpeg_streams.proofs.OwnSpots.{At, Fits}
+use Rattle.jpeg_streams.proofs.OwnSpots.{At}
 use Rattle.jpeg_streams.proofs.Apart.{at-all}
 use Rattle.jpeg_segments.proofs.Codecs.{bind-ok}
 use Rattle.jpeg_streams.proofs.BroughtLevels.{Made, Shaped}
@@ -46,7 +46,7 @@ pub record Plain (f : Frame) : Type 0 where
 pub frame-lossy : (number precision width height : ℕ) (cs : List Factors) → number ≤ 2
     → (frame_of number precision width height cs).process ≢ Lossless
 unfolding frame_of
-frame-lossy number precision width height cs hyp6 = search rules
+frame-lossy number precision width height cs h = search rules
 
 -- ---- full size
 

@@ -1,6 +1,6 @@
 -- Blocks that are read one after the other, at spots apart, are read on the blocks as they were and put back.
 use Rattle.std.proofs.Common.{rules, Bool, true, false, List, length, get_or, Option, Result, subst, append-nil, arith}
-use Rattle.std.proofs.Common.{◌≡◌, inl, inr, ℕ, suc, [], ◌∷◌, ◌++◌, map, set, ℤ, pos, Ok, Err, refl, sym, ap, ap₂, ◌∙◌}
+use Rattle.std.proofs.Common.{◌≡◌, inl, inr, ℕ, suc, [], ◌∷◌, ◌++◌, map, set, ℤ, pos, Ok, Err, refl, sym, ap, ◌∙◌}
 use Rattle.std.specs.List.{flat_map}
 use Rattle.jpeg_bits.specs.Reading as reading
 use Rattle.jpeg_bits.specs.Reading.{Outcome, Fault, Malformed}

@@ -1,5 +1,5 @@
 -- The sizes of the components of a lossless frame, and the MCUs of its scans.
-use Rattle.std.proofs.Common.{rules, ◌≡◌, ℕ, zero, suc, ◌*◌, ◌<◌, ◌≤◌, List, [], ◌∷◌, map, drop, Some, ap, arith}
+use Rattle.std.proofs.Common.{rules, ◌≡◌, ℕ, suc, ◌*◌, ◌<◌, ◌≤◌, List, [], ◌∷◌, map, drop, Some, ap, arith}
 use Rattle.std.specs.List.{AllByRecursion}
 use Rattle.std.proofs.lemmas.List.Elements.{recursion_from_All}
 use Rattle.std.proofs.Math.Nat.{mul-le-mul_right, mul_comm, mul_assoc}
@@ -99,16 +99,14 @@ pub all-covered : (frame : Frame) (codings : List LosslessCoding) → AllByRecur
     codings
     → AllByRecursion (IsCovered (mcus_across frame codings) (mcus_down frame codings)) (parts_of codings)
 unfolding mcus_across mcus_down parts_of
-all-covered frame codings hyp3 = search (rules, all-among)
+all-covered frame codings h = search (rules, all-among)
 
 pub across-some : (frame : Frame) (codings : List LosslessCoding) → 0 < frame.width
     → AllByRecursion (λ k. IsMade frame k.component) codings → 0 < mcus_across frame codings
 unfolding mcus_across
-across-some frame (k ∷ []) w all = search (rules, ceiling-some, some-product, some-across)
-across-some frame codings w all = ceiling-some frame.width (most_across frame) w (some-across frame)
+across-some frame codings w all = search (rules, ceiling-some, some-product, some-across)
 
 pub down-some : (frame : Frame) (codings : List LosslessCoding) → 0 < frame.height
     → AllByRecursion (λ k. IsMade frame k.component) codings → 0 < mcus_down frame codings
 unfolding mcus_down
-down-some frame (k ∷ []) h all = search (rules, ceiling-some, some-product, some-down)
-down-some frame codings h all = ceiling-some frame.height (most_down frame) h (some-down frame)
+down-some frame codings h all = search (rules, ceiling-some, some-product, some-down)

@@ -11,7 +11,7 @@ use Rattle.jpeg_bits.specs.Readers.{Reads, read_on, gives}
 use Rattle.jpeg_segments.specs.Frame.{Frame, Component}
 use Rattle.jpeg_bits.specs.Passes.{Pass, Via, Block, zero_block}
 use Rattle.jpeg_streams.specs.Order.{Spot, grid_of, own_spots, part_spots, mcu_spots, all_spots, spots_of, mcu_size}
-use Rattle.jpeg_streams.specs.Scans.{Arrays, zero_arrays, block_at, put_block}
+use Rattle.jpeg_streams.specs.Scans.{Arrays, zero_arrays, put_block}
 use Rattle.jpeg_streams.specs.InTurn.{Reached, turn_from, Counted, begun_from, next_from, blocks_from, IsIn, IsInside}
 use Rattle.jpeg_streams.specs.InTurn.{Fits, counted_at_start, scan_from}
 use Rattle.jpeg_streams.specs.McuRows.{zero_rows, row_size, own_row, row_at, rows_of, joined, on_arrays, rows_from}
@@ -64,10 +64,6 @@ set-around front arrays rest slot y a = search rules
 abbrev pub shifted : Arrays → Spot → Spot
 shifted front s = record { slot = s.slot; index = length (get_or front s.slot []) + s.index }
 
-get-shifted : (front arrays rest : Arrays) (s : Spot) → Aligned front arrays rest → IsInside arrays s
-    → block_at (around front arrays rest) (shifted front s) ≡ block_at arrays s
-get-shifted front arrays rest s a h = search (rules, get-around, get-inside)
-
 put-shifted : (front arrays rest : Arrays) (s : Spot) (b : Block) → Aligned front arrays rest → IsInside arrays s
     → put_block (shifted front s) b (around front arrays rest) ≡ around front (put_block s b arrays) rest
 put-shifted front arrays rest s b a h = search (rules, get-around, set-inside, set-around)
@@ -84,10 +80,6 @@ wrapped_count front rest c = record { reached = wrapped front rest c.reached; le
 pub record Holds (front rest : Arrays) (spots : List Spot) (arrays : Arrays) : Type 0 where
   pub aligned : Aligned front arrays rest
   pub inside : (s : Spot) → IsIn s spots → IsInside arrays s
-
-put-holds : (front rest : Arrays) (spots : List Spot) (arrays : Arrays) (s : Spot) (b : Block)
-    → Holds front rest spots arrays → Holds front rest spots (put_block s b arrays)
-put-holds front rest spots arrays s b h = search (rules, length-set, put-inside)
 
 fewer-hold : (front rest : Arrays) (spots fewer : List Spot) (arrays : Arrays)
     → ((s : Spot) → IsIn s fewer → IsIn s spots) → Holds front rest spots arrays → Holds front rest fewer arrays
@@ -113,7 +105,7 @@ after_turn now r = record { reached = r; left = now.left - 1; number = now.numbe
 counted-on : (P : Arrays → Type 0) (f : Counted → Reads Counted) → ((r : Counted) (t : Text) → P r.reached.arrays
     → KeepsCounted P (f r t))
     → (o : Result (Counted × Text) Fault) → KeepsCounted P o → KeepsCounted P (read_on f o)
-counted-on P f hyp3 o hyp5 = search rules
+counted-on P f h o k = search rules
 
 -- ---- what reading keeps of the arrays
 
@@ -143,7 +135,7 @@ blocks-any P kept p vias n (s ∷ spots) old t h =
     search (rules, counted-on, next-any, blocks-any P kept p vias n spots)
 
 holds-kept : (front rest : Arrays) (spots : List Spot) → IsKept (Holds front rest spots)
-holds-kept front rest spots arrays s b h = put-holds front rest spots arrays s b h
+holds-kept front rest spots arrays s b h = search (rules, length-set, put-inside)
 
 -- ---- blocks inside others
 
@@ -156,7 +148,7 @@ begun-shifted n front rest old t = search rules
 pub counted-where : {A : Type 0} (P : Arrays → Type 0) (f g : Counted → Reads A)
     → ((r : Counted) (t : Text) → P r.reached.arrays → f r t ≡ g r t)
     → (o : Result (Counted × Text) Fault) → KeepsCounted P o → read_on f o ≡ read_on g o
-counted-where P f g hyp4 o hyp6 = search rules
+counted-where P f g h o k = search rules
 
 counts : (front rest : Arrays) (now : Counted) (o : Result (Reached × Text) Fault)
     → read_on (λ r. gives (after_turn now r)) (read_on (λ r. gives (wrapped front rest r)) o)
@@ -179,7 +171,7 @@ next-shifted p vias n front rest s spots old t h =
     ∙ on-on wrap far (begun_from n old t)
     ∙ counted-where all (λ now. λ u. far (wrapped_count front rest now) u)
     (λ now. λ u. read_on wrap (near now u))
-    (search (rules, get-shifted, put-shifted, counts))
+    (search (rules, get-around, get-inside, put-shifted, counts))
     (begun_from n old t) (begun-keeps all n old t h)
     ∙ sym (on-on near wrap (begun_from n old t))
 
@@ -411,7 +403,7 @@ several-inside frame cs arrays s fits sized h =
     let rh = r.between.high in
     let g = in-flat-back (λ column. mcu_spots r.at column 0 cs) s 0 frame.mcus_wide r.gives in
     let gh = g.between.high in
-    let of = mcu-tells frame cs 0 r.at g.at s fits (omega arith) g.gives in
+    let of = mcu-tells frame r.at g.at (omega arith) cs 0 s fits g.gives in
     let c = of.component in
     let here = placed frame cs r.at g.at s of in
     let z = rows-at 1 cs arrays s.slot c sized here in

@@ -7,7 +7,7 @@ use Rattle.jpeg_segments.specs.Frame.{Component, Frame, frame_of}
 use Rattle.jpeg_segments.specs.WrittenSegments.{FrameHeader, IsFrame, frame_written}
 use Rattle.jpeg_lossless.specs.Differences.{Part}
 use Rattle.jpeg_lossless.specs.Pictures.{most_across, most_down, sample_bytes}
-use Rattle.jpeg_lossless.specs.Prediction.{line_below, lines_below, predicted_lines}
+use Rattle.jpeg_lossless.specs.Prediction.{lines_below, predicted_lines}
 use Rattle.jpeg_lossless.specs.Scans.{Way, lines_by_component, planes_of}
 use Rattle.jpeg_lossless.proofs.ImageLoops.{inside}
 use Rattle.jpeg_lossless.proofs.LineSums.{top-narrow}

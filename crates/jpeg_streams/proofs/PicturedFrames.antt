@@ -1,6 +1,6 @@
 -- A frame header that has a picture is accepted.
-use Rattle.std.proofs.Common.{rules, ◌≡◌, ◌⊎◌, inl, ℕ, zero, suc, ◌≤◌, ◌==◌, true, false, List, [], ◌∷◌, map, length}
-use Rattle.std.proofs.Common.{Ok, refl, arith}
+use Rattle.std.proofs.Common.{rules, ◌≡◌, ◌⊎◌, ℕ, ◌≤◌, true, false, List, [], ◌∷◌, map, length, Ok}
+use Rattle.std.proofs.Common.{arith}
 use Rattle.std.proofs.lemmas.Grind.{common_steps}
 use Rattle.std.proofs.lemmas.Bool.{eq-eqb, or_left}
 use Rattle.std.specs.List.{AllByRecursion}
@@ -54,7 +54,7 @@ header-process : (number : ℕ) (h : FrameHeader) → number ≤ 2 → HasPictur
     → ((frame_written number h).is_differential ≡ false) × (is_arithmetic (frame_written number h).coding ≡ false)
     × (is_decoded_precision (frame_written number h).process (frame_written number h).precision ≡ true)
 unfolding frame_of
-header-process number h hyp3 hyp4 = search (rules, eq-eqb)
+header-process number h le p = search (rules, eq-eqb)
 
 pub header-accepted : (number : ℕ) (h : FrameHeader) → number ≤ 2 → HasPicture h
     → accepted (frame_written number h) ≡ Ok (frame_written number h)

@@ -1,5 +1,5 @@
 -- Where all components have the same factors, they have the size of the frame.
-use Rattle.std.proofs.Common.{rules, ◌≡◌, inl, inr, ℕ, ◌*◌, ◌<◌, List, [], ◌∷◌, map, refl, ap, ap₂, ◌∙◌, subst, arith}
+use Rattle.std.proofs.Common.{rules, ◌≡◌, inl, inr, ℕ, List, [], ◌∷◌, map, refl, ap, ap₂, ◌∙◌, subst, arith}
 use Rattle.std.specs.List.{AllByRecursion}
 use Rattle.std.proofs.lemmas.Nat.{div-mul-add}
 use Rattle.jpeg_bits.specs.Codes.{Table}

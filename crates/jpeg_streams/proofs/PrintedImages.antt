@@ -1,6 +1,5 @@
 -- A run that prints the meaning of a stream prints images.
-use Rattle.std.proofs.Common.{rules, arith, ◌≡◌, ℕ, ◌++◌, List, Option, Some, None, Result, Ok, Err, refl, IsSome}
-use Rattle.std.proofs.Common.{subst}
+use Rattle.std.proofs.Common.{rules, arith, ◌≡◌, ℕ, ◌++◌, List, Option, Some, Result, Ok, IsSome}
 use Rattle.std.specs.Prelude.{IfErr, IsSomeAnd, OnOk, option_map}
 use Rattle.std.specs.Io.KnownBytes.{Appends}
 use Rattle.jpeg_bits.specs.declared.error.Error.{Error}
@@ -30,8 +29,7 @@ prints : {X : Type 0} (bytes text : List ℕ) (old new : Option (List ℕ)) (res
     → output_of bytes ≡ Some text → OnOk result (IsSomeAnd (output_of bytes) (Appends old new))
     → ((text : List ℕ) → output_of bytes ≡ Some text → TakesBeginning old new text)
     → (IsSome (output_of bytes) → IfErr result IsOutsideOrMemory) → Prints text old result new
-prints bytes text old new (Ok x) e ok beginning refused = search rules
-prints bytes text old new (Err x) e ok beginning refused = search rules
+prints bytes text old new result e ok beginning refused = search rules
 
 pub prints-images : {X : Type 0} (remaining old new : Option (List ℕ)) (result : Result X Error)
     → ((bytes : List ℕ) → Tells remaining bytes → OnOk result (IsSomeAnd (output_of bytes) (Appends old new)))

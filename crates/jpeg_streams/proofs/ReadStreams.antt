@@ -106,7 +106,7 @@ segment-held : (bf : Before) (w : Found) (s : Segment) (sc : Bool) (h : Arrays) 
     (pl : List (Option (List ℕ))) (rest : List ℕ) → Stands w s → IsDctSegment s
     → segment_at (marker_for s) bf (reading w sc h fi pl) (sized (payload_of s) ++ rest)
     ≡ Ok (onward (reading (found_after w s) sc h fi pl), rest)
-segment-held bf w s sc h fi pl rest hyp9 hyp10 =
+segment-held bf w s sc h fi pl rest may dct =
     search (rules, segment-read, frame-turn, header-accepted)
 
 segment-turn : (bf : Before) (w : Found) (s : Segment) (sc : Bool) (h : Arrays) (fi : List (List Bool))

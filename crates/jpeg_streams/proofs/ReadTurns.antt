@@ -1,6 +1,6 @@
 -- A turn of a written stream is read.
 use Rattle.std.proofs.Common.{rules, ◌≡◌, ◌≢◌, ℕ, zero, suc, ◌<◌, Bool, true, false, List, [], ◌∷◌, ◌++◌, map, length}
-use Rattle.std.proofs.Common.{drop, replicate, slice_index_or, is_some, Option, Some, None, Result, Ok, Err, refl, sym}
+use Rattle.std.proofs.Common.{drop, slice_index_or, is_some, Option, Some, None, Result, Ok, Err, refl, sym}
 use Rattle.std.proofs.Common.{ap, ◌∙◌, subst, arith, append_assoc, length-append}
 use Rattle.std.proofs.lemmas.Grind.{common_steps}
 use Rattle.std.specs.List.{AllByRecursion}
@@ -12,9 +12,8 @@ use Rattle.jpeg_bits.specs.declared.marker.Marker.TheVariants.{EOI, SOF, SOS}
 use Rattle.jpeg_segments.specs.Frame.{Frame}
 use Rattle.jpeg_segments.specs.ScanHeader.{Scan, sos_at}
 use Rattle.jpeg_segments.specs.HuffmanTables.{Tables}
-use Rattle.jpeg_segments.specs.ScanHeaders.{scan_payload}
-use Rattle.jpeg_segments.specs.WrittenSegments.{sized, Segment, Quantization, Huffman, Interval, Application, Comment}
-use Rattle.jpeg_segments.specs.WrittenSegments.{Header, FrameHeader, MayStand, code_of, frame_written, payload_of}
+use Rattle.jpeg_segments.specs.WrittenSegments.{sized, Segment, Header, FrameHeader, MayStand}
+use Rattle.jpeg_segments.specs.WrittenSegments.{code_of, frame_written, payload_of}
 use Rattle.jpeg_segments.proofs.Fields.{kept, not-refused, read-on, sized-read, skip-read}
 use Rattle.jpeg_segments.proofs.TableSegments.{dqt-read, dht-read}
 use Rattle.jpeg_segments.proofs.OtherSegments.{dri-read, app-read}
@@ -26,15 +25,14 @@ use Rattle.jpeg_streams.specs.Scans.{Arrays}
 use Rattle.jpeg_streams.specs.Needed.{first_of, needed}
 use Rattle.jpeg_streams.specs.ScanSegments.{component_coding, needed_if, Coding, tables_of, after_restarts, after_scan}
 use Rattle.jpeg_streams.specs.ScanSegments.{scan_arrays, codings_of, codings_from, pass_of, scan_segment, scan_before}
-use Rattle.jpeg_streams.specs.ScanSegments.{scan_by, blocks_scan}
+use Rattle.jpeg_streams.specs.ScanSegments.{blocks_scan}
 use Rattle.jpeg_streams.specs.Segments.{onward, Turn, application_segment, restart_segment, huffman_segment}
 use Rattle.jpeg_streams.specs.Segments.{quantization_segment, skipped_segment, frame_segment, accepted}
 use Rattle.jpeg_streams.specs.Found.{Found}
 use Rattle.jpeg_streams.specs.SaidSegments.{Stands, found_after}
 use Rattle.jpeg_streams.specs.Stream.{segment_at, end_segment, turn_at, segments_within}
 use Rattle.jpeg_bits.specs.declared.codes.HuffmanTableClass.{HuffmanTableClass}
-use Rattle.jpeg_segments.specs.declared.parser.CodingProcess.{CodingProcess}
-use Rattle.jpeg_segments.specs.declared.parser.CodingProcess.TheVariants.{DctSequential, Lossless}
+use Rattle.jpeg_segments.specs.declared.parser.CodingProcess.TheVariants.{Lossless}
 use Rattle.jpeg_streams.specs.WrittenScans.{Coefficients, InForce, IsCoding, AreCodings}
 use Rattle.jpeg_streams.specs.WrittenScans.AreCodings.{no_more, and_more}
 use Rattle.jpeg_streams.specs.WrittenImages.{Writes, closed, segment, scan}
@@ -84,7 +82,7 @@ head-on turns before f met all rest t n e g = search (rules, is_some)
 pub head-end : (turns : ℕ) (before : Before) (f : Found) (met : Option Marker) (all : List ℕ) → 0 < turns
     → is_some f.frame ≡ true → segments_within turns true before f met all ≡ Ok (f, all)
 unfolding segments_within
-head-end turns before f met all hyp6 hyp7 = search rules
+head-end turns before f met all h e = search rules
 
 -- ---- the turn of a marker
 
@@ -176,7 +174,7 @@ IsOther _ = Unit {0}
 pub segment-read : (before : Before) (found : Found) (s : Segment) (rest : List ℕ) → MayStand found.frame s → IsOther s
     → segment_at (marker_for s) before found (sized (payload_of s) ++ rest) ≡ Ok (onward (found_after found s), rest)
 unfolding segment_at quantization_segment huffman_segment restart_segment application_segment skipped_segment
-segment-read before found s rest hyp5 hyp6 =
+segment-read before found s rest may other =
     search (rules, read-on, dqt-read, dht-read, dri-read, app-read, sized-read, skip-read)
 
 -- a frame that is accepted is read, where none was

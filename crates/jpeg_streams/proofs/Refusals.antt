@@ -1,8 +1,8 @@
 -- Refusals, and the turn that tells that known bytes are few.
-use Rattle.std.proofs.Common.{rules, ◌≡◌, ◌<◌, ℕ, zero, suc, List, Result, Err, Bool, true, Option, None, refl, subst}
+use Rattle.std.proofs.Common.{rules, ◌≡◌, ◌<◌, ℕ, zero, suc, List, Result, Err, true, Option, None, refl, subst}
 use Rattle.std.proofs.Common.{arith}
 use Rattle.jpeg_bits.specs.Stream.{Stream}
-use Rattle.jpeg_bits.specs.Reading.{Outcome, Fault, Malformed, Answers, Names, NamesFormat, MayFail, IsShort}
+use Rattle.jpeg_bits.specs.Reading.{Outcome, Fault, Malformed, Answers, Names, NamesFormat, IsShort}
 use Rattle.jpeg_bits.specs.declared.error.Error.{Error}
 use Rattle.jpeg_bits.specs.declared.error.Error.TheVariants as errors
 use Rattle.jpeg_bits.specs.declared.marker.Marker.{Marker}

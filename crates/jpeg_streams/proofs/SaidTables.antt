@@ -1,12 +1,12 @@
 -- The Huffman tables in force exist, where segments have set them.
-use Rattle.std.proofs.Common.{rules, ◌≡◌, ℕ, zero, suc, List, [], ◌∷◌, set, get_or, fold, Option, Some, None, subst}
+use Rattle.std.proofs.Common.{rules, ◌≡◌, ℕ, suc, List, [], ◌∷◌, set, get_or, fold, Option, Some, None}
 use Rattle.std.specs.List.{AllByRecursion}
 use Rattle.std.specs.Prelude.{slice_index_or}
 use Rattle.jpeg_bits.specs.Codes.{Table, IsTable}
 use Rattle.jpeg_segments.specs.HuffmanTables.{Tables, PlacedTable, no_tables, with_table}
-use Rattle.jpeg_streams.specs.Segments.{with_huffman, updated}
+use Rattle.jpeg_streams.specs.Segments.{updated}
 use Rattle.jpeg_streams.specs.Found.{Found}
-use Rattle.jpeg_segments.specs.WrittenSegments.{Segment, Huffman, IsHuffmanTable, MayStand, huffman_tables}
+use Rattle.jpeg_segments.specs.WrittenSegments.{Segment, Huffman, IsHuffmanTable, MayStand}
 use Rattle.jpeg_streams.specs.SaidSegments.{found_after}
 
 abbrev pub IsTableOrNone : Option Table → Type 0

@@ -1,5 +1,5 @@
 -- The blocks of a scan's components, before it and after it.
-use Rattle.std.proofs.Common.{rules, arith, ◌≡◌, ℕ, zero, suc, ◌*◌, false, List, [], ◌∷◌, map, drop, length, set}
+use Rattle.std.proofs.Common.{rules, arith, ◌≡◌, ℕ, suc, ◌*◌, false, List, [], ◌∷◌, map, drop, length, set}
 use Rattle.std.proofs.Common.{get_or, Option, Some, Result, Ok, Err, refl, ◌∙◌}
 use Rattle.std.proofs.lemmas.Grind.{common_steps}
 use Rattle.std.specs.Prelude.{◌&&◌, if◌then◌else◌}

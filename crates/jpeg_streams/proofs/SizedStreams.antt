@@ -17,7 +17,7 @@ use Rattle.jpeg_streams.specs.Levels.{Levels, Is8Bit, nothing_sent}
 use Rattle.jpeg_streams.specs.WrittenScans.{Coefficients}
 use Rattle.jpeg_streams.specs.WrittenImages.{WritesImage}
 use Rattle.jpeg_streams.specs.ArrayPictures.{meaning_of_array, picture_of_array, Takes}
-use Rattle.jpeg_streams.proofs.OwnSpots.{At, Fits}
+use Rattle.jpeg_streams.proofs.OwnSpots.{At}
 use Rattle.jpeg_streams.proofs.ReadStates.{reading}
 use Rattle.jpeg_streams.proofs.ReadTurns.{frame-kept, stands-here, then-ok}
 use Rattle.jpeg_streams.proofs.BroughtLevels.{Shaped, framed-start}

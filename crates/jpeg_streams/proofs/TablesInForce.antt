@@ -1,9 +1,9 @@
 -- The tables in force exist.
-use Rattle.std.proofs.Common.{rules, ℕ, Bool, true, false, List, [], ◌∷◌, Option, None, refl, sym, subst, arith}
+use Rattle.std.proofs.Common.{rules, ℕ, Bool, true, false, List, [], Option, refl, sym, subst, arith}
 use Rattle.std.specs.List.{AllByRecursion}
 use Rattle.jpeg_bits.specs.Codes.{Table, IsTable}
 use Rattle.jpeg_bits.specs.declared.codes.HuffmanTableClass.{HuffmanTableClass}
-use Rattle.jpeg_bits.specs.DefaultTables.{with_defaults, filled}
+use Rattle.jpeg_bits.specs.DefaultTables.{with_defaults}
 use Rattle.jpeg_bits.proofs.DefaultTables.{luminance-dc-codes, chrominance-dc-codes, luminance-ac-codes}
 use Rattle.jpeg_bits.proofs.DefaultTables.{chrominance-ac-codes}
 use Rattle.jpeg_segments.specs.Frame.{Frame}

@@ -3,7 +3,7 @@ use Rattle.std.proofs.Common.{rules, ◌≡◌, ℕ, List, Bool, true, Result, O
 use Rattle.jpeg_bits.specs.Stream.{Stream}
 use Rattle.jpeg_bits.specs.declared.error.Error.{Error}
 use Rattle.jpeg_bits.specs.declared.error.Error.TheVariants as errors
-use Rattle.jpeg_streams.specs.States.{IfRefused, OnTold}
+use Rattle.jpeg_streams.specs.States.{OnTold}
 use Rattle.jpeg_bits.specs.Reading.{Fault}
 use Rattle.jpeg_streams.specs.Stream.{told_of, start_at}
 use Rattle.jpeg_streams.specs.Reported.{told_by_stream, told_rest, told_within, told_by_turns, told_in_turns}

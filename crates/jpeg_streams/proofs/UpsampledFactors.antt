@@ -1,9 +1,8 @@
 -- Components whose factors can be upsampled have a way to upsample them, and no others.
-use Rattle.std.proofs.Common.{rules, ◌≡◌, ◌⊎◌, inl, inr, ℕ, ◌*◌, ◌%◌, ◌==◌, ◌&&◌, ◌||◌, Bool, true, false, List, []}
+use Rattle.std.proofs.Common.{rules, ◌≡◌, ◌⊎◌, inl, inr, ℕ, ◌%◌, ◌||◌, Bool, true, false, List, []}
 use Rattle.std.proofs.Common.{◌∷◌, Option, Some, None, Ok, refl, sym, ap, if◌then◌else◌, true≢false}
 use Rattle.std.proofs.lemmas.Bool.{and_parts, eqb-true, eq-eqb, and_from as and-true, or_left}
 use Rattle.std.specs.List.{AllByRecursion}
-use Rattle.jpeg_bits.specs.Reading.{Lacks}
 use Rattle.jpeg_segments.specs.Frame.{Component, Factors}
 use Rattle.jpeg_pixels.specs.declared.upsampler.UpsampleRule.{UpsampleRule}
 use Rattle.jpeg_pixels.specs.declared.upsampler.UpsampleRule.TheVariants.{H1V1, H2V1, H1V2, H2V2}
@@ -29,11 +28,6 @@ pick-some false false false false false l h = absurd (true≢false (sym h))
 
 -- ---- from the factors to a rule
 
--- near is at most a half, by the tests of a rule
-near-test : (n m s : ℕ) → IsNear n m s → ((n == m || s == 1) ≡ true) ⊎ ((2 * n == m) ≡ true)
-near-test n m s (inl e) = inl (or_left (n == m) (s == 1) (eq-eqb n m e))
-near-test n m s k = search (rules, eq-eqb)
-
 -- the greatest factors, and the size of the picture
 abbrev pub Upsampled : ℕ → ℕ → ℕ → ℕ → Factors → Type 0
 Upsampled most_h most_v width height c =
@@ -43,8 +37,7 @@ Upsampled most_h most_v width height c =
 rule-some : (most_h most_v width height : ℕ) (c : Factors) → Upsampled most_h most_v width height c
     → (r : UpsampleRule) × (rule_of c.horizontal c.vertical most_h most_v width height ≡ Some r)
 unfolding rule_of
-rule-some most_h most_v width height c u =
-    search (rules, pick-some, or_left, near-test, and-true, eq-eqb)
+rule-some most_h most_v width height c u = search (rules, pick-some, or_left, and-true, eq-eqb)
 
 pub sources-some : (most_h most_v width height : ℕ) (cs : List Component)
     → AllByRecursion (λ c. Upsampled most_h most_v width height c.factors) cs

@@ -1,6 +1,6 @@
 -- A scan is its blocks one after the other, interval by interval.
-use Rattle.std.proofs.Common.{rules, ◌≡◌, ℕ, zero, suc, ◌≤◌, List, [], ◌∷◌, ◌++◌, take, drop, length, refl, ap}
-use Rattle.std.proofs.Common.{◌∙◌, append-nil, arith, length-drop, take-append-drop}
+use Rattle.std.proofs.Common.{rules, ◌≡◌, ℕ, zero, suc, ◌≤◌, List, ◌∷◌, ◌++◌, drop, length}
+use Rattle.std.proofs.Common.{append-nil, length-drop, take-append-drop}
 use Rattle.jpeg_bits.specs.Passes.{Pass, Via}
 use Rattle.jpeg_bits.specs.Intervals.{groups, first_group, other_groups}
 use Rattle.jpeg_streams.specs.Order.{Spot}

@@ -11,7 +11,7 @@ use Rattle.jpeg_bits.specs.declared.marker.Marker.{Marker}
 use Rattle.jpeg_bits.proofs.Tables.{IsGood}
 use Rattle.jpeg_segments.specs.Frame.{Frame, Component}
 use Rattle.jpeg_streams.specs.declared.grids.Grid.{Grid}
-use Rattle.jpeg_bits.specs.Passes.{Pass, Via, Block, whole_pass, zero_block, band_of}
+use Rattle.jpeg_bits.specs.Passes.{Pass, Via, Block, whole_pass, zero_block}
 use Rattle.jpeg_streams.specs.Order.{Spot, grid_of, own_spots, spots_of, mcu_size}
 use Rattle.jpeg_streams.specs.Scans.{Arrays, block_at, put_block, put_blocks, via_at, no_table, arrays_at}
 use Rattle.jpeg_streams.specs.ScanSegments.{vias_from, Coding, components_of}

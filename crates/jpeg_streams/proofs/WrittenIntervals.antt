@@ -1,12 +1,12 @@
 -- The bytes of a scan that was written are read again.
 use Rattle.std.proofs.lemmas.Grind.{common_steps}
-use Rattle.std.proofs.Common.{rules, ◌≡◌, zero, Bool, true, false, List, ◌++◌, take, drop, Option, Result, subst, arith}
+use Rattle.std.proofs.Common.{rules, ◌≡◌, zero, Bool, List, ◌++◌, take, drop, Option, Result, subst, arith}
 use Rattle.std.proofs.Common.{ℕ, length, length-drop, length-append, take-append-drop, append_assoc, append-nil, suc}
-use Rattle.std.proofs.Common.{◌+◌, ◌%◌, ◌≤◌, [], ◌∷◌, map, Some, Ok, Err, refl, sym, ap, ◌∙◌, eqb, ap₂}
+use Rattle.std.proofs.Common.{◌+◌, ◌%◌, ◌≤◌, [], ◌∷◌, map, Some, Ok, refl, sym, ap, ◌∙◌, ap₂}
 use Rattle.std.proofs.lemmas.Bool.{eq-eqb}
 use Rattle.std.specs.List.{AllByRecursion}
 use lib.ListN.{length-map}
-use Rattle.jpeg_bits.specs.Reading.{Outcome, Fault, Malformed, ◌>>=◌}
+use Rattle.jpeg_bits.specs.Reading.{Outcome, Fault, ◌>>=◌}
 use Rattle.jpeg_bits.specs.Entropy.{Text, Found, text_at, marker_from}
 use Rattle.jpeg_bits.specs.declared.marker.Marker.{Marker}
 use Rattle.jpeg_bits.specs.declared.marker.Marker.TheVariants as markers

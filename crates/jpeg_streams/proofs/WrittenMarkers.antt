@@ -1,7 +1,5 @@
 -- The markers that are written.
-use Rattle.std.proofs.Common.{rules, ◌≡◌, ℕ, zero, suc, ◌≤◌, ◌+◌, Option, Some, refl}
-use Rattle.std.proofs.Common.{arith}
-use Rattle.std.proofs.lemmas.Bool.{lt-ltb, le-ltb, ne_eqb}
+use Rattle.std.proofs.Common.{rules, ◌≡◌, Option, Some}
 use Rattle.jpeg_bits.specs.Marker.{marker_of}
 use Rattle.jpeg_bits.specs.declared.marker.Marker.{Marker}
 use Rattle.jpeg_bits.specs.declared.marker.Marker.TheVariants.{SOF, DHT, DQT, DRI, APP, COM}
@@ -21,5 +19,4 @@ marker_for (Header number h) = SOF number
 pub segment-marker : (frame : Option Frame) (s : Segment) → MayStand frame s
     → marker_of (code_of s) ≡ Some (marker_for s)
 unfolding marker_of
-segment-marker frame (Quantization ts) may = refl
 segment-marker frame s may = search rules

@@ -25,12 +25,11 @@ use Rattle.jpeg_streams.specs.Scans.{Arrays}
 use Rattle.jpeg_pixels.specs.Scaled.{sample_at}
 use Rattle.jpeg_pixels.specs.Planes.{plane_sample, plane_of}
 use Rattle.jpeg_streams.specs.Needed.{needed}
-use Rattle.jpeg_streams.specs.FoundPictures.{planes_from, plane_at_end, picture_of, picture_by_process, blocks_picture}
+use Rattle.jpeg_streams.specs.FoundPictures.{planes_from, plane_at_end, picture_of, blocks_picture}
 use Rattle.jpeg_streams.specs.FoundPictures.{picture_by, picture_in}
 use Rattle.jpeg_streams.specs.ScanSegments.{plane_by, is_progressive}
 use Rattle.jpeg_streams.specs.Found.{Found, Metadata, nothing_found}
-use Rattle.jpeg_segments.specs.declared.parser.CodingProcess.{CodingProcess}
-use Rattle.jpeg_segments.specs.declared.parser.CodingProcess.TheVariants.{DctSequential, Lossless}
+use Rattle.jpeg_segments.specs.declared.parser.CodingProcess.TheVariants.{Lossless}
 use Rattle.jpeg_streams.specs.Stream.{rest_at, meaning, start_at, segments_at, told_of}
 use Rattle.jpeg_streams.specs.declared.before.Before.TheVariants.{Elsewhere}
 use Rattle.jpeg_streams.specs.Levels.{Levels, Is8Bit, cut}
@@ -291,7 +290,7 @@ some-of o f x e y = (y.0, then-ok o f x (Ok y.0) e y.1)
 conversion-there : (count : ℕ) (t : ColorTransform) → IsTransformOf count t
     → (convert : ColorConvert) × (conversion_of count t ≡ Ok convert)
 unfolding conversion_of
-conversion-there count t hyp3 = search (rules, eq-eqb)
+conversion-there count t h = search (rules, eq-eqb)
 
 picture-there : (settings : Settings) (w : Found) (f : Frame) (components : List Component)
     (ours planes : List (List ℕ)) (sources : List Source) → HasTransform settings w components

@@ -1,5 +1,5 @@
 -- A refinement that was written is read again.
-use Rattle.std.proofs.Common.{rules, ◌≡◌, ◌≢◌, ◌⊎◌, inl, inr, ℕ, zero, suc, ◌+◌, ◌-◌, ◌*◌, ◌/◌, ◌%◌, ◌^◌, ◌<◌, ◌≤◌}
+use Rattle.std.proofs.Common.{rules, ◌≡◌, ◌≢◌, ◌⊎◌, ℕ, zero, suc, ◌+◌, ◌-◌, ◌*◌, ◌/◌, ◌%◌, ◌^◌, ◌<◌, ◌≤◌}
 use Rattle.std.proofs.Common.{Bool, true, false, List, [], ◌∷◌, ◌++◌, map, length, take, drop, ℤ, pos, negsuc, neg_ℤ}
 use Rattle.std.proofs.Common.{◌*ℤ◌, unsigned_abs, refl, sym, ap, ◌∙◌, subst, append_assoc, arith, eqb, pow-suc, pow_pos}
 use Rattle.std.proofs.Common.{add-zero, mul_assoc, Ok, slice_index}
@@ -57,7 +57,7 @@ held-old al (negsuc n) h = search (rules, neg-times, not-zero, held-positive, ol
 
 -- a place that isn't new is nothing or old
 pub nothing_or_old : (u : ℤ) → unsigned_abs u ≢ 1 → (u ≡ pos 0) ⊎ (is_old u ≡ true)
-nothing_or_old u hyp2 = search (rules, le-leb)
+nothing_or_old u h = search (rules, le-leb)
 
 -- ---- correction bits
 
@@ -123,11 +123,6 @@ corrects al (negsuc i) o range = go (suc i / 2 * 2 ^ suc al) refl (held-positive
     go zero e h = absurd (omega arith)
     go (suc k) e h = search (rules, neg-times, neg_ℤ, takes-as, corrects-neg)
 
-pub corrected-zero : (al : ℕ) (z : ℤ) (zs ws : List ℤ) (bits : List Bool) → z ≡ pos 0
-    → ReadsJust (corrected al zs) bits ws → ReadsJust (corrected al (z ∷ zs)) bits (pos 0 ∷ ws)
-unfolding corrected
-corrected-zero al z zs ws bits e h = search (rules, takes-map)
-
 pub corrected-next : (al : ℕ) (z w : ℤ) (zs ws : List ℤ) (b : ℕ) (bits : List Bool) → b < 2 → is_zero z ≡ false
     → ReadsJust (corrected_by al z b) [] w
     → ReadsJust (corrected al zs) bits ws → ReadsJust (corrected al (z ∷ zs)) (bit b ∷ bits) (w ∷ ws)
@@ -150,7 +145,7 @@ takes-corrected al (u ∷ us) none range =
       takes-as,
       corrections-zero,
       scaled-zero,
-      corrected-zero,
+      takes-map,
       held-zero,
       corrected-next,
       held-old,
