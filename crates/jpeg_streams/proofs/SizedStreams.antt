@@ -143,10 +143,10 @@ read-at width height array tail bytes final last range w =
       sized_is = ap (λ (o : Option Frame). record final { frame = option_map (sized width height) o }) kept;
       sources_are = subst (λ (x : Frame). sources_of x.components x.output_width x.output_height ≡ Ok there.0)
           (sym size.2) there.1;
-      read = read-to g array tail (at_frame final g) last _ _
+      read = read-to array tail (at_frame final g) last g _ _
           (ap (λ (x : Found). segments_at false Elsewhere x None left) now
           ∙ rest-within (unread (at_frame h.said g)) left)
-          (reads-scans array g tail (at_frame h.said g) (at_frame final g) (λ k. nothing_sent) last false h.more []
+          (reads-scans array tail (at_frame final g) last g (at_frame h.said g) (λ k. nothing_sent) false h.more []
           nothing_finished no_planes (suc (length left)) Elsewhere None left range shape h.good refl (λ e k. refl)
           (framed-start (at_frame h.said g) g array [] nothing_finished no_planes range refl refl)
           (scans-alike array f g h.said final (λ k. nothing_sent) last false h.more same h.framed h.written)
