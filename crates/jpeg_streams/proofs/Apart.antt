@@ -149,57 +149,6 @@ within : (frame : Frame) (c : Component) (column h : ℕ) → Fits frame c → c
     → h < c.factors.horizontal → column * c.factors.horizontal + h < c.blocks_wide
 within frame c column h fits lt l = search (rules, div-mul-add, div-lt_iff_lt-mul)
 
-spot-tells : (frame : Frame) (c : Component) (slot row column v h : ℕ) (s : Spot) → Fits frame c
-    → column < frame.mcus_wide → v < c.factors.vertical → h < c.factors.horizontal
-    → record {
-      slot = slot;
-      index = (row * c.factors.vertical + v) * c.blocks_wide + (column * c.factors.horizontal + h);
-    } ≡ s
-    → Tells frame c slot row column s
-spot-tells frame c slot row column v h s fits lt vl hl e =
-    let vt = c.factors.vertical in
-    let hz = c.factors.horizontal in
-    let w = c.blocks_wide in
-    let i = (row * vt + v) * w + (column * hz + h) in
-    let lw : column * hz + h < w = within frame c column h fits lt hl in
-    let wp : 0 < w = omega arith in
-    let by-row : i / w ≡ row * vt + v = div-mul-add (row * vt + v) w (column * hz + h) lw in
-    let by-column : i % w ≡ column * hz + h = mod-mul-add (row * vt + v) w (column * hz + h) lw in
-    let up : (row * vt + v) / vt ≡ row = div-mul-add row vt v vl in
-    search (rules, div-mul-add, div-lt_iff_lt-mul)
-
-part-tells : (frame : Frame) (c : Component) (slot row column : ℕ) (s : Spot) → Fits frame c → column < frame.mcus_wide
-    → IsIn s (part_spots row column slot c) → Tells frame c slot row column s
-unfolding part_spots
-part-tells frame c slot row column s fits lt h =
-    let at : ℕ → ℕ → Spot = λ v h. record {
-      slot = slot;
-      index = (row * c.factors.vertical + v) * c.blocks_wide + (column * c.factors.horizontal + h);
-    } in
-    let line : ℕ → List Spot = λ v. map (at v) (range_with_len 0 c.factors.horizontal) in
-    let g = in-flat-back line s 0 c.factors.vertical h in
-    let e = in-line-back (at g.at) s 0 c.factors.horizontal g.gives in
-    let gv = g.between.high in
-    let eh = e.between.high in
-    spot-tells frame c slot row column g.at e.at s fits lt (omega arith) (omega arith) e.equal
-
-part-apart : (frame : Frame) (c : Component) (slot row column : ℕ) → Fits frame c → column < frame.mcus_wide
-    → AreApart (part_spots row column slot c)
-unfolding part_spots
-part-apart frame c slot row column fits lt =
-    let vt = c.factors.vertical in
-    let hz = c.factors.horizontal in
-    let w = c.blocks_wide in
-    let at : ℕ → ℕ → Spot = λ v h. record { slot = slot; index = (row * vt + v) * w + (column * hz + h) } in
-    let by-row : (v h : ℕ) → h < hz → (at v h).index / w ≡ row * vt + v
-    = λ v h l. div-mul-add (row * vt + v) w (column * hz + h) (within frame c column h fits lt l) in
-    let by-column : (v h : ℕ) → h < hz → (at v h).index % w ≡ column * hz + h
-    = λ v h l. mod-mul-add (row * vt + v) w (column * hz + h) (within frame c column h fits lt l) in
-    apart-flat (λ v. map (at v) (range_with_len 0 hz)) (λ s v. s.index / w % vt ≡ v) 0 vt
-    (λ v b. apart-line (at v) (λ s. s.index % w % hz) 0 hz (grind (arith, common_steps, mod-mul-add)))
-    (grind (arith, common_steps, in-line-back, mod-mul-add))
-    (λ s k l e f. sym e ∙ f)
-
 -- the component that a spot of an MCU is of
 pub record IsOf (frame : Frame) (components : List Component) (base row column : ℕ) (s : Spot) : Type 0 where
   pub place : ℕ
@@ -207,37 +156,83 @@ pub record IsOf (frame : Frame) (components : List Component) (base row column :
   pub here : At place components component
   pub tells : Tells frame component (base + place) row column s
 
-pub mcu-tells : (frame : Frame) (components : List Component) (base row column : ℕ) (s : Spot)
-    → AllByRecursion (Fits frame) components → column < frame.mcus_wide
-    → IsIn s (mcu_spots row column base components) → IsOf frame components base row column s
-unfolding mcu_spots
-mcu-tells frame [] base row column s fits lt h = absurd h
-mcu-tells frame (c ∷ more) base row column s fits lt h =
-    go (λ t. mcu-tells frame more (base + 1) row column s fits.1 lt t)
-    (in-either s (part_spots row column base c) (mcu_spots row column (base + 1) more) h)
-  where
-    go : (IsIn s (mcu_spots row column (base + 1) more) → IsOf frame more (base + 1) row column s)
-        → IsIn s (part_spots row column base c) ⊎ IsIn s (mcu_spots row column (base + 1) more)
-        → IsOf frame (c ∷ more) base row column s
-    go rec (inl p) = grind (arith, part-tells frame c base row column s fits.0 lt p)
-    go rec (inr t) = let r = rec t in record {
-      place = suc r.place;
-      component = r.component;
-      here = r.here;
-      tells = search rules;
-    }
+module _ (frame : Frame) (row column : ℕ) (lt : column < frame.mcus_wide) where
+  spot-tells : (c : Component) (slot v h : ℕ) (s : Spot) → Fits frame c → v < c.factors.vertical
+      → h < c.factors.horizontal → record {
+        slot = slot;
+        index = (row * c.factors.vertical + v) * c.blocks_wide + (column * c.factors.horizontal + h);
+      } ≡ s → Tells frame c slot row column s
+  spot-tells c slot v h s fits vl hl e =
+      let vt = c.factors.vertical in
+      let hz = c.factors.horizontal in
+      let w = c.blocks_wide in
+      let i = (row * vt + v) * w + (column * hz + h) in
+      let lw : column * hz + h < w = within frame c column h fits lt hl in
+      let wp : 0 < w = omega arith in
+      let by-row : i / w ≡ row * vt + v = div-mul-add (row * vt + v) w (column * hz + h) lw in
+      let by-column : i % w ≡ column * hz + h = mod-mul-add (row * vt + v) w (column * hz + h) lw in
+      let up : (row * vt + v) / vt ≡ row = div-mul-add row vt v vl in
+      search (rules, div-mul-add, div-lt_iff_lt-mul)
 
-mcu-apart : (frame : Frame) (components : List Component) (base row column : ℕ)
-    → AllByRecursion (Fits frame) components → column < frame.mcus_wide
-    → AreApart (mcu_spots row column base components)
-unfolding mcu_spots
-mcu-apart frame [] base row column fits lt = tt
-mcu-apart frame (c ∷ more) base row column fits lt =
-    apart-append (part_spots row column base c) (mcu_spots row column (base + 1) more)
-    (part-apart frame c base row column fits.0 lt)
-    (mcu-apart frame more (base + 1) row column fits.1 lt)
-    (λ s h k. let a = (part-tells frame c base row column s fits.0 lt h).slot_of in let b =
-    (mcu-tells frame more (base + 1) row column s fits.1 lt k).tells.slot_of in absurd (omega arith))
+  part-tells : (c : Component) (slot : ℕ) (s : Spot) → Fits frame c
+      → IsIn s (part_spots row column slot c) → Tells frame c slot row column s
+  unfolding part_spots
+  part-tells c slot s fits h =
+      let at : ℕ → ℕ → Spot = λ v h. record {
+        slot = slot;
+        index = (row * c.factors.vertical + v) * c.blocks_wide + (column * c.factors.horizontal + h);
+      } in
+      let line : ℕ → List Spot = λ v. map (at v) (range_with_len 0 c.factors.horizontal) in
+      let g = in-flat-back line s 0 c.factors.vertical h in
+      let e = in-line-back (at g.at) s 0 c.factors.horizontal g.gives in
+      let gv = g.between.high in
+      let eh = e.between.high in
+      spot-tells c slot g.at e.at s fits (omega arith) (omega arith) e.equal
+
+  part-apart : (c : Component) (slot : ℕ) → Fits frame c → AreApart (part_spots row column slot c)
+  unfolding part_spots
+  part-apart c slot fits =
+      let vt = c.factors.vertical in
+      let hz = c.factors.horizontal in
+      let w = c.blocks_wide in
+      let at : ℕ → ℕ → Spot = λ v h. record { slot = slot; index = (row * vt + v) * w + (column * hz + h) } in
+      let by-row : (v h : ℕ) → h < hz → (at v h).index / w ≡ row * vt + v
+      = λ v h l. div-mul-add (row * vt + v) w (column * hz + h) (within frame c column h fits lt l) in
+      let by-column : (v h : ℕ) → h < hz → (at v h).index % w ≡ column * hz + h
+      = λ v h l. mod-mul-add (row * vt + v) w (column * hz + h) (within frame c column h fits lt l) in
+      apart-flat (λ v. map (at v) (range_with_len 0 hz)) (λ s v. s.index / w % vt ≡ v) 0 vt
+      (λ v b. apart-line (at v) (λ s. s.index % w % hz) 0 hz (grind (arith, common_steps, mod-mul-add)))
+      (grind (arith, common_steps, in-line-back, mod-mul-add)) (λ s k l e f. sym e ∙ f)
+
+  pub mcu-tells : (components : List Component) (base : ℕ) (s : Spot)
+      → AllByRecursion (Fits frame) components → IsIn s (mcu_spots row column base components)
+      → IsOf frame components base row column s
+  unfolding mcu_spots
+  mcu-tells [] base s fits h = absurd h
+  mcu-tells (c ∷ more) base s fits h =
+      go (λ t. mcu-tells more (base + 1) s fits.1 t)
+      (in-either s (part_spots row column base c) (mcu_spots row column (base + 1) more) h)
+    where
+      go : (IsIn s (mcu_spots row column (base + 1) more) → IsOf frame more (base + 1) row column s)
+          → IsIn s (part_spots row column base c) ⊎ IsIn s (mcu_spots row column (base + 1) more)
+          → IsOf frame (c ∷ more) base row column s
+      go rec (inl p) = grind (arith, part-tells c base s fits.0 p)
+      go rec (inr t) = let r = rec t in record {
+        place = suc r.place;
+        component = r.component;
+        here = r.here;
+        tells = search rules;
+      }
+
+  mcu-apart : (components : List Component) (base : ℕ) → AllByRecursion (Fits frame) components
+      → AreApart (mcu_spots row column base components)
+  unfolding mcu_spots
+  mcu-apart [] base fits = tt
+  mcu-apart (c ∷ more) base fits =
+      apart-append (part_spots row column base c) (mcu_spots row column (base + 1) more)
+      (part-apart c base fits.0) (mcu-apart more (base + 1) fits.1)
+      (λ s h k. let a = (part-tells c base s fits.0 h).slot_of in let b =
+      (mcu-tells more (base + 1) s fits.1 k).tells.slot_of in absurd (omega arith))
 
 -- what a spot of a row of MCUs tells
 pub record TellsRow (components : List Component) (row : ℕ) (s : Spot) : Type 0 where
@@ -285,7 +280,6 @@ all-apart frame components fits =
 pub spots-apart : (frame : Frame) (components : List Component) → AllByRecursion (Fits frame) components
     → AreApart (spots_of frame components)
 unfolding spots_of
-spots-apart frame [] fits = tt
 spots-apart frame components fits = search (rules, own-apart, all-apart)
 
 -- ---- inside
@@ -333,7 +327,7 @@ all-inside frame components arrays q fits h k =
     let y = in-flat-back (mcu x.at) q 0 wide x.gives in
     let xh = x.between.high in
     let yh = y.between.high in
-    let of = mcu-tells frame components 0 x.at y.at q fits (omega arith) y.gives in
+    let of = mcu-tells frame x.at y.at (omega arith) components 0 q fits y.gives in
     let z = sized components arrays q.slot of.component h (placed frame components x.at y.at q of) in
     let i = of.tells.inside (omega arith) in
     record { slot = z.0; index = let l = z.1 in omega arith }

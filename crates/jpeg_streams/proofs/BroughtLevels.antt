@@ -1,6 +1,6 @@
 -- A written stream is read as the blocks of its array, cut at the levels that were sent.
 use Rattle.std.proofs.lemmas.Grind.{common_steps}
-use Rattle.std.proofs.Common.{rules, ◌≡◌, ◌≢◌, ◌⊎◌, inl, inr, ℕ, zero, suc, ◌-◌, ◌*◌, ◌<◌, ◌≤◌, Bool, true, false, List}
+use Rattle.std.proofs.Common.{rules, ◌≡◌, ◌≢◌, ◌⊎◌, inl, inr, ℕ, suc, ◌-◌, ◌*◌, ◌<◌, ◌≤◌, Bool, true, false, List}
 use Rattle.std.proofs.Common.{[], ◌∷◌, ◌++◌, length, replicate, get_or, Option, Some, None, Ok, refl, sym, ap, ◌∙◌}
 use Rattle.std.proofs.Common.{subst, arith, eqb, true≢false, length-append, length-take, length-drop}
 use Rattle.std.proofs.lemmas.Bool.{eqb-true, eq-eqb, not-true}
@@ -129,12 +129,10 @@ framed-start w f array h fi pl range e g = record {
 
 -- ---- levels
 
-pub levels-length : (p : Pass) (l : Levels) → length l.acs ≡ 63 → length (sent_after p l).acs ≡ 63
-levels-length p l h = search (rules, length-take, length-drop, length-replicate, length-append)
-
 one-length : (p : Pass) (place k : ℕ) (levels : ℕ → Levels) → ((j : ℕ) → length (levels j).acs ≡ 63)
     → length (levels_of_one p place levels k).acs ≡ 63
-one-length p place k levels h = search (rules, levels-length)
+one-length p place k levels h =
+    search (rules, length-take, length-drop, length-replicate, length-append)
 
 pub after-length : (p : Pass) (places : List ℕ) (levels : ℕ → Levels) → ((j : ℕ) → length (levels j).acs ≡ 63)
     → (k : ℕ) → length (levels_after p places levels k).acs ≡ 63
@@ -146,19 +144,13 @@ after-length p (q ∷ places) levels h k =
 some-none : (a : ℕ) → ◌≡◌ {A = Option ℕ} (Some a) None → ⊥
 some-none a e = cc
 
--- a whole pass leaves no component without DC but those that it doesn't have
-one-fresh : (p : Pass) (place k : ℕ) (levels : ℕ → Levels) → p ≡ whole_pass
-    → ((j : ℕ) → (levels j).dc ≡ None → levels j ≡ nothing_sent)
-    → (levels_of_one p place levels k).dc ≡ None → levels_of_one p place levels k ≡ nothing_sent
-one-fresh p place k levels e h n = search (rules, some-none)
-
 pub after-fresh : (p : Pass) (places : List ℕ) (levels : ℕ → Levels) → p ≡ whole_pass
     → ((j : ℕ) → (levels j).dc ≡ None → levels j ≡ nothing_sent)
     → (k : ℕ) → (levels_after p places levels k).dc ≡ None → levels_after p places levels k ≡ nothing_sent
 unfolding levels_after
 after-fresh p [] levels e h k n = h k n
 after-fresh p (q ∷ places) levels e h k n =
-    after-fresh p places (levels_of_one p q levels) e (λ j. one-fresh p q j levels e h) k n
+    search (rules, some-none, after-fresh p places (levels_of_one p q levels) e)
 
 -- ---- passes
 

@@ -1,5 +1,5 @@
 -- A scan is its blocks one after the other, with a restart where no block is left of an interval.
-use Rattle.std.proofs.Common.{rules, ◌≡◌, ◌⊎◌, inl, inr, ℕ, zero, suc, ◌+◌, ◌-◌, ◌*◌, ◌%◌, ◌≤◌, ◌<◌, Bool, true, false}
+use Rattle.std.proofs.Common.{rules, ◌≡◌, ◌⊎◌, inl, inr, ℕ, zero, suc, ◌+◌, ◌-◌, ◌*◌, ◌%◌, ◌≤◌, ◌<◌, Bool, false}
 use Rattle.std.proofs.Common.{List, [], ◌∷◌, ◌++◌, take, drop, length, Option, Some, Result, Ok, Err, refl, sym}
 use Rattle.std.proofs.Common.{ap, ◌∙◌, append-nil, arith, length-drop, take-append-drop}
 use Rattle.std.specs.Prelude.{◌==◌, ◌&&◌, nat_lt}
@@ -15,12 +15,12 @@ use Rattle.jpeg_bits.specs.declared.marker.Marker.{Marker}
 use Rattle.jpeg_bits.specs.declared.marker.Marker.TheVariants.{RST}
 use Rattle.jpeg_segments.specs.Frame.{Frame, Component}
 use Rattle.jpeg_bits.specs.Passes.{Pass, Via}
-use Rattle.jpeg_bits.specs.Intervals.{groups, first_group, other_groups, is_restart}
+use Rattle.jpeg_bits.specs.Intervals.{groups, first_group, other_groups}
 use Rattle.jpeg_streams.specs.Order.{Spot, spots_of}
 use Rattle.jpeg_streams.specs.Scans.{Arrays, arrays_at}
 use Rattle.jpeg_streams.specs.InTurn.{Reached, turn_from, turns_from, at_start, interval_from, next_interval}
 use Rattle.jpeg_streams.specs.InTurn.{intervals_from, restart_from, Counted, begun_from, next_from, blocks_from}
-use Rattle.jpeg_streams.specs.InTurn.{scan_from, AreArrays, Fits, AreApart, IsIn, IsInside}
+use Rattle.jpeg_streams.specs.InTurn.{scan_from, AreArrays, Fits}
 use Rattle.jpeg_streams.proofs.WholeScans.{scans-in-turn}
 use Rattle.jpeg_streams.proofs.Apart.{spots-apart, spots-inside}
 
@@ -43,10 +43,7 @@ pub blocks-append : (p : Pass) (vias : List Via) (n : ℕ) (xs ys : List Spot) (
 unfolding blocks_from
 blocks-append p vias n [] ys old t = refl
 blocks-append p vias n (s ∷ xs) ys old t =
-    same-on (blocks_from p vias n (xs ++ ys)) (λ r. λ u. read_on (blocks_from p vias n ys) (blocks_from p vias n xs r
-    u))
-    (λ r u. blocks-append p vias n xs ys r u) (next_from p vias n s old t)
-    ∙ (search (rules, on-on))
+    search (rules, same-on, on-on, blocks-append p vias n xs ys)
 
 -- ---- blocks between restarts
 
@@ -57,10 +54,6 @@ counted left number r = record { reached = r; left = left; number = number }
 abbrev pub GoesOn : ℕ → ℕ → ℕ → Type 0
 GoesOn n left blocks = (n ≡ 0) ⊎ (blocks ≤ left)
 
-goes-on : (n left more : ℕ) → GoesOn n left (suc more) → (nat_lt 0 n && left == 0) ≡ false
-goes-on n left more (inl e) = ap (λ (b : Bool). b && left == 0) (le-ltb 0 n (omega arith))
-goes-on n left more (inr l) = search (rules, ne_eqb, and-false)
-
 fewer : (n left more : ℕ) → GoesOn n left (suc more) → GoesOn n (left - 1) more
 fewer n left more (inl e) = inl e
 fewer n left more (inr l) = inr (omega arith)
@@ -70,13 +63,6 @@ begun-same : (n : ℕ) (old : Counted) (t : Text) → (nat_lt 0 n && old.left ==
 unfolding begun_from
 begun-same n old t e = search rules
 
-begun-restarts : (n : ℕ) (old : Counted) (t : Text) → (nat_lt 0 n && old.left == 0) ≡ true
-    → begun_from n old t ≡ read_on
-    (λ (u : Unit {0}). gives (counted n ((old.number + 1) % 8) (at_start old.reached.arrays)))
-    (restart_from old.number t)
-unfolding begun_from
-begun-restarts n old t e = search rules
-
 -- where no restart stands between them, blocks that are counted are read as they are without
 pub blocks-within : (p : Pass) (vias : List Via) (n : ℕ) (spots : List Spot) (left number : ℕ) (old : Reached)
     (t : Text) → GoesOn n left (length spots)
@@ -84,7 +70,7 @@ pub blocks-within : (p : Pass) (vias : List Via) (n : ℕ) (spots : List Spot) (
     ≡ read_on (λ r. gives (counted (left - length spots) number r)) (turns_from p vias spots old t)
 unfolding blocks_from next_from turns_from
 blocks-within p vias n [] left number old t h = ap (λ (k : ℕ). gives (counted k number old) t) (omega arith)
-blocks-within p vias n (s ∷ spots) left number old t h = (search (rules, begun-same, goes-on))
+blocks-within p vias n (s ∷ spots) left number old t h = (search (rules, begun-same, le-ltb, ne_eqb, and-false))
     ∙ on-on (λ r. gives (counted (left - 1) number r)) (blocks_from p vias n spots) (turn_from p vias s old t)
     ∙ same-on (λ r. λ u. blocks_from p vias n spots (counted (left - 1) number r) u)
     (λ r. λ u. read_on (λ s. gives (counted (left - suc (length spots)) number s)) (turns_from p vias spots r u))
@@ -98,9 +84,9 @@ restarts : (p : Pass) (vias : List Via) (n number : ℕ) (s : Spot) (spots : Lis
     (t : Text) → 0 < n → blocks_from p vias n (s ∷ spots) (counted 0 number old) t
     ≡ read_on (λ (u : Unit {0}). blocks_from p vias n (s ∷ spots) (counted n ((number + 1) % 8) (at_start old.arrays)))
     (restart_from number t)
-unfolding blocks_from next_from
+unfolding blocks_from next_from begun_from
 restarts p vias n number s spots old t some =
-    search (rules, begun-restarts, lt-ltb, on-on, same-on, begun-same, ne_eqb, and-false)
+    search (rules, lt-ltb, on-on, same-on, begun-same, ne_eqb, and-false)
 
 -- ---- a scan
 
@@ -110,17 +96,12 @@ finished o = reading.◌>>=◌ o (λ r. reading.◌>>=◌ (marker_from r.1) (λ 
 abbrev pub closed : Result (Reached × Text) Fault → Outcome (Arrays × Option Marker)
 closed o = reading.◌>>=◌ o (λ r. reading.◌>>=◌ (marker_from r.1) (λ m. Ok ((r.0.arrays, m.0), m.1)))
 
-finished-counted : (left number : ℕ) (o : Result (Reached × Text) Fault)
-    → finished (read_on (λ r. gives (counted left number r)) o) ≡ closed o
-finished-counted left number (Ok r) = refl
-finished-counted left number (Err e) = refl
-
 one-interval : (p : Pass) (vias : List Via) (n k : ℕ) (spots : List Spot) (arrays : Arrays) (bytes : List ℕ)
     → GoesOn n n (length spots)
     → finished (blocks_from p vias n spots (counted n k (at_start arrays)) (upcoming fresh bytes))
     ≡ interval_from p vias spots arrays bytes
 unfolding interval_from
-one-interval p vias n k spots arrays bytes h = search (rules, blocks-within, finished-counted)
+one-interval p vias n k spots arrays bytes h = search (rules, blocks-within)
 
 cut-either : (n : ℕ) (zs : List Spot) → (drop n zs ≡ []) ⊎ (length (take n zs) ≡ n)
 cut-either (suc n) (z ∷ zs) = search (rules, cut-either n zs)
@@ -134,10 +115,6 @@ groups-cons : (fuel n : ℕ) (l : List Spot) → 0 < length l → groups (suc fu
 unfolding groups
 groups-cons fuel n [] h = absurd (omega arith)
 groups-cons fuel n (x ∷ l) h = refl
-
-groups-none : (fuel n : ℕ) → ◌≡◌ {A = List (List Spot)} (groups fuel n []) []
-unfolding groups
-groups-none fuel n = refl
 
 pub some-product : (n size : ℕ) → 0 < n → 0 < size → 0 < n * size
 some-product n (suc size) a b = let p : n * (size + 1) ≡ n * size + n * 1 = mul-add n size 1 in omega arith
@@ -157,22 +134,14 @@ abbrev is_numbered : ℕ → Option Marker → Bool
 is_numbered i (Some (RST n)) = n == i
 is_numbered i _ = false
 
--- a number that counts modulo 8
-is-same : (j k : ℕ) → j ≡ k % 8 → (m : Option Marker) → is_restart j m ≡ is_restart k m
-is-same j k e m = let f : j % 8 ≡ k % 8 = omega (arith, e) in ap (λ (i : ℕ). is_numbered i m) f
-
-restart-same : (j k : ℕ) (t : Text) → j ≡ k % 8 → restart_from j t ≡ restart_from k t
-unfolding restart_from
-restart-same j k t e = search (rules, is-same)
-
 pub intervals-in-blocks : (p : Pass) (vias : List Via) (n fuel : ℕ) (xs ys : List Spot) (j k : ℕ)
     (arrays : Arrays) (bytes : List ℕ) → j ≡ k % 8
     → 0 < n → length ys ≤ fuel → length xs ≤ n → (ys ≡ []) ⊎ (length xs ≡ n)
     → finished (blocks_from p vias n (xs ++ ys) (counted n j (at_start arrays)) (upcoming fresh bytes))
     ≡ intervals_from p vias k xs (groups fuel n ys) arrays bytes
-unfolding intervals_from interval_from
+unfolding intervals_from interval_from groups restart_from
 intervals-in-blocks p vias n fuel xs [] j k arrays bytes same some few most whole =
-    search (rules, append-nil, one-interval, groups-none)
+    search (rules, append-nil, one-interval)
 intervals-in-blocks p vias n zero xs (y ∷ ys) j k arrays bytes same some few most whole = absurd (omega arith)
 intervals-in-blocks p vias n (suc fuel) xs (y ∷ ys) j k arrays bytes same some few most (inl none) = absurd (cc)
 intervals-in-blocks p vias n (suc fuel) xs (y ∷ ys) j k arrays bytes same some few most (inr whole) =
@@ -196,7 +165,7 @@ intervals-in-blocks p vias n (suc fuel) xs (y ∷ ys) j k arrays bytes same some
     ∙ same-on (λ r. λ v. blocks_from p vias n zs (counted 0 j r) v)
     (λ r. λ v. read_on (λ (u : Unit {0}). blocks_from p vias n zs (counted n ((j + 1) % 8) (at_start r.arrays)))
     (restart_from k v))
-    (search (rules, restarts, restart-same)) o)
+    (search (rules, restarts)) o)
     ∙ (search (rules, close))
     ∙ ap (λ (l : List (List Spot)). intervals_from p vias k xs l arrays bytes) (sym (groups-cons fuel n zs (omega
     arith)))
@@ -235,15 +204,10 @@ scans-by-blocks p vias (suc n) spots arrays bytes =
       take-append-drop N spots,
     )
 
--- A scan at spots that are apart is its blocks one after the other, each read on what is held of it and put back.
-pub walked-scans : (p : Pass) (n : ℕ) (vias : List Via) (spots : List Spot) (arrays : Arrays) (bytes : List ℕ)
-    → AreApart spots → ((q : Spot) → IsIn q spots → IsInside arrays q)
-    → arrays_at p n vias spots arrays bytes ≡ scan_from p vias n spots arrays bytes
-walked-scans p n vias spots arrays bytes apart inside = search (rules, scans-in-turn, scans-by-blocks)
-
 -- and so is one of a frame's components
 pub frame-scans : (frame : Frame) (components : List Component) (p : Pass) (vias : List Via) (n : ℕ) (arrays : Arrays)
     (bytes : List ℕ) → AllByRecursion (Fits frame) components → AreArrays components arrays
     → arrays_at p n vias (spots_of frame components) arrays bytes
     ≡ scan_from p vias n (spots_of frame components) arrays bytes
-frame-scans frame components p vias n arrays bytes fits sized = search (rules, walked-scans, spots-apart, spots-inside)
+frame-scans frame components p vias n arrays bytes fits sized =
+    search (rules, scans-in-turn, scans-by-blocks, spots-apart, spots-inside)

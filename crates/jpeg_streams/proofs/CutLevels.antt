@@ -24,24 +24,16 @@ use Rattle.jpeg_streams.proofs.WrittenBlocks.{dc-refined}
 pub half-shift : (n al : ℕ) → n / 2 ^ al / 2 ≡ n / 2 ^ suc al
 half-shift n al = shr-shr n al 1 ∙ ap (λ (x : ℕ). n / 2 ^ x) (omega arith)
 
-pub halved-neg : (k : ℕ) → halved (neg_ℤ (pos k)) ≡ neg_ℤ (pos (k / 2))
-halved-neg zero = refl
-halved-neg (suc k) = refl
-
 pub halved-toward : (al : ℕ) (x : ℤ) → halved (toward_zero al x) ≡ toward_zero (suc al) x
 halved-toward al (pos n) = ap pos (half-shift n al)
-halved-toward al (negsuc n) = halved-neg (suc n / 2 ^ al) ∙ ap (λ (x : ℕ). neg_ℤ (pos x)) (half-shift (suc n) al)
+halved-toward al (negsuc n) = search (rules, neg_ℤ, half-shift)
 
 pub half-floor : (al : ℕ) (x : ℤ) → floor_half (floor_at al x) ≡ floor_at (suc al) x
 half-floor al (pos n) = ap pos (half-shift n al)
 half-floor al (negsuc n) = ap negsuc (half-shift n al)
 
-pub abs-toward : (al : ℕ) (x : ℤ) → unsigned_abs (toward_zero al x) ≡ unsigned_abs x / 2 ^ al
-abs-toward al (pos n) = refl
-abs-toward al (negsuc n) = search (rules, unsigned_abs, neg_ℤ)
-
 pub toward-range : (al : ℕ) (x : ℤ) → unsigned_abs x ≤ 1023 → InRange al (toward_zero al x)
-toward-range al x h = search (rules, abs-toward, div-mul-le_self, unsigned_abs)
+toward-range al x h = search (rules, neg_ℤ, div-mul-le_self, unsigned_abs)
 
 pub floor-range : (al : ℕ) (x : ℤ) → negsuc 1023 ≤ℤ x → x ≤ℤ pos 1023 → InDcRange (floor_at al x)
 floor-range al (pos n) h k = search (rules, div-le_self, ints)
@@ -103,13 +95,9 @@ pub same-take : (n : ℕ) (cs : List ℤ) (ls : List (Option ℕ)) → length cs
     → length (take n cs) ≡ length (take n ls)
 same-take n cs ls h = omega (arith, length-take n cs, length-take n ls)
 
-pub same-drop : (n : ℕ) (cs : List ℤ) (ls : List (Option ℕ)) → length cs ≡ length ls
-    → length (drop n cs) ≡ length (drop n ls)
-same-drop n cs ls h = omega (arith, length-drop n cs, length-drop n ls)
-
 pub same-band : (p : Pass) (cs : List ℤ) (ls : List (Option ℕ)) → length cs ≡ length ls
     → length (band_of p cs) ≡ length (band_of p ls)
-same-band p cs ls h = search (rules, same-take, same-drop)
+same-band p cs ls h = search (rules, same-take, length-drop)
 
 -- a list is what stands before a band, the band, and what stands after it
 pub around-band : (p : Pass) (cs : List ℤ) → with_band p cs (band_of p cs) ≡ cs

@@ -160,18 +160,10 @@ map-whole : (f : ℤ → ℤ) (us : List ℤ) → ((u : ℤ) → f u ≡ u) → 
 map-whole f [] h = refl
 map-whole f (u ∷ us) h = ap₂ (λ (x : ℤ) (xs : List ℤ). x ∷ xs) (h u) (map-whole f us h)
 
-numbers-whole : (b : Block) → numbers_at 0 b ≡ b
-numbers-whole b = search (rules, floor-whole, map-whole, toward-whole)
-
-flat-spot : (kind : Kind) (h : FrameHeader) (place : ℕ) (c : Factors) (b : Block) → Is8Bit b
-    → Good kind (record { component = 0; dc = dc_for kind; ac = ac_for kind }, numbers_at (pass_for kind).al b)
-flat-spot Whole h place c b range = record { dc = refl; ac = refl; range = subst Is8Bit (sym (numbers-whole b)) range }
-flat-spot kind h place c b range = search (rules, numbers-whole)
-
 spot-flat : (kind : Kind) (h : FrameHeader) (place : ℕ) (c : Factors) (b : Block) (slot : ℕ) → Is8Bit b → slot ≡ 0
     → Good kind (via_at (vias_from 0 (coding kind h place c ∷ [])) slot, numbers_at (pass_for kind).al b)
 unfolding vias_from
-spot-flat kind h place c b slot range e = search (rules, flat-spot)
+spot-flat kind h place c b slot range e = search (rules, floor-whole, map-whole, toward-whole)
 
 data-written : (kind : Kind) (f : Frame) (h : FrameHeader) (place : ℕ) (c : Factors) (array : Coefficients)
     → ((k row column : ℕ) → Is8Bit (array k row column))
@@ -199,9 +191,7 @@ before-it : (h : FrameHeader) (front more : List Factors) (c : Factors) → is_t
     → prefix_len (is_not c.identifier) (map (component_in h) (front ++ c ∷ more)) ≡ length front
 unfolding component_of
 before-it h [] more c e = rw (eq-eqb c.identifier c.identifier refl) refl
-before-it h (x ∷ front) more c e =
-    let here = or-false (x.identifier == c.identifier) (is_taken front c.identifier) e in
-    rw (here.0) (ap (λ (n : ℕ). 1 + n) (before-it h front more c here.1) ∙ omega arith)
+before-it h (x ∷ front) more c e = search (rules, or-false, before-it h front more c)
 
 place-is : (h : FrameHeader) (front more : List Factors) (c : Factors) → is_taken front c.identifier ≡ false
     → place_of (map (component_in h) (front ++ c ∷ more)) c.identifier ≡ Some (length front)
@@ -219,7 +209,6 @@ kind-is : (kind : Kind) (number : ℕ) (h : FrameHeader) (place : ℕ) (c : Fact
     → (pass_of (scan_written (frame_written number h) (header_of kind place c)) ≡ pass_for kind)
     × (is_band (frame_written number h).process 1 (from_for kind) (to_for kind) 0 0 ≡ true)
 unfolding pass_of scan_of frame_of
-kind-is Whole zero h place c fits = (refl, refl)
 kind-is kind number h place c fits = search rules
 
 pass-is : (kind : Kind) (number : ℕ) (h : FrameHeader) (place : ℕ) (c : Factors) → Fits kind number
@@ -255,8 +244,7 @@ lone-written from to number h front more c band some e new = record {
 table-at : (number : ℕ) (h : FrameHeader) (place : ℕ) → place ≤ 3
     → slice_index_or (said number h).quantization place None ≡ Some (replicate 64 1)
 unfolding nothing_found updated
-table-at number h (suc (suc (suc (suc place)))) le = absurd (omega arith)
-table-at number h place le = refl
+table-at number h place le = search rules
 
 place-low : (number place : ℕ) → number ≤ 2 → is_place (is_lossless_number number) place ≡ true → place ≤ 3
 place-low (suc (suc (suc number))) place le e = absurd (omega arith)
@@ -271,14 +259,12 @@ tables_now kind number h place c = tables_of (said number h) (scan_for kind numb
 dc-force : (kind other : Kind) (number : ℕ) (h : FrameHeader) (place : ℕ) (c : Factors)
     → InForce ((pass_for kind).ss == 0) classes.DC (tables_now other number h place c).dc 0 (dc_for kind)
 unfolding tables_of nothing_found updated
-dc-force Whole other number h place c = refl
-dc-force kind other number h place c = refl
+dc-force kind other number h place c = search rules
 
 ac-force : (kind other : Kind) (number : ℕ) (h : FrameHeader) (place : ℕ) (c : Factors)
     → InForce (nat_lt 0 (pass_for kind).se) classes.AC (tables_now other number h place c).ac 0 (ac_for kind)
 unfolding tables_of nothing_found updated
-ac-force Whole other number h place c = refl
-ac-force kind other number h place c = refl
+ac-force kind other number h place c = search rules
 
 codings-are : (kind : Kind) (number : ℕ) (h : FrameHeader) (front more : List Factors) (c : Factors)
     → h.components ≡ front ++ c ∷ more → c.quantization ≤ 3

@@ -1,5 +1,5 @@
 -- Every picture of samples has a stream: a scan for each component.
-use Rattle.std.proofs.Common.{rules, false, length, replicate, negsuc, unsigned_abs, subst, append_assoc, length-append}
+use Rattle.std.proofs.Common.{rules, length, replicate, negsuc, unsigned_abs, subst, append_assoc, length-append}
 use Rattle.std.proofs.Common.{◌≡◌, ◌⊎◌, inl, ℕ, zero, Bool, true, List, ◌++◌, drop, take, ◌≤ℤ◌, Some, None, refl, arith}
 use Rattle.std.proofs.Common.{inr, suc, ◌+◌, ◌-◌, ◌*◌, ◌^◌, ◌<◌, ◌≤◌, [], ◌∷◌, map, ℤ, pos, sym, ap, ap₂, ◌∙◌}
 use Rattle.std.proofs.Math.Pow.{pow_mono}
@@ -9,7 +9,7 @@ use Rattle.std.proofs.lemmas.List.{append-nil, take_all}
 use Rattle.std.proofs.lemmas.List.FromFn.{get_or-range_with_len}
 use lib.ListN.{length-map}
 use Rattle.std.specs.List.{AllByRecursion, list_all, range_with_len}
-use Rattle.std.specs.Prelude.{flat_map, nat_lt, slice_index_or, ◌==◌}
+use Rattle.std.specs.Prelude.{flat_map, nat_lt, slice_index_or}
 use Rattle.jpeg_bits.specs.Codes.{code_lengths, code_value, codes_exist, lengths_from, Table}
 use Rattle.jpeg_bits.specs.Written.{code_bits, IsCoded, marker, stuffed}
 use Rattle.jpeg_bits.specs.declared.codes.HuffmanTableClass.TheVariants as classes
@@ -232,15 +232,10 @@ bytes-append : (xs ys : List ℕ) → AreBytes xs → AreBytes ys → AreBytes (
 bytes-append [] ys h k = k
 bytes-append (x ∷ xs) ys h k = (h.0, bytes-append xs ys h.1 k)
 
-byte-stuffed : (b : ℕ) (more : List ℕ) (t : Bool) → b < 256 → AreBytes more
-    → AreBytes (elim t as (λ _. List ℕ) [ true ↦ 0xFF ∷ 0 ∷ more | false ↦ b ∷ more ])
-byte-stuffed b more true h k = (omega arith, (omega arith, k))
-byte-stuffed b more false h k = (h, k)
-
 stuffed-bytes : (bytes : List ℕ) → AreBytes bytes → AreBytes (stuffed bytes)
 unfolding stuffed
 stuffed-bytes [] h = tt
-stuffed-bytes (b ∷ bytes) h = byte-stuffed b (stuffed bytes) (b == 0xFF) h.0 (stuffed-bytes bytes h.1)
+stuffed-bytes (b ∷ bytes) h = search (rules, stuffed-bytes bytes h.1)
 
 u16-bytes : (n : ℕ) → n < 65536 → AreBytes (u16_bytes n)
 u16-bytes n h = (omega arith, (omega arith, tt))
@@ -270,9 +265,7 @@ header-bytes h is p fits = search (rules, factors-length, sized-bytes, bytes-app
 
 tested-bytes : (bytes : List ℕ) → list_all (λ b. nat_lt b 256) bytes ≡ true → AreBytes bytes
 tested-bytes [] h = tt
-tested-bytes (b ∷ bytes) h =
-    let both = and_parts (nat_lt b 256) (list_all (λ b. nat_lt b 256) bytes) h in
-    (ltb-true b 256 both.0, tested-bytes bytes both.1)
+tested-bytes (b ∷ bytes) h = search (rules, and_parts, ltb-true, tested-bytes bytes)
 
 -- ---- the interval
 
@@ -365,9 +358,6 @@ one-identified cs front more c e all =
     go [] h = h.0
     go (x ∷ xs) h = go xs h.1
 
-in-next : (n : ℕ) (sent : List ℕ) → ((j : ℕ) → j < n → IsIn j sent) → (j : ℕ) → j < n + 1 → IsIn j (n ∷ sent)
-in-next n sent all j h = search (rules, cases_lt)
-
 scans-written : (h : FrameHeader) (samples : Samples) (more front : List Factors) (now : Found) (sent : List ℕ)
     → HasSamples 3 h → AreSamplesOf (frame_written 3 h) samples → IsReady h now
     → h.components ≡ front ++ more → AreComponents 3 front more → ((j : ℕ) → j < length front → IsIn j sent)
@@ -391,7 +381,7 @@ scans-written h samples (c ∷ more) front now sent p all ready e are sends =
     let rest = scans-written h samples more (front ++ c ∷ []) (said_after_scan now) (place ∷ sent) p all
     (record { framed = ready.framed; tabled = ready.tabled; restart = ready.restart })
     (e ∙ sym (append_assoc front (c ∷ []) more)) are.1
-    (search (rules, in-next)) in (
+    (search (rules, cases_lt)) in (
       marker 0 218 (sized (scan_payload (header_of place c)) ++ (d.0 ++ rest.0)),
       rest.1,
       scan now rest.1 sent (frame_written 3 h) 0 (header_of place c) d.0 rest.0 ready.framed refl
@@ -420,13 +410,9 @@ abbrev front_bytes : FrameHeader → List ℕ → List ℕ
 front_bytes h more =
     marker 0 195 (sized (payload_of (Header 3 h)) ++ marker 0 196 (sized (payload_of (Huffman even_tables)) ++ more))
 
-tables-bytes : AreBytes (sized (payload_of (Huffman even_tables)))
-unfolding huffman_bytes
-tables-bytes = tested-bytes (sized (payload_of (Huffman even_tables))) refl
-
 pub samples-written : (h : FrameHeader) (samples : Samples) → IsFrame 3 h → HasSamples 3 h
     → AreSamplesOf (frame_written 3 h) samples → (bytes : List ℕ) × AreWrittenIn h samples bytes
-unfolding nothing_found frame_of codes_exist lengths_from code_value
+unfolding nothing_found frame_of codes_exist lengths_from code_value huffman_bytes
 samples-written h samples is p all =
     let r = scans-written h samples h.components [] (said h) [] p all (said-ready h) refl is.components
     (λ j lt. absurd (omega arith)) in (
@@ -449,7 +435,7 @@ samples-written h samples is p all =
                 (bytes-append (sized (payload_of (Header 3 h))) (marker 0 196 (sized (payload_of (Huffman even_tables))
                 ++ r.0))
                 (header-bytes h is p fits)
-                (search (rules, marked-bytes, bytes-append, tables-bytes))),
+                (search (rules, marked-bytes, bytes-append, tested-bytes))),
           ),
         );
       },

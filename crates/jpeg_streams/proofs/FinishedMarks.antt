@@ -1,9 +1,9 @@
 -- The marks of finished places are the levels that are 0.
-use Rattle.std.proofs.Common.{rules, ◌≡◌, ℕ, zero, suc, ◌+◌, ◌-◌, ◌≤◌, Bool, true, false, List, ◌∷◌, ◌++◌, map, take}
-use Rattle.std.proofs.Common.{drop, replicate, length, refl, sym, ap, ◌∙◌, arith, eqb, length-take, length-drop}
+use Rattle.std.proofs.Common.{rules, ◌≡◌, ◌≤◌, Bool, List, ◌∷◌, map, length, refl, ap, ◌∙◌}
+use Rattle.std.proofs.Common.{length-take, length-drop}
 use Rattle.std.proofs.lemmas.Bool.{eqb-true, eq-eqb}
 use lib.ListN.{length-map}
-use Rattle.jpeg_bits.specs.Passes.{Pass, band_of, with_band, before_band, band_size}
+use Rattle.jpeg_bits.specs.Passes.{Pass}
 use Rattle.jpeg_streams.specs.Levels.{Levels, IsLegal, sent_after, nothing_sent}
 use Rattle.jpeg_streams.proofs.FinishedPlaces.{Finished, finish, is_level_0, at_level_0, finish-yes, finish-no}
 use Rattle.jpeg_streams.proofs.FinishedPlaces.{finish-legal}
@@ -23,49 +23,21 @@ pub record IsBand (p : Pass) : Type 0 where
 abbrev pub marks_listed : Finished → List Bool
 marks_listed f = f.dc ∷ f.acs
 
--- from DC on
-from-dc : (se m b k n : ℕ) (d : Bool) (xs : List Bool) → n ≡ suc se → b ≡ 0 → m ≡ se → k ≡ se
-    → replicate n true ++ drop (suc se) (d ∷ xs) ≡ true ∷ (take b xs ++ (replicate m true ++ drop k xs))
-from-dc se m b k n d xs e f g h = rw (e, f, g, h) refl
-
--- after DC
-from-ac : (ss se m b k n : ℕ) (d : Bool) (xs : List Bool) → ss ≡ suc b → n ≡ m → k ≡ se
-    → take ss (d ∷ xs) ++ (replicate n true ++ drop (suc se) (d ∷ xs))
-    ≡ d ∷ (take b xs ++ (replicate m true ++ drop k xs))
-from-ac ss se m b k n d xs e f g = rw (e, f, g) refl
-
-size-of_band : {A : Type 0} (p : Pass) (xs : List A) → IsBand p → length xs ≡ 63
-    → length (band_of p xs) ≡ p.se - before_band p
-size-of_band p xs band h = search (rules, length-take, length-drop)
-
-listed-yes : (p : Pass) (f : Finished) → p.al ≡ 0 → IsBand p → length f.acs ≡ 63 → (t : Bool) → eqb p.ss 0 ≡ t
-    → take p.ss (marks_listed f) ++ (replicate (suc p.se - p.ss) true ++ drop (suc p.se) (marks_listed f))
-    ≡ (elim t as (λ _. Bool) [ true ↦ true | false ↦ f.dc ]) ∷ with_band p f.acs
-    (replicate (length (band_of p f.acs)) true)
-listed-yes p f z band h true e =
-    let none = eqb-true p.ss 0 e in
-    let size = size-of_band p f.acs band h in
-    cc (
-    from-dc p.se (length (band_of p f.acs)) (before_band p) (before_band p + band_size p) (suc p.se - p.ss) f.dc f.acs
-    (omega arith) (omega arith) (omega arith) (omega arith))
-listed-yes p f z band h false e = search (rules, size-of_band, from-ac)
-
-marks-yes : (p : Pass) (marks : List Bool) → p.al ≡ 0
-    → finished_by p marks ≡ take p.ss marks ++ (replicate (suc p.se - p.ss) true ++ drop (suc p.se) marks)
-unfolding finished_by
-marks-yes p marks e = rw (eq-eqb p.al 0 e, finished_by) refl
-
-marks-no : (p : Pass) (marks : List Bool) (a : ℕ) → p.al ≡ suc a → finished_by p marks ≡ marks
-unfolding finished_by
-marks-no p marks a e = rw (not-equal p.al 0 (λ g. absurd (omega arith)), finished_by) refl
-
 pub finished-listed : (p : Pass) (f : Finished) → IsBand p → length f.acs ≡ 63
     → finished_by p (marks_listed f) ≡ marks_listed (finish p f)
-finished-listed p f band h = go p.al refl
-  where
-    go : (a : ℕ) → p.al ≡ a → finished_by p (marks_listed f) ≡ marks_listed (finish p f)
-    go zero e = search (rules, marks-yes, listed-yes, finish-yes)
-    go (suc a) e = marks-no p (marks_listed f) a e ∙ ap marks_listed (sym (finish-no p f a e))
+unfolding finished_by
+finished-listed p f band h =
+    search (
+      rules,
+      finish,
+      finish-yes,
+      finish-no,
+      eq-eqb,
+      eqb-true,
+      not-equal,
+      length-take,
+      length-drop,
+    )
 
 pub marks-after : (p : Pass) (l : Levels) → IsLegal p l → IsBand p → length l.acs ≡ 63
     → finished_by p (marks_of l) ≡ marks_of (sent_after p l)

@@ -46,10 +46,6 @@ map-replicate (suc n) a = ap (λ (l : List Bool). is_level_0 a ∷ l) (map-repli
 pub map-band : (p : Pass) (ls : List (Option ℕ)) → map is_level_0 (band_of p ls) ≡ band_of p (map is_level_0 ls)
 map-band p ls = search (rules, take-map, drop-map)
 
-pub map-with_band : (p : Pass) (ls band : List (Option ℕ))
-    → map is_level_0 (with_band p ls band) ≡ with_band p (map is_level_0 ls) (map is_level_0 band)
-map-with_band p ls band = search (rules, map-append, take-map, drop-map)
-
 pub around : (p : Pass) (cs : List Bool) → with_band p cs (band_of p cs) ≡ cs
 around p cs = (search (rules, drop-drop))
     ∙ ap (λ (l : List Bool). take (before_band p) cs ++ l) (take-append-drop (band_size p) (drop (before_band p) cs))
@@ -72,7 +68,8 @@ finish-no p f a e = rw (not-equal p.al 0 (λ g. absurd (omega arith)), finish) r
 levels-acs : (p : Pass) (l : Levels) → map is_level_0 (sent_after p l).acs
     ≡ with_band p (map is_level_0 l.acs)
     (replicate (length (band_of p (map is_level_0 l.acs))) (is_level_0 (Some p.al)))
-levels-acs p l = grind (arith, common_steps, map-band, map-with_band, map-replicate)
+levels-acs p l =
+    grind (arith, common_steps, map-band, map-append, take-map, drop-map, map-replicate)
 
 -- the band of a legal scan isn't finished
 band-open : (p : Pass) (l : Levels) → IsLegal p l → (f : Bool) → p.is_first ≡ f

@@ -7,13 +7,13 @@ use Rattle.std.proofs.lemmas.Bool.Decides.{leb_tells}
 use Rattle.std.proofs.Math.Nat.{le-div_iff_mul-le, add-mul, one-mul}
 use Rattle.std.specs.List.{AllByRecursion}
 use Rattle.jpeg_segments.specs.declared.parser.CodingProcess.TheVariants.{Lossless}
-use Rattle.jpeg_segments.specs.Frame.{Frame, Component, Factors, IsInRange, frame_of, ceiling}
+use Rattle.jpeg_segments.specs.Frame.{Frame, Factors, IsInRange, frame_of, ceiling}
 use Rattle.jpeg_pixels.specs.Pictures.{Source, sources_of}
 use Rattle.jpeg_segments.specs.Scales.{frame_at}
 use Rattle.jpeg_segments.proofs.ScaleLemmas.{full_size}
 use Rattle.jpeg_streams.specs.Segments.{accepted, is_decoded_count}
 use Rattle.jpeg_streams.proofs.FrameFits.{frames-fit}
-use Rattle.jpeg_streams.proofs.OwnSpots.{At, Fits}
+use Rattle.jpeg_streams.proofs.OwnSpots.{At}
 use Rattle.jpeg_streams.proofs.Apart.{at-all}
 use Rattle.jpeg_segments.proofs.Codecs.{bind-ok}
 use Rattle.jpeg_streams.proofs.BroughtLevels.{Made, Shaped}
@@ -46,8 +46,7 @@ pub record Plain (f : Frame) : Type 0 where
 pub frame-lossy : (number precision width height : ℕ) (cs : List Factors) → number ≤ 2
     → (frame_of number precision width height cs).process ≢ Lossless
 unfolding frame_of
-frame-lossy (suc (suc (suc n))) precision width height cs h e = absurd (omega arith)
-frame-lossy number precision width height cs h e = cc
+frame-lossy number precision width height cs h = search rules
 
 -- ---- full size
 
@@ -64,11 +63,6 @@ pub at-mapped : {A B : Type 0} (g : A → B) (k : ℕ) (xs : List A) (y : B) →
 at-mapped g k [] y h = absurd h
 at-mapped g zero (x ∷ xs) y h = (x, refl, h)
 at-mapped g (suc k) (x ∷ xs) y h = at-mapped g k xs y h
-
-frame-fits : (number precision width height : ℕ) (cs : List Factors) → AllByRecursion IsInRange cs
-    → (k : ℕ) (c : Component)
-    → At k (frame_of number precision width height cs).components c → Fits (frame_of number precision width height cs) c
-frame-fits number precision width height cs all k c t = search (rules, at-all, frames-fit)
 
 pub count-few : (n : ℕ) → is_decoded_count n ≡ true → (0 < n) × (n ≤ 4)
 count-few n h = search (rules, eqb-true)
@@ -87,7 +81,7 @@ pub all-shaped : (f : Frame) → Plain f → f.process ≢ Lossless → accepted
 all-shaped f o lossy ok = record {
   made = subst Made (plain-size f o) (made-at f 8 o (omega arith));
   few = accepted-few f f ok;
-  fits = search (rules, frame-fits);
+  fits = search (rules, at-all, frames-fit);
   lossy = lossy;
 }
 

@@ -1,6 +1,6 @@
 -- Blocks that are read one after the other, at spots apart, are read on the blocks as they were and put back.
 use Rattle.std.proofs.Common.{rules, Bool, true, false, List, length, get_or, Option, Result, subst, append-nil, arith}
-use Rattle.std.proofs.Common.{◌≡◌, inl, inr, ℕ, suc, [], ◌∷◌, ◌++◌, map, set, ℤ, pos, Ok, Err, refl, sym, ap, ap₂, ◌∙◌}
+use Rattle.std.proofs.Common.{◌≡◌, inl, inr, ℕ, suc, [], ◌∷◌, ◌++◌, map, set, ℤ, pos, Ok, Err, refl, sym, ap, ◌∙◌}
 use Rattle.std.specs.List.{flat_map}
 use Rattle.jpeg_bits.specs.Reading as reading
 use Rattle.jpeg_bits.specs.Reading.{Outcome, Fault, Malformed}
@@ -28,9 +28,7 @@ pub same-turns : (vias : List Via) (spots : List Spot) (arrays others : Arrays)
     → turns_of vias spots others ≡ turns_of vias spots arrays
 unfolding turns_of
 same-turns vias [] arrays others h = refl
-same-turns vias (s ∷ spots) arrays others h =
-    ap₂ (λ (b : Block) (l : List (Via × Block)). (via_at vias s.slot, b) ∷ l) (h s (inl refl))
-    (same-turns vias spots arrays others (λ r t. h r (inr t)))
+same-turns vias (s ∷ spots) arrays others h = search (rules, same-turns vias spots arrays others)
 
 pub inside-after : (spots : List Spot) (blocks : List Block) (arrays : Arrays) (q : Spot) → IsInside arrays q
     → IsInside (put_blocks spots blocks arrays) q
@@ -138,20 +136,7 @@ pub blocks-long : (p : Pass) (turns : List (Via × Block)) (predictors : List �
     → IsLong (length turns) (blocks_of p predictors run turns t)
 unfolding blocks_of
 blocks-long p [] predictors run t = refl
-blocks-long p (v ∷ turns) predictors run t = step (λ c n u. blocks-long p turns c n u)
-    (block_from p v.0.dc v.0.ac (get_or predictors v.0.component (pos 0)) run v.1 t)
-  where
-    more : (b : Block) (o : Result (List Block × Text) Fault) → IsLong (length turns) o
-        → IsLong (suc (length turns)) (read_on (λ more. gives (b ∷ more)) o)
-    more b (Ok r) h = ap suc h
-    more b (Err e) h = tt
-
-    step : ((c : List ℤ) (n : ℕ) (u : Text) → IsLong (length turns) (blocks_of p c n turns u))
-        → (o : Result ((Block × ℤ × ℕ) × Text) Fault) → IsLong (suc (length turns))
-        (read_on (λ (r : Block × ℤ × ℕ). λ (u : Text). read_on (λ more. gives (r.0 ∷ more))
-        (blocks_of p (set predictors v.0.component r.1) r.2 turns u)) o)
-    step rec (Ok r) = search rules
-    step rec (Err e) = tt
+blocks-long p (v ∷ turns) predictors run t = search (rules, blocks-long p turns)
 
 abbrev pub IsLongAfter : ℕ → Outcome (List Block × Option Marker) → Type 0
 IsLongAfter n (Ok r) = length r.0.0 ≡ n
@@ -180,9 +165,7 @@ pub same-groups : (vias : List Via) (others : List (List Spot)) (arrays new : Ar
     → all_turns vias new others ≡ all_turns vias arrays others
 same-groups vias [] arrays new h = refl
 same-groups vias (spots ∷ others) arrays new h =
-    ap₂ (λ (x : List (Via × Block)) (l : List (List (Via × Block))). x ∷ l)
-    (same-turns vias spots arrays new (λ r t. h r (in-front r spots (all_of others) t)))
-    (same-groups vias others arrays new (λ r t. h r (in-back r spots (all_of others) t)))
+    search (rules, same-turns, in-front, in-back, same-groups vias others arrays new)
 
 -- intervals in turn are put back as all are
 pub intervals-in-turn : (p : Pass) (vias : List Via) (k : ℕ) (spots : List Spot) (others : List (List Spot))

@@ -1,18 +1,17 @@
 -- A picture is made of the samples inside its components.
 use Rattle.std.proofs.Common.{rules, ◌≡◌, ℕ, zero, suc, ◌+◌, ◌*◌, ◌/◌, ◌%◌, ◌<◌, ◌≤◌, List, [], ◌∷◌, map, length}
-use Rattle.std.proofs.Common.{slice_index, Option, Some, None, Ok, refl, sym, ap, ap₂, ◌∙◌, subst, arith}
+use Rattle.std.proofs.Common.{slice_index, Ok, refl, sym, ap, ap₂, ◌∙◌, arith}
 use Rattle.std.proofs.lemmas.Grind.{common_steps}
 use Rattle.std.proofs.Math.Nat.{div-lt_iff_lt-mul, mod-lt, mul_comm}
 use Rattle.std.specs.List.{range_with_len, concat}
-use Rattle.jpeg_bits.specs.Reading.{Lacks}
 use Rattle.jpeg_bits.specs.declared.color_transform.ColorTransform.{ColorTransform}
 use Rattle.jpeg_segments.specs.Frame.{Component}
 use Rattle.jpeg_pixels.specs.declared.upsampler.UpsampleRule.{UpsampleRule}
 use Rattle.jpeg_pixels.specs.declared.upsampler.UpsampleRule.TheVariants.{Generic}
 use Rattle.jpeg_pixels.specs.declared.upsampler.ColorConvert.{ColorConvert}
-use Rattle.jpeg_pixels.specs.Upsampling.{upsampled, across, down, far_place}
+use Rattle.jpeg_pixels.specs.Upsampling.{upsampled, across, down}
 use Rattle.jpeg_pixels.specs.Colour.{line_bytes}
-use Rattle.jpeg_pixels.specs.Pictures.{Source, source_by, source_of, sources_by, sources_of, line_of, lines_of}
+use Rattle.jpeg_pixels.specs.Pictures.{Source, sources_by, sources_of, line_of, lines_of}
 use Rattle.jpeg_pixels.specs.Pictures.{picture_line, picture_bytes, image_of}
 use Rattle.jpeg_pixels.specs.Planes.{cropped}
 use Rattle.jpeg_streams.proofs.ReadTurns.{err-ok, ok-same, bind-ok}
@@ -23,9 +22,6 @@ use Rattle.jpeg_streams.proofs.ReadTurns.{err-ok, ok-same, bind-ok}
 abbrev pub Agree : ℕ → ℕ → (ℕ → ℕ → ℕ) → (ℕ → ℕ → ℕ) → Type 0
 Agree w h p q = (i j : ℕ) → i < w → j < h → p i j ≡ q i j
 
-far-within : (count i : ℕ) → 0 < count → i < 2 * count → far_place count i < count
-far-within count i some h = search rules
-
 -- a sample between a component's own is made of those inside
 upsampled-inside : (rule : UpsampleRule) (w h width height x y : ℕ) (p q : ℕ → ℕ → ℕ) → 0 < w → 0 < h
     → 0 < across rule → 0 < down rule
@@ -34,7 +30,7 @@ upsampled-inside : (rule : UpsampleRule) (w h width height x y : ℕ) (p q : ℕ
 unfolding upsampled
 upsampled-inside (Generic s t) w h width height x y p q a b c d e f k l same =
     grind (arith, common_steps, mul_comm, div-lt_iff_lt-mul)
-upsampled-inside rule w h width height x y p q a b c d e f k l same = search (rules, far-within)
+upsampled-inside rule w h width height x y p q a b c d e f k l same = search rules
 
 -- ---- lines and pictures
 
@@ -103,19 +99,12 @@ AllAlike (c ∷ more) [] qs = ⊥
 AllAlike (c ∷ more) (p ∷ ps) [] = ⊥
 AllAlike (c ∷ more) (p ∷ ps) (q ∷ qs) = SamePlane (c.blocks_wide * c.scale) c.width c.height p q × AllAlike more ps qs
 
-source-plane : (c : Component) (rule : Option UpsampleRule) (s : Source) (p q : List ℕ) → source_by c rule ≡ Ok s
-    → SamePlane (c.blocks_wide * c.scale) c.width c.height p q → SamePlane s.stride s.width s.height p q
-source-plane c None s p q e h = absurd (err-ok (Lacks _) s e)
-source-plane c (Some rule) s p q e h = subst (λ (x : Source). SamePlane x.stride x.width x.height p q) (ok-same _ s e) h
-
 sources-same : (a b width height : ℕ) (components : List Component) (sources : List Source) (ps qs : List (List ℕ))
     → sources_by a b width height components ≡ Ok sources → AllAlike components ps qs
     → AllSame sources ps qs
 unfolding sources_by
 sources-same a b width height (c ∷ more) sources (p ∷ ps) (q ∷ qs) e h =
-    let one = bind-ok (source_of a b width height c) _ sources e in
-    let others = bind-ok (sources_by a b width height more) _ sources one.2 in
-    search (rules, ok-same, source-plane, sources-same a b width height more others.0 ps qs others.1 h.1)
+    search (rules, bind-ok, err-ok, sources-same a b width height more)
 sources-same a b width height components sources ps qs e h = search (rules, ok-same)
 
 -- The image of several components.

@@ -1,5 +1,5 @@
 -- The sizes of the components of a lossless frame, and the MCUs of its scans.
-use Rattle.std.proofs.Common.{rules, ◌≡◌, ℕ, zero, suc, ◌*◌, ◌<◌, ◌≤◌, List, [], ◌∷◌, map, drop, Some, ap, arith}
+use Rattle.std.proofs.Common.{rules, ◌≡◌, ℕ, suc, ◌*◌, ◌<◌, ◌≤◌, List, [], ◌∷◌, map, drop, Some, ap, arith}
 use Rattle.std.specs.List.{AllByRecursion}
 use Rattle.std.proofs.lemmas.List.Elements.{recursion_from_All}
 use Rattle.std.proofs.Math.Nat.{mul-le-mul_right, mul_comm, mul_assoc}
@@ -67,12 +67,6 @@ decoded-made frame p e = search (rules, full_frames, frames-made, recursion_from
 pub ceiling-some : (a b : ℕ) → 0 < a → 0 < b → 0 < ceiling a b
 ceiling-some a b h m = search (rules, below-ceiling)
 
-pub made-wide : (frame : Frame) (c : Component) → 0 < frame.width → IsMade frame c → 0 < c.width
-made-wide frame c h is = search (rules, ceiling-some, some-product, some-across)
-
-pub made-high : (frame : Frame) (c : Component) → 0 < frame.height → IsMade frame c → 0 < c.height
-made-high frame c h is = search (rules, ceiling-some, some-product, some-down)
-
 pub made-reaches : (frame : Frame) (c : Component) → IsMade frame c → Reaches frame c
 made-reaches frame c is = search (rules, ceiling-covers, some-across, some-down)
 
@@ -105,18 +99,14 @@ pub all-covered : (frame : Frame) (codings : List LosslessCoding) → AllByRecur
     codings
     → AllByRecursion (IsCovered (mcus_across frame codings) (mcus_down frame codings)) (parts_of codings)
 unfolding mcus_across mcus_down parts_of
-all-covered frame [] h = tt
-all-covered frame (k ∷ []) h = (record { across = omega arith; down = omega arith }, tt)
-all-covered frame (k ∷ j ∷ codings) h = all-among frame (k ∷ j ∷ codings) h
+all-covered frame codings h = search (rules, all-among)
 
 pub across-some : (frame : Frame) (codings : List LosslessCoding) → 0 < frame.width
     → AllByRecursion (λ k. IsMade frame k.component) codings → 0 < mcus_across frame codings
 unfolding mcus_across
-across-some frame (k ∷ []) w all = made-wide frame k.component w all.0
-across-some frame codings w all = ceiling-some frame.width (most_across frame) w (some-across frame)
+across-some frame codings w all = search (rules, ceiling-some, some-product, some-across)
 
 pub down-some : (frame : Frame) (codings : List LosslessCoding) → 0 < frame.height
     → AllByRecursion (λ k. IsMade frame k.component) codings → 0 < mcus_down frame codings
 unfolding mcus_down
-down-some frame (k ∷ []) h all = made-high frame k.component h all.0
-down-some frame codings h all = ceiling-some frame.height (most_down frame) h (some-down frame)
+down-some frame codings h all = search (rules, ceiling-some, some-product, some-down)

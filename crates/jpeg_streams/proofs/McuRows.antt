@@ -11,7 +11,7 @@ use Rattle.jpeg_bits.specs.Readers.{Reads, read_on, gives}
 use Rattle.jpeg_segments.specs.Frame.{Frame, Component}
 use Rattle.jpeg_bits.specs.Passes.{Pass, Via, Block, zero_block}
 use Rattle.jpeg_streams.specs.Order.{Spot, grid_of, own_spots, part_spots, mcu_spots, all_spots, spots_of, mcu_size}
-use Rattle.jpeg_streams.specs.Scans.{Arrays, zero_arrays, block_at, put_block}
+use Rattle.jpeg_streams.specs.Scans.{Arrays, zero_arrays, put_block}
 use Rattle.jpeg_streams.specs.InTurn.{Reached, turn_from, Counted, begun_from, next_from, blocks_from, IsIn, IsInside}
 use Rattle.jpeg_streams.specs.InTurn.{Fits, counted_at_start, scan_from}
 use Rattle.jpeg_streams.specs.McuRows.{zero_rows, row_size, own_row, row_at, rows_of, joined, on_arrays, rows_from}
@@ -50,35 +50,23 @@ pub record Aligned (front arrays rest : Arrays) : Type 0 where
 get-around : (front arrays rest : Arrays) (slot : ℕ) → Aligned front arrays rest → slot < length arrays
     → get_or (around front arrays rest) slot [] ≡ get_or front slot [] ++ (get_or arrays slot [] ++ get_or rest slot [])
 get-around (x ∷ front) (y ∷ arrays) (z ∷ rest) (suc slot) a h =
-    get-around front arrays rest slot
-    (record { before = let b = a.before in omega arith; after = let b = a.after in omega arith }) (omega arith)
+    search (rules, get-around front arrays rest slot)
 get-around front arrays rest slot a h = search rules
 
 set-around : (front arrays rest : Arrays) (slot : ℕ) (y : List Block) → Aligned front arrays rest
     → set (around front arrays rest) slot (get_or front slot [] ++ (y ++ get_or rest slot []))
     ≡ around front (set arrays slot y) rest
 set-around (x ∷ front) (b ∷ arrays) (z ∷ rest) (suc slot) y a =
-    ap (λ l. (x ++ (b ++ z)) ∷ l) (set-around front arrays rest slot y (record {
-      before = let e = a.before in omega arith;
-      after = let e = a.after in omega arith;
-    }))
+    search (rules, set-around front arrays rest slot y)
 set-around front arrays rest slot y a = search rules
 
 -- a spot after those in front
 abbrev pub shifted : Arrays → Spot → Spot
 shifted front s = record { slot = s.slot; index = length (get_or front s.slot []) + s.index }
 
-get-shifted : (front arrays rest : Arrays) (s : Spot) → Aligned front arrays rest → IsInside arrays s
-    → block_at (around front arrays rest) (shifted front s) ≡ block_at arrays s
-get-shifted front arrays rest s a h = search (rules, get-around, get-inside)
-
 put-shifted : (front arrays rest : Arrays) (s : Spot) (b : Block) → Aligned front arrays rest → IsInside arrays s
     → put_block (shifted front s) b (around front arrays rest) ≡ around front (put_block s b arrays) rest
 put-shifted front arrays rest s b a h = search (rules, get-around, set-inside, set-around)
-
-put-aligned : (front arrays rest : Arrays) (s : Spot) (b : Block) → Aligned front arrays rest
-    → Aligned front (put_block s b arrays) rest
-put-aligned front arrays rest s b a = search (rules, length-set)
 
 -- ---- reading
 
@@ -92,10 +80,6 @@ wrapped_count front rest c = record { reached = wrapped front rest c.reached; le
 pub record Holds (front rest : Arrays) (spots : List Spot) (arrays : Arrays) : Type 0 where
   pub aligned : Aligned front arrays rest
   pub inside : (s : Spot) → IsIn s spots → IsInside arrays s
-
-put-holds : (front rest : Arrays) (spots : List Spot) (arrays : Arrays) (s : Spot) (b : Block)
-    → Holds front rest spots arrays → Holds front rest spots (put_block s b arrays)
-put-holds front rest spots arrays s b h = search (rules, put-aligned, put-inside)
 
 fewer-hold : (front rest : Arrays) (spots fewer : List Spot) (arrays : Arrays)
     → ((s : Spot) → IsIn s fewer → IsIn s spots) → Holds front rest spots arrays → Holds front rest fewer arrays
@@ -121,8 +105,7 @@ after_turn now r = record { reached = r; left = now.left - 1; number = now.numbe
 counted-on : (P : Arrays → Type 0) (f : Counted → Reads Counted) → ((r : Counted) (t : Text) → P r.reached.arrays
     → KeepsCounted P (f r t))
     → (o : Result (Counted × Text) Fault) → KeepsCounted P o → KeepsCounted P (read_on f o)
-counted-on P f h (Ok r) k = h r.0 r.1 k
-counted-on P f h (Err e) k = tt
+counted-on P f h o k = search rules
 
 -- ---- what reading keeps of the arrays
 
@@ -130,17 +113,12 @@ counted-on P f h (Err e) k = tt
 abbrev pub IsKept : (Arrays → Type 0) → Type 0
 IsKept P = (arrays : Arrays) (s : Spot) (b : Block) → P arrays → P (put_block s b arrays)
 
-turn-any : (P : Arrays → Type 0) → IsKept P → (p : Pass) (vias : List Via) (s : Spot) (old : Reached) (t : Text)
-    → P old.arrays → Keeps P (turn_from p vias s old t)
-unfolding turn_from
-turn-any P kept p vias s old t h = search rules
-
 next-any : (P : Arrays → Type 0) → IsKept P → (p : Pass) (vias : List Via) (n : ℕ) (s : Spot) (old : Counted)
     (t : Text) → P old.reached.arrays → KeepsCounted P (next_from p vias n s old t)
-unfolding next_from
+unfolding next_from turn_from
 next-any P kept p vias n s old t h =
     counted-on P (λ now. λ u. read_on (λ r. gives (after_turn now r)) (turn_from p vias s now.reached u))
-    (search (rules, turn-any, one))
+    (search (rules, one))
     (begun_from n old t) (begun-keeps P n old t h)
   where
     one : (now : Counted) (o : Result (Reached × Text) Fault) → Keeps P o
@@ -154,20 +132,12 @@ pub blocks-any : (P : Arrays → Type 0) → IsKept P → (p : Pass) (vias : Lis
 unfolding blocks_from
 blocks-any P kept p vias n [] old t h = h
 blocks-any P kept p vias n (s ∷ spots) old t h =
-    counted-on P (blocks_from p vias n spots) (λ r u k. blocks-any P kept p vias n spots r u k)
-    (next_from p vias n s old t) (next-any P kept p vias n s old t h)
+    search (rules, counted-on, next-any, blocks-any P kept p vias n spots)
 
 holds-kept : (front rest : Arrays) (spots : List Spot) → IsKept (Holds front rest spots)
-holds-kept front rest spots arrays s b h = put-holds front rest spots arrays s b h
+holds-kept front rest spots arrays s b h = search (rules, length-set, put-inside)
 
 -- ---- blocks inside others
-
-turn-shifted : (p : Pass) (vias : List Via) (front rest : Arrays) (s : Spot) (old : Reached) (t : Text)
-    → Aligned front old.arrays rest → IsInside old.arrays s
-    → turn_from p vias (shifted front s) (wrapped front rest old) t ≡ read_on (λ r. gives (wrapped front rest r))
-    (turn_from p vias s old t)
-unfolding turn_from
-turn-shifted p vias front rest s old t a h = search (rules, get-shifted, put-shifted)
 
 begun-shifted : (n : ℕ) (front rest : Arrays) (old : Counted) (t : Text)
     → begun_from n (wrapped_count front rest old) t ≡ read_on (λ r. gives (wrapped_count front rest r))
@@ -178,20 +148,18 @@ begun-shifted n front rest old t = search rules
 pub counted-where : {A : Type 0} (P : Arrays → Type 0) (f g : Counted → Reads A)
     → ((r : Counted) (t : Text) → P r.reached.arrays → f r t ≡ g r t)
     → (o : Result (Counted × Text) Fault) → KeepsCounted P o → read_on f o ≡ read_on g o
-counted-where P f g h (Ok r) k = h r.0 r.1 k
-counted-where P f g h (Err e) k = refl
+counted-where P f g h o k = search rules
 
 counts : (front rest : Arrays) (now : Counted) (o : Result (Reached × Text) Fault)
     → read_on (λ r. gives (after_turn now r)) (read_on (λ r. gives (wrapped front rest r)) o)
     ≡ read_on (λ r. gives (wrapped_count front rest r)) (read_on (λ r. gives (after_turn now r)) o)
-counts front rest now (Ok r) = refl
-counts front rest now (Err e) = refl
+counts front rest now o = search rules
 
 next-shifted : (p : Pass) (vias : List Via) (n : ℕ) (front rest : Arrays) (s : Spot) (spots : List Spot)
     (old : Counted) (t : Text) → Holds front rest (s ∷ spots) old.reached.arrays
     → next_from p vias n (shifted front s) (wrapped_count front rest old) t
     ≡ read_on (λ r. gives (wrapped_count front rest r)) (next_from p vias n s old t)
-unfolding next_from
+unfolding next_from turn_from
 next-shifted p vias n front rest s spots old t h =
     let far : Counted → Reads Counted = λ now. λ u. read_on (λ r. gives (after_turn now r))
     (turn_from p vias (shifted front s) now.reached u) in
@@ -203,7 +171,7 @@ next-shifted p vias n front rest s spots old t h =
     ∙ on-on wrap far (begun_from n old t)
     ∙ counted-where all (λ now. λ u. far (wrapped_count front rest now) u)
     (λ now. λ u. read_on wrap (near now u))
-    (search (rules, turn-shifted, counts))
+    (search (rules, get-around, get-inside, put-shifted, counts))
     (begun_from n old t) (begun-keeps all n old t h)
     ∙ sym (on-on near wrap (begun_from n old t))
 
@@ -435,7 +403,7 @@ several-inside frame cs arrays s fits sized h =
     let rh = r.between.high in
     let g = in-flat-back (λ column. mcu_spots r.at column 0 cs) s 0 frame.mcus_wide r.gives in
     let gh = g.between.high in
-    let of = mcu-tells frame cs 0 r.at g.at s fits (omega arith) g.gives in
+    let of = mcu-tells frame r.at g.at (omega arith) cs 0 s fits g.gives in
     let c = of.component in
     let here = placed frame cs r.at g.at s of in
     let z = rows-at 1 cs arrays s.slot c sized here in

@@ -48,9 +48,7 @@ all-append Q (x ∷ xs) ys h k = (h.0, all-append Q xs ys h.1 k)
 pub all-flat : {B : Type 0} (Q : B → Type 0) (f : ℕ → List B) (a n : ℕ)
     → ((k : ℕ) → a ≤ k → k < a + n → AllByRecursion Q (f k)) → AllByRecursion Q (flat_map f (range_with_len a n))
 all-flat Q f a zero h = tt
-all-flat Q f a (suc n) h =
-    all-append Q (f a) (flat_map f (range_with_len (a + 1) n)) (h a (omega arith) (omega arith))
-    (all-flat Q f (a + 1) n (λ k g l. h k (omega arith) (omega arith)))
+all-flat Q f a (suc n) h = search (rules, all-append, all-flat Q f (a + 1) n)
 
 pub all-line : {B : Type 0} (Q : B → Type 0) (f : ℕ → B) (a n : ℕ) → ((k : ℕ) → a ≤ k → k < a + n → Q (f k))
     → AllByRecursion Q (map f (range_with_len a n))
@@ -103,9 +101,7 @@ unfolding mcu_spots
 in-mcu row column base j [] c s h k = absurd h
 in-mcu row column base zero (d ∷ more) c s h k = search (rules, in-front)
 in-mcu row column base (suc j) (d ∷ more) c s h k =
-    let e : base + suc j ≡ (base + 1) + j = omega arith in
-    in-back s (part_spots row column base d) (mcu_spots row column (base + 1) more)
-    (in-mcu row column (base + 1) j more c s h (subst (λ (n : ℕ). IsIn s (part_spots row column n c)) e k))
+    search (rules, in-back, in-mcu row column (base + 1) j more c s h)
 
 place-parts : (i w hz vt : ℕ) → (i / w / vt * vt + i / w % vt) * w + (i % w / hz * hz + i % w % hz) ≡ i
 place-parts i w hz vt = rw (div-add-mod' (i / w) vt, div-add-mod' (i % w) hz, div-add-mod' i w) refl

@@ -7,7 +7,7 @@ use Rattle.jpeg_segments.specs.Frame.{Component, Frame, frame_of}
 use Rattle.jpeg_segments.specs.WrittenSegments.{FrameHeader, IsFrame, frame_written}
 use Rattle.jpeg_lossless.specs.Differences.{Part}
 use Rattle.jpeg_lossless.specs.Pictures.{most_across, most_down, sample_bytes}
-use Rattle.jpeg_lossless.specs.Prediction.{line_below, lines_below, predicted_lines}
+use Rattle.jpeg_lossless.specs.Prediction.{lines_below, predicted_lines}
 use Rattle.jpeg_lossless.specs.Scans.{Way, lines_by_component, planes_of}
 use Rattle.jpeg_lossless.proofs.ImageLoops.{inside}
 use Rattle.jpeg_lossless.proofs.LineSums.{top-narrow}
@@ -22,9 +22,7 @@ use Rattle.jpeg_streams.proofs.LosslessSizes.{IsMade, all-at, frames-made, made-
 lines-short : (n : ℕ) (selection : Predictor) (start : ℕ) (above : List ℕ) (ds : List (List ℕ))
     → take n (lines_below selection start above ds) ≡ lines_below selection start above (take n ds)
 unfolding lines_below
-lines-short (suc n) selection start above (d ∷ ds) =
-    let line = line_below selection start above d in
-    ap (λ (l : List (List ℕ)). line ∷ l) (lines-short n selection start line ds)
+lines-short (suc n) selection start above (d ∷ ds) = search (rules, lines-short n selection start)
 lines-short n selection start above ds = refl
 
 -- the samples inside come of the differences inside alone

@@ -1,6 +1,6 @@
 -- A frame header that has a picture is accepted.
-use Rattle.std.proofs.Common.{rules, ◌≡◌, ◌⊎◌, inl, ℕ, zero, suc, ◌≤◌, ◌==◌, true, false, List, [], ◌∷◌, map, length}
-use Rattle.std.proofs.Common.{Ok, refl, arith}
+use Rattle.std.proofs.Common.{rules, ◌≡◌, ◌⊎◌, ℕ, ◌≤◌, true, false, List, [], ◌∷◌, map, length, Ok}
+use Rattle.std.proofs.Common.{arith}
 use Rattle.std.proofs.lemmas.Grind.{common_steps}
 use Rattle.std.proofs.lemmas.Bool.{eq-eqb, or_left}
 use Rattle.std.specs.List.{AllByRecursion}
@@ -29,10 +29,6 @@ pub accepted-by : (f : Frame) (sources : List Source) → f.is_differential ≡ 
 unfolding accepted
 accepted-by f sources a b c d e = search (rules, then-ok)
 
-pub count-test : (n : ℕ) → (n ≡ 1) ⊎ ((n ≡ 3) ⊎ (n ≡ 4)) → is_decoded_count n ≡ true
-count-test n (inl e) = or_left (n == 1) _ (eq-eqb n 1 e)
-count-test n k = search (rules, eq-eqb)
-
 pub header-sources : (number : ℕ) (h : FrameHeader) → AllByRecursion (IsUpsampled h) h.components
     → (sources : List Source)
     × (sources_of (frame_written number h).components (frame_written number h).output_width
@@ -51,15 +47,14 @@ pub header-count : (number : ℕ) (h : FrameHeader)
     → (length h.components ≡ 1) ⊎ ((length h.components ≡ 3) ⊎ (length h.components ≡ 4))
     → is_decoded_count (length (frame_written number h).components) ≡ true
 unfolding frame_of
-header-count number h p = grind (arith, common_steps, count-test)
+header-count number h p = grind (arith, common_steps, or_left, eq-eqb)
 
 -- SOF0 to SOF2 are neither differential nor arithmetic, and are decoded at 8 bits.
 header-process : (number : ℕ) (h : FrameHeader) → number ≤ 2 → HasPicture h
     → ((frame_written number h).is_differential ≡ false) × (is_arithmetic (frame_written number h).coding ≡ false)
     × (is_decoded_precision (frame_written number h).process (frame_written number h).precision ≡ true)
 unfolding frame_of
-header-process (suc (suc (suc number))) h le p = absurd (omega arith)
-header-process number h le p = (refl, refl, eq-eqb h.precision 8 p.precise)
+header-process number h le p = search (rules, eq-eqb)
 
 pub header-accepted : (number : ℕ) (h : FrameHeader) → number ≤ 2 → HasPicture h
     → accepted (frame_written number h) ≡ Ok (frame_written number h)

@@ -1,5 +1,5 @@
 -- Where all components have the same factors, they have the size of the frame.
-use Rattle.std.proofs.Common.{rules, ◌≡◌, inl, inr, ℕ, ◌*◌, ◌<◌, List, [], ◌∷◌, map, refl, ap, ap₂, ◌∙◌, subst, arith}
+use Rattle.std.proofs.Common.{rules, ◌≡◌, inl, inr, ℕ, List, [], ◌∷◌, map, refl, ap, ap₂, ◌∙◌, subst, arith}
 use Rattle.std.specs.List.{AllByRecursion}
 use Rattle.std.proofs.lemmas.Nat.{div-mul-add}
 use Rattle.jpeg_bits.specs.Codes.{Table}
@@ -16,9 +16,6 @@ use Rattle.jpeg_streams.specs.PlainSamples.{HasEqualFactors, plain_way}
 use Rattle.jpeg_streams.proofs.LosslessSizes.{IsMade, some-across, some-down}
 use Rattle.jpeg_streams.proofs.PaddingUnseen.{header-made}
 
-ceiling-whole : (n factor most : ℕ) → 0 < most → factor ≡ most → ceiling (n * factor) most ≡ n
-ceiling-whole n factor most h e = search (rules, div-mul-add)
-
 ceiling-one : (n most : ℕ) → most ≡ 1 → ceiling n most ≡ n
 ceiling-one n most e = ap (ceiling n) e ∙ omega arith
 
@@ -34,7 +31,7 @@ all-full : (frame : Frame) (cs : List Component) → AllByRecursion (IsMade fram
     → AllByRecursion (IsFull frame) cs
 all-full frame [] made same = tt
 all-full frame (c ∷ cs) made same =
-    search (rules, ceiling-whole, some-across, some-down, all-full frame cs made.1 same.1)
+    search (rules, div-mul-add, some-across, some-down, all-full frame cs made.1 same.1)
 
 full-in : (frame : Frame) (c : Component) (cs : List Component) → AllByRecursion (IsFull frame) cs → IsIn c cs
     → IsFull frame c

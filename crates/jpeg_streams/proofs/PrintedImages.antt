@@ -1,6 +1,5 @@
 -- A run that prints the meaning of a stream prints images.
-use Rattle.std.proofs.Common.{rules, arith, ◌≡◌, ℕ, ◌++◌, List, Option, Some, None, Result, Ok, Err, refl, IsSome}
-use Rattle.std.proofs.Common.{subst}
+use Rattle.std.proofs.Common.{rules, arith, ◌≡◌, ℕ, ◌++◌, List, Option, Some, Result, Ok, IsSome}
 use Rattle.std.specs.Prelude.{IfErr, IsSomeAnd, OnOk, option_map}
 use Rattle.std.specs.Io.KnownBytes.{Appends}
 use Rattle.jpeg_bits.specs.declared.error.Error.{Error}
@@ -26,19 +25,11 @@ image-output array image rest final last range w takes =
     let p = taken-means default_settings array image rest final last range w takes in
     grind arith
 
-some-and : (o : Option (List ℕ)) (text : List ℕ) (P : List ℕ → Type 0) → o ≡ Some text → IsSomeAnd o P → P text
-some-and None text P e h = absurd (let n : ⊥ = cc in n)
-some-and (Some x) text P e h = let same : x ≡ text = cc in subst P same h
-
-is-some : (o : Option (List ℕ)) (text : List ℕ) → o ≡ Some text → IsSome o
-is-some o text e = rw e refl
-
 prints : {X : Type 0} (bytes text : List ℕ) (old new : Option (List ℕ)) (result : Result X Error)
     → output_of bytes ≡ Some text → OnOk result (IsSomeAnd (output_of bytes) (Appends old new))
     → ((text : List ℕ) → output_of bytes ≡ Some text → TakesBeginning old new text)
     → (IsSome (output_of bytes) → IfErr result IsOutsideOrMemory) → Prints text old result new
-prints bytes text old new (Ok x) e ok beginning refused = some-and (output_of bytes) text (Appends old new) e ok
-prints bytes text old new (Err x) e ok beginning refused = search (rules, is-some)
+prints bytes text old new result e ok beginning refused = search rules
 
 pub prints-images : {X : Type 0} (remaining old new : Option (List ℕ)) (result : Result X Error)
     → ((bytes : List ℕ) → Tells remaining bytes → OnOk result (IsSomeAnd (output_of bytes) (Appends old new)))

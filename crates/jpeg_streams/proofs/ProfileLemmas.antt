@@ -1,6 +1,6 @@
 -- The parts of a profile.
-use Rattle.std.proofs.Common.{rules, ◌≡◌, ◌+◌, ◌-◌, ◌<◌, ◌≤◌, ℕ, suc, List, [], ◌∷◌, ◌++◌, Option, Some, None, refl}
-use Rattle.std.proofs.Common.{sym, ap, map, arith, append_assoc}
+use Rattle.std.proofs.Common.{rules, ◌≡◌, ◌+◌, ◌-◌, ◌<◌, ◌≤◌, ℕ, suc, List, [], ◌∷◌, ◌++◌, Some, None, refl}
+use Rattle.std.proofs.Common.{map, arith, append_assoc}
 use Rattle.std.proofs.lemmas.Grind.{common_steps}
 use Rattle.std.proofs.lemmas.List.{append-nil}
 use Rattle.std.specs.Prelude.{◌==◌, option_map, option_and_then}
@@ -34,15 +34,9 @@ left : (count index : ℕ) (all : List Chunk) → index < count
     (part (index + 1) all)
 left count index all lt = grind (arith, one-more (index + 1) (count - (index + 1)) all)
 
-joined-both : (bytes more : List ℕ) (o : Option (List ℕ))
-    → option_map (λ (rest : List ℕ). bytes ++ rest) (option_map (λ (rest : List ℕ). more ++ rest) o)
-    ≡ option_map (λ (rest : List ℕ). (bytes ++ more) ++ rest) o
-joined-both bytes more None = refl
-joined-both bytes more (Some xs) = ap (λ (ys : List ℕ). Some ys) (sym (append_assoc bytes more xs))
-
 pub joins-more : (count : ℕ) (all : List Chunk) (index : ℕ) (bytes more : List ℕ) → index < count
     → part (index + 1) all ≡ Some more → Joins count all index bytes → Joins count all (index + 1) (bytes ++ more)
-joins-more count all index bytes more lt is h = grind (arith, common_steps, left, joined-both)
+joins-more count all index bytes more lt is h = grind (arith, common_steps, left, append_assoc)
 
 pub joins-missing : (count : ℕ) (all : List Chunk) (index : ℕ) (bytes : List ℕ) → index < count
     → part (index + 1) all ≡ None → Joins count all index bytes → parts_from count 1 all ≡ None

@@ -18,8 +18,7 @@ put-same q b arrays h = search (rules, get_or-set_same)
 pub put-other : (r q : Spot) (b : Block) (arrays : Arrays) → IsInside arrays q
     → (r.slot ≢ q.slot) ⊎ ((r.slot ≡ q.slot) × (r.index ≢ q.index))
     → block_at (put_block r b arrays) q ≡ block_at arrays q
-put-other r q b arrays h (inl n) = search (rules, get_or-set_other)
-put-other r q b arrays h (inr n) = search (rules, get_or-set_same, get_or-set_other)
+put-other r q b arrays h g = search (rules, get_or-set_other, get_or-set_same)
 
 pub put-inside : (r q : Spot) (b : Block) (arrays : Arrays) → IsInside arrays q → IsInside (put_block r b arrays) q
 put-inside r q b arrays h = search (rules, same-spot, length-set, get_or-set_same, get_or-set_other)

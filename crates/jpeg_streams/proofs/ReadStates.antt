@@ -212,11 +212,6 @@ pub record Brought (w : Found) (frame : Frame) (p : Pass) (array : Coefficients)
   pub is : with_arrays p codings arrays (reading w s h fi pl) ≡ reading w s h finished planes
   pub marked : Marked w frame array (levels_after p (places_of codings) levels) finished planes
 
-with-one : (p : Pass) (k : Coding) (codings : List Coding) (b : List Block) (arrays : Arrays) (f : Found)
-    → with_arrays p (k ∷ codings) (b ∷ arrays) f ≡ with_arrays p codings arrays (with_blocks p k b f)
-unfolding with_arrays
-with-one p k codings b arrays f = refl
-
 with-none : (p : Pass) (f : Found) → with_arrays p [] [] f ≡ f
 unfolding with_arrays
 with-none p f = refl
@@ -234,7 +229,7 @@ pub brings : (w : Found) (frame : Frame) (p : Pass) (array : Coefficients) (leve
     → AreApart (places_of codings)
     → AllDone w frame p array levels codings arrays → Marked w frame array levels fi pl
     → Brought w frame p array levels codings arrays s h fi pl
-unfolding levels_after
+unfolding levels_after with_arrays
 brings w frame p array levels [] [] s h fi pl few band apart done before = search (rules, with-none)
 brings w frame p array levels [] (b ∷ arrays) s h fi pl few band apart done before = absurd done
 brings w frame p array levels (k ∷ codings) [] s h fi pl few band apart done before = absurd done
@@ -244,7 +239,7 @@ brings w frame p array levels (k ∷ codings) (b ∷ arrays) s h fi pl few band 
     (with_plane k b marks pl) few band apart.1
     (done-others w frame p array levels k.place codings arrays apart.0 done.1)
     (marked-one w frame p array levels k b fi pl few band done.0 before) in
-    search (rules, with-one, blocks-are)
+    search (rules, blocks-are)
 
 -- ---- held between scans
 

@@ -42,11 +42,6 @@ use Rattle.jpeg_streams.proofs.WrittenMarkers.{marker-append, marker_for, segmen
 
 -- ---- a segment between scans
 
-same-arrays : (w next : Found) (sc : Bool) (h : Arrays) (fi : List (List Bool)) (pl : List (Option (List ℕ)))
-    (f : Frame) → arrays_before (reading w sc h fi pl) f ≡ arrays_before (reading next sc h fi pl) f
-unfolding arrays_before
-same-arrays w next sc h fi pl f = refl
-
 plane-same : (w next : Found) (array : Coefficients) (l : Levels) (pl : List (Option (List ℕ))) (k : ℕ)
     (c : Component) → next.quantization ≡ w.quantization
     → PlaneSo w array l pl k c → PlaneSo next array l pl k c
@@ -60,7 +55,8 @@ framed-by : (w next : Found) (f : Frame) (array : Coefficients) (levels : ℕ �
     (fi : List (List Bool)) (pl : List (Option (List ℕ)))
     → ((k : ℕ) (c : Component) → PlaneSo w array (levels k) pl k c → PlaneSo next array (levels k) pl k c)
     → Framed w f array levels sc h fi pl → Framed next f array levels sc h fi pl
-framed-by w next f array levels sc h fi pl g fr = search (rules, same-arrays)
+unfolding arrays_before
+framed-by w next f array levels sc h fi pl g fr = search rules
 
 framed-same : (w next : Found) (f : Frame) (array : Coefficients) (levels : ℕ → Levels) (sc : Bool) (h : Arrays)
     (fi : List (List Bool)) (pl : List (Option (List ℕ))) → next.quantization ≡ w.quantization
@@ -101,35 +97,6 @@ pub record ReadTo (f : Frame) (array : Coefficients) (tail : List ℕ) (final : 
   pub is : found ≡ Ok (reading final true end.held end.finished end.planes, tail)
 
 -- the same end, of what leads to it
-pub read-to : (f : Frame) (array : Coefficients) (tail : List ℕ) (final : Found) (last : ℕ → Levels)
-    (one other : Outcome Found) → one ≡ other → ReadTo f array tail final last other
-    → ReadTo f array tail final last one
-read-to f array tail final last one other e r = record { end = r.end; is = e ∙ r.is }
-
-segment-held : (bf : Before) (w : Found) (s : Segment) (sc : Bool) (h : Arrays) (fi : List (List Bool))
-    (pl : List (Option (List ℕ))) (rest : List ℕ) → Stands w s → IsDctSegment s
-    → segment_at (marker_for s) bf (reading w sc h fi pl) (sized (payload_of s) ++ rest)
-    ≡ Ok (onward (reading (found_after w s) sc h fi pl), rest)
-segment-held bf w (Quantization ts) sc h fi pl rest may dct = search (rules, segment-read)
-segment-held bf w (Huffman ts) sc h fi pl rest may dct = search (rules, segment-read)
-segment-held bf w (Interval n) sc h fi pl rest may dct = search (rules, segment-read)
-segment-held bf w (Application number payload) sc h fi pl rest may dct = search (rules, segment-read)
-segment-held bf w (Comment payload) sc h fi pl rest may dct = search (rules, segment-read)
-segment-held bf w (Header number header) sc h fi pl rest may dct = search (rules, frame-turn, header-accepted)
-
-segment-turn : (bf : Before) (w : Found) (s : Segment) (sc : Bool) (h : Arrays) (fi : List (List Bool))
-    (pl : List (Option (List ℕ))) (met : Option Marker) (all : List ℕ) (fill : ℕ) (more tail : List ℕ)
-    → Stands w s → IsDctSegment s
-    → StandsAt met all (marker fill (code_of s) (sized (payload_of s) ++ more) ++ tail)
-    → turn_at bf (reading w sc h fi pl) met all ≡ Ok (onward (reading (found_after w s) sc h fi pl), more ++ tail)
-segment-turn bf w s sc h fi pl met all fill more tail may dct at =
-    let now = reading w sc h fi pl in
-    at.turn bf now
-    ∙ ap (turn_at bf now None) (segment-tail fill (code_of s) (sized (payload_of s)) more tail)
-    ∙ marker-turn bf now fill (code_of s) (marker_for s) (sized (payload_of s) ++ (more ++ tail))
-    (segment-marker w.frame s may.0)
-    ∙ segment-held bf w s sc h fi pl (more ++ tail) may dct
-
 -- a scan of this frame, and what follows it
 abbrev ScanOf : Coefficients → Found → (ℕ → Levels) → Found → (ℕ → Levels) → ScanHeader → List Coding → List ℕ
     → List ℕ → Frame → Type 0
@@ -137,80 +104,6 @@ ScanOf array w levels final last head codings bytes more f =
     IsScan f head × IsLegalScan w f levels (scan_written f head) codings
     × WritesScan f w.restart (pass_of (scan_written f head)) codings array bytes
     × Writes array w (levels_after (pass_of (scan_written f head)) (places_of codings) levels) true more final last
-
-pub reads-scans : (array : Coefficients) (f : Frame) (tail : List ℕ) (w final : Found) (levels last : ℕ → Levels)
-    (sc : Bool) (bytes : List ℕ) (h : Arrays) (fi : List (List Bool)) (pl : List (Option (List ℕ)))
-    (turns : ℕ) (bf : Before) (met : Option Marker) (all : List ℕ)
-    → ((place row column : ℕ) → Is8Bit (array place row column)) → Shaped f → HasTables w.huffman → w.frame ≡ Some f
-    → (sc ≡ false → (k : ℕ) → levels k ≡ nothing_sent)
-    → Framed w f array levels sc h fi pl → Writes array w levels sc bytes final last
-    → StandsAt met all (bytes ++ tail) → length bytes < turns
-    → ReadTo f array tail final last (segments_within turns false bf (reading w sc h fi pl) met all)
-unfolding marker_of
-reads-scans array f tail w final levels last sc bytes h fi pl zero bf met all range shape good e none fr r at room =
-    absurd (omega arith)
-reads-scans array f tail w final levels last sc bytes h fi pl (suc turns) bf met all range shape good e none fr
-    (segment w' final' levels' last' sc' fill s more may dct follows r) at room =
-    let other = is-other w f s e may in
-    read-to f array tail final last _ _
-    (turn-on turns bf (reading w sc h fi pl) met all (more ++ tail) (onward (reading (found_after w s) sc h fi pl))
-    (segment-turn bf w s sc h fi pl met all fill more tail may dct at) refl)
-    (reads-scans array f tail (found_after w s) final levels last sc more h fi pl turns Elsewhere None (more ++ tail)
-    range shape (segment-tables w s may.0 good) (frame-stays w s other ∙ e) none
-    (framed-next w s f array levels sc h fi pl follows none fr) r (stands-here (more ++ tail))
-    (marker-longer fill (code_of s) turns (sized (payload_of s)) more room))
-reads-scans array f tail w final levels last sc bytes h fi pl (suc turns) bf met all range shape good e none fr
-    (scan w' final' levels' last' sc' frame fill head codings payload more framed is l x r) at room =
-    let header = sized (scan_payload head) in
-    let of = subst (ScanOf array w levels final last head codings payload more)
-    (same-frame frame f w.frame framed e) (is, l, x, r) in
-    let s = scan_written f head in
-    let now = reading w sc h fi pl in
-    let b = scan-brings w f array levels sc h fi pl s codings payload range shape fr
-    (header-facts f head of.0 shape.lossy) (codings-good w f s codings good of.1.are_in_force) of.1 of.2 in
-    let next = writes-starts array w final _ last true more of.3 in
-    let left = next.after ++ tail in
-    let there : more ++ tail ≡ marker next.fill next.code left = ap (λ (l : List ℕ). l ++ tail) next.is
-    ∙ marker-append next.fill next.code next.after tail in
-    let turn = scan-by now f s codings b.arrays next.m (header ++ (payload ++ marker next.fill next.code left))
-    (payload ++ marker next.fill next.code left) left shape.lossy e
-    (sos-read f head (payload ++ marker next.fill next.code left) of.0)
-    (codings-same w sc h fi pl f s ∙ codings-read w f s codings of.1.are_in_force)
-    (b.read next.fill next.code next.m left (record { is = next.makes })) (next.ends (length left) left) in
-    read-to f array tail final last _ _
-    (turn-on turns bf now met all left _
-    (at.turn bf now
-    ∙ ap (turn_at bf now None) (scan-tail fill 218 header payload more tail
-    ∙ ap (λ (l : List ℕ). marker fill 218 (header ++ (payload ++ l))) there)
-    ∙ marker-turn bf now fill 218 SOS (header ++ (payload ++ marker next.fill next.code left)) refl
-    ∙ scan-turn bf now (header ++ (payload ++ marker next.fill next.code left)) ∙ turn) refl
-    ∙ ap (λ (x : Found). segments_within turns false (scan_before now) x (Some next.m) left) b.after)
-    (reads-scans array f tail w final
-    (levels_after (pass_of s) (places_of codings) levels) last true more b.held b.finished b.planes turns
-    (scan_before now) (Some next.m) left
-    range shape good e (λ g. absurd (true≢false g)) b.framed of.3
-    (subst (StandsAt (Some next.m) left) (sym there) (stands-met next.fill next.code next.m left next.makes))
-    (scan-longer fill 218 turns header payload more room))
-reads-scans array f tail w final levels last sc bytes h fi pl (suc turns) bf met all range shape good e none fr
-    (closed w' levels' frame fill framed t c) at room =
-    let now = reading w true h fi pl in
-    let same = same-frame frame f w.frame framed e in
-    record {
-      end = record {
-        held = h;
-        finished = fi;
-        planes = pl;
-        framed = fr;
-        frame_is = e;
-        tables = subst (λ (x : Frame). AllByRecursion (HasTable w) x.components) same t;
-        complete = subst (λ (x : Frame). is_progressive x.process ≡ false → AllComplete x levels) same c;
-      };
-      is = turn-end turns bf now met all tail (record { found = now; before = Elsewhere; met = None; ended = true })
-          (at.turn bf now ∙ ap (turn_at bf now None) (marker-append fill 217 [] tail)
-          ∙ marker-turn bf now fill 217 EOI tail refl ∙ end-turn bf now tail (ap is_some e)) refl;
-    }
-
--- ---- up to the frame
 
 abbrev pub nothing_finished : List (List Bool)
 nothing_finished = replicate 4 none_finished
@@ -221,9 +114,6 @@ no_planes = replicate 4 None
 -- what was said, where nothing was read of the picture
 abbrev pub unread : Found → Found
 unread w = reading w false [] nothing_finished no_planes
-
-frame-plain : (number : ℕ) (h : FrameHeader) → IsFrame number h → Plain (frame_written number h)
-frame-plain number h is = search (rules, all-ranged)
 
 -- What is found up to the frame, and what stands after it, where whoever wants more goes on.
 pub record ReadHeader (array : Coefficients) (tail : List ℕ) (final : Found) (last : ℕ → Levels)
@@ -242,71 +132,168 @@ pub record ReadHeader (array : Coefficients) (tail : List ℕ) (final : Found) (
   pub room : length more < turns
   pub goes_on : whole ≡ segments_within turns false Elsewhere (unread said) None (more ++ tail)
 
-header-by : (array : Coefficients) (tail : List ℕ) (final : Found) (last : ℕ → Levels)
-    (one two header whole : Outcome Found) → one ≡ header → two ≡ whole
-    → ReadHeader array tail final last header whole → ReadHeader array tail final last one two
-header-by array tail final last one two header whole e g r = grind (arith, common_steps)
+module _ (array : Coefficients) (tail : List ℕ) (final : Found) (last : ℕ → Levels) where
+  pub read-to : (f : Frame) (one other : Outcome Found) → one ≡ other
+      → ReadTo f array tail final last other → ReadTo f array tail final last one
+  read-to f one other e r = record { end = r.end; is = e ∙ r.is }
 
-frame-header : (array : Coefficients) (tail : List ℕ) (w final : Found) (last : ℕ → Levels) (turns : ℕ) (s : Segment)
-    (number : ℕ) (h : FrameHeader) (more : List ℕ)
-    → s ≡ Header number h → HasTables w.huffman → Stands w s → IsDctSegment s
-    → Writes array (found_after w s) (λ k. nothing_sent) false more final last → length more < turns
-    → ReadHeader array tail final last
-    (segments_within turns true Elsewhere (unread (found_after w s)) None (more ++ tail))
-    (segments_within turns false Elsewhere (unread (found_after w s)) None (more ++ tail))
-frame-header array tail w final last turns s number h more e good may dct r room =
-    let may_be = subst (Stands w) e may in
-    let few : number ≤ 2 = subst IsDctSegment e dct in
-    let ok = header-accepted number h few may_be.1 in
-    let plain = frame-plain number h may_be.0.1 in
-    let framed : (found_after w s).frame ≡ Some (frame_written number h) =
-    ap (λ (x : Segment). (found_after w x).frame) e in
-    record {
-      said = found_after w s;
-      frame = frame_written number h;
-      framed = framed;
-      plain = plain;
-      is_accepted = ok;
-      shape = all-shaped (frame_written number h) plain
-          (frame-lossy number h.precision h.width h.height h.components few) ok;
-      good = segment-tables w s may.0 good;
-      more = more;
-      written = r;
-      is = head-end turns Elsewhere (unread (found_after w s)) None (more ++ tail) (omega arith) (ap is_some framed);
-      turns = turns;
-      room = room;
-      goes_on = refl;
-    }
+  segment-held : (bf : Before) (w : Found) (s : Segment) (sc : Bool) (h : Arrays) (fi : List (List Bool))
+      (pl : List (Option (List ℕ))) (rest : List ℕ) → Stands w s → IsDctSegment s
+      → segment_at (marker_for s) bf (reading w sc h fi pl) (sized (payload_of s) ++ rest)
+      ≡ Ok (onward (reading (found_after w s) sc h fi pl), rest)
+  segment-held bf w s sc h fi pl rest may dct =
+      search (rules, segment-read, frame-turn, header-accepted)
 
-reads-header : (array : Coefficients) (tail : List ℕ) (w final : Found) (levels last : ℕ → Levels) (sc : Bool)
-    (bytes : List ℕ) (turns : ℕ)
-    → HasTables w.huffman → w.frame ≡ None → ◌≡◌ {A = ℕ → Levels} (λ k. nothing_sent) levels → false ≡ sc
-    → Writes array w levels sc bytes final last → length bytes < turns
-    → ReadHeader array tail final last
-    (segments_within turns true Elsewhere (unread w) None (bytes ++ tail))
-    (segments_within turns false Elsewhere (unread w) None (bytes ++ tail))
-reads-header array tail w final levels last sc bytes zero good none fresh unscanned r room = absurd (omega arith)
-reads-header array tail w final levels last sc bytes (suc turns) good none fresh unscanned
-    (segment w' final' levels' last' sc' fill s more may dct follows r) room =
-    let all = marker fill (code_of s) (sized (payload_of s) ++ more) ++ tail in
-    let next = onward (unread (found_after w s)) in
-    let shorter = marker-longer fill (code_of s) turns (sized (payload_of s)) more room in
-    let turn = segment-turn Elsewhere w s false [] nothing_finished no_planes None all fill more tail may dct
-    (stands-here all) in
-    header-by array tail final last _ _ _ _
-    (head-on turns Elsewhere (unread w) None all (more ++ tail) next none turn refl)
-    (turn-on turns Elsewhere (unread w) None all (more ++ tail) next turn refl)
-    (frame-or s
-    (λ number h is. frame-header array tail w final last turns s number h more is good may dct
-    (subst (λ (x : Bool). Writes array (found_after w s) (λ k. nothing_sent) x more final last) (sym unscanned)
-    (subst (λ (l : ℕ → Levels). Writes array (found_after w s) l sc more final last) (sym fresh) r)) shorter)
-    (λ other. reads-header array tail (found_after w s) final levels last sc more turns
-    (segment-tables w s may.0 good) (frame-stays w s other ∙ none) fresh unscanned r shorter))
-reads-header array tail w final levels last sc bytes (suc turns) good none fresh unscanned
-    (scan w' final' levels' last' sc' frame fill head codings payload more framed is l x r) room =
-    some-none frame w.frame framed none
-reads-header array tail w final levels last sc bytes (suc turns) good none fresh unscanned
-    (closed w' levels' frame fill framed t c) room = some-none frame w.frame framed none
+  segment-turn : (bf : Before) (w : Found) (s : Segment) (sc : Bool) (h : Arrays) (fi : List (List Bool))
+      (pl : List (Option (List ℕ))) (met : Option Marker) (all : List ℕ) (fill : ℕ) (more : List ℕ)
+      → Stands w s → IsDctSegment s
+      → StandsAt met all (marker fill (code_of s) (sized (payload_of s) ++ more) ++ tail)
+      → turn_at bf (reading w sc h fi pl) met all ≡ Ok (onward (reading (found_after w s) sc h fi pl), more ++ tail)
+  segment-turn bf w s sc h fi pl met all fill more may dct at =
+      let now = reading w sc h fi pl in
+      at.turn bf now
+      ∙ ap (turn_at bf now None) (segment-tail fill (code_of s) (sized (payload_of s)) more tail)
+      ∙ marker-turn bf now fill (code_of s) (marker_for s) (sized (payload_of s) ++ (more ++ tail))
+      (segment-marker w.frame s may.0)
+      ∙ segment-held bf w s sc h fi pl (more ++ tail) may dct
+
+  pub reads-scans : (f : Frame) (w : Found) (levels : ℕ → Levels)
+      (sc : Bool) (bytes : List ℕ) (h : Arrays) (fi : List (List Bool)) (pl : List (Option (List ℕ)))
+      (turns : ℕ) (bf : Before) (met : Option Marker) (all : List ℕ)
+      → ((place row column : ℕ) → Is8Bit (array place row column)) → Shaped f → HasTables w.huffman
+      → w.frame ≡ Some f → (sc ≡ false → (k : ℕ) → levels k ≡ nothing_sent)
+      → Framed w f array levels sc h fi pl → Writes array w levels sc bytes final last
+      → StandsAt met all (bytes ++ tail) → length bytes < turns
+      → ReadTo f array tail final last (segments_within turns false bf (reading w sc h fi pl) met all)
+  unfolding marker_of
+  reads-scans f w levels sc bytes h fi pl zero bf met all range shape good e none fr r at room =
+      absurd (omega arith)
+  reads-scans f w levels sc bytes h fi pl (suc turns) bf met all range shape good e none fr
+      (segment w' final' levels' last' sc' fill s more may dct follows r) at room =
+      let other = is-other w f s e may in
+      read-to f _ _
+      (turn-on turns bf (reading w sc h fi pl) met all (more ++ tail) (onward (reading (found_after w s) sc h fi pl))
+      (segment-turn bf w s sc h fi pl met all fill more may dct at) refl)
+      (reads-scans f (found_after w s) levels sc more h fi pl turns Elsewhere None (more ++ tail)
+      range shape (segment-tables w s may.0 good) (frame-stays w s other ∙ e) none
+      (framed-next w s f array levels sc h fi pl follows none fr) r (stands-here (more ++ tail))
+      (marker-longer fill (code_of s) turns (sized (payload_of s)) more room))
+  reads-scans f w levels sc bytes h fi pl (suc turns) bf met all range shape good e none fr
+      (scan w' final' levels' last' sc' frame fill head codings payload more framed is l x r) at room =
+      let header = sized (scan_payload head) in
+      let of = subst (ScanOf array w levels final last head codings payload more)
+      (same-frame frame f w.frame framed e) (is, l, x, r) in
+      let s = scan_written f head in
+      let now = reading w sc h fi pl in
+      let b = scan-brings w f array levels sc h fi pl s codings payload range shape fr
+      (header-facts f head of.0 shape.lossy) (codings-good w f s codings good of.1.are_in_force) of.1 of.2 in
+      let next = writes-starts array w final _ last true more of.3 in
+      let left = next.after ++ tail in
+      let there : more ++ tail ≡ marker next.fill next.code left = ap (λ (l : List ℕ). l ++ tail) next.is
+      ∙ marker-append next.fill next.code next.after tail in
+      let turn = scan-by now f s codings b.arrays next.m (header ++ (payload ++ marker next.fill next.code left))
+      (payload ++ marker next.fill next.code left) left shape.lossy e
+      (sos-read f head (payload ++ marker next.fill next.code left) of.0)
+      (codings-same w sc h fi pl f s ∙ codings-read w f s codings of.1.are_in_force)
+      (b.read next.fill next.code next.m left (record { is = next.makes })) (next.ends (length left) left) in
+      read-to f _ _ (turn-on turns bf now met all left _ (at.turn bf now
+      ∙ ap (turn_at bf now None) (scan-tail fill 218 header payload more tail
+      ∙ ap (λ (l : List ℕ). marker fill 218 (header ++ (payload ++ l))) there)
+      ∙ marker-turn bf now fill 218 SOS (header ++ (payload ++ marker next.fill next.code left)) refl
+      ∙ scan-turn bf now (header ++ (payload ++ marker next.fill next.code left)) ∙ turn) refl
+      ∙ ap (λ (x : Found). segments_within turns false (scan_before now) x (Some next.m) left) b.after)
+      (reads-scans f w
+      (levels_after (pass_of s) (places_of codings) levels) true more b.held b.finished b.planes turns
+      (scan_before now) (Some next.m) left
+      range shape good e (λ g. absurd (true≢false g)) b.framed of.3
+      (subst (StandsAt (Some next.m) left) (sym there) (stands-met next.fill next.code next.m left next.makes))
+      (scan-longer fill 218 turns header payload more room))
+  reads-scans f w levels sc bytes h fi pl (suc turns) bf met all range shape good e none fr
+      (closed w' levels' frame fill framed t c) at room =
+      let now = reading w true h fi pl in
+      let same = same-frame frame f w.frame framed e in
+      record {
+        end = record {
+          held = h;
+          finished = fi;
+          planes = pl;
+          framed = fr;
+          frame_is = e;
+          tables = subst (λ (x : Frame). AllByRecursion (HasTable w) x.components) same t;
+          complete = subst (λ (x : Frame). is_progressive x.process ≡ false → AllComplete x levels) same c;
+        };
+        is = turn-end turns bf now met all tail (record { found = now; before = Elsewhere; met = None; ended = true })
+            (at.turn bf now ∙ ap (turn_at bf now None) (marker-append fill 217 [] tail)
+            ∙ marker-turn bf now fill 217 EOI tail refl ∙ end-turn bf now tail (ap is_some e)) refl;
+      }
+
+  -- ---- up to the frame
+
+  frame-plain : (number : ℕ) (h : FrameHeader) → IsFrame number h → Plain (frame_written number h)
+  frame-plain number h is = search (rules, all-ranged)
+
+  header-by : (one two header whole : Outcome Found) → one ≡ header → two ≡ whole
+      → ReadHeader array tail final last header whole → ReadHeader array tail final last one two
+  header-by one two header whole e g r = grind (arith, common_steps)
+
+  frame-header : (w : Found) (turns : ℕ) (s : Segment)
+      (number : ℕ) (h : FrameHeader) (more : List ℕ) → s ≡ Header number h → HasTables w.huffman
+      → Stands w s → IsDctSegment s
+      → Writes array (found_after w s) (λ k. nothing_sent) false more final last
+      → length more < turns → ReadHeader array tail final last
+      (segments_within turns true Elsewhere (unread (found_after w s)) None (more ++ tail))
+      (segments_within turns false Elsewhere (unread (found_after w s)) None (more ++ tail))
+  frame-header w turns s number h more e good may dct r room =
+      let may_be = subst (Stands w) e may in
+      let few : number ≤ 2 = subst IsDctSegment e dct in
+      let ok = header-accepted number h few may_be.1 in
+      let plain = frame-plain number h may_be.0.1 in
+      let framed : (found_after w s).frame ≡ Some (frame_written number h) =
+      ap (λ (x : Segment). (found_after w x).frame) e in
+      record {
+        said = found_after w s;
+        frame = frame_written number h;
+        framed = framed;
+        plain = plain;
+        is_accepted = ok;
+        shape = all-shaped (frame_written number h) plain
+            (frame-lossy number h.precision h.width h.height h.components few) ok;
+        good = segment-tables w s may.0 good;
+        more = more;
+        written = r;
+        is = head-end turns Elsewhere (unread (found_after w s)) None (more ++ tail) (omega arith) (ap is_some framed);
+        turns = turns;
+        room = room;
+        goes_on = refl;
+      }
+
+  reads-header : (w : Found) (levels : ℕ → Levels) (sc : Bool) (bytes : List ℕ) (turns : ℕ)
+      → HasTables w.huffman → w.frame ≡ None → ◌≡◌ {A = ℕ → Levels} (λ k. nothing_sent) levels
+      → false ≡ sc → Writes array w levels sc bytes final last → length bytes < turns
+      → ReadHeader array tail final last
+      (segments_within turns true Elsewhere (unread w) None (bytes ++ tail))
+      (segments_within turns false Elsewhere (unread w) None (bytes ++ tail))
+  reads-header w levels sc bytes zero good none fresh unscanned r room = absurd (omega arith)
+  reads-header w levels sc bytes (suc turns) good none fresh unscanned
+      (segment w' final' levels' last' sc' fill s more may dct follows r) room =
+      let all = marker fill (code_of s) (sized (payload_of s) ++ more) ++ tail in
+      let next = onward (unread (found_after w s)) in
+      let shorter = marker-longer fill (code_of s) turns (sized (payload_of s)) more room in
+      let turn = segment-turn Elsewhere w s false [] nothing_finished no_planes None all fill more may dct
+      (stands-here all) in
+      header-by _ _ _ _
+      (head-on turns Elsewhere (unread w) None all (more ++ tail) next none turn refl)
+      (turn-on turns Elsewhere (unread w) None all (more ++ tail) next turn refl) (frame-or s
+      (λ number h is. frame-header w turns s number h more is good may dct
+      (subst (λ (x : Bool). Writes array (found_after w s) (λ k. nothing_sent) x more final last) (sym unscanned)
+      (subst (λ (l : ℕ → Levels). Writes array (found_after w s) l sc more final last) (sym fresh) r)) shorter)
+      (λ other. reads-header (found_after w s) levels sc more turns
+      (segment-tables w s may.0 good) (frame-stays w s other ∙ none) fresh unscanned r shorter))
+  reads-header w levels sc bytes (suc turns) good none fresh unscanned
+      (scan w' final' levels' last' sc' frame fill head codings payload more framed is l x r) room =
+      search (rules, some-none)
+  reads-header w levels sc bytes (suc turns) good none fresh unscanned
+      (closed w' levels' frame fill framed t c) room = some-none frame w.frame framed none
 
 -- ---- the whole
 
@@ -329,7 +316,7 @@ stream-read array tail bytes final last w =
     record {
       rest = w.after ++ tail;
       starts = ap (λ (l : List ℕ). start_at (l ++ tail)) w.starts;
-      header = reads-header array tail nothing_found final (λ k. nothing_sent) last false w.after
+      header = reads-header array tail final last nothing_found (λ k. nothing_sent) false w.after
           (suc (length (w.after ++ tail))) tables-start refl refl refl w.written (omega arith);
     }
 

@@ -1,6 +1,6 @@
 -- A turn of a written stream is read.
 use Rattle.std.proofs.Common.{rules, ◌≡◌, ◌≢◌, ℕ, zero, suc, ◌<◌, Bool, true, false, List, [], ◌∷◌, ◌++◌, map, length}
-use Rattle.std.proofs.Common.{drop, replicate, slice_index_or, is_some, Option, Some, None, Result, Ok, Err, refl, sym}
+use Rattle.std.proofs.Common.{drop, slice_index_or, is_some, Option, Some, None, Result, Ok, Err, refl, sym}
 use Rattle.std.proofs.Common.{ap, ◌∙◌, subst, arith, append_assoc, length-append}
 use Rattle.std.proofs.lemmas.Grind.{common_steps}
 use Rattle.std.specs.List.{AllByRecursion}
@@ -12,9 +12,8 @@ use Rattle.jpeg_bits.specs.declared.marker.Marker.TheVariants.{EOI, SOF, SOS}
 use Rattle.jpeg_segments.specs.Frame.{Frame}
 use Rattle.jpeg_segments.specs.ScanHeader.{Scan, sos_at}
 use Rattle.jpeg_segments.specs.HuffmanTables.{Tables}
-use Rattle.jpeg_segments.specs.ScanHeaders.{scan_payload}
-use Rattle.jpeg_segments.specs.WrittenSegments.{sized, Segment, Quantization, Huffman, Interval, Application, Comment}
-use Rattle.jpeg_segments.specs.WrittenSegments.{Header, FrameHeader, MayStand, code_of, frame_written, payload_of}
+use Rattle.jpeg_segments.specs.WrittenSegments.{sized, Segment, Header, FrameHeader, MayStand}
+use Rattle.jpeg_segments.specs.WrittenSegments.{code_of, frame_written, payload_of}
 use Rattle.jpeg_segments.proofs.Fields.{kept, not-refused, read-on, sized-read, skip-read}
 use Rattle.jpeg_segments.proofs.TableSegments.{dqt-read, dht-read}
 use Rattle.jpeg_segments.proofs.OtherSegments.{dri-read, app-read}
@@ -26,15 +25,14 @@ use Rattle.jpeg_streams.specs.Scans.{Arrays}
 use Rattle.jpeg_streams.specs.Needed.{first_of, needed}
 use Rattle.jpeg_streams.specs.ScanSegments.{component_coding, needed_if, Coding, tables_of, after_restarts, after_scan}
 use Rattle.jpeg_streams.specs.ScanSegments.{scan_arrays, codings_of, codings_from, pass_of, scan_segment, scan_before}
-use Rattle.jpeg_streams.specs.ScanSegments.{scan_by, blocks_scan}
+use Rattle.jpeg_streams.specs.ScanSegments.{blocks_scan}
 use Rattle.jpeg_streams.specs.Segments.{onward, Turn, application_segment, restart_segment, huffman_segment}
 use Rattle.jpeg_streams.specs.Segments.{quantization_segment, skipped_segment, frame_segment, accepted}
 use Rattle.jpeg_streams.specs.Found.{Found}
 use Rattle.jpeg_streams.specs.SaidSegments.{Stands, found_after}
 use Rattle.jpeg_streams.specs.Stream.{segment_at, end_segment, turn_at, segments_within}
 use Rattle.jpeg_bits.specs.declared.codes.HuffmanTableClass.{HuffmanTableClass}
-use Rattle.jpeg_segments.specs.declared.parser.CodingProcess.{CodingProcess}
-use Rattle.jpeg_segments.specs.declared.parser.CodingProcess.TheVariants.{DctSequential, Lossless}
+use Rattle.jpeg_segments.specs.declared.parser.CodingProcess.TheVariants.{Lossless}
 use Rattle.jpeg_streams.specs.WrittenScans.{Coefficients, InForce, IsCoding, AreCodings}
 use Rattle.jpeg_streams.specs.WrittenScans.AreCodings.{no_more, and_more}
 use Rattle.jpeg_streams.specs.WrittenImages.{Writes, closed, segment, scan}
@@ -48,18 +46,11 @@ use Rattle.jpeg_streams.proofs.WrittenMarkers.{marker-append, marker_for, segmen
 
 -- ---- the next marker
 
-next-one : (code : ℕ) (m : Marker) (rest : List ℕ) → IsMarker code m → next_marker (0xFF ∷ code ∷ rest) ≡ Ok (m, rest)
-unfolding next_marker
-next-one code m rest h = rw h.is refl
-
-next-fill : (rest : List ℕ) → next_marker (0xFF ∷ 0xFF ∷ rest) ≡ next_marker (0xFF ∷ rest)
-unfolding next_marker marker_of
-next-fill rest = refl
-
 pub next-marker : (fill code : ℕ) (m : Marker) (rest : List ℕ) → IsMarker code m
     → next_marker (marker fill code rest) ≡ Ok (m, rest)
-next-marker zero code m rest h = next-one code m rest h
-next-marker (suc fill) code m rest h = next-fill (replicate fill 0xFF ++ code ∷ rest) ∙ next-marker fill code m rest h
+unfolding next_marker marker_of
+next-marker zero code m rest h = search rules
+next-marker (suc fill) code m rest h = search (rules, next-marker fill code m rest h)
 
 -- ---- steps
 
@@ -91,25 +82,15 @@ head-on turns before f met all rest t n e g = search (rules, is_some)
 pub head-end : (turns : ℕ) (before : Before) (f : Found) (met : Option Marker) (all : List ℕ) → 0 < turns
     → is_some f.frame ≡ true → segments_within turns true before f met all ≡ Ok (f, all)
 unfolding segments_within
-head-end zero before f met all h e = absurd (omega arith)
-head-end (suc turns) before f met all h e = rw (e, segments_within) refl
+head-end turns before f met all h e = search rules
 
 -- ---- the turn of a marker
-
-turn-next : (before : Before) (found : Found) (all rest : List ℕ) (m : Marker) → next_marker all ≡ Ok (m, rest)
-    → turn_at before found None all ≡ segment_at m before found rest
-unfolding turn_at
-turn-next before found all rest m e = rw e refl
 
 -- the turn of a marker and what stands after it
 pub marker-turn : (before : Before) (found : Found) (fill code : ℕ) (m : Marker) (rest : List ℕ)
     → marker_of code ≡ Some m → turn_at before found None (marker fill code rest) ≡ segment_at m before found rest
-marker-turn before found fill code m rest h = grind (arith, common_steps, turn-next, next-marker)
-
-met-turn : (before : Before) (found : Found) (m : Marker) (rest : List ℕ)
-    → turn_at before found (Some m) rest ≡ segment_at m before found rest
 unfolding turn_at
-met-turn before found m rest = refl
+marker-turn before found fill code m rest h = grind (arith, common_steps, next-marker)
 
 -- A marker is met or stands next, and these are the bytes from it on.
 pub record StandsAt (met : Option Marker) (all bytes : List ℕ) : Type 0 where
@@ -120,7 +101,8 @@ stands-here bytes = record { turn = λ before found. refl }
 
 pub stands-met : (fill code : ℕ) (m : Marker) (rest : List ℕ) → marker_of code ≡ Some m
     → StandsAt (Some m) rest (marker fill code rest)
-stands-met fill code m rest h = grind (arith, common_steps, met-turn, marker-turn)
+unfolding turn_at
+stands-met fill code m rest h = grind (arith, common_steps, marker-turn)
 
 pub end-turn : (before : Before) (found : Found) (rest : List ℕ) → is_some found.frame ≡ true
     → segment_at EOI before found rest ≡ Ok (
@@ -150,14 +132,10 @@ pub record Starts (bytes : List ℕ) : Type 0 where
   pub makes : marker_of code ≡ Some m
   pub ends : IsEnd m
 
-segment-ends : (s : Segment) → IsEnd (marker_for s)
-unfolding after_restarts
-segment-ends (Quantization ts) = λ turns bytes. refl
-segment-ends s = λ turns bytes. refl
-
 pub segment-starts : (frame : Option Frame) (fill : ℕ) (s : Segment) (more : List ℕ) → MayStand frame s
     → Starts (marker fill (code_of s) (sized (payload_of s) ++ more))
-segment-starts frame fill s more may = grind (arith, common_steps, segment-marker, segment-ends)
+unfolding after_restarts
+segment-starts frame fill s more may = grind (arith, common_steps, segment-marker)
 
 pub scan-starts : (fill : ℕ) (after : List ℕ) → Starts (marker fill 218 after)
 unfolding marker_of after_restarts
@@ -196,12 +174,8 @@ IsOther _ = Unit {0}
 pub segment-read : (before : Before) (found : Found) (s : Segment) (rest : List ℕ) → MayStand found.frame s → IsOther s
     → segment_at (marker_for s) before found (sized (payload_of s) ++ rest) ≡ Ok (onward (found_after found s), rest)
 unfolding segment_at quantization_segment huffman_segment restart_segment application_segment skipped_segment
-segment-read before found (Quantization ts) rest may other = grind (arith, common_steps, read-on, dqt-read)
-segment-read before found (Huffman ts) rest may other = grind (arith, common_steps, read-on, dht-read)
-segment-read before found (Interval n) rest may other = grind (arith, common_steps, read-on, dri-read)
-segment-read before found (Application number payload) rest may other = grind (arith, common_steps, read-on, app-read)
-segment-read before found (Comment payload) rest may other = search (rules, sized-read, read-on, skip-read)
-segment-read before found (Header number h) rest may other = absurd other
+segment-read before found s rest may other =
+    search (rules, read-on, dqt-read, dht-read, dri-read, app-read, sized-read, skip-read)
 
 -- a frame that is accepted is read, where none was
 pub frame-turn : (before : Before) (found : Found) (number : ℕ) (h : FrameHeader) (rest : List ℕ)
@@ -242,7 +216,7 @@ frame-kept array said final levels last scanned bytes f
     (frame-stays said s (is-other said f s e may) ∙ e)
 frame-kept array said final levels last scanned bytes f
     (scan said' final' levels' last' scanned' g fill h codings data_bytes more framed is legal written w) e =
-    frame-kept array said final _ last true more f w e
+    search (rules, frame-kept array said final _ last true more f w e)
 
 pub writes-starts : (array : Coefficients) (said final : Found) (levels last : ℕ → Levels) (scanned : Bool)
     (bytes : List ℕ) → Writes array said levels scanned bytes final last → Starts bytes
@@ -250,10 +224,10 @@ writes-starts array said final levels last scanned bytes (closed said' levels' f
     end-starts fill []
 writes-starts array said final levels last scanned bytes
     (segment said' final' levels' last' scanned' fill s more may dct follows w) =
-    segment-starts said.frame fill s more may.0
+    search (rules, segment-starts)
 writes-starts array said final levels last scanned bytes
     (scan said' final' levels' last' scanned' f fill h codings data_bytes more framed is legal written w) =
-    scan-starts fill (sized (scan_payload h) ++ (data_bytes ++ more))
+    search (rules, scan-starts)
 
 -- ---- the tables of a scan
 
@@ -270,15 +244,10 @@ pub record CodingFacts (w : Found) (frame : Frame) (k : Coding) : Type 0 where
   pub at : At k.place frame.components k.component
   pub table : slice_index_or w.quantization k.component.factors.quantization None ≡ Some k.quantization
 
-in-force-back : (b : Bool) (class : HuffmanTableClass) (tables : List (Option Table)) (place : ℕ) (table : Table)
-    → needed_if b class (slice_index_or tables place None) ≡ Ok table → InForce b class tables place table
-in-force-back true class tables place table e = needed-some (slice_index_or tables place None) table e
-in-force-back false class tables place table e = sym (ok-same _ table e)
-
 coding-back : (w : Found) (frame : Frame) (p : Pass) (tables : Tables) (place d a : ℕ) (k : Coding)
     → component_coding w frame p tables place d a ≡ Ok k → IsCoding w frame p tables place d a k
 unfolding component_coding
-coding-back w frame p tables place d a k e = search (rules, bind-ok, ok-same, needed-some, in-force-back)
+coding-back w frame p tables place d a k e = search (rules, bind-ok, ok-same, needed-some)
 
 pub codings-back : (w : Found) (frame : Frame) (p : Pass) (tables : Tables) (places ds ks : List ℕ)
     (codings : List Coding) → length ds ≡ length places → length ks ≡ length places
@@ -351,19 +320,12 @@ pub codings-read : (w : Found) (frame : Frame) (s : Scan) (codings : List Coding
     → codings_of w frame s ≡ Ok codings
 codings-read w frame s codings h = search (rules, codings-by, codings-read_from)
 
--- what scans have brought doesn't change them
-coding-same : (w : Found) (sc : Bool) (h : Arrays) (fi : List (List Bool)) (pl : List (Option (List ℕ)))
-    (frame : Frame) (p : Pass) (tables : Tables) (place d a : ℕ)
-    → component_coding (reading w sc h fi pl) frame p tables place d a ≡ component_coding w frame p tables place d a
-unfolding component_coding
-coding-same w sc h fi pl frame p tables place d a = refl
-
 pub codings-same_from : (w : Found) (sc : Bool) (h : Arrays) (fi : List (List Bool)) (pl : List (Option (List ℕ)))
     (frame : Frame) (p : Pass) (tables : Tables) (places ds ks : List ℕ)
     → codings_from (reading w sc h fi pl) frame p tables places ds ks ≡ codings_from w frame p tables places ds ks
-unfolding codings_from
+unfolding codings_from component_coding
 codings-same_from w sc h fi pl frame p tables (x ∷ places) (d ∷ ds) (a ∷ ks) =
-    rw (codings-same_from w sc h fi pl frame p tables places ds ks, coding-same w sc h fi pl frame p tables x d a) refl
+    search (rules, codings-same_from w sc h fi pl frame p tables places ds ks)
 codings-same_from w sc h fi pl frame p tables places ds ks = refl
 
 pub tables-same : (w : Found) (sc : Bool) (h : Arrays) (fi : List (List Bool)) (pl : List (Option (List ℕ))) (s : Scan)
@@ -376,11 +338,6 @@ pub codings-same : (w : Found) (sc : Bool) (h : Arrays) (fi : List (List Bool)) 
 codings-same w sc h fi pl frame s = search (rules, codings-by, tables-same, codings-same_from)
 
 -- ---- a scan
-
-blocks-by : (p : CodingProcess) → p ≢ Lossless → (found : Found) (frame : Frame) (s : Scan) (bytes : List ℕ)
-    → scan_by p found frame s bytes ≡ blocks_scan found frame s bytes
-blocks-by DctSequential h found frame s bytes = refl
-blocks-by p h found frame s bytes = search rules
 
 pub scan-by : (found : Found) (frame : Frame) (s : Scan) (codings : List Coding) (arrays : Arrays) (m : Marker)
     (bytes data_bytes more : List ℕ) → frame.process ≢ Lossless
@@ -398,4 +355,4 @@ pub scan-by : (found : Found) (frame : Frame) (s : Scan) (codings : List Coding)
       more,
     )
 unfolding scan_segment blocks_scan
-scan-by found frame s codings arrays m bytes data_bytes more n a b c d e = search (rules, then-ok, blocks-by)
+scan-by found frame s codings arrays m bytes data_bytes more n a b c d e = search (rules, then-ok)

@@ -1,8 +1,8 @@
 -- Refusals, and the turn that tells that known bytes are few.
-use Rattle.std.proofs.Common.{rules, ◌≡◌, ◌<◌, ℕ, zero, suc, List, Result, Err, Bool, true, Option, None, refl, subst}
+use Rattle.std.proofs.Common.{rules, ◌≡◌, ◌<◌, ℕ, zero, suc, List, Result, Err, true, Option, None, refl, subst}
 use Rattle.std.proofs.Common.{arith}
 use Rattle.jpeg_bits.specs.Stream.{Stream}
-use Rattle.jpeg_bits.specs.Reading.{Outcome, Fault, Malformed, Answers, Names, NamesFormat, MayFail, IsShort}
+use Rattle.jpeg_bits.specs.Reading.{Outcome, Fault, Malformed, Answers, Names, NamesFormat, IsShort}
 use Rattle.jpeg_bits.specs.declared.error.Error.{Error}
 use Rattle.jpeg_bits.specs.declared.error.Error.TheVariants as errors
 use Rattle.jpeg_bits.specs.declared.marker.Marker.{Marker}
@@ -24,14 +24,7 @@ pub told-err : {Y : Type 0} (e : Error) (outcome : Result Y Fault) (P : Type 0) 
 told-err (errors.Format text) outcome P n h = h Malformed n
 told-err e outcome P n h = search rules
 
-format_fails : (e : Error) (a b : Bool) → NamesFormat e → b ≡ a → MayFail e a b
-format_fails (errors.Format text) a b n h = h
-format_fails (errors.Unsupported feature) a b n h = absurd n
-format_fails (errors.Io x) a b n h = absurd n
-format_fails (errors.Internal text) a b n h = absurd n
-format_fails errors.OutOfMemory a b n h = h
-
 -- a refusal that known bytes never meet
 pub never-met : {X Y : Type 0} (view : X → Y) (read : List ℕ → Outcome Y) (old new : Stream) (e : Error) → NamesFormat e
     → new.failed ≡ old.failed → (old.known ≡ true → ⊥) → Answers view read old (Err e) new
-never-met view read old new e n f never = search (rules, format_fails)
+never-met view read old new e n f never = search rules

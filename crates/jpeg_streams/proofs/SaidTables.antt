@@ -1,12 +1,12 @@
 -- The Huffman tables in force exist, where segments have set them.
-use Rattle.std.proofs.Common.{rules, ◌≡◌, ℕ, zero, suc, List, [], ◌∷◌, set, get_or, fold, Option, Some, None, subst}
+use Rattle.std.proofs.Common.{rules, ◌≡◌, ℕ, suc, List, [], ◌∷◌, set, get_or, fold, Option, Some, None}
 use Rattle.std.specs.List.{AllByRecursion}
 use Rattle.std.specs.Prelude.{slice_index_or}
 use Rattle.jpeg_bits.specs.Codes.{Table, IsTable}
 use Rattle.jpeg_segments.specs.HuffmanTables.{Tables, PlacedTable, no_tables, with_table}
-use Rattle.jpeg_streams.specs.Segments.{with_huffman, updated}
+use Rattle.jpeg_streams.specs.Segments.{updated}
 use Rattle.jpeg_streams.specs.Found.{Found}
-use Rattle.jpeg_segments.specs.WrittenSegments.{Segment, Huffman, IsHuffmanTable, MayStand, huffman_tables}
+use Rattle.jpeg_segments.specs.WrittenSegments.{Segment, Huffman, IsHuffmanTable, MayStand}
 use Rattle.jpeg_streams.specs.SaidSegments.{found_after}
 
 abbrev pub IsTableOrNone : Option Table → Type 0
@@ -45,23 +45,11 @@ tables-all most tables (t ∷ ts) h all = tables-all most (with_table tables t) 
 pub no-tables : HasTables no_tables
 no-tables = record { dc = (tt, (tt, (tt, (tt, tt)))); ac = (tt, (tt, (tt, (tt, tt)))) }
 
--- the tables that a segment defines
-pub written-tables : (most : ℕ) (ts : List PlacedTable) → AllByRecursion (IsHuffmanTable most) ts
-    → HasTables (huffman_tables ts)
-written-tables most ts all = tables-all most no_tables ts no-tables all
-
-pub updated-tables : (old new : Tables) → HasTables old → HasTables new → HasTables (with_huffman old new)
-updated-tables old new h k = search (rules, updated-all)
-
 pub segment-tables : (found : Found) (s : Segment) → MayStand found.frame s → HasTables found.huffman
     → HasTables (found_after found s).huffman
-segment-tables found (Huffman ts) may h = search (rules, updated-tables, written-tables)
+segment-tables found (Huffman ts) may h = search (rules, updated-all, tables-all, no-tables)
 segment-tables found s may h = h
-
-some-table : (o : Option Table) (t : Table) → o ≡ Some t → IsTableOrNone o → IsTable t
-some-table None t e h = absurd (let n : ⊥ = cc in n)
-some-table (Some u) t e h = subst IsTable (let s : u ≡ t = cc in s) h
 
 pub table-there : (tables : List (Option Table)) (place : ℕ) (t : Table) → AllByRecursion IsTableOrNone tables
     → slice_index_or tables place None ≡ Some t → IsTable t
-table-there tables place t all e = search (rules, some-table, get-all)
+table-there tables place t all e = search (rules, get-all)

@@ -11,7 +11,7 @@ use Rattle.jpeg_segments.specs.ScanHeader.{Scan, place_of, blocks_by, scan_of}
 use Rattle.jpeg_segments.specs.ScanHeaders.{AreChoices, Choice, IsScan, ScanHeader, scan_payload, scan_written, selector_of}
 use Rattle.jpeg_segments.proofs.ScanLemmas.{position-map}
 use Rattle.jpeg_bits.specs.Passes.{Pass}
-use Rattle.jpeg_streams.specs.Order.{Spot, grid_of, own_spots, part_spots, mcu_spots, all_spots, spots_of, mcu_size}
+use Rattle.jpeg_streams.specs.Order.{Spot, grid_of, part_spots, mcu_spots, all_spots, spots_of, mcu_size}
 use Rattle.jpeg_segments.specs.HuffmanTables.{Tables}
 use Rattle.jpeg_streams.specs.Levels.{Levels, IsLegal, numbers_at}
 use Rattle.jpeg_streams.specs.Needed.{first_of}
@@ -22,7 +22,7 @@ use Rattle.jpeg_streams.specs.WrittenScans.{HasTable, IsLegalScan}
 use Rattle.jpeg_streams.specs.WrittenScans.AreCodings.{no_more, and_more}
 use Rattle.jpeg_streams.specs.WrittenImages.{Writes, closed, segment, scan}
 use Rattle.jpeg_streams.specs.SaidSegments.{Stands, found_after}
-use Rattle.jpeg_segments.specs.WrittenSegments.{sized, Segment, Quantization, Huffman, Header}
+use Rattle.jpeg_segments.specs.WrittenSegments.{sized, Segment}
 use Rattle.jpeg_bits.specs.Written.{marker}
 use Rattle.jpeg_streams.proofs.FrameShapes.{below-ceiling}
 use Rattle.jpeg_streams.proofs.ReadTurns.{frame-stays, is-other, same-frame, some-none}
@@ -64,21 +64,16 @@ pub record Alike (c d : Component) : Type 0 where
 pub grid-same : (c d : Component) → Alike c d → grid_of d ≡ grid_of c
 grid-same c d h = rw (h.own_wide, h.own_high, h.wide, h.high) refl
 
-part-same : (row column slot : ℕ) (c d : Component) → Alike c d
-    → part_spots row column slot d ≡ part_spots row column slot c
-unfolding part_spots
-part-same row column slot c d h = rw (h.factors, h.wide) refl
-
 pub data Alikes : List Component → List Component → Type 0 where
   none : Alikes [] []
   one_more : (c d : Component) (cs ds : List Component) → Alike c d → Alikes cs ds → Alikes (c ∷ cs) (d ∷ ds)
 
 mcu-same : (row column slot : ℕ) (cs ds : List Component) → Alikes cs ds
     → mcu_spots row column slot ds ≡ mcu_spots row column slot cs
-unfolding mcu_spots
+unfolding mcu_spots part_spots
 mcu-same row column slot cs ds none = refl
 mcu-same row column slot cs ds (one_more c d cs' ds' h more) =
-    ap₂ (λ (x y : List Spot). x ++ y) (part-same row column slot c d h) (mcu-same row column (slot + 1) cs' ds' more)
+    search (rules, mcu-same row column (slot + 1) cs' ds' more)
 
 flat-same : {B : Type 0} (f g : ℕ → List B) → ((k : ℕ) → f k ≡ g k) → (xs : List ℕ) → flat_map f xs ≡ flat_map g xs
 flat-same f g h [] = refl
@@ -97,15 +92,6 @@ pub record SameFrame (f g : Frame) : Type 0 where
   pub precision : g.precision ≡ f.precision
   pub mcus_wide : g.mcus_wide ≡ f.mcus_wide
   pub mcus_high : g.mcus_high ≡ f.mcus_high
-
-pub spots-same : (f g : Frame) (cs ds : List Component) → SameFrame f g → Alikes cs ds → spots_of g ds ≡ spots_of f cs
-unfolding spots_of
-spots-same f g cs ds same none = refl
-spots-same f g cs ds same (one_more c d cs' ds' h none) = ap own_spots (grid-same c d h)
-spots-same f g cs ds same (one_more c d cs' ds' h (one_more c' d' cs'' ds'' h' more)) =
-    ap₂ (λ (a b : ℕ). all_spots a b (d ∷ d' ∷ ds'')) same.mcus_wide same.mcus_high
-    ∙ all-same_spots f.mcus_wide f.mcus_high (c ∷ c' ∷ cs'') (d ∷ d' ∷ ds'')
-    (one_more c d (c' ∷ cs'') (d' ∷ ds'') h (one_more c' d' cs'' ds'' h' more))
 
 -- the factors are the same, so whatever is told by them
 factors-same : {B : Type 0} (t : Factors → B) (cs ds : List Component) → Alikes cs ds
@@ -246,6 +232,7 @@ grids-alike cs ds (one_more c d cs' ds' h more) = rw (grid-same c d h, grids-ali
 
 scan-alike : (f g : Frame) (n : ℕ) (p : Pass) (ks ls : List Coding) (array : Coefficients) (bytes : List ℕ)
     → SameFrame f g → CodingsAlike ks ls → WritesScan f n p ks array bytes → WritesScan g n p ls array bytes
+unfolding spots_of
 scan-alike f g n p ks ls array bytes same h w =
     let cs = components-alike ks ls h in
     let grids = grids-alike (components_of ks) (components_of ls) cs in
@@ -253,7 +240,7 @@ scan-alike f g n p ks ls array bytes same h w =
     let u = λ (s : Spot). numbers_at p.al (w.sent s) in
     let turns : written_turns (vias_from 0 ls) (spots_of g (components_of ls)) u
     ≡ written_turns (vias_from 0 ks) (spots_of f (components_of ks)) u
-    = search (rules, vias-alike, spots-same) in
+    = grind (arith, common_steps, vias-alike, grid-same, all-same_spots) in
     let size : n * mcu_size (components_of ls) ≡ n * mcu_size (components_of ks) =
     ap (λ (x : ℕ). n * x) (mcu-size_same (components_of ks) (components_of ls) cs) in
     grind arith
@@ -265,10 +252,7 @@ legal-alike p levels ks ls (one_more k l ks' ls' a more) h = search (rules, lega
 
 segment-alike : (w : Found) (s : Segment) (f g : Frame) → SameFrame f g → w.frame ≡ Some f → Stands w s
     → Stands (at_frame w g) s × (found_after (at_frame w g) s ≡ at_frame (found_after w s) g)
-segment-alike w (Quantization ts) f g same e may = (may, refl)
-segment-alike w (Huffman ts) f g same e may = grind (arith, common_steps)
-segment-alike w (Header number h) f g same e may = some-none f w.frame e may.0.0
-segment-alike w s f g same e may = (may, refl)
+segment-alike w s f g same e may = search (rules, some-none)
 
 tables-there : (w : Found) (g : Frame) (cs ds : List Component) → Alikes cs ds → AllByRecursion (HasTable w) cs
     → AllByRecursion (HasTable (at_frame w g)) ds
@@ -316,9 +300,7 @@ scans-alike array f g w final levels last sc bytes same e
     (frame-stays w s (is-other w f s e may) ∙ e) r))
 scans-alike array f g w final levels last sc bytes same e
     (scan w' final' levels' last' sc' frame fill h codings payload more framed is l x r) =
-    let is_same = subst (λ (y : Frame). SameFrame y g) (same-frame f frame w.frame e framed) same in
-    scan-other array frame g w final levels last sc fill h codings payload more is_same is l x
-    (scans-alike array f g w final _ last true more same e r)
+    search (rules, same-frame, scan-other, scans-alike array f g w final _ last true more same e r)
 scans-alike array f g w final levels last sc bytes same e (closed w' levels' frame fill framed t c) =
     let is_same = subst (λ (y : Frame). SameFrame y g) (same-frame f frame w.frame e framed) same in
     closed (at_frame w g) levels g fill refl (tables-there w g frame.components g.components is_same.components t)

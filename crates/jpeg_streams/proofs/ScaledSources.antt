@@ -1,32 +1,22 @@
 -- A frame with a way to upsample each component has one at each scale.
-use Rattle.std.proofs.Common.{rules, ◌≡◌, inl, inr, ℕ, ◌*◌, ◌<◌, ◌≤◌, List, [], ◌∷◌, map, Ok, sym, subst, arith}
+use Rattle.std.proofs.Common.{rules, ◌≡◌, ℕ, ◌*◌, ◌<◌, ◌≤◌, List, [], ◌∷◌, map, Ok, sym, subst, arith}
 use Rattle.std.specs.List.{AllByRecursion}
 use Rattle.jpeg_segments.specs.Frame.{Factors, Frame, ceiling}
 use Rattle.jpeg_segments.specs.Scales.{frame_at}
 use Rattle.jpeg_pixels.specs.Pictures.{Source, sources_by, sources_of}
 use Rattle.jpeg_pixels.proofs.RuleRatios.{some-ceiling}
-use Rattle.jpeg_streams.specs.SaidSegments.{IsNear}
 use Rattle.jpeg_streams.proofs.FrameShapes.{Plain, made-at, plain-size, ceiling-covers, ceiling-least}
 use Rattle.jpeg_streams.proofs.ScaledSizes.{scaled_component, most_h, most_v, is-sized, factors-scaled}
 use Rattle.jpeg_streams.proofs.UpsampledFactors.{Upsampled, sources-back, sources-some}
 
 -- ---- components
 
-near-kept : (n m s t : ℕ) → (s ≡ 1 → t ≡ 1) → IsNear n m s → IsNear n m t
-near-kept n m s t f (inl e) = inl e
-near-kept n m s t f k = search rules
-
-upsampled-kept : (mh mv a b a' b' : ℕ) (x : Factors) → (a ≡ 1 → a' ≡ 1) → (b ≡ 1 → b' ≡ 1) → Upsampled mh mv a b x
-    → Upsampled mh mv a' b' x
-upsampled-kept mh mv a b a' b' x f g (inl near) = search (rules, near-kept)
-upsampled-kept mh mv a b a' b' x f g (inr whole) = inr whole
-
 all-kept : (s width height mh mv a b a' b' : ℕ) (xs : List Factors) → (a ≡ 1 → a' ≡ 1) → (b ≡ 1 → b' ≡ 1)
     → AllByRecursion (λ c. Upsampled mh mv a b c.factors) (map (scaled_component 8 width height mh mv) xs)
     → AllByRecursion (λ c. Upsampled mh mv a' b' c.factors) (map (scaled_component s width height mh mv) xs)
 all-kept s width height mh mv a b a' b' [] f g h = tt
 all-kept s width height mh mv a b a' b' (x ∷ xs) f g h =
-    (upsampled-kept mh mv a b a' b' x f g h.0, all-kept s width height mh mv a b a' b' xs f g h.1)
+    search (rules, all-kept s width height mh mv a b a' b' xs f g h.1)
 
 -- sources for one size are there for another that is 1 where the first is
 sources-there : (s width height mh mv a b a' b' : ℕ) (xs : List Factors) (sources : List Source)

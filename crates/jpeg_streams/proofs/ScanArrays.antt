@@ -1,5 +1,5 @@
 -- The blocks of a scan's components, before it and after it.
-use Rattle.std.proofs.Common.{rules, arith, ◌≡◌, ℕ, zero, suc, ◌*◌, false, List, [], ◌∷◌, map, drop, length, set}
+use Rattle.std.proofs.Common.{rules, arith, ◌≡◌, ℕ, suc, ◌*◌, false, List, [], ◌∷◌, map, drop, length, set}
 use Rattle.std.proofs.Common.{get_or, Option, Some, Result, Ok, Err, refl, ◌∙◌}
 use Rattle.std.proofs.lemmas.Grind.{common_steps}
 use Rattle.std.specs.Prelude.{◌&&◌, if◌then◌else◌}
@@ -41,16 +41,11 @@ abbrev pub OneOf : Frame → Result Coding Fault → Type 0
 OneOf frame (Ok c) = IsOf frame c
 OneOf frame (Err e) = Unit {0}
 
-coding-of : (found : Found) (frame : Frame) (p : Pass) (tables : Tables) (place d a : ℕ)
-    → OneOf frame (component_coding found frame p tables place d a)
-unfolding component_coding
-coding-of found frame p tables place d a = search (rules, first-at)
-
 codings-from : (found : Found) (frame : Frame) (p : Pass) (tables : Tables) (places dcs acs : List ℕ)
     → AllOf frame (codings_from found frame p tables places dcs acs)
-unfolding codings_from
+unfolding codings_from component_coding
 codings-from found frame p tables (place ∷ places) (d ∷ dcs) (a ∷ acs) =
-    search (rules, coding-of, codings-from found frame p tables places dcs acs)
+    search (rules, first-at, codings-from found frame p tables places dcs acs)
 codings-from found frame p tables places dcs acs = tt
 
 pub codings-are-of : (found : Found) (frame : Frame) (scan : Scan) → AllOf frame (codings_of found frame scan)

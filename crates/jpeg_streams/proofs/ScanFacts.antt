@@ -1,5 +1,5 @@
 -- What a scan header that is written says.
-use Rattle.std.proofs.Common.{rules, ◌≡◌, ◌≢◌, ℕ, ◌+◌, ◌/◌, ◌%◌, ◌<◌, ◌≤◌, true, List, [], ◌∷◌, map, length, arith}
+use Rattle.std.proofs.Common.{rules, ◌≡◌, ◌≢◌, ℕ, ◌+◌, ◌/◌, ◌%◌, ◌<◌, true, List, [], ◌∷◌, map, length, arith}
 use Rattle.std.proofs.lemmas.Grind.{common_steps}
 use Rattle.std.proofs.lemmas.Bool.{eqb-true, leb-true}
 use lib.ListN.{length-map}
@@ -36,13 +36,7 @@ scan-is : (f : Frame) (sel : List Selector) (first last levels : ℕ) → f.proc
 unfolding scan_of pass_of
 scan-is f sel first last levels n b = grind (arith, common_steps, eqb-true, progressive-pass, leb-true)
 
-scan-facts : (f : Frame) (sel : List Selector) (first last levels : ℕ) → 1 ≤ length sel
-    → AreApart (map (λ x. x.component) sel) → PassSo f (scan_of f sel first last levels)
-    → ScanFacts f (scan_of f sel first last levels)
-unfolding scan_of
-scan-facts f sel first last levels h apart so = grind (arith, common_steps)
-
 -- What a scan header that is written says.
 pub header-facts : (f : Frame) (h : ScanHeader) → IsScan f h → f.process ≢ Lossless → ScanFacts f (scan_written f h)
-unfolding places_of
-header-facts f h is n = search (rules, length-map, nibbles-high, nibbles-low, scan-facts, all-apart, scan-is)
+unfolding places_of scan_of
+header-facts f h is n = search (rules, length-map, nibbles-high, nibbles-low, all-apart, scan-is)

@@ -44,10 +44,6 @@ token_at-stays limit room size r s = elim-stays limit (nat_lt 0 s) _ _
     (grind (arith, common_steps, elim-stays, bind-stays, signed-stays, gives-stays))
     (search (rules, elim-stays, gives-stays, bind-stays, bits-stays))
 
-token_from-stays : (limit : ℕ) (table : Table) (room : ℕ) → StaysBelow limit (token_from table room)
-unfolding token_from
-token_from-stays limit table room = search (rules, bind-stays, code-stays, token_at-stays)
-
 after-stays : (limit al : ℕ) (others : List ℤ → Reads Band) (rest : List ℤ)
     → ((rest : List ℤ) → StaysBelow limit (others rest)) → (token : Token)
     → StaysBelow limit (after_token al others rest token)
@@ -55,9 +51,9 @@ after-stays limit al others rest h (Value r v) = search (rules, bind-stays, give
 after-stays limit al others rest h n = search (rules, bind-stays, gives-stays)
 
 first_ac-stays : (limit : ℕ) (table : Table) (al n : ℕ) (rest : List ℤ) → StaysBelow limit (first_ac table al n rest)
-unfolding first_ac
+unfolding first_ac token_from
 first_ac-stays limit table al (suc n) (x ∷ rest) =
-    search (rules, bind-stays, token_from-stays, after-stays, first_ac-stays limit table al n)
+    search (rules, bind-stays, code-stays, token_at-stays, after-stays, first_ac-stays limit table al n)
 first_ac-stays limit table al n rest = search (rules, gives-stays, refused-stays)
 
 dc-stays : (limit : ℕ) (p : Pass) (dc : Table) (z predictor : ℤ) → StaysBelow limit (dc_part p dc z predictor)

@@ -69,15 +69,11 @@ sof-below limit number bytes h =
 
 -- ---- quantization tables
 
-value-below : (limit : ℕ) (is_wide : Bool) (bytes : List ℕ) → length bytes < limit
-    → LeavesBelow limit (value_at is_wide bytes)
-unfolding value_at
-value-below limit is_wide bytes h = search (rules, below-cond, u16-below, byte-below)
-
 table-below : (limit : ℕ) (is_wide : Bool) (bytes : List ℕ) → length bytes < limit
     → LeavesBelow limit (table_at is_wide bytes)
-unfolding table_at
-table-below limit is_wide bytes h = search (rules, below-bind, times-below, value-below, below-else, below-ok)
+unfolding table_at value_at
+table-below limit is_wide bytes h =
+    search (rules, below-bind, times-below, below-cond, u16-below, byte-below, below-else, below-ok)
 
 placed-below : (limit left : ℕ) (bytes : List ℕ) → length bytes < limit → LeavesBelow limit (placed_table_at left bytes)
 unfolding placed_table_at
@@ -208,11 +204,6 @@ adobe-below limit left bytes h =
     below-bind limit limit (times 12 next_byte bytes) _ (times-below limit 12 next_byte bytes
     (λ bs l. byte-below limit bs (omega arith)) h) (search (rules, below-cond, transform-below, passed-below))
 
-application_14-below : (limit left : ℕ) (bytes : List ℕ) → length bytes < limit
-    → LeavesBelow limit (application_14 left bytes)
-unfolding application_14
-application_14-below limit left bytes h = search (rules, below-cond, passed-below, adobe-below)
-
 payload-below : (limit number left : ℕ) (bytes : List ℕ) → length bytes < limit
     → LeavesBelow limit (payload_at number left bytes)
 unfolding payload_at
@@ -222,9 +213,9 @@ payload-below limit number left bytes h =
     below-ok limit _ payload.1 p)
 
 pub app-below : (limit number : ℕ) (bytes : List ℕ) → length bytes ≤ limit → LeavesBelow limit (app_at number bytes)
-unfolding app_at
+unfolding app_at application_14
 app-below limit number bytes h =
-    search (rules, below-bind, length-below, below-cond, application_14-below, payload-below)
+    search (rules, below-bind, length-below, below-cond, passed-below, adobe-below, payload-below)
 
 pub dri-below : (limit : ℕ) (bytes : List ℕ) → length bytes ≤ limit → LeavesBelow limit (dri_at bytes)
 unfolding dri_at

@@ -17,7 +17,7 @@ use Rattle.jpeg_streams.specs.Levels.{Levels, Is8Bit, nothing_sent}
 use Rattle.jpeg_streams.specs.WrittenScans.{Coefficients}
 use Rattle.jpeg_streams.specs.WrittenImages.{WritesImage}
 use Rattle.jpeg_streams.specs.ArrayPictures.{meaning_of_array, picture_of_array, Takes}
-use Rattle.jpeg_streams.proofs.OwnSpots.{At, Fits}
+use Rattle.jpeg_streams.proofs.OwnSpots.{At}
 use Rattle.jpeg_streams.proofs.ReadStates.{reading}
 use Rattle.jpeg_streams.proofs.ReadTurns.{frame-kept, stands-here, then-ok}
 use Rattle.jpeg_streams.proofs.BroughtLevels.{Shaped, framed-start}
@@ -40,10 +40,7 @@ scaled-alike : (s width height h v : ℕ) (xs : List Factors) → 0 < s → 0 < 
     → Alikes (map (scaled_component 8 width height h v) xs) (map (scaled_component s width height h v) xs)
 scaled-alike s width height h v [] a b c = none
 scaled-alike s width height h v (x ∷ xs) a b c =
-    one_more (scaled_component 8 width height h v x) (scaled_component s width height h v x)
-    (map (scaled_component 8 width height h v) xs) (map (scaled_component s width height h v) xs)
-    (search (rules, own-same))
-    (scaled-alike s width height h v xs a b c)
+    search (rules, one_more, own-same, scaled-alike s width height h v xs a b c)
 
 components-alike : (f : Frame) (s : ℕ) → Plain f → 0 < s → Alikes f.components (frame_at s f).components
 components-alike f s o h =
@@ -65,13 +62,10 @@ at-alike k cs ds d none t = absurd t
 at-alike zero cs ds d (one_more x y cs' ds' h more) t = (x, refl, subst (Alike x) t h)
 at-alike (suc k) cs ds d (one_more x y cs' ds' h more) t = at-alike k cs' ds' d more t
 
-fits-alike : (f g : Frame) (c d : Component) → SameFrame f g → Alike c d → Fits f c → Fits g d
-fits-alike f g c d same a fit = search rules
-
 pub shaped-at : (f : Frame) (s : ℕ) → Plain f → 0 < s → Shaped f → Shaped (frame_at s f)
 shaped-at f s o h shape =
     let same = same-frame f s o h in
-    grind (arith, common_steps, length-same, at-alike, fits-alike)
+    grind (arith, common_steps, length-same, at-alike)
 
 -- the scale that is asked for
 pub sized-is : (width height : ℕ) (f : Frame) → f.process ≢ Lossless
@@ -149,10 +143,10 @@ read-at width height array tail bytes final last range w =
       sized_is = ap (λ (o : Option Frame). record final { frame = option_map (sized width height) o }) kept;
       sources_are = subst (λ (x : Frame). sources_of x.components x.output_width x.output_height ≡ Ok there.0)
           (sym size.2) there.1;
-      read = read-to g array tail (at_frame final g) last _ _
+      read = read-to array tail (at_frame final g) last g _ _
           (ap (λ (x : Found). segments_at false Elsewhere x None left) now
           ∙ rest-within (unread (at_frame h.said g)) left)
-          (reads-scans array g tail (at_frame h.said g) (at_frame final g) (λ k. nothing_sent) last false h.more []
+          (reads-scans array tail (at_frame final g) last g (at_frame h.said g) (λ k. nothing_sent) false h.more []
           nothing_finished no_planes (suc (length left)) Elsewhere None left range shape h.good refl (λ e k. refl)
           (framed-start (at_frame h.said g) g array [] nothing_finished no_planes range refl refl)
           (scans-alike array f g h.said final (λ k. nothing_sent) last false h.more same h.framed h.written)

@@ -49,12 +49,9 @@ scale-bounds s h = search (rules, eqb-true)
 pub decoded-sized : (f : Frame) → IsDecodedFrame f → IsSizedFrame f
 decoded-sized f p = record { full = p.full; scale = p.scale; is_read = p.is_read; is_scale = p.is_scale; made = p.made }
 
-count-kept : (s : ℕ) (f : Frame) → length (frame_at s f).components ≡ length f.components
-unfolding frame_at
-count-kept s f = length-map f.components _
-
 pub decoded-count : (f : Frame) → IsDecodedFrame f → is_decoded_count (length f.components) ≡ true
-decoded-count f p = search (rules, count-kept, accepted-facts)
+unfolding frame_at
+decoded-count f p = search (rules, length-map, accepted-facts)
 
 pub decoded-fits : (f : Frame) → IsDecodedFrame f → AllByRecursion (Fits f) f.components
 decoded-fits f p = search (rules, scale-bounds, scaled-frames-fit, recursion_from_All)
@@ -138,12 +135,9 @@ sound-framed found f p e q a = search (rules, sound-frame, decoded-read)
 
 -- ---- the start of a stream
 
-sound-start : IsSound nothing_found
-unfolding nothing_found
-sound-start = search rules
-
 pub sound-nothing : (found : Found) → found ≡ nothing_found → IsSound found
-sound-nothing found e = subst IsSound (sym e) sound-start
+unfolding nothing_found
+sound-nothing found e = search rules
 
 pub nothing-framed : (found : Found) → found ≡ nothing_found → found.frame ≡ None
 nothing-framed found e = ap (λ (f : Found). f.frame) e ∙ no-frame-yet

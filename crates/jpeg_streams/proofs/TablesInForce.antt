@@ -1,9 +1,9 @@
 -- The tables in force exist.
-use Rattle.std.proofs.Common.{rules, ℕ, Bool, true, false, List, [], ◌∷◌, Option, None, refl, sym, subst, arith}
+use Rattle.std.proofs.Common.{rules, ℕ, Bool, true, false, List, [], Option, refl, sym, subst, arith}
 use Rattle.std.specs.List.{AllByRecursion}
 use Rattle.jpeg_bits.specs.Codes.{Table, IsTable}
 use Rattle.jpeg_bits.specs.declared.codes.HuffmanTableClass.{HuffmanTableClass}
-use Rattle.jpeg_bits.specs.DefaultTables.{with_defaults, filled}
+use Rattle.jpeg_bits.specs.DefaultTables.{with_defaults}
 use Rattle.jpeg_bits.proofs.DefaultTables.{luminance-dc-codes, chrominance-dc-codes, luminance-ac-codes}
 use Rattle.jpeg_bits.proofs.DefaultTables.{chrominance-ac-codes}
 use Rattle.jpeg_segments.specs.Frame.{Frame}
@@ -22,15 +22,10 @@ pub tables-start : HasTables nothing_found.huffman
 unfolding nothing_found
 tables-start = no-tables
 
-good-filled : (default : Table) (b : Bool) (o : Option Table) → IsTable default → IsTableOrNone o
-    → IsTableOrNone (filled default b o)
-good-filled default true None h k = h
-good-filled default b o h k = search rules
-
 good-defaults : (one two : Table) (places : List ℕ) (l : List (Option Table)) → IsTable one → IsTable two
     → AllByRecursion IsTableOrNone l → AllByRecursion IsTableOrNone (with_defaults one two places l)
 good-defaults one two places [] a b h = tt
-good-defaults one two places l a b h = search (rules, good-filled)
+good-defaults one two places l a b h = search rules
 
 in-force : (w : Found) (s : Scan) → HasTables w.huffman → HasTables (tables_of w s)
 unfolding tables_of

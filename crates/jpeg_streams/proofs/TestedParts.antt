@@ -134,12 +134,9 @@ some-is : (o : Option ℕ) → is_some o ≡ true → o ≢ None
 some-is None e f = absurd (true≢false (sym e))
 some-is (Some a) e f = cc
 
-dc-at : (first : Bool) (al : ℕ) (l : Option ℕ) (a b c : Bool) → dc_legal a first al l ≡ true → a ≡ b → first ≡ c
-    → dc_legal b c al l ≡ true
-dc-at first al l a b c h e f = search rules
-
 pub legal-by : (p : Pass) (l : Levels) → is_legal p l ≡ true → IsLegal p l
-legal-by p l e = search (rules, and_parts, dc-at, leb-true, none-is, eq-eqb, at-is, some-is, ne_eqb, all-by)
+legal-by p l e =
+    search (rules, and_parts, leb-true, none-is, eq-eqb, at-is, some-is, ne_eqb, all-by)
 
 -- a scan whose codings are found
 pub scan-legal : (w : Found) (frame : Frame) (levels : ℕ → Levels) (h : ScanHeader) (codings : List Coding)

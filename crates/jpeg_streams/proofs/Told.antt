@@ -3,7 +3,7 @@ use Rattle.std.proofs.Common.{rules, ◌≡◌, ℕ, List, Bool, true, Result, O
 use Rattle.jpeg_bits.specs.Stream.{Stream}
 use Rattle.jpeg_bits.specs.declared.error.Error.{Error}
 use Rattle.jpeg_bits.specs.declared.error.Error.TheVariants as errors
-use Rattle.jpeg_streams.specs.States.{IfRefused, OnTold}
+use Rattle.jpeg_streams.specs.States.{OnTold}
 use Rattle.jpeg_bits.specs.Reading.{Fault}
 use Rattle.jpeg_streams.specs.Stream.{told_of, start_at}
 use Rattle.jpeg_streams.specs.Reported.{told_by_stream, told_rest, told_within, told_by_turns, told_in_turns}
@@ -19,15 +19,11 @@ pub told-start : (header : Bool) (bytes rest : List ℕ) → start_at bytes ≡ 
 unfolding told_by_stream
 told-start header bytes rest h = rw (h, told_by_stream) refl
 
-refused-through : (e : Error) (P Q : Type 0) → (P → Q) → IfRefused e P → IfRefused e Q
-refused-through (errors.Format text) P Q f h = f h
-refused-through e P Q f h = search rules
-
 -- what a part of a call left
 pub told-through : {X : Type 0} (old mid new : Stream) (r : Result X Error) (P Q : Type 0)
     → (old.known ≡ true → (mid.known ≡ true) × (P → Q)) → OnTold mid new r P → OnTold old new r Q
 told-through old mid new (Ok x) P Q f h = λ k. let a = f k in a.1 (h a.0)
-told-through old mid new (Err e) P Q f h = λ k known. let a = f k in refused-through e P Q a.1 (h a.0 known)
+told-through old mid new (Err e) P Q f h = search rules
 
 -- ---- this many turns
 

@@ -1,5 +1,5 @@
 -- Tables by their places.
-use Rattle.std.proofs.Common.{rules, ◌≡◌, ◌<◌, ℕ, zero, suc, List, [], ◌∷◌, Option, Some, None, true, refl}
+use Rattle.std.proofs.Common.{rules, ◌≡◌, ◌<◌, ℕ, suc, List, ◌∷◌, Option, Some, None, true, refl}
 use Rattle.std.proofs.Common.{ap, length, get_or, arith}
 use Rattle.std.proofs.Math.ListN.{set}
 use Rattle.std.proofs.lemmas.List.{get_or_default}

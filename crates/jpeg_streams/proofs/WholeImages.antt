@@ -88,7 +88,7 @@ levels-sized : (array : Coefficients) (said final : Found) (levels last : ℕ �
 levels-sized array said final levels last scanned bytes (closed said' levels' f fill framed tables complete) h = h
 levels-sized array said final levels last scanned bytes
     (segment said' final' levels' last' scanned' fill s more may dct follows w) h =
-    levels-sized array _ final levels last scanned more w h
+    search (rules, levels-sized array _ final levels last scanned more w h)
 levels-sized array said final levels last scanned bytes
     (scan said' final' levels' last' scanned' f fill header ks data_bytes more framed is legal written w) h =
     levels-sized array said final _ last true more w (after-length _ _ levels h)
@@ -101,10 +101,10 @@ sequential-complete array said final levels last scanned bytes frame
     (closed said' levels' f fill framed tables complete) e n = search (rules, same-frame)
 sequential-complete array said final levels last scanned bytes frame
     (segment said' final' levels' last' scanned' fill s more may dct follows w) e n =
-    sequential-complete array _ final levels last scanned more frame w e n
+    search (rules, sequential-complete array _ final levels last scanned more frame w e n)
 sequential-complete array said final levels last scanned bytes frame
     (scan said' final' levels' last' scanned' f fill header ks data_bytes more framed is legal written w) e n =
-    sequential-complete array said final _ last true more frame w e n
+    search (rules, sequential-complete array said final _ last true more frame w e n)
 
 pub whole-is : (settings : Settings) (array : Coefficients) (bytes tail : List ℕ) (final : Found) (last : ℕ → Levels)
     (frame : Frame) → ((place row column : ℕ) → Is8Bit (array place row column))

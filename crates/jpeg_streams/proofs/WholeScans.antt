@@ -1,6 +1,6 @@
 -- A scan is its blocks one after the other, interval by interval.
-use Rattle.std.proofs.Common.{rules, ◌≡◌, ℕ, zero, suc, ◌≤◌, List, [], ◌∷◌, ◌++◌, take, drop, length, refl, ap}
-use Rattle.std.proofs.Common.{◌∙◌, append-nil, arith, length-drop, take-append-drop}
+use Rattle.std.proofs.Common.{rules, ◌≡◌, ℕ, zero, suc, ◌≤◌, List, ◌∷◌, ◌++◌, drop, length}
+use Rattle.std.proofs.Common.{append-nil, length-drop, take-append-drop}
 use Rattle.jpeg_bits.specs.Passes.{Pass, Via}
 use Rattle.jpeg_bits.specs.Intervals.{groups, first_group, other_groups}
 use Rattle.jpeg_streams.specs.Order.{Spot}
@@ -11,9 +11,8 @@ use Rattle.jpeg_streams.proofs.WrittenIntervals.{first-map, others-map}
 
 groups-whole : (turns n : ℕ) (xs : List Spot) → length xs ≤ turns → all_of (groups turns (suc n) xs) ≡ xs
 unfolding groups
-groups-whole (suc turns) n (x ∷ xs) h = ap (λ (l : List Spot). take (suc n) (x ∷ xs) ++ l)
-    (groups-whole turns n (drop (suc n) (x ∷ xs)) (let d = length-drop (suc n) (x ∷ xs) in omega arith))
-    ∙ take-append-drop (suc n) (x ∷ xs)
+groups-whole (suc turns) n (x ∷ xs) h =
+    search (rules, length-drop, take-append-drop, groups-whole turns n (drop (suc n) (x ∷ xs)))
 groups-whole turns n xs h = search rules
 
 -- the groups are the list

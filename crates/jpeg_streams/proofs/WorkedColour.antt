@@ -1,5 +1,5 @@
 -- A sequential stream of three components, with padding and a restart, worked by hand, is one that is written.
-use Rattle.std.proofs.Common.{rules, ◌≡◌, ℕ, zero, suc, ◌*◌, ◌+◌, ◌%◌, ◌<◌, Bool, true, false, List, [], ◌∷◌, ◌++◌}
+use Rattle.std.proofs.Common.{rules, ◌≡◌, ℕ, zero, suc, ◌*◌, ◌+◌, Bool, true, false, List, [], ◌∷◌, ◌++◌}
 use Rattle.std.proofs.Common.{replicate, ℤ, pos, negsuc, ◌-ℤ◌, Some, refl, sym, arith, true≢false}
 use Rattle.std.specs.Prelude.{get_or, set}
 use Rattle.jpeg_bits.specs.Codes.{Table, lengths_from, code_value, codes_exist}
@@ -22,7 +22,7 @@ use Rattle.jpeg_streams.specs.ScanSegments.{Coding, codings_of, codings_from, co
 use Rattle.jpeg_streams.specs.ScanSegments.{tables_of, vias_from}
 use Rattle.jpeg_streams.specs.Segments.{accepted, updated}
 use Rattle.jpeg_streams.specs.Found.{nothing_found, Found}
-use Rattle.jpeg_streams.specs.WorkedImages.{IsWhollyWritten, flat_block, colour_array, colour_blocks, colour_bytes}
+use Rattle.jpeg_streams.specs.WorkedImages.{IsWhollyWritten, flat_block, colour_array, colour_bytes}
 use Rattle.jpeg_streams.specs.WrittenData.{WritesAc, WritesBlocks, WritesInterval, bits_for}
 use Rattle.jpeg_streams.specs.WrittenData.WritesAc.{first}
 use Rattle.jpeg_streams.specs.WrittenData.WritesBand.{ended}
@@ -86,15 +86,10 @@ sent_at slot index = block_for codings colour_array (record { slot = slot; index
 own-sent : (slot index : ℕ) → IsOwn (grid_at (components_of codings) slot) index
     → sent_at slot index ≡ block_for codings colour_array (record { slot = slot; index = index })
 unfolding sent_at component_of
-own-sent zero (suc (suc (suc zero))) own = absurd (let h : 3 % 4 < 3 = own.column in omega arith)
-own-sent slot index own = refl
-
-colour-range : (place row column : ℕ) → Is8Bit (colour_array place row column)
-colour-range zero row column = range-in (get_or colour_blocks 0 []) refl column
-colour-range place row column = search (rules, range-in)
+own-sent slot index own = search rules
 
 for-range : (s : Spot) → Is8Bit (block_for codings colour_array s)
-for-range s = search (rules, colour-range)
+for-range s = search (rules, range-in)
 
 sent-range : (slot index : ℕ) → Is8Bit (sent_at slot index)
 unfolding sent_at

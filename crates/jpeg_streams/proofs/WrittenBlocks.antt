@@ -78,10 +78,6 @@ neg-sum x y z e = omega (arith, ints)
 or-even : (al b : ℕ) (z w : ℤ) → bit_of al z ≡ 0 → z +ℤ pos (b * 2 ^ al) ≡ w → or_bit al z b ≡ w
 or-even al b z w bit e = rw (eq-eqb (bit_of al z) 0 bit, or_bit) e
 
-some-more : (x : ℕ) → 0 < x → (k : ℕ) × (x ≡ suc k)
-some-more zero h = absurd (omega arith)
-some-more (suc k) h = (k, refl)
-
 pub dc-refined : (al : ℕ) (u : ℤ) → or_bit al (dc_held al u) (low_bit u) ≡ scaled al u
 dc-refined al (pos n) = search (rules, or-even, even-bit, times-two_power, spread)
 dc-refined al (negsuc n) = grind (
@@ -89,7 +85,6 @@ dc-refined al (negsuc n) = grind (
   common_steps,
   pow_pos,
   mul-le-mul,
-  some-more,
   neg_ℤ,
   even-bit_neg,
   times-two_power,

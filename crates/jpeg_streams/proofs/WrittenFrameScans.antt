@@ -11,7 +11,7 @@ use Rattle.jpeg_bits.specs.declared.marker.Marker.{Marker}
 use Rattle.jpeg_bits.proofs.Tables.{IsGood}
 use Rattle.jpeg_segments.specs.Frame.{Frame, Component}
 use Rattle.jpeg_streams.specs.declared.grids.Grid.{Grid}
-use Rattle.jpeg_bits.specs.Passes.{Pass, Via, Block, whole_pass, zero_block, band_of}
+use Rattle.jpeg_bits.specs.Passes.{Pass, Via, Block, whole_pass, zero_block}
 use Rattle.jpeg_streams.specs.Order.{Spot, grid_of, own_spots, spots_of, mcu_size}
 use Rattle.jpeg_streams.specs.Scans.{Arrays, block_at, put_block, put_blocks, via_at, no_table, arrays_at}
 use Rattle.jpeg_streams.specs.ScanSegments.{vias_from, Coding, components_of}
@@ -50,11 +50,8 @@ pub suits-zero : (c : Block) → Is8Bit c → Suits whole_pass zero_block (numbe
 suits-zero c range =
     grind (arith, cut-nothing c range.count, suits-cut whole_pass nothing_sent c range range.count whole-legal)
 
-pub no-band : {A : Type 0} (p : Pass) (xs : List A) → p.ss ≡ 0 → p.se ≡ 0 → band_of p xs ≡ []
-no-band p xs e f = search rules
-
 pub suits-dc : (p : Pass) (old c : Block) → p.ss ≡ 0 → p.se ≡ 0 → p.al ≤ 7 → Is8Bit c → Suits p old (numbers_at p.al c)
-suits-dc p old c e f low range = search (rules, no-band, floor-range, floor-fits)
+suits-dc p old c e f low range = search (rules, floor-range, floor-fits)
 
 -- ---- tables
 

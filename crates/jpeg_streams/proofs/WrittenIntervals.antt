@@ -1,12 +1,12 @@
 -- The bytes of a scan that was written are read again.
 use Rattle.std.proofs.lemmas.Grind.{common_steps}
-use Rattle.std.proofs.Common.{rules, ◌≡◌, zero, Bool, true, false, List, ◌++◌, take, drop, Option, Result, subst, arith}
+use Rattle.std.proofs.Common.{rules, ◌≡◌, zero, Bool, List, ◌++◌, take, drop, Option, Result, subst, arith}
 use Rattle.std.proofs.Common.{ℕ, length, length-drop, length-append, take-append-drop, append_assoc, append-nil, suc}
-use Rattle.std.proofs.Common.{◌+◌, ◌%◌, ◌≤◌, [], ◌∷◌, map, Some, Ok, Err, refl, sym, ap, ◌∙◌, eqb, ap₂}
+use Rattle.std.proofs.Common.{◌+◌, ◌%◌, ◌≤◌, [], ◌∷◌, map, Some, Ok, refl, sym, ap, ◌∙◌, ap₂}
 use Rattle.std.proofs.lemmas.Bool.{eq-eqb}
 use Rattle.std.specs.List.{AllByRecursion}
 use lib.ListN.{length-map}
-use Rattle.jpeg_bits.specs.Reading.{Outcome, Fault, Malformed, ◌>>=◌}
+use Rattle.jpeg_bits.specs.Reading.{Outcome, Fault, ◌>>=◌}
 use Rattle.jpeg_bits.specs.Entropy.{Text, Found, text_at, marker_from}
 use Rattle.jpeg_bits.specs.declared.marker.Marker.{Marker}
 use Rattle.jpeg_bits.specs.declared.marker.Marker.TheVariants as markers
@@ -77,17 +77,13 @@ abbrev pub all_after : Pass → List (Via × Block × Block) → List (List (Via
 all_after p turns [] = map (λ t. after_pass p t.1 t.2) turns
 all_after p turns (next ∷ more) = map (λ t. after_pass p t.1 t.2) turns ++ all_after p next more
 
-when-restart : {A : Type 0} (k : ℕ) (x : Result A Fault)
-    → elim (eqb k k) as (λ _. Result A Fault) [ true ↦ x | false ↦ Err Malformed ] ≡ x
-when-restart k x = rw (eq-eqb k k refl) refl
-
 pub next-interval : (p : Pass) (k : ℕ) (turns next : List (Via × Block)) (more : List (List (Via × Block)))
     (bytes rest after : List ℕ) (first others : List Block) (m : Option Marker)
     → interval p turns bytes ≡ Ok ((first, Some (markers.RST (k % 8))), rest)
     → intervals p (suc k) next more rest ≡ Ok ((others, m), after)
     → intervals p k turns (next ∷ more) bytes ≡ Ok ((first ++ others, m), after)
 unfolding intervals
-next-interval p k turns next more bytes rest after first others m e f = search (rules, when-restart)
+next-interval p k turns next more bytes rest after first others m e f = search (rules, eq-eqb)
 
 -- Intervals that were written are read as the blocks after the pass, up to the marker after the last.
 pub reads-intervals : (p : Pass) (k : ℕ) (turns : List (Via × Block × Block))

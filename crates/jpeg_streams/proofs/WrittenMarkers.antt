@@ -1,7 +1,5 @@
 -- The markers that are written.
-use Rattle.std.proofs.Common.{rules, ◌≡◌, ℕ, zero, suc, ◌≤◌, ◌+◌, Option, Some, refl}
-use Rattle.std.proofs.Common.{arith}
-use Rattle.std.proofs.lemmas.Bool.{lt-ltb, le-ltb, ne_eqb}
+use Rattle.std.proofs.Common.{rules, ◌≡◌, Option, Some}
 use Rattle.jpeg_bits.specs.Marker.{marker_of}
 use Rattle.jpeg_bits.specs.declared.marker.Marker.{Marker}
 use Rattle.jpeg_bits.specs.declared.marker.Marker.TheVariants.{SOF, DHT, DQT, DRI, APP, COM}
@@ -18,17 +16,7 @@ marker_for (Application number payload) = APP number
 marker_for (Comment payload) = COM
 marker_for (Header number h) = SOF number
 
-application-marker : (n : ℕ) → n ≤ 15 → marker_of (224 + n) ≡ Some (APP n)
-unfolding marker_of
-application-marker n h = search (rules, ne_eqb, le-ltb, lt-ltb)
-
-frame-marker : (n : ℕ) → n ≤ 3 → marker_of (192 + n) ≡ Some (SOF n)
-unfolding marker_of
-frame-marker (suc (suc (suc (suc n)))) h = absurd (omega arith)
-frame-marker n h = refl
-
 pub segment-marker : (frame : Option Frame) (s : Segment) → MayStand frame s
     → marker_of (code_of s) ≡ Some (marker_for s)
 unfolding marker_of
-segment-marker frame (Quantization ts) may = refl
-segment-marker frame s may = search (rules, application-marker, frame-marker)
+segment-marker frame s may = search rules

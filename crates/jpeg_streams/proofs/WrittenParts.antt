@@ -1,5 +1,5 @@
 -- Fronts of streams, and streams that mean one picture.
-use Rattle.std.proofs.Common.{rules, ◌≡◌, ◌⊎◌, inl, ℕ, zero, suc, ◌+◌, ◌*◌, ◌/◌, ◌%◌, Bool, true, false, cond, List, []}
+use Rattle.std.proofs.Common.{rules, ◌≡◌, ◌⊎◌, inl, ℕ, zero, suc, ◌+◌, ◌*◌, Bool, true, false, cond, List, []}
 use Rattle.std.proofs.Common.{◌∷◌, ◌++◌, map, drop, length, nat_lt, Some, None, Result, Ok, Err, refl, sym, ap, ◌∙◌}
 use Rattle.std.proofs.Common.{subst, true≢false}
 use Rattle.std.specs.List.{AllByRecursion}
@@ -11,14 +11,13 @@ use Rattle.jpeg_segments.specs.HuffmanTables.{Tables}
 use Rattle.jpeg_segments.specs.ScanHeaders.{scan_payload, scan_written}
 use Rattle.jpeg_segments.specs.WrittenSegments.{code_of, payload_of, sized}
 use Rattle.jpeg_streams.specs.ArrayPictures.{picture_of_array}
-use Rattle.jpeg_streams.specs.declared.grids.Grid.{Grid}
 use Rattle.jpeg_streams.specs.declared.settings.Settings.{Settings}
 use Rattle.jpeg_streams.specs.Levels.{Is8Bit, Levels, nothing_sent}
 use Rattle.jpeg_streams.specs.Order.{grid_of, Spot}
 use Rattle.jpeg_streams.specs.SaidSegments.{found_after}
 use Rattle.jpeg_streams.specs.Needed.{first_of, needed}
 use Rattle.jpeg_streams.specs.ScanSegments.{Coding, is_progressive, pass_of, components_of}
-use Rattle.jpeg_streams.specs.Found.{nothing_found, Found, Metadata}
+use Rattle.jpeg_streams.specs.Found.{nothing_found, Found}
 use Rattle.jpeg_streams.specs.Stream.{Told, told_of}
 use Rattle.jpeg_streams.specs.FoundPictures.{picture_by}
 use Rattle.jpeg_streams.specs.WholeImages.{AllComplete, picture_whole, planes_whole}
@@ -87,13 +86,6 @@ unfolding planes_whole
 same-planes a b array place [] h = refl
 same-planes a b array place (c ∷ cs) h = search (rules, bind_same, same-planes a b array (place + 1) cs h.1)
 
-same-colours : (settings : Settings) (m n : Metadata) (f g : Frame) (cs : List Component) (planes : List (List ℕ))
-    → f.output_width ≡ g.output_width → f.output_height ≡ g.output_height → m.jfif ≡ n.jfif → m.adobe ≡ n.adobe
-    → picture_by settings m f cs planes ≡ picture_by settings n g cs planes
-unfolding picture_by
-same-colours settings m n f g (c ∷ []) planes w h j a = rw (w, h) refl
-same-colours settings m n f g cs planes w h j a = rw (w, h, j, a) refl
-
 -- the picture of an array in a frame
 picture_in_frame : Settings → Coefficients → Found → Frame → Result (List ℕ) Fault
 picture_in_frame settings array said f =
@@ -108,8 +100,8 @@ framed-picture settings array said f e = then-ok (needed said.frame) _ f _ (ap n
 
 same-framed : (settings : Settings) (array : Coefficients) (a b : Found) (h : HaveSamePicture a b)
     → picture_in_frame settings array a h.frame_a ≡ picture_in_frame settings array b h.frame_b
-unfolding picture_in_frame
-same-framed settings array a b h = search (rules, bind_same, same-colours, same-planes)
+unfolding picture_in_frame picture_by
+same-framed settings array a b h = search (rules, bind_same, same-planes)
 
 pub same-picture : (settings : Settings) (array : Coefficients) (a b : Found) → HaveSamePicture a b
     → picture_whole settings a array ≡ picture_whole settings b array
@@ -153,19 +145,11 @@ slot-coded w frame p tables places ds ks codings (and_more place d a places' ds'
 slot-coded w frame p tables places ds ks codings (and_more place d a places' ds' ks' k codings' is more) (suc slot) =
     slot-coded w frame p tables places' ds' ks' codings' more slot
 
-none-own : (g : Grid) (index : ℕ) → g ≡ no_grid → IsOwn g index → ⊥
-none-own g index e own = search rules
-
-own-agree : (frame : Frame) (a b : Coefficients) (place index : ℕ) (c : Component) (g : Grid) → AgreeOnOwn frame a b
-    → first_of (drop place frame.components) ≡ Some c → g ≡ grid_of c → IsOwn g index
-    → a place (index / g.wide) (index % g.wide) ≡ b place (index / g.wide) (index % g.wide)
-own-agree frame a b place index c g agree is e own = search rules
-
 blocks-agree : (w : Found) (frame : Frame) (p : Pass) (tables : Tables) (places ds ks : List ℕ)
     (codings : List Coding) (a b : Coefficients) → AreCodings w frame p tables places ds ks codings
     → AgreeOnOwn frame a b → (s : Spot) → IsOwn (grid_at (components_of codings) s.slot) s.index
     → block_for codings a s ≡ block_for codings b s
-blocks-agree w frame p tables places ds ks codings a b are agree s own = search (rules, slot-coded, none-own, own-agree)
+blocks-agree w frame p tables places ds ks codings a b are agree s own = search (rules, slot-coded)
 
 also-writes : (a b : Coefficients) (said final : Found) (levels last : ℕ → Levels) (scanned : Bool) (bytes : List ℕ)
     (frame : Frame)

@@ -25,12 +25,11 @@ use Rattle.jpeg_streams.specs.Scans.{Arrays}
 use Rattle.jpeg_pixels.specs.Scaled.{sample_at}
 use Rattle.jpeg_pixels.specs.Planes.{plane_sample, plane_of}
 use Rattle.jpeg_streams.specs.Needed.{needed}
-use Rattle.jpeg_streams.specs.FoundPictures.{planes_from, plane_at_end, picture_of, picture_by_process, blocks_picture}
+use Rattle.jpeg_streams.specs.FoundPictures.{planes_from, plane_at_end, picture_of, blocks_picture}
 use Rattle.jpeg_streams.specs.FoundPictures.{picture_by, picture_in}
 use Rattle.jpeg_streams.specs.ScanSegments.{plane_by, is_progressive}
 use Rattle.jpeg_streams.specs.Found.{Found, Metadata, nothing_found}
-use Rattle.jpeg_segments.specs.declared.parser.CodingProcess.{CodingProcess}
-use Rattle.jpeg_segments.specs.declared.parser.CodingProcess.TheVariants.{DctSequential, Lossless}
+use Rattle.jpeg_segments.specs.declared.parser.CodingProcess.TheVariants.{Lossless}
 use Rattle.jpeg_streams.specs.Stream.{rest_at, meaning, start_at, segments_at, told_of}
 use Rattle.jpeg_streams.specs.declared.before.Before.TheVariants.{Elsewhere}
 use Rattle.jpeg_streams.specs.Levels.{Levels, Is8Bit, cut}
@@ -226,11 +225,6 @@ picture-by-same settings m f components ps qs e made alike = search (rules, imag
 
 -- ---- the meaning
 
-blocks-picture : (p : CodingProcess) → p ≢ Lossless → (settings : Settings) (found : Found) (f : Frame)
-    → picture_by_process p settings found f ≡ blocks_picture settings found f
-blocks-picture DctSequential h settings found f = refl
-blocks-picture p h settings found f = search rules
-
 found-picture : (settings : Settings) (found : Found) (f : Frame) (planes : List (List ℕ)) → f.process ≢ Lossless
     → found.frame ≡ Some f → planes_from found f 0 f.components ≡ Ok planes
     → picture_of settings found
@@ -238,7 +232,7 @@ found-picture : (settings : Settings) (found : Found) (f : Frame) (planes : List
     (length f.components * (f.output_width * f.output_height)) then Err Malformed else picture_by settings
     found.metadata f f.components planes)
 unfolding picture_of blocks_picture
-found-picture settings found f planes n e p = search (rules, then-ok, blocks-picture)
+found-picture settings found f planes n e p = search (rules, then-ok)
 
 array-picture : (settings : Settings) (w : Found) (array : Coefficients) (levels : ℕ → Levels) (f : Frame)
     (planes : List (List ℕ)) → w.frame ≡ Some f → planes_of_array w array levels 0 f.components ≡ Ok planes
@@ -296,7 +290,6 @@ some-of o f x e y = (y.0, then-ok o f x (Ok y.0) e y.1)
 conversion-there : (count : ℕ) (t : ColorTransform) → IsTransformOf count t
     → (convert : ColorConvert) × (conversion_of count t ≡ Ok convert)
 unfolding conversion_of
-conversion-there count transforms.None h = (converts.None, refl)
 conversion-there count t h = search (rules, eq-eqb)
 
 picture-there : (settings : Settings) (w : Found) (f : Frame) (components : List Component)

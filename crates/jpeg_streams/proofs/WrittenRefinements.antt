@@ -1,5 +1,5 @@
 -- A refinement that was written is read again.
-use Rattle.std.proofs.Common.{rules, ◌≡◌, ◌≢◌, ◌⊎◌, inl, inr, ℕ, zero, suc, ◌+◌, ◌-◌, ◌*◌, ◌/◌, ◌%◌, ◌^◌, ◌<◌, ◌≤◌}
+use Rattle.std.proofs.Common.{rules, ◌≡◌, ◌≢◌, ◌⊎◌, ℕ, zero, suc, ◌+◌, ◌-◌, ◌*◌, ◌/◌, ◌%◌, ◌^◌, ◌<◌, ◌≤◌}
 use Rattle.std.proofs.Common.{Bool, true, false, List, [], ◌∷◌, ◌++◌, map, length, take, drop, ℤ, pos, negsuc, neg_ℤ}
 use Rattle.std.proofs.Common.{◌*ℤ◌, unsigned_abs, refl, sym, ap, ◌∙◌, subst, append_assoc, arith, eqb, pow-suc, pow_pos}
 use Rattle.std.proofs.Common.{add-zero, mul_assoc, Ok, slice_index}
@@ -57,11 +57,7 @@ held-old al (negsuc n) h = search (rules, neg-times, not-zero, held-positive, ol
 
 -- a place that isn't new is nothing or old
 pub nothing_or_old : (u : ℤ) → unsigned_abs u ≢ 1 → (u ≡ pos 0) ⊎ (is_old u ≡ true)
-nothing_or_old (pos zero) h = inl refl
-nothing_or_old (pos (suc zero)) h = absurd (h refl)
-nothing_or_old (pos (suc (suc n))) h = inr (le-leb 2 (suc (suc n)) (omega arith))
-nothing_or_old (negsuc zero) h = absurd (h refl)
-nothing_or_old (negsuc (suc n)) h = inr (le-leb 2 (suc (suc n)) (omega arith))
+nothing_or_old u h = search (rules, le-leb)
 
 -- ---- correction bits
 
@@ -127,11 +123,6 @@ corrects al (negsuc i) o range = go (suc i / 2 * 2 ^ suc al) refl (held-positive
     go zero e h = absurd (omega arith)
     go (suc k) e h = search (rules, neg-times, neg_ℤ, takes-as, corrects-neg)
 
-pub corrected-zero : (al : ℕ) (z : ℤ) (zs ws : List ℤ) (bits : List Bool) → z ≡ pos 0
-    → ReadsJust (corrected al zs) bits ws → ReadsJust (corrected al (z ∷ zs)) bits (pos 0 ∷ ws)
-unfolding corrected
-corrected-zero al z zs ws bits e h = search (rules, takes-map)
-
 pub corrected-next : (al : ℕ) (z w : ℤ) (zs ws : List ℤ) (b : ℕ) (bits : List Bool) → b < 2 → is_zero z ≡ false
     → ReadsJust (corrected_by al z b) [] w
     → ReadsJust (corrected al zs) bits ws → ReadsJust (corrected al (z ∷ zs)) (bit b ∷ bits) (w ∷ ws)
@@ -142,72 +133,35 @@ pub corrections-zero : (us : List ℤ) → corrections (pos 0 ∷ us) ≡ correc
 unfolding corrections
 corrections-zero us = refl
 
-pub corrections-old : (u : ℤ) (us : List ℤ) → is_old u ≡ true
-    → corrections (u ∷ us) ≡ bit (unsigned_abs u % 2) ∷ corrections us
-unfolding corrections
-corrections-old u us o = rw (o, corrections) refl
-
 pub takes-corrected : (al : ℕ) (us : List ℤ) → NoneNew us → AllByRecursion (InRange al) us
     → ReadsJust (corrected al (map (held al) us)) (corrections us) (map (scaled al) us)
 unfolding corrected NoneNew corrections
 takes-corrected al [] none range = takes-gives []
-takes-corrected al (u ∷ us) none range = search (
-  rules,
-  nothing_or_old,
-  scaled,
-  takes-as,
-  corrections-zero,
-  scaled-zero,
-  corrected-zero,
-  held-zero,
-  unsigned_abs,
-  corrections-old,
-  corrected-next,
-  held-old,
-  corrects,
-  takes-corrected al us none.1 range.1,
-)
+takes-corrected al (u ∷ us) none range =
+    search (
+      rules,
+      nothing_or_old,
+      scaled,
+      takes-as,
+      corrections-zero,
+      scaled-zero,
+      takes-map,
+      held-zero,
+      corrected-next,
+      held-old,
+      corrects,
+      takes-corrected al us none.1 range.1,
+    )
 
 -- ---- pieces
-
-pub through-zero : (c : ℕ) (z : ℤ) (zs : List ℤ) → z ≡ pos 0 → through_zero (suc c) (z ∷ zs) ≡ suc (through_zero c zs)
-unfolding through_zero
-through-zero c z zs e = ap (λ (x : ℤ). through_zero (suc c) (x ∷ zs)) e
-
-pub through-other : (c : ℕ) (z : ℤ) (zs : List ℤ) → is_zero z ≡ false
-    → through_zero c (z ∷ zs) ≡ suc (through_zero c zs)
-unfolding through_zero
-through-other zero z zs e = rw (e, through_zero) refl
-through-other (suc c) z zs e = rw (e, through_zero) refl
-
-pub count-zero : (us : List ℤ) → count_unknown (pos 0 ∷ us) ≡ suc (count_unknown us)
-unfolding count_unknown
-count-zero us = refl
-
-pub count-old : (u : ℤ) (us : List ℤ) → is_old u ≡ true → count_unknown (u ∷ us) ≡ count_unknown us
-unfolding count_unknown
-count-old u us o = rw (o, count_unknown) refl
-
-pub through-first : (z : ℤ) (zs : List ℤ) → z ≡ pos 0 → through_zero (count_unknown []) (z ∷ zs) ≡ 1
-unfolding through_zero count_unknown
-through-first z zs e = ap (λ (x : ℤ). through_zero 0 (x ∷ zs)) e
 
 -- the piece of a token ends with the place after those that are neither old nor new
 pub through : (al : ℕ) (front : List ℤ) (u : ℤ) (more : List ℤ) → held al u ≡ pos 0
     → NoneNew front → through_zero (count_unknown front) (map (held al) (front ++ u ∷ more)) ≡ suc (length front)
-unfolding NoneNew
-through al [] u more z none = through-first (held al u) (map (held al) more) z
-through al (v ∷ front) u more z none = search (
-  rules,
-  nothing_or_old,
-  count-zero,
-  through-zero,
-  held-zero,
-  count-old,
-  through-other,
-  held-old,
-  through al front u more z none.1,
-)
+unfolding NoneNew count_unknown through_zero
+through al [] u more z none = search (rules, held)
+through al (v ∷ front) u more z none =
+    search (rules, nothing_or_old, held-zero, held-old, through al front u more z none.1)
 
 pub front-of : (al : ℕ) (front : List ℤ) (u : ℤ) (more : List ℤ) → held al u ≡ pos 0
     → take (suc (length front)) (map (held al) (front ++ u ∷ more)) ≡ map (held al) (front ++ pos 0 ∷ [])
@@ -229,12 +183,9 @@ unfolding NoneNew
 none-end [] h = ((λ e. absurd (omega arith)), tt)
 none-end (v ∷ front) h = (h.0, none-end front h.1)
 
-pub range-zero : (al : ℕ) → InRange al (pos 0)
-range-zero al = record { within = omega (arith, zero-mul (2 ^ al)) }
-
 pub range-end : (al : ℕ) (front more : List ℤ) → AllByRecursion (InRange al) (front ++ more)
     → AllByRecursion (InRange al) (front ++ pos 0 ∷ [])
-range-end al [] more h = (range-zero al, tt)
+range-end al [] more h = search (rules, zero-mul)
 range-end al (v ∷ front) more h = (h.0, range-end al front more h.1)
 
 pub with_last-end : (x y : ℤ) (xs : List ℤ) → with_last x (xs ++ y ∷ []) ≡ xs ++ x ∷ []
@@ -258,10 +209,6 @@ pub map-scaled : (al : ℕ) (front more : List ℤ)
 map-scaled al [] more = refl
 map-scaled al (v ∷ front) more = ap (λ (l : List ℤ). scaled al v ∷ l) (map-scaled al front more)
 
-pub new-scaled : (al : ℕ) (u : ℤ) → unsigned_abs u ≡ 1 → new_number al (sign_bit u) ≡ scaled al u
-new-scaled al (pos n) h = ap pos (sym (one-mul (2 ^ al)) ∙ ap (λ (x : ℕ). x * 2 ^ al) (sym h))
-new-scaled al (negsuc n) h = ap (λ (x : ℕ). neg_ℤ (pos x)) (sym (one-mul (2 ^ al)) ∙ ap (λ (x : ℕ). x * 2 ^ al) (sym h))
-
 sign-small : (u : ℤ) → sign_bit u < 2
 sign-small (pos n) = omega arith
 sign-small (negsuc n) = omega arith
@@ -280,7 +227,7 @@ piece-found al r others front u more bits run none count new range w =
     ∙ through al front u more z none in
     let result : with_last (new_number al (sign_bit u)) (map (scaled al) (front ++ pos 0 ∷ [])) ++ map
     (scaled al) more ≡ map (scaled al) (front ++ u ∷ more)
-    = search (rules, scaled, map-scaled, with_last-end, append_assoc, new-scaled) in
+    = search (rules, scaled, map-scaled, with_last-end, append_assoc, one-mul, neg_ℤ) in
     let back = subst (λ (l : List ℤ). ReadsJust (others l) bits (map (scaled al) more, run))
     (sym (back-of al front u more)) w in
     let step = λ (k : ℕ). bits_from 1 >>= (λ sign. corrected al (take k rest) >>= (λ f.
