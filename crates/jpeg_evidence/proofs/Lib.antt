@@ -9,3 +9,5 @@ pub mod TakenTokens
 pub mod TakenBands
 pub mod TakenIntervals
 pub mod TakenDc
+pub mod TakenLevels
+pub mod TakenBlocks

@@ -135,7 +135,7 @@ step table al n room (Rest run) more y t bytes fits others e =
     (subst (λ (v : Band). IsBand table al v.0 v.1 own) q.0 (rest-written table al room run own bytes w)))
 step table al n room Overlong more y t bytes fits others e = absurd fits
 
-after-small : (k n : ℕ) (x : Token) → suc k ≤ suc n → room_after (suc k) x ≤ n
+pub after-small : (k n : ℕ) (x : Token) → suc k ≤ suc n → room_after (suc k) x ≤ n
 after-small k n (Value r u) h = omega arith
 after-small k n Sixteen h = omega arith
 after-small k n (Rest run) h = omega arith

@@ -2,14 +2,17 @@
 use Rattle.std.specs.Prelude.{◌≡◌, ◌≢◌, ℕ, ℤ, suc, ◌<◌, ◌+◌, ◌-◌, ◌*◌, ◌^◌, ◌++◌, Bool, List, [], Some}
 use Rattle.std.specs.Prelude.{Ok, map, pos, ◌*ℤ◌, ◌≤◌, unsigned_abs, slice_index}
 use Rattle.std.specs.Prelude.{◌-ℤ◌}
-use Rattle.jpeg_bits.specs.Bands.{token_from, wrapped}
+use Rattle.std.specs.Prelude.{true, length, ◌+ℤ◌}
+use Rattle.jpeg_bits.specs.Bands.{difference, token_from, wrapped}
+use Rattle.jpeg_streams.specs.Levels.{numbers_at}
 use Rattle.jpeg_streams.specs.WrittenData.{WritesBand, WritesInterval, WritesDifference}
-use Rattle.jpeg_bits.specs.Passes.{Block, Pass, Via}
+use Rattle.jpeg_streams.specs.WrittenData.{WritesAc, WritesDc, no_numbers}
+use Rattle.jpeg_bits.specs.Passes.{Block, Pass, Via, band_of, dc_part}
 use Rattle.jpeg_bits.specs.Entropy.{Broken, Text}
 use Rattle.jpeg_bits.specs.Marker.{marker_of}
 use Rattle.jpeg_bits.specs.Reading.{End}
 use Rattle.jpeg_bits.specs.Readers.{text}
-use Rattle.jpeg_bits.specs.Codes.{Table}
+use Rattle.jpeg_bits.specs.Codes.{IsTable, Table}
 use Rattle.jpeg_bits.specs.Written.{low_bits, number_for, IsCategory, IsCoded}
 use Rattle.jpeg_bits.specs.Written.{stuffed, marker, bits_of_bytes}
 use Rattle.jpeg_bits.specs.declared.marker.Marker.{Marker}
@@ -99,6 +102,36 @@ pub record IsBand (table : Table) (al : ℕ) (band : List ℤ) (run : ℕ) (own 
   pub numbers : List ℤ
   pub are : map (λ u. u *ℤ pos (2 ^ al)) numbers ≡ band
   pub written : WritesBand table numbers own run
+
+-- ---- a block
+
+-- the tables that a pass reads with
+pub record HasTables (p : Pass) (via : Via) : Type 0 where
+  pub dc_is : p.ss ≡ 0 → p.is_first ≡ true → IsTable via.dc
+  pub ac_is : p.se ≢ 0 → IsTable via.ac
+  pub ac_bytes : p.se ≢ 0 → HasBytes via.ac
+
+-- A block that these bits begin with fits. In a first pass none of its band was sent before, DC that
+-- is read has its number in 16 bits, and the tokens of the band fit it.
+pub record BlockFits (p : Pass) (via : Via) (predictor : ℤ) (run : ℕ) (old : Block) (bits : List Bool)
+    : Type 0 where
+  pub unsent : p.is_first ≡ true → band_of p old.acs ≡ no_numbers (length (band_of p old.acs))
+  pub dc_fits : p.ss ≡ 0 → p.is_first ≡ true → (d : ℤ) (more : List Bool)
+      → difference via.dc (alone bits) ≡ Ok (d, alone more)
+      → unsigned_abs (predictor +ℤ d) * 2 ^ p.al < 2 ^ 15
+  pub tokens_fit : p.is_first ≡ true → run ≡ 0 → (d : ℤ × ℤ) (more : List Bool)
+      → dc_part p via.dc old.dc predictor (alone bits) ≡ Ok (d, alone more)
+      → TokensFit via.ac p.al (length (band_of p old.acs)) more
+
+-- A block that was read, the next predictor and the run after the block, and bits that are written
+-- for the block's numbers at the level of the pass: those of DC and those of the band.
+pub record IsBlock (p : Pass) (via : Via) (predictor : ℤ) (run : ℕ) (r : Block × ℤ × ℕ) (own : List Bool)
+    : Type 0 where
+  pub dc : List Bool
+  pub ac : List Bool
+  pub writes_dc : WritesDc p via.dc (numbers_at p.al r.0).dc predictor dc r.1
+  pub writes_ac : WritesAc p via.ac (band_of p (numbers_at p.al r.0).acs) run ac r.2
+  pub whole : dc ++ ac ≡ own
 
 -- ---- an interval
 

@@ -1,12 +1,12 @@
 //! What is read of entropy-coded data was written: the writer's relation is no narrower than what
 //! is read of data that end where their blocks do.
 ghost use Rattle.std.specs.Prelude.{◌≡◌, ℕ, suc, Ok};
-ghost use Rattle.std.specs.Prelude.{◌≤◌, List, ℤ, Bool, length};
+ghost use Rattle.std.specs.Prelude.{◌≤◌, List, ℤ, Bool, length, true};
 ghost use Rattle.jpeg_bits.specs.Bands.{Band, difference, first_ac, first_dc, token_from};
 ghost use Rattle.jpeg_bits.specs.Codes.{IsTable, Table, symbol_from};
 ghost use Rattle.jpeg_bits.specs.Entropy.{Found, Text, bits_from, text_at};
 ghost use Rattle.jpeg_bits.specs.Intervals.{predictors_at_start};
-ghost use Rattle.jpeg_bits.specs.Passes.{Block, Pass, Via};
+ghost use Rattle.jpeg_bits.specs.Passes.{Block, Pass, Via, block_from};
 ghost use Rattle.jpeg_bits.specs.Readers.{signed_from};
 ghost use Rattle.jpeg_bits.specs.Written.{IsCoded};
 ghost use Rattle.jpeg_bits.specs.declared.marker.Marker.{Marker};
@@ -14,6 +14,7 @@ ghost use Rattle.jpeg_bits.specs.declared.tokens.Token.{Token};
 ghost use Rattle.jpeg_streams.specs.WrittenData.{WritesBlocks, WritesDifference, no_numbers};
 ghost use Rattle.jpeg_evidence.specs.Strict.{HasBytes, IsBand, IsCut, IsData, IsDc, IsInterval};
 ghost use Rattle.jpeg_evidence.specs.Strict.{IsNumber, IsToken, IsValue, TokensFit, alone};
+ghost use Rattle.jpeg_evidence.specs.Strict.{BlockFits, HasTables, IsBlock};
 
 /// What is read of bits that nothing follows was written (T.81, C.2 and F.1.2): the bits that were
 /// taken are those of the number, of a code for the symbol, of the value, and of the DC difference.
@@ -62,6 +63,17 @@ pub fn bands_taken_are_written()
         → IsTable table → HasBytes table → TokensFit table al room bits → room ≤ n
         → first_ac table al n (no_numbers room) (alone bits) ≡ Ok (y, left)
         → IsCut (IsBand table al y.0 y.1) bits left }
+{}
+
+/// A block that is read in a first pass, where nothing goes round at 16 bits and each token stands for
+/// places that the band has, was written: the bits that were taken are those that a writer may emit
+/// for the block's numbers at the level of the pass (T.81, F.1.2 and G.1.2).
+pub fn block_taken_is_written()
+    ensures { (p : Pass) (via : Via) (predictor : ℤ) (run : ℕ) (old : Block) (bits : List Bool)
+        (r : Block × ℤ × ℕ) (left : Text) → p.is_first ≡ true → HasTables p via
+        → BlockFits p via predictor run old bits
+        → block_from p via.dc via.ac predictor run old (alone bits) ≡ Ok (r, left)
+        → IsCut (IsBlock p via predictor run r) bits left }
 {}
 
 /// An interval up to a marker is written where its bits are those of its blocks, and at most 7 more
