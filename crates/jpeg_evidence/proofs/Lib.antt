@@ -11,3 +11,4 @@ pub mod TakenIntervals
 pub mod TakenDc
 pub mod TakenLevels
 pub mod TakenBlocks
+pub mod TakenTurns

@@ -2,12 +2,12 @@
 use Rattle.std.specs.Prelude.{◌≡◌, ◌≢◌, ℕ, ℤ, suc, ◌<◌, ◌+◌, ◌-◌, ◌*◌, ◌^◌, ◌++◌, Bool, List, [], Some}
 use Rattle.std.specs.Prelude.{Ok, map, pos, ◌*ℤ◌, ◌≤◌, unsigned_abs, slice_index}
 use Rattle.std.specs.Prelude.{◌-ℤ◌}
-use Rattle.std.specs.Prelude.{true, length, ◌+ℤ◌}
+use Rattle.std.specs.Prelude.{true, length, ◌+ℤ◌, ◌∷◌, get_or, set}
 use Rattle.jpeg_bits.specs.Bands.{difference, token_from, wrapped}
 use Rattle.jpeg_streams.specs.Levels.{numbers_at}
 use Rattle.jpeg_streams.specs.WrittenData.{WritesBand, WritesInterval, WritesDifference}
 use Rattle.jpeg_streams.specs.WrittenData.{WritesAc, WritesDc, no_numbers}
-use Rattle.jpeg_bits.specs.Passes.{Block, Pass, Via, band_of, dc_part}
+use Rattle.jpeg_bits.specs.Passes.{Block, Pass, Via, band_of, block_from, dc_part}
 use Rattle.jpeg_bits.specs.Entropy.{Broken, Text}
 use Rattle.jpeg_bits.specs.Marker.{marker_of}
 use Rattle.jpeg_bits.specs.Reading.{End}
@@ -132,6 +132,26 @@ pub record IsBlock (p : Pass) (via : Via) (predictor : ℤ) (run : ℕ) (r : Blo
   pub writes_dc : WritesDc p via.dc (numbers_at p.al r.0).dc predictor dc r.1
   pub writes_ac : WritesAc p via.ac (band_of p (numbers_at p.al r.0).acs) run ac r.2
   pub whole : dc ++ ac ≡ own
+
+-- ---- the blocks of an interval
+
+-- The blocks that these bits begin with fit, one after the other, by the predictors of the components
+-- and the run that reaches them. No run goes beyond the last.
+pub data BlocksFit (p : Pass) : List ℤ → ℕ → List (Via × Block) → List Bool → Type 0 where
+  finished : (predictors : List ℤ) (bits : List Bool) → BlocksFit p predictors 0 [] bits
+  next : (predictors : List ℤ) (run : ℕ) (t : Via × Block) (turns : List (Via × Block)) (bits more : List Bool)
+      (r : Block × ℤ × ℕ)
+      → block_from p t.0.dc t.0.ac (get_or predictors t.0.component (pos 0)) run t.1 (alone bits)
+      ≡ Ok (r, alone more)
+      → HasTables p t.0 → BlockFits p t.0 (get_or predictors t.0.component (pos 0)) run t.1 bits
+      → BlocksFit p (set predictors t.0.component r.1) r.2 turns more
+      → BlocksFit p predictors run (t ∷ turns) bits
+
+-- What a writer codes of blocks that were read: each by its path, in numbers at the level of the pass.
+unfoldable pub numbers_read : Pass → List (Via × Block) → List Block → List (Via × Block)
+numbers_read p [] blocks = []
+numbers_read p (t ∷ turns) [] = []
+numbers_read p (t ∷ turns) (b ∷ blocks) = (t.0, numbers_at p.al b) ∷ numbers_read p turns blocks
 
 -- ---- an interval
 

@@ -6,7 +6,7 @@ ghost use Rattle.jpeg_bits.specs.Bands.{Band, difference, first_ac, first_dc, to
 ghost use Rattle.jpeg_bits.specs.Codes.{IsTable, Table, symbol_from};
 ghost use Rattle.jpeg_bits.specs.Entropy.{Found, Text, bits_from, text_at};
 ghost use Rattle.jpeg_bits.specs.Intervals.{predictors_at_start};
-ghost use Rattle.jpeg_bits.specs.Passes.{Block, Pass, Via, block_from};
+ghost use Rattle.jpeg_bits.specs.Passes.{Block, Pass, Via, block_from, blocks_of};
 ghost use Rattle.jpeg_bits.specs.Readers.{signed_from};
 ghost use Rattle.jpeg_bits.specs.Written.{IsCoded};
 ghost use Rattle.jpeg_bits.specs.declared.marker.Marker.{Marker};
@@ -14,7 +14,7 @@ ghost use Rattle.jpeg_bits.specs.declared.tokens.Token.{Token};
 ghost use Rattle.jpeg_streams.specs.WrittenData.{WritesBlocks, WritesDifference, no_numbers};
 ghost use Rattle.jpeg_evidence.specs.Strict.{HasBytes, IsBand, IsCut, IsData, IsDc, IsInterval};
 ghost use Rattle.jpeg_evidence.specs.Strict.{IsNumber, IsToken, IsValue, TokensFit, alone};
-ghost use Rattle.jpeg_evidence.specs.Strict.{BlockFits, HasTables, IsBlock};
+ghost use Rattle.jpeg_evidence.specs.Strict.{BlockFits, BlocksFit, HasTables, IsBlock, numbers_read};
 
 /// What is read of bits that nothing follows was written (T.81, C.2 and F.1.2): the bits that were
 /// taken are those of the number, of a code for the symbol, of the value, and of the DC difference.
@@ -74,6 +74,17 @@ pub fn block_taken_is_written()
         → BlockFits p via predictor run old bits
         → block_from p via.dc via.ac predictor run old (alone bits) ≡ Ok (r, left)
         → IsCut (IsBlock p via predictor run r) bits left }
+{}
+
+/// The blocks of an interval that are read in a first pass were written where each fits and no run of
+/// blocks goes beyond the last: the predictors and the run go from block to block for the reader as
+/// they do for the writer (T.81, F.1.1.5.1 and G.1.2.2).
+pub fn blocks_taken_are_written()
+    ensures { (p : Pass) (predictors : List ℤ) (run : ℕ) (turns : List (Via × Block))
+        (bits : List Bool) (blocks : List Block) (left : Text) → p.is_first ≡ true
+        → BlocksFit p predictors run turns bits
+        → blocks_of p predictors run turns (alone bits) ≡ Ok (blocks, left)
+        → IsCut (WritesBlocks p predictors run (numbers_read p turns blocks)) bits left }
 {}
 
 /// An interval up to a marker is written where its bits are those of its blocks, and at most 7 more
