@@ -12,3 +12,4 @@ pub mod TakenDc
 pub mod TakenLevels
 pub mod TakenBlocks
 pub mod TakenTurns
+pub mod TakenRefinements

@@ -34,7 +34,7 @@ not-nothing s u h cat e =
     let least = (subst (λ (x : ℤ). IsCategory x s) e cat).is_least 0 (omega arith) in
     omega (arith, least, h)
 
-run-small : (table : Table) (r s : ℕ) (code : List Bool) → HasBytes table → IsCoded table (16 * r + s) code → r ≤ 15
+pub run-small : (table : Table) (r s : ℕ) (code : List Bool) → HasBytes table → IsCoded table (16 * r + s) code → r ≤ 15
 run-small table r s code bytes coded = let h = bytes.each coded.place in let e = coded.is_for in omega (arith, h, e)
 
 value-written : (table : Table) (al r : ℕ) (u : ℤ) (band : List ℤ) (run : ℕ) (own back : List Bool) → HasBytes table

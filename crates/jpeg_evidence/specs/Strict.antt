@@ -2,17 +2,19 @@
 use Rattle.std.specs.Prelude.{◌≡◌, ◌≢◌, ℕ, ℤ, suc, ◌<◌, ◌+◌, ◌-◌, ◌*◌, ◌^◌, ◌++◌, Bool, List, [], Some}
 use Rattle.std.specs.Prelude.{Ok, map, pos, ◌*ℤ◌, ◌≤◌, unsigned_abs, slice_index}
 use Rattle.std.specs.Prelude.{◌-ℤ◌}
-use Rattle.std.specs.Prelude.{true, length, ◌+ℤ◌, ◌∷◌, get_or, set}
+use Rattle.std.specs.Prelude.{true, false, length, ◌+ℤ◌, ◌∷◌, get_or, set, take, drop}
+use Rattle.std.specs.List.{AllByRecursion}
+use Rattle.jpeg_bits.specs.Refinement.{corrected, is_zero, through_zero}
 use Rattle.jpeg_bits.specs.Bands.{difference, token_from, wrapped}
-use Rattle.jpeg_streams.specs.Levels.{numbers_at}
+use Rattle.jpeg_streams.specs.Levels.{cut_ac, cut_dc, numbers_at}
 use Rattle.jpeg_streams.specs.WrittenData.{WritesBand, WritesInterval, WritesDifference}
 use Rattle.jpeg_streams.specs.WrittenData.{WritesAc, WritesDc, no_numbers}
 use Rattle.jpeg_bits.specs.Passes.{Block, Pass, Via, band_of, block_from, dc_part}
-use Rattle.jpeg_bits.specs.Entropy.{Broken, Text}
+use Rattle.jpeg_bits.specs.Entropy.{Broken, Text, bits_from}
 use Rattle.jpeg_bits.specs.Marker.{marker_of}
 use Rattle.jpeg_bits.specs.Reading.{End}
 use Rattle.jpeg_bits.specs.Readers.{text}
-use Rattle.jpeg_bits.specs.Codes.{IsTable, Table}
+use Rattle.jpeg_bits.specs.Codes.{IsTable, Table, symbol_from}
 use Rattle.jpeg_bits.specs.Written.{low_bits, number_for, IsCategory, IsCoded}
 use Rattle.jpeg_bits.specs.Written.{stuffed, marker, bits_of_bytes}
 use Rattle.jpeg_bits.specs.declared.marker.Marker.{Marker}
@@ -103,6 +105,31 @@ pub record IsBand (table : Table) (al : ℕ) (band : List ℤ) (run : ℕ) (own 
   pub are : map (λ u. u *ℤ pos (2 ^ al)) numbers ≡ band
   pub written : WritesBand table numbers own run
 
+-- ---- a band in a refinement
+
+-- how many places are zero
+unfoldable pub count_zeros : List ℤ → ℕ
+count_zeros [] = 0
+count_zeros (z ∷ places) = elim (is_zero z) [ true ↦ suc (count_zeros places) | false ↦ count_zeros places ]
+
+-- The pieces of a band fit, one after the other: each that goes through a zero has it.
+pub data PiecesFit (table : Table) (al : ℕ) : List ℤ → List Bool → Type 0 where
+  covered : (bits : List Bool) → PiecesFit table al [] bits
+  new : (r sign : ℕ) (z : ℤ) (rest front : List ℤ) (bits one two more : List Bool)
+      → symbol_from table (alone bits) ≡ Ok (16 * r + 1, alone one) → r < count_zeros (z ∷ rest)
+      → bits_from 1 (alone one) ≡ Ok (sign, alone two)
+      → corrected al (take (through_zero r (z ∷ rest)) (z ∷ rest)) (alone two) ≡ Ok (front, alone more)
+      → PiecesFit table al (drop (through_zero r (z ∷ rest)) (z ∷ rest)) more
+      → PiecesFit table al (z ∷ rest) bits
+  zeros : (z : ℤ) (rest front : List ℤ) (bits one more : List Bool)
+      → symbol_from table (alone bits) ≡ Ok (16 * 15 + 0, alone one) → 15 < count_zeros (z ∷ rest)
+      → corrected al (take (through_zero 15 (z ∷ rest)) (z ∷ rest)) (alone one) ≡ Ok (front, alone more)
+      → PiecesFit table al (drop (through_zero 15 (z ∷ rest)) (z ∷ rest)) more
+      → PiecesFit table al (z ∷ rest) bits
+  last : (r : ℕ) (z : ℤ) (rest : List ℤ) (bits one : List Bool)
+      → symbol_from table (alone bits) ≡ Ok (16 * r + 0, alone one) → r ≢ 15
+      → PiecesFit table al (z ∷ rest) bits
+
 -- ---- a block
 
 -- the tables that a pass reads with
@@ -112,7 +139,8 @@ pub record HasTables (p : Pass) (via : Via) : Type 0 where
   pub ac_bytes : p.se ≢ 0 → HasBytes via.ac
 
 -- A block that these bits begin with fits. In a first pass none of its band was sent before, DC that
--- is read has its number in 16 bits, and the tokens of the band fit it.
+-- is read has its number in 16 bits, and the tokens of the band fit it. In a refinement what is held
+-- was sent at the level above, and the pieces of the band fit it.
 pub record BlockFits (p : Pass) (via : Via) (predictor : ℤ) (run : ℕ) (old : Block) (bits : List Bool)
     : Type 0 where
   pub unsent : p.is_first ≡ true → band_of p old.acs ≡ no_numbers (length (band_of p old.acs))
@@ -122,6 +150,12 @@ pub record BlockFits (p : Pass) (via : Via) (predictor : ℤ) (run : ℕ) (old :
   pub tokens_fit : p.is_first ≡ true → run ≡ 0 → (d : ℤ × ℤ) (more : List Bool)
       → dc_part p via.dc old.dc predictor (alone bits) ≡ Ok (d, alone more)
       → TokensFit via.ac p.al (length (band_of p old.acs)) more
+  pub dc_sent : p.ss ≡ 0 → p.is_first ≡ false → cut_dc old.dc (Some (suc p.al)) ≡ old.dc
+  pub acs_sent : p.is_first ≡ false
+      → AllByRecursion (λ z. cut_ac z (Some (suc p.al)) ≡ z) (band_of p old.acs)
+  pub pieces_fit : p.is_first ≡ false → run ≡ 0 → (d : ℤ × ℤ) (more : List Bool)
+      → dc_part p via.dc old.dc predictor (alone bits) ≡ Ok (d, alone more)
+      → PiecesFit via.ac p.al (band_of p old.acs) more
 
 -- A block that was read, the next predictor and the run after the block, and bits that are written
 -- for the block's numbers at the level of the pass: those of DC and those of the band.
