@@ -1,4 +1,4 @@
--- The bits that were taken of a block in a first pass are those that are written for it.
+-- The bits that were taken of a block are those that are written for it.
 use Rattle.std.proofs.Common.{rules, ◌≡◌, ℕ, zero, suc, ◌+◌, ◌-◌, ◌*◌, ◌^◌, ◌<◌, ◌≤◌, Bool, true, false, List, []}
 use Rattle.std.proofs.Common.{◌∷◌, ◌++◌, map, length, take, drop, refl, sym, ap, ◌∙◌, subst, arith, Ok, eqb, ℤ, pos}
 use Rattle.std.proofs.Common.{◌+ℤ◌, ◌-ℤ◌, unsigned_abs, le_refl, append-nil, length-append, length-take}
@@ -24,7 +24,19 @@ use Rattle.jpeg_evidence.specs.Strict.{alone, IsCut, HasBytes, TokensFit, Fits, 
 use Rattle.jpeg_evidence.specs.Strict.{BlockFits, HasTables}
 use Rattle.jpeg_evidence.specs.Strict.TokensFit.{filled, token}
 use Rattle.jpeg_evidence.proofs.TakenBits.{bind-cut, bind-parts, map-parts, ok-parts, cut-map, cut-none, Both}
+use Rattle.jpeg_evidence.proofs.TakenBits.{number-taken}
+use Rattle.jpeg_evidence.proofs.TakenRefinements.{IsHeld, IsCorrected, IsRefined, alike-long, alike-none, one-bit}
+use Rattle.jpeg_evidence.proofs.TakenRefinements.{corrected-taken, refined-taken}
 use Rattle.jpeg_evidence.proofs.TakenValues.{difference-taken}
+use Rattle.std.proofs.Common.{ap₂, ◌/◌, ◌%◌, negsuc}
+use Rattle.std.specs.List.{AllByRecursion}
+use Rattle.jpeg_bits.specs.Written.{bit}
+use Rattle.jpeg_streams.specs.WrittenData.{NoneNew, corrections, low_bit, WritesRefinement}
+use Rattle.jpeg_streams.specs.WrittenData.WritesDc.{one_bit}
+use Rattle.jpeg_streams.specs.WrittenData.WritesAc.{again as a_refinement, again_run}
+use Rattle.jpeg_streams.proofs.SentBlocks.{dc_held, floor_half}
+use Rattle.jpeg_streams.proofs.WrittenBlocks.{dc-refined}
+use Rattle.jpeg_evidence.specs.Strict.{IsNumber, PiecesFit}
 use Rattle.jpeg_evidence.proofs.TakenBands.{band-taken, after-small}
 use Rattle.jpeg_evidence.proofs.TakenLevels.{floor-scaled, all-toward, band-put, some-band}
 
@@ -67,13 +79,57 @@ dc-first p table predictor bits y t s f is fits e =
     (a_whole u predictor own s f (subst (λ (x : ℤ). WritesDifference table x own) same w))))
     c
 
-pub dc-taken-first : (p : Pass) (table : Table) (z predictor : ℤ) (bits : List Bool) (y : ℤ × ℤ) (t : Text)
-    → p.is_first ≡ true → (p.ss ≡ 0 → IsTable table) → (p.ss ≡ 0 → DcFits p table predictor bits)
+-- a number of the level above, with its bit
+pushed : ℤ → ℕ → ℤ
+pushed (pos n) b = pos (2 * n + b)
+pushed (negsuc n) b = negsuc (2 * n + (1 - b))
+
+pushed-half : (v : ℤ) (b : ℕ) → b < 2 → floor_half (pushed v b) ≡ v
+unfolding pushed
+pushed-half (pos n) b h = let e : (2 * n + b) / 2 ≡ n = omega arith in ap pos e
+pushed-half (negsuc n) b h = let e : (2 * n + (1 - b)) / 2 ≡ n = omega arith in ap negsuc e
+
+pushed-low : (v : ℤ) (b : ℕ) → b < 2 → low_bit (pushed v b) ≡ b
+unfolding pushed
+pushed-low (pos n) b h = let e : (2 * n + b) % 2 ≡ b = omega arith in e
+pushed-low (negsuc n) b h = let e : 1 - (2 * n + (1 - b)) % 2 ≡ b = omega arith in e
+
+pushed-or : (al b : ℕ) (z : ℤ) → b < 2 → scaled (suc al) (floor_at (suc al) z) ≡ z
+    → or_bit al z b ≡ scaled al (pushed (floor_at (suc al) z) b)
+pushed-or al b z h held =
+    let v = floor_at (suc al) z in
+    let before : z ≡ dc_held al (pushed v b) = sym held ∙ ap (scaled (suc al)) (sym (pushed-half v b h)) in
+    ap₂ (λ (x : ℤ) (k : ℕ). or_bit al x k) before (sym (pushed-low v b h)) ∙ dc-refined al (pushed v b)
+
+dc-again : (p : Pass) (table : Table) (z predictor : ℤ) (bits : List Bool) (y : ℤ × ℤ) (t : Text) → p.ss ≡ 0
+    → p.is_first ≡ false → scaled (suc p.al) (floor_at (suc p.al) z) ≡ z
+    → (bits_from 1 >>= (λ b. gives (or_bit p.al z b, predictor))) (alone bits) ≡ Ok (y, t)
+    → IsCut (WritesRead p table predictor y) bits t
+dc-again p table z predictor bits y t s f held e =
+    let al = p.al in
+    let m = map-parts (bits_from 1) (λ (b : ℕ). (or_bit al z b, predictor)) (alone bits) t y e in
+    cut-map (IsNumber 1 m.0) (WritesRead p table predictor y) bits t
+    (λ own w.
+    let small : m.0 < 2 = w.below in
+    let u = pushed (floor_at (suc al) z) m.0 in
+    let number : u ≡ floor_at al (or_bit al z m.0)
+    = sym (floor-scaled al u) ∙ ap (floor_at al) (sym (pushed-or al m.0 z small held)) in
+    let own_is : bit (low_bit u) ∷ [] ≡ own
+    = ap (λ (x : ℕ). bit x ∷ []) (pushed-low (floor_at (suc al) z) m.0 small) ∙ one-bit m.0 own w in
+    subst (λ (v : ℤ × ℤ). WritesRead p table predictor v own) m.2
+    (subst (λ (x : ℤ). WritesDc p table x predictor own predictor) number
+    (subst (λ (l : List Bool). WritesDc p table u predictor l predictor) own_is (one_bit u predictor s f))))
+    (number-taken 1 bits m.0 t m.1)
+
+pub dc-taken-part : (p : Pass) (table : Table) (z predictor : ℤ) (bits : List Bool) (y : ℤ × ℤ) (t : Text)
+    → (p.ss ≡ 0 → p.is_first ≡ true → IsTable table)
+    → (p.ss ≡ 0 → p.is_first ≡ true → DcFits p table predictor bits)
+    → (p.ss ≡ 0 → p.is_first ≡ false → scaled (suc p.al) (floor_at (suc p.al) z) ≡ z)
     → dc_part p table z predictor (alone bits) ≡ Ok (y, t) → IsCut (WritesRead p table predictor y) bits t
 unfolding dc_part
-dc-taken-first p table z predictor bits y t f is fits e = go (eqb p.ss 0) refl p.is_first f e
+dc-taken-part p table z predictor bits y t is fits sent e = go (eqb p.ss 0) refl p.is_first refl e
   where
-    go : (s : Bool) → eqb p.ss 0 ≡ s → (b : Bool) → b ≡ true
+    go : (s : Bool) → eqb p.ss 0 ≡ s → (b : Bool) → p.is_first ≡ b
         → (elim s as (λ _. Reads (ℤ × ℤ)) [
           | true ↦ elim b as (λ _. Reads (ℤ × ℤ)) [
             | true ↦ first_dc table p.al predictor
@@ -81,11 +137,13 @@ dc-taken-first p table z predictor bits y t f is fits e = go (eqb p.ss 0) refl p
           ]
           | false ↦ gives (z, predictor)
         ]) (alone bits) ≡ Ok (y, t) → IsCut (WritesRead p table predictor y) bits t
-    go true s true b k =
+    go true s true f k =
         let ss = eqb-true p.ss 0 s in
-        dc-first p table predictor bits y t ss f (is ss) (fits ss) k
-    go true s false b k = cc
-    go false s b h k =
+        dc-first p table predictor bits y t ss f (is ss f) (fits ss f) k
+    go true s false f k =
+        let ss = eqb-true p.ss 0 s in
+        dc-again p table z predictor bits y t ss f (sent ss f) k
+    go false s b f k =
         let q = ok-parts (z, predictor) y (alone bits) t k in
         cut-none (WritesRead p table predictor y) bits t q.1
         (subst (λ (v : ℤ × ℤ). WritesRead p table predictor v []) q.0
@@ -198,49 +256,105 @@ new-band p table k bits y t f some is bytes fits e =
     })
     (band-taken table al k k bits y t is bytes fits (le_refl k) e)
 
-pub band-taken-first : (p : Pass) (table : Table) (band : List ℤ) (run : ℕ) (bits : List Bool) (y : Band) (t : Text)
-    → p.is_first ≡ true → Tabled table band → band ≡ no_numbers (length band)
-    → (run ≡ 0 → TokensFit table p.al (length band) bits)
+-- numbers of a level are those of what was read
+level-numbers : (al : ℕ) (numbers ws : List ℤ) → map (scaled al) numbers ≡ ws → numbers ≡ map (toward_zero al) ws
+level-numbers al numbers ws e = sym (all-toward al numbers) ∙ ap (map (toward_zero al)) e
+
+written-again : (p : Pass) (table : Table) (numbers : List ℤ) (own : List Bool) (run : ℕ) → p.is_first ≡ false
+    → 0 < length numbers → WritesRefinement table numbers own run → WritesAc p table numbers 0 own run
+written-again p table [] own run f some w = absurd (omega arith)
+written-again p table (u ∷ us) own run f some w = a_refinement u us own run f w
+
+written-run : (p : Pass) (table : Table) (numbers : List ℤ) (run : ℕ) → p.is_first ≡ false → 0 < length numbers
+    → NoneNew numbers → WritesAc p table numbers (suc run) (corrections numbers) run
+written-run p table [] run f some none = absurd (omega arith)
+written-run p table (u ∷ us) run f some none = again_run u us run f none
+
+old-band : (p : Pass) (table : Table) (zs : List ℤ) (bits : List Bool) (y : Band) (t : Text) → p.is_first ≡ false
+    → 0 < length zs → IsTable table → HasBytes table → AllByRecursion (IsHeld p.al) zs → PiecesFit table p.al zs bits
+    → refined_ac table p.al (length zs) zs (alone bits) ≡ Ok (y, t) → IsCut (IsRead p table zs 0 y) bits t
+old-band p table zs bits y t f some is bytes held fits e =
+    let al = p.al in
+    cut-map (IsRefined table al zs y) (IsRead p table zs 0 y) bits t
+    (λ own w.
+    let size : length (map (scaled al) w.numbers) ≡ length w.numbers = length-map w.numbers (scaled al) in
+    let sizes : length (map (scaled al) w.numbers) ≡ length y.0 = ap (λ (l : List ℤ). length l) w.are in
+    let long = w.long in
+    record {
+      long = omega (arith, size, sizes, long);
+      written = subst (λ (l : List ℤ). WritesAc p table l 0 own y.1) (level-numbers al w.numbers y.0 w.are)
+          (written-again p table w.numbers own y.1 f (omega (arith, some, long)) w.written);
+    })
+    (refined-taken table al (length zs) zs bits y t is bytes held fits (le_refl (length zs)) e)
+
+run-band : (p : Pass) (table : Table) (zs : List ℤ) (run : ℕ) (bits : List Bool) (y : Band) (t : Text)
+    → p.is_first ≡ false → 0 < length zs → AllByRecursion (IsHeld p.al) zs
+    → (corrected p.al zs >>= (λ all. gives (all, run))) (alone bits) ≡ Ok (y, t)
+    → IsCut (IsRead p table zs (suc run) y) bits t
+run-band p table zs run bits y t f some held e =
+    let al = p.al in
+    let m = map-parts (corrected al zs) (λ (all : List ℤ). (all, run)) (alone bits) t y e in
+    cut-map (IsCorrected al zs m.0) (IsRead p table zs (suc run) y) bits t
+    (λ own w.
+    let size : length (map (scaled al) w.us) ≡ length w.us = length-map w.us (scaled al) in
+    let sizes : length (map (scaled al) w.us) ≡ length m.0 = ap (λ (l : List ℤ). length l) w.are in
+    let long = alike-long w.us zs w.alike in
+    subst (λ (v : Band). IsRead p table zs (suc run) v own) m.2
+    (record {
+      long = omega (arith, size, sizes, long);
+      written = subst (λ (l : List ℤ). WritesAc p table l (suc run) own run) (level-numbers al w.us m.0 w.are)
+          (subst (λ (l : List Bool). WritesAc p table w.us (suc run) l run) w.bits
+          (written-run p table w.us run f (omega (arith, some, long)) (alike-none w.us zs w.alike)));
+    }))
+    (corrected-taken al zs bits m.0 t held m.1)
+
+pub band-taken-part : (p : Pass) (table : Table) (band : List ℤ) (run : ℕ) (bits : List Bool) (y : Band) (t : Text)
+    → Tabled table band → (p.is_first ≡ true → band ≡ no_numbers (length band))
+    → (p.is_first ≡ true → run ≡ 0 → TokensFit table p.al (length band) bits)
+    → (p.is_first ≡ false → AllByRecursion (IsHeld p.al) band)
+    → (p.is_first ≡ false → run ≡ 0 → PiecesFit table p.al band bits)
     → band_part p table band run (alone bits) ≡ Ok (y, t) → IsCut (IsRead p table band run y) bits t
 unfolding band_part
-band-taken-first p table [] run bits y t f tables unsent fits e =
+band-taken-part p table [] run bits y t tables unsent fits sent pieces e =
     let q = ok-parts ([], run) y (alone bits) t e in
     cut-none (IsRead p table [] run y) bits t q.1
     (subst (λ (v : Band). IsRead p table [] run v []) q.0 (record { long = refl; written = no_band run }))
-band-taken-first p table (x ∷ band) zero bits y t f tables unsent fits e = go p.is_first f e
+band-taken-part p table (x ∷ band) zero bits y t tables unsent fits sent pieces e = go p.is_first refl e
   where
-    go : (b : Bool) → b ≡ true
+    go : (b : Bool) → p.is_first ≡ b
         → (elim b as (λ _. Reads Band) [
           | true ↦ first_ac table p.al (length (x ∷ band)) (x ∷ band)
           | false ↦ refined_ac table p.al (length (x ∷ band)) (x ∷ band)
         ]) (alone bits) ≡ Ok (y, t) → IsCut (IsRead p table (x ∷ band) 0 y) bits t
-    go true h k =
+    go true f k =
         let n = length (x ∷ band) in
         let is = tables (omega arith) in
-        subst (λ (l : List ℤ). IsCut (IsRead p table l 0 y) bits t) (sym unsent)
-        (new-band p table n bits y t f (omega arith) is.0 is.1 (fits refl)
-        (ap (λ (l : List ℤ). first_ac table p.al n l (alone bits)) (sym unsent) ∙ k))
-    go false h k = cc
-band-taken-first p table (x ∷ band) (suc run) bits y t f tables unsent fits e = go p.is_first f e
+        subst (λ (l : List ℤ). IsCut (IsRead p table l 0 y) bits t) (sym (unsent f))
+        (new-band p table n bits y t f (omega arith) is.0 is.1 (fits f refl)
+        (ap (λ (l : List ℤ). first_ac table p.al n l (alone bits)) (sym (unsent f)) ∙ k))
+    go false f k =
+        let is = tables (omega arith) in
+        old-band p table (x ∷ band) bits y t f (omega arith) is.0 is.1 (sent f) (pieces f refl) k
+band-taken-part p table (x ∷ band) (suc run) bits y t tables unsent fits sent pieces e = go p.is_first refl e
   where
-    here : IsRead p table (x ∷ band) (suc run) (x ∷ band, run) []
-    here = record {
+    here : p.is_first ≡ true → IsRead p table (x ∷ band) (suc run) (x ∷ band, run) []
+    here f = record {
       long = refl;
       written = subst (λ (l : List ℤ). WritesAc p table l (suc run) [] run)
-          (sym (ap (map (toward_zero p.al)) unsent ∙ zeros-toward p.al (length (x ∷ band))))
+          (sym (ap (map (toward_zero p.al)) (unsent f) ∙ zeros-toward p.al (length (x ∷ band))))
           (first_run (length band) run f);
     }
 
-    go : (b : Bool) → b ≡ true
+    go : (b : Bool) → p.is_first ≡ b
         → (elim b as (λ _. Reads Band) [
           | true ↦ gives (x ∷ band, run)
           | false ↦ corrected p.al (x ∷ band) >>= (λ all. gives (all, run))
         ]) (alone bits) ≡ Ok (y, t) → IsCut (IsRead p table (x ∷ band) (suc run) y) bits t
-    go true h k =
+    go true f k =
         let q = ok-parts (x ∷ band, run) y (alone bits) t k in
         cut-none (IsRead p table (x ∷ band) (suc run) y) bits t q.1
-        (subst (λ (v : Band). IsRead p table (x ∷ band) (suc run) v []) q.0 here)
-    go false h k = cc
+        (subst (λ (v : Band). IsRead p table (x ∷ band) (suc run) v []) q.0 (here f))
+    go false f k = run-band p table (x ∷ band) run bits y t f (omega arith) (sent f) k
 
 -- ---- blocks
 
@@ -294,17 +408,19 @@ parts-taken p via predictor run old bits r t dc band e =
     cut-map (Both (WritesRead p via.dc predictor c.0) (IsRest p via.ac run old r c.0)) (IsBlock p via predictor run r)
     bits t (joined p via predictor run old r c.0) c.1
 
--- The bits that were taken of a block in a first pass are written for it.
+-- The bits that were taken of a block are written for it.
 pub block-taken : (p : Pass) (via : Via) (predictor : ℤ) (run : ℕ) (old : Block) (bits : List Bool)
-    (r : Block × ℤ × ℕ) (t : Text) → p.is_first ≡ true → HasTables p via → BlockFits p via predictor run old bits
+    (r : Block × ℤ × ℕ) (t : Text) → HasTables p via → BlockFits p via predictor run old bits
     → block_from p via.dc via.ac predictor run old (alone bits) ≡ Ok (r, t)
     → IsCut (IsBlock p via predictor run r) bits t
-block-taken p via predictor run old bits r t f tables fits e =
+block-taken p via predictor run old bits r t tables fits e =
     parts-taken p via predictor run old bits r t
-    (λ d u k. dc-taken-first p via.dc old.dc predictor bits d u f (λ s. tables.dc_is s f) (λ s. fits.dc_fits s f) k)
-    (λ d more h y k. band-taken-first p via.ac (band_of p old.acs) run more y t f
+    (λ d u k. dc-taken-part p via.dc old.dc predictor bits d u tables.dc_is fits.dc_fits fits.dc_sent k)
+    (λ d more h y k. band-taken-part p via.ac (band_of p old.acs) run more y t
     (λ some. let s = some-band p old.acs some in (tables.ac_is s, tables.ac_bytes s))
-    (fits.unsent f)
-    (λ z. fits.tokens_fit f z d more h)
+    fits.unsent
+    (λ f z. fits.tokens_fit f z d more h)
+    fits.acs_sent
+    (λ f z. fits.pieces_fit f z d more h)
     k)
     e

@@ -1,10 +1,10 @@
 -- The bits that were taken of a band in a refinement are those that are written for it.
-use Rattle.std.proofs.Common.{rules, ◌≡◌, ◌≢◌, ◌⊎◌, inl, inr, ℕ, zero, suc, ◌+◌, ◌-◌, ◌*◌, ◌/◌, ◌%◌, ◌^◌, ◌<◌, ◌≤◌}
+use Rattle.std.proofs.Common.{◌≡◌, ◌≢◌, ℕ, zero, suc, ◌+◌, ◌-◌, ◌*◌, ◌/◌, ◌%◌, ◌^◌, ◌<◌, ◌≤◌}
 use Rattle.std.proofs.Common.{Bool, true, false, List, [], ◌∷◌, ◌++◌, map, length, take, drop, refl, sym, ap, ap₂, ◌∙◌}
-use Rattle.std.proofs.Common.{subst, arith, Ok, eqb, ℤ, pos, negsuc, neg_ℤ, ◌*ℤ◌, unsigned_abs, pow_pos, pow-suc}
+use Rattle.std.proofs.Common.{subst, arith, Ok, eqb, ℤ, pos, negsuc, neg_ℤ, unsigned_abs}
 use Rattle.std.proofs.Common.{append_assoc, append-nil, length-append, length-take, length-drop, leb}
 use Rattle.std.proofs.Math.Nat.{zero-mul, one-mul}
-use Rattle.std.proofs.lemmas.Bool.{eqb-true, eqb-false, eq-eqb, le-leb}
+use Rattle.std.proofs.lemmas.Bool.{eqb-true, eq-eqb, le-leb}
 use Rattle.std.specs.List.{AllByRecursion}
 use Rattle.jpeg_bits.specs.Reading.{Malformed}
 use Rattle.jpeg_bits.specs.Entropy.{Text, bits_from}
@@ -136,7 +136,7 @@ Alike [] (z ∷ zs) = ⊥
 Alike (u ∷ us) [] = ⊥
 Alike (u ∷ us) (z ∷ zs) = AlikeOne u z × Alike us zs
 
-alike-long : (us zs : List ℤ) → Alike us zs → length us ≡ length zs
+pub alike-long : (us zs : List ℤ) → Alike us zs → length us ≡ length zs
 alike-long [] [] h = refl
 alike-long [] (z ∷ zs) h = absurd h
 alike-long (u ∷ us) [] h = absurd h
@@ -149,7 +149,7 @@ one-none : (u z : ℤ) → AlikeOne u z → unsigned_abs u ≢ 1
 one-none u z (nothing h e) f = let g : unsigned_abs u ≡ 0 = ap unsigned_abs e in omega (arith, g, f)
 one-none u z (an_old h o) f = not-one u o f
 
-alike-none : (us zs : List ℤ) → Alike us zs → NoneNew us
+pub alike-none : (us zs : List ℤ) → Alike us zs → NoneNew us
 unfolding NoneNew
 alike-none [] zs h = tt
 alike-none (u ∷ us) [] h = absurd h
@@ -173,7 +173,7 @@ zero-is (pos zero) h = refl
 zero-is (pos (suc n)) h = cc
 zero-is (negsuc n) h = cc
 
-one-bit : (b : ℕ) (own : List Bool) → IsNumber 1 b own → bit b ∷ [] ≡ own
+pub one-bit : (b : ℕ) (own : List Bool) → IsNumber 1 b own → bit b ∷ [] ≡ own
 unfolding low_bits
 one-bit b own is =
     let h : b < 2 = is.below in

@@ -1,5 +1,5 @@
 -- The bits that were taken of the blocks of an interval are those that are written for them.
-use Rattle.std.proofs.Common.{◌≡◌, ℕ, Bool, true, List, [], ◌∷◌, ◌++◌, sym, ap, ◌∙◌, subst, Ok, ℤ, pos, get_or}
+use Rattle.std.proofs.Common.{◌≡◌, ℕ, Bool, List, [], ◌∷◌, ◌++◌, sym, ap, ◌∙◌, subst, Ok, ℤ, pos, get_or}
 use Rattle.std.proofs.Common.{set, append_assoc}
 use Rattle.jpeg_bits.specs.Entropy.{Text}
 use Rattle.jpeg_bits.specs.Readers.{Reads, gives, ◌>>=◌}
@@ -47,15 +47,15 @@ none-written p predictors = done predictors
 
 -- The bits that were taken of blocks are written for them.
 pub blocks-taken : (p : Pass) (predictors : List ℤ) (run : ℕ) (turns : List (Via × Block)) (bits : List Bool)
-    (blocks : List Block) (t : Text) → p.is_first ≡ true → BlocksFit p predictors run turns bits
+    (blocks : List Block) (t : Text) → BlocksFit p predictors run turns bits
     → blocks_of p predictors run turns (alone bits) ≡ Ok (blocks, t)
     → IsCut (WritesBlocks p predictors run (numbers_read p turns blocks)) bits t
 unfolding blocks_of
-blocks-taken p predictors run turns bits blocks left f (finished predictors' bits') e =
+blocks-taken p predictors run turns bits blocks left (finished predictors' bits') e =
     let q = ok-parts [] blocks (alone bits) left e in
     cut-none (WritesBlocks p predictors 0 (numbers_read p [] blocks)) bits left q.1
     (subst (λ (l : List Block). WritesBlocks p predictors 0 (numbers_read p [] l) []) q.0 (none-written p predictors))
-blocks-taken p predictors run turns bits blocks left f (next predictors' run' t turns' bits' more r h tables fits w) e =
+blocks-taken p predictors run turns bits blocks left (next predictors' run' t turns' bits' more r h tables fits w) e =
     let before = get_or predictors t.0.component (pos 0) in
     let after : Block × ℤ × ℕ → Reads (List Block) = λ r.
     blocks_of p (set predictors t.0.component r.1) r.2 turns' >>= (λ l. gives (r.0 ∷ l)) in
@@ -66,5 +66,5 @@ blocks-taken p predictors run turns bits blocks left f (next predictors' run' t 
     let m = map-parts (blocks_of p (set predictors t.0.component r.1) r.2 turns') (λ (l : List Block). r.0 ∷ l)
     (alone more) left blocks rest in
     step p predictors run t turns' r m.0 blocks bits more left m.2
-    (block-taken p t.0 before run t.1 bits r (alone more) f tables fits h)
-    (blocks-taken p (set predictors t.0.component r.1) r.2 turns' more m.0 left f w m.1)
+    (block-taken p t.0 before run t.1 bits r (alone more) tables fits h)
+    (blocks-taken p (set predictors t.0.component r.1) r.2 turns' more m.0 left w m.1)

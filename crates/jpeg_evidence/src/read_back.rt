@@ -1,7 +1,7 @@
 //! What is read of entropy-coded data was written: the writer's relation is no narrower than what
 //! is read of data that end where their blocks do.
 ghost use Rattle.std.specs.Prelude.{◌≡◌, ℕ, suc, Ok};
-ghost use Rattle.std.specs.Prelude.{◌≤◌, List, ℤ, Bool, length, true};
+ghost use Rattle.std.specs.Prelude.{◌≤◌, List, ℤ, Bool, length};
 ghost use Rattle.jpeg_bits.specs.Bands.{Band, difference, first_ac, first_dc, token_from};
 ghost use Rattle.jpeg_bits.specs.Codes.{IsTable, Table, symbol_from};
 ghost use Rattle.jpeg_bits.specs.Entropy.{Found, Text, bits_from, text_at};
@@ -65,23 +65,24 @@ pub fn bands_taken_are_written()
         → IsCut (IsBand table al y.0 y.1) bits left }
 {}
 
-/// A block that is read in a first pass, where nothing goes round at 16 bits and each token stands for
-/// places that the band has, was written: the bits that were taken are those that a writer may emit
-/// for the block's numbers at the level of the pass (T.81, F.1.2 and G.1.2).
+/// A block that is read in a first pass or a refinement was written: the bits that were taken are
+/// those that a writer may emit for the block's numbers at the level of the pass (T.81, F.1.2 and
+/// G.1.2). It fits where no DC goes round at 16 bits, where each token stands for places that the band
+/// has, and where a refinement is of what was sent at the level above.
 pub fn block_taken_is_written()
     ensures { (p : Pass) (via : Via) (predictor : ℤ) (run : ℕ) (old : Block) (bits : List Bool)
-        (r : Block × ℤ × ℕ) (left : Text) → p.is_first ≡ true → HasTables p via
+        (r : Block × ℤ × ℕ) (left : Text) → HasTables p via
         → BlockFits p via predictor run old bits
         → block_from p via.dc via.ac predictor run old (alone bits) ≡ Ok (r, left)
         → IsCut (IsBlock p via predictor run r) bits left }
 {}
 
-/// The blocks of an interval that are read in a first pass were written where each fits and no run of
-/// blocks goes beyond the last: the predictors and the run go from block to block for the reader as
-/// they do for the writer (T.81, F.1.1.5.1 and G.1.2.2).
+/// The blocks of an interval that are read were written where each fits and no run of blocks goes
+/// beyond the last: the predictors and the run go from block to block for the reader as they do for
+/// the writer (T.81, F.1.1.5.1, G.1.2.2 and G.1.2.3).
 pub fn blocks_taken_are_written()
     ensures { (p : Pass) (predictors : List ℤ) (run : ℕ) (turns : List (Via × Block))
-        (bits : List Bool) (blocks : List Block) (left : Text) → p.is_first ≡ true
+        (bits : List Bool) (blocks : List Block) (left : Text)
         → BlocksFit p predictors run turns bits
         → blocks_of p predictors run turns (alone bits) ≡ Ok (blocks, left)
         → IsCut (WritesBlocks p predictors run (numbers_read p turns blocks)) bits left }
