@@ -96,3 +96,13 @@ pub fn intervals_of_written_bits_are_written()
         → IsCut (WritesBlocks p predictors_at_start 0 turns) (text_at bytes).bits left
         → length left.bits ≤ 7 → IsInterval p turns bytes m rest }
 {}
+
+/// An interval up to a marker whose blocks are read of its bits was written where they fit and leave
+/// at most 7 bits (T.81, F.1.2.3 and B.1.1.5).
+pub fn interval_taken_is_written()
+    ensures { (p : Pass) (turns : List (Via × Block)) (bytes rest : List ℕ) (m : Marker)
+        (blocks : List Block) (left : Text) → (text_at bytes).ending ≡ Found m rest
+        → BlocksFit p predictors_at_start 0 turns (text_at bytes).bits
+        → blocks_of p predictors_at_start 0 turns (alone (text_at bytes).bits) ≡ Ok (blocks, left)
+        → length left.bits ≤ 7 → IsInterval p (numbers_read p turns blocks) bytes m rest }
+{}
