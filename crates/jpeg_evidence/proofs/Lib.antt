@@ -13,3 +13,4 @@ pub mod TakenLevels
 pub mod TakenBlocks
 pub mod TakenTurns
 pub mod TakenRefinements
+pub mod TakenScans

@@ -8,7 +8,7 @@ use Rattle.jpeg_bits.specs.Refinement.{corrected, is_zero, through_zero}
 use Rattle.jpeg_bits.specs.Bands.{difference, token_from, wrapped}
 use Rattle.jpeg_streams.specs.Levels.{cut_ac, cut_dc, numbers_at}
 use Rattle.jpeg_streams.specs.WrittenData.{WritesBand, WritesInterval, WritesDifference}
-use Rattle.jpeg_streams.specs.WrittenData.{WritesAc, WritesDc, no_numbers}
+use Rattle.jpeg_streams.specs.WrittenData.{WritesAc, WritesDc, WritesIntervals, no_numbers}
 use Rattle.jpeg_bits.specs.Passes.{Block, Pass, Via, band_of, block_from, dc_part}
 use Rattle.jpeg_bits.specs.Entropy.{Broken, Text, bits_from}
 use Rattle.jpeg_bits.specs.Marker.{marker_of}
@@ -206,3 +206,16 @@ pub record IsDc (table : Table) (al : ℕ) (predictor : ℤ) (y : ℤ × ℤ) (o
   pub written : WritesDifference table (u -ℤ predictor) own
   pub next : y.1 ≡ wrapped u
   pub are : y.0 ≡ wrapped (wrapped u *ℤ pos (2 ^ al))
+
+-- ---- the intervals of a scan
+
+-- Bytes that begin with intervals that are written, from number k on, up to a marker, and go on with
+-- the rest.
+pub record IsIntervals (p : Pass) (k : ℕ) (turns : List (Via × Block)) (more : List (List (Via × Block)))
+    (bytes : List ℕ) (m : Marker) (rest : List ℕ) : Type 0 where
+  pub front : List ℕ
+  pub fill : ℕ
+  pub code : ℕ
+  pub parts : bytes ≡ front ++ marker fill code rest
+  pub names : marker_of code ≡ Some m
+  pub written : WritesIntervals p k turns more front

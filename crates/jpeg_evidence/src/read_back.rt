@@ -10,6 +10,9 @@ ghost use Rattle.jpeg_bits.specs.Passes.{Block, Pass, Via, block_from, blocks_of
 ghost use Rattle.jpeg_bits.specs.Readers.{signed_from};
 ghost use Rattle.jpeg_bits.specs.Written.{IsCoded};
 ghost use Rattle.jpeg_bits.specs.declared.marker.Marker.{Marker};
+ghost use Rattle.jpeg_bits.specs.declared.marker.Marker.TheVariants.{RST};
+ghost use Rattle.std.specs.Prelude.{◌%◌, ◌∷◌, []};
+ghost use Rattle.jpeg_evidence.specs.Strict.{IsIntervals};
 ghost use Rattle.jpeg_bits.specs.declared.tokens.Token.{Token};
 ghost use Rattle.jpeg_streams.specs.WrittenData.{WritesBlocks, WritesDifference, no_numbers};
 ghost use Rattle.jpeg_evidence.specs.Strict.{HasBytes, IsBand, IsCut, IsData, IsDc, IsInterval};
@@ -105,4 +108,16 @@ pub fn interval_taken_is_written()
         → BlocksFit p predictors_at_start 0 turns (text_at bytes).bits
         → blocks_of p predictors_at_start 0 turns (alone (text_at bytes).bits) ≡ Ok (blocks, left)
         → length left.bits ≤ 7 → IsInterval p (numbers_read p turns blocks) bytes m rest }
+{}
+
+/// Intervals that are written one after the other, each up to RST with its number modulo 8 and the
+/// last up to any marker, are those of a scan (T.81, E.1.4 and B.2.1).
+pub fn intervals_of_a_scan_are_written()
+    ensures last { (p : Pass) (k : ℕ) (turns : List (Via × Block)) (bytes rest : List ℕ)
+        (m : Marker) → IsInterval p turns bytes m rest → IsIntervals p k turns [] bytes m rest }
+    ensures another { (p : Pass) (k : ℕ) (turns next : List (Via × Block))
+        (more : List (List (Via × Block))) (bytes others rest : List ℕ) (m : Marker)
+        → IsInterval p turns bytes (RST (k % 8)) others
+        → IsIntervals p (suc k) next more others m rest
+        → IsIntervals p k turns (next ∷ more) bytes m rest }
 {}
