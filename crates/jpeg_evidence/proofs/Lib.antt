@@ -9,3 +9,8 @@ pub mod TakenTokens
 pub mod TakenBands
 pub mod TakenIntervals
 pub mod TakenDc
+pub mod TakenLevels
+pub mod TakenBlocks
+pub mod TakenTurns
+pub mod TakenRefinements
+pub mod TakenScans

@@ -34,7 +34,7 @@ not-nothing s u h cat e =
     let least = (subst (λ (x : ℤ). IsCategory x s) e cat).is_least 0 (omega arith) in
     omega (arith, least, h)
 
-run-small : (table : Table) (r s : ℕ) (code : List Bool) → HasBytes table → IsCoded table (16 * r + s) code → r ≤ 15
+pub run-small : (table : Table) (r s : ℕ) (code : List Bool) → HasBytes table → IsCoded table (16 * r + s) code → r ≤ 15
 run-small table r s code bytes coded = let h = bytes.each coded.place in let e = coded.is_for in omega (arith, h, e)
 
 value-written : (table : Table) (al r : ℕ) (u : ℤ) (band : List ℤ) (run : ℕ) (own back : List Bool) → HasBytes table
@@ -135,7 +135,7 @@ step table al n room (Rest run) more y t bytes fits others e =
     (subst (λ (v : Band). IsBand table al v.0 v.1 own) q.0 (rest-written table al room run own bytes w)))
 step table al n room Overlong more y t bytes fits others e = absurd fits
 
-after-small : (k n : ℕ) (x : Token) → suc k ≤ suc n → room_after (suc k) x ≤ n
+pub after-small : (k n : ℕ) (x : Token) → suc k ≤ suc n → room_after (suc k) x ≤ n
 after-small k n (Value r u) h = omega arith
 after-small k n Sixteen h = omega arith
 after-small k n (Rest run) h = omega arith

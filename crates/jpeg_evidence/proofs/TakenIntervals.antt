@@ -1,13 +1,14 @@
 -- An interval whose bits are written for its blocks, with at most 7 bits after them, is written.
-use Rattle.std.proofs.Common.{◌≡◌, ℕ, List, ◌∙◌, ◌≤◌, length, refl}
+use Rattle.std.proofs.Common.{◌≡◌, ℕ, List, ◌∙◌, ◌≤◌, length, refl, Ok}
 use Rattle.jpeg_bits.specs.Entropy.{Text, Found, text_at}
 use Rattle.jpeg_bits.specs.Intervals.{predictors_at_start}
-use Rattle.jpeg_bits.specs.Passes.{Block, Pass, Via}
+use Rattle.jpeg_bits.specs.Passes.{Block, Pass, Via, blocks_of}
 use Rattle.jpeg_bits.specs.Written.{stuffed}
 use Rattle.jpeg_bits.specs.declared.marker.Marker.{Marker}
 use Rattle.jpeg_streams.specs.WrittenData.{WritesBlocks}
-use Rattle.jpeg_evidence.specs.Strict.{IsCut, IsInterval}
+use Rattle.jpeg_evidence.specs.Strict.{alone, BlocksFit, IsCut, IsInterval, numbers_read}
 use Rattle.jpeg_evidence.proofs.TakenBytes.{bytes-back}
+use Rattle.jpeg_evidence.proofs.TakenTurns.{blocks-taken}
 
 pub interval-taken : (p : Pass) (turns : List (Via × Block)) (bytes rest : List ℕ) (m : Marker) (left : Text)
     → (text_at bytes).ending ≡ Found m rest
@@ -31,3 +32,13 @@ interval-taken p turns bytes rest m left e c short =
         has_bytes = refl;
       };
     }
+
+-- An interval whose blocks were taken of its bits is written for them.
+pub interval-of-taken : (p : Pass) (turns : List (Via × Block)) (bytes rest : List ℕ) (m : Marker)
+    (blocks : List Block) (left : Text) → (text_at bytes).ending ≡ Found m rest
+    → BlocksFit p predictors_at_start 0 turns (text_at bytes).bits
+    → blocks_of p predictors_at_start 0 turns (alone (text_at bytes).bits) ≡ Ok (blocks, left)
+    → length left.bits ≤ 7 → IsInterval p (numbers_read p turns blocks) bytes m rest
+interval-of-taken p turns bytes rest m blocks left e fits h short =
+    interval-taken p (numbers_read p turns blocks) bytes rest m left e
+    (blocks-taken p predictors_at_start 0 turns (text_at bytes).bits blocks left fits h) short

@@ -2,14 +2,19 @@
 use Rattle.std.specs.Prelude.{◌≡◌, ◌≢◌, ℕ, ℤ, suc, ◌<◌, ◌+◌, ◌-◌, ◌*◌, ◌^◌, ◌++◌, Bool, List, [], Some}
 use Rattle.std.specs.Prelude.{Ok, map, pos, ◌*ℤ◌, ◌≤◌, unsigned_abs, slice_index}
 use Rattle.std.specs.Prelude.{◌-ℤ◌}
-use Rattle.jpeg_bits.specs.Bands.{token_from, wrapped}
+use Rattle.std.specs.Prelude.{true, false, length, ◌+ℤ◌, ◌∷◌, get_or, set, take, drop}
+use Rattle.std.specs.List.{AllByRecursion}
+use Rattle.jpeg_bits.specs.Refinement.{corrected, is_zero, through_zero}
+use Rattle.jpeg_bits.specs.Bands.{difference, token_from, wrapped}
+use Rattle.jpeg_streams.specs.Levels.{cut_ac, cut_dc, numbers_at}
 use Rattle.jpeg_streams.specs.WrittenData.{WritesBand, WritesInterval, WritesDifference}
-use Rattle.jpeg_bits.specs.Passes.{Block, Pass, Via}
-use Rattle.jpeg_bits.specs.Entropy.{Broken, Text}
+use Rattle.jpeg_streams.specs.WrittenData.{WritesAc, WritesDc, WritesIntervals, no_numbers}
+use Rattle.jpeg_bits.specs.Passes.{Block, Pass, Via, band_of, block_from, dc_part}
+use Rattle.jpeg_bits.specs.Entropy.{Broken, Text, bits_from}
 use Rattle.jpeg_bits.specs.Marker.{marker_of}
 use Rattle.jpeg_bits.specs.Reading.{End}
 use Rattle.jpeg_bits.specs.Readers.{text}
-use Rattle.jpeg_bits.specs.Codes.{Table}
+use Rattle.jpeg_bits.specs.Codes.{IsTable, Table, symbol_from}
 use Rattle.jpeg_bits.specs.Written.{low_bits, number_for, IsCategory, IsCoded}
 use Rattle.jpeg_bits.specs.Written.{stuffed, marker, bits_of_bytes}
 use Rattle.jpeg_bits.specs.declared.marker.Marker.{Marker}
@@ -100,6 +105,88 @@ pub record IsBand (table : Table) (al : ℕ) (band : List ℤ) (run : ℕ) (own 
   pub are : map (λ u. u *ℤ pos (2 ^ al)) numbers ≡ band
   pub written : WritesBand table numbers own run
 
+-- ---- a band in a refinement
+
+-- how many places are zero
+unfoldable pub count_zeros : List ℤ → ℕ
+count_zeros [] = 0
+count_zeros (z ∷ places) = elim (is_zero z) [ true ↦ suc (count_zeros places) | false ↦ count_zeros places ]
+
+-- The pieces of a band fit, one after the other: each that goes through a zero has it.
+pub data PiecesFit (table : Table) (al : ℕ) : List ℤ → List Bool → Type 0 where
+  covered : (bits : List Bool) → PiecesFit table al [] bits
+  new : (r sign : ℕ) (z : ℤ) (rest front : List ℤ) (bits one two more : List Bool)
+      → symbol_from table (alone bits) ≡ Ok (16 * r + 1, alone one) → r < count_zeros (z ∷ rest)
+      → bits_from 1 (alone one) ≡ Ok (sign, alone two)
+      → corrected al (take (through_zero r (z ∷ rest)) (z ∷ rest)) (alone two) ≡ Ok (front, alone more)
+      → PiecesFit table al (drop (through_zero r (z ∷ rest)) (z ∷ rest)) more
+      → PiecesFit table al (z ∷ rest) bits
+  zeros : (z : ℤ) (rest front : List ℤ) (bits one more : List Bool)
+      → symbol_from table (alone bits) ≡ Ok (16 * 15 + 0, alone one) → 15 < count_zeros (z ∷ rest)
+      → corrected al (take (through_zero 15 (z ∷ rest)) (z ∷ rest)) (alone one) ≡ Ok (front, alone more)
+      → PiecesFit table al (drop (through_zero 15 (z ∷ rest)) (z ∷ rest)) more
+      → PiecesFit table al (z ∷ rest) bits
+  last : (r : ℕ) (z : ℤ) (rest : List ℤ) (bits one : List Bool)
+      → symbol_from table (alone bits) ≡ Ok (16 * r + 0, alone one) → r ≢ 15
+      → PiecesFit table al (z ∷ rest) bits
+
+-- ---- a block
+
+-- the tables that a pass reads with
+pub record HasTables (p : Pass) (via : Via) : Type 0 where
+  pub dc_is : p.ss ≡ 0 → p.is_first ≡ true → IsTable via.dc
+  pub ac_is : p.se ≢ 0 → IsTable via.ac
+  pub ac_bytes : p.se ≢ 0 → HasBytes via.ac
+
+-- A block that these bits begin with fits. In a first pass none of its band was sent before, DC that
+-- is read has its number in 16 bits, and the tokens of the band fit it. In a refinement what is held
+-- was sent at the level above, and the pieces of the band fit it.
+pub record BlockFits (p : Pass) (via : Via) (predictor : ℤ) (run : ℕ) (old : Block) (bits : List Bool)
+    : Type 0 where
+  pub unsent : p.is_first ≡ true → band_of p old.acs ≡ no_numbers (length (band_of p old.acs))
+  pub dc_fits : p.ss ≡ 0 → p.is_first ≡ true → (d : ℤ) (more : List Bool)
+      → difference via.dc (alone bits) ≡ Ok (d, alone more)
+      → unsigned_abs (predictor +ℤ d) * 2 ^ p.al < 2 ^ 15
+  pub tokens_fit : p.is_first ≡ true → run ≡ 0 → (d : ℤ × ℤ) (more : List Bool)
+      → dc_part p via.dc old.dc predictor (alone bits) ≡ Ok (d, alone more)
+      → TokensFit via.ac p.al (length (band_of p old.acs)) more
+  pub dc_sent : p.ss ≡ 0 → p.is_first ≡ false → cut_dc old.dc (Some (suc p.al)) ≡ old.dc
+  pub acs_sent : p.is_first ≡ false
+      → AllByRecursion (λ z. cut_ac z (Some (suc p.al)) ≡ z) (band_of p old.acs)
+  pub pieces_fit : p.is_first ≡ false → run ≡ 0 → (d : ℤ × ℤ) (more : List Bool)
+      → dc_part p via.dc old.dc predictor (alone bits) ≡ Ok (d, alone more)
+      → PiecesFit via.ac p.al (band_of p old.acs) more
+
+-- A block that was read, the next predictor and the run after the block, and bits that are written
+-- for the block's numbers at the level of the pass: those of DC and those of the band.
+pub record IsBlock (p : Pass) (via : Via) (predictor : ℤ) (run : ℕ) (r : Block × ℤ × ℕ) (own : List Bool)
+    : Type 0 where
+  pub dc : List Bool
+  pub ac : List Bool
+  pub writes_dc : WritesDc p via.dc (numbers_at p.al r.0).dc predictor dc r.1
+  pub writes_ac : WritesAc p via.ac (band_of p (numbers_at p.al r.0).acs) run ac r.2
+  pub whole : dc ++ ac ≡ own
+
+-- ---- the blocks of an interval
+
+-- The blocks that these bits begin with fit, one after the other, by the predictors of the components
+-- and the run that reaches them. No run goes beyond the last.
+pub data BlocksFit (p : Pass) : List ℤ → ℕ → List (Via × Block) → List Bool → Type 0 where
+  finished : (predictors : List ℤ) (bits : List Bool) → BlocksFit p predictors 0 [] bits
+  next : (predictors : List ℤ) (run : ℕ) (t : Via × Block) (turns : List (Via × Block)) (bits more : List Bool)
+      (r : Block × ℤ × ℕ)
+      → block_from p t.0.dc t.0.ac (get_or predictors t.0.component (pos 0)) run t.1 (alone bits)
+      ≡ Ok (r, alone more)
+      → HasTables p t.0 → BlockFits p t.0 (get_or predictors t.0.component (pos 0)) run t.1 bits
+      → BlocksFit p (set predictors t.0.component r.1) r.2 turns more
+      → BlocksFit p predictors run (t ∷ turns) bits
+
+-- What a writer codes of blocks that were read: each by its path, in numbers at the level of the pass.
+unfoldable pub numbers_read : Pass → List (Via × Block) → List Block → List (Via × Block)
+numbers_read p [] blocks = []
+numbers_read p (t ∷ turns) [] = []
+numbers_read p (t ∷ turns) (b ∷ blocks) = (t.0, numbers_at p.al b) ∷ numbers_read p turns blocks
+
 -- ---- an interval
 
 -- Bytes that begin with an interval that is written, up to a marker, and go on with the rest.
@@ -119,3 +206,16 @@ pub record IsDc (table : Table) (al : ℕ) (predictor : ℤ) (y : ℤ × ℤ) (o
   pub written : WritesDifference table (u -ℤ predictor) own
   pub next : y.1 ≡ wrapped u
   pub are : y.0 ≡ wrapped (wrapped u *ℤ pos (2 ^ al))
+
+-- ---- the intervals of a scan
+
+-- Bytes that begin with intervals that are written, from number k on, up to a marker, and go on with
+-- the rest.
+pub record IsIntervals (p : Pass) (k : ℕ) (turns : List (Via × Block)) (more : List (List (Via × Block)))
+    (bytes : List ℕ) (m : Marker) (rest : List ℕ) : Type 0 where
+  pub front : List ℕ
+  pub fill : ℕ
+  pub code : ℕ
+  pub parts : bytes ≡ front ++ marker fill code rest
+  pub names : marker_of code ≡ Some m
+  pub written : WritesIntervals p k turns more front

@@ -6,14 +6,18 @@ ghost use Rattle.jpeg_bits.specs.Bands.{Band, difference, first_ac, first_dc, to
 ghost use Rattle.jpeg_bits.specs.Codes.{IsTable, Table, symbol_from};
 ghost use Rattle.jpeg_bits.specs.Entropy.{Found, Text, bits_from, text_at};
 ghost use Rattle.jpeg_bits.specs.Intervals.{predictors_at_start};
-ghost use Rattle.jpeg_bits.specs.Passes.{Block, Pass, Via};
+ghost use Rattle.jpeg_bits.specs.Passes.{Block, Pass, Via, block_from, blocks_of};
 ghost use Rattle.jpeg_bits.specs.Readers.{signed_from};
 ghost use Rattle.jpeg_bits.specs.Written.{IsCoded};
 ghost use Rattle.jpeg_bits.specs.declared.marker.Marker.{Marker};
+ghost use Rattle.jpeg_bits.specs.declared.marker.Marker.TheVariants.{RST};
+ghost use Rattle.std.specs.Prelude.{◌%◌, ◌∷◌, []};
+ghost use Rattle.jpeg_evidence.specs.Strict.{IsIntervals};
 ghost use Rattle.jpeg_bits.specs.declared.tokens.Token.{Token};
 ghost use Rattle.jpeg_streams.specs.WrittenData.{WritesBlocks, WritesDifference, no_numbers};
 ghost use Rattle.jpeg_evidence.specs.Strict.{HasBytes, IsBand, IsCut, IsData, IsDc, IsInterval};
 ghost use Rattle.jpeg_evidence.specs.Strict.{IsNumber, IsToken, IsValue, TokensFit, alone};
+ghost use Rattle.jpeg_evidence.specs.Strict.{BlockFits, BlocksFit, HasTables, IsBlock, numbers_read};
 
 /// What is read of bits that nothing follows was written (T.81, C.2 and F.1.2): the bits that were
 /// taken are those of the number, of a code for the symbol, of the value, and of the DC difference.
@@ -64,6 +68,29 @@ pub fn bands_taken_are_written()
         → IsCut (IsBand table al y.0 y.1) bits left }
 {}
 
+/// A block that is read in a first pass or a refinement was written: the bits that were taken are
+/// those that a writer may emit for the block's numbers at the level of the pass (T.81, F.1.2 and
+/// G.1.2). It fits where no DC goes round at 16 bits, where each token stands for places that the band
+/// has, and where a refinement is of what was sent at the level above.
+pub fn block_taken_is_written()
+    ensures { (p : Pass) (via : Via) (predictor : ℤ) (run : ℕ) (old : Block) (bits : List Bool)
+        (r : Block × ℤ × ℕ) (left : Text) → HasTables p via
+        → BlockFits p via predictor run old bits
+        → block_from p via.dc via.ac predictor run old (alone bits) ≡ Ok (r, left)
+        → IsCut (IsBlock p via predictor run r) bits left }
+{}
+
+/// The blocks of an interval that are read were written where each fits and no run of blocks goes
+/// beyond the last: the predictors and the run go from block to block for the reader as they do for
+/// the writer (T.81, F.1.1.5.1, G.1.2.2 and G.1.2.3).
+pub fn blocks_taken_are_written()
+    ensures { (p : Pass) (predictors : List ℤ) (run : ℕ) (turns : List (Via × Block))
+        (bits : List Bool) (blocks : List Block) (left : Text)
+        → BlocksFit p predictors run turns bits
+        → blocks_of p predictors run turns (alone bits) ≡ Ok (blocks, left)
+        → IsCut (WritesBlocks p predictors run (numbers_read p turns blocks)) bits left }
+{}
+
 /// An interval up to a marker is written where its bits are those of its blocks, and at most 7 more
 /// (T.81, F.1.2.3 and B.1.1.5).
 pub fn intervals_of_written_bits_are_written()
@@ -71,4 +98,26 @@ pub fn intervals_of_written_bits_are_written()
         (left : Text) → (text_at bytes).ending ≡ Found m rest
         → IsCut (WritesBlocks p predictors_at_start 0 turns) (text_at bytes).bits left
         → length left.bits ≤ 7 → IsInterval p turns bytes m rest }
+{}
+
+/// An interval up to a marker whose blocks are read of its bits was written where they fit and leave
+/// at most 7 bits (T.81, F.1.2.3 and B.1.1.5).
+pub fn interval_taken_is_written()
+    ensures { (p : Pass) (turns : List (Via × Block)) (bytes rest : List ℕ) (m : Marker)
+        (blocks : List Block) (left : Text) → (text_at bytes).ending ≡ Found m rest
+        → BlocksFit p predictors_at_start 0 turns (text_at bytes).bits
+        → blocks_of p predictors_at_start 0 turns (alone (text_at bytes).bits) ≡ Ok (blocks, left)
+        → length left.bits ≤ 7 → IsInterval p (numbers_read p turns blocks) bytes m rest }
+{}
+
+/// Intervals that are written one after the other, each up to RST with its number modulo 8 and the
+/// last up to any marker, are those of a scan (T.81, E.1.4 and B.2.1).
+pub fn intervals_of_a_scan_are_written()
+    ensures last { (p : Pass) (k : ℕ) (turns : List (Via × Block)) (bytes rest : List ℕ)
+        (m : Marker) → IsInterval p turns bytes m rest → IsIntervals p k turns [] bytes m rest }
+    ensures another { (p : Pass) (k : ℕ) (turns next : List (Via × Block))
+        (more : List (List (Via × Block))) (bytes others rest : List ℕ) (m : Marker)
+        → IsInterval p turns bytes (RST (k % 8)) others
+        → IsIntervals p (suc k) next more others m rest
+        → IsIntervals p k turns (next ∷ more) bytes m rest }
 {}

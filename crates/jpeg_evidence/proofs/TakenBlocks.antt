@@ -1,0 +1,426 @@
+-- The bits that were taken of a block are those that are written for it.
+use Rattle.std.proofs.Common.{rules, ◌≡◌, ℕ, zero, suc, ◌+◌, ◌-◌, ◌*◌, ◌^◌, ◌<◌, ◌≤◌, Bool, true, false, List, []}
+use Rattle.std.proofs.Common.{◌∷◌, ◌++◌, map, length, take, drop, refl, sym, ap, ◌∙◌, subst, arith, Ok, eqb, ℤ, pos}
+use Rattle.std.proofs.Common.{◌+ℤ◌, ◌-ℤ◌, unsigned_abs, le_refl, append-nil, length-append, length-take}
+use Rattle.std.proofs.lemmas.Bool.{eqb-true, eqb-false}
+use Rattle.std.proofs.lemmas.Int.{ints, int_wrap_fits}
+use Rattle.std.proofs.lemmas.List.{drop-replicate, length-map, length-replicate}
+use Rattle.jpeg_bits.specs.Entropy.{Text, bits_from}
+use Rattle.jpeg_bits.specs.Codes.{Table, IsTable}
+use Rattle.jpeg_bits.specs.Readers.{Reads, gives, ◌>>=◌}
+use Rattle.jpeg_bits.specs.Bands.{Band, before_more, difference, first_dc, wrapped, token_from, after_token, first_ac}
+use Rattle.jpeg_bits.specs.Refinement.{corrected, refined_ac}
+use Rattle.jpeg_bits.specs.Passes.{Block, Pass, Via, band_of, with_band, or_bit, dc_part, band_part, block_from}
+use Rattle.jpeg_bits.specs.declared.tokens.Token.{Token}
+use Rattle.jpeg_bits.specs.declared.tokens.Token.TheVariants.{Value, Sixteen, Rest, Overlong}
+use Rattle.jpeg_streams.specs.Levels.{floor_at, toward_zero}
+use Rattle.jpeg_streams.specs.WrittenData.{no_numbers, WritesAc, WritesBand, WritesDc, WritesDifference}
+use Rattle.jpeg_streams.specs.WrittenData.WritesDc.{other_band, whole as a_whole}
+use Rattle.jpeg_streams.specs.WrittenData.WritesAc.{no_band, first as a_first, first_run}
+use Rattle.jpeg_streams.proofs.SentBlocks.{scaled, InRange}
+use Rattle.jpeg_streams.proofs.WrittenBands.{map-no_numbers, scaled-fits, range-below, mag-le}
+use Rattle.jpeg_streams.proofs.CutLevels.{band-map}
+use Rattle.jpeg_evidence.specs.Strict.{alone, IsCut, HasBytes, TokensFit, Fits, room_after, IsBand, IsBlock}
+use Rattle.jpeg_evidence.specs.Strict.{BlockFits, HasTables}
+use Rattle.jpeg_evidence.specs.Strict.TokensFit.{filled, token}
+use Rattle.jpeg_evidence.proofs.TakenBits.{bind-cut, bind-parts, map-parts, ok-parts, cut-map, cut-none, Both}
+use Rattle.jpeg_evidence.proofs.TakenBits.{number-taken}
+use Rattle.jpeg_evidence.proofs.TakenRefinements.{IsHeld, IsCorrected, IsRefined, alike-long, alike-none, one-bit}
+use Rattle.jpeg_evidence.proofs.TakenRefinements.{corrected-taken, refined-taken}
+use Rattle.jpeg_evidence.proofs.TakenValues.{difference-taken}
+use Rattle.std.proofs.Common.{ap₂, ◌/◌, ◌%◌, negsuc}
+use Rattle.std.specs.List.{AllByRecursion}
+use Rattle.jpeg_bits.specs.Written.{bit}
+use Rattle.jpeg_streams.specs.WrittenData.{NoneNew, corrections, low_bit, WritesRefinement}
+use Rattle.jpeg_streams.specs.WrittenData.WritesDc.{one_bit}
+use Rattle.jpeg_streams.specs.WrittenData.WritesAc.{again as a_refinement, again_run}
+use Rattle.jpeg_streams.proofs.SentBlocks.{dc_held, floor_half}
+use Rattle.jpeg_streams.proofs.WrittenBlocks.{dc-refined}
+use Rattle.jpeg_evidence.specs.Strict.{IsNumber, PiecesFit}
+use Rattle.jpeg_evidence.proofs.TakenBands.{band-taken, after-small}
+use Rattle.jpeg_evidence.proofs.TakenLevels.{floor-scaled, all-toward, band-put, some-band}
+
+-- ---- DC
+
+-- the bits of DC for what was read, and for the next predictor
+abbrev pub WritesRead : Pass → Table → ℤ → ℤ × ℤ → List Bool → Type 0
+WritesRead p table predictor y own = WritesDc p table (floor_at p.al y.0) predictor own y.1
+
+abbrev DcFits : Pass → Table → ℤ → List Bool → Type 0
+DcFits p table predictor bits = (d : ℤ) (more : List Bool) → difference table (alone bits) ≡ Ok (d, alone more)
+    → unsigned_abs (predictor +ℤ d) * 2 ^ p.al < 2 ^ 15
+
+fits-itself : (u : ℤ) → unsigned_abs u < 2 ^ 15 → wrapped u ≡ u
+fits-itself u h = search (rules, int_wrap_fits, mag-le)
+
+dc-first : (p : Pass) (table : Table) (predictor : ℤ) (bits : List Bool) (y : ℤ × ℤ) (t : Text) → p.ss ≡ 0
+    → p.is_first ≡ true → IsTable table → DcFits p table predictor bits
+    → first_dc table p.al predictor (alone bits) ≡ Ok (y, t) → IsCut (WritesRead p table predictor y) bits t
+unfolding first_dc
+dc-first p table predictor bits y t s f is fits e =
+    let al = p.al in
+    let r = map-parts (difference table)
+    (λ (d : ℤ). (wrapped (scaled al (wrapped (predictor +ℤ d))), wrapped (predictor +ℤ d))) (alone bits) t y e in
+    let d = r.0 in
+    let c = difference-taken table bits d t is r.1 in
+    let read : difference table (alone bits) ≡ Ok (d, alone t.bits) = r.1 ∙ ap (λ (u : Text). Ok (d, u)) c.rest in
+    let u = predictor +ℤ d in
+    let range : InRange al u = record { within = fits d t.bits read } in
+    let plain : wrapped u ≡ u = fits-itself u (range-below al u range) in
+    let next : u ≡ y.1 = sym plain ∙ ap (λ (v : ℤ × ℤ). v.1) r.2 in
+    let held : scaled al u ≡ y.0
+    = sym (scaled-fits al u range) ∙ ap (λ (x : ℤ). wrapped (scaled al x)) (sym plain)
+    ∙ ap (λ (v : ℤ × ℤ). v.0) r.2 in
+    let number : u ≡ floor_at al y.0 = sym (floor-scaled al u) ∙ ap (floor_at al) held in
+    let same : d ≡ u -ℤ predictor = omega (arith, ints) in
+    cut-map (WritesDifference table d) (WritesRead p table predictor y) bits t
+    (λ own w. subst (λ (x : ℤ). WritesDc p table x predictor own y.1) number
+    (subst (λ (x : ℤ). WritesDc p table u predictor own x) next
+    (a_whole u predictor own s f (subst (λ (x : ℤ). WritesDifference table x own) same w))))
+    c
+
+-- a number of the level above, with its bit
+pushed : ℤ → ℕ → ℤ
+pushed (pos n) b = pos (2 * n + b)
+pushed (negsuc n) b = negsuc (2 * n + (1 - b))
+
+pushed-half : (v : ℤ) (b : ℕ) → b < 2 → floor_half (pushed v b) ≡ v
+unfolding pushed
+pushed-half (pos n) b h = let e : (2 * n + b) / 2 ≡ n = omega arith in ap pos e
+pushed-half (negsuc n) b h = let e : (2 * n + (1 - b)) / 2 ≡ n = omega arith in ap negsuc e
+
+pushed-low : (v : ℤ) (b : ℕ) → b < 2 → low_bit (pushed v b) ≡ b
+unfolding pushed
+pushed-low (pos n) b h = let e : (2 * n + b) % 2 ≡ b = omega arith in e
+pushed-low (negsuc n) b h = let e : 1 - (2 * n + (1 - b)) % 2 ≡ b = omega arith in e
+
+pushed-or : (al b : ℕ) (z : ℤ) → b < 2 → scaled (suc al) (floor_at (suc al) z) ≡ z
+    → or_bit al z b ≡ scaled al (pushed (floor_at (suc al) z) b)
+pushed-or al b z h held =
+    let v = floor_at (suc al) z in
+    let before : z ≡ dc_held al (pushed v b) = sym held ∙ ap (scaled (suc al)) (sym (pushed-half v b h)) in
+    ap₂ (λ (x : ℤ) (k : ℕ). or_bit al x k) before (sym (pushed-low v b h)) ∙ dc-refined al (pushed v b)
+
+dc-again : (p : Pass) (table : Table) (z predictor : ℤ) (bits : List Bool) (y : ℤ × ℤ) (t : Text) → p.ss ≡ 0
+    → p.is_first ≡ false → scaled (suc p.al) (floor_at (suc p.al) z) ≡ z
+    → (bits_from 1 >>= (λ b. gives (or_bit p.al z b, predictor))) (alone bits) ≡ Ok (y, t)
+    → IsCut (WritesRead p table predictor y) bits t
+dc-again p table z predictor bits y t s f held e =
+    let al = p.al in
+    let m = map-parts (bits_from 1) (λ (b : ℕ). (or_bit al z b, predictor)) (alone bits) t y e in
+    cut-map (IsNumber 1 m.0) (WritesRead p table predictor y) bits t
+    (λ own w.
+    let small : m.0 < 2 = w.below in
+    let u = pushed (floor_at (suc al) z) m.0 in
+    let number : u ≡ floor_at al (or_bit al z m.0)
+    = sym (floor-scaled al u) ∙ ap (floor_at al) (sym (pushed-or al m.0 z small held)) in
+    let own_is : bit (low_bit u) ∷ [] ≡ own
+    = ap (λ (x : ℕ). bit x ∷ []) (pushed-low (floor_at (suc al) z) m.0 small) ∙ one-bit m.0 own w in
+    subst (λ (v : ℤ × ℤ). WritesRead p table predictor v own) m.2
+    (subst (λ (x : ℤ). WritesDc p table x predictor own predictor) number
+    (subst (λ (l : List Bool). WritesDc p table u predictor l predictor) own_is (one_bit u predictor s f))))
+    (number-taken 1 bits m.0 t m.1)
+
+pub dc-taken-part : (p : Pass) (table : Table) (z predictor : ℤ) (bits : List Bool) (y : ℤ × ℤ) (t : Text)
+    → (p.ss ≡ 0 → p.is_first ≡ true → IsTable table)
+    → (p.ss ≡ 0 → p.is_first ≡ true → DcFits p table predictor bits)
+    → (p.ss ≡ 0 → p.is_first ≡ false → scaled (suc p.al) (floor_at (suc p.al) z) ≡ z)
+    → dc_part p table z predictor (alone bits) ≡ Ok (y, t) → IsCut (WritesRead p table predictor y) bits t
+unfolding dc_part
+dc-taken-part p table z predictor bits y t is fits sent e = go (eqb p.ss 0) refl p.is_first refl e
+  where
+    go : (s : Bool) → eqb p.ss 0 ≡ s → (b : Bool) → p.is_first ≡ b
+        → (elim s as (λ _. Reads (ℤ × ℤ)) [
+          | true ↦ elim b as (λ _. Reads (ℤ × ℤ)) [
+            | true ↦ first_dc table p.al predictor
+            | false ↦ bits_from 1 >>= (λ b. gives (or_bit p.al z b, predictor))
+          ]
+          | false ↦ gives (z, predictor)
+        ]) (alone bits) ≡ Ok (y, t) → IsCut (WritesRead p table predictor y) bits t
+    go true s true f k =
+        let ss = eqb-true p.ss 0 s in
+        dc-first p table predictor bits y t ss f (is ss f) (fits ss f) k
+    go true s false f k =
+        let ss = eqb-true p.ss 0 s in
+        dc-again p table z predictor bits y t ss f (sent ss f) k
+    go false s b f k =
+        let q = ok-parts (z, predictor) y (alone bits) t k in
+        cut-none (WritesRead p table predictor y) bits t q.1
+        (subst (λ (v : ℤ × ℤ). WritesRead p table predictor v []) q.0
+        (other_band (floor_at p.al z) predictor (eqb-false p.ss 0 s)))
+
+-- ---- how many places a band has that was read
+
+step-long : (table : Table) (al n room : ℕ) (x : Token) (more : List Bool) (y : Band) (t : Text)
+    → Fits al (suc room) x
+    → ((z : Band) → first_ac table al n (no_numbers (room_after (suc room) x)) (alone more) ≡ Ok (z, t)
+    → length z.0 ≡ room_after (suc room) x)
+    → after_token al (first_ac table al n) (no_numbers (suc room)) x (alone more) ≡ Ok (y, t)
+    → length y.0 ≡ suc room
+step-long table al n room (Value r u) more y t fits others e =
+    let places = no_numbers (suc room) in
+    let small = fits.0 in
+    let own = take r places ++ wrapped (scaled al u) ∷ [] in
+    let m = map-parts (first_ac table al n (drop (r + 1) places)) (λ (m : Band). before_more own m) (alone more) t y e in
+    let z = m.0 in
+    let back : drop (r + 1) places ≡ no_numbers (suc room - (r + 1)) = drop-replicate (r + 1) (suc room) (pos 0) in
+    let c = others z (ap (λ (l : List ℤ). first_ac table al n l (alone more)) (sym back) ∙ m.1) in
+    let all : length (own ++ z.0) ≡ length y.0 = ap (λ (b : Band). length b.0) m.2 in
+    omega (
+      arith,
+      all,
+      c,
+      small,
+      length-append own z.0,
+      length-append (take r places) (wrapped (scaled al u) ∷ []),
+      length-take r places,
+      length-replicate (suc room) (pos 0),
+    )
+step-long table al n room Sixteen more y t fits others e =
+    let places = no_numbers (suc room) in
+    let m = map-parts (first_ac table al n (drop 16 places)) (λ (m : Band). before_more (take 16 places) m)
+    (alone more) t y e in
+    let z = m.0 in
+    let back : drop 16 places ≡ no_numbers (suc room - 16) = drop-replicate 16 (suc room) (pos 0) in
+    let c = others z (ap (λ (l : List ℤ). first_ac table al n l (alone more)) (sym back) ∙ m.1) in
+    let all : length (take 16 places ++ z.0) ≡ length y.0 = ap (λ (b : Band). length b.0) m.2 in
+    omega (
+      arith,
+      all,
+      c,
+      fits,
+      length-append (take 16 places) z.0,
+      length-take 16 places,
+      length-replicate (suc room) (pos 0),
+    )
+step-long table al n room (Rest run) more y t fits others e =
+    let q = ok-parts (no_numbers (suc room), run) y (alone more) t e in
+    ap (λ (b : Band). length b.0) (sym q.0) ∙ length-replicate (suc room) (pos 0)
+step-long table al n room Overlong more y t fits others e = absurd fits
+
+band-long : (table : Table) (al n room : ℕ) (bits : List Bool) (y : Band) (t : Text) → TokensFit table al room bits
+    → room ≤ n → first_ac table al n (no_numbers room) (alone bits) ≡ Ok (y, t) → length y.0 ≡ room
+unfolding first_ac
+band-long table al n room bits y t (filled bits') le e =
+    let q = ok-parts ([], 0) y (alone bits) t e in ap (λ (b : Band). length b.0) (sym q.0)
+band-long table al zero room bits y t (token k x bits' more h f w) le e = absurd (omega arith)
+band-long table al (suc n) room bits y t (token k x bits' more h f w) le e =
+    let places = no_numbers (suc k) in
+    let long : length places ≡ suc k = length-replicate (suc k) (pos 0) in
+    let after = after_token al (first_ac table al n) places in
+    let r = bind-parts (token_from table (length places)) after (alone bits) t y e in
+    let q = ok-parts x r.0 (alone more) r.1 (sym h ∙ ap (λ (j : ℕ). token_from table j (alone bits)) (sym long) ∙ r.2) in
+    let rest : after x (alone more) ≡ Ok (y, t)
+    = ap (λ (a : Token). after a (alone more)) q.0 ∙ ap (after r.0) q.1 ∙ r.3 in
+    step-long table al n k x more y t f
+    (λ z j. band-long table al n (room_after (suc k) x) more z t w (after-small k n x le) j) rest
+
+-- ---- bands
+
+-- the bits of a band for what was read, which has the places of what was there, and the run after it
+pub record IsRead (p : Pass) (table : Table) (band : List ℤ) (run : ℕ) (y : Band) (own : List Bool) : Type 0 where
+  pub long : length y.0 ≡ length band
+  pub written : WritesAc p table (map (toward_zero p.al) y.0) run own y.1
+
+-- the tables of a band that has places
+abbrev pub Tabled : Table → List ℤ → Type 0
+Tabled table band = 0 < length band → IsTable table × HasBytes table
+
+zeros-toward : (al n : ℕ) → map (toward_zero al) (no_numbers n) ≡ no_numbers n
+zeros-toward al n =
+    let same : no_numbers n ≡ map (scaled al) (no_numbers n)
+    = sym (append-nil (no_numbers n)) ∙ sym (map-no_numbers al n []) ∙ ap (map (scaled al)) (append-nil (no_numbers n)) in
+    ap (map (toward_zero al)) same ∙ all-toward al (no_numbers n)
+
+written-first : (p : Pass) (table : Table) (numbers : List ℤ) (own : List Bool) (run : ℕ) → p.is_first ≡ true
+    → 0 < length numbers → WritesBand table numbers own run → WritesAc p table numbers 0 own run
+written-first p table [] own run f some w = absurd (omega arith)
+written-first p table (u ∷ us) own run f some w = a_first u us own run f w
+
+new-band : (p : Pass) (table : Table) (k : ℕ) (bits : List Bool) (y : Band) (t : Text) → p.is_first ≡ true → 0 < k
+    → IsTable table → HasBytes table → TokensFit table p.al k bits
+    → first_ac table p.al k (no_numbers k) (alone bits) ≡ Ok (y, t)
+    → IsCut (IsRead p table (no_numbers k) 0 y) bits t
+new-band p table k bits y t f some is bytes fits e =
+    let al = p.al in
+    let long = band-long table al k k bits y t fits (le_refl k) e in
+    cut-map (IsBand table al y.0 y.1) (IsRead p table (no_numbers k) 0 y) bits t
+    (λ own w.
+    let numbers : map (toward_zero al) y.0 ≡ w.numbers = ap (map (toward_zero al)) (sym w.are) ∙ all-toward al w.numbers in
+    let size : length (map (toward_zero al) y.0) ≡ length y.0 = length-map y.0 (toward_zero al) in
+    let sizes : length (map (toward_zero al) y.0) ≡ length w.numbers = ap (λ (l : List ℤ). length l) numbers in
+    record {
+      long = long ∙ sym (length-replicate k (pos 0));
+      written = subst (λ (l : List ℤ). WritesAc p table l 0 own y.1) (sym numbers)
+          (written-first p table w.numbers own y.1 f (omega (arith, some, long, size, sizes)) w.written);
+    })
+    (band-taken table al k k bits y t is bytes fits (le_refl k) e)
+
+-- numbers of a level are those of what was read
+level-numbers : (al : ℕ) (numbers ws : List ℤ) → map (scaled al) numbers ≡ ws → numbers ≡ map (toward_zero al) ws
+level-numbers al numbers ws e = sym (all-toward al numbers) ∙ ap (map (toward_zero al)) e
+
+written-again : (p : Pass) (table : Table) (numbers : List ℤ) (own : List Bool) (run : ℕ) → p.is_first ≡ false
+    → 0 < length numbers → WritesRefinement table numbers own run → WritesAc p table numbers 0 own run
+written-again p table [] own run f some w = absurd (omega arith)
+written-again p table (u ∷ us) own run f some w = a_refinement u us own run f w
+
+written-run : (p : Pass) (table : Table) (numbers : List ℤ) (run : ℕ) → p.is_first ≡ false → 0 < length numbers
+    → NoneNew numbers → WritesAc p table numbers (suc run) (corrections numbers) run
+written-run p table [] run f some none = absurd (omega arith)
+written-run p table (u ∷ us) run f some none = again_run u us run f none
+
+old-band : (p : Pass) (table : Table) (zs : List ℤ) (bits : List Bool) (y : Band) (t : Text) → p.is_first ≡ false
+    → 0 < length zs → IsTable table → HasBytes table → AllByRecursion (IsHeld p.al) zs → PiecesFit table p.al zs bits
+    → refined_ac table p.al (length zs) zs (alone bits) ≡ Ok (y, t) → IsCut (IsRead p table zs 0 y) bits t
+old-band p table zs bits y t f some is bytes held fits e =
+    let al = p.al in
+    cut-map (IsRefined table al zs y) (IsRead p table zs 0 y) bits t
+    (λ own w.
+    let size : length (map (scaled al) w.numbers) ≡ length w.numbers = length-map w.numbers (scaled al) in
+    let sizes : length (map (scaled al) w.numbers) ≡ length y.0 = ap (λ (l : List ℤ). length l) w.are in
+    let long = w.long in
+    record {
+      long = omega (arith, size, sizes, long);
+      written = subst (λ (l : List ℤ). WritesAc p table l 0 own y.1) (level-numbers al w.numbers y.0 w.are)
+          (written-again p table w.numbers own y.1 f (omega (arith, some, long)) w.written);
+    })
+    (refined-taken table al (length zs) zs bits y t is bytes held fits (le_refl (length zs)) e)
+
+run-band : (p : Pass) (table : Table) (zs : List ℤ) (run : ℕ) (bits : List Bool) (y : Band) (t : Text)
+    → p.is_first ≡ false → 0 < length zs → AllByRecursion (IsHeld p.al) zs
+    → (corrected p.al zs >>= (λ all. gives (all, run))) (alone bits) ≡ Ok (y, t)
+    → IsCut (IsRead p table zs (suc run) y) bits t
+run-band p table zs run bits y t f some held e =
+    let al = p.al in
+    let m = map-parts (corrected al zs) (λ (all : List ℤ). (all, run)) (alone bits) t y e in
+    cut-map (IsCorrected al zs m.0) (IsRead p table zs (suc run) y) bits t
+    (λ own w.
+    let size : length (map (scaled al) w.us) ≡ length w.us = length-map w.us (scaled al) in
+    let sizes : length (map (scaled al) w.us) ≡ length m.0 = ap (λ (l : List ℤ). length l) w.are in
+    let long = alike-long w.us zs w.alike in
+    subst (λ (v : Band). IsRead p table zs (suc run) v own) m.2
+    (record {
+      long = omega (arith, size, sizes, long);
+      written = subst (λ (l : List ℤ). WritesAc p table l (suc run) own run) (level-numbers al w.us m.0 w.are)
+          (subst (λ (l : List Bool). WritesAc p table w.us (suc run) l run) w.bits
+          (written-run p table w.us run f (omega (arith, some, long)) (alike-none w.us zs w.alike)));
+    }))
+    (corrected-taken al zs bits m.0 t held m.1)
+
+pub band-taken-part : (p : Pass) (table : Table) (band : List ℤ) (run : ℕ) (bits : List Bool) (y : Band) (t : Text)
+    → Tabled table band → (p.is_first ≡ true → band ≡ no_numbers (length band))
+    → (p.is_first ≡ true → run ≡ 0 → TokensFit table p.al (length band) bits)
+    → (p.is_first ≡ false → AllByRecursion (IsHeld p.al) band)
+    → (p.is_first ≡ false → run ≡ 0 → PiecesFit table p.al band bits)
+    → band_part p table band run (alone bits) ≡ Ok (y, t) → IsCut (IsRead p table band run y) bits t
+unfolding band_part
+band-taken-part p table [] run bits y t tables unsent fits sent pieces e =
+    let q = ok-parts ([], run) y (alone bits) t e in
+    cut-none (IsRead p table [] run y) bits t q.1
+    (subst (λ (v : Band). IsRead p table [] run v []) q.0 (record { long = refl; written = no_band run }))
+band-taken-part p table (x ∷ band) zero bits y t tables unsent fits sent pieces e = go p.is_first refl e
+  where
+    go : (b : Bool) → p.is_first ≡ b
+        → (elim b as (λ _. Reads Band) [
+          | true ↦ first_ac table p.al (length (x ∷ band)) (x ∷ band)
+          | false ↦ refined_ac table p.al (length (x ∷ band)) (x ∷ band)
+        ]) (alone bits) ≡ Ok (y, t) → IsCut (IsRead p table (x ∷ band) 0 y) bits t
+    go true f k =
+        let n = length (x ∷ band) in
+        let is = tables (omega arith) in
+        subst (λ (l : List ℤ). IsCut (IsRead p table l 0 y) bits t) (sym (unsent f))
+        (new-band p table n bits y t f (omega arith) is.0 is.1 (fits f refl)
+        (ap (λ (l : List ℤ). first_ac table p.al n l (alone bits)) (sym (unsent f)) ∙ k))
+    go false f k =
+        let is = tables (omega arith) in
+        old-band p table (x ∷ band) bits y t f (omega arith) is.0 is.1 (sent f) (pieces f refl) k
+band-taken-part p table (x ∷ band) (suc run) bits y t tables unsent fits sent pieces e = go p.is_first refl e
+  where
+    here : p.is_first ≡ true → IsRead p table (x ∷ band) (suc run) (x ∷ band, run) []
+    here f = record {
+      long = refl;
+      written = subst (λ (l : List ℤ). WritesAc p table l (suc run) [] run)
+          (sym (ap (map (toward_zero p.al)) (unsent f) ∙ zeros-toward p.al (length (x ∷ band))))
+          (first_run (length band) run f);
+    }
+
+    go : (b : Bool) → p.is_first ≡ b
+        → (elim b as (λ _. Reads Band) [
+          | true ↦ gives (x ∷ band, run)
+          | false ↦ corrected p.al (x ∷ band) >>= (λ all. gives (all, run))
+        ]) (alone bits) ≡ Ok (y, t) → IsCut (IsRead p table (x ∷ band) (suc run) y) bits t
+    go true f k =
+        let q = ok-parts (x ∷ band, run) y (alone bits) t k in
+        cut-none (IsRead p table (x ∷ band) (suc run) y) bits t q.1
+        (subst (λ (v : Band). IsRead p table (x ∷ band) (suc run) v []) q.0 (here f))
+    go false f k = run-band p table (x ∷ band) run bits y t f (omega arith) (sent f) k
+
+-- ---- blocks
+
+abbrev result : Pass → Block → ℤ × ℤ → Band → Block × ℤ × ℕ
+result p old d b = (record { dc = d.0; acs = with_band p old.acs b.0 }, d.1, b.1)
+
+-- what was read after DC, and its bits
+record IsRest (p : Pass) (table : Table) (run : ℕ) (old : Block) (r : Block × ℤ × ℕ) (d : ℤ × ℤ) (own : List Bool)
+    : Type 0 where
+  y : Band
+  same : result p old d y ≡ r
+  band : IsRead p table (band_of p old.acs) run y own
+
+joined : (p : Pass) (via : Via) (predictor : ℤ) (run : ℕ) (old : Block) (r : Block × ℤ × ℕ) (d : ℤ × ℤ)
+    (own : List Bool)
+    → Both (WritesRead p via.dc predictor d) (IsRest p via.ac run old r d) own → IsBlock p via predictor run r own
+joined p via predictor run old r d own w =
+    let y = w.second.y in
+    let band : band_of p (map (toward_zero p.al) (with_band p old.acs y.0)) ≡ map (toward_zero p.al) y.0
+    = band-map p (toward_zero p.al) (with_band p old.acs y.0)
+    ∙ ap (map (toward_zero p.al)) (band-put p old.acs y.0 w.second.band.long) in
+    subst (λ (x : Block × ℤ × ℕ). IsBlock p via predictor run x own) w.second.same
+    (record {
+      dc = w.front;
+      ac = w.back;
+      writes_dc = w.first;
+      writes_ac = subst (λ (l : List ℤ). WritesAc p via.ac l run w.back y.1) (sym band) w.second.band.written;
+      whole = w.whole;
+    })
+
+-- a block is taken where its two parts are
+pub parts-taken : (p : Pass) (via : Via) (predictor : ℤ) (run : ℕ) (old : Block) (bits : List Bool)
+    (r : Block × ℤ × ℕ) (t : Text)
+    → ((d : ℤ × ℤ) (u : Text) → dc_part p via.dc old.dc predictor (alone bits) ≡ Ok (d, u)
+    → IsCut (WritesRead p via.dc predictor d) bits u)
+    → ((d : ℤ × ℤ) (more : List Bool) → dc_part p via.dc old.dc predictor (alone bits) ≡ Ok (d, alone more) → (y : Band)
+    → band_part p via.ac (band_of p old.acs) run (alone more) ≡ Ok (y, t)
+    → IsCut (IsRead p via.ac (band_of p old.acs) run y) more t)
+    → block_from p via.dc via.ac predictor run old (alone bits) ≡ Ok (r, t)
+    → IsCut (IsBlock p via predictor run r) bits t
+unfolding block_from
+parts-taken p via predictor run old bits r t dc band e =
+    let places = band_part p via.ac (band_of p old.acs) run in
+    let f : ℤ × ℤ → Reads (Block × ℤ × ℕ) = λ d. places >>= (λ b. gives (result p old d b)) in
+    let c = bind-cut (dc_part p via.dc old.dc predictor) f bits t r (WritesRead p via.dc predictor)
+    (IsRest p via.ac run old r) e dc
+    (λ d more h k.
+    let m = map-parts places (λ (b : Band). result p old d b) (alone more) t r k in
+    cut-map (IsRead p via.ac (band_of p old.acs) run m.0) (IsRest p via.ac run old r d) more t
+    (λ own w. record { y = m.0; same = m.2; band = w }) (band d more h m.0 m.1)) in
+    cut-map (Both (WritesRead p via.dc predictor c.0) (IsRest p via.ac run old r c.0)) (IsBlock p via predictor run r)
+    bits t (joined p via predictor run old r c.0) c.1
+
+-- The bits that were taken of a block are written for it.
+pub block-taken : (p : Pass) (via : Via) (predictor : ℤ) (run : ℕ) (old : Block) (bits : List Bool)
+    (r : Block × ℤ × ℕ) (t : Text) → HasTables p via → BlockFits p via predictor run old bits
+    → block_from p via.dc via.ac predictor run old (alone bits) ≡ Ok (r, t)
+    → IsCut (IsBlock p via predictor run r) bits t
+block-taken p via predictor run old bits r t tables fits e =
+    parts-taken p via predictor run old bits r t
+    (λ d u k. dc-taken-part p via.dc old.dc predictor bits d u tables.dc_is fits.dc_fits fits.dc_sent k)
+    (λ d more h y k. band-taken-part p via.ac (band_of p old.acs) run more y t
+    (λ some. let s = some-band p old.acs some in (tables.ac_is s, tables.ac_bytes s))
+    fits.unsent
+    (λ f z. fits.tokens_fit f z d more h)
+    fits.acs_sent
+    (λ f z. fits.pieces_fit f z d more h)
+    k)
+    e
