@@ -133,6 +133,11 @@ pub corrections-zero : (us : List ℤ) → corrections (pos 0 ∷ us) ≡ correc
 unfolding corrections
 corrections-zero us = refl
 
+pub corrections-old : (u : ℤ) (us : List ℤ) → is_old u ≡ true
+    → corrections (u ∷ us) ≡ bit (unsigned_abs u % 2) ∷ corrections us
+unfolding corrections
+corrections-old u us o = rw (o, corrections) refl
+
 pub takes-corrected : (al : ℕ) (us : List ℤ) → NoneNew us → AllByRecursion (InRange al) us
     → ReadsJust (corrected al (map (held al) us)) (corrections us) (map (scaled al) us)
 unfolding corrected NoneNew corrections
@@ -154,6 +159,26 @@ takes-corrected al (u ∷ us) none range =
     )
 
 -- ---- pieces
+
+pub through-zero : (c : ℕ) (z : ℤ) (zs : List ℤ) → z ≡ pos 0
+    → through_zero (suc c) (z ∷ zs) ≡ suc (through_zero c zs)
+unfolding through_zero
+through-zero c z zs e = ap (λ (x : ℤ). through_zero (suc c) (x ∷ zs)) e
+
+pub through-other : (c : ℕ) (z : ℤ) (zs : List ℤ) → is_zero z ≡ false
+    → through_zero c (z ∷ zs) ≡ suc (through_zero c zs)
+unfolding through_zero
+through-other zero z zs e = rw (e, through_zero) refl
+through-other (suc c) z zs e = rw (e, through_zero) refl
+
+pub count-zero : (us : List ℤ) → count_unknown (pos 0 ∷ us) ≡ suc (count_unknown us)
+unfolding count_unknown
+count-zero us = refl
+
+pub count-old : (u : ℤ) (us : List ℤ) → is_old u ≡ true
+    → count_unknown (u ∷ us) ≡ count_unknown us
+unfolding count_unknown
+count-old u us o = rw (o, count_unknown) refl
 
 -- the piece of a token ends with the place after those that are neither old nor new
 pub through : (al : ℕ) (front : List ℤ) (u : ℤ) (more : List ℤ) → held al u ≡ pos 0
@@ -208,6 +233,12 @@ pub map-scaled : (al : ℕ) (front more : List ℤ)
     → map (scaled al) (front ++ more) ≡ map (scaled al) front ++ map (scaled al) more
 map-scaled al [] more = refl
 map-scaled al (v ∷ front) more = ap (λ (l : List ℤ). scaled al v ∷ l) (map-scaled al front more)
+
+pub new-scaled : (al : ℕ) (u : ℤ) → unsigned_abs u ≡ 1
+    → new_number al (sign_bit u) ≡ scaled al u
+new-scaled al (pos n) h = ap pos (sym (one-mul (2 ^ al)) ∙ ap (λ (x : ℕ). x * 2 ^ al) (sym h))
+new-scaled al (negsuc n) h =
+    ap (λ (x : ℕ). neg_ℤ (pos x)) (sym (one-mul (2 ^ al)) ∙ ap (λ (x : ℕ). x * 2 ^ al) (sym h))
 
 sign-small : (u : ℤ) → sign_bit u < 2
 sign-small (pos n) = omega arith
